@@ -1,0 +1,70 @@
+-- Lists of entries: what look-ups, insertions and removals are to them.
+use Rattle.std.specs.Prelude.{◌≡◌, ℕ, zero, suc, Bool, false, ◌&&◌, ◌==◌, List, [], ◌∷◌, ◌++◌, Option, AllPairs, position, remove, slice_get}
+use Rattle.std.specs.Option.{option_map, option_map_or, option_and_then}
+use Rattle.starlark_hash.specs.declared.hash_value.StarlarkHashValue.{StarlarkHashValue}
+use Rattle.starlark_hash.specs.declared.hashed.Hashed.{Hashed}
+use Rattle.starlark_hash.specs.HashValue.{hash_number, hash_of, key_of}
+
+-- a key under a hash, and its value
+abbrev pub Entry : Type 0 → Type 0 → Type 0
+Entry K V = Hashed K × V
+
+module _ {K V : Type 0} where
+  -- the parts of an entry
+  abbrev pub entry_hash : Entry K V → StarlarkHashValue
+  entry_hash e = hash_of e.0
+
+  abbrev pub entry_key : Entry K V → K
+  entry_key e = key_of e.0
+
+  abbrev pub entry_value : Entry K V → V
+  entry_value e = e.1
+
+  -- the key and the value
+  abbrev pub pair_of : Entry K V → K × V
+  pair_of e = (entry_key e, entry_value e)
+
+  -- whether the entry stands under this hash
+  abbrev pub is_under : StarlarkHashValue → Entry K V → Bool
+  is_under hash e = hash_number (entry_hash e) == hash_number hash
+
+  -- whether the entry stands under this hash, with a key that passes
+  abbrev pub stands_under : StarlarkHashValue → (K → Bool) → Entry K V → Bool
+  stands_under hash passes e = is_under hash e && passes (entry_key e)
+
+  -- the first place under this hash whose key passes
+  abbrev pub position_of : StarlarkHashValue → (K → Bool) → List (Entry K V) → Option ℕ
+  position_of hash passes es = position (stands_under hash passes) es
+
+  -- the entry at a place, and its value
+  abbrev pub entry_at : List (Entry K V) → Option ℕ → Option (Entry K V)
+  entry_at es place = option_and_then (slice_get es) place
+
+  abbrev pub value_at : List (Entry K V) → Option ℕ → Option V
+  value_at es place = option_map entry_value (entry_at es place)
+
+  -- the list with this value at a place
+  abbrev pub set_value_at : List (Entry K V) → ℕ → V → List (Entry K V)
+  set_value_at [] i value = []
+  set_value_at (e ∷ es) zero value = (e.0, value) ∷ es
+  set_value_at (e ∷ es) (suc i) value = e ∷ set_value_at es i value
+
+  abbrev pub with_value : List (Entry K V) → Option ℕ → V → List (Entry K V)
+  with_value es place value = option_map_or (λ i. set_value_at es i value) place es
+
+  -- the list without the entry at the place
+  abbrev pub without : List (Entry K V) → Option ℕ → List (Entry K V)
+  without es place = option_map_or (remove es) place es
+
+module _ {K V : Type 0} (eq : K → K → Bool) where
+  -- the place with this hash and an equal key
+  abbrev pub match_of : List (Entry K V) → Hashed K → Option ℕ
+  match_of es key = position_of (hash_of key) (eq (key_of key)) es
+
+  -- no two places have the same hash and equal keys
+  abbrev pub IsSingle : List (Entry K V) → Type 0
+  IsSingle es = AllPairs (λ d e. stands_under (entry_hash d) (eq (entry_key d)) e ≡ false) es
+
+  -- the list after an insertion: a key that is there keeps its place and takes the value, and a new one goes last
+  abbrev pub insert_entry : List (Entry K V) → Hashed K → V → List (Entry K V)
+  insert_entry es key value = option_map_or (λ i. set_value_at es i value) (match_of es key) (es ++ (key, value) ∷ [])

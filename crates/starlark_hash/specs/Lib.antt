@@ -1,0 +1,4 @@
+pub mod HashValue
+pub mod Entries
+pub mod Search
+pub mod Sorting

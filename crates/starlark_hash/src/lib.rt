@@ -1,0 +1,14 @@
+//! Hash values, keys under a hash, the queries by which keys are looked up, and the words on lists of entries that every crate above cites.
+#![tactic(auto)]
+
+pub mod equivalent;
+pub mod hash_value;
+pub mod hashed;
+pub mod no_room;
+pub mod text_key;
+
+pub use equivalent::Equivalent;
+pub use hash_value::StarlarkHashValue;
+pub use hashed::Hashed;
+pub use no_room::NoRoom;
+pub use text_key::TextKey;
