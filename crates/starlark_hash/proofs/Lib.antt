@@ -1,3 +1,5 @@
 pub mod PositionLemmas
 pub mod EntryLemmas
 pub mod Promote
+pub mod SearchLemmas
+pub mod SortingLemmas
