@@ -1,14 +1,14 @@
 -- What a search says of its answer.
-use Rattle.std.proofs.Common.{◌≡◌, ℕ, zero, suc, ◌+◌, ◌<◌, ◌≤◌, ◌⊎◌, inl, inr, Bool, true, false, cond, eqb, List, [], ◌∷◌, ◌++◌, length, get_or, map, Option, Some, None, refl, sym, ap, subst, ◌∙◌, arith, eq-eqb, IsPermutation}
-use Rattle.std.specs.Prelude.{◌==◌, ◌&&◌, filter, position, slice_get, AllPairs, MatchBool}
-use Rattle.std.specs.List.{Contains, enumerate_from, FoldsTo}
+use Rattle.std.proofs.Common.{◌≡◌, ℕ, zero, suc, ◌+◌, ◌<◌, ◌≤◌, ◌⊎◌, inl, inr, Bool, true, false, cond, List, [], ◌∷◌, ◌++◌, length, get_or, map, drop, drop-cons, add-one, Option, Some, None, refl, sym, ap, subst, ◌∙◌, arith, eq-eqb, IsPermutation}
+use Rattle.std.specs.Prelude.{◌&&◌, filter, slice_get}
+use Rattle.std.specs.List.{Contains, enumerate_from}
 use Rattle.std.specs.Borrow.{Bor}
-use Rattle.std.specs.Fn.{Mut, Called, CalledAt, always_mut}
+use Rattle.std.specs.Fn.{Mut, Called, CalledAt, TakesAt, always_mut}
 use denote.Param.Always.{mut_next}
 use Rattle.std.proofs.lemmas.Bool.{eqb-true, cases_order, false≢true, and_parts}
-use Rattle.std.proofs.lemmas.Option.{get_or_from_slice_get, slice_get_within, slice_get-get_or, none-some, same_Some}
-use Rattle.std.proofs.lemmas.List.Elements.{Contains-get_or}
-use Rattle.std.proofs.lemmas.List.Sorted.{IsPermutation-sym, Contains-permutation}
+use Rattle.std.proofs.lemmas.Option.{get_or_from_slice_get, slice_get_within, none-some, same_Some}
+use Rattle.std.proofs.lemmas.List.{drop_all}
+use Rattle.std.proofs.lemmas.List.Sorted.{IsPermutation-refl, IsPermutation-cons, IsPermutation-trans, IsPermutation-sym, Contains-permutation}
 use Rattle.starlark_hash.specs.declared.hash_value.StarlarkHashValue.{StarlarkHashValue}
 use Rattle.starlark_hash.specs.Entries.{Entry, entry_hash, entry_key, is_under, stands_under, position_of, IsSingle}
 use Rattle.starlark_hash.specs.Search.{Asks, Searches, Refuses, CanSearch, keys_under}
@@ -48,6 +48,31 @@ module _ {F N X : Type 0} (g : Mut F (Bor X × Unit {0}) Bool) where
   pub can_search : (items : List (N × X)) (f : F) → always_mut g f → CanSearch g items f
   can_search items f always = record {
       at = λ before p after later rearranged refused x shows. ((always-refuses before f later refused always).at ((x, tt) ∷ [])).0
+    }
+
+  -- what can search may be asked about the first item, and goes on once it has refused it
+  pub can_search-first : (p : N × X) (items : List (N × X)) (f : F) → CanSearch g (p ∷ items) f → TakesAt g f p.1
+  can_search-first p items f can = can.at [] p items f (IsPermutation-refl (p ∷ items)) refl
+
+  pub can_search-rest : (p : N × X) (items : List (N × X)) (f next : F) → CanSearch g (p ∷ items) f → CalledAt g f p.1 false next → CanSearch g items next
+  can_search-rest p items f next can refused = record {
+      at = λ before q after later rearranged refuses. can.at (p ∷ before) q after later (IsPermutation-cons p items (before ++ q ∷ after) rearranged) (next, refused, refuses)
+    }
+
+  -- and may do so in any other order
+  pub can_search-rearranged : (items order : List (N × X)) (f : F) → IsPermutation items order → CanSearch g items f → CanSearch g order f
+  can_search-rearranged items order f moves can = record {
+      at = λ before p after later rearranged. can.at before p after later (IsPermutation-trans items order (before ++ p ∷ after) moves rearranged)
+    }
+
+  -- a search along the items as they stand
+  pub searches-in_order : (items : List (N × X)) (f : F) (answer : Option N) (last : F) → Asks g f items answer last → Searches g items f answer last
+  searches-in_order items f answer last asks = record { order = items; rearranged = IsPermutation-refl items; asks = asks }
+
+  -- a search of a list is one of each rearrangement
+  pub searches-rearranged : (items others : List (N × X)) (f : F) (answer : Option N) (last : F) → IsPermutation others items → Searches g items f answer last → Searches g others f answer last
+  searches-rearranged items others f answer last moves search = record {
+      order = search.order; rearranged = IsPermutation-trans others items search.order moves search.rearranged; asks = search.asks
     }
 
   found_in : (f : F) (order : List (N × X)) (n : N) (last : F) → Asks g f order (Some n) last → (x : X) × Contains order (n, x) × Accepts g x last
@@ -134,10 +159,36 @@ module _ {F N X : Type 0} (g : Mut F (Bor X × Unit {0}) Bool) where
     pub test-accepted : (items : List (N × X)) (answer : Option N) (last : F) (n : N) → Searches g items f answer last → answer ≡ Some n → (x : X) × Contains items (n, x) × (t x ≡ true)
     test-accepted items answer last n search = accepted_by items answer n (says items answer last search)
 
+-- the names and keys of named entries
+abbrev keys_of : {K V : Type 0} → List (ℕ × Entry K V) → List (ℕ × K)
+keys_of ps = map (λ p. (p.0, entry_key p.1)) ps
+
 module _ {K V : Type 0} (hash : StarlarkHashValue) where
+  abbrev under_from : ℕ → List (Entry K V) → List (ℕ × Entry K V)
+  under_from n es = filter (λ p. is_under hash p.1) (enumerate_from n es)
+
   -- the keys under the hash, where the first place of the list is n
-  abbrev keys_from : ℕ → List (Entry K V) → List (ℕ × K)
-  keys_from n es = map (λ p. (p.0, entry_key p.1)) (filter (λ p. is_under hash p.1) (enumerate_from n es))
+  abbrev pub keys_from : ℕ → List (Entry K V) → List (ℕ × K)
+  keys_from n es = keys_of (under_from n es)
+
+  -- those from place i on, by the entry there
+  keys_from-drop : (es : List (Entry K V)) (i : ℕ) (e : Entry K V) → i < length es → e ≡ get_or es i e
+      → keys_from i (drop i es) ≡ keys_of (cond (is_under hash e) ((i, e) ∷ under_from (i + 1) (drop (i + 1) es)) (under_from (i + 1) (drop (i + 1) es)))
+  keys_from-drop es i e below is =
+      ap (keys_from i) (drop-cons es i e below ∙ ap (λ n. get_or es i e ∷ drop n es) (sym (add-one i)) ∙ ap (λ x. x ∷ drop (i + 1) es) (sym is))
+
+  pub keys_from-here : (es : List (Entry K V)) (i : ℕ) (e : Entry K V) → i < length es → e ≡ get_or es i e → is_under hash e ≡ true
+      → keys_from i (drop i es) ≡ (i, entry_key e) ∷ keys_from (i + 1) (drop (i + 1) es)
+  keys_from-here es i e below is under =
+      keys_from-drop es i e below is ∙ ap (λ b. keys_of (cond b ((i, e) ∷ under_from (i + 1) (drop (i + 1) es)) (under_from (i + 1) (drop (i + 1) es)))) under
+
+  pub keys_from-past : (es : List (Entry K V)) (i : ℕ) (e : Entry K V) → i < length es → e ≡ get_or es i e → is_under hash e ≡ false
+      → keys_from i (drop i es) ≡ keys_from (i + 1) (drop (i + 1) es)
+  keys_from-past es i e below is other =
+      keys_from-drop es i e below is ∙ ap (λ b. keys_of (cond b ((i, e) ∷ under_from (i + 1) (drop (i + 1) es)) (under_from (i + 1) (drop (i + 1) es)))) other
+
+  pub keys_from-end : (es : List (Entry K V)) (i : ℕ) → length es ≤ i → keys_from i (drop i es) ≡ []
+  keys_from-end es i past = ap (keys_from i) (drop_all i es past)
 
   -- a place of the list, under the hash, with this key
   abbrev IsAt : ℕ → List (Entry K V) → ℕ × K → Type 0
@@ -154,7 +205,7 @@ module _ {K V : Type 0} (hash : StarlarkHashValue) where
   keys-at : (n : ℕ) (es : List (Entry K V)) (p : ℕ × K) → Contains (keys_from n es) p → IsAt n es p
   keys-at n [] p there = absurd (omega (arith, there.1))
   keys-at n (e ∷ es) p there =
-      (elim (is_under hash e) as (λ b. is_under hash e ≡ b → Contains (map (λ q. (q.0, entry_key q.1)) (cond b ((n, e) ∷ filter (λ q. is_under hash q.1) (enumerate_from (n + 1) es)) (filter (λ q. is_under hash q.1) (enumerate_from (n + 1) es)))) p → IsAt n (e ∷ es) p) [
+      (elim (is_under hash e) as (λ b. is_under hash e ≡ b → Contains (keys_of (cond b ((n, e) ∷ under_from (n + 1) es) (under_from (n + 1) es))) p → IsAt n (e ∷ es) p) [
         | true ↦ λ under in'. at_first n e es p under in' (keys-at (n + 1) es p)
         | false ↦ λ _ in'. at_later n e es p (keys-at (n + 1) es p in')
       ]) refl there
@@ -163,11 +214,12 @@ module _ {K V : Type 0} (hash : StarlarkHashValue) where
   at-keys n k [] e at under = absurd (none-some e at)
   at-keys n zero (d ∷ es) e at under =
       let is = same_Some d e at in
-      subst (λ b. Contains (map (λ q. (q.0, entry_key q.1)) (cond b ((n, d) ∷ filter (λ q. is_under hash q.1) (enumerate_from (n + 1) es)) (filter (λ q. is_under hash q.1) (enumerate_from (n + 1) es)))) (n + 0, entry_key e)) (sym (ap (is_under hash) is ∙ under))
+      subst (λ b. Contains {X = ℕ × K} (keys_of (cond b ((n, d) ∷ under_from (n + 1) es) (under_from (n + 1) es))) (n + 0, entry_key e)) (sym (ap (is_under hash) is ∙ under))
       (0, omega arith, ap (λ m. (m, entry_key d)) {x = n} {y = n + 0} (omega arith) ∙ ap (λ x. (n + 0, entry_key x)) is)
   at-keys n (suc k) (d ∷ es) e at under =
-      let rest : Contains (keys_from (n + 1) es) (n + suc k, entry_key e) = subst (λ m. Contains (keys_from (n + 1) es) (m, entry_key e)) (omega arith) (at-keys (n + 1) k es e at under) in
-      elim (is_under hash d) as (λ b. Contains (map (λ q. (q.0, entry_key q.1)) (cond b ((n, d) ∷ filter (λ q. is_under hash q.1) (enumerate_from (n + 1) es)) (filter (λ q. is_under hash q.1) (enumerate_from (n + 1) es)))) (n + suc k, entry_key e)) [
+      let rest : Contains (keys_from (n + 1) es) (n + suc k, entry_key e) =
+        subst (λ m. Contains {X = ℕ × K} (keys_from (n + 1) es) (m, entry_key e)) (omega arith) (at-keys (n + 1) k es e at under) in
+      elim (is_under hash d) as (λ b. Contains {X = ℕ × K} (keys_of (cond b ((n, d) ∷ under_from (n + 1) es) (under_from (n + 1) es))) (n + suc k, entry_key e)) [
         | true ↦ Contains-later (n, entry_key d) (keys_from (n + 1) es) (n + suc k, entry_key e) rest
         | false ↦ rest
       ]
@@ -180,4 +232,77 @@ module _ {K V : Type 0} (hash : StarlarkHashValue) where
 
   -- and each such entry is among them
   pub at-keys_under : (es : List (Entry K V)) (i : ℕ) (e : Entry K V) → slice_get es i ≡ Some e → is_under hash e ≡ true → Contains (keys_under hash es) (i, entry_key e)
-  at-keys_under es i e at under = subst (λ m. Contains (keys_under hash es) (m, entry_key e)) {x = 0 + i} {y = i} (omega arith) (at-keys 0 i es e at under)
+  at-keys_under es i e at under = subst (λ m. Contains {X = ℕ × K} (keys_under hash es) (m, entry_key e)) {x = 0 + i} {y = i} (omega arith) (at-keys 0 i es e at under)
+
+module _ {F K V : Type 0} (g : Mut F (Bor K × Unit {0}) Bool) where
+  -- a place that is found is that of an entry under the hash, whose key the closure accepted
+  pub found_entry : (hash : StarlarkHashValue) (es : List (Entry K V)) (f : F) (i : ℕ) (last : F) → Searches g (keys_under hash es) f (Some i) last
+      → (e : Entry K V) × (slice_get es i ≡ Some e) × (is_under hash e ≡ true) × Accepts g (entry_key e) last
+  found_entry hash es f i last search =
+      let key = found g (keys_under hash es) f i last search in
+      let at = keys_under-at hash es i key.0 key.1 in
+      (at.0, at.1, at.2, subst (λ k. Accepts g k last) at.3 key.2)
+
+there : {X : Type 0} (xs : List X) (j : ℕ) → j < length xs → (x : X) × (slice_get xs j ≡ Some x)
+there [] j below = absurd (omega arith)
+there (x ∷ xs) zero below = (x, refl)
+there (x ∷ xs) (suc j) below = there xs j (omega arith)
+
+module _ {K V : Type 0} (eq : K → K → Bool) (t : K → Bool) (alike : (x y : K) → t x ≡ true → t y ≡ true → eq x y ≡ true)
+    (hash : StarlarkHashValue) (es : List (Entry K V)) (single : IsSingle eq es) where
+  -- whether an entry is one that the search may find
+  abbrev Passes : Entry K V → Type 0
+  Passes e = (is_under hash e ≡ true) × (t (entry_key e) ≡ true)
+
+  passes : (e : Entry K V) → Passes e → stands_under hash t e ≡ true
+  passes e does = ap (λ b. b && t (entry_key e)) does.0 ∙ does.1
+
+  same_hash : (d e : Entry K V) → is_under hash d ≡ true → is_under hash e ≡ true → is_under (entry_hash d) e ≡ true
+  same_hash d e d_under e_under = eq-eqb e.0.hash.0 d.0.hash.0 (eqb-true e.0.hash.0 hash.0 e_under ∙ sym (eqb-true d.0.hash.0 hash.0 d_under))
+
+  clash : (i j : ℕ) (d e : Entry K V) → i < j → slice_get es i ≡ Some d → slice_get es j ≡ Some e → Passes d → Passes e → ⊥
+  clash i j d e below at_i at_j does_d does_e =
+      let apart : stands_under (entry_hash d) (eq (entry_key d)) e ≡ false =
+        subst (λ z. stands_under (entry_hash d) (eq (entry_key d)) z ≡ false) (get_or_from_slice_get es j e d at_j)
+        (subst (λ z. stands_under (entry_hash z) (eq (entry_key z)) (get_or es j d) ≡ false) (get_or_from_slice_get es i d d at_i) (single i j d below (slice_get_within es j e at_j))) in
+      false≢true (sym apart ∙ ap (λ b. b && eq (entry_key d) (entry_key e)) (same_hash d e does_d.0 does_e.0) ∙ alike (entry_key d) (entry_key e) does_d.1 does_e.1)
+
+  -- a single list has one place at most whose entry passes
+  same_place : (i j : ℕ) (d e : Entry K V) → slice_get es i ≡ Some d → slice_get es j ≡ Some e → Passes d → Passes e → i ≡ j
+  same_place i j d e at_i at_j does_d does_e = elim (cases_order i j) [
+    | inl same ↦ same
+    | inr sides ↦ elim sides [
+      | inl less ↦ absurd (clash i j d e less at_i at_j does_d does_e)
+      | inr more ↦ absurd (clash j i e d more at_j at_i does_e does_d) ] ]
+
+  -- and it is the position
+  pub position_of-only : (i : ℕ) (e : Entry K V) → slice_get es i ≡ Some e → is_under hash e ≡ true → t (entry_key e) ≡ true → position_of hash t es ≡ Some i
+  position_of-only i e at under does = at_place (position_of hash t es) refl where
+    at_place : (place : Option ℕ) → position_of hash t es ≡ place → place ≡ Some i
+    at_place None is = absurd (false≢true (
+        sym (subst (λ z. stands_under hash t z ≡ false) (get_or_from_slice_get es i e e at) (position-None (stands_under hash t) es is i e (slice_get_within es i e at)))
+        ∙ passes e (under, does)))
+    at_place (Some j) is =
+        let d = there es j (position-within (stands_under hash t) es j is) in
+        let both = and_parts (is_under hash d.0) (t (entry_key d.0))
+          (subst (λ z. stands_under hash t z ≡ true) (get_or_from_slice_get es j d.0 d.0 d.1) (position-passes (stands_under hash t) es j d.0 is)) in
+        ap (λ k. Some k) (same_place j i d.0 e d.1 at both (under, does))
+
+  module _ {F : Type 0} (g : Mut F (Bor K × Unit {0}) Bool) (f : F) (test : IsTest g t f) where
+    answered : (answer : Option ℕ) (last : F) → Searches g (keys_under hash es) f answer last → (place : Option ℕ) → answer ≡ place → place ≡ position_of hash t es
+    answered answer last search None is = none (position_of hash t es) refl where
+      none : (place : Option ℕ) → position_of hash t es ≡ place → None ≡ place
+      none None _ = refl
+      none (Some j) at =
+          let d = there es j (position-within (stands_under hash t) es j at) in
+          let both = and_parts (is_under hash d.0) (t (entry_key d.0))
+            (subst (λ z. stands_under hash t z ≡ true) (get_or_from_slice_get es j d.0 d.0 d.1) (position-passes (stands_under hash t) es j d.0 at)) in
+          absurd (false≢true (sym (test-refused g t f test (keys_under hash es) answer last search is (j, entry_key d.0) (at-keys_under hash es j d.0 d.1 both.0)) ∙ both.1))
+    answered answer last search (Some i) is =
+        let key = test-accepted g t f test (keys_under hash es) answer last i search is in
+        let at = keys_under-at hash es i key.0 key.1 in
+        sym (position_of-only i at.0 at.1 at.2 (ap t (sym at.3) ∙ key.2))
+
+    -- a search by a test that passes equal keys alone answers the position
+    pub search-position_of : (answer : Option ℕ) (last : F) → Searches g (keys_under hash es) f answer last → answer ≡ position_of hash t es
+    search-position_of answer last search = answered answer last search answer refl
