@@ -1,4 +1,5 @@
 pub mod HashValue
+pub mod Hasher
 pub mod Entries
 pub mod Search
 pub mod Sorting

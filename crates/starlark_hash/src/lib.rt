@@ -3,6 +3,7 @@
 
 pub mod equivalent;
 pub mod hash_value;
+pub mod hasher;
 pub mod hashed;
 pub mod no_room;
 pub mod text_key;
@@ -10,5 +11,6 @@ pub mod text_key;
 pub use equivalent::Equivalent;
 pub use hash_value::StarlarkHashValue;
 pub use hashed::Hashed;
+pub use hasher::{StarlarkHasher, StarlarkHasherBuilder};
 pub use no_room::NoRoom;
 pub use text_key::TextKey;
