@@ -3,3 +3,4 @@ pub mod Hasher
 pub mod Entries
 pub mod Search
 pub mod Sorting
+pub mod Lending

@@ -1,12 +1,27 @@
 //! Hash values: what an entry is stored under.
-ghost use Rattle.std.specs.Prelude.{◌≡◌, ◌%◌, ◌^◌, ◌<◌};
+ghost use Rattle.std.specs.Prelude.{◌≡◌, ◌%◌, ◌^◌, ◌<◌, IsTrue};
 ghost use Rattle.starlark_hash.specs.HashValue.{hash_number, promoted, mixed};
+ghost use Rattle.starlark_hash.specs.Hasher.{own_hash};
+
+use std::hash::Hash;
+
+use crate::hasher::StarlarkHasher;
 
 /// A hash value: a number of 32 bits.
 #[derive(Clone, Copy, PartialEq, Eq, Hash, Debug)]
 pub struct StarlarkHashValue(u32);
 
 impl StarlarkHashValue {
+    /// The key's own hash: what a new hasher finishes with after it was fed the key, cut to 32 bits.
+    #[inline]
+    pub fn new<K: Hash>(key: &K) -> Self
+        ensures { result ≡ own_hash K.hash_input key.now }
+    {
+        let mut hasher = StarlarkHasher::new();
+        key.hash(&mut hasher);
+        hasher.finish_small()
+    }
+
     /// The hash value with this number.
     #[inline]
     pub const fn new_unchecked(hash: u32) -> Self
@@ -52,4 +67,10 @@ pub fn promotion_is_injective(first: StarlarkHashValue, second: StarlarkHashValu
     ensures { promoted (hash_number first) ≡ promoted (hash_number second) → first ≡ second }
 {
     let _numbers = (first.get(), second.get());
+}
+
+/// Equal keys have equal own hashes.
+pub fn equal_keys_have_one_hash<K: Hash>(_first: &K, _second: &K)
+    ensures { IsTrue (K.eq _first.now _second.now) → own_hash K.hash_input _first.now ≡ own_hash K.hash_input _second.now }
+{
 }

@@ -5,6 +5,8 @@ pub mod equivalent;
 pub mod hash_value;
 pub mod hasher;
 pub mod hashed;
+mod hashed_impls;
+pub mod key_query;
 pub mod no_room;
 pub mod text_key;
 
@@ -12,5 +14,6 @@ pub use equivalent::Equivalent;
 pub use hash_value::StarlarkHashValue;
 pub use hashed::Hashed;
 pub use hasher::{StarlarkHasher, StarlarkHasherBuilder};
+pub use key_query::{KeyQuery, ToOwnedKey};
 pub use no_room::NoRoom;
 pub use text_key::TextKey;
