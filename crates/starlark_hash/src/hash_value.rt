@@ -70,7 +70,7 @@ pub fn promotion_is_injective(first: StarlarkHashValue, second: StarlarkHashValu
 }
 
 /// Equal keys have equal own hashes.
-pub fn equal_keys_have_one_hash<K: Hash>(_first: &K, _second: &K)
-    ensures { IsTrue (K.eq _first.now _second.now) → own_hash K.hash_input _first.now ≡ own_hash K.hash_input _second.now }
+pub fn equal_keys_have_one_hash<K: Hash>(first: &K, second: &K)
+    ensures { IsTrue (K.eq first.now second.now) → own_hash K.hash_input first.now ≡ own_hash K.hash_input second.now }
 {
 }

@@ -110,6 +110,7 @@ impl<'a, K> Hashed<&'a K> {
         K: ToOwnedKey<T>,
         ensures hash { IfOk result (λ h. hash_of h ≡ hash_of self.entry) }
         ensures key { IfOk result (λ h. IsTrue (K.equivalent (key_of self.entry).now (key_of h))) }
+        ensures succeeds { K.is_infallible (key_of self.entry).now → IsOk result }
     {
         Ok(Hashed::new_unchecked(self.hash, self.key.to_owned_key(alloc)?))
     }

@@ -8,7 +8,7 @@ use std::hash::{BuildHasher, Hasher};
 use crate::hash_value::StarlarkHashValue;
 
 /// A fast hasher, not meant to withstand chosen keys.
-#[derive(Clone, Copy)]
+#[derive(Drop)]
 pub struct StarlarkHasher {
     state: u64,
 }

@@ -1,5 +1,5 @@
 //! Queries that hash as the keys that they stand for, and queries that can make those keys.
-ghost use Rattle.std.specs.Prelude.{◌≡◌, IsTrue, IfOk};
+ghost use Rattle.std.specs.Prelude.{◌≡◌, ⊤, IsTrue, IsOk, IfOk};
 ghost use Rattle.starlark_hash.specs.Hasher.{own_hash};
 
 use std::alloc::{AllocError, Global};
@@ -18,19 +18,25 @@ impl<K: Eq + Hash> KeyQuery<K> for K {
 }
 
 /// A query has the own hash of each key that it is equivalent to.
-pub fn query_has_the_hash_of_its_key<K: Eq + Hash, Q: KeyQuery<K>>(_query: &Q, _key: &K)
-    ensures { IsTrue (Q.equivalent _query.now _key.now) → own_hash Q.hash_input _query.now ≡ own_hash K.hash_input _key.now }
+pub fn query_has_the_hash_of_its_key<K: Eq + Hash, Q: KeyQuery<K>>(query: &Q, key: &K)
+    ensures { IsTrue (Q.equivalent query.now key.now) → own_hash Q.hash_input query.now ≡ own_hash K.hash_input key.now }
 {
 }
 
 /// A query that can make a key that it stands for.
 pub trait ToOwnedKey<T: Eq>: Equivalent<T> {
-    /// A key to which the query is equivalent. Where there is no memory for it, nothing is given.
+    // Holds of a query whose `to_owned_key` is not refused.
+    ghost is_infallible: { Self → Type 0 } = { λ _. ⊥ };
+
+    /// A key to which the query is equivalent. It is refused only for want of memory.
     fn to_owned_key(&self, alloc: Global) -> Result<T, AllocError>
-        ensures { IfOk result (λ key. IsTrue (Self.equivalent self.now key)) };
+        ensures key { IfOk result (λ key. IsTrue (Self.equivalent self.now key)) }
+        ensures succeeds { is_infallible self.now → IsOk result };
 }
 
 impl ToOwnedKey<u32> for u32 {
+    ghost is_infallible = { λ _. ⊤ };
+
     #[inline]
     fn to_owned_key(&self, _alloc: Global) -> Result<u32, AllocError> {
         Ok(*self)
@@ -38,6 +44,8 @@ impl ToOwnedKey<u32> for u32 {
 }
 
 impl ToOwnedKey<i64> for i64 {
+    ghost is_infallible = { λ _. ⊤ };
+
     #[inline]
     fn to_owned_key(&self, _alloc: Global) -> Result<i64, AllocError> {
         Ok(*self)
