@@ -34,8 +34,8 @@ module _ {F X : Type 0} (g : Mut F (Bor X × Unit {0}) Bool) where
   -- from what the calls at references say
   pub is_test : (t : X → Bool) (f : F) → ((x : Bor X) (accepts : Bool) (next : F) → Called g f (x, tt) accepts next → (accepts ≡ t x.now) × (next ≡ f)) → IsTest t f
   is_test t f tells = record {
-      tells = λ x accepts next call. let told = tells call.shown accepts next call.called in (told.0 ∙ ap t call.shows, told.1)
-    }
+    tells = λ x accepts next call. let told = tells call.shown accepts next call.called in (told.0 ∙ ap t call.shows, told.1);
+  }
 
 module _ {F N X : Type 0} (g : Mut F (Bor X × Unit {0}) Bool) where
   -- a closure that may always be called may be called once it has refused some items
@@ -47,8 +47,8 @@ module _ {F N X : Type 0} (g : Mut F (Bor X × Unit {0}) Bool) where
   -- so it can search
   pub can_search : (items : List (N × X)) (f : F) → always_mut g f → CanSearch g items f
   can_search items f always = record {
-      at = λ before p after later rearranged refused x shows. ((always-refuses before f later refused always).at ((x, tt) ∷ [])).0
-    }
+    at = λ before p after later rearranged refused x shows. ((always-refuses before f later refused always).at ((x, tt) ∷ [])).0;
+  }
 
   -- what can search may be asked about the first item, and goes on once it has refused it
   pub can_search-first : (p : N × X) (items : List (N × X)) (f : F) → CanSearch g (p ∷ items) f → TakesAt g f p.1
@@ -56,14 +56,14 @@ module _ {F N X : Type 0} (g : Mut F (Bor X × Unit {0}) Bool) where
 
   pub can_search-rest : (p : N × X) (items : List (N × X)) (f next : F) → CanSearch g (p ∷ items) f → CalledAt g f p.1 false next → CanSearch g items next
   can_search-rest p items f next can refused = record {
-      at = λ before q after later rearranged refuses. can.at (p ∷ before) q after later (IsPermutation-cons p items (before ++ q ∷ after) rearranged) (next, refused, refuses)
-    }
+    at = λ before q after later rearranged refuses. can.at (p ∷ before) q after later (IsPermutation-cons p items (before ++ q ∷ after) rearranged) (next, refused, refuses);
+  }
 
   -- and may do so in any other order
   pub can_search-rearranged : (items order : List (N × X)) (f : F) → IsPermutation items order → CanSearch g items f → CanSearch g order f
   can_search-rearranged items order f moves can = record {
-      at = λ before p after later rearranged. can.at before p after later (IsPermutation-trans items order (before ++ p ∷ after) moves rearranged)
-    }
+    at = λ before p after later rearranged. can.at before p after later (IsPermutation-trans items order (before ++ p ∷ after) moves rearranged);
+  }
 
   -- a search along the items as they stand
   pub searches-in_order : (items : List (N × X)) (f : F) (answer : Option N) (last : F) → Asks g f items answer last → Searches g items f answer last
@@ -72,8 +72,10 @@ module _ {F N X : Type 0} (g : Mut F (Bor X × Unit {0}) Bool) where
   -- a search of a list is one of each rearrangement
   pub searches-rearranged : (items others : List (N × X)) (f : F) (answer : Option N) (last : F) → IsPermutation others items → Searches g items f answer last → Searches g others f answer last
   searches-rearranged items others f answer last moves search = record {
-      order = search.order; rearranged = IsPermutation-trans others items search.order moves search.rearranged; asks = search.asks
-    }
+    order = search.order;
+    rearranged = IsPermutation-trans others items search.order moves search.rearranged;
+    asks = search.asks;
+  }
 
   found_in : (f : F) (order : List (N × X)) (n : N) (last : F) → Asks g f order (Some n) last → (x : X) × Contains order (n, x) × Accepts g x last
   found_in f [] n last asks = absurd (none-some n (sym asks.0))
@@ -218,7 +220,7 @@ module _ {K V : Type 0} (hash : StarlarkHashValue) where
       (0, omega arith, ap (λ m. (m, entry_key d)) {x = n} {y = n + 0} (omega arith) ∙ ap (λ x. (n + 0, entry_key x)) is)
   at-keys n (suc k) (d ∷ es) e at under =
       let rest : Contains (keys_from (n + 1) es) (n + suc k, entry_key e) =
-        subst (λ m. Contains {X = ℕ × K} (keys_from (n + 1) es) (m, entry_key e)) (omega arith) (at-keys (n + 1) k es e at under) in
+      subst (λ m. Contains {X = ℕ × K} (keys_from (n + 1) es) (m, entry_key e)) (omega arith) (at-keys (n + 1) k es e at under) in
       elim (is_under hash d) as (λ b. Contains {X = ℕ × K} (keys_of (cond b ((n, d) ∷ under_from (n + 1) es) (under_from (n + 1) es))) (n + suc k, entry_key e)) [
         | true ↦ Contains-later (n, entry_key d) (keys_from (n + 1) es) (n + suc k, entry_key e) rest
         | false ↦ rest
@@ -263,8 +265,8 @@ module _ {K V : Type 0} (eq : K → K → Bool) (t : K → Bool) (alike : (x y :
   clash : (i j : ℕ) (d e : Entry K V) → i < j → slice_get es i ≡ Some d → slice_get es j ≡ Some e → Passes d → Passes e → ⊥
   clash i j d e below at_i at_j does_d does_e =
       let apart : stands_under (entry_hash d) (eq (entry_key d)) e ≡ false =
-        subst (λ z. stands_under (entry_hash d) (eq (entry_key d)) z ≡ false) (get_or_from_slice_get es j e d at_j)
-        (subst (λ z. stands_under (entry_hash z) (eq (entry_key z)) (get_or es j d) ≡ false) (get_or_from_slice_get es i d d at_i) (single i j d below (slice_get_within es j e at_j))) in
+      subst (λ z. stands_under (entry_hash d) (eq (entry_key d)) z ≡ false) (get_or_from_slice_get es j e d at_j)
+      (subst (λ z. stands_under (entry_hash z) (eq (entry_key z)) (get_or es j d) ≡ false) (get_or_from_slice_get es i d d at_i) (single i j d below (slice_get_within es j e at_j))) in
       false≢true (sym apart ∙ ap (λ b. b && eq (entry_key d) (entry_key e)) (same_hash d e does_d.0 does_e.0) ∙ alike (entry_key d) (entry_key e) does_d.1 does_e.1)
 
   -- a single list has one place at most whose entry passes
@@ -273,7 +275,9 @@ module _ {K V : Type 0} (eq : K → K → Bool) (t : K → Bool) (alike : (x y :
     | inl same ↦ same
     | inr sides ↦ elim sides [
       | inl less ↦ absurd (clash i j d e less at_i at_j does_d does_e)
-      | inr more ↦ absurd (clash j i e d more at_j at_i does_e does_d) ] ]
+      | inr more ↦ absurd (clash j i e d more at_j at_i does_e does_d)
+    ]
+  ]
 
   -- and it is the position
   pub position_of-only : (i : ℕ) (e : Entry K V) → slice_get es i ≡ Some e → is_under hash e ≡ true → t (entry_key e) ≡ true → position_of hash t es ≡ Some i
@@ -285,7 +289,7 @@ module _ {K V : Type 0} (eq : K → K → Bool) (t : K → Bool) (alike : (x y :
     at_place (Some j) is =
         let d = there es j (position-within (stands_under hash t) es j is) in
         let both = and_parts (is_under hash d.0) (t (entry_key d.0))
-          (subst (λ z. stands_under hash t z ≡ true) (get_or_from_slice_get es j d.0 d.0 d.1) (position-passes (stands_under hash t) es j d.0 is)) in
+        (subst (λ z. stands_under hash t z ≡ true) (get_or_from_slice_get es j d.0 d.0 d.1) (position-passes (stands_under hash t) es j d.0 is)) in
         ap (λ k. Some k) (same_place j i d.0 e d.1 at both (under, does))
 
   module _ {F : Type 0} (g : Mut F (Bor K × Unit {0}) Bool) (f : F) (test : IsTest g t f) where
@@ -296,7 +300,7 @@ module _ {K V : Type 0} (eq : K → K → Bool) (t : K → Bool) (alike : (x y :
       none (Some j) at =
           let d = there es j (position-within (stands_under hash t) es j at) in
           let both = and_parts (is_under hash d.0) (t (entry_key d.0))
-            (subst (λ z. stands_under hash t z ≡ true) (get_or_from_slice_get es j d.0 d.0 d.1) (position-passes (stands_under hash t) es j d.0 at)) in
+          (subst (λ z. stands_under hash t z ≡ true) (get_or_from_slice_get es j d.0 d.0 d.1) (position-passes (stands_under hash t) es j d.0 at)) in
           absurd (false≢true (sym (test-refused g t f test (keys_under hash es) answer last search is (j, entry_key d.0) (at-keys_under hash es j d.0 d.1 both.0)) ∙ both.1))
     answered answer last search (Some i) is =
         let key = test-accepted g t f test (keys_under hash es) answer last i search is in

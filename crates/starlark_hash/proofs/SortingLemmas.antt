@@ -65,7 +65,7 @@ module _ {X : Type 0} (lt : X → X → Bool) where
   IsPermutation-insert_sorted x (y ∷ ys) =
       elim (lt y x) as (λ b. IsPermutation (x ∷ y ∷ ys) (cond b (y ∷ insert_sorted lt x ys) (x ∷ y ∷ ys))) [
         | true ↦ IsPermutation-trans (x ∷ y ∷ ys) (y ∷ x ∷ ys) (y ∷ insert_sorted lt x ys) (IsPermutation-middle (x ∷ []) y ys)
-          (IsPermutation-cons y (x ∷ ys) (insert_sorted lt x ys) (IsPermutation-insert_sorted x ys))
+            (IsPermutation-cons y (x ∷ ys) (insert_sorted lt x ys) (IsPermutation-insert_sorted x ys))
         | false ↦ IsPermutation-refl (x ∷ y ∷ ys)
       ]
 
@@ -85,17 +85,18 @@ module _ {X : Type 0} (lt : X → X → Bool) where
 
     Rises-from : (xs : List X) → IsSortedBy lt xs → Rises xs
     Rises-from [] up = tt
-    Rises-from (x ∷ xs) up =
-        (λ k d below. sorted_far lt order (x ∷ xs) up 0 (suc k) d (omega arith) (omega arith),
-          Rises-from xs (λ k d low high. subst (λ n. lt (get_or (x ∷ xs) n d) (get_or xs k d) ≡ false) {x = suc k + 1} {y = suc (k + 1)} (omega arith) (up (suc k) d (omega arith) (omega arith))))
+    Rises-from (x ∷ xs) up = (
+      λ k d below. sorted_far lt order (x ∷ xs) up 0 (suc k) d (omega arith) (omega arith),
+      Rises-from xs (λ k d low high. subst (λ n. lt (get_or (x ∷ xs) n d) (get_or xs k d) ≡ false) {x = suc k + 1} {y = suc (k + 1)} (omega arith) (up (suc k) d (omega arith) (omega arith))),
+    )
 
     -- the first of one list is not above the first of the other
     not_above : (y z : X) (ys zs : List X) → Rises (y ∷ ys) → filter (ties lt z) (y ∷ ys) ≡ filter (ties lt z) (z ∷ zs) → lt z y ≡ false
     not_above y z ys zs rises same = off (lt z y) (λ below.
         let never : All (λ w. ties lt z w ≡ false) (y ∷ ys) =
-          All-weaker (λ w. lt w y ≡ false) (λ w. ties lt z w ≡ false)
-            (λ w up. off (ties lt z w) (λ tie. false≢true (sym (order.chain z w y (first_off (lt z w) (lt w z) tie) up) ∙ below)))
-            (y ∷ ys) (All-cons (λ w. lt w y ≡ false) y ys (irrefl y) rises.0) in
+        All-weaker (λ w. lt w y ≡ false) (λ w. ties lt z w ≡ false)
+        (λ w up. off (ties lt z w) (λ tie. false≢true (sym (order.chain z w y (first_off (lt z w) (lt w z) tie) up) ∙ below)))
+        (y ∷ ys) (All-cons (λ w. lt w y ≡ false) y ys (irrefl y) rises.0) in
         let none : [] ≡ z ∷ filter (ties lt z) zs = sym (filter-none (ties lt z) (y ∷ ys) never) ∙ same ∙ filter-cons (ties lt z) z zs (ties-refl z) in
         cc)
 
@@ -108,10 +109,10 @@ module _ {X : Type 0} (lt : X → X → Bool) where
         let low = not_above y z ys zs up (same z) in
         let high = not_above z y zs ys over (sym (same y)) in
         let heads : y ∷ filter (ties lt y) ys ≡ z ∷ filter (ties lt y) zs =
-          sym (filter-cons (ties lt y) y ys (ties-refl y)) ∙ same y ∙ filter-cons (ties lt y) z zs (both (lt y z) (lt z y) high low) in
+        sym (filter-cons (ties lt y) y ys (ties-refl y)) ∙ same y ∙ filter-cons (ties lt y) z zs (both (lt y z) (lt z y) high low) in
         let head : y ≡ z = cc in
         let tails : ys ≡ zs = unique ys zs up.1 over.1 (λ x. tail_of (ties lt x y) y (filter (ties lt x) ys) (filter (ties lt x) zs)
-          (same x ∙ ap (λ w. filter (ties lt x) (w ∷ zs)) (sym head))) in
+        (same x ∙ ap (λ w. filter (ties lt x) (w ∷ zs)) (sym head))) in
         cc
 
     Rises-insert_sorted : (x : X) (xs : List X) → Rises xs → Rises (insert_sorted lt x xs)
@@ -139,8 +140,8 @@ module _ {X : Type 0} (lt : X → X → Bool) where
         let p = ties lt t in
         (elim (lt y x) as (λ b. lt y x ≡ b → filter p (cond b (y ∷ insert_sorted lt x ys) (x ∷ y ∷ ys)) ≡ filter p (x ∷ y ∷ ys)) [
           | true ↦ λ less. ap (λ l. cond (p y) (y ∷ l) l) (insert_sorted-stable x ys t)
-            ∙ exchanged (p x) (p y) x y (filter p ys)
-            (λ tie_x tie_y. false≢true (sym (order.chain y t x (second_off (lt t y) (lt y t) tie_y) (first_off (lt t x) (lt x t) tie_x)) ∙ less))
+              ∙ exchanged (p x) (p y) x y (filter p ys)
+              (λ tie_x tie_y. false≢true (sym (order.chain y t x (second_off (lt t y) (lt y t) tie_y) (first_off (lt t x) (lt x t) tie_x)) ∙ less))
           | false ↦ λ _. refl
         ]) refl
 

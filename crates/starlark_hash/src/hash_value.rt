@@ -3,9 +3,8 @@ ghost use Rattle.std.specs.Prelude.{◌≡◌, ◌%◌, ◌^◌, ◌<◌, IsTrue
 ghost use Rattle.starlark_hash.specs.HashValue.{hash_number, promoted, mixed};
 ghost use Rattle.starlark_hash.specs.Hasher.{own_hash};
 
-use std::hash::Hash;
-
 use crate::hasher::StarlarkHasher;
+use std::hash::Hash;
 
 /// A hash value: a number of 32 bits.
 #[derive(Clone, Copy, PartialEq, Eq, Hash, Debug)]
@@ -72,5 +71,4 @@ pub fn promotion_is_injective(first: StarlarkHashValue, second: StarlarkHashValu
 /// Equal keys have equal own hashes.
 pub fn equal_keys_have_one_hash<K: Hash>(first: &K, second: &K)
     ensures { IsTrue (K.eq first.now second.now) → own_hash K.hash_input first.now ≡ own_hash K.hash_input second.now }
-{
-}
+{}

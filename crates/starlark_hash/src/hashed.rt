@@ -5,11 +5,10 @@ ghost use Rattle.starlark_hash.specs.HashValue.{hashed, hash_of, key_of};
 ghost use Rattle.starlark_hash.specs.Hasher.{own_hash};
 ghost use Rattle.starlark_hash.specs.Lending.{lends_key};
 
-use std::alloc::{AllocError, Global};
-use std::hash::Hash;
-
 use crate::hash_value::StarlarkHashValue;
 use crate::key_query::ToOwnedKey;
+use std::alloc::{AllocError, Global};
+use std::hash::Hash;
 
 /// A key and the hash that it stands under.
 #[derive(Clone, Copy, PartialEq, Eq, Debug, Drop)]
@@ -26,7 +25,10 @@ impl<K> Hashed<K> {
         K: Hash,
         ensures { result ≡ hashed (own_hash K.hash_input key) key }
     {
-        Hashed { hash: StarlarkHashValue::new(&key), key }
+        Hashed {
+            hash: StarlarkHashValue::new(&key),
+            key,
+        }
     }
 
     /// The key under this hash, which need not be its own.

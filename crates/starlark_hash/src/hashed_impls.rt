@@ -7,12 +7,11 @@ ghost use Rattle.std.specs.Ordering.{nat_cmp, on, then_cmp, as_partial_cmp};
 ghost use Rattle.std.specs.Hash as fed;
 ghost use Rattle.starlark_hash.specs.HashValue.{hash_number, hash_of, key_of};
 
+use crate::hashed::Hashed;
 use std::cmp::Ordering;
 use std::fmt;
 use std::hash::{Hash, Hasher};
 use std::ops::Deref;
-
-use crate::hashed::Hashed;
 
 impl<K: Ord> PartialOrd for Hashed<K> {
     ghost partial_cmp = { as_partial_cmp (then_cmp (on key_of K.cmp) (on (λ h. hash_number (hash_of h)) nat_cmp)) };
@@ -37,7 +36,9 @@ impl<K: Ord> Ord for Hashed<K> {
 
     #[inline]
     fn cmp(&self, other: &Hashed<K>) -> Ordering {
-        self.key().cmp(other.key()).then(self.hash().get().cmp(&other.hash().get()))
+        self.key()
+            .cmp(other.key())
+            .then(self.hash().get().cmp(&other.hash().get()))
     }
 }
 

@@ -2,10 +2,9 @@
 ghost use Rattle.std.specs.Prelude.{◌≡◌, ⊤, IsTrue, IsOk, IfOk};
 ghost use Rattle.starlark_hash.specs.Hasher.{own_hash};
 
+use crate::equivalent::Equivalent;
 use std::alloc::{AllocError, Global};
 use std::hash::Hash;
-
-use crate::equivalent::Equivalent;
 
 /// A query that feeds a hasher what the keys feed that it stands for, so that its own hash is theirs.
 pub trait KeyQuery<K: Eq + Hash>: Equivalent<K> + Hash {
@@ -20,8 +19,7 @@ impl<K: Eq + Hash> KeyQuery<K> for K {
 /// A query has the own hash of each key that it is equivalent to.
 pub fn query_has_the_hash_of_its_key<K: Eq + Hash, Q: KeyQuery<K>>(query: &Q, key: &K)
     ensures { IsTrue (Q.equivalent query.now key.now) → own_hash Q.hash_input query.now ≡ own_hash K.hash_input key.now }
-{
-}
+{}
 
 /// A query that can make a key that it stands for.
 pub trait ToOwnedKey<T: Eq>: Equivalent<T> {

@@ -3,9 +3,9 @@
 
 pub mod equivalent;
 pub mod hash_value;
-pub mod hasher;
 pub mod hashed;
 mod hashed_impls;
+pub mod hasher;
 pub mod key_query;
 pub mod no_room;
 pub mod text_key;

@@ -31,7 +31,11 @@ fn hashes_words(rt: HostRuntime) -> Result<(), Fail> {
 
 #[test]
 fn mixes_numbers(rt: HostRuntime) -> Result<(), Fail> {
-    for (hash, promoted) in [(0, 0), (1, 0x9e3779b97f4a7c15), (4294967295, 0xe113025b80b583eb)] {
+    for (hash, promoted) in [
+        (0, 0),
+        (1, 0x9e3779b97f4a7c15),
+        (4294967295, 0xe113025b80b583eb),
+    ] {
         assert_eq!(rt; StarlarkHashValue::new_unchecked(hash).promote(), promoted);
     }
     for (number, mixed) in [(0, 0), (1, 0x34c2cb2c)] {
@@ -111,7 +115,10 @@ fn clones_and_makes_keys(rt: HostRuntime) -> Result<(), Fail> {
     let made = Hashed::new(query).as_ref().owned(rt.alloc())?;
     assert!(rt; made == stored);
     assert_eq!(rt; Hashed::new(3u32).as_ref().owned(rt.alloc())?.into_key(), 3);
-    assert_eq!(rt; Hashed::new(-3i64).as_ref().owned(rt.alloc())?.into_key(), -3);
+    assert_eq!(rt;
+        Hashed::new(-3i64).as_ref().owned(rt.alloc())?.into_key(),
+        -3
+    );
     let refused = Hashed::new_unchecked(StarlarkHashValue::new_unchecked(0), Refused);
     assert!(rt; refused.as_ref().cloned().is_err());
     assert!(rt; refused.as_ref().owned(rt.alloc()).is_err());

@@ -7,11 +7,10 @@ ghost use Rattle.std.specs.Ordering.{on};
 ghost use Rattle.std.specs.Str.{bytes_eq};
 ghost use Rattle.std.specs.String.{string_bytes};
 
-use std::alloc::{AllocError, Global};
-use std::hash::{Hash, Hasher};
-
 use crate::equivalent::Equivalent;
 use crate::key_query::{KeyQuery, ToOwnedKey};
+use std::alloc::{AllocError, Global};
+use std::hash::{Hash, Hasher};
 
 /// A text that stands for the `String` with the same bytes.
 #[derive(Clone, Copy, Debug)]
