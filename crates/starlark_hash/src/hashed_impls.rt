@@ -1,9 +1,9 @@
 //! The traits of keys under a hash: equal hashes and keys, order by keys and then by hashes, the hash alone is fed.
 ghost use Rattle.std.proofs.Common.{rules};
-ghost use Rattle.std.specs.Prelude.{◌≡◌};
+ghost use Rattle.std.specs.Prelude.{◌≡◌, nat_eq};
 ghost use Rattle.std.specs.Cmp.{partial_order_from_own_ties};
 ghost use Rattle.std.specs.Cmp.Rules.{comparing, hashing};
-ghost use Rattle.std.specs.Ordering.{nat_cmp, on, then_cmp, as_partial_cmp};
+ghost use Rattle.std.specs.Ordering.{nat_cmp, on, then_cmp, as_partial_cmp, eq_of_both};
 ghost use Rattle.std.specs.Hash as fed;
 ghost use Rattle.starlark_hash.specs.HashValue.{hash_number, hash_of, key_of};
 
@@ -12,6 +12,21 @@ use std::cmp::Ordering;
 use std::fmt;
 use std::hash::{Hash, Hasher};
 use std::ops::Deref;
+
+impl<K: PartialEq> PartialEq for Hashed<K> {
+    ghost eq = { eq_of_both (on (λ h. hash_number (hash_of h)) nat_eq) (on key_of K.eq) };
+
+    ghost laws = { Prim.search (comparing, rules) };
+
+    #[inline]
+    fn eq(&self, other: &Hashed<K>) -> bool {
+        self.hash() == other.hash() && self.key() == other.key()
+    }
+}
+
+impl<K: Eq> Eq for Hashed<K> {
+    ghost laws = { Prim.search (comparing, rules) };
+}
 
 impl<K: Ord> PartialOrd for Hashed<K> {
     ghost partial_cmp = { as_partial_cmp (then_cmp (on key_of K.cmp) (on (λ h. hash_number (hash_of h)) nat_cmp)) };
