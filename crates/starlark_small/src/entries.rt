@@ -1,5 +1,5 @@
 //! Plain work on the list of entries, over slices and vectors: search, writing and growth.
-ghost use Rattle.std.specs.Prelude.{◌≡◌, ◌+◌, ◌*◌, ◌<◌, ◌≤◌, max, length, Some, None, IfSome, IfOk, IfErr, OnOk, OnErr, IsSome, vec_capacity};
+ghost use Rattle.std.specs.Prelude.{◌≡◌, ◌+◌, ◌*◌, ◌<◌, ◌≤◌, [], ◌∷◌, ◌++◌, max, length, Some, None, IfSome, IfOk, IfErr, OnOk, OnErr, IsSome, vec_capacity};
 ghost use Rattle.std.specs.Option.{option_copied, option_map};
 ghost use Rattle.starlark_hash.specs.Entries.{position_of, entry_at, value_at, pair_of, set_value_at, match_of, insert_entry, IsSingle};
 
@@ -88,6 +88,30 @@ pub(crate) fn full_in<'a, K: Eq, V, Q: Equivalent<K>>(
     Some((i, key.key(), value))
 }
 
+// Puts a new entry last in a single list.
+#[inline]
+pub(crate) fn push_in<K: Eq + Drop, V>(
+    entries: &mut Vec<(Hashed<K>, V)>,
+    key: Hashed<K>,
+    value: V,
+) -> Result<(), NoRoom<(Hashed<K>, V)>>
+    requires single { IsSingle K.eq entries.old.items }
+    requires absent { match_of K.eq entries.old.items key ≡ None }
+    ensures pushed { OnOk result (entries.new.items ≡ entries.old.items ++ (key, value) ∷ []) }
+    ensures single { IsSingle K.eq entries.new.items }
+    ensures handed_back { IfErr result (λ refused. refused.0 ≡ (key, value)) }
+    ensures unchanged { OnErr result (entries.new.items ≡ entries.old.items) }
+    ensures full { OnErr result (vec_capacity entries.old ≤ length entries.old.items) }
+    ensures grows { vec_capacity entries.old ≤ vec_capacity entries.new }
+    ensures bound { vec_capacity entries.new ≤ max (vec_capacity entries.old) (max 4 (2 * (length entries.old.items + 1))) }
+{
+    if let Err(_) = reserve_one(entries) {
+        return Err(NoRoom((key, value)));
+    }
+    entries.push_reserved((key, value));
+    Ok(())
+}
+
 // Inserts into a single list.
 pub(crate) fn insert_in<K: Eq + Drop, V>(
     entries: &mut Vec<(Hashed<K>, V)>,
@@ -107,12 +131,11 @@ pub(crate) fn insert_in<K: Eq + Drop, V>(
     ensures grows { vec_capacity entries.old ≤ vec_capacity entries.new }
     ensures bound { vec_capacity entries.new ≤ max (vec_capacity entries.old) (max 4 (2 * (length entries.old.items + 1))) }
 {
-    if let Some(i) = position_in(entries.as_slice(), key.hash(), key.key()) {
-        return Ok(Some(replace_at(entries, i, value)));
+    match position_in(entries.as_slice(), key.hash(), key.key()) {
+        Some(i) => Ok(Some(replace_at(entries, i, value))),
+        None => match push_in(entries, key, value) {
+            Ok(()) => Ok(None),
+            Err(refused) => Err(refused),
+        },
     }
-    if let Err(_) = reserve_one(entries) {
-        return Err(NoRoom((key, value)));
-    }
-    entries.push_reserved((key, value));
-    Ok(None)
 }
