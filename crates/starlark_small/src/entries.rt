@@ -17,9 +17,7 @@ pub(crate) fn position_in<K: Eq, V, Q: Equivalent<K>>(
     ensures place { result ≡ position_of hash (Q.equivalent query.now) entries.now }
     ensures within { IfSome result (λ i. i < length entries.now) }
 {
-    entries
-        .iter()
-        .position(|(key, _)| key.hash() == hash && query.equivalent(key.key()))
+    entries.iter().position(|(key, _)| key.hash() == hash && query.equivalent(key.key()))
 }
 
 // The value at the first such place.
@@ -36,11 +34,7 @@ pub(crate) fn value_in<'a, K: Eq, V, Q: Equivalent<K>>(
 }
 
 // Writes the value at a place of a single list, and answers the old one.
-pub(crate) fn replace_at<K: Eq, V>(
-    entries: &mut Vec<(Hashed<K>, V)>,
-    i: usize,
-    value: V,
-) -> V
+pub(crate) fn replace_at<K: Eq, V>(entries: &mut Vec<(Hashed<K>, V)>, i: usize, value: V) -> V
     requires within { i < length entries.old.items }
     requires single { IsSingle K.eq entries.old.items }
     ensures old { Some result ≡ value_at entries.old.items (Some i) }

@@ -28,6 +28,6 @@ returns-clause-run g c =
 pub returns-clause-determined : goal.returns-clause-determined
 returns-clause-determined g c =
     λ once others end run same.
-        let done = empty_at_zero _ _ c.loop-command.rest.rest.ok.0 c.in_default.ensures.cases.0 in
-        let this = rw append-nil at (c.loop-command.invariant.goes [] c.loop-command.map.entries (rw done refl)) in
-        Run-determined g.K.PartialEq.eq g.K.Ord.cmp _ once c.args.map.now.entries c.args.commands.items others _ end _ run this same
+    let done = empty_at_zero _ _ c.loop-command.rest.rest.ok.0 c.in_default.ensures.cases.0 in
+    let this = rw append-nil at (c.loop-command.invariant.goes [] c.loop-command.map.entries (rw done refl)) in
+    Run-determined g.K.PartialEq.eq g.K.Ord.cmp _ once c.args.map.now.entries c.args.commands.items others _ end _ run this same
