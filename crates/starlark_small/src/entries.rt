@@ -96,6 +96,7 @@ pub(crate) fn push_in<K: Eq + Drop, V>(
     ensures handed_back { IfErr result (λ refused. refused.0 ≡ (key, value)) }
     ensures unchanged { OnErr result (entries.new.items ≡ entries.old.items) }
     ensures full { OnErr result (vec_capacity entries.old ≤ length entries.old.items) }
+    ensures spare { length entries.old.items < vec_capacity entries.old → vec_capacity entries.new ≡ vec_capacity entries.old }
     ensures grows { vec_capacity entries.old ≤ vec_capacity entries.new }
     ensures bound { vec_capacity entries.new ≤ max (vec_capacity entries.old) (max 4 (2 * (length entries.old.items + 1))) }
 {
@@ -122,6 +123,7 @@ pub(crate) fn insert_in<K: Eq + Drop, V>(
     ensures full { OnErr result (vec_capacity entries.old ≤ length entries.old.items) }
     ensures len { length entries.old.items ≤ length entries.new.items }
     ensures replaced { IsSome (match_of K.eq entries.old.items key) → (length entries.new.items ≡ length entries.old.items) × (vec_capacity entries.new ≡ vec_capacity entries.old) }
+    ensures spare { length entries.old.items < vec_capacity entries.old → vec_capacity entries.new ≡ vec_capacity entries.old }
     ensures grows { vec_capacity entries.old ≤ vec_capacity entries.new }
     ensures bound { vec_capacity entries.new ≤ max (vec_capacity entries.old) (max 4 (2 * (length entries.old.items + 1))) }
 {

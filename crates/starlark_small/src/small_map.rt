@@ -1,5 +1,5 @@
 //! The map. It alone sees its vector.
-ghost use Rattle.std.specs.Prelude.{◌≡◌, ◌+◌, [], false, length, None, IsSome, IsTrue, IfOk, IfErr, OnOk, OnErr};
+ghost use Rattle.std.specs.Prelude.{◌≡◌, ◌+◌, ◌<◌, [], false, length, None, IsSome, IsTrue, IfOk, IfErr, OnOk, OnErr};
 ghost use Rattle.std.specs.Option.{option_copied, option_map};
 ghost use Rattle.starlark_hash.specs.Entries.{entry_at, value_at, pair_of, match_of, insert_entry, IsSingle};
 ghost use Rattle.starlark_small.specs.Map.{KeepsRoom, GrowsFor, query_match};
@@ -81,18 +81,19 @@ impl<K: Eq, V> SmallMap<K, V> {
     ) -> Result<Option<V>, NoRoom<(Hashed<K>, V)>>
     where
         K: Drop,
-        // the value that was there, and the entries now
+        // The value that was there, and the entries now.
         ensures old { IfOk result (λ old. old ≡ value_at self.old.entries (match_of K.eq self.old.entries key)) }
         ensures entries { OnOk result (self.new.entries ≡ insert_entry K.eq self.old.entries key value) }
 
-        // what a refusal leaves, and when it comes
-        ensures handed_back { IfErr result (λ refused. refused.0 ≡ (key, value)) }
-        ensures unchanged { OnErr result (self.new.entries ≡ self.old.entries) }
+        // A refusal comes only of a new key and without room. The pair comes back, and entries and index stay.
         ensures absent { OnErr result (match_of K.eq self.old.entries key ≡ None) }
         ensures full { OnErr result (self.old.room ≡ 0) }
+        ensures handed_back { IfErr result (λ refused. refused.0 ≡ (key, value)) }
+        ensures unchanged { OnErr result ((self.new.entries ≡ self.old.entries) × (self.new.indexed ≡ self.old.indexed)) }
 
-        // a key that is there changes its value alone; for a new one no room is lost, and an index stays
+        // A key that is there changes nothing but its value; with room to spare nothing grows; else the capacity and an index may.
         ensures replaced { IsSome (match_of K.eq self.old.entries key) → self.new ≡ record self.old { entries = self.new.entries } }
+        ensures spare { 0 < self.old.room → (self.new.capacity ≡ self.old.capacity) × (self.new.indexed ≡ self.old.indexed) }
         ensures room { KeepsRoom self.old self.new }
         ensures capacity { GrowsFor (length self.old.entries + 1) self.old self.new }
         ensures indexed { IsTrue self.old.indexed → IsTrue self.new.indexed }
