@@ -60,7 +60,8 @@ impl<K: Eq, V> SmallMap<K, V> {
     #[inline]
     pub fn get_full_hashed<Q: Equivalent<K>>(&self, key: Hashed<&Q>) -> Option<(usize, &K, &V)>
         ensures place { option_map (λ found. found.0) result ≡ query_match Q.equivalent self.now.entries key.entry }
-        ensures pair { option_map (λ found. (found.1.now, found.2.now)) result ≡ option_map pair_of (entry_at self.now.entries (query_match Q.equivalent self.now.entries key.entry)) }
+        ensures pair { option_map (λ found. (found.1.now, found.2.now)) result
+            ≡ option_map pair_of (entry_at self.now.entries (query_match Q.equivalent self.now.entries key.entry)) }
     {
         full_in(&self.entries, key.hash(), *key.key())
     }
