@@ -1,7 +1,9 @@
 //! The map. It alone sees its vector.
 ghost use Rattle.std.specs.Prelude.{◌≡◌, ◌+◌, ◌<◌, [], false, length, None, IsSome, IsTrue, IfOk, IfErr, OnOk, OnErr};
+ghost use Rattle.std.specs.Map.Iter.{ShowsInOrder, ShowsInReverse};
 ghost use Rattle.std.specs.Option.{option_copied, option_map};
 ghost use Rattle.starlark_hash.specs.Entries.{entry_at, value_at, pair_of, match_of, insert_entry, IsSingle};
+ghost use Rattle.starlark_small.specs.Iter.{deref_entry};
 ghost use Rattle.starlark_small.specs.Map.{KeepsRoom, GrowsFor, query_match};
 
 use crate::entries::{full_in, insert_in, value_in};
@@ -44,6 +46,8 @@ impl<K: Eq, V> SmallMap<K, V> {
     pub fn iter_hashed(&self) -> IterHashed<'_, K, V>
         ensures entries { result ≡ self.now.entries }
         ensures single { IsSingle K.eq self.now.entries }
+        ensures runs { ShowsInOrder (deref_entry {K = K} {V = V}) }
+        ensures runs_back { ShowsInReverse (deref_entry {K = K} {V = V}) }
     {
         IterHashed::new(&self.entries)
     }
