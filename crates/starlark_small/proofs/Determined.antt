@@ -1,0 +1,54 @@
+-- Runs with the same refusals give the same replies and lead to the same list.
+use Rattle.std.proofs.Common.{◌≡◌, ℕ, Bool, List, [], ◌∷◌, Option, Some, None, refl, sym, ap, ◌∙◌}
+use Rattle.std.specs.Option.{option_map}
+use Rattle.std.specs.declared.cmp.Ordering.{Ordering}
+use Rattle.std.proofs.lemmas.Option.{none-some}
+use Rattle.starlark_hash.specs.Entries.{Entry}
+use Rattle.starlark_small.specs.declared.command.Command.{Command}
+use Rattle.starlark_small.specs.declared.command.Command.TheVariants.{Look, Len, Insert}
+use Rattle.starlark_small.specs.declared.command.Reply.{Reply}
+use Rattle.starlark_small.specs.declared.command.Reply.TheVariants.{Found, Count, Old, Refused}
+use Rattle.starlark_small.specs.Run.{IsShown, IsDetermined, Run, Step, is_refusal, refusals}
+
+-- an option of a pair is its two parts
+pub option-parts : {A B : Type 0} (x y : Option (A × B)) → option_map (λ p. p.0) x ≡ option_map (λ p. p.0) y → option_map (λ p. p.1) x ≡ option_map (λ p. p.1) y → x ≡ y
+option-parts None None first second = refl
+option-parts None (Some q) first second = cc
+option-parts (Some p) None first second = cc
+option-parts (Some p) (Some q) first second =
+    let a : p.0 ≡ q.0 = cc in
+    let b : p.1 ≡ q.1 = cc in
+    (λ i. Some (a i, b i))
+
+module _ {K V R : Type 0} (eq : K → K → Bool) (cmp : K → K → Ordering) (shows : Entry K V → R → Type 0) (once : (e : Entry K V) (r s : R) → shows e r → shows e s → r ≡ s) where
+  pub shown-once : (entry : Option (Entry K V)) (r s : Option R) → IsShown shows entry r → IsShown shows entry s → r ≡ s
+  shown-once None None None p q = refl
+  shown-once (Some e) (Some r) (Some s) p q = ap Some (once e r s p q)
+  shown-once None (Some r) s p q = absurd p
+  shown-once None None (Some s) p q = absurd q
+  shown-once (Some e) None s p q = absurd p
+  shown-once (Some e) (Some r) None p q = absurd q
+
+  pub Step-determined : (old : List (Entry K V)) (command : Command K V) (r s : Reply K V R) (new end : List (Entry K V))
+      → Step eq cmp shows old command r new → Step eq cmp shows old command s end → is_refusal r ≡ is_refusal s → (r ≡ s) × (new ≡ end)
+  Step-determined old (Look key) (Found a) (Found b) new end p q same =
+      (ap Found (option-parts a b (p.0 ∙ sym q.0) (shown-once _ _ _ p.1 q.1)), p.2 ∙ sym q.2)
+  Step-determined old Len (Count a) (Count b) new end p q same = (ap Count (p.0 ∙ sym q.0), p.1 ∙ sym q.1)
+  Step-determined old (Insert key value) (Old a) (Old b) new end p q same = (ap Old (p.0 ∙ sym q.0), p.1 ∙ sym q.1)
+  Step-determined old (Insert key value) (Refused a v) (Refused b w) new end p q same =
+      ((λ i. Refused ((p.1 ∙ sym q.1) i) ((p.2 ∙ sym q.2) i)), p.3 ∙ sym q.3)
+  Step-determined old command r s new end p q same = absurd (first_of (assumption, cc))
+
+  -- the head and the tail of the refusals
+  refusals-head : (r s : Reply K V R) (rs ss : List (Reply K V R)) → refusals (r ∷ rs) ≡ refusals (s ∷ ss) → (is_refusal r ≡ is_refusal s) × (refusals rs ≡ refusals ss)
+  refusals-head r s rs ss same = (cc, cc)
+
+  pub Run-determined : (old : List (Entry K V)) (commands : List (Command K V)) (rs ss : List (Reply K V R)) (new end : List (Entry K V))
+      → Run eq cmp shows old commands rs new → Run eq cmp shows old commands ss end → refusals rs ≡ refusals ss → (rs ≡ ss) × (new ≡ end)
+  Run-determined old [] [] [] new end p q same = (refl, p ∙ sym q)
+  Run-determined old (command ∷ commands) (r ∷ rs) (s ∷ ss) new end p q same =
+      let parts = refusals-head r s rs ss same in
+      let now = Step-determined old command r s p.0 q.0 p.1 q.1 parts.0 in
+      let later = Run-determined p.0 commands rs ss new end p.2 (rw now.1 q.2) parts.1 in
+      ((λ i. now.0 i ∷ later.0 i), later.1)
+  Run-determined old commands rs ss new end p q same = absurd assumption

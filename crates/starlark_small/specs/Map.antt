@@ -1,0 +1,27 @@
+-- What a contract sees of a `SmallMap`.
+use Rattle.std.specs.Prelude.{ℕ, ◌+◌, ◌*◌, ◌≤◌, max, Bool, List, Option, length}
+use Rattle.std.specs.Borrow.{Bor}
+use Rattle.starlark_hash.specs.declared.hashed.Hashed.{Hashed}
+use Rattle.starlark_hash.specs.Entries.{Entry, position_of}
+use Rattle.starlark_hash.specs.HashValue.{hash_of, key_of}
+
+-- the entries in order, how many new ones surely need no memory, how many the list holds before it grows, and whether there is an index
+pub record Map (K V : Type 0) : Type 0 where
+  pub entries : List (Entry K V)
+  pub room : ℕ
+  pub capacity : ℕ
+  pub indexed : Bool
+
+module _ {K V : Type 0} where
+  -- a length that surely needed no memory needs none now
+  abbrev pub KeepsRoom : Map K V → Map K V → Type 0
+  KeepsRoom old new = length old.entries + old.room ≤ length new.entries + new.room
+
+  -- the capacity never falls, and rises at most to the larger of 4 and twice the length asked for
+  abbrev pub GrowsFor : ℕ → Map K V → Map K V → Type 0
+  GrowsFor asked old new = (old.capacity ≤ new.capacity) × (new.capacity ≤ max old.capacity (max 4 (2 * asked)))
+
+module _ {Q K V : Type 0} (equivalent : Q → K → Bool) where
+  -- the place under the query's hash whose key the query is equivalent to
+  abbrev pub query_match : List (Entry K V) → Hashed (Bor Q) → Option ℕ
+  query_match es query = position_of (hash_of query) (equivalent (key_of query).now) es

@@ -1,0 +1,76 @@
+-- What commands do to a list of entries.
+use Rattle.std.specs.Prelude.{◌≡◌, ℕ, Bool, true, false, List, [], ◌∷◌, ◌++◌, length, map, Option, Some, None, ⊤}
+use Rattle.std.specs.Borrow.{Bor}
+use Rattle.std.specs.Fn.{Shared}
+use Rattle.std.specs.Option.{option_map}
+use Rattle.std.specs.declared.cmp.Ordering.{Ordering}
+use Rattle.starlark_hash.specs.Entries.{Entry, entry_key, entry_value, entry_at, value_at, match_of, insert_entry}
+use Rattle.starlark_small.specs.declared.command.Command.{Command}
+use Rattle.starlark_small.specs.declared.command.Command.TheVariants.{Look, Len, Insert}
+use Rattle.starlark_small.specs.declared.command.Reply.{Reply}
+use Rattle.starlark_small.specs.declared.command.Reply.TheVariants.{Found, Count, Old, Refused}
+
+-- whether a reply is a refusal
+abbrev pub is_refusal : {K V R : Type 0} → Reply K V R → Bool
+is_refusal (Refused key value) = true
+is_refusal reply = false
+
+-- which replies are refusals
+abbrev pub refusals : {K V R : Type 0} → List (Reply K V R) → List Bool
+refusals replies = map is_refusal replies
+
+-- this is shown of the entry, where there is one
+abbrev pub IsShown : {E R : Type 0} → (E → R → Type 0) → Option E → Option R → Type 0
+IsShown shows None None = ⊤
+IsShown shows (Some e) (Some r) = shows e r
+IsShown shows entry shown = ⊥
+
+-- the entry that a command shows, if any
+abbrev pub entry_shown : {K V : Type 0} → (K → K → Bool) → List (Entry K V) → Command K V → Option (Entry K V)
+entry_shown eq es (Look key) = entry_at es (match_of eq es key)
+entry_shown eq es command = None
+
+module _ {K V R : Type 0} (eq : K → K → Bool) (cmp : K → K → Ordering) (shows : Entry K V → R → Type 0) where
+  -- from old, a map may give this reply to the command and go on to new
+  abbrev pub Step : List (Entry K V) → Command K V → Reply K V R → List (Entry K V) → Type 0
+  Step old (Look key) (Found found) new =
+      (option_map (λ p. p.0) found ≡ match_of eq old key)
+      × IsShown shows (entry_shown eq old (Look key)) (option_map (λ p. p.1) found)
+      × (new ≡ old)
+  Step old Len (Count n) new = (n ≡ length old) × (new ≡ old)
+  Step old (Insert key value) (Old before) new = (before ≡ value_at old (match_of eq old key)) × (new ≡ insert_entry eq old key value)
+  -- only a new key is refused: it comes back with its value
+  Step old (Insert key value) (Refused k v) new = (match_of eq old key ≡ None) × (k ≡ key) × (v ≡ value) × (new ≡ old)
+  -- no other reply is given
+  Step old command reply new = ⊥
+
+  -- these replies, one to each command in turn, lead from old to new
+  abbrev pub Run : List (Entry K V) → List (Command K V) → List (Reply K V R) → List (Entry K V) → Type 0
+  Run old [] [] new = new ≡ old
+  Run old (command ∷ commands) (reply ∷ replies) new = (next : List (Entry K V)) × Step old command reply next × Run next commands replies new
+  Run old commands replies new = ⊥
+
+  -- where an entry is shown in one way only, these replies and this list are those of every run with the same refusals
+  abbrev pub IsDetermined : List (Entry K V) → List (Command K V) → List (Reply K V R) → List (Entry K V) → Type 0
+  IsDetermined old commands replies new =
+      ((e : Entry K V) (r s : R) → shows e r → shows e s → r ≡ s)
+      → (others : List (Reply K V R)) (end : List (Entry K V)) → Run old commands others end → refusals others ≡ refusals replies
+      → (others ≡ replies) × (end ≡ new)
+
+module _ {F K V R : Type 0} (g : Shared F (Bor K × (Bor V × Unit {0})) R) where
+  -- look may be called at references to the entry's key and value
+  abbrev pub TakesEntry : F → Entry K V → Type 0
+  TakesEntry look e = (key : Bor K) (value : Bor V) → key.now ≡ entry_key e → value.now ≡ entry_value e → g.pre look (key, (value, tt))
+
+  -- such a call may give r
+  pub record Shows (look : F) (e : Entry K V) (r : R) : Type 0 where
+    pub key : Bor K
+    pub value : Bor V
+    pub points : (key.now ≡ entry_key e) × (value.now ≡ entry_value e)
+    pub met : g.post look (key, (value, tt)) r
+
+  -- look may be called on each entry that a command shows, once those before it are done
+  pub record CanShow (eq : K → K → Bool) (cmp : K → K → Ordering) (look : F) (start : List (Entry K V)) (commands : List (Command K V)) : Type 0 where
+    pub at : (before : List (Command K V)) (command : Command K V) (after : List (Command K V)) (replies : List (Reply K V R)) (now : List (Entry K V)) (e : Entry K V)
+        → commands ≡ before ++ command ∷ after → Run eq cmp (Shows look) start before replies now
+        → entry_shown eq now command ≡ Some e → TakesEntry look e

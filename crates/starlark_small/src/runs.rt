@@ -1,0 +1,72 @@
+//! Runs of commands, over the map's public calls.
+ghost use Rattle.std.specs.Prelude.{◌≡◌, IfOk, OnErr, Some};
+ghost use Rattle.std.specs.Option.{option_map};
+ghost use Rattle.starlark_hash.specs.Entries.{Entry, entry_at, match_of};
+ghost use Rattle.starlark_small.specs.Run.{CanShow, IsDetermined, IsShown, Run, Shows, Step, TakesEntry, entry_shown};
+
+use crate::command::{Command, Reply};
+use crate::small_map::SmallMap;
+use starlark_hash::{Hashed, NoRoom};
+use std::alloc::{AllocError, Global};
+
+// The place of a key, and what `look` shows of the entry there.
+fn found_under<K: Eq, V, R, F: Fn(&K, &V) -> R>(
+    map: &SmallMap<K, V>,
+    key: &Hashed<K>,
+    look: &F,
+) -> Option<(usize, R)>
+    requires { (e : Entry K V) → entry_at map.now.entries (match_of K.eq map.now.entries key.now) ≡ Some e → TakesEntry F.Fn look.now e }
+    ensures place { option_map (λ found. found.0) result ≡ match_of K.eq map.now.entries key.now }
+    ensures shown { IsShown (Shows F.Fn look.now) (entry_at map.now.entries (match_of K.eq map.now.entries key.now)) (option_map (λ found. found.1) result) }
+{
+    match map.get_full_hashed(key.as_ref()) {
+        Some((i, key, value)) => Some((i, look(key, value))),
+        None => None,
+    }
+}
+
+// One command.
+fn step<K: Ord + Drop, V: Drop, R, F: Fn(&K, &V) -> R>(
+    map: &mut SmallMap<K, V>,
+    command: Command<K, V>,
+    look: &F,
+) -> Reply<K, V, R>
+    requires { (e : Entry K V) → entry_shown K.eq map.old.entries command ≡ Some e → TakesEntry F.Fn look.now e }
+    ensures { Step K.eq K.cmp (Shows F.Fn look.now) map.old.entries command result map.new.entries }
+{
+    match command {
+        Command::Look(key) => Reply::Found(found_under(map, &key, look)),
+        Command::Len => Reply::Count(map.len()),
+        Command::Insert(key, value) => match map.insert_hashed(key, value) {
+            Ok(old) => Reply::Old(old),
+            Err(NoRoom((key, value))) => Reply::Refused(key, value),
+        },
+    }
+}
+
+/// Does the commands in order on the map, and answers their replies. `look` gives the part of an entry that a reply shows. Memory for the replies is asked for before the first command: where it is not found no command is done.
+pub fn run<K: Ord + Drop, V: Drop, R: Drop, F: Fn(&K, &V) -> R>(
+    alloc: Global,
+    map: &mut SmallMap<K, V>,
+    commands: Vec<Command<K, V>>,
+    look: F,
+) -> Result<Vec<Reply<K, V, R>>, AllocError>
+where
+    F: Drop,
+    requires { CanShow F.Fn K.eq K.cmp look map.old.entries commands.items }
+    // The replies and the final list are those of one plain list, and of no other run with these refusals.
+    ensures run { IfOk result (λ replies.
+        Run K.eq K.cmp (Shows F.Fn look) map.old.entries commands.items replies.items map.new.entries) }
+    ensures determined { IfOk result (λ replies.
+        IsDetermined K.eq K.cmp (Shows F.Fn look) map.old.entries commands.items replies.items map.new.entries) }
+
+    // A refusal comes before the first command.
+    ensures unchanged { OnErr result (map.new ≡ map.old) }
+{
+    let mut replies = Vec::with_capacity(alloc, commands.len())?;
+    let mut rest = commands.into_iter();
+    while let Some(command) = rest.next() {
+        replies.push_reserved(step(map, command, &look));
+    }
+    Ok(replies)
+}
