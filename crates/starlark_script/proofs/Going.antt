@@ -1,5 +1,5 @@
 -- How far a script is played.
-use Rattle.std.proofs.Common.{◌≡◌, ℕ, ◌+◌, ◌<◌, ◌≤◌, List, [], ◌∷◌, ◌++◌, length, take, drop, Option, Some, None, refl, sym, ap, ◌∙◌, arith, append_assoc, inl, inr}
+use Rattle.std.proofs.Common.{◌≡◌, ℕ, ◌+◌, ◌<◌, List, [], ◌∷◌, ◌++◌, length, take, drop, Option, Some, None, refl, sym, ap, ◌∙◌, arith, append_assoc, inl, inr}
 use Rattle.std.specs.Prelude.{⊤, IfSome}
 use Rattle.std.specs.Io.KnownBytes.{Keeps, Appends, IsAtEnd, prepend_known}
 use Rattle.std.proofs.KnownBytes.{Appends-nil, Appends-trans, Appends-kept}
@@ -7,7 +7,7 @@ use Rattle.std.proofs.lemmas.List.{append-nil, take_all, drop_all, nil_from_leng
 use Rattle.starlark_script.specs.Lines.{lines_of}
 use Rattle.starlark_script.specs.Commands.{Command, IsLineOf, IsBad}
 use Rattle.starlark_script.specs.Replies.{Entries, reply, after, replies}
-use Rattle.starlark_script.specs.Script.{AreLinesOf, Answers, Reaches, IsPlayed, StopsAtBadLine, StopsAtGoodLine}
+use Rattle.starlark_script.specs.Script.{AreLinesOf, Answers, IsPlayed, StopsAtBadLine, StopsAtGoodLine}
 use Rattle.starlark_script.specs.Found.{Shows}
 use Rattle.starlark_script.specs.declared.window.Found.TheVariants.{End, Line, TooLong}
 use Rattle.starlark_script.proofs.LineFacts.{lines-last, first-ended, first-long}

@@ -1,6 +1,6 @@
 -- Numbers in their one spelling.
-use Rattle.std.proofs.Common.{◌≡◌, ◌≢◌, ℕ, zero, suc, ◌+◌, ◌-◌, ◌<◌, ◌≤◌, ◌^◌, Bool, true, false, ℤ, pos, negsuc, List, [], ◌∷◌, length, get_or, drop, Option, Some, None, Result, Ok, Err, refl, sym, ap, ◌∙◌, arith, length-drop, lit<}
-use Rattle.std.specs.Prelude.{IsTrue, IfSome, IfNone, slice_index, decimal, ◌==◌, FitsSigned, neg_ℤ}
+use Rattle.std.proofs.Common.{◌≡◌, ◌≢◌, ℕ, zero, suc, ◌<◌, ◌^◌, Bool, true, false, ℤ, pos, negsuc, List, ◌∷◌, length, get_or, drop, Result, Ok, Err, refl, sym, ap, ◌∙◌, arith, length-drop, lit<}
+use Rattle.std.specs.Prelude.{IsTrue, IfSome, IfNone, decimal, ◌==◌, FitsSigned, neg_ℤ}
 use Rattle.std.specs.Fmt.{signed_decimal}
 use Rattle.std.specs.Int.{w64, IsInRange}
 use Rattle.std.specs.Result.{result_ok}

@@ -1,9 +1,9 @@
 -- A line is that of one command at most.
-use Rattle.std.proofs.Common.{◌≡◌, ℕ, ◌<◌, ◌^◌, ℤ, List, [], ◌∷◌, refl, sym, ap, ◌∙◌, arith}
+use Rattle.std.proofs.Common.{◌≡◌, ℕ, List, refl, sym, ap, ◌∙◌, arith}
 use Rattle.std.specs.Fmt.{signed_decimal}
 use Rattle.std.proofs.lemmas.Fmt.{decimal_injective, signed_decimal_injective}
 use Rattle.starlark_hash.specs.HashValue.{hash_number, hash_of, key_of}
-use Rattle.starlark_script.specs.Commands.{Key, Command, Put, Get, Len, Walk, fields, hash_text, IsKey, IsLawful, IsLineOf, LinesAreOfOne}
+use Rattle.starlark_script.specs.Commands.{Key, Command, Put, Get, Len, Walk, fields, hash_text, IsKey, IsLawful, LinesAreOfOne}
 use Rattle.starlark_script.proofs.Numbers.{fits-mag}
 
 one-key : (j k : Key) → IsKey j → IsKey k → hash_text j ≡ hash_text k → key_of j ≡ key_of k → j ≡ k

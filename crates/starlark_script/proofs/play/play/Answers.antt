@@ -1,4 +1,4 @@
-use Rattle.std.proofs.Common.{◌≡◌, ◌+◌, Err, ap, sym, ◌∙◌, take}
+use Rattle.std.proofs.Common.{◌≡◌, ◌+◌, Err, ap, sym, ◌∙◌}
 use Rattle.std.proofs.lemmas.Result.{err_from_is_err_and}
 use Rattle.starlark_script.proofs.Going.{going-start, going-kept, going-end, going-long, going-bad, going-stop, going-step, leads-line}
 use Rattle.starlark_script.proofs.Results.{IfOk-weaker}
