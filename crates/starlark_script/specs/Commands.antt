@@ -54,6 +54,11 @@ pub record IsLineOf (line : List ℕ) (command : Command) : Type 0 where
 abbrev pub IsBad : List ℕ → Type 0
 IsBad line = (command : Command) → ¬ (IsLineOf line command)
 
+-- the commands for which memory may be asked
+abbrev pub MayNeedMemory : Command → Type 0
+MayNeedMemory (Put key value) = Unit {0}
+MayNeedMemory command = ⊥
+
 -- no line is that of two commands
 abbrev pub LinesAreOfOne : Type 0
 LinesAreOfOne = (line : List ℕ) (c d : Command) → IsLineOf line c → IsLineOf line d → c ≡ d

@@ -3,7 +3,7 @@ pub mod Numbers
 pub mod Commands
 pub mod Replies
 pub mod Script
-pub mod Status
+pub mod Fault
 pub mod Found
 pub mod Shown
 pub mod ShownEntries

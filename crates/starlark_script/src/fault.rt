@@ -1,6 +1,6 @@
 //! Why a script is not played to its end.
-ghost use Rattle.std.specs.Prelude.{◌≡◌};
-ghost use Rattle.starlark_script.specs.Status.{status_of};
+ghost use Rattle.std.specs.Prelude.{◌≡◌, Some};
+ghost use Rattle.starlark_script.specs.Fault.{status_of, text_of};
 
 use std::error::Error;
 use std::fmt;
@@ -30,6 +30,8 @@ impl PlayFault {
 }
 
 impl fmt::Display for PlayFault {
+    ghost output = { λ fault. Some (text_of fault) };
+
     fn fmt<W: fmt::Write>(&self, f: &mut fmt::Formatter<W>) -> fmt::Result {
         match self {
             PlayFault::BadLine(line) => write!(f, "line {line}: bad line"),

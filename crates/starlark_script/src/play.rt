@@ -3,9 +3,9 @@ ghost use Rattle.std.specs.Prelude.{◌≡◌, ◌≢◌, ℕ, ◌<◌, IfSome, 
 ghost use Rattle.std.specs.Io.KnownBytes.{Keeps, Appends, IsAtEnd};
 ghost use Rattle.starlark_hash.specs.Entries.{value_at, match_of, insert_entry};
 ghost use Rattle.std.specs.Str.{bytes_eq};
-ghost use Rattle.starlark_script.specs.Commands.{LinesAreOfOne};
+ghost use Rattle.starlark_script.specs.Commands.{LinesAreOfOne, MayNeedMemory};
 ghost use Rattle.starlark_script.specs.Replies.{value_text, entry_text, reply, after};
-ghost use Rattle.starlark_script.specs.Script.{IsPlayed, StopsAtBadLine, StopsAtGoodLine};
+ghost use Rattle.starlark_script.specs.Script.{IsPlayed, StopsAtBadLine, StopsForMemory};
 ghost use Rattle.starlark_script.specs.Shown.{shown, shown_key};
 ghost use Rattle.starlark_script.specs.ShownEntries.{entries_of};
 
@@ -30,7 +30,7 @@ pub fn play<R: Read, W: Write>(
     ensures ok { OnOk result (IfSome (R.remaining reader.old) (IsPlayed (W.contents writer.old) (W.contents writer.new))) }
     ensures end { OnOk result (IsAtEnd (R.remaining reader.new)) }
     ensures bad_line { (n : ℕ) → result ≡ Err (PlayFault.BadLine n) → IfSome (R.remaining reader.old) (StopsAtBadLine (W.contents writer.old) (W.contents writer.new) n) }
-    ensures memory { result ≡ Err PlayFault.Memory → IfSome (R.remaining reader.old) (StopsAtGoodLine (W.contents writer.old) (W.contents writer.new)) }
+    ensures memory { result ≡ Err PlayFault.Memory → IfSome (R.remaining reader.old) (StopsForMemory (W.contents writer.old) (W.contents writer.new)) }
 {
     let mut window = Window::new();
     let mut map = SmallMap::new(alloc);
@@ -75,6 +75,7 @@ fn answer<W: Write>(
     ensures done { OnOk result (entries_of map.new.entries ≡ after (entries_of map.old.entries) (shown command.entry)) }
     ensures replied { OnOk result (Appends (W.contents writer.old) (W.contents writer.new) (reply (entries_of map.old.entries) (shown command.entry))) }
     ensures memory { result ≡ Err PlayFault.Memory → Keeps (W.contents writer.old) (W.contents writer.new) }
+    ensures needed { result ≡ Err PlayFault.Memory → MayNeedMemory (shown command.entry) }
     ensures good { (n : ℕ) → result ≢ Err (PlayFault.BadLine n) }
 {
     match command {

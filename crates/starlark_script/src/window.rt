@@ -99,6 +99,7 @@ impl Window {
     fn refill<R: Read>(&mut self, reader: &mut R) -> io::Result<usize>
         requires { length self.old ≤ LONGEST }
         ensures kept { OnOk result (Keeps (prepend_known self.old (R.remaining reader.old)) (prepend_known self.new (R.remaining reader.new))) }
+        ensures grown { IfOk result (λ n. length self.new ≡ length self.old + n) }
         ensures end { IfOk result (λ n. n ≡ 0 → (self.new ≡ self.old) × IsAtEnd (R.remaining reader.new)) }
     {
         let len = self.end - self.start;

@@ -30,7 +30,8 @@ returns-in_err-answer-clause-memory g c = λ e.
     let going = going-kept _ _ _ _ _ _ _ c.loop-i.invariant c.in_ok-find_line.ensures.kept in
     let leads = leads-line c.find_line.new.self c.in-Line.len (g.R.Read.remaining c.find_line.new.reader) (rw c.in-Line.is at c.in_ok-find_line.ensures.shows) in
     let p = err_from_is_err_and c.from_residual-in_err-answer.result c.from_residual-in_err-answer.ensures.1 in
-    going-stop _ _ _ _ _ _ _ _ _ _ going leads (rw c.bytes.ensures at c.in-Some.ensures) (c.in_err-answer.ensures.memory (ap Err (sym p.2) ∙ sym p.1 ∙ e))
+    let was = ap Err (sym p.2) ∙ sym p.1 ∙ e in
+    going-stop _ _ _ _ _ _ _ _ _ _ going leads (rw c.bytes.ensures at c.in-Some.ensures) (c.in_err-answer.ensures.needed was) (c.in_err-answer.ensures.memory was)
 
 pub loop-i-preserved : goal.loop-i-preserved
 loop-i-preserved g c =
