@@ -1,6 +1,7 @@
 //! Plays a script of map calls: reads standard input, and writes the reply to each line.
 #![tactic(auto)]
 
+pub mod answer;
 pub mod command;
 pub mod fault;
 pub mod output;

@@ -8,7 +8,7 @@ use Rattle.starlark_script.specs.Shown.{shown_key}
 use Rattle.starlark_script.specs.ShownEntries.{entries_of}
 use Rattle.starlark_script.proofs.EntriesLemmas.{inserted, found}
 use Rattle.starlark_script.proofs.Results.{IfOk-map_err, IfOk-weaker}
-use Rattle.starlark_script.proofs.play.put.Goals as goal
+use Rattle.starlark_script.proofs.answer.put.Goals as goal
 
 same_hash : (c : goal.After-map_err) → hash_of c.new_unchecked.result ≡ hash_of c.args.key
 same_hash c = ap hash_of c.new_unchecked.ensures ∙ c.hash.ensures

@@ -1,7 +1,7 @@
 use Rattle.std.proofs.Common.{◌∙◌}
 use Rattle.starlark_hash.specs.HashValue.{hash_of, key_of}
 use Rattle.starlark_script.proofs.EntriesLemmas.{value-entries_of}
-use Rattle.starlark_script.proofs.play.get.Goals as goal
+use Rattle.starlark_script.proofs.answer.get.Goals as goal
 
 pub returns : goal.returns
 returns c =

@@ -6,7 +6,7 @@ use Rattle.std.specs.Io.KnownBytes.{Appends}
 use Rattle.starlark_small.specs.Iter.{deref_entry}
 use Rattle.starlark_script.specs.Replies.{entry_text}
 use Rattle.starlark_script.specs.ShownEntries.{entries_of}
-use Rattle.starlark_script.proofs.play.write_entries.Given as goal
+use Rattle.starlark_script.proofs.answer.write_entries.Given as goal
 
 abbrev pub invariant-loop-key : goal.invariant-loop-key
 invariant-loop-key g l =
