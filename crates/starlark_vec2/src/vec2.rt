@@ -45,6 +45,7 @@ impl<A, B> Model for Vec2<A, B> {
 
 impl<A, B> Vec2<A, B> {
     /// A list without pairs. It takes no memory.
+    #[tactic(auto, using(crate::proofs::Pairs::columns))]
     #[inline]
     pub fn new(alloc: Global) -> Vec2<A, B>
         ensures { result ≡ pair_list [] 0 }
@@ -57,6 +58,7 @@ impl<A, B> Vec2<A, B> {
     }
 
     /// A list without pairs, with room for `capacity` of them. Capacity 0 takes no memory; where another finds none, nothing is made.
+    #[tactic(auto, using(crate::proofs::Pairs::columns))]
     #[inline]
     pub fn with_capacity(alloc: Global, capacity: usize) -> Result<Vec2<A, B>, AllocError>
         ensures made { IfOk result (λ v. v ≡ pair_list [] capacity) }
@@ -81,6 +83,7 @@ impl<A, B> Vec2<A, B> {
 
 impl<A, B> Vec2<A, B> {
     /// How many pairs there are.
+    #[tactic(auto, using(crate::proofs::Pairs::columns))]
     #[inline]
     pub fn len(&self) -> usize
         ensures len { result ≡ length self.now.pairs }
@@ -90,6 +93,7 @@ impl<A, B> Vec2<A, B> {
     }
 
     /// How many pairs there may be before the list grows.
+    #[tactic(auto, using(crate::proofs::Pairs::columns))]
     #[inline]
     pub fn capacity(&self) -> usize
         ensures capacity { result ≡ self.now.capacity }
@@ -99,6 +103,7 @@ impl<A, B> Vec2<A, B> {
     }
 
     /// Whether there are no pairs.
+    #[tactic(auto, using(crate::proofs::Pairs::columns))]
     #[inline]
     pub fn is_empty(&self) -> bool
         ensures { result ≡ (length self.now.pairs == 0) }
@@ -107,6 +112,7 @@ impl<A, B> Vec2<A, B> {
     }
 
     /// The first parts of the pairs, in their order.
+    #[tactic(auto, using(crate::proofs::Pairs::columns))]
     #[inline]
     pub fn firsts(&self) -> &[A]
         ensures { result.now ≡ firsts_of self.now.pairs }
@@ -115,6 +121,7 @@ impl<A, B> Vec2<A, B> {
     }
 
     /// The second parts of the pairs, in their order.
+    #[tactic(auto, using(crate::proofs::Pairs::columns))]
     #[inline]
     pub fn seconds(&self) -> &[B]
         ensures { result.now ≡ seconds_of self.now.pairs }
@@ -123,6 +130,7 @@ impl<A, B> Vec2<A, B> {
     }
 
     /// The pair at this index, where there is one.
+    #[tactic(auto, using(crate::proofs::Pairs::columns))]
     #[inline]
     pub fn get(&self, index: usize) -> Option<(&A, &B)>
         ensures { option_map deref_pair result ≡ slice_get self.now.pairs index }
@@ -135,6 +143,7 @@ impl<A, B> Vec2<A, B> {
     }
 
     /// The pair at this index. Rust's is unsafe; here the index is proved to be within the length.
+    #[tactic(auto, using(crate::proofs::Pairs::columns))]
     #[inline]
     pub fn get_unchecked(&self, index: usize) -> (&A, &B)
         requires { index < length self.now.pairs }
@@ -144,6 +153,7 @@ impl<A, B> Vec2<A, B> {
     }
 
     /// The first pair, where there is one.
+    #[tactic(auto, using(crate::proofs::Pairs::columns))]
     #[inline]
     pub fn first(&self) -> Option<(&A, &B)>
         ensures { option_map deref_pair result ≡ slice_get self.now.pairs 0 }
@@ -152,6 +162,7 @@ impl<A, B> Vec2<A, B> {
     }
 
     /// The last pair, where there is one.
+    #[tactic(auto, using(crate::proofs::Pairs::columns))]
     #[inline]
     pub fn last(&self) -> Option<(&A, &B)>
         ensures { option_map deref_pair result ≡ slice_get self.now.pairs (length self.now.pairs - 1) }
@@ -160,6 +171,7 @@ impl<A, B> Vec2<A, B> {
     }
 
     /// The pairs, in their order.
+    #[tactic(auto, using(crate::proofs::Pairs::columns))]
     #[inline]
     pub fn iter(&self) -> Iter<'_, A, B>
         ensures rest { result ≡ self.now.pairs }
@@ -177,6 +189,7 @@ impl<A, B> Vec2<A, B> {
     /// Makes room for so many further pairs. It grows only where their room is missing, to the largest of what is
     /// needed, 4 and twice the capacity (cut at the greatest `usize`); Rust's grows by a rule of its own.
     /// Where memory is refused, and where a block would be too large, the list is as it was.
+    #[tactic(auto, using(crate::proofs::Pairs::columns))]
     #[inline]
     pub fn reserve(&mut self, additional: usize) -> Result<(), AllocError>
         ensures list { self.new ≡ (if is_ok result then list.reserve self.old additional else self.old) }
@@ -189,6 +202,7 @@ impl<A, B> Vec2<A, B> {
     }
 
     // The part of `reserve` that asks for memory, apart so that the test is inlined.
+    #[tactic(auto, using(crate::proofs::Pairs::columns))]
     #[cold]
     #[inline(never)]
     fn grow(&mut self, additional: usize) -> Result<(), AllocError>
@@ -207,6 +221,7 @@ impl<A, B> Vec2<A, B> {
 
     /// Puts a pair at the end. Both columns have room before either part is stored. Where there is no memory the list
     /// is as it was, and the pair comes back; that can't be while the length is below the capacity.
+    #[tactic(auto, using(crate::proofs::Pairs::columns))]
     #[inline]
     pub fn push(&mut self, a: A, b: B) -> Result<(), NoRoom<(A, B)>>
         ensures list { self.new ≡ (if is_ok result then list.push self.old (a, b) else self.old) }
@@ -237,6 +252,7 @@ const LEAST_CAPACITY: usize = 4;
 
 impl<A, B> Vec2<A, B> {
     /// Takes the pair at this index out. Those after it move up.
+    #[tactic(auto, using(crate::proofs::Pairs::columns))]
     #[inline]
     pub fn remove(&mut self, index: usize) -> (A, B)
         requires { index < length self.old.pairs }
@@ -247,6 +263,7 @@ impl<A, B> Vec2<A, B> {
     }
 
     /// Takes the last pair out, where there is one.
+    #[tactic(auto, using(crate::proofs::Pairs::columns))]
     #[inline]
     pub fn pop(&mut self) -> Option<(A, B)>
         ensures taken { TakesLast (λ p. p) self.old.pairs result self.new.pairs }
@@ -260,6 +277,7 @@ impl<A, B> Vec2<A, B> {
 
     /// Makes the capacity equal to the length. Both new columns are there before a pair moves; where there is no memory
     /// for them, the list is as it was. Without pairs, or at a capacity that fits already, no memory is needed.
+    #[tactic(auto, using(crate::proofs::Pairs::columns))]
     pub fn shrink_to_fit(&mut self) -> Result<(), AllocError>
         ensures list { self.new ≡ (if is_ok result then pair_list self.old.pairs (length self.old.pairs) else self.old) }
         ensures succeeds_empty { length self.old.pairs ≡ 0 → IsOk result }
@@ -276,6 +294,7 @@ impl<A, B> Vec2<A, B> {
     }
 
     // Moves all pairs to the end of another list, which has room for them.
+    #[tactic(auto, using(crate::proofs::Pairs::columns))]
     fn move_to(&mut self, other: &mut Vec2<A, B>)
         requires { length other.old.pairs + length self.old.pairs ≤ other.old.capacity }
         ensures moved { other.new ≡ with_pairs other.old (other.old.pairs ++ self.old.pairs) }
@@ -286,6 +305,7 @@ impl<A, B> Vec2<A, B> {
     }
 
     // Gives the memory of a list without pairs back, also where its parts may not be dropped.
+    #[tactic(auto, using(crate::proofs::Pairs::columns))]
     fn destroy_empty(self)
         requires { self.pairs ≡ [] }
     {
@@ -299,6 +319,7 @@ impl<A, B> Vec2<A, B> {
     }
 
     /// Turns the order of the pairs round.
+    #[tactic(auto, using(crate::proofs::Pairs::columns))]
     #[inline]
     pub fn reverse(&mut self)
         ensures { self.new ≡ with_pairs self.old (reverse self.old.pairs) }
@@ -321,6 +342,7 @@ fn append_reserved<T>(to: &mut Vec<T>, from: &mut Vec<T>)
 
 impl<A: Drop, B: Drop> Vec2<A, B> {
     /// Drops all pairs. The capacity stays.
+    #[tactic(auto, using(crate::proofs::Pairs::columns))]
     #[inline]
     pub fn clear(&mut self)
         ensures { self.new ≡ with_pairs self.old [] }
@@ -330,6 +352,7 @@ impl<A: Drop, B: Drop> Vec2<A, B> {
     }
 
     /// Drops the pairs from this place on. At or above the length nothing is dropped.
+    #[tactic(auto, using(crate::proofs::Pairs::columns))]
     #[inline]
     pub fn truncate(&mut self, len: usize)
         ensures { self.new ≡ with_pairs self.old (take len self.old.pairs) }

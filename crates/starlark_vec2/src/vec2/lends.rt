@@ -10,6 +10,7 @@ use super::Vec2;
 
 impl<A, B> Vec2<A, B> {
     /// The first parts of the pairs, in their order. The list ends with what is left in them.
+    #[tactic(auto, using(crate::proofs::Pairs::columns))]
     #[inline]
     pub fn firsts_mut(&mut self) -> &mut [A]
         ensures* writes_back { sem 𝓛 (lends_firsts A.row B.row self.entry result) }
@@ -19,6 +20,7 @@ impl<A, B> Vec2<A, B> {
     }
 
     /// The second parts of the pairs, in their order. The list ends with what is left in them.
+    #[tactic(auto, using(crate::proofs::Pairs::columns))]
     #[inline]
     pub fn seconds_mut(&mut self) -> &mut [B]
         ensures* writes_back { sem 𝓛 (lends_seconds A.row B.row self.entry result) }
@@ -28,6 +30,7 @@ impl<A, B> Vec2<A, B> {
     }
 
     /// The first part of the pair at this index. The list ends with what is left in it.
+    #[tactic(auto, using(crate::proofs::Pairs::columns))]
     #[inline]
     pub fn first_at_mut(&mut self, index: usize) -> &mut A
         requires { index < length self.old.pairs }
@@ -38,6 +41,7 @@ impl<A, B> Vec2<A, B> {
     }
 
     /// The second part of the pair at this index. The list ends with what is left in it.
+    #[tactic(auto, using(crate::proofs::Pairs::columns))]
     #[inline]
     pub fn second_at_mut(&mut self, index: usize) -> &mut B
         requires { index < length self.old.pairs }
@@ -48,6 +52,7 @@ impl<A, B> Vec2<A, B> {
     }
 
     /// The pair at this index, to read the first part and write the second. The list ends with what is left in that.
+    #[tactic(auto, using(crate::proofs::Pairs::columns))]
     #[inline]
     pub fn pair_at_mut(&mut self, index: usize) -> (&A, &mut B)
         requires { index < length self.old.pairs }
@@ -59,6 +64,7 @@ impl<A, B> Vec2<A, B> {
 
     /// The pair at this index, where there is one, to write both parts. Of the list afterwards nothing is said:
     /// `first_at_mut`, `second_at_mut` and `pair_at_mut` say it.
+    #[tactic(auto, using(crate::proofs::Pairs::columns))]
     #[inline]
     pub fn get_mut(&mut self, index: usize) -> Option<(&mut A, &mut B)>
         ensures { option_map deref_both_mut result ≡ slice_get self.old.pairs index }
@@ -72,6 +78,7 @@ impl<A, B> Vec2<A, B> {
 
     /// The pair at this index, to write both parts. Rust's is unsafe; here the index is proved to be within the
     /// length. Of the list afterwards nothing is said, as at `get_mut`.
+    #[tactic(auto, using(crate::proofs::Pairs::columns))]
     #[inline]
     pub fn get_unchecked_mut(&mut self, index: usize) -> (&mut A, &mut B)
         requires { index < length self.old.pairs }
