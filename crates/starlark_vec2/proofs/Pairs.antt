@@ -96,6 +96,13 @@ module _ {A B : Type 0} where
   zip-set_second (z ∷ xs) (w ∷ ys) zero y = refl
   zip-set_second (z ∷ xs) (w ∷ ys) (suc i) y = ap (λ l. (z, w) ∷ l) (zip-set_second xs ys i y)
 
+  pub zip-set : (xs : List A) (ys : List B) (i : ℕ) (x : A) (y : B) → zip (set xs i x) (set ys i y) ≡ set (zip xs ys) i (x, y)
+  zip-set [] ys i x y = refl
+  zip-set (z ∷ xs) [] zero x y = refl
+  zip-set (z ∷ xs) [] (suc i) x y = refl
+  zip-set (z ∷ xs) (w ∷ ys) zero x y = refl
+  zip-set (z ∷ xs) (w ∷ ys) (suc i) x y = ap (λ l. (z, w) ∷ l) (zip-set xs ys i x y)
+
   -- a column that was written as a whole
   pub zip-refill_firsts : (n : ℕ) (xs : List A) (ys : List B) (ws : List A) → n ≡ length xs → length xs ≡ length ys → zip (refill n xs ws) ys ≡ set_firsts (zip xs ys) ws
   zip-refill_firsts n xs ys ws m e = λ j. zip (refill ((m ∙ sym (length-zip xs ys e)) j) (sym (firsts_of-zip xs ys e) j) ws) (sym (seconds_of-zip xs ys e) j)

@@ -9,6 +9,7 @@ use Rattle.std.proofs.lemmas.List.Edits.{Swapped, swapped_from_swap, swap_is, le
 use Rattle.std.proofs.lemmas.List.FromFn.{get_or-range_with_len, length-range_with_len}
 use Rattle.std.proofs.lemmas.List.Sorted.{IsPermutation-keeps}
 use Rattle.starlark_vec2.specs.Positions.{PutsInOrder}
+use Rattle.starlark_vec2.proofs.Pairs.{zip-set}
 use Rattle.starlark_vec2.proofs.Positions.{PutsInOrder-from_places}
 
 -- each position is below n, and no two places have the same one
@@ -157,13 +158,6 @@ module _ (order order2 : List ℕ) (place from next : ℕ) (n : ℕ) (s : Spread
         ]
 
 module _ {A B : Type 0} where
-  zip-set : (xs : List A) (ys : List B) (i : ℕ) (x : A) (y : B) → zip (set xs i x) (set ys i y) ≡ set (zip xs ys) i (x, y)
-  zip-set [] ys i x y = refl
-  zip-set (z ∷ xs) [] zero x y = refl
-  zip-set (z ∷ xs) [] (suc i) x y = refl
-  zip-set (z ∷ xs) (w ∷ ys) zero x y = refl
-  zip-set (z ∷ xs) (w ∷ ys) (suc i) x y = ap (λ l. (z, w) ∷ l) (zip-set xs ys i x y)
-
   get_or-both : (xs : List A) (ys : List B) (i : ℕ) (x : A) (y : B) → length xs ≡ length ys → (get_or xs i x, get_or ys i y) ≡ get_or (zip xs ys) i (x, y)
   get_or-both [] [] i x y e = refl
   get_or-both [] (w ∷ ys) i x y e = absurd (omega arith)

@@ -1,7 +1,7 @@
 -- What a `Vec2` ends as, once a reference into it has ended.
-use Rattle.std.specs.Prelude.{ℕ, zero, suc, List, [], ◌∷◌, zip, length}
+use Rattle.std.specs.Prelude.{ℕ, zero, suc, List, [], ◌∷◌, zip, length, slice_set}
 use Rattle.std.specs.List.{refill}
-use Rattle.std.specs.Borrow.{Fml, RattleType, MutBor, Array, Lends}
+use Rattle.std.specs.Borrow.{Fml, RattleType, MutBor, Array, Lends, LendsBoth}
 use Rattle.starlark_vec2.specs.PairList.{PairList, with_pairs, firsts_of, seconds_of}
 use Rattle.starlark_vec2.specs.contracts.vec2.Vec2.{the_row}
 
@@ -9,6 +9,10 @@ module _ {A B : Type 0} where
   -- what `&mut`s to both parts of a pair point to
   abbrev pub deref_both_mut : MutBor A × MutBor B → A × B
   deref_both_mut r = (r.0.now, r.1.now)
+
+  -- the list with this pair at the place
+  abbrev pub with_pair : PairList A B → ℕ → A × B → PairList A B
+  with_pair v i p = with_pairs v (slice_set v.pairs i p)
 
   -- the pairs with this first part at the place, and with this second part
   abbrev pub set_first_at : List (A × B) → ℕ → A → List (A × B)
@@ -44,3 +48,7 @@ module _ (A B : RattleType) (s : MutBor (PairList A.Denot B.Denot)) where
   -- the same of the second parts
   abbrev pub lends_seconds : MutBor (List B.Denot) → Fml
   lends_seconds r = Lends (the_row A B) (Array B 0) s r (λ ys. with_pairs s.now (set_seconds s.now.pairs ys))
+
+  -- both parts of the pair at the place end as what is left behind the references, and all else stays
+  abbrev pub lends_both : ℕ → MutBor A.Denot × MutBor B.Denot → Fml
+  lends_both i r = LendsBoth (the_row A B) A B s r (λ a b. with_pair s.now i (a, b))

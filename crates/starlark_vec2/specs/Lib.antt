@@ -5,3 +5,4 @@ pub mod Sort
 pub mod Positions
 pub mod Lending
 pub mod Collect
+pub mod ColumnLending

@@ -6,13 +6,15 @@ ghost use Rattle.starlark_vec2.specs.PairList as list;
 ghost use Rattle.starlark_vec2.specs.PairList.{pair_list, firsts_of, seconds_of, with_pairs, reserved_capacity};
 
 mod collect;
+mod into_iter;
 mod iter;
 mod lends;
 mod retain;
 mod sort;
 mod traits;
 
-pub use iter::{IntoIter, Iter};
+pub use into_iter::IntoIter;
+pub use iter::Iter;
 
 use starlark_hash::NoRoom;
 use std::alloc::{AllocError, Global};
@@ -179,7 +181,7 @@ impl<A, B> Vec2<A, B> {
         ensures runs { ShowsInOrder (deref_pair {K = A} {X = B}) }
         ensures runs_back { ShowsInReverse (deref_pair {K = A} {X = B}) }
     {
-        Iter::new(self.firsts.as_slice(), self.seconds.as_slice())
+        Iter::new(self.firsts(), self.seconds())
     }
 }
 
@@ -209,7 +211,7 @@ impl<A, B> Vec2<A, B> {
         requires { self.old.capacity - length self.old.pairs < additional }
         ensures { self.new ≡ (if is_ok result then list.reserve self.old additional else self.old) }
     {
-        let len = self.firsts.len();
+        let len = self.len();
         let Some(capacity) = grown(len, self.capacity, additional) else {
             return Err(AllocError);
         };
@@ -269,7 +271,7 @@ impl<A, B> Vec2<A, B> {
         ensures taken { TakesLast (λ p. p) self.old.pairs result self.new.pairs }
         ensures capacity { self.new.capacity ≡ self.old.capacity }
     {
-        if self.len() == 0 {
+        if self.is_empty() {
             return None;
         }
         Some((self.firsts.take_last(), self.seconds.take_last()))

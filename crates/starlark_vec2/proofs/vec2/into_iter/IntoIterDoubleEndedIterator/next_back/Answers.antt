@@ -1,6 +1,6 @@
 use Rattle.std.proofs.Common.{sym, ◌∙◌}
 use Rattle.starlark_vec2.proofs.Walks.{last_progress, into_rest_back, pair_back}
-use Rattle.starlark_vec2.proofs.vec2.iter.IntoIterDoubleEndedIterator.next_back.Goals as goal
+use Rattle.starlark_vec2.proofs.vec2.into_iter.IntoIterDoubleEndedIterator.next_back.Goals as goal
 
 pub returns-clause-steps : goal.returns-clause-steps
 returns-clause-steps g c =
