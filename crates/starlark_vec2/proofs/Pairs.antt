@@ -1,5 +1,5 @@
 -- A list of pairs and its two columns, which are as long.
-use Rattle.std.proofs.Common.{◌≡◌, ℕ, zero, suc, ◌+◌, ◌<◌, ◌≤◌, List, [], ◌∷◌, ◌++◌, map, length, take, drop, zip, slice_get, get_or, set, reverse, remove, Bool, true, false, ◌&&◌, Some, None, refl, sym, ap, ◌∙◌, arith}
+use Rattle.std.proofs.Common.{◌≡◌, ℕ, zero, suc, ◌<◌, List, [], ◌∷◌, ◌++◌, length, take, zip, slice_get, get_or, set, reverse, remove, Bool, true, false, ◌&&◌, Some, refl, sym, ap, ◌∙◌, arith}
 use Rattle.std.proofs.lemmas.List.{reverse-append, length-reverse}
 use Rattle.std.specs.List.{refill, AllZip}
 use Rattle.std.specs.Cmp.Lexicographic.{pointwise}
@@ -23,6 +23,10 @@ module _ {A B : Type 0} where
   seconds_of-zip [] (y ∷ ys) e = absurd (omega (arith, e))
   seconds_of-zip (x ∷ xs) [] e = absurd (omega (arith, e))
   seconds_of-zip (x ∷ xs) (y ∷ ys) e = let rest : length xs ≡ length ys = omega (arith, e) in ap (λ l. y ∷ l) (seconds_of-zip xs ys rest)
+
+  pub zip-parts : (ps : List (A × B)) → zip (firsts_of ps) (seconds_of ps) ≡ ps
+  zip-parts [] = refl
+  zip-parts (p ∷ ps) = ap (λ l. p ∷ l) (zip-parts ps)
 
   pub zip_nil : (xs : List A) → ◌≡◌ {A = List (A × B)} (zip xs []) []
   zip_nil [] = refl

@@ -131,7 +131,7 @@ module _ (order order2 : List ℕ) (place from next : ℕ) (n : ℕ) (s : Spread
       let r : off from (0 + from) ≡ 0 = off_same _ _ (omega arith) in
       let t = off_least next (0 + place) in
       let whole : misplaced 0 order2 ≡ misplaced 0 (set mid from from) =
-          ap (misplaced 0) (e ∙ sym (swap_is order place from 0 lt from_within) ∙ (λ j. set (set order place (sym h j)) from (sym f j))) in
+      ap (misplaced 0) (e ∙ sym (swap_is order place from 0 lt from_within) ∙ (λ j. set (set order place (sym h j)) from (sym f j))) in
       omega arith
 
   pub placed_stay : ((k : ℕ) → k < place → get_or order k 0 ≡ k) → (k : ℕ) → k < place → get_or order2 k 0 ≡ k

@@ -1,5 +1,5 @@
 -- What sorted positions say of the items that stand there, and a comparator of items behind one of positions.
-use Rattle.std.proofs.Common.{◌≡◌, ℕ, zero, suc, ◌+◌, ◌<◌, Bool, true, false, List, [], ◌∷◌, ◌++◌, map, length, get_or, slice_get, Option, Some, None, unwrap_or, refl, sym, ap, subst, ◌∙◌, arith}
+use Rattle.std.proofs.Common.{◌≡◌, ℕ, suc, ◌+◌, ◌<◌, Bool, true, false, List, [], ◌∷◌, ◌++◌, map, length, get_or, slice_get, Option, Some, None, unwrap_or, refl, sym, ap, subst, ◌∙◌, arith}
 use Rattle.std.specs.Borrow.{Bor}
 use Rattle.std.specs.Fn.{Mut, Called, ReturnsEach, ComparesAs}
 use Rattle.std.specs.Cmp.{IsStrictWeakOrder}
@@ -81,8 +81,8 @@ module _ {X : Type 0} where
     sorted_by-from_order xs order ys (up, stable) puts =
         let all = range_with_len 0 (length xs) in
         same_somes ys (sorted_by lt xs) (
-          puts ∙ ap (map (slice_get xs)) (sorted_by-unique (lt_at lt xs) (lt_at-weak xs) all order up stable) ∙ sym (sorted_by-map (option_lt lt) (slice_get xs) all)
-              ∙ ap (sorted_by (option_lt lt)) (sym (map_slice_get-all xs)) ∙ sorted_by-map (option_lt lt) Some xs
+        puts ∙ ap (map (slice_get xs)) (sorted_by-unique (lt_at lt xs) (lt_at-weak xs) all order up stable) ∙ sym (sorted_by-map (option_lt lt) (slice_get xs) all)
+        ∙ ap (sorted_by (option_lt lt)) (sym (map_slice_get-all xs)) ∙ sorted_by-map (option_lt lt) Some xs
         )
 
 module _ {F G A B : Type 0} (g : Mut F (PairRef A B × (PairRef A B × Unit {0})) Ordering) (g' : Mut G (Bor ℕ × (Bor ℕ × Unit {0})) Ordering) (state : G → F) (pairs : G → List (A × B))

@@ -1,5 +1,5 @@
 -- What a loop that sieves keeps, and the places of what it moves.
-use Rattle.std.proofs.Common.{◌≡◌, ℕ, zero, suc, ◌+◌, ◌<◌, ◌≤◌, Bool, true, false, cond, List, [], ◌∷◌, ◌++◌, length, take, drop, zip, set, get_or, refl, sym, ap, subst, ◌∙◌, arith, append_assoc, append-nil, add-one, length-take, length-drop}
+use Rattle.std.proofs.Common.{◌≡◌, ℕ, zero, suc, ◌+◌, ◌<◌, ◌≤◌, Bool, true, false, List, [], ◌∷◌, ◌++◌, length, take, drop, zip, set, get_or, refl, sym, ap, subst, ◌∙◌, arith, append_assoc, append-nil, add-one, length-take, length-drop}
 use Rattle.std.proofs.Math.Seq.{drop-cons, drop-set-lt, get_or-set_same, take-set-le}
 use Rattle.std.specs.List.{swap}
 use Rattle.starlark_vec2.specs.Retain.{Retains, TakesInTurn}
@@ -89,18 +89,18 @@ module _ {F A B : Type 0} (calls : F → A × B → Bool → A × B → F → Ty
       sifting_keeps t p q r =
           let took : length (take k xs) ≡ length (take k ys) = omega (arith, length-take k xs, length-take k ys) in
           let front : zip (take k xs) (take k ys) ++ (x, y) ∷ [] ≡ zip (take k' xs') (take k' ys') =
-              sym (zip_push (take k xs) (take k ys) x y took)
-              ∙ (λ j. zip (sym (moved_front xs k i x le lt) j) (sym (moved_front ys k i y le (omega arith)) j)) ∙ (λ j. zip (take (sym r j) (sym p j)) (take (sym r j) (sym q j))) in
+          sym (zip_push (take k xs) (take k ys) x y took)
+          ∙ (λ j. zip (sym (moved_front xs k i x le lt) j) (sym (moved_front ys k i y le (omega arith)) j)) ∙ (λ j. zip (take (sym r j) (sym p j)) (take (sym r j) (sym q j))) in
           let back : zip (drop (i + 1) xs) (drop (i + 1) ys) ≡ zip (drop (i + 1) xs') (drop (i + 1) ys') =
-              (λ j. zip (sym (moved_back xs k i x le lt) j) (sym (moved_back ys k i y le (omega arith)) j)) ∙ (λ j. zip (drop (i + 1) (sym p j)) (drop (i + 1) (sym q j))) in
+          (λ j. zip (sym (moved_back xs k i x le lt) j) (sym (moved_back ys k i y le (omega arith)) j)) ∙ (λ j. zip (drop (i + 1) (sym p j)) (drop (i + 1) (sym q j))) in
           record { sieving = subst (λ u. u) (λ j. Sieving calls takes f0 all f' (front j) (back j)) (sieving_keeps calls takes f0 all f _ _ (a, b) (x, y) f' next t) }
 
       pub sifting_drops : calls f (a, b) false (x, y) f' → xs' ≡ set xs i x → ys' ≡ set ys i y → k' ≡ k → Sifting f' xs' ys' k' (i + 1)
       sifting_drops t p q r =
           let front : zip (take k xs) (take k ys) ≡ zip (take k' xs') (take k' ys') =
-              (λ j. zip (sym (left_front xs k i x le) j) (sym (left_front ys k i y le) j)) ∙ (λ j. zip (take (sym r j) (sym p j)) (take (sym r j) (sym q j))) in
+          (λ j. zip (sym (left_front xs k i x le) j) (sym (left_front ys k i y le) j)) ∙ (λ j. zip (take (sym r j) (sym p j)) (take (sym r j) (sym q j))) in
           let back : zip (drop (i + 1) xs) (drop (i + 1) ys) ≡ zip (drop (i + 1) xs') (drop (i + 1) ys') =
-              (λ j. zip (sym (left_back xs i x) j) (sym (left_back ys i y) j)) ∙ (λ j. zip (drop (i + 1) (sym p j)) (drop (i + 1) (sym q j))) in
+          (λ j. zip (sym (left_back xs i x) j) (sym (left_back ys i y) j)) ∙ (λ j. zip (drop (i + 1) (sym p j)) (drop (i + 1) (sym q j))) in
           record { sieving = subst (λ u. u) (λ j. Sieving calls takes f0 all f' (front j) (back j)) (sieving_drops calls takes f0 all f _ _ (a, b) (x, y) f' next t) }
 
   pub sifting_ends : (f : F) (xs : List A) (ys : List B) (k i : ℕ) → Sifting f xs ys k i → length xs ≤ i → (xs' : List A) (ys' : List B) → xs' ≡ take k xs → ys' ≡ take k ys → Retains calls f0 all (zip xs' ys')

@@ -1,5 +1,5 @@
 -- One step of an iterator that walks two columns, and the runs of one that is seen as a list.
-use Rattle.std.proofs.Common.{◌≡◌, ◌<◌, length, zip, List, [], ◌∷◌, ◌++◌, Option, Some, None, Bor, Iter, sym, ap, subst, ◌∙◌, arith}
+use Rattle.std.proofs.Common.{◌≡◌, length, zip, List, [], ◌∷◌, ◌++◌, Option, Some, None, Bor, Iter, ap, ◌∙◌, arith}
 use Rattle.std.proofs.iter.runs.Sources.{from_front, from_back, as_is, as_is_back}
 use Rattle.std.proofs.lemmas.List.{length_push}
 use Rattle.std.proofs.lemmas.Option.{MatchOption-at_some}

@@ -1,5 +1,5 @@
 -- A list of pairs with a capacity, and what each call makes of it.
-use Rattle.std.specs.Prelude.{◌≡◌, ℕ, ◌+◌, ◌*◌, ◌-◌, ◌^◌, max, min, List, [], ◌∷◌, ◌++◌, map, length, nat_lt, if◌then◌else◌}
+use Rattle.std.specs.Prelude.{ℕ, ◌+◌, ◌*◌, ◌-◌, ◌^◌, max, min, List, [], ◌∷◌, ◌++◌, map, length, nat_lt, if◌then◌else◌}
 
 -- the pairs, and how many of them there may be before the list grows
 pub record PairList (A B : Type 0) : Type 0 where

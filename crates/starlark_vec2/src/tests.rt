@@ -131,7 +131,7 @@ fn sort_of_many_pairs(rt: HostRuntime) -> Result<(), Fail> {
         let pair = list.get(i as usize).ok_or("missing")?;
         let first = if sorted { i } else { (i * 37) % 100 };
         assert_eq!(rt; *pair.0, first);
-        assert_eq!(rt; (*pair.1 * 37) % 100, first);
+        assert_eq!(rt; pair.1.wrapping_mul(37) % 100, first);
     }
     assert_eq!(rt; list.capacity(), 100);
     Ok(())
@@ -161,7 +161,10 @@ fn removals_and_turns(rt: HostRuntime) -> Result<(), Fail> {
     list.clear();
     assert_eq!(rt; list.capacity(), 4);
     assert!(rt; copy != list);
-    assert_eq!(rt; format!(in rt.alloc(); "{copy:?}")?.as_str(), "[(5, 6), (3, 4)]");
+    assert_eq!(rt;
+        format!(in rt.alloc(); "{copy:?}")?.as_str(),
+        "[(5, 6), (3, 4)]"
+    );
     Ok(())
 }
 

@@ -15,7 +15,6 @@ mod traits;
 
 pub use into_iter::IntoIter;
 pub use iter::Iter;
-
 use starlark_hash::NoRoom;
 use std::alloc::{AllocError, Global};
 use std::marker::Model;

@@ -47,11 +47,7 @@ fn sieve<A: Drop, B: Drop, F: FnMut(&mut A, &mut B) -> bool>(
     seconds.truncate(kept);
 }
 
-fn ask<A, B, F: FnMut(&mut A, &mut B) -> bool>(
-    keep: &mut F,
-    first: &mut A,
-    second: &mut B,
-) -> bool
+fn ask<A, B, F: FnMut(&mut A, &mut B) -> bool>(keep: &mut F, first: &mut A, second: &mut B) -> bool
     requires { TakesBoth F.FnMut keep.old (first.old, second.old) }
     ensures { CalledAtBoth F.FnMut keep.old (first.old, second.old) result (first.new, second.new) keep.new }
 {

@@ -1,4 +1,4 @@
-use Rattle.std.proofs.Common.{◌≡◌, length, zip, List, ap, subst, ◌∙◌}
+use Rattle.std.proofs.Common.{length, zip, ap, subst, ◌∙◌}
 use Rattle.std.proofs.lemmas.List.Elements.{same_from_all_zip}
 use Rattle.std.specs.List.{AllZip}
 use Rattle.starlark_vec2.specs.Collect.{IsPairClone}

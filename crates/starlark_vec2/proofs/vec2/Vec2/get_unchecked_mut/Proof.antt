@@ -11,22 +11,19 @@ use mir.MapTy.{inst_fn}
 use mir.Val.{Val, vint, vptr, vstruct, vcons, vnil, of_list}
 use base.Share
 use base.Logic.{SProp, ent, sep, emp, id⊢, ex_e, snd∗}
-use base.Fml.{Lft, GName, Share, ftrue, fsep, flft, fauth, fobs}
-use ghost.Rules.{aged}
+use base.Fml.{Lft, Share, ftrue, fsep, flft, fauth}
 use prog.Memory.{Memory}
 use prog.Routine.{Routine}
 use prog.Wp.{Calls, Loops, WpFn, Tables}
-use types.Follow.{after₂}
 use types.Late.{ages, bor_new_deep}
 use types.Logic.{Logic, sem}
 use types.Mut.{open_ref}
-use types.SemTy.{Body}
 use types.Tokens.{name_new}
 use contract.BorrowLft.{◌⊑◌}
 use contract.Monad.{Fun, fact, fact_i}
 use contract.Running.{tables, tables_of}
 use sound.WpLaws.{FmC, fm_of, WpFn-mono}
-use types.Kit.{‵, raw, ◌⊛◌, some, later, ◌$◌, ◌∵◌, !, qed, by, move, keep, use0, use1, use2, drop, split, split3, join, pick, fsplit, fsplit3, fjoin, fjoin3, fpack, fpick, feq_i, feq_l, suffices, frame, await, group, done}
+use types.Kit.{‵, raw, ◌⊛◌, some, later, ◌$◌, ◌∵◌, !, qed, move, keep, use0, use1, use2, drop, split, split3, join, pick, fsplit, fsplit3, fjoin, fjoin3, fpack, fpick, feq_i, feq_l, suffices, frame, await, group, done}
 use types.Run.{stop, fld, addr, and_then, no_more, returns, enter}
 use types.ByLocal.{alloc_all, pass_all, free_all, look_at, get, through, sets, lands_as}
 use denote.Exit.{yes, no}
@@ -39,8 +36,7 @@ use denote.Param.Laws.{Laws, param_laws}
 use denote.Plain.{uint_vals, uint_Tells, uint_Makes}
 use denote.Ref.{MutBor, MutRef, mut_vals, mut_Tells}
 use denote.Signature.{plain, types_at, mut_ref_to}
-use denote.Laws.{Is, shows}
-use denote.Steps.{nothing, owned, heard, only, peeks}
+use denote.Steps.{nothing, owned, heard, only}
 use denote.Struct.Tuple.{Tuple}
 use denote.Triple.Call.{calls_at}
 use denote.Triple.Clauses.{Clauses, Ended, closing, ensured, lasts}
@@ -106,8 +102,7 @@ module _ (A B : RattleType) where
 
   written_known : (v : W.Denot) (d : D A' B') (i : ℕ) (x : A.Denot) (y : B.Denot) → Known A' B' v d → Known A' B' (with_pair v i (x, y)) (written d i x y)
   written_known v d i x y k =
-      let lx = length-set d.firsts.items i x in let ly = length-set d.seconds.items i y in
-      (
+      let lx = length-set d.firsts.items i x in let ly = length-set d.seconds.items i y in (
         ap (λ ps. pair_list ps d.capacity) (zip-set d.firsts.items d.seconds.items i x y) ∙ ap (λ u. with_pair u i (x, y)) k.0,
         record { even = lx ∙ k.1.even ∙ sym ly; within = omega (arith, lx, k.1.within); firsts_fit = k.1.firsts_fit; seconds_fit = k.1.seconds_fit },
       )

@@ -1,4 +1,4 @@
-use Rattle.std.proofs.Common.{◌≡◌, ◌++◌, length, zip, ap, ◌∙◌, arith, length-append}
+use Rattle.std.proofs.Common.{◌++◌, length, zip, ap, ◌∙◌, arith, length-append}
 use Rattle.starlark_vec2.specs.PairList.{pair_list, with_pairs}
 use Rattle.starlark_vec2.proofs.Pairs.{length-zip, zip-append}
 use Rattle.starlark_vec2.proofs.vec2.Vec2.move_to.Goals as goal

@@ -1,4 +1,4 @@
-use Rattle.std.proofs.Common.{◌≡◌, ◌<◌, length, slice_get, refl, sym, ap, subst, ◌∙◌}
+use Rattle.std.proofs.Common.{◌<◌, length, slice_get, refl, sym, ap, subst, ◌∙◌}
 use Rattle.starlark_vec2.specs.PairList.{pair_list, with_pairs}
 use Rattle.starlark_vec2.specs.Lending.{set_second_at}
 use Rattle.starlark_vec2.proofs.Pairs.{zip-set_second, slice_get-zip}

@@ -1,4 +1,4 @@
-use Rattle.std.proofs.Common.{◌≡◌, ◌+◌, ◌-◌, ◌≤◌, length}
+use Rattle.std.proofs.Common.{◌≡◌, ◌+◌, ◌≤◌, length}
 use Rattle.std.proofs.iter.Next as it
 use Rattle.std.specs.Iterator.{EndsFrom, items_left}
 use Rattle.starlark_vec2.specs.PairList.{push_all}

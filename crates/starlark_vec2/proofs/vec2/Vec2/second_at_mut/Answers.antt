@@ -1,4 +1,4 @@
-use Rattle.std.proofs.Common.{◌≡◌, ◌<◌, length, slice_get, refl, sym, ap, subst, ◌∙◌, arith}
+use Rattle.std.proofs.Common.{◌<◌, length, slice_get, refl, sym, ap, subst, ◌∙◌, arith}
 use Rattle.starlark_vec2.specs.PairList.{pair_list, with_pairs, seconds_of}
 use Rattle.starlark_vec2.specs.Lending.{set_second_at}
 use Rattle.starlark_vec2.proofs.Pairs.{length-zip, seconds_of-zip, zip-set_second, slice_get_at}

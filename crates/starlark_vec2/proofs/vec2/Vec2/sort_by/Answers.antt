@@ -1,4 +1,4 @@
-use Rattle.std.proofs.Common.{◌≡◌, ◌<◌, length, zip, sym, ap, subst, ◌∙◌, arith}
+use Rattle.std.proofs.Common.{length, zip, sym, ap, subst, ◌∙◌, arith}
 use Rattle.std.specs.List.{range_with_len}
 use Rattle.std.specs.List.Sorted.{IsPermutation}
 use Rattle.starlark_vec2.specs.Positions.{PutsInOrder}

@@ -8,7 +8,7 @@ use mir.Syntax.{Fn, Args, a_type, named, w64}
 use mir.MapTy.{inst_fn}
 use mir.Val.{Val, vint, vptr, vstruct, vcons, vnil}
 use base.Logic.{SProp, ent, sep, emp, id⊢, ex_e, snd∗}
-use base.Fml.{Lft, Share, ftrue, fsep, flft}
+use base.Fml.{Lft, Share, ftrue, flft}
 use prog.Memory.{Memory}
 use prog.Routine.{Routine}
 use prog.Wp.{Calls, Loops, WpFn, Tables}
@@ -17,10 +17,10 @@ use contract.BorrowLft.{◌⊑◌}
 use contract.Monad.{Fun, fact, fact_i}
 use contract.Running.{tables, tables_of}
 use sound.WpLaws.{FmC, fm_of, WpFn-mono}
-use types.Kit.{‵, raw, ◌⊛◌, some, later, ◌$◌, ◌∵◌, !, qed, by, move, keep, use0, use1, use2, drop, split, split3, join, pick, fsplit, fsplit3, fjoin, fjoin3, fpack, feq_i, feq_l, suffices, frame, await, done}
-use types.Part.{whole, sub, agg}
-use types.Run.{stop, fld, hop, from, addr, and_then, no_more, returns, enter}
-use types.ByLocal.{alloc_all, pass_all, free_all, look_at, look_in_at, get, get_in, through, sets, lands_as}
+use types.Kit.{‵, raw, ◌⊛◌, some, later, ◌$◌, ◌∵◌, !, qed, move, keep, use0, use1, use2, split, split3, join, pick, fsplit3, fjoin, fjoin3, fpack, feq_i, feq_l, suffices, frame, await, done}
+use types.Part.{agg}
+use types.Run.{stop, addr, and_then, no_more, returns, enter}
+use types.ByLocal.{alloc_all, pass_all, free_all, look_at, get, through, sets, lands_as}
 use denote.Exit.{yes, no}
 use denote.RattleType.{RattleType, owns, Valss}
 use denote.Builtin.{usize}

@@ -1,4 +1,4 @@
-use Rattle.std.proofs.Common.{◌≡◌, sym, ap, subst, ◌∙◌, arith}
+use Rattle.std.proofs.Common.{ap, subst, ◌∙◌, arith}
 use Rattle.starlark_vec2.specs.Retain.{TakesBoth, CalledAtBoth}
 use Rattle.starlark_vec2.proofs.Sieving.{sifting_asks, sifting_keeps, sifting_drops, sifting_ends}
 use Rattle.starlark_vec2.proofs.vec2.retain.sieve.Goals as goal

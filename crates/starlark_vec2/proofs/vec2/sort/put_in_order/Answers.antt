@@ -1,8 +1,7 @@
-use Rattle.std.proofs.Common.{◌≡◌, ◌<◌, length, get_or, zip, refl, sym, ap, subst, ◌∙◌, arith}
+use Rattle.std.proofs.Common.{◌≡◌, ◌<◌, length, get_or, zip, refl, sym, subst, ◌∙◌, arith}
 use Rattle.std.proofs.lemmas.List.{get_or_default}
 use Rattle.std.proofs.lemmas.List.FromFn.{length-range_with_len}
 use Rattle.std.proofs.lemmas.List.Sorted.{length_permutation}
-use Rattle.std.specs.List.{swap}
 use Rattle.starlark_vec2.proofs.Pairs.{length-zip}
 use Rattle.starlark_vec2.proofs.Placing.{Spread, Spread-swap, Spread-from_permutation, from_within, fewer_misplaced, placed_stay, placing_step, zip-swap, PutsInOrder-from_placed}
 use Rattle.starlark_vec2.proofs.vec2.sort.put_in_order.Goals as goal

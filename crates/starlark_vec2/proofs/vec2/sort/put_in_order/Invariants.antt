@@ -1,4 +1,4 @@
-use Rattle.std.proofs.Common.{◌≡◌, ℕ, ◌+◌, ◌-◌, ◌<◌, ◌≤◌, length, get_or, zip, vec_capacity}
+use Rattle.std.proofs.Common.{◌≡◌, ℕ, ◌+◌, ◌-◌, ◌<◌, length, get_or, zip, vec_capacity}
 use Rattle.starlark_vec2.proofs.Placing.{Spread, misplaced}
 use Rattle.starlark_vec2.proofs.vec2.sort.put_in_order.Given as goal
 

@@ -1,4 +1,4 @@
-use Rattle.std.proofs.Common.{◌≡◌, length, zip, ap, ◌∙◌, arith}
+use Rattle.std.proofs.Common.{length, zip, ap, ◌∙◌, arith}
 use Rattle.starlark_vec2.proofs.Pairs.{length-zip}
 use Rattle.starlark_vec2.proofs.Walks.{gives_in_order, gives_in_reverse}
 use Rattle.starlark_vec2.proofs.vec2.into_iter.Vec2IntoIterator.into_iter.Goals as goal

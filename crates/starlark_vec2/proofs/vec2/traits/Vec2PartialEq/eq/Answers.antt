@@ -1,6 +1,6 @@
 use Rattle.std.proofs.Common.{◌&&◌, sym, ap, ◌∙◌}
 use Rattle.std.specs.Cmp.Lexicographic.{pointwise}
-use Rattle.starlark_vec2.specs.PairList.{firsts_of, seconds_of}
+use Rattle.starlark_vec2.specs.PairList.{seconds_of}
 use Rattle.starlark_vec2.proofs.Pairs.{pointwise-pairs}
 use Rattle.starlark_vec2.proofs.vec2.traits.Vec2PartialEq.eq.Goals as goal
 
