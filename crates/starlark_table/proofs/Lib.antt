@@ -1,0 +1,7 @@
+pub mod Circle
+pub mod Path
+pub mod Closing
+pub mod Bag
+pub mod Load
+pub mod Replacing
+pub mod Sound

@@ -1,0 +1,32 @@
+use Rattle.std.proofs.Common.{◌≡◌, ℕ, ◌+◌, ◌<◌, ◌++◌, ◌∷◌, [], List, Option, Some, None, take, drop, arith, refl, sym, ◌∙◌, ap, subst, of_calls, length, get_or}
+use Rattle.std.proofs.Math.ListN.{set}
+use Rattle.std.proofs.lemmas.Fn.{called_at}
+use Rattle.std.specs.Fn.{CalledAt}
+use Rattle.starlark_table.specs.Table.{ReplacesEach}
+use Rattle.starlark_table.proofs.Replacing.{still_untouched, done_some, done_none, done_all}
+use Rattle.starlark_table.proofs.walks.replace_items.Goals as goal
+use Rattle.starlark_table.proofs.walks.replace_items.Goals.{in-Some, in_default}
+
+pub loop-slot-preserved : goal.loop-slot-preserved
+loop-slot-preserved g c =
+  let callable = c.loop-slot.invariant.callable in
+  let in' = subst (λ n. c.loop-slot.slot-index < n) (sym c.loop-slot.auto.slots) c.loop-slot-test.true in
+  elim c.match-slot.branch [
+    in-Some w ↦ record {
+      callable = search (of_calls);
+      untouched = still_untouched (CalledAt g.F.FnMut) c.args.slots.now c.loop-slot.slots c.match-slot.slots c.loop-slot.slot-index _ c.loop-slot.invariant.untouched w.slots-is;
+      done = λ rest last tail. done_some (CalledAt g.F.FnMut) c.args.f c.args.slots.now c.loop-slot.slots c.match-slot.slots c.loop-slot.slot-index c.slot-item.result last c.loop-slot.f c.match-slot.f
+        w.in-Some.field-0-0 w.in-Some.item w.f.result rest in' c.loop-slot.invariant.untouched w.in-Some.is w.slots-is
+        (subst (λ f. CalledAt g.F.FnMut c.loop-slot.f w.in-Some.item w.f.result f) (sym w.f-is) (called_at g.F.FnMut w.f.ensures refl))
+        c.loop-slot.invariant.done tail }
+    | in_default w ↦ record {
+      callable = search (of_calls);
+      untouched = still_untouched (CalledAt g.F.FnMut) c.args.slots.now c.loop-slot.slots c.match-slot.slots c.loop-slot.slot-index _ c.loop-slot.invariant.untouched w.slots-is;
+      done = λ rest last tail. done_none (CalledAt g.F.FnMut) c.args.f c.args.slots.now c.loop-slot.slots c.match-slot.slots c.loop-slot.slot-index c.slot-item.result last c.loop-slot.f c.loop-slot.f
+        rest in' c.loop-slot.invariant.untouched w.in_default.is w.slots-is c.loop-slot.invariant.done
+        (subst (λ f. ReplacesEach (CalledAt g.F.FnMut) f (drop (c.loop-slot.slot-index + 1) c.args.slots.now) rest last) w.f-is tail) }
+  ]
+
+pub returns : goal.returns
+returns g c =
+  (c.loop-slot.f, done_all (CalledAt g.F.FnMut) c.args.f c.loop-slot.f c.args.slots.now c.loop-slot.slots c.loop-slot.slot-index c.loop-slot-test.false c.loop-slot.auto.slots c.loop-slot.invariant.done)

@@ -1,0 +1,68 @@
+-- What a contract sees of a `ReadyTable`.
+use Rattle.std.specs.Prelude.{◌≡◌, ℕ, List, [], ◌∷◌, length, map, Option, Some, None, slice_index_or, refl, nat_eq, if◌then◌else◌}
+use Rattle.std.specs.List.{enumerate_from}
+use Rattle.std.specs.Coded.{Coded, code_by, coded×, coded_ℕ, coded_list, coded_option}
+
+-- a (hash, item) or nothing at each slot, and how many insertions surely need no memory
+pub record Table (T : Type 0) : Type 0 where
+  pub slots : List (Option (ℕ × T))
+  pub room : ℕ
+
+-- a table is stored as the tuple of its fields
+abbrev pub table_code : {T : Type 0} → Coded T → Coded (Table T)
+table_code {T} code =
+    code_by
+    (List (Option (ℕ × T)) × ℕ)
+    (coded× (coded_list (coded_option (coded× coded_ℕ code))) coded_ℕ)
+    (λ t. (t.slots, t.room))
+    (λ p. record { slots = p.0; room = p.1 })
+    (λ _. refl)
+
+module _ {T : Type 0} where
+  -- the members among some slots, in their order
+  abbrev pub filled : List (Option (ℕ × T)) → List (ℕ × T)
+  filled [] = []
+  filled (None ∷ slots) = filled slots
+  filled (Some m ∷ slots) = m ∷ filled slots
+
+  -- the bag of (hash, item), in the order of the walk
+  abbrev pub members : Table T → List (ℕ × T)
+  members t = filled t.slots
+
+  -- how many members there are
+  abbrev pub table_len : Table T → ℕ
+  table_len t = length (members t)
+
+  -- the member that a slot names
+  abbrev pub member_at : Table T → ℕ → Option (ℕ × T)
+  member_at t slot = slice_index_or t.slots slot None
+
+  -- the numbered slots that hold the hash, each with its item
+  abbrev pub holders : ℕ → List (ℕ × Option (ℕ × T)) → List (ℕ × T)
+  holders hash [] = []
+  holders hash ((slot, None) ∷ rest) = holders hash rest
+  holders hash ((slot, Some (h, x)) ∷ rest) =
+      if nat_eq h hash then (slot, x) ∷ holders hash rest else holders hash rest
+
+  -- those slots of a list that hold the hash, each with its item, in their order
+  abbrev pub holders_in : ℕ → List (Option (ℕ × T)) → List (ℕ × T)
+  holders_in hash slots = holders hash (enumerate_from 0 slots)
+
+  -- the slots of a hash, each with its item
+  abbrev pub items_under : ℕ → Table T → List (ℕ × T)
+  items_under hash t = holders_in hash t.slots
+
+  -- the items in the order of the walk
+  abbrev pub items_of : Table T → List T
+  items_of t = map (λ m. m.1) (members t)
+
+-- f is called on the item of each member in turn, its state carried on, and its answer stands in the item's place: slots
+-- and hashes stay
+abbrev pub ReplacesEach : {F T : Type 0} → (F → T → T → F → Type 0)
+    → F → List (Option (ℕ × T)) → List (Option (ℕ × T)) → F → Type 0
+ReplacesEach call f [] new last = (new ≡ []) × (last ≡ f)
+ReplacesEach {F} {T} call f (None ∷ old) new last =
+    (rest : List (Option (ℕ × T))) × (new ≡ None ∷ rest) × ReplacesEach call f old rest last
+ReplacesEach {F} {T} call f (Some (h, x) ∷ old) new last =
+    (y : T) × (next : F) × (rest : List (Option (ℕ × T)))
+    × call f x y next × (new ≡ Some (h, y) ∷ rest) × ReplacesEach call next old rest last
