@@ -1,5 +1,6 @@
 pub mod Circle
 pub mod Path
+pub mod Searching
 pub mod Closing
 pub mod Bag
 pub mod Load

@@ -100,6 +100,15 @@ module _ {T : Type 0} where
       let counted = s.counted in
       (e, some_empty slots (limit_below (length slots) (length (filled slots)) (omega arith) (four (length slots) shift s.shift_high e)))
 
+  -- a table that has slots has an empty one
+  pub some_free : (slots : List (Option (ℕ × T))) (len shift : ℕ) → IsSound slots len shift → 0 < length slots
+      → (q : ℕ) × (q < length slots) × (at slots q ≡ None)
+  some_free slots len shift s some =
+      let e = placed slots shift s.places some in
+      let counted = s.counted in
+      let load = s.load in
+      some_empty slots (limit_below (length slots) (length (filled slots)) (omega arith) (four (length slots) shift s.shift_high e))
+
   pub taken_sound : (old new : List (Option (ℕ × T))) (len shift : ℕ) (r : Option (ℕ × T)) → IsSound old len shift
       → length new ≡ length old → InPlace (length new) shift new
       → IfSome r (λ m. IsPermutation (filled old) (m ∷ filled new)) → is_some r ≡ true

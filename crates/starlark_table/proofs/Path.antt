@@ -12,7 +12,7 @@ use denote.Param.Members.{Mut, Called}
 use denote.Ref.{Bor}
 use Rattle.std.specs.Fn.{CalledAt}
 use Rattle.std.proofs.lemmas.Fn.{called_at}
-use Rattle.starlark_table.specs.Table.{holders, holders_in, Tries, filled}
+use Rattle.starlark_table.specs.Table.{holders, holders_in, filled}
 use Rattle.starlark_table.specs.Layout.{distance, home, at, InPlace}
 use Rattle.starlark_table.proofs.Circle.{turn, length-turn, get_or-turn, step_to, distance-below}
 
@@ -159,33 +159,3 @@ module _ {T : Type 0} where
   in_filled (Some n ∷ slots) zero m e = (0, omega arith, cc)
   in_filled (Some n ∷ slots) (suc place) m e =
       let rest = in_filled slots place m e in (rest.0 + 1, omega (arith, rest.1), rw add-one rest.2)
-
-module _ {F T : Type 0} (call : F → T → Bool → F → Type 0) where
-  pub tries_taken : (f last : F) (hash a place i h : ℕ) (item : T) (slots : List (Option (ℕ × T))) (answer : Option ℕ)
-      → a < length slots → place < length slots → distance (length slots) a place ≡ i
-      → at slots place ≡ Some (h, item) → h ≡ hash
-      → Tries call f ((place, item) ∷ holders hash (path_from a slots (i + 1))) answer last
-      → Tries call f (holders hash (path_from a slots i)) answer last
-  tries_taken f last hash a place i h item slots answer a_in place_in e here same tries =
-      subst (λ l. Tries call f l answer last)
-      (sym (path-taken hash a place i item slots a_in place_in e (here ∙ ap (λ k. Some (k, item)) same))) tries
-
-  pub tries_skipped : (f last : F) (hash a place i h : ℕ) (item : T) (slots : List (Option (ℕ × T))) (answer : Option ℕ)
-      → a < length slots → place < length slots → distance (length slots) a place ≡ i
-      → at slots place ≡ Some (h, item) → (h ≡ hash → ⊥)
-      → Tries call f (holders hash (path_from a slots (i + 1))) answer last
-      → Tries call f (holders hash (path_from a slots i)) answer last
-  tries_skipped f last hash a place i h item slots answer a_in place_in e here other tries =
-      subst (λ l. Tries call f l answer last)
-      (sym (path-skipped hash a place i h item slots a_in place_in e here other)) tries
-
-  pub tries_none : (f : F) (l : List (ℕ × T)) → l ≡ [] → Tries call f l None f
-  tries_none f l e = subst (λ l. Tries call f l None f) (sym e) (refl, refl)
-
--- one more refused call
-pub refused_more : {F T : Type 0} (g : Mut F (Bor T × Unit {0}) Bool) (P : T → Type 0) (f f' f'' : F) (x : T)
-    → CalledAt g f x false f'
-    → P x → (xs : List T) → All P xs → FoldsTo (λ s y t. CalledAt g s y false t) f'' xs f
-    → (ys : List T) × All P ys × FoldsTo (λ s y t. CalledAt g s y false t) f'' ys f'
-refused_more {F} g P f f' f'' x call holds xs all folds =
-    (xs ++ x ∷ [], All-push P xs x all holds, FoldsTo-push (λ s y t. CalledAt g s y false t) f'' xs f x f' folds call)

@@ -1,15 +1,12 @@
 use Rattle.std.proofs.Common.{◌≡◌, ◌≢◌, ℕ, ◌+◌, ◌-◌, ◌*◌, ◌^◌, ◌<◌, ◌≤◌, ◌⊎◌, List, length, IsPermutation, inl, inr, arith, refl, get_or, Some, None, Option, sym, ◌∙◌, subst, ap, if◌then◌else◌, ◌==◌}
 use Rattle.starlark_table.specs.Layout.{distance, home, at, InPlace, HasGap}
-use Rattle.starlark_table.proofs.Circle.{home-below, distance-next, next-below, distance-self, distance-below, distance-same}
+use Rattle.starlark_table.proofs.Circle.{home-below, distance-next, next-below, distance-self, distance-below, distance-same, less-left}
 use Rattle.starlark_table.proofs.Path.{read_at}
 use Rattle.starlark_table.proofs.Closing.{Closing, starts, read_known, swapped_slots, closed, goes_on, one_on, stays, moves, Moved}
 use Rattle.std.proofs.lemmas.List.Sorted.{IsPermutation-refl, IsPermutation-trans, IsPermutation-sym}
 use Rattle.starlark_table.proofs.Bag.{filled-set_some}
 use Rattle.starlark_table.proofs.gap.close_gap.Goals as goal
 use Rattle.starlark_table.proofs.gap.close_gap.Goals.{then-distance, else-distance}
-
-less : (m x y : ℕ) → x < m → y ≡ x + 1 → m - y < m - x
-less m x y below is = omega arith
 
 pub loop-slots-init : goal.loop-slots-init
 loop-slots-init g c =
@@ -44,7 +41,7 @@ loop-slots-smaller g c =
   let here = read_known c.loop-slots.slots c.loop-slots.next _ c.index-slots-next.result _ k.sized k.next_in c.in-Some.is in
   let step = one_on (length c.args.slots.now) c.args.shift c.args.start c.loop-slots.slots c.loop-slots.hole c.loop-slots.next _ _ k here c.next_place-next-in-Some.ensures in
   let bound = distance-below (length c.args.slots.now) c.args.start c.loop-slots.next k.start_in k.next_in in
-  less (length c.args.slots.now) _ _ bound step.1
+  less-left (length c.args.slots.now) _ _ bound step.1
 
 pub loop-slots-preserved : goal.loop-slots-preserved
 loop-slots-preserved g c =

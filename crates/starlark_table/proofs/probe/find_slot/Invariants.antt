@@ -1,14 +1,15 @@
-use Rattle.std.proofs.Common.{◌≡◌, ℕ, ◌+◌, ◌<◌, ◌≤◌, List, Option, false, length}
-use Rattle.std.specs.List.{FoldsTo, All, Contains}
-use Rattle.std.specs.Fn.{CalledAt, TakesAt}
-use Rattle.starlark_table.specs.Table.{holders, Tries, filled}
-use Rattle.starlark_table.specs.Layout.{distance, home}
+use Rattle.std.proofs.Common.{◌≡◌, ℕ, ◌+◌, ◌-◌, ◌<◌, List, Option, length, IsSome}
+use Rattle.starlark_table.specs.Table.{holders}
+use Rattle.starlark_table.specs.Layout.{distance, home, at}
 use Rattle.starlark_table.proofs.Path.{path_from}
+use Rattle.starlark_table.proofs.Searching.{Searching}
 use Rattle.starlark_table.proofs.probe.find_slot.Given as goal
 
-abbrev pub invariant-loop-step : goal.invariant-loop-step
-invariant-loop-step g l = record {
-  placed : l.step < length l.slots → (l.place < length l.slots) × (distance (length l.slots) (home l.shift l.hash) l.place ≡ l.step);
-  refused : (xs : List _) × All (λ y. Contains (filled l.slots) (l.hash, y)) xs × FoldsTo (λ s y t. CalledAt g.F.FnMut s y false t) l.fn.eq xs l.eq;
-  rest : (answer : Option ℕ) (last : _) → Tries (CalledAt g.F.FnMut) l.eq (holders l.hash (path_from (home l.shift l.hash) l.slots l.step)) answer last
-    → Tries (CalledAt g.F.FnMut) l.fn.eq (holders l.hash (path_from (home l.shift l.hash) l.slots 0)) answer last }
+abbrev pub invariant-loop-place : goal.invariant-loop-place
+invariant-loop-place g l = record {
+  in_range : l.place < length l.slots;
+  path : (q : ℕ) → q < length l.slots → distance (length l.slots) (home l.shift l.hash) q < distance (length l.slots) (home l.shift l.hash) l.place → IsSome (at l.slots q);
+  search : Searching g.F.FnMut (holders l.hash (path_from (home l.shift l.hash) l.slots 0)) l.fn.eq l.eq (holders l.hash (path_from (home l.shift l.hash) l.slots (distance (length l.slots) (home l.shift l.hash) l.place))) }
+
+abbrev pub decreases-loop-place : goal.decreases-loop-place
+decreases-loop-place g l = length l.slots - distance (length l.slots) (home l.shift l.hash) l.place

@@ -1,6 +1,6 @@
 use Rattle.std.proofs.Common.{◌≡◌, ℕ, ◌+◌, ◌-◌, ◌<◌, ◌≤◌, List, length, Option, Some, None, IsSome, arith, refl, sym, ◌∙◌, subst, ap, get_or, if◌then◌else◌, ◌==◌}
 use Rattle.starlark_table.specs.Layout.{distance, at}
-use Rattle.starlark_table.proofs.Circle.{distance-self, distance-next, next-below, distance-below}
+use Rattle.starlark_table.proofs.Circle.{distance-self, distance-below, next-step, less-left}
 use Rattle.starlark_table.proofs.Closing.{read_known, free_farther, path_more}
 use Rattle.starlark_table.proofs.probe.free_place.Goals as goal
 
@@ -9,27 +9,20 @@ loop-place-init g c = record {
   in_range = c.requires.start;
   path = λ q q_in nearer. let e = distance-self (length c.args.slots.now) c.args.start in absurd (omega arith) }
 
-less : (m x y : ℕ) → x < m → y ≡ x + 1 → m - y < m - x
-less m x y below is = omega arith
-
-step : (m a place next : ℕ) → a < m → place < m → distance m a place + 1 < m
-  → next ≡ (if place + 1 == m then 0 else place + 1) → (next < m) × (distance m a next ≡ distance m a place + 1)
-step m a place next a_in place_in more is = (rw is (next-below m place place_in), rw is (distance-next m a place a_in place_in more))
-
 pub loop-place-smaller : goal.loop-place-smaller
 loop-place-smaller g c =
   let k = c.loop-place.invariant in
   let some = subst IsSome (sym (read_known c.args.slots.now c.loop-place.place _ c.index-slots-place.result _ refl k.in_range (sym c.index-slots-place.is))) (sym c.is_some.ensures ∙ c.loop-place-test.true) in
   let more = free_farther (length c.args.slots.now) c.args.start c.loop-place.place c.args.slots.now c.requires.start k.in_range k.path some c.requires.free in
-  let next = step (length c.args.slots.now) c.args.start c.loop-place.place _ c.requires.start k.in_range more c.next_place-place.ensures in
-  less (length c.args.slots.now) _ _ (distance-below (length c.args.slots.now) c.args.start c.loop-place.place c.requires.start k.in_range) next.1
+  let next = next-step (length c.args.slots.now) c.args.start c.loop-place.place _ c.requires.start k.in_range more c.next_place-place.ensures in
+  less-left (length c.args.slots.now) _ _ (distance-below (length c.args.slots.now) c.args.start c.loop-place.place c.requires.start k.in_range) next.1
 
 pub loop-place-preserved : goal.loop-place-preserved
 loop-place-preserved g c =
   let k = c.loop-place.invariant in
   let some = subst IsSome (sym (read_known c.args.slots.now c.loop-place.place _ c.index-slots-place.result _ refl k.in_range (sym c.index-slots-place.is))) (sym c.is_some.ensures ∙ c.loop-place-test.true) in
   let more = free_farther (length c.args.slots.now) c.args.start c.loop-place.place c.args.slots.now c.requires.start k.in_range k.path some c.requires.free in
-  let next = step (length c.args.slots.now) c.args.start c.loop-place.place _ c.requires.start k.in_range more c.next_place-place.ensures in
+  let next = next-step (length c.args.slots.now) c.args.start c.loop-place.place _ c.requires.start k.in_range more c.next_place-place.ensures in
   record {
     in_range = next.0;
     path = path_more (length c.args.slots.now) c.args.start c.loop-place.place c.args.slots.now c.requires.start k.in_range k.path some c.next_place-place.result next.1 }
