@@ -1,6 +1,7 @@
 -- What a contract sees of a `ReadyTable`.
-use Rattle.std.specs.Prelude.{◌≡◌, ℕ, List, [], ◌∷◌, length, map, Option, Some, None, slice_index_or, refl, nat_eq, if◌then◌else◌}
-use Rattle.std.specs.List.{enumerate_from}
+use Rattle.std.specs.Prelude.{◌≡◌, ℕ, List, [], ◌∷◌, length, map, Option, Some, None, slice_index_or, slice_set, refl, nat_eq, if◌then◌else◌}
+use Rattle.std.specs.List.{enumerate_from, AllZip}
+use Rattle.std.specs.Option.{option_map}
 use Rattle.std.specs.Coded.{Coded, code_by, coded×, coded_ℕ, coded_list, coded_option}
 
 -- a (hash, item) or nothing at each slot, and how many insertions surely need no memory
@@ -52,9 +53,28 @@ module _ {T : Type 0} where
   abbrev pub items_under : ℕ → Table T → List (ℕ × T)
   items_under hash t = holders_in hash t.slots
 
+  -- the items among some slots, in their order
+  abbrev pub items_in : List (Option (ℕ × T)) → List T
+  items_in slots = map (λ m. m.1) (filled slots)
+
   -- the items in the order of the walk
   abbrev pub items_of : Table T → List T
-  items_of t = map (λ m. m.1) (members t)
+  items_of t = items_in t.slots
+
+  -- the table with another item at a slot, under the hash of the one that was there
+  abbrev pub with_item : Table T → ℕ → T → Table T
+  with_item t slot item = record t { slots = slice_set t.slots slot (option_map (λ m. (m.0, item)) (member_at t slot)) }
+
+module _ {T : Type 0} (is_clone : T → T → Type 0) where
+  -- an empty slot for an empty one, and for a member a clone of its item under its hash
+  abbrev pub IsSlotClone : Option (ℕ × T) → Option (ℕ × T) → Type 0
+  IsSlotClone None copy = copy ≡ None
+  IsSlotClone (Some (h, x)) copy = (y : T) × is_clone x y × (copy ≡ Some (h, y))
+
+  -- slot by slot a clone, and as much room
+  pub record IsTableClone (t copy : Table T) : Type 0 where
+    pub slots : AllZip IsSlotClone t.slots copy.slots
+    pub room : copy.room ≡ t.room
 
 -- f is called on the item of each member in turn, its state carried on, and its answer stands in the item's place: slots
 -- and hashes stay

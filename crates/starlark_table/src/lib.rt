@@ -1,6 +1,7 @@
 //! A hash table that is given ready 64-bit hashes, and asks no hasher of its items.
 #![tactic(auto)]
 
+pub mod iter;
 pub mod ready_table;
 
 mod gap;
@@ -10,4 +11,5 @@ mod probe;
 mod walks;
 
 
+pub use iter::{IntoIter, Iter};
 pub use ready_table::ReadyTable;

@@ -3,10 +3,11 @@ ghost use Rattle.std.specs.Prelude.{◌≡◌, ℕ, ◌+◌, ◌<◌, ◌≤◌,
 ghost use Rattle.std.specs.Option.{option_copied, option_map};
 ghost use Rattle.std.specs.Fn.{CalledAt};
 ghost use Rattle.starlark_hash.specs.Search.{Searches, CanSearch};
-ghost use Rattle.starlark_table.specs.Table.{members, table_len, member_at, items_under, ReplacesEach};
+ghost use Rattle.starlark_table.specs.Table.{members, table_len, member_at, items_of, items_under, IsTableClone, ReplacesEach};
 
 use crate::gap::take_out;
 use crate::growth::{empty_slots, move_all};
+use crate::iter::{IntoIter, Iter};
 use crate::places::{limit, places_for};
 use crate::probe::{Slot, find_slot, item_at, put};
 use crate::walks::{empty_all, replace_items};
@@ -201,5 +202,52 @@ impl<T> ReadyTable<T> {
     {
         empty_all(self.slots.as_mut_slice());
         self.len = 0;
+    }
+
+    /// The items along the walk, in no promised order.
+    #[inline]
+    pub fn iter(&self) -> Iter<'_, T>
+        ensures { result ≡ items_of self.now }
+    {
+        Iter::new(self.slots.as_slice(), self.len)
+    }
+
+    /// The members along the walk, each as its hash and its item, by value.
+    #[inline]
+    pub fn into_iter(self) -> IntoIter<T>
+        ensures { result ≡ members self }
+    {
+        let ReadyTable {
+            slots,
+            len,
+            shift: _,
+        } = self;
+        IntoIter::new(slots, len)
+    }
+}
+
+impl<'a, T> IntoIterator for &'a ReadyTable<T> {
+    type Item = &'a T;
+
+    type IntoIter = Iter<'a, T>;
+
+    ghost into_iter_gives = { λ t it. it ≡ items_of t.now };
+
+    #[inline]
+    fn into_iter(self) -> Iter<'a, T> {
+        self.iter()
+    }
+}
+
+impl<T: Clone> Clone for ReadyTable<T> {
+    ghost is_clone = { IsTableClone T.is_clone };
+
+    /// A table of clones, slot by slot.
+    fn clone(&self) -> Result<Self, AllocError> {
+        Ok(ReadyTable {
+            slots: self.slots.clone()?,
+            len: self.len,
+            shift: self.shift,
+        })
     }
 }
