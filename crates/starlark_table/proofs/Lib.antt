@@ -6,3 +6,4 @@ pub mod Bag
 pub mod Load
 pub mod Replacing
 pub mod Sound
+pub mod Shape
