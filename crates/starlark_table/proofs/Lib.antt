@@ -1,9 +1,13 @@
+pub mod Lists
 pub mod Circle
+pub mod Bag
 pub mod Path
 pub mod Searching
 pub mod Closing
-pub mod Bag
 pub mod Load
-pub mod Replacing
 pub mod Sound
 pub mod Shape
+pub mod Walking
+pub mod Replacing
+pub mod Retaining
+pub mod Settling

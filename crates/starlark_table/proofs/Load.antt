@@ -10,7 +10,7 @@ use Rattle.starlark_table.specs.Layout.{at, limit, InPlace, HasGap, IsShift, IsS
 use Rattle.starlark_table.proofs.Bag.{filled-set_none, filled-set_some}
 use Rattle.starlark_table.proofs.Closing.{gap_left, full_in_range}
 
-limit_below : (m n : ℕ) → n ≤ limit m → 4 ≤ m → n < m
+pub limit_below : (m n : ℕ) → n ≤ limit m → 4 ≤ m → n < m
 limit_below m n load some = omega arith
 
 some_places : (m len : ℕ) → len < limit m → 0 < m
@@ -118,6 +118,20 @@ module _ {T : Type 0} where
       let count = length_permutation (filled old) (m ∷ filled new) bag in
       let counted = s.counted in
       (sound_without old new len shift m s same in_place bag, omega arith)
+
+  -- slots that keep some of their members
+  pub sound_kept : (old new : List (Option (ℕ × T))) (len kept shift : ℕ) → IsSound old len shift → length new ≡ length old
+      → InPlace (length new) shift new → kept ≡ length (filled new) → length (filled new) ≤ length (filled old) → IsSound new kept shift
+  sound_kept old new len kept shift s same in_place counted fewer =
+      let before = s.counted in
+      let load = s.load in
+      record {
+        counted = counted;
+        load = rw same (omega arith);
+        shift_low = s.shift_low;
+        shift_high = s.shift_high;
+        places = rw same s.places;
+        in_place = in_place }
 
   -- members and room together fill the load
   pub full_room : (slots : List (Option (ℕ × T))) (len shift : ℕ) → IsSound slots len shift

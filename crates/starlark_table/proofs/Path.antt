@@ -14,13 +14,8 @@ use Rattle.std.specs.Fn.{CalledAt}
 use Rattle.std.proofs.lemmas.Fn.{called_at}
 use Rattle.starlark_table.specs.Table.{holders, holders_in, filled}
 use Rattle.starlark_table.specs.Layout.{distance, home, at, InPlace}
+use Rattle.starlark_table.proofs.Lists.{drop_all}
 use Rattle.starlark_table.proofs.Circle.{turn, length-turn, get_or-turn, step_to, distance-below}
-
-drop_all : {X : Type 0} (i : ℕ) (xs : List X) → length xs ≤ i → drop i xs ≡ []
-drop_all zero [] all = refl
-drop_all zero (x ∷ xs) all = absurd (omega arith)
-drop_all (suc i) [] all = refl
-drop_all (suc i) (x ∷ xs) all = drop_all i xs (omega arith)
 
 module _ {T : Type 0} where
   pub holders-append : (hash : ℕ) (ps bs : List (ℕ × Option (ℕ × T)))

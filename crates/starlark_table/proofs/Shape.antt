@@ -1,7 +1,10 @@
 -- Whether slots are well laid out depends on their hashes alone.
 use Rattle.std.proofs.Common.{◌≡◌, ℕ, zero, suc, ◌+◌, ◌*◌, ◌^◌, ◌≤◌, ◌⊎◌, List, [], ◌∷◌, length, Option, Some, None, IsSome, get_or, refl, sym, ◌∙◌, ap, subst}
 use Rattle.std.specs.List.{AllZip}
-use Rattle.starlark_table.specs.Table.{filled, ReplacesEach, IsSlotClone}
+use Rattle.std.specs.Borrow.{Bor}
+use Rattle.std.specs.Fn.{Mut}
+use Rattle.starlark_table.specs.Table.{filled, IsSlotClone}
+use Rattle.starlark_table.specs.Walk.{ReplacesEach}
 use Rattle.starlark_table.specs.Layout.{at, limit, InPlace, IsSound}
 
 -- how many hashes there are
@@ -78,8 +81,8 @@ module _ {T : Type 0} where
           let back = full_by_hash (at old p) h (sym (same_hash_at p) ∙ ap hash_of e) in
           full_in_both (at old q) (at new q) (same_hash_at q) (sound.in_place.reached p q h back.0 back.1 below near) }) }
 
-module _ {F T : Type 0} (call : F → T → T → F → Type 0) where
-  pub shape-replaced : (old new : List (Option (ℕ × T))) (f last : F) → ReplacesEach call f old new last → shape new ≡ shape old
+module _ {F T : Type 0} (g : Mut F (Bor T × Unit {0}) T) where
+  pub shape-replaced : (old new : List (Option (ℕ × T))) (f last : F) → ReplacesEach g f old new last → shape new ≡ shape old
   shape-replaced [] new f last r = ap shape r.0
   shape-replaced (None ∷ old) new f last (rest, is, more) = ap shape is ∙ ap (λ l. None ∷ l) (shape-replaced old rest f last more)
   shape-replaced (Some (h, x) ∷ old) new f last (y, next, rest, called, is, more) =

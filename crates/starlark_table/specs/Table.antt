@@ -75,14 +75,3 @@ module _ {T : Type 0} (is_clone : T → T → Type 0) where
   pub record IsTableClone (t copy : Table T) : Type 0 where
     pub slots : AllZip IsSlotClone t.slots copy.slots
     pub room : copy.room ≡ t.room
-
--- f is called on the item of each member in turn, its state carried on, and its answer stands in the item's place: slots
--- and hashes stay
-abbrev pub ReplacesEach : {F T : Type 0} → (F → T → T → F → Type 0)
-    → F → List (Option (ℕ × T)) → List (Option (ℕ × T)) → F → Type 0
-ReplacesEach call f [] new last = (new ≡ []) × (last ≡ f)
-ReplacesEach {F} {T} call f (None ∷ old) new last =
-    (rest : List (Option (ℕ × T))) × (new ≡ None ∷ rest) × ReplacesEach call f old rest last
-ReplacesEach {F} {T} call f (Some (h, x) ∷ old) new last =
-    (y : T) × (next : F) × (rest : List (Option (ℕ × T)))
-    × call f x y next × (new ≡ Some (h, y) ∷ rest) × ReplacesEach call next old rest last

@@ -1,16 +1,17 @@
 //! A bag of items under ready hashes. It alone sees how the slots are laid out.
 ghost use Rattle.std.specs.Prelude.{◌≡◌, ℕ, ◌+◌, ◌<◌, ◌≤◌, Some, [], ◌∷◌, List, IsOk, IfOk, OnOk, OnErr, IfErr, IfSome, IfNone, IsPermutation};
 ghost use Rattle.std.specs.Option.{option_copied, option_map};
-ghost use Rattle.std.specs.Fn.{CalledAt};
+ghost use Rattle.std.specs.List.Retain.{RetainsInTurn};
 ghost use Rattle.starlark_hash.specs.Search.{Searches, CanSearch};
-ghost use Rattle.starlark_table.specs.Table.{members, table_len, member_at, items_of, items_under, IsTableClone, ReplacesEach};
+ghost use Rattle.starlark_table.specs.Table.{members, table_len, member_at, items_of, items_under, IsTableClone};
+ghost use Rattle.starlark_table.specs.Walk.{CanReplace, ReplacesEach, CanRetain, AsksMember};
 
 use crate::gap::take_out;
 use crate::growth::{empty_slots, move_all};
 use crate::iter::{IntoIter, Iter};
 use crate::places::{limit, places_for};
 use crate::probe::{Slot, find_slot, item_at, put};
-use crate::walks::{empty_all, replace_items};
+use crate::walks::{empty_all, replace_items, retain_items};
 use starlark_hash::NoRoom;
 use std::alloc::{AllocError, Global};
 use std::marker::Model;
@@ -186,11 +187,24 @@ impl<T> ReadyTable<T> {
     pub fn replace_each<F: FnMut(&T) -> T>(&mut self, f: F)
     where
         T: Drop,
-        requires { F.IsAlwaysCallable f }
-        ensures replaced { (last : F) × ReplacesEach (CalledAt F.FnMut) f self.old.slots self.new.slots last }
+        requires { CanReplace F.FnMut (items_of self.old) f }
+        ensures replaced { (last : F) × ReplacesEach F.FnMut f self.old.slots self.new.slots last }
         ensures room { self.new.room ≡ self.old.room }
     {
         replace_items(self.slots.as_mut_slice(), f);
+    }
+
+    /// Keeps the members that `f` accepts, with what `f` left in their items, and takes the others out. `f` is called once on each member,
+    /// along the walk. No memory is asked for, and the room of what was taken out comes back.
+    pub fn retain<F: FnMut(&mut T) -> bool>(&mut self, f: F)
+    where
+        T: Drop,
+        requires { CanRetain F.FnMut (items_of self.old) f }
+        ensures kept { (kept : List (ℕ × T)) × RetainsInTurn (AsksMember F.FnMut) f (members self.old) kept × IsPermutation kept (members self.new) }
+        ensures room { table_len self.new + self.new.room ≡ table_len self.old + self.old.room }
+    {
+        let kept = retain_items(self.slots.as_mut_slice(), self.shift, f);
+        self.len = kept;
     }
 
     /// Removes every member. The room that they had comes back.
