@@ -1,6 +1,8 @@
 -- Whether slots are well laid out depends on their hashes alone.
-use Rattle.std.proofs.Common.{◌≡◌, ℕ, zero, suc, ◌+◌, ◌*◌, ◌^◌, ◌≤◌, ◌⊎◌, List, [], ◌∷◌, length, Option, Some, None, IsSome, get_or, refl, sym, ◌∙◌, ap, subst}
+use Rattle.std.proofs.Common.{◌≡◌, ℕ, zero, suc, ◌+◌, ◌*◌, ◌^◌, ◌<◌, ◌≤◌, ◌⊎◌, List, [], ◌∷◌, length, Option, Some, None, IsSome, get_or, arith, refl, sym, ◌∙◌, ap, subst}
 use Rattle.std.specs.List.{AllZip}
+use Rattle.std.specs.Option.{option_map}
+use Rattle.std.proofs.Math.ListN.{set}
 use Rattle.std.specs.Borrow.{Bor}
 use Rattle.std.specs.Fn.{Mut}
 use Rattle.starlark_table.specs.Table.{filled, IsSlotClone}
@@ -113,3 +115,22 @@ module _ {T : Type 0} (is_clone : T → T → Type 0) where
     slots_cloned [] (p ∷ new) all = absurd all
     slots_cloned (o ∷ old) [] all = absurd all
     slots_cloned (o ∷ old) (p ∷ new) all = (one_cloned o p all.0, slots_cloned old new all.1)
+
+module _ {T : Type 0} (w : T) where
+  abbrev written : Option (ℕ × T) → Option (ℕ × T)
+  written o = option_map (λ m. (m.0, w)) o
+
+  shape-first : (o : Option (ℕ × T)) (slots : List (Option (ℕ × T))) → shape (written o ∷ slots) ≡ shape (o ∷ slots)
+  shape-first None slots = refl
+  shape-first (Some m) slots = refl
+
+  shape-cons : (o : Option (ℕ × T)) (xs ys : List (Option (ℕ × T))) → shape xs ≡ shape ys → shape (o ∷ xs) ≡ shape (o ∷ ys)
+  shape-cons None xs ys e = ap (λ l. None ∷ l) e
+  shape-cons (Some m) xs ys e = ap (λ l. Some m.0 ∷ l) e
+
+  -- another item in a slot
+  pub shape-written : (slots : List (Option (ℕ × T))) (i : ℕ) (o : Option (ℕ × T)) → o ≡ get_or slots i o → i < length slots
+      → shape (set slots i (written o)) ≡ shape slots
+  shape-written [] i o e below = absurd (omega arith)
+  shape-written (p ∷ slots) zero o e below = ap (λ o. shape (written o ∷ slots)) e ∙ shape-first p slots
+  shape-written (p ∷ slots) (suc i) o e below = shape-cons p (set slots i (written o)) slots (shape-written slots i o e (omega arith))

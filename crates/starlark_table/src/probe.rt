@@ -1,8 +1,10 @@
 //! Reads and writes of the slots along the way of a hash: from its home on, up to the first empty place.
 ghost use Rattle.std.specs.Prelude.{◌≡◌, ℕ, ◌+◌, ◌*◌, ◌^◌, ◌<◌, Some, None, length, IsSome, slice_set};
 ghost use Rattle.std.specs.Option.{option_copied, option_map};
+ghost use Rattle.std.specs.Borrow.{sem};
 ghost use Rattle.starlark_hash.specs.Search.{Searches, CanSearch};
 ghost use Rattle.starlark_table.specs.Table.{holders_in};
+ghost use Rattle.starlark_table.specs.Lends.{lends_slot};
 ghost use Rattle.starlark_table.specs.Layout.{distance, at, InPlace, IsShift};
 
 use crate::places::{home, next_place};
@@ -77,5 +79,17 @@ pub(crate) fn item_at<T>(slots: &[Slot<T>], slot: usize) -> Option<&T>
     match &slots[slot] {
         None => None,
         Some((_, item)) => Some(item),
+    }
+}
+
+#[inline]
+pub(crate) fn item_mut<T>(slot: &mut Slot<T>) -> &mut T
+    requires { IsSome slot.old }
+    ensures* writes_back { sem 𝓛 (lends_slot T.row slot.entry result) }
+    ensures value { option_map (λ m. m.1) slot.old ≡ Some result.now }
+{
+    match slot {
+        Some(member) => &mut member.1,
+        None => unreachable!(),
     }
 }

@@ -1,6 +1,7 @@
 //! A bag of items under ready hashes. It alone sees how the slots are laid out.
-ghost use Rattle.std.specs.Prelude.{◌≡◌, ℕ, ◌+◌, ◌<◌, ◌≤◌, Some, [], ◌∷◌, List, IsOk, IfOk, OnOk, OnErr, IfErr, IfSome, IfNone, IsPermutation};
-ghost use Rattle.std.specs.Option.{option_copied, option_map};
+ghost use Rattle.std.specs.Prelude.{◌≡◌, ℕ, ◌+◌, ◌<◌, ◌≤◌, Some, [], ◌∷◌, List, IsOk, IfOk, OnOk, OnErr, IfErr, IfSome, IfNone, IsSome, IsPermutation};
+ghost use Rattle.std.specs.Option.{option_copied, option_copied_mut, option_map};
+ghost use Rattle.std.specs.Borrow.{sem};
 ghost use Rattle.std.specs.List.Retain.{RetainsInTurn};
 ghost use Rattle.starlark_hash.specs.Search.{Searches, CanSearch};
 ghost use Rattle.starlark_table.specs.Table.{members, table_len, member_at, items_of, items_under, IsTableClone};
@@ -10,7 +11,7 @@ use crate::gap::take_out;
 use crate::growth::{empty_slots, move_all};
 use crate::iter::{IntoIter, Iter};
 use crate::places::{limit, places_for};
-use crate::probe::{Slot, find_slot, item_at, put};
+use crate::probe::{Slot, find_slot, item_at, item_mut, put};
 use crate::walks::{empty_all, replace_items, retain_items};
 use starlark_hash::NoRoom;
 use std::alloc::{AllocError, Global};
@@ -43,6 +44,8 @@ impl<T> Model for ReadyTable<T> {
 }
 
 impl<T> ReadyTable<T> {
+    ghost use Rattle.starlark_table.specs.Lends.{lends_item, lends_get};
+
     /// An empty table, which asks for no memory before the first insertion.
     pub fn new(alloc: Global) -> ReadyTable<T>
         ensures empty { members result ≡ [] }
@@ -107,6 +110,28 @@ impl<T> ReadyTable<T> {
         ensures { option_copied result ≡ option_map (λ m. m.1) (member_at self.now slot) }
     {
         item_at(self.slots.as_slice(), slot)
+    }
+
+    /// The item in a slot, for writing. Its hash stays.
+    #[inline]
+    pub fn get_mut(&mut self, slot: usize) -> Option<&mut T>
+        ensures* writes_back { sem 𝓛 (lends_get T.row self.entry slot result) }
+        ensures value { option_copied_mut result ≡ option_map (λ m. m.1) (member_at self.old slot) }
+    {
+        if self.get(slot).is_some() {
+            Some(self.item_mut(slot))
+        } else {
+            None
+        }
+    }
+
+    #[inline]
+    fn item_mut(&mut self, slot: usize) -> &mut T
+        requires { IsSome (member_at self.old slot) }
+        ensures* writes_back { sem 𝓛 (lends_item T.row self.entry slot result) }
+        ensures value { option_map (λ m. m.1) (member_at self.old slot) ≡ Some result.now }
+    {
+        item_mut(&mut self.slots[slot])
     }
 
     /// Puts an item in, also where an equal one is there, and answers its slot. Refused only at room 0; the table is then as it was, and
