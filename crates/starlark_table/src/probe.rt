@@ -3,7 +3,7 @@ ghost use Rattle.std.specs.Prelude.{◌≡◌, ℕ, ◌+◌, ◌*◌, ◌^◌, �
 ghost use Rattle.std.specs.Option.{option_copied, option_map};
 ghost use Rattle.std.specs.Borrow.{sem};
 ghost use Rattle.starlark_hash.specs.Search.{Searches, CanSearch};
-ghost use Rattle.starlark_table.specs.Table.{holders_in};
+ghost use Rattle.starlark_table.specs.Table.{holders_in, IsNextSlot};
 ghost use Rattle.starlark_table.specs.Lends.{lends_slot};
 ghost use Rattle.starlark_table.specs.Layout.{distance, at, InPlace, IsShift};
 
@@ -92,4 +92,17 @@ pub(crate) fn item_mut<T>(slot: &mut Slot<T>) -> &mut T
         Some(member) => &mut member.1,
         None => unreachable!(),
     }
+}
+
+// The first slot from one on that has a member.
+#[inline]
+pub(crate) fn full_from<T>(slots: &[Slot<T>], from: usize) -> Option<usize>
+    ensures { IsNextSlot slots.now from result }
+{
+    for slot in from..slots.len() {
+        if slots[slot].is_some() {
+            return Some(slot);
+        }
+    }
+    None
 }

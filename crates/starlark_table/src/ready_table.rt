@@ -4,14 +4,14 @@ ghost use Rattle.std.specs.Option.{option_copied, option_copied_mut, option_map}
 ghost use Rattle.std.specs.Borrow.{sem};
 ghost use Rattle.std.specs.List.Retain.{RetainsInTurn};
 ghost use Rattle.starlark_hash.specs.Search.{Searches, CanSearch};
-ghost use Rattle.starlark_table.specs.Table.{members, table_len, member_at, items_of, items_under, IsTableClone};
+ghost use Rattle.starlark_table.specs.Table.{members, table_len, member_at, items_of, items_under, IsNextSlot, IsTableClone};
 ghost use Rattle.starlark_table.specs.Walk.{CanReplace, ReplacesEach, CanRetain, AsksMember};
 
 use crate::gap::take_out;
 use crate::growth::{empty_slots, move_all};
 use crate::iter::{IntoIter, Iter};
 use crate::places::{limit, places_for};
-use crate::probe::{Slot, find_slot, item_at, item_mut, put};
+use crate::probe::{Slot, find_slot, full_from, item_at, item_mut, put};
 use crate::walks::{empty_all, replace_items, retain_items};
 use starlark_hash::NoRoom;
 use std::alloc::{AllocError, Global};
@@ -249,6 +249,15 @@ impl<T> ReadyTable<T> {
         ensures { result ≡ items_of self.now }
     {
         Iter::new(self.slots.as_slice(), self.len)
+    }
+
+    /// The first slot from one on that has a member. With `get_mut` this walks over the items for writing, one lent at a time: there is no
+    /// iterator that lends them all at once.
+    #[inline]
+    pub fn slot_from(&self, from: usize) -> Option<usize>
+        ensures { IsNextSlot self.now.slots from result }
+    {
+        full_from(self.slots.as_slice(), from)
     }
 
     /// The members along the walk, each as its hash and its item, by value.
