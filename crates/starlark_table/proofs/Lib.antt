@@ -11,3 +11,5 @@ pub mod Walking
 pub mod Replacing
 pub mod Retaining
 pub mod Settling
+pub mod PairBags
+pub mod TableLemmas

@@ -76,8 +76,8 @@ module _ {T : Type 0} where
         shift_low = s.shift_low;
         shift_high = s.shift_high;
         places = rw same s.places;
-        in_place = in_place }
-
+        in_place = in_place;
+      }
 
   pub sound_with : (old : List (Option (ℕ × T))) (len shift slot : ℕ) (m : ℕ × T) → IsSound old len shift
       → len < limit (length old) → slot < length old → at old slot ≡ None
@@ -91,7 +91,8 @@ module _ {T : Type 0} where
         shift_low = s.shift_low;
         shift_high = s.shift_high;
         places = rw length-set s.places;
-        in_place = in_place }
+        in_place = in_place;
+      }
 
   pub room_for_one : (slots : List (Option (ℕ × T))) (len shift : ℕ) → IsSound slots len shift → len < limit (length slots)
       → (length slots * 2 ^ shift ≡ 2 ^ 64) × ((q : ℕ) × (q < length slots) × (at slots q ≡ None))
@@ -131,7 +132,8 @@ module _ {T : Type 0} where
         shift_low = s.shift_low;
         shift_high = s.shift_high;
         places = rw same s.places;
-        in_place = in_place }
+        in_place = in_place;
+      }
 
   -- members and room together fill the load
   pub full_room : (slots : List (Option (ℕ × T))) (len shift : ℕ) → IsSound slots len shift
@@ -168,7 +170,7 @@ module _ {T : Type 0} where
       → IsPermutation all (filled rest ++ filled (set slots place (Some m)))
   moved_some all old rest slots place m e place_in empty bag =
       let same : filled old ++ filled slots ≡ filled rest ++ m ∷ filled slots =
-          ap (λ l. l ++ filled slots) (ap filled e ∙ filled-append rest (Some m ∷ [])) ∙ append_assoc (filled rest) (m ∷ []) (filled slots) in
+      ap (λ l. l ++ filled slots) (ap filled e ∙ filled-append rest (Some m ∷ [])) ∙ append_assoc (filled rest) (m ∷ []) (filled slots) in
       IsPermutation-trans all (filled rest ++ m ∷ filled slots) (filled rest ++ filled (set slots place (Some m)))
       (subst (λ l. IsPermutation all l) same bag)
       (IsPermutation-append_right (filled rest) (m ∷ filled slots) (filled (set slots place (Some m))) (filled-set_some slots place m place_in empty))
@@ -189,7 +191,8 @@ module _ {T : Type 0} where
   pub in_place_empty : (m shift n : ℕ) → InPlace {T = T} m shift (replicate n None)
   in_place_empty m shift n = record {
     homed = λ p h x e. absurd (cc (at-replicate n p));
-    reached = λ p q h x e q_in nearer. absurd (cc (at-replicate n p)) }
+    reached = λ p q h x e q_in nearer. absurd (cc (at-replicate n p));
+  }
 
   pub grown : (items old mid new : List (Option (ℕ × T))) (len shift shift' count : ℕ) → IsSound items len shift
       → old ≡ items → mid ≡ replicate count None → length new ≡ length mid → InPlace (length new) shift' new
@@ -199,15 +202,19 @@ module _ {T : Type 0} where
   grown items old mid new len shift shift' count s e f sized in_place bag power low high load =
       let sized' : length new ≡ count = sized ∙ ap length f ∙ length-replicate count None in
       let bag' : IsPermutation (filled items) (filled new) =
-          subst (λ l. IsPermutation l (filled new))
-          (ap (λ l. filled l ++ filled mid) e ∙ ap (λ l. filled items ++ l) (ap filled f ∙ filled-replicate count) ∙ append-nil (filled items)) bag in
-      (record {
-        counted = s.counted ∙ sym (length_permutation (filled items) (filled new) bag');
-        load = rw sized' load;
-        shift_low = low;
-        shift_high = high;
-        places = inr (ap (λ n. n * 2 ^ shift') sized' ∙ power);
-        in_place = in_place }, bag', sized')
+      subst (λ l. IsPermutation l (filled new))
+      (ap (λ l. filled l ++ filled mid) e ∙ ap (λ l. filled items ++ l) (ap filled f ∙ filled-replicate count) ∙ append-nil (filled items)) bag in (
+        record {
+          counted = s.counted ∙ sym (length_permutation (filled items) (filled new) bag');
+          load = rw sized' load;
+          shift_low = low;
+          shift_high = high;
+          places = inr (ap (λ n. n * 2 ^ shift') sized' ∙ power);
+          in_place = in_place;
+        },
+        bag',
+        sized',
+      )
 
   pub inserted : (items mid new : List (Option (ℕ × T))) (len shift slot : ℕ) (m : ℕ × T) → IsSound items len shift
       → mid ≡ items → new ≡ set mid slot (Some m) → slot < length mid → at mid slot ≡ None → InPlace (length new) shift new
@@ -217,21 +224,25 @@ module _ {T : Type 0} where
       let e' : new ≡ set items slot (Some m) = f ∙ ap (λ l. set l slot (Some m)) e in
       let slot_in' : slot < length items = subst (λ l. slot < length l) e slot_in in
       let empty' : at items slot ≡ None = sym (ap (λ l. at l slot) e) ∙ empty in
-      let less : len < limit (length items) = omega arith in
-      (subst (λ l. IsSound l (len + 1) shift) (sym e')
-        (sound_with items len shift slot m s less slot_in' empty' (subst (λ l. InPlace (length l) shift l) e' in_place)),
-       subst (λ l. IsPermutation (m ∷ filled items) (filled l)) (sym e') (filled-set_some items slot m slot_in' empty'),
-       ap length e' ∙ length-set items slot (Some m))
+      let less : len < limit (length items) = omega arith in (
+        subst (λ l. IsSound l (len + 1) shift) (sym e')
+            (sound_with items len shift slot m s less slot_in' empty' (subst (λ l. InPlace (length l) shift l) e' in_place)),
+        subst (λ l. IsPermutation (m ∷ filled items) (filled l)) (sym e') (filled-set_some items slot m slot_in' empty'),
+        ap length e' ∙ length-set items slot (Some m),
+      )
 
   pub sound_empty : (items : List (Option (ℕ × T))) (shift count : ℕ) → items ≡ replicate count None
       → count * 2 ^ shift ≡ 2 ^ 64 → 1 < shift → shift < 63 → IsSound items 0 shift × (filled items ≡ [])
   sound_empty items shift count e power low high =
       let none : filled items ≡ [] = ap filled e ∙ filled-replicate count in
-      let sized : length items ≡ count = ap length e ∙ length-replicate count None in
-      (record {
-        counted = sym (ap length none);
-        load = omega arith;
-        shift_low = low;
-        shift_high = high;
-        places = inr (ap (λ n. n * 2 ^ shift) sized ∙ power);
-        in_place = subst (λ l. InPlace (length l) shift l) (sym e) (in_place_empty (length (replicate count None)) shift count) }, none)
+      let sized : length items ≡ count = ap length e ∙ length-replicate count None in (
+        record {
+          counted = sym (ap length none);
+          load = omega arith;
+          shift_low = low;
+          shift_high = high;
+          places = inr (ap (λ n. n * 2 ^ shift) sized ∙ power);
+          in_place = subst (λ l. InPlace (length l) shift l) (sym e) (in_place_empty (length (replicate count None)) shift count);
+        },
+        none,
+      )

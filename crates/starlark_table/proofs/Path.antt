@@ -24,8 +24,8 @@ module _ {T : Type 0} where
   holders-append hash ((p, None) ∷ ps) bs = holders-append hash ps bs
   holders-append hash ((p, Some (h, x)) ∷ ps) bs =
       elim (nat_eq h hash) as (λ b. (if b then (p, x) ∷ holders hash (ps ++ bs) else holders hash (ps ++ bs))
-          ≡ (if b then (p, x) ∷ holders hash ps else holders hash ps) ++ holders hash bs) [
-        true ↦ ap (λ l. (p, x) ∷ l) (holders-append hash ps bs)
+      ≡ (if b then (p, x) ∷ holders hash ps else holders hash ps) ++ holders hash bs) [
+        | true ↦ ap (λ l. (p, x) ∷ l) (holders-append hash ps bs)
         | false ↦ holders-append hash ps bs
       ]
 
@@ -72,7 +72,7 @@ module _ {T : Type 0} where
       → path_from a slots i ≡ (place, at slots place) ∷ path_from a slots (i + 1)
   path-step a place i slots a_in place_in e =
       let below : i < length (turn a (enumerate_from 0 slots)) =
-          rw (length-path a slots, ← e) (distance-below (length slots) a place a_in place_in) in
+      rw (length-path a slots, ← e) (distance-below (length slots) a place a_in place_in) in
       drop-cons (turn a (enumerate_from 0 slots)) i (place, None) below
       ∙ rw (on_path a place i slots (place, None) a_in place_in e, add-one) refl
 
@@ -88,16 +88,16 @@ module _ {T : Type 0} where
   path-ends shift hash place i slots home_in place_in e empty reached =
       holders-none hash (path_from (home shift hash) slots (i + 1))
       (λ k d below x e'.
-        let in' : i + 1 + k < length slots =
-            rw (← length-path (home shift hash) slots)
-            (omega (arith, simp length-drop at below)) in
-        let target = step_to (length slots) (home shift hash) (i + 1 + k) home_in in' in
-        let read = on_path (home shift hash) target.0 (i + 1 + k) slots d home_in target.1 target.2 in
-        let here : at slots target.0 ≡ Some (hash, x) =
-            sym (ap (λ s. s.1) (get_or-drop (i + 1) (turn (home shift hash) (enumerate_from 0 slots)) k d ∙ read)) ∙ e' in
-        let nearer : distance (length slots) (home shift hash) place < distance (length slots) (home shift hash) target.0 =
-            omega (arith, e, target.2) in
-        full_not_empty (at slots place) (reached.reached target.0 place hash x here place_in nearer) empty)
+      let in' : i + 1 + k < length slots =
+      rw (← length-path (home shift hash) slots)
+      (omega (arith, simp length-drop at below)) in
+      let target = step_to (length slots) (home shift hash) (i + 1 + k) home_in in' in
+      let read = on_path (home shift hash) target.0 (i + 1 + k) slots d home_in target.1 target.2 in
+      let here : at slots target.0 ≡ Some (hash, x) =
+      sym (ap (λ s. s.1) (get_or-drop (i + 1) (turn (home shift hash) (enumerate_from 0 slots)) k d ∙ read)) ∙ e' in
+      let nearer : distance (length slots) (home shift hash) place < distance (length slots) (home shift hash) target.0 =
+      omega (arith, e, target.2) in
+      full_not_empty (at slots place) (reached.reached target.0 place hash x here place_in nearer) empty)
 
   pub read_at : (slots : List (Option (ℕ × T))) (place : ℕ) (r : Option (ℕ × T)) → place < length slots
       → r ≡ get_or slots place r → at slots place ≡ r

@@ -39,9 +39,15 @@ module _ {F T : Type 0} (g : Mut F (MutBor T × Unit {0}) (Bool × (MutBor T × 
   retains_one None slots f f' kept o' rest asks more =
       subst (λ o. RetainsInTurn (AsksMember g) f (filled slots) (filled (o ∷ []) ++ rest)) (sym asks.2)
       (subst (λ f. RetainsInTurn (AsksMember g) f (filled slots) rest) asks.1 more)
-  retains_one (Some (h, x)) slots f f' kept o' rest asks more =
-      (kept, f', (h, asks.0), record { hash = refl; called = asks.1 }, rest, more,
-        ap (λ o. filled (o ∷ []) ++ rest) asks.2 ∙ left_of (h, asks.0) kept rest)
+  retains_one (Some (h, x)) slots f f' kept o' rest asks more = (
+    kept,
+    f',
+    (h, asks.0),
+    record { hash = refl; called = asks.1 },
+    rest,
+    more,
+    ap (λ o. filled (o ∷ []) ++ rest) asks.2 ∙ left_of (h, asks.0) kept rest,
+  )
 
   pub one_counted : (o : Option (ℕ × T)) (f f' : F) (kept : Bool) (o' : Option (ℕ × T)) → AsksSlot g f o kept f' o'
       → length (filled (o' ∷ [])) ≡ cond kept 1 0
@@ -68,15 +74,15 @@ module _ {F T : Type 0} (g : Mut F (MutBor T × Unit {0}) (Bool × (MutBor T × 
     front_is = ap filled (sym (append-nil (take (i + 1) new)) ∙ sym (taken_more cur new [] i o' below is)) ∙ filled-append (take i cur) (o' ∷ [])
 
     pub done_more : ((rest : List (ℕ × T)) → RetainsInTurn (AsksMember g) f (filled (drop i initial)) rest
-          → RetainsInTurn (AsksMember g) first (filled initial) (filled (take i cur) ++ rest))
+        → RetainsInTurn (AsksMember g) first (filled initial) (filled (take i cur) ++ rest))
         → (rest : List (ℕ × T)) → RetainsInTurn (AsksMember g) f' (filled (drop (i + 1) initial)) rest
         → RetainsInTurn (AsksMember g) first (filled initial) (filled (take (i + 1) new) ++ rest)
     done_more done rest more =
         subst (λ l. RetainsInTurn (AsksMember g) first (filled initial) l)
         (sym (append_assoc (filled (take i cur)) (filled (o' ∷ [])) rest) ∙ ap (λ l. l ++ rest) (sym front_is))
         (done (filled (o' ∷ []) ++ rest)
-          (subst (λ l. RetainsInTurn (AsksMember g) f (filled l) (filled (o' ∷ []) ++ rest)) (sym rest_is)
-            (retains_one (get_or cur i r) (drop (i + 1) initial) f f' kept o' rest asks more)))
+        (subst (λ l. RetainsInTurn (AsksMember g) f (filled l) (filled (o' ∷ []) ++ rest)) (sym rest_is)
+        (retains_one (get_or cur i r) (drop (i + 1) initial) f f' kept o' rest asks more)))
 
     pub counted_more : (count : ℕ) → count ≡ length (filled (take i cur)) → count + cond kept 1 0 ≡ length (filled (take (i + 1) new))
     counted_more count e =
@@ -87,18 +93,19 @@ module _ {F T : Type 0} (g : Mut F (MutBor T × Unit {0}) (Bool × (MutBor T × 
     stands_still s = record {
       sized = ap length is ∙ length-set cur i o' ∙ s.sized;
       stood = λ p h y e. elim (at_set cur i p o' (Some (h, y)) below (sym (ap (λ l. at l p) is) ∙ e)) [
-        inl here ↦
-          let there = still_there (get_or cur i r) f f' kept o' h y asks here.1 in
-          s.stood p h there.0 (ap (at cur) here.0 ∙ sym (get_or_default cur i r None below) ∙ there.1)
+        | inl here ↦
+            let there = still_there (get_or cur i r) f f' kept o' h y asks here.1 in
+            s.stood p h there.0 (ap (at cur) here.0 ∙ sym (get_or_default cur i r None below) ∙ there.1)
         | inr kept ↦ s.stood p h y kept.1
-      ] }
+      ];
+    }
 
   pub stands_first : (slots : List (Option (ℕ × T))) → StandsIn slots slots
   stands_first slots = record { sized = refl; stood = λ p h y e. (y, e) }
 
   pub retains_all : (first f : F) (initial cur : List (Option (ℕ × T))) (i : ℕ) → length initial ≤ i → length cur ≡ length initial
       → ((rest : List (ℕ × T)) → RetainsInTurn (AsksMember g) f (filled (drop i initial)) rest
-          → RetainsInTurn (AsksMember g) first (filled initial) (filled (take i cur) ++ rest))
+      → RetainsInTurn (AsksMember g) first (filled initial) (filled (take i cur) ++ rest))
       → RetainsInTurn (AsksMember g) first (filled initial) (filled cur)
   retains_all first f initial cur i all sized done =
       subst (λ l. RetainsInTurn (AsksMember g) first (filled initial) l) (append-nil (filled (take i cur)) ∙ ap filled (take_all i cur (omega arith)))

@@ -31,18 +31,24 @@ module _ {F T : Type 0} (g : Mut F (Bor T × Unit {0}) Bool) where
     before = s.before ++ p ∷ [];
     split = s.split ∙ sym (append_assoc s.before (p ∷ []) left);
     refused = FoldsTo-push (λ s p t. CalledAt g s p.1 false t) first s.before f p f' s.refused call;
-    rest = λ answer last asks. s.rest answer last (false, f', call, asks) }
+    rest = λ answer last asks. s.rest answer last (false, f', call, asks);
+  }
 
   pub searching_accepts : (all items : List (ℕ × T)) (first f f' : F) (p : ℕ × T) (left : List (ℕ × T)) → IsPermutation all items
       → Searching items first f (p ∷ left) → CalledAt g f p.1 true f' → Searches g all first (Some p.0) f'
   searching_accepts all items first f f' p left same s call = record {
-    order = items; rearranged = same; asks = s.rest (Some p.0) f' (true, f', call, (refl, refl)) }
+    order = items;
+    rearranged = same;
+    asks = s.rest (Some p.0) f' (true, f', call, (refl, refl));
+  }
 
   pub searching_ends : (all items left : List (ℕ × T)) (first f : F) → IsPermutation all items → left ≡ []
       → Searching items first f left → Searches g all first None f
   searching_ends all items left first f same none s = record {
-    order = items; rearranged = same;
-    asks = s.rest None f (subst (λ l. Asks g f l None f) (sym none) (refl, refl)) }
+    order = items;
+    rearranged = same;
+    asks = s.rest None f (subst (λ l. Asks g f l None f) (sym none) (refl, refl));
+  }
 
   pub searching_as : (items left : List (ℕ × T)) (first f f' : F) → f' ≡ f → Searching items first f left → Searching items first f' left
   searching_as items left first f f' e s = subst (λ f. Searching items first f left) (sym e) s

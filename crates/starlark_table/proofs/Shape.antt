@@ -77,11 +77,13 @@ module _ {T : Type 0} where
       places = subst (λ n. (n ≡ 0) ⊎ (n * 2 ^ shift ≡ 2 ^ 64)) (sym same_length) sound.places;
       in_place = subst (λ n. InPlace n shift new) (sym same_length) (record {
         homed = λ p h y e.
-          let back = full_by_hash (at old p) h (sym (same_hash_at p) ∙ ap hash_of e) in
-          sound.in_place.homed p h back.0 back.1;
+            let back = full_by_hash (at old p) h (sym (same_hash_at p) ∙ ap hash_of e) in
+            sound.in_place.homed p h back.0 back.1;
         reached = λ p q h y e below near.
-          let back = full_by_hash (at old p) h (sym (same_hash_at p) ∙ ap hash_of e) in
-          full_in_both (at old q) (at new q) (same_hash_at q) (sound.in_place.reached p q h back.0 back.1 below near) }) }
+            let back = full_by_hash (at old p) h (sym (same_hash_at p) ∙ ap hash_of e) in
+            full_in_both (at old q) (at new q) (same_hash_at q) (sound.in_place.reached p q h back.0 back.1 below near);
+      });
+    }
 
 module _ {F T : Type 0} (g : Mut F (Bor T × Unit {0}) T) where
   pub shape-replaced : (old new : List (Option (ℕ × T))) (f last : F) → ReplacesEach g f old new last → shape new ≡ shape old

@@ -36,7 +36,11 @@ pub(crate) fn distance(count: usize, from: usize, to: usize) -> usize
     requires fits { count < 2 ^ 63 }
     ensures { result ≡ distance count from to }
 {
-    if from <= to { to - from } else { to + count - from }
+    if from <= to {
+        to - from
+    } else {
+        to + count - from
+    }
 }
 
 // A number of places, a power of two, that may hold so many members, and its shift.

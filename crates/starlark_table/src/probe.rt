@@ -12,7 +12,12 @@ use crate::places::{home, next_place};
 pub(crate) type Slot<T> = Option<(u64, T)>;
 
 #[inline]
-pub(crate) fn find_slot<T, F: FnMut(&T) -> bool>(slots: &[Slot<T>], shift: u32, hash: u64, mut eq: F) -> Option<usize>
+pub(crate) fn find_slot<T, F: FnMut(&T) -> bool>(
+    slots: &[Slot<T>],
+    shift: u32,
+    hash: u64,
+    mut eq: F,
+) -> Option<usize>
     requires shift { shift < 64 }
     requires places { IsShift shift slots.now }
     requires in_place { InPlace (length slots.now) shift slots.now }

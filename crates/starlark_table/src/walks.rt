@@ -29,7 +29,11 @@ pub(crate) fn replace_items<T: Drop, F: FnMut(&T) -> T>(slots: &mut [Slot<T>], m
 }
 
 // Takes out the members that `f` does not keep, and puts the others back in place. The answer is how many are left.
-pub(crate) fn retain_items<T: Drop, F: FnMut(&mut T) -> bool>(slots: &mut [Slot<T>], shift: u32, f: F) -> usize
+pub(crate) fn retain_items<T: Drop, F: FnMut(&mut T) -> bool>(
+    slots: &mut [Slot<T>],
+    shift: u32,
+    f: F,
+) -> usize
     requires low { 1 < shift }
     requires high { shift < 63 }
     requires places { IsShift shift slots.old }

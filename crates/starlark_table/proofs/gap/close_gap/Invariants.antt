@@ -8,7 +8,8 @@ abbrev pub invariant-loop-slots : goal.invariant-loop-slots
 invariant-loop-slots g l = record {
   counted : l.count ≡ length l.slots;
   closing : Closing l.count l.shift l.start l.slots l.hole l.next;
-  bag : IsPermutation (filled l.initial.slots) (filled l.slots) }
+  bag : IsPermutation (filled l.initial.slots) (filled l.slots);
+}
 
 abbrev pub decreases-loop-slots : goal.decreases-loop-slots
 decreases-loop-slots g l = l.count - distance l.count l.start l.next

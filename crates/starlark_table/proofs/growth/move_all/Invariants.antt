@@ -7,7 +7,8 @@ abbrev pub invariant-loop-slot : goal.invariant-loop-slot
 invariant-loop-slot g l = record {
   sized : length l.slots ≡ length l.initial.slots;
   in_place : InPlace (length l.slots) l.shift l.slots;
-  bag : IsPermutation (filled l.initial.old.items ++ filled l.initial.slots) (filled l.old.items ++ filled l.slots) }
+  bag : IsPermutation (filled l.initial.old.items ++ filled l.initial.slots) (filled l.old.items ++ filled l.slots);
+}
 
 abbrev pub decreases-loop-slot : goal.decreases-loop-slot
 decreases-loop-slot g l = vec_len l.old

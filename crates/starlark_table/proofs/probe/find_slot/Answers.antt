@@ -23,11 +23,12 @@ pub loop-place-init : goal.loop-place-init
 loop-place-init g c =
     let in' = home_in (length c.args.slots.now) c.args.shift c.args.hash c.if-count-eq0.false c.requires.places c.ranges.hash.fits in
     let none : distance (length c.args.slots.now) (home c.args.shift c.args.hash) c.home-place.result ≡ 0 =
-        ap (distance (length c.args.slots.now) (home c.args.shift c.args.hash)) c.home-place.ensures ∙ distance-self (length c.args.slots.now) (home c.args.shift c.args.hash) in
+    ap (distance (length c.args.slots.now) (home c.args.shift c.args.hash)) c.home-place.ensures ∙ distance-self (length c.args.slots.now) (home c.args.shift c.args.hash) in
     record {
       in_range = rw c.home-place.ensures in';
       path = λ q q_in nearer. absurd (omega (arith, none));
-      search = path_moved g.F.FnMut _ c.args.eq c.args.eq c.args.hash (home c.args.shift c.args.hash) 0 _ c.args.slots.now none (searching_begins g.F.FnMut _ c.args.eq) }
+      search = path_moved g.F.FnMut _ c.args.eq c.args.eq c.args.hash (home c.args.shift c.args.hash) 0 _ c.args.slots.now none (searching_begins g.F.FnMut _ c.args.eq);
+    }
 
 pub eq-requires : goal.eq-requires
 eq-requires g c =
@@ -37,19 +38,20 @@ eq-requires g c =
     searching_asks g.F.FnMut (holders_in c.args.hash c.args.slots.now) _ c.args.eq c.loop-place.eq (c.loop-place.place, c.in-Some.item) _
     (listed c.args.hash (home c.args.shift c.args.hash) c.args.slots.now) c.requires.callable
     (path_taken g.F.FnMut _ c.args.eq c.loop-place.eq c.args.hash (home c.args.shift c.args.hash) c.loop-place.place c.in-Some.stored c.in-Some.item c.args.slots.now
-      in' k.in_range here c.if-stored-hash.true k.search) _ refl
+    in' k.in_range here c.if-stored-hash.true k.search) _ refl
 
 pub returns-then-eq : goal.returns-then-eq
 returns-then-eq g c =
     let k = c.loop-place.invariant in
     let in' = home_in (length c.args.slots.now) c.args.shift c.args.hash c.if-count-eq0.false c.requires.places c.ranges.hash.fits in
-    let here = read_at c.args.slots.now c.loop-place.place _ k.in_range c.index-slots-place.is ∙ c.in-Some.is in
-    (c.eq.new.self,
+    let here = read_at c.args.slots.now c.loop-place.place _ k.in_range c.index-slots-place.is ∙ c.in-Some.is in (
+      c.eq.new.self,
       searching_accepts g.F.FnMut (holders_in c.args.hash c.args.slots.now) _ c.args.eq c.loop-place.eq c.eq.new.self (c.loop-place.place, c.in-Some.item) _
-      (listed c.args.hash (home c.args.shift c.args.hash) c.args.slots.now)
-      (path_taken g.F.FnMut _ c.args.eq c.loop-place.eq c.args.hash (home c.args.shift c.args.hash) c.loop-place.place c.in-Some.stored c.in-Some.item c.args.slots.now
-        in' k.in_range here c.if-stored-hash.true k.search)
-      (called_at g.F.FnMut c.eq.ensures c.if-eq.true))
+          (listed c.args.hash (home c.args.shift c.args.hash) c.args.slots.now)
+          (path_taken g.F.FnMut _ c.args.eq c.loop-place.eq c.args.hash (home c.args.shift c.args.hash) c.loop-place.place c.in-Some.stored c.in-Some.item c.args.slots.now
+          in' k.in_range here c.if-stored-hash.true k.search)
+          (called_at g.F.FnMut c.eq.ensures c.if-eq.true),
+    )
 
 pub loop-place-smaller : goal.loop-place-smaller
 loop-place-smaller g c =
@@ -58,7 +60,7 @@ loop-place-smaller g c =
     let here = read_at c.args.slots.now c.loop-place.place _ k.in_range c.index-slots-place.is ∙ c.in-Some.is in
     let full = is_full _ _ here in
     let more = free_farther (length c.args.slots.now) (home c.args.shift c.args.hash) c.loop-place.place c.args.slots.now in' k.in_range k.path full
-        (c.requires.free (some_places _ c.if-count-eq0.false)) in
+    (c.requires.free (some_places _ c.if-count-eq0.false)) in
     let next = next-step (length c.args.slots.now) (home c.args.shift c.args.hash) c.loop-place.place _ in' k.in_range more c.next_place-place.ensures in
     less-left (length c.args.slots.now) _ _ (distance-below (length c.args.slots.now) (home c.args.shift c.args.hash) c.loop-place.place in' k.in_range) next.1
 
@@ -69,24 +71,24 @@ loop-place-preserved g c =
     let here = read_at c.args.slots.now c.loop-place.place _ k.in_range c.index-slots-place.is ∙ c.in-Some.is in
     let full = is_full _ _ here in
     let more = free_farther (length c.args.slots.now) (home c.args.shift c.args.hash) c.loop-place.place c.args.slots.now in' k.in_range k.path full
-        (c.requires.free (some_places _ c.if-count-eq0.false)) in
+    (c.requires.free (some_places _ c.if-count-eq0.false)) in
     let next = next-step (length c.args.slots.now) (home c.args.shift c.args.hash) c.loop-place.place _ in' k.in_range more c.next_place-place.ensures in
     record {
       in_range = next.0;
       path = path_more (length c.args.slots.now) (home c.args.shift c.args.hash) c.loop-place.place c.args.slots.now in' k.in_range k.path full c.next_place-place.result next.1;
       search = path_moved g.F.FnMut _ c.args.eq c.else-stored-hash.eq c.args.hash (home c.args.shift c.args.hash) _ _ c.args.slots.now next.1
-        (elim c.else-stored-hash.branch [
-          else-stored-hash-via-then-stored-hash+else-eq w ↦
-            searching_refuses g.F.FnMut _ c.args.eq c.loop-place.eq c.else-stored-hash.eq (c.loop-place.place, c.in-Some.item) _
-            (path_taken g.F.FnMut _ c.args.eq c.loop-place.eq c.args.hash (home c.args.shift c.args.hash) c.loop-place.place c.in-Some.stored c.in-Some.item c.args.slots.now
-              in' k.in_range here w.if-stored-hash.true k.search)
-            (subst (λ f. CalledAt g.F.FnMut c.loop-place.eq c.in-Some.item false f) (sym w.eq-is) (called_at g.F.FnMut w.eq.ensures w.if-eq.false))
-          | else-stored-hash-via-else-stored-hash w ↦
-            searching_as g.F.FnMut _ _ c.args.eq c.loop-place.eq c.else-stored-hash.eq w.eq-is
-            (path_skipped g.F.FnMut _ c.args.eq c.loop-place.eq c.args.hash (home c.args.shift c.args.hash) c.loop-place.place c.in-Some.stored c.in-Some.item c.args.slots.now
-              in' k.in_range here w.if-stored-hash.false k.search)
-        ]) }
-
+          (elim c.else-stored-hash.branch [
+            | else-stored-hash-via-then-stored-hash+else-eq w ↦
+                searching_refuses g.F.FnMut _ c.args.eq c.loop-place.eq c.else-stored-hash.eq (c.loop-place.place, c.in-Some.item) _
+                (path_taken g.F.FnMut _ c.args.eq c.loop-place.eq c.args.hash (home c.args.shift c.args.hash) c.loop-place.place c.in-Some.stored c.in-Some.item c.args.slots.now
+                in' k.in_range here w.if-stored-hash.true k.search)
+                (subst (λ f. CalledAt g.F.FnMut c.loop-place.eq c.in-Some.item false f) (sym w.eq-is) (called_at g.F.FnMut w.eq.ensures w.if-eq.false))
+            | else-stored-hash-via-else-stored-hash w ↦
+                searching_as g.F.FnMut _ _ c.args.eq c.loop-place.eq c.else-stored-hash.eq w.eq-is
+                (path_skipped g.F.FnMut _ c.args.eq c.loop-place.eq c.args.hash (home c.args.shift c.args.hash) c.loop-place.place c.in-Some.stored c.in-Some.item c.args.slots.now
+                in' k.in_range here w.if-stored-hash.false k.search)
+          ]);
+    }
 
 pub returns-then-count-eq0 : goal.returns-then-count-eq0
 returns-then-count-eq0 g c = (c.args.eq, searches_none g.F.FnMut c.args.hash c.args.slots.now c.args.eq c.if-count-eq0.true)
@@ -95,8 +97,9 @@ pub returns : goal.returns
 returns g c =
     let k = c.loop-place.invariant in
     let in' = home_in (length c.args.slots.now) c.args.shift c.args.hash c.if-count-eq0.false c.requires.places c.ranges.hash.fits in
-    let here = read_at c.args.slots.now c.loop-place.place _ k.in_range c.index-slots-place.is ∙ c.in_default.is in
-    (c.loop-place.eq,
+    let here = read_at c.args.slots.now c.loop-place.place _ k.in_range c.index-slots-place.is ∙ c.in_default.is in (
+      c.loop-place.eq,
       searching_ends g.F.FnMut (holders_in c.args.hash c.args.slots.now) _ _ c.args.eq c.loop-place.eq
-      (listed c.args.hash (home c.args.shift c.args.hash) c.args.slots.now)
-      (nothing_left c.args.shift c.args.hash c.loop-place.place _ c.args.slots.now in' k.in_range refl here c.requires.in_place) k.search)
+          (listed c.args.hash (home c.args.shift c.args.hash) c.args.slots.now)
+          (nothing_left c.args.shift c.args.hash c.loop-place.place _ c.args.slots.now in' k.in_range refl here c.requires.in_place) k.search,
+    )

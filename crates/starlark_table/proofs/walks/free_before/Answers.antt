@@ -31,4 +31,5 @@ loop-place-preserved g c =
     record {
       in_range = next.0;
       near = rw next.1 short;
-      path = path_more (length c.args.slots.now) c.args.start c.loop-place.place c.args.slots.now c.requires.start k.in_range k.path some c.next_place-place.result next.1 }
+      path = path_more (length c.args.slots.now) c.args.start c.loop-place.place c.args.slots.now c.requires.start k.in_range k.path some c.next_place-place.result next.1;
+    }

@@ -13,4 +13,5 @@ invariant-loop-slot g l = record {
   few : l.kept ≤ l.slot-index;
   stand : StandsIn l.initial.slots l.slots;
   done : (rest : List (ℕ × _)) → RetainsInTurn (AsksMember g.F.FnMut) l.f (filled (drop l.slot-index l.initial.slots)) rest
-    → RetainsInTurn (AsksMember g.F.FnMut) l.fn.f (filled l.initial.slots) (filled (take l.slot-index l.slots) ++ rest) }
+      → RetainsInTurn (AsksMember g.F.FnMut) l.fn.f (filled l.initial.slots) (filled (take l.slot-index l.slots) ++ rest);
+}

@@ -8,4 +8,5 @@ invariant-loop-slot g l = record {
   callable : CanReplace g.F.FnMut (items_in (drop l.slot-index l.initial.slots)) l.f;
   untouched : drop l.slot-index l.slots ≡ drop l.slot-index l.initial.slots;
   done : (rest : List (Option (ℕ × _))) (last : _) → ReplacesEach g.F.FnMut l.f (drop l.slot-index l.initial.slots) rest last
-    → ReplacesEach g.F.FnMut l.fn.f l.initial.slots (take l.slot-index l.slots ++ rest) last }
+      → ReplacesEach g.F.FnMut l.fn.f l.initial.slots (take l.slot-index l.slots ++ rest) last;
+}

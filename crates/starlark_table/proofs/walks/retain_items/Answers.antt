@@ -20,7 +20,7 @@ settle-requires-clause-reaches g c =
     let stand = c.keep_items-kept.ensures.stand in
     subst (λ n. ReachesBefore n c.args.shift c.keep_items-kept.new.slots c.free_place-start.result) (sym stand.sized)
     (reaches_before (length c.args.slots.now) c.args.shift c.free_place-start.result c.args.slots.now c.keep_items-kept.new.slots refl
-      c.free_place-start.ensures.in_range c.free_place-start.ensures.empty c.requires.in_place stand)
+    c.free_place-start.ensures.in_range c.free_place-start.ensures.empty c.requires.in_place stand)
 
 pub returns-clause-counted : goal.returns-clause-counted
 returns-clause-counted g c = c.keep_items-kept.ensures.counted ∙ sym (length_permutation _ _ c.settle.ensures.bag)

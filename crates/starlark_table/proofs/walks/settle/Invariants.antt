@@ -11,4 +11,5 @@ invariant-loop-step g l = record {
   start_in : l.start < l.count;
   reaches : ReachesBefore l.count l.shift l.slots l.start;
   settled : Settled l.count l.shift l.start l.slots l.step;
-  bag : IsPermutation (filled l.initial.slots) (filled l.slots) }
+  bag : IsPermutation (filled l.initial.slots) (filled l.slots);
+}

@@ -11,6 +11,6 @@ left k len additional needed room e f h = omega arith
 
 pub returns-clause-ok : goal.returns-clause-ok
 returns-clause-ok g c =
-  on_ok c.grow.result c.grow.ensures.ok
+    on_ok c.grow.result c.grow.ensures.ok
     (λ h. left (table_len c.args.self.now) c.self.inside.len c.args.additional c.in-Some.needed c.grow.new.self.room
-      (c.self.invariant.counted ∙ ap table_len c.self.view_is) c.in-Some.ensures.1 h)
+    (c.self.invariant.counted ∙ ap table_len c.self.view_is) c.in-Some.ensures.1 h)
