@@ -1,14 +1,12 @@
 -- How many members the slots hold.
-use Rattle.std.proofs.Common.{◌≡◌, ◌≢◌, ℕ, zero, suc, add-one, replicate, append_assoc, append-nil, length-append, ◌+◌, ◌-◌, ◌*◌, ◌/◌, ◌^◌, ◌<◌, ◌≤◌, ◌⊎◌, List, [], ◌∷◌, ◌++◌, length, Option, Some, None, IsSome, get_or, arith, refl, IsPermutation, IfSome, is_some, true, sym, ◌∙◌, ap, subst, inl, inr}
-use Rattle.std.proofs.lemmas.List.Sorted.{length_permutation, IsPermutation-trans, IsPermutation-cons, IsPermutation-append_right, IsPermutation-refl, IsPermutation-sym}
-use Rattle.std.proofs.lemmas.List.{get_or-set_other, get_or-set_same, length-replicate}
+use Rattle.std.proofs.Common.{◌≡◌, ◌≢◌, ℕ, zero, suc, add-one, replicate, append_assoc, append-nil, length-append, ◌+◌, ◌-◌, ◌*◌, ◌^◌, ◌<◌, ◌≤◌, List, [], ◌∷◌, ◌++◌, length, Option, Some, None, arith, refl, IsPermutation, IfSome, is_some, true, sym, ◌∙◌, ap, subst, inl, inr}
+use Rattle.std.proofs.lemmas.List.Sorted.{length_permutation, IsPermutation-trans, IsPermutation-cons, IsPermutation-append_right}
+use Rattle.std.proofs.lemmas.List.{get_or-set_other, length-replicate}
 use Rattle.std.proofs.Math.ListN.{set, length-set}
-use Rattle.std.proofs.lemmas.Nat.{pow_pos}
 use Rattle.std.proofs.Math.Nat.{pow-le-pow_right, mul-le-mul_left}
 use Rattle.starlark_table.specs.Table.{filled}
-use Rattle.starlark_table.specs.Layout.{at, limit, InPlace, HasGap, IsShift, IsSound}
+use Rattle.starlark_table.specs.Layout.{at, limit, InPlace, IsShift, IsSound}
 use Rattle.starlark_table.proofs.Bag.{filled-set_none, filled-set_some}
-use Rattle.starlark_table.proofs.Closing.{gap_left, full_in_range}
 
 pub limit_below : (m n : ℕ) → n ≤ limit m → 4 ≤ m → n < m
 limit_below m n load some = omega arith

@@ -1,5 +1,5 @@
 -- Bags of pairs of numbers: counted by tests, filtered, and without a member that both have.
-use Rattle.std.proofs.Common.{◌≡◌, ℕ, zero, suc, ◌+◌, ◌<◌, ◌≤◌, List, [], ◌∷◌, ◌++◌, Bool, true, false, ◌&&◌, nat_eq, count_by, arith, refl, IsPermutation, sym, ◌∙◌, ap, subst, if◌then◌else◌, sum_by, eq-eqb, length, cond, zero-add}
+use Rattle.std.proofs.Common.{◌≡◌, ℕ, ◌+◌, ◌<◌, List, [], ◌∷◌, ◌++◌, Bool, true, false, ◌&&◌, nat_eq, arith, refl, IsPermutation, sym, ◌∙◌, ap, subst, sum_by, eq-eqb, cond, zero-add}
 use Rattle.std.proofs.lemmas.List.Sorted.{IsPermutation-refl, IsPermutation-sym, IsPermutation-trans, IsPermutation-cons, IsPermutation-middle, sum_by-IsPermutation}
 use Rattle.std.proofs.lemmas.Bool.{and_parts}
 use Rattle.std.proofs.lemmas.Bool.Decides.{nat_tests}

@@ -1,17 +1,11 @@
 -- The search for a hash along its probe path.
-use Rattle.std.proofs.Common.{◌≡◌, ℕ, zero, suc, zero-add, length-drop, ◌+◌, ◌<◌, ◌≤◌, ◌==◌, List, [], ◌∷◌, ◌++◌, length, Option, Some, None, IsSome, Bool, true, false, nat_eq, slice_index_or, get_or, take, drop, arith, refl, rules, IsPermutation, length-append, sym, ◌∙◌, ap, subst, add-one, drop-cons, add_assoc, if◌then◌else◌, eq-eqb, MatchBool}
+use Rattle.std.proofs.Common.{◌≡◌, ℕ, zero, suc, zero-add, length-drop, ◌+◌, ◌<◌, ◌≤◌, List, [], ◌∷◌, ◌++◌, length, Option, Some, None, IsSome, true, false, nat_eq, get_or, take, drop, arith, refl, IsPermutation, sym, ◌∙◌, ap, subst, add-one, drop-cons, if◌then◌else◌, eq-eqb}
 use Rattle.std.proofs.lemmas.Bool.{ne_eqb}
-use Rattle.std.proofs.lemmas.Bool.Decides.{nat_tests}
 use Rattle.std.proofs.lemmas.List.{get_or-drop, get_or_default, take-append-drop}
-use Rattle.std.proofs.lemmas.List.Elements.{All-cons, All-head, All-tail, All-push}
+use Rattle.std.proofs.lemmas.List.Elements.{All-head, All-tail}
 use Rattle.std.proofs.lemmas.List.FromFn.{length-enumerate_from, get_or-enumerate_from}
 use Rattle.std.proofs.lemmas.List.Sorted.{IsPermutation-append_comm}
-use Rattle.std.proofs.lemmas.Fn.{FoldsTo-push}
-use Rattle.std.specs.List.{enumerate_from, All, FoldsTo, Contains}
-use denote.Param.Members.{Mut, Called}
-use denote.Ref.{Bor}
-use Rattle.std.specs.Fn.{CalledAt}
-use Rattle.std.proofs.lemmas.Fn.{called_at}
+use Rattle.std.specs.List.{enumerate_from, All, Contains}
 use Rattle.starlark_table.specs.Table.{holders, holders_in, filled}
 use Rattle.starlark_table.specs.Layout.{distance, home, at, InPlace}
 use Rattle.starlark_table.proofs.Lists.{drop_all}

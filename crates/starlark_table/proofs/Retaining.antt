@@ -1,5 +1,5 @@
 -- The walk that asks about each member whether it is to be kept.
-use Rattle.std.proofs.Common.{◌≡◌, ℕ, zero, suc, ◌+◌, ◌<◌, ◌≤◌, ◌++◌, ◌∷◌, [], List, Option, Some, None, Bool, true, false, cond, take, drop, arith, refl, sym, ◌∙◌, ap, subst, length, get_or, append_assoc, append-nil, length-append, inl, inr, if◌then◌else◌, IfSome}
+use Rattle.std.proofs.Common.{◌≡◌, ℕ, suc, ◌+◌, ◌<◌, ◌≤◌, ◌++◌, ◌∷◌, [], List, Option, Some, None, Bool, true, false, cond, take, drop, arith, refl, sym, ◌∙◌, ap, subst, length, get_or, append_assoc, append-nil, length-append, inl, inr, if◌then◌else◌, IfSome}
 use Rattle.std.specs.Borrow.{MutBor}
 use Rattle.std.specs.Fn.{Mut, CalledAtMut}
 use Rattle.std.specs.List.Retain.{RetainsInTurn}

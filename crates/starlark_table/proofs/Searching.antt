@@ -7,7 +7,7 @@ use Rattle.std.proofs.lemmas.List.Sorted.{IsPermutation-refl}
 use Rattle.starlark_hash.specs.Search.{Asks, Refuses, Searches, CanSearch}
 use Rattle.starlark_table.specs.Table.{holders, holders_in}
 use Rattle.starlark_table.specs.Layout.{distance, at}
-use Rattle.starlark_table.proofs.Path.{path_from, path-taken, path-skipped, listed}
+use Rattle.starlark_table.proofs.Path.{path_from, path-taken, path-skipped}
 
 module _ {F T : Type 0} (g : Mut F (Bor T × Unit {0}) Bool) where
   -- first refused the items before those left, and is now f

@@ -1,5 +1,5 @@
 -- Members that move back towards their homes, one after another round the circle from an empty place that no way leads over.
-use Rattle.std.proofs.Common.{◌≡◌, ℕ, ◌+◌, ◌<◌, ◌≤◌, ◌⊎◌, List, length, Option, Some, None, IsSome, get_or, arith, refl, IsPermutation, sym, ◌∙◌, ap, subst, inl, inr}
+use Rattle.std.proofs.Common.{◌≡◌, ℕ, ◌+◌, ◌<◌, ◌≤◌, ◌⊎◌, List, length, Option, Some, None, IsSome, arith, IsPermutation, sym, ◌∙◌, ap, subst, inl, inr}
 use Rattle.std.specs.List.{swap}
 use Rattle.std.proofs.Math.ListN.{set}
 use Rattle.std.proofs.lemmas.Bool.{cases_order}

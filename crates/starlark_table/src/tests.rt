@@ -79,16 +79,15 @@ fn finds_what_is_left(rt: HostRuntime) -> Result<(), Fail> {
 #[test]
 fn takes_in_as_much_as_goes(rt: HostRuntime) -> Result<(), Fail> {
     let mut table = ReadyTable::with_capacity(rt.alloc(), 12)?;
-    let mut next = 0u64;
-    while table.room() > 0 && next < 100 {
-        table.insert_unique(next, next)?;
-        next += 1;
+    let room = table.room() as u64;
+    for item in 0..room {
+        table.insert_unique(item, item)?;
     }
     assert_eq!(rt; table.room(), 0);
     for round in 0u64..1000 {
         let slot = table.find(round, |item| *item == round).ok_or("lost")?;
         assert_eq!(rt; table.remove(slot), Some((round, round)));
-        let item = round + next;
+        let item = room.wrapping_add(round);
         assert!(rt; table.insert_unique(item, item).is_ok());
     }
     assert_eq!(rt; table.room(), 0);

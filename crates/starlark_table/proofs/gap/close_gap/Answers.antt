@@ -1,10 +1,8 @@
-use Rattle.std.proofs.Common.{◌≡◌, ◌≢◌, ℕ, ◌+◌, ◌-◌, ◌*◌, ◌^◌, ◌<◌, ◌≤◌, ◌⊎◌, List, length, IsPermutation, inl, inr, arith, refl, get_or, Some, None, Option, sym, ◌∙◌, subst, ap, if◌then◌else◌, ◌==◌}
-use Rattle.starlark_table.specs.Layout.{distance, home, at, InPlace, HasGap}
-use Rattle.starlark_table.proofs.Circle.{home-below, distance-next, next-below, distance-self, distance-below, distance-same, less-left}
-use Rattle.starlark_table.proofs.Path.{read_at}
-use Rattle.starlark_table.proofs.Closing.{Closing, starts, read_known, swapped_slots, closed, goes_on, one_on, stays, moves, Moved}
-use Rattle.std.proofs.lemmas.List.Sorted.{IsPermutation-refl, IsPermutation-trans, IsPermutation-sym}
-use Rattle.starlark_table.proofs.Bag.{filled-set_some}
+use Rattle.std.proofs.Common.{◌<◌, ◌≤◌, length, refl, sym, subst}
+use Rattle.starlark_table.specs.Layout.{distance, home, InPlace}
+use Rattle.starlark_table.proofs.Circle.{distance-below, less-left}
+use Rattle.starlark_table.proofs.Closing.{starts, read_known, swapped_slots, closed, one_on, stays, moves}
+use Rattle.std.proofs.lemmas.List.Sorted.{IsPermutation-refl, IsPermutation-trans}
 use Rattle.starlark_table.proofs.gap.close_gap.Goals as goal
 use Rattle.starlark_table.proofs.gap.close_gap.Goals.{then-distance, else-distance}
 

@@ -1,6 +1,6 @@
-use Rattle.std.proofs.Common.{◌≡◌, ℕ, ◌+◌, ◌-◌, ◌<◌, ◌≤◌, List, Option, length, IsSome, IsPermutation}
+use Rattle.std.proofs.Common.{◌≡◌, ◌-◌, length, IsPermutation}
 use Rattle.starlark_table.specs.Table.{filled}
-use Rattle.starlark_table.specs.Layout.{distance, at}
+use Rattle.starlark_table.specs.Layout.{distance}
 use Rattle.starlark_table.proofs.Closing.{Closing}
 use Rattle.starlark_table.proofs.gap.close_gap.Given as goal
 

@@ -1,9 +1,9 @@
-use Rattle.std.proofs.Common.{◌≡◌, ◌≢◌, ℕ, ◌+◌, ◌-◌, ◌*◌, ◌^◌, ◌<◌, ◌≤◌, List, length, Option, Some, None, IsSome, arith, refl, sym, ◌∙◌, subst, ap, get_or, IsPermutation}
+use Rattle.std.proofs.Common.{◌≡◌, ◌≢◌, ℕ, ◌<◌, length, None, arith, refl, sym, ◌∙◌, subst, IsPermutation}
 use Rattle.std.proofs.Math.ListN.{set, length-set}
 use Rattle.starlark_table.specs.Table.{filled}
 use Rattle.starlark_table.specs.Layout.{at, HasGap}
 use Rattle.starlark_table.proofs.Closing.{read_known, gap_left}
-use Rattle.starlark_table.proofs.Load.{another_empty, placed, small, taken_bag, sound_without}
+use Rattle.starlark_table.proofs.Load.{another_empty, placed, small, taken_bag}
 use Rattle.starlark_table.proofs.gap.take_out.Goals as goal
 
 pub close_gap-requires-clause-fits : goal.close_gap-requires-clause-fits

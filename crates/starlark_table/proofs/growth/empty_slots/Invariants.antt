@@ -1,4 +1,4 @@
-use Rattle.std.proofs.Common.{◌≡◌, ℕ, ◌≤◌, replicate, None, vec_capacity}
+use Rattle.std.proofs.Common.{◌≡◌, ◌≤◌, replicate, None, vec_capacity}
 use Rattle.starlark_table.proofs.growth.empty_slots.Given as goal
 
 abbrev pub invariant-loop-made : goal.invariant-loop-made

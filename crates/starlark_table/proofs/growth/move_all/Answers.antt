@@ -1,7 +1,6 @@
-use Rattle.std.proofs.Common.{◌≡◌, ℕ, ◌+◌, ◌-◌, ◌*◌, ◌/◌, ◌^◌, ◌<◌, ◌≤◌, ◌++◌, ◌∷◌, [], length, Some, None, arith, sym, ◌∙◌, ap, subst, IsPermutation, length-append, refl}
-use Rattle.std.proofs.lemmas.List.Sorted.{length_permutation, IsPermutation-append_comm}
+use Rattle.std.proofs.Common.{◌*◌, ◌^◌, ◌≤◌, ◌++◌, ◌∷◌, [], length, arith, sym, ◌∙◌, ap, subst, IsPermutation, length-append}
 use Rattle.starlark_table.specs.Table.{filled}
-use Rattle.starlark_table.specs.Layout.{limit, InPlace, at}
+use Rattle.starlark_table.specs.Layout.{limit}
 use Rattle.starlark_table.proofs.Load.{moved_none, moved_some, room_left}
 use Rattle.starlark_table.proofs.growth.move_all.Goals as goal
 

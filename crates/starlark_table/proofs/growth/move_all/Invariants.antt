@@ -1,6 +1,6 @@
-use Rattle.std.proofs.Common.{◌≡◌, ℕ, ◌+◌, ◌*◌, ◌^◌, ◌≤◌, ◌++◌, length, vec_len, IsPermutation}
+use Rattle.std.proofs.Common.{◌≡◌, ◌++◌, length, vec_len, IsPermutation}
 use Rattle.starlark_table.specs.Table.{filled}
-use Rattle.starlark_table.specs.Layout.{InPlace, limit}
+use Rattle.starlark_table.specs.Layout.{InPlace}
 use Rattle.starlark_table.proofs.growth.move_all.Given as goal
 
 abbrev pub invariant-loop-slot : goal.invariant-loop-slot

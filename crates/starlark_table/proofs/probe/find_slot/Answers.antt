@@ -1,12 +1,11 @@
-use Rattle.std.proofs.Common.{ℕ, ◌≡◌, ◌+◌, ◌*◌, ◌^◌, ◌<◌, ◌⊎◌, ◌∷◌, [], length, inl, inr, arith, refl, sym, ◌∙◌, ap, subst, rules, IsSome, Some, None, false}
+use Rattle.std.proofs.Common.{ℕ, ◌≡◌, ◌*◌, ◌^◌, ◌<◌, ◌⊎◌, length, inl, inr, arith, refl, sym, ◌∙◌, ap, subst, false}
 use Rattle.std.specs.Fn.{CalledAt}
 use Rattle.std.proofs.lemmas.Fn.{called_at}
-use Rattle.starlark_table.specs.Table.{holders, holders_in}
-use Rattle.starlark_table.specs.Layout.{distance, home, at}
+use Rattle.starlark_table.specs.Table.{holders_in}
+use Rattle.starlark_table.specs.Layout.{distance, home}
 use Rattle.starlark_table.proofs.Circle.{home-below, distance-self, distance-below, next-step, less-left}
 use Rattle.starlark_table.proofs.Closing.{free_farther, path_more, is_full}
-use Rattle.starlark_table.proofs.Load.{placed}
-use Rattle.starlark_table.proofs.Path.{path_from, read_at, nothing_left, listed}
+use Rattle.starlark_table.proofs.Path.{read_at, nothing_left, listed}
 use Rattle.starlark_table.proofs.Searching.{searching_begins, searching_as, searches_none, searching_asks, searching_refuses, searching_accepts, searching_ends, path_taken, path_skipped, path_moved}
 use Rattle.starlark_table.proofs.probe.find_slot.Goals as goal
 use Rattle.starlark_table.proofs.probe.find_slot.Goals.{else-stored-hash-via-then-stored-hash+else-eq, else-stored-hash-via-else-stored-hash}

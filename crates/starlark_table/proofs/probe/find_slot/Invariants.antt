@@ -1,4 +1,4 @@
-use Rattle.std.proofs.Common.{◌≡◌, ℕ, ◌+◌, ◌-◌, ◌<◌, List, Option, length, IsSome}
+use Rattle.std.proofs.Common.{ℕ, ◌-◌, ◌<◌, length, IsSome}
 use Rattle.starlark_table.specs.Table.{holders}
 use Rattle.starlark_table.specs.Layout.{distance, home, at}
 use Rattle.starlark_table.proofs.Path.{path_from}

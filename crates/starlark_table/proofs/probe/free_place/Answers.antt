@@ -1,5 +1,4 @@
-use Rattle.std.proofs.Common.{◌≡◌, ℕ, ◌+◌, ◌-◌, ◌<◌, ◌≤◌, List, length, Option, Some, None, IsSome, arith, refl, sym, ◌∙◌, subst, ap, get_or, if◌then◌else◌, ◌==◌}
-use Rattle.starlark_table.specs.Layout.{distance, at}
+use Rattle.std.proofs.Common.{length, IsSome, arith, refl, sym, ◌∙◌, subst}
 use Rattle.starlark_table.proofs.Circle.{distance-self, distance-below, next-step, less-left}
 use Rattle.starlark_table.proofs.Closing.{read_known, free_farther, path_more}
 use Rattle.starlark_table.proofs.probe.free_place.Goals as goal

@@ -1,4 +1,4 @@
-use Rattle.std.proofs.Common.{◌≡◌, ℕ, ◌+◌, ◌-◌, ◌<◌, ◌≤◌, List, Option, length, IsSome}
+use Rattle.std.proofs.Common.{ℕ, ◌-◌, ◌<◌, length, IsSome}
 use Rattle.starlark_table.specs.Layout.{distance, at}
 use Rattle.starlark_table.proofs.probe.free_place.Given as goal
 

@@ -1,8 +1,8 @@
-use Rattle.std.proofs.Common.{◌≡◌, ℕ, ◌+◌, ◌-◌, ◌<◌, ◌≤◌, List, length, Option, Some, None, IsSome, arith, refl, sym, ◌∙◌, subst, ap, get_or}
+use Rattle.std.proofs.Common.{ℕ, ◌<◌, length, Some, IsSome, refl, sym, subst}
 use Rattle.starlark_table.specs.Layout.{distance, at, home, InPlace}
 use Rattle.std.proofs.Math.ListN.{set, length-set}
 use Rattle.starlark_table.proofs.Circle.{home-below}
-use Rattle.starlark_table.proofs.Closing.{read_known, put_in_place}
+use Rattle.starlark_table.proofs.Closing.{put_in_place}
 use Rattle.starlark_table.proofs.probe.put.Goals as goal
 
 pub free_place-place-requires-clause-start : goal.free_place-place-requires-clause-start

@@ -1,4 +1,4 @@
-use Rattle.std.proofs.Common.{rules, ◌≡◌, refl, sym, ap, true, false, Some, None, if◌then◌else◌}
+use Rattle.std.proofs.Common.{rules, sym, ap, Some, None, if◌then◌else◌}
 use Rattle.std.specs.Fn.{CalledAtMut}
 use Rattle.starlark_table.proofs.Retaining.{asked}
 use Rattle.starlark_table.proofs.walks.ask.Goals as goal

@@ -1,5 +1,4 @@
-use Rattle.std.proofs.Common.{◌≡◌, ◌<◌, ◌≤◌, ◌+◌, ℕ, length, IsSome, arith, refl, sym, ◌∙◌, subst, inl, inr}
-use Rattle.starlark_table.specs.Layout.{distance, at}
+use Rattle.std.proofs.Common.{◌<◌, ◌≤◌, ◌+◌, ℕ, length, IsSome, arith, refl, sym, ◌∙◌, subst}
 use Rattle.starlark_table.proofs.Circle.{distance-self, distance-below, next-step, less-left}
 use Rattle.starlark_table.proofs.Closing.{read_known, path_more}
 use Rattle.starlark_table.proofs.Settling.{short_of}

@@ -1,4 +1,4 @@
-use Rattle.std.proofs.Common.{◌≡◌, ◌≤◌, ◌<◌, ◌+◌, ◌∷◌, ℕ, Bool, true, false, cond, drop, get_or, arith, refl, sym, ap, ◌∙◌, subst, length, add-zero}
+use Rattle.std.proofs.Common.{◌≡◌, ◌≤◌, ◌<◌, ◌+◌, ℕ, Bool, true, false, cond, drop, get_or, arith, refl, sym, ap, ◌∙◌, subst, length, add-zero}
 use Rattle.starlark_table.specs.Table.{items_in, filled}
 use Rattle.starlark_table.specs.Walk.{CanRetain}
 use Rattle.starlark_table.proofs.Lists.{head_left, take_all, still_untouched}

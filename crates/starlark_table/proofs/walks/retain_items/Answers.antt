@@ -1,8 +1,7 @@
-use Rattle.std.proofs.Common.{ℕ, ◌≡◌, ◌<◌, ◌≤◌, ◌==◌, Bool, false, length, None, arith, refl, sym, ap, ◌∙◌, subst}
+use Rattle.std.proofs.Common.{ℕ, ◌≡◌, ◌<◌, ◌==◌, Bool, false, length, arith, refl, sym, ◌∙◌, subst}
 use Rattle.std.proofs.lemmas.Bool.Decides.{nat_tests}
 use Rattle.std.proofs.lemmas.List.Sorted.{length_permutation}
-use Rattle.starlark_table.specs.Table.{filled}
-use Rattle.starlark_table.specs.Layout.{limit, at, ReachesBefore}
+use Rattle.starlark_table.specs.Layout.{ReachesBefore}
 use Rattle.starlark_table.proofs.Load.{placed, four, some_empty, limit_below}
 use Rattle.starlark_table.proofs.Settling.{reaches_before}
 use Rattle.starlark_table.proofs.walks.retain_items.Goals as goal

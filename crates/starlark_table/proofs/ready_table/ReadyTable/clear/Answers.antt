@@ -1,6 +1,6 @@
-use Rattle.std.proofs.Common.{ℕ, ◌≡◌, length, None, List, [], sym, ◌∙◌, ap, subst}
+use Rattle.std.proofs.Common.{length, sym, ◌∙◌, ap, subst}
 use Rattle.std.proofs.lemmas.List.{with_items_is}
-use Rattle.starlark_table.specs.Layout.{IsSound, at}
+use Rattle.starlark_table.specs.Layout.{IsSound}
 use Rattle.starlark_table.specs.Table.{filled}
 use Rattle.starlark_table.proofs.Sound.{emptied, filled-none}
 use Rattle.starlark_table.proofs.ready_table.ReadyTable.clear.Goals as goal

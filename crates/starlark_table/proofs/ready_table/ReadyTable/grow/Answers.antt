@@ -1,9 +1,9 @@
-use Rattle.std.proofs.Common.{◌≡◌, ◌≢◌, ℕ, ◌+◌, ◌-◌, ◌*◌, ◌^◌, ◌<◌, ◌≤◌, List, length, Option, Some, None, IsSome, arith, refl, sym, ◌∙◌, subst, ap, get_or, IsPermutation, ◌++◌, append-nil, replicate}
+use Rattle.std.proofs.Common.{◌≡◌, ℕ, ◌+◌, ◌-◌, ◌<◌, ◌≤◌, length, None, arith, sym, ◌∙◌, subst, ap, IsPermutation}
 use Rattle.std.proofs.lemmas.List.{with_items_is, length-replicate}
 use Rattle.std.specs.Vec.{with_items}
 use Rattle.starlark_table.specs.Table.{filled}
-use Rattle.starlark_table.specs.Layout.{at, limit, InPlace, IsSound}
-use Rattle.starlark_table.proofs.Load.{grown, full_room, filled-replicate}
+use Rattle.starlark_table.specs.Layout.{limit, IsSound}
+use Rattle.starlark_table.proofs.Load.{grown, filled-replicate}
 use Rattle.starlark_table.proofs.ready_table.ReadyTable.grow.Goals as goal
 
 load_fits : (k len m needed count : ℕ) → len ≡ k → len ≤ limit m → k + (limit m - len) < needed → needed ≤ limit count → len ≤ limit count

@@ -1,8 +1,8 @@
-use Rattle.std.proofs.Common.{◌≡◌, ◌≢◌, ℕ, ◌+◌, ◌-◌, ◌*◌, ◌^◌, ◌<◌, ◌≤◌, List, length, Option, Some, None, IsSome, arith, refl, sym, ◌∙◌, subst, ap, get_or, IsPermutation, ◌∷◌}
+use Rattle.std.proofs.Common.{◌≡◌, ℕ, ◌+◌, ◌-◌, ◌<◌, ◌≤◌, length, None, arith, sym, ◌∙◌, subst, ap, IsPermutation, ◌∷◌}
 use Rattle.std.proofs.lemmas.List.{with_items_is}
 use Rattle.std.proofs.lemmas.List.Sorted.{IsPermutation-trans, IsPermutation-cons, length_permutation}
 use Rattle.starlark_table.specs.Table.{filled, members, table_len}
-use Rattle.starlark_table.specs.Layout.{at, limit, InPlace, IsSound}
+use Rattle.starlark_table.specs.Layout.{at, limit, IsSound}
 use Rattle.starlark_table.proofs.Load.{inserted, full_room, room_for_one}
 use Rattle.starlark_table.proofs.ready_table.ReadyTable.insert_unique.Goals as goal
 

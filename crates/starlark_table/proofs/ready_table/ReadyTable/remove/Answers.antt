@@ -1,7 +1,7 @@
-use Rattle.std.proofs.Common.{◌≡◌, ◌≢◌, ℕ, ◌+◌, ◌-◌, ◌*◌, ◌^◌, ◌<◌, ◌≤◌, List, length, Option, Some, None, IsSome, arith, refl, sym, ◌∙◌, subst, ap, get_or, IsPermutation}
+use Rattle.std.proofs.Common.{◌≡◌, ◌+◌, ◌-◌, length, sym, ◌∙◌, subst, ap}
 use Rattle.std.proofs.lemmas.List.{with_items_is}
 use Rattle.starlark_table.specs.Table.{filled}
-use Rattle.starlark_table.specs.Layout.{at, limit, InPlace, IsSound}
+use Rattle.starlark_table.specs.Layout.{limit, IsSound}
 use Rattle.starlark_table.proofs.Load.{taken_sound_via, full_room}
 use Rattle.starlark_table.proofs.ready_table.ReadyTable.remove.Goals as goal
 

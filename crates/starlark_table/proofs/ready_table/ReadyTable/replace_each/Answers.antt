@@ -1,5 +1,4 @@
-use Rattle.std.proofs.Common.{sym, ◌∙◌, ap, subst}
-use Rattle.std.specs.Fn.{CalledAt}
+use Rattle.std.proofs.Common.{sym, ◌∙◌, subst}
 use Rattle.std.proofs.lemmas.List.{with_items_is}
 use Rattle.starlark_table.specs.Layout.{IsSound}
 use Rattle.starlark_table.specs.Walk.{ReplacesEach}

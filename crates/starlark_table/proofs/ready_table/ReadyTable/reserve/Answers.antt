@@ -1,5 +1,5 @@
-use Rattle.std.proofs.Common.{◌≡◌, ℕ, ◌+◌, ◌≤◌, length, arith, sym, ◌∙◌, ap, OnOk, Result, Ok, Err}
-use Rattle.starlark_table.specs.Table.{filled, table_len}
+use Rattle.std.proofs.Common.{◌≡◌, ℕ, ◌+◌, ◌≤◌, arith, ◌∙◌, ap, OnOk, Result, Ok, Err}
+use Rattle.starlark_table.specs.Table.{table_len}
 use Rattle.starlark_table.proofs.ready_table.ReadyTable.reserve.Goals as goal
 
 on_ok : {X E : Type 0} {A B : Type 0} (r : Result X E) → OnOk r A → (A → B) → OnOk r B

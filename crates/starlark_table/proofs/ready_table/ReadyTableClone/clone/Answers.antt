@@ -1,7 +1,7 @@
-use Rattle.std.proofs.Common.{ℕ, ◌≡◌, ◌-◌, length, Some, ap, sym, subst}
+use Rattle.std.proofs.Common.{◌-◌, ap}
 use Rattle.std.specs.List.{AllZip}
 use Rattle.starlark_table.specs.Layout.{limit}
-use Rattle.starlark_table.specs.Table.{IsSlotClone, IsTableClone}
+use Rattle.starlark_table.specs.Table.{IsSlotClone}
 use Rattle.starlark_table.proofs.Shape.{slots_cloned, shape-cloned, reshaped, same_length}
 use Rattle.starlark_table.proofs.ready_table.ReadyTableClone.clone.Goals as goal
 
