@@ -13,7 +13,7 @@ use crate::fault::PlayFault;
 use crate::output::write_line;
 use starlark_hash::Hashed;
 use starlark_hash::text_key::TextKey;
-use starlark_small::SmallMap;
+use starlark_small::{IterHashed, SmallMap};
 use std::alloc::Global;
 use std::io::Write;
 
@@ -37,7 +37,7 @@ pub fn answer<W: Write>(
         }
         Command::Get(key) => write_value(writer, get(map, key)),
         Command::Len => write_line(writer, format_args!("{}", map.len())),
-        Command::Walk => write_entries(writer, map),
+        Command::Walk => write_entries(writer, map.iter_hashed()),
     }
 }
 
@@ -75,11 +75,14 @@ fn write_value<W: Write>(writer: &mut W, value: Option<i64>) -> Result<(), PlayF
     }
 }
 
-fn write_entries<W: Write>(writer: &mut W, map: &SmallMap<String, i64>) -> Result<(), PlayFault>
-    ensures ok { OnOk result (Appends (W.contents writer.old) (W.contents writer.new) (flat_map entry_text (entries_of map.now.entries))) }
+fn write_entries<W: Write>(
+    writer: &mut W,
+    entries: IterHashed<'_, String, i64>,
+) -> Result<(), PlayFault>
+    ensures ok { OnOk result (Appends (W.contents writer.old) (W.contents writer.new) (flat_map entry_text (entries_of entries.entry))) }
     ensures err { IfErr result (λ fault. fault ≡ PlayFault.Io) }
 {
-    for (key, value) in map.iter_hashed() {
+    for (key, value) in entries {
         let hash = key.hash().get();
         let key = key.into_key();
         write_line(writer, format_args!("{hash} {key} {value}"))?;

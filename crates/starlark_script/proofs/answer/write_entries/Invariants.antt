@@ -11,6 +11,6 @@ use Rattle.starlark_script.proofs.answer.write_entries.Given as goal
 abbrev pub invariant-loop-key : goal.invariant-loop-key
 invariant-loop-key g l =
     record {
-      taken : l.fn.map.entries ≡ map deref_entry l.yielded ++ l.key-iterator;
+      taken : l.fn.entries ≡ map deref_entry l.yielded ++ l.key-iterator;
       written : Appends (g.W.Write.contents l.fn.writer) (g.W.Write.contents l.writer) (flat_map entry_text (entries_of (map deref_entry l.yielded)));
     }
