@@ -1,0 +1,95 @@
+-- A list of pairs and its two columns, which are as long.
+use Rattle.std.proofs.Common.{◌≡◌, ℕ, zero, suc, ◌+◌, ◌<◌, ◌≤◌, List, [], ◌∷◌, ◌++◌, map, length, take, drop, zip, slice_get, get_or, set, reverse, remove, Some, None, refl, sym, ap, ◌∙◌, arith}
+use Rattle.std.proofs.lemmas.List.{reverse-append, length-reverse}
+use Rattle.std.specs.List.{refill}
+use Rattle.starlark_vec2.specs.PairList.{firsts_of, seconds_of}
+use Rattle.starlark_vec2.specs.Lending.{set_first_at, set_second_at, set_firsts, set_seconds}
+
+module _ {A B : Type 0} where
+  pub length-zip : (xs : List A) (ys : List B) → length xs ≡ length ys → length (zip xs ys) ≡ length xs
+  length-zip [] ys e = refl
+  length-zip (x ∷ xs) [] e = absurd (omega (arith, e))
+  length-zip (x ∷ xs) (y ∷ ys) e = let rest : length xs ≡ length ys = omega (arith, e) in omega (arith, length-zip xs ys rest)
+
+  pub firsts_of-zip : (xs : List A) (ys : List B) → length xs ≡ length ys → firsts_of (zip xs ys) ≡ xs
+  firsts_of-zip [] ys e = refl
+  firsts_of-zip (x ∷ xs) [] e = absurd (omega (arith, e))
+  firsts_of-zip (x ∷ xs) (y ∷ ys) e = let rest : length xs ≡ length ys = omega (arith, e) in ap (λ l. x ∷ l) (firsts_of-zip xs ys rest)
+
+  pub seconds_of-zip : (xs : List A) (ys : List B) → length xs ≡ length ys → seconds_of (zip xs ys) ≡ ys
+  seconds_of-zip [] [] e = refl
+  seconds_of-zip [] (y ∷ ys) e = absurd (omega (arith, e))
+  seconds_of-zip (x ∷ xs) [] e = absurd (omega (arith, e))
+  seconds_of-zip (x ∷ xs) (y ∷ ys) e = let rest : length xs ≡ length ys = omega (arith, e) in ap (λ l. y ∷ l) (seconds_of-zip xs ys rest)
+
+  pub zip_nil : (xs : List A) → ◌≡◌ {A = List (A × B)} (zip xs []) []
+  zip_nil [] = refl
+  zip_nil (x ∷ xs) = refl
+
+  pub zip-append : (xs xs2 : List A) (ys ys2 : List B) → length xs ≡ length ys → zip (xs ++ xs2) (ys ++ ys2) ≡ zip xs ys ++ zip xs2 ys2
+  zip-append [] xs2 [] ys2 e = refl
+  zip-append [] xs2 (y ∷ ys) ys2 e = absurd (omega (arith, e))
+  zip-append (x ∷ xs) xs2 [] ys2 e = absurd (omega (arith, e))
+  zip-append (x ∷ xs) xs2 (y ∷ ys) ys2 e = let rest : length xs ≡ length ys = omega (arith, e) in ap (λ l. (x, y) ∷ l) (zip-append xs xs2 ys ys2 rest)
+
+  pub zip_push : (xs : List A) (ys : List B) (x : A) (y : B) → length xs ≡ length ys → zip (xs ++ x ∷ []) (ys ++ y ∷ []) ≡ zip xs ys ++ (x, y) ∷ []
+  zip_push xs ys x y e = zip-append xs (x ∷ []) ys (y ∷ []) e
+
+  pub zip-take : (n : ℕ) (xs : List A) (ys : List B) → zip (take n xs) (take n ys) ≡ take n (zip xs ys)
+  zip-take zero xs ys = refl
+  zip-take (suc n) [] ys = refl
+  zip-take (suc n) (x ∷ xs) [] = refl
+  zip-take (suc n) (x ∷ xs) (y ∷ ys) = ap (λ l. (x, y) ∷ l) (zip-take n xs ys)
+
+  pub zip-remove : (xs : List A) (ys : List B) (i : ℕ) → zip (remove xs i) (remove ys i) ≡ remove (zip xs ys) i
+  zip-remove [] ys zero = refl
+  zip-remove [] ys (suc i) = refl
+  zip-remove (x ∷ xs) [] zero = zip_nil xs
+  zip-remove (x ∷ xs) [] (suc i) = refl
+  zip-remove (x ∷ xs) (y ∷ ys) zero = refl
+  zip-remove (x ∷ xs) (y ∷ ys) (suc i) = ap (λ l. (x, y) ∷ l) (zip-remove xs ys i)
+
+  pub zip-reverse : (xs : List A) (ys : List B) → length xs ≡ length ys → zip (reverse xs) (reverse ys) ≡ reverse (zip xs ys)
+  zip-reverse [] [] e = refl
+  zip-reverse [] (y ∷ ys) e = absurd (omega (arith, e))
+  zip-reverse (x ∷ xs) [] e = absurd (omega (arith, e))
+  zip-reverse (x ∷ xs) (y ∷ ys) e =
+      let rest : length xs ≡ length ys = omega (arith, e) in
+      (λ j. zip (reverse-append (x ∷ []) xs j) (reverse-append (y ∷ []) ys j))
+      ∙ zip_push (reverse xs) (reverse ys) x y (omega (arith, length-reverse xs, length-reverse ys))
+      ∙ ap (λ l. l ++ (x, y) ∷ []) (zip-reverse xs ys rest) ∙ sym (reverse-append ((x, y) ∷ []) (zip xs ys))
+
+  -- the pair at a place
+  pub slice_get-zip : (xs : List A) (ys : List B) (i : ℕ) (x : A) (y : B) → i < length (zip xs ys) → x ≡ get_or xs i x → y ≡ get_or ys i y → slice_get (zip xs ys) i ≡ Some (x, y)
+  slice_get-zip [] ys i x y lt e f = absurd (omega (arith, lt))
+  slice_get-zip (z ∷ xs) [] i x y lt e f = absurd (omega (arith, lt))
+  slice_get-zip (z ∷ xs) (w ∷ ys) zero x y lt e f = λ j. Some (sym e j, sym f j)
+  slice_get-zip (z ∷ xs) (w ∷ ys) (suc i) x y lt e f = slice_get-zip xs ys i x y (omega (arith, lt)) e f
+
+  pub zip_empty : (xs : List A) (ys : List B) → length xs ≡ length ys → zip xs ys ≡ [] → length xs ≡ 0
+  zip_empty xs ys e f = omega (arith, length-zip xs ys e, ap length f)
+
+  -- a column in which one part was written
+  pub zip-set_first : (xs : List A) (ys : List B) (i : ℕ) (x : A) → zip (set xs i x) ys ≡ set_first_at (zip xs ys) i x
+  zip-set_first [] ys i x = refl
+  zip-set_first (z ∷ xs) [] zero x = refl
+  zip-set_first (z ∷ xs) [] (suc i) x = refl
+  zip-set_first (z ∷ xs) (y ∷ ys) zero x = refl
+  zip-set_first (z ∷ xs) (y ∷ ys) (suc i) x = ap (λ l. (z, y) ∷ l) (zip-set_first xs ys i x)
+
+  pub zip-set_second : (xs : List A) (ys : List B) (i : ℕ) (y : B) → zip xs (set ys i y) ≡ set_second_at (zip xs ys) i y
+  zip-set_second [] ys i y = refl
+  zip-set_second (z ∷ xs) [] zero y = refl
+  zip-set_second (z ∷ xs) [] (suc i) y = refl
+  zip-set_second (z ∷ xs) (w ∷ ys) zero y = refl
+  zip-set_second (z ∷ xs) (w ∷ ys) (suc i) y = ap (λ l. (z, w) ∷ l) (zip-set_second xs ys i y)
+
+  -- a column that was written as a whole
+  pub zip-refill_firsts : (n : ℕ) (xs : List A) (ys : List B) (ws : List A) → n ≡ length xs → length xs ≡ length ys → zip (refill n xs ws) ys ≡ set_firsts (zip xs ys) ws
+  zip-refill_firsts n xs ys ws m e = λ j. zip (refill ((m ∙ sym (length-zip xs ys e)) j) (sym (firsts_of-zip xs ys e) j) ws) (sym (seconds_of-zip xs ys e) j)
+
+  pub zip-refill_seconds : (n : ℕ) (xs : List A) (ys : List B) (ws : List B) → n ≡ length ys → length xs ≡ length ys → zip xs (refill n ys ws) ≡ set_seconds (zip xs ys) ws
+  zip-refill_seconds n xs ys ws m e = λ j. zip (sym (firsts_of-zip xs ys e) j) (refill ((m ∙ sym e ∙ sym (length-zip xs ys e)) j) (sym (seconds_of-zip xs ys e) j) ws)
+
+-- what a call on the columns may want
+pub ruleset columns = (length-zip, firsts_of-zip, seconds_of-zip, zip_push, zip-take, zip-remove, zip-reverse, slice_get-zip)

@@ -1,0 +1,6 @@
+pub mod PairList
+pub mod Columns
+pub mod Retain
+pub mod Sort
+pub mod Lending
+pub mod Collect
