@@ -1,7 +1,8 @@
 -- A list of pairs and its two columns, which are as long.
-use Rattle.std.proofs.Common.{◌≡◌, ℕ, zero, suc, ◌+◌, ◌<◌, ◌≤◌, List, [], ◌∷◌, ◌++◌, map, length, take, drop, zip, slice_get, get_or, set, reverse, remove, Some, None, refl, sym, ap, ◌∙◌, arith}
+use Rattle.std.proofs.Common.{◌≡◌, ℕ, zero, suc, ◌+◌, ◌<◌, ◌≤◌, List, [], ◌∷◌, ◌++◌, map, length, take, drop, zip, slice_get, get_or, set, reverse, remove, Bool, true, false, ◌&&◌, Some, None, refl, sym, ap, ◌∙◌, arith}
 use Rattle.std.proofs.lemmas.List.{reverse-append, length-reverse}
 use Rattle.std.specs.List.{refill}
+use Rattle.std.specs.Cmp.Lexicographic.{pointwise}
 use Rattle.starlark_vec2.specs.PairList.{firsts_of, seconds_of}
 use Rattle.starlark_vec2.specs.Lending.{set_first_at, set_second_at, set_firsts, set_seconds}
 
@@ -90,6 +91,28 @@ module _ {A B : Type 0} where
 
   pub zip-refill_seconds : (n : ℕ) (xs : List A) (ys : List B) (ws : List B) → n ≡ length ys → length xs ≡ length ys → zip xs (refill n ys ws) ≡ set_seconds (zip xs ys) ws
   zip-refill_seconds n xs ys ws m e = λ j. zip (sym (firsts_of-zip xs ys e) j) (refill ((m ∙ sym e ∙ sym (length-zip xs ys e)) j) (sym (seconds_of-zip xs ys e) j) ws)
+
+-- the item at a place, from the form that an index gives
+pub slice_get_at : {X : Type 0} (xs : List X) (i : ℕ) (x : X) → i < length xs → x ≡ get_or xs i x → slice_get xs i ≡ Some x
+slice_get_at [] i x lt e = absurd (omega (arith, lt))
+slice_get_at (z ∷ xs) zero x lt e = ap Some (sym e)
+slice_get_at (z ∷ xs) (suc i) x lt e = slice_get_at xs i x (omega (arith, lt)) e
+
+and_shuffled : (a b c d : Bool) → ((a && b) && (c && d)) ≡ ((a && c) && (b && d))
+and_shuffled true true c d = refl
+and_shuffled true false true d = refl
+and_shuffled true false false d = refl
+and_shuffled false b c d = refl
+
+module _ {A B : Type 0} (eq : A → A → Bool) (eq2 : B → B → Bool) where
+  -- equality pair by pair is equality of both columns
+  pub pointwise-pairs : (ps qs : List (A × B)) → pointwise (λ p q. eq p.0 q.0 && eq2 p.1 q.1) ps qs ≡ (pointwise eq (firsts_of ps) (firsts_of qs) && pointwise eq2 (seconds_of ps) (seconds_of qs))
+  pointwise-pairs [] [] = refl
+  pointwise-pairs [] (q ∷ qs) = refl
+  pointwise-pairs (p ∷ ps) [] = refl
+  pointwise-pairs (p ∷ ps) (q ∷ qs) =
+      ap (λ b. (eq p.0 q.0 && eq2 p.1 q.1) && b) (pointwise-pairs ps qs)
+      ∙ and_shuffled (eq p.0 q.0) (eq2 p.1 q.1) (pointwise eq (firsts_of ps) (firsts_of qs)) (pointwise eq2 (seconds_of ps) (seconds_of qs))
 
 -- what a call on the columns may want
 pub ruleset columns = (length-zip, firsts_of-zip, seconds_of-zip, zip_push, zip-take, zip-remove, zip-reverse, slice_get-zip)

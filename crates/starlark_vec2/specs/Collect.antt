@@ -1,5 +1,5 @@
 -- Lists of pairs made of an iterator's items, and of clones.
-use Rattle.std.specs.Prelude.{◌≡◌, ℕ, List, MatchResult, Result}
+use Rattle.std.specs.Prelude.{◌≡◌, ℕ, List, Option, MatchResult, Result}
 use Rattle.std.specs.Iterator.{Count, Drains, Yields}
 use Rattle.std.specs.Iterator.SizeHint.{IsWithinCount}
 use Rattle.starlark_vec2.specs.PairList.{PairList, pair_list, push_all, reserve}

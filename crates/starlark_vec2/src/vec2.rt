@@ -1,5 +1,5 @@
 //! `Vec2`, a list of pairs in two columns, with a capacity of its own. Its children alone see its fields.
-ghost use Rattle.std.specs.Prelude.{◌≡◌, ◌+◌, ◌-◌, ◌^◌, ◌<◌, ◌≤◌, ◌==◌, max, min, [], length, take, remove, reverse, slice_get, is_ok, if◌then◌else◌, IfOk, IfErr, IsOk, OnErr, MatchOption};
+ghost use Rattle.std.specs.Prelude.{◌≡◌, ◌+◌, ◌*◌, ◌-◌, ◌^◌, ◌<◌, ◌≤◌, ◌==◌, max, min, [], ◌++◌, length, take, remove, reverse, slice_get, vec_capacity, is_ok, if◌then◌else◌, IfOk, IfErr, IsOk, MatchOption};
 ghost use Rattle.std.specs.Option.{option_map};
 ghost use Rattle.std.specs.Map.Iter.{TakesLast, ShowsInOrder, ShowsInReverse, deref_pair};
 ghost use Rattle.starlark_vec2.specs.PairList as list;

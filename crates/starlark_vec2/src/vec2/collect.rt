@@ -2,8 +2,8 @@
 ghost use Rattle.std.specs.Prelude.{◌≡◌, ◌-◌, ◌≤◌, length, IfOk, IsOk};
 ghost use Rattle.std.specs.List.{AllZip};
 ghost use Rattle.std.specs.Iterator.{IsFiniteIterable, size};
-ghost use Rattle.starlark_vec2.specs.PairList.{push_all, reserve};
-ghost use Rattle.starlark_vec2.specs.Collect.{Extends, Collects, IsPairClone};
+ghost use Rattle.starlark_vec2.specs.PairList.{pair_list};
+ghost use Rattle.starlark_vec2.specs.Collect.{Extends, Collects, IsPairClone, IsLawfulClone};
 
 use super::Vec2;
 use std::alloc::{AllocError, Global};
