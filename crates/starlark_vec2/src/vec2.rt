@@ -334,7 +334,7 @@ fn append_reserved<T>(to: &mut Vec<T>, from: &mut Vec<T>)
     requires { length to.old.items + length from.old.items ≤ vec_capacity to.old }
     ensures moved { to.new.items ≡ to.old.items ++ from.old.items }
     ensures emptied { from.new.items ≡ [] }
-    ensures capacity { vec_capacity to.new ≡ vec_capacity to.old }
+    ensures room { vec_capacity to.old ≤ vec_capacity to.new }
     ensures kept { vec_capacity from.new ≡ vec_capacity from.old }
 {
     to.append(from).unwrap();

@@ -9,7 +9,7 @@ returns-then-eq g c =
     let ps = c.args.self.now.pairs in
     let qs = c.args.other.now.pairs in
     let firsts = (λ j. pointwise g.A.PartialEq.eq (sym c.firsts.ensures j) (sym c.firsts-2.ensures j)) ∙ sym c.eq.ensures ∙ c.if-eq.true in
-    c.eq-then-eq.ensures ∙ (λ j. pointwise g.B.PartialEq.eq (c.seconds.ensures j) (c.seconds-2.ensures j))
+    c.eq-then-eq.ensures ∙ (λ j. pointwise g.B.PartialEq.eq (c.seconds.ensures j) (c.seconds-then-eq.ensures j))
     ∙ sym (ap (λ b. b && pointwise g.B.PartialEq.eq (seconds_of ps) (seconds_of qs)) firsts) ∙ sym (pointwise-pairs _ _ ps qs)
 
 pub returns-else-eq : goal.returns-else-eq
