@@ -1,1 +1,3 @@
 pub mod EntryList
+pub mod Ordered
+pub mod Retain

@@ -3,5 +3,7 @@
 
 mod columns;
 mod hash_search;
+pub mod vec_map;
 
 pub use hash_search::find_hash_in_array;
+pub use vec_map::VecMap;
