@@ -1,12 +1,18 @@
 //! `VecMap`, a list of entries in two columns. Its children alone see its field.
-ghost use Rattle.std.specs.Prelude.{◌≡◌, ◌^◌, ◌<◌, ◌≤◌, ◌==◌, [], length, remove, reverse, slice_get, is_ok, if◌then◌else◌, IfOk, IfErr, IfSome, IsOk};
+ghost use Rattle.std.specs.Prelude.{◌≡◌, ◌-◌, ◌^◌, ◌<◌, ◌≤◌, ◌==◌, [], length, map, remove, reverse, slice_get, is_ok, if◌then◌else◌, IfOk, IfErr, IfSome, IsOk};
 ghost use Rattle.std.specs.Option.{option_map};
-ghost use Rattle.std.specs.Map.Iter.{TakesLast, deref_pair};
-ghost use Rattle.starlark_hash.specs.Entries.{pair_of, position_of, entry_at, without};
+ghost use Rattle.std.specs.Map.Iter.{TakesLast, ShowsInOrder, ShowsInReverse, GivesInOrder, GivesInReverse, deref, deref_pair};
+ghost use Rattle.starlark_hash.specs.Entries.{Entry, entry_key, entry_value, pair_of, position_of, entry_at, without};
 ghost use Rattle.starlark_hash.specs.HashValue.{hash_of, key_of};
 ghost use Rattle.starlark_hash.specs.Search.{Asks, CanSearch, keys_under};
 ghost use Rattle.starlark_vecmap.specs.EntryList as list;
 ghost use Rattle.starlark_vecmap.specs.EntryList.{entry_list, with_entries, deref_entry};
+
+mod into_iter;
+mod iter;
+
+pub use into_iter::{IntoIter, IntoIterHashed, IntoKeys, IntoValues};
+pub use iter::{Iter, IterHashed, Keys, Values};
 
 use crate::columns::search_columns;
 use starlark_hash::{Equivalent, Hashed, NoRoom, StarlarkHashValue};
@@ -102,6 +108,18 @@ impl<K, V> VecMap<K, V> {
         search_columns(self.columns.firsts(), self.columns.seconds(), hash, accepts)
     }
 
+    /// The first place under the query's hash whose key the query is equivalent to.
+    #[inline]
+    pub fn get_index_of_hashed<Q: Equivalent<K>>(&self, key: Hashed<&Q>) -> Option<usize>
+    where
+        K: Eq,
+        ensures place { result ≡ position_of (hash_of key.entry) (Q.equivalent (key_of key.entry).now) self.now.entries }
+        ensures within { IfSome result (λ i. i < length self.now.entries) }
+    {
+        let query = *key.key();
+        self.get_index_of_hashed_raw(key.hash(), |k| query.equivalent(k))
+    }
+
     /// The key and the value at this index, where there is an entry.
     #[inline]
     pub fn get_index(&self, index: usize) -> Option<(&K, &V)>
@@ -120,6 +138,110 @@ impl<K, V> VecMap<K, V> {
         let (pair, hash) = self.columns.get_unchecked(index);
         let hash = StarlarkHashValue::new_unchecked(*hash);
         (Hashed::new_unchecked(hash, &pair.0), &pair.1)
+    }
+}
+
+// Walking
+
+impl<K, V> VecMap<K, V> {
+    /// The keys, in their order.
+    #[tactic(auto, using(crate::proofs::Views::views))]
+    #[inline]
+    pub fn keys(&self) -> Keys<'_, K, V>
+        ensures rest { result ≡ map entry_key self.now.entries }
+        ensures fits { length self.now.entries < 2 ^ 64 }
+        ensures runs { ShowsInOrder (deref {X = K}) }
+        ensures runs_back { ShowsInReverse (deref {X = K}) }
+    {
+        Keys::new(self.iter())
+    }
+
+    /// The values, in their order.
+    #[tactic(auto, using(crate::proofs::Views::views))]
+    #[inline]
+    pub fn values(&self) -> Values<'_, K, V>
+        ensures rest { result ≡ map entry_value self.now.entries }
+        ensures fits { length self.now.entries < 2 ^ 64 }
+        ensures runs { ShowsInOrder (deref {X = V}) }
+        ensures runs_back { ShowsInReverse (deref {X = V}) }
+    {
+        Values::new(self.iter())
+    }
+
+    /// The keys and values of the entries, in their order.
+    #[tactic(auto, using(crate::proofs::Views::views))]
+    #[inline]
+    pub fn iter(&self) -> Iter<'_, K, V>
+        ensures rest { result ≡ map pair_of self.now.entries }
+        ensures fits { length self.now.entries < 2 ^ 64 }
+        ensures runs { ShowsInOrder (deref_pair {K = K} {X = V}) }
+        ensures runs_back { ShowsInReverse (deref_pair {K = K} {X = V}) }
+    {
+        Iter::new(self.columns.firsts())
+    }
+
+    /// The entries, in their order.
+    #[tactic(auto, using(crate::proofs::Views::views))]
+    #[inline]
+    pub fn iter_hashed(&self) -> IterHashed<'_, K, V>
+        ensures rest { result ≡ self.now.entries }
+        ensures fits { length self.now.entries < 2 ^ 64 }
+        ensures runs { ShowsInOrder (deref_entry {K = K} {V = V}) }
+        ensures runs_back { ShowsInReverse (deref_entry {K = K} {V = V}) }
+    {
+        IterHashed::new(self.columns.iter())
+    }
+}
+
+impl<K: Drop, V: Drop> VecMap<K, V> {
+    /// The entries by value, in their order.
+    #[inline]
+    pub fn into_iter_hashed(self) -> IntoIterHashed<K, V>
+        ensures rest { result ≡ self.entries }
+        ensures fits { length self.entries < 2 ^ 64 }
+        ensures runs { GivesInOrder (Entry K V) }
+        ensures runs_back { GivesInReverse (Entry K V) }
+    {
+        let VecMap { columns } = self;
+        IntoIterHashed::new(columns.into_iter())
+    }
+
+    /// The keys by value, in their order.
+    #[tactic(auto, using(crate::proofs::Views::views))]
+    #[inline]
+    pub fn into_keys(self) -> IntoKeys<K, V>
+        ensures rest { result ≡ map entry_key self.entries }
+        ensures fits { length self.entries < 2 ^ 64 }
+        ensures runs { GivesInOrder K }
+        ensures runs_back { GivesInReverse K }
+    {
+        IntoKeys::new(self.into_iter())
+    }
+
+    /// The values by value, in their order.
+    #[tactic(auto, using(crate::proofs::Views::views))]
+    #[inline]
+    pub fn into_values(self) -> IntoValues<K, V>
+        ensures rest { result ≡ map entry_value self.entries }
+        ensures fits { length self.entries < 2 ^ 64 }
+        ensures runs { GivesInOrder V }
+        ensures runs_back { GivesInReverse V }
+    {
+        IntoValues::new(self.into_iter())
+    }
+}
+
+impl<K: Drop, V: Drop> IntoIterator for VecMap<K, V> {
+    type Item = (K, V);
+
+    type IntoIter = IntoIter<K, V>;
+
+    ghost into_iter_gives = { λ m rest. (rest ≡ map pair_of m.entries) × (length m.entries < 2 ^ 64) × GivesInOrder (K × V) × GivesInReverse (K × V) };
+
+    /// The keys and values of the entries by value, in their order.
+    #[inline]
+    fn into_iter(self) -> IntoIter<K, V> {
+        IntoIter::new(self.into_iter_hashed())
     }
 }
 
@@ -162,6 +284,7 @@ impl<K, V> VecMap<K, V> {
 
 impl<K, V> VecMap<K, V> {
     /// Takes the entry at this index out. Those after it move up.
+    #[tactic(auto, using(crate::proofs::Views::views))]
     #[inline]
     pub fn remove(&mut self, index: usize) -> (Hashed<K>, V)
         requires { index < length self.old.entries }
@@ -183,11 +306,25 @@ impl<K, V> VecMap<K, V> {
     }
 
     /// Turns the order of the entries round.
+    #[tactic(auto, using(crate::proofs::Views::views))]
     #[inline]
     pub fn reverse(&mut self)
         ensures { self.new ≡ with_entries self.old (reverse self.old.entries) }
     {
         self.columns.reverse();
+    }
+}
+
+impl<K: Eq, V> VecMap<K, V> {
+    /// Takes the first entry out that stands under the query's hash and whose key the query is equivalent to, where
+    /// there is one. Those after it move up.
+    pub fn remove_hashed_entry<Q: Equivalent<K>>(&mut self, key: Hashed<&Q>) -> Option<(K, V)>
+        ensures taken { result ≡ option_map pair_of (entry_at self.old.entries (position_of (hash_of key.entry) (Q.equivalent (key_of key.entry).now) self.old.entries)) }
+        ensures list { self.new ≡ with_entries self.old (without self.old.entries (position_of (hash_of key.entry) (Q.equivalent (key_of key.entry).now) self.old.entries)) }
+    {
+        let index = self.get_index_of_hashed(key)?;
+        let (key, value) = self.remove(index);
+        Some((key.into_key(), value))
     }
 }
 
