@@ -1,3 +1,4 @@
 pub mod Pairs
+pub mod PushLemmas
 pub mod Sieving
 pub mod Walks

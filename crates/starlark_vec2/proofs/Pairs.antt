@@ -1,9 +1,10 @@
 -- A list of pairs and its two columns, which are as long.
 use Rattle.std.proofs.Common.{◌≡◌, ℕ, zero, suc, ◌+◌, ◌<◌, ◌≤◌, List, [], ◌∷◌, ◌++◌, map, length, take, drop, zip, slice_get, get_or, set, reverse, remove, Bool, true, false, ◌&&◌, Some, None, refl, sym, ap, ◌∙◌, arith}
 use Rattle.std.proofs.lemmas.List.{reverse-append, length-reverse}
-use Rattle.std.specs.List.{refill}
+use Rattle.std.specs.List.{refill, AllZip}
 use Rattle.std.specs.Cmp.Lexicographic.{pointwise}
 use Rattle.starlark_vec2.specs.PairList.{firsts_of, seconds_of}
+use Rattle.starlark_vec2.specs.Collect.{IsPairClone}
 use Rattle.starlark_vec2.specs.Lending.{set_first_at, set_second_at, set_firsts, set_seconds}
 
 module _ {A B : Type 0} where
@@ -66,6 +67,16 @@ module _ {A B : Type 0} where
   slice_get-zip (z ∷ xs) [] i x y lt e f = absurd (omega (arith, lt))
   slice_get-zip (z ∷ xs) (w ∷ ys) zero x y lt e f = λ j. Some (sym e j, sym f j)
   slice_get-zip (z ∷ xs) (w ∷ ys) (suc i) x y lt e f = slice_get-zip xs ys i x y (omega (arith, lt)) e f
+
+  -- clones of both columns are clones of the pairs
+  pub AllZip-zip : (C : A → A → Type 0) (D : B → B → Type 0) (xs us : List A) (ys vs : List B) → AllZip C xs us → AllZip D ys vs → AllZip (IsPairClone C D) (zip xs ys) (zip us vs)
+  AllZip-zip C D [] [] ys vs p q = p
+  AllZip-zip C D [] (u ∷ us) ys vs p q = absurd p
+  AllZip-zip C D (x ∷ xs) [] ys vs p q = absurd p
+  AllZip-zip C D (x ∷ xs) (u ∷ us) [] [] p q = q
+  AllZip-zip C D (x ∷ xs) (u ∷ us) [] (v ∷ vs) p q = absurd q
+  AllZip-zip C D (x ∷ xs) (u ∷ us) (y ∷ ys) [] p q = absurd q
+  AllZip-zip C D (x ∷ xs) (u ∷ us) (y ∷ ys) (v ∷ vs) p q = ((p.0, q.0), AllZip-zip C D xs us ys vs p.1 q.1)
 
   pub zip_empty : (xs : List A) (ys : List B) → length xs ≡ length ys → zip xs ys ≡ [] → length xs ≡ 0
   zip_empty xs ys e f = omega (arith, length-zip xs ys e, ap length f)

@@ -61,29 +61,4 @@ impl<A, B> Vec2<A, B> {
     {
         (&self.firsts[index], &mut self.seconds[index])
     }
-
-    /// The pair at this index, where there is one, to write both parts. Of the list afterwards nothing is said:
-    /// `first_at_mut`, `second_at_mut` and `pair_at_mut` say it.
-    #[tactic(auto, using(crate::proofs::Pairs::columns))]
-    #[inline]
-    pub fn get_mut(&mut self, index: usize) -> Option<(&mut A, &mut B)>
-        ensures { option_map deref_both_mut result ≡ slice_get self.old.pairs index }
-    {
-        if index < self.len() {
-            Some(self.get_unchecked_mut(index))
-        } else {
-            None
-        }
-    }
-
-    /// The pair at this index, to write both parts. Rust's is unsafe; here the index is proved to be within the
-    /// length. Of the list afterwards nothing is said, as at `get_mut`.
-    #[tactic(auto, using(crate::proofs::Pairs::columns))]
-    #[inline]
-    pub fn get_unchecked_mut(&mut self, index: usize) -> (&mut A, &mut B)
-        requires { index < length self.old.pairs }
-        ensures { slice_get self.old.pairs index ≡ Some (deref_both_mut result) }
-    {
-        (&mut self.firsts[index], &mut self.seconds[index])
-    }
 }
