@@ -1,3 +1,5 @@
 pub mod EntryList
 pub mod Ordered
 pub mod Retain
+pub mod Clone
+pub mod Lending

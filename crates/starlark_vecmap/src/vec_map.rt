@@ -8,8 +8,13 @@ ghost use Rattle.starlark_hash.specs.Search.{Asks, CanSearch, keys_under};
 ghost use Rattle.starlark_vecmap.specs.EntryList as list;
 ghost use Rattle.starlark_vecmap.specs.EntryList.{entry_list, with_entries, deref_entry};
 
+mod compare;
+mod copy;
 mod into_iter;
 mod iter;
+mod lends;
+mod retain;
+mod sort;
 
 pub use into_iter::{IntoIter, IntoIterHashed, IntoKeys, IntoValues};
 pub use iter::{Iter, IterHashed, Keys, Values};
