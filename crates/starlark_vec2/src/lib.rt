@@ -4,3 +4,6 @@
 pub mod vec2;
 
 pub use vec2::Vec2;
+
+#[cfg(test)]
+mod tests;
