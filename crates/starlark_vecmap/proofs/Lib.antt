@@ -4,3 +4,4 @@ pub mod Asked
 pub mod Ordering
 pub mod Writes
 pub mod Carry
+pub mod Sorts

@@ -34,9 +34,9 @@ module _ {K V : Type 0} (cmp : K → K → Ordering) where
       let same : length (firsts_of ps) ≡ length ps = length-map ps (λ p. p.0) in
       MatchBool-both b
       (λ sorted k d low below.
-          (λ j. is_lt (cmp (sym (key_at ps (k + 1) (pair_of d) d (omega arith)) j) (sym (key_at ps k (pair_of d) d (omega arith)) j))) ∙ sorted k (pair_of d) low (omega arith))
+      (λ j. is_lt (cmp (sym (key_at ps (k + 1) (pair_of d) d (omega arith)) j) (sym (key_at ps k (pair_of d) d (omega arith)) j))) ∙ sorted k (pair_of d) low (omega arith))
       (λ sorted k d low below.
-          (λ j. is_lt (cmp (key_at ps (k + 1) d (entry_of (d, 0)) (omega arith) j) (key_at ps k d (entry_of (d, 0)) (omega arith) j))) ∙ sorted k (entry_of (d, 0)) low (omega arith))
+      (λ j. is_lt (cmp (key_at ps (k + 1) d (entry_of (d, 0)) (omega arith) j) (key_at ps k d (entry_of (d, 0)) (omega arith) j))) ∙ sorted k (entry_of (d, 0)) low (omega arith))
       told
 
 and_shuffled : (h k v ps hs : Bool) → (h && (k && v)) && (hs && ps) ≡ (h && hs) && ((k && v) && ps)

@@ -7,3 +7,6 @@ pub mod vec_map;
 
 pub use hash_search::find_hash_in_array;
 pub use vec_map::VecMap;
+
+#[cfg(test)]
+mod tests;

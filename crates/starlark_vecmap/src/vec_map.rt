@@ -12,14 +12,15 @@ mod compare;
 mod copy;
 mod into_iter;
 mod iter;
+mod iter_mut;
 mod lends;
 mod retain;
 mod sort;
 
+use crate::columns::search_columns;
 pub use into_iter::{IntoIter, IntoIterHashed, IntoKeys, IntoValues};
 pub use iter::{Iter, IterHashed, Keys, Values};
-
-use crate::columns::search_columns;
+pub use iter_mut::{IterMut, ValuesMut};
 use starlark_hash::{Equivalent, Hashed, NoRoom, StarlarkHashValue};
 use starlark_vec2::Vec2;
 use std::alloc::{AllocError, Global};
@@ -297,7 +298,10 @@ impl<K, V> VecMap<K, V> {
         ensures list { self.new ≡ with_entries self.old (remove self.old.entries index) }
     {
         let ((key, value), hash) = self.columns.remove(index);
-        (Hashed::new_unchecked(StarlarkHashValue::new_unchecked(hash), key), value)
+        (
+            Hashed::new_unchecked(StarlarkHashValue::new_unchecked(hash), key),
+            value,
+        )
     }
 
     /// Takes the last entry out, where there is one.
@@ -307,7 +311,10 @@ impl<K, V> VecMap<K, V> {
         ensures capacity { self.new.capacity ≡ self.old.capacity }
     {
         let ((key, value), hash) = self.columns.pop()?;
-        Some((Hashed::new_unchecked(StarlarkHashValue::new_unchecked(hash), key), value))
+        Some((
+            Hashed::new_unchecked(StarlarkHashValue::new_unchecked(hash), key),
+            value,
+        ))
     }
 
     /// Turns the order of the entries round.

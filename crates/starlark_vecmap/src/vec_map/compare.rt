@@ -14,7 +14,8 @@ impl<K, V> VecMap<K, V> {
         V: PartialEq,
         ensures { result ≡ same_ordered K.eq V.eq self.now.entries other.now.entries }
     {
-        self.columns.seconds() == other.columns.seconds() && self.columns.firsts() == other.columns.firsts()
+        self.columns.seconds() == other.columns.seconds()
+            && self.columns.firsts() == other.columns.firsts()
     }
 
     /// Writes each entry's hash as one number of 32 bits, and then what its value writes; no length, and no key.
