@@ -1,0 +1,7 @@
+pub mod Searching
+pub mod Views
+pub mod Asked
+pub mod Ordering
+pub mod Writes
+pub mod Carry
+pub mod Sorts

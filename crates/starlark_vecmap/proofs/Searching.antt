@@ -1,0 +1,128 @@
+-- A search that jumps from match to match, as a search of the keys under a hash.
+use Rattle.std.proofs.Common.{◌≡◌, ℕ, zero, suc, ◌+◌, ◌<◌, Bool, true, false, cond, eqb, List, [], ◌∷◌, ◌++◌, map, zip, length, get_or, drop, Option, Some, None, refl, sym, ap, subst, ◌∙◌, arith, add-one, inl, inr, ◌⊎◌, length-drop}
+use Rattle.std.specs.Prelude.{◌==◌, filter, position}
+use Rattle.std.specs.List.{enumerate_from}
+use Rattle.std.specs.Option.{option_map}
+use Rattle.std.specs.Borrow.{Bor}
+use Rattle.std.specs.Fn.{Mut, Called, CalledAt, TakesAt}
+use Rattle.std.proofs.lemmas.List.{get_or-drop, drop-drop}
+use Rattle.std.proofs.lemmas.List.Sorted.{IsPermutation-refl, IsPermutation-cons}
+use Rattle.std.proofs.lemmas.Option.{none-some}
+use Rattle.starlark_hash.specs.declared.hash_value.StarlarkHashValue.{StarlarkHashValue}
+use Rattle.starlark_hash.specs.Entries.{Entry, entry_key, is_under}
+use Rattle.starlark_hash.specs.Search.{Asks, Refuses, CanSearch}
+use Rattle.starlark_hash.proofs.PositionLemmas.{position-cons}
+use Rattle.starlark_vecmap.specs.EntryList.{entries_in, entry_of}
+
+-- a call at a reference, as a call at what it points to
+pub called_at : {F X R : Type 0} (g : Mut F (Bor X × Unit {0}) R) (f later : F) (p : Bor X) (x : X) (r : R) → p.now ≡ x → Called g f (p, tt) r later → CalledAt g f x r later
+called_at g f later p x r is called = record { shown = p; shows = is; called = called }
+
+module _ {F N X : Type 0} (g : Mut F (Bor X × Unit {0}) Bool) where
+  -- first refused what stands before the items left, and is now f
+  pub record Searching (all : List (N × X)) (first f : F) (left : List (N × X)) : Type 0 where
+    pub callable : CanSearch g left f
+    pub rest : (answer : Option N) (last : F) → Asks g f left answer last → Asks g first all answer last
+
+  pub searching_begins : (all : List (N × X)) (f : F) → CanSearch g all f → Searching all f f all
+  searching_begins all f can = record { callable = can; rest = λ answer last asks. asks }
+
+  module _ (all keys left : List (N × X)) (first f : F) (p : N × X) (s : Searching all first f keys) (leads : keys ≡ p ∷ left) where
+    ready : Searching all first f (p ∷ left)
+    ready = subst (λ ps. Searching all first f ps) leads s
+
+    pub searching_asks : TakesAt g f p.1
+    searching_asks = ready.callable.at [] p left f (IsPermutation-refl (p ∷ left)) refl
+
+    pub searching_refused : (next : F) → CalledAt g f p.1 false next → Searching all first next left
+    searching_refused next refused = record {
+      callable = record { at = λ before q after later moves refuses. ready.callable.at (p ∷ before) q after later (IsPermutation-cons p left (before ++ q ∷ after) moves) (next, refused, refuses) };
+      rest = λ answer last asks. ready.rest answer last (false, next, refused, asks);
+    }
+
+    pub searching_accepts : (last : F) → CalledAt g f p.1 true last → Asks g first all (Some p.0) last
+    searching_accepts last accepted = ready.rest (Some p.0) last (true, last, accepted, (refl, refl))
+
+  pub searching_ends : (all keys : List (N × X)) (first f : F) → Searching all first f keys → keys ≡ [] → Asks g first all None f
+  searching_ends all keys first f s none = (subst (λ ps. Searching all first f ps) none s).rest None f (refl, refl)
+
+-- the first hash is the one that is looked for, or one of the later ones is
+by_test : (b : Bool) (o : Option ℕ) (s : ℕ) → cond b (Some 0) (option_map suc o) ≡ Some s → ((b ≡ true) × (s ≡ 0)) ⊎ ((t : ℕ) × (b ≡ false) × (o ≡ Some t) × (s ≡ suc t))
+by_test true o s e = inl (refl, cc)
+by_test false None s e = absurd (none-some s e)
+by_test false (Some t) s e = inr (t, refl, refl, cc)
+
+no_head : (b : Bool) (o : Option ℕ) → cond b (Some 0) (option_map suc o) ≡ None → (b ≡ false) × (o ≡ None)
+no_head true o e = absurd (none-some 0 (sym e))
+no_head false None e = (refl, refl)
+no_head false (Some t) e = absurd (none-some (suc t) (sym e))
+
+found_at : (i : ℕ) (o : Option ℕ) (place : ℕ) → option_map (λ skipped. i + skipped) o ≡ Some place → (s : ℕ) × (o ≡ Some s) × (place ≡ i + s)
+found_at i None place e = absurd (none-some place e)
+found_at i (Some s) place e = (s, refl, cc)
+
+not_found : (i : ℕ) (o : Option ℕ) → option_map (λ skipped. i + skipped) o ≡ None → o ≡ None
+not_found i None e = refl
+not_found i (Some s) e = absurd (none-some (i + s) (sym e))
+
+-- what stands behind the item at s, of those from i on
+behind : {X : Type 0} (i s place : ℕ) → place ≡ i + s → (xs : List X) → drop (suc s) (drop i xs) ≡ drop (place + 1) xs
+behind i s place at xs =
+    let step : i + suc s ≡ place + 1 = omega arith in
+    drop-drop (suc s) i xs ∙ ap (λ n. drop n xs) step
+
+module _ {K V : Type 0} (hash : StarlarkHashValue) where
+  -- the places under the hash, counted from n, each with its key
+  abbrev pub keys_from : ℕ → List (K × V) → List ℕ → List (ℕ × K)
+  keys_from n pairs hashes = map (λ p. (p.0, entry_key p.1)) (filter (λ p. is_under hash p.1) (enumerate_from n (entries_in pairs hashes)))
+
+  abbrev named : List (ℕ × Entry K V) → List (ℕ × K)
+  named ps = map {B = ℕ × K} (λ p. (p.0, entry_key p.1)) ps
+
+  by_head : (n : ℕ) (p : K × V) (h : ℕ) (pairs : List (K × V)) (hashes : List ℕ)
+      → keys_from n (p ∷ pairs) (h ∷ hashes) ≡ cond (h == hash.0) ((n, p.0) ∷ keys_from (n + 1) pairs hashes) (keys_from (n + 1) pairs hashes)
+  by_head n p h pairs hashes =
+      let later : List (ℕ × Entry K V) = filter (λ p. is_under hash p.1) (enumerate_from (n + 1) (entries_in pairs hashes)) in
+      elim (h == hash.0) as (λ t. named (cond t ((n, entry_of (p, h)) ∷ later) later) ≡ cond t ((n, p.0) ∷ named later) (named later)) [ true ↦ refl | false ↦ refl ]
+
+  -- where a hash is found, the keys before it stand under others
+  jump-Some : (hashes : List ℕ) (pairs : List (K × V)) (n s m : ℕ) (d : K × V) → length hashes ≡ length pairs → position (λ h. h == hash.0) hashes ≡ Some s → m ≡ n + s
+      → keys_from n pairs hashes ≡ (m, (get_or pairs s d).0) ∷ keys_from (m + 1) (drop (suc s) pairs) (drop (suc s) hashes)
+  jump-Some [] pairs n s m d same e at = absurd (none-some s e)
+  jump-Some (h ∷ hashes) [] n s m d same e at = absurd (omega arith)
+  jump-Some (h ∷ hashes) (p ∷ pairs) n s m d same e at =
+      elim (by_test (h == hash.0) (position (λ x. x == hash.0) hashes) s (sym (position-cons (λ x. x == hash.0) h hashes) ∙ e)) [
+        | inl here ↦
+            let there : n ≡ m = omega (arith, here.1) in
+            by_head n p h pairs hashes ∙ ap (λ b. cond b ((n, p.0) ∷ keys_from (n + 1) pairs hashes) (keys_from (n + 1) pairs hashes)) here.0
+            ∙ ap (λ k. (k, p.0) ∷ keys_from (k + 1) pairs hashes) there
+            ∙ ap (λ k. (m, (get_or (p ∷ pairs) k d).0) ∷ keys_from (m + 1) (drop (suc k) (p ∷ pairs)) (drop (suc k) (h ∷ hashes))) (sym here.1)
+        | inr later ↦
+            let before : m ≡ n + 1 + later.0 = omega (arith, later.3) in
+            by_head n p h pairs hashes ∙ ap (λ b. cond b ((n, p.0) ∷ keys_from (n + 1) pairs hashes) (keys_from (n + 1) pairs hashes)) later.1
+            ∙ jump-Some hashes pairs (n + 1) later.0 m d (omega arith) later.2 before
+            ∙ ap (λ k. (m, (get_or (p ∷ pairs) k d).0) ∷ keys_from (m + 1) (drop (suc k) (p ∷ pairs)) (drop (suc k) (h ∷ hashes))) (sym later.3)
+      ]
+
+  jump-None : (hashes : List ℕ) (pairs : List (K × V)) (n : ℕ) → position (λ h. h == hash.0) hashes ≡ None → keys_from n pairs hashes ≡ []
+  jump-None hashes [] n e = refl
+  jump-None [] (p ∷ pairs) n e = refl
+  jump-None (h ∷ hashes) (p ∷ pairs) n e =
+      let missed = no_head (h == hash.0) (position (λ x. x == hash.0) hashes) (sym (position-cons (λ x. x == hash.0) h hashes) ∙ e) in
+      by_head n p h pairs hashes ∙ ap (λ b. cond b ((n, p.0) ∷ keys_from (n + 1) pairs hashes) (keys_from (n + 1) pairs hashes)) missed.0 ∙ jump-None hashes pairs (n + 1) missed.1
+
+  module _ (pairs : List (K × V)) (hashes : List ℕ) (i : ℕ) where
+    -- the keys from i on, where the next one stands at this place
+    pub next-Some : (place : ℕ) (pair : K × V) → length hashes ≡ length pairs → option_map (λ skipped. i + skipped) (position (λ h. h == hash.0) (drop i hashes)) ≡ Some place → pair ≡ get_or pairs place pair
+        → keys_from i (drop i pairs) (drop i hashes) ≡ (place, pair.0) ∷ keys_from (place + 1) (drop (place + 1) pairs) (drop (place + 1) hashes)
+    next-Some place pair same found at =
+        let tails : length (drop i hashes) ≡ length (drop i pairs) = omega (arith, length-drop i hashes, length-drop i pairs) in
+        let skip = found_at i (position (λ h. h == hash.0) (drop i hashes)) place found in
+        let s = skip.0 in
+        jump-Some (drop i hashes) (drop i pairs) i s place pair tails skip.1 skip.2
+        ∙ ap (λ (p : K × V). (place, p.0) ∷ keys_from (place + 1) (drop (suc s) (drop i pairs)) (drop (suc s) (drop i hashes))) (get_or-drop i pairs s pair ∙ ap (λ k. get_or pairs k pair) (sym skip.2) ∙ sym at)
+        ∙ (λ j. (place, pair.0) ∷ keys_from (place + 1) (behind i s place skip.2 pairs j) (behind i s place skip.2 hashes j))
+
+    -- and where there is none
+    pub next-None : option_map (λ skipped. i + skipped) (position (λ h. h == hash.0) (drop i hashes)) ≡ None → keys_from i (drop i pairs) (drop i hashes) ≡ []
+    next-None none = jump-None (drop i hashes) (drop i pairs) i (not_found i (position (λ h. h == hash.0) (drop i hashes)) none)

@@ -1,0 +1,45 @@
+-- Two columns as a list of entries, and lists seen through a map of their items.
+use Rattle.std.proofs.Common.{◌≡◌, ℕ, zero, suc, List, [], ◌∷◌, ◌++◌, map, zip, length, reverse, remove, refl, sym, ap, ◌∙◌}
+use Rattle.std.proofs.lemmas.List.{map-append, reverse-append, length-map}
+use Rattle.std.specs.Map.{keys_of, values_of}
+use Rattle.starlark_hash.specs.Entries.{Entry, entry_key, entry_value, pair_of}
+use Rattle.starlark_vec2.specs.PairList.{firsts_of, seconds_of}
+use Rattle.starlark_vecmap.specs.EntryList.{entry_of, entries_in}
+
+module _ {X Y : Type 0} (f : X → Y) where
+  pub map-remove : (xs : List X) (i : ℕ) → map f (remove xs i) ≡ remove (map f xs) i
+  map-remove [] zero = refl
+  map-remove [] (suc i) = refl
+  map-remove (x ∷ xs) zero = refl
+  map-remove (x ∷ xs) (suc i) = ap (λ l. f x ∷ l) (map-remove xs i)
+
+  pub map-reverse : (xs : List X) → map f (reverse xs) ≡ reverse (map f xs)
+  map-reverse [] = refl
+  map-reverse (x ∷ xs) =
+      ap (map f) (reverse-append (x ∷ []) xs) ∙ map-append f (reverse xs) (x ∷ [])
+      ∙ ap (λ l. l ++ f x ∷ []) (map-reverse xs) ∙ sym (reverse-append (f x ∷ []) (map f xs))
+
+module _ {K V : Type 0} where
+  -- the entries of the two columns of a list of pairs
+  pub entries_in-columns : (ps : List ((K × V) × ℕ)) → entries_in (firsts_of ps) (seconds_of ps) ≡ map entry_of ps
+  entries_in-columns [] = refl
+  entries_in-columns (p ∷ ps) = ap (λ l. entry_of p ∷ l) (entries_in-columns ps)
+
+  -- the keys and values of the entries
+  pub pair_of-entry_of : (ps : List ((K × V) × ℕ)) → map pair_of (map entry_of ps) ≡ firsts_of ps
+  pair_of-entry_of [] = refl
+  pair_of-entry_of (p ∷ ps) = ap (λ l. p.0 ∷ l) (pair_of-entry_of ps)
+
+  -- their keys, and their values
+  pub keys_of-pair_of : (es : List (Entry K V)) → keys_of (map pair_of es) ≡ map entry_key es
+  keys_of-pair_of [] = refl
+  keys_of-pair_of (e ∷ es) = ap (λ l. entry_key e ∷ l) (keys_of-pair_of es)
+
+  pub values_of-pair_of : (es : List (Entry K V)) → values_of (map pair_of es) ≡ map entry_value es
+  values_of-pair_of [] = refl
+  values_of-pair_of (e ∷ es) = ap (λ l. entry_value e ∷ l) (values_of-pair_of es)
+
+  pub length-columns : (ps : List ((K × V) × ℕ)) → length (seconds_of ps) ≡ length (firsts_of ps)
+  length-columns ps = length-map ps (λ p. p.1) ∙ sym (length-map ps (λ p. p.0))
+
+pub ruleset views = (map-remove, map-reverse, pair_of-entry_of, keys_of-pair_of, values_of-pair_of)

@@ -1,0 +1,9 @@
+use Rattle.starlark_vecmap.specs.EntryList.{deref_entry}
+use Rattle.starlark_vec2.proofs.Walks.{shows_in_order, shows_in_reverse}
+use Rattle.starlark_vecmap.proofs.vec_map.VecMap.iter_hashed.Goals as goal
+
+pub returns-clause-runs : goal.returns-clause-runs
+returns-clause-runs g c = shows_in_order deref_entry
+
+pub returns-clause-runs_back : goal.returns-clause-runs_back
+returns-clause-runs_back g c = shows_in_reverse deref_entry

@@ -1,0 +1,9 @@
+use Rattle.std.specs.Map.Iter.{deref}
+use Rattle.starlark_vec2.proofs.Walks.{shows_in_order, shows_in_reverse}
+use Rattle.starlark_vecmap.proofs.vec_map.VecMap.keys.Goals as goal
+
+pub returns-clause-runs : goal.returns-clause-runs
+returns-clause-runs g c = shows_in_order deref
+
+pub returns-clause-runs_back : goal.returns-clause-runs_back
+returns-clause-runs_back g c = shows_in_reverse deref

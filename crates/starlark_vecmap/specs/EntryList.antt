@@ -1,0 +1,53 @@
+-- A list of entries with a capacity, and what the calls of a `VecMap` make of it.
+use Rattle.std.specs.Prelude.{ℕ, List, [], ◌∷◌, ◌++◌, map, zip}
+use Rattle.std.specs.Borrow.{Bor, MutBor}
+use Rattle.starlark_hash.specs.declared.hash_value.StarlarkHashValue.{StarlarkHashValue}
+use Rattle.starlark_hash.specs.declared.hashed.Hashed.{Hashed}
+use Rattle.starlark_hash.specs.Entries.{Entry}
+use Rattle.starlark_hash.specs.HashValue.{hashed, hash_of, key_of}
+use Rattle.starlark_vec2.specs.PairList.{PairList, pair_list, reserved_capacity}
+
+-- the entries in order, and how many of them there may be before the list grows
+pub record EntryList (K V : Type 0) : Type 0 where
+  pub entries : List (Entry K V)
+  pub capacity : ℕ
+
+-- the hash with this number
+abbrev pub hash_value : ℕ → StarlarkHashValue
+hash_value n = record { 0 = n }
+
+module _ {K V : Type 0} where
+  -- these entries and this capacity
+  abbrev pub entry_list : List (Entry K V) → ℕ → EntryList K V
+  entry_list es n = record { entries = es; capacity = n }
+
+  -- the same capacity, with these entries
+  abbrev pub with_entries : EntryList K V → List (Entry K V) → EntryList K V
+  with_entries m es = entry_list es m.capacity
+
+  -- an entry is a pair of a key under a hash and a value, so a list of entries grows as a list of pairs
+  abbrev pub as_pairs : EntryList K V → PairList (Hashed K) V
+  as_pairs m = pair_list m.entries m.capacity
+
+  -- the list after room was reserved for n further entries
+  abbrev pub reserve : EntryList K V → ℕ → EntryList K V
+  reserve m n = entry_list m.entries (reserved_capacity (as_pairs m) n)
+
+  -- the list after this entry was put at the end
+  abbrev pub push : EntryList K V → Entry K V → EntryList K V
+  push m e = entry_list (m.entries ++ e ∷ []) (reserved_capacity (as_pairs m) 1)
+
+  -- the entry of a key and a value, and the number of their hash
+  abbrev pub entry_of : (K × V) × ℕ → Entry K V
+  entry_of p = (hashed (hash_value p.1) p.0.0, p.0.1)
+
+  -- the entries of two columns
+  abbrev pub entries_in : List (K × V) → List ℕ → List (Entry K V)
+  entries_in pairs hashes = map entry_of (zip pairs hashes)
+
+  -- what a `(Hashed<&K>, &V)` points to, and a `(Hashed<&K>, &mut V)`
+  abbrev pub deref_entry : Hashed (Bor K) × Bor V → Entry K V
+  deref_entry p = (hashed (hash_of p.0) (key_of p.0).now, p.1.now)
+
+  abbrev pub deref_entry_mut : Hashed (Bor K) × MutBor V → Entry K V
+  deref_entry_mut p = (hashed (hash_of p.0) (key_of p.0).now, p.1.now)

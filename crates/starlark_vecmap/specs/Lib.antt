@@ -1,0 +1,6 @@
+pub mod EntryList
+pub mod Ordered
+pub mod Retain
+pub mod Clone
+pub mod Lending
+pub mod IterMut

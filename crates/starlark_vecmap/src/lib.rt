@@ -1,0 +1,12 @@
+//! The vector map: a list of entries in two columns, looked up by hash and key.
+#![tactic(auto)]
+
+mod columns;
+mod hash_search;
+pub mod vec_map;
+
+pub use hash_search::find_hash_in_array;
+pub use vec_map::VecMap;
+
+#[cfg(test)]
+mod tests;

@@ -1,0 +1,351 @@
+//! `VecMap`, a list of entries in two columns. Its children alone see its field.
+ghost use Rattle.std.specs.Prelude.{◌≡◌, ◌-◌, ◌^◌, ◌<◌, ◌≤◌, ◌==◌, [], length, map, remove, reverse, slice_get, is_ok, if◌then◌else◌, IfOk, IfErr, IfSome, IsOk};
+ghost use Rattle.std.specs.Option.{option_map};
+ghost use Rattle.std.specs.Map.Iter.{TakesLast, ShowsInOrder, ShowsInReverse, GivesInOrder, GivesInReverse, deref, deref_pair};
+ghost use Rattle.starlark_hash.specs.Entries.{Entry, entry_key, entry_value, pair_of, position_of, entry_at, without};
+ghost use Rattle.starlark_hash.specs.HashValue.{hash_of, key_of};
+ghost use Rattle.starlark_hash.specs.Search.{Asks, CanSearch, keys_under};
+ghost use Rattle.starlark_vecmap.specs.EntryList as list;
+ghost use Rattle.starlark_vecmap.specs.EntryList.{entry_list, with_entries, deref_entry};
+
+mod compare;
+mod copy;
+mod into_iter;
+mod iter;
+mod iter_mut;
+mod lends;
+mod retain;
+mod sort;
+
+use crate::columns::search_columns;
+pub use into_iter::{IntoIter, IntoIterHashed, IntoKeys, IntoValues};
+pub use iter::{Iter, IterHashed, Keys, Values};
+pub use iter_mut::{IterMut, ValuesMut};
+use starlark_hash::{Equivalent, Hashed, NoRoom, StarlarkHashValue};
+use starlark_vec2::Vec2;
+use std::alloc::{AllocError, Global};
+use std::marker::Model;
+
+/// A list of entries, looked up by hash and key. An entry is a key under a hash, and a value. Nothing keeps two entries
+/// from having the same hash and equal keys.
+#[derive(Drop)]
+pub struct VecMap<K, V> {
+    // The keys with their values, and the number of the hash of each.
+    columns: Vec2<(K, V), u32>,
+}
+
+impl<K, V> Model for VecMap<K, V> {
+    ghost use Rattle.std.specs.Prelude.{map};
+    ghost use Rattle.starlark_vecmap.specs.EntryList.{EntryList, entry_list, entry_of};
+
+    ghost Value = { EntryList K V };
+
+    ghost view = { λ m. entry_list (map entry_of m.columns.pairs) m.columns.capacity };
+}
+
+// Making
+
+impl<K, V> VecMap<K, V> {
+    /// A map without entries. It takes no memory.
+    #[inline]
+    pub fn new(alloc: Global) -> Self
+        ensures { result ≡ entry_list [] 0 }
+    {
+        VecMap {
+            columns: Vec2::new(alloc),
+        }
+    }
+
+    /// A map without entries, with room for `capacity` of them. Capacity 0 takes no memory; where another finds none,
+    /// nothing is made.
+    #[inline]
+    pub fn with_capacity(alloc: Global, capacity: usize) -> Result<Self, AllocError>
+        ensures made { IfOk result (λ m. m ≡ entry_list [] capacity) }
+        ensures succeeds { capacity ≡ 0 → IsOk result }
+    {
+        Ok(VecMap {
+            columns: Vec2::with_capacity(alloc, capacity)?,
+        })
+    }
+}
+
+// Reading
+
+impl<K, V> VecMap<K, V> {
+    /// How many entries there are.
+    #[inline]
+    pub fn len(&self) -> usize
+        ensures len { result ≡ length self.now.entries }
+        ensures fits { length self.now.entries < 2 ^ 64 }
+    {
+        self.columns.len()
+    }
+
+    /// Whether there are no entries.
+    #[inline]
+    pub fn is_empty(&self) -> bool
+        ensures { result ≡ (length self.now.entries == 0) }
+    {
+        self.columns.is_empty()
+    }
+
+    /// How many entries there may be before the map grows.
+    #[inline]
+    pub fn capacity(&self) -> usize
+        ensures capacity { result ≡ self.now.capacity }
+        ensures within { length self.now.entries ≤ self.now.capacity }
+    {
+        self.columns.capacity()
+    }
+
+    /// The first place under the hash whose key `accepts` answers true for. It is asked about the keys under this hash
+    /// alone, from the front, about each at most once.
+    #[inline]
+    pub fn get_index_of_hashed_raw<F: FnMut(&K) -> bool>(
+        &self,
+        hash: StarlarkHashValue,
+        accepts: F,
+    ) -> Option<usize>
+    where
+        F: Drop,
+        requires { CanSearch F.FnMut (keys_under hash self.now.entries) accepts }
+        ensures { (last : F) × Asks F.FnMut accepts (keys_under hash self.now.entries) result last }
+    {
+        search_columns(self.columns.firsts(), self.columns.seconds(), hash, accepts)
+    }
+
+    /// The first place under the query's hash whose key the query is equivalent to.
+    #[inline]
+    pub fn get_index_of_hashed<Q: Equivalent<K>>(&self, key: Hashed<&Q>) -> Option<usize>
+    where
+        K: Eq,
+        ensures place { result ≡ position_of (hash_of key.entry) (Q.equivalent (key_of key.entry).now) self.now.entries }
+        ensures within { IfSome result (λ i. i < length self.now.entries) }
+    {
+        let query = *key.key();
+        self.get_index_of_hashed_raw(key.hash(), |k| query.equivalent(k))
+    }
+
+    /// The key and the value at this index, where there is an entry.
+    #[inline]
+    pub fn get_index(&self, index: usize) -> Option<(&K, &V)>
+        ensures { option_map deref_pair result ≡ option_map pair_of (slice_get self.now.entries index) }
+    {
+        let (pair, _) = self.columns.get(index)?;
+        Some((&pair.0, &pair.1))
+    }
+
+    /// The entry at this index. Rust's is unsafe; here the index is proved to be within the length.
+    #[inline]
+    pub fn get_unchecked(&self, index: usize) -> (Hashed<&K>, &V)
+        requires { index < length self.now.entries }
+        ensures { slice_get self.now.entries index ≡ Some (deref_entry result) }
+    {
+        let (pair, hash) = self.columns.get_unchecked(index);
+        let hash = StarlarkHashValue::new_unchecked(*hash);
+        (Hashed::new_unchecked(hash, &pair.0), &pair.1)
+    }
+}
+
+// Walking
+
+impl<K, V> VecMap<K, V> {
+    /// The keys, in their order.
+    #[tactic(auto, using(crate::proofs::Views::views))]
+    #[inline]
+    pub fn keys(&self) -> Keys<'_, K, V>
+        ensures rest { result ≡ map entry_key self.now.entries }
+        ensures fits { length self.now.entries < 2 ^ 64 }
+        ensures runs { ShowsInOrder (deref {X = K}) }
+        ensures runs_back { ShowsInReverse (deref {X = K}) }
+    {
+        Keys::new(self.iter())
+    }
+
+    /// The values, in their order.
+    #[tactic(auto, using(crate::proofs::Views::views))]
+    #[inline]
+    pub fn values(&self) -> Values<'_, K, V>
+        ensures rest { result ≡ map entry_value self.now.entries }
+        ensures fits { length self.now.entries < 2 ^ 64 }
+        ensures runs { ShowsInOrder (deref {X = V}) }
+        ensures runs_back { ShowsInReverse (deref {X = V}) }
+    {
+        Values::new(self.iter())
+    }
+
+    /// The keys and values of the entries, in their order.
+    #[tactic(auto, using(crate::proofs::Views::views))]
+    #[inline]
+    pub fn iter(&self) -> Iter<'_, K, V>
+        ensures rest { result ≡ map pair_of self.now.entries }
+        ensures fits { length self.now.entries < 2 ^ 64 }
+        ensures runs { ShowsInOrder (deref_pair {K = K} {X = V}) }
+        ensures runs_back { ShowsInReverse (deref_pair {K = K} {X = V}) }
+    {
+        Iter::new(self.columns.firsts())
+    }
+
+    /// The entries, in their order.
+    #[tactic(auto, using(crate::proofs::Views::views))]
+    #[inline]
+    pub fn iter_hashed(&self) -> IterHashed<'_, K, V>
+        ensures rest { result ≡ self.now.entries }
+        ensures fits { length self.now.entries < 2 ^ 64 }
+        ensures runs { ShowsInOrder (deref_entry {K = K} {V = V}) }
+        ensures runs_back { ShowsInReverse (deref_entry {K = K} {V = V}) }
+    {
+        IterHashed::new(self.columns.iter())
+    }
+}
+
+impl<K: Drop, V: Drop> VecMap<K, V> {
+    /// The entries by value, in their order.
+    #[inline]
+    pub fn into_iter_hashed(self) -> IntoIterHashed<K, V>
+        ensures rest { result ≡ self.entries }
+        ensures fits { length self.entries < 2 ^ 64 }
+        ensures runs { GivesInOrder (Entry K V) }
+        ensures runs_back { GivesInReverse (Entry K V) }
+    {
+        let VecMap { columns } = self;
+        IntoIterHashed::new(columns.into_iter())
+    }
+
+    /// The keys by value, in their order.
+    #[tactic(auto, using(crate::proofs::Views::views))]
+    #[inline]
+    pub fn into_keys(self) -> IntoKeys<K, V>
+        ensures rest { result ≡ map entry_key self.entries }
+        ensures fits { length self.entries < 2 ^ 64 }
+        ensures runs { GivesInOrder K }
+        ensures runs_back { GivesInReverse K }
+    {
+        IntoKeys::new(self.into_iter())
+    }
+
+    /// The values by value, in their order.
+    #[tactic(auto, using(crate::proofs::Views::views))]
+    #[inline]
+    pub fn into_values(self) -> IntoValues<K, V>
+        ensures rest { result ≡ map entry_value self.entries }
+        ensures fits { length self.entries < 2 ^ 64 }
+        ensures runs { GivesInOrder V }
+        ensures runs_back { GivesInReverse V }
+    {
+        IntoValues::new(self.into_iter())
+    }
+}
+
+impl<K: Drop, V: Drop> IntoIterator for VecMap<K, V> {
+    type Item = (K, V);
+
+    type IntoIter = IntoIter<K, V>;
+
+    ghost into_iter_gives = { λ m rest. (rest ≡ map pair_of m.entries) × (length m.entries < 2 ^ 64) × GivesInOrder (K × V) × GivesInReverse (K × V) };
+
+    /// The keys and values of the entries by value, in their order.
+    #[inline]
+    fn into_iter(self) -> IntoIter<K, V> {
+        IntoIter::new(self.into_iter_hashed())
+    }
+}
+
+// Growing
+
+impl<K, V> VecMap<K, V> {
+    /// Makes room for so many further entries. It grows only where their room is missing, to the largest of what is
+    /// needed, 4 and twice the capacity. Where memory is refused, the map is as it was.
+    #[inline]
+    pub fn reserve(&mut self, additional: usize) -> Result<(), AllocError>
+        ensures list { self.new ≡ (if is_ok result then list.reserve self.old additional else self.old) }
+        ensures succeeds { additional ≤ self.old.capacity - length self.old.entries → IsOk result }
+    {
+        self.columns.reserve(additional)
+    }
+
+    /// Puts an entry at the end; an entry with the same hash and an equal key stays where it is. Where there is no
+    /// memory the map is as it was, and the entry comes back; that can't be while the length is below the capacity.
+    #[inline]
+    pub fn insert_hashed_unique_unchecked(
+        &mut self,
+        key: Hashed<K>,
+        value: V,
+    ) -> Result<(), NoRoom<(Hashed<K>, V)>>
+        ensures list { self.new ≡ (if is_ok result then list.push self.old (key, value) else self.old) }
+        ensures handed_back { IfErr result (λ refused. refused.0 ≡ (key, value)) }
+        ensures succeeds { length self.old.entries < self.old.capacity → IsOk result }
+    {
+        let hash = key.hash();
+        match self.columns.push((key.into_key(), value), hash.get()) {
+            Ok(()) => Ok(()),
+            Err(NoRoom(((key, value), _))) => {
+                Err(NoRoom((Hashed::new_unchecked(hash, key), value)))
+            }
+        }
+    }
+}
+
+// Shrinking and turning
+
+impl<K, V> VecMap<K, V> {
+    /// Takes the entry at this index out. Those after it move up.
+    #[tactic(auto, using(crate::proofs::Views::views))]
+    #[inline]
+    pub fn remove(&mut self, index: usize) -> (Hashed<K>, V)
+        requires { index < length self.old.entries }
+        ensures taken { slice_get self.old.entries index ≡ Some result }
+        ensures list { self.new ≡ with_entries self.old (remove self.old.entries index) }
+    {
+        let ((key, value), hash) = self.columns.remove(index);
+        (
+            Hashed::new_unchecked(StarlarkHashValue::new_unchecked(hash), key),
+            value,
+        )
+    }
+
+    /// Takes the last entry out, where there is one.
+    #[inline]
+    pub fn pop(&mut self) -> Option<(Hashed<K>, V)>
+        ensures taken { TakesLast (λ e. e) self.old.entries result self.new.entries }
+        ensures capacity { self.new.capacity ≡ self.old.capacity }
+    {
+        let ((key, value), hash) = self.columns.pop()?;
+        Some((
+            Hashed::new_unchecked(StarlarkHashValue::new_unchecked(hash), key),
+            value,
+        ))
+    }
+
+    /// Turns the order of the entries round.
+    #[tactic(auto, using(crate::proofs::Views::views))]
+    #[inline]
+    pub fn reverse(&mut self)
+        ensures { self.new ≡ with_entries self.old (reverse self.old.entries) }
+    {
+        self.columns.reverse();
+    }
+}
+
+impl<K: Eq, V> VecMap<K, V> {
+    /// Takes the first entry out that stands under the query's hash and whose key the query is equivalent to, where
+    /// there is one. Those after it move up.
+    pub fn remove_hashed_entry<Q: Equivalent<K>>(&mut self, key: Hashed<&Q>) -> Option<(K, V)>
+        ensures taken { result ≡ option_map pair_of (entry_at self.old.entries (position_of (hash_of key.entry) (Q.equivalent (key_of key.entry).now) self.old.entries)) }
+        ensures list { self.new ≡ with_entries self.old (without self.old.entries (position_of (hash_of key.entry) (Q.equivalent (key_of key.entry).now) self.old.entries)) }
+    {
+        let index = self.get_index_of_hashed(key)?;
+        let (key, value) = self.remove(index);
+        Some((key.into_key(), value))
+    }
+}
+
+impl<K: Drop, V: Drop> VecMap<K, V> {
+    /// Drops all entries. The capacity stays.
+    #[inline]
+    pub fn clear(&mut self)
+        ensures { self.new ≡ with_entries self.old [] }
+    {
+        self.columns.clear();
+    }
+}

@@ -1,0 +1,24 @@
+//! `VecMap::clone`.
+ghost use Rattle.std.specs.Prelude.{◌≡◌, length, IfOk, IsOk};
+ghost use Rattle.std.specs.List.{AllZip};
+ghost use Rattle.starlark_vec2.specs.Collect.{IsLawfulClone};
+ghost use Rattle.starlark_vecmap.specs.EntryList.{entry_list};
+ghost use Rattle.starlark_vecmap.specs.Clone.{IsEntryClone};
+
+use super::VecMap;
+use std::alloc::AllocError;
+
+impl<K: Clone, V: Clone> VecMap<K, V> {
+    /// A map of clones of the entries under the same hashes, whose capacity is their number. Where memory is refused,
+    /// also to the clone of a key or a value, nothing is made. Without entries no memory is needed.
+    pub fn clone(&self) -> Result<Self, AllocError>
+        ensures entries { IfOk result (λ m. AllZip (IsEntryClone K.is_clone V.is_clone) self.now.entries m.entries) }
+        ensures capacity { IfOk result (λ m. m.capacity ≡ length self.now.entries) }
+        ensures same { IfOk result (λ m. IsLawfulClone K.is_clone → IsLawfulClone V.is_clone → m ≡ entry_list self.now.entries (length self.now.entries)) }
+        ensures succeeds { length self.now.entries ≡ 0 → IsOk result }
+    {
+        Ok(VecMap {
+            columns: self.columns.clone()?,
+        })
+    }
+}

@@ -1,0 +1,24 @@
+//! `VecMap::retain`.
+ghost use Rattle.std.specs.Prelude.{◌≡◌};
+ghost use Rattle.starlark_vec2.specs.Retain.{Retains, TakesInTurn};
+ghost use Rattle.starlark_vecmap.specs.EntryList.{entry_of};
+ghost use Rattle.starlark_vecmap.specs.Retain.{TakesEntry, CalledAtEntry};
+
+use super::VecMap;
+
+impl<K: Drop, V: Drop> VecMap<K, V> {
+    /// Keeps the entries at which the closure answers true, with the value that it leaves, in their order. It is called
+    /// once an entry, from the front.
+    pub fn retain<F: FnMut(&K, &mut V) -> bool>(&mut self, mut keep: F)
+        requires { TakesInTurn (CalledAtEntry F.FnMut) (TakesEntry F.FnMut) keep self.old.entries }
+        ensures entries { Retains (CalledAtEntry F.FnMut) keep self.old.entries self.new.entries }
+        ensures capacity { self.new.capacity ≡ self.old.capacity }
+    {
+        self.columns.retain(
+            |pair: &mut (K, V), hash: &mut u32| -> bool
+                requires { TakesEntry F.FnMut keep (entry_of (pair.old, hash.old)) }
+                ensures { CalledAtEntry F.FnMut keep.entry (entry_of (pair.old, hash.old)) result (entry_of (pair.new, hash.new)) keep.exit }
+            { keep(&pair.0, &mut pair.1) },
+        );
+    }
+}

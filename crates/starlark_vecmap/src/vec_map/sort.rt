@@ -1,0 +1,50 @@
+//! Sorting a `VecMap` by its keys.
+ghost use Rattle.std.specs.Prelude.{◌≡◌, IsOk, OnOk, OnErr, MatchBool};
+ghost use Rattle.starlark_hash.specs.Sorting.{Ascends, sorted_by_key};
+ghost use Rattle.starlark_vecmap.specs.EntryList.{with_entries};
+
+use super::VecMap;
+use crate::columns::keys_ascend;
+use std::alloc::AllocError;
+use std::cmp::Ordering;
+
+impl<K, V> VecMap<K, V> {
+    /// Sorts the entries by key; those with equal keys keep their order. Where the keys ascend already, it returns at
+    /// once and needs no memory. Where memory is refused, the map is as it was.
+    pub fn sort_keys(&mut self) -> Result<(), AllocError>
+    where
+        K: Ord,
+        ensures sorted { OnOk result (self.new ≡ with_entries self.old (sorted_by_key K.cmp self.old.entries)) }
+        ensures unchanged { OnErr result (self.new ≡ self.old) }
+        ensures at_once { Ascends K.cmp self.old.entries → IsOk result × (self.new ≡ self.old) }
+    {
+        if self.is_sorted_by_key() {
+            return Ok(());
+        }
+        self.sort_columns()
+    }
+
+    // The part of `sort_keys` that asks for memory.
+    fn sort_columns(&mut self) -> Result<(), AllocError>
+    where
+        K: Ord,
+        ensures sorted { OnOk result (self.new ≡ with_entries self.old (sorted_by_key K.cmp self.old.entries)) }
+        ensures unchanged { OnErr result (self.new ≡ self.old) }
+    {
+        self.columns.sort_by(
+            |d: (&(K, V), &u32), e: (&(K, V), &u32)| -> Ordering
+                ensures { result ≡ K.cmp d.entry.0.now.0 e.entry.0.now.0 }
+            { d.0.0.cmp(&e.0.0) },
+        )
+    }
+
+    /// Whether the keys ascend. Equal keys may stand side by side.
+    #[inline]
+    pub fn is_sorted_by_key(&self) -> bool
+    where
+        K: Ord,
+        ensures { MatchBool result (Ascends K.cmp self.now.entries) (Ascends K.cmp self.now.entries → ⊥) }
+    {
+        keys_ascend(self.columns.firsts())
+    }
+}
