@@ -51,7 +51,8 @@ impl StarlarkHashValue {
         self.0
     }
 
-    /// A 64-bit hash from this one, for tables that take their places from the upper bits. Different hashes have different ones.
+    /// A 64-bit hash from this one, for tables that take their places from the upper bits. Different hashes
+    /// have different ones.
     #[inline]
     pub fn promote(self) -> u64
         ensures promoted { result ≡ promoted (hash_number self) }

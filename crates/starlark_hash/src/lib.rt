@@ -1,4 +1,4 @@
-//! Hash values, keys under a hash, the queries by which keys are looked up, and the words on lists of entries that every crate above cites.
+//! Hashes, keys under them, the queries by which they are looked up, and the words on lists of entries.
 #![tactic(auto)]
 
 pub mod equivalent;

@@ -12,9 +12,12 @@ use starlark_small::SmallMap;
 use std::alloc::Global;
 use std::io::{Read, Write};
 
-/// Plays the script that the reader holds, on a map that begins empty: does what each line asks for, and writes its reply before the next line is taken. The writer is flushed at the end of the script, and only there.
+/// Plays the script that the reader holds, on a map that begins empty: does what each line asks for, and
+/// writes its reply before the next line is taken. The writer is flushed at the end of the script, and only
+/// there.
 ///
-/// A bad line, or a line for which memory is refused, ends it: the replies to the lines before are then written, and no others. What was written before a read, a write or the flush failed is not said.
+/// A bad line, or a line for which memory is refused, ends it: the replies to the lines before are then
+/// written, and no others. What was written before a read, a write or the flush failed is not said.
 pub fn play<R: Read, W: Write>(
     alloc: Global,
     reader: &mut R,

@@ -74,7 +74,8 @@ impl Window {
         self.start += held.min(len + 1);
     }
 
-    /// Reads on, a block a call, until the first line is whole or too long, or the input has ended. A failed read ends it, whatever its kind.
+    /// Reads on, a block a call, until the first line is whole or too long, or the input has ended. A failed
+    /// read ends it, whatever its kind.
     pub fn find_line<R: Read>(&mut self, reader: &mut R) -> Result<Found, PlayFault>
         ensures kept { OnOk result (Keeps (prepend_known self.old (R.remaining reader.old)) (prepend_known self.new (R.remaining reader.new))) }
         ensures shows { IfOk result (λ found. Shows found self.new (R.remaining reader.new)) }

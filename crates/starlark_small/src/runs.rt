@@ -44,7 +44,9 @@ fn step<K: Ord + Drop, V: Drop, R, F: Fn(&K, &V) -> R>(
     }
 }
 
-/// Does the commands in order on the map, and answers their replies. `look` gives the part of an entry that a reply shows. Memory for the replies is asked for before the first command: where it is not found no command is done.
+/// Does the commands in order on the map, and answers their replies. `look` gives the part of an entry that a
+/// reply shows. Memory for the replies is asked for before the first command: where it is not found no
+/// command is done.
 pub fn run<K: Ord + Drop, V: Drop, R: Drop, F: Fn(&K, &V) -> R>(
     alloc: Global,
     map: &mut SmallMap<K, V>,

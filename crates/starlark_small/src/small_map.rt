@@ -12,7 +12,8 @@ use starlark_hash::{Equivalent, Hashed, NoRoom};
 use std::alloc::Global;
 use std::marker::Model;
 
-/// A map that walks in the order of insertion. An entry stands under a hash that its caller brings, which need not be the key's own: a look-up finds the entry of that hash and an equal key.
+/// A map that walks in the order of insertion. An entry stands under a hash that its caller brings, which
+/// need not be the key's own: a look-up finds the entry of that hash and an equal key.
 #[derive(Drop)]
 pub struct SmallMap<K: Eq, V> {
     entries: Vec<(Hashed<K>, V)>,
@@ -78,7 +79,9 @@ impl<K: Eq, V> SmallMap<K, V> {
         self.entries.len()
     }
 
-    /// Inserts under this hash. A key that is there keeps its place and its stored key and takes the value, whose old one is answered; a new key goes last. Only a new key is refused, where there is no room and no memory is found: it comes back with its value, and the entries stay.
+    /// Inserts under this hash. A key that is there keeps its place and its stored key and takes the value,
+    /// whose old one is answered; a new key goes last. Only a new key is refused, where there is no room and
+    /// no memory is found: it comes back with its value, and the entries stay.
     pub fn insert_hashed(
         &mut self,
         key: Hashed<K>,
@@ -96,7 +99,8 @@ impl<K: Eq, V> SmallMap<K, V> {
         ensures handed_back { IfErr result (λ refused. refused.0 ≡ (key, value)) }
         ensures unchanged { OnErr result ((self.new.entries ≡ self.old.entries) × (self.new.indexed ≡ self.old.indexed)) }
 
-        // A key that is there changes nothing but its value; with room to spare nothing grows; else the capacity and an index may.
+        // A key that is there changes nothing but its value; with room to spare nothing grows; else the
+        // capacity and an index may.
         ensures replaced { IsSome (match_of K.eq self.old.entries key) → self.new ≡ record self.old { entries = self.new.entries } }
         ensures spare { 0 < self.old.room → (self.new.capacity ≡ self.old.capacity) × (self.new.indexed ≡ self.old.indexed) }
         ensures room { KeepsRoom self.old self.new }

@@ -1,4 +1,5 @@
-//! The iterators of a `ReadyTable`. Each goes along the walk, knows how many items are left, and is seen as the list of them.
+//! The iterators of a `ReadyTable`. Each goes along the walk, knows how many items are left, and is seen as
+//! the list of them.
 ghost use Rattle.std.specs.Prelude.{◌≡◌, ⊤};
 ghost use Rattle.std.specs.Iterator.{YieldsFirst, YieldsFirstRef, item_count};
 ghost use Rattle.starlark_table.specs.Table.{filled, items_in};

@@ -18,7 +18,8 @@ use std::alloc::{AllocError, Global};
 use std::marker::Model;
 use std::mem;
 
-/// A bag of items, each under a 64-bit hash that was ready when it came in, and that it keeps. Items need not differ, nor their hashes.
+/// A bag of items, each under a 64-bit hash that was ready when it came in, and that it keeps. Items need not
+/// differ, nor their hashes.
 ///
 /// Open addressing: each slot is empty or has a member, which stands as near behind its home as was free when it came.
 #[derive(Drop)]
@@ -94,8 +95,10 @@ impl<T> ReadyTable<T> {
         limit(self.slots.len()) - self.len
     }
 
-    /// The slot of an item under exactly this hash that `eq` accepts. `eq` is asked about items of this hash alone, about each at most
-    /// once and in no promised order, until it accepts one; `None` says that it refused them all. A slot is good until the next change.
+    /// The slot of an item under exactly this hash that `eq` accepts. `eq` is asked about items of this hash
+    /// alone, about each at most
+    /// once and in no promised order, until it accepts one; `None` says that it refused them all. A slot is
+    /// good until the next change.
     #[inline]
     pub fn find<F: FnMut(&T) -> bool>(&self, hash: u64, eq: F) -> Option<usize>
         requires { CanSearch F.FnMut (items_under hash self.now) eq }
@@ -134,7 +137,8 @@ impl<T> ReadyTable<T> {
         item_mut(&mut self.slots[slot])
     }
 
-    /// Puts an item in, also where an equal one is there, and answers its slot. Refused only at room 0; the table is then as it was, and
+    /// Puts an item in, also where an equal one is there, and answers its slot. Refused only at room 0; the
+    /// table is then as it was, and
     /// the item comes back.
     #[inline]
     pub fn insert_unique(&mut self, hash: u64, item: T) -> Result<usize, NoRoom<T>>
@@ -154,7 +158,8 @@ impl<T> ReadyTable<T> {
         Ok(slot)
     }
 
-    /// Makes room for so many insertions at least. It asks for no memory, and changes nothing, where the room is there; where it is
+    /// Makes room for so many insertions at least. It asks for no memory, and changes nothing, where the room
+    /// is there; where it is
     /// refused, the table is as it was.
     #[inline]
     pub fn reserve(&mut self, additional: usize) -> Result<(), AllocError>
@@ -193,7 +198,8 @@ impl<T> ReadyTable<T> {
         Ok(())
     }
 
-    /// Takes the member of a slot out, with its hash. All others stay, though not in their slots, and the room comes back at once.
+    /// Takes the member of a slot out, with its hash. All others stay, though not in their slots, and the
+    /// room comes back at once.
     #[inline]
     pub fn remove(&mut self, slot: usize) -> Option<(u64, T)>
         ensures found { result ≡ member_at self.old slot }
@@ -208,7 +214,8 @@ impl<T> ReadyTable<T> {
         member
     }
 
-    /// Puts what `f` answers in the place of each item, under the same hash: `f` is called once on each member, along the walk.
+    /// Puts what `f` answers in the place of each item, under the same hash: `f` is called once on each
+    /// member, along the walk.
     pub fn replace_each<F: FnMut(&T) -> T>(&mut self, f: F)
     where
         T: Drop,
@@ -219,7 +226,8 @@ impl<T> ReadyTable<T> {
         replace_items(self.slots.as_mut_slice(), f);
     }
 
-    /// Keeps the members that `f` accepts, with what `f` left in their items, and takes the others out. `f` is called once on each member,
+    /// Keeps the members that `f` accepts, with what `f` left in their items, and takes the others out. `f`
+    /// is called once on each member,
     /// along the walk. No memory is asked for, and the room of what was taken out comes back.
     pub fn retain<F: FnMut(&mut T) -> bool>(&mut self, f: F)
     where
@@ -251,7 +259,8 @@ impl<T> ReadyTable<T> {
         Iter::new(self.slots.as_slice(), self.len)
     }
 
-    /// The first slot from one on that has a member. With `get_mut` this walks over the items for writing, one lent at a time: there is no
+    /// The first slot from one on that has a member. With `get_mut` this walks over the items for writing,
+    /// one lent at a time: there is no
     /// iterator that lends them all at once.
     #[inline]
     pub fn slot_from(&self, from: usize) -> Option<usize>

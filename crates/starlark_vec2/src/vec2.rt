@@ -58,7 +58,8 @@ impl<A, B> Vec2<A, B> {
         }
     }
 
-    /// A list without pairs, with room for `capacity` of them. Capacity 0 takes no memory; where another finds none, nothing is made.
+    /// A list without pairs, with room for `capacity` of them. Capacity 0 takes no memory; where another
+    /// finds none, nothing is made.
     #[tactic(auto, using(crate::proofs::Pairs::columns))]
     #[inline]
     pub fn with_capacity(alloc: Global, capacity: usize) -> Result<Vec2<A, B>, AllocError>

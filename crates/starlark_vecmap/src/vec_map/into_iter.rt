@@ -1,4 +1,5 @@
-//! The iterators that own the entries of a `VecMap`. Each is seen as the list of what it has left, which is dropped with it.
+//! The iterators that own the entries of a `VecMap`. Each is seen as the list of what it has left, which is
+//! dropped with it.
 ghost use Rattle.std.specs.Prelude.{◌≡◌, length, map};
 ghost use Rattle.std.specs.Iterator.{at_most};
 ghost use Rattle.std.specs.Map.{keys_of, values_of};
