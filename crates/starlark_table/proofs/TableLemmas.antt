@@ -5,7 +5,6 @@ use Rattle.std.specs.Borrow.{Bor}
 use Rattle.std.specs.Fn.{Mut, CalledAt}
 use Rattle.std.specs.List.{Contains, enumerate_from, filter}
 use Rattle.std.proofs.Common.{eqb-true}
-use Rattle.std.proofs.lemmas.List.Sorted.{IsPermutation-sym, Contains-permutation}
 use Rattle.starlark_hash.specs.Search.{Searches}
 use Rattle.starlark_hash.proofs.SearchLemmas.{found}
 use Rattle.starlark_table.specs.Table.{Table, filled, holders, members, member_at, items_under}
