@@ -5,8 +5,8 @@ use Rattle.std.specs.Borrow.{Bor}
 use Rattle.std.specs.Fn.{Mut, CalledAt}
 use Rattle.std.specs.List.{Contains, enumerate_from, filter}
 use Rattle.std.proofs.Common.{eqb-true}
-use Rattle.std.proofs.lemmas.List.Sorted.{IsPermutation-sym, Contains-permutation}
-use Rattle.starlark_hash.specs.Search.{Asks, Searches}
+use Rattle.starlark_hash.specs.Search.{Searches}
+use Rattle.starlark_hash.proofs.SearchLemmas.{found}
 use Rattle.starlark_table.specs.Table.{Table, filled, holders, members, member_at, items_under}
 use Rattle.starlark_table.specs.Walk.{ReplacesEach}
 use Rattle.starlark_table.proofs.Path.{in_filled}
@@ -58,26 +58,11 @@ module _ {T : Type 0} where
       let held = stands hash 0 t.slots s there in
       ap (member_at t) {x = s.0} {y = held.0} (omega (arith, held.1)) ∙ held.2
 
-same_name : (a b : ℕ) → Some b ≡ Some a → a ≡ b
-same_name a b e = cc
-
-module _ {F T : Type 0} (g : Mut F (Bor T × Unit {0}) Bool) where
-  asked_about : (f last : F) (ps : List (ℕ × T)) (slot : ℕ) → Asks g f ps (Some slot) last → (x : T) × Contains ps (slot, x)
-  asked_about f last [] slot asks = absurd (let none = asks.0 in cc)
-  asked_about f last (p ∷ ps) slot (true, next, called, named) =
-      (p.1, (0, omega arith, ap (λ n. (n, p.1)) (same_name p.0 slot named.0)))
-  asked_about f last (p ∷ ps) slot (false, next, called, rest) =
-      let later = asked_about next last ps slot rest in (later.0, (suc later.1.0, omega (arith, later.1.1), later.1.2))
-
-  -- the slot that a search names has a member, under the hash
-  pub member_at-found : (hash : ℕ) (t : Table T) (f last : F) (slot : ℕ) → Searches g (items_under hash t) f (Some slot) last
-      → (x : T) × (member_at t slot ≡ Some (hash, x))
-  member_at-found hash t f last slot s =
-      let there = asked_about f last s.order slot s.asks in (
-        there.0,
-        member_at-items_under hash t (slot, there.0)
-            (Contains-permutation s.order (items_under hash t) (slot, there.0) (IsPermutation-sym (items_under hash t) s.order s.rearranged) there.1),
-      )
+-- the slot that a search names has a member, under the hash
+pub member_at-found : {F T : Type 0} (g : Mut F (Bor T × Unit {0}) Bool) (hash : ℕ) (t : Table T) (f last : F) (slot : ℕ)
+    → Searches g (items_under hash t) f (Some slot) last → (x : T) × (member_at t slot ≡ Some (hash, x))
+member_at-found g hash t f last slot s =
+    let named = found g (items_under hash t) f slot last s in (named.0, member_at-items_under hash t (slot, named.0) named.1)
 
 -- replacing by a function that keeps its state is a map of the members
 pub members-replaced : {F T : Type 0} (g : Mut F (Bor T × Unit {0}) T) (to : T → T) (f : F)
