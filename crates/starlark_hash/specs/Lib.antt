@@ -1,4 +1,6 @@
 pub mod HashValue
+pub mod Hasher
 pub mod Entries
 pub mod Search
 pub mod Sorting
+pub mod Lending

@@ -1,12 +1,26 @@
 //! Hash values: what an entry is stored under.
-ghost use Rattle.std.specs.Prelude.{◌≡◌, ◌%◌, ◌^◌, ◌<◌};
+ghost use Rattle.std.specs.Prelude.{◌≡◌, ◌%◌, ◌^◌, ◌<◌, IsTrue};
 ghost use Rattle.starlark_hash.specs.HashValue.{hash_number, promoted, mixed};
+ghost use Rattle.starlark_hash.specs.Hasher.{own_hash};
+
+use crate::hasher::StarlarkHasher;
+use std::hash::Hash;
 
 /// A hash value: a number of 32 bits.
 #[derive(Clone, Copy, PartialEq, Eq, Hash, Debug)]
 pub struct StarlarkHashValue(u32);
 
 impl StarlarkHashValue {
+    /// The key's own hash: what a new hasher finishes with after it was fed the key, cut to 32 bits.
+    #[inline]
+    pub fn new<K: Hash>(key: &K) -> Self
+        ensures { result ≡ own_hash K.hash_input key.now }
+    {
+        let mut hasher = StarlarkHasher::new();
+        key.hash(&mut hasher);
+        hasher.finish_small()
+    }
+
     /// The hash value with this number.
     #[inline]
     pub const fn new_unchecked(hash: u32) -> Self
@@ -53,3 +67,8 @@ pub fn promotion_is_injective(first: StarlarkHashValue, second: StarlarkHashValu
 {
     let _numbers = (first.get(), second.get());
 }
+
+/// Equal keys have equal own hashes.
+pub fn equal_keys_have_one_hash<K: Hash>(first: &K, second: &K)
+    ensures { IsTrue (K.eq first.now second.now) → own_hash K.hash_input first.now ≡ own_hash K.hash_input second.now }
+{}

@@ -4,11 +4,19 @@
 pub mod equivalent;
 pub mod hash_value;
 pub mod hashed;
+mod hashed_impls;
+pub mod hasher;
+pub mod key_query;
 pub mod no_room;
 pub mod text_key;
 
 pub use equivalent::Equivalent;
 pub use hash_value::StarlarkHashValue;
 pub use hashed::Hashed;
+pub use hasher::{StarlarkHasher, StarlarkHasherBuilder};
+pub use key_query::{KeyQuery, ToOwnedKey};
 pub use no_room::NoRoom;
 pub use text_key::TextKey;
+
+#[cfg(test)]
+mod tests;

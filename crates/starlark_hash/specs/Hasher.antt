@@ -1,0 +1,50 @@
+-- What a `StarlarkHasher` computes, and own hashes.
+use Rattle.std.specs.Prelude.{ℕ, zero, suc, ◌+◌, ◌*◌, ◌/◌, ◌%◌, ◌^◌, List, [], ◌∷◌, length, take, drop, nat_le, if◌then◌else◌, bit_xor, fold}
+use Rattle.std.specs.Int.{w64, rotate_left}
+use Rattle.std.specs.Hash.{HashWrites}
+use Rattle.starlark_hash.specs.declared.hash_value.StarlarkHashValue.{StarlarkHashValue}
+use Rattle.starlark_hash.specs.declared.hasher.StarlarkHasher.{StarlarkHasher}
+
+-- the state after one word
+unfoldable pub add_word : ℕ → ℕ → ℕ
+add_word s w = (bit_xor (rotate_left w64 s 5) w * 0x517cc1b727220a95) % 2 ^ 64
+
+-- the number of these bytes, the lowest first
+abbrev pub number : List ℕ → ℕ
+number [] = 0
+number (b ∷ bs) = b + 256 * number bs
+
+-- one word of n bytes where so many are left, and then the words of the rest
+abbrev pub group : ℕ → (List ℕ → List ℕ) → List ℕ → List ℕ
+group n rest bs = if nat_le n (length bs) then number (take n bs) ∷ rest (drop n bs) else rest bs
+
+-- so many words of 8 bytes, then one of 4, one of 2 and one of 1
+abbrev pub groups : ℕ → List ℕ → List ℕ
+groups zero bs = group 4 (group 2 (group 1 (λ _. []))) bs
+groups (suc n) bs = number (take 8 bs) ∷ groups n (drop 8 bs)
+
+-- the words of some bytes: whole groups of 8, then one of 4, one of 2 and one of 1 where so many are left
+unfoldable pub words : List ℕ → List ℕ
+words bs = groups (length bs / 8) bs
+
+-- the hasher to which nothing was written
+abbrev pub initial : StarlarkHasher
+initial = record { state = 0 }
+
+-- the hasher after one word, and after a write of some bytes
+abbrev pub with_word : StarlarkHasher → ℕ → StarlarkHasher
+with_word s w = record { state = add_word s.state w }
+
+abbrev pub write : StarlarkHasher → List ℕ → StarlarkHasher
+write s bytes = fold with_word s (words bytes)
+
+-- what a hasher finishes with, and the hash value of its low 32 bits
+abbrev pub finish : StarlarkHasher → ℕ
+finish s = s.state
+
+abbrev pub finish_small : StarlarkHasher → StarlarkHashValue
+finish_small s = record { 0 = finish s % 2 ^ 32 }
+
+-- the own hash of a key, where `feeds` tells what a key feeds: that of a new hasher after these writes
+abbrev pub own_hash : {K : Type 0} → (K → HashWrites) → K → StarlarkHashValue
+own_hash feeds key = finish_small (fold write initial (feeds key))

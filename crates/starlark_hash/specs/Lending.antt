@@ -1,0 +1,10 @@
+-- What a `Hashed` ends as, once a `&mut` into it has ended.
+use Rattle.std.specs.Borrow.{Fml, RattleType, MutBor, Lends}
+use Rattle.starlark_hash.specs.declared.hashed.Hashed.{Hashed}
+use Rattle.starlark_hash.specs.contracts.hashed.Hashed.{the_row}
+use Rattle.starlark_hash.specs.HashValue.{hashed, hash_of}
+
+module _ (K : RattleType) where
+  -- the key is the last one written through r, under the same hash
+  abbrev pub lends_key : MutBor (Hashed K.Denot) → MutBor K.Denot → Fml
+  lends_key h r = Lends (the_row K) K h r (λ key. hashed (hash_of h.now) key)

@@ -1,0 +1,75 @@
+//! The traits of keys under a hash: equal hashes and keys, order by keys and then by hashes, the hash alone is fed.
+ghost use Rattle.std.proofs.Common.{rules};
+ghost use Rattle.std.specs.Prelude.{◌≡◌};
+ghost use Rattle.std.specs.Cmp.{partial_order_from_own_ties};
+ghost use Rattle.std.specs.Cmp.Rules.{comparing, hashing};
+ghost use Rattle.std.specs.Ordering.{nat_cmp, on, then_cmp, as_partial_cmp};
+ghost use Rattle.std.specs.Hash as fed;
+ghost use Rattle.starlark_hash.specs.HashValue.{hash_number, hash_of, key_of};
+
+use crate::hashed::Hashed;
+use std::cmp::Ordering;
+use std::fmt;
+use std::hash::{Hash, Hasher};
+use std::ops::Deref;
+
+impl<K: Ord> PartialOrd for Hashed<K> {
+    ghost partial_cmp = { as_partial_cmp (then_cmp (on key_of K.cmp) (on (λ h. hash_number (hash_of h)) nat_cmp)) };
+
+    ghost laws = { partial_order_from_own_ties (Prim.search (comparing, rules)) (Prim.search (comparing, rules)) };
+
+    #[inline]
+    fn partial_cmp(&self, other: &Hashed<K>) -> Option<Ordering> {
+        Some(self.cmp(other))
+    }
+}
+
+// Equal keys are told apart by their hashes, so that only what is `==` compares as Equal.
+impl<K: Ord> Ord for Hashed<K> {
+    ghost cmp = { then_cmp (on key_of K.cmp) (on (λ h. hash_number (hash_of h)) nat_cmp) };
+
+    ghost total = { Prim.search (comparing, rules) };
+
+    ghost matches_partial_cmp = { Prim.search (comparing, rules) };
+
+    ghost matches_eq = { Prim.search (comparing, rules) };
+
+    #[inline]
+    fn cmp(&self, other: &Hashed<K>) -> Ordering {
+        self.key()
+            .cmp(other.key())
+            .then(self.hash().get().cmp(&other.hash().get()))
+    }
+}
+
+impl<K: Eq> Hash for Hashed<K> {
+    ghost hash_input = { λ h. fed.u32 (hash_number (hash_of h)) };
+
+    ghost respects_eq = { Prim.search (hashing, rules) };
+
+    #[inline]
+    fn hash<H: Hasher>(&self, state: &mut H) {
+        state.write_u32(self.hash().get());
+    }
+}
+
+impl<K> Deref for Hashed<K> {
+    type Target = K;
+
+    ghost deref_gives = { λ h key. key ≡ key_of h };
+
+    #[inline]
+    fn deref(&self) -> &K {
+        self.key()
+    }
+}
+
+impl<K: fmt::Display> fmt::Display for Hashed<K> {
+    ghost output = { λ h. K.output (key_of h) };
+
+    ghost styled_output = { λ h. K.styled_output (key_of h) };
+
+    fn fmt<W: fmt::Write>(&self, f: &mut fmt::Formatter<W>) -> fmt::Result {
+        self.key().fmt(f)
+    }
+}

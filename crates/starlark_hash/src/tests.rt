@@ -1,0 +1,126 @@
+//! The numbers that hashes come to, printed forms, and calls that are refused.
+use super::*;
+use std::alloc::{AllocError, Global};
+use std::cmp::Ordering;
+use std::hash::{BuildHasher, Hasher};
+use std::test::Fail;
+
+#[test]
+fn hashes_words(rt: HostRuntime) -> Result<(), Fail> {
+    assert_eq!(rt; StarlarkHasher::new().finish(), 0);
+    assert_eq!(rt; StarlarkHasher::default().finish(), 0);
+    assert_eq!(rt; StarlarkHasherBuilder.build_hasher().finish(), 0);
+    let mut zero = StarlarkHasher::new();
+    zero.write_u64(0);
+    assert_eq!(rt; zero.finish(), 0);
+    let mut word = StarlarkHasher::new();
+    word.write_u64(1);
+    assert_eq!(rt; word.finish(), 0x517cc1b727220a95);
+    assert_eq!(rt; word.finish_small().get(), 0x27220a95);
+    let mut byte = StarlarkHasher::new();
+    byte.write_u8(1);
+    assert_eq!(rt; byte.finish(), 0x517cc1b727220a95);
+    let mut eight = StarlarkHasher::new();
+    eight.write([1u8, 0, 0, 0, 0, 0, 0, 0].as_slice());
+    assert_eq!(rt; eight.finish(), 0x517cc1b727220a95);
+    let mut seven = StarlarkHasher::new();
+    seven.write([0u8, 0, 0, 0, 0, 0, 1].as_slice());
+    assert_eq!(rt; seven.finish(), 0x517cc1b727220a95);
+    Ok(())
+}
+
+#[test]
+fn mixes_numbers(rt: HostRuntime) -> Result<(), Fail> {
+    for (hash, promoted) in [
+        (0, 0),
+        (1, 0x9e3779b97f4a7c15),
+        (4294967295, 0xe113025b80b583eb),
+    ] {
+        assert_eq!(rt; StarlarkHashValue::new_unchecked(hash).promote(), promoted);
+    }
+    for (number, mixed) in [(0, 0), (1, 0x34c2cb2c)] {
+        assert_eq!(rt; StarlarkHashValue::hash_64(number).get(), mixed);
+    }
+    Ok(())
+}
+
+#[test]
+fn finds_by_text(rt: HostRuntime) -> Result<(), Fail> {
+    let stored = Hashed::new(String::from_str(rt.alloc(), "key")?);
+    let query = TextKey("key");
+    assert!(rt; StarlarkHashValue::new(&query) == stored.hash());
+    assert!(rt; query.equivalent(stored.key()));
+    assert!(rt; !TextKey("kez").equivalent(stored.key()));
+    assert!(rt; StarlarkHashValue::new(&1u32) == StarlarkHashValue::new_unchecked(0x27220a95));
+    hash_value::equal_keys_have_one_hash(stored.key(), stored.key());
+    key_query::query_has_the_hash_of_its_key(&query, stored.key());
+    hash_value::promotion_is_injective(stored.hash(), stored.hash());
+    Ok(())
+}
+
+fn under(hash: u32, key: &'static str) -> Hashed<&'static str> {
+    Hashed::new_unchecked(StarlarkHashValue::new_unchecked(hash), key)
+}
+
+#[test]
+fn compares_keys_and_then_hashes(rt: HostRuntime) -> Result<(), Fail> {
+    assert!(rt; under(1, "a").cmp(&under(2, "a")) == Ordering::Less);
+    assert!(rt; under(2, "a").cmp(&under(1, "b")) == Ordering::Less);
+    assert!(rt; under(2, "a") < under(1, "b"));
+    assert!(rt; under(1, "a") != under(2, "a"));
+    assert!(rt; under(1, "a") != under(1, "b"));
+    assert!(rt; under(1, "a") == under(1, "a"));
+    // The hash of 1 as one u32.
+    assert_eq!(rt; StarlarkHashValue::new(&under(1, "a")).get(), 0x27220a95);
+    Ok(())
+}
+
+#[test]
+fn shows_and_changes_keys(rt: HostRuntime) -> Result<(), Fail> {
+    let mut entry = Hashed::new_unchecked(StarlarkHashValue::new_unchecked(7), 5u32);
+    *entry.key_mut() += 1;
+    assert_eq!(rt; *entry, 6);
+    let copy = entry.as_ref().copied();
+    assert!(rt; copy == entry);
+    let shown = format!(in rt.alloc(); "{copy}")?;
+    assert!(rt; shown.as_str() == "6");
+    let debug = format!(in rt.alloc(); "{copy:?}")?;
+    assert!(rt; debug.as_str() == "Hashed { hash: StarlarkHashValue(7), key: 6 }");
+    assert_eq!(rt; copy.into_key(), 6);
+    Ok(())
+}
+
+// A key whose clone is refused, and a query that makes no key.
+#[derive(PartialEq, Eq, Drop)]
+struct Refused;
+
+impl Clone for Refused {
+    fn clone(&self) -> Result<Refused, AllocError> {
+        Err(AllocError)
+    }
+}
+
+impl ToOwnedKey<Refused> for Refused {
+    fn to_owned_key(&self, _alloc: Global) -> Result<Refused, AllocError> {
+        Err(AllocError)
+    }
+}
+
+#[test]
+fn clones_and_makes_keys(rt: HostRuntime) -> Result<(), Fail> {
+    let stored = Hashed::new(String::from_str(rt.alloc(), "key")?);
+    let clone = stored.as_ref().cloned()?;
+    assert!(rt; clone == stored);
+    let query = TextKey("key");
+    let made = Hashed::new(query).as_ref().owned(rt.alloc())?;
+    assert!(rt; made == stored);
+    assert_eq!(rt; Hashed::new(3u32).as_ref().owned(rt.alloc())?.into_key(), 3);
+    assert_eq!(rt;
+        Hashed::new(-3i64).as_ref().owned(rt.alloc())?.into_key(),
+        -3
+    );
+    let refused = Hashed::new_unchecked(StarlarkHashValue::new_unchecked(0), Refused);
+    assert!(rt; refused.as_ref().cloned().is_err());
+    assert!(rt; refused.as_ref().owned(rt.alloc()).is_err());
+    Ok(())
+}
