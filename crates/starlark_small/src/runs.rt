@@ -54,8 +54,13 @@ pub fn run<K: Ord + Drop, V: Drop, R: Drop, F: Fn(&K, &V) -> R>(
 where
     F: Drop,
     requires { CanShow F.Fn K.eq K.cmp look map.old.entries commands.items }
-    ensures run { IfOk result (λ replies. Run K.eq K.cmp (Shows F.Fn look) map.old.entries commands.items replies.items map.new.entries) }
-    ensures determined { IfOk result (λ replies. IsDetermined K.eq K.cmp (Shows F.Fn look) map.old.entries commands.items replies.items map.new.entries) }
+    // The replies and the final list are those of one plain list, and of no other run with these refusals.
+    ensures run { IfOk result (λ replies.
+        Run K.eq K.cmp (Shows F.Fn look) map.old.entries commands.items replies.items map.new.entries) }
+    ensures determined { IfOk result (λ replies.
+        IsDetermined K.eq K.cmp (Shows F.Fn look) map.old.entries commands.items replies.items map.new.entries) }
+
+    // A refusal comes before the first command.
     ensures unchanged { OnErr result (map.new ≡ map.old) }
 {
     let mut replies = Vec::with_capacity(alloc, commands.len())?;

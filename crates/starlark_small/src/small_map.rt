@@ -1,7 +1,9 @@
 //! The map. It alone sees its vector.
 ghost use Rattle.std.specs.Prelude.{◌≡◌, ◌+◌, ◌<◌, [], false, length, None, IsSome, IsTrue, IfOk, IfErr, OnOk, OnErr};
+ghost use Rattle.std.specs.Map.Iter.{ShowsInOrder, ShowsInReverse};
 ghost use Rattle.std.specs.Option.{option_copied, option_map};
 ghost use Rattle.starlark_hash.specs.Entries.{entry_at, value_at, pair_of, match_of, insert_entry, IsSingle};
+ghost use Rattle.starlark_small.specs.Iter.{deref_entry};
 ghost use Rattle.starlark_small.specs.Map.{KeepsRoom, GrowsFor, query_match};
 
 use crate::entries::{full_in, insert_in, value_in};
@@ -44,6 +46,8 @@ impl<K: Eq, V> SmallMap<K, V> {
     pub fn iter_hashed(&self) -> IterHashed<'_, K, V>
         ensures entries { result ≡ self.now.entries }
         ensures single { IsSingle K.eq self.now.entries }
+        ensures runs { ShowsInOrder (deref_entry {K = K} {V = V}) }
+        ensures runs_back { ShowsInReverse (deref_entry {K = K} {V = V}) }
     {
         IterHashed::new(&self.entries)
     }
@@ -60,7 +64,8 @@ impl<K: Eq, V> SmallMap<K, V> {
     #[inline]
     pub fn get_full_hashed<Q: Equivalent<K>>(&self, key: Hashed<&Q>) -> Option<(usize, &K, &V)>
         ensures place { option_map (λ found. found.0) result ≡ query_match Q.equivalent self.now.entries key.entry }
-        ensures pair { option_map (λ found. (found.1.now, found.2.now)) result ≡ option_map pair_of (entry_at self.now.entries (query_match Q.equivalent self.now.entries key.entry)) }
+        ensures pair { option_map (λ found. (found.1.now, found.2.now)) result
+            ≡ option_map pair_of (entry_at self.now.entries (query_match Q.equivalent self.now.entries key.entry)) }
     {
         full_in(&self.entries, key.hash(), *key.key())
     }
