@@ -8,7 +8,9 @@ use Rattle.starlark_small.proofs.SortLemmas.{OnOk-map, OnErr-always}
 use Rattle.starlark_small.proofs.entries.sort_in.Goals as goal
 
 pub returns-then-ascends-clause-sorted : goal.returns-then-ascends-clause-sorted
-returns-then-ascends-clause-sorted g c = ?
+returns-then-ascends-clause-sorted g c =
+    let up = rw c.as_slice.ensures.value at (rw c.if-ascends.true at c.ascends.ensures) in
+    sym (sorted_by-fixed (key_lt g.K.Ord.cmp) (key_lt-order g.met.K.Ord.total) c.args.entries.now.items up)
 
 pub returns-clause-sorted : goal.returns-clause-sorted
 returns-clause-sorted g c =
