@@ -1,6 +1,7 @@
 //! The walks of a `SmallMap`. Each is seen as the list of entries that it has left.
-ghost use Rattle.std.specs.Prelude.{◌≡◌, length, ⊤};
-ghost use Rattle.std.specs.Iterator.{at_most};
+ghost use Rattle.std.specs.Prelude.{◌≡◌, length, ⊤, IfSome, Some};
+ghost use Rattle.std.specs.Iterator.{UpTo, at_most};
+ghost use Rattle.std.specs.Iterator.SizeHint.{IsWithinCount};
 ghost use Rattle.std.specs.Map.Iter.{TakesFirst, TakesLast};
 ghost use Rattle.starlark_small.specs.Iter.{deref_entry};
 
@@ -51,7 +52,11 @@ impl<'a, K, V> Iterator for IterHashed<'a, K, V> {
     }
 
     #[inline]
-    fn size_hint(&self) -> (usize, Option<usize>) {
+    fn size_hint(&self) -> (usize, Option<usize>)
+        ensures lower { IsWithinCount result.0 (at_most (length self.now)) }
+        ensures upper { IfSome result.1 (UpTo (at_most (length self.now))) }
+        ensures exact { result ≡ (length self.now, Some (length self.now)) }
+    {
         let len = self.len();
         (len, Some(len))
     }
