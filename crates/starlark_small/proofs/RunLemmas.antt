@@ -1,5 +1,5 @@
 -- What the words of a run say of one another.
-use Rattle.std.proofs.Common.{◌≡◌, ℕ, List, [], ◌∷◌, ◌++◌, length, Option, Some, None, refl, sym, ap, arith}
+use Rattle.std.proofs.Common.{◌≡◌, ℕ, List, [], ◌∷◌, length, Option, Some, None, refl, sym, ap, arith}
 use Rattle.std.specs.Borrow.{Bor}
 use Rattle.std.specs.Fn.{Shared}
 use Rattle.std.specs.Option.{option_map}
@@ -9,7 +9,7 @@ use Rattle.std.proofs.lemmas.Option.{none-some, some_pair_parts}
 use Rattle.starlark_hash.specs.Entries.{Entry, entry_key, entry_value, pair_of}
 use Rattle.starlark_small.specs.declared.command.Command.{Command}
 use Rattle.starlark_small.specs.declared.command.Reply.{Reply}
-use Rattle.starlark_small.specs.Run.{IsShown, Step, Run, Shows, TakesEntry, CanShow, entry_shown}
+use Rattle.starlark_small.specs.Run.{IsShown, Step, Shows, TakesEntry, CanShow, entry_shown}
 
 -- a list without length is empty
 pub empty_at_zero : {X : Type 0} (xs : List X) (n : ℕ) → n ≡ length xs → n ≡ 0 → xs ≡ []

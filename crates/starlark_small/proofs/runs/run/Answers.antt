@@ -1,8 +1,7 @@
-use Rattle.std.proofs.Common.{◌≡◌, refl, sym, ◌∷◌, [], append_assoc, arith}
+use Rattle.std.proofs.Common.{refl, ◌∷◌, [], append_assoc, arith}
 use Rattle.std.proofs.lemmas.List.{append-nil}
 use Rattle.starlark_small.proofs.Determined.{Run-determined}
 use Rattle.starlark_small.proofs.RunLemmas.{empty_at_zero, can_show-after, can_show-now}
-use Rattle.starlark_small.specs.Run.{CanShow, Run, Shows}
 use Rattle.starlark_small.proofs.runs.run.Goals as goal
 
 pub step-requires : goal.step-requires
