@@ -38,6 +38,10 @@ with_word s w = record { state = add_word s.state w }
 abbrev pub write : StarlarkHasher → List ℕ → StarlarkHasher
 write s bytes = fold with_word s (words bytes)
 
+-- a new hasher after these writes
+abbrev pub after_writes : HashWrites → StarlarkHasher
+after_writes writes = fold write initial writes
+
 -- what a hasher finishes with, and the hash value of its low 32 bits
 abbrev pub finish : StarlarkHasher → ℕ
 finish s = s.state
@@ -45,6 +49,6 @@ finish s = s.state
 abbrev pub finish_small : StarlarkHasher → StarlarkHashValue
 finish_small s = record { 0 = finish s % 2 ^ 32 }
 
--- the own hash of a key, where `feeds` tells what a key feeds: that of a new hasher after these writes
+-- the own hash of a key, where `feeds` tells what a key feeds
 abbrev pub own_hash : {K : Type 0} → (K → HashWrites) → K → StarlarkHashValue
-own_hash feeds key = finish_small (fold write initial (feeds key))
+own_hash feeds key = finish_small (after_writes (feeds key))

@@ -1,5 +1,6 @@
 pub mod HashValue
 pub mod Hasher
+pub mod HashedOrder
 pub mod Entries
 pub mod Search
 pub mod Sorting

@@ -11,7 +11,7 @@ use std::alloc::{AllocError, Global};
 use std::hash::Hash;
 
 /// A key and the hash that it stands under.
-#[derive(Clone, Copy, PartialEq, Eq, Debug, Drop)]
+#[derive(Clone, Copy, Debug, Drop)]
 pub struct Hashed<K> {
     hash: StarlarkHashValue,
     key: K,

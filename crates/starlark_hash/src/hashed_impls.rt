@@ -3,9 +3,10 @@ ghost use Rattle.std.proofs.Common.{rules};
 ghost use Rattle.std.specs.Prelude.{◌≡◌};
 ghost use Rattle.std.specs.Cmp.{partial_order_from_own_ties};
 ghost use Rattle.std.specs.Cmp.Rules.{comparing, hashing};
-ghost use Rattle.std.specs.Ordering.{nat_cmp, on, then_cmp, as_partial_cmp};
+ghost use Rattle.std.specs.Ordering.{as_partial_cmp};
 ghost use Rattle.std.specs.Hash as fed;
 ghost use Rattle.starlark_hash.specs.HashValue.{hash_number, hash_of, key_of};
+ghost use Rattle.starlark_hash.specs.HashedOrder.{hashed_eq, hashed_cmp};
 
 use crate::hashed::Hashed;
 use std::cmp::Ordering;
@@ -13,8 +14,23 @@ use std::fmt;
 use std::hash::{Hash, Hasher};
 use std::ops::Deref;
 
+impl<K: PartialEq> PartialEq for Hashed<K> {
+    ghost eq = { hashed_eq K.eq };
+
+    ghost laws = { Prim.search (comparing, rules) };
+
+    #[inline]
+    fn eq(&self, other: &Hashed<K>) -> bool {
+        self.hash() == other.hash() && self.key() == other.key()
+    }
+}
+
+impl<K: Eq> Eq for Hashed<K> {
+    ghost laws = { Prim.search (comparing, rules) };
+}
+
 impl<K: Ord> PartialOrd for Hashed<K> {
-    ghost partial_cmp = { as_partial_cmp (then_cmp (on key_of K.cmp) (on (λ h. hash_number (hash_of h)) nat_cmp)) };
+    ghost partial_cmp = { as_partial_cmp (hashed_cmp K.cmp) };
 
     ghost laws = { partial_order_from_own_ties (Prim.search (comparing, rules)) (Prim.search (comparing, rules)) };
 
@@ -26,7 +42,7 @@ impl<K: Ord> PartialOrd for Hashed<K> {
 
 // Equal keys are told apart by their hashes, so that only what is `==` compares as Equal.
 impl<K: Ord> Ord for Hashed<K> {
-    ghost cmp = { then_cmp (on key_of K.cmp) (on (λ h. hash_number (hash_of h)) nat_cmp) };
+    ghost cmp = { hashed_cmp K.cmp };
 
     ghost total = { Prim.search (comparing, rules) };
 

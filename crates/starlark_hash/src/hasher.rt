@@ -115,6 +115,7 @@ fn read_2(bytes: &[u8], at: usize) -> u64
     u16::from_le_bytes([bytes[at], bytes[at + 1]]) as u64
 }
 
+#[tactic(auto, using(crate::proofs::HasherLemmas::number_words))]
 impl Hasher for StarlarkHasher {
     ghost write = { starlark.write };
 
@@ -136,7 +137,6 @@ impl Hasher for StarlarkHasher {
     }
 
     #[inline]
-    #[tactic(auto, using(crate::proofs::HasherLemmas::number_words))]
     fn write_u8(&mut self, i: u8)
         ensures as_bytes { self.new ≡ fold starlark.write self.old (fed.u8 i) }
         ensures as_word { self.new ≡ starlark.with_word self.old i }
@@ -145,7 +145,6 @@ impl Hasher for StarlarkHasher {
     }
 
     #[inline]
-    #[tactic(auto, using(crate::proofs::HasherLemmas::number_words))]
     fn write_u16(&mut self, i: u16)
         ensures as_bytes { self.new ≡ fold starlark.write self.old (fed.u16 i) }
         ensures as_word { self.new ≡ starlark.with_word self.old i }
@@ -154,7 +153,6 @@ impl Hasher for StarlarkHasher {
     }
 
     #[inline]
-    #[tactic(auto, using(crate::proofs::HasherLemmas::number_words))]
     fn write_u32(&mut self, i: u32)
         ensures as_bytes { self.new ≡ fold starlark.write self.old (fed.u32 i) }
         ensures as_word { self.new ≡ starlark.with_word self.old i }
@@ -163,7 +161,6 @@ impl Hasher for StarlarkHasher {
     }
 
     #[inline]
-    #[tactic(auto, using(crate::proofs::HasherLemmas::number_words))]
     fn write_u64(&mut self, i: u64)
         ensures as_bytes { self.new ≡ fold starlark.write self.old (fed.u64 i) }
         ensures as_word { self.new ≡ starlark.with_word self.old i }
@@ -172,7 +169,6 @@ impl Hasher for StarlarkHasher {
     }
 
     #[inline]
-    #[tactic(auto, using(crate::proofs::HasherLemmas::number_words))]
     fn write_usize(&mut self, i: usize)
         ensures as_bytes { self.new ≡ fold starlark.write self.old (fed.usize i) }
         ensures as_word { self.new ≡ starlark.with_word self.old i }
@@ -181,7 +177,6 @@ impl Hasher for StarlarkHasher {
     }
 
     #[inline]
-    #[tactic(auto, using(crate::proofs::HasherLemmas::number_words))]
     fn write_u128(&mut self, i: u128)
         ensures as_bytes { self.new ≡ fold starlark.write self.old (fed.u128 i) }
         ensures as_words { self.new ≡ starlark.with_word (starlark.with_word self.old (i % 2 ^ 64)) (i / 2 ^ 64) }

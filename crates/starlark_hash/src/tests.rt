@@ -5,12 +5,35 @@ use std::cmp::Ordering;
 use std::hash::{BuildHasher, Hasher};
 use std::test::Fail;
 
+fn after_bytes(bytes: &[u8]) -> u64 {
+    let mut hasher = StarlarkHasher::new();
+    hasher.write(bytes);
+    hasher.finish()
+}
+
 #[test]
-fn hashes_words(rt: HostRuntime) -> Result<(), Fail> {
+fn hashes_bytes(rt: HostRuntime) -> Result<(), Fail> {
+    assert_eq!(rt; after_bytes([].as_slice()), 0);
+    assert_eq!(rt;
+        after_bytes([1, 0, 0, 0, 0, 0, 0, 0].as_slice()),
+        0x517cc1b727220a95
+    );
+    // Three words: 0, 0, 1.
+    assert_eq!(rt;
+        after_bytes([0, 0, 0, 0, 0, 0, 1].as_slice()),
+        0x517cc1b727220a95
+    );
+    // Four words: of 8, 4, 2 and 1 bytes.
+    let fifteen = [1, 2, 3, 4, 5, 6, 7, 8, 9, 10, 11, 12, 13, 14, 15];
+    assert_eq!(rt; after_bytes(fifteen.as_slice()), 0x6e8b5d1d34f08a49);
+    Ok(())
+}
+
+#[test]
+fn hashes_numbers(rt: HostRuntime) -> Result<(), Fail> {
     assert_eq!(rt; StarlarkHasher::new().finish(), 0);
     assert_eq!(rt; StarlarkHasher::default().finish(), 0);
-    assert_eq!(rt; StarlarkHasherBuilder.build_hasher().finish(), 0);
-    let mut zero = StarlarkHasher::new();
+    let mut zero = StarlarkHasherBuilder.build_hasher();
     zero.write_u64(0);
     assert_eq!(rt; zero.finish(), 0);
     let mut word = StarlarkHasher::new();
@@ -20,12 +43,12 @@ fn hashes_words(rt: HostRuntime) -> Result<(), Fail> {
     let mut byte = StarlarkHasher::new();
     byte.write_u8(1);
     assert_eq!(rt; byte.finish(), 0x517cc1b727220a95);
-    let mut eight = StarlarkHasher::new();
-    eight.write([1u8, 0, 0, 0, 0, 0, 0, 0].as_slice());
-    assert_eq!(rt; eight.finish(), 0x517cc1b727220a95);
-    let mut seven = StarlarkHasher::new();
-    seven.write([0u8, 0, 0, 0, 0, 0, 1].as_slice());
-    assert_eq!(rt; seven.finish(), 0x517cc1b727220a95);
+    let mut signed = StarlarkHasher::new();
+    signed.write_i32(-1);
+    assert_eq!(rt; signed.finish(), 0xd5a548ddd8ddf56b);
+    let mut long = StarlarkHasher::new();
+    long.write_u128((1 << 64) + 2);
+    assert_eq!(rt; long.finish(), 0x6c079593b6c98c79);
     Ok(())
 }
 
@@ -49,6 +72,7 @@ fn finds_by_text(rt: HostRuntime) -> Result<(), Fail> {
     let stored = Hashed::new(String::from_str(rt.alloc(), "key")?);
     let query = TextKey("key");
     assert!(rt; StarlarkHashValue::new(&query) == stored.hash());
+    assert_eq!(rt; stored.hash().get(), 0xb3496140);
     assert!(rt; query.equivalent(stored.key()));
     assert!(rt; !TextKey("kez").equivalent(stored.key()));
     assert!(rt; StarlarkHashValue::new(&1u32) == StarlarkHashValue::new_unchecked(0x27220a95));
@@ -111,6 +135,7 @@ fn clones_and_makes_keys(rt: HostRuntime) -> Result<(), Fail> {
     let stored = Hashed::new(String::from_str(rt.alloc(), "key")?);
     let clone = stored.as_ref().cloned()?;
     assert!(rt; clone == stored);
+    assert!(rt; stored.clone()? == stored);
     let query = TextKey("key");
     let made = Hashed::new(query).as_ref().owned(rt.alloc())?;
     assert!(rt; made == stored);

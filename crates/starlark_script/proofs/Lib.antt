@@ -1,0 +1,10 @@
+pub mod Breaks
+pub mod Windows
+pub mod LineFacts
+pub mod Numbers
+pub mod FieldFacts
+pub mod OneReading
+pub mod Writes
+pub mod Going
+pub mod EntriesLemmas
+pub mod Results

@@ -1,0 +1,64 @@
+-- The commands of a script, and how each is written.
+use Rattle.std.specs.Prelude.{◌≡◌, ℕ, ℤ, ◌<◌, ◌≤◌, ◌^◌, List, [], ◌∷◌, length, ◌==◌, All, codes, decimal, FitsSigned}
+use Rattle.std.specs.Int.{w64}
+use Rattle.std.specs.Fmt.{signed_decimal}
+use Rattle.std.specs.List.{slice_split}
+use Rattle.starlark_hash.specs.declared.hashed.Hashed.{Hashed}
+use Rattle.starlark_hash.specs.HashValue.{hash_number, hash_of, key_of}
+
+-- a key as its bytes, under a hash
+abbrev pub Key : Type 0
+Key = Hashed (List ℕ)
+
+pub data Command : Type 0 where
+  Put : (key : Key) (value : ℤ) → Command
+  Get : (key : Key) → Command
+  Len : Command
+  Walk : Command
+
+-- the fields of a line: what stands between its spaces
+abbrev pub fields_of : List ℕ → List (List ℕ)
+fields_of line = slice_split (λ b. b == 32) line
+
+-- the number of the key's hash, as it is written
+abbrev pub hash_text : Key → List ℕ
+hash_text key = decimal (hash_number (hash_of key))
+
+-- how a command is written, field by field
+abbrev pub fields : Command → List (List ℕ)
+fields (Put key value) = codes "put" ∷ hash_text key ∷ key_of key ∷ signed_decimal value ∷ []
+fields (Get key) = codes "get" ∷ hash_text key ∷ key_of key ∷ []
+fields Len = codes "len" ∷ []
+fields Walk = codes "walk" ∷ []
+
+-- the hash is a number of 32 bits, and the key is one or more visible ASCII characters
+pub record IsKey (key : Key) : Type 0 where
+  pub hash : hash_number (hash_of key) < 2 ^ 32
+  pub some : 0 < length (key_of key)
+  pub visible : All (λ b. (33 ≤ b) × (b ≤ 126)) (key_of key)
+
+-- the parts of the command are such as a script may have
+abbrev pub IsLawful : Command → Type 0
+IsLawful (Put key value) = IsKey key × FitsSigned w64 value
+IsLawful (Get key) = IsKey key
+IsLawful Len = Unit {0}
+IsLawful Walk = Unit {0}
+
+-- the line is that of the command
+pub record IsLineOf (line : List ℕ) (command : Command) : Type 0 where
+  pub short : length line ≤ 1000
+  pub lawful : IsLawful command
+  pub written : fields_of line ≡ fields command
+
+-- the line is that of no command
+abbrev pub IsBad : List ℕ → Type 0
+IsBad line = (command : Command) → ¬ (IsLineOf line command)
+
+-- the commands for which memory may be asked
+abbrev pub MayNeedMemory : Command → Type 0
+MayNeedMemory (Put key value) = Unit {0}
+MayNeedMemory command = ⊥
+
+-- no line is that of two commands
+abbrev pub LinesAreOfOne : Type 0
+LinesAreOfOne = (line : List ℕ) (c d : Command) → IsLineOf line c → IsLineOf line d → c ≡ d

@@ -1,0 +1,54 @@
+//! Lines that go to a writer.
+ghost use Rattle.std.specs.Prelude.{◌≡◌, ◌<◌, length, IfSome, OnOk, IfErr};
+ghost use Rattle.std.specs.Fmt.{with_newline};
+ghost use Rattle.std.specs.Io.KnownBytes.{Appends};
+
+use crate::fault::PlayFault;
+use std::fmt;
+use std::fmt::{Display, Formatter};
+use std::io::Write;
+
+/// Writes a text and a line feed. A write that fails is not tried again, whatever its kind.
+pub fn write_line<W: Write, D: Display + Drop>(writer: &mut W, text: D) -> Result<(), PlayFault>
+    ensures ok { OnOk result (IfSome (with_newline (D.output text)) (Appends (W.contents writer.old) (W.contents writer.new))) }
+    ensures err { IfErr result (λ fault. fault ≡ PlayFault.Io) }
+{
+    let mut line = Formatter::new(Output { writer });
+    let written = line.writeln(text);
+    let Output { writer } = line.into_inner();
+    // No effect at run time. The proof reads what the writer holds from this use.
+    let _ = &*writer;
+    match written {
+        Ok(()) => Ok(()),
+        Err(_) => Err(PlayFault::Io),
+    }
+}
+
+// A writer of bytes as a writer of texts.
+#[derive(Drop)]
+struct Output<'a, W> {
+    writer: &'a mut W,
+}
+
+impl<W: Write> fmt::Write for Output<'_, W> {
+    ghost write_str_gives = { λ s text t. (t.writer.ghost_name ≡ s.writer.ghost_name)
+        × Appends (W.contents s.writer.now) (W.contents t.writer.now) text };
+
+    fn write_str(&mut self, text: &str) -> fmt::Result {
+        write_bytes(self.writer, text.as_bytes())
+    }
+}
+
+// Writes all the bytes. Any failed write ends it, and so does one that takes none of them.
+fn write_bytes<W: Write>(writer: &mut W, bytes: &[u8]) -> fmt::Result
+    ensures { OnOk result (Appends (W.contents writer.old) (W.contents writer.new) bytes.now) }
+{
+    let mut rest = bytes;
+    while !rest.is_empty() {
+        match writer.write(rest) {
+            Ok(n) if n > 0 => rest = &rest[n..],
+            _ => return Err(fmt::Error),
+        }
+    }
+    Ok(())
+}

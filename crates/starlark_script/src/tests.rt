@@ -1,0 +1,286 @@
+//! Scripts, through `play`, with readers and writers that fail.
+
+use crate::fault::PlayFault;
+use crate::play::{lines_are_of_one, play};
+use std::alloc::Global;
+use std::io;
+use std::io::{ErrorKind, Read, Write};
+use std::process::Abort;
+use std::test::Fail;
+
+// Gives at most so many bytes a call, and fails at one call.
+#[derive(Drop)]
+struct Pieces<'a> {
+    rest: &'a [u8],
+    most: usize,
+    fails_after: usize,
+    kind: ErrorKind,
+}
+
+impl Read for Pieces<'_> {
+    fn read(&mut self, buf: &mut [u8]) -> io::Result<usize> {
+        if self.fails_after == 0 {
+            return Err(io::Error::from(self.kind));
+        }
+        self.fails_after -= 1;
+        let n = self.most.min(self.rest.len()).min(buf.len());
+        buf[..n].copy_from_slice(&self.rest[..n]);
+        self.rest = &self.rest[n..];
+        Ok(n)
+    }
+}
+
+// Takes one byte a call, fails at one call, and counts the flushes.
+#[derive(Drop)]
+struct Narrow {
+    taken: Vec<u8>,
+    fails_after: usize,
+    kind: ErrorKind,
+    flushes: usize,
+    flush_fails: bool,
+}
+
+impl Write for Narrow {
+    fn write(&mut self, buf: &[u8]) -> io::Result<usize> {
+        if self.fails_after == 0 {
+            return Err(io::Error::from(self.kind));
+        }
+        self.fails_after -= 1;
+        let n = buf.len().min(1);
+        self.taken.extend_from_slice(&buf[..n])?;
+        Ok(n)
+    }
+
+    fn flush(&mut self) -> io::Result<()> {
+        self.flushes = self.flushes.saturating_add(1);
+        if self.flush_fails {
+            return Err(io::Error::from(self.kind));
+        }
+        Ok(())
+    }
+}
+
+// Takes nothing.
+#[derive(Drop)]
+struct Full;
+
+impl Write for Full {
+    fn write(&mut self, _buf: &[u8]) -> io::Result<usize> {
+        Ok(0)
+    }
+
+    fn flush(&mut self) -> io::Result<()> {
+        Ok(())
+    }
+}
+
+const NEVER: usize = usize::MAX;
+
+const KINDS: [ErrorKind; 2] = [ErrorKind::Other, ErrorKind::Interrupted];
+
+fn bytes_in_pieces(script: &str, most: usize, fails_after: usize, kind: ErrorKind) -> Pieces<'_> {
+    Pieces {
+        rest: script.as_bytes(),
+        most,
+        fails_after,
+        kind,
+    }
+}
+
+fn narrow_writer(alloc: Global, fails_after: usize, kind: ErrorKind, flush_fails: bool) -> Narrow {
+    Narrow {
+        taken: Vec::new(alloc),
+        fails_after,
+        kind,
+        flushes: 0,
+        flush_fails,
+    }
+}
+
+// The script ends so, with these replies, whether it is read at once or a byte a call.
+fn check(
+    rt: &(impl Abort + AllocGlobal),
+    script: &str,
+    replies: &str,
+    answer: Result<(), PlayFault>,
+) -> Result<(), Fail> {
+    let mut out = Vec::new(rt.alloc());
+    let mut reader = script.as_bytes();
+    assert!(rt;
+        play(rt.alloc(), &mut reader, &mut out) == answer,
+        "{script}"
+    );
+    assert!(rt; out.as_slice() == replies.as_bytes(), "{script}");
+    let mut out = Vec::new(rt.alloc());
+    let mut reader = bytes_in_pieces(script, 1, NEVER, ErrorKind::Other);
+    assert!(rt;
+        play(rt.alloc(), &mut reader, &mut out) == answer,
+        "{script}"
+    );
+    assert!(rt; out.as_slice() == replies.as_bytes(), "{script}");
+    Ok(())
+}
+
+#[test]
+fn good_scripts(rt: HostRuntime) -> Result<(), Fail> {
+    let scripts = [
+        (
+            "put 1 a 10\nput 2 a 20\nget 2 a\nget 3 a\nlen\nwalk\n",
+            "none\nnone\nsome 20\nnone\n2\n1 a 10\n2 a 20\n",
+        ),
+        ("put 1 a 10\nput 1 a 11\nwalk\n", "none\nsome 10\n1 a 11\n"),
+        ("", ""),
+        ("len", "0\n"),
+        (
+            "put 4294967295 ~! -9223372036854775808\nput 0 z 9223372036854775807\nwalk",
+            "none\nnone\n4294967295 ~! -9223372036854775808\n0 z 9223372036854775807\n",
+        ),
+    ];
+    for (script, replies) in scripts {
+        check(&rt, script, replies, Ok(()))?;
+    }
+    Ok(())
+}
+
+#[test]
+fn bad_lines(rt: HostRuntime) -> Result<(), Fail> {
+    let lines = [
+        "len\r\n",
+        "put 4294967296 a 1\n",
+        "put 1 a 07\n",
+        "put 1 a -0\n",
+        "put 1 a +7\n",
+        "put 1 a 9223372036854775808\n",
+        "put 1  a 5\n",
+        "put 1 a 5 \n",
+        "put 01 a 5\n",
+        "get 1 é\n",
+        "Len\n",
+        "walk 1\n",
+        "\n",
+    ];
+    for line in lines {
+        check(&rt, line, "", Err(PlayFault::BadLine(1)))?;
+    }
+    check(
+        &rt,
+        "put 1 a 5\nput x a 5\nlen\n",
+        "none\n",
+        Err(PlayFault::BadLine(2)),
+    )?;
+    check(&rt, "len\n\n", "0\n", Err(PlayFault::BadLine(2)))
+}
+
+// A line `put 1 KEY 1` with a key of so many bytes.
+fn long_line(alloc: Global, key: usize) -> Result<String, Fail> {
+    let mut line = String::new(alloc);
+    line.push_str("put 1 ")?;
+    for _ in 0..key {
+        line.push('k')?;
+    }
+    line.push_str(" 1\n")?;
+    Ok(line)
+}
+
+#[test]
+fn long_lines(rt: HostRuntime) -> Result<(), Fail> {
+    let longest = long_line(rt.alloc(), 992)?;
+    check(&rt, longest.as_str(), "none\n", Ok(()))?;
+    let longer = long_line(rt.alloc(), 993)?;
+    check(&rt, longer.as_str(), "", Err(PlayFault::BadLine(1)))
+}
+
+// Each reply goes out before the next line is read, whatever fails then.
+#[test]
+fn failing_reads(rt: HostRuntime) -> Result<(), Fail> {
+    let script = "len\nlen\nlen\nlen\n";
+    for kind in KINDS {
+        for calls in 0..5 {
+            let mut out = Vec::new(rt.alloc());
+            let mut reader = bytes_in_pieces(script, 4, calls, kind);
+            assert!(rt; play(rt.alloc(), &mut reader, &mut out) == Err(PlayFault::Io));
+            assert!(rt;
+                out.as_slice() == "0\n0\n0\n0\n".as_bytes().get(..2 * calls).unwrap_or(&[])
+            );
+        }
+        let mut out = Vec::new(rt.alloc());
+        let mut reader = bytes_in_pieces(script, 4, 5, kind);
+        assert!(rt; play(rt.alloc(), &mut reader, &mut out) == Ok(()));
+    }
+    Ok(())
+}
+
+#[test]
+fn failing_writes(rt: HostRuntime) -> Result<(), Fail> {
+    let script = "put 1 a 10\nget 1 a\nlen\nwalk\n";
+    let replies = "none\nsome 10\n1\n1 a 10\n";
+    for kind in KINDS {
+        for calls in 0..replies.len() {
+            let mut writer = narrow_writer(rt.alloc(), calls, kind, false);
+            let mut reader = script.as_bytes();
+            assert!(rt; play(rt.alloc(), &mut reader, &mut writer) == Err(PlayFault::Io));
+            assert!(rt; writer.taken.as_slice() == &replies.as_bytes()[..calls]);
+            assert!(rt; writer.flushes == 0);
+        }
+        let mut writer = narrow_writer(rt.alloc(), replies.len(), kind, true);
+        let mut reader = script.as_bytes();
+        assert!(rt; play(rt.alloc(), &mut reader, &mut writer) == Err(PlayFault::Io));
+        assert!(rt; writer.taken.as_slice() == replies.as_bytes());
+    }
+    let mut reader = script.as_bytes();
+    assert!(rt; play(rt.alloc(), &mut reader, &mut Full) == Err(PlayFault::Io));
+    Ok(())
+}
+
+#[test]
+fn flushes_at_the_end_alone(rt: HostRuntime) -> Result<(), Fail> {
+    for (script, flushes) in [("len\nlen\n", 1), ("", 1), ("len\nx\n", 0)] {
+        let mut writer = narrow_writer(rt.alloc(), NEVER, ErrorKind::Other, false);
+        let mut reader = script.as_bytes();
+        let _ = play(rt.alloc(), &mut reader, &mut writer);
+        assert!(rt; writer.flushes == flushes, "{script}");
+    }
+    Ok(())
+}
+
+// Asks for memory in `play` alone, so that each of its requests can be refused.
+#[test]
+fn refused_memory(rt: HostRuntime) -> Result<(), Fail> {
+    let script = "put 1 a 1\nput 2 b 2\nput 1 a 3\nput 3 c 3\nput 4 d 4\nput 5 e 5\nlen\n";
+    let mut room = [0; 64];
+    let mut writer = &mut room[..];
+    let mut reader = script.as_bytes();
+    let answer = play(rt.alloc(), &mut reader, &mut writer);
+    let left = writer.len();
+    let written = &room[..room.len().saturating_sub(left)];
+    let replies = "none\nnone\nsome 1\nnone\nnone\nnone\n5\n".as_bytes();
+    assert!(rt; replies.starts_with(written));
+    match answer {
+        Ok(()) => assert!(rt; written == replies),
+        Err(fault) => {
+            assert!(rt; fault == PlayFault::Memory);
+            assert!(rt; written.is_empty() || written.ends_with(b"\n"));
+        }
+    }
+    Ok(())
+}
+
+#[test]
+fn faults(rt: HostRuntime) -> Result<(), Fail> {
+    lines_are_of_one();
+    let faults = [
+        (
+            PlayFault::BadLine(18446744073709551615),
+            2,
+            "line 18446744073709551615: bad line",
+        ),
+        (PlayFault::Memory, 3, "out of memory"),
+        (PlayFault::Io, 4, "input or output failed"),
+    ];
+    for (fault, status, text) in faults {
+        assert!(rt; fault.status() == status);
+        let shown = format!(in rt.alloc(); "{fault}")?;
+        assert!(rt; shown.as_str() == text);
+    }
+    Ok(())
+}

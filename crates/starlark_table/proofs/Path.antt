@@ -1,0 +1,150 @@
+-- The search for a hash along its probe path.
+use Rattle.std.proofs.Common.{◌≡◌, ℕ, zero, suc, zero-add, length-drop, ◌+◌, ◌<◌, ◌≤◌, List, [], ◌∷◌, ◌++◌, length, Option, Some, None, IsSome, true, false, nat_eq, get_or, take, drop, arith, refl, IsPermutation, sym, ◌∙◌, ap, subst, add-one, drop-cons, if◌then◌else◌, eq-eqb}
+use Rattle.std.proofs.lemmas.Bool.{ne_eqb}
+use Rattle.std.proofs.lemmas.List.{get_or-drop, get_or_default, take-append-drop}
+use Rattle.std.proofs.lemmas.List.Elements.{All-head, All-tail}
+use Rattle.std.proofs.lemmas.List.FromFn.{length-enumerate_from, get_or-enumerate_from}
+use Rattle.std.proofs.lemmas.List.Sorted.{IsPermutation-append_comm}
+use Rattle.std.specs.List.{enumerate_from, All, Contains}
+use Rattle.starlark_table.specs.Table.{holders, holders_in, filled}
+use Rattle.starlark_table.specs.Layout.{distance, home, at, InPlace}
+use Rattle.starlark_table.proofs.Lists.{drop_all}
+use Rattle.starlark_table.proofs.Circle.{turn, length-turn, get_or-turn, step_to, distance-below}
+
+module _ {T : Type 0} where
+  pub holders-append : (hash : ℕ) (ps bs : List (ℕ × Option (ℕ × T)))
+      → holders hash (ps ++ bs) ≡ holders hash ps ++ holders hash bs
+  holders-append hash [] bs = refl
+  holders-append hash ((p, None) ∷ ps) bs = holders-append hash ps bs
+  holders-append hash ((p, Some (h, x)) ∷ ps) bs =
+      elim (nat_eq h hash) as (λ b. (if b then (p, x) ∷ holders hash (ps ++ bs) else holders hash (ps ++ bs))
+      ≡ (if b then (p, x) ∷ holders hash ps else holders hash ps) ++ holders hash bs) [
+        | true ↦ ap (λ l. (p, x) ∷ l) (holders-append hash ps bs)
+        | false ↦ holders-append hash ps bs
+      ]
+
+  -- this numbered slot does not hold the hash
+  abbrev pub Lacks : ℕ → ℕ × Option (ℕ × T) → Type 0
+  Lacks hash e = (x : T) → e.1 ≡ Some (hash, x) → ⊥
+
+  skipped : (hash p h : ℕ) (x : T) (rest : List (ℕ × Option (ℕ × T))) → (h ≡ hash → ⊥)
+      → holders hash ((p, Some (h, x)) ∷ rest) ≡ holders hash rest
+  skipped hash p h x rest other = rw (ne_eqb h hash other) refl
+
+  taken : (hash p : ℕ) (x : T) (rest : List (ℕ × Option (ℕ × T)))
+      → holders hash ((p, Some (hash, x)) ∷ rest) ≡ (p, x) ∷ holders hash rest
+  taken hash p x rest = rw (eq-eqb hash hash refl) refl
+
+  pub holders-none : (hash : ℕ) (es : List (ℕ × Option (ℕ × T))) → All (Lacks hash) es → holders hash es ≡ []
+  holders-none hash [] all = refl
+  holders-none hash ((p, None) ∷ es) all = holders-none hash es (All-tail (Lacks hash) _ es all)
+  holders-none hash ((p, Some (h, x)) ∷ es) all =
+      skipped hash p h x es (λ e. All-head (Lacks hash) _ es all x (rw e refl))
+      ∙ holders-none hash es (All-tail (Lacks hash) _ es all)
+
+  -- the numbered slots that are still to be read, where the search began at a
+  abbrev pub path_from : ℕ → List (Option (ℕ × T)) → ℕ → List (ℕ × Option (ℕ × T))
+  path_from a slots i = drop i (turn a (enumerate_from 0 slots))
+
+  pub length-path : (a : ℕ) (slots : List (Option (ℕ × T))) → length (turn a (enumerate_from 0 slots)) ≡ length slots
+  length-path a slots = length-turn a (enumerate_from 0 slots) ∙ length-enumerate_from 0 slots
+
+  on_path : (a q k : ℕ) (slots : List (Option (ℕ × T))) (d : ℕ × Option (ℕ × T)) → a < length slots → q < length slots
+      → distance (length slots) a q ≡ k
+      → get_or (turn a (enumerate_from 0 slots)) k d ≡ (q, at slots q)
+  on_path a q k slots d a_in q_in e =
+      let len = length-enumerate_from 0 slots in
+      let a_in' : a < length (enumerate_from 0 slots) = rw len a_in in
+      let q_in' : q < length (enumerate_from 0 slots) = rw len q_in in
+      let e' : distance (length (enumerate_from 0 slots)) a q ≡ k = rw len e in
+      get_or-turn (enumerate_from 0 slots) a q k d a_in' q_in' e'
+      ∙ get_or-enumerate_from 0 slots q d q_in
+      ∙ rw (zero-add q, get_or_default slots q d.1 None q_in) refl
+
+  pub path-step : (a place i : ℕ) (slots : List (Option (ℕ × T))) → a < length slots → place < length slots
+      → distance (length slots) a place ≡ i
+      → path_from a slots i ≡ (place, at slots place) ∷ path_from a slots (i + 1)
+  path-step a place i slots a_in place_in e =
+      let below : i < length (turn a (enumerate_from 0 slots)) =
+      rw (length-path a slots, ← e) (distance-below (length slots) a place a_in place_in) in
+      drop-cons (turn a (enumerate_from 0 slots)) i (place, None) below
+      ∙ rw (on_path a place i slots (place, None) a_in place_in e, add-one) refl
+
+  full_not_empty : (o : Option (ℕ × T)) → IsSome o → o ≡ None → ⊥
+  full_not_empty None full e = cc
+  full_not_empty (Some m) full e = cc
+
+  -- past an empty place, no place of the path holds the hash
+  pub path-ends : (shift hash place i : ℕ) (slots : List (Option (ℕ × T)))
+      → home shift hash < length slots → place < length slots
+      → distance (length slots) (home shift hash) place ≡ i → at slots place ≡ None → InPlace (length slots) shift slots
+      → holders hash (path_from (home shift hash) slots (i + 1)) ≡ []
+  path-ends shift hash place i slots home_in place_in e empty reached =
+      holders-none hash (path_from (home shift hash) slots (i + 1))
+      (λ k d below x e'.
+      let in' : i + 1 + k < length slots =
+      rw (← length-path (home shift hash) slots)
+      (omega (arith, simp length-drop at below)) in
+      let target = step_to (length slots) (home shift hash) (i + 1 + k) home_in in' in
+      let read = on_path (home shift hash) target.0 (i + 1 + k) slots d home_in target.1 target.2 in
+      let here : at slots target.0 ≡ Some (hash, x) =
+      sym (ap (λ s. s.1) (get_or-drop (i + 1) (turn (home shift hash) (enumerate_from 0 slots)) k d ∙ read)) ∙ e' in
+      let nearer : distance (length slots) (home shift hash) place < distance (length slots) (home shift hash) target.0 =
+      omega (arith, e, target.2) in
+      full_not_empty (at slots place) (reached.reached target.0 place hash x here place_in nearer) empty)
+
+  pub read_at : (slots : List (Option (ℕ × T))) (place : ℕ) (r : Option (ℕ × T)) → place < length slots
+      → r ≡ get_or slots place r → at slots place ≡ r
+  read_at slots place r place_in e = get_or_default slots place None r place_in ∙ sym e
+
+  -- at an empty place, the rest of the path does not hold the hash
+  pub nothing_left : (shift hash place i : ℕ) (slots : List (Option (ℕ × T)))
+      → home shift hash < length slots → place < length slots
+      → distance (length slots) (home shift hash) place ≡ i → at slots place ≡ None → InPlace (length slots) shift slots
+      → holders hash (path_from (home shift hash) slots i) ≡ []
+  nothing_left shift hash place i slots home_in place_in e empty reached =
+      ap (holders hash) (path-step (home shift hash) place i slots home_in place_in e)
+      ∙ ap (λ o. holders hash ((place, o) ∷ path_from (home shift hash) slots (i + 1))) empty
+      ∙ path-ends shift hash place i slots home_in place_in e empty reached
+
+  -- the path, from a place that holds the hash
+  pub path-taken : (hash a place i : ℕ) (item : T) (slots : List (Option (ℕ × T)))
+      → a < length slots → place < length slots
+      → distance (length slots) a place ≡ i → at slots place ≡ Some (hash, item)
+      → holders hash (path_from a slots i) ≡ (place, item) ∷ holders hash (path_from a slots (i + 1))
+  path-taken hash a place i item slots a_in place_in e here =
+      ap (holders hash) (path-step a place i slots a_in place_in e)
+      ∙ ap (λ o. holders hash ((place, o) ∷ path_from a slots (i + 1))) here
+      ∙ taken hash place item (path_from a slots (i + 1))
+
+  -- the path, from a place that holds another hash
+  pub path-skipped : (hash a place i h : ℕ) (item : T) (slots : List (Option (ℕ × T)))
+      → a < length slots → place < length slots
+      → distance (length slots) a place ≡ i → at slots place ≡ Some (h, item) → (h ≡ hash → ⊥)
+      → holders hash (path_from a slots i) ≡ holders hash (path_from a slots (i + 1))
+  path-skipped hash a place i h item slots a_in place_in e here other =
+      ap (holders hash) (path-step a place i slots a_in place_in e)
+      ∙ ap (λ o. holders hash ((place, o) ∷ path_from a slots (i + 1))) here
+      ∙ skipped hash place h item (path_from a slots (i + 1)) other
+
+  pub path-over : (hash a i : ℕ) (slots : List (Option (ℕ × T))) → length slots ≤ i → holders hash (path_from a slots i) ≡ []
+  path-over hash a i slots all =
+      ap (holders hash) (drop_all i (turn a (enumerate_from 0 slots)) (rw (length-path a slots) all))
+
+  -- the path holds each slot of the hash once
+  pub listed : (hash a : ℕ) (slots : List (Option (ℕ × T)))
+      → IsPermutation (holders_in hash slots) (holders hash (path_from a slots 0))
+  listed hash a slots =
+      let es : List (ℕ × Option (ℕ × T)) = enumerate_from 0 slots in
+      let swapped = IsPermutation-append_comm (holders hash (take a es)) (holders hash (drop a es)) in
+      subst (λ l. IsPermutation (holders hash l) (holders hash (drop a es ++ take a es))) (take-append-drop a es)
+      (rw (holders-append hash (take a es) (drop a es), holders-append hash (drop a es) (take a es)) swapped)
+
+  pub in_filled : (slots : List (Option (ℕ × T))) (place : ℕ) (m : ℕ × T) → at slots place ≡ Some m
+      → Contains (filled slots) m
+  in_filled [] place m e = absurd (cc)
+  in_filled (None ∷ slots) zero m e = absurd (cc)
+  in_filled (None ∷ slots) (suc place) m e = in_filled slots place m e
+  in_filled (Some n ∷ slots) zero m e = (0, omega arith, cc)
+  in_filled (Some n ∷ slots) (suc place) m e =
+      let rest = in_filled slots place m e in (rest.0 + 1, omega (arith, rest.1), rw add-one rest.2)

@@ -1,0 +1,138 @@
+-- Whether slots are well laid out depends on their hashes alone.
+use Rattle.std.proofs.Common.{◌≡◌, ℕ, zero, suc, ◌*◌, ◌^◌, ◌<◌, ◌≤◌, ◌⊎◌, List, [], ◌∷◌, length, Option, Some, None, IsSome, get_or, arith, refl, sym, ◌∙◌, ap, subst}
+use Rattle.std.specs.List.{AllZip}
+use Rattle.std.specs.Option.{option_map}
+use Rattle.std.proofs.Math.ListN.{set}
+use Rattle.std.specs.Borrow.{Bor}
+use Rattle.std.specs.Fn.{Mut}
+use Rattle.starlark_table.specs.Table.{filled, IsSlotClone}
+use Rattle.starlark_table.specs.Walk.{ReplacesEach}
+use Rattle.starlark_table.specs.Layout.{at, limit, InPlace, IsSound}
+
+-- how many hashes there are
+abbrev count_full : List (Option ℕ) → ℕ
+count_full [] = 0
+count_full (None ∷ hashes) = count_full hashes
+count_full (Some h ∷ hashes) = suc (count_full hashes)
+
+some_not_none : {X : Type 0} (x : X) → Some x ≡ None → ⊥
+some_not_none x e = cc
+
+same_inside : (h k : ℕ) → Some h ≡ Some k → h ≡ k
+same_inside h k e = cc
+
+module _ {T : Type 0} where
+  abbrev hash_of : Option (ℕ × T) → Option ℕ
+  hash_of None = None
+  hash_of (Some m) = Some m.0
+
+  -- the hash at each slot
+  abbrev pub shape : List (Option (ℕ × T)) → List (Option ℕ)
+  shape [] = []
+  shape (None ∷ slots) = None ∷ shape slots
+  shape (Some m ∷ slots) = Some m.0 ∷ shape slots
+
+  length-shape : (slots : List (Option (ℕ × T))) → length (shape slots) ≡ length slots
+  length-shape [] = refl
+  length-shape (None ∷ slots) = ap suc (length-shape slots)
+  length-shape (Some m ∷ slots) = ap suc (length-shape slots)
+
+  length-filled : (slots : List (Option (ℕ × T))) → length (filled slots) ≡ count_full (shape slots)
+  length-filled [] = refl
+  length-filled (None ∷ slots) = length-filled slots
+  length-filled (Some m ∷ slots) = ap suc (length-filled slots)
+
+  at-shape : (slots : List (Option (ℕ × T))) (p : ℕ) → get_or (shape slots) p None ≡ hash_of (at slots p)
+  at-shape [] p = refl
+  at-shape (None ∷ slots) zero = refl
+  at-shape (None ∷ slots) (suc p) = at-shape slots p
+  at-shape (Some m ∷ slots) zero = refl
+  at-shape (Some m ∷ slots) (suc p) = at-shape slots p
+
+  full_by_hash : (o : Option (ℕ × T)) (h : ℕ) → hash_of o ≡ Some h → (x : T) × (o ≡ Some (h, x))
+  full_by_hash None h e = absurd (some_not_none h (sym e))
+  full_by_hash (Some (k, x)) h e = (x, ap (λ n. Some (n, x)) (same_inside k h e))
+
+  full_in_both : (o n : Option (ℕ × T)) → hash_of n ≡ hash_of o → IsSome o → IsSome n
+  full_in_both None n e some = absurd (cc)
+  full_in_both (Some m) None e some = absurd (some_not_none m.0 (sym e))
+  full_in_both (Some m) (Some n) e some = refl
+
+  module _ (old new : List (Option (ℕ × T))) (same : shape new ≡ shape old) where
+    pub same_length : length new ≡ length old
+    same_length = sym (length-shape new) ∙ ap length same ∙ length-shape old
+
+    pub same_count : length (filled new) ≡ length (filled old)
+    same_count = length-filled new ∙ ap count_full same ∙ sym (length-filled old)
+
+    same_hash_at : (p : ℕ) → hash_of (at new p) ≡ hash_of (at old p)
+    same_hash_at p = sym (at-shape new p) ∙ ap (λ l. get_or l p None) same ∙ at-shape old p
+
+    pub reshaped : (len shift : ℕ) → IsSound old len shift → IsSound new len shift
+    reshaped len shift sound = record {
+      counted = sound.counted ∙ sym same_count;
+      load = subst (λ n. len ≤ limit n) (sym same_length) sound.load;
+      shift_low = sound.shift_low;
+      shift_high = sound.shift_high;
+      places = subst (λ n. (n ≡ 0) ⊎ (n * 2 ^ shift ≡ 2 ^ 64)) (sym same_length) sound.places;
+      in_place = subst (λ n. InPlace n shift new) (sym same_length) (record {
+        homed = λ p h y e.
+            let back = full_by_hash (at old p) h (sym (same_hash_at p) ∙ ap hash_of e) in
+            sound.in_place.homed p h back.0 back.1;
+        reached = λ p q h y e below near.
+            let back = full_by_hash (at old p) h (sym (same_hash_at p) ∙ ap hash_of e) in
+            full_in_both (at old q) (at new q) (same_hash_at q) (sound.in_place.reached p q h back.0 back.1 below near);
+      });
+    }
+
+module _ {F T : Type 0} (g : Mut F (Bor T × Unit {0}) T) where
+  pub shape-replaced : (old new : List (Option (ℕ × T))) (f last : F) → ReplacesEach g f old new last → shape new ≡ shape old
+  shape-replaced [] new f last r = ap shape r.0
+  shape-replaced (None ∷ old) new f last (rest, is, more) = ap shape is ∙ ap (λ l. None ∷ l) (shape-replaced old rest f last more)
+  shape-replaced (Some (h, x) ∷ old) new f last (y, next, rest, called, is, more) =
+      ap shape is ∙ ap (λ l. Some h ∷ l) (shape-replaced old rest next last more)
+
+module _ {T : Type 0} (is_clone : T → T → Type 0) where
+  pub shape-cloned : (old new : List (Option (ℕ × T))) → AllZip (IsSlotClone is_clone) old new → shape new ≡ shape old
+  shape-cloned [] [] all = refl
+  shape-cloned [] (p ∷ new) all = absurd all
+  shape-cloned (o ∷ old) [] all = absurd all
+  shape-cloned (None ∷ old) (p ∷ new) all = ap (λ o. shape (o ∷ new)) all.0 ∙ ap (λ l. None ∷ l) (shape-cloned old new all.1)
+  shape-cloned (Some (h, x) ∷ old) (p ∷ new) all =
+      ap (λ o. shape (o ∷ new)) all.0.2 ∙ ap (λ l. Some h ∷ l) (shape-cloned old new all.1)
+
+  module _ (copies : Option (ℕ × T) → Option (ℕ × T) → Type 0)
+      (none_some : (m : ℕ × T) → copies None (Some m) → ⊥)
+      (some_none : (m : ℕ × T) → copies (Some m) None → ⊥)
+      (both : (m n : ℕ × T) → copies (Some m) (Some n) → (n.0 ≡ m.0) × is_clone m.1 n.1) where
+    one_cloned : (o p : Option (ℕ × T)) → copies o p → IsSlotClone is_clone o p
+    one_cloned None None r = refl
+    one_cloned None (Some n) r = absurd (none_some n r)
+    one_cloned (Some m) None r = absurd (some_none m r)
+    one_cloned (Some (h, x)) (Some (k, y)) r =
+        let same = both (h, x) (k, y) r in (y, same.1, ap (λ n. Some (n, y)) same.0)
+
+    pub slots_cloned : (old new : List (Option (ℕ × T))) → AllZip copies old new → AllZip (IsSlotClone is_clone) old new
+    slots_cloned [] [] all = tt
+    slots_cloned [] (p ∷ new) all = absurd all
+    slots_cloned (o ∷ old) [] all = absurd all
+    slots_cloned (o ∷ old) (p ∷ new) all = (one_cloned o p all.0, slots_cloned old new all.1)
+
+module _ {T : Type 0} (w : T) where
+  abbrev written : Option (ℕ × T) → Option (ℕ × T)
+  written o = option_map (λ m. (m.0, w)) o
+
+  shape-first : (o : Option (ℕ × T)) (slots : List (Option (ℕ × T))) → shape (written o ∷ slots) ≡ shape (o ∷ slots)
+  shape-first None slots = refl
+  shape-first (Some m) slots = refl
+
+  shape-cons : (o : Option (ℕ × T)) (xs ys : List (Option (ℕ × T))) → shape xs ≡ shape ys → shape (o ∷ xs) ≡ shape (o ∷ ys)
+  shape-cons None xs ys e = ap (λ l. None ∷ l) e
+  shape-cons (Some m) xs ys e = ap (λ l. Some m.0 ∷ l) e
+
+  -- another item in a slot
+  pub shape-written : (slots : List (Option (ℕ × T))) (i : ℕ) (o : Option (ℕ × T)) → o ≡ get_or slots i o → i < length slots
+      → shape (set slots i (written o)) ≡ shape slots
+  shape-written [] i o e below = absurd (omega arith)
+  shape-written (p ∷ slots) zero o e below = ap (λ o. shape (written o ∷ slots)) e ∙ shape-first p slots
+  shape-written (p ∷ slots) (suc i) o e below = shape-cons p (set slots i (written o)) slots (shape-written slots i o e (omega arith))

@@ -1,0 +1,91 @@
+-- What the words on tables say of one another, for the crates above.
+use Rattle.std.proofs.Common.{◌≡◌, ℕ, zero, suc, ◌+◌, Bool, true, false, cond, nat_eq, List, [], ◌∷◌, map, Option, Some, None, refl, sym, ap, subst, ◌∙◌, arith, if◌then◌else◌}
+use Rattle.std.specs.Prelude.{slice_index_or}
+use Rattle.std.specs.Borrow.{Bor}
+use Rattle.std.specs.Fn.{Mut, CalledAt}
+use Rattle.std.specs.List.{Contains, enumerate_from, filter}
+use Rattle.std.proofs.Common.{eqb-true}
+use Rattle.std.proofs.lemmas.List.Sorted.{IsPermutation-sym, Contains-permutation}
+use Rattle.starlark_hash.specs.Search.{Asks, Searches}
+use Rattle.starlark_table.specs.Table.{Table, filled, holders, members, member_at, items_under}
+use Rattle.starlark_table.specs.Walk.{ReplacesEach}
+use Rattle.starlark_table.proofs.Path.{in_filled}
+
+module _ {T : Type 0} where
+  -- the member of a slot is a member of the table
+  pub members-member_at : (t : Table T) (slot : ℕ) (m : ℕ × T) → member_at t slot ≡ Some m → Contains (members t) m
+  members-member_at t slot m e = in_filled t.slots slot m e
+
+  under_in : (hash n : ℕ) (slots : List (Option (ℕ × T)))
+      → map (λ s. s.1) (holders hash (enumerate_from n slots)) ≡ map (λ m. m.1) (filter (λ m. nat_eq m.0 hash) (filled slots))
+  under_in hash n [] = refl
+  under_in hash n (None ∷ slots) = under_in hash (n + 1) slots
+  under_in hash n (Some (h, x) ∷ slots) =
+      elim (nat_eq h hash) as (λ b. map (λ s. s.1) (if b then (n, x) ∷ holders hash (enumerate_from (n + 1) slots) else holders hash (enumerate_from (n + 1) slots))
+      ≡ map (λ m. m.1) (cond b ((h, x) ∷ filter (λ m. nat_eq m.0 hash) (filled slots)) (filter (λ m. nat_eq m.0 hash) (filled slots)))) [
+        | true ↦ ap (λ l. x ∷ l) (under_in hash (n + 1) slots)
+        | false ↦ under_in hash (n + 1) slots
+      ]
+
+  -- the items of a hash, by their slots and among the members
+  pub items-items_under : (hash : ℕ) (t : Table T) → map (λ s. s.1) (items_under hash t) ≡ map (λ m. m.1) (filter (λ m. nat_eq m.0 hash) (members t))
+  items-items_under hash t = under_in hash 0 t.slots
+
+  -- so many slots on, the slot has the item under the hash
+  abbrev Stands : ℕ → List (Option (ℕ × T)) → ℕ → ℕ × T → Type 0
+  Stands hash slots n s = (k : ℕ) × (s.0 ≡ n + k) × (slice_index_or slots k None ≡ Some (hash, s.1))
+
+  stands_here : (h hash n : ℕ) (x : T) (s : ℕ × T) (slots : List (Option (ℕ × T))) (rest : List (ℕ × T)) → h ≡ hash
+      → (Contains rest s → Stands hash slots (n + 1) s) → Contains ((n, x) ∷ rest) s → Stands hash (Some (h, x) ∷ slots) n s
+  stands_here h hash n x s slots rest same later (zero, below, is) =
+      (0, omega (arith, sym (ap (λ p. p.0) is)), ap (λ k. Some (k, x)) same ∙ ap (λ y. Some (hash, y)) (ap (λ p. p.1) is))
+  stands_here h hash n x s slots rest same later (suc k, below, is) =
+      let l = later (k, omega arith, is) in (suc l.0, omega (arith, l.1), l.2)
+
+  stands : (hash n : ℕ) (slots : List (Option (ℕ × T))) (s : ℕ × T) → Contains (holders hash (enumerate_from n slots)) s → Stands hash slots n s
+  stands hash n [] s there = absurd (omega (arith, there.1))
+  stands hash n (None ∷ slots) s there =
+      let later = stands hash (n + 1) slots s there in (suc later.0, omega (arith, later.1), later.2)
+  stands hash n (Some (h, x) ∷ slots) s there =
+      (elim (nat_eq h hash) as (λ b. nat_eq h hash ≡ b → Contains (if b then (n, x) ∷ holders hash (enumerate_from (n + 1) slots) else holders hash (enumerate_from (n + 1) slots)) s → Stands hash (Some (h, x) ∷ slots) n s) [
+        | true ↦ λ test in'. stands_here h hash n x s slots (holders hash (enumerate_from (n + 1) slots)) (eqb-true h hash test) (stands hash (n + 1) slots s) in'
+        | false ↦ λ test in'. let later = stands hash (n + 1) slots s in' in (suc later.0, omega (arith, later.1), later.2)
+      ]) refl there
+
+  -- a slot of a hash has the item under that hash
+  pub member_at-items_under : (hash : ℕ) (t : Table T) (s : ℕ × T) → Contains (items_under hash t) s → member_at t s.0 ≡ Some (hash, s.1)
+  member_at-items_under hash t s there =
+      let held = stands hash 0 t.slots s there in
+      ap (member_at t) {x = s.0} {y = held.0} (omega (arith, held.1)) ∙ held.2
+
+same_name : (a b : ℕ) → Some b ≡ Some a → a ≡ b
+same_name a b e = cc
+
+module _ {F T : Type 0} (g : Mut F (Bor T × Unit {0}) Bool) where
+  asked_about : (f last : F) (ps : List (ℕ × T)) (slot : ℕ) → Asks g f ps (Some slot) last → (x : T) × Contains ps (slot, x)
+  asked_about f last [] slot asks = absurd (let none = asks.0 in cc)
+  asked_about f last (p ∷ ps) slot (true, next, called, named) =
+      (p.1, (0, omega arith, ap (λ n. (n, p.1)) (same_name p.0 slot named.0)))
+  asked_about f last (p ∷ ps) slot (false, next, called, rest) =
+      let later = asked_about next last ps slot rest in (later.0, (suc later.1.0, omega (arith, later.1.1), later.1.2))
+
+  -- the slot that a search names has a member, under the hash
+  pub member_at-found : (hash : ℕ) (t : Table T) (f last : F) (slot : ℕ) → Searches g (items_under hash t) f (Some slot) last
+      → (x : T) × (member_at t slot ≡ Some (hash, x))
+  member_at-found hash t f last slot s =
+      let there = asked_about f last s.order slot s.asks in (
+        there.0,
+        member_at-items_under hash t (slot, there.0)
+            (Contains-permutation s.order (items_under hash t) (slot, there.0) (IsPermutation-sym (items_under hash t) s.order s.rearranged) there.1),
+      )
+
+-- replacing by a function that keeps its state is a map of the members
+pub members-replaced : {F T : Type 0} (g : Mut F (Bor T × Unit {0}) T) (to : T → T) (f : F)
+    → ((x y : T) (f' : F) → CalledAt g f x y f' → (y ≡ to x) × (f' ≡ f))
+    → (old new : List (Option (ℕ × T))) (last : F) → ReplacesEach g f old new last → filled new ≡ map (λ m. (m.0, to m.1)) (filled old)
+members-replaced g to f pure [] new last r = ap filled r.0
+members-replaced g to f pure (None ∷ old) new last (rest, is, more) = ap filled is ∙ members-replaced g to f pure old rest last more
+members-replaced g to f pure (Some (h, x) ∷ old) new last (y, next, rest, called, is, more) =
+    let p = pure x y next called in
+    ap filled is ∙ ap (λ z. (h, z) ∷ filled rest) p.0
+    ∙ ap (λ l. (h, to x) ∷ l) (members-replaced g to f pure old rest last (subst (λ s. ReplacesEach g s old rest last) p.1 more))

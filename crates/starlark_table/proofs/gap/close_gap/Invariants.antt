@@ -1,0 +1,15 @@
+use Rattle.std.proofs.Common.{◌≡◌, ◌-◌, length, IsPermutation}
+use Rattle.starlark_table.specs.Table.{filled}
+use Rattle.starlark_table.specs.Layout.{distance}
+use Rattle.starlark_table.proofs.Closing.{Closing}
+use Rattle.starlark_table.proofs.gap.close_gap.Given as goal
+
+abbrev pub invariant-loop-slots : goal.invariant-loop-slots
+invariant-loop-slots g l = record {
+  counted : l.count ≡ length l.slots;
+  closing : Closing l.count l.shift l.start l.slots l.hole l.next;
+  bag : IsPermutation (filled l.initial.slots) (filled l.slots);
+}
+
+abbrev pub decreases-loop-slots : goal.decreases-loop-slots
+decreases-loop-slots g l = l.count - distance l.count l.start l.next

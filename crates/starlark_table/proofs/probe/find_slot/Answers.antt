@@ -1,0 +1,104 @@
+use Rattle.std.proofs.Common.{ℕ, ◌≡◌, ◌*◌, ◌^◌, ◌<◌, ◌⊎◌, length, inl, inr, arith, refl, sym, ◌∙◌, ap, subst, false}
+use Rattle.std.specs.Fn.{CalledAt}
+use Rattle.std.proofs.lemmas.Fn.{called_at}
+use Rattle.starlark_table.specs.Table.{holders_in}
+use Rattle.starlark_table.specs.Layout.{distance, home}
+use Rattle.starlark_table.proofs.Circle.{home-below, distance-self, distance-below, next-step, less-left}
+use Rattle.starlark_table.proofs.Closing.{free_farther, path_more, is_full}
+use Rattle.starlark_table.proofs.Path.{read_at, nothing_left, listed}
+use Rattle.starlark_table.proofs.Searching.{searching_begins, searching_as, searches_none, searching_asks, searching_refuses, searching_accepts, searching_ends, path_taken, path_skipped, path_moved}
+use Rattle.starlark_table.proofs.probe.find_slot.Goals as goal
+use Rattle.starlark_table.proofs.probe.find_slot.Goals.{else-stored-hash-via-then-stored-hash+else-eq, else-stored-hash-via-else-stored-hash}
+
+some_places : (m : ℕ) → (m ≡ 0 → ⊥) → 0 < m
+some_places m some = omega arith
+
+-- the home is among the places
+home_in : (m shift hash : ℕ) → (m ≡ 0 → ⊥) → (m ≡ 0) ⊎ (m * 2 ^ shift ≡ 2 ^ 64) → hash < 2 ^ 64 → home shift hash < m
+home_in m shift hash some (inl none) fits = absurd (some none)
+home_in m shift hash some (inr e) fits = home-below m shift hash e fits
+
+pub loop-place-init : goal.loop-place-init
+loop-place-init g c =
+    let in' = home_in (length c.args.slots.now) c.args.shift c.args.hash c.if-count-eq0.false c.requires.places c.ranges.hash.fits in
+    let none : distance (length c.args.slots.now) (home c.args.shift c.args.hash) c.home-place.result ≡ 0 =
+    ap (distance (length c.args.slots.now) (home c.args.shift c.args.hash)) c.home-place.ensures ∙ distance-self (length c.args.slots.now) (home c.args.shift c.args.hash) in
+    record {
+      in_range = rw c.home-place.ensures in';
+      path = λ q q_in nearer. absurd (omega (arith, none));
+      search = path_moved g.F.FnMut _ c.args.eq c.args.eq c.args.hash (home c.args.shift c.args.hash) 0 _ c.args.slots.now none (searching_begins g.F.FnMut _ c.args.eq);
+    }
+
+pub eq-requires : goal.eq-requires
+eq-requires g c =
+    let k = c.loop-place.invariant in
+    let in' = home_in (length c.args.slots.now) c.args.shift c.args.hash c.if-count-eq0.false c.requires.places c.ranges.hash.fits in
+    let here = read_at c.args.slots.now c.loop-place.place _ k.in_range c.index-slots-place.is ∙ c.in-Some.is in
+    searching_asks g.F.FnMut (holders_in c.args.hash c.args.slots.now) _ c.args.eq c.loop-place.eq (c.loop-place.place, c.in-Some.item) _
+    (listed c.args.hash (home c.args.shift c.args.hash) c.args.slots.now) c.requires.callable
+    (path_taken g.F.FnMut _ c.args.eq c.loop-place.eq c.args.hash (home c.args.shift c.args.hash) c.loop-place.place c.in-Some.stored c.in-Some.item c.args.slots.now
+    in' k.in_range here c.if-stored-hash.true k.search) _ refl
+
+pub returns-then-eq : goal.returns-then-eq
+returns-then-eq g c =
+    let k = c.loop-place.invariant in
+    let in' = home_in (length c.args.slots.now) c.args.shift c.args.hash c.if-count-eq0.false c.requires.places c.ranges.hash.fits in
+    let here = read_at c.args.slots.now c.loop-place.place _ k.in_range c.index-slots-place.is ∙ c.in-Some.is in (
+      c.eq.new.self,
+      searching_accepts g.F.FnMut (holders_in c.args.hash c.args.slots.now) _ c.args.eq c.loop-place.eq c.eq.new.self (c.loop-place.place, c.in-Some.item) _
+          (listed c.args.hash (home c.args.shift c.args.hash) c.args.slots.now)
+          (path_taken g.F.FnMut _ c.args.eq c.loop-place.eq c.args.hash (home c.args.shift c.args.hash) c.loop-place.place c.in-Some.stored c.in-Some.item c.args.slots.now
+          in' k.in_range here c.if-stored-hash.true k.search)
+          (called_at g.F.FnMut c.eq.ensures c.if-eq.true),
+    )
+
+pub loop-place-smaller : goal.loop-place-smaller
+loop-place-smaller g c =
+    let k = c.loop-place.invariant in
+    let in' = home_in (length c.args.slots.now) c.args.shift c.args.hash c.if-count-eq0.false c.requires.places c.ranges.hash.fits in
+    let here = read_at c.args.slots.now c.loop-place.place _ k.in_range c.index-slots-place.is ∙ c.in-Some.is in
+    let full = is_full _ _ here in
+    let more = free_farther (length c.args.slots.now) (home c.args.shift c.args.hash) c.loop-place.place c.args.slots.now in' k.in_range k.path full
+    (c.requires.free (some_places _ c.if-count-eq0.false)) in
+    let next = next-step (length c.args.slots.now) (home c.args.shift c.args.hash) c.loop-place.place _ in' k.in_range more c.next_place-place.ensures in
+    less-left (length c.args.slots.now) _ _ (distance-below (length c.args.slots.now) (home c.args.shift c.args.hash) c.loop-place.place in' k.in_range) next.1
+
+pub loop-place-preserved : goal.loop-place-preserved
+loop-place-preserved g c =
+    let k = c.loop-place.invariant in
+    let in' = home_in (length c.args.slots.now) c.args.shift c.args.hash c.if-count-eq0.false c.requires.places c.ranges.hash.fits in
+    let here = read_at c.args.slots.now c.loop-place.place _ k.in_range c.index-slots-place.is ∙ c.in-Some.is in
+    let full = is_full _ _ here in
+    let more = free_farther (length c.args.slots.now) (home c.args.shift c.args.hash) c.loop-place.place c.args.slots.now in' k.in_range k.path full
+    (c.requires.free (some_places _ c.if-count-eq0.false)) in
+    let next = next-step (length c.args.slots.now) (home c.args.shift c.args.hash) c.loop-place.place _ in' k.in_range more c.next_place-place.ensures in
+    record {
+      in_range = next.0;
+      path = path_more (length c.args.slots.now) (home c.args.shift c.args.hash) c.loop-place.place c.args.slots.now in' k.in_range k.path full c.next_place-place.result next.1;
+      search = path_moved g.F.FnMut _ c.args.eq c.else-stored-hash.eq c.args.hash (home c.args.shift c.args.hash) _ _ c.args.slots.now next.1
+          (elim c.else-stored-hash.branch [
+            | else-stored-hash-via-then-stored-hash+else-eq w ↦
+                searching_refuses g.F.FnMut _ c.args.eq c.loop-place.eq c.else-stored-hash.eq (c.loop-place.place, c.in-Some.item) _
+                (path_taken g.F.FnMut _ c.args.eq c.loop-place.eq c.args.hash (home c.args.shift c.args.hash) c.loop-place.place c.in-Some.stored c.in-Some.item c.args.slots.now
+                in' k.in_range here w.if-stored-hash.true k.search)
+                (subst (λ f. CalledAt g.F.FnMut c.loop-place.eq c.in-Some.item false f) (sym w.eq-is) (called_at g.F.FnMut w.eq.ensures w.if-eq.false))
+            | else-stored-hash-via-else-stored-hash w ↦
+                searching_as g.F.FnMut _ _ c.args.eq c.loop-place.eq c.else-stored-hash.eq w.eq-is
+                (path_skipped g.F.FnMut _ c.args.eq c.loop-place.eq c.args.hash (home c.args.shift c.args.hash) c.loop-place.place c.in-Some.stored c.in-Some.item c.args.slots.now
+                in' k.in_range here w.if-stored-hash.false k.search)
+          ]);
+    }
+
+pub returns-then-count-eq0 : goal.returns-then-count-eq0
+returns-then-count-eq0 g c = (c.args.eq, searches_none g.F.FnMut c.args.hash c.args.slots.now c.args.eq c.if-count-eq0.true)
+
+pub returns : goal.returns
+returns g c =
+    let k = c.loop-place.invariant in
+    let in' = home_in (length c.args.slots.now) c.args.shift c.args.hash c.if-count-eq0.false c.requires.places c.ranges.hash.fits in
+    let here = read_at c.args.slots.now c.loop-place.place _ k.in_range c.index-slots-place.is ∙ c.in_default.is in (
+      c.loop-place.eq,
+      searching_ends g.F.FnMut (holders_in c.args.hash c.args.slots.now) _ _ c.args.eq c.loop-place.eq
+          (listed c.args.hash (home c.args.shift c.args.hash) c.args.slots.now)
+          (nothing_left c.args.shift c.args.hash c.loop-place.place _ c.args.slots.now in' k.in_range refl here c.requires.in_place) k.search,
+    )

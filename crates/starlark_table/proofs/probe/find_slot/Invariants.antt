@@ -1,0 +1,16 @@
+use Rattle.std.proofs.Common.{ℕ, ◌-◌, ◌<◌, length, IsSome}
+use Rattle.starlark_table.specs.Table.{holders}
+use Rattle.starlark_table.specs.Layout.{distance, home, at}
+use Rattle.starlark_table.proofs.Path.{path_from}
+use Rattle.starlark_table.proofs.Searching.{Searching}
+use Rattle.starlark_table.proofs.probe.find_slot.Given as goal
+
+abbrev pub invariant-loop-place : goal.invariant-loop-place
+invariant-loop-place g l = record {
+  in_range : l.place < length l.slots;
+  path : (q : ℕ) → q < length l.slots → distance (length l.slots) (home l.shift l.hash) q < distance (length l.slots) (home l.shift l.hash) l.place → IsSome (at l.slots q);
+  search : Searching g.F.FnMut (holders l.hash (path_from (home l.shift l.hash) l.slots 0)) l.fn.eq l.eq (holders l.hash (path_from (home l.shift l.hash) l.slots (distance (length l.slots) (home l.shift l.hash) l.place)));
+}
+
+abbrev pub decreases-loop-place : goal.decreases-loop-place
+decreases-loop-place g l = length l.slots - distance (length l.slots) (home l.shift l.hash) l.place

@@ -1,0 +1,25 @@
+use Rattle.std.proofs.Common.{ℕ, ◌≡◌, ◌<◌, ◌==◌, Bool, false, length, arith, refl, sym, ◌∙◌, subst}
+use Rattle.std.proofs.lemmas.Bool.Decides.{nat_tests}
+use Rattle.std.proofs.lemmas.List.Sorted.{length_permutation}
+use Rattle.starlark_table.specs.Layout.{ReachesBefore}
+use Rattle.starlark_table.proofs.Load.{placed, four, some_empty, limit_below}
+use Rattle.starlark_table.proofs.Settling.{reaches_before}
+use Rattle.starlark_table.proofs.walks.retain_items.Goals as goal
+
+not_empty : (n : ℕ) (b : Bool) → b ≡ (n == 0) → b ≡ false → 0 < n
+not_empty n b e f = grind (arith, nat_tests)
+
+pub free_place-start-requires-clause-free : goal.free_place-start-requires-clause-free
+free_place-start-requires-clause-free g c =
+    let e = placed c.args.slots.now c.args.shift c.requires.places (not_empty _ _ c.is_empty.ensures c.if-is_empty.false) in
+    some_empty c.args.slots.now (limit_below _ _ c.requires.load (four _ c.args.shift c.requires.high e))
+
+pub settle-requires-clause-reaches : goal.settle-requires-clause-reaches
+settle-requires-clause-reaches g c =
+    let stand = c.keep_items-kept.ensures.stand in
+    subst (λ n. ReachesBefore n c.args.shift c.keep_items-kept.new.slots c.free_place-start.result) (sym stand.sized)
+    (reaches_before (length c.args.slots.now) c.args.shift c.free_place-start.result c.args.slots.now c.keep_items-kept.new.slots refl
+    c.free_place-start.ensures.in_range c.free_place-start.ensures.empty c.requires.in_place stand)
+
+pub returns-clause-counted : goal.returns-clause-counted
+returns-clause-counted g c = c.keep_items-kept.ensures.counted ∙ sym (length_permutation _ _ c.settle.ensures.bag)

@@ -1,0 +1,21 @@
+-- What a table ends as, where a `&mut` to one of its items is handed out.
+use Rattle.std.specs.Prelude.{ℕ, Option, [], ◌∷◌}
+use Rattle.std.specs.Option.{option_map}
+use Rattle.std.specs.Borrow.{Lends, LendsIf, Fml, RattleType, MutBor, u64}
+use Rattle.std.specs.contracts.option.Option as option
+use denote.Struct.Tuple.{Tuple}
+use Rattle.starlark_table.specs.Table.{Table, with_item}
+use Rattle.starlark_table.specs.contracts.ready_table.ReadyTable.{the_row}
+
+module _ (T : RattleType) where
+  -- once the borrow r ends, the slot has the last value written through it, under the same hash
+  abbrev pub lends_slot : MutBor (Option (ℕ × T.Denot)) → MutBor T.Denot → Fml
+  lends_slot s r = Lends (option.the_row (Tuple (u64 ∷ T ∷ []))) T s r (λ w. option_map (λ m. (m.0, w)) s.now)
+
+  -- the same of a table and one of its slots
+  abbrev pub lends_item : MutBor (Table T.Denot) → ℕ → MutBor T.Denot → Fml
+  lends_item s slot r = Lends (the_row T) T s r (with_item s.now slot)
+
+  -- the same where r is a reference, and at `None` the table stays as it is
+  abbrev pub lends_get : MutBor (Table T.Denot) → ℕ → Option (MutBor T.Denot) → Fml
+  lends_get s slot r = LendsIf (the_row T) T s r (with_item s.now slot) s.now

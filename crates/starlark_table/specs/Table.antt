@@ -1,0 +1,84 @@
+-- What a contract sees of a `ReadyTable`.
+use Rattle.std.specs.Prelude.{◌≡◌, ℕ, ◌<◌, ◌≤◌, List, [], ◌∷◌, length, map, Option, Some, None, IsSome, slice_index_or, slice_set, refl, nat_eq, if◌then◌else◌}
+use Rattle.std.specs.List.{enumerate_from, AllZip}
+use Rattle.std.specs.Option.{option_map}
+use Rattle.std.specs.Coded.{Coded, code_by, coded×, coded_ℕ, coded_list, coded_option}
+
+-- a (hash, item) or nothing at each slot, and how many insertions surely need no memory
+pub record Table (T : Type 0) : Type 0 where
+  pub slots : List (Option (ℕ × T))
+  pub room : ℕ
+
+-- a table is stored as the tuple of its fields
+abbrev pub table_code : {T : Type 0} → Coded T → Coded (Table T)
+table_code {T} code =
+    code_by
+    (List (Option (ℕ × T)) × ℕ)
+    (coded× (coded_list (coded_option (coded× coded_ℕ code))) coded_ℕ)
+    (λ t. (t.slots, t.room))
+    (λ p. record { slots = p.0; room = p.1 })
+    (λ _. refl)
+
+module _ {T : Type 0} where
+  -- the members among some slots, in their order
+  abbrev pub filled : List (Option (ℕ × T)) → List (ℕ × T)
+  filled [] = []
+  filled (None ∷ slots) = filled slots
+  filled (Some m ∷ slots) = m ∷ filled slots
+
+  -- the bag of (hash, item), in the order of the walk
+  abbrev pub members : Table T → List (ℕ × T)
+  members t = filled t.slots
+
+  -- how many members there are
+  abbrev pub table_len : Table T → ℕ
+  table_len t = length (members t)
+
+  -- the member that a slot names
+  abbrev pub member_at : Table T → ℕ → Option (ℕ × T)
+  member_at t slot = slice_index_or t.slots slot None
+
+  -- the numbered slots that hold the hash, each with its item
+  abbrev pub holders : ℕ → List (ℕ × Option (ℕ × T)) → List (ℕ × T)
+  holders hash [] = []
+  holders hash ((slot, None) ∷ rest) = holders hash rest
+  holders hash ((slot, Some (h, x)) ∷ rest) =
+      if nat_eq h hash then (slot, x) ∷ holders hash rest else holders hash rest
+
+  -- those slots of a list that hold the hash, each with its item, in their order
+  abbrev pub holders_in : ℕ → List (Option (ℕ × T)) → List (ℕ × T)
+  holders_in hash slots = holders hash (enumerate_from 0 slots)
+
+  -- the slots of a hash, each with its item
+  abbrev pub items_under : ℕ → Table T → List (ℕ × T)
+  items_under hash t = holders_in hash t.slots
+
+  -- the items among some slots, in their order
+  abbrev pub items_in : List (Option (ℕ × T)) → List T
+  items_in slots = map (λ m. m.1) (filled slots)
+
+  -- the items in the order of the walk
+  abbrev pub items_of : Table T → List T
+  items_of t = items_in t.slots
+
+  -- from one slot on, the first that has a member, or none where there is no such slot
+  abbrev pub IsNextSlot : List (Option (ℕ × T)) → ℕ → Option ℕ → Type 0
+  IsNextSlot slots from None = (slot : ℕ) → from ≤ slot → slice_index_or slots slot None ≡ None
+  IsNextSlot slots from (Some next) =
+      (from ≤ next) × IsSome (slice_index_or slots next None)
+      × ((slot : ℕ) → from ≤ slot → slot < next → slice_index_or slots slot None ≡ None)
+
+  -- the table with another item at a slot, under the hash of the one that was there
+  abbrev pub with_item : Table T → ℕ → T → Table T
+  with_item t slot item = record t { slots = slice_set t.slots slot (option_map (λ m. (m.0, item)) (member_at t slot)) }
+
+module _ {T : Type 0} (is_clone : T → T → Type 0) where
+  -- an empty slot for an empty one, and for a member a clone of its item under its hash
+  abbrev pub IsSlotClone : Option (ℕ × T) → Option (ℕ × T) → Type 0
+  IsSlotClone None copy = copy ≡ None
+  IsSlotClone (Some (h, x)) copy = (y : T) × is_clone x y × (copy ≡ Some (h, y))
+
+  -- slot by slot a clone, and as much room
+  pub record IsTableClone (t copy : Table T) : Type 0 where
+    pub slots : AllZip IsSlotClone t.slots copy.slots
+    pub room : copy.room ≡ t.room

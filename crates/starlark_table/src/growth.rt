@@ -1,0 +1,35 @@
+//! Growth: new slots, all empty, and the move of every member into them under the hash that it keeps.
+ghost use Rattle.std.specs.Prelude.{◌≡◌, ℕ, ◌+◌, ◌*◌, ◌^◌, ◌<◌, ◌≤◌, None, ◌++◌, length, replicate, IfOk, IsPermutation};
+ghost use Rattle.starlark_table.specs.Table.{filled};
+ghost use Rattle.starlark_table.specs.Layout.{limit, InPlace};
+
+use crate::probe::{Slot, put};
+use std::alloc::{AllocError, Global};
+
+pub(crate) fn empty_slots<T>(alloc: Global, count: usize) -> Result<Vec<Slot<T>>, AllocError>
+    ensures { IfOk result (λ v. v.items ≡ replicate count None) }
+{
+    let mut slots = Vec::with_capacity(alloc, count)?;
+    for made in 0..count {
+        slots.push_reserved(None);
+    }
+    Ok(slots)
+}
+
+// Moves each member to the new slots, which have room for all.
+pub(crate) fn move_all<T>(mut old: Vec<Slot<T>>, slots: &mut [Slot<T>], shift: u32)
+    requires low { 1 < shift }
+    requires high { shift < 63 }
+    requires places { length slots.old * 2 ^ shift ≡ 2 ^ 64 }
+    requires in_place { InPlace (length slots.old) shift slots.old }
+    requires room { length (filled slots.old) + length (filled old.items) ≤ limit (length slots.old) }
+    ensures bag { IsPermutation (filled old.items ++ filled slots.old) (filled slots.new) }
+    ensures in_place { InPlace (length slots.new) shift slots.new }
+{
+    while let Some(slot) = old.pop() {
+        if let Some((hash, item)) = slot {
+            put(slots, shift, hash, item);
+        }
+    }
+    old.destroy_empty();
+}

@@ -1,0 +1,15 @@
+//! A hash table that is given ready 64-bit hashes, and asks no hasher of its items.
+#![tactic(auto)]
+
+mod gap;
+mod growth;
+pub mod iter;
+mod places;
+mod probe;
+pub mod ready_table;
+#[cfg(test)]
+mod tests;
+mod walks;
+
+pub use iter::{IntoIter, Iter};
+pub use ready_table::ReadyTable;

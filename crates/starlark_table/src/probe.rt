@@ -1,0 +1,113 @@
+//! Reads and writes of the slots along the way of a hash: from its home on, up to the first empty place.
+ghost use Rattle.std.specs.Prelude.{◌≡◌, ℕ, ◌+◌, ◌*◌, ◌^◌, ◌<◌, Some, None, length, IsSome, slice_set};
+ghost use Rattle.std.specs.Option.{option_copied, option_map};
+ghost use Rattle.std.specs.Borrow.{sem};
+ghost use Rattle.starlark_hash.specs.Search.{Searches, CanSearch};
+ghost use Rattle.starlark_table.specs.Table.{holders_in, IsNextSlot};
+ghost use Rattle.starlark_table.specs.Lends.{lends_slot};
+ghost use Rattle.starlark_table.specs.Layout.{distance, at, InPlace, IsShift};
+
+use crate::places::{home, next_place};
+
+pub(crate) type Slot<T> = Option<(u64, T)>;
+
+#[inline]
+pub(crate) fn find_slot<T, F: FnMut(&T) -> bool>(
+    slots: &[Slot<T>],
+    shift: u32,
+    hash: u64,
+    mut eq: F,
+) -> Option<usize>
+    requires shift { shift < 64 }
+    requires places { IsShift shift slots.now }
+    requires in_place { InPlace (length slots.now) shift slots.now }
+    requires free { 0 < length slots.now → (q : ℕ) × (q < length slots.now) × (at slots.now q ≡ None) }
+    requires callable { CanSearch F.FnMut (holders_in hash slots.now) eq }
+    ensures { (last : F) × Searches F.FnMut (holders_in hash slots.now) eq result last }
+{
+    let count = slots.len();
+    if count == 0 {
+        return None;
+    }
+    let mut place = home(hash, shift);
+    while let Some((stored, item)) = &slots[place] {
+        if *stored == hash && eq(item) {
+            return Some(place);
+        }
+        place = next_place(place, count);
+    }
+    None
+}
+
+// The first empty place from one on.
+#[inline]
+pub(crate) fn free_place<T>(slots: &[Slot<T>], start: usize) -> usize
+    requires start { start < length slots.now }
+    requires free { (q : ℕ) × (q < length slots.now) × (at slots.now q ≡ None) }
+    ensures in_range { result < length slots.now }
+    ensures empty { at slots.now result ≡ None }
+    ensures path { (q : ℕ) → q < length slots.now → distance (length slots.now) start q < distance (length slots.now) start result → IsSome (at slots.now q) }
+{
+    let mut place = start;
+    while slots[place].is_some() {
+        place = next_place(place, slots.len());
+    }
+    place
+}
+
+// Puts a member at the first empty place from its home on.
+#[inline]
+pub(crate) fn put<T>(slots: &mut [Slot<T>], shift: u32, hash: u64, item: T) -> usize
+    requires shift { shift < 64 }
+    requires places { length slots.old * 2 ^ shift ≡ 2 ^ 64 }
+    requires in_place { InPlace (length slots.old) shift slots.old }
+    requires free { (q : ℕ) × (q < length slots.old) × (at slots.old q ≡ None) }
+    ensures in_range { result < length slots.old }
+    ensures empty { at slots.old result ≡ None }
+    ensures set { slots.new ≡ slice_set slots.old result (Some (hash, item)) }
+    ensures in_place { InPlace (length slots.new) shift slots.new }
+{
+    let place = free_place(slots, home(hash, shift));
+    match slots[place].replace((hash, item)) {
+        None => place,
+        Some(_) => unreachable!(),
+    }
+}
+
+#[inline]
+pub(crate) fn item_at<T>(slots: &[Slot<T>], slot: usize) -> Option<&T>
+    ensures { option_copied result ≡ option_map (λ m. m.1) (at slots.now slot) }
+{
+    if slot >= slots.len() {
+        return None;
+    }
+    match &slots[slot] {
+        None => None,
+        Some((_, item)) => Some(item),
+    }
+}
+
+#[inline]
+pub(crate) fn item_mut<T>(slot: &mut Slot<T>) -> &mut T
+    requires { IsSome slot.old }
+    ensures* writes_back { sem 𝓛 (lends_slot T.row slot.entry result) }
+    ensures value { option_map (λ m. m.1) slot.old ≡ Some result.now }
+{
+    match slot {
+        Some(member) => &mut member.1,
+        None => unreachable!(),
+    }
+}
+
+// The first slot from one on that has a member.
+#[inline]
+pub(crate) fn full_from<T>(slots: &[Slot<T>], from: usize) -> Option<usize>
+    ensures { IsNextSlot slots.now from result }
+{
+    for slot in from..slots.len() {
+        if slots[slot].is_some() {
+            return Some(slot);
+        }
+    }
+    None
+}

@@ -1,0 +1,301 @@
+//! A bag of items under ready hashes. It alone sees how the slots are laid out.
+ghost use Rattle.std.specs.Prelude.{◌≡◌, ℕ, ◌+◌, ◌<◌, ◌≤◌, Some, [], ◌∷◌, List, IsOk, IfOk, OnOk, OnErr, IfErr, IfSome, IfNone, IsSome, IsPermutation};
+ghost use Rattle.std.specs.Option.{option_copied, option_copied_mut, option_map};
+ghost use Rattle.std.specs.Borrow.{sem};
+ghost use Rattle.std.specs.List.Retain.{RetainsInTurn};
+ghost use Rattle.starlark_hash.specs.Search.{Searches, CanSearch};
+ghost use Rattle.starlark_table.specs.Table.{members, table_len, member_at, items_of, items_under, IsNextSlot, IsTableClone};
+ghost use Rattle.starlark_table.specs.Walk.{CanReplace, ReplacesEach, CanRetain, AsksMember};
+
+use crate::gap::take_out;
+use crate::growth::{empty_slots, move_all};
+use crate::iter::{IntoIter, Iter};
+use crate::places::{limit, places_for};
+use crate::probe::{Slot, find_slot, full_from, item_at, item_mut, put};
+use crate::walks::{empty_all, replace_items, retain_items};
+use starlark_hash::NoRoom;
+use std::alloc::{AllocError, Global};
+use std::marker::Model;
+use std::mem;
+
+/// A bag of items, each under a 64-bit hash that was ready when it came in, and that it keeps. Items need not differ, nor their hashes.
+///
+/// Open addressing: each slot is empty or has a member, which stands as near behind its home as was free when it came.
+#[derive(Drop)]
+pub struct ReadyTable<T> {
+    slots: Vec<Slot<T>>,
+    len: usize,
+    shift: u32,
+}
+
+impl<T> Model for ReadyTable<T> {
+    ghost use Rattle.std.specs.Prelude.{ℕ, ◌-◌, length};
+    ghost use Rattle.starlark_table.specs.Table.{Table, table_code};
+
+    ghost Value = { Table T };
+
+    ghost coded = { table_code T.code };
+
+    ghost use Rattle.starlark_table.specs.Layout.{limit, IsSound};
+
+    ghost view = { λ t. record { slots = t.slots.items; room = limit (length t.slots.items) - t.len } };
+
+    ghost invariant = { λ t. IsSound t.slots.items t.len t.shift };
+}
+
+impl<T> ReadyTable<T> {
+    ghost use Rattle.starlark_table.specs.Lends.{lends_item, lends_get};
+
+    /// An empty table, which asks for no memory before the first insertion.
+    pub fn new(alloc: Global) -> ReadyTable<T>
+        ensures empty { members result ≡ [] }
+        ensures room { result.room ≡ 0 }
+    {
+        ReadyTable {
+            slots: Vec::new(alloc),
+            len: 0,
+            shift: 62,
+        }
+    }
+
+    /// An empty table with room for so many insertions at least.
+    pub fn with_capacity(alloc: Global, capacity: usize) -> Result<ReadyTable<T>, AllocError>
+        ensures empty { IfOk result (λ t. members t ≡ []) }
+        ensures room { IfOk result (λ t. capacity ≤ t.room) }
+        ensures none_for_none { capacity ≡ 0 → IsOk result }
+    {
+        if capacity == 0 {
+            return Ok(ReadyTable::new(alloc));
+        }
+        let Some((count, shift)) = places_for(capacity) else {
+            return Err(AllocError);
+        };
+        let slots = empty_slots(alloc, count)?;
+        Ok(ReadyTable {
+            slots,
+            len: 0,
+            shift,
+        })
+    }
+
+    /// How many members there are.
+    #[inline]
+    pub fn len(&self) -> usize
+        ensures { result ≡ table_len self.now }
+    {
+        self.len
+    }
+
+    /// How many insertions surely need no memory.
+    #[inline]
+    pub fn room(&self) -> usize
+        ensures { result ≡ self.now.room }
+    {
+        limit(self.slots.len()) - self.len
+    }
+
+    /// The slot of an item under exactly this hash that `eq` accepts. `eq` is asked about items of this hash alone, about each at most
+    /// once and in no promised order, until it accepts one; `None` says that it refused them all. A slot is good until the next change.
+    #[inline]
+    pub fn find<F: FnMut(&T) -> bool>(&self, hash: u64, eq: F) -> Option<usize>
+        requires { CanSearch F.FnMut (items_under hash self.now) eq }
+        ensures { (last : F) × Searches F.FnMut (items_under hash self.now) eq result last }
+    {
+        find_slot(self.slots.as_slice(), self.shift, hash, eq)
+    }
+
+    /// The item in a slot.
+    #[inline]
+    pub fn get(&self, slot: usize) -> Option<&T>
+        ensures { option_copied result ≡ option_map (λ m. m.1) (member_at self.now slot) }
+    {
+        item_at(self.slots.as_slice(), slot)
+    }
+
+    /// The item in a slot, for writing. Its hash stays.
+    #[inline]
+    pub fn get_mut(&mut self, slot: usize) -> Option<&mut T>
+        ensures* writes_back { sem 𝓛 (lends_get T.row self.entry slot result) }
+        ensures value { option_copied_mut result ≡ option_map (λ m. m.1) (member_at self.old slot) }
+    {
+        if self.get(slot).is_some() {
+            Some(self.item_mut(slot))
+        } else {
+            None
+        }
+    }
+
+    #[inline]
+    fn item_mut(&mut self, slot: usize) -> &mut T
+        requires { IsSome (member_at self.old slot) }
+        ensures* writes_back { sem 𝓛 (lends_item T.row self.entry slot result) }
+        ensures value { option_map (λ m. m.1) (member_at self.old slot) ≡ Some result.now }
+    {
+        item_mut(&mut self.slots[slot])
+    }
+
+    /// Puts an item in, also where an equal one is there, and answers its slot. Refused only at room 0; the table is then as it was, and
+    /// the item comes back.
+    #[inline]
+    pub fn insert_unique(&mut self, hash: u64, item: T) -> Result<usize, NoRoom<T>>
+        ensures named { IfOk result (λ slot. member_at self.new slot ≡ Some (hash, item)) }
+        ensures added { OnOk result (IsPermutation ((hash, item) ∷ members self.old) (members self.new)) }
+        ensures room { OnOk result (table_len self.old + self.old.room ≤ table_len self.new + self.new.room) }
+
+        ensures refused { OnErr result (self.old.room ≡ 0) }
+        ensures unchanged { OnErr result (self.new ≡ self.old) }
+        ensures returned { IfErr result (λ e. e.0 ≡ item) }
+    {
+        if let Err(AllocError) = self.reserve(1) {
+            return Err(NoRoom(item));
+        }
+        let slot = put(self.slots.as_mut_slice(), self.shift, hash, item);
+        self.len += 1;
+        Ok(slot)
+    }
+
+    /// Makes room for so many insertions at least. It asks for no memory, and changes nothing, where the room is there; where it is
+    /// refused, the table is as it was.
+    #[inline]
+    pub fn reserve(&mut self, additional: usize) -> Result<(), AllocError>
+        ensures ok { OnOk result (additional ≤ self.new.room) }
+        ensures bag { IsPermutation (members self.old) (members self.new) }
+        ensures room { self.old.room ≤ self.new.room }
+        ensures enough { additional ≤ self.old.room → self.new ≡ self.old }
+
+        ensures refused { OnErr result (self.old.room < additional) }
+        ensures unchanged { OnErr result (self.new ≡ self.old) }
+    {
+        if additional <= self.room() {
+            return Ok(());
+        }
+        let Some(needed) = self.len.checked_add(additional) else {
+            return Err(AllocError);
+        };
+        self.grow(needed)
+    }
+
+    #[inline(never)]
+    fn grow(&mut self, needed: usize) -> Result<(), AllocError>
+        requires { table_len self.old + self.old.room < needed }
+        ensures ok { OnOk result (needed ≤ table_len self.old + self.new.room) }
+        ensures room { self.old.room ≤ self.new.room }
+        ensures bag { IsPermutation (members self.old) (members self.new) }
+        ensures unchanged { OnErr result (self.new ≡ self.old) }
+    {
+        let Some((count, shift)) = places_for(needed) else {
+            return Err(AllocError);
+        };
+        let slots = empty_slots(*self.slots.allocator(), count)?;
+        let old = mem::replace(&mut self.slots, slots);
+        self.shift = shift;
+        move_all(old, self.slots.as_mut_slice(), shift);
+        Ok(())
+    }
+
+    /// Takes the member of a slot out, with its hash. All others stay, though not in their slots, and the room comes back at once.
+    #[inline]
+    pub fn remove(&mut self, slot: usize) -> Option<(u64, T)>
+        ensures found { result ≡ member_at self.old slot }
+        ensures rest { IfSome result (λ m. IsPermutation (members self.old) (m ∷ members self.new)) }
+        ensures none { IfNone result (self.new ≡ self.old) }
+        ensures room { table_len self.new + self.new.room ≡ table_len self.old + self.old.room }
+    {
+        let member = take_out(self.slots.as_mut_slice(), self.shift, slot);
+        if member.is_some() {
+            self.len -= 1;
+        }
+        member
+    }
+
+    /// Puts what `f` answers in the place of each item, under the same hash: `f` is called once on each member, along the walk.
+    pub fn replace_each<F: FnMut(&T) -> T>(&mut self, f: F)
+    where
+        T: Drop,
+        requires { CanReplace F.FnMut (items_of self.old) f }
+        ensures replaced { (last : F) × ReplacesEach F.FnMut f self.old.slots self.new.slots last }
+        ensures room { self.new.room ≡ self.old.room }
+    {
+        replace_items(self.slots.as_mut_slice(), f);
+    }
+
+    /// Keeps the members that `f` accepts, with what `f` left in their items, and takes the others out. `f` is called once on each member,
+    /// along the walk. No memory is asked for, and the room of what was taken out comes back.
+    pub fn retain<F: FnMut(&mut T) -> bool>(&mut self, f: F)
+    where
+        T: Drop,
+        requires { CanRetain F.FnMut (items_of self.old) f }
+        ensures kept { (kept : List (ℕ × T)) × RetainsInTurn (AsksMember F.FnMut) f (members self.old) kept × IsPermutation kept (members self.new) }
+        ensures room { table_len self.new + self.new.room ≡ table_len self.old + self.old.room }
+    {
+        let kept = retain_items(self.slots.as_mut_slice(), self.shift, f);
+        self.len = kept;
+    }
+
+    /// Removes every member. The room that they had comes back.
+    pub fn clear(&mut self)
+    where
+        T: Drop,
+        ensures empty { members self.new ≡ [] }
+        ensures room { self.new.room ≡ table_len self.old + self.old.room }
+    {
+        empty_all(self.slots.as_mut_slice());
+        self.len = 0;
+    }
+
+    /// The items along the walk, in no promised order.
+    #[inline]
+    pub fn iter(&self) -> Iter<'_, T>
+        ensures { result ≡ items_of self.now }
+    {
+        Iter::new(self.slots.as_slice(), self.len)
+    }
+
+    /// The first slot from one on that has a member. With `get_mut` this walks over the items for writing, one lent at a time: there is no
+    /// iterator that lends them all at once.
+    #[inline]
+    pub fn slot_from(&self, from: usize) -> Option<usize>
+        ensures { IsNextSlot self.now.slots from result }
+    {
+        full_from(self.slots.as_slice(), from)
+    }
+
+    /// The members along the walk, each as its hash and its item, by value.
+    #[inline]
+    pub fn into_iter(self) -> IntoIter<T>
+        ensures { result ≡ members self }
+    {
+        let ReadyTable {
+            slots,
+            len,
+            shift: _,
+        } = self;
+        IntoIter::new(slots, len)
+    }
+}
+
+impl<'a, T> IntoIterator for &'a ReadyTable<T> {
+    type Item = &'a T;
+
+    type IntoIter = Iter<'a, T>;
+
+    ghost into_iter_gives = { λ t it. it ≡ items_of t.now };
+
+    #[inline]
+    fn into_iter(self) -> Iter<'a, T> {
+        self.iter()
+    }
+}
+
+impl<T: Clone> Clone for ReadyTable<T> {
+    ghost is_clone = { IsTableClone T.is_clone };
+
+    /// A table of clones, slot by slot.
+    fn clone(&self) -> Result<Self, AllocError> {
+        Ok(ReadyTable {
+            slots: self.slots.clone()?,
+            len: self.len,
+            shift: self.shift,
+        })
+    }
+}

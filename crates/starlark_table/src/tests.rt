@@ -1,0 +1,132 @@
+//! What no clause of the table says: given values at concrete types, and that each call succeeds where there is memory.
+use crate::ReadyTable;
+use std::alloc::Global;
+use std::process::Abort;
+use std::test::Fail;
+
+#[test]
+fn removes_one_of_a_hash(rt: HostRuntime) -> Result<(), Fail> {
+    let mut table = ReadyTable::new(rt.alloc());
+    table.insert_unique(7, 'a')?;
+    let slot = table.insert_unique(7, 'b')?;
+    table.insert_unique(7, 'c')?;
+    assert_eq!(rt; table.remove(slot), Some((7, 'b')));
+    assert!(rt; table.find(7, |letter| *letter == 'a').is_some());
+    assert!(rt; table.find(7, |letter| *letter == 'b').is_none());
+    assert!(rt; table.find(7, |letter| *letter == 'c').is_some());
+    assert_eq!(rt; table.len(), 2);
+    Ok(())
+}
+
+#[test]
+fn asks_about_the_whole_hash(rt: HostRuntime) -> Result<(), Fail> {
+    let mut table = ReadyTable::new(rt.alloc());
+    table.insert_unique(1, 'a')?;
+    table.insert_unique(4294967297, 'b')?;
+    table.insert_unique(9223372036854775809, 'c')?;
+    let mut calls = 0u32;
+    let found = table.find(1, |_| {
+        calls = calls.wrapping_add(1);
+        false
+    });
+    assert!(rt; found.is_none());
+    assert_eq!(rt; calls, 1);
+    Ok(())
+}
+
+#[test]
+fn fills_the_room_that_it_has(rt: HostRuntime) -> Result<(), Fail> {
+    let mut table = ReadyTable::with_capacity(rt.alloc(), 10)?;
+    for item in 0u64..10 {
+        assert!(rt; table.insert_unique(item, item).is_ok());
+    }
+    table.clear();
+    assert_eq!(rt; table.len(), 0);
+    for item in 0u64..10 {
+        assert!(rt; table.insert_unique(item, item).is_ok());
+    }
+    assert_eq!(rt; table.len(), 10);
+    Ok(())
+}
+
+// Every second of a thousand items of one hash goes.
+fn thins(rt: &impl Abort, alloc: Global, hash: u64) -> Result<(), Fail> {
+    let mut table = ReadyTable::new(alloc);
+    for item in 0u32..1000 {
+        table.insert_unique(hash, item)?;
+    }
+    for item in 0u32..1000 {
+        if item % 2 == 0 {
+            let slot = table.find(hash, |other| *other == item).ok_or("lost")?;
+            assert_eq!(rt; table.remove(slot), Some((hash, item)));
+        }
+    }
+    for item in 0u32..1000 {
+        assert_eq!(rt;
+            table.find(hash, |other| *other == item).is_some(),
+            item % 2 == 1
+        );
+    }
+    Ok(())
+}
+
+#[test]
+fn finds_what_is_left(rt: HostRuntime) -> Result<(), Fail> {
+    thins(&rt, rt.alloc(), 0)?;
+    thins(&rt, rt.alloc(), u64::MAX)
+}
+
+#[test]
+fn takes_in_as_much_as_goes(rt: HostRuntime) -> Result<(), Fail> {
+    let mut table = ReadyTable::with_capacity(rt.alloc(), 12)?;
+    let room = table.room() as u64;
+    for item in 0..room {
+        table.insert_unique(item, item)?;
+    }
+    assert_eq!(rt; table.room(), 0);
+    for round in 0u64..1000 {
+        let slot = table.find(round, |item| *item == round).ok_or("lost")?;
+        assert_eq!(rt; table.remove(slot), Some((round, round)));
+        let item = room.wrapping_add(round);
+        assert!(rt; table.insert_unique(item, item).is_ok());
+    }
+    assert_eq!(rt; table.room(), 0);
+    Ok(())
+}
+
+#[test]
+fn walks_and_writes(rt: HostRuntime) -> Result<(), Fail> {
+    let mut table = ReadyTable::new(rt.alloc());
+    for item in 0u64..100 {
+        table.insert_unique(item << 58, item)?;
+    }
+    assert_eq!(rt; table.iter().len(), 100);
+    table.replace_each(|item| item % 10);
+    table.retain(|item| {
+        *item /= 2;
+        *item < 3
+    });
+    assert_eq!(rt; table.len(), 60);
+    let copy = table.clone()?;
+    let mut sum = 0u64;
+    for item in &copy {
+        sum = sum.wrapping_add(*item);
+    }
+    assert_eq!(rt; sum, 60);
+    let mut slot = table.slot_from(0);
+    for _ in 0..60 {
+        let here = slot.ok_or("a member is missing")?;
+        if let Some(item) = table.get_mut(here) {
+            *item = 7;
+        }
+        slot = table.slot_from(here.wrapping_add(1));
+    }
+    assert_eq!(rt; slot, None);
+    let mut sevens = 0u32;
+    for (_, item) in table.into_iter() {
+        assert_eq!(rt; item, 7);
+        sevens = sevens.wrapping_add(1);
+    }
+    assert_eq!(rt; sevens, 60);
+    Ok(())
+}

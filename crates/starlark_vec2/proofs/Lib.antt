@@ -1,0 +1,9 @@
+pub mod BothClose
+pub mod Pairs
+pub mod Placing
+pub mod Positions
+pub mod PushLemmas
+pub mod Sieving
+pub mod Sorting
+pub mod Vec2Open
+pub mod Walks

@@ -1,0 +1,14 @@
+use Rattle.std.proofs.Common.{zip, ◌∙◌}
+use Rattle.std.specs.Map.Iter.{deref_pair}
+use Rattle.starlark_vec2.proofs.Pairs.{zip-parts}
+use Rattle.starlark_vec2.proofs.Walks.{shows_in_order, shows_in_reverse}
+use Rattle.starlark_vec2.proofs.vec2.Vec2.iter.Goals as goal
+
+pub returns-clause-rest : goal.returns-clause-rest
+returns-clause-rest g c = c.new.ensures ∙ (λ j. zip (c.firsts.ensures j) (c.seconds.ensures j)) ∙ zip-parts c.args.self.now.pairs
+
+pub returns-clause-runs : goal.returns-clause-runs
+returns-clause-runs g c = shows_in_order deref_pair
+
+pub returns-clause-runs_back : goal.returns-clause-runs_back
+returns-clause-runs_back g c = shows_in_reverse deref_pair

@@ -1,0 +1,20 @@
+use Rattle.std.proofs.Common.{◌≡◌, true, is_ok, length, sym, ap, ◌∙◌, arith, rules}
+use Rattle.std.specs.Prelude.{if◌then◌else◌}
+use Rattle.std.proofs.iter.Next as it
+use Rattle.std.proofs.lemmas.List.{length_push}
+use Rattle.starlark_vec2.specs.PairList.{push}
+use Rattle.starlark_vec2.proofs.PushLemmas.{push_all-push, capacity_le_reserved}
+use Rattle.starlark_vec2.proofs.vec2.Vec2.push_items.Goals as goal
+
+pub loop-pair-preserved : goal.loop-pair-preserved
+loop-pair-preserved g c =
+    let inv = c.loop-pair.invariant in
+    let v = c.loop-pair.self in
+    let x = c.in-Some.pair in
+    let ok : is_ok c.push.result ≡ true = search (rules, c.is_err.ensures.negation, c.if-is_err.false) in
+    let pushed : c.push.new.self ≡ push v x = c.push.ensures.list ∙ ap (λ b. if b then push v x else v) ok in
+    it.again inv x c.in-Some.is (c.next.ensures.steps, c.next.ensures.goes) (
+      pushed ∙ ap (λ w. push w x) inv.holds.0 ∙ sym (push_all-push c.args.self.now inv.seen x),
+      omega (arith, ap (λ w. length w.pairs) pushed, length_push v.pairs x, length_push inv.seen x, inv.holds.1),
+      omega (arith, ap (λ w. w.capacity) pushed, capacity_le_reserved v 1, inv.holds.2),
+    )

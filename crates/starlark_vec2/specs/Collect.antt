@@ -1,0 +1,29 @@
+-- Lists of pairs made of an iterator's items, and of clones.
+use Rattle.std.specs.Prelude.{◌≡◌, ℕ, List, [], Option, MatchResult, Result}
+use Rattle.std.specs.Iterator.{Count, Drains, Yields}
+use Rattle.std.specs.Iterator.SizeHint.{IsWithinCount}
+use Rattle.starlark_vec2.specs.PairList.{PairList, pair_list, push_all, reserve}
+
+module _ {T A B : Type 0} (steps : T → Option (A × B) → T → Type 0) where
+  -- the iterator's items were pushed: all of them, or, after a refusal, those that came before
+  abbrev pub Pushes : {E : Type 0} → T → PairList A B → PairList A B → Result (Unit {0}) E → Type 0
+  Pushes it old new r = (ps : List (A × B)) × (new ≡ push_all old ps) × MatchResult r (λ _. Drains steps it ps) (λ _. (rest : T) × Yields steps it ps rest)
+
+module _ {U T A B : Type 0} (becomes : U → T → Type 0) (steps : T → Option (A × B) → T → Type 0) (remaining : T → Count) (iter : U) where
+  -- room was reserved for a number of items within what the iterator bounds, and then its items were pushed
+  abbrev pub Extends : {E : Type 0} → PairList A B → PairList A B → Result (Unit {0}) E → Type 0
+  Extends old new r = (it : T) × (first : ℕ) × becomes iter it × IsWithinCount first (remaining it) × Pushes steps it (reserve old first) new r
+
+  -- the list has all items of the iterator, pushed where the capacity had been a number of items within what it bounds
+  abbrev pub Collects : PairList A B → Type 0
+  Collects v = (it : T) × (first : ℕ) × (ps : List (A × B)) × becomes iter it × IsWithinCount first (remaining it)
+      × (v ≡ push_all (pair_list [] first) ps) × Drains steps it ps
+
+module _ {A B : Type 0} where
+  -- both parts of the second pair are clones of the first's
+  abbrev pub IsPairClone : (A → A → Type 0) → (B → B → Type 0) → A × B → A × B → Type 0
+  IsPairClone first second p q = first p.0 q.0 × second p.1 q.1
+
+-- a clone is its original's value in all parts
+abbrev pub IsLawfulClone : {T : Type 0} → (T → T → Type 0) → Type 0
+IsLawfulClone {T} is_clone = (x y : T) → is_clone x y → y ≡ x

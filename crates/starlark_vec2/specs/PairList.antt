@@ -1,0 +1,44 @@
+-- A list of pairs with a capacity, and what each call makes of it.
+use Rattle.std.specs.Prelude.{ℕ, ◌+◌, ◌*◌, ◌-◌, ◌^◌, max, min, List, [], ◌∷◌, ◌++◌, map, length, nat_lt, if◌then◌else◌}
+
+-- the pairs, and how many of them there may be before the list grows
+pub record PairList (A B : Type 0) : Type 0 where
+  pub pairs : List (A × B)
+  pub capacity : ℕ
+
+module _ {A B : Type 0} where
+  -- these pairs and this capacity
+  abbrev pub pair_list : List (A × B) → ℕ → PairList A B
+  pair_list ps n = record { pairs = ps; capacity = n }
+
+  -- the first parts, and the second parts
+  abbrev pub firsts_of : List (A × B) → List A
+  firsts_of ps = map (λ p. p.0) ps
+
+  abbrev pub seconds_of : List (A × B) → List B
+  seconds_of ps = map (λ p. p.1) ps
+
+  -- the same capacity, with these pairs
+  abbrev pub with_pairs : PairList A B → List (A × B) → PairList A B
+  with_pairs v ps = pair_list ps v.capacity
+
+  -- the capacity after growth that makes room for n further pairs: the largest of what is needed, 4 and twice the old one
+  abbrev pub grown_capacity : PairList A B → ℕ → ℕ
+  grown_capacity v n = max (length v.pairs + n) (max 4 (min (2 * v.capacity) (2 ^ 64 - 1)))
+
+  -- the capacity after a reservation for n further pairs: it grows only where their room is missing
+  abbrev pub reserved_capacity : PairList A B → ℕ → ℕ
+  reserved_capacity v n = if nat_lt (v.capacity - length v.pairs) n then grown_capacity v n else v.capacity
+
+  -- the list after room was reserved for n further pairs
+  abbrev pub reserve : PairList A B → ℕ → PairList A B
+  reserve v n = pair_list v.pairs (reserved_capacity v n)
+
+  -- the list after this pair was pushed
+  abbrev pub push : PairList A B → A × B → PairList A B
+  push v p = pair_list (v.pairs ++ p ∷ []) (reserved_capacity v 1)
+
+  -- the list after these pairs were pushed, one after the other
+  abbrev pub push_all : PairList A B → List (A × B) → PairList A B
+  push_all v [] = v
+  push_all v (p ∷ ps) = push_all (push v p) ps

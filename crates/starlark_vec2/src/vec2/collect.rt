@@ -1,0 +1,78 @@
+//! A `Vec2` from the items of an iterator, and from clones.
+ghost use Rattle.std.specs.Prelude.{◌≡◌, ◌-◌, ◌≤◌, length, IfOk, IsOk};
+ghost use Rattle.std.specs.List.{AllZip};
+ghost use Rattle.std.specs.Iterator.{IsFiniteIterable, IsFinite, size};
+ghost use Rattle.starlark_vec2.specs.PairList.{pair_list};
+ghost use Rattle.starlark_vec2.specs.Collect.{Pushes, Extends, Collects, IsPairClone, IsLawfulClone};
+
+use super::Vec2;
+use std::alloc::{AllocError, Global};
+
+impl<A: Drop, B: Drop> Vec2<A, B> {
+    /// Puts the items at the end, in their order. Room for the lower bound of the iterator's `size_hint` is made
+    /// first. Where there is no memory, the items that came before are there, and the others are dropped.
+    pub fn extend<I: IntoIterator<Item = (A, B)>>(&mut self, iter: I) -> Result<(), AllocError>
+        requires { IsFiniteIterable I.into_iter_gives I.IntoIter.can_next I.IntoIter.remaining iter }
+        ensures list { Extends I.into_iter_gives I.IntoIter.next_gives I.IntoIter.remaining iter self.old self.new result }
+        ensures succeeds { ((it : _) → I.into_iter_gives iter it → size (I.IntoIter.remaining it) ≤ self.old.capacity - length self.old.pairs) → IsOk result }
+    {
+        let items = iter.into_iter();
+        self.reserve(items.size_hint().0)?;
+        self.push_items(items)
+    }
+
+    /// The items, in their order. The list begins with a capacity of the lower bound of the iterator's `size_hint`.
+    /// Where there is no memory, nothing is made and the items are dropped.
+    pub fn from_iter<I: IntoIterator<Item = (A, B)>>(
+        alloc: Global,
+        iter: I,
+    ) -> Result<Vec2<A, B>, AllocError>
+        requires { IsFiniteIterable I.into_iter_gives I.IntoIter.can_next I.IntoIter.remaining iter }
+        ensures list { IfOk result (Collects I.into_iter_gives I.IntoIter.next_gives I.IntoIter.remaining iter) }
+        ensures succeeds { ((it : _) → I.into_iter_gives iter it → size (I.IntoIter.remaining it) ≡ 0) → IsOk result }
+    {
+        let items = iter.into_iter();
+        let mut list = Vec2::with_capacity(alloc, items.size_hint().0)?;
+        list.push_items(items)?;
+        Ok(list)
+    }
+
+    // Pushes the items of an iterator.
+    fn push_items<I: Iterator<Item = (A, B)>>(&mut self, mut items: I) -> Result<(), AllocError>
+        requires can { I.can_next items }
+        requires finite { IsFinite (I.remaining items) }
+        ensures list { Pushes I.next_gives items self.old self.new result }
+        ensures succeeds { size (I.remaining items) ≤ self.old.capacity - length self.old.pairs → IsOk result }
+    {
+        while let Some(pair) = items.next() {
+            let (a, b) = pair;
+            if self.push(a, b).is_err() {
+                return Err(AllocError);
+            }
+        }
+        Ok(())
+    }
+}
+
+impl<A: Clone, B: Clone> Vec2<A, B> {
+    /// A list of clones of the pairs, whose capacity is their number. Where memory is refused, also to the clone of a
+    /// part, nothing is made. Without pairs no memory is needed.
+    #[tactic(auto, using(crate::proofs::Pairs::columns))]
+    pub fn clone(&self) -> Result<Vec2<A, B>, AllocError>
+        ensures pairs { IfOk result (λ v. AllZip (IsPairClone A.is_clone B.is_clone) self.now.pairs v.pairs) }
+        ensures capacity { IfOk result (λ v. v.capacity ≡ length self.now.pairs) }
+        ensures same { IfOk result (λ v. IsLawfulClone A.is_clone → IsLawfulClone B.is_clone → v ≡ pair_list self.now.pairs (length self.now.pairs)) }
+        ensures succeeds { length self.now.pairs ≡ 0 → IsOk result }
+    {
+        let alloc = *self.firsts.allocator();
+        let len = self.len();
+        if len == 0 {
+            return Ok(Vec2::new(alloc));
+        }
+        Ok(Vec2 {
+            firsts: self.firsts.clone()?,
+            seconds: self.seconds.clone()?,
+            capacity: len,
+        })
+    }
+}

@@ -1,0 +1,116 @@
+//! References into a `Vec2`, handed out as `&mut`.
+ghost use Rattle.std.specs.Prelude.{◌≡◌, ◌<◌, length, slice_get, slice_index_or, Some};
+ghost use Rattle.std.specs.Option.{option_map};
+ghost use Rattle.std.specs.Borrow.{sem};
+ghost use Rattle.std.specs.Map.Iter.{deref_pair_mut};
+ghost use Rattle.starlark_vec2.specs.PairList.{firsts_of, seconds_of};
+ghost use Rattle.starlark_vec2.specs.Lending.{deref_both_mut, lends_first, lends_second, lends_firsts, lends_seconds, lends_both};
+ghost use Rattle.starlark_vec2.specs.ColumnLending.{lends_place, lends_places};
+
+use super::Vec2;
+
+impl<A, B> Vec2<A, B> {
+    /// The first parts of the pairs, in their order. The list ends with what is left in them.
+    #[tactic(auto, using(crate::proofs::Pairs::columns))]
+    #[inline]
+    pub fn firsts_mut(&mut self) -> &mut [A]
+        ensures* writes_back { sem 𝓛 (lends_firsts A.row B.row self.entry result) }
+        ensures value { result.now ≡ firsts_of self.old.pairs }
+    {
+        self.firsts.as_mut_slice()
+    }
+
+    /// The second parts of the pairs, in their order. The list ends with what is left in them.
+    #[tactic(auto, using(crate::proofs::Pairs::columns))]
+    #[inline]
+    pub fn seconds_mut(&mut self) -> &mut [B]
+        ensures* writes_back { sem 𝓛 (lends_seconds A.row B.row self.entry result) }
+        ensures value { result.now ≡ seconds_of self.old.pairs }
+    {
+        self.seconds.as_mut_slice()
+    }
+
+    /// The first part of the pair at this index. The list ends with what is left in it.
+    #[tactic(auto, using(crate::proofs::Pairs::columns))]
+    #[inline]
+    pub fn first_at_mut(&mut self, index: usize) -> &mut A
+        requires { index < length self.old.pairs }
+        ensures* writes_back { sem 𝓛 (lends_first A.row B.row self.entry index result) }
+        ensures value { slice_get (firsts_of self.old.pairs) index ≡ Some result.now }
+    {
+        &mut self.firsts[index]
+    }
+
+    /// The second part of the pair at this index. The list ends with what is left in it.
+    #[tactic(auto, using(crate::proofs::Pairs::columns))]
+    #[inline]
+    pub fn second_at_mut(&mut self, index: usize) -> &mut B
+        requires { index < length self.old.pairs }
+        ensures* writes_back { sem 𝓛 (lends_second A.row B.row self.entry index result) }
+        ensures value { slice_get (seconds_of self.old.pairs) index ≡ Some result.now }
+    {
+        &mut self.seconds[index]
+    }
+
+    /// The pair at this index, to read the first part and write the second. The list ends with what is left in that.
+    #[tactic(auto, using(crate::proofs::Pairs::columns))]
+    #[inline]
+    pub fn pair_at_mut(&mut self, index: usize) -> (&A, &mut B)
+        requires { index < length self.old.pairs }
+        ensures* writes_back { sem 𝓛 (lends_second A.row B.row self.entry index result.1) }
+        ensures value { slice_get self.old.pairs index ≡ Some (deref_pair_mut result) }
+    {
+        (&self.firsts[index], &mut self.seconds[index])
+    }
+
+    /// The pair at this index, to write both parts. The list ends with what is left in them. Rust's is unsafe; here the
+    /// index is proved to be within the length.
+    #[inline]
+    pub fn get_unchecked_mut(&mut self, index: usize) -> (&mut A, &mut B)
+        requires { index < length self.old.pairs }
+        ensures* writes_back { sem 𝓛 (lends_both A.row B.row self.entry index result) }
+        ensures value { slice_get self.old.pairs index ≡ Some (deref_both_mut result) }
+    {
+        lend_columns(&mut self.firsts, &mut self.seconds, index)
+    }
+
+    /// The pair at this index, where there is one, to write both parts. Of the list afterwards nothing is said here:
+    /// `get_unchecked_mut`, and the calls that lend one part, say it.
+    #[inline]
+    pub fn get_mut(&mut self, index: usize) -> Option<(&mut A, &mut B)>
+        ensures { option_map deref_both_mut result ≡ slice_get self.old.pairs index }
+    {
+        if index < self.len() {
+            Some(self.get_unchecked_mut(index))
+        } else {
+            None
+        }
+    }
+}
+
+// The item at this place of a vector.
+#[inline]
+fn lend_place<T>(items: &mut Vec<T>, index: usize) -> &mut T
+    requires { index < length items.old.items }
+    ensures* writes_back { sem 𝓛 (lends_place T.row items.entry index result) }
+    ensures value { result.now ≡ slice_index_or items.old.items index result.now }
+{
+    &mut items[index]
+}
+
+// The items at this place of two vectors.
+#[inline]
+fn lend_columns<'a, A, B>(
+    firsts: &'a mut Vec<A>,
+    seconds: &'a mut Vec<B>,
+    index: usize,
+) -> (&'a mut A, &'a mut B)
+    requires in_firsts { index < length firsts.old.items }
+    requires in_seconds { index < length seconds.old.items }
+    ensures* writes_back { sem 𝓛 (lends_places A.row B.row firsts.entry seconds.entry index result) }
+    ensures values { (result.0.now ≡ slice_index_or firsts.old.items index result.0.now) × (result.1.now ≡ slice_index_or seconds.old.items index result.1.now) }
+{
+    let first = lend_place(firsts, index);
+    let second = lend_place(seconds, index);
+    (first, second)
+}

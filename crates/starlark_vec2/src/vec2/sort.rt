@@ -1,0 +1,108 @@
+//! `Vec2::sort_by`: positions are sorted, and then the pairs are moved in place.
+ghost use Rattle.std.specs.Prelude.{◌≡◌, ◌≤◌, length, zip, vec_capacity, IfOk, IsOk, OnOk, OnErr, IsPermutation};
+ghost use Rattle.std.specs.List.{range_with_len};
+ghost use Rattle.starlark_vec2.specs.Sort.{Sorts};
+ghost use Rattle.starlark_vec2.specs.Positions.{ComparesAt, SortsPositions, PutsInOrder};
+
+use super::Vec2;
+use std::alloc::{AllocError, Global};
+use std::cmp::Ordering;
+
+impl<A, B> Vec2<A, B> {
+    /// Sorts the pairs; those that compare as equal keep their order. All memory is had before a pair moves; where it
+    /// is refused, the list is as it was. Up to one pair no memory is needed. Rust's states no stability.
+    pub fn sort_by<F: FnMut((&A, &B), (&A, &B)) -> Ordering>(
+        &mut self,
+        compare: F,
+    ) -> Result<(), AllocError>
+        requires { F.IsAlwaysCallable compare }
+        ensures sorted { OnOk result (Sorts F.FnMut compare self.old.pairs self.new.pairs) }
+        ensures rearranged { IsPermutation self.old.pairs self.new.pairs }
+        ensures unchanged { OnErr result (self.new.pairs ≡ self.old.pairs) }
+        ensures capacity { self.new.capacity ≡ self.old.capacity }
+        ensures succeeds { length self.old.pairs ≤ 1 → IsOk result }
+    {
+        if self.len() < 2 {
+            return Ok(());
+        }
+        let order = self.sorted_positions(compare)?;
+        put_in_order(&mut self.firsts, &mut self.seconds, order);
+        Ok(())
+    }
+
+    // The positions of the pairs, in the order that the comparator gives the pairs.
+    fn sorted_positions<F: FnMut((&A, &B), (&A, &B)) -> Ordering>(
+        &self,
+        mut compare: F,
+    ) -> Result<Vec<usize>, AllocError>
+        requires { F.IsAlwaysCallable compare }
+        ensures positions { IfOk result (λ order. IsPermutation (range_with_len 0 (length self.now.pairs)) order.items) }
+        ensures sorted { IfOk result (λ order. SortsPositions F.FnMut compare self.now.pairs order.items) }
+    {
+        let mut order = positions(*self.firsts.allocator(), self.len())?;
+        order.sort_by(
+            |i: &usize, j: &usize| -> Ordering
+                requires { F.IsAlwaysCallable compare }
+                ensures kept { F.IsAlwaysCallable compare.exit }
+                ensures same { self.exit.now ≡ self.entry.now }
+                ensures called { ComparesAt F.FnMut self.entry.now.pairs compare.entry i.now j.now result compare.exit }
+            { self.compare_at(&mut compare, *i, *j) },
+        )?;
+        Ok(order)
+    }
+
+    // Compares the pairs at two positions. A position past the end comes after all others.
+    #[inline]
+    fn compare_at<F: FnMut((&A, &B), (&A, &B)) -> Ordering>(
+        &self,
+        compare: &mut F,
+        i: usize,
+        j: usize,
+    ) -> Ordering
+        requires { F.IsAlwaysCallable compare.old }
+        ensures kept { F.IsAlwaysCallable compare.new }
+        ensures called { ComparesAt F.FnMut self.now.pairs compare.old i j result compare.new }
+    {
+        match (self.get(i), self.get(j)) {
+            (Some(x), Some(y)) => compare(x, y),
+            (Some(_), None) => Ordering::Less,
+            (None, _) => Ordering::Equal,
+        }
+    }
+}
+
+// The numbers below `n`, in their order.
+fn positions(alloc: Global, n: usize) -> Result<Vec<usize>, AllocError>
+    ensures { IfOk result (λ v. v.items ≡ range_with_len 0 n) }
+{
+    let mut all = Vec::with_capacity(alloc, n)?;
+    for i in 0..n {
+        all.push_reserved(i);
+    }
+    Ok(all)
+}
+
+// Moves the pairs in place, so that each place has the pair whose position stands there in the order.
+fn put_in_order<A, B>(firsts: &mut Vec<A>, seconds: &mut Vec<B>, mut order: Vec<usize>)
+    requires even { length firsts.old.items ≡ length seconds.old.items }
+    requires positions { IsPermutation (range_with_len 0 (length firsts.old.items)) order.items }
+    ensures pairs { PutsInOrder (zip firsts.old.items seconds.old.items) order.items (zip firsts.new.items seconds.new.items) }
+    ensures firsts_len { length firsts.new.items ≡ length firsts.old.items }
+    ensures seconds_len { length seconds.new.items ≡ length seconds.old.items }
+    ensures firsts_room { vec_capacity firsts.new ≡ vec_capacity firsts.old }
+    ensures seconds_room { vec_capacity seconds.new ≡ vec_capacity seconds.old }
+{
+    let mut place = 0;
+    while place < order.len() {
+        let from = order[place];
+        if from == place {
+            place += 1;
+        } else {
+            // The pair that belongs to `from` comes there, and what stood there goes where that pair was.
+            let next = order[from];
+            firsts.swap(from, next);
+            seconds.swap(from, next);
+            order.swap(place, from);
+        }
+    }
+}
