@@ -1,5 +1,5 @@
 //! The map. It alone sees its vector.
-ghost use Rattle.std.specs.Prelude.{◌≡◌, ◌+◌, ◌-◌, ◌<◌, [], remove, reverse, slice_get, false, length, None, IsSome, IsTrue, IfOk, IfErr, OnOk, OnErr};
+ghost use Rattle.std.specs.Prelude.{◌≡◌, ◌+◌, ◌-◌, ◌<◌, [], remove, reverse, slice_get, false, length, None, IsSome, IsTrue, IfSome, IfOk, IfErr, OnOk, OnErr};
 ghost use Rattle.std.specs.Map.Iter.{ShowsInOrder, ShowsInReverse, deref_pair};
 ghost use Rattle.std.specs.Option.{option_copied, option_map};
 ghost use Rattle.starlark_hash.specs.Entries.{entry_at, value_at, pair_of, with_value, without, match_of, insert_entry, IsSingle};
@@ -74,7 +74,8 @@ impl<K: Eq, V> SmallMap<K, V> {
     /// The place under this hash whose key the query is equivalent to.
     #[inline]
     pub fn get_index_of_hashed<Q: Equivalent<K>>(&self, key: Hashed<&Q>) -> Option<usize>
-        ensures { result ≡ query_match Q.equivalent self.now.entries key.entry }
+        ensures place { result ≡ query_match Q.equivalent self.now.entries key.entry }
+        ensures within { IfSome result (λ i. i < length self.now.entries) }
     {
         position_in(&self.entries, key.hash(), *key.key())
     }
