@@ -21,7 +21,6 @@ module _ {K V : Type 0} where
   abbrev pub GrowsFor : ℕ → Map K V → Map K V → Type 0
   GrowsFor asked old new = (old.capacity ≤ new.capacity) × (new.capacity ≤ max old.capacity (max 4 (2 * asked)))
 
-module _ {K V : Type 0} where
   -- no room is lost, and capacity and index stay
   abbrev pub KeepsMemory : Map K V → Map K V → Type 0
   KeepsMemory old new = KeepsRoom old new × (new.capacity ≡ old.capacity) × (new.indexed ≡ old.indexed)
