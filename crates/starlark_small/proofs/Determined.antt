@@ -4,9 +4,9 @@ use Rattle.std.specs.Option.{option_map}
 use Rattle.std.specs.declared.cmp.Ordering.{Ordering}
 use Rattle.starlark_hash.specs.Entries.{Entry}
 use Rattle.starlark_small.specs.declared.command.Command.{Command}
-use Rattle.starlark_small.specs.declared.command.Command.TheVariants.{Look, Len, Insert}
+use Rattle.starlark_small.specs.declared.command.Command.TheVariants.{Look, At, First, Last, Len, Insert, Change, Remove, RemoveAt, Pop, Clear, Reverse, Sort}
 use Rattle.starlark_small.specs.declared.command.Reply.{Reply}
-use Rattle.starlark_small.specs.declared.command.Reply.TheVariants.{Found, Count, Old, Refused}
+use Rattle.starlark_small.specs.declared.command.Reply.TheVariants.{Found, Shown, Count, Old, Refused, Taken, TakenHashed, Done, NoMemory}
 use Rattle.starlark_small.specs.Run.{IsShown, Run, Step, is_refusal, refusals}
 
 -- an option of a pair is its two parts
@@ -32,10 +32,21 @@ module _ {K V R : Type 0} (eq : K → K → Bool) (cmp : K → K → Ordering) (
       → Step eq cmp shows old command r new → Step eq cmp shows old command s end → is_refusal r ≡ is_refusal s → (r ≡ s) × (new ≡ end)
   Step-determined old (Look key) (Found a) (Found b) new end p q same =
       (ap Found (option-parts a b (p.0 ∙ sym q.0) (shown-once _ _ _ p.1 q.1)), p.2 ∙ sym q.2)
+  Step-determined old (At i) (Shown a) (Shown b) new end p q same = (ap Shown (shown-once _ _ _ p.0 q.0), p.1 ∙ sym q.1)
+  Step-determined old First (Shown a) (Shown b) new end p q same = (ap Shown (shown-once _ _ _ p.0 q.0), p.1 ∙ sym q.1)
+  Step-determined old Last (Shown a) (Shown b) new end p q same = (ap Shown (shown-once _ _ _ p.0 q.0), p.1 ∙ sym q.1)
   Step-determined old Len (Count a) (Count b) new end p q same = (ap Count (p.0 ∙ sym q.0), p.1 ∙ sym q.1)
   Step-determined old (Insert key value) (Old a) (Old b) new end p q same = (ap Old (p.0 ∙ sym q.0), p.1 ∙ sym q.1)
   Step-determined old (Insert key value) (Refused a v) (Refused b w) new end p q same =
       ((λ i. Refused ((p.1 ∙ sym q.1) i) ((p.2 ∙ sym q.2) i)), p.3 ∙ sym q.3)
+  Step-determined old (Change key value) (Old a) (Old b) new end p q same = (ap Old (p.0 ∙ sym q.0), p.1 ∙ sym q.1)
+  Step-determined old (Remove key) (Taken a) (Taken b) new end p q same = (ap Taken (p.0 ∙ sym q.0), p.1 ∙ sym q.1)
+  Step-determined old (RemoveAt i) (TakenHashed a) (TakenHashed b) new end p q same = (ap TakenHashed (p.0 ∙ sym q.0), p.1 ∙ sym q.1)
+  Step-determined old Pop (Taken a) (Taken b) new end p q same = (ap Taken (p.0 ∙ sym q.0), p.1 ∙ sym q.1)
+  Step-determined old Clear Done Done new end p q same = (refl, p ∙ sym q)
+  Step-determined old Reverse Done Done new end p q same = (refl, p ∙ sym q)
+  Step-determined old Sort Done Done new end p q same = (refl, p ∙ sym q)
+  Step-determined old Sort NoMemory NoMemory new end p q same = (refl, p.1 ∙ sym q.1)
   Step-determined old command r s new end p q same = absurd (first_of (assumption, cc))
 
   -- the head and the tail of the refusals

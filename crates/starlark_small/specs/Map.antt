@@ -1,5 +1,5 @@
 -- What a contract sees of a `SmallMap`.
-use Rattle.std.specs.Prelude.{ℕ, ◌+◌, ◌*◌, ◌≤◌, max, Bool, List, Option, length}
+use Rattle.std.specs.Prelude.{◌≡◌, ℕ, ◌+◌, ◌*◌, ◌≤◌, max, Bool, List, Option, length}
 use Rattle.std.specs.Borrow.{Bor}
 use Rattle.starlark_hash.specs.declared.hashed.Hashed.{Hashed}
 use Rattle.starlark_hash.specs.Entries.{Entry, position_of}
@@ -20,6 +20,10 @@ module _ {K V : Type 0} where
   -- the capacity never falls, and rises at most to the larger of 4 and twice the length asked for
   abbrev pub GrowsFor : ℕ → Map K V → Map K V → Type 0
   GrowsFor asked old new = (old.capacity ≤ new.capacity) × (new.capacity ≤ max old.capacity (max 4 (2 * asked)))
+
+  -- no room is lost, and capacity and index stay
+  abbrev pub KeepsMemory : Map K V → Map K V → Type 0
+  KeepsMemory old new = KeepsRoom old new × (new.capacity ≡ old.capacity) × (new.indexed ≡ old.indexed)
 
 module _ {Q K V : Type 0} (equivalent : Q → K → Bool) where
   -- the place under the query's hash whose key the query is equivalent to

@@ -1,18 +1,20 @@
 -- What commands do to a list of entries.
-use Rattle.std.specs.Prelude.{◌≡◌, Bool, true, false, List, [], ◌∷◌, ◌++◌, length, map, Option, Some, None, ⊤}
+use Rattle.std.specs.Prelude.{◌≡◌, ◌-◌, Bool, true, false, List, [], ◌∷◌, ◌++◌, length, map, remove, reverse, slice_get, Option, Some, None, ⊤}
 use Rattle.std.specs.Borrow.{Bor}
 use Rattle.std.specs.Fn.{Shared}
 use Rattle.std.specs.Option.{option_map}
 use Rattle.std.specs.declared.cmp.Ordering.{Ordering}
-use Rattle.starlark_hash.specs.Entries.{Entry, entry_key, entry_value, entry_at, value_at, match_of, insert_entry}
+use Rattle.starlark_hash.specs.Entries.{Entry, entry_key, entry_value, entry_at, pair_of, value_at, with_value, without, match_of, insert_entry}
+use Rattle.starlark_hash.specs.Sorting.{Ascends, sorted_by_key}
 use Rattle.starlark_small.specs.declared.command.Command.{Command}
-use Rattle.starlark_small.specs.declared.command.Command.TheVariants.{Look, Len, Insert}
+use Rattle.starlark_small.specs.declared.command.Command.TheVariants.{Look, At, First, Last, Len, Insert, Change, Remove, RemoveAt, Pop, Clear, Reverse, Sort}
 use Rattle.starlark_small.specs.declared.command.Reply.{Reply}
-use Rattle.starlark_small.specs.declared.command.Reply.TheVariants.{Found, Count, Old, Refused}
+use Rattle.starlark_small.specs.declared.command.Reply.TheVariants.{Found, Shown, Count, Old, Refused, Taken, TakenHashed, Done, NoMemory}
 
 -- whether a reply is a refusal
 abbrev pub is_refusal : {K V R : Type 0} → Reply K V R → Bool
 is_refusal (Refused key value) = true
+is_refusal NoMemory = true
 is_refusal reply = false
 
 -- which replies are refusals
@@ -28,6 +30,9 @@ IsShown shows entry shown = ⊥
 -- the entry that a command shows, if any
 abbrev pub entry_shown : {K V : Type 0} → (K → K → Bool) → List (Entry K V) → Command K V → Option (Entry K V)
 entry_shown eq es (Look key) = entry_at es (match_of eq es key)
+entry_shown eq es (At i) = slice_get es i
+entry_shown eq es First = slice_get es 0
+entry_shown eq es Last = slice_get es (length es - 1)
 entry_shown eq es command = None
 
 module _ {K V R : Type 0} (eq : K → K → Bool) (cmp : K → K → Ordering) (shows : Entry K V → R → Type 0) where
@@ -37,10 +42,23 @@ module _ {K V R : Type 0} (eq : K → K → Bool) (cmp : K → K → Ordering) (
       (option_map (λ p. p.0) found ≡ match_of eq old key)
       × IsShown shows (entry_shown eq old (Look key)) (option_map (λ p. p.1) found)
       × (new ≡ old)
+  Step old (At i) (Shown shown) new = IsShown shows (entry_shown eq old (At i)) shown × (new ≡ old)
+  Step old First (Shown shown) new = IsShown shows (entry_shown eq old First) shown × (new ≡ old)
+  Step old Last (Shown shown) new = IsShown shows (entry_shown eq old Last) shown × (new ≡ old)
   Step old Len (Count n) new = (n ≡ length old) × (new ≡ old)
   Step old (Insert key value) (Old before) new = (before ≡ value_at old (match_of eq old key)) × (new ≡ insert_entry eq old key value)
   -- only a new key is refused: it comes back with its value
   Step old (Insert key value) (Refused k v) new = (match_of eq old key ≡ None) × (k ≡ key) × (v ≡ value) × (new ≡ old)
+  Step old (Change key value) (Old before) new = (before ≡ value_at old (match_of eq old key)) × (new ≡ with_value old (match_of eq old key) value)
+  Step old (Remove key) (Taken taken) new =
+      (taken ≡ option_map pair_of (entry_at old (match_of eq old key))) × (new ≡ without old (match_of eq old key))
+  Step old (RemoveAt i) (TakenHashed taken) new = (taken ≡ slice_get old i) × (new ≡ remove old i)
+  Step old Pop (Taken taken) new = (taken ≡ option_map pair_of (slice_get old (length old - 1))) × (new ≡ remove old (length old - 1))
+  Step old Clear Done new = new ≡ []
+  Step old Reverse Done new = new ≡ reverse old
+  Step old Sort Done new = new ≡ sorted_by_key cmp old
+  -- only a list that does not ascend is refused
+  Step old Sort NoMemory new = (Ascends cmp old → ⊥) × (new ≡ old)
   -- no other reply is given
   Step old command reply new = ⊥
 

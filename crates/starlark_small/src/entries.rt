@@ -1,10 +1,13 @@
 //! Plain work on the list of entries, over slices and vectors: search, writing and growth.
-ghost use Rattle.std.specs.Prelude.{◌≡◌, ◌+◌, ◌*◌, ◌<◌, ◌≤◌, [], ◌∷◌, ◌++◌, max, length, Some, None, IfSome, IfOk, IfErr, OnOk, OnErr, IsSome, vec_capacity};
+ghost use Rattle.std.specs.Prelude.{◌≡◌, ◌+◌, ◌*◌, ◌<◌, ◌≤◌, [], ◌∷◌, ◌++◌, max, remove, reverse, slice_get, length, Some, None, IfSome, IfOk, IfErr, OnOk, OnErr, IsSome, MatchBool, vec_capacity};
+ghost use Rattle.std.specs.Map.Iter.{deref_pair};
 ghost use Rattle.std.specs.Option.{option_copied, option_map};
-ghost use Rattle.starlark_hash.specs.Entries.{position_of, entry_at, value_at, pair_of, set_value_at, match_of, insert_entry, IsSingle};
+ghost use Rattle.starlark_hash.specs.Entries.{entry_key, position_of, entry_at, value_at, pair_of, set_value_at, match_of, insert_entry, IsSingle};
+ghost use Rattle.starlark_hash.specs.Sorting.{Ascends, sorted_by_key};
 
 use starlark_hash::{Equivalent, Hashed, NoRoom, StarlarkHashValue};
 use std::alloc::AllocError;
+use std::cmp::Ordering;
 use std::mem;
 
 // The first place under the hash whose key the query is equivalent to.
@@ -134,4 +137,71 @@ pub(crate) fn insert_in<K: Eq + Drop, V>(
             Err(refused) => Err(refused),
         },
     }
+}
+
+// The key and the value at a place.
+#[inline]
+pub(crate) fn pair_at<'a, K, V>(entries: &'a [(Hashed<K>, V)], i: usize) -> Option<(&'a K, &'a V)>
+    ensures { option_map deref_pair result ≡ option_map pair_of (slice_get entries.now i) }
+{
+    let (key, value) = entries.get(i)?;
+    Some((key.key(), value))
+}
+
+// Takes out the entry at a place of a single list.
+pub(crate) fn remove_at<K: Eq, V>(entries: &mut Vec<(Hashed<K>, V)>, i: usize) -> (Hashed<K>, V)
+    requires within { i < length entries.old.items }
+    requires single { IsSingle K.eq entries.old.items }
+    ensures taken { slice_get entries.old.items i ≡ Some result }
+    ensures removed { entries.new.items ≡ remove entries.old.items i }
+    ensures single { IsSingle K.eq entries.new.items }
+    ensures len { length entries.new.items + 1 ≡ length entries.old.items }
+    ensures capacity { vec_capacity entries.new ≡ vec_capacity entries.old }
+{
+    entries.remove(i)
+}
+
+// Turns a single list round.
+pub(crate) fn reverse_in<K: Eq, V>(entries: &mut Vec<(Hashed<K>, V)>)
+    requires { IsSingle K.eq entries.old.items }
+    ensures turned { entries.new.items ≡ reverse entries.old.items }
+    ensures single { IsSingle K.eq entries.new.items }
+    ensures len { length entries.new.items ≡ length entries.old.items }
+    ensures capacity { vec_capacity entries.new ≡ vec_capacity entries.old }
+{
+    entries.as_mut_slice().reverse();
+}
+
+// Whether the keys ascend.
+pub(crate) fn ascends<K: Ord, V>(entries: &[(Hashed<K>, V)]) -> bool
+    ensures { MatchBool result (Ascends K.cmp entries.now) (Ascends K.cmp entries.now → ⊥) }
+{
+    for i in 1..entries.len() {
+        let (before, _) = &entries[i - 1];
+        let (after, _) = &entries[i];
+        if after.key().cmp(before.key()) == Ordering::Less {
+            return false;
+        }
+    }
+    true
+}
+
+// Sorts a single list by key.
+pub(crate) fn sort_in<K: Ord, V>(entries: &mut Vec<(Hashed<K>, V)>) -> Result<(), AllocError>
+    requires { IsSingle K.eq entries.old.items }
+    ensures sorted { OnOk result (entries.new.items ≡ sorted_by_key K.cmp entries.old.items) }
+    ensures single { IsSingle K.eq entries.new.items }
+    ensures unchanged { OnErr result (entries.new.items ≡ entries.old.items) }
+    ensures needed { OnErr result (Ascends K.cmp entries.old.items → ⊥) }
+    ensures len { length entries.new.items ≡ length entries.old.items }
+    ensures capacity { vec_capacity entries.new ≡ vec_capacity entries.old }
+{
+    if ascends(entries.as_slice()) {
+        return Ok(());
+    }
+    entries.sort_by(
+        |a: &(Hashed<K>, V), b: &(Hashed<K>, V)| -> Ordering
+            ensures { result ≡ K.cmp (entry_key a.now) (entry_key b.now) }
+        { a.0.key().cmp(b.0.key()) },
+    )
 }

@@ -1,5 +1,5 @@
 //! Runs of commands, over the map's public calls.
-ghost use Rattle.std.specs.Prelude.{◌≡◌, IfOk, OnErr, Some};
+ghost use Rattle.std.specs.Prelude.{◌≡◌, slice_get, IfOk, OnErr, Some};
 ghost use Rattle.std.specs.Option.{option_map};
 ghost use Rattle.starlark_hash.specs.Entries.{Entry, entry_at, match_of};
 ghost use Rattle.starlark_small.specs.Run.{CanShow, IsDetermined, IsShown, Run, Shows, Step, TakesEntry, entry_shown};
@@ -25,6 +25,15 @@ fn found_under<K: Eq, V, R, F: Fn(&K, &V) -> R>(
     }
 }
 
+// What `look` shows of the entry at a place.
+fn shown_at<K: Eq, V, R, F: Fn(&K, &V) -> R>(map: &SmallMap<K, V>, i: usize, look: &F) -> Option<R>
+    requires { (e : Entry K V) → slice_get map.now.entries i ≡ Some e → TakesEntry F.Fn look.now e }
+    ensures { IsShown (Shows F.Fn look.now) (slice_get map.now.entries i) result }
+{
+    let (key, value) = map.get_index(i)?;
+    Some(look(key, value))
+}
+
 // One command.
 fn step<K: Ord + Drop, V: Drop, R, F: Fn(&K, &V) -> R>(
     map: &mut SmallMap<K, V>,
@@ -36,10 +45,29 @@ fn step<K: Ord + Drop, V: Drop, R, F: Fn(&K, &V) -> R>(
 {
     match command {
         Command::Look(key) => Reply::Found(found_under(map, &key, look)),
+        Command::At(i) => Reply::Shown(shown_at(map, i, look)),
+        Command::First => Reply::Shown(shown_at(map, 0, look)),
+        Command::Last => Reply::Shown(shown_at(map, map.len().saturating_sub(1), look)),
         Command::Len => Reply::Count(map.len()),
         Command::Insert(key, value) => match map.insert_hashed(key, value) {
             Ok(old) => Reply::Old(old),
             Err(NoRoom((key, value))) => Reply::Refused(key, value),
+        },
+        Command::Change(key, value) => Reply::Old(map.change_hashed(key.as_ref(), value)),
+        Command::Remove(key) => Reply::Taken(map.shift_remove_hashed_entry(key.as_ref())),
+        Command::RemoveAt(i) => Reply::TakenHashed(map.shift_remove_index_hashed(i)),
+        Command::Pop => Reply::Taken(map.pop()),
+        Command::Clear => {
+            map.clear();
+            Reply::Done
+        }
+        Command::Reverse => {
+            map.reverse();
+            Reply::Done
+        }
+        Command::Sort => match map.sort_keys() {
+            Ok(()) => Reply::Done,
+            Err(_) => Reply::NoMemory,
         },
     }
 }

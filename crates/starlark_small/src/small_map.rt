@@ -1,15 +1,16 @@
 //! The map. It alone sees its vector.
-ghost use Rattle.std.specs.Prelude.{◌≡◌, ◌+◌, ◌<◌, [], false, length, None, IsSome, IsTrue, IfOk, IfErr, OnOk, OnErr};
-ghost use Rattle.std.specs.Map.Iter.{ShowsInOrder, ShowsInReverse};
+ghost use Rattle.std.specs.Prelude.{◌≡◌, ◌+◌, ◌-◌, ◌<◌, [], remove, reverse, slice_get, false, length, None, IsSome, IsTrue, IfSome, IfOk, IfErr, OnOk, OnErr};
+ghost use Rattle.std.specs.Map.Iter.{ShowsInOrder, ShowsInReverse, deref_pair};
 ghost use Rattle.std.specs.Option.{option_copied, option_map};
-ghost use Rattle.starlark_hash.specs.Entries.{entry_at, value_at, pair_of, match_of, insert_entry, IsSingle};
+ghost use Rattle.starlark_hash.specs.Entries.{entry_at, value_at, pair_of, with_value, without, match_of, insert_entry, IsSingle};
+ghost use Rattle.starlark_hash.specs.Sorting.{Ascends, sorted_by_key};
 ghost use Rattle.starlark_small.specs.Iter.{deref_entry};
-ghost use Rattle.starlark_small.specs.Map.{KeepsRoom, GrowsFor, query_match};
+ghost use Rattle.starlark_small.specs.Map.{KeepsMemory, KeepsRoom, GrowsFor, query_match};
 
-use crate::entries::{full_in, insert_in, value_in};
+use crate::entries::{full_in, insert_in, pair_at, position_in, remove_at, replace_at, reverse_in, sort_in, value_in};
 use crate::iter::IterHashed;
 use starlark_hash::{Equivalent, Hashed, NoRoom};
-use std::alloc::Global;
+use std::alloc::{AllocError, Global};
 use std::marker::Model;
 
 /// A map that walks in the order of insertion. An entry stands under a hash that its caller brings, which
@@ -71,6 +72,39 @@ impl<K: Eq, V> SmallMap<K, V> {
         full_in(&self.entries, key.hash(), *key.key())
     }
 
+    /// The place under this hash whose key the query is equivalent to.
+    #[inline]
+    pub fn get_index_of_hashed<Q: Equivalent<K>>(&self, key: Hashed<&Q>) -> Option<usize>
+        ensures place { result ≡ query_match Q.equivalent self.now.entries key.entry }
+        ensures within { IfSome result (λ i. i < length self.now.entries) }
+    {
+        position_in(&self.entries, key.hash(), *key.key())
+    }
+
+    /// The key and the value at a place.
+    #[inline]
+    pub fn get_index(&self, index: usize) -> Option<(&K, &V)>
+        ensures { option_map deref_pair result ≡ option_map pair_of (slice_get self.now.entries index) }
+    {
+        pair_at(&self.entries, index)
+    }
+
+    /// The key and the value of the first entry.
+    #[inline]
+    pub fn first(&self) -> Option<(&K, &V)>
+        ensures { option_map deref_pair result ≡ option_map pair_of (slice_get self.now.entries 0) }
+    {
+        pair_at(&self.entries, 0)
+    }
+
+    /// The key and the value of the last entry.
+    #[inline]
+    pub fn last(&self) -> Option<(&K, &V)>
+        ensures { option_map deref_pair result ≡ option_map pair_of (slice_get self.now.entries (length self.now.entries - 1)) }
+    {
+        pair_at(&self.entries, self.entries.len().saturating_sub(1))
+    }
+
     /// How many entries there are.
     #[inline]
     pub fn len(&self) -> usize
@@ -108,5 +142,86 @@ impl<K: Eq, V> SmallMap<K, V> {
         ensures indexed { IsTrue self.old.indexed → IsTrue self.new.indexed }
     {
         insert_in(&mut self.entries, key, value)
+    }
+
+    /// Replaces the value under this hash whose key the query is equivalent to, and answers the old one.
+    pub(crate) fn change_hashed<Q: Equivalent<K>>(&mut self, key: Hashed<&Q>, value: V) -> Option<V>
+    where
+        V: Drop,
+        ensures old { result ≡ value_at self.old.entries (query_match Q.equivalent self.old.entries key.entry) }
+        ensures entries { self.new.entries ≡ with_value self.old.entries (query_match Q.equivalent self.old.entries key.entry) value }
+        ensures kept { KeepsMemory self.old self.new }
+    {
+        let i = position_in(&self.entries, key.hash(), *key.key())?;
+        Some(replace_at(&mut self.entries, i, value))
+    }
+
+    /// Removes the entry under this hash whose key the query is equivalent to, and answers its key and value. Those after it move up.
+    pub fn shift_remove_hashed_entry<Q: Equivalent<K>>(&mut self, key: Hashed<&Q>) -> Option<(K, V)>
+        ensures taken { result ≡ option_map pair_of (entry_at self.old.entries (query_match Q.equivalent self.old.entries key.entry)) }
+        ensures entries { self.new.entries ≡ without self.old.entries (query_match Q.equivalent self.old.entries key.entry) }
+        ensures kept { KeepsMemory self.old self.new }
+    {
+        let i = position_in(&self.entries, key.hash(), *key.key())?;
+        let (key, value) = remove_at(&mut self.entries, i);
+        Some((key.into_key(), value))
+    }
+
+    /// Removes the entry at a place, and answers it. Those after it move up.
+    pub fn shift_remove_index_hashed(&mut self, index: usize) -> Option<(Hashed<K>, V)>
+        ensures taken { result ≡ slice_get self.old.entries index }
+        ensures entries { self.new.entries ≡ remove self.old.entries index }
+        ensures kept { KeepsMemory self.old self.new }
+    {
+        if index < self.entries.len() {
+            Some(remove_at(&mut self.entries, index))
+        } else {
+            None
+        }
+    }
+
+    /// Removes the last entry, and answers its key and value.
+    pub fn pop(&mut self) -> Option<(K, V)>
+        ensures taken { result ≡ option_map pair_of (slice_get self.old.entries (length self.old.entries - 1)) }
+        ensures entries { self.new.entries ≡ remove self.old.entries (length self.old.entries - 1) }
+        ensures kept { KeepsMemory self.old self.new }
+    {
+        let len = self.entries.len();
+        if len == 0 {
+            return None;
+        }
+        let (key, value) = remove_at(&mut self.entries, len - 1);
+        Some((key.into_key(), value))
+    }
+
+    /// Removes each entry. The memory stays for those to come.
+    pub fn clear(&mut self)
+    where
+        K: Drop,
+        V: Drop,
+        ensures entries { self.new.entries ≡ [] }
+        ensures kept { KeepsMemory self.old self.new }
+    {
+        self.entries.clear();
+    }
+
+    /// Turns the order of the entries round.
+    pub fn reverse(&mut self)
+        ensures entries { self.new.entries ≡ reverse self.old.entries }
+        ensures kept { KeepsMemory self.old self.new }
+    {
+        reverse_in(&mut self.entries);
+    }
+
+    /// Sorts by key; entries with equal keys keep their order. Where the keys ascend already it asks for no memory. A refusal leaves the entries as they were.
+    pub fn sort_keys(&mut self) -> Result<(), AllocError>
+    where
+        K: Ord,
+        ensures entries { OnOk result (self.new.entries ≡ sorted_by_key K.cmp self.old.entries) }
+        ensures unchanged { OnErr result (self.new.entries ≡ self.old.entries) }
+        ensures needed { OnErr result (Ascends K.cmp self.old.entries → ⊥) }
+        ensures kept { KeepsMemory self.old self.new }
+    {
+        sort_in(&mut self.entries)
     }
 }

@@ -87,6 +87,70 @@ fn runs_commands(rt: HostRuntime) -> Result<(), Fail> {
     Ok(())
 }
 
+#[test]
+fn turns_sorts_and_removes(rt: HostRuntime) -> Result<(), Fail> {
+    let alloc = rt.alloc();
+    let mut map: SmallMap<u32, u32> = SmallMap::new(alloc);
+    for (hash, key, value) in [(9, 2, 1), (3, 1, 2), (8, 1, 3)] {
+        map.insert_hashed(under(hash, key), value)?;
+    }
+    map.sort_keys()?;
+    assert!(rt; map.first() == Some((&1, &2)));
+    assert!(rt; map.get_index(1) == Some((&1, &3)));
+    assert!(rt; map.last() == Some((&2, &1)));
+    map.sort_keys()?;
+    map.reverse();
+    assert_eq!(rt; map.get_index_of_hashed(under(3, &1)), Some(2));
+    assert!(rt; map.shift_remove_hashed_entry(under(9, &2)) == Some((2, 1)));
+    assert!(rt; map.shift_remove_index_hashed(7).is_none());
+    assert!(rt; map.shift_remove_index_hashed(0) == Some((under(8, 1), 3)));
+    assert!(rt; map.pop() == Some((1, 2)));
+    assert!(rt; map.pop() == None);
+    map.insert_hashed(under(1, 1), 1)?;
+    map.clear();
+    assert_eq!(rt; map.len(), 0);
+    Ok(())
+}
+
+#[test]
+fn runs_all_commands(rt: HostRuntime) -> Result<(), Fail> {
+    let alloc = rt.alloc();
+    let mut map: SmallMap<u32, u32> = SmallMap::new(alloc);
+    let commands = vec![in alloc;
+        Command::Insert(under(7, 2), 1),
+        Command::Insert(under(9, 1), 2),
+        Command::Reverse,
+        Command::First,
+        Command::Last,
+        Command::Change(under(9, 1), 5),
+        Command::Change(under(9, 3), 6),
+        Command::Sort,
+        Command::At(0),
+        Command::At(2),
+        Command::Remove(under(9, 2)),
+        Command::Remove(under(7, 2)),
+        Command::RemoveAt(1),
+        Command::Pop,
+        Command::Clear
+    ]?;
+    let replies: Vec<Reply<u32, u32, u32>> = run(alloc, &mut map, commands, |_, value| *value)?;
+    assert_eq!(rt; replies.len(), 15);
+    assert!(rt; matches!(&replies[2], Reply::Done));
+    assert!(rt; matches!(&replies[3], Reply::Shown(Some(2))));
+    assert!(rt; matches!(&replies[4], Reply::Shown(Some(1))));
+    assert!(rt; matches!(&replies[5], Reply::Old(Some(2))));
+    assert!(rt; matches!(&replies[6], Reply::Old(None)));
+    assert!(rt; matches!(&replies[7], Reply::Done));
+    assert!(rt; matches!(&replies[8], Reply::Shown(Some(5))));
+    assert!(rt; matches!(&replies[9], Reply::Shown(None)));
+    assert!(rt; matches!(&replies[10], Reply::Taken(None)));
+    assert!(rt; matches!(&replies[11], Reply::Taken(Some((2, 1)))));
+    assert!(rt; matches!(&replies[12], Reply::TakenHashed(None)));
+    assert!(rt; matches!(&replies[13], Reply::Taken(Some((1, 5)))));
+    assert!(rt; matches!(&replies[14], Reply::Done));
+    Ok(())
+}
+
 // Holds whichever request for memory is refused, but for the first, of the commands.
 #[test]
 fn refusals_leave_the_list(rt: HostRuntime) -> Result<(), Fail> {
