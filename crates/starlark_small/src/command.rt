@@ -17,7 +17,8 @@ pub enum Command<K, V> {
     Len,
     /// Inserts as `SmallMap::insert_hashed` does. The reply is `Old`, or `Refused` for a new key that found no memory.
     Insert(Hashed<K>, V),
-    /// Replaces the value of the entry under this hash and key. Where there is none the value is dropped. The reply is `Old`.
+    /// Replaces the value of the entry under this hash and key. Where there is none the value is dropped. The
+    /// reply is `Old`.
     Change(Hashed<K>, V),
     /// Removes the entry under this hash and key. The reply is `Taken`.
     Remove(Hashed<K>),
@@ -29,7 +30,8 @@ pub enum Command<K, V> {
     Clear,
     /// Turns the order of the entries round. The reply is `Done`.
     Reverse,
-    /// Sorts by key as `SmallMap::sort_keys` does. The reply is `Done`, or `NoMemory` where the keys do not ascend already.
+    /// Sorts by key as `SmallMap::sort_keys` does. The reply is `Done`, or `NoMemory` where the keys do not
+    /// ascend already.
     Sort,
 }
 

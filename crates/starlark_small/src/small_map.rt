@@ -156,7 +156,8 @@ impl<K: Eq, V> SmallMap<K, V> {
         Some(replace_at(&mut self.entries, i, value))
     }
 
-    /// Removes the entry under this hash whose key the query is equivalent to, and answers its key and value. Those after it move up.
+    /// Removes the entry under this hash whose key the query is equivalent to, and answers its key and value.
+    /// Those after it move up.
     pub fn shift_remove_hashed_entry<Q: Equivalent<K>>(&mut self, key: Hashed<&Q>) -> Option<(K, V)>
         ensures taken { result ≡ option_map pair_of (entry_at self.old.entries (query_match Q.equivalent self.old.entries key.entry)) }
         ensures entries { self.new.entries ≡ without self.old.entries (query_match Q.equivalent self.old.entries key.entry) }
@@ -213,7 +214,8 @@ impl<K: Eq, V> SmallMap<K, V> {
         reverse_in(&mut self.entries);
     }
 
-    /// Sorts by key; entries with equal keys keep their order. Where the keys ascend already it asks for no memory. A refusal leaves the entries as they were.
+    /// Sorts by key; entries with equal keys keep their order. Where the keys ascend already it asks for no
+    /// memory. A refusal leaves the entries as they were.
     pub fn sort_keys(&mut self) -> Result<(), AllocError>
     where
         K: Ord,
