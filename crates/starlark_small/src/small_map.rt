@@ -7,7 +7,9 @@ ghost use Rattle.starlark_hash.specs.Sorting.{Ascends, sorted_by_key};
 ghost use Rattle.starlark_small.specs.Iter.{deref_entry};
 ghost use Rattle.starlark_small.specs.Map.{KeepsMemory, KeepsRoom, GrowsFor, query_match};
 
-use crate::entries::{full_in, insert_in, pair_at, position_in, remove_at, replace_at, reverse_in, sort_in, value_in};
+use crate::entries::{
+    full_in, insert_in, pair_at, position_in, remove_at, replace_at, reverse_in, sort_in, value_in,
+};
 use crate::iter::IterHashed;
 use starlark_hash::{Equivalent, Hashed, NoRoom};
 use std::alloc::{AllocError, Global};

@@ -131,7 +131,7 @@ fn runs_all_commands(rt: HostRuntime) -> Result<(), Fail> {
         Command::Remove(under(7, 2)),
         Command::RemoveAt(1),
         Command::Pop,
-        Command::Clear
+        Command::Clear,
     ]?;
     let replies: Vec<Reply<u32, u32, u32>> = run(alloc, &mut map, commands, |_, value| *value)?;
     assert_eq!(rt; replies.len(), 15);
