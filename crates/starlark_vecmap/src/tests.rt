@@ -1,4 +1,4 @@
-//! What no clause says: values from outside, each call at a concrete type, and refused memory.
+//! What no clause says: values from outside, and calls at concrete types.
 
 use crate::{VecMap, find_hash_in_array};
 use starlark_hash::{Hashed, StarlarkHashValue};
@@ -62,7 +62,9 @@ fn clones_walks(rt: HostRuntime) -> Result<(), Fail> {
 #[test]
 fn owns_the_entries(rt: HostRuntime) -> Result<(), Fail> {
     let mut map = five(rt.alloc())?;
-    *map.get_unchecked_mut(0).1 = 5;
+    if !map.is_empty() {
+        *map.get_unchecked_mut(0).1 = 5;
+    }
     let copy = map.clone()?;
     assert!(rt; map.eq_ordered(&copy));
     assert_eq!(rt; copy.into_iter().next_back(), Some((4, 14)));
