@@ -1,0 +1,4 @@
+//! References handed out in pairs and in results.
+#![tactic(auto)]
+
+pub mod columns;
