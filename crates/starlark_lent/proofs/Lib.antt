@@ -1,2 +1,2 @@
-pub mod Pairs
+pub mod Zip
 pub mod BothClose

@@ -1,6 +1,7 @@
 -- A list of pairs and its two columns.
 use Rattle.std.proofs.Common.{◌≡◌, ℕ, zero, suc, ◌+◌, ◌<◌, ◌≤◌, List, [], ◌∷◌, ◌++◌, map, length, take, drop, zip, slice_get, get_or, set, reverse, append_assoc, Option, Some, None, refl, sym, ap, ◌∙◌, arith, add-one}
 use Rattle.std.specs.Option.{option_map}
+use Rattle.starlark_lent.specs.Lending.{with_first_in}
 
 module _ {A B : Type 0} where
   pub zip_count : (xs : List A) (ys : List B) → length xs ≡ length ys → length (zip xs ys) ≡ length xs
@@ -88,7 +89,18 @@ module _ {A B : Type 0} where
   zip_get_at (z ∷ xs) (w ∷ ys) zero x y lt e f = λ j. Some (sym e j, sym f j)
   zip_get_at (z ∷ xs) (w ∷ ys) (suc i) x y lt e f = zip_get_at xs ys i x y (omega (arith, lt)) e f
 
+  pub zip_set_first : (xs : List A) (ys : List B) (i : ℕ) (w : A) → zip (set xs i w) ys ≡ with_first_in (zip xs ys) i w
+  zip_set_first [] ys i w = refl
+  zip_set_first (z ∷ xs) [] zero w = refl
+  zip_set_first (z ∷ xs) [] (suc i) w = refl
+  zip_set_first (z ∷ xs) (y ∷ ys) zero w = refl
+  zip_set_first (z ∷ xs) (y ∷ ys) (suc i) w = ap (λ l. (z, y) ∷ l) (zip_set_first xs ys i w)
 
+  pub zip_first_at : (xs : List A) (ys : List B) (i : ℕ) (x : A) → i < length (zip xs ys) → x ≡ get_or xs i x → option_map (λ (p : A × B). p.0) (slice_get (zip xs ys) i) ≡ Some x
+  zip_first_at [] ys i x lt e = absurd (omega (arith, lt))
+  zip_first_at (z ∷ xs) [] i x lt e = absurd (omega (arith, lt))
+  zip_first_at (z ∷ xs) (w ∷ ys) zero x lt e = ap Some (sym e)
+  zip_first_at (z ∷ xs) (w ∷ ys) (suc i) x lt e = zip_first_at xs ys i x (omega (arith, lt)) e
 
   -- the last pair goes to the front of the others
   pub last_taken : (xs : List A) (ys : List B) (x : A) (y : B) (rest : List (A × B)) → length xs ≡ length ys → zip (xs ++ x ∷ []) (ys ++ y ∷ []) ++ rest ≡ zip xs ys ++ (x, y) ∷ rest
