@@ -1,2 +1,4 @@
 pub mod Zip
 pub mod BothClose
+pub mod Writes
+pub mod Vec2Open

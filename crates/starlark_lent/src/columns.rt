@@ -1,7 +1,7 @@
 //! One element of each of two columns, lent at once.
-ghost use Rattle.std.specs.Prelude.{◌≡◌, ◌<◌, length, slice_get, Some};
+ghost use Rattle.std.specs.Prelude.{◌≡◌, ◌<◌, length, slice_get, slice_index_or, Some};
 ghost use Rattle.std.specs.Borrow.{sem};
-ghost use Rattle.starlark_lent.specs.Columns.{lends_item, lends_items};
+ghost use Rattle.starlark_lent.specs.Columns.{lends_item, lends_items, lends_place, lends_places};
 
 /// The item at `index`.
 #[inline]
@@ -23,5 +23,28 @@ pub fn lend_pair<'a, A, B>(firsts: &'a mut [A], seconds: &'a mut [B], index: usi
 {
     let first = lend_item(firsts, index);
     let second = lend_item(seconds, index);
+    (first, second)
+}
+
+/// The item at `index` of a vector.
+#[inline]
+pub fn lend_place<A>(items: &mut Vec<A>, index: usize) -> &mut A
+    requires { index < length items.old.items }
+    ensures* writes_back { sem 𝓛 (lends_place A.row items.entry index result) }
+    ensures value { result.now ≡ slice_index_or items.old.items index result.now }
+{
+    &mut items[index]
+}
+
+/// The item at `index` of each of two vectors.
+#[inline]
+pub fn lend_columns<'a, A, B>(firsts: &'a mut Vec<A>, seconds: &'a mut Vec<B>, index: usize) -> (&'a mut A, &'a mut B)
+    requires in_firsts { index < length firsts.old.items }
+    requires in_seconds { index < length seconds.old.items }
+    ensures* write_back { sem 𝓛 (lends_places A.row B.row firsts.entry seconds.entry index result) }
+    ensures values { (result.0.now ≡ slice_index_or firsts.old.items index result.0.now) × (result.1.now ≡ slice_index_or seconds.old.items index result.1.now) }
+{
+    let first = lend_place(firsts, index);
+    let second = lend_place(seconds, index);
     (first, second)
 }

@@ -3,6 +3,7 @@ ghost use Rattle.std.specs.Prelude.{◌≡◌, ℕ, ◌+◌, ◌-◌, ◌*◌, �
 ghost use Rattle.std.specs.Vec.{vec_capacity};
 ghost use Rattle.starlark_lent.specs.PairList.{PairList, pair_list, firsts_of, seconds_of, reserved};
 
+use crate::columns::lend_columns;
 use starlark_hash::NoRoom;
 use std::alloc::{AllocError, Global};
 use std::marker::Model;
@@ -112,7 +113,7 @@ impl<A, B> Vec2<A, B> {
 
 impl<A, B> Vec2<A, B> {
     ghost use Rattle.std.specs.Borrow.{sem};
-    ghost use Rattle.starlark_lent.specs.Lending.{lends_first};
+    ghost use Rattle.starlark_lent.specs.Lending.{lends_both, lends_first};
 
     #[tactic(auto, using(crate::proofs::Zip::zip_count, crate::proofs::Zip::zip_at))]
     pub fn first_at_mut(&mut self, index: usize) -> &mut A
@@ -121,6 +122,16 @@ impl<A, B> Vec2<A, B> {
         ensures value { option_map (λ p. p.0) (slice_get self.old.pairs index) ≡ Some result.now }
     {
         &mut self.firsts[index]
+    }
+
+    /// Both parts of the pair at a place.
+    #[inline]
+    pub fn get_unchecked_mut(&mut self, index: usize) -> (&mut A, &mut B)
+        requires { index < length self.old.pairs }
+        ensures* writes_back { sem 𝓛 (lends_both A.row B.row self.entry index result) }
+        ensures value { slice_get self.old.pairs index ≡ Some (result.0.now, result.1.now) }
+    {
+        lend_columns(&mut self.firsts, &mut self.seconds, index)
     }
 
 }

@@ -1,0 +1,85 @@
+-- A `Vec2` in memory is its two columns and the rest, and back, at any columns of which the invariant holds. Assumes `Logic`.
+use mathlib.Core.Path.{◌≡◌, refl}
+use Prim.Native.Nat.{ℕ, zero, ◌+◌}
+use mathlib.Core.List.{List, [], ◌∷◌}
+use seplogic.Ra.Ura.{Ura}
+use base.Fraction.{full_share}
+use base.Logic.{SProp, ent, sep, wand, ex, all, all_e, apply∗}
+use base.Fml.{Fml}
+use prog.Memory.{size, align, up}
+use types.Kit.{‵, raw, ◌⊛◌, some, ◌$◌, ◌∵◌, !, qed, by, move, use1, use2, split, pick, show, fsplit3, fjoin, done}
+use types.Logic.{Logic, sem}
+use denote.RattleType.{RattleType, Denots}
+use denote.Memory.{part_at, part_of, lone}
+use denote.Model.Fields.{plain_out, Plain-in, view_made}
+use denote.Param.Laws.{Laws}
+use denote.Struct.Field.{usize-field}
+use denote.Struct.Loose.{lawfuls}
+use denote.Struct.Members.{Member, rows_of, parts_at}
+use denote.Struct.Parts.{shape_of, PartsBack, Struct-parts}
+use denote.Struct.Struct.{Struct}
+use Rattle.std_heap.specs.contracts.Global as Global
+use Rattle.starlark_lent.specs.Columns.{column}
+use Rattle.starlark_lent.specs.declared.vec2.Vec2.TheInside.{Inside}
+use Rattle.starlark_lent.specs.contracts.vec2.Vec2 as C
+use Rattle.starlark_lent.specs.contracts.vec2.Vec2.TheInside as I
+use Rattle.starlark_lent.proofs.vec2.Vec2.TheLaws as T
+use Rattle.starlark_lent.proofs.vec2.Vec2.TheInside.TheLaws as IL
+
+module _ (A B : RattleType) where
+  abbrev pub V : RattleType
+  V = C.the_row A B
+
+  abbrev pub D : Type 0
+  D = Inside A.Denot B.Denot
+
+  abbrev pub Known : V.Denot → D → Type 0
+  Known v d = (C.the_view A B d ≡ v) × C.the_invariant A B d
+
+  abbrev member : RattleType → Member
+  member R = record { row = R; ty = lone R.mir }
+
+  abbrev left : List Member
+  left = member usize-field.row ∷ member Global.the_field.row ∷ []
+
+  abbrev ms : List Member
+  ms = member (column A) ∷ member (column B) ∷ left
+
+  abbrev pub eA : ℕ
+  eA = up (align (lone (column A).mir)) zero
+
+  abbrev pub eB : ℕ
+  eB = up (align (lone (column B).mir)) (eA + size (lone (column A).mir))
+
+  abbrev eR : ℕ
+  eR = eB + size (lone (column B).mir)
+
+  abbrev to : D → Denots (rows_of ms)
+  to d = (I.the_type A B).to d
+
+  module _ {M : Type 1} {𝓤 : Ura M} (𝓛 : Logic 𝓤) (b o : ℕ) where
+    abbrev pub Rest : D → SProp 𝓤
+    Rest d = sep 𝓤 (sem 𝓛 (parts_at full_share left eR (to d).1.1 b o)) (PartsBack 𝓛 full_share (I.the_type A B).name ms b o)
+
+    abbrev pub Cut : D → SProp 𝓤
+    Cut d = sep 𝓤 (sem 𝓛 (part_at (column A) full_share d.firsts b (o + eA))) (sep 𝓤 (sem 𝓛 (part_at (column B) full_share d.seconds b (o + eB))) (Rest d))
+
+    abbrev pub Cuts : (v : V.Denot) → ((d : D) × Known v d) → SProp 𝓤
+    Cuts v d = Cut d.0
+
+    pub cut : Laws A → Laws B → (v : V.Denot) → ent 𝓤 (sem 𝓛 (part_at V full_share v b o)) (ex 𝓤 (Cuts v))
+    unfolding part_of
+    cut LA LB v =
+        qed 𝓛 (‵ (part_at V full_share v b o) ∷ []) ∵ use1 𝓛 (some (λ (d : (d : D) × Known v d). ‵ (part_at (I.the_row A B) full_share d.0 b o))) (plain_out V (I.the_row A B) (T.the_opens A B) 𝓛 full_share v b o) $ pick ! (λ d.
+        use1 𝓛 (‵ (parts_at full_share ms zero (to d.0) b o) ⊛ raw (PartsBack 𝓛 full_share (I.the_type A B).name ms b o))
+        (Struct-parts 𝓛 full_share (I.the_type A B).name ms (lawfuls 𝓛 (I.the_type A B).parts (IL.the_loose A B LA LB)) (to d.0) b o) $ split ! $ fsplit3 ! $ show ! (Cuts v) d $ done !)
+
+    pub shut : (v : V.Denot) (d' : D) → Known v d' → ent 𝓤 (sep 𝓤 (sem 𝓛 (part_at (column A) full_share d'.firsts b (o + eA))) (sep 𝓤 (sem 𝓛 (part_at (column B) full_share d'.seconds b (o + eB))) (Rest d'))) (sem 𝓛 (part_at V full_share v b o))
+    unfolding part_of
+    shut v d' k =
+        qed 𝓛 (‵ (part_at (column A) full_share d'.firsts b (o + eA)) ∷ ‵ (part_at (column B) full_share d'.seconds b (o + eB)) ∷ (‵ (parts_at full_share left eR (to d').1.1 b o) ⊛ raw (PartsBack 𝓛 full_share (I.the_type A B).name ms b o)) ∷ []) ∵
+        move ! (2 ∷ []) $ split ! $ move ! (3 ∷ 0 ∷ []) $ fjoin ! $ move ! (2 ∷ 0 ∷ []) $ fjoin ! $ move ! (1 ∷ []) $
+        use1 𝓛 (raw (wand 𝓤 (sem 𝓛 (parts_at full_share ms zero (to d') b o)) (sem 𝓛 (part_at (Struct (shape_of (I.the_type A B).name ms)) full_share (to d') b o))))
+        (all_e 𝓤 (λ (a' : Denots (rows_of ms)). wand 𝓤 (sem 𝓛 (parts_at full_share ms zero a' b o)) (sem 𝓛 (part_at (Struct (shape_of (I.the_type A B).name ms)) full_share a' b o))) (to d')) $
+        move ! (1 ∷ 0 ∷ []) $ use2 𝓛 (‵ (part_at (I.the_row A B) full_share d' b o)) (apply∗ 𝓤 (sem 𝓛 (parts_at full_share ms zero (to d') b o)) (sem 𝓛 (part_at (Struct (shape_of (I.the_type A B).name ms)) full_share (to d') b o))) $
+        by ! (Plain-in V (I.the_row A B) (T.the_opens A B) 𝓛 full_share v d' (view_made (I.the_row A B) V.Denot V.coded (C.the_view A B) (C.the_invariant A B) 𝓛 v d' k) b o)

@@ -1,0 +1,202 @@
+-- `get_unchecked_mut` meets its contract, at any two item types: the struct stays open while its columns are lent to one call, and what they follow closes it. Assumes `Logic`.
+use mathlib.Core.Path.{◌≡◌, refl, sym, ap, subst, ◌∙◌}
+use native.Mathlib.Omega.{arith}
+use Prim.Native.Nat.{ℕ, ◌+◌, ◌<◌, ◌^◌}
+use mathlib.Core.List.{List, [], ◌∷◌, ◌++◌}
+use lib.ListN.{length, length-set}
+use seplogic.Ra.Ura.{Ura}
+use base.Fraction.{full_share}
+use mir.Syntax.{Fn, Args, a_type, named, w64}
+use mir.MapTy.{inst_fn}
+use mir.Val.{Val, vint, vptr, vstruct, vcons, vnil, of_list}
+use base.Share
+use base.Logic.{SProp, ent, sep, emp, id⊢, ex_e, snd∗}
+use base.Fml.{Lft, GName, Share, ftrue, fsep, flft, fauth, fobs}
+use ghost.Rules.{aged}
+use prog.Memory.{Memory}
+use prog.Routine.{Routine}
+use prog.Wp.{Calls, Loops, WpFn, Tables}
+use types.Follow.{after₂}
+use types.Late.{ages, bor_new_deep}
+use types.Logic.{Logic, sem}
+use types.Mut.{open_ref}
+use types.SemTy.{Body}
+use types.Tokens.{name_new}
+use contract.BorrowLft.{◌⊑◌}
+use contract.Monad.{Fun, fact, fact_i}
+use contract.Running.{tables, tables_of}
+use sound.WpLaws.{FmC, fm_of, WpFn-mono}
+use types.Kit.{‵, raw, ◌⊛◌, some, later, ◌$◌, ◌∵◌, !, qed, by, move, keep, use0, use1, use2, drop, split, split3, join, pick, fsplit, fsplit3, fjoin, fjoin3, fpack, fpick, feq_i, feq_l, suffices, frame, await, group, done}
+use types.Run.{stop, fld, addr, and_then, no_more, returns, enter}
+use types.ByLocal.{alloc_all, pass_all, free_all, look_at, get, through, sets, lands_as}
+use denote.Exit.{yes, no}
+use denote.RattleType.{RattleType, owns}
+use denote.Builtin.{usize}
+use denote.Follow.{follows, follows_both, both_by}
+use denote.Memory.{mem, part_at}
+use denote.Param.{param, layouts}
+use denote.Param.Laws.{Laws, param_laws}
+use denote.Plain.{uint_vals, uint_Tells, uint_Makes}
+use denote.Ref.{MutBor, MutRef, mut_vals, mut_Tells}
+use denote.Signature.{plain, types_at, mut_ref_to}
+use denote.Laws.{Is, shows}
+use denote.Steps.{nothing, owned, heard, only, peeks}
+use denote.Struct.Tuple.{Tuple}
+use denote.Triple.Call.{calls_at}
+use denote.Triple.Clauses.{Clauses, Ended, closing, ensured, lasts}
+use denote.Triple.Spec.{Meets, triple_of}
+use denote.Triple.Statement.{Contract, Triple}
+use denote.Triple.Table.{entered}
+use denote.Triple.Walked.{says, Stays, stay_dropped, walk_of, ends_at, walked, walk_Meets, Goes-dropped, Goes-spent_ref}
+use Rattle.std.specs.Prelude.{slice_index_or, slice_get}
+use Rattle.std.specs.declared.option.Option.TheVariants.{Some}
+use denote.RattleType.{Valss}
+use denote.Struct.Declared.{shape}
+use denote.Struct.Struct.{within}
+use denote.Struct.Tuple.{tuple_type}
+use Rattle.std.specs.Vec.{with_item}
+use Rattle.starlark_lent.specs.Columns.{column}
+use Rattle.starlark_lent.specs.Lending.{with_pair}
+use Rattle.starlark_lent.specs.PairList.{PairList, pair_list}
+use Rattle.starlark_lent.proofs.BothClose.{closes_both}
+use Rattle.starlark_lent.proofs.Zip.{zip_count, zip_set_both, zip_at}
+use Rattle.starlark_lent.proofs.Vec2Open.{V, D, Known, Rest, Cuts, eA, eB, cut, shut}
+use Rattle.starlark_lent.specs.contracts.vec2.Vec2.get_unchecked_mut as F
+use Rattle.starlark_lent.specs.contracts.vec2.Vec2.get_unchecked_mut.Key.{name as #self}
+use Rattle.starlark_lent.specs.contracts.columns.lend_columns as g
+use Rattle.starlark_lent.proofs.columns.lend_columns.Symbol.{name as #lend}
+use Rattle.starlark_lent.proofs.columns.lend_columns.Met as lend
+use Rattle.starlark_lent.proofs.vec2.Vec2.get_unchecked_mut.Statement as stated
+use Rattle.starlark_lent.proofs.vec2.Vec2.get_unchecked_mut.Code as code
+
+pair_of : {M : Type 1} {𝓤 : Ura M} (𝓛 : Logic 𝓤) (R S : RattleType) (x : R.Denot) (y : S.Denot) (u v : Val)
+    → ent 𝓤 (sep 𝓤 (sem 𝓛 (R.own_val x (u ∷ []))) (sem 𝓛 (S.own_val y (v ∷ [])))) (sem 𝓛 ((Tuple (R ∷ S ∷ [])).own_val (x, y) (vstruct (vcons u (vcons v vnil)) ∷ [])))
+pair_of 𝓛 R S x y u v =
+    qed 𝓛 (‵ (R.own_val x (u ∷ [])) ∷ ‵ (S.own_val y (v ∷ [])) ∷ []) ∵ nothing ! $ move ! (2 ∷ 0 ∷ []) $ fjoin ! $ move ! (1 ∷ 0 ∷ []) $ fjoin ! $ feq_i ! (List Val) (vstruct (vcons u (vcons v vnil)) ∷ []) (vstruct (vcons u (vcons v vnil)) ∷ []) refl $ fjoin ! $
+    fpack ! (Valss (R ∷ S ∷ [])) (within (shape (tuple_type (R ∷ S ∷ []))) (x, (y, tt)) (vstruct (vcons u (vcons v vnil)) ∷ [])) (u ∷ [], (v ∷ [], tt)) $ done !
+
+module _ (A B : RattleType) where
+  abbrev args : Args
+  args = layouts (a_type ∷ a_type ∷ []) (A, (B, tt))
+
+  abbrev here : Fn
+  here = inst_fn args code.function
+
+  abbrev ended : Ended
+  ended = F.ended A B
+
+  abbrev A' : RattleType
+  A' = param 0 A
+
+  abbrev B' : RattleType
+  B' = param 1 B
+
+  abbrev W : RattleType
+  W = V A' B'
+
+  abbrev PairAt : Lft → RattleType
+  PairAt κ = Tuple (MutRef (named 0) κ A' ∷ MutRef (named 0) κ B' ∷ [])
+
+  abbrev stayed : Stays ended.signature.params ended.kept
+  stayed = (stay_dropped (mut_ref_to (0 ∷ []) tt (plain (λ _. W))) no, (stay_dropped (plain (λ _. usize)) yes, tt))
+
+  -- the struct with both items written
+  abbrev written : D A' B' → ℕ → A.Denot → B.Denot → D A' B'
+  written d i x y = record d { firsts = with_item d.firsts i x; seconds = with_item d.seconds i y }
+
+  written_known : (v : W.Denot) (d : D A' B') (i : ℕ) (x : A.Denot) (y : B.Denot) → Known A' B' v d → Known A' B' (with_pair v i (x, y)) (written d i x y)
+  written_known v d i x y k =
+      let lx = length-set d.firsts.items i x in let ly = length-set d.seconds.items i y in
+      (
+        ap (λ ps. pair_list ps d.capacity) (zip_set_both d.firsts.items d.seconds.items i x y) ∙ ap (λ u. with_pair u i (x, y)) k.0,
+        (lx ∙ k.1.0 ∙ sym ly, omega (arith, lx, k.1.1), k.1.2, k.1.3),
+      )
+
+  module _ {M : Type 1} {𝓤 : Ura M} (𝓛 : Logic 𝓤) (at_mem : Memory → SProp 𝓤) (run : Routine → Fun 𝓤) where
+    open 𝓛 use {H, A as A₀}
+
+    abbrev spec : Clauses 𝓤 ended
+    spec = F.clauses A B 𝓛 at_mem run
+
+    abbrev Lend : Contract 𝓤
+    Lend = triple_of 𝓛 (g.signature A B) (g.spec A B 𝓛 at_mem run)
+
+    module _ (LA : Laws A) (LB : Laws B) (C : Calls 𝓤 H) (Λ : Loops 𝓤 H) (fm : FmC 𝓤 H 𝓛.laws C) (gl : Triple 𝓤 (C (#lend args)) Lend)
+        (κ κA κB : Lft) (q qA qB : Share) (bounds : (κ ⊑ κA) × ((κ ⊑ κB) × Unit {0})) (r : MutBor (PairList A.Denot B.Denot)) (i : ℕ) (fi : i < 2 ^ 64) where
+      abbrev bound : (walk_of 𝓛 ended stayed spec).Ghost
+      bound = (((κ, (κA, (κB, tt))), (q, (qA, (qB, tt))), bounds, (r, (i, tt)), (mut_vals r, (vint w64 i ∷ [], tt))), tt)
+
+      abbrev Post : Val → SProp 𝓤
+      Post = (walk_of 𝓛 ended stayed spec).post bound
+
+      walk : ent 𝓤 ((walk_of 𝓛 ended stayed spec).pre bound) (WpFn 𝓤 H C Λ here (vptr r.ref_ptr.0 r.ref_ptr.1 ∷ vint w64 i ∷ []) Post)
+      unfolding both_by
+      walk =
+          let pair_at : MutBor A.Denot × MutBor B.Denot → Val = λ x. vstruct (vcons (vptr x.0.ref_ptr.0 x.0.ref_ptr.1) (vcons (vptr x.1.ref_ptr.0 x.1.ref_ptr.1) vnil)) in
+          let b = r.ref_ptr.0 in let o = r.ref_ptr.1 in let v = r.now in let γ = r.ghost_name in let CA = column A' in let CB = column B' in
+          qed 𝓛 (((‵ (flft κ q) ⊛ ‵ (flft κA qA) ⊛ ‵ (flft κB qB) ⊛ ‵ ftrue) ⊛ ‵ (owns (types_at ended.signature.params bound.0.0) bound.0.3 bound.0.4))
+          ∷ (raw (fact 𝓤 (κA ⊑ A.lives)) ⊛ raw (fact 𝓤 (κB ⊑ B.lives)) ⊛ raw (fact 𝓤 (i < length v.pairs))) ∷ []) ∵
+          move ! (1 ∷ []) $ split3 ! $ heard ! (κA ⊑ A.lives) (λ la. heard ! (κB ⊑ B.lives) (λ lb. heard ! (i < length v.pairs) (λ lt.
+          split ! $ split3 ! $ move ! (2 ∷ []) $ split ! $ move ! (4 ∷ []) $ fsplit3 ! $ keep ! (5 ∷ 6 ∷ 3 ∷ 0 ∷ []) $
+          enter ! C Λ here (vptr b o ∷ vint w64 i ∷ []) _ $
+          alloc_all ! (λ l. pass_all ! refl ((tt, tt), ((tt, record { fits = fi }), tt)) $
+          sets ! (addr ! (through ! refl (fld ! refl (stop !)))) refl (tt, tt) $ sets ! (addr ! (through ! refl (fld ! refl (stop !)))) refl (tt, tt) $
+          -- half of κ's token opens the struct, and half goes into the call
+          use1 𝓛 (‵ (flft κ (Share.left q)) ⊛ ‵ (flft κ (Share.right q))) (𝓛.lfts.lft_split κ q) $ split ! $
+          move ! (4 ∷ []) $ fsplit3 ! $ drop ! $ open_ref ! tt (mem W) {b = b} {o = o} $
+          use1 𝓛 (some (λ (d : (d : D A' B') × Known A' B' v d). raw (Cuts A' B' 𝓛 b o v d))) (cut A' B' 𝓛 b o (param_laws 0 A LA) (param_laws 1 B LB) v) $ pick ! (λ d'.
+          let d = d'.0 in let xs = d.firsts in let ys = d.seconds in
+          use1 𝓛 (‵ (part_at CA full_share xs b (o + eA A' B')) ⊛ ‵ (part_at CB full_share ys b (o + eB A' B')) ⊛ raw (Rest A' B' 𝓛 b o d)) (id⊢ 𝓤 _) $ split3 ! $
+          -- [the columns; the rest; the open borrow; obs; auth; half of κ's token; those of κA, κB]
+          name_new ! tt (CA.coded.code xs) (λ δ. move ! (2 ∷ 1 ∷ []) $ fjoin ! $ fpack ! CA.Denot (λ z. fsep ((mem CA).own_at z b (o + eA A' B')) (fauth δ (CA.coded.code z))) xs $
+          name_new ! tt (CB.coded.code ys) (λ δ'. move ! (4 ∷ 1 ∷ []) $ fjoin ! $ fpack ! CB.Denot (λ z. fsep ((mem CB).own_at z b (o + eB A' B')) (fauth δ' (CB.coded.code z))) ys $
+          -- [the second content; obs δ'; the first; obs δ; the rest; the open borrow; obs; auth; ..]
+          move ! (5 ∷ []) $ ages ! (λ n. move ! (1 ∷ []) $ bor_new_deep ! tt n κ $ move ! (4 ∷ []) $ bor_new_deep ! tt n κ $
+          -- [the first borrow and its right; the second and its; the open borrow; obs δ'; obs δ; the rest; obs; auth; the other half; the tokens of κA, κB]
+          let xr : MutBor CA.Denot = record { ref_ptr = (b, o + eA A' B'); ghost_name = δ; now = xs } in let yr : MutBor CB.Denot = record { ref_ptr = (b, o + eB A' B'); ghost_name = δ'; now = ys } in
+          let same : length xs.items ≡ length ys.items = d'.1.1.0 in
+          let ix : i < length xs.items = omega (arith, lt, zip_count xs.items ys.items same, ap (λ u. length u.pairs) d'.1.0) in
+          let iy : i < length ys.items = omega (arith, ix, same) in
+          move ! (6 ∷ 0 ∷ []) $ feq_i ! (List Val) (mut_vals xr) (mut_vals xr) refl $ fjoin3 ! $ move ! (5 ∷ 2 ∷ []) $ feq_i ! (List Val) (mut_vals yr) (mut_vals yr) refl $ fjoin3 ! $
+          nothing ! $ owned ! usize _ (uint_Makes 𝓛 w64) i _ (refl, fi) $ fjoin ! $ move ! (1 ∷ 0 ∷ []) $ fjoin ! $ move ! (1 ∷ 0 ∷ []) $ fjoin ! $
+          nothing ! $ move ! (10 ∷ 0 ∷ []) $ join ! $ move ! (9 ∷ 0 ∷ []) $ join ! $ move ! (8 ∷ 0 ∷ []) $ join ! $ join ! $
+          use0 𝓛 (raw (fact 𝓤 (i < length ys.items))) (fact_i 𝓤 _ (emp 𝓤) iy) $ use0 𝓛 (raw (fact 𝓤 (i < length xs.items))) (fact_i 𝓤 _ (emp 𝓤) ix) $
+          use0 𝓛 (raw (fact 𝓤 (κB ⊑ B.lives))) (fact_i 𝓤 _ (emp 𝓤) lb) $ use0 𝓛 (raw (fact 𝓤 (κA ⊑ A.lives))) (fact_i 𝓤 _ (emp 𝓤) la) $ group ! 4 $ move ! (1 ∷ 0 ∷ []) $ join ! $
+          let z : Lend.Ghost = (((κ, (κA, (κB, tt))), (Share.right q, (qA, (qB, tt))), bounds, (xr, (yr, (i, tt))), (mut_vals xr, (mut_vals yr, (vint w64 i ∷ [], tt)))), tt) in
+          use1 𝓛 (raw (Lend.pre z)) (id⊢ 𝓤 _) $
+          calls_at ! fm Lend gl z (and_then ! (get ! refl) (and_then ! (get ! refl) (and_then ! (get ! refl) (no_more !)))) (λ u.
+          use1 𝓛 (later (some (λ (x : MutBor A.Denot × MutBor B.Denot). ((‵ (flft κ (Share.right q)) ⊛ ‵ (flft κA qA) ⊛ ‵ (flft κB qB) ⊛ ‵ ftrue) ⊛ ‵ ((PairAt κ).own_val x (u ∷ []))) ⊛ raw (ensured 𝓛 (g.ended A B) (g.clauses A B 𝓛 at_mem run) z.0.0 z.0.3 tt x)))) (id⊢ 𝓤 _) $ await ! tt $ pick ! (λ x. split ! $ move ! (1 ∷ []) $
+          use1 𝓛 (‵ (fsep (follows CA A' δ x.0.ghost_name (with_item xs i)) (follows CB B' δ' x.1.ghost_name (with_item ys i))) ⊛ raw (fact 𝓤 ((x.0.now ≡ slice_index_or xs.items i x.0.now) × (x.1.now ≡ slice_index_or ys.items i x.1.now))))
+          (ex_e 𝓤 _ (λ ws. snd∗ 𝓤 (sem 𝓛 (lasts (g.ended A B) z.0.0 z.0.3 ws)) _)) $ split ! $ move ! (1 ∷ []) $ heard ! ((x.0.now ≡ slice_index_or xs.items i x.0.now) × (x.1.now ≡ slice_index_or ys.items i x.1.now)) (λ vals. fsplit ! $
+          -- [what the columns follow; the tokens with the result; the two rights; the open borrow; the rest; obs; auth]
+          move ! (5 ∷ 7 ∷ 8 ∷ 3 ∷ 4 ∷ 0 ∷ 1 ∷ 6 ∷ []) $ group ! 8 $
+          use1 𝓛 (later (‵ (flft κ (Share.left q)) ⊛ ‵ (follows_both W A' B' γ x.0.ghost_name x.1.ghost_name (λ y y'. with_pair v i (y, y')))))
+          (closes_both 𝓛 (mem W) (mem CA) (mem CB) (mem A') (mem B') (with_item xs i) (with_item ys i) (λ y y'. with_pair v i (y, y')) κ (Share.left q) b o b (o + eA A' B') b (o + eB A' B') γ δ δ' x.0.ghost_name x.1.ghost_name
+          (Rest A' B' 𝓛 b o d) (λ y y'. shut A' B' 𝓛 b o (with_pair v i (y, y')) (written d i y y') (written_known v d i y y' d'.1)) n (W.coded.code v) (W.coded.code v)) $ await ! tt $ split ! $
+          -- [half of κ's token; what self follows; the tokens with the result]
+          move ! (2 ∷ []) $ split ! $ split ! $ move ! (3 ∷ 0 ∷ []) $ use2 𝓛 (‵ (flft κ q)) (𝓛.lfts.lft_join κ q) $ move ! (2 ∷ []) $
+          fpick ! (λ vss. fsplit ! $ feq_l ! (λ e. fsplit3 ! $ fsplit3 ! $ feq_l ! (λ ex. feq_i ! (List Val) (mut_vals x.0) (mut_vals x.0) refl $ fjoin3 ! $ move ! (1 ∷ []) $ fsplit3 ! $ feq_l ! (λ ey. feq_i ! (List Val) (mut_vals x.1) (mut_vals x.1) refl $ fjoin3 ! $
+          lands_as ! (ap only e ∙ (λ j. vstruct (of_list (ex j ++ (ey j ++ []))))) refl (tt, (tt, (tt, tt))) $
+          returns ! (look_at ! 0 refl) $ free_all ! refl $ keep ! (1 ∷ 0 ∷ 3 ∷ 4 ∷ 5 ∷ []) $
+          use2 𝓛 (‵ ((PairAt κ).own_val x (pair_at x ∷ []))) (pair_of 𝓛 (MutRef (named 0) κ A') (MutRef (named 0) κ B') x.0 x.1 (vptr x.0.ref_ptr.0 x.0.ref_ptr.1) (vptr x.1.ref_ptr.0 x.1.ref_ptr.1)) $
+          suffices ! _ (ends_at 𝓛 ended stayed spec bound (pair_at x) x (tt, (tt, tt)) (tt, (tt, tt))) $
+          -- [the result; the token of κ; those of κA, κB; what self follows]
+          nothing ! $ nothing ! $ fjoin ! $ nothing ! $ fjoin ! $ join ! $ move ! (1 ∷ 2 ∷ []) $ join ! $ join ! $ frame ! $
+          says ! (subst (λ (w : PairList A.Denot B.Denot). slice_get w.pairs i ≡ Some (x.0.now, x.1.now)) d'.1.0 (zip_at xs.items ys.items i x.0.now x.1.now ix same vals.0 vals.1)) $ done !)))))))))))))))
+
+meets : (A B : RattleType) → Laws A → Laws B → {M : Type 1} {𝓤 : Ura M} (𝓛 : Logic 𝓤) (at_mem : Memory → SProp 𝓤) (run : Routine → Fun 𝓤) (𝓣 : Tables 𝓤 𝓛.H)
+    → Triple 𝓤 (𝓣.C (#lend (args A B))) (Lend A B 𝓛 at_mem run)
+    → Meets 𝓛 (ended A B).signature (WpFn 𝓤 𝓛.H 𝓣.C 𝓣.Λ (here A B)) (closing 𝓛 (ended A B) (spec A B 𝓛 at_mem run))
+meets A B LA LB {𝓤 = 𝓤} 𝓛 at_mem run 𝓣 gl =
+    walk_Meets 𝓛 (ended A B) (stayed A B) (Goes-spent_ref 𝓛 3 (0 ∷ []) tt (plain (λ _. W A B)), (Goes-dropped 𝓛 3 (plain (λ _. usize)) yes (λ κs x f. refl), tt))
+    (spec A B 𝓛 at_mem run) (WpFn 𝓤 𝓛.H 𝓣.C 𝓣.Λ (here A B)) (WpFn-mono 𝓤 𝓛.H 𝓛.laws 𝓣 (here A B))
+    (walked 𝓛 (ended A B) (stayed A B) (spec A B 𝓛 at_mem run) (WpFn 𝓤 𝓛.H 𝓣.C 𝓣.Λ (here A B)) (λ κs. (mut_vals, (uint_vals w64, tt)))
+    (λ κs. (mut_Tells (named 0) κs.0 (W A B), (uint_Tells w64, tt)))
+    (λ κs qs bounds a g' are. walk A B 𝓛 at_mem run LA LB 𝓣.C 𝓣.Λ (fm_of 𝓤 𝓛.H 𝓛.laws 𝓣) gl κs.0 κs.1.0 κs.1.1.0 qs.0 qs.1.0 qs.1.1.0 bounds a.0 a.1.0 are.1.0.1))
+
+pub get_unchecked_mut_spec : {M : Type 1} → stated.statement M
+unfolding tables_of
+get_unchecked_mut_spec 𝓤 𝓛 𝓜 𝓡 wired A B LA LB =
+    let 𝓣 : Tables 𝓤 𝓛.H = tables_of 𝓤 𝓛.H 𝓜 (tables 𝓤 𝓛.H 𝓜 𝓡 𝓡.env) in
+    entered 𝓤 𝓛.H (triple_of 𝓛 (F.signature A B) (F.spec A B 𝓛 𝓜.mem 𝓡.returns)) 𝓣.C 𝓣.Λ (#self (args A B)) (here A B) (code.unfolded 𝓤 𝓛.H 𝓜 𝓡 wired (A, (B, tt)))
+    (meets A B LA LB 𝓛 𝓜.mem 𝓡.returns 𝓣 (lend.met 𝓤 𝓛 𝓜 𝓡 (code.calls-starlark_lent::columns::lend_columns 𝓡.env wired) A B LA LB))

@@ -1,0 +1,14 @@
+use Rattle.std.proofs.Common.{◌≡◌, slice_get, refl, sym, ap, ◌∙◌}
+use Rattle.starlark_hash.specs.Entries.{set_value_at}
+use Rattle.starlark_lent.specs.EntryList.{entry_list}
+use Rattle.starlark_lent.proofs.Writes.{value_written, entry_read}
+use Rattle.starlark_lent.proofs.vec_map.VecMap.get_unchecked_mut.Goals as goal
+
+pub returns : goal.returns
+returns g c =
+    let ps = c.self.inside.buckets.pairs in
+    let i = c.args.index in
+    let read = c.first_at_mut-pair.ensures.value in (
+      (refl, λ w. ap (λ es. entry_list es c.self.inside.buckets.capacity) (value_written ps i _ _ w read) ∙ ap (λ m. entry_list (set_value_at m.entries i w) m.capacity) c.self.view_is),
+      record { writes_back = tt; value = ? },
+    )
