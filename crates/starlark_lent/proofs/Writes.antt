@@ -1,9 +1,10 @@
 -- A write of the value at a place, seen through the columns.
 use Rattle.std.proofs.Common.{◌≡◌, ℕ, zero, suc, ◌<◌, List, [], ◌∷◌, ◌++◌, map, length, slice_get, get_or, Option, Some, None, refl, sym, ap, ◌∙◌, arith}
 use Rattle.std.specs.Option.{option_map}
+use Rattle.starlark_hash.specs.declared.hash_value.StarlarkHashValue.{StarlarkHashValue}
 use Rattle.starlark_hash.specs.declared.hashed.Hashed.{Hashed}
 use Rattle.starlark_hash.specs.Entries.{Entry, pair_of, set_value_at}
-use Rattle.starlark_hash.specs.HashValue.{hashed}
+use Rattle.starlark_hash.specs.HashValue.{hashed, hash_number}
 use Rattle.starlark_lent.specs.Lending.{with_first_in}
 use Rattle.starlark_lent.specs.EntryList.{entry_of, hash_value}
 
@@ -26,11 +27,11 @@ module _ {K V : Type 0} where
   only_value None k v e = cc
   only_value (Some x) k v e = let s : pair_of x ≡ (k, v) = cc in ap (λ p. Some p.1) s
 
-  pub entry_read : (ps : List ((K × V) × ℕ)) (i : ℕ) (k : K) (v : V) (h : ℕ) → option_map (λ (p : (K × V) × ℕ). p.0) (slice_get ps i) ≡ Some (k, v)
-      → h ≡ get_or (map (λ (p : (K × V) × ℕ). p.1) ps) i h → slice_get (map entry_of ps) i ≡ Some (hashed (hash_value h) k, v)
-  entry_read [] i k v h e f = cc
-  entry_read (p ∷ ps) zero k v h e f = let same : p.0 ≡ (k, v) = cc in λ j. Some (entry_of (same j, sym f j))
-  entry_read (p ∷ ps) (suc i) k v h e f = entry_read ps i k v h e f
+  pub entry_read : (ps : List ((K × V) × ℕ)) (i : ℕ) (k : K) (v : V) (hash : StarlarkHashValue) → option_map (λ (p : (K × V) × ℕ). p.0) (slice_get ps i) ≡ Some (k, v)
+      → hash_number hash ≡ get_or (map (λ (p : (K × V) × ℕ). p.1) ps) i 0 → slice_get (map entry_of ps) i ≡ Some (hashed hash k, v)
+  entry_read [] i k v hash e f = cc
+  entry_read (p ∷ ps) zero k v hash e f = let same : p.0 ≡ (k, v) = cc in λ j. Some (entry_of (same j, sym f j))
+  entry_read (p ∷ ps) (suc i) k v hash e f = entry_read ps i k v hash e f
 
   -- the last value, written and read
   pub pushed_value : (es : List (Entry K V)) (key : Hashed K) (v w : V) → set_value_at (es ++ (key, v) ∷ []) (length es) w ≡ es ++ (key, w) ∷ []
