@@ -1,5 +1,5 @@
 -- What a `SmallMap` ends as, once the reference into it has ended.
-use Rattle.std.specs.Prelude.{◌≡◌, ℕ, Result, OnOk, OnErr, IfOk}
+use Rattle.std.specs.Prelude.{◌≡◌, ℕ, Result, OnOk, OnErr}
 use Rattle.std.specs.Borrow.{Fml, RattleType, Bor, MutBor, Lends, follows_so, name_if_ok}
 use Rattle.std.specs.declared.cmp.PartialEq as eq
 use Rattle.starlark_hash.specs.declared.hashed.Hashed.{Hashed}
@@ -10,10 +10,6 @@ module _ (K V : RattleType) (g : eq.Ghosts K.Denot) (s : MutBor (Map K.Denot V.D
   -- the value at the place ends as what is left behind the reference, and all else stays
   abbrev pub lends_value : ℕ → MutBor V.Denot → Fml
   lends_value i r = Lends (the_row K V g) V s r (with_value_at s.now i)
-
-  -- the same of the pair at the place that is handed in, and at `Err` all stays
-  abbrev pub lends_pair : {E : Type 0} → Result ℕ E → Result (Bor K.Denot × MutBor V.Denot) E → Fml
-  lends_pair place r = follows_so (the_row K V g) V s.ghost_name (name_if_ok (λ p. p.1.ghost_name) r) (λ w n. IfOk place (λ i. n ≡ with_value_at s.now i w)) (λ n. OnErr r (n ≡ s.now))
 
   -- the new entry ends with the value that is left behind the reference, and at `Err` all stays
   abbrev pub lends_inserted : {E : Type 0} → Hashed K.Denot → Result (Bor K.Denot × MutBor V.Denot) E → Fml

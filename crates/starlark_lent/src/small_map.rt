@@ -28,7 +28,7 @@ impl<K: Eq, V> Model for SmallMap<K, V> {
 }
 
 impl<K: Eq, V> SmallMap<K, V> {
-    ghost use Rattle.starlark_lent.specs.MapLending.{lends_value, lends_pair, lends_inserted};
+    ghost use Rattle.starlark_lent.specs.MapLending.{lends_value, lends_inserted};
 
     pub fn len(&self) -> usize
         ensures { result ≡ length self.now.entries }
@@ -63,19 +63,6 @@ impl<K: Eq, V> SmallMap<K, V> {
         self.entries.entry_mut(index)
     }
 
-    /// The key and the value at the place, and an error as it is.
-    fn entry_if_ok<E>(&mut self, place: Result<usize, E>) -> Result<(&K, &mut V), E>
-        requires { IfOk place (λ i. i < length self.old.entries) }
-        ensures* writes_back { sem 𝓛 (lends_pair K.row V.row K.PartialEq self.entry place result) }
-        ensures shown { IfOk place (λ i. IfOk result (λ p. option_map pair_of (slice_get self.old.entries i) ≡ Some (p.0.now, p.1.now))) }
-        ensures handed_on { IfErr result (λ e. IfErr place (λ f. e ≡ f)) }
-    {
-        match place {
-            Ok(index) => Ok(self.entry_mut(index)),
-            Err(error) => Err(error),
-        }
-    }
-
     /// Puts an entry at the end, and shows its key and its value.
     pub fn insert_hashed_unique_unchecked(&mut self, key: Hashed<K>, value: V) -> Result<(&K, &mut V), NoRoom<(Hashed<K>, V)>>
         requires { match_of K.eq self.old.entries key ≡ None }
@@ -83,7 +70,9 @@ impl<K: Eq, V> SmallMap<K, V> {
         ensures pair { IfOk result (λ p. (p.0.now ≡ key_of key) × (p.1.now ≡ value)) }
         ensures handed_back { IfErr result (λ e. e.0 ≡ (key, value)) }
     {
-        let place = self.push(key, value);
-        self.entry_if_ok(place)
+        match self.push(key, value) {
+            Ok(index) => Ok(self.entry_mut(index)),
+            Err(refused) => Err(refused),
+        }
     }
 }
