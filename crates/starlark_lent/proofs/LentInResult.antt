@@ -1,5 +1,5 @@
 -- A reference is given up, a clause of one name is made at `Ok` and at `Err`, and a `Result` that a call gave is opened. Assumes `Logic`.
-use mathlib.Core.Path.{◌≡◌, refl, ap, subst, ◌∙◌}
+use mathlib.Core.Path.{◌≡◌, refl, sym, ap, subst, ◌∙◌}
 use Prim.Native.Nat.{ℕ}
 use mathlib.Core.Logic.{◌⊎◌, inl, inr}
 use mathlib.Core.List.{List, [], ◌∷◌, ◌++◌}
@@ -50,6 +50,9 @@ module _ {M : Type 1} {𝓤 : Ura M} (𝓛 : Logic 𝓤) where
   pub lone_value : (R : RattleType) → Laws R → (x : R.Denot) (vs : List Val) → Is R x vs → (u : Val) × (vs ≡ u ∷ []) × Good (layout R) u
   lone_value R L x vs is = one (layout R) vs (subst (λ τs. denote.Laws.Typed τs vs) L.one ((L.lawful 𝓛).typed x vs is))
 
+  pub good_value : (R : RattleType) → Laws R → (x : R.Denot) (v : Val) → Is R x (v ∷ []) → Good (layout R) v
+  good_value R L x v is = let t = lone_value R L x (v ∷ []) is in subst (Good (layout R)) (sym (ap only t.1)) t.2
+
   module _ (R E : RattleType) (v : Val) where
     -- where the type tells its machine value
     pub in_ok_told : (x : R.Denot) (u : Val) → ((vs : List Val) → Is R x vs → (vs ≡ u ∷ []) × Good (layout R) u)
@@ -95,6 +98,23 @@ module _ {M : Type 1} {𝓤 : Ura M} (𝓛 : Logic 𝓤) where
         rewrite ! 0 (λ (ws : List Val). ‵ ((MutRef (named 0) κ V).own_val x.1 ws)) g refl $ rewrite ! 1 (λ (ws : List Val). ‵ ((ShrRef (named 0) κ K).own_val x.0 ws)) f refl $
         check ! (ap only e ∙ (λ k. vstruct (of_list (f k ++ (g k ++ []))))) $ move ! (1 ∷ 0 ∷ []) $
         by ! (as_tuple (ShrRef (named 0) κ K) (MutRef (named 0) κ V) x.0 x.1 (vptr x.0.ref_ptr.0 x.0.ref_ptr.1) (vptr x.1.ref_ptr.0 x.1.ref_ptr.1))))))
+
+-- `(&mut A, &mut B)`
+abbrev pub PairOf : RattleType → RattleType → Lft → RattleType
+PairOf A B κ = Tuple (MutRef (named 0) κ A ∷ MutRef (named 0) κ B ∷ [])
+
+abbrev pub pair_val : {A B : Type 0} → MutBor A × MutBor B → Val
+pair_val x = vstruct (vcons (vptr x.0.ref_ptr.0 x.0.ref_ptr.1) (vcons (vptr x.1.ref_ptr.0 x.1.ref_ptr.1) vnil))
+
+module _ {M : Type 1} {𝓤 : Ura M} (𝓛 : Logic 𝓤) (A B : RattleType) (κ : Lft) (x : MutBor A.Denot × MutBor B.Denot) (v : Val) where
+  pub pair_opened : ent 𝓤 (sem 𝓛 ((PairOf A B κ).own_val x (v ∷ []))) (guard 𝓤 (v ≡ pair_val x) (sep 𝓤 (sem 𝓛 ((MutRef (named 0) κ A).own_val x.0 (mut_vals x.0))) (sem 𝓛 ((MutRef (named 0) κ B).own_val x.1 (mut_vals x.1)))))
+  pair_opened =
+      qed 𝓛 (‵ ((PairOf A B κ).own_val x (v ∷ [])) ∷ []) ∵ fpick ! (λ vss. fsplit ! $ feq_l ! (λ e. fsplit3 ! $ move ! (2 ∷ []) $ drop ! $
+      peeks ! (MutRef (named 0) κ A) (Is (MutRef (named 0) κ A)) (shows 𝓛 (MutRef (named 0) κ A)) x.0 vss.0 (λ i. move ! (1 ∷ []) $
+      peeks ! (MutRef (named 0) κ B) (Is (MutRef (named 0) κ B)) (shows 𝓛 (MutRef (named 0) κ B)) x.1 vss.1.0 (λ j.
+      let f = mut_Tells (named 0) κ A x.0 vss.0 i in let g = mut_Tells (named 0) κ B x.1 vss.1.0 j in
+      rewrite ! 0 (λ (ws : List Val). ‵ ((MutRef (named 0) κ B).own_val x.1 ws)) g refl $ rewrite ! 1 (λ (ws : List Val). ‵ ((MutRef (named 0) κ A).own_val x.0 ws)) f refl $
+      check ! (ap only e ∙ (λ k. vstruct (of_list (f k ++ (g k ++ []))))) $ move ! (1 ∷ 0 ∷ []) $ done !))))
 
 -- a `Result` is one of the two
 pub which : {A E : Type 0} (r : Result A E) → ((x : A) × (r ≡ Ok x)) ⊎ ((e : E) × (r ≡ Err e))
