@@ -4,3 +4,4 @@ pub mod Writes
 pub mod Vec2Open
 pub mod LentInResult
 pub mod Inserted
+pub mod LentInOption

@@ -105,3 +105,16 @@ module _ {A B : Type 0} where
   -- the last pair goes to the front of the others
   pub last_taken : (xs : List A) (ys : List B) (x : A) (y : B) (rest : List (A × B)) → length xs ≡ length ys → zip (xs ++ x ∷ []) (ys ++ y ∷ []) ++ rest ≡ zip xs ys ++ (x, y) ∷ rest
   last_taken xs ys x y rest e = ap (λ l. l ++ rest) (zip_push xs ys x y e) ∙ append_assoc (zip xs ys) ((x, y) ∷ []) rest
+
+  -- where the first column has an item, the second does too, and they are the pair
+  pub zip_some : (xs : List A) (ys : List B) (i : ℕ) (x : A) → length xs ≡ length ys → slice_get xs i ≡ Some x → (i < length ys) × ((y : B) → y ≡ get_or ys i y → slice_get (zip xs ys) i ≡ Some (x, y))
+  zip_some [] ys i x e f = cc
+  zip_some (z ∷ xs) [] i x e f = absurd (omega (arith, e))
+  zip_some (z ∷ xs) (w ∷ ys) zero x e f = (omega arith, λ y g. let same : z ≡ x = cc in λ j. Some (same j, sym g j))
+  zip_some (z ∷ xs) (w ∷ ys) (suc i) x e f = let rest = zip_some xs ys i x (omega (arith, e)) f in (omega (arith, rest.0), rest.1)
+
+  pub zip_none : (xs : List A) (ys : List B) (i : ℕ) → slice_get xs i ≡ None → slice_get (zip xs ys) i ≡ None
+  zip_none [] ys i e = refl
+  zip_none (z ∷ xs) [] i e = refl
+  zip_none (z ∷ xs) (w ∷ ys) zero e = cc
+  zip_none (z ∷ xs) (w ∷ ys) (suc i) e = zip_none xs ys i e

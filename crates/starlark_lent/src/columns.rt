@@ -1,7 +1,8 @@
 //! One element of each of two columns, lent at once.
 ghost use Rattle.std.specs.Prelude.{◌≡◌, ◌<◌, length, slice_get, slice_index_or, Some};
 ghost use Rattle.std.specs.Borrow.{sem};
-ghost use Rattle.starlark_lent.specs.Columns.{lends_item, lends_items, lends_place, lends_places};
+ghost use Rattle.std.specs.Option.{option_copied_mut};
+ghost use Rattle.starlark_lent.specs.Columns.{lends_item, lends_items, lends_place, lends_place_if, lends_places};
 
 /// The item at `index`.
 #[inline]
@@ -34,6 +35,15 @@ pub fn lend_place<A>(items: &mut Vec<A>, index: usize) -> &mut A
     ensures value { result.now ≡ slice_index_or items.old.items index result.now }
 {
     &mut items[index]
+}
+
+/// The item at `index` of a vector, if it has one.
+#[inline]
+pub fn lend_place_if<A>(items: &mut Vec<A>, index: usize) -> Option<&mut A>
+    ensures* writes_back { sem 𝓛 (lends_place_if A.row items.entry index result) }
+    ensures value { slice_get items.old.items index ≡ option_copied_mut result }
+{
+    items.get_mut(index)
 }
 
 /// The item at `index` of each of two vectors.

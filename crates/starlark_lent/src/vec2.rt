@@ -3,7 +3,7 @@ ghost use Rattle.std.specs.Prelude.{◌≡◌, ℕ, ◌+◌, ◌-◌, ◌*◌, �
 ghost use Rattle.std.specs.Vec.{vec_capacity};
 ghost use Rattle.starlark_lent.specs.PairList.{PairList, pair_list, firsts_of, seconds_of, reserved};
 
-use crate::columns::lend_columns;
+use crate::columns::{lend_columns, lend_place, lend_place_if};
 use starlark_hash::NoRoom;
 use std::alloc::{AllocError, Global};
 use std::marker::Model;
@@ -113,7 +113,7 @@ impl<A, B> Vec2<A, B> {
 
 impl<A, B> Vec2<A, B> {
     ghost use Rattle.std.specs.Borrow.{sem};
-    ghost use Rattle.starlark_lent.specs.Lending.{lends_both, lends_first};
+    ghost use Rattle.starlark_lent.specs.Lending.{lends_both, lends_both_if, lends_first};
 
     #[tactic(auto, using(crate::proofs::Zip::zip_count, crate::proofs::Zip::zip_at))]
     pub fn first_at_mut(&mut self, index: usize) -> &mut A
@@ -132,6 +132,18 @@ impl<A, B> Vec2<A, B> {
         ensures value { slice_get self.old.pairs index ≡ Some (result.0.now, result.1.now) }
     {
         lend_columns(&mut self.firsts, &mut self.seconds, index)
+    }
+
+    /// Both parts of the pair at a place, if there is one.
+    #[inline]
+    pub fn get_mut(&mut self, index: usize) -> Option<(&mut A, &mut B)>
+        ensures* writes_back { sem 𝓛 (lends_both_if A.row B.row self.entry index result) }
+        ensures value { slice_get self.old.pairs index ≡ option_map (λ r. (r.0.now, r.1.now)) result }
+    {
+        match lend_place_if(&mut self.firsts, index) {
+            Some(first) => Some((first, lend_place(&mut self.seconds, index))),
+            None => None,
+        }
     }
 
 }
