@@ -46,6 +46,16 @@ module _ {M : Type 1} {𝓤 : Ura M} (𝓛 : Logic 𝓤) where
     unfolding such_by follows_by
     so_follows γ' F p = qed 𝓛 (‵ (follows R T γ γ' F) ∷ []) ∵ fpack ! ((s : (T.Denot → R.Denot) × R.Denot) × ((w : T.Denot) → P w (s.0 w)) × P₀ s.1) (λ s. follows_by R.Denot T.Denot R.coded.code T.coded.code γ (some γ') s.0.0 s.0.1) ((F, v), p, ends) $ done !
 
+  module _ (R T : RattleType) (γ : GName) (P : T.Denot → R.Denot → Type 0) (P₀ : R.Denot → Type 0) where
+    -- a caller opens the clause: where a part has left, and where none has
+    pub so_opens : (γ' : GName) → ent 𝓤 (sem 𝓛 (follows_so R T γ (some γ') P P₀)) (ex 𝓤 (λ (F : T.Denot → R.Denot). guard 𝓤 ((w : T.Denot) → P w (F w)) (sem 𝓛 (follows R T γ γ' F))))
+    unfolding such_by follows_by
+    so_opens γ' = qed 𝓛 (‵ (follows_so R T γ (some γ') P P₀) ∷ []) ∵ fpick ! (λ s. show ! (λ (F : T.Denot → R.Denot). guard 𝓤 ((w : T.Denot) → P w (F w)) (sem 𝓛 (follows R T γ γ' F))) s.0.0 $ check ! s.1 $ done !)
+
+    pub so_rested : ent 𝓤 (sem 𝓛 (follows_so R T γ none P P₀)) (ex 𝓤 (λ (n : R.Denot). guard 𝓤 (P₀ n) (sem 𝓛 (fres γ (R.coded.code n)))))
+    unfolding such_by follows_by
+    so_rested = qed 𝓛 (‵ (follows_so R T γ none P P₀) ∷ []) ∵ fpick ! (λ s. show ! (λ (n : R.Denot). guard 𝓤 (P₀ n) (sem 𝓛 (fres γ (R.coded.code n)))) s.0.1 $ check ! s.2 $ done !)
+
   -- the one machine value of what a type owns
   pub lone_value : (R : RattleType) → Laws R → (x : R.Denot) (vs : List Val) → Is R x vs → (u : Val) × (vs ≡ u ∷ []) × Good (layout R) u
   lone_value R L x vs is = one (layout R) vs (subst (λ τs. denote.Laws.Typed τs vs) L.one ((L.lawful 𝓛).typed x vs is))
@@ -98,6 +108,29 @@ module _ {M : Type 1} {𝓤 : Ura M} (𝓛 : Logic 𝓤) where
         rewrite ! 0 (λ (ws : List Val). ‵ ((MutRef (named 0) κ V).own_val x.1 ws)) g refl $ rewrite ! 1 (λ (ws : List Val). ‵ ((ShrRef (named 0) κ K).own_val x.0 ws)) f refl $
         check ! (ap only e ∙ (λ k. vstruct (of_list (f k ++ (g k ++ []))))) $ move ! (1 ∷ 0 ∷ []) $
         by ! (as_tuple (ShrRef (named 0) κ K) (MutRef (named 0) κ V) x.0 x.1 (vptr x.0.ref_ptr.0 x.0.ref_ptr.1) (vptr x.1.ref_ptr.0 x.1.ref_ptr.1))))))
+
+-- the two references of a `(&K, &mut V)`
+module _ {M : Type 1} {𝓤 : Ura M} (𝓛 : Logic 𝓤) (K V : RattleType) (κ : Lft) (x : Bor K.Denot × MutBor V.Denot) (v : Val) where
+  pub entry_opened : ent 𝓤 (sem 𝓛 ((Entry 𝓛 K V κ x v).own_val x (v ∷ [])))
+      (guard 𝓤 (v ≡ entry_val 𝓛 K V κ x v) (sep 𝓤 (sem 𝓛 ((ShrRef (named 0) κ K).own_val x.0 (vptr x.0.ref_ptr.0 x.0.ref_ptr.1 ∷ []))) (sem 𝓛 ((MutRef (named 0) κ V).own_val x.1 (mut_vals x.1)))))
+  entry_opened =
+      qed 𝓛 (‵ ((Entry 𝓛 K V κ x v).own_val x (v ∷ [])) ∷ []) ∵ fpick ! (λ vss. fsplit ! $ feq_l ! (λ e. fsplit3 ! $ move ! (2 ∷ []) $ drop ! $
+      peeks ! (ShrRef (named 0) κ K) (Is (ShrRef (named 0) κ K)) (shows 𝓛 (ShrRef (named 0) κ K)) x.0 vss.0 (λ i. move ! (1 ∷ []) $
+      peeks ! (MutRef (named 0) κ V) (Is (MutRef (named 0) κ V)) (shows 𝓛 (MutRef (named 0) κ V)) x.1 vss.1.0 (λ j.
+      let f = shr_Tells (named 0) κ K x.0 vss.0 i in let g = mut_Tells (named 0) κ V x.1 vss.1.0 j in
+      rewrite ! 0 (λ (ws : List Val). ‵ ((MutRef (named 0) κ V).own_val x.1 ws)) g refl $ rewrite ! 1 (λ (ws : List Val). ‵ ((ShrRef (named 0) κ K).own_val x.0 ws)) f refl $
+      check ! (ap only e ∙ (λ k. vstruct (of_list (f k ++ (g k ++ []))))) $ move ! (1 ∷ 0 ∷ []) $ done !))))
+
+  pub in_ok_entry : (E : RattleType) → ent 𝓤 (sem 𝓛 ((RS.the_row (Entry 𝓛 K V κ x v) E).own_val (Ok x) (v ∷ [])))
+      (guard 𝓤 (v ≡ live 0 (vcons (entry_val 𝓛 K V κ x v) vnil)) (sem 𝓛 ((MutRef (named 0) κ V).own_val x.1 (mut_vals x.1))))
+  in_ok_entry E =
+      qed 𝓛 (‵ ((RS.the_row (Entry 𝓛 K V κ x v) E).own_val (Ok x) (v ∷ [])) ∷ []) ∵ fpick ! (λ us. fsplit ! $ feq_l ! (λ e. fpick ! (λ ws. fsplit ! $ feq_l ! (λ h. fsplit ! $
+      fpick ! (λ vss. fsplit ! $ feq_l ! (λ d. fsplit3 ! $ move ! (2 ∷ []) $ drop ! $
+      peeks ! (ShrRef (named 0) κ K) (Is (ShrRef (named 0) κ K)) (shows 𝓛 (ShrRef (named 0) κ K)) x.0 vss.0 (λ i. drop ! $
+      peeks ! (MutRef (named 0) κ V) (Is (MutRef (named 0) κ V)) (shows 𝓛 (MutRef (named 0) κ V)) x.1 vss.1.0 (λ j.
+      let f = shr_Tells (named 0) κ K x.0 vss.0 i in let g = mut_Tells (named 0) κ V x.1 vss.1.0 j in
+      rewrite ! 0 (λ (vs : List Val). ‵ ((MutRef (named 0) κ V).own_val x.1 vs)) g refl $
+      check ! (ap only e ∙ ap (λ vs. live 0 (of_list vs)) (h ∙ ap (λ vs. vs ++ []) (d ∙ (λ k. vstruct (of_list (f k ++ (g k ++ []))) ∷ [])))) $ keep ! (0 ∷ []) $ done !))))))))
 
 -- `(&mut A, &mut B)`
 abbrev pub PairOf : RattleType → RattleType → Lft → RattleType

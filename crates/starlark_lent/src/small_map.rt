@@ -28,7 +28,7 @@ impl<K: Eq, V> Model for SmallMap<K, V> {
 }
 
 impl<K: Eq, V> SmallMap<K, V> {
-    ghost use Rattle.starlark_lent.specs.MapLending.{lends_value, lends_inserted};
+    ghost use Rattle.starlark_lent.specs.MapLending.{lends_value, lends_inserted, rests_inserted};
 
     pub fn len(&self) -> usize
         ensures { result ≡ length self.now.entries }
@@ -72,6 +72,22 @@ impl<K: Eq, V> SmallMap<K, V> {
     {
         match self.push(key, value) {
             Ok(index) => Ok(self.entry_mut(index)),
+            Err(refused) => Err(refused),
+        }
+    }
+
+    /// Puts an entry at the end, and shows its key.
+    pub fn insert_key(&mut self, key: Hashed<K>, value: V) -> Result<&K, NoRoom<(Hashed<K>, V)>>
+        requires { match_of K.eq self.old.entries key ≡ None }
+        ensures* after { sem 𝓛 (rests_inserted K.row V.row K.PartialEq self.entry key value result) }
+        ensures shown { IfOk result (λ k. k.now ≡ key_of key) }
+        ensures handed_back { IfErr result (λ e. e.0 ≡ (key, value)) }
+    {
+        match self.push(key, value) {
+            Ok(index) => {
+                let (key, _) = self.entry_mut(index);
+                Ok(key)
+            }
             Err(refused) => Err(refused),
         }
     }
