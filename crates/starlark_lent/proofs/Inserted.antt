@@ -1,10 +1,10 @@
 -- A map after an insertion, written at the new place and read there.
-use Rattle.std.proofs.Common.{◌≡◌, ℕ, ◌+◌, ◌<◌, List, [], ◌∷◌, ◌++◌, length, slice_get, Some, Option, refl, sym, ap, subst, ◌∙◌, arith}
+use Rattle.std.proofs.Common.{◌≡◌, ℕ, ◌<◌, length, slice_get, Some, sym, ap, ◌∙◌, arith}
 use Rattle.std.specs.Option.{option_map}
 use Rattle.std.proofs.lemmas.List.{length_push}
 use Rattle.starlark_hash.specs.declared.hashed.Hashed.{Hashed}
 use Rattle.starlark_hash.specs.HashValue.{key_of}
-use Rattle.starlark_hash.specs.Entries.{Entry, pair_of, set_value_at}
+use Rattle.starlark_hash.specs.Entries.{pair_of, set_value_at}
 use Rattle.starlark_hash.proofs.EntryLemmas.{length-set_value_at}
 use Rattle.starlark_lent.specs.Map.{Map, with_value_at, IsInserted}
 use Rattle.starlark_lent.proofs.Writes.{pushed_value, pushed_last}

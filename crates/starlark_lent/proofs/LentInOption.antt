@@ -5,7 +5,7 @@ use mathlib.Core.List.{List, [], ◌∷◌, ◌++◌}
 use mathlib.Core.Option.{none, some}
 use seplogic.Ra.Ura.{Ura}
 use mir.Val.{Val, of_list, vcons, vnil}
-use base.Logic.{SProp, ent, guard}
+use base.Logic.{ent, guard}
 use base.Fml.{GName, fres}
 use types.Logic.{Logic, sem}
 use types.Kit.{‵, ◌$◌, ◌∵◌, !, qed, by, keep, fsplit, fpick, feq_l, rewrite, check, done}

@@ -8,9 +8,9 @@ use seplogic.Ra.Ura.{Ura}
 use mir.Syntax.{Lifetime, named}
 use mir.Val.{Val, of_list, vptr, vstruct, vcons, vnil}
 use base.Logic.{SProp, ent, sep, ex, guard}
-use base.Fml.{Lft, GName, Fml, fres, fex}
+use base.Fml.{Lft, GName, fres}
 use types.Logic.{Logic, sem}
-use types.Kit.{‵, raw, some as some_i, given, ◌$◌, ◌∵◌, !, qed, by, move, keep, drop, fsplit, fsplit3, fjoin, fpick, fpack, feq_i, feq_l, rewrite, updating, now, show, check, done}
+use types.Kit.{‵, ◌$◌, ◌∵◌, !, qed, by, move, keep, drop, fsplit, fsplit3, fjoin, fpick, fpack, feq_i, feq_l, rewrite, updating, now, show, check, done}
 use types.Match.{live}
 use types.Tokens.{name_done}
 use denote.RattleType.{RattleType, Valss}

@@ -1,11 +1,10 @@
 -- A `Vec2` in memory is its two columns and the rest, and back, at any columns of which the invariant holds. Assumes `Logic`.
-use mathlib.Core.Path.{◌≡◌, refl}
+use mathlib.Core.Path.{◌≡◌}
 use Prim.Native.Nat.{ℕ, zero, ◌+◌}
 use mathlib.Core.List.{List, [], ◌∷◌}
 use seplogic.Ra.Ura.{Ura}
 use base.Fraction.{full_share}
-use base.Logic.{SProp, ent, sep, wand, ex, all, all_e, apply∗}
-use base.Fml.{Fml}
+use base.Logic.{SProp, ent, sep, wand, ex, all_e, apply∗}
 use prog.Memory.{size, align, up}
 use types.Kit.{‵, raw, ◌⊛◌, some, ◌$◌, ◌∵◌, !, qed, by, move, use1, use2, split, pick, show, fsplit3, fjoin, done}
 use types.Logic.{Logic, sem}

@@ -1,8 +1,7 @@
 -- What a contract sees of a `VecMap`.
-use Rattle.std.specs.Prelude.{ℕ, List, map}
-use Rattle.std.specs.Borrow.{Fml, RattleType, MutBor, Lends}
+use Rattle.std.specs.Prelude.{ℕ, List}
 use Rattle.starlark_hash.specs.declared.hash_value.StarlarkHashValue.{StarlarkHashValue}
-use Rattle.starlark_hash.specs.Entries.{Entry, set_value_at}
+use Rattle.starlark_hash.specs.Entries.{Entry}
 use Rattle.starlark_hash.specs.HashValue.{hashed}
 
 -- the entries in order, and how many there may be before the next growth

@@ -16,7 +16,11 @@ pub fn lend_item<A>(items: &mut [A], index: usize) -> &mut A
 
 /// The item at `index` of each of two slices.
 #[inline]
-pub fn lend_pair<'a, A, B>(firsts: &'a mut [A], seconds: &'a mut [B], index: usize) -> (&'a mut A, &'a mut B)
+pub fn lend_pair<'a, A, B>(
+    firsts: &'a mut [A],
+    seconds: &'a mut [B],
+    index: usize,
+) -> (&'a mut A, &'a mut B)
     requires in_firsts { index < length firsts.old }
     requires in_seconds { index < length seconds.old }
     ensures* write_back { sem 𝓛 (lends_items A.row B.row firsts.entry seconds.entry index result) }
@@ -48,7 +52,11 @@ pub fn lend_place_if<A>(items: &mut Vec<A>, index: usize) -> Option<&mut A>
 
 /// The item at `index` of each of two vectors.
 #[inline]
-pub fn lend_columns<'a, A, B>(firsts: &'a mut Vec<A>, seconds: &'a mut Vec<B>, index: usize) -> (&'a mut A, &'a mut B)
+pub fn lend_columns<'a, A, B>(
+    firsts: &'a mut Vec<A>,
+    seconds: &'a mut Vec<B>,
+    index: usize,
+) -> (&'a mut A, &'a mut B)
     requires in_firsts { index < length firsts.old.items }
     requires in_seconds { index < length seconds.old.items }
     ensures* write_back { sem 𝓛 (lends_places A.row B.row firsts.entry seconds.entry index result) }

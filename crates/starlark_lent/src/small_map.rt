@@ -64,7 +64,11 @@ impl<K: Eq, V> SmallMap<K, V> {
     }
 
     /// Puts an entry at the end, and shows its key and its value.
-    pub fn insert_hashed_unique_unchecked(&mut self, key: Hashed<K>, value: V) -> Result<(&K, &mut V), NoRoom<(Hashed<K>, V)>>
+    pub fn insert_hashed_unique_unchecked(
+        &mut self,
+        key: Hashed<K>,
+        value: V,
+    ) -> Result<(&K, &mut V), NoRoom<(Hashed<K>, V)>>
         requires { match_of K.eq self.old.entries key ≡ None }
         ensures* writes_back { sem 𝓛 (lends_inserted K.row V.row K.PartialEq self.entry key result) }
         ensures pair { IfOk result (λ p. (p.0.now ≡ key_of key) × (p.1.now ≡ value)) }

@@ -4,8 +4,8 @@ ghost use Rattle.starlark_hash.specs.Entries.{set_value_at, match_of};
 ghost use Rattle.starlark_lent.specs.Map.{IsInserted};
 
 use crate::small_map::SmallMap;
-use crate::vec2::Vec2;
 use crate::vec_map::VecMap;
+use crate::vec2::Vec2;
 use starlark_hash::{Hashed, NoRoom};
 use std::mem;
 
@@ -50,7 +50,12 @@ pub fn put_both<A, B>(pairs: &mut Vec2<A, B>, index: usize, first: A, second: B)
 }
 
 /// Inserts an entry with one value, and puts another there.
-pub fn insert_then_put<K: Eq, V>(map: &mut SmallMap<K, V>, key: Hashed<K>, value: V, next: V) -> Result<V, (NoRoom<(Hashed<K>, V)>, V)>
+pub fn insert_then_put<K: Eq, V>(
+    map: &mut SmallMap<K, V>,
+    key: Hashed<K>,
+    value: V,
+    next: V,
+) -> Result<V, (NoRoom<(Hashed<K>, V)>, V)>
     requires { match_of K.eq map.old.entries key ≡ None }
     ensures taken { IfOk result (λ v. v ≡ value) }
     ensures inserted { OnOk result (IsInserted map.old key next map.new) }

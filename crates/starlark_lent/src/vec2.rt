@@ -108,7 +108,6 @@ impl<A, B> Vec2<A, B> {
         self.seconds.push_reserved(second);
         Ok(())
     }
-
 }
 
 impl<A, B> Vec2<A, B> {
@@ -145,7 +144,6 @@ impl<A, B> Vec2<A, B> {
             None => None,
         }
     }
-
 }
 
 /// The capacity that makes room for `more` further pairs, where that number can be written.

@@ -27,7 +27,9 @@ impl<K, V> VecMap<K, V> {
     ghost use Rattle.starlark_lent.specs.EntryLending.{lends_value};
 
     pub fn new(alloc: Global) -> Self {
-        VecMap { buckets: Vec2::new(alloc) }
+        VecMap {
+            buckets: Vec2::new(alloc),
+        }
     }
 
     pub fn len(&self) -> usize

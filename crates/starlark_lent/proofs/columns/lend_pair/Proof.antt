@@ -7,8 +7,8 @@ use seplogic.Ra.Ura.{Ura}
 use mir.Syntax.{Fn, Args, a_type, named, w64}
 use mir.MapTy.{inst_fn}
 use mir.Val.{Val, vint, vptr, vstruct, vcons, vnil}
-use base.Logic.{SProp, ent, sep, emp, id⊢, ex_e, snd∗}
-use base.Fml.{Lft, Share, ftrue, fsep, flft}
+use base.Logic.{SProp, ent, emp, id⊢, ex_e, snd∗}
+use base.Fml.{Lft, Share, ftrue, flft}
 use prog.Memory.{Memory}
 use prog.Routine.{Routine}
 use prog.Wp.{Calls, Loops, WpFn, Tables}
@@ -17,12 +17,12 @@ use contract.BorrowLft.{◌⊑◌}
 use contract.Monad.{Fun, fact, fact_i}
 use contract.Running.{tables, tables_of}
 use sound.WpLaws.{FmC, fm_of, WpFn-mono}
-use types.Kit.{‵, raw, ◌⊛◌, some, later, ◌$◌, ◌∵◌, !, qed, by, move, keep, use0, use1, use2, drop, split, split3, join, pick, fsplit, fsplit3, fjoin, fjoin3, fpack, feq_i, feq_l, suffices, frame, await, done}
+use types.Kit.{‵, raw, ◌⊛◌, some, later, ◌$◌, ◌∵◌, !, qed, move, keep, use0, use1, use2, split, split3, join, pick, fsplit3, fjoin, fjoin3, feq_i, feq_l, suffices, frame, await, done}
 use types.Part.{whole, sub, agg}
 use types.Run.{stop, fld, hop, from, addr, and_then, no_more, returns, enter}
 use types.ByLocal.{alloc_all, pass_all, free_all, look_at, look_in_at, get, get_in, through, sets, lands_as}
 use denote.Exit.{yes, no}
-use denote.RattleType.{RattleType, owns, Valss}
+use denote.RattleType.{RattleType, owns}
 use denote.Array.{Array}
 use denote.Builtin.{usize}
 use denote.Follow.{follows}
@@ -30,11 +30,9 @@ use denote.Param.{param, layouts}
 use denote.Plain.{uint_vals, uint_Tells, uint_Makes}
 use denote.Ref.{MutBor, MutRef}
 use denote.Signature.{plain, types_at, mut_slice_of}
-use denote.Slice.{MutSlice, Room, slice_val, mut_slice_vals, mut_slice_Tells}
+use denote.Slice.{Room, slice_val, mut_slice_vals, mut_slice_Tells}
 use denote.Steps.{nothing, owned, heard, only}
-use denote.Struct.Declared.{shape}
-use denote.Struct.Struct.{within}
-use denote.Struct.Tuple.{Tuple, tuple_type}
+use denote.Struct.Tuple.{Tuple}
 use denote.Triple.Call.{calls_at}
 use denote.Triple.Clauses.{Clauses, Ended, closing, ensured, lasts}
 use denote.Triple.Spec.{Meets, triple_of}
@@ -43,6 +41,7 @@ use denote.Triple.Table.{entered}
 use denote.Triple.Walked.{says, Stays, stay_dropped, walk_of, ends_at, walked, walk_Meets, Goes-dropped, Goes-spent_slice}
 use Rattle.std.specs.Prelude.{slice_get, slice_set}
 use Rattle.std.specs.declared.option.Option.TheVariants.{Some}
+use Rattle.starlark_lent.proofs.LentInResult.{as_tuple}
 use Rattle.starlark_lent.specs.contracts.columns.lend_pair as F
 use Rattle.starlark_lent.specs.contracts.columns.lend_pair.Key.{name as #self}
 use Rattle.starlark_lent.specs.contracts.columns.lend_item as g
@@ -50,12 +49,6 @@ use Rattle.starlark_lent.proofs.columns.lend_item.Symbol.{name as #item}
 use Rattle.starlark_lent.proofs.columns.lend_item.Met as item
 use Rattle.starlark_lent.proofs.columns.lend_pair.Statement as stated
 use Rattle.starlark_lent.proofs.columns.lend_pair.Code as code
-
-pair_of : {M : Type 1} {𝓤 : Ura M} (𝓛 : Logic 𝓤) (R S : RattleType) (x : R.Denot) (y : S.Denot) (u v : Val)
-    → ent 𝓤 (sep 𝓤 (sem 𝓛 (R.own_val x (u ∷ []))) (sem 𝓛 (S.own_val y (v ∷ [])))) (sem 𝓛 ((Tuple (R ∷ S ∷ [])).own_val (x, y) (vstruct (vcons u (vcons v vnil)) ∷ [])))
-pair_of 𝓛 R S x y u v =
-    qed 𝓛 (‵ (R.own_val x (u ∷ [])) ∷ ‵ (S.own_val y (v ∷ [])) ∷ []) ∵ nothing ! $ move ! (2 ∷ 0 ∷ []) $ fjoin ! $ move ! (1 ∷ 0 ∷ []) $ fjoin ! $ feq_i ! (List Val) (vstruct (vcons u (vcons v vnil)) ∷ []) (vstruct (vcons u (vcons v vnil)) ∷ []) refl $ fjoin ! $
-    fpack ! (Valss (R ∷ S ∷ [])) (within (shape (tuple_type (R ∷ S ∷ []))) (x, (y, tt)) (vstruct (vcons u (vcons v vnil)) ∷ [])) (u ∷ [], (v ∷ [], tt)) $ done !
 
 module _ (A B : RattleType) where
   abbrev args : Args
@@ -135,7 +128,7 @@ module _ (A B : RattleType) where
           sets ! (agg ! (and_then ! (get ! refl) (and_then ! (get ! refl) (no_more !)))) refl (tt, (tt, (tt, tt))) $
           returns ! (look_at ! 0 refl) $ free_all ! refl $ keep ! (7 ∷ 3 ∷ 0 ∷ 5 ∷ 1 ∷ 8 ∷ 4 ∷ []) $
           -- [x; y; the tokens of κ, κA, κB; what firsts follows, and seconds]
-          use2 𝓛 (‵ ((Tuple (MutRef (named 0) κ (param 0 A) ∷ MutRef (named 0) κ (param 1 B) ∷ [])).own_val (x, y) (pair_at x y ∷ []))) (pair_of 𝓛 (MutRef (named 0) κ (param 0 A)) (MutRef (named 0) κ (param 1 B)) x y (vptr x.ref_ptr.0 x.ref_ptr.1) (vptr y.ref_ptr.0 y.ref_ptr.1)) $
+          use2 𝓛 (‵ ((Tuple (MutRef (named 0) κ (param 0 A) ∷ MutRef (named 0) κ (param 1 B) ∷ [])).own_val (x, y) (pair_at x y ∷ []))) (as_tuple 𝓛 (MutRef (named 0) κ (param 0 A)) (MutRef (named 0) κ (param 1 B)) x y (vptr x.ref_ptr.0 x.ref_ptr.1) (vptr y.ref_ptr.0 y.ref_ptr.1)) $
           suffices ! _ (ends_at 𝓛 ended stayed spec bound (pair_at x y) (x, y) (tt, (tt, (tt, tt))) (tt, (tt, (tt, tt)))) $
           nothing ! $ nothing ! $ fjoin ! $ nothing ! $ fjoin ! $ nothing ! $ fjoin ! $ join ! $
           nothing ! $ move ! (4 ∷ 0 ∷ []) $ join ! $ move ! (3 ∷ 0 ∷ []) $ join ! $ move ! (2 ∷ 0 ∷ []) $ join ! $ join ! $ frame ! $ fjoin ! $ says ! (ea, eb) $ done !)))))))))))))

@@ -1,47 +1,43 @@
 -- `insert_then_put` meets its contract, at any key and value types: the map is lent to the call, the value is written by a call, and what the reference ends as gives the map back. Assumes `Logic`.
-use mathlib.Core.Path.{◌≡◌, refl, sym, ap, subst, ◌∙◌}
+use mathlib.Core.Path.{◌≡◌, refl, sym, subst, ◌∙◌}
 use mathlib.Core.Logic.{inl, inr}
-use Prim.Native.Nat.{ℕ, ◌<◌, ◌^◌}
 use native.Mathlib.Nat.{suc-ne-zero}
 use mathlib.Core.Bool.{Bool, true, false, ◌&&◌}
 use mathlib.Core.List.{List, [], ◌∷◌}
-use lib.ListN.{length}
 use lib.Dec.{T, lit<}
 use seplogic.Ra.Ura.{Ura}
 use base.Fraction.{full_share}
 use base.FractionLaws.{common}
 use base.Share
-use mir.Syntax.{Fn, Args, Dict, Ty, a_type, dcons, dnil, named, w64}
+use mir.Syntax.{Fn, Args, Dict, a_type, dcons, dnil, named}
 use mir.MapTy.{inst_fn}
-use mir.Val.{Val, vint, vptr, vstruct, vcons, vnil, of_list}
+use mir.Val.{Val, vptr, vstruct, vcons, vnil, of_list}
 use base.Logic.{SProp, ent, sep, emp, wand, id⊢, apply∗, ex_e, snd∗}
-use base.Fml.{Lft, GName, Share, ftrue, fdead, fsep, flft, fres}
+use base.Fml.{Lft, GName, Share, ftrue, fdead, flft, fres}
 use prog.Memory.{Memory}
 use prog.Routine.{Routine}
-use prog.Wp.{Env, Calls, Loops, WpFn, Tables}
+use prog.Wp.{Env, Calls, Loops, WpFn}
 use types.Logic.{Logic, sem}
 use types.Match.{live, vrt, in_variant, by_variants}
 use types.Tokens.{lft_new, lft_end, lft-common}
 use contract.BorrowLft.{◌⊑◌, ⊑_trans, meet_⊑_left, meet_⊑_right}
 use contract.Monad.{Fun, fact, fact_i}
-use contract.Running.{tables, tables_of}
+use contract.Running.{tables}
 use sound.WpLaws.{FmC}
 use types.Kit.{by, ‵, raw, ◌⊛◌, some, given, later, at_ret, ◌$◌, ◌∵◌, !, qed, move, keep, drop, use0, use1, use2, use3, split, split3, join, pick, learn, fsplit, fsplit3, fjoin, suffices, frame, await, rewrite, group, done}
 use types.Part.{whole, sub, agg}
 use types.Run.{stop, fld, hop, from, addr, lit, of_opd, and_then, no_more, first, exec, returns, enter}
 use types.ByLocal.{alloc_all, pass_all, free_all, look_at, look_in_at, get, get_in, get_tag, through, sets, sets_last, lands_as, env}
-use denote.Exit.{no, yes}
+use denote.Exit.{no}
 use denote.RattleType.{RattleType, owns}
-use denote.Builtin.{usize}
-use denote.Follow.{follows, follows_so, followed}
+use denote.Follow.{follows, followed}
 use denote.Laws.{Is, shows}
 use denote.Lend.{lends_again, comes_back, LentAgain}
 use denote.Param.{param, bounded, layouts, layout}
 use denote.Param.Laws.{Laws, param_laws}
-use denote.Plain.{uint_Makes, uint_Tells}
 use denote.Ref.{Bor, MutBor, MutRef, ShrRef, mut_vals, mut_Tells}
-use denote.Signature.{plain, types_at, mut_ref_to}
-use denote.Steps.{nothing, owned, heard, peeks}
+use denote.Signature.{plain, types_at}
+use denote.Steps.{nothing, heard, peeks}
 use denote.Struct.Tuple.{Tuple, tuple_laws}
 use denote.Triple.Call.{calls_at}
 use denote.Triple.Clauses.{Clauses, Ended, Lasts, ensured, lasts}
@@ -56,18 +52,18 @@ use Rattle.core.specs.contracts.result.Result as RS
 use Rattle.std_alloc.proofs.ResultValues.{and_tt}
 use Rattle.std.proofs.VecSteps.Shapes.{after}
 use Rattle.std.proofs.raw_atomic.Walks.{proved_at}
-use Rattle.std.specs.Prelude.{Result, Ok, Err, Some, None, IfOk, IfErr, OnOk, OnErr, option_map, slice_get}
+use Rattle.std.specs.Prelude.{Result, Ok, Err, None, IfOk, IfErr, OnOk, OnErr}
 use Rattle.std.specs.declared.cmp.Eq as Eq
 use Rattle.std.specs.declared.cmp.PartialEq as PartialEq
 use Rattle.starlark_hash.proofs.hashed.Hashed.TheLaws as hashed_laws
 use Rattle.starlark_hash.proofs.no_room.NoRoom.TheLaws as room_laws
-use Rattle.starlark_hash.specs.Entries.{pair_of, match_of}
+use Rattle.starlark_hash.specs.Entries.{match_of}
 use Rattle.starlark_hash.specs.HashValue.{key_of}
 use Rattle.starlark_hash.specs.contracts.hashed.Hashed as H
 use Rattle.starlark_hash.specs.contracts.no_room.NoRoom as N
 use Rattle.starlark_hash.specs.declared.hashed.Hashed.{Hashed}
 use Rattle.starlark_hash.specs.declared.no_room.NoRoom.{NoRoom}
-use Rattle.starlark_lent.specs.Map.{Map, with_value_at, IsInserted}
+use Rattle.starlark_lent.specs.Map.{Map, IsInserted}
 use Rattle.starlark_lent.specs.MapLending.{lends_inserted}
 use Rattle.starlark_lent.specs.contracts.small_map.SmallMap as S
 use Rattle.starlark_lent.specs.contracts.small_map.SmallMap.insert_hashed_unique_unchecked as g
@@ -206,7 +202,7 @@ module _ (K V : RattleType) (E : Eq.Ghosts K.Denot) (dE : Dict) (P : PartialEq.G
           group ! 3 $ move ! (1 ∷ 0 ∷ []) $ join ! $ use1 𝓛 (raw (Inserts.pre z)) (id⊢ 𝓤 _) $
           calls_at ! fm Inserts inserts z (and_then ! (get ! refl) (and_then ! (get ! refl) (and_then ! (get ! refl) (no_more !)))) (λ u.
           use1 𝓛 (later (some (λ (h : Got). ((‵ (flft ακ qq) ⊛ ‵ (flft κK qK) ⊛ ‵ (flft κV qV) ⊛ ‵ ftrue) ⊛ ‵ ((RS.the_row (Pair ακ) Back).own_val h (u ∷ [])))
-              ⊛ raw (ensured 𝓛 (g.ended K V E dE P dP) (g.clauses K V E dE P dP 𝓛 at_mem run) z.0.0 z.0.3 tt h)))) (id⊢ 𝓤 _) $ await ! tt $ pick ! (λ h. split ! $ move ! (1 ∷ []) $
+          ⊛ raw (ensured 𝓛 (g.ended K V E dE P dP) (g.clauses K V E dE P dP 𝓛 at_mem run) z.0.0 z.0.3 tt h)))) (id⊢ 𝓤 _) $ await ! tt $ pick ! (λ h. split ! $ move ! (1 ∷ []) $
           use1 𝓛 (‵ (lends_inserted K' V' P loan key h) ⊛ raw (fact 𝓤 (IfOk h (λ y. (y.0.now ≡ key_of key) × (y.1.now ≡ value)))) ⊛ raw (fact 𝓤 (IfErr h (λ y. y.0 ≡ (key, value))))) (ex_e 𝓤 _ (λ ws. snd∗ 𝓤 (sem 𝓛 (lasts (g.ended K V E dE P dP) z.0.0 z.0.3 ws)) _)) $ split3 ! $
           move ! (1 ∷ 2 ∷ []) $ heard ! (IfOk h (λ y. (y.0.now ≡ key_of key) × (y.1.now ≡ value))) (λ shown. heard ! (IfErr h (λ y. y.0 ≡ (key, value))) (λ back.
           move ! (1 ∷ []) $ split ! $ split3 ! $ move ! (2 ∷ []) $ split ! $ move ! (1 ∷ []) $ drop ! $ move ! (3 ∷ []) $
@@ -228,7 +224,7 @@ module _ (K V : RattleType) (E : Eq.Ghosts K.Denot) (dE : Dict) (P : PartialEq.G
                       nothing ! $ move ! (2 ∷ 0 ∷ []) $ join ! $ move ! (2 ∷ 0 ∷ []) $ join ! $ join ! $ nothing ! $ use0 𝓛 (raw (fact 𝓤 (κV ⊑ V.lives))) (fact_i 𝓤 _ (emp 𝓤) lV) $ join ! $ move ! (1 ∷ 0 ∷ []) $ join ! $ use1 𝓛 (raw (Puts.pre zP)) (id⊢ 𝓤 _) $
                       calls_at ! fm Puts puts zP (and_then ! (get ! refl) (and_then ! (get ! refl) (no_more !))) (λ c.
                       use1 𝓛 (later (some (λ (y : V.Denot). ((‵ (flft ακ qq) ⊛ ‵ (flft κV qV) ⊛ ‵ ftrue) ⊛ ‵ (V'.own_val y (c ∷ [])))
-                          ⊛ some (λ (ws : Lasts (p.ended V) zP.0.0 zP.0.3). ‵ (lasts (p.ended V) zP.0.0 zP.0.3 ws) ⊛ raw (fact 𝓤 (ws.0 ≡ next)) ⊛ raw (fact 𝓤 (y ≡ x.1.now)))))) (id⊢ 𝓤 _) $ await ! tt $ pick ! (λ y. split ! $ move ! (1 ∷ []) $ pick ! (λ ws.
+                      ⊛ some (λ (ws : Lasts (p.ended V) zP.0.0 zP.0.3). ‵ (lasts (p.ended V) zP.0.0 zP.0.3 ws) ⊛ raw (fact 𝓤 (ws.0 ≡ next)) ⊛ raw (fact 𝓤 (y ≡ x.1.now)))))) (id⊢ 𝓤 _) $ await ! tt $ pick ! (λ y. split ! $ move ! (1 ∷ []) $ pick ! (λ ws.
                       split3 ! $ move ! (1 ∷ 2 ∷ []) $ heard ! (ws.0 ≡ next) (λ is_next. heard ! (y ≡ x.1.now) (λ was_there. fsplit ! $ fsplit ! $
                       rewrite ! 0 (λ (t : V.Denot). ‵ (fres x.1.ghost_name (V'.coded.code t))) is_next refl $ move ! (3 ∷ []) $ split ! $ split3 ! $ move ! (3 ∷ []) $
                       peeks ! V' (Is V') (shows 𝓛 V') y (c ∷ []) (λ is_c. let c_good = good_value 𝓛 V' (param_laws 1 V LV) y c is_c in
@@ -261,12 +257,15 @@ module _ (K V : RattleType) (E : Eq.Ghosts K.Denot) (dE : Dict) (P : PartialEq.G
                 lands_as ! at_u.0 refl (and_tt _ at_u.1.0, (record { fits = lit< tt }, (at_u.1.1, tt))) $
                 first ! $ by_variants ! 26 (whole !) (get_tag ! (vrt ! refl (fld ! refl (stop !))) (whole !)) tt (
                   (λ e. absurd (suc-ne-zero 0 e)),
-                  ((λ _. sets ! (of_opd ! (get_in ! (vrt ! refl (fld ! refl (stop !))) (in_variant ! 1 0 refl refl (whole !)))) refl at_u.1 $
+                  (
+                    (λ _. sets ! (of_opd ! (get_in ! (vrt ! refl (fld ! refl (stop !))) (in_variant ! 1 0 refl refl (whole !)))) refl at_u.1 $
                         sets ! (of_opd ! (get ! refl)) refl at_u.1 $ sets ! (of_opd ! (get ! refl)) refl s_good $
                         sets ! (agg ! (and_then ! (get ! refl) (and_then ! (get ! refl) (no_more !)))) refl (both _ _ at_u.1.0 s_good.0, (at_u.1.1, (s_good.1, tt))) $
                         sets_last ! (agg ! (and_then ! (lit ! tt) (and_then ! (get ! refl) (no_more !)))) refl (and_tt _ (both _ _ at_u.1.0 s_good.0), (record { fits = lit< tt }, ((at_u.1.1, (s_good.1, tt)), tt))) $
                         exec ! C Λ En (after 5 (here).body) (at_ret En Post) $ sets ! (of_opd ! (get ! refl)) refl (and_tt _ (both _ _ at_u.1.0 s_good.0), (record { fits = lit< tt }, ((at_u.1.1, (s_good.1, tt)), tt))) $
-                        returns ! (look_at ! 0 refl) $ free_all ! refl $ keep ! (2 ∷ 5 ∷ 1 ∷ 0 ∷ 4 ∷ 3 ∷ []) $ by ! (gives_err w.0 ev n back' same)), tt),
+                        returns ! (look_at ! 0 refl) $ free_all ! refl $ keep ! (2 ∷ 5 ∷ 1 ∷ 0 ∷ 4 ∷ 3 ∷ []) $ by ! (gives_err w.0 ev n back' same)),
+                    tt,
+                  ),
                 )))))
           ]))))))))))
 

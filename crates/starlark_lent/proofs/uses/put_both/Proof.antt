@@ -1,5 +1,5 @@
 -- `put_both` meets its contract, at any two item types: the list is lent to the call, both references are written by calls, and what they end as gives the list back. Assumes `Logic`.
-use mathlib.Core.Path.{◌≡◌, refl, sym, ap, subst, ◌∙◌}
+use mathlib.Core.Path.{◌≡◌, refl, sym, subst, ◌∙◌}
 use Prim.Native.Nat.{ℕ, ◌<◌, ◌^◌}
 use mathlib.Core.Bool.{Bool, true, false, ◌&&◌}
 use mathlib.Core.List.{List, [], ◌∷◌}
@@ -39,7 +39,7 @@ use denote.Param.{param, layouts, layout}
 use denote.Param.Laws.{Laws, param_laws}
 use denote.Plain.{uint_Makes, uint_Tells}
 use denote.Ref.{MutBor, MutRef, mut_vals, mut_Tells}
-use denote.Signature.{plain, types_at, mut_ref_to}
+use denote.Signature.{plain, types_at}
 use denote.Steps.{nothing, owned, heard, peeks}
 use denote.Struct.Tuple.{Tuple}
 use denote.Triple.Call.{calls_at}
@@ -161,7 +161,7 @@ module _ (A B : RattleType) where
           group ! 3 $ move ! (1 ∷ 0 ∷ []) $ join ! $ use1 𝓛 (raw (Lends.pre z)) (id⊢ 𝓤 _) $
           calls_at ! fm Lends lends z (and_then ! (get ! refl) (and_then ! (get ! refl) (no_more !))) (λ u.
           use1 𝓛 (later (some (λ (x : MutBor A.Denot × MutBor B.Denot). ((‵ (flft ακ qq) ⊛ ‵ (flft κA qA) ⊛ ‵ (flft κB qB) ⊛ ‵ ftrue) ⊛ ‵ ((PairOf A' B' ακ).own_val x (u ∷ [])))
-              ⊛ raw (ensured 𝓛 (g.ended A B) (g.clauses A B 𝓛 at_mem run) z.0.0 z.0.3 tt x)))) (id⊢ 𝓤 _) $ await ! tt $ pick ! (λ x. split ! $ move ! (1 ∷ []) $
+          ⊛ raw (ensured 𝓛 (g.ended A B) (g.clauses A B 𝓛 at_mem run) z.0.0 z.0.3 tt x)))) (id⊢ 𝓤 _) $ await ! tt $ pick ! (λ x. split ! $ move ! (1 ∷ []) $
           use1 𝓛 (‵ (follows_both R A' B' δ x.0.ghost_name x.1.ghost_name (λ y y'. with_pair v i (y, y'))) ⊛ raw (fact 𝓤 (slice_get v.pairs i ≡ Some (x.0.now, x.1.now)))) (ex_e 𝓤 _ (λ ws. snd∗ 𝓤 (sem 𝓛 (lasts (g.ended A B) z.0.0 z.0.3 ws)) _)) $ split ! $
           move ! (1 ∷ []) $ heard ! (slice_get v.pairs i ≡ Some (x.0.now, x.1.now)) (λ read. move ! (1 ∷ []) $ split ! $ move ! (1 ∷ []) $
           use1 𝓛 (given (u ≡ pair_val x) (‵ ((MutRef (named 0) ακ A').own_val x.0 (mut_vals x.0)) ⊛ ‵ ((MutRef (named 0) ακ B').own_val x.1 (mut_vals x.1)))) (pair_opened 𝓛 A' B' ακ x u) $ learn ! (λ at_u. split ! $
@@ -175,7 +175,7 @@ module _ (A B : RattleType) where
           nothing ! $ move ! (5 ∷ 0 ∷ []) $ join ! $ move ! (4 ∷ 0 ∷ []) $ join ! $ join ! $ nothing ! $ use0 𝓛 (raw (fact 𝓤 (κA ⊑ A.lives))) (fact_i 𝓤 _ (emp 𝓤) lA) $ join ! $ move ! (1 ∷ 0 ∷ []) $ join ! $ use1 𝓛 (raw ((Puts A).pre zA)) (id⊢ 𝓤 _) $
           calls_at ! fm (Puts A) puts zA (and_then ! (get ! refl) (and_then ! (get ! refl) (no_more !))) (λ c.
           use1 𝓛 (later (some (λ (y : A.Denot). ((‵ (flft ακ qq) ⊛ ‵ (flft κA qA) ⊛ ‵ ftrue) ⊛ ‵ (A'.own_val y (c ∷ [])))
-              ⊛ some (λ (ws : Lasts (p.ended A) zA.0.0 zA.0.3). ‵ (lasts (p.ended A) zA.0.0 zA.0.3 ws) ⊛ raw (fact 𝓤 (ws.0 ≡ first)) ⊛ raw (fact 𝓤 (y ≡ x.0.now)))))) (id⊢ 𝓤 _) $ await ! tt $ pick ! (λ y. split ! $ move ! (1 ∷ []) $ pick ! (λ ws.
+          ⊛ some (λ (ws : Lasts (p.ended A) zA.0.0 zA.0.3). ‵ (lasts (p.ended A) zA.0.0 zA.0.3 ws) ⊛ raw (fact 𝓤 (ws.0 ≡ first)) ⊛ raw (fact 𝓤 (y ≡ x.0.now)))))) (id⊢ 𝓤 _) $ await ! tt $ pick ! (λ y. split ! $ move ! (1 ∷ []) $ pick ! (λ ws.
           split3 ! $ move ! (1 ∷ 2 ∷ []) $ heard ! (ws.0 ≡ first) (λ is_first. heard ! (y ≡ x.0.now) (λ was_first. fsplit ! $ fsplit ! $
           rewrite ! 0 (λ (t : A.Denot). ‵ (fres x.0.ghost_name (A'.coded.code t))) is_first refl $ move ! (3 ∷ []) $ split ! $ split3 ! $ move ! (3 ∷ []) $
           peeks ! A' (Is A') (shows 𝓛 A') y (c ∷ []) (λ is_c. let c_good = good_value 𝓛 A' (param_laws 0 A LA) y c is_c in
@@ -188,7 +188,7 @@ module _ (A B : RattleType) where
           nothing ! $ move ! (6 ∷ 0 ∷ []) $ join ! $ move ! (3 ∷ 0 ∷ []) $ join ! $ join ! $ nothing ! $ use0 𝓛 (raw (fact 𝓤 (κB ⊑ B.lives))) (fact_i 𝓤 _ (emp 𝓤) lB) $ join ! $ move ! (1 ∷ 0 ∷ []) $ join ! $ use1 𝓛 (raw ((Puts B).pre zB)) (id⊢ 𝓤 _) $
           calls_at ! fm (Puts B) puts' zB (and_then ! (get ! refl) (and_then ! (get ! refl) (no_more !))) (λ d.
           use1 𝓛 (later (some (λ (y' : B.Denot). ((‵ (flft ακ qq) ⊛ ‵ (flft κB qB) ⊛ ‵ ftrue) ⊛ ‵ (B'.own_val y' (d ∷ [])))
-              ⊛ some (λ (ws : Lasts (p.ended B) zB.0.0 zB.0.3). ‵ (lasts (p.ended B) zB.0.0 zB.0.3 ws) ⊛ raw (fact 𝓤 (ws.0 ≡ second)) ⊛ raw (fact 𝓤 (y' ≡ x.1.now)))))) (id⊢ 𝓤 _) $ await ! tt $ pick ! (λ y'. split ! $ move ! (1 ∷ []) $ pick ! (λ ws'.
+          ⊛ some (λ (ws : Lasts (p.ended B) zB.0.0 zB.0.3). ‵ (lasts (p.ended B) zB.0.0 zB.0.3 ws) ⊛ raw (fact 𝓤 (ws.0 ≡ second)) ⊛ raw (fact 𝓤 (y' ≡ x.1.now)))))) (id⊢ 𝓤 _) $ await ! tt $ pick ! (λ y'. split ! $ move ! (1 ∷ []) $ pick ! (λ ws'.
           split3 ! $ move ! (1 ∷ 2 ∷ []) $ heard ! (ws'.0 ≡ second) (λ is_second. heard ! (y' ≡ x.1.now) (λ was_second. fsplit ! $ fsplit ! $
           rewrite ! 0 (λ (t : B.Denot). ‵ (fres x.1.ghost_name (B'.coded.code t))) is_second refl $ move ! (3 ∷ []) $ split ! $ split3 ! $ move ! (3 ∷ []) $
           peeks ! B' (Is B') (shows 𝓛 B') y' (d ∷ []) (λ is_d. let d_good = good_value 𝓛 B' (param_laws 1 B LB) y' d is_d in

@@ -1,5 +1,5 @@
 -- `insert_hashed_unique_unchecked` meets its contract, at any key and value types: the map is lent to the call that puts the entry at the end and comes back, and is then lent for good to the call that shows it. Assumes `Logic`.
-use mathlib.Core.Path.{◌≡◌, refl, sym, ap, subst, ◌∙◌}
+use mathlib.Core.Path.{◌≡◌, refl, sym, subst}
 use mathlib.Core.Logic.{inl, inr}
 use Prim.Native.Nat.{ℕ, ◌<◌, ◌^◌}
 use native.Mathlib.Nat.{suc-ne-zero}
@@ -10,29 +10,29 @@ use seplogic.Ra.Ura.{Ura}
 use base.Fraction.{full_share}
 use base.FractionLaws.{common}
 use base.Share
-use mir.Syntax.{Fn, Args, Dict, Ty, a_type, dcons, dnil, named, w64}
+use mir.Syntax.{Fn, Args, Dict, a_type, dcons, dnil, named, w64}
 use mir.MapTy.{inst_fn}
 use mir.Val.{Val, vint, vptr, vcons, vnil, of_list}
 use base.Logic.{SProp, ent, sep, emp, wand, id⊢, apply∗, ex_e, snd∗}
-use base.Fml.{Lft, GName, Share, ftrue, fdead, fsep, flft, fres}
+use base.Fml.{Lft, GName, Share, ftrue, fdead, flft, fres}
 use prog.Memory.{Memory}
 use prog.Routine.{Routine}
-use prog.Wp.{Env, Calls, Loops, WpFn, Tables}
+use prog.Wp.{Env, Calls, Loops, WpFn}
 use types.Logic.{Logic, sem}
 use types.Match.{live, vrt, in_variant, by_variants}
 use types.Tokens.{lft_new, lft_end, lft-common}
 use contract.BorrowLft.{◌⊑◌, ⊑_trans, meet_⊑_left, meet_⊑_right}
 use contract.Monad.{Fun, fact, fact_i}
-use contract.Running.{tables, tables_of}
+use contract.Running.{tables}
 use sound.WpLaws.{FmC}
 use types.Kit.{‵, raw, ◌⊛◌, some, given, later, at_ret, ◌$◌, ◌∵◌, !, qed, move, keep, drop, use0, use1, use2, use3, split, split3, join, pick, learn, fsplit, fsplit3, fjoin, suffices, frame, await, rewrite, group, done}
 use types.Part.{whole, agg}
 use types.Run.{stop, fld, addr, lit, of_opd, and_then, no_more, first, exec, returns, enter}
 use types.ByLocal.{alloc_all, pass_all, free_all, look_at, get, get_in, get_tag, through, sets, sets_last, lands_as, env}
-use denote.Exit.{no, yes}
+use denote.Exit.{no}
 use denote.RattleType.{RattleType, owns}
 use denote.Builtin.{usize}
-use denote.Follow.{follows, follows_so}
+use denote.Follow.{follows}
 use denote.Lend.{lends_again, comes_back, LentAgain}
 use denote.Param.{param, bounded, layout}
 use denote.Param.Laws.{Laws, param_laws}
@@ -164,15 +164,23 @@ module _ (K V : RattleType) (E : Eq.Ghosts K.Denot) (dE : Dict) (P : PartialEq.G
           move ! (2 ∷ 3 ∷ []) $ use2 𝓛 (‵ (flft ακ qq) ⊛ raw (wand 𝓤 (A.lft ακ qq) (sep 𝓤 (A.lft (α ∷ []) full_share) (A.lft κ qr)))) (lft-common 𝓛 (α ∷ []) κ full_share qr) $ split ! $
           -- [the token of ακ; its way back; the loan; what the lender keeps; κK; κV; the key; the value]
           let loan : MutBor (Map K.Denot V.Denot) = record r { ghost_name = δ } in
-          let z : Puts.Ghost = (((ακ, (κK, (κV, tt))), (qq, (qK, (qV, tt))), (⊑_trans ακ κ κK (meet_⊑_right (α ∷ []) κ) bounds.0, (⊑_trans ακ κ κV (meet_⊑_right (α ∷ []) κ) bounds.1.0, tt)),
-              (loan, (key, (value, tt))), (mut_vals loan, (k ∷ [], (v ∷ [], tt)))), tt) in
+          let z : Puts.Ghost = (
+            (
+              (ακ, (κK, (κV, tt))),
+              (qq, (qK, (qV, tt))),
+              (⊑_trans ακ κ κK (meet_⊑_right (α ∷ []) κ) bounds.0, (⊑_trans ακ κ κV (meet_⊑_right (α ∷ []) κ) bounds.1.0, tt)),
+              (loan, (key, (value, tt))),
+              (mut_vals loan, (k ∷ [], (v ∷ [], tt))),
+            ),
+            tt,
+          ) in
           nothing ! $ move ! (8 ∷ 0 ∷ []) $ fjoin ! $ move ! (7 ∷ 0 ∷ []) $ fjoin ! $ move ! (3 ∷ 0 ∷ []) $ fjoin ! $
           nothing ! $ move ! (6 ∷ 0 ∷ []) $ join ! $ move ! (5 ∷ 0 ∷ []) $ join ! $ move ! (2 ∷ 0 ∷ []) $ join ! $ join ! $
           use0 𝓛 (raw (fact 𝓤 (match_of eq m.entries key ≡ None))) (fact_i 𝓤 _ (emp 𝓤) absent) $ use0 𝓛 (raw (fact 𝓤 (κV ⊑ V.lives))) (fact_i 𝓤 _ (emp 𝓤) lV) $ use0 𝓛 (raw (fact 𝓤 (κK ⊑ K.lives))) (fact_i 𝓤 _ (emp 𝓤) lK) $
           group ! 3 $ move ! (1 ∷ 0 ∷ []) $ join ! $ use1 𝓛 (raw (Puts.pre z)) (id⊢ 𝓤 _) $
           calls_at ! fm Puts puts z (and_then ! (get ! refl) (and_then ! (get ! refl) (and_then ! (get ! refl) (no_more !)))) (λ u.
           use1 𝓛 (later (some (λ (g : Result ℕ (NoRoom (Hashed K.Denot × V.Denot))). ((‵ (flft ακ qq) ⊛ ‵ (flft κK qK) ⊛ ‵ (flft κV qV) ⊛ ‵ ftrue) ⊛ ‵ ((RS.the_row usize Back).own_val g (u ∷ [])))
-              ⊛ some (λ (ws : Lasts Putting (z.0.0) z.0.3). ‵ (lasts Putting z.0.0 z.0.3 ws) ⊛ raw (fact 𝓤 (IfOk g (λ i. i ≡ length m.entries))) ⊛ raw (fact 𝓤 (OnOk g (IsInserted m key value ws.0))) ⊛ raw (fact 𝓤 (OnErr g (ws.0 ≡ m))) ⊛ raw (fact 𝓤 (IfErr g (λ x. x.0 ≡ (key, value)))))))) (id⊢ 𝓤 _) $ await ! tt $
+          ⊛ some (λ (ws : Lasts Putting (z.0.0) z.0.3). ‵ (lasts Putting z.0.0 z.0.3 ws) ⊛ raw (fact 𝓤 (IfOk g (λ i. i ≡ length m.entries))) ⊛ raw (fact 𝓤 (OnOk g (IsInserted m key value ws.0))) ⊛ raw (fact 𝓤 (OnErr g (ws.0 ≡ m))) ⊛ raw (fact 𝓤 (IfErr g (λ x. x.0 ≡ (key, value)))))))) (id⊢ 𝓤 _) $ await ! tt $
           pick ! (λ g. split ! $ move ! (1 ∷ []) $ pick ! (λ ws. split ! $ fsplit ! $ fsplit ! $ move ! (3 ∷ []) $ split3 ! $
           heard ! (IfOk g (λ i. i ≡ length m.entries)) (λ at_end. heard ! (OnOk g (IsInserted m key value ws.0)) (λ put. split ! $ heard ! (OnErr g (ws.0 ≡ m)) (λ same. heard ! (IfErr g (λ x. x.0 ≡ (key, value))) (λ back.
           let mm : Map K.Denot V.Denot = ws.0 in let self : MutBor (Map K.Denot V.Denot) = record r { now = mm } in
@@ -203,7 +211,7 @@ module _ (K V : RattleType) (E : Eq.Ghosts K.Denot) (dE : Dict) (P : PartialEq.G
                       group ! 3 $ move ! (1 ∷ 0 ∷ []) $ join ! $ use1 𝓛 (raw (Shows.pre z2)) (id⊢ 𝓤 _) $
                       calls_at ! fm Shows shows z2 (and_then ! (get ! refl) (and_then ! (get ! refl) (no_more !))) (λ t.
                       use1 𝓛 (later (some (λ (x : Bor K.Denot × MutBor V.Denot). ((‵ (flft κ q) ⊛ ‵ (flft κK qK) ⊛ ‵ (flft κV qV) ⊛ ‵ ftrue) ⊛ ‵ ((Pair κ).own_val x (t ∷ [])))
-                          ⊛ raw (ensured 𝓛 (e.ended K V E dE P dP) (e.clauses K V E dE P dP 𝓛 at_mem run) z2.0.0 z2.0.3 tt x)))) (id⊢ 𝓤 _) $ await ! tt $ pick ! (λ x. split ! $ move ! (1 ∷ []) $
+                      ⊛ raw (ensured 𝓛 (e.ended K V E dE P dP) (e.clauses K V E dE P dP 𝓛 at_mem run) z2.0.0 z2.0.3 tt x)))) (id⊢ 𝓤 _) $ await ! tt $ pick ! (λ x. split ! $ move ! (1 ∷ []) $
                       use1 𝓛 (‵ (follows R V' γ x.1.ghost_name (with_value_at mm i)) ⊛ raw (fact 𝓤 (option_map pair_of (slice_get mm.entries i) ≡ Some (x.0.now, x.1.now)))) (ex_e 𝓤 _ (λ ws. snd∗ 𝓤 (sem 𝓛 (lasts (e.ended K V E dE P dP) z2.0.0 z2.0.3 ws)) _)) $ split ! $
                       move ! (1 ∷ []) $ heard ! (option_map pair_of (slice_get mm.entries i) ≡ Some (x.0.now, x.1.now)) (λ read. move ! (1 ∷ []) $ split ! $ move ! (1 ∷ []) $
                       let ev : Val = entry_val 𝓛 K' V' κ x t in let out : Out = Ok x in
@@ -234,7 +242,8 @@ module _ (K V : RattleType) (E : Eq.Ghosts K.Denot) (dE : Dict) (P : PartialEq.G
                 lands_as ! at_u.0 refl stored $
                 first ! $ by_variants ! 19 (whole !) (get_tag ! (vrt ! refl (fld ! refl (stop !))) (whole !)) tt (
                   (λ e. absurd (suc-ne-zero 0 e)),
-                  ((λ _. sets ! (of_opd ! (get_in ! (vrt ! refl (fld ! refl (stop !))) (in_variant ! 1 0 refl refl (whole !)))) refl at_u.1 $
+                  (
+                    (λ _. sets ! (of_opd ! (get_in ! (vrt ! refl (fld ! refl (stop !))) (in_variant ! 1 0 refl refl (whole !)))) refl at_u.1 $
                         sets ! (of_opd ! (get ! refl)) refl at_u.1 $
                         sets_last ! (agg ! (and_then ! (lit ! tt) (and_then ! (get ! refl) (no_more !)))) refl (and_tt _ at_u.1.0, (record { fits = lit< tt }, (at_u.1.1, tt))) $
                         exec ! C Λ En (after 5 (here).body) (at_ret En Post) $ sets ! (of_opd ! (get ! refl)) refl (and_tt _ at_u.1.0, (record { fits = lit< tt }, (at_u.1.1, tt))) $
@@ -247,7 +256,9 @@ module _ (K V : RattleType) (E : Eq.Ghosts K.Denot) (dE : Dict) (P : PartialEq.G
                         nothing ! $ move ! (4 ∷ 0 ∷ []) $ join ! $ move ! (4 ∷ 0 ∷ []) $ join ! $ move ! (3 ∷ 0 ∷ []) $ join ! $ join ! $ frame ! $
                         use0 𝓛 (raw (fact 𝓤 (IfErr out (λ x. x.0 ≡ (key, value))))) (fact_i 𝓤 _ (emp 𝓤) back') $
                         use0 𝓛 (raw (fact 𝓤 (IfOk out (λ p. (p.0.now ≡ key_of key) × (p.1.now ≡ value))))) (fact_i 𝓤 _ (emp 𝓤) tt) $
-                        move ! (2 ∷ 0 ∷ 1 ∷ []) $ done !), tt),
+                        move ! (2 ∷ 0 ∷ 1 ∷ []) $ done !),
+                    tt,
+                  ),
                 )))
           ])))))))))))))
 

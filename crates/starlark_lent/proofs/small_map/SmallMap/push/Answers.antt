@@ -1,8 +1,6 @@
-use Rattle.std.proofs.Common.{◌≡◌, None, Ok, Err, Result, List, ℕ, Bool, sym, subst}
-use Rattle.std.specs.Prelude.{OnOk, OnErr}
-use Rattle.starlark_hash.specs.Entries.{Entry, IsSingle, match_of}
+use Rattle.std.proofs.Common.{◌≡◌, None, sym, subst}
+use Rattle.starlark_hash.specs.Entries.{IsSingle, match_of}
 use Rattle.starlark_hash.proofs.EntryLemmas.{IsSingle-push}
-use Rattle.starlark_lent.specs.EntryList.{entry_list}
 use Rattle.starlark_lent.proofs.small_map.SmallMap.push.Goals as goal
 
 pub invariant_of-self : goal.invariant_of-self

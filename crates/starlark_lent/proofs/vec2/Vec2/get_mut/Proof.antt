@@ -2,7 +2,7 @@
 use mathlib.Core.Path.{◌≡◌, refl, sym, ap, subst, ◌∙◌}
 use native.Mathlib.Omega.{arith}
 use Prim.Native.Nat.{ℕ, ◌+◌, ◌<◌, ◌^◌}
-use mathlib.Core.List.{List, [], ◌∷◌, ◌++◌}
+use mathlib.Core.List.{List, [], ◌∷◌}
 use lib.ListN.{length, length-set}
 use seplogic.Ra.Ura.{Ura}
 use base.Fraction.{full_share}
@@ -11,23 +11,20 @@ use mir.MapTy.{inst_fn}
 use mir.Val.{Val, vint, vptr, vcons, vnil, of_list}
 use base.Share
 use base.Logic.{SProp, ent, sep, emp, id⊢, ex_e, snd∗}
-use base.Fml.{Lft, GName, Share, ftrue, fsep, flft, fauth, fobs, fres}
-use ghost.Rules.{aged}
+use base.Fml.{Lft, Share, ftrue, fsep, flft, fauth, fres}
 use prog.Memory.{Memory}
 use prog.Routine.{Routine}
 use prog.Wp.{Calls, Loops, WpFn, Tables}
-use types.Follow.{after₂}
 use types.Late.{ages, bor_new_deep}
 use types.Logic.{Logic, sem}
 use types.Mut.{open_ref}
-use types.SemTy.{Body}
 use types.Tokens.{name_new}
 use contract.BorrowLft.{◌⊑◌}
 use contract.Monad.{Fun, fact, fact_i}
 use contract.Running.{tables, tables_of}
 use sound.WpLaws.{FmC, fm_of, WpFn-mono}
 use types.Part.{whole, agg}
-use types.Kit.{learn, given, at_ret, rewrite, ‵, raw, ◌⊛◌, some, later, ◌$◌, ◌∵◌, !, qed, by, move, keep, use0, use1, use2, drop, split, split3, join, pick, fsplit, fsplit3, fjoin, fjoin3, fpack, fpick, feq_i, feq_l, suffices, frame, await, group, done}
+use types.Kit.{learn, given, at_ret, rewrite, ‵, raw, ◌⊛◌, some, later, ◌$◌, ◌∵◌, !, qed, by, move, keep, use0, use1, use2, drop, split, split3, join, pick, fsplit3, fjoin, fjoin3, fpack, feq_i, feq_l, suffices, frame, await, group, done}
 use types.Run.{stop, fld, addr, lit, of_opd, and_then, no_more, first, exec, returns, enter}
 use types.ByLocal.{alloc_all, pass_all, free_all, look_at, get, get_in, get_tag, through, sets, sets_last, lands_as, env}
 use denote.Exit.{yes, no}
@@ -40,9 +37,7 @@ use denote.Param.Laws.{Laws, param_laws}
 use denote.Plain.{uint_vals, uint_Tells, uint_Makes}
 use denote.Ref.{MutBor, MutRef, mut_vals, mut_Tells}
 use denote.Signature.{plain, types_at, mut_ref_to}
-use denote.Laws.{Is, shows}
-use denote.Steps.{nothing, owned, heard, only, peeks}
-use denote.Struct.Tuple.{Tuple}
+use denote.Steps.{nothing, owned, heard, only}
 use denote.Triple.Call.{calls_at}
 use denote.Triple.Clauses.{Clauses, Ended, closing, ensured, lasts}
 use denote.Triple.Spec.{Meets, triple_of}
@@ -51,16 +46,12 @@ use denote.Triple.Table.{entered}
 use denote.Triple.Walked.{says, Stays, stay_dropped, walk_of, ends_at, walked, walk_Meets, Goes-dropped, Goes-spent_ref}
 use Rattle.std.specs.Prelude.{slice_index_or, slice_get}
 use Rattle.std.specs.declared.option.Option.TheVariants.{Some, None}
-use denote.RattleType.{Valss}
-use denote.Struct.Declared.{shape}
-use denote.Struct.Struct.{within}
-use denote.Struct.Tuple.{tuple_type}
 use Rattle.std.specs.Vec.{with_item}
 use Rattle.starlark_lent.specs.Columns.{column}
 use Rattle.starlark_lent.specs.Lending.{with_pair, lends_both_if}
 use Rattle.starlark_lent.specs.PairList.{PairList, pair_list}
 use Rattle.starlark_lent.proofs.BothClose.{closes_both, closes_unchanged}
-use Rattle.starlark_lent.proofs.Zip.{zip_count, zip_set_both, zip_some, zip_none}
+use Rattle.starlark_lent.proofs.Zip.{zip_set_both, zip_some, zip_none}
 use Rattle.starlark_lent.proofs.Vec2Open.{V, D, Known, Rest, Cuts, eA, eB, cut, shut}
 use Rattle.starlark_lent.specs.contracts.vec2.Vec2.get_mut as F
 use Rattle.starlark_lent.specs.contracts.vec2.Vec2.get_mut.Key.{name as #self}
@@ -78,7 +69,6 @@ use Rattle.core.specs.contracts.option.Option as OP
 use Rattle.core.specs.Option.{ghost_name_of, option_copied_mut}
 use Rattle.std.proofs.VecSteps.Shapes.{after}
 use Rattle.std.specs.declared.option.Option.{Option}
-use Rattle.std.specs.Option.{option_map}
 use mathlib.Core.Logic.{inl, inr}
 use native.Mathlib.Nat.{suc-ne-zero}
 use lib.Dec.{lit<}
@@ -118,8 +108,7 @@ module _ (A B : RattleType) where
 
   written_known : (v : W.Denot) (d : D A' B') (i : ℕ) (x : A.Denot) (y : B.Denot) → Known A' B' v d → Known A' B' (with_pair v i (x, y)) (written d i x y)
   written_known v d i x y k =
-      let lx = length-set d.firsts.items i x in let ly = length-set d.seconds.items i y in
-      (
+      let lx = length-set d.firsts.items i x in let ly = length-set d.seconds.items i y in (
         ap (λ ps. pair_list ps d.capacity) (zip_set_both d.firsts.items d.seconds.items i x y) ∙ ap (λ u. with_pair u i (x, y)) k.0,
         (lx ∙ k.1.0 ∙ sym ly, omega (arith, lx, k.1.1), k.1.2, k.1.3),
       )
@@ -255,10 +244,13 @@ module _ (A B : RattleType) where
                 lands_as ! at_u refl (tt, (record { fits = lit< tt }, tt)) $
                 first ! $ by_variants ! 16 (whole !) (get_tag ! (vrt ! refl (fld ! refl (stop !))) (whole !)) tt (
                   (λ e. absurd (suc-ne-zero 0 (sym e))),
-                  ((λ _. sets_last ! (agg ! (and_then ! (lit ! tt) (no_more !))) refl (tt, (record { fits = lit< tt }, tt)) $
+                  (
+                    (λ _. sets_last ! (agg ! (and_then ! (lit ! tt) (no_more !))) refl (tt, (record { fits = lit< tt }, tt)) $
                         exec ! C Λ En (after 3 (here).body) (at_ret En Post) $ sets ! (of_opd ! (get ! refl)) refl (tt, (record { fits = lit< tt }, tt)) $
                         returns ! (look_at ! 0 refl) $ free_all ! refl $
-                        by ! (gives_none (subst (λ (m : PairList A.Denot B.Denot). slice_get m.pairs i ≡ None) d'.1.0 (zip_none xs.items ys.items i (found ∙ ap option_copied_mut w))))), tt),
+                        by ! (gives_none (subst (λ (m : PairList A.Denot B.Denot). slice_get m.pairs i ≡ None) d'.1.0 (zip_none xs.items ys.items i (found ∙ ap option_copied_mut w))))),
+                    tt,
+                  ),
                 ))
           ]))))))))))
 

@@ -10,23 +10,20 @@ use mir.Syntax.{Fn, Args, a_type, named, w64}
 use mir.MapTy.{inst_fn}
 use mir.Val.{Val, vint, vptr, vstruct, vcons, vnil, of_list}
 use base.Share
-use base.Logic.{SProp, ent, sep, emp, id⊢, ex_e, snd∗}
-use base.Fml.{Lft, GName, Share, ftrue, fsep, flft, fauth, fobs}
-use ghost.Rules.{aged}
+use base.Logic.{SProp, ent, emp, id⊢, ex_e, snd∗}
+use base.Fml.{Lft, Share, ftrue, fsep, flft, fauth}
 use prog.Memory.{Memory}
 use prog.Routine.{Routine}
 use prog.Wp.{Calls, Loops, WpFn, Tables}
-use types.Follow.{after₂}
 use types.Late.{ages, bor_new_deep}
 use types.Logic.{Logic, sem}
 use types.Mut.{open_ref}
-use types.SemTy.{Body}
 use types.Tokens.{name_new}
 use contract.BorrowLft.{◌⊑◌}
 use contract.Monad.{Fun, fact, fact_i}
 use contract.Running.{tables, tables_of}
 use sound.WpLaws.{FmC, fm_of, WpFn-mono}
-use types.Kit.{‵, raw, ◌⊛◌, some, later, ◌$◌, ◌∵◌, !, qed, by, move, keep, use0, use1, use2, drop, split, split3, join, pick, fsplit, fsplit3, fjoin, fjoin3, fpack, fpick, feq_i, feq_l, suffices, frame, await, group, done}
+use types.Kit.{‵, raw, ◌⊛◌, some, later, ◌$◌, ◌∵◌, !, qed, move, keep, use0, use1, use2, drop, split, split3, join, pick, fsplit, fsplit3, fjoin, fjoin3, fpack, fpick, feq_i, feq_l, suffices, frame, await, group, done}
 use types.Run.{stop, fld, addr, and_then, no_more, returns, enter}
 use types.ByLocal.{alloc_all, pass_all, free_all, look_at, get, through, sets, lands_as}
 use denote.Exit.{yes, no}
@@ -39,8 +36,7 @@ use denote.Param.Laws.{Laws, param_laws}
 use denote.Plain.{uint_vals, uint_Tells, uint_Makes}
 use denote.Ref.{MutBor, MutRef, mut_vals, mut_Tells}
 use denote.Signature.{plain, types_at, mut_ref_to}
-use denote.Laws.{Is, shows}
-use denote.Steps.{nothing, owned, heard, only, peeks}
+use denote.Steps.{nothing, owned, heard, only}
 use denote.Struct.Tuple.{Tuple}
 use denote.Triple.Call.{calls_at}
 use denote.Triple.Clauses.{Clauses, Ended, closing, ensured, lasts}
@@ -50,11 +46,8 @@ use denote.Triple.Table.{entered}
 use denote.Triple.Walked.{says, Stays, stay_dropped, walk_of, ends_at, walked, walk_Meets, Goes-dropped, Goes-spent_ref}
 use Rattle.std.specs.Prelude.{slice_index_or, slice_get}
 use Rattle.std.specs.declared.option.Option.TheVariants.{Some}
-use denote.RattleType.{Valss}
-use denote.Struct.Declared.{shape}
-use denote.Struct.Struct.{within}
-use denote.Struct.Tuple.{tuple_type}
 use Rattle.std.specs.Vec.{with_item}
+use Rattle.starlark_lent.proofs.LentInResult.{as_tuple}
 use Rattle.starlark_lent.specs.Columns.{column}
 use Rattle.starlark_lent.specs.Lending.{with_pair}
 use Rattle.starlark_lent.specs.PairList.{PairList, pair_list}
@@ -68,12 +61,6 @@ use Rattle.starlark_lent.proofs.columns.lend_columns.Symbol.{name as #lend}
 use Rattle.starlark_lent.proofs.columns.lend_columns.Met as lend
 use Rattle.starlark_lent.proofs.vec2.Vec2.get_unchecked_mut.Statement as stated
 use Rattle.starlark_lent.proofs.vec2.Vec2.get_unchecked_mut.Code as code
-
-pair_of : {M : Type 1} {𝓤 : Ura M} (𝓛 : Logic 𝓤) (R S : RattleType) (x : R.Denot) (y : S.Denot) (u v : Val)
-    → ent 𝓤 (sep 𝓤 (sem 𝓛 (R.own_val x (u ∷ []))) (sem 𝓛 (S.own_val y (v ∷ [])))) (sem 𝓛 ((Tuple (R ∷ S ∷ [])).own_val (x, y) (vstruct (vcons u (vcons v vnil)) ∷ [])))
-pair_of 𝓛 R S x y u v =
-    qed 𝓛 (‵ (R.own_val x (u ∷ [])) ∷ ‵ (S.own_val y (v ∷ [])) ∷ []) ∵ nothing ! $ move ! (2 ∷ 0 ∷ []) $ fjoin ! $ move ! (1 ∷ 0 ∷ []) $ fjoin ! $ feq_i ! (List Val) (vstruct (vcons u (vcons v vnil)) ∷ []) (vstruct (vcons u (vcons v vnil)) ∷ []) refl $ fjoin ! $
-    fpack ! (Valss (R ∷ S ∷ [])) (within (shape (tuple_type (R ∷ S ∷ []))) (x, (y, tt)) (vstruct (vcons u (vcons v vnil)) ∷ [])) (u ∷ [], (v ∷ [], tt)) $ done !
 
 module _ (A B : RattleType) where
   abbrev args : Args
@@ -106,8 +93,7 @@ module _ (A B : RattleType) where
 
   written_known : (v : W.Denot) (d : D A' B') (i : ℕ) (x : A.Denot) (y : B.Denot) → Known A' B' v d → Known A' B' (with_pair v i (x, y)) (written d i x y)
   written_known v d i x y k =
-      let lx = length-set d.firsts.items i x in let ly = length-set d.seconds.items i y in
-      (
+      let lx = length-set d.firsts.items i x in let ly = length-set d.seconds.items i y in (
         ap (λ ps. pair_list ps d.capacity) (zip_set_both d.firsts.items d.seconds.items i x y) ∙ ap (λ u. with_pair u i (x, y)) k.0,
         (lx ∙ k.1.0 ∙ sym ly, omega (arith, lx, k.1.1), k.1.2, k.1.3),
       )
@@ -178,7 +164,7 @@ module _ (A B : RattleType) where
           fpick ! (λ vss. fsplit ! $ feq_l ! (λ e. fsplit3 ! $ fsplit3 ! $ feq_l ! (λ ex. feq_i ! (List Val) (mut_vals x.0) (mut_vals x.0) refl $ fjoin3 ! $ move ! (1 ∷ []) $ fsplit3 ! $ feq_l ! (λ ey. feq_i ! (List Val) (mut_vals x.1) (mut_vals x.1) refl $ fjoin3 ! $
           lands_as ! (ap only e ∙ (λ j. vstruct (of_list (ex j ++ (ey j ++ []))))) refl (tt, (tt, (tt, tt))) $
           returns ! (look_at ! 0 refl) $ free_all ! refl $ keep ! (1 ∷ 0 ∷ 3 ∷ 4 ∷ 5 ∷ []) $
-          use2 𝓛 (‵ ((PairAt κ).own_val x (pair_at x ∷ []))) (pair_of 𝓛 (MutRef (named 0) κ A') (MutRef (named 0) κ B') x.0 x.1 (vptr x.0.ref_ptr.0 x.0.ref_ptr.1) (vptr x.1.ref_ptr.0 x.1.ref_ptr.1)) $
+          use2 𝓛 (‵ ((PairAt κ).own_val x (pair_at x ∷ []))) (as_tuple 𝓛 (MutRef (named 0) κ A') (MutRef (named 0) κ B') x.0 x.1 (vptr x.0.ref_ptr.0 x.0.ref_ptr.1) (vptr x.1.ref_ptr.0 x.1.ref_ptr.1)) $
           suffices ! _ (ends_at 𝓛 ended stayed spec bound (pair_at x) x (tt, (tt, tt)) (tt, (tt, tt))) $
           -- [the result; the token of κ; those of κA, κB; what self follows]
           nothing ! $ nothing ! $ fjoin ! $ nothing ! $ fjoin ! $ join ! $ move ! (1 ∷ 2 ∷ []) $ join ! $ join ! $ frame ! $
