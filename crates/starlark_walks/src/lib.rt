@@ -1,0 +1,8 @@
+//! Walks that lend one part of each element of a slice by `&mut`, while the rest of each element is frozen.
+#![tactic(auto)]
+
+mod loan;
+pub mod pairs_mut;
+pub mod listing;
+
+pub use pairs_mut::PairsMut;

@@ -1,0 +1,63 @@
+//! The right to write the second parts of pairs that lie side by side.
+ghost use Rattle.std.specs.Prelude.{◌≡◌, ℕ, ◌+◌, ◌<◌, List, [], ◌∷◌, ◌++◌, length};
+ghost use Rattle.std.specs.Borrow.{GName, sem};
+ghost use Rattle.starlark_walks.specs.Frozen.{pairs_follow, frozen};
+
+use std::marker::{Model, PhantomData};
+
+/// The right to the pairs at `start` that are still to be taken: those from the `from`-th on, `rest`. Their first parts
+/// are frozen. `name` is the loan of these, and `tie` the loan of all, which the slice follows.
+pub struct Loan<'a, K, V> {
+    start: *mut (K, V),
+    mark: PhantomData<&'a mut (K, V)>,
+    ghost name: { GName },
+    ghost tie: { GName },
+    ghost from: { ℕ },
+    ghost rest: { List (K × V) },
+}
+
+impl<'a, K, V> Model for Loan<'a, K, V> {
+    ghost also_owns = { λ l. frozen 'a K.row V.row l.start l.from l.name l.rest };
+}
+
+impl<K, V> Drop for Loan<'_, K, V> {
+    fn drop(self) {
+        let Self { start: _, mark: _ } = self;
+    }
+}
+
+impl<'a, K, V> Loan<'a, K, V> {
+    pub(crate) fn new(pairs: &'a mut [(K, V)]) -> Loan<'a, K, V>
+        ensures* writes_back { sem 𝓛 (pairs_follow K.row V.row pairs.entry result.tie) }
+        ensures rest { (result.from ≡ 0) × (result.rest ≡ pairs.old) }
+    {
+        Loan {
+            start: pairs.as_mut_ptr(),
+            mark: PhantomData,
+        }
+    }
+
+    #[inline]
+    pub(crate) fn take_first(&mut self, index: usize) -> (&'a K, &'a mut V)
+        requires { (index ≡ self.old.from) × (0 < length self.old.rest) }
+        ensures first { self.old.rest ≡ (result.0.now, result.1.now) ∷ self.new.rest }
+        ensures others { (self.new.from ≡ self.old.from + 1) × (self.new.tie ≡ self.old.tie) }
+    {
+        unsafe {
+            let pair = self.start.add(index);
+            (&(*pair).0, &mut (*pair).1)
+        }
+    }
+
+    #[inline]
+    pub(crate) fn take_last(&mut self, index: usize) -> (&'a K, &'a mut V)
+        requires { (self.old.from + length self.old.rest ≡ index + 1) × (0 < length self.old.rest) }
+        ensures last { self.old.rest ≡ self.new.rest ++ (result.0.now, result.1.now) ∷ [] }
+        ensures others { (self.new.from ≡ self.old.from) × (self.new.tie ≡ self.old.tie) }
+    {
+        unsafe {
+            let pair = self.start.add(index);
+            (&(*pair).0, &mut (*pair).1)
+        }
+    }
+}
