@@ -1,1 +1,2 @@
+mod NamedClose
 mod Runs

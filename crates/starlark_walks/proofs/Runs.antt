@@ -3,19 +3,19 @@
 --     first_out, last_out  the first or the last pair comes off, beside the run of the others
 --     pair_out             of a pair that came off: a `&` to the first part and a `&mut` to the second
 use mathlib.Core.Path.{◌≡◌, refl, sym, ap, ◌∙◌}
-use Prim.Native.Nat.{ℕ, zero, suc, ◌+◌}
+use Prim.Native.Nat.{ℕ, zero, suc, ◌+◌, ◌<◌}
 use native.Mathlib.Omega.{arith}
 use mathlib.Core.List.{List, [], ◌∷◌, ◌++◌}
 use lib.ListN.{length, length-append}
 use seplogic.Ra.Ura.{Ura}
 use mir.Syntax.{Lifetime}
-use mir.Val.{Val, vptr}
+use mir.Val.{Val, vptr, vstruct, vcons, vnil}
 use base.Fraction.{full_share}
 use base.Logic.{SProp, ent, sep, emp, wand, id⊢, all_e, apply∗}
 use base.Fml.{Lft, GName, Share, Fml, Incl, Incl-refl, ftrue, fseps, flft, fobs, fbor}
 use base.Stored.{coded_list}
 use prog.Memory.{size, align, up}
-use types.Kit.{Item, ‵, raw, ◌⊛◌, some, later, mean, ◌$◌, ◌∵◌, !, qed, by, move, keep, drop, use0, use1, use2, split, split3, pick, fsplit, fsplit3, fjoin, fjoin3, feq_i, feq_l, rewrite, group, await, updating, now, show, done}
+use types.Kit.{Item, ‵, raw, ◌⊛◌, some, later, mean, ◌$◌, ◌∵◌, !, qed, by, move, keep, drop, use0, use1, use2, split, split3, pick, fsplit, fsplit3, fjoin, fjoin3, fpack, feq_i, feq_l, rewrite, group, await, updating, now, show, done}
 use types.Logic.{Logic, sem}
 use types.SemTy.{cells, Arr, Body}
 use types.Mut.{open_ref}
@@ -27,15 +27,16 @@ use denote.Memory.{mem, lone, part_at, part_of}
 use denote.Opens.{hide}
 use denote.Param.{param}
 use denote.Param.Laws.{Laws, param_laws}
-use denote.RattleType.{RattleType, Denots}
+use denote.RattleType.{RattleType, Denots, Valss}
 use denote.Ref.{MutRef, ShrRef}
 use denote.Slice.{MutSlice}
 use denote.Steps.{nothing}
 use denote.Struct.Loose.{lawfuls}
 use denote.Struct.Members.{Member, rows_of, parts_at}
 use denote.Struct.Parts.{shape_of, PartsBack, Struct-parts}
-use denote.Struct.Struct.{Struct}
-use denote.Struct.Tuple.{tuple_type, parts_loose}
+use denote.Struct.Struct.{Struct, within}
+use denote.Struct.Declared.{shape}
+use denote.Struct.Tuple.{Tuple, tuple_type, parts_loose}
 use borrow.Table.Elements.{at, cut_app, join_app}
 use Rattle.starlark_walks.specs.Frozen.{with_seconds, Pair, Kept, KeptRun, lent_one, lent_run}
 
@@ -54,6 +55,31 @@ module _ {K V : Type 0} where
   with_last [] (v ∷ ws) p w e = absurd (omega (arith, e))
   with_last (q ∷ ps) [] p w e = absurd (omega (arith, e))
   with_last (q ∷ ps) (v ∷ ws) p w e = let rest : length ws ≡ length ps = omega (arith, e) in ap (λ l. (q.0, v.1) ∷ l) (with_last ps ws p w rest)
+
+  -- a list that is not empty, cut behind its first item, and before its last
+  pub parted : {T : Type 0} (xs : List T) → 0 < length xs → (y : T) × (ys : List T) × (xs ≡ y ∷ ys)
+  parted [] p = absurd (omega (arith, p))
+  parted (y ∷ ys) p = (y, ys, refl)
+
+  pub parted_last : {T : Type 0} (xs : List T) → 0 < length xs → (y : T) × (ys : List T) × (xs ≡ ys ++ y ∷ [])
+  parted_last [] p = absurd (omega (arith, p))
+  parted_last (y ∷ []) p = (y, [], refl)
+  parted_last (x ∷ y ∷ ys) p = let rest = parted_last (y ∷ ys) (omega arith) in (rest.0, x ∷ rest.1, ap (λ l. x ∷ l) rest.2)
+
+-- where the two parts of the pair at o lie
+module _ (X Y : RattleType) (o : ℕ) where
+  abbrev pub first_at : ℕ
+  first_at = o + up (align (lone (param 0 X).mir)) zero
+
+  abbrev pub second_at : ℕ
+  second_at = o + up (align (lone (param 1 Y).mir)) (up (align (lone (param 0 X).mir)) zero + size (lone (param 0 X).mir))
+
+pub pair_made : {M : Type 1} {𝓤 : Ura M} (𝓛 : Logic 𝓤) (R S : RattleType) (x : R.Denot) (y : S.Denot) (u v : Val)
+    → ent 𝓤 (sep 𝓤 (sem 𝓛 (R.own_val x (u ∷ []))) (sem 𝓛 (S.own_val y (v ∷ [])))) (sem 𝓛 ((Tuple (R ∷ S ∷ [])).own_val (x, y) (vstruct (vcons u (vcons v vnil)) ∷ [])))
+pair_made 𝓛 R S x y u v =
+    let w : Val = vstruct (vcons u (vcons v vnil)) in
+    qed 𝓛 (‵ (R.own_val x (u ∷ [])) ∷ ‵ (S.own_val y (v ∷ [])) ∷ []) ∵ nothing ! $ move ! (2 ∷ 0 ∷ []) $ fjoin ! $ move ! (1 ∷ 0 ∷ []) $ fjoin ! $ feq_i ! (List Val) (w ∷ []) (w ∷ []) refl $ fjoin ! $
+    fpack ! (Valss (R ∷ S ∷ [])) (within (shape (tuple_type (R ∷ S ∷ []))) (x, (y, tt)) (w ∷ [])) (u ∷ [], (v ∷ [], tt)) $ done !
 
 module _ (X Y : RattleType) {M : Type 1} {𝓤 : Ura M} (𝓛 : Logic 𝓤) (κ : Lft) (q : Share) where
   open 𝓛 use {H, A}
@@ -142,18 +168,12 @@ module _ (X Y : RattleType) {M : Type 1} {𝓤 : Ura M} (𝓛 : Logic 𝓤) (κ 
           split ! $ fjoin ! $ move ! (1 ∷ []) $ split ! $ fjoin ! $ move ! (2 ∷ []) $ split ! $ now ! $ show ! (λ (z : GName × GName). mean 𝓛 (Off end o z)) γs $ keep ! (3 ∷ 2 ∷ 0 ∷ []) $ done !)
 
     -- ---- a pair is parted
-    module _ (LX : Laws X) (LY : Laws Y) (ℓ : Lifetime) (within : Incl κ X.lives) (p : One) where
+    module _ (LX : Laws X) (LY : Laws Y) (ℓ : Lifetime) (long : Incl κ X.lives) (p : One) where
       abbrev member : RattleType → Member
       member R = record { row = R; ty = lone R.mir }
 
       abbrev ms : List Member
       ms = member K ∷ member V ∷ []
-
-      abbrev pub first_at : ℕ
-      first_at = o + up (align (lone K.mir)) zero
-
-      abbrev pub second_at : ℕ
-      second_at = o + up (align (lone V.mir)) (up (align (lone K.mir)) zero + size (lone K.mir))
 
       abbrev to : One → Denots (rows_of ms)
       to d = (d.0, (d.1, tt))
@@ -162,34 +182,34 @@ module _ (X Y : RattleType) {M : Type 1} {𝓤 : Ura M} (𝓛 : Logic 𝓤) (κ 
       Back = PartsBack 𝓛 full_share (tuple_type (K ∷ V ∷ [])).name ms b o
 
       abbrev Key : Fml
-      Key = part_at K full_share p.0 b first_at
+      Key = part_at K full_share p.0 b (first_at X Y o)
 
-      apart : ent 𝓤 (sem 𝓛 (part_at P full_share p b o)) (sep 𝓤 (sem 𝓛 Key) (sep 𝓤 (sem 𝓛 (part_at V full_share p.1 b second_at)) Back))
+      apart : ent 𝓤 (sem 𝓛 (part_at P full_share p b o)) (sep 𝓤 (sem 𝓛 Key) (sep 𝓤 (sem 𝓛 (part_at V full_share p.1 b (second_at X Y o))) Back))
       unfolding part_of
       apart = qed 𝓛 (‵ (part_at P full_share p b o) ∷ []) ∵ use1 𝓛 (‵ (parts_at full_share ms zero (to p) b o) ⊛ raw Back)
           (Struct-parts 𝓛 full_share (tuple_type (K ∷ V ∷ [])).name ms (lawfuls 𝓛 (tuple_type (K ∷ V ∷ [])).parts (parts_loose (K ∷ V ∷ []) (param_laws 0 X LX, (param_laws 1 Y LY, tt)))) (to p) b o) $
           split ! $ fsplit3 ! $ keep ! (0 ∷ 1 ∷ 3 ∷ []) $ done !
 
-      again : (v : Y.Denot) → ent 𝓤 (sep 𝓤 (sem 𝓛 ((mem V).own_at v b second_at)) (sep 𝓤 (sem 𝓛 (fseps (Key ∷ []))) Back)) (sem 𝓛 ((Kept K V p).own_at (p.0, v) b o))
-      unfolding part_of, fseps
+      again : (v : Y.Denot) → ent 𝓤 (sep 𝓤 (sem 𝓛 ((mem V).own_at v b (second_at X Y o))) (sep 𝓤 (sem 𝓛 (fseps (Key ∷ []))) Back)) (sem 𝓛 ((Kept K V p).own_at (p.0, v) b o))
+      unfolding part_of fseps
       again v = let a' : Denots (rows_of ms) = to (p.0, v) in
-          qed 𝓛 (‵ ((mem V).own_at v b second_at) ∷ ‵ (fseps (Key ∷ [])) ∷ raw Back ∷ []) ∵ move ! (1 ∷ []) $ fsplit ! $ move ! (2 ∷ 1 ∷ []) $ fjoin ! $ move ! (1 ∷ 0 ∷ []) $ fjoin ! $ move ! (1 ∷ []) $
+          qed 𝓛 (‵ ((mem V).own_at v b (second_at X Y o)) ∷ ‵ (fseps (Key ∷ [])) ∷ raw Back ∷ []) ∵ move ! (1 ∷ []) $ fsplit ! $ move ! (2 ∷ 1 ∷ []) $ fjoin ! $ move ! (1 ∷ 0 ∷ []) $ fjoin ! $ move ! (1 ∷ []) $
           use1 𝓛 (raw (wand 𝓤 (sem 𝓛 (parts_at full_share ms zero a' b o)) (sem 𝓛 (part_at (Struct (shape_of (tuple_type (K ∷ V ∷ [])).name ms)) full_share a' b o))))
           (all_e 𝓤 (λ (a : Denots (rows_of ms)). wand 𝓤 (sem 𝓛 (parts_at full_share ms zero a b o)) (sem 𝓛 (part_at (Struct (shape_of (tuple_type (K ∷ V ∷ [])).name ms)) full_share a b o))) a') $
           move ! (1 ∷ 0 ∷ []) $ by ! (apply∗ 𝓤 (sem 𝓛 (parts_at full_share ms zero a' b o)) (sem 𝓛 (part_at (Struct (shape_of (tuple_type (K ∷ V ∷ [])).name ms)) full_share a' b o)))
 
       abbrev pub Parted : GName → Item 𝓤
-      Parted δ = ‵ ((ShrRef ℓ κ K).own_val (record { ref_ptr = (b, first_at); now = p.0 }) (vptr b first_at ∷ [])) ⊛ ‵ ((MutRef ℓ κ V).own_val (record { ref_ptr = (b, second_at); ghost_name = δ; now = p.1 }) (vptr b second_at ∷ [])) ⊛ ‵ (flft κ q)
+      Parted δ = ‵ ((ShrRef ℓ κ K).own_val (record { ref_ptr = (b, first_at X Y o); now = p.0 }) (vptr b (first_at X Y o) ∷ [])) ⊛ ‵ ((MutRef ℓ κ V).own_val (record { ref_ptr = (b, second_at X Y o); ghost_name = δ; now = p.1 }) (vptr b (second_at X Y o) ∷ [])) ⊛ ‵ (flft κ q)
 
       pub pair_out : ent 𝓤 (sep 𝓤 (sem 𝓛 (lent_one K V κ b o γ p)) (A.lft κ q)) (H.⇛ (mean 𝓛 (some Parted)))
       unfolding fseps
       pair_out =
           qed 𝓛 (‵ (lent_one K V κ b o γ p) ∷ ‵ (flft κ q) ∷ []) ∵ updating ! $ fsplit ! $ open_ref ! tt (Kept K V p) {x = p} {b = b} {o = o} $
-          use1 𝓛 (‵ Key ⊛ ‵ (part_at V full_share p.1 b second_at) ⊛ raw Back) apart $ split3 ! $
+          use1 𝓛 (‵ Key ⊛ ‵ (part_at V full_share p.1 b (second_at X Y o)) ⊛ raw Back) apart $ split3 ! $
           use0 𝓛 (‵ ftrue) (id⊢ 𝓤 (emp 𝓤)) $ move ! (1 ∷ 0 ∷ []) $ fjoin ! $ move ! (3 ∷ 4 ∷ 5 ∷ 1 ∷ 0 ∷ 2 ∷ []) $ group ! 6 $
-          use1 𝓛 (later (some (λ (δ : GName). ‵ (fobs δ (V.coded.code p.1)) ⊛ ‵ (fbor κ (Body (mem V) b second_at δ)) ⊛ ‵ (flft κ q) ⊛ ‵ (after (Kept K V p) (mem V) γ δ (λ v. (p.0, v))) ⊛ (‵ (fbor κ Key) ⊛ raw (emp 𝓤)))))
-          (takes_beside 𝓛 (Kept K V p) (mem V) (λ v. (p.0, v)) κ q b o b second_at γ (Key ∷ []) Back again (P.coded.code p) (P.coded.code p) p.1) $ await ! tt $ pick ! (λ δ. split3 ! $
-          feq_i ! (List Val) (vptr b second_at ∷ []) (vptr b second_at ∷ []) refl $ fjoin3 ! $ move ! (1 ∷ []) $ split3 ! $ move ! (2 ∷ []) $ split ! $
+          use1 𝓛 (later (some (λ (δ : GName). ‵ (fobs δ (V.coded.code p.1)) ⊛ ‵ (fbor κ (Body (mem V) b (second_at X Y o) δ)) ⊛ ‵ (flft κ q) ⊛ ‵ (after (Kept K V p) (mem V) γ δ (λ v. (p.0, v))) ⊛ (‵ (fbor κ Key) ⊛ raw (emp 𝓤)))))
+          (takes_beside 𝓛 (Kept K V p) (mem V) (λ v. (p.0, v)) κ q b o b (second_at X Y o) γ (Key ∷ []) Back again (P.coded.code p) (P.coded.code p) p.1) $ await ! tt $ pick ! (λ δ. split3 ! $
+          feq_i ! (List Val) (vptr b (second_at X Y o) ∷ []) (vptr b (second_at X Y o) ∷ []) refl $ fjoin3 ! $ move ! (1 ∷ []) $ split3 ! $ move ! (2 ∷ []) $ split ! $
           -- [the borrow of the first part; nothing; the token; what follows; the `&mut`]
-          move ! (0 ∷ 2 ∷ []) $ use2 𝓛 (later (‵ (K.shr_at p.0 b first_at κ) ⊛ ‵ (flft κ q))) ((param_laws 0 X LX).shares 𝓛 p.0 κ ((κ, q) ∷ []) b first_at within (Incl-refl κ)) $ await ! tt $ split ! $
-          hide ! $ feq_i ! (List Val) (vptr b first_at ∷ []) (vptr b first_at ∷ []) refl $ fjoin ! $ now ! $ show ! (λ (z : GName). mean 𝓛 (Parted z)) δ $ keep ! (0 ∷ 4 ∷ 1 ∷ []) $ done !)
+          move ! (0 ∷ 2 ∷ []) $ use2 𝓛 (later (‵ (K.shr_at p.0 b (first_at X Y o) κ) ⊛ ‵ (flft κ q))) ((param_laws 0 X LX).shares 𝓛 p.0 κ ((κ, q) ∷ []) b (first_at X Y o) long (Incl-refl κ)) $ await ! tt $ split ! $
+          hide ! $ feq_i ! (List Val) (vptr b (first_at X Y o) ∷ []) (vptr b (first_at X Y o) ∷ []) refl $ fjoin ! $ now ! $ show ! (λ (z : GName). mean 𝓛 (Parted z)) δ $ keep ! (0 ∷ 4 ∷ 1 ∷ []) $ done !)

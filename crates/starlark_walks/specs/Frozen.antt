@@ -1,9 +1,13 @@
 -- Pairs that lie side by side, whose first parts are frozen while their second parts are lent.
 --     with_seconds ps ws     the first parts of ps, each beside the second part that ws has in its place
 --     frozen κ K V p i γ ps  the right to write the second parts of ps, which lie from the i-th pair at p on, under the name γ
---     pairs_follow s γ       a slice ends with the second parts that γ ends with, and its own first parts
 use Rattle.std.specs.Prelude.{◌≡◌, ℕ, ◌+◌, ◌*◌, List, [], ◌∷◌, length}
-use Rattle.std.specs.Borrow.{Fml, RattleType, MutBor, GName, Array, follows}
+use Rattle.std.specs.Borrow.{Fml, RattleType, MutBor, GName, Array, Lends, follows}
+use Rattle.std.specs.Global.{Vec}
+use Rattle.std.specs.Vec.{with_items}
+use Rattle.std_alloc.specs.contracts.vec.Vec.{the_row as vec_row}
+use Rattle.std_heap.specs.contracts.Global.{the_row as global_row}
+use Rattle.std_heap.specs.contracts.GlobalAllocator.TheImpl.{ghosts}
 use base.Fml.{Lft, ffalse, fsep, feq, fobs, fbor}
 use base.Stored.{coded_list}
 use types.SemTy.{SemTy, cells, Body}
@@ -11,6 +15,14 @@ use denote.Memory.{mem}
 use denote.RawPtr.{Ptr, block_ptr, null_ptr}
 use denote.Slice.{room}
 use denote.Struct.Tuple.{Tuple}
+
+-- `Vec<A>`
+abbrev pub column : RattleType → RattleType
+column A = vec_row A global_row ghosts
+
+-- a vector ends with the items that are left behind the slice
+abbrev pub lends_run : (A : RattleType) → MutBor (Vec A.Denot) → MutBor (List A.Denot) → Fml
+lends_run A s r = Lends (column A) (Array A 0) s r (with_items s.now)
 
 abbrev pub with_seconds : {K V : Type 0} → List (K × V) → List (K × V) → List (K × V)
 with_seconds [] ws = []
@@ -38,5 +50,7 @@ abbrev pub frozen : Lft → (K V : RattleType) → Ptr → ℕ → GName → Lis
 frozen κ K V (block_ptr b o) i γ ps = fsep (room (Pair K V) (i + length ps)) (lent_run K V κ b (i * (mem (Pair K V)).size + o) γ ps)
 frozen κ K V null_ptr i γ ps = ffalse
 
-abbrev pub pairs_follow : (K V : RattleType) → MutBor (List (K.Denot × V.Denot)) → GName → Fml
-pairs_follow K V s γ = follows (Array (Pair K V) 0) (Array (Pair K V) 0) s.ghost_name γ (λ w. with_seconds s.now w)
+module _ (K V : RattleType) where
+  -- a vector ends with the second parts that the loan ends with, and its own first parts
+  abbrev pub pairs_follow : MutBor (Vec (K.Denot × V.Denot)) → GName → Fml
+  pairs_follow s γ = follows (column (Pair K V)) (column (Pair K V)) s.ghost_name γ (λ w. with_items s.now (with_seconds s.now.items w.items))

@@ -1,2 +1,1 @@
 pub mod Frozen
-pub mod ListingLending

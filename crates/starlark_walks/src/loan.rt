@@ -1,7 +1,7 @@
 //! The right to write the second parts of pairs that lie side by side.
 ghost use Rattle.std.specs.Prelude.{◌≡◌, ℕ, ◌+◌, ◌<◌, List, [], ◌∷◌, ◌++◌, length};
 ghost use Rattle.std.specs.Borrow.{GName, sem};
-ghost use Rattle.starlark_walks.specs.Frozen.{pairs_follow, frozen};
+ghost use Rattle.starlark_walks.specs.Frozen.{pairs_follow, lends_run, frozen};
 
 use std::marker::{Model, PhantomData};
 
@@ -26,13 +26,24 @@ impl<K, V> Drop for Loan<'_, K, V> {
     }
 }
 
+/// The items of a vector.
+#[inline]
+pub(crate) fn run_mut<T>(items: &mut Vec<T>) -> &mut [T]
+    ensures* writes_back { sem 𝓛 (lends_run T.row items.entry result) }
+    ensures value { result.now ≡ items.old.items }
+{
+    items.as_mut_slice()
+}
+
 impl<'a, K, V> Loan<'a, K, V> {
-    pub(crate) fn new(pairs: &'a mut [(K, V)]) -> Loan<'a, K, V>
+    #[inline]
+    pub(crate) fn new(pairs: &'a mut Vec<(K, V)>) -> Loan<'a, K, V>
         ensures* writes_back { sem 𝓛 (pairs_follow K.row V.row pairs.entry result.tie) }
-        ensures rest { (result.from ≡ 0) × (result.rest ≡ pairs.old) }
+        ensures rest { (result.from ≡ 0) × (result.rest ≡ pairs.old.items) }
     {
+        let run = run_mut(pairs);
         Loan {
-            start: pairs.as_mut_ptr(),
+            start: run.as_mut_ptr(),
             mark: PhantomData,
         }
     }
@@ -40,8 +51,7 @@ impl<'a, K, V> Loan<'a, K, V> {
     #[inline]
     pub(crate) fn take_first(&mut self, index: usize) -> (&'a K, &'a mut V)
         requires { (index ≡ self.old.from) × (0 < length self.old.rest) }
-        ensures first { self.old.rest ≡ (result.0.now, result.1.now) ∷ self.new.rest }
-        ensures others { (self.new.from ≡ self.old.from + 1) × (self.new.tie ≡ self.old.tie) }
+        ensures { (self.old.rest ≡ (result.0.now, result.1.now) ∷ self.new.rest) × (self.new.from ≡ self.old.from + 1) × (self.new.tie ≡ self.old.tie) }
     {
         unsafe {
             let pair = self.start.add(index);
@@ -52,8 +62,7 @@ impl<'a, K, V> Loan<'a, K, V> {
     #[inline]
     pub(crate) fn take_last(&mut self, index: usize) -> (&'a K, &'a mut V)
         requires { (self.old.from + length self.old.rest ≡ index + 1) × (0 < length self.old.rest) }
-        ensures last { self.old.rest ≡ self.new.rest ++ (result.0.now, result.1.now) ∷ [] }
-        ensures others { (self.new.from ≡ self.old.from) × (self.new.tie ≡ self.old.tie) }
+        ensures { (self.old.rest ≡ self.new.rest ++ (result.0.now, result.1.now) ∷ []) × (self.new.from ≡ self.old.from) × (self.new.tie ≡ self.old.tie) }
     {
         unsafe {
             let pair = self.start.add(index);

@@ -30,9 +30,9 @@ impl<'a, K, V> Model for PairsMut<'a, K, V> {
 
 impl<'a, K, V> PairsMut<'a, K, V> {
     /// The pairs of `pairs`, to write their second parts.
-    pub fn new(pairs: &'a mut [(K, V)]) -> PairsMut<'a, K, V>
+    pub fn new(pairs: &'a mut Vec<(K, V)>) -> PairsMut<'a, K, V>
         ensures* writes_back { sem 𝓛 (pairs_follow K.row V.row pairs.entry result.1) }
-        ensures rest { result.0 ≡ pairs.old }
+        ensures rest { result.0 ≡ pairs.old.items }
     {
         let to = pairs.len();
         PairsMut {
