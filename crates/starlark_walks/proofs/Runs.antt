@@ -6,7 +6,8 @@ use mathlib.Core.Path.{◌≡◌, refl, sym, ap, ◌∙◌}
 use Prim.Native.Nat.{ℕ, zero, suc, ◌+◌, ◌<◌}
 use native.Mathlib.Omega.{arith}
 use mathlib.Core.List.{List, [], ◌∷◌, ◌++◌}
-use lib.ListN.{length, length-append}
+use lib.ListN.{length, length-append, drop as drop_l}
+use lib.Seq.{take_at as take_all}
 use seplogic.Ra.Ura.{Ura}
 use mir.Syntax.{Lifetime}
 use mir.Val.{Val, vptr, vstruct, vcons, vnil}
@@ -38,7 +39,19 @@ use denote.Struct.Struct.{Struct, within}
 use denote.Struct.Declared.{shape}
 use denote.Struct.Tuple.{Tuple, tuple_type, parts_loose}
 use borrow.Table.Elements.{at, cut_app, join_app}
+use Rattle.std.specs.Global.{Vec}
+use Rattle.std.specs.Vec.{with_items}
 use Rattle.starlark_walks.specs.Frozen.{with_seconds, Pair, Kept, KeptRun, lent_one, lent_run}
+
+-- a list that is not empty, cut behind its first item, and before its last
+pub parted : {T : Type 0} (xs : List T) → 0 < length xs → (y : T) × (ys : List T) × (xs ≡ y ∷ ys)
+parted [] p = absurd (omega (arith, p))
+parted (y ∷ ys) p = (y, ys, refl)
+
+pub parted_last : {T : Type 0} (xs : List T) → 0 < length xs → (y : T) × (ys : List T) × (xs ≡ ys ++ y ∷ [])
+parted_last [] p = absurd (omega (arith, p))
+parted_last (y ∷ []) p = (y, [], refl)
+parted_last (x ∷ y ∷ ys) p = let rest = parted_last (y ∷ ys) (omega arith) in (rest.0, x ∷ rest.1, ap (λ l. x ∷ l) rest.2)
 
 module _ {K V : Type 0} where
   pub with_itself : (ps : List (K × V)) → with_seconds ps ps ≡ ps
@@ -56,15 +69,19 @@ module _ {K V : Type 0} where
   with_last (q ∷ ps) [] p w e = absurd (omega (arith, e))
   with_last (q ∷ ps) (v ∷ ws) p w e = let rest : length ws ≡ length ps = omega (arith, e) in ap (λ l. (q.0, v.1) ∷ l) (with_last ps ws p w rest)
 
-  -- a list that is not empty, cut behind its first item, and before its last
-  pub parted : {T : Type 0} (xs : List T) → 0 < length xs → (y : T) × (ys : List T) × (xs ≡ y ∷ ys)
-  parted [] p = absurd (omega (arith, p))
-  parted (y ∷ ys) p = (y, ys, refl)
+module _ {K V : Type 0} where
+  -- what stays of the first parts stays again
+  pub kept_again : (ps ws : List (K × V)) → with_seconds ps (with_seconds ps ws) ≡ with_seconds ps ws
+  kept_again [] ws = refl
+  kept_again (p ∷ ps) [] = ap (λ l. p ∷ l) (kept_again ps [])
+  kept_again (p ∷ ps) (w ∷ ws) = ap (λ l. (p.0, w.1) ∷ l) (kept_again ps ws)
 
-  pub parted_last : {T : Type 0} (xs : List T) → 0 < length xs → (y : T) × (ys : List T) × (xs ≡ ys ++ y ∷ [])
-  parted_last [] p = absurd (omega (arith, p))
-  parted_last (y ∷ []) p = (y, [], refl)
-  parted_last (x ∷ y ∷ ys) p = let rest = parted_last (y ∷ ys) (omega arith) in (rest.0, x ∷ rest.1, ap (λ l. x ∷ l) rest.2)
+  pub all_items : (v : Vec (K × V)) (l : List (K × V)) → length l ≡ length v.items → (with_items v l).items ≡ l
+  all_items v l e = take_all l (drop_l (length l) v.items) v.len (e ∙ sym v.ok.0)
+
+  -- a vector with other second parts has its own first parts
+  pub kept_items : (v : Vec (K × V)) (ws : List (K × V)) → with_items v (with_seconds v.items (with_items v (with_seconds v.items ws)).items) ≡ with_items v (with_seconds v.items ws)
+  kept_items v ws = ap (λ l. with_items v (with_seconds v.items l)) (all_items v (with_seconds v.items ws) (length-with_seconds v.items ws)) ∙ ap (with_items v) (kept_again v.items ws)
 
 -- where the two parts of the pair at o lie
 module _ (X Y : RattleType) (o : ℕ) where

@@ -20,10 +20,6 @@ use denote.Struct.Tuple.{Tuple}
 abbrev pub column : RattleType → RattleType
 column A = vec_row A global_row ghosts
 
--- a vector ends with the items that are left behind the slice
-abbrev pub lends_run : (A : RattleType) → MutBor (Vec A.Denot) → MutBor (List A.Denot) → Fml
-lends_run A s r = Lends (column A) (Array A 0) s r (with_items s.now)
-
 abbrev pub with_seconds : {K V : Type 0} → List (K × V) → List (K × V) → List (K × V)
 with_seconds [] ws = []
 with_seconds (p ∷ ps) [] = p ∷ with_seconds ps []
@@ -51,6 +47,10 @@ frozen κ K V (block_ptr b o) i γ ps = fsep (room (Pair K V) (i + length ps)) (
 frozen κ K V null_ptr i γ ps = ffalse
 
 module _ (K V : RattleType) where
+  -- a vector ends with the pairs that are left behind the slice
+  abbrev pub lends_run : MutBor (Vec (K.Denot × V.Denot)) → MutBor (List (K.Denot × V.Denot)) → Fml
+  lends_run s r = Lends (column (Pair K V)) (Array (Pair K V) 0) s r (with_items s.now)
+
   -- a vector ends with the second parts that the loan ends with, and its own first parts
   abbrev pub pairs_follow : MutBor (Vec (K.Denot × V.Denot)) → GName → Fml
   pairs_follow s γ = follows (column (Pair K V)) (column (Pair K V)) s.ghost_name γ (λ w. with_items s.now (with_seconds s.now.items w.items))

@@ -26,13 +26,13 @@ impl<K, V> Drop for Loan<'_, K, V> {
     }
 }
 
-/// The items of a vector.
+/// The pairs of a vector.
 #[inline]
-pub(crate) fn run_mut<T>(items: &mut Vec<T>) -> &mut [T]
-    ensures* writes_back { sem 𝓛 (lends_run T.row items.entry result) }
-    ensures value { result.now ≡ items.old.items }
+pub(crate) fn run_mut<K, V>(pairs: &mut Vec<(K, V)>) -> &mut [(K, V)]
+    ensures* writes_back { sem 𝓛 (lends_run K.row V.row pairs.entry result) }
+    ensures value { result.now ≡ pairs.old.items }
 {
-    items.as_mut_slice()
+    pairs.as_mut_slice()
 }
 
 impl<'a, K, V> Loan<'a, K, V> {

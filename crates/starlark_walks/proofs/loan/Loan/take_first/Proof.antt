@@ -117,9 +117,9 @@ module _ (A B : RattleType) where
           enter ! C Λ here (vptr rb ro ∷ vint w64 i ∷ []) _ $
           alloc_all ! (λ l. pass_all ! refl ((tt, tt), ((tt, record { fits = fi }), tt)) $
           let En : Env 𝓤 H = env here.locals l in
-          fsplit3 ! $ drop ! $ opens ! tt R {h = d} rb ro (λ vs. move ! (1 ∷ []) $ peeks ! R _ (shows 𝓛 R) d vs (λ is. fsplit ! $ move ! (1 ∷ 6 ∷ []) $
+          fsplit3 ! $ drop ! $ opens ! tt R {h = d} rb ro (λ vs. move ! (1 ∷ []) $ peeks ! R _ (shows 𝓛 R) d vs (λ shown. fsplit ! $ move ! (1 ∷ 6 ∷ []) $
           in_a_block ! d.start (λ p. frozen κ' K V p d.from d.name d.rest) (id⊢ 𝓤 _) (λ b o e.
-          let word = lowers.val_is d vs is ∙ ap (λ (p : Ptr). lowers.lowered (record d { start = p }) ∷ []) e in
+          let word = lowers.val_is d vs shown ∙ ap (λ (p : Ptr). lowers.lowered (record d { start = p }) ∷ []) e in
           let Cell = λ (ws : List Val). ‵ (cell_at full_share R.mir ws rb ro) in
           -- [the run; κ'; the fields; their cell; the open borrow; obs; auth; the tokens of κA, κB]
           rewrite ! 3 Cell word refl $ fsplit ! $ pure_l ! (room P (d.from + length d.rest)) (λ rm.
@@ -150,7 +150,7 @@ module _ (A B : RattleType) where
           -- [obs; the borrow; κ; the `&`; the `&mut`; κ', κA, κB]
           returns ! (look_at ! 0 refl) $ free_all ! refl $ move ! (3 ∷ 4 ∷ []) $
           use2 𝓛 (‵ ((Tuple (ShrRef (named 1) κ' K ∷ MutRef (named 1) κ' V ∷ [])).own_val (k, v) (out ∷ []))) (pair_made 𝓛 (ShrRef (named 1) κ' K) (MutRef (named 1) κ' V) k v (vptr b k.ref_ptr.1) (vptr b v.ref_ptr.1)) $
-          suffices ! _ (ends_at 𝓛 ended stayed spec bound out (k, v) (new, (tt, tt)) (tt, (tt, tt))) $ says ! (cut.2, refl, refl) $
+          suffices ! _ (ends_at 𝓛 ended stayed spec bound out (k, v) (new, (tt, tt)) (tt, (tt, tt))) $ says ! (cut.2, omega arith, refl) $
           nothing ! $ move ! (7 ∷ 0 ∷ []) $ join ! $ move ! (6 ∷ 0 ∷ []) $ join ! $ move ! (5 ∷ 0 ∷ []) $ join ! $ move ! (4 ∷ 0 ∷ []) $ join ! $ frame ! $
           move ! (1 ∷ 2 ∷ 0 ∷ []) $ feq_i ! (List Val) (vptr rb ro ∷ []) (vptr rb ro ∷ []) refl $ fjoin3 ! $ nothing ! $ nothing ! $ fjoin ! $ move ! (1 ∷ 0 ∷ []) $ fjoin ! $ done !))))))))))
 

@@ -117,9 +117,9 @@ module _ (A B : RattleType) where
           enter ! C Λ here (vptr rb ro ∷ vint w64 i ∷ []) _ $
           alloc_all ! (λ l. pass_all ! refl ((tt, tt), ((tt, record { fits = fi }), tt)) $
           let En : Env 𝓤 H = env here.locals l in
-          fsplit3 ! $ drop ! $ opens ! tt R {h = d} rb ro (λ vs. move ! (1 ∷ []) $ peeks ! R _ (shows 𝓛 R) d vs (λ is. fsplit ! $ move ! (1 ∷ 6 ∷ []) $
+          fsplit3 ! $ drop ! $ opens ! tt R {h = d} rb ro (λ vs. move ! (1 ∷ []) $ peeks ! R _ (shows 𝓛 R) d vs (λ shown. fsplit ! $ move ! (1 ∷ 6 ∷ []) $
           in_a_block ! d.start (λ p. frozen κ' K V p d.from d.name d.rest) (id⊢ 𝓤 _) (λ b o e.
-          let word = lowers.val_is d vs is ∙ ap (λ (p : Ptr). lowers.lowered (record d { start = p }) ∷ []) e in
+          let word = lowers.val_is d vs shown ∙ ap (λ (p : Ptr). lowers.lowered (record d { start = p }) ∷ []) e in
           let Cell = λ (ws : List Val). ‵ (cell_at full_share R.mir ws rb ro) in
           -- [the run; κ'; the fields; their cell; the open borrow; obs; auth; the tokens of κA, κB]
           rewrite ! 3 Cell word refl $ fsplit ! $ pure_l ! (room P (d.from + length d.rest)) (λ rm.
