@@ -1,1 +1,3 @@
 pub mod Frozen
+pub mod Listing
+pub mod ListingLending

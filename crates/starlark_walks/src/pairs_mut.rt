@@ -35,11 +35,15 @@ impl<'a, K, V> PairsMut<'a, K, V> {
         ensures rest { result.0 ≡ pairs.old.items }
     {
         let to = pairs.len();
-        PairsMut {
-            loan: Loan::new(pairs),
-            from: 0,
-            to,
-        }
+        PairsMut::of(Loan::new(pairs), to)
+    }
+
+    #[inline]
+    pub(crate) fn of(loan: Loan<'a, K, V>, to: usize) -> PairsMut<'a, K, V>
+        requires { (loan.from ≡ 0) × (to ≡ length loan.rest) }
+        ensures { (result.0 ≡ loan.entry.rest) × (result.1 ≡ loan.entry.tie) }
+    {
+        PairsMut { loan, from: 0, to }
     }
 }
 
