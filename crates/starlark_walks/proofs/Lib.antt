@@ -1,2 +1,4 @@
+mod ListingOpen
+mod Listings
 mod NamedClose
 mod Runs

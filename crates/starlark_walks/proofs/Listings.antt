@@ -1,0 +1,45 @@
+-- Entries whose values were written have their own keys and hashes.
+use mathlib.Core.Path.{◌≡◌, refl, ap}
+use Prim.Native.Nat.{ℕ}
+use native.Mathlib.Omega.{arith}
+use lib.ListN.{length}
+use Rattle.std.specs.Prelude.{List, [], ◌∷◌, zip, map}
+use Rattle.std.specs.Global.{Vec}
+use Rattle.std.specs.Vec.{with_items}
+use Rattle.starlark_walks.specs.Frozen.{with_seconds}
+use Rattle.starlark_walks.specs.Listing.{with_values, labels_of, pairs_of}
+use Rattle.starlark_walks.proofs.Runs.{all_items, length-with_seconds}
+use mathlib.Core.Path.{◌∙◌}
+
+module _ {K V : Type 0} where
+  pub written_again : (ps ws : List (K × V)) (hs : List ℕ) → with_values (zip ps hs) (zip (with_seconds ps ws) hs) ≡ zip (with_seconds ps ws) hs
+  written_again [] ws hs = refl
+  written_again (p ∷ ps) [] [] = refl
+  written_again (p ∷ ps) (w ∷ ws) [] = refl
+  written_again (p ∷ ps) [] (h ∷ hs) = ap (λ l. (p, h) ∷ l) (written_again ps [] hs)
+  written_again (p ∷ ps) (w ∷ ws) (h ∷ hs) = ap (λ l. ((p.0, w.1), h) ∷ l) (written_again ps ws hs)
+
+  pub labels_stay : (ps ws : List (K × V)) (hs : List ℕ) → labels_of (zip (with_seconds ps ws) hs) ≡ labels_of (zip ps hs)
+  labels_stay [] ws hs = refl
+  labels_stay (p ∷ ps) [] [] = refl
+  labels_stay (p ∷ ps) (w ∷ ws) [] = refl
+  labels_stay (p ∷ ps) [] (h ∷ hs) = ap (λ l. (p.0, h) ∷ l) (labels_stay ps [] hs)
+  labels_stay (p ∷ ps) (w ∷ ws) (h ∷ hs) = ap (λ l. (p.0, h) ∷ l) (labels_stay ps ws hs)
+
+  pub labels_of-with_values : (es ws : List ((K × V) × ℕ)) → labels_of (with_values es ws) ≡ labels_of es
+  labels_of-with_values [] ws = refl
+  labels_of-with_values (e ∷ es) [] = ap (λ l. (e.0.0, e.1) ∷ l) (labels_of-with_values es [])
+  labels_of-with_values (e ∷ es) (w ∷ ws) = ap (λ l. (e.0.0, e.1) ∷ l) (labels_of-with_values es ws)
+
+  pub pairs_of-zip : (ps : List (K × V)) (hs : List ℕ) → length ps ≡ length hs → pairs_of (zip ps hs) ≡ ps
+  pairs_of-zip [] hs e = refl
+  pairs_of-zip (p ∷ ps) [] e = absurd (omega (arith, e))
+  pairs_of-zip (p ∷ ps) (h ∷ hs) e = let rest : length ps ≡ length hs = omega (arith, e) in ap (λ l. p ∷ l) (pairs_of-zip ps hs rest)
+
+  pub firsts_stay : (ps ws : List (K × V)) → map (λ p. p.0) (with_seconds ps ws) ≡ map (λ p. p.0) ps
+  firsts_stay [] ws = refl
+  firsts_stay (p ∷ ps) [] = ap (λ l. p.0 ∷ l) (firsts_stay ps [])
+  firsts_stay (p ∷ ps) (w ∷ ws) = ap (λ l. p.0 ∷ l) (firsts_stay ps ws)
+
+  pub keys_stay : (v : Vec (K × V)) (ws : List (K × V)) → map (λ p. p.0) (with_items v (with_seconds v.items ws)).items ≡ map (λ p. p.0) v.items
+  keys_stay v ws = ap (map (λ p. p.0)) (all_items v (with_seconds v.items ws) (length-with_seconds v.items ws)) ∙ firsts_stay v.items ws
