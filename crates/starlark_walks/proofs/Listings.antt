@@ -1,6 +1,6 @@
 -- Entries whose values were written have their own keys and hashes.
 use mathlib.Core.Path.{◌≡◌, refl, ap}
-use Prim.Native.Nat.{ℕ}
+use Prim.Native.Nat.{ℕ, suc}
 use native.Mathlib.Omega.{arith}
 use lib.ListN.{length}
 use Rattle.std.specs.Prelude.{List, [], ◌∷◌, zip, map}
@@ -43,3 +43,14 @@ module _ {K V : Type 0} where
 
   pub keys_stay : (v : Vec (K × V)) (ws : List (K × V)) → map (λ p. p.0) (with_items v (with_seconds v.items ws)).items ≡ map (λ p. p.0) v.items
   keys_stay v ws = ap (map (λ p. p.0)) (all_items v (with_seconds v.items ws) (length-with_seconds v.items ws)) ∙ firsts_stay v.items ws
+
+  pub length-pairs_of : (es : List ((K × V) × ℕ)) → length (pairs_of es) ≡ length es
+  length-pairs_of [] = refl
+  length-pairs_of (e ∷ es) = ap suc (length-pairs_of es)
+
+  pub length-zip_pairs : (ps : List (K × V)) (hs : List ℕ) → length ps ≡ length hs → length (zip ps hs) ≡ length ps
+  length-zip_pairs [] hs e = refl
+  length-zip_pairs (p ∷ ps) [] e = absurd (omega (arith, e))
+  length-zip_pairs (p ∷ ps) (h ∷ hs) e = let rest : length ps ≡ length hs = omega (arith, e) in ap suc (length-zip_pairs ps hs rest)
+
+pub ruleset listings = (labels_of-with_values, keys_stay, length-pairs_of, length-zip_pairs)

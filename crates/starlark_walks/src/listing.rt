@@ -36,6 +36,7 @@ impl<K, V> Listing<K, V> {
     }
 
     /// The keys and values of the entries, to write the values.
+    #[tactic(auto, using(crate::proofs::Listings::listings))]
     pub fn iter_mut(&mut self) -> PairsMut<'_, K, V>
         ensures* writes_back { sem 𝓛 (listing_follows K.row V.row self.entry result.1) }
         ensures rest { result.0 ≡ pairs_of self.old }
@@ -45,6 +46,7 @@ impl<K, V> Listing<K, V> {
     }
 }
 
+#[tactic(auto, using(crate::proofs::Listings::listings))]
 pub fn clear<K>(pairs: &mut Vec<(K, u32)>)
     ensures { map (λ p. p.0) pairs.new.items ≡ map (λ p. p.0) pairs.old.items }
 {
@@ -53,6 +55,7 @@ pub fn clear<K>(pairs: &mut Vec<(K, u32)>)
     }
 }
 
+#[tactic(auto, using(crate::proofs::Listings::listings))]
 pub fn clear_all<K>(list: &mut Listing<K, u32>)
     ensures { labels_of list.new ≡ labels_of list.old }
 {
