@@ -2,3 +2,4 @@ mod ListingOpen
 mod Listings
 mod NamedClose
 mod Runs
+mod ShelfOpen

@@ -53,4 +53,9 @@ module _ {K V : Type 0} where
   length-zip_pairs (p ∷ ps) [] e = absurd (omega (arith, e))
   length-zip_pairs (p ∷ ps) (h ∷ hs) e = let rest : length ps ≡ length hs = omega (arith, e) in ap suc (length-zip_pairs ps hs rest)
 
+  pub values_again : (es ws : List ((K × V) × ℕ)) → with_values es (with_values es ws) ≡ with_values es ws
+  values_again [] ws = refl
+  values_again (e ∷ es) [] = ap (λ l. e ∷ l) (values_again es [])
+  values_again (e ∷ es) (w ∷ ws) = ap (λ l. ((e.0.0, w.0.1), e.1) ∷ l) (values_again es ws)
+
 pub ruleset listings = (labels_of-with_values, keys_stay, length-pairs_of, length-zip_pairs)

@@ -1,3 +1,5 @@
 pub mod Frozen
 pub mod Listing
 pub mod ListingLending
+pub mod ShelfLending
+pub mod Shelves

@@ -2,7 +2,8 @@
 #![tactic(auto)]
 
 mod loan;
-pub mod pairs_mut;
 pub mod listing;
+pub mod pairs_mut;
+pub mod shelf;
 
 pub use pairs_mut::PairsMut;

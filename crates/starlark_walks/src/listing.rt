@@ -1,5 +1,5 @@
 //! Entries in two columns, of which no two have one hash and equal keys.
-ghost use Rattle.std.specs.Prelude.{◌≡◌, map};
+ghost use Rattle.std.specs.Prelude.{◌≡◌, length, map};
 ghost use Rattle.std.specs.Borrow.{sem};
 ghost use Rattle.starlark_walks.specs.Listing.{pairs_of, labels_of};
 
@@ -28,11 +28,19 @@ impl<K, V> Model for Listing<K, V> {
 impl<K, V> Listing<K, V> {
     ghost use Rattle.starlark_walks.specs.ListingLending.{listing_follows};
 
-    fn lend(&mut self) -> Loan<'_, K, V>
+    pub(crate) fn lend(&mut self) -> Loan<'_, K, V>
         ensures* writes_back { sem 𝓛 (listing_follows K.row V.row self.entry result.tie) }
         ensures rest { (result.from ≡ 0) × (result.rest ≡ pairs_of self.old) }
     {
         Loan::new(&mut self.pairs)
+    }
+
+    /// How many entries there are.
+    #[tactic(auto, using(crate::proofs::Listings::listings))]
+    pub fn len(&self) -> usize
+        ensures { result ≡ length self.now }
+    {
+        self.pairs.len()
     }
 
     /// The keys and values of the entries, to write the values.
