@@ -7,3 +7,6 @@ pub mod pairs_mut;
 pub mod shelf;
 
 pub use pairs_mut::PairsMut;
+
+#[cfg(test)]
+mod tests;

@@ -7,6 +7,7 @@ use std::marker::{Model, PhantomData};
 
 /// The right to the pairs at `start` that are still to be taken: those from the `from`-th on, `rest`. Their first parts
 /// are frozen. `name` is the loan of these, and `tie` the loan of all, which the slice follows.
+#[derive(Drop)]
 pub struct Loan<'a, K, V> {
     start: *mut (K, V),
     mark: PhantomData<&'a mut (K, V)>,
@@ -18,12 +19,6 @@ pub struct Loan<'a, K, V> {
 
 impl<'a, K, V> Model for Loan<'a, K, V> {
     ghost also_owns = { λ l. frozen 'a K.row V.row l.start l.from l.name l.rest };
-}
-
-impl<K, V> Drop for Loan<'_, K, V> {
-    fn drop(self) {
-        let Self { start: _, mark: _ } = self;
-    }
 }
 
 /// The pairs of a vector.
