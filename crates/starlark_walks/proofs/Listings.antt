@@ -3,8 +3,9 @@ use mathlib.Core.Path.{◌≡◌, refl, ap}
 use Prim.Native.Nat.{ℕ, suc}
 use native.Mathlib.Omega.{arith}
 use lib.ListN.{length}
-use Rattle.std.specs.Prelude.{List, [], ◌∷◌, zip, map}
+use Rattle.std.specs.Prelude.{List, [], ◌∷◌, ◌++◌, zip, map}
 use Rattle.std.specs.Global.{Vec}
+use Rattle.std.specs.Map.{values_of}
 use Rattle.std.specs.Vec.{with_items}
 use Rattle.starlark_walks.specs.Frozen.{with_seconds}
 use Rattle.starlark_walks.specs.Listing.{with_values, labels_of, pairs_of}
@@ -57,5 +58,15 @@ module _ {K V : Type 0} where
   values_again [] ws = refl
   values_again (e ∷ es) [] = ap (λ l. e ∷ l) (values_again es [])
   values_again (e ∷ es) (w ∷ ws) = ap (λ l. ((e.0.0, w.0.1), e.1) ∷ l) (values_again es ws)
+
+  pub values_of-last : (ps : List (K × V)) (p : K × V) → values_of (ps ++ p ∷ []) ≡ values_of ps ++ p.1 ∷ []
+  values_of-last [] p = refl
+  values_of-last (q ∷ ps) p = ap (λ l. q.1 ∷ l) (values_of-last ps p)
+
+  pub length-values_of : (ps : List (K × V)) → length (values_of ps) ≡ length ps
+  length-values_of [] = refl
+  length-values_of (p ∷ ps) = ap suc (length-values_of ps)
+
+pub ruleset columns = (values_of-last, length-values_of)
 
 pub ruleset listings = (labels_of-with_values, keys_stay, length-pairs_of, length-zip_pairs)

@@ -1,5 +1,6 @@
 -- What a contract sees of a `Listing`: its entries, each a pair of a key and a value, and the hash of the key.
 use Rattle.std.specs.Prelude.{◌≡◌, ℕ, List, [], ◌∷◌, map, slice_get, Some}
+use Rattle.std.specs.Borrow.{MutBor}
 
 module _ {K V : Type 0} where
   abbrev pub pairs_of : List ((K × V) × ℕ) → List (K × V)
@@ -18,3 +19,7 @@ module _ {K V : Type 0} where
 -- no two places have one label
 abbrev pub IsSingle : {K : Type 0} → List (K × ℕ) → Type 0
 IsSingle {K} xs = (i j : ℕ) (x : K × ℕ) → slice_get xs i ≡ Some x → slice_get xs j ≡ Some x → i ≡ j
+
+-- what a `&mut V` points to
+abbrev pub deref_mut : {V : Type 0} → MutBor V → V
+deref_mut r = r.now

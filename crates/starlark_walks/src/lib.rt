@@ -5,8 +5,10 @@ mod loan;
 pub mod listing;
 pub mod pairs_mut;
 pub mod shelf;
+pub mod values_mut;
 
 pub use pairs_mut::PairsMut;
+pub use values_mut::ValuesMut;
 
 #[cfg(test)]
 mod tests;

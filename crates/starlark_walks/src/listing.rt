@@ -5,6 +5,7 @@ ghost use Rattle.starlark_walks.specs.Listing.{pairs_of, labels_of};
 
 use crate::loan::Loan;
 use crate::pairs_mut::PairsMut;
+use crate::values_mut::ValuesMut;
 use std::marker::Model;
 
 /// Entries, each a pair of a key and a value, and the hash of the key.
@@ -52,6 +53,17 @@ impl<K, V> Listing<K, V> {
         let to = self.pairs.len();
         PairsMut::of(self.lend(), to)
     }
+
+    /// The values of the entries, to write them.
+    #[tactic(auto, using(crate::proofs::Listings::listings))]
+    pub fn values_mut(&mut self) -> ValuesMut<'_, K, V>
+        ensures* writes_back { sem 𝓛 (listing_follows K.row V.row self.entry result.1) }
+        ensures rest { result.0 ≡ pairs_of self.old }
+    {
+        ValuesMut {
+            inner: self.iter_mut(),
+        }
+    }
 }
 
 #[tactic(auto, using(crate::proofs::Listings::listings))]
@@ -69,5 +81,17 @@ pub fn clear_all<K>(list: &mut Listing<K, u32>)
 {
     for (_, value) in list.iter_mut() {
         *value = 0;
+    }
+}
+
+#[tactic(auto, using(crate::proofs::Listings::listings))]
+pub fn clear_values<K>(list: &mut Listing<K, u32>)
+    ensures { labels_of list.new ≡ labels_of list.old }
+{
+    for value in list.values_mut() {
+        *value = 0;
+    }
+    for value in list.values_mut() {
+        *value = 1;
     }
 }
