@@ -2,10 +2,10 @@
 --     closes_named    the whole R is open at (b, o), and its part T, under the name δ, follows γ' by G. With the part at any G w the rest makes F w of the whole, and `keeps` leaves each F w as it is:  the whole follows a new name by `keeps`
 use mathlib.Core.Path.{◌≡◌, refl}
 use Prim.Native.Nat.{ℕ}
-use mathlib.Core.List.{List, [], ◌∷◌}
+use mathlib.Core.List.{[], ◌∷◌}
 use seplogic.Ra.Ura.{Ura}
 use base.Logic.{SProp, ent, sep, wand, ex, all, all_e, apply∗, upd_i, emp, wand_i, snd∗}
-use base.Fml.{Lft, GName, Share, Fml, fsep, fex, fwand, fupd, fdead, fobs, fauth, flent, flft, fseps}
+use base.Fml.{Lft, GName, Share, fsep, fex, fwand, fupd, fdead, fobs, fauth, flent, flft, fseps}
 use base.Stored.{Gv}
 use ghost.Rules.{aged}
 use types.Kit.{‵, raw, ◌⊛◌, later, ◌$◌, ◌∵◌, !, qed, move, keep, drop, use0, use1, use2, split, fsplit, fjoin, fpick, fpack, suffices, updating, await, now, show, assume, done, feq_l, rewrite, group}

@@ -1,7 +1,7 @@
 -- Pairs that lie side by side, whose first parts are frozen while their second parts are lent.
 --     with_seconds ps ws     the first parts of ps, each beside the second part that ws has in its place
 --     frozen κ K V p i γ ps  the right to write the second parts of ps, which lie from the i-th pair at p on, under the name γ
-use Rattle.std.specs.Prelude.{◌≡◌, ℕ, ◌+◌, ◌*◌, List, [], ◌∷◌, length}
+use Rattle.std.specs.Prelude.{ℕ, ◌+◌, ◌*◌, List, [], ◌∷◌, length}
 use Rattle.std.specs.Borrow.{Fml, RattleType, MutBor, GName, Array, Lends, follows}
 use Rattle.std.specs.Global.{Vec}
 use Rattle.std.specs.Vec.{with_items}

@@ -1,8 +1,8 @@
 //! Walks that lend one part of each element of a slice by `&mut`, while the rest of each element is frozen.
 #![tactic(auto)]
 
-mod loan;
 pub mod listing;
+mod loan;
 pub mod pairs_mut;
 pub mod shelf;
 pub mod values_mut;

@@ -9,12 +9,10 @@ fn values_are_written_in_their_places(rt: HostRuntime) -> Result<(), Fail> {
     for i in 0u32..6 {
         pairs.push((i, 0u64))?;
     }
-    let mut written = 10;
     for (key, value) in PairsMut::new(&mut pairs) {
-        *value = u64::from(*key) + written;
-        written += 10;
+        *value = u64::from(*key).wrapping_add(10);
     }
-    let expected: [(u32, u64); 6] = [(0, 10), (1, 21), (2, 32), (3, 43), (4, 54), (5, 65)];
+    let expected: [(u32, u64); 6] = [(0, 10), (1, 11), (2, 12), (3, 13), (4, 14), (5, 15)];
     assert_eq!(rt; pairs.as_slice(), &expected[..]);
     Ok(())
 }
@@ -36,7 +34,7 @@ fn both_ends_meet(rt: HostRuntime) -> Result<(), Fail> {
             return Err(Fail::from(AllocError));
         };
         assert_eq!(rt; *key, expected);
-        *value = u32::from(*key) + 1;
+        *value = u32::from(*key).wrapping_add(1);
     }
     assert_eq!(rt; walk.len(), 0);
     assert!(rt; walk.next().is_none());

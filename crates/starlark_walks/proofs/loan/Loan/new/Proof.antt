@@ -9,7 +9,7 @@ use mir.Syntax.{Fn, Args, a_type, named}
 use mir.MapTy.{inst_fn}
 use mir.Val.{Val, vptr, vstruct, vcons, vnil}
 use base.Share
-use base.Logic.{SProp, ent, sep, emp, id⊢, ex_e, fst∗, snd∗}
+use base.Logic.{SProp, ent, emp, id⊢, ex_e, fst∗, snd∗}
 use base.Fml.{Lft, GName, Share, ftrue, fsep, flft, fauth}
 use prog.Memory.{Memory}
 use prog.Routine.{Routine}
@@ -32,12 +32,11 @@ use denote.Follow.{follows, follows_then}
 use denote.RattleType.{RattleType, owns}
 use denote.Memory.{mem}
 use denote.Param.{param, layouts}
-use denote.Param.Laws.{Laws}
 use denote.RawPtr.{block_ptr}
-use denote.Ref.{MutBor, MutRef, mut_vals, mut_Tells}
+use denote.Ref.{MutBor, mut_vals, mut_Tells}
 use denote.Shadow.{makes_shadow, pure_l, pure_i}
 use denote.Signature.{plain, types_at, mut_ref_to, named_lft}
-use denote.Slice.{MutSlice, Room, room, slice_val, mut_slice_at, mut_slice_vals}
+use denote.Slice.{MutSlice, Room, room, mut_slice_at, mut_slice_vals}
 use denote.Steps.{nothing, heard, only}
 use denote.Struct.Owning.{shape}
 use denote.Struct.Struct.{Struct}
@@ -50,7 +49,7 @@ use denote.Triple.Walked.{says, Stays, stay_dropped, walk_of, ends_at, walked, w
 use Rattle.std.specs.Global.{Vec}
 use Rattle.std.specs.Vec.{with_items}
 use Rattle.starlark_walks.specs.Frozen.{Pair, column, with_seconds, lent_run}
-use Rattle.starlark_walks.proofs.NamedClose.{Closed, closes_named}
+use Rattle.starlark_walks.proofs.NamedClose.{closes_named}
 use Rattle.starlark_walks.proofs.Runs.{Made, run_made, kept_items}
 use Rattle.starlark_walks.specs.declared.loan.Loan.{Loan}
 use Rattle.starlark_walks.specs.contracts.loan.Loan as L-type

@@ -1,21 +1,20 @@
 -- `take_last` takes the last pair. Assumes `Logic`.
 use mathlib.Core.Path.{◌≡◌, refl, sym, ap, subst, ◌∙◌}
-use Prim.Native.Nat.{ℕ, suc, ◌+◌, ◌*◌, ◌<◌, ◌^◌}
+use Prim.Native.Nat.{ℕ, ◌+◌, ◌*◌, ◌<◌, ◌^◌}
 use native.Mathlib.Omega.{arith}
-use native.Mathlib.Nat.{suc-mul}
-use mathlib.Core.List.{List, [], ◌∷◌, ◌++◌}
+use mathlib.Core.List.{List, [], ◌∷◌}
 use lib.ListN.{length, length-append}
 use seplogic.Ra.Ura.{Ura}
 use base.Fraction.{full_share}
 use mir.Syntax.{Fn, Args, a_type, named, w64}
 use mir.MapTy.{inst_fn}
 use mir.Val.{Val, vint, vptr, vstruct, vcons, vnil}
-use base.Logic.{SProp, ent, sep, id⊢}
+use base.Logic.{SProp, ent, id⊢}
 use base.Fml.{Lft, GName, Share, Incl-trans, ftrue, flft}
 use prog.Memory.{Memory}
 use prog.Routine.{Routine}
 use prog.Wp.{Env, Calls, Loops, WpFn, Tables}
-use types.Logic.{Logic, sem}
+use types.Logic.{Logic}
 use contract.BorrowLft.{◌⊑◌}
 use contract.Lifetimes.{Lfts, AllOutlive}
 use contract.Monad.{Fun, fact}
@@ -33,7 +32,7 @@ use denote.Param.{param, layouts}
 use denote.Param.Laws.{Laws, param_laws}
 use denote.Plain.{uint_vals, uint_Tells}
 use denote.RattleType.{RattleType, owns}
-use denote.RawPtr.{Ptr, block_ptr, in_a_block}
+use denote.RawPtr.{Ptr, in_a_block}
 use denote.Ref.{Bor, MutBor, MutRef, ShrRef, mut_vals, mut_Tells}
 use denote.Shadow.{pure_l, pure_i}
 use denote.Signature.{plain, types_at, named_lft}
@@ -49,7 +48,7 @@ use Rattle.core.proofs.ptr.Rows.{times_below, add_times}
 use Rattle.core.proofs.slots.Leases.{uncapped}
 use Rattle.std_alloc.proofs.VecSteps.Shapes.{after}
 use Rattle.starlark_walks.specs.Frozen.{Pair, frozen, lent_run, lent_one}
-use Rattle.starlark_walks.proofs.Runs.{Off, Parted, first_at, second_at, first_out, last_out, pair_out, pair_made, parted, parted_last}
+use Rattle.starlark_walks.proofs.Runs.{Off, Parted, first_at, second_at, last_out, pair_out, pair_made, parted_last}
 use Rattle.starlark_walks.specs.declared.loan.Loan.{Loan}
 use Rattle.starlark_walks.specs.contracts.loan.Loan as L-type
 use Rattle.starlark_walks.proofs.loan.Loan.TheLaws as L-laws

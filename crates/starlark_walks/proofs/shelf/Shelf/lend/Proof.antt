@@ -1,16 +1,14 @@
 -- `lend` lends the listing, and the whole shelf, open over the call, is closed by what it follows. Assumes `Logic`.
-use mathlib.Core.Path.{◌≡◌, refl, sym, ap, subst, ◌∙◌}
-use Prim.Native.Nat.{ℕ, ◌+◌, ◌*◌}
-use native.Mathlib.Nat.{zero-add, zero-mul}
+use mathlib.Core.Path.{◌≡◌, refl, sym, ap, ◌∙◌}
+use Prim.Native.Nat.{ℕ, ◌+◌}
 use mathlib.Core.List.{List, [], ◌∷◌}
-use lib.ListN.{length}
 use seplogic.Ra.Ura.{Ura}
 use base.Fraction.{full_share}
 use mir.Syntax.{Fn, Args, a_type, named}
 use mir.MapTy.{inst_fn}
 use mir.Val.{Val, vptr, vstruct, vcons, vnil}
 use base.Share
-use base.Logic.{SProp, ent, sep, emp, id⊢, ex_e, fst∗, snd∗}
+use base.Logic.{SProp, ent, emp, id⊢, ex_e, snd∗}
 use base.Fml.{Lft, GName, Share, ftrue, fsep, flft, fauth}
 use prog.Memory.{Memory}
 use prog.Routine.{Routine}
@@ -23,36 +21,25 @@ use sound.WpLaws.{FmC, fm_of, WpFn-mono}
 use types.Late.{ages, bor_new_deep}
 use types.Mut.{open_ref}
 use types.Tokens.{name_new}
-use types.Kit.{‵, raw, ◌⊛◌, some, later, ◌$◌, ◌∵◌, !, qed, move, keep, drop, use0, use1, use2, split, split3, join, pick, fsplit, fsplit3, fjoin, fjoin3, fpack, feq_i, feq_l, rewrite, suffices, frame, await, group, done}
-use types.Part.{whole, sub, agg}
-use types.Run.{stop, fld, hop, from, addr, and_then, no_more, returns, enter}
-use types.ByLocal.{alloc_all, pass_all, free_all, look_at, look_in_at, get, through, sets, lands_as}
-use denote.Array.{Array}
+use types.Kit.{‵, raw, ◌⊛◌, some, later, ◌$◌, ◌∵◌, !, qed, move, keep, drop, use0, use1, use2, split, split3, join, pick, fsplit, fsplit3, fjoin, fjoin3, fpack, feq_i, rewrite, suffices, frame, await, group, done}
+use types.Run.{stop, fld, addr, and_then, no_more, returns, enter}
+use types.ByLocal.{alloc_all, pass_all, free_all, look_at, get, through, sets, lands_as}
 use denote.Exit.{no}
-use denote.Follow.{follows, follows_then}
+use denote.Follow.{follows}
 use denote.RattleType.{RattleType, owns}
 use denote.Memory.{mem}
 use denote.Param.{param, layouts}
 use denote.Param.Laws.{Laws}
-use denote.RawPtr.{block_ptr}
-use denote.Ref.{MutBor, MutRef, mut_vals, mut_Tells}
-use denote.Shadow.{makes_shadow, pure_l, pure_i}
+use denote.Ref.{MutBor, mut_vals, mut_Tells}
 use denote.Signature.{plain, types_at, mut_ref_to, named_lft}
-use denote.Slice.{MutSlice, Room, room, slice_val, mut_slice_at, mut_slice_vals}
 use denote.Steps.{nothing, heard, only}
-use denote.Struct.Owning.{shape}
-use denote.Struct.Struct.{Struct}
 use denote.Triple.Call.{calls_at}
 use denote.Triple.Clauses.{Clauses, Ended, closing, ensured, lasts}
 use denote.Triple.Spec.{Meets, triple_of}
 use denote.Triple.Statement.{Contract, Triple}
 use denote.Triple.Table.{entered}
 use denote.Triple.Walked.{says, Stays, stay_dropped, walk_of, ends_at, walked, walk_Meets, Goes-spent_ref}
-use Rattle.std.specs.Global.{Vec}
-use Rattle.std.specs.Vec.{with_items}
-use Rattle.starlark_walks.specs.Frozen.{Pair, column, with_seconds, lent_run}
-use Rattle.starlark_walks.proofs.NamedClose.{Closed, closes_named}
-use Rattle.starlark_walks.proofs.Runs.{Made, run_made, kept_items}
+use Rattle.starlark_walks.proofs.NamedClose.{closes_named}
 use Rattle.starlark_walks.specs.declared.loan.Loan.{Loan}
 use Rattle.starlark_walks.specs.contracts.loan.Loan as L-type
 use Rattle.starlark_walks.specs.contracts.shelf.Shelf.lend as F
@@ -61,12 +48,10 @@ use Rattle.starlark_walks.specs.contracts.listing.Listing.lend as g
 use Rattle.starlark_walks.proofs.listing.Listing.lend.Symbol.{name as #run}
 use Rattle.starlark_walks.proofs.listing.Listing.lend.Met as loan
 use Rattle.starlark_walks.proofs.loan.Loan.TheLaws as L-laws
-use Rattle.starlark_walks.specs.Listing.{IsSingle, labels_of, pairs_of, with_values}
+use Rattle.starlark_walks.specs.Listing.{pairs_of, with_values}
 use Rattle.starlark_walks.proofs.Listings.{values_again}
 use Rattle.starlark_walks.proofs.ShelfOpen as O
 use Rattle.starlark_walks.specs.Shelves.{shelf_of}
-use Rattle.starlark_walks.proofs.Runs.{all_items, length-with_seconds}
-use Rattle.std.specs.Prelude.{zip}
 use denote.Laws.{shows}
 use denote.Memory.{part_at}
 use denote.Param.Laws.{param_laws}
