@@ -1,3 +1,4 @@
+mod FrozenRuns
 mod ListingOpen
 mod Listings
 mod NamedClose

@@ -1,4 +1,5 @@
 pub mod Frozen
+pub mod FrozenRun
 pub mod Listing
 pub mod ListingLending
 pub mod ShelfLending
