@@ -5,38 +5,25 @@ use mathlib.Core.Path.{◌≡◌, refl, sym, ap, ◌∙◌}
 use Prim.Native.Nat.{ℕ, suc, ◌+◌}
 use native.Mathlib.Omega.{arith}
 use mathlib.Core.List.{List, [], ◌∷◌, ◌++◌}
-use lib.ListN.{length, length-append, drop as drop_l}
-use lib.Seq.{take_at as take_all}
+use lib.ListN.{length, length-append}
 use seplogic.Ra.Ura.{Ura}
 use mir.Syntax.{Lifetime}
-use mir.Val.{Val, vptr, vstruct, vcons, vnil}
-use base.Fraction.{full_share}
-use base.Logic.{SProp, ent, sep, emp, wand, id⊢, all_e, apply∗}
-use base.Fml.{Lft, GName, Share, Fml, Incl, Incl-refl, ftrue, fseps, flft, fobs, fbor}
+use mir.Val.{Val}
+use base.Logic.{ent, sep, emp, id⊢}
+use base.Fml.{Lft, GName, Share, ftrue, flft, fobs, fbor}
 use base.Stored.{coded_list}
-use prog.Memory.{size, align, up}
-use types.Kit.{Item, ‵, raw, ◌⊛◌, some, later, mean, ◌$◌, ◌∵◌, !, qed, by, move, keep, drop, use0, use1, use2, split, split3, pick, fsplit, fsplit3, fjoin, fjoin3, fpack, feq_i, feq_l, rewrite, group, await, updating, now, show, done}
+use types.Kit.{Item, ‵, raw, ◌⊛◌, some, later, mean, ◌$◌, ◌∵◌, !, qed, move, keep, drop, use0, use1, use2, split, split3, pick, fsplit, fsplit3, fjoin, feq_i, feq_l, rewrite, group, await, updating, now, show, done}
 use types.Logic.{Logic, sem}
 use types.SemTy.{cells, Arr, Body}
 use types.Mut.{open_ref}
-use types.Follow.{after, after₂, takes_part, takes_two, takes_beside}
+use types.Follow.{after₂, takes_part, takes_two}
 use denote.Array.{Array}
 use denote.Follow.{follows}
 use denote.FollowSlice.{heres_id}
-use denote.Memory.{mem, lone, part_at, part_of}
-use denote.Opens.{hide}
-use denote.Param.{param}
-use denote.Param.Laws.{Laws, param_laws}
-use denote.RattleType.{RattleType, Denots, Valss}
-use denote.Ref.{MutRef, ShrRef}
+use denote.Memory.{mem}
+use denote.RattleType.{RattleType}
 use denote.Slice.{MutSlice}
 use denote.Steps.{nothing}
-use denote.Struct.Loose.{lawfuls}
-use denote.Struct.Members.{Member, rows_of, parts_at}
-use denote.Struct.Parts.{shape_of, PartsBack, Struct-parts}
-use denote.Struct.Struct.{Struct, within}
-use denote.Struct.Declared.{shape}
-use denote.Struct.Tuple.{Tuple, tuple_type, parts_loose}
 use borrow.Table.Elements.{at, cut_app, join_app}
 use Rattle.starlark_walks.specs.FrozenRun.{kept_run, keep_slot, KeptItem, KeptItems, lent_item, lent_items}
 use Rattle.std.specs.Prelude.{Option, Some, None}
