@@ -1,0 +1,205 @@
+//! The workloads on `SmallMap`. Each does one pass; its checksum is the same on any map in order of insertion.
+
+use crate::fault::Fault;
+use crate::keys::{places, Key};
+use crate::pass::{mix, Pass};
+use starlark_hash::Hashed;
+use starlark_small::SmallMap;
+use std::alloc::Global;
+use std::time::Instant;
+
+/// How many operations a pass does, where nothing else is said.
+pub const MILLION: usize = 1_000_000;
+
+// The map of these keys, each with its number in the stream as its value.
+#[inline]
+fn fill<K: Key>(map: &mut SmallMap<K, K>, block: &[K], first: u64) -> Result<(), Fault> {
+    let mut number = first;
+    for key in block {
+        map.insert_hashed(Hashed::new(*key), K::of(number))?;
+        number = number.wrapping_add(1);
+    }
+    Ok(())
+}
+
+// Maps of `n` keys each, the first of the first `n` keys, and so on.
+fn prepared<K: Key>(alloc: Global, keys: &[K], n: usize, count: usize) -> Result<Vec<SmallMap<K, K>>, Fault> {
+    let mut maps = Vec::with_capacity(alloc, count)?;
+    let mut first = 0_u64;
+    for block in keys.chunks(n.max(1)).take(count) {
+        let mut map = SmallMap::new(alloc);
+        fill(&mut map, block, first)?;
+        maps.push(map)?;
+        first = first.wrapping_add(n as u64);
+    }
+    Ok(maps)
+}
+
+/// Builds maps of `n` keys, a million keys in all.
+pub fn build<K: Key>(rt: &HostRuntime, keys: &[K], n: usize) -> Result<Pass, Fault> {
+    let start = Instant::now(rt)?;
+    let mut checksum = 0;
+    let mut first = 0_u64;
+    for block in keys.chunks(n.max(1)).take(MILLION / n.max(1)) {
+        let mut map = SmallMap::new(rt.alloc());
+        fill(&mut map, block, first)?;
+        let last = map.last().map_or(0, |(_, value)| value.number());
+        checksum = mix(checksum, (map.len() as u64).wrapping_add(last));
+        first = first.wrapping_add(n as u64);
+    }
+    Pass::since(rt, start, checksum)
+}
+
+/// Looks up a million keys that are there, in a map of `n` keys.
+pub fn hit<K: Key>(rt: &HostRuntime, keys: &[K], n: usize) -> Result<Pass, Fault> {
+    let mut map = SmallMap::new(rt.alloc());
+    fill(&mut map, keys.get(..n).unwrap_or(keys), 0)?;
+    let mut queries = Vec::with_capacity(rt.alloc(), MILLION)?;
+    for place in places(rt.alloc(), n, MILLION)? {
+        if let Some(key) = keys.get(place) {
+            queries.push(Hashed::new(*key))?;
+        }
+    }
+    let start = Instant::now(rt)?;
+    let mut checksum = 0_u64;
+    for query in &queries {
+        if let Some(value) = map.get_hashed(query.as_ref()) {
+            checksum = checksum.wrapping_add(value.number());
+        }
+    }
+    Pass::since(rt, start, checksum)
+}
+
+/// Looks up a million keys that are not there, in a map of `n` keys.
+pub fn miss<K: Key>(rt: &HostRuntime, keys: &[K], n: usize) -> Result<Pass, Fault> {
+    let mut map = SmallMap::new(rt.alloc());
+    fill(&mut map, keys.get(..n).unwrap_or(keys), 0)?;
+    let mut queries = Vec::with_capacity(rt.alloc(), MILLION)?;
+    for key in keys.iter().skip(MILLION).take(MILLION) {
+        queries.push(Hashed::new(*key))?;
+    }
+    let start = Instant::now(rt)?;
+    let mut checksum = 0_u64;
+    for query in &queries {
+        if map.get_hashed(query.as_ref()).is_none() {
+            checksum = checksum.wrapping_add(1);
+        }
+    }
+    Pass::since(rt, start, checksum)
+}
+
+// The sum of all keys and values.
+#[inline]
+fn sum<K: Key>(map: &SmallMap<K, K>) -> u64 {
+    let mut sum = 0_u64;
+    for (key, value) in map.iter_hashed() {
+        sum = sum.wrapping_add(key.key().number()).wrapping_add(value.number());
+    }
+    sum
+}
+
+/// Walks a map of `n` keys, four million entries in all.
+pub fn walk<K: Key>(rt: &HostRuntime, keys: &[K], n: usize) -> Result<Pass, Fault> {
+    let mut map = SmallMap::new(rt.alloc());
+    fill(&mut map, keys.get(..n).unwrap_or(keys), 0)?;
+    let start = Instant::now(rt)?;
+    let mut checksum = 0_u64;
+    for _ in 0..4 * MILLION / n.max(1) {
+        checksum = checksum.wrapping_add(sum(&map));
+    }
+    Pass::since(rt, start, checksum)
+}
+
+// How often `cycle` turns at this length.
+pub fn turns(n: usize) -> usize {
+    if n < 1000 {
+        200_000
+    } else if n < 10_000 {
+        20_000
+    } else {
+        2_000
+    }
+}
+
+/// Removes the middle entry of a map of `n` keys and inserts it again under the next value, again and again.
+pub fn cycle<K: Key>(rt: &HostRuntime, keys: &[K], n: usize) -> Result<Pass, Fault> {
+    let mut map = SmallMap::new(rt.alloc());
+    fill(&mut map, keys.get(..n).unwrap_or(keys), 0)?;
+    let start = Instant::now(rt)?;
+    let mut checksum = 0;
+    for _ in 0..turns(n) {
+        if let Some((key, _)) = map.get_index(n / 2) {
+            let key = *key;
+            if let Some((_, value)) = map.shift_remove_hashed_entry(Hashed::new(&key)) {
+                map.insert_hashed(Hashed::new(key), K::of(value.number().wrapping_add(1)))?;
+                checksum = mix(checksum, key.number().wrapping_add(value.number()));
+            }
+        }
+    }
+    Pass::since(rt, start, checksum)
+}
+
+// Removes the middle entry until none is left.
+fn drain_one<K: Key>(map: &mut SmallMap<K, K>, checksum: u64) -> u64 {
+    let mut checksum = checksum;
+    for _ in 0..map.len() {
+        let Some((key, _)) = map.get_index(map.len() / 2) else {
+            return checksum;
+        };
+        let key = *key;
+        if let Some((_, value)) = map.shift_remove_hashed_entry(Hashed::new(&key)) {
+            checksum = mix(checksum, value.number());
+        }
+    }
+    checksum
+}
+
+/// Drains maps of `n` keys, a hundred thousand keys in all, always by the middle key.
+pub fn drain<K: Key>(rt: &HostRuntime, keys: &[K], n: usize) -> Result<Pass, Fault> {
+    let mut maps = prepared(rt.alloc(), keys, n, 100_000 / n.max(1))?;
+    let start = Instant::now(rt)?;
+    let mut checksum = 0;
+    for map in &mut maps {
+        checksum = drain_one(map, checksum);
+    }
+    Pass::since(rt, start, checksum)
+}
+
+// Pops until no entry is left.
+fn pop_one<K: Key>(map: &mut SmallMap<K, K>, checksum: u64) -> u64 {
+    let mut checksum = checksum;
+    for _ in 0..map.len() {
+        if let Some((_, value)) = map.pop() {
+            checksum = mix(checksum, value.number());
+        }
+    }
+    checksum
+}
+
+/// Pops each entry of maps of `n` keys, a million keys in all.
+pub fn pop<K: Key>(rt: &HostRuntime, keys: &[K], n: usize) -> Result<Pass, Fault> {
+    let mut maps = prepared(rt.alloc(), keys, n, MILLION / n.max(1))?;
+    let start = Instant::now(rt)?;
+    let mut checksum = 0;
+    for map in &mut maps {
+        checksum = pop_one(map, checksum);
+    }
+    Pass::since(rt, start, checksum)
+}
+
+/// Sorts maps of `n` keys, a million keys in all.
+pub fn sort<K: Key>(rt: &HostRuntime, keys: &[K], n: usize) -> Result<Pass, Fault> {
+    let mut maps = prepared(rt.alloc(), keys, n, MILLION / n.max(1))?;
+    let start = Instant::now(rt)?;
+    for map in &mut maps {
+        map.sort_keys()?;
+    }
+    let pass = Pass::since(rt, start, 0)?;
+    let mut checksum = 0;
+    for map in &maps {
+        for (_, value) in map.iter_hashed() {
+            checksum = mix(checksum, value.number());
+        }
+    }
+    Ok(Pass { checksum, ..pass })
+}
