@@ -32,7 +32,19 @@ module _ {K V : Type 0} where
   abbrev pub IsSound : (K → K → Bool) → EntryList K V → Type 0
   IsSound eq m = IsSingle eq m.entries × (length m.entries ≤ m.capacity)
 
+-- the key under its own hash, where `feeds` tells what a key feeds
+abbrev pub own_hashed : {K : Type 0} → (K → HashWrites) → K → Hashed K
+own_hashed feeds key = hashed (own_hash feeds key) key
+
 module _ {Q K V : Type 0} (equivalent : Q → K → Bool) where
   -- the place under the query's hash whose key the query is equivalent to
   abbrev pub query_match : List (Entry K V) → Hashed (Bor Q) → Option ℕ
   query_match es query = position_of (hash_of query) (equivalent (key_of query).now) es
+
+  -- the same of a query by value
+  abbrev pub query_match_by_value : List (Entry K V) → Hashed Q → Option ℕ
+  query_match_by_value es query = position_of (hash_of query) (equivalent (key_of query)) es
+
+  -- the same of a query under its own hash
+  abbrev pub own_match : (Q → HashWrites) → List (Entry K V) → Q → Option ℕ
+  own_match feeds es query = query_match_by_value es (own_hashed feeds query)

@@ -1,3 +1,5 @@
 //! The walks of a `SmallMap`, which are those of its list.
 
-pub use starlark_vecmap::vec_map::IterHashed;
+pub use starlark_vecmap::vec_map::{
+    IntoIter, IntoIterHashed, IntoKeys, IntoValues, Iter, IterHashed, Keys, Values,
+};

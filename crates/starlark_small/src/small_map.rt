@@ -5,6 +5,7 @@ mod grow;
 mod read;
 mod shrink;
 mod walk;
+mod write;
 
 use starlark_vecmap::VecMap;
 use std::alloc::Global;

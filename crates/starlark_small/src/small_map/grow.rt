@@ -2,14 +2,43 @@
 ghost use Rattle.std.specs.Prelude.{◌≡◌, ◌+◌, ◌<◌, length, None, IsSome, IsTrue, IfOk, IfErr, OnOk, OnErr};
 ghost use Rattle.starlark_hash.specs.Entries.{value_at, with_value, match_of, insert_entry};
 ghost use Rattle.starlark_hash.specs.Sorting.{Ascends, sorted_by_key};
-ghost use Rattle.starlark_small.specs.Map.{KeepsMemory, KeepsRoom, GrowsFor, query_match};
+ghost use Rattle.starlark_small.specs.Map.{KeepsMemory, KeepsRoom, GrowsFor, query_match, own_hashed};
 
 use super::SmallMap;
 use crate::entries::{insert_in, replace_at, sort_in};
 use starlark_hash::{Equivalent, Hashed, NoRoom};
 use std::alloc::AllocError;
+use std::hash::Hash;
 
 impl<K: Eq, V> SmallMap<K, V> {
+    /// Inserts under the key's own hash, as `insert_hashed` does under one that is brought.
+    pub fn insert(&mut self, key: K, value: V) -> Result<Option<V>, NoRoom<(K, V)>>
+    where
+        K: Hash + Drop,
+        // The value that was there, and the entries now.
+        ensures old { IfOk result (λ old. old ≡ value_at self.old.entries (match_of K.eq self.old.entries (own_hashed K.hash_input key))) }
+        ensures entries { OnOk result (self.new.entries ≡ insert_entry K.eq self.old.entries (own_hashed K.hash_input key) value) }
+
+        // A refusal comes only of a new key and without room. The pair comes back, and entries and index stay.
+        ensures absent { OnErr result (match_of K.eq self.old.entries (own_hashed K.hash_input key) ≡ None) }
+        ensures full { OnErr result (self.old.room ≡ 0) }
+        ensures handed_back { IfErr result (λ refused. refused.0 ≡ (key, value)) }
+        ensures unchanged { OnErr result ((self.new.entries ≡ self.old.entries) × (self.new.indexed ≡ self.old.indexed)) }
+
+        // A key that is there changes nothing but its value; with room to spare nothing grows; else the
+        // capacity and an index may.
+        ensures replaced { IsSome (match_of K.eq self.old.entries (own_hashed K.hash_input key)) → self.new ≡ record self.old { entries = self.new.entries } }
+        ensures spare { 0 < self.old.room → (self.new.capacity ≡ self.old.capacity) × (self.new.indexed ≡ self.old.indexed) }
+        ensures room { KeepsRoom self.old self.new }
+        ensures capacity { GrowsFor (length self.old.entries + 1) self.old self.new }
+        ensures indexed { IsTrue self.old.indexed → IsTrue self.new.indexed }
+    {
+        match self.insert_hashed(Hashed::new(key), value) {
+            Ok(old) => Ok(old),
+            Err(NoRoom((key, value))) => Err(NoRoom((key.into_key(), value))),
+        }
+    }
+
     /// Inserts under this hash. A key that is there keeps its place and its stored key and takes the value,
     /// whose old one is answered; a new key goes last. Only a new key is refused, where there is no room and
     /// no memory is found: it comes back with its value, and the entries stay.

@@ -1,14 +1,31 @@
 //! What takes entries out of a `SmallMap`, and what turns it round. None of it asks for memory.
 ghost use Rattle.std.specs.Prelude.{◌≡◌, ◌-◌, ◌<◌, [], remove, reverse, slice_get, length, Some};
 ghost use Rattle.std.specs.Option.{option_map};
-ghost use Rattle.starlark_hash.specs.Entries.{entry_at, pair_of, without};
-ghost use Rattle.starlark_small.specs.Map.{KeepsMemory, query_match};
+ghost use Rattle.starlark_hash.specs.Entries.{entry_at, value_at, pair_of, without};
+ghost use Rattle.starlark_small.specs.Map.{KeepsMemory, query_match, own_match};
 
 use super::SmallMap;
 use crate::entries::{remove_at, reverse_in};
+use crate::own_hash::under_own_hash;
 use starlark_hash::{Equivalent, Hashed};
+use std::hash::Hash;
+
+// Removals by key
 
 impl<K: Eq, V> SmallMap<K, V> {
+    /// Removes the entry under this hash whose key the query is equivalent to, drops its key and answers its value.
+    /// Those after it move up.
+    pub fn shift_remove_hashed<Q: Equivalent<K>>(&mut self, key: Hashed<&Q>) -> Option<V>
+    where
+        K: Drop,
+        ensures taken { result ≡ value_at self.old.entries (query_match Q.equivalent self.old.entries key.entry) }
+        ensures entries { self.new.entries ≡ without self.old.entries (query_match Q.equivalent self.old.entries key.entry) }
+        ensures kept { KeepsMemory self.old self.new }
+    {
+        let (_, value) = self.shift_remove_hashed_entry(key)?;
+        Some(value)
+    }
+
     /// Removes the entry under this hash whose key the query is equivalent to, and answers its key and value.
     /// Those after it move up.
     pub fn shift_remove_hashed_entry<Q: Equivalent<K>>(&mut self, key: Hashed<&Q>) -> Option<(K, V)>
@@ -18,6 +35,42 @@ impl<K: Eq, V> SmallMap<K, V> {
     {
         let index = self.get_index_of_hashed(key)?;
         let (key, value) = self.take_at(index);
+        Some((key.into_key(), value))
+    }
+
+    /// Removes the entry under the query's own hash whose key the query is equivalent to, drops its key and answers
+    /// its value. Those after it move up.
+    pub fn shift_remove<Q: Equivalent<K> + Hash>(&mut self, key: &Q) -> Option<V>
+    where
+        K: Drop,
+        ensures taken { result ≡ value_at self.old.entries (own_match Q.equivalent Q.hash_input self.old.entries key.now) }
+        ensures entries { self.new.entries ≡ without self.old.entries (own_match Q.equivalent Q.hash_input self.old.entries key.now) }
+        ensures kept { KeepsMemory self.old self.new }
+    {
+        self.shift_remove_hashed(under_own_hash(key))
+    }
+
+    /// Removes the entry under the query's own hash whose key the query is equivalent to, and answers its key and
+    /// value. Those after it move up.
+    pub fn shift_remove_entry<Q: Equivalent<K> + Hash>(&mut self, key: &Q) -> Option<(K, V)>
+        ensures taken { result ≡ option_map pair_of (entry_at self.old.entries (own_match Q.equivalent Q.hash_input self.old.entries key.now)) }
+        ensures entries { self.new.entries ≡ without self.old.entries (own_match Q.equivalent Q.hash_input self.old.entries key.now) }
+        ensures kept { KeepsMemory self.old self.new }
+    {
+        self.shift_remove_hashed_entry(under_own_hash(key))
+    }
+}
+
+// Removals by place, and turns
+
+impl<K: Eq, V> SmallMap<K, V> {
+    /// Removes the entry at a place, and answers its key and value. Those after it move up.
+    pub fn shift_remove_index(&mut self, index: usize) -> Option<(K, V)>
+        ensures taken { result ≡ option_map pair_of (slice_get self.old.entries index) }
+        ensures entries { self.new.entries ≡ remove self.old.entries index }
+        ensures kept { KeepsMemory self.old self.new }
+    {
+        let (key, value) = self.shift_remove_index_hashed(index)?;
         Some((key.into_key(), value))
     }
 
