@@ -1,28 +1,22 @@
 -- Entries whose keys are seen as bytes: the words on entries say the same of them.
-use Rattle.std.proofs.Common.{◌≡◌, ℕ, zero, suc, ◌+◌, Bool, cond, ℤ, List, [], ◌∷◌, ◌++◌, length, Option, Some, None, refl, sym, ap, ◌∙◌}
-use Rattle.std.specs.Prelude.{position, map, slice_get, string_bytes, nat_lt, not}
-use Rattle.std.specs.List.{position_or_len}
+use Rattle.std.proofs.Common.{◌≡◌, ℕ, zero, suc, ◌-◌, Bool, ℤ, List, [], ◌∷◌, ◌++◌, length, Option, Some, None, refl, sym, ap, ◌∙◌}
+use Rattle.std.specs.Prelude.{remove, slice_get, string_bytes}
 use Rattle.std.specs.Option.{option_map, option_map_or}
 use Rattle.std.specs.Str.{bytes_eq}
+use Rattle.std.specs.String.{string_cmp}
 use Rattle.std.specs.declared.string.String.{String}
 use Rattle.std.specs.declared.alloc.Global.{Global}
 use Rattle.std.proofs.lemmas.List.{length-map}
 use Rattle.std.proofs.lemmas.Option.{slice_get-map}
 use Rattle.starlark_hash.specs.declared.hashed.Hashed.{Hashed}
 use Rattle.starlark_hash.specs.declared.hash_value.StarlarkHashValue.{StarlarkHashValue}
-use Rattle.starlark_hash.specs.Entries.{Entry, entry_value, position_of, value_at, set_value_at, match_of, insert_entry}
+use Rattle.starlark_hash.specs.Entries.{Entry, entry_value, pair_of, entry_at, position_of, value_at, set_value_at, match_of, insert_entry, without}
 use Rattle.starlark_hash.specs.HashValue.{hashed, hash_of, key_of}
+use Rattle.starlark_hash.specs.Sorting.{Ascends, key_lt, sorted_by_key}
 use Rattle.starlark_script.specs.Commands.{Key}
+use Rattle.starlark_script.specs.Replies.{bytes_cmp}
 use Rattle.starlark_script.specs.ShownEntries.{shown_entry, entries_of}
-
-position_or_len-map : {A B : Type 0} (f : A → B) (p : B → Bool) (xs : List A) → position_or_len p (map f xs) ≡ position_or_len (λ x. p (f x)) xs
-position_or_len-map f p [] = refl
-position_or_len-map f p (x ∷ xs) = ap (λ n. cond (not (p (f x))) (1 + n) 0) (position_or_len-map f p xs)
-
-position-map : {A B : Type 0} (f : A → B) (p : B → Bool) (xs : List A) → position p (map f xs) ≡ position (λ x. p (f x)) xs
-position-map f p xs =
-    ap (λ n. cond (nat_lt n (length (map f xs))) (Some n) None) (position_or_len-map f p xs)
-    ∙ ap (λ n. cond (nat_lt (position_or_len (λ x. p (f x)) xs) n) (Some (position_or_len (λ x. p (f x)) xs)) None) (length-map xs f)
+use Rattle.starlark_script.proofs.Images.{position-map, remove-map, sorted_by-map, ascends-map}
 
 -- a search by bytes finds the same place
 pub position_of-entries_of : (es : List (Entry (String Global) ℤ)) (hash : StarlarkHashValue) (passes : List ℕ → Bool)
@@ -81,3 +75,54 @@ found es key shown h k =
     value-entries_of es (hash_of key) (string_bytes (key_of key))
     ∙ ap (λ hash. value_at (entries_of es) (position_of hash (bytes_eq (string_bytes (key_of key))) (entries_of es))) h
     ∙ ap (λ text. value_at (entries_of es) (position_of (hash_of shown) (bytes_eq text) (entries_of es))) k
+
+-- a removal by bytes removes the string with these bytes
+pub removed : (es new : List (Entry (String Global) ℤ)) (hash : StarlarkHashValue) (bytes : List ℕ)
+    → new ≡ without es (position_of hash (λ key. bytes_eq bytes (string_bytes key)) es)
+    → entries_of new ≡ without (entries_of es) (position_of hash (bytes_eq bytes) (entries_of es))
+removed es new hash bytes e =
+    ap entries_of e ∙ sym (ap (without (entries_of es)) (position_of-entries_of es hash (bytes_eq bytes)) ∙ by (position_of hash (λ key. bytes_eq bytes (string_bytes key)) es))
+  where
+    by : (place : Option ℕ) → without (entries_of es) place ≡ entries_of (without es place)
+    by None = refl
+    by (Some i) = remove-map shown_entry es i
+
+-- and takes the value under these bytes
+pub taken_value : (es : List (Entry (String Global) ℤ)) (hash : StarlarkHashValue) (bytes : List ℕ) (taken : Option (String Global × ℤ))
+    → taken ≡ option_map pair_of (entry_at es (position_of hash (λ key. bytes_eq bytes (string_bytes key)) es))
+    → option_map (λ p. p.1) taken ≡ value_at (entries_of es) (position_of hash (bytes_eq bytes) (entries_of es))
+taken_value es hash bytes taken h =
+    ap (option_map (λ p. p.1)) h ∙ by (entry_at es (position_of hash (λ key. bytes_eq bytes (string_bytes key)) es)) ∙ value-entries_of es hash bytes
+  where
+    by : (e : Option (Entry (String Global) ℤ)) → option_map (λ p. p.1) (option_map pair_of e) ≡ option_map entry_value e
+    by None = refl
+    by (Some e) = refl
+
+abbrev shown_pair : String Global × ℤ → List ℕ × ℤ
+shown_pair p = (string_bytes p.0, p.1)
+
+-- the pair at a place, its key as bytes
+pair-entries_of : (es : List (Entry (String Global) ℤ)) (i : ℕ) → option_map pair_of (slice_get (entries_of es) i) ≡ option_map shown_pair (option_map pair_of (slice_get es i))
+pair-entries_of es i = ap (option_map pair_of) (slice_get-map shown_entry es i) ∙ same (slice_get es i)
+  where
+    same : (o : Option (Entry (String Global) ℤ)) → option_map pair_of (option_map shown_entry o) ≡ option_map shown_pair (option_map pair_of o)
+    same None = refl
+    same (Some e) = refl
+
+pub pair-none : (es : List (Entry (String Global) ℤ)) (i : ℕ) → None ≡ option_map pair_of (slice_get es i) → option_map pair_of (slice_get (entries_of es) i) ≡ None
+pair-none es i e = pair-entries_of es i ∙ sym (ap (option_map shown_pair) e)
+
+pub pair-some : (es : List (Entry (String Global) ℤ)) (i : ℕ) (key : String Global) (value : ℤ) → Some (key, value) ≡ option_map pair_of (slice_get es i)
+    → option_map pair_of (slice_get (entries_of es) i) ≡ Some (string_bytes key, value)
+pair-some es i key value e = pair-entries_of es i ∙ sym (ap (option_map shown_pair) e)
+
+-- without the last entry
+pub popped : (es new : List (Entry (String Global) ℤ)) → new ≡ remove es (length es - 1) → entries_of new ≡ remove (entries_of es) (length (entries_of es) - 1)
+popped es new e = ap entries_of e ∙ sym (remove-map shown_entry es (length es - 1)) ∙ ap (λ n. remove (entries_of es) (n - 1)) (sym (length-map es shown_entry))
+
+-- a sort by bytes is a sort of the strings
+pub sorted : (es new : List (Entry (String Global) ℤ)) → new ≡ sorted_by_key string_cmp es → entries_of new ≡ sorted_by_key bytes_cmp (entries_of es)
+sorted es new e = ap entries_of e ∙ sym (sorted_by-map shown_entry (key_lt bytes_cmp) es)
+
+pub ascends : (es : List (Entry (String Global) ℤ)) → Ascends bytes_cmp (entries_of es) → Ascends string_cmp es
+ascends es h = ascends-map shown_entry (key_lt bytes_cmp) es h

@@ -1,6 +1,6 @@
 -- The fields of a line.
-use Rattle.std.proofs.Common.{◌≡◌, ◌≢◌, ℕ, ◌<◌, ◌≤◌, List, [], ◌∷◌, ◌++◌, length, get_or, false, Option, Some, None, refl, sym, ap, subst, ◌∙◌, arith, lit<}
-use Rattle.std.specs.Prelude.{◌==◌, All, MatchOption, IsUtf8}
+use Rattle.std.proofs.Common.{◌≡◌, ◌≢◌, ℕ, ◌<◌, ◌≤◌, List, [], ◌∷◌, ◌++◌, length, get_or, Bool, true, false, Option, Some, None, refl, sym, ap, subst, ◌∙◌, arith, lit<}
+use Rattle.std.specs.Prelude.{◌==◌, ◌&&◌, nat_lt, All, MatchOption, IsUtf8, codes}
 use Rattle.std.specs.List.{join_with_byte, AllByRecursion}
 use Rattle.std.specs.Str.{IsAscii}
 use denote.Ref.{Bor}
@@ -11,7 +11,7 @@ use Rattle.std.proofs.lemmas.Str.Ascii.{IsAscii-nil, IsAscii-cons, IsAscii-from_
 use Rattle.std.proofs.lemmas.Fmt.{IsAscii-decimal, IsAscii-signed}
 use Rattle.std.proofs.lemmas.Bool.Decides.{nat_tests}
 use Rattle.starlark_hash.specs.HashValue.{hash_number, hash_of, key_of}
-use Rattle.starlark_script.specs.Commands.{Key, Command, Put, Get, Len, Walk, fields_of, fields, hash_text, IsKey, IsLawful, IsLineOf, IsBad}
+use Rattle.starlark_script.specs.Commands.{Key, Command, Put, Get, Del, At, Pop, Rev, Sort, Clear, Len, Walk, fields_of, fields, hash_text, IsKey, IsLawful, IsLineOf, IsBad}
 use Rattle.starlark_script.proofs.Numbers.{fits-mag}
 
 no-space : (b : ℕ) → b ≢ 32 → (b == 32) ≡ false
@@ -51,14 +51,34 @@ key-ascii key h = IsAscii-from_all (key_of key) (All-weaker (λ b. (33 ≤ b) ×
 hash-ascii : (key : Key) → IsKey key → IsAscii (hash_text key)
 hash-ascii key h = IsAscii-decimal (hash_number (hash_of key)) (let small = h.hash in omega arith)
 
-three : (a b c : ℕ) → a < 128 → b < 128 → c < 128 → IsAscii (a ∷ b ∷ c ∷ [])
-three a b c x y z = IsAscii-cons a (b ∷ c ∷ []) x (IsAscii-cons b (c ∷ []) y (IsAscii-cons c [] z IsAscii-nil))
+below : (b : ℕ) → nat_lt b 128 ≡ true → b < 128
+below b e = grind (arith, nat_tests)
+
+-- a word whose bytes are seen
+abbrev small : List ℕ → Bool
+small [] = true
+small (b ∷ bs) = nat_lt b 128 && small bs
+
+word : (bs : List ℕ) → small bs ≡ true → IsAscii bs
+word [] e = IsAscii-nil
+word (b ∷ bs) e = by (nat_lt b 128) refl (small bs) refl e (word bs)
+  where
+    by : (t : Bool) → nat_lt b 128 ≡ t → (u : Bool) → small bs ≡ u → (t && u) ≡ true → (small bs ≡ true → IsAscii bs) → IsAscii (b ∷ bs)
+    by true x true y e w = IsAscii-cons b bs (below b x) (w y)
+    by true x false y e w = cc
+    by false x u y e w = cc
 
 fields-ascii : (c : Command) → IsLawful c → AllByRecursion IsAscii (fields c)
-fields-ascii (Put key v) l = (three 112 117 116 (lit< tt) (lit< tt) (lit< tt), (hash-ascii key l.0, (key-ascii key l.0, (IsAscii-signed v (fits-mag v l.1), tt))))
-fields-ascii (Get key) l = (three 103 101 116 (lit< tt) (lit< tt) (lit< tt), (hash-ascii key l, (key-ascii key l, tt)))
-fields-ascii Len l = (three 108 101 110 (lit< tt) (lit< tt) (lit< tt), tt)
-fields-ascii Walk l = (IsAscii-cons 119 (97 ∷ 108 ∷ 107 ∷ []) (lit< tt) (three 97 108 107 (lit< tt) (lit< tt) (lit< tt)), tt)
+fields-ascii (Put key v) l = (word (codes "put") refl, (hash-ascii key l.0, (key-ascii key l.0, (IsAscii-signed v (fits-mag v l.1), tt))))
+fields-ascii (Get key) l = (word (codes "get") refl, (hash-ascii key l, (key-ascii key l, tt)))
+fields-ascii (Del key) l = (word (codes "del") refl, (hash-ascii key l, (key-ascii key l, tt)))
+fields-ascii (At n) l = (word (codes "at") refl, (IsAscii-decimal n (omega arith), tt))
+fields-ascii Pop l = (word (codes "pop") refl, tt)
+fields-ascii Rev l = (word (codes "rev") refl, tt)
+fields-ascii Sort l = (word (codes "sort") refl, tt)
+fields-ascii Clear l = (word (codes "clear") refl, tt)
+fields-ascii Len l = (word (codes "len") refl, tt)
+fields-ascii Walk l = (word (codes "walk") refl, tt)
 
 pub line-ascii : (line : List ℕ) (c : Command) → IsLineOf line c → IsAscii line
 line-ascii line c h =

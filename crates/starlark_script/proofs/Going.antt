@@ -5,16 +5,12 @@ use Rattle.std.specs.Io.KnownBytes.{Keeps, Appends, IsAtEnd, prepend_known}
 use Rattle.std.proofs.KnownBytes.{Appends-nil, Appends-trans, Appends-kept}
 use Rattle.std.proofs.lemmas.List.{append-nil, take_all, drop_all, nil_from_length, length_push}
 use Rattle.starlark_script.specs.Lines.{lines_of}
-use Rattle.starlark_script.specs.Commands.{Command, MayNeedMemory, IsLineOf, IsBad}
-use Rattle.starlark_script.specs.Replies.{Entries, reply, after, replies}
+use Rattle.starlark_script.specs.Commands.{Command, IsLineOf, IsBad}
+use Rattle.starlark_script.specs.Replies.{Entries, reply, after, MayNeedMemory, entries_after, replies}
 use Rattle.starlark_script.specs.Script.{AreLinesOf, Answers, IsPlayed, StopsAtBadLine, StopsForMemory}
 use Rattle.starlark_script.specs.Found.{Shows}
 use Rattle.starlark_script.specs.declared.window.Found.TheVariants.{End, Line, TooLong}
 use Rattle.starlark_script.proofs.LineFacts.{lines-last, first-ended, first-long}
-
-abbrev pub entries_after : Entries → List Command → Entries
-entries_after es [] = es
-entries_after es (c ∷ cs) = entries_after (after es c) cs
 
 entries_after-push : (es : Entries) (cs : List Command) (c : Command) → entries_after es (cs ++ c ∷ []) ≡ after (entries_after es cs) c
 entries_after-push es [] c = refl
@@ -140,7 +136,7 @@ going-bad (Some s) (Some a) (Some r) old new es i line g l b =
 
 -- the next line is good, and was not done
 pub going-stop : (known left next old new newer : Option (List ℕ)) (es : Entries) (i : ℕ) (line : List ℕ) (c : Command)
-    → Going known left old new es i → Leads left line next → IsLineOf line c → MayNeedMemory c → Keeps new newer → IfSome known (StopsForMemory old newer)
+    → Going known left old new es i → Leads left line next → IsLineOf line c → MayNeedMemory es c → Keeps new newer → IfSome known (StopsForMemory old newer)
 going-stop None left next old new newer es i line c g l w m k = tt
 going-stop (Some s) None next old new newer es i line c g l w m k = absurd g.taken
 going-stop (Some s) (Some a) None old new newer es i line c g l w m k = absurd l
@@ -151,7 +147,7 @@ going-stop (Some s) (Some a) (Some r) old new newer es i line c g l w m k =
       command = c;
       reaches = record { before = g.taken.before; more = lines_of r; cut = g.taken.cut ∙ ap (λ x. g.taken.before ++ x) l; good = g.taken.good };
       good = w;
-      needs = m;
+      needs = rw g.entries at m;
       written = Appends-kept old new newer (replies [] g.commands) g.written k;
     }
 

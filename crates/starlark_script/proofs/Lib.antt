@@ -6,5 +6,6 @@ pub mod FieldFacts
 pub mod OneReading
 pub mod Writes
 pub mod Going
+pub mod Images
 pub mod EntriesLemmas
 pub mod Results

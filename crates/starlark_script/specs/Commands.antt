@@ -13,6 +13,12 @@ Key = Hashed (List ℕ)
 pub data Command : Type 0 where
   Put : (key : Key) (value : ℤ) → Command
   Get : (key : Key) → Command
+  Del : (key : Key) → Command
+  At : (place : ℕ) → Command
+  Pop : Command
+  Rev : Command
+  Sort : Command
+  Clear : Command
   Len : Command
   Walk : Command
 
@@ -28,6 +34,12 @@ hash_text key = decimal (hash_number (hash_of key))
 abbrev pub fields : Command → List (List ℕ)
 fields (Put key value) = codes "put" ∷ hash_text key ∷ key_of key ∷ signed_decimal value ∷ []
 fields (Get key) = codes "get" ∷ hash_text key ∷ key_of key ∷ []
+fields (Del key) = codes "del" ∷ hash_text key ∷ key_of key ∷ []
+fields (At place) = codes "at" ∷ decimal place ∷ []
+fields Pop = codes "pop" ∷ []
+fields Rev = codes "rev" ∷ []
+fields Sort = codes "sort" ∷ []
+fields Clear = codes "clear" ∷ []
 fields Len = codes "len" ∷ []
 fields Walk = codes "walk" ∷ []
 
@@ -41,6 +53,12 @@ pub record IsKey (key : Key) : Type 0 where
 abbrev pub IsLawful : Command → Type 0
 IsLawful (Put key value) = IsKey key × FitsSigned w64 value
 IsLawful (Get key) = IsKey key
+IsLawful (Del key) = IsKey key
+IsLawful (At place) = place ≤ 1000000
+IsLawful Pop = Unit {0}
+IsLawful Rev = Unit {0}
+IsLawful Sort = Unit {0}
+IsLawful Clear = Unit {0}
 IsLawful Len = Unit {0}
 IsLawful Walk = Unit {0}
 
@@ -53,11 +71,6 @@ pub record IsLineOf (line : List ℕ) (command : Command) : Type 0 where
 -- the line is that of no command
 abbrev pub IsBad : List ℕ → Type 0
 IsBad line = (command : Command) → ¬ (IsLineOf line command)
-
--- the commands for which memory may be asked
-abbrev pub MayNeedMemory : Command → Type 0
-MayNeedMemory (Put key value) = Unit {0}
-MayNeedMemory command = ⊥
 
 -- no line is that of two commands
 abbrev pub LinesAreOfOne : Type 0

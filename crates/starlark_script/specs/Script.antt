@@ -3,8 +3,8 @@ use Rattle.std.specs.Prelude.{◌≡◌, ℕ, ◌+◌, List, [], ◌∷◌, ◌+
 use Rattle.std.specs.List.{AllZip}
 use Rattle.std.specs.Io.KnownBytes.{Appends}
 use Rattle.starlark_script.specs.Lines.{lines_of}
-use Rattle.starlark_script.specs.Commands.{Command, MayNeedMemory, IsLineOf, IsBad}
-use Rattle.starlark_script.specs.Replies.{replies}
+use Rattle.starlark_script.specs.Commands.{Command, IsLineOf, IsBad}
+use Rattle.starlark_script.specs.Replies.{MayNeedMemory, entries_after, replies}
 
 -- the writer got the replies to these commands of an empty map, and no more
 abbrev pub Answers : Option (List ℕ) → Option (List ℕ) → List Command → Type 0
@@ -36,12 +36,12 @@ pub record StopsAtBadLine (old new : Option (List ℕ)) (number : ℕ) (script :
   pub number_is : number ≡ length commands + 1
   pub written : Answers old new commands
 
--- the replies to some first lines of the script were written, and the next line is that of a command that may need memory
+-- the replies to some first lines of the script were written, and the next line is that of a command that may need memory there
 pub record StopsForMemory (old new : Option (List ℕ)) (script : List ℕ) : Type 0 where
   pub commands : List Command
   pub line : List ℕ
   pub command : Command
   pub reaches : Reaches script commands line
   pub good : IsLineOf line command
-  pub needs : MayNeedMemory command
+  pub needs : MayNeedMemory (entries_after [] commands) command
   pub written : Answers old new commands

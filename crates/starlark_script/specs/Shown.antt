@@ -5,7 +5,7 @@ use Rattle.starlark_hash.specs.declared.text_key.TextKey.{TextKey}
 use Rattle.starlark_hash.specs.HashValue.{hashed, hash_of, key_of}
 use Rattle.starlark_script.specs.Commands as script
 use Rattle.starlark_script.specs.declared.command.Command.{Command}
-use Rattle.starlark_script.specs.declared.command.Command.TheVariants.{Put, Get, Len, Walk}
+use Rattle.starlark_script.specs.declared.command.Command.TheVariants.{Put, Get, Del, At, Pop, Rev, Sort, Clear, Len, Walk}
 use Rattle.starlark_script.specs.declared.command.Fields.{Fields}
 use Rattle.starlark_script.specs.declared.command.Fields.TheVariants.{One, Two, Three, Four, More}
 
@@ -16,6 +16,12 @@ shown_key key = hashed (hash_of key) (key_of key).0.now
 abbrev pub shown : Command → script.Command
 shown (Put key value) = script.Put (shown_key key) value
 shown (Get key) = script.Get (shown_key key)
+shown (Del key) = script.Del (shown_key key)
+shown (At place) = script.At place
+shown Pop = script.Pop
+shown Rev = script.Rev
+shown Sort = script.Sort
+shown Clear = script.Clear
 shown Len = script.Len
 shown Walk = script.Walk
 

@@ -1,10 +1,11 @@
 //! What each command does to the map, and what is replied.
-ghost use Rattle.std.specs.Prelude.{◌≡◌, ◌≢◌, ℕ, IfOk, OnOk, IfErr, flat_map};
+ghost use Rattle.std.specs.Prelude.{◌≡◌, ◌≢◌, ℕ, ◌-◌, [], length, remove, reverse, slice_get, IfOk, OnOk, IfErr, OnErr, Some, codes, flat_map};
 ghost use Rattle.std.specs.Io.KnownBytes.{Keeps, Appends};
+ghost use Rattle.std.specs.Option.{option_map};
 ghost use Rattle.std.specs.Str.{bytes_eq};
-ghost use Rattle.starlark_hash.specs.Entries.{value_at, match_of, insert_entry};
-ghost use Rattle.starlark_script.specs.Commands.{MayNeedMemory};
-ghost use Rattle.starlark_script.specs.Replies.{value_text, entry_text, reply, after};
+ghost use Rattle.starlark_hash.specs.Entries.{pair_of, value_at, match_of, insert_entry, without};
+ghost use Rattle.starlark_hash.specs.Sorting.{Ascends, sorted_by_key};
+ghost use Rattle.starlark_script.specs.Replies.{MayNeedMemory, bytes_cmp, ended, value_text, pair_text, entry_text, reply, after};
 ghost use Rattle.starlark_script.specs.Shown.{shown, shown_key};
 ghost use Rattle.starlark_script.specs.ShownEntries.{entries_of};
 
@@ -27,7 +28,7 @@ pub fn answer<W: Write>(
     ensures done { OnOk result (entries_of map.new.entries ≡ after (entries_of map.old.entries) (shown command.entry)) }
     ensures replied { OnOk result (Appends (W.contents writer.old) (W.contents writer.new) (reply (entries_of map.old.entries) (shown command.entry))) }
     ensures memory { result ≡ Err PlayFault.Memory → Keeps (W.contents writer.old) (W.contents writer.new) }
-    ensures needed { result ≡ Err PlayFault.Memory → MayNeedMemory (shown command.entry) }
+    ensures needed { result ≡ Err PlayFault.Memory → MayNeedMemory (entries_of map.old.entries) (shown command.entry) }
     ensures good { (n : ℕ) → result ≢ Err (PlayFault.BadLine n) }
 {
     match command {
@@ -36,6 +37,24 @@ pub fn answer<W: Write>(
             write_value(writer, old)
         }
         Command::Get(key) => write_value(writer, get(map, key)),
+        Command::Del(key) => {
+            let old = remove_key(map, key);
+            write_value(writer, old)
+        }
+        Command::At(place) => write_at(map, writer, place),
+        Command::Pop => write_popped(map, writer),
+        Command::Rev => {
+            turn(map);
+            write_ok(writer)
+        }
+        Command::Sort => {
+            sort(map)?;
+            write_ok(writer)
+        }
+        Command::Clear => {
+            map.clear();
+            write_ok(writer)
+        }
         Command::Len => write_line(writer, format_args!("{}", map.len())),
         Command::Walk => write_entries(writer, map.iter_hashed()),
     }
@@ -63,6 +82,69 @@ fn get(map: &SmallMap<String, i64>, key: Hashed<TextKey<'_>>) -> Option<i64>
     ensures { result ≡ value_at (entries_of map.now.entries) (match_of bytes_eq (entries_of map.now.entries) (shown_key key.entry)) }
 {
     map.get_hashed(key.as_ref()).copied()
+}
+
+// Removes an entry.
+fn remove_key(map: &mut SmallMap<String, i64>, key: Hashed<TextKey<'_>>) -> Option<i64>
+    ensures old { result ≡ value_at (entries_of map.old.entries) (match_of bytes_eq (entries_of map.old.entries) (shown_key key.entry)) }
+    ensures entries { entries_of map.new.entries ≡ without (entries_of map.old.entries) (match_of bytes_eq (entries_of map.old.entries) (shown_key key.entry)) }
+{
+    let (_key, value) = map.shift_remove_hashed_entry(key.as_ref())?;
+    Some(value)
+}
+
+fn turn(map: &mut SmallMap<String, i64>)
+    ensures { entries_of map.new.entries ≡ reverse (entries_of map.old.entries) }
+{
+    map.reverse();
+}
+
+fn sort(map: &mut SmallMap<String, i64>) -> Result<(), PlayFault>
+    ensures entries { OnOk result (entries_of map.new.entries ≡ sorted_by_key bytes_cmp (entries_of map.old.entries)) }
+    ensures err { IfErr result (λ fault. fault ≡ PlayFault.Memory) }
+    ensures needed { OnErr result (¬ (Ascends bytes_cmp (entries_of map.old.entries))) }
+{
+    map.sort_keys().map_err(|_| PlayFault::Memory)
+}
+
+fn write_at<W: Write>(
+    map: &SmallMap<String, i64>,
+    writer: &mut W,
+    place: usize,
+) -> Result<(), PlayFault>
+    ensures ok { OnOk result (Appends (W.contents writer.old) (W.contents writer.new) (pair_text (option_map pair_of (slice_get (entries_of map.now.entries) place)))) }
+    ensures err { IfErr result (λ fault. fault ≡ PlayFault.Io) }
+{
+    match map.get_index(place) {
+        None => write_line(writer, "none"),
+        Some((key, value)) => write_pair(writer, key.as_str(), *value),
+    }
+}
+
+// Removes the last entry, and writes it.
+fn write_popped<W: Write>(map: &mut SmallMap<String, i64>, writer: &mut W) -> Result<(), PlayFault>
+    ensures ok { OnOk result (Appends (W.contents writer.old) (W.contents writer.new) (pair_text (option_map pair_of (slice_get (entries_of map.old.entries) (length (entries_of map.old.entries) - 1))))) }
+    ensures entries { entries_of map.new.entries ≡ remove (entries_of map.old.entries) (length (entries_of map.old.entries) - 1) }
+    ensures err { IfErr result (λ fault. fault ≡ PlayFault.Io) }
+{
+    match map.pop() {
+        None => write_line(writer, "none"),
+        Some((key, value)) => write_pair(writer, key.as_str(), value),
+    }
+}
+
+fn write_pair<W: Write>(writer: &mut W, key: &str, value: i64) -> Result<(), PlayFault>
+    ensures ok { OnOk result (Appends (W.contents writer.old) (W.contents writer.new) (pair_text (Some (key.now, value)))) }
+    ensures err { IfErr result (λ fault. fault ≡ PlayFault.Io) }
+{
+    write_line(writer, format_args!("some {key} {value}"))
+}
+
+fn write_ok<W: Write>(writer: &mut W) -> Result<(), PlayFault>
+    ensures ok { OnOk result (Appends (W.contents writer.old) (W.contents writer.new) (ended (codes "ok"))) }
+    ensures err { IfErr result (λ fault. fault ≡ PlayFault.Io) }
+{
+    write_line(writer, "ok")
 }
 
 fn write_value<W: Write>(writer: &mut W, value: Option<i64>) -> Result<(), PlayFault>

@@ -10,6 +10,9 @@ use starlark_hash::text_key::TextKey;
 use starlark_hash::{Hashed, StarlarkHashValue};
 use std::str;
 
+// The largest place that a line names.
+const MOST: usize = 1_000_000;
+
 /// What a line asks for.
 #[derive(Clone, Copy)]
 pub enum Command<'a> {
@@ -17,6 +20,18 @@ pub enum Command<'a> {
     Put(Hashed<TextKey<'a>>, i64),
     /// Look up the value under this hash and key.
     Get(Hashed<TextKey<'a>>),
+    /// Remove the entry under this hash and key.
+    Del(Hashed<TextKey<'a>>),
+    /// Show the entry at this place, counted from 0.
+    At(usize),
+    /// Remove the last entry.
+    Pop,
+    /// Turn the order of the entries round.
+    Rev,
+    /// Sort the entries by key.
+    Sort,
+    /// Remove each entry.
+    Clear,
     /// Count the entries.
     Len,
     /// Show the entries in order.
@@ -49,9 +64,15 @@ fn command_of(line: &str) -> Option<Command<'_>>
     ensures { MatchOption result (IsBad line.now) (λ command. IsLineOf line.now (shown command)) }
 {
     match fields_in(line) {
+        Fields::One("pop") => Some(Command::Pop),
+        Fields::One("rev") => Some(Command::Rev),
+        Fields::One("sort") => Some(Command::Sort),
+        Fields::One("clear") => Some(Command::Clear),
         Fields::One("len") => Some(Command::Len),
         Fields::One("walk") => Some(Command::Walk),
+        Fields::Two("at", place) => Some(Command::At(count_in(place)?)),
         Fields::Three("get", hash, key) => Some(Command::Get(key_under(hash, key)?)),
+        Fields::Three("del", hash, key) => Some(Command::Del(key_under(hash, key)?)),
         Fields::Four("put", hash, key, value) => {
             Some(Command::Put(key_under(hash, key)?, value_in(value)?))
         }
@@ -101,6 +122,15 @@ fn is_visible(key: &str) -> bool
     ensures { IsTrue result ↔ IsVisible key.now }
 {
     !key.is_empty() && key.as_bytes().iter().all(|b| 33 <= *b && *b <= 126)
+}
+
+// The number that is written so, up to a million.
+fn count_in(text: &str) -> Option<usize>
+    ensures some { IfSome result (λ n. (text.now ≡ decimal n) × (n ≤ 1000000)) }
+    ensures none { IfNone result ((n : ℕ) → n ≤ 1000000 → text.now ≢ decimal n) }
+{
+    let n = hash_in(text)? as usize;
+    if n <= MOST { Some(n) } else { None }
 }
 
 // The number that is written so.

@@ -135,6 +135,19 @@ fn good_scripts(rt: HostRuntime) -> Result<(), Fail> {
             "put 4294967295 ~! -9223372036854775808\nput 0 z 9223372036854775807\nwalk",
             "none\nnone\n4294967295 ~! -9223372036854775808\n0 z 9223372036854775807\n",
         ),
+        (
+            "put 7 b 1\nput 9 a 2\nrev\nwalk\nput 9 a 5\nsort\nat 0\nat 2\ndel 9 b\ndel 7 b\npop\npop\nwalk\nlen\n",
+            "none\nnone\nok\n9 a 2\n7 b 1\nsome 2\nok\nsome a 5\nnone\nnone\nsome 1\nsome a 5\nnone\n0\n",
+        ),
+        // Bytes order the keys, a key comes before those that go on from it, and equal keys keep their order.
+        (
+            "put 2 k 1\nput 1 k -2\nput 3 ab 3\nput 4 a 4\nput 5 Z 5\nsort\nwalk\nsort\nat 4\n",
+            "none\nnone\nnone\nnone\nnone\nok\n5 Z 5\n4 a 4\n3 ab 3\n2 k 1\n1 k -2\nok\nsome k -2\n",
+        ),
+        (
+            "put 1 a 1\nput 2 b 2\nput 3 c 3\ndel 1 a\nwalk\nclear\nlen\nat 1000000\nput 1 c 3\nat 0\n",
+            "none\nnone\nnone\nsome 1\n2 b 2\n3 c 3\nok\n0\nnone\nnone\nsome c 3\n",
+        ),
     ];
     for (script, replies) in scripts {
         check(&rt, script, replies, Ok(()))?;
@@ -158,6 +171,19 @@ fn bad_lines(rt: HostRuntime) -> Result<(), Fail> {
         "Len\n",
         "walk 1\n",
         "\n",
+        "at\n",
+        "at 1000001\n",
+        "at 4294967296\n",
+        "at 01\n",
+        "at -1\n",
+        "at 0 a\n",
+        "del 1\n",
+        "del 01 a\n",
+        "del 1 a 1\n",
+        "pop 1\n",
+        "rev \n",
+        "Sort\n",
+        " clear\n",
     ];
     for line in lines {
         check(&rt, line, "", Err(PlayFault::BadLine(1)))?;
@@ -246,14 +272,18 @@ fn flushes_at_the_end_alone(rt: HostRuntime) -> Result<(), Fail> {
 // Asks for memory in `play` alone, so that each of its requests can be refused.
 #[test]
 fn refused_memory(rt: HostRuntime) -> Result<(), Fail> {
-    let script = "put 1 a 1\nput 2 b 2\nput 1 a 3\nput 3 c 3\nput 4 d 4\nput 5 e 5\nlen\n";
-    let mut room = [0; 64];
+    let script =
+        "put 1 a 1\nput 2 b 2\nput 1 a 3\nput 3 c 3\nput 4 d 4\nput 5 e 5\nlen\nrev\nsort\n\
+        get 1 a\nat 1\ndel 2 b\npop\nwalk\nclear\nput 6 f 6\nsort\nlen\n";
+    let mut room = [0; 128];
     let mut writer = &mut room[..];
     let mut reader = script.as_bytes();
     let answer = play(rt.alloc(), &mut reader, &mut writer);
     let left = writer.len();
     let written = &room[..room.len().saturating_sub(left)];
-    let replies = "none\nnone\nsome 1\nnone\nnone\nnone\n5\n".as_bytes();
+    let replies = "none\nnone\nsome 1\nnone\nnone\nnone\n5\nok\nok\n\
+        some 3\nsome b 2\nsome 2\nsome e 5\n1 a 3\n3 c 3\n4 d 4\nok\nnone\nok\n1\n"
+        .as_bytes();
     assert!(rt; replies.starts_with(written));
     match answer {
         Ok(()) => assert!(rt; written == replies),

@@ -1,3 +1,3 @@
 pub mod RunLemmas
 pub mod Determined
-pub mod SortLemmas
+pub mod SoundLemmas
