@@ -16,7 +16,7 @@ pub const MILLION: usize = 1_000_000;
 fn fill<K: Key>(map: &mut SmallMap<K, K>, block: &[K], first: u64) -> Result<(), Fault> {
     let mut number = first;
     for key in block {
-        map.insert_hashed(Hashed::new(*key), K::of(number))?;
+        map.insert(*key, K::of(number))?;
         number = number.wrapping_add(1);
     }
     Ok(())
@@ -92,8 +92,8 @@ pub fn miss<K: Key>(rt: &HostRuntime, keys: &[K], n: usize) -> Result<Pass, Faul
 #[inline]
 fn sum<K: Key>(map: &SmallMap<K, K>) -> u64 {
     let mut sum = 0_u64;
-    for (key, value) in map.iter_hashed() {
-        sum = sum.wrapping_add(key.key().number()).wrapping_add(value.number());
+    for (key, value) in map {
+        sum = sum.wrapping_add(key.number()).wrapping_add(value.number());
     }
     sum
 }
@@ -130,8 +130,8 @@ pub fn cycle<K: Key>(rt: &HostRuntime, keys: &[K], n: usize) -> Result<Pass, Fau
     for _ in 0..turns(n) {
         if let Some((key, _)) = map.get_index(n / 2) {
             let key = *key;
-            if let Some((_, value)) = map.shift_remove_hashed_entry(Hashed::new(&key)) {
-                map.insert_hashed(Hashed::new(key), K::of(value.number().wrapping_add(1)))?;
+            if let Some(value) = map.shift_remove(&key) {
+                map.insert(key, K::of(value.number().wrapping_add(1)))?;
                 checksum = mix(checksum, key.number().wrapping_add(value.number()));
             }
         }
@@ -147,7 +147,7 @@ fn drain_one<K: Key>(map: &mut SmallMap<K, K>, checksum: u64) -> u64 {
             return checksum;
         };
         let key = *key;
-        if let Some((_, value)) = map.shift_remove_hashed_entry(Hashed::new(&key)) {
+        if let Some(value) = map.shift_remove(&key) {
             checksum = mix(checksum, value.number());
         }
     }
@@ -197,7 +197,7 @@ pub fn sort<K: Key>(rt: &HostRuntime, keys: &[K], n: usize) -> Result<Pass, Faul
     let pass = Pass::since(rt, start, 0)?;
     let mut checksum = 0;
     for map in &maps {
-        for (_, value) in map.iter_hashed() {
+        for (_, value) in map {
             checksum = mix(checksum, value.number());
         }
     }
