@@ -1,9 +1,12 @@
 pub mod BothClose
+pub mod NamedClose
 pub mod Pairs
 pub mod Placing
 pub mod Positions
 pub mod PushLemmas
+pub mod Runs
 pub mod Sieving
 pub mod Sorting
+pub mod Values
 pub mod Vec2Open
 pub mod Walks

@@ -1,8 +1,9 @@
 -- What a `Vec2` ends as, once a reference into it has ended.
 use Rattle.std.specs.Prelude.{ℕ, zero, suc, List, [], ◌∷◌, zip, length, slice_set}
 use Rattle.std.specs.List.{refill}
-use Rattle.std.specs.Borrow.{Fml, RattleType, MutBor, Array, Lends, LendsBoth}
+use Rattle.std.specs.Borrow.{Fml, RattleType, MutBor, GName, Array, Lends, LendsBoth, follows}
 use Rattle.starlark_vec2.specs.PairList.{PairList, with_pairs, firsts_of, seconds_of}
+use Rattle.starlark_vec2.specs.Frozen.{Pair}
 use Rattle.starlark_vec2.specs.contracts.vec2.Vec2.{the_row}
 
 module _ {A B : Type 0} where
@@ -32,6 +33,13 @@ module _ {A B : Type 0} where
   abbrev pub set_seconds : List (A × B) → List B → List (A × B)
   set_seconds ps ys = zip (firsts_of ps) (refill (length ps) (seconds_of ps) ys)
 
+module _ {K V B : Type 0} where
+  -- the pairs, each with the value that ws has in its place; key and second part are its own
+  abbrev pub with_values : List ((K × V) × B) → List ((K × V) × B) → List ((K × V) × B)
+  with_values [] ws = []
+  with_values (p ∷ ps) [] = p ∷ with_values ps []
+  with_values (p ∷ ps) (w ∷ ws) = ((p.0.0, w.0.1), p.1) ∷ with_values ps ws
+
 module _ (A B : RattleType) (s : MutBor (PairList A.Denot B.Denot)) where
   -- the first part at the place ends as what is left behind the reference, and all else stays
   abbrev pub lends_first : ℕ → MutBor A.Denot → Fml
@@ -52,3 +60,8 @@ module _ (A B : RattleType) (s : MutBor (PairList A.Denot B.Denot)) where
   -- both parts of the pair at the place end as what is left behind the references, and all else stays
   abbrev pub lends_both : ℕ → MutBor A.Denot × MutBor B.Denot → Fml
   lends_both i r = LendsBoth (the_row A B) A B s r (λ a b. with_pair s.now i (a, b))
+
+module _ (K V B : RattleType) where
+  -- the list ends with the values that the loan of this name ends with, and all else stays
+  abbrev pub firsts_follow : MutBor (PairList (K.Denot × V.Denot) B.Denot) → GName → Fml
+  firsts_follow s γ = follows (the_row (Pair K V) B) (the_row (Pair K V) B) s.ghost_name γ (λ w. with_pairs s.now (with_values s.now.pairs w.pairs))

@@ -6,3 +6,4 @@ pub mod Positions
 pub mod Lending
 pub mod Collect
 pub mod ColumnLending
+pub mod Frozen

@@ -1,5 +1,5 @@
 -- What is retained of a list, seen through a map of its items.
-use Rattle.std.proofs.Common.{◌≡◌, Bool, true, false, cond, List, [], ◌∷◌, ◌++◌, map, refl, sym, ap, subst, ◌∙◌}
+use Rattle.std.proofs.Common.{◌≡◌, Bool, true, false, cond, List, [], ◌∷◌, ◌++◌, map, refl, ap, ◌∙◌}
 use Rattle.std.specs.List.{FoldsTo}
 use Rattle.starlark_vec2.specs.Retain.{Retains, TakesInTurn, MayLeave}
 

@@ -1,5 +1,5 @@
 -- A search that jumps from match to match, as a search of the keys under a hash.
-use Rattle.std.proofs.Common.{◌≡◌, ℕ, zero, suc, ◌+◌, ◌<◌, Bool, true, false, cond, eqb, List, [], ◌∷◌, ◌++◌, map, zip, length, get_or, drop, Option, Some, None, refl, sym, ap, subst, ◌∙◌, arith, add-one, inl, inr, ◌⊎◌, length-drop}
+use Rattle.std.proofs.Common.{◌≡◌, ℕ, suc, ◌+◌, Bool, true, false, cond, List, [], ◌∷◌, ◌++◌, map, length, get_or, drop, Option, Some, None, refl, sym, ap, subst, ◌∙◌, arith, inl, inr, ◌⊎◌, length-drop}
 use Rattle.std.specs.Prelude.{◌==◌, filter, position}
 use Rattle.std.specs.List.{enumerate_from}
 use Rattle.std.specs.Option.{option_map}
@@ -10,7 +10,7 @@ use Rattle.std.proofs.lemmas.List.Sorted.{IsPermutation-refl, IsPermutation-cons
 use Rattle.std.proofs.lemmas.Option.{none-some}
 use Rattle.starlark_hash.specs.declared.hash_value.StarlarkHashValue.{StarlarkHashValue}
 use Rattle.starlark_hash.specs.Entries.{Entry, entry_key, is_under}
-use Rattle.starlark_hash.specs.Search.{Asks, Refuses, CanSearch}
+use Rattle.starlark_hash.specs.Search.{Asks, CanSearch}
 use Rattle.starlark_hash.proofs.PositionLemmas.{position-cons}
 use Rattle.starlark_vecmap.specs.EntryList.{entries_in, entry_of}
 

@@ -1,5 +1,5 @@
 -- Two columns as a list of entries, and lists seen through a map of their items.
-use Rattle.std.proofs.Common.{◌≡◌, ℕ, zero, suc, List, [], ◌∷◌, ◌++◌, map, zip, length, reverse, remove, refl, sym, ap, ◌∙◌}
+use Rattle.std.proofs.Common.{◌≡◌, ℕ, zero, suc, List, [], ◌∷◌, ◌++◌, map, length, reverse, remove, refl, sym, ap, ◌∙◌}
 use Rattle.std.proofs.lemmas.List.{map-append, reverse-append, length-map}
 use Rattle.std.specs.Map.{keys_of, values_of}
 use Rattle.starlark_hash.specs.Entries.{Entry, entry_key, entry_value, pair_of}

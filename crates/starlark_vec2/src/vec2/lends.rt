@@ -4,10 +4,11 @@ ghost use Rattle.std.specs.Option.{option_map};
 ghost use Rattle.std.specs.Borrow.{sem};
 ghost use Rattle.std.specs.Map.Iter.{deref_pair_mut};
 ghost use Rattle.starlark_vec2.specs.PairList.{firsts_of, seconds_of};
-ghost use Rattle.starlark_vec2.specs.Lending.{deref_both_mut, lends_first, lends_second, lends_firsts, lends_seconds, lends_both};
+ghost use Rattle.starlark_vec2.specs.Lending.{deref_both_mut, lends_first, lends_second, lends_firsts, lends_seconds, lends_both, firsts_follow};
 ghost use Rattle.starlark_vec2.specs.ColumnLending.{lends_place, lends_places};
 
 use super::Vec2;
+use crate::loan::Loan;
 
 impl<A, B> Vec2<A, B> {
     /// The first parts of the pairs, in their order. The list ends with what is left in them.
@@ -85,6 +86,19 @@ impl<A, B> Vec2<A, B> {
         } else {
             None
         }
+    }
+}
+
+impl<K, V, B> Vec2<(K, V), B> {
+    /// The first parts of the pairs, each a key and a value, to write the values. The list ends with the values that
+    /// are left in them, and all else stays. `PairsMut` walks them.
+    #[inline]
+    pub fn lend_firsts(&mut self) -> Loan<'_, K, V>
+        ensures* writes_back { sem 𝓛 (firsts_follow K.row V.row B.row self.entry result.tie) }
+        ensures untouched { result.from ≡ 0 }
+        ensures rest { result.rest ≡ firsts_of self.old.pairs }
+    {
+        Loan::new(&mut self.firsts)
     }
 }
 

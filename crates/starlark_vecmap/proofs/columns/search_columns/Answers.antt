@@ -1,4 +1,4 @@
-use Rattle.std.proofs.Common.{◌≡◌, true, false, sym, ap, arith}
+use Rattle.std.proofs.Common.{sym, ap, arith}
 use Rattle.starlark_vecmap.proofs.Searching.{called_at, searching_asks, searching_refused, searching_accepts, searching_ends, next-Some, next-None}
 use Rattle.starlark_vecmap.proofs.columns.search_columns.Goals as goal
 

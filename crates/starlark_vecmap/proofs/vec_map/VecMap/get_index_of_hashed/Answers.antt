@@ -1,4 +1,4 @@
-use Rattle.std.proofs.Common.{◌≡◌, ap, ◌∙◌, rules, of_calls}
+use Rattle.std.proofs.Common.{ap, ◌∙◌, rules, of_calls}
 use Rattle.starlark_hash.specs.HashValue.{hash_of, key_of}
 use Rattle.starlark_hash.specs.Entries.{stands_under, position_of}
 use Rattle.starlark_hash.proofs.SearchLemmas.{is_test}

@@ -1,4 +1,4 @@
-use Rattle.std.proofs.Common.{◌≡◌, sym, ap, subst, ◌∙◌, length}
+use Rattle.std.proofs.Common.{sym, ap, subst, ◌∙◌}
 use Rattle.starlark_hash.specs.Search.{Asks, CanSearch, keys_under}
 use Rattle.starlark_vecmap.specs.EntryList.{entries_in}
 use Rattle.starlark_vecmap.proofs.Views.{entries_in-columns}

@@ -1,4 +1,4 @@
-use Rattle.std.proofs.Common.{◌≡◌, sym, ap, subst, ◌∙◌}
+use Rattle.std.proofs.Common.{subst}
 use Rattle.std.specs.Prelude.{MatchBool, IsSortedByKey}
 use Rattle.starlark_hash.specs.Sorting.{Ascends}
 use Rattle.starlark_vecmap.proofs.Ordering.{ascends-columns}

@@ -1,4 +1,4 @@
-use Rattle.std.proofs.Common.{◌≡◌, ℕ, map, sym, ap, ◌∙◌, rules, of_calls}
+use Rattle.std.proofs.Common.{◌≡◌, ℕ, map, ap, ◌∙◌, rules, of_calls}
 use Rattle.std.specs.Ordering.{is_lt}
 use Rattle.std.proofs.lemmas.List.Sorted.{ranks_by, answers_always}
 use Rattle.starlark_hash.specs.Sorting.{key_lt, sorted_by_key}

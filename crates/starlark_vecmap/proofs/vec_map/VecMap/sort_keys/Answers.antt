@@ -1,4 +1,4 @@
-use Rattle.std.proofs.Common.{◌≡◌, sym, ap, subst}
+use Rattle.std.proofs.Common.{sym, ap, subst}
 use Rattle.std.specs.Prelude.{MatchBool}
 use Rattle.starlark_hash.specs.Sorting.{Ascends, key_lt}
 use Rattle.starlark_hash.proofs.SortingLemmas.{sorted_by-fixed, key_lt-order}

@@ -1,0 +1,36 @@
+-- Pairs of which the values were written: the keys, and what stands beside each pair, are their own.
+use Rattle.std.proofs.Common.{◌≡◌, suc, List, [], ◌∷◌, ◌++◌, map, length, zip, refl, ap}
+use Rattle.std.specs.Map.{values_of}
+use Rattle.starlark_vec2.specs.Frozen.{with_seconds}
+use Rattle.starlark_vec2.specs.Lending.{with_values}
+
+module _ {K V B : Type 0} where
+  pub with_values-zip : (ps ws : List (K × V)) (bs : List B) → with_values (zip ps bs) (zip (with_seconds ps ws) bs) ≡ zip (with_seconds ps ws) bs
+  with_values-zip [] ws bs = refl
+  with_values-zip (p ∷ ps) [] [] = refl
+  with_values-zip (p ∷ ps) (w ∷ ws) [] = refl
+  with_values-zip (p ∷ ps) [] (b ∷ bs) = ap (λ l. (p, b) ∷ l) (with_values-zip ps [] bs)
+  with_values-zip (p ∷ ps) (w ∷ ws) (b ∷ bs) = ap (λ l. ((p.0, w.1), b) ∷ l) (with_values-zip ps ws bs)
+
+  -- written again with the same values, they stay
+  pub with_values-again : (es ws : List ((K × V) × B)) → with_values es (with_values es ws) ≡ with_values es ws
+  with_values-again [] ws = refl
+  with_values-again (e ∷ es) [] = ap (λ l. e ∷ l) (with_values-again es [])
+  with_values-again (e ∷ es) (w ∷ ws) = ap (λ l. ((e.0.0, w.0.1), e.1) ∷ l) (with_values-again es ws)
+
+  pub length-with_values : (es ws : List ((K × V) × B)) → length (with_values es ws) ≡ length es
+  length-with_values [] ws = refl
+  length-with_values (e ∷ es) [] = ap suc (length-with_values es [])
+  length-with_values (e ∷ es) (w ∷ ws) = ap suc (length-with_values es ws)
+
+module _ {K V : Type 0} where
+  pub values_of-push : (ps : List (K × V)) (p : K × V) → values_of (ps ++ p ∷ []) ≡ values_of ps ++ p.1 ∷ []
+  values_of-push [] p = refl
+  values_of-push (q ∷ ps) p = ap (λ l. q.1 ∷ l) (values_of-push ps p)
+
+  pub length-values_of : (ps : List (K × V)) → length (values_of ps) ≡ length ps
+  length-values_of [] = refl
+  length-values_of (p ∷ ps) = ap suc (length-values_of ps)
+
+-- what a walk of the values may want
+pub ruleset values = (values_of-push, length-values_of)

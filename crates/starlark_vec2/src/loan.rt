@@ -1,0 +1,71 @@
+//! The right to write the values of pairs that lie side by side, while their keys are frozen.
+ghost use Rattle.std.specs.Prelude.{◌≡◌, ℕ, ◌+◌, ◌<◌, List, [], ◌∷◌, ◌++◌, length};
+ghost use Rattle.std.specs.Borrow.{GName, sem};
+ghost use Rattle.std.specs.Map.Iter.{deref_pair_mut};
+ghost use Rattle.starlark_vec2.specs.Frozen.{pairs_follow, lends_run, frozen};
+
+use std::marker::{Model, PhantomData};
+
+/// The right to the pairs at `start` that are still to be taken: those from the `from`-th on, `rest`. Their keys are
+/// frozen. `name` is the loan of these, and `tie` the loan of all, which its lender follows. `PairsMut` walks it.
+#[derive(Drop)]
+pub struct Loan<'a, K, V> {
+    start: *mut (K, V),
+    mark: PhantomData<&'a mut (K, V)>,
+    ghost name: { GName },
+    pub ghost tie: { GName },
+    pub ghost from: { ℕ },
+    pub ghost rest: { List (K × V) },
+}
+
+impl<'a, K, V> Model for Loan<'a, K, V> {
+    ghost also_owns = { λ l. frozen 'a K.row V.row l.start l.from l.name l.rest };
+}
+
+// The pairs of a vector.
+#[inline]
+fn run_mut<K, V>(pairs: &mut Vec<(K, V)>) -> &mut [(K, V)]
+    ensures* writes_back { sem 𝓛 (lends_run K.row V.row pairs.entry result) }
+    ensures value { result.now ≡ pairs.old.items }
+{
+    pairs.as_mut_slice()
+}
+
+impl<'a, K, V> Loan<'a, K, V> {
+    // All pairs of a vector.
+    #[inline]
+    pub(crate) fn new(pairs: &'a mut Vec<(K, V)>) -> Loan<'a, K, V>
+        ensures* writes_back { sem 𝓛 (pairs_follow K.row V.row pairs.entry result.tie) }
+        ensures rest { (result.from ≡ 0) × (result.rest ≡ pairs.old.items) }
+    {
+        let run = run_mut(pairs);
+        Loan {
+            start: run.as_mut_ptr(),
+            mark: PhantomData,
+        }
+    }
+
+    // Takes the first pair that is left; it is the `index`-th of all.
+    #[inline]
+    pub(crate) fn take_first(&mut self, index: usize) -> (&'a K, &'a mut V)
+        requires { (index ≡ self.old.from) × (0 < length self.old.rest) }
+        ensures { (self.old.rest ≡ deref_pair_mut result ∷ self.new.rest) × (self.new.from ≡ self.old.from + 1) × (self.new.tie ≡ self.old.tie) }
+    {
+        unsafe {
+            let pair = self.start.add(index);
+            (&(*pair).0, &mut (*pair).1)
+        }
+    }
+
+    // Takes the last pair that is left; it is the `index`-th of all.
+    #[inline]
+    pub(crate) fn take_last(&mut self, index: usize) -> (&'a K, &'a mut V)
+        requires { (self.old.from + length self.old.rest ≡ index + 1) × (0 < length self.old.rest) }
+        ensures { (self.old.rest ≡ self.new.rest ++ deref_pair_mut result ∷ []) × (self.new.from ≡ self.old.from) × (self.new.tie ≡ self.old.tie) }
+    {
+        unsafe {
+            let pair = self.start.add(index);
+            (&(*pair).0, &mut (*pair).1)
+        }
+    }
+}
