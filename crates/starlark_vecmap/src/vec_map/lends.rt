@@ -6,9 +6,8 @@ ghost use Rattle.starlark_hash.specs.Entries.{entry_value, pair_of};
 ghost use Rattle.starlark_vecmap.specs.EntryList.{deref_entry_mut};
 ghost use Rattle.starlark_vecmap.specs.Lending.{lends_value, values_follow};
 
-use super::{IterMut, ValuesMut, VecMap};
+use super::{IterMut, Loan, ValuesMut, VecMap};
 use starlark_hash::{Hashed, StarlarkHashValue};
-use starlark_vec2::Loan;
 
 impl<K, V> VecMap<K, V> {
     /// The entry at this index, to write the value. The map ends with what is left in it, and all else stays. Rust's is
