@@ -8,7 +8,8 @@ use Rattle.starlark_hash.specs.Hasher.{own_hash}
 use Rattle.starlark_hash.specs.HashValue.{hashed, hash_of, key_of}
 use Rattle.starlark_vecmap.specs.EntryList.{EntryList}
 
--- the entries in order, how many new ones surely need no memory, how many the list holds before it grows, and whether there is an index
+-- the entries in order, how many new ones surely need no memory, how many the list holds before it grows, and whether
+-- there is an index
 pub record Map (K V : Type 0) : Type 0 where
   pub entries : List (Entry K V)
   pub room : ℕ
