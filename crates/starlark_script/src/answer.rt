@@ -1,5 +1,5 @@
 //! What each command does to the map, and what is replied.
-ghost use Rattle.std.specs.Prelude.{◌≡◌, ◌≢◌, ℕ, ◌-◌, [], length, remove, reverse, slice_get, IfOk, OnOk, IfErr, OnErr, Some, codes, flat_map};
+ghost use Rattle.std.specs.Prelude.{◌≡◌, ◌≢◌, ℕ, ◌-◌, [], length, remove, reverse, slice_get, IfOk, OnOk, IfErr, OnErr, Some, codes, decimal, flat_map};
 ghost use Rattle.std.specs.Io.KnownBytes.{Keeps, Appends};
 ghost use Rattle.std.specs.Option.{option_map};
 ghost use Rattle.std.specs.Str.{bytes_eq};
@@ -52,10 +52,10 @@ pub fn answer<W: Write>(
             write_ok(writer)
         }
         Command::Clear => {
-            map.clear();
+            clear(map);
             write_ok(writer)
         }
-        Command::Len => write_line(writer, format_args!("{}", map.len())),
+        Command::Len => write_count(writer, map.len()),
         Command::Walk => write_entries(writer, map.iter_hashed()),
     }
 }
@@ -93,18 +93,29 @@ fn remove_key(map: &mut SmallMap<String, i64>, key: Hashed<TextKey<'_>>) -> Opti
     Some(value)
 }
 
+#[tactic(auto, using(crate::proofs::EntriesLemmas::reversed))]
 fn turn(map: &mut SmallMap<String, i64>)
     ensures { entries_of map.new.entries ≡ reverse (entries_of map.old.entries) }
 {
     map.reverse();
 }
 
+#[tactic(auto, using(crate::proofs::EntriesLemmas::sorted, crate::proofs::EntriesLemmas::ascends))]
 fn sort(map: &mut SmallMap<String, i64>) -> Result<(), PlayFault>
     ensures entries { OnOk result (entries_of map.new.entries ≡ sorted_by_key bytes_cmp (entries_of map.old.entries)) }
     ensures err { IfErr result (λ fault. fault ≡ PlayFault.Memory) }
     ensures needed { OnErr result (¬ (Ascends bytes_cmp (entries_of map.old.entries))) }
 {
-    map.sort_keys().map_err(|_| PlayFault::Memory)
+    match map.sort_keys() {
+        Ok(()) => Ok(()),
+        Err(_) => Err(PlayFault::Memory),
+    }
+}
+
+fn clear(map: &mut SmallMap<String, i64>)
+    ensures { entries_of map.new.entries ≡ [] }
+{
+    map.clear();
 }
 
 fn write_at<W: Write>(
@@ -138,6 +149,13 @@ fn write_pair<W: Write>(writer: &mut W, key: &str, value: i64) -> Result<(), Pla
     ensures err { IfErr result (λ fault. fault ≡ PlayFault.Io) }
 {
     write_line(writer, format_args!("some {key} {value}"))
+}
+
+fn write_count<W: Write>(writer: &mut W, n: usize) -> Result<(), PlayFault>
+    ensures ok { OnOk result (Appends (W.contents writer.old) (W.contents writer.new) (ended (decimal n))) }
+    ensures err { IfErr result (λ fault. fault ≡ PlayFault.Io) }
+{
+    write_line(writer, format_args!("{n}"))
 }
 
 fn write_ok<W: Write>(writer: &mut W) -> Result<(), PlayFault>
