@@ -41,8 +41,8 @@ pub fn answer<W: Write>(
             let old = remove_key(map, key);
             write_value(writer, old)
         }
-        Command::At(place) => write_at(map, writer, place),
-        Command::Pop => write_popped(map, writer),
+        Command::At(place) => write_at(writer, map, place),
+        Command::Pop => write_popped(writer, map),
         Command::Rev => {
             turn(map);
             write_ok(writer)
@@ -84,7 +84,7 @@ fn get(map: &SmallMap<String, i64>, key: Hashed<TextKey<'_>>) -> Option<i64>
     map.get_hashed(key.as_ref()).copied()
 }
 
-// Removes an entry.
+// Removes an entry, and answers its value.
 fn remove_key(map: &mut SmallMap<String, i64>, key: Hashed<TextKey<'_>>) -> Option<i64>
     ensures old { result ≡ value_at (entries_of map.old.entries) (match_of bytes_eq (entries_of map.old.entries) (shown_key key.entry)) }
     ensures entries { entries_of map.new.entries ≡ without (entries_of map.old.entries) (match_of bytes_eq (entries_of map.old.entries) (shown_key key.entry)) }
@@ -93,6 +93,7 @@ fn remove_key(map: &mut SmallMap<String, i64>, key: Hashed<TextKey<'_>>) -> Opti
     Some(value)
 }
 
+// Turns the order of the entries round.
 #[tactic(auto, using(crate::proofs::EntriesLemmas::reversed))]
 fn turn(map: &mut SmallMap<String, i64>)
     ensures { entries_of map.new.entries ≡ reverse (entries_of map.old.entries) }
@@ -118,9 +119,10 @@ fn clear(map: &mut SmallMap<String, i64>)
     map.clear();
 }
 
+// Writes the key and the value at a place.
 fn write_at<W: Write>(
-    map: &SmallMap<String, i64>,
     writer: &mut W,
+    map: &SmallMap<String, i64>,
     place: usize,
 ) -> Result<(), PlayFault>
     ensures ok { OnOk result (Appends (W.contents writer.old) (W.contents writer.new) (pair_text (option_map pair_of (slice_get (entries_of map.now.entries) place)))) }
@@ -133,7 +135,7 @@ fn write_at<W: Write>(
 }
 
 // Removes the last entry, and writes it.
-fn write_popped<W: Write>(map: &mut SmallMap<String, i64>, writer: &mut W) -> Result<(), PlayFault>
+fn write_popped<W: Write>(writer: &mut W, map: &mut SmallMap<String, i64>) -> Result<(), PlayFault>
     ensures ok { OnOk result (Appends (W.contents writer.old) (W.contents writer.new) (pair_text (option_map pair_of (slice_get (entries_of map.old.entries) (length (entries_of map.old.entries) - 1))))) }
     ensures entries { entries_of map.new.entries ≡ remove (entries_of map.old.entries) (length (entries_of map.old.entries) - 1) }
     ensures err { IfErr result (λ fault. fault ≡ PlayFault.Io) }
