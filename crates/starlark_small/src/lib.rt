@@ -3,6 +3,7 @@
 
 pub mod command;
 mod entries;
+mod indexed;
 pub mod iter;
 pub mod runs;
 pub mod small_map;
