@@ -7,6 +7,10 @@ use Rattle.starlark_hash.specs.declared.hashed.Hashed.{Hashed}
 abbrev pub hash_number : StarlarkHashValue → ℕ
 hash_number hash = hash.0
 
+-- the hash with this number
+abbrev pub hash_value : ℕ → StarlarkHashValue
+hash_value n = record { 0 = n }
+
 -- the number times an odd constant, in 64 bits
 abbrev pub promoted : ℕ → ℕ
 promoted h = (h * 0x9e3779b97f4a7c15) % 2 ^ 64

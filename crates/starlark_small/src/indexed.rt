@@ -11,6 +11,8 @@ ghost use Rattle.starlark_vecmap.specs.EntryList.{entry_list, with_entries};
 mod growth;
 mod places;
 mod search;
+#[cfg(test)]
+mod tests;
 
 use growth::{UNINDEXED, index_last, reserve_index};
 use places::{fill_index, unindex};
@@ -22,12 +24,12 @@ use std::alloc::{AllocError, Global};
 use std::mem;
 
 // An empty list and its index, with room for so many entries.
-pub(crate) fn with_room<K, V>(
+pub(crate) fn with_room<K: Eq, V>(
     alloc: Global,
     capacity: usize,
 ) -> Result<(VecMap<K, V>, Option<ReadyTable<usize>>), AllocError>
     ensures entries { IfOk result (λ made. made.0 ≡ entry_list [] capacity) }
-    ensures indexed { IfOk result (λ made. IsIndexed made.0.entries made.1) }
+    ensures sound { IfOk result (λ made. IsSound K.eq made.0.entries made.1) }
     ensures index { IfOk result (λ made. is_some made.1 ≡ nat_lt unindexed capacity) }
     ensures room { IfOk result (λ made. capacity ≤ room_of made.0 made.1) }
     ensures none_for_none { capacity ≡ 0 → IsOk result }
@@ -292,6 +294,7 @@ pub(crate) fn sort_in<K: Ord, V>(
 pub(crate) fn drop_index<K, V>(entries: &VecMap<K, V>, index: &mut Option<ReadyTable<usize>>)
     requires { IsIndexed entries.now.entries index.old }
     ensures index { index.new ≡ (if nat_le (length entries.now.entries) unindexed then None else index.old) }
+    ensures long { unindexed < length entries.now.entries → index.new ≡ index.old }
     ensures indexed { IsIndexed entries.now.entries index.new }
     ensures room { min (length entries.now.entries + room_of entries.now index.old) unindexed ≤ length entries.now.entries + room_of entries.now index.new }
 {

@@ -1,5 +1,5 @@
 //! Runs of commands, over the map's public calls.
-ghost use Rattle.std.specs.Prelude.{◌≡◌, slice_get, IfOk, OnErr, Some};
+ghost use Rattle.std.specs.Prelude.{◌≡◌, ◌≤◌, [], length, slice_get, vec_capacity, IfOk, OnErr, Some};
 ghost use Rattle.std.specs.Option.{option_map};
 ghost use Rattle.starlark_hash.specs.Entries.{Entry, entry_at, match_of};
 ghost use Rattle.starlark_small.specs.Run.{CanShow, IsDetermined, IsShown, Run, Shows, Step, TakesEntry, entry_shown};
@@ -65,10 +65,37 @@ fn step<K: Ord + Drop, V: Drop, R, F: Fn(&K, &V) -> R>(
             map.reverse();
             Reply::Done
         }
+        Command::Reserve(additional) => match map.reserve(additional) {
+            Ok(()) => Reply::Done,
+            Err(AllocError) => Reply::NoMemory,
+        },
+        Command::DropIndex => {
+            map.maybe_drop_index();
+            Reply::Done
+        }
         Command::Sort => match map.sort_keys() {
             Ok(()) => Reply::Done,
             Err(_) => Reply::NoMemory,
         },
+    }
+}
+
+// Does the commands in order, and puts their replies into an empty list that has room for them.
+fn run_in<K: Ord + Drop, V: Drop, R, F: Fn(&K, &V) -> R>(
+    map: &mut SmallMap<K, V>,
+    commands: Vec<Command<K, V>>,
+    look: &F,
+    replies: &mut Vec<Reply<K, V, R>>,
+)
+    requires callable { CanShow F.Fn K.eq K.cmp look.now map.old.entries commands.items }
+    requires empty { replies.old.items ≡ [] }
+    requires room { length commands.items ≤ vec_capacity replies.old }
+    ensures run { Run K.eq K.cmp (Shows F.Fn look.now) map.old.entries commands.items replies.new.items map.new.entries }
+    ensures determined { IsDetermined K.eq K.cmp (Shows F.Fn look.now) map.old.entries commands.items replies.new.items map.new.entries }
+{
+    let mut rest = commands.into_iter();
+    while let Some(command) = rest.next() {
+        replies.push_reserved(step(map, command, look));
     }
 }
 
@@ -94,9 +121,6 @@ where
     ensures unchanged { OnErr result (map.new ≡ map.old) }
 {
     let mut replies = Vec::with_capacity(alloc, commands.len())?;
-    let mut rest = commands.into_iter();
-    while let Some(command) = rest.next() {
-        replies.push_reserved(step(map, command, &look));
-    }
+    run_in(map, commands, &look, &mut replies);
     Ok(replies)
 }

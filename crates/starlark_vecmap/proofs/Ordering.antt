@@ -6,11 +6,12 @@ use Rattle.std.specs.Ordering.{is_lt}
 use Rattle.std.specs.declared.cmp.Ordering.{Ordering}
 use Rattle.std.specs.Cmp.Lexicographic.{pointwise}
 use Rattle.std.proofs.lemmas.List.{get_or-map, get_or_default, length-map}
+use Rattle.starlark_hash.specs.HashValue.{hash_value}
 use Rattle.starlark_hash.specs.Entries.{Entry, entry_key, pair_of}
 use Rattle.starlark_hash.specs.Sorting.{Ascends}
 use Rattle.starlark_vec2.specs.PairList.{firsts_of, seconds_of}
 use Rattle.starlark_vec2.specs.Collect.{IsPairClone}
-use Rattle.starlark_vecmap.specs.EntryList.{entry_of, hash_value}
+use Rattle.starlark_vecmap.specs.EntryList.{entry_of}
 use Rattle.starlark_vecmap.specs.Ordered.{same_ordered}
 use Rattle.starlark_vecmap.specs.Clone.{IsEntryClone}
 

@@ -1,20 +1,15 @@
 -- A list of entries with a capacity, and what the calls of a `VecMap` make of it.
 use Rattle.std.specs.Prelude.{ℕ, List, [], ◌∷◌, ◌++◌, map, zip}
 use Rattle.std.specs.Borrow.{Bor, MutBor}
-use Rattle.starlark_hash.specs.declared.hash_value.StarlarkHashValue.{StarlarkHashValue}
 use Rattle.starlark_hash.specs.declared.hashed.Hashed.{Hashed}
 use Rattle.starlark_hash.specs.Entries.{Entry}
-use Rattle.starlark_hash.specs.HashValue.{hashed, hash_of, key_of}
+use Rattle.starlark_hash.specs.HashValue.{hash_value, hashed, hash_of, key_of}
 use Rattle.starlark_vec2.specs.PairList.{PairList, pair_list, reserved_capacity}
 
 -- the entries in order, and how many of them there may be before the list grows
 pub record EntryList (K V : Type 0) : Type 0 where
   pub entries : List (Entry K V)
   pub capacity : ℕ
-
--- the hash with this number
-abbrev pub hash_value : ℕ → StarlarkHashValue
-hash_value n = record { 0 = n }
 
 module _ {K V : Type 0} where
   -- these entries and this capacity

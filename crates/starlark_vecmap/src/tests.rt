@@ -1,11 +1,12 @@
-//! What no clause says: values from outside, and calls at concrete types.
+//! What no clause says: values from outside, calls at concrete types, and what a refused request leaves.
 
 use crate::{VecMap, find_hash_in_array};
-use starlark_hash::{Hashed, StarlarkHashValue};
+use starlark_hash::{Hashed, NoRoom, StarlarkHashValue, StarlarkHasher, TextKey};
 use std::alloc::Global;
+use std::hash::Hasher;
 use std::test::Fail;
 
-fn under(hash: u32, key: u32) -> Hashed<u32> {
+fn under<K>(hash: u32, key: K) -> Hashed<K> {
     Hashed::new_unchecked(StarlarkHashValue::new_unchecked(hash), key)
 }
 
@@ -34,6 +35,48 @@ fn finds_the_least_place(rt: HostRuntime) {
     }
 }
 
+// The closure is asked about the keys under the hash alone.
+#[test]
+fn searches_by_a_closure(rt: HostRuntime) -> Result<(), Fail> {
+    let mut map = five(rt.alloc())?;
+    map.insert_hashed_unique_unchecked(under(8, 3), 0)?;
+    for (hash, place, asks) in [(7, Some(3), 4), (8, Some(5), 1), (9, None, 0)] {
+        let mut asked: u32 = 0;
+        let found = map.get_index_of_hashed_raw(
+            StarlarkHashValue::new_unchecked(hash),
+            |key| {
+                asked = asked.wrapping_add(1);
+                *key == 3
+            },
+        );
+        assert_eq!(rt; found, place, "under {hash}");
+        assert_eq!(rt; asked, asks, "under {hash}");
+    }
+    Ok(())
+}
+
+#[test]
+fn looks_texts_up(rt: HostRuntime) -> Result<(), Fail> {
+    let alloc = rt.alloc();
+    let mut map: VecMap<String, u32> = VecMap::new(alloc);
+    for (hash, value) in [(1, 10), (2, 20), (1, 30)] {
+        map.insert_hashed_unique_unchecked(under(hash, value.to_string(alloc)?), value)?;
+    }
+    assert_eq!(rt; map.get_index_of_hashed(under(1, &TextKey("30"))), Some(2));
+    assert_eq!(rt; map.get_index_of_hashed(under(2, &TextKey("30"))), None);
+    assert!(rt; map.get_index(1).map(|pair| *pair.1) == Some(20));
+    assert!(rt; map.get_index(3).is_none());
+    if map.len() > 2 {
+        let (key, value) = map.get_unchecked(2);
+        assert_eq!(rt; (key.hash().get(), key.key().as_str(), *value), (1, "30", 30));
+        let (key, value) = map.remove(0);
+        assert_eq!(rt; (key.hash().get(), key.key().as_str(), value), (1, "10", 10));
+    }
+    assert!(rt; map.remove_hashed_entry(under(1, &TextKey("10"))).is_none());
+    assert_eq!(rt; map.len(), 2);
+    Ok(())
+}
+
 #[test]
 fn walks_keys_from_both_ends(rt: HostRuntime) -> Result<(), Fail> {
     let map = five(rt.alloc())?;
@@ -52,10 +95,19 @@ fn walks_keys_from_both_ends(rt: HostRuntime) -> Result<(), Fail> {
 #[test]
 fn clones_walks(rt: HostRuntime) -> Result<(), Fail> {
     let map = five(rt.alloc())?;
-    assert_eq!(rt; map.keys().clone()?.next_back().copied(), Some(4));
-    assert_eq!(rt; map.values().clone()?.next().copied(), Some(10));
-    assert_eq!(rt; map.iter().clone()?.len(), 5);
-    assert_eq!(rt; map.iter_hashed().clone()?.len(), 5);
+    let mut pairs = map.iter().clone()?;
+    let mut entries = map.iter_hashed().clone()?;
+    let mut keys = map.keys().clone()?;
+    let mut values = map.values().clone()?;
+    for key in 0..5 {
+        let value = key + 10;
+        assert!(rt; pairs.next() == Some((&key, &value)));
+        assert!(rt; entries.next() == Some((under(7, &key), &value)));
+        assert_eq!(rt; keys.next().copied(), Some(key));
+        assert_eq!(rt; values.next().copied(), Some(value));
+    }
+    assert!(rt; pairs.next().is_none() && entries.next().is_none());
+    assert!(rt; keys.next().is_none() && values.next().is_none());
     Ok(())
 }
 
@@ -69,7 +121,37 @@ fn owns_the_entries(rt: HostRuntime) -> Result<(), Fail> {
     assert!(rt; map.eq_ordered(&copy));
     assert_eq!(rt; copy.into_iter().next_back(), Some((4, 14)));
     assert_eq!(rt; map.clone()?.into_values().next(), Some(5));
+    let mut keys = map.clone()?.into_keys();
+    assert_eq!(rt; keys.size_hint(), (5, Some(5)));
+    assert_eq!(rt; keys.nth(1), Some(1));
+    assert_eq!(rt; keys.next_back(), Some(4));
     assert_eq!(rt; map.into_iter_hashed().next(), Some((under(7, 0), 5)));
+    Ok(())
+}
+
+#[test]
+fn writes_and_keeps_values(rt: HostRuntime) -> Result<(), Fail> {
+    let mut map = five(rt.alloc())?;
+    for (key, value) in map.iter_mut() {
+        *value = key.wrapping_mul(3);
+    }
+    let mut values = map.values_mut();
+    assert_eq!(rt; values.len(), 5);
+    if let Some(value) = values.next_back() {
+        *value = 100;
+    }
+    assert_eq!(rt; values.next().copied(), Some(0));
+    let mut kept = 0u32;
+    map.retain(|key, value| {
+        *value = value.wrapping_add(kept);
+        kept = kept.wrapping_add(1);
+        *key % 2 == 0
+    });
+    map.reverse();
+    for (key, value) in [(0, 0), (2, 8), (4, 104)] {
+        assert_eq!(rt; map.pop(), Some((under(7, key), value)));
+    }
+    assert!(rt; map.is_empty());
     Ok(())
 }
 
@@ -80,9 +162,65 @@ fn sorts_and_takes_out(rt: HostRuntime) -> Result<(), Fail> {
     map.insert_hashed_unique_unchecked(under(8, 5), 1)?;
     map.insert_hashed_unique_unchecked(under(8, 3), 2)?;
     map.insert_hashed_unique_unchecked(under(8, 5), 3)?;
+    assert!(rt; !map.is_sorted_by_key());
     map.sort_keys()?;
+    assert!(rt; map.is_sorted_by_key());
     assert_eq!(rt; map.remove_hashed_entry(under(8, 5).as_ref()), Some((5, 1)));
     assert_eq!(rt; map.pop(), Some((under(8, 5), 3)));
     assert_eq!(rt; map.len(), 1);
+    Ok(())
+}
+
+#[test]
+fn makes_room(rt: HostRuntime) -> Result<(), Fail> {
+    let mut map: VecMap<u32, u32> = VecMap::new(rt.alloc());
+    assert_eq!(rt; map.capacity(), 0);
+    for (more, capacity) in [(0, 0), (3, 4), (4, 4), (5, 8), (20, 20)] {
+        map.reserve(more)?;
+        assert_eq!(rt; map.capacity(), capacity, "for {more}");
+    }
+    map.insert_hashed_unique_unchecked(under(1, 2), 3)?;
+    assert!(rt; map.reserve(usize::MAX).is_err());
+    assert!(rt; VecMap::<u32, u32>::with_capacity(rt.alloc(), usize::MAX).is_err());
+    assert_eq!(rt; (map.len(), map.capacity()), (1, 20));
+    map.clear();
+    assert_eq!(rt; (map.len(), map.capacity()), (0, 20));
+    Ok(())
+}
+
+#[test]
+fn feeds_hashes_and_values(rt: HostRuntime) -> Result<(), Fail> {
+    let map = five(rt.alloc())?;
+    let mut fed = StarlarkHasher::new();
+    map.hash_ordered(&mut fed);
+    let mut by_hand = StarlarkHasher::new();
+    for value in 10..15 {
+        by_hand.write_u32(7);
+        by_hand.write_u32(value);
+    }
+    assert_eq!(rt; fed.finish(), by_hand.finish());
+    Ok(())
+}
+
+// Holds whichever request for memory is refused.
+#[test]
+fn refusals_leave_the_map(rt: HostRuntime) -> Result<(), Fail> {
+    let mut map: VecMap<u32, u32> = VecMap::new(rt.alloc());
+    for key in 0..8 {
+        let taken = map.insert_hashed_unique_unchecked(under(7, 8 - key), key);
+        if let Err(NoRoom((refused, value))) = taken {
+            assert_eq!(rt; (refused, value), (under(7, 8 - key), key));
+            assert_eq!(rt; map.len(), key as usize);
+            map.insert_hashed_unique_unchecked(under(7, 8 - key), key)?;
+        }
+    }
+    if map.clone().is_err() {
+        assert!(rt; map.clone()?.eq_ordered(&map));
+    }
+    if map.sort_keys().is_err() {
+        assert!(rt; map.get_index(0) == Some((&8, &0)));
+        map.sort_keys()?;
+    }
+    assert!(rt; map.get_index(0) == Some((&1, &7)));
     Ok(())
 }

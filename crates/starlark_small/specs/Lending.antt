@@ -1,0 +1,16 @@
+-- What a `SmallMap` ends as, once a reference into it has ended.
+use Rattle.std.specs.Prelude.{ℕ, Option}
+use Rattle.std.specs.Borrow.{Fml, RattleType, MutBor, Lends, LendsIf}
+use Rattle.std.specs.declared.cmp.PartialEq as eq
+use Rattle.starlark_hash.specs.Entries.{set_value_at, with_value}
+use Rattle.starlark_small.specs.Map.{Map}
+use Rattle.starlark_small.specs.contracts.small_map.SmallMap.{the_row}
+
+module _ (K V : RattleType) (g : eq.Ghosts K.Denot) (s : MutBor (Map K.Denot V.Denot)) where
+  -- the value at the place ends as what is left behind the reference, and all else stays
+  abbrev pub lends_value : ℕ → MutBor V.Denot → Fml
+  lends_value i r = Lends (the_row K V g) V s r (λ w. record s.now { entries = set_value_at s.now.entries i w })
+
+  -- the same of the value at the place that was found; where none was found, the map stays
+  abbrev pub lends_found : Option ℕ → Option (MutBor V.Denot) → Fml
+  lends_found place r = LendsIf (the_row K V g) V s r (λ w. record s.now { entries = with_value s.now.entries place w }) s.now

@@ -1,0 +1,213 @@
+//! What a `SmallMap` has: entries by hash and key, by key alone under its own hash, and by place.
+ghost use Rattle.std.specs.Prelude.{◌≡◌, ◌-◌, ◌<◌, ◌≤◌, ◌==◌, slice_get, length, is_some, IfSome, IsPermutation, IsSome};
+ghost use Rattle.std.specs.Map.Iter.{deref_pair};
+ghost use Rattle.std.specs.Option.{option_copied, option_map};
+ghost use Rattle.starlark_hash.specs.Entries.{entry_at, value_at, pair_of};
+ghost use Rattle.starlark_hash.specs.Search.{CanSearch, Searches, keys_under};
+ghost use Rattle.starlark_small.specs.Index.{positions, unindexed};
+ghost use Rattle.starlark_table.specs.Table.{members};
+ghost use Rattle.starlark_small.specs.Map.{query_match, query_match_by_value, own_match};
+
+use super::SmallMap;
+use crate::own_hash::under_own_hash;
+use crate::indexed::{find_in, place_in, room_in};
+use starlark_hash::{Equivalent, Hashed, StarlarkHashValue};
+use starlark_table::ReadyTable;
+use std::hash::Hash;
+
+// Under a hash that is brought
+
+impl<K: Eq, V> SmallMap<K, V> {
+    /// The value under this hash whose key the query is equivalent to.
+    #[inline]
+    pub fn get_hashed<Q: Equivalent<K>>(&self, key: Hashed<&Q>) -> Option<&V>
+        ensures { option_copied result ≡ value_at self.now.entries (query_match Q.equivalent self.now.entries key.entry) }
+    {
+        let index = self.get_index_of_hashed(key)?;
+        let (_, value) = self.entries.get_unchecked(index);
+        Some(value)
+    }
+
+    /// As `get_hashed`, by a query that is handed over and dropped.
+    #[inline]
+    pub fn get_hashed_by_value<Q: Equivalent<K> + Drop>(&self, key: Hashed<Q>) -> Option<&V>
+        ensures { option_copied result ≡ value_at self.now.entries (query_match_by_value Q.equivalent self.now.entries key) }
+    {
+        self.get_hashed(key.as_ref())
+    }
+
+    /// The place under this hash whose key the query is equivalent to, with the key and the value there.
+    #[inline]
+    pub fn get_full_hashed<Q: Equivalent<K>>(&self, key: Hashed<&Q>) -> Option<(usize, &K, &V)>
+        ensures place { option_map (λ found. found.0) result ≡ query_match Q.equivalent self.now.entries key.entry }
+        ensures pair { option_map (λ found. (found.1.now, found.2.now)) result
+            ≡ option_map pair_of (entry_at self.now.entries (query_match Q.equivalent self.now.entries key.entry)) }
+    {
+        let index = self.get_index_of_hashed(key)?;
+        let (key, value) = self.entries.get_unchecked(index);
+        Some((index, key.into_key(), value))
+    }
+
+    /// The place under this hash whose key the query is equivalent to.
+    #[inline]
+    pub fn get_index_of_hashed<Q: Equivalent<K>>(&self, key: Hashed<&Q>) -> Option<usize>
+        ensures place { result ≡ query_match Q.equivalent self.now.entries key.entry }
+        ensures within { IfSome result (λ i. i < length self.now.entries) }
+    {
+        place_in(&self.entries, &self.index, key)
+    }
+
+    /// A place under this hash whose key `eq` accepts. It is asked about the keys under this hash alone, about each at
+    /// most once and in no promised order, until it accepts one; `None` says that it refused them all.
+    #[inline]
+    pub fn find_by_hash<F: FnMut(&K) -> bool>(
+        &self,
+        hash: StarlarkHashValue,
+        eq: F,
+    ) -> Option<usize>
+    where
+        F: Drop,
+        requires { CanSearch F.FnMut (keys_under hash self.now.entries) eq }
+        ensures { (last : F) × Searches F.FnMut (keys_under hash self.now.entries) eq result last }
+    {
+        find_in(&self.entries, &self.index, hash, eq)
+    }
+
+    /// As `get_index_of_hashed`, by a query that is handed over and dropped.
+    #[inline]
+    pub fn get_index_of_hashed_by_value<Q: Equivalent<K> + Drop>(
+        &self,
+        key: Hashed<Q>,
+    ) -> Option<usize>
+        ensures place { result ≡ query_match_by_value Q.equivalent self.now.entries key }
+        ensures within { IfSome result (λ i. i < length self.now.entries) }
+    {
+        self.get_index_of_hashed(key.as_ref())
+    }
+
+    /// Whether there is an entry under this hash whose key the query is equivalent to.
+    #[inline]
+    pub fn contains_key_hashed<Q: Equivalent<K>>(&self, key: Hashed<&Q>) -> bool
+        ensures { result ≡ is_some (query_match Q.equivalent self.now.entries key.entry) }
+    {
+        self.get_index_of_hashed(key).is_some()
+    }
+
+    /// As `contains_key_hashed`, by a query that is handed over and dropped.
+    #[inline]
+    pub fn contains_key_hashed_by_value<Q: Equivalent<K> + Drop>(&self, key: Hashed<Q>) -> bool
+        ensures { result ≡ is_some (query_match_by_value Q.equivalent self.now.entries key) }
+    {
+        self.contains_key_hashed(key.as_ref())
+    }
+}
+
+// Under the query's own hash
+
+impl<K: Eq, V> SmallMap<K, V> {
+    /// The value under the query's own hash whose key the query is equivalent to.
+    #[inline]
+    pub fn get<Q: Equivalent<K> + Hash>(&self, key: &Q) -> Option<&V>
+        ensures { option_copied result ≡ value_at self.now.entries (own_match Q.equivalent Q.hash_input self.now.entries key.now) }
+    {
+        self.get_hashed(under_own_hash(key))
+    }
+
+    /// The place under the query's own hash whose key the query is equivalent to, with the key and the value there.
+    #[inline]
+    pub fn get_full<Q: Equivalent<K> + Hash>(&self, key: &Q) -> Option<(usize, &K, &V)>
+        ensures place { option_map (λ found. found.0) result ≡ own_match Q.equivalent Q.hash_input self.now.entries key.now }
+        ensures pair { option_map (λ found. (found.1.now, found.2.now)) result
+            ≡ option_map pair_of (entry_at self.now.entries (own_match Q.equivalent Q.hash_input self.now.entries key.now)) }
+    {
+        self.get_full_hashed(under_own_hash(key))
+    }
+
+    /// The place under the query's own hash whose key the query is equivalent to.
+    #[inline]
+    pub fn get_index_of<Q: Equivalent<K> + Hash>(&self, key: &Q) -> Option<usize>
+        ensures place { result ≡ own_match Q.equivalent Q.hash_input self.now.entries key.now }
+        ensures within { IfSome result (λ i. i < length self.now.entries) }
+    {
+        self.get_index_of_hashed(under_own_hash(key))
+    }
+
+    /// Whether there is an entry under the query's own hash whose key the query is equivalent to.
+    #[inline]
+    pub fn contains_key<Q: Equivalent<K> + Hash>(&self, key: &Q) -> bool
+        ensures { result ≡ is_some (own_match Q.equivalent Q.hash_input self.now.entries key.now) }
+    {
+        self.contains_key_hashed(under_own_hash(key))
+    }
+}
+
+// By place
+
+impl<K: Eq, V> SmallMap<K, V> {
+    /// The key and the value at a place.
+    #[inline]
+    pub fn get_index(&self, index: usize) -> Option<(&K, &V)>
+        ensures { option_map deref_pair result ≡ option_map pair_of (slice_get self.now.entries index) }
+    {
+        self.entries.get_index(index)
+    }
+
+    /// The key and the value of the first entry.
+    #[inline]
+    pub fn first(&self) -> Option<(&K, &V)>
+        ensures { option_map deref_pair result ≡ option_map pair_of (slice_get self.now.entries 0) }
+    {
+        self.entries.get_index(0)
+    }
+
+    /// The key and the value of the last entry.
+    #[inline]
+    pub fn last(&self) -> Option<(&K, &V)>
+        ensures { option_map deref_pair result ≡ option_map pair_of (slice_get self.now.entries (length self.now.entries - 1)) }
+    {
+        self.entries.get_index(self.len().saturating_sub(1))
+    }
+
+    /// How many entries there are.
+    #[inline]
+    pub fn len(&self) -> usize
+        ensures { result ≡ length self.now.entries }
+    {
+        self.entries.len()
+    }
+
+    /// Whether there are no entries.
+    #[inline]
+    pub fn is_empty(&self) -> bool
+        ensures { result ≡ (length self.now.entries == 0) }
+    {
+        self.entries.is_empty()
+    }
+
+    /// How many entries there may be before the list grows.
+    #[inline]
+    pub fn capacity(&self) -> usize
+        ensures capacity { result ≡ self.now.capacity }
+        ensures within { length self.now.entries ≤ result }
+    {
+        self.entries.capacity()
+    }
+
+    /// How many new entries surely need no memory, neither for the list nor for the index.
+    #[inline]
+    pub fn room(&self) -> usize
+        ensures { result ≡ self.now.room }
+    {
+        room_in(&self.entries, &self.index)
+    }
+
+    /// The index, where there is one: each place under the promoted hash of its entry, and no other member.
+    #[inline]
+    pub fn index(&self) -> Option<&ReadyTable<usize>>
+        ensures places { IfSome result (λ table. IsPermutation (positions self.now.entries) (members table.now)) }
+        ensures indexed { is_some result ≡ self.now.indexed }
+        ensures long { unindexed < length self.now.entries → IsSome result }
+    {
+        self.index.as_ref()
+    }
+}

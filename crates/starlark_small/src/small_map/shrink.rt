@@ -1,0 +1,144 @@
+//! What takes entries out of a `SmallMap`, and what turns it round. None of it asks for memory.
+ghost use Rattle.std.specs.Prelude.{◌≡◌, ◌+◌, ◌-◌, ◌<◌, ◌≤◌, [], false, min, nat_le, remove, reverse, slice_get, length, if◌then◌else◌, Some};
+ghost use Rattle.std.specs.Option.{option_map};
+ghost use Rattle.starlark_hash.specs.Entries.{entry_at, value_at, pair_of, without};
+ghost use Rattle.starlark_small.specs.Index.{unindexed};
+ghost use Rattle.starlark_small.specs.Map.{KeepsMemory, query_match, own_match};
+
+use super::SmallMap;
+use crate::indexed::{clear_in, drop_index, remove_at, reverse_in};
+use crate::own_hash::under_own_hash;
+use starlark_hash::{Equivalent, Hashed};
+use std::hash::Hash;
+
+// Removals by key
+
+impl<K: Eq, V> SmallMap<K, V> {
+    /// Removes the entry under this hash whose key the query is equivalent to, drops its key and answers its value.
+    /// Those after it move up.
+    pub fn shift_remove_hashed<Q: Equivalent<K>>(&mut self, key: Hashed<&Q>) -> Option<V>
+    where
+        K: Drop,
+        ensures taken { result ≡ value_at self.old.entries (query_match Q.equivalent self.old.entries key.entry) }
+        ensures entries { self.new.entries ≡ without self.old.entries (query_match Q.equivalent self.old.entries key.entry) }
+        ensures kept { KeepsMemory self.old self.new }
+    {
+        let (_, value) = self.shift_remove_hashed_entry(key)?;
+        Some(value)
+    }
+
+    /// Removes the entry under this hash whose key the query is equivalent to, and answers its key and value.
+    /// Those after it move up.
+    pub fn shift_remove_hashed_entry<Q: Equivalent<K>>(&mut self, key: Hashed<&Q>) -> Option<(K, V)>
+        ensures taken { result ≡ option_map pair_of (entry_at self.old.entries (query_match Q.equivalent self.old.entries key.entry)) }
+        ensures entries { self.new.entries ≡ without self.old.entries (query_match Q.equivalent self.old.entries key.entry) }
+        ensures kept { KeepsMemory self.old self.new }
+    {
+        let index = self.get_index_of_hashed(key)?;
+        let (key, value) = self.take_at(index);
+        Some((key.into_key(), value))
+    }
+
+    /// Removes the entry under the query's own hash whose key the query is equivalent to, drops its key and answers
+    /// its value. Those after it move up.
+    pub fn shift_remove<Q: Equivalent<K> + Hash>(&mut self, key: &Q) -> Option<V>
+    where
+        K: Drop,
+        ensures taken { result ≡ value_at self.old.entries (own_match Q.equivalent Q.hash_input self.old.entries key.now) }
+        ensures entries { self.new.entries ≡ without self.old.entries (own_match Q.equivalent Q.hash_input self.old.entries key.now) }
+        ensures kept { KeepsMemory self.old self.new }
+    {
+        self.shift_remove_hashed(under_own_hash(key))
+    }
+
+    /// Removes the entry under the query's own hash whose key the query is equivalent to, and answers its key and
+    /// value. Those after it move up.
+    pub fn shift_remove_entry<Q: Equivalent<K> + Hash>(&mut self, key: &Q) -> Option<(K, V)>
+        ensures taken { result ≡ option_map pair_of (entry_at self.old.entries (own_match Q.equivalent Q.hash_input self.old.entries key.now)) }
+        ensures entries { self.new.entries ≡ without self.old.entries (own_match Q.equivalent Q.hash_input self.old.entries key.now) }
+        ensures kept { KeepsMemory self.old self.new }
+    {
+        self.shift_remove_hashed_entry(under_own_hash(key))
+    }
+}
+
+// Removals by place, and turns
+
+impl<K: Eq, V> SmallMap<K, V> {
+    /// Removes the entry at a place, and answers its key and value. Those after it move up.
+    pub fn shift_remove_index(&mut self, index: usize) -> Option<(K, V)>
+        ensures taken { result ≡ option_map pair_of (slice_get self.old.entries index) }
+        ensures entries { self.new.entries ≡ remove self.old.entries index }
+        ensures kept { KeepsMemory self.old self.new }
+    {
+        let (key, value) = self.shift_remove_index_hashed(index)?;
+        Some((key.into_key(), value))
+    }
+
+    /// Removes the entry at a place, and answers it. Those after it move up.
+    pub fn shift_remove_index_hashed(&mut self, index: usize) -> Option<(Hashed<K>, V)>
+        ensures taken { result ≡ slice_get self.old.entries index }
+        ensures entries { self.new.entries ≡ remove self.old.entries index }
+        ensures kept { KeepsMemory self.old self.new }
+    {
+        if index < self.len() {
+            Some(self.take_at(index))
+        } else {
+            None
+        }
+    }
+
+    /// Removes the last entry, and answers its key and value.
+    pub fn pop(&mut self) -> Option<(K, V)>
+        ensures taken { result ≡ option_map pair_of (slice_get self.old.entries (length self.old.entries - 1)) }
+        ensures entries { self.new.entries ≡ remove self.old.entries (length self.old.entries - 1) }
+        ensures kept { KeepsMemory self.old self.new }
+    {
+        let len = self.len();
+        if len == 0 {
+            return None;
+        }
+        let (key, value) = self.take_at(len - 1);
+        Some((key.into_key(), value))
+    }
+
+    /// Removes each entry. The memory stays for those to come.
+    pub fn clear(&mut self)
+    where
+        K: Drop,
+        V: Drop,
+        ensures entries { self.new.entries ≡ [] }
+        ensures kept { KeepsMemory self.old self.new }
+    {
+        clear_in(&mut self.entries, &mut self.index);
+    }
+
+    /// Turns the order of the entries round.
+    pub fn reverse(&mut self)
+        ensures entries { self.new.entries ≡ reverse self.old.entries }
+        ensures kept { KeepsMemory self.old self.new }
+    {
+        reverse_in(&mut self.entries, &mut self.index);
+    }
+
+    /// Drops the index where the list is short enough to do without. No other call does.
+    pub fn maybe_drop_index(&mut self)
+        ensures entries { self.new.entries ≡ self.old.entries }
+        ensures capacity { self.new.capacity ≡ self.old.capacity }
+        ensures indexed { self.new.indexed ≡ (if nat_le (length self.old.entries) unindexed then false else self.old.indexed) }
+        ensures room { min (length self.old.entries + self.old.room) unindexed ≤ length self.new.entries + self.new.room }
+        ensures long { unindexed < length self.old.entries → self.new ≡ self.old }
+    {
+        drop_index(&self.entries, &mut self.index);
+    }
+
+    // Takes out the entry at a place. Those after it move up.
+    fn take_at(&mut self, index: usize) -> (Hashed<K>, V)
+        requires { index < length self.old.entries }
+        ensures taken { slice_get self.old.entries index ≡ Some result }
+        ensures entries { self.new.entries ≡ remove self.old.entries index }
+        ensures kept { KeepsMemory self.old self.new }
+    {
+        remove_at(&mut self.entries, &mut self.index, index)
+    }
+}

@@ -1,0 +1,139 @@
+//! The walks of a `SmallMap`: the list in order, from both ends.
+ghost use Rattle.std.specs.Prelude.{◌≡◌, ◌^◌, ◌<◌, length, map};
+ghost use Rattle.std.specs.Map.Iter.{ShowsInOrder, ShowsInReverse, GivesInOrder, GivesInReverse, deref, deref_pair};
+ghost use Rattle.starlark_hash.specs.Entries.{Entry, IsSingle, entry_key, entry_value, pair_of};
+ghost use Rattle.starlark_small.specs.Iter.{deref_entry};
+
+use super::SmallMap;
+use crate::iter::{IntoIter, IntoIterHashed, IntoKeys, IntoValues, Iter, IterHashed, Keys, Values};
+
+impl<K: Eq, V> SmallMap<K, V> {
+    /// The keys in order of insertion.
+    #[inline]
+    pub fn keys(&self) -> Keys<'_, K, V>
+        ensures keys { result ≡ map entry_key self.now.entries }
+        ensures fits { length self.now.entries < 2 ^ 64 }
+        ensures runs { ShowsInOrder (deref {X = K}) }
+        ensures runs_back { ShowsInReverse (deref {X = K}) }
+    {
+        self.entries.keys()
+    }
+
+    /// The values in order of insertion.
+    #[inline]
+    pub fn values(&self) -> Values<'_, K, V>
+        ensures values { result ≡ map entry_value self.now.entries }
+        ensures fits { length self.now.entries < 2 ^ 64 }
+        ensures runs { ShowsInOrder (deref {X = V}) }
+        ensures runs_back { ShowsInReverse (deref {X = V}) }
+    {
+        self.entries.values()
+    }
+
+    /// The keys and values in order of insertion.
+    #[inline]
+    pub fn iter(&self) -> Iter<'_, K, V>
+        ensures pairs { result ≡ map pair_of self.now.entries }
+        ensures fits { length self.now.entries < 2 ^ 64 }
+        ensures runs { ShowsInOrder (deref_pair {K = K} {X = V}) }
+        ensures runs_back { ShowsInReverse (deref_pair {K = K} {X = V}) }
+    {
+        self.entries.iter()
+    }
+
+    /// The entries in order of insertion, each key under its hash. No two have the same hash and equal keys.
+    #[inline]
+    pub fn iter_hashed(&self) -> IterHashed<'_, K, V>
+        ensures entries { result ≡ self.now.entries }
+        ensures single { IsSingle K.eq self.now.entries }
+        ensures runs { ShowsInOrder (deref_entry {K = K} {V = V}) }
+        ensures runs_back { ShowsInReverse (deref_entry {K = K} {V = V}) }
+        ensures fits { length self.now.entries < 2 ^ 64 }
+    {
+        self.entries.iter_hashed()
+    }
+}
+
+impl<K: Eq + Drop, V: Drop> SmallMap<K, V> {
+    /// The keys by value, in order of insertion.
+    #[inline]
+    pub fn into_keys(self) -> IntoKeys<K, V>
+        ensures keys { result ≡ map entry_key self.entries }
+        ensures fits { length self.entries < 2 ^ 64 }
+        ensures runs { GivesInOrder K }
+        ensures runs_back { GivesInReverse K }
+    {
+        let SmallMap {
+            entries,
+            index: _index,
+            alloc: _alloc,
+        } = self;
+        entries.into_keys()
+    }
+
+    /// The values by value, in order of insertion.
+    #[inline]
+    pub fn into_values(self) -> IntoValues<K, V>
+        ensures values { result ≡ map entry_value self.entries }
+        ensures fits { length self.entries < 2 ^ 64 }
+        ensures runs { GivesInOrder V }
+        ensures runs_back { GivesInReverse V }
+    {
+        let SmallMap {
+            entries,
+            index: _index,
+            alloc: _alloc,
+        } = self;
+        entries.into_values()
+    }
+
+    /// The entries by value, in order of insertion, each key under its hash. No two have the same hash and equal keys.
+    #[inline]
+    pub fn into_iter_hashed(self) -> IntoIterHashed<K, V>
+        ensures entries { result ≡ self.entries }
+        ensures single { IsSingle K.eq self.entries }
+        ensures fits { length self.entries < 2 ^ 64 }
+        ensures runs { GivesInOrder (Entry K V) }
+        ensures runs_back { GivesInReverse (Entry K V) }
+    {
+        let SmallMap {
+            entries,
+            index: _index,
+            alloc: _alloc,
+        } = self;
+        entries.into_iter_hashed()
+    }
+}
+
+impl<K: Eq + Drop, V: Drop> IntoIterator for SmallMap<K, V> {
+    type Item = (K, V);
+
+    type IntoIter = IntoIter<K, V>;
+
+    ghost into_iter_gives = { λ m rest. (rest ≡ map pair_of m.entries) × (length m.entries < 2 ^ 64) × GivesInOrder (K × V) × GivesInReverse (K × V) };
+
+    /// The keys and values by value, in order of insertion.
+    #[inline]
+    fn into_iter(self) -> IntoIter<K, V> {
+        let SmallMap {
+            entries,
+            index: _index,
+            alloc: _alloc,
+        } = self;
+        entries.into_iter()
+    }
+}
+
+impl<'a, K: Eq, V> IntoIterator for &'a SmallMap<K, V> {
+    type Item = (&'a K, &'a V);
+
+    type IntoIter = Iter<'a, K, V>;
+
+    ghost into_iter_gives = { λ m rest. (rest ≡ map pair_of m.now.entries) × (length m.now.entries < 2 ^ 64) × ShowsInOrder (deref_pair {K = K} {X = V}) × ShowsInReverse (deref_pair {K = K} {X = V}) };
+
+    /// The keys and values in order of insertion.
+    #[inline]
+    fn into_iter(self) -> Iter<'a, K, V> {
+        self.iter()
+    }
+}

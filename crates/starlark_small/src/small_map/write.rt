@@ -1,0 +1,50 @@
+//! Values of a `SmallMap` to be written. Keys and hashes stay.
+ghost use Rattle.std.specs.Prelude.{◌≡◌, ◌<◌, length, Some, None};
+ghost use Rattle.std.specs.Borrow.{sem};
+ghost use Rattle.std.specs.Option.{option_copied_mut, IfNone};
+ghost use Rattle.starlark_hash.specs.Entries.{value_at};
+ghost use Rattle.starlark_small.specs.Map.{query_match, own_match};
+ghost use Rattle.starlark_small.specs.Lending.{lends_value, lends_found};
+
+use super::SmallMap;
+use crate::own_hash::under_own_hash;
+use starlark_hash::{Equivalent, Hashed};
+use std::hash::Hash;
+
+impl<K: Eq, V> SmallMap<K, V> {
+    /// The value under this hash whose key the query is equivalent to, to be written. The map ends with what is left
+    /// in it, and all else stays.
+    #[inline]
+    pub fn get_mut_hashed<Q: Equivalent<K>>(&mut self, key: Hashed<&Q>) -> Option<&mut V>
+        ensures* writes_back { sem 𝓛 (lends_found K.row V.row K.PartialEq self.entry (query_match Q.equivalent self.old.entries key.entry) result) }
+        ensures value { option_copied_mut result ≡ value_at self.old.entries (query_match Q.equivalent self.old.entries key.entry) }
+        ensures absent { IfNone result (query_match Q.equivalent self.old.entries key.entry ≡ None) }
+    {
+        match self.get_index_of_hashed(key) {
+            Some(index) => Some(self.value_at_mut(index)),
+            None => None,
+        }
+    }
+
+    /// The value under the query's own hash whose key the query is equivalent to, to be written. The map ends with what
+    /// is left in it, and all else stays.
+    #[inline]
+    pub fn get_mut<Q: Equivalent<K> + Hash>(&mut self, key: &Q) -> Option<&mut V>
+        ensures* writes_back { sem 𝓛 (lends_found K.row V.row K.PartialEq self.entry (own_match Q.equivalent Q.hash_input self.old.entries key.now) result) }
+        ensures value { option_copied_mut result ≡ value_at self.old.entries (own_match Q.equivalent Q.hash_input self.old.entries key.now) }
+        ensures absent { IfNone result (own_match Q.equivalent Q.hash_input self.old.entries key.now ≡ None) }
+    {
+        self.get_mut_hashed(under_own_hash(key))
+    }
+
+    // The value at a place, to be written.
+    #[inline]
+    fn value_at_mut(&mut self, index: usize) -> &mut V
+        requires { index < length self.old.entries }
+        ensures* writes_back { sem 𝓛 (lends_value K.row V.row K.PartialEq self.entry index result) }
+        ensures value { value_at self.old.entries (Some index) ≡ Some result.now }
+    {
+        let (_, value) = self.entries.get_unchecked_mut(index);
+        value
+    }
+}
