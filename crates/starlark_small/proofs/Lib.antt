@@ -1,4 +1,7 @@
 pub mod RunLemmas
 pub mod Determined
-pub mod SoundLemmas
+pub mod Positions
+pub mod Transport
+pub mod Keeping
+pub mod Rooms
 pub mod SmallMapOpen

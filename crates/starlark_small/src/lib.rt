@@ -2,7 +2,7 @@
 #![tactic(auto)]
 
 pub mod command;
-mod entries;
+mod indexed;
 pub mod iter;
 mod own_hash;
 pub mod runs;
