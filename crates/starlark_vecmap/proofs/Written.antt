@@ -1,5 +1,5 @@
 -- Entries whose values were written have their own keys and hashes.
-use Rattle.std.proofs.Common.{◌≡◌, ℕ, suc, List, [], ◌∷◌, map, length, refl, ap, ◌∙◌}
+use Rattle.std.proofs.Common.{◌≡◌, ℕ, suc, List, [], ◌∷◌, map, length, refl, ap}
 use Rattle.std.proofs.lemmas.List.{length-map}
 use Rattle.starlark_hash.specs.Entries.{Entry, entry_hash, entry_key, pair_of}
 use Rattle.starlark_vec2.specs.Lending as pairs

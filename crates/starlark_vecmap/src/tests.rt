@@ -44,13 +44,10 @@ fn searches_by_a_closure(rt: HostRuntime) -> Result<(), Fail> {
     map.insert_hashed_unique_unchecked(under(8, 3), 0)?;
     for (hash, place, asks) in [(7, Some(3), 4), (8, Some(5), 1), (9, None, 0)] {
         let mut asked: u32 = 0;
-        let found = map.get_index_of_hashed_raw(
-            StarlarkHashValue::new_unchecked(hash),
-            |key| {
-                asked = asked.wrapping_add(1);
-                *key == 3
-            },
-        );
+        let found = map.get_index_of_hashed_raw(StarlarkHashValue::new_unchecked(hash), |key| {
+            asked = asked.wrapping_add(1);
+            *key == 3
+        });
         assert_eq!(rt; found, place, "under {hash}");
         assert_eq!(rt; asked, asks, "under {hash}");
     }
@@ -70,9 +67,15 @@ fn looks_texts_up(rt: HostRuntime) -> Result<(), Fail> {
     assert!(rt; map.get_index(3).is_none());
     if map.len() > 2 {
         let (key, value) = map.get_unchecked(2);
-        assert_eq!(rt; (key.hash().get(), key.key().as_str(), *value), (1, "30", 30));
+        assert_eq!(rt;
+            (key.hash().get(), key.key().as_str(), *value),
+            (1, "30", 30)
+        );
         let (key, value) = map.remove(0);
-        assert_eq!(rt; (key.hash().get(), key.key().as_str(), value), (1, "10", 10));
+        assert_eq!(rt;
+            (key.hash().get(), key.key().as_str(), value),
+            (1, "10", 10)
+        );
     }
     assert!(rt; map.remove_hashed_entry(under(1, &TextKey("10"))).is_none());
     assert_eq!(rt; map.len(), 2);

@@ -47,8 +47,8 @@ impl<K, V> VecMap<K, V> {
         IterMut::of(self.lend(), len)
     }
 
-    /// The values of the entries, in their order, to write them. The map ends with what is left in them; keys, hashes and
-    /// capacity stay.
+    /// The values of the entries, in their order, to write them. The map ends with what is left in them; keys, hashes
+    /// and capacity stay.
     #[tactic(auto, using(crate::proofs::Written::written))]
     #[inline]
     pub fn values_mut(&mut self) -> ValuesMut<'_, K, V>

@@ -1,4 +1,5 @@
--- `lend` lends the pairs of the columns, and the whole map, open over the call, is closed by what they follow. Assumes `Logic`.
+-- `lend` lends the pairs of the columns, and the whole map, open over the call, is closed by what they follow. Assumes
+-- `Logic`.
 use mathlib.Core.Path.{◌≡◌, refl, sym, ap, ◌∙◌}
 use Prim.Native.Nat.{ℕ, ◌+◌}
 use mathlib.Core.List.{List, [], ◌∷◌, not-mem-nil}
@@ -172,7 +173,8 @@ module _ (A B : RattleType) where
           name_new ! tt (CP.coded.code xs) (λ δ. move ! (2 ∷ 1 ∷ []) $ fjoin ! $ fpack ! CP.Denot (λ z. fsep ((mem CP).own_at z b place) (fauth δ (CP.coded.code z))) xs $
           -- [the content; obs δ; the rest; the open borrow; obs; auth; ..]
           move ! (3 ∷ []) $ ages ! (λ n. move ! (1 ∷ []) $ bor_new_deep ! tt n κ $
-          -- [the borrow and its right; the open borrow; obs δ; the rest; obs; auth; the other half; the tokens of κA, κB]
+          -- [the borrow and its right; the open borrow; obs δ; the rest; obs; auth; the other half; the tokens of κA,
+          -- κB]
           let lent : MutBor Ps = record { ref_ptr = (b, place); ghost_name = δ; now = xs } in
           move ! (3 ∷ 0 ∷ []) $ feq_i ! (List Val) (mut_vals lent) (mut_vals lent) refl $ fjoin3 ! $ nothing ! $ move ! (1 ∷ 0 ∷ []) $ fjoin ! $
           -- [the argument; the right; the open borrow; the rest; obs; auth; the other half; the tokens of κA, κB]
