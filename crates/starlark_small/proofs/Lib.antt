@@ -4,4 +4,5 @@ pub mod Positions
 pub mod Transport
 pub mod Keeping
 pub mod Rooms
+pub mod ValuesWritten
 pub mod SmallMapOpen

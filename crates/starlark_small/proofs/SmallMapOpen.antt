@@ -1,4 +1,4 @@
--- A `SmallMap` in memory is its list of entries and the rest, and back, at any list of entries. Assumes `Logic`.
+-- A `SmallMap` in memory is its list of entries and the rest, and back, at any list of entries that goes with its index. Assumes `Logic`.
 use mathlib.Core.Path.{◌≡◌}
 use Prim.Native.Nat.{ℕ, zero, ◌+◌}
 use mathlib.Core.List.{List, [], ◌∷◌}
@@ -8,6 +8,7 @@ use base.Logic.{SProp, ent, sep, wand, ex, all_e, apply∗}
 use prog.Memory.{size, align, up}
 use types.Kit.{‵, raw, ◌⊛◌, some, ◌$◌, ◌∵◌, !, qed, by, move, use1, use2, split, pick, show, fsplit, fjoin, done}
 use types.Logic.{Logic, sem}
+use denote.Builtin.{usize}
 use denote.RattleType.{RattleType, Denots}
 use denote.Memory.{part_at, part_of, lone}
 use denote.Model.Fields.{plain_out, Plain-in, view_made}
@@ -16,7 +17,10 @@ use denote.Struct.Loose.{lawfuls}
 use denote.Struct.Members.{Member, rows_of, parts_at}
 use denote.Struct.Parts.{shape_of, PartsBack, Struct-parts}
 use denote.Struct.Struct.{Struct}
+use Rattle.core.specs.contracts.option.Option as option
+use Rattle.std.specs.contracts.alloc.Global as Global
 use Rattle.std.specs.declared.cmp.PartialEq as PartialEq
+use Rattle.starlark_table.specs.contracts.ready_table.ReadyTable as table
 use Rattle.starlark_vecmap.specs.contracts.vec_map.VecMap as part
 use Rattle.starlark_small.specs.declared.small_map.SmallMap.TheInside.{Inside}
 pub use Rattle.starlark_small.specs.contracts.small_map.SmallMap as C
@@ -41,7 +45,7 @@ module _ (K V : RattleType) (g : PartialEq.Ghosts K.Denot) where
   CP = part.the_row K V
 
   abbrev left : List Member
-  left = []
+  left = member (option.the_field (table.the_row usize)).row ∷ member Global.the_field.row ∷ []
 
   abbrev ms : List Member
   ms = member CP ∷ left

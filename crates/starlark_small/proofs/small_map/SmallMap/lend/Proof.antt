@@ -1,7 +1,6 @@
 -- `lend` lends the list of entries; the map, open over the call, is closed by what it follows. Assumes `Logic`.
 use mathlib.Core.Path.{◌≡◌, refl, sym, ap, ◌∙◌}
-use Prim.Native.Nat.{◌+◌, ◌-◌}
-use mathlib.Core.Bool.{false}
+use Prim.Native.Nat.{ℕ, ◌+◌, ◌-◌}
 use mathlib.Core.List.{List, [], ◌∷◌}
 use seplogic.Ra.Ura.{Ura}
 use base.Fraction.{full_share}
@@ -40,7 +39,7 @@ use denote.Triple.Spec.{Meets, triple_of}
 use denote.Triple.Statement.{Contract, Triple}
 use denote.Triple.Table.{entered}
 use denote.Triple.Walked.{Stays, stay_dropped, walk_of, ends_at, walked, walk_Meets, Goes-spent_ref}
-use Rattle.std.specs.Prelude.{map}
+use Rattle.std.specs.Prelude.{map, min, is_some, Option}
 use Rattle.std.specs.declared.cmp.Eq as Eq
 use Rattle.std.specs.declared.cmp.PartialEq as PartialEq
 use Rattle.starlark_hash.specs.Entries.{pair_of}
@@ -53,11 +52,13 @@ use Rattle.starlark_vecmap.proofs.vec_map.VecMap.lend.Symbol.{name as #run}
 use Rattle.starlark_vecmap.proofs.vec_map.VecMap.lend.Met as loan
 use Rattle.starlark_vecmap.proofs.Written.{with_values-again, length-with_values}
 use Rattle.starlark_vecmap.specs.EntryList.{EntryList, with_entries, with_values}
+use Rattle.starlark_table.specs.Table.{Table}
+use Rattle.starlark_small.specs.Index.{index_room}
 use Rattle.starlark_small.specs.Map.{Map}
 use Rattle.starlark_small.specs.contracts.small_map.SmallMap.lend as F
 use Rattle.starlark_small.specs.contracts.small_map.SmallMap.lend.Key.{name as #self}
 use Rattle.starlark_small.proofs.SmallMapOpen as O
-use Rattle.starlark_small.proofs.SoundLemmas.{IsSound-with_values}
+use Rattle.starlark_small.proofs.ValuesWritten.{IsSound-with_values}
 use denote.Laws.{shows}
 use denote.Memory.{part_at}
 use denote.Param.Laws.{param_laws}
@@ -112,10 +113,14 @@ module _ (A B : RattleType) (E : Eq.Ghosts A.Denot) (dE : Dict) (P : PartialEq.G
   seen d w = O.C.the_view K V P (written d w)
 
   written_known : (v : W.Denot) (d : D) (w : Es) → O.Known K V P v d → O.Known K V P (seen d w) (written d w)
-  written_known v d w k = (refl, IsSound-with_values P.eq d.entries k.1 w.entries)
+  written_known v d w k = (refl, IsSound-with_values P.eq d.entries.entries w.entries d.index k.1)
 
   abbrev keeps : W.Denot → W.Denot → W.Denot
   keeps v w = record v { entries = with_values v.entries w.entries }
+
+  -- the room of so many entries
+  abbrev room_of_length : ℕ → ℕ → Option (Table ℕ) → ℕ
+  room_of_length capacity len index = min (capacity - len) (index_room len index)
 
   same : (v : W.Denot) (d : D) (w : Es) → O.Known K V P v d → keeps v (seen d w) ≡ seen d w
   same v d w k =
@@ -123,9 +128,9 @@ module _ (A B : RattleType) (E : Eq.Ghosts A.Denot) (dE : Dict) (P : PartialEq.G
       ap (λ z. keeps z (seen d w)) (sym k.0)
       ∙ (λ j. record {
         entries = with_values-again es w.entries j;
-        room = d.entries.capacity - sym (length-with_values es w.entries) j;
+        room = room_of_length d.entries.capacity (sym (length-with_values es w.entries) j) d.index;
         capacity = d.entries.capacity;
-        indexed = false;
+        indexed = is_some d.index;
       })
 
   module _ {M : Type 1} {𝓤 : Ura M} (𝓛 : Logic 𝓤) (at_mem : Memory → SProp 𝓤) (run : Routine → Fun 𝓤) where
