@@ -119,7 +119,7 @@ module _ {K V : Type 0} where
       let slots = map (λ s. s.1) (items_under (promoted hash.0) table) in
       let bags = IsPermutation-map (λ m. m.1) (filter q (positions es)) (filter q (members table)) (IsPermutation-filter q (positions es) (members table) index.bag) in
       let places : IsPermutation under slots = subst (λ l. IsPermutation under l) (sym (items-items_under (promoted hash.0) table))
-          (subst (λ l. IsPermutation l (map (λ m. m.1) (filter q (members table)))) (promoted-under hash 0 es (all_fits es index.fits) fits) bags) in
+      (subst (λ l. IsPermutation l (map (λ m. m.1) (filter q (members table)))) (promoted-under hash 0 es (all_fits es index.fits) fits) bags) in
       subst (λ l. IsPermutation l (keys_at look slots))
       (keys-back hash look 0 es (λ k e is. ap look {x = 0 + k} {y = k} (omega arith) ∙ known k e is))
       (IsPermutation-map (λ i. (i, entry_key (look i))) under slots places)

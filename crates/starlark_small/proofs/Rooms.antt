@@ -50,6 +50,9 @@ module _ {K V : Type 0} where
   -- the entries were put into another order
   pub KeepsMemory-turned : (old new : EntryList K V) (index after : Option (Table ℕ)) → length new.entries ≡ length old.entries → new.capacity ≡ old.capacity
       → index_room (length new.entries) index ≤ index_room (length new.entries) after → is_some after ≡ is_some index → KeepsMemory (map_of old index) (map_of new after)
-  KeepsMemory-turned old new index after same capacity room kept =
-      (turn_room (length old.entries) (length new.entries) old.capacity new.capacity (index_room (length old.entries) index) (index_room (length new.entries) after)
-        same capacity (subst (λ n. index_room n index ≤ index_room (length new.entries) after) same room), capacity, kept)
+  KeepsMemory-turned old new index after same capacity room kept = (
+    turn_room (length old.entries) (length new.entries) old.capacity new.capacity (index_room (length old.entries) index) (index_room (length new.entries) after)
+        same capacity (subst (λ n. index_room n index ≤ index_room (length new.entries) after) same room),
+    capacity,
+    kept,
+  )

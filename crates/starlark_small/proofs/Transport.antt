@@ -62,9 +62,12 @@ module _ {C F K V : Type 0} (g : Mut F (Bor K × Unit {0}) Bool) (w : Mut C (Bor
         let next = relate s p.1 true t sees called in
         (true, inner t, next.1 (look p.1) (placed p (first_of_all p ps)), (ap (option_and_then (place_in table)) is ∙ named p (first_of_all p ps), ap inner same))
     asks relate table (p ∷ ps) s last slot placed named (false, t, called, rest) sees =
-        let next = relate s p.1 false t sees called in
-        (false, inner t, next.1 (look p.1) (placed p (first_of_all p ps)),
-          asks relate table ps t last slot (placed_later p ps placed) (λ q there. named q (later_of p ps q there)) rest next.0)
+        let next = relate s p.1 false t sees called in (
+          false,
+          inner t,
+          next.1 (look p.1) (placed p (first_of_all p ps)),
+          asks relate table ps t last slot (placed_later p ps placed) (λ q there. named q (later_of p ps q there)) rest next.0,
+        )
 
     keys-split : (before after : List (ℕ × ℕ)) (p : ℕ × ℕ)
         → keys_at look (places_of (before ++ p ∷ after)) ≡ keys_at look (places_of before) ++ (p.1, entry_key (look p.1)) ∷ keys_at look (places_of after)

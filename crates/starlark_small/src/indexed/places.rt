@@ -16,7 +16,12 @@ fn take_place(index: &mut ReadyTable<usize>, hash: StarlarkHashValue, place: usi
     ensures rest { IsPermutation (members index.old) ((promoted (hash_number hash), place) ∷ members index.new) }
     ensures room { table_len index.new + index.new.room ≡ table_len index.old + index.old.room }
 {
-    let found = index.find(hash.promote(), |i: &usize| -> bool ensures { result ≡ (i.now == place) } { *i == place });
+    let found = index.find(
+        hash.promote(),
+        |i: &usize| -> bool
+            ensures { result ≡ (i.now == place) }
+        { *i == place },
+    );
     if let Some(slot) = found {
         index.remove(slot);
     }

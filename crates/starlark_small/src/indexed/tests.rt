@@ -134,14 +134,16 @@ fn replies_are_right(alloc: Global, map: &mut SmallMap<u32, u32>) -> Result<bool
         Command::Len,
     ]?;
     let replies: Vec<Reply<u32, u32, u32>> = run(alloc, map, commands, |_, value| *value)?;
-    Ok(replies.len() == 11
-        && matches!(&replies[0], Reply::Found(Some((3, 30))))
-        && matches!(&replies[2], Reply::Found(Some((2, 30))))
-        && matches!(&replies[5], Reply::Found(Some((9, 5))))
-        && matches!(&replies[7], Reply::Found(Some((8, 90))))
-        && matches!(&replies[8], Reply::Done)
-        && matches!(&replies[9], Reply::Done)
-        && matches!(&replies[10], Reply::Count(10)))
+    Ok(
+        replies.len() == 11
+            && matches!(&replies[0], Reply::Found(Some((3, 30))))
+            && matches!(&replies[2], Reply::Found(Some((2, 30))))
+            && matches!(&replies[5], Reply::Found(Some((9, 5))))
+            && matches!(&replies[7], Reply::Found(Some((8, 90))))
+            && matches!(&replies[8], Reply::Done)
+            && matches!(&replies[9], Reply::Done)
+            && matches!(&replies[10], Reply::Count(10)),
+    )
 }
 
 #[test]
@@ -175,7 +177,11 @@ fn finds_by_hash(map: &SmallMap<u32, u32>, first: usize) -> bool {
         false
     });
     let found = map.find_by_hash(StarlarkHashValue::new_unchecked(5), |key| *key == 3);
-    refused.is_none() && calls == 2 && missed.is_none() && others == 0 && found == first.checked_add(2)
+    refused.is_none()
+        && calls == 2
+        && missed.is_none()
+        && others == 0
+        && found == first.checked_add(2)
 }
 
 #[test]

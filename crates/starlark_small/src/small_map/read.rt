@@ -9,8 +9,8 @@ ghost use Rattle.starlark_table.specs.Table.{members};
 ghost use Rattle.starlark_small.specs.Map.{query_match, query_match_by_value, own_match};
 
 use super::SmallMap;
-use crate::own_hash::under_own_hash;
 use crate::indexed::{find_in, place_in, room_in};
+use crate::own_hash::under_own_hash;
 use starlark_hash::{Equivalent, Hashed, StarlarkHashValue};
 use starlark_table::ReadyTable;
 use std::hash::Hash;

@@ -12,8 +12,10 @@ returns-in-Some-clause-kept g c =
     let list = c.args.entries.now in
     let table = c.in-Some.table in
     let old = subst (λ o. IsIndexed list.entries o) c.in-Some.is c.requires.indexed in
-    let cap : c.clear.new.self.capacity ≡ list.capacity = ap (λ l. l.capacity) c.clear.ensures in
-    (subst (λ o. KeepsRoom (map_of list o) (map_of c.clear.new.self (Some c.clear-in-Some.new.self))) (sym c.in-Some.is)
-      (clear_room (length list.entries) (length c.clear.new.self.entries) list.capacity c.clear.new.self.capacity table.room c.clear-in-Some.new.self.room (table_len table)
-        (ap (λ l. length l.entries) c.clear.ensures) cap c.clear-in-Some.ensures.room (IsIndexOf-len list.entries table old) c.capacity-capacity.ensures.within),
-      cap, ap is_some (sym c.in-Some.is))
+    let cap : c.clear.new.self.capacity ≡ list.capacity = ap (λ l. l.capacity) c.clear.ensures in (
+      subst (λ o. KeepsRoom (map_of list o) (map_of c.clear.new.self (Some c.clear-in-Some.new.self))) (sym c.in-Some.is)
+          (clear_room (length list.entries) (length c.clear.new.self.entries) list.capacity c.clear.new.self.capacity table.room c.clear-in-Some.new.self.room (table_len table)
+          (ap (λ l. length l.entries) c.clear.ensures) cap c.clear-in-Some.ensures.room (IsIndexOf-len list.entries table old) c.capacity-capacity.ensures.within),
+      cap,
+      ap is_some (sym c.in-Some.is),
+    )

@@ -18,7 +18,9 @@ pub returns-clause-kept : goal.returns-clause-kept
 returns-clause-kept g c =
     let list = c.args.entries.now in
     let after = remove list.entries c.args.i in
-    subst (λ l. KeepsMemory (map_of list c.args.index.now) (map_of l c.unindex.new.index)) (sym c.remove.ensures.list)
-    (cut_room (length list.entries) (length after) list.capacity list.capacity (index_room (length list.entries) c.args.index.now) (index_room (length after) c.unindex.new.index)
-      (length-remove list.entries c.args.i c.requires.within) refl c.unindex.ensures.room c.capacity-capacity.ensures.within,
-      refl, c.unindex.ensures.kept)
+    subst (λ l. KeepsMemory (map_of list c.args.index.now) (map_of l c.unindex.new.index)) (sym c.remove.ensures.list) (
+      cut_room (length list.entries) (length after) list.capacity list.capacity (index_room (length list.entries) c.args.index.now) (index_room (length after) c.unindex.new.index)
+          (length-remove list.entries c.args.i c.requires.within) refl c.unindex.ensures.room c.capacity-capacity.ensures.within,
+      refl,
+      c.unindex.ensures.kept,
+    )

@@ -9,9 +9,11 @@ use Rattle.starlark_small.proofs.indexed.sort_in.Goals as goal
 
 pub refill_index-requires : goal.refill_index-requires
 refill_index-requires g c =
-    let es = c.args.entries.now.entries in
-    (es, c.requires.indexed,
-      sym (ap (λ l. length l.entries) c.in_ok-sort_keys.ensures.sorted ∙ length_permutation es (sorted_by_key g.K.Ord.cmp es) (IsPermutation-sorted_by (key_lt g.K.Ord.cmp) es)))
+    let es = c.args.entries.now.entries in (
+      es,
+      c.requires.indexed,
+      sym (ap (λ l. length l.entries) c.in_ok-sort_keys.ensures.sorted ∙ length_permutation es (sorted_by_key g.K.Ord.cmp es) (IsPermutation-sorted_by (key_lt g.K.Ord.cmp) es)),
+    )
 
 pub returns-clause-sound : goal.returns-clause-sound
 returns-clause-sound g c =
