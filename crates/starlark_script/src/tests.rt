@@ -299,12 +299,12 @@ fn refused_memory(rt: HostRuntime) -> Result<(), Fail> {
     )
 }
 
-// More entries than a sort takes without memory.
+// So many entries, neither ascending nor descending, that the sort asks for memory.
 #[test]
 fn refused_sort(rt: HostRuntime) -> Result<(), Fail> {
     check_refused(
         &rt,
-        "put 0 u 0\nput 0 t 0\nput 0 s 0\nput 0 r 0\nput 0 q 0\nput 0 p 0\nput 0 o 0\n\
+        "put 0 t 0\nput 0 u 0\nput 0 s 0\nput 0 r 0\nput 0 q 0\nput 0 p 0\nput 0 o 0\n\
         put 0 n 0\nput 0 m 0\nput 0 l 0\nput 0 k 0\nput 0 j 0\nput 0 i 0\nput 0 h 0\n\
         put 0 g 0\nput 0 f 0\nput 0 e 0\nput 0 d 0\nput 0 c 0\nput 0 b 0\nput 0 a 0\n\
         sort\nat 0\nat 20\n",
