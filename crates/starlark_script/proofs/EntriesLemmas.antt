@@ -1,6 +1,6 @@
 -- Entries whose keys are seen as bytes: the words on entries say the same of them.
 use Rattle.std.proofs.Common.{◌≡◌, ℕ, zero, suc, ◌-◌, Bool, ℤ, List, [], ◌∷◌, ◌++◌, length, Option, Some, None, refl, sym, ap, ◌∙◌}
-use Rattle.std.specs.Prelude.{remove, slice_get, string_bytes}
+use Rattle.std.specs.Prelude.{remove, reverse, slice_get, string_bytes}
 use Rattle.std.specs.Option.{option_map, option_map_or}
 use Rattle.std.specs.Str.{bytes_eq}
 use Rattle.std.specs.String.{string_cmp}
@@ -16,7 +16,7 @@ use Rattle.starlark_hash.specs.Sorting.{Ascends, key_lt, sorted_by_key}
 use Rattle.starlark_script.specs.Commands.{Key}
 use Rattle.starlark_script.specs.Replies.{bytes_cmp}
 use Rattle.starlark_script.specs.ShownEntries.{shown_entry, entries_of}
-use Rattle.starlark_script.proofs.Images.{position-map, remove-map, sorted_by-map, ascends-map}
+use Rattle.starlark_script.proofs.Images.{position-map, remove-map, reverse-map, sorted_by-map, ascends-map}
 
 -- a search by bytes finds the same place
 pub position_of-entries_of : (es : List (Entry (String Global) ℤ)) (hash : StarlarkHashValue) (passes : List ℕ → Bool)
@@ -119,6 +119,9 @@ pair-some es i key value e = pair-entries_of es i ∙ sym (ap (option_map shown_
 -- without the last entry
 pub popped : (es new : List (Entry (String Global) ℤ)) → new ≡ remove es (length es - 1) → entries_of new ≡ remove (entries_of es) (length (entries_of es) - 1)
 popped es new e = ap entries_of e ∙ sym (remove-map shown_entry es (length es - 1)) ∙ ap (λ n. remove (entries_of es) (n - 1)) (sym (length-map es shown_entry))
+
+pub reversed : (es new : List (Entry (String Global) ℤ)) → new ≡ reverse es → entries_of new ≡ reverse (entries_of es)
+reversed es new e = ap entries_of e ∙ sym (reverse-map shown_entry es)
 
 -- a sort by bytes is a sort of the strings
 pub sorted : (es new : List (Entry (String Global) ℤ)) → new ≡ sorted_by_key string_cmp es → entries_of new ≡ sorted_by_key bytes_cmp (entries_of es)

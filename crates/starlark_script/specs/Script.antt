@@ -36,7 +36,7 @@ pub record StopsAtBadLine (old new : Option (List ℕ)) (number : ℕ) (script :
   pub number_is : number ≡ length commands + 1
   pub written : Answers old new commands
 
--- the replies to some first lines of the script were written, and the next line is that of a command that may need memory there
+-- the replies to some first lines of the script were written, and the next line's command may need memory there
 pub record StopsForMemory (old new : Option (List ℕ)) (script : List ℕ) : Type 0 where
   pub commands : List Command
   pub line : List ℕ

@@ -1,5 +1,5 @@
 //! What each command does to the map, and what is replied.
-ghost use Rattle.std.specs.Prelude.{◌≡◌, ◌≢◌, ℕ, ◌-◌, [], length, remove, reverse, slice_get, IfOk, OnOk, IfErr, OnErr, Some, codes, flat_map};
+ghost use Rattle.std.specs.Prelude.{◌≡◌, ◌≢◌, ℕ, ◌-◌, [], length, remove, reverse, slice_get, IfOk, OnOk, IfErr, OnErr, Some, codes, decimal, flat_map};
 ghost use Rattle.std.specs.Io.KnownBytes.{Keeps, Appends};
 ghost use Rattle.std.specs.Option.{option_map};
 ghost use Rattle.std.specs.Str.{bytes_eq};
@@ -41,8 +41,8 @@ pub fn answer<W: Write>(
             let old = remove_key(map, key);
             write_value(writer, old)
         }
-        Command::At(place) => write_at(map, writer, place),
-        Command::Pop => write_popped(map, writer),
+        Command::At(place) => write_at(writer, map, place),
+        Command::Pop => write_popped(writer, map),
         Command::Rev => {
             turn(map);
             write_ok(writer)
@@ -52,10 +52,10 @@ pub fn answer<W: Write>(
             write_ok(writer)
         }
         Command::Clear => {
-            map.clear();
+            clear(map);
             write_ok(writer)
         }
-        Command::Len => write_line(writer, format_args!("{}", map.len())),
+        Command::Len => write_count(writer, map.len()),
         Command::Walk => write_entries(writer, map.iter_hashed()),
     }
 }
@@ -84,7 +84,7 @@ fn get(map: &SmallMap<String, i64>, key: Hashed<TextKey<'_>>) -> Option<i64>
     map.get_hashed(key.as_ref()).copied()
 }
 
-// Removes an entry.
+// Removes an entry, and answers its value.
 fn remove_key(map: &mut SmallMap<String, i64>, key: Hashed<TextKey<'_>>) -> Option<i64>
     ensures old { result ≡ value_at (entries_of map.old.entries) (match_of bytes_eq (entries_of map.old.entries) (shown_key key.entry)) }
     ensures entries { entries_of map.new.entries ≡ without (entries_of map.old.entries) (match_of bytes_eq (entries_of map.old.entries) (shown_key key.entry)) }
@@ -93,23 +93,36 @@ fn remove_key(map: &mut SmallMap<String, i64>, key: Hashed<TextKey<'_>>) -> Opti
     Some(value)
 }
 
+// Turns the order of the entries round.
+#[tactic(auto, using(crate::proofs::EntriesLemmas::reversed))]
 fn turn(map: &mut SmallMap<String, i64>)
     ensures { entries_of map.new.entries ≡ reverse (entries_of map.old.entries) }
 {
     map.reverse();
 }
 
+#[tactic(auto, using(crate::proofs::EntriesLemmas::sorted, crate::proofs::EntriesLemmas::ascends))]
 fn sort(map: &mut SmallMap<String, i64>) -> Result<(), PlayFault>
     ensures entries { OnOk result (entries_of map.new.entries ≡ sorted_by_key bytes_cmp (entries_of map.old.entries)) }
     ensures err { IfErr result (λ fault. fault ≡ PlayFault.Memory) }
     ensures needed { OnErr result (¬ (Ascends bytes_cmp (entries_of map.old.entries))) }
 {
-    map.sort_keys().map_err(|_| PlayFault::Memory)
+    match map.sort_keys() {
+        Ok(()) => Ok(()),
+        Err(_) => Err(PlayFault::Memory),
+    }
 }
 
+fn clear(map: &mut SmallMap<String, i64>)
+    ensures { entries_of map.new.entries ≡ [] }
+{
+    map.clear();
+}
+
+// Writes the key and the value at a place.
 fn write_at<W: Write>(
-    map: &SmallMap<String, i64>,
     writer: &mut W,
+    map: &SmallMap<String, i64>,
     place: usize,
 ) -> Result<(), PlayFault>
     ensures ok { OnOk result (Appends (W.contents writer.old) (W.contents writer.new) (pair_text (option_map pair_of (slice_get (entries_of map.now.entries) place)))) }
@@ -122,7 +135,7 @@ fn write_at<W: Write>(
 }
 
 // Removes the last entry, and writes it.
-fn write_popped<W: Write>(map: &mut SmallMap<String, i64>, writer: &mut W) -> Result<(), PlayFault>
+fn write_popped<W: Write>(writer: &mut W, map: &mut SmallMap<String, i64>) -> Result<(), PlayFault>
     ensures ok { OnOk result (Appends (W.contents writer.old) (W.contents writer.new) (pair_text (option_map pair_of (slice_get (entries_of map.old.entries) (length (entries_of map.old.entries) - 1))))) }
     ensures entries { entries_of map.new.entries ≡ remove (entries_of map.old.entries) (length (entries_of map.old.entries) - 1) }
     ensures err { IfErr result (λ fault. fault ≡ PlayFault.Io) }
@@ -138,6 +151,13 @@ fn write_pair<W: Write>(writer: &mut W, key: &str, value: i64) -> Result<(), Pla
     ensures err { IfErr result (λ fault. fault ≡ PlayFault.Io) }
 {
     write_line(writer, format_args!("some {key} {value}"))
+}
+
+fn write_count<W: Write>(writer: &mut W, n: usize) -> Result<(), PlayFault>
+    ensures ok { OnOk result (Appends (W.contents writer.old) (W.contents writer.new) (ended (decimal n))) }
+    ensures err { IfErr result (λ fault. fault ≡ PlayFault.Io) }
+{
+    write_line(writer, format_args!("{n}"))
 }
 
 fn write_ok<W: Write>(writer: &mut W) -> Result<(), PlayFault>

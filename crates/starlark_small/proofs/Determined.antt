@@ -4,7 +4,7 @@ use Rattle.std.specs.Option.{option_map}
 use Rattle.std.specs.declared.cmp.Ordering.{Ordering}
 use Rattle.starlark_hash.specs.Entries.{Entry}
 use Rattle.starlark_small.specs.declared.command.Command.{Command}
-use Rattle.starlark_small.specs.declared.command.Command.TheVariants.{Look, At, First, Last, Len, Insert, Change, Remove, RemoveAt, Pop, Clear, Reverse, Sort}
+use Rattle.starlark_small.specs.declared.command.Command.TheVariants.{Look, At, First, Last, Len, Insert, Change, Remove, RemoveAt, Pop, Clear, Reverse, Reserve, DropIndex, Sort}
 use Rattle.starlark_small.specs.declared.command.Reply.{Reply}
 use Rattle.starlark_small.specs.declared.command.Reply.TheVariants.{Found, Shown, Count, Old, Refused, Taken, TakenHashed, Done, NoMemory}
 use Rattle.starlark_small.specs.Run.{IsShown, Run, Step, is_refusal, refusals}
@@ -45,6 +45,9 @@ module _ {K V R : Type 0} (eq : K → K → Bool) (cmp : K → K → Ordering) (
   Step-determined old Pop (Taken a) (Taken b) new end p q same = (ap Taken (p.0 ∙ sym q.0), p.1 ∙ sym q.1)
   Step-determined old Clear Done Done new end p q same = (refl, p ∙ sym q)
   Step-determined old Reverse Done Done new end p q same = (refl, p ∙ sym q)
+  Step-determined old (Reserve n) Done Done new end p q same = (refl, p ∙ sym q)
+  Step-determined old (Reserve n) NoMemory NoMemory new end p q same = (refl, p ∙ sym q)
+  Step-determined old DropIndex Done Done new end p q same = (refl, p ∙ sym q)
   Step-determined old Sort Done Done new end p q same = (refl, p ∙ sym q)
   Step-determined old Sort NoMemory NoMemory new end p q same = (refl, p.1 ∙ sym q.1)
   Step-determined old command r s new end p q same = absurd (first_of (assumption, cc))

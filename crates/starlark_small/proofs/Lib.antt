@@ -1,3 +1,8 @@
 pub mod RunLemmas
 pub mod Determined
-pub mod SoundLemmas
+pub mod Positions
+pub mod Transport
+pub mod Keeping
+pub mod Rooms
+pub mod ValuesWritten
+pub mod SmallMapOpen

@@ -1,8 +1,9 @@
 -- What a `SmallMap` ends as, once a reference into it has ended.
 use Rattle.std.specs.Prelude.{ℕ, Option}
-use Rattle.std.specs.Borrow.{Fml, RattleType, MutBor, Lends, LendsIf}
+use Rattle.std.specs.Borrow.{Fml, RattleType, MutBor, GName, Lends, LendsIf, follows}
 use Rattle.std.specs.declared.cmp.PartialEq as eq
 use Rattle.starlark_hash.specs.Entries.{set_value_at, with_value}
+use Rattle.starlark_vecmap.specs.EntryList.{with_values}
 use Rattle.starlark_small.specs.Map.{Map}
 use Rattle.starlark_small.specs.contracts.small_map.SmallMap.{the_row}
 
@@ -14,3 +15,7 @@ module _ (K V : RattleType) (g : eq.Ghosts K.Denot) (s : MutBor (Map K.Denot V.D
   -- the same of the value at the place that was found; where none was found, the map stays
   abbrev pub lends_found : Option ℕ → Option (MutBor V.Denot) → Fml
   lends_found place r = LendsIf (the_row K V g) V s r (λ w. record s.now { entries = with_value s.now.entries place w }) s.now
+
+  -- the map ends with the values that the loan of this name ends with, and all else stays
+  abbrev pub values_follow : GName → Fml
+  values_follow γ = follows (the_row K V g) (the_row K V g) s.ghost_name γ (λ w. record s.now { entries = with_values s.now.entries w.entries })

@@ -3,12 +3,12 @@ use Rattle.std.specs.Prelude.{◌≡◌, ℕ, ◌+◌, ◌*◌, ◌≤◌, max, 
 use Rattle.std.specs.Borrow.{Bor}
 use Rattle.std.specs.Hash.{HashWrites}
 use Rattle.starlark_hash.specs.declared.hashed.Hashed.{Hashed}
-use Rattle.starlark_hash.specs.Entries.{Entry, position_of, IsSingle}
+use Rattle.starlark_hash.specs.Entries.{Entry, position_of}
 use Rattle.starlark_hash.specs.Hasher.{own_hash}
 use Rattle.starlark_hash.specs.HashValue.{hashed, hash_of, key_of}
-use Rattle.starlark_vecmap.specs.EntryList.{EntryList}
 
--- the entries in order, how many new ones surely need no memory, how many the list holds before it grows, and whether there is an index
+-- the entries in order, how many new ones surely need no memory, how many the list holds before it grows, and whether
+-- there is an index
 pub record Map (K V : Type 0) : Type 0 where
   pub entries : List (Entry K V)
   pub room : ℕ
@@ -27,10 +27,6 @@ module _ {K V : Type 0} where
   -- no room is lost, and capacity and index stay
   abbrev pub KeepsMemory : Map K V → Map K V → Type 0
   KeepsMemory old new = KeepsRoom old new × (new.capacity ≡ old.capacity) × (new.indexed ≡ old.indexed)
-
-  -- a list as a map has it: no two entries have the same hash and equal keys, and it is within its capacity
-  abbrev pub IsSound : (K → K → Bool) → EntryList K V → Type 0
-  IsSound eq m = IsSingle eq m.entries × (length m.entries ≤ m.capacity)
 
 -- the key under its own hash, where `feeds` tells what a key feeds
 abbrev pub own_hashed : {K : Type 0} → (K → HashWrites) → K → Hashed K

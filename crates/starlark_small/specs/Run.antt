@@ -7,7 +7,7 @@ use Rattle.std.specs.declared.cmp.Ordering.{Ordering}
 use Rattle.starlark_hash.specs.Entries.{Entry, entry_key, entry_value, entry_at, pair_of, value_at, with_value, without, match_of, insert_entry}
 use Rattle.starlark_hash.specs.Sorting.{Ascends, sorted_by_key}
 use Rattle.starlark_small.specs.declared.command.Command.{Command}
-use Rattle.starlark_small.specs.declared.command.Command.TheVariants.{Look, At, First, Last, Len, Insert, Change, Remove, RemoveAt, Pop, Clear, Reverse, Sort}
+use Rattle.starlark_small.specs.declared.command.Command.TheVariants.{Look, At, First, Last, Len, Insert, Change, Remove, RemoveAt, Pop, Clear, Reverse, Reserve, DropIndex, Sort}
 use Rattle.starlark_small.specs.declared.command.Reply.{Reply}
 use Rattle.starlark_small.specs.declared.command.Reply.TheVariants.{Found, Shown, Count, Old, Refused, Taken, TakenHashed, Done, NoMemory}
 
@@ -56,6 +56,10 @@ module _ {K V R : Type 0} (eq : K → K → Bool) (cmp : K → K → Ordering) (
   Step old Pop (Taken taken) new = (taken ≡ option_map pair_of (slice_get old (length old - 1))) × (new ≡ remove old (length old - 1))
   Step old Clear Done new = new ≡ []
   Step old Reverse Done new = new ≡ reverse old
+  -- room is made or refused, or an index dropped: the entries stay
+  Step old (Reserve n) Done new = new ≡ old
+  Step old (Reserve n) NoMemory new = new ≡ old
+  Step old DropIndex Done new = new ≡ old
   Step old Sort Done new = new ≡ sorted_by_key cmp old
   -- only a list that does not ascend is refused
   Step old Sort NoMemory new = (Ascends cmp old → ⊥) × (new ≡ old)

@@ -30,6 +30,10 @@ pub enum Command<K, V> {
     Clear,
     /// Turns the order of the entries round. The reply is `Done`.
     Reverse,
+    /// Makes room as `SmallMap::reserve` does. The reply is `Done`, or `NoMemory`.
+    Reserve(usize),
+    /// Drops the index as `SmallMap::maybe_drop_index` does. The reply is `Done`.
+    DropIndex,
     /// Sorts by key as `SmallMap::sort_keys` does. The reply is `Done`, or `NoMemory` where the keys do not
     /// ascend already.
     Sort,
@@ -54,6 +58,6 @@ pub enum Reply<K, V, R> {
     TakenHashed(Option<(Hashed<K>, V)>),
     /// The command is done.
     Done,
-    /// No memory was found to sort. The list is as it was.
+    /// No memory was found, to sort or to make room. The list is as it was.
     NoMemory,
 }

@@ -1,5 +1,6 @@
 //! The walks of a `SmallMap`, which are those of its list.
 
 pub use starlark_vecmap::vec_map::{
-    IntoIter, IntoIterHashed, IntoKeys, IntoValues, Iter, IterHashed, Keys, Values,
+    IntoIter, IntoIterHashed, IntoKeys, IntoValues, Iter, IterHashed, IterMut, Keys, Values,
+    ValuesMut,
 };

@@ -2,14 +2,17 @@
 #![tactic(auto)]
 
 pub mod command;
-mod entries;
+mod indexed;
 pub mod iter;
 mod own_hash;
 pub mod runs;
 pub mod small_map;
 
 pub use command::{Command, Reply};
-pub use iter::{IntoIter, IntoIterHashed, IntoKeys, IntoValues, Iter, IterHashed, Keys, Values};
+pub use iter::{
+    IntoIter, IntoIterHashed, IntoKeys, IntoValues, Iter, IterHashed, IterMut, Keys, Values,
+    ValuesMut,
+};
 pub use runs::run;
 pub use small_map::SmallMap;
 

@@ -65,6 +65,14 @@ fn step<K: Ord + Drop, V: Drop, R, F: Fn(&K, &V) -> R>(
             map.reverse();
             Reply::Done
         }
+        Command::Reserve(additional) => match map.reserve(additional) {
+            Ok(()) => Reply::Done,
+            Err(AllocError) => Reply::NoMemory,
+        },
+        Command::DropIndex => {
+            map.maybe_drop_index();
+            Reply::Done
+        }
         Command::Sort => match map.sort_keys() {
             Ok(()) => Reply::Done,
             Err(_) => Reply::NoMemory,

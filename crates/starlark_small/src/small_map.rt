@@ -1,5 +1,6 @@
-//! The map. It alone sees its list of entries.
-ghost use Rattle.std.specs.Prelude.{◌≡◌, [], false};
+//! The map. It alone sees its list of entries and their index.
+ghost use Rattle.std.specs.Prelude.{◌≡◌, ◌≤◌, [], false, nat_lt, IfOk, IsOk};
+ghost use Rattle.starlark_small.specs.Index.{unindexed};
 
 mod grow;
 mod read;
@@ -7,26 +8,32 @@ mod shrink;
 mod walk;
 mod write;
 
+use crate::indexed::with_room;
+use starlark_table::ReadyTable;
 use starlark_vecmap::VecMap;
-use std::alloc::Global;
+use std::alloc::{AllocError, Global};
 use std::marker::Model;
 
 /// A map that walks in the order of insertion. An entry stands under a hash that its caller brings, which
-/// need not be the key's own: a look-up finds the entry of that hash and an equal key.
+/// need not be the key's own: a look-up finds the entry of that hash and an equal key. A list that has grown long has
+/// an index of its places.
 #[derive(Drop)]
 pub struct SmallMap<K: Eq, V> {
     entries: VecMap<K, V>,
+    index: Option<ReadyTable<usize>>,
+    // Where the index gets its memory.
+    alloc: Global,
 }
 
 impl<K: Eq, V> Model for SmallMap<K, V> {
-    ghost use Rattle.std.specs.Prelude.{◌-◌, false, length};
-    ghost use Rattle.starlark_small.specs.Map.{Map, IsSound};
+    ghost use Rattle.starlark_small.specs.Index.{IsSound, map_of};
+    ghost use Rattle.starlark_small.specs.Map.{Map};
 
     ghost Value = { Map K V };
 
-    ghost view = { λ m. record { entries = m.entries.entries; room = m.entries.capacity - length m.entries.entries; capacity = m.entries.capacity; indexed = false } };
+    ghost view = { λ m. map_of m.entries m.index };
 
-    ghost invariant = { λ m. IsSound K.eq m.entries };
+    ghost invariant = { λ m. IsSound K.eq m.entries.entries m.index };
 }
 
 impl<K: Eq, V> SmallMap<K, V> {
@@ -37,6 +44,25 @@ impl<K: Eq, V> SmallMap<K, V> {
     {
         SmallMap {
             entries: VecMap::new(alloc),
+            index: None,
+            alloc,
         }
+    }
+
+    /// An empty map with room for so many entries, and with an index where so many need one. Where memory is refused,
+    /// nothing is made; capacity 0 asks for none.
+    pub fn with_capacity(alloc: Global, capacity: usize) -> Result<Self, AllocError>
+        ensures entries { IfOk result (λ map. map.entries ≡ []) }
+        ensures capacity { IfOk result (λ map. map.capacity ≡ capacity) }
+        ensures room { IfOk result (λ map. capacity ≤ map.room) }
+        ensures indexed { IfOk result (λ map. map.indexed ≡ nat_lt unindexed capacity) }
+        ensures succeeds { capacity ≡ 0 → IsOk result }
+    {
+        let (entries, index) = with_room(alloc, capacity)?;
+        Ok(SmallMap {
+            entries,
+            index,
+            alloc,
+        })
     }
 }

@@ -329,3 +329,22 @@ fn walks_by_value(rt: HostRuntime) -> Result<(), Fail> {
     }
     Ok(())
 }
+
+#[test]
+fn writes_values(rt: HostRuntime) -> Result<(), Fail> {
+    let mut map = three(rt.alloc())?;
+    for (key, value) in map.iter_mut() {
+        *value = *key;
+    }
+    assert_eq!(rt; map.get_hashed(under(2, &2)).copied(), Some(2));
+    for value in map.values_mut() {
+        *value = 7;
+    }
+    assert_eq!(rt; map.get_hashed(under(3, &3)).copied(), Some(7));
+    for (_, value) in &mut map {
+        *value = 8;
+    }
+    assert_eq!(rt; map.get_hashed(under(1, &1)).copied(), Some(8));
+    assert_eq!(rt; map.values_mut().len(), 3);
+    Ok(())
+}

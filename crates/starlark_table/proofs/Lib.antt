@@ -13,3 +13,8 @@ pub mod Retaining
 pub mod Settling
 pub mod PairBags
 pub mod TableLemmas
+mod NamedClose
+mod FrozenRuns
+mod WrittenSlots
+mod SlotCloses
+mod TableOpens

@@ -8,28 +8,28 @@ use Rattle.starlark_table.specs.Table.{filled}
 use Rattle.starlark_table.specs.Layout.{at, limit, InPlace, IsShift, IsSound}
 use Rattle.starlark_table.proofs.Bag.{filled-set_none, filled-set_some}
 
-pub limit_below : (m n : ℕ) → n ≤ limit m → 4 ≤ m → n < m
-limit_below m n load some = omega arith
+pub load-below_places : (m n : ℕ) → n ≤ limit m → 4 ≤ m → n < m
+load-below_places m n load some = omega arith
 
-some_places : (m len : ℕ) → len < limit m → 0 < m
-some_places m len less = omega arith
+has_places : (m len : ℕ) → len < limit m → 0 < m
+has_places m len less = omega arith
 
-more : (n len k : ℕ) → len ≡ n → k ≡ n + 1 → len + 1 ≡ k
-more n len k e f = omega arith
+one_member_more : (n len k : ℕ) → len ≡ n → k ≡ n + 1 → len + 1 ≡ k
+one_member_more n len k e f = omega arith
 
-one_less : (n len k : ℕ) → len ≡ n → k + 1 ≡ n → len - 1 ≡ k
-one_less n len k e f = omega arith
+one_member_less : (n len k : ℕ) → len ≡ n → k + 1 ≡ n → len - 1 ≡ k
+one_member_less n len k e f = omega arith
 
 -- a power of two, with a shift below 63, is no small number
-pub four : (m shift : ℕ) → shift < 63 → m * 2 ^ shift ≡ 2 ^ 64 → 4 ≤ m
-four m shift high e =
+pub four_places : (m shift : ℕ) → shift < 63 → m * 2 ^ shift ≡ 2 ^ 64 → 4 ≤ m
+four_places m shift high e =
     let at_most : shift ≤ 62 = omega arith in
     let power : 2 ^ shift ≤ 2 ^ 62 = pow-le-pow_right (omega arith) at_most in
     let product : m * 2 ^ shift ≤ m * 2 ^ 62 = mul-le-mul_left m power in
     omega arith
 
-pub small : (m shift : ℕ) → 1 < shift → m * 2 ^ shift ≡ 2 ^ 64 → m < 2 ^ 63
-small m shift low e =
+pub places-fit : (m shift : ℕ) → 1 < shift → m * 2 ^ shift ≡ 2 ^ 64 → m < 2 ^ 63
+places-fit m shift low e =
     let at_least : 2 ≤ shift = omega arith in
     let power : 2 ^ 2 ≤ 2 ^ shift = pow-le-pow_right (omega arith) at_least in
     let product : m * 2 ^ 2 ≤ m * 2 ^ shift = mul-le-mul_left m power in
@@ -37,39 +37,39 @@ small m shift low e =
 
 module _ {T : Type 0} where
   -- fewer members than slots leave an empty slot
-  pub some_empty : (slots : List (Option (ℕ × T))) → length (filled slots) < length slots
+  pub empty_slot : (slots : List (Option (ℕ × T))) → length (filled slots) < length slots
       → (q : ℕ) × (q < length slots) × (at slots q ≡ None)
-  some_empty [] less = absurd (omega arith)
-  some_empty (None ∷ slots) less = (0, omega arith, refl)
-  some_empty (Some m ∷ slots) less =
-      let rest = some_empty slots (omega arith) in (rest.0 + 1, omega (arith, rest.1), rw add-one rest.2)
+  empty_slot [] less = absurd (omega arith)
+  empty_slot (None ∷ slots) less = (0, omega arith, refl)
+  empty_slot (Some m ∷ slots) less =
+      let rest = empty_slot slots (omega arith) in (rest.0 + 1, omega (arith, rest.1), rw add-one rest.2)
 
-  pub placed : (slots : List (Option (ℕ × T))) (shift : ℕ) → IsShift shift slots → 0 < length slots → length slots * 2 ^ shift ≡ 2 ^ 64
-  placed slots shift (inl none) some = absurd (omega arith)
-  placed slots shift (inr e) some = e
+  pub places-power : (slots : List (Option (ℕ × T))) (shift : ℕ) → IsShift shift slots → 0 < length slots → length slots * 2 ^ shift ≡ 2 ^ 64
+  places-power slots shift (inl none) some = absurd (omega arith)
+  places-power slots shift (inr e) some = e
 
-  pub another_empty : (slots : List (Option (ℕ × T))) (shift slot : ℕ) (m : ℕ × T) → shift < 63 → length slots * 2 ^ shift ≡ 2 ^ 64
+  pub another_empty_slot : (slots : List (Option (ℕ × T))) (shift slot : ℕ) (m : ℕ × T) → shift < 63 → length slots * 2 ^ shift ≡ 2 ^ 64
       → length (filled slots) ≤ limit (length slots) → at slots slot ≡ Some m
       → (q : ℕ) × (q < length (set slots slot None)) × (q ≢ slot) × (at (set slots slot None) q ≡ None)
-  another_empty slots shift slot m high e load full =
-      let q = some_empty slots (limit_below (length slots) (length (filled slots)) load (four (length slots) shift high e)) in
+  another_empty_slot slots shift slot m high e load full =
+      let q = empty_slot slots (load-below_places (length slots) (length (filled slots)) load (four_places (length slots) shift high e)) in
       let apart : q.0 ≢ slot = λ same. cc (ap (at slots) same, q.2) in
       (q.0, rw length-set q.1, apart, get_or-set_other slots slot q.0 None None apart ∙ q.2)
 
-  pub taken_bag : (slots new : List (Option (ℕ × T))) (slot : ℕ) (m : ℕ × T) → at slots slot ≡ Some m
+  pub bag-taken_out : (slots new : List (Option (ℕ × T))) (slot : ℕ) (m : ℕ × T) → at slots slot ≡ Some m
       → IsPermutation (filled (set slots slot None)) (filled new) → IsPermutation (filled slots) (m ∷ filled new)
-  taken_bag slots new slot m full moved =
+  bag-taken_out slots new slot m full moved =
       IsPermutation-trans (filled slots) (m ∷ filled (set slots slot None)) (m ∷ filled new)
       (filled-set_none slots slot m full) (IsPermutation-cons m (filled (set slots slot None)) (filled new) moved)
 
-  pub sound_without : (old new : List (Option (ℕ × T))) (len shift : ℕ) (m : ℕ × T) → IsSound old len shift
+  pub sound-without_member : (old new : List (Option (ℕ × T))) (len shift : ℕ) (m : ℕ × T) → IsSound old len shift
       → length new ≡ length old → InPlace (length new) shift new → IsPermutation (filled old) (m ∷ filled new)
       → IsSound new (len - 1) shift
-  sound_without old new len shift m s same in_place bag =
+  sound-without_member old new len shift m s same in_place bag =
       let count = length_permutation (filled old) (m ∷ filled new) bag in
       let load = s.load in
       record {
-        counted = one_less (length (filled old)) len (length (filled new)) s.counted (omega arith);
+        counted = one_member_less (length (filled old)) len (length (filled new)) s.counted (omega arith);
         load = rw same (omega arith);
         shift_low = s.shift_low;
         shift_high = s.shift_high;
@@ -77,14 +77,14 @@ module _ {T : Type 0} where
         in_place = in_place;
       }
 
-  pub sound_with : (old : List (Option (ℕ × T))) (len shift slot : ℕ) (m : ℕ × T) → IsSound old len shift
+  pub sound-with_member : (old : List (Option (ℕ × T))) (len shift slot : ℕ) (m : ℕ × T) → IsSound old len shift
       → len < limit (length old) → slot < length old → at old slot ≡ None
       → InPlace (length (set old slot (Some m))) shift (set old slot (Some m))
       → IsSound (set old slot (Some m)) (len + 1) shift
-  sound_with old len shift slot m s less slot_in empty in_place =
+  sound-with_member old len shift slot m s less slot_in empty in_place =
       let count = length_permutation (m ∷ filled old) (filled (set old slot (Some m))) (filled-set_some old slot m slot_in empty) in
       record {
-        counted = more (length (filled old)) len (length (filled (set old slot (Some m)))) s.counted (omega arith);
+        counted = one_member_more (length (filled old)) len (length (filled (set old slot (Some m)))) s.counted (omega arith);
         load = rw length-set (omega arith);
         shift_low = s.shift_low;
         shift_high = s.shift_high;
@@ -92,36 +92,36 @@ module _ {T : Type 0} where
         in_place = in_place;
       }
 
-  pub room_for_one : (slots : List (Option (ℕ × T))) (len shift : ℕ) → IsSound slots len shift → len < limit (length slots)
+  pub place_for_one : (slots : List (Option (ℕ × T))) (len shift : ℕ) → IsSound slots len shift → len < limit (length slots)
       → (length slots * 2 ^ shift ≡ 2 ^ 64) × ((q : ℕ) × (q < length slots) × (at slots q ≡ None))
-  room_for_one slots len shift s less =
-      let e = placed slots shift s.places (some_places (length slots) len less) in
+  place_for_one slots len shift s less =
+      let e = places-power slots shift s.places (has_places (length slots) len less) in
       let counted = s.counted in
-      (e, some_empty slots (limit_below (length slots) (length (filled slots)) (omega arith) (four (length slots) shift s.shift_high e)))
+      (e, empty_slot slots (load-below_places (length slots) (length (filled slots)) (omega arith) (four_places (length slots) shift s.shift_high e)))
 
   -- a table that has slots has an empty one
-  pub some_free : (slots : List (Option (ℕ × T))) (len shift : ℕ) → IsSound slots len shift → 0 < length slots
+  pub sound-empty_slot : (slots : List (Option (ℕ × T))) (len shift : ℕ) → IsSound slots len shift → 0 < length slots
       → (q : ℕ) × (q < length slots) × (at slots q ≡ None)
-  some_free slots len shift s some =
-      let e = placed slots shift s.places some in
+  sound-empty_slot slots len shift s some =
+      let e = places-power slots shift s.places some in
       let counted = s.counted in
       let load = s.load in
-      some_empty slots (limit_below (length slots) (length (filled slots)) (omega arith) (four (length slots) shift s.shift_high e))
+      empty_slot slots (load-below_places (length slots) (length (filled slots)) (omega arith) (four_places (length slots) shift s.shift_high e))
 
-  pub taken_sound : (old new : List (Option (ℕ × T))) (len shift : ℕ) (r : Option (ℕ × T)) → IsSound old len shift
+  pub sound-taken_out : (old new : List (Option (ℕ × T))) (len shift : ℕ) (r : Option (ℕ × T)) → IsSound old len shift
       → length new ≡ length old → InPlace (length new) shift new
       → IfSome r (λ m. IsPermutation (filled old) (m ∷ filled new)) → is_some r ≡ true
       → IsSound new (len - 1) shift × (1 ≤ len)
-  taken_sound old new len shift None s same in_place bag some = absurd (cc)
-  taken_sound old new len shift (Some m) s same in_place bag some =
+  sound-taken_out old new len shift None s same in_place bag some = absurd (cc)
+  sound-taken_out old new len shift (Some m) s same in_place bag some =
       let count = length_permutation (filled old) (m ∷ filled new) bag in
       let counted = s.counted in
-      (sound_without old new len shift m s same in_place bag, omega arith)
+      (sound-without_member old new len shift m s same in_place bag, omega arith)
 
   -- slots that keep some of their members
-  pub sound_kept : (old new : List (Option (ℕ × T))) (len kept shift : ℕ) → IsSound old len shift → length new ≡ length old
+  pub sound-some_kept : (old new : List (Option (ℕ × T))) (len kept shift : ℕ) → IsSound old len shift → length new ≡ length old
       → InPlace (length new) shift new → kept ≡ length (filled new) → length (filled new) ≤ length (filled old) → IsSound new kept shift
-  sound_kept old new len kept shift s same in_place counted fewer =
+  sound-some_kept old new len kept shift s same in_place counted fewer =
       let before = s.counted in
       let load = s.load in
       record {
@@ -134,16 +134,16 @@ module _ {T : Type 0} where
       }
 
   -- members and room together fill the load
-  pub full_room : (slots : List (Option (ℕ × T))) (len shift : ℕ) → IsSound slots len shift
+  pub len-and-room : (slots : List (Option (ℕ × T))) (len shift : ℕ) → IsSound slots len shift
       → length (filled slots) + (limit (length slots) - len) ≡ limit (length slots)
-  full_room slots len shift s = let e = s.counted in let l = s.load in omega arith
+  len-and-room slots len shift s = let e = s.counted in let l = s.load in omega arith
 
-  pub taken_sound_via : (old via new : List (Option (ℕ × T))) (len shift : ℕ) (r : Option (ℕ × T)) → via ≡ old → IsSound old len shift
+  pub sound-taken_out_of_copy : (old via new : List (Option (ℕ × T))) (len shift : ℕ) (r : Option (ℕ × T)) → via ≡ old → IsSound old len shift
       → length new ≡ length via → InPlace (length new) shift new
       → IfSome r (λ m. IsPermutation (filled via) (m ∷ filled new)) → is_some r ≡ true
       → IsSound new (len - 1) shift × (1 ≤ len)
-  taken_sound_via old via new len shift r e s same in_place bag some =
-      taken_sound old new len shift r s (same ∙ ap length e) in_place
+  sound-taken_out_of_copy old via new len shift r e s same in_place bag some =
+      sound-taken_out old new len shift r s (same ∙ ap length e) in_place
       (subst (λ l. IfSome r (λ m. IsPermutation (filled l) (m ∷ filled new))) e bag) some
 
 module _ {T : Type 0} where
@@ -156,48 +156,48 @@ module _ {T : Type 0} where
   filled-replicate zero = refl
   filled-replicate (suc n) = filled-replicate n
 
-  pub moved_none : (all : List (ℕ × T)) (old rest slots : List (Option (ℕ × T))) → old ≡ rest ++ None ∷ []
+  pub bag-empty_slot_moved : (all : List (ℕ × T)) (old rest slots : List (Option (ℕ × T))) → old ≡ rest ++ None ∷ []
       → IsPermutation all (filled old ++ filled slots) → IsPermutation all (filled rest ++ filled slots)
-  moved_none all old rest slots e bag =
+  bag-empty_slot_moved all old rest slots e bag =
       subst (λ l. IsPermutation all (l ++ filled slots))
       (ap filled e ∙ filled-append rest (None ∷ []) ∙ append-nil (filled rest)) bag
 
-  pub moved_some : (all : List (ℕ × T)) (old rest slots : List (Option (ℕ × T))) (place : ℕ) (m : ℕ × T)
+  pub bag-member_moved : (all : List (ℕ × T)) (old rest slots : List (Option (ℕ × T))) (place : ℕ) (m : ℕ × T)
       → old ≡ rest ++ Some m ∷ [] → place < length slots → at slots place ≡ None
       → IsPermutation all (filled old ++ filled slots)
       → IsPermutation all (filled rest ++ filled (set slots place (Some m)))
-  moved_some all old rest slots place m e place_in empty bag =
+  bag-member_moved all old rest slots place m e place_in empty bag =
       let same : filled old ++ filled slots ≡ filled rest ++ m ∷ filled slots =
       ap (λ l. l ++ filled slots) (ap filled e ∙ filled-append rest (Some m ∷ [])) ∙ append_assoc (filled rest) (m ∷ []) (filled slots) in
       IsPermutation-trans all (filled rest ++ m ∷ filled slots) (filled rest ++ filled (set slots place (Some m)))
       (subst (λ l. IsPermutation all l) same bag)
       (IsPermutation-append_right (filled rest) (m ∷ filled slots) (filled (set slots place (Some m))) (filled-set_some slots place m place_in empty))
 
-  pub room_left : (all : List (ℕ × T)) (old slots : List (Option (ℕ × T))) (shift : ℕ) → shift < 63
+  pub empty_slot-while_moving : (all : List (ℕ × T)) (old slots : List (Option (ℕ × T))) (shift : ℕ) → shift < 63
       → length slots * 2 ^ shift ≡ 2 ^ 64 → length all ≤ limit (length slots)
       → IsPermutation all (filled old ++ filled slots) → (q : ℕ) × (q < length slots) × (at slots q ≡ None)
-  room_left all old slots shift high e room bag =
+  empty_slot-while_moving all old slots shift high e room bag =
       let count = length_permutation all (filled old ++ filled slots) bag ∙ sym refl in
       let parts = length-append (filled old) (filled slots) in
-      some_empty slots (limit_below (length slots) (length (filled slots)) (omega arith) (four (length slots) shift high e))
+      empty_slot slots (load-below_places (length slots) (length (filled slots)) (omega arith) (four_places (length slots) shift high e))
 
   at-replicate : (n p : ℕ) → at {T = T} (replicate n None) p ≡ None
   at-replicate zero p = refl
   at-replicate (suc n) zero = refl
   at-replicate (suc n) (suc p) = at-replicate n p
 
-  pub in_place_empty : (m shift n : ℕ) → InPlace {T = T} m shift (replicate n None)
-  in_place_empty m shift n = record {
+  pub in_place-replicate : (m shift n : ℕ) → InPlace {T = T} m shift (replicate n None)
+  in_place-replicate m shift n = record {
     homed = λ p h x e. absurd (cc (at-replicate n p));
     reached = λ p q h x e q_in nearer. absurd (cc (at-replicate n p));
   }
 
-  pub grown : (items old mid new : List (Option (ℕ × T))) (len shift shift' count : ℕ) → IsSound items len shift
+  pub sound-grown : (items old mid new : List (Option (ℕ × T))) (len shift shift' count : ℕ) → IsSound items len shift
       → old ≡ items → mid ≡ replicate count None → length new ≡ length mid → InPlace (length new) shift' new
       → IsPermutation (filled old ++ filled mid) (filled new)
       → count * 2 ^ shift' ≡ 2 ^ 64 → 1 < shift' → shift' < 63 → len ≤ limit count
       → IsSound new len shift' × IsPermutation (filled items) (filled new) × (length new ≡ count)
-  grown items old mid new len shift shift' count s e f sized in_place bag power low high load =
+  sound-grown items old mid new len shift shift' count s e f sized in_place bag power low high load =
       let sized' : length new ≡ count = sized ∙ ap length f ∙ length-replicate count None in
       let bag' : IsPermutation (filled items) (filled new) =
       subst (λ l. IsPermutation l (filled new))
@@ -214,24 +214,24 @@ module _ {T : Type 0} where
         sized',
       )
 
-  pub inserted : (items mid new : List (Option (ℕ × T))) (len shift slot : ℕ) (m : ℕ × T) → IsSound items len shift
+  pub sound-inserted : (items mid new : List (Option (ℕ × T))) (len shift slot : ℕ) (m : ℕ × T) → IsSound items len shift
       → mid ≡ items → new ≡ set mid slot (Some m) → slot < length mid → at mid slot ≡ None → InPlace (length new) shift new
       → 1 ≤ limit (length items) - len
       → IsSound new (len + 1) shift × IsPermutation (m ∷ filled items) (filled new) × (length new ≡ length items)
-  inserted items mid new len shift slot m s e f slot_in empty in_place room =
+  sound-inserted items mid new len shift slot m s e f slot_in empty in_place room =
       let e' : new ≡ set items slot (Some m) = f ∙ ap (λ l. set l slot (Some m)) e in
       let slot_in' : slot < length items = subst (λ l. slot < length l) e slot_in in
       let empty' : at items slot ≡ None = sym (ap (λ l. at l slot) e) ∙ empty in
       let less : len < limit (length items) = omega arith in (
         subst (λ l. IsSound l (len + 1) shift) (sym e')
-            (sound_with items len shift slot m s less slot_in' empty' (subst (λ l. InPlace (length l) shift l) e' in_place)),
+            (sound-with_member items len shift slot m s less slot_in' empty' (subst (λ l. InPlace (length l) shift l) e' in_place)),
         subst (λ l. IsPermutation (m ∷ filled items) (filled l)) (sym e') (filled-set_some items slot m slot_in' empty'),
         ap length e' ∙ length-set items slot (Some m),
       )
 
-  pub sound_empty : (items : List (Option (ℕ × T))) (shift count : ℕ) → items ≡ replicate count None
+  pub sound-all_empty : (items : List (Option (ℕ × T))) (shift count : ℕ) → items ≡ replicate count None
       → count * 2 ^ shift ≡ 2 ^ 64 → 1 < shift → shift < 63 → IsSound items 0 shift × (filled items ≡ [])
-  sound_empty items shift count e power low high =
+  sound-all_empty items shift count e power low high =
       let none : filled items ≡ [] = ap filled e ∙ filled-replicate count in
       let sized : length items ≡ count = ap length e ∙ length-replicate count None in (
         record {
@@ -240,7 +240,7 @@ module _ {T : Type 0} where
           shift_low = low;
           shift_high = high;
           places = inr (ap (λ n. n * 2 ^ shift) sized ∙ power);
-          in_place = subst (λ l. InPlace (length l) shift l) (sym e) (in_place_empty (length (replicate count None)) shift count);
+          in_place = subst (λ l. InPlace (length l) shift l) (sym e) (in_place-replicate (length (replicate count None)) shift count);
         },
         none,
       )

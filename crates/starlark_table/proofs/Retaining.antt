@@ -10,28 +10,28 @@ use Rattle.starlark_table.specs.Walk.{CanRetain, TakesAtMut, AsksMember}
 use Rattle.starlark_table.specs.Layout.{at, AsksSlot, StandsIn}
 use Rattle.starlark_table.proofs.Lists.{drop_all, take_all, head_left, taken_more}
 use Rattle.starlark_table.proofs.Walking.{walk_on, walk_asks}
-use Rattle.starlark_table.proofs.Closing.{at_set, same_hash}
+use Rattle.starlark_table.proofs.Closing.{at-set, same_hash}
 use Rattle.starlark_table.proofs.Load.{filled-append}
 
 module _ {F T : Type 0} (g : Mut F (MutBor T × Unit {0}) (Bool × (MutBor T × Unit {0}))) where
-  pub asked : (f : F) (slot : Option (ℕ × T)) (kept : Bool) (h : ℕ) (x y : T) (f' : F) (new : Option (ℕ × T)) → slot ≡ Some (h, x)
+  pub asks-slot : (f : F) (slot : Option (ℕ × T)) (kept : Bool) (h : ℕ) (x y : T) (f' : F) (new : Option (ℕ × T)) → slot ≡ Some (h, x)
       → CalledAtMut g f x kept f' y → new ≡ (if kept then Some (h, y) else None) → AsksSlot g f slot kept f' new
-  asked f slot kept h x y f' new e called is = subst (λ o. AsksSlot g f o kept f' new) (sym e) (y, called, is)
+  asks-slot f slot kept h x y f' new e called is = subst (λ o. AsksSlot g f o kept f' new) (sym e) (y, called, is)
 
   -- what the call of a slot asks of f
-  pub takes_slot : (o : Option (ℕ × T)) (slots : List (Option (ℕ × T))) (f : F) → CanRetain g (items_in (o ∷ slots)) f
+  pub takes-slot_here : (o : Option (ℕ × T)) (slots : List (Option (ℕ × T))) (f : F) → CanRetain g (items_in (o ∷ slots)) f
       → IfSome o (λ m. TakesAtMut g f m.1)
-  takes_slot None slots f can = tt
-  takes_slot (Some m) slots f can = walk_asks (TakesAtMut g) _ m.1 (items_in slots) f can
+  takes-slot_here None slots f can = tt
+  takes-slot_here (Some m) slots f can = walk_asks (TakesAtMut g) _ m.1 (items_in slots) f can
 
-  pub takes_rest : (o : Option (ℕ × T)) (slots : List (Option (ℕ × T))) (f f' : F) (kept : Bool) (o' : Option (ℕ × T)) → AsksSlot g f o kept f' o'
+  pub takes-rest : (o : Option (ℕ × T)) (slots : List (Option (ℕ × T))) (f f' : F) (kept : Bool) (o' : Option (ℕ × T)) → AsksSlot g f o kept f' o'
       → CanRetain g (items_in (o ∷ slots)) f → CanRetain g (items_in slots) f'
-  takes_rest None slots f f' kept o' asks can = subst (λ f. CanRetain g (items_in slots) f) (sym asks.1) can
-  takes_rest (Some m) slots f f' kept o' asks can = walk_on (TakesAtMut g) _ m.1 (items_in slots) f f' (kept, asks.0, asks.1) can
+  takes-rest None slots f f' kept o' asks can = subst (λ f. CanRetain g (items_in slots) f) (sym asks.1) can
+  takes-rest (Some m) slots f f' kept o' asks can = walk_on (TakesAtMut g) _ m.1 (items_in slots) f f' (kept, asks.0, asks.1) can
 
-  left_of : (m : ℕ × T) (kept : Bool) (rest : List (ℕ × T)) → filled ((if kept then Some m else None) ∷ []) ++ rest ≡ cond kept (m ∷ rest) rest
-  left_of m true rest = refl
-  left_of m false rest = refl
+  slot-left : (m : ℕ × T) (kept : Bool) (rest : List (ℕ × T)) → filled ((if kept then Some m else None) ∷ []) ++ rest ≡ cond kept (m ∷ rest) rest
+  slot-left m true rest = refl
+  slot-left m false rest = refl
 
   pub retains_one : (o : Option (ℕ × T)) (slots : List (Option (ℕ × T))) (f f' : F) (kept : Bool) (o' : Option (ℕ × T)) (rest : List (ℕ × T))
       → AsksSlot g f o kept f' o' → RetainsInTurn (AsksMember g) f' (filled slots) rest
@@ -46,7 +46,7 @@ module _ {F T : Type 0} (g : Mut F (MutBor T × Unit {0}) (Bool × (MutBor T × 
     record { hash = refl; called = asks.1 },
     rest,
     more,
-    ap (λ o. filled (o ∷ []) ++ rest) asks.2 ∙ left_of (h, asks.0) kept rest,
+    ap (λ o. filled (o ∷ []) ++ rest) asks.2 ∙ slot-left (h, asks.0) kept rest,
   )
 
   pub one_counted : (o : Option (ℕ × T)) (f f' : F) (kept : Bool) (o' : Option (ℕ × T)) → AsksSlot g f o kept f' o'
@@ -55,53 +55,53 @@ module _ {F T : Type 0} (g : Mut F (MutBor T × Unit {0}) (Bool × (MutBor T × 
   one_counted (Some m) f f' true o' asks = ap (λ o. length (filled (o ∷ []))) asks.2
   one_counted (Some m) f f' false o' asks = ap (λ o. length (filled (o ∷ []))) asks.2
 
-  still_there : (o : Option (ℕ × T)) (f f' : F) (kept : Bool) (o' : Option (ℕ × T)) (h : ℕ) (y : T) → AsksSlot g f o kept f' o' → o' ≡ Some (h, y)
+  stands-in_place : (o : Option (ℕ × T)) (f f' : F) (kept : Bool) (o' : Option (ℕ × T)) (h : ℕ) (y : T) → AsksSlot g f o kept f' o' → o' ≡ Some (h, y)
       → (x : T) × (o ≡ Some (h, x))
-  still_there None f f' kept o' h y asks e = absurd (let none = asks.2 in cc)
-  still_there (Some (k, x)) f f' true o' h y asks e =
+  stands-in_place None f f' kept o' h y asks e = absurd (let none = asks.2 in cc)
+  stands-in_place (Some (k, x)) f f' true o' h y asks e =
       (x, ap (λ n. Some (n, x)) (same_hash (k, asks.0) (h, y) (sym asks.2 ∙ e)))
-  still_there (Some (k, x)) f f' false o' h y asks e = absurd (let none = asks.2 in cc)
+  stands-in_place (Some (k, x)) f f' false o' h y asks e = absurd (let none = asks.2 in cc)
 
   module _ (first : F) (initial cur : List (Option (ℕ × T))) (i : ℕ) (r : Option (ℕ × T)) (f f' : F) (kept : Bool) (new : List (Option (ℕ × T))) (o' : Option (ℕ × T))
       (below : i < length cur) (untouched : drop i cur ≡ drop i initial) (is : new ≡ set cur i o') (asks : AsksSlot g f (get_or cur i r) kept f' o') where
-    rest_is : drop i initial ≡ get_or cur i r ∷ drop (i + 1) initial
-    rest_is = head_left initial cur i r (get_or cur i r) below untouched refl
+    rest-of_slots : drop i initial ≡ get_or cur i r ∷ drop (i + 1) initial
+    rest-of_slots = head_left initial cur i r (get_or cur i r) below untouched refl
 
-    pub callable_on : CanRetain g (items_in (drop i initial)) f → CanRetain g (items_in (drop (i + 1) initial)) f'
-    callable_on can = takes_rest (get_or cur i r) (drop (i + 1) initial) f f' kept o' asks (subst (λ l. CanRetain g (items_in l) f) rest_is can)
+    pub can_retain-rest : CanRetain g (items_in (drop i initial)) f → CanRetain g (items_in (drop (i + 1) initial)) f'
+    can_retain-rest can = takes-rest (get_or cur i r) (drop (i + 1) initial) f f' kept o' asks (subst (λ l. CanRetain g (items_in l) f) rest-of_slots can)
 
-    front_is : filled (take (i + 1) new) ≡ filled (take i cur) ++ filled (o' ∷ [])
-    front_is = ap filled (sym (append-nil (take (i + 1) new)) ∙ sym (taken_more cur new [] i o' below is)) ∙ filled-append (take i cur) (o' ∷ [])
+    front-of_slots : filled (take (i + 1) new) ≡ filled (take i cur) ++ filled (o' ∷ [])
+    front-of_slots = ap filled (sym (append-nil (take (i + 1) new)) ∙ sym (taken_more cur new [] i o' below is)) ∙ filled-append (take i cur) (o' ∷ [])
 
-    pub done_more : ((rest : List (ℕ × T)) → RetainsInTurn (AsksMember g) f (filled (drop i initial)) rest
+    pub retains-next_slot : ((rest : List (ℕ × T)) → RetainsInTurn (AsksMember g) f (filled (drop i initial)) rest
         → RetainsInTurn (AsksMember g) first (filled initial) (filled (take i cur) ++ rest))
         → (rest : List (ℕ × T)) → RetainsInTurn (AsksMember g) f' (filled (drop (i + 1) initial)) rest
         → RetainsInTurn (AsksMember g) first (filled initial) (filled (take (i + 1) new) ++ rest)
-    done_more done rest more =
+    retains-next_slot done rest more =
         subst (λ l. RetainsInTurn (AsksMember g) first (filled initial) l)
-        (sym (append_assoc (filled (take i cur)) (filled (o' ∷ [])) rest) ∙ ap (λ l. l ++ rest) (sym front_is))
+        (sym (append_assoc (filled (take i cur)) (filled (o' ∷ [])) rest) ∙ ap (λ l. l ++ rest) (sym front-of_slots))
         (done (filled (o' ∷ []) ++ rest)
-        (subst (λ l. RetainsInTurn (AsksMember g) f (filled l) (filled (o' ∷ []) ++ rest)) (sym rest_is)
+        (subst (λ l. RetainsInTurn (AsksMember g) f (filled l) (filled (o' ∷ []) ++ rest)) (sym rest-of_slots)
         (retains_one (get_or cur i r) (drop (i + 1) initial) f f' kept o' rest asks more)))
 
-    pub counted_more : (count : ℕ) → count ≡ length (filled (take i cur)) → count + cond kept 1 0 ≡ length (filled (take (i + 1) new))
-    counted_more count e =
+    pub counts-next_slot : (count : ℕ) → count ≡ length (filled (take i cur)) → count + cond kept 1 0 ≡ length (filled (take (i + 1) new))
+    counts-next_slot count e =
         ap (λ n. n + cond kept 1 0) e ∙ ap (λ n. length (filled (take i cur)) + n) (sym (one_counted (get_or cur i r) f f' kept o' asks))
-        ∙ sym (length-append (filled (take i cur)) (filled (o' ∷ []))) ∙ ap length (sym front_is)
+        ∙ sym (length-append (filled (take i cur)) (filled (o' ∷ []))) ∙ ap length (sym front-of_slots)
 
-    pub stands_still : StandsIn initial cur → StandsIn initial new
-    stands_still s = record {
+    pub stands-next_slot : StandsIn initial cur → StandsIn initial new
+    stands-next_slot s = record {
       sized = ap length is ∙ length-set cur i o' ∙ s.sized;
-      stood = λ p h y e. elim (at_set cur i p o' (Some (h, y)) below (sym (ap (λ l. at l p) is) ∙ e)) [
+      stood = λ p h y e. elim (at-set cur i p o' (Some (h, y)) below (sym (ap (λ l. at l p) is) ∙ e)) [
         | inl here ↦
-            let there = still_there (get_or cur i r) f f' kept o' h y asks here.1 in
+            let there = stands-in_place (get_or cur i r) f f' kept o' h y asks here.1 in
             s.stood p h there.0 (ap (at cur) here.0 ∙ sym (get_or_default cur i r None below) ∙ there.1)
         | inr kept ↦ s.stood p h y kept.1
       ];
     }
 
-  pub stands_first : (slots : List (Option (ℕ × T))) → StandsIn slots slots
-  stands_first slots = record { sized = refl; stood = λ p h y e. (y, e) }
+  pub stands-at_first : (slots : List (Option (ℕ × T))) → StandsIn slots slots
+  stands-at_first slots = record { sized = refl; stood = λ p h y e. (y, e) }
 
   pub retains_all : (first f : F) (initial cur : List (Option (ℕ × T))) (i : ℕ) → length initial ≤ i → length cur ≡ length initial
       → ((rest : List (ℕ × T)) → RetainsInTurn (AsksMember g) f (filled (drop i initial)) rest
@@ -112,11 +112,11 @@ module _ {F T : Type 0} (g : Mut F (MutBor T × Unit {0}) (Bool × (MutBor T × 
       (done [] (subst (λ l. RetainsInTurn (AsksMember g) f (filled l) []) (sym (drop_all i initial all)) refl))
 
 module _ {S X : Type 0} (calls : S → X → Bool → S → X → Type 0) where
-  fewer : (b : Bool) (x : X) (xs ys : List X) (n : ℕ) → ys ≡ cond b (x ∷ xs) xs → length xs ≤ n → length ys ≤ suc n
-  fewer true x xs ys n is few = rw is (omega arith)
-  fewer false x xs ys n is few = rw is (omega arith)
+  retained-fewer : (b : Bool) (x : X) (xs ys : List X) (n : ℕ) → ys ≡ cond b (x ∷ xs) xs → length xs ≤ n → length ys ≤ suc n
+  retained-fewer true x xs ys n is few = rw is (omega arith)
+  retained-fewer false x xs ys n is few = rw is (omega arith)
 
   -- no more is kept than there was
   pub length-retained : (s : S) (xs ys : List X) → RetainsInTurn calls s xs ys → length ys ≤ length xs
   length-retained s [] ys r = rw r (omega arith)
-  length-retained s (x ∷ xs) ys (b, t, y, called, rest, more, is) = fewer b y rest ys (length xs) is (length-retained t xs rest more)
+  length-retained s (x ∷ xs) ys (b, t, y, called, rest, more, is) = retained-fewer b y rest ys (length xs) is (length-retained t xs rest more)

@@ -9,7 +9,7 @@ use Rattle.std.proofs.lemmas.List.Sorted.{IsPermutation-refl}
 use Rattle.starlark_table.specs.Table.{filled}
 use Rattle.starlark_table.specs.Layout.{at, distance, home, InPlace, ReachesBefore, StandsIn}
 use Rattle.starlark_table.proofs.Circle.{distance-below, distance-self, distance-same, distance-by}
-use Rattle.starlark_table.proofs.Closing.{full_in_range, is_full, same_hash, full_not_empty, swapped_slots, Moved, origin, differs}
+use Rattle.starlark_table.proofs.Closing.{full_in_range, full-some, same_hash, full_not_empty, swapped_slots, Moved, moved-origin, apart-by_order}
 
 -- a way that does not lead over z is behind its end, seen from z
 on_way : (m z b p q : ℕ) → z < m → b < m → p < m → q < m → distance m b p < distance m b z → distance m b q < distance m b p
@@ -102,9 +102,9 @@ module _ {T : Type 0} where
       module _ (moved : Moved old new to place (h, x)) where
         pub reaches_moved : ReachesBefore m shift new start
         reaches_moved = record {
-          homed = λ p k y at_p. let o = origin old new to place p (h, x) (k, y) here moved at_p in reaches.homed o.from k y o.there;
+          homed = λ p k y at_p. let o = moved-origin old new to place p (h, x) (k, y) here moved at_p in reaches.homed o.from k y o.there;
           before = λ p k y at_p.
-              let o = origin old new to place p (h, x) (k, y) here moved at_p in
+              let o = moved-origin old new to place p (h, x) (k, y) here moved at_p in
               let far = reaches.before o.from k y o.there in
               elim o.which [
                 | inl same ↦ subst (λ p. distance m (home shift k) p < distance m (home shift k) start) same far
@@ -119,15 +119,15 @@ module _ {T : Type 0} where
         full_still : (q : ℕ) → (q ≡ place → ⊥) → IsSome (at old q) → IsSome (at new q)
         full_still q apart full =
             elim (cases_order q to) [
-              | inl same ↦ is_full (at new q) (h, x) (ap (at new) same ∙ moved.filled_hole)
-              | inr other ↦ subst IsSome (sym (moved.others q (λ e. differs q to other e) apart)) full
+              | inl same ↦ full-some (at new q) (h, x) (ap (at new) same ∙ moved.filled_hole)
+              | inr other ↦ subst IsSome (sym (moved.others q (λ e. apart-by_order q to other e) apart)) full
             ]
 
         -- a member that moves back
         pub settled_moved : length new ≡ m → Settled m shift start new (step + 1)
         settled_moved sized' = record {
           reached = λ p q k y at_p less q_in nearer.
-              let o = origin old new to place p (h, x) (k, y) here moved at_p in
+              let o = moved-origin old new to place p (h, x) (k, y) here moved at_p in
               elim o.which [
                 | inl same ↦
                     let at_old : at old p ≡ Some (k, y) = ap (at old) (sym same) ∙ o.there in

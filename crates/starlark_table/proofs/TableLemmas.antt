@@ -1,5 +1,5 @@
 -- What the words on tables say of one another, for the crates above.
-use Rattle.std.proofs.Common.{◌≡◌, ℕ, zero, suc, ◌+◌, Bool, true, false, cond, nat_eq, List, [], ◌∷◌, map, Option, Some, None, refl, sym, ap, subst, ◌∙◌, arith, if◌then◌else◌}
+use Rattle.std.proofs.Common.{◌≡◌, ℕ, zero, suc, ◌+◌, Bool, true, false, cond, nat_eq, List, [], ◌∷◌, map, length, Option, Some, None, refl, sym, ap, subst, ◌∙◌, arith, if◌then◌else◌}
 use Rattle.std.specs.Prelude.{slice_index_or}
 use Rattle.std.specs.Borrow.{Bor}
 use Rattle.std.specs.Fn.{Mut, CalledAt}
@@ -8,6 +8,7 @@ use Rattle.std.proofs.Common.{eqb-true}
 use Rattle.starlark_hash.specs.Search.{Searches}
 use Rattle.starlark_hash.proofs.SearchLemmas.{found}
 use Rattle.starlark_table.specs.Table.{Table, filled, holders, members, member_at, items_under}
+use Rattle.starlark_table.specs.Written.{with_item_of, with_items_of, with_written}
 use Rattle.starlark_table.specs.Walk.{ReplacesEach}
 use Rattle.starlark_table.proofs.Path.{in_filled}
 
@@ -74,3 +75,45 @@ members-replaced g to f pure (Some (h, x) ∷ old) new last (y, next, rest, call
     let p = pure x y next called in
     ap filled is ∙ ap (λ z. (h, z) ∷ filled rest) p.0
     ∙ ap (λ l. (h, to x) ∷ l) (members-replaced g to f pure old rest last (subst (λ s. ReplacesEach g s old rest last) p.1 more))
+
+-- ---- what a walk that writes the items leaves
+module _ {T : Type 0} where
+  with_no_item : (slot : Option (ℕ × T)) → slot ≡ with_item_of slot None
+  with_no_item None = refl
+  with_no_item (Some m) = refl
+
+  slot-with_items_of : (slots written : List (Option (ℕ × T))) (slot : ℕ)
+      → slice_index_or (with_items_of slots written) slot None ≡ with_item_of (slice_index_or slots slot None) (slice_index_or written slot None)
+  slot-with_items_of [] written slot = refl
+  slot-with_items_of (s ∷ slots) [] zero = with_no_item s
+  slot-with_items_of (s ∷ slots) [] (suc k) = slot-with_items_of slots [] k
+  slot-with_items_of (s ∷ slots) (w ∷ written) zero = refl
+  slot-with_items_of (s ∷ slots) (w ∷ written) (suc k) = slot-with_items_of slots written k
+
+  pub length-with_items_of : (slots written : List (Option (ℕ × T))) → length (with_items_of slots written) ≡ length slots
+  length-with_items_of [] written = refl
+  length-with_items_of (s ∷ slots) [] = ap suc (length-with_items_of slots [])
+  length-with_items_of (s ∷ slots) (w ∷ written) = ap suc (length-with_items_of slots written)
+
+  pub hashes-with_items_of : (slots written : List (Option (ℕ × T))) → map (λ m. m.0) (filled (with_items_of slots written)) ≡ map (λ m. m.0) (filled slots)
+  hashes-with_items_of [] written = refl
+  hashes-with_items_of (None ∷ slots) [] = hashes-with_items_of slots []
+  hashes-with_items_of (Some m ∷ slots) [] = ap (λ l. m.0 ∷ l) (hashes-with_items_of slots [])
+  hashes-with_items_of (None ∷ slots) (w ∷ written) = hashes-with_items_of slots written
+  hashes-with_items_of (Some m ∷ slots) (None ∷ written) = ap (λ l. m.0 ∷ l) (hashes-with_items_of slots written)
+  hashes-with_items_of (Some m ∷ slots) (Some w ∷ written) = ap (λ l. m.0 ∷ l) (hashes-with_items_of slots written)
+
+  pub members-with_items_of : (slots written : List (Option (ℕ × T))) → length (filled (with_items_of slots written)) ≡ length (filled slots)
+  members-with_items_of [] written = refl
+  members-with_items_of (None ∷ slots) [] = members-with_items_of slots []
+  members-with_items_of (Some m ∷ slots) [] = ap suc (members-with_items_of slots [])
+  members-with_items_of (None ∷ slots) (w ∷ written) = members-with_items_of slots written
+  members-with_items_of (Some m ∷ slots) (None ∷ written) = ap suc (members-with_items_of slots written)
+  members-with_items_of (Some m ∷ slots) (Some w ∷ written) = ap suc (members-with_items_of slots written)
+
+  -- a slot has the item that was left in it, under its own hash
+  pub member_at-with_written : (t written : Table T) (slot : ℕ) → member_at (with_written t written) slot ≡ with_item_of (member_at t slot) (member_at written slot)
+  member_at-with_written t written slot = slot-with_items_of t.slots written.slots slot
+
+-- what a caller of such a walk may want to know: there are as many slots and as many members, and their hashes stay
+pub ruleset written_tables = (length-with_items_of, members-with_items_of, hashes-with_items_of)

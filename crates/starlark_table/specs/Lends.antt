@@ -1,10 +1,11 @@
 -- What a table ends as, where a `&mut` to one of its items is handed out.
 use Rattle.std.specs.Prelude.{ℕ, Option, [], ◌∷◌}
 use Rattle.std.specs.Option.{option_map}
-use Rattle.std.specs.Borrow.{Lends, LendsIf, Fml, RattleType, MutBor, u64}
+use Rattle.std.specs.Borrow.{Lends, LendsIf, follows, GName, Fml, RattleType, MutBor, u64}
 use Rattle.std.specs.contracts.option.Option as option
 use denote.Struct.Tuple.{Tuple}
 use Rattle.starlark_table.specs.Table.{Table, with_item}
+use Rattle.starlark_table.specs.Written.{with_written}
 use Rattle.starlark_table.specs.contracts.ready_table.ReadyTable.{the_row}
 
 module _ (T : RattleType) where
@@ -19,3 +20,11 @@ module _ (T : RattleType) where
   -- the same where r is a reference, and at `None` the table stays as it is
   abbrev pub lends_get : MutBor (Table T.Denot) → ℕ → Option (MutBor T.Denot) → Fml
   lends_get s slot r = LendsIf (the_row T) T s r (with_item s.now slot) s.now
+
+  -- once a loan of the items ends, the table has in each slot the item that was left there, under the same hash
+  abbrev pub table_follows : MutBor (Table T.Denot) → GName → Fml
+  table_follows s γ = follows (the_row T) (the_row T) s.ghost_name γ (with_written s.now)
+
+-- what a `&mut` points to
+abbrev pub written_through : {T : Type 0} → MutBor T → T
+written_through r = r.now

@@ -2,3 +2,5 @@ pub mod Table
 pub mod Walk
 pub mod Lends
 pub mod Layout
+pub mod Written
+pub mod Frozen

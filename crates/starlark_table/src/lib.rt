@@ -4,6 +4,8 @@
 mod gap;
 mod growth;
 pub mod iter;
+mod iter_mut;
+mod loan;
 mod places;
 mod probe;
 pub mod ready_table;
@@ -12,4 +14,5 @@ mod tests;
 mod walks;
 
 pub use iter::{IntoIter, Iter};
+pub use iter_mut::IterMut;
 pub use ready_table::ReadyTable;

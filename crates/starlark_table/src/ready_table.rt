@@ -10,6 +10,8 @@ ghost use Rattle.starlark_table.specs.Walk.{CanReplace, ReplacesEach, CanRetain,
 use crate::gap::take_out;
 use crate::growth::{empty_slots, move_all};
 use crate::iter::{IntoIter, Iter};
+use crate::iter_mut::IterMut;
+use crate::loan::Loan;
 use crate::places::{limit, places_for};
 use crate::probe::{Slot, find_slot, full_from, item_at, item_mut, put};
 use crate::walks::{empty_all, replace_items, retain_items};
@@ -45,7 +47,7 @@ impl<T> Model for ReadyTable<T> {
 }
 
 impl<T> ReadyTable<T> {
-    ghost use Rattle.starlark_table.specs.Lends.{lends_item, lends_get};
+    ghost use Rattle.starlark_table.specs.Lends.{lends_item, lends_get, table_follows};
 
     /// An empty table, which asks for no memory before the first insertion.
     pub fn new(alloc: Global) -> ReadyTable<T>
@@ -259,9 +261,26 @@ impl<T> ReadyTable<T> {
         Iter::new(self.slots.as_slice(), self.len)
     }
 
-    /// The first slot from one on that has a member. With `get_mut` this walks over the items for writing,
-    /// one lent at a time: there is no
-    /// iterator that lends them all at once.
+    #[inline]
+    pub(crate) fn lend(&mut self) -> Loan<'_, T>
+        ensures* writes_back { sem 𝓛 (table_follows T.row self.entry result.tie) }
+        ensures rest { (result.from ≡ 0) × (result.rest ≡ self.old.slots) }
+    {
+        Loan::new(&mut self.slots)
+    }
+
+    /// The items along the walk, each for writing. The hashes stay, and so does everything but the items.
+    #[inline]
+    pub fn iter_mut(&mut self) -> IterMut<'_, T>
+        ensures* writes_back { sem 𝓛 (table_follows T.row self.entry result.1) }
+        ensures items { result.0 ≡ items_of self.old }
+    {
+        let left = self.len;
+        let end = self.slots.len();
+        IterMut::new(self.lend(), end, left)
+    }
+
+    /// The first slot from one on that has a member.
     #[inline]
     pub fn slot_from(&self, from: usize) -> Option<usize>
         ensures { IsNextSlot self.now.slots from result }

@@ -1,4 +1,7 @@
 //! What no clause of the table says: given values at concrete types, and that each call succeeds where there is memory.
+ghost use Rattle.std.specs.Prelude.{◌≡◌, map};
+ghost use Rattle.starlark_table.specs.Table.{members, table_len};
+
 use crate::ReadyTable;
 use std::alloc::Global;
 use std::process::Abort;
@@ -117,16 +120,110 @@ fn walks_and_writes(rt: HostRuntime) -> Result<(), Fail> {
     for _ in 0..60 {
         let here = slot.ok_or("a member is missing")?;
         if let Some(item) = table.get_mut(here) {
-            *item = 7;
+            *item = 6;
         }
         slot = table.slot_from(here.wrapping_add(1));
     }
     assert_eq!(rt; slot, None);
+    for item in table.iter_mut() {
+        assert_eq!(rt; *item, 6);
+        *item = 7;
+    }
     let mut sevens = 0u32;
     for (_, item) in table.into_iter() {
         assert_eq!(rt; item, 7);
         sevens = sevens.wrapping_add(1);
     }
     assert_eq!(rt; sevens, 60);
+    Ok(())
+}
+
+#[test]
+fn lends_each_item_once(rt: HostRuntime) -> Result<(), Fail> {
+    let mut table = ReadyTable::new(rt.alloc());
+    let mut before = Vec::new(rt.alloc());
+    for item in 0u64..20 {
+        table.insert_unique(item % 7, item)?;
+    }
+    for item in &table {
+        before.push(*item)?;
+    }
+    let mut walk = table.iter_mut();
+    let mut left = 20;
+    for expected in before.as_slice() {
+        assert_eq!(rt; walk.len(), left);
+        let item = walk.next().ok_or("a member is missing")?;
+        assert_eq!(rt; *item, *expected);
+        *item = expected.wrapping_add(100);
+        left = left.wrapping_sub(1);
+    }
+    assert!(rt; walk.next().is_none());
+    assert!(rt; walk.next().is_none());
+    assert_eq!(rt; table.len(), 20);
+    for item in 0u64..20 {
+        let slot = table.find(item % 7, |other| *other == item.wrapping_add(100));
+        assert!(rt; slot.is_some());
+    }
+    Ok(())
+}
+
+#[test]
+fn lends_items_without_size(rt: HostRuntime) -> Result<(), Fail> {
+    let mut table = ReadyTable::new(rt.alloc());
+    for hash in 0u64..5 {
+        table.insert_unique(hash << 61, ())?;
+    }
+    let mut walk = table.iter_mut();
+    for _ in 0..5 {
+        assert!(rt; walk.next().is_some());
+    }
+    assert!(rt; walk.next().is_none());
+    assert_eq!(rt; table.room(), 1);
+    Ok(())
+}
+
+// How many items a walk lends.
+fn count_lent(table: &mut ReadyTable<u64>) -> u32 {
+    let mut lent = 0u32;
+    for item in table.iter_mut() {
+        *item = 1;
+        lent = lent.wrapping_add(1);
+    }
+    lent
+}
+
+#[test]
+fn lends_nothing_of_an_empty_table(rt: HostRuntime) -> Result<(), Fail> {
+    let mut table = ReadyTable::new(rt.alloc());
+    assert_eq!(rt; count_lent(&mut table), 0);
+    table.reserve(10)?;
+    assert_eq!(rt; count_lent(&mut table), 0);
+    table.insert_unique(u64::MAX, 5)?;
+    assert_eq!(rt; count_lent(&mut table), 1);
+    Ok(())
+}
+
+// A caller of the walk learns that the hashes stay, and the room.
+fn overwrite(table: &mut ReadyTable<u64>, written: u64)
+    ensures hashes { map (λ m. m.0) (members table.new) ≡ map (λ m. m.0) (members table.old) }
+    ensures len { table_len table.new ≡ table_len table.old }
+    ensures room { table.new.room ≡ table.old.room }
+{
+    for item in table.iter_mut() {
+        *item = written;
+    }
+}
+
+#[test]
+fn overwrites_each_item(rt: HostRuntime) -> Result<(), Fail> {
+    let mut table = ReadyTable::new(rt.alloc());
+    for item in 0u64..9 {
+        table.insert_unique(item, item)?;
+    }
+    overwrite(&mut table, 3);
+    for item in &table {
+        assert_eq!(rt; *item, 3);
+    }
+    assert_eq!(rt; table.len(), 9);
     Ok(())
 }

@@ -1,4 +1,5 @@
 pub mod BothClose
+pub mod LentInOption
 pub mod NamedClose
 pub mod Pairs
 pub mod Placing

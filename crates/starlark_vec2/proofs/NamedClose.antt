@@ -1,5 +1,8 @@
--- A whole stays open while a part of it is lent to a call whose result owns the part's loan. What the call says of the part closes the whole, which then follows a name of its own. Assumes `Logic`.
---     closes_named    the whole R is open at (b, o), and its part T, under the name δ, follows γ' by G. With the part at any G w the rest makes F w of the whole, and `keeps` leaves each F w as it is:  the whole follows a new name by `keeps`
+-- A whole stays open while a part of it is lent to a call whose result owns the part's loan. What the call says of the
+-- part closes the whole, which then follows a name of its own. Assumes `Logic`.
+--     closes_named    the whole R is open at (b, o), and its part T, under the name δ, follows γ' by G. With the
+--         part at any G w the rest makes F w of the whole, and `keeps` leaves each F w as it is:  the whole follows a
+--         new name by `keeps`
 use mathlib.Core.Path.{◌≡◌, refl}
 use Prim.Native.Nat.{ℕ}
 use mathlib.Core.List.{[], ◌∷◌}

@@ -1,5 +1,5 @@
 -- A list of pairs and its two columns, which are as long.
-use Rattle.std.proofs.Common.{◌≡◌, ℕ, zero, suc, ◌<◌, List, [], ◌∷◌, ◌++◌, length, take, zip, slice_get, get_or, set, reverse, remove, Bool, true, false, ◌&&◌, Some, refl, sym, ap, ◌∙◌, arith}
+use Rattle.std.proofs.Common.{◌≡◌, ℕ, zero, suc, ◌<◌, List, [], ◌∷◌, ◌++◌, length, take, zip, slice_get, get_or, set, reverse, remove, Bool, true, false, ◌&&◌, Some, None, refl, sym, ap, ◌∙◌, arith}
 use Rattle.std.proofs.lemmas.List.{reverse-append, length-reverse}
 use Rattle.std.specs.List.{refill, AllZip}
 use Rattle.std.specs.Cmp.Lexicographic.{pointwise}
@@ -71,6 +71,19 @@ module _ {A B : Type 0} where
   slice_get-zip (z ∷ xs) [] i x y lt e f = absurd (omega (arith, lt))
   slice_get-zip (z ∷ xs) (w ∷ ys) zero x y lt e f = λ j. Some (sym e j, sym f j)
   slice_get-zip (z ∷ xs) (w ∷ ys) (suc i) x y lt e f = slice_get-zip xs ys i x y (omega (arith, lt)) e f
+
+  -- where the first column has an item, the second does too, and they are the pair
+  pub slice_get-zip_some : (xs : List A) (ys : List B) (i : ℕ) (x : A) → length xs ≡ length ys → slice_get xs i ≡ Some x → (i < length ys) × ((y : B) → y ≡ get_or ys i y → slice_get (zip xs ys) i ≡ Some (x, y))
+  slice_get-zip_some [] ys i x e f = cc
+  slice_get-zip_some (z ∷ xs) [] i x e f = absurd (omega (arith, e))
+  slice_get-zip_some (z ∷ xs) (w ∷ ys) zero x e f = (omega arith, λ y g. let same : z ≡ x = cc in λ j. Some (same j, sym g j))
+  slice_get-zip_some (z ∷ xs) (w ∷ ys) (suc i) x e f = let rest = slice_get-zip_some xs ys i x (omega (arith, e)) f in (omega (arith, rest.0), rest.1)
+
+  pub slice_get-zip_none : (xs : List A) (ys : List B) (i : ℕ) → slice_get xs i ≡ None → slice_get (zip xs ys) i ≡ None
+  slice_get-zip_none [] ys i e = refl
+  slice_get-zip_none (z ∷ xs) [] i e = refl
+  slice_get-zip_none (z ∷ xs) (w ∷ ys) zero e = cc
+  slice_get-zip_none (z ∷ xs) (w ∷ ys) (suc i) e = slice_get-zip_none xs ys i e
 
   -- clones of both columns are clones of the pairs
   pub AllZip-zip : (C : A → A → Type 0) (D : B → B → Type 0) (xs us : List A) (ys vs : List B) → AllZip C xs us → AllZip D ys vs → AllZip (IsPairClone C D) (zip xs ys) (zip us vs)

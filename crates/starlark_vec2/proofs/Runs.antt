@@ -1,4 +1,5 @@
--- A run of pairs whose first parts are frozen: it is made of a slice, and a pair is taken off either end. Assumes `Logic`.
+-- A run of pairs whose first parts are frozen: it is made of a slice, and a pair is taken off either end. Assumes
+-- `Logic`.
 --     run_made             a `&mut [(K, V)]` becomes such a run, and the slice follows its loan
 --     first_out, last_out  the first or the last pair comes off, beside the run of the others
 --     pair_out             of a pair that came off: a `&` to the first part and a `&mut` to the second

@@ -1,8 +1,9 @@
 -- Pairs of which the values were written: the keys, and what stands beside each pair, are their own.
-use Rattle.std.proofs.Common.{◌≡◌, suc, List, [], ◌∷◌, ◌++◌, map, length, zip, refl, ap}
+use Rattle.std.proofs.Common.{◌≡◌, suc, List, [], ◌∷◌, ◌++◌, length, zip, refl, ap}
 use Rattle.std.specs.Map.{values_of}
 use Rattle.starlark_vec2.specs.Frozen.{with_seconds}
 use Rattle.starlark_vec2.specs.Lending.{with_values}
+use Rattle.starlark_vec2.specs.PairList.{firsts_of}
 
 module _ {K V B : Type 0} where
   pub with_values-zip : (ps ws : List (K × V)) (bs : List B) → with_values (zip ps bs) (zip (with_seconds ps ws) bs) ≡ zip (with_seconds ps ws) bs
@@ -23,6 +24,10 @@ module _ {K V B : Type 0} where
   length-with_values (e ∷ es) [] = ap suc (length-with_values es [])
   length-with_values (e ∷ es) (w ∷ ws) = ap suc (length-with_values es ws)
 
+pub length-firsts_of : {A B : Type 0} (ps : List (A × B)) → length (firsts_of ps) ≡ length ps
+length-firsts_of [] = refl
+length-firsts_of (p ∷ ps) = ap suc (length-firsts_of ps)
+
 module _ {K V : Type 0} where
   pub values_of-push : (ps : List (K × V)) (p : K × V) → values_of (ps ++ p ∷ []) ≡ values_of ps ++ p.1 ∷ []
   values_of-push [] p = refl
@@ -33,4 +38,4 @@ module _ {K V : Type 0} where
   length-values_of (p ∷ ps) = ap suc (length-values_of ps)
 
 -- what a walk of the values may want
-pub ruleset values = (values_of-push, length-values_of)
+pub ruleset values = (values_of-push, length-values_of, length-firsts_of)

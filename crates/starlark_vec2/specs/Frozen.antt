@@ -1,5 +1,6 @@
 -- Pairs that lie side by side, whose first parts are frozen while their second parts are lent.
---     frozen κ K V p i γ ps  the right to write the second parts of ps, which lie from the i-th pair at p on, under the name γ
+--     frozen κ K V p i γ ps  the right to write the second parts of ps, which lie from the i-th pair at p on, under
+--         the name γ
 use Rattle.std.specs.Prelude.{ℕ, ◌+◌, ◌*◌, List, [], ◌∷◌, length}
 use Rattle.std.specs.Borrow.{Fml, RattleType, MutBor, GName, Array, Lends, follows}
 use Rattle.std.specs.Global.{Vec}

@@ -1,7 +1,7 @@
 -- What a `Vec2` ends as, once a reference into it has ended.
-use Rattle.std.specs.Prelude.{ℕ, zero, suc, List, [], ◌∷◌, zip, length, slice_set}
+use Rattle.std.specs.Prelude.{ℕ, zero, suc, List, [], ◌∷◌, Option, zip, length, slice_set}
 use Rattle.std.specs.List.{refill}
-use Rattle.std.specs.Borrow.{Fml, RattleType, MutBor, GName, Array, Lends, LendsBoth, follows}
+use Rattle.std.specs.Borrow.{Fml, RattleType, MutBor, GName, Array, Lends, LendsBoth, LendsBothIf, follows}
 use Rattle.starlark_vec2.specs.PairList.{PairList, with_pairs, firsts_of, seconds_of}
 use Rattle.starlark_vec2.specs.Frozen.{Pair}
 use Rattle.starlark_vec2.specs.contracts.vec2.Vec2.{the_row}
@@ -60,6 +60,10 @@ module _ (A B : RattleType) (s : MutBor (PairList A.Denot B.Denot)) where
   -- both parts of the pair at the place end as what is left behind the references, and all else stays
   abbrev pub lends_both : ℕ → MutBor A.Denot × MutBor B.Denot → Fml
   lends_both i r = LendsBoth (the_row A B) A B s r (λ a b. with_pair s.now i (a, b))
+
+  -- the same where a pair is lent, and without one all stays
+  abbrev pub lends_both_if : ℕ → Option (MutBor A.Denot × MutBor B.Denot) → Fml
+  lends_both_if i r = LendsBothIf (the_row A B) A B s r (λ a b. with_pair s.now i (a, b)) s.now
 
 module _ (K V B : RattleType) where
   -- the list ends with the values that the loan of this name ends with, and all else stays

@@ -1,5 +1,5 @@
 //! Values from outside the contracts, and each call at concrete types.
-use crate::vec2::Vec2;
+use crate::{PairsMut, ValuesMut, Vec2};
 use std::alloc::{AllocError, Global};
 use std::cmp::Ordering;
 use std::test::Fail;
@@ -180,6 +180,16 @@ fn parts_that_are_lent(rt: HostRuntime) -> Result<(), Fail> {
     *second += *first % 2;
     assert_eq!(rt; list.firsts(), [7, 9].as_slice());
     assert_eq!(rt; list.seconds(), [10, 9].as_slice());
+    let (first, second) = list.get_unchecked_mut(1);
+    *first = 13;
+    *second = 14;
+    if let Some((first, second)) = list.get_mut(0) {
+        *first = 11;
+        *second = 12;
+    }
+    assert!(rt; list.get_mut(2).is_none());
+    assert_eq!(rt; list.firsts(), [11, 13].as_slice());
+    assert_eq!(rt; list.seconds(), [12, 14].as_slice());
     Ok(())
 }
 
@@ -232,5 +242,101 @@ fn parts_without_size(rt: HostRuntime) -> Result<(), Fail> {
     assert!(rt; walk.next().is_some());
     assert!(rt; walk.next_back().is_some());
     assert_eq!(rt; walk.len(), 3);
+    Ok(())
+}
+
+// Adds ten to the next value from the front or from the back, and answers its key.
+fn add_ten(walk: &mut PairsMut<'_, u8, u32>, from_back: bool) -> Option<u8> {
+    let (key, value) = if from_back {
+        walk.next_back()?
+    } else {
+        walk.next()?
+    };
+    *value = value.wrapping_add(10);
+    Some(*key)
+}
+
+// Writes the next value from the front or from the back, where there is one.
+fn write_next(values: &mut ValuesMut<'_, u8, u32>, new: u32, from_back: bool) -> bool {
+    let next = if from_back {
+        values.next_back()
+    } else {
+        values.next()
+    };
+    match next {
+        Some(value) => {
+            *value = new;
+            true
+        }
+        None => false,
+    }
+}
+
+fn write_all(values: ValuesMut<'_, u8, u32>, new: u32) {
+    for value in values {
+        *value = new;
+    }
+}
+
+// The keys of a walk from both ends, which adds ten to each value.
+fn add_tens(list: &mut Vec2<(u8, u32), u8>) -> [Option<u8>; 7] {
+    let mut walk = list.iter_firsts_mut();
+    [
+        add_ten(&mut walk, false),
+        add_ten(&mut walk, true),
+        add_ten(&mut walk, false),
+        add_ten(&mut walk, true),
+        add_ten(&mut walk, true),
+        add_ten(&mut walk, false),
+        add_ten(&mut walk, true),
+    ]
+}
+
+// Writes 6 and 8 at the ends and 7 between, and answers how many values were between.
+fn write_values(list: &mut Vec2<(u8, u32), u8>) -> usize {
+    let mut values = ValuesMut::of(list.iter_firsts_mut());
+    write_next(&mut values, 6, false);
+    write_next(&mut values, 8, true);
+    let between = values.len();
+    write_all(values, 7);
+    between
+}
+
+#[test]
+fn values_are_written_in_their_places(rt: HostRuntime) -> Result<(), Fail> {
+    let mut list = Vec2::new(rt.alloc());
+    for i in 0u8..5 {
+        list.push((i, u32::from(i)), i)?;
+    }
+    let keys = [Some(0), Some(4), Some(1), Some(3), Some(2), None, None];
+    assert_eq!(rt; add_tens(&mut list), keys);
+    assert_eq!(rt;
+        list.firsts(),
+        [(0, 10), (1, 11), (2, 12), (3, 13), (4, 14)].as_slice()
+    );
+    assert_eq!(rt; write_values(&mut list), 3);
+    assert_eq!(rt;
+        list.firsts(),
+        [(0, 6), (1, 7), (2, 7), (3, 7), (4, 8)].as_slice()
+    );
+    assert_eq!(rt; list.seconds(), [0, 1, 2, 3, 4].as_slice());
+    assert_eq!(rt; list.capacity(), 8);
+    Ok(())
+}
+
+#[test]
+fn values_without_size_are_lent(rt: HostRuntime) -> Result<(), Fail> {
+    let mut list = Vec2::new(rt.alloc());
+    for _ in 0..3 {
+        list.push(((), ()), ())?;
+    }
+    let mut walk = list.iter_firsts_mut();
+    assert_eq!(rt; walk.len(), 3);
+    assert!(rt; walk.next_back().is_some());
+    assert!(rt; walk.next().is_some());
+    let mut values = ValuesMut::of(walk);
+    assert_eq!(rt; values.len(), 1);
+    assert!(rt; values.next_back().is_some());
+    assert!(rt; values.next().is_none());
     Ok(())
 }

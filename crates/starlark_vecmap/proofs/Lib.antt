@@ -5,3 +5,5 @@ pub mod Ordering
 pub mod Writes
 pub mod Carry
 pub mod Sorts
+pub mod Written
+pub mod VecMapOpen

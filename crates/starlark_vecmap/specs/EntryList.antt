@@ -40,6 +40,12 @@ module _ {K V : Type 0} where
   abbrev pub entries_in : List (K × V) → List ℕ → List (Entry K V)
   entries_in pairs hashes = map entry_of (zip pairs hashes)
 
+  -- the entries of es, each with the value that ws has in its place; keys and hashes are their own
+  abbrev pub with_values : List (Entry K V) → List (Entry K V) → List (Entry K V)
+  with_values [] ws = []
+  with_values (e ∷ es) [] = e ∷ with_values es []
+  with_values (e ∷ es) (w ∷ ws) = (e.0, w.1) ∷ with_values es ws
+
   -- what a `(Hashed<&K>, &V)` points to, and a `(Hashed<&K>, &mut V)`
   abbrev pub deref_entry : Hashed (Bor K) × Bor V → Entry K V
   deref_entry p = (hashed (hash_of p.0) (key_of p.0).now, p.1.now)

@@ -3,4 +3,3 @@ pub mod Ordered
 pub mod Retain
 pub mod Clone
 pub mod Lending
-pub mod IterMut

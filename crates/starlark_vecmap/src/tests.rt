@@ -1,4 +1,6 @@
 //! What no clause says: values from outside, calls at concrete types, and what a refused request leaves.
+ghost use Rattle.std.specs.Prelude.{◌≡◌, map};
+ghost use Rattle.starlark_hash.specs.Entries.{entry_hash, entry_key};
 
 use crate::{VecMap, find_hash_in_array};
 use starlark_hash::{Hashed, NoRoom, StarlarkHashValue, StarlarkHasher, TextKey};
@@ -42,13 +44,10 @@ fn searches_by_a_closure(rt: HostRuntime) -> Result<(), Fail> {
     map.insert_hashed_unique_unchecked(under(8, 3), 0)?;
     for (hash, place, asks) in [(7, Some(3), 4), (8, Some(5), 1), (9, None, 0)] {
         let mut asked: u32 = 0;
-        let found = map.get_index_of_hashed_raw(
-            StarlarkHashValue::new_unchecked(hash),
-            |key| {
-                asked = asked.wrapping_add(1);
-                *key == 3
-            },
-        );
+        let found = map.get_index_of_hashed_raw(StarlarkHashValue::new_unchecked(hash), |key| {
+            asked = asked.wrapping_add(1);
+            *key == 3
+        });
         assert_eq!(rt; found, place, "under {hash}");
         assert_eq!(rt; asked, asks, "under {hash}");
     }
@@ -68,9 +67,15 @@ fn looks_texts_up(rt: HostRuntime) -> Result<(), Fail> {
     assert!(rt; map.get_index(3).is_none());
     if map.len() > 2 {
         let (key, value) = map.get_unchecked(2);
-        assert_eq!(rt; (key.hash().get(), key.key().as_str(), *value), (1, "30", 30));
+        assert_eq!(rt;
+            (key.hash().get(), key.key().as_str(), *value),
+            (1, "30", 30)
+        );
         let (key, value) = map.remove(0);
-        assert_eq!(rt; (key.hash().get(), key.key().as_str(), value), (1, "10", 10));
+        assert_eq!(rt;
+            (key.hash().get(), key.key().as_str(), value),
+            (1, "10", 10)
+        );
     }
     assert!(rt; map.remove_hashed_entry(under(1, &TextKey("10"))).is_none());
     assert_eq!(rt; map.len(), 2);
@@ -129,26 +134,63 @@ fn owns_the_entries(rt: HostRuntime) -> Result<(), Fail> {
     Ok(())
 }
 
-#[test]
-fn writes_and_keeps_values(rt: HostRuntime) -> Result<(), Fail> {
-    let mut map = five(rt.alloc())?;
-    for (key, value) in map.iter_mut() {
+// Writes thrice its key as each value.
+#[tactic(auto, using(crate::proofs::Written::written))]
+fn write_thrice(list: &mut VecMap<u32, u32>)
+    ensures keys { map entry_key list.new.entries ≡ map entry_key list.old.entries }
+    ensures hashes { map entry_hash list.new.entries ≡ map entry_hash list.old.entries }
+    ensures capacity { list.new.capacity ≡ list.old.capacity }
+{
+    for (key, value) in list.iter_mut() {
         *value = key.wrapping_mul(3);
     }
-    let mut values = map.values_mut();
-    assert_eq!(rt; values.len(), 5);
-    if let Some(value) = values.next_back() {
-        *value = 100;
+}
+
+// Writes 1 as each value, and then adds 1.
+#[tactic(auto, using(crate::proofs::Written::written))]
+fn write_two<K>(list: &mut VecMap<K, u32>)
+    ensures keys { map entry_key list.new.entries ≡ map entry_key list.old.entries }
+    ensures capacity { list.new.capacity ≡ list.old.capacity }
+{
+    for value in list.values_mut() {
+        *value = 1;
     }
-    assert_eq!(rt; values.next().copied(), Some(0));
-    let mut kept = 0u32;
+    for value in list.values_mut() {
+        *value = value.wrapping_add(1);
+    }
+}
+
+#[test]
+fn writes_values(rt: HostRuntime) -> Result<(), Fail> {
+    let mut map = five(rt.alloc())?;
+    write_two(&mut map);
+    assert!(rt; map.values().all(|value| *value == 2));
+    write_thrice(&mut map);
+    let mut pairs = map.iter_mut();
+    assert_eq!(rt; pairs.size_hint(), (5, Some(5)));
+    if let Some((key, value)) = pairs.next_back() {
+        *value = key.wrapping_add(96);
+    }
+    assert_eq!(rt; pairs.next().map(|pair| (*pair.0, *pair.1)), Some((0, 0)));
+    assert_eq!(rt; pairs.len(), 3);
+    let mut values = map.values_mut();
+    assert_eq!(rt; values.next_back().copied(), Some(100));
+    assert_eq!(rt; values.nth(1).copied(), Some(3));
+    assert_eq!(rt; values.len(), 2);
+    Ok(())
+}
+
+#[test]
+fn retains_and_reverses(rt: HostRuntime) -> Result<(), Fail> {
+    let mut map = five(rt.alloc())?;
+    let mut calls = 0u32;
     map.retain(|key, value| {
-        *value = value.wrapping_add(kept);
-        kept = kept.wrapping_add(1);
+        *value = value.wrapping_add(calls);
+        calls = calls.wrapping_add(10);
         *key % 2 == 0
     });
     map.reverse();
-    for (key, value) in [(0, 0), (2, 8), (4, 104)] {
+    for (key, value) in [(0, 10), (2, 32), (4, 54)] {
         assert_eq!(rt; map.pop(), Some((under(7, key), value)));
     }
     assert!(rt; map.is_empty());

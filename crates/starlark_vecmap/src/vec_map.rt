@@ -12,7 +12,6 @@ mod compare;
 mod copy;
 mod into_iter;
 mod iter;
-mod iter_mut;
 mod lends;
 mod retain;
 mod sort;
@@ -20,9 +19,9 @@ mod sort;
 use crate::columns::search_columns;
 pub use into_iter::{IntoIter, IntoIterHashed, IntoKeys, IntoValues};
 pub use iter::{Iter, IterHashed, Keys, Values};
-pub use iter_mut::{IterMut, ValuesMut};
 use starlark_hash::{Equivalent, Hashed, NoRoom, StarlarkHashValue};
 use starlark_vec2::Vec2;
+pub use starlark_vec2::{Loan, PairsMut as IterMut, ValuesMut};
 use std::alloc::{AllocError, Global};
 use std::marker::Model;
 

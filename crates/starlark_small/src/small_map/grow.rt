@@ -1,11 +1,12 @@
 //! What puts entries into a `SmallMap`, and what may ask for memory.
-ghost use Rattle.std.specs.Prelude.{◌≡◌, ◌+◌, ◌<◌, length, None, IsSome, IsTrue, IfOk, IfErr, OnOk, OnErr};
+ghost use Rattle.std.specs.Prelude.{◌≡◌, ◌+◌, ◌<◌, ◌≤◌, length, None, IsSome, IsTrue, IfOk, IfErr, OnOk, OnErr};
 ghost use Rattle.starlark_hash.specs.Entries.{value_at, with_value, match_of, insert_entry};
 ghost use Rattle.starlark_hash.specs.Sorting.{Ascends, sorted_by_key};
+ghost use Rattle.starlark_small.specs.Index.{unindexed};
 ghost use Rattle.starlark_small.specs.Map.{KeepsMemory, KeepsRoom, GrowsFor, query_match, own_hashed};
 
 use super::SmallMap;
-use crate::entries::{insert_in, replace_at, sort_in};
+use crate::indexed::{change_in, insert_in, reserve_in, sort_in};
 use starlark_hash::{Equivalent, Hashed, NoRoom};
 use std::alloc::AllocError;
 use std::hash::Hash;
@@ -67,7 +68,7 @@ impl<K: Eq, V> SmallMap<K, V> {
         ensures capacity { GrowsFor (length self.old.entries + 1) self.old self.new }
         ensures indexed { IsTrue self.old.indexed → IsTrue self.new.indexed }
     {
-        insert_in(&mut self.entries, key, value)
+        insert_in(self.alloc, &mut self.entries, &mut self.index, key, value)
     }
 
     /// Replaces the value under this hash whose key the query is equivalent to, and answers the old one.
@@ -78,8 +79,25 @@ impl<K: Eq, V> SmallMap<K, V> {
         ensures entries { self.new.entries ≡ with_value self.old.entries (query_match Q.equivalent self.old.entries key.entry) value }
         ensures kept { KeepsMemory self.old self.new }
     {
-        let index = self.get_index_of_hashed(key)?;
-        Some(replace_at(&mut self.entries, index, value))
+        change_in(&mut self.entries, &self.index, key, value)
+    }
+
+    /// Makes room for so many new entries, and the index where so many need one. Where the room is there it asks for
+    /// no memory and changes nothing. A refusal leaves entries and index.
+    pub fn reserve(&mut self, additional: usize) -> Result<(), AllocError>
+        ensures entries { self.new.entries ≡ self.old.entries }
+        ensures ok { OnOk result (additional ≤ self.new.room) }
+        ensures long { OnOk result (unindexed < length self.old.entries + additional → IsTrue self.new.indexed) }
+        ensures enough { additional ≤ self.old.room → self.new ≡ self.old }
+
+        ensures refused { OnErr result (self.old.room < additional) }
+        ensures unchanged { OnErr result (self.new.indexed ≡ self.old.indexed) }
+
+        ensures room { KeepsRoom self.old self.new }
+        ensures capacity { GrowsFor (length self.old.entries + additional) self.old self.new }
+        ensures indexed { IsTrue self.old.indexed → IsTrue self.new.indexed }
+    {
+        reserve_in(self.alloc, &mut self.entries, &mut self.index, additional)
     }
 
     /// Sorts by key; entries with equal keys keep their order. Where the keys ascend already it asks for no
@@ -92,6 +110,6 @@ impl<K: Eq, V> SmallMap<K, V> {
         ensures needed { OnErr result (Ascends K.cmp self.old.entries → ⊥) }
         ensures kept { KeepsMemory self.old self.new }
     {
-        sort_in(&mut self.entries)
+        sort_in(&mut self.entries, &mut self.index)
     }
 }

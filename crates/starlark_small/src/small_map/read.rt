@@ -1,13 +1,18 @@
 //! What a `SmallMap` has: entries by hash and key, by key alone under its own hash, and by place.
-ghost use Rattle.std.specs.Prelude.{◌≡◌, ◌-◌, ◌<◌, ◌==◌, slice_get, length, is_some, IfSome};
+ghost use Rattle.std.specs.Prelude.{◌≡◌, ◌-◌, ◌<◌, ◌≤◌, ◌==◌, slice_get, length, is_some, IfSome, IsPermutation, IsSome};
 ghost use Rattle.std.specs.Map.Iter.{deref_pair};
 ghost use Rattle.std.specs.Option.{option_copied, option_map};
 ghost use Rattle.starlark_hash.specs.Entries.{entry_at, value_at, pair_of};
+ghost use Rattle.starlark_hash.specs.Search.{CanSearch, Searches, keys_under};
+ghost use Rattle.starlark_small.specs.Index.{positions, unindexed};
+ghost use Rattle.starlark_table.specs.Table.{members};
 ghost use Rattle.starlark_small.specs.Map.{query_match, query_match_by_value, own_match};
 
 use super::SmallMap;
+use crate::indexed::{find_in, place_in, room_in};
 use crate::own_hash::under_own_hash;
-use starlark_hash::{Equivalent, Hashed};
+use starlark_hash::{Equivalent, Hashed, StarlarkHashValue};
+use starlark_table::ReadyTable;
 use std::hash::Hash;
 
 // Under a hash that is brought
@@ -49,7 +54,23 @@ impl<K: Eq, V> SmallMap<K, V> {
         ensures place { result ≡ query_match Q.equivalent self.now.entries key.entry }
         ensures within { IfSome result (λ i. i < length self.now.entries) }
     {
-        self.entries.get_index_of_hashed(key)
+        place_in(&self.entries, &self.index, key)
+    }
+
+    /// A place under this hash whose key `eq` accepts. It is asked about the keys under this hash alone, about each at
+    /// most once and in no promised order, until it accepts one; `None` says that it refused them all.
+    #[inline]
+    pub fn find_by_hash<F: FnMut(&K) -> bool>(
+        &self,
+        hash: StarlarkHashValue,
+        eq: F,
+    ) -> Option<usize>
+    where
+        F: Drop,
+        requires { CanSearch F.FnMut (keys_under hash self.now.entries) eq }
+        ensures { (last : F) × Searches F.FnMut (keys_under hash self.now.entries) eq result last }
+    {
+        find_in(&self.entries, &self.index, hash, eq)
     }
 
     /// As `get_index_of_hashed`, by a query that is handed over and dropped.
@@ -161,5 +182,32 @@ impl<K: Eq, V> SmallMap<K, V> {
         ensures { result ≡ (length self.now.entries == 0) }
     {
         self.entries.is_empty()
+    }
+
+    /// How many entries there may be before the list grows.
+    #[inline]
+    pub fn capacity(&self) -> usize
+        ensures capacity { result ≡ self.now.capacity }
+        ensures within { length self.now.entries ≤ result }
+    {
+        self.entries.capacity()
+    }
+
+    /// How many new entries surely need no memory, neither for the list nor for the index.
+    #[inline]
+    pub fn room(&self) -> usize
+        ensures { result ≡ self.now.room }
+    {
+        room_in(&self.entries, &self.index)
+    }
+
+    /// The index, where there is one: each place under the promoted hash of its entry, and no other member.
+    #[inline]
+    pub fn index(&self) -> Option<&ReadyTable<usize>>
+        ensures places { IfSome result (λ table. IsPermutation (positions self.now.entries) (members table.now)) }
+        ensures indexed { is_some result ≡ self.now.indexed }
+        ensures long { unindexed < length self.now.entries → IsSome result }
+    {
+        self.index.as_ref()
     }
 }

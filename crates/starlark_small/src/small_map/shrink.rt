@@ -1,11 +1,12 @@
 //! What takes entries out of a `SmallMap`, and what turns it round. None of it asks for memory.
-ghost use Rattle.std.specs.Prelude.{◌≡◌, ◌-◌, ◌<◌, [], remove, reverse, slice_get, length, Some};
+ghost use Rattle.std.specs.Prelude.{◌≡◌, ◌+◌, ◌-◌, ◌<◌, ◌≤◌, [], false, min, nat_le, remove, reverse, slice_get, length, if◌then◌else◌, Some};
 ghost use Rattle.std.specs.Option.{option_map};
 ghost use Rattle.starlark_hash.specs.Entries.{entry_at, value_at, pair_of, without};
+ghost use Rattle.starlark_small.specs.Index.{unindexed};
 ghost use Rattle.starlark_small.specs.Map.{KeepsMemory, query_match, own_match};
 
 use super::SmallMap;
-use crate::entries::{remove_at, reverse_in};
+use crate::indexed::{clear_in, drop_index, remove_at, reverse_in};
 use crate::own_hash::under_own_hash;
 use starlark_hash::{Equivalent, Hashed};
 use std::hash::Hash;
@@ -109,7 +110,7 @@ impl<K: Eq, V> SmallMap<K, V> {
         ensures entries { self.new.entries ≡ [] }
         ensures kept { KeepsMemory self.old self.new }
     {
-        self.entries.clear();
+        clear_in(&mut self.entries, &mut self.index);
     }
 
     /// Turns the order of the entries round.
@@ -117,7 +118,18 @@ impl<K: Eq, V> SmallMap<K, V> {
         ensures entries { self.new.entries ≡ reverse self.old.entries }
         ensures kept { KeepsMemory self.old self.new }
     {
-        reverse_in(&mut self.entries);
+        reverse_in(&mut self.entries, &mut self.index);
+    }
+
+    /// Drops the index where the list is short enough to do without. No other call does.
+    pub fn maybe_drop_index(&mut self)
+        ensures entries { self.new.entries ≡ self.old.entries }
+        ensures capacity { self.new.capacity ≡ self.old.capacity }
+        ensures indexed { self.new.indexed ≡ (if nat_le (length self.old.entries) unindexed then false else self.old.indexed) }
+        ensures room { min (length self.old.entries + self.old.room) unindexed ≤ length self.new.entries + self.new.room }
+        ensures long { unindexed < length self.old.entries → self.new ≡ self.old }
+    {
+        drop_index(&self.entries, &mut self.index);
     }
 
     // Takes out the entry at a place. Those after it move up.
@@ -127,6 +139,6 @@ impl<K: Eq, V> SmallMap<K, V> {
         ensures entries { self.new.entries ≡ remove self.old.entries index }
         ensures kept { KeepsMemory self.old self.new }
     {
-        remove_at(&mut self.entries, index)
+        remove_at(&mut self.entries, &mut self.index, index)
     }
 }

@@ -63,7 +63,11 @@ impl<K: Eq + Drop, V: Drop> SmallMap<K, V> {
         ensures runs { GivesInOrder K }
         ensures runs_back { GivesInReverse K }
     {
-        let SmallMap { entries } = self;
+        let SmallMap {
+            entries,
+            index: _index,
+            alloc: _alloc,
+        } = self;
         entries.into_keys()
     }
 
@@ -75,7 +79,11 @@ impl<K: Eq + Drop, V: Drop> SmallMap<K, V> {
         ensures runs { GivesInOrder V }
         ensures runs_back { GivesInReverse V }
     {
-        let SmallMap { entries } = self;
+        let SmallMap {
+            entries,
+            index: _index,
+            alloc: _alloc,
+        } = self;
         entries.into_values()
     }
 
@@ -88,7 +96,11 @@ impl<K: Eq + Drop, V: Drop> SmallMap<K, V> {
         ensures runs { GivesInOrder (Entry K V) }
         ensures runs_back { GivesInReverse (Entry K V) }
     {
-        let SmallMap { entries } = self;
+        let SmallMap {
+            entries,
+            index: _index,
+            alloc: _alloc,
+        } = self;
         entries.into_iter_hashed()
     }
 }
@@ -103,7 +115,11 @@ impl<K: Eq + Drop, V: Drop> IntoIterator for SmallMap<K, V> {
     /// The keys and values by value, in order of insertion.
     #[inline]
     fn into_iter(self) -> IntoIter<K, V> {
-        let SmallMap { entries } = self;
+        let SmallMap {
+            entries,
+            index: _index,
+            alloc: _alloc,
+        } = self;
         entries.into_iter()
     }
 }

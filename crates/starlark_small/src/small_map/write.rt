@@ -1,14 +1,17 @@
 //! Values of a `SmallMap` to be written. Keys and hashes stay.
-ghost use Rattle.std.specs.Prelude.{◌≡◌, ◌<◌, length, Some, None};
+ghost use Rattle.std.specs.Prelude.{◌≡◌, ◌^◌, ◌<◌, length, map, Some, None};
 ghost use Rattle.std.specs.Borrow.{sem};
+ghost use Rattle.std.specs.Map.{values_of};
 ghost use Rattle.std.specs.Option.{option_copied_mut, IfNone};
-ghost use Rattle.starlark_hash.specs.Entries.{value_at};
+ghost use Rattle.starlark_hash.specs.Entries.{entry_value, pair_of, value_at};
 ghost use Rattle.starlark_small.specs.Map.{query_match, own_match};
-ghost use Rattle.starlark_small.specs.Lending.{lends_value, lends_found};
+ghost use Rattle.starlark_small.specs.Lending.{lends_value, lends_found, values_follow};
 
 use super::SmallMap;
+use crate::iter::{IterMut, ValuesMut};
 use crate::own_hash::under_own_hash;
 use starlark_hash::{Equivalent, Hashed};
+use starlark_vec2::Loan;
 use std::hash::Hash;
 
 impl<K: Eq, V> SmallMap<K, V> {
@@ -46,5 +49,57 @@ impl<K: Eq, V> SmallMap<K, V> {
     {
         let (_, value) = self.entries.get_unchecked_mut(index);
         value
+    }
+
+    /// The keys and values in order of insertion, to write the values. The map ends with what is left in them; keys,
+    /// hashes, order, room, capacity and index stay.
+    #[tactic(auto, using(starlark_vecmap::proofs::Written::written))]
+    #[inline]
+    pub fn iter_mut(&mut self) -> IterMut<'_, K, V>
+        ensures* writes_back { sem 𝓛 (values_follow K.row V.row K.PartialEq self.entry result.1) }
+        ensures pairs { result.0 ≡ map pair_of self.old.entries }
+        ensures fits { length self.old.entries < 2 ^ 64 }
+    {
+        let len = self.entries.len();
+        IterMut::of(self.lend(), len)
+    }
+
+    /// The values in order of insertion, to write them. The map ends with what is left in them; keys, hashes, order,
+    /// room, capacity and index stay.
+    #[tactic(auto, using(starlark_vecmap::proofs::Written::written))]
+    #[inline]
+    pub fn values_mut(&mut self) -> ValuesMut<'_, K, V>
+        ensures* writes_back { sem 𝓛 (values_follow K.row V.row K.PartialEq self.entry result.1) }
+        ensures values { values_of result.0 ≡ map entry_value self.old.entries }
+        ensures fits { length self.old.entries < 2 ^ 64 }
+    {
+        ValuesMut::of(self.iter_mut())
+    }
+
+    // The right to write the values, which an `IterMut` walks.
+    #[inline]
+    fn lend(&mut self) -> Loan<'_, K, V>
+        ensures* writes_back { sem 𝓛 (values_follow K.row V.row K.PartialEq self.entry result.tie) }
+        ensures untouched { result.from ≡ 0 }
+        ensures rest { result.rest ≡ map pair_of self.old.entries }
+    {
+        self.entries.lend()
+    }
+}
+
+impl<'a, K: Eq, V> IntoIterator for &'a mut SmallMap<K, V> {
+    type Item = (&'a K, &'a mut V);
+
+    type IntoIter = IterMut<'a, K, V>;
+
+    ghost into_iter_gives = { λ m rest. (rest.0 ≡ map pair_of m.now.entries) × (length m.now.entries < 2 ^ 64) };
+
+    /// The keys and values in order of insertion, to write the values, as `iter_mut` gives them.
+    #[inline]
+    fn into_iter(self) -> IterMut<'a, K, V>
+        ensures* writes_back { sem 𝓛 (values_follow K.row V.row K.PartialEq self.entry result.1) }
+        ensures into_iter_gives { (result.0 ≡ map pair_of self.old.entries) × (length self.old.entries < 2 ^ 64) }
+    {
+        self.iter_mut()
     }
 }

@@ -1,14 +1,15 @@
 //! References into a `Vec2`, handed out as `&mut`.
 ghost use Rattle.std.specs.Prelude.{◌≡◌, ◌<◌, length, slice_get, slice_index_or, Some};
-ghost use Rattle.std.specs.Option.{option_map};
+ghost use Rattle.std.specs.Option.{option_map, option_copied_mut};
 ghost use Rattle.std.specs.Borrow.{sem};
 ghost use Rattle.std.specs.Map.Iter.{deref_pair_mut};
 ghost use Rattle.starlark_vec2.specs.PairList.{firsts_of, seconds_of};
-ghost use Rattle.starlark_vec2.specs.Lending.{deref_both_mut, lends_first, lends_second, lends_firsts, lends_seconds, lends_both, firsts_follow};
-ghost use Rattle.starlark_vec2.specs.ColumnLending.{lends_place, lends_places};
+ghost use Rattle.starlark_vec2.specs.Lending.{deref_both_mut, lends_first, lends_second, lends_firsts, lends_seconds, lends_both, lends_both_if, firsts_follow};
+ghost use Rattle.starlark_vec2.specs.ColumnLending.{lends_place, lends_place_if, lends_places};
 
 use super::Vec2;
 use crate::loan::Loan;
+use crate::pairs_mut::PairsMut;
 
 impl<A, B> Vec2<A, B> {
     /// The first parts of the pairs, in their order. The list ends with what is left in them.
@@ -75,16 +76,16 @@ impl<A, B> Vec2<A, B> {
         lend_columns(&mut self.firsts, &mut self.seconds, index)
     }
 
-    /// The pair at this index, where there is one, to write both parts. Of the list afterwards nothing is said here:
-    /// `get_unchecked_mut`, and the calls that lend one part, say it.
+    /// The pair at this index, where there is one, to write both parts. The list ends with what is left in them, and
+    /// without a pair there it stays as it was.
     #[inline]
     pub fn get_mut(&mut self, index: usize) -> Option<(&mut A, &mut B)>
-        ensures { option_map deref_both_mut result ≡ slice_get self.old.pairs index }
+        ensures* writes_back { sem 𝓛 (lends_both_if A.row B.row self.entry index result) }
+        ensures value { option_map deref_both_mut result ≡ slice_get self.old.pairs index }
     {
-        if index < self.len() {
-            Some(self.get_unchecked_mut(index))
-        } else {
-            None
+        match lend_place_if(&mut self.firsts, index) {
+            Some(first) => Some((first, lend_place(&mut self.seconds, index))),
+            None => None,
         }
     }
 }
@@ -100,6 +101,17 @@ impl<K, V, B> Vec2<(K, V), B> {
     {
         Loan::new(&mut self.firsts)
     }
+
+    /// The same as an iterator, which gives each first part as `(&K, &mut V)`.
+    #[tactic(auto, using(crate::proofs::Values::values))]
+    #[inline]
+    pub fn iter_firsts_mut(&mut self) -> PairsMut<'_, K, V>
+        ensures* writes_back { sem 𝓛 (firsts_follow K.row V.row B.row self.entry result.1) }
+        ensures rest { result.0 ≡ firsts_of self.old.pairs }
+    {
+        let len = self.len();
+        PairsMut::of(self.lend_firsts(), len)
+    }
 }
 
 // The item at this place of a vector.
@@ -110,6 +122,15 @@ fn lend_place<T>(items: &mut Vec<T>, index: usize) -> &mut T
     ensures value { result.now ≡ slice_index_or items.old.items index result.now }
 {
     &mut items[index]
+}
+
+// The item at this place of a vector, where there is one.
+#[inline]
+fn lend_place_if<T>(items: &mut Vec<T>, index: usize) -> Option<&mut T>
+    ensures* writes_back { sem 𝓛 (lends_place_if T.row items.entry index result) }
+    ensures value { slice_get items.old.items index ≡ option_copied_mut result }
+{
+    items.get_mut(index)
 }
 
 // The items at this place of two vectors.

@@ -1,10 +1,12 @@
-//! References into a `VecMap`, handed out as `&mut`.
-ghost use Rattle.std.specs.Prelude.{◌≡◌, ◌<◌, length, slice_get, Some};
+//! References into a `VecMap`, handed out as `&mut`, and the walks that write its values.
+ghost use Rattle.std.specs.Prelude.{◌≡◌, ◌<◌, ◌^◌, length, map, slice_get, Some};
 ghost use Rattle.std.specs.Borrow.{sem};
+ghost use Rattle.std.specs.Map.{values_of};
+ghost use Rattle.starlark_hash.specs.Entries.{entry_value, pair_of};
 ghost use Rattle.starlark_vecmap.specs.EntryList.{deref_entry_mut};
-ghost use Rattle.starlark_vecmap.specs.Lending.{lends_value};
+ghost use Rattle.starlark_vecmap.specs.Lending.{lends_value, values_follow};
 
-use super::VecMap;
+use super::{IterMut, Loan, ValuesMut, VecMap};
 use starlark_hash::{Hashed, StarlarkHashValue};
 
 impl<K, V> VecMap<K, V> {
@@ -19,5 +21,41 @@ impl<K, V> VecMap<K, V> {
         let hash = StarlarkHashValue::new_unchecked(self.columns.seconds()[index]);
         let pair = self.columns.first_at_mut(index);
         (Hashed::new_unchecked(hash, &pair.0), &mut pair.1)
+    }
+
+    /// The right to write the values of the entries, which an `IterMut` walks. The map ends with the values that are
+    /// left in them; keys, hashes and capacity stay.
+    #[inline]
+    pub fn lend(&mut self) -> Loan<'_, K, V>
+        ensures* writes_back { sem 𝓛 (values_follow K.row V.row self.entry result.tie) }
+        ensures untouched { result.from ≡ 0 }
+        ensures rest { result.rest ≡ map pair_of self.old.entries }
+    {
+        self.columns.lend_firsts()
+    }
+
+    /// The keys and values of the entries, in their order, to write the values. The map ends with what is left in them;
+    /// keys, hashes and capacity stay.
+    #[tactic(auto, using(crate::proofs::Written::written))]
+    #[inline]
+    pub fn iter_mut(&mut self) -> IterMut<'_, K, V>
+        ensures* writes_back { sem 𝓛 (values_follow K.row V.row self.entry result.1) }
+        ensures rest { result.0 ≡ map pair_of self.old.entries }
+        ensures fits { length self.old.entries < 2 ^ 64 }
+    {
+        let len = self.columns.len();
+        IterMut::of(self.lend(), len)
+    }
+
+    /// The values of the entries, in their order, to write them. The map ends with what is left in them; keys, hashes
+    /// and capacity stay.
+    #[tactic(auto, using(crate::proofs::Written::written))]
+    #[inline]
+    pub fn values_mut(&mut self) -> ValuesMut<'_, K, V>
+        ensures* writes_back { sem 𝓛 (values_follow K.row V.row self.entry result.1) }
+        ensures rest { values_of result.0 ≡ map entry_value self.old.entries }
+        ensures fits { length self.old.entries < 2 ^ 64 }
+    {
+        ValuesMut::of(self.iter_mut())
     }
 }

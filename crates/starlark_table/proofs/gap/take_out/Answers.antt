@@ -3,13 +3,13 @@ use Rattle.std.proofs.Math.ListN.{set, length-set}
 use Rattle.starlark_table.specs.Table.{filled}
 use Rattle.starlark_table.specs.Layout.{at, HasGap}
 use Rattle.starlark_table.proofs.Closing.{read_known, gap_left}
-use Rattle.starlark_table.proofs.Load.{another_empty, placed, small, taken_bag}
+use Rattle.starlark_table.proofs.Load.{another_empty_slot, places-power, places-fit, bag-taken_out}
 use Rattle.starlark_table.proofs.gap.take_out.Goals as goal
 
 pub close_gap-requires-clause-fits : goal.close_gap-requires-clause-fits
 close_gap-requires-clause-fits g c =
-    let e = placed c.args.slots.now c.args.shift c.requires.places (omega arith) in
-    rw length-set (small (length c.args.slots.now) c.args.shift c.requires.low e)
+    let e = places-power c.args.slots.now c.args.shift c.requires.places (omega arith) in
+    rw length-set (places-fit (length c.args.slots.now) c.args.shift c.requires.low e)
 
 pub close_gap-requires-clause-gap : goal.close_gap-requires-clause-gap
 close_gap-requires-clause-gap g c =
@@ -19,13 +19,13 @@ close_gap-requires-clause-gap g c =
 
 pub close_gap-requires-clause-free : goal.close_gap-requires-clause-free
 close_gap-requires-clause-free g c =
-    let e = placed c.args.slots.now c.args.shift c.requires.places (omega arith) in
+    let e = places-power c.args.slots.now c.args.shift c.requires.places (omega arith) in
     let full = read_known c.args.slots.now c.args.slot _ c.index-slots-slot.result _ refl c.if-slot-slots.false (sym c.take.ensures.value ∙ c.in_ok-member.was) in
     subst (λ o. (q : ℕ) × (q < length (set c.args.slots.now c.args.slot o)) × (q ≢ c.args.slot) × (at (set c.args.slots.now c.args.slot o) q ≡ None)) (sym c.take.ensures.after)
-    (another_empty c.args.slots.now c.args.shift c.args.slot c.in_ok-member.member c.requires.high e c.requires.load full)
+    (another_empty_slot c.args.slots.now c.args.shift c.args.slot c.in_ok-member.member c.requires.high e c.requires.load full)
 
 pub returns-clause-rest : goal.returns-clause-rest
 returns-clause-rest g c =
     let full = read_known c.args.slots.now c.args.slot _ c.index-slots-slot.result _ refl c.if-slot-slots.false (sym c.take.ensures.value ∙ c.in_ok-member.was) in
-    taken_bag c.args.slots.now c.close_gap.new.slots c.args.slot c.in_ok-member.member full
+    bag-taken_out c.args.slots.now c.close_gap.new.slots c.args.slot c.in_ok-member.member full
     (subst (λ o. IsPermutation (filled (set c.args.slots.now c.args.slot o)) (filled c.close_gap.new.slots)) c.take.ensures.after c.close_gap.ensures.bag)

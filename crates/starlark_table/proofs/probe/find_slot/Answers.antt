@@ -4,7 +4,7 @@ use Rattle.std.proofs.lemmas.Fn.{called_at}
 use Rattle.starlark_table.specs.Table.{holders_in}
 use Rattle.starlark_table.specs.Layout.{distance, home}
 use Rattle.starlark_table.proofs.Circle.{home-below, distance-self, distance-below, next-step, less-left}
-use Rattle.starlark_table.proofs.Closing.{free_farther, path_more, is_full}
+use Rattle.starlark_table.proofs.Closing.{free_farther, path_more, full-some}
 use Rattle.starlark_table.proofs.Path.{read_at, nothing_left, listed}
 use Rattle.starlark_table.proofs.Searching.{searching_begins, searching_as, searches_none, searching_asks, searching_refuses, searching_accepts, searching_ends, path_taken, path_skipped, path_moved}
 use Rattle.starlark_table.proofs.probe.find_slot.Goals as goal
@@ -57,7 +57,7 @@ loop-place-smaller g c =
     let k = c.loop-place.invariant in
     let in' = home_in (length c.args.slots.now) c.args.shift c.args.hash c.if-count-eq0.false c.requires.places c.ranges.hash.fits in
     let here = read_at c.args.slots.now c.loop-place.place _ k.in_range c.index-slots-place.is ∙ c.in-Some.is in
-    let full = is_full _ _ here in
+    let full = full-some _ _ here in
     let more = free_farther (length c.args.slots.now) (home c.args.shift c.args.hash) c.loop-place.place c.args.slots.now in' k.in_range k.path full
     (c.requires.free (some_places _ c.if-count-eq0.false)) in
     let next = next-step (length c.args.slots.now) (home c.args.shift c.args.hash) c.loop-place.place _ in' k.in_range more c.next_place-place.ensures in
@@ -68,7 +68,7 @@ loop-place-preserved g c =
     let k = c.loop-place.invariant in
     let in' = home_in (length c.args.slots.now) c.args.shift c.args.hash c.if-count-eq0.false c.requires.places c.ranges.hash.fits in
     let here = read_at c.args.slots.now c.loop-place.place _ k.in_range c.index-slots-place.is ∙ c.in-Some.is in
-    let full = is_full _ _ here in
+    let full = full-some _ _ here in
     let more = free_farther (length c.args.slots.now) (home c.args.shift c.args.hash) c.loop-place.place c.args.slots.now in' k.in_range k.path full
     (c.requires.free (some_places _ c.if-count-eq0.false)) in
     let next = next-step (length c.args.slots.now) (home c.args.shift c.args.hash) c.loop-place.place _ in' k.in_range more c.next_place-place.ensures in

@@ -2,7 +2,7 @@ use Rattle.std.proofs.Common.{◌≡◌, ◌≤◌, ◌<◌, ◌+◌, ℕ, Bool,
 use Rattle.starlark_table.specs.Table.{items_in, filled}
 use Rattle.starlark_table.specs.Walk.{CanRetain}
 use Rattle.starlark_table.proofs.Lists.{head_left, take_all, still_untouched}
-use Rattle.starlark_table.proofs.Retaining.{takes_slot, callable_on, done_more, counted_more, stands_still, stands_first, retains_all}
+use Rattle.starlark_table.proofs.Retaining.{takes-slot_here, can_retain-rest, retains-next_slot, counts-next_slot, stands-next_slot, stands-at_first, retains_all}
 use Rattle.starlark_table.proofs.walks.keep_items.Goals as goal
 use Rattle.starlark_table.proofs.walks.keep_items.Goals.{then-ask, else-ask}
 
@@ -16,7 +16,7 @@ loop-slot-init g c = record {
   untouched = refl;
   counted = refl;
   few = omega arith;
-  stand = stands_first g.F.FnMut c.args.slots.now;
+  stand = stands-at_first g.F.FnMut c.args.slots.now;
   done = λ rest retains. retains;
 }
 
@@ -25,7 +25,7 @@ ask-requires g c =
     let k = c.loop-slot.invariant in
     let below = subst (λ n. c.loop-slot.slot-index < n) (sym c.loop-slot.auto.slots) c.loop-slot-test.true in
     let o = get_or c.loop-slot.slots c.loop-slot.slot-index c.slot-item.result in
-    takes_slot g.F.FnMut o (drop (c.loop-slot.slot-index + 1) c.args.slots.now) c.loop-slot.f
+    takes-slot_here g.F.FnMut o (drop (c.loop-slot.slot-index + 1) c.args.slots.now) c.loop-slot.f
     (subst (λ l. CanRetain g.F.FnMut (items_in l) c.loop-slot.f)
     (head_left c.args.slots.now c.loop-slot.slots c.loop-slot.slot-index c.slot-item.result o below k.untouched refl) k.callable)
 
@@ -38,15 +38,15 @@ loop-slot-preserved g c =
       | else-ask w ↦ w.kept-is ∙ sym (add-zero c.loop-slot.kept) ∙ ap (λ b. c.loop-slot.kept + cond b 1 0) (sym w.if-ask.false)
     ] in
     record {
-      callable = callable_on g.F.FnMut c.args.f c.args.slots.now c.loop-slot.slots c.loop-slot.slot-index c.slot-item.result c.loop-slot.f c.ask.new.f c.ask.result _ c.ask.new.slot
+      callable = can_retain-rest g.F.FnMut c.args.f c.args.slots.now c.loop-slot.slots c.loop-slot.slot-index c.slot-item.result c.loop-slot.f c.ask.new.f c.ask.result _ c.ask.new.slot
           below k.untouched refl c.ask.ensures k.callable;
       untouched = still_untouched c.args.slots.now c.loop-slot.slots _ c.loop-slot.slot-index c.ask.new.slot k.untouched refl;
-      counted = added ∙ counted_more g.F.FnMut c.args.f c.args.slots.now c.loop-slot.slots c.loop-slot.slot-index c.slot-item.result c.loop-slot.f c.ask.new.f c.ask.result _ c.ask.new.slot
+      counted = added ∙ counts-next_slot g.F.FnMut c.args.f c.args.slots.now c.loop-slot.slots c.loop-slot.slot-index c.slot-item.result c.loop-slot.f c.ask.new.f c.ask.result _ c.ask.new.slot
           below k.untouched refl c.ask.ensures c.loop-slot.kept k.counted;
       few = rw added (one_at_most c.ask.result c.loop-slot.kept c.loop-slot.slot-index k.few);
-      stand = stands_still g.F.FnMut c.args.f c.args.slots.now c.loop-slot.slots c.loop-slot.slot-index c.slot-item.result c.loop-slot.f c.ask.new.f c.ask.result _ c.ask.new.slot
+      stand = stands-next_slot g.F.FnMut c.args.f c.args.slots.now c.loop-slot.slots c.loop-slot.slot-index c.slot-item.result c.loop-slot.f c.ask.new.f c.ask.result _ c.ask.new.slot
           below k.untouched refl c.ask.ensures k.stand;
-      done = done_more g.F.FnMut c.args.f c.args.slots.now c.loop-slot.slots c.loop-slot.slot-index c.slot-item.result c.loop-slot.f c.ask.new.f c.ask.result _ c.ask.new.slot
+      done = retains-next_slot g.F.FnMut c.args.f c.args.slots.now c.loop-slot.slots c.loop-slot.slot-index c.slot-item.result c.loop-slot.f c.ask.new.f c.ask.result _ c.ask.new.slot
           below k.untouched refl c.ask.ensures k.done;
     }
 

@@ -2,7 +2,7 @@ use Rattle.std.proofs.Common.{ℕ, ◌≡◌, ◌<◌, ◌==◌, Bool, false, le
 use Rattle.std.proofs.lemmas.Bool.Decides.{nat_tests}
 use Rattle.std.proofs.lemmas.List.Sorted.{length_permutation}
 use Rattle.starlark_table.specs.Layout.{ReachesBefore}
-use Rattle.starlark_table.proofs.Load.{placed, four, some_empty, limit_below}
+use Rattle.starlark_table.proofs.Load.{places-power, four_places, empty_slot, load-below_places}
 use Rattle.starlark_table.proofs.Settling.{reaches_before}
 use Rattle.starlark_table.proofs.walks.retain_items.Goals as goal
 
@@ -11,8 +11,8 @@ not_empty n b e f = grind (arith, nat_tests)
 
 pub free_place-start-requires-clause-free : goal.free_place-start-requires-clause-free
 free_place-start-requires-clause-free g c =
-    let e = placed c.args.slots.now c.args.shift c.requires.places (not_empty _ _ c.is_empty.ensures c.if-is_empty.false) in
-    some_empty c.args.slots.now (limit_below _ _ c.requires.load (four _ c.args.shift c.requires.high e))
+    let e = places-power c.args.slots.now c.args.shift c.requires.places (not_empty _ _ c.is_empty.ensures c.if-is_empty.false) in
+    empty_slot c.args.slots.now (load-below_places _ _ c.requires.load (four_places _ c.args.shift c.requires.high e))
 
 pub settle-requires-clause-reaches : goal.settle-requires-clause-reaches
 settle-requires-clause-reaches g c =

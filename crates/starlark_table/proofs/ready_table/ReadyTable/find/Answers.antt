@@ -2,13 +2,13 @@ use Rattle.std.proofs.Common.{◌≡◌, ℕ, ◌<◌, length, None, sym, ◌∙
 use Rattle.starlark_hash.specs.Search.{Searches, CanSearch}
 use Rattle.starlark_table.specs.Layout.{at}
 use Rattle.starlark_table.specs.Table.{holders_in}
-use Rattle.starlark_table.proofs.Load.{some_free}
+use Rattle.starlark_table.proofs.Load.{sound-empty_slot}
 use Rattle.starlark_table.proofs.ready_table.ReadyTable.find.Goals as goal
 
 pub find_slot-requires-clause-free : goal.find_slot-requires-clause-free
 find_slot-requires-clause-free g c =
     subst (λ l. 0 < length l → (q : ℕ) × (q < length l) × (at l q ≡ None)) (sym c.as_slice.ensures.value)
-    (some_free c.self.inside.slots.items c.self.inside.len c.self.inside.shift c.self.invariant)
+    (sound-empty_slot c.self.inside.slots.items c.self.inside.len c.self.inside.shift c.self.invariant)
 
 pub find_slot-requires-clause-callable : goal.find_slot-requires-clause-callable
 find_slot-requires-clause-callable g c =

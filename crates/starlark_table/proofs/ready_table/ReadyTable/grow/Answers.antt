@@ -3,7 +3,7 @@ use Rattle.std.proofs.lemmas.List.{with_items_is, length-replicate}
 use Rattle.std.specs.Vec.{with_items}
 use Rattle.starlark_table.specs.Table.{filled}
 use Rattle.starlark_table.specs.Layout.{limit, IsSound}
-use Rattle.starlark_table.proofs.Load.{grown, filled-replicate}
+use Rattle.starlark_table.proofs.Load.{sound-grown, filled-replicate}
 use Rattle.starlark_table.proofs.ready_table.ReadyTable.grow.Goals as goal
 
 load_fits : (k len m needed count : ℕ) → len ≡ k → len ≤ limit m → k + (limit m - len) < needed → needed ≤ limit count → len ≤ limit count
@@ -28,7 +28,7 @@ invariant_of-self g c =
     let before : length (filled c.self.inside.slots.items) + (limit (length c.self.inside.slots.items) - c.self.inside.len) < c.args.needed =
     subst (λ t. length (filled t.slots) + t.room < c.args.needed) (sym c.self.view_is) c.requires in
     let load = load_fits _ c.self.inside.len _ c.args.needed c.in-Some.count c.self.invariant.counted c.self.invariant.load before c.in-Some.ensures.enough in
-    let made = grown c.self.inside.slots.items c.replace-old.result.items c.as_mut_slice.result.now c.move_all.new.slots c.self.inside.len c.self.inside.shift c.in-Some.shift c.in-Some.count
+    let made = sound-grown c.self.inside.slots.items c.replace-old.result.items c.as_mut_slice.result.now c.move_all.new.slots c.self.inside.len c.self.inside.shift c.in-Some.shift c.in-Some.count
     c.self.invariant (ap (λ v. v.items) c.replace-old.ensures.value) (c.as_mut_slice.ensures.value ∙ ap (λ v. v.items) c.replace-old.ensures.after ∙ c.in_ok-slots.ensures)
     c.move_all.auto.slots c.move_all.ensures.in_place c.move_all.ensures.bag c.in-Some.ensures.power c.in-Some.ensures.low c.in-Some.ensures.high load in
     let same = with_items_is c.replace-old.new.dest c.move_all.new.slots (c.move_all.auto.slots ∙ c.as_mut_slice.ensures.len) in
@@ -39,7 +39,7 @@ returns-clause-ok g c =
     let before : length (filled c.self.inside.slots.items) + (limit (length c.self.inside.slots.items) - c.self.inside.len) < c.args.needed =
     subst (λ t. length (filled t.slots) + t.room < c.args.needed) (sym c.self.view_is) c.requires in
     let load = load_fits _ c.self.inside.len _ c.args.needed c.in-Some.count c.self.invariant.counted c.self.invariant.load before c.in-Some.ensures.enough in
-    let made = grown c.self.inside.slots.items c.replace-old.result.items c.as_mut_slice.result.now c.move_all.new.slots c.self.inside.len c.self.inside.shift c.in-Some.shift c.in-Some.count
+    let made = sound-grown c.self.inside.slots.items c.replace-old.result.items c.as_mut_slice.result.now c.move_all.new.slots c.self.inside.len c.self.inside.shift c.in-Some.shift c.in-Some.count
     c.self.invariant (ap (λ v. v.items) c.replace-old.ensures.value) (c.as_mut_slice.ensures.value ∙ ap (λ v. v.items) c.replace-old.ensures.after ∙ c.in_ok-slots.ensures)
     c.move_all.auto.slots c.move_all.ensures.in_place c.move_all.ensures.bag c.in-Some.ensures.power c.in-Some.ensures.low c.in-Some.ensures.high load in
     let same = with_items_is c.replace-old.new.dest c.move_all.new.slots (c.move_all.auto.slots ∙ c.as_mut_slice.ensures.len) in
@@ -52,7 +52,7 @@ returns-clause-bag g c =
     let before : length (filled c.self.inside.slots.items) + (limit (length c.self.inside.slots.items) - c.self.inside.len) < c.args.needed =
     subst (λ t. length (filled t.slots) + t.room < c.args.needed) (sym c.self.view_is) c.requires in
     let load = load_fits _ c.self.inside.len _ c.args.needed c.in-Some.count c.self.invariant.counted c.self.invariant.load before c.in-Some.ensures.enough in
-    let made = grown c.self.inside.slots.items c.replace-old.result.items c.as_mut_slice.result.now c.move_all.new.slots c.self.inside.len c.self.inside.shift c.in-Some.shift c.in-Some.count
+    let made = sound-grown c.self.inside.slots.items c.replace-old.result.items c.as_mut_slice.result.now c.move_all.new.slots c.self.inside.len c.self.inside.shift c.in-Some.shift c.in-Some.count
     c.self.invariant (ap (λ v. v.items) c.replace-old.ensures.value) (c.as_mut_slice.ensures.value ∙ ap (λ v. v.items) c.replace-old.ensures.after ∙ c.in_ok-slots.ensures)
     c.move_all.auto.slots c.move_all.ensures.in_place c.move_all.ensures.bag c.in-Some.ensures.power c.in-Some.ensures.low c.in-Some.ensures.high load in
     let same = with_items_is c.replace-old.new.dest c.move_all.new.slots (c.move_all.auto.slots ∙ c.as_mut_slice.ensures.len) in
@@ -64,7 +64,7 @@ returns-clause-room g c =
     let before : length (filled c.self.inside.slots.items) + (limit (length c.self.inside.slots.items) - c.self.inside.len) < c.args.needed =
     subst (λ t. length (filled t.slots) + t.room < c.args.needed) (sym c.self.view_is) c.requires in
     let load = load_fits _ c.self.inside.len _ c.args.needed c.in-Some.count c.self.invariant.counted c.self.invariant.load before c.in-Some.ensures.enough in
-    let made = grown c.self.inside.slots.items c.replace-old.result.items c.as_mut_slice.result.now c.move_all.new.slots c.self.inside.len c.self.inside.shift c.in-Some.shift c.in-Some.count
+    let made = sound-grown c.self.inside.slots.items c.replace-old.result.items c.as_mut_slice.result.now c.move_all.new.slots c.self.inside.len c.self.inside.shift c.in-Some.shift c.in-Some.count
     c.self.invariant (ap (λ v. v.items) c.replace-old.ensures.value) (c.as_mut_slice.ensures.value ∙ ap (λ v. v.items) c.replace-old.ensures.after ∙ c.in_ok-slots.ensures)
     c.move_all.auto.slots c.move_all.ensures.in_place c.move_all.ensures.bag c.in-Some.ensures.power c.in-Some.ensures.low c.in-Some.ensures.high load in
     let same = with_items_is c.replace-old.new.dest c.move_all.new.slots (c.move_all.auto.slots ∙ c.as_mut_slice.ensures.len) in

@@ -2,28 +2,28 @@ use Rattle.std.proofs.Common.{◌≡◌, ◌+◌, ◌-◌, length, sym, ◌∙�
 use Rattle.std.proofs.lemmas.List.{with_items_is}
 use Rattle.starlark_table.specs.Table.{filled}
 use Rattle.starlark_table.specs.Layout.{limit, IsSound}
-use Rattle.starlark_table.proofs.Load.{taken_sound_via, full_room}
+use Rattle.starlark_table.proofs.Load.{sound-taken_out_of_copy, len-and-room}
 use Rattle.starlark_table.proofs.ready_table.ReadyTable.remove.Goals as goal
 
 pub overflow_sub-self : goal.overflow_sub-self
 overflow_sub-self g c =
-    (taken_sound_via c.self.inside.slots.items c.as_mut_slice.result.now c.take_out-member.new.slots c.self.inside.len c.self.inside.shift c.take_out-member.result c.as_mut_slice.ensures.value c.self.invariant
+    (sound-taken_out_of_copy c.self.inside.slots.items c.as_mut_slice.result.now c.take_out-member.new.slots c.self.inside.len c.self.inside.shift c.take_out-member.result c.as_mut_slice.ensures.value c.self.invariant
     c.take_out-member.auto.slots c.take_out-member.ensures.in_place c.take_out-member.ensures.rest (sym c.is_some.ensures ∙ c.if-is_some.true)).1
 
 pub invariant_of-self : goal.invariant_of-self
 invariant_of-self g c =
     let same = with_items_is c.self.inside.slots c.take_out-member.new.slots (c.take_out-member.auto.slots ∙ c.as_mut_slice.ensures.len) in
     subst (λ l. IsSound l (c.self.inside.len - 1) c.self.inside.shift) (sym same)
-    (taken_sound_via c.self.inside.slots.items c.as_mut_slice.result.now c.take_out-member.new.slots c.self.inside.len c.self.inside.shift c.take_out-member.result c.as_mut_slice.ensures.value c.self.invariant
+    (sound-taken_out_of_copy c.self.inside.slots.items c.as_mut_slice.result.now c.take_out-member.new.slots c.self.inside.len c.self.inside.shift c.take_out-member.result c.as_mut_slice.ensures.value c.self.invariant
     c.take_out-member.auto.slots c.take_out-member.ensures.in_place c.take_out-member.ensures.rest (sym c.is_some.ensures ∙ c.if-is_some.true)).0
 
 pub returns-then-is_some-clause-room : goal.returns-then-is_some-clause-room
 returns-then-is_some-clause-room g c =
     let same = with_items_is c.self.inside.slots c.take_out-member.new.slots (c.take_out-member.auto.slots ∙ c.as_mut_slice.ensures.len) in
-    let sound = (taken_sound_via c.self.inside.slots.items c.as_mut_slice.result.now c.take_out-member.new.slots c.self.inside.len c.self.inside.shift c.take_out-member.result c.as_mut_slice.ensures.value c.self.invariant
+    let sound = (sound-taken_out_of_copy c.self.inside.slots.items c.as_mut_slice.result.now c.take_out-member.new.slots c.self.inside.len c.self.inside.shift c.take_out-member.result c.as_mut_slice.ensures.value c.self.invariant
     c.take_out-member.auto.slots c.take_out-member.ensures.in_place c.take_out-member.ensures.rest (sym c.is_some.ensures ∙ c.if-is_some.true)).0 in
     rw (← c.self.view_is)
     (subst (λ l. length (filled l) + (limit (length l) - (c.self.inside.len - 1)) ≡ length (filled c.self.inside.slots.items) + (limit (length c.self.inside.slots.items) - c.self.inside.len)) (sym same)
-    (full_room c.take_out-member.new.slots (c.self.inside.len - 1) c.self.inside.shift sound
+    (len-and-room c.take_out-member.new.slots (c.self.inside.len - 1) c.self.inside.shift sound
     ∙ ap limit (c.take_out-member.auto.slots ∙ ap length c.as_mut_slice.ensures.value)
-    ∙ sym (full_room c.self.inside.slots.items c.self.inside.len c.self.inside.shift c.self.invariant)))
+    ∙ sym (len-and-room c.self.inside.slots.items c.self.inside.len c.self.inside.shift c.self.invariant)))

@@ -1,4 +1,5 @@
--- `new` freezes the first parts of a vector's pairs. The vector stays open while it is lent to the call that shows its slice. Assumes `Logic`.
+-- `new` freezes the first parts of a vector's pairs. The vector stays open while it is lent to the call that shows its
+-- slice. Assumes `Logic`.
 use mathlib.Core.Path.{◌≡◌, refl, sym, ap, subst, ◌∙◌}
 use Prim.Native.Nat.{ℕ, ◌+◌, ◌*◌}
 use native.Mathlib.Nat.{zero-add, zero-mul}
@@ -135,12 +136,14 @@ module _ (A B : RattleType) where
           move ! (1 ∷ []) $ split ! $ move ! (1 ∷ []) $ fsplit3 ! $ fsplit ! $ feq_l ! (λ at_x. pure_l ! (room P (length x.now)) (λ rm.
           lands_as ! (ap only at_x) refl (tt, (tt, (record { fits = rm.0 }, tt))) $
           pure_i ! (mut_slice_at P x (mut_slice_vals x)) (tt, (tt, tt)) (refl, rm) $ fjoin3 ! $ move ! (1 ∷ []) $ split3 ! $
-          -- [half of κ's token; the token of κA; that of κB; the slice; what the vector follows; the right; the open borrow; obs; auth]
+          -- [half of κ's token; the token of κA; that of κB; the slice; what the vector follows; the right; the open
+          -- borrow; obs; auth]
           let bx = x.ref_ptr.0 in let ox = x.ref_ptr.1 in
           move ! (3 ∷ 0 ∷ []) $ use2 𝓛 (later (some (Made A B 𝓛 κ (Share.right q) bx ox x.ghost_name (named 0) x.now))) (run_made A B 𝓛 κ (Share.right q) bx ox x.ghost_name (named 0) x.now (mut_slice_vals x)) $ await ! tt $ pick ! (λ δ'. split3 ! $
           rewrite ! 0 (λ (t : List One). ‵ (lent_run (param 0 A) (param 1 B) κ bx ox δ' t)) items refl $
           rewrite ! 2 (λ (t : List One). ‵ (follows (Array P 0) (Array P 0) x.ghost_name δ' (with_seconds t))) items refl $
-          -- [the run; half of κ's token; what the slice follows; the tokens of κA, κB; what the vector follows; the right; the open borrow; obs; auth]
+          -- [the run; half of κ's token; what the slice follows; the tokens of κA, κB; what the vector follows; the
+          -- right; the open borrow; obs; auth]
           move ! (5 ∷ 2 ∷ []) $ use2 𝓛 (‵ (follows W (Array P 0) δ δ' (kept v))) (follows_then 𝓛 W (Array P 0) (Array P 0) (with_items v) (with_seconds v.items) δ x.ghost_name δ') $
           nothing ! $ move ! (7 ∷ 8 ∷ 9 ∷ 6 ∷ 1 ∷ 0 ∷ []) $ group ! 6 $
           use1 𝓛 (later (some (λ (tie : GName). ‵ (flft κ (Share.left q)) ⊛ ‵ (follows W W γ tie (λ w. kept v w.items)))))

@@ -138,7 +138,8 @@ module _ (A B : RattleType) where
           let k : Bor A.Denot = record { ref_ptr = (b, first_at A B (i * s + o)); now = p.0 } in
           let v : MutBor B.Denot = record { ref_ptr = (b, second_at A B (i * s + o)); ghost_name = δ; now = p.1 } in
           let out : Val = vstruct (vcons (vptr b k.ref_ptr.1) (vcons (vptr b v.ref_ptr.1) vnil)) in
-          -- [the `&`; the `&mut`; κ'; the run; the fields; their cell; the open borrow; obs; auth; the tokens of κA, κB]
+          -- [the `&`; the `&mut`; κ'; the run; the fields; their cell; the open borrow; obs; auth; the tokens of κA,
+          -- κB]
           move ! (3 ∷ []) $ rewrite ! 0 (λ (z : ℕ). ‵ (lent_run K V κ' b z γs.1 ps)) on refl $ pure_i ! (room P (suc d.from + length ps)) (tt, tt) fewer $ fjoin ! $
           rewrite ! 0 (λ (z : Ptr). ‵ (frozen κ' K V z (suc d.from) γs.1 ps)) (sym e) refl $ move ! (4 ∷ 0 ∷ []) $ fjoin ! $ move ! (4 ∷ 0 ∷ 5 ∷ 6 ∷ 7 ∷ []) $
           let new : Loan A.Denot B.Denot = record { start = d.start; mark = d.mark; name = γs.1; tie = d.tie; from = suc d.from; rest = ps } in

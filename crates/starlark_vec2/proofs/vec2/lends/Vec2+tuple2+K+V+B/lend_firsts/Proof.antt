@@ -1,4 +1,5 @@
--- `lend_firsts` lends the first column, and the whole list, open over the call, is closed by what that follows. Assumes `Logic`.
+-- `lend_firsts` lends the first column, and the whole list, open over the call, is closed by what that follows. Assumes
+-- `Logic`.
 use mathlib.Core.Path.{◌≡◌, refl, sym, ap, ◌∙◌}
 use Prim.Native.Nat.{ℕ, ◌+◌}
 use native.Mathlib.Omega.{arith}
@@ -180,7 +181,8 @@ module _ (A B E : RattleType) where
           name_new ! tt (CP.coded.code xs) (λ δ. move ! (2 ∷ 1 ∷ []) $ fjoin ! $ fpack ! CP.Denot (λ z. fsep ((mem CP).own_at z b place) (fauth δ (CP.coded.code z))) xs $
           -- [the content; obs δ; the rest; the open borrow; obs; auth; ..]
           move ! (3 ∷ []) $ ages ! (λ n. move ! (1 ∷ []) $ bor_new_deep ! tt n κ $
-          -- [the borrow and its right; the open borrow; obs δ; the rest; obs; auth; the other half; the tokens of κA, κB, κE]
+          -- [the borrow and its right; the open borrow; obs δ; the rest; obs; auth; the other half; the tokens of κA,
+          -- κB, κE]
           let lent : MutBor (Vec One) = record { ref_ptr = (b, place); ghost_name = δ; now = xs } in
           move ! (3 ∷ 0 ∷ []) $ feq_i ! (List Val) (mut_vals lent) (mut_vals lent) refl $ fjoin3 ! $ nothing ! $ move ! (1 ∷ 0 ∷ []) $ fjoin ! $
           -- [the argument; the right; the open borrow; the rest; obs; auth; the other half; the tokens of κA, κB, κE]
@@ -191,7 +193,8 @@ module _ (A B E : RattleType) where
           calls_at ! fm Run gr z (and_then ! (get ! refl) (no_more !)) (λ u.
           use1 𝓛 (later (some (λ (x : Loan A.Denot B.Denot). ((‵ (flft κ (Share.right q)) ⊛ ‵ (flft κA qA) ⊛ ‵ (flft κB qB) ⊛ ‵ ftrue) ⊛ ‵ (It.own_val x (u ∷ []))) ⊛ raw (ensured 𝓛 (g.ended A B) (g.clauses A B 𝓛 at_mem run) z.0.0 z.0.3 tt x)))) (id⊢ 𝓤 _) $ await ! tt $ pick ! (λ x. split ! $ move ! (1 ∷ []) $
           use1 𝓛 (‵ (follows CP CP δ x.tie (kept xs)) ⊛ raw (fact 𝓤 ((x.from ≡ 0) × (x.rest ≡ xs.items)))) (ex_e 𝓤 _ (λ ws. snd∗ 𝓤 (sem 𝓛 (lasts (g.ended A B) z.0.0 z.0.3 ws)) _)) $ split ! $ move ! (1 ∷ []) $ heard ! ((x.from ≡ 0) × (x.rest ≡ xs.items)) (λ rest.
-          -- [what the column follows; the tokens with the loan; the right; the open borrow; the rest; obs; auth; the token of κE]
+          -- [what the column follows; the tokens with the loan; the right; the open borrow; the rest; obs; auth; the
+          -- token of κE]
           move ! (3 ∷ 5 ∷ 6 ∷ 2 ∷ 0 ∷ 4 ∷ []) $ group ! 6 $
           use1 𝓛 (later (some (λ (tie : GName). ‵ (flft κ (Share.left q)) ⊛ ‵ (follows W W γ tie (keeps v)))))
           (closes_named 𝓛 (mem W) (mem CP) (mem CP) (kept xs) (seen d) (keeps v) (λ w. same v d w d'.1) κ (Share.left q) b o b place γ δ x.tie (Left b o d)

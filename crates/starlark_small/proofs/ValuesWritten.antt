@@ -1,0 +1,46 @@
+-- A map whose values were written keeps its keys, hashes and index.
+use Rattle.std.proofs.Common.{zero, suc, eqb, get_or, ◌≡◌, ℕ, ◌+◌, ◌<◌, ◌≤◌, ◌^◌, Bool, List, [], ◌∷◌, length, Option, Some, None, refl, sym, ap, subst, ◌∙◌, arith, IsPermutation}
+use Rattle.std.specs.Prelude.{◌&&◌}
+use Rattle.starlark_hash.specs.declared.hashed.Hashed.{Hashed}
+use Rattle.starlark_hash.specs.Entries.{Entry, IsSingle}
+use Rattle.starlark_hash.specs.HashValue.{promoted}
+use Rattle.starlark_table.specs.Table.{Table, members}
+use Rattle.starlark_vecmap.specs.EntryList.{with_values}
+use Rattle.starlark_vecmap.proofs.Written.{length-with_values}
+use Rattle.starlark_small.specs.Index.{IsIndexOf, IsIndexed, IsSound}
+use Rattle.starlark_small.proofs.Positions.{positions_from}
+
+-- whether two keys are alike under their hashes
+abbrev clash : {K : Type 0} → (K → K → Bool) → Hashed K → Hashed K → Bool
+clash eq d e = eqb e.hash.0 d.hash.0 && eq d.key e.key
+
+module _ {K V : Type 0} where
+  with_values-key : (es ws : List (Entry K V)) (k : ℕ) (d : Entry K V) → (get_or (with_values es ws) k d).0 ≡ (get_or es k d).0
+  with_values-key [] ws k d = refl
+  with_values-key (e ∷ es) [] zero d = refl
+  with_values-key (e ∷ es) [] (suc k) d = with_values-key es [] k d
+  with_values-key (e ∷ es) (w ∷ ws) zero d = refl
+  with_values-key (e ∷ es) (w ∷ ws) (suc k) d = with_values-key es ws k d
+
+  IsSingle-with_values : (eq : K → K → Bool) (es ws : List (Entry K V)) → IsSingle eq es → IsSingle eq (with_values es ws)
+  IsSingle-with_values eq es ws single i j d below inside =
+      let there : j < length es = omega (arith, inside, length-with_values es ws) in
+      ap (λ a. clash eq a (get_or (with_values es ws) j d).0) (with_values-key es ws i d) ∙ ap (λ a. clash eq (get_or es i d).0 a) (with_values-key es ws j d) ∙ single i j d below there
+
+  positions-with_values : (n : ℕ) (es ws : List (Entry K V)) → positions_from n (with_values es ws) ≡ positions_from n es
+  positions-with_values n [] ws = refl
+  positions-with_values n (e ∷ es) [] = ap (λ l. (promoted e.0.hash.0, n) ∷ l) (positions-with_values (n + 1) es [])
+  positions-with_values n (e ∷ es) (w ∷ ws) = ap (λ l. (promoted e.0.hash.0, n) ∷ l) (positions-with_values (n + 1) es ws)
+
+  IsIndexOf-with_values : (es ws : List (Entry K V)) (table : Table ℕ) → IsIndexOf es table → IsIndexOf (with_values es ws) table
+  IsIndexOf-with_values es ws table index = record {
+    bag = subst (λ l. IsPermutation l (members table)) (sym (positions-with_values 0 es ws)) index.bag;
+    fits = λ k d below. subst (λ h. h.hash.0 < 2 ^ 32) (sym (with_values-key es ws k d)) (index.fits k d (omega (arith, length-with_values es ws)));
+  }
+
+  IsIndexed-with_values : (es ws : List (Entry K V)) (index : Option (Table ℕ)) → IsIndexed es index → IsIndexed (with_values es ws) index
+  IsIndexed-with_values es ws None short = omega (arith, length-with_values es ws)
+  IsIndexed-with_values es ws (Some table) index = IsIndexOf-with_values es ws table index
+
+  pub IsSound-with_values : (eq : K → K → Bool) (es ws : List (Entry K V)) (index : Option (Table ℕ)) → IsSound eq es index → IsSound eq (with_values es ws) index
+  IsSound-with_values eq es ws index sound = record { single = IsSingle-with_values eq es ws sound.single; indexed = IsIndexed-with_values es ws index sound.indexed }

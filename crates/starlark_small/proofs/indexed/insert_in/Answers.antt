@@ -1,0 +1,15 @@
+use Rattle.std.proofs.Common.{subst, sym}
+use Rattle.starlark_small.specs.Index.{IsSound}
+use Rattle.starlark_small.proofs.Rooms.{IsSound-set_value_at, KeepsMemory-set_value_at, map_of-set_value_at}
+use Rattle.starlark_small.proofs.indexed.insert_in.Goals as goal
+
+pub returns-in-Some-clause-sound : goal.returns-in-Some-clause-sound
+returns-in-Some-clause-sound g c =
+    subst (λ l. IsSound g.K.PartialEq.eq l.entries c.args.index.now) (sym c.replace_at.ensures.list)
+    (IsSound-set_value_at g.K.PartialEq.eq c.args.entries.now.entries c.in-Some.i c.args.value c.args.index.now c.requires)
+
+pub returns-in-Some-clause-replaced : goal.returns-in-Some-clause-replaced
+returns-in-Some-clause-replaced g c = λ there. map_of-set_value_at c.args.entries.now c.replace_at.new.entries c.in-Some.i c.args.value c.args.index.now c.replace_at.ensures.list
+
+pub returns-in-Some-clause-room : goal.returns-in-Some-clause-room
+returns-in-Some-clause-room g c = (KeepsMemory-set_value_at c.args.entries.now c.replace_at.new.entries c.in-Some.i c.args.value c.args.index.now c.replace_at.ensures.list).0

@@ -1,0 +1,54 @@
+-- What an index of a list of entries holds, and what list and index make up together.
+use Rattle.std.specs.Prelude.{ℕ, ◌-◌, ◌≤◌, ◌<◌, ◌^◌, min, List, map, length, Option, Some, None, Bool, is_some, IsPermutation, nat_lt, if◌then◌else◌}
+use Rattle.std.specs.List.{enumerate_from, All}
+use Rattle.starlark_hash.specs.Entries.{Entry, IsSingle, entry_hash}
+use Rattle.starlark_hash.specs.HashValue.{hash_number, promoted}
+use Rattle.starlark_small.specs.Map.{Map}
+use Rattle.starlark_table.specs.Table.{Table, members}
+use Rattle.starlark_vecmap.specs.EntryList.{EntryList}
+
+-- the greatest length that a list may have without an index
+abbrev pub unindexed : ℕ
+unindexed = 32
+
+-- where a place stands once the entry at another one is taken out
+abbrev pub closed : ℕ → ℕ → ℕ
+closed removed i = if nat_lt removed i then i - 1 else i
+
+-- how many new entries an index surely takes without memory, or a list of this length without one
+abbrev pub index_room : ℕ → Option (Table ℕ) → ℕ
+index_room len None = unindexed - len
+index_room len (Some table) = table.room
+
+module _ {K V : Type 0} where
+  -- each place under the promoted hash of its entry
+  abbrev pub positions : List (Entry K V) → List (ℕ × ℕ)
+  positions es = map (λ p. (promoted (hash_number (entry_hash p.1)), p.0)) (enumerate_from 0 es)
+
+  -- the table holds the places of the list, and each hash is a number of 32 bits
+  pub record IsIndexOf (es : List (Entry K V)) (table : Table ℕ) : Type 0 where
+    pub bag : IsPermutation (positions es) (members table)
+    pub fits : All (λ e. hash_number (entry_hash e) < 2 ^ 32) es
+
+  -- an index holds the places, and without one the list is short
+  abbrev pub IsIndexed : List (Entry K V) → Option (Table ℕ) → Type 0
+  IsIndexed es None = length es ≤ unindexed
+  IsIndexed es (Some table) = IsIndexOf es table
+
+  -- no two entries have the same hash and equal keys, and the list is indexed or short
+  pub record IsSound (eq : K → K → Bool) (es : List (Entry K V)) (index : Option (Table ℕ)) : Type 0 where
+    pub single : IsSingle eq es
+    pub indexed : IsIndexed es index
+
+  -- how many new entries surely need no memory, neither for the list nor for the index
+  abbrev pub room_of : EntryList K V → Option (Table ℕ) → ℕ
+  room_of list index = min (list.capacity - length list.entries) (index_room (length list.entries) index)
+
+  -- what a list and its index are seen as
+  abbrev pub map_of : EntryList K V → Option (Table ℕ) → Map K V
+  map_of list index = record {
+    entries = list.entries;
+    room = room_of list index;
+    capacity = list.capacity;
+    indexed = is_some index;
+  }

@@ -1,0 +1,103 @@
+//! The places that an index holds: taken out, moved and filled in.
+ghost use Rattle.std.specs.Prelude.{◌≡◌, ◌+◌, ◌<◌, ◌≤◌, ◌==◌, [], ◌∷◌, length, map, remove, is_some, IfOk, IsPermutation};
+ghost use Rattle.std.specs.List.{Contains};
+ghost use Rattle.starlark_hash.specs.HashValue.{hash_number, promoted};
+ghost use Rattle.starlark_small.specs.Index.{IsIndexOf, IsIndexed, closed, index_room};
+ghost use Rattle.starlark_table.specs.Table.{members, table_len};
+
+use starlark_hash::StarlarkHashValue;
+use starlark_table::ReadyTable;
+use starlark_vecmap::VecMap;
+use std::alloc::{AllocError, Global};
+
+// Takes one place out.
+fn take_place(index: &mut ReadyTable<usize>, hash: StarlarkHashValue, place: usize)
+    requires { Contains (members index.old) (promoted (hash_number hash), place) }
+    ensures rest { IsPermutation (members index.old) ((promoted (hash_number hash), place) ∷ members index.new) }
+    ensures room { table_len index.new + index.new.room ≡ table_len index.old + index.old.room }
+{
+    let found = index.find(
+        hash.promote(),
+        |i: &usize| -> bool
+            ensures { result ≡ (i.now == place) }
+        { *i == place },
+    );
+    if let Some(slot) = found {
+        index.remove(slot);
+    }
+}
+
+// Moves each place above the one that was taken out.
+fn close_places(index: &mut ReadyTable<usize>, removed: usize)
+    ensures moved { members index.new ≡ map (λ m. (m.0, closed removed m.1)) (members index.old) }
+    ensures room { index.new.room ≡ index.old.room }
+{
+    index.replace_each(
+        |i: &usize| -> usize
+            ensures { result ≡ closed removed i.now }
+        { if *i > removed { *i - 1 } else { *i } },
+    );
+}
+
+// Takes out a place of the list, whose entry is still there.
+fn remove_place<K, V>(index: &mut ReadyTable<usize>, entries: &VecMap<K, V>, place: usize)
+    requires index { IsIndexOf entries.now.entries index.old }
+    requires within { place < length entries.now.entries }
+    ensures index { IsIndexOf (remove entries.now.entries place) index.new }
+    ensures room { table_len index.new + index.new.room ≡ table_len index.old + index.old.room }
+{
+    let hash = entries.get_unchecked(place).0.hash();
+    take_place(index, hash, place);
+    if place == entries.len() - 1 {
+        return;
+    }
+    close_places(index, place);
+}
+
+// The same of an index that may be missing.
+pub(super) fn unindex<K, V>(
+    index: &mut Option<ReadyTable<usize>>,
+    entries: &VecMap<K, V>,
+    place: usize,
+)
+    requires indexed { IsIndexed entries.now.entries index.old }
+    requires within { place < length entries.now.entries }
+    ensures indexed { IsIndexed (remove entries.now.entries place) index.new }
+    ensures room { 1 + index_room (length entries.now.entries) index.old ≤ index_room (length (remove entries.now.entries place)) index.new }
+    ensures kept { is_some index.new ≡ is_some index.old }
+{
+    if let Some(table) = index {
+        remove_place(table, entries, place);
+    }
+}
+
+// Puts each place of the list into an empty index that has room for them.
+pub(super) fn fill_index<K, V>(index: &mut ReadyTable<usize>, entries: &VecMap<K, V>)
+    requires empty { members index.old ≡ [] }
+    requires room { length entries.now.entries ≤ index.old.room }
+    ensures index { IsIndexOf entries.now.entries index.new }
+    ensures room { index.old.room ≤ length entries.now.entries + index.new.room }
+{
+    for i in 0..entries.len() {
+        let hash = entries.get_unchecked(i).0.hash();
+        match index.insert_unique(hash.promote(), i) {
+            Ok(_) => {}
+            Err(_) => unreachable!(),
+        }
+    }
+}
+
+// An index of the list, with room for so many places in all.
+pub(super) fn new_index<K, V>(
+    alloc: Global,
+    entries: &VecMap<K, V>,
+    capacity: usize,
+) -> Result<ReadyTable<usize>, AllocError>
+    requires { length entries.now.entries ≤ capacity }
+    ensures index { IfOk result (λ table. IsIndexOf entries.now.entries table) }
+    ensures room { IfOk result (λ table. capacity ≤ length entries.now.entries + table.room) }
+{
+    let mut index = ReadyTable::with_capacity(alloc, capacity)?;
+    fill_index(&mut index, entries);
+    Ok(index)
+}

@@ -1,0 +1,51 @@
+//! Searches through the index.
+ghost use Rattle.std.specs.Prelude.{◌≡◌, ◌<◌, length, slice_get, Some};
+ghost use Rattle.std.specs.Fn.{CalledAt, TakesAt};
+ghost use Rattle.starlark_hash.specs.Entries.{Entry, IsSingle, entry_key};
+ghost use Rattle.starlark_hash.specs.Search.{CanSearch, Searches, keys_under};
+ghost use Rattle.starlark_small.specs.Index.{IsIndexOf};
+ghost use Rattle.starlark_small.specs.Map.{query_match};
+
+use starlark_hash::{Equivalent, Hashed, StarlarkHashValue};
+use starlark_table::ReadyTable;
+use starlark_vecmap::VecMap;
+
+// A place under the hash whose key `eq` accepts.
+#[inline]
+pub(super) fn find_indexed<K, V, F: FnMut(&K) -> bool>(
+    entries: &VecMap<K, V>,
+    index: &ReadyTable<usize>,
+    hash: StarlarkHashValue,
+    mut eq: F,
+) -> Option<usize>
+where
+    F: Drop,
+    requires index { IsIndexOf entries.now.entries index.now }
+    requires callable { CanSearch F.FnMut (keys_under hash entries.now.entries) eq }
+    ensures { (last : F) × Searches F.FnMut (keys_under hash entries.now.entries) eq result last }
+{
+    let slot = index.find(
+        hash.promote(),
+        |i: &usize| -> bool
+            requires within { i.now < length entries.now.entries }
+            requires takes { (e : Entry K V) → slice_get entries.now.entries i.now ≡ Some e → TakesAt F.FnMut eq (entry_key e) }
+            ensures { (e : Entry K V) → slice_get entries.entry.now.entries i.now ≡ Some e → CalledAt F.FnMut eq.entry (entry_key e) result eq.exit }
+        { eq(entries.get_unchecked(*i).0.into_key()) },
+    )?;
+    index.get(slot).copied()
+}
+
+// The place of a single list under the query's hash whose key the query is equivalent to.
+#[inline]
+pub(super) fn position_indexed<K: Eq, V, Q: Equivalent<K>>(
+    entries: &VecMap<K, V>,
+    index: &ReadyTable<usize>,
+    key: Hashed<&Q>,
+) -> Option<usize>
+    requires index { IsIndexOf entries.now.entries index.now }
+    requires single { IsSingle K.eq entries.now.entries }
+    ensures { result ≡ query_match Q.equivalent entries.now.entries key.entry }
+{
+    let query = *key.key();
+    find_indexed(entries, index, key.hash(), |k: &K| query.equivalent(k))
+}

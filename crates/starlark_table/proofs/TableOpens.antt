@@ -1,0 +1,84 @@
+-- A `ReadyTable` in memory is its slots and the rest, and back, at any slots of which the invariant holds. Assumes
+-- `Logic`.
+use mathlib.Core.Path.{◌≡◌}
+use Prim.Native.Nat.{ℕ, zero, ◌+◌}
+use mathlib.Core.List.{List, [], ◌∷◌}
+use seplogic.Ra.Ura.{Ura}
+use base.Fraction.{full_share}
+use base.Logic.{SProp, ent, sep, wand, ex, all_e, apply∗}
+use prog.Memory.{size, align, up}
+use types.Kit.{‵, raw, ◌⊛◌, some, ◌$◌, ◌∵◌, !, qed, by, move, use1, use2, split, pick, show, fsplit, fjoin, done}
+use types.Logic.{Logic, sem}
+use denote.Builtin.{u32, usize}
+use denote.RattleType.{RattleType, Denots}
+use denote.Memory.{part_at, part_of, lone}
+use denote.Model.Fields.{plain_out, Plain-in, view_made}
+use denote.Param.Laws.{Laws}
+use denote.Struct.Loose.{lawfuls}
+use denote.Struct.Members.{Member, rows_of, parts_at}
+use denote.Struct.Parts.{shape_of, PartsBack, Struct-parts}
+use denote.Struct.Struct.{Struct}
+use Rattle.starlark_table.specs.Frozen.{SlotOf, column}
+use Rattle.starlark_table.specs.declared.ready_table.ReadyTable.TheInside.{Inside}
+use Rattle.starlark_table.specs.contracts.ready_table.ReadyTable as C
+use Rattle.starlark_table.specs.contracts.ready_table.ReadyTable.TheInside as I
+use Rattle.starlark_table.proofs.ready_table.ReadyTable.TheLaws as T
+use Rattle.starlark_table.proofs.ready_table.ReadyTable.TheInside.TheLaws as IL
+
+module _ (K : RattleType) where
+  abbrev pub W : RattleType
+  W = C.the_row K
+
+  abbrev pub D : Type 0
+  D = Inside K.Denot
+
+  abbrev pub Known : W.Denot → D → Type 0
+  Known v d = (C.the_view K d ≡ v) × C.the_invariant K d
+
+  abbrev member : RattleType → Member
+  member R = record { row = R; ty = lone R.mir }
+
+  abbrev pub CS : RattleType
+  CS = column (SlotOf K)
+
+  abbrev left : List Member
+  left = member usize ∷ member u32 ∷ []
+
+  abbrev ms : List Member
+  ms = member CS ∷ left
+
+  abbrev pub place : ℕ
+  place = up (align (lone CS.mir)) zero
+
+  abbrev next_place : ℕ
+  next_place = place + size (lone CS.mir)
+
+  abbrev to : D → Denots (rows_of ms)
+  to d = (I.the_type K).to d
+
+  module _ {M : Type 1} {𝓤 : Ura M} (𝓛 : Logic 𝓤) (b o : ℕ) where
+    abbrev pub Rest : D → SProp 𝓤
+    Rest d = sep 𝓤 (sem 𝓛 (parts_at full_share left next_place (to d).1 b o)) (PartsBack 𝓛 full_share (I.the_type K).name ms b o)
+
+    abbrev pub Cut : D → SProp 𝓤
+    Cut d = sep 𝓤 (sem 𝓛 (part_at CS full_share d.slots b (o + place))) (Rest d)
+
+    abbrev pub Cuts : (v : W.Denot) → ((d : D) × Known v d) → SProp 𝓤
+    Cuts v d = Cut d.0
+
+    pub cut : Laws K → (v : W.Denot) → ent 𝓤 (sem 𝓛 (part_at W full_share v b o)) (ex 𝓤 (Cuts v))
+    unfolding part_of
+    cut LK v =
+        qed 𝓛 (‵ (part_at W full_share v b o) ∷ []) ∵ use1 𝓛 (some (λ (d : (d : D) × Known v d). ‵ (part_at (I.the_row K) full_share d.0 b o))) (plain_out W (I.the_row K) (T.the_opens K) 𝓛 full_share v b o) $ pick ! (λ d.
+        use1 𝓛 (‵ (parts_at full_share ms zero (to d.0) b o) ⊛ raw (PartsBack 𝓛 full_share (I.the_type K).name ms b o))
+        (Struct-parts 𝓛 full_share (I.the_type K).name ms (lawfuls 𝓛 (I.the_type K).parts (IL.the_loose K LK)) (to d.0) b o) $ split ! $ fsplit ! $ show ! (Cuts v) d $ done !)
+
+    pub shut : (v : W.Denot) (d' : D) → Known v d' → ent 𝓤 (sep 𝓤 (sem 𝓛 (part_at CS full_share d'.slots b (o + place))) (Rest d')) (sem 𝓛 (part_at W full_share v b o))
+    unfolding part_of
+    shut v d' k =
+        qed 𝓛 (‵ (part_at CS full_share d'.slots b (o + place)) ∷ (‵ (parts_at full_share left next_place (to d').1 b o) ⊛ raw (PartsBack 𝓛 full_share (I.the_type K).name ms b o)) ∷ []) ∵
+        move ! (1 ∷ []) $ split ! $ move ! (2 ∷ 0 ∷ []) $ fjoin ! $ move ! (1 ∷ []) $
+        use1 𝓛 (raw (wand 𝓤 (sem 𝓛 (parts_at full_share ms zero (to d') b o)) (sem 𝓛 (part_at (Struct (shape_of (I.the_type K).name ms)) full_share (to d') b o))))
+        (all_e 𝓤 (λ (a' : Denots (rows_of ms)). wand 𝓤 (sem 𝓛 (parts_at full_share ms zero a' b o)) (sem 𝓛 (part_at (Struct (shape_of (I.the_type K).name ms)) full_share a' b o))) (to d')) $
+        move ! (1 ∷ 0 ∷ []) $ use2 𝓛 (‵ (part_at (I.the_row K) full_share d' b o)) (apply∗ 𝓤 (sem 𝓛 (parts_at full_share ms zero (to d') b o)) (sem 𝓛 (part_at (Struct (shape_of (I.the_type K).name ms)) full_share (to d') b o))) $
+        by ! (Plain-in W (I.the_row K) (T.the_opens K) 𝓛 full_share v d' (view_made (I.the_row K) W.Denot W.coded (C.the_view K) (C.the_invariant K) 𝓛 v d' k) b o)

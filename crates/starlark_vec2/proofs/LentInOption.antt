@@ -1,0 +1,90 @@
+-- A clause of two names at `Some` and at `None`, an `Option` that a call gave, opened, and two references made a tuple.
+-- Assumes `Logic`.
+use mathlib.Core.Path.{◌≡◌, refl, ap, ◌∙◌}
+use mathlib.Core.Logic.{◌⊎◌, inl, inr}
+use mathlib.Core.List.{List, [], ◌∷◌, ◌++◌}
+use mathlib.Core.Option.{none, some}
+use seplogic.Ra.Ura.{Ura}
+use mir.Syntax.{Lifetime, named}
+use mir.Val.{Val, of_list, vptr, vstruct, vcons, vnil}
+use base.Logic.{ent, sep, guard}
+use base.Fml.{Lft, GName, fres}
+use types.Logic.{Logic, sem}
+use types.Kit.{‵, ◌$◌, ◌∵◌, !, qed, by, move, keep, drop, fsplit, fsplit3, fjoin, fpick, fpack, feq_i, feq_l, rewrite, updating, now, check, done}
+use types.Match.{live}
+use types.Tokens.{name_done}
+use contract.Monad.{fact, fact_i}
+use denote.RattleType.{RattleType, Valss}
+use denote.Follow.{follows, follows_if, follows_by, follows_both, follows_both_if, both_if_by}
+use denote.Laws.{Is, shows}
+use denote.Param.{layout}
+use denote.Ref.{MutBor, MutRef, mut_vals}
+use denote.Steps.{nothing, peeks, only}
+use denote.Struct.Declared.{shape}
+use denote.Struct.Struct.{within}
+use denote.Struct.Tuple.{Tuple, tuple_type}
+use Rattle.core.proofs.cell.Inside.{Good}
+use Rattle.core.specs.declared.option.Option.{Option}
+use Rattle.core.specs.declared.option.Option.TheVariants.{None, Some}
+use Rattle.core.specs.contracts.option.Option as OP
+
+-- an `Option` is one of the two
+pub either : {A : Type 0} (o : Option A) → ((x : A) × (o ≡ Some x)) ⊎ (o ≡ None)
+either (Some x) = inl (x, refl)
+either None = inr refl
+
+module _ {M : Type 1} {𝓤 : Ura M} (𝓛 : Logic 𝓤) (R T U : RattleType) (γ : GName) where
+  module _ (F : T.Denot → R.Denot) (v : R.Denot) where
+    pub left_one : (γ' : GName) → ent 𝓤 (sem 𝓛 (follows_if R T γ (some γ') F v)) (sem 𝓛 (follows R T γ γ' F))
+    unfolding follows_by
+    left_one γ' = qed 𝓛 (‵ (follows R T γ γ' F) ∷ []) ∵ done !
+
+    pub left_none : ent 𝓤 (sem 𝓛 (follows_if R T γ none F v)) (sem 𝓛 (fres γ (R.coded.code v)))
+    unfolding follows_by
+    left_none = qed 𝓛 (‵ (fres γ (R.coded.code v)) ∷ []) ∵ done !
+
+  module _ (F : T.Denot → U.Denot → R.Denot) (v : R.Denot) where
+    pub leaves_two : (γ₁ γ₂ : GName) → ent 𝓤 (sem 𝓛 (follows_both R T U γ γ₁ γ₂ F)) (sem 𝓛 (follows_both_if R T U γ (some (γ₁, γ₂)) F v))
+    unfolding both_if_by
+    leaves_two γ₁ γ₂ = qed 𝓛 (‵ (follows_both R T U γ γ₁ γ₂ F) ∷ []) ∵ done !
+
+    pub leaves_none : ent 𝓤 (sem 𝓛 (fres γ (R.coded.code v))) (sem 𝓛 (follows_both_if R T U γ none F v))
+    unfolding both_if_by
+    leaves_none = qed 𝓛 (‵ (fres γ (R.coded.code v)) ∷ []) ∵ done !
+
+module _ {M : Type 1} {𝓤 : Ura M} (𝓛 : Logic 𝓤) (R : RattleType) (v : Val) where
+  -- where the type tells its machine value
+  pub in_some_told : (x : R.Denot) (u : Val) → ((vs : List Val) → Is R x vs → (vs ≡ u ∷ []) × Good (layout R) u)
+      → ent 𝓤 (sem 𝓛 ((OP.the_row R).own_val (Some x) (v ∷ []))) (guard 𝓤 ((v ≡ live 1 (vcons u vnil)) × Good (layout R) u) (sem 𝓛 (R.own_val x (u ∷ []))))
+  in_some_told x u told =
+      qed 𝓛 (‵ ((OP.the_row R).own_val (Some x) (v ∷ [])) ∷ []) ∵ fpick ! (λ us. fsplit ! $ feq_l ! (λ e. fpick ! (λ vss. fsplit ! $ feq_l ! (λ f. fsplit ! $
+      peeks ! R (Is R) (shows 𝓛 R) x vss.0 (λ is. let got = told vss.0 is in
+      rewrite ! 0 (λ (ws : List Val). ‵ (R.own_val x ws)) got.0 refl $
+      check ! (ap only e ∙ ap (λ ws. live 1 (of_list ws)) (f ∙ ap (λ ws. ws ++ []) got.0), got.1) $ keep ! (0 ∷ []) $ done !)))))
+
+  pub in_none : ent 𝓤 (sem 𝓛 ((OP.the_row R).own_val None (v ∷ []))) (fact 𝓤 (v ≡ live 0 vnil))
+  in_none =
+      qed 𝓛 (‵ ((OP.the_row R).own_val None (v ∷ [])) ∷ []) ∵ fpick ! (λ us. fsplit ! $ feq_l ! (λ e. fpick ! (λ vss. fsplit ! $ feq_l ! (λ f.
+      keep ! [] $ by ! (fact_i 𝓤 _ _ (ap only e ∙ ap (λ ws. live 0 (of_list ws)) f))))))
+
+module _ {M : Type 1} {𝓤 : Ura M} (𝓛 : Logic 𝓤) where
+  open 𝓛 use {H}
+
+  -- a `&mut` is given up at the value that it has
+  pub given_up : (R : RattleType) (ℓ : Lifetime) (κ : Lft) (r : MutBor R.Denot) → ent 𝓤 (sem 𝓛 ((MutRef ℓ κ R).own_val r (mut_vals r))) (H.⇛ (sem 𝓛 (fres r.ghost_name (R.coded.code r.now))))
+  given_up R ℓ κ r = qed 𝓛 (‵ ((MutRef ℓ κ R).own_val r (mut_vals r)) ∷ []) ∵ updating ! $ fsplit3 ! $ drop ! $ name_done ! tt $ now ! $ keep ! (0 ∷ []) $ done !
+
+  -- two values as one tuple
+  pub as_tuple : (R S : RattleType) (x : R.Denot) (y : S.Denot) (u v : Val)
+      → ent 𝓤 (sep 𝓤 (sem 𝓛 (R.own_val x (u ∷ []))) (sem 𝓛 (S.own_val y (v ∷ [])))) (sem 𝓛 ((Tuple (R ∷ S ∷ [])).own_val (x, y) (vstruct (vcons u (vcons v vnil)) ∷ [])))
+  as_tuple R S x y u v =
+      qed 𝓛 (‵ (R.own_val x (u ∷ [])) ∷ ‵ (S.own_val y (v ∷ [])) ∷ []) ∵ nothing ! $ move ! (2 ∷ 0 ∷ []) $ fjoin ! $ move ! (1 ∷ 0 ∷ []) $ fjoin ! $
+      feq_i ! (List Val) (vstruct (vcons u (vcons v vnil)) ∷ []) (vstruct (vcons u (vcons v vnil)) ∷ []) refl $ fjoin ! $
+      fpack ! (Valss (R ∷ S ∷ [])) (within (shape (tuple_type (R ∷ S ∷ []))) (x, (y, tt)) (vstruct (vcons u (vcons v vnil)) ∷ [])) (u ∷ [], (v ∷ [], tt)) $ done !
+
+-- `(&mut A, &mut B)`
+abbrev pub PairOf : RattleType → RattleType → Lft → RattleType
+PairOf A B κ = Tuple (MutRef (named 0) κ A ∷ MutRef (named 0) κ B ∷ [])
+
+abbrev pub pair_val : {A B : Type 0} → MutBor A × MutBor B → Val
+pair_val x = vstruct (vcons (vptr x.0.ref_ptr.0 x.0.ref_ptr.1) (vcons (vptr x.1.ref_ptr.0 x.1.ref_ptr.1) vnil))

@@ -1,0 +1,278 @@
+-- `get_mut` meets its contract, at any two item types: the struct stays open while its columns are lent, each to a
+-- call, and what they follow closes it; where the first has no item, both are given up and it closes unchanged. Assumes
+-- `Logic`.
+use mathlib.Core.Path.{◌≡◌, refl, sym, ap, subst, ◌∙◌}
+use native.Mathlib.Omega.{arith}
+use Prim.Native.Nat.{ℕ, ◌+◌, ◌<◌, ◌^◌}
+use mathlib.Core.List.{List, [], ◌∷◌}
+use lib.ListN.{length, length-set}
+use seplogic.Ra.Ura.{Ura}
+use base.Fraction.{full_share}
+use mir.Syntax.{Fn, Args, a_type, named, w64}
+use mir.MapTy.{inst_fn}
+use mir.Val.{Val, vint, vptr, vcons, vnil, of_list}
+use base.Share
+use base.Logic.{SProp, ent, sep, emp, id⊢, ex_e, snd∗}
+use base.Fml.{Lft, Share, ftrue, fsep, flft, fauth, fres}
+use prog.Memory.{Memory}
+use prog.Routine.{Routine}
+use prog.Wp.{Calls, Loops, WpFn, Tables}
+use types.Late.{ages, bor_new_deep}
+use types.Logic.{Logic, sem}
+use types.Mut.{open_ref}
+use types.Tokens.{name_new}
+use contract.BorrowLft.{◌⊑◌}
+use contract.Monad.{Fun, fact, fact_i}
+use contract.Running.{tables, tables_of}
+use sound.WpLaws.{FmC, fm_of, WpFn-mono}
+use types.Part.{whole, agg}
+use types.Kit.{learn, given, at_ret, rewrite, ‵, raw, ◌⊛◌, some, later, ◌$◌, ◌∵◌, !, qed, by, move, keep, use0, use1, use2, drop, split, split3, join, pick, fsplit3, fjoin, fjoin3, fpack, feq_i, feq_l, suffices, frame, await, group, done}
+use types.Run.{stop, fld, addr, lit, of_opd, and_then, no_more, first, exec, returns, enter}
+use types.ByLocal.{alloc_all, pass_all, free_all, look_at, get, get_in, get_tag, through, sets, sets_last, lands_as, env}
+use denote.Exit.{yes, no}
+use denote.RattleType.{RattleType, owns}
+use denote.Builtin.{usize}
+use denote.Follow.{follows, follows_if, follows_both, both_by}
+use denote.Memory.{mem, part_at}
+use denote.Param.{param, layout, layouts}
+use denote.Param.Laws.{Laws, param_laws}
+use denote.Plain.{uint_vals, uint_Tells, uint_Makes}
+use denote.Ref.{MutBor, MutRef, mut_vals, mut_Tells}
+use denote.Signature.{plain, types_at, mut_ref_to}
+use denote.Steps.{nothing, owned, heard, only}
+use denote.Triple.Call.{calls_at}
+use denote.Triple.Clauses.{Clauses, Ended, closing, ensured, lasts}
+use denote.Triple.Spec.{Meets, triple_of}
+use denote.Triple.Statement.{Contract, Triple}
+use denote.Triple.Table.{entered}
+use denote.Triple.Walked.{says, Stays, stay_dropped, walk_of, ends_at, walked, walk_Meets, Goes-dropped, Goes-spent_ref}
+use Rattle.std.specs.Prelude.{slice_index_or, slice_get}
+use Rattle.std.specs.declared.option.Option.TheVariants.{Some, None}
+use Rattle.std.specs.Vec.{with_item}
+use Rattle.starlark_vec2.specs.ColumnLending.{column}
+use Rattle.starlark_vec2.specs.Lending.{with_pair, lends_both_if}
+use Rattle.starlark_vec2.specs.PairList.{PairList, pair_list}
+use Rattle.starlark_vec2.proofs.BothClose.{closes_both, closes_unchanged}
+use Rattle.starlark_vec2.proofs.Pairs.{zip-set, slice_get-zip_some, slice_get-zip_none}
+use Rattle.starlark_vec2.proofs.Vec2Open.{V, D, Known, Rest, Cuts, eA, eB, cut, shut}
+use Rattle.starlark_vec2.specs.contracts.vec2.Vec2.get_mut as F
+use Rattle.starlark_vec2.specs.contracts.vec2.Vec2.get_mut.Key.{name as #self}
+use Rattle.starlark_vec2.specs.contracts.vec2.lends.lend_place as g
+use Rattle.starlark_vec2.proofs.vec2.lends.lend_place.Symbol.{name as #place}
+use Rattle.starlark_vec2.proofs.vec2.lends.lend_place.Met as place
+use Rattle.starlark_vec2.specs.contracts.vec2.lends.lend_place_if as h
+use Rattle.starlark_vec2.proofs.vec2.lends.lend_place_if.Symbol.{name as #place_if}
+use Rattle.starlark_vec2.proofs.vec2.lends.lend_place_if.Met as place_if
+use Rattle.starlark_vec2.proofs.LentInOption.{either, left_one, left_none, leaves_two, leaves_none, in_some_told, in_none, given_up, as_tuple, PairOf, pair_val}
+use Rattle.core.proofs.cell.Inside.{Good}
+use Rattle.core.proofs.option.Made.{Some-of, none_of}
+use Rattle.core.specs.contracts.option.Option as OP
+use Rattle.core.specs.Option.{ghost_name_of, option_copied_mut}
+use Rattle.std.proofs.VecSteps.Shapes.{after}
+use Rattle.std.specs.declared.option.Option.{Option}
+use mathlib.Core.Logic.{inl, inr}
+use native.Mathlib.Nat.{suc-ne-zero}
+use lib.Dec.{lit<}
+use prog.Wp.{Env}
+use types.Match.{live, vrt, in_variant, by_variants}
+use Rattle.starlark_vec2.proofs.vec2.Vec2.get_mut.Statement as stated
+use Rattle.starlark_vec2.proofs.vec2.Vec2.get_mut.Code as code
+
+module _ (A B : RattleType) where
+  abbrev args : Args
+  args = layouts (a_type ∷ a_type ∷ []) (A, (B, tt))
+
+  abbrev here : Fn
+  here = inst_fn args code.function
+
+  abbrev ended : Ended
+  ended = F.ended A B
+
+  abbrev A' : RattleType
+  A' = param 0 A
+
+  abbrev B' : RattleType
+  B' = param 1 B
+
+  abbrev W : RattleType
+  W = V A' B'
+
+  abbrev Out : Type 0
+  Out = Option (MutBor A.Denot × MutBor B.Denot)
+
+  abbrev stayed : Stays ended.signature.params ended.kept
+  stayed = (stay_dropped (mut_ref_to (0 ∷ []) tt (plain (λ _. W))) no, (stay_dropped (plain (λ _. usize)) yes, tt))
+
+  -- the struct with both items written
+  abbrev written : D A' B' → ℕ → A.Denot → B.Denot → D A' B'
+  written d i x y = record d { firsts = with_item d.firsts i x; seconds = with_item d.seconds i y }
+
+  written_known : (v : W.Denot) (d : D A' B') (i : ℕ) (x : A.Denot) (y : B.Denot) → Known A' B' v d → Known A' B' (with_pair v i (x, y)) (written d i x y)
+  written_known v d i x y k =
+      let lx = length-set d.firsts.items i x in let ly = length-set d.seconds.items i y in (
+        ap (λ ps. pair_list ps d.capacity) (zip-set d.firsts.items d.seconds.items i x y) ∙ ap (λ u. with_pair u i (x, y)) k.0,
+        record { even = lx ∙ k.1.even ∙ sym ly; within = omega (arith, lx, k.1.within); firsts_fit = k.1.firsts_fit; seconds_fit = k.1.seconds_fit },
+      )
+
+  module _ {M : Type 1} {𝓤 : Ura M} (𝓛 : Logic 𝓤) (at_mem : Memory → SProp 𝓤) (run : Routine → Fun 𝓤) where
+    open 𝓛 use {H, A as A₀}
+
+    abbrev spec : Clauses 𝓤 ended
+    spec = F.clauses A B 𝓛 at_mem run
+
+    abbrev Looks : Contract 𝓤
+    Looks = triple_of 𝓛 (h.signature A) (h.spec A 𝓛 at_mem run)
+
+    abbrev Lends : Contract 𝓤
+    Lends = triple_of 𝓛 (g.signature B) (g.spec B 𝓛 at_mem run)
+
+    module _ (LA : Laws A) (LB : Laws B) (C : Calls 𝓤 H) (Λ : Loops 𝓤 H) (fm : FmC 𝓤 H 𝓛.laws C)
+        (looks : Triple 𝓤 (C (#place_if (layouts (a_type ∷ []) (A, tt)))) Looks) (lends : Triple 𝓤 (C (#place (layouts (a_type ∷ []) (B, tt)))) Lends)
+        (κ κA κB : Lft) (q qA qB : Share) (bounds : (κ ⊑ κA) × ((κ ⊑ κB) × Unit {0})) (r : MutBor (PairList A.Denot B.Denot)) (i : ℕ) (fi : i < 2 ^ 64) where
+      abbrev bound : (walk_of 𝓛 ended stayed spec).Ghost
+      bound = (((κ, (κA, (κB, tt))), (q, (qA, (qB, tt))), bounds, (r, (i, tt)), (mut_vals r, (vint w64 i ∷ [], tt))), tt)
+
+      abbrev Post : Val → SProp 𝓤
+      Post = (walk_of 𝓛 ended stayed spec).post bound
+
+      -- both references, what self follows and the tokens are what the function leaves
+      gives_two : (x : MutBor A.Denot) (y : MutBor B.Denot) → slice_get r.now.pairs i ≡ Some (x.now, y.now)
+          → ent 𝓤 (sep 𝓤 (sem 𝓛 ((MutRef (named 0) κ A').own_val x (mut_vals x))) (sep 𝓤 (sem 𝓛 ((MutRef (named 0) κ B').own_val y (mut_vals y))) (sep 𝓤 (sem 𝓛 (follows_both W A' B' r.ghost_name x.ghost_name y.ghost_name (λ a b. with_pair r.now i (a, b))))
+          (sep 𝓤 (A₀.lft κ q) (sep 𝓤 (A₀.lft κA qA) (A₀.lft κB qB)))))) (Post (live 1 (of_list (pair_val (x, y) ∷ []))))
+      gives_two x y shown =
+          let both : Val = pair_val (x, y) in let out : Out = Some (x, y) in
+          qed 𝓛 (‵ ((MutRef (named 0) κ A').own_val x (mut_vals x)) ∷ ‵ ((MutRef (named 0) κ B').own_val y (mut_vals y)) ∷ ‵ (follows_both W A' B' r.ghost_name x.ghost_name y.ghost_name (λ a b. with_pair r.now i (a, b))) ∷ ‵ (flft κ q) ∷ ‵ (flft κA qA) ∷ ‵ (flft κB qB) ∷ []) ∵
+          use2 𝓛 (‵ ((PairOf A' B' κ).own_val (x, y) (both ∷ []))) (as_tuple 𝓛 (MutRef (named 0) κ A') (MutRef (named 0) κ B') x y (vptr x.ref_ptr.0 x.ref_ptr.1) (vptr y.ref_ptr.0 y.ref_ptr.1)) $
+          use1 𝓛 (‵ ((OP.the_row (PairOf A' B' κ)).own_val out (live 1 (of_list (both ∷ [])) ∷ []))) (Some-of 𝓛 (PairOf A' B' κ) (x, y) both) $
+          move ! (1 ∷ []) $ use1 𝓛 (‵ (lends_both_if A' B' r i out)) (leaves_two 𝓛 W A' B' r.ghost_name (λ a b. with_pair r.now i (a, b)) r.now x.ghost_name y.ghost_name) $ move ! (1 ∷ []) $
+          suffices ! _ (ends_at 𝓛 ended stayed spec bound (live 1 (of_list (both ∷ []))) out (tt, (tt, tt)) (tt, (tt, tt))) $
+          nothing ! $ nothing ! $ fjoin ! $ nothing ! $ fjoin ! $ join ! $ nothing ! $ move ! (5 ∷ 0 ∷ []) $ join ! $ move ! (4 ∷ 0 ∷ []) $ join ! $ move ! (3 ∷ 0 ∷ []) $ join ! $ join ! $ frame ! $
+          says ! (sym shown) $ done !
+
+      gives_none : slice_get r.now.pairs i ≡ None → ent 𝓤 (sep 𝓤 (A₀.lft κ q) (sep 𝓤 (A₀.res r.ghost_name (W.coded.code r.now)) (sep 𝓤 (A₀.lft κA qA) (A₀.lft κB qB)))) (Post (live 0 (of_list [])))
+      gives_none shown =
+          let out : Out = None in
+          qed 𝓛 (‵ (flft κ q) ∷ ‵ (fres r.ghost_name (W.coded.code r.now)) ∷ ‵ (flft κA qA) ∷ ‵ (flft κB qB) ∷ []) ∵
+          move ! (1 ∷ []) $ use1 𝓛 (‵ (lends_both_if A' B' r i out)) (leaves_none 𝓛 W A' B' r.ghost_name (λ a b. with_pair r.now i (a, b)) r.now) $
+          use0 𝓛 (‵ ((OP.the_row (PairOf A' B' κ)).own_val out (live 0 (of_list []) ∷ []))) (none_of 𝓛 (PairOf A' B' κ)) $
+          suffices ! _ (ends_at 𝓛 ended stayed spec bound (live 0 (of_list [])) out (tt, (tt, tt)) (tt, (tt, tt))) $
+          nothing ! $ nothing ! $ fjoin ! $ nothing ! $ fjoin ! $ join ! $ nothing ! $ move ! (5 ∷ 0 ∷ []) $ join ! $ move ! (4 ∷ 0 ∷ []) $ join ! $ move ! (3 ∷ 0 ∷ []) $ join ! $ join ! $ frame ! $
+          says ! (sym shown) $ done !
+
+      walk : ent 𝓤 ((walk_of 𝓛 ended stayed spec).pre bound) (WpFn 𝓤 H C Λ here (vptr r.ref_ptr.0 r.ref_ptr.1 ∷ vint w64 i ∷ []) Post)
+      unfolding both_by
+      walk =
+          let b = r.ref_ptr.0 in let o = r.ref_ptr.1 in let v = r.now in let γ = r.ghost_name in let CA = column A' in let CB = column B' in
+          let Seen : RattleType = OP.the_row (MutRef (named 0) κ A') in
+          qed 𝓛 (((‵ (flft κ q) ⊛ ‵ (flft κA qA) ⊛ ‵ (flft κB qB) ⊛ ‵ ftrue) ⊛ ‵ (owns (types_at ended.signature.params bound.0.0) bound.0.3 bound.0.4))
+          ∷ (raw (fact 𝓤 (κA ⊑ A.lives)) ⊛ raw (fact 𝓤 (κB ⊑ B.lives)) ⊛ ‵ ftrue) ∷ []) ∵
+          move ! (1 ∷ []) $ split3 ! $ heard ! (κA ⊑ A.lives) (λ la. heard ! (κB ⊑ B.lives) (λ lb. drop ! $
+          split ! $ split3 ! $ move ! (2 ∷ []) $ split ! $ move ! (4 ∷ []) $ fsplit3 ! $ keep ! (5 ∷ 6 ∷ 3 ∷ 0 ∷ []) $
+          enter ! C Λ here (vptr b o ∷ vint w64 i ∷ []) _ $
+          alloc_all ! (λ l. let En : Env 𝓤 H = env (here).locals l in pass_all ! refl ((tt, tt), ((tt, record { fits = fi }), tt)) $
+          sets ! (addr ! (through ! refl (fld ! refl (stop !)))) refl (tt, tt) $
+          -- half of κ's token opens the struct, and half goes into the calls
+          use1 𝓛 (‵ (flft κ (Share.left q)) ⊛ ‵ (flft κ (Share.right q))) (𝓛.lfts.lft_split κ q) $ split ! $
+          move ! (4 ∷ []) $ fsplit3 ! $ drop ! $ open_ref ! tt (mem W) {b = b} {o = o} $
+          use1 𝓛 (some (λ (d : (d : D A' B') × Known A' B' v d). raw (Cuts A' B' 𝓛 b o v d))) (cut A' B' 𝓛 b o (param_laws 0 A LA) (param_laws 1 B LB) v) $ pick ! (λ d'.
+          let d = d'.0 in let xs = d.firsts in let ys = d.seconds in
+          use1 𝓛 (‵ (part_at CA full_share xs b (o + eA A' B')) ⊛ ‵ (part_at CB full_share ys b (o + eB A' B')) ⊛ raw (Rest A' B' 𝓛 b o d)) (id⊢ 𝓤 _) $ split3 ! $
+          -- [the columns; the rest; the open borrow; obs; auth; half of κ's token; those of κA, κB]
+          name_new ! tt (CA.coded.code xs) (λ δ. move ! (2 ∷ 1 ∷ []) $ fjoin ! $ fpack ! CA.Denot (λ z. fsep ((mem CA).own_at z b (o + eA A' B')) (fauth δ (CA.coded.code z))) xs $
+          name_new ! tt (CB.coded.code ys) (λ δ'. move ! (4 ∷ 1 ∷ []) $ fjoin ! $ fpack ! CB.Denot (λ z. fsep ((mem CB).own_at z b (o + eB A' B')) (fauth δ' (CB.coded.code z))) ys $
+          move ! (5 ∷ []) $ ages ! (λ n. move ! (1 ∷ []) $ bor_new_deep ! tt n κ $ move ! (4 ∷ []) $ bor_new_deep ! tt n κ $
+          -- [the first borrow and its right; the second and its; the open borrow; obs δ'; obs δ; the rest; obs; auth;
+          -- the other half; the tokens of κA, κB]
+          let xr : MutBor CA.Denot = record { ref_ptr = (b, o + eA A' B'); ghost_name = δ; now = xs } in let yr : MutBor CB.Denot = record { ref_ptr = (b, o + eB A' B'); ghost_name = δ'; now = ys } in
+          let same : length xs.items ≡ length ys.items = d'.1.1.even in
+          move ! (6 ∷ 0 ∷ []) $ feq_i ! (List Val) (mut_vals xr) (mut_vals xr) refl $ fjoin3 ! $ move ! (5 ∷ 2 ∷ []) $ feq_i ! (List Val) (mut_vals yr) (mut_vals yr) refl $ fjoin3 ! $
+          nothing ! $ owned ! usize _ (uint_Makes 𝓛 w64) i _ (refl, fi) $ fjoin ! $ move ! (2 ∷ 0 ∷ []) $ fjoin ! $
+          nothing ! $ move ! (10 ∷ 0 ∷ []) $ join ! $ move ! (9 ∷ 0 ∷ []) $ join ! $ join ! $
+          nothing ! $ use0 𝓛 (raw (fact 𝓤 (κA ⊑ A.lives))) (fact_i 𝓤 _ (emp 𝓤) la) $ join ! $ move ! (1 ∷ 0 ∷ []) $ join ! $
+          let z1 : Looks.Ghost = (((κ, (κA, tt)), (Share.right q, (qA, tt)), (bounds.0, tt), (xr, (i, tt)), (mut_vals xr, (vint w64 i ∷ [], tt))), tt) in
+          use1 𝓛 (raw (Looks.pre z1)) (id⊢ 𝓤 _) $
+          calls_at ! fm Looks looks z1 (and_then ! (get ! refl) (and_then ! (get ! refl) (no_more !))) (λ u.
+          use1 𝓛 (later (some (λ (s : Option (MutBor A.Denot)). ((‵ (flft κ (Share.right q)) ⊛ ‵ (flft κA qA) ⊛ ‵ ftrue) ⊛ ‵ (Seen.own_val s (u ∷ []))) ⊛ raw (ensured 𝓛 (h.ended A) (h.clauses A 𝓛 at_mem run) z1.0.0 z1.0.3 tt s)))) (id⊢ 𝓤 _) $ await ! tt $ pick ! (λ s. split ! $ move ! (1 ∷ []) $
+          use1 𝓛 (‵ (follows_if CA A' δ (ghost_name_of s) (with_item xs i) xs) ⊛ raw (fact 𝓤 (slice_get xs.items i ≡ option_copied_mut s))) (ex_e 𝓤 _ (λ ws. snd∗ 𝓤 (sem 𝓛 (lasts (h.ended A) z1.0.0 z1.0.3 ws)) _)) $ split ! $
+          move ! (1 ∷ []) $ heard ! (slice_get xs.items i ≡ option_copied_mut s) (λ found. move ! (1 ∷ []) $ split ! $ split3 ! $ move ! (3 ∷ []) $ move ! (3 ∷ []) $ drop ! $
+          -- [what the call gave; half of κ's token; that of κA; what the first column follows; the second; the two
+          -- rights; the open borrow; the rest; obs; auth; the token of κB]
+          elim (either s) [
+            | inl w ↦
+                let x : MutBor A.Denot = w.0 in
+                let some_found = slice_get-zip_some xs.items ys.items i x.now same (found ∙ ap option_copied_mut w.1) in
+                rewrite ! 0 (λ (t : Option (MutBor A.Denot)). ‵ (Seen.own_val t (u ∷ []))) w.1 refl $ rewrite ! 3 (λ (t : Option (MutBor A.Denot)). ‵ (follows_if CA A' δ (ghost_name_of t) (with_item xs i) xs)) w.1 refl $
+                use1 𝓛 (given ((u ≡ live 1 (vcons (vptr x.ref_ptr.0 x.ref_ptr.1) vnil)) × Good (layout (MutRef (named 0) κ A')) (vptr x.ref_ptr.0 x.ref_ptr.1)) (‵ ((MutRef (named 0) κ A').own_val x (mut_vals x))))
+                (in_some_told 𝓛 (MutRef (named 0) κ A') u x (vptr x.ref_ptr.0 x.ref_ptr.1) (λ vs is. (mut_Tells (named 0) κ A' x vs is, (tt, tt)))) $ learn ! (λ at_u.
+                move ! (3 ∷ []) $ use1 𝓛 (‵ (follows CA A' δ x.ghost_name (with_item xs i))) (left_one 𝓛 CA A' A' δ (with_item xs i) xs x.ghost_name) $ move ! (1 ∷ 2 ∷ 3 ∷ 0 ∷ []) $
+                lands_as ! at_u.0 refl (tt, (record { fits = lit< tt }, (tt, tt))) $
+                first ! $ by_variants ! 24 (whole !) (get_tag ! (vrt ! refl (fld ! refl (stop !))) (whole !)) tt (
+                  (λ _. sets ! (of_opd ! (get_in ! (vrt ! refl (fld ! refl (stop !))) (in_variant ! 1 0 refl refl (whole !)))) refl (tt, tt) $
+                      sets ! (addr ! (through ! refl (stop !))) refl (tt, tt) $ sets ! (addr ! (through ! refl (fld ! refl (stop !)))) refl (tt, tt) $
+                      let z2 : Lends.Ghost = (((κ, (κB, tt)), (Share.right q, (qB, tt)), (bounds.1.0, tt), (yr, (i, tt)), (mut_vals yr, (vint w64 i ∷ [], tt))), tt) in
+                      nothing ! $ owned ! usize _ (uint_Makes 𝓛 w64) i _ (refl, fi) $ fjoin ! $ move ! (5 ∷ 0 ∷ []) $ fjoin ! $
+                      nothing ! $ move ! (12 ∷ 0 ∷ []) $ join ! $ move ! (3 ∷ 0 ∷ []) $ join ! $ join ! $
+                      use0 𝓛 (raw (fact 𝓤 (i < length ys.items))) (fact_i 𝓤 _ (emp 𝓤) some_found.0) $ use0 𝓛 (raw (fact 𝓤 (κB ⊑ B.lives))) (fact_i 𝓤 _ (emp 𝓤) lb) $ join ! $ move ! (1 ∷ 0 ∷ []) $ join ! $
+                      use1 𝓛 (raw (Lends.pre z2)) (id⊢ 𝓤 _) $
+                      calls_at ! fm Lends lends z2 (and_then ! (get ! refl) (and_then ! (get ! refl) (no_more !))) (λ t.
+                      use1 𝓛 (later (some (λ (y : MutBor B.Denot). ((‵ (flft κ (Share.right q)) ⊛ ‵ (flft κB qB) ⊛ ‵ ftrue) ⊛ ‵ ((MutRef (named 0) κ B').own_val y (t ∷ []))) ⊛ raw (ensured 𝓛 (g.ended B) (g.clauses B 𝓛 at_mem run) z2.0.0 z2.0.3 tt y)))) (id⊢ 𝓤 _) $ await ! tt $ pick ! (λ y. split ! $ move ! (1 ∷ []) $
+                      use1 𝓛 (‵ (follows CB B' δ' y.ghost_name (with_item ys i)) ⊛ raw (fact 𝓤 (y.now ≡ slice_index_or ys.items i y.now))) (ex_e 𝓤 _ (λ ws. snd∗ 𝓤 (sem 𝓛 (lasts (g.ended B) z2.0.0 z2.0.3 ws)) _)) $ split ! $
+                      move ! (1 ∷ []) $ heard ! (y.now ≡ slice_index_or ys.items i y.now) (λ yval. move ! (1 ∷ []) $ split ! $ split3 ! $ move ! (3 ∷ []) $
+                      fsplit3 ! $ feq_l ! (λ at_t. lands_as ! (ap only at_t) refl (tt, tt) $ feq_i ! (List Val) (mut_vals y) (mut_vals y) refl $ fjoin3 ! $
+                      sets ! (agg ! (and_then ! (get ! refl) (and_then ! (get ! refl) (no_more !)))) refl (tt, (tt, (tt, tt))) $
+                      sets_last ! (agg ! (and_then ! (lit ! tt) (and_then ! (get ! refl) (no_more !)))) refl (tt, (record { fits = lit< tt }, ((tt, (tt, tt)), tt))) $
+                      exec ! C Λ En (after 3 (here).body) (at_ret En Post) $
+                      -- [the second reference; half of κ's token; that of κB; nothing; what the second column follows;
+                      -- the first reference; the token of κA; what the first follows; the two rights; the open borrow;
+                      -- the rest; obs; auth]
+                      move ! (10 ∷ 12 ∷ 13 ∷ 8 ∷ 9 ∷ 7 ∷ 4 ∷ 11 ∷ []) $ group ! 8 $
+                      use1 𝓛 (later (‵ (flft κ (Share.left q)) ⊛ ‵ (follows_both W A' B' γ x.ghost_name y.ghost_name (λ a a'. with_pair v i (a, a')))))
+                      (closes_both 𝓛 (mem W) (mem CA) (mem CB) (mem A') (mem B') (with_item xs i) (with_item ys i) (λ a a'. with_pair v i (a, a')) κ (Share.left q) b o b (o + eA A' B') b (o + eB A' B') γ δ δ' x.ghost_name y.ghost_name
+                      (Rest A' B' 𝓛 b o d) (λ a a'. shut A' B' 𝓛 b o (with_pair v i (a, a')) (written d i a a') (written_known v d i a a' d'.1)) n (W.coded.code v) (W.coded.code v)) $ await ! tt $ split ! $
+                      move ! (0 ∷ 3 ∷ []) $ use2 𝓛 (‵ (flft κ q)) (𝓛.lfts.lft_join κ q) $
+                      sets ! (of_opd ! (get ! refl)) refl (tt, (record { fits = lit< tt }, ((tt, (tt, tt)), tt))) $
+                      returns ! (look_at ! 0 refl) $ free_all ! refl $ keep ! (5 ∷ 2 ∷ 1 ∷ 0 ∷ 6 ∷ 3 ∷ []) $
+                      by ! (gives_two x y (subst (λ (m : PairList A.Denot B.Denot). slice_get m.pairs i ≡ Some (x.now, y.now)) d'.1.0 (some_found.1 y.now yval)))))))),
+                  ((λ e. absurd (suc-ne-zero 0 e)), tt),
+                ))
+            | inr w ↦
+                rewrite ! 0 (λ (t : Option (MutBor A.Denot)). ‵ (Seen.own_val t (u ∷ []))) w refl $ rewrite ! 3 (λ (t : Option (MutBor A.Denot)). ‵ (follows_if CA A' δ (ghost_name_of t) (with_item xs i) xs)) w refl $
+                use1 𝓛 (raw (fact 𝓤 (u ≡ live 0 vnil))) (in_none 𝓛 (MutRef (named 0) κ A') u) $ heard ! (u ≡ live 0 vnil) (λ at_u.
+                move ! (2 ∷ []) $ use1 𝓛 (‵ (fres δ (CA.coded.code xs))) (left_none 𝓛 CA A' A' δ (with_item xs i) xs) $
+                move ! (3 ∷ []) $ use1 𝓛 (later (‵ (fres δ' (CB.coded.code ys)))) (given_up 𝓛 CB (named 0) κ yr) $ await ! tt $
+                -- [what the second column ends as; what the first does; half of κ's token; that of κA; the two rights;
+                -- the open borrow; the rest; obs; auth; the token of κB]
+                move ! (6 ∷ 8 ∷ 9 ∷ 4 ∷ 5 ∷ 1 ∷ 0 ∷ 7 ∷ []) $ group ! 8 $
+                use1 𝓛 (later (‵ (flft κ (Share.left q)) ⊛ ‵ (fres γ (W.coded.code v))))
+                (closes_unchanged 𝓛 W CA CB κ (Share.left q) b o b (o + eA A' B') b (o + eB A' B') γ δ δ' v xs ys (Rest A' B' 𝓛 b o d) (shut A' B' 𝓛 b o v d d'.1) n (W.coded.code v) (W.coded.code v)) $ await ! tt $ split ! $
+                move ! (0 ∷ 2 ∷ []) $ use2 𝓛 (‵ (flft κ q)) (𝓛.lfts.lft_join κ q) $
+                -- [the token of κ; what self ends as; the tokens of κA, κB]
+                lands_as ! at_u refl (tt, (record { fits = lit< tt }, tt)) $
+                first ! $ by_variants ! 16 (whole !) (get_tag ! (vrt ! refl (fld ! refl (stop !))) (whole !)) tt (
+                  (λ e. absurd (suc-ne-zero 0 (sym e))),
+                  (
+                    (λ _. sets_last ! (agg ! (and_then ! (lit ! tt) (no_more !))) refl (tt, (record { fits = lit< tt }, tt)) $
+                        exec ! C Λ En (after 3 (here).body) (at_ret En Post) $ sets ! (of_opd ! (get ! refl)) refl (tt, (record { fits = lit< tt }, tt)) $
+                        returns ! (look_at ! 0 refl) $ free_all ! refl $
+                        by ! (gives_none (subst (λ (m : PairList A.Denot B.Denot). slice_get m.pairs i ≡ None) d'.1.0 (slice_get-zip_none xs.items ys.items i (found ∙ ap option_copied_mut w))))),
+                    tt,
+                  ),
+                ))
+          ]))))))))))
+
+meets : (A B : RattleType) → Laws A → Laws B → {M : Type 1} {𝓤 : Ura M} (𝓛 : Logic 𝓤) (at_mem : Memory → SProp 𝓤) (run : Routine → Fun 𝓤) (𝓣 : Tables 𝓤 𝓛.H)
+    → Triple 𝓤 (𝓣.C (#place_if (layouts (a_type ∷ []) (A, tt)))) (Looks A B 𝓛 at_mem run) → Triple 𝓤 (𝓣.C (#place (layouts (a_type ∷ []) (B, tt)))) (Lends A B 𝓛 at_mem run)
+    → Meets 𝓛 (ended A B).signature (WpFn 𝓤 𝓛.H 𝓣.C 𝓣.Λ (here A B)) (closing 𝓛 (ended A B) (spec A B 𝓛 at_mem run))
+meets A B LA LB {𝓤 = 𝓤} 𝓛 at_mem run 𝓣 looks lends =
+    walk_Meets 𝓛 (ended A B) (stayed A B) (Goes-spent_ref 𝓛 3 (0 ∷ []) tt (plain (λ _. W A B)), (Goes-dropped 𝓛 3 (plain (λ _. usize)) yes (λ κs x f. refl), tt))
+    (spec A B 𝓛 at_mem run) (WpFn 𝓤 𝓛.H 𝓣.C 𝓣.Λ (here A B)) (WpFn-mono 𝓤 𝓛.H 𝓛.laws 𝓣 (here A B))
+    (walked 𝓛 (ended A B) (stayed A B) (spec A B 𝓛 at_mem run) (WpFn 𝓤 𝓛.H 𝓣.C 𝓣.Λ (here A B)) (λ κs. (mut_vals, (uint_vals w64, tt)))
+    (λ κs. (mut_Tells (named 0) κs.0 (W A B), (uint_Tells w64, tt)))
+    (λ κs qs bounds a g' are. walk A B 𝓛 at_mem run LA LB 𝓣.C 𝓣.Λ (fm_of 𝓤 𝓛.H 𝓛.laws 𝓣) looks lends κs.0 κs.1.0 κs.1.1.0 qs.0 qs.1.0 qs.1.1.0 bounds a.0 a.1.0 are.1.0.1))
+
+pub get_mut_spec : {M : Type 1} → stated.statement M
+unfolding tables_of
+get_mut_spec 𝓤 𝓛 𝓜 𝓡 wired A B LA LB =
+    let 𝓣 : Tables 𝓤 𝓛.H = tables_of 𝓤 𝓛.H 𝓜 (tables 𝓤 𝓛.H 𝓜 𝓡 𝓡.env) in
+    entered 𝓤 𝓛.H (triple_of 𝓛 (F.signature A B) (F.spec A B 𝓛 𝓜.mem 𝓡.returns)) 𝓣.C 𝓣.Λ (#self (args A B)) (here A B) (code.unfolded 𝓤 𝓛.H 𝓜 𝓡 wired (A, (B, tt)))
+    (meets A B LA LB 𝓛 𝓜.mem 𝓡.returns 𝓣 (place_if.met 𝓤 𝓛 𝓜 𝓡 (code.calls-starlark_vec2::vec2::lends::lend_place_if 𝓡.env wired) A LA) (place.met 𝓤 𝓛 𝓜 𝓡 (code.calls-starlark_vec2::vec2::lends::lend_place 𝓡.env wired) B LB))
