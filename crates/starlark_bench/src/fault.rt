@@ -3,8 +3,7 @@
 use starlark_hash::NoRoom;
 use std::alloc::{AllocError, AllocFailed};
 use std::error::Error;
-use std::fmt;
-use std::io;
+use std::{fmt, io};
 
 /// Why a benchmark stops.
 #[derive(Clone, Copy, Debug, PartialEq, Eq)]
@@ -49,7 +48,10 @@ impl fmt::Display for Fault {
             Fault::Memory => write!(f, "out of memory"),
             Fault::Io => write!(f, "the clock, the arguments or the output failed"),
             Fault::Checksum => write!(f, "two passes gave different checksums"),
-            Fault::Words => write!(f, "script wants SPACE, PUT and GET, three numbers, SPACE above 0"),
+            Fault::Words => write!(
+                f,
+                "script wants SPACE, PUT and GET, three numbers, SPACE above 0"
+            ),
         }
     }
 }

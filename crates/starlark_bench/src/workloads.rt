@@ -1,8 +1,8 @@
 //! The workloads on `SmallMap`. Each does one pass; its checksum is the same on any map in order of insertion.
 
 use crate::fault::Fault;
-use crate::keys::{places, Key};
-use crate::pass::{mix, Pass};
+use crate::keys::{Key, places};
+use crate::pass::{Pass, mix};
 use starlark_hash::Hashed;
 use starlark_small::SmallMap;
 use std::alloc::Global;
@@ -23,7 +23,12 @@ fn fill<K: Key>(map: &mut SmallMap<K, K>, block: &[K], first: u64) -> Result<(),
 }
 
 // Maps of `n` keys each, the first of the first `n` keys, and so on.
-fn prepared<K: Key>(alloc: Global, keys: &[K], n: usize, count: usize) -> Result<Vec<SmallMap<K, K>>, Fault> {
+fn prepared<K: Key>(
+    alloc: Global,
+    keys: &[K],
+    n: usize,
+    count: usize,
+) -> Result<Vec<SmallMap<K, K>>, Fault> {
     let mut maps = Vec::with_capacity(alloc, count)?;
     let mut first = 0_u64;
     for block in keys.chunks(n.max(1)).take(count) {
@@ -35,13 +40,40 @@ fn prepared<K: Key>(alloc: Global, keys: &[K], n: usize, count: usize) -> Result
     Ok(maps)
 }
 
+/// How a map begins that is built.
+#[derive(Clone, Copy, Debug, PartialEq, Eq)]
+pub enum Begin {
+    /// By `new`.
+    New,
+    /// By `with_capacity`, for all its keys.
+    Capacity,
+    /// By `new` and `reserve`, for all its keys.
+    Reserve,
+}
+
+impl Begin {
+    // An empty map.
+    #[inline]
+    fn map<K: Key>(self, alloc: Global, n: usize) -> Result<SmallMap<K, K>, Fault> {
+        match self {
+            Begin::New => Ok(SmallMap::new(alloc)),
+            Begin::Capacity => Ok(SmallMap::with_capacity(alloc, n)?),
+            Begin::Reserve => {
+                let mut map = SmallMap::new(alloc);
+                map.reserve(n)?;
+                Ok(map)
+            }
+        }
+    }
+}
+
 /// Builds maps of `n` keys, a million keys in all.
-pub fn build<K: Key>(rt: &HostRuntime, keys: &[K], n: usize) -> Result<Pass, Fault> {
+pub fn build<K: Key>(rt: &HostRuntime, begin: Begin, keys: &[K], n: usize) -> Result<Pass, Fault> {
     let start = Instant::now(rt)?;
     let mut checksum = 0;
     let mut first = 0_u64;
     for block in keys.chunks(n.max(1)).take(MILLION / n.max(1)) {
-        let mut map = SmallMap::new(rt.alloc());
+        let mut map = begin.map(rt.alloc(), n)?;
         fill(&mut map, block, first)?;
         let last = map.last().map_or(0, |(_, value)| value.number());
         checksum = mix(checksum, (map.len() as u64).wrapping_add(last));
