@@ -5,7 +5,6 @@ ghost use Rattle.starlark_hash.specs.Search.{CanSearch, Searches, keys_under};
 ghost use Rattle.starlark_hash.specs.Sorting.{Ascends, sorted_by_key};
 ghost use Rattle.starlark_small.specs.Index.{IsIndexed, IsSound, index_room, map_of, room_of, unindexed};
 ghost use Rattle.starlark_small.specs.Map.{GrowsFor, KeepsMemory, KeepsRoom, query_match};
-ghost use Rattle.starlark_table.specs.Table.{members};
 ghost use Rattle.starlark_vecmap.specs.EntryList.{entry_list, with_entries};
 
 mod growth;
