@@ -114,7 +114,7 @@ pub fn checksums(rt: &HostRuntime) -> Result<(), Fault> {
 }
 
 fn checksums_of<K: Key>(rt: &HostRuntime) -> Result<(), Fault> {
-    let keys = stream::<K>(rt.alloc(), MILLION)?;
+    let keys = stream::<K>(rt.alloc(), 2 * MILLION)?;
     let key = K::name();
     for (workload, n) in FEW {
         let pass = workload.pass(rt, &keys, n)?;
