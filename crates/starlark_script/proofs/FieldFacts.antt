@@ -11,7 +11,7 @@ use Rattle.std.proofs.lemmas.Str.Ascii.{IsAscii-nil, IsAscii-cons, IsAscii-from_
 use Rattle.std.proofs.lemmas.Fmt.{IsAscii-decimal, IsAscii-signed}
 use Rattle.std.proofs.lemmas.Bool.Decides.{nat_tests}
 use Rattle.starlark_hash.specs.HashValue.{hash_number, hash_of, key_of}
-use Rattle.starlark_script.specs.Commands.{Key, Command, Put, Get, Del, At, Pop, Rev, Sort, Clear, Len, Walk, fields_of, fields, hash_text, IsKey, IsLawful, IsLineOf, IsBad}
+use Rattle.starlark_script.specs.Commands.{Key, Command, Put, Get, Del, At, Pop, Rev, Sort, Clear, Reserve, Slim, Len, Walk, fields_of, fields, hash_text, IsKey, IsLawful, IsLineOf, IsBad}
 use Rattle.starlark_script.proofs.Numbers.{fits-mag}
 
 no-space : (b : ℕ) → b ≢ 32 → (b == 32) ≡ false
@@ -77,6 +77,8 @@ fields-ascii Pop l = (word (codes "pop") refl, tt)
 fields-ascii Rev l = (word (codes "rev") refl, tt)
 fields-ascii Sort l = (word (codes "sort") refl, tt)
 fields-ascii Clear l = (word (codes "clear") refl, tt)
+fields-ascii (Reserve n) l = (word (codes "reserve") refl, (IsAscii-decimal n (omega arith), tt))
+fields-ascii Slim l = (word (codes "slim") refl, tt)
 fields-ascii Len l = (word (codes "len") refl, tt)
 fields-ascii Walk l = (word (codes "walk") refl, tt)
 

@@ -7,7 +7,7 @@ use Rattle.std.specs.Str.{bytes_eq}
 use Rattle.std.proofs.lemmas.Bool.{false≢true}
 use Rattle.std.proofs.lemmas.Fmt.{decimal_injective, signed_decimal_injective}
 use Rattle.starlark_hash.specs.HashValue.{hash_number, hash_of, key_of}
-use Rattle.starlark_script.specs.Commands.{Key, Command, Put, Get, Del, At, Pop, Rev, Sort, Clear, Len, Walk, fields, hash_text, IsKey, IsLawful, LinesAreOfOne}
+use Rattle.starlark_script.specs.Commands.{Key, Command, Put, Get, Del, At, Pop, Rev, Sort, Clear, Reserve, Slim, Len, Walk, fields, hash_text, IsKey, IsLawful, LinesAreOfOne}
 use Rattle.starlark_script.proofs.Numbers.{fits-mag}
 
 one-key : (j k : Key) → IsKey j → IsKey k → hash_text j ≡ hash_text k → key_of j ≡ key_of k → j ≡ k
@@ -43,6 +43,10 @@ one Pop Pop p q e = refl
 one Rev Rev p q e = refl
 one Sort Sort p q e = refl
 one Clear Clear p q e = refl
+one (Reserve m) (Reserve n) p q e =
+    let a : decimal m ≡ decimal n = cc in
+    ap Reserve (decimal_injective m n (omega arith) (omega arith) a)
+one Slim Slim p q e = refl
 one Len Len p q e = refl
 one Walk Walk p q e = refl
 one c d p q e = absurd (false≢true (same-word c d e))

@@ -19,6 +19,8 @@ pub data Command : Type 0 where
   Rev : Command
   Sort : Command
   Clear : Command
+  Reserve : (additional : ℕ) → Command
+  Slim : Command
   Len : Command
   Walk : Command
 
@@ -40,6 +42,8 @@ fields Pop = codes "pop" ∷ []
 fields Rev = codes "rev" ∷ []
 fields Sort = codes "sort" ∷ []
 fields Clear = codes "clear" ∷ []
+fields (Reserve additional) = codes "reserve" ∷ decimal additional ∷ []
+fields Slim = codes "slim" ∷ []
 fields Len = codes "len" ∷ []
 fields Walk = codes "walk" ∷ []
 
@@ -59,6 +63,8 @@ IsLawful Pop = Unit {0}
 IsLawful Rev = Unit {0}
 IsLawful Sort = Unit {0}
 IsLawful Clear = Unit {0}
+IsLawful (Reserve additional) = additional ≤ 1000000
+IsLawful Slim = Unit {0}
 IsLawful Len = Unit {0}
 IsLawful Walk = Unit {0}
 

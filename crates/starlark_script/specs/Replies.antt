@@ -1,5 +1,5 @@
 -- What is answered to the commands of a script.
-use Rattle.std.specs.Prelude.{ℕ, ◌-◌, ℤ, List, [], ◌∷◌, ◌++◌, length, remove, reverse, slice_get, Option, Some, None, codes, decimal, flat_map}
+use Rattle.std.specs.Prelude.{ℕ, ◌-◌, ◌<◌, ℤ, List, [], ◌∷◌, ◌++◌, length, remove, reverse, slice_get, Option, Some, None, codes, decimal, flat_map}
 use Rattle.std.specs.Cmp.Lexicographic.{slice_cmp}
 use Rattle.std.specs.Fmt.{signed_decimal}
 use Rattle.std.specs.Option.{option_map}
@@ -8,7 +8,7 @@ use Rattle.std.specs.Str.{bytes_eq}
 use Rattle.std.specs.declared.cmp.Ordering.{Ordering}
 use Rattle.starlark_hash.specs.Entries.{Entry, entry_key, entry_value, pair_of, value_at, match_of, insert_entry, without}
 use Rattle.starlark_hash.specs.Sorting.{Ascends, sorted_by_key}
-use Rattle.starlark_script.specs.Commands.{Command, Put, Get, Del, At, Pop, Rev, Sort, Clear, Len, Walk, hash_text}
+use Rattle.starlark_script.specs.Commands.{Command, Put, Get, Del, At, Pop, Rev, Sort, Clear, Reserve, Slim, Len, Walk, hash_text}
 
 -- the entries of a map in order, their keys as bytes
 abbrev pub Entries : Type 0
@@ -44,6 +44,8 @@ reply es Pop = pair_text (option_map pair_of (slice_get es (length es - 1)))
 reply es Rev = ended (codes "ok")
 reply es Sort = ended (codes "ok")
 reply es Clear = ended (codes "ok")
+reply es (Reserve additional) = ended (codes "ok")
+reply es Slim = ended (codes "ok")
 reply es Len = ended (decimal (length es))
 reply es Walk = flat_map entry_text es
 
@@ -57,13 +59,17 @@ after es Pop = remove es (length es - 1)
 after es Rev = reverse es
 after es Sort = sorted_by_key bytes_cmp es
 after es Clear = []
+after es (Reserve additional) = es
+after es Slim = es
 after es Len = es
 after es Walk = es
 
--- the commands for which memory may be asked at these entries: an insertion, and a sort where the keys do not ascend
+-- the commands for which memory may be asked at these entries: an insertion, a sort where the keys do not ascend, and
+-- a reservation of some room
 abbrev pub MayNeedMemory : Entries → Command → Type 0
 MayNeedMemory es (Put key value) = Unit {0}
 MayNeedMemory es Sort = ¬ (Ascends bytes_cmp es)
+MayNeedMemory es (Reserve additional) = 0 < additional
 MayNeedMemory es command = ⊥
 
 -- the entries after commands in turn

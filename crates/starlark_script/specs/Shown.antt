@@ -5,7 +5,7 @@ use Rattle.starlark_hash.specs.declared.text_key.TextKey.{TextKey}
 use Rattle.starlark_hash.specs.HashValue.{hashed, hash_of, key_of}
 use Rattle.starlark_script.specs.Commands as script
 use Rattle.starlark_script.specs.declared.command.Command.{Command}
-use Rattle.starlark_script.specs.declared.command.Command.TheVariants.{Put, Get, Del, At, Pop, Rev, Sort, Clear, Len, Walk}
+use Rattle.starlark_script.specs.declared.command.Command.TheVariants.{Put, Get, Del, At, Pop, Rev, Sort, Clear, Reserve, Slim, Len, Walk}
 use Rattle.starlark_script.specs.declared.command.Fields.{Fields}
 use Rattle.starlark_script.specs.declared.command.Fields.TheVariants.{One, Two, Three, Four, More}
 
@@ -22,6 +22,8 @@ shown Pop = script.Pop
 shown Rev = script.Rev
 shown Sort = script.Sort
 shown Clear = script.Clear
+shown (Reserve additional) = script.Reserve additional
+shown Slim = script.Slim
 shown Len = script.Len
 shown Walk = script.Walk
 

@@ -1,5 +1,5 @@
 //! What each command does to the map, and what is replied.
-ghost use Rattle.std.specs.Prelude.{◌≡◌, ◌≢◌, ℕ, ◌-◌, [], length, remove, reverse, slice_get, IfOk, OnOk, IfErr, OnErr, Some, codes, decimal, flat_map};
+ghost use Rattle.std.specs.Prelude.{◌≡◌, ◌≢◌, ℕ, ◌-◌, ◌<◌, ◌≤◌, false, nat_le, if◌then◌else◌, [], length, remove, reverse, slice_get, IfOk, OnOk, IfErr, OnErr, Some, codes, decimal, flat_map};
 ghost use Rattle.std.specs.Io.KnownBytes.{Keeps, Appends};
 ghost use Rattle.std.specs.Option.{option_map};
 ghost use Rattle.std.specs.Str.{bytes_eq};
@@ -8,6 +8,7 @@ ghost use Rattle.starlark_hash.specs.Sorting.{Ascends, sorted_by_key};
 ghost use Rattle.starlark_script.specs.Replies.{MayNeedMemory, bytes_cmp, ended, value_text, pair_text, entry_text, reply, after};
 ghost use Rattle.starlark_script.specs.Shown.{shown, shown_key};
 ghost use Rattle.starlark_script.specs.ShownEntries.{entries_of};
+ghost use Rattle.starlark_small.specs.Index.{unindexed};
 
 use crate::command::Command;
 use crate::fault::PlayFault;
@@ -53,6 +54,14 @@ pub fn answer<W: Write>(
         }
         Command::Clear => {
             clear(map);
+            write_ok(writer)
+        }
+        Command::Reserve(additional) => {
+            reserve(map, additional)?;
+            write_ok(writer)
+        }
+        Command::Slim => {
+            slim(map);
             write_ok(writer)
         }
         Command::Len => write_count(writer, map.len()),
@@ -117,6 +126,28 @@ fn clear(map: &mut SmallMap<String, i64>)
     ensures { entries_of map.new.entries ≡ [] }
 {
     map.clear();
+}
+
+// Makes room for so many new entries.
+fn reserve(map: &mut SmallMap<String, i64>, additional: usize) -> Result<(), PlayFault>
+    ensures entries { entries_of map.new.entries ≡ entries_of map.old.entries }
+    ensures room { OnOk result (additional ≤ map.new.room) }
+    ensures err { IfErr result (λ fault. fault ≡ PlayFault.Memory) }
+    ensures needed { OnErr result (0 < additional) }
+{
+    if map.reserve(additional).is_err() {
+        Err(PlayFault::Memory)
+    } else {
+        Ok(())
+    }
+}
+
+// Drops the index where the map is short enough to do without.
+fn slim(map: &mut SmallMap<String, i64>)
+    ensures entries { entries_of map.new.entries ≡ entries_of map.old.entries }
+    ensures indexed { map.new.indexed ≡ (if nat_le (length map.old.entries) unindexed then false else map.old.indexed) }
+{
+    map.maybe_drop_index();
 }
 
 // Writes the key and the value at a place.

@@ -10,7 +10,7 @@ use starlark_hash::text_key::TextKey;
 use starlark_hash::{Hashed, StarlarkHashValue};
 use std::str;
 
-// The largest place that a line names.
+// The largest place, and the most room, that a line names.
 const MOST: usize = 1_000_000;
 
 /// What a line asks for.
@@ -32,6 +32,10 @@ pub enum Command<'a> {
     Sort,
     /// Remove each entry.
     Clear,
+    /// Make room for so many new entries.
+    Reserve(usize),
+    /// Drop the index where the map is short enough to do without.
+    Slim,
     /// Count the entries.
     Len,
     /// Show the entries in order.
@@ -68,9 +72,11 @@ fn command_of(line: &str) -> Option<Command<'_>>
         Fields::One("rev") => Some(Command::Rev),
         Fields::One("sort") => Some(Command::Sort),
         Fields::One("clear") => Some(Command::Clear),
+        Fields::One("slim") => Some(Command::Slim),
         Fields::One("len") => Some(Command::Len),
         Fields::One("walk") => Some(Command::Walk),
         Fields::Two("at", place) => Some(Command::At(count_in(place)?)),
+        Fields::Two("reserve", additional) => Some(Command::Reserve(count_in(additional)?)),
         Fields::Three("get", hash, key) => Some(Command::Get(key_under(hash, key)?)),
         Fields::Three("del", hash, key) => Some(Command::Del(key_under(hash, key)?)),
         Fields::Four("put", hash, key, value) => {

@@ -148,6 +148,10 @@ fn good_scripts(rt: HostRuntime) -> Result<(), Fail> {
             "put 1 a 1\nput 2 b 2\nput 3 c 3\ndel 1 a\nwalk\nclear\nlen\nat 1000000\nput 1 c 3\nat 0\n",
             "none\nnone\nnone\nsome 1\n2 b 2\n3 c 3\nok\n0\nnone\nnone\nsome c 3\n",
         ),
+        (
+            "slim\nreserve 0\nreserve 5\nlen\nput 1 a 1\nreserve 5\nslim\nreserve 40\nput 2 b 2\nget 2 b\nslim\nwalk\n",
+            "ok\nok\nok\n0\nnone\nok\nok\nok\nnone\nsome 2\nok\n1 a 1\n2 b 2\n",
+        ),
     ];
     for (script, replies) in scripts {
         check(&rt, script, replies, Ok(()))?;
@@ -184,6 +188,14 @@ fn bad_lines(rt: HostRuntime) -> Result<(), Fail> {
         "rev \n",
         "Sort\n",
         " clear\n",
+        "reserve\n",
+        "reserve 1000001\n",
+        "reserve 01\n",
+        "reserve -1\n",
+        "reserve 5 5\n",
+        "reserve 1 a 1\n",
+        "slim 1\n",
+        "Slim\n",
     ];
     for line in lines {
         check(&rt, line, "", Err(PlayFault::BadLine(1)))?;
@@ -195,6 +207,42 @@ fn bad_lines(rt: HostRuntime) -> Result<(), Fail> {
         Err(PlayFault::BadLine(2)),
     )?;
     check(&rt, "len\n\n", "0\n", Err(PlayFault::BadLine(2)))
+}
+
+// So many lines that put new keys under hashes from 0 on, and then these lines, with their replies.
+fn check_after_puts(
+    rt: &(impl Abort + AllocGlobal),
+    count: usize,
+    lines: &str,
+    more: &str,
+) -> Result<(), Fail> {
+    let mut script = String::new(rt.alloc());
+    let mut replies = String::new(rt.alloc());
+    for i in 0..count {
+        let line = format!(in rt.alloc(); "put {i} k {i}\n")?;
+        script.push_str(line.as_str())?;
+        replies.push_str("none\n")?;
+    }
+    script.push_str(lines)?;
+    replies.push_str(more)?;
+    check(rt, script.as_str(), replies.as_str(), Ok(()))
+}
+
+// At 33 entries the map has an index, which a line drops at 32.
+#[test]
+fn many_entries(rt: HostRuntime) -> Result<(), Fail> {
+    check_after_puts(
+        &rt,
+        40,
+        "slim\nreserve 5\nget 39 k\nget 40 k\nput 39 k 5\nget 39 k\nslim\nlen\n",
+        "ok\nok\nsome 39\nnone\nsome 39\nsome 5\nok\n40\n",
+    )?;
+    check_after_puts(
+        &rt,
+        33,
+        "del 3 k\nslim\nget 32 k\nget 3 k\nput 33 k 33\nget 33 k\nreserve 1000\nget 0 k\nlen\n",
+        "some 3\nok\nsome 32\nnone\nnone\nsome 33\nok\nsome 0\n33\n",
+    )
 }
 
 // A line `put 1 KEY 1` with a key of so many bytes.
@@ -296,6 +344,16 @@ fn refused_memory(rt: HostRuntime) -> Result<(), Fail> {
         get 1 a\nat 1\ndel 2 b\npop\nwalk\nclear\nput 6 f 6\nsort\nlen\n",
         "none\nnone\nsome 1\nnone\nnone\nnone\n5\nok\nok\n\
         some 3\nsome b 2\nsome 2\nsome e 5\n1 a 3\n3 c 3\n4 d 4\nok\nnone\nok\n1\n",
+    )
+}
+
+// Room that is asked for without an index, and with one.
+#[test]
+fn refused_reserve(rt: HostRuntime) -> Result<(), Fail> {
+    check_refused(
+        &rt,
+        "reserve 5\nput 1 a 1\nreserve 40\nput 2 b 2\nslim\nreserve 100\nreserve 0\nwalk\n",
+        "ok\nnone\nok\nnone\nok\nok\nok\n1 a 1\n2 b 2\n",
     )
 }
 

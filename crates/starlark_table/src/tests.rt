@@ -1,5 +1,5 @@
 //! What no clause of the table says: given values at concrete types, and that each call succeeds where there is memory.
-ghost use Rattle.std.specs.Prelude.{◌≡◌, map};
+ghost use Rattle.std.specs.Prelude.{◌≡◌, ◌+◌, ◌≤◌, map, true};
 ghost use Rattle.starlark_table.specs.Table.{members, table_len};
 
 use crate::ReadyTable;
@@ -37,17 +37,27 @@ fn asks_about_the_whole_hash(rt: HostRuntime) -> Result<(), Fail> {
     Ok(())
 }
 
+// So many insertions, which the room has place for: none is refused, whatever memory is left.
+fn fill(table: &mut ReadyTable<u64>, count: u64) -> bool
+    requires { count ≤ table.old.room }
+    ensures all { result ≡ true }
+    ensures room { table_len table.old + table.old.room ≤ table_len table.new + table.new.room }
+{
+    for item in 0..count {
+        if table.insert_unique(item, item).is_err() {
+            return false;
+        }
+    }
+    true
+}
+
 #[test]
 fn fills_the_room_that_it_has(rt: HostRuntime) -> Result<(), Fail> {
     let mut table = ReadyTable::with_capacity(rt.alloc(), 10)?;
-    for item in 0u64..10 {
-        assert!(rt; table.insert_unique(item, item).is_ok());
-    }
+    assert!(rt; fill(&mut table, 10));
     table.clear();
     assert_eq!(rt; table.len(), 0);
-    for item in 0u64..10 {
-        assert!(rt; table.insert_unique(item, item).is_ok());
-    }
+    assert!(rt; fill(&mut table, 10));
     assert_eq!(rt; table.len(), 10);
     Ok(())
 }
