@@ -1,7 +1,7 @@
 # The program is proved and run by the kit's command `rt`; nothing else is needed.
 SCRIPT ?= examples/first.script
 
-.PHONY: run try test
+.PHONY: run try bench test
 
 # builds the proved program, and plays the script
 run:
@@ -10,6 +10,10 @@ run:
 # plays the script in seconds, with no proof
 try:
 	@cd crates/starlark_script && rt try < "$(abspath $(SCRIPT))"
+
+# builds the proved benchmarks, and prints name, length, nanoseconds an operation and checksum of each
+bench:
+	@cd crates/starlark_bench && rt run > /dev/null && ./out/starlark_bench a_ b_ c_ d_ e_ g_
 
 # the merge gate: every proof, every test, every program
 test:
