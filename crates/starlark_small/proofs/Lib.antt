@@ -6,3 +6,4 @@ pub mod Keeping
 pub mod Rooms
 pub mod ValuesWritten
 pub mod SmallMapOpen
+pub mod SameEntries
