@@ -7,3 +7,4 @@ pub mod Rooms
 pub mod ValuesWritten
 pub mod SmallMapOpen
 pub mod SameEntries
+pub mod Cloned
