@@ -8,3 +8,4 @@ pub mod ValuesWritten
 pub mod SmallMapOpen
 pub mod SameEntries
 pub mod Cloned
+pub mod Inserting
