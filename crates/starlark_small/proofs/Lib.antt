@@ -8,4 +8,5 @@ pub mod ValuesWritten
 pub mod SmallMapOpen
 pub mod SameEntries
 pub mod Cloned
+pub mod Retained
 pub mod Inserting
