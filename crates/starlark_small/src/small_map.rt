@@ -9,6 +9,7 @@ mod grow;
 mod read;
 mod retain;
 mod shrink;
+mod unique;
 mod walk;
 mod write;
 
