@@ -1,5 +1,4 @@
-//! The iterators of a `ReadyTable`. Each goes along the walk, knows how many items are left, and is seen as
-//! the list of them.
+//! The iterators of a `ReadyTable`. Each goes along the walk, and is seen as the list of the items that are left.
 ghost use Rattle.std.specs.Prelude.{◌≡◌, length, ⊤, IfSome, Some};
 ghost use Rattle.std.specs.Iterator.{YieldsFirst, YieldsFirstRef, UpTo, at_most, item_count};
 ghost use Rattle.std.specs.Iterator.SizeHint.{IsWithinCount};

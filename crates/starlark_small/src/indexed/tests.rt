@@ -1,4 +1,4 @@
-//! Maps that are long enough for an index: worked rows, and what a refused request leaves.
+//! Maps that are long enough for an index: values from outside, and what a refused request leaves.
 
 use crate::{Command, Reply, SmallMap, run};
 use starlark_hash::{Hashed, NoRoom, StarlarkHashValue, TextKey};
