@@ -4,5 +4,7 @@ pub mod Positions
 pub mod Transport
 pub mod Keeping
 pub mod Rooms
+pub mod Inserted
+pub mod LentInResult
 pub mod ValuesWritten
 pub mod SmallMapOpen

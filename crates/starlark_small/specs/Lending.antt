@@ -1,9 +1,11 @@
 -- What a `SmallMap` ends as, once a reference into it has ended.
-use Rattle.std.specs.Prelude.{ℕ, Option}
-use Rattle.std.specs.Borrow.{Fml, RattleType, MutBor, GName, Lends, LendsIf, follows}
+use Rattle.std.specs.Prelude.{ℕ, Option, Result, OnOk, OnErr}
+use Rattle.std.specs.Borrow.{Fml, RattleType, Bor, MutBor, GName, Lends, LendsIf, follows, follows_so, name_if_ok}
 use Rattle.std.specs.declared.cmp.PartialEq as eq
+use Rattle.starlark_hash.specs.declared.hashed.Hashed.{Hashed}
 use Rattle.starlark_hash.specs.Entries.{set_value_at, with_value}
 use Rattle.starlark_vecmap.specs.EntryList.{with_values}
+use Rattle.starlark_small.specs.Insertion.{IsInserted, IsRefused}
 use Rattle.starlark_small.specs.Map.{Map}
 use Rattle.starlark_small.specs.contracts.small_map.SmallMap.{the_row}
 
@@ -19,3 +21,9 @@ module _ (K V : RattleType) (g : eq.Ghosts K.Denot) (s : MutBor (Map K.Denot V.D
   -- the map ends with the values that the loan of this name ends with, and all else stays
   abbrev pub values_follow : GName → Fml
   values_follow γ = follows (the_row K V g) (the_row K V g) s.ghost_name γ (λ w. record s.now { entries = with_values s.now.entries w.entries })
+
+  -- the map ends with the new entry last, its value what is left behind the reference; where it was refused, with the
+  -- entries that it had
+  abbrev pub lends_inserted : {E : Type 0} → Hashed K.Denot → Result (Bor K.Denot × MutBor V.Denot) E → Fml
+  lends_inserted key r =
+      follows_so (the_row K V g) V s.ghost_name (name_if_ok (λ p. p.1.ghost_name) r) (λ w n. OnOk r (IsInserted s.now key w n)) (λ n. OnErr r (IsRefused s.now n))

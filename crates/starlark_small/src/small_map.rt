@@ -5,6 +5,7 @@ ghost use Rattle.starlark_small.specs.Index.{unindexed};
 mod grow;
 mod read;
 mod shrink;
+mod unique;
 mod walk;
 mod write;
 

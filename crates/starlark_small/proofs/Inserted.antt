@@ -1,0 +1,44 @@
+-- A map after an insertion, written at the new place and read there.
+use Rattle.std.proofs.Common.{◌≡◌, ℕ, ◌<◌, List, [], ◌∷◌, ◌++◌, length, slice_get, Some, sym, ap, ◌∙◌, arith, refl}
+use Rattle.std.specs.Option.{option_map}
+use Rattle.std.proofs.lemmas.List.{length_push}
+use Rattle.std.proofs.lemmas.Option.{same_Some}
+use Rattle.starlark_hash.specs.declared.hashed.Hashed.{Hashed}
+use Rattle.starlark_hash.specs.HashValue.{key_of}
+use Rattle.starlark_hash.specs.Entries.{Entry, pair_of, set_value_at}
+use Rattle.starlark_hash.proofs.EntryLemmas.{length-set_value_at}
+use Rattle.starlark_small.specs.Insertion.{IsInserted}
+use Rattle.starlark_small.specs.Map.{Map}
+
+module _ {K V : Type 0} where
+  -- the map with this value at the place
+  abbrev pub with_value_at : Map K V → ℕ → V → Map K V
+  with_value_at m i value = record m { entries = set_value_at m.entries i value }
+
+  -- the last value, written and read
+  pushed_value : (es : List (Entry K V)) (key : Hashed K) (v w : V) → set_value_at (es ++ (key, v) ∷ []) (length es) w ≡ es ++ (key, w) ∷ []
+  pushed_value [] key v w = refl
+  pushed_value (e ∷ es) key v w = ap (λ l. e ∷ l) (pushed_value es key v w)
+
+  pushed_last : (es : List (Entry K V)) (key : Hashed K) (v : V) → slice_get (es ++ (key, v) ∷ []) (length es) ≡ Some (key, v)
+  pushed_last [] key v = refl
+  pushed_last (e ∷ es) key v = pushed_last es key v
+
+module _ {K V : Type 0} (old new : Map K V) (key : Hashed K) (value : V) (i : ℕ) (at_end : i ≡ length old.entries) (put : IsInserted old key value new) where
+  pub within_inserted : i < length new.entries
+  within_inserted = omega (arith, at_end, ap length put.entries, length_push old.entries (key, value))
+
+  pub inserted_written : (w : V) → IsInserted old key w (with_value_at new i w)
+  inserted_written w = record {
+    entries = (λ j. set_value_at (put.entries j) (at_end j) w) ∙ pushed_value old.entries key value w;
+    spare = put.spare;
+    room = omega (arith, put.room, length-set_value_at new.entries i w);
+    capacity = put.capacity;
+    indexed = put.indexed;
+  }
+
+  pub inserted_shown : (k : K) (v : V) → option_map pair_of (slice_get new.entries i) ≡ Some (k, v) → (k ≡ key_of key) × (v ≡ value)
+  inserted_shown k v e =
+      let shown : K × V = (k, v) in let wanted : K × V = (key_of key, value) in
+      let same = same_Some shown wanted (sym e ∙ (λ j. option_map pair_of (slice_get (put.entries j) (at_end j))) ∙ ap (option_map pair_of) (pushed_last old.entries key value)) in
+      (ap (λ p. p.0) same, ap (λ p. p.1) same)

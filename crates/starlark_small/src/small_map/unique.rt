@@ -1,0 +1,99 @@
+//! New entries of a `SmallMap` that no look-up precedes, and the references to them.
+ghost use Rattle.std.specs.Prelude.{◌≡◌, ◌<◌, length, slice_get, Some, None, IfErr, IfOk, OnErr, OnOk};
+ghost use Rattle.std.specs.Borrow.{sem};
+ghost use Rattle.std.specs.Option.{option_map};
+ghost use Rattle.starlark_hash.specs.Entries.{match_of, pair_of};
+ghost use Rattle.starlark_hash.specs.HashValue.{key_of};
+ghost use Rattle.starlark_small.specs.Insertion.{IsInserted, IsRefused};
+ghost use Rattle.starlark_small.specs.Lending.{lends_inserted, lends_value};
+ghost use Rattle.starlark_small.specs.Map.{own_hashed};
+
+#[cfg(test)]
+mod tests;
+
+use super::SmallMap;
+use crate::indexed::push_in;
+use starlark_hash::{Hashed, NoRoom};
+use std::hash::Hash;
+
+impl<K: Eq, V> SmallMap<K, V> {
+    /// Inserts a new key under its own hash, as `insert_hashed_unique_unchecked` does under one that is brought.
+    pub fn insert_unique_unchecked(
+        &mut self,
+        key: K,
+        value: V,
+    ) -> Result<(&K, &mut V), NoRoom<(K, V)>>
+    where
+        K: Hash,
+        requires { match_of K.eq self.old.entries (own_hashed K.hash_input key) ≡ None }
+        ensures* writes_back { sem 𝓛 (lends_inserted K.row V.row K.PartialEq self.entry (own_hashed K.hash_input key) result) }
+        ensures pair { IfOk result (λ p. (p.0.now ≡ key) × (p.1.now ≡ value)) }
+        ensures full { OnErr result (self.old.room ≡ 0) }
+        ensures handed_back { IfErr result (λ refused. refused.0 ≡ (key, value)) }
+    {
+        match self.push_own(key, value) {
+            Ok(index) => Ok(self.entry_mut(index)),
+            Err(refused) => Err(refused),
+        }
+    }
+
+    /// Inserts a key that is new under this hash, and lends it with its value. The entry goes last, and the map ends
+    /// with what is left in the value. It is refused where there is no room and no memory is found: then it comes back,
+    /// and entries and index stay.
+    pub fn insert_hashed_unique_unchecked(
+        &mut self,
+        key: Hashed<K>,
+        value: V,
+    ) -> Result<(&K, &mut V), NoRoom<(Hashed<K>, V)>>
+        requires { match_of K.eq self.old.entries key ≡ None }
+        ensures* writes_back { sem 𝓛 (lends_inserted K.row V.row K.PartialEq self.entry key result) }
+        ensures pair { IfOk result (λ p. (p.0.now ≡ key_of key) × (p.1.now ≡ value)) }
+        ensures full { OnErr result (self.old.room ≡ 0) }
+        ensures handed_back { IfErr result (λ refused. refused.0 ≡ (key, value)) }
+    {
+        match self.push(key, value) {
+            Ok(index) => Ok(self.entry_mut(index)),
+            Err(refused) => Err(refused),
+        }
+    }
+
+    // Puts a new key last under its own hash, and answers its place.
+    fn push_own(&mut self, key: K, value: V) -> Result<usize, NoRoom<(K, V)>>
+    where
+        K: Hash,
+        requires { match_of K.eq self.old.entries (own_hashed K.hash_input key) ≡ None }
+        ensures place { IfOk result (λ i. i ≡ length self.old.entries) }
+        ensures inserted { OnOk result (IsInserted self.old (own_hashed K.hash_input key) value self.new) }
+        ensures full { OnErr result (self.old.room ≡ 0) }
+        ensures refused { OnErr result (IsRefused self.old self.new) }
+        ensures handed_back { IfErr result (λ refused. refused.0 ≡ (key, value)) }
+    {
+        match self.push(Hashed::new(key), value) {
+            Ok(place) => Ok(place),
+            Err(NoRoom((key, value))) => Err(NoRoom((key.into_key(), value))),
+        }
+    }
+
+    // Puts a new key last under this hash, and answers its place.
+    fn push(&mut self, key: Hashed<K>, value: V) -> Result<usize, NoRoom<(Hashed<K>, V)>>
+        requires { match_of K.eq self.old.entries key ≡ None }
+        ensures place { IfOk result (λ i. i ≡ length self.old.entries) }
+        ensures inserted { OnOk result (IsInserted self.old key value self.new) }
+        ensures full { OnErr result (self.old.room ≡ 0) }
+        ensures refused { OnErr result (IsRefused self.old self.new) }
+        ensures handed_back { IfErr result (λ refused. refused.0 ≡ (key, value)) }
+    {
+        push_in(self.alloc, &mut self.entries, &mut self.index, key, value)
+    }
+
+    // The key and the value at a place, the value to be written.
+    #[inline]
+    fn entry_mut(&mut self, index: usize) -> (&K, &mut V)
+        requires { index < length self.old.entries }
+        ensures* writes_back { sem 𝓛 (lends_value K.row V.row K.PartialEq self.entry index result.1) }
+        ensures value { option_map pair_of (slice_get self.old.entries index) ≡ Some (result.0.now, result.1.now) }
+    {
+        let (key, value) = self.entries.get_unchecked_mut(index);
+        (key.into_key(), value)
+    }
+}
