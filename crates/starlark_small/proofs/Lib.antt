@@ -8,3 +8,4 @@ pub mod Inserted
 pub mod LentInResult
 pub mod ValuesWritten
 pub mod SmallMapOpen
+pub mod SameEntries

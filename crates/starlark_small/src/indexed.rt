@@ -7,12 +7,14 @@ ghost use Rattle.starlark_small.specs.Index.{IsIndexed, IsSound, index_room, map
 ghost use Rattle.starlark_small.specs.Map.{GrowsFor, KeepsMemory, KeepsRoom, query_match};
 ghost use Rattle.starlark_vecmap.specs.EntryList.{entry_list, with_entries};
 
+mod compare;
 mod growth;
 mod places;
 mod search;
 #[cfg(test)]
 mod tests;
 
+pub(crate) use compare::same_in;
 use growth::{UNINDEXED, index_last, reserve_index};
 use places::{fill_index, unindex};
 use search::{find_indexed, position_indexed};

@@ -1,6 +1,8 @@
 //! What no clause says: values from outside, calls that succeed, and what a refused request leaves.
 ghost use Rattle.std.proofs.Common.{[], refl};
 
+mod compared;
+
 use crate::{Command, Reply, SmallMap, run};
 use starlark_hash::{Hashed, NoRoom, StarlarkHashValue, TextKey};
 use std::alloc::{AllocError, Global};

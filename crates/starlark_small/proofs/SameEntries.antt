@@ -1,0 +1,59 @@
+-- The equality of lists of entries with no regard to order, by one look-up for each entry of one.
+use Rattle.std.proofs.Common.{◌≡◌, ℕ, suc, ◌<◌, Bool, true, false, List, [], ◌∷◌, length, get_or, Some, refl, sym, ◌∙◌, arith, eq-eqb}
+use Rattle.std.specs.Prelude.{slice_get}
+use Rattle.std.specs.List.{AllByRecursion, IsDistinct}
+use Rattle.std.specs.Option.{option_eq}
+use Rattle.std.proofs.lemmas.Bool.{eqb-true, false≢true}
+use Rattle.core.specs.Cmp.{IsEquivalence}
+use Rattle.std_collections.specs.Map.{keys_of, lookup}
+use Rattle.std_collections.specs.HashMap.Eq.{get_from_hash_map_eq}
+use Rattle.std_collections.proofs.HashMapEq.{key_at, own_value, equal_by_keys}
+use Rattle.starlark_hash.specs.declared.hashed.Hashed.{Hashed}
+use Rattle.starlark_hash.specs.Entries.{Entry, IsSingle, value_at, match_of, stands_under}
+use Rattle.starlark_small.specs.Compare.{agree_at, same_entries}
+use Rattle.starlark_small.specs.EqualityLaws.{alike, alike-laws, value_at-lookup, as_map, as_maps, as_long, both}
+
+-- what cannot be true is false
+refuted : (b : Bool) → (b ≡ true → ⊥) → false ≡ b
+refuted true f = absurd (f refl)
+refuted false f = refl
+
+module _ {K V : Type 0} (eq : K → K → Bool) where
+  none_alike : (q : Hashed K) (es : List (Entry K V)) → ((k : ℕ) (e : Entry K V) → k < length es → stands_under q.hash (eq q.key) (get_or es k e) ≡ false)
+      → AllByRecursion (λ x. alike eq q x ≡ false) (keys_of es)
+  none_alike q [] none = tt
+  none_alike q (e ∷ es) none = (none 0 e (omega arith), none_alike q es (λ k x below. none (suc k) x (omega arith)))
+
+  distinct : (es : List (Entry K V)) → IsSingle eq es → IsDistinct (alike eq) (keys_of es)
+  unfolding IsDistinct
+  distinct [] single = tt
+  distinct (e ∷ es) single = (
+    none_alike e.0 es (λ k x below. single 0 (suc k) x (omega arith) (omega arith)),
+    distinct es (λ i j x before below. single (suc i) (suc j) x (omega arith) (omega arith)),
+  )
+
+  -- the place of an entry is where its own key is found
+  pub own_match : IsEquivalence eq → (es : List (Entry K V)) (i : ℕ) (e : Entry K V) → slice_get es i ≡ Some e → IsSingle eq es → i < length es
+      → value_at es (match_of eq es e.0) ≡ Some e.1
+  own_match o es i e at single below = value_at-lookup eq es e.0 ∙ own_value (alike eq) (alike-laws eq o) es i e.0 e.1 at (distinct es single) below
+
+  pub own_key : IsEquivalence eq → (es : List (Entry K V)) (i : ℕ) (e : Entry K V) → slice_get es i ≡ Some e → (d : Hashed K) → get_or (keys_of es) i d ≡ e.0
+  own_key o es i e at d = key_at (alike eq) (alike-laws eq o) es i e.0 e.1 at d
+
+module _ {K V : Type 0} (eq : K → K → Bool) (E : V → V → Bool) where
+  agree-values : (ds es : List (Entry K V)) (q : Hashed K) → agree_at eq E ds es q ≡ option_eq E (lookup (alike eq q) ds) (lookup (alike eq q) es)
+  agree-values ds es q = λ i. option_eq E (value_at-lookup eq ds q i) (value_at-lookup eq es q i)
+
+  pub unequal_len : (ds es : List (Entry K V)) → (length ds ≡ length es → ⊥) → false ≡ same_entries eq E ds es
+  unequal_len ds es differ = refuted (same_entries eq E ds es) (λ same. differ (eqb-true (length ds) (length es) (as_long eq E ds es same)))
+
+  pub unequal_at : IsEquivalence eq → (ds es : List (Entry K V)) (q : Hashed K) → agree_at eq E ds es q ≡ false → false ≡ same_entries eq E ds es
+  unequal_at o ds es q differ =
+      refuted (same_entries eq E ds es)
+      (λ same. false≢true (sym differ ∙ agree-values ds es q ∙ get_from_hash_map_eq (alike eq) E (alike-laws eq o) (as_map ds) (as_map es) (as_maps eq E ds es same) q))
+
+  pub equal_by_keys_of : IsEquivalence eq → (ds es : List (Entry K V)) → IsSingle eq ds → IsSingle eq es → length ds ≡ length es
+      → ((k : ℕ) → k < length ds → (d : Hashed K) → agree_at eq E ds es (get_or (keys_of ds) k d) ≡ true) → true ≡ same_entries eq E ds es
+  equal_by_keys_of o ds es left right long agree =
+      sym (both eq E ds es (eq-eqb (length ds) (length es) long) (sym (equal_by_keys (alike eq) (alike-laws eq o) E (as_map ds) (as_map es) (distinct eq ds left) (distinct eq es right) long
+      (λ k below d. sym (agree-values ds es (get_or (keys_of ds) k d)) ∙ agree k below d))))

@@ -1,0 +1,113 @@
+-- Why lists of entries that have the same entries are equal in the sense of `==`: it is symmetric, transitive and, where the values' is, reflexive.
+use Rattle.std.proofs.Common.{◌≡◌, ℕ, suc, Bool, true, false, cond, ◌&&◌, List, [], ◌∷◌, length, Option, Some, None, refl, sym, ap, ◌∙◌, nat_eq}
+use Rattle.std.specs.List.{list_all}
+use Rattle.std.specs.Option.{option_eq, option_map}
+use Rattle.core.specs.Cmp.{IsEquivalence, IsPartialEquivalence, equiv, partial_equiv_from_equiv, nat_eq_equiv, first_so, second_so}
+use Rattle.std_collections.specs.Layout.HashMap.{HashMap, hash_map}
+use Rattle.std_collections.specs.Map.{keys_of, lookup, lookup_entry}
+use Rattle.std_collections.specs.HashMap.{entries_eq, hash_map_eq}
+use Rattle.std_collections.specs.HashMap.Eq.{hash_map_eq_symm, hash_map_eq_trans, hash_map_eq_refl}
+use Rattle.starlark_hash.specs.declared.hashed.Hashed.{Hashed}
+use Rattle.starlark_hash.specs.Entries.{Entry, entry_at, value_at, match_of, stands_under}
+use Rattle.starlark_hash.proofs.PositionLemmas.{position-cons}
+use Rattle.starlark_small.specs.Compare.{agree_at, same_entries}
+use Rattle.starlark_small.specs.Map.{Map}
+
+module _ {K : Type 0} (eq : K → K → Bool) where
+  -- whether two keys are alike under their hashes
+  abbrev pub alike : Hashed K → Hashed K → Bool
+  alike q x = nat_eq x.hash.0 q.hash.0 && eq q.key x.key
+
+  pub alike-laws : IsEquivalence eq → IsEquivalence alike
+  alike-laws o =
+      let n = nat_eq_equiv in
+      record {
+        refl = λ q i. n.refl q.hash.0 i && o.refl q.key i;
+        symm = λ q x i. n.symm x.hash.0 q.hash.0 i && o.symm q.key x.key i;
+        congr = λ q x z t.
+            let there : nat_eq x.hash.0 q.hash.0 ≡ true = first_so (nat_eq x.hash.0 q.hash.0) (eq q.key x.key) t in
+            let hashes : nat_eq z.hash.0 q.hash.0 ≡ nat_eq z.hash.0 x.hash.0 =
+            n.symm z.hash.0 q.hash.0 ∙ n.congr q.hash.0 x.hash.0 z.hash.0 (n.symm q.hash.0 x.hash.0 ∙ there) ∙ n.symm x.hash.0 z.hash.0 in
+            λ i. hashes i && o.congr q.key x.key z.key (second_so (nat_eq x.hash.0 q.hash.0) (eq q.key x.key) t) i;
+      }
+
+module _ {K V : Type 0} (eq : K → K → Bool) where
+  entry_later : (e : Entry K V) (es : List (Entry K V)) (place : Option ℕ) → entry_at (e ∷ es) (option_map suc place) ≡ entry_at es place
+  entry_later e es None = refl
+  entry_later e es (Some i) = refl
+
+  -- what a look-up finds, by recursion
+  entry_at-lookup : (es : List (Entry K V)) (q : Hashed K) → entry_at es (match_of eq es q) ≡ lookup_entry (alike eq q) es
+  entry_at-lookup [] q = refl
+  entry_at-lookup (e ∷ es) q =
+      let later = match_of eq es q in
+      ap (entry_at (e ∷ es)) (position-cons (stands_under q.hash (eq q.key)) e es)
+      ∙ elim (alike eq q e.0) as (λ b. entry_at (e ∷ es) (cond b (Some 0) (option_map suc later)) ≡ cond b (Some e) (lookup_entry (alike eq q) es)) [
+        | true ↦ refl
+        | false ↦ entry_later e es later ∙ entry_at-lookup es q
+      ]
+
+  cond_value : (b : Bool) (e : Entry K V) (rest : Option (Entry K V)) → option_map (λ x. x.1) (cond b (Some e) rest) ≡ cond b (Some e.1) (option_map (λ x. x.1) rest)
+  cond_value true e rest = refl
+  cond_value false e rest = refl
+
+  lookup-value : (es : List (Entry K V)) (test : Hashed K → Bool) → option_map (λ x. x.1) (lookup_entry test es) ≡ lookup test es
+  lookup-value [] test = refl
+  lookup-value (e ∷ es) test = cond_value (test e.0) e (lookup_entry test es) ∙ ap (cond (test e.0) (Some e.1)) (lookup-value es test)
+
+  pub value_at-lookup : (es : List (Entry K V)) (q : Hashed K) → value_at es (match_of eq es q) ≡ lookup (alike eq q) es
+  value_at-lookup es q = ap (option_map (λ x. x.1)) (entry_at-lookup es q) ∙ lookup-value es (alike eq q)
+
+each_key : {K V : Type 0} (t u : Hashed K → Bool) → ((q : Hashed K) → t q ≡ u q) → (es : List (Entry K V)) → list_all (λ e. t e.0) es ≡ list_all u (keys_of es)
+each_key t u same [] = refl
+each_key t u same (e ∷ es) = λ i. same e.0 i && each_key t u same es i
+
+option_eq-values : {X V : Type 0} (E : V → V → Bool) (f : X → V) (p q : Option X) → option_eq E (option_map f p) (option_map f q) ≡ option_eq (λ x y. E (f x) (f y)) p q
+option_eq-values E f None None = refl
+option_eq-values E f None (Some y) = refl
+option_eq-values E f (Some x) None = refl
+option_eq-values E f (Some x) (Some y) = refl
+
+-- the list as a map under keys with their hashes
+abbrev pub as_map : {K V : Type 0} → List (Entry K V) → HashMap (Hashed K) V (Unit {0})
+as_map es = hash_map es tt 0
+
+module _ {K V : Type 0} (eq : K → K → Bool) (E : V → V → Bool) where
+  agree-entries : (ds es : List (Entry K V)) (q : Hashed K) → agree_at eq E ds es q ≡ option_eq (λ d e. E d.1 e.1) (lookup_entry (alike eq q) ds) (lookup_entry (alike eq q) es)
+  agree-entries ds es q =
+      option_eq-values E (λ x. x.1) (entry_at ds (match_of eq ds q)) (entry_at es (match_of eq es q))
+      ∙ (λ i. option_eq (λ d e. E d.1 e.1) (entry_at-lookup eq ds q i) (entry_at-lookup eq es q i))
+
+  -- as the standard's word for maps
+  same_entries-maps : (ds es : List (Entry K V)) → same_entries eq E ds es ≡ (nat_eq (length ds) (length es) && hash_map_eq (alike eq) E (as_map ds) (as_map es))
+  unfolding entries_eq
+  same_entries-maps ds es =
+      let agree : Hashed K → Bool = λ q. option_eq (λ d e. E d.1 e.1) (lookup_entry (alike eq q) ds) (lookup_entry (alike eq q) es) in
+      λ i. nat_eq (length ds) (length es) && (each_key (agree_at eq E ds es) agree (agree-entries ds es) ds i && each_key (agree_at eq E ds es) agree (agree-entries ds es) es i)
+
+  pub as_maps : (ds es : List (Entry K V)) → same_entries eq E ds es ≡ true → hash_map_eq (alike eq) E (as_map ds) (as_map es) ≡ true
+  as_maps ds es same = second_so (nat_eq (length ds) (length es)) _ (sym (same_entries-maps ds es) ∙ same)
+
+  pub as_long : (ds es : List (Entry K V)) → same_entries eq E ds es ≡ true → nat_eq (length ds) (length es) ≡ true
+  as_long ds es same = first_so (nat_eq (length ds) (length es)) _ same
+
+  -- both, together, are the equality
+  pub both : (ds es : List (Entry K V)) → nat_eq (length ds) (length es) ≡ true → hash_map_eq (alike eq) E (as_map ds) (as_map es) ≡ true → same_entries eq E ds es ≡ true
+  both ds es long same = same_entries-maps ds es ∙ (λ i. long i && same i)
+
+  pub same_entries_laws : IsEquivalence eq → IsPartialEquivalence E → IsPartialEquivalence {K = Map K V} (λ m n. same_entries eq E m.entries n.entries)
+  same_entries_laws o e = record {
+    symm = λ l m.
+        same_entries-maps l.entries m.entries
+        ∙ (λ i. nat_eq_equiv.symm (length l.entries) (length m.entries) i && hash_map_eq_symm (alike eq) E e.symm (as_map l.entries) (as_map m.entries) i)
+        ∙ sym (same_entries-maps m.entries l.entries);
+    trans = λ l m n a b.
+        both l.entries n.entries
+        (nat_eq_equiv.congr (length l.entries) (length m.entries) (length n.entries) (as_long l.entries m.entries a) ∙ as_long m.entries n.entries b)
+        (hash_map_eq_trans (alike eq) E (alike-laws eq o) e.trans (as_map l.entries) (as_map m.entries) (as_map n.entries) (as_maps l.entries m.entries a) (as_maps m.entries n.entries b));
+  }
+
+  pub same_entries_equivalence : IsEquivalence eq → IsEquivalence E → IsEquivalence {K = Map K V} (λ m n. same_entries eq E m.entries n.entries)
+  same_entries_equivalence o e =
+      equiv (same_entries_laws o (partial_equiv_from_equiv e))
+      (λ m. both m.entries m.entries (nat_eq_equiv.refl (length m.entries)) (hash_map_eq_refl (alike eq) E e.refl (as_map m.entries)))

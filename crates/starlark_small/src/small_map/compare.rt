@@ -1,0 +1,53 @@
+//! How `SmallMap`s compare, what they feed to a hasher, and how they print.
+ghost use Rattle.std.specs.Prelude.{◌≡◌, fold};
+ghost use Rattle.starlark_small.specs.Compare.{same_entries};
+ghost use Rattle.starlark_small.specs.EqualityLaws.{same_entries_laws, same_entries_equivalence};
+ghost use Rattle.starlark_vecmap.specs.Ordered.{same_ordered, ordered_feed};
+
+use super::SmallMap;
+use crate::indexed::same_in;
+use std::fmt;
+use std::hash::{Hash, Hasher};
+
+/// Maps are equal where they have as many entries, and each entry of one is found in the other by its hash and key, with
+/// an equal value. The order does not count.
+impl<K: Eq, V: PartialEq> PartialEq for SmallMap<K, V> {
+    ghost eq = { λ m n. same_entries K.eq V.eq m.entries n.entries };
+
+    ghost laws = { same_entries_laws K.eq V.eq K.Eq.laws V.laws };
+
+    fn eq(&self, other: &SmallMap<K, V>) -> bool {
+        same_in(&self.entries, &other.entries, &other.index)
+    }
+}
+
+impl<K: Eq, V: Eq> Eq for SmallMap<K, V> {
+    ghost laws = { same_entries_equivalence K.eq V.eq K.Eq.laws V.Eq.laws };
+}
+
+impl<K: Eq, V> SmallMap<K, V> {
+    /// Whether both maps have as many entries and, place by place, the same hash, equal keys and equal values.
+    pub fn eq_ordered(&self, other: &Self) -> bool
+    where
+        V: PartialEq,
+        ensures { result ≡ same_ordered K.eq V.eq self.now.entries other.now.entries }
+    {
+        self.entries.eq_ordered(&other.entries)
+    }
+
+    /// Writes each entry's hash as one number of 32 bits, and then what its value writes; no length, and no key, whose
+    /// own `hash` is not called.
+    pub fn hash_ordered<H: Hasher>(&self, state: &mut H)
+    where
+        V: Hash,
+        ensures { state.new ≡ fold H.write state.old (ordered_feed V.hash_input self.now.entries) }
+    {
+        self.entries.hash_ordered(state);
+    }
+}
+
+impl<K: Eq + fmt::Debug, V: fmt::Debug> fmt::Debug for SmallMap<K, V> {
+    fn fmt<W: fmt::Write>(&self, f: &mut fmt::Formatter<W>) -> fmt::Result {
+        f.debug_map().entries(self.iter()).finish()
+    }
+}
