@@ -9,3 +9,4 @@ pub mod LentInResult
 pub mod ValuesWritten
 pub mod SmallMapOpen
 pub mod SameEntries
+pub mod Cloned

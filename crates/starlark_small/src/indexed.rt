@@ -8,6 +8,7 @@ ghost use Rattle.starlark_small.specs.Map.{GrowsFor, KeepsMemory, KeepsRoom, que
 ghost use Rattle.starlark_vecmap.specs.EntryList.{entry_list, with_entries};
 
 mod compare;
+mod copy;
 mod growth;
 mod places;
 mod search;
@@ -15,6 +16,7 @@ mod search;
 mod tests;
 
 pub(crate) use compare::same_in;
+pub(crate) use copy::clone_in;
 use growth::{UNINDEXED, index_last, reserve_index};
 use places::{fill_index, unindex};
 use search::{find_indexed, position_indexed};

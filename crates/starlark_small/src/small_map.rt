@@ -3,6 +3,7 @@ ghost use Rattle.std.specs.Prelude.{◌≡◌, ◌≤◌, [], false, nat_lt, IfO
 ghost use Rattle.starlark_small.specs.Index.{unindexed};
 
 mod compare;
+mod copy;
 mod grow;
 mod read;
 mod shrink;

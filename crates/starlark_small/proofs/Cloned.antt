@@ -1,0 +1,34 @@
+-- A list of clones of entries.
+use Rattle.std.proofs.Common.{◌≡◌, ℕ, zero, suc, ◌<◌, Bool, true, ◌&&◌, List, [], ◌∷◌, length, get_or, refl, sym, ap, ◌∙◌, arith, nat_eq}
+use Rattle.std.specs.List.{AllZip}
+use Rattle.core.specs.Cmp.{IsEquivalence}
+use Rattle.starlark_hash.specs.Entries.{Entry, IsSingle}
+use Rattle.starlark_vecmap.specs.Clone.{IsEntryClone}
+
+module _ {K V : Type 0} (eq : K → K → Bool) (key : K → K → Type 0) (value : V → V → Type 0) where
+  pub length-clones : (es fs : List (Entry K V)) → AllZip (IsEntryClone key value) es fs → length fs ≡ length es
+  length-clones [] [] all = refl
+  length-clones [] (f ∷ fs) all = absurd all
+  length-clones (e ∷ es) [] all = absurd all
+  length-clones (e ∷ es) (f ∷ fs) all = ap suc (length-clones es fs all.1)
+
+  module _ (o : IsEquivalence eq) (equal : (x y : K) → key x y → eq x y ≡ true) where
+    clone_at : (es fs : List (Entry K V)) → AllZip (IsEntryClone key value) es fs → (i : ℕ) (d : Entry K V) → i < length fs
+        → ((get_or fs i d).0.hash.0 ≡ (get_or es i d).0.hash.0) × (eq (get_or es i d).0.key (get_or fs i d).0.key ≡ true)
+    clone_at [] [] all i d below = absurd (omega arith)
+    clone_at [] (f ∷ fs) all i d below = absurd all
+    clone_at (e ∷ es) [] all i d below = absurd all
+    clone_at (e ∷ es) (f ∷ fs) all zero d below = (ap (λ h. h.0) all.0.0, equal e.0.key f.0.key all.0.1)
+    clone_at (e ∷ es) (f ∷ fs) all (suc i) d below = clone_at es fs all.1 i d (omega arith)
+
+    -- clones of a single list are one
+    pub IsSingle-clones : (es fs : List (Entry K V)) → AllZip (IsEntryClone key value) es fs → IsSingle eq es → IsSingle eq fs
+    IsSingle-clones es fs all single i j d before below =
+        let a = clone_at es fs all i d (omega arith) in
+        let b = clone_at es fs all j d below in
+        let ei = (get_or es i d).0.key in
+        let ej = (get_or es j d).0.key in
+        let fi = (get_or fs i d).0.key in
+        let fj = (get_or fs j d).0.key in
+        let keys : eq ei ej ≡ eq fi fj = o.congr ei fi ej a.1 ∙ o.symm fi ej ∙ o.congr ej fj fi b.1 ∙ o.symm fj fi in
+        (λ k. nat_eq (b.0 k) (a.0 k) && sym keys k) ∙ single i j d before (omega (arith, below, length-clones es fs all))

@@ -1,0 +1,33 @@
+//! `SmallMap`s made of clones.
+ghost use Rattle.std.specs.Prelude.{◌≡◌, length, nat_lt, IfOk, IsOk};
+ghost use Rattle.std.specs.List.{AllZip};
+ghost use Rattle.starlark_small.specs.Clone.{IsEqualClone};
+ghost use Rattle.starlark_small.specs.Index.{unindexed};
+ghost use Rattle.starlark_vec2.specs.Collect.{IsLawfulClone};
+ghost use Rattle.starlark_vecmap.specs.Clone.{IsEntryClone};
+
+use super::SmallMap;
+use crate::indexed::clone_in;
+use std::alloc::AllocError;
+
+impl<K: Eq + Clone, V: Clone> SmallMap<K, V> {
+    /// A map of clones of the entries under the same hashes, in their order, whose capacity is their number. It has an
+    /// index only where the list is too long to do without. Where memory is refused, also to the clone of a key or a
+    /// value, nothing is made. Without entries no memory is needed.
+    pub fn clone(&self) -> Result<Self, AllocError>
+        // A clone of a key is equal to it.
+        requires { IsEqualClone K.eq K.is_clone }
+        ensures entries { IfOk result (λ map. AllZip (IsEntryClone K.is_clone V.is_clone) self.now.entries map.entries) }
+        ensures same { IfOk result (λ map. IsLawfulClone K.is_clone → IsLawfulClone V.is_clone → map.entries ≡ self.now.entries) }
+        ensures capacity { IfOk result (λ map. map.capacity ≡ length self.now.entries) }
+        ensures indexed { IfOk result (λ map. map.indexed ≡ nat_lt unindexed (length self.now.entries)) }
+        ensures succeeds { length self.now.entries ≡ 0 → IsOk result }
+    {
+        let (entries, index) = clone_in(self.alloc, &self.entries)?;
+        Ok(SmallMap {
+            entries,
+            index,
+            alloc: self.alloc,
+        })
+    }
+}
