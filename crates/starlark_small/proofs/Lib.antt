@@ -10,3 +10,4 @@ pub mod ValuesWritten
 pub mod SmallMapOpen
 pub mod SameEntries
 pub mod Cloned
+pub mod Inserting

@@ -2,6 +2,7 @@
 ghost use Rattle.std.proofs.Common.{[], refl};
 
 mod compared;
+mod copied;
 
 use crate::{Command, Reply, SmallMap, run};
 use starlark_hash::{Hashed, NoRoom, StarlarkHashValue, TextKey};

@@ -1,0 +1,18 @@
+use Rattle.std.proofs.Common.{length, map, ap, ◌∙◌, arith}
+use Rattle.starlark_hash.specs.Entries.{Entry}
+use Rattle.starlark_small.specs.Collect.{insert_all}
+use Rattle.starlark_small.proofs.small_map.SmallMap.from_iter_hashed.Goals as goal
+
+pub returns-clause-map : goal.returns-clause-map
+returns-clause-map g c =
+    let put = c.in_ok-insert_entries.ensures.entries in
+    let none = c.in_ok-map.ensures.entries in (
+      c.into_iter-items.result,
+      c.size_hint.result.0,
+      put.0,
+      c.into_iter-items.ensures.into_iter_gives,
+      c.size_hint.ensures.lower,
+      put.2,
+      put.1 ∙ ap (λ l. insert_all g.K.PartialEq.eq l (map (λ (x : Entry g.row.K.Denot g.row.V.Denot). x) put.0)) none,
+      omega (arith, c.insert_entries.ensures.room, c.in_ok-map.ensures.room, ap length none),
+    )

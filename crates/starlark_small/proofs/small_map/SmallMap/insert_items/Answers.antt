@@ -1,0 +1,79 @@
+use Rattle.std.proofs.Common.{◌≡◌, ◌≤◌, None, length, refl, sym, ap, subst, ◌∙◌, arith}
+use Rattle.std.proofs.iter.Next as it
+use Rattle.std.proofs.lemmas.List.{length_push}
+use Rattle.std.specs.Iterator.{size}
+use Rattle.starlark_hash.specs.Entries.{Entry, insert_entry, match_of}
+use Rattle.starlark_small.specs.Collect.{own_entry}
+use Rattle.starlark_small.proofs.Inserting.{yields_more, insert_all-push, length_insert_le, length_le_insert, room_left, grows_on}
+use Rattle.starlark_small.proofs.small_map.SmallMap.insert_items.Goals as goal
+
+pub loop-pair-init : goal.loop-pair-init
+loop-pair-init g c = it.begun c.requires.can c.requires.finite (refl, omega arith, omega arith, (omega arith, omega arith), λ had. had)
+
+pub loop-pair-preserved-in-Ok : goal.loop-pair-preserved-in-Ok
+loop-pair-preserved-in-Ok g c =
+    let inv = c.loop-pair.invariant in
+    let eq = g.K.PartialEq.eq in
+    let first = c.args.self.now in
+    let mid = c.loop-pair.self in
+    let x = c.in-Some.pair in
+    let item : g.row.K.Denot × g.row.V.Denot → Entry g.row.K.Denot g.row.V.Denot = own_entry g.K.Hash.hash_input in
+    it.again inv x c.in-Some.is (c.next.ensures.steps, c.next.ensures.goes) (
+      c.in-Ok.ensures.entries ∙ ap (λ l. insert_entry eq l (item x).0 (item x).1) inv.holds.0 ∙ sym (insert_all-push eq item first.entries inv.seen x),
+      omega (arith, inv.holds.1, c.insert.ensures.room),
+      omega (arith, ap length c.in-Ok.ensures.entries, length_insert_le eq mid.entries (item x).0 (item x).1, inv.holds.2, length_push inv.seen x),
+      grows_on first.capacity mid.capacity c.insert.new.self.capacity (length mid.entries) (length c.insert.new.self.entries) inv.holds.3 c.insert.ensures.capacity
+          (subst (λ l. length mid.entries ≤ length l) (sym c.in-Ok.ensures.entries) (length_le_insert eq mid.entries (item x).0 (item x).1)),
+      λ had. c.insert.ensures.indexed (inv.holds.4 had),
+    )
+
+pub loop-pair-preserved : goal.loop-pair-preserved
+loop-pair-preserved g c =
+    let inv = c.loop-pair.invariant in
+    let eq = g.K.PartialEq.eq in
+    let first = c.args.self.now in
+    let mid = c.loop-pair.self in
+    let x = c.in-Some.pair in
+    let item : g.row.K.Denot × g.row.V.Denot → Entry g.row.K.Denot g.row.V.Denot = own_entry g.K.Hash.hash_input in
+    it.again inv x c.in-Some.is (c.next.ensures.steps, c.next.ensures.goes) (
+      c.in-Ok.ensures.entries ∙ ap (λ l. insert_entry eq l (item x).0 (item x).1) inv.holds.0 ∙ sym (insert_all-push eq item first.entries inv.seen x),
+      omega (arith, inv.holds.1, c.insert.ensures.room),
+      omega (arith, ap length c.in-Ok.ensures.entries, length_insert_le eq mid.entries (item x).0 (item x).1, inv.holds.2, length_push inv.seen x),
+      grows_on first.capacity mid.capacity c.insert.new.self.capacity (length mid.entries) (length c.insert.new.self.entries) inv.holds.3 c.insert.ensures.capacity
+          (subst (λ l. length mid.entries ≤ length l) (sym c.in-Ok.ensures.entries) (length_le_insert eq mid.entries (item x).0 (item x).1)),
+      λ had. c.insert.ensures.indexed (inv.holds.4 had),
+    )
+
+pub returns-in-Err-clause-entries : goal.returns-in-Err-clause-entries
+returns-in-Err-clause-entries g c =
+    let inv = c.loop-pair.invariant in
+    let eq = g.K.PartialEq.eq in
+    let x = c.in-Some.pair in
+    let item : g.row.K.Denot × g.row.V.Denot → Entry g.row.K.Denot g.row.V.Denot = own_entry g.K.Hash.hash_input in
+    let stays = c.in-Err.ensures.unchanged.0 in (
+      inv.seen,
+      stays ∙ inv.holds.0,
+      (
+        x,
+        c.next.new.self,
+        yields_more g.I.Iterator.next_gives c.args.items c.loop-pair.items c.next.new.self inv.seen x inv.gave (it.said g.I.Iterator.next_gives c.in-Some.is c.next.ensures.steps),
+        subst (λ l. match_of eq l (item x).0 ≡ None) (sym stays) c.in-Err.ensures.absent,
+      ),
+    )
+
+pub returns-in-Err-clause-room : goal.returns-in-Err-clause-room
+returns-in-Err-clause-room g c = omega (arith, c.loop-pair.invariant.holds.1, c.insert.ensures.room)
+
+pub returns-in-Err-clause-capacity : goal.returns-in-Err-clause-capacity
+returns-in-Err-clause-capacity g c =
+    let mid = c.loop-pair.self in
+    grows_on c.args.self.now.capacity mid.capacity c.insert.new.self.capacity (length mid.entries) (length c.insert.new.self.entries) c.loop-pair.invariant.holds.3 c.insert.ensures.capacity
+    (subst (λ l. length mid.entries ≤ length l) (sym c.in-Err.ensures.unchanged.0) (omega arith))
+
+pub returns-in-Err-clause-succeeds : goal.returns-in-Err-clause-succeeds
+returns-in-Err-clause-succeeds g c = λ fits.
+    let inv = c.loop-pair.invariant in
+    let first = c.args.self.now in
+    let mid = c.loop-pair.self in
+    absurd (room_left (length first.entries) (length inv.seen) (length mid.entries) mid.room first.room (size (g.I.Iterator.remaining c.args.items)) (size (g.I.Iterator.remaining c.loop-pair.items))
+    (size (g.I.Iterator.remaining c.next.new.self)) inv.holds.1 c.in-Err.ensures.full inv.holds.2 inv.counted (it.on c.in-Some.pair c.in-Some.is c.next.ensures.goes inv.ending).2 fits)

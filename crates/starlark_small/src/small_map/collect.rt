@@ -1,0 +1,99 @@
+//! `SmallMap`s from the items of iterators.
+ghost use Rattle.std.specs.Prelude.{◌≡◌, ◌+◌, ◌≤◌, length, IfOk, IsOk, IsTrue};
+ghost use Rattle.std.specs.Iterator.{IsFiniteIterable, IsFinite, size};
+ghost use Rattle.starlark_small.specs.Collect.{Collects, Extends, Inserts, own_entry};
+ghost use Rattle.starlark_small.specs.Map.{GrowsFor, KeepsRoom};
+
+use super::SmallMap;
+use starlark_hash::Hashed;
+use std::alloc::{AllocError, Global};
+use std::hash::Hash;
+
+impl<K: Eq + Hash + Drop, V: Drop> SmallMap<K, V> {
+    /// Inserts the items in their order, each under its key's own hash, as `insert` does. It reserves nothing. Where a
+    /// new key is refused, the items that came before are there, and it and the others are dropped.
+    pub fn extend<I: IntoIterator<Item = (K, V)>>(&mut self, iter: I) -> Result<(), AllocError>
+        requires { IsFiniteIterable I.into_iter_gives I.IntoIter.can_next I.IntoIter.remaining iter }
+        ensures entries { Extends K.eq (own_entry K.hash_input) I.IntoIter.next_gives I.into_iter_gives iter self.old.entries self.new.entries result }
+        ensures succeeds { ((it : _) → I.into_iter_gives iter it → size (I.IntoIter.remaining it) ≤ self.old.room) → IsOk result }
+        ensures room { KeepsRoom self.old self.new }
+        ensures capacity { GrowsFor (length self.new.entries + 1) self.old self.new }
+        ensures indexed { IsTrue self.old.indexed → IsTrue self.new.indexed }
+    {
+        self.insert_items(iter.into_iter())
+    }
+
+    /// A map of the items, inserted in their order, each under its key's own hash. It begins with room for the lower
+    /// bound of the iterator's `size_hint`. Where memory is refused, nothing is made and the items are dropped.
+    pub fn from_iter<I: IntoIterator<Item = (K, V)>>(
+        alloc: Global,
+        iter: I,
+    ) -> Result<Self, AllocError>
+        requires { IsFiniteIterable I.into_iter_gives I.IntoIter.can_next I.IntoIter.remaining iter }
+        ensures map { IfOk result (Collects K.eq (own_entry K.hash_input) I.IntoIter.next_gives I.into_iter_gives I.IntoIter.remaining iter) }
+        ensures succeeds { ((it : _) → I.into_iter_gives iter it → size (I.IntoIter.remaining it) ≡ 0) → IsOk result }
+    {
+        let items = iter.into_iter();
+        let mut map = SmallMap::with_capacity(alloc, items.size_hint().0)?;
+        map.insert_items(items)?;
+        Ok(map)
+    }
+
+    // Inserts the items of an iterator.
+    fn insert_items<I: Iterator<Item = (K, V)>>(&mut self, mut items: I) -> Result<(), AllocError>
+        requires can { I.can_next items }
+        requires finite { IsFinite (I.remaining items) }
+        ensures entries { Inserts K.eq (own_entry K.hash_input) I.next_gives items self.old.entries self.new.entries result }
+        ensures succeeds { size (I.remaining items) ≤ self.old.room → IsOk result }
+        ensures room { KeepsRoom self.old self.new }
+        ensures capacity { GrowsFor (length self.new.entries + 1) self.old self.new }
+        ensures indexed { IsTrue self.old.indexed → IsTrue self.new.indexed }
+    {
+        while let Some(pair) = items.next() {
+            let (key, value) = pair;
+            match self.insert(key, value) {
+                Ok(_old) => {}
+                Err(_refused) => return Err(AllocError),
+            }
+        }
+        Ok(())
+    }
+}
+
+impl<K: Eq + Drop, V: Drop> SmallMap<K, V> {
+    /// As `from_iter`, of keys that stand under hashes already.
+    pub fn from_iter_hashed<I: IntoIterator<Item = (Hashed<K>, V)>>(
+        alloc: Global,
+        iter: I,
+    ) -> Result<Self, AllocError>
+        requires { IsFiniteIterable I.into_iter_gives I.IntoIter.can_next I.IntoIter.remaining iter }
+        ensures map { IfOk result (Collects K.eq (λ item. item) I.IntoIter.next_gives I.into_iter_gives I.IntoIter.remaining iter) }
+        ensures succeeds { ((it : _) → I.into_iter_gives iter it → size (I.IntoIter.remaining it) ≡ 0) → IsOk result }
+    {
+        let items = iter.into_iter();
+        let mut map = SmallMap::with_capacity(alloc, items.size_hint().0)?;
+        map.insert_entries(items)?;
+        Ok(map)
+    }
+
+    // Inserts the entries of an iterator.
+    fn insert_entries<I: Iterator<Item = (Hashed<K>, V)>>(
+        &mut self,
+        mut items: I,
+    ) -> Result<(), AllocError>
+        requires can { I.can_next items }
+        requires finite { IsFinite (I.remaining items) }
+        ensures entries { Inserts K.eq (λ item. item) I.next_gives items self.old.entries self.new.entries result }
+        ensures succeeds { size (I.remaining items) ≤ self.old.room → IsOk result }
+        ensures room { KeepsRoom self.old self.new }
+    {
+        while let Some(entry) = items.next() {
+            let (key, value) = entry;
+            match self.insert_hashed(key, value) {
+                Ok(_old) => {}
+                Err(_refused) => return Err(AllocError),
+            }
+        }
+        Ok(())
+    }
+}
