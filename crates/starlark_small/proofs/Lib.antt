@@ -10,4 +10,5 @@ pub mod ValuesWritten
 pub mod SmallMapOpen
 pub mod SameEntries
 pub mod Cloned
+pub mod Retained
 pub mod Inserting

@@ -5,7 +5,9 @@ ghost use Rattle.starlark_hash.specs.Search.{CanSearch, Searches, keys_under};
 ghost use Rattle.starlark_hash.specs.Sorting.{Ascends, sorted_by_key};
 ghost use Rattle.starlark_small.specs.Index.{IsIndexed, IsSound, index_room, map_of, room_of, unindexed};
 ghost use Rattle.starlark_small.specs.Map.{GrowsFor, KeepsMemory, KeepsRoom, query_match};
+ghost use Rattle.starlark_vec2.specs.Retain.{Retains, TakesInTurn};
 ghost use Rattle.starlark_vecmap.specs.EntryList.{entry_list, with_entries};
+ghost use Rattle.starlark_vecmap.specs.Retain.{TakesEntry, CalledAtEntry};
 
 mod compare;
 mod copy;
@@ -249,17 +251,35 @@ pub(crate) fn clear_in<K: Eq + Drop, V: Drop>(
     }
 }
 
-// Fills the index anew, once the list was put into another order. No memory is asked for.
+// Fills the index anew, once the list was put into another order or lost entries. No memory is asked for.
 fn refill_index<K, V>(index: &mut Option<ReadyTable<usize>>, entries: &VecMap<K, V>)
-    requires { (before : List (Entry K V)) × IsIndexed before index.old × (length before ≡ length entries.now.entries) }
+    requires { (before : List (Entry K V)) × IsIndexed before index.old × (length entries.now.entries ≤ length before) }
     ensures indexed { IsIndexed entries.now.entries index.new }
     ensures room { index_room (length entries.now.entries) index.old ≤ index_room (length entries.now.entries) index.new }
+    ensures spare { (before : List (Entry K V)) → IsIndexed before index.old → length before + index_room (length before) index.old ≤ length entries.now.entries + index_room (length entries.now.entries) index.new }
     ensures kept { is_some index.new ≡ is_some index.old }
 {
     if let Some(table) = index {
         table.clear();
         fill_index(table, entries);
     }
+}
+
+// Keeps the entries at which the closure answers true, with the value that it leaves.
+pub(crate) fn retain_in<K: Eq + Drop, V: Drop, F: FnMut(&K, &mut V) -> bool>(
+    entries: &mut VecMap<K, V>,
+    index: &mut Option<ReadyTable<usize>>,
+    keep: F,
+)
+    requires sound { IsSound K.eq entries.old.entries index.old }
+    requires callable { TakesInTurn (CalledAtEntry F.FnMut) (TakesEntry F.FnMut) keep entries.old.entries }
+    ensures entries { Retains (CalledAtEntry F.FnMut) keep entries.old.entries entries.new.entries }
+    ensures sound { IsSound K.eq entries.new.entries index.new }
+    ensures kept { KeepsMemory (map_of entries.old index.old) (map_of entries.new index.new) }
+{
+    let _capacity = entries.capacity();
+    entries.retain(keep);
+    refill_index(index, entries);
 }
 
 // Turns the order of the entries round.

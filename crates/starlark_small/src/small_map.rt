@@ -7,6 +7,7 @@ mod compare;
 mod copy;
 mod grow;
 mod read;
+mod retain;
 mod shrink;
 mod unique;
 mod walk;

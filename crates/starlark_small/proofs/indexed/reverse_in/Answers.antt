@@ -1,4 +1,4 @@
-use Rattle.std.proofs.Common.{ap, subst, sym, ◌∙◌, length}
+use Rattle.std.proofs.Common.{ap, subst, sym, ◌∙◌, length, arith}
 use Rattle.std.specs.Prelude.{reverse}
 use Rattle.std.proofs.lemmas.List.{length-reverse}
 use Rattle.std.proofs.lemmas.List.Sorted.{IsPermutation-reverse}
@@ -10,7 +10,7 @@ use Rattle.starlark_small.proofs.indexed.reverse_in.Goals as goal
 pub refill_index-requires : goal.refill_index-requires
 refill_index-requires g c =
     let es = c.args.entries.now.entries in
-    (es, c.requires.indexed, sym (ap (λ l. length l.entries) c.reverse.ensures ∙ length-reverse es))
+    (es, c.requires.indexed, omega (arith, ap (λ l. length l.entries) c.reverse.ensures, length-reverse es))
 
 pub returns-clause-sound : goal.returns-clause-sound
 returns-clause-sound g c =

@@ -1,4 +1,4 @@
-use Rattle.std.proofs.Common.{ap, subst, sym, ◌∙◌, length}
+use Rattle.std.proofs.Common.{ap, subst, sym, ◌∙◌, length, arith}
 use Rattle.std.proofs.lemmas.List.Sorted.{length_permutation}
 use Rattle.starlark_hash.specs.Entries.{IsSingle}
 use Rattle.starlark_hash.specs.Sorting.{key_lt, sorted_by_key}
@@ -12,7 +12,7 @@ refill_index-requires g c =
     let es = c.args.entries.now.entries in (
       es,
       c.requires.indexed,
-      sym (ap (λ l. length l.entries) c.in_ok-sort_keys.ensures.sorted ∙ length_permutation es (sorted_by_key g.K.Ord.cmp es) (IsPermutation-sorted_by (key_lt g.K.Ord.cmp) es)),
+      omega (arith, ap (λ l. length l.entries) c.in_ok-sort_keys.ensures.sorted, length_permutation es (sorted_by_key g.K.Ord.cmp es) (IsPermutation-sorted_by (key_lt g.K.Ord.cmp) es)),
     )
 
 pub returns-clause-sound : goal.returns-clause-sound

@@ -1,0 +1,44 @@
+-- What a closure keeps of a list of entries.
+use Rattle.std.proofs.Common.{◌≡◌, ℕ, suc, ◌+◌, ◌-◌, ◌≤◌, Bool, true, false, ◌&&◌, List, [], ◌∷◌, length, sym, ap, subst, arith, nat_eq, min}
+use Rattle.std.specs.List.{All}
+use Rattle.std.specs.Borrow.{Bor, MutBor}
+use Rattle.std.specs.Fn.{Mut}
+use Rattle.std.proofs.lemmas.List.Elements.{All-cons, All-head, All-tail}
+use Rattle.std.proofs.lemmas.List.Kept.{AllPairs-cons}
+use Rattle.starlark_hash.specs.declared.hashed.Hashed.{Hashed}
+use Rattle.starlark_hash.specs.Entries.{Entry, IsSingle, stands_under}
+use Rattle.starlark_vec2.specs.Retain.{Retains}
+use Rattle.starlark_vecmap.specs.Retain.{CalledAtEntry}
+
+-- fewer entries, and as much room in the index as they leave
+pub kept_room : (len len' cap cap' room room' : ℕ) → len' ≤ len → cap' ≡ cap → len + room ≤ len' + room' → len ≤ cap → len + min (cap - len) room ≤ len' + min (cap' - len') room'
+kept_room len len' cap cap' room room' a b c d = omega arith
+
+module _ {F K V : Type 0} (g : Mut F (Bor K × (MutBor V × Unit {0})) (Bool × (MutBor V × Unit {0}))) where
+  pub length-retained : (f : F) (es kept : List (Entry K V)) → Retains (CalledAtEntry g) f es kept → length kept ≤ length es
+  length-retained f [] kept none = omega (arith, ap length none)
+  length-retained f (e ∷ es) kept (true, d, f', rest, called, others, is) = omega (arith, ap length is, length-retained f' es rest others)
+  length-retained f (e ∷ es) kept (false, d, f', rest, called, others, is) = omega (arith, ap length is, length-retained f' es rest others)
+
+  -- what holds of all keys under their hashes holds of those that are kept
+  all_retained : (P : Hashed K → Type 0) (f : F) (es kept : List (Entry K V)) → Retains (CalledAtEntry g) f es kept → All (λ e. P e.0) es → All (λ e. P e.0) kept
+  all_retained P f [] kept none all = subst (λ l. All (λ e. P e.0) l) (sym none) all
+  all_retained P f (e ∷ es) kept (true, d, f', rest, called, others, is) all =
+      subst (λ l. All (λ x. P x.0) l) (sym is)
+      (All-cons (λ x. P x.0) d rest (subst P (sym (ap (λ x. x.0) called.leaves)) (All-head (λ x. P x.0) e es all)) (all_retained P f' es rest others (All-tail (λ x. P x.0) e es all)))
+  all_retained P f (e ∷ es) kept (false, d, f', rest, called, others, is) all =
+      subst (λ l. All (λ x. P x.0) l) (sym is) (all_retained P f' es rest others (All-tail (λ x. P x.0) e es all))
+
+  -- a single list stays so
+  pub IsSingle-retained : (eq : K → K → Bool) (f : F) (es kept : List (Entry K V)) → Retains (CalledAtEntry g) f es kept → IsSingle eq es → IsSingle eq kept
+  IsSingle-retained eq f [] kept none single = subst (λ l. IsSingle eq l) (sym none) single
+  IsSingle-retained eq f (e ∷ es) kept (true, d, f', rest, called, others, is) single =
+      let apart : All (λ x. nat_eq x.0.hash.0 e.0.hash.0 && eq e.0.key x.0.key ≡ false) rest =
+      all_retained (λ k. nat_eq k.hash.0 e.0.hash.0 && eq e.0.key k.key ≡ false) f' es rest others (λ i x below. single 0 (suc i) x (omega arith) (omega arith)) in
+      let key : d.0 ≡ e.0 = ap (λ x. x.0) called.leaves in
+      subst (λ l. IsSingle eq l) (sym is)
+      (AllPairs-cons (λ x y. stands_under x.0.hash (eq x.0.key) y ≡ false) d rest
+      (subst (λ k. All (λ x. nat_eq x.0.hash.0 k.hash.0 && eq k.key x.0.key ≡ false) rest) (sym key) apart)
+      (IsSingle-retained eq f' es rest others (λ i j x before below. single (suc i) (suc j) x (omega arith) (omega arith))))
+  IsSingle-retained eq f (e ∷ es) kept (false, d, f', rest, called, others, is) single =
+      subst (λ l. IsSingle eq l) (sym is) (IsSingle-retained eq f' es rest others (λ i j x before below. single (suc i) (suc j) x (omega arith) (omega arith)))
