@@ -2,9 +2,11 @@
 #![tactic(auto)]
 
 pub mod command;
+pub mod one_list;
 pub mod runs;
 
 pub use command::{Command, Reply};
+pub use one_list::index_never_shows;
 pub use runs::run;
 
 #[cfg(test)]
