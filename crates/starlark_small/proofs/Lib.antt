@@ -1,5 +1,3 @@
-pub mod RunLemmas
-pub mod Determined
 pub mod Positions
 pub mod Transport
 pub mod Keeping

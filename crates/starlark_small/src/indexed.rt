@@ -1,6 +1,6 @@
 //! A list of entries and its index: what the calls of a map do to both.
 ghost use Rattle.std.specs.Prelude.{◌≡◌, ◌+◌, ◌<◌, ◌≤◌, [], ◌∷◌, ◌++◌, length, List, min, nat_le, nat_lt, remove, reverse, slice_get, is_some, if◌then◌else◌, Some, None, IfErr, IfOk, IfSome, IsOk, IsSome, OnErr, OnOk};
-ghost use Rattle.starlark_hash.specs.Entries.{Entry, insert_entry, match_of, set_value_at, value_at, with_value};
+ghost use Rattle.starlark_hash.specs.Entries.{Entry, insert_entry, match_of, set_value_at, value_at};
 ghost use Rattle.starlark_hash.specs.Search.{CanSearch, Searches, keys_under};
 ghost use Rattle.starlark_hash.specs.Sorting.{Ascends, sorted_by_key};
 ghost use Rattle.starlark_small.specs.Index.{IsIndexed, IsSound, index_room, map_of, room_of, unindexed};
@@ -197,23 +197,6 @@ pub(crate) fn insert_in<K: Eq + Drop, V>(
             Err(refused) => Err(refused),
         },
     }
-}
-
-// Replaces the value under the query, and answers the old one.
-pub(crate) fn change_in<K: Eq, V: Drop, Q: Equivalent<K>>(
-    entries: &mut VecMap<K, V>,
-    index: &Option<ReadyTable<usize>>,
-    key: Hashed<&Q>,
-    value: V,
-) -> Option<V>
-    requires { IsSound K.eq entries.old.entries index.now }
-    ensures old { result ≡ value_at entries.old.entries (query_match Q.equivalent entries.old.entries key.entry) }
-    ensures list { entries.new ≡ with_entries entries.old (with_value entries.old.entries (query_match Q.equivalent entries.old.entries key.entry) value) }
-    ensures sound { IsSound K.eq entries.new.entries index.now }
-    ensures kept { KeepsMemory (map_of entries.old index.now) (map_of entries.new index.now) }
-{
-    let i = place_in(entries, index, key)?;
-    Some(replace_at(entries, i, value))
 }
 
 // Takes out the entry at a place; those after it move up.

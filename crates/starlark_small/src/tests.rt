@@ -5,9 +5,9 @@ mod compared;
 mod copied;
 mod retained;
 
-use crate::{Command, Reply, SmallMap, run};
+use crate::SmallMap;
 use starlark_hash::{Hashed, NoRoom, StarlarkHashValue, TextKey};
-use std::alloc::{AllocError, Global};
+use std::alloc::Global;
 use std::hash::{Hash, Hasher};
 use std::test::Fail;
 
@@ -74,34 +74,6 @@ fn walks_from_both_ends(rt: HostRuntime) -> Result<(), Fail> {
 }
 
 #[test]
-fn runs_commands(rt: HostRuntime) -> Result<(), Fail> {
-    let alloc = rt.alloc();
-    let mut map: SmallMap<u32, u32> = SmallMap::new(alloc);
-    let commands = vec![in alloc;
-        Command::Insert(under(7, 2), 20),
-        Command::Insert(under(9, 2), 30),
-        Command::Insert(under(7, 2), 40),
-        Command::Look(under(7, 2)),
-        Command::Look(under(8, 2)),
-        Command::Len,
-    ]?;
-    let replies: Vec<Reply<u32, u32, u32>> = run(
-        alloc,
-        &mut map,
-        commands,
-        |key, value| key ^ value,
-    )?;
-    assert_eq!(rt; replies.len(), 6);
-    assert!(rt; matches!(&replies[0], Reply::Old(None)));
-    assert!(rt; matches!(&replies[1], Reply::Old(None)));
-    assert!(rt; matches!(&replies[2], Reply::Old(Some(20))));
-    assert!(rt; matches!(&replies[3], Reply::Found(Some((0, 42)))));
-    assert!(rt; matches!(&replies[4], Reply::Found(None)));
-    assert!(rt; matches!(&replies[5], Reply::Count(2)));
-    Ok(())
-}
-
-#[test]
 fn turns_sorts_and_removes(rt: HostRuntime) -> Result<(), Fail> {
     let alloc = rt.alloc();
     let mut map: SmallMap<u32, u32> = SmallMap::new(alloc);
@@ -126,52 +98,11 @@ fn turns_sorts_and_removes(rt: HostRuntime) -> Result<(), Fail> {
     Ok(())
 }
 
-#[test]
-fn runs_all_commands(rt: HostRuntime) -> Result<(), Fail> {
-    let alloc = rt.alloc();
-    let mut map: SmallMap<u32, u32> = SmallMap::new(alloc);
-    let commands = vec![in alloc;
-        Command::Insert(under(7, 2), 1),
-        Command::Insert(under(9, 1), 2),
-        Command::Reverse,
-        Command::First,
-        Command::Last,
-        Command::Change(under(9, 1), 5),
-        Command::Change(under(9, 3), 6),
-        Command::Sort,
-        Command::At(0),
-        Command::At(2),
-        Command::Remove(under(9, 2)),
-        Command::Remove(under(7, 2)),
-        Command::RemoveAt(1),
-        Command::Pop,
-        Command::Clear,
-    ]?;
-    let replies: Vec<Reply<u32, u32, u32>> = run(alloc, &mut map, commands, |_, value| *value)?;
-    assert_eq!(rt; replies.len(), 15);
-    assert!(rt; matches!(&replies[2], Reply::Done));
-    assert!(rt; matches!(&replies[3], Reply::Shown(Some(2))));
-    assert!(rt; matches!(&replies[4], Reply::Shown(Some(1))));
-    assert!(rt; matches!(&replies[5], Reply::Old(Some(2))));
-    assert!(rt; matches!(&replies[6], Reply::Old(None)));
-    assert!(rt; matches!(&replies[7], Reply::Done));
-    assert!(rt; matches!(&replies[8], Reply::Shown(Some(5))));
-    assert!(rt; matches!(&replies[9], Reply::Shown(None)));
-    assert!(rt; matches!(&replies[10], Reply::Taken(None)));
-    assert!(rt; matches!(&replies[11], Reply::Taken(Some((2, 1)))));
-    assert!(rt; matches!(&replies[12], Reply::TakenHashed(None)));
-    assert!(rt; matches!(&replies[13], Reply::Taken(Some((1, 5)))));
-    assert!(rt; matches!(&replies[14], Reply::Done));
-    Ok(())
-}
-
-// Holds whichever request for memory is refused, but for the first, of the commands.
+// Holds whichever request for memory is refused.
 #[test]
 fn refusals_leave_the_list(rt: HostRuntime) -> Result<(), Fail> {
-    let alloc = rt.alloc();
-    let commands = vec![in alloc; Command::Insert(under(0, 8), 80)]?;
-    let mut map: SmallMap<u32, u32> = SmallMap::new(alloc);
-    for key in 0..8 {
+    let mut map: SmallMap<u32, u32> = SmallMap::new(rt.alloc());
+    for key in 0..9 {
         if let Err(NoRoom((refused, value))) = map.insert_hashed(under(0, key), 10 * key) {
             assert_eq!(rt; (refused.into_key(), value), (key, 10 * key));
             assert_eq!(rt; map.len(), key as usize);
@@ -179,29 +110,7 @@ fn refusals_leave_the_list(rt: HostRuntime) -> Result<(), Fail> {
             map.insert_hashed(under(0, key), 10 * key)?;
         }
     }
-    let outcome: Result<Vec<Reply<u32, u32, u32>>, AllocError> = run(
-        alloc,
-        &mut map,
-        commands,
-        |_, value| *value,
-    );
-    let done = match outcome {
-        Ok(replies) => {
-            assert_eq!(rt; replies.len(), 1);
-            match &replies[0] {
-                Reply::Refused(key, value) => {
-                    assert_eq!(rt; (*key.key(), *value), (8, 80));
-                    false
-                }
-                reply => {
-                    assert!(rt; matches!(reply, Reply::Old(None)));
-                    true
-                }
-            }
-        }
-        Err(AllocError) => false,
-    };
-    assert_eq!(rt; map.len(), if done { 9 } else { 8 });
+    assert_eq!(rt; map.len(), 9);
     Ok(())
 }
 

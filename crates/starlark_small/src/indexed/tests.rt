@@ -1,6 +1,6 @@
 //! Maps that are long enough for an index: values from outside, and what a refused request leaves.
 
-use crate::{Command, Reply, SmallMap, run};
+use crate::SmallMap;
 use starlark_hash::{Hashed, NoRoom, StarlarkHashValue, TextKey};
 use std::alloc::Global;
 use std::test::Fail;
@@ -115,52 +115,6 @@ fn reserves_a_list_for_thirty_two(rt: HostRuntime) -> Result<(), Fail> {
     map.reserve(8)?;
     assert!(rt; map.index().is_some());
     assert!(rt; 8 <= map.room());
-    Ok(())
-}
-
-// Runs some commands on the first ten keys, and tells whether the replies are those of a plain list.
-fn replies_are_right(alloc: Global, map: &mut SmallMap<u32, u32>) -> Result<bool, Fail> {
-    let commands = vec![in alloc;
-        Command::Look(Hashed::new(3)),
-        Command::RemoveAt(2),
-        Command::Look(Hashed::new(3)),
-        Command::Reverse,
-        Command::Insert(Hashed::new(12), 5),
-        Command::Look(Hashed::new(12)),
-        Command::Sort,
-        Command::Look(Hashed::new(9)),
-        Command::Reserve(4),
-        Command::DropIndex,
-        Command::Len,
-    ]?;
-    let replies: Vec<Reply<u32, u32, u32>> = run(alloc, map, commands, |_, value| *value)?;
-    Ok(
-        replies.len() == 11
-            && matches!(&replies[0], Reply::Found(Some((3, 30))))
-            && matches!(&replies[2], Reply::Found(Some((2, 30))))
-            && matches!(&replies[5], Reply::Found(Some((9, 5))))
-            && matches!(&replies[7], Reply::Found(Some((8, 90))))
-            && matches!(&replies[8], Reply::Done)
-            && matches!(&replies[9], Reply::Done)
-            && matches!(&replies[10], Reply::Count(10)),
-    )
-}
-
-#[test]
-fn replies_alike_with_an_index_and_without(rt: HostRuntime) -> Result<(), Fail> {
-    let alloc = rt.alloc();
-    let mut long = tens(alloc, 100)?;
-    for _ in 0..90 {
-        long.pop();
-    }
-    let mut short = tens(alloc, 10)?;
-    assert!(rt; long.index().is_some());
-    assert!(rt; short.index().is_none());
-    let same = replies_are_right(alloc, &mut long)?;
-    assert!(rt; same);
-    let same = replies_are_right(alloc, &mut short)?;
-    assert!(rt; same);
-    assert!(rt; long.index().is_none());
     Ok(())
 }
 

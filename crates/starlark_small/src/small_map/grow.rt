@@ -1,13 +1,13 @@
 //! What puts entries into a `SmallMap`, and what may ask for memory.
 ghost use Rattle.std.specs.Prelude.{◌≡◌, ◌+◌, ◌<◌, ◌≤◌, length, None, IsSome, IsTrue, IfOk, IfErr, OnOk, OnErr};
-ghost use Rattle.starlark_hash.specs.Entries.{value_at, with_value, match_of, insert_entry};
+ghost use Rattle.starlark_hash.specs.Entries.{value_at, match_of, insert_entry};
 ghost use Rattle.starlark_hash.specs.Sorting.{Ascends, sorted_by_key};
 ghost use Rattle.starlark_small.specs.Index.{unindexed};
-ghost use Rattle.starlark_small.specs.Map.{KeepsMemory, KeepsRoom, GrowsFor, query_match, own_hashed};
+ghost use Rattle.starlark_small.specs.Map.{KeepsMemory, KeepsRoom, GrowsFor, own_hashed};
 
 use super::SmallMap;
-use crate::indexed::{change_in, insert_in, reserve_in, sort_in};
-use starlark_hash::{Equivalent, Hashed, NoRoom};
+use crate::indexed::{insert_in, reserve_in, sort_in};
+use starlark_hash::{Hashed, NoRoom};
 use std::alloc::AllocError;
 use std::hash::Hash;
 
@@ -69,17 +69,6 @@ impl<K: Eq, V> SmallMap<K, V> {
         ensures indexed { IsTrue self.old.indexed → IsTrue self.new.indexed }
     {
         insert_in(self.alloc, &mut self.entries, &mut self.index, key, value)
-    }
-
-    /// Replaces the value under this hash whose key the query is equivalent to, and answers the old one.
-    pub(crate) fn change_hashed<Q: Equivalent<K>>(&mut self, key: Hashed<&Q>, value: V) -> Option<V>
-    where
-        V: Drop,
-        ensures old { result ≡ value_at self.old.entries (query_match Q.equivalent self.old.entries key.entry) }
-        ensures entries { self.new.entries ≡ with_value self.old.entries (query_match Q.equivalent self.old.entries key.entry) value }
-        ensures kept { KeepsMemory self.old self.new }
-    {
-        change_in(&mut self.entries, &self.index, key, value)
     }
 
     /// Makes room for so many new entries, and the index where so many need one. Where the room is there it asks for

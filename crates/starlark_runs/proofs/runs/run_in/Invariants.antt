@@ -1,8 +1,8 @@
 use Rattle.std.proofs.Common.{◌+◌, ◌≤◌, ◌++◌}
 use Rattle.std.specs.Vec.{vec_len, vec_capacity}
 use Rattle.std.specs.Vec.Iter.{into_iter_items, into_iter_len}
-use Rattle.starlark_small.specs.Run.{CanShow, Run, Shows}
-use Rattle.starlark_small.proofs.runs.run_in.Given as goal
+use Rattle.starlark_runs.specs.Run.{CanShow, Run, Shows}
+use Rattle.starlark_runs.proofs.runs.run_in.Given as goal
 
 -- whatever the commands that are left give, put after the replies so far, is a run of all
 abbrev pub invariant-loop-command : goal.invariant-loop-command

@@ -1,5 +1,5 @@
-use Rattle.starlark_small.proofs.RunLemmas.{shown-by_call}
-use Rattle.starlark_small.proofs.runs.found_under.Goals as goal
+use Rattle.starlark_runs.proofs.RunLemmas.{shown-by_call}
+use Rattle.starlark_runs.proofs.runs.found_under.Goals as goal
 
 pub returns-in-Some-clause-shown : goal.returns-in-Some-clause-shown
 returns-in-Some-clause-shown g c =

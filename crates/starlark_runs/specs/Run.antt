@@ -6,10 +6,10 @@ use Rattle.std.specs.Option.{option_map}
 use Rattle.std.specs.declared.cmp.Ordering.{Ordering}
 use Rattle.starlark_hash.specs.Entries.{Entry, entry_key, entry_value, entry_at, pair_of, value_at, with_value, without, match_of, insert_entry}
 use Rattle.starlark_hash.specs.Sorting.{Ascends, sorted_by_key}
-use Rattle.starlark_small.specs.declared.command.Command.{Command}
-use Rattle.starlark_small.specs.declared.command.Command.TheVariants.{Look, At, First, Last, Len, Insert, Change, Remove, RemoveAt, Pop, Clear, Reverse, Reserve, DropIndex, Sort}
-use Rattle.starlark_small.specs.declared.command.Reply.{Reply}
-use Rattle.starlark_small.specs.declared.command.Reply.TheVariants.{Found, Shown, Count, Old, Refused, Taken, TakenHashed, Done, NoMemory}
+use Rattle.starlark_runs.specs.declared.command.Command.{Command}
+use Rattle.starlark_runs.specs.declared.command.Command.TheVariants.{Look, At, First, Last, Len, Insert, Change, Remove, RemoveAt, Pop, Clear, Reverse, Reserve, DropIndex, Sort}
+use Rattle.starlark_runs.specs.declared.command.Reply.{Reply}
+use Rattle.starlark_runs.specs.declared.command.Reply.TheVariants.{Found, Shown, Count, Old, Refused, Taken, TakenHashed, Done, NoMemory}
 
 -- whether a reply is a refusal
 abbrev pub is_refusal : {K V R : Type 0} → Reply K V R → Bool

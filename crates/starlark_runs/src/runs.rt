@@ -1,13 +1,14 @@
 //! Runs of commands, over the map's public calls.
 ghost use Rattle.std.specs.Prelude.{◌≡◌, ◌≤◌, [], length, slice_get, vec_capacity, IfOk, OnErr, Some};
 ghost use Rattle.std.specs.Option.{option_map};
-ghost use Rattle.starlark_hash.specs.Entries.{Entry, entry_at, match_of};
-ghost use Rattle.starlark_small.specs.Run.{CanShow, IsDetermined, IsShown, Run, Shows, Step, TakesEntry, entry_shown};
+ghost use Rattle.starlark_hash.specs.Entries.{Entry, entry_at, match_of, value_at, with_value};
+ghost use Rattle.starlark_runs.specs.Run.{CanShow, IsDetermined, IsShown, Run, Shows, Step, TakesEntry, entry_shown};
 
 use crate::command::{Command, Reply};
-use crate::small_map::SmallMap;
 use starlark_hash::{Hashed, NoRoom};
+use starlark_small::SmallMap;
 use std::alloc::{AllocError, Global};
+use std::mem;
 
 // The place of a key, and what `look` shows of the entry there.
 fn found_under<K: Eq, V, R, F: Fn(&K, &V) -> R>(
@@ -34,6 +35,17 @@ fn shown_at<K: Eq, V, R, F: Fn(&K, &V) -> R>(map: &SmallMap<K, V>, i: usize, loo
     Some(look(key, value))
 }
 
+// Replaces the value under a hash and key, and answers the old one. Where there is none the value is dropped.
+fn change<K: Eq, V: Drop>(map: &mut SmallMap<K, V>, key: &Hashed<K>, value: V) -> Option<V>
+    ensures old { result ≡ value_at map.old.entries (match_of K.eq map.old.entries key.now) }
+    ensures entries { map.new.entries ≡ with_value map.old.entries (match_of K.eq map.old.entries key.now) value }
+{
+    match map.get_mut_hashed(key.as_ref()) {
+        Some(stored) => Some(mem::replace(stored, value)),
+        None => None,
+    }
+}
+
 // One command.
 fn step<K: Ord + Drop, V: Drop, R, F: Fn(&K, &V) -> R>(
     map: &mut SmallMap<K, V>,
@@ -53,7 +65,7 @@ fn step<K: Ord + Drop, V: Drop, R, F: Fn(&K, &V) -> R>(
             Ok(old) => Reply::Old(old),
             Err(NoRoom((key, value))) => Reply::Refused(key, value),
         },
-        Command::Change(key, value) => Reply::Old(map.change_hashed(key.as_ref(), value)),
+        Command::Change(key, value) => Reply::Old(change(map, &key, value)),
         Command::Remove(key) => Reply::Taken(map.shift_remove_hashed_entry(key.as_ref())),
         Command::RemoveAt(i) => Reply::TakenHashed(map.shift_remove_index_hashed(i)),
         Command::Pop => Reply::Taken(map.pop()),

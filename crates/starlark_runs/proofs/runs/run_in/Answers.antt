@@ -1,8 +1,8 @@
 use Rattle.std.proofs.Common.{refl, ◌∷◌, [], append_assoc, arith}
 use Rattle.std.proofs.lemmas.List.{append-nil}
-use Rattle.starlark_small.proofs.Determined.{Run-determined}
-use Rattle.starlark_small.proofs.RunLemmas.{empty_at_zero, can_show-after, can_show-now}
-use Rattle.starlark_small.proofs.runs.run_in.Goals as goal
+use Rattle.starlark_runs.proofs.Determined.{Run-determined}
+use Rattle.starlark_runs.proofs.RunLemmas.{empty_at_zero, can_show-after, can_show-now}
+use Rattle.starlark_runs.proofs.runs.run_in.Goals as goal
 
 pub step-requires : goal.step-requires
 step-requires g c =

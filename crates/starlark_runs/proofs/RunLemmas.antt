@@ -7,9 +7,9 @@ use Rattle.std.specs.Prelude.{Bool}
 use Rattle.std.specs.declared.cmp.Ordering.{Ordering}
 use Rattle.std.proofs.lemmas.Option.{none-some, some_pair_parts}
 use Rattle.starlark_hash.specs.Entries.{Entry, entry_key, entry_value, pair_of}
-use Rattle.starlark_small.specs.declared.command.Command.{Command}
-use Rattle.starlark_small.specs.declared.command.Reply.{Reply}
-use Rattle.starlark_small.specs.Run.{IsShown, Step, Shows, TakesEntry, CanShow, entry_shown}
+use Rattle.starlark_runs.specs.declared.command.Command.{Command}
+use Rattle.starlark_runs.specs.declared.command.Reply.{Reply}
+use Rattle.starlark_runs.specs.Run.{IsShown, Step, Shows, TakesEntry, CanShow, entry_shown}
 
 -- a list without length is empty
 pub empty_at_zero : {X : Type 0} (xs : List X) (n : ℕ) → n ≡ length xs → n ≡ 0 → xs ≡ []

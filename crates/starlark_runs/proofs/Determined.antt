@@ -3,11 +3,11 @@ use Rattle.std.proofs.Common.{◌≡◌, Bool, List, [], ◌∷◌, Option, Some
 use Rattle.std.specs.Option.{option_map}
 use Rattle.std.specs.declared.cmp.Ordering.{Ordering}
 use Rattle.starlark_hash.specs.Entries.{Entry}
-use Rattle.starlark_small.specs.declared.command.Command.{Command}
-use Rattle.starlark_small.specs.declared.command.Command.TheVariants.{Look, At, First, Last, Len, Insert, Change, Remove, RemoveAt, Pop, Clear, Reverse, Reserve, DropIndex, Sort}
-use Rattle.starlark_small.specs.declared.command.Reply.{Reply}
-use Rattle.starlark_small.specs.declared.command.Reply.TheVariants.{Found, Shown, Count, Old, Refused, Taken, TakenHashed, Done, NoMemory}
-use Rattle.starlark_small.specs.Run.{IsShown, Run, Step, is_refusal, refusals}
+use Rattle.starlark_runs.specs.declared.command.Command.{Command}
+use Rattle.starlark_runs.specs.declared.command.Command.TheVariants.{Look, At, First, Last, Len, Insert, Change, Remove, RemoveAt, Pop, Clear, Reverse, Reserve, DropIndex, Sort}
+use Rattle.starlark_runs.specs.declared.command.Reply.{Reply}
+use Rattle.starlark_runs.specs.declared.command.Reply.TheVariants.{Found, Shown, Count, Old, Refused, Taken, TakenHashed, Done, NoMemory}
+use Rattle.starlark_runs.specs.Run.{IsShown, Run, Step, is_refusal, refusals}
 
 -- an option of a pair is its two parts
 pub option-parts : {A B : Type 0} (x y : Option (A × B)) → option_map (λ p. p.0) x ≡ option_map (λ p. p.0) y → option_map (λ p. p.1) x ≡ option_map (λ p. p.1) y → x ≡ y

@@ -1,0 +1,13 @@
+//! The commands of a map and their runs, over the map's public calls alone.
+#![tactic(auto)]
+
+pub mod command;
+pub mod one_list;
+pub mod runs;
+
+pub use command::{Command, Reply};
+pub use one_list::index_never_shows;
+pub use runs::run;
+
+#[cfg(test)]
+mod tests;
