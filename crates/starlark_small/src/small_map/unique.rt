@@ -75,7 +75,7 @@ impl<K: Eq, V> SmallMap<K, V> {
     }
 
     // Puts a new key last under this hash, and answers its place.
-    fn push(&mut self, key: Hashed<K>, value: V) -> Result<usize, NoRoom<(Hashed<K>, V)>>
+    pub(crate) fn push(&mut self, key: Hashed<K>, value: V) -> Result<usize, NoRoom<(Hashed<K>, V)>>
         requires { match_of K.eq self.old.entries key ≡ None }
         ensures place { IfOk result (λ i. i ≡ length self.old.entries) }
         ensures inserted { OnOk result (IsInserted self.old key value self.new) }

@@ -1,0 +1,135 @@
+//! A key's place in a map, which has an entry there or lacks one.
+ghost use Rattle.std.specs.Prelude.{◌≡◌, ◌<◌, length, Some, None, IfErr, IfOk};
+ghost use Rattle.std.specs.Borrow.{sem};
+ghost use Rattle.starlark_hash.specs.Entries.{match_of, value_at};
+
+use crate::small_map::SmallMap;
+use starlark_hash::{Hashed, NoRoom};
+use std::hash::Hash;
+
+/// The place of a key, where the map has an entry or lacks one.
+#[derive(Drop)]
+pub enum Entry<'a, K: Eq, V> {
+    Occupied(OccupiedEntry<'a, K, V>),
+    Vacant(VacantEntry<'a, K, V>),
+}
+
+/// An entry that the map has.
+#[derive(Drop)]
+pub struct OccupiedEntry<'a, K: Eq, V> {
+    map: &'a mut SmallMap<K, V>,
+    index: usize,
+    ghost within: { index < length map.now.entries },
+}
+
+/// A key that the map lacks.
+#[derive(Drop)]
+pub struct VacantEntry<'a, K: Eq, V> {
+    map: &'a mut SmallMap<K, V>,
+    key: Hashed<K>,
+    ghost absent: { match_of K.eq map.now.entries key ≡ None },
+}
+
+impl<K: Eq, V> SmallMap<K, V> {
+    ghost use Rattle.starlark_small.specs.Map.{own_hashed};
+    ghost use Rattle.starlark_small.specs.MapEntry.{map_of_entry, IsEntryOf};
+
+    /// The entry of a key under its own hash. A key that is there is dropped.
+    pub fn entry(&mut self, key: K) -> Entry<'_, K, V>
+    where
+        K: Hash + Drop,
+        ensures same_map { (map_of_entry result).ghost_name ≡ self.entry.ghost_name }
+        ensures entry { IsEntryOf K.eq self.old (own_hashed K.hash_input key) result }
+    {
+        self.entry_hashed(Hashed::new(key))
+    }
+
+    /// The entry under this hash of an equal key. A key that is there is dropped.
+    pub fn entry_hashed(&mut self, key: Hashed<K>) -> Entry<'_, K, V>
+    where
+        K: Drop,
+        ensures same_map { (map_of_entry result).ghost_name ≡ self.entry.ghost_name }
+        ensures entry { IsEntryOf K.eq self.old key result }
+    {
+        if let Some(index) = self.get_index_of_hashed(key.as_ref()) {
+            return Entry::Occupied(OccupiedEntry { map: self, index });
+        }
+        Entry::Vacant(VacantEntry { map: self, key })
+    }
+}
+
+impl<K: Eq, V> SmallMap<K, V> {
+    ghost use Rattle.std.specs.Prelude.{OnErr};
+    ghost use Rattle.starlark_small.specs.Lending.{lends_new};
+
+    // Puts a new key last under this hash, and lends its value.
+    fn insert_new(&mut self, key: Hashed<K>, value: V) -> Result<&mut V, NoRoom<(Hashed<K>, V)>>
+        requires { match_of K.eq self.old.entries key ≡ None }
+        ensures* writes_back { sem 𝓛 (lends_new K.row V.row K.PartialEq self.entry key result) }
+        ensures value { IfOk result (λ p. p.now ≡ value) }
+        ensures full { OnErr result (self.old.room ≡ 0) }
+        ensures handed_back { IfErr result (λ refused. refused.0 ≡ (key, value)) }
+    {
+        match self.push(key, value) {
+            Ok(index) => Ok(self.value_at_mut(index)),
+            Err(refused) => Err(refused),
+        }
+    }
+}
+
+impl<'a, K: Eq, V> OccupiedEntry<'a, K, V> {
+    ghost use Rattle.starlark_small.specs.MapEntry.{occupied_keeps, occupied_lends};
+
+    /// The value, for as long as the map is lent.
+    pub fn into_mut(self) -> &'a mut V
+        ensures* writes_back { sem 𝓛 (occupied_lends K.row V.row self.entry result) }
+        ensures value { value_at self.entry.map.now.entries (Some self.entry.index) ≡ Some result.now }
+    {
+        let map = self.map;
+        map.value_at_mut(self.index)
+    }
+
+    /// The value, to be written.
+    pub fn get_mut(&mut self) -> &mut V
+        ensures* writes_back { sem 𝓛 (occupied_keeps K.row V.row self.entry result) }
+        ensures value { value_at self.old.map.now.entries (Some self.old.index) ≡ Some result.now }
+    {
+        let index = self.index;
+        self.map.value_at_mut(index)
+    }
+}
+
+impl<'a, K: Eq, V> VacantEntry<'a, K, V> {
+    ghost use Rattle.starlark_small.specs.MapEntry.{vacant_lends};
+
+    /// Inserts the key with this value, and lends the value. It is refused where there is no room and no memory is found:
+    /// then both come back, and entries and index stay.
+    pub fn insert(self, value: V) -> Result<&'a mut V, NoRoom<(Hashed<K>, V)>>
+        ensures* writes_back { sem 𝓛 (vacant_lends K.row V.row self.entry result) }
+        ensures value { IfOk result (λ p. p.now ≡ value) }
+        ensures handed_back { IfErr result (λ refused. refused.0 ≡ (self.entry.key, value)) }
+    {
+        let map = self.map;
+        map.insert_new(self.key, value)
+    }
+}
+
+impl<'a, K: Eq, V> Entry<'a, K, V> {
+    ghost use Rattle.starlark_small.specs.MapEntry.{entry_lends, IsVacant, ShowsOrGives};
+
+    /// The value that is there, or what the closure gives, which is called once, before the map grows, and only where
+    /// there is none.
+    pub fn or_insert_with<F: FnOnce() -> V>(
+        self,
+        default: F,
+    ) -> Result<&'a mut V, NoRoom<(Hashed<K>, V)>>
+        requires { IsVacant self → F.pre default }
+        ensures* writes_back { sem 𝓛 (entry_lends K.row V.row self.entry result) }
+        ensures value { ShowsOrGives (F.post default) self.entry result }
+    {
+        match self {
+            Entry::Occupied(entry) => Ok(entry.into_mut()),
+            Entry::Vacant(entry) => entry.insert(default()),
+        }
+    }
+}
