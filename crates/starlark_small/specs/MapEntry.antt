@@ -1,7 +1,7 @@
 -- What the contracts of a map's `Entry` cite.
 pub use Rattle.starlark_small.specs.declared.entry.Entry.TheVariants.{Occupied, Vacant}
 use Rattle.std.proofs.Common.{subst, sym}
-use Rattle.std.specs.Prelude.{◌≡◌, ◌<◌, Bool, Option, Some, None, Result, MatchResult, OnOk, OnErr, length, ⊤}
+use Rattle.std.specs.Prelude.{◌≡◌, ◌<◌, Bool, Option, Some, None, Result, MatchResult, OnOk, OnErr, [], length, ⊤}
 use Rattle.std.specs.Borrow.{Fml, RattleType, MutBor, follows, follows_so, name_if_ok}
 use Rattle.std.specs.declared.cmp.PartialEq as eq
 use mir.Syntax.{named}
