@@ -99,8 +99,47 @@ impl<'a, K: Eq, V> OccupiedEntry<'a, K, V> {
     }
 }
 
+impl<'a, K: Eq, V> OccupiedEntry<'a, K, V> {
+    ghost use Rattle.std.specs.Option.{option_map};
+    ghost use Rattle.starlark_hash.specs.Entries.{entry_at, pair_of};
+    ghost use Rattle.starlark_small.specs.MapEntry.{occupied_keeps};
+
+    /// The stored key.
+    pub fn key(&self) -> &K
+        ensures { option_map (λ e. (pair_of e).0) (entry_at self.now.map.now.entries (Some self.now.index)) ≡ Some result.now }
+    {
+        let (key, _) = self.map.pair_at(self.index);
+        key
+    }
+
+    /// The value.
+    pub fn get(&self) -> &V
+        ensures { value_at self.now.map.now.entries (Some self.now.index) ≡ Some result.now }
+    {
+        let (_, value) = self.map.pair_at(self.index);
+        value
+    }
+
+    /// The key, and the value to be written.
+    pub fn as_key_and_mut_value(&mut self) -> (&K, &mut V)
+        ensures* writes_back { sem 𝓛 (occupied_keeps K.row V.row self.entry result.1) }
+        ensures pair { option_map pair_of (entry_at self.old.map.now.entries (Some self.old.index)) ≡ Some (result.0.now, result.1.now) }
+    {
+        let index = self.index;
+        self.map.entry_mut(index)
+    }
+}
+
 impl<'a, K: Eq, V> VacantEntry<'a, K, V> {
+    ghost use Rattle.starlark_hash.specs.HashValue.{key_of};
     ghost use Rattle.starlark_small.specs.MapEntry.{vacant_lends};
+
+    /// The key that the map lacks.
+    pub fn key(&self) -> &K
+        ensures { result.now ≡ key_of self.now.key }
+    {
+        self.key.key()
+    }
 
     /// Inserts the key with this value, and lends the value. It is refused where there is no room and no memory is found:
     /// then both come back, and entries and index stay.
@@ -116,6 +155,32 @@ impl<'a, K: Eq, V> VacantEntry<'a, K, V> {
 
 impl<'a, K: Eq, V> Entry<'a, K, V> {
     ghost use Rattle.starlark_small.specs.MapEntry.{entry_lends, IsVacant, ShowsOrGives};
+
+    /// The value that is there, or this one, which is dropped where there is one.
+    pub fn or_insert(self, default: V) -> Result<&'a mut V, NoRoom<(Hashed<K>, V)>>
+    where
+        V: Drop,
+        ensures* writes_back { sem 𝓛 (entry_lends K.row V.row self.entry result) }
+        ensures value { ShowsOrGives (λ value. value ≡ default) self.entry result }
+    {
+        match self {
+            Entry::Occupied(entry) => Ok(entry.into_mut()),
+            Entry::Vacant(entry) => entry.insert(default),
+        }
+    }
+
+    /// The value that is there, or the default one.
+    pub fn or_default(self) -> Result<&'a mut V, NoRoom<(Hashed<K>, V)>>
+    where
+        V: Default,
+        ensures* writes_back { sem 𝓛 (entry_lends K.row V.row self.entry result) }
+        ensures value { ShowsOrGives V.is_default self.entry result }
+    {
+        match self {
+            Entry::Occupied(entry) => Ok(entry.into_mut()),
+            Entry::Vacant(entry) => entry.insert(V::default()),
+        }
+    }
 
     /// The value that is there, or what the closure gives, which is called once, before the map grows, and only where
     /// there is none.

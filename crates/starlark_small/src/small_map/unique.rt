@@ -88,7 +88,7 @@ impl<K: Eq, V> SmallMap<K, V> {
 
     // The key and the value at a place, the value to be written.
     #[inline]
-    fn entry_mut(&mut self, index: usize) -> (&K, &mut V)
+    pub(crate) fn entry_mut(&mut self, index: usize) -> (&K, &mut V)
         requires { index < length self.old.entries }
         ensures* writes_back { sem 𝓛 (lends_value K.row V.row K.PartialEq self.entry index result.1) }
         ensures value { option_map pair_of (slice_get self.old.entries index) ≡ Some (result.0.now, result.1.now) }
