@@ -1,13 +1,16 @@
 -- What the contracts of a map's `Entry` cite.
 pub use Rattle.starlark_small.specs.declared.entry.Entry.TheVariants.{Occupied, Vacant}
 use Rattle.std.proofs.Common.{subst, sym}
-use Rattle.std.specs.Prelude.{◌≡◌, ◌<◌, Bool, Option, Some, None, Result, MatchResult, OnOk, OnErr, [], length, ⊤}
+use Rattle.std.specs.Prelude.{◌≡◌, ◌<◌, Bool, Option, Some, None, Result, MatchResult, OnOk, OnErr, [], length, slice_get, ⊤}
 use Rattle.std.specs.Borrow.{Fml, RattleType, MutBor, follows, follows_so, name_if_ok}
+use Rattle.std.specs.Fn.{Once, FnOnceTakesAtMut, FnOnceReturnsAtMut}
+use Rattle.std.specs.Option.{option_map}
 use Rattle.std.specs.declared.cmp.PartialEq as eq
 use mir.Syntax.{named}
 use Rattle.starlark_hash.specs.declared.hashed.Hashed.{Hashed}
 use Rattle.starlark_hash.specs.declared.no_room.NoRoom.{NoRoom}
-use Rattle.starlark_hash.specs.Entries.{match_of, set_value_at, value_at}
+use Rattle.starlark_hash.specs.Entries.{entry_key, entry_value, match_of, set_value_at}
+use Rattle.starlark_hash.specs.HashValue.{key_of}
 use Rattle.starlark_hash.proofs.EntryLemmas.{length-set_value_at}
 use Rattle.starlark_small.specs.Insertion.{IsInserted, IsRefused}
 use Rattle.starlark_small.specs.Map.{Map}
@@ -28,6 +31,15 @@ module _ {K V : Type 0} {g : eq.Ghosts K} where
   IsEntryOf eq m key (Occupied o) = (o.map.now ≡ m) × (match_of eq m.entries key ≡ Some o.index)
   IsEntryOf eq m key (Vacant v) = (v.map.now ≡ m) × (match_of eq m.entries key ≡ None) × (v.key ≡ key)
 
+  -- what stands at the entry's place
+  abbrev pub stored : OccupiedEntry K V g → Option (Hashed K × V)
+  stored o = slice_get o.map.now.entries o.index
+
+  -- the key that is there, or the one that is lacking
+  abbrev pub IsKeyOf : Entry K V g → K → Type 0
+  IsKeyOf (Occupied o) key = option_map entry_key (stored o) ≡ Some key
+  IsKeyOf (Vacant v) key = key ≡ key_of v.key
+
   -- the map, once this is the entry's value
   abbrev pub written : OccupiedEntry K V g → V → Map K V
   written o value = record o.map.now { entries = set_value_at o.map.now.entries o.index value }
@@ -43,7 +55,7 @@ module _ {K V : Type 0} {g : eq.Ghosts K} where
 
   -- r shows the value that is there, or one that may be given, and an `Err` hands the key back with one
   abbrev pub ShowsOrGives : (V → Type 0) → Entry K V g → Result (MutBor V) (NoRoom (Hashed K × V)) → Type 0
-  ShowsOrGives gives (Occupied o) r = MatchResult r (λ p. value_at o.map.now.entries (Some o.index) ≡ Some p.now) (λ _. ⊥)
+  ShowsOrGives gives (Occupied o) r = MatchResult r (λ p. option_map entry_value (stored o) ≡ Some p.now) (λ _. ⊥)
   ShowsOrGives gives (Vacant v) r = MatchResult r (λ p. gives p.now) (λ back. (back.0.0 ≡ v.key) × gives back.0.1)
 
   pub still_within : (o : OccupiedEntry K V g) (value : V) → o.index < length (written o value).entries
@@ -52,6 +64,25 @@ module _ {K V : Type 0} {g : eq.Ghosts K} where
   -- the entry, once this is its value
   abbrev pub with_entry_value : OccupiedEntry K V g → V → OccupiedEntry K V g
   with_entry_value o value = record { map = record o.map { now = written o value }; index = o.index; within = still_within o value }
+
+module _ {F K V : Type 0} {eqs : eq.Ghosts K} (g : Once F (MutBor V × Unit {0}) (⊤ × (MutBor V × Unit {0}))) (f : F) where
+  -- f may be called at a `&mut` to the value that is there
+  abbrev pub TakesItsValue : Entry K V eqs → Type 0
+  TakesItsValue (Occupied o) = (value : V) → option_map entry_value (stored o) ≡ Some value → FnOnceTakesAtMut g f value
+  TakesItsValue (Vacant v) = ⊤
+
+  -- a call of f at the value that is there left another one, and e is the entry with that
+  pub record ChangesItsValue (o : OccupiedEntry K V eqs) (e : Entry K V eqs) : Type 0 where
+    pub old : V
+    pub new : V
+    pub there : option_map entry_value (stored o) ≡ Some old
+    pub called : FnOnceReturnsAtMut g f old tt new
+    pub entry : e ≡ Occupied (with_entry_value o new)
+
+  -- the same, or there was no value and e is the entry as it was
+  abbrev pub IsModified : Entry K V eqs → Entry K V eqs → Type 0
+  IsModified (Occupied o) e = ChangesItsValue o e
+  IsModified (Vacant v) e = e ≡ Vacant v
 
 module _ (K V : RattleType) {g : eq.Ghosts K.Denot} where
   -- the map ends with the value that is left behind the reference

@@ -1,8 +1,8 @@
-use Rattle.std.proofs.Common.{Some, refl, sym, ◌∙◌}
+use Rattle.std.proofs.Common.{Some, refl, sym, ap, ◌∙◌}
+use Rattle.std.specs.Option.{option_map}
 use Rattle.std.proofs.lemmas.Option.{same_Some}
-use Rattle.starlark_hash.specs.Entries.{value_at}
-use Rattle.starlark_small.proofs.EntryWritten.{value_at-pushed}
-use Rattle.starlark_small.proofs.Inserted.{inserted_written}
+use Rattle.starlark_hash.specs.Entries.{entry_value, value_at}
+use Rattle.starlark_small.proofs.Inserted.{inserted_written, pushed_last}
 use Rattle.starlark_small.proofs.small_map.SmallMap.insert_new.Goals as goal
 
 pub returns-in-Ok : goal.returns-in-Ok
@@ -15,7 +15,7 @@ returns-in-Ok g c =
       record {
         writes_back = tt;
         value = same_Some c.value_at_mut.result.now c.args.value
-            (sym c.value_at_mut.ensures.value ∙ (λ j. value_at (put.entries j) (Some (i j))) ∙ value_at-pushed old.entries c.args.key c.args.value);
+            (sym c.value_at_mut.ensures.value ∙ (λ j. value_at (put.entries j) (Some (i j))) ∙ ap (option_map entry_value) (pushed_last old.entries c.args.key c.args.value));
         full = tt;
         handed_back = tt;
       },
