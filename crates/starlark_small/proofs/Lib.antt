@@ -10,3 +10,4 @@ pub mod SameEntries
 pub mod Cloned
 pub mod Retained
 pub mod Inserting
+pub mod EntryWritten

@@ -1,11 +1,13 @@
 //! Small maps that walk in the order of insertion.
 #![tactic(auto)]
 
+pub mod entry;
 mod indexed;
 pub mod iter;
 mod own_hash;
 pub mod small_map;
 
+pub use entry::{Entry, OccupiedEntry, VacantEntry};
 pub use iter::{
     IntoIter, IntoIterHashed, IntoKeys, IntoValues, Iter, IterHashed, IterMut, Keys, Values,
     ValuesMut,
