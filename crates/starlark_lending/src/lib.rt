@@ -1,0 +1,9 @@
+//! Callers that write through the references that lists and maps lend, and say what these are afterwards.
+#![tactic(auto)]
+
+pub mod entries;
+pub mod maps;
+pub mod pairs;
+mod put;
+#[cfg(test)]
+mod tests;
