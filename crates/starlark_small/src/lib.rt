@@ -4,6 +4,7 @@
 pub mod command;
 mod indexed;
 pub mod iter;
+pub mod macros;
 mod own_hash;
 pub mod runs;
 pub mod small_map;
