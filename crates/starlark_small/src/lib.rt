@@ -4,6 +4,7 @@
 pub mod entry;
 mod indexed;
 pub mod iter;
+pub mod macros;
 mod own_hash;
 pub mod small_map;
 

@@ -1,0 +1,4 @@
+pub mod Ordered
+pub mod Collected
+pub mod Sorted
+pub mod Inserted

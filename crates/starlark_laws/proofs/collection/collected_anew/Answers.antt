@@ -1,0 +1,16 @@
+use Rattle.std.proofs.Common.{[], ap, ◌∙◌}
+use Rattle.std.proofs.lemmas.Iterator.{items_from_drains}
+use Rattle.std.proofs.lemmas.Result.{IfOk-weaker}
+use Rattle.std.proofs.lemmas.Iterator.Consumers.{YieldsList-from_rest}
+use Rattle.starlark_small.specs.Collect.{insert_all}
+use Rattle.starlark_laws.proofs.Collected.{insert_all-single}
+use Rattle.starlark_laws.proofs.collection.collected_anew.Goals as goal
+
+pub returns : goal.returns
+returns g c =
+    let es = c.args.map.entries in
+    IfOk-weaker c.from_iter_hashed.result _ _
+    (λ m p.
+    let items = items_from_drains p.2 ((p.5.1).0, p.5.1.1, λ _. (p.5.0, p.5.1.2)) (YieldsList-from_rest es (p.3 ∙ c.into_iter_hashed.ensures.entries)) in
+    p.6 ∙ ap (insert_all g.K.PartialEq.eq []) items ∙ insert_all-single g.K.PartialEq.eq g.met.K.Eq.laws es c.into_iter_hashed.ensures.single)
+    c.from_iter_hashed.ensures.map

@@ -1,0 +1,44 @@
+//! Maps made of many entries at once.
+ghost use Rattle.std.specs.Prelude.{◌≡◌, ◌≤◌, [], ◌∷◌, IfOk, IsOk};
+ghost use Rattle.starlark_small.specs.Collect.{insert_all, own_entry};
+
+use starlark_small::macros::inserted;
+use starlark_small::{SmallMap, smallmap};
+use std::alloc::{AllocError, Global};
+use std::hash::Hash;
+
+/// The entries of a map, collected into a new one, are the same list.
+pub fn collected_anew<K: Eq + Drop, V: Drop>(
+    alloc: Global,
+    map: SmallMap<K, V>,
+) -> Result<SmallMap<K, V>, AllocError>
+    ensures { IfOk result (λ collected. collected.entries ≡ map.entries) }
+{
+    SmallMap::from_iter_hashed(alloc, map.into_iter_hashed())
+}
+
+/// `smallmap!` inserts its entries in their order, each under its key's own hash.
+pub fn written_in_order<K: Eq + Hash + Drop, V: Drop>(
+    alloc: Global,
+    first: (K, V),
+    second: (K, V),
+    third: (K, V),
+) -> Result<SmallMap<K, V>, AllocError>
+    ensures { IfOk result (λ map. map.entries ≡ insert_all K.eq [] (own_entry K.hash_input first ∷ own_entry K.hash_input second ∷ own_entry K.hash_input third ∷ [])) }
+{
+    smallmap![alloc; first.0 => first.1, second.0 => second.1, third.0 => third.1]
+}
+
+/// What `smallmap!` inserts after its reservation is never refused, so only the reservation can be.
+pub fn written_with_room<K: Eq + Hash + Drop, V: Drop>(
+    map: SmallMap<K, V>,
+    first: (K, V),
+    second: (K, V),
+    third: (K, V),
+) -> Result<SmallMap<K, V>, AllocError>
+    ensures { 3 ≤ map.room → IsOk result }
+{
+    let one = inserted(Ok(map), first.0, first.1);
+    let two = inserted(one, second.0, second.1);
+    inserted(two, third.0, third.1)
+}

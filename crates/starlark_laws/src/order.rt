@@ -1,0 +1,36 @@
+//! Turns and sorts, made twice.
+ghost use Rattle.std.specs.Prelude.{◌≡◌, IsOk, OnOk, OnErr};
+ghost use Rattle.starlark_hash.specs.Sorting.{Ascends, sorted_by_key};
+ghost use Rattle.starlark_small.specs.Map.{KeepsMemory};
+
+use starlark_small::SmallMap;
+use std::alloc::AllocError;
+
+/// A list that is turned round twice is the list.
+pub fn reverse_twice<K: Eq, V>(map: &mut SmallMap<K, V>)
+    ensures entries { map.new.entries ≡ map.old.entries }
+    ensures kept { KeepsMemory map.old map.new }
+{
+    map.reverse();
+    let turned = map;
+    turned.reverse();
+}
+
+/// To sort twice is the same as once: only the first sort may be refused, and the second changes nothing.
+pub fn sort_twice<K: Ord, V>(map: &mut SmallMap<K, V>) -> Result<(), AllocError>
+    ensures entries { OnOk result (map.new.entries ≡ sorted_by_key K.cmp map.old.entries) }
+    ensures unchanged { OnErr result (map.new.entries ≡ map.old.entries) }
+    ensures needed { OnErr result (Ascends K.cmp map.old.entries → ⊥) }
+    ensures kept { KeepsMemory map.old map.new }
+{
+    map.sort_keys()?;
+    map.sort_keys()
+}
+
+/// A sort of what was sorted is never refused and changes nothing.
+pub fn sort_of_a_sorted_list<K: Ord, V>(map: &mut SmallMap<K, V>) -> Result<(), AllocError>
+    ensures succeeds { Ascends K.cmp map.old.entries → IsOk result }
+    ensures entries { Ascends K.cmp map.old.entries → map.new.entries ≡ map.old.entries }
+{
+    map.sort_keys()
+}

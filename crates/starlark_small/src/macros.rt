@@ -1,0 +1,41 @@
+//! `smallmap!`.
+ghost use Rattle.std.specs.Prelude.{◌≡◌, ◌<◌, IfOk, IsErr, IsOk, MatchResult};
+ghost use Rattle.starlark_hash.specs.Entries.{insert_entry};
+ghost use Rattle.starlark_small.specs.Map.{KeepsRoom, own_hashed};
+
+use crate::SmallMap;
+use std::alloc::AllocError;
+use std::hash::Hash;
+
+/// A `SmallMap` of these keys and values, as `smallmap![alloc; 1 => "a", 2 => "b"]?`. It begins with room for as many
+/// entries as are written, and inserts them in their order, each under its key's own hash: a key that is written again
+/// keeps its place and takes the later value. Only the first request for memory may be refused; then nothing is made.
+#[macro_export]
+macro_rules! smallmap {
+    (@one $key:expr) => {
+        1usize
+    };
+    ($alloc:expr; $($key:expr => $value:expr),* $(,)?) => {{
+        let map = $crate::SmallMap::with_capacity($alloc, 0usize $(+ $crate::smallmap!(@one $key))*);
+        $(let map = $crate::macros::inserted(map, $key, $value);)*
+        map
+    }};
+}
+
+/// One step of `smallmap!`: inserts into a map that was made, as `SmallMap::insert` does. With room to spare it is not
+/// refused; a map that was refused stays so.
+pub fn inserted<K: Eq + Hash + Drop, V: Drop>(
+    map: Result<SmallMap<K, V>, AllocError>,
+    key: K,
+    value: V,
+) -> Result<SmallMap<K, V>, AllocError>
+    ensures entries { MatchResult map (λ old. IfOk result (λ new. new.entries ≡ insert_entry K.eq old.entries (own_hashed K.hash_input key) value)) (λ _. IsErr result) }
+    ensures succeeds { IfOk map (λ old. 0 < old.room → IsOk result) }
+    ensures room { IfOk map (λ old. IfOk result (KeepsRoom old)) }
+{
+    let mut map = map?;
+    match map.insert(key, value) {
+        Ok(_old) => Ok(map),
+        Err(_refused) => Err(AllocError),
+    }
+}
