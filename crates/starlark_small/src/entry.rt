@@ -1,17 +1,19 @@
 //! A key's place in a map, which has an entry there or lacks one.
 ghost use Rattle.std.specs.Prelude.{◌≡◌, ◌<◌, length, Some, None, IfErr, IfOk, OnErr};
 ghost use Rattle.std.specs.Borrow.{sem};
-ghost use Rattle.starlark_hash.specs.Entries.{entry_key, entry_value, match_of, pair_of};
 ghost use Rattle.std.specs.Option.{option_map};
+ghost use Rattle.starlark_hash.specs.Entries.{entry_key, entry_value, match_of, pair_of};
 
 use crate::small_map::SmallMap;
 use starlark_hash::{Hashed, NoRoom};
 use std::hash::Hash;
 
-/// The place of a key, where the map has an entry or lacks one.
+/// The place of a key under a hash, where the map has an entry or lacks one.
 #[derive(Drop)]
 pub enum Entry<'a, K: Eq, V> {
+    /// There is an entry of this hash with an equal key.
     Occupied(OccupiedEntry<'a, K, V>),
+    /// There is none.
     Vacant(VacantEntry<'a, K, V>),
 }
 
@@ -35,7 +37,7 @@ impl<K: Eq, V> SmallMap<K, V> {
     ghost use Rattle.starlark_small.specs.Map.{own_hashed};
     ghost use Rattle.starlark_small.specs.MapEntry.{map_of_entry, IsEntryOf};
 
-    /// The entry of a key under its own hash. A key that is there is dropped.
+    /// The entry of a key under its own hash. Where there is one, it keeps its key, and this one is dropped.
     pub fn entry(&mut self, key: K) -> Entry<'_, K, V>
     where
         K: Hash + Drop,
@@ -45,7 +47,7 @@ impl<K: Eq, V> SmallMap<K, V> {
         self.entry_hashed(Hashed::new(key))
     }
 
-    /// The entry under this hash of an equal key. A key that is there is dropped.
+    /// The entry under this hash with an equal key. Where there is one, it keeps its key, and this one is dropped.
     pub fn entry_hashed(&mut self, key: Hashed<K>) -> Entry<'_, K, V>
     where
         K: Drop,
@@ -179,10 +181,7 @@ impl<'a, K: Eq, V> Entry<'a, K, V> {
         ensures value { ShowsOrGives (λ value. value ≡ default) self.entry result }
         ensures full { OnErr result ((map_of_entry self.entry).now.room ≡ 0) }
     {
-        match self {
-            Entry::Occupied(entry) => Ok(entry.into_mut()),
-            Entry::Vacant(entry) => entry.insert(default),
-        }
+        self.or_insert_with(|| default)
     }
 
     /// The value that is there, to be written, or else what the closure gives, inserted as `VacantEntry::insert` does.
@@ -213,8 +212,8 @@ impl<'a, K: Eq, V> Entry<'a, K, V> {
         ensures full { OnErr result ((map_of_entry self.entry).now.room ≡ 0) }
     {
         match self {
-            Entry::Occupied(entry) => Ok(entry.into_mut()),
-            Entry::Vacant(entry) => entry.insert(V::default()),
+            Entry::Occupied(occupied) => Ok(occupied.into_mut()),
+            Entry::Vacant(vacant) => vacant.insert(V::default()),
         }
     }
 
