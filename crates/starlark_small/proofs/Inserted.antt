@@ -20,7 +20,7 @@ module _ {K V : Type 0} where
   pushed_value [] key v w = refl
   pushed_value (e ∷ es) key v w = ap (λ l. e ∷ l) (pushed_value es key v w)
 
-  pushed_last : (es : List (Entry K V)) (key : Hashed K) (v : V) → slice_get (es ++ (key, v) ∷ []) (length es) ≡ Some (key, v)
+  pub pushed_last : (es : List (Entry K V)) (key : Hashed K) (v : V) → slice_get (es ++ (key, v) ∷ []) (length es) ≡ Some (key, v)
   pushed_last [] key v = refl
   pushed_last (e ∷ es) key v = pushed_last es key v
 

@@ -12,3 +12,4 @@ pub mod SameEntries
 pub mod Cloned
 pub mod Retained
 pub mod Inserting
+pub mod EntryWritten

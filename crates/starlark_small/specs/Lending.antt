@@ -27,3 +27,8 @@ module _ (K V : RattleType) (g : eq.Ghosts K.Denot) (s : MutBor (Map K.Denot V.D
   abbrev pub lends_inserted : {E : Type 0} → Hashed K.Denot → Result (Bor K.Denot × MutBor V.Denot) E → Fml
   lends_inserted key r =
       follows_so (the_row K V g) V s.ghost_name (name_if_ok (λ p. p.1.ghost_name) r) (λ w n. OnOk r (IsInserted s.now key w n)) (λ n. OnErr r (IsRefused s.now n))
+
+  -- the same, where only the value is lent
+  abbrev pub lends_new : {E : Type 0} → Hashed K.Denot → Result (MutBor V.Denot) E → Fml
+  lends_new key r =
+      follows_so (the_row K V g) V s.ghost_name (name_if_ok (λ p. p.ghost_name) r) (λ w n. OnOk r (IsInserted s.now key w n)) (λ n. OnErr r (IsRefused s.now n))

@@ -2,6 +2,7 @@
 #![tactic(auto)]
 
 pub mod command;
+pub mod entry;
 mod indexed;
 pub mod iter;
 mod own_hash;
@@ -9,6 +10,7 @@ pub mod runs;
 pub mod small_map;
 
 pub use command::{Command, Reply};
+pub use entry::{Entry, OccupiedEntry, VacantEntry};
 pub use iter::{
     IntoIter, IntoIterHashed, IntoKeys, IntoValues, Iter, IterHashed, IterMut, Keys, Values,
     ValuesMut,

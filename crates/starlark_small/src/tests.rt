@@ -3,6 +3,7 @@ ghost use Rattle.std.proofs.Common.{[], refl};
 
 mod compared;
 mod copied;
+mod entries;
 mod retained;
 
 use crate::{Command, Reply, SmallMap, run};

@@ -1,5 +1,5 @@
 //! What a `SmallMap` has: entries by hash and key, by key alone under its own hash, and by place.
-ghost use Rattle.std.specs.Prelude.{◌≡◌, ◌-◌, ◌<◌, ◌≤◌, ◌==◌, slice_get, length, is_some, IfSome, IsPermutation, IsSome};
+ghost use Rattle.std.specs.Prelude.{◌≡◌, ◌-◌, ◌<◌, ◌≤◌, ◌==◌, slice_get, length, is_some, IfSome, IsPermutation, IsSome, Some};
 ghost use Rattle.std.specs.Map.Iter.{deref_pair};
 ghost use Rattle.std.specs.Option.{option_copied, option_map};
 ghost use Rattle.starlark_hash.specs.Entries.{entry_at, value_at, pair_of};
@@ -166,6 +166,16 @@ impl<K: Eq, V> SmallMap<K, V> {
         ensures { option_map deref_pair result ≡ option_map pair_of (slice_get self.now.entries (length self.now.entries - 1)) }
     {
         self.entries.get_index(self.len().saturating_sub(1))
+    }
+
+    // The key and the value at a place.
+    #[inline]
+    pub(crate) fn pair_at(&self, index: usize) -> (&K, &V)
+        requires { index < length self.now.entries }
+        ensures { option_map pair_of (slice_get self.now.entries index) ≡ Some (deref_pair result) }
+    {
+        let (key, value) = self.entries.get_unchecked(index);
+        (key.into_key(), value)
     }
 
     /// How many entries there are.

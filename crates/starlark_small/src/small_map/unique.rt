@@ -75,7 +75,7 @@ impl<K: Eq, V> SmallMap<K, V> {
     }
 
     // Puts a new key last under this hash, and answers its place.
-    fn push(&mut self, key: Hashed<K>, value: V) -> Result<usize, NoRoom<(Hashed<K>, V)>>
+    pub(crate) fn push(&mut self, key: Hashed<K>, value: V) -> Result<usize, NoRoom<(Hashed<K>, V)>>
         requires { match_of K.eq self.old.entries key ≡ None }
         ensures place { IfOk result (λ i. i ≡ length self.old.entries) }
         ensures inserted { OnOk result (IsInserted self.old key value self.new) }
@@ -88,7 +88,7 @@ impl<K: Eq, V> SmallMap<K, V> {
 
     // The key and the value at a place, the value to be written.
     #[inline]
-    fn entry_mut(&mut self, index: usize) -> (&K, &mut V)
+    pub(crate) fn entry_mut(&mut self, index: usize) -> (&K, &mut V)
         requires { index < length self.old.entries }
         ensures* writes_back { sem 𝓛 (lends_value K.row V.row K.PartialEq self.entry index result.1) }
         ensures value { option_map pair_of (slice_get self.old.entries index) ≡ Some (result.0.now, result.1.now) }

@@ -42,7 +42,7 @@ impl<K: Eq, V> SmallMap<K, V> {
 
     // The value at a place, to be written.
     #[inline]
-    fn value_at_mut(&mut self, index: usize) -> &mut V
+    pub(crate) fn value_at_mut(&mut self, index: usize) -> &mut V
         requires { index < length self.old.entries }
         ensures* writes_back { sem 𝓛 (lends_value K.row V.row K.PartialEq self.entry index result) }
         ensures value { value_at self.old.entries (Some index) ≡ Some result.now }

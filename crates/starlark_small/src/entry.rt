@@ -1,0 +1,235 @@
+//! A key's place in a map, which has an entry there or lacks one.
+ghost use Rattle.std.specs.Prelude.{◌≡◌, ◌<◌, length, Some, None, IfErr, IfOk, OnErr};
+ghost use Rattle.std.specs.Borrow.{sem};
+ghost use Rattle.starlark_hash.specs.Entries.{entry_key, entry_value, match_of, pair_of};
+ghost use Rattle.std.specs.Option.{option_map};
+
+use crate::small_map::SmallMap;
+use starlark_hash::{Hashed, NoRoom};
+use std::hash::Hash;
+
+/// The place of a key, where the map has an entry or lacks one.
+#[derive(Drop)]
+pub enum Entry<'a, K: Eq, V> {
+    Occupied(OccupiedEntry<'a, K, V>),
+    Vacant(VacantEntry<'a, K, V>),
+}
+
+/// An entry that the map has.
+#[derive(Drop)]
+pub struct OccupiedEntry<'a, K: Eq, V> {
+    map: &'a mut SmallMap<K, V>,
+    index: usize,
+    ghost within: { index < length map.now.entries },
+}
+
+/// A key that the map lacks.
+#[derive(Drop)]
+pub struct VacantEntry<'a, K: Eq, V> {
+    map: &'a mut SmallMap<K, V>,
+    key: Hashed<K>,
+    ghost absent: { match_of K.eq map.now.entries key ≡ None },
+}
+
+impl<K: Eq, V> SmallMap<K, V> {
+    ghost use Rattle.starlark_small.specs.Map.{own_hashed};
+    ghost use Rattle.starlark_small.specs.MapEntry.{map_of_entry, IsEntryOf};
+
+    /// The entry of a key under its own hash. A key that is there is dropped.
+    pub fn entry(&mut self, key: K) -> Entry<'_, K, V>
+    where
+        K: Hash + Drop,
+        ensures same_map { (map_of_entry result).ghost_name ≡ self.entry.ghost_name }
+        ensures entry { IsEntryOf K.eq self.old (own_hashed K.hash_input key) result }
+    {
+        self.entry_hashed(Hashed::new(key))
+    }
+
+    /// The entry under this hash of an equal key. A key that is there is dropped.
+    pub fn entry_hashed(&mut self, key: Hashed<K>) -> Entry<'_, K, V>
+    where
+        K: Drop,
+        ensures same_map { (map_of_entry result).ghost_name ≡ self.entry.ghost_name }
+        ensures entry { IsEntryOf K.eq self.old key result }
+    {
+        if let Some(index) = self.get_index_of_hashed(key.as_ref()) {
+            return Entry::Occupied(OccupiedEntry { map: self, index });
+        }
+        Entry::Vacant(VacantEntry { map: self, key })
+    }
+}
+
+impl<K: Eq, V> SmallMap<K, V> {
+    ghost use Rattle.starlark_small.specs.Lending.{lends_new};
+
+    // Puts a new key last under this hash, and lends its value.
+    fn insert_new(&mut self, key: Hashed<K>, value: V) -> Result<&mut V, NoRoom<(Hashed<K>, V)>>
+        requires { match_of K.eq self.old.entries key ≡ None }
+        ensures* writes_back { sem 𝓛 (lends_new K.row V.row K.PartialEq self.entry key result) }
+        ensures value { IfOk result (λ p. p.now ≡ value) }
+        ensures full { OnErr result (self.old.room ≡ 0) }
+        ensures handed_back { IfErr result (λ refused. refused.0 ≡ (key, value)) }
+    {
+        match self.push(key, value) {
+            Ok(index) => Ok(self.value_at_mut(index)),
+            Err(refused) => Err(refused),
+        }
+    }
+}
+
+impl<'a, K: Eq, V> OccupiedEntry<'a, K, V> {
+    ghost use Rattle.starlark_small.specs.MapEntry.{occupied_keeps, occupied_lends, stored};
+
+    /// The stored key.
+    #[inline]
+    pub fn key(&self) -> &K
+        ensures { option_map entry_key (stored self.now) ≡ Some result.now }
+    {
+        let (key, _) = self.map.pair_at(self.index);
+        key
+    }
+
+    /// The value.
+    #[inline]
+    pub fn get(&self) -> &V
+        ensures { option_map entry_value (stored self.now) ≡ Some result.now }
+    {
+        let (_, value) = self.map.pair_at(self.index);
+        value
+    }
+
+    /// The value, to be written. The map has what is left in it, and all else stays.
+    #[inline]
+    pub fn get_mut(&mut self) -> &mut V
+        ensures* writes_back { sem 𝓛 (occupied_keeps K.row V.row self.entry result) }
+        ensures value { option_map entry_value (stored self.old) ≡ Some result.now }
+    {
+        let index = self.index;
+        self.map.value_at_mut(index)
+    }
+
+    /// The value, to be written for as long as the map is lent. The map ends with what is left in it, and all else
+    /// stays.
+    #[inline]
+    pub fn into_mut(self) -> &'a mut V
+        ensures* writes_back { sem 𝓛 (occupied_lends K.row V.row self.entry result) }
+        ensures value { option_map entry_value (stored self.entry) ≡ Some result.now }
+    {
+        let map = self.map;
+        map.value_at_mut(self.index)
+    }
+
+    /// The stored key, and the value, to be written. The map has what is left in it, and all else stays.
+    #[inline]
+    pub fn as_key_and_mut_value(&mut self) -> (&K, &mut V)
+        ensures* writes_back { sem 𝓛 (occupied_keeps K.row V.row self.entry result.1) }
+        ensures pair { option_map pair_of (stored self.old) ≡ Some (result.0.now, result.1.now) }
+    {
+        let index = self.index;
+        self.map.entry_mut(index)
+    }
+}
+
+impl<'a, K: Eq, V> VacantEntry<'a, K, V> {
+    ghost use Rattle.starlark_hash.specs.HashValue.{key_of};
+    ghost use Rattle.starlark_small.specs.MapEntry.{vacant_lends};
+
+    /// The key that the map lacks.
+    #[inline]
+    pub fn key(&self) -> &K
+        ensures { result.now ≡ key_of self.now.key }
+    {
+        self.key.key()
+    }
+
+    /// Inserts the key with this value, and lends the value. The entry goes last, and the map ends with what is left in
+    /// the value. It is refused where there is no room and no memory is found: then key and value come back, and
+    /// entries and index stay.
+    pub fn insert(self, value: V) -> Result<&'a mut V, NoRoom<(Hashed<K>, V)>>
+        ensures* writes_back { sem 𝓛 (vacant_lends K.row V.row self.entry result) }
+        ensures value { IfOk result (λ p. p.now ≡ value) }
+        ensures full { OnErr result (self.entry.map.now.room ≡ 0) }
+        ensures handed_back { IfErr result (λ refused. refused.0 ≡ (self.entry.key, value)) }
+    {
+        let map = self.map;
+        map.insert_new(self.key, value)
+    }
+}
+
+impl<'a, K: Eq, V> Entry<'a, K, V> {
+    ghost use Rattle.starlark_small.specs.MapEntry.{entry_lends, map_of_entry, IsKeyOf, IsModified, IsVacant, ShowsOrGives, TakesItsValue};
+
+    /// The stored key, or the one that the map lacks.
+    #[inline]
+    pub fn key(&self) -> &K
+        ensures { IsKeyOf self.now result.now }
+    {
+        match self {
+            Entry::Occupied(entry) => entry.key(),
+            Entry::Vacant(entry) => entry.key(),
+        }
+    }
+
+    /// The value that is there, to be written, or else this one, inserted as `VacantEntry::insert` does. Where there is
+    /// a value, this one is dropped and no memory is asked for.
+    pub fn or_insert(self, default: V) -> Result<&'a mut V, NoRoom<(Hashed<K>, V)>>
+    where
+        V: Drop,
+        ensures* writes_back { sem 𝓛 (entry_lends K.row V.row self.entry result) }
+        ensures value { ShowsOrGives (λ value. value ≡ default) self.entry result }
+        ensures full { OnErr result ((map_of_entry self.entry).now.room ≡ 0) }
+    {
+        match self {
+            Entry::Occupied(entry) => Ok(entry.into_mut()),
+            Entry::Vacant(entry) => entry.insert(default),
+        }
+    }
+
+    /// The value that is there, to be written, or else what the closure gives, inserted as `VacantEntry::insert` does.
+    /// The closure is called once, before the map grows, and only where there is no value; where there is one, no
+    /// memory is asked for.
+    pub fn or_insert_with<F: FnOnce() -> V>(
+        self,
+        default: F,
+    ) -> Result<&'a mut V, NoRoom<(Hashed<K>, V)>>
+        requires { IsVacant self → F.pre default }
+        ensures* writes_back { sem 𝓛 (entry_lends K.row V.row self.entry result) }
+        ensures value { ShowsOrGives (F.post default) self.entry result }
+        ensures full { OnErr result ((map_of_entry self.entry).now.room ≡ 0) }
+    {
+        match self {
+            Entry::Occupied(entry) => Ok(entry.into_mut()),
+            Entry::Vacant(entry) => entry.insert(default()),
+        }
+    }
+
+    /// The value that is there, to be written, or else the default one, inserted as `VacantEntry::insert` does. Where
+    /// there is a value, no memory is asked for.
+    pub fn or_default(self) -> Result<&'a mut V, NoRoom<(Hashed<K>, V)>>
+    where
+        V: Default,
+        ensures* writes_back { sem 𝓛 (entry_lends K.row V.row self.entry result) }
+        ensures value { ShowsOrGives V.is_default self.entry result }
+        ensures full { OnErr result ((map_of_entry self.entry).now.room ≡ 0) }
+    {
+        match self {
+            Entry::Occupied(entry) => Ok(entry.into_mut()),
+            Entry::Vacant(entry) => entry.insert(V::default()),
+        }
+    }
+
+    /// The same entry, after the closure was called once at its value, where there is one.
+    pub fn and_modify<F: FnOnce(&mut V)>(self, f: F) -> Self
+        requires { TakesItsValue F.FnOnce f self }
+        ensures same_map { (map_of_entry result).ghost_name ≡ (map_of_entry self.entry).ghost_name }
+        ensures modified { IsModified F.FnOnce f self.entry result }
+    {
+        match self {
+            Entry::Occupied(mut entry) => {
+                f(entry.get_mut());
+                Entry::Occupied(entry)
+            }
+            Entry::Vacant(entry) => Entry::Vacant(entry),
+        }
+    }
+}
