@@ -3,6 +3,7 @@
 
 pub mod entries;
 pub mod maps;
+pub mod occupied;
 pub mod pairs;
 mod put;
 #[cfg(test)]

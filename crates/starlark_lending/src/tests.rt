@@ -2,9 +2,10 @@
 
 use crate::entries::put_value;
 use crate::maps::{insert_own_then_put, insert_then_put};
+use crate::occupied::put_in_entry;
 use crate::pairs::{put_both, put_both_if};
 use starlark_hash::{Hashed, NoRoom, StarlarkHashValue};
-use starlark_small::SmallMap;
+use starlark_small::{Entry, SmallMap};
 use starlark_vec2::Vec2;
 use starlark_vecmap::VecMap;
 use std::test::Fail;
@@ -76,5 +77,21 @@ fn puts_a_value_in_a_new_entry_under_its_own_hash(rt: HostRuntime) -> Result<(),
             assert_eq!(rt; map.len(), 0);
         }
     }
+    Ok(())
+}
+
+#[test]
+fn puts_the_value_of_an_entry(rt: HostRuntime) -> Result<(), Fail> {
+    let mut map: SmallMap<u32, u32> = SmallMap::with_capacity(rt.alloc(), 3)?;
+    for key in 0..3 {
+        map.insert_hashed(under(7, key), 10 * key)?;
+    }
+    match map.entry_hashed(under(7, 1)) {
+        Entry::Occupied(mut entry) => assert_eq!(rt; put_in_entry(&mut entry, 99), 10),
+        Entry::Vacant(_entry) => return Err(Fail::new("vacant")),
+    }
+    assert!(rt; map.get_index(0) == Some((&0, &0)));
+    assert!(rt; map.get_index(1) == Some((&1, &99)));
+    assert!(rt; map.get_index(2) == Some((&2, &20)));
     Ok(())
 }
