@@ -3,6 +3,7 @@ ghost use Rattle.std.proofs.Common.{[], refl};
 
 mod called;
 mod turned;
+mod walks;
 
 use starlark_hash::StarlarkHasher;
 use starlark_small::{SmallMap, smallmap};

@@ -1,0 +1,62 @@
+//! Walks that are cloned, and texts that are turned round.
+
+use starlark_hash::TextKey;
+use starlark_small::{SmallMap, smallmap};
+use std::test::Fail;
+
+#[test]
+fn walks_twice(rt: HostRuntime) -> Result<(), Fail> {
+    let alloc = rt.alloc();
+    let map: SmallMap<u32, &str> = smallmap![alloc; 1 => "a", 3 => "b"]?;
+    let pairs = map.iter();
+    for mut walk in [pairs.clone()?, pairs] {
+        assert!(rt; walk.next() == Some((&1, &"a")));
+        assert!(rt; walk.next() == Some((&3, &"b")));
+        assert!(rt; walk.next() == None);
+    }
+    let keys = map.keys();
+    for mut walk in [keys.clone()?, keys] {
+        assert_eq!(rt; walk.next().copied(), Some(1));
+        assert_eq!(rt; walk.next().copied(), Some(3));
+        assert!(rt; walk.next() == None);
+    }
+    let values = map.values();
+    for mut walk in [values.clone()?, values] {
+        assert!(rt; walk.next() == Some(&"a"));
+        assert!(rt; walk.next() == Some(&"b"));
+        assert!(rt; walk.next() == None);
+    }
+    Ok(())
+}
+
+#[test]
+fn turns_texts_round(rt: HostRuntime) -> Result<(), Fail> {
+    let alloc = rt.alloc();
+    let mut map: SmallMap<String, String> = SmallMap::new(alloc);
+    for i in 0..100u32 {
+        map.insert(i.to_string(alloc)?, i.wrapping_mul(10).to_string(alloc)?)?;
+    }
+    map.reverse();
+    let mut walk = map.iter();
+    for i in (0..100u32).rev() {
+        let key = i.to_string(alloc)?;
+        let value = i.wrapping_mul(10).to_string(alloc)?;
+        assert!(rt; map.get(&TextKey(key.as_str())) == Some(&value));
+        assert!(rt; walk.next() == Some((&key, &value)));
+    }
+    assert!(rt; walk.next() == None);
+    Ok(())
+}
+
+#[test]
+fn looks_at_few(rt: HostRuntime) -> Result<(), Fail> {
+    let alloc = rt.alloc();
+    let none: SmallMap<i8, &str> = SmallMap::new(alloc);
+    assert!(rt; none.is_empty() && none.iter().next() == None);
+    let map: SmallMap<u32, char> = smallmap![alloc; 0 => 'a', 1 => 'b']?;
+    assert!(rt; map.get(&0u32) == Some(&'a') && map.get(&3u32) == None);
+    assert!(rt; map.get_index(1) == Some((&1, &'b')) && map.get_index(2) == None);
+    assert!(rt; map == smallmap![alloc; 1 => 'b', 0 => 'a']?);
+    assert!(rt; map != smallmap![alloc; 0 => 'a', 1 => 'c']?);
+    Ok(())
+}
