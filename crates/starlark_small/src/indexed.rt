@@ -1,5 +1,5 @@
 //! A list of entries and its index: what the calls of a map do to both.
-ghost use Rattle.std.specs.Prelude.{◌≡◌, ◌+◌, ◌<◌, ◌≤◌, [], ◌∷◌, ◌++◌, length, List, min, nat_le, nat_lt, remove, reverse, slice_get, is_some, if◌then◌else◌, Some, None, IfErr, IfOk, IfSome, IsOk, IsSome, OnErr, OnOk};
+ghost use Rattle.std.specs.Prelude.{◌≡◌, ◌+◌, ◌-◌, ◌<◌, ◌≤◌, [], ◌∷◌, ◌++◌, length, List, min, nat_le, nat_lt, remove, reverse, slice_get, is_some, if◌then◌else◌, Some, None, IfErr, IfOk, IfSome, IsOk, IsSome, OnErr, OnOk};
 ghost use Rattle.starlark_hash.specs.Entries.{Entry, insert_entry, match_of, set_value_at, value_at, with_value};
 ghost use Rattle.starlark_hash.specs.Search.{CanSearch, Searches, keys_under};
 ghost use Rattle.starlark_hash.specs.Sorting.{Ascends, sorted_by_key};
@@ -232,6 +232,27 @@ pub(crate) fn remove_at<K: Eq, V>(
     let _capacity = entries.capacity();
     unindex(index, entries, i);
     entries.remove(i)
+}
+
+// Takes out the last entry.
+#[inline]
+pub(crate) fn pop_in<K: Eq, V>(
+    entries: &mut VecMap<K, V>,
+    index: &mut Option<ReadyTable<usize>>,
+) -> Option<(Hashed<K>, V)>
+    requires { IsSound K.eq entries.old.entries index.old }
+    ensures taken { result ≡ slice_get entries.old.entries (length entries.old.entries - 1) }
+    ensures entries { entries.new.entries ≡ remove entries.old.entries (length entries.old.entries - 1) }
+    ensures sound { IsSound K.eq entries.new.entries index.new }
+    ensures kept { KeepsMemory (map_of entries.old index.old) (map_of entries.new index.new) }
+{
+    let _capacity = entries.capacity();
+    let len = entries.len();
+    if len == 0 {
+        return None;
+    }
+    unindex(index, entries, len - 1);
+    entries.pop()
 }
 
 // Removes each entry. The memory stays.

@@ -31,10 +31,11 @@ pub(super) fn reserve_index<K, V>(
     ensures refused { OnErr result (index_room (length entries.now.entries) index.old < additional) }
     ensures unchanged { OnErr result (index.new ≡ index.old) }
 {
-    if let Some(table) = index {
-        return table.reserve(additional);
-    }
-    if additional <= UNINDEXED - entries.len() {
+    let left = match index {
+        Some(table) => table.room(),
+        None => UNINDEXED - entries.len(),
+    };
+    if additional <= left {
         return Ok(());
     }
     let table = new_index(alloc, entries, entries.capacity())?;
