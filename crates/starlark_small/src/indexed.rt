@@ -49,6 +49,7 @@ pub(crate) fn with_room<K: Eq, V>(
 }
 
 // How many new entries surely need no memory.
+#[inline]
 pub(crate) fn room_in<K, V>(entries: &VecMap<K, V>, index: &Option<ReadyTable<usize>>) -> usize
     requires { IsIndexed entries.now.entries index.now }
     ensures { result ≡ room_of entries.now index.now }
@@ -99,6 +100,7 @@ pub(crate) fn place_in<K: Eq, V, Q: Equivalent<K>>(
 }
 
 // Makes room for so many new entries.
+#[inline]
 pub(crate) fn reserve_in<K: Eq, V>(
     alloc: Global,
     entries: &mut VecMap<K, V>,
@@ -111,6 +113,32 @@ pub(crate) fn reserve_in<K: Eq, V>(
     ensures ok { OnOk result (additional ≤ room_of entries.new index.new) }
     ensures enough { additional ≤ room_of entries.old index.old → (entries.new ≡ entries.old) × (index.new ≡ index.old) }
     ensures refused { OnErr result (room_of entries.old index.old < additional) }
+    ensures unchanged { OnErr result (index.new ≡ index.old) }
+    ensures room { KeepsRoom (map_of entries.old index.old) (map_of entries.new index.new) }
+    ensures capacity { GrowsFor (length entries.old.entries + additional) (map_of entries.old index.old) (map_of entries.new index.new) }
+    ensures kept { IsSome index.old → IsSome index.new }
+    ensures long { OnOk result (unindexed < length entries.old.entries + additional → IsSome index.new) }
+{
+    if additional <= room_in(entries, index) {
+        return Ok(());
+    }
+    grow_in(alloc, entries, index, additional)
+}
+
+// The part of `reserve_in` that asks for memory, apart so that the test is inlined.
+#[cold]
+#[inline(never)]
+fn grow_in<K: Eq, V>(
+    alloc: Global,
+    entries: &mut VecMap<K, V>,
+    index: &mut Option<ReadyTable<usize>>,
+    additional: usize,
+) -> Result<(), AllocError>
+    requires sound { IsSound K.eq entries.old.entries index.old }
+    requires missing { room_of entries.old index.old < additional }
+    ensures entries { entries.new.entries ≡ entries.old.entries }
+    ensures sound { IsSound K.eq entries.new.entries index.new }
+    ensures ok { OnOk result (additional ≤ room_of entries.new index.new) }
     ensures unchanged { OnErr result (index.new ≡ index.old) }
     ensures room { KeepsRoom (map_of entries.old index.old) (map_of entries.new index.new) }
     ensures capacity { GrowsFor (length entries.old.entries + additional) (map_of entries.old index.old) (map_of entries.new index.new) }
