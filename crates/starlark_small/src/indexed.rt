@@ -19,7 +19,7 @@ mod tests;
 
 pub(crate) use compare::same_in;
 pub(crate) use copy::clone_in;
-use growth::{UNINDEXED, index_last, reserve_index};
+use growth::{UNINDEXED, index_capacity, index_last, reserve_index};
 use places::{fill_index, unindex};
 use search::{find_indexed, position_indexed};
 use starlark_hash::{Equivalent, Hashed, NoRoom, StarlarkHashValue};
@@ -40,7 +40,7 @@ pub(crate) fn with_room<K: Eq, V>(
     ensures none_for_none { capacity ≡ 0 → IsOk result }
 {
     let index = if capacity > UNINDEXED {
-        Some(ReadyTable::with_capacity(alloc, capacity)?)
+        Some(ReadyTable::with_capacity(alloc, index_capacity(capacity))?)
     } else {
         None
     };
