@@ -84,10 +84,6 @@ module _ {K V : Type 0} where
   IsIndexed-set_value_at es i value None short = omega (arith, length-set_value_at es i value)
   IsIndexed-set_value_at es i value (Some table) index = IsIndexOf-set_value_at es i value table index
 
-  -- the index grows
-  pub IsIndexOf-grown : (es : List (Entry K V)) (old new : Table ℕ) → IsIndexOf es old → IsPermutation (members old) (members new) → IsIndexOf es new
-  IsIndexOf-grown es old new index same = record { bag = IsPermutation-trans (positions es) (members old) (members new) index.bag same; fits = index.fits }
-
   -- an empty table is the index of an empty list
   pub IsIndexOf-empty : (es : List (Entry K V)) (table : Table ℕ) → es ≡ [] → members table ≡ [] → IsIndexOf es table
   IsIndexOf-empty es table none empty =

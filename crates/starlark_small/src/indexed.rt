@@ -1,5 +1,5 @@
 //! A list of entries and its index: what the calls of a map do to both.
-ghost use Rattle.std.specs.Prelude.{◌≡◌, ◌+◌, ◌<◌, ◌≤◌, [], ◌∷◌, ◌++◌, length, List, min, nat_le, nat_lt, remove, reverse, slice_get, is_some, if◌then◌else◌, Some, None, IfErr, IfOk, IfSome, IsOk, IsSome, OnErr, OnOk};
+ghost use Rattle.std.specs.Prelude.{◌≡◌, ◌+◌, ◌-◌, ◌<◌, ◌≤◌, [], ◌∷◌, ◌++◌, length, List, min, nat_le, nat_lt, remove, reverse, slice_get, is_some, if◌then◌else◌, Some, None, IfErr, IfOk, IfSome, IsOk, IsSome, OnErr, OnOk};
 ghost use Rattle.starlark_hash.specs.Entries.{Entry, insert_entry, match_of, set_value_at, value_at};
 ghost use Rattle.starlark_hash.specs.Search.{CanSearch, Searches, keys_under};
 ghost use Rattle.starlark_hash.specs.Sorting.{Ascends, sorted_by_key};
@@ -19,7 +19,7 @@ mod tests;
 
 pub(crate) use compare::same_in;
 pub(crate) use copy::clone_in;
-use growth::{UNINDEXED, index_last, reserve_index};
+use growth::{UNINDEXED, index_capacity, index_last, reserve_index};
 use places::{fill_index, unindex};
 use search::{find_indexed, position_indexed};
 use starlark_hash::{Equivalent, Hashed, NoRoom, StarlarkHashValue};
@@ -40,7 +40,7 @@ pub(crate) fn with_room<K: Eq, V>(
     ensures none_for_none { capacity ≡ 0 → IsOk result }
 {
     let index = if capacity > UNINDEXED {
-        Some(ReadyTable::with_capacity(alloc, capacity)?)
+        Some(ReadyTable::with_capacity(alloc, index_capacity(capacity))?)
     } else {
         None
     };
@@ -49,6 +49,7 @@ pub(crate) fn with_room<K: Eq, V>(
 }
 
 // How many new entries surely need no memory.
+#[inline]
 pub(crate) fn room_in<K, V>(entries: &VecMap<K, V>, index: &Option<ReadyTable<usize>>) -> usize
     requires { IsIndexed entries.now.entries index.now }
     ensures { result ≡ room_of entries.now index.now }
@@ -99,6 +100,7 @@ pub(crate) fn place_in<K: Eq, V, Q: Equivalent<K>>(
 }
 
 // Makes room for so many new entries.
+#[inline]
 pub(crate) fn reserve_in<K: Eq, V>(
     alloc: Global,
     entries: &mut VecMap<K, V>,
@@ -111,6 +113,32 @@ pub(crate) fn reserve_in<K: Eq, V>(
     ensures ok { OnOk result (additional ≤ room_of entries.new index.new) }
     ensures enough { additional ≤ room_of entries.old index.old → (entries.new ≡ entries.old) × (index.new ≡ index.old) }
     ensures refused { OnErr result (room_of entries.old index.old < additional) }
+    ensures unchanged { OnErr result (index.new ≡ index.old) }
+    ensures room { KeepsRoom (map_of entries.old index.old) (map_of entries.new index.new) }
+    ensures capacity { GrowsFor (length entries.old.entries + additional) (map_of entries.old index.old) (map_of entries.new index.new) }
+    ensures kept { IsSome index.old → IsSome index.new }
+    ensures long { OnOk result (unindexed < length entries.old.entries + additional → IsSome index.new) }
+{
+    if additional <= room_in(entries, index) {
+        return Ok(());
+    }
+    grow_in(alloc, entries, index, additional)
+}
+
+// The part of `reserve_in` that asks for memory, apart so that the test is inlined.
+#[cold]
+#[inline(never)]
+fn grow_in<K: Eq, V>(
+    alloc: Global,
+    entries: &mut VecMap<K, V>,
+    index: &mut Option<ReadyTable<usize>>,
+    additional: usize,
+) -> Result<(), AllocError>
+    requires sound { IsSound K.eq entries.old.entries index.old }
+    requires missing { room_of entries.old index.old < additional }
+    ensures entries { entries.new.entries ≡ entries.old.entries }
+    ensures sound { IsSound K.eq entries.new.entries index.new }
+    ensures ok { OnOk result (additional ≤ room_of entries.new index.new) }
     ensures unchanged { OnErr result (index.new ≡ index.old) }
     ensures room { KeepsRoom (map_of entries.old index.old) (map_of entries.new index.new) }
     ensures capacity { GrowsFor (length entries.old.entries + additional) (map_of entries.old index.old) (map_of entries.new index.new) }
@@ -215,6 +243,27 @@ pub(crate) fn remove_at<K: Eq, V>(
     let _capacity = entries.capacity();
     unindex(index, entries, i);
     entries.remove(i)
+}
+
+// Takes out the last entry.
+#[inline]
+pub(crate) fn pop_in<K: Eq, V>(
+    entries: &mut VecMap<K, V>,
+    index: &mut Option<ReadyTable<usize>>,
+) -> Option<(Hashed<K>, V)>
+    requires { IsSound K.eq entries.old.entries index.old }
+    ensures taken { result ≡ slice_get entries.old.entries (length entries.old.entries - 1) }
+    ensures entries { entries.new.entries ≡ remove entries.old.entries (length entries.old.entries - 1) }
+    ensures sound { IsSound K.eq entries.new.entries index.new }
+    ensures kept { KeepsMemory (map_of entries.old index.old) (map_of entries.new index.new) }
+{
+    let _capacity = entries.capacity();
+    let len = entries.len();
+    if len == 0 {
+        return None;
+    }
+    unindex(index, entries, len - 1);
+    entries.pop()
 }
 
 // Removes each entry. The memory stays.

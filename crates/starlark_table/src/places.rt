@@ -7,7 +7,7 @@ ghost use Rattle.starlark_table.specs.Layout.{distance, home, limit};
 pub(crate) fn limit(count: usize) -> usize
     ensures { result ≡ limit count }
 {
-    count - count / 4
+    count / 2
 }
 
 #[inline]

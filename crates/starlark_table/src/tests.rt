@@ -11,8 +11,9 @@ use std::test::Fail;
 fn removes_one_of_a_hash(rt: HostRuntime) -> Result<(), Fail> {
     let mut table = ReadyTable::new(rt.alloc());
     table.insert_unique(7, 'a')?;
-    let slot = table.insert_unique(7, 'b')?;
+    table.insert_unique(7, 'b')?;
     table.insert_unique(7, 'c')?;
+    let slot = table.find(7, |letter| *letter == 'b').ok_or("lost")?;
     assert_eq!(rt; table.remove(slot), Some((7, 'b')));
     assert!(rt; table.find(7, |letter| *letter == 'a').is_some());
     assert!(rt; table.find(7, |letter| *letter == 'b').is_none());
@@ -183,12 +184,13 @@ fn lends_items_without_size(rt: HostRuntime) -> Result<(), Fail> {
     for hash in 0u64..5 {
         table.insert_unique(hash << 61, ())?;
     }
+    let room = table.room();
     let mut walk = table.iter_mut();
     for _ in 0..5 {
         assert!(rt; walk.next().is_some());
     }
     assert!(rt; walk.next().is_none());
-    assert_eq!(rt; table.room(), 1);
+    assert_eq!(rt; table.room(), room);
     Ok(())
 }
 

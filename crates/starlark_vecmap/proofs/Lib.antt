@@ -7,3 +7,4 @@ pub mod Carry
 pub mod Sorts
 pub mod Written
 pub mod VecMapOpen
+pub mod Blocks

@@ -12,6 +12,20 @@ use std::alloc::{AllocError, Global};
 // The greatest length that a list may have without an index.
 pub(super) const UNINDEXED: usize = 32;
 
+// The greatest capacity of a list whose index has twice the room, so that a search of it meets few other entries.
+const ROOMY: usize = 4096;
+
+// How many places the index of a list of this capacity is made for.
+pub(super) fn index_capacity(capacity: usize) -> usize
+    ensures { capacity ≤ result }
+{
+    if capacity <= ROOMY {
+        2 * capacity
+    } else {
+        capacity
+    }
+}
+
 // Makes room in the index for so many new entries, for which the list has room.
 pub(super) fn reserve_index<K, V>(
     alloc: Global,
@@ -31,13 +45,14 @@ pub(super) fn reserve_index<K, V>(
     ensures refused { OnErr result (index_room (length entries.now.entries) index.old < additional) }
     ensures unchanged { OnErr result (index.new ≡ index.old) }
 {
-    if let Some(table) = index {
-        return table.reserve(additional);
-    }
-    if additional <= UNINDEXED - entries.len() {
+    let left = match index {
+        Some(table) => table.room(),
+        None => UNINDEXED - entries.len(),
+    };
+    if additional <= left {
         return Ok(());
     }
-    let table = new_index(alloc, entries, entries.capacity())?;
+    let table = new_index(alloc, entries, index_capacity(entries.capacity()))?;
     *index = Some(table);
     Ok(())
 }

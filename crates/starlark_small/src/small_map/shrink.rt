@@ -6,7 +6,7 @@ ghost use Rattle.starlark_small.specs.Index.{unindexed};
 ghost use Rattle.starlark_small.specs.Map.{KeepsMemory, query_match, own_match};
 
 use super::SmallMap;
-use crate::indexed::{clear_in, drop_index, remove_at, reverse_in};
+use crate::indexed::{clear_in, drop_index, pop_in, remove_at, reverse_in};
 use crate::own_hash::under_own_hash;
 use starlark_hash::{Equivalent, Hashed};
 use std::hash::Hash;
@@ -94,11 +94,7 @@ impl<K: Eq, V> SmallMap<K, V> {
         ensures entries { self.new.entries ≡ remove self.old.entries (length self.old.entries - 1) }
         ensures kept { KeepsMemory self.old self.new }
     {
-        let len = self.len();
-        if len == 0 {
-            return None;
-        }
-        let (key, value) = self.take_at(len - 1);
+        let (key, value) = pop_in(&mut self.entries, &mut self.index)?;
         Some((key.into_key(), value))
     }
 
