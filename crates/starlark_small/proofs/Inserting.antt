@@ -41,6 +41,10 @@ pub grows_on : (first mid last len len' : ℕ) → (first ≤ mid) × (mid ≤ m
     → (first ≤ last) × (last ≤ max first (max 4 (2 * (len' + 1))))
 grows_on first mid last len len' a b c = (omega (arith, a.0, b.0), omega (arith, a.1, b.1, c))
 
+-- where there is room for all items, there is room for each that comes
+pub room_for_next : (first seen mid spare room all left after : ℕ) → first + room ≤ mid + spare → mid ≤ first + seen → seen + left ≤ all → after < left → all ≤ room → 0 < spare
+room_for_next first seen mid spare room all left after a b c d e = omega arith
+
 -- items that came one by one took no more room than there were of them, so that room for all is not used up before the last
 pub room_left : (first seen mid spare room all left after : ℕ) → first + room ≤ mid + spare → spare ≡ 0 → mid ≤ first + seen → seen + left ≤ all → after < left → all ≤ room → ⊥
 room_left first seen mid spare room all left after a b c d e f = omega arith

@@ -10,12 +10,14 @@ use std::alloc::{AllocError, Global};
 use std::hash::Hash;
 
 impl<K: Eq + Hash + Drop, V: Drop> SmallMap<K, V> {
-    /// Inserts the items in their order, each under its key's own hash, as `insert` does. It reserves nothing. Where a
-    /// new key is refused, the items that came before are there, and it and the others are dropped.
+    /// Inserts the items in their order, each under its key's own hash, as `insert` does. It reserves nothing, and where
+    /// there is room for all of them, capacity and index stay. Where a new key is refused, the items that came before
+    /// are there, and it and the others are dropped.
     pub fn extend<I: IntoIterator<Item = (K, V)>>(&mut self, iter: I) -> Result<(), AllocError>
         requires { IsFiniteIterable I.into_iter_gives I.IntoIter.can_next I.IntoIter.remaining iter }
         ensures entries { Extends K.eq (own_entry K.hash_input) I.IntoIter.next_gives I.into_iter_gives iter self.old.entries self.new.entries result }
         ensures succeeds { ((it : _) → I.into_iter_gives iter it → size (I.IntoIter.remaining it) ≤ self.old.room) → IsOk result }
+        ensures spare { ((it : _) → I.into_iter_gives iter it → size (I.IntoIter.remaining it) ≤ self.old.room) → (self.new.capacity ≡ self.old.capacity) × (self.new.indexed ≡ self.old.indexed) }
         ensures room { KeepsRoom self.old self.new }
         ensures capacity { GrowsFor (length self.new.entries + 1) self.old self.new }
         ensures indexed { IsTrue self.old.indexed → IsTrue self.new.indexed }
@@ -45,6 +47,7 @@ impl<K: Eq + Hash + Drop, V: Drop> SmallMap<K, V> {
         requires finite { IsFinite (I.remaining items) }
         ensures entries { Inserts K.eq (own_entry K.hash_input) I.next_gives items self.old.entries self.new.entries result }
         ensures succeeds { size (I.remaining items) ≤ self.old.room → IsOk result }
+        ensures spare { size (I.remaining items) ≤ self.old.room → (self.new.capacity ≡ self.old.capacity) × (self.new.indexed ≡ self.old.indexed) }
         ensures room { KeepsRoom self.old self.new }
         ensures capacity { GrowsFor (length self.new.entries + 1) self.old self.new }
         ensures indexed { IsTrue self.old.indexed → IsTrue self.new.indexed }
@@ -86,6 +89,7 @@ impl<K: Eq + Drop, V: Drop> SmallMap<K, V> {
         ensures entries { Inserts K.eq (λ item. item) I.next_gives items self.old.entries self.new.entries result }
         ensures succeeds { size (I.remaining items) ≤ self.old.room → IsOk result }
         ensures room { KeepsRoom self.old self.new }
+        ensures capacity { GrowsFor (length self.new.entries + 1) self.old self.new }
     {
         while let Some(entry) = items.next() {
             let (key, value) = entry;

@@ -14,4 +14,5 @@ returns-clause-map g c =
       put.2,
       put.1 ∙ ap (λ l. insert_all g.K.PartialEq.eq l (map (own_entry g.K.Hash.hash_input) put.0)) none,
       omega (arith, c.insert_items.ensures.room, c.in_ok-map.ensures.room, ap length none),
+      omega (arith, c.insert_items.ensures.capacity.1, c.in_ok-map.ensures.capacity),
     )

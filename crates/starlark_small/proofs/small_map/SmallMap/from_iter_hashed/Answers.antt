@@ -15,4 +15,5 @@ returns-clause-map g c =
       put.2,
       put.1 ∙ ap (λ l. insert_all g.K.PartialEq.eq l (map (λ (x : Entry g.row.K.Denot g.row.V.Denot). x) put.0)) none,
       omega (arith, c.insert_entries.ensures.room, c.in_ok-map.ensures.room, ap length none),
+      omega (arith, c.insert_entries.ensures.capacity.1, c.in_ok-map.ensures.capacity),
     )

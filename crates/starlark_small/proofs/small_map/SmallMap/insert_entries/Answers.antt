@@ -1,13 +1,13 @@
-use Rattle.std.proofs.Common.{◌≡◌, None, length, refl, sym, ap, subst, ◌∙◌, arith}
+use Rattle.std.proofs.Common.{◌≡◌, ◌≤◌, None, length, refl, sym, ap, subst, ◌∙◌, arith}
 use Rattle.std.proofs.iter.Next as it
 use Rattle.std.proofs.lemmas.List.{length_push}
 use Rattle.std.specs.Iterator.{size}
 use Rattle.starlark_hash.specs.Entries.{Entry, insert_entry, match_of}
-use Rattle.starlark_small.proofs.Inserting.{yields_more, insert_all-push, length_insert_le, room_left}
+use Rattle.starlark_small.proofs.Inserting.{yields_more, insert_all-push, length_insert_le, length_le_insert, room_left, grows_on}
 use Rattle.starlark_small.proofs.small_map.SmallMap.insert_entries.Goals as goal
 
 pub loop-entry-init : goal.loop-entry-init
-loop-entry-init g c = it.begun c.requires.can c.requires.finite (refl, omega arith, omega arith)
+loop-entry-init g c = it.begun c.requires.can c.requires.finite (refl, omega arith, omega arith, (omega arith, omega arith))
 
 pub loop-entry-preserved-in-Ok : goal.loop-entry-preserved-in-Ok
 loop-entry-preserved-in-Ok g c =
@@ -21,6 +21,8 @@ loop-entry-preserved-in-Ok g c =
       c.in-Ok.ensures.entries ∙ ap (λ l. insert_entry eq l (item x).0 (item x).1) inv.holds.0 ∙ sym (insert_all-push eq item first.entries inv.seen x),
       omega (arith, inv.holds.1, c.insert_hashed.ensures.room),
       omega (arith, ap length c.in-Ok.ensures.entries, length_insert_le eq mid.entries (item x).0 (item x).1, inv.holds.2, length_push inv.seen x),
+      grows_on first.capacity mid.capacity c.insert_hashed.new.self.capacity (length mid.entries) (length c.insert_hashed.new.self.entries) inv.holds.3 c.insert_hashed.ensures.capacity
+          (subst (λ l. length mid.entries ≤ length l) (sym c.in-Ok.ensures.entries) (length_le_insert eq mid.entries (item x).0 (item x).1)),
     )
 
 pub loop-entry-preserved : goal.loop-entry-preserved
@@ -35,6 +37,8 @@ loop-entry-preserved g c =
       c.in-Ok.ensures.entries ∙ ap (λ l. insert_entry eq l (item x).0 (item x).1) inv.holds.0 ∙ sym (insert_all-push eq item first.entries inv.seen x),
       omega (arith, inv.holds.1, c.insert_hashed.ensures.room),
       omega (arith, ap length c.in-Ok.ensures.entries, length_insert_le eq mid.entries (item x).0 (item x).1, inv.holds.2, length_push inv.seen x),
+      grows_on first.capacity mid.capacity c.insert_hashed.new.self.capacity (length mid.entries) (length c.insert_hashed.new.self.entries) inv.holds.3 c.insert_hashed.ensures.capacity
+          (subst (λ l. length mid.entries ≤ length l) (sym c.in-Ok.ensures.entries) (length_le_insert eq mid.entries (item x).0 (item x).1)),
     )
 
 pub returns-in-Err-clause-entries : goal.returns-in-Err-clause-entries
@@ -56,6 +60,12 @@ returns-in-Err-clause-entries g c =
 
 pub returns-in-Err-clause-room : goal.returns-in-Err-clause-room
 returns-in-Err-clause-room g c = omega (arith, c.loop-entry.invariant.holds.1, c.insert_hashed.ensures.room)
+
+pub returns-in-Err-clause-capacity : goal.returns-in-Err-clause-capacity
+returns-in-Err-clause-capacity g c =
+    let mid = c.loop-entry.self in
+    grows_on c.args.self.now.capacity mid.capacity c.insert_hashed.new.self.capacity (length mid.entries) (length c.insert_hashed.new.self.entries) c.loop-entry.invariant.holds.3 c.insert_hashed.ensures.capacity
+    (subst (λ l. length mid.entries ≤ length l) (sym c.in-Err.ensures.unchanged.0) (omega arith))
 
 pub returns-in-Err-clause-succeeds : goal.returns-in-Err-clause-succeeds
 returns-in-Err-clause-succeeds g c = λ fits.

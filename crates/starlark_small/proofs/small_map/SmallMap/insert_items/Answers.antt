@@ -4,11 +4,11 @@ use Rattle.std.proofs.lemmas.List.{length_push}
 use Rattle.std.specs.Iterator.{size}
 use Rattle.starlark_hash.specs.Entries.{Entry, insert_entry, match_of}
 use Rattle.starlark_small.specs.Collect.{own_entry}
-use Rattle.starlark_small.proofs.Inserting.{yields_more, insert_all-push, length_insert_le, length_le_insert, room_left, grows_on}
+use Rattle.starlark_small.proofs.Inserting.{yields_more, insert_all-push, length_insert_le, length_le_insert, room_left, room_for_next, grows_on}
 use Rattle.starlark_small.proofs.small_map.SmallMap.insert_items.Goals as goal
 
 pub loop-pair-init : goal.loop-pair-init
-loop-pair-init g c = it.begun c.requires.can c.requires.finite (refl, omega arith, omega arith, (omega arith, omega arith), λ had. had)
+loop-pair-init g c = it.begun c.requires.can c.requires.finite (refl, omega arith, omega arith, (omega arith, omega arith), λ had. had, λ fits. (refl, refl))
 
 pub loop-pair-preserved-in-Ok : goal.loop-pair-preserved-in-Ok
 loop-pair-preserved-in-Ok g c =
@@ -18,6 +18,9 @@ loop-pair-preserved-in-Ok g c =
     let mid = c.loop-pair.self in
     let x = c.in-Some.pair in
     let item : g.row.K.Denot × g.row.V.Denot → Entry g.row.K.Denot g.row.V.Denot = own_entry g.K.Hash.hash_input in
+    let more = λ (fits : size (g.I.Iterator.remaining c.args.items) ≤ first.room). room_for_next (length first.entries) (length inv.seen) (length mid.entries) mid.room first.room
+    (size (g.I.Iterator.remaining c.args.items)) (size (g.I.Iterator.remaining c.loop-pair.items)) (size (g.I.Iterator.remaining c.next.new.self))
+    inv.holds.1 inv.holds.2 inv.counted (it.on x c.in-Some.is c.next.ensures.goes inv.ending).2 fits in
     it.again inv x c.in-Some.is (c.next.ensures.steps, c.next.ensures.goes) (
       c.in-Ok.ensures.entries ∙ ap (λ l. insert_entry eq l (item x).0 (item x).1) inv.holds.0 ∙ sym (insert_all-push eq item first.entries inv.seen x),
       omega (arith, inv.holds.1, c.insert.ensures.room),
@@ -25,6 +28,7 @@ loop-pair-preserved-in-Ok g c =
       grows_on first.capacity mid.capacity c.insert.new.self.capacity (length mid.entries) (length c.insert.new.self.entries) inv.holds.3 c.insert.ensures.capacity
           (subst (λ l. length mid.entries ≤ length l) (sym c.in-Ok.ensures.entries) (length_le_insert eq mid.entries (item x).0 (item x).1)),
       λ had. c.insert.ensures.indexed (inv.holds.4 had),
+      λ fits. ((c.insert.ensures.spare (more fits)).0 ∙ (inv.holds.5 fits).0, (c.insert.ensures.spare (more fits)).1 ∙ (inv.holds.5 fits).1),
     )
 
 pub loop-pair-preserved : goal.loop-pair-preserved
@@ -35,6 +39,9 @@ loop-pair-preserved g c =
     let mid = c.loop-pair.self in
     let x = c.in-Some.pair in
     let item : g.row.K.Denot × g.row.V.Denot → Entry g.row.K.Denot g.row.V.Denot = own_entry g.K.Hash.hash_input in
+    let more = λ (fits : size (g.I.Iterator.remaining c.args.items) ≤ first.room). room_for_next (length first.entries) (length inv.seen) (length mid.entries) mid.room first.room
+    (size (g.I.Iterator.remaining c.args.items)) (size (g.I.Iterator.remaining c.loop-pair.items)) (size (g.I.Iterator.remaining c.next.new.self))
+    inv.holds.1 inv.holds.2 inv.counted (it.on x c.in-Some.is c.next.ensures.goes inv.ending).2 fits in
     it.again inv x c.in-Some.is (c.next.ensures.steps, c.next.ensures.goes) (
       c.in-Ok.ensures.entries ∙ ap (λ l. insert_entry eq l (item x).0 (item x).1) inv.holds.0 ∙ sym (insert_all-push eq item first.entries inv.seen x),
       omega (arith, inv.holds.1, c.insert.ensures.room),
@@ -42,6 +49,7 @@ loop-pair-preserved g c =
       grows_on first.capacity mid.capacity c.insert.new.self.capacity (length mid.entries) (length c.insert.new.self.entries) inv.holds.3 c.insert.ensures.capacity
           (subst (λ l. length mid.entries ≤ length l) (sym c.in-Ok.ensures.entries) (length_le_insert eq mid.entries (item x).0 (item x).1)),
       λ had. c.insert.ensures.indexed (inv.holds.4 had),
+      λ fits. ((c.insert.ensures.spare (more fits)).0 ∙ (inv.holds.5 fits).0, (c.insert.ensures.spare (more fits)).1 ∙ (inv.holds.5 fits).1),
     )
 
 pub returns-in-Err-clause-entries : goal.returns-in-Err-clause-entries
@@ -69,6 +77,16 @@ returns-in-Err-clause-capacity g c =
     let mid = c.loop-pair.self in
     grows_on c.args.self.now.capacity mid.capacity c.insert.new.self.capacity (length mid.entries) (length c.insert.new.self.entries) c.loop-pair.invariant.holds.3 c.insert.ensures.capacity
     (subst (λ l. length mid.entries ≤ length l) (sym c.in-Err.ensures.unchanged.0) (omega arith))
+
+pub returns-in-Err-clause-spare : goal.returns-in-Err-clause-spare
+returns-in-Err-clause-spare g c = λ fits.
+    let inv = c.loop-pair.invariant in
+    let first = c.args.self.now in
+    let mid = c.loop-pair.self in
+    let more = room_for_next (length first.entries) (length inv.seen) (length mid.entries) mid.room first.room
+    (size (g.I.Iterator.remaining c.args.items)) (size (g.I.Iterator.remaining c.loop-pair.items)) (size (g.I.Iterator.remaining c.next.new.self))
+    inv.holds.1 inv.holds.2 inv.counted (it.on c.in-Some.pair c.in-Some.is c.next.ensures.goes inv.ending).2 fits in
+    ((c.insert.ensures.spare more).0 ∙ (inv.holds.5 fits).0, (c.insert.ensures.spare more).1 ∙ (inv.holds.5 fits).1)
 
 pub returns-in-Err-clause-succeeds : goal.returns-in-Err-clause-succeeds
 returns-in-Err-clause-succeeds g c = λ fits.
