@@ -1,11 +1,13 @@
-//! A caller of the value that an entry of a `SmallMap` lends beside its key.
-ghost use Rattle.std.specs.Prelude.{◌≡◌, Some};
+//! Callers of the entries of a `SmallMap`.
+ghost use Rattle.std.specs.Prelude.{◌≡◌, Some, None, IfErr, IfOk, OnErr};
 ghost use Rattle.std.specs.Option.{option_map};
-ghost use Rattle.starlark_hash.specs.Entries.{entry_value};
+ghost use Rattle.starlark_hash.specs.Entries.{entry_value, match_of, value_at};
 ghost use Rattle.starlark_small.specs.MapEntry.{stored, with_entry_value};
+ghost use Rattle.starlark_lending.specs.Lending.{with_value_under};
 
 use crate::put::put;
-use starlark_small::OccupiedEntry;
+use starlark_hash::Hashed;
+use starlark_small::{Entry, OccupiedEntry, SmallMap};
 
 /// Puts the value of an entry that the map has, and gives the one that was there.
 pub fn put_in_entry<K: Eq, V>(entry: &mut OccupiedEntry<'_, K, V>, value: V) -> V
@@ -14,4 +16,22 @@ pub fn put_in_entry<K: Eq, V>(entry: &mut OccupiedEntry<'_, K, V>, value: V) -> 
 {
     let (_key, slot) = entry.as_key_and_mut_value();
     put(slot, value)
+}
+
+/// Puts the value that a map has under this hash and key, and gives the one that was there. Where it has none, the value
+/// comes back and the map stays.
+pub fn put_if_there<K: Eq + Drop, V>(
+    map: &mut SmallMap<K, V>,
+    key: Hashed<K>,
+    value: V,
+) -> Result<V, V>
+    ensures taken { IfOk result (λ was. value_at map.old.entries (match_of K.eq map.old.entries key) ≡ Some was) }
+    ensures written { map.new ≡ with_value_under K.eq map.old key value }
+    ensures absent { OnErr result (match_of K.eq map.old.entries key ≡ None) }
+    ensures handed_back { IfErr result (λ back. back ≡ value) }
+{
+    match map.entry_hashed(key) {
+        Entry::Occupied(mut entry) => Ok(put(entry.get_mut(), value)),
+        Entry::Vacant(_vacant) => Err(value),
+    }
 }

@@ -2,7 +2,7 @@
 
 use crate::entries::put_value;
 use crate::maps::{insert_own_then_put, insert_then_put};
-use crate::occupied::put_in_entry;
+use crate::occupied::{put_if_there, put_in_entry};
 use crate::pairs::{put_both, put_both_if};
 use starlark_hash::{Hashed, NoRoom, StarlarkHashValue};
 use starlark_small::{Entry, SmallMap};
@@ -93,5 +93,18 @@ fn puts_the_value_of_an_entry(rt: HostRuntime) -> Result<(), Fail> {
     assert!(rt; map.get_index(0) == Some((&0, &0)));
     assert!(rt; map.get_index(1) == Some((&1, &99)));
     assert!(rt; map.get_index(2) == Some((&2, &20)));
+    Ok(())
+}
+
+#[test]
+fn puts_a_value_under_a_key(rt: HostRuntime) -> Result<(), Fail> {
+    let mut map = SmallMap::with_capacity(rt.alloc(), 2)?;
+    map.insert_hashed(under(7, 0), 0)?;
+    map.insert_hashed(under(7, 1), 10)?;
+    assert!(rt; put_if_there(&mut map, under(7, 1), 99) == Ok(10));
+    assert!(rt; put_if_there(&mut map, under(8, 1), 50) == Err(50));
+    assert!(rt; map.get_index(0) == Some((&0, &0)));
+    assert!(rt; map.get_index(1) == Some((&1, &99)));
+    assert_eq!(rt; map.len(), 2);
     Ok(())
 }

@@ -26,11 +26,22 @@ pub struct OccupiedEntry<'a, K: Eq, V> {
 }
 
 /// A key that the map lacks.
-#[derive(Drop)]
 pub struct VacantEntry<'a, K: Eq, V> {
     map: &'a mut SmallMap<K, V>,
     key: Hashed<K>,
     ghost absent: { match_of K.eq map.now.entries key ≡ None },
+}
+
+impl<K: Eq + Drop, V> Drop for VacantEntry<'_, K, V> {
+    // The map ends as it was.
+    fn drop(self)
+        ensures { self.exit.0.now ≡ self.entry.map.now }
+    {
+        let VacantEntry {
+            map: _map,
+            key: _key,
+        } = self;
+    }
 }
 
 impl<K: Eq, V> SmallMap<K, V> {
@@ -153,8 +164,8 @@ impl<'a, K: Eq, V> VacantEntry<'a, K, V> {
         ensures full { OnErr result (self.entry.map.now.room ≡ 0) }
         ensures handed_back { IfErr result (λ refused. refused.0 ≡ (self.entry.key, value)) }
     {
-        let map = self.map;
-        map.insert_new(self.key, value)
+        let VacantEntry { map, key } = self;
+        map.insert_new(key, value)
     }
 }
 
