@@ -1,4 +1,4 @@
-//! Maps compared, fed to a hasher and printed: worked rows.
+//! Maps compared, fed to a hasher and printed.
 
 use super::under;
 use crate::SmallMap;

@@ -1,4 +1,4 @@
-//! Clones of maps, and maps of an iterator's items: worked rows.
+//! Clones of maps, and maps of an iterator's items.
 
 use super::under;
 use crate::SmallMap;
