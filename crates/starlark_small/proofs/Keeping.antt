@@ -4,11 +4,10 @@ use Rattle.std.specs.Prelude.{remove, filter, slice_get}
 use Rattle.std.specs.Borrow.{Bor}
 use Rattle.std.specs.Fn.{Mut}
 use Rattle.std.specs.List.{Contains, All}
-use Rattle.std.proofs.lemmas.Bool.Decides.{nat_tests}
 use Rattle.std.proofs.lemmas.Bool.{false≢true, eqb-true}
 use Rattle.std.proofs.lemmas.Option.{get_or_from_slice_get, slice_get_within, none-some, same_Some}
 use Rattle.std.proofs.lemmas.List.Elements.{All-push, All-tail}
-use Rattle.std.proofs.lemmas.List.Sorted.{IsPermutation-refl, IsPermutation-sym, IsPermutation-trans, IsPermutation-cons, IsPermutation-map, IsPermutation-remove, IsPermutation-to_front, All-permutation, length_permutation}
+use Rattle.std.proofs.lemmas.List.Sorted.{IsPermutation-refl, IsPermutation-sym, IsPermutation-trans, IsPermutation-cons, IsPermutation-remove, IsPermutation-to_front, All-permutation, length_permutation}
 use Rattle.starlark_hash.specs.HashValue.{promoted}
 use Rattle.starlark_hash.specs.Entries.{Entry, set_value_at}
 use Rattle.starlark_hash.specs.Search.{Searches}
@@ -17,7 +16,7 @@ use Rattle.starlark_hash.proofs.SearchLemmas.{IsTest, test-accepted, test-refuse
 use Rattle.starlark_table.specs.Table.{Table, members, member_at, table_len, items_under}
 use Rattle.starlark_table.proofs.PairBags.{IsPermutation-cancel}
 use Rattle.starlark_table.proofs.TableLemmas.{items-items_under, member_at-items_under}
-use Rattle.starlark_small.specs.Index.{positions, IsIndexOf, IsIndexed, closed}
+use Rattle.starlark_small.specs.Index.{positions, IsIndexOf, IsIndexed}
 use Rattle.starlark_small.proofs.Positions.{positions_from, position-at}
 
 take_suc : {X : Type 0} (i : ℕ) (xs : List X) (x : X) → slice_get xs i ≡ Some x → take (suc i) xs ≡ take i xs ++ x ∷ []
@@ -29,14 +28,8 @@ take_suc (suc i) (y ∷ xs) x at = ap (λ l. y ∷ l) (take_suc i xs x at)
 pub take-more : {X : Type 0} (i : ℕ) (xs : List X) (x : X) → slice_get xs i ≡ Some x → take (i + 1) xs ≡ take i xs ++ x ∷ []
 take-more i xs x at = ap (λ n. take n xs) {x = i + 1} {y = suc i} (omega arith) ∙ take_suc i xs x at
 
-below_is : (r i : ℕ) → i ≤ r → closed r i ≡ i
-below_is r i h = grind (arith, nat_tests)
-
-above_is : (r i : ℕ) → r ≤ i → closed r (i + 1) ≡ i
-above_is r i h = grind (arith, nat_tests)
-
 module _ {K V : Type 0} where
-  positions-push : (n : ℕ) (es : List (Entry K V)) (e : Entry K V) → positions_from n (es ++ e ∷ []) ≡ positions_from n es ++ (promoted e.0.hash.0, n + length es) ∷ []
+  pub positions-push : (n : ℕ) (es : List (Entry K V)) (e : Entry K V) → positions_from n (es ++ e ∷ []) ≡ positions_from n es ++ (promoted e.0.hash.0, n + length es) ∷ []
   positions-push n [] e = ap (λ i. (promoted e.0.hash.0, i) ∷ []) {x = n} {y = n + 0} (omega arith)
   positions-push n (d ∷ es) e =
       ap (λ l. (promoted d.0.hash.0, n) ∷ l) (positions-push (n + 1) es e)
@@ -92,28 +85,6 @@ module _ {K V : Type 0} where
         fits = λ k d below. absurd (omega arith);
       })
 
-  down : (r n : ℕ) (es : List (Entry K V)) → r ≤ n → map (λ m. (m.0, closed r m.1)) (positions_from (n + 1) es) ≡ positions_from n es
-  down r n [] h = refl
-  down r n (e ∷ es) h =
-      ap (λ i. (promoted e.0.hash.0, i) ∷ map (λ m. (m.0, closed r m.1)) (positions_from (n + 1 + 1) es)) (above_is r n h)
-      ∙ ap (λ l. (promoted e.0.hash.0, n) ∷ l) (down r (n + 1) es (omega arith))
-
-  -- taking a position out and closing the gap gives the positions of the shorter list
-  closing : (n k : ℕ) (es : List (Entry K V)) → k < length es → map (λ m. (m.0, closed (n + k) m.1)) (remove (positions_from n es) k) ≡ positions_from n (remove es k)
-  closing n k [] below = absurd (omega arith)
-  closing n zero (e ∷ es) below = ap (λ r. map (λ m. (m.0, closed r m.1)) (positions_from (n + 1) es)) {x = n + 0} {y = n} (omega arith) ∙ down n n es (omega arith)
-  closing n (suc k) (e ∷ es) below =
-      ap (λ i. (promoted e.0.hash.0, i) ∷ map (λ m. (m.0, closed (n + suc k) m.1)) (remove (positions_from (n + 1) es) k)) (below_is (n + suc k) n (omega arith))
-      ∙ ap (λ r. (promoted e.0.hash.0, n) ∷ map (λ m. (m.0, closed r m.1)) (remove (positions_from (n + 1) es) k)) {x = n + suc k} {y = n + 1 + k} (omega arith)
-      ∙ ap (λ l. (promoted e.0.hash.0, n) ∷ l) (closing (n + 1) k es (omega arith))
-
-  -- behind the last place there is no gap
-  last_closing : (n k : ℕ) (es : List (Entry K V)) → length es ≡ k + 1 → remove (positions_from n es) k ≡ positions_from n (remove es k)
-  last_closing n k [] last = absurd (omega arith)
-  last_closing n zero (e ∷ []) last = refl
-  last_closing n zero (e ∷ d ∷ es) last = absurd (omega arith)
-  last_closing n (suc k) (e ∷ es) last = ap (λ l. (promoted e.0.hash.0, n) ∷ l) (last_closing (n + 1) k es (omega arith))
-
   -- a place was taken out
   pub without_place : (es : List (Entry K V)) (i : ℕ) (e : Entry K V) (old mid : Table ℕ) → slice_get es i ≡ Some e → IsIndexOf es old
       → IsPermutation (members old) ((promoted e.0.hash.0, i) ∷ members mid) → IsPermutation (remove (positions es) i) (members mid)
@@ -126,31 +97,10 @@ module _ {K V : Type 0} where
       (IsPermutation-trans (x ∷ remove (positions es) i) (positions es) (members old) (IsPermutation-sym (positions es) (x ∷ remove (positions es) i) apart) index.bag) taken in
       IsPermutation-cancel x (remove (positions es) i) (members mid) whole
 
-  fits-remove : (es : List (Entry K V)) (i : ℕ) (e : Entry K V) → slice_get es i ≡ Some e → All (λ d. d.0.hash.0 < 2 ^ 32) es → All (λ d. d.0.hash.0 < 2 ^ 32) (remove es i)
+  pub fits-remove : (es : List (Entry K V)) (i : ℕ) (e : Entry K V) → slice_get es i ≡ Some e → All (λ d. d.0.hash.0 < 2 ^ 32) es → All (λ d. d.0.hash.0 < 2 ^ 32) (remove es i)
   fits-remove es i e at all =
       All-tail (λ d. d.0.hash.0 < 2 ^ 32) e (remove es i)
       (All-permutation (λ d. d.0.hash.0 < 2 ^ 32) es (e ∷ remove es i) (IsPermutation-remove es i e (slice_get_within es i e at) (sym (get_or_from_slice_get es i e e at))) all)
-
-  -- the places above it were moved
-  pub IsIndexOf-remove : (es : List (Entry K V)) (i : ℕ) (e : Entry K V) (old mid new : Table ℕ) → slice_get es i ≡ Some e → IsIndexOf es old
-      → IsPermutation (members old) ((promoted e.0.hash.0, i) ∷ members mid) → members new ≡ map (λ m. (m.0, closed i m.1)) (members mid) → IsIndexOf (remove es i) new
-  IsIndexOf-remove es i e old mid new at index taken moved =
-      record {
-        bag = subst (λ l. IsPermutation (positions (remove es i)) l) (sym moved)
-            (subst (λ l. IsPermutation l (map (λ m. (m.0, closed i m.1)) (members mid)))
-            (ap (λ r. map (λ m. (m.0, closed r m.1)) (remove (positions es) i)) {x = i} {y = 0 + i} (omega arith) ∙ closing 0 i es (slice_get_within es i e at))
-            (IsPermutation-map (λ m. (m.0, closed i m.1)) (remove (positions es) i) (members mid) (without_place es i e old mid at index taken)));
-        fits = fits-remove es i e at index.fits;
-      }
-
-  -- or it was the last
-  pub IsIndexOf-remove_last : (es : List (Entry K V)) (i : ℕ) (e : Entry K V) (old mid : Table ℕ) → length es ≡ i + 1 → slice_get es i ≡ Some e → IsIndexOf es old
-      → IsPermutation (members old) ((promoted e.0.hash.0, i) ∷ members mid) → IsIndexOf (remove es i) mid
-  IsIndexOf-remove_last es i e old mid last at index taken =
-      record {
-        bag = subst (λ l. IsPermutation l (members mid)) (last_closing 0 i es last) (without_place es i e old mid at index taken);
-        fits = fits-remove es i e at index.fits;
-      }
 
 in_map : (xs : List (ℕ × ℕ)) (y : ℕ) → Contains (map (λ s. s.1) xs) y → (x : ℕ × ℕ) × Contains xs x × (x.1 ≡ y)
 in_map [] y there = absurd (omega (arith, there.1))

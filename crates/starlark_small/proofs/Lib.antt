@@ -1,6 +1,7 @@
 pub mod Positions
 pub mod Transport
 pub mod Keeping
+pub mod Moving
 pub mod Rooms
 pub mod Inserted
 pub mod LentInResult

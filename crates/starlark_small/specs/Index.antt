@@ -1,5 +1,5 @@
 -- What an index of a list of entries holds, and what list and index make up together.
-use Rattle.std.specs.Prelude.{ℕ, ◌-◌, ◌≤◌, ◌<◌, ◌^◌, min, List, map, length, Option, Some, None, Bool, is_some, IsPermutation, nat_lt, if◌then◌else◌}
+use Rattle.std.specs.Prelude.{ℕ, ◌-◌, ◌≤◌, ◌<◌, ◌^◌, min, List, map, length, Option, Some, None, Bool, is_some, IsPermutation}
 use Rattle.std.specs.List.{enumerate_from, All}
 use Rattle.starlark_hash.specs.Entries.{Entry, IsSingle, entry_hash}
 use Rattle.starlark_hash.specs.HashValue.{hash_number, promoted}
@@ -10,10 +10,6 @@ use Rattle.starlark_vecmap.specs.EntryList.{EntryList}
 -- the greatest length that a list may have without an index
 abbrev pub unindexed : ℕ
 unindexed = 32
-
--- where a place stands once the entry at another one is taken out
-abbrev pub closed : ℕ → ℕ → ℕ
-closed removed i = if nat_lt removed i then i - 1 else i
 
 -- how many new entries an index surely takes without memory, or a list of this length without one
 abbrev pub index_room : ℕ → Option (Table ℕ) → ℕ

@@ -1,13 +1,16 @@
 -- What the words on tables say of one another, for the crates above.
-use Rattle.std.proofs.Common.{◌≡◌, ℕ, zero, suc, ◌+◌, Bool, true, false, cond, nat_eq, List, [], ◌∷◌, map, length, Option, Some, None, refl, sym, ap, subst, ◌∙◌, arith, if◌then◌else◌}
-use Rattle.std.specs.Prelude.{slice_index_or}
+use Rattle.std.proofs.Common.{◌≡◌, ℕ, zero, suc, ◌+◌, Bool, true, false, cond, nat_eq, List, [], ◌∷◌, map, length, Option, Some, None, refl, sym, ap, subst, ◌∙◌, arith, if◌then◌else◌, IsPermutation}
+use Rattle.std.specs.Prelude.{slice_index_or, slice_set}
 use Rattle.std.specs.Borrow.{Bor}
 use Rattle.std.specs.Fn.{Mut, CalledAt}
 use Rattle.std.specs.List.{Contains, enumerate_from, filter}
+use Rattle.std.specs.Option.{option_map}
 use Rattle.std.proofs.Common.{eqb-true}
+use Rattle.std.proofs.lemmas.List.Sorted.{IsPermutation-trans, IsPermutation-cons, IsPermutation-middle}
+use Rattle.std.proofs.lemmas.Option.{none-some}
 use Rattle.starlark_hash.specs.Search.{Searches}
 use Rattle.starlark_hash.proofs.SearchLemmas.{found}
-use Rattle.starlark_table.specs.Table.{Table, filled, holders, members, member_at, items_under}
+use Rattle.starlark_table.specs.Table.{Table, filled, holders, members, member_at, items_under, with_item}
 use Rattle.starlark_table.specs.Written.{with_item_of, with_items_of, with_written}
 use Rattle.starlark_table.specs.Walk.{ReplacesEach}
 use Rattle.starlark_table.proofs.Path.{in_filled}
@@ -75,6 +78,28 @@ members-replaced g to f pure (Some (h, x) ∷ old) new last (y, next, rest, call
     let p = pure x y next called in
     ap filled is ∙ ap (λ z. (h, z) ∷ filled rest) p.0
     ∙ ap (λ l. (h, to x) ∷ l) (members-replaced g to f pure old rest last (subst (λ s. ReplacesEach g s old rest last) p.1 more))
+
+-- ---- what writing the item of one slot leaves
+behind_front : {X : Type 0} (a b m : X) (xs ys : List X) → IsPermutation (a ∷ xs) (b ∷ ys) → IsPermutation (a ∷ m ∷ xs) (b ∷ m ∷ ys)
+behind_front a b m xs ys same =
+    IsPermutation-trans (a ∷ m ∷ xs) (m ∷ a ∷ xs) (b ∷ m ∷ ys) (IsPermutation-middle (a ∷ []) m xs)
+    (IsPermutation-trans (m ∷ a ∷ xs) (m ∷ b ∷ ys) (b ∷ m ∷ ys) (IsPermutation-cons m (a ∷ xs) (b ∷ ys) same) (IsPermutation-middle (m ∷ []) b ys))
+
+module _ {T : Type 0} where
+  item_written : (slots : List (Option (ℕ × T))) (slot h : ℕ) (y x : T) → slice_index_or slots slot None ≡ Some (h, y)
+      → IsPermutation ((h, x) ∷ filled slots) ((h, y) ∷ filled (slice_set slots slot (Some (h, x))))
+  item_written [] slot h y x at = absurd (none-some (h, y) at)
+  item_written (s ∷ slots) zero h y x at =
+      subst (λ o. IsPermutation ((h, x) ∷ filled (o ∷ slots)) ((h, y) ∷ (h, x) ∷ filled slots)) (sym at) (IsPermutation-middle ((h, x) ∷ []) (h, y) (filled slots))
+  item_written (None ∷ slots) (suc slot) h y x at = item_written slots slot h y x at
+  item_written (Some m ∷ slots) (suc slot) h y x at =
+      behind_front (h, x) (h, y) m (filled slots) (filled (slice_set slots slot (Some (h, x)))) (item_written slots slot h y x at)
+
+  -- with the new item put in before, or the old one after, the bags are the same
+  pub members-with_item : (t : Table T) (slot h : ℕ) (y x : T) → member_at t slot ≡ Some (h, y) → IsPermutation ((h, x) ∷ members t) ((h, y) ∷ members (with_item t slot x))
+  members-with_item t slot h y x at =
+      subst (λ o. IsPermutation ((h, x) ∷ members t) ((h, y) ∷ filled (slice_set t.slots slot o)))
+      (sym (ap (option_map (λ m. (m.0, x))) at)) (item_written t.slots slot h y x at)
 
 -- ---- what a walk that writes the items leaves
 module _ {T : Type 0} where

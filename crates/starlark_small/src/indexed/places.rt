@@ -1,20 +1,20 @@
 //! The places that an index holds: taken out, moved and filled in.
-ghost use Rattle.std.specs.Prelude.{◌≡◌, ◌+◌, ◌<◌, ◌≤◌, ◌==◌, [], ◌∷◌, length, map, remove, is_some, IfOk, IsPermutation};
+ghost use Rattle.std.specs.Prelude.{◌≡◌, ◌+◌, ◌-◌, ◌<◌, ◌≤◌, ◌==◌, Some, [], ◌∷◌, length, remove, is_some, IfOk, IsPermutation};
 ghost use Rattle.std.specs.List.{Contains};
 ghost use Rattle.starlark_hash.specs.HashValue.{hash_number, promoted};
-ghost use Rattle.starlark_small.specs.Index.{IsIndexOf, IsIndexed, closed, index_room};
-ghost use Rattle.starlark_table.specs.Table.{members, table_len};
+ghost use Rattle.starlark_small.specs.Index.{IsIndexOf, IsIndexed, index_room};
+ghost use Rattle.starlark_table.specs.Table.{members, member_at, table_len};
 
 use starlark_hash::StarlarkHashValue;
 use starlark_table::ReadyTable;
 use starlark_vecmap::VecMap;
 use std::alloc::{AllocError, Global};
 
-// Takes one place out.
-fn take_place(index: &mut ReadyTable<usize>, hash: StarlarkHashValue, place: usize)
-    requires { Contains (members index.old) (promoted (hash_number hash), place) }
-    ensures rest { IsPermutation (members index.old) ((promoted (hash_number hash), place) ∷ members index.new) }
-    ensures room { table_len index.new + index.new.room ≡ table_len index.old + index.old.room }
+// The slot of a place that is there.
+#[inline]
+fn slot_of(index: &ReadyTable<usize>, hash: StarlarkHashValue, place: usize) -> usize
+    requires { Contains (members index.now) (promoted (hash_number hash), place) }
+    ensures { member_at index.now result ≡ Some (promoted (hash_number hash), place) }
 {
     let found = index.find(
         hash.promote(),
@@ -22,21 +22,32 @@ fn take_place(index: &mut ReadyTable<usize>, hash: StarlarkHashValue, place: usi
             ensures { result ≡ (i.now == place) }
         { *i == place },
     );
-    if let Some(slot) = found {
-        index.remove(slot);
-    }
+    let Some(slot) = found else { unreachable!() };
+    slot
 }
 
-// Moves each place above the one that was taken out.
-fn close_places(index: &mut ReadyTable<usize>, removed: usize)
-    ensures moved { members index.new ≡ map (λ m. (m.0, closed removed m.1)) (members index.old) }
+// Takes one place out.
+fn take_place(index: &mut ReadyTable<usize>, hash: StarlarkHashValue, place: usize)
+    requires { Contains (members index.old) (promoted (hash_number hash), place) }
+    ensures rest { IsPermutation (members index.old) ((promoted (hash_number hash), place) ∷ members index.new) }
+    ensures room { table_len index.new + index.new.room ≡ table_len index.old + index.old.room }
+{
+    let slot = slot_of(index, hash, place);
+    index.remove(slot);
+}
+
+// Moves a place that is there one down: the old members and the lower place are the new members and this place.
+#[inline]
+fn move_place(index: &mut ReadyTable<usize>, hash: StarlarkHashValue, place: usize)
+    requires there { Contains (members index.old) (promoted (hash_number hash), place) }
+    requires above { 0 < place }
+    ensures moved { IsPermutation ((promoted (hash_number hash), place - 1) ∷ members index.old) ((promoted (hash_number hash), place) ∷ members index.new) }
     ensures room { index.new.room ≡ index.old.room }
 {
-    index.replace_each(
-        |i: &usize| -> usize
-            ensures { result ≡ closed removed i.now }
-        { if *i > removed { *i - 1 } else { *i } },
-    );
+    let slot = slot_of(index, hash, place);
+    if let Some(item) = index.get_mut(slot) {
+        *item = place - 1;
+    }
 }
 
 // Takes out a place of the list, whose entry is still there.
@@ -48,10 +59,11 @@ fn remove_place<K, V>(index: &mut ReadyTable<usize>, entries: &VecMap<K, V>, pla
 {
     let hash = entries.get_unchecked(place).0.hash();
     take_place(index, hash, place);
-    if place == entries.len() - 1 {
-        return;
+    let len = entries.len();
+    for j in place + 1..len {
+        let hash = entries.get_unchecked(j).0.hash();
+        move_place(index, hash, j);
     }
-    close_places(index, place);
 }
 
 // The same of an index that may be missing.

@@ -1,23 +1,9 @@
-use Rattle.std.proofs.Common.{rules, of_calls, ◌≡◌, ◌∷◌, None, Some, sym, ◌∙◌, ap, subst, IsPermutation, nat_eq}
-use Rattle.std.specs.List.{Contains}
+use Rattle.std.proofs.Common.{◌∷◌, ◌∙◌, subst, IsPermutation}
 use Rattle.std.specs.Prelude.{IfSome}
-use Rattle.starlark_hash.proofs.SearchLemmas.{is_test}
 use Rattle.starlark_table.specs.Table.{members}
-use Rattle.starlark_small.proofs.Keeping.{named, not_missed}
 use Rattle.starlark_small.proofs.indexed.places.take_place.Goals as goal
 
-pub returns-in-Some-clause-rest : goal.returns-in-Some-clause-rest
-returns-in-Some-clause-rest c =
-    let found = c.in-Some.ensures in
-    let at =
-    named _ _ c.args.place (is_test _ (λ x. nat_eq x c.args.place) _ (λ x accepts next called. (search (rules, of_calls, called), search (rules, of_calls, called))))
-    c.promote.result c.args.index.now c.in-Some.slot found.0 found.1 in
-    let taken = c.remove.ensures.found ∙ at ∙ ap (λ h. Some (h, c.args.place)) c.promote.ensures.promoted in
-    subst (λ o. IfSome o (λ m. IsPermutation (members c.args.index.now) (m ∷ members c.remove.new.self))) taken c.remove.ensures.rest
-
-pub returns-in_default-clause-rest : goal.returns-in_default-clause-rest
-returns-in_default-clause-rest c =
-    let none : c.find-found.result ≡ None = search rules in
-    let there = subst (λ h. Contains (members c.args.index.now) (h, c.args.place)) (sym c.promote.ensures.promoted) c.requires in
-    absurd (not_missed _ _ c.args.place (is_test _ (λ x. nat_eq x c.args.place) _ (λ x accepts next called. (search (rules, of_calls, called), search (rules, of_calls, called))))
-    c.promote.result c.args.index.now c.find-found.result c.find-found.ensures.0 none there c.find-found.ensures.1)
+pub returns-clause-rest : goal.returns-clause-rest
+returns-clause-rest c =
+    subst (λ o. IfSome o (λ m. IsPermutation (members c.args.index.now) (m ∷ members c.remove.new.self)))
+    (c.remove.ensures.found ∙ c.slot_of-slot.ensures) c.remove.ensures.rest
