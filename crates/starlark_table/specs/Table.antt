@@ -38,6 +38,10 @@ module _ {T : Type 0} where
   abbrev pub member_at : Table T → ℕ → Option (ℕ × T)
   member_at t slot = slice_index_or t.slots slot None
 
+  -- the item in a slot
+  abbrev pub item_in : Table T → ℕ → Option T
+  item_in t slot = option_map (λ m. m.1) (member_at t slot)
+
   -- the numbered slots that hold the hash, each with its item
   abbrev pub holders : ℕ → List (ℕ × Option (ℕ × T)) → List (ℕ × T)
   holders hash [] = []

@@ -1,5 +1,5 @@
 //! Reads and writes of the slots along the way of a hash: from its home on, up to the first empty place.
-ghost use Rattle.std.specs.Prelude.{◌≡◌, ℕ, ◌+◌, ◌*◌, ◌^◌, ◌<◌, Some, None, length, IsSome, slice_set};
+ghost use Rattle.std.specs.Prelude.{◌≡◌, ℕ, ◌+◌, ◌*◌, ◌^◌, ◌<◌, Some, None, length, IfSome, IsSome, slice_set};
 ghost use Rattle.std.specs.Option.{option_copied, option_map};
 ghost use Rattle.std.specs.Borrow.{sem};
 ghost use Rattle.starlark_hash.specs.Search.{Searches, CanSearch};
@@ -11,19 +11,21 @@ use crate::places::{home, next_place};
 
 pub(crate) type Slot<T> = Option<(u64, T)>;
 
+// A slot, with the item in it.
 #[inline]
 pub(crate) fn find_slot<T, F: FnMut(&T) -> bool>(
     slots: &[Slot<T>],
     shift: u32,
     hash: u64,
     mut eq: F,
-) -> Option<usize>
+) -> Option<(usize, &T)>
     requires shift { shift < 64 }
     requires places { IsShift shift slots.now }
     requires in_place { InPlace (length slots.now) shift slots.now }
     requires free { 0 < length slots.now → (q : ℕ) × (q < length slots.now) × (at slots.now q ≡ None) }
     requires callable { CanSearch F.FnMut (holders_in hash slots.now) eq }
-    ensures { (last : F) × Searches F.FnMut (holders_in hash slots.now) eq result last }
+    ensures found { (last : F) × Searches F.FnMut (holders_in hash slots.now) eq (option_map (λ p. p.0) result) last }
+    ensures item { IfSome result (λ p. at slots.now p.0 ≡ Some (hash, p.1.now)) }
 {
     let count = slots.len();
     if count == 0 {
@@ -32,7 +34,7 @@ pub(crate) fn find_slot<T, F: FnMut(&T) -> bool>(
     let mut place = home(hash, shift);
     while let Some((stored, item)) = &slots[place] {
         if *stored == hash && eq(item) {
-            return Some(place);
+            return Some((place, item));
         }
         place = next_place(place, count);
     }

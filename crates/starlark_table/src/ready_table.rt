@@ -1,10 +1,10 @@
 //! A bag of items under ready hashes. It alone sees how the slots are laid out.
-ghost use Rattle.std.specs.Prelude.{◌≡◌, ℕ, ◌+◌, ◌<◌, ◌≤◌, Some, [], ◌∷◌, List, IsOk, IfOk, OnOk, OnErr, IfErr, IfSome, IfNone, IsSome, IsPermutation};
-ghost use Rattle.std.specs.Option.{option_copied, option_copied_mut, option_map};
+ghost use Rattle.std.specs.Prelude.{◌≡◌, ℕ, ◌+◌, ◌<◌, ◌≤◌, Some, [], ◌∷◌, List, IsOk, IfOk, OnOk, OnErr, IfErr, IfSome, IfNone, IsSome, IsPermutation, Option};
+ghost use Rattle.std.specs.Option.{option_and_then, option_copied, option_copied_mut, option_map};
 ghost use Rattle.std.specs.Borrow.{sem};
 ghost use Rattle.std.specs.List.Retain.{RetainsInTurn};
 ghost use Rattle.starlark_hash.specs.Search.{Searches, CanSearch};
-ghost use Rattle.starlark_table.specs.Table.{members, table_len, member_at, items_of, items_under, IsNextSlot, IsTableClone};
+ghost use Rattle.starlark_table.specs.Table.{members, table_len, member_at, item_in, items_of, items_under, IsNextSlot, IsTableClone};
 ghost use Rattle.starlark_table.specs.Walk.{CanReplace, ReplacesEach, CanRetain, AsksMember};
 
 use crate::gap::take_out;
@@ -106,7 +106,18 @@ impl<T> ReadyTable<T> {
         requires { CanSearch F.FnMut (items_under hash self.now) eq }
         ensures { (last : F) × Searches F.FnMut (items_under hash self.now) eq result last }
     {
-        find_slot(self.slots.as_slice(), self.shift, hash, eq)
+        let (slot, _) = find_slot(self.slots.as_slice(), self.shift, hash, eq)?;
+        Some(slot)
+    }
+
+    /// The item of such a slot, for which `eq` is asked just as by `find`.
+    #[inline]
+    pub fn find_item<F: FnMut(&T) -> bool>(&self, hash: u64, eq: F) -> Option<&T>
+        requires { CanSearch F.FnMut (items_under hash self.now) eq }
+        ensures { (slot : Option ℕ) × (last : F) × Searches F.FnMut (items_under hash self.now) eq slot last × (option_copied result ≡ option_and_then (item_in self.now) slot) }
+    {
+        let (_, item) = find_slot(self.slots.as_slice(), self.shift, hash, eq)?;
+        Some(item)
     }
 
     /// The item in a slot.

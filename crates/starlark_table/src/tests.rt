@@ -18,6 +18,7 @@ fn removes_one_of_a_hash(rt: HostRuntime) -> Result<(), Fail> {
     assert!(rt; table.find(7, |letter| *letter == 'a').is_some());
     assert!(rt; table.find(7, |letter| *letter == 'b').is_none());
     assert!(rt; table.find(7, |letter| *letter == 'c').is_some());
+    assert_eq!(rt; table.find_item(7, |letter| *letter == 'c'), Some(&'c'));
     assert_eq!(rt; table.len(), 2);
     Ok(())
 }

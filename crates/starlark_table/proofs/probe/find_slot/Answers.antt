@@ -1,4 +1,4 @@
-use Rattle.std.proofs.Common.{ℕ, ◌≡◌, ◌*◌, ◌^◌, ◌<◌, ◌⊎◌, length, inl, inr, arith, refl, sym, ◌∙◌, ap, subst, false}
+use Rattle.std.proofs.Common.{ℕ, ◌≡◌, ◌*◌, ◌^◌, ◌<◌, ◌⊎◌, length, inl, inr, Some, arith, refl, sym, ◌∙◌, ap, subst, false}
 use Rattle.std.specs.Fn.{CalledAt}
 use Rattle.std.proofs.lemmas.Fn.{called_at}
 use Rattle.starlark_table.specs.Table.{holders_in}
@@ -39,8 +39,8 @@ eq-requires g c =
     (path_taken g.F.FnMut _ c.args.eq c.loop-place.eq c.args.hash (home c.args.shift c.args.hash) c.loop-place.place c.in-Some.stored c.in-Some.item c.args.slots.now
     in' k.in_range here c.if-stored-hash.true k.search) _ refl
 
-pub returns-then-eq : goal.returns-then-eq
-returns-then-eq g c =
+pub returns-then-eq-clause-found : goal.returns-then-eq-clause-found
+returns-then-eq-clause-found g c =
     let k = c.loop-place.invariant in
     let in' = home_in (length c.args.slots.now) c.args.shift c.args.hash c.if-count-eq0.false c.requires.places c.ranges.hash.fits in
     let here = read_at c.args.slots.now c.loop-place.place _ k.in_range c.index-slots-place.is ∙ c.in-Some.is in (
@@ -51,6 +51,11 @@ returns-then-eq g c =
           in' k.in_range here c.if-stored-hash.true k.search)
           (called_at g.F.FnMut c.eq.ensures c.if-eq.true),
     )
+
+pub returns-then-eq-clause-item : goal.returns-then-eq-clause-item
+returns-then-eq-clause-item g c =
+    let here = read_at c.args.slots.now c.loop-place.place _ c.loop-place.invariant.in_range c.index-slots-place.is ∙ c.in-Some.is in
+    here ∙ ap (λ h. Some (h, c.in-Some.item)) c.if-stored-hash.true
 
 pub loop-place-smaller : goal.loop-place-smaller
 loop-place-smaller g c =
@@ -89,11 +94,11 @@ loop-place-preserved g c =
           ]);
     }
 
-pub returns-then-count-eq0 : goal.returns-then-count-eq0
-returns-then-count-eq0 g c = (c.args.eq, searches_none g.F.FnMut c.args.hash c.args.slots.now c.args.eq c.if-count-eq0.true)
+pub returns-then-count-eq0-clause-found : goal.returns-then-count-eq0-clause-found
+returns-then-count-eq0-clause-found g c = (c.args.eq, searches_none g.F.FnMut c.args.hash c.args.slots.now c.args.eq c.if-count-eq0.true)
 
-pub returns : goal.returns
-returns g c =
+pub returns-clause-found : goal.returns-clause-found
+returns-clause-found g c =
     let k = c.loop-place.invariant in
     let in' = home_in (length c.args.slots.now) c.args.shift c.args.hash c.if-count-eq0.false c.requires.places c.ranges.hash.fits in
     let here = read_at c.args.slots.now c.loop-place.place _ k.in_range c.index-slots-place.is ∙ c.in_default.is in (

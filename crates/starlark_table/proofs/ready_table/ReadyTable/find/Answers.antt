@@ -1,4 +1,4 @@
-use Rattle.std.proofs.Common.{◌≡◌, ℕ, ◌<◌, length, None, sym, ◌∙◌, subst, ap}
+use Rattle.std.proofs.Common.{◌≡◌, ℕ, ◌<◌, length, Some, None, sym, ◌∙◌, subst, ap}
 use Rattle.starlark_hash.specs.Search.{Searches, CanSearch}
 use Rattle.starlark_table.specs.Layout.{at}
 use Rattle.starlark_table.specs.Table.{holders_in}
@@ -16,5 +16,5 @@ find_slot-requires-clause-callable g c =
 
 pub returns : goal.returns
 returns g c =
-    let found = c.find_slot.ensures in
-    (found.0, subst (λ l. Searches g.F.FnMut (holders_in c.args.hash l) c.args.eq c.find_slot.result found.0) (c.as_slice.ensures.value ∙ ap (λ t. t.slots) c.self.view_is) found.1)
+    let found = c.in_ok-slot.ensures.found in
+    (found.0, subst (λ l. Searches g.F.FnMut (holders_in c.args.hash l) c.args.eq (Some c.in_ok-slot.slot) found.0) (c.as_slice.ensures.value ∙ ap (λ t. t.slots) c.self.view_is) found.1)
