@@ -24,15 +24,16 @@ where
     requires callable { CanSearch F.FnMut (keys_under hash entries.now.entries) eq }
     ensures { (last : F) × Searches F.FnMut (keys_under hash entries.now.entries) eq result last }
 {
-    let slot = index.find(
-        hash.promote(),
-        |i: &usize| -> bool
-            requires within { i.now < length entries.now.entries }
-            requires takes { (e : Entry K V) → slice_get entries.now.entries i.now ≡ Some e → TakesAt F.FnMut eq (entry_key e) }
-            ensures { (e : Entry K V) → slice_get entries.entry.now.entries i.now ≡ Some e → CalledAt F.FnMut eq.entry (entry_key e) result eq.exit }
-        { eq(entries.get_unchecked(*i).0.into_key()) },
-    )?;
-    index.get(slot).copied()
+    index
+        .find_item(
+            hash.promote(),
+            |i: &usize| -> bool
+                requires within { i.now < length entries.now.entries }
+                requires takes { (e : Entry K V) → slice_get entries.now.entries i.now ≡ Some e → TakesAt F.FnMut eq (entry_key e) }
+                ensures { (e : Entry K V) → slice_get entries.entry.now.entries i.now ≡ Some e → CalledAt F.FnMut eq.entry (entry_key e) result eq.exit }
+            { eq(entries.get_unchecked(*i).0.into_key()) },
+        )
+        .copied()
 }
 
 // The place of a single list under the query's hash whose key the query is equivalent to.
