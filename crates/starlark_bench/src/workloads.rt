@@ -82,6 +82,17 @@ pub fn build<K: Key>(rt: &HostRuntime, begin: Begin, keys: &[K], n: usize) -> Re
     Pass::since(rt, start, checksum)
 }
 
+// The sum of the values under these keys.
+fn found<K: Key>(map: &SmallMap<K, K>, queries: &[Hashed<K>]) -> u64 {
+    let mut sum = 0_u64;
+    for query in queries {
+        if let Some(value) = map.get_hashed(query.as_ref()) {
+            sum = sum.wrapping_add(value.number());
+        }
+    }
+    sum
+}
+
 /// Looks up a million keys that are there, in a map of `n` keys.
 pub fn hit<K: Key>(rt: &HostRuntime, keys: &[K], n: usize) -> Result<Pass, Fault> {
     let mut map = SmallMap::new(rt.alloc());
@@ -93,13 +104,19 @@ pub fn hit<K: Key>(rt: &HostRuntime, keys: &[K], n: usize) -> Result<Pass, Fault
         }
     }
     let start = Instant::now(rt)?;
-    let mut checksum = 0_u64;
-    for query in &queries {
-        if let Some(value) = map.get_hashed(query.as_ref()) {
-            checksum = checksum.wrapping_add(value.number());
+    let checksum = found(&map, &queries);
+    Pass::since(rt, start, checksum)
+}
+
+// How many of the keys are not there.
+fn lacking<K: Key>(map: &SmallMap<K, K>, queries: &[Hashed<K>]) -> u64 {
+    let mut count = 0_u64;
+    for query in queries {
+        if map.get_hashed(query.as_ref()).is_none() {
+            count = count.wrapping_add(1);
         }
     }
-    Pass::since(rt, start, checksum)
+    count
 }
 
 /// Looks up a million keys that are not there, in a map of `n` keys.
@@ -111,12 +128,7 @@ pub fn miss<K: Key>(rt: &HostRuntime, keys: &[K], n: usize) -> Result<Pass, Faul
         queries.push(Hashed::new(*key))?;
     }
     let start = Instant::now(rt)?;
-    let mut checksum = 0_u64;
-    for query in &queries {
-        if map.get_hashed(query.as_ref()).is_none() {
-            checksum = checksum.wrapping_add(1);
-        }
-    }
+    let checksum = lacking(&map, &queries);
     Pass::since(rt, start, checksum)
 }
 
@@ -130,15 +142,21 @@ fn sum<K: Key>(map: &SmallMap<K, K>) -> u64 {
     sum
 }
 
+// The same, so many times over.
+fn sums<K: Key>(map: &SmallMap<K, K>, count: usize) -> u64 {
+    let mut total = 0_u64;
+    for _ in 0..count {
+        total = total.wrapping_add(sum(map));
+    }
+    total
+}
+
 /// Walks a map of `n` keys, four million entries in all.
 pub fn walk<K: Key>(rt: &HostRuntime, keys: &[K], n: usize) -> Result<Pass, Fault> {
     let mut map = SmallMap::new(rt.alloc());
     fill(&mut map, keys.get(..n).unwrap_or(keys), 0)?;
     let start = Instant::now(rt)?;
-    let mut checksum = 0_u64;
-    for _ in 0..4 * MILLION / n.max(1) {
-        checksum = checksum.wrapping_add(sum(&map));
-    }
+    let checksum = sums(&map, 4 * MILLION / n.max(1));
     Pass::since(rt, start, checksum)
 }
 
