@@ -83,8 +83,9 @@ fn has_hash(array: &[u32], hash: u32) -> bool
     has
 }
 
-// The least place from `start` on at which the array has this hash.
-#[inline]
+// The least place from `start` on at which the array has this hash. Not inlined: a search calls it at two places, and a
+// copy at one of them made look-ups in short lists slower.
+#[inline(never)]
 pub(crate) fn find_hash_from(array: &[u32], start: usize, hash: u32) -> Option<usize>
     requires { start ≤ length array.now }
     ensures place { result ≡ option_map (λ skipped. start + skipped) (position (λ h. h == hash) (drop start array.now)) }
