@@ -3,7 +3,9 @@ pub mod Circle
 pub mod Bag
 pub mod Path
 pub mod Searching
+pub mod Absent
 pub mod Closing
+pub mod Tagged
 pub mod Load
 pub mod Sound
 pub mod Shape

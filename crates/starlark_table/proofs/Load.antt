@@ -5,8 +5,9 @@ use Rattle.std.proofs.lemmas.List.{get_or-set_other, length-replicate}
 use Rattle.std.proofs.Math.ListN.{set, length-set}
 use Rattle.std.proofs.Math.Nat.{pow-le-pow_right, mul-le-mul_left}
 use Rattle.starlark_table.specs.Table.{filled}
-use Rattle.starlark_table.specs.Layout.{at, limit, InPlace, IsShift, IsSound}
+use Rattle.starlark_table.specs.Layout.{at, limit, InPlace, IsShift, IsTagged, IsSound}
 use Rattle.starlark_table.proofs.Bag.{filled-set_none, filled-set_some}
+use Rattle.starlark_table.proofs.Tagged.{tagged-none}
 
 pub load-below_places : (m n : ℕ) → n ≤ limit m → 4 ≤ m → n < m
 load-below_places m n load some = omega arith
@@ -62,10 +63,10 @@ module _ {T : Type 0} where
       IsPermutation-trans (filled slots) (m ∷ filled (set slots slot None)) (m ∷ filled new)
       (filled-set_none slots slot m full) (IsPermutation-cons m (filled (set slots slot None)) (filled new) moved)
 
-  pub sound-without_member : (old new : List (Option (ℕ × T))) (len shift : ℕ) (m : ℕ × T) → IsSound old len shift
-      → length new ≡ length old → InPlace (length new) shift new → IsPermutation (filled old) (m ∷ filled new)
-      → IsSound new (len - 1) shift
-  sound-without_member old new len shift m s same in_place bag =
+  pub sound-without_member : (old new : List (Option (ℕ × T))) (tags tags' : List ℕ) (len shift : ℕ) (m : ℕ × T) → IsSound old tags len shift
+      → length new ≡ length old → InPlace (length new) shift new → IsTagged tags' new → IsPermutation (filled old) (m ∷ filled new)
+      → IsSound new tags' (len - 1) shift
+  sound-without_member old new tags tags' len shift m s same in_place tagged bag =
       let count = length_permutation (filled old) (m ∷ filled new) bag in
       let load = s.load in
       record {
@@ -75,13 +76,14 @@ module _ {T : Type 0} where
         shift_high = s.shift_high;
         places = rw same s.places;
         in_place = in_place;
+        tagged = tagged;
       }
 
-  pub sound-with_member : (old : List (Option (ℕ × T))) (len shift slot : ℕ) (m : ℕ × T) → IsSound old len shift
+  pub sound-with_member : (old : List (Option (ℕ × T))) (tags tags' : List ℕ) (len shift slot : ℕ) (m : ℕ × T) → IsSound old tags len shift
       → len < limit (length old) → slot < length old → at old slot ≡ None
-      → InPlace (length (set old slot (Some m))) shift (set old slot (Some m))
-      → IsSound (set old slot (Some m)) (len + 1) shift
-  sound-with_member old len shift slot m s less slot_in empty in_place =
+      → InPlace (length (set old slot (Some m))) shift (set old slot (Some m)) → IsTagged tags' (set old slot (Some m))
+      → IsSound (set old slot (Some m)) tags' (len + 1) shift
+  sound-with_member old tags tags' len shift slot m s less slot_in empty in_place tagged =
       let count = length_permutation (m ∷ filled old) (filled (set old slot (Some m))) (filled-set_some old slot m slot_in empty) in
       record {
         counted = one_member_more (length (filled old)) len (length (filled (set old slot (Some m)))) s.counted (omega arith);
@@ -90,38 +92,40 @@ module _ {T : Type 0} where
         shift_high = s.shift_high;
         places = rw length-set s.places;
         in_place = in_place;
+        tagged = tagged;
       }
 
-  pub place_for_one : (slots : List (Option (ℕ × T))) (len shift : ℕ) → IsSound slots len shift → len < limit (length slots)
+  pub place_for_one : (slots : List (Option (ℕ × T))) (tags : List ℕ) (len shift : ℕ) → IsSound slots tags len shift → len < limit (length slots)
       → (length slots * 2 ^ shift ≡ 2 ^ 64) × ((q : ℕ) × (q < length slots) × (at slots q ≡ None))
-  place_for_one slots len shift s less =
+  place_for_one slots tags len shift s less =
       let e = places-power slots shift s.places (has_places (length slots) len less) in
       let counted = s.counted in
       (e, empty_slot slots (load-below_places (length slots) (length (filled slots)) (omega arith) (four_places (length slots) shift s.shift_high e)))
 
   -- a table that has slots has an empty one
-  pub sound-empty_slot : (slots : List (Option (ℕ × T))) (len shift : ℕ) → IsSound slots len shift → 0 < length slots
+  pub sound-empty_slot : (slots : List (Option (ℕ × T))) (tags : List ℕ) (len shift : ℕ) → IsSound slots tags len shift → 0 < length slots
       → (q : ℕ) × (q < length slots) × (at slots q ≡ None)
-  sound-empty_slot slots len shift s some =
+  sound-empty_slot slots tags len shift s some =
       let e = places-power slots shift s.places some in
       let counted = s.counted in
       let load = s.load in
       empty_slot slots (load-below_places (length slots) (length (filled slots)) (omega arith) (four_places (length slots) shift s.shift_high e))
 
-  pub sound-taken_out : (old new : List (Option (ℕ × T))) (len shift : ℕ) (r : Option (ℕ × T)) → IsSound old len shift
-      → length new ≡ length old → InPlace (length new) shift new
+  pub sound-taken_out : (old new : List (Option (ℕ × T))) (tags tags' : List ℕ) (len shift : ℕ) (r : Option (ℕ × T)) → IsSound old tags len shift
+      → length new ≡ length old → InPlace (length new) shift new → IsTagged tags' new
       → IfSome r (λ m. IsPermutation (filled old) (m ∷ filled new)) → is_some r ≡ true
-      → IsSound new (len - 1) shift × (1 ≤ len)
-  sound-taken_out old new len shift None s same in_place bag some = absurd (cc)
-  sound-taken_out old new len shift (Some m) s same in_place bag some =
+      → IsSound new tags' (len - 1) shift × (1 ≤ len)
+  sound-taken_out old new tags tags' len shift None s same in_place tagged bag some = absurd (cc)
+  sound-taken_out old new tags tags' len shift (Some m) s same in_place tagged bag some =
       let count = length_permutation (filled old) (m ∷ filled new) bag in
       let counted = s.counted in
-      (sound-without_member old new len shift m s same in_place bag, omega arith)
+      (sound-without_member old new tags tags' len shift m s same in_place tagged bag, omega arith)
 
   -- slots that keep some of their members
-  pub sound-some_kept : (old new : List (Option (ℕ × T))) (len kept shift : ℕ) → IsSound old len shift → length new ≡ length old
-      → InPlace (length new) shift new → kept ≡ length (filled new) → length (filled new) ≤ length (filled old) → IsSound new kept shift
-  sound-some_kept old new len kept shift s same in_place counted fewer =
+  pub sound-some_kept : (old new : List (Option (ℕ × T))) (tags tags' : List ℕ) (len kept shift : ℕ) → IsSound old tags len shift → length new ≡ length old
+      → InPlace (length new) shift new → IsTagged tags' new → kept ≡ length (filled new) → length (filled new) ≤ length (filled old)
+      → IsSound new tags' kept shift
+  sound-some_kept old new tags tags' len kept shift s same in_place tagged counted fewer =
       let before = s.counted in
       let load = s.load in
       record {
@@ -131,19 +135,20 @@ module _ {T : Type 0} where
         shift_high = s.shift_high;
         places = rw same s.places;
         in_place = in_place;
+        tagged = tagged;
       }
 
   -- members and room together fill the load
-  pub len-and-room : (slots : List (Option (ℕ × T))) (len shift : ℕ) → IsSound slots len shift
+  pub len-and-room : (slots : List (Option (ℕ × T))) (tags : List ℕ) (len shift : ℕ) → IsSound slots tags len shift
       → length (filled slots) + (limit (length slots) - len) ≡ limit (length slots)
-  len-and-room slots len shift s = let e = s.counted in let l = s.load in omega arith
+  len-and-room slots tags len shift s = let e = s.counted in let l = s.load in omega arith
 
-  pub sound-taken_out_of_copy : (old via new : List (Option (ℕ × T))) (len shift : ℕ) (r : Option (ℕ × T)) → via ≡ old → IsSound old len shift
-      → length new ≡ length via → InPlace (length new) shift new
+  pub sound-taken_out_of_copy : (old via new : List (Option (ℕ × T))) (tags tags' : List ℕ) (len shift : ℕ) (r : Option (ℕ × T)) → via ≡ old → IsSound old tags len shift
+      → length new ≡ length via → InPlace (length new) shift new → IsTagged tags' new
       → IfSome r (λ m. IsPermutation (filled via) (m ∷ filled new)) → is_some r ≡ true
-      → IsSound new (len - 1) shift × (1 ≤ len)
-  sound-taken_out_of_copy old via new len shift r e s same in_place bag some =
-      sound-taken_out old new len shift r s (same ∙ ap length e) in_place
+      → IsSound new tags' (len - 1) shift × (1 ≤ len)
+  sound-taken_out_of_copy old via new tags tags' len shift r e s same in_place tagged bag some =
+      sound-taken_out old new tags tags' len shift r s (same ∙ ap length e) in_place tagged
       (subst (λ l. IfSome r (λ m. IsPermutation (filled l) (m ∷ filled new))) e bag) some
 
 module _ {T : Type 0} where
@@ -192,12 +197,12 @@ module _ {T : Type 0} where
     reached = λ p q h x e q_in nearer. absurd (cc (at-replicate n p));
   }
 
-  pub sound-grown : (items old mid new : List (Option (ℕ × T))) (len shift shift' count : ℕ) → IsSound items len shift
-      → old ≡ items → mid ≡ replicate count None → length new ≡ length mid → InPlace (length new) shift' new
+  pub sound-grown : (items old mid new : List (Option (ℕ × T))) (tags tags' : List ℕ) (len shift shift' count : ℕ) → IsSound items tags len shift
+      → old ≡ items → mid ≡ replicate count None → length new ≡ length mid → InPlace (length new) shift' new → IsTagged tags' new
       → IsPermutation (filled old ++ filled mid) (filled new)
       → count * 2 ^ shift' ≡ 2 ^ 64 → 1 < shift' → shift' < 63 → len ≤ limit count
-      → IsSound new len shift' × IsPermutation (filled items) (filled new) × (length new ≡ count)
-  sound-grown items old mid new len shift shift' count s e f sized in_place bag power low high load =
+      → IsSound new tags' len shift' × IsPermutation (filled items) (filled new) × (length new ≡ count)
+  sound-grown items old mid new tags tags' len shift shift' count s e f sized in_place tagged bag power low high load =
       let sized' : length new ≡ count = sized ∙ ap length f ∙ length-replicate count None in
       let bag' : IsPermutation (filled items) (filled new) =
       subst (λ l. IsPermutation l (filled new))
@@ -209,29 +214,35 @@ module _ {T : Type 0} where
           shift_high = high;
           places = inr (ap (λ n. n * 2 ^ shift') sized' ∙ power);
           in_place = in_place;
+          tagged = tagged;
         },
         bag',
         sized',
       )
 
-  pub sound-inserted : (items mid new : List (Option (ℕ × T))) (len shift slot : ℕ) (m : ℕ × T) → IsSound items len shift
-      → mid ≡ items → new ≡ set mid slot (Some m) → slot < length mid → at mid slot ≡ None → InPlace (length new) shift new
+  pub sound-inserted : (items mid new : List (Option (ℕ × T))) (tags tags' : List ℕ) (len shift slot : ℕ) (m : ℕ × T) → IsSound items tags len shift
+      → mid ≡ items → new ≡ set mid slot (Some m) → slot < length mid → at mid slot ≡ None → InPlace (length new) shift new → IsTagged tags' new
       → 1 ≤ limit (length items) - len
-      → IsSound new (len + 1) shift × IsPermutation (m ∷ filled items) (filled new) × (length new ≡ length items)
-  sound-inserted items mid new len shift slot m s e f slot_in empty in_place room =
+      → IsSound new tags' (len + 1) shift × IsPermutation (m ∷ filled items) (filled new) × (length new ≡ length items)
+  sound-inserted items mid new tags tags' len shift slot m s e f slot_in empty in_place tagged room =
       let e' : new ≡ set items slot (Some m) = f ∙ ap (λ l. set l slot (Some m)) e in
       let slot_in' : slot < length items = subst (λ l. slot < length l) e slot_in in
       let empty' : at items slot ≡ None = sym (ap (λ l. at l slot) e) ∙ empty in
       let less : len < limit (length items) = omega arith in (
-        subst (λ l. IsSound l (len + 1) shift) (sym e')
-            (sound-with_member items len shift slot m s less slot_in' empty' (subst (λ l. InPlace (length l) shift l) e' in_place)),
+        subst (λ l. IsSound l tags' (len + 1) shift) (sym e')
+            (sound-with_member items tags tags' len shift slot m s less slot_in' empty' (subst (λ l. InPlace (length l) shift l) e' in_place)
+            (subst (IsTagged tags') e' tagged)),
         subst (λ l. IsPermutation (m ∷ filled items) (filled l)) (sym e') (filled-set_some items slot m slot_in' empty'),
         ap length e' ∙ length-set items slot (Some m),
       )
 
-  pub sound-all_empty : (items : List (Option (ℕ × T))) (shift count : ℕ) → items ≡ replicate count None
-      → count * 2 ^ shift ≡ 2 ^ 64 → 1 < shift → shift < 63 → IsSound items 0 shift × (filled items ≡ [])
-  sound-all_empty items shift count e power low high =
+  pub tagged-replicate : (items : List (Option (ℕ × T))) (tags : List ℕ) (count : ℕ) → items ≡ replicate count None → length tags ≡ count → IsTagged tags items
+  tagged-replicate items tags count e sized =
+      tagged-none tags items (sized ∙ sym (ap length e ∙ length-replicate count None)) (λ k. ap (λ l. at l k) e ∙ at-replicate count k)
+
+  pub sound-all_empty : (items : List (Option (ℕ × T))) (tags : List ℕ) (shift count : ℕ) → items ≡ replicate count None → length tags ≡ count
+      → count * 2 ^ shift ≡ 2 ^ 64 → 1 < shift → shift < 63 → IsSound items tags 0 shift × (filled items ≡ [])
+  sound-all_empty items tags shift count e f power low high =
       let none : filled items ≡ [] = ap filled e ∙ filled-replicate count in
       let sized : length items ≡ count = ap length e ∙ length-replicate count None in (
         record {
@@ -241,6 +252,7 @@ module _ {T : Type 0} where
           shift_high = high;
           places = inr (ap (λ n. n * 2 ^ shift) sized ∙ power);
           in_place = subst (λ l. InPlace (length l) shift l) (sym e) (in_place-replicate (length (replicate count None)) shift count);
+          tagged = tagged-replicate items tags count e f;
         },
         none,
       )

@@ -7,7 +7,7 @@ use Rattle.std.specs.Borrow.{Bor}
 use Rattle.std.specs.Fn.{Mut}
 use Rattle.starlark_table.specs.Table.{filled, IsSlotClone}
 use Rattle.starlark_table.specs.Walk.{ReplacesEach}
-use Rattle.starlark_table.specs.Layout.{at, limit, InPlace, IsSound}
+use Rattle.starlark_table.specs.Layout.{at, limit, InPlace, IsTagged, IsSound}
 
 -- how many hashes there are
 abbrev count_full : List (Option ℕ) → ℕ
@@ -68,8 +68,16 @@ module _ {T : Type 0} where
     same_hash_at : (p : ℕ) → hash_of (at new p) ≡ hash_of (at old p)
     same_hash_at p = sym (at-shape new p) ∙ ap (λ l. get_or l p None) same ∙ at-shape old p
 
-    pub reshaped : (len shift : ℕ) → IsSound old len shift → IsSound new len shift
-    reshaped len shift sound = record {
+    same_tags : (tags : List ℕ) → IsTagged tags old → IsTagged tags new
+    same_tags tags t = record {
+      sized = t.sized ∙ sym same_length;
+      tagged = λ p h y e.
+          let back = full_by_hash (at old p) h (sym (same_hash_at p) ∙ ap hash_of e) in
+          t.tagged p h back.0 back.1;
+    }
+
+    pub reshaped : (tags : List ℕ) (len shift : ℕ) → IsSound old tags len shift → IsSound new tags len shift
+    reshaped tags len shift sound = record {
       counted = sound.counted ∙ sym same_count;
       load = subst (λ n. len ≤ limit n) (sym same_length) sound.load;
       shift_low = sound.shift_low;
@@ -83,6 +91,7 @@ module _ {T : Type 0} where
             let back = full_by_hash (at old p) h (sym (same_hash_at p) ∙ ap hash_of e) in
             full_in_both (at old q) (at new q) (same_hash_at q) (sound.in_place.reached p q h back.0 back.1 below near);
       });
+      tagged = same_tags tags sound.tagged;
     }
 
 module _ {F T : Type 0} (g : Mut F (Bor T × Unit {0}) T) where

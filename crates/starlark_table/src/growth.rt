@@ -1,7 +1,7 @@
 //! Growth: new slots, all empty, and the move of every member into them under the hash that it keeps.
 ghost use Rattle.std.specs.Prelude.{◌≡◌, ℕ, ◌+◌, ◌*◌, ◌^◌, ◌<◌, ◌≤◌, None, ◌++◌, length, replicate, IfOk, IsPermutation};
 ghost use Rattle.starlark_table.specs.Table.{filled};
-ghost use Rattle.starlark_table.specs.Layout.{limit, InPlace};
+ghost use Rattle.starlark_table.specs.Layout.{limit, InPlace, IsTagged};
 
 use crate::probe::{Slot, put};
 use std::alloc::{AllocError, Global};
@@ -16,19 +16,28 @@ pub(crate) fn empty_slots<T>(alloc: Global, count: usize) -> Result<Vec<Slot<T>>
     Ok(slots)
 }
 
+// Tags can be let go where the slots are then refused, but slots cannot: so they are asked for first.
+pub(crate) fn empty_tags(alloc: Global, count: usize) -> Result<Vec<u8>, AllocError>
+    ensures { IfOk result (λ v. length v.items ≡ count) }
+{
+    vec![in alloc; 0; count]
+}
+
 // Moves each member to the new slots, which have room for all.
-pub(crate) fn move_all<T>(mut old: Vec<Slot<T>>, slots: &mut [Slot<T>], shift: u32)
+pub(crate) fn move_all<T>(mut old: Vec<Slot<T>>, slots: &mut [Slot<T>], tags: &mut [u8], shift: u32)
     requires low { 1 < shift }
     requires high { shift < 63 }
     requires places { length slots.old * 2 ^ shift ≡ 2 ^ 64 }
     requires in_place { InPlace (length slots.old) shift slots.old }
+    requires tagged { IsTagged tags.old slots.old }
     requires room { length (filled slots.old) + length (filled old.items) ≤ limit (length slots.old) }
     ensures bag { IsPermutation (filled old.items ++ filled slots.old) (filled slots.new) }
     ensures in_place { InPlace (length slots.new) shift slots.new }
+    ensures tagged { IsTagged tags.new slots.new }
 {
     while let Some(slot) = old.pop() {
         if let Some((hash, item)) = slot {
-            put(slots, shift, hash, item);
+            put(slots, tags, shift, hash, item);
         }
     }
     old.destroy_empty();

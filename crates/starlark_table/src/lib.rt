@@ -9,6 +9,7 @@ mod loan;
 mod places;
 mod probe;
 pub mod ready_table;
+mod tags;
 #[cfg(test)]
 mod tests;
 mod walks;

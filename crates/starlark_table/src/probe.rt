@@ -5,23 +5,26 @@ ghost use Rattle.std.specs.Borrow.{sem};
 ghost use Rattle.starlark_hash.specs.Search.{Searches, CanSearch};
 ghost use Rattle.starlark_table.specs.Table.{holders_in, IsNextSlot};
 ghost use Rattle.starlark_table.specs.Lends.{lends_slot};
-ghost use Rattle.starlark_table.specs.Layout.{distance, at, InPlace, IsShift};
+ghost use Rattle.starlark_table.specs.Layout.{distance, at, InPlace, IsShift, IsTagged};
 
 use crate::places::{home, next_place};
+use crate::tags::{lacks, tag};
 
 pub(crate) type Slot<T> = Option<(u64, T)>;
 
 // A slot, with the item in it.
 #[inline]
-pub(crate) fn find_slot<T, F: FnMut(&T) -> bool>(
-    slots: &[Slot<T>],
+pub(crate) fn find_slot<'a, T, F: FnMut(&T) -> bool>(
+    slots: &'a [Slot<T>],
+    tags: &[u8],
     shift: u32,
     hash: u64,
     mut eq: F,
-) -> Option<(usize, &T)>
+) -> Option<(usize, &'a T)>
     requires shift { shift < 64 }
     requires places { IsShift shift slots.now }
     requires in_place { InPlace (length slots.now) shift slots.now }
+    requires tagged { IsTagged tags.now slots.now }
     requires free { 0 < length slots.now → (q : ℕ) × (q < length slots.now) × (at slots.now q ≡ None) }
     requires callable { CanSearch F.FnMut (holders_in hash slots.now) eq }
     ensures found { (last : F) × Searches F.FnMut (holders_in hash slots.now) eq (option_map (λ p. p.0) result) last }
@@ -31,7 +34,11 @@ pub(crate) fn find_slot<T, F: FnMut(&T) -> bool>(
     if count == 0 {
         return None;
     }
-    let mut place = home(hash, shift);
+    let home = home(hash, shift);
+    if lacks(tags, home, tag(hash)) {
+        return None;
+    }
+    let mut place = home;
     while let Some((stored, item)) = &slots[place] {
         if *stored == hash && eq(item) {
             return Some((place, item));
@@ -57,19 +64,28 @@ pub(crate) fn free_place<T>(slots: &[Slot<T>], start: usize) -> usize
     place
 }
 
-// Puts a member at the first empty place from its home on.
+// Puts a member at the first empty place from its home on, and its tag beside it.
 #[inline]
-pub(crate) fn put<T>(slots: &mut [Slot<T>], shift: u32, hash: u64, item: T) -> usize
+pub(crate) fn put<T>(
+    slots: &mut [Slot<T>],
+    tags: &mut [u8],
+    shift: u32,
+    hash: u64,
+    item: T,
+) -> usize
     requires shift { shift < 64 }
     requires places { length slots.old * 2 ^ shift ≡ 2 ^ 64 }
     requires in_place { InPlace (length slots.old) shift slots.old }
+    requires tagged { IsTagged tags.old slots.old }
     requires free { (q : ℕ) × (q < length slots.old) × (at slots.old q ≡ None) }
     ensures in_range { result < length slots.old }
     ensures empty { at slots.old result ≡ None }
     ensures set { slots.new ≡ slice_set slots.old result (Some (hash, item)) }
     ensures in_place { InPlace (length slots.new) shift slots.new }
+    ensures tagged { IsTagged tags.new slots.new }
 {
     let place = free_place(slots, home(hash, shift));
+    tags[place] = tag(hash);
     match slots[place].replace((hash, item)) {
         None => place,
         Some(_) => unreachable!(),

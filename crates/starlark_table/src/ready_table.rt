@@ -8,12 +8,13 @@ ghost use Rattle.starlark_table.specs.Table.{members, table_len, member_at, item
 ghost use Rattle.starlark_table.specs.Walk.{CanReplace, ReplacesEach, CanRetain, AsksMember};
 
 use crate::gap::take_out;
-use crate::growth::{empty_slots, move_all};
+use crate::growth::{empty_slots, empty_tags, move_all};
 use crate::iter::{IntoIter, Iter};
 use crate::iter_mut::IterMut;
 use crate::loan::Loan;
 use crate::places::{limit, places_for};
 use crate::probe::{Slot, find_slot, full_from, item_at, item_mut, put};
+use crate::tags::retag;
 use crate::walks::{empty_all, replace_items, retain_items};
 use starlark_hash::NoRoom;
 use std::alloc::{AllocError, Global};
@@ -24,9 +25,11 @@ use std::mem;
 /// differ, nor their hashes.
 ///
 /// Open addressing: each slot is empty or has a member, which stands as near behind its home as was free when it came.
+/// Beside each slot stands a tag, one byte of the hash: by the tags most searches see at once that a hash is absent.
 #[derive(Drop)]
 pub struct ReadyTable<T> {
     slots: Vec<Slot<T>>,
+    tags: Vec<u8>,
     len: usize,
     shift: u32,
 }
@@ -43,7 +46,7 @@ impl<T> Model for ReadyTable<T> {
 
     ghost view = { λ t. record { slots = t.slots.items; room = limit (length t.slots.items) - t.len } };
 
-    ghost invariant = { λ t. IsSound t.slots.items t.len t.shift };
+    ghost invariant = { λ t. IsSound t.slots.items t.tags.items t.len t.shift };
 }
 
 impl<T> ReadyTable<T> {
@@ -56,6 +59,7 @@ impl<T> ReadyTable<T> {
     {
         ReadyTable {
             slots: Vec::new(alloc),
+            tags: Vec::new(alloc),
             len: 0,
             shift: 62,
         }
@@ -73,9 +77,11 @@ impl<T> ReadyTable<T> {
         let Some((count, shift)) = places_for(capacity) else {
             return Err(AllocError);
         };
+        let tags = empty_tags(alloc, count)?;
         let slots = empty_slots(alloc, count)?;
         Ok(ReadyTable {
             slots,
+            tags,
             len: 0,
             shift,
         })
@@ -106,7 +112,13 @@ impl<T> ReadyTable<T> {
         requires { CanSearch F.FnMut (items_under hash self.now) eq }
         ensures { (last : F) × Searches F.FnMut (items_under hash self.now) eq result last }
     {
-        let (slot, _) = find_slot(self.slots.as_slice(), self.shift, hash, eq)?;
+        let (slot, _) = find_slot(
+            self.slots.as_slice(),
+            self.tags.as_slice(),
+            self.shift,
+            hash,
+            eq,
+        )?;
         Some(slot)
     }
 
@@ -116,7 +128,13 @@ impl<T> ReadyTable<T> {
         requires { CanSearch F.FnMut (items_under hash self.now) eq }
         ensures { (slot : Option ℕ) × (last : F) × Searches F.FnMut (items_under hash self.now) eq slot last × (option_copied result ≡ option_and_then (item_in self.now) slot) }
     {
-        let (_, item) = find_slot(self.slots.as_slice(), self.shift, hash, eq)?;
+        let (_, item) = find_slot(
+            self.slots.as_slice(),
+            self.tags.as_slice(),
+            self.shift,
+            hash,
+            eq,
+        )?;
         Some(item)
     }
 
@@ -166,7 +184,13 @@ impl<T> ReadyTable<T> {
         if let Err(AllocError) = self.reserve(1) {
             return Err(NoRoom(item));
         }
-        let slot = put(self.slots.as_mut_slice(), self.shift, hash, item);
+        let slot = put(
+            self.slots.as_mut_slice(),
+            self.tags.as_mut_slice(),
+            self.shift,
+            hash,
+            item,
+        );
         self.len += 1;
         Ok(slot)
     }
@@ -204,10 +228,17 @@ impl<T> ReadyTable<T> {
         let Some((count, shift)) = places_for(needed) else {
             return Err(AllocError);
         };
+        let tags = empty_tags(*self.slots.allocator(), count)?;
         let slots = empty_slots(*self.slots.allocator(), count)?;
         let old = mem::replace(&mut self.slots, slots);
+        self.tags = tags;
         self.shift = shift;
-        move_all(old, self.slots.as_mut_slice(), shift);
+        move_all(
+            old,
+            self.slots.as_mut_slice(),
+            self.tags.as_mut_slice(),
+            shift,
+        );
         Ok(())
     }
 
@@ -220,7 +251,12 @@ impl<T> ReadyTable<T> {
         ensures none { IfNone result (self.new ≡ self.old) }
         ensures room { table_len self.new + self.new.room ≡ table_len self.old + self.old.room }
     {
-        let member = take_out(self.slots.as_mut_slice(), self.shift, slot);
+        let member = take_out(
+            self.slots.as_mut_slice(),
+            self.tags.as_mut_slice(),
+            self.shift,
+            slot,
+        );
         if member.is_some() {
             self.len -= 1;
         }
@@ -250,6 +286,7 @@ impl<T> ReadyTable<T> {
         ensures room { table_len self.new + self.new.room ≡ table_len self.old + self.old.room }
     {
         let kept = retain_items(self.slots.as_mut_slice(), self.shift, f);
+        retag(self.tags.as_mut_slice(), self.slots.as_slice());
         self.len = kept;
     }
 
@@ -261,6 +298,7 @@ impl<T> ReadyTable<T> {
         ensures room { self.new.room ≡ table_len self.old + self.old.room }
     {
         empty_all(self.slots.as_mut_slice());
+        self.tags.as_mut_slice().fill(0);
         self.len = 0;
     }
 
@@ -306,6 +344,7 @@ impl<T> ReadyTable<T> {
     {
         let ReadyTable {
             slots,
+            tags: _,
             len,
             shift: _,
         } = self;
@@ -331,8 +370,10 @@ impl<T: Clone> Clone for ReadyTable<T> {
 
     /// A table of clones, slot by slot.
     fn clone(&self) -> Result<Self, AllocError> {
+        let tags = self.tags.clone()?;
         Ok(ReadyTable {
             slots: self.slots.clone()?,
+            tags,
             len: self.len,
             shift: self.shift,
         })

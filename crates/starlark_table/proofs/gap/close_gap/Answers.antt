@@ -3,6 +3,7 @@ use Rattle.starlark_table.specs.Layout.{distance, home, InPlace}
 use Rattle.starlark_table.proofs.Circle.{distance-below, less-left}
 use Rattle.starlark_table.proofs.Closing.{closing-begins, read_known, swapped_slots, closing-ends, closing-next_place, closing-member_stays, closing-member_moved}
 use Rattle.std.proofs.lemmas.List.Sorted.{IsPermutation-refl, IsPermutation-trans}
+use Rattle.starlark_table.proofs.Tagged.{tagged-swapped}
 use Rattle.starlark_table.proofs.gap.close_gap.Goals as goal
 use Rattle.starlark_table.proofs.gap.close_gap.Goals.{then-distance, else-distance}
 
@@ -14,6 +15,7 @@ loop-slots-init g c =
       closing = closing-begins (length c.args.slots.now) c.args.shift c.args.start c.args.slots.now c.next_place-next.result q.0
           refl c.requires.start c.requires.empty c.requires.gap q.1 q.2 q.3 c.next_place-next.ensures;
       bag = IsPermutation-refl _;
+      tagged = c.requires.tagged;
     }
 
 pub distance-requires-clause-from : goal.distance-requires-clause-from
@@ -55,6 +57,8 @@ loop-slots-preserved g c =
             counted = rw (w.slots-is, moved.0.same_length) (sym k.sized);
             closing = rw (w.slots-is, w.hole-is) (closing-member_moved (length c.args.slots.now) c.args.shift c.args.start c.loop-slots.slots w.swap.new.self c.loop-slots.hole c.loop-slots.next _ _ _ k here moved.0 c.next_place-next-in-Some.ensures crosses);
             bag = rw w.slots-is (IsPermutation-trans _ _ _ c.loop-slots.invariant.bag moved.1);
+            tagged = rw (w.slots-is, w.tags-is, w.swap.ensures.after, w.swap-then-distance.ensures.after)
+                (tagged-swapped c.loop-slots.tags c.loop-slots.slots c.loop-slots.hole c.loop-slots.next (rw k.sized k.hole_in) (rw k.sized k.next_in) c.loop-slots.invariant.tagged);
           }
       | else-distance w ↦ let near : distance (length c.args.slots.now) (home c.args.shift c.in-Some.hash) c.loop-slots.next ≤ distance (length c.args.slots.now) (home c.args.shift c.in-Some.hash) c.loop-slots.hole =
           rw (← c.home-home.ensures, ← c.distance.ensures, ← c.distance-in-Some.ensures) w.if-distance.false in
@@ -62,6 +66,7 @@ loop-slots-preserved g c =
             counted = rw w.slots-is (sym k.sized);
             closing = rw (w.slots-is, w.hole-is) (closing-member_stays (length c.args.slots.now) c.args.shift c.args.start c.loop-slots.slots c.loop-slots.hole c.loop-slots.next _ _ _ k here c.next_place-next-in-Some.ensures near);
             bag = rw w.slots-is c.loop-slots.invariant.bag;
+            tagged = rw (w.slots-is, w.tags-is) c.loop-slots.invariant.tagged;
           }
     ]
 

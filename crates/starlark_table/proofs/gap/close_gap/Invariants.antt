@@ -1,6 +1,6 @@
 use Rattle.std.proofs.Common.{◌≡◌, ◌-◌, length, IsPermutation}
 use Rattle.starlark_table.specs.Table.{filled}
-use Rattle.starlark_table.specs.Layout.{distance}
+use Rattle.starlark_table.specs.Layout.{distance, IsTagged}
 use Rattle.starlark_table.proofs.Closing.{Closing}
 use Rattle.starlark_table.proofs.gap.close_gap.Given as goal
 
@@ -9,6 +9,7 @@ invariant-loop-slots g l = record {
   counted : l.count ≡ length l.slots;
   closing : Closing l.count l.shift l.start l.slots l.hole l.next;
   bag : IsPermutation (filled l.initial.slots) (filled l.slots);
+  tagged : IsTagged l.tags l.slots;
 }
 
 abbrev pub decreases-loop-slots : goal.decreases-loop-slots

@@ -1,7 +1,8 @@
 use Rattle.std.proofs.Common.{◌≡◌, ◌≢◌, ℕ, ◌<◌, length, None, arith, refl, sym, ◌∙◌, subst, IsPermutation}
 use Rattle.std.proofs.Math.ListN.{set, length-set}
 use Rattle.starlark_table.specs.Table.{filled}
-use Rattle.starlark_table.specs.Layout.{at, HasGap}
+use Rattle.starlark_table.specs.Layout.{at, HasGap, IsTagged}
+use Rattle.starlark_table.proofs.Tagged.{tagged-taken_out}
 use Rattle.starlark_table.proofs.Closing.{read_known, gap_left}
 use Rattle.starlark_table.proofs.Load.{another_empty_slot, places-power, places-fit, bag-taken_out}
 use Rattle.starlark_table.proofs.gap.take_out.Goals as goal
@@ -16,6 +17,11 @@ close_gap-requires-clause-gap g c =
     let gap = gap_left (length c.args.slots.now) c.args.shift c.args.slots.now c.args.slot refl c.if-slot-slots.false c.requires.in_place in
     subst (λ o. HasGap (length (set c.args.slots.now c.args.slot o)) c.args.shift (set c.args.slots.now c.args.slot o) c.args.slot) (sym c.take.ensures.after)
     (subst (λ m. HasGap m c.args.shift (set c.args.slots.now c.args.slot None) c.args.slot) (sym (length-set c.args.slots.now c.args.slot None)) gap)
+
+pub close_gap-requires-clause-tagged : goal.close_gap-requires-clause-tagged
+close_gap-requires-clause-tagged g c =
+    subst (λ o. IsTagged (set c.args.tags.now c.args.slot 0) (set c.args.slots.now c.args.slot o)) (sym c.take.ensures.after)
+    (tagged-taken_out c.args.tags.now c.args.slots.now c.args.slot c.if-slot-slots.false c.requires.tagged)
 
 pub close_gap-requires-clause-free : goal.close_gap-requires-clause-free
 close_gap-requires-clause-free g c =

@@ -19,6 +19,7 @@ pub loop-slot-preserved-in-Some-slot : goal.loop-slot-preserved-in-Some-slot
 loop-slot-preserved-in-Some-slot g c = record {
   sized = c.put.auto.slots ∙ c.loop-slot.invariant.sized;
   in_place = c.put.ensures.in_place;
+  tagged = c.put.ensures.tagged;
   bag = subst (λ l. IsPermutation (filled c.args.old.items ++ filled c.args.slots.now) (filled c.pop.new.self.items ++ filled l)) (sym c.put.ensures.set)
       (bag-member_moved _ c.loop-slot.old.items c.pop.new.self.items c.loop-slot.slots c.put.result (c.in-Some-slot.hash, c.in-Some-slot.item)
       (c.in-Some.ensures.items ∙ ap (λ s. c.pop.new.self.items ++ s ∷ []) c.in-Some-slot.is)
@@ -29,6 +30,7 @@ pub loop-slot-preserved : goal.loop-slot-preserved
 loop-slot-preserved g c = record {
   sized = c.loop-slot.invariant.sized;
   in_place = c.loop-slot.invariant.in_place;
+  tagged = c.loop-slot.invariant.tagged;
   bag = bag-empty_slot_moved _ c.loop-slot.old.items c.pop.new.self.items c.loop-slot.slots
       (c.in-Some.ensures.items ∙ ap (λ s. c.pop.new.self.items ++ s ∷ []) c.in_default-slot.is) c.loop-slot.invariant.bag;
 }

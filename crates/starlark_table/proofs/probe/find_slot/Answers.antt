@@ -1,12 +1,14 @@
 use Rattle.std.proofs.Common.{ℕ, ◌≡◌, ◌*◌, ◌^◌, ◌<◌, ◌⊎◌, length, inl, inr, Some, arith, refl, sym, ◌∙◌, ap, subst, false}
 use Rattle.std.specs.Fn.{CalledAt}
 use Rattle.std.proofs.lemmas.Fn.{called_at}
+use Rattle.std.proofs.lemmas.List.Sorted.{IsPermutation-refl}
 use Rattle.starlark_table.specs.Table.{holders_in}
-use Rattle.starlark_table.specs.Layout.{distance, home}
+use Rattle.starlark_table.specs.Layout.{distance, home, tag, EndsWithout}
 use Rattle.starlark_table.proofs.Circle.{home-below, distance-self, distance-below, next-step, less-left}
 use Rattle.starlark_table.proofs.Closing.{free_farther, path_more, full-some}
 use Rattle.starlark_table.proofs.Path.{read_at, nothing_left, listed}
 use Rattle.starlark_table.proofs.Searching.{searching_begins, searching_as, searches_none, searching_asks, searching_refuses, searching_accepts, searching_ends, path_taken, path_skipped, path_moved}
+use Rattle.starlark_table.proofs.Absent.{nobody_holds}
 use Rattle.starlark_table.proofs.probe.find_slot.Goals as goal
 use Rattle.starlark_table.proofs.probe.find_slot.Goals.{else-stored-hash-via-then-stored-hash+else-eq, else-stored-hash-via-else-stored-hash}
 
@@ -18,13 +20,29 @@ home_in : (m shift hash : ℕ) → (m ≡ 0 → ⊥) → (m ≡ 0) ⊎ (m * 2 ^ 
 home_in m shift hash some (inl none) fits = absurd (some none)
 home_in m shift hash some (inr e) fits = home-below m shift hash e fits
 
+pub lacks-requires : goal.lacks-requires
+lacks-requires g c =
+    let in' = home_in (length c.args.slots.now) c.args.shift c.args.hash c.if-count-eq0.false c.requires.places c.ranges.hash.fits in
+    rw (c.home-home.ensures, c.requires.tagged.sized) in'
+
+pub returns-then-lacks-clause-found : goal.returns-then-lacks-clause-found
+returns-then-lacks-clause-found g c =
+    let ends : EndsWithout (tag c.args.hash) (home c.args.shift c.args.hash) c.args.tags.now =
+    rw (← c.home-home.ensures, ← c.tag.ensures) (c.lacks.ensures c.if-lacks.true) in (
+      c.args.eq,
+      searching_ends g.F.FnMut (holders_in c.args.hash c.args.slots.now) (holders_in c.args.hash c.args.slots.now) _ c.args.eq c.args.eq
+          (IsPermutation-refl (holders_in c.args.hash c.args.slots.now))
+          (nobody_holds c.args.tags.now c.args.slots.now c.requires.tagged c.args.shift c.args.hash c.requires.in_place ends)
+          (searching_begins g.F.FnMut (holders_in c.args.hash c.args.slots.now) c.args.eq),
+    )
+
 pub loop-place-init : goal.loop-place-init
 loop-place-init g c =
     let in' = home_in (length c.args.slots.now) c.args.shift c.args.hash c.if-count-eq0.false c.requires.places c.ranges.hash.fits in
-    let none : distance (length c.args.slots.now) (home c.args.shift c.args.hash) c.home-place.result ≡ 0 =
-    ap (distance (length c.args.slots.now) (home c.args.shift c.args.hash)) c.home-place.ensures ∙ distance-self (length c.args.slots.now) (home c.args.shift c.args.hash) in
+    let none : distance (length c.args.slots.now) (home c.args.shift c.args.hash) c.home-home.result ≡ 0 =
+    ap (distance (length c.args.slots.now) (home c.args.shift c.args.hash)) c.home-home.ensures ∙ distance-self (length c.args.slots.now) (home c.args.shift c.args.hash) in
     record {
-      in_range = rw c.home-place.ensures in';
+      in_range = rw c.home-home.ensures in';
       path = λ q q_in nearer. absurd (omega (arith, none));
       search = path_moved g.F.FnMut _ c.args.eq c.args.eq c.args.hash (home c.args.shift c.args.hash) 0 _ c.args.slots.now none (searching_begins g.F.FnMut _ c.args.eq);
     }

@@ -6,4 +6,4 @@ pub invariant_of-self-lent : goal.invariant_of-self-lent
 invariant_of-self-lent g c w =
     let below = some_in_range c.self.inside.slots.items c.args.slot (rw (← c.self.view_is) at c.requires) in
     reshaped c.self.inside.slots.items _ (shape-written w c.self.inside.slots.items c.args.slot c.index_mut.result.now c.index_mut.ensures.value below)
-    c.self.inside.len c.self.inside.shift c.self.invariant
+    c.self.inside.tags.items c.self.inside.len c.self.inside.shift c.self.invariant

@@ -4,7 +4,8 @@ use Rattle.std.proofs.lemmas.List.Sorted.{length_permutation}
 use Rattle.std.specs.List.Retain.{RetainsInTurn}
 use Rattle.starlark_table.specs.Table.{filled}
 use Rattle.starlark_table.specs.Walk.{AsksMember}
-use Rattle.starlark_table.specs.Layout.{limit, IsSound}
+use Rattle.starlark_table.specs.Layout.{limit, IsTagged}
+use Rattle.starlark_table.proofs.Sound.{sound-as}
 use Rattle.starlark_table.proofs.Load.{sound-some_kept, len-and-room}
 use Rattle.starlark_table.proofs.Retaining.{length-retained}
 use Rattle.starlark_table.proofs.ready_table.ReadyTable.retain.Goals as goal
@@ -18,9 +19,10 @@ invariant_of-self g c =
     let kept = c.retain_items-kept.ensures.kept in
     let fewer = shorter _ _ (length (filled c.retain_items-kept.new.slots)) (length (filled c.self.inside.slots.items)) (length-retained (AsksMember g.F.FnMut) _ _ kept.0 kept.1) (length_permutation _ _ kept.2)
     (ap (λ l. length (filled l)) c.as_mut_slice.ensures.value) in
-    subst (λ l. IsSound l c.retain_items-kept.result c.self.inside.shift) (sym same)
-    (sound-some_kept c.self.inside.slots.items c.retain_items-kept.new.slots c.self.inside.len c.retain_items-kept.result c.self.inside.shift c.self.invariant
-    (c.retain_items-kept.auto.slots ∙ ap length c.as_mut_slice.ensures.value) c.retain_items-kept.ensures.in_place c.retain_items-kept.ensures.counted fewer)
+    let tagged = subst (IsTagged c.retag.new.tags) (c.as_slice.ensures.value ∙ same) c.retag.ensures in
+    sound-as _ _ _ _ c.retain_items-kept.result c.self.inside.shift same (with_items_is c.self.inside.tags c.retag.new.tags (c.retag.auto.tags ∙ c.as_mut_slice-2.ensures.len))
+    (sound-some_kept c.self.inside.slots.items c.retain_items-kept.new.slots c.self.inside.tags.items c.retag.new.tags c.self.inside.len c.retain_items-kept.result c.self.inside.shift c.self.invariant
+    (c.retain_items-kept.auto.slots ∙ ap length c.as_mut_slice.ensures.value) c.retain_items-kept.ensures.in_place tagged c.retain_items-kept.ensures.counted fewer)
 
 pub returns-clause-kept : goal.returns-clause-kept
 returns-clause-kept g c =
@@ -37,10 +39,11 @@ returns-clause-room g c =
     let kept = c.retain_items-kept.ensures.kept in
     let fewer = shorter _ _ (length (filled c.retain_items-kept.new.slots)) (length (filled c.self.inside.slots.items)) (length-retained (AsksMember g.F.FnMut) _ _ kept.0 kept.1) (length_permutation _ _ kept.2)
     (ap (λ l. length (filled l)) c.as_mut_slice.ensures.value) in
+    let tagged = subst (IsTagged c.retag.new.tags) (c.as_slice.ensures.value ∙ same) c.retag.ensures in
     let sized = c.retain_items-kept.auto.slots ∙ ap length c.as_mut_slice.ensures.value in
-    let sound = sound-some_kept c.self.inside.slots.items c.retain_items-kept.new.slots c.self.inside.len c.retain_items-kept.result c.self.inside.shift c.self.invariant
-    sized c.retain_items-kept.ensures.in_place c.retain_items-kept.ensures.counted fewer in
+    let sound = sound-some_kept c.self.inside.slots.items c.retain_items-kept.new.slots c.self.inside.tags.items c.retag.new.tags c.self.inside.len c.retain_items-kept.result c.self.inside.shift c.self.invariant
+    sized c.retain_items-kept.ensures.in_place tagged c.retain_items-kept.ensures.counted fewer in
     rw (← c.self.view_is)
     (subst (λ l. length (filled l) + (limit (length l) - c.retain_items-kept.result) ≡ length (filled c.self.inside.slots.items) + (limit (length c.self.inside.slots.items) - c.self.inside.len)) (sym same)
-    (len-and-room c.retain_items-kept.new.slots c.retain_items-kept.result c.self.inside.shift sound ∙ ap limit sized
-    ∙ sym (len-and-room c.self.inside.slots.items c.self.inside.len c.self.inside.shift c.self.invariant)))
+    (len-and-room c.retain_items-kept.new.slots c.retag.new.tags c.retain_items-kept.result c.self.inside.shift sound ∙ ap limit sized
+    ∙ sym (len-and-room c.self.inside.slots.items c.self.inside.tags.items c.self.inside.len c.self.inside.shift c.self.invariant)))
