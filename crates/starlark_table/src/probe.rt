@@ -35,7 +35,8 @@ pub(crate) fn find_slot<'a, T, F: FnMut(&T) -> bool>(
         return None;
     }
     let home = home(hash, shift);
-    if lacks(tags, home, tag(hash)) {
+    let tag = tag(hash);
+    if tags[home] != tag && lacks(tags, home, tag) {
         return None;
     }
     let mut place = home;

@@ -16,14 +16,11 @@ pub(crate) fn tag(hash: u64) -> u8
 }
 
 // Whether the tags next to a home tell that the way from there ends before it meets this one.
-#[inline]
+#[inline(never)]
 pub(crate) fn lacks(tags: &[u8], home: usize, tag: u8) -> bool
     requires { home < length tags.now }
     ensures { IsTrue result → EndsWithout tag home tags.now }
 {
-    if tags[home] == tag {
-        return false;
-    }
     let rest = &tags[home..];
     if rest.len() < WINDOW {
         return false;

@@ -20,6 +20,11 @@ home_in : (m shift hash : ℕ) → (m ≡ 0 → ⊥) → (m ≡ 0) ⊎ (m * 2 ^ 
 home_in m shift hash some (inl none) fits = absurd (some none)
 home_in m shift hash some (inr e) fits = home-below m shift hash e fits
 
+pub bounds-tags-home : goal.bounds-tags-home
+bounds-tags-home g c =
+    let in' = home_in (length c.args.slots.now) c.args.shift c.args.hash c.if-count-eq0.false c.requires.places c.ranges.hash.fits in
+    rw (c.home-home.ensures, c.requires.tagged.sized) in'
+
 pub lacks-requires : goal.lacks-requires
 lacks-requires g c =
     let in' = home_in (length c.args.slots.now) c.args.shift c.args.hash c.if-count-eq0.false c.requires.places c.ranges.hash.fits in
@@ -28,7 +33,7 @@ lacks-requires g c =
 pub returns-then-lacks-clause-found : goal.returns-then-lacks-clause-found
 returns-then-lacks-clause-found g c =
     let ends : EndsWithout (tag c.args.hash) (home c.args.shift c.args.hash) c.args.tags.now =
-    rw (← c.home-home.ensures, ← c.tag.ensures) (c.lacks.ensures c.if-lacks.true) in (
+    rw (← c.home-home.ensures, ← c.tag-tag.ensures) (c.lacks.ensures c.if-lacks.true) in (
       c.args.eq,
       searching_ends g.F.FnMut (holders_in c.args.hash c.args.slots.now) (holders_in c.args.hash c.args.slots.now) _ c.args.eq c.args.eq
           (IsPermutation-refl (holders_in c.args.hash c.args.slots.now))
