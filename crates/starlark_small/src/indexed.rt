@@ -83,7 +83,7 @@ where
 }
 
 // The place under the query's hash whose key the query is equivalent to.
-#[inline]
+#[inline(always)]
 pub(crate) fn place_in<K: Eq, V, Q: Equivalent<K>>(
     entries: &VecMap<K, V>,
     index: &Option<ReadyTable<usize>>,

@@ -20,7 +20,9 @@ pub(crate) fn empty_slots<T>(alloc: Global, count: usize) -> Result<Vec<Slot<T>>
 pub(crate) fn empty_tags(alloc: Global, count: usize) -> Result<Vec<u8>, AllocError>
     ensures { IfOk result (λ v. length v.items ≡ count) }
 {
-    vec![in alloc; 0; count]
+    let mut tags = Vec::with_capacity(alloc, count)?;
+    tags.resize(count, 0)?;
+    Ok(tags)
 }
 
 // Moves each member to the new slots, which have room for all.

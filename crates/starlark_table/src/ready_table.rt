@@ -103,10 +103,9 @@ impl<T> ReadyTable<T> {
         limit(self.slots.len()) - self.len
     }
 
-    /// The slot of an item under exactly this hash that `eq` accepts. `eq` is asked about items of this hash
-    /// alone, about each at most
-    /// once and in no promised order, until it accepts one; `None` says that it refused them all. A slot is
-    /// good until the next change.
+    /// The slot of an item under exactly this hash that `eq` accepts. `eq` is asked about items of this hash alone,
+    /// about each at most once and in no promised order, until it accepts one; `None` says that it refused them all.
+    /// A slot is good until the next change.
     #[inline]
     pub fn find<F: FnMut(&T) -> bool>(&self, hash: u64, eq: F) -> Option<usize>
         requires { CanSearch F.FnMut (items_under hash self.now) eq }
@@ -168,9 +167,8 @@ impl<T> ReadyTable<T> {
         item_mut(&mut self.slots[slot])
     }
 
-    /// Puts an item in, also where an equal one is there, and answers its slot. Refused only at room 0; the
-    /// table is then as it was, and
-    /// the item comes back.
+    /// Puts an item in, also where an equal one is there, and answers its slot. Refused only at room 0; the table is
+    /// then as it was, and the item comes back.
     #[inline]
     pub fn insert_unique(&mut self, hash: u64, item: T) -> Result<usize, NoRoom<T>>
         ensures named { IfOk result (λ slot. member_at self.new slot ≡ Some (hash, item)) }
@@ -195,9 +193,8 @@ impl<T> ReadyTable<T> {
         Ok(slot)
     }
 
-    /// Makes room for so many insertions at least. It asks for no memory, and changes nothing, where the room
-    /// is there; where it is
-    /// refused, the table is as it was.
+    /// Makes room for so many insertions at least. It asks for no memory, and changes nothing, where the room is there;
+    /// where it is refused, the table is as it was.
     #[inline]
     pub fn reserve(&mut self, additional: usize) -> Result<(), AllocError>
         ensures ok { OnOk result (additional ≤ self.new.room) }
@@ -275,9 +272,8 @@ impl<T> ReadyTable<T> {
         replace_items(self.slots.as_mut_slice(), f);
     }
 
-    /// Keeps the members that `f` accepts, with what `f` left in their items, and takes the others out. `f`
-    /// is called once on each member,
-    /// along the walk. No memory is asked for, and the room of what was taken out comes back.
+    /// Keeps the members that `f` accepts, with what `f` left in their items, and takes the others out. `f` is called
+    /// once on each member, along the walk. No memory is asked for, and the room of what was taken out comes back.
     pub fn retain<F: FnMut(&mut T) -> bool>(&mut self, f: F)
     where
         T: Drop,

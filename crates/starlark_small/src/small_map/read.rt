@@ -19,7 +19,7 @@ use std::hash::Hash;
 
 impl<K: Eq, V> SmallMap<K, V> {
     /// The value under this hash whose key the query is equivalent to.
-    #[inline]
+    #[inline(always)]
     pub fn get_hashed<Q: Equivalent<K>>(&self, key: Hashed<&Q>) -> Option<&V>
         ensures { option_copied result ≡ value_at self.now.entries (query_match Q.equivalent self.now.entries key.entry) }
     {
@@ -49,7 +49,7 @@ impl<K: Eq, V> SmallMap<K, V> {
     }
 
     /// The place under this hash whose key the query is equivalent to.
-    #[inline]
+    #[inline(always)]
     pub fn get_index_of_hashed<Q: Equivalent<K>>(&self, key: Hashed<&Q>) -> Option<usize>
         ensures place { result ≡ query_match Q.equivalent self.now.entries key.entry }
         ensures within { IfSome result (λ i. i < length self.now.entries) }
