@@ -1,35 +1,61 @@
--- The first place at which a list passes a test, where the list is searched block by block.
-use Rattle.std.proofs.Common.{◌≡◌, ℕ, suc, ◌+◌, ◌<◌, ◌||◌, Bool, true, false, not, cond, List, [], ◌∷◌, ◌++◌, length, drop, get_or, refl, ap, ◌∙◌, arith}
-use Rattle.std.proofs.lemmas.List.{drop_more}
-use Rattle.std.specs.List.{list_any, position_or_len}
+-- The first place at which a list passes a test, as the mask of its first block shows it.
+use Rattle.std.proofs.Common.{◌≡◌, ◌≢◌, ℕ, suc, ◌+◌, ◌*◌, ◌<◌, ◌≤◌, Bool, true, false, not, cond, List, [], ◌∷◌, ◌++◌, Some, None, length, map, arith, rules, ap, sym, ◌∙◌}
+use Rattle.std.proofs.lemmas.List.Folds.{prefix_len-append}
+use Rattle.std.proofs.lemmas.Simd.{leading_from_mask_l, trailing_mask_l}
+use Rattle.std.specs.Int.Count.{count_trailing_zeros}
+use Rattle.std.specs.List.{position_or_len}
+use Rattle.std.specs.Prelude.{position, nat_eq}
+use Rattle.std.specs.Simd.Lanes.{mask_l}
 
--- an item before a tail, by whether it passes and whether one of the block behind it does
-past : (b any : Bool) (n m k : ℕ) → (b || any) ≡ false → (any ≡ false → n ≡ k + m) → cond (not b) (1 + n) 0 ≡ suc k + m
-past true any n m k e f = absurd (cc)
-past false any n m k e f = omega (arith, f e)
+passes_by : (b : Bool) (m r l : ℕ) → 0 < cond b 1 0 + 2 * m → (0 < m → r < l) → cond (not b) (1 + r) 0 < suc l
+passes_by true m r l some f = omega arith
+passes_by false m r l some f = omega (arith, f (omega arith))
 
-within : (b any : Bool) (n k : ℕ) → (b || any) ≡ true → (any ≡ true → n ≡ k) → cond (not b) (1 + n) 0 ≡ cond (not b) (1 + k) 0
-within true any n k e f = refl
-within false any n k e f = omega (arith, f e)
+seam_past : (n k r : ℕ) → n ≡ k → cond (nat_eq n k) (k + r) n ≡ k + r
+seam_past n k r is = search rules
+
+seam_within : (n k r : ℕ) → n < k → cond (nat_eq n k) (k + r) n ≡ n
+seam_within n k r less = search rules
 
 module _ {X : Type 0} (p : X → Bool) where
-  -- no item of the block passes
-  pub place_past : (block tail : List X) → list_any p block ≡ false → position_or_len p (block ++ tail) ≡ length block + position_or_len p tail
-  place_past [] tail none = omega arith
-  place_past (x ∷ xs) tail none = past (p x) (list_any p xs) (position_or_len p (xs ++ tail)) (position_or_len p tail) (length xs) none (place_past xs tail)
+  abbrev first : List X → ℕ
+  first = position_or_len p
 
-  -- one does
-  pub place_within : (block tail : List X) → list_any p block ≡ true → position_or_len p (block ++ tail) ≡ position_or_len p block
-  place_within [] tail some = absurd (cc)
-  place_within (x ∷ xs) tail some = within (p x) (list_any p xs) (position_or_len p (xs ++ tail)) (position_or_len p xs) some (place_within xs tail)
+  place_past : (block tail : List X) → first block ≡ length block → first (block ++ tail) ≡ length block + first tail
+  place_past block tail none =
+      prefix_len-append (λ x. not (p x)) block tail
+      ∙ seam_past (first block) (length block) (first tail) none
 
-  place_of_head : (b : Bool) (n : ℕ) → b ≡ false → cond (not b) (1 + n) 0 ≡ 1 + n
-  place_of_head true n e = absurd (cc)
-  place_of_head false n e = refl
+  place_within : (block tail : List X) → first block < length block → first (block ++ tail) ≡ first block
+  place_within block tail some =
+      prefix_len-append (λ x. not (p x)) block tail
+      ∙ seam_within (first block) (length block) (first tail) some
 
-  -- the item at i does not pass
-  pub place_later : (xs : List X) (i place : ℕ) (d : X) → i < length xs → p (get_or xs i d) ≡ false → place ≡ i + 1 + position_or_len p (drop (i + 1) xs) → place ≡ i + position_or_len p (drop i xs)
-  place_later xs i place d within fails is =
-      let n = position_or_len p (drop (i + 1) xs) in
-      let here : position_or_len p (drop i xs) ≡ 1 + n = ap (position_or_len p) (drop_more xs i d within) ∙ place_of_head (p (get_or xs i d)) n fails in
-      omega (arith, here, is)
+  some_passes : (xs : List X) → 0 < mask_l (map p xs) → first xs < length xs
+  some_passes [] some = absurd (omega arith)
+  some_passes (x ∷ xs) some = passes_by (p x) (mask_l (map p xs)) (first xs) (length xs) some (some_passes xs)
+
+  pub position_at : (xs : List X) (n : ℕ) → n ≡ first xs → n < length xs → Some n ≡ position p xs
+  position_at xs n is less = search rules
+
+  pub position_nowhere : (xs : List X) → first xs ≡ length xs → None ≡ position p xs
+  position_nowhere xs none = search rules
+
+  module _ (block tail : List X) (mask : ℕ) (few : length block ≤ 64) (is : mask ≡ mask_l (map p block)) where
+    -- no bit is set
+    pub past_block : mask ≡ 0 → first (block ++ tail) ≡ length block + first tail
+    past_block none = place_past block tail (leading_from_mask_l p block (sym is ∙ none))
+
+    -- the lowest bit is that of the first place
+    module _ (some : mask ≢ 0) where
+      set : 0 < mask_l (map p block)
+      set = omega (arith, is)
+
+      lowest : count_trailing_zeros 64 mask ≡ first block
+      lowest = ap (count_trailing_zeros 64) is ∙ trailing_mask_l p 64 block few set
+
+      pub lowest_is : count_trailing_zeros 64 mask ≡ first (block ++ tail)
+      lowest_is = lowest ∙ sym (place_within block tail (some_passes block set))
+
+      pub lowest_lt : count_trailing_zeros 64 mask < length block
+      lowest_lt = omega (arith, lowest, some_passes block set)

@@ -1,3 +1,5 @@
+pub mod Masks
+pub mod Blocks
 pub mod Searching
 pub mod Views
 pub mod Asked
@@ -7,4 +9,3 @@ pub mod Carry
 pub mod Sorts
 pub mod Written
 pub mod VecMapOpen
-pub mod Blocks

@@ -1,6 +1,7 @@
+-- The rest of an array behind the hashes that were passed over.
 use Rattle.std.proofs.Common.{◌≡◌, ◌==◌, ◌+◌, length}
 use Rattle.std.specs.List.{position_or_len}
-use Rattle.starlark_vecmap.proofs.hash_search.place_or_len.Given as goal
+use Rattle.starlark_vecmap.proofs.hash_search.find_hash_in_array.Given as goal
 
 abbrev pub invariant-loop-rest : goal.invariant-loop-rest
 invariant-loop-rest l =

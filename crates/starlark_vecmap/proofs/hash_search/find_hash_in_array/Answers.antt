@@ -1,0 +1,88 @@
+-- What is left of the array is a block and the tail behind it, so the block's mask shows the first place.
+use Rattle.std.proofs.Common.{◌≡◌, ◌≢◌, ℕ, ◌+◌, ◌<◌, ◌≤◌, ◌++◌, Bool, List, [], Some, None, length, take, drop, map, arith, ap, sym, ◌∙◌}
+use Rattle.std.proofs.lemmas.List.{take-append-drop, append-nil, length-append}
+use Rattle.std.proofs.lemmas.Simd.{leading_from_mask_l}
+use Rattle.std.specs.Int.Count.{count_trailing_zeros}
+use Rattle.std.specs.List.{position_or_len}
+use Rattle.std.specs.Prelude.{nat_eq, position}
+use Rattle.std.specs.Simd.Lanes.{mask_l}
+use Rattle.starlark_vecmap.proofs.Blocks.{past_block, lowest_is, lowest_lt, position_at, position_nowhere}
+use Rattle.starlark_vecmap.proofs.hash_search.find_hash_in_array.Goals as goal
+
+joined : (rest block tail : List ℕ) → block ≡ take 32 rest → tail ≡ drop 32 rest → rest ≡ block ++ tail
+joined rest block tail front back =
+    sym (ap (λ xs. xs ++ tail) front ∙ ap (λ ys. take 32 rest ++ ys) back ∙ take-append-drop 32 rest)
+
+module _ (hash : ℕ) (array rest : List ℕ) (passed : ℕ) where
+  abbrev has : ℕ → Bool
+  has h = nat_eq h hash
+
+  abbrev first : List ℕ → ℕ
+  first = position_or_len has
+
+  module _ (place : passed + first rest ≡ first array) (parted : passed + length rest ≡ length array) where
+    nowhere : mask_l (map has rest) ≡ 0 → None ≡ position has array
+    nowhere none = position_nowhere has array (omega (arith, place, parted, leading_from_mask_l has rest none))
+
+    module _ (block tail : List ℕ) (mask : ℕ) (both : rest ≡ block ++ tail)
+        (few : length block ≤ 64) (is : mask ≡ mask_l (map has block)) where
+      parts : length rest ≡ length block + length tail
+      parts = ap length both ∙ length-append block tail
+
+      later : mask ≡ 0 → passed + length block + first tail ≡ first array
+      later none = omega (arith, place, ap first both, past_block has block tail mask few is none)
+
+      module _ (some : mask ≢ 0) where
+        within : passed + count_trailing_zeros 64 mask < length array
+        within = omega (arith, parted, parts, lowest_lt has block tail mask few is some)
+
+        found : Some (passed + count_trailing_zeros 64 mask) ≡ position has array
+        found =
+            let here : passed + count_trailing_zeros 64 mask ≡ first array =
+            omega (arith, place, ap first both, lowest_is has block tail mask few is some)
+            in position_at has array (passed + count_trailing_zeros 64 mask) here within
+
+pub returns-then-mask-ne0-clause-place : goal.returns-then-mask-ne0-clause-place
+returns-then-mask-ne0-clause-place c =
+    let l = c.loop-rest in let s = c.split_at in let block = s.result.0.now in let tail = s.result.1.now in
+    found c.args.hash c.args.array.now l.rest.now l.passed l.invariant.place l.invariant.parted block tail
+    c.places_of-mask.result (joined l.rest.now block tail s.ensures.front s.ensures.back) (omega arith)
+    c.places_of-mask.ensures c.if-mask-ne0.true
+
+pub returns-then-mask-ne0-clause-within : goal.returns-then-mask-ne0-clause-within
+returns-then-mask-ne0-clause-within c =
+    let l = c.loop-rest in let s = c.split_at in let block = s.result.0.now in let tail = s.result.1.now in
+    within c.args.hash c.args.array.now l.rest.now l.passed l.invariant.place l.invariant.parted block tail
+    c.places_of-mask.result (joined l.rest.now block tail s.ensures.front s.ensures.back) (omega arith)
+    c.places_of-mask.ensures c.if-mask-ne0.true
+
+pub loop-rest-preserved : goal.loop-rest-preserved
+loop-rest-preserved c =
+    let l = c.loop-rest in let s = c.split_at in let block = s.result.0.now in let tail = s.result.1.now in
+    let both : l.rest.now ≡ block ++ tail = joined l.rest.now block tail s.ensures.front s.ensures.back in
+    let place_of : List ℕ → ℕ = position_or_len (λ h. nat_eq h c.args.hash) in
+    let after : l.passed + length block + place_of tail ≡ place_of c.args.array.now =
+    later c.args.hash c.args.array.now l.rest.now l.passed l.invariant.place l.invariant.parted block tail
+    c.places_of-mask.result both (omega arith) c.places_of-mask.ensures c.if-mask-ne0.false
+    in record {
+      parted = omega arith;
+      place = omega (arith, after, s.ensures.front_len);
+    }
+
+pub returns-then-mask-eq0-clause-place : goal.returns-then-mask-eq0-clause-place
+returns-then-mask-eq0-clause-place c =
+    let l = c.loop-rest in
+    nowhere c.args.hash c.args.array.now l.rest.now l.passed l.invariant.place l.invariant.parted
+    (sym c.places_of-mask-2.ensures ∙ c.if-mask-eq0.true)
+
+pub returns-clause-place : goal.returns-clause-place
+returns-clause-place c =
+    let l = c.loop-rest in let rest = l.rest.now in
+    found c.args.hash c.args.array.now rest l.passed l.invariant.place l.invariant.parted rest []
+    c.places_of-mask-2.result (sym (append-nil rest)) (omega arith) c.places_of-mask-2.ensures c.if-mask-eq0.false
+
+pub returns-clause-within : goal.returns-clause-within
+returns-clause-within c =
+    let l = c.loop-rest in let rest = l.rest.now in
+    within c.args.hash c.args.array.now rest l.passed l.invariant.place l.invariant.parted rest []
+    c.places_of-mask-2.result (sym (append-nil rest)) (omega arith) c.places_of-mask-2.ensures c.if-mask-eq0.false
