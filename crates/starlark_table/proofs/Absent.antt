@@ -1,4 +1,4 @@
--- What the tags from a home on tell of a hash: that no slot holds it.
+-- What the tags from a home on tell of a hash: that no slot holds it, or none up to some place.
 use Rattle.std.proofs.Common.{◌≡◌, ℕ, ◌<◌, ◌≤◌, ◌⊎◌, List, [], length, Option, Some, None, arith, refl, inl, inr, get_or, sym, ap, ◌∙◌}
 use Rattle.std.proofs.lemmas.Bool.{cases_lt}
 use Rattle.std.proofs.lemmas.Bool.Decides.{nat_tests}
@@ -6,8 +6,8 @@ use Rattle.std.proofs.lemmas.List.{get_or_default}
 use Rattle.std.proofs.lemmas.List.FromFn.{length-enumerate_from, get_or-enumerate_from}
 use Rattle.std.specs.List.{enumerate_from}
 use Rattle.starlark_table.specs.Table.{holders_in}
-use Rattle.starlark_table.specs.Layout.{distance, home, tag, at, EndsWithout, InPlace, IsTagged}
-use Rattle.starlark_table.proofs.Path.{holders-none}
+use Rattle.starlark_table.specs.Layout.{distance, home, tag, at, EndsWithout, MayBeginAt, InPlace, IsTagged}
+use Rattle.starlark_table.proofs.Path.{holders-none, NoneBefore}
 
 tag-some : (hash : ℕ) → tag hash ≡ 0 → ⊥
 unfolding tag
@@ -25,11 +25,21 @@ module _ {T : Type 0} (tags : List ℕ) (slots : List (Option (ℕ × T))) (tagg
   untagged q None here zero = here
   untagged q (Some (h, x)) here zero = absurd (tag-some h (sym (tagged.tagged q h x here) ∙ zero))
 
-  module _ (shift hash : ℕ) (in_place : InPlace (length slots) shift slots) (ends : EndsWithout (tag hash) (home shift hash) tags) where
+  -- where a search may begin, no slot from the home up to there holds the hash
+  pub none_before : (shift hash start : ℕ) → MayBeginAt (tag hash) (home shift hash) (length slots) tags start → NoneBefore shift hash slots start
+  none_before shift hash start begins q x here =
+      elim (cases_lt q (home shift hash)) [
+        | inl low ↦ inl low
+        | inr from ↦ elim (cases_lt q start) [
+          | inl before ↦ absurd (begins.absent q from before (tagged.tagged q hash x here))
+          | inr after ↦ inr after
+        ]
+      ]
+
+  module _ (shift hash : ℕ) (in_place : InPlace (length slots) shift slots) (ends : EndsWithout (tag hash) (home shift hash) (length slots) tags) where
     beyond : (p : ℕ) (x : T) → at slots p ≡ Some (hash, x) → (p < home shift hash) ⊎ (ends.end < p) → ⊥
     beyond p x here off =
-        let end_in : ends.end < length slots = rw (← tagged.sized) ends.in_range in
-        let full = in_place.reached p ends.end hash x here end_in (farther (length slots) (home shift hash) ends.end p ends.from_home end_in off) in
+        let full = in_place.reached p ends.end hash x here ends.in_range (farther (length slots) (home shift hash) ends.end p ends.from_home ends.in_range off) in
         let both = rw (untagged ends.end (at slots ends.end) refl ends.empty) at full in
         cc
 

@@ -5,7 +5,7 @@ use Rattle.std.proofs.lemmas.List.{get_or-set_other, length-replicate}
 use Rattle.std.proofs.Math.ListN.{set, length-set}
 use Rattle.std.proofs.Math.Nat.{pow-le-pow_right, mul-le-mul_left}
 use Rattle.starlark_table.specs.Table.{filled}
-use Rattle.starlark_table.specs.Layout.{at, limit, InPlace, IsShift, IsTagged, IsSound}
+use Rattle.starlark_table.specs.Layout.{at, limit, window, InPlace, IsShift, IsTagged, IsSound}
 use Rattle.starlark_table.proofs.Bag.{filled-set_none, filled-set_some}
 use Rattle.starlark_table.proofs.Tagged.{tagged-none}
 
@@ -29,12 +29,16 @@ four_places m shift high e =
     let product : m * 2 ^ shift ≤ m * 2 ^ 62 = mul-le-mul_left m power in
     omega arith
 
-pub places-fit : (m shift : ℕ) → 1 < shift → m * 2 ^ shift ≡ 2 ^ 64 → m < 2 ^ 63
-places-fit m shift low e =
+-- where a shift above 1 takes each hash to a place, the places are at most a quarter as many as the hashes
+pub places-at_most : (m shift : ℕ) → 1 < shift → m * 2 ^ shift ≡ 2 ^ 64 → m ≤ 2 ^ 62
+places-at_most m shift low e =
     let at_least : 2 ≤ shift = omega arith in
     let power : 2 ^ 2 ≤ 2 ^ shift = pow-le-pow_right (omega arith) at_least in
     let product : m * 2 ^ 2 ≤ m * 2 ^ shift = mul-le-mul_left m power in
     omega arith
+
+pub places-fit : (m shift : ℕ) → 1 < shift → m * 2 ^ shift ≡ 2 ^ 64 → m < 2 ^ 63
+places-fit m shift low e = let fewer = places-at_most m shift low e in omega arith
 
 module _ {T : Type 0} where
   -- fewer members than slots leave an empty slot
@@ -236,12 +240,15 @@ module _ {T : Type 0} where
         ap length e' ∙ length-set items slot (Some m),
       )
 
-  pub tagged-replicate : (items : List (Option (ℕ × T))) (tags : List ℕ) (count : ℕ) → items ≡ replicate count None → length tags ≡ count → IsTagged tags items
+  pub tagged-replicate : (items : List (Option (ℕ × T))) (tags : List ℕ) (count : ℕ) → items ≡ replicate count None
+      → length tags ≡ count + window → IsTagged tags items
   tagged-replicate items tags count e sized =
-      tagged-none tags items (sized ∙ sym (ap length e ∙ length-replicate count None)) (λ k. ap (λ l. at l k) e ∙ at-replicate count k)
+      let places : length items ≡ count = ap length e ∙ length-replicate count None in
+      tagged-none tags items (λ some. omega arith) (λ k. ap (λ l. at l k) e ∙ at-replicate count k)
 
-  pub sound-all_empty : (items : List (Option (ℕ × T))) (tags : List ℕ) (shift count : ℕ) → items ≡ replicate count None → length tags ≡ count
-      → count * 2 ^ shift ≡ 2 ^ 64 → 1 < shift → shift < 63 → IsSound items tags 0 shift × (filled items ≡ [])
+  pub sound-all_empty : (items : List (Option (ℕ × T))) (tags : List ℕ) (shift count : ℕ) → items ≡ replicate count None
+      → length tags ≡ count + window → count * 2 ^ shift ≡ 2 ^ 64 → 1 < shift → shift < 63
+      → IsSound items tags 0 shift × (filled items ≡ [])
   sound-all_empty items tags shift count e f power low high =
       let none : filled items ≡ [] = ap filled e ∙ filled-replicate count in
       let sized : length items ≡ count = ap length e ∙ length-replicate count None in (

@@ -1,5 +1,5 @@
 -- The search for a hash along its probe path.
-use Rattle.std.proofs.Common.{◌≡◌, ℕ, zero, suc, zero-add, length-drop, ◌+◌, ◌<◌, ◌≤◌, List, [], ◌∷◌, ◌++◌, length, Option, Some, None, IsSome, true, false, nat_eq, get_or, take, drop, arith, refl, IsPermutation, sym, ◌∙◌, ap, subst, add-one, drop-cons, if◌then◌else◌, eq-eqb}
+use Rattle.std.proofs.Common.{◌≡◌, ℕ, zero, suc, zero-add, length-drop, ◌+◌, ◌<◌, ◌≤◌, ◌⊎◌, List, [], ◌∷◌, ◌++◌, length, Option, Some, None, IsSome, true, false, nat_eq, get_or, take, drop, arith, refl, IsPermutation, sym, ◌∙◌, ap, subst, add-one, drop-cons, if◌then◌else◌, eq-eqb}
 use Rattle.std.proofs.lemmas.Bool.{ne_eqb}
 use Rattle.std.proofs.lemmas.List.{get_or-drop, get_or_default, take-append-drop}
 use Rattle.std.proofs.lemmas.List.Elements.{All-head, All-tail}
@@ -9,7 +9,7 @@ use Rattle.std.specs.List.{enumerate_from, All, Contains}
 use Rattle.starlark_table.specs.Table.{holders, holders_in, filled}
 use Rattle.starlark_table.specs.Layout.{distance, home, at, InPlace}
 use Rattle.starlark_table.proofs.Lists.{drop_all}
-use Rattle.starlark_table.proofs.Circle.{turn, length-turn, get_or-turn, step_to, distance-below}
+use Rattle.starlark_table.proofs.Circle.{turn, length-turn, get_or-turn, step_to, distance-below, nearer_from_home}
 
 module _ {T : Type 0} where
   pub holders-append : (hash : ℕ) (ps bs : List (ℕ × Option (ℕ × T)))
@@ -74,38 +74,43 @@ module _ {T : Type 0} where
   full_not_empty None full e = cc
   full_not_empty (Some m) full e = cc
 
+  -- no slot from the home up to this place holds the hash
+  abbrev pub NoneBefore : ℕ → ℕ → List (Option (ℕ × T)) → ℕ → Type 0
+  NoneBefore shift hash slots start = (q : ℕ) (x : T) → at slots q ≡ Some (hash, x) → (q < home shift hash) ⊎ (start ≤ q)
+
   -- past an empty place, no place of the path holds the hash
-  pub path-ends : (shift hash place i : ℕ) (slots : List (Option (ℕ × T)))
-      → home shift hash < length slots → place < length slots
-      → distance (length slots) (home shift hash) place ≡ i → at slots place ≡ None → InPlace (length slots) shift slots
-      → holders hash (path_from (home shift hash) slots (i + 1)) ≡ []
-  path-ends shift hash place i slots home_in place_in e empty reached =
-      holders-none hash (path_from (home shift hash) slots (i + 1))
+  path-ends : (shift hash start place i : ℕ) (slots : List (Option (ℕ × T)))
+      → home shift hash ≤ start → start < length slots → place < length slots → NoneBefore shift hash slots start
+      → distance (length slots) start place ≡ i → at slots place ≡ None → InPlace (length slots) shift slots
+      → holders hash (path_from start slots (i + 1)) ≡ []
+  path-ends shift hash start place i slots behind start_in place_in before e empty reached =
+      holders-none hash (path_from start slots (i + 1))
       (λ k d below x e'.
       let in' : i + 1 + k < length slots =
-      rw (← length-path (home shift hash) slots)
+      rw (← length-path start slots)
       (omega (arith, simp length-drop at below)) in
-      let target = step_to (length slots) (home shift hash) (i + 1 + k) home_in in' in
-      let read = on_path (home shift hash) target.0 (i + 1 + k) slots d home_in target.1 target.2 in
+      let target = step_to (length slots) start (i + 1 + k) start_in in' in
+      let read = on_path start target.0 (i + 1 + k) slots d start_in target.1 target.2 in
       let here : at slots target.0 ≡ Some (hash, x) =
-      sym (ap (λ s. s.1) (get_or-drop (i + 1) (turn (home shift hash) (enumerate_from 0 slots)) k d ∙ read)) ∙ e' in
-      let nearer : distance (length slots) (home shift hash) place < distance (length slots) (home shift hash) target.0 =
+      sym (ap (λ s. s.1) (get_or-drop (i + 1) (turn start (enumerate_from 0 slots)) k d ∙ read)) ∙ e' in
+      let nearer : distance (length slots) start place < distance (length slots) start target.0 =
       omega (arith, e, target.2) in
-      full_not_empty (at slots place) (reached.reached target.0 place hash x here place_in nearer) empty)
+      let from_home = nearer_from_home (length slots) (home shift hash) start place target.0 behind start_in place_in target.1 (before target.0 x here) nearer in
+      full_not_empty (at slots place) (reached.reached target.0 place hash x here place_in from_home) empty)
 
   pub read_at : (slots : List (Option (ℕ × T))) (place : ℕ) (r : Option (ℕ × T)) → place < length slots
       → r ≡ get_or slots place r → at slots place ≡ r
   read_at slots place r place_in e = get_or_default slots place None r place_in ∙ sym e
 
   -- at an empty place, the rest of the path does not hold the hash
-  pub nothing_left : (shift hash place i : ℕ) (slots : List (Option (ℕ × T)))
-      → home shift hash < length slots → place < length slots
-      → distance (length slots) (home shift hash) place ≡ i → at slots place ≡ None → InPlace (length slots) shift slots
-      → holders hash (path_from (home shift hash) slots i) ≡ []
-  nothing_left shift hash place i slots home_in place_in e empty reached =
-      ap (holders hash) (path-step (home shift hash) place i slots home_in place_in e)
-      ∙ ap (λ o. holders hash ((place, o) ∷ path_from (home shift hash) slots (i + 1))) empty
-      ∙ path-ends shift hash place i slots home_in place_in e empty reached
+  pub nothing_left : (shift hash start place i : ℕ) (slots : List (Option (ℕ × T)))
+      → home shift hash ≤ start → start < length slots → place < length slots → NoneBefore shift hash slots start
+      → distance (length slots) start place ≡ i → at slots place ≡ None → InPlace (length slots) shift slots
+      → holders hash (path_from start slots i) ≡ []
+  nothing_left shift hash start place i slots behind start_in place_in before e empty reached =
+      ap (holders hash) (path-step start place i slots start_in place_in e)
+      ∙ ap (λ o. holders hash ((place, o) ∷ path_from start slots (i + 1))) empty
+      ∙ path-ends shift hash start place i slots behind start_in place_in before e empty reached
 
   -- the path, from a place that holds the hash
   pub path-taken : (hash a place i : ℕ) (item : T) (slots : List (Option (ℕ × T)))

@@ -8,6 +8,7 @@ use Rattle.std.specs.Fn.{Mut}
 use Rattle.starlark_table.specs.Table.{filled, IsSlotClone}
 use Rattle.starlark_table.specs.Walk.{ReplacesEach}
 use Rattle.starlark_table.specs.Layout.{at, limit, InPlace, IsTagged, IsSound}
+use Rattle.starlark_table.proofs.Tagged.{sized-alike}
 
 -- how many hashes there are
 abbrev count_full : List (Option ℕ) → ℕ
@@ -70,7 +71,7 @@ module _ {T : Type 0} where
 
     same_tags : (tags : List ℕ) → IsTagged tags old → IsTagged tags new
     same_tags tags t = record {
-      sized = t.sized ∙ sym same_length;
+      sized = sized-alike tags tags old new refl same_length t.sized;
       tagged = λ p h y e.
           let back = full_by_hash (at old p) h (sym (same_hash_at p) ∙ ap hash_of e) in
           t.tagged p h back.0 back.1;

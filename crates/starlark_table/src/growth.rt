@@ -1,9 +1,10 @@
 //! Growth: new slots, all empty, and the move of every member into them under the hash that it keeps.
 ghost use Rattle.std.specs.Prelude.{◌≡◌, ℕ, ◌+◌, ◌*◌, ◌^◌, ◌<◌, ◌≤◌, None, ◌++◌, length, replicate, IfOk, IsPermutation};
 ghost use Rattle.starlark_table.specs.Table.{filled};
-ghost use Rattle.starlark_table.specs.Layout.{limit, InPlace, IsTagged};
+ghost use Rattle.starlark_table.specs.Layout.{limit, window, InPlace, IsTagged};
 
 use crate::probe::{Slot, put};
+use crate::tags::WINDOW;
 use std::alloc::{AllocError, Global};
 
 pub(crate) fn empty_slots<T>(alloc: Global, count: usize) -> Result<Vec<Slot<T>>, AllocError>
@@ -16,12 +17,14 @@ pub(crate) fn empty_slots<T>(alloc: Global, count: usize) -> Result<Vec<Slot<T>>
     Ok(slots)
 }
 
+// The tags of so many places, and the window behind them.
 // Tags can be let go where the slots are then refused, but slots cannot: so they are asked for first.
 pub(crate) fn empty_tags(alloc: Global, count: usize) -> Result<Vec<u8>, AllocError>
-    ensures { IfOk result (λ v. length v.items ≡ count) }
+    requires { count ≤ 2 ^ 62 }
+    ensures { IfOk result (λ v. length v.items ≡ count + window) }
 {
-    let mut tags = Vec::with_capacity(alloc, count)?;
-    tags.resize(count, 0)?;
+    let mut tags = Vec::with_capacity(alloc, count + WINDOW)?;
+    tags.resize(count + WINDOW, 0)?;
     Ok(tags)
 }
 

@@ -8,7 +8,7 @@ ghost use Rattle.starlark_table.specs.Lends.{lends_slot};
 ghost use Rattle.starlark_table.specs.Layout.{distance, at, InPlace, IsShift, IsTagged};
 
 use crate::places::{home, next_place};
-use crate::tags::{lacks, tag};
+use crate::tags::{start_of, tag};
 
 pub(crate) type Slot<T> = Option<(u64, T)>;
 
@@ -34,12 +34,8 @@ pub(crate) fn find_slot<'a, T, F: FnMut(&T) -> bool>(
     if count == 0 {
         return None;
     }
-    let home = home(hash, shift);
-    let tag = tag(hash);
-    if tags[home] != tag && lacks(tags, home, tag) {
-        return None;
-    }
-    let mut place = home;
+    let start = start_of(tags, count, home(hash, shift), tag(hash))?;
+    let mut place = start;
     while let Some((stored, item)) = &slots[place] {
         if *stored == hash && eq(item) {
             return Some((place, item));

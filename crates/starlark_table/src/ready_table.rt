@@ -25,7 +25,7 @@ use std::mem;
 /// differ, nor their hashes.
 ///
 /// Open addressing: each slot is empty or has a member, which stands as near behind its home as was free when it came.
-/// Beside each slot stands a tag, one byte of the hash: by the tags most searches see at once that a hash is absent.
+/// Beside each slot stands a tag, one byte of the hash: by the tags a search mostly sees at once where its hash may be.
 #[derive(Drop)]
 pub struct ReadyTable<T> {
     slots: Vec<Slot<T>>,

@@ -1,4 +1,4 @@
-use Rattle.std.proofs.Common.{◌≡◌, ℕ, ◌+◌, ◌<◌, List, Option, Some, length, arith, get_or, set, sym, ap, ◌∙◌, inl, inr}
+use Rattle.std.proofs.Common.{◌≡◌, ℕ, ◌+◌, ◌<◌, List, Option, Some, length, arith, get_or, set, refl, sym, ap, ◌∙◌, inl, inr}
 use Rattle.std.proofs.lemmas.Bool.{cases_lt}
 use Rattle.std.proofs.lemmas.Grind.{get_or-set_at}
 use Rattle.std.proofs.lemmas.List.{get_or-set_other, length-set}
@@ -6,6 +6,7 @@ use Rattle.std.proofs.lemmas.Option.{none-some}
 use Rattle.starlark_table.specs.Layout.{at, tag}
 use Rattle.starlark_table.proofs.Closing.{full_in_range}
 use Rattle.starlark_table.proofs.Path.{read_at}
+use Rattle.starlark_table.proofs.Tagged.{tag-in_range, sized-alike}
 use Rattle.starlark_table.proofs.tags.retag.Goals as goal
 use Rattle.starlark_table.proofs.tags.retag.Goals.{in-Some, in-None}
 
@@ -28,11 +29,13 @@ same_tag {T} t hash h y x o here there is =
 pub loop-i-preserved : goal.loop-i-preserved
 loop-i-preserved g c =
     let i_in : c.loop-i.i < length c.args.slots.now = omega arith in
+    let tag_in = tag-in_range c.loop-i.tags c.args.slots.now c.loop-i.i c.loop-i.invariant.sized i_in in
     let read = read_at c.args.slots.now c.loop-i.i _ i_in c.index-slots-i.is in
     record {
-      sized = length-set c.loop-i.tags c.loop-i.i c.match-slots-i.tags ∙ c.loop-i.invariant.sized;
+      sized = sized-alike c.loop-i.tags _ c.args.slots.now c.args.slots.now
+          (length-set c.loop-i.tags c.loop-i.i c.match-slots-i.tags) refl c.loop-i.invariant.sized;
       tagged = λ p h x below here.
-          tagged_more c.loop-i.tags c.args.slots.now c.loop-i.i c.match-slots-i.tags p h x (rw c.loop-i.invariant.sized i_in) below here
+          tagged_more c.loop-i.tags c.args.slots.now c.loop-i.i c.match-slots-i.tags p h x tag_in below here
           (λ earlier. c.loop-i.invariant.tagged p h x earlier here)
           (λ there. elim c.match-slots-i.branch [
             | in-Some w ↦ same_tag c.match-slots-i.tags _ h _ x _ (read ∙ w.in-Some.is) there (w.tags-is ∙ w.tag.ensures)

@@ -4,7 +4,7 @@ use Rattle.std.specs.Vec.{with_items}
 use Rattle.starlark_table.specs.Table.{filled}
 use Rattle.starlark_table.specs.Layout.{limit}
 use Rattle.starlark_table.proofs.Sound.{sound-as}
-use Rattle.starlark_table.proofs.Load.{sound-grown, filled-replicate, tagged-replicate}
+use Rattle.starlark_table.proofs.Load.{sound-grown, filled-replicate, places-at_most, tagged-replicate}
 use Rattle.starlark_table.proofs.ready_table.ReadyTable.grow.Goals as goal
 
 load_fits : (k len m needed count : ℕ) → len ≡ k → len ≤ limit m → k + (limit m - len) < needed → needed ≤ limit count → len ≤ limit count
@@ -12,6 +12,9 @@ load_fits k len m needed count e l less enough = omega arith
 
 ends : (k len m needed total limit' : ℕ) → len ≡ k → k + (m - len) < needed → needed ≤ limit' → len ≤ limit' → total ≡ limit' → (needed ≤ k + (total - len)) × (m - len ≤ total - len)
 ends k len m needed total limit' e less enough load is = (omega arith, omega arith)
+
+pub empty_tags-requires : goal.empty_tags-requires
+empty_tags-requires g c = places-at_most c.in-Some.count c.in-Some.shift c.in-Some.ensures.low c.in-Some.ensures.power
 
 pub move_all-requires-clause-room : goal.move_all-requires-clause-room
 move_all-requires-clause-room g c =

@@ -1,5 +1,8 @@
-use Rattle.starlark_table.proofs.Load.{sound-all_empty}
+use Rattle.starlark_table.proofs.Load.{places-at_most, sound-all_empty}
 use Rattle.starlark_table.proofs.ready_table.ReadyTable.with_capacity.Goals as goal
+
+pub empty_tags-requires : goal.empty_tags-requires
+empty_tags-requires g c = places-at_most c.in-Some.count c.in-Some.shift c.in-Some.ensures.low c.in-Some.ensures.power
 
 pub invariant_of-result : goal.invariant_of-result
 invariant_of-result g c =
