@@ -1,7 +1,9 @@
 # The program is proved and run by the kit's command `rt`; nothing else is needed.
 SCRIPT ?= examples/first.script
+# the crates whose wrong bodies are tried; none: all
+CRATE ?=
 
-.PHONY: run try bench test
+.PHONY: run try bench test wrong
 
 # builds the proved program, and plays the script
 run:
@@ -18,3 +20,7 @@ bench:
 # the merge gate: every proof, every test, every program
 test:
 	@rt ci
+
+# tries the wrong bodies that stand beside the gate, of all crates or of CRATE, and says which the check refuses
+wrong:
+	@./wrong-bodies/try $(CRATE)

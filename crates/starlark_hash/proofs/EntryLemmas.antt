@@ -1,5 +1,5 @@
 -- What the words on lists of entries say of one another.
-use Rattle.std.proofs.Common.{◌≡◌, ℕ, zero, suc, ◌<◌, Bool, true, false, cond, eqb, List, [], ◌∷◌, ◌++◌, length, get_or, set, Some, None, refl, sym, ap, ◌∙◌, arith}
+use Rattle.std.proofs.Common.{◌≡◌, ℕ, zero, suc, ◌<◌, Bool, true, false, cond, eqb, List, [], ◌∷◌, ◌++◌, length, get_or, None, refl, sym, ap, ◌∙◌, arith}
 use Rattle.std.specs.Prelude.{◌&&◌, remove, AllPairs, IsPermutation}
 use Rattle.std.specs.List.{swap}
 use Rattle.std.proofs.Common.{inl, inr}
@@ -8,21 +8,13 @@ use Rattle.std.proofs.lemmas.Bool.Decides.{nat_tests}
 use Rattle.std.proofs.lemmas.Grind.{common_steps}
 use Rattle.std.proofs.lemmas.List.Edits.{swap_is, length-swap}
 use Rattle.std.proofs.lemmas.List.Sorted.{IsPermutation-keeps}
-use Rattle.std.specs.Option.{option_map}
 use Rattle.std.specs.Cmp.{IsEquivalence}
-use Rattle.std.proofs.lemmas.Option.{slice_get-get_or}
 use Rattle.std.proofs.lemmas.List.Quantifiers.{all_pairs_push, all_pairs_remove}
 use Rattle.starlark_hash.specs.declared.hashed.Hashed.{Hashed}
-use Rattle.starlark_hash.specs.Entries.{Entry, stands_under, value_at, set_value_at, match_of, IsSingle}
+use Rattle.starlark_hash.specs.Entries.{Entry, stands_under, set_value_at, match_of, IsSingle}
 use Rattle.starlark_hash.proofs.PositionLemmas.{position-None}
 
 module _ {K V : Type 0} where
-  -- a value that is written, as `set`
-  pub set_value_at-set : (es : List (Entry K V)) (i : ℕ) (value : V) (d : Entry K V) → set_value_at es i value ≡ set es i ((get_or es i d).0, value)
-  set_value_at-set [] i value d = refl
-  set_value_at-set (e ∷ es) zero value d = refl
-  set_value_at-set (e ∷ es) (suc i) value d = ap (λ tail. e ∷ tail) (set_value_at-set es i value d)
-
   -- writing a value keeps the length and each key
   pub length-set_value_at : (es : List (Entry K V)) (i : ℕ) (value : V) → length (set_value_at es i value) ≡ length es
   length-set_value_at [] i value = refl
@@ -35,10 +27,6 @@ module _ {K V : Type 0} where
   set_value_at-key (e ∷ es) zero value (suc k) d = refl
   set_value_at-key (e ∷ es) (suc i) value zero d = refl
   set_value_at-key (e ∷ es) (suc i) value (suc k) d = set_value_at-key es i value k d
-
-  -- the value at a place of the list
-  pub value_at-get_or : (es : List (Entry K V)) (i : ℕ) (d : Entry K V) → i < length es → value_at es (Some i) ≡ Some (get_or es i d).1
-  value_at-get_or es i d below = ap (option_map (λ e. e.1)) (slice_get-get_or es i d below)
 
 both_sym : (a b : ℕ) → eqb a b ≡ eqb b a
 both_sym a b = grind (arith)

@@ -1,14 +1,13 @@
 -- What a search says of its answer.
-use Rattle.std.proofs.Common.{◌≡◌, ℕ, zero, suc, ◌+◌, ◌<◌, ◌≤◌, ◌⊎◌, inl, inr, Bool, true, false, cond, List, [], ◌∷◌, ◌++◌, length, get_or, map, drop, drop-cons, add-one, Option, Some, None, refl, sym, ap, subst, ◌∙◌, arith, eq-eqb, IsPermutation}
+use Rattle.std.proofs.Common.{◌≡◌, ℕ, zero, suc, ◌+◌, ◌<◌, ◌⊎◌, inl, inr, Bool, true, false, cond, List, [], ◌∷◌, length, get_or, map, Option, Some, None, refl, sym, ap, subst, ◌∙◌, arith, eq-eqb, IsPermutation}
 use Rattle.std.specs.Prelude.{◌&&◌, filter, slice_get}
 use Rattle.std.specs.List.{Contains, enumerate_from}
 use Rattle.std.specs.Borrow.{Bor}
-use Rattle.std.specs.Fn.{Mut, Called, CalledAt, TakesAt, always_mut}
+use Rattle.std.specs.Fn.{Mut, Called, CalledAt, always_mut}
 use denote.Param.Always.{mut_next}
 use Rattle.std.proofs.lemmas.Bool.{eqb-true, cases_order, false≢true, and_parts}
 use Rattle.std.proofs.lemmas.Option.{get_or_from_slice_get, slice_get_within, none-some, same_Some}
-use Rattle.std.proofs.lemmas.List.{drop_all}
-use Rattle.std.proofs.lemmas.List.Sorted.{IsPermutation-refl, IsPermutation-cons, IsPermutation-trans, IsPermutation-sym, Contains-permutation}
+use Rattle.std.proofs.lemmas.List.Sorted.{IsPermutation-sym, Contains-permutation}
 use Rattle.starlark_hash.specs.declared.hash_value.StarlarkHashValue.{StarlarkHashValue}
 use Rattle.starlark_hash.specs.Entries.{Entry, entry_hash, entry_key, is_under, stands_under, position_of, IsSingle}
 use Rattle.starlark_hash.specs.Search.{Asks, Searches, Refuses, CanSearch, keys_under}
@@ -22,11 +21,6 @@ Contains-first : {X : Type 0} (x : X) (xs : List X) → Contains (x ∷ xs) x
 Contains-first x xs = (0, omega arith, refl)
 
 module _ {F X : Type 0} (g : Mut F (Bor X × Unit {0}) Bool) where
-  -- some state answered true of the item, and this one is left
-  pub record Accepts (item : X) (last : F) : Type 0 where
-    pub state : F
-    pub called : CalledAt g state item true last
-
   -- each call from the state f on answers what t says of the item, and keeps the state
   pub record IsTest (t : X → Bool) (f : F) : Type 0 where
     pub tells : (x : X) (accepts : Bool) (next : F) → CalledAt g f x accepts next → (accepts ≡ t x) × (next ≡ f)
@@ -49,56 +43,6 @@ module _ {F N X : Type 0} (g : Mut F (Bor X × Unit {0}) Bool) where
   can_search items f always = record {
     at = λ before p after later rearranged refused x shows. ((always-refuses before f later refused always).at ((x, tt) ∷ [])).0;
   }
-
-  -- what can search may be asked about the first item, and goes on once it has refused it
-  pub can_search-first : (p : N × X) (items : List (N × X)) (f : F) → CanSearch g (p ∷ items) f → TakesAt g f p.1
-  can_search-first p items f can = can.at [] p items f (IsPermutation-refl (p ∷ items)) refl
-
-  pub can_search-rest : (p : N × X) (items : List (N × X)) (f next : F) → CanSearch g (p ∷ items) f → CalledAt g f p.1 false next → CanSearch g items next
-  can_search-rest p items f next can refused = record {
-    at = λ before q after later rearranged refuses. can.at (p ∷ before) q after later (IsPermutation-cons p items (before ++ q ∷ after) rearranged) (next, refused, refuses);
-  }
-
-  -- and may do so in any other order
-  pub can_search-rearranged : (items order : List (N × X)) (f : F) → IsPermutation items order → CanSearch g items f → CanSearch g order f
-  can_search-rearranged items order f moves can = record {
-    at = λ before p after later rearranged. can.at before p after later (IsPermutation-trans items order (before ++ p ∷ after) moves rearranged);
-  }
-
-  -- a search along the items as they stand
-  pub searches-in_order : (items : List (N × X)) (f : F) (answer : Option N) (last : F) → Asks g f items answer last → Searches g items f answer last
-  searches-in_order items f answer last asks = record { order = items; rearranged = IsPermutation-refl items; asks = asks }
-
-  -- a search of a list is one of each rearrangement
-  pub searches-rearranged : (items others : List (N × X)) (f : F) (answer : Option N) (last : F) → IsPermutation others items → Searches g items f answer last → Searches g others f answer last
-  searches-rearranged items others f answer last moves search = record {
-    order = search.order;
-    rearranged = IsPermutation-trans others items search.order moves search.rearranged;
-    asks = search.asks;
-  }
-
-  found_in : (f : F) (order : List (N × X)) (n : N) (last : F) → Asks g f order (Some n) last → (x : X) × Contains order (n, x) × Accepts g x last
-  found_in f [] n last asks = absurd (none-some n (sym asks.0))
-  found_in f (p ∷ order) n last (true, next, called, end) =
-      (p.1, subst (λ m. Contains (p ∷ order) (m, p.1)) (sym (same_Some n p.0 end.0)) (Contains-first p order), record { state = f; called = subst (λ h. CalledAt g f p.1 true h) (sym end.1) called })
-  found_in f (p ∷ order) n last (false, next, called, rest) =
-      let later = found_in next order n last rest in
-      (later.0, Contains-later p order (n, later.0) later.1, later.2)
-
-  none_in : (f : F) (order : List (N × X)) (last : F) → Asks g f order None last → Refuses g f order last
-  none_in f [] last asks = sym asks.1
-  none_in f (p ∷ order) last (true, next, called, end) = absurd (none-some p.0 end.0)
-  none_in f (p ∷ order) last (false, next, called, rest) = (next, called, none_in next order last rest)
-
-  -- a name that is found is that of an item that the closure accepted
-  pub found : (items : List (N × X)) (f : F) (n : N) (last : F) → Searches g items f (Some n) last → (x : X) × Contains items (n, x) × Accepts g x last
-  found items f n last search =
-      let at = found_in f search.order n last search.asks in
-      (at.0, Contains-permutation search.order items (n, at.0) (IsPermutation-sym items search.order search.rearranged) at.1, at.2)
-
-  -- where none is found, the closure refused all items, in some order
-  pub not_found : (items : List (N × X)) (f : F) (last : F) → Searches g items f None last → (order : List (N × X)) × IsPermutation items order × Refuses g f order last
-  not_found items f last search = (search.order, search.rearranged, none_in f search.order last search.asks)
 
   module _ (t : X → Bool) (f : F) (test : IsTest g t f) where
     -- what an answer says of the items: t refuses them all, or it accepts one of that name
@@ -132,10 +76,6 @@ module _ {F N X : Type 0} (g : Mut F (Bor X × Unit {0}) Bool) where
     says : (items : List (N × X)) (answer : Option N) (last : F) → Searches g items f answer last → Says items answer
     says items answer last search = moved items search.order answer search.rearranged (says_in search.order answer last search.asks).0
 
-    -- the state stays
-    pub test-keeps : (items : List (N × X)) (answer : Option N) (last : F) → Searches g items f answer last → last ≡ f
-    test-keeps items answer last search = (says_in search.order answer last search.asks).1
-
     refused_by : (items : List (N × X)) (answer : Option N) → Says items answer → answer ≡ None → (p : N × X) → Contains items p → t p.1 ≡ false
     refused_by items answer (inl none) is p there = none.1 p there
     refused_by items answer (inr some) is p there = absurd (none-some some.0.0 (sym is ∙ some.2))
@@ -145,17 +85,9 @@ module _ {F N X : Type 0} (g : Mut F (Bor X × Unit {0}) Bool) where
     accepted_by items answer n (inr some) is =
         (some.0.1, subst (λ m. Contains items (m, some.0.1)) (same_Some some.0.0 n (sym some.2 ∙ is)) some.1, some.3)
 
-    none_by : (items : List (N × X)) (answer : Option N) → Says items answer → ((p : N × X) → Contains items p → t p.1 ≡ false) → answer ≡ None
-    none_by items answer (inl none) never = none.0
-    none_by items answer (inr some) never = absurd (false≢true (sym (never some.0 some.1) ∙ some.3))
-
     -- where none is found, t refuses all items
     pub test-refused : (items : List (N × X)) (answer : Option N) (last : F) → Searches g items f answer last → answer ≡ None → (p : N × X) → Contains items p → t p.1 ≡ false
     test-refused items answer last search = refused_by items answer (says items answer last search)
-
-    -- and where t refuses all items, none is found
-    pub test-none : (items : List (N × X)) (answer : Option N) (last : F) → Searches g items f answer last → ((p : N × X) → Contains items p → t p.1 ≡ false) → answer ≡ None
-    test-none items answer last search = none_by items answer (says items answer last search)
 
     -- a name that is found is that of an item that t accepts
     pub test-accepted : (items : List (N × X)) (answer : Option N) (last : F) (n : N) → Searches g items f answer last → answer ≡ Some n → (x : X) × Contains items (n, x) × (t x ≡ true)
@@ -172,25 +104,6 @@ module _ {K V : Type 0} (hash : StarlarkHashValue) where
   -- the keys under the hash, where the first place of the list is n
   abbrev pub keys_from : ℕ → List (Entry K V) → List (ℕ × K)
   keys_from n es = keys_of (under_from n es)
-
-  -- those from place i on, by the entry there
-  keys_from-drop : (es : List (Entry K V)) (i : ℕ) (e : Entry K V) → i < length es → e ≡ get_or es i e
-      → keys_from i (drop i es) ≡ keys_of (cond (is_under hash e) ((i, e) ∷ under_from (i + 1) (drop (i + 1) es)) (under_from (i + 1) (drop (i + 1) es)))
-  keys_from-drop es i e below is =
-      ap (keys_from i) (drop-cons es i e below ∙ ap (λ n. get_or es i e ∷ drop n es) (sym (add-one i)) ∙ ap (λ x. x ∷ drop (i + 1) es) (sym is))
-
-  pub keys_from-here : (es : List (Entry K V)) (i : ℕ) (e : Entry K V) → i < length es → e ≡ get_or es i e → is_under hash e ≡ true
-      → keys_from i (drop i es) ≡ (i, entry_key e) ∷ keys_from (i + 1) (drop (i + 1) es)
-  keys_from-here es i e below is under =
-      keys_from-drop es i e below is ∙ ap (λ b. keys_of (cond b ((i, e) ∷ under_from (i + 1) (drop (i + 1) es)) (under_from (i + 1) (drop (i + 1) es)))) under
-
-  pub keys_from-past : (es : List (Entry K V)) (i : ℕ) (e : Entry K V) → i < length es → e ≡ get_or es i e → is_under hash e ≡ false
-      → keys_from i (drop i es) ≡ keys_from (i + 1) (drop (i + 1) es)
-  keys_from-past es i e below is other =
-      keys_from-drop es i e below is ∙ ap (λ b. keys_of (cond b ((i, e) ∷ under_from (i + 1) (drop (i + 1) es)) (under_from (i + 1) (drop (i + 1) es)))) other
-
-  pub keys_from-end : (es : List (Entry K V)) (i : ℕ) → length es ≤ i → keys_from i (drop i es) ≡ []
-  keys_from-end es i past = ap (keys_from i) (drop_all i es past)
 
   -- a place of the list, under the hash, with this key
   abbrev IsAt : ℕ → List (Entry K V) → ℕ × K → Type 0
@@ -235,15 +148,6 @@ module _ {K V : Type 0} (hash : StarlarkHashValue) where
   -- and each such entry is among them
   pub at-keys_under : (es : List (Entry K V)) (i : ℕ) (e : Entry K V) → slice_get es i ≡ Some e → is_under hash e ≡ true → Contains (keys_under hash es) (i, entry_key e)
   at-keys_under es i e at under = subst (λ m. Contains {X = ℕ × K} (keys_under hash es) (m, entry_key e)) {x = 0 + i} {y = i} (omega arith) (at-keys 0 i es e at under)
-
-module _ {F K V : Type 0} (g : Mut F (Bor K × Unit {0}) Bool) where
-  -- a place that is found is that of an entry under the hash, whose key the closure accepted
-  pub found_entry : (hash : StarlarkHashValue) (es : List (Entry K V)) (f : F) (i : ℕ) (last : F) → Searches g (keys_under hash es) f (Some i) last
-      → (e : Entry K V) × (slice_get es i ≡ Some e) × (is_under hash e ≡ true) × Accepts g (entry_key e) last
-  found_entry hash es f i last search =
-      let key = found g (keys_under hash es) f i last search in
-      let at = keys_under-at hash es i key.0 key.1 in
-      (at.0, at.1, at.2, subst (λ k. Accepts g k last) at.3 key.2)
 
 there : {X : Type 0} (xs : List X) (j : ℕ) → j < length xs → (x : X) × (slice_get xs j ≡ Some x)
 there [] j below = absurd (omega arith)

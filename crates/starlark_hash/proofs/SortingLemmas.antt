@@ -1,10 +1,8 @@
 -- What sorting makes of a list.
 use Rattle.std.proofs.Common.{◌≡◌, zero, suc, ◌+◌, Bool, true, false, cond, List, [], ◌∷◌, get_or, refl, sym, ap, subst, ◌∙◌, arith}
 use Rattle.std.specs.Prelude.{◌&&◌, not, filter, All, IsPermutation}
-use Rattle.std.specs.Borrow.{Bor}
-use Rattle.std.specs.Fn.{Mut, ComparesAs}
 use Rattle.std.specs.Cmp.{IsStrictWeakOrder, IsTotalOrder}
-use Rattle.std.specs.List.Sorted.{IsSortedBy, IsStableBy, IsSortedByClosure, IsStableByClosure, ties}
+use Rattle.std.specs.List.Sorted.{IsSortedBy, IsStableBy, ties}
 use Rattle.std.specs.declared.cmp.Ordering.{Ordering}
 use Rattle.std.proofs.lemmas.Bool.{false≢true}
 use Rattle.std.proofs.lemmas.List.Elements.{All-cons, All-head, All-tail, All-weaker}
@@ -166,15 +164,6 @@ module _ {X : Type 0} (lt : X → X → Bool) where
     -- sorting twice is once
     pub sorted_by-twice : (xs : List X) → sorted_by lt (sorted_by lt xs) ≡ sorted_by lt xs
     sorted_by-twice xs = sorted_by-fixed (sorted_by lt xs) (sorted_by-sorted xs)
-
-    -- a rearrangement that leaves those that tie in their order is sorted to the same list
-    pub sorted_by-rearranged : (xs ys : List X) → IsStableBy lt xs ys → sorted_by lt ys ≡ sorted_by lt xs
-    sorted_by-rearranged xs ys stable = sorted_by-unique xs (sorted_by lt ys) (sorted_by-sorted ys) (λ x. sorted_by-stable ys x ∙ stable x)
-
-    -- what a stable sort by a closure leaves, where the closure answers by this order
-    pub sorted_by-from_closure : {F : Type 0} (g : Mut F (Bor X × (Bor X × Unit {0})) Ordering) (f : F) (xs ys : List X)
-        → ComparesAs g lt f → IsSortedByClosure g f ys → IsStableByClosure g f xs ys → ys ≡ sorted_by lt xs
-    sorted_by-from_closure g f xs ys answers up stable = sorted_by-unique xs ys (up lt order answers) (stable lt order answers)
 
 module _ {K V : Type 0} {cmp : K → K → Ordering} (total : IsTotalOrder cmp) where
   -- entries compared by their keys

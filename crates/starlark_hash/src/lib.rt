@@ -17,6 +17,3 @@ pub use hasher::{StarlarkHasher, StarlarkHasherBuilder};
 pub use key_query::{KeyQuery, ToOwnedKey};
 pub use no_room::NoRoom;
 pub use text_key::TextKey;
-
-#[cfg(test)]
-mod tests;

@@ -7,5 +7,3 @@ pub mod insertion;
 pub mod keys;
 pub mod lists;
 pub mod order;
-#[cfg(test)]
-mod tests;

@@ -6,5 +6,3 @@ pub mod maps;
 pub mod occupied;
 pub mod pairs;
 mod put;
-#[cfg(test)]
-mod tests;

@@ -8,6 +8,3 @@ pub mod runs;
 pub use command::{Command, Reply};
 pub use one_list::index_never_shows;
 pub use runs::run;
-
-#[cfg(test)]
-mod tests;

@@ -1,17 +1,8 @@
 //! Plays a script of map calls: reads standard input, and writes the reply to each line.
 #![tactic(auto)]
 
-pub mod answer;
-pub mod command;
-pub mod fault;
-pub mod output;
-pub mod play;
-#[cfg(test)]
-mod tests;
-pub mod window;
-
-use fault::PlayFault;
-use play::play;
+use starlark_lines::PlayFault;
+use starlark_play::play::play;
 use std::io::{BufWriter, Write};
 use std::process::ExitCode;
 

@@ -7,7 +7,7 @@ use Rattle.std.specs.List.{Contains, All}
 use Rattle.std.proofs.lemmas.Bool.{false≢true, eqb-true}
 use Rattle.std.proofs.lemmas.Option.{get_or_from_slice_get, slice_get_within, none-some, same_Some}
 use Rattle.std.proofs.lemmas.List.Elements.{All-push, All-tail}
-use Rattle.std.proofs.lemmas.List.Sorted.{IsPermutation-refl, IsPermutation-sym, IsPermutation-trans, IsPermutation-cons, IsPermutation-remove, IsPermutation-to_front, All-permutation, length_permutation}
+use Rattle.std.proofs.lemmas.List.Sorted.{IsPermutation-sym, IsPermutation-trans, IsPermutation-cons, IsPermutation-remove, IsPermutation-to_front, All-permutation, length_permutation}
 use Rattle.starlark_hash.specs.HashValue.{promoted}
 use Rattle.starlark_hash.specs.Entries.{Entry, set_value_at}
 use Rattle.starlark_hash.specs.Search.{Searches}
@@ -76,14 +76,6 @@ module _ {K V : Type 0} where
   pub IsIndexed-set_value_at : (es : List (Entry K V)) (i : ℕ) (value : V) (index : Option (Table ℕ)) → IsIndexed es index → IsIndexed (set_value_at es i value) index
   IsIndexed-set_value_at es i value None short = omega (arith, length-set_value_at es i value)
   IsIndexed-set_value_at es i value (Some table) index = IsIndexOf-set_value_at es i value table index
-
-  -- an empty table is the index of an empty list
-  pub IsIndexOf-empty : (es : List (Entry K V)) (table : Table ℕ) → es ≡ [] → members table ≡ [] → IsIndexOf es table
-  IsIndexOf-empty es table none empty =
-      subst (λ l. IsIndexOf l table) (sym none) (record {
-        bag = subst (λ l. IsPermutation [] l) (sym empty) (IsPermutation-refl []);
-        fits = λ k d below. absurd (omega arith);
-      })
 
   -- a place was taken out
   pub without_place : (es : List (Entry K V)) (i : ℕ) (e : Entry K V) (old mid : Table ℕ) → slice_get es i ≡ Some e → IsIndexOf es old

@@ -14,8 +14,6 @@ mod copy;
 mod growth;
 mod places;
 mod search;
-#[cfg(test)]
-mod tests;
 
 pub(crate) use compare::same_in;
 pub(crate) use copy::clone_in;

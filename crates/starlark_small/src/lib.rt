@@ -14,6 +14,3 @@ pub use iter::{
     ValuesMut,
 };
 pub use small_map::SmallMap;
-
-#[cfg(test)]
-mod tests;

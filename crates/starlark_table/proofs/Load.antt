@@ -1,10 +1,10 @@
 -- How many members the slots hold.
-use Rattle.std.proofs.Common.{◌≡◌, ◌≢◌, ℕ, zero, suc, add-one, replicate, append_assoc, append-nil, length-append, ◌+◌, ◌-◌, ◌*◌, ◌^◌, ◌<◌, ◌≤◌, List, [], ◌∷◌, ◌++◌, length, Option, Some, None, arith, refl, IsPermutation, IfSome, is_some, true, sym, ◌∙◌, ap, subst, inl, inr}
+use Rattle.std.proofs.Common.{◌≡◌, ◌≢◌, ℕ, zero, suc, add-one, replicate, append_assoc, append-nil, length-append, ◌+◌, ◌-◌, ◌*◌, ◌^◌, ◌<◌, ◌≤◌, List, [], ◌∷◌, ◌++◌, length, Option, Some, None, arith, refl, IsPermutation, IfSome, IfNone, is_some, true, false, sym, ◌∙◌, ap, subst, inl, inr}
 use Rattle.std.proofs.lemmas.List.Sorted.{length_permutation, IsPermutation-trans, IsPermutation-cons, IsPermutation-append_right}
 use Rattle.std.proofs.lemmas.List.{get_or-set_other, length-replicate}
 use Rattle.std.proofs.Math.ListN.{set, length-set}
 use Rattle.std.proofs.Math.Nat.{pow-le-pow_right, mul-le-mul_left}
-use Rattle.starlark_table.specs.Table.{filled}
+use Rattle.starlark_table.specs.Table.{Table, filled}
 use Rattle.starlark_table.specs.Layout.{at, limit, window, InPlace, IsShift, IsTagged, IsSound}
 use Rattle.starlark_table.proofs.Bag.{filled-set_none, filled-set_some}
 use Rattle.starlark_table.proofs.Tagged.{tagged-none}
@@ -155,6 +155,38 @@ module _ {T : Type 0} where
       sound-taken_out old new tags tags' len shift r s (same ∙ ap length e) in_place tagged
       (subst (λ l. IfSome r (λ m. IsPermutation (filled l) (m ∷ filled new))) e bag) some
 
+  -- what was taken out, told of slots that are the same
+  pub rest-as : (old via new new' : List (Option (ℕ × T))) (r : Option (ℕ × T)) → via ≡ old → new' ≡ new
+      → IfSome r (λ m. IsPermutation (filled via) (m ∷ filled new)) → IfSome r (λ m. IsPermutation (filled old) (m ∷ filled new'))
+  rest-as old via new new' None e f rest = tt
+  rest-as old via new new' (Some m) e f rest =
+      subst (λ l. IsPermutation (filled l) (m ∷ filled new')) e (subst (λ l. IsPermutation (filled via) (m ∷ filled l)) (sym f) rest)
+
+  abbrev laid : List (Option (ℕ × T)) → ℕ → Table T
+  laid slots len = record { slots = slots; room = limit (length slots) - len }
+
+  -- where nothing was taken out, the table stays
+  pub table-unchanged : (old via new new' : List (Option (ℕ × T))) (len : ℕ) (t : Table T) → via ≡ old → new ≡ via → new' ≡ new → laid old len ≡ t → laid new' len ≡ t
+  table-unchanged old via new new' len t e f h view = ap (λ l. laid l len) (h ∙ f ∙ e) ∙ view
+
+-- what holds of an answer that is there, and of one that is not
+module _ {X : Type 0} where
+  pub if_none-some : (P : Type 0) (r : Option X) → is_some r ≡ true → IfNone r P
+  if_none-some P None some = absurd (cc)
+  if_none-some P (Some x) some = tt
+
+  pub if_some-none : (P : X → Type 0) (r : Option X) → is_some r ≡ false → IfSome r P
+  if_some-none P None none = tt
+  if_some-none P (Some x) none = absurd (cc)
+
+  pub if_none-holds : {P : Type 0} (r : Option X) → P → IfNone r P
+  if_none-holds None holds = holds
+  if_none-holds (Some x) holds = tt
+
+  pub none-told : {P : Type 0} (r : Option X) → is_some r ≡ false → IfNone r P → P
+  none-told None none told = told
+  none-told (Some x) none told = absurd (cc)
+
 module _ {T : Type 0} where
   pub filled-append : (xs ys : List (Option (ℕ × T))) → filled (xs ++ ys) ≡ filled xs ++ filled ys
   filled-append [] ys = refl
@@ -246,6 +278,9 @@ module _ {T : Type 0} where
       let places : length items ≡ count = ap length e ∙ length-replicate count None in
       tagged-none tags items (λ some. omega arith) (λ k. ap (λ l. at l k) e ∙ at-replicate count k)
 
+  pub in_place-all_empty : (items : List (Option (ℕ × T))) (shift count : ℕ) → items ≡ replicate count None → InPlace (length items) shift items
+  in_place-all_empty items shift count e = subst (λ l. InPlace (length l) shift l) (sym e) (in_place-replicate (length (replicate count None)) shift count)
+
   pub sound-all_empty : (items : List (Option (ℕ × T))) (tags : List ℕ) (shift count : ℕ) → items ≡ replicate count None
       → length tags ≡ count + window → count * 2 ^ shift ≡ 2 ^ 64 → 1 < shift → shift < 63
       → IsSound items tags 0 shift × (filled items ≡ [])
@@ -258,7 +293,7 @@ module _ {T : Type 0} where
           shift_low = low;
           shift_high = high;
           places = inr (ap (λ n. n * 2 ^ shift) sized ∙ power);
-          in_place = subst (λ l. InPlace (length l) shift l) (sym e) (in_place-replicate (length (replicate count None)) shift count);
+          in_place = in_place-all_empty items shift count e;
           tagged = tagged-replicate items tags count e f;
         },
         none,

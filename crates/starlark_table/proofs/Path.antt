@@ -8,7 +8,6 @@ use Rattle.std.proofs.lemmas.List.Sorted.{IsPermutation-append_comm}
 use Rattle.std.specs.List.{enumerate_from, All, Contains}
 use Rattle.starlark_table.specs.Table.{holders, holders_in, filled}
 use Rattle.starlark_table.specs.Layout.{distance, home, at, InPlace}
-use Rattle.starlark_table.proofs.Lists.{drop_all}
 use Rattle.starlark_table.proofs.Circle.{turn, length-turn, get_or-turn, step_to, distance-below, nearer_from_home}
 
 module _ {T : Type 0} where
@@ -131,10 +130,6 @@ module _ {T : Type 0} where
       ap (holders hash) (path-step a place i slots a_in place_in e)
       ∙ ap (λ o. holders hash ((place, o) ∷ path_from a slots (i + 1))) here
       ∙ skipped hash place h item (path_from a slots (i + 1)) other
-
-  pub path-over : (hash a i : ℕ) (slots : List (Option (ℕ × T))) → length slots ≤ i → holders hash (path_from a slots i) ≡ []
-  path-over hash a i slots all =
-      ap (holders hash) (drop_all i (turn a (enumerate_from 0 slots)) (rw (length-path a slots) all))
 
   -- the path holds each slot of the hash once
   pub listed : (hash a : ℕ) (slots : List (Option (ℕ × T)))

@@ -1,11 +1,12 @@
 -- Whether slots are well laid out depends on their hashes alone.
-use Rattle.std.proofs.Common.{◌≡◌, ℕ, zero, suc, ◌*◌, ◌^◌, ◌<◌, ◌≤◌, ◌⊎◌, List, [], ◌∷◌, length, Option, Some, None, IsSome, get_or, arith, refl, sym, ◌∙◌, ap, subst}
+use Rattle.std.proofs.Common.{◌≡◌, ℕ, zero, suc, ◌-◌, ◌*◌, ◌^◌, ◌<◌, ◌≤◌, ◌⊎◌, List, [], ◌∷◌, length, Option, Some, None, IsSome, get_or, arith, refl, sym, ◌∙◌, ap, subst}
 use Rattle.std.specs.List.{AllZip}
+use Rattle.std.specs.Prelude.{slice_set}
 use Rattle.std.specs.Option.{option_map}
-use Rattle.std.proofs.Math.ListN.{set}
+use Rattle.std.proofs.Math.ListN.{set, length-set}
 use Rattle.std.specs.Borrow.{Bor}
 use Rattle.std.specs.Fn.{Mut}
-use Rattle.starlark_table.specs.Table.{filled, IsSlotClone}
+use Rattle.starlark_table.specs.Table.{Table, filled, with_item, IsSlotClone}
 use Rattle.starlark_table.specs.Walk.{ReplacesEach}
 use Rattle.starlark_table.specs.Layout.{at, limit, InPlace, IsTagged, IsSound}
 use Rattle.starlark_table.proofs.Tagged.{sized-alike}
@@ -128,6 +129,13 @@ module _ {T : Type 0} (is_clone : T → T → Type 0) where
     slots_cloned (o ∷ old) [] all = absurd all
     slots_cloned (o ∷ old) (p ∷ new) all = (one_cloned o p all.0, slots_cloned old new all.1)
 
+module _ {T : Type 0} where
+  -- the slot that is read
+  pub held : (slots : List (Option (ℕ × T))) (i : ℕ) (o : Option (ℕ × T)) → o ≡ get_or slots i o → i < length slots → at slots i ≡ o
+  held [] i o e below = absurd (omega arith)
+  held (p ∷ slots) zero o e below = sym e
+  held (p ∷ slots) (suc i) o e below = held slots i o e (omega arith)
+
 module _ {T : Type 0} (w : T) where
   abbrev written : Option (ℕ × T) → Option (ℕ × T)
   written o = option_map (λ m. (m.0, w)) o
@@ -141,8 +149,28 @@ module _ {T : Type 0} (w : T) where
   shape-cons (Some m) xs ys e = ap (λ l. Some m.0 ∷ l) e
 
   -- another item in a slot
-  pub shape-written : (slots : List (Option (ℕ × T))) (i : ℕ) (o : Option (ℕ × T)) → o ≡ get_or slots i o → i < length slots
+  shape-written : (slots : List (Option (ℕ × T))) (i : ℕ) (o : Option (ℕ × T)) → o ≡ get_or slots i o → i < length slots
       → shape (set slots i (written o)) ≡ shape slots
   shape-written [] i o e below = absurd (omega arith)
   shape-written (p ∷ slots) zero o e below = ap (λ o. shape (written o ∷ slots)) e ∙ shape-first p slots
   shape-written (p ∷ slots) (suc i) o e below = shape-cons p (set slots i (written o)) slots (shape-written slots i o e (omega arith))
+
+  pub sound-written : (slots : List (Option (ℕ × T))) (i : ℕ) (o : Option (ℕ × T)) (tags : List ℕ) (len shift : ℕ) → o ≡ get_or slots i o → i < length slots
+      → IsSound slots tags len shift → IsSound (set slots i (written o)) tags len shift
+  sound-written slots i o tags len shift e below = reshaped slots (set slots i (written o)) (shape-written slots i o e below) tags len shift
+
+  -- the slots with another item in one
+  slots-with_item : (slots : List (Option (ℕ × T))) (i : ℕ) (o : Option (ℕ × T)) → o ≡ get_or slots i o → i < length slots → set slots i (written o) ≡ slice_set slots i (written (at slots i))
+  slots-with_item [] i o e below = absurd (omega arith)
+  slots-with_item (p ∷ slots) zero o e below = ap (λ q. written q ∷ slots) e
+  slots-with_item (p ∷ slots) (suc i) o e below = ap (λ l. p ∷ l) (slots-with_item slots i o e (omega arith))
+
+  abbrev laid : List (Option (ℕ × T)) → ℕ → ℕ → Table T
+  laid slots count len = record { slots = slots; room = limit count - len }
+
+  -- so has the table
+  pub table-with_item : (slots : List (Option (ℕ × T))) (i len : ℕ) (o : Option (ℕ × T)) (t : Table T) → o ≡ get_or slots i o → i < length slots → laid slots (length slots) len ≡ t
+      → laid (set slots i (written o)) (length (set slots i (written o))) len ≡ with_item t i w
+  table-with_item slots i len o t e below view =
+      ap (λ n. laid (set slots i (written o)) n len) (length-set slots i (written o))
+      ∙ ap (λ l. laid l (length slots) len) (slots-with_item slots i o e below) ∙ ap (λ u. with_item u i w) view

@@ -1,18 +1,13 @@
 -- What the words on tables say of one another, for the crates above.
-use Rattle.std.proofs.Common.{◌≡◌, ℕ, zero, suc, ◌+◌, Bool, true, false, cond, nat_eq, List, [], ◌∷◌, map, length, Option, Some, None, refl, sym, ap, subst, ◌∙◌, arith, if◌then◌else◌, IsPermutation}
+use Rattle.std.proofs.Common.{◌≡◌, ℕ, zero, suc, ◌+◌, true, false, cond, nat_eq, List, [], ◌∷◌, map, length, Option, Some, None, refl, sym, ap, subst, ◌∙◌, arith, if◌then◌else◌, IsPermutation}
 use Rattle.std.specs.Prelude.{slice_index_or, slice_set}
-use Rattle.std.specs.Borrow.{Bor}
-use Rattle.std.specs.Fn.{Mut, CalledAt}
 use Rattle.std.specs.List.{Contains, enumerate_from, filter}
 use Rattle.std.specs.Option.{option_map}
 use Rattle.std.proofs.Common.{eqb-true}
 use Rattle.std.proofs.lemmas.List.Sorted.{IsPermutation-trans, IsPermutation-cons, IsPermutation-middle}
 use Rattle.std.proofs.lemmas.Option.{none-some}
-use Rattle.starlark_hash.specs.Search.{Searches}
-use Rattle.starlark_hash.proofs.SearchLemmas.{found}
 use Rattle.starlark_table.specs.Table.{Table, filled, holders, members, member_at, items_under, with_item}
-use Rattle.starlark_table.specs.Written.{with_item_of, with_items_of, with_written}
-use Rattle.starlark_table.specs.Walk.{ReplacesEach}
+use Rattle.starlark_table.specs.Written.{with_items_of}
 use Rattle.starlark_table.proofs.Path.{in_filled}
 
 module _ {T : Type 0} where
@@ -62,23 +57,6 @@ module _ {T : Type 0} where
       let held = stands hash 0 t.slots s there in
       ap (member_at t) {x = s.0} {y = held.0} (omega (arith, held.1)) ∙ held.2
 
--- the slot that a search names has a member, under the hash
-pub member_at-found : {F T : Type 0} (g : Mut F (Bor T × Unit {0}) Bool) (hash : ℕ) (t : Table T) (f last : F) (slot : ℕ)
-    → Searches g (items_under hash t) f (Some slot) last → (x : T) × (member_at t slot ≡ Some (hash, x))
-member_at-found g hash t f last slot s =
-    let named = found g (items_under hash t) f slot last s in (named.0, member_at-items_under hash t (slot, named.0) named.1)
-
--- replacing by a function that keeps its state is a map of the members
-pub members-replaced : {F T : Type 0} (g : Mut F (Bor T × Unit {0}) T) (to : T → T) (f : F)
-    → ((x y : T) (f' : F) → CalledAt g f x y f' → (y ≡ to x) × (f' ≡ f))
-    → (old new : List (Option (ℕ × T))) (last : F) → ReplacesEach g f old new last → filled new ≡ map (λ m. (m.0, to m.1)) (filled old)
-members-replaced g to f pure [] new last r = ap filled r.0
-members-replaced g to f pure (None ∷ old) new last (rest, is, more) = ap filled is ∙ members-replaced g to f pure old rest last more
-members-replaced g to f pure (Some (h, x) ∷ old) new last (y, next, rest, called, is, more) =
-    let p = pure x y next called in
-    ap filled is ∙ ap (λ z. (h, z) ∷ filled rest) p.0
-    ∙ ap (λ l. (h, to x) ∷ l) (members-replaced g to f pure old rest last (subst (λ s. ReplacesEach g s old rest last) p.1 more))
-
 -- ---- what writing the item of one slot leaves
 behind_front : {X : Type 0} (a b m : X) (xs ys : List X) → IsPermutation (a ∷ xs) (b ∷ ys) → IsPermutation (a ∷ m ∷ xs) (b ∷ m ∷ ys)
 behind_front a b m xs ys same =
@@ -103,23 +81,6 @@ module _ {T : Type 0} where
 
 -- ---- what a walk that writes the items leaves
 module _ {T : Type 0} where
-  with_no_item : (slot : Option (ℕ × T)) → slot ≡ with_item_of slot None
-  with_no_item None = refl
-  with_no_item (Some m) = refl
-
-  slot-with_items_of : (slots written : List (Option (ℕ × T))) (slot : ℕ)
-      → slice_index_or (with_items_of slots written) slot None ≡ with_item_of (slice_index_or slots slot None) (slice_index_or written slot None)
-  slot-with_items_of [] written slot = refl
-  slot-with_items_of (s ∷ slots) [] zero = with_no_item s
-  slot-with_items_of (s ∷ slots) [] (suc k) = slot-with_items_of slots [] k
-  slot-with_items_of (s ∷ slots) (w ∷ written) zero = refl
-  slot-with_items_of (s ∷ slots) (w ∷ written) (suc k) = slot-with_items_of slots written k
-
-  pub length-with_items_of : (slots written : List (Option (ℕ × T))) → length (with_items_of slots written) ≡ length slots
-  length-with_items_of [] written = refl
-  length-with_items_of (s ∷ slots) [] = ap suc (length-with_items_of slots [])
-  length-with_items_of (s ∷ slots) (w ∷ written) = ap suc (length-with_items_of slots written)
-
   pub hashes-with_items_of : (slots written : List (Option (ℕ × T))) → map (λ m. m.0) (filled (with_items_of slots written)) ≡ map (λ m. m.0) (filled slots)
   hashes-with_items_of [] written = refl
   hashes-with_items_of (None ∷ slots) [] = hashes-with_items_of slots []
@@ -135,10 +96,3 @@ module _ {T : Type 0} where
   members-with_items_of (None ∷ slots) (w ∷ written) = members-with_items_of slots written
   members-with_items_of (Some m ∷ slots) (None ∷ written) = ap suc (members-with_items_of slots written)
   members-with_items_of (Some m ∷ slots) (Some w ∷ written) = ap suc (members-with_items_of slots written)
-
-  -- a slot has the item that was left in it, under its own hash
-  pub member_at-with_written : (t written : Table T) (slot : ℕ) → member_at (with_written t written) slot ≡ with_item_of (member_at t slot) (member_at written slot)
-  member_at-with_written t written slot = slot-with_items_of t.slots written.slots slot
-
--- what a caller of such a walk may want to know: there are as many slots and as many members, and their hashes stay
-pub ruleset written_tables = (length-with_items_of, members-with_items_of, hashes-with_items_of)

@@ -10,8 +10,6 @@ mod places;
 mod probe;
 pub mod ready_table;
 mod tags;
-#[cfg(test)]
-mod tests;
 mod walks;
 
 pub use iter::{IntoIter, Iter};

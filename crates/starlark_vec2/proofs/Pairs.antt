@@ -1,11 +1,11 @@
 -- A list of pairs and its two columns, which are as long.
 use Rattle.std.proofs.Common.{◌≡◌, ℕ, zero, suc, ◌<◌, List, [], ◌∷◌, ◌++◌, length, take, zip, slice_get, get_or, set, reverse, remove, Bool, true, false, ◌&&◌, Some, None, refl, sym, ap, ◌∙◌, arith}
 use Rattle.std.proofs.lemmas.List.{reverse-append, length-reverse}
-use Rattle.std.specs.List.{refill, AllZip}
+use Rattle.std.specs.List.{AllZip}
 use Rattle.std.specs.Cmp.Lexicographic.{pointwise}
 use Rattle.starlark_vec2.specs.PairList.{firsts_of, seconds_of}
 use Rattle.starlark_vec2.specs.Collect.{IsPairClone}
-use Rattle.starlark_vec2.specs.Lending.{set_first_at, set_second_at, set_firsts, set_seconds}
+use Rattle.starlark_vec2.specs.Lending.{set_first_at, set_second_at}
 
 module _ {A B : Type 0} where
   pub length-zip : (xs : List A) (ys : List B) → length xs ≡ length ys → length (zip xs ys) ≡ length xs
@@ -95,9 +95,6 @@ module _ {A B : Type 0} where
   AllZip-zip C D (x ∷ xs) (u ∷ us) (y ∷ ys) [] p q = absurd q
   AllZip-zip C D (x ∷ xs) (u ∷ us) (y ∷ ys) (v ∷ vs) p q = ((p.0, q.0), AllZip-zip C D xs us ys vs p.1 q.1)
 
-  pub zip_empty : (xs : List A) (ys : List B) → length xs ≡ length ys → zip xs ys ≡ [] → length xs ≡ 0
-  zip_empty xs ys e f = omega (arith, length-zip xs ys e, ap length f)
-
   -- a column in which one part was written
   pub zip-set_first : (xs : List A) (ys : List B) (i : ℕ) (x : A) → zip (set xs i x) ys ≡ set_first_at (zip xs ys) i x
   zip-set_first [] ys i x = refl
@@ -119,13 +116,6 @@ module _ {A B : Type 0} where
   zip-set (z ∷ xs) [] (suc i) x y = refl
   zip-set (z ∷ xs) (w ∷ ys) zero x y = refl
   zip-set (z ∷ xs) (w ∷ ys) (suc i) x y = ap (λ l. (z, w) ∷ l) (zip-set xs ys i x y)
-
-  -- a column that was written as a whole
-  pub zip-refill_firsts : (n : ℕ) (xs : List A) (ys : List B) (ws : List A) → n ≡ length xs → length xs ≡ length ys → zip (refill n xs ws) ys ≡ set_firsts (zip xs ys) ws
-  zip-refill_firsts n xs ys ws m e = λ j. zip (refill ((m ∙ sym (length-zip xs ys e)) j) (sym (firsts_of-zip xs ys e) j) ws) (sym (seconds_of-zip xs ys e) j)
-
-  pub zip-refill_seconds : (n : ℕ) (xs : List A) (ys : List B) (ws : List B) → n ≡ length ys → length xs ≡ length ys → zip xs (refill n ys ws) ≡ set_seconds (zip xs ys) ws
-  zip-refill_seconds n xs ys ws m e = λ j. zip (sym (firsts_of-zip xs ys e) j) (refill ((m ∙ sym e ∙ sym (length-zip xs ys e)) j) (sym (seconds_of-zip xs ys e) j) ws)
 
 -- the item at a place, from the form that an index gives
 pub slice_get_at : {X : Type 0} (xs : List X) (i : ℕ) (x : X) → i < length xs → x ≡ get_or xs i x → slice_get xs i ≡ Some x

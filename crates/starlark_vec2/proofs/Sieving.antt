@@ -11,9 +11,6 @@ module _ {F X : Type 0} (calls : F → X → Bool → X → F → Type 0) (takes
     pub ready : TakesInTurn calls takes f left
     pub rest : (kept : List X) → Retains calls f left kept → Retains calls f0 all (done ++ kept)
 
-  pub sieving_begins : (f : F) (all : List X) → TakesInTurn calls takes f all → Sieving f all f [] all
-  sieving_begins f all t = record { ready = t; rest = λ kept s. s }
-
   pub sieving_asks : (f0 : F) (all : List X) (f : F) (done left : List X) (x : X) → Sieving f0 all f done (x ∷ left) → takes f x
   sieving_asks f0 all f done left x s = s.ready.at [] left f x refl refl
 

@@ -13,17 +13,6 @@ module _ {K V B : Type 0} where
   with_values-zip (p ∷ ps) [] (b ∷ bs) = ap (λ l. (p, b) ∷ l) (with_values-zip ps [] bs)
   with_values-zip (p ∷ ps) (w ∷ ws) (b ∷ bs) = ap (λ l. ((p.0, w.1), b) ∷ l) (with_values-zip ps ws bs)
 
-  -- written again with the same values, they stay
-  pub with_values-again : (es ws : List ((K × V) × B)) → with_values es (with_values es ws) ≡ with_values es ws
-  with_values-again [] ws = refl
-  with_values-again (e ∷ es) [] = ap (λ l. e ∷ l) (with_values-again es [])
-  with_values-again (e ∷ es) (w ∷ ws) = ap (λ l. ((e.0.0, w.0.1), e.1) ∷ l) (with_values-again es ws)
-
-  pub length-with_values : (es ws : List ((K × V) × B)) → length (with_values es ws) ≡ length es
-  length-with_values [] ws = refl
-  length-with_values (e ∷ es) [] = ap suc (length-with_values es [])
-  length-with_values (e ∷ es) (w ∷ ws) = ap suc (length-with_values es ws)
-
 pub length-firsts_of : {A B : Type 0} (ps : List (A × B)) → length (firsts_of ps) ≡ length ps
 length-firsts_of [] = refl
 length-firsts_of (p ∷ ps) = ap suc (length-firsts_of ps)

@@ -10,6 +10,3 @@ pub use loan::Loan;
 pub use pairs_mut::PairsMut;
 pub use values_mut::ValuesMut;
 pub use vec2::Vec2;
-
-#[cfg(test)]
-mod tests;

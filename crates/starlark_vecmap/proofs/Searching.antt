@@ -24,9 +24,6 @@ module _ {F N X : Type 0} (g : Mut F (Bor X × Unit {0}) Bool) where
     pub callable : CanSearch g left f
     pub rest : (answer : Option N) (last : F) → Asks g f left answer last → Asks g first all answer last
 
-  pub searching_begins : (all : List (N × X)) (f : F) → CanSearch g all f → Searching all f f all
-  searching_begins all f can = record { callable = can; rest = λ answer last asks. asks }
-
   module _ (all keys left : List (N × X)) (first f : F) (p : N × X) (s : Searching all first f keys) (leads : keys ≡ p ∷ left) where
     ready : Searching all first f (p ∷ left)
     ready = subst (λ ps. Searching all first f ps) leads s

@@ -1,15 +1,11 @@
 -- A sort of the columns, as a sort of the entries.
 use Rattle.std.proofs.Common.{◌≡◌, Bool, true, false, cond, List, [], ◌∷◌, map, Result, Ok, Err, refl, ap, ◌∙◌}
-use Rattle.std.specs.Prelude.{OnOk, OnErr}
+use Rattle.std.specs.Prelude.{OnOk}
 use Rattle.starlark_hash.specs.Sorting.{insert_sorted, sorted_by}
 
 pub OnOk-map : {X E : Type 0} {P Q : Type 0} (r : Result X E) → (P → Q) → OnOk r P → OnOk r Q
 OnOk-map (Ok x) f told = f told
 OnOk-map (Err e) f told = tt
-
-pub OnErr-map : {X E : Type 0} {P Q : Type 0} (r : Result X E) → (P → Q) → OnErr r P → OnErr r Q
-OnErr-map (Ok x) f told = tt
-OnErr-map (Err e) f told = f told
 
 module _ {X Y : Type 0} (f : X → Y) (lt : Y → Y → Bool) where
   insert_sorted-map : (x : X) (xs : List X) → map f (insert_sorted (λ a b. lt (f a) (f b)) x xs) ≡ insert_sorted lt (f x) (map f xs)

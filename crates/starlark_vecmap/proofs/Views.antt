@@ -1,6 +1,6 @@
 -- Two columns as a list of entries, and lists seen through a map of their items.
-use Rattle.std.proofs.Common.{◌≡◌, ℕ, zero, suc, List, [], ◌∷◌, ◌++◌, map, length, reverse, remove, refl, sym, ap, ◌∙◌}
-use Rattle.std.proofs.lemmas.List.{map-append, reverse-append, length-map}
+use Rattle.std.proofs.Common.{◌≡◌, ℕ, zero, suc, List, [], ◌∷◌, ◌++◌, map, reverse, remove, refl, sym, ap, ◌∙◌}
+use Rattle.std.proofs.lemmas.List.{map-append, reverse-append}
 use Rattle.std.specs.Map.{keys_of, values_of}
 use Rattle.starlark_hash.specs.Entries.{Entry, entry_key, entry_value, pair_of}
 use Rattle.starlark_vec2.specs.PairList.{firsts_of, seconds_of}
@@ -38,8 +38,5 @@ module _ {K V : Type 0} where
   pub values_of-pair_of : (es : List (Entry K V)) → values_of (map pair_of es) ≡ map entry_value es
   values_of-pair_of [] = refl
   values_of-pair_of (e ∷ es) = ap (λ l. entry_value e ∷ l) (values_of-pair_of es)
-
-  pub length-columns : (ps : List ((K × V) × ℕ)) → length (seconds_of ps) ≡ length (firsts_of ps)
-  length-columns ps = length-map ps (λ p. p.1) ∙ sym (length-map ps (λ p. p.0))
 
 pub ruleset views = (map-remove, map-reverse, pair_of-entry_of, keys_of-pair_of, values_of-pair_of)

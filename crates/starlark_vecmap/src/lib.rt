@@ -7,6 +7,3 @@ pub mod vec_map;
 
 pub use hash_search::find_hash_in_array;
 pub use vec_map::VecMap;
-
-#[cfg(test)]
-mod tests;

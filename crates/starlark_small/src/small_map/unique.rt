@@ -8,9 +8,6 @@ ghost use Rattle.starlark_small.specs.Insertion.{IsInserted, IsRefused};
 ghost use Rattle.starlark_small.specs.Lending.{lends_inserted, lends_value};
 ghost use Rattle.starlark_small.specs.Map.{own_hashed};
 
-#[cfg(test)]
-mod tests;
-
 use super::SmallMap;
 use crate::indexed::push_in;
 use starlark_hash::{Hashed, NoRoom};

@@ -7,6 +7,18 @@ use Rattle.starlark_table.proofs.Closing.{read_known, gap_left}
 use Rattle.starlark_table.proofs.Load.{another_empty_slot, places-power, places-fit, bag-taken_out}
 use Rattle.starlark_table.proofs.gap.take_out.Goals as goal
 
+pub returns-then-slot-slots-clause-none : goal.returns-then-slot-slots-clause-none
+returns-then-slot-slots-clause-none g c = refl
+
+pub returns-then-slot-slots-clause-in_place : goal.returns-then-slot-slots-clause-in_place
+returns-then-slot-slots-clause-in_place g c = c.requires.in_place
+
+pub returns-then-slot-slots-clause-tagged : goal.returns-then-slot-slots-clause-tagged
+returns-then-slot-slots-clause-tagged g c = c.requires.tagged
+
+pub close_gap-requires-clause-places : goal.close_gap-requires-clause-places
+close_gap-requires-clause-places g c = rw length-set (places-power c.args.slots.now c.args.shift c.requires.places (omega arith))
+
 pub close_gap-requires-clause-fits : goal.close_gap-requires-clause-fits
 close_gap-requires-clause-fits g c =
     let e = places-power c.args.slots.now c.args.shift c.requires.places (omega arith) in
@@ -29,6 +41,18 @@ close_gap-requires-clause-free g c =
     let full = read_known c.args.slots.now c.args.slot _ c.index-slots-slot.result _ refl c.if-slot-slots.false (sym c.take.ensures.value ∙ c.in_ok-member.was) in
     subst (λ o. (q : ℕ) × (q < length (set c.args.slots.now c.args.slot o)) × (q ≢ c.args.slot) × (at (set c.args.slots.now c.args.slot o) q ≡ None)) (sym c.take.ensures.after)
     (another_empty_slot c.args.slots.now c.args.shift c.args.slot c.in_ok-member.member c.requires.high e c.requires.load full)
+
+pub returns-clause-found : goal.returns-clause-found
+returns-clause-found g c = sym (read_known c.args.slots.now c.args.slot _ c.index-slots-slot.result _ refl c.if-slot-slots.false (sym c.take.ensures.value ∙ c.in_ok-member.was))
+
+pub returns-clause-none : goal.returns-clause-none
+returns-clause-none g c = tt
+
+pub returns-clause-in_place : goal.returns-clause-in_place
+returns-clause-in_place g c = c.close_gap.ensures.in_place
+
+pub returns-clause-tagged : goal.returns-clause-tagged
+returns-clause-tagged g c = c.close_gap.ensures.tagged
 
 pub returns-clause-rest : goal.returns-clause-rest
 returns-clause-rest g c =

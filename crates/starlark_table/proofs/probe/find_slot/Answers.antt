@@ -3,7 +3,7 @@ use Rattle.std.specs.Fn.{CalledAt}
 use Rattle.std.proofs.lemmas.Fn.{called_at}
 use Rattle.std.proofs.lemmas.List.Sorted.{IsPermutation-refl}
 use Rattle.starlark_table.specs.Table.{holders_in}
-use Rattle.starlark_table.specs.Layout.{distance, home, tag, EndsWithout, MayBeginAt}
+use Rattle.starlark_table.specs.Layout.{home, tag, EndsWithout, MayBeginAt}
 use Rattle.starlark_table.proofs.Circle.{home-below, distance-self, distance-below, next-step, less-left}
 use Rattle.starlark_table.proofs.Closing.{free_farther, path_more, full-some}
 use Rattle.starlark_table.proofs.Path.{read_at, nothing_left, listed}

@@ -1,10 +1,10 @@
-use Rattle.std.proofs.Common.{◌≡◌, ℕ, ◌+◌, ◌-◌, ◌<◌, ◌≤◌, length, None, arith, sym, ◌∙◌, subst, ap, IsPermutation}
+use Rattle.std.proofs.Common.{◌≡◌, ℕ, ◌+◌, ◌-◌, ◌*◌, ◌^◌, ◌<◌, ◌≤◌, length, None, arith, sym, ◌∙◌, subst, ap, IsPermutation}
 use Rattle.std.proofs.lemmas.List.{with_items_is, length-replicate}
 use Rattle.std.specs.Vec.{with_items}
 use Rattle.starlark_table.specs.Table.{filled}
 use Rattle.starlark_table.specs.Layout.{limit}
 use Rattle.starlark_table.proofs.Sound.{sound-as}
-use Rattle.starlark_table.proofs.Load.{sound-grown, filled-replicate, places-at_most, tagged-replicate}
+use Rattle.starlark_table.proofs.Load.{sound-grown, filled-replicate, places-at_most, tagged-replicate, in_place-all_empty}
 use Rattle.starlark_table.proofs.ready_table.ReadyTable.grow.Goals as goal
 
 load_fits : (k len m needed count : ℕ) → len ≡ k → len ≤ limit m → k + (limit m - len) < needed → needed ≤ limit count → len ≤ limit count
@@ -15,6 +15,16 @@ ends k len m needed total limit' e less enough load is = (omega arith, omega ari
 
 pub empty_tags-requires : goal.empty_tags-requires
 empty_tags-requires g c = places-at_most c.in-Some.count c.in-Some.shift c.in-Some.ensures.low c.in-Some.ensures.power
+
+pub move_all-requires-clause-places : goal.move_all-requires-clause-places
+move_all-requires-clause-places g c =
+    let empty = c.as_mut_slice.ensures.value ∙ ap (λ v. v.items) c.replace-old.ensures.after ∙ c.in_ok-slots.ensures in
+    ap (λ n. n * 2 ^ c.in-Some.shift) (ap length empty ∙ length-replicate c.in-Some.count None) ∙ c.in-Some.ensures.power
+
+pub move_all-requires-clause-in_place : goal.move_all-requires-clause-in_place
+move_all-requires-clause-in_place g c =
+    in_place-all_empty c.as_mut_slice.result.now c.in-Some.shift c.in-Some.count
+    (c.as_mut_slice.ensures.value ∙ ap (λ v. v.items) c.replace-old.ensures.after ∙ c.in_ok-slots.ensures)
 
 pub move_all-requires-clause-room : goal.move_all-requires-clause-room
 move_all-requires-clause-room g c =

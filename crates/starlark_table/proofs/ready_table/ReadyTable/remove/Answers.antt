@@ -1,10 +1,32 @@
-use Rattle.std.proofs.Common.{◌≡◌, ◌+◌, ◌-◌, length, sym, ◌∙◌, subst, ap}
+use Rattle.std.proofs.Common.{◌≡◌, ◌+◌, ◌-◌, ◌≤◌, length, sym, ◌∙◌, subst, ap}
 use Rattle.std.proofs.lemmas.List.{with_items_is}
-use Rattle.starlark_table.specs.Table.{filled}
-use Rattle.starlark_table.specs.Layout.{limit}
+use Rattle.starlark_table.specs.Table.{filled, member_at, table_len}
+use Rattle.starlark_table.specs.Layout.{at, limit, IsShift, InPlace, IsTagged}
 use Rattle.starlark_table.proofs.Sound.{sound-as}
-use Rattle.starlark_table.proofs.Load.{sound-taken_out_of_copy, len-and-room}
+use Rattle.starlark_table.proofs.Load.{sound-taken_out_of_copy, len-and-room, rest-as, if_none-some, if_some-none, if_none-holds, none-told, table-unchanged}
 use Rattle.starlark_table.proofs.ready_table.ReadyTable.remove.Goals as goal
+
+pub take_out-member-requires-clause-low : goal.take_out-member-requires-clause-low
+take_out-member-requires-clause-low g c = c.self.invariant.shift_low
+
+pub take_out-member-requires-clause-high : goal.take_out-member-requires-clause-high
+take_out-member-requires-clause-high g c = c.self.invariant.shift_high
+
+pub take_out-member-requires-clause-places : goal.take_out-member-requires-clause-places
+take_out-member-requires-clause-places g c = subst (IsShift c.self.inside.shift) (sym c.as_mut_slice.ensures.value) c.self.invariant.places
+
+pub take_out-member-requires-clause-load : goal.take_out-member-requires-clause-load
+take_out-member-requires-clause-load g c =
+    subst (λ l. length (filled l) ≤ limit (length l)) (sym c.as_mut_slice.ensures.value)
+    (subst (λ n. n ≤ limit (length c.self.inside.slots.items)) c.self.invariant.counted c.self.invariant.load)
+
+pub take_out-member-requires-clause-in_place : goal.take_out-member-requires-clause-in_place
+take_out-member-requires-clause-in_place g c = subst (λ l. InPlace (length l) c.self.inside.shift l) (sym c.as_mut_slice.ensures.value) c.self.invariant.in_place
+
+pub take_out-member-requires-clause-tagged : goal.take_out-member-requires-clause-tagged
+take_out-member-requires-clause-tagged g c =
+    subst (λ l. IsTagged l c.as_mut_slice.result.now) (sym c.as_mut_slice-2.ensures.value)
+    (subst (IsTagged c.self.inside.tags.items) (sym c.as_mut_slice.ensures.value) c.self.invariant.tagged)
 
 pub overflow_sub-self : goal.overflow_sub-self
 overflow_sub-self g c =
@@ -28,3 +50,37 @@ returns-then-is_some-clause-room g c =
     (len-and-room c.take_out-member.new.slots c.take_out-member.new.tags (c.self.inside.len - 1) c.self.inside.shift sound
     ∙ ap limit (c.take_out-member.auto.slots ∙ ap length c.as_mut_slice.ensures.value)
     ∙ sym (len-and-room c.self.inside.slots.items c.self.inside.tags.items c.self.inside.len c.self.inside.shift c.self.invariant)))
+
+pub returns-then-is_some-clause-found : goal.returns-then-is_some-clause-found
+returns-then-is_some-clause-found g c =
+    c.take_out-member.ensures.found ∙ ap (λ l. at l c.args.slot) c.as_mut_slice.ensures.value ∙ ap (λ t. member_at t c.args.slot) c.self.view_is
+
+pub returns-then-is_some-clause-rest : goal.returns-then-is_some-clause-rest
+returns-then-is_some-clause-rest g c =
+    let same = with_items_is c.self.inside.slots c.take_out-member.new.slots (c.take_out-member.auto.slots ∙ c.as_mut_slice.ensures.len) in
+    rest-as c.args.self.now.slots c.as_mut_slice.result.now c.take_out-member.new.slots _ c.take_out-member.result
+    (c.as_mut_slice.ensures.value ∙ ap (λ t. t.slots) c.self.view_is) same c.take_out-member.ensures.rest
+
+pub returns-then-is_some-clause-none : goal.returns-then-is_some-clause-none
+returns-then-is_some-clause-none g c = if_none-some _ c.take_out-member.result (sym c.is_some.ensures ∙ c.if-is_some.true)
+
+pub returns-else-is_some-clause-found : goal.returns-else-is_some-clause-found
+returns-else-is_some-clause-found g c =
+    c.take_out-member.ensures.found ∙ ap (λ l. at l c.args.slot) c.as_mut_slice.ensures.value ∙ ap (λ t. member_at t c.args.slot) c.self.view_is
+
+pub returns-else-is_some-clause-rest : goal.returns-else-is_some-clause-rest
+returns-else-is_some-clause-rest g c = if_some-none _ c.take_out-member.result (sym c.is_some.ensures ∙ c.if-is_some.false)
+
+pub returns-else-is_some-clause-none : goal.returns-else-is_some-clause-none
+returns-else-is_some-clause-none g c =
+    let unchanged = none-told c.take_out-member.result (sym c.is_some.ensures ∙ c.if-is_some.false) c.take_out-member.ensures.none in
+    let same = with_items_is c.self.inside.slots c.take_out-member.new.slots (c.take_out-member.auto.slots ∙ c.as_mut_slice.ensures.len) in
+    if_none-holds c.take_out-member.result
+    (table-unchanged c.self.inside.slots.items c.as_mut_slice.result.now c.take_out-member.new.slots _ c.self.inside.len c.args.self.now c.as_mut_slice.ensures.value unchanged same c.self.view_is)
+
+pub returns-else-is_some-clause-room : goal.returns-else-is_some-clause-room
+returns-else-is_some-clause-room g c =
+    let unchanged = none-told c.take_out-member.result (sym c.is_some.ensures ∙ c.if-is_some.false) c.take_out-member.ensures.none in
+    let same = with_items_is c.self.inside.slots c.take_out-member.new.slots (c.take_out-member.auto.slots ∙ c.as_mut_slice.ensures.len) in
+    ap (λ t. table_len t + t.room)
+    (table-unchanged c.self.inside.slots.items c.as_mut_slice.result.now c.take_out-member.new.slots _ c.self.inside.len c.args.self.now c.as_mut_slice.ensures.value unchanged same c.self.view_is)

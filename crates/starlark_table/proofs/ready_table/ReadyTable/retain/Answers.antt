@@ -17,7 +17,7 @@ pub invariant_of-self : goal.invariant_of-self
 invariant_of-self g c =
     let same = with_items_is c.self.inside.slots c.retain_items-kept.new.slots (c.retain_items-kept.auto.slots ∙ c.as_mut_slice.ensures.len) in
     let kept = c.retain_items-kept.ensures.kept in
-    let fewer = shorter _ _ (length (filled c.retain_items-kept.new.slots)) (length (filled c.self.inside.slots.items)) (length-retained (AsksMember g.F.FnMut) _ _ kept.0 kept.1) (length_permutation _ _ kept.2)
+    let fewer = shorter (length kept.0) (length (filled c.as_mut_slice.result.now)) (length (filled c.retain_items-kept.new.slots)) (length (filled c.self.inside.slots.items)) (length-retained (AsksMember g.F.FnMut) c.args.f (filled c.as_mut_slice.result.now) kept.0 kept.1) (length_permutation kept.0 (filled c.retain_items-kept.new.slots) kept.2)
     (ap (λ l. length (filled l)) c.as_mut_slice.ensures.value) in
     let tagged = subst (IsTagged c.retag.new.tags) (c.as_slice.ensures.value ∙ same) c.retag.ensures in
     sound-as _ _ _ _ c.retain_items-kept.result c.self.inside.shift same (with_items_is c.self.inside.tags c.retag.new.tags (c.retag.auto.tags ∙ c.as_mut_slice-2.ensures.len))
@@ -37,7 +37,7 @@ pub returns-clause-room : goal.returns-clause-room
 returns-clause-room g c =
     let same = with_items_is c.self.inside.slots c.retain_items-kept.new.slots (c.retain_items-kept.auto.slots ∙ c.as_mut_slice.ensures.len) in
     let kept = c.retain_items-kept.ensures.kept in
-    let fewer = shorter _ _ (length (filled c.retain_items-kept.new.slots)) (length (filled c.self.inside.slots.items)) (length-retained (AsksMember g.F.FnMut) _ _ kept.0 kept.1) (length_permutation _ _ kept.2)
+    let fewer = shorter (length kept.0) (length (filled c.as_mut_slice.result.now)) (length (filled c.retain_items-kept.new.slots)) (length (filled c.self.inside.slots.items)) (length-retained (AsksMember g.F.FnMut) c.args.f (filled c.as_mut_slice.result.now) kept.0 kept.1) (length_permutation kept.0 (filled c.retain_items-kept.new.slots) kept.2)
     (ap (λ l. length (filled l)) c.as_mut_slice.ensures.value) in
     let tagged = subst (IsTagged c.retag.new.tags) (c.as_slice.ensures.value ∙ same) c.retag.ensures in
     let sized = c.retain_items-kept.auto.slots ∙ ap length c.as_mut_slice.ensures.value in

@@ -1,0 +1,45 @@
+//! Clones of maps, and maps of an iterator's items.
+
+use crate::given::under;
+use starlark_hash::Hashed;
+use starlark_small::SmallMap;
+use std::test::Fail;
+
+#[test]
+fn clones_stand_alone(rt: HostRuntime) -> Result<(), Fail> {
+    let mut map: SmallMap<u32, char> = SmallMap::new(rt.alloc());
+    for place in (0..26u8).rev() {
+        map.insert(u32::from(place), char::from(b'a'.wrapping_add(place)))?;
+    }
+    assert!(rt; map.get_full(&0u32) == Some((25, &0, &'a')));
+    assert!(rt; map.get_full(&25u32) == Some((0, &25, &'z')));
+    assert!(rt; map.get_full(&29u32) == None);
+    let copy = map.clone()?;
+    assert!(rt; copy.eq_ordered(&map));
+    assert_eq!(rt; copy.capacity(), 26);
+    assert_eq!(rt; map.shift_remove(&1u32), Some('b'));
+    assert!(rt; copy != map);
+    assert_eq!(rt; copy.len(), 26);
+    Ok(())
+}
+
+// A repeated key keeps its place and takes the last value.
+#[test]
+fn collects_items(rt: HostRuntime) -> Result<(), Fail> {
+    let alloc = rt.alloc();
+    let map = SmallMap::from_iter(alloc, [(1u32, 'a'), (3, 'b'), (1, 'c')])?;
+    let mut walk = map.iter();
+    assert!(rt; walk.next() == Some((&1, &'c')));
+    assert!(rt; walk.next() == Some((&3, &'b')));
+    assert!(rt; walk.next() == None);
+    let mut more = SmallMap::from_iter_hashed(
+        alloc,
+        [(Hashed::new(3u32), 'b'), (under(7, 1), 'c')],
+    )?;
+    assert!(rt; more != map);
+    more.extend([(4, 'd'), (3, 'e')])?;
+    assert_eq!(rt; more.len(), 3);
+    assert!(rt; more.get(&3u32) == Some(&'e'));
+    assert!(rt; more.get(&4u32) == Some(&'d'));
+    Ok(())
+}

@@ -1,0 +1,49 @@
+//! Each law's calls, made once at small maps.
+
+use starlark_hash::{Hashed, StarlarkHasher};
+use starlark_laws::{collection, equality, insertion, keys, lists, order};
+use starlark_small::{SmallMap, smallmap};
+use std::hash::Hasher;
+use std::test::Fail;
+
+#[test]
+fn makes_the_calls(rt: HostRuntime) -> Result<(), Fail> {
+    let alloc = rt.alloc();
+    let mut map: SmallMap<u32, u32> = smallmap![alloc; 2 => 20, 1 => 10, 3 => 30]?;
+    assert_eq!(rt;
+        insertion::insertion_of_a_present_key(&mut map, Hashed::new(1), 11)?,
+        Some(10)
+    );
+    order::reverse_twice(&mut map);
+    assert!(rt; map.first() == Some((&2, &20)));
+    order::sort_twice(&mut map)?;
+    assert!(rt; order::sort_of_a_sorted_list(&mut map).is_ok());
+    assert!(rt; map.first() == Some((&1, &11)));
+    assert_eq!(rt; keys::own_hashes_tell_keys_apart(&map), 3);
+    let other = collection::written_in_order(alloc, (1, 11), (2, 20), (3, 30))?;
+    let answers = equality::ordered_equality_is_equality(&map, &other);
+    assert!(rt; answers == (true, true));
+    let mut state = StarlarkHasher::new();
+    let mut other_state = StarlarkHasher::new();
+    let same = equality::ordered_equality_feeds_alike(&map, &other, &mut state, &mut other_state);
+    assert!(rt; same);
+    assert_eq!(rt; state.finish(), other_state.finish());
+    let collected = collection::collected_anew(alloc, other)?;
+    assert!(rt; collected.eq_ordered(&map));
+    let room = SmallMap::with_capacity(alloc, 3)?;
+    let written = collection::written_with_room(room, (1u32, 11u32), (2, 20), (3, 30));
+    assert!(rt; written.is_ok_and(|written| written.len() == 3));
+    Ok(())
+}
+
+#[test]
+fn has_the_laws_over_lists(_rt: HostRuntime) -> Result<(), Fail> {
+    lists::insertion_keeps_keys::<u32, u32>();
+    lists::reversed_twice::<u32, u32>();
+    lists::sorted_twice::<u32, u32>();
+    lists::ordered_implies_equal::<u32, u32>();
+    lists::ordered_implies_one_feed::<u32, u32>();
+    lists::collected_is_the_list::<u32, u32>();
+    lists::own_hashes_have_distinct_keys::<u32, u32>();
+    Ok(())
+}

@@ -1,0 +1,63 @@
+//! Maps that are written out, and how often a key is hashed.
+ghost use Rattle.std.proofs.Common.{[], refl};
+
+use starlark_hash::StarlarkHasher;
+use starlark_small::{SmallMap, smallmap};
+use std::cell::Cell;
+use std::hash::{Hash, Hasher};
+use std::test::Fail;
+
+#[test]
+fn writes_a_map_out(rt: HostRuntime) -> Result<(), Fail> {
+    let alloc = rt.alloc();
+    let map: SmallMap<u32, &str> = smallmap![alloc; 1 => "a", 3 => "b", 1 => "c"]?;
+    let mut walk = map.iter();
+    assert!(rt; walk.next() == Some((&1, &"c")));
+    assert!(rt; walk.next() == Some((&3, &"b")));
+    assert!(rt; walk.next() == None);
+    assert_eq!(rt; map.capacity(), 3);
+    let empty: SmallMap<u32, u32> = smallmap![alloc;]?;
+    assert_eq!(rt; empty.len(), 0);
+    let one = smallmap![alloc; 7u32 => 70u32,]?;
+    assert!(rt; one.get(&7u32) == Some(&70));
+    Ok(())
+}
+
+// A key that counts how often it is hashed.
+#[derive(Drop)]
+#[derive_where(PartialEq, Eq)]
+struct Counted<'a> {
+    key: u32,
+    #[derive_where(skip(EqHashOrd))]
+    calls: &'a Cell<u32>,
+}
+
+impl<'a> Hash for Counted<'a> {
+    ghost hash_input = { λ _. [] };
+
+    ghost respects_eq = { λ x y same. refl };
+
+    fn hash<H: Hasher>(&self, _state: &mut H) {
+        self.calls.set(self.calls.get().wrapping_add(1));
+    }
+}
+
+#[test]
+fn hashes_a_key_once(rt: HostRuntime) -> Result<(), Fail> {
+    let calls = Cell::new(0u32);
+    let mut map: SmallMap<Counted, u32> = SmallMap::new(rt.alloc());
+    let key = Counted {
+        key: 1,
+        calls: &calls,
+    };
+    assert!(rt; map.insert(key, 10).is_ok());
+    assert_eq!(rt; calls.get(), 1);
+    let mut hasher = StarlarkHasher::new();
+    map.hash_ordered(&mut hasher);
+    map.hash_ordered(&mut hasher);
+    assert_eq!(rt; calls.get(), 1);
+    map.reverse();
+    assert!(rt; map.eq_ordered(&map));
+    assert_eq!(rt; calls.get(), 1);
+    Ok(())
+}

@@ -1,0 +1,6 @@
+pub use Rattle.starlark_lines.specs.Commands
+pub use Rattle.starlark_lines.specs.Shown
+pub mod Lines
+pub mod Replies
+pub mod Script
+pub mod ShownEntries

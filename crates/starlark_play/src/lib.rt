@@ -1,0 +1,5 @@
+//! Plays a script on a small map: what each command does and replies, and the loop over the lines.
+#![tactic(auto)]
+
+pub mod answer;
+pub mod play;

@@ -1,9 +1,0 @@
-pub mod Lines
-pub mod Numbers
-pub mod Commands
-pub mod Replies
-pub mod Script
-pub mod Fault
-pub mod Found
-pub mod Shown
-pub mod ShownEntries

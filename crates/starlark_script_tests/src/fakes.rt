@@ -1,0 +1,107 @@
+//! Readers and writers that take or give little a call, and fail at one call.
+
+use std::alloc::Global;
+use std::io;
+use std::io::{ErrorKind, Read, Write};
+
+/// Gives at most so many bytes a call, and fails at one call.
+#[derive(Drop)]
+pub struct Pieces<'a> {
+    rest: &'a [u8],
+    most: usize,
+    fails_after: usize,
+    kind: ErrorKind,
+}
+
+impl Read for Pieces<'_> {
+    fn read(&mut self, buf: &mut [u8]) -> io::Result<usize> {
+        if self.fails_after == 0 {
+            return Err(io::Error::from(self.kind));
+        }
+        self.fails_after -= 1;
+        let n = self.most.min(self.rest.len()).min(buf.len());
+        buf[..n].copy_from_slice(&self.rest[..n]);
+        self.rest = &self.rest[n..];
+        Ok(n)
+    }
+}
+
+/// Takes one byte a call, fails at one call, and counts the flushes.
+#[derive(Drop)]
+pub struct Narrow {
+    /// The bytes taken.
+    pub taken: Vec<u8>,
+    fails_after: usize,
+    kind: ErrorKind,
+    /// How often it was flushed.
+    pub flushes: usize,
+    flush_fails: bool,
+}
+
+impl Write for Narrow {
+    fn write(&mut self, buf: &[u8]) -> io::Result<usize> {
+        if self.fails_after == 0 {
+            return Err(io::Error::from(self.kind));
+        }
+        self.fails_after -= 1;
+        let n = buf.len().min(1);
+        self.taken.extend_from_slice(&buf[..n])?;
+        Ok(n)
+    }
+
+    fn flush(&mut self) -> io::Result<()> {
+        self.flushes = self.flushes.saturating_add(1);
+        if self.flush_fails {
+            return Err(io::Error::from(self.kind));
+        }
+        Ok(())
+    }
+}
+
+/// Takes nothing.
+#[derive(Drop)]
+pub struct Full;
+
+impl Write for Full {
+    fn write(&mut self, _buf: &[u8]) -> io::Result<usize> {
+        Ok(0)
+    }
+
+    fn flush(&mut self) -> io::Result<()> {
+        Ok(())
+    }
+}
+
+/// A failure that no script reaches.
+pub const NEVER: usize = usize::MAX;
+
+/// A reader of the script, so many bytes a call, that fails after so many calls.
+pub fn bytes_in_pieces(
+    script: &str,
+    most: usize,
+    fails_after: usize,
+    kind: ErrorKind,
+) -> Pieces<'_> {
+    Pieces {
+        rest: script.as_bytes(),
+        most,
+        fails_after,
+        kind,
+    }
+}
+
+/// A writer that fails after so many calls, and at a flush where `flush_fails`.
+pub fn narrow_writer(
+    alloc: Global,
+    fails_after: usize,
+    kind: ErrorKind,
+    flush_fails: bool,
+) -> Narrow {
+    Narrow {
+        taken: Vec::new(alloc),
+        fails_after,
+        kind,
+        flushes: 0,
+        flush_fails,
+    }
+}

@@ -1,0 +1,13 @@
+//! Tests of hashes, lists of pairs, tables and vector maps, by their public calls.
+#![tactic(auto)]
+
+#[cfg(test)]
+mod given;
+#[cfg(test)]
+mod hashes;
+#[cfg(test)]
+mod pair_lists;
+#[cfg(test)]
+mod tables;
+#[cfg(test)]
+mod vector_maps;
