@@ -1,5 +1,7 @@
 -- Insertions one after the other, and how the room and the capacity follow them.
-use Rattle.std.proofs.Common.{◌≡◌, ℕ, ◌+◌, ◌*◌, ◌<◌, ◌≤◌, max, Bool, List, [], ◌∷◌, ◌++◌, length, map, Option, Some, None, refl, sym, subst, arith}
+use Rattle.std.proofs.Common.{◌≡◌, ℕ, ◌+◌, ◌*◌, ◌<◌, ◌≤◌, max, Bool, true, false, List, [], ◌∷◌, ◌++◌, length, map, Option, Some, None, refl, sym, ap, ◌∙◌, subst, arith}
+use Rattle.std.specs.Prelude.{◌||◌, is_some, nat_lt, IsSome}
+use Rattle.std.proofs.lemmas.Bool.Decides.{nat_tests}
 use Rattle.std.specs.Iterator.{Yields}
 use Rattle.std.specs.Option.{option_map_or}
 use Rattle.std.proofs.lemmas.List.{length_push}
@@ -7,6 +9,7 @@ use Rattle.starlark_hash.specs.declared.hashed.Hashed.{Hashed}
 use Rattle.starlark_hash.specs.Entries.{Entry, insert_entry, match_of, set_value_at}
 use Rattle.starlark_hash.proofs.EntryLemmas.{length-set_value_at}
 use Rattle.starlark_small.specs.Collect.{insert_all}
+use Rattle.starlark_small.specs.Index.{unindexed}
 
 -- one item more came
 pub yields_more : {S A : Type 0} (steps : S → Option A → S → Type 0) (s t u : S) (xs : List A) (x : A) → Yields steps s xs t → steps t (Some x) u → Yields steps s (xs ++ x ∷ []) u
@@ -48,3 +51,13 @@ room_for_next first seen mid spare room all left after a b c d e = omega arith
 -- items that came one by one took no more room than there were of them, so that room for all is not used up before the last
 pub room_left : (first seen mid spare room all left after : ℕ) → first + room ≤ mid + spare → spare ≡ 0 → mid ≤ first + seen → seen + left ≤ all → after < left → all ≤ room → ⊥
 room_left first seen mid spare room all left after a b c d e f = omega arith
+
+-- an index that is made at one length is there at a greater one
+pub indexed_on : (first mid last : Bool) (len len' : ℕ) → mid ≡ (first || nat_lt unindexed len) → last ≡ (mid || nat_lt unindexed len') → len ≤ len' → last ≡ (first || nat_lt unindexed len')
+indexed_on true mid last len len' a b c = b ∙ ap (λ had. had || nat_lt unindexed len') a
+indexed_on false mid last len len' a b c = grind (arith, nat_tests)
+
+-- a list without an index is too short to need one
+pub long_is_indexed : {A : Type 0} (index : Option A) (had : Bool) (len : ℕ) → is_some index ≡ had → (unindexed < len → IsSome index) → had ≡ (had || nat_lt unindexed len)
+long_is_indexed (Some table) had len same long = subst (λ b. b ≡ (b || nat_lt unindexed len)) same refl
+long_is_indexed None had len same long = subst (λ b. b ≡ (b || nat_lt unindexed len)) same (grind (arith, nat_tests, long))

@@ -1,9 +1,10 @@
 -- How much room a list and its index have after each change.
-use Rattle.std.proofs.Common.{◌≡◌, ℕ, Bool, ◌+◌, ◌-◌, ◌≤◌, List, Option, arith, min, length, refl, sym, ap, subst}
-use Rattle.std.specs.Prelude.{is_some}
+use Rattle.std.proofs.Common.{◌≡◌, ℕ, Bool, ◌+◌, ◌-◌, ◌≤◌, List, Option, Some, None, arith, min, length, refl, sym, ap, subst}
+use Rattle.std.specs.Prelude.{◌||◌, is_some, nat_lt}
+use Rattle.std.proofs.lemmas.Bool.Decides.{nat_tests}
 use Rattle.starlark_hash.specs.Entries.{Entry, set_value_at}
 use Rattle.starlark_hash.proofs.EntryLemmas.{length-set_value_at, IsSingle-set_value_at}
-use Rattle.starlark_small.specs.Index.{IsSound, index_room, map_of}
+use Rattle.starlark_small.specs.Index.{IsIndexed, IsSound, index_room, map_of, unindexed}
 use Rattle.starlark_small.specs.Map.{Map, KeepsMemory}
 use Rattle.starlark_small.proofs.Keeping.{IsIndexed-set_value_at}
 use Rattle.starlark_table.specs.Table.{Table}
@@ -26,6 +27,11 @@ room_at : (len len' capacity : ℕ) (index : Option (Table ℕ)) → len' ≡ le
 room_at len len' capacity index same = subst (λ n. len + min (capacity - len) (index_room len index) ≤ n + min (capacity - n) (index_room n index)) (sym same) (omega arith)
 
 module _ {K V : Type 0} where
+  -- a list without an index is too short to need one, so as long a list needs none
+  pub index_stays : (es : List (Entry K V)) (index : Option (Table ℕ)) (len : ℕ) → IsIndexed es index → len ≡ length es → is_some index ≡ (is_some index || nat_lt unindexed len)
+  index_stays es None len short same = grind (arith, nat_tests)
+  index_stays es (Some table) len holds same = refl
+
   -- a value was written
   pub IsSound-set_value_at : (eq : K → K → Bool) (es : List (Entry K V)) (i : ℕ) (value : V) (index : Option (Table ℕ)) → IsSound eq es index → IsSound eq (set_value_at es i value) index
   IsSound-set_value_at eq es i value index sound =

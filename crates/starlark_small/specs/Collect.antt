@@ -1,9 +1,10 @@
 -- Maps of an iterator's items.
-use Rattle.std.specs.Prelude.{◌≡◌, ◌≤◌, ◌+◌, ◌*◌, ℕ, max, List, [], ◌∷◌, ◌++◌, Bool, Option, None, Result, MatchResult, length, map}
+use Rattle.std.specs.Prelude.{◌≡◌, ◌≤◌, ◌+◌, ◌*◌, ℕ, max, List, [], ◌∷◌, ◌++◌, Bool, Option, None, Result, MatchResult, ◌||◌, nat_lt, length, map}
 use Rattle.std.specs.Hash.{HashWrites}
 use Rattle.std.specs.Iterator.{Count, Drains, Yields}
 use Rattle.std.specs.Iterator.SizeHint.{IsWithinCount}
 use Rattle.starlark_hash.specs.Entries.{Entry, insert_entry, match_of}
+use Rattle.starlark_small.specs.Index.{unindexed}
 use Rattle.starlark_small.specs.Map.{Map, own_hashed}
 
 -- the entry of a pair, under its key's own hash
@@ -26,9 +27,11 @@ module _ {K V : Type 0} (eq : K → K → Bool) where
     abbrev pub Extends : {U E : Type 0} → (U → T → Type 0) → U → List (Entry K V) → List (Entry K V) → Result (Unit {0}) E → Type 0
     Extends becomes iter old new r = (it : T) × becomes iter it × Inserts it old new r
 
-    -- the map has the iterator's items, inserted into one that had room for a number of them within what it bounds, and
-    -- the capacity rose from that number at most to the larger of 4 and twice one more than the length
+    -- the map has the iterator's items, inserted into one that had room for a number of them within what it bounds; the
+    -- capacity rose from that number at most to the larger of 4 and twice one more than the length, and there is an index
+    -- if that number, or the length now, needs one
     abbrev pub Collects : {U : Type 0} → (U → T → Type 0) → (T → Count) → U → Map K V → Type 0
     Collects becomes remaining iter m = (it : T) × (first : ℕ) × (xs : List A) × becomes iter it × IsWithinCount first (remaining it)
         × Drains steps it xs × (m.entries ≡ insert_all [] (map item xs)) × (first ≤ length m.entries + m.room)
         × (m.capacity ≤ max first (max 4 (2 * (length m.entries + 1))))
+        × (m.indexed ≡ (nat_lt unindexed first || nat_lt unindexed (length m.entries)))

@@ -1,5 +1,5 @@
 //! A list of entries and its index: what the calls of a map do to both.
-ghost use Rattle.std.specs.Prelude.{◌≡◌, ◌+◌, ◌-◌, ◌<◌, ◌≤◌, [], ◌∷◌, ◌++◌, length, List, min, nat_le, nat_lt, remove, reverse, slice_get, is_some, if◌then◌else◌, Some, None, IfErr, IfOk, IfSome, IsOk, IsSome, OnErr, OnOk};
+ghost use Rattle.std.specs.Prelude.{◌≡◌, ◌+◌, ◌-◌, ◌<◌, ◌≤◌, [], ◌∷◌, ◌++◌, ◌||◌, length, List, min, nat_le, nat_lt, remove, reverse, slice_get, is_some, if◌then◌else◌, Some, None, IfErr, IfOk, IfSome, IsOk, IsSome, OnErr, OnOk};
 ghost use Rattle.starlark_hash.specs.Entries.{Entry, insert_entry, match_of, set_value_at, value_at};
 ghost use Rattle.starlark_hash.specs.Search.{CanSearch, Searches, keys_under};
 ghost use Rattle.starlark_hash.specs.Sorting.{Ascends, sorted_by_key};
@@ -17,7 +17,8 @@ mod search;
 
 pub(crate) use compare::same_in;
 pub(crate) use copy::clone_in;
-use growth::{UNINDEXED, index_capacity, index_last, reserve_index};
+pub(crate) use growth::UNINDEXED;
+use growth::{index_capacity, index_last, reserve_index};
 use places::{fill_index, unindex};
 use search::{find_indexed, position_indexed};
 use starlark_hash::{Equivalent, Hashed, NoRoom, StarlarkHashValue};
@@ -114,8 +115,7 @@ pub(crate) fn reserve_in<K: Eq, V>(
     ensures unchanged { OnErr result (index.new ≡ index.old) }
     ensures room { KeepsRoom (map_of entries.old index.old) (map_of entries.new index.new) }
     ensures capacity { GrowsFor (length entries.old.entries + additional) (map_of entries.old index.old) (map_of entries.new index.new) }
-    ensures kept { IsSome index.old → IsSome index.new }
-    ensures long { OnOk result (unindexed < length entries.old.entries + additional → IsSome index.new) }
+    ensures made { OnOk result (is_some index.new ≡ (is_some index.old || nat_lt unindexed (length entries.old.entries + additional))) }
 {
     if additional <= room_in(entries, index) {
         return Ok(());
@@ -140,8 +140,7 @@ fn grow_in<K: Eq, V>(
     ensures unchanged { OnErr result (index.new ≡ index.old) }
     ensures room { KeepsRoom (map_of entries.old index.old) (map_of entries.new index.new) }
     ensures capacity { GrowsFor (length entries.old.entries + additional) (map_of entries.old index.old) (map_of entries.new index.new) }
-    ensures kept { IsSome index.old → IsSome index.new }
-    ensures long { OnOk result (unindexed < length entries.old.entries + additional → IsSome index.new) }
+    ensures made { OnOk result (is_some index.new ≡ (is_some index.old || nat_lt unindexed (length entries.old.entries + additional))) }
 {
     let _capacity = entries.capacity();
     entries.reserve(additional)?;
@@ -169,7 +168,7 @@ pub(crate) fn push_in<K: Eq, V>(
     ensures spare { 0 < room_of entries.old index.old → (entries.new.capacity ≡ entries.old.capacity) × (is_some index.new ≡ is_some index.old) }
     ensures room { KeepsRoom (map_of entries.old index.old) (map_of entries.new index.new) }
     ensures capacity { GrowsFor (length entries.old.entries + 1) (map_of entries.old index.old) (map_of entries.new index.new) }
-    ensures kept { IsSome index.old → IsSome index.new }
+    ensures made { is_some index.new ≡ (is_some index.old || nat_lt unindexed (length entries.new.entries)) }
 {
     if let Err(_) = reserve_in(alloc, entries, index, 1) {
         return Err(NoRoom((key, value)));
@@ -214,7 +213,7 @@ pub(crate) fn insert_in<K: Eq + Drop, V>(
     ensures spare { 0 < room_of entries.old index.old → (entries.new.capacity ≡ entries.old.capacity) × (is_some index.new ≡ is_some index.old) }
     ensures room { KeepsRoom (map_of entries.old index.old) (map_of entries.new index.new) }
     ensures capacity { GrowsFor (length entries.old.entries + 1) (map_of entries.old index.old) (map_of entries.new index.new) }
-    ensures kept { IsSome index.old → IsSome index.new }
+    ensures made { is_some index.new ≡ (is_some index.old || nat_lt unindexed (length entries.new.entries)) }
 {
     match place_in(entries, index, key.as_ref()) {
         Some(i) => Ok(Some(replace_at(entries, i, value))),

@@ -1,5 +1,5 @@
 //! Room in the index, which is made where the list grows too long to do without.
-ghost use Rattle.std.specs.Prelude.{◌≡◌, ◌+◌, ◌<◌, ◌≤◌, ◌∷◌, [], ◌++◌, length, is_some, IsSome, OnOk, OnErr};
+ghost use Rattle.std.specs.Prelude.{◌≡◌, ◌+◌, ◌<◌, ◌≤◌, ◌∷◌, [], ◌++◌, ◌||◌, length, is_some, nat_lt, OnOk, OnErr};
 ghost use Rattle.starlark_hash.specs.Entries.{Entry, entry_hash};
 ghost use Rattle.starlark_small.specs.Index.{IsIndexed, index_room, unindexed};
 
@@ -10,7 +10,7 @@ use starlark_vecmap::VecMap;
 use std::alloc::{AllocError, Global};
 
 // The greatest length that a list may have without an index.
-pub(super) const UNINDEXED: usize = 32;
+pub(crate) const UNINDEXED: usize = 32;
 
 // The greatest capacity of a list whose index has twice the room, so that a search of it meets few other entries.
 const ROOMY: usize = 4096;
@@ -39,8 +39,7 @@ pub(super) fn reserve_index<K, V>(
     ensures room { OnOk result (additional ≤ index_room (length entries.now.entries) index.new) }
     ensures grows { index_room (length entries.now.entries) index.old ≤ index_room (length entries.now.entries) index.new }
     ensures enough { additional ≤ index_room (length entries.now.entries) index.old → index.new ≡ index.old }
-    ensures kept { IsSome index.old → IsSome index.new }
-    ensures long { OnOk result (unindexed < length entries.now.entries + additional → IsSome index.new) }
+    ensures made { OnOk result (is_some index.new ≡ (is_some index.old || nat_lt unindexed (length entries.now.entries + additional))) }
 
     ensures refused { OnErr result (index_room (length entries.now.entries) index.old < additional) }
     ensures unchanged { OnErr result (index.new ≡ index.old) }

@@ -1,10 +1,12 @@
 //! `SmallMap`s from the items of iterators.
-ghost use Rattle.std.specs.Prelude.{◌≡◌, ◌+◌, ◌≤◌, length, IfOk, IsOk, IsTrue};
+ghost use Rattle.std.specs.Prelude.{◌≡◌, ◌+◌, ◌≤◌, ◌||◌, length, nat_lt, IfOk, IsOk, OnErr};
 ghost use Rattle.std.specs.Iterator.{IsFiniteIterable, IsFinite, size};
 ghost use Rattle.starlark_small.specs.Collect.{Collects, Extends, Inserts, own_entry};
+ghost use Rattle.starlark_small.specs.Index.{unindexed};
 ghost use Rattle.starlark_small.specs.Map.{GrowsFor, KeepsRoom};
 
 use super::SmallMap;
+use crate::indexed::UNINDEXED;
 use starlark_hash::Hashed;
 use std::alloc::{AllocError, Global};
 use std::hash::Hash;
@@ -12,15 +14,16 @@ use std::hash::Hash;
 impl<K: Eq + Hash + Drop, V: Drop> SmallMap<K, V> {
     /// Inserts the items in their order, each under its key's own hash, as `insert` does. It reserves nothing, and where
     /// there is room for all of them, capacity and index stay. Where a new key is refused, the items that came before
-    /// are there, and it and the others are dropped.
+    /// are there and have used up the room, and it and the others are dropped.
     pub fn extend<I: IntoIterator<Item = (K, V)>>(&mut self, iter: I) -> Result<(), AllocError>
         requires { IsFiniteIterable I.into_iter_gives I.IntoIter.can_next I.IntoIter.remaining iter }
         ensures entries { Extends K.eq (own_entry K.hash_input) I.IntoIter.next_gives I.into_iter_gives iter self.old.entries self.new.entries result }
         ensures succeeds { ((it : _) → I.into_iter_gives iter it → size (I.IntoIter.remaining it) ≤ self.old.room) → IsOk result }
         ensures spare { ((it : _) → I.into_iter_gives iter it → size (I.IntoIter.remaining it) ≤ self.old.room) → (self.new.capacity ≡ self.old.capacity) × (self.new.indexed ≡ self.old.indexed) }
+        ensures full { OnErr result (length self.old.entries + self.old.room ≤ length self.new.entries) }
         ensures room { KeepsRoom self.old self.new }
         ensures capacity { GrowsFor (length self.new.entries + 1) self.old self.new }
-        ensures indexed { IsTrue self.old.indexed → IsTrue self.new.indexed }
+        ensures indexed { self.new.indexed ≡ (self.old.indexed || nat_lt unindexed (length self.new.entries)) }
     {
         self.insert_items(iter.into_iter())
     }
@@ -48,10 +51,12 @@ impl<K: Eq + Hash + Drop, V: Drop> SmallMap<K, V> {
         ensures entries { Inserts K.eq (own_entry K.hash_input) I.next_gives items self.old.entries self.new.entries result }
         ensures succeeds { size (I.remaining items) ≤ self.old.room → IsOk result }
         ensures spare { size (I.remaining items) ≤ self.old.room → (self.new.capacity ≡ self.old.capacity) × (self.new.indexed ≡ self.old.indexed) }
+        ensures full { OnErr result (length self.old.entries + self.old.room ≤ length self.new.entries) }
         ensures room { KeepsRoom self.old self.new }
         ensures capacity { GrowsFor (length self.new.entries + 1) self.old self.new }
-        ensures indexed { IsTrue self.old.indexed → IsTrue self.new.indexed }
+        ensures indexed { self.new.indexed ≡ (self.old.indexed || nat_lt unindexed (length self.new.entries)) }
     {
+        prove!(self.index().is_some() || self.len() <= UNINDEXED);
         while let Some(pair) = items.next() {
             let (key, value) = pair;
             match self.insert(key, value) {
@@ -88,9 +93,12 @@ impl<K: Eq + Drop, V: Drop> SmallMap<K, V> {
         requires finite { IsFinite (I.remaining items) }
         ensures entries { Inserts K.eq (λ item. item) I.next_gives items self.old.entries self.new.entries result }
         ensures succeeds { size (I.remaining items) ≤ self.old.room → IsOk result }
+        ensures full { OnErr result (length self.old.entries + self.old.room ≤ length self.new.entries) }
         ensures room { KeepsRoom self.old self.new }
         ensures capacity { GrowsFor (length self.new.entries + 1) self.old self.new }
+        ensures indexed { self.new.indexed ≡ (self.old.indexed || nat_lt unindexed (length self.new.entries)) }
     {
+        prove!(self.index().is_some() || self.len() <= UNINDEXED);
         while let Some(entry) = items.next() {
             let (key, value) = entry;
             match self.insert_hashed(key, value) {

@@ -1,5 +1,5 @@
 //! What puts entries into a `SmallMap`, and what may ask for memory.
-ghost use Rattle.std.specs.Prelude.{◌≡◌, ◌+◌, ◌<◌, ◌≤◌, length, None, IsSome, IsTrue, IfOk, IfErr, OnOk, OnErr};
+ghost use Rattle.std.specs.Prelude.{◌≡◌, ◌+◌, ◌<◌, ◌≤◌, ◌||◌, length, nat_lt, None, IsSome, IfOk, IfErr, OnOk, OnErr};
 ghost use Rattle.starlark_hash.specs.Entries.{value_at, match_of, insert_entry};
 ghost use Rattle.starlark_hash.specs.Sorting.{Ascends, sorted_by_key};
 ghost use Rattle.starlark_small.specs.Index.{unindexed};
@@ -27,12 +27,12 @@ impl<K: Eq, V> SmallMap<K, V> {
         ensures unchanged { OnErr result ((self.new.entries ≡ self.old.entries) × (self.new.indexed ≡ self.old.indexed)) }
 
         // A key that is there changes nothing but its value; with room to spare nothing grows; else the
-        // capacity and an index may.
+        // capacity may, and an index is made once the list is too long to do without.
         ensures replaced { IsSome (match_of K.eq self.old.entries (own_hashed K.hash_input key)) → self.new ≡ record self.old { entries = self.new.entries } }
         ensures spare { 0 < self.old.room → (self.new.capacity ≡ self.old.capacity) × (self.new.indexed ≡ self.old.indexed) }
         ensures room { KeepsRoom self.old self.new }
         ensures capacity { GrowsFor (length self.old.entries + 1) self.old self.new }
-        ensures indexed { IsTrue self.old.indexed → IsTrue self.new.indexed }
+        ensures indexed { self.new.indexed ≡ (self.old.indexed || nat_lt unindexed (length self.new.entries)) }
     {
         match self.insert_hashed(Hashed::new(key), value) {
             Ok(old) => Ok(old),
@@ -61,12 +61,12 @@ impl<K: Eq, V> SmallMap<K, V> {
         ensures unchanged { OnErr result ((self.new.entries ≡ self.old.entries) × (self.new.indexed ≡ self.old.indexed)) }
 
         // A key that is there changes nothing but its value; with room to spare nothing grows; else the
-        // capacity and an index may.
+        // capacity may, and an index is made once the list is too long to do without.
         ensures replaced { IsSome (match_of K.eq self.old.entries key) → self.new ≡ record self.old { entries = self.new.entries } }
         ensures spare { 0 < self.old.room → (self.new.capacity ≡ self.old.capacity) × (self.new.indexed ≡ self.old.indexed) }
         ensures room { KeepsRoom self.old self.new }
         ensures capacity { GrowsFor (length self.old.entries + 1) self.old self.new }
-        ensures indexed { IsTrue self.old.indexed → IsTrue self.new.indexed }
+        ensures indexed { self.new.indexed ≡ (self.old.indexed || nat_lt unindexed (length self.new.entries)) }
     {
         insert_in(self.alloc, &mut self.entries, &mut self.index, key, value)
     }
@@ -76,7 +76,7 @@ impl<K: Eq, V> SmallMap<K, V> {
     pub fn reserve(&mut self, additional: usize) -> Result<(), AllocError>
         ensures entries { self.new.entries ≡ self.old.entries }
         ensures ok { OnOk result (additional ≤ self.new.room) }
-        ensures long { OnOk result (unindexed < length self.old.entries + additional → IsTrue self.new.indexed) }
+        ensures indexed { OnOk result (self.new.indexed ≡ (self.old.indexed || nat_lt unindexed (length self.old.entries + additional))) }
         ensures enough { additional ≤ self.old.room → self.new ≡ self.old }
 
         ensures refused { OnErr result (self.old.room < additional) }
@@ -84,7 +84,6 @@ impl<K: Eq, V> SmallMap<K, V> {
 
         ensures room { KeepsRoom self.old self.new }
         ensures capacity { GrowsFor (length self.old.entries + additional) self.old self.new }
-        ensures indexed { IsTrue self.old.indexed → IsTrue self.new.indexed }
     {
         reserve_in(self.alloc, &mut self.entries, &mut self.index, additional)
     }

@@ -1,6 +1,7 @@
-use Rattle.std.proofs.Common.{subst, sym}
+use Rattle.std.proofs.Common.{length, subst, sym, ap, ◌∙◌}
+use Rattle.starlark_hash.proofs.EntryLemmas.{length-set_value_at}
 use Rattle.starlark_small.specs.Index.{IsSound}
-use Rattle.starlark_small.proofs.Rooms.{IsSound-set_value_at, KeepsMemory-set_value_at, map_of-set_value_at}
+use Rattle.starlark_small.proofs.Rooms.{IsSound-set_value_at, KeepsMemory-set_value_at, index_stays, map_of-set_value_at}
 use Rattle.starlark_small.proofs.indexed.insert_in.Goals as goal
 
 pub returns-in-Some-clause-sound : goal.returns-in-Some-clause-sound
@@ -13,3 +14,8 @@ returns-in-Some-clause-replaced g c = λ there. map_of-set_value_at c.args.entri
 
 pub returns-in-Some-clause-room : goal.returns-in-Some-clause-room
 returns-in-Some-clause-room g c = (KeepsMemory-set_value_at c.args.entries.now c.replace_at.new.entries c.in-Some.i c.args.value c.args.index.now c.replace_at.ensures.list).0
+
+pub returns-in-Some-clause-made : goal.returns-in-Some-clause-made
+returns-in-Some-clause-made g c =
+    let es = c.args.entries.now.entries in
+    index_stays es c.args.index.now _ c.requires.indexed (ap (λ l. length l.entries) c.replace_at.ensures.list ∙ length-set_value_at es c.in-Some.i c.args.value)

@@ -1,5 +1,7 @@
+use Rattle.std.specs.Prelude.{◌||◌, nat_lt}
 use Rattle.std.proofs.Common.{length, map, ap, ◌∙◌, arith}
 use Rattle.starlark_small.specs.Collect.{insert_all, own_entry}
+use Rattle.starlark_small.specs.Index.{unindexed}
 use Rattle.starlark_small.proofs.small_map.SmallMap.from_iter.Goals as goal
 
 pub returns-clause-map : goal.returns-clause-map
@@ -15,4 +17,5 @@ returns-clause-map g c =
       put.1 ∙ ap (λ l. insert_all g.K.PartialEq.eq l (map (own_entry g.K.Hash.hash_input) put.0)) none,
       omega (arith, c.insert_items.ensures.room, c.in_ok-map.ensures.room, ap length none),
       omega (arith, c.insert_items.ensures.capacity.1, c.in_ok-map.ensures.capacity),
+      c.in_ok-insert_items.ensures.indexed ∙ ap (λ had. had || nat_lt unindexed (length c.insert_items.new.self.entries)) c.in_ok-map.ensures.indexed,
     )

@@ -1,6 +1,8 @@
+use Rattle.std.specs.Prelude.{◌||◌, nat_lt}
 use Rattle.std.proofs.Common.{length, map, ap, ◌∙◌, arith}
 use Rattle.starlark_hash.specs.Entries.{Entry}
 use Rattle.starlark_small.specs.Collect.{insert_all}
+use Rattle.starlark_small.specs.Index.{unindexed}
 use Rattle.starlark_small.proofs.small_map.SmallMap.from_iter_hashed.Goals as goal
 
 pub returns-clause-map : goal.returns-clause-map
@@ -16,4 +18,5 @@ returns-clause-map g c =
       put.1 ∙ ap (λ l. insert_all g.K.PartialEq.eq l (map (λ (x : Entry g.row.K.Denot g.row.V.Denot). x) put.0)) none,
       omega (arith, c.insert_entries.ensures.room, c.in_ok-map.ensures.room, ap length none),
       omega (arith, c.insert_entries.ensures.capacity.1, c.in_ok-map.ensures.capacity),
+      c.in_ok-insert_entries.ensures.indexed ∙ ap (λ had. had || nat_lt unindexed (length c.insert_entries.new.self.entries)) c.in_ok-map.ensures.indexed,
     )

@@ -3,11 +3,11 @@ use Rattle.std.proofs.iter.Next as it
 use Rattle.std.proofs.lemmas.List.{length_push}
 use Rattle.std.specs.Iterator.{size}
 use Rattle.starlark_hash.specs.Entries.{Entry, insert_entry, match_of}
-use Rattle.starlark_small.proofs.Inserting.{yields_more, insert_all-push, length_insert_le, length_le_insert, room_left, grows_on}
+use Rattle.starlark_small.proofs.Inserting.{yields_more, insert_all-push, length_insert_le, length_le_insert, room_left, grows_on, indexed_on, long_is_indexed}
 use Rattle.starlark_small.proofs.small_map.SmallMap.insert_entries.Goals as goal
 
 pub loop-entry-init : goal.loop-entry-init
-loop-entry-init g c = it.begun c.requires.can c.requires.finite (refl, omega arith, omega arith, (omega arith, omega arith))
+loop-entry-init g c = it.begun c.requires.can c.requires.finite (refl, omega arith, omega arith, (omega arith, omega arith), long_is_indexed c.index.result c.args.self.now.indexed (length c.args.self.now.entries) c.index.ensures.indexed c.index.ensures.long)
 
 pub loop-entry-preserved-in-Ok : goal.loop-entry-preserved-in-Ok
 loop-entry-preserved-in-Ok g c =
@@ -22,6 +22,8 @@ loop-entry-preserved-in-Ok g c =
       omega (arith, inv.holds.1, c.insert_hashed.ensures.room),
       omega (arith, ap length c.in-Ok.ensures.entries, length_insert_le eq mid.entries (item x).0 (item x).1, inv.holds.2, length_push inv.seen x),
       grows_on first.capacity mid.capacity c.insert_hashed.new.self.capacity (length mid.entries) (length c.insert_hashed.new.self.entries) inv.holds.3 c.insert_hashed.ensures.capacity
+          (subst (λ l. length mid.entries ≤ length l) (sym c.in-Ok.ensures.entries) (length_le_insert eq mid.entries (item x).0 (item x).1)),
+      indexed_on first.indexed mid.indexed c.insert_hashed.new.self.indexed (length mid.entries) (length c.insert_hashed.new.self.entries) inv.holds.4 c.insert_hashed.ensures.indexed
           (subst (λ l. length mid.entries ≤ length l) (sym c.in-Ok.ensures.entries) (length_le_insert eq mid.entries (item x).0 (item x).1)),
     )
 
@@ -38,6 +40,8 @@ loop-entry-preserved g c =
       omega (arith, inv.holds.1, c.insert_hashed.ensures.room),
       omega (arith, ap length c.in-Ok.ensures.entries, length_insert_le eq mid.entries (item x).0 (item x).1, inv.holds.2, length_push inv.seen x),
       grows_on first.capacity mid.capacity c.insert_hashed.new.self.capacity (length mid.entries) (length c.insert_hashed.new.self.entries) inv.holds.3 c.insert_hashed.ensures.capacity
+          (subst (λ l. length mid.entries ≤ length l) (sym c.in-Ok.ensures.entries) (length_le_insert eq mid.entries (item x).0 (item x).1)),
+      indexed_on first.indexed mid.indexed c.insert_hashed.new.self.indexed (length mid.entries) (length c.insert_hashed.new.self.entries) inv.holds.4 c.insert_hashed.ensures.indexed
           (subst (λ l. length mid.entries ≤ length l) (sym c.in-Ok.ensures.entries) (length_le_insert eq mid.entries (item x).0 (item x).1)),
     )
 
@@ -74,3 +78,12 @@ returns-in-Err-clause-succeeds g c = λ fits.
     let mid = c.loop-entry.self in
     absurd (room_left (length first.entries) (length inv.seen) (length mid.entries) mid.room first.room (size (g.I.Iterator.remaining c.args.items)) (size (g.I.Iterator.remaining c.loop-entry.items))
     (size (g.I.Iterator.remaining c.next.new.self)) inv.holds.1 c.in-Err.ensures.full inv.holds.2 inv.counted (it.on c.in-Some.entry c.in-Some.is c.next.ensures.goes inv.ending).2 fits)
+
+pub returns-in-Err-clause-indexed : goal.returns-in-Err-clause-indexed
+returns-in-Err-clause-indexed g c =
+    let mid = c.loop-entry.self in
+    indexed_on c.args.self.now.indexed mid.indexed c.insert_hashed.new.self.indexed (length mid.entries) (length c.insert_hashed.new.self.entries) c.loop-entry.invariant.holds.4 c.insert_hashed.ensures.indexed
+    (subst (λ l. length mid.entries ≤ length l) (sym c.in-Err.ensures.unchanged.0) (omega arith))
+
+pub returns-in-Err-clause-full : goal.returns-in-Err-clause-full
+returns-in-Err-clause-full g c = omega (arith, c.loop-entry.invariant.holds.1, c.in-Err.ensures.full, ap length c.in-Err.ensures.unchanged.0)

@@ -4,11 +4,11 @@ use Rattle.std.proofs.lemmas.List.{length_push}
 use Rattle.std.specs.Iterator.{size}
 use Rattle.starlark_hash.specs.Entries.{Entry, insert_entry, match_of}
 use Rattle.starlark_small.specs.Collect.{own_entry}
-use Rattle.starlark_small.proofs.Inserting.{yields_more, insert_all-push, length_insert_le, length_le_insert, room_left, room_for_next, grows_on}
+use Rattle.starlark_small.proofs.Inserting.{yields_more, insert_all-push, length_insert_le, length_le_insert, room_left, room_for_next, grows_on, indexed_on, long_is_indexed}
 use Rattle.starlark_small.proofs.small_map.SmallMap.insert_items.Goals as goal
 
 pub loop-pair-init : goal.loop-pair-init
-loop-pair-init g c = it.begun c.requires.can c.requires.finite (refl, omega arith, omega arith, (omega arith, omega arith), λ had. had, λ fits. (refl, refl))
+loop-pair-init g c = it.begun c.requires.can c.requires.finite (refl, omega arith, omega arith, (omega arith, omega arith), long_is_indexed c.index.result c.args.self.now.indexed (length c.args.self.now.entries) c.index.ensures.indexed c.index.ensures.long, λ fits. (refl, refl))
 
 pub loop-pair-preserved-in-Ok : goal.loop-pair-preserved-in-Ok
 loop-pair-preserved-in-Ok g c =
@@ -27,7 +27,8 @@ loop-pair-preserved-in-Ok g c =
       omega (arith, ap length c.in-Ok.ensures.entries, length_insert_le eq mid.entries (item x).0 (item x).1, inv.holds.2, length_push inv.seen x),
       grows_on first.capacity mid.capacity c.insert.new.self.capacity (length mid.entries) (length c.insert.new.self.entries) inv.holds.3 c.insert.ensures.capacity
           (subst (λ l. length mid.entries ≤ length l) (sym c.in-Ok.ensures.entries) (length_le_insert eq mid.entries (item x).0 (item x).1)),
-      λ had. c.insert.ensures.indexed (inv.holds.4 had),
+      indexed_on first.indexed mid.indexed c.insert.new.self.indexed (length mid.entries) (length c.insert.new.self.entries) inv.holds.4 c.insert.ensures.indexed
+          (subst (λ l. length mid.entries ≤ length l) (sym c.in-Ok.ensures.entries) (length_le_insert eq mid.entries (item x).0 (item x).1)),
       λ fits. ((c.insert.ensures.spare (more fits)).0 ∙ (inv.holds.5 fits).0, (c.insert.ensures.spare (more fits)).1 ∙ (inv.holds.5 fits).1),
     )
 
@@ -48,7 +49,8 @@ loop-pair-preserved g c =
       omega (arith, ap length c.in-Ok.ensures.entries, length_insert_le eq mid.entries (item x).0 (item x).1, inv.holds.2, length_push inv.seen x),
       grows_on first.capacity mid.capacity c.insert.new.self.capacity (length mid.entries) (length c.insert.new.self.entries) inv.holds.3 c.insert.ensures.capacity
           (subst (λ l. length mid.entries ≤ length l) (sym c.in-Ok.ensures.entries) (length_le_insert eq mid.entries (item x).0 (item x).1)),
-      λ had. c.insert.ensures.indexed (inv.holds.4 had),
+      indexed_on first.indexed mid.indexed c.insert.new.self.indexed (length mid.entries) (length c.insert.new.self.entries) inv.holds.4 c.insert.ensures.indexed
+          (subst (λ l. length mid.entries ≤ length l) (sym c.in-Ok.ensures.entries) (length_le_insert eq mid.entries (item x).0 (item x).1)),
       λ fits. ((c.insert.ensures.spare (more fits)).0 ∙ (inv.holds.5 fits).0, (c.insert.ensures.spare (more fits)).1 ∙ (inv.holds.5 fits).1),
     )
 
@@ -95,3 +97,12 @@ returns-in-Err-clause-succeeds g c = λ fits.
     let mid = c.loop-pair.self in
     absurd (room_left (length first.entries) (length inv.seen) (length mid.entries) mid.room first.room (size (g.I.Iterator.remaining c.args.items)) (size (g.I.Iterator.remaining c.loop-pair.items))
     (size (g.I.Iterator.remaining c.next.new.self)) inv.holds.1 c.in-Err.ensures.full inv.holds.2 inv.counted (it.on c.in-Some.pair c.in-Some.is c.next.ensures.goes inv.ending).2 fits)
+
+pub returns-in-Err-clause-indexed : goal.returns-in-Err-clause-indexed
+returns-in-Err-clause-indexed g c =
+    let mid = c.loop-pair.self in
+    indexed_on c.args.self.now.indexed mid.indexed c.insert.new.self.indexed (length mid.entries) (length c.insert.new.self.entries) c.loop-pair.invariant.holds.4 c.insert.ensures.indexed
+    (subst (λ l. length mid.entries ≤ length l) (sym c.in-Err.ensures.unchanged.0) (omega arith))
+
+pub returns-in-Err-clause-full : goal.returns-in-Err-clause-full
+returns-in-Err-clause-full g c = omega (arith, c.loop-pair.invariant.holds.1, c.in-Err.ensures.full, ap length c.in-Err.ensures.unchanged.0)
