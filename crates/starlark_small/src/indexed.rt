@@ -69,8 +69,6 @@ pub(crate) fn find_in<K, V, F: FnMut(&K) -> bool>(
     hash: StarlarkHashValue,
     eq: F,
 ) -> Option<usize>
-where
-    F: Drop,
     requires indexed { IsIndexed entries.now.entries index.now }
     requires callable { CanSearch F.FnMut (keys_under hash entries.now.entries) eq }
     ensures { (last : F) × Searches F.FnMut (keys_under hash entries.now.entries) eq result last }

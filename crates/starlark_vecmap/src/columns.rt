@@ -17,8 +17,6 @@ pub(crate) fn search_columns<K, V, F: FnMut(&K) -> bool>(
     hash: StarlarkHashValue,
     mut accepts: F,
 ) -> Option<usize>
-where
-    F: Drop,
     requires lengths { length hashes.now ≡ length pairs.now }
     requires callable { CanSearch F.FnMut (keys_under hash (entries_in pairs.now hashes.now)) accepts }
     ensures { (last : F) × Asks F.FnMut accepts (keys_under hash (entries_in pairs.now hashes.now)) result last }

@@ -105,8 +105,6 @@ impl<K, V> VecMap<K, V> {
         hash: StarlarkHashValue,
         accepts: F,
     ) -> Option<usize>
-    where
-        F: Drop,
         requires { CanSearch F.FnMut (keys_under hash self.now.entries) accepts }
         ensures { (last : F) × Asks F.FnMut accepts (keys_under hash self.now.entries) result last }
     {

@@ -18,8 +18,6 @@ pub(super) fn find_indexed<K, V, F: FnMut(&K) -> bool>(
     hash: StarlarkHashValue,
     mut eq: F,
 ) -> Option<usize>
-where
-    F: Drop,
     requires index { IsIndexOf entries.now.entries index.now }
     requires callable { CanSearch F.FnMut (keys_under hash entries.now.entries) eq }
     ensures { (last : F) × Searches F.FnMut (keys_under hash entries.now.entries) eq result last }

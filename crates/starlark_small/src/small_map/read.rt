@@ -65,8 +65,6 @@ impl<K: Eq, V> SmallMap<K, V> {
         hash: StarlarkHashValue,
         eq: F,
     ) -> Option<usize>
-    where
-        F: Drop,
         requires { CanSearch F.FnMut (keys_under hash self.now.entries) eq }
         ensures { (last : F) × Searches F.FnMut (keys_under hash self.now.entries) eq result last }
     {
