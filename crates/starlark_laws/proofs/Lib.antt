@@ -2,3 +2,4 @@ pub mod Ordered
 pub mod Collected
 pub mod Sorted
 pub mod Inserted
+pub mod Matching

@@ -29,14 +29,15 @@ pub fn written_in_order<K: Eq + Hash + Drop, V: Drop>(
     smallmap![alloc; first.0 => first.1, second.0 => second.1, third.0 => third.1]
 }
 
-/// What `smallmap!` inserts after its reservation is never refused, so only the reservation can be.
+/// What `smallmap!` inserts after its reservation, in its order, is never refused, so only the reservation can be.
 pub fn written_with_room<K: Eq + Hash + Drop, V: Drop>(
     map: SmallMap<K, V>,
     first: (K, V),
     second: (K, V),
     third: (K, V),
 ) -> Result<SmallMap<K, V>, AllocError>
-    ensures { 3 ≤ map.room → IsOk result }
+    ensures entries { IfOk result (λ made. made.entries ≡ insert_all K.eq map.entries (own_entry K.hash_input first ∷ own_entry K.hash_input second ∷ own_entry K.hash_input third ∷ [])) }
+    ensures succeeds { 3 ≤ map.room → IsOk result }
 {
     let one = inserted(Ok(map), first.0, first.1);
     let two = inserted(one, second.0, second.1);

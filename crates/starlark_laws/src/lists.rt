@@ -1,10 +1,12 @@
 //! The laws over the definitions, for all lists of entries. By the contracts of the calls they are laws of the calls.
-ghost use Rattle.std.specs.Prelude.{◌≡◌, List, [], All, AllPairs, IsSome, IsTrue, false, reverse};
+ghost use Rattle.std.specs.Prelude.{◌≡◌, ◌↔◌, List, [], All, AllPairs, IsPermutation, IsSome, IsTrue, false, reverse};
+ghost use Rattle.std.specs.List.Sorted.{IsStableByKey};
 ghost use Rattle.std.specs.Map.{keys_of};
 ghost use Rattle.starlark_hash.specs.declared.hashed.Hashed.{Hashed};
 ghost use Rattle.starlark_hash.specs.Entries.{Entry, IsSingle, entry_hash, entry_key, insert_entry, match_of};
 ghost use Rattle.starlark_hash.specs.Hasher.{own_hash};
-ghost use Rattle.starlark_hash.specs.Sorting.{sorted_by_key};
+ghost use Rattle.starlark_hash.specs.Sorting.{Ascends, sorted_by_key};
+ghost use Rattle.starlark_laws.specs.Matches.{HasMatches};
 ghost use Rattle.starlark_small.specs.Collect.{insert_all};
 ghost use Rattle.starlark_small.specs.Compare.{same_entries};
 ghost use Rattle.starlark_vecmap.specs.Ordered.{same_ordered, ordered_feed};
@@ -24,6 +26,21 @@ pub fn reversed_twice<K: Eq, V>()
 /// Sorted twice is the same as once.
 pub fn sorted_twice<K: Ord, V>()
     ensures { (es : List (Entry K V)) → sorted_by_key K.cmp (sorted_by_key K.cmp es) ≡ sorted_by_key K.cmp es }
+{}
+
+/// What is sorted by key ascends, has the same entries, and among those with equal keys keeps their order. No other list
+/// does.
+pub fn sorted_stably<K: Ord, V>()
+    ensures ascends { (es : List (Entry K V)) → Ascends K.cmp (sorted_by_key K.cmp es) }
+    ensures rearranged { (es : List (Entry K V)) → IsPermutation es (sorted_by_key K.cmp es) }
+    ensures stable { (es : List (Entry K V)) → IsStableByKey entry_key K.cmp es (sorted_by_key K.cmp es) }
+    ensures only { (es sorted : List (Entry K V)) → Ascends K.cmp sorted → IsStableByKey entry_key K.cmp es sorted → sorted ≡ sorted_by_key K.cmp es }
+{}
+
+/// Lists in which no two entries have the same hash and equal keys have the same entries exactly where they are as long,
+/// and each entry of the one has a match in the other with an equal value.
+pub fn equal_by_matches<K: Eq, V: PartialEq>()
+    ensures { (ds es : List (Entry K V)) → IsSingle K.eq ds → IsSingle K.eq es → (IsTrue (same_entries K.eq V.eq ds es) ↔ HasMatches K.eq V.eq ds es) }
 {}
 
 /// Lists that are equal in order have the same entries.

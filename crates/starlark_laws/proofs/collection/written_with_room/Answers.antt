@@ -3,8 +3,8 @@ use Rattle.starlark_small.specs.Map.{own_hashed}
 use Rattle.starlark_laws.proofs.Inserted.{HasRoom, HasRoom-inserted, IsOk-HasRoom}
 use Rattle.starlark_laws.proofs.collection.written_with_room.Goals as goal
 
-pub returns : goal.returns
-returns g c = λ room.
+pub returns-clause-succeeds : goal.returns-clause-succeeds
+returns-clause-succeeds g c = λ room.
     let eq = g.K.PartialEq.eq in
     let feeds = g.K.Hash.hash_input in
     let one : HasRoom 2 c.inserted-one.result =
