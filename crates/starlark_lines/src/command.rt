@@ -120,7 +120,7 @@ fn cut(line: &str) -> Option<(&str, &str)>
 fn key_under<'a>(hash: &str, key: &'a str) -> Option<Hashed<TextKey<'a>>>
     ensures { IsKeyIn hash.now key.now result }
 {
-    let hash = hash_in(hash)?;
+    let hash = number_in(hash)?;
     if !is_visible(key) {
         return None;
     }
@@ -140,12 +140,12 @@ fn count_in(text: &str) -> Option<usize>
     ensures some { IfSome result (λ n. (text.now ≡ decimal n) × (n ≤ 1000000)) }
     ensures none { IfNone result ((n : ℕ) → n ≤ 1000000 → text.now ≢ decimal n) }
 {
-    let n = hash_in(text)? as usize;
+    let n = number_in(text)? as usize;
     if n <= MOST { Some(n) } else { None }
 }
 
 // The number that is written so.
-fn hash_in(text: &str) -> Option<u32>
+fn number_in(text: &str) -> Option<u32>
     ensures some { IfSome result (λ n. text.now ≡ decimal n) }
     ensures none { IfNone result ((n : ℕ) → n < 2 ^ 32 → text.now ≢ decimal n) }
 {

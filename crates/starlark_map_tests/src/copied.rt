@@ -23,6 +23,18 @@ fn clones_stand_alone(rt: HostRuntime) -> Result<(), Fail> {
     Ok(())
 }
 
+// Growing step by step would leave room for 8 and for 64.
+#[test]
+fn begins_with_room_for_the_items(rt: HostRuntime) -> Result<(), Fail> {
+    for n in [5, 40] {
+        let map = SmallMap::from_iter(rt.alloc(), (0u32..n).map(|i| (i, i)))?;
+        assert_eq!(rt; map.capacity(), n as usize, "of {n} items");
+        let map = SmallMap::from_iter_hashed(rt.alloc(), (0u32..n).map(|i| (under(i, i), i)))?;
+        assert_eq!(rt; map.capacity(), n as usize, "of {n} entries");
+    }
+    Ok(())
+}
+
 // A repeated key keeps its place and takes the last value.
 #[test]
 fn collects_items(rt: HostRuntime) -> Result<(), Fail> {

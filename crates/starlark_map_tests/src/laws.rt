@@ -41,6 +41,8 @@ fn has_the_laws_over_lists(_rt: HostRuntime) -> Result<(), Fail> {
     lists::insertion_keeps_keys::<u32, u32>();
     lists::reversed_twice::<u32, u32>();
     lists::sorted_twice::<u32, u32>();
+    lists::sorted_stably::<u32, u32>();
+    lists::equal_by_matches::<u32, u32>();
     lists::ordered_implies_equal::<u32, u32>();
     lists::ordered_implies_one_feed::<u32, u32>();
     lists::collected_is_the_list::<u32, u32>();

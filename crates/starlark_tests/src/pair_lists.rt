@@ -43,6 +43,21 @@ fn from_iter_takes_the_size_hint(rt: HostRuntime) -> Result<(), Fail> {
     list.extend((0u32..6).map(|i| (i, i)))?;
     assert_eq!(rt; list.len(), 7);
     assert_eq!(rt; list.capacity(), 8);
+    // Pushed one by one, ten more would leave room for 16.
+    let mut list = list_of(rt.alloc(), &[(1, 2)])?;
+    list.extend((0u32..10).map(|i| (i, i)))?;
+    assert_eq!(rt; list.capacity(), 11);
+    Ok(())
+}
+
+#[test]
+fn shrinks_to_the_pairs(rt: HostRuntime) -> Result<(), Fail> {
+    let mut list = list_of(rt.alloc(), &[(1, 2), (3, 4)])?;
+    list.reserve(50)?;
+    assert_eq!(rt; list.capacity(), 52);
+    list.shrink_to_fit()?;
+    assert_eq!(rt; list.capacity(), 2);
+    assert_eq!(rt; list.get(1), Some((&3, &4)));
     Ok(())
 }
 
