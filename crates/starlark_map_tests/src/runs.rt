@@ -2,7 +2,7 @@
 
 use crate::given::{tens, under};
 use starlark_hash::{Hashed, NoRoom};
-use starlark_runs::{Command, Reply, run};
+use starlark_runs::{Command, Reply, replies_agree, run};
 use starlark_small::SmallMap;
 use std::alloc::{AllocError, Global};
 use std::test::Fail;
@@ -154,5 +154,38 @@ fn replies_alike_with_an_index_and_without(rt: HostRuntime) -> Result<(), Fail> 
     let same = replies_are_right(alloc, &mut short)?;
     assert!(rt; same);
     assert!(rt; long.index().is_none());
+    Ok(())
+}
+
+fn few_commands(alloc: Global) -> Result<Vec<Command<u32, u32>>, AllocError> {
+    vec![in alloc;
+        Command::RemoveAt(2),
+        Command::Look(Hashed::new(3)),
+        Command::Reverse,
+        Command::Last,
+    ]
+}
+
+fn value_of(_key: &u32, value: &u32) -> u32 {
+    *value
+}
+
+#[test]
+fn replies_agree_on_two_maps(rt: HostRuntime) -> Result<(), Fail> {
+    let alloc = rt.alloc();
+    let mut long = tens(alloc, 40)?;
+    for _ in 0..30 {
+        long.pop();
+    }
+    let mut short = tens(alloc, 10)?;
+    let commands = few_commands(alloc)?;
+    let same = few_commands(alloc)?;
+    let (replies, others) = replies_agree(
+        alloc, &mut long, &mut short, commands, same, value_of, value_of,
+    )?;
+    assert_eq!(rt; (replies.len(), others.len()), (4, 4));
+    assert!(rt; matches!(&replies[1], Reply::Found(Some((2, 30)))));
+    assert!(rt; matches!(&others[1], Reply::Found(Some((2, 30)))));
+    assert!(rt; long == short);
     Ok(())
 }

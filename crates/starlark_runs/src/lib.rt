@@ -6,5 +6,5 @@ pub mod one_list;
 pub mod runs;
 
 pub use command::{Command, Reply};
-pub use one_list::index_never_shows;
+pub use one_list::{index_never_shows, replies_agree};
 pub use runs::run;

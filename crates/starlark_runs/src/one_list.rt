@@ -1,9 +1,12 @@
 //! The law that an index never shows in a reply.
-ghost use Rattle.std.specs.Prelude.{◌≡◌};
+ghost use Rattle.std.specs.Prelude.{◌≡◌, IfOk};
 ghost use Rattle.starlark_runs.specs.OneList.{AgreeWhere, HaveSameRuns, IsShownOnce, NoneRefused, SameRefused};
-ghost use Rattle.starlark_runs.specs.Run.{Shows};
+ghost use Rattle.starlark_runs.specs.Run.{CanShow, Shows};
 
+use crate::command::{Command, Reply};
+use crate::runs::run;
 use starlark_small::SmallMap;
+use std::alloc::{AllocError, Global};
 
 /// Two maps with the same entries have the same runs, with an index or without: what one may reply the other may, and
 /// both come to the same list. Where the same commands are refused memory on both, or none is on either, the replies
@@ -17,3 +20,29 @@ pub fn index_never_shows<K: Ord, V, R, F: Fn(&K, &V) -> R>(
     ensures same_refused { first.now.entries ≡ second.now.entries → IsShownOnce (Shows F.Fn look.now) → AgreeWhere K.eq K.cmp (Shows F.Fn look.now) SameRefused first.now.entries second.now.entries }
     ensures none_refused { first.now.entries ≡ second.now.entries → IsShownOnce (Shows F.Fn look.now) → AgreeWhere K.eq K.cmp (Shows F.Fn look.now) NoneRefused first.now.entries second.now.entries }
 {}
+
+/// Does the same commands on two maps with the same entries, of which one may have an index and the other not. Where the
+/// same commands are refused memory on both, the replies are equal, and both maps have the same entries afterwards.
+pub fn replies_agree<K: Ord + Drop, V: Drop, R: Drop, F: Fn(&K, &V) -> R>(
+    alloc: Global,
+    first: &mut SmallMap<K, V>,
+    second: &mut SmallMap<K, V>,
+    commands: Vec<Command<K, V>>,
+    same_commands: Vec<Command<K, V>>,
+    look: F,
+    same_look: F,
+) -> Result<(Vec<Reply<K, V, R>>, Vec<Reply<K, V, R>>), AllocError>
+where
+    F: Drop,
+    requires first { CanShow F.Fn K.eq K.cmp look first.old.entries commands.items }
+    requires second { CanShow F.Fn K.eq K.cmp same_look second.old.entries same_commands.items }
+    ensures { IfOk result (λ replies.
+        first.old.entries ≡ second.old.entries → commands.items ≡ same_commands.items → look ≡ same_look
+        → IsShownOnce (Shows F.Fn look) → SameRefused replies.0.items replies.1.items
+        → (replies.0.items ≡ replies.1.items) × (first.new.entries ≡ second.new.entries)) }
+{
+    index_never_shows(first, second, &look);
+    let replies = run(alloc, first, commands, look)?;
+    let others = run(alloc, second, same_commands, same_look)?;
+    Ok((replies, others))
+}
