@@ -157,13 +157,14 @@ fn replies_alike_with_an_index_and_without(rt: HostRuntime) -> Result<(), Fail> 
     Ok(())
 }
 
-fn few_commands(alloc: Global) -> Result<Vec<Command<u32, u32>>, AllocError> {
-    vec![in alloc;
+fn few_commands(alloc: Global) -> Result<Vec<Command<u32, u32>>, Fail> {
+    let commands = vec![in alloc;
         Command::RemoveAt(2),
         Command::Look(Hashed::new(3)),
         Command::Reverse,
         Command::Last,
-    ]
+    ]?;
+    Ok(commands)
 }
 
 fn value_of(_key: &u32, value: &u32) -> u32 {
