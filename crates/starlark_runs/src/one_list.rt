@@ -1,7 +1,7 @@
 //! The law that an index never shows in a reply.
 ghost use Rattle.std.specs.Prelude.{◌≡◌, IfOk};
 ghost use Rattle.starlark_runs.specs.OneList.{AgreeWhere, HaveSameRuns, IsShownOnce, NoneRefused, SameRefused};
-ghost use Rattle.starlark_runs.specs.Run.{CanShow, Shows};
+ghost use Rattle.starlark_runs.specs.Run.{CanShow, Run, Shows};
 
 use crate::command::{Command, Reply};
 use crate::runs::run;
@@ -36,7 +36,11 @@ where
     F: Drop,
     requires first { CanShow F.Fn K.eq K.cmp look first.old.entries commands.items }
     requires second { CanShow F.Fn K.eq K.cmp same_look second.old.entries same_commands.items }
-    ensures { IfOk result (λ replies.
+    ensures first_run { IfOk result (λ replies.
+        Run K.eq K.cmp (Shows F.Fn look) first.old.entries commands.items replies.0.items first.new.entries) }
+    ensures second_run { IfOk result (λ replies.
+        Run K.eq K.cmp (Shows F.Fn same_look) second.old.entries same_commands.items replies.1.items second.new.entries) }
+    ensures agree { IfOk result (λ replies.
         first.old.entries ≡ second.old.entries → commands.items ≡ same_commands.items → look ≡ same_look
         → IsShownOnce (Shows F.Fn look) → SameRefused replies.0.items replies.1.items
         → (replies.0.items ≡ replies.1.items) × (first.new.entries ≡ second.new.entries)) }

@@ -2,8 +2,8 @@ use Rattle.std.proofs.Common.{subst, sym}
 use Rattle.starlark_runs.specs.Run.{Run, Shows}
 use Rattle.starlark_runs.proofs.one_list.replies_agree.Goals as goal
 
-pub returns : goal.returns
-returns g c = λ same commands looks once refused.
+pub returns-clause-agree : goal.returns-clause-agree
+returns-clause-agree g c = λ same commands looks once refused.
     let eq = g.K.PartialEq.eq in
     let cmp = g.K.Ord.cmp in
     let start = c.args.second.now.entries in
