@@ -7,9 +7,8 @@ use std::hash::Hasher;
 use std::test::Fail;
 
 #[test]
-fn makes_the_calls(rt: HostRuntime) -> Result<(), Fail> {
-    let alloc = rt.alloc();
-    let mut map: SmallMap<u32, u32> = smallmap![alloc; 2 => 20, 1 => 10, 3 => 30]?;
+fn makes_the_calls_on_one_map(rt: HostRuntime) -> Result<(), Fail> {
+    let mut map: SmallMap<u32, u32> = smallmap![rt.alloc(); 2 => 20, 1 => 10, 3 => 30]?;
     assert_eq!(rt;
         insertion::insertion_of_a_present_key(&mut map, Hashed::new(1), 11)?,
         Some(10)
@@ -20,7 +19,13 @@ fn makes_the_calls(rt: HostRuntime) -> Result<(), Fail> {
     assert!(rt; order::sort_of_a_sorted_list(&mut map).is_ok());
     assert!(rt; map.first() == Some((&1, &11)));
     assert_eq!(rt; keys::own_hashes_tell_keys_apart(&map), 3);
-    let other = collection::written_in_order(alloc, (1, 11), (2, 20), (3, 30))?;
+    Ok(())
+}
+
+#[test]
+fn makes_the_calls_on_two_maps(rt: HostRuntime) -> Result<(), Fail> {
+    let map = collection::written_in_order(rt.alloc(), (1u32, 11u32), (2, 20), (3, 30))?;
+    let other = collection::written_in_order(rt.alloc(), (1, 11), (2, 20), (3, 30))?;
     let answers = equality::ordered_equality_is_equality(&map, &other);
     assert!(rt; answers == (true, true));
     let mut state = StarlarkHasher::new();
@@ -28,11 +33,17 @@ fn makes_the_calls(rt: HostRuntime) -> Result<(), Fail> {
     let same = equality::ordered_equality_feeds_alike(&map, &other, &mut state, &mut other_state);
     assert!(rt; same);
     assert_eq!(rt; state.finish(), other_state.finish());
-    let collected = collection::collected_anew(alloc, other)?;
-    assert!(rt; collected.eq_ordered(&map));
-    let room = SmallMap::with_capacity(alloc, 3)?;
-    let written = collection::written_with_room(room, (1u32, 11u32), (2, 20), (3, 30));
-    assert!(rt; written.is_ok_and(|written| written.len() == 3));
+    Ok(())
+}
+
+#[test]
+fn makes_the_calls_that_collect(rt: HostRuntime) -> Result<(), Fail> {
+    let room = SmallMap::with_capacity(rt.alloc(), 3)?;
+    let written = collection::written_with_room(room, (1u32, 11u32), (2, 20), (3, 30))?;
+    assert_eq!(rt; written.len(), 3);
+    let collected = collection::collected_anew(rt.alloc(), written)?;
+    let other = collection::written_in_order(rt.alloc(), (1, 11), (2, 20), (3, 30))?;
+    assert!(rt; collected.eq_ordered(&other));
     Ok(())
 }
 

@@ -99,9 +99,17 @@ fn puts_a_value_under_a_key(rt: HostRuntime) -> Result<(), Fail> {
     map.insert_hashed(under(7, 0), 0)?;
     map.insert_hashed(under(7, 1), 10)?;
     assert!(rt; put_if_there(&mut map, under(7, 1), 99) == Ok(10));
-    assert!(rt; put_if_there(&mut map, under(8, 1), 50) == Err(50));
     assert!(rt; map.get_index(0) == Some((&0, &0)));
     assert!(rt; map.get_index(1) == Some((&1, &99)));
-    assert_eq!(rt; map.len(), 2);
+    Ok(())
+}
+
+#[test]
+fn puts_no_value_under_another_hash(rt: HostRuntime) -> Result<(), Fail> {
+    let mut map: SmallMap<u32, u32> = SmallMap::with_capacity(rt.alloc(), 1)?;
+    map.insert_hashed(under(7, 1), 10)?;
+    assert!(rt; put_if_there(&mut map, under(8, 1), 50) == Err(50));
+    assert!(rt; map.get_index(0) == Some((&1, &10)));
+    assert_eq!(rt; map.len(), 1);
     Ok(())
 }

@@ -153,6 +153,14 @@ fn inserts_under_own_hashes(rt: HostRuntime) -> Result<(), Fail> {
     assert!(rt; map.contains_key(&1) && !map.contains_key(&3));
     assert!(rt; map.contains_key_hashed_by_value(Hashed::new(1u32)));
     assert!(rt; !map.contains_key_hashed(under(77, &1)));
+    Ok(())
+}
+
+#[test]
+fn writes_and_removes_under_own_hashes(rt: HostRuntime) -> Result<(), Fail> {
+    let mut map: SmallMap<u32, u32> = SmallMap::new(rt.alloc());
+    map.insert(1, 100)?;
+    map.insert(2, 20)?;
     if let Some(value) = map.get_mut(&2) {
         *value = 7;
     }

@@ -2,24 +2,40 @@
 
 use starlark_hash::TextKey;
 use starlark_small::{SmallMap, smallmap};
+use std::alloc::{AllocError, Global};
 use std::test::Fail;
 
+fn two_letters(alloc: Global) -> Result<SmallMap<u32, &'static str>, AllocError> {
+    smallmap![alloc; 1 => "a", 3 => "b"]
+}
+
 #[test]
-fn walks_twice(rt: HostRuntime) -> Result<(), Fail> {
-    let alloc = rt.alloc();
-    let map: SmallMap<u32, &str> = smallmap![alloc; 1 => "a", 3 => "b"]?;
+fn walks_pairs_twice(rt: HostRuntime) -> Result<(), Fail> {
+    let map = two_letters(rt.alloc())?;
     let pairs = map.iter();
     for mut walk in [pairs.clone()?, pairs] {
         assert!(rt; walk.next() == Some((&1, &"a")));
         assert!(rt; walk.next() == Some((&3, &"b")));
         assert!(rt; walk.next() == None);
     }
+    Ok(())
+}
+
+#[test]
+fn walks_keys_twice(rt: HostRuntime) -> Result<(), Fail> {
+    let map = two_letters(rt.alloc())?;
     let keys = map.keys();
     for mut walk in [keys.clone()?, keys] {
         assert_eq!(rt; walk.next().copied(), Some(1));
         assert_eq!(rt; walk.next().copied(), Some(3));
         assert!(rt; walk.next() == None);
     }
+    Ok(())
+}
+
+#[test]
+fn walks_values_twice(rt: HostRuntime) -> Result<(), Fail> {
+    let map = two_letters(rt.alloc())?;
     let values = map.values();
     for mut walk in [values.clone()?, values] {
         assert!(rt; walk.next() == Some(&"a"));
@@ -50,13 +66,20 @@ fn turns_texts_round(rt: HostRuntime) -> Result<(), Fail> {
 
 #[test]
 fn looks_at_few(rt: HostRuntime) -> Result<(), Fail> {
-    let alloc = rt.alloc();
-    let none: SmallMap<i8, &str> = SmallMap::new(alloc);
+    let none: SmallMap<i8, &str> = SmallMap::new(rt.alloc());
     assert!(rt; none.is_empty() && none.iter().next() == None);
-    let map: SmallMap<u32, char> = smallmap![alloc; 0 => 'a', 1 => 'b']?;
+    let map: SmallMap<u32, char> = smallmap![rt.alloc(); 0 => 'a', 1 => 'b']?;
     assert!(rt; map.get(&0u32) == Some(&'a') && map.get(&3u32) == None);
     assert!(rt; map.get_index(1) == Some((&1, &'b')) && map.get_index(2) == None);
-    assert!(rt; map == smallmap![alloc; 1 => 'b', 0 => 'a']?);
-    assert!(rt; map != smallmap![alloc; 0 => 'a', 1 => 'c']?);
+    Ok(())
+}
+
+#[test]
+fn compares_few(rt: HostRuntime) -> Result<(), Fail> {
+    let map: SmallMap<u32, char> = smallmap![rt.alloc(); 0 => 'a', 1 => 'b']?;
+    let turned = smallmap![rt.alloc(); 1 => 'b', 0 => 'a']?;
+    assert!(rt; map == turned);
+    let other = smallmap![rt.alloc(); 0 => 'a', 1 => 'c']?;
+    assert!(rt; map != other);
     Ok(())
 }

@@ -5,7 +5,7 @@ use Rattle.std.proofs.lemmas.List.{length_push}
 use Rattle.std.proofs.lemmas.Option.{same_Some}
 use Rattle.starlark_hash.specs.declared.hashed.Hashed.{Hashed}
 use Rattle.starlark_hash.specs.HashValue.{key_of}
-use Rattle.starlark_hash.specs.Entries.{Entry, pair_of, set_value_at}
+use Rattle.starlark_hash.specs.Entries.{Entry, entry_value, pair_of, set_value_at, value_at}
 use Rattle.starlark_hash.proofs.EntryLemmas.{length-set_value_at}
 use Rattle.starlark_small.specs.Insertion.{IsInserted}
 use Rattle.starlark_small.specs.Map.{Map}
@@ -20,7 +20,7 @@ module _ {K V : Type 0} where
   pushed_value [] key v w = refl
   pushed_value (e ∷ es) key v w = ap (λ l. e ∷ l) (pushed_value es key v w)
 
-  pub pushed_last : (es : List (Entry K V)) (key : Hashed K) (v : V) → slice_get (es ++ (key, v) ∷ []) (length es) ≡ Some (key, v)
+  pushed_last : (es : List (Entry K V)) (key : Hashed K) (v : V) → slice_get (es ++ (key, v) ∷ []) (length es) ≡ Some (key, v)
   pushed_last [] key v = refl
   pushed_last (e ∷ es) key v = pushed_last es key v
 
@@ -36,6 +36,9 @@ module _ {K V : Type 0} (old new : Map K V) (key : Hashed K) (value : V) (i : �
     capacity = put.capacity;
     indexed = put.indexed;
   }
+
+  pub value_inserted : (v : V) → value_at new.entries (Some i) ≡ Some v → v ≡ value
+  value_inserted v e = same_Some v value (sym e ∙ (λ j. value_at (put.entries j) (Some (at_end j))) ∙ ap (option_map entry_value) (pushed_last old.entries key value))
 
   pub inserted_shown : (k : K) (v : V) → option_map pair_of (slice_get new.entries i) ≡ Some (k, v) → (k ≡ key_of key) × (v ≡ value)
   inserted_shown k v e =

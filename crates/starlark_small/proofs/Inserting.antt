@@ -18,10 +18,14 @@ yields_more steps s t u (y ∷ ys) x (j, first, rest) step = (j, first, yields_m
 
 module _ {K V : Type 0} (eq : K → K → Bool) where
   -- one entry more was inserted
-  pub insert_all-push : {A : Type 0} (item : A → Entry K V) (es : List (Entry K V)) (xs : List A) (x : A)
+  insert_all-push : {A : Type 0} (item : A → Entry K V) (es : List (Entry K V)) (xs : List A) (x : A)
       → insert_all eq es (map item (xs ++ x ∷ [])) ≡ insert_entry eq (insert_all eq es (map item xs)) (item x).0 (item x).1
   insert_all-push item es [] x = refl
   insert_all-push item es (y ∷ ys) x = insert_all-push item (insert_entry eq es (item y).0 (item y).1) ys x
+
+  pub insert_all_next : {A : Type 0} (item : A → Entry K V) (es : List (Entry K V)) (xs : List A) (x : A) (mid last : List (Entry K V)) → mid ≡ insert_all eq es (map item xs)
+      → last ≡ insert_entry eq mid (item x).0 (item x).1 → last ≡ insert_all eq es (map item (xs ++ x ∷ []))
+  insert_all_next item es xs x mid last before put = put ∙ ap (λ l. insert_entry eq l (item x).0 (item x).1) before ∙ sym (insert_all-push item es xs x)
 
   length_or : (es : List (Entry K V)) (key : Hashed K) (value : V) (o : Option ℕ) → length es ≤ length (option_map_or (λ i. set_value_at es i value) o (es ++ (key, value) ∷ []))
   length_or es key value None = omega (arith, length_push es (key, value))
@@ -35,9 +39,15 @@ module _ {K V : Type 0} (eq : K → K → Bool) where
   pub length_insert_le : (es : List (Entry K V)) (key : Hashed K) (value : V) → length (insert_entry eq es key value) ≤ length es + 1
   length_insert_le es key value = length_or_more es key value (match_of eq es key)
 
+  pub length_inserted_le : (es last : List (Entry K V)) (key : Hashed K) (value : V) → last ≡ insert_entry eq es key value → length last ≤ length es + 1
+  length_inserted_le es last key value put = subst (λ l. length l ≤ length es + 1) (sym put) (length_insert_le es key value)
+
   -- no entry is lost
-  pub length_le_insert : (es : List (Entry K V)) (key : Hashed K) (value : V) → length es ≤ length (insert_entry eq es key value)
+  length_le_insert : (es : List (Entry K V)) (key : Hashed K) (value : V) → length es ≤ length (insert_entry eq es key value)
   length_le_insert es key value = length_or es key value (match_of eq es key)
+
+  pub length_le_inserted : (es last : List (Entry K V)) (key : Hashed K) (value : V) → last ≡ insert_entry eq es key value → length es ≤ length last
+  length_le_inserted es last key value put = subst (λ l. length es ≤ length l) (sym put) (length_le_insert es key value)
 
 -- capacities that grow for one length, and then for one that is as great
 pub grows_on : (first mid last len len' : ℕ) → (first ≤ mid) × (mid ≤ max first (max 4 (2 * (len + 1)))) → (mid ≤ last) × (last ≤ max mid (max 4 (2 * (len + 1)))) → len ≤ len'

@@ -1,5 +1,5 @@
 -- The equality of lists of entries with no regard to order, by one look-up for each entry of one.
-use Rattle.std.proofs.Common.{◌≡◌, ℕ, suc, ◌<◌, Bool, true, false, List, [], ◌∷◌, length, get_or, Some, refl, sym, ◌∙◌, arith, eq-eqb}
+use Rattle.std.proofs.Common.{◌≡◌, ℕ, suc, ◌<◌, Bool, true, false, List, [], ◌∷◌, length, get_or, Option, Some, refl, sym, ◌∙◌, arith, eq-eqb}
 use Rattle.std.specs.Prelude.{slice_get}
 use Rattle.std.specs.List.{AllByRecursion, IsDistinct}
 use Rattle.std.specs.Option.{option_eq}
@@ -43,6 +43,11 @@ module _ {K V : Type 0} (eq : K → K → Bool) where
 module _ {K V : Type 0} (eq : K → K → Bool) (E : V → V → Bool) where
   agree-values : (ds es : List (Entry K V)) (q : Hashed K) → agree_at eq E ds es q ≡ option_eq E (lookup (alike eq q) ds) (lookup (alike eq q) es)
   agree-values ds es q = λ i. option_eq E (value_at-lookup eq ds q i) (value_at-lookup eq es q i)
+
+  -- the values of an own key agree as its own value and what was found
+  pub agree-found : IsEquivalence eq → (ds es : List (Entry K V)) (i : ℕ) (e : Entry K V) → slice_get ds i ≡ Some e → IsSingle eq ds → i < length ds → (found : Option V) (agree answer : Bool)
+      → found ≡ value_at es (match_of eq es e.0) → agree ≡ option_eq E (Some e.1) found → agree ≡ answer → agree_at eq E ds es e.0 ≡ answer
+  agree-found o ds es i e at single below found agree answer theirs is answers = (λ j. option_eq E (own_match eq o ds i e at single below j) (sym theirs j)) ∙ sym is ∙ answers
 
   pub unequal_len : (ds es : List (Entry K V)) → (length ds ≡ length es → ⊥) → false ≡ same_entries eq E ds es
   unequal_len ds es differ = refuted (same_entries eq E ds es) (λ same. differ (eqb-true (length ds) (length es) (as_long eq E ds es same)))

@@ -60,6 +60,13 @@ module _ {T : Type 0} where
       ∙ get_or-enumerate_from 0 slots q d q_in
       ∙ rw (zero-add q, get_or_default slots q d.1 None q_in) refl
 
+  -- what is read k steps past the first i lies at that distance
+  read_there : (a q i k : ℕ) (slots : List (Option (ℕ × T))) (d : ℕ × Option (ℕ × T)) (o : Option (ℕ × T))
+      → a < length slots → q < length slots → distance (length slots) a q ≡ i + k
+      → (get_or (path_from a slots i) k d).1 ≡ o → at slots q ≡ o
+  read_there a q i k slots d o a_in q_in e read =
+      sym (ap (λ s. s.1) (get_or-drop i (turn a (enumerate_from 0 slots)) k d ∙ on_path a q (i + k) slots d a_in q_in e)) ∙ read
+
   pub path-step : (a place i : ℕ) (slots : List (Option (ℕ × T))) → a < length slots → place < length slots
       → distance (length slots) a place ≡ i
       → path_from a slots i ≡ (place, at slots place) ∷ path_from a slots (i + 1)
@@ -89,9 +96,7 @@ module _ {T : Type 0} where
       rw (← length-path start slots)
       (omega (arith, simp length-drop at below)) in
       let target = step_to (length slots) start (i + 1 + k) start_in in' in
-      let read = on_path start target.0 (i + 1 + k) slots d start_in target.1 target.2 in
-      let here : at slots target.0 ≡ Some (hash, x) =
-      sym (ap (λ s. s.1) (get_or-drop (i + 1) (turn start (enumerate_from 0 slots)) k d ∙ read)) ∙ e' in
+      let here : at slots target.0 ≡ Some (hash, x) = read_there start target.0 (i + 1) k slots d (Some (hash, x)) start_in target.1 target.2 e' in
       let nearer : distance (length slots) start place < distance (length slots) start target.0 =
       omega (arith, e, target.2) in
       let from_home = nearer_from_home (length slots) (home shift hash) start place target.0 behind start_in place_in target.1 (before target.0 x here) nearer in

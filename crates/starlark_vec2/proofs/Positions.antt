@@ -14,7 +14,7 @@ use Rattle.std.proofs.lemmas.List.Sorted.{IsPermutation-map, IsPermutation-refl,
 use Rattle.std.proofs.lemmas.Option.{slice_get-get_or}
 use Rattle.starlark_hash.specs.Sorting.{sorted_by}
 use Rattle.starlark_vec2.specs.Sort.{PairRef, ComparesPairsAs}
-use Rattle.starlark_vec2.specs.Positions.{option_lt, lt_at, PutsInOrder, ComparesOptions, ComparesAt}
+use Rattle.starlark_vec2.specs.Positions.{option_lt, lt_at, PutsInOrder, ComparesPairs, ComparesOptions, ComparesAt}
 use Rattle.starlark_vec2.proofs.Sorting.{sorted_by-unique, sorted_by-map}
 
 module _ {X : Type 0} where
@@ -113,6 +113,11 @@ module _ {F G A B : Type 0} (g : Mut F (PairRef A B × (PairRef A B × Unit {0})
   pub compares_positions : (s : G) → pairs s ≡ ps → ComparesPairsAs g lt (state s) → ComparesAs g' (lt_at lt ps) s
   unfolding Each Answers
   compares_positions s same h = record { at = answers_each s same (λ us. h.at us) }
+
+-- a call at the pairs that stand at two positions
+pub compares_at : {F A B : Type 0} (g : Mut F (PairRef A B × (PairRef A B × Unit {0})) Ordering) (ps : List (A × B)) (f : F) (i j : ℕ) (x y : A × B) (r : Ordering) (f2 : F)
+    → Some x ≡ slice_get ps i → Some y ≡ slice_get ps j → ComparesPairs g f x y r f2 → ComparesAt g ps f i j r f2
+compares_at g ps f i j x y r f2 p q h = subst (λ t. t) (λ k. ComparesOptions g f (p k) (q k) r f2) h
 
 -- one more position
 pub range_with_len-more : (a n : ℕ) → range_with_len a (n + 1) ≡ range_with_len a n ++ (a + n) ∷ []

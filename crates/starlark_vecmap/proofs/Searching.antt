@@ -4,18 +4,18 @@ use Rattle.std.specs.Prelude.{◌==◌, filter, position}
 use Rattle.std.specs.List.{enumerate_from}
 use Rattle.std.specs.Option.{option_map}
 use Rattle.std.specs.Borrow.{Bor}
-use Rattle.std.specs.Fn.{Mut, Called, CalledAt, TakesAt}
+use Rattle.std.specs.Fn.{Mut, Called, CalledAt, Takes, TakesAt}
 use Rattle.std.proofs.lemmas.List.{get_or-drop, drop-drop}
 use Rattle.std.proofs.lemmas.List.Sorted.{IsPermutation-refl, IsPermutation-cons}
 use Rattle.std.proofs.lemmas.Option.{none-some}
 use Rattle.starlark_hash.specs.declared.hash_value.StarlarkHashValue.{StarlarkHashValue}
 use Rattle.starlark_hash.specs.Entries.{Entry, entry_key, is_under}
-use Rattle.starlark_hash.specs.Search.{Asks, CanSearch}
+use Rattle.starlark_hash.specs.Search.{Asks, CanSearch, keys_under}
 use Rattle.starlark_hash.proofs.PositionLemmas.{position-cons}
 use Rattle.starlark_vecmap.specs.EntryList.{entries_in, entry_of}
 
 -- a call at a reference, as a call at what it points to
-pub called_at : {F X R : Type 0} (g : Mut F (Bor X × Unit {0}) R) (f later : F) (p : Bor X) (x : X) (r : R) → p.now ≡ x → Called g f (p, tt) r later → CalledAt g f x r later
+called_at : {F X R : Type 0} (g : Mut F (Bor X × Unit {0}) R) (f later : F) (p : Bor X) (x : X) (r : R) → p.now ≡ x → Called g f (p, tt) r later → CalledAt g f x r later
 called_at g f later p x r is called = record { shown = p; shows = is; called = called }
 
 module _ {F N X : Type 0} (g : Mut F (Bor X × Unit {0}) Bool) where
@@ -28,19 +28,19 @@ module _ {F N X : Type 0} (g : Mut F (Bor X × Unit {0}) Bool) where
     ready : Searching all first f (p ∷ left)
     ready = subst (λ ps. Searching all first f ps) leads s
 
-    pub searching_asks : TakesAt g f p.1
+    searching_asks : TakesAt g f p.1
     searching_asks = ready.callable.at [] p left f (IsPermutation-refl (p ∷ left)) refl
 
-    pub searching_refused : (next : F) → CalledAt g f p.1 false next → Searching all first next left
+    searching_refused : (next : F) → CalledAt g f p.1 false next → Searching all first next left
     searching_refused next refused = record {
       callable = record { at = λ before q after later moves refuses. ready.callable.at (p ∷ before) q after later (IsPermutation-cons p left (before ++ q ∷ after) moves) (next, refused, refuses) };
       rest = λ answer last asks. ready.rest answer last (false, next, refused, asks);
     }
 
-    pub searching_accepts : (last : F) → CalledAt g f p.1 true last → Asks g first all (Some p.0) last
+    searching_accepts : (last : F) → CalledAt g f p.1 true last → Asks g first all (Some p.0) last
     searching_accepts last accepted = ready.rest (Some p.0) last (true, last, accepted, (refl, refl))
 
-  pub searching_ends : (all keys : List (N × X)) (first f : F) → Searching all first f keys → keys ≡ [] → Asks g first all None f
+  searching_ends : (all keys : List (N × X)) (first f : F) → Searching all first f keys → keys ≡ [] → Asks g first all None f
   searching_ends all keys first f s none = (subst (λ ps. Searching all first f ps) none s).rest None f (refl, refl)
 
 -- the first hash is the one that is looked for, or one of the later ones is
@@ -110,7 +110,7 @@ module _ {K V : Type 0} (hash : StarlarkHashValue) where
 
   module _ (pairs : List (K × V)) (hashes : List ℕ) (i : ℕ) where
     -- the keys from i on, where the next one stands at this place
-    pub next-Some : (place : ℕ) (pair : K × V) → length hashes ≡ length pairs → option_map (λ skipped. i + skipped) (position (λ h. h == hash.0) (drop i hashes)) ≡ Some place → pair ≡ get_or pairs place pair
+    next-Some : (place : ℕ) (pair : K × V) → length hashes ≡ length pairs → option_map (λ skipped. i + skipped) (position (λ h. h == hash.0) (drop i hashes)) ≡ Some place → pair ≡ get_or pairs place pair
         → keys_from i (drop i pairs) (drop i hashes) ≡ (place, pair.0) ∷ keys_from (place + 1) (drop (place + 1) pairs) (drop (place + 1) hashes)
     next-Some place pair same found at =
         let tails : length (drop i hashes) ≡ length (drop i pairs) = omega (arith, length-drop i hashes, length-drop i pairs) in
@@ -121,5 +121,41 @@ module _ {K V : Type 0} (hash : StarlarkHashValue) where
         ∙ (λ j. (place, pair.0) ∷ keys_from (place + 1) (behind i s place skip.2 pairs j) (behind i s place skip.2 hashes j))
 
     -- and where there is none
-    pub next-None : option_map (λ skipped. i + skipped) (position (λ h. h == hash.0) (drop i hashes)) ≡ None → keys_from i (drop i pairs) (drop i hashes) ≡ []
+    next-None : option_map (λ skipped. i + skipped) (position (λ h. h == hash.0) (drop i hashes)) ≡ None → keys_from i (drop i pairs) (drop i hashes) ≡ []
     next-None none = jump-None (drop i hashes) (drop i pairs) i (not_found i (position (λ h. h == hash.0) (drop i hashes)) none)
+
+  -- a search that has come to the pair at a place, by the key that it shows there
+  module _ {F : Type 0} (g : Mut F (Bor K × Unit {0}) Bool) (first f : F) (pairs : List (K × V)) (hashes : List ℕ) (i place : ℕ) (pair : K × V)
+      (s : Searching g (keys_under hash (entries_in pairs hashes)) first f (keys_from i (drop i pairs) (drop i hashes))) (same : length hashes ≡ length pairs)
+      (found : option_map (λ skipped. i + skipped) (position (λ h. h == hash.0) (drop i hashes)) ≡ Some place) (at : pair ≡ get_or pairs place pair)
+      (shown : Bor K) (shows : shown.now ≡ (get_or pairs place pair).0) where
+    abbrev all : List (ℕ × K)
+    all = keys_under hash (entries_in pairs hashes)
+
+    abbrev here : List (ℕ × K)
+    here = keys_from i (drop i pairs) (drop i hashes)
+
+    abbrev later : List (ℕ × K)
+    later = keys_from (place + 1) (drop (place + 1) pairs) (drop (place + 1) hashes)
+
+    leads : here ≡ (place, pair.0) ∷ later
+    leads = next-Some pairs hashes i place pair same found at
+
+    its_key : shown.now ≡ pair.0
+    its_key = shows ∙ sym (ap (λ p. p.0) at)
+
+    pub place_asked : Takes g f (shown, tt)
+    place_asked = searching_asks g all here later first f (place, pair.0) s leads shown its_key
+
+    pub place_accepted : (last : F) (r : Bool) → r ≡ true → Called g f (shown, tt) r last → Asks g first all (Some place) last
+    place_accepted last r is called = searching_accepts g all here later first f (place, pair.0) s leads last (called_at g f last shown pair.0 true its_key (rw is at called))
+
+    pub place_refused : (next : F) (r : Bool) → r ≡ false → Called g f (shown, tt) r next → Searching g all first next later
+    place_refused next r is called = searching_refused g all here later first f (place, pair.0) s leads next (called_at g f next shown pair.0 false its_key (rw is at called))
+
+  -- and one that has come to the end
+  pub none_left : {F : Type 0} (g : Mut F (Bor K × Unit {0}) Bool) (first f : F) (pairs : List (K × V)) (hashes : List ℕ) (i : ℕ)
+      → Searching g (keys_under hash (entries_in pairs hashes)) first f (keys_from i (drop i pairs) (drop i hashes))
+      → option_map (λ skipped. i + skipped) (position (λ h. h == hash.0) (drop i hashes)) ≡ None → Asks g first (keys_under hash (entries_in pairs hashes)) None f
+  none_left g first f pairs hashes i s none =
+      searching_ends g (keys_under hash (entries_in pairs hashes)) (keys_from i (drop i pairs) (drop i hashes)) first f s (next-None pairs hashes i none)

@@ -5,6 +5,7 @@ use mathlib.Core.Logic.{inl, inr}
 use native.Mathlib.Nat.{suc-ne-zero}
 use mathlib.Core.List.{List, [], ◌∷◌}
 use lib.Dec.{lit<}
+use lib.ListN.{drop as drop_first}
 use seplogic.Ra.Ura.{Ura}
 use base.Fraction.{full_share}
 use base.FractionLaws.{common}
@@ -24,7 +25,7 @@ use contract.BorrowLft.{◌⊑◌, ⊑_trans, meet_⊑_left, meet_⊑_right}
 use contract.Monad.{Fun, fact, fact_i}
 use contract.Running.{tables}
 use sound.WpLaws.{FmC}
-use types.Kit.{by, ‵, raw, ◌⊛◌, some, given, later, at_ret, ◌$◌, ◌∵◌, !, qed, move, keep, drop, use0, use1, use2, use3, split, split3, join, pick, learn, fsplit, fsplit3, fjoin, suffices, frame, await, rewrite, group, done}
+use types.Kit.{Go, by, ‵, raw, ◌⊛◌, some, given, later, at_ret, ◌$◌, ◌∵◌, !, qed, move, keep, drop, use0, use1, use2, use3, split, split3, join, pick, learn, fsplit, fsplit3, fjoin, suffices, frame, await, rewrite, group, done}
 use types.Part.{whole, sub, agg}
 use types.Run.{stop, fld, hop, from, addr, lit, of_opd, and_then, no_more, first, exec, returns, enter}
 use types.ByLocal.{alloc_all, pass_all, free_all, look_at, look_in_at, get, get_in, get_tag, through, sets, sets_last, lands_as, env}
@@ -180,7 +181,7 @@ module _ (K V : RattleType) (E : Eq.Ghosts K.Denot) (dE : Dict) (P : PartialEq.G
           split ! $ split3 ! $ move ! (2 ∷ []) $ split ! $ move ! (4 ∷ []) $ fsplit3 ! $ move ! (2 ∷ []) $ fsplit3 ! $ keep ! (7 ∷ 8 ∷ 5 ∷ 3 ∷ 4 ∷ 0 ∷ 1 ∷ []) $
           -- [the tokens of κ, κK, κV; the map; the key; the value; the next]
           enter ! C Λ here (vptr b o ∷ k ∷ v ∷ s ∷ []) _ $ alloc_all ! (λ l. let En : Env 𝓤 𝓛.H = env (here).locals l in
-          pass_all ! refl ((tt, tt), (k_good, (v_good, (s_good, tt)))) $
+          pass_all {K = Go {0}} ! {E = drop_first 1 En} refl ((tt, tt), (k_good, (v_good, (s_good, tt)))) $
           sets ! (addr ! (through ! refl (stop !))) refl (tt, tt) $ sets ! (of_opd ! (get ! refl)) refl k_good $ sets ! (of_opd ! (get ! refl)) refl v_good $
           use1 𝓛 (‵ (flft κ ql) ⊛ ‵ (flft κ qr)) (𝓛.lfts.lft_split κ q) $ split ! $
           lft_new ! tt (λ α. let ακ : Lft = α ∷ κ in

@@ -1,4 +1,4 @@
-use Rattle.std.proofs.Common.{◌+◌, ◌<◌, drop, refl, sym, subst}
+use Rattle.std.proofs.Common.{◌+◌, ◌<◌, drop, get_or, Some, refl, sym, subst}
 use Rattle.std.proofs.lemmas.Fn.{called_at}
 use Rattle.std.specs.Fn.{CalledAt}
 use Rattle.starlark_table.specs.Walk.{ReplacesEach}
@@ -15,7 +15,7 @@ loop-slot-preserved g c =
         callable = takes-after_member g.F.FnMut c.args.slots.now c.loop-slot.slots c.loop-slot.slot-index c.slot-item.result c.loop-slot.f in' c.loop-slot.invariant.untouched c.loop-slot.invariant.callable
             w.in-Some.field-0-0 w.in-Some.item w.f.result c.match-slot.f w.in-Some.is
             (subst (λ f. CalledAt g.F.FnMut c.loop-slot.f w.in-Some.item w.f.result f) (sym w.f-is) (called_at g.F.FnMut w.f.ensures refl));
-        untouched = still_untouched c.args.slots.now c.loop-slot.slots c.match-slot.slots c.loop-slot.slot-index _ c.loop-slot.invariant.untouched w.slots-is;
+        untouched = still_untouched c.args.slots.now c.loop-slot.slots c.match-slot.slots c.loop-slot.slot-index (Some (w.in-Some.field-0-0, w.f.result)) c.loop-slot.invariant.untouched w.slots-is;
         done = λ rest last tail. replaces-member g.F.FnMut c.args.f c.args.slots.now c.loop-slot.slots c.match-slot.slots c.loop-slot.slot-index c.slot-item.result last c.loop-slot.f c.match-slot.f
             w.in-Some.field-0-0 w.in-Some.item w.f.result rest in' c.loop-slot.invariant.untouched w.in-Some.is w.slots-is
             (subst (λ f. CalledAt g.F.FnMut c.loop-slot.f w.in-Some.item w.f.result f) (sym w.f-is) (called_at g.F.FnMut w.f.ensures refl))
@@ -24,7 +24,7 @@ loop-slot-preserved g c =
       | in_default w ↦ record {
         callable = takes-after_empty_slot g.F.FnMut c.args.slots.now c.loop-slot.slots c.loop-slot.slot-index c.slot-item.result c.loop-slot.f in' c.loop-slot.invariant.untouched c.loop-slot.invariant.callable
             c.match-slot.f w.in_default.is w.f-is;
-        untouched = still_untouched c.args.slots.now c.loop-slot.slots c.match-slot.slots c.loop-slot.slot-index _ c.loop-slot.invariant.untouched w.slots-is;
+        untouched = still_untouched c.args.slots.now c.loop-slot.slots c.match-slot.slots c.loop-slot.slot-index (get_or c.loop-slot.slots c.loop-slot.slot-index c.slot-item.result) c.loop-slot.invariant.untouched w.slots-is;
         done = λ rest last tail. replaces-empty_slot g.F.FnMut c.args.f c.args.slots.now c.loop-slot.slots c.match-slot.slots c.loop-slot.slot-index c.slot-item.result last c.loop-slot.f c.loop-slot.f
             rest in' c.loop-slot.invariant.untouched w.in_default.is w.slots-is c.loop-slot.invariant.done
             (subst (λ f. ReplacesEach g.F.FnMut f (drop (c.loop-slot.slot-index + 1) c.args.slots.now) rest last) w.f-is tail);

@@ -1,7 +1,6 @@
-use Rattle.std.proofs.Common.{ℕ, ◌≡◌, ◌<◌, ◌==◌, Bool, false, length, arith, refl, sym, ◌∙◌, subst}
+use Rattle.std.proofs.Common.{ℕ, ◌≡◌, ◌<◌, ◌==◌, Bool, false, length, arith, refl, sym, ◌∙◌}
 use Rattle.std.proofs.lemmas.Bool.Decides.{nat_tests}
 use Rattle.std.proofs.lemmas.List.Sorted.{length_permutation}
-use Rattle.starlark_table.specs.Layout.{ReachesBefore}
 use Rattle.starlark_table.proofs.Load.{places-power, four_places, empty_slot, load-below_places}
 use Rattle.starlark_table.proofs.Settling.{reaches_before}
 use Rattle.starlark_table.proofs.walks.retain_items.Goals as goal
@@ -17,7 +16,7 @@ free_place-start-requires-clause-free g c =
 pub settle-requires-clause-reaches : goal.settle-requires-clause-reaches
 settle-requires-clause-reaches g c =
     let stand = c.keep_items-kept.ensures.stand in
-    subst (λ n. ReachesBefore n c.args.shift c.keep_items-kept.new.slots c.free_place-start.result) (sym stand.sized)
+    rw stand.sized
     (reaches_before (length c.args.slots.now) c.args.shift c.free_place-start.result c.args.slots.now c.keep_items-kept.new.slots refl
     c.free_place-start.ensures.in_range c.free_place-start.ensures.empty c.requires.in_place stand)
 

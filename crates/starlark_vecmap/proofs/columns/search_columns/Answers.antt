@@ -1,5 +1,5 @@
-use Rattle.std.proofs.Common.{sym, ap, arith}
-use Rattle.starlark_vecmap.proofs.Searching.{called_at, searching_asks, searching_refused, searching_accepts, searching_ends, next-Some, next-None}
+use Rattle.std.proofs.Common.{refl, sym, arith}
+use Rattle.starlark_vecmap.proofs.Searching.{place_asked, place_accepted, place_refused, none_left}
 use Rattle.starlark_vecmap.proofs.columns.search_columns.Goals as goal
 
 pub accepts-requires : goal.accepts-requires
@@ -7,33 +7,32 @@ accepts-requires g c =
     let at = c.loop-place in
     let pair = c.index-pairs-place in
     let found = rw c.get-number.ensures.number at (sym c.in-Some.ensures.place) in
-    let next = next-Some c.args.hash c.args.pairs.now c.args.hashes.now at.i c.in-Some.place pair.result at.invariant.lengths found pair.is in
-    searching_asks g.F.FnMut _ _ _ _ _ _ at.invariant.searching next _ (sym (ap (λ p. p.0) pair.is))
+    place_asked c.args.hash g.F.FnMut c.args.accepts at.accepts c.args.pairs.now c.args.hashes.now at.i c.in-Some.place pair.result at.invariant.searching at.invariant.lengths found pair.is _ refl
 
 pub returns-then-accepts : goal.returns-then-accepts
 returns-then-accepts g c =
     let at = c.loop-place in
     let pair = c.index-pairs-place in
-    let found = rw c.get-number.ensures.number at (sym c.in-Some.ensures.place) in
-    let next = next-Some c.args.hash c.args.pairs.now c.args.hashes.now at.i c.in-Some.place pair.result at.invariant.lengths found pair.is in
-    let called = rw c.if-accepts.true at (called_at g.F.FnMut at.accepts c.accepts.new.self _ pair.result.0 c.accepts.result (sym (ap (λ p. p.0) pair.is)) c.accepts.ensures) in
-    (c.accepts.new.self, searching_accepts g.F.FnMut _ _ _ _ _ _ at.invariant.searching next _ called)
+    let found = rw c.get-number.ensures.number at (sym c.in-Some.ensures.place) in (
+      c.accepts.new.self,
+      place_accepted c.args.hash g.F.FnMut c.args.accepts at.accepts c.args.pairs.now c.args.hashes.now at.i c.in-Some.place pair.result
+          at.invariant.searching at.invariant.lengths found pair.is _ refl c.accepts.new.self c.accepts.result c.if-accepts.true c.accepts.ensures,
+    )
 
 pub loop-place-preserved : goal.loop-place-preserved
 loop-place-preserved g c =
     let at = c.loop-place in
     let pair = c.index-pairs-place in
     let found = rw c.get-number.ensures.number at (sym c.in-Some.ensures.place) in
-    let next = next-Some c.args.hash c.args.pairs.now c.args.hashes.now at.i c.in-Some.place pair.result at.invariant.lengths found pair.is in
-    let called = rw c.if-accepts.false at (called_at g.F.FnMut at.accepts c.accepts.new.self _ pair.result.0 c.accepts.result (sym (ap (λ p. p.0) pair.is)) c.accepts.ensures) in
     record {
       within = omega (arith, c.in-Some.ensures.within);
       lengths = at.invariant.lengths;
-      searching = searching_refused g.F.FnMut _ _ _ _ _ _ at.invariant.searching next _ called;
+      searching = place_refused c.args.hash g.F.FnMut c.args.accepts at.accepts c.args.pairs.now c.args.hashes.now at.i c.in-Some.place pair.result
+          at.invariant.searching at.invariant.lengths found pair.is _ refl c.accepts.new.self c.accepts.result c.if-accepts.false c.accepts.ensures;
     }
 
 pub returns : goal.returns
 returns g c =
     let at = c.loop-place in
     let found = rw c.get-number.ensures.number at (sym c.in_default.ensures.place) in
-    (at.accepts, searching_ends g.F.FnMut _ _ _ _ at.invariant.searching (next-None c.args.hash c.args.pairs.now c.args.hashes.now at.i found))
+    (at.accepts, none_left c.args.hash g.F.FnMut c.args.accepts at.accepts c.args.pairs.now c.args.hashes.now at.i at.invariant.searching found)

@@ -15,13 +15,13 @@ returns g c =
     let list = c.self.inside.entries in
     let i = c.args.index in (
       (
-        refl,
-        λ w. map_of-set_value_at list (with_entries list (set_value_at list.entries i w)) i w c.self.inside.index refl
+        refl {a = c.get_unchecked_mut-value.result.1.ghost_name},
+        λ w. map_of-set_value_at list (with_entries list (set_value_at list.entries i w)) i w c.self.inside.index (refl {a = with_entries list (set_value_at list.entries i w)})
             ∙ ap (λ (m : Map g.row.K.Denot g.row.V.Denot). with_value_at m i w) c.self.view_is,
       ),
       record {
         writes_back = tt;
-        value = ap (λ m. option_map pair_of (slice_get m.entries i)) (sym c.self.view_is) ∙ ap (option_map pair_of) c.get_unchecked_mut-value.ensures.value
+        value = ap (λ m. option_map pair_of (slice_get m.entries i)) (sym c.self.view_is) ∙ ap (option_map pair_of) {x = slice_get list.entries i} c.get_unchecked_mut-value.ensures.value
             ∙ ap (λ k. Some (k.now, c.get_unchecked_mut-value.result.1.now)) (sym c.into_key.ensures);
       },
     )

@@ -1,5 +1,5 @@
 use Rattle.std.specs.Prelude.{◌||◌, nat_lt}
-use Rattle.std.proofs.Common.{length, map, ap, ◌∙◌, arith}
+use Rattle.std.proofs.Common.{◌≡◌, [], length, map, ap, ◌∙◌, arith}
 use Rattle.starlark_small.specs.Collect.{insert_all, own_entry}
 use Rattle.starlark_small.specs.Index.{unindexed}
 use Rattle.starlark_small.proofs.small_map.SmallMap.from_iter.Goals as goal
@@ -7,7 +7,7 @@ use Rattle.starlark_small.proofs.small_map.SmallMap.from_iter.Goals as goal
 pub returns-clause-map : goal.returns-clause-map
 returns-clause-map g c =
     let put = c.in_ok-insert_items.ensures.entries in
-    let none = c.in_ok-map.ensures.entries in (
+    let none : c.in_ok-map.map.entries ≡ [] = c.in_ok-map.ensures.entries in (
       c.into_iter-items.result,
       c.size_hint.result.0,
       put.0,

@@ -1,9 +1,9 @@
-use Rattle.std.proofs.Common.{◌≡◌, ◌≤◌, None, length, refl, sym, ap, subst, ◌∙◌, arith}
+use Rattle.std.proofs.Common.{◌≡◌, None, length, refl, sym, ap, subst, ◌∙◌, arith}
 use Rattle.std.proofs.iter.Next as it
 use Rattle.std.proofs.lemmas.List.{length_push}
 use Rattle.std.specs.Iterator.{size}
-use Rattle.starlark_hash.specs.Entries.{Entry, insert_entry, match_of}
-use Rattle.starlark_small.proofs.Inserting.{yields_more, insert_all-push, length_insert_le, length_le_insert, room_left, grows_on, indexed_on, long_is_indexed}
+use Rattle.starlark_hash.specs.Entries.{Entry, match_of}
+use Rattle.starlark_small.proofs.Inserting.{yields_more, insert_all_next, length_inserted_le, length_le_inserted, room_left, grows_on, indexed_on, long_is_indexed}
 use Rattle.starlark_small.proofs.small_map.SmallMap.insert_entries.Goals as goal
 
 pub loop-entry-init : goal.loop-entry-init
@@ -18,13 +18,13 @@ loop-entry-preserved-in-Ok g c =
     let x = c.in-Some.entry in
     let item = λ (x : Entry g.row.K.Denot g.row.V.Denot). x in
     it.again inv x c.in-Some.is (c.next.ensures.steps, c.next.ensures.goes) (
-      c.in-Ok.ensures.entries ∙ ap (λ l. insert_entry eq l (item x).0 (item x).1) inv.holds.0 ∙ sym (insert_all-push eq item first.entries inv.seen x),
+      insert_all_next eq item first.entries inv.seen x mid.entries c.insert_hashed.new.self.entries inv.holds.0 c.in-Ok.ensures.entries,
       omega (arith, inv.holds.1, c.insert_hashed.ensures.room),
-      omega (arith, ap length c.in-Ok.ensures.entries, length_insert_le eq mid.entries (item x).0 (item x).1, inv.holds.2, length_push inv.seen x),
+      omega (arith, length_inserted_le eq mid.entries c.insert_hashed.new.self.entries (item x).0 (item x).1 c.in-Ok.ensures.entries, inv.holds.2, length_push inv.seen x),
       grows_on first.capacity mid.capacity c.insert_hashed.new.self.capacity (length mid.entries) (length c.insert_hashed.new.self.entries) inv.holds.3 c.insert_hashed.ensures.capacity
-          (subst (λ l. length mid.entries ≤ length l) (sym c.in-Ok.ensures.entries) (length_le_insert eq mid.entries (item x).0 (item x).1)),
+          (length_le_inserted eq mid.entries c.insert_hashed.new.self.entries (item x).0 (item x).1 c.in-Ok.ensures.entries),
       indexed_on first.indexed mid.indexed c.insert_hashed.new.self.indexed (length mid.entries) (length c.insert_hashed.new.self.entries) inv.holds.4 c.insert_hashed.ensures.indexed
-          (subst (λ l. length mid.entries ≤ length l) (sym c.in-Ok.ensures.entries) (length_le_insert eq mid.entries (item x).0 (item x).1)),
+          (length_le_inserted eq mid.entries c.insert_hashed.new.self.entries (item x).0 (item x).1 c.in-Ok.ensures.entries),
     )
 
 pub loop-entry-preserved : goal.loop-entry-preserved
@@ -36,13 +36,13 @@ loop-entry-preserved g c =
     let x = c.in-Some.entry in
     let item = λ (x : Entry g.row.K.Denot g.row.V.Denot). x in
     it.again inv x c.in-Some.is (c.next.ensures.steps, c.next.ensures.goes) (
-      c.in-Ok.ensures.entries ∙ ap (λ l. insert_entry eq l (item x).0 (item x).1) inv.holds.0 ∙ sym (insert_all-push eq item first.entries inv.seen x),
+      insert_all_next eq item first.entries inv.seen x mid.entries c.insert_hashed.new.self.entries inv.holds.0 c.in-Ok.ensures.entries,
       omega (arith, inv.holds.1, c.insert_hashed.ensures.room),
-      omega (arith, ap length c.in-Ok.ensures.entries, length_insert_le eq mid.entries (item x).0 (item x).1, inv.holds.2, length_push inv.seen x),
+      omega (arith, length_inserted_le eq mid.entries c.insert_hashed.new.self.entries (item x).0 (item x).1 c.in-Ok.ensures.entries, inv.holds.2, length_push inv.seen x),
       grows_on first.capacity mid.capacity c.insert_hashed.new.self.capacity (length mid.entries) (length c.insert_hashed.new.self.entries) inv.holds.3 c.insert_hashed.ensures.capacity
-          (subst (λ l. length mid.entries ≤ length l) (sym c.in-Ok.ensures.entries) (length_le_insert eq mid.entries (item x).0 (item x).1)),
+          (length_le_inserted eq mid.entries c.insert_hashed.new.self.entries (item x).0 (item x).1 c.in-Ok.ensures.entries),
       indexed_on first.indexed mid.indexed c.insert_hashed.new.self.indexed (length mid.entries) (length c.insert_hashed.new.self.entries) inv.holds.4 c.insert_hashed.ensures.indexed
-          (subst (λ l. length mid.entries ≤ length l) (sym c.in-Ok.ensures.entries) (length_le_insert eq mid.entries (item x).0 (item x).1)),
+          (length_le_inserted eq mid.entries c.insert_hashed.new.self.entries (item x).0 (item x).1 c.in-Ok.ensures.entries),
     )
 
 pub returns-in-Err-clause-entries : goal.returns-in-Err-clause-entries
@@ -51,7 +51,7 @@ returns-in-Err-clause-entries g c =
     let eq = g.K.PartialEq.eq in
     let x = c.in-Some.entry in
     let item = λ (x : Entry g.row.K.Denot g.row.V.Denot). x in
-    let stays = c.in-Err.ensures.unchanged.0 in (
+    let stays : c.insert_hashed.new.self.entries ≡ c.loop-entry.self.entries = c.in-Err.ensures.unchanged.0 in (
       inv.seen,
       stays ∙ inv.holds.0,
       (
@@ -69,7 +69,7 @@ pub returns-in-Err-clause-capacity : goal.returns-in-Err-clause-capacity
 returns-in-Err-clause-capacity g c =
     let mid = c.loop-entry.self in
     grows_on c.args.self.now.capacity mid.capacity c.insert_hashed.new.self.capacity (length mid.entries) (length c.insert_hashed.new.self.entries) c.loop-entry.invariant.holds.3 c.insert_hashed.ensures.capacity
-    (subst (λ l. length mid.entries ≤ length l) (sym c.in-Err.ensures.unchanged.0) (omega arith))
+    (omega (arith, ap length {x = c.insert_hashed.new.self.entries} {y = mid.entries} c.in-Err.ensures.unchanged.0))
 
 pub returns-in-Err-clause-succeeds : goal.returns-in-Err-clause-succeeds
 returns-in-Err-clause-succeeds g c = λ fits.
@@ -83,7 +83,7 @@ pub returns-in-Err-clause-indexed : goal.returns-in-Err-clause-indexed
 returns-in-Err-clause-indexed g c =
     let mid = c.loop-entry.self in
     indexed_on c.args.self.now.indexed mid.indexed c.insert_hashed.new.self.indexed (length mid.entries) (length c.insert_hashed.new.self.entries) c.loop-entry.invariant.holds.4 c.insert_hashed.ensures.indexed
-    (subst (λ l. length mid.entries ≤ length l) (sym c.in-Err.ensures.unchanged.0) (omega arith))
+    (omega (arith, ap length {x = c.insert_hashed.new.self.entries} {y = mid.entries} c.in-Err.ensures.unchanged.0))
 
 pub returns-in-Err-clause-full : goal.returns-in-Err-clause-full
-returns-in-Err-clause-full g c = omega (arith, c.loop-entry.invariant.holds.1, c.in-Err.ensures.full, ap length c.in-Err.ensures.unchanged.0)
+returns-in-Err-clause-full g c = omega (arith, c.loop-entry.invariant.holds.1, c.in-Err.ensures.full, ap length {x = c.insert_hashed.new.self.entries} {y = c.loop-entry.self.entries} c.in-Err.ensures.unchanged.0)

@@ -2,9 +2,9 @@ use Rattle.std.proofs.Common.{◌≡◌, ◌≤◌, None, length, refl, sym, ap,
 use Rattle.std.proofs.iter.Next as it
 use Rattle.std.proofs.lemmas.List.{length_push}
 use Rattle.std.specs.Iterator.{size}
-use Rattle.starlark_hash.specs.Entries.{Entry, insert_entry, match_of}
+use Rattle.starlark_hash.specs.Entries.{Entry, match_of}
 use Rattle.starlark_small.specs.Collect.{own_entry}
-use Rattle.starlark_small.proofs.Inserting.{yields_more, insert_all-push, length_insert_le, length_le_insert, room_left, room_for_next, grows_on, indexed_on, long_is_indexed}
+use Rattle.starlark_small.proofs.Inserting.{yields_more, insert_all_next, length_inserted_le, length_le_inserted, room_left, room_for_next, grows_on, indexed_on, long_is_indexed}
 use Rattle.starlark_small.proofs.small_map.SmallMap.insert_items.Goals as goal
 
 pub loop-pair-init : goal.loop-pair-init
@@ -22,13 +22,13 @@ loop-pair-preserved-in-Ok g c =
     (size (g.I.Iterator.remaining c.args.items)) (size (g.I.Iterator.remaining c.loop-pair.items)) (size (g.I.Iterator.remaining c.next.new.self))
     inv.holds.1 inv.holds.2 inv.counted (it.on x c.in-Some.is c.next.ensures.goes inv.ending).2 fits in
     it.again inv x c.in-Some.is (c.next.ensures.steps, c.next.ensures.goes) (
-      c.in-Ok.ensures.entries ∙ ap (λ l. insert_entry eq l (item x).0 (item x).1) inv.holds.0 ∙ sym (insert_all-push eq item first.entries inv.seen x),
+      insert_all_next eq item first.entries inv.seen x mid.entries c.insert.new.self.entries inv.holds.0 c.in-Ok.ensures.entries,
       omega (arith, inv.holds.1, c.insert.ensures.room),
-      omega (arith, ap length c.in-Ok.ensures.entries, length_insert_le eq mid.entries (item x).0 (item x).1, inv.holds.2, length_push inv.seen x),
+      omega (arith, length_inserted_le eq mid.entries c.insert.new.self.entries (item x).0 (item x).1 c.in-Ok.ensures.entries, inv.holds.2, length_push inv.seen x),
       grows_on first.capacity mid.capacity c.insert.new.self.capacity (length mid.entries) (length c.insert.new.self.entries) inv.holds.3 c.insert.ensures.capacity
-          (subst (λ l. length mid.entries ≤ length l) (sym c.in-Ok.ensures.entries) (length_le_insert eq mid.entries (item x).0 (item x).1)),
+          (length_le_inserted eq mid.entries c.insert.new.self.entries (item x).0 (item x).1 c.in-Ok.ensures.entries),
       indexed_on first.indexed mid.indexed c.insert.new.self.indexed (length mid.entries) (length c.insert.new.self.entries) inv.holds.4 c.insert.ensures.indexed
-          (subst (λ l. length mid.entries ≤ length l) (sym c.in-Ok.ensures.entries) (length_le_insert eq mid.entries (item x).0 (item x).1)),
+          (length_le_inserted eq mid.entries c.insert.new.self.entries (item x).0 (item x).1 c.in-Ok.ensures.entries),
       λ fits. ((c.insert.ensures.spare (more fits)).0 ∙ (inv.holds.5 fits).0, (c.insert.ensures.spare (more fits)).1 ∙ (inv.holds.5 fits).1),
     )
 
@@ -44,13 +44,13 @@ loop-pair-preserved g c =
     (size (g.I.Iterator.remaining c.args.items)) (size (g.I.Iterator.remaining c.loop-pair.items)) (size (g.I.Iterator.remaining c.next.new.self))
     inv.holds.1 inv.holds.2 inv.counted (it.on x c.in-Some.is c.next.ensures.goes inv.ending).2 fits in
     it.again inv x c.in-Some.is (c.next.ensures.steps, c.next.ensures.goes) (
-      c.in-Ok.ensures.entries ∙ ap (λ l. insert_entry eq l (item x).0 (item x).1) inv.holds.0 ∙ sym (insert_all-push eq item first.entries inv.seen x),
+      insert_all_next eq item first.entries inv.seen x mid.entries c.insert.new.self.entries inv.holds.0 c.in-Ok.ensures.entries,
       omega (arith, inv.holds.1, c.insert.ensures.room),
-      omega (arith, ap length c.in-Ok.ensures.entries, length_insert_le eq mid.entries (item x).0 (item x).1, inv.holds.2, length_push inv.seen x),
+      omega (arith, length_inserted_le eq mid.entries c.insert.new.self.entries (item x).0 (item x).1 c.in-Ok.ensures.entries, inv.holds.2, length_push inv.seen x),
       grows_on first.capacity mid.capacity c.insert.new.self.capacity (length mid.entries) (length c.insert.new.self.entries) inv.holds.3 c.insert.ensures.capacity
-          (subst (λ l. length mid.entries ≤ length l) (sym c.in-Ok.ensures.entries) (length_le_insert eq mid.entries (item x).0 (item x).1)),
+          (length_le_inserted eq mid.entries c.insert.new.self.entries (item x).0 (item x).1 c.in-Ok.ensures.entries),
       indexed_on first.indexed mid.indexed c.insert.new.self.indexed (length mid.entries) (length c.insert.new.self.entries) inv.holds.4 c.insert.ensures.indexed
-          (subst (λ l. length mid.entries ≤ length l) (sym c.in-Ok.ensures.entries) (length_le_insert eq mid.entries (item x).0 (item x).1)),
+          (length_le_inserted eq mid.entries c.insert.new.self.entries (item x).0 (item x).1 c.in-Ok.ensures.entries),
       λ fits. ((c.insert.ensures.spare (more fits)).0 ∙ (inv.holds.5 fits).0, (c.insert.ensures.spare (more fits)).1 ∙ (inv.holds.5 fits).1),
     )
 
@@ -60,7 +60,7 @@ returns-in-Err-clause-entries g c =
     let eq = g.K.PartialEq.eq in
     let x = c.in-Some.pair in
     let item : g.row.K.Denot × g.row.V.Denot → Entry g.row.K.Denot g.row.V.Denot = own_entry g.K.Hash.hash_input in
-    let stays = c.in-Err.ensures.unchanged.0 in (
+    let stays : c.insert.new.self.entries ≡ c.loop-pair.self.entries = c.in-Err.ensures.unchanged.0 in (
       inv.seen,
       stays ∙ inv.holds.0,
       (
@@ -78,7 +78,7 @@ pub returns-in-Err-clause-capacity : goal.returns-in-Err-clause-capacity
 returns-in-Err-clause-capacity g c =
     let mid = c.loop-pair.self in
     grows_on c.args.self.now.capacity mid.capacity c.insert.new.self.capacity (length mid.entries) (length c.insert.new.self.entries) c.loop-pair.invariant.holds.3 c.insert.ensures.capacity
-    (subst (λ l. length mid.entries ≤ length l) (sym c.in-Err.ensures.unchanged.0) (omega arith))
+    (omega (arith, ap length {x = c.insert.new.self.entries} {y = mid.entries} c.in-Err.ensures.unchanged.0))
 
 pub returns-in-Err-clause-spare : goal.returns-in-Err-clause-spare
 returns-in-Err-clause-spare g c = λ fits.
@@ -102,7 +102,7 @@ pub returns-in-Err-clause-indexed : goal.returns-in-Err-clause-indexed
 returns-in-Err-clause-indexed g c =
     let mid = c.loop-pair.self in
     indexed_on c.args.self.now.indexed mid.indexed c.insert.new.self.indexed (length mid.entries) (length c.insert.new.self.entries) c.loop-pair.invariant.holds.4 c.insert.ensures.indexed
-    (subst (λ l. length mid.entries ≤ length l) (sym c.in-Err.ensures.unchanged.0) (omega arith))
+    (omega (arith, ap length {x = c.insert.new.self.entries} {y = mid.entries} c.in-Err.ensures.unchanged.0))
 
 pub returns-in-Err-clause-full : goal.returns-in-Err-clause-full
-returns-in-Err-clause-full g c = omega (arith, c.loop-pair.invariant.holds.1, c.in-Err.ensures.full, ap length c.in-Err.ensures.unchanged.0)
+returns-in-Err-clause-full g c = omega (arith, c.loop-pair.invariant.holds.1, c.in-Err.ensures.full, ap length {x = c.insert.new.self.entries} {y = c.loop-pair.self.entries} c.in-Err.ensures.unchanged.0)

@@ -1,8 +1,6 @@
-use Rattle.std.proofs.Common.{Some, refl, sym, ap, ◌∙◌}
-use Rattle.std.specs.Option.{option_map}
-use Rattle.std.proofs.lemmas.Option.{same_Some}
-use Rattle.starlark_hash.specs.Entries.{entry_value, value_at}
-use Rattle.starlark_small.proofs.Inserted.{inserted_written, pushed_last}
+use mathlib.Core.Option.{some}
+use Rattle.std.proofs.Common.{refl}
+use Rattle.starlark_small.proofs.Inserted.{inserted_written, value_inserted}
 use Rattle.starlark_small.proofs.small_map.SmallMap.insert_new.Goals as goal
 
 pub returns-in-Ok : goal.returns-in-Ok
@@ -11,11 +9,10 @@ returns-in-Ok g c =
     let new = c.push.new.self in
     let i = c.in-Ok.ensures.place in
     let put = c.in-Ok.ensures.inserted in (
-      (refl, λ w. inserted_written old new c.args.key c.args.value c.in-Ok.index i put w, tt),
+      (refl {a = some c.value_at_mut.result.ghost_name}, λ w. inserted_written old new c.args.key c.args.value c.in-Ok.index i put w, tt),
       record {
         writes_back = tt;
-        value = same_Some c.value_at_mut.result.now c.args.value
-            (sym c.value_at_mut.ensures.value ∙ (λ j. value_at (put.entries j) (Some (i j))) ∙ ap (option_map entry_value) (pushed_last old.entries c.args.key c.args.value));
+        value = value_inserted old new c.args.key c.args.value c.in-Ok.index i put c.value_at_mut.result.now c.value_at_mut.ensures.value;
         full = tt;
         handed_back = tt;
       },

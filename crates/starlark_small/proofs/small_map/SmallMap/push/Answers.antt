@@ -23,7 +23,7 @@ returns-clause-refused g c =
     rw (← c.self.view_is)
     (on_err_weaker c.push_in.result (λ same. record {
       entries = same.0;
-      indexed = ap is_some same.1;
+      indexed = ap is_some {x = c.push_in.new.index} {y = c.self.inside.index} same.1;
       room = put.room;
       capacity = put.capacity;
     }) put.unchanged)

@@ -15,7 +15,7 @@ returns g c =
     let slots = c.self.inside.slots.items in
     let slot = c.args.slot in
     let below = some_in_range slots slot (rw (← c.self.view_is) at c.requires) in (
-      (refl, λ w. table-with_item w slots slot c.self.inside.len c.index_mut.result.now c.args.self.now c.index_mut.ensures.value below c.self.view_is),
+      (refl {a = c.item_mut.result.ghost_name}, λ w. table-with_item w slots slot c.self.inside.len c.index_mut.result.now c.args.self.now c.index_mut.ensures.value below c.self.view_is),
       record {
         writes_back = tt;
         value = ap (λ t. item_in t slot) (sym c.self.view_is)

@@ -11,20 +11,21 @@ use mir.Syntax.{Fn, Args, a_type, named, w64}
 use mir.MapTy.{inst_fn}
 use mir.Val.{Val, vint, vptr, vstruct, vcons, vnil}
 use base.Logic.{SProp, ent, id⊢}
-use base.Fml.{Lft, GName, Share, Incl-trans, ftrue, flft}
+use base.Fml.{Lft, GName, Share, Incl-trans, ftrue, flft, fobs, fauth, fobor}
 use prog.Memory.{Memory}
 use prog.Routine.{Routine}
 use prog.Wp.{Env, Calls, Loops, WpFn, Tables}
 use types.Logic.{Logic}
+use types.SemTy.{Body}
 use contract.BorrowLft.{◌⊑◌}
 use contract.Lifetimes.{Lfts, AllOutlive}
 use contract.Monad.{Fun, fact}
 use contract.Running.{tables, tables_of}
 use sound.WpLaws.{WpFn-mono}
-use types.Kit.{‵, raw, ◌⊛◌, some, later, at_ret, ◌$◌, ◌∵◌, !, qed, move, keep, drop, use2, split, split3, join, pick, fsplit, fsplit3, fjoin, fjoin3, feq_i, rewrite, suffices, frame, await, done}
+use types.Kit.{Item, ‵, raw, ◌⊛◌, some, later, at_ret, ◌$◌, ◌∵◌, !, qed, move, keep, drop, use2, split, split3, join, pick, fsplit, fsplit3, fjoin, fjoin3, feq_i, rewrite, suffices, frame, await, done}
 use types.Part.{whole, sub, look_in, agg}
 use types.Run.{size_word, stop, fld, load, of_opd, bin, addr, and_then, no_more, first, blocks, exec, returns, enter}
-use types.ByLocal.{alloc_all, pass_all, free_all, look_at, get, through, sets, sets_last, is, env}
+use types.ByLocal.{alloc_all, pass_all, free_all, look_at, get, through, sets, sets_last, is, env, holding}
 use denote.Builtin.{usize}
 use denote.Exit.{yes}
 use denote.Laws.{shows}
@@ -39,6 +40,8 @@ use denote.Shadow.{pure_l, pure_i}
 use denote.Signature.{plain, types_at, named_lft}
 use denote.Slice.{Room, room}
 use denote.Steps.{nothing, heard, peeks, opens, closes}
+use denote.Struct.Owning.{shape}
+use denote.Struct.Struct.{Struct}
 use denote.Struct.Tuple.{Tuple}
 use denote.Triple.Clauses.{Clauses, Ended, closing}
 use denote.Triple.Spec.{Meets, triple_of}
@@ -105,6 +108,17 @@ module _ (A B : RattleType) where
       abbrev Post : Val → SProp 𝓤
       Post = (walk_of 𝓛 ended stayed spec).post bound
 
+      -- the tokens and the locals, behind self
+      abbrev kept : (ℕ → ℕ) → List (Item 𝓤)
+      kept l = ‵ (flft κ' q') ∷ ‵ (flft κA qA) ∷ ‵ (flft κB qB) ∷ holding 𝓛 (env here.locals l) ((1, vptr rb ro) ∷ (2, vint w64 i) ∷ [])
+
+      -- self's parts, the tokens and the locals, behind the run, once there is a pointer to the pair
+      abbrev found : (ℕ → ℕ) → List Val → (b o : ℕ) → List (Item 𝓤)
+      found l vs b o =
+          ‵ ((Struct (shape (L-type.the_type (named_lft 4 1 tt κs) K V))).own_val (d.start, (tt, tt)) vs) ∷ ‵ (cell_at full_share (It κs).mir vs rb ro) ∷ ‵ (fobor κ q (Body (mem (It κs)) rb ro γ))
+          ∷ ‵ (fobs γ ((It κs).coded.code d)) ∷ ‵ (fauth γ ((It κs).coded.code d)) ∷ ‵ (flft κA qA) ∷ ‵ (flft κB qB)
+          ∷ holding 𝓛 (env here.locals l) ((1, vptr rb ro) ∷ (2, vint w64 i) ∷ (3, vptr b (i * (mem P).size + o)) ∷ (5, vptr b o) ∷ (6, vint w64 (i * (mem P).size)) ∷ [])
+
       walk : ent 𝓤 ((walk_of 𝓛 ended stayed spec).pre bound) (WpFn 𝓤 H C Λ here (vptr rb ro ∷ vint w64 i ∷ []) Post)
       walk =
           let s : ℕ = (mem P).size in let R : RattleType = It κs in let lowers = L-laws.lowers (named_lft 4 1 tt κs) K V (param_laws 0 A LA) (param_laws 1 B LB) in
@@ -116,7 +130,7 @@ module _ (A B : RattleType) where
           enter ! C Λ here (vptr rb ro ∷ vint w64 i ∷ []) _ $
           alloc_all ! (λ l. pass_all ! refl ((tt, tt), ((tt, record { fits = fi }), tt)) $
           let En : Env 𝓤 H = env here.locals l in
-          fsplit3 ! $ drop ! $ opens ! tt R {h = d} rb ro (λ vs. move ! (1 ∷ []) $ peeks ! R _ (shows 𝓛 R) d vs (λ shown. fsplit ! $ move ! (1 ∷ 6 ∷ []) $
+          fsplit3 {Γ = ‵ (flft κ q) ∷ kept l} ! $ drop ! $ opens {Γ = kept l} ! tt R {h = d} rb ro (λ vs. move ! (1 ∷ []) $ peeks ! R _ (shows 𝓛 R) d vs (λ shown. fsplit ! $ move ! (1 ∷ 6 ∷ []) $
           in_a_block ! d.start (λ p. frozen κ' K V p d.from d.name d.rest) (id⊢ 𝓤 _) (λ b o e.
           let word = lowers.val_is d vs shown ∙ ap (λ (p : Ptr). lowers.lowered (record d { start = p }) ∷ []) e in
           let Cell = λ (ws : List Val). ‵ (cell_at full_share R.mir ws rb ro) in
@@ -132,7 +146,7 @@ module _ (A B : RattleType) where
           let fewer : Room P (suc d.from + length ps) = let n : d.from + length d.rest ≡ suc d.from + length ps = omega (arith, ap length cut.2) in subst (λ (k : ℕ). Room P k) n rm in
           rewrite ! 0 (λ (k : ℕ). ‵ (lent_run K V κ' b (k * s + o) d.name d.rest)) (sym asked.0) refl $
           rewrite ! 0 (λ (t : List One). ‵ (lent_run K V κ' b begin d.name t)) cut.2 refl $
-          use2 𝓛 (later (some (Off A B 𝓛 κ' q' b begin d.name p ps begin (begin + s)))) (first_out A B 𝓛 κ' q' b begin d.name p ps) $ await ! tt $ pick ! (λ γs. split3 ! $
+          use2 𝓛 (later (some (Off A B 𝓛 κ' q' b begin d.name p ps begin (begin + s)))) (first_out A B 𝓛 κ' q' b begin d.name p ps) $ await {Γ = found l vs b o} ! tt $ pick ! (λ γs. split3 ! $
           -- [the pair; the run; κ'; the fields; ..]
           move ! (0 ∷ 2 ∷ []) $ use2 𝓛 (later (some (Parted A B 𝓛 κ' q' b begin γs.0 LA LB (named 1) (Incl-trans bounds.1.1.1.0 la) p))) (pair_out A B 𝓛 κ' q' b begin γs.0 LA LB (named 1) (Incl-trans bounds.1.1.1.0 la) p) $ await ! tt $ pick ! (λ δ. split3 ! $
           let k : Bor A.Denot = record { ref_ptr = (b, first_at A B (i * s + o)); now = p.0 } in

@@ -11,7 +11,7 @@ returns g c =
     let even = c.self.invariant.even in
     let within = subst (λ v. c.args.index < length v.pairs) (sym c.self.view_is) c.requires in
     let count = length-zip xs ys even in (
-      (refl, λ w. ap (λ ps. pair_list ps c.self.inside.capacity) (zip-set_first xs ys c.args.index w) ∙ ap (λ v. with_pairs v (set_first_at v.pairs c.args.index w)) c.self.view_is),
+      (refl {a = c.index_mut.result.ghost_name}, λ w. ap (λ ps. pair_list ps c.self.inside.capacity) (zip-set_first xs ys c.args.index w) ∙ ap (λ v. with_pairs v (set_first_at v.pairs c.args.index w)) c.self.view_is),
       record {
         writes_back = tt;
         value = ap (λ v. slice_get (firsts_of v.pairs) c.args.index) (sym c.self.view_is) ∙ ap (λ l. slice_get l c.args.index) (firsts_of-zip xs ys even) ∙ slice_get_at xs c.args.index _ (omega arith) c.index_mut.ensures.value;

@@ -9,7 +9,7 @@ returns g c =
     let xs = c.self.inside.firsts.items in
     let ys = c.self.inside.seconds.items in
     let within = subst (λ v. c.args.index < length v.pairs) (sym c.self.view_is) c.requires in (
-      (refl, λ w. ap (λ ps. pair_list ps c.self.inside.capacity) (zip-set_second xs ys c.args.index w) ∙ ap (λ v. with_pairs v (set_second_at v.pairs c.args.index w)) c.self.view_is),
+      (refl {a = c.index_mut.result.ghost_name}, λ w. ap (λ ps. pair_list ps c.self.inside.capacity) (zip-set_second xs ys c.args.index w) ∙ ap (λ v. with_pairs v (set_second_at v.pairs c.args.index w)) c.self.view_is),
       record {
         writes_back = tt;
         value = ap (λ v. slice_get v.pairs c.args.index) (sym c.self.view_is) ∙ slice_get-zip xs ys c.args.index _ _ within c.index.ensures c.index_mut.ensures.value;

@@ -1,4 +1,4 @@
-use Rattle.std.proofs.Common.{◌≡◌, true, is_ok, length, sym, ap, ◌∙◌, arith, rules}
+use Rattle.std.proofs.Common.{◌≡◌, true, is_ok, length, sym, ap, subst, ◌∙◌, arith, rules}
 use Rattle.std.specs.Prelude.{if◌then◌else◌}
 use Rattle.std.proofs.iter.Next as it
 use Rattle.std.proofs.lemmas.List.{length_push}
@@ -12,7 +12,7 @@ loop-pair-preserved g c =
     let v = c.loop-pair.self in
     let x = c.in-Some.pair in
     let ok : is_ok c.push.result ≡ true = search (rules, c.is_err.ensures.negation, c.if-is_err.false) in
-    let pushed : c.push.new.self ≡ push v x = c.push.ensures.list ∙ ap (λ b. if b then push v x else v) ok in
+    let pushed : c.push.new.self ≡ push v x = subst (λ b. c.push.new.self ≡ if b then push v x else v) ok c.push.ensures.list in
     it.again inv x c.in-Some.is (c.next.ensures.steps, c.next.ensures.goes) (
       pushed ∙ ap (λ w. push w x) inv.holds.0 ∙ sym (push_all-push c.args.self.now inv.seen x),
       omega (arith, ap (λ w. length w.pairs) pushed, length_push v.pairs x, length_push inv.seen x, inv.holds.1),

@@ -1,4 +1,4 @@
-use Rattle.std.proofs.Common.{ap, subst, ◌∙◌, arith}
+use Rattle.std.proofs.Common.{zip, ap, subst, ◌∙◌, arith}
 use Rattle.starlark_vec2.specs.Retain.{TakesBoth, CalledAtBoth}
 use Rattle.starlark_vec2.proofs.Sieving.{sifting_asks, sifting_keeps, sifting_drops, sifting_ends}
 use Rattle.starlark_vec2.proofs.vec2.retain.sieve.Goals as goal
@@ -7,12 +7,14 @@ pub ask-requires : goal.ask-requires
 ask-requires g c =
     let at = c.loop-i in
     let more = c.loop-i-test.true in
-    sifting_asks (CalledAtBoth g.F.FnMut) (TakesBoth g.F.FnMut) _ _ at.keep at.firsts.items at.seconds.items at.kept at.i at.invariant.sifting c.index_mut.result.now c.index_mut-in-loop-i.result.now (omega arith) (omega arith) c.index_mut.ensures.value c.index_mut-in-loop-i.ensures.value
+    let ps = zip c.args.firsts.now.items c.args.seconds.now.items in
+    sifting_asks (CalledAtBoth g.F.FnMut) (TakesBoth g.F.FnMut) _ ps at.keep at.firsts.items at.seconds.items at.kept at.i at.invariant.sifting c.index_mut.result.now c.index_mut-in-loop-i.result.now (omega arith) (omega arith) c.index_mut.ensures.value c.index_mut-in-loop-i.ensures.value
 
 pub loop-i-preserved : goal.loop-i-preserved
 loop-i-preserved g c =
     let at = c.loop-i in
     let more = c.loop-i-test.true in
+    let ps = zip c.args.firsts.now.items c.args.seconds.now.items in
     let C = CalledAtBoth g.F.FnMut in
     let a = c.index_mut.result.now in
     let b = c.index_mut-in-loop-i.result.now in
@@ -33,7 +35,7 @@ loop-i-preserved g c =
             seconds_len = omega (arith, c.if-ask.seconds.ok.0);
             firsts_room = ap (λ v. v.cap) w.firsts-is ∙ w.swap.ensures.capacity ∙ at.invariant.firsts_room;
             seconds_room = ap (λ v. v.cap) w.seconds-is ∙ w.swap-then-ask.ensures.capacity ∙ at.invariant.seconds_room;
-            sifting = sifting_keeps C (TakesBoth g.F.FnMut) _ _ at.keep at.firsts.items at.seconds.items at.kept at.i at.invariant.sifting a b (omega arith) (omega arith) c.index_mut.ensures.value c.index_mut-in-loop-i.ensures.value
+            sifting = sifting_keeps C (TakesBoth g.F.FnMut) _ ps at.keep at.firsts.items at.seconds.items at.kept at.i at.invariant.sifting a b (omega arith) (omega arith) c.index_mut.ensures.value c.index_mut-in-loop-i.ensures.value
                 at.invariant.kept_before x y f c.if-ask.firsts.items c.if-ask.seconds.items c.if-ask.kept t p q r;
           }
       | goal.else-ask w ↦
@@ -49,7 +51,7 @@ loop-i-preserved g c =
             seconds_len = omega (arith, c.if-ask.seconds.ok.0);
             firsts_room = ap (λ v. v.cap) w.firsts-is ∙ at.invariant.firsts_room;
             seconds_room = ap (λ v. v.cap) w.seconds-is ∙ at.invariant.seconds_room;
-            sifting = sifting_drops C (TakesBoth g.F.FnMut) _ _ at.keep at.firsts.items at.seconds.items at.kept at.i at.invariant.sifting a b (omega arith) (omega arith) c.index_mut.ensures.value c.index_mut-in-loop-i.ensures.value
+            sifting = sifting_drops C (TakesBoth g.F.FnMut) _ ps at.keep at.firsts.items at.seconds.items at.kept at.i at.invariant.sifting a b (omega arith) (omega arith) c.index_mut.ensures.value c.index_mut-in-loop-i.ensures.value
                 at.invariant.kept_before x y f c.if-ask.firsts.items c.if-ask.seconds.items c.if-ask.kept t p q r;
           }
     ]
@@ -58,4 +60,5 @@ pub returns-clause-pairs : goal.returns-clause-pairs
 returns-clause-pairs g c =
     let at = c.loop-i in
     let done = c.loop-i-test.false in
-    sifting_ends (CalledAtBoth g.F.FnMut) (TakesBoth g.F.FnMut) _ _ at.keep at.firsts.items at.seconds.items at.kept at.i at.invariant.sifting (omega arith) _ _ c.truncate.ensures.items c.truncate-2.ensures.items
+    let ps = zip c.args.firsts.now.items c.args.seconds.now.items in
+    sifting_ends (CalledAtBoth g.F.FnMut) (TakesBoth g.F.FnMut) _ ps at.keep at.firsts.items at.seconds.items at.kept at.i at.invariant.sifting (omega arith) _ _ c.truncate.ensures.items c.truncate-2.ensures.items

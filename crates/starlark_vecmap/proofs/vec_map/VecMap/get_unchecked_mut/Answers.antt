@@ -1,8 +1,7 @@
-use Rattle.std.proofs.Common.{◌<◌, length, slice_get, get_or, Some, refl, sym, ap, ◌∙◌, arith}
+use Rattle.std.proofs.Common.{◌<◌, length, get_or, Some, sym, ap, ◌∙◌, arith}
 use Rattle.std.proofs.lemmas.List.{length-map}
 use Rattle.std.proofs.lemmas.Option.{slice_get-get_or}
 use Rattle.starlark_hash.specs.Entries.{set_value_at}
-use Rattle.starlark_hash.specs.HashValue.{hashed, hash_of, key_of}
 use Rattle.starlark_vec2.specs.PairList.{seconds_of}
 use Rattle.starlark_vecmap.specs.EntryList.{entry_list, entry_of}
 use Rattle.starlark_vecmap.proofs.Writes.{value_written, entry_read}
@@ -16,10 +15,9 @@ returns g c =
     let read = c.first_at_mut-pair.ensures.value in
     let below : i < length (seconds_of ps) = omega (arith, c.requires, ap (λ m. length m.entries) c.self.view_is, length-map ps entry_of, length-map ps (λ p. p.1)) in
     let hash = slice_get-get_or (seconds_of ps) i 0 below ∙ ap (λ l. Some (get_or l i 0)) (sym c.seconds.ensures) ∙ ap (λ n. Some n) (sym c.new_unchecked-hash.ensures) in (
-      (refl, λ w. ap (λ es. entry_list es c.self.inside.columns.capacity) (value_written ps i _ w read) ∙ ap (λ m. entry_list (set_value_at m.entries i w) m.capacity) c.self.view_is),
+      (cc, λ w. ap (λ es. entry_list es c.self.inside.columns.capacity) (value_written ps i pair w read) ∙ ap (λ m. entry_list (set_value_at m.entries i w) m.capacity) c.self.view_is),
       record {
         writes_back = tt;
-        value = ap (λ m. slice_get m.entries i) (sym c.self.view_is) ∙ entry_read ps i pair c.new_unchecked-hash.result.0 read hash
-            ∙ ap (λ r. Some (hashed (hash_of r) (key_of r).now, pair.1)) (sym c.new_unchecked.ensures);
+        value = rw (← c.self.view_is, c.new_unchecked.ensures) (entry_read ps i pair c.new_unchecked-hash.result.0 read hash);
       },
     )
