@@ -1,4 +1,4 @@
-//! Tests of maps, their runs, laws and callers, by public calls.
+//! Tests of maps, by public calls.
 #![tactic(auto)]
 
 #[cfg(test)]
@@ -12,17 +12,11 @@ mod given;
 #[cfg(test)]
 mod indexed_maps;
 #[cfg(test)]
-mod laws;
-#[cfg(test)]
-mod lending;
-#[cfg(test)]
 mod maps;
 #[cfg(test)]
 mod new_entries;
 #[cfg(test)]
 mod retained;
-#[cfg(test)]
-mod runs;
 #[cfg(test)]
 mod turned;
 #[cfg(test)]
