@@ -54,8 +54,10 @@ impl<K: Eq, V> SmallMap<K, V> {
         }
     }
 
-    // Puts a new key last under its own hash, and answers its place.
-    fn push_own(&mut self, key: K, value: V) -> Result<usize, NoRoom<(K, V)>>
+    /// Puts a new key last under its own hash, and answers its place. It is refused where there is no room and no memory
+    /// is found: then it comes back, and entries and index stay. Upstream has no such call: `insert_unique_unchecked`
+    /// lends the entry, this one counts to it.
+    pub fn push_own(&mut self, key: K, value: V) -> Result<usize, NoRoom<(K, V)>>
     where
         K: Hash,
         requires { match_of K.eq self.old.entries (own_hashed K.hash_input key) ≡ None }
@@ -71,8 +73,8 @@ impl<K: Eq, V> SmallMap<K, V> {
         }
     }
 
-    // Puts a new key last under this hash, and answers its place.
-    pub(crate) fn push(&mut self, key: Hashed<K>, value: V) -> Result<usize, NoRoom<(Hashed<K>, V)>>
+    /// Puts a new key last under this hash, and answers its place, as [`SmallMap::push_own`] does.
+    pub fn push(&mut self, key: Hashed<K>, value: V) -> Result<usize, NoRoom<(Hashed<K>, V)>>
         requires { match_of K.eq self.old.entries key ≡ None }
         ensures place { IfOk result (λ i. i ≡ length self.old.entries) }
         ensures inserted { OnOk result (IsInserted self.old key value self.new) }
