@@ -1,6 +1,6 @@
 //! Maps compared, fed to a hasher and printed.
 
-use crate::given::under;
+use crate::given::{holds, same, under};
 use starlark_hash::StarlarkHasher;
 use starlark_small::SmallMap;
 use std::alloc::Global;
@@ -22,11 +22,11 @@ fn letters<const N: usize>(
 fn compares_with_and_without_order(rt: HostRuntime) -> Result<(), Fail> {
     let map = letters(rt.alloc(), [(0, 'a'), (1, 'b')])?;
     let turned = letters(rt.alloc(), [(1, 'b'), (0, 'a')])?;
-    assert!(rt; map == turned);
-    assert!(rt; !map.eq_ordered(&turned));
-    assert!(rt; map.eq_ordered(&map));
-    assert!(rt; map != letters(rt.alloc(), [(0, 'a'), (1, 'c')])?);
-    assert!(rt; map != letters(rt.alloc(), [(0, 'a')])?);
+    holds(&rt, map == turned);
+    holds(&rt, !map.eq_ordered(&turned));
+    holds(&rt, map.eq_ordered(&map));
+    holds(&rt, map != letters(rt.alloc(), [(0, 'a'), (1, 'c')])?);
+    holds(&rt, map != letters(rt.alloc(), [(0, 'a')])?);
     Ok(())
 }
 
@@ -44,13 +44,13 @@ fn feeds_hashes_and_values(rt: HostRuntime) -> Result<(), Fail> {
     let mut hasher = StarlarkHasher::new();
     b.hash_ordered(&mut hasher);
     fed[1] = hasher.finish();
-    assert_eq!(rt; fed[0], fed[1]);
+    same(&rt, fed[0], fed[1]);
     let mut by_hand = StarlarkHasher::new();
     by_hand.write_u32(7);
     by_hand.write_u32(1);
-    assert_eq!(rt; fed[0], by_hand.finish());
-    assert!(rt; a != b);
-    assert!(rt; !a.eq_ordered(&b));
+    same(&rt, fed[0], by_hand.finish());
+    holds(&rt, a != b);
+    holds(&rt, !a.eq_ordered(&b));
     Ok(())
 }
 
@@ -60,9 +60,10 @@ fn prints_as_a_map(rt: HostRuntime) -> Result<(), Fail> {
     let mut map: SmallMap<u32, &str> = SmallMap::new(alloc);
     map.insert(1, "test")?;
     map.insert(2, "more")?;
-    assert_eq!(rt;
+    same(
+        &rt,
         format!(in alloc; "{map:?}")?.as_str(),
-        "{1: \"test\", 2: \"more\"}"
+        "{1: \"test\", 2: \"more\"}",
     );
     Ok(())
 }

@@ -1,6 +1,6 @@
 //! Clones of maps, and maps of an iterator's items.
 
-use crate::given::under;
+use crate::given::{holds, same, under};
 use starlark_hash::Hashed;
 use starlark_small::SmallMap;
 use std::test::Fail;
@@ -11,15 +11,15 @@ fn clones_stand_alone(rt: HostRuntime) -> Result<(), Fail> {
     for place in (0..26u8).rev() {
         map.insert(u32::from(place), char::from(b'a'.wrapping_add(place)))?;
     }
-    assert!(rt; map.get_full(&0u32) == Some((25, &0, &'a')));
-    assert!(rt; map.get_full(&25u32) == Some((0, &25, &'z')));
-    assert!(rt; map.get_full(&29u32) == None);
+    holds(&rt, map.get_full(&0u32) == Some((25, &0, &'a')));
+    holds(&rt, map.get_full(&25u32) == Some((0, &25, &'z')));
+    holds(&rt, map.get_full(&29u32) == None);
     let copy = map.clone()?;
-    assert!(rt; copy.eq_ordered(&map));
-    assert_eq!(rt; copy.capacity(), 26);
-    assert_eq!(rt; map.shift_remove(&1u32), Some('b'));
-    assert!(rt; copy != map);
-    assert_eq!(rt; copy.len(), 26);
+    holds(&rt, copy.eq_ordered(&map));
+    same(&rt, copy.capacity(), 26);
+    same(&rt, map.shift_remove(&1u32), Some('b'));
+    holds(&rt, copy != map);
+    same(&rt, copy.len(), 26);
     Ok(())
 }
 
@@ -41,17 +41,17 @@ fn collects_items(rt: HostRuntime) -> Result<(), Fail> {
     let alloc = rt.alloc();
     let map = SmallMap::from_iter(alloc, [(1u32, 'a'), (3, 'b'), (1, 'c')])?;
     let mut walk = map.iter();
-    assert!(rt; walk.next() == Some((&1, &'c')));
-    assert!(rt; walk.next() == Some((&3, &'b')));
-    assert!(rt; walk.next() == None);
+    holds(&rt, walk.next() == Some((&1, &'c')));
+    holds(&rt, walk.next() == Some((&3, &'b')));
+    holds(&rt, walk.next() == None);
     let mut more = SmallMap::from_iter_hashed(
         alloc,
         [(Hashed::new(3u32), 'b'), (under(7, 1), 'c')],
     )?;
-    assert!(rt; more != map);
+    holds(&rt, more != map);
     more.extend([(4, 'd'), (3, 'e')])?;
-    assert_eq!(rt; more.len(), 3);
-    assert!(rt; more.get(&3u32) == Some(&'e'));
-    assert!(rt; more.get(&4u32) == Some(&'d'));
+    same(&rt, more.len(), 3);
+    holds(&rt, more.get(&3u32) == Some(&'e'));
+    holds(&rt, more.get(&4u32) == Some(&'d'));
     Ok(())
 }

@@ -1,6 +1,6 @@
 //! What calls on entries of a map give, in maps without an index and with one.
 
-use crate::given::under;
+use crate::given::{holds, same, under};
 use starlark_hash::{NoRoom, TextKey};
 use starlark_small::{Entry, SmallMap};
 use std::test::Fail;
@@ -14,15 +14,15 @@ fn asks_no_closure_where_there_is_a_value(rt: HostRuntime) -> Result<(), Fail> {
         calls = calls.wrapping_add(1);
         7
     })?;
-    assert_eq!(rt; *value, 2);
-    assert_eq!(rt; calls, 0);
+    same(&rt, *value, 2);
+    same(&rt, calls, 0);
     let mut calls = 0u32;
     let value = map.entry(2).or_insert_with(|| {
         calls = calls.wrapping_add(1);
         7
     })?;
-    assert_eq!(rt; *value, 7);
-    assert_eq!(rt; calls, 1);
+    same(&rt, *value, 7);
+    same(&rt, calls, 1);
     Ok(())
 }
 
@@ -36,17 +36,17 @@ fn modifies_and_inserts(rt: HostRuntime) -> Result<(), Fail> {
         .entry("key1".to_string(alloc)?)
         .and_modify(|value| *value = value.wrapping_add(5))
         .or_insert(0)?;
-    assert_eq!(rt; *raised, 15);
+    same(&rt, *raised, 15);
     let inserted = map
         .entry("key2".to_string(alloc)?)
         .and_modify(|value| *value = value.wrapping_add(5))
         .or_insert(10)?;
-    assert_eq!(rt; *inserted, 10);
+    same(&rt, *inserted, 10);
     map.entry("key3".to_string(alloc)?)
         .and_modify(|value| *value = value.wrapping_mul(2))
         .and_modify(|value| *value = value.wrapping_add(10));
-    assert!(rt; map.get(&TextKey("key3")) == Some(&210));
-    assert!(rt; map.get_index(2).map(|pair| *pair.1) == Some(10));
+    holds(&rt, map.get(&TextKey("key3")) == Some(&210));
+    holds(&rt, map.get_index(2).map(|pair| *pair.1) == Some(10));
     Ok(())
 }
 
@@ -57,21 +57,21 @@ fn is_vacant_and_then_occupied(rt: HostRuntime) -> Result<(), Fail> {
         match map.entry(key) {
             Entry::Occupied(_entry) => return Err(Fail::new("occupied")),
             Entry::Vacant(entry) => {
-                assert_eq!(rt; *entry.key(), key);
+                same(&rt, *entry.key(), key);
                 *entry.insert(0)? = key.wrapping_mul(2);
             }
         }
         match map.entry(key) {
             Entry::Occupied(entry) => {
-                assert_eq!(rt; *entry.key(), key);
-                assert_eq!(rt; *entry.get(), key.wrapping_mul(2));
+                same(&rt, *entry.key(), key);
+                same(&rt, *entry.get(), key.wrapping_mul(2));
             }
             Entry::Vacant(_entry) => return Err(Fail::new("vacant")),
         }
     }
-    assert!(rt; map.index().is_some());
-    assert_eq!(rt; map.len(), 100);
-    assert!(rt; map.get_index(99) == Some((&99, &198)));
+    holds(&rt, map.index().is_some());
+    same(&rt, map.len(), 100);
+    holds(&rt, map.get_index(99) == Some((&99, &198)));
     Ok(())
 }
 
@@ -85,12 +85,12 @@ fn writes_through_entries(rt: HostRuntime) -> Result<(), Fail> {
             .entry_hashed(under(key % 3, key))
             .or_insert(key)
         {
-            assert_eq!(rt; (refused.into_key(), value), (key, key));
-            assert_eq!(rt; map.len(), key as usize);
+            same(&rt, (refused.into_key(), value), (key, key));
+            same(&rt, map.len(), key as usize);
             map.entry_hashed(under(key % 3, key)).or_insert(key)?;
         }
     }
-    assert!(rt; map.index().is_some());
+    holds(&rt, map.index().is_some());
     match map.entry_hashed(under(1, 31)) {
         Entry::Occupied(mut entry) => {
             *entry.get_mut() = 32;
@@ -100,16 +100,16 @@ fn writes_through_entries(rt: HostRuntime) -> Result<(), Fail> {
         }
         Entry::Vacant(_entry) => return Err(Fail::new("vacant")),
     }
-    assert!(rt; map.get_index(31) == Some((&31, &64)));
-    assert!(rt; map.get_index(30) == Some((&30, &30)));
-    assert!(rt; map.get_index(32) == Some((&32, &32)));
+    holds(&rt, map.get_index(31) == Some((&31, &64)));
+    holds(&rt, map.get_index(30) == Some((&30, &30)));
+    holds(&rt, map.get_index(32) == Some((&32, &32)));
     let entry = map.entry_hashed(under(2, 31));
-    assert_eq!(rt; *entry.key(), 31);
-    assert_eq!(rt; *entry.or_default()?, 0);
-    assert_eq!(rt; map.len(), 41);
+    same(&rt, *entry.key(), 31);
+    same(&rt, *entry.or_default()?, 0);
+    same(&rt, map.len(), 41);
     let entry = map.entry_hashed(under(2, 31));
-    assert_eq!(rt; *entry.key(), 31);
-    assert_eq!(rt; *entry.or_default()?, 0);
-    assert_eq!(rt; map.len(), 41);
+    same(&rt, *entry.key(), 31);
+    same(&rt, *entry.or_default()?, 0);
+    same(&rt, map.len(), 41);
     Ok(())
 }

@@ -1,6 +1,6 @@
 //! Maps that are long enough for an index: values from outside, and what a refused request leaves.
 
-use crate::given::{tens, under};
+use crate::given::{holds, same, tens, under};
 use starlark_hash::{NoRoom, StarlarkHashValue, TextKey};
 use starlark_small::SmallMap;
 use std::test::Fail;
@@ -14,31 +14,31 @@ fn stands_under_hash_and_key_after_many(rt: HostRuntime) -> Result<(), Fail> {
     }
     map.insert_hashed(under(1, "a".to_string(alloc)?), 10)?;
     map.insert_hashed(under(2, "a".to_string(alloc)?), 20)?;
-    assert!(rt; map.index().is_some());
-    assert_eq!(rt; map.len(), 42);
-    assert!(rt; map.get_hashed(under(1, &TextKey("a"))) == Some(&10));
-    assert!(rt; map.get_hashed(under(2, &TextKey("a"))) == Some(&20));
-    assert!(rt; map.get_hashed(under(3, &TextKey("a"))) == None);
-    assert!(rt; map.get_hashed(under(2, &TextKey("b"))) == None);
+    holds(&rt, map.index().is_some());
+    same(&rt, map.len(), 42);
+    holds(&rt, map.get_hashed(under(1, &TextKey("a"))) == Some(&10));
+    holds(&rt, map.get_hashed(under(2, &TextKey("a"))) == Some(&20));
+    holds(&rt, map.get_hashed(under(3, &TextKey("a"))) == None);
+    holds(&rt, map.get_hashed(under(2, &TextKey("b"))) == None);
     Ok(())
 }
 
 #[test]
 fn closes_the_places_behind_a_removal(rt: HostRuntime) -> Result<(), Fail> {
     let mut map = tens(rt.alloc(), 100)?;
-    assert!(rt; map.shift_remove_index(5) == Some((5, 50)));
-    assert!(rt; map.get(&4u32) == Some(&40));
-    assert!(rt; map.get(&5u32) == None);
-    assert!(rt; map.get(&6u32) == Some(&60));
-    assert!(rt; map.get(&99u32) == Some(&990));
-    assert_eq!(rt; map.get_index_of(&99u32), Some(98));
+    holds(&rt, map.shift_remove_index(5) == Some((5, 50)));
+    holds(&rt, map.get(&4u32) == Some(&40));
+    holds(&rt, map.get(&5u32) == None);
+    holds(&rt, map.get(&6u32) == Some(&60));
+    holds(&rt, map.get(&99u32) == Some(&990));
+    same(&rt, map.get_index_of(&99u32), Some(98));
     map.reverse();
-    assert_eq!(rt; map.get_index_of(&99u32), Some(0));
+    same(&rt, map.get_index_of(&99u32), Some(0));
     map.sort_keys()?;
-    assert_eq!(rt; map.get_index_of(&99u32), Some(98));
+    same(&rt, map.get_index_of(&99u32), Some(98));
     map.clear();
-    assert!(rt; map.index().is_some());
-    assert_eq!(rt; map.get_index_of(&99u32), None);
+    holds(&rt, map.index().is_some());
+    same(&rt, map.get_index_of(&99u32), None);
     Ok(())
 }
 
@@ -46,21 +46,21 @@ fn closes_the_places_behind_a_removal(rt: HostRuntime) -> Result<(), Fail> {
 #[test]
 fn refused_index_leaves_the_list(rt: HostRuntime) -> Result<(), Fail> {
     let mut map = tens(rt.alloc(), 33)?;
-    assert_eq!(rt; map.capacity(), 64);
-    assert!(rt; map.pop() == Some((32, 320)));
+    same(&rt, map.capacity(), 64);
+    holds(&rt, map.pop() == Some((32, 320)));
     map.maybe_drop_index();
-    assert!(rt; map.index().is_none());
-    assert_eq!(rt; (map.len(), map.room()), (32, 0));
+    holds(&rt, map.index().is_none());
+    same(&rt, (map.len(), map.room()), (32, 0));
     if let Err(NoRoom(refused)) = map.insert(100, 1) {
-        assert_eq!(rt; refused, (100, 1));
-        assert_eq!(rt; map.len(), 32);
-        assert!(rt; map.index().is_none());
-        assert!(rt; map.get_index(31) == Some((&31, &310)));
-        assert_eq!(rt; map.insert(100, 1)?, None);
+        same(&rt, refused, (100, 1));
+        same(&rt, map.len(), 32);
+        holds(&rt, map.index().is_none());
+        holds(&rt, map.get_index(31) == Some((&31, &310)));
+        same(&rt, map.insert(100, 1)?, None);
     }
-    assert_eq!(rt; map.len(), 33);
-    assert!(rt; map.index().is_some());
-    assert!(rt; map.get(&100u32) == Some(&1));
+    same(&rt, map.len(), 33);
+    holds(&rt, map.index().is_some());
+    holds(&rt, map.get(&100u32) == Some(&1));
     Ok(())
 }
 
@@ -68,10 +68,10 @@ fn refused_index_leaves_the_list(rt: HostRuntime) -> Result<(), Fail> {
 #[test]
 fn keeps_the_room_of_what_was_taken_out(rt: HostRuntime) -> Result<(), Fail> {
     let mut map = tens(rt.alloc(), 33)?;
-    assert!(rt; map.pop() == Some((32, 320)));
-    assert!(rt; 0 < map.room());
-    assert_eq!(rt; map.insert(100, 1)?, None);
-    assert_eq!(rt; map.len(), 33);
+    holds(&rt, map.pop() == Some((32, 320)));
+    holds(&rt, 0 < map.room());
+    same(&rt, map.insert(100, 1)?, None);
+    same(&rt, map.len(), 33);
     Ok(())
 }
 
@@ -79,14 +79,14 @@ fn keeps_the_room_of_what_was_taken_out(rt: HostRuntime) -> Result<(), Fail> {
 #[test]
 fn reserves_an_index_for_forty(rt: HostRuntime) -> Result<(), Fail> {
     let mut map: SmallMap<u32, u32> = SmallMap::with_capacity(rt.alloc(), 40)?;
-    assert!(rt; map.index().is_some());
-    assert!(rt; 40 <= map.room());
+    holds(&rt, map.index().is_some());
+    holds(&rt, 40 <= map.room());
     map.maybe_drop_index();
-    assert!(rt; map.index().is_none());
+    holds(&rt, map.index().is_none());
     for key in 0..32 {
-        assert!(rt; map.insert(key, key).is_ok());
+        holds(&rt, map.insert(key, key).is_ok());
     }
-    assert_eq!(rt; map.len(), 32);
+    same(&rt, map.len(), 32);
     Ok(())
 }
 
@@ -94,14 +94,14 @@ fn reserves_an_index_for_forty(rt: HostRuntime) -> Result<(), Fail> {
 #[test]
 fn reserves_a_list_for_thirty_two(rt: HostRuntime) -> Result<(), Fail> {
     let mut map: SmallMap<u32, u32> = SmallMap::with_capacity(rt.alloc(), 32)?;
-    assert!(rt; map.index().is_none());
+    holds(&rt, map.index().is_none());
     for key in 0..32 {
-        assert!(rt; map.insert(key, key).is_ok());
+        holds(&rt, map.insert(key, key).is_ok());
     }
-    assert_eq!(rt; map.len(), 32);
+    same(&rt, map.len(), 32);
     map.reserve(8)?;
-    assert!(rt; map.index().is_some());
-    assert!(rt; 8 <= map.room());
+    holds(&rt, map.index().is_some());
+    holds(&rt, 8 <= map.room());
     Ok(())
 }
 
@@ -137,7 +137,7 @@ fn asks_about_the_keys_of_a_hash(rt: HostRuntime) -> Result<(), Fail> {
         short.insert_hashed(under(hash, key), key)?;
         long.insert_hashed(under(hash, key), key)?;
     }
-    assert!(rt; finds_by_hash(&short, 0));
-    assert!(rt; finds_by_hash(&long, 40));
+    holds(&rt, finds_by_hash(&short, 0));
+    holds(&rt, finds_by_hash(&long, 40));
     Ok(())
 }

@@ -1,6 +1,6 @@
 //! New entries at a concrete type: what is written behind the references, and what a refused request leaves.
 
-use crate::given::under;
+use crate::given::{holds, same, under};
 use starlark_hash::{Hashed, NoRoom};
 use starlark_small::SmallMap;
 use std::test::Fail;
@@ -29,17 +29,17 @@ fn writes_new_entries(rt: HostRuntime) -> Result<(), Fail> {
     let mut map: SmallMap<u32, u32> = SmallMap::new(rt.alloc());
     for key in 0..40 {
         if let Err(NoRoom((refused, value))) = add(&mut map, under(key % 3, key), 10 * key) {
-            assert_eq!(rt; (refused.into_key(), value), (key, 0));
-            assert_eq!(rt; map.len(), key as usize);
+            same(&rt, (refused.into_key(), value), (key, 0));
+            same(&rt, map.len(), key as usize);
             add(&mut map, under(key % 3, key), 10 * key)?;
         }
     }
-    assert!(rt; map.index().is_some());
-    assert_eq!(rt; map.len(), 40);
-    assert!(rt; map.get_hashed(under(1, 31).as_ref()) == Some(&310));
-    assert!(rt; map.get_hashed(under(2, 31).as_ref()) == None);
-    assert!(rt; map.get_index(39) == Some((&39, &390)));
-    assert_eq!(rt; add(&mut map, under(1, 31), 7)?, false);
+    holds(&rt, map.index().is_some());
+    same(&rt, map.len(), 40);
+    holds(&rt, map.get_hashed(under(1, 31).as_ref()) == Some(&310));
+    holds(&rt, map.get_hashed(under(2, 31).as_ref()) == None);
+    holds(&rt, map.get_index(39) == Some((&39, &390)));
+    same(&rt, add(&mut map, under(1, 31), 7)?, false);
     Ok(())
 }
 
@@ -48,15 +48,15 @@ fn writes_a_new_entry_under_its_own_hash(rt: HostRuntime) -> Result<(), Fail> {
     let mut map: SmallMap<u32, u32> = SmallMap::new(rt.alloc());
     match map.insert_unique_unchecked(5, 50) {
         Ok((key, value)) => {
-            assert_eq!(rt; (*key, *value), (5, 50));
+            same(&rt, (*key, *value), (5, 50));
             *value = 51;
         }
         Err(NoRoom(refused)) => {
-            assert_eq!(rt; refused, (5, 50));
+            same(&rt, refused, (5, 50));
             return Ok(());
         }
     }
-    assert_eq!(rt; map.len(), 1);
-    assert!(rt; map.get(&5) == Some(&51));
+    same(&rt, map.len(), 1);
+    holds(&rt, map.get(&5) == Some(&51));
     Ok(())
 }

@@ -1,5 +1,6 @@
 //! What a closure keeps of a map, short and long.
 
+use crate::given::{holds, same};
 use starlark_hash::TextKey;
 use starlark_small::SmallMap;
 use std::test::Fail;
@@ -16,9 +17,9 @@ fn retains_even_values(rt: HostRuntime) -> Result<(), Fail> {
         *value = value.wrapping_add(3);
         even
     });
-    assert_eq!(rt; map.len(), 50);
-    assert!(rt; map.get(&TextKey("7")) == None);
-    assert!(rt; map.get(&TextKey("8")) == Some(&11));
+    same(&rt, map.len(), 50);
+    holds(&rt, map.get(&TextKey("7")) == None);
+    holds(&rt, map.get(&TextKey("8")) == Some(&11));
     Ok(())
 }
 
@@ -34,20 +35,20 @@ fn retains_every_third(rt: HostRuntime) -> Result<(), Fail> {
         calls = calls.wrapping_add(1);
         keeps
     });
-    assert_eq!(rt; calls, 100);
-    assert_eq!(rt; map.len(), 34);
+    same(&rt, calls, 100);
+    same(&rt, map.len(), 34);
     let mut wanted = 0u32;
     for key in map.keys() {
-        assert_eq!(rt; *key, wanted);
+        same(&rt, *key, wanted);
         wanted = wanted.wrapping_add(3);
     }
-    assert_eq!(rt; map.get_index_of(&99u32), Some(33));
+    same(&rt, map.get_index_of(&99u32), Some(33));
     map.retain(|_key, _value| false);
-    assert!(rt; map.is_empty());
+    holds(&rt, map.is_empty());
     map.insert(7, 70)?;
     map.insert(8, 80)?;
     map.reverse();
-    assert!(rt; map.get(&7u32) == Some(&70));
-    assert!(rt; map.pop() == Some((7, 70)));
+    holds(&rt, map.get(&7u32) == Some(&70));
+    holds(&rt, map.pop() == Some((7, 70)));
     Ok(())
 }

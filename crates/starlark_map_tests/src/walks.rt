@@ -1,5 +1,6 @@
 //! Walks that are cloned, and texts that are turned round.
 
+use crate::given::{holds, same};
 use starlark_hash::TextKey;
 use starlark_small::{SmallMap, smallmap};
 use std::alloc::{AllocError, Global};
@@ -14,9 +15,9 @@ fn walks_pairs_twice(rt: HostRuntime) -> Result<(), Fail> {
     let map = two_letters(rt.alloc())?;
     let pairs = map.iter();
     for mut walk in [pairs.clone()?, pairs] {
-        assert!(rt; walk.next() == Some((&1, &"a")));
-        assert!(rt; walk.next() == Some((&3, &"b")));
-        assert!(rt; walk.next() == None);
+        holds(&rt, walk.next() == Some((&1, &"a")));
+        holds(&rt, walk.next() == Some((&3, &"b")));
+        holds(&rt, walk.next() == None);
     }
     Ok(())
 }
@@ -26,9 +27,9 @@ fn walks_keys_twice(rt: HostRuntime) -> Result<(), Fail> {
     let map = two_letters(rt.alloc())?;
     let keys = map.keys();
     for mut walk in [keys.clone()?, keys] {
-        assert_eq!(rt; walk.next().copied(), Some(1));
-        assert_eq!(rt; walk.next().copied(), Some(3));
-        assert!(rt; walk.next() == None);
+        same(&rt, walk.next().copied(), Some(1));
+        same(&rt, walk.next().copied(), Some(3));
+        holds(&rt, walk.next() == None);
     }
     Ok(())
 }
@@ -38,9 +39,9 @@ fn walks_values_twice(rt: HostRuntime) -> Result<(), Fail> {
     let map = two_letters(rt.alloc())?;
     let values = map.values();
     for mut walk in [values.clone()?, values] {
-        assert!(rt; walk.next() == Some(&"a"));
-        assert!(rt; walk.next() == Some(&"b"));
-        assert!(rt; walk.next() == None);
+        holds(&rt, walk.next() == Some(&"a"));
+        holds(&rt, walk.next() == Some(&"b"));
+        holds(&rt, walk.next() == None);
     }
     Ok(())
 }
@@ -57,20 +58,23 @@ fn turns_texts_round(rt: HostRuntime) -> Result<(), Fail> {
     for i in (0..100u32).rev() {
         let key = i.to_string(alloc)?;
         let value = i.wrapping_mul(10).to_string(alloc)?;
-        assert!(rt; map.get(&TextKey(key.as_str())) == Some(&value));
-        assert!(rt; walk.next() == Some((&key, &value)));
+        holds(&rt, map.get(&TextKey(key.as_str())) == Some(&value));
+        holds(&rt, walk.next() == Some((&key, &value)));
     }
-    assert!(rt; walk.next() == None);
+    holds(&rt, walk.next() == None);
     Ok(())
 }
 
 #[test]
 fn looks_at_few(rt: HostRuntime) -> Result<(), Fail> {
     let none: SmallMap<i8, &str> = SmallMap::new(rt.alloc());
-    assert!(rt; none.is_empty() && none.iter().next() == None);
+    holds(&rt, none.is_empty() && none.iter().next() == None);
     let map: SmallMap<u32, char> = smallmap![rt.alloc(); 0 => 'a', 1 => 'b']?;
-    assert!(rt; map.get(&0u32) == Some(&'a') && map.get(&3u32) == None);
-    assert!(rt; map.get_index(1) == Some((&1, &'b')) && map.get_index(2) == None);
+    holds(&rt, map.get(&0u32) == Some(&'a') && map.get(&3u32) == None);
+    holds(
+        &rt,
+        map.get_index(1) == Some((&1, &'b')) && map.get_index(2) == None,
+    );
     Ok(())
 }
 
@@ -78,8 +82,8 @@ fn looks_at_few(rt: HostRuntime) -> Result<(), Fail> {
 fn compares_few(rt: HostRuntime) -> Result<(), Fail> {
     let map: SmallMap<u32, char> = smallmap![rt.alloc(); 0 => 'a', 1 => 'b']?;
     let turned = smallmap![rt.alloc(); 1 => 'b', 0 => 'a']?;
-    assert!(rt; map == turned);
+    holds(&rt, map == turned);
     let other = smallmap![rt.alloc(); 0 => 'a', 1 => 'c']?;
-    assert!(rt; map != other);
+    holds(&rt, map != other);
     Ok(())
 }

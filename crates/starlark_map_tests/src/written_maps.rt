@@ -1,6 +1,7 @@
 //! Maps that are written out, and how often a key is hashed.
 ghost use Rattle.std.proofs.Common.{[], refl};
 
+use crate::given::{holds, same};
 use starlark_hash::StarlarkHasher;
 use starlark_small::{SmallMap, smallmap};
 use std::cell::Cell;
@@ -12,14 +13,14 @@ fn writes_a_map_out(rt: HostRuntime) -> Result<(), Fail> {
     let alloc = rt.alloc();
     let map: SmallMap<u32, &str> = smallmap![alloc; 1 => "a", 3 => "b", 1 => "c"]?;
     let mut walk = map.iter();
-    assert!(rt; walk.next() == Some((&1, &"c")));
-    assert!(rt; walk.next() == Some((&3, &"b")));
-    assert!(rt; walk.next() == None);
-    assert_eq!(rt; map.capacity(), 3);
+    holds(&rt, walk.next() == Some((&1, &"c")));
+    holds(&rt, walk.next() == Some((&3, &"b")));
+    holds(&rt, walk.next() == None);
+    same(&rt, map.capacity(), 3);
     let empty: SmallMap<u32, u32> = smallmap![alloc;]?;
-    assert_eq!(rt; empty.len(), 0);
+    same(&rt, empty.len(), 0);
     let one = smallmap![alloc; 7u32 => 70u32,]?;
-    assert!(rt; one.get(&7u32) == Some(&70));
+    holds(&rt, one.get(&7u32) == Some(&70));
     Ok(())
 }
 
@@ -50,14 +51,14 @@ fn hashes_a_key_once(rt: HostRuntime) -> Result<(), Fail> {
         key: 1,
         calls: &calls,
     };
-    assert!(rt; map.insert(key, 10).is_ok());
-    assert_eq!(rt; calls.get(), 1);
+    holds(&rt, map.insert(key, 10).is_ok());
+    same(&rt, calls.get(), 1);
     let mut hasher = StarlarkHasher::new();
     map.hash_ordered(&mut hasher);
     map.hash_ordered(&mut hasher);
-    assert_eq!(rt; calls.get(), 1);
+    same(&rt, calls.get(), 1);
     map.reverse();
-    assert!(rt; map.eq_ordered(&map));
-    assert_eq!(rt; calls.get(), 1);
+    holds(&rt, map.eq_ordered(&map));
+    same(&rt, calls.get(), 1);
     Ok(())
 }

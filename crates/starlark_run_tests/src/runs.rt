@@ -1,6 +1,6 @@
 //! Runs of commands: replies from outside, runs that succeed, and what a refused request leaves.
 
-use crate::given::{tens, under};
+use crate::given::{holds, same, tens, under};
 use starlark_hash::{Hashed, NoRoom};
 use starlark_runs::{Command, Reply, replies_agree, run};
 use starlark_small::SmallMap;
@@ -25,13 +25,13 @@ fn runs_commands(rt: HostRuntime) -> Result<(), Fail> {
         commands,
         |key, value| key ^ value,
     )?;
-    assert_eq!(rt; replies.len(), 6);
-    assert!(rt; matches!(&replies[0], Reply::Old(None)));
-    assert!(rt; matches!(&replies[1], Reply::Old(None)));
-    assert!(rt; matches!(&replies[2], Reply::Old(Some(20))));
-    assert!(rt; matches!(&replies[3], Reply::Found(Some((0, 42)))));
-    assert!(rt; matches!(&replies[4], Reply::Found(None)));
-    assert!(rt; matches!(&replies[5], Reply::Count(2)));
+    same(&rt, replies.len(), 6);
+    holds(&rt, matches!(&replies[0], Reply::Old(None)));
+    holds(&rt, matches!(&replies[1], Reply::Old(None)));
+    holds(&rt, matches!(&replies[2], Reply::Old(Some(20))));
+    holds(&rt, matches!(&replies[3], Reply::Found(Some((0, 42)))));
+    holds(&rt, matches!(&replies[4], Reply::Found(None)));
+    holds(&rt, matches!(&replies[5], Reply::Count(2)));
     Ok(())
 }
 
@@ -57,20 +57,20 @@ fn runs_all_commands(rt: HostRuntime) -> Result<(), Fail> {
         Command::Clear,
     ]?;
     let replies: Vec<Reply<u32, u32, u32>> = run(alloc, &mut map, commands, |_, value| *value)?;
-    assert_eq!(rt; replies.len(), 15);
-    assert!(rt; matches!(&replies[2], Reply::Done));
-    assert!(rt; matches!(&replies[3], Reply::Shown(Some(2))));
-    assert!(rt; matches!(&replies[4], Reply::Shown(Some(1))));
-    assert!(rt; matches!(&replies[5], Reply::Old(Some(2))));
-    assert!(rt; matches!(&replies[6], Reply::Old(None)));
-    assert!(rt; matches!(&replies[7], Reply::Done));
-    assert!(rt; matches!(&replies[8], Reply::Shown(Some(5))));
-    assert!(rt; matches!(&replies[9], Reply::Shown(None)));
-    assert!(rt; matches!(&replies[10], Reply::Taken(None)));
-    assert!(rt; matches!(&replies[11], Reply::Taken(Some((2, 1)))));
-    assert!(rt; matches!(&replies[12], Reply::TakenHashed(None)));
-    assert!(rt; matches!(&replies[13], Reply::Taken(Some((1, 5)))));
-    assert!(rt; matches!(&replies[14], Reply::Done));
+    same(&rt, replies.len(), 15);
+    holds(&rt, matches!(&replies[2], Reply::Done));
+    holds(&rt, matches!(&replies[3], Reply::Shown(Some(2))));
+    holds(&rt, matches!(&replies[4], Reply::Shown(Some(1))));
+    holds(&rt, matches!(&replies[5], Reply::Old(Some(2))));
+    holds(&rt, matches!(&replies[6], Reply::Old(None)));
+    holds(&rt, matches!(&replies[7], Reply::Done));
+    holds(&rt, matches!(&replies[8], Reply::Shown(Some(5))));
+    holds(&rt, matches!(&replies[9], Reply::Shown(None)));
+    holds(&rt, matches!(&replies[10], Reply::Taken(None)));
+    holds(&rt, matches!(&replies[11], Reply::Taken(Some((2, 1)))));
+    holds(&rt, matches!(&replies[12], Reply::TakenHashed(None)));
+    holds(&rt, matches!(&replies[13], Reply::Taken(Some((1, 5)))));
+    holds(&rt, matches!(&replies[14], Reply::Done));
     Ok(())
 }
 
@@ -93,21 +93,21 @@ fn refusals_leave_the_list(rt: HostRuntime) -> Result<(), Fail> {
     );
     let done = match outcome {
         Ok(replies) => {
-            assert_eq!(rt; replies.len(), 1);
+            same(&rt, replies.len(), 1);
             match &replies[0] {
                 Reply::Refused(key, value) => {
-                    assert_eq!(rt; (*key.key(), *value), (8, 80));
+                    same(&rt, (*key.key(), *value), (8, 80));
                     false
                 }
                 reply => {
-                    assert!(rt; matches!(reply, Reply::Old(None)));
+                    holds(&rt, matches!(reply, Reply::Old(None)));
                     true
                 }
             }
         }
         Err(AllocError) => false,
     };
-    assert_eq!(rt; map.len(), if done { 9 } else { 8 });
+    same(&rt, map.len(), if done { 9 } else { 8 });
     Ok(())
 }
 
@@ -147,13 +147,13 @@ fn replies_alike_with_an_index_and_without(rt: HostRuntime) -> Result<(), Fail> 
         long.pop();
     }
     let mut short = tens(alloc, 10)?;
-    assert!(rt; long.index().is_some());
-    assert!(rt; short.index().is_none());
-    let same = replies_are_right(alloc, &mut long)?;
-    assert!(rt; same);
-    let same = replies_are_right(alloc, &mut short)?;
-    assert!(rt; same);
-    assert!(rt; long.index().is_none());
+    holds(&rt, long.index().is_some());
+    holds(&rt, short.index().is_none());
+    let alike = replies_are_right(alloc, &mut long)?;
+    holds(&rt, alike);
+    let alike = replies_are_right(alloc, &mut short)?;
+    holds(&rt, alike);
+    holds(&rt, long.index().is_none());
     Ok(())
 }
 
@@ -180,13 +180,13 @@ fn replies_agree_on_two_maps(rt: HostRuntime) -> Result<(), Fail> {
     }
     let mut short = tens(alloc, 10)?;
     let commands = few_commands(alloc)?;
-    let same = few_commands(alloc)?;
+    let again = few_commands(alloc)?;
     let (replies, others) = replies_agree(
-        alloc, &mut long, &mut short, commands, same, value_of, value_of,
+        alloc, &mut long, &mut short, commands, again, value_of, value_of,
     )?;
-    assert_eq!(rt; (replies.len(), others.len()), (4, 4));
-    assert!(rt; matches!(&replies[1], Reply::Found(Some((2, 30)))));
-    assert!(rt; matches!(&others[1], Reply::Found(Some((2, 30)))));
-    assert!(rt; long == short);
+    same(&rt, (replies.len(), others.len()), (4, 4));
+    holds(&rt, matches!(&replies[1], Reply::Found(Some((2, 30)))));
+    holds(&rt, matches!(&others[1], Reply::Found(Some((2, 30)))));
+    holds(&rt, long == short);
     Ok(())
 }

@@ -4,6 +4,8 @@
 #[cfg(test)]
 mod fakes;
 #[cfg(test)]
+mod given;
+#[cfg(test)]
 mod scripts;
 #[cfg(test)]
 mod streams;

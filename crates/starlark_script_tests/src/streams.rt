@@ -1,6 +1,7 @@
 //! Reads, writes, flushes and requests for memory that fail under `play`, and the text of each fault.
 
 use crate::fakes::{Full, NEVER, bytes_in_pieces, narrow_writer};
+use crate::given::holds;
 use starlark_lines::{PlayFault, lines_are_of_one};
 use starlark_play::play::play;
 use std::io::ErrorKind;
@@ -17,14 +18,18 @@ fn failing_reads(rt: HostRuntime) -> Result<(), Fail> {
         for calls in 0..5 {
             let mut out = Vec::new(rt.alloc());
             let mut reader = bytes_in_pieces(script, 4, calls, kind);
-            assert!(rt; play(rt.alloc(), &mut reader, &mut out) == Err(PlayFault::Io));
-            assert!(rt;
-                out.as_slice() == "0\n0\n0\n0\n".as_bytes().get(..2 * calls).unwrap_or(&[])
+            holds(
+                &rt,
+                play(rt.alloc(), &mut reader, &mut out) == Err(PlayFault::Io),
+            );
+            holds(
+                &rt,
+                out.as_slice() == "0\n0\n0\n0\n".as_bytes().get(..2 * calls).unwrap_or(&[]),
             );
         }
         let mut out = Vec::new(rt.alloc());
         let mut reader = bytes_in_pieces(script, 4, 5, kind);
-        assert!(rt; play(rt.alloc(), &mut reader, &mut out) == Ok(()));
+        holds(&rt, play(rt.alloc(), &mut reader, &mut out) == Ok(()));
     }
     Ok(())
 }
@@ -37,17 +42,26 @@ fn failing_writes(rt: HostRuntime) -> Result<(), Fail> {
         for calls in 0..replies.len() {
             let mut writer = narrow_writer(rt.alloc(), calls, kind, false);
             let mut reader = script.as_bytes();
-            assert!(rt; play(rt.alloc(), &mut reader, &mut writer) == Err(PlayFault::Io));
-            assert!(rt; writer.taken.as_slice() == &replies.as_bytes()[..calls]);
-            assert!(rt; writer.flushes == 0);
+            holds(
+                &rt,
+                play(rt.alloc(), &mut reader, &mut writer) == Err(PlayFault::Io),
+            );
+            holds(&rt, writer.taken.as_slice() == &replies.as_bytes()[..calls]);
+            holds(&rt, writer.flushes == 0);
         }
         let mut writer = narrow_writer(rt.alloc(), replies.len(), kind, true);
         let mut reader = script.as_bytes();
-        assert!(rt; play(rt.alloc(), &mut reader, &mut writer) == Err(PlayFault::Io));
-        assert!(rt; writer.taken.as_slice() == replies.as_bytes());
+        holds(
+            &rt,
+            play(rt.alloc(), &mut reader, &mut writer) == Err(PlayFault::Io),
+        );
+        holds(&rt, writer.taken.as_slice() == replies.as_bytes());
     }
     let mut reader = script.as_bytes();
-    assert!(rt; play(rt.alloc(), &mut reader, &mut Full) == Err(PlayFault::Io));
+    holds(
+        &rt,
+        play(rt.alloc(), &mut reader, &mut Full) == Err(PlayFault::Io),
+    );
     Ok(())
 }
 
@@ -70,12 +84,12 @@ fn check_refused(rt: &(impl Abort + AllocGlobal), script: &str, replies: &str) -
     let answer = play(rt.alloc(), &mut reader, &mut writer);
     let left = writer.len();
     let written = &room[..room.len().saturating_sub(left)];
-    assert!(rt; replies.as_bytes().starts_with(written));
+    holds(rt, replies.as_bytes().starts_with(written));
     match answer {
-        Ok(()) => assert!(rt; written == replies.as_bytes()),
+        Ok(()) => holds(rt, written == replies.as_bytes()),
         Err(fault) => {
-            assert!(rt; fault == PlayFault::Memory);
-            assert!(rt; written.is_empty() || written.ends_with(b"\n"));
+            holds(rt, fault == PlayFault::Memory);
+            holds(rt, written.is_empty() || written.ends_with(b"\n"));
         }
     }
     Ok(())
@@ -130,9 +144,9 @@ fn faults(rt: HostRuntime) -> Result<(), Fail> {
         (PlayFault::Io, 4, "input or output failed"),
     ];
     for (fault, status, text) in faults {
-        assert!(rt; fault.status() == status);
+        holds(&rt, fault.status() == status);
         let shown = format!(in rt.alloc(); "{fault}")?;
-        assert!(rt; shown.as_str() == text);
+        holds(&rt, shown.as_str() == text);
     }
     Ok(())
 }

@@ -1,6 +1,6 @@
 //! The numbers that hashes come to, printed forms, and calls that are refused.
 
-use crate::given::under;
+use crate::given::{holds, same, under};
 use starlark_hash::{
     Equivalent, Hashed, StarlarkHashValue, StarlarkHasher, StarlarkHasherBuilder, TextKey,
     ToOwnedKey, hash_value, key_query,
@@ -18,42 +18,36 @@ fn after_bytes(bytes: &[u8]) -> u64 {
 
 #[test]
 fn hashes_bytes(rt: HostRuntime) -> Result<(), Fail> {
-    assert_eq!(rt; after_bytes([].as_slice()), 0);
-    assert_eq!(rt;
-        after_bytes([1, 0, 0, 0, 0, 0, 0, 0].as_slice()),
-        0x517cc1b727220a95
-    );
+    same(&rt, after_bytes([].as_slice()), 0);
+    same(&rt, after_bytes([1, 0, 0, 0, 0, 0, 0, 0].as_slice()), 0x517cc1b727220a95);
     // Three words: 0, 0, 1.
-    assert_eq!(rt;
-        after_bytes([0, 0, 0, 0, 0, 0, 1].as_slice()),
-        0x517cc1b727220a95
-    );
+    same(&rt, after_bytes([0, 0, 0, 0, 0, 0, 1].as_slice()), 0x517cc1b727220a95);
     // Four words: of 8, 4, 2 and 1 bytes.
     let fifteen = [1, 2, 3, 4, 5, 6, 7, 8, 9, 10, 11, 12, 13, 14, 15];
-    assert_eq!(rt; after_bytes(fifteen.as_slice()), 0x6e8b5d1d34f08a49);
+    same(&rt, after_bytes(fifteen.as_slice()), 0x6e8b5d1d34f08a49);
     Ok(())
 }
 
 #[test]
 fn hashes_numbers(rt: HostRuntime) -> Result<(), Fail> {
-    assert_eq!(rt; StarlarkHasher::new().finish(), 0);
-    assert_eq!(rt; StarlarkHasher::default().finish(), 0);
+    same(&rt, StarlarkHasher::new().finish(), 0);
+    same(&rt, StarlarkHasher::default().finish(), 0);
     let mut zero = StarlarkHasherBuilder.build_hasher();
     zero.write_u64(0);
-    assert_eq!(rt; zero.finish(), 0);
+    same(&rt, zero.finish(), 0);
     let mut word = StarlarkHasher::new();
     word.write_u64(1);
-    assert_eq!(rt; word.finish(), 0x517cc1b727220a95);
-    assert_eq!(rt; word.finish_small().get(), 0x27220a95);
+    same(&rt, word.finish(), 0x517cc1b727220a95);
+    same(&rt, word.finish_small().get(), 0x27220a95);
     let mut byte = StarlarkHasher::new();
     byte.write_u8(1);
-    assert_eq!(rt; byte.finish(), 0x517cc1b727220a95);
+    same(&rt, byte.finish(), 0x517cc1b727220a95);
     let mut signed = StarlarkHasher::new();
     signed.write_i32(-1);
-    assert_eq!(rt; signed.finish(), 0xd5a548ddd8ddf56b);
+    same(&rt, signed.finish(), 0xd5a548ddd8ddf56b);
     let mut long = StarlarkHasher::new();
     long.write_u128((1 << 64) + 2);
-    assert_eq!(rt; long.finish(), 0x6c079593b6c98c79);
+    same(&rt, long.finish(), 0x6c079593b6c98c79);
     Ok(())
 }
 
@@ -64,10 +58,10 @@ fn mixes_numbers(rt: HostRuntime) -> Result<(), Fail> {
         (1, 0x9e3779b97f4a7c15),
         (4294967295, 0xe113025b80b583eb),
     ] {
-        assert_eq!(rt; StarlarkHashValue::new_unchecked(hash).promote(), promoted);
+        same(&rt, StarlarkHashValue::new_unchecked(hash).promote(), promoted);
     }
     for (number, mixed) in [(0, 0), (1, 0x34c2cb2c)] {
-        assert_eq!(rt; StarlarkHashValue::hash_64(number).get(), mixed);
+        same(&rt, StarlarkHashValue::hash_64(number).get(), mixed);
     }
     Ok(())
 }
@@ -76,11 +70,11 @@ fn mixes_numbers(rt: HostRuntime) -> Result<(), Fail> {
 fn finds_by_text(rt: HostRuntime) -> Result<(), Fail> {
     let stored = Hashed::new(String::from_str(rt.alloc(), "key")?);
     let query = TextKey("key");
-    assert!(rt; StarlarkHashValue::new(&query) == stored.hash());
-    assert_eq!(rt; stored.hash().get(), 0xb3496140);
-    assert!(rt; query.equivalent(stored.key()));
-    assert!(rt; !TextKey("kez").equivalent(stored.key()));
-    assert!(rt; StarlarkHashValue::new(&1u32) == StarlarkHashValue::new_unchecked(0x27220a95));
+    holds(&rt, StarlarkHashValue::new(&query) == stored.hash());
+    same(&rt, stored.hash().get(), 0xb3496140);
+    holds(&rt, query.equivalent(stored.key()));
+    holds(&rt, !TextKey("kez").equivalent(stored.key()));
+    holds(&rt, StarlarkHashValue::new(&1u32) == StarlarkHashValue::new_unchecked(0x27220a95));
     hash_value::equal_keys_have_one_hash(stored.key(), stored.key());
     key_query::query_has_the_hash_of_its_key(&query, stored.key());
     hash_value::promotion_is_injective(stored.hash(), stored.hash());
@@ -89,14 +83,14 @@ fn finds_by_text(rt: HostRuntime) -> Result<(), Fail> {
 
 #[test]
 fn compares_keys_and_then_hashes(rt: HostRuntime) -> Result<(), Fail> {
-    assert!(rt; under(1, "a").cmp(&under(2, "a")) == Ordering::Less);
-    assert!(rt; under(2, "a").cmp(&under(1, "b")) == Ordering::Less);
-    assert!(rt; under(2, "a") < under(1, "b"));
-    assert!(rt; under(1, "a") != under(2, "a"));
-    assert!(rt; under(1, "a") != under(1, "b"));
-    assert!(rt; under(1, "a") == under(1, "a"));
+    holds(&rt, under(1, "a").cmp(&under(2, "a")) == Ordering::Less);
+    holds(&rt, under(2, "a").cmp(&under(1, "b")) == Ordering::Less);
+    holds(&rt, under(2, "a") < under(1, "b"));
+    holds(&rt, under(1, "a") != under(2, "a"));
+    holds(&rt, under(1, "a") != under(1, "b"));
+    holds(&rt, under(1, "a") == under(1, "a"));
     // The hash of 1 as one u32.
-    assert_eq!(rt; StarlarkHashValue::new(&under(1, "a")).get(), 0x27220a95);
+    same(&rt, StarlarkHashValue::new(&under(1, "a")).get(), 0x27220a95);
     Ok(())
 }
 
@@ -104,14 +98,14 @@ fn compares_keys_and_then_hashes(rt: HostRuntime) -> Result<(), Fail> {
 fn shows_and_changes_keys(rt: HostRuntime) -> Result<(), Fail> {
     let mut entry = Hashed::new_unchecked(StarlarkHashValue::new_unchecked(7), 5u32);
     *entry.key_mut() += 1;
-    assert_eq!(rt; *entry, 6);
+    same(&rt, *entry, 6);
     let copy = entry.as_ref().copied();
-    assert!(rt; copy == entry);
+    holds(&rt, copy == entry);
     let shown = format!(in rt.alloc(); "{copy}")?;
-    assert!(rt; shown.as_str() == "6");
+    holds(&rt, shown.as_str() == "6");
     let debug = format!(in rt.alloc(); "{copy:?}")?;
-    assert!(rt; debug.as_str() == "Hashed { hash: StarlarkHashValue(7), key: 6 }");
-    assert_eq!(rt; copy.into_key(), 6);
+    holds(&rt, debug.as_str() == "Hashed { hash: StarlarkHashValue(7), key: 6 }");
+    same(&rt, copy.into_key(), 6);
     Ok(())
 }
 
@@ -135,18 +129,15 @@ impl ToOwnedKey<Refused> for Refused {
 fn clones_and_makes_keys(rt: HostRuntime) -> Result<(), Fail> {
     let stored = Hashed::new(String::from_str(rt.alloc(), "key")?);
     let clone = stored.as_ref().cloned()?;
-    assert!(rt; clone == stored);
-    assert!(rt; stored.clone()? == stored);
+    holds(&rt, clone == stored);
+    holds(&rt, stored.clone()? == stored);
     let query = TextKey("key");
     let made = Hashed::new(query).as_ref().owned(rt.alloc())?;
-    assert!(rt; made == stored);
-    assert_eq!(rt; Hashed::new(3u32).as_ref().owned(rt.alloc())?.into_key(), 3);
-    assert_eq!(rt;
-        Hashed::new(-3i64).as_ref().owned(rt.alloc())?.into_key(),
-        -3
-    );
+    holds(&rt, made == stored);
+    same(&rt, Hashed::new(3u32).as_ref().owned(rt.alloc())?.into_key(), 3);
+    same(&rt, Hashed::new(-3i64).as_ref().owned(rt.alloc())?.into_key(), -3);
     let refused = Hashed::new_unchecked(StarlarkHashValue::new_unchecked(0), Refused);
-    assert!(rt; refused.as_ref().cloned().is_err());
-    assert!(rt; refused.as_ref().owned(rt.alloc()).is_err());
+    holds(&rt, refused.as_ref().cloned().is_err());
+    holds(&rt, refused.as_ref().owned(rt.alloc()).is_err());
     Ok(())
 }

@@ -1,5 +1,6 @@
 //! Values from outside the contracts, and each call at concrete types.
 
+use crate::given::{holds, same};
 use starlark_vec2::{PairsMut, ValuesMut, Vec2};
 use std::alloc::{AllocError, Global};
 use std::cmp::Ordering;
@@ -18,18 +19,18 @@ fn list_of(alloc: Global, pairs: &[(u32, u32)]) -> Result<Vec2<u32, u32>, AllocE
 #[test]
 fn capacity_grows_by_the_rule(rt: HostRuntime) -> Result<(), Fail> {
     let mut list = Vec2::new(rt.alloc());
-    assert_eq!(rt; list.capacity(), 0);
-    assert!(rt; list.is_empty());
+    same(&rt, list.capacity(), 0);
+    holds(&rt, list.is_empty());
     for (pushes, capacity) in [(1, 4), (2, 4), (3, 4), (4, 4), (5, 8)] {
         list.push(pushes, "pair")?;
         assert_eq!(rt; list.capacity(), capacity, "after {pushes}");
     }
     list.reserve(3)?;
-    assert_eq!(rt; list.capacity(), 8);
+    same(&rt, list.capacity(), 8);
     list.reserve(100)?;
-    assert_eq!(rt; list.capacity(), 105);
-    assert!(rt; list.reserve(usize::MAX).is_err());
-    assert_eq!(rt; list.capacity(), 105);
+    same(&rt, list.capacity(), 105);
+    holds(&rt, list.reserve(usize::MAX).is_err());
+    same(&rt, list.capacity(), 105);
     Ok(())
 }
 
@@ -41,12 +42,12 @@ fn from_iter_takes_the_size_hint(rt: HostRuntime) -> Result<(), Fail> {
     }
     let mut list = list_of(rt.alloc(), &[(1, 2)])?;
     list.extend((0u32..6).map(|i| (i, i)))?;
-    assert_eq!(rt; list.len(), 7);
-    assert_eq!(rt; list.capacity(), 8);
+    same(&rt, list.len(), 7);
+    same(&rt, list.capacity(), 8);
     // Pushed one by one, ten more would leave room for 16.
     let mut list = list_of(rt.alloc(), &[(1, 2)])?;
     list.extend((0u32..10).map(|i| (i, i)))?;
-    assert_eq!(rt; list.capacity(), 11);
+    same(&rt, list.capacity(), 11);
     Ok(())
 }
 
@@ -54,10 +55,10 @@ fn from_iter_takes_the_size_hint(rt: HostRuntime) -> Result<(), Fail> {
 fn shrinks_to_the_pairs(rt: HostRuntime) -> Result<(), Fail> {
     let mut list = list_of(rt.alloc(), &[(1, 2), (3, 4)])?;
     list.reserve(50)?;
-    assert_eq!(rt; list.capacity(), 52);
+    same(&rt, list.capacity(), 52);
     list.shrink_to_fit()?;
-    assert_eq!(rt; list.capacity(), 2);
-    assert_eq!(rt; list.get(1), Some((&3, &4)));
+    same(&rt, list.capacity(), 2);
+    same(&rt, list.get(1), Some((&3, &4)));
     Ok(())
 }
 
@@ -68,26 +69,26 @@ fn shrink_to_fit_keeps_the_pairs(rt: HostRuntime) -> Result<(), Fail> {
     list.push(1u32, 2u32)?;
     list.push(3, 4)?;
     list.truncate(5);
-    assert_eq!(rt; list.len(), 2);
+    same(&rt, list.len(), 2);
     let capacity = if list.shrink_to_fit().is_ok() { 2 } else { 10 };
-    assert_eq!(rt; list.capacity(), capacity);
-    assert_eq!(rt; list.firsts(), [1, 3].as_slice());
-    assert_eq!(rt; list.seconds(), [2, 4].as_slice());
+    same(&rt, list.capacity(), capacity);
+    same(&rt, list.firsts(), [1, 3].as_slice());
+    same(&rt, list.seconds(), [2, 4].as_slice());
     Ok(())
 }
 
 #[test]
 fn ends_of_a_list(rt: HostRuntime) -> Result<(), Fail> {
     let mut list = Vec2::new(rt.alloc());
-    assert!(rt; list.first().is_none());
-    assert!(rt; list.last().is_none());
+    holds(&rt, list.first().is_none());
+    holds(&rt, list.last().is_none());
     list.push(1u32, 2u32)?;
     list.push(3, 4)?;
-    assert_eq!(rt; list.first().map(|pair| (*pair.0, *pair.1)), Some((1, 2)));
-    assert_eq!(rt; list.last().map(|pair| (*pair.0, *pair.1)), Some((3, 4)));
-    assert_eq!(rt; list.pop(), Some((3, 4)));
-    assert_eq!(rt; list.pop(), Some((1, 2)));
-    assert_eq!(rt; list.pop(), None);
+    same(&rt, list.first().map(|pair| (*pair.0, *pair.1)), Some((1, 2)));
+    same(&rt, list.last().map(|pair| (*pair.0, *pair.1)), Some((3, 4)));
+    same(&rt, list.pop(), Some((3, 4)));
+    same(&rt, list.pop(), Some((1, 2)));
+    same(&rt, list.pop(), None);
     Ok(())
 }
 
@@ -100,18 +101,18 @@ fn a_hundred_texts(rt: HostRuntime) -> Result<(), Fail> {
     for i in 0u32..100 {
         let text = i.to_string(rt.alloc())?;
         let pair = list.get(i as usize).ok_or("missing")?;
-        assert_eq!(rt; pair.0.as_str(), text.as_str());
-        assert_eq!(rt; *pair.1, i * 2);
+        same(&rt, pair.0.as_str(), text.as_str());
+        same(&rt, *pair.1, i * 2);
     }
-    assert!(rt; list.get(100).is_none());
+    holds(&rt, list.get(100).is_none());
     let mut walk = list.into_iter();
     for i in 0u32..100 {
         let text = i.to_string(rt.alloc())?;
         let pair = walk.next().ok_or("missing")?;
-        assert_eq!(rt; pair.0.as_str(), text.as_str());
-        assert_eq!(rt; pair.1, i * 2);
+        same(&rt, pair.0.as_str(), text.as_str());
+        same(&rt, pair.1, i * 2);
     }
-    assert!(rt; walk.next().is_none());
+    holds(&rt, walk.next().is_none());
     Ok(())
 }
 
@@ -126,12 +127,12 @@ fn by_both(x: (&u32, &u32), y: (&u32, &u32)) -> Ordering {
 fn sort_by_both_parts_and_by_one(rt: HostRuntime) -> Result<(), Fail> {
     let mut list = list_of(rt.alloc(), &[(1, 2), (3, 4), (2, 3), (3, 2)])?;
     list.sort_by(|x, y| by_both(x, y))?;
-    assert_eq!(rt; list.firsts(), [1, 2, 3, 3].as_slice());
-    assert_eq!(rt; list.seconds(), [2, 3, 2, 4].as_slice());
+    same(&rt, list.firsts(), [1, 2, 3, 3].as_slice());
+    same(&rt, list.seconds(), [2, 3, 2, 4].as_slice());
     let mut list = list_of(rt.alloc(), &[(3, 4), (1, 2), (3, 2), (1, 0)])?;
     list.sort_by(|x, y| x.0.cmp(y.0))?;
-    assert_eq!(rt; list.firsts(), [1, 1, 3, 3].as_slice());
-    assert_eq!(rt; list.seconds(), [2, 0, 4, 2].as_slice());
+    same(&rt, list.firsts(), [1, 1, 3, 3].as_slice());
+    same(&rt, list.seconds(), [2, 0, 4, 2].as_slice());
     Ok(())
 }
 
@@ -146,10 +147,10 @@ fn sort_of_many_pairs(rt: HostRuntime) -> Result<(), Fail> {
     for i in 0u32..100 {
         let pair = list.get(i as usize).ok_or("missing")?;
         let first = if sorted { i } else { (i * 37) % 100 };
-        assert_eq!(rt; *pair.0, first);
-        assert_eq!(rt; pair.1.wrapping_mul(37) % 100, first);
+        same(&rt, *pair.0, first);
+        same(&rt, pair.1.wrapping_mul(37) % 100, first);
     }
-    assert_eq!(rt; list.capacity(), 100);
+    same(&rt, list.capacity(), 100);
     Ok(())
 }
 
@@ -157,10 +158,10 @@ fn sort_of_many_pairs(rt: HostRuntime) -> Result<(), Fail> {
 fn retain_drops_one_pair(rt: HostRuntime) -> Result<(), Fail> {
     let mut list = list_of(rt.alloc(), &[(1, 2), (2, 3), (3, 4)])?;
     list.retain(|first, _second| *first != 2);
-    assert_eq!(rt; list.firsts(), [1, 3].as_slice());
-    assert_eq!(rt; list.seconds(), [2, 4].as_slice());
+    same(&rt, list.firsts(), [1, 3].as_slice());
+    same(&rt, list.seconds(), [2, 4].as_slice());
     list.truncate(1);
-    assert_eq!(rt; list.firsts(), [1].as_slice());
+    same(&rt, list.firsts(), [1].as_slice());
     Ok(())
 }
 
@@ -168,19 +169,16 @@ fn retain_drops_one_pair(rt: HostRuntime) -> Result<(), Fail> {
 fn removals_and_turns(rt: HostRuntime) -> Result<(), Fail> {
     let mut list = list_of(rt.alloc(), &[(1, 2), (3, 4), (5, 6)])?;
     assert_eq!(rt; list.len(), 3);
-    assert_eq!(rt; list.remove(0), (1, 2));
+    same(&rt, list.remove(0), (1, 2));
     list.reverse();
-    assert_eq!(rt; list.firsts(), [5, 3].as_slice());
+    same(&rt, list.firsts(), [5, 3].as_slice());
     let copy = list.clone()?;
-    assert_eq!(rt; copy.capacity(), 2);
-    assert!(rt; copy == list);
+    same(&rt, copy.capacity(), 2);
+    holds(&rt, copy == list);
     list.clear();
-    assert_eq!(rt; list.capacity(), 4);
-    assert!(rt; copy != list);
-    assert_eq!(rt;
-        format!(in rt.alloc(); "{copy:?}")?.as_str(),
-        "[(5, 6), (3, 4)]"
-    );
+    same(&rt, list.capacity(), 4);
+    holds(&rt, copy != list);
+    same(&rt, format!(in rt.alloc(); "{copy:?}")?.as_str(), "[(5, 6), (3, 4)]");
     Ok(())
 }
 
@@ -194,8 +192,8 @@ fn parts_that_are_lent(rt: HostRuntime) -> Result<(), Fail> {
     *list.second_at_mut(0) = 10;
     let (first, second) = list.pair_at_mut(1);
     *second += *first % 2;
-    assert_eq!(rt; list.firsts(), [7, 9].as_slice());
-    assert_eq!(rt; list.seconds(), [10, 9].as_slice());
+    same(&rt, list.firsts(), [7, 9].as_slice());
+    same(&rt, list.seconds(), [10, 9].as_slice());
     let (first, second) = list.get_unchecked_mut(1);
     *first = 13;
     *second = 14;
@@ -203,9 +201,9 @@ fn parts_that_are_lent(rt: HostRuntime) -> Result<(), Fail> {
         *first = 11;
         *second = 12;
     }
-    assert!(rt; list.get_mut(2).is_none());
-    assert_eq!(rt; list.firsts(), [11, 13].as_slice());
-    assert_eq!(rt; list.seconds(), [12, 14].as_slice());
+    holds(&rt, list.get_mut(2).is_none());
+    same(&rt, list.firsts(), [11, 13].as_slice());
+    same(&rt, list.seconds(), [12, 14].as_slice());
     Ok(())
 }
 
@@ -214,20 +212,20 @@ fn walks_from_both_ends(rt: HostRuntime) -> Result<(), Fail> {
     let list = list_of(rt.alloc(), &[(1, 2), (3, 4), (5, 6)])?;
     let mut walk = list.iter();
     let mut again = walk.clone()?;
-    assert_eq!(rt; walk.next().map(|pair| *pair.0), Some(1));
-    assert_eq!(rt; walk.next_back().map(|pair| *pair.0), Some(5));
-    assert_eq!(rt; walk.len(), 1);
-    assert_eq!(rt; walk.next().map(|pair| *pair.0), Some(3));
-    assert!(rt; walk.next_back().is_none());
-    assert!(rt; walk.next().is_none());
-    assert_eq!(rt; again.next_back().map(|pair| *pair.1), Some(6));
+    same(&rt, walk.next().map(|pair| *pair.0), Some(1));
+    same(&rt, walk.next_back().map(|pair| *pair.0), Some(5));
+    same(&rt, walk.len(), 1);
+    same(&rt, walk.next().map(|pair| *pair.0), Some(3));
+    holds(&rt, walk.next_back().is_none());
+    holds(&rt, walk.next().is_none());
+    same(&rt, again.next_back().map(|pair| *pair.1), Some(6));
     let mut walk = list.into_iter();
-    assert_eq!(rt; walk.next_back(), Some((5, 6)));
-    assert_eq!(rt; walk.next(), Some((1, 2)));
-    assert_eq!(rt; walk.next(), Some((3, 4)));
-    assert_eq!(rt; walk.len(), 0);
-    assert_eq!(rt; walk.next_back(), None);
-    assert_eq!(rt; walk.next(), None);
+    same(&rt, walk.next_back(), Some((5, 6)));
+    same(&rt, walk.next(), Some((1, 2)));
+    same(&rt, walk.next(), Some((3, 4)));
+    same(&rt, walk.len(), 0);
+    same(&rt, walk.next_back(), None);
+    same(&rt, walk.next(), None);
     Ok(())
 }
 
@@ -241,23 +239,23 @@ fn parts_without_size(rt: HostRuntime) -> Result<(), Fail> {
         second.push(i, ())?;
         neither.push((), ())?;
     }
-    assert_eq!(rt; first.capacity(), 8);
-    assert_eq!(rt; second.capacity(), 8);
-    assert_eq!(rt; neither.capacity(), 8);
-    assert_eq!(rt; first.iter().count(), 5);
-    assert_eq!(rt; second.iter().rev().count(), 5);
-    assert_eq!(rt; neither.iter().count(), 5);
+    same(&rt, first.capacity(), 8);
+    same(&rt, second.capacity(), 8);
+    same(&rt, neither.capacity(), 8);
+    same(&rt, first.iter().count(), 5);
+    same(&rt, second.iter().rev().count(), 5);
+    same(&rt, neither.iter().count(), 5);
     let mut walk = first.into_iter();
-    assert_eq!(rt; walk.next_back().map(|pair| pair.1), Some(4));
-    assert_eq!(rt; walk.next().map(|pair| pair.1), Some(0));
-    assert_eq!(rt; walk.len(), 3);
+    same(&rt, walk.next_back().map(|pair| pair.1), Some(4));
+    same(&rt, walk.next().map(|pair| pair.1), Some(0));
+    same(&rt, walk.len(), 3);
     let mut walk = second.into_iter();
-    assert_eq!(rt; walk.next_back().map(|pair| pair.0), Some(4));
-    assert_eq!(rt; walk.len(), 4);
+    same(&rt, walk.next_back().map(|pair| pair.0), Some(4));
+    same(&rt, walk.len(), 4);
     let mut walk = neither.into_iter();
-    assert!(rt; walk.next().is_some());
-    assert!(rt; walk.next_back().is_some());
-    assert_eq!(rt; walk.len(), 3);
+    holds(&rt, walk.next().is_some());
+    holds(&rt, walk.next_back().is_some());
+    same(&rt, walk.len(), 3);
     Ok(())
 }
 
@@ -325,18 +323,12 @@ fn values_are_written_in_their_places(rt: HostRuntime) -> Result<(), Fail> {
         list.push((i, u32::from(i)), i)?;
     }
     let keys = [Some(0), Some(4), Some(1), Some(3), Some(2), None, None];
-    assert_eq!(rt; add_tens(&mut list), keys);
-    assert_eq!(rt;
-        list.firsts(),
-        [(0, 10), (1, 11), (2, 12), (3, 13), (4, 14)].as_slice()
-    );
-    assert_eq!(rt; write_values(&mut list), 3);
-    assert_eq!(rt;
-        list.firsts(),
-        [(0, 6), (1, 7), (2, 7), (3, 7), (4, 8)].as_slice()
-    );
-    assert_eq!(rt; list.seconds(), [0, 1, 2, 3, 4].as_slice());
-    assert_eq!(rt; list.capacity(), 8);
+    same(&rt, add_tens(&mut list), keys);
+    same(&rt, list.firsts(), [(0, 10), (1, 11), (2, 12), (3, 13), (4, 14)].as_slice());
+    same(&rt, write_values(&mut list), 3);
+    same(&rt, list.firsts(), [(0, 6), (1, 7), (2, 7), (3, 7), (4, 8)].as_slice());
+    same(&rt, list.seconds(), [0, 1, 2, 3, 4].as_slice());
+    same(&rt, list.capacity(), 8);
     Ok(())
 }
 
@@ -347,12 +339,12 @@ fn values_without_size_are_lent(rt: HostRuntime) -> Result<(), Fail> {
         list.push(((), ()), ())?;
     }
     let mut walk = list.iter_firsts_mut();
-    assert_eq!(rt; walk.len(), 3);
-    assert!(rt; walk.next_back().is_some());
-    assert!(rt; walk.next().is_some());
+    same(&rt, walk.len(), 3);
+    holds(&rt, walk.next_back().is_some());
+    holds(&rt, walk.next().is_some());
     let mut values = ValuesMut::of(walk);
-    assert_eq!(rt; values.len(), 1);
-    assert!(rt; values.next_back().is_some());
-    assert!(rt; values.next().is_none());
+    same(&rt, values.len(), 1);
+    holds(&rt, values.next_back().is_some());
+    holds(&rt, values.next().is_none());
     Ok(())
 }

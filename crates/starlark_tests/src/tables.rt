@@ -2,6 +2,7 @@
 ghost use Rattle.std.specs.Prelude.{◌≡◌, ◌+◌, ◌≤◌, map, true};
 ghost use Rattle.starlark_table.specs.Table.{members, table_len};
 
+use crate::given::{holds, same};
 use starlark_table::ReadyTable;
 use std::alloc::Global;
 use std::process::Abort;
@@ -14,12 +15,12 @@ fn removes_one_of_a_hash(rt: HostRuntime) -> Result<(), Fail> {
     table.insert_unique(7, 'b')?;
     table.insert_unique(7, 'c')?;
     let slot = table.find(7, |letter| *letter == 'b').ok_or("lost")?;
-    assert_eq!(rt; table.remove(slot), Some((7, 'b')));
-    assert!(rt; table.find(7, |letter| *letter == 'a').is_some());
-    assert!(rt; table.find(7, |letter| *letter == 'b').is_none());
-    assert!(rt; table.find(7, |letter| *letter == 'c').is_some());
-    assert_eq!(rt; table.find_item(7, |letter| *letter == 'c'), Some(&'c'));
-    assert_eq!(rt; table.len(), 2);
+    same(&rt, table.remove(slot), Some((7, 'b')));
+    holds(&rt, table.find(7, |letter| *letter == 'a').is_some());
+    holds(&rt, table.find(7, |letter| *letter == 'b').is_none());
+    holds(&rt, table.find(7, |letter| *letter == 'c').is_some());
+    same(&rt, table.find_item(7, |letter| *letter == 'c'), Some(&'c'));
+    same(&rt, table.len(), 2);
     Ok(())
 }
 
@@ -34,8 +35,8 @@ fn asks_about_the_whole_hash(rt: HostRuntime) -> Result<(), Fail> {
         calls = calls.wrapping_add(1);
         false
     });
-    assert!(rt; found.is_none());
-    assert_eq!(rt; calls, 1);
+    holds(&rt, found.is_none());
+    same(&rt, calls, 1);
     Ok(())
 }
 
@@ -56,11 +57,11 @@ fn fill(table: &mut ReadyTable<u64>, count: u64) -> bool
 #[test]
 fn fills_the_room_that_it_has(rt: HostRuntime) -> Result<(), Fail> {
     let mut table = ReadyTable::with_capacity(rt.alloc(), 10)?;
-    assert!(rt; fill(&mut table, 10));
+    holds(&rt, fill(&mut table, 10));
     table.clear();
-    assert_eq!(rt; table.len(), 0);
-    assert!(rt; fill(&mut table, 10));
-    assert_eq!(rt; table.len(), 10);
+    same(&rt, table.len(), 0);
+    holds(&rt, fill(&mut table, 10));
+    same(&rt, table.len(), 10);
     Ok(())
 }
 
@@ -73,14 +74,11 @@ fn thins(rt: &impl Abort, alloc: Global, hash: u64) -> Result<(), Fail> {
     for item in 0u32..1000 {
         if item % 2 == 0 {
             let slot = table.find(hash, |other| *other == item).ok_or("lost")?;
-            assert_eq!(rt; table.remove(slot), Some((hash, item)));
+            same(rt, table.remove(slot), Some((hash, item)));
         }
     }
     for item in 0u32..1000 {
-        assert_eq!(rt;
-            table.find(hash, |other| *other == item).is_some(),
-            item % 2 == 1
-        );
+        same(rt, table.find(hash, |other| *other == item).is_some(), item % 2 == 1);
     }
     Ok(())
 }
@@ -98,14 +96,14 @@ fn takes_in_as_much_as_goes(rt: HostRuntime) -> Result<(), Fail> {
     for item in 0..room {
         table.insert_unique(item, item)?;
     }
-    assert_eq!(rt; table.room(), 0);
+    same(&rt, table.room(), 0);
     for round in 0u64..1000 {
         let slot = table.find(round, |item| *item == round).ok_or("lost")?;
-        assert_eq!(rt; table.remove(slot), Some((round, round)));
+        same(&rt, table.remove(slot), Some((round, round)));
         let item = room.wrapping_add(round);
-        assert!(rt; table.insert_unique(item, item).is_ok());
+        holds(&rt, table.insert_unique(item, item).is_ok());
     }
-    assert_eq!(rt; table.room(), 0);
+    same(&rt, table.room(), 0);
     Ok(())
 }
 
@@ -115,19 +113,19 @@ fn walks_and_writes(rt: HostRuntime) -> Result<(), Fail> {
     for item in 0u64..100 {
         table.insert_unique(item << 58, item)?;
     }
-    assert_eq!(rt; table.iter().len(), 100);
+    same(&rt, table.iter().len(), 100);
     table.replace_each(|item| item % 10);
     table.retain(|item| {
         *item /= 2;
         *item < 3
     });
-    assert_eq!(rt; table.len(), 60);
+    same(&rt, table.len(), 60);
     let copy = table.clone()?;
     let mut sum = 0u64;
     for item in &copy {
         sum = sum.wrapping_add(*item);
     }
-    assert_eq!(rt; sum, 60);
+    same(&rt, sum, 60);
     let mut slot = table.slot_from(0);
     for _ in 0..60 {
         let here = slot.ok_or("a member is missing")?;
@@ -136,17 +134,17 @@ fn walks_and_writes(rt: HostRuntime) -> Result<(), Fail> {
         }
         slot = table.slot_from(here.wrapping_add(1));
     }
-    assert_eq!(rt; slot, None);
+    same(&rt, slot, None);
     for item in table.iter_mut() {
-        assert_eq!(rt; *item, 6);
+        same(&rt, *item, 6);
         *item = 7;
     }
     let mut sevens = 0u32;
     for (_, item) in table.into_iter() {
-        assert_eq!(rt; item, 7);
+        same(&rt, item, 7);
         sevens = sevens.wrapping_add(1);
     }
-    assert_eq!(rt; sevens, 60);
+    same(&rt, sevens, 60);
     Ok(())
 }
 
@@ -163,18 +161,18 @@ fn lends_each_item_once(rt: HostRuntime) -> Result<(), Fail> {
     let mut walk = table.iter_mut();
     let mut left = 20;
     for expected in before.as_slice() {
-        assert_eq!(rt; walk.len(), left);
+        same(&rt, walk.len(), left);
         let item = walk.next().ok_or("a member is missing")?;
-        assert_eq!(rt; *item, *expected);
+        same(&rt, *item, *expected);
         *item = expected.wrapping_add(100);
         left = left.wrapping_sub(1);
     }
-    assert!(rt; walk.next().is_none());
-    assert!(rt; walk.next().is_none());
-    assert_eq!(rt; table.len(), 20);
+    holds(&rt, walk.next().is_none());
+    holds(&rt, walk.next().is_none());
+    same(&rt, table.len(), 20);
     for item in 0u64..20 {
         let slot = table.find(item % 7, |other| *other == item.wrapping_add(100));
-        assert!(rt; slot.is_some());
+        holds(&rt, slot.is_some());
     }
     Ok(())
 }
@@ -188,10 +186,10 @@ fn lends_items_without_size(rt: HostRuntime) -> Result<(), Fail> {
     let room = table.room();
     let mut walk = table.iter_mut();
     for _ in 0..5 {
-        assert!(rt; walk.next().is_some());
+        holds(&rt, walk.next().is_some());
     }
-    assert!(rt; walk.next().is_none());
-    assert_eq!(rt; table.room(), room);
+    holds(&rt, walk.next().is_none());
+    same(&rt, table.room(), room);
     Ok(())
 }
 
@@ -208,11 +206,11 @@ fn count_lent(table: &mut ReadyTable<u64>) -> u32 {
 #[test]
 fn lends_nothing_of_an_empty_table(rt: HostRuntime) -> Result<(), Fail> {
     let mut table = ReadyTable::new(rt.alloc());
-    assert_eq!(rt; count_lent(&mut table), 0);
+    same(&rt, count_lent(&mut table), 0);
     table.reserve(10)?;
-    assert_eq!(rt; count_lent(&mut table), 0);
+    same(&rt, count_lent(&mut table), 0);
     table.insert_unique(u64::MAX, 5)?;
-    assert_eq!(rt; count_lent(&mut table), 1);
+    same(&rt, count_lent(&mut table), 1);
     Ok(())
 }
 
@@ -235,8 +233,8 @@ fn overwrites_each_item(rt: HostRuntime) -> Result<(), Fail> {
     }
     overwrite(&mut table, 3);
     for item in &table {
-        assert_eq!(rt; *item, 3);
+        same(&rt, *item, 3);
     }
-    assert_eq!(rt; table.len(), 9);
+    same(&rt, table.len(), 9);
     Ok(())
 }

@@ -2,7 +2,7 @@
 ghost use Rattle.std.specs.Prelude.{◌≡◌, map};
 ghost use Rattle.starlark_hash.specs.Entries.{entry_hash, entry_key};
 
-use crate::given::under;
+use crate::given::{holds, same, under};
 use starlark_hash::{NoRoom, StarlarkHashValue, StarlarkHasher, TextKey};
 use starlark_vecmap::{VecMap, find_hash_in_array};
 use std::alloc::Global;
@@ -22,13 +22,13 @@ fn five(alloc: Global) -> Result<VecMap<u32, u32>, Fail> {
 #[test]
 fn finds_the_least_place(rt: HostRuntime) {
     for sought in [77, 4294967295, 0] {
-        assert_eq!(rt; find_hash_in_array(&[], sought), None);
+        same(&rt, find_hash_in_array(&[], sought), None);
         for len in 1..20 {
             let mut array = [88; 19];
-            assert_eq!(rt; find_hash_in_array(&array[..len], sought), None);
+            same(&rt, find_hash_in_array(&array[..len], sought), None);
             for i in (0..len).rev() {
                 array[i] = sought;
-                assert_eq!(rt; find_hash_in_array(&array[..len], sought), Some(i));
+                same(&rt, find_hash_in_array(&array[..len], sought), Some(i));
             }
         }
     }
@@ -58,24 +58,18 @@ fn looks_texts_up(rt: HostRuntime) -> Result<(), Fail> {
     for (hash, value) in [(1, 10), (2, 20), (1, 30)] {
         map.insert_hashed_unique_unchecked(under(hash, value.to_string(alloc)?), value)?;
     }
-    assert_eq!(rt; map.get_index_of_hashed(under(1, &TextKey("30"))), Some(2));
-    assert_eq!(rt; map.get_index_of_hashed(under(2, &TextKey("30"))), None);
-    assert!(rt; map.get_index(1).map(|pair| *pair.1) == Some(20));
-    assert!(rt; map.get_index(3).is_none());
+    same(&rt, map.get_index_of_hashed(under(1, &TextKey("30"))), Some(2));
+    same(&rt, map.get_index_of_hashed(under(2, &TextKey("30"))), None);
+    holds(&rt, map.get_index(1).map(|pair| *pair.1) == Some(20));
+    holds(&rt, map.get_index(3).is_none());
     if map.len() > 2 {
         let (key, value) = map.get_unchecked(2);
-        assert_eq!(rt;
-            (key.hash().get(), key.key().as_str(), *value),
-            (1, "30", 30)
-        );
+        same(&rt, (key.hash().get(), key.key().as_str(), *value), (1, "30", 30));
         let (key, value) = map.remove(0);
-        assert_eq!(rt;
-            (key.hash().get(), key.key().as_str(), value),
-            (1, "10", 10)
-        );
+        same(&rt, (key.hash().get(), key.key().as_str(), value), (1, "10", 10));
     }
-    assert!(rt; map.remove_hashed_entry(under(1, &TextKey("10"))).is_none());
-    assert_eq!(rt; map.len(), 2);
+    holds(&rt, map.remove_hashed_entry(under(1, &TextKey("10"))).is_none());
+    same(&rt, map.len(), 2);
     Ok(())
 }
 
@@ -83,14 +77,14 @@ fn looks_texts_up(rt: HostRuntime) -> Result<(), Fail> {
 fn walks_keys_from_both_ends(rt: HostRuntime) -> Result<(), Fail> {
     let map = five(rt.alloc())?;
     let mut keys = map.keys();
-    assert_eq!(rt; keys.next().copied(), Some(0));
-    assert_eq!(rt; keys.next_back().copied(), Some(4));
-    assert_eq!(rt; keys.len(), 3);
-    assert_eq!(rt; keys.nth(1).copied(), Some(2));
-    assert_eq!(rt; keys.len(), 1);
-    assert_eq!(rt; keys.next_back().copied(), Some(3));
-    assert_eq!(rt; keys.next_back().copied(), None);
-    assert_eq!(rt; keys.next().copied(), None);
+    same(&rt, keys.next().copied(), Some(0));
+    same(&rt, keys.next_back().copied(), Some(4));
+    same(&rt, keys.len(), 3);
+    same(&rt, keys.nth(1).copied(), Some(2));
+    same(&rt, keys.len(), 1);
+    same(&rt, keys.next_back().copied(), Some(3));
+    same(&rt, keys.next_back().copied(), None);
+    same(&rt, keys.next().copied(), None);
     Ok(())
 }
 
@@ -103,13 +97,13 @@ fn clones_walks(rt: HostRuntime) -> Result<(), Fail> {
     let mut values = map.values().clone()?;
     for key in 0..5 {
         let value = key + 10;
-        assert!(rt; pairs.next() == Some((&key, &value)));
-        assert!(rt; entries.next() == Some((under(7, &key), &value)));
-        assert_eq!(rt; keys.next().copied(), Some(key));
-        assert_eq!(rt; values.next().copied(), Some(value));
+        holds(&rt, pairs.next() == Some((&key, &value)));
+        holds(&rt, entries.next() == Some((under(7, &key), &value)));
+        same(&rt, keys.next().copied(), Some(key));
+        same(&rt, values.next().copied(), Some(value));
     }
-    assert!(rt; pairs.next().is_none() && entries.next().is_none());
-    assert!(rt; keys.next().is_none() && values.next().is_none());
+    holds(&rt, pairs.next().is_none() && entries.next().is_none());
+    holds(&rt, keys.next().is_none() && values.next().is_none());
     Ok(())
 }
 
@@ -120,14 +114,14 @@ fn owns_the_entries(rt: HostRuntime) -> Result<(), Fail> {
         *map.get_unchecked_mut(0).1 = 5;
     }
     let copy = map.clone()?;
-    assert!(rt; map.eq_ordered(&copy));
-    assert_eq!(rt; copy.into_iter().next_back(), Some((4, 14)));
-    assert_eq!(rt; map.clone()?.into_values().next(), Some(5));
+    holds(&rt, map.eq_ordered(&copy));
+    same(&rt, copy.into_iter().next_back(), Some((4, 14)));
+    same(&rt, map.clone()?.into_values().next(), Some(5));
     let mut keys = map.clone()?.into_keys();
-    assert_eq!(rt; keys.size_hint(), (5, Some(5)));
-    assert_eq!(rt; keys.nth(1), Some(1));
-    assert_eq!(rt; keys.next_back(), Some(4));
-    assert_eq!(rt; map.into_iter_hashed().next(), Some((under(7, 0), 5)));
+    same(&rt, keys.size_hint(), (5, Some(5)));
+    same(&rt, keys.nth(1), Some(1));
+    same(&rt, keys.next_back(), Some(4));
+    same(&rt, map.into_iter_hashed().next(), Some((under(7, 0), 5)));
     Ok(())
 }
 
@@ -161,19 +155,19 @@ fn write_two<K>(list: &mut VecMap<K, u32>)
 fn writes_values(rt: HostRuntime) -> Result<(), Fail> {
     let mut map = five(rt.alloc())?;
     write_two(&mut map);
-    assert!(rt; map.values().all(|value| *value == 2));
+    holds(&rt, map.values().all(|value| *value == 2));
     write_thrice(&mut map);
     let mut pairs = map.iter_mut();
-    assert_eq!(rt; pairs.size_hint(), (5, Some(5)));
+    same(&rt, pairs.size_hint(), (5, Some(5)));
     if let Some((key, value)) = pairs.next_back() {
         *value = key.wrapping_add(96);
     }
-    assert_eq!(rt; pairs.next().map(|pair| (*pair.0, *pair.1)), Some((0, 0)));
-    assert_eq!(rt; pairs.len(), 3);
+    same(&rt, pairs.next().map(|pair| (*pair.0, *pair.1)), Some((0, 0)));
+    same(&rt, pairs.len(), 3);
     let mut values = map.values_mut();
-    assert_eq!(rt; values.next_back().copied(), Some(100));
-    assert_eq!(rt; values.nth(1).copied(), Some(3));
-    assert_eq!(rt; values.len(), 2);
+    same(&rt, values.next_back().copied(), Some(100));
+    same(&rt, values.nth(1).copied(), Some(3));
+    same(&rt, values.len(), 2);
     Ok(())
 }
 
@@ -188,9 +182,9 @@ fn retains_and_reverses(rt: HostRuntime) -> Result<(), Fail> {
     });
     map.reverse();
     for (key, value) in [(0, 10), (2, 32), (4, 54)] {
-        assert_eq!(rt; map.pop(), Some((under(7, key), value)));
+        same(&rt, map.pop(), Some((under(7, key), value)));
     }
-    assert!(rt; map.is_empty());
+    holds(&rt, map.is_empty());
     Ok(())
 }
 
@@ -201,29 +195,29 @@ fn sorts_and_takes_out(rt: HostRuntime) -> Result<(), Fail> {
     map.insert_hashed_unique_unchecked(under(8, 5), 1)?;
     map.insert_hashed_unique_unchecked(under(8, 3), 2)?;
     map.insert_hashed_unique_unchecked(under(8, 5), 3)?;
-    assert!(rt; !map.is_sorted_by_key());
+    holds(&rt, !map.is_sorted_by_key());
     map.sort_keys()?;
-    assert!(rt; map.is_sorted_by_key());
-    assert_eq!(rt; map.remove_hashed_entry(under(8, 5).as_ref()), Some((5, 1)));
-    assert_eq!(rt; map.pop(), Some((under(8, 5), 3)));
-    assert_eq!(rt; map.len(), 1);
+    holds(&rt, map.is_sorted_by_key());
+    same(&rt, map.remove_hashed_entry(under(8, 5).as_ref()), Some((5, 1)));
+    same(&rt, map.pop(), Some((under(8, 5), 3)));
+    same(&rt, map.len(), 1);
     Ok(())
 }
 
 #[test]
 fn makes_room(rt: HostRuntime) -> Result<(), Fail> {
     let mut map: VecMap<u32, u32> = VecMap::new(rt.alloc());
-    assert_eq!(rt; map.capacity(), 0);
+    same(&rt, map.capacity(), 0);
     for (more, capacity) in [(0, 0), (3, 4), (4, 4), (5, 8), (20, 20)] {
         map.reserve(more)?;
         assert_eq!(rt; map.capacity(), capacity, "for {more}");
     }
     map.insert_hashed_unique_unchecked(under(1, 2), 3)?;
-    assert!(rt; map.reserve(usize::MAX).is_err());
+    holds(&rt, map.reserve(usize::MAX).is_err());
     assert!(rt; VecMap::<u32, u32>::with_capacity(rt.alloc(), usize::MAX).is_err());
-    assert_eq!(rt; (map.len(), map.capacity()), (1, 20));
+    same(&rt, (map.len(), map.capacity()), (1, 20));
     map.clear();
-    assert_eq!(rt; (map.len(), map.capacity()), (0, 20));
+    same(&rt, (map.len(), map.capacity()), (0, 20));
     Ok(())
 }
 
@@ -237,7 +231,7 @@ fn feeds_hashes_and_values(rt: HostRuntime) -> Result<(), Fail> {
         by_hand.write_u32(7);
         by_hand.write_u32(value);
     }
-    assert_eq!(rt; fed.finish(), by_hand.finish());
+    same(&rt, fed.finish(), by_hand.finish());
     Ok(())
 }
 
@@ -248,18 +242,18 @@ fn refusals_leave_the_map(rt: HostRuntime) -> Result<(), Fail> {
     for key in 0..8 {
         let taken = map.insert_hashed_unique_unchecked(under(7, 8 - key), key);
         if let Err(NoRoom((refused, value))) = taken {
-            assert_eq!(rt; (refused, value), (under(7, 8 - key), key));
-            assert_eq!(rt; map.len(), key as usize);
+            same(&rt, (refused, value), (under(7, 8 - key), key));
+            same(&rt, map.len(), key as usize);
             map.insert_hashed_unique_unchecked(under(7, 8 - key), key)?;
         }
     }
     if map.clone().is_err() {
-        assert!(rt; map.clone()?.eq_ordered(&map));
+        holds(&rt, map.clone()?.eq_ordered(&map));
     }
     if map.sort_keys().is_err() {
-        assert!(rt; map.get_index(0) == Some((&8, &0)));
+        holds(&rt, map.get_index(0) == Some((&8, &0)));
         map.sort_keys()?;
     }
-    assert!(rt; map.get_index(0) == Some((&1, &7)));
+    holds(&rt, map.get_index(0) == Some((&1, &7)));
     Ok(())
 }
