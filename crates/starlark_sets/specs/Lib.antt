@@ -1,0 +1,2 @@
+pub mod Set
+pub mod Unit
