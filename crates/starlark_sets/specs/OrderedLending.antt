@@ -19,6 +19,7 @@ module _ (K V : RattleType) (g : eq.Ghosts K.Denot) (s : MutBor (Map K.Denot V.D
   abbrev pub values_follow : GName → Fml
   values_follow γ = follows (the_row K V g) (small.the_row K V g) s.ghost_name γ (λ w. record s.now { entries = with_values s.now.entries w.entries })
 
+  -- the map ends as the one inside is left
   abbrev pub lends_inside : MutBor (Map K.Denot V.Denot) → Fml
   lends_inside r = Lends (the_row K V g) (small.the_row K V g) s r (λ m. m)
 
