@@ -1,5 +1,5 @@
-pub mod Set
-pub mod Unit
 pub mod Ordered
 pub mod OrderedLaws
 pub mod OrderedLending
+pub mod Set
+pub mod Unit
