@@ -3,3 +3,4 @@ pub mod OrderedLaws
 pub mod OrderedLending
 pub mod Set
 pub mod Unit
+pub mod Lending

@@ -5,6 +5,7 @@ ghost use Rattle.starlark_small.specs.Index.{unindexed};
 mod compare;
 mod copy;
 mod grow;
+mod lend;
 mod read;
 mod shrink;
 mod unique;
