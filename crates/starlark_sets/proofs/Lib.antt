@@ -1,2 +1,3 @@
+pub mod OrderedTold
 pub mod Additions
 pub mod Shown

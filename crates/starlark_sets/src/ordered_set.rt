@@ -6,10 +6,11 @@ mod compare;
 mod grow;
 mod read;
 mod shrink;
+mod tries;
 mod walk;
 
 use crate::small_set::SmallSet;
-pub use grow::{OccupiedError, TryInsertError};
+pub use tries::{OccupiedError, TryInsertError};
 use std::alloc::{AllocError, Global};
 use std::marker::Model;
 pub use walk::{IntoIter, Iter};

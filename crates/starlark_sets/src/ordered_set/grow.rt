@@ -16,24 +16,6 @@ use starlark_hash::NoRoom;
 use std::alloc::AllocError;
 use std::hash::Hash;
 
-/// An element that was refused, and the one that is there.
-#[derive(Debug, Drop)]
-pub struct OccupiedError<'a, T> {
-    /// The element that was refused.
-    pub value: T,
-    /// The element that is there.
-    pub occupied: &'a T,
-}
-
-/// Why `OrderedSet::try_insert` refused an element.
-#[derive(Debug, Drop)]
-pub enum TryInsertError<'a, T> {
-    /// An equal element is there, under the same hash.
-    Occupied(OccupiedError<'a, T>),
-    /// No memory was found.
-    Memory(NoRoom<T>),
-}
-
 impl<T: Eq> OrderedSet<T> {
     /// Inserts under the element's own hash, and answers whether it was new. An element that is there stays, and this
     /// one is dropped. Only a new one is refused, where there is no room and no memory is found: it comes back, and the
