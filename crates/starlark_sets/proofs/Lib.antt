@@ -1,2 +1,4 @@
 pub mod Additions
 pub mod Shown
+pub mod Differences
+pub mod Unions

@@ -1,3 +1,5 @@
 pub mod Set
 pub mod Unit
 pub mod Lending
+pub mod Difference
+pub mod Union
