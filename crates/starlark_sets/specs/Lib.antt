@@ -1,3 +1,6 @@
+pub mod Ordered
+pub mod OrderedLaws
+pub mod OrderedLending
 pub mod Set
 pub mod Unit
 pub mod Lending
