@@ -1,3 +1,5 @@
 pub mod OrderedTold
 pub mod Additions
 pub mod Shown
+pub mod Differences
+pub mod Unions

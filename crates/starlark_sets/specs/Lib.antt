@@ -6,3 +6,5 @@ pub mod OrderedTries
 pub mod Set
 pub mod Unit
 pub mod Lending
+pub mod Difference
+pub mod Union

@@ -1,8 +1,11 @@
 -- What a contract sees of a `SmallSet`: the map whose keys are the elements, and whose every value is `()`.
-use Rattle.std.specs.Prelude.{◌≡◌, ℕ, Bool, List, Option, Result, MatchOption, MatchResult, IsOk}
+use Rattle.std.specs.Prelude.{◌≡◌, ℕ, Bool, List, Option, Result, MatchOption, MatchResult, IsOk, IsTrue, Some}
+use Rattle.std.specs.Borrow.{Bor}
 use Rattle.std.specs.Option.{option_map}
 use Rattle.starlark_hash.specs.declared.hashed.Hashed.{Hashed}
-use Rattle.starlark_hash.specs.Entries.{Entry, entry_at, entry_key, match_of}
+use Rattle.starlark_hash.specs.Entries.{Entry, entry_at, entry_key, match_of, position_of}
+use Rattle.starlark_hash.specs.HashValue.{hashed}
+use Rattle.starlark_hash.specs.declared.hash_value.StarlarkHashValue.{StarlarkHashValue}
 use Rattle.starlark_small.specs.Insertion.{IsInserted, IsRefused}
 use Rattle.starlark_small.specs.Map.{Map}
 
@@ -26,3 +29,12 @@ module _ {T : Type 0} where
       MatchOption (match_of eq old.entries element)
       (MatchResult r (λ _. IsInserted old element tt new) (λ _. IsRefused old new × (old.room ≡ 0)))
       (λ _. IsOk r × (new ≡ old))
+
+  -- new is old after an element was wanted for this query under this hash, and r shows it: one that is there changes
+  -- nothing; where it is lacking, one to which the query is equivalent goes last, or is refused
+  abbrev pub AddsFor : {Q E : Type 0} → (Q → T → Bool) → Q → StarlarkHashValue → Set T → Result (Bor T) E → Set T → Type 0
+  AddsFor equivalent query hash old r new =
+      let place = position_of hash (equivalent query) old.entries in
+      MatchOption place
+      (MatchResult r (λ p. IsTrue (equivalent query p.now) × IsInserted old (hashed hash p.now) tt new) (λ _. IsRefused old new))
+      (λ i. MatchResult r (λ p. (element_at old place ≡ Some p.now) × (new ≡ old)) (λ _. ⊥))

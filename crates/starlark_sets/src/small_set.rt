@@ -10,6 +10,7 @@ mod read;
 mod shrink;
 mod unique;
 mod walk;
+mod with_other;
 
 use starlark_small::SmallMap;
 use std::alloc::{AllocError, Global};
