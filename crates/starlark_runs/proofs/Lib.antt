@@ -1,3 +1,4 @@
 pub mod RunLemmas
 pub mod Determined
+pub mod MemoryLemmas
 pub mod OneListLemmas
