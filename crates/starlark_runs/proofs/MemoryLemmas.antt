@@ -1,13 +1,13 @@
 -- What the words of a run's memory say of one another.
-use Rattle.std.proofs.Common.{◌≡◌, ◌+◌, ◌*◌, ◌<◌, ◌≤◌, ℕ, Bool, List, [], ◌∷◌, ◌++◌, length, max, Option, Some, None, cond, refl, sym, ap, subst, ◌∙◌, arith, length-append}
-use Rattle.std.specs.Prelude.{IsSome, is_none}
+use Rattle.std.proofs.Common.{◌≡◌, ◌+◌, ◌*◌, ◌≤◌, ℕ, Bool, List, [], ◌∷◌, ◌++◌, length, max, Option, Some, None, cond, refl, sym, ap, subst, ◌∙◌, arith, length-append}
+use Rattle.std.specs.Prelude.{is_none}
 use Rattle.std.specs.Option.{option_map_or}
 use Rattle.std.specs.declared.cmp.Ordering.{Ordering}
 use Rattle.starlark_hash.proofs.EntryLemmas.{length-set_value_at}
 use Rattle.starlark_hash.specs.Entries.{Entry, insert_entry, match_of, set_value_at, with_value}
 use Rattle.starlark_hash.specs.declared.hashed.Hashed.{Hashed}
 use Rattle.starlark_small.specs.Map.{Map}
-use Rattle.starlark_runs.specs.Memory.{EndsWith, HasMemory, IsPastCeiling, Memory, MemoryRun, ceiling_after, indexed_after, length_asked, memory_after, memory_of}
+use Rattle.starlark_runs.specs.Memory.{EndsWith, HasMemory, Memory, MemoryRun, ceiling_after, indexed_after, length_asked, memory_after, memory_of}
 use Rattle.starlark_runs.specs.Run.{Run, Step}
 use Rattle.starlark_runs.specs.declared.command.Command.{Command}
 use Rattle.starlark_runs.specs.declared.command.Command.TheVariants.{Look, At, First, Last, Len, Insert, Change, Remove, RemoveAt, Pop, Clear, Reverse, Reserve, DropIndex, Sort}
