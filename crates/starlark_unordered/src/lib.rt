@@ -1,0 +1,11 @@
+//! Maps without an order: finite maps, which compare and hash alike whatever history built them.
+#![tactic(auto)]
+
+pub mod entry;
+pub mod iter;
+mod mapped;
+pub mod unordered_map;
+
+pub use entry::{Entry, OccupiedEntry, VacantEntry};
+pub use iter::Entries;
+pub use unordered_map::UnorderedMap;
