@@ -1,20 +1,60 @@
 -- A search of the items of a hash, as a search of their keys.
-use Rattle.std.proofs.Common.{◌≡◌, ℕ, suc, Bool, true, false, List, [], ◌∷◌, ◌++◌, map, Option, Some, None, ap, sym, subst, arith, IsPermutation}
+use Rattle.std.proofs.Common.{◌≡◌, ℕ, suc, ◌+◌, ◌<◌, ◌^◌, Bool, true, false, cond, if◌then◌else◌, nat_eq, eq-eqb, eqb-true, List, [], ◌∷◌, ◌++◌, map, Option, Some, None, refl, ap, sym, ◌∙◌, subst, arith, IsPermutation}
 use Rattle.std.specs.Borrow.{Bor}
 use Rattle.std.specs.Fn.{Mut, CalledAt, TakesAt}
-use Rattle.std.specs.List.{Contains}
+use Rattle.std.specs.List.{All, Contains, enumerate_from, filter}
+use Rattle.std.specs.Cmp.{both_ways}
+use Rattle.std.specs.Hash.{HashWrites}
+use Rattle.std.proofs.lemmas.List.Elements.{All-contains, All-tail}
+use Rattle.starlark_hash.specs.Hasher.{own_hash}
+use Rattle.starlark_hash.specs.HashValue.{hash_number, promoted}
+use Rattle.starlark_hash.specs.declared.hash_value.StarlarkHashValue.{StarlarkHashValue}
+use Rattle.starlark_hash.proofs.Promote.{promoted-injective}
+use Rattle.starlark_unordered.specs.Pairs.{has_own_hash, keys_from, keys_under}
+use Rattle.starlark_unordered.specs.Sound.{IsKeyed, keyed, home_of}
 use Rattle.std.proofs.lemmas.List.Sorted.{IsPermutation-map, IsPermutation-sym, Contains-permutation}
 use Rattle.std.proofs.lemmas.Option.{none-some, same_Some}
 use Rattle.starlark_hash.specs.Search.{Asks, Searches, Refuses, CanSearch}
 use Rattle.std.specs.Prelude.{IfSome}
 use Rattle.std.specs.Option.{is_some, option_map}
-use Rattle.starlark_table.specs.Table.{Table, items_under, item_in}
+use Rattle.starlark_table.specs.Table.{Table, members, filled, holders, items_under, item_in}
 use Rattle.starlark_table.proofs.TableLemmas.{member_at-items_under}
 use Rattle.starlark_unordered.proofs.Lists.{map-middle}
 
 -- the same names, each with its key
 abbrev pub named_keys : {K V : Type 0} → List (ℕ × (K × V)) → List (ℕ × K)
 named_keys ps = map (λ s. (s.0, s.1.0)) ps
+
+-- where each key stands under its own hash, the keys of a hash are those that have it
+module _ {K : Type 0} (feeds : K → HashWrites) (hash : StarlarkHashValue) (fits : hash_number hash < 2 ^ 32) where
+  abbrev home : ℕ
+  home = promoted (hash_number hash)
+
+  -- two own hashes are promoted alike only where they are the same
+  pub same_test : (key : K) (h : ℕ) → h ≡ home_of feeds key → nat_eq h home ≡ has_own_hash feeds hash key
+  same_test key h own =
+      both_ways (nat_eq h home) (has_own_hash feeds hash key)
+      (λ same. eq-eqb (hash_number (own_hash feeds key)) (hash_number hash)
+      (promoted-injective (hash_number (own_hash feeds key)) (hash_number hash) (omega arith) fits (sym own ∙ eqb-true h home same)))
+      (λ same. eq-eqb h home (own ∙ ap promoted (eqb-true (hash_number (own_hash feeds key)) (hash_number hash) same)))
+
+module _ {K V : Type 0} (feeds : K → HashWrites) (hash : StarlarkHashValue) (fits : hash_number hash < 2 ^ 32) where
+  named_step : (n : ℕ) (p : K × V) (named : List (ℕ × (K × V))) (keys : List (ℕ × K)) (a b : Bool) → a ≡ b → named_keys named ≡ keys
+      → named_keys (if a then (n, p) ∷ named else named) ≡ cond b ((n, p.0) ∷ keys) keys
+  named_step n p named keys true b same later = subst (λ c. (n, p.0) ∷ named_keys named ≡ cond c ((n, p.0) ∷ keys) keys) same (ap (λ l. (n, p.0) ∷ l) later)
+  named_step n p named keys false b same later = subst (λ c. named_keys named ≡ cond c ((n, p.0) ∷ keys) keys) same later
+
+  named-holders : (n : ℕ) (slots : List (Option (ℕ × (K × V)))) → All (λ p. p.0 ≡ home_of feeds p.1) (keyed (filled slots))
+      → named_keys (holders (home feeds hash fits) (enumerate_from n slots)) ≡ filter (λ s. has_own_hash feeds hash s.1) (keys_from n slots)
+  named-holders n [] own = refl
+  named-holders n (None ∷ slots) own = named-holders (n + 1) slots own
+  named-holders n (Some (h, p) ∷ slots) own =
+      named_step n p (holders (home feeds hash fits) (enumerate_from (n + 1) slots)) (filter (λ s. has_own_hash feeds hash s.1) (keys_from (n + 1) slots)) (nat_eq h (home feeds hash fits)) (has_own_hash feeds hash p.0)
+      (same_test feeds hash fits p.0 h (All-contains (λ p. p.0 ≡ home_of feeds p.1) (keyed ((h, p) ∷ filled slots)) (h, p.0) own (0, omega arith, refl)))
+      (named-holders (n + 1) slots (All-tail (λ p. p.0 ≡ home_of feeds p.1) (h, p.0) (keyed (filled slots)) own))
+
+  pub named-items_under : (eq : K → K → Bool) (m : Table (K × V)) → IsKeyed eq feeds (keyed (members m)) → named_keys (items_under (home feeds hash fits) m) ≡ keys_under feeds hash m
+  named-items_under eq m keys = named-holders 0 m.slots keys.own
 
 -- w, asked about a pair, asks g about its key; inner is g's state in w's
 module _ {C F K V : Type 0} (g : Mut F (Bor K × Unit {0}) Bool) (w : Mut C (Bor (K × V) × Unit {0}) Bool) (inner : C → F)

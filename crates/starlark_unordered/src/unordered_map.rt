@@ -1,5 +1,5 @@
 //! The map. It alone sees its table.
-ghost use Rattle.std.specs.Prelude.{◌≡◌, ◌≤◌, [], length, nat_eq, IfOk, IsOk};
+ghost use Rattle.std.specs.Prelude.{◌≡◌, ◌≤◌, ◌==◌, [], length, IfOk, IsOk};
 ghost use Rattle.starlark_unordered.specs.Pairs.{pairs_of, HasDistinctKeys};
 
 mod compare;
@@ -65,6 +65,14 @@ impl<K: Eq + Hash, V> UnorderedMap<K, V> {
         ensures distinct { HasDistinctKeys K.eq (pairs_of self.now) }
     {
         self.table.len()
+    }
+
+    /// Whether there is no pair.
+    #[inline]
+    pub fn is_empty(&self) -> bool
+        ensures { result ≡ (length (pairs_of self.now) == 0) }
+    {
+        self.table.len() == 0
     }
 
     /// How many new pairs surely need no memory.

@@ -6,11 +6,11 @@ ghost use Rattle.std.specs.Map.{lookup};
 ghost use Rattle.std.specs.Option.{is_some, option_map};
 ghost use Rattle.starlark_hash.specs.Search.{CanSearch, Searches};
 ghost use Rattle.starlark_table.specs.Table.{item_in, table_len};
-ghost use Rattle.starlark_unordered.specs.Pairs.{pairs_of, keys_under, IsSlotOf, KeepsRoom};
+ghost use Rattle.starlark_unordered.specs.Pairs.{pairs_of, keys_under, under_own, IsSlotOf, KeepsRoom};
 ghost use Rattle.starlark_unordered.specs.Sound.{home_of};
 
 use super::UnorderedMap;
-use starlark_hash::{KeyQuery, NoRoom, StarlarkHashValue};
+use starlark_hash::{Equivalent, KeyQuery, NoRoom, StarlarkHashValue};
 use std::hash::Hash;
 
 impl<K: Eq + Hash, V> UnorderedMap<K, V> {
@@ -30,6 +30,23 @@ impl<K: Eq + Hash, V> UnorderedMap<K, V> {
         )
     }
 
+    // The slot of the key that the query stands for, where this is the key's own hash.
+    #[inline]
+    pub(crate) fn slot_hashed<Q: Equivalent<K>>(
+        &self,
+        hash: StarlarkHashValue,
+        query: &Q,
+    ) -> Option<usize>
+        ensures { IsSlotOf (under_own K.hash_input hash (Q.equivalent query.now)) self.now result }
+    {
+        self.table.find(
+            hash.promote(),
+            |p: &(K, V)| -> bool
+                ensures { result ≡ Q.equivalent query.entry.now p.now.0 }
+            { query.equivalent(&p.0) },
+        )
+    }
+
     // A slot under this hash whose key `is_match` accepts.
     #[inline]
     pub(crate) fn slot_accepted<F: FnMut(&K) -> bool>(
@@ -39,8 +56,8 @@ impl<K: Eq + Hash, V> UnorderedMap<K, V> {
     ) -> Option<usize>
     where
         F: Drop,
-        requires { CanSearch F.FnMut (keys_under hash self.now) is_match }
-        ensures found { (last : F) × Searches F.FnMut (keys_under hash self.now) is_match result last }
+        requires { CanSearch F.FnMut (keys_under K.hash_input hash self.now) is_match }
+        ensures found { (last : F) × Searches F.FnMut (keys_under K.hash_input hash self.now) is_match result last }
         ensures there { IfSome result (λ slot. is_some (item_in self.now slot) ≡ true) }
     {
         self.table.find(
