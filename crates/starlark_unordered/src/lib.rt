@@ -4,8 +4,9 @@
 pub mod entry;
 pub mod iter;
 mod mapped;
+mod moved;
 pub mod unordered_map;
 
 pub use entry::{Entry, OccupiedEntry, VacantEntry};
-pub use iter::Entries;
+pub use iter::{Entries, KeysUnordered, ValuesUnordered};
 pub use unordered_map::UnorderedMap;
