@@ -1,5 +1,5 @@
 -- The runs of an iterator that is seen as the list of what it has left.
-use Rattle.std.proofs.Common.{◌≡◌, List, [], ◌∷◌, ◌++◌, map, length, Option, Some, None, ap, sym, ◌∙◌}
+use Rattle.std.proofs.Common.{◌≡◌, List, [], ◌∷◌, map, length, ap, sym, ◌∙◌}
 use Rattle.std.proofs.iter.runs.Sources.{from_front}
 use Rattle.std.specs.Iterator.{Drains, Yields}
 use Rattle.std.specs.Map.Iter.{TakesFirst, ShowsInOrder}

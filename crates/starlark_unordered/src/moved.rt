@@ -17,8 +17,8 @@ pub(crate) fn move_pairs<K: Eq + Hash + Drop, V: Drop>(
 {
     while let Some((_, (key, value))) = walk.next() {
         match moved.insert(key, value) {
-            Ok(_) => {}
-            Err(_) => return Err(AllocError),
+            Ok(_old) => {}
+            Err(_refused) => return Err(AllocError),
         }
     }
     Ok(())

@@ -10,17 +10,17 @@ loop-key-preserved-in-Ok g c =
     let es = c.loop-key.moved.entries in
     let moved =
     moves_on g.K.PartialEq.eq g.met.K.Eq.laws (c.in-Some.key, c.in-Some.value) (map (λ m. m.1) c.next.new.self) es c.insert.new.self.entries
-    (subst (λ l. HasDistinctKeys g.K.PartialEq.eq (map (λ m. m.1) l ++ es)) here inv.distinct) c.in-Ok.field-0 c.in-Ok.ensures.old c.in-Ok.ensures.entries
+    (subst (λ l. HasDistinctKeys g.K.PartialEq.eq (map (λ m. m.1) l ++ es)) here inv.distinct) c.in-Ok._old c.in-Ok.ensures.old c.in-Ok.ensures.entries
     (map (λ m. m.1) c.args.walk ++ c.args.moved.now.entries) (subst (λ l. IsPermutation (map (λ m. m.1) c.args.walk ++ c.args.moved.now.entries) (map (λ m. m.1) l ++ es)) here inv.same) in
     record { distinct = moved.0; same = moved.1 }
 
-pub loop-key-preserved-in-Ok-2 : goal.loop-key-preserved-in-Ok-2
-loop-key-preserved-in-Ok-2 g c =
+pub loop-key-preserved : goal.loop-key-preserved
+loop-key-preserved g c =
     let here : c.loop-key.walk ≡ (c.in-Some.field-0-0, (c.in-Some.key, c.in-Some.value)) ∷ c.next.new.self = search rules in
     let inv = c.loop-key.invariant in
     let es = c.loop-key.moved.entries in
     let moved =
     moves_on g.K.PartialEq.eq g.met.K.Eq.laws (c.in-Some.key, c.in-Some.value) (map (λ m. m.1) c.next.new.self) es c.insert.new.self.entries
-    (subst (λ l. HasDistinctKeys g.K.PartialEq.eq (map (λ m. m.1) l ++ es)) here inv.distinct) c.in-Ok.field-0 c.in-Ok.ensures.old c.in-Ok.ensures.entries
+    (subst (λ l. HasDistinctKeys g.K.PartialEq.eq (map (λ m. m.1) l ++ es)) here inv.distinct) c.in-Ok._old c.in-Ok.ensures.old c.in-Ok.ensures.entries
     (map (λ m. m.1) c.args.walk ++ c.args.moved.now.entries) (subst (λ l. IsPermutation (map (λ m. m.1) c.args.walk ++ c.args.moved.now.entries) (map (λ m. m.1) l ++ es)) here inv.same) in
     record { distinct = moved.0; same = moved.1 }

@@ -1,4 +1,4 @@
-use Rattle.std.proofs.Common.{◌≡◌, Bool, Bor, is_lt, map, sym, ◌∙◌, subst, ap, rules, of_calls, IsPermutation}
+use Rattle.std.proofs.Common.{◌≡◌, Bool, Bor, is_lt, map, ◌∙◌, subst, ap, rules, of_calls, IsPermutation}
 use Rattle.std.specs.Map.Iter.{deref_pair}
 use Rattle.std.proofs.lemmas.Fn.{answers_by}
 use Rattle.std.proofs.lemmas.List.Sorted.{IsPermutation-map, ranks_by}

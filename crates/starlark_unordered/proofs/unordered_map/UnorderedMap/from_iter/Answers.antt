@@ -1,4 +1,4 @@
-use Rattle.std.proofs.Common.{arith, ap, ◌≡◌, subst, []}
+use Rattle.std.proofs.Common.{arith, ◌≡◌, subst, []}
 use Rattle.starlark_unordered.specs.Collect.{InsertsAll}
 use Rattle.starlark_unordered.specs.Pairs.{pairs_of}
 use Rattle.starlark_unordered.proofs.unordered_map.UnorderedMap.from_iter.Goals as goal

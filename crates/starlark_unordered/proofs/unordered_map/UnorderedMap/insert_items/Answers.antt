@@ -1,6 +1,5 @@
-use Rattle.std.proofs.Common.{refl, arith, ap}
+use Rattle.std.proofs.Common.{refl, arith}
 use Rattle.std.proofs.iter.Next as it
-use Rattle.starlark_table.specs.Table.{table_len}
 use Rattle.starlark_unordered.specs.Pairs.{pairs_of}
 use Rattle.starlark_unordered.proofs.Collected.{inserts_more}
 use Rattle.starlark_unordered.proofs.unordered_map.UnorderedMap.insert_items.Goals as goal

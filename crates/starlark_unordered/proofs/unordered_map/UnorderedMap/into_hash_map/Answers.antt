@@ -1,4 +1,4 @@
-use Rattle.std.proofs.Common.{◌≡◌, ◌++◌, List, [], map, sym, ap, ◌∙◌, append-nil, subst, IsPermutation}
+use Rattle.std.proofs.Common.{◌≡◌, ◌++◌, map, sym, ◌∙◌, append-nil, subst, IsPermutation}
 use Rattle.starlark_table.specs.Table.{members}
 use Rattle.starlark_unordered.specs.Pairs.{HasDistinctKeys, pairs_of}
 use Rattle.starlark_unordered.proofs.Keys.{distinct_pairs}
