@@ -3,6 +3,7 @@
 
 pub mod entry;
 pub mod iter;
+pub mod laws;
 mod mapped;
 mod moved;
 pub mod unordered_map;
