@@ -10,9 +10,9 @@ mod tries;
 mod walk;
 
 use crate::small_set::SmallSet;
-pub use tries::{OccupiedError, TryInsertError};
 use std::alloc::{AllocError, Global};
 use std::marker::Model;
+pub use tries::{OccupiedError, TryInsertError};
 pub use walk::{IntoIter, Iter};
 
 /// A `SmallSet` that is compared and hashed in its order.
