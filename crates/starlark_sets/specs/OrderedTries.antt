@@ -1,5 +1,5 @@
 -- What `try_insert` does and answers.
-use Rattle.std.specs.Prelude.{◌≡◌, ◌<◌, Bool, Option, Some, None, Result, Ok, Err, MatchOption, MatchResult, IsErr, ⊤, length, slice_get}
+use Rattle.std.specs.Prelude.{◌≡◌, ◌<◌, Bool, Option, Some, None, Result, MatchOption, MatchResult, IsErr, ⊤, length, slice_get}
 use Rattle.std.specs.Option.{option_map}
 use Rattle.starlark_hash.specs.declared.hashed.Hashed.{Hashed}
 use Rattle.starlark_hash.specs.Entries.{entry_key, match_of}

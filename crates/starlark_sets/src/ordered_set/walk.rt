@@ -1,10 +1,12 @@
 //! The walks of an `OrderedSet`, which are those of the set inside.
 ghost use Rattle.std.specs.Prelude.{◌≡◌, ◌^◌, ◌<◌, length, map};
 ghost use Rattle.std.specs.Map.Iter.{ShowsInOrder, ShowsInReverse, GivesInOrder, GivesInReverse, deref};
-ghost use Rattle.starlark_hash.specs.Entries.{entry_key};
+ghost use Rattle.starlark_hash.specs.Entries.{IsSingle, entry_key};
+ghost use Rattle.starlark_sets.specs.Union.{ShowsUnion, union};
 
 use super::OrderedSet;
 use crate::iter;
+use crate::union::Union;
 
 /// The elements in order.
 pub type Iter<'a, T> = iter::Iter<'a, T>;
@@ -22,6 +24,15 @@ impl<T: Eq> OrderedSet<T> {
         ensures runs_back { ShowsInReverse (deref {X = T}) }
     {
         self.0.iter()
+    }
+
+    /// The elements of this set, and then those of the other that this one lacks, each looked for under its stored hash.
+    pub fn union<'a>(&'a self, other: &'a Self) -> Union<'a, T>
+        ensures left { result ≡ record { first = self.now.entries; second = record { left = other.now.entries; other = self.now.entries } } }
+        ensures single { IsSingle T.eq (union T.eq self.now.entries other.now.entries) }
+        ensures runs { ShowsUnion T.eq }
+    {
+        self.0.union(&other.0)
     }
 }
 

@@ -2,7 +2,6 @@
 use mathlib.Core.Path.{◌≡◌, refl, sym, subst, ap}
 use mathlib.Core.List.{List, [], ◌∷◌}
 use seplogic.Ra.Ura.{Ura}
-use base.Share
 use mir.Syntax.{Fn, Args, Dict, a_type, dcons, dnil, named}
 use mir.MapTy.{inst_fn}
 use mir.Val.{Val, vptr}
