@@ -3,3 +3,4 @@ pub mod Additions
 pub mod Shown
 pub mod Differences
 pub mod Unions
+pub mod Collecting

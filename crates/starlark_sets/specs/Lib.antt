@@ -8,3 +8,4 @@ pub mod Unit
 pub mod Lending
 pub mod Difference
 pub mod Union
+pub mod Collect

@@ -2,6 +2,7 @@
 ghost use Rattle.std.specs.Prelude.{◌≡◌, ◌≤◌, [], false, nat_lt, IfOk, IsOk};
 ghost use Rattle.starlark_small.specs.Index.{unindexed};
 
+mod collect;
 mod compare;
 mod copy;
 mod grow;
