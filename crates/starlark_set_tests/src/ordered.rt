@@ -9,12 +9,7 @@ use std::cmp::Ordering;
 use std::hash::{Hash, Hasher};
 use std::test::Fail;
 
-fn one(
-    alloc: Global,
-    hash: u32,
-    key: char,
-    value: u32,
-) -> Result<OrderedMap<char, u32>, Fail> {
+fn one(alloc: Global, hash: u32, key: char, value: u32) -> Result<OrderedMap<char, u32>, Fail> {
     let mut map = SmallMap::new(alloc);
     map.insert_hashed(under(hash, key), value)?;
     Ok(OrderedMap::from(map))
@@ -27,6 +22,29 @@ fn compares_keys_before_hashes(rt: HostRuntime) -> Result<(), Fail> {
     assert!(rt; one(alloc, 1, 'a', 5)?.cmp(&one(alloc, 2, 'a', 5)?) == Ordering::Less);
     assert!(rt; one(alloc, 9, 'a', 1)?.cmp(&one(alloc, 1, 'b', 0)?) == Ordering::Less);
     assert!(rt; one(alloc, 1, 'a', 5)? == one(alloc, 1, 'a', 5)?);
+    Ok(())
+}
+
+#[test]
+fn an_empty_set_comes_first(rt: HostRuntime) -> Result<(), Fail> {
+    let empty: OrderedSet<u32> = OrderedSet::new(rt.alloc());
+    let one = OrderedSet::from_iter(rt.alloc(), [1u32])?;
+    assert!(rt; empty.cmp(&one) == Ordering::Less);
+    assert!(rt; one.partial_cmp(&empty) == Some(Ordering::Greater));
+    Ok(())
+}
+
+#[test]
+fn answers_the_element_that_is_there(rt: HostRuntime) -> Result<(), Fail> {
+    let mut set = OrderedSet::from_iter(rt.alloc(), [1u32])?;
+    match set.try_insert(1) {
+        Err(TryInsertError::Occupied(error)) => {
+            assert!(rt; error.value == 1 && error.occupied == &1);
+        }
+        _ => return Err(Fail::new("not occupied")),
+    }
+    assert_eq!(rt; set.len(), 1);
+    assert!(rt; set.try_insert(2).is_ok());
     Ok(())
 }
 
@@ -98,7 +116,10 @@ fn shows_what_a_map_has(rt: HostRuntime) -> Result<(), Fail> {
     assert_eq!(rt; hashed, Some(7));
     let copy = map.clone()?;
     assert!(rt; copy == map);
-    assert_eq!(rt; format!(in alloc; "{map:?}")?.as_str(), "OrderedMap({'a': 5})");
+    assert_eq!(rt;
+        format!(in alloc; "{map:?}")?.as_str(),
+        "OrderedMap({'a': 5})"
+    );
     map.clear();
     assert_eq!(rt; map.len(), 0);
     Ok(())
@@ -115,4 +136,61 @@ fn feeds_hashes_and_values(rt: HostRuntime) -> Result<(), Fail> {
     Ok(())
 }
 
+#[test]
+fn looks_up_elements(rt: HostRuntime) -> Result<(), Fail> {
+    let set = OrderedSet::from_iter(rt.alloc(), ['a', 'b', 'c'])?;
+    assert!(rt; set.get(&'b') == Some(&'b'));
+    assert!(rt; set.contains(&'c'));
+    assert_eq!(rt; set.get_index_of(&'b'), Some(1));
+    assert!(rt; set.get_index(2) == Some(&'c'));
+    assert!(rt; set.first() == Some(&'a'));
+    assert!(rt; set.last() == Some(&'c'));
+    Ok(())
+}
+
+#[test]
+fn changes_a_set(rt: HostRuntime) -> Result<(), Fail> {
+    let mut set = OrderedSet::new(rt.alloc());
+    assert!(rt; set.insert(3u32)?);
+    set.insert_unique_unchecked(1)?;
+    set.extend([2, 3])?;
+    set.sort()?;
+    set.reverse();
+    assert_eq!(rt; set.take(&2), Some(2));
+    let mut walk = set.iter();
+    assert!(rt; walk.next() == Some(&3));
+    assert!(rt; walk.next() == Some(&1));
+    Ok(())
+}
+
+#[test]
+fn tells_orders_apart(rt: HostRuntime) -> Result<(), Fail> {
+    let alloc = rt.alloc();
+    let mut set = OrderedSet::from_iter(alloc, [1u32, 2])?;
+    let turned = OrderedSet::from_iter(alloc, [2u32, 1])?;
+    assert!(rt; set != turned);
+    assert!(rt; set == set.clone()?);
+    let mut union = set.union(&turned);
+    assert!(rt; union.next() == Some(&1));
+    assert!(rt; union.next() == Some(&2));
+    assert!(rt; union.next() == None);
+    set.clear();
+    assert!(rt; set.is_empty());
+    Ok(())
+}
+
 // A set stands for what it was made from.
+#[test]
+fn is_made_of_a_small_set(rt: HostRuntime) -> Result<(), Fail> {
+    let alloc = rt.alloc();
+    let small = SmallSet::from_iter(alloc, [4u32, 3])?;
+    let set = OrderedSet::from(small);
+    assert_eq!(rt; set.len(), 2);
+    assert_eq!(rt;
+        format!(in alloc; "{set:?}")?.as_str(),
+        "OrderedSet({4, 3})"
+    );
+    let mut items = set.into_iter();
+    assert_eq!(rt; items.next(), Some(4));
+    Ok(())
+}
