@@ -3,7 +3,7 @@ SCRIPT ?= examples/first.script
 # the crates whose wrong bodies are tried; none: all
 CRATE ?=
 
-.PHONY: run try bench test wrong
+.PHONY: run try bench test wrong refused
 
 # builds the proved program, and plays the script
 run:
@@ -24,3 +24,7 @@ test:
 # tries the wrong bodies that stand beside the gate, of all crates or of CRATE, and says which the check refuses
 wrong:
 	@./wrong-bodies/try $(CRATE)
+
+# runs the tests of memory with each request refused in turn, unproved
+refused:
+	@./refusals/try

@@ -1,2 +1,4 @@
 pub mod Run
+pub mod Memory
+pub mod Room
 pub mod OneList

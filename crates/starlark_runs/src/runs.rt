@@ -1,7 +1,9 @@
 //! Runs of commands, over the map's public calls.
-ghost use Rattle.std.specs.Prelude.{◌≡◌, ◌≤◌, [], length, slice_get, vec_capacity, IfOk, OnErr, Some};
+ghost use Rattle.std.specs.Prelude.{◌≡◌, ◌+◌, ◌*◌, ◌≤◌, ℕ, [], length, max, slice_get, vec_capacity, IfOk, IsOk, OnErr, Some};
 ghost use Rattle.std.specs.Option.{option_map};
 ghost use Rattle.starlark_hash.specs.Entries.{Entry, entry_at, match_of, value_at, with_value};
+ghost use Rattle.starlark_small.specs.Map.{KeepsMemory};
+ghost use Rattle.starlark_runs.specs.Memory.{EndsWith, HasMemory, IsPastCeiling, Memory, MemoryRun, RefusesPastCeiling, ceiling_after, indexed_after, length_asked, memory_of};
 ghost use Rattle.starlark_runs.specs.Run.{CanShow, IsDetermined, IsShown, Run, Shows, Step, TakesEntry, entry_shown};
 
 use crate::command::{Command, Reply};
@@ -39,6 +41,7 @@ fn shown_at<K: Eq, V, R, F: Fn(&K, &V) -> R>(map: &SmallMap<K, V>, i: usize, loo
 fn change<K: Eq, V: Drop>(map: &mut SmallMap<K, V>, key: &Hashed<K>, value: V) -> Option<V>
     ensures old { result ≡ value_at map.old.entries (match_of K.eq map.old.entries key.now) }
     ensures entries { map.new.entries ≡ with_value map.old.entries (match_of K.eq map.old.entries key.now) value }
+    ensures kept { KeepsMemory map.old map.new }
 {
     match map.get_mut_hashed(key.as_ref()) {
         Some(stored) => Some(mem::replace(stored, value)),
@@ -53,7 +56,11 @@ fn step<K: Ord + Drop, V: Drop, R, F: Fn(&K, &V) -> R>(
     look: &F,
 ) -> Reply<K, V, R>
     requires { (e : Entry K V) → entry_shown K.eq map.old.entries command ≡ Some e → TakesEntry F.Fn look.now e }
-    ensures { Step K.eq K.cmp (Shows F.Fn look.now) map.old.entries command result map.new.entries }
+    ensures step { Step K.eq K.cmp (Shows F.Fn look.now) map.old.entries command result map.new.entries }
+    ensures refused { (ceiling : ℕ) → ceiling ≤ length map.old.entries + map.old.room → IsPastCeiling ceiling map.old.entries command result }
+    ensures room { (ceiling : ℕ) → ceiling ≤ length map.old.entries + map.old.room → ceiling_after K.eq ceiling map.old.entries command result ≤ length map.new.entries + map.new.room }
+    ensures capacity { map.new.capacity ≤ max map.old.capacity (max 4 (2 * length_asked K.eq map.old.entries command)) }
+    ensures indexed { map.new.indexed ≡ indexed_after K.eq map.old.indexed map.old.entries command result }
 {
     match command {
         Command::Look(key) => Reply::Found(found_under(map, &key, look)),
@@ -102,8 +109,7 @@ fn run_in<K: Ord + Drop, V: Drop, R, F: Fn(&K, &V) -> R>(
     requires callable { CanShow F.Fn K.eq K.cmp look.now map.old.entries commands.items }
     requires empty { replies.old.items ≡ [] }
     requires room { length commands.items ≤ vec_capacity replies.old }
-    ensures run { Run K.eq K.cmp (Shows F.Fn look.now) map.old.entries commands.items replies.new.items map.new.entries }
-    ensures determined { IsDetermined K.eq K.cmp (Shows F.Fn look.now) map.old.entries commands.items replies.new.items map.new.entries }
+    ensures { (last : Memory) × MemoryRun K.eq K.cmp (Shows F.Fn look.now) (memory_of map.old) map.old.entries commands.items replies.new.items map.new.entries last × HasMemory map.old last map.new }
 {
     let mut rest = commands.into_iter();
     while let Some(command) = rest.next() {
@@ -113,7 +119,8 @@ fn run_in<K: Ord + Drop, V: Drop, R, F: Fn(&K, &V) -> R>(
 
 /// Does the commands in order on the map, and answers their replies. `look` gives the part of an entry that a
 /// reply shows. Memory for the replies is asked for before the first command: where it is not found no
-/// command is done.
+/// command is done. What needs no memory is not refused: a run of no commands, and in a run an insertion or a
+/// reservation below the ceiling, which is what lengths and reservations before it have made sure of.
 pub fn run<K: Ord + Drop, V: Drop, R: Drop, F: Fn(&K, &V) -> R>(
     alloc: Global,
     map: &mut SmallMap<K, V>,
@@ -129,8 +136,20 @@ where
     ensures determined { IfOk result (λ replies.
         IsDetermined K.eq K.cmp (Shows F.Fn look) map.old.entries commands.items replies.items map.new.entries) }
 
+    // An insertion or a reservation is refused only past the ceiling. The run ends with the last ceiling, a
+    // capacity for what was asked, and an index where it has left one.
+    ensures refused { IfOk result (λ replies.
+        RefusesPastCeiling K.eq K.cmp (Shows F.Fn look) map.old commands.items replies.items map.new.entries) }
+    ensures room { IfOk result (λ replies.
+        EndsWith K.eq K.cmp (Shows F.Fn look) map.old commands.items replies.items map.new.entries (λ last. last.ceiling ≤ length map.new.entries + map.new.room)) }
+    ensures capacity { IfOk result (λ replies.
+        EndsWith K.eq K.cmp (Shows F.Fn look) map.old commands.items replies.items map.new.entries (λ last. map.new.capacity ≤ max map.old.capacity (max 4 (2 * last.asked)))) }
+    ensures indexed { IfOk result (λ replies.
+        EndsWith K.eq K.cmp (Shows F.Fn look) map.old commands.items replies.items map.new.entries (λ last. map.new.indexed ≡ last.indexed)) }
+
     // A refusal comes before the first command.
     ensures unchanged { OnErr result (map.new ≡ map.old) }
+    ensures succeeds { commands.items ≡ [] → IsOk result }
 {
     let mut replies = Vec::with_capacity(alloc, commands.len())?;
     run_in(map, commands, &look, &mut replies);

@@ -1,0 +1,73 @@
+-- The machine's values of the types with pointers, which are one word or nothing. Assumes `Logic`.
+use Rattle.std.proofs.Common.{◌≡◌, List, [], ◌∷◌, ◌++◌, T, refl, ap, ◌∙◌, lit<}
+use seplogic.Ra.Ura.{Ura}
+use base.Logic.{ent, emp, sep}
+use mir.Syntax.{ty_ptr, ty_struct, tcons, tnil}
+use mir.Val.{Val, vstruct, vcons, vnil, of_list, has_ty, WT}
+use types.Kit.{‵, ◌$◌, ◌∵◌, !, qed, move, fjoin, feq_i, fpack, done}
+use types.Logic.{Logic, sem}
+use denote.Laws.{Is}
+use denote.RattleType.{RattleType, Valss}
+use denote.RawPtr.{Ptr, block_ptr, null_ptr, ptr_val}
+use denote.Shadow.{makes_shadow}
+use denote.Steps.{nothing}
+use denote.Struct.Declared as Declared
+use denote.Struct.Owning.{shape}
+use denote.Struct.Struct.{Struct, within}
+use denote.Struct.Tuple.{Tuple, tuple_type}
+use Rattle.core.specs.declared.alloc.Allocator.{Ghosts}
+use Rattle.starlark_columns.specs.contracts.block.Address as address
+use Rattle.starlark_columns.specs.contracts.block.Claim as claim
+use Rattle.starlark_columns.specs.contracts.block.Held as held
+
+-- an `Address`
+abbrev pub word : Ptr → Val
+word p = vstruct (vcons (ptr_val p) vnil)
+
+-- a `Held` or a `Claim`
+abbrev pub mark : Val
+mark = vstruct (vcons (vstruct vnil) vnil)
+
+pub word_good : (p : Ptr) → T (has_ty (ty_struct [] (tcons ty_ptr tnil)) (word p)) × WT (word p)
+word_good (block_ptr b o) = (tt, (tt, tt))
+word_good null_ptr = (tt, (record { fits = lit< tt }, tt))
+
+-- a tuple of two, and one of three, from its parts
+module _ {M : Type 1} {𝓤 : Ura M} (𝓛 : Logic 𝓤) (R S : RattleType) (x : R.Denot) (y : S.Denot) (u v : Val) where
+  pub both : ent 𝓤 (sep 𝓤 (sem 𝓛 (R.own_val x (u ∷ []))) (sem 𝓛 (S.own_val y (v ∷ [])))) (sem 𝓛 ((Tuple (R ∷ S ∷ [])).own_val (x, y) (vstruct (vcons u (vcons v vnil)) ∷ [])))
+  both = let all = vstruct (vcons u (vcons v vnil)) ∷ [] in
+      qed 𝓛 (‵ (R.own_val x (u ∷ [])) ∷ ‵ (S.own_val y (v ∷ [])) ∷ []) ∵ nothing ! $ move ! (2 ∷ 0 ∷ []) $ fjoin ! $ move ! (1 ∷ 0 ∷ []) $ fjoin ! $
+      feq_i ! (List Val) all all refl $ fjoin ! $ fpack ! (Valss (R ∷ S ∷ [])) (within (Declared.shape (tuple_type (R ∷ S ∷ []))) (x, (y, tt)) all) (u ∷ [], (v ∷ [], tt)) $ done !
+
+  module _ (Q : RattleType) (z : Q.Denot) (w : Val) where
+    pub three : ent 𝓤 (sep 𝓤 (sem 𝓛 (R.own_val x (u ∷ []))) (sep 𝓤 (sem 𝓛 (S.own_val y (v ∷ []))) (sem 𝓛 (Q.own_val z (w ∷ [])))))
+        (sem 𝓛 ((Tuple (R ∷ S ∷ Q ∷ [])).own_val (x, y, z) (vstruct (vcons u (vcons v (vcons w vnil))) ∷ [])))
+    three = let all = vstruct (vcons u (vcons v (vcons w vnil))) ∷ [] in
+        qed 𝓛 (‵ (R.own_val x (u ∷ [])) ∷ ‵ (S.own_val y (v ∷ [])) ∷ ‵ (Q.own_val z (w ∷ [])) ∷ []) ∵ nothing ! $ move ! (3 ∷ 0 ∷ []) $ fjoin ! $ move ! (2 ∷ 0 ∷ []) $ fjoin ! $ move ! (1 ∷ 0 ∷ []) $ fjoin ! $
+        feq_i ! (List Val) all all refl $ fjoin ! $ fpack ! (Valss (R ∷ S ∷ Q ∷ [])) (within (Declared.shape (tuple_type (R ∷ S ∷ Q ∷ []))) (x, (y, (z, tt))) all) (u ∷ [], (v ∷ [], (w ∷ [], tt))) $ done !
+
+module _ (R : RattleType) where
+  pub address_made : {M : Type 1} {𝓤 : Ura M} (𝓛 : Logic 𝓤) (p : Ptr) → ent 𝓤 (emp 𝓤) (sem 𝓛 ((address.the_row R).own_val (record { at = p }) (word p ∷ [])))
+  address_made 𝓛 p = makes_shadow 𝓛 ((address.the_row R).own_val (record { at = p }) (word p ∷ [])) (λ vss. (tt, (tt, tt))) ((ptr_val p ∷ [], tt), (refl, (refl, tt)))
+
+  pub address_told : (x : (address.the_row R).Denot) (vs : List Val) → Is (address.the_row R) x vs → vs ≡ word x.at ∷ []
+  address_told x vs is = is.1.0 ∙ ap (λ (ws : List Val). vstruct (of_list (ws ++ [])) ∷ []) is.1.1.0
+
+  abbrev pub HeldData : RattleType
+  HeldData = Struct (shape (held.the_type R))
+
+  pub held_told : (vs : List Val) → Is HeldData (tt, tt) vs → vs ≡ mark ∷ []
+  held_told vs is = is.1.0 ∙ ap (λ (ws : List Val). vstruct (of_list (ws ++ [])) ∷ []) is.1.1.0.1.0
+
+  pub held_made : {M : Type 1} {𝓤 : Ura M} (𝓛 : Logic 𝓤) → ent 𝓤 (emp 𝓤) (sem 𝓛 (HeldData.own_val (tt, tt) (mark ∷ [])))
+  held_made 𝓛 = makes_shadow 𝓛 (HeldData.own_val (tt, tt) (mark ∷ [])) (λ vss. (tt, ((λ uss. (tt, tt)), tt))) ((vstruct vnil ∷ [], tt), (refl, ((tt, (refl, tt)), tt)))
+
+  module _ (A : RattleType) (g : Ghosts A.Denot) where
+    abbrev pub ClaimData : RattleType
+    ClaimData = Struct (shape (claim.the_type R A g))
+
+    pub claim_told : (vs : List Val) → Is ClaimData (tt, tt) vs → vs ≡ mark ∷ []
+    claim_told vs is = is.1.0 ∙ ap (λ (ws : List Val). vstruct (of_list (ws ++ [])) ∷ []) is.1.1.0.1.0
+
+    pub claim_made : {M : Type 1} {𝓤 : Ura M} (𝓛 : Logic 𝓤) → ent 𝓤 (emp 𝓤) (sem 𝓛 (ClaimData.own_val (tt, tt) (mark ∷ [])))
+    claim_made 𝓛 = makes_shadow 𝓛 (ClaimData.own_val (tt, tt) (mark ∷ [])) (λ vss. (tt, ((λ uss. (tt, tt)), tt))) ((vstruct vnil ∷ [], tt), (refl, ((tt, (refl, tt)), tt)))

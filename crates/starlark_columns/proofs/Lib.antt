@@ -1,0 +1,6 @@
+mod Lending
+mod Crossing
+mod Memory
+mod Fields
+mod RowCalls
+mod Slotting

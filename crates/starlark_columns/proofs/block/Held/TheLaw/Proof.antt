@@ -1,0 +1,20 @@
+-- A `&` to a `Held` lends the items of its places. Assumes `Logic`.
+use mathlib.Core.List.{[], ◌++◌}
+use base.Fml.{Incl-trans}
+use contract.BorrowLft.{meet_⊑_left}
+use denote.Param.Laws.{Laws}
+use denote.Param.Shared.{copy_shared}
+use denote.RattleType.{RattleType}
+use denote.RawPtr.{RawPtr}
+use denote.Struct.Laws.{field_copy}
+use denote.Struct.Lending.{of_Lends}
+use Rattle.core.specs.contracts.marker.PhantomData as mark
+use Rattle.starlark_columns.proofs.Lending.{of_row, lends_row}
+use Rattle.starlark_columns.proofs.block.Held.TheLaw.Statement.{statement}
+use Rattle.starlark_columns.specs.contracts.block.Held as held
+
+pub shares : (R : RattleType) (L : Laws R) → statement R L
+shares R L =
+    let l = (held.the_row R).lives in let within = Incl-trans (meet_⊑_left (R.lives ++ []) _) (meet_⊑_left R.lives []) in
+    of_Lends (held.struct R) (held.the_codes R.Denot R.coded (mark.the_row RawPtr).coded) (held.the_heap R) (held.the_lent R) (λ h p. of_row R L.shr_laws h.at h.places)
+    (copy_shared (mark.the_field RawPtr) (field_copy (mark.the_type RawPtr) tt), tt) (λ M 𝓤 𝓛 h p. lends_row 𝓛 R L l within h.at h.places)

@@ -1,0 +1,23 @@
+use Rattle.std.proofs.Common.{◌≡◌, length, sym, ◌∙◌, arith}
+use Rattle.starlark_columns.proofs.Slotting.{in_filled, at_item, up}
+use Rattle.starlark_columns.proofs.block.Held.move_up.Goals as goal
+
+pub open-row-requires-clause-any : goal.open-row-requires-clause-any
+open-row-requires-clause-any g c = (in_filled c.args.self.now.places c.args.from c.args.end c.args.from c.requires.items (omega arith) c.requires.some).0
+
+pub move_within-requires : goal.move_within-requires
+move_within-requires g c =
+    let r = c.open-row.result in let cs = c.args.self.now.places in let full = c.requires.items in let gap = c.requires.gap in let len = c.open-row.ensures.row.1 in let count = c.requires.its.1 in (
+      omega (arith, full.0, full.1, len, count),
+      omega (arith, full.0, full.1, gap.0, gap.1.1, len, count),
+      λ k le lt. let f = in_filled cs c.args.from c.args.end k full le (omega (arith, lt, full.0)) in
+          (at_item r.items r.filled cs k f.0 (sym r.ok.1 ∙ r.ok.0) c.open-row.ensures.places f.1).1,
+    )
+
+pub returns-clause-places : goal.returns-clause-places
+returns-clause-places g c =
+    let r = c.open-row.result in let s = c.move_within.new.self in let said = c.move_within.ensures in let same = said.places.count in
+    let d = (in_filled c.args.self.now.places c.args.from c.args.end c.args.from c.requires.items (omega arith) c.requires.some).0 in
+    let long_ys : length s.items ≡ length r.items = sym s.ok.0 ∙ same ∙ r.ok.0 in let long_gs : length s.filled ≡ length r.items = sym s.ok.1 ∙ same ∙ r.ok.0 in
+    c.close.ensures.1 ∙ up r.items s.items r.filled s.filled c.args.self.now.places d (sym r.ok.1 ∙ r.ok.0) long_ys long_gs c.open-row.ensures.places c.args.from c.args.end c.args.to c.requires.items c.requires.gap
+    (λ k lt. said.moved k d lt) (λ k out. said.items d k out) said.filled.0 said.filled.1

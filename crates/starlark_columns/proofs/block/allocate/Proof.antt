@@ -1,0 +1,114 @@
+-- `allocate` asks for an array's block, and keeps its bare places apart from the right to give it back. Assumes `Logic`.
+use Rattle.std.proofs.Common.{◌≡◌, ℕ, ◌*◌, ◌<◌, ◌^◌, Option, None, true, false, List, [], ◌∷◌, length, refl, sym, ap, subst, arith, lit<, w64, IfOk, Ok, Err}
+use base.Fml.{Fml, ftrue, fsep, froom, flft, Incl-trans}
+use base.Logic.{SProp, emp}
+use contract.BorrowLft.{◌⊑◌}
+use contract.Monad.{fact, fact_i}
+use contract.Running.{tables}
+use lib.ListN.{length-replicate}
+use mir.MapTy.{inst_fn}
+use mir.Syntax.{Ty, Body, named, ty_array}
+use mir.Val.{Val, vint, vptr, vstruct, vcons, vnil, WT}
+use prog.Capped.{capped_fits}
+use prog.Memory.{align, capped}
+use prog.Wp.{Wp, after_seq, at_return}
+use types.ByLocal.{alloc_all, pass_all, free_all, look_at, get, get_in, get_tag, is, sets, sets_last, lands_as, env}
+use types.Kit.{Post as After, any_q, ‵, raw, ◌⊛◌, later, at_ret, ◌$◌, ◌∵◌, !, qed, by, move, keep, use0, use1, use2, use3, split, join, fsplit, fjoin, fjoin3, flt_i, await}
+use types.Match.{live, vrt, in_variant}
+use types.Part.{whole, agg}
+use types.Run.{stop, fld, lit, size_word, align_word, no_more, and_then, of_opd, bin, first, switches_on, exec, returns, enter}
+use denote.Builtin.{RefOf, usize}
+use denote.Exit.{yes}
+use denote.Laws.{Is}
+use denote.Param.{param}
+use denote.Plain.{uint_vals, uint_Tells}
+use denote.RattleType.{RattleType, owns}
+use denote.RawPtr.{Ptr, block_ptr}
+use denote.Ref.{shr_vals, shr_Tells}
+use denote.Signature.{plain, types_at}
+use denote.Steps.{heard, nothing, owned}
+use denote.Struct.Declared as Declared
+use denote.Struct.Struct.{Struct, Struct-Makes}
+use denote.Struct.Tuple.{Tuple}
+use denote.Triple.Call.{calls_at}
+use denote.Triple.Table.{framed}
+use denote.Triple.Walked.{Stays, stay_dropped, walk_of, Goes-dropped}
+use Rattle.core.proofs.alloc.Calls.{Al, Answer-typed, Takes, at_takes, Answered, Takes-goes, Takes-gives, answers}
+use Rattle.core.proofs.mem.Param.{El, R, elτ}
+use Rattle.core.proofs.slots.Bodies.{after, head, arm_body}
+use Rattle.core.proofs.slots.Leases.{uncapped, block_ty, block_size, block_align, args}
+use Rattle.core.specs.contracts.alloc.AllocError as refusal
+use Rattle.core.specs.contracts.result.Result as outcome
+use Rattle.std.proofs.raw_atomic.Walks.{proved, leaves}
+use Rattle.std.specs.Mem.{type_size}
+use Rattle.std.specs.Vec.Ownership.{FitsInBlock}
+use Rattle.std_alloc.proofs.ResultValues.{ok_of, err_of}
+use Rattle.starlark_columns.specs.Places.{empties}
+use Rattle.starlark_columns.proofs.Fields.{word, mark, three, address_made, HeldData, held_made, ClaimData, claim_made}
+use Rattle.starlark_columns.proofs.Memory.{Row, of_room}
+use Rattle.starlark_columns.specs.contracts.block.Address as address
+use Rattle.starlark_columns.specs.contracts.block.Claim as claim
+use Rattle.starlark_columns.specs.contracts.block.Held as held
+use Rattle.starlark_columns.specs.contracts.block.allocate.{ended, clauses}
+use Rattle.starlark_columns.specs.contracts.block.allocate.Key as key
+use Rattle.starlark_columns.proofs.block.allocate.Statement.{statement}
+use Rattle.starlark_columns.proofs.block.allocate.Code as code
+
+pub allocate_spec : {M : Type 1} → statement M
+allocate_spec 𝓤 𝓛 𝓜 𝓡 wired X U L LU g d dd met _ =
+    let H = 𝓛.H in let 𝓣 = tables 𝓤 H 𝓜 𝓡 𝓡.env in let En = ended X U g d dd in
+    let E : El = record { row = X; laws = L } in let Z : Al = record { row = U; laws = LU; g = g; d = d; drops = dd } in let fn = inst_fn (args E Z) code.function in
+    let W : RattleType = param 1 U in let heap = RefOf (0 ∷ []) tt (plain (λ _. W)) (λ _. tt) in let c = clauses X U g d dd 𝓛 𝓜.mem 𝓡.returns in
+    let At = address.the_row (R E) in let Own = held.the_row (R E) in let Right = claim.the_row (R E) W g in
+    let Three : RattleType = Tuple (At ∷ Own ∷ Right ∷ []) in let Out : RattleType = outcome.the_row Three refusal.the_row in
+    let hs : Stays En.signature.params En.kept = (stay_dropped heap yes, (stay_dropped (plain (λ _. usize)) yes, tt)) in
+    proved 𝓛 En hs c 𝓜 𝓡 (Goes-dropped 𝓛 3 heap yes (λ κs x f. refl), (Goes-dropped 𝓛 3 (plain (λ _. usize)) yes (λ κs x f. refl), tt)) (key.name (args E Z)) fn (code.unfolded 𝓤 H 𝓜 𝓡 wired (X, (U, tt)) d dd)
+    (λ κs. (shr_vals, (uint_vals w64, tt))) (λ κs. (shr_Tells (named 0) κs.0 W, (uint_Tells w64, tt))) (λ κs qs bounds a gh are.
+    let κ = κs.0 in let q = qs.0 in let hp : ℕ × ℕ = a.0.ref_ptr in let h : U.Denot = a.0.now in let n : ℕ = a.1.0 in let s : ℕ = type_size (R E) in let al : ℕ = capped (align (elτ E)) in let τ : Ty = block_ty E n in
+    let y : (walk_of 𝓛 En hs c).Ghost = ((κs, qs, bounds, a, (vptr hp.0 hp.1 ∷ [], (vint w64 n ∷ [], tt))), gh) in let Post : Val → SProp 𝓤 = (walk_of 𝓛 En hs c).post y in
+    let others : Fml = fsep (flft κs.1.0 qs.1.0) (fsep (flft κs.1.1.0 qs.1.1.0) ftrue) in let cs : List (Option X.Denot) = empties n in
+    let Told : Out.Denot → Type 0 = λ r. IfOk r (λ t. (t.1.at ≡ t.0.at) × (t.1.places ≡ cs) × (t.2.at ≡ t.0.at) × (t.2.count ≡ n) × (t.2.alloc ≡ h)) in
+    qed 𝓛 (((‵ (flft κ q) ⊛ ‵ others) ⊛ ‵ (owns (types_at En.signature.params κs) a y.0.4)) ∷ raw (fact 𝓤 (κs.1.0 ⊑ X.lives)) ∷ raw (fact 𝓤 (κs.1.1.0 ⊑ U.lives)) ∷ raw (fact 𝓤 (FitsInBlock (R E) n)) ∷ raw (fact 𝓤 (0 < n * s)) ∷ []) ∵
+    keep ! (2 ∷ 3 ∷ 0 ∷ []) $ heard ! (κs.1.1.0 ⊑ U.lives) (λ within. heard ! (FitsInBlock (R E) n) (λ fits. split ! $ split ! $ move ! (2 ∷ []) $ fsplit ! $ fsplit ! $ keep ! (1 ∷ 3 ∷ 4 ∷ []) $
+    let small : n * s < 2 ^ 63 = fits.0 in let bytes : n * s < 2 ^ 64 = omega arith in
+    -- [the handle; its token; the other tokens]
+    enter ! 𝓣.C 𝓣.Λ fn (vptr hp.0 hp.1 ∷ vint w64 n ∷ []) Post $ alloc_all ! (λ l. pass_all ! refl ((tt, tt), ((tt, record { fits = are.1.0.1 }), tt)) $ let Ev = env fn.locals l in
+    let both : Body = head (after 2 fn.body) in
+    let Then : After 𝓤 H = any_q (after_seq 𝓤 H (Wp 𝓤 H 𝓣.C 𝓣.Λ Ev (after 3 fn.body) (at_return 𝓤 H Ev Post)) (at_return 𝓤 H Ev Post)) in
+    let t : (Takes Z 𝓛 𝓜.mem 𝓡.returns).Ghost = at_takes Z 𝓛 𝓜.mem 𝓡.returns κ q hp h (n * s) al τ in
+    sets ! (is ! (bin ! (get ! refl) (size_word !) (record { fits = subst (λ (k : ℕ). k < 2 ^ 64) (sym (uncapped n s bytes)) bytes })) (ap (vint w64) (uncapped n s bytes))) refl (tt, record { fits = bytes }) $
+    use2 𝓛 (raw ((Takes Z 𝓛 𝓜.mem 𝓡.returns).pre t))
+    (Takes-goes Z 𝓛 𝓜.mem 𝓡.returns κ q hp h (Incl-trans bounds.0 within) (n * s) al τ (block_size E n bytes) (block_align E n) bytes (capped_fits (align (elτ E)))) $
+    calls_at ! (framed 𝓤 H 𝓜 𝓣) (Takes Z 𝓛 𝓜.mem 𝓡.returns) (met.allocate dd) t (and_then ! (get ! refl) (and_then ! (get ! refl) (and_then ! (align_word !) (no_more !)))) (λ v.
+    use1 𝓛 (later (raw (Answered Z 𝓛 𝓜.mem 𝓡.returns h τ v) ⊛ ‵ (flft κ q))) (Takes-gives Z 𝓛 𝓜.mem 𝓡.returns κ q hp h (n * s) al τ v) $ await ! tt $ split ! $
+    move ! (1 ∷ 2 ∷ []) $ join ! $ move ! (1 ∷ []) $ answers Z ! 𝓜.mem 𝓡.returns h τ v
+    (λ b o e. let p : Ptr = block_ptr b o in let marked : WT mark = (tt, tt) in
+    let x : Three.Denot = (record { at = p }, record { mark = record {}; at = p; places = cs }, record { mark = record {}; at = p; count = n; alloc = h }) in
+    let u : Val = vstruct (vcons (word p) (vcons mark (vcons mark vnil))) in let r : Val = live 0 (vcons u vnil) in let good : WT u = ((tt, tt), (marked, (marked, tt))) in let all : WT r = (record { fits = lit< tt }, (good, tt)) in
+    lands_as ! e refl (Answer-typed true b o) $ first ! $ switches_on ! (get_tag ! (vrt ! refl (fld ! refl (stop !))) (whole !)) $ exec ! 𝓣.C 𝓣.Λ Ev (arm_body 0 both) Then $
+    sets ! (of_opd ! (get_in ! (vrt ! refl (fld ! refl (stop !))) (in_variant ! 0 0 refl refl (whole !)))) refl (tt, tt) $ sets ! (of_opd ! (get ! refl)) refl (tt, tt) $
+    sets ! (agg ! (and_then ! (get ! refl) (no_more !))) refl (tt, (tt, tt)) $
+    sets ! (agg ! (no_more !)) refl (tt, tt) $ sets ! (agg ! (and_then ! (get ! refl) (no_more !))) refl (tt, marked) $
+    sets ! (agg ! (no_more !)) refl (tt, tt) $ sets ! (agg ! (and_then ! (get ! refl) (no_more !))) refl (tt, marked) $
+    sets ! (agg ! (and_then ! (get ! refl) (and_then ! (get ! refl) (and_then ! (get ! refl) (no_more !))))) refl (tt, good) $
+    sets_last ! (agg ! (and_then ! (lit ! tt) (and_then ! (get ! refl) (no_more !)))) refl (tt, all) $
+    exec ! 𝓣.C 𝓣.Λ Ev (after 3 fn.body) (at_ret Ev Post) $ sets ! (of_opd ! (get ! refl)) refl (tt, all) $ returns ! (look_at ! 0 refl) $ free_all ! refl $
+    -- [the room; the right; the tokens]
+    use1 𝓛 (‵ (froom (ty_array (elτ E) n) b o)) (𝓛.laws.raw-room (ty_array (elτ E) n) b o) $ use1 𝓛 (‵ (Row E 𝓛 b o cs)) (of_room E 𝓛 b n o) $
+    flt_i ! (length cs * s) (2 ^ 63) (subst (λ k. k * s < 2 ^ 63) (sym (length-replicate n None)) small) $ fjoin ! $
+    use0 𝓛 (‵ ((HeldData (R E)).own_val (tt, tt) (mark ∷ []))) (held_made (R E) 𝓛) $ fjoin ! $ move ! (1 ∷ []) $
+    use0 𝓛 (‵ ((ClaimData (R E) W g).own_val (tt, tt) (mark ∷ []))) (claim_made (R E) W g 𝓛) $ fjoin ! $ move ! (1 ∷ 0 ∷ []) $
+    use0 𝓛 (‵ (At.own_val x.0 (word p ∷ []))) (address_made (R E) 𝓛 p) $
+    use3 𝓛 (‵ (Three.own_val x (u ∷ []))) (three 𝓛 At Own x.0 x.1 (word p) mark Right x.2 mark) $
+    use1 𝓛 (‵ (Out.own_val (Ok x) (r ∷ []))) (ok_of 𝓛 Three refusal.the_row x u) $
+    use0 𝓛 (raw (fact 𝓤 (Told (Ok x)))) (fact_i 𝓤 (Told (Ok x)) (emp 𝓤) (refl, refl, refl, refl, refl)) $ nothing ! $ nothing ! $ nothing ! $ fjoin3 ! $
+    keep ! (3 ∷ 0 ∷ 2 ∷ 1 ∷ []) $ by ! (leaves 𝓛 En hs c y r (Ok x) (tt, (tt, tt)) (tt, (tt, tt))))
+    (λ e. let u : Val = vstruct vnil in let r : Val = live 1 (vcons u vnil) in let none : WT r = (record { fits = lit< tt }, (tt, tt)) in
+    lands_as ! e refl (Answer-typed false 0 0) $ first ! $ switches_on ! (get_tag ! (vrt ! refl (fld ! refl (stop !))) (whole !)) $ exec ! 𝓣.C 𝓣.Λ Ev (arm_body 1 both) Then $
+    sets ! (of_opd ! (get_in ! (vrt ! refl (fld ! refl (stop !))) (in_variant ! 1 0 refl refl (whole !)))) refl (tt, tt) $
+    sets_last ! (agg ! (and_then ! (lit ! tt) (and_then ! (get ! refl) (no_more !)))) refl (tt, none) $
+    exec ! 𝓣.C 𝓣.Λ Ev (after 3 fn.body) (at_ret Ev Post) $ sets ! (of_opd ! (get ! refl)) refl (tt, none) $ returns ! (look_at ! 0 refl) $ free_all ! refl $
+    owned ! (Struct (Declared.shape refusal.the_type)) (Is (Struct (Declared.shape refusal.the_type))) (Struct-Makes 𝓛 (Declared.shape refusal.the_type) tt) tt (u ∷ []) (tt, (refl, tt)) $
+    use1 𝓛 (‵ (Out.own_val (Err (record {})) (r ∷ []))) (err_of 𝓛 Three refusal.the_row (record {}) u) $
+    use0 𝓛 (raw (fact 𝓤 (Told (Err (record {}))))) (fact_i 𝓤 (Told (Err (record {}))) (emp 𝓤) tt) $ nothing ! $ nothing ! $ nothing ! $ fjoin3 ! $
+    keep ! (3 ∷ 0 ∷ 2 ∷ 1 ∷ []) $ by ! (leaves 𝓛 En hs c y r (Err (record {})) (tt, (tt, tt)) (tt, (tt, tt)))))))))

@@ -1,0 +1,16 @@
+-- What makes a `Column` of its parts.
+use Rattle.std.specs.Prelude.{◌≡◌, ℕ, length, Option, Some, None}
+use Rattle.std.specs.declared.alloc.Global.{Global}
+use denote.RawPtr.{Ptr}
+use Rattle.starlark_columns.specs.declared.block.Address.{Address}
+use Rattle.starlark_columns.specs.declared.block.Claim.{Claim}
+use Rattle.starlark_columns.specs.declared.block.Held.{Held}
+
+module _ {X : Type 0} where
+  -- the claim, if there is one, is to the n places at p
+  abbrev pub IsClaimTo : Ptr → ℕ → Option (Claim X Global) → Type 0
+  IsClaimTo p n None = Unit {0}
+  IsClaimTo p n (Some c) = (c.at ≡ p) × (c.count ≡ n)
+
+  abbrev pub IsColumn : Address X → ℕ → Held X → Option (Claim X Global) → Type 0
+  IsColumn address n held claim = (held.at ≡ address.at) × (length held.places ≡ n) × IsClaimTo address.at n claim

@@ -1,0 +1,8 @@
+-- What a `Column` is once a `&mut` to its items has ended.
+use Rattle.std.specs.Prelude.{ℕ, List, Option}
+use Rattle.std.specs.Borrow.{Fml, RattleType, MutBor, Array, Lends}
+use Rattle.starlark_columns.specs.Lends.{rewritten}
+use Rattle.starlark_columns.specs.contracts.column.Column.{the_row}
+
+abbrev pub lends_items : (R : RattleType) → MutBor (List (Option R.Denot)) → ℕ → ℕ → MutBor (List R.Denot) → Fml
+lends_items R c from to r = Lends (the_row R) (Array R 0) c r (λ ws. rewritten c.now from to ws)

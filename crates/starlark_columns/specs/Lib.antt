@@ -1,0 +1,6 @@
+pub mod Places
+pub mod Owned
+pub mod Slotted
+pub mod Lends
+pub mod Claims
+pub mod ColumnLends

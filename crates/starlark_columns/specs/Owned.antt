@@ -1,0 +1,46 @@
+-- What a row of places owns and lends, and the right to its block, at items of the row R.
+use Rattle.std.specs.Prelude.{ℕ, ◌*◌, ◌^◌, List, [], ◌∷◌, length, Option, Some, None}
+use Rattle.std.specs.Mem.{type_size}
+use base.Fraction.{full_share}
+use base.Fml.{Fml, Lft, ftrue, ffalse, fsep, flt}
+use mir.Raw.{raw}
+use mir.Syntax.{Ty, ty_array}
+use denote.Memory.{lone}
+use denote.RattleType.{RattleType}
+use denote.RawPtr.{Ptr, block_ptr, null_ptr, lies_at, room_for, in_block, ◌+ₚ◌}
+use denote.Sharing.{nothing, said, beside}
+use denote.Struct.Lending.{lent_at}
+
+module _ (R : RattleType) where
+  -- the item at p, or the bare room for one
+  abbrev pub place_owned : Ptr → Option R.Denot → Fml
+  place_owned p None = room_for (raw (lone R.mir)) p
+  place_owned p (Some x) = lies_at R full_share p x
+
+  abbrev pub places_owned : Ptr → List (Option R.Denot) → Fml
+  places_owned p [] = ftrue
+  places_owned p (c ∷ cs) = fsep (place_owned p c) (places_owned (p +ₚ type_size R) cs)
+
+  -- all places, which take fewer than 2 ^ 63 bytes
+  abbrev pub row_owned : Ptr → List (Option R.Denot) → Fml
+  row_owned p cs = fsep (flt (length cs * type_size R) (2 ^ 63)) (in_block p (places_owned p cs))
+
+  abbrev pub place_lent : Ptr → Option R.Denot → Lft → Fml
+  place_lent p None = nothing
+  place_lent p (Some x) = lent_at R p x
+
+  abbrev pub places_lent : Ptr → List (Option R.Denot) → Lft → Fml
+  places_lent p [] = nothing
+  places_lent p (c ∷ cs) = beside (place_lent p c) (places_lent (p +ₚ type_size R) cs)
+
+  -- nothing is lent at null
+  abbrev pub within_lent : Ptr → List (Option R.Denot) → Lft → Fml
+  within_lent null_ptr cs = said ffalse
+  within_lent (block_ptr b o) cs = places_lent (block_ptr b o) cs
+
+  abbrev pub row_lent : Ptr → List (Option R.Denot) → Lft → Fml
+  row_lent p cs = beside (said (flt (length cs * type_size R) (2 ^ 63))) (within_lent p cs)
+
+  -- what `deallocate` asks for, to take the block of n places at p back
+  abbrev pub claim_owned : (Ty → Ptr → Fml) → Ptr → ℕ → Fml
+  claim_owned token p n = token (raw (ty_array (lone R.mir) n)) p

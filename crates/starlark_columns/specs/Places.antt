@@ -1,0 +1,41 @@
+-- The words on a row of places: each is empty, or holds an item.
+use Rattle.std.specs.Prelude.{◌≡◌, ℕ, ◌+◌, ◌-◌, ◌≤◌, List, [], ◌∷◌, ◌++◌, map, length, take, drop, replicate, get_or, slice_set, slice_range, Option, Some, None}
+
+module _ {X : Type 0} where
+  -- n empty places
+  abbrev pub empties : ℕ → List (Option X)
+  empties n = replicate n None
+
+  -- the place holds an item
+  abbrev pub IsFilled : List (Option X) → ℕ → Type 0
+  IsFilled cs i = (x : X) × (get_or cs i None ≡ Some x)
+
+  -- each place from `from` up to `to` holds an item
+  abbrev pub AreFilled : List (Option X) → ℕ → ℕ → Type 0
+  AreFilled cs from to = (from ≤ to) × (to ≤ length cs) × ((xs : List X) × (slice_range cs from to ≡ map Some xs))
+
+  -- each place from `from` up to `to` is empty
+  abbrev pub AreEmpty : List (Option X) → ℕ → ℕ → Type 0
+  AreEmpty cs from to = (from ≤ to) × (to ≤ length cs) × (slice_range cs from to ≡ empties (to - from))
+
+  -- the items that are there, in their order
+  abbrev pub items_of : List (Option X) → List X
+  items_of [] = []
+  items_of (None ∷ cs) = items_of cs
+  items_of (Some x ∷ cs) = x ∷ items_of cs
+
+  -- ds in the places from `from` up to `to`
+  abbrev pub with_range : List (Option X) → ℕ → ℕ → List (Option X) → List (Option X)
+  with_range cs from to ds = take from cs ++ (ds ++ drop to cs)
+
+  -- the places from `from` up to `end` stand `from - to` places lower, from `to` on, and leave as many empty
+  abbrev pub moved_down : List (Option X) → ℕ → ℕ → ℕ → List (Option X)
+  moved_down cs from end to = with_range cs to end (slice_range cs from end ++ empties (from - to))
+
+  -- the places from `from` up to `end` stand `to - from` places higher, from `to` on, and leave as many empty
+  abbrev pub moved_up : List (Option X) → ℕ → ℕ → ℕ → List (Option X)
+  moved_up cs from end to = with_range cs from (end + (to - from)) (empties (to - from) ++ slice_range cs from end)
+
+  -- the items of two places in each other's
+  abbrev pub exchanged : List (Option X) → ℕ → ℕ → List (Option X)
+  exchanged cs i j = slice_set (slice_set cs i (get_or cs j None)) j (get_or cs i None)

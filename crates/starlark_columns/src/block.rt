@@ -1,0 +1,179 @@
+//! The one file with pointers: where a row of places lies, who owns them, and the right to give their block back.
+ghost use Rattle.std.specs.Prelude.{◌≡◌, ℕ, ◌*◌, ◌<◌, List, [], Option, Some, map, length, slice_range, IfOk};
+ghost use Rattle.std.specs.Borrow.{sem};
+ghost use Rattle.std.specs.Mem.{type_size};
+ghost use Rattle.std.specs.Vec.Ownership.{FitsInBlock};
+ghost use base.Fml.{ftrue};
+ghost use denote.RawPtr.{Ptr};
+ghost use prog.Memory.{capped};
+ghost use Rattle.core.specs.Mem.Slots.{slots_items, slots_filled, slots_len, slots_ptr};
+ghost use Rattle.starlark_columns.specs.Owned.{row_owned, row_lent, claim_owned};
+ghost use Rattle.starlark_columns.specs.Places.{empties, AreFilled};
+
+use core::slots::Slots;
+use std::alloc::{AllocError, Allocator};
+use std::marker::{Model, PhantomData, Send, Sync};
+use std::mem::{align_of, size_of};
+use std::slice;
+
+// Where the first place lies. It owns nothing.
+pub struct Address<T> {
+    at: *const T,
+}
+
+impl<T> Clone for Address<T> {
+    ghost is_clone = { λ x y. y ≡ x };
+
+    ghost is_infallible = { λ _. Unit {0} };
+
+    fn clone(&self) -> Result<Address<T>, AllocError> {
+        Ok(*self)
+    }
+}
+
+impl<T> Copy for Address<T> {}
+
+unsafe impl<T> Send for Address<T> {}
+
+unsafe impl<T> Sync for Address<T> {}
+
+// The owner of the places. It takes no bytes.
+pub struct Held<T> {
+    mark: PhantomData<*const T>,
+    ghost at: { Ptr },
+    ghost places: { List (Option T) },
+}
+
+impl<T> Model for Held<T> {
+    ghost also_owns = { λ h. row_owned T.row h.at h.places };
+
+    ghost also_shares = { λ h _ κ. row_lent T.row h.at h.places κ };
+}
+
+unsafe impl<T: Send> Send for Held<T> {}
+
+unsafe impl<T: Sync> Sync for Held<T> {}
+
+// The right to give the block of `count` places back. It takes no bytes.
+pub struct Claim<T, A: Allocator> {
+    mark: PhantomData<*const (T, A)>,
+    ghost at: { Ptr },
+    ghost count: { ℕ },
+    ghost alloc: { A },
+}
+
+impl<T, A: Allocator> Model for Claim<T, A> {
+    ghost also_owns = { λ c. claim_owned T.row (A.dealloc_token c.alloc) c.at c.count };
+
+    ghost also_shares = { λ _ _ _. ftrue };
+}
+
+unsafe impl<T, A: Allocator + Send> Send for Claim<T, A> {}
+
+// A `&` to it lends nothing.
+unsafe impl<T, A: Allocator> Sync for Claim<T, A> {}
+
+// The bytes of an item, as a number of its own.
+pub(crate) fn item_size<T>() -> usize
+    ensures { result ≡ capped (type_size T.row) }
+{
+    size_of::<T>()
+}
+
+// Places that take no bytes lie anywhere.
+pub(crate) fn bare<T>(count: usize) -> (Address<T>, Held<T>)
+    requires { count * type_size T.row ≡ 0 }
+    ensures { (result.1.at ≡ result.0.at) × (result.1.places ≡ empties count) }
+{
+    let nowhere: [T; 0] = [];
+    let at = &raw const nowhere as *const T;
+    (Address { at }, Held { mark: PhantomData })
+}
+
+pub(crate) fn let_go<T>(held: Held<T>, count: usize)
+    requires { held.places ≡ empties count }
+{
+    let Held { mark: _ } = held;
+}
+
+pub(crate) fn allocate<T, A: Allocator>(
+    alloc: &A,
+    count: usize,
+) -> Result<(Address<T>, Held<T>, Claim<T, A>), AllocError>
+    requires fits { FitsInBlock T.row count }
+    requires bytes { 0 < count * type_size T.row }
+    ensures { IfOk result (λ r. (r.1.at ≡ r.0.at) × (r.1.places ≡ empties count) × (r.2.at ≡ r.0.at) × (r.2.count ≡ count) × (r.2.alloc ≡ alloc.now)) }
+{
+    match alloc.allocate(count * size_of::<T>(), align_of::<T>()) {
+        Ok(block) => {
+            let at = block as *const T;
+            Ok((
+                Address { at },
+                Held { mark: PhantomData },
+                Claim { mark: PhantomData },
+            ))
+        }
+        Err(refused) => Err(refused),
+    }
+}
+
+pub(crate) fn deallocate<T, A: Allocator>(
+    alloc: &A,
+    address: Address<T>,
+    count: usize,
+    held: Held<T>,
+    claim: Claim<T, A>,
+)
+    requires empty { (held.at ≡ address.at) × (held.places ≡ empties count) }
+    requires claim { (claim.at ≡ address.at) × (claim.count ≡ count) × (claim.alloc ≡ alloc.now) }
+{
+    let Held { mark: _ } = held;
+    let Claim { mark: _ } = claim;
+    unsafe {
+        alloc.deallocate(
+            address.at as *mut u8,
+            count * size_of::<T>(),
+            align_of::<T>(),
+        );
+    }
+}
+
+impl<T> Held<T> {
+    ghost use Rattle.starlark_columns.specs.Slotted.{places_of, emptied};
+    ghost use Rattle.starlark_columns.specs.Lends.{lends_range};
+
+    // The places as the kit's slots. The `Held` is left with none.
+    pub(crate) fn open(&mut self, address: Address<T>, count: usize) -> Slots<T>
+        requires any { T }
+        requires places { (address.at ≡ self.old.at) × (count ≡ length self.old.places) }
+        ensures places { places_of (slots_items result) (slots_filled result) ≡ self.old.places }
+        ensures row { (slots_ptr result ≡ self.old.at) × (slots_len result ≡ count) }
+        ensures left { (self.new.at ≡ self.old.at) × (self.new.places ≡ []) }
+    {
+        unsafe { Slots::from_raw_parts(address.at.cast_mut(), count) }
+    }
+
+    // The way back. What the places from `from` up to `to` hold is forgotten.
+    pub(crate) fn close(&mut self, row: Slots<T>, from: usize, to: usize)
+        requires { (slots_ptr row ≡ self.old.at) × (self.old.places ≡ []) }
+        ensures { (self.new.at ≡ self.old.at) × (self.new.places ≡ emptied from to (places_of (slots_items row) (slots_filled row))) }
+    {
+        let _parts = unsafe { row.into_raw_parts() };
+    }
+
+    // The items from `from` up to `to`.
+    pub(crate) fn slice(&self, address: Address<T>, from: usize, to: usize) -> &[T]
+        requires { (address.at ≡ self.now.at) × AreFilled self.now.places from to }
+        ensures { slice_range self.now.places from to ≡ map Some result.now }
+    {
+        unsafe { slice::from_raw_parts(address.at.add(from), to - from) }
+    }
+
+    pub(crate) fn slice_mut(&mut self, address: Address<T>, from: usize, to: usize) -> &mut [T]
+        requires { (address.at ≡ self.old.at) × AreFilled self.old.places from to }
+        ensures* writes_back { sem 𝓛 (lends_range T.row self.entry from to result) }
+        ensures value { slice_range self.old.places from to ≡ map Some result.now }
+    {
+        unsafe { slice::from_raw_parts_mut(address.at.cast_mut().add(from), to - from) }
+    }
+}

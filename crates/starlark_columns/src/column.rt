@@ -1,0 +1,224 @@
+//! `Column`, a row of places in one block of memory, or in none where they take no bytes.
+ghost use Rattle.std.specs.Prelude.{◌≡◌, ◌+◌, ◌-◌, ◌*◌, ◌^◌, ◌<◌, ◌≤◌, [], ◌++◌, Some, None, map, length, take, drop, get_or, slice_set, slice_range, IfOk, IsOk};
+ghost use Rattle.std.specs.Borrow.{sem};
+ghost use Rattle.std.specs.Mem.{type_size};
+ghost use Rattle.starlark_columns.specs.Places.{empties, IsFilled, AreFilled, AreEmpty, with_range, moved_down, moved_up, exchanged};
+
+use crate::block::{Address, Claim, Held, allocate, bare, deallocate, item_size, let_go};
+use std::alloc::{AllocError, Global};
+use std::marker::Model;
+use std_alloc::room::may_hold;
+
+/// A row of places, each empty or with an item. Nothing at run time says which: the type above knows. A column is given
+/// back, with every place empty, by `give_back`.
+pub struct Column<T> {
+    address: Address<T>,
+    count: usize,
+    held: Held<T>,
+    // None where the places take no bytes: no block was asked for.
+    claim: Option<Claim<T, Global>>,
+}
+
+impl<T> Model for Column<T> {
+    ghost use Rattle.std.specs.Prelude.{◌≡◌, List, Option, length};
+    ghost use Rattle.starlark_columns.specs.Claims.{IsColumn};
+
+    ghost Value = { List (Option T) };
+
+    ghost view = { λ c. c.held.places };
+
+    ghost invariant = { λ c. IsColumn c.address c.count c.held c.claim };
+}
+
+// Making, and giving back
+
+impl<T> Column<T> {
+    /// A column of no places, without memory.
+    #[inline]
+    pub fn new() -> Column<T>
+        ensures { result ≡ [] }
+    {
+        let (address, held) = bare(0);
+        Column {
+            address,
+            count: 0,
+            held,
+            claim: None,
+        }
+    }
+
+    /// A column of `count` empty places. It is refused where there is no memory, or where that many items cannot be
+    /// addressed; places that take no bytes never are, and ask for no memory.
+    pub fn with_places(alloc: Global, count: usize) -> Result<Column<T>, AllocError>
+        ensures made { IfOk result (λ c. c ≡ empties count) }
+        ensures fits { IfOk result (λ _. count * type_size T.row < 2 ^ 63) }
+        ensures succeeds { count * type_size T.row ≡ 0 → IsOk result }
+    {
+        if count == 0 || item_size::<T>() == 0 {
+            let (address, held) = bare(count);
+            return Ok(Column {
+                address,
+                count,
+                held,
+                claim: None,
+            });
+        }
+        if !may_hold::<T>(count) {
+            return Err(AllocError);
+        }
+        let (address, held, claim) = allocate(&alloc, count)?;
+        Ok(Column {
+            address,
+            count,
+            held,
+            claim: Some(claim),
+        })
+    }
+
+    /// Gives the memory back. Every place is to be empty, so that no item is forgotten.
+    #[inline]
+    pub fn give_back(self, alloc: Global)
+        requires { self ≡ empties (length self) }
+    {
+        let Column {
+            address,
+            count,
+            held,
+            claim,
+        } = self;
+        match claim {
+            Some(claim) => deallocate(&alloc, address, count, held, claim),
+            None => let_go(held, count),
+        }
+    }
+
+    /// How many places there are.
+    #[inline]
+    pub fn places(&self) -> usize
+        ensures places { result ≡ length self.now }
+        ensures fits { length self.now < 2 ^ 64 }
+    {
+        self.count
+    }
+}
+
+// One place
+
+impl<T> Column<T> {
+    /// Puts an item in an empty place.
+    #[inline]
+    pub fn write(&mut self, index: usize, item: T)
+        requires { (index < length self.old) × (get_or self.old index None ≡ None) }
+        ensures { self.new ≡ slice_set self.old index (Some item) }
+    {
+        self.held.write(self.address, self.count, index, item);
+    }
+
+    /// Moves the item out of a place, which is then empty.
+    #[inline]
+    pub fn take(&mut self, index: usize) -> T
+        requires { IsFilled self.old index }
+        ensures value { get_or self.old index None ≡ Some result }
+        ensures places { self.new ≡ slice_set self.old index None }
+    {
+        self.held.take(self.address, self.count, index)
+    }
+
+    /// The item of a place.
+    #[inline]
+    pub fn get(&self, index: usize) -> &T
+        requires { IsFilled self.now index }
+        ensures { get_or self.now index None ≡ Some result.now }
+    {
+        let count = self.count;
+        prove!(index < count);
+        &self.held.slice(self.address, index, index + 1)[0]
+    }
+
+    /// Exchanges the items of two places.
+    #[inline]
+    pub fn swap(&mut self, one: usize, other: usize)
+        requires { IsFilled self.old one × IsFilled self.old other }
+        ensures { self.new ≡ exchanged self.old one other }
+    {
+        if other != one {
+            let first = self.take(one);
+            let second = self.take(other);
+            self.write(one, second);
+            self.write(other, first);
+        }
+    }
+}
+
+// Many places
+
+impl<T> Column<T> {
+    ghost use Rattle.starlark_columns.specs.ColumnLends.{lends_items};
+
+    /// The items from place `from` up to place `to`, which are all there.
+    #[inline]
+    pub fn slice(&self, from: usize, to: usize) -> &[T]
+        requires { AreFilled self.now from to }
+        ensures { slice_range self.now from to ≡ map Some result.now }
+    {
+        self.held.slice(self.address, from, to)
+    }
+
+    /// The items from place `from` up to place `to`, to be written.
+    #[inline]
+    pub fn slice_mut(&mut self, from: usize, to: usize) -> &mut [T]
+        requires { AreFilled self.old from to }
+        ensures* writes_back { sem 𝓛 (lends_items T.row self.entry from to result) }
+        ensures value { slice_range self.old from to ≡ map Some result.now }
+    {
+        self.held.slice_mut(self.address, from, to)
+    }
+
+    /// Moves the items from place `from` up to place `end` down, to the places from `to` on, as one move of memory. The
+    /// places between are empty before, and as many behind the items are afterwards.
+    #[inline]
+    pub fn move_down(&mut self, from: usize, end: usize, to: usize)
+        requires items { AreFilled self.old from end }
+        requires gap { AreEmpty self.old to from }
+        ensures { self.new ≡ moved_down self.old from end to }
+    {
+        if from != end {
+            self.held.move_down(self.address, self.count, from, end, to);
+        }
+    }
+
+    /// Moves the items from place `from` up to place `end` up, to the places from `to` on, as one move of memory. The
+    /// places behind that they need are empty before, and as many in front of them are afterwards.
+    #[inline]
+    pub fn move_up(&mut self, from: usize, end: usize, to: usize)
+        requires items { AreFilled self.old from end }
+        requires gap { (from ≤ to) × AreEmpty self.old end (end + (to - from)) }
+        ensures { self.new ≡ moved_up self.old from end to }
+    {
+        if from != end {
+            self.held.move_up(self.address, self.count, from, end, to);
+        }
+    }
+
+    /// Moves the items from place `from` up to place `end` to the empty places of `other` from `to` on, as one copy of memory.
+    #[inline]
+    pub fn move_to(&mut self, from: usize, end: usize, other: &mut Column<T>, to: usize)
+        requires items { AreFilled self.old from end }
+        requires room { AreEmpty other.old to (to + (end - from)) }
+        ensures left { self.new ≡ with_range self.old from end (empties (end - from)) }
+        ensures moved { other.new ≡ with_range other.old to (to + (end - from)) (slice_range self.old from end) }
+    {
+        if from != end {
+            self.held.move_to(
+                self.address,
+                self.count,
+                from,
+                end,
+                &mut other.held,
+                other.address,
+                other.count,
+                to,
+            );
+        }
+    }
+}

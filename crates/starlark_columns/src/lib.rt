@@ -1,0 +1,8 @@
+//! A row of places in raw memory, each empty or with an item. All raw memory of the project is here.
+#![tactic(auto)]
+
+mod block;
+pub mod column;
+mod held;
+
+pub use column::Column;

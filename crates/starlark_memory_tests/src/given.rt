@@ -1,0 +1,33 @@
+//! What several tests begin with: made at the second attempt where a request of the first is refused.
+
+use starlark_hash::{Hashed, StarlarkHashValue};
+use starlark_small::SmallMap;
+use std::alloc::Global;
+use std::test::Fail;
+
+pub(crate) fn under<K>(hash: u32, key: K) -> Hashed<K> {
+    Hashed::new_unchecked(StarlarkHashValue::new_unchecked(hash), key)
+}
+
+// The keys below a number, each with ten times itself.
+pub(crate) fn tens(alloc: Global, count: u32) -> Result<SmallMap<u32, u32>, Fail> {
+    let mut map: SmallMap<u32, u32> = SmallMap::new(alloc);
+    for key in 0..count {
+        if map.insert(key, key.wrapping_mul(10)).is_err() {
+            map.insert(key, key.wrapping_mul(10))?;
+        }
+    }
+    Ok(map)
+}
+
+// The keys 9 and 3, in this order.
+pub(crate) fn falling(alloc: Global) -> Result<SmallMap<&'static str, u32>, Fail> {
+    let mut map: SmallMap<&'static str, u32> = SmallMap::new(alloc);
+    if map.insert_hashed(under(9, "b"), 1).is_err() {
+        map.insert_hashed(under(9, "b"), 1)?;
+    }
+    if map.insert_hashed(under(3, "a"), 2).is_err() {
+        map.insert_hashed(under(3, "a"), 2)?;
+    }
+    Ok(map)
+}

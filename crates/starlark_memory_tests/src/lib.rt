@@ -1,0 +1,15 @@
+//! Tests of each call that asks for memory. Each holds whichever request is refused, so that each can be refused in turn.
+#![tactic(auto)]
+
+#[cfg(test)]
+mod given;
+#[cfg(test)]
+mod lists;
+#[cfg(test)]
+mod made_maps;
+#[cfg(test)]
+mod maps;
+#[cfg(test)]
+mod runs;
+#[cfg(test)]
+mod tables;

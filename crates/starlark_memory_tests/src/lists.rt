@@ -1,0 +1,94 @@
+//! Lists of pairs and vector maps: room that is asked for, and what stands where it is refused.
+
+use crate::given::under;
+use starlark_vec2::Vec2;
+use starlark_vecmap::VecMap;
+use std::alloc::Global;
+use std::test::Fail;
+
+// The numbers below a number, each with itself.
+fn pairs(alloc: Global, count: u32) -> Result<Vec2<u32, u32>, Fail> {
+    let mut list = Vec2::new(alloc);
+    for item in 0..count {
+        if list.push(item, item).is_err() {
+            list.push(item, item)?;
+        }
+    }
+    Ok(list)
+}
+
+#[test]
+fn begins_with_a_capacity(rt: HostRuntime) -> Result<(), Fail> {
+    let alloc = rt.alloc();
+    let list: Vec2<u32, u32> = match Vec2::with_capacity(alloc, 40) {
+        Ok(list) => list,
+        Err(_) => Vec2::with_capacity(alloc, 40)?,
+    };
+    assert_eq!(rt; list.capacity(), 40);
+    let map: VecMap<u32, u32> = match VecMap::with_capacity(alloc, 40) {
+        Ok(map) => map,
+        Err(_) => VecMap::with_capacity(alloc, 40)?,
+    };
+    assert_eq!(rt; map.capacity(), 40);
+    Ok(())
+}
+
+#[test]
+fn takes_a_pair_or_hands_it_back(rt: HostRuntime) -> Result<(), Fail> {
+    let mut list = Vec2::new(rt.alloc());
+    for item in 0u32..9 {
+        if let Err(refused) = list.push(item, 'a') {
+            assert_eq!(rt; (refused.0, list.len()), ((item, 'a'), item as usize));
+            list.push(item, 'a')?;
+        }
+    }
+    assert_eq!(rt; list.len(), 9);
+    assert_eq!(rt; list.get(8), Some((&8, &'a')));
+    Ok(())
+}
+
+#[test]
+fn makes_room_or_stays(rt: HostRuntime) -> Result<(), Fail> {
+    let mut list = pairs(rt.alloc(), 3)?;
+    if list.reserve(40).is_err() {
+        assert_eq!(rt; (list.len(), list.capacity()), (3, 4));
+        assert_eq!(rt; list.get(2), Some((&2, &2)));
+        list.reserve(40)?;
+    }
+    assert!(rt; 43 <= list.capacity());
+    Ok(())
+}
+
+#[test]
+fn collects_and_copies_pairs(rt: HostRuntime) -> Result<(), Fail> {
+    let alloc = rt.alloc();
+    let mut list = match Vec2::from_iter(alloc, [(1u32, 'a'), (2, 'b')]) {
+        Ok(list) => list,
+        Err(_) => Vec2::from_iter(alloc, [(1, 'a'), (2, 'b')])?,
+    };
+    if list.extend([(3, 'c')]).is_err() {
+        assert_eq!(rt; list.len(), 2);
+        list.extend([(3, 'c')])?;
+    }
+    let copy = match list.clone() {
+        Ok(copy) => copy,
+        Err(_) => list.clone()?,
+    };
+    assert_eq!(rt; copy.firsts(), [1, 2, 3].as_slice());
+    Ok(())
+}
+
+#[test]
+fn makes_room_for_entries_or_stays(rt: HostRuntime) -> Result<(), Fail> {
+    let mut map: VecMap<u32, u32> = VecMap::new(rt.alloc());
+    if map.insert_hashed_unique_unchecked(under(7, 1), 10).is_err() {
+        map.insert_hashed_unique_unchecked(under(7, 1), 10)?;
+    }
+    if map.reserve(40).is_err() {
+        assert_eq!(rt; (map.len(), map.capacity()), (1, 4));
+        assert!(rt; map.get_index(0) == Some((&1, &10)));
+        map.reserve(40)?;
+    }
+    assert!(rt; 41 <= map.capacity());
+    Ok(())
+}

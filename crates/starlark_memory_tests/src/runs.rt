@@ -1,0 +1,67 @@
+//! Whole runs: what is reserved is taken, whichever request is refused afterwards.
+
+use starlark_hash::Hashed;
+use starlark_runs::{Command, Reply, held_room_stays, reserved_insertions_succeed};
+use starlark_small::SmallMap;
+use std::alloc::Global;
+use std::test::Fail;
+
+fn value_of(_key: &u32, value: &u32) -> u32 {
+    *value
+}
+
+// A reservation for forty, the index dropped if so asked, and forty new keys.
+fn forty(alloc: Global, drops: bool) -> Result<Vec<Command<u32, u32>>, Fail> {
+    let mut commands = match Vec::with_capacity(alloc, 42) {
+        Ok(commands) => commands,
+        Err(_) => Vec::with_capacity(alloc, 42)?,
+    };
+    commands.push(Command::Reserve(40))?;
+    if drops {
+        commands.push(Command::DropIndex)?;
+    }
+    for key in 0..40 {
+        commands.push(Command::Insert(Hashed::new(key), key))?;
+    }
+    Ok(commands)
+}
+
+// How many of the replies are that a new key was inserted.
+fn inserted(replies: &[Reply<u32, u32, u32>]) -> usize {
+    let mut count = 0usize;
+    for reply in replies {
+        if matches!(reply, Reply::Old(None)) {
+            count = count.wrapping_add(1);
+        }
+    }
+    count
+}
+
+#[test]
+fn takes_what_is_reserved(rt: HostRuntime) -> Result<(), Fail> {
+    let alloc = rt.alloc();
+    let mut map: SmallMap<u32, u32> = SmallMap::new(alloc);
+    let commands = forty(alloc, false)?;
+    if let Ok(replies) = reserved_insertions_succeed(alloc, &mut map, commands, value_of) {
+        assert_eq!(rt; inserted(&replies), 40);
+        assert_eq!(rt; replies.len(), 41);
+    } else {
+        assert_eq!(rt; map.len(), 0);
+    }
+    Ok(())
+}
+
+#[test]
+fn takes_thirty_two_without_an_index(rt: HostRuntime) -> Result<(), Fail> {
+    let alloc = rt.alloc();
+    let mut map: SmallMap<u32, u32> = SmallMap::new(alloc);
+    let commands = forty(alloc, true)?;
+    if let Ok(replies) = held_room_stays(alloc, &mut map, commands, value_of) {
+        assert_eq!(rt; replies.len(), 42);
+        assert!(rt; 33 < replies.len() && inserted(&replies[2..34]) == 32);
+        assert_eq!(rt; inserted(&replies), map.len());
+    } else {
+        assert_eq!(rt; map.len(), 0);
+    }
+    Ok(())
+}

@@ -1,0 +1,43 @@
+use Rattle.std.proofs.Common.{◌+◌, ◌*◌, ◌≡◌, ◌≤◌, length, max}
+use Rattle.starlark_runs.proofs.Determined.{Run-determined}
+use Rattle.starlark_runs.proofs.MemoryLemmas.{EndsWith-last, Run-of_memory}
+use Rattle.starlark_runs.specs.Memory.{memory_of}
+use Rattle.starlark_runs.specs.Run.{Shows}
+use Rattle.starlark_runs.proofs.runs.run.Goals as goal
+
+pub returns-clause-run : goal.returns-clause-run
+returns-clause-run g c =
+    let start = c.args.map.now in
+    Run-of_memory g.K.PartialEq.eq g.K.Ord.cmp (Shows g.F.Fn c.args.look) (memory_of start) start.entries c.args.commands.items c.run_in.new.replies.items c.run_in.new.map.entries c.run_in.ensures.0 c.run_in.ensures.1
+
+pub returns-clause-determined : goal.returns-clause-determined
+returns-clause-determined g c = λ once others end run same.
+    let eq = g.K.PartialEq.eq in
+    let shows = Shows g.F.Fn c.args.look in
+    let start = c.args.map.now in
+    let replies = c.run_in.new.replies.items in
+    let now = c.run_in.new.map.entries in
+    Run-determined eq g.K.Ord.cmp shows once start.entries c.args.commands.items others replies end now run
+    (Run-of_memory eq g.K.Ord.cmp shows (memory_of start) start.entries c.args.commands.items replies now c.run_in.ensures.0 c.run_in.ensures.1) same
+
+pub returns-clause-refused : goal.returns-clause-refused
+returns-clause-refused g c = (c.run_in.ensures.0, c.run_in.ensures.1)
+
+pub returns-clause-room : goal.returns-clause-room
+returns-clause-room g c =
+    let now = c.run_in.new.map in
+    EndsWith-last g.K.PartialEq.eq g.K.Ord.cmp (Shows g.F.Fn c.args.look) c.args.map.now c.args.commands.items c.run_in.new.replies.items now.entries c.run_in.ensures.0
+    (λ last. last.ceiling ≤ length now.entries + now.room) c.run_in.ensures.1 c.run_in.ensures.2.room
+
+pub returns-clause-capacity : goal.returns-clause-capacity
+returns-clause-capacity g c =
+    let start = c.args.map.now in
+    let now = c.run_in.new.map in
+    EndsWith-last g.K.PartialEq.eq g.K.Ord.cmp (Shows g.F.Fn c.args.look) start c.args.commands.items c.run_in.new.replies.items now.entries c.run_in.ensures.0
+    (λ last. now.capacity ≤ max start.capacity (max 4 (2 * last.asked))) c.run_in.ensures.1 c.run_in.ensures.2.capacity
+
+pub returns-clause-indexed : goal.returns-clause-indexed
+returns-clause-indexed g c =
+    let now = c.run_in.new.map in
+    EndsWith-last g.K.PartialEq.eq g.K.Ord.cmp (Shows g.F.Fn c.args.look) c.args.map.now c.args.commands.items c.run_in.new.replies.items now.entries c.run_in.ensures.0
+    (λ last. now.indexed ≡ last.indexed) c.run_in.ensures.1 c.run_in.ensures.2.indexed

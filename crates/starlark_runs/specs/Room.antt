@@ -1,0 +1,48 @@
+-- What a run takes without a refusal: as many entries as there have been before, or as were reserved.
+use Rattle.std.specs.Prelude.{◌≡◌, ◌+◌, ◌<◌, ℕ, suc, Bool, List, ◌∷◌, ◌++◌, length, ⊤}
+use Rattle.std.specs.declared.cmp.Ordering.{Ordering}
+use Rattle.starlark_hash.specs.Entries.{Entry}
+use Rattle.starlark_runs.specs.Run.{Run, Step}
+use Rattle.starlark_runs.specs.declared.command.Command.{Command}
+use Rattle.starlark_runs.specs.declared.command.Command.TheVariants.{DropIndex, Insert, Reserve}
+use Rattle.starlark_runs.specs.declared.command.Reply.{Reply}
+use Rattle.starlark_runs.specs.declared.command.Reply.TheVariants.{Done, Refused}
+
+module _ {K V R : Type 0} where
+  -- the reply is not that an insertion was refused
+  abbrev pub IsAccepted : Reply K V R → Type 0
+  IsAccepted (Refused key value) = ⊥
+  IsAccepted reply = ⊤
+
+  -- until an index may be dropped, the next n insertions are accepted
+  abbrev pub AcceptsNext : ℕ → List (Command K V) → List (Reply K V R) → Type 0
+  AcceptsNext (suc n) (DropIndex ∷ commands) replies = ⊤
+  AcceptsNext (suc n) (Insert key value ∷ commands) (reply ∷ replies) = IsAccepted reply × AcceptsNext n commands replies
+  AcceptsNext (suc n) (command ∷ commands) (reply ∷ replies) = AcceptsNext (suc n) commands replies
+  AcceptsNext n commands replies = ⊤
+
+module _ {K V R : Type 0} (eq : K → K → Bool) (cmp : K → K → Ordering) (shows : Entry K V → R → Type 0) where
+  -- until an index may be dropped, each insertion is accepted that leaves the list at n entries or fewer
+  abbrev pub AcceptsUpTo : ℕ → List (Entry K V) → List (Command K V) → List (Reply K V R) → Type 0
+  AcceptsUpTo n old (DropIndex ∷ commands) replies = ⊤
+  AcceptsUpTo n old (command ∷ commands) (reply ∷ replies) =
+      (next : List (Entry K V)) × Step eq cmp shows old command reply next × (length old < n → IsAccepted reply) × AcceptsUpTo n next commands replies
+  AcceptsUpTo n old commands replies = ⊤
+
+  -- wherever the run stands, from there on it accepts insertions up to as many entries as the list has there
+  abbrev pub AcceptsWhatItHeld : List (Entry K V) → List (Command K V) → List (Reply K V R) → Type 0
+  AcceptsWhatItHeld start commands replies =
+      (before after : List (Command K V)) (first later : List (Reply K V R)) (now : List (Entry K V)) → commands ≡ before ++ after → replies ≡ first ++ later
+      → Run eq cmp shows start before first now → AcceptsUpTo (length now) now after later
+
+  -- wherever the run has reserved room for n, from there on it accepts insertions up to n entries more than the list has there
+  abbrev pub AcceptsWhatItReserved : List (Entry K V) → List (Command K V) → List (Reply K V R) → Type 0
+  AcceptsWhatItReserved start commands replies =
+      (n : ℕ) (before after : List (Command K V)) (first later : List (Reply K V R)) (now : List (Entry K V)) → commands ≡ before ++ Reserve n ∷ after → replies ≡ first ++ Done ∷ later
+      → Run eq cmp shows start before first now → AcceptsUpTo (length now + n) now after later
+
+  -- wherever the run has reserved room for n, the next n insertions are accepted
+  abbrev pub AcceptsReserved : List (Entry K V) → List (Command K V) → List (Reply K V R) → Type 0
+  AcceptsReserved start commands replies =
+      (n : ℕ) (before after : List (Command K V)) (first later : List (Reply K V R)) (now : List (Entry K V)) → commands ≡ before ++ Reserve n ∷ after → replies ≡ first ++ Done ∷ later
+      → Run eq cmp shows start before first now → AcceptsNext n after later

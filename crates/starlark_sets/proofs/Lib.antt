@@ -1,0 +1,6 @@
+pub mod OrderedTold
+pub mod Additions
+pub mod Shown
+pub mod Differences
+pub mod Unions
+pub mod Collecting

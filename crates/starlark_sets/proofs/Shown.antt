@@ -1,0 +1,46 @@
+-- What is said of a place holds of the element that is shown there, and a set that is no longer written ends as it is. Assumes `Logic`.
+use Rattle.std.proofs.Common.{◌≡◌, ℕ, Bool, Some, Result, Ok, Err, IfOk, IfErr, Bor, slice_get, sym, ap, ◌∙◌}
+use Rattle.std.specs.Prelude.{⊤}
+use Rattle.std.specs.Option.{option_map, unwrap_or}
+use mathlib.Core.List.{[], ◌∷◌}
+use mathlib.Core.Option.{none}
+use seplogic.Ra.Ura.{Ura}
+use base.Logic.{ent}
+use base.Fml.{GName}
+use types.Logic.{Logic, sem}
+use types.Kit.{‵, ◌$◌, ◌∵◌, !, qed, fpick, fpack, done}
+use denote.RattleType.{RattleType}
+use denote.Follow.{follows_so, such_by, follows_by}
+use Rattle.starlark_hash.specs.declared.hashed.Hashed.{Hashed}
+use Rattle.starlark_hash.specs.declared.no_room.NoRoom.{NoRoom}
+use Rattle.starlark_hash.specs.Entries.{entry_key}
+use Rattle.starlark_sets.specs.Lending.{IsShown}
+use Rattle.starlark_sets.specs.Set.{Set, Elements, Adds}
+
+module _ {T E : Type 0} where
+  pub adds_shown : (eq : T → T → Bool) (old new : Set T) (element : Hashed T) (place : Result ℕ E) (r : Result (Bor T) E)
+      → IsShown new.entries place r → Adds eq old element place new → Adds eq old element r new
+  adds_shown eq old new element (Ok i) (Ok p) shown adds = adds
+  adds_shown eq old new element (Err e) (Err f) shown adds = adds
+  adds_shown eq old new element (Ok i) (Err f) shown adds = absurd shown
+  adds_shown eq old new element (Err e) (Ok p) shown adds = absurd shown
+
+  pub element_shown : (es : Elements T) (place : Result ℕ E) (r : Result (Bor T) E) (x : T)
+      → IsShown es place r → IfOk place (λ i. option_map entry_key (slice_get es i) ≡ Some x) → IfOk r (λ p. p.now ≡ x)
+  element_shown es (Ok i) (Ok p) x shown is = ap (λ o. unwrap_or o x) (sym shown ∙ is)
+  element_shown es (Err e) (Err f) x shown is = tt
+  element_shown es (Ok i) (Err f) x shown is = absurd shown
+  element_shown es (Err e) (Ok p) x shown is = absurd shown
+
+pub refusal_shown : {T : Type 0} (es : Elements T) (place : Result ℕ (NoRoom T)) (r : Result (Bor T) (NoRoom T)) (x : T)
+    → IsShown es place r → IfErr place (λ e. e.0 ≡ x) → IfErr r (λ e. e.0 ≡ x)
+refusal_shown es (Ok i) (Ok p) x shown is = tt
+refusal_shown es (Err e) (Err f) x shown is = ap (λ n. n.0) shown ∙ is
+refusal_shown es (Ok i) (Err f) x shown is = absurd shown
+refusal_shown es (Err e) (Ok p) x shown is = absurd shown
+
+-- what is said of a value at its end may be said less strongly
+module _ {M : Type 1} {𝓤 : Ura M} (𝓛 : Logic 𝓤) (R : RattleType) (γ : GName) (P Q : R.Denot → Type 0) (weaker : (n : R.Denot) → P n → Q n) where
+  pub ends_weaker : ent 𝓤 (sem 𝓛 (follows_so R R γ none (λ _ _. ⊤) P)) (sem 𝓛 (follows_so R R γ none (λ _ _. ⊤) Q))
+  unfolding such_by follows_by
+  ends_weaker = qed 𝓛 (‵ (follows_so R R γ none (λ _ _. ⊤) P) ∷ []) ∵ fpick ! (λ s. fpack ! ((s : (R.Denot → R.Denot) × R.Denot) × ((w : R.Denot) → ⊤) × Q s.1) (λ s. follows_by R.Denot R.Denot R.coded.code R.coded.code γ none s.0.0 s.0.1) (s.0, s.1, weaker s.0.1 s.2) $ done !)

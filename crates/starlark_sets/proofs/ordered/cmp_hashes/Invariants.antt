@@ -1,0 +1,11 @@
+use Rattle.std.proofs.Common.{◌≡◌, length}
+use Rattle.std.specs.Cmp.Lexicographic.{slice_cmp}
+use Rattle.std.specs.Ordering.{on, nat_cmp}
+use Rattle.starlark_sets.specs.Ordered.{number_of}
+use Rattle.starlark_sets.proofs.ordered.cmp_hashes.Given as goal
+
+abbrev pub invariant-loop-key : goal.invariant-loop-key
+invariant-loop-key g l = slice_cmp (on number_of nat_cmp) l.left l.right ≡ slice_cmp (on number_of nat_cmp) l.initial.left l.initial.right
+
+abbrev pub decreases-loop-key : goal.decreases-loop-key
+decreases-loop-key g l = length l.left

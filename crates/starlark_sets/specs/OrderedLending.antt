@@ -1,0 +1,28 @@
+-- What an `OrderedMap` ends as, once a reference into it has ended.
+use Rattle.std.specs.Prelude.{ℕ, Option}
+use Rattle.std.specs.Borrow.{Fml, RattleType, MutBor, GName, Lends, LendsIf, follows}
+use Rattle.std.specs.declared.cmp.PartialEq as eq
+use Rattle.starlark_hash.specs.Entries.{with_value}
+use Rattle.starlark_vecmap.specs.EntryList.{with_values}
+use Rattle.starlark_small.specs.Map.{Map}
+use Rattle.starlark_small.specs.MapEntry.{map_of_entry}
+use Rattle.starlark_small.specs.declared.entry.Entry.{Entry}
+use Rattle.starlark_small.specs.contracts.small_map.SmallMap as small
+use Rattle.starlark_sets.specs.contracts.ordered_map.OrderedMap.{the_row}
+
+module _ (K V : RattleType) (g : eq.Ghosts K.Denot) (s : MutBor (Map K.Denot V.Denot)) where
+  -- the value at the place that was found ends as what is left behind the reference; where none was found, the map stays
+  abbrev pub lends_found : Option ℕ → Option (MutBor V.Denot) → Fml
+  lends_found place r = LendsIf (the_row K V g) V s r (λ w. record s.now { entries = with_value s.now.entries place w }) s.now
+
+  -- the map ends with the values that the loan of this name ends with, and all else stays
+  abbrev pub values_follow : GName → Fml
+  values_follow γ = follows (the_row K V g) (small.the_row K V g) s.ghost_name γ (λ w. record s.now { entries = with_values s.now.entries w.entries })
+
+  -- the map ends as the one inside is left
+  abbrev pub lends_inside : MutBor (Map K.Denot V.Denot) → Fml
+  lends_inside r = Lends (the_row K V g) (small.the_row K V g) s r (λ m. m)
+
+  -- the map ends as the one that the entry writes
+  abbrev pub follows_entry : Entry K.Denot V.Denot g → Fml
+  follows_entry e = follows (the_row K V g) (small.the_row K V g) s.ghost_name (map_of_entry e).ghost_name (λ m. m)

@@ -1,0 +1,42 @@
+-- What the value `()` adds to comparisons, hashes and clones: nothing.
+use Rattle.std.specs.Prelude.{◌≡◌, Bool, true, List, []}
+use Rattle.std.proofs.Common.{refl}
+use Rattle.std.specs.Borrow.{Bor}
+use Rattle.std.specs.Cmp.{IsEquivalence, IsPartialEquivalence, IsTotalOrder}
+use Rattle.std.specs.Hash.{HashWrites}
+use Rattle.std.specs.declared.cmp.Ordering.{Ordering}
+use Rattle.std.specs.declared.cmp.Ordering.TheVariants.{Equal}
+use Rattle.starlark_hash.specs.declared.hashed.Hashed.{Hashed}
+use Rattle.starlark_hash.specs.HashValue.{hashed, hash_of, key_of}
+use Rattle.starlark_hash.specs.Entries.{Entry}
+use Rattle.starlark_vecmap.specs.Clone.{IsEntryClone}
+use Rattle.starlark_vecmap.specs.Ordered.{ordered_feed}
+
+-- both are equal, and neither is less
+abbrev pub same_unit : Unit {0} → Unit {0} → Bool
+same_unit x y = true
+
+abbrev pub unit_cmp : Unit {0} → Unit {0} → Ordering
+unit_cmp x y = Equal
+
+pub unit_equiv : IsEquivalence same_unit
+unit_equiv = record { refl = λ x. refl; symm = λ x y. refl; congr = λ x y z e. refl }
+
+pub unit_per : IsPartialEquivalence same_unit
+unit_per = record { symm = λ x y. refl; trans = λ x y z a b. refl }
+
+pub unit_total : IsTotalOrder unit_cmp
+unit_total = record { antisymm = λ x y. refl; trans = λ x y z a b. a; congr = λ x y z e. refl }
+
+module _ {T : Type 0} where
+  -- what a set feeds to a hasher: the hash of each element, as one number of 32 bits
+  abbrev pub set_feed : List (Entry T (Unit {0})) → HashWrites
+  set_feed es = ordered_feed (λ _. []) es
+
+  -- the second element has the first one's hash, and is a clone of it
+  abbrev pub IsElementClone : (T → T → Type 0) → Entry T (Unit {0}) → Entry T (Unit {0}) → Type 0
+  IsElementClone element d e = IsEntryClone element (λ x y. y ≡ x) d e
+
+  -- what a `Hashed<&T>` points to, under its hash
+  abbrev pub deref_hashed : Hashed (Bor T) → Hashed T
+  deref_hashed h = hashed (hash_of h) (key_of h).now

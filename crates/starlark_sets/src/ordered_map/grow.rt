@@ -1,0 +1,108 @@
+//! What puts entries into an `OrderedMap`, and what may ask for memory.
+ghost use Rattle.std.specs.Prelude.{◌≡◌, ◌+◌, ◌<◌, ◌≤◌, ◌||◌, length, nat_lt, None, IsSome, IsOk, IfOk, IfErr, OnOk, OnErr};
+ghost use Rattle.std.specs.Iterator.{IsFiniteIterable, size};
+ghost use Rattle.std.specs.List.{AllZip};
+ghost use Rattle.starlark_hash.specs.Entries.{value_at, match_of, insert_entry};
+ghost use Rattle.starlark_hash.specs.Sorting.{Ascends, sorted_by_key};
+ghost use Rattle.starlark_small.specs.Clone.{IsEqualClone};
+ghost use Rattle.starlark_small.specs.Collect.{Collects, Extends, own_entry};
+ghost use Rattle.starlark_small.specs.Index.{unindexed};
+ghost use Rattle.starlark_small.specs.Map.{KeepsMemory, KeepsRoom, GrowsFor, own_hashed};
+ghost use Rattle.starlark_vec2.specs.Collect.{IsLawfulClone};
+ghost use Rattle.starlark_vecmap.specs.Clone.{IsEntryClone};
+
+use super::OrderedMap;
+use starlark_hash::NoRoom;
+use starlark_small::SmallMap;
+use std::alloc::{AllocError, Global};
+use std::hash::Hash;
+
+impl<K: Eq, V> OrderedMap<K, V> {
+    /// Inserts under the key's own hash. A key that is there keeps its place and its stored key and takes the value,
+    /// whose old one is answered; a new key goes last. Only a new key is refused, where there is no room and no memory
+    /// is found: it comes back with its value, and the entries stay.
+    pub fn insert(&mut self, key: K, value: V) -> Result<Option<V>, NoRoom<(K, V)>>
+    where
+        K: Hash + Drop,
+        // The value that was there, and the entries now.
+        ensures old { IfOk result (λ old. old ≡ value_at self.old.entries (match_of K.eq self.old.entries (own_hashed K.hash_input key))) }
+        ensures entries { OnOk result (self.new.entries ≡ insert_entry K.eq self.old.entries (own_hashed K.hash_input key) value) }
+
+        // A refusal comes only of a new key and without room. The pair comes back, and entries and index stay.
+        ensures absent { OnErr result (match_of K.eq self.old.entries (own_hashed K.hash_input key) ≡ None) }
+        ensures full { OnErr result (self.old.room ≡ 0) }
+        ensures handed_back { IfErr result (λ refused. refused.0 ≡ (key, value)) }
+        ensures unchanged { OnErr result ((self.new.entries ≡ self.old.entries) × (self.new.indexed ≡ self.old.indexed)) }
+
+        // A key that is there changes nothing but its value; with room to spare nothing grows; else the
+        // capacity may, and an index is made once the list is too long to do without.
+        ensures replaced { IsSome (match_of K.eq self.old.entries (own_hashed K.hash_input key)) → self.new ≡ record self.old { entries = self.new.entries } }
+        ensures spare { 0 < self.old.room → (self.new.capacity ≡ self.old.capacity) × (self.new.indexed ≡ self.old.indexed) }
+        ensures room { KeepsRoom self.old self.new }
+        ensures capacity { GrowsFor (length self.old.entries + 1) self.old self.new }
+        ensures indexed { self.new.indexed ≡ (self.old.indexed || nat_lt unindexed (length self.new.entries)) }
+    {
+        self.0.insert(key, value)
+    }
+
+    /// Sorts by key; entries with equal keys keep their order. Where the keys ascend already it asks for no memory. A
+    /// refusal leaves the entries as they were.
+    pub fn sort_keys(&mut self) -> Result<(), AllocError>
+    where
+        K: Ord,
+        ensures entries { OnOk result (self.new.entries ≡ sorted_by_key K.cmp self.old.entries) }
+        ensures unchanged { OnErr result (self.new.entries ≡ self.old.entries) }
+        ensures succeeds { Ascends K.cmp self.old.entries → IsOk result }
+        ensures kept { KeepsMemory self.old self.new }
+    {
+        self.0.sort_keys()
+    }
+}
+
+impl<K: Eq + Hash + Drop, V: Drop> OrderedMap<K, V> {
+    /// Inserts the items in their order, each under its key's own hash, as `insert` does. It reserves nothing, and where
+    /// there is room for all of them, capacity and index stay. Where a new key is refused, the items that came before
+    /// are there and have used up the room, and it and the others are dropped.
+    pub fn extend<I: IntoIterator<Item = (K, V)>>(&mut self, iter: I) -> Result<(), AllocError>
+        requires { IsFiniteIterable I.into_iter_gives I.IntoIter.can_next I.IntoIter.remaining iter }
+        ensures entries { Extends K.eq (own_entry K.hash_input) I.IntoIter.next_gives I.into_iter_gives iter self.old.entries self.new.entries result }
+        ensures succeeds { ((it : _) → I.into_iter_gives iter it → size (I.IntoIter.remaining it) ≤ self.old.room) → IsOk result }
+        ensures spare { ((it : _) → I.into_iter_gives iter it → size (I.IntoIter.remaining it) ≤ self.old.room) → (self.new.capacity ≡ self.old.capacity) × (self.new.indexed ≡ self.old.indexed) }
+        ensures full { OnErr result (length self.old.entries + self.old.room ≤ length self.new.entries) }
+        ensures room { KeepsRoom self.old self.new }
+        ensures capacity { GrowsFor (length self.new.entries + 1) self.old self.new }
+        ensures indexed { self.new.indexed ≡ (self.old.indexed || nat_lt unindexed (length self.new.entries)) }
+    {
+        self.0.extend(iter)
+    }
+
+    /// A map of the items, inserted in their order, each under its key's own hash. It begins with room for the lower
+    /// bound of the iterator's `size_hint`. Where memory is refused, nothing is made and the items are dropped.
+    pub fn from_iter<I: IntoIterator<Item = (K, V)>>(
+        alloc: Global,
+        iter: I,
+    ) -> Result<Self, AllocError>
+        requires { IsFiniteIterable I.into_iter_gives I.IntoIter.can_next I.IntoIter.remaining iter }
+        ensures map { IfOk result (Collects K.eq (own_entry K.hash_input) I.IntoIter.next_gives I.into_iter_gives I.IntoIter.remaining iter) }
+        ensures succeeds { ((it : _) → I.into_iter_gives iter it → size (I.IntoIter.remaining it) ≡ 0) → IsOk result }
+    {
+        Ok(OrderedMap(SmallMap::from_iter(alloc, iter)?))
+    }
+}
+
+impl<K: Eq + Clone, V: Clone> OrderedMap<K, V> {
+    /// A map of clones of the entries under the same hashes, in their order, whose capacity is their number. It has an
+    /// index only where the list is too long to do without. Where memory is refused, also to the clone of a key or a
+    /// value, nothing is made. Without entries no memory is needed.
+    pub fn clone(&self) -> Result<Self, AllocError>
+        // A clone of a key is equal to it.
+        requires { IsEqualClone K.eq K.is_clone }
+        ensures entries { IfOk result (λ map. AllZip (IsEntryClone K.is_clone V.is_clone) self.now.entries map.entries) }
+        ensures same { IfOk result (λ map. IsLawfulClone K.is_clone → IsLawfulClone V.is_clone → map.entries ≡ self.now.entries) }
+        ensures capacity { IfOk result (λ map. map.capacity ≡ length self.now.entries) }
+        ensures indexed { IfOk result (λ map. map.indexed ≡ nat_lt unindexed (length self.now.entries)) }
+        ensures succeeds { length self.now.entries ≡ 0 → IsOk result }
+    {
+        Ok(OrderedMap(self.0.clone()?))
+    }
+}

@@ -1,0 +1,61 @@
+//! What an `OrderedMap` has: entries by key under its own hash, and by place.
+ghost use Rattle.std.specs.Prelude.{◌≡◌, ◌<◌, ◌==◌, slice_get, length, is_some, IfSome};
+ghost use Rattle.std.specs.Map.Iter.{deref_pair};
+ghost use Rattle.std.specs.Option.{option_copied, option_map};
+ghost use Rattle.starlark_hash.specs.Entries.{value_at, pair_of};
+ghost use Rattle.starlark_small.specs.Map.{own_match};
+
+use super::OrderedMap;
+use starlark_hash::Equivalent;
+use std::hash::Hash;
+
+impl<K: Eq, V> OrderedMap<K, V> {
+    /// How many entries there are.
+    #[inline]
+    pub fn len(&self) -> usize
+        ensures { result ≡ length self.now.entries }
+    {
+        self.0.len()
+    }
+
+    /// Whether there are no entries.
+    #[inline]
+    pub fn is_empty(&self) -> bool
+        ensures { result ≡ (length self.now.entries == 0) }
+    {
+        self.0.is_empty()
+    }
+
+    /// The value under the query's own hash whose key the query is equivalent to.
+    #[inline]
+    pub fn get<Q: Equivalent<K> + Hash>(&self, key: &Q) -> Option<&V>
+        ensures { option_copied result ≡ value_at self.now.entries (own_match Q.equivalent Q.hash_input self.now.entries key.now) }
+    {
+        self.0.get(key)
+    }
+
+    /// The key and the value at a place.
+    #[inline]
+    pub fn get_index(&self, index: usize) -> Option<(&K, &V)>
+        ensures { option_map deref_pair result ≡ option_map pair_of (slice_get self.now.entries index) }
+    {
+        self.0.get_index(index)
+    }
+
+    /// The place under the query's own hash whose key the query is equivalent to.
+    #[inline]
+    pub fn get_index_of<Q: Equivalent<K> + Hash>(&self, key: &Q) -> Option<usize>
+        ensures place { result ≡ own_match Q.equivalent Q.hash_input self.now.entries key.now }
+        ensures within { IfSome result (λ i. i < length self.now.entries) }
+    {
+        self.0.get_index_of(key)
+    }
+
+    /// Whether there is an entry under the query's own hash whose key the query is equivalent to.
+    #[inline]
+    pub fn contains_key<Q: Equivalent<K> + Hash>(&self, key: &Q) -> bool
+        ensures { result ≡ is_some (own_match Q.equivalent Q.hash_input self.now.entries key.now) }
+    {
+        self.0.contains_key(key)
+    }
+}

@@ -1,0 +1,33 @@
+//! What takes entries out of an `OrderedMap`. None of it asks for memory.
+ghost use Rattle.std.specs.Prelude.{◌≡◌, []};
+ghost use Rattle.starlark_hash.specs.Entries.{value_at, without};
+ghost use Rattle.starlark_small.specs.Map.{KeepsMemory, own_match};
+
+use super::OrderedMap;
+use starlark_hash::Equivalent;
+use std::hash::Hash;
+
+impl<K: Eq, V> OrderedMap<K, V> {
+    /// Removes the entry under the query's own hash whose key the query is equivalent to, drops its key and answers
+    /// its value. Those after it move up.
+    pub fn remove<Q: Equivalent<K> + Hash>(&mut self, key: &Q) -> Option<V>
+    where
+        K: Drop,
+        ensures taken { result ≡ value_at self.old.entries (own_match Q.equivalent Q.hash_input self.old.entries key.now) }
+        ensures entries { self.new.entries ≡ without self.old.entries (own_match Q.equivalent Q.hash_input self.old.entries key.now) }
+        ensures kept { KeepsMemory self.old self.new }
+    {
+        self.0.shift_remove(key)
+    }
+
+    /// Removes each entry. The memory stays for those to come.
+    pub fn clear(&mut self)
+    where
+        K: Drop,
+        V: Drop,
+        ensures entries { self.new.entries ≡ [] }
+        ensures kept { KeepsMemory self.old self.new }
+    {
+        self.0.clear();
+    }
+}

@@ -1,0 +1,60 @@
+//! A set whose order counts when it is compared. It alone sees the set inside.
+ghost use Rattle.std.specs.Prelude.{◌≡◌, ◌≤◌, [], false, nat_lt, IfOk, IsOk};
+ghost use Rattle.starlark_small.specs.Index.{unindexed};
+
+mod compare;
+mod grow;
+mod read;
+mod shrink;
+mod tries;
+mod walk;
+
+use crate::small_set::SmallSet;
+use std::alloc::{AllocError, Global};
+use std::marker::Model;
+pub use tries::{OccupiedError, TryInsertError};
+pub use walk::{IntoIter, Iter};
+
+/// A `SmallSet` that is compared and hashed in its order.
+#[derive(Debug, Drop)]
+pub struct OrderedSet<T: Eq>(SmallSet<T>);
+
+impl<T: Eq> Model for OrderedSet<T> {
+    ghost use Rattle.starlark_sets.specs.Set.{Set};
+
+    ghost Value = { Set T };
+
+    ghost view = { λ s. s.0 };
+}
+
+impl<T: Eq> OrderedSet<T> {
+    /// An empty set, which asks for no memory until the first insertion.
+    #[inline]
+    pub fn new(alloc: Global) -> Self
+        ensures { result ≡ record { entries = []; room = 0; capacity = 0; indexed = false } }
+    {
+        OrderedSet(SmallSet::new(alloc))
+    }
+
+    /// An empty set with room for so many elements, and with an index where so many need one. Where memory is refused,
+    /// nothing is made; capacity 0 asks for none.
+    pub fn with_capacity(alloc: Global, capacity: usize) -> Result<Self, AllocError>
+        ensures entries { IfOk result (λ set. set.entries ≡ []) }
+        ensures capacity { IfOk result (λ set. set.capacity ≡ capacity) }
+        ensures room { IfOk result (λ set. capacity ≤ set.room) }
+        ensures indexed { IfOk result (λ set. set.indexed ≡ nat_lt unindexed capacity) }
+        ensures succeeds { capacity ≡ 0 → IsOk result }
+    {
+        Ok(OrderedSet(SmallSet::with_capacity(alloc, capacity)?))
+    }
+}
+
+impl<T: Eq> From<SmallSet<T>> for OrderedSet<T> {
+    ghost from_gives = { λ set ordered. ordered ≡ set };
+
+    /// The same elements, room, capacity and index.
+    #[inline]
+    fn from(set: SmallSet<T>) -> Self {
+        OrderedSet(set)
+    }
+}

@@ -1,0 +1,77 @@
+//! What an `OrderedSet` has: elements under their own hashes, and by place.
+ghost use Rattle.std.specs.Prelude.{◌≡◌, ◌-◌, ◌<◌, ◌==◌, slice_get, length, is_some, IfSome};
+ghost use Rattle.std.specs.Option.{option_copied, option_map};
+ghost use Rattle.starlark_hash.specs.Entries.{entry_key};
+ghost use Rattle.starlark_small.specs.Map.{own_match};
+ghost use Rattle.starlark_sets.specs.Set.{element_at};
+
+use super::OrderedSet;
+use starlark_hash::Equivalent;
+use std::hash::Hash;
+
+impl<T: Eq> OrderedSet<T> {
+    /// How many elements there are.
+    #[inline]
+    pub fn len(&self) -> usize
+        ensures { result ≡ length self.now.entries }
+    {
+        self.0.len()
+    }
+
+    /// Whether there are no elements.
+    #[inline]
+    pub fn is_empty(&self) -> bool
+        ensures { result ≡ (length self.now.entries == 0) }
+    {
+        self.0.is_empty()
+    }
+
+    /// The element under the query's own hash to which the query is equivalent.
+    #[inline]
+    pub fn get<Q: Equivalent<T> + Hash>(&self, query: &Q) -> Option<&T>
+        ensures { option_copied result ≡ element_at self.now (own_match Q.equivalent Q.hash_input self.now.entries query.now) }
+    {
+        self.0.get(query)
+    }
+
+    /// Whether there is an element under the query's own hash to which the query is equivalent.
+    #[inline]
+    pub fn contains<Q: Equivalent<T> + Hash>(&self, query: &Q) -> bool
+        ensures { result ≡ is_some (own_match Q.equivalent Q.hash_input self.now.entries query.now) }
+    {
+        self.0.contains(query)
+    }
+
+    /// The element at a place.
+    #[inline]
+    pub fn get_index(&self, index: usize) -> Option<&T>
+        ensures { option_copied result ≡ option_map entry_key (slice_get self.now.entries index) }
+    {
+        self.0.get_index(index)
+    }
+
+    /// The place of the element under the query's own hash to which the query is equivalent.
+    #[inline]
+    pub fn get_index_of<Q: Equivalent<T> + Hash>(&self, query: &Q) -> Option<usize>
+        ensures place { result ≡ own_match Q.equivalent Q.hash_input self.now.entries query.now }
+        ensures within { IfSome result (λ i. i < length self.now.entries) }
+    {
+        self.0.get_index_of(query)
+    }
+
+    /// The first element.
+    #[inline]
+    pub fn first(&self) -> Option<&T>
+        ensures { option_copied result ≡ option_map entry_key (slice_get self.now.entries 0) }
+    {
+        self.0.first()
+    }
+
+    /// The last element.
+    #[inline]
+    pub fn last(&self) -> Option<&T>
+        ensures { option_copied result ≡ option_map entry_key (slice_get self.now.entries (length self.now.entries - 1)) }
+    {
+        self.0.last()
+    }
+}

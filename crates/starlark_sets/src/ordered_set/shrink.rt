@@ -1,0 +1,39 @@
+//! What takes elements out of an `OrderedSet`, and what turns it round. None of it asks for memory.
+ghost use Rattle.std.specs.Prelude.{◌≡◌, [], reverse};
+ghost use Rattle.starlark_hash.specs.Entries.{without};
+ghost use Rattle.starlark_small.specs.Map.{KeepsMemory, own_match};
+ghost use Rattle.starlark_sets.specs.Set.{element_at};
+
+use super::OrderedSet;
+use starlark_hash::Equivalent;
+use std::hash::Hash;
+
+impl<T: Eq> OrderedSet<T> {
+    /// Removes the element under the query's own hash to which the query is equivalent, and answers it. Those after it
+    /// move up.
+    pub fn take<Q: Equivalent<T> + Hash>(&mut self, query: &Q) -> Option<T>
+        ensures taken { result ≡ element_at self.old (own_match Q.equivalent Q.hash_input self.old.entries query.now) }
+        ensures entries { self.new.entries ≡ without self.old.entries (own_match Q.equivalent Q.hash_input self.old.entries query.now) }
+        ensures kept { KeepsMemory self.old self.new }
+    {
+        self.0.take(query)
+    }
+
+    /// Removes each element. The memory stays for those to come.
+    pub fn clear(&mut self)
+    where
+        T: Drop,
+        ensures entries { self.new.entries ≡ [] }
+        ensures kept { KeepsMemory self.old self.new }
+    {
+        self.0.clear();
+    }
+
+    /// Turns the order of the elements round.
+    pub fn reverse(&mut self)
+        ensures entries { self.new.entries ≡ reverse self.old.entries }
+        ensures kept { KeepsMemory self.old self.new }
+    {
+        self.0.reverse();
+    }
+}

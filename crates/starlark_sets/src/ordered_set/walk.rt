@@ -1,0 +1,65 @@
+//! The walks of an `OrderedSet`, which are those of the set inside.
+ghost use Rattle.std.specs.Prelude.{◌≡◌, ◌^◌, ◌<◌, length, map};
+ghost use Rattle.std.specs.Map.Iter.{ShowsInOrder, ShowsInReverse, GivesInOrder, GivesInReverse, deref};
+ghost use Rattle.starlark_hash.specs.Entries.{IsSingle, entry_key};
+ghost use Rattle.starlark_sets.specs.Union.{ShowsUnion, union};
+
+use super::OrderedSet;
+use crate::iter;
+use crate::union::Union;
+
+/// The elements in order.
+pub type Iter<'a, T> = iter::Iter<'a, T>;
+
+/// The elements by value, in order.
+pub type IntoIter<T> = iter::IntoIter<T>;
+
+impl<T: Eq> OrderedSet<T> {
+    /// The elements in order.
+    #[inline]
+    pub fn iter(&self) -> Iter<'_, T>
+        ensures elements { result ≡ map entry_key self.now.entries }
+        ensures fits { length self.now.entries < 2 ^ 64 }
+        ensures runs { ShowsInOrder (deref {X = T}) }
+        ensures runs_back { ShowsInReverse (deref {X = T}) }
+    {
+        self.0.iter()
+    }
+
+    /// The elements of this set, and then those of the other that this one lacks, each looked for under its stored hash.
+    pub fn union<'a>(&'a self, other: &'a Self) -> Union<'a, T>
+        ensures left { result ≡ record { first = self.now.entries; second = record { left = other.now.entries; other = self.now.entries } } }
+        ensures single { IsSingle T.eq (union T.eq self.now.entries other.now.entries) }
+        ensures runs { ShowsUnion T.eq }
+    {
+        self.0.union(&other.0)
+    }
+}
+
+impl<T: Eq + Drop> IntoIterator for OrderedSet<T> {
+    type Item = T;
+
+    type IntoIter = IntoIter<T>;
+
+    ghost into_iter_gives = { λ s rest. (rest ≡ map entry_key s.entries) × (length s.entries < 2 ^ 64) × GivesInOrder T × GivesInReverse T };
+
+    /// The elements by value, in order.
+    #[inline]
+    fn into_iter(self) -> IntoIter<T> {
+        self.0.into_iter()
+    }
+}
+
+impl<'a, T: Eq> IntoIterator for &'a OrderedSet<T> {
+    type Item = &'a T;
+
+    type IntoIter = Iter<'a, T>;
+
+    ghost into_iter_gives = { λ s rest. (rest ≡ map entry_key s.now.entries) × (length s.now.entries < 2 ^ 64) × ShowsInOrder (deref {X = T}) × ShowsInReverse (deref {X = T}) };
+
+    /// The elements in order.
+    #[inline]
+    fn into_iter(self) -> Iter<'a, T> {
+        self.iter()
+    }
+}

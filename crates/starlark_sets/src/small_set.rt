@@ -1,0 +1,64 @@
+//! The set, a map whose every value is `()`. It alone sees that map.
+ghost use Rattle.std.specs.Prelude.{◌≡◌, ◌≤◌, [], false, nat_lt, IfOk, IsOk};
+ghost use Rattle.starlark_small.specs.Index.{unindexed};
+
+mod collect;
+mod compare;
+mod copy;
+mod grow;
+mod lend;
+mod read;
+mod shrink;
+mod unique;
+mod walk;
+mod with_other;
+
+use starlark_small::SmallMap;
+use std::alloc::{AllocError, Global};
+use std::marker::Model;
+
+/// A set that walks in the order of insertion. An element stands under a hash that its caller brings, which need not
+/// be its own: a look-up finds the element of that hash that is equal. A list that has grown long has an index of its
+/// places.
+#[derive(Drop)]
+pub struct SmallSet<T: Eq> {
+    map: SmallMap<T, ()>,
+    // Where `get_or_insert_owned` gets the memory of an element.
+    alloc: Global,
+}
+
+impl<T: Eq> Model for SmallSet<T> {
+    ghost use Rattle.starlark_sets.specs.Set.{Set};
+
+    ghost Value = { Set T };
+
+    ghost view = { λ s. s.map };
+}
+
+impl<T: Eq> SmallSet<T> {
+    /// An empty set, which asks for no memory until the first insertion.
+    #[inline]
+    pub fn new(alloc: Global) -> Self
+        ensures { result ≡ record { entries = []; room = 0; capacity = 0; indexed = false } }
+    {
+        SmallSet {
+            map: SmallMap::new(alloc),
+            alloc,
+        }
+    }
+
+    /// An empty set with room for so many elements, and with an index where so many need one. Where memory is refused,
+    /// nothing is made; capacity 0 asks for none.
+    pub fn with_capacity(alloc: Global, capacity: usize) -> Result<Self, AllocError>
+        ensures entries { IfOk result (λ set. set.entries ≡ []) }
+        ensures capacity { IfOk result (λ set. set.capacity ≡ capacity) }
+        ensures room { IfOk result (λ set. capacity ≤ set.room) }
+        ensures indexed { IfOk result (λ set. set.indexed ≡ nat_lt unindexed capacity) }
+        ensures succeeds { capacity ≡ 0 → IsOk result }
+    {
+        Ok(SmallSet {
+            map: SmallMap::with_capacity(alloc, capacity)?,
+            alloc,
+        })
+    }
+}

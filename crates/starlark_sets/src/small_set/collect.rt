@@ -1,0 +1,62 @@
+//! `SmallSet`s from the items of iterators.
+ghost use Rattle.std.specs.Prelude.{◌≡◌, ◌+◌, ◌≤◌, ◌||◌, length, nat_lt, IfOk, IsOk, OnErr};
+ghost use Rattle.std.specs.Iterator.{IsFiniteIterable, size};
+ghost use Rattle.starlark_small.specs.Collect.{Collects, Extends};
+ghost use Rattle.starlark_small.specs.Index.{unindexed};
+ghost use Rattle.starlark_small.specs.Map.{GrowsFor, KeepsRoom};
+ghost use Rattle.starlark_sets.specs.Collect.{element_entry, own_element};
+
+use super::SmallSet;
+use crate::with_unit::WithUnit;
+use starlark_hash::Hashed;
+use starlark_small::SmallMap;
+use std::alloc::{AllocError, Global};
+use std::hash::Hash;
+
+impl<T: Eq + Hash + Drop> SmallSet<T> {
+    /// Inserts the items in their order, each under its own hash, as `insert` does. It reserves nothing, and where there
+    /// is room for all of them, capacity and index stay. Where a new element is refused, the items that came before are
+    /// there and have used up the room, and it and the others are dropped.
+    pub fn extend<I: IntoIterator<Item = T>>(&mut self, iter: I) -> Result<(), AllocError>
+        requires { IsFiniteIterable I.into_iter_gives I.IntoIter.can_next I.IntoIter.remaining iter }
+        ensures entries { Extends T.eq (own_element T.hash_input) I.IntoIter.next_gives I.into_iter_gives iter self.old.entries self.new.entries result }
+        ensures succeeds { ((it : _) → I.into_iter_gives iter it → size (I.IntoIter.remaining it) ≤ self.old.room) → IsOk result }
+        ensures spare { ((it : _) → I.into_iter_gives iter it → size (I.IntoIter.remaining it) ≤ self.old.room) → (self.new.capacity ≡ self.old.capacity) × (self.new.indexed ≡ self.old.indexed) }
+        ensures full { OnErr result (length self.old.entries + self.old.room ≤ length self.new.entries) }
+        ensures room { KeepsRoom self.old self.new }
+        ensures capacity { GrowsFor (length self.new.entries + 1) self.old self.new }
+        ensures indexed { self.new.indexed ≡ (self.old.indexed || nat_lt unindexed (length self.new.entries)) }
+    {
+        self.map.extend(WithUnit::new(iter.into_iter()))
+    }
+
+    /// A set of the items, inserted in their order, each under its own hash. It begins with room for the lower bound of
+    /// the iterator's `size_hint`. Where memory is refused, nothing is made and the items are dropped.
+    pub fn from_iter<I: IntoIterator<Item = T>>(alloc: Global, iter: I) -> Result<Self, AllocError>
+        requires { IsFiniteIterable I.into_iter_gives I.IntoIter.can_next I.IntoIter.remaining iter }
+        ensures set { IfOk result (Collects T.eq (own_element T.hash_input) I.IntoIter.next_gives I.into_iter_gives I.IntoIter.remaining iter) }
+        ensures succeeds { ((it : _) → I.into_iter_gives iter it → size (I.IntoIter.remaining it) ≡ 0) → IsOk result }
+    {
+        Ok(SmallSet {
+            map: SmallMap::from_iter(alloc, WithUnit::new(iter.into_iter()))?,
+            alloc,
+        })
+    }
+}
+
+impl<T: Eq + Drop> SmallSet<T> {
+    /// As `from_iter`, of elements that stand under hashes already.
+    pub fn from_iter_hashed<I: IntoIterator<Item = Hashed<T>>>(
+        alloc: Global,
+        iter: I,
+    ) -> Result<Self, AllocError>
+        requires { IsFiniteIterable I.into_iter_gives I.IntoIter.can_next I.IntoIter.remaining iter }
+        ensures set { IfOk result (Collects T.eq element_entry I.IntoIter.next_gives I.into_iter_gives I.IntoIter.remaining iter) }
+        ensures succeeds { ((it : _) → I.into_iter_gives iter it → size (I.IntoIter.remaining it) ≡ 0) → IsOk result }
+    {
+        Ok(SmallSet {
+            map: SmallMap::from_iter_hashed(alloc, WithUnit::new(iter.into_iter()))?,
+            alloc,
+        })
+    }
+}

@@ -1,0 +1,140 @@
+//! Elements of a `SmallSet` that are put where they are lacking, and shown.
+ghost use Rattle.std.specs.Prelude.{◌≡◌, ◌<◌, length, slice_get, Some, IfErr, IfOk, IsOk};
+ghost use Rattle.std.specs.Borrow.{sem};
+ghost use Rattle.std.specs.Option.{option_map, unwrap_or};
+ghost use Rattle.starlark_hash.specs.Entries.{entry_key, match_of};
+ghost use Rattle.starlark_hash.specs.Hasher.{own_hash};
+ghost use Rattle.starlark_hash.specs.HashValue.{key_of};
+ghost use Rattle.starlark_small.specs.Map.{own_hashed};
+ghost use Rattle.starlark_sets.specs.Lending.{AddsAt, IsShown, ends_so};
+ghost use Rattle.starlark_sets.specs.Set.{Adds, AddsFor, element_at};
+
+use super::SmallSet;
+use starlark_hash::key_query::ToOwnedKey;
+use starlark_hash::{Hashed, NoRoom, StarlarkHashValue};
+use starlark_small::SmallMap;
+use std::alloc::AllocError;
+use std::hash::Hash;
+
+impl<T: Eq> SmallSet<T> {
+    /// The element that is there under this one's own hash and equal to it, or else this one, put last. Only a new one
+    /// is refused, where there is no room and no memory is found: it comes back, and elements and index stay.
+    pub fn get_or_insert(&mut self, value: T) -> Result<&T, NoRoom<T>>
+    where
+        T: Hash + Drop,
+        ensures* set { sem 𝓛 (ends_so T.row T.PartialEq self.entry (Adds T.eq self.old (own_hashed T.hash_input value) result)) }
+        ensures element { IfOk result (λ p. p.now ≡ unwrap_or (element_at self.old (match_of T.eq self.old.entries (own_hashed T.hash_input value))) value) }
+        ensures handed_back { IfErr result (λ refused. refused.0 ≡ value) }
+    {
+        let place = self.place_or_push_own(value);
+        shown(self.frozen(), place)
+    }
+
+    /// The element that is there under the query's own hash and to which the query is equivalent, or else the one that
+    /// the query makes, put last under that hash. It is refused where the query's element is lacking, and `to_owned_key`
+    /// is refused or there is no room and no memory is found: then elements and index stay.
+    pub fn get_or_insert_owned<Q: ToOwnedKey<T> + Hash>(
+        &mut self,
+        value: &Q,
+    ) -> Result<&T, AllocError>
+    where
+        T: Drop,
+        ensures* set { sem 𝓛 (ends_so T.row T.PartialEq self.entry (AddsFor Q.equivalent value.now (own_hash Q.hash_input value.now) self.old result)) }
+        ensures succeeds { Q.is_infallible value.now → 0 < self.old.room → IsOk result }
+    {
+        let place = self.place_or_push_for(value)?;
+        Ok(element_in(&self.map, place))
+    }
+
+    // The set, which is no longer written.
+    fn frozen(&mut self) -> &Self
+        ensures* set { sem 𝓛 (ends_so T.row T.PartialEq self.entry (λ new. new ≡ self.old)) }
+        ensures now { result.now ≡ self.old }
+    {
+        self
+    }
+
+    // The place of an element, which is put last where it is lacking.
+    fn place_or_push(&mut self, element: Hashed<T>) -> Result<usize, NoRoom<Hashed<T>>>
+    where
+        T: Drop,
+        ensures set { Adds T.eq self.old element result self.new }
+        ensures element { IfOk result (λ i. option_map entry_key (slice_get self.new.entries i) ≡ Some (unwrap_or (element_at self.old (match_of T.eq self.old.entries element)) (key_of element))) }
+        ensures within { IfOk result (λ i. i < length self.new.entries) }
+        ensures handed_back { IfErr result (λ refused. refused.0 ≡ element) }
+    {
+        match self.map.get_index_of_hashed(element.as_ref()) {
+            Some(place) => Ok(place),
+            None => match self.map.push(element, ()) {
+                Ok(place) => Ok(place),
+                Err(NoRoom((element, ()))) => Err(NoRoom(element)),
+            },
+        }
+    }
+
+    // The same under the element's own hash.
+    fn place_or_push_own(&mut self, element: T) -> Result<usize, NoRoom<T>>
+    where
+        T: Hash + Drop,
+        ensures set { Adds T.eq self.old (own_hashed T.hash_input element) result self.new }
+        ensures element { IfOk result (λ i. option_map entry_key (slice_get self.new.entries i) ≡ Some (unwrap_or (element_at self.old (match_of T.eq self.old.entries (own_hashed T.hash_input element))) element)) }
+        ensures within { IfOk result (λ i. i < length self.new.entries) }
+        ensures handed_back { IfErr result (λ refused. refused.0 ≡ element) }
+    {
+        match self.place_or_push(Hashed::new(element)) {
+            Ok(place) => Ok(place),
+            Err(NoRoom(element)) => Err(NoRoom(element.into_key())),
+        }
+    }
+}
+
+impl<T: Eq> SmallSet<T> {
+    // The place of the element for a query under its own hash, which is made and put last where it is lacking.
+    fn place_or_push_for<Q: ToOwnedKey<T> + Hash>(&mut self, query: &Q) -> Result<usize, AllocError>
+    where
+        T: Drop,
+        ensures set { AddsAt Q.equivalent query.now (own_hash Q.hash_input query.now) self.old result self.new }
+        ensures within { IfOk result (λ i. i < length self.new.entries) }
+        ensures succeeds { Q.is_infallible query.now → 0 < self.old.room → IsOk result }
+    {
+        let query = Hashed::new_unchecked(StarlarkHashValue::new(query), query);
+        match self.map.get_index_of_hashed(query) {
+            Some(place) => Ok(place),
+            None => {
+                let element = query.owned(self.alloc)?;
+                match self.map.push(element, ()) {
+                    Ok(place) => Ok(place),
+                    Err(_refused) => Err(AllocError),
+                }
+            }
+        }
+    }
+}
+
+// The element at a place.
+fn element_in<T: Eq>(map: &SmallMap<T, ()>, place: usize) -> &T
+    requires { place < length map.now.entries }
+    ensures { option_map entry_key (slice_get map.now.entries place) ≡ Some result.now }
+{
+    match map.get_index(place) {
+        Some((element, _)) => element,
+        None => unreachable!(),
+    }
+}
+
+// The element at the place that was found, or the refusal handed on.
+fn shown<'a, T: Eq>(
+    set: &'a SmallSet<T>,
+    place: Result<usize, NoRoom<T>>,
+) -> Result<&'a T, NoRoom<T>>
+    requires { IfOk place (λ i. i < length set.now.entries) }
+    ensures { IsShown set.now.entries place result }
+{
+    match place {
+        Ok(place) => match set.get_index(place) {
+            Some(element) => Ok(element),
+            None => unreachable!(),
+        },
+        Err(refused) => Err(refused),
+    }
+}

@@ -1,0 +1,103 @@
+//! What takes elements out of a `SmallSet`, and what turns it round. None of it asks for memory.
+ghost use Rattle.std.specs.Prelude.{◌≡◌, ◌-◌, [], is_some, length, remove, reverse, slice_get};
+ghost use Rattle.std.specs.Option.{option_map};
+ghost use Rattle.starlark_hash.specs.Entries.{entry_key, without};
+ghost use Rattle.starlark_small.specs.Map.{KeepsMemory, own_match, query_match};
+ghost use Rattle.starlark_sets.specs.Set.{element_at};
+
+use super::SmallSet;
+use starlark_hash::{Equivalent, Hashed};
+use std::hash::Hash;
+
+// Removals of an element
+
+impl<T: Eq> SmallSet<T> {
+    /// Removes the element under the query's own hash to which the query is equivalent, and answers whether it was
+    /// there. Those after it move up.
+    #[tactic(auto, using(crate::proofs::Additions::additions))]
+    pub fn shift_remove<Q: Equivalent<T> + Hash>(&mut self, key: &Q) -> bool
+    where
+        T: Drop,
+        ensures taken { result ≡ is_some (own_match Q.equivalent Q.hash_input self.old.entries key.now) }
+        ensures entries { self.new.entries ≡ without self.old.entries (own_match Q.equivalent Q.hash_input self.old.entries key.now) }
+        ensures kept { KeepsMemory self.old self.new }
+    {
+        self.map.shift_remove(key).is_some()
+    }
+
+    /// Removes the element under this hash to which the query is equivalent, and answers whether it was there. Those
+    /// after it move up.
+    #[tactic(auto, using(crate::proofs::Additions::additions))]
+    pub fn shift_remove_hashed<Q: Equivalent<T>>(&mut self, key: Hashed<&Q>) -> bool
+    where
+        T: Drop,
+        ensures taken { result ≡ is_some (query_match Q.equivalent self.old.entries key.entry) }
+        ensures entries { self.new.entries ≡ without self.old.entries (query_match Q.equivalent self.old.entries key.entry) }
+        ensures kept { KeepsMemory self.old self.new }
+    {
+        self.map.shift_remove_hashed(key).is_some()
+    }
+
+    /// Removes the element under the query's own hash to which the query is equivalent, and answers it. Those after
+    /// it move up.
+    pub fn take<Q: Equivalent<T> + Hash>(&mut self, key: &Q) -> Option<T>
+        ensures taken { result ≡ element_at self.old (own_match Q.equivalent Q.hash_input self.old.entries key.now) }
+        ensures entries { self.new.entries ≡ without self.old.entries (own_match Q.equivalent Q.hash_input self.old.entries key.now) }
+        ensures kept { KeepsMemory self.old self.new }
+    {
+        let (element, ()) = self.map.shift_remove_entry(key)?;
+        Some(element)
+    }
+}
+
+// Removals by place, and turns
+
+impl<T: Eq> SmallSet<T> {
+    /// Removes the element at a place, and answers it. Those after it move up.
+    pub fn shift_remove_index(&mut self, i: usize) -> Option<T>
+        ensures taken { result ≡ option_map entry_key (slice_get self.old.entries i) }
+        ensures entries { self.new.entries ≡ remove self.old.entries i }
+        ensures kept { KeepsMemory self.old self.new }
+    {
+        let (element, ()) = self.map.shift_remove_index(i)?;
+        Some(element)
+    }
+
+    /// Removes the element at a place, and answers it under its hash. Those after it move up.
+    pub fn shift_remove_index_hashed(&mut self, i: usize) -> Option<Hashed<T>>
+        ensures taken { result ≡ option_map (λ e. e.0) (slice_get self.old.entries i) }
+        ensures entries { self.new.entries ≡ remove self.old.entries i }
+        ensures kept { KeepsMemory self.old self.new }
+    {
+        let (element, ()) = self.map.shift_remove_index_hashed(i)?;
+        Some(element)
+    }
+
+    /// Removes the last element, and answers it.
+    pub fn pop(&mut self) -> Option<T>
+        ensures taken { result ≡ option_map entry_key (slice_get self.old.entries (length self.old.entries - 1)) }
+        ensures entries { self.new.entries ≡ remove self.old.entries (length self.old.entries - 1) }
+        ensures kept { KeepsMemory self.old self.new }
+    {
+        let (element, ()) = self.map.pop()?;
+        Some(element)
+    }
+
+    /// Removes each element. The memory stays for those to come.
+    pub fn clear(&mut self)
+    where
+        T: Drop,
+        ensures entries { self.new.entries ≡ [] }
+        ensures kept { KeepsMemory self.old self.new }
+    {
+        self.map.clear();
+    }
+
+    /// Turns the order of the elements round.
+    pub fn reverse(&mut self)
+        ensures entries { self.new.entries ≡ reverse self.old.entries }
+        ensures kept { KeepsMemory self.old self.new }
+    {
+        self.map.reverse();
+    }
+}

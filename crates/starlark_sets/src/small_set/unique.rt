@@ -1,0 +1,45 @@
+//! New elements of a `SmallSet` that no look-up precedes.
+ghost use Rattle.std.specs.Prelude.{◌≡◌, None, IfErr, OnErr, OnOk};
+ghost use Rattle.starlark_hash.specs.Entries.{match_of};
+ghost use Rattle.starlark_small.specs.Insertion.{IsInserted, IsRefused};
+ghost use Rattle.starlark_small.specs.Map.{own_hashed};
+
+use super::SmallSet;
+use starlark_hash::{Hashed, NoRoom};
+use std::hash::Hash;
+
+impl<T: Eq> SmallSet<T> {
+    /// Inserts a new element under its own hash, as `insert_hashed_unique_unchecked` does under one that is brought.
+    pub fn insert_unique_unchecked(&mut self, key: T) -> Result<(), NoRoom<T>>
+    where
+        T: Hash,
+        requires { match_of T.eq self.old.entries (own_hashed T.hash_input key) ≡ None }
+        ensures inserted { OnOk result (IsInserted self.old (own_hashed T.hash_input key) tt self.new) }
+        ensures full { OnErr result (self.old.room ≡ 0) }
+        ensures refused { OnErr result (IsRefused self.old self.new) }
+        ensures handed_back { IfErr result (λ refused. refused.0 ≡ key) }
+    {
+        match self.map.push_own(key, ()) {
+            Ok(_place) => Ok(()),
+            Err(NoRoom((element, ()))) => Err(NoRoom(element)),
+        }
+    }
+
+    /// Inserts an element that is new under this hash, last. It is refused where there is no room and no memory is
+    /// found: then it comes back, and elements and index stay.
+    pub fn insert_hashed_unique_unchecked(
+        &mut self,
+        key: Hashed<T>,
+    ) -> Result<(), NoRoom<Hashed<T>>>
+        requires { match_of T.eq self.old.entries key ≡ None }
+        ensures inserted { OnOk result (IsInserted self.old key tt self.new) }
+        ensures full { OnErr result (self.old.room ≡ 0) }
+        ensures refused { OnErr result (IsRefused self.old self.new) }
+        ensures handed_back { IfErr result (λ refused. refused.0 ≡ key) }
+    {
+        match self.map.push(key, ()) {
+            Ok(_place) => Ok(()),
+            Err(NoRoom((element, ()))) => Err(NoRoom(element)),
+        }
+    }
+}

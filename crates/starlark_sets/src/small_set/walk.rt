@@ -1,0 +1,88 @@
+//! The walks of a `SmallSet`: the list in order, from both ends.
+ghost use Rattle.std.specs.Prelude.{◌≡◌, ◌^◌, ◌<◌, length, map};
+ghost use Rattle.std.specs.Map.{keys_of};
+ghost use Rattle.std.specs.Map.Iter.{ShowsInOrder, ShowsInReverse, GivesInOrder, GivesInReverse, deref};
+ghost use Rattle.starlark_hash.specs.declared.hashed.Hashed.{Hashed as Under};
+ghost use Rattle.starlark_hash.specs.Entries.{IsSingle, entry_key};
+ghost use Rattle.starlark_sets.specs.Unit.{deref_hashed};
+
+use super::SmallSet;
+use crate::iter::{IntoIter, IntoIterHashed, Iter, IterHashed};
+use starlark_small as map;
+
+impl<T: Eq> SmallSet<T> {
+    /// The elements in order of insertion.
+    #[inline]
+    pub fn iter(&self) -> Iter<'_, T>
+        ensures elements { result ≡ map entry_key self.now.entries }
+        ensures fits { length self.now.entries < 2 ^ 64 }
+        ensures runs { ShowsInOrder (deref {X = T}) }
+        ensures runs_back { ShowsInReverse (deref {X = T}) }
+    {
+        self.map.keys()
+    }
+
+    /// The elements in order of insertion, each under its hash.
+    #[inline]
+    pub fn iter_hashed(&self) -> IterHashed<'_, T>
+        ensures elements { result ≡ keys_of self.now.entries }
+        ensures fits { length self.now.entries < 2 ^ 64 }
+        ensures runs { ShowsInOrder (deref_hashed {T = T}) }
+        ensures runs_back { ShowsInReverse (deref_hashed {T = T}) }
+    {
+        IterHashed::new(self.entries())
+    }
+
+    // The entries of the map in order. No two have the same hash and equal keys.
+    #[inline]
+    pub(crate) fn entries(&self) -> map::IterHashed<'_, T, ()>
+        ensures entries { result ≡ self.now.entries }
+        ensures single { IsSingle T.eq self.now.entries }
+        ensures fits { length self.now.entries < 2 ^ 64 }
+    {
+        self.map.iter_hashed()
+    }
+}
+
+impl<T: Eq + Drop> SmallSet<T> {
+    /// The elements by value, in order of insertion, each under its hash.
+    #[inline]
+    pub fn into_iter_hashed(self) -> IntoIterHashed<T>
+        ensures elements { result ≡ keys_of self.entries }
+        ensures fits { length self.entries < 2 ^ 64 }
+        ensures runs { GivesInOrder (Under T) }
+        ensures runs_back { GivesInReverse (Under T) }
+    {
+        let SmallSet { map, alloc: _alloc } = self;
+        IntoIterHashed::new(map.into_iter_hashed())
+    }
+}
+
+impl<T: Eq + Drop> IntoIterator for SmallSet<T> {
+    type Item = T;
+
+    type IntoIter = IntoIter<T>;
+
+    ghost into_iter_gives = { λ s rest. (rest ≡ map entry_key s.entries) × (length s.entries < 2 ^ 64) × GivesInOrder T × GivesInReverse T };
+
+    /// The elements by value, in order of insertion.
+    #[inline]
+    fn into_iter(self) -> IntoIter<T> {
+        let SmallSet { map, alloc: _alloc } = self;
+        map.into_keys()
+    }
+}
+
+impl<'a, T: Eq> IntoIterator for &'a SmallSet<T> {
+    type Item = &'a T;
+
+    type IntoIter = Iter<'a, T>;
+
+    ghost into_iter_gives = { λ s rest. (rest ≡ map entry_key s.now.entries) × (length s.now.entries < 2 ^ 64) × ShowsInOrder (deref {X = T}) × ShowsInReverse (deref {X = T}) };
+
+    /// The elements in order of insertion.
+    #[inline]
+    fn into_iter(self) -> Iter<'a, T> {
+        self.iter()
+    }
+}

@@ -1,0 +1,29 @@
+//! A `SmallSet` beside another: what one has and the other lacks, and what is in either.
+ghost use Rattle.std.specs.Prelude.{◌≡◌};
+ghost use Rattle.starlark_hash.specs.Entries.{IsSingle};
+ghost use Rattle.starlark_sets.specs.Difference.{ShowsDifference, difference};
+ghost use Rattle.starlark_sets.specs.Union.{ShowsUnion, union};
+
+use super::SmallSet;
+use crate::difference::Difference;
+use crate::union::Union;
+
+impl<T: Eq> SmallSet<T> {
+    /// The elements that the other set lacks, in order. An element is looked for under the hash that it stands under.
+    pub fn difference<'a>(&'a self, other: &'a Self) -> Difference<'a, T>
+        ensures left { result ≡ record { left = self.now.entries; other = other.now.entries } }
+        ensures single { IsSingle T.eq (difference T.eq self.now.entries other.now.entries) }
+        ensures runs { ShowsDifference T.eq }
+    {
+        Difference::new(self.map.iter_hashed(), other)
+    }
+
+    /// The elements of this set, and then those of the other that this one lacks.
+    pub fn union<'a>(&'a self, other: &'a Self) -> Union<'a, T>
+        ensures left { result ≡ record { first = self.now.entries; second = record { left = other.now.entries; other = self.now.entries } } }
+        ensures single { IsSingle T.eq (union T.eq self.now.entries other.now.entries) }
+        ensures runs { ShowsUnion T.eq }
+    {
+        Union::new(self.map.iter_hashed(), other.difference(self))
+    }
+}

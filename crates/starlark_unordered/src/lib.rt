@@ -1,0 +1,13 @@
+//! Maps without an order: finite maps, which compare and hash alike whatever history built them.
+#![tactic(auto)]
+
+pub mod entry;
+pub mod iter;
+pub mod laws;
+mod mapped;
+mod moved;
+pub mod unordered_map;
+
+pub use entry::{Entry, OccupiedEntry, VacantEntry};
+pub use iter::{Entries, KeysUnordered, ValuesUnordered};
+pub use unordered_map::UnorderedMap;

@@ -1,0 +1,87 @@
+//! The map. It alone sees its table.
+ghost use Rattle.std.specs.Prelude.{◌≡◌, ◌≤◌, ◌==◌, [], length, IfOk, IsOk};
+ghost use Rattle.starlark_unordered.specs.Pairs.{pairs_of, HasDistinctKeys};
+
+mod collect;
+mod compare;
+mod copy;
+mod read;
+mod slots;
+mod walk;
+mod write;
+
+use starlark_table::ReadyTable;
+use std::alloc::{AllocError, Global};
+use std::hash::Hash;
+use std::marker::Model;
+
+/// A map without an order: pairs without two equal keys.
+#[derive(Drop)]
+pub struct UnorderedMap<K: Eq + Hash, V> {
+    table: ReadyTable<(K, V)>,
+    // Where `map_values` gets its memory.
+    alloc: Global,
+}
+
+impl<K: Eq + Hash, V> Model for UnorderedMap<K, V> {
+    ghost use Rattle.starlark_table.specs.Table.{Table, members};
+    ghost use Rattle.starlark_unordered.specs.Sound.{IsKeyed, keyed};
+
+    ghost Value = { Table (K × V) };
+
+    ghost view = { λ m. m.table };
+
+    ghost invariant = { λ m. IsKeyed K.eq K.hash_input (keyed (members m.table)) };
+}
+
+impl<K: Eq + Hash, V> UnorderedMap<K, V> {
+    ghost use Rattle.starlark_unordered.specs.Lending.{lends_at, lends_value};
+
+    /// An empty map, which asks for no memory before the first insertion.
+    pub fn new(alloc: Global) -> Self
+        ensures empty { pairs_of result ≡ [] }
+        ensures room { result.room ≡ 0 }
+    {
+        UnorderedMap {
+            table: ReadyTable::new(alloc),
+            alloc,
+        }
+    }
+
+    /// An empty map with room for so many pairs at least.
+    pub fn with_capacity(alloc: Global, capacity: usize) -> Result<Self, AllocError>
+        ensures empty { IfOk result (λ m. pairs_of m ≡ []) }
+        ensures room { IfOk result (λ m. capacity ≤ m.room) }
+        ensures none_for_none { capacity ≡ 0 → IsOk result }
+    {
+        Ok(UnorderedMap {
+            table: ReadyTable::with_capacity(alloc, capacity)?,
+            alloc,
+        })
+    }
+
+    /// How many pairs there are.
+    #[inline]
+    pub fn len(&self) -> usize
+        ensures len { result ≡ length (pairs_of self.now) }
+        ensures distinct { HasDistinctKeys K.eq (pairs_of self.now) }
+    {
+        self.table.len()
+    }
+
+    /// Whether there is no pair.
+    #[inline]
+    pub fn is_empty(&self) -> bool
+        ensures { result ≡ (length (pairs_of self.now) == 0) }
+    {
+        self.table.len() == 0
+    }
+
+    /// How many new pairs surely need no memory.
+    #[inline]
+    pub fn room(&self) -> usize
+        ensures { result ≡ self.now.room }
+    {
+        self.table.room()
+    }
+}

@@ -1,0 +1,63 @@
+//! Look-ups in an `UnorderedMap`.
+ghost use Rattle.std.specs.Prelude.{◌≡◌, Some, IsSome};
+ghost use Rattle.std.specs.Map.{lookup};
+ghost use Rattle.std.specs.Option.{is_some, option_copied};
+ghost use Rattle.starlark_unordered.specs.Pairs.{pairs_of, under_own};
+ghost use Rattle.starlark_hash.specs.HashValue.{hash_of, key_of};
+
+use super::UnorderedMap;
+use starlark_hash::{Equivalent, Hashed, KeyQuery, StarlarkHashValue};
+use std::hash::Hash;
+use std::ops::Index;
+
+impl<K: Eq + Hash, V> UnorderedMap<K, V> {
+    /// The value at the key.
+    #[inline]
+    pub fn get<Q: KeyQuery<K>>(&self, query: &Q) -> Option<&V>
+        ensures { option_copied result ≡ lookup (Q.equivalent query.now) (pairs_of self.now) }
+    {
+        let slot = self.slot_under(StarlarkHashValue::new(query).promote(), query)?;
+        let (_, value) = self.table.get(slot)?;
+        Some(value)
+    }
+
+    /// The value at the key, where this is its own hash: another hash finds nothing.
+    #[inline]
+    pub fn get_hashed<Q: Equivalent<K>>(&self, key: Hashed<&Q>) -> Option<&V>
+        ensures { option_copied result ≡ lookup (under_own K.hash_input (hash_of key.entry) (Q.equivalent (key_of key.entry).now)) (pairs_of self.now) }
+    {
+        let slot = self.slot_hashed(key.hash(), *key.key())?;
+        let (_, value) = self.table.get(slot)?;
+        Some(value)
+    }
+
+    /// Whether the map has the key.
+    #[inline]
+    pub fn contains_key<Q: KeyQuery<K>>(&self, query: &Q) -> bool
+        ensures { result ≡ is_some (lookup (Q.equivalent query.now) (pairs_of self.now)) }
+    {
+        self.get(query).is_some()
+    }
+
+    /// Whether the map has the key, and this is its own hash.
+    #[inline]
+    pub fn contains_key_hashed<Q: Equivalent<K>>(&self, key: Hashed<&Q>) -> bool
+        ensures { result ≡ is_some (lookup (under_own K.hash_input (hash_of key.entry) (Q.equivalent (key_of key.entry).now)) (pairs_of self.now)) }
+    {
+        self.get_hashed(key).is_some()
+    }
+}
+
+impl<K: Eq + Hash, V, Q: KeyQuery<K>> Index<&Q> for UnorderedMap<K, V> {
+    type Output = V;
+
+    ghost can_index = { λ m query. IsSome (lookup (Q.equivalent query.now) (pairs_of m)) };
+
+    ghost index_gives = { λ m query value. lookup (Q.equivalent query.now) (pairs_of m) ≡ Some value };
+
+    /// The value at the key, which is to be there.
+    #[inline]
+    fn index(&self, query: &Q) -> &V {
+        self.get(query).unwrap()
+    }
+}

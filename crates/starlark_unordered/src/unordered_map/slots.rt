@@ -1,0 +1,129 @@
+//! The pairs of an `UnorderedMap` by their slots, on which the calls and the entries are written.
+ghost use Rattle.std.specs.Prelude.{◌≡◌, ◌∷◌, ◌+◌, true, None, Some, IfOk, IfErr, OnOk, OnErr, IfSome, IsPermutation};
+ghost use Rattle.std.specs.Borrow.{sem};
+ghost use Rattle.std.specs.Fn.{CalledAt, TakesAt};
+ghost use Rattle.std.specs.Map.{lookup};
+ghost use Rattle.std.specs.Option.{is_some, option_map};
+ghost use Rattle.starlark_hash.specs.Search.{CanSearch, Searches};
+ghost use Rattle.starlark_table.specs.Table.{item_in, table_len};
+ghost use Rattle.starlark_unordered.specs.Pairs.{pairs_of, keys_under, under_own, IsSlotOf, KeepsRoom};
+ghost use Rattle.starlark_unordered.specs.Sound.{home_of};
+
+use super::UnorderedMap;
+use starlark_hash::{Equivalent, KeyQuery, NoRoom, StarlarkHashValue};
+use std::hash::Hash;
+
+impl<K: Eq + Hash, V> UnorderedMap<K, V> {
+    ghost use Rattle.starlark_unordered.specs.Lending.{lends_value};
+
+    // The slot of the key, under the query's own hash.
+    #[inline]
+    pub(crate) fn slot_under<Q: KeyQuery<K>>(&self, hash: u64, query: &Q) -> Option<usize>
+        requires { hash ≡ home_of Q.hash_input query.now }
+        ensures { IsSlotOf (Q.equivalent query.now) self.now result }
+    {
+        self.table.find(
+            hash,
+            |p: &(K, V)| -> bool
+                ensures { result ≡ Q.equivalent query.entry.now p.now.0 }
+            { query.equivalent(&p.0) },
+        )
+    }
+
+    // The slot of the key that the query stands for, where this is the key's own hash.
+    #[inline]
+    pub(crate) fn slot_hashed<Q: Equivalent<K>>(
+        &self,
+        hash: StarlarkHashValue,
+        query: &Q,
+    ) -> Option<usize>
+        ensures { IsSlotOf (under_own K.hash_input hash (Q.equivalent query.now)) self.now result }
+    {
+        self.table.find(
+            hash.promote(),
+            |p: &(K, V)| -> bool
+                ensures { result ≡ Q.equivalent query.entry.now p.now.0 }
+            { query.equivalent(&p.0) },
+        )
+    }
+
+    // A slot under this hash whose key `is_match` accepts.
+    #[inline]
+    pub(crate) fn slot_accepted<F: FnMut(&K) -> bool>(
+        &self,
+        hash: StarlarkHashValue,
+        mut is_match: F,
+    ) -> Option<usize>
+    where
+        F: Drop,
+        requires { CanSearch F.FnMut (keys_under K.hash_input hash self.now) is_match }
+        ensures found { (last : F) × Searches F.FnMut (keys_under K.hash_input hash self.now) is_match result last }
+        ensures there { IfSome result (λ slot. is_some (item_in self.now slot) ≡ true) }
+    {
+        self.table.find(
+            hash.promote(),
+            |pair: &(K, V)| -> bool
+                requires { TakesAt F.FnMut is_match pair.now.0 }
+                ensures { CalledAt F.FnMut is_match.entry pair.now.0 result is_match.exit }
+            { is_match(&pair.0) },
+        )
+    }
+
+    // Puts a new key in under its own hash, and answers its slot.
+    pub(crate) fn insert_new(
+        &mut self,
+        hash: u64,
+        key: K,
+        value: V,
+    ) -> Result<usize, NoRoom<(K, V)>>
+        requires own { hash ≡ home_of K.hash_input key }
+        requires absent { lookup (K.eq key) (pairs_of self.old) ≡ None }
+        ensures placed { IfOk result (λ slot. item_in self.new slot ≡ Some (key, value)) }
+        ensures pairs { OnOk result (IsPermutation ((key, value) ∷ pairs_of self.old) (pairs_of self.new)) }
+        ensures room { KeepsRoom self.old self.new }
+
+        ensures full { OnErr result (self.old.room ≡ 0) }
+        ensures handed_back { IfErr result (λ refused. refused.0 ≡ (key, value)) }
+        ensures unchanged { OnErr result (self.new ≡ self.old) }
+    {
+        self.table.insert_unique(hash, (key, value))
+    }
+
+    // The value in a slot.
+    #[inline]
+    pub(crate) fn value_at(&self, slot: usize) -> &V
+        requires { is_some (item_in self.now slot) ≡ true }
+        ensures { option_map (λ p. p.1) (item_in self.now slot) ≡ Some result.now }
+    {
+        match self.table.get(slot) {
+            Some(pair) => &pair.1,
+            None => unreachable!(),
+        }
+    }
+
+    // The value in a slot, to be written.
+    #[inline]
+    pub(crate) fn value_at_mut(&mut self, slot: usize) -> &mut V
+        requires { is_some (item_in self.old slot) ≡ true }
+        ensures* writes_back { sem 𝓛 (lends_value K.row V.row K.Hash self.entry slot result) }
+        ensures value { option_map (λ p. p.1) (item_in self.old slot) ≡ Some result.now }
+    {
+        match self.table.get_mut(slot) {
+            Some(pair) => &mut pair.1,
+            None => unreachable!(),
+        }
+    }
+
+    // Takes the pair of a slot out.
+    pub(crate) fn take_out(&mut self, slot: usize) -> (K, V)
+        requires { is_some (item_in self.old slot) ≡ true }
+        ensures pair { item_in self.old slot ≡ Some result }
+        ensures rest { IsPermutation (pairs_of self.old) (result ∷ pairs_of self.new) }
+        ensures room { table_len self.new + self.new.room ≡ table_len self.old + self.old.room }
+    {
+        match self.table.remove(slot) {
+            Some((_, pair)) => pair,
+            None => unreachable!(),
+        }
+    }
+}
