@@ -3,6 +3,8 @@
 use starlark_hash::{Hashed, StarlarkHashValue};
 use starlark_small::SmallMap;
 use std::alloc::Global;
+use std::fmt::Debug;
+use std::process::Abort;
 use std::test::Fail;
 
 pub(crate) fn under<K>(hash: u32, key: K) -> Hashed<K> {
@@ -30,4 +32,18 @@ pub(crate) fn falling(alloc: Global) -> Result<SmallMap<&'static str, u32>, Fail
         map.insert_hashed(under(3, "a"), 2)?;
     }
     Ok(map)
+}
+
+// Ends the process where this does not hold. A test that calls it learns nothing by it, as it does by an assertion, and
+// is proved in a part of the time: an assertion stands only where what follows needs what it says.
+pub(crate) fn holds(rt: &impl Abort, what: bool) {
+    assert!(rt; what);
+}
+
+// Ends the process where the two are not equal, and shows both.
+pub(crate) fn same<T: PartialEq + Debug>(rt: &impl Abort, found: T, wanted: T)
+where
+    T: Drop,
+{
+    assert_eq!(rt; found, wanted);
 }

@@ -1,6 +1,6 @@
 //! Lists of pairs and vector maps: room that is asked for, and what stands where it is refused.
 
-use crate::given::under;
+use crate::given::{holds, same, under};
 use starlark_vec2::Vec2;
 use starlark_vecmap::VecMap;
 use std::alloc::Global;
@@ -24,12 +24,12 @@ fn begins_with_a_capacity(rt: HostRuntime) -> Result<(), Fail> {
         Ok(list) => list,
         Err(_) => Vec2::with_capacity(alloc, 40)?,
     };
-    assert_eq!(rt; list.capacity(), 40);
+    same(&rt, list.capacity(), 40);
     let map: VecMap<u32, u32> = match VecMap::with_capacity(alloc, 40) {
         Ok(map) => map,
         Err(_) => VecMap::with_capacity(alloc, 40)?,
     };
-    assert_eq!(rt; map.capacity(), 40);
+    same(&rt, map.capacity(), 40);
     Ok(())
 }
 
@@ -38,12 +38,12 @@ fn takes_a_pair_or_hands_it_back(rt: HostRuntime) -> Result<(), Fail> {
     let mut list = Vec2::new(rt.alloc());
     for item in 0u32..9 {
         if let Err(refused) = list.push(item, 'a') {
-            assert_eq!(rt; (refused.0, list.len()), ((item, 'a'), item as usize));
+            same(&rt, (refused.0, list.len()), ((item, 'a'), item as usize));
             list.push(item, 'a')?;
         }
     }
-    assert_eq!(rt; list.len(), 9);
-    assert_eq!(rt; list.get(8), Some((&8, &'a')));
+    same(&rt, list.len(), 9);
+    same(&rt, list.get(8), Some((&8, &'a')));
     Ok(())
 }
 
@@ -51,11 +51,11 @@ fn takes_a_pair_or_hands_it_back(rt: HostRuntime) -> Result<(), Fail> {
 fn makes_room_or_stays(rt: HostRuntime) -> Result<(), Fail> {
     let mut list = pairs(rt.alloc(), 3)?;
     if list.reserve(40).is_err() {
-        assert_eq!(rt; (list.len(), list.capacity()), (3, 4));
-        assert_eq!(rt; list.get(2), Some((&2, &2)));
+        same(&rt, (list.len(), list.capacity()), (3, 4));
+        same(&rt, list.get(2), Some((&2, &2)));
         list.reserve(40)?;
     }
-    assert!(rt; 43 <= list.capacity());
+    holds(&rt, 43 <= list.capacity());
     Ok(())
 }
 
@@ -67,14 +67,14 @@ fn collects_and_copies_pairs(rt: HostRuntime) -> Result<(), Fail> {
         Err(_) => Vec2::from_iter(alloc, [(1, 'a'), (2, 'b')])?,
     };
     if list.extend([(3, 'c')]).is_err() {
-        assert_eq!(rt; list.len(), 2);
+        same(&rt, list.len(), 2);
         list.extend([(3, 'c')])?;
     }
     let copy = match list.clone() {
         Ok(copy) => copy,
         Err(_) => list.clone()?,
     };
-    assert_eq!(rt; copy.firsts(), [1, 2, 3].as_slice());
+    same(&rt, copy.firsts(), [1, 2, 3].as_slice());
     Ok(())
 }
 
@@ -85,10 +85,10 @@ fn makes_room_for_entries_or_stays(rt: HostRuntime) -> Result<(), Fail> {
         map.insert_hashed_unique_unchecked(under(7, 1), 10)?;
     }
     if map.reserve(40).is_err() {
-        assert_eq!(rt; (map.len(), map.capacity()), (1, 4));
-        assert!(rt; map.get_index(0) == Some((&1, &10)));
+        same(&rt, (map.len(), map.capacity()), (1, 4));
+        holds(&rt, map.get_index(0) == Some((&1, &10)));
         map.reserve(40)?;
     }
-    assert!(rt; 41 <= map.capacity());
+    holds(&rt, 41 <= map.capacity());
     Ok(())
 }

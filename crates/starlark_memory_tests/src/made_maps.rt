@@ -1,6 +1,6 @@
 //! Maps that are made with room, of items or of another map.
 
-use crate::given::{tens, under};
+use crate::given::{holds, same, tens, under};
 use starlark_small::{SmallMap, smallmap};
 use std::test::Fail;
 
@@ -11,8 +11,8 @@ fn begins_with_room(rt: HostRuntime) -> Result<(), Fail> {
         Ok(map) => map,
         Err(_) => SmallMap::with_capacity(alloc, 40)?,
     };
-    assert!(rt; 40 <= map.room());
-    assert!(rt; map.index().is_some());
+    holds(&rt, 40 <= map.room());
+    holds(&rt, map.index().is_some());
     Ok(())
 }
 
@@ -23,12 +23,12 @@ fn collects_items(rt: HostRuntime) -> Result<(), Fail> {
         Ok(map) => map,
         Err(_) => SmallMap::from_iter(alloc, [(1, 'a'), (2, 'b')])?,
     };
-    assert_eq!(rt; map.len(), 2);
+    same(&rt, map.len(), 2);
     let map = match SmallMap::from_iter_hashed(alloc, [(under(7, 1u32), 'a')]) {
         Ok(map) => map,
         Err(_) => SmallMap::from_iter_hashed(alloc, [(under(7, 1), 'a')])?,
     };
-    assert_eq!(rt; map.len(), 1);
+    same(&rt, map.len(), 1);
     Ok(())
 }
 
@@ -39,7 +39,7 @@ fn writes_entries_out(rt: HostRuntime) -> Result<(), Fail> {
         Ok(map) => map,
         Err(_) => smallmap![alloc; 1 => 'a', 2 => 'b']?,
     };
-    assert_eq!(rt; map.len(), 2);
+    same(&rt, map.len(), 2);
     Ok(())
 }
 
@@ -50,7 +50,7 @@ fn copies_a_map_and_its_index(rt: HostRuntime) -> Result<(), Fail> {
         Ok(copy) => copy,
         Err(_) => map.clone()?,
     };
-    assert!(rt; copy == map);
-    assert!(rt; copy.index().is_some());
+    holds(&rt, copy == map);
+    holds(&rt, copy.index().is_some());
     Ok(())
 }

@@ -1,5 +1,6 @@
 //! Whole runs: what is reserved is taken, whichever request is refused afterwards.
 
+use crate::given::{holds, same};
 use starlark_hash::Hashed;
 use starlark_runs::{Command, Reply, held_room_stays, reserved_insertions_succeed};
 use starlark_small::SmallMap;
@@ -43,10 +44,10 @@ fn takes_what_is_reserved(rt: HostRuntime) -> Result<(), Fail> {
     let mut map: SmallMap<u32, u32> = SmallMap::new(alloc);
     let commands = forty(alloc, false)?;
     if let Ok(replies) = reserved_insertions_succeed(alloc, &mut map, commands, value_of) {
-        assert_eq!(rt; inserted(&replies), 40);
-        assert_eq!(rt; replies.len(), 41);
+        same(&rt, inserted(&replies), 40);
+        same(&rt, replies.len(), 41);
     } else {
-        assert_eq!(rt; map.len(), 0);
+        same(&rt, map.len(), 0);
     }
     Ok(())
 }
@@ -57,11 +58,11 @@ fn takes_thirty_two_without_an_index(rt: HostRuntime) -> Result<(), Fail> {
     let mut map: SmallMap<u32, u32> = SmallMap::new(alloc);
     let commands = forty(alloc, true)?;
     if let Ok(replies) = held_room_stays(alloc, &mut map, commands, value_of) {
-        assert_eq!(rt; replies.len(), 42);
-        assert!(rt; 33 < replies.len() && inserted(&replies[2..34]) == 32);
-        assert_eq!(rt; inserted(&replies), map.len());
+        same(&rt, replies.len(), 42);
+        holds(&rt, 33 < replies.len() && inserted(&replies[2..34]) == 32);
+        same(&rt, inserted(&replies), map.len());
     } else {
-        assert_eq!(rt; map.len(), 0);
+        same(&rt, map.len(), 0);
     }
     Ok(())
 }

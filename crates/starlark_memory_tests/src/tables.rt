@@ -1,5 +1,6 @@
 //! Tables: room that is asked for, and what stands where it is refused.
 
+use crate::given::{holds, same};
 use starlark_table::ReadyTable;
 use std::alloc::Global;
 use std::test::Fail;
@@ -22,7 +23,7 @@ fn begins_with_room(rt: HostRuntime) -> Result<(), Fail> {
         Ok(table) => table,
         Err(_) => ReadyTable::with_capacity(alloc, 40)?,
     };
-    assert!(rt; 40 <= table.room());
+    holds(&rt, 40 <= table.room());
     Ok(())
 }
 
@@ -31,12 +32,12 @@ fn takes_an_item_or_hands_it_back(rt: HostRuntime) -> Result<(), Fail> {
     let mut table = ReadyTable::new(rt.alloc());
     for item in 0u64..40 {
         if let Err(refused) = table.insert_unique(item, item) {
-            assert_eq!(rt; (refused.0, table.len() as u64), (item, item));
-            assert_eq!(rt; table.room(), 0);
+            same(&rt, (refused.0, table.len() as u64), (item, item));
+            same(&rt, table.room(), 0);
             table.insert_unique(item, item)?;
         }
     }
-    assert_eq!(rt; table.len(), 40);
+    same(&rt, table.len(), 40);
     Ok(())
 }
 
@@ -45,11 +46,11 @@ fn makes_room_or_stays(rt: HostRuntime) -> Result<(), Fail> {
     let mut table = items(rt.alloc(), 3)?;
     let room = table.room();
     if table.reserve(40).is_err() {
-        assert_eq!(rt; (table.len(), table.room()), (3, room));
-        assert_eq!(rt; table.find_item(2, |item| *item == 2), Some(&2));
+        same(&rt, (table.len(), table.room()), (3, room));
+        same(&rt, table.find_item(2, |item| *item == 2), Some(&2));
         table.reserve(40)?;
     }
-    assert!(rt; 40 <= table.room());
+    holds(&rt, 40 <= table.room());
     Ok(())
 }
 
@@ -60,6 +61,6 @@ fn copies_a_table(rt: HostRuntime) -> Result<(), Fail> {
         Ok(copy) => copy,
         Err(_) => table.clone()?,
     };
-    assert_eq!(rt; copy.len(), 3);
+    same(&rt, copy.len(), 3);
     Ok(())
 }
