@@ -1,0 +1,9 @@
+//! Tests of sets and of ordered maps, by public calls.
+#![tactic(auto)]
+
+#[cfg(test)]
+mod joined;
+#[cfg(test)]
+mod sets;
+#[cfg(test)]
+mod written_sets;
