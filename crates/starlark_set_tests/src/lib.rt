@@ -2,7 +2,11 @@
 #![tactic(auto)]
 
 #[cfg(test)]
+mod given;
+#[cfg(test)]
 mod joined;
+#[cfg(test)]
+mod ordered;
 #[cfg(test)]
 mod sets;
 #[cfg(test)]

@@ -1,19 +1,23 @@
 //! What puts elements into an `OrderedSet`, and what may ask for memory.
-ghost use Rattle.std.specs.Prelude.{◌≡◌, not, is_some, length, nat_lt, None, IsOk, IfOk, IfErr, OnOk, OnErr};
+ghost use Rattle.std.specs.Prelude.{◌≡◌, ◌+◌, ◌≤◌, ◌||◌, not, is_some, length, nat_lt, None, IsOk, IfOk, IfErr, OnOk, OnErr};
+ghost use Rattle.std.specs.Iterator.{IsFiniteIterable, size};
 ghost use Rattle.std.specs.List.{AllZip};
 ghost use Rattle.starlark_hash.specs.Entries.{match_of};
 ghost use Rattle.starlark_hash.specs.Sorting.{Ascends, sorted_by_key};
 ghost use Rattle.starlark_small.specs.Clone.{IsEqualClone};
+ghost use Rattle.starlark_small.specs.Collect.{Collects, Extends};
 ghost use Rattle.starlark_small.specs.Index.{unindexed};
 ghost use Rattle.starlark_small.specs.Insertion.{IsInserted, IsRefused};
-ghost use Rattle.starlark_small.specs.Map.{KeepsMemory, own_hashed};
+ghost use Rattle.starlark_small.specs.Map.{GrowsFor, KeepsMemory, KeepsRoom, own_hashed};
 ghost use Rattle.starlark_vec2.specs.Collect.{IsLawfulClone};
+ghost use Rattle.starlark_sets.specs.Collect.{own_element};
 ghost use Rattle.starlark_sets.specs.Set.{Adds};
 ghost use Rattle.starlark_sets.specs.Unit.{IsElementClone};
 
 use super::OrderedSet;
+use crate::small_set::SmallSet;
 use starlark_hash::NoRoom;
-use std::alloc::AllocError;
+use std::alloc::{AllocError, Global};
 use std::hash::Hash;
 
 impl<T: Eq> OrderedSet<T> {
@@ -55,6 +59,34 @@ impl<T: Eq> OrderedSet<T> {
         ensures kept { KeepsMemory self.old self.new }
     {
         self.0.sort()
+    }
+}
+
+impl<T: Eq + Hash + Drop> OrderedSet<T> {
+    /// Inserts the items in their order, each under its own hash, as `insert` does. It reserves nothing, and where there
+    /// is room for all of them, capacity and index stay. Where a new element is refused, the items that came before are
+    /// there and have used up the room, and it and the others are dropped.
+    pub fn extend<I: IntoIterator<Item = T>>(&mut self, iter: I) -> Result<(), AllocError>
+        requires { IsFiniteIterable I.into_iter_gives I.IntoIter.can_next I.IntoIter.remaining iter }
+        ensures entries { Extends T.eq (own_element T.hash_input) I.IntoIter.next_gives I.into_iter_gives iter self.old.entries self.new.entries result }
+        ensures succeeds { ((it : _) → I.into_iter_gives iter it → size (I.IntoIter.remaining it) ≤ self.old.room) → IsOk result }
+        ensures spare { ((it : _) → I.into_iter_gives iter it → size (I.IntoIter.remaining it) ≤ self.old.room) → (self.new.capacity ≡ self.old.capacity) × (self.new.indexed ≡ self.old.indexed) }
+        ensures full { OnErr result (length self.old.entries + self.old.room ≤ length self.new.entries) }
+        ensures room { KeepsRoom self.old self.new }
+        ensures capacity { GrowsFor (length self.new.entries + 1) self.old self.new }
+        ensures indexed { self.new.indexed ≡ (self.old.indexed || nat_lt unindexed (length self.new.entries)) }
+    {
+        self.0.extend(iter)
+    }
+
+    /// A set of the items, inserted in their order, each under its own hash. It begins with room for the lower bound of
+    /// the iterator's `size_hint`. Where memory is refused, nothing is made and the items are dropped.
+    pub fn from_iter<I: IntoIterator<Item = T>>(alloc: Global, iter: I) -> Result<Self, AllocError>
+        requires { IsFiniteIterable I.into_iter_gives I.IntoIter.can_next I.IntoIter.remaining iter }
+        ensures set { IfOk result (Collects T.eq (own_element T.hash_input) I.IntoIter.next_gives I.into_iter_gives I.IntoIter.remaining iter) }
+        ensures succeeds { ((it : _) → I.into_iter_gives iter it → size (I.IntoIter.remaining it) ≡ 0) → IsOk result }
+    {
+        Ok(OrderedSet(SmallSet::from_iter(alloc, iter)?))
     }
 }
 
