@@ -1,12 +1,8 @@
 //! What one set has and another lacks, and what is in either.
 
-use starlark_hash::{Hashed, StarlarkHashValue};
+use crate::given::under;
 use starlark_sets::{SmallSet, smallset};
 use std::test::Fail;
-
-fn under(hash: u32, element: u32) -> Hashed<u32> {
-    Hashed::new_unchecked(StarlarkHashValue::new_unchecked(hash), element)
-}
 
 #[test]
 fn joins_two_sets(rt: HostRuntime) -> Result<(), Fail> {
@@ -48,9 +44,9 @@ fn bounds_what_is_left(rt: HostRuntime) -> Result<(), Fail> {
 
 #[test]
 fn looks_under_the_stored_hash(rt: HostRuntime) -> Result<(), Fail> {
-    let five = SmallSet::from_iter_hashed(rt.alloc(), [under(5, 7)])?;
-    let also = SmallSet::from_iter_hashed(rt.alloc(), [under(5, 7)])?;
-    let six = SmallSet::from_iter_hashed(rt.alloc(), [under(6, 7)])?;
+    let five = SmallSet::from_iter_hashed(rt.alloc(), [under(5, 7u32)])?;
+    let also = SmallSet::from_iter_hashed(rt.alloc(), [under(5, 7u32)])?;
+    let six = SmallSet::from_iter_hashed(rt.alloc(), [under(6, 7u32)])?;
     assert!(rt; five.difference(&also).next() == None);
     assert!(rt; five.difference(&six).next() == Some(&7));
     assert_eq!(rt; five.union(&six).count(), 2);

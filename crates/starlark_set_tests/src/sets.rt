@@ -1,6 +1,7 @@
 //! Sets: values from outside, calls that succeed, and what a refused request leaves.
 
-use starlark_hash::{Hashed, NoRoom, StarlarkHashValue, TextKey};
+use crate::given::under;
+use starlark_hash::{NoRoom, TextKey};
 use starlark_sets::{SmallSet, smallset};
 use std::test::Fail;
 
@@ -9,9 +10,7 @@ fn hashes_to_known_values(rt: HostRuntime) -> Result<(), Fail> {
     let empty: SmallSet<u32> = SmallSet::new(rt.alloc());
     assert_eq!(rt; empty.hashed().hash().get(), 0);
     let mut one = SmallSet::new(rt.alloc());
-    assert!(rt;
-        one.insert_hashed(Hashed::new_unchecked(StarlarkHashValue::new_unchecked(1), 9u32))?
-    );
+    assert!(rt; one.insert_hashed(under(1, 9u32))?);
     assert_eq!(rt; one.hashed().hash().get(), 0x27220a95);
     Ok(())
 }
