@@ -4,4 +4,10 @@
 #[cfg(test)]
 mod given;
 #[cfg(test)]
+mod joined;
+#[cfg(test)]
 mod ordered;
+#[cfg(test)]
+mod sets;
+#[cfg(test)]
+mod written_sets;

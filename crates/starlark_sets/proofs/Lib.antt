@@ -4,3 +4,4 @@ pub mod Shown
 pub mod Differences
 pub mod Unions
 pub mod Collecting
+pub mod Retained

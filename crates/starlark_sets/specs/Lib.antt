@@ -9,3 +9,4 @@ pub mod Lending
 pub mod Difference
 pub mod Union
 pub mod Collect
+pub mod Retain

@@ -8,6 +8,7 @@ mod copy;
 mod grow;
 mod lend;
 mod read;
+mod retain;
 mod shrink;
 mod unique;
 mod walk;
