@@ -6,3 +6,5 @@ pub mod Lending
 pub mod Walk
 pub mod Written
 pub mod MapEntry
+pub mod RawEntry
+pub mod RawLending

@@ -4,8 +4,10 @@
 pub mod entry;
 pub mod iter;
 mod mapped;
+pub mod raw_entry;
 pub mod unordered_map;
 
 pub use entry::{Entry, OccupiedEntry, VacantEntry};
 pub use iter::Entries;
+pub use raw_entry::{RawEntryBuilderMut, RawEntryMut, RawOccupiedEntryMut, RawVacantEntryMut};
 pub use unordered_map::UnorderedMap;
