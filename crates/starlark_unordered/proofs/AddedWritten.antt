@@ -1,13 +1,12 @@
 -- A pair that was put in, once its value was written.
-use Rattle.std.proofs.Common.{◌≡◌, ℕ, ◌+◌, ◌≤◌, Bool, true, false, cond, List, [], ◌∷◌, ◌++◌, length, map, Option, Some, None, refl, sym, ap, subst, ◌∙◌, arith, count_by, IsPermutation, length-append}
+use Rattle.std.proofs.Common.{◌≡◌, ℕ, ◌+◌, Bool, true, false, cond, List, [], ◌∷◌, ◌++◌, length, map, Option, Some, None, refl, sym, ap, subst, ◌∙◌, arith, count_by, IsPermutation, length-append}
 use Rattle.std.specs.Prelude.{Result, Ok, Err, IfOk, IfSome, OnOk}
-use Rattle.std.specs.Option.{is_some}
 use Rattle.std.specs.Cmp.{IsEquivalence}
 use Rattle.std.specs.Map.{lookup}
 use Rattle.std.proofs.lemmas.List.{length-map}
 use Rattle.std.proofs.lemmas.List.Sorted.{IsPermutation-map, sum_by-IsPermutation}
 use Rattle.std.proofs.lemmas.Option.{none-some}
-use Rattle.starlark_table.specs.Table.{Table, item_in, members, table_len}
+use Rattle.starlark_table.specs.Table.{Table, item_in, members}
 use Rattle.starlark_unordered.specs.Pairs.{pairs_of, with_value, KeepsRoom}
 use Rattle.starlark_unordered.specs.RawEntry.{IsInPlace}
 use Rattle.starlark_unordered.specs.RawLending.{IsAdded}
@@ -61,6 +60,7 @@ module _ {K V : Type 0} (t : K → Bool) where
     where
       fewer : (u : K × V) (us : List (K × V)) → count_by passes (u ∷ us) ≡ 0 → count_by passes us ≡ 0
       fewer u us none = let c = count-cons passes u us in omega (arith, c, none)
+
       unchanged_first : (w : V) (u : K × V) (us : List (K × V)) (b : Bool) → t u.0 ≡ b → count_by passes (u ∷ us) ≡ 0 → (rest : List (K × V)) → cond b (u.0, w) u ∷ map (rewritten w) rest ≡ u ∷ map (rewritten w) rest
       unchanged_first w u us true is none rest = let c = count-cons passes u us in let one = one_if passes u is in absurd (omega (arith, c, one, none))
       unchanged_first w u us false is none rest = refl

@@ -1,10 +1,11 @@
 -- A raw entry that was written, and its pair in the place of the one before.
-use Rattle.std.proofs.Common.{◌≡◌, ℕ, true, List, [], ◌∷◌, ◌++◌, map, Option, Some, None, refl, sym, ap, subst, ◌∙◌}
+use Rattle.std.proofs.Common.{◌≡◌, ℕ, true, map, Option, Some, None, refl, sym, ap, subst, ◌∙◌}
 use Rattle.std.proofs.Math.Bool.{Bool-set}
 use Rattle.std.specs.Prelude.{IfSome, slice_set}
 use Rattle.std.specs.Option.{is_some, option_map}
 use Rattle.std.specs.declared.cmp.PartialEq as eq
 use Rattle.std.specs.declared.hash.Hash as hash
+use Rattle.std.proofs.lemmas.Option.{none-some, same_Some}
 use Rattle.starlark_table.specs.Table.{Table, filled, item_in, member_at}
 use Rattle.starlark_unordered.specs.Pairs.{pairs_of, with_value}
 use Rattle.starlark_unordered.specs.RawEntry.{with_raw_value, with_raw_key, with_key, IsInPlace}
@@ -43,3 +44,11 @@ module _ {K V : Type 0} (m : Table (K × V)) (slot : ℕ) where
 
   pub key_in_place : (key : K) → IfSome (item_in m slot) (λ p. IsInPlace p (key, p.1) (pairs_of m) (pairs_of (with_key m slot key)))
   key_in_place key = in_place (λ p. (key, p.1)) (item_in m slot) refl
+
+-- of a set, the element in the place of the one before
+pub element_in_place : {T : Type 0} (m : Table (T × Unit {0})) (slot : ℕ) (element was : T) (found : Option (T × Unit {0})) → item_in m slot ≡ found → option_map (λ p. p.0) found ≡ Some was
+    → (n : Table (T × Unit {0})) → n ≡ with_key m slot element → IsInPlace (was, tt) (element, tt) (pairs_of m) (pairs_of n)
+element_in_place m slot element was None is old n new = absurd (none-some was old)
+element_in_place m slot element was (Some p) is old n new =
+    let place = subst (λ o. IfSome o (λ p. IsInPlace p (element, p.1) (pairs_of m) (pairs_of (with_key m slot element)))) is (key_in_place m slot element) in
+    subst (λ x. IsInPlace (x, tt) (element, tt) (pairs_of m) (pairs_of n)) (same_Some p.0 was old) (subst (λ l. IsInPlace p (element, tt) (pairs_of m) (pairs_of l)) (sym new) place)

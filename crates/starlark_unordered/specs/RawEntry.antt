@@ -1,6 +1,6 @@
 -- What the contracts of a map's raw entries cite.
 pub use Rattle.starlark_unordered.specs.declared.raw_entry.RawEntryMut.TheVariants.{Occupied, Vacant}
-use Rattle.std.proofs.Common.{◌∙◌, ap, refl, Bool, true, ◌≡◌, ℕ, List, ◌∷◌, ◌++◌, Option, Some, None}
+use Rattle.std.proofs.Common.{◌∙◌, ap, refl, true, ◌≡◌, ℕ, List, ◌∷◌, ◌++◌, Option, Some, None}
 use Rattle.std.specs.Prelude.{[], slice_set}
 use Rattle.std.specs.Option.{is_some, option_map}
 use Rattle.std.specs.Borrow.{Fml, RattleType, MutBor, follows}

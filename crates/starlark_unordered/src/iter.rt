@@ -1,11 +1,11 @@
 //! The iterators of an `UnorderedMap`. Each goes along the walk, and is seen as the list of what it has left.
-ghost use Rattle.std.specs.Prelude.{◌≡◌, length, ⊤, IfSome, Some};
+ghost use Rattle.std.specs.Prelude.{◌≡◌, length, IfSome, Some};
 ghost use Rattle.std.specs.Iterator.{UpTo, at_most};
 ghost use Rattle.std.specs.Iterator.SizeHint.{IsWithinCount};
-ghost use Rattle.std.specs.Map.Iter.{TakesFirst, deref_pair};
+ghost use Rattle.std.specs.Map.{keys_of, values_of};
+ghost use Rattle.std.specs.Map.Iter.{TakesFirst, deref, deref_pair};
 
 use starlark_table::Iter;
-use std::alloc::AllocError;
 use std::iter::FusedIterator;
 use std::marker::Model;
 
@@ -64,3 +64,117 @@ impl<'a, K, V> ExactSizeIterator for Entries<'a, K, V> {
 }
 
 impl<'a, K, V> FusedIterator for Entries<'a, K, V> {}
+
+/// The keys of a map, each by `&`.
+#[derive(Drop)]
+pub struct KeysUnordered<'a, K, V> {
+    inner: Entries<'a, K, V>,
+}
+
+impl<'a, K, V> Model for KeysUnordered<'a, K, V> {
+    ghost use Rattle.std.specs.Prelude.{List};
+    ghost use Rattle.std.specs.Map.{keys_of};
+
+    ghost Value = { List K };
+
+    ghost view = { λ it. keys_of it.inner };
+}
+
+impl<'a, K, V> KeysUnordered<'a, K, V> {
+    #[inline]
+    pub(crate) fn new(inner: Entries<'a, K, V>) -> Self
+        ensures { result ≡ keys_of inner.entry }
+    {
+        KeysUnordered { inner }
+    }
+}
+
+impl<'a, K, V> Iterator for KeysUnordered<'a, K, V> {
+    type Item = &'a K;
+
+    ghost next_gives = { TakesFirst deref };
+
+    ghost remaining = { λ rest. at_most (length rest) };
+
+    #[inline]
+    fn next(&mut self) -> Option<&'a K> {
+        let (key, _) = self.inner.next()?;
+        Some(key)
+    }
+
+    #[inline]
+    fn size_hint(&self) -> (usize, Option<usize>)
+        ensures lower { IsWithinCount result.0 (at_most (length self.now)) }
+        ensures upper { IfSome result.1 (UpTo (at_most (length self.now))) }
+        ensures exact { result ≡ (length self.now, Some (length self.now)) }
+    {
+        let len = self.len();
+        (len, Some(len))
+    }
+}
+
+impl<'a, K, V> ExactSizeIterator for KeysUnordered<'a, K, V> {
+    #[inline]
+    fn len(&self) -> usize {
+        self.inner.len()
+    }
+}
+
+impl<'a, K, V> FusedIterator for KeysUnordered<'a, K, V> {}
+
+/// The values of a map, each by `&`.
+#[derive(Drop)]
+pub struct ValuesUnordered<'a, K, V> {
+    inner: Entries<'a, K, V>,
+}
+
+impl<'a, K, V> Model for ValuesUnordered<'a, K, V> {
+    ghost use Rattle.std.specs.Prelude.{List};
+    ghost use Rattle.std.specs.Map.{values_of};
+
+    ghost Value = { List V };
+
+    ghost view = { λ it. values_of it.inner };
+}
+
+impl<'a, K, V> ValuesUnordered<'a, K, V> {
+    #[inline]
+    pub(crate) fn new(inner: Entries<'a, K, V>) -> Self
+        ensures { result ≡ values_of inner.entry }
+    {
+        ValuesUnordered { inner }
+    }
+}
+
+impl<'a, K, V> Iterator for ValuesUnordered<'a, K, V> {
+    type Item = &'a V;
+
+    ghost next_gives = { TakesFirst deref };
+
+    ghost remaining = { λ rest. at_most (length rest) };
+
+    #[inline]
+    fn next(&mut self) -> Option<&'a V> {
+        let (_, value) = self.inner.next()?;
+        Some(value)
+    }
+
+    #[inline]
+    fn size_hint(&self) -> (usize, Option<usize>)
+        ensures lower { IsWithinCount result.0 (at_most (length self.now)) }
+        ensures upper { IfSome result.1 (UpTo (at_most (length self.now))) }
+        ensures exact { result ≡ (length self.now, Some (length self.now)) }
+    {
+        let len = self.len();
+        (len, Some(len))
+    }
+}
+
+impl<'a, K, V> ExactSizeIterator for ValuesUnordered<'a, K, V> {
+    #[inline]
+    fn len(&self) -> usize {
+        self.inner.len()
+    }
+}
+
+impl<'a, K, V> FusedIterator for ValuesUnordered<'a, K, V> {}

@@ -210,11 +210,7 @@ impl<'a, K: Eq + Hash, V> RawVacantEntryMut<'a, K, V> {
     }
 
     // Puts a new key in under its own hash, and answers the map with the slot, or the refusal.
-    pub(crate) fn place(
-        self,
-        key: K,
-        value: V,
-    ) -> (&'a mut UnorderedMap<K, V>, Result<usize, NoRoom<(K, V)>>)
+    fn place(self, key: K, value: V) -> (&'a mut UnorderedMap<K, V>, Result<usize, NoRoom<(K, V)>>)
         requires { lookup (K.eq key) (pairs_of self.map.now) ≡ None }
         ensures same_map { result.0.ghost_name ≡ self.entry.map.ghost_name }
         ensures placed { IfOk result.1 (λ slot. item_in result.0.now slot ≡ Some (key, value)) }
@@ -231,11 +227,14 @@ impl<'a, K: Eq + Hash, V> RawVacantEntryMut<'a, K, V> {
     }
 
     // The same under the key's own hash, which is brought.
-    pub(crate) fn place_hashed(
+    fn place_hashed(
         self,
         key: Hashed<K>,
         value: V,
-    ) -> (&'a mut UnorderedMap<K, V>, Result<usize, NoRoom<(Hashed<K>, V)>>)
+    ) -> (
+        &'a mut UnorderedMap<K, V>,
+        Result<usize, NoRoom<(Hashed<K>, V)>>,
+    )
         requires own { hash_of key ≡ own_hash K.hash_input (key_of key) }
         requires absent { lookup (K.eq (key_of key)) (pairs_of self.map.now) ≡ None }
         ensures same_map { result.0.ghost_name ≡ self.entry.map.ghost_name }

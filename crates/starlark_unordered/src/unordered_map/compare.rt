@@ -1,4 +1,4 @@
-//! `==` and `Hash` of an `UnorderedMap`, which see no order.
+//! `==`, `Hash` and `Debug` of an `UnorderedMap`.
 ghost use Rattle.std.specs.Prelude.{◌≡◌, ◌%◌, ◌^◌, length, Some};
 ghost use Rattle.std.specs.Cmp.{on_equiv, on_per, partial_equiv_from_equiv};
 ghost use Rattle.std.specs.List.{list_all};
@@ -10,6 +10,7 @@ ghost use Rattle.starlark_unordered.specs.Pairs.{pairs_of, pair_eq, has_equal, h
 use super::UnorderedMap;
 use starlark_hash::StarlarkHasher;
 use starlark_table::Iter;
+use std::fmt;
 use std::hash::{Hash, Hasher};
 
 // The sum in 64 bits of what a new hasher finishes with after each pair.
@@ -69,4 +70,10 @@ fn found_in<K: Eq + Hash, V: Eq>(mut pairs: Iter<'_, (K, V)>, map: &UnorderedMap
 
 impl<K: Eq + Hash, V: Eq> Eq for UnorderedMap<K, V> {
     ghost laws = { on_equiv pairs_of (same_bag_equiv (pair_eq K.eq V.eq) (pair_equiv K.eq V.eq K.Eq.laws V.Eq.laws)) };
+}
+
+impl<K: Eq + Hash + fmt::Debug, V: fmt::Debug> fmt::Debug for UnorderedMap<K, V> {
+    fn fmt<W: fmt::Write>(&self, f: &mut fmt::Formatter<W>) -> fmt::Result {
+        f.debug_map().entries(self.entries_unordered()).finish()
+    }
 }

@@ -1,21 +1,80 @@
-//! The walks of an `UnorderedMap`.
-ghost use Rattle.std.specs.Prelude.{◌≡◌, List, IfOk, IfErr, IsPermutation};
-ghost use Rattle.starlark_unordered.specs.Pairs.{pairs_of};
+//! The walks of an `UnorderedMap`, in an order that nothing promises.
+ghost use Rattle.std.specs.Prelude.{◌≡◌, ◌^◌, ◌<◌, List, length, map, IfOk, IfErr, OnOk, IsPermutation, IsSortedByKey};
+ghost use Rattle.std.specs.Map.{keys_of, values_of};
+ghost use Rattle.std.specs.Map.Iter.{ShowsInOrder, deref, deref_pair};
+ghost use Rattle.starlark_unordered.specs.Pairs.{pairs_of, HasDistinctKeys};
 ghost use Rattle.starlark_unordered.specs.Walk.{CanMapValues, MapsValues};
 
 use super::UnorderedMap;
-use crate::iter::Entries;
+use crate::iter::{Entries, KeysUnordered, ValuesUnordered};
 use crate::mapped::map_members;
+use crate::moved::move_pairs;
 use starlark_table::ReadyTable;
+use std::alloc::AllocError;
+use std::cmp::Ordering;
+use std::collections::HashMap;
 use std::hash::Hash;
 
 impl<K: Eq + Hash, V> UnorderedMap<K, V> {
-    /// The pairs along the walk, in no promised order.
+    /// The pairs, each once. No two keys are equal.
     #[inline]
     pub fn entries_unordered(&self) -> Entries<'_, K, V>
-        ensures { result ≡ pairs_of self.now }
+        ensures pairs { result ≡ pairs_of self.now }
+        ensures distinct { HasDistinctKeys K.eq (pairs_of self.now) }
+        ensures fits { length (pairs_of self.now) < 2 ^ 64 }
+        ensures runs { ShowsInOrder (deref_pair {K = K} {X = V}) }
     {
+        prove!(self.table.len() <= usize::MAX);
         Entries::new(self.table.iter())
+    }
+
+    /// The keys, each once.
+    #[inline]
+    pub fn keys_unordered(&self) -> KeysUnordered<'_, K, V>
+        ensures keys { result ≡ keys_of (pairs_of self.now) }
+        ensures fits { length (pairs_of self.now) < 2 ^ 64 }
+        ensures runs { ShowsInOrder (deref {X = K}) }
+    {
+        KeysUnordered::new(self.entries_unordered())
+    }
+
+    /// The values, each once for its key.
+    #[inline]
+    pub fn values_unordered(&self) -> ValuesUnordered<'_, K, V>
+        ensures values { result ≡ values_of (pairs_of self.now) }
+        ensures fits { length (pairs_of self.now) < 2 ^ 64 }
+        ensures runs { ShowsInOrder (deref {X = V}) }
+    {
+        ValuesUnordered::new(self.entries_unordered())
+    }
+
+    /// The pairs in ascending order of their keys. Refused only for want of memory.
+    pub fn entries_sorted(&self) -> Result<Vec<(&K, &V)>, AllocError>
+    where
+        K: Ord,
+        ensures pairs { IfOk result (λ entries. IsPermutation (pairs_of self.now) (map deref_pair entries.items)) }
+        ensures ascends { IfOk result (λ entries. IsSortedByKey (λ entry. entry.0.now) K.cmp entries.items) }
+    {
+        let mut entries = Vec::from_iter(self.alloc, self.entries_unordered())?;
+        entries.sort_by(
+            |a: &(&K, &V), b: &(&K, &V)| -> Ordering
+                ensures { result ≡ K.cmp a.entry.now.0.now b.entry.now.0.now }
+            { a.0.cmp(b.0) },
+        )?;
+        Ok(entries)
+    }
+
+    /// The same pairs in a map of the standard library. Where memory is refused, they are dropped.
+    pub fn into_hash_map(self) -> Result<HashMap<K, V>, AllocError>
+    where
+        K: Drop,
+        V: Drop,
+        ensures { IfOk result (λ m. IsPermutation (pairs_of self) m.entries) }
+    {
+        let UnorderedMap { table, alloc } = self;
+        let mut map = HashMap::with_capacity(alloc, table.len())?;
+        move_pairs(table.into_iter(), &mut map)?;
+        Ok(map)
     }
 
     /// The map with what `f` gives in the place of each value. All its memory is asked for before the first call; refused,

@@ -8,7 +8,7 @@ use lib.Dec.{lit<}
 use seplogic.Ra.Ura.{Ura}
 use mir.Syntax.{Fn, Args, Dict, a_type, dcons, dnil, named, w64}
 use mir.MapTy.{inst_fn}
-use mir.Val.{Val, vint, vptr, vstruct, vcons, vnil, of_list}
+use mir.Val.{Val, vint, vcons, vnil, of_list}
 use base.Logic.{SProp, ent, emp, id⊢, ex_e, snd∗}
 use base.Fml.{Lft, Share, ftrue, flft, fres}
 use prog.Memory.{Memory}
@@ -221,7 +221,7 @@ lend_placed_spec 𝓤 𝓛 𝓜 𝓡 wired K V X LK LV LX E dE P dP G dG is_eq i
     (#self (args K V X E dE P dP G dG)) (here K V X E dE P dP G dG) (code.unfolded 𝓤 𝓛.H 𝓜 𝓡 wired (K, (V, (X, tt))) dE dP dG) (λ y are.
     let κs = y.0.0 in let qs = y.0.1 in let a = y.0.3 in let vss = y.0.4 in let W = walk_of 𝓛 (ended K V X E dE P dP G dG) (stayed K V X E dE P dP G dG) c in
     let k = lone_value 𝓛 (Placed κs.0 (R K V X E dE P dP G dG) (X' K V X E dE P dP G dG))
-        (placed_laws κs.0 (R K V X E dE P dP G dG) (X' K V X E dE P dP G dG) (map_laws.the_row_laws (param 0 K) (param 1 V) P G (param_laws 0 K LK) (param_laws 1 V LV)) (param_laws 2 X LX)) a.0 vss.0 are.0 in
+    (placed_laws κs.0 (R K V X E dE P dP G dG) (X' K V X E dE P dP G dG) (map_laws.the_row_laws (param 0 K) (param 1 V) P G (param_laws 0 K LK) (param_laws 1 V LV)) (param_laws 2 X LX)) a.0 vss.0 are.0 in
     subst (λ (us : List Val × Unit {0}). ent 𝓤 (W.pre ((κs, qs, y.0.2, a, us), y.1)) (WpFn 𝓤 𝓛.H 𝓣.C 𝓣.Λ (here K V X E dE P dP G dG) (W.args ((κs, qs, y.0.2, a, us), y.1)) (W.post ((κs, qs, y.0.2, a, us), y.1))))
     (sym (λ j. (k.1 j, tt)))
     (walk K V X E dE P dP G dG 𝓛 𝓜.mem 𝓡.returns LK LV LX 𝓣.C 𝓣.Λ (framed 𝓤 𝓛.H 𝓜 𝓣)

@@ -1,38 +1,30 @@
 -- `insert_hashed` meets its contract, at any types, as `insert` does its own: one call takes the entry and puts the pair in, the next lends it. Assumes `Logic`.
-use mathlib.Core.Path.{◌≡◌, refl, sym, subst, ap, ◌∙◌}
-use mathlib.Core.Logic.{inl, inr}
-use Prim.Native.Nat.{ℕ, ◌<◌, ◌^◌}
-use native.Mathlib.Nat.{suc-ne-zero}
+use mathlib.Core.Path.{◌≡◌, refl, sym, subst}
+use Prim.Native.Nat.{ℕ}
 use mathlib.Core.List.{List, [], ◌∷◌}
-use lib.Dec.{lit<}
 use seplogic.Ra.Ura.{Ura}
 use mir.Syntax.{Fn, Args, Dict, Ty, a_type, dcons, dnil, named, tcons, tnil, ty_int, ty_struct, w32}
 use mir.MapTy.{inst_fn}
-use mir.Val.{Val, vint, vptr, vstruct, vcons, vnil, of_list}
+use mir.Val.{Val}
 use base.Logic.{SProp, ent, emp, id⊢, ex_e, snd∗}
-use base.Fml.{Lft, GName, Share, ftrue, flft, fres}
+use base.Fml.{Lft, GName, Share, ftrue, flft}
 use prog.Memory.{Memory}
 use prog.Routine.{Routine}
-use prog.Wp.{Env, Calls, Loops, WpFn}
+use prog.Wp.{Calls, Loops, WpFn}
 use types.Logic.{Logic, sem}
-use types.Match.{live, vrt, in_variant, by_variants}
 use contract.BorrowLft.{◌⊑◌, ⊑_trans}
 use contract.Monad.{Fun, fact, fact_i}
 use contract.Running.{tables}
 use sound.WpLaws.{FmC}
-use types.Kit.{‵, raw, ◌⊛◌, some, given, later, prop, at_ret, ◌$◌, ◌∵◌, !, qed, move, keep, drop, use0, use1, use2, split, split3, join, pick, learn, fsplit, fjoin, suffices, frame, await, rewrite, regoal, group, done}
-use types.Part.{whole, agg}
-use types.Run.{stop, fld, addr, lit, of_opd, and_then, no_more, first, exec, returns, enter}
-use types.ByLocal.{alloc_all, pass_all, free_all, look_at, get, get_in, get_tag, through, sets, sets_last, lands_as, env}
-use types.Part.{sub}
+use types.Kit.{‵, raw, ◌⊛◌, some, later, ◌$◌, ◌∵◌, !, qed, move, drop, use0, use1, use2, split, split3, join, pick, fjoin, suffices, frame, await, rewrite, group, done}
+use types.Run.{of_opd, and_then, no_more, returns, enter}
+use types.ByLocal.{alloc_all, pass_all, free_all, look_at, get, sets, lands_as}
 use denote.Exit.{no, rest, yes}
 use denote.RattleType.{RattleType, owns}
-use denote.Builtin.{usize}
 use denote.Follow.{follows_so}
 use denote.Param.{arg, param, bounded, layout}
 use denote.Param.Laws.{Laws, arg_laws, param_laws}
-use denote.Plain.{uint_Makes, uint_Tells}
-use denote.Ref.{Bor, MutBor, MutRef, ShrRef, mut_vals}
+use denote.Ref.{Bor, MutBor, MutRef, ShrRef}
 use denote.Signature.{plain, types_at}
 use denote.Steps.{nothing, heard, peeks}
 use denote.Struct.Tuple.{Tuple, tuple_laws}
@@ -44,12 +36,9 @@ use denote.Triple.Table.{framed}
 use denote.Triple.Walked.{Stays, stay_dropped, walk_of, ends_at}
 use Rattle.core.proofs.alloc.Calls.{Goes-blank}
 use Rattle.core.proofs.cell.Inside.{Good}
-use Rattle.core.proofs.result.Made.{Ok-of, Err-of}
 use Rattle.core.specs.contracts.result.Result as RS
-use Rattle.std_alloc.proofs.ResultValues.{and_tt}
-use Rattle.std.proofs.VecSteps.Shapes.{after}
 use Rattle.std.proofs.raw_atomic.Walks.{proved_at}
-use Rattle.std.specs.Prelude.{Result, Ok, Err, Some, None, IfOk, IfErr, IsOk, OnOk, OnErr, MatchResult, true}
+use Rattle.std.specs.Prelude.{Result, Err, Some, None, IfOk, IfErr, IsOk, OnOk, OnErr, MatchResult, true}
 use Rattle.std.specs.Option.{is_some}
 use Rattle.std.specs.declared.cmp.Eq as Eq
 use Rattle.std.specs.declared.cmp.PartialEq as PartialEq

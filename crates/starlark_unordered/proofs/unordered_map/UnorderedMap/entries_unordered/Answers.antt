@@ -1,0 +1,14 @@
+use Rattle.std.proofs.Common.{subst}
+use Rattle.std.specs.Map.Iter.{deref_pair}
+use Rattle.starlark_table.specs.Table.{members}
+use Rattle.starlark_unordered.specs.Pairs.{HasDistinctKeys, pairs_of}
+use Rattle.starlark_unordered.proofs.Keys.{distinct_pairs}
+use Rattle.starlark_unordered.proofs.Shows.{shows_in_order}
+use Rattle.starlark_unordered.proofs.unordered_map.UnorderedMap.entries_unordered.Goals as goal
+
+pub returns-clause-distinct : goal.returns-clause-distinct
+returns-clause-distinct g c =
+    subst (λ m. HasDistinctKeys g.K.PartialEq.eq (pairs_of m)) c.self.view_is (distinct_pairs g.K.PartialEq.eq g.K.Hash.hash_input (members c.self.inside.table) c.self.invariant)
+
+pub returns-clause-runs : goal.returns-clause-runs
+returns-clause-runs g c = shows_in_order deref_pair

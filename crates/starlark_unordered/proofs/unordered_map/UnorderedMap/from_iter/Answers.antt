@@ -1,0 +1,18 @@
+use Rattle.std.proofs.Common.{arith, ◌≡◌, subst, []}
+use Rattle.starlark_unordered.specs.Collect.{InsertsAll}
+use Rattle.starlark_unordered.specs.Pairs.{pairs_of}
+use Rattle.starlark_unordered.proofs.unordered_map.UnorderedMap.from_iter.Goals as goal
+
+pub returns-clause-map : goal.returns-clause-map
+returns-clause-map g c =
+    let put = c.in_ok-insert_items.ensures.pairs in
+    let none : pairs_of c.in_ok-map.map ≡ [] = c.in_ok-map.ensures.empty in (
+      c.into_iter-items.result,
+      c.size_hint.result.0,
+      put.0,
+      c.into_iter-items.ensures.into_iter_gives,
+      c.size_hint.ensures.lower,
+      put.1,
+      subst (λ l. InsertsAll g.K.PartialEq.eq l put.0 (pairs_of c.insert_items.new.self)) none put.2,
+      omega (arith, c.insert_items.ensures.room, c.in_ok-map.ensures.room),
+    )

@@ -1,0 +1,34 @@
+use Rattle.std.proofs.Common.{refl, arith}
+use Rattle.std.proofs.iter.Next as it
+use Rattle.starlark_unordered.specs.Pairs.{pairs_of}
+use Rattle.starlark_unordered.proofs.Collected.{inserts_more}
+use Rattle.starlark_unordered.proofs.unordered_map.UnorderedMap.insert_items.Goals as goal
+
+pub loop-pair-init : goal.loop-pair-init
+loop-pair-init g c = it.begun c.requires.can c.requires.finite (refl, omega arith)
+
+pub loop-pair-preserved : goal.loop-pair-preserved
+loop-pair-preserved g c =
+    let inv = c.loop-pair.invariant in
+    it.again inv c.in-Some.pair c.in-Some.is (c.next.ensures.steps, c.next.ensures.goes) (
+      inserts_more g.K.PartialEq.eq inv.seen c.in-Some.pair (pairs_of c.args.self.now) (pairs_of c.loop-pair.self) (pairs_of c.insert.new.self) inv.holds.0 c.in-Ok.ensures.pairs,
+      omega (arith, inv.holds.1, c.insert.ensures.room),
+    )
+
+pub loop-pair-preserved-in-Ok : goal.loop-pair-preserved-in-Ok
+loop-pair-preserved-in-Ok g c =
+    let inv = c.loop-pair.invariant in
+    it.again inv c.in-Some.pair c.in-Some.is (c.next.ensures.steps, c.next.ensures.goes) (
+      inserts_more g.K.PartialEq.eq inv.seen c.in-Some.pair (pairs_of c.args.self.now) (pairs_of c.loop-pair.self) (pairs_of c.insert.new.self) inv.holds.0 c.in-Ok.ensures.pairs,
+      omega (arith, inv.holds.1, c.insert.ensures.room),
+    )
+
+pub returns-in-Err-clause-room : goal.returns-in-Err-clause-room
+returns-in-Err-clause-room g c = omega (arith, c.loop-pair.invariant.holds.1, c.insert.ensures.room)
+
+pub returns-in-Err-clause-succeeds : goal.returns-in-Err-clause-succeeds
+returns-in-Err-clause-succeeds g c = λ none.
+    let inv = c.loop-pair.invariant in
+    let less = (it.on c.in-Some.pair c.in-Some.is c.next.ensures.goes inv.ending).2 in
+    let counted = inv.counted in
+    absurd (omega (arith, none, less, counted))

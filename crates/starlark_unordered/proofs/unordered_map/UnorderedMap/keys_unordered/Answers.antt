@@ -1,0 +1,6 @@
+use Rattle.std.specs.Map.Iter.{deref}
+use Rattle.starlark_unordered.proofs.Shows.{shows_in_order}
+use Rattle.starlark_unordered.proofs.unordered_map.UnorderedMap.keys_unordered.Goals as goal
+
+pub returns-clause-runs : goal.returns-clause-runs
+returns-clause-runs g c = shows_in_order deref

@@ -1,0 +1,18 @@
+-- Maps of an iterator's items.
+use Rattle.std.specs.Prelude.{◌≡◌, ◌≤◌, ◌+◌, ℕ, Bool, List, [], ◌∷◌, Option, IsPermutation}
+use Rattle.std.specs.Iterator.{Count, Drains}
+use Rattle.std.specs.Iterator.SizeHint.{IsWithinCount}
+use Rattle.starlark_table.specs.Table.{Table, table_len}
+use Rattle.starlark_unordered.specs.Pairs.{pairs_of, with_pair}
+
+module _ {K V : Type 0} (eq : K → K → Bool) where
+  -- new is what these pairs, put in one after the other, make of old, where no order counts
+  abbrev pub InsertsAll : List (K × V) → List (K × V) → List (K × V) → Type 0
+  InsertsAll old [] new = new ≡ old
+  InsertsAll old (p ∷ ps) new = (next : List (K × V)) × IsPermutation (with_pair eq p.0 p.1 old) next × InsertsAll next ps new
+
+  module _ {T : Type 0} (steps : T → Option (K × V) → T → Type 0) where
+    -- the map has the iterator's items, put into one that had room for a number of them within what it bounds
+    abbrev pub Collects : {U : Type 0} → (U → T → Type 0) → (T → Count) → U → Table (K × V) → Type 0
+    Collects becomes remaining iter m = (it : T) × (first : ℕ) × (xs : List (K × V)) × becomes iter it × IsWithinCount first (remaining it)
+        × Drains steps it xs × InsertsAll [] xs (pairs_of m) × (first ≤ table_len m + m.room)

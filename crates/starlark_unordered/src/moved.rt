@@ -1,0 +1,25 @@
+//! A walk that fills a map of the standard library.
+ghost use Rattle.std.specs.Prelude.{◌++◌, map, OnOk, IsPermutation};
+ghost use Rattle.starlark_unordered.specs.Pairs.{HasDistinctKeys};
+
+use starlark_table::IntoIter;
+use std::alloc::AllocError;
+use std::collections::HashMap;
+use std::hash::Hash;
+
+// Puts each pair of the walk in, under keys that are all new.
+pub(crate) fn move_pairs<K: Eq + Hash + Drop, V: Drop>(
+    mut walk: IntoIter<(K, V)>,
+    moved: &mut HashMap<K, V>,
+) -> Result<(), AllocError>
+    requires { HasDistinctKeys K.eq (map (λ m. m.1) walk ++ moved.old.entries) }
+    ensures { OnOk result (IsPermutation (map (λ m. m.1) walk ++ moved.old.entries) moved.new.entries) }
+{
+    while let Some((_, (key, value))) = walk.next() {
+        match moved.insert(key, value) {
+            Ok(_old) => {}
+            Err(_refused) => return Err(AllocError),
+        }
+    }
+    Ok(())
+}

@@ -1,0 +1,26 @@
+//! `UnorderedMap`s made of clones.
+ghost use Rattle.std.specs.Prelude.{◌≡◌, IfOk};
+ghost use Rattle.std.specs.List.{AllZip};
+ghost use Rattle.starlark_unordered.specs.Clone.{IsEqualClone, IsLawfulClone, IsPairClone};
+ghost use Rattle.starlark_unordered.specs.Pairs.{pairs_of};
+
+use super::UnorderedMap;
+use std::alloc::AllocError;
+use std::hash::Hash;
+
+impl<K: Eq + Hash + Clone, V: Clone> UnorderedMap<K, V> {
+    /// A map of clones of the pairs, with as much room. Where memory is refused, also to the clone of a key or a value,
+    /// nothing is made.
+    pub fn clone(&self) -> Result<Self, AllocError>
+        // A clone of a key is equal to it.
+        requires { IsEqualClone K.eq K.is_clone }
+        ensures pairs { IfOk result (λ map. AllZip (IsPairClone K.is_clone V.is_clone) (pairs_of self.now) (pairs_of map)) }
+        ensures same { IfOk result (λ map. IsLawfulClone K.is_clone → IsLawfulClone V.is_clone → pairs_of map ≡ pairs_of self.now) }
+        ensures room { IfOk result (λ map. map.room ≡ self.now.room) }
+    {
+        Ok(UnorderedMap {
+            table: self.table.clone()?,
+            alloc: self.alloc,
+        })
+    }
+}
