@@ -24,6 +24,7 @@ impl<K: Eq + Hash, V> UnorderedMap<K, V> {
         ensures fits { length (pairs_of self.now) < 2 ^ 64 }
         ensures runs { ShowsInOrder (deref_pair {K = K} {X = V}) }
     {
+        // The number of pairs is a `usize`, as `fits` says.
         prove!(self.table.len() <= usize::MAX);
         Entries::new(self.table.iter())
     }
