@@ -151,8 +151,8 @@ fn looks_up_elements(rt: HostRuntime) -> Result<(), Fail> {
 #[test]
 fn changes_a_set(rt: HostRuntime) -> Result<(), Fail> {
     let mut set = OrderedSet::new(rt.alloc());
-    assert!(rt; set.insert(3u32)?);
-    set.insert_unique_unchecked(1)?;
+    set.insert_unique_unchecked(3u32)?;
+    assert!(rt; set.insert(1)?);
     set.extend([2, 3])?;
     set.sort()?;
     set.reverse();

@@ -6,5 +6,11 @@ pub mod Lending
 pub mod Walk
 pub mod Written
 pub mod MapEntry
+pub mod RawEntry
+pub mod RawLending
 pub mod Clone
 pub mod Collect
+pub mod Set
+pub mod Unit
+pub mod RawSet
+pub mod SetLending

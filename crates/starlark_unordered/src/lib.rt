@@ -6,8 +6,12 @@ pub mod iter;
 pub mod laws;
 mod mapped;
 mod moved;
+pub mod raw_entry;
 pub mod unordered_map;
+pub mod unordered_set;
 
 pub use entry::{Entry, OccupiedEntry, VacantEntry};
 pub use iter::{Entries, KeysUnordered, ValuesUnordered};
+pub use raw_entry::{RawEntryBuilderMut, RawEntryMut, RawOccupiedEntryMut, RawVacantEntryMut};
 pub use unordered_map::UnorderedMap;
+pub use unordered_set::UnorderedSet;

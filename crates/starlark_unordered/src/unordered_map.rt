@@ -5,6 +5,7 @@ ghost use Rattle.starlark_unordered.specs.Pairs.{pairs_of, HasDistinctKeys};
 mod collect;
 mod compare;
 mod copy;
+mod raw_slots;
 mod read;
 mod slots;
 mod walk;

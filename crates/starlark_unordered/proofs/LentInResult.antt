@@ -1,0 +1,102 @@
+-- A `Result` of a key and a value that are lent: a clause of one name is made at `Ok` and at `Err`, a `Result` that a call gave is opened, and a reference is given up. Assumes `Logic`.
+use mathlib.Core.Path.{◌≡◌, refl, ap, subst, ◌∙◌}
+use Prim.Native.Nat.{ℕ}
+use mathlib.Core.Logic.{◌⊎◌, inl, inr}
+use mathlib.Core.List.{List, [], ◌∷◌, ◌++◌}
+use mathlib.Core.Option.{none, some}
+use seplogic.Ra.Ura.{Ura}
+use mir.Syntax.{Lifetime, named}
+use mir.Val.{Val, of_list, vptr, vstruct, vcons, vnil}
+use base.Logic.{SProp, ent, sep, ex, guard}
+use base.Fml.{Lft, GName, fres}
+use types.Logic.{Logic, sem}
+use types.Kit.{‵, ◌$◌, ◌∵◌, !, qed, by, move, keep, drop, fsplit, fsplit3, fjoin, fpick, fpack, feq_i, feq_l, rewrite, updating, now, show, check, done}
+use types.Match.{live}
+use types.Tokens.{name_done}
+use denote.RattleType.{RattleType, Valss}
+use denote.Follow.{follows, follows_so, such_by, follows_by}
+use denote.Laws.{Is, shows}
+use denote.Ref.{Bor, MutBor, MutRef, ShrRef, mut_vals, mut_Tells, shr_Tells}
+use denote.Param.{layout}
+use denote.Param.Laws.{Laws}
+use denote.Steps.{nothing, peeks, only}
+use Rattle.core.proofs.cell.Inside.{one, Good}
+use denote.Struct.Declared.{shape}
+use denote.Struct.Struct.{within}
+use denote.Struct.Tuple.{Tuple, tuple_type}
+use Rattle.core.specs.declared.result.Result.{Result}
+use Rattle.core.specs.declared.result.Result.TheVariants.{Ok, Err}
+use Rattle.core.specs.contracts.result.Result as RS
+
+module _ {M : Type 1} {𝓤 : Ura M} (𝓛 : Logic 𝓤) where
+  open 𝓛 use {H}
+
+  -- a `&mut` is given up at the value that it has
+  pub given_up : (R : RattleType) (ℓ : Lifetime) (κ : Lft) (r : MutBor R.Denot) → ent 𝓤 (sem 𝓛 ((MutRef ℓ κ R).own_val r (mut_vals r))) (H.⇛ (sem 𝓛 (fres r.ghost_name (R.coded.code r.now))))
+  given_up R ℓ κ r = qed 𝓛 (‵ ((MutRef ℓ κ R).own_val r (mut_vals r)) ∷ []) ∵ updating ! $ fsplit3 ! $ drop ! $ name_done ! tt $ now ! $ keep ! (0 ∷ []) $ done !
+
+  module _ (R T : RattleType) (γ : GName) (P : T.Denot → R.Denot → Type 0) (P₀ : R.Denot → Type 0) (v : R.Denot) (ends : P₀ v) where
+    -- no part has left
+    pub so_rests : ((w : T.Denot) → P w v) → ent 𝓤 (sem 𝓛 (fres γ (R.coded.code v))) (sem 𝓛 (follows_so R T γ none P P₀))
+    unfolding such_by follows_by
+    so_rests p = qed 𝓛 (‵ (fres γ (R.coded.code v)) ∷ []) ∵ fpack ! ((s : (T.Denot → R.Denot) × R.Denot) × ((w : T.Denot) → P w (s.0 w)) × P₀ s.1) (λ s. follows_by R.Denot T.Denot R.coded.code T.coded.code γ none s.0.0 s.0.1) (((λ w. v), v), p, ends) $ done !
+
+    -- a part has left, and the whole follows it
+    pub so_follows : (γ' : GName) (F : T.Denot → R.Denot) → ((w : T.Denot) → P w (F w)) → ent 𝓤 (sem 𝓛 (follows R T γ γ' F)) (sem 𝓛 (follows_so R T γ (some γ') P P₀))
+    unfolding such_by follows_by
+    so_follows γ' F p = qed 𝓛 (‵ (follows R T γ γ' F) ∷ []) ∵ fpack ! ((s : (T.Denot → R.Denot) × R.Denot) × ((w : T.Denot) → P w (s.0 w)) × P₀ s.1) (λ s. follows_by R.Denot T.Denot R.coded.code T.coded.code γ (some γ') s.0.0 s.0.1) ((F, v), p, ends) $ done !
+
+  -- the one machine value of what a type owns
+  pub lone_value : (R : RattleType) → Laws R → (x : R.Denot) (vs : List Val) → Is R x vs → (u : Val) × (vs ≡ u ∷ []) × Good (layout R) u
+  lone_value R L x vs is = one (layout R) vs (subst (λ τs. denote.Laws.Typed τs vs) L.one ((L.lawful 𝓛).typed x vs is))
+
+  module _ (R E : RattleType) (v : Val) where
+    -- where the type tells its machine value
+    pub in_ok_told : (x : R.Denot) (u : Val) → ((vs : List Val) → Is R x vs → (vs ≡ u ∷ []) × Good (layout R) u)
+        → ent 𝓤 (sem 𝓛 ((RS.the_row R E).own_val (Ok x) (v ∷ []))) (guard 𝓤 ((v ≡ live 0 (vcons u vnil)) × Good (layout R) u) (sem 𝓛 (R.own_val x (u ∷ []))))
+    in_ok_told x u told =
+        qed 𝓛 (‵ ((RS.the_row R E).own_val (Ok x) (v ∷ [])) ∷ []) ∵ fpick ! (λ us. fsplit ! $ feq_l ! (λ e. fpick ! (λ vss. fsplit ! $ feq_l ! (λ f. fsplit ! $
+        peeks ! R (Is R) (shows 𝓛 R) x vss.0 (λ is. let got = told vss.0 is in
+        rewrite ! 0 (λ (ws : List Val). ‵ (R.own_val x ws)) got.0 refl $
+        check ! (ap only e ∙ ap (λ ws. live 0 (of_list ws)) (f ∙ ap (λ ws. ws ++ []) got.0), got.1) $ keep ! (0 ∷ []) $ done !)))))
+
+    abbrev pub Held : ℕ → (T : RattleType) → T.Denot → Val → SProp 𝓤
+    Held k T x u = guard 𝓤 ((v ≡ live k (vcons u vnil)) × Good (layout T) u) (sem 𝓛 (T.own_val x (u ∷ [])))
+
+    pub in_err : (x : E.Denot) → ((vs : List Val) → Is E x vs → (u : Val) × (vs ≡ u ∷ []) × Good (layout E) u) → ent 𝓤 (sem 𝓛 ((RS.the_row R E).own_val (Err x) (v ∷ []))) (ex 𝓤 (Held 1 E x))
+    in_err x lone =
+        qed 𝓛 (‵ ((RS.the_row R E).own_val (Err x) (v ∷ [])) ∷ []) ∵ fpick ! (λ us. fsplit ! $ feq_l ! (λ e. fpick ! (λ vss. fsplit ! $ feq_l ! (λ f. fsplit ! $
+        peeks ! E (Is E) (shows 𝓛 E) x vss.0 (λ is. let got = lone vss.0 is in
+        rewrite ! 0 (λ (ws : List Val). ‵ (E.own_val x ws)) got.1 refl $ show ! (Held 1 E x) got.0 $
+        check ! (ap only e ∙ ap (λ ws. live 1 (of_list ws)) (f ∙ ap (λ ws. ws ++ []) got.1), got.2) $ keep ! (0 ∷ []) $ done !)))))
+
+  -- two values as one tuple
+  pub as_tuple : (R S : RattleType) (x : R.Denot) (y : S.Denot) (u v : Val)
+      → ent 𝓤 (sep 𝓤 (sem 𝓛 (R.own_val x (u ∷ []))) (sem 𝓛 (S.own_val y (v ∷ [])))) (sem 𝓛 ((Tuple (R ∷ S ∷ [])).own_val (x, y) (vstruct (vcons u (vcons v vnil)) ∷ [])))
+  as_tuple R S x y u v =
+      qed 𝓛 (‵ (R.own_val x (u ∷ [])) ∷ ‵ (S.own_val y (v ∷ [])) ∷ []) ∵ nothing ! $ move ! (2 ∷ 0 ∷ []) $ fjoin ! $ move ! (1 ∷ 0 ∷ []) $ fjoin ! $
+      feq_i ! (List Val) (vstruct (vcons u (vcons v vnil)) ∷ []) (vstruct (vcons u (vcons v vnil)) ∷ []) refl $ fjoin ! $
+      fpack ! (Valss (R ∷ S ∷ [])) (within (shape (tuple_type (R ∷ S ∷ []))) (x, (y, tt)) (vstruct (vcons u (vcons v vnil)) ∷ [])) (u ∷ [], (v ∷ [], tt)) $ done !
+
+  module _ (K V : RattleType) (κ : Lft) (x : Bor K.Denot × MutBor V.Denot) (v : Val) where
+    -- `(&K, &mut V)`
+    abbrev pub Entry : RattleType
+    Entry = Tuple (ShrRef (named 0) κ K ∷ MutRef (named 0) κ V ∷ [])
+
+    abbrev pub entry_val : Val
+    entry_val = vstruct (vcons (vptr x.0.ref_ptr.0 x.0.ref_ptr.1) (vcons (vptr x.1.ref_ptr.0 x.1.ref_ptr.1) vnil))
+
+    pub entry_told : ent 𝓤 (sem 𝓛 (Entry.own_val x (v ∷ []))) (guard 𝓤 (v ≡ entry_val) (sem 𝓛 (Entry.own_val x (entry_val ∷ []))))
+    entry_told =
+        qed 𝓛 (‵ (Entry.own_val x (v ∷ [])) ∷ []) ∵ fpick ! (λ vss. fsplit ! $ feq_l ! (λ e. fsplit3 ! $ move ! (2 ∷ []) $ drop ! $
+        peeks ! (ShrRef (named 0) κ K) (Is (ShrRef (named 0) κ K)) (shows 𝓛 (ShrRef (named 0) κ K)) x.0 vss.0 (λ i. move ! (1 ∷ []) $
+        peeks ! (MutRef (named 0) κ V) (Is (MutRef (named 0) κ V)) (shows 𝓛 (MutRef (named 0) κ V)) x.1 vss.1.0 (λ j.
+        let f = shr_Tells (named 0) κ K x.0 vss.0 i in let g = mut_Tells (named 0) κ V x.1 vss.1.0 j in
+        rewrite ! 0 (λ (ws : List Val). ‵ ((MutRef (named 0) κ V).own_val x.1 ws)) g refl $ rewrite ! 1 (λ (ws : List Val). ‵ ((ShrRef (named 0) κ K).own_val x.0 ws)) f refl $
+        check ! (ap only e ∙ (λ k. vstruct (of_list (f k ++ (g k ++ []))))) $ move ! (1 ∷ 0 ∷ []) $
+        by ! (as_tuple (ShrRef (named 0) κ K) (MutRef (named 0) κ V) x.0 x.1 (vptr x.0.ref_ptr.0 x.0.ref_ptr.1) (vptr x.1.ref_ptr.0 x.1.ref_ptr.1))))))
+
+-- a `Result` is one of the two
+pub which : {A E : Type 0} (r : Result A E) → ((x : A) × (r ≡ Ok x)) ⊎ ((e : E) × (r ≡ Err e))
+which (Ok x) = inl (x, refl)
+which (Err e) = inr (e, refl)

@@ -1,0 +1,22 @@
+-- What an `UnorderedMap` ends as, once a reference into a pair that was put in has ended.
+use Rattle.std.specs.Prelude.{◌≡◌, ◌∷◌, ℕ, Result, OnOk, OnErr, IfOk, IsPermutation}
+use Rattle.std.specs.Borrow.{Fml, RattleType, Bor, MutBor, follows_so, name_if_ok}
+use Rattle.starlark_table.specs.Table.{Table}
+use Rattle.starlark_unordered.specs.Lending.{HashMembers, map_row}
+use Rattle.starlark_unordered.specs.Pairs.{pairs_of, with_value, KeepsRoom}
+
+-- new is old and one pair more
+pub record IsAdded {K V : Type 0} (old : Table (K × V)) (key : K) (value : V) (new : Table (K × V)) : Type 0 where
+  pub pairs : IsPermutation ((key, value) ∷ pairs_of old) (pairs_of new)
+  pub room : KeepsRoom old new
+
+module _ (K V : RattleType) (g : HashMembers K.Denot) (s : MutBor (Table (K.Denot × V.Denot))) {E : Type 0} where
+  -- the value in the slot ends as what is left behind the reference, and all else stays
+  abbrev pub lends_placed : Result ℕ E → Result (Bor K.Denot × MutBor V.Denot) E → Fml
+  lends_placed placed r =
+      follows_so (map_row K V g) V s.ghost_name (name_if_ok (λ p. p.1.ghost_name) r) (λ w n. IfOk placed (λ slot. n ≡ with_value s.now slot w)) (λ n. OnErr r (n ≡ s.now))
+
+  -- the map ends with one pair more, its value what is left behind the reference; where it was refused, as it was
+  abbrev pub lends_added : K.Denot → Result (Bor K.Denot × MutBor V.Denot) E → Fml
+  lends_added key r =
+      follows_so (map_row K V g) V s.ghost_name (name_if_ok (λ p. p.1.ghost_name) r) (λ w n. OnOk r (IsAdded s.now key w n)) (λ n. OnErr r (n ≡ s.now))

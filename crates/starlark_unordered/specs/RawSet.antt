@@ -1,0 +1,26 @@
+-- What the contracts of a set's raw entries cite.
+pub use Rattle.starlark_unordered.specs.declared.unordered_set.raw_entry.RawEntryMut.TheVariants.{Occupied, Vacant}
+use Rattle.std.specs.Prelude.{ℕ, Option, Some, None}
+use Rattle.std.specs.Option.{option_map}
+use Rattle.std.specs.Borrow.{MutBor}
+use Rattle.std.specs.declared.cmp.PartialEq as eq
+use Rattle.std.specs.declared.hash.Hash as hash
+use Rattle.starlark_table.specs.Table.{item_in}
+use Rattle.starlark_unordered.specs.Set.{Set}
+use Rattle.starlark_unordered.specs.declared.unordered_set.raw_entry.RawEntryMut.{RawEntryMut}
+use Rattle.starlark_unordered.specs.declared.unordered_set.raw_entry.RawOccupiedEntryMut.{RawOccupiedEntryMut}
+
+module _ {T : Type 0} {g : eq.Ghosts T} {h : hash.Ghosts T} where
+  -- the reference to the set
+  abbrev pub set_of_raw : RawEntryMut T g h → MutBor (Set T)
+  set_of_raw (Occupied o) = o.map
+  set_of_raw (Vacant v) = v.map
+
+  -- the slot that was found
+  abbrev pub slot_of_raw : RawEntryMut T g h → Option ℕ
+  slot_of_raw (Occupied o) = Some o.slot
+  slot_of_raw (Vacant v) = None
+
+  -- the element that is there
+  abbrev pub stored_raw : RawOccupiedEntryMut T g h → Option T
+  stored_raw o = option_map (λ p. p.0) (item_in o.map.now o.slot)

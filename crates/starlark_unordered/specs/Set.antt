@@ -1,0 +1,18 @@
+-- What a contract sees of an `UnorderedSet`: the map to `()`.
+use Rattle.std.specs.Prelude.{Bool, List}
+use Rattle.std.specs.Map.{keys_of, lookup}
+use Rattle.std.specs.Option.{is_some}
+use Rattle.starlark_table.specs.Table.{Table}
+use Rattle.starlark_unordered.specs.Pairs.{pairs_of}
+
+abbrev pub Set : Type 0 → Type 0
+Set T = Table (T × Unit {0})
+
+module _ {T : Type 0} where
+  -- the elements in the order of the walk, which no clause promises
+  abbrev pub elements_of : Set T → List T
+  elements_of s = keys_of (pairs_of s)
+
+  -- whether an element passes
+  abbrev pub has : (T → Bool) → Set T → Bool
+  has t s = is_some (lookup t (pairs_of s))

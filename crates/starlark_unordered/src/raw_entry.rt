@@ -1,0 +1,272 @@
+//! Places of a map that a query, or a hash and a closure choose.
+ghost use Rattle.std.specs.Prelude.{◌≡◌, ◌∷◌, ◌+◌, true, Some, None, Err, IfOk, IfErr, IfSome, IsOk, OnOk, OnErr, MatchResult, IsPermutation};
+ghost use Rattle.std.specs.Borrow.{sem};
+ghost use Rattle.std.specs.Map.{lookup};
+ghost use Rattle.std.specs.Option.{is_some, option_map};
+ghost use Rattle.starlark_hash.specs.HashValue.{hash_of, key_of};
+ghost use Rattle.starlark_hash.specs.Hasher.{own_hash};
+ghost use Rattle.starlark_hash.specs.Search.{CanSearch, Searches};
+ghost use Rattle.starlark_table.specs.Table.{item_in, table_len};
+ghost use Rattle.starlark_unordered.specs.Pairs.{pairs_of, keys_under, under_own, with_value, IsSlotOf};
+ghost use Rattle.starlark_unordered.specs.RawLending.{lends_placed, IsAdded};
+
+use crate::unordered_map::UnorderedMap;
+use starlark_hash::{Equivalent, Hashed, KeyQuery, NoRoom, StarlarkHashValue};
+use std::hash::Hash;
+use std::mem;
+
+/// A map whose place is still to be named.
+#[derive(Drop)]
+pub struct RawEntryBuilderMut<'a, K: Eq + Hash, V> {
+    map: &'a mut UnorderedMap<K, V>,
+}
+
+/// The place that was chosen, which has a pair or lacks one.
+#[derive(Drop)]
+pub enum RawEntryMut<'a, K: Eq + Hash, V> {
+    /// A pair was found.
+    Occupied(RawOccupiedEntryMut<'a, K, V>),
+    /// None was.
+    Vacant(RawVacantEntryMut<'a, K, V>),
+}
+
+/// A pair that the map has.
+#[derive(Drop)]
+pub struct RawOccupiedEntryMut<'a, K: Eq + Hash, V> {
+    map: &'a mut UnorderedMap<K, V>,
+    slot: usize,
+    ghost there: { is_some (item_in map.now slot) ≡ true },
+}
+
+/// A map in which no pair was found.
+#[derive(Drop)]
+pub struct RawVacantEntryMut<'a, K: Eq + Hash, V> {
+    map: &'a mut UnorderedMap<K, V>,
+}
+
+impl<K: Eq + Hash, V> UnorderedMap<K, V> {
+    /// The map, whose place is to be named by a query, or by a hash and a closure.
+    #[inline]
+    pub fn raw_entry_mut(&mut self) -> RawEntryBuilderMut<'_, K, V>
+        ensures same_map { result.map.ghost_name ≡ self.entry.ghost_name }
+        ensures map { result.map.now ≡ self.old }
+    {
+        RawEntryBuilderMut { map: self }
+    }
+}
+
+impl<'a, K: Eq + Hash, V> RawEntryBuilderMut<'a, K, V> {
+    ghost use Rattle.starlark_unordered.specs.RawEntry.{map_of_raw, slot_of_raw};
+
+    /// The pair of the key that the query stands for, or vacant where the map lacks it.
+    #[inline]
+    pub fn from_key<Q: KeyQuery<K>>(self, query: &Q) -> RawEntryMut<'a, K, V>
+        ensures same_map { (map_of_raw result).ghost_name ≡ self.entry.map.ghost_name }
+        ensures map { (map_of_raw result).now ≡ self.entry.map.now }
+        ensures slot { IsSlotOf (Q.equivalent query.now) self.entry.map.now (slot_of_raw result) }
+    {
+        let map = self.map;
+        match map.slot_under(StarlarkHashValue::new(query).promote(), query) {
+            Some(slot) => RawEntryMut::Occupied(RawOccupiedEntryMut { map, slot }),
+            None => RawEntryMut::Vacant(RawVacantEntryMut { map }),
+        }
+    }
+
+    /// The pair of the key that the query stands for, where the hash that is brought is its own, or else vacant.
+    #[inline]
+    pub fn from_key_hashed<Q: Equivalent<K>>(self, key: Hashed<&Q>) -> RawEntryMut<'a, K, V>
+        ensures same_map { (map_of_raw result).ghost_name ≡ self.entry.map.ghost_name }
+        ensures map { (map_of_raw result).now ≡ self.entry.map.now }
+        ensures slot { IsSlotOf (under_own K.hash_input (hash_of key.entry) (Q.equivalent (key_of key.entry).now)) self.entry.map.now (slot_of_raw result) }
+    {
+        let map = self.map;
+        match map.slot_hashed(key.hash(), *key.key()) {
+            Some(slot) => RawEntryMut::Occupied(RawOccupiedEntryMut { map, slot }),
+            None => RawEntryMut::Vacant(RawVacantEntryMut { map }),
+        }
+    }
+
+    /// A pair whose key's own hash this is, and which `is_match` accepts. It is asked about keys of this hash alone,
+    /// about each at most once, in no promised order, until it accepts one; vacant says that it refused them all.
+    pub fn from_hash<F: FnMut(&K) -> bool>(
+        self,
+        hash: StarlarkHashValue,
+        is_match: F,
+    ) -> RawEntryMut<'a, K, V>
+    where
+        F: Drop,
+        requires { CanSearch F.FnMut (keys_under K.hash_input hash self.map.now) is_match }
+        ensures same_map { (map_of_raw result).ghost_name ≡ self.entry.map.ghost_name }
+        ensures map { (map_of_raw result).now ≡ self.entry.map.now }
+        ensures found { (last : F) × Searches F.FnMut (keys_under K.hash_input hash self.entry.map.now) is_match (slot_of_raw result) last }
+    {
+        let map = self.map;
+        match map.slot_accepted(hash, is_match) {
+            Some(slot) => RawEntryMut::Occupied(RawOccupiedEntryMut { map, slot }),
+            None => RawEntryMut::Vacant(RawVacantEntryMut { map }),
+        }
+    }
+}
+
+impl<'a, K: Eq + Hash, V> RawOccupiedEntryMut<'a, K, V> {
+    ghost use Rattle.starlark_unordered.specs.RawEntry.{raw_keeps, stored_raw, with_raw_key, with_raw_value, IsInPlace};
+
+    /// Puts this value in the place of the one that is there, which is answered.
+    #[inline]
+    pub fn insert(&mut self, value: V) -> V
+        ensures old { option_map (λ p. p.1) (stored_raw self.old) ≡ Some result }
+        ensures new { self.new ≡ with_raw_value self.old value }
+        ensures pairs { IfSome (stored_raw self.old) (λ p. IsInPlace p (p.0, value) (pairs_of self.old.map.now) (pairs_of self.new.map.now)) }
+    {
+        mem::replace(self.get_mut(), value)
+    }
+
+    /// Puts this key, which is to be equal, in the place of the one that is there, which is answered.
+    #[inline]
+    pub fn insert_key(&mut self, key: K) -> K
+        requires { IfSome (stored_raw self.old) (λ p. K.eq key p.0 ≡ true) }
+        ensures old { option_map (λ p. p.0) (stored_raw self.old) ≡ Some result }
+        ensures new { self.new ≡ with_raw_key self.old key }
+        ensures pairs { IfSome (stored_raw self.old) (λ p. IsInPlace p (key, p.1) (pairs_of self.old.map.now) (pairs_of self.new.map.now)) }
+    {
+        let slot = self.slot;
+        self.map.replace_key(slot, key)
+    }
+
+    /// The value.
+    #[inline]
+    pub fn get(&self) -> &V
+        ensures { option_map (λ p. p.1) (stored_raw self.now) ≡ Some result.now }
+    {
+        self.map.value_at(self.slot)
+    }
+
+    /// The value, to be written. The map has what is left in it, and all else stays.
+    #[inline]
+    pub fn get_mut(&mut self) -> &mut V
+        ensures* writes_back { sem 𝓛 (raw_keeps K.row V.row self.entry result) }
+        ensures value { option_map (λ p. p.1) (stored_raw self.old) ≡ Some result.now }
+    {
+        let slot = self.slot;
+        self.map.value_at_mut(slot)
+    }
+
+    /// Takes the pair out, and answers its value. The room comes back.
+    #[inline]
+    pub fn remove(self) -> V
+    where
+        K: Drop,
+        ensures pair { option_map (λ p. p.1) (stored_raw self.entry) ≡ Some result }
+        ensures rest { IfSome (stored_raw self.entry) (λ p. IsPermutation (pairs_of self.entry.map.now) (p ∷ pairs_of self.exit.0.now)) }
+        ensures room { table_len self.exit.0.now + self.exit.0.now.room ≡ table_len self.entry.map.now + self.entry.map.now.room }
+    {
+        let slot = self.slot;
+        let (_key, value) = self.map.take_out(slot);
+        value
+    }
+
+    /// Takes the pair out. The room comes back.
+    #[inline]
+    pub fn remove_entry(self) -> (K, V)
+        ensures pair { stored_raw self.entry ≡ Some result }
+        ensures rest { IsPermutation (pairs_of self.entry.map.now) (result ∷ pairs_of self.exit.0.now) }
+        ensures room { table_len self.exit.0.now + self.exit.0.now.room ≡ table_len self.entry.map.now + self.entry.map.now.room }
+    {
+        let slot = self.slot;
+        self.map.take_out(slot)
+    }
+}
+
+impl<'a, K: Eq + Hash, V> RawVacantEntryMut<'a, K, V> {
+    ghost use Rattle.starlark_unordered.specs.RawLending.{lends_added};
+
+    /// Puts a key in that the map lacks, under its own hash, as `insert_hashed` does under one that is brought.
+    pub fn insert(self, key: K, value: V) -> Result<(&'a K, &'a mut V), NoRoom<(K, V)>>
+        requires { lookup (K.eq key) (pairs_of self.map.now) ≡ None }
+        ensures* writes_back { sem 𝓛 (lends_added K.row V.row K.Hash self.entry.map key result) }
+        ensures pair { IfOk result (λ p. (p.0.now ≡ key) × (p.1.now ≡ value)) }
+        ensures full { OnErr result (self.entry.map.now.room ≡ 0) }
+        ensures handed_back { IfErr result (λ refused. refused.0 ≡ (key, value)) }
+    {
+        lend_placed(self.place(key, value))
+    }
+
+    /// Puts a key in that the map lacks, under its own hash, which is brought, and lends it with its value. The map ends
+    /// with one pair more, its value what is left behind the reference. It is refused where there is no room and no
+    /// memory is found: then key and value come back, and the map is as it was.
+    pub fn insert_hashed(
+        self,
+        key: Hashed<K>,
+        value: V,
+    ) -> Result<(&'a K, &'a mut V), NoRoom<(Hashed<K>, V)>>
+        requires own { hash_of key ≡ own_hash K.hash_input (key_of key) }
+        requires absent { lookup (K.eq (key_of key)) (pairs_of self.map.now) ≡ None }
+        ensures* writes_back { sem 𝓛 (lends_added K.row V.row K.Hash self.entry.map (key_of key) result) }
+        ensures pair { IfOk result (λ p. (p.0.now ≡ key_of key) × (p.1.now ≡ value)) }
+        ensures full { OnErr result (self.entry.map.now.room ≡ 0) }
+        ensures handed_back { IfErr result (λ refused. refused.0 ≡ (key, value)) }
+    {
+        lend_placed(self.place_hashed(key, value))
+    }
+
+    // Puts a new key in under its own hash, and answers the map with the slot, or the refusal.
+    fn place(self, key: K, value: V) -> (&'a mut UnorderedMap<K, V>, Result<usize, NoRoom<(K, V)>>)
+        requires { lookup (K.eq key) (pairs_of self.map.now) ≡ None }
+        ensures same_map { result.0.ghost_name ≡ self.entry.map.ghost_name }
+        ensures placed { IfOk result.1 (λ slot. item_in result.0.now slot ≡ Some (key, value)) }
+        ensures added { OnOk result.1 (IsAdded self.entry.map.now key value result.0.now) }
+        ensures written { IfOk result.1 (λ slot. (w : V) → IsAdded self.entry.map.now key w (with_value result.0.now slot w)) }
+        ensures full { OnErr result.1 (self.entry.map.now.room ≡ 0) }
+        ensures handed_back { IfErr result.1 (λ refused. refused.0 ≡ (key, value)) }
+        ensures unchanged { OnErr result.1 (result.0.now ≡ self.entry.map.now) }
+    {
+        let map = self.map;
+        let hash = StarlarkHashValue::new(&key).promote();
+        let placed = map.insert_new(hash, key, value);
+        (map, placed)
+    }
+
+    // The same under the key's own hash, which is brought.
+    fn place_hashed(
+        self,
+        key: Hashed<K>,
+        value: V,
+    ) -> (
+        &'a mut UnorderedMap<K, V>,
+        Result<usize, NoRoom<(Hashed<K>, V)>>,
+    )
+        requires own { hash_of key ≡ own_hash K.hash_input (key_of key) }
+        requires absent { lookup (K.eq (key_of key)) (pairs_of self.map.now) ≡ None }
+        ensures same_map { result.0.ghost_name ≡ self.entry.map.ghost_name }
+        ensures placed { IfOk result.1 (λ slot. item_in result.0.now slot ≡ Some (key_of key, value)) }
+        ensures added { OnOk result.1 (IsAdded self.entry.map.now (key_of key) value result.0.now) }
+        ensures written { IfOk result.1 (λ slot. (w : V) → IsAdded self.entry.map.now (key_of key) w (with_value result.0.now slot w)) }
+        ensures full { OnErr result.1 (self.entry.map.now.room ≡ 0) }
+        ensures handed_back { IfErr result.1 (λ refused. refused.0 ≡ (key, value)) }
+        ensures unchanged { OnErr result.1 (result.0.now ≡ self.entry.map.now) }
+    {
+        let map = self.map;
+        let hash = key.hash();
+        let placed = match map.insert_new(hash.promote(), key.into_key(), value) {
+            Ok(slot) => Ok(slot),
+            Err(NoRoom((key, value))) => Err(NoRoom((Hashed::new_unchecked(hash, key), value))),
+        };
+        (map, placed)
+    }
+}
+
+// The pair that was put into a slot, its value to be written, or the refusal.
+fn lend_placed<'a, K: Eq + Hash, V, E>(
+    placed: (&'a mut UnorderedMap<K, V>, Result<usize, E>),
+) -> Result<(&'a K, &'a mut V), E>
+    requires { IfOk placed.1 (λ slot. is_some (item_in placed.0.now slot) ≡ true) }
+    ensures* writes_back { sem 𝓛 (lends_placed K.row V.row K.Hash placed.entry.0 placed.entry.1 result) }
+    ensures shown { IfOk placed.entry.1 (λ slot. IfOk result (λ p. item_in placed.entry.0.now slot ≡ Some (p.0.now, p.1.now))) }
+    ensures refusal { MatchResult placed.entry.1 (λ _. IsOk result) (λ e. result ≡ Err e) }
+{
+    let (map, placed) = placed;
+    match placed {
+        Ok(slot) => Ok(map.pair_at_mut(slot)),
+        Err(refused) => Err(refused),
+    }
+}

@@ -1,0 +1,157 @@
+//! The set: an `UnorderedMap` to `()`.
+ghost use Rattle.std.specs.Prelude.{◌≡◌, ◌≤◌, ◌==◌, ◌+◌, [], length, map, not, None, IfOk, IfErr, IsOk, OnOk, OnErr, IsPermutation, IsSortedByKey};
+ghost use Rattle.std.specs.Map.{lookup};
+ghost use Rattle.std.specs.Map.Iter.{deref};
+ghost use Rattle.starlark_hash.specs.HashValue.{hash_of, key_of};
+ghost use Rattle.starlark_table.specs.Table.{table_len};
+ghost use Rattle.starlark_unordered.specs.Clone.{IsEqualClone, IsLawfulClone};
+ghost use Rattle.starlark_unordered.specs.Pairs.{pairs_of, with_pair, under_own, HasDistinctKeys, KeepsRoom};
+
+mod compare;
+mod raw_entry;
+
+use crate::unordered_map::UnorderedMap;
+pub use raw_entry::{RawEntryBuilderMut, RawEntryMut, RawOccupiedEntryMut, RawVacantEntryMut};
+use starlark_hash::{Equivalent, Hashed, KeyQuery, NoRoom};
+use std::alloc::{AllocError, Global};
+use std::cmp::Ordering;
+use std::hash::Hash;
+use std::marker::Model;
+
+/// A set without an order: elements of which no two are equal.
+#[derive(Drop)]
+pub struct UnorderedSet<T: Eq + Hash> {
+    map: UnorderedMap<T, ()>,
+    // Where `entries_sorted` gets its memory.
+    alloc: Global,
+}
+
+impl<T: Eq + Hash> Model for UnorderedSet<T> {
+    ghost use Rattle.starlark_unordered.specs.Set.{Set};
+
+    ghost Value = { Set T };
+
+    ghost view = { λ s. s.map };
+}
+
+impl<T: Eq + Hash> UnorderedSet<T> {
+    ghost use Rattle.starlark_unordered.specs.Set.{elements_of, has};
+
+    /// An empty set, which asks for no memory before the first insertion.
+    pub fn new(alloc: Global) -> Self
+        ensures empty { elements_of result ≡ [] }
+        ensures room { result.room ≡ 0 }
+    {
+        UnorderedSet {
+            map: UnorderedMap::new(alloc),
+            alloc,
+        }
+    }
+
+    /// An empty set with room for so many elements at least.
+    pub fn with_capacity(alloc: Global, capacity: usize) -> Result<Self, AllocError>
+        ensures empty { IfOk result (λ s. elements_of s ≡ []) }
+        ensures room { IfOk result (λ s. capacity ≤ s.room) }
+        ensures none_for_none { capacity ≡ 0 → IsOk result }
+    {
+        Ok(UnorderedSet {
+            map: UnorderedMap::with_capacity(alloc, capacity)?,
+            alloc,
+        })
+    }
+
+    /// Puts the element in, and answers whether it is new. One that is there stays, and this one is dropped. Only a new
+    /// element is refused, where there is no room and no memory is found: then it comes back, and the set is as it was.
+    pub fn insert(&mut self, element: T) -> Result<bool, NoRoom<T>>
+    where
+        T: Drop,
+        ensures is_new { IfOk result (λ is_new. is_new ≡ not (has (T.eq element) self.old)) }
+        ensures elements { OnOk result (IsPermutation (with_pair T.eq element tt (pairs_of self.old)) (pairs_of self.new)) }
+        ensures room { KeepsRoom self.old self.new }
+
+        ensures absent { OnErr result (lookup (T.eq element) (pairs_of self.old) ≡ None) }
+        ensures full { OnErr result (self.old.room ≡ 0) }
+        ensures handed_back { IfErr result (λ refused. refused.0 ≡ element) }
+        ensures unchanged { OnErr result (self.new ≡ self.old) }
+    {
+        match self.map.insert(element, ()) {
+            Ok(old) => Ok(old.is_none()),
+            Err(NoRoom((element, _))) => Err(NoRoom(element)),
+        }
+    }
+
+    /// Takes every element out. The room comes back.
+    pub fn clear(&mut self)
+    where
+        T: Drop,
+        ensures empty { elements_of self.new ≡ [] }
+        ensures room { self.new.room ≡ table_len self.old + self.old.room }
+    {
+        self.map.clear();
+    }
+
+    /// Whether there is no element.
+    #[inline]
+    pub fn is_empty(&self) -> bool
+        ensures { result ≡ (length (pairs_of self.now) == 0) }
+    {
+        self.map.is_empty()
+    }
+
+    /// How many elements there are.
+    #[inline]
+    pub fn len(&self) -> usize
+        ensures len { result ≡ length (pairs_of self.now) }
+        ensures distinct { HasDistinctKeys T.eq (pairs_of self.now) }
+    {
+        self.map.len()
+    }
+
+    /// Whether the set has the element.
+    #[inline]
+    pub fn contains<Q: KeyQuery<T>>(&self, query: &Q) -> bool
+        ensures { result ≡ has (Q.equivalent query.now) self.now }
+    {
+        self.map.contains_key(query)
+    }
+
+    /// Whether the set has the element, and this is its own hash.
+    #[inline]
+    pub fn contains_hashed<Q: Equivalent<T>>(&self, element: Hashed<&Q>) -> bool
+        ensures { result ≡ has (under_own T.hash_input (hash_of element.entry) (Q.equivalent (key_of element.entry).now)) self.now }
+    {
+        self.map.contains_key_hashed(element)
+    }
+
+    /// The elements in ascending order. Refused only for want of memory.
+    pub fn entries_sorted(&self) -> Result<Vec<&T>, AllocError>
+    where
+        T: Ord,
+        ensures elements { IfOk result (λ entries. IsPermutation (elements_of self.now) (map deref entries.items)) }
+        ensures ascends { IfOk result (λ entries. IsSortedByKey (λ entry. entry.now) T.cmp entries.items) }
+    {
+        let mut entries = Vec::from_iter(self.alloc, self.map.keys_unordered())?;
+        entries.sort_by(
+            |a: &&T, b: &&T| -> Ordering
+                ensures { result ≡ T.cmp a.entry.now.now b.entry.now.now }
+            { (*a).cmp(*b) },
+        )?;
+        Ok(entries)
+    }
+}
+
+impl<T: Eq + Hash + Clone> UnorderedSet<T> {
+    /// A set of clones of the elements, with as much room. Where memory is refused, also to the clone of an element,
+    /// nothing is made.
+    pub fn clone(&self) -> Result<Self, AllocError>
+        // A clone of an element is equal to it.
+        requires { IsEqualClone T.eq T.is_clone }
+        ensures same { IfOk result (λ s. IsLawfulClone T.is_clone → pairs_of s ≡ pairs_of self.now) }
+        ensures room { IfOk result (λ s. s.room ≡ self.now.room) }
+    {
+        Ok(UnorderedSet {
+            map: self.map.clone()?,
+            alloc: self.alloc,
+        })
+    }
+}
