@@ -1,6 +1,6 @@
 //! What one set has and another lacks, and what is in either.
 
-use crate::given::under;
+use crate::given::{holds, same, under};
 use starlark_sets::{SmallSet, smallset};
 use std::test::Fail;
 
@@ -9,13 +9,13 @@ fn joins_two_sets(rt: HostRuntime) -> Result<(), Fail> {
     let first = smallset![rt.alloc(); 1u32, 2, 3]?;
     let second = smallset![rt.alloc(); 2u32, 4, 1]?;
     let mut union = first.union(&second);
-    assert!(rt; union.size_hint() == (3, Some(6)));
+    holds(&rt, union.size_hint() == (3, Some(6)));
     let mut wanted = 1u32;
     for element in union {
-        assert_eq!(rt; *element, wanted);
+        same(&rt, *element, wanted);
         wanted = wanted.wrapping_add(1);
     }
-    assert_eq!(rt; wanted, 5);
+    same(&rt, wanted, 5);
     Ok(())
 }
 
@@ -24,8 +24,8 @@ fn takes_one_set_from_another(rt: HostRuntime) -> Result<(), Fail> {
     let first = smallset![rt.alloc(); 1u32, 2, 3]?;
     let second = smallset![rt.alloc(); 2u32, 4, 1]?;
     let mut rest = first.difference(&second);
-    assert!(rt; rest.next() == Some(&3));
-    assert!(rt; rest.next() == None);
+    holds(&rt, rest.next() == Some(&3));
+    holds(&rt, rest.next() == None);
     Ok(())
 }
 
@@ -34,11 +34,11 @@ fn bounds_what_is_left(rt: HostRuntime) -> Result<(), Fail> {
     let first = smallset![rt.alloc(); 1u32, 2, 3]?;
     let two = smallset![rt.alloc(); 2u32]?;
     let mut rest = first.difference(&two);
-    assert!(rt; rest.size_hint() == (2, Some(3)));
-    assert!(rt; rest.next() == Some(&1));
-    assert!(rt; rest.size_hint() == (1, Some(2)));
-    assert!(rt; rest.next() == Some(&3));
-    assert!(rt; rest.size_hint() == (0, Some(0)));
+    holds(&rt, rest.size_hint() == (2, Some(3)));
+    holds(&rt, rest.next() == Some(&1));
+    holds(&rt, rest.size_hint() == (1, Some(2)));
+    holds(&rt, rest.next() == Some(&3));
+    holds(&rt, rest.size_hint() == (0, Some(0)));
     Ok(())
 }
 
@@ -47,8 +47,8 @@ fn looks_under_the_stored_hash(rt: HostRuntime) -> Result<(), Fail> {
     let five = SmallSet::from_iter_hashed(rt.alloc(), [under(5, 7u32)])?;
     let also = SmallSet::from_iter_hashed(rt.alloc(), [under(5, 7u32)])?;
     let six = SmallSet::from_iter_hashed(rt.alloc(), [under(6, 7u32)])?;
-    assert!(rt; five.difference(&also).next() == None);
-    assert!(rt; five.difference(&six).next() == Some(&7));
-    assert_eq!(rt; five.union(&six).count(), 2);
+    holds(&rt, five.difference(&also).next() == None);
+    holds(&rt, five.difference(&six).next() == Some(&7));
+    same(&rt, five.union(&six).count(), 2);
     Ok(())
 }

@@ -1,5 +1,6 @@
 //! Sets that are written out, made of items, copied, compared and printed.
 
+use crate::given::{holds, same};
 use starlark_sets::{SmallSet, smallset};
 use std::test::Fail;
 
@@ -7,23 +8,23 @@ use std::test::Fail;
 fn writes_a_set_out(rt: HostRuntime) -> Result<(), Fail> {
     let set = smallset![rt.alloc(); 1u32, 4, 2]?;
     let mut walk = set.iter();
-    assert!(rt; walk.next() == Some(&1));
-    assert!(rt; walk.next() == Some(&4));
-    assert!(rt; walk.next() == Some(&2));
-    assert!(rt; walk.next() == None);
+    holds(&rt, walk.next() == Some(&1));
+    holds(&rt, walk.next() == Some(&4));
+    holds(&rt, walk.next() == Some(&2));
+    holds(&rt, walk.next() == None);
     Ok(())
 }
 
 #[test]
 fn looks_letters_up(rt: HostRuntime) -> Result<(), Fail> {
     let set = SmallSet::from_iter(rt.alloc(), 'a'..='z')?;
-    assert!(rt; set.get(&'b') == Some(&'b'));
-    assert_eq!(rt; set.get_index_of(&'b'), Some(1));
-    assert!(rt; set.get(&'!') == None);
+    holds(&rt, set.get(&'b') == Some(&'b'));
+    same(&rt, set.get_index_of(&'b'), Some(1));
+    holds(&rt, set.get(&'!') == None);
     let mut turned = set.clone()?;
     turned.reverse();
-    assert!(rt; turned == set);
-    assert!(rt; !turned.eq_ordered(&set));
+    holds(&rt, turned == set);
+    holds(&rt, !turned.eq_ordered(&set));
     Ok(())
 }
 
@@ -31,11 +32,11 @@ fn looks_letters_up(rt: HostRuntime) -> Result<(), Fail> {
 fn takes_more_items(rt: HostRuntime) -> Result<(), Fail> {
     let mut set = smallset![rt.alloc(); 3u32]?;
     set.extend([1u32, 3, 2])?;
-    assert_eq!(rt; set.len(), 3);
-    assert!(rt; set.pop() == Some(2));
+    same(&rt, set.len(), 3);
+    holds(&rt, set.pop() == Some(2));
     let mut elements = set.into_iter();
-    assert!(rt; elements.next_back() == Some(1));
-    assert!(rt; elements.next() == Some(3));
+    holds(&rt, elements.next_back() == Some(1));
+    holds(&rt, elements.next() == Some(3));
     Ok(())
 }
 
@@ -43,7 +44,7 @@ fn takes_more_items(rt: HostRuntime) -> Result<(), Fail> {
 fn prints_as_a_set(rt: HostRuntime) -> Result<(), Fail> {
     let alloc = rt.alloc();
     let set = smallset![alloc; 1u32, 2]?;
-    assert_eq!(rt; format!(in alloc; "{set:?}")?.as_str(), "{1, 2}");
+    same(&rt, format!(in alloc; "{set:?}")?.as_str(), "{1, 2}");
     Ok(())
 }
 
@@ -51,8 +52,8 @@ fn prints_as_a_set(rt: HostRuntime) -> Result<(), Fail> {
 fn retains_even_elements(rt: HostRuntime) -> Result<(), Fail> {
     let mut set = smallset![rt.alloc(); 1u32, 4, 2]?;
     set.retain(|element| *element % 2 == 0);
-    assert!(rt; set.first() == Some(&4));
-    assert!(rt; set.last() == Some(&2));
-    assert_eq!(rt; set.len(), 2);
+    holds(&rt, set.first() == Some(&4));
+    holds(&rt, set.last() == Some(&2));
+    same(&rt, set.len(), 2);
     Ok(())
 }
