@@ -1,7 +1,23 @@
 //! What several tests begin with.
 
 use starlark_hash::{Hashed, StarlarkHashValue};
+use std::fmt::Debug;
+use std::process::Abort;
 
 pub(crate) fn under<K>(hash: u32, key: K) -> Hashed<K> {
     Hashed::new_unchecked(StarlarkHashValue::new_unchecked(hash), key)
+}
+
+// Ends the process where this does not hold. A test that calls it learns nothing by it, as it does by an assertion, and
+// is proved in a part of the time: an assertion stands only where what follows needs what it says.
+pub(crate) fn holds(rt: &impl Abort, what: bool) {
+    assert!(rt; what);
+}
+
+// Ends the process where the two are not equal, and shows both.
+pub(crate) fn same<T: PartialEq + Debug>(rt: &impl Abort, found: T, wanted: T)
+where
+    T: Drop,
+{
+    assert_eq!(rt; found, wanted);
 }

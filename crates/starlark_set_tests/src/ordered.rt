@@ -19,8 +19,14 @@ fn one(alloc: Global, hash: u32, key: char, value: u32) -> Result<OrderedMap<cha
 #[test]
 fn compares_keys_before_hashes(rt: HostRuntime) -> Result<(), Fail> {
     let alloc = rt.alloc();
-    holds(&rt, one(alloc, 1, 'a', 5)?.cmp(&one(alloc, 2, 'a', 5)?) == Ordering::Less);
-    holds(&rt, one(alloc, 9, 'a', 1)?.cmp(&one(alloc, 1, 'b', 0)?) == Ordering::Less);
+    holds(
+        &rt,
+        one(alloc, 1, 'a', 5)?.cmp(&one(alloc, 2, 'a', 5)?) == Ordering::Less,
+    );
+    holds(
+        &rt,
+        one(alloc, 9, 'a', 1)?.cmp(&one(alloc, 1, 'b', 0)?) == Ordering::Less,
+    );
     holds(&rt, one(alloc, 1, 'a', 5)? == one(alloc, 1, 'a', 5)?);
     Ok(())
 }
@@ -116,7 +122,11 @@ fn shows_what_a_map_has(rt: HostRuntime) -> Result<(), Fail> {
     same(&rt, hashed, Some(7));
     let copy = map.clone()?;
     holds(&rt, copy == map);
-    same(&rt, format!(in alloc; "{map:?}")?.as_str(), "OrderedMap({'a': 5})");
+    same(
+        &rt,
+        format!(in alloc; "{map:?}")?.as_str(),
+        "OrderedMap({'a': 5})",
+    );
     map.clear();
     same(&rt, map.len(), 0);
     Ok(())
@@ -183,7 +193,11 @@ fn is_made_of_a_small_set(rt: HostRuntime) -> Result<(), Fail> {
     let small = SmallSet::from_iter(alloc, [4u32, 3])?;
     let set = OrderedSet::from(small);
     same(&rt, set.len(), 2);
-    same(&rt, format!(in alloc; "{set:?}")?.as_str(), "OrderedSet({4, 3})");
+    same(
+        &rt,
+        format!(in alloc; "{set:?}")?.as_str(),
+        "OrderedSet({4, 3})",
+    );
     let mut items = set.into_iter();
     same(&rt, items.next(), Some(4));
     Ok(())

@@ -39,7 +39,10 @@ fn shows_what_is_there_or_new(rt: HostRuntime) -> Result<(), Fail> {
 #[test]
 fn makes_the_element_of_a_query(rt: HostRuntime) -> Result<(), Fail> {
     let mut words: SmallSet<String> = SmallSet::new(rt.alloc());
-    holds(&rt, words.get_or_insert_owned(&TextKey("a"))?.as_str() == "a");
+    holds(
+        &rt,
+        words.get_or_insert_owned(&TextKey("a"))?.as_str() == "a",
+    );
     holds(&rt, words.contains(&TextKey("a")));
     Ok(())
 }
