@@ -1,5 +1,5 @@
 -- The runs of an iterator that gives each item beside `()` are runs of the one inside.
-use Rattle.std.proofs.Common.{◌≡◌, ℕ, Bool, List, [], ◌∷◌, ◌++◌, map, Option, Some, None, Result, Ok, Err, refl, sym, ap, subst, ◌∙◌}
+use Rattle.std.proofs.Common.{◌≡◌, Bool, List, [], ◌∷◌, ◌++◌, map, Option, Result, Ok, Err, refl, sym, ap, subst, ◌∙◌}
 use Rattle.std.specs.Iterator.{Count, Drains, Yields}
 use Rattle.starlark_hash.specs.Entries.{Entry}
 use Rattle.starlark_small.specs.Collect.{Collects, Extends, Inserts, insert_all}

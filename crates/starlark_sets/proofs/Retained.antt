@@ -1,5 +1,5 @@
 -- What one closure's calls retain of a list is what another's retain, of which each of them is a call.
-use Rattle.std.proofs.Common.{◌≡◌, Bool, List, [], ◌∷◌, ap}
+use Rattle.std.proofs.Common.{Bool, List, [], ◌∷◌, ap}
 use Rattle.std.specs.List.{FoldsTo}
 use Rattle.starlark_vec2.specs.Retain.{Retains, TakesInTurn, MayLeave}
 
