@@ -29,6 +29,28 @@ fn looks_letters_up(rt: HostRuntime) -> Result<(), Fail> {
 }
 
 #[test]
+fn tells_sets_apart(rt: HostRuntime) -> Result<(), Fail> {
+    let set = smallset![rt.alloc(); 0u32, 1]?;
+    let turned = smallset![rt.alloc(); 1u32, 0]?;
+    let one = smallset![rt.alloc(); 1u32]?;
+    holds(&rt, set == turned);
+    holds(&rt, !set.eq_ordered(&turned));
+    holds(&rt, set != one);
+    Ok(())
+}
+
+#[test]
+fn lacks_a_letter(rt: HostRuntime) -> Result<(), Fail> {
+    let letters = SmallSet::from_iter(rt.alloc(), 'a'..='z')?;
+    same(&rt, letters.get_index_of(&'!'), None);
+    let mut fewer = letters.clone()?;
+    holds(&rt, fewer.shift_remove(&'a'));
+    holds(&rt, letters != fewer);
+    same(&rt, (letters.len(), fewer.len()), (26, 25));
+    Ok(())
+}
+
+#[test]
 fn takes_more_items(rt: HostRuntime) -> Result<(), Fail> {
     let mut set = smallset![rt.alloc(); 3u32]?;
     set.extend([1u32, 3, 2])?;

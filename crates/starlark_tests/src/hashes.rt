@@ -19,9 +19,17 @@ fn after_bytes(bytes: &[u8]) -> u64 {
 #[test]
 fn hashes_bytes(rt: HostRuntime) -> Result<(), Fail> {
     same(&rt, after_bytes([].as_slice()), 0);
-    same(&rt, after_bytes([1, 0, 0, 0, 0, 0, 0, 0].as_slice()), 0x517cc1b727220a95);
+    same(
+        &rt,
+        after_bytes([1, 0, 0, 0, 0, 0, 0, 0].as_slice()),
+        0x517cc1b727220a95,
+    );
     // Three words: 0, 0, 1.
-    same(&rt, after_bytes([0, 0, 0, 0, 0, 0, 1].as_slice()), 0x517cc1b727220a95);
+    same(
+        &rt,
+        after_bytes([0, 0, 0, 0, 0, 0, 1].as_slice()),
+        0x517cc1b727220a95,
+    );
     // Four words: of 8, 4, 2 and 1 bytes.
     let fifteen = [1, 2, 3, 4, 5, 6, 7, 8, 9, 10, 11, 12, 13, 14, 15];
     same(&rt, after_bytes(fifteen.as_slice()), 0x6e8b5d1d34f08a49);
@@ -58,7 +66,11 @@ fn mixes_numbers(rt: HostRuntime) -> Result<(), Fail> {
         (1, 0x9e3779b97f4a7c15),
         (4294967295, 0xe113025b80b583eb),
     ] {
-        same(&rt, StarlarkHashValue::new_unchecked(hash).promote(), promoted);
+        same(
+            &rt,
+            StarlarkHashValue::new_unchecked(hash).promote(),
+            promoted,
+        );
     }
     for (number, mixed) in [(0, 0), (1, 0x34c2cb2c)] {
         same(&rt, StarlarkHashValue::hash_64(number).get(), mixed);
@@ -74,7 +86,10 @@ fn finds_by_text(rt: HostRuntime) -> Result<(), Fail> {
     same(&rt, stored.hash().get(), 0xb3496140);
     holds(&rt, query.equivalent(stored.key()));
     holds(&rt, !TextKey("kez").equivalent(stored.key()));
-    holds(&rt, StarlarkHashValue::new(&1u32) == StarlarkHashValue::new_unchecked(0x27220a95));
+    holds(
+        &rt,
+        StarlarkHashValue::new(&1u32) == StarlarkHashValue::new_unchecked(0x27220a95),
+    );
     hash_value::equal_keys_have_one_hash(stored.key(), stored.key());
     key_query::query_has_the_hash_of_its_key(&query, stored.key());
     hash_value::promotion_is_injective(stored.hash(), stored.hash());
@@ -90,7 +105,11 @@ fn compares_keys_and_then_hashes(rt: HostRuntime) -> Result<(), Fail> {
     holds(&rt, under(1, "a") != under(1, "b"));
     holds(&rt, under(1, "a") == under(1, "a"));
     // The hash of 1 as one u32.
-    same(&rt, StarlarkHashValue::new(&under(1, "a")).get(), 0x27220a95);
+    same(
+        &rt,
+        StarlarkHashValue::new(&under(1, "a")).get(),
+        0x27220a95,
+    );
     Ok(())
 }
 
@@ -104,7 +123,10 @@ fn shows_and_changes_keys(rt: HostRuntime) -> Result<(), Fail> {
     let shown = format!(in rt.alloc(); "{copy}")?;
     holds(&rt, shown.as_str() == "6");
     let debug = format!(in rt.alloc(); "{copy:?}")?;
-    holds(&rt, debug.as_str() == "Hashed { hash: StarlarkHashValue(7), key: 6 }");
+    holds(
+        &rt,
+        debug.as_str() == "Hashed { hash: StarlarkHashValue(7), key: 6 }",
+    );
     same(&rt, copy.into_key(), 6);
     Ok(())
 }
@@ -134,8 +156,16 @@ fn clones_and_makes_keys(rt: HostRuntime) -> Result<(), Fail> {
     let query = TextKey("key");
     let made = Hashed::new(query).as_ref().owned(rt.alloc())?;
     holds(&rt, made == stored);
-    same(&rt, Hashed::new(3u32).as_ref().owned(rt.alloc())?.into_key(), 3);
-    same(&rt, Hashed::new(-3i64).as_ref().owned(rt.alloc())?.into_key(), -3);
+    same(
+        &rt,
+        Hashed::new(3u32).as_ref().owned(rt.alloc())?.into_key(),
+        3,
+    );
+    same(
+        &rt,
+        Hashed::new(-3i64).as_ref().owned(rt.alloc())?.into_key(),
+        -3,
+    );
     let refused = Hashed::new_unchecked(StarlarkHashValue::new_unchecked(0), Refused);
     holds(&rt, refused.as_ref().cloned().is_err());
     holds(&rt, refused.as_ref().owned(rt.alloc()).is_err());

@@ -84,8 +84,16 @@ fn ends_of_a_list(rt: HostRuntime) -> Result<(), Fail> {
     holds(&rt, list.last().is_none());
     list.push(1u32, 2u32)?;
     list.push(3, 4)?;
-    same(&rt, list.first().map(|pair| (*pair.0, *pair.1)), Some((1, 2)));
-    same(&rt, list.last().map(|pair| (*pair.0, *pair.1)), Some((3, 4)));
+    same(
+        &rt,
+        list.first().map(|pair| (*pair.0, *pair.1)),
+        Some((1, 2)),
+    );
+    same(
+        &rt,
+        list.last().map(|pair| (*pair.0, *pair.1)),
+        Some((3, 4)),
+    );
     same(&rt, list.pop(), Some((3, 4)));
     same(&rt, list.pop(), Some((1, 2)));
     same(&rt, list.pop(), None);
@@ -178,7 +186,11 @@ fn removals_and_turns(rt: HostRuntime) -> Result<(), Fail> {
     list.clear();
     same(&rt, list.capacity(), 4);
     holds(&rt, copy != list);
-    same(&rt, format!(in rt.alloc(); "{copy:?}")?.as_str(), "[(5, 6), (3, 4)]");
+    same(
+        &rt,
+        format!(in rt.alloc(); "{copy:?}")?.as_str(),
+        "[(5, 6), (3, 4)]",
+    );
     Ok(())
 }
 
@@ -324,9 +336,17 @@ fn values_are_written_in_their_places(rt: HostRuntime) -> Result<(), Fail> {
     }
     let keys = [Some(0), Some(4), Some(1), Some(3), Some(2), None, None];
     same(&rt, add_tens(&mut list), keys);
-    same(&rt, list.firsts(), [(0, 10), (1, 11), (2, 12), (3, 13), (4, 14)].as_slice());
+    same(
+        &rt,
+        list.firsts(),
+        [(0, 10), (1, 11), (2, 12), (3, 13), (4, 14)].as_slice(),
+    );
     same(&rt, write_values(&mut list), 3);
-    same(&rt, list.firsts(), [(0, 6), (1, 7), (2, 7), (3, 7), (4, 8)].as_slice());
+    same(
+        &rt,
+        list.firsts(),
+        [(0, 6), (1, 7), (2, 7), (3, 7), (4, 8)].as_slice(),
+    );
     same(&rt, list.seconds(), [0, 1, 2, 3, 4].as_slice());
     same(&rt, list.capacity(), 8);
     Ok(())

@@ -78,7 +78,11 @@ fn thins(rt: &impl Abort, alloc: Global, hash: u64) -> Result<(), Fail> {
         }
     }
     for item in 0u32..1000 {
-        same(rt, table.find(hash, |other| *other == item).is_some(), item % 2 == 1);
+        same(
+            rt,
+            table.find(hash, |other| *other == item).is_some(),
+            item % 2 == 1,
+        );
     }
     Ok(())
 }

@@ -58,17 +58,32 @@ fn looks_texts_up(rt: HostRuntime) -> Result<(), Fail> {
     for (hash, value) in [(1, 10), (2, 20), (1, 30)] {
         map.insert_hashed_unique_unchecked(under(hash, value.to_string(alloc)?), value)?;
     }
-    same(&rt, map.get_index_of_hashed(under(1, &TextKey("30"))), Some(2));
+    same(
+        &rt,
+        map.get_index_of_hashed(under(1, &TextKey("30"))),
+        Some(2),
+    );
     same(&rt, map.get_index_of_hashed(under(2, &TextKey("30"))), None);
     holds(&rt, map.get_index(1).map(|pair| *pair.1) == Some(20));
     holds(&rt, map.get_index(3).is_none());
     if map.len() > 2 {
         let (key, value) = map.get_unchecked(2);
-        same(&rt, (key.hash().get(), key.key().as_str(), *value), (1, "30", 30));
+        same(
+            &rt,
+            (key.hash().get(), key.key().as_str(), *value),
+            (1, "30", 30),
+        );
         let (key, value) = map.remove(0);
-        same(&rt, (key.hash().get(), key.key().as_str(), value), (1, "10", 10));
+        same(
+            &rt,
+            (key.hash().get(), key.key().as_str(), value),
+            (1, "10", 10),
+        );
     }
-    holds(&rt, map.remove_hashed_entry(under(1, &TextKey("10"))).is_none());
+    holds(
+        &rt,
+        map.remove_hashed_entry(under(1, &TextKey("10"))).is_none(),
+    );
     same(&rt, map.len(), 2);
     Ok(())
 }
@@ -162,7 +177,11 @@ fn writes_values(rt: HostRuntime) -> Result<(), Fail> {
     if let Some((key, value)) = pairs.next_back() {
         *value = key.wrapping_add(96);
     }
-    same(&rt, pairs.next().map(|pair| (*pair.0, *pair.1)), Some((0, 0)));
+    same(
+        &rt,
+        pairs.next().map(|pair| (*pair.0, *pair.1)),
+        Some((0, 0)),
+    );
     same(&rt, pairs.len(), 3);
     let mut values = map.values_mut();
     same(&rt, values.next_back().copied(), Some(100));
@@ -198,7 +217,11 @@ fn sorts_and_takes_out(rt: HostRuntime) -> Result<(), Fail> {
     holds(&rt, !map.is_sorted_by_key());
     map.sort_keys()?;
     holds(&rt, map.is_sorted_by_key());
-    same(&rt, map.remove_hashed_entry(under(8, 5).as_ref()), Some((5, 1)));
+    same(
+        &rt,
+        map.remove_hashed_entry(under(8, 5).as_ref()),
+        Some((5, 1)),
+    );
     same(&rt, map.pop(), Some((under(8, 5), 3)));
     same(&rt, map.len(), 1);
     Ok(())
