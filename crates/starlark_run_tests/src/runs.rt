@@ -25,7 +25,7 @@ fn runs_commands(rt: HostRuntime) -> Result<(), Fail> {
         commands,
         |key, value| key ^ value,
     )?;
-    same(&rt, replies.len(), 6);
+    assert_eq!(rt; replies.len(), 6);
     holds(&rt, matches!(&replies[0], Reply::Old(None)));
     holds(&rt, matches!(&replies[1], Reply::Old(None)));
     holds(&rt, matches!(&replies[2], Reply::Old(Some(20))));
@@ -57,7 +57,7 @@ fn runs_all_commands(rt: HostRuntime) -> Result<(), Fail> {
         Command::Clear,
     ]?;
     let replies: Vec<Reply<u32, u32, u32>> = run(alloc, &mut map, commands, |_, value| *value)?;
-    same(&rt, replies.len(), 15);
+    assert_eq!(rt; replies.len(), 15);
     holds(&rt, matches!(&replies[2], Reply::Done));
     holds(&rt, matches!(&replies[3], Reply::Shown(Some(2))));
     holds(&rt, matches!(&replies[4], Reply::Shown(Some(1))));
@@ -93,7 +93,7 @@ fn refusals_leave_the_list(rt: HostRuntime) -> Result<(), Fail> {
     );
     let done = match outcome {
         Ok(replies) => {
-            same(&rt, replies.len(), 1);
+            assert_eq!(rt; replies.len(), 1);
             match &replies[0] {
                 Reply::Refused(key, value) => {
                     same(&rt, (*key.key(), *value), (8, 80));
@@ -184,7 +184,7 @@ fn replies_agree_on_two_maps(rt: HostRuntime) -> Result<(), Fail> {
     let (replies, others) = replies_agree(
         alloc, &mut long, &mut short, commands, again, value_of, value_of,
     )?;
-    same(&rt, (replies.len(), others.len()), (4, 4));
+    assert_eq!(rt; (replies.len(), others.len()), (4, 4));
     holds(&rt, matches!(&replies[1], Reply::Found(Some((2, 30)))));
     holds(&rt, matches!(&others[1], Reply::Found(Some((2, 30)))));
     holds(&rt, long == short);

@@ -56,7 +56,7 @@ fn feeds_length_and_sum(rt: HostRuntime) -> Result<(), Fail> {
 fn sorts_entries(rt: HostRuntime) -> Result<(), Fail> {
     let map = map_of(rt.alloc(), [(1, 2), (5, 6), (3, 4)])?;
     let entries = map.entries_sorted()?;
-    same(&rt, entries.len(), 3);
+    assert_eq!(rt; entries.len(), 3);
     holds(&rt, entries[0] == (&1, &2));
     holds(&rt, entries[1] == (&3, &4));
     holds(&rt, entries[2] == (&5, &6));
