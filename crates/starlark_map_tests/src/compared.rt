@@ -1,69 +1,86 @@
 //! Maps compared, fed to a hasher and printed.
 
 use crate::given::{holds, same, under};
-use starlark_hash::StarlarkHasher;
+use starlark_hash::{NoRoom, StarlarkHasher};
 use starlark_small::SmallMap;
 use std::alloc::Global;
 use std::hash::Hasher;
 use std::test::Fail;
 
-fn letters<const N: usize>(
-    alloc: Global,
-    rows: [(u32, char); N],
-) -> Result<SmallMap<u32, char>, Fail> {
+type Letters = SmallMap<u32, char>;
+
+fn letters(alloc: Global, rows: &[(u32, char)]) -> Result<Letters, NoRoom<(u32, char)>> {
     let mut map = SmallMap::new(alloc);
-    for (key, letter) in rows {
-        map.insert(key, letter)?;
+    for row in rows {
+        map.insert(row.0, row.1)?;
     }
     Ok(map)
 }
 
+// Whether a map equals the one of these rows, without regard to the order and with it; none without memory.
+fn equals(map: &Letters, alloc: Global, rows: &[(u32, char)]) -> Option<(bool, bool)> {
+    match letters(alloc, rows) {
+        Ok(other) => Some((*map == other, map.eq_ordered(&other))),
+        Err(_) => None,
+    }
+}
+
 #[test]
 fn compares_with_and_without_order(rt: HostRuntime) -> Result<(), Fail> {
-    let map = letters(rt.alloc(), [(0, 'a'), (1, 'b')])?;
-    let turned = letters(rt.alloc(), [(1, 'b'), (0, 'a')])?;
-    holds(&rt, map == turned);
-    holds(&rt, !map.eq_ordered(&turned));
-    holds(&rt, map.eq_ordered(&map));
-    holds(&rt, map != letters(rt.alloc(), [(0, 'a'), (1, 'c')])?);
-    holds(&rt, map != letters(rt.alloc(), [(0, 'a')])?);
+    let alloc = rt.alloc();
+    let map = letters(alloc, &[(0, 'a'), (1, 'b')])?;
+    let same_order = equals(&map, alloc, &[(0, 'a'), (1, 'b')]);
+    same(&rt, same_order, Some((true, true)));
+    let turned = equals(&map, alloc, &[(1, 'b'), (0, 'a')]);
+    same(&rt, turned, Some((true, false)));
+    let other_value = equals(&map, alloc, &[(0, 'a'), (1, 'c')]);
+    same(&rt, other_value, Some((false, false)));
+    let shorter = equals(&map, alloc, &[(0, 'a')]);
+    same(&rt, shorter, Some((false, false)));
     Ok(())
+}
+
+fn one_under_seven(alloc: Global, key: char) -> Result<SmallMap<char, u32>, Fail> {
+    let mut map = SmallMap::new(alloc);
+    map.insert_hashed(under(7, key), 1)?;
+    Ok(map)
+}
+
+fn fed(map: &SmallMap<char, u32>) -> u64 {
+    let mut hasher = StarlarkHasher::new();
+    map.hash_ordered(&mut hasher);
+    hasher.finish()
 }
 
 // Neither keys nor a length are fed.
 #[test]
 fn feeds_hashes_and_values(rt: HostRuntime) -> Result<(), Fail> {
-    let mut fed: [u64; 2] = [0, 0];
-    let mut a: SmallMap<char, u32> = SmallMap::new(rt.alloc());
-    a.insert_hashed(under(7, 'a'), 1)?;
-    let mut b: SmallMap<char, u32> = SmallMap::new(rt.alloc());
-    b.insert_hashed(under(7, 'b'), 1)?;
-    let mut hasher = StarlarkHasher::new();
-    a.hash_ordered(&mut hasher);
-    fed[0] = hasher.finish();
-    let mut hasher = StarlarkHasher::new();
-    b.hash_ordered(&mut hasher);
-    fed[1] = hasher.finish();
-    same(&rt, fed[0], fed[1]);
+    let a = one_under_seven(rt.alloc(), 'a')?;
+    let b = one_under_seven(rt.alloc(), 'b')?;
     let mut by_hand = StarlarkHasher::new();
     by_hand.write_u32(7);
     by_hand.write_u32(1);
-    same(&rt, fed[0], by_hand.finish());
+    same(
+        &rt,
+        (fed(&a), fed(&b)),
+        (by_hand.finish(), by_hand.finish()),
+    );
     holds(&rt, a != b);
     holds(&rt, !a.eq_ordered(&b));
     Ok(())
 }
 
-#[test]
-fn prints_as_a_map(rt: HostRuntime) -> Result<(), Fail> {
-    let alloc = rt.alloc();
-    let mut map: SmallMap<u32, &str> = SmallMap::new(alloc);
+fn two_words(alloc: Global) -> Result<SmallMap<u32, &'static str>, Fail> {
+    let mut map = SmallMap::new(alloc);
     map.insert(1, "test")?;
     map.insert(2, "more")?;
-    same(
-        &rt,
-        format!(in alloc; "{map:?}")?.as_str(),
-        "{1: \"test\", 2: \"more\"}",
-    );
+    Ok(map)
+}
+
+#[test]
+fn prints_as_a_map(rt: HostRuntime) -> Result<(), Fail> {
+    let map = two_words(rt.alloc())?;
+    let text = format!(in rt.alloc(); "{map:?}")?;
+    same(&rt, text.as_str(), "{1: \"test\", 2: \"more\"}");
     Ok(())
 }

@@ -1,45 +1,76 @@
 //! Maps that are long enough for an index: values from outside, and what a refused request leaves.
 
-use crate::given::{holds, same, tens, under};
+use crate::given::{
+    Numbers, at, holds, place, popped, put, removed_at, rows, same, size, sort, tens, turn, under,
+};
 use starlark_hash::{NoRoom, StarlarkHashValue, TextKey};
 use starlark_small::SmallMap;
+use std::alloc::Global;
 use std::test::Fail;
 
-#[test]
-fn stands_under_hash_and_key_after_many(rt: HostRuntime) -> Result<(), Fail> {
-    let alloc = rt.alloc();
-    let mut map: SmallMap<String, i64> = SmallMap::new(alloc);
+// The text x under the hashes 100 to 139, and then a under 1 and 2.
+fn many_texts(alloc: Global) -> Result<SmallMap<String, i64>, Fail> {
+    let mut map = SmallMap::new(alloc);
     for hash in 100..140 {
         map.insert_hashed(under(hash, "x".to_string(alloc)?), 0)?;
     }
-    map.insert_hashed(under(1, "a".to_string(alloc)?), 10)?;
-    map.insert_hashed(under(2, "a".to_string(alloc)?), 20)?;
-    holds(&rt, map.index().is_some());
-    same(&rt, map.len(), 42);
-    holds(&rt, map.get_hashed(under(1, &TextKey("a"))) == Some(&10));
-    holds(&rt, map.get_hashed(under(2, &TextKey("a"))) == Some(&20));
-    holds(&rt, map.get_hashed(under(3, &TextKey("a"))) == None);
-    holds(&rt, map.get_hashed(under(2, &TextKey("b"))) == None);
+    for (hash, value) in [(1, 10), (2, 20)] {
+        map.insert_hashed(under(hash, "a".to_string(alloc)?), value)?;
+    }
+    Ok(map)
+}
+
+#[test]
+fn stands_under_hash_and_key_after_many(rt: HostRuntime) -> Result<(), Fail> {
+    let map = many_texts(rt.alloc())?;
+    same(&rt, (map.len(), map.index().is_some()), (42, true));
+    for (hash, key, value) in [
+        (1, "a", Some(10)),
+        (2, "a", Some(20)),
+        (3, "a", None),
+        (2, "b", None),
+    ] {
+        let found = map.get_hashed(under(hash, &TextKey(key))).copied();
+        same(&rt, found, value);
+    }
     Ok(())
 }
 
 #[test]
 fn closes_the_places_behind_a_removal(rt: HostRuntime) -> Result<(), Fail> {
     let mut map = tens(rt.alloc(), 100)?;
-    holds(&rt, map.shift_remove_index(5) == Some((5, 50)));
-    holds(&rt, map.get(&4u32) == Some(&40));
-    holds(&rt, map.get(&5u32) == None);
-    holds(&rt, map.get(&6u32) == Some(&60));
-    holds(&rt, map.get(&99u32) == Some(&990));
-    same(&rt, map.get_index_of(&99u32), Some(98));
-    map.reverse();
-    same(&rt, map.get_index_of(&99u32), Some(0));
-    map.sort_keys()?;
-    same(&rt, map.get_index_of(&99u32), Some(98));
+    same(&rt, removed_at(&mut map, 5), Some((5, 50)));
+    same(&rt, at(&map, 4), Some(40));
+    same(&rt, at(&map, 5), None);
+    same(&rt, at(&map, 6), Some(60));
+    same(&rt, at(&map, 99), Some(990));
+    same(&rt, place(&map, 99), Some(98));
+    turn(&mut map);
+    same(&rt, place(&map, 99), Some(0));
+    holds(&rt, sort(&mut map));
+    same(&rt, place(&map, 99), Some(98));
     map.clear();
-    holds(&rt, map.index().is_some());
-    same(&rt, map.get_index_of(&99u32), None);
+    same(&rt, size(&map), (0, true));
+    same(&rt, place(&map, 99), None);
     Ok(())
+}
+
+// Drops the index of a map of at most 32 entries.
+fn without_index(map: &mut Numbers) {
+    map.maybe_drop_index();
+}
+
+// Puts a key that is new to a list of 32. Where that is refused, the pair comes back and nothing has changed, and it is put again.
+fn put_at_last(map: &mut Numbers, key: u32, value: u32) -> bool {
+    match map.insert(key, value) {
+        Ok(old) => old.is_none(),
+        Err(NoRoom(refused)) => {
+            refused == (key, value)
+                && size(map) == (32, false)
+                && at(map, 31) == Some(310)
+                && put(map, key, value) == Some(None)
+        }
+    }
 }
 
 // Holds whichever request for memory is refused, but for those of the first 33 insertions.
@@ -47,20 +78,12 @@ fn closes_the_places_behind_a_removal(rt: HostRuntime) -> Result<(), Fail> {
 fn refused_index_leaves_the_list(rt: HostRuntime) -> Result<(), Fail> {
     let mut map = tens(rt.alloc(), 33)?;
     same(&rt, map.capacity(), 64);
-    holds(&rt, map.pop() == Some((32, 320)));
-    map.maybe_drop_index();
-    holds(&rt, map.index().is_none());
-    same(&rt, (map.len(), map.room()), (32, 0));
-    if let Err(NoRoom(refused)) = map.insert(100, 1) {
-        same(&rt, refused, (100, 1));
-        same(&rt, map.len(), 32);
-        holds(&rt, map.index().is_none());
-        holds(&rt, map.get_index(31) == Some((&31, &310)));
-        same(&rt, map.insert(100, 1)?, None);
-    }
-    same(&rt, map.len(), 33);
-    holds(&rt, map.index().is_some());
-    holds(&rt, map.get(&100u32) == Some(&1));
+    same(&rt, popped(&mut map), Some((32, 320)));
+    without_index(&mut map);
+    same(&rt, (size(&map), map.room()), ((32, false), 0));
+    holds(&rt, put_at_last(&mut map, 100, 1));
+    same(&rt, size(&map), (33, true));
+    same(&rt, at(&map, 100), Some(1));
     Ok(())
 }
 
@@ -68,45 +91,49 @@ fn refused_index_leaves_the_list(rt: HostRuntime) -> Result<(), Fail> {
 #[test]
 fn keeps_the_room_of_what_was_taken_out(rt: HostRuntime) -> Result<(), Fail> {
     let mut map = tens(rt.alloc(), 33)?;
-    holds(&rt, map.pop() == Some((32, 320)));
+    same(&rt, popped(&mut map), Some((32, 320)));
     holds(&rt, 0 < map.room());
-    same(&rt, map.insert(100, 1)?, None);
+    same(&rt, put(&mut map, 100, 1), Some(None));
     same(&rt, map.len(), 33);
     Ok(())
+}
+
+// Puts the keys below 32, and says whether each had room.
+fn fills(map: &mut Numbers) -> bool {
+    for key in 0..32 {
+        if map.insert(key, key).is_err() {
+            return false;
+        }
+    }
+    map.len() == 32
 }
 
 // Only the reservation asks for memory.
 #[test]
 fn reserves_an_index_for_forty(rt: HostRuntime) -> Result<(), Fail> {
-    let mut map: SmallMap<u32, u32> = SmallMap::with_capacity(rt.alloc(), 40)?;
-    holds(&rt, map.index().is_some());
+    let mut map: Numbers = SmallMap::with_capacity(rt.alloc(), 40)?;
+    same(&rt, size(&map), (0, true));
     holds(&rt, 40 <= map.room());
-    map.maybe_drop_index();
-    holds(&rt, map.index().is_none());
-    for key in 0..32 {
-        holds(&rt, map.insert(key, key).is_ok());
-    }
-    same(&rt, map.len(), 32);
+    without_index(&mut map);
+    same(&rt, size(&map), (0, false));
+    holds(&rt, fills(&mut map));
     Ok(())
 }
 
 // Only the reservation asks for memory.
 #[test]
 fn reserves_a_list_for_thirty_two(rt: HostRuntime) -> Result<(), Fail> {
-    let mut map: SmallMap<u32, u32> = SmallMap::with_capacity(rt.alloc(), 32)?;
-    holds(&rt, map.index().is_none());
-    for key in 0..32 {
-        holds(&rt, map.insert(key, key).is_ok());
-    }
-    same(&rt, map.len(), 32);
-    map.reserve(8)?;
-    holds(&rt, map.index().is_some());
+    let mut map: Numbers = SmallMap::with_capacity(rt.alloc(), 32)?;
+    same(&rt, size(&map), (0, false));
+    holds(&rt, fills(&mut map));
+    holds(&rt, map.reserve(8).is_ok());
+    same(&rt, size(&map), (32, true));
     holds(&rt, 8 <= map.room());
     Ok(())
 }
 
 // Asks a map about the keys of hashes 5 and 7, where the keys 1 and 3 stand under 5 and begin at a place.
-fn finds_by_hash(map: &SmallMap<u32, u32>, first: usize) -> bool {
+fn finds_by_hash(map: &Numbers, first: usize) -> bool {
     let mut calls = 0u32;
     let refused = map.find_by_hash(StarlarkHashValue::new_unchecked(5), |_| {
         calls = calls.wrapping_add(1);
@@ -125,19 +152,28 @@ fn finds_by_hash(map: &SmallMap<u32, u32>, first: usize) -> bool {
         && found == first.checked_add(2)
 }
 
-#[test]
-fn asks_about_the_keys_of_a_hash(rt: HostRuntime) -> Result<(), Fail> {
-    let alloc = rt.alloc();
-    let mut short: SmallMap<u32, u32> = SmallMap::new(alloc);
-    let mut long: SmallMap<u32, u32> = SmallMap::new(alloc);
+// Forty keys, each under itself, before the keys of hashes 5 and 6.
+fn forty_and_three(alloc: Global) -> Result<Numbers, Fail> {
+    let mut map = SmallMap::new(alloc);
     for key in 100..140 {
-        long.insert_hashed(under(key, key), key)?;
+        map.insert_hashed(under(key, key), key)?;
     }
     for (hash, key) in [(5, 1), (6, 2), (5, 3)] {
-        short.insert_hashed(under(hash, key), key)?;
-        long.insert_hashed(under(hash, key), key)?;
+        map.insert_hashed(under(hash, key), key)?;
     }
+    Ok(map)
+}
+
+#[test]
+fn asks_about_the_keys_of_a_hash(rt: HostRuntime) -> Result<(), Fail> {
+    let short = rows(rt.alloc(), &[(5, 1, 1), (6, 2, 2), (5, 3, 3)])?;
     holds(&rt, finds_by_hash(&short, 0));
+    Ok(())
+}
+
+#[test]
+fn asks_about_the_keys_of_a_hash_by_the_index(rt: HostRuntime) -> Result<(), Fail> {
+    let long = forty_and_three(rt.alloc())?;
     holds(&rt, finds_by_hash(&long, 40));
     Ok(())
 }

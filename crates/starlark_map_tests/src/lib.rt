@@ -16,8 +16,6 @@ mod maps;
 #[cfg(test)]
 mod new_entries;
 #[cfg(test)]
-mod retained;
-#[cfg(test)]
 mod turned;
 #[cfg(test)]
 mod walks;

@@ -1,16 +1,12 @@
 //! New entries at a concrete type: what is written behind the references, and what a refused request leaves.
 
-use crate::given::{holds, same, under};
+use crate::given::{Numbers, at_under, holds, same, size, under};
 use starlark_hash::{Hashed, NoRoom};
 use starlark_small::SmallMap;
 use std::test::Fail;
 
 // Puts a key that is new under its hash last, and writes its value behind the reference.
-fn add(
-    map: &mut SmallMap<u32, u32>,
-    key: Hashed<u32>,
-    next: u32,
-) -> Result<bool, NoRoom<(Hashed<u32>, u32)>> {
+fn add(map: &mut Numbers, key: Hashed<u32>, next: u32) -> Result<bool, NoRoom<(Hashed<u32>, u32)>> {
     if map.get_index_of_hashed(key.as_ref()).is_some() {
         return Ok(false);
     }
@@ -23,23 +19,34 @@ fn add(
     }
 }
 
+// Adds a key that is new. Where that is refused, the entry comes back and nothing has changed, and it is added again.
+fn add_at_last(map: &mut Numbers, key: u32, next: u32) -> bool {
+    let length = map.len();
+    match add(map, under(key % 3, key), next) {
+        Ok(is_new) => is_new,
+        Err(NoRoom((refused, value))) => {
+            (refused.into_key(), value) == (key, 0)
+                && map.len() == length
+                && add(map, under(key % 3, key), next).is_ok_and(|is_new| is_new)
+        }
+    }
+}
+
 // Holds whichever request for memory is refused. The list gets its index on the way.
 #[test]
 fn writes_new_entries(rt: HostRuntime) -> Result<(), Fail> {
-    let mut map: SmallMap<u32, u32> = SmallMap::new(rt.alloc());
-    for key in 0..40 {
-        if let Err(NoRoom((refused, value))) = add(&mut map, under(key % 3, key), 10 * key) {
-            same(&rt, (refused.into_key(), value), (key, 0));
-            same(&rt, map.len(), key as usize);
-            add(&mut map, under(key % 3, key), 10 * key)?;
-        }
+    let mut map: Numbers = SmallMap::new(rt.alloc());
+    for key in 0..40u32 {
+        holds(&rt, add_at_last(&mut map, key, key.wrapping_mul(10)));
     }
-    holds(&rt, map.index().is_some());
-    same(&rt, map.len(), 40);
-    holds(&rt, map.get_hashed(under(1, 31).as_ref()) == Some(&310));
-    holds(&rt, map.get_hashed(under(2, 31).as_ref()) == None);
+    same(&rt, size(&map), (40, true));
+    same(&rt, at_under(&map, 1, 31), Some(310));
+    same(&rt, at_under(&map, 2, 31), None);
     holds(&rt, map.get_index(39) == Some((&39, &390)));
-    same(&rt, add(&mut map, under(1, 31), 7)?, false);
+    holds(
+        &rt,
+        add(&mut map, under(1, 31), 7).is_ok_and(|is_new| !is_new),
+    );
     Ok(())
 }
 

@@ -1,16 +1,20 @@
-//! Maps that are popped, cut, sorted and turned round, short and long.
+//! Maps that are popped, cut, sorted, turned round and filtered, short and long.
 
-use crate::given::{holds, same, tens};
+use crate::given::{
+    Numbers, at, holds, pairs, place, popped, put, removed, same, size, sort, tens, turn,
+};
+use starlark_hash::TextKey;
 use starlark_small::SmallMap;
+use std::alloc::Global;
 use std::test::Fail;
 
 #[test]
 fn pops_down_to_none(rt: HostRuntime) -> Result<(), Fail> {
     let mut map = tens(rt.alloc(), 501)?;
     for key in (0..501u32).rev() {
-        same(&rt, map.pop(), Some((key, key.wrapping_mul(10))));
+        same(&rt, popped(&mut map), Some((key, key.wrapping_mul(10))));
     }
-    same(&rt, map.pop(), None);
+    same(&rt, popped(&mut map), None);
     holds(&rt, map.is_empty());
     Ok(())
 }
@@ -18,58 +22,117 @@ fn pops_down_to_none(rt: HostRuntime) -> Result<(), Fail> {
 #[test]
 fn removes_entries_of_a_hundred(rt: HostRuntime) -> Result<(), Fail> {
     let mut map = tens(rt.alloc(), 100)?;
-    same(&rt, map.shift_remove_entry(&1u32), Some((1, 10)));
-    holds(&rt, map.get(&3u32) == Some(&30));
-    same(&rt, map.shift_remove_entry(&99u32), Some((99, 990)));
-    holds(&rt, map.get(&98u32) == Some(&980));
+    same(&rt, removed(&mut map, 1), Some((1, 10)));
+    same(&rt, at(&map, 3), Some(30));
+    same(&rt, removed(&mut map, 99), Some((99, 990)));
+    same(&rt, at(&map, 98), Some(980));
     same(&rt, map.len(), 98);
     Ok(())
 }
 
-#[test]
-fn sorts_and_turns_a_hundred(rt: HostRuntime) -> Result<(), Fail> {
-    let mut map: SmallMap<u32, u32> = SmallMap::new(rt.alloc());
-    for key in (1..101u32).rev() {
-        map.insert(key, key.wrapping_mul(10))?;
-    }
-    map.sort_keys()?;
-    holds(&rt, map.first() == Some((&1, &10)));
+// Whether the keys 1 to 100 each have ten times themselves.
+fn has_all(map: &Numbers) -> bool {
     for key in 1..101u32 {
-        holds(&rt, map.get(&key) == Some(&key.wrapping_mul(10)));
+        if map.get(&key) != Some(&key.wrapping_mul(10)) {
+            return false;
+        }
     }
-    map.reverse();
-    holds(&rt, map.first() == Some((&100, &1000)));
-    for key in 1..101u32 {
-        holds(&rt, map.get(&key) == Some(&key.wrapping_mul(10)));
-    }
-    Ok(())
+    map.len() == 100
 }
 
 #[test]
-fn begins_anew(rt: HostRuntime) -> Result<(), Fail> {
-    let mut map = tens(rt.alloc(), 40)?;
-    map.retain(|_key, _value| false);
-    map.insert(7, 70)?;
-    map.insert(8, 80)?;
-    map.reverse();
-    holds(&rt, map.get(&7u32) == Some(&70));
-    same(&rt, map.pop(), Some((7, 70)));
+fn sorts_and_turns_a_hundred(rt: HostRuntime) -> Result<(), Fail> {
+    let mut map: Numbers = SmallMap::new(rt.alloc());
+    for key in (1..101u32).rev() {
+        same(&rt, put(&mut map, key, key.wrapping_mul(10)), Some(None));
+    }
+    holds(&rt, sort(&mut map));
+    holds(&rt, map.first() == Some((&1, &10)));
+    holds(&rt, has_all(&map));
+    turn(&mut map);
+    holds(&rt, map.first() == Some((&100, &1000)));
+    holds(&rt, has_all(&map));
+    Ok(())
+}
+
+// Puts two entries, turns them round and takes the first of them.
+fn begins_anew(map: &mut Numbers) -> bool {
+    map.insert(7, 70).is_ok()
+        && map.insert(8, 80).is_ok()
+        && {
+            map.reverse();
+            map.get(&7u32) == Some(&70) && map.pop() == Some((7, 70))
+        }
+}
+
+#[test]
+fn begins_anew_after_the_last_entry(rt: HostRuntime) -> Result<(), Fail> {
     let mut map = tens(rt.alloc(), 40)?;
     map.clear();
-    map.insert(1, 11)?;
-    holds(&rt, map.get(&1u32) == Some(&11));
-    holds(&rt, map.get(&39u32) == None);
+    same(&rt, put(&mut map, 1, 11), Some(None));
+    same(&rt, at(&map, 1), Some(11));
+    same(&rt, at(&map, 39), None);
+    map.retain(|_key, _value| false);
+    holds(&rt, begins_anew(&mut map));
     Ok(())
 }
 
 #[test]
 fn follows_the_first(rt: HostRuntime) -> Result<(), Fail> {
-    let mut map: SmallMap<u32, u32> = SmallMap::new(rt.alloc());
+    let mut map = pairs(rt.alloc(), &[])?;
     holds(&rt, map.first() == None);
-    map.insert(1, 10)?;
-    map.insert(2, 20)?;
+    same(&rt, put(&mut map, 1, 10), Some(None));
+    same(&rt, put(&mut map, 2, 20), Some(None));
     holds(&rt, map.first() == Some((&1, &10)));
-    map.shift_remove(&1u32);
+    removed(&mut map, 1);
     holds(&rt, map.first() == Some((&2, &20)));
+    Ok(())
+}
+
+// The numbers below 100, each under its text.
+fn texts(alloc: Global) -> Result<SmallMap<String, u32>, Fail> {
+    let mut map = SmallMap::new(alloc);
+    for i in 0u32..100 {
+        map.insert(i.to_string(alloc)?, i)?;
+    }
+    Ok(map)
+}
+
+#[test]
+fn retains_even_values(rt: HostRuntime) -> Result<(), Fail> {
+    let mut map = texts(rt.alloc())?;
+    map.retain(|_key, value| {
+        let even = *value % 2 == 0;
+        *value = value.wrapping_add(3);
+        even
+    });
+    same(&rt, map.len(), 50);
+    holds(&rt, map.get(&TextKey("7")) == None);
+    holds(&rt, map.get(&TextKey("8")) == Some(&11));
+    Ok(())
+}
+
+// Keeps every third entry, and answers how often its closure was called.
+fn keep_thirds(map: &mut Numbers) -> u32 {
+    let mut calls = 0u32;
+    map.retain(|_key, _value| {
+        let keeps = calls % 3 == 0;
+        calls = calls.wrapping_add(1);
+        keeps
+    });
+    calls
+}
+
+#[test]
+fn retains_every_third(rt: HostRuntime) -> Result<(), Fail> {
+    let mut map = tens(rt.alloc(), 100)?;
+    same(&rt, keep_thirds(&mut map), 100);
+    same(&rt, size(&map), (34, true));
+    let mut wanted = 0u32;
+    for key in map.keys() {
+        same(&rt, *key, wanted);
+        wanted = wanted.wrapping_add(3);
+    }
+    same(&rt, place(&map, 99), Some(33));
     Ok(())
 }

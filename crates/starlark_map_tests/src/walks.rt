@@ -1,10 +1,63 @@
-//! Walks that are cloned, and texts that are turned round.
+//! Walks by reference, by value and by a reference that writes, and walks that are cloned.
 
-use crate::given::{holds, same};
+use crate::given::{Numbers, at_under, holds, rows, same, under};
 use starlark_hash::TextKey;
 use starlark_small::{SmallMap, smallmap};
 use std::alloc::{AllocError, Global};
 use std::test::Fail;
+
+// The keys 1 to 3, each under itself, with ten times itself.
+fn three(alloc: Global) -> Result<Numbers, Fail> {
+    Ok(rows(alloc, &[(1, 1, 10), (2, 2, 20), (3, 3, 30)])?)
+}
+
+#[test]
+fn walks_by_reference(rt: HostRuntime) -> Result<(), Fail> {
+    let map = three(rt.alloc())?;
+    for (key, value) in &map {
+        same(&rt, at_under(&map, *key, *key), Some(*value));
+    }
+    same(&rt, map.iter().len(), 3);
+    holds(&rt, map.iter().next_back() == Some((&3, &30)));
+    same(&rt, map.keys().next().copied(), Some(1));
+    same(&rt, map.values().next_back().copied(), Some(30));
+    Ok(())
+}
+
+#[test]
+fn walks_by_value(rt: HostRuntime) -> Result<(), Fail> {
+    let alloc = rt.alloc();
+    same(&rt, three(alloc)?.into_keys().next_back(), Some(3));
+    same(&rt, three(alloc)?.into_values().next(), Some(10));
+    same(&rt, three(alloc)?.into_iter().next(), Some((1, 10)));
+    holds(
+        &rt,
+        three(alloc)?.into_iter_hashed().next_back() == Some((under(3, 3), 30)),
+    );
+    for (key, _) in three(alloc)? {
+        holds(&rt, key < 4);
+    }
+    Ok(())
+}
+
+#[test]
+fn writes_values(rt: HostRuntime) -> Result<(), Fail> {
+    let mut map = three(rt.alloc())?;
+    for (key, value) in map.iter_mut() {
+        *value = *key;
+    }
+    same(&rt, at_under(&map, 2, 2), Some(2));
+    for value in map.values_mut() {
+        *value = 7;
+    }
+    same(&rt, at_under(&map, 3, 3), Some(7));
+    for (_, value) in &mut map {
+        *value = 8;
+    }
+    same(&rt, at_under(&map, 1, 1), Some(8));
+    same(&rt, map.values_mut().len(), 3);
+    Ok(())
+}
 
 fn two_letters(alloc: Global) -> Result<SmallMap<u32, &'static str>, AllocError> {
     smallmap![alloc; 1 => "a", 3 => "b"]
@@ -75,15 +128,5 @@ fn looks_at_few(rt: HostRuntime) -> Result<(), Fail> {
         &rt,
         map.get_index(1) == Some((&1, &'b')) && map.get_index(2) == None,
     );
-    Ok(())
-}
-
-#[test]
-fn compares_few(rt: HostRuntime) -> Result<(), Fail> {
-    let map: SmallMap<u32, char> = smallmap![rt.alloc(); 0 => 'a', 1 => 'b']?;
-    let turned = smallmap![rt.alloc(); 1 => 'b', 0 => 'a']?;
-    holds(&rt, map == turned);
-    let other = smallmap![rt.alloc(); 0 => 'a', 1 => 'c']?;
-    holds(&rt, map != other);
     Ok(())
 }

@@ -10,16 +10,20 @@ use std::test::Fail;
 
 #[test]
 fn writes_a_map_out(rt: HostRuntime) -> Result<(), Fail> {
-    let alloc = rt.alloc();
-    let map: SmallMap<u32, &str> = smallmap![alloc; 1 => "a", 3 => "b", 1 => "c"]?;
+    let map: SmallMap<u32, &str> = smallmap![rt.alloc(); 1 => "a", 3 => "b", 1 => "c"]?;
     let mut walk = map.iter();
     holds(&rt, walk.next() == Some((&1, &"c")));
     holds(&rt, walk.next() == Some((&3, &"b")));
     holds(&rt, walk.next() == None);
     same(&rt, map.capacity(), 3);
-    let empty: SmallMap<u32, u32> = smallmap![alloc;]?;
-    same(&rt, empty.len(), 0);
-    let one = smallmap![alloc; 7u32 => 70u32,]?;
+    Ok(())
+}
+
+#[test]
+fn writes_out_none_and_one(rt: HostRuntime) -> Result<(), Fail> {
+    let none: SmallMap<u32, u32> = smallmap![rt.alloc();]?;
+    same(&rt, none.len(), 0);
+    let one = smallmap![rt.alloc(); 7u32 => 70u32,]?;
     holds(&rt, one.get(&7u32) == Some(&70));
     Ok(())
 }
