@@ -1,9 +1,10 @@
 -- Columns whose items stand at the front, before a step and after it.
-use Rattle.std.proofs.Common.{◌≡◌, ℕ, zero, suc, ◌+◌, ◌-◌, ◌<◌, ◌≤◌, Bool, true, false, List, [], ◌∷◌, ◌++◌, map, length, take, drop, replicate, get_or, slice_set, Option, Some, None, refl, sym, ap, subst, ◌∙◌, arith}
+use Rattle.std.proofs.Common.{◌≡◌, ℕ, zero, suc, ◌+◌, ◌-◌, ◌<◌, ◌≤◌, true, false, List, [], ◌∷◌, ◌++◌, map, length, take, drop, replicate, get_or, slice_set, Option, Some, None, refl, sym, ap, subst, ◌∙◌, arith, add-one}
 use Rattle.std.proofs.lemmas.List.{length-map, length-replicate, length-append, length-take, length-drop, nil_from_length, take_at, replicate-append-replicate, drop-replicate, take-replicate, take-take}
-use Rattle.std.proofs.Math.Seq.{set-append_seam, get_or-append_seam, drop-append_seam, drop-append-add}
+use Rattle.std.proofs.Math.Seq.{set-append_seam, get_or-append_seam, drop-append_seam, drop-append-add, take-suc}
 use lib.ListN.{length-set}
-use Rattle.std.specs.List.{slice_range, slice_get, remove, refill, length_refill}
+use Rattle.std.specs.List.{slice_range, slice_get, remove, refill, length_refill, AllZip}
+use Rattle.std.proofs.lemmas.List.Elements.{AllZip-push}
 use Rattle.std.specs.Option.{is_some}
 use Rattle.starlark_columns.specs.Places.{empties, items_of, IsFilled, AreFilled, AreEmpty, with_range, moved_down}
 use Rattle.starlark_columns.specs.Front.{IsFront, with_items}
@@ -238,3 +239,14 @@ module _ {X : Type 0} where
   -- the first items, once the last of some more is gone
   pub one_fewer : (ys xs : List X) (x : X) (n : ℕ) → 0 < n → take n ys ≡ xs ++ x ∷ [] → length xs ≡ n - 1 → xs ≡ take (n - 1) ys
   one_fewer ys xs x n some e long = let le : n - 1 ≤ n = omega arith in sym (take_at xs (x ∷ []) (n - 1) long) ∙ ap (λ l. take (n - 1) l) (sym e) ∙ take-take (n - 1) n ys le
+
+  pub front_empties : (cs : List (Option X)) (n : ℕ) → cs ≡ empties n → IsFront cs 0 × (items_of cs ≡ [])
+  front_empties cs n e = is_row cs [] 0 n e refl
+
+  pub none_at_front : (cs : List (Option X)) → IsFront cs 0 → cs ≡ empties (length cs)
+  none_at_front cs front = counted cs (length cs - 0) (none_is cs (length cs - 0) front.form)
+
+  -- one more clone behind the others
+  pub cloned_more : (R : X → X → Type 0) (xs ys zs : List X) (x y : X) (i : ℕ) → i < length xs → x ≡ get_or xs i x → zs ≡ ys ++ y ∷ [] → AllZip R (take i xs) ys → R x y → AllZip R (take (i + 1) xs) zs
+  cloned_more R xs ys zs x y i lt at e so_far one = let more : take i xs ++ x ∷ [] ≡ take (i + 1) xs = (λ j. take i xs ++ at j ∷ []) ∙ sym (take-suc xs i x lt) ∙ ap (λ (k : ℕ). take k xs) (sym (add-one i)) in
+      subst (λ l. AllZip R l zs) more (subst (λ l. AllZip R (take i xs ++ x ∷ []) l) (sym e) (AllZip-push R (take i xs) ys x y so_far one))

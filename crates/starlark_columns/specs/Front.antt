@@ -1,5 +1,5 @@
 -- Columns whose items stand at the front.
-use Rattle.std.specs.Prelude.{◌≡◌, ℕ, ◌-◌, ◌≤◌, Bool, true, false, List, ◌++◌, map, length, replicate, Option, Some, is_some}
+use Rattle.std.specs.Prelude.{◌≡◌, ℕ, ◌-◌, ◌≤◌, true, false, List, ◌++◌, map, length, replicate, Option, Some, is_some}
 use Rattle.std.specs.List.{refill}
 use Rattle.starlark_columns.specs.Places.{empties, items_of}
 

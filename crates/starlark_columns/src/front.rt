@@ -1,7 +1,7 @@
 //! Columns whose items stand at the front. Each call is told how many there are, so that two columns can share one length.
 ghost use Rattle.std.specs.Prelude.{◌≡◌, ◌+◌, ◌-◌, ◌*◌, ◌<◌, ◌≤◌, [], ◌∷◌, ◌++◌, Some, length, take, reverse, slice_get, IfOk, IsOk};
 ghost use Rattle.std.specs.Borrow.{sem};
-ghost use Rattle.std.specs.List.{remove};
+ghost use Rattle.std.specs.List.{remove, AllZip};
 ghost use Rattle.std.specs.Mem.{type_size};
 ghost use Rattle.starlark_columns.specs.Places.{empties, items_of};
 ghost use Rattle.starlark_columns.specs.Front.{IsFront};
@@ -112,6 +112,40 @@ impl<T: Drop> Column<T> {
             left -= 1;
             let _item = self.take_last(left);
         }
+    }
+
+    /// Drops all `len` items, and gives the memory back.
+    pub fn drop_all(self, alloc: Global, len: usize)
+        requires { IsFront self len }
+    {
+        let mut column = self;
+        column.truncate(len, 0);
+        column.give_back(alloc);
+    }
+}
+
+impl<T: Clone + Drop> Column<T> {
+    /// A column of `len` places with clones of the items. It is refused where there is no memory for them, or for a
+    /// clone; the clones made so far are then dropped.
+    pub fn clone_items(&self, alloc: Global, len: usize) -> Result<Column<T>, AllocError>
+        requires { IsFront self.now len }
+        ensures front { IfOk result (λ c. IsFront c len) }
+        ensures items { IfOk result (λ c. AllZip T.is_clone (items_of self.now) (items_of c)) }
+        ensures places { IfOk result (λ c. length c ≡ len) }
+        ensures succeeds { len ≡ 0 → IsOk result }
+    {
+        let items = self.items(len);
+        let mut clones = Column::with_places(alloc, len)?;
+        for made in 0..len {
+            match items[made].clone() {
+                Ok(item) => clones.push_last(made, item),
+                Err(refused) => {
+                    clones.drop_all(alloc, made);
+                    return Err(refused);
+                }
+            }
+        }
+        Ok(clones)
     }
 }
 
