@@ -114,6 +114,9 @@ module _ {X : Type 0} where
   pub counted : (cs : List (Option X)) (m : ℕ) → cs ≡ empties m → cs ≡ empties (length cs)
   counted cs m e = e ∙ (let count : m ≡ length cs = sym (length-replicate {A = Option X} m None) ∙ ap length (sym e) in ap (λ (k : ℕ). empties {X = X} k) count)
 
+  pub none_at_front : (cs : List (Option X)) → IsFront cs 0 → cs ≡ empties (length cs)
+  none_at_front cs front = counted cs (length cs - 0) (none_is cs (length cs - 0) front.form)
+
   module _ (cs : List (Option X)) (n : ℕ) (front : IsFront cs n) where
     -- the places behind the items
     abbrev left : ℕ
@@ -240,11 +243,8 @@ module _ {X : Type 0} where
   pub one_fewer : (ys xs : List X) (x : X) (n : ℕ) → 0 < n → take n ys ≡ xs ++ x ∷ [] → length xs ≡ n - 1 → xs ≡ take (n - 1) ys
   one_fewer ys xs x n some e long = let le : n - 1 ≤ n = omega arith in sym (take_at xs (x ∷ []) (n - 1) long) ∙ ap (λ l. take (n - 1) l) (sym e) ∙ take-take (n - 1) n ys le
 
-  pub front_empties : (cs : List (Option X)) (n : ℕ) → cs ≡ empties n → IsFront cs 0 × (items_of cs ≡ [])
-  front_empties cs n e = is_row cs [] 0 n e refl
-
-  pub none_at_front : (cs : List (Option X)) → IsFront cs 0 → cs ≡ empties (length cs)
-  none_at_front cs front = counted cs (length cs - 0) (none_is cs (length cs - 0) front.form)
+  pub front_empties : (cs : List (Option X)) (n : ℕ) → cs ≡ empties n → IsFront cs 0 × (items_of cs ≡ []) × (length cs ≡ n)
+  front_empties cs n e = let front = is_row cs [] 0 n e refl in (front.0, front.1, ap length e ∙ length-replicate n None)
 
   -- one more clone behind the others
   pub cloned_more : (R : X → X → Type 0) (xs ys zs : List X) (x y : X) (i : ℕ) → i < length xs → x ≡ get_or xs i x → zs ≡ ys ++ y ∷ [] → AllZip R (take i xs) ys → R x y → AllZip R (take (i + 1) xs) zs

@@ -3,6 +3,7 @@ ghost use Rattle.std.specs.Prelude.{◌≡◌, ◌+◌, ◌-◌, ◌*◌, ◌^�
 ghost use Rattle.std.specs.Borrow.{sem};
 ghost use Rattle.std.specs.Mem.{type_size};
 ghost use Rattle.starlark_columns.specs.Places.{empties, IsFilled, AreFilled, AreEmpty, with_range, moved_down, moved_up, exchanged};
+ghost use Rattle.starlark_columns.specs.Front.{IsFront};
 
 use crate::block::{Address, Claim, Held, allocate, bare, deallocate, item_size, let_go};
 use std::alloc::{AllocError, Global};
@@ -36,7 +37,8 @@ impl<T> Column<T> {
     /// A column of no places, without memory.
     #[inline]
     pub fn new() -> Column<T>
-        ensures { result ≡ [] }
+        ensures places { result ≡ [] }
+        ensures front { IsFront result 0 }
     {
         let (address, held) = bare(0);
         Column {

@@ -3,7 +3,7 @@ ghost use Rattle.std.specs.Prelude.{◌≡◌, ◌+◌, ◌-◌, ◌*◌, ◌<�
 ghost use Rattle.std.specs.Borrow.{sem};
 ghost use Rattle.std.specs.List.{remove, AllZip};
 ghost use Rattle.std.specs.Mem.{type_size};
-ghost use Rattle.starlark_columns.specs.Places.{empties, items_of};
+ghost use Rattle.starlark_columns.specs.Places.{items_of};
 ghost use Rattle.starlark_columns.specs.Front.{IsFront};
 
 use crate::column::Column;
@@ -12,6 +12,25 @@ use std::mem;
 
 impl<T> Column<T> {
     ghost use Rattle.starlark_columns.specs.ColumnLends.{lends_front};
+
+    /// A column with `count` places and no items. It is refused as `with_places` is.
+    #[inline]
+    pub fn with_room(alloc: Global, count: usize) -> Result<Column<T>, AllocError>
+        ensures front { IfOk result (λ c. IsFront c 0) }
+        ensures items { IfOk result (λ c. items_of c ≡ []) }
+        ensures places { IfOk result (λ c. length c ≡ count) }
+        ensures succeeds { count * type_size T.row ≡ 0 → IsOk result }
+    {
+        Column::with_places(alloc, count)
+    }
+
+    /// Gives the memory back. No item is to be left.
+    #[inline]
+    pub fn close(self, alloc: Global)
+        requires { IsFront self 0 }
+    {
+        self.give_back(alloc);
+    }
 
     /// The first `len` places, which hold all the items.
     #[inline]
@@ -74,7 +93,7 @@ impl<T> Column<T> {
     #[inline]
     pub fn move_all(&mut self, alloc: Global, len: usize, to: Column<T>)
         requires front { IsFront self.old len }
-        requires empty { to ≡ empties (length to) }
+        requires empty { IsFront to 0 }
         requires room { len ≤ length to }
         ensures front { IsFront self.new len }
         ensures items { items_of self.new ≡ items_of self.old }
@@ -120,7 +139,7 @@ impl<T: Drop> Column<T> {
     {
         let mut column = self;
         column.truncate(len, 0);
-        column.give_back(alloc);
+        column.close(alloc);
     }
 }
 
@@ -135,7 +154,7 @@ impl<T: Clone + Drop> Column<T> {
         ensures succeeds { len ≡ 0 → IsOk result }
     {
         let items = self.items(len);
-        let mut clones = Column::with_places(alloc, len)?;
+        let mut clones = Column::with_room(alloc, len)?;
         for made in 0..len {
             match items[made].clone() {
                 Ok(item) => clones.push_last(made, item),
@@ -149,17 +168,19 @@ impl<T: Clone + Drop> Column<T> {
     }
 }
 
-/// Two columns of `count` empty places. It is refused where one of them is; the other's memory has then been given back.
+/// Two columns with `count` places each, and no items. It is refused where one of them is; the other's memory has then
+/// been given back.
 pub fn both_columns<A, B>(alloc: Global, count: usize) -> Result<(Column<A>, Column<B>), AllocError>
-    ensures firsts { IfOk result (λ r. r.0 ≡ empties count) }
-    ensures seconds { IfOk result (λ r. r.1 ≡ empties count) }
+    ensures fronts { IfOk result (λ r. IsFront r.0 0 × IsFront r.1 0) }
+    ensures items { IfOk result (λ r. (items_of r.0 ≡ []) × (items_of r.1 ≡ [])) }
+    ensures places { IfOk result (λ r. (length r.0 ≡ count) × (length r.1 ≡ count)) }
     ensures succeeds { count * type_size A.row ≡ 0 → count * type_size B.row ≡ 0 → IsOk result }
 {
-    let firsts = Column::with_places(alloc, count)?;
-    match Column::with_places(alloc, count) {
+    let firsts = Column::with_room(alloc, count)?;
+    match Column::with_room(alloc, count) {
         Ok(seconds) => Ok((firsts, seconds)),
         Err(refused) => {
-            firsts.give_back(alloc);
+            firsts.close(alloc);
             Err(refused)
         }
     }

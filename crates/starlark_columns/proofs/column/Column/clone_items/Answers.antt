@@ -1,16 +1,11 @@
-use Rattle.std.proofs.Common.{[], length, get_or, sym, ap, subst, ◌∙◌, arith}
-use Rattle.std.proofs.lemmas.List.{length-replicate}
+use Rattle.std.proofs.Common.{[], get_or, sym, ap, subst, ◌∙◌, arith}
 use Rattle.std.specs.List.{AllZip}
 use Rattle.starlark_columns.specs.Places.{items_of}
-use Rattle.starlark_columns.proofs.Fronts.{front_empties, cloned_more}
+use Rattle.starlark_columns.proofs.Fronts.{cloned_more}
 use Rattle.starlark_columns.proofs.column.Column.clone_items.Goals as goal
 
 pub loop-made-init : goal.loop-made-init
-loop-made-init g c = let none = front_empties c.in_ok-clones.clones c.args.len c.in_ok-clones.ensures.made in (
-  none.0,
-  ap length c.in_ok-clones.ensures.made ∙ length-replicate c.args.len _,
-  subst (λ l. AllZip g.T.Clone.is_clone [] l) (sym none.1) tt,
-)
+loop-made-init g c = (c.in_ok-clones.ensures.front, c.in_ok-clones.ensures.places, subst (λ l. AllZip g.T.Clone.is_clone [] l) (sym c.in_ok-clones.ensures.items) tt)
 
 pub loop-made-preserved : goal.loop-made-preserved
 loop-made-preserved g c = let at = c.loop-made in let put = c.push_last.ensures in let item = c.index-items-made.result in
