@@ -208,6 +208,15 @@ module _ {X : Type 0} where
       pub front_taken : (x : X) → get_or cs i None ≡ Some x → slice_get (items_of cs) i ≡ Some x
       front_taken x e = the.2 ∙ sym at ∙ e
 
+      -- after a `&mut` to the item has ended
+      pub set_front : (w : X) → IsFront (slice_set cs i (Some w)) n × (items_of (slice_set cs i (Some w)) ≡ slice_set (items_of cs) i w)
+      set_front w = let new = before ++ w ∷ after in
+          let here : length before ≡ i = omega (arith, long_before, length-map before Some) in
+          let same : slice_set (items_of cs) i w ≡ new = ap (λ l. slice_set l i w) the.1 ∙ ap (λ (k : ℕ). slice_set (before ++ the.0 ∷ after) k w) (sym here) ∙ set-append_seam before the.0 after w in
+          let is = is_row (slice_set cs i (Some w)) new n left
+          (ap (λ l. slice_set l i (Some w)) cut ∙ part_set (map Some before) (Some the.0) (map Some after) (empties left) i n long_before all_of (Some w) ∙ sym (cut_row before w after left))
+          (omega (arith, length-append before (w ∷ after), here, all_of, length-map after Some)) in (is.0, is.1 ∙ sym same)
+
       out : (ds : List (Option X)) → ds ≡ slice_set cs i None → ds ≡ map Some before ++ None ∷ row after left
       out ds e = e ∙ ap (λ l. slice_set l i None) cut ∙ part_set (map Some before) (Some the.0) (map Some after) (empties left) i n long_before all_of None
 

@@ -107,6 +107,8 @@ impl<T> Column<T> {
 // One place
 
 impl<T> Column<T> {
+    ghost use Rattle.starlark_columns.specs.ColumnLends.{lends_item};
+
     /// Puts an item in an empty place.
     #[inline]
     pub fn write(&mut self, index: usize, item: T)
@@ -135,6 +137,16 @@ impl<T> Column<T> {
         let count = self.count;
         prove!(index < count);
         &self.held.slice(self.address, index, index + 1)[0]
+    }
+
+    /// The item of a place, to be written.
+    #[inline]
+    pub fn get_mut(&mut self, index: usize) -> &mut T
+        requires { IsFilled self.old index }
+        ensures* writes_back { sem 𝓛 (lends_item T.row self.entry index result) }
+        ensures value { get_or self.old index None ≡ Some result.now }
+    {
+        self.held.get_mut(self.address, index)
     }
 
     /// Exchanges the items of two places.

@@ -11,7 +11,7 @@ use std::alloc::{AllocError, Global};
 use std::mem;
 
 impl<T> Column<T> {
-    ghost use Rattle.starlark_columns.specs.ColumnLends.{lends_front};
+    ghost use Rattle.starlark_columns.specs.ColumnLends.{lends_front, lends_item};
 
     /// A column with `count` places and no items. It is refused as `with_places` is.
     #[inline]
@@ -49,6 +49,17 @@ impl<T> Column<T> {
         ensures value { result.now ≡ items_of self.old }
     {
         self.slice_mut(0, len)
+    }
+
+    /// The item at this index, to be written.
+    #[inline]
+    pub fn item_mut(&mut self, len: usize, index: usize) -> &mut T
+        requires front { IsFront self.old len }
+        requires within { index < len }
+        ensures* writes_back { sem 𝓛 (lends_item T.row self.entry index result) }
+        ensures value { slice_get (items_of self.old) index ≡ Some result.now }
+    {
+        self.get_mut(index)
     }
 
     /// Puts an item behind the `len` that are there. A place is to be left.
