@@ -4,3 +4,4 @@ mod Memory
 mod Fields
 mod RowCalls
 mod Slotting
+pub mod Fronts

@@ -1,5 +1,5 @@
 -- What the places end as, once a `&mut` into them has ended.
-use Rattle.std.specs.Prelude.{ℕ, ◌-◌, List, map, slice_range, Option, Some}
+use Rattle.std.specs.Prelude.{ℕ, ◌-◌, List, map, slice_range, slice_set, Option, Some}
 use Rattle.std.specs.Borrow.{Fml, RattleType, MutBor, Array, Lends}
 use Rattle.std.specs.List.{refill}
 use Rattle.starlark_columns.specs.Places.{with_range, items_of}
@@ -16,3 +16,6 @@ module _ {X : Type 0} where
 
 abbrev pub lends_range : (R : RattleType) → MutBor (Held R.Denot) → ℕ → ℕ → MutBor (List R.Denot) → Fml
 lends_range R h from to r = Lends (the_row R) (Array R 0) h r (λ ws. with_places h.now (rewritten h.now.places from to ws))
+
+abbrev pub lends_place : (R : RattleType) → MutBor (Held R.Denot) → ℕ → MutBor R.Denot → Fml
+lends_place R h i r = Lends (the_row R) R h r (λ w. with_places h.now (slice_set h.now.places i (Some w)))

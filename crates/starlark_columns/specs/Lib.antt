@@ -3,4 +3,5 @@ pub mod Owned
 pub mod Slotted
 pub mod Lends
 pub mod Claims
+pub mod Front
 pub mod ColumnLends

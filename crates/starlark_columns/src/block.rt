@@ -1,5 +1,5 @@
 //! The one file with pointers: where a row of places lies, who owns them, and the right to give their block back.
-ghost use Rattle.std.specs.Prelude.{◌≡◌, ℕ, ◌*◌, ◌<◌, List, [], Option, Some, map, length, slice_range, IfOk};
+ghost use Rattle.std.specs.Prelude.{◌≡◌, ℕ, ◌*◌, ◌<◌, List, [], Option, Some, None, map, length, get_or, slice_range, IfOk};
 ghost use Rattle.std.specs.Borrow.{sem};
 ghost use Rattle.std.specs.Mem.{type_size};
 ghost use Rattle.std.specs.Vec.Ownership.{FitsInBlock};
@@ -8,7 +8,7 @@ ghost use denote.RawPtr.{Ptr};
 ghost use prog.Memory.{capped};
 ghost use Rattle.core.specs.Mem.Slots.{slots_items, slots_filled, slots_len, slots_ptr};
 ghost use Rattle.starlark_columns.specs.Owned.{row_owned, row_lent, claim_owned};
-ghost use Rattle.starlark_columns.specs.Places.{empties, AreFilled};
+ghost use Rattle.starlark_columns.specs.Places.{empties, IsFilled, AreFilled};
 
 use core::slots::Slots;
 use std::alloc::{AllocError, Allocator};
@@ -140,7 +140,7 @@ pub(crate) fn deallocate<T, A: Allocator>(
 
 impl<T> Held<T> {
     ghost use Rattle.starlark_columns.specs.Slotted.{places_of, emptied};
-    ghost use Rattle.starlark_columns.specs.Lends.{lends_range};
+    ghost use Rattle.starlark_columns.specs.Lends.{lends_range, lends_place};
 
     // The places as the kit's slots. The `Held` is left with none.
     pub(crate) fn open(&mut self, address: Address<T>, count: usize) -> Slots<T>
@@ -175,5 +175,14 @@ impl<T> Held<T> {
         ensures value { slice_range self.old.places from to ≡ map Some result.now }
     {
         unsafe { slice::from_raw_parts_mut(address.at.cast_mut().add(from), to - from) }
+    }
+
+    // The item of a place, to be written.
+    pub(crate) fn get_mut(&mut self, address: Address<T>, index: usize) -> &mut T
+        requires { (address.at ≡ self.old.at) × IsFilled self.old.places index }
+        ensures* writes_back { sem 𝓛 (lends_place T.row self.entry index result) }
+        ensures value { get_or self.old.places index None ≡ Some result.now }
+    {
+        unsafe { &mut *address.at.cast_mut().add(index) }
     }
 }

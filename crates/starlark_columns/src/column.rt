@@ -3,6 +3,7 @@ ghost use Rattle.std.specs.Prelude.{◌≡◌, ◌+◌, ◌-◌, ◌*◌, ◌^�
 ghost use Rattle.std.specs.Borrow.{sem};
 ghost use Rattle.std.specs.Mem.{type_size};
 ghost use Rattle.starlark_columns.specs.Places.{empties, IsFilled, AreFilled, AreEmpty, with_range, moved_down, moved_up, exchanged};
+ghost use Rattle.starlark_columns.specs.Front.{IsFront};
 
 use crate::block::{Address, Claim, Held, allocate, bare, deallocate, item_size, let_go};
 use std::alloc::{AllocError, Global};
@@ -36,7 +37,8 @@ impl<T> Column<T> {
     /// A column of no places, without memory.
     #[inline]
     pub fn new() -> Column<T>
-        ensures { result ≡ [] }
+        ensures places { result ≡ [] }
+        ensures front { IsFront result 0 }
     {
         let (address, held) = bare(0);
         Column {
@@ -105,6 +107,8 @@ impl<T> Column<T> {
 // One place
 
 impl<T> Column<T> {
+    ghost use Rattle.starlark_columns.specs.ColumnLends.{lends_item};
+
     /// Puts an item in an empty place.
     #[inline]
     pub fn write(&mut self, index: usize, item: T)
@@ -133,6 +137,16 @@ impl<T> Column<T> {
         let count = self.count;
         prove!(index < count);
         &self.held.slice(self.address, index, index + 1)[0]
+    }
+
+    /// The item of a place, to be written.
+    #[inline]
+    pub fn get_mut(&mut self, index: usize) -> &mut T
+        requires { IsFilled self.old index }
+        ensures* writes_back { sem 𝓛 (lends_item T.row self.entry index result) }
+        ensures value { get_or self.old index None ≡ Some result.now }
+    {
+        self.held.get_mut(self.address, index)
     }
 
     /// Exchanges the items of two places.

@@ -3,6 +3,7 @@
 
 mod block;
 pub mod column;
+pub mod front;
 mod held;
 
 pub use column::Column;

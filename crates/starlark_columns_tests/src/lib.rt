@@ -1,0 +1,5 @@
+//! Tests of columns, by public calls.
+#![tactic(auto)]
+
+#[cfg(test)]
+mod columns;
