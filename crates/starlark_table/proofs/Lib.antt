@@ -18,5 +18,7 @@ pub mod TableLemmas
 mod NamedClose
 mod FrozenRuns
 mod WrittenSlots
+mod WrittenValues
+pub mod LentInResult
 mod SlotCloses
 mod TableOpens
