@@ -15,8 +15,10 @@ pub mod Retaining
 pub mod Settling
 pub mod PairBags
 pub mod TableLemmas
-mod NamedClose
+pub mod NamedClose
 mod FrozenRuns
 mod WrittenSlots
+pub mod WrittenValues
+pub mod LentInResult
 mod SlotCloses
 mod TableOpens

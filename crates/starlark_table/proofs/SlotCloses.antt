@@ -1,8 +1,10 @@
--- A frozen slot stays open while it is lent to a call that answers its item, if it has one. What that reference ends as
--- closes it. Assumes `Logic`.
+-- A frozen slot stays open while it is lent to a call that answers what it has, if it has anything. What that reference
+-- ends as closes it: `held` keeps what is frozen of the slot p, and `put` is the slot with what is left in the reference.
+-- Assumes `Logic`.
 use mathlib.Core.Path.{◌≡◌, refl, sym, ap, ◌∙◌}
 use Prim.Native.Nat.{ℕ}
 use mathlib.Core.Logic.{◌⊎◌, inl, inr}
+use mathlib.Core.Option as maybe
 use mathlib.Core.List.{List, [], ◌∷◌, ◌++◌}
 use mir.Val.{Val, of_list, vcons, vnil}
 use seplogic.Ra.Ura.{Ura}
@@ -29,58 +31,63 @@ use denote.Ref.{MutBor}
 use denote.Steps.{nothing, peeks, only}
 use Rattle.core.specs.Option.{ghost_name_of}
 use Rattle.std.specs.Prelude.{Option, Some, None}
-use Rattle.starlark_table.specs.Written.{with_item_of}
-use Rattle.starlark_table.specs.Frozen.{SlotOf, KeptItem, slot_with}
-use Rattle.starlark_table.proofs.FrozenRuns.{slot_itself}
+use Rattle.starlark_table.specs.Frozen.{KeptItem}
 use Rattle.starlark_table.proofs.NamedClose.{closes_named}
-use Rattle.starlark_table.proofs.WrittenSlots.{slot_with_again}
 
 -- an `Option` is one of the two
 pub either : {A : Type 0} (o : Option A) → ((x : A) × (o ≡ Some x)) ⊎ (o ≡ None)
 either (Some x) = inl (x, refl)
 either None = inr refl
 
-module _ (T : RattleType) {M : Type 1} {𝓤 : Ura M} (𝓛 : Logic 𝓤) (κ : Lft) (q : Share) (b o : ℕ) (γ δ : GName) (p : Option (ℕ × T.Denot)) where
+-- what a slot follows, once it is known whether a reference was lent
+module _ (E T : RattleType) {M : Type 1} {𝓤 : Ura M} (𝓛 : Logic 𝓤) (δ : GName) (put : T.Denot → E.Denot) (p : E.Denot) where
+  pub left_one : (γ' : GName) → ent 𝓤 (sem 𝓛 (follows_if E T δ (maybe.some γ') put p)) (sem 𝓛 (follows E T δ γ' put))
+  unfolding follows_by
+  left_one γ' = qed 𝓛 (‵ (follows E T δ γ' put) ∷ []) ∵ done !
+
+  pub left_none : ent 𝓤 (sem 𝓛 (follows_if E T δ maybe.none put p)) (sem 𝓛 (fres δ (E.coded.code p)))
+  unfolding follows_by
+  left_none = qed 𝓛 (‵ (fres δ (E.coded.code p)) ∷ []) ∵ done !
+
+module _ (E T : RattleType) (held : E.Denot → E.Denot → E.Denot) (itself : (x : E.Denot) → held x x ≡ x) {M : Type 1} {𝓤 : Ura M} (𝓛 : Logic 𝓤) (κ : Lft) (q : Share) (b o : ℕ) (γ δ : GName)
+    (p : E.Denot) (put : T.Denot → E.Denot) (again : (w : T.Denot) → held p (put w) ≡ put w) where
   open 𝓛 use {H, A}
 
-  abbrev E : RattleType
-  E = SlotOf T
-
   -- the slot with what it has stays as it is
-  back : (w : E.Denot) → with_item_of p w ≡ w → ent 𝓤 (sep 𝓤 (sem 𝓛 ((mem E).own_at w b o)) (emp 𝓤)) (sem 𝓛 ((KeptItem E with_item_of p).own_at w b o))
+  back : (w : E.Denot) → held p w ≡ w → ent 𝓤 (sep 𝓤 (sem 𝓛 ((mem E).own_at w b o)) (emp 𝓤)) (sem 𝓛 ((KeptItem E held p).own_at w b o))
   back w same = qed 𝓛 (‵ ((mem E).own_at w b o) ∷ raw (emp 𝓤) ∷ []) ∵ rewrite ! 0 (λ (t : E.Denot). ‵ ((mem E).own_at t b o)) (sym same) refl $ keep ! (0 ∷ []) $ done !
 
   -- a reference was lent
-  closes_some : (γ' : GName) (n : ℕ) (u v : Gv)
-      → ent 𝓤 (sep 𝓤 (aged 𝓤 H A n κ q (Body (KeptItem E with_item_of p) b o γ)) (sep 𝓤 (A.obs γ u) (sep 𝓤 (A.auth γ v) (sep 𝓤 (A.lent (deep n κ) (Body (mem E) b o δ)) (sem 𝓛 (follows E T δ γ' (slot_with p)))))))
+  pub closes_some : (γ' : GName) (n : ℕ) (u v : Gv)
+      → ent 𝓤 (sep 𝓤 (aged 𝓤 H A n κ q (Body (KeptItem E held p) b o γ)) (sep 𝓤 (A.obs γ u) (sep 𝓤 (A.auth γ v) (sep 𝓤 (A.lent (deep n κ) (Body (mem E) b o δ)) (sem 𝓛 (follows E T δ γ' put))))))
       (H.⇛ (A.lft κ q))
   closes_some γ' n u v =
-      qed 𝓛 (raw (aged 𝓤 H A n κ q (Body (KeptItem E with_item_of p) b o γ)) ∷ ‵ (fobs γ u) ∷ ‵ (fauth γ v) ∷ ‵ (flent (deep n κ) (Body (mem E) b o δ)) ∷ ‵ (follows E T δ γ' (slot_with p)) ∷ []) ∵ updating ! $
+      qed 𝓛 (raw (aged 𝓤 H A n κ q (Body (KeptItem E held p) b o γ)) ∷ ‵ (fobs γ u) ∷ ‵ (fauth γ v) ∷ ‵ (flent (deep n κ) (Body (mem E) b o δ)) ∷ ‵ (follows E T δ γ' put) ∷ []) ∵ updating ! $
       nothing ! $ move ! (1 ∷ 2 ∷ 3 ∷ 4 ∷ 5 ∷ 0 ∷ []) $ group ! 6 $
-      use1 𝓛 (later (some (λ (tie : GName). ‵ (flft κ q) ⊛ ‵ (after (KeptItem E with_item_of p) (KeptItem E with_item_of p) γ tie (λ z. z)))))
-      (closes_named 𝓛 (KeptItem E with_item_of p) (mem E) (mem T) (slot_with p) (slot_with p) (λ z. z) (λ w. refl) κ q b o b o γ δ γ' (emp 𝓤) (λ w. back (slot_with p w) (slot_with_again p w)) n u v p) $ await ! tt $ pick ! (λ tie. split ! $
+      use1 𝓛 (later (some (λ (tie : GName). ‵ (flft κ q) ⊛ ‵ (after (KeptItem E held p) (KeptItem E held p) γ tie (λ z. z)))))
+      (closes_named 𝓛 (KeptItem E held p) (mem E) (mem T) put put (λ z. z) (λ w. refl) κ q b o b o γ δ γ' (emp 𝓤) (λ w. back (put w) (again w)) n u v p) $ await ! tt $ pick ! (λ tie. split ! $
       now ! $ keep ! (0 ∷ []) $ done !)
 
   -- none was, and the slot is as it was
-  closes_none : (n : ℕ) (u v : Gv)
-      → ent 𝓤 (sep 𝓤 (aged 𝓤 H A n κ q (Body (KeptItem E with_item_of p) b o γ)) (sep 𝓤 (A.obs γ u) (sep 𝓤 (A.auth γ v) (sep 𝓤 (A.lent (deep n κ) (Body (mem E) b o δ)) (A.res δ (E.coded.code p))))))
+  pub closes_none : (n : ℕ) (u v : Gv)
+      → ent 𝓤 (sep 𝓤 (aged 𝓤 H A n κ q (Body (KeptItem E held p) b o γ)) (sep 𝓤 (A.obs γ u) (sep 𝓤 (A.auth γ v) (sep 𝓤 (A.lent (deep n κ) (Body (mem E) b o δ)) (A.res δ (E.coded.code p))))))
       (H.⇛ (A.lft κ q))
   closes_none n u v =
-      qed 𝓛 (raw (aged 𝓤 H A n κ q (Body (KeptItem E with_item_of p) b o γ)) ∷ ‵ (fobs γ u) ∷ ‵ (fauth γ v) ∷ ‵ (flent (deep n κ) (Body (mem E) b o δ)) ∷ ‵ (fres δ (E.coded.code p)) ∷ []) ∵ updating ! $
+      qed 𝓛 (raw (aged 𝓤 H A n κ q (Body (KeptItem E held p) b o γ)) ∷ ‵ (fobs γ u) ∷ ‵ (fauth γ v) ∷ ‵ (flent (deep n κ) (Body (mem E) b o δ)) ∷ ‵ (fres δ (E.coded.code p)) ∷ []) ∵ updating ! $
       name_new ! tt (E.coded.code p) (λ γ'.
       -- [obs γ'; auth γ'; the open borrow; obs; auth; the right; what the slot ends as]
       move ! (6 ∷ 1 ∷ []) $ use2 𝓛 (‵ (follows E E δ γ' (λ _. p))) (follows_said 𝓛 E δ γ' p p) $
       -- [what δ follows; obs γ'; the open borrow; obs; auth; the right]
       nothing ! $ move ! (3 ∷ 4 ∷ 5 ∷ 6 ∷ 1 ∷ 0 ∷ []) $ group ! 6 $
-      use1 𝓛 (later (some (λ (tie : GName). ‵ (flft κ q) ⊛ ‵ (after (KeptItem E with_item_of p) (KeptItem E with_item_of p) γ tie (λ z. z)))))
-      (closes_named 𝓛 (KeptItem E with_item_of p) (mem E) (mem E) (λ _. p) (λ _. p) (λ z. z) (λ w. refl) κ q b o b o γ δ γ' (emp 𝓤) (λ w. back p (slot_itself p)) n u v p) $ await ! tt $ pick ! (λ tie. split ! $
+      use1 𝓛 (later (some (λ (tie : GName). ‵ (flft κ q) ⊛ ‵ (after (KeptItem E held p) (KeptItem E held p) γ tie (λ z. z)))))
+      (closes_named 𝓛 (KeptItem E held p) (mem E) (mem E) (λ _. p) (λ _. p) (λ z. z) (λ w. refl) κ q b o b o γ δ γ' (emp 𝓤) (λ w. back p (itself p)) n u v p) $ await ! tt $ pick ! (λ tie. split ! $
       now ! $ keep ! (0 ∷ []) $ done !))
 
   abbrev Ends : Option (MutBor T.Denot) → SProp 𝓤
-  Ends x = sem 𝓛 (follows_if E T δ (ghost_name_of x) (slot_with p) p)
+  Ends x = sem 𝓛 (follows_if E T δ (ghost_name_of x) put p)
 
   pub closes_slot : (x : Option (MutBor T.Denot)) (n : ℕ) (u v : Gv)
-      → ent 𝓤 (sep 𝓤 (aged 𝓤 H A n κ q (Body (KeptItem E with_item_of p) b o γ)) (sep 𝓤 (A.obs γ u) (sep 𝓤 (A.auth γ v) (sep 𝓤 (A.lent (deep n κ) (Body (mem E) b o δ)) (Ends x)))))
+      → ent 𝓤 (sep 𝓤 (aged 𝓤 H A n κ q (Body (KeptItem E held p) b o γ)) (sep 𝓤 (A.obs γ u) (sep 𝓤 (A.auth γ v) (sep 𝓤 (A.lent (deep n κ) (Body (mem E) b o δ)) (Ends x)))))
       (H.⇛ (A.lft κ q))
   unfolding follows_by
   closes_slot (Some r) n u v = closes_some r.ghost_name n u v

@@ -4,6 +4,7 @@
 --     frozen_run κ E held p i γ xs    the right to write what is not frozen of xs, under the name γ; they lie from the
 --                                     i-th item at p on
 --     frozen κ T p i γ slots          the same of slots: whether there is an item, and its hash, are frozen
+--     frozen_pairs κ K V p i γ slots  the same of slots with pairs, whose keys are frozen too
 use Rattle.std.specs.Prelude.{ℕ, ◌+◌, ◌*◌, List, [], ◌∷◌, length, Option}
 use Rattle.std.specs.Borrow.{Fml, RattleType, MutBor, GName, Array, Lends, LendsIf, follows, u64}
 use Rattle.std.specs.Global.{Vec}
@@ -20,7 +21,7 @@ use denote.Memory.{mem}
 use denote.RawPtr.{Ptr, block_ptr, null_ptr}
 use denote.Slice.{room}
 use denote.Struct.Tuple.{Tuple}
-use Rattle.starlark_table.specs.Written.{each_updated, with_item_of, with_items_of}
+use Rattle.starlark_table.specs.Written.{each_updated, with_item_of, with_items_of, with_value_of, with_values_of}
 
 module _ (E : RattleType) (held : E.Denot → E.Denot → E.Denot) where
   abbrev pub KeptItem : E.Denot → SemTy
@@ -46,6 +47,13 @@ SlotOf T = option.the_row (Tuple (u64 ∷ T ∷ []))
 abbrev pub frozen : Lft → (T : RattleType) → Ptr → ℕ → GName → List (Option (ℕ × T.Denot)) → Fml
 frozen κ T p i γ slots = frozen_run κ (SlotOf T) with_item_of p i γ slots
 
+-- `(K, V)`
+abbrev pub Pair : RattleType → RattleType → RattleType
+Pair K V = Tuple (K ∷ V ∷ [])
+
+abbrev pub frozen_pairs : Lft → (K V : RattleType) → Ptr → ℕ → GName → List (Option (ℕ × (K.Denot × V.Denot))) → Fml
+frozen_pairs κ K V p i γ slots = frozen_run κ (SlotOf (Pair K V)) with_value_of p i γ slots
+
 -- `Vec<A>`
 abbrev pub column : RattleType → RattleType
 column A = vec_row A global_row ghosts
@@ -66,3 +74,12 @@ module _ (T : RattleType) where
   -- a slot ends with the item that is left behind the reference, if it lends one
   abbrev pub lends_slot_if : MutBor (Option (ℕ × T.Denot)) → Option (MutBor T.Denot) → Fml
   lends_slot_if s r = LendsIf (SlotOf T) T s r (slot_with s.now) s.now
+
+module _ (K V : RattleType) where
+  -- a vector ends with the values that the loan ends with, in its own slots and under its own keys
+  abbrev pub pairs_follow : MutBor (Vec (Option (ℕ × (K.Denot × V.Denot)))) → GName → Fml
+  pairs_follow s γ = follows (column (SlotOf (Pair K V))) (column (SlotOf (Pair K V))) s.ghost_name γ (λ w. with_items s.now (with_values_of s.now.items w.items))
+
+  -- a pair ends with the value that is left behind the reference
+  abbrev pub lends_value : MutBor (K.Denot × V.Denot) → MutBor V.Denot → Fml
+  lends_value s r = Lends (Pair K V) V s r (λ w. (s.now.0, w))

@@ -5,7 +5,7 @@ use Rattle.std.specs.Borrow.{Lends, LendsIf, follows, GName, Fml, RattleType, Mu
 use Rattle.std.specs.contracts.option.Option as option
 use denote.Struct.Tuple.{Tuple}
 use Rattle.starlark_table.specs.Table.{Table, with_item}
-use Rattle.starlark_table.specs.Written.{with_written}
+use Rattle.starlark_table.specs.Written.{with_written, with_values}
 use Rattle.starlark_table.specs.contracts.ready_table.ReadyTable.{the_row}
 
 module _ (T : RattleType) where
@@ -24,6 +24,11 @@ module _ (T : RattleType) where
   -- once a loan of the items ends, the table has in each slot the item that was left there, under the same hash
   abbrev pub table_follows : MutBor (Table T.Denot) → GName → Fml
   table_follows s γ = follows (the_row T) (the_row T) s.ghost_name γ (with_written s.now)
+
+module _ (K V : RattleType) where
+  -- once a loan of the values ends, the table has in each slot the value that was left there, under the same hash and key
+  abbrev pub values_follow : MutBor (Table (K.Denot × V.Denot)) → GName → Fml
+  values_follow s γ = follows (the_row (Tuple (K ∷ V ∷ []))) (the_row (Tuple (K ∷ V ∷ []))) s.ghost_name γ (with_values s.now)
 
 -- what a `&mut` points to
 abbrev pub written_through : {T : Type 0} → MutBor T → T

@@ -6,6 +6,8 @@ mod growth;
 pub mod iter;
 mod iter_mut;
 mod loan;
+pub mod pair_loan;
+mod pairs_mut;
 mod places;
 mod probe;
 pub mod ready_table;
@@ -14,4 +16,6 @@ mod walks;
 
 pub use iter::{IntoIter, Iter};
 pub use iter_mut::IterMut;
+pub use pair_loan::PairLoan;
+pub use pairs_mut::PairsMut;
 pub use ready_table::ReadyTable;

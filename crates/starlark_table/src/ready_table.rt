@@ -7,6 +7,8 @@ ghost use Rattle.starlark_hash.specs.Search.{Searches, CanSearch};
 ghost use Rattle.starlark_table.specs.Table.{members, table_len, member_at, item_in, items_of, items_under, IsNextSlot, IsTableClone};
 ghost use Rattle.starlark_table.specs.Walk.{CanReplace, ReplacesEach, CanRetain, AsksMember};
 
+mod pairs;
+
 use crate::gap::take_out;
 use crate::growth::{empty_slots, empty_tags, move_all};
 use crate::iter::{IntoIter, Iter};

@@ -3,6 +3,7 @@
 
 pub mod entry;
 pub mod iter;
+pub mod iter_mut;
 pub mod laws;
 mod mapped;
 mod moved;
@@ -12,6 +13,7 @@ pub mod unordered_set;
 
 pub use entry::{Entry, OccupiedEntry, VacantEntry};
 pub use iter::{Entries, KeysUnordered, ValuesUnordered};
+pub use iter_mut::{EntriesMut, ValuesUnorderedMut};
 pub use raw_entry::{RawEntryBuilderMut, RawEntryMut, RawOccupiedEntryMut, RawVacantEntryMut};
 pub use unordered_map::UnorderedMap;
 pub use unordered_set::UnorderedSet;

@@ -9,6 +9,7 @@ mod raw_slots;
 mod read;
 mod slots;
 mod walk;
+mod walk_mut;
 mod write;
 
 use starlark_table::ReadyTable;

@@ -11,3 +11,5 @@ mod memory;
 mod raw_entries;
 #[cfg(test)]
 mod sets;
+#[cfg(test)]
+mod walks;

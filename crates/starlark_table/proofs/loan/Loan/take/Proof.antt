@@ -66,6 +66,7 @@ use Rattle.std_alloc.proofs.VecSteps.Shapes.{after}
 use Rattle.starlark_table.specs.Written.{with_item_of}
 use Rattle.starlark_table.specs.Frozen.{SlotOf, frozen, lent_items, KeptItem, slot_with}
 use Rattle.starlark_table.proofs.FrozenRuns.{OffOf, first_item, slot_itself}
+use Rattle.starlark_table.proofs.WrittenSlots.{slot_with_again}
 use Rattle.starlark_table.proofs.SlotCloses.{closes_slot, either, in_some_told, in_none}
 use Rattle.starlark_table.specs.declared.loan.Loan.{Loan}
 use Rattle.starlark_table.specs.contracts.loan.Loan as L-type
@@ -204,7 +205,7 @@ module _ (A : RattleType) where
           move ! (1 ∷ []) $ heard ! (Reads x p) (λ reads.
           -- [what the slot follows; the tokens with what the call gave; the right; the open borrow; obs; auth; self; the token of κ]
           move ! (3 ∷ 4 ∷ 5 ∷ 2 ∷ 0 ∷ []) $ group ! 5 $
-          use1 𝓛 (later (‵ (flft κ' (Share.left q')))) (closes_slot T 𝓛 κ' (Share.left q') b begin γs.0 δ p x n (E.coded.code p) (E.coded.code p)) $ await ! tt $
+          use1 𝓛 (later (‵ (flft κ' (Share.left q')))) (closes_slot E T with_item_of slot_itself 𝓛 κ' (Share.left q') b begin γs.0 δ p (slot_with p) (slot_with_again p) x n (E.coded.code p) (E.coded.code p)) $ await ! tt $
           -- [half of κ'; the tokens with what the call gave; self; the token of κ]
           move ! (1 ∷ []) $ split ! $ split3 ! $ move ! (0 ∷ 4 ∷ []) $ use2 𝓛 (‵ (flft κ' q')) (𝓛.lfts.lft_join κ' q') $
           -- [the token of κ'; that of κA; nothing; what the call gave; self; the token of κ]

@@ -1,0 +1,93 @@
+//! The iterator that lends the values of a `ReadyTable` of pairs for writing, while hashes and keys are frozen.
+ghost use Rattle.std.specs.Prelude.{◌≡◌, length, IfSome, Some};
+ghost use Rattle.std.specs.Iterator.{UpTo, at_most};
+ghost use Rattle.std.specs.Iterator.SizeHint.{IsWithinCount};
+ghost use Rattle.std.specs.Map.Iter.{TakesFirst, deref_pair_mut};
+ghost use Rattle.starlark_table.specs.Table.{items_in};
+
+use crate::pair_loan::PairLoan;
+use std::iter::FusedIterator;
+use std::marker::Model;
+
+/// The pairs of a table, each as `(&K, &mut V)`. It is seen as the pairs that are left, and the name of its loan.
+#[derive(Drop)]
+pub struct PairsMut<'a, K, V> {
+    loan: PairLoan<'a, K, V>,
+    slot: usize,
+    end: usize,
+    left: usize,
+}
+
+impl<'a, K, V> Model for PairsMut<'a, K, V> {
+    ghost use Rattle.std.specs.Prelude.{◌≡◌, ◌+◌, List, length};
+    ghost use Rattle.std.specs.Borrow.{GName};
+    ghost use Rattle.starlark_table.specs.Table.{filled, items_in};
+
+    ghost Value = { List (K × V) × GName };
+
+    ghost view = { λ it. (items_in it.loan.rest, it.loan.tie) };
+
+    ghost invariant = { λ it. (it.slot ≡ it.loan.from) × (it.end ≡ it.loan.from + length it.loan.rest) × (it.left ≡ length (filled it.loan.rest)) };
+}
+
+impl<'a, K, V> PairsMut<'a, K, V> {
+    ghost use Rattle.std.specs.Prelude.{length};
+    ghost use Rattle.starlark_table.specs.Table.{filled};
+
+    /// The pairs of a loan of which no slot is taken yet: `end` slots, of which `left` have a pair.
+    #[inline]
+    pub fn of(loan: PairLoan<'a, K, V>, end: usize, left: usize) -> Self
+        requires untouched { loan.from ≡ 0 }
+        requires all { end ≡ length loan.rest }
+        requires full { left ≡ length (filled loan.rest) }
+        ensures rest { result.0 ≡ items_in loan.entry.rest }
+        ensures name { result.1 ≡ loan.entry.tie }
+    {
+        PairsMut {
+            loan,
+            slot: 0,
+            end,
+            left,
+        }
+    }
+}
+
+impl<'a, K, V> Iterator for PairsMut<'a, K, V> {
+    type Item = (&'a K, &'a mut V);
+
+    ghost next_gives = { λ s r t. TakesFirst deref_pair_mut s.0 r t.0 };
+
+    ghost remaining = { λ s. at_most (length s.0) };
+
+    #[inline]
+    fn next(&mut self) -> Option<(&'a K, &'a mut V)> {
+        let end = self.end;
+        while self.slot != end {
+            let slot = self.slot;
+            self.slot = slot + 1;
+            if let Some(pair) = self.loan.take(slot) {
+                self.left -= 1;
+                return Some(pair);
+            }
+        }
+        None
+    }
+
+    #[inline]
+    fn size_hint(&self) -> (usize, Option<usize>)
+        ensures lower { IsWithinCount result.0 (at_most (length self.now.0)) }
+        ensures upper { IfSome result.1 (UpTo (at_most (length self.now.0))) }
+        ensures exact { result ≡ (length self.now.0, Some (length self.now.0)) }
+    {
+        (self.left, Some(self.left))
+    }
+}
+
+impl<'a, K, V> ExactSizeIterator for PairsMut<'a, K, V> {
+    #[inline]
+    fn len(&self) -> usize {
+        self.left
+    }
+}
+
+impl<'a, K, V> FusedIterator for PairsMut<'a, K, V> {}

@@ -1,0 +1,198 @@
+-- `lend` lends the table; the map, open over the call, is closed by what that follows. Assumes `Logic`.
+use mathlib.Core.Path.{◌≡◌, refl, sym, ap, ◌∙◌}
+use Prim.Native.Nat.{◌+◌}
+use mathlib.Core.List.{List, [], ◌∷◌}
+use seplogic.Ra.Ura.{Ura}
+use base.Fraction.{full_share}
+use mir.Syntax.{Fn, Args, Dict, a_type, dcons, dnil, named}
+use mir.MapTy.{inst_fn}
+use mir.Val.{Val, vptr, vstruct, vcons, vnil}
+use base.Share
+use base.Logic.{SProp, ent, emp, id⊢, ex_e, snd∗}
+use base.Fml.{Lft, GName, Share, ftrue, fsep, flft, fauth}
+use prog.Memory.{Memory}
+use prog.Routine.{Routine}
+use prog.Wp.{Calls, Loops, WpFn, Tables}
+use types.Logic.{Logic, sem}
+use contract.BorrowLft.{◌⊑◌}
+use contract.Monad.{Fun, fact, fact_i}
+use contract.Running.{tables, tables_of}
+use sound.WpLaws.{FmC, fm_of, WpFn-mono}
+use types.Late.{ages, bor_new_deep}
+use types.Mut.{open_ref}
+use types.Tokens.{name_new}
+use types.Kit.{‵, raw, ◌⊛◌, some, later, ◌$◌, ◌∵◌, !, qed, move, keep, drop, use0, use1, use2, split, split3, join, pick, fsplit, fsplit3, fjoin, fjoin3, fpack, feq_i, rewrite, suffices, frame, await, group, done}
+use types.Run.{stop, fld, addr, and_then, no_more, returns, enter}
+use types.ByLocal.{alloc_all, pass_all, free_all, look_at, get, through, sets, lands_as}
+use denote.Exit.{no}
+use denote.Follow.{follows}
+use denote.RattleType.{RattleType, owns}
+use denote.Memory.{mem}
+use denote.Param.{param, bounded, layouts}
+use denote.Param.Laws.{Laws}
+use denote.Ref.{MutBor, mut_vals, mut_Tells}
+use denote.Signature.{plain, types_at, mut_ref_to, named_lft}
+use denote.Steps.{nothing, heard, only}
+use denote.Triple.Call.{calls_at}
+use denote.Triple.Clauses.{Clauses, Ended, closing, ensured, lasts}
+use denote.Triple.Spec.{Meets, triple_of}
+use denote.Triple.Statement.{Contract, Triple}
+use denote.Triple.Table.{entered}
+use denote.Triple.Walked.{Stays, stay_dropped, walk_of, ends_at, walked, walk_Meets, Goes-spent_ref}
+use Rattle.std.specs.declared.cmp.Eq as Eq
+use Rattle.std.specs.declared.cmp.PartialEq as PartialEq
+use Rattle.std.specs.declared.hash.Hash as Hash
+use Rattle.starlark_table.specs.Frozen.{frozen_pairs}
+use Rattle.starlark_table.specs.Table.{Table}
+use Rattle.starlark_table.specs.Written.{with_values}
+use Rattle.starlark_table.specs.contracts.pair_loan.PairLoan as L-type
+use Rattle.starlark_table.specs.declared.pair_loan.PairLoan.{PairLoan}
+use Rattle.starlark_table.specs.contracts.ready_table.pairs.ReadyTable+tuple2+K+V.lend_pairs as g
+use Rattle.starlark_table.proofs.ready_table.pairs.ReadyTable+tuple2+K+V.lend_pairs.Symbol.{name as #run}
+use Rattle.starlark_table.proofs.ready_table.pairs.ReadyTable+tuple2+K+V.lend_pairs.Met as loan
+use Rattle.starlark_table.proofs.pair_loan.PairLoan.TheLaws as L-laws
+use Rattle.starlark_table.proofs.NamedClose.{closes_named}
+use Rattle.starlark_table.proofs.WrittenValues.{values_again}
+use Rattle.starlark_unordered.specs.contracts.unordered_map.UnorderedMap.lend as F
+use Rattle.starlark_unordered.specs.contracts.unordered_map.UnorderedMap.lend.Key.{name as #self}
+use Rattle.starlark_unordered.proofs.UnorderedMapOpen as O
+use Rattle.starlark_unordered.proofs.ValuesWritten.{IsKeyed-with_values}
+use denote.Laws.{shows}
+use denote.Memory.{part_at}
+use denote.Param.Laws.{param_laws}
+use denote.RawPtr.{Ptr, in_a_block}
+use denote.Steps.{peeks}
+use Rattle.starlark_unordered.proofs.unordered_map.UnorderedMap.lend.Statement as stated
+use Rattle.starlark_unordered.proofs.unordered_map.UnorderedMap.lend.Code as code
+
+module _ (A B : RattleType) (E : Eq.Ghosts A.Denot) (dE : Dict) (P : PartialEq.Ghosts A.Denot) (dP : Dict) (G : Hash.Ghosts A.Denot) (dG : Dict) where
+  abbrev args : Args
+  args = bounded (a_type ∷ a_type ∷ []) (A, (B, tt)) (dcons dE (dcons dP (dcons dG dnil)))
+
+  abbrev lends : Args
+  lends = layouts (a_type ∷ a_type ∷ []) (A, (B, tt))
+
+  abbrev here : Fn
+  here = inst_fn args code.function
+
+  abbrev ended : Ended
+  ended = F.ended A B E dE P dP G dG
+
+  abbrev K : RattleType
+  K = param 0 A
+
+  abbrev V : RattleType
+  V = param 1 B
+
+  abbrev W : RattleType
+  W = O.W K V P G
+
+  abbrev CP : RattleType
+  CP = O.CP K V P G
+
+  abbrev D : Type 0
+  D = O.D K V P G
+
+  abbrev stayed : Stays ended.signature.params ended.kept
+  stayed = (stay_dropped (mut_ref_to (0 ∷ []) tt (plain (λ _. W))) no, tt)
+
+  abbrev Bag : Type 0
+  Bag = Table (A.Denot × B.Denot)
+
+  -- the field and the map with the values of w
+  abbrev written : D → Bag → D
+  written d w = record d { table = with_values d.table w }
+
+  written_known : (v : W.Denot) (d : D) (w : Bag) → O.Known K V P G v d → O.Known K V P G (with_values d.table w) (written d w)
+  written_known v d w k = (refl, IsKeyed-with_values P.eq G.hash_input d.table.slots w.slots k.1)
+
+  same : (v : W.Denot) (d : D) (w : Bag) → O.Known K V P G v d → with_values v (with_values d.table w) ≡ with_values d.table w
+  same v d w k = ap (λ (z : Bag). with_values z (with_values d.table w)) (sym k.0) ∙ ap (λ slots. record d.table { slots = slots }) (values_again d.table.slots w.slots)
+
+  module _ {M : Type 1} {𝓤 : Ura M} (𝓛 : Logic 𝓤) (at_mem : Memory → SProp 𝓤) (run : Routine → Fun 𝓤) where
+    open 𝓛 use {H}
+
+    abbrev spec : Clauses 𝓤 ended
+    spec = F.clauses A B E dE P dP G dG 𝓛 at_mem run
+
+    abbrev Run : Contract 𝓤
+    Run = triple_of 𝓛 (g.signature A B) (g.spec A B 𝓛 at_mem run)
+
+    module _ (LA : Laws A) (LB : Laws B) (C : Calls 𝓤 H) (Λ : Loops 𝓤 H) (fm : FmC 𝓤 H 𝓛.laws C) (gr : Triple 𝓤 (C (#run lends)) Run)
+        (κ κA κB : Lft) (q qA qB : Share) (bounds : (κ ⊑ κA) × ((κ ⊑ κB) × Unit {0})) (r : MutBor W.Denot) where
+      abbrev bound : (walk_of 𝓛 ended stayed spec).Ghost
+      bound = (((κ, (κA, (κB, tt))), (q, (qA, (qB, tt))), bounds, (r, tt), (mut_vals r, tt)), tt)
+
+      abbrev Post : Val → SProp 𝓤
+      Post = (walk_of 𝓛 ended stayed spec).post bound
+
+      abbrev It : RattleType
+      It = L-type.the_row (named_lft 3 0 tt (κ, (κA, (κB, tt)))) K V
+
+      walk : ent 𝓤 ((walk_of 𝓛 ended stayed spec).pre bound) (WpFn 𝓤 H C Λ here (vptr r.ref_ptr.0 r.ref_ptr.1 ∷ []) Post)
+      walk =
+          let b = r.ref_ptr.0 in let o = r.ref_ptr.1 in let v = r.now in let γ = r.ghost_name in let lowers = L-laws.lowers (named_lft 3 0 tt (κ, (κA, (κB, tt)))) K V (param_laws 0 A LA) (param_laws 1 B LB) in
+          qed 𝓛 (((‵ (flft κ q) ⊛ ‵ (flft κA qA) ⊛ ‵ (flft κB qB) ⊛ ‵ ftrue) ⊛ ‵ (owns (types_at ended.signature.params bound.0.0) bound.0.3 bound.0.4))
+          ∷ (raw (fact 𝓤 (κA ⊑ A.lives)) ⊛ raw (fact 𝓤 (κB ⊑ B.lives)) ⊛ ‵ ftrue) ∷ []) ∵
+          move ! (1 ∷ []) $ split3 ! $ heard ! (κA ⊑ A.lives) (λ la. heard ! (κB ⊑ B.lives) (λ lb. drop ! $
+          split ! $ split3 ! $ move ! (2 ∷ []) $ split ! $ move ! (4 ∷ []) $ fsplit ! $ keep ! (4 ∷ 5 ∷ 2 ∷ 0 ∷ []) $
+          -- [the tokens of κ, κA, κB; the map]
+          enter ! C Λ here (vptr b o ∷ []) _ $ alloc_all ! (λ l. pass_all ! refl ((tt, tt), tt) $
+          sets ! (addr ! (through ! refl (fld ! refl (stop !)))) refl (tt, tt) $
+          use1 𝓛 (‵ (flft κ (Share.left q)) ⊛ ‵ (flft κ (Share.right q))) (𝓛.lfts.lft_split κ q) $ split ! $
+          move ! (4 ∷ []) $ fsplit3 ! $ drop ! $ open_ref ! tt (mem W) {b = b} {o = o} $
+          use1 𝓛 (some (λ (d : (d : D) × O.Known K V P G v d). raw (O.Cuts K V P G 𝓛 b o v d))) (O.cut K V P G 𝓛 b o (param_laws 0 A LA) (param_laws 1 B LB) v) $ pick ! (λ d'.
+          let d = d'.0 in let xs = d.table in let place = o + O.eP K V P G in
+          use1 𝓛 (‵ (part_at CP full_share xs b place) ⊛ raw (O.Rest K V P G 𝓛 b o d)) (id⊢ 𝓤 _) $ split ! $
+          -- [the table; the rest; the open borrow; obs; auth; half of κ's token; those of κA, κB]
+          name_new ! tt (CP.coded.code xs) (λ δ. move ! (2 ∷ 1 ∷ []) $ fjoin ! $ fpack ! CP.Denot (λ z. fsep ((mem CP).own_at z b place) (fauth δ (CP.coded.code z))) xs $
+          -- [the content; obs δ; the rest; the open borrow; obs; auth; ..]
+          move ! (3 ∷ []) $ ages ! (λ n. move ! (1 ∷ []) $ bor_new_deep ! tt n κ $
+          -- [the borrow, its right; the open borrow; obs δ; the rest; obs; auth; the other half; tokens of κA, κB]
+          let lent : MutBor Bag = record { ref_ptr = (b, place); ghost_name = δ; now = xs } in
+          move ! (3 ∷ 0 ∷ []) $ feq_i ! (List Val) (mut_vals lent) (mut_vals lent) refl $ fjoin3 ! $ nothing ! $ move ! (1 ∷ 0 ∷ []) $ fjoin ! $
+          -- [the argument; the right; the open borrow; the rest; obs; auth; the other half; the tokens of κA, κB]
+          nothing ! $ move ! (9 ∷ 0 ∷ []) $ join ! $ move ! (8 ∷ 0 ∷ []) $ join ! $ move ! (7 ∷ 0 ∷ []) $ join ! $ join ! $
+          nothing ! $ use0 𝓛 (raw (fact 𝓤 (κB ⊑ B.lives))) (fact_i 𝓤 _ (emp 𝓤) lb) $ join ! $ use0 𝓛 (raw (fact 𝓤 (κA ⊑ A.lives))) (fact_i 𝓤 _ (emp 𝓤) la) $ join ! $ move ! (1 ∷ 0 ∷ []) $ join ! $
+          let z : Run.Ghost = (((κ, (κA, (κB, tt))), (Share.right q, (qA, (qB, tt))), bounds, (lent, tt), (mut_vals lent, tt)), tt) in
+          use1 𝓛 (raw (Run.pre z)) (id⊢ 𝓤 _) $
+          calls_at ! fm Run gr z (and_then ! (get ! refl) (no_more !)) (λ u.
+          use1 𝓛 (later (some (λ (x : PairLoan A.Denot B.Denot). ((‵ (flft κ (Share.right q)) ⊛ ‵ (flft κA qA) ⊛ ‵ (flft κB qB) ⊛ ‵ ftrue) ⊛ ‵ (It.own_val x (u ∷ []))) ⊛ raw (ensured 𝓛 (g.ended A B) (g.clauses A B 𝓛 at_mem run) z.0.0 z.0.3 tt x)))) (id⊢ 𝓤 _) $ await ! tt $ pick ! (λ x. split ! $ move ! (1 ∷ []) $
+          use1 𝓛 (‵ (follows CP CP δ x.tie (with_values xs)) ⊛ raw (fact 𝓤 (x.from ≡ 0)) ⊛ raw (fact 𝓤 (x.rest ≡ xs.slots))) (ex_e 𝓤 _ (λ ws. snd∗ 𝓤 (sem 𝓛 (lasts (g.ended A B) z.0.0 z.0.3 ws)) _)) $
+          split3 ! $ move ! (1 ∷ []) $ heard ! (x.from ≡ 0) (λ untouched. move ! (1 ∷ []) $ heard ! (x.rest ≡ xs.slots) (λ rest.
+          -- [what the table follows; the tokens with the loan; the right; the open borrow; the rest; obs; auth]
+          move ! (3 ∷ 5 ∷ 6 ∷ 2 ∷ 0 ∷ 4 ∷ []) $ group ! 6 $
+          use1 𝓛 (later (some (λ (tie : GName). ‵ (flft κ (Share.left q)) ⊛ ‵ (follows W W γ tie (with_values v)))))
+          (closes_named 𝓛 (mem W) (mem CP) (mem CP) (with_values xs) (with_values xs) (with_values v) (λ w. same v d w d'.1) κ (Share.left q) b o b place γ δ x.tie (O.Rest K V P G 𝓛 b o d)
+          (λ w. O.shut K V P G 𝓛 b o (with_values xs w) (written d w) (written_known v d w d'.1)) n (W.coded.code v) (W.coded.code v) v) $ await ! tt $ pick ! (λ tie. split ! $
+          -- [half of κ's token; what the map follows; the tokens with the loan]
+          move ! (2 ∷ []) $ split ! $ split3 ! $ move ! (4 ∷ 0 ∷ []) $ use2 𝓛 (‵ (flft κ q)) (𝓛.lfts.lft_join κ q) $ move ! (2 ∷ []) $ split ! $
+          -- [the token of κB; nothing; that of κ; that of κA; the loan; what the map follows]
+          move ! (4 ∷ []) $ peeks ! It _ (shows 𝓛 It) x (u ∷ []) (λ shown. fsplit ! $ move ! (1 ∷ []) $ in_a_block ! x.start (λ p. frozen_pairs κ K V p x.from x.name x.rest) (id⊢ 𝓤 _) (λ bx ox e.
+          let made : Val = vstruct (vcons (vptr bx ox) (vcons (vstruct vnil) vnil)) in
+          let word : u ≡ made = ap only (lowers.val_is x (u ∷ []) shown ∙ ap (λ (p : Ptr). lowers.lowered (record x { start = p }) ∷ []) e) in
+          rewrite ! 0 (λ (p : Ptr). ‵ (frozen_pairs κ K V p x.from x.name x.rest)) (sym e) refl $ move ! (1 ∷ 0 ∷ []) $ fjoin ! $
+          rewrite ! 0 (λ (w : Val). ‵ (It.own_val x (w ∷ []))) word refl $ lands_as ! word refl (tt, (tt, (tt, tt))) $
+          let new : PairLoan A.Denot B.Denot = record x { tie = tie } in
+          -- [the loan; the token of κB; nothing; that of κ; that of κA; what the map follows]
+          returns ! (look_at ! 0 refl) $ free_all ! refl $ keep ! (0 ∷ 3 ∷ 4 ∷ 1 ∷ 5 ∷ []) $
+          suffices ! _ (ends_at 𝓛 ended stayed spec bound made new (tt, tt) (tt, tt)) $
+          nothing ! $ nothing ! $ fjoin ! $ join ! $ nothing ! $ move ! (4 ∷ 0 ∷ []) $ join ! $ move ! (3 ∷ 0 ∷ []) $ join ! $ move ! (2 ∷ 0 ∷ []) $ join ! $ join ! $ frame ! $
+          use0 𝓛 (raw (fact 𝓤 (new.rest ≡ v.slots))) (fact_i 𝓤 _ (emp 𝓤) (rest ∙ ap (λ (m : Bag). m.slots) d'.1.0)) $
+          use0 𝓛 (raw (fact 𝓤 (new.from ≡ 0))) (fact_i 𝓤 _ (emp 𝓤) untouched) $ move ! (2 ∷ 0 ∷ 1 ∷ []) $ done !)))))))))))))
+
+meets : (A B : RattleType) (E : Eq.Ghosts A.Denot) (dE : Dict) (P : PartialEq.Ghosts A.Denot) (dP : Dict) (G : Hash.Ghosts A.Denot) (dG : Dict) → Laws A → Laws B → {M : Type 1} {𝓤 : Ura M} (𝓛 : Logic 𝓤) (at_mem : Memory → SProp 𝓤) (run : Routine → Fun 𝓤) (𝓣 : Tables 𝓤 𝓛.H)
+    → Triple 𝓤 (𝓣.C (#run (lends A B E dE P dP G dG))) (Run A B E dE P dP G dG 𝓛 at_mem run)
+    → Meets 𝓛 (ended A B E dE P dP G dG).signature (WpFn 𝓤 𝓛.H 𝓣.C 𝓣.Λ (here A B E dE P dP G dG)) (closing 𝓛 (ended A B E dE P dP G dG) (spec A B E dE P dP G dG 𝓛 at_mem run))
+meets A B E dE P dP G dG LA LB {𝓤 = 𝓤} 𝓛 at_mem run 𝓣 gr =
+    walk_Meets 𝓛 (ended A B E dE P dP G dG) (stayed A B E dE P dP G dG) (Goes-spent_ref 𝓛 3 (0 ∷ []) tt (plain (λ _. W A B E dE P dP G dG)), tt)
+    (spec A B E dE P dP G dG 𝓛 at_mem run) (WpFn 𝓤 𝓛.H 𝓣.C 𝓣.Λ (here A B E dE P dP G dG)) (WpFn-mono 𝓤 𝓛.H 𝓛.laws 𝓣 (here A B E dE P dP G dG))
+    (walked 𝓛 (ended A B E dE P dP G dG) (stayed A B E dE P dP G dG) (spec A B E dE P dP G dG 𝓛 at_mem run) (WpFn 𝓤 𝓛.H 𝓣.C 𝓣.Λ (here A B E dE P dP G dG)) (λ κs. (mut_vals, tt)) (λ κs. (mut_Tells (named 0) κs.0 (W A B E dE P dP G dG), tt))
+    (λ κs qs bounds a g' are. walk A B E dE P dP G dG 𝓛 at_mem run LA LB 𝓣.C 𝓣.Λ (fm_of 𝓤 𝓛.H 𝓛.laws 𝓣) gr κs.0 κs.1.0 κs.1.1.0 qs.0 qs.1.0 qs.1.1.0 bounds a.0))
+
+pub lend_spec : {M : Type 1} → stated.statement M
+unfolding tables_of
+lend_spec 𝓤 𝓛 𝓜 𝓡 wired A B LA LB E dE P dP G dG is_eq is_partial is_hash =
+    let 𝓣 : Tables 𝓤 𝓛.H = tables_of 𝓤 𝓛.H 𝓜 (tables 𝓤 𝓛.H 𝓜 𝓡 𝓡.env) in
+    entered 𝓤 𝓛.H (triple_of 𝓛 (F.signature A B E dE P dP G dG) (F.spec A B E dE P dP G dG 𝓛 𝓜.mem 𝓡.returns)) 𝓣.C 𝓣.Λ (#self (args A B E dE P dP G dG)) (here A B E dE P dP G dG) (code.unfolded 𝓤 𝓛.H 𝓜 𝓡 wired (A, (B, tt)) dE dP dG)
+    (meets A B E dE P dP G dG LA LB 𝓛 𝓜.mem 𝓡.returns 𝓣 (loan.met 𝓤 𝓛 𝓜 𝓡 (code.calls-starlark_table::ready_table::pairs::ReadyTable+tuple2+K+V::lend_pairs 𝓡.env wired) A B LA LB))

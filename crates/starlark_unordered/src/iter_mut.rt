@@ -1,0 +1,71 @@
+//! The iterators that lend the values of an `UnorderedMap` for writing. Each is seen as the pairs that are left, and the
+//! name of its loan.
+ghost use Rattle.std.specs.Prelude.{◌≡◌, length, IfSome, Some};
+ghost use Rattle.std.specs.Iterator.{UpTo, at_most};
+ghost use Rattle.std.specs.Iterator.SizeHint.{IsWithinCount};
+ghost use Rattle.std.specs.Map.{values_of};
+ghost use Rattle.std.specs.Map.Iter.{TakesFirst};
+ghost use Rattle.starlark_table.specs.Lends.{written_through};
+
+pub use starlark_table::PairsMut as EntriesMut;
+use std::iter::FusedIterator;
+use std::marker::Model;
+
+/// The values of a map, each by `&mut`.
+#[derive(Drop)]
+pub struct ValuesUnorderedMut<'a, K, V> {
+    inner: EntriesMut<'a, K, V>,
+}
+
+impl<'a, K, V> Model for ValuesUnorderedMut<'a, K, V> {
+    ghost use Rattle.std.specs.Prelude.{List};
+    ghost use Rattle.std.specs.Borrow.{GName};
+
+    ghost Value = { List (K × V) × GName };
+
+    ghost view = { λ it. it.inner };
+}
+
+impl<'a, K, V> ValuesUnorderedMut<'a, K, V> {
+    #[inline]
+    pub(crate) fn new(inner: EntriesMut<'a, K, V>) -> Self
+        ensures { result ≡ inner.entry }
+    {
+        ValuesUnorderedMut { inner }
+    }
+}
+
+impl<'a, K, V> Iterator for ValuesUnorderedMut<'a, K, V> {
+    type Item = &'a mut V;
+
+    ghost next_gives = { λ s r t. TakesFirst written_through (values_of s.0) r (values_of t.0) };
+
+    ghost remaining = { λ s. at_most (length (values_of s.0)) };
+
+    #[inline]
+    fn next(&mut self) -> Option<&'a mut V> {
+        match self.inner.next() {
+            Some((_, value)) => Some(value),
+            None => None,
+        }
+    }
+
+    #[inline]
+    fn size_hint(&self) -> (usize, Option<usize>)
+        ensures lower { IsWithinCount result.0 (at_most (length (values_of self.now.0))) }
+        ensures upper { IfSome result.1 (UpTo (at_most (length (values_of self.now.0)))) }
+        ensures exact { result ≡ (length (values_of self.now.0), Some (length (values_of self.now.0))) }
+    {
+        let len = self.len();
+        (len, Some(len))
+    }
+}
+
+impl<'a, K, V> ExactSizeIterator for ValuesUnorderedMut<'a, K, V> {
+    #[inline]
+    fn len(&self) -> usize {
+        self.inner.len()
+    }
+}
+
+impl<'a, K, V> FusedIterator for ValuesUnorderedMut<'a, K, V> {}

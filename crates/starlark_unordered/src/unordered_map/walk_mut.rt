@@ -1,0 +1,47 @@
+//! The walks that write the values of an `UnorderedMap`, in an order that nothing promises. Keys and hashes stay.
+ghost use Rattle.std.specs.Prelude.{◌≡◌, ◌^◌, ◌<◌, length};
+ghost use Rattle.std.specs.Borrow.{sem};
+ghost use Rattle.std.specs.Map.{values_of};
+ghost use Rattle.starlark_unordered.specs.Lending.{values_follow};
+ghost use Rattle.starlark_unordered.specs.Pairs.{pairs_of, HasDistinctKeys};
+
+use super::UnorderedMap;
+use crate::iter_mut::{EntriesMut, ValuesUnorderedMut};
+use starlark_table::PairLoan;
+use std::hash::Hash;
+
+impl<K: Eq + Hash, V> UnorderedMap<K, V> {
+    /// The pairs, each once, to write the values. No two keys are equal. The map ends with what is left in the values,
+    /// and all else stays.
+    #[inline]
+    pub fn entries_unordered_mut(&mut self) -> EntriesMut<'_, K, V>
+        ensures* writes_back { sem 𝓛 (values_follow K.row V.row K.Hash self.entry result.1) }
+        ensures pairs { result.0 ≡ pairs_of self.old }
+        ensures distinct { HasDistinctKeys K.eq (pairs_of self.old) }
+        ensures fits { length (pairs_of self.old) < 2 ^ 64 }
+    {
+        let left = self.len();
+        let end = self.table.slot_count();
+        EntriesMut::of(self.lend(), end, left)
+    }
+
+    /// The values, each once for its key, to write them. The map ends with what is left in them, and all else stays.
+    #[inline]
+    pub fn values_unordered_mut(&mut self) -> ValuesUnorderedMut<'_, K, V>
+        ensures* writes_back { sem 𝓛 (values_follow K.row V.row K.Hash self.entry result.1) }
+        ensures values { values_of result.0 ≡ values_of (pairs_of self.old) }
+        ensures fits { length (pairs_of self.old) < 2 ^ 64 }
+    {
+        ValuesUnorderedMut::new(self.entries_unordered_mut())
+    }
+
+    // The right to write the values, which an `EntriesMut` walks.
+    #[inline]
+    fn lend(&mut self) -> PairLoan<'_, K, V>
+        ensures* writes_back { sem 𝓛 (values_follow K.row V.row K.Hash self.entry result.tie) }
+        ensures untouched { result.from ≡ 0 }
+        ensures rest { result.rest ≡ self.old.slots }
+    {
+        self.table.lend_pairs()
+    }
+}
