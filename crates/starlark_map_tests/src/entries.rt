@@ -1,7 +1,7 @@
 //! What calls on entries of a map give, in maps without an index and with one.
 
 use crate::given::{Numbers, holds, pairs, same, size, under};
-use starlark_hash::{NoRoom, TextKey};
+use starlark_hash::{Hashed, NoRoom, TextKey};
 use starlark_small::{Entry, SmallMap};
 use std::alloc::Global;
 use std::test::Fail;
@@ -36,14 +36,14 @@ fn two_texts(alloc: Global) -> Result<SmallMap<String, u32>, Fail> {
 }
 
 // The value under a key, raised by five where it has one, and else 10.
-fn raised(map: &mut SmallMap<String, u32>, key: String) -> Option<u32> {
+fn raised(
+    map: &mut SmallMap<String, u32>,
+    key: String,
+) -> Result<u32, NoRoom<(Hashed<String>, u32)>> {
     let entry = map
         .entry(key)
         .and_modify(|value| *value = value.wrapping_add(5));
-    match entry.or_insert(10) {
-        Ok(value) => Some(*value),
-        Err(_) => None,
-    }
+    Ok(*entry.or_insert(10)?)
 }
 
 #[test]
@@ -51,7 +51,7 @@ fn modifies_and_inserts(rt: HostRuntime) -> Result<(), Fail> {
     let mut map = two_texts(rt.alloc())?;
     for (key, value) in [("key1", 15), ("key2", 10)] {
         let key = key.to_string(rt.alloc())?;
-        same(&rt, raised(&mut map, key), Some(value));
+        same(&rt, raised(&mut map, key)?, value);
     }
     holds(&rt, map.get_index(2).map(|pair| *pair.1) == Some(10));
     Ok(())
