@@ -5,3 +5,4 @@ pub mod Lends
 pub mod Claims
 pub mod Front
 pub mod ColumnLends
+pub mod formers
