@@ -1,6 +1,6 @@
 //! What several tests begin with: made at the second attempt where a request of the first is refused.
 
-use starlark_hash::{Hashed, StarlarkHashValue};
+use starlark_hash::{Hashed, NoRoom, StarlarkHashValue};
 use starlark_small::SmallMap;
 use std::alloc::Global;
 use std::fmt::Debug;
@@ -32,6 +32,14 @@ pub(crate) fn falling(alloc: Global) -> Result<SmallMap<&'static str, u32>, Fail
         map.insert_hashed(under(3, "a"), 2)?;
     }
     Ok(map)
+}
+
+// What came back, where a call was refused.
+pub(crate) fn handed_back<R: Drop, T>(found: Result<R, NoRoom<T>>) -> Option<T> {
+    match found {
+        Ok(_) => None,
+        Err(refused) => Some(refused.0),
+    }
 }
 
 // Ends the process where this does not hold. A test that calls it learns nothing by it, as it does by an assertion, and

@@ -2,7 +2,11 @@
 #![tactic(auto)]
 
 #[cfg(test)]
+mod entries;
+#[cfg(test)]
 mod given;
+#[cfg(test)]
+mod keys;
 #[cfg(test)]
 mod lists;
 #[cfg(test)]
@@ -10,6 +14,12 @@ mod made_maps;
 #[cfg(test)]
 mod maps;
 #[cfg(test)]
+mod ordered;
+#[cfg(test)]
 mod runs;
 #[cfg(test)]
+mod sets;
+#[cfg(test)]
 mod tables;
+#[cfg(test)]
+mod unordered;

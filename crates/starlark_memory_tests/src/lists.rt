@@ -92,3 +92,48 @@ fn makes_room_for_entries_or_stays(rt: HostRuntime) -> Result<(), Fail> {
     holds(&rt, 41 <= map.capacity());
     Ok(())
 }
+
+#[test]
+fn gives_room_back_or_stays(rt: HostRuntime) -> Result<(), Fail> {
+    let mut list = pairs(rt.alloc(), 3)?;
+    let done = list.shrink_to_fit().is_ok();
+    same(&rt, (list.len(), list.get(2)), (3, Some((&2, &2))));
+    same(&rt, list.capacity(), if done { 3 } else { 4 });
+    Ok(())
+}
+
+#[test]
+fn sorts_pairs_or_stays(rt: HostRuntime) -> Result<(), Fail> {
+    let mut list = pairs(rt.alloc(), 3)?;
+    let done = list.sort_by(|a, b| b.0.cmp(a.0)).is_ok();
+    let first = if done { 2 } else { 0 };
+    same(&rt, list.get(0), Some((&first, &first)));
+    same(&rt, (list.len(), list.capacity()), (3, 4));
+    Ok(())
+}
+
+#[test]
+fn sorts_and_copies_entries(rt: HostRuntime) -> Result<(), Fail> {
+    let mut map: VecMap<u32, u32> = match VecMap::with_capacity(rt.alloc(), 2) {
+        Ok(map) => map,
+        Err(_) => VecMap::with_capacity(rt.alloc(), 2)?,
+    };
+    holds(
+        &rt,
+        map.insert_hashed_unique_unchecked(under(7, 2), 20).is_ok(),
+    );
+    holds(
+        &rt,
+        map.insert_hashed_unique_unchecked(under(7, 1), 10).is_ok(),
+    );
+    if map.sort_keys().is_err() {
+        holds(&rt, map.get_index(0) == Some((&2, &20)));
+        map.sort_keys()?;
+    }
+    let copy = match map.clone() {
+        Ok(copy) => copy,
+        Err(_) => map.clone()?,
+    };
+    holds(&rt, copy.get_index(0) == Some((&1, &10)));
+    Ok(())
+}

@@ -7,10 +7,10 @@ use Rattle.std.specs.String.{string_cmp}
 use Rattle.std.specs.declared.string.String.{String}
 use Rattle.std.specs.declared.alloc.Global.{Global}
 use Rattle.std.proofs.lemmas.List.{length-map}
-use Rattle.std.proofs.lemmas.Option.{slice_get-map}
+use Rattle.std.proofs.lemmas.Option.{slice_get-map, none-some}
 use Rattle.starlark_hash.specs.declared.hashed.Hashed.{Hashed}
 use Rattle.starlark_hash.specs.declared.hash_value.StarlarkHashValue.{StarlarkHashValue}
-use Rattle.starlark_hash.specs.Entries.{Entry, entry_value, pair_of, entry_at, position_of, value_at, set_value_at, match_of, insert_entry, without}
+use Rattle.starlark_hash.specs.Entries.{Entry, entry_value, pair_of, entry_at, position_of, value_at, set_value_at, match_of, insert_entry, with_value, without}
 use Rattle.starlark_hash.specs.HashValue.{hashed, hash_of, key_of}
 use Rattle.starlark_hash.specs.Sorting.{Ascends, key_lt, sorted_by_key}
 use Rattle.starlark_lines.specs.Commands.{Key}
@@ -75,6 +75,24 @@ found es key shown h k =
     value-entries_of es (hash_of key) (string_bytes (key_of key))
     ∙ ap (λ hash. value_at (entries_of es) (position_of hash (bytes_eq (string_bytes (key_of key))) (entries_of es))) h
     ∙ ap (λ text. value_at (entries_of es) (position_of (hash_of shown) (bytes_eq text) (entries_of es))) k
+
+-- a value is written by bytes under the string with these bytes, where there is one
+pub written : (es : List (Entry (String Global) ℤ)) (hash : StarlarkHashValue) (bytes : List ℕ) (old value : ℤ)
+    → Some old ≡ value_at es (position_of hash (λ key. bytes_eq bytes (string_bytes key)) es)
+    → entries_of (with_value es (position_of hash (λ key. bytes_eq bytes (string_bytes key)) es) value) ≡ insert_entry bytes_eq (entries_of es) (hashed hash bytes) value
+written es hash bytes old value h =
+    by (position_of hash (λ key. bytes_eq bytes (string_bytes key)) es) h
+    ∙ sym (ap (λ place. option_map_or (λ i. set_value_at (entries_of es) i value) place (entries_of es ++ (hashed hash bytes, value) ∷ [])) (position_of-entries_of es hash (bytes_eq bytes)))
+  where
+    by : (place : Option ℕ) → Some old ≡ value_at es place
+        → entries_of (with_value es place value) ≡ option_map_or (λ i. set_value_at (entries_of es) i value) place (entries_of es ++ (hashed hash bytes, value) ∷ [])
+    by None e = absurd (none-some old (sym e))
+    by (Some i) e = sym (set_value_at-entries_of es i value)
+
+-- no string with these bytes, no such bytes
+pub lacking : (es : List (Entry (String Global) ℤ)) (hash : StarlarkHashValue) (bytes : List ℕ)
+    → position_of hash (λ key. bytes_eq bytes (string_bytes key)) es ≡ None → position_of hash (bytes_eq bytes) (entries_of es) ≡ None
+lacking es hash bytes h = position_of-entries_of es hash (bytes_eq bytes) ∙ h
 
 -- a removal by bytes removes the string with these bytes
 pub removed : (es new : List (Entry (String Global) ℤ)) (hash : StarlarkHashValue) (bytes : List ℕ)

@@ -1,6 +1,6 @@
 -- Results whose error is replaced.
 use Rattle.std.proofs.Common.{◌≡◌, Result, Ok, Err, sym, subst}
-use Rattle.std.specs.Prelude.{IfOk, MatchResult, IsErrAnd}
+use Rattle.std.specs.Prelude.{IfOk, OnErr, MatchResult, IsErrAnd}
 
 pub IfOk-map_err : {T E F : Type 0} (r : Result T E) (s : Result T F) (Q : E → F → Type 0) (P : T → Type 0)
     → MatchResult r (λ x. s ≡ Ok x) (λ e. IsErrAnd s (Q e)) → IfOk r P → IfOk s P
@@ -11,3 +11,7 @@ IfOk-map_err (Err e) (Err f) Q P m h = tt
 pub IfOk-weaker : {T E : Type 0} (r : Result T E) (P Q : T → Type 0) → ((x : T) → P x → Q x) → IfOk r P → IfOk r Q
 IfOk-weaker (Ok x) P Q f h = f x h
 IfOk-weaker (Err e) P Q f h = tt
+
+pub OnErr-always : {T E : Type 0} (r : Result T E) (P : Type 0) → P → OnErr r P
+OnErr-always (Ok x) P h = tt
+OnErr-always (Err e) P h = h

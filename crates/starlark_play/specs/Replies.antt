@@ -1,5 +1,5 @@
 -- What is answered to the commands of a script.
-use Rattle.std.specs.Prelude.{ℕ, ◌-◌, ◌<◌, ℤ, List, [], ◌∷◌, ◌++◌, length, remove, reverse, slice_get, Option, Some, None, codes, decimal, flat_map}
+use Rattle.std.specs.Prelude.{◌≡◌, ℕ, ◌-◌, ◌<◌, ℤ, List, [], ◌∷◌, ◌++◌, length, remove, reverse, slice_get, Option, Some, None, codes, decimal, flat_map}
 use Rattle.std.specs.Cmp.Lexicographic.{slice_cmp}
 use Rattle.std.specs.Fmt.{signed_decimal}
 use Rattle.std.specs.Option.{option_map}
@@ -64,10 +64,10 @@ after es Slim = es
 after es Len = es
 after es Walk = es
 
--- the commands for which memory may be asked at these entries: an insertion, a sort where the keys do not ascend, and
--- a reservation of some room
+-- the commands for which memory may be asked at these entries: an insertion of a new key, a sort where the keys do
+-- not ascend, and a reservation of some room
 abbrev pub MayNeedMemory : Entries → Command → Type 0
-MayNeedMemory es (Put key value) = Unit {0}
+MayNeedMemory es (Put key value) = match_of bytes_eq es key ≡ None
 MayNeedMemory es Sort = ¬ (Ascends bytes_cmp es)
 MayNeedMemory es (Reserve additional) = 0 < additional
 MayNeedMemory es command = ⊥

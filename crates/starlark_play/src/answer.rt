@@ -1,5 +1,5 @@
 //! What each command does to the map, and what is replied.
-ghost use Rattle.std.specs.Prelude.{◌≡◌, ◌≢◌, ℕ, ◌-◌, ◌<◌, ◌≤◌, false, nat_le, if◌then◌else◌, [], length, remove, reverse, slice_get, IfOk, OnOk, IfErr, OnErr, Some, codes, decimal, flat_map};
+ghost use Rattle.std.specs.Prelude.{◌≡◌, ◌≢◌, ℕ, ◌-◌, ◌<◌, ◌≤◌, false, nat_le, if◌then◌else◌, [], length, remove, reverse, slice_get, IfOk, OnOk, IfErr, OnErr, Some, None, codes, decimal, flat_map};
 ghost use Rattle.std.specs.Io.KnownBytes.{Keeps, Appends};
 ghost use Rattle.std.specs.Option.{option_map};
 ghost use Rattle.std.specs.Str.{bytes_eq};
@@ -67,8 +67,28 @@ pub fn answer<W: Write>(
     }
 }
 
-// Inserts a copy of the key.
+// Puts a value under a key that is there, or inserts a copy of a new one.
 fn put(
+    alloc: Global,
+    map: &mut SmallMap<String, i64>,
+    key: Hashed<TextKey<'_>>,
+    value: i64,
+) -> Result<Option<i64>, PlayFault>
+    ensures old { IfOk result (λ old. old ≡ value_at (entries_of map.old.entries) (match_of bytes_eq (entries_of map.old.entries) (shown_key key.entry))) }
+    ensures entries { OnOk result (entries_of map.new.entries ≡ insert_entry bytes_eq (entries_of map.old.entries) (shown_key key.entry) value) }
+    ensures err { IfErr result (λ fault. fault ≡ PlayFault.Memory) }
+    ensures needed { OnErr result (match_of bytes_eq (entries_of map.old.entries) (shown_key key.entry) ≡ None) }
+{
+    if let Some(there) = map.get_mut_hashed(key.as_ref()) {
+        let old = *there;
+        *there = value;
+        return Ok(Some(old));
+    }
+    insert_copy(alloc, map, key, value)
+}
+
+// Inserts a copy of the key.
+fn insert_copy(
     alloc: Global,
     map: &mut SmallMap<String, i64>,
     key: Hashed<TextKey<'_>>,
