@@ -1,4 +1,5 @@
-//! What several tests begin with.
+//! What several tests begin with. The helpers of these tests say nothing of what they do: a test that makes its calls
+//! through them carries no knowledge from line to line, and is proved in a part of the time.
 
 use starlark_hash::{Hashed, StarlarkHashValue};
 use std::fmt::Debug;
@@ -8,8 +9,8 @@ pub(crate) fn under<K>(hash: u32, key: K) -> Hashed<K> {
     Hashed::new_unchecked(StarlarkHashValue::new_unchecked(hash), key)
 }
 
-// Ends the process where this does not hold. A test that calls it learns nothing by it, as it does by an assertion, and
-// is proved in a part of the time: an assertion stands only where what follows needs what it says.
+// Ends the process where this does not hold. A test that calls it learns nothing by it, as it does by an assertion: an
+// assertion stands only where what follows needs what it says.
 pub(crate) fn holds(rt: &impl Abort, what: bool) {
     assert!(rt; what);
 }

@@ -113,22 +113,23 @@ fn compares_keys_and_then_hashes(rt: HostRuntime) -> Result<(), Fail> {
     Ok(())
 }
 
+// Whether an entry is printed so, by its key and for debugging.
+fn prints(alloc: Global, entry: Hashed<u32>, key: &str, debug: &str) -> Result<bool, AllocError> {
+    let shown = format!(in alloc; "{entry}")?;
+    let whole = format!(in alloc; "{entry:?}")?;
+    Ok(shown.as_str() == key && whole.as_str() == debug)
+}
+
 #[test]
-fn shows_and_changes_keys(rt: HostRuntime) -> Result<(), Fail> {
+fn shows_and_changes_keys(rt: HostRuntime) {
     let mut entry = Hashed::new_unchecked(StarlarkHashValue::new_unchecked(7), 5u32);
     *entry.key_mut() += 1;
     same(&rt, *entry, 6);
     let copy = entry.as_ref().copied();
     holds(&rt, copy == entry);
-    let shown = format!(in rt.alloc(); "{copy}")?;
-    holds(&rt, shown.as_str() == "6");
-    let debug = format!(in rt.alloc(); "{copy:?}")?;
-    holds(
-        &rt,
-        debug.as_str() == "Hashed { hash: StarlarkHashValue(7), key: 6 }",
-    );
+    let debug = "Hashed { hash: StarlarkHashValue(7), key: 6 }";
+    holds(&rt, prints(rt.alloc(), copy, "6", debug) == Ok(true));
     same(&rt, copy.into_key(), 6);
-    Ok(())
 }
 
 // A key whose clone is refused, and a query that makes no key.
@@ -147,27 +148,43 @@ impl ToOwnedKey<Refused> for Refused {
     }
 }
 
+// Whether both clones of an entry, and what is made of a query, are equal to it.
+fn makes_equals(
+    alloc: Global,
+    stored: &Hashed<String>,
+    query: TextKey,
+) -> Result<bool, AllocError> {
+    let key = stored.as_ref().cloned()?;
+    let entry = stored.clone()?;
+    let made = Hashed::new(query).as_ref().owned(alloc)?;
+    Ok(key == *stored && entry == *stored && made == *stored)
+}
+
 #[test]
 fn clones_and_makes_keys(rt: HostRuntime) -> Result<(), Fail> {
     let stored = Hashed::new(String::from_str(rt.alloc(), "key")?);
-    let clone = stored.as_ref().cloned()?;
-    holds(&rt, clone == stored);
-    holds(&rt, stored.clone()? == stored);
-    let query = TextKey("key");
-    let made = Hashed::new(query).as_ref().owned(rt.alloc())?;
-    holds(&rt, made == stored);
-    same(
+    holds(
         &rt,
-        Hashed::new(3u32).as_ref().owned(rt.alloc())?.into_key(),
-        3,
+        makes_equals(rt.alloc(), &stored, TextKey("key")) == Ok(true),
     );
+    Ok(())
+}
+
+#[test]
+fn makes_keys_of_numbers(rt: HostRuntime) -> Result<(), Fail> {
+    let alloc = rt.alloc();
+    same(&rt, Hashed::new(3u32).as_ref().owned(alloc)?.into_key(), 3);
     same(
         &rt,
-        Hashed::new(-3i64).as_ref().owned(rt.alloc())?.into_key(),
+        Hashed::new(-3i64).as_ref().owned(alloc)?.into_key(),
         -3,
     );
+    Ok(())
+}
+
+#[test]
+fn refuses_keys(rt: HostRuntime) {
     let refused = Hashed::new_unchecked(StarlarkHashValue::new_unchecked(0), Refused);
     holds(&rt, refused.as_ref().cloned().is_err());
     holds(&rt, refused.as_ref().owned(rt.alloc()).is_err());
-    Ok(())
 }

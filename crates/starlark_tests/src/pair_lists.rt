@@ -2,125 +2,154 @@
 
 use crate::given::{holds, same};
 use starlark_vec2::{PairsMut, ValuesMut, Vec2};
-use std::alloc::{AllocError, Global};
+use std::alloc::Global;
 use std::cmp::Ordering;
+use std::fmt::Debug;
 use std::test::Fail;
 
-fn list_of(alloc: Global, pairs: &[(u32, u32)]) -> Result<Vec2<u32, u32>, AllocError> {
-    let mut list = Vec2::new(alloc);
+type Pairs = Vec2<u32, u32>;
+
+// A list of these pairs, with a capacity for so many at least.
+fn list_of(alloc: Global, capacity: usize, pairs: &[(u32, u32)]) -> Result<Pairs, Fail> {
+    let mut list = Vec2::with_capacity(alloc, capacity)?;
     for pair in pairs {
-        if list.push(pair.0, pair.1).is_err() {
-            return Err(AllocError);
-        }
+        list.push(pair.0, pair.1)?;
     }
     Ok(list)
 }
 
+// Whether the list has these pairs and no more.
+fn shows(list: &Pairs, pairs: &[(u32, u32)]) -> bool {
+    let mut walk = list.iter();
+    for pair in pairs {
+        match walk.next() {
+            Some((first, second)) if (*first, *second) == *pair => {}
+            _ => return false,
+        }
+    }
+    walk.next().is_none()
+}
+
+// The capacity after a push, and none where it was refused.
+fn capacity_pushed(list: &mut Pairs, first: u32) -> Option<usize> {
+    match list.push(first, 0) {
+        Ok(()) => Some(list.capacity()),
+        Err(_) => None,
+    }
+}
+
+// Whether more room was made, and the capacity then.
+fn reserved(list: &mut Pairs, additional: usize) -> (bool, usize) {
+    let made = list.reserve(additional).is_ok();
+    (made, list.capacity())
+}
+
 #[test]
-fn capacity_grows_by_the_rule(rt: HostRuntime) -> Result<(), Fail> {
+fn capacity_grows_by_the_rule(rt: HostRuntime) {
     let mut list = Vec2::new(rt.alloc());
     same(&rt, list.capacity(), 0);
     holds(&rt, list.is_empty());
-    for (pushes, capacity) in [(1, 4), (2, 4), (3, 4), (4, 4), (5, 8)] {
-        list.push(pushes, "pair")?;
-        assert_eq!(rt; list.capacity(), capacity, "after {pushes}");
+    for (first, capacity) in [(1, 4), (2, 4), (3, 4), (4, 4), (5, 8)] {
+        same(&rt, capacity_pushed(&mut list, first), Some(capacity));
     }
-    list.reserve(3)?;
-    same(&rt, list.capacity(), 8);
-    list.reserve(100)?;
-    same(&rt, list.capacity(), 105);
-    holds(&rt, list.reserve(usize::MAX).is_err());
-    same(&rt, list.capacity(), 105);
-    Ok(())
+    same(&rt, reserved(&mut list, 3), (true, 8));
+    same(&rt, reserved(&mut list, 100), (true, 105));
+    same(&rt, reserved(&mut list, usize::MAX), (false, 105));
+}
+
+// The capacity of a list that is made of so many pairs.
+fn capacity_made(alloc: Global, count: u32) -> Option<usize> {
+    match Vec2::from_iter(alloc, (0..count).map(|i| (i, i))) {
+        Ok(list) => Some(list.capacity()),
+        Err(_) => None,
+    }
+}
+
+// The length and the capacity of a list of one pair that so many are added to.
+fn sizes_extended(alloc: Global, count: u32) -> Result<(usize, usize), Fail> {
+    let mut list = list_of(alloc, 0, &[(1, 2)])?;
+    list.extend((0..count).map(|i| (i, i)))?;
+    Ok((list.len(), list.capacity()))
 }
 
 #[test]
 fn from_iter_takes_the_size_hint(rt: HostRuntime) -> Result<(), Fail> {
-    for n in [2, 3, 5, 7, 11] {
-        let list = Vec2::from_iter(rt.alloc(), (0u32..n).map(|i| (i, i + 1)))?;
-        assert_eq!(rt; list.capacity(), n as usize, "of {n} pairs");
+    for (pairs, capacity) in [(2, 2), (3, 3), (5, 5), (7, 7), (11, 11)] {
+        same(&rt, capacity_made(rt.alloc(), pairs), Some(capacity));
     }
-    let mut list = list_of(rt.alloc(), &[(1, 2)])?;
-    list.extend((0u32..6).map(|i| (i, i)))?;
-    same(&rt, list.len(), 7);
-    same(&rt, list.capacity(), 8);
+    same(&rt, sizes_extended(rt.alloc(), 6)?, (7, 8));
     // Pushed one by one, ten more would leave room for 16.
-    let mut list = list_of(rt.alloc(), &[(1, 2)])?;
-    list.extend((0u32..10).map(|i| (i, i)))?;
-    same(&rt, list.capacity(), 11);
+    same(&rt, sizes_extended(rt.alloc(), 10)?, (11, 11));
     Ok(())
 }
 
-#[test]
-fn shrinks_to_the_pairs(rt: HostRuntime) -> Result<(), Fail> {
-    let mut list = list_of(rt.alloc(), &[(1, 2), (3, 4)])?;
-    list.reserve(50)?;
-    same(&rt, list.capacity(), 52);
-    list.shrink_to_fit()?;
-    same(&rt, list.capacity(), 2);
-    same(&rt, list.get(1), Some((&3, &4)));
-    Ok(())
-}
-
-// With the third or the fourth allocation refused, the list has to stay as it was.
+// Whichever allocation is refused, the list has to stay as it was.
 #[test]
 fn shrink_to_fit_keeps_the_pairs(rt: HostRuntime) -> Result<(), Fail> {
-    let mut list = Vec2::with_capacity(rt.alloc(), 10)?;
-    list.push(1u32, 2u32)?;
-    list.push(3, 4)?;
+    let mut list = list_of(rt.alloc(), 10, &[(1, 2), (3, 4)])?;
     list.truncate(5);
-    same(&rt, list.len(), 2);
     let capacity = if list.shrink_to_fit().is_ok() { 2 } else { 10 };
     same(&rt, list.capacity(), capacity);
-    same(&rt, list.firsts(), [1, 3].as_slice());
-    same(&rt, list.seconds(), [2, 4].as_slice());
+    same(&rt, list.get(1), Some((&3, &4)));
+    holds(&rt, shows(&list, &[(1, 2), (3, 4)]));
     Ok(())
 }
 
 #[test]
 fn ends_of_a_list(rt: HostRuntime) -> Result<(), Fail> {
-    let mut list = Vec2::new(rt.alloc());
-    holds(&rt, list.first().is_none());
-    holds(&rt, list.last().is_none());
-    list.push(1u32, 2u32)?;
-    list.push(3, 4)?;
-    same(
-        &rt,
-        list.first().map(|pair| (*pair.0, *pair.1)),
-        Some((1, 2)),
-    );
-    same(
-        &rt,
-        list.last().map(|pair| (*pair.0, *pair.1)),
-        Some((3, 4)),
-    );
+    let mut list = list_of(rt.alloc(), 0, &[(1, 2), (3, 4)])?;
+    same(&rt, list.first(), Some((&1, &2)));
+    same(&rt, list.last(), Some((&3, &4)));
     same(&rt, list.pop(), Some((3, 4)));
     same(&rt, list.pop(), Some((1, 2)));
     same(&rt, list.pop(), None);
+    holds(&rt, list.first().is_none() && list.last().is_none());
     Ok(())
+}
+
+// The numbers below a hundred in digits, each with its double.
+fn hundred(alloc: Global) -> Result<Vec2<String, u32>, Fail> {
+    let mut list = Vec2::new(alloc);
+    for i in 0u32..100 {
+        list.push(i.to_string(alloc)?, i * 2)?;
+    }
+    Ok(list)
+}
+
+// Whether a text is a number below a hundred in digits, and another its double.
+fn is_row(alloc: Global, i: u32, text: &str, double: u32) -> bool {
+    match i.to_string(alloc) {
+        Ok(digits) => digits.as_str() == text && i.wrapping_mul(2) == double,
+        Err(_) => false,
+    }
+}
+
+fn lends_hundred(alloc: Global, list: &Vec2<String, u32>) -> bool {
+    for i in 0u32..100 {
+        match list.get(i as usize) {
+            Some((text, double)) if is_row(alloc, i, text.as_str(), *double) => {}
+            _ => return false,
+        }
+    }
+    list.get(100).is_none()
+}
+
+fn gives_hundred(alloc: Global, list: Vec2<String, u32>) -> bool {
+    let mut walk = list.into_iter();
+    for i in 0u32..100 {
+        match walk.next() {
+            Some((text, double)) if is_row(alloc, i, text.as_str(), double) => {}
+            _ => return false,
+        }
+    }
+    walk.next().is_none()
 }
 
 #[test]
 fn a_hundred_texts(rt: HostRuntime) -> Result<(), Fail> {
-    let mut list = Vec2::new(rt.alloc());
-    for i in 0u32..100 {
-        list.push(i.to_string(rt.alloc())?, i * 2)?;
-    }
-    for i in 0u32..100 {
-        let text = i.to_string(rt.alloc())?;
-        let pair = list.get(i as usize).ok_or("missing")?;
-        same(&rt, pair.0.as_str(), text.as_str());
-        same(&rt, *pair.1, i * 2);
-    }
-    holds(&rt, list.get(100).is_none());
-    let mut walk = list.into_iter();
-    for i in 0u32..100 {
-        let text = i.to_string(rt.alloc())?;
-        let pair = walk.next().ok_or("missing")?;
-        same(&rt, pair.0.as_str(), text.as_str());
-        same(&rt, pair.1, i * 2);
-    }
-    holds(&rt, walk.next().is_none());
+    let list = hundred(rt.alloc())?;
+    holds(&rt, lends_hundred(rt.alloc(), &list));
+    holds(&rt, gives_hundred(rt.alloc(), list));
     Ok(())
 }
 
@@ -131,88 +160,136 @@ fn by_both(x: (&u32, &u32), y: (&u32, &u32)) -> Ordering {
     }
 }
 
+// Whether it had the memory to sort by both parts.
+fn sort_by_both(list: &mut Pairs) -> bool {
+    list.sort_by(|x, y| by_both(x, y)).is_ok()
+}
+
+// Whether it had the memory to sort by the first parts.
+fn sort_by_first(list: &mut Pairs) -> bool {
+    list.sort_by(|x, y| x.0.cmp(y.0)).is_ok()
+}
+
 #[test]
 fn sort_by_both_parts_and_by_one(rt: HostRuntime) -> Result<(), Fail> {
-    let mut list = list_of(rt.alloc(), &[(1, 2), (3, 4), (2, 3), (3, 2)])?;
-    list.sort_by(|x, y| by_both(x, y))?;
-    same(&rt, list.firsts(), [1, 2, 3, 3].as_slice());
-    same(&rt, list.seconds(), [2, 3, 2, 4].as_slice());
-    let mut list = list_of(rt.alloc(), &[(3, 4), (1, 2), (3, 2), (1, 0)])?;
-    list.sort_by(|x, y| x.0.cmp(y.0))?;
-    same(&rt, list.firsts(), [1, 1, 3, 3].as_slice());
-    same(&rt, list.seconds(), [2, 0, 4, 2].as_slice());
+    let mut list = list_of(rt.alloc(), 0, &[(3, 4), (1, 2), (3, 2), (1, 0)])?;
+    holds(&rt, sort_by_first(&mut list));
+    holds(&rt, shows(&list, &[(1, 2), (1, 0), (3, 4), (3, 2)]));
+    holds(&rt, sort_by_both(&mut list));
+    holds(&rt, shows(&list, &[(1, 0), (1, 2), (3, 2), (3, 4)]));
     Ok(())
+}
+
+// The numbers below a hundred in another order, each with its place.
+fn mixed(alloc: Global) -> Result<Pairs, Fail> {
+    let mut list = Vec2::with_capacity(alloc, 100)?;
+    for i in 0u32..100 {
+        list.push((i * 37) % 100, i)?;
+    }
+    Ok(list)
+}
+
+// Whether the list has the pairs of `mixed`, sorted by their firsts or not.
+fn shows_mixed(list: &Pairs, sorted: bool) -> bool {
+    for i in 0u32..100 {
+        let wanted = if sorted { i } else { (i * 37) % 100 };
+        match list.get(i as usize) {
+            Some((first, second)) if (*first, second.wrapping_mul(37) % 100) == (wanted, wanted) =>
+                {}
+            _ => return false,
+        }
+    }
+    list.len() == 100
 }
 
 // A refused request leaves the list, whose pairs stand in falling and then in rising order.
 #[test]
 fn sort_of_many_pairs(rt: HostRuntime) -> Result<(), Fail> {
-    let mut list = Vec2::with_capacity(rt.alloc(), 100)?;
-    for i in 0u32..100 {
-        list.push((i * 37) % 100, i)?;
-    }
-    let sorted = list.sort_by(|x, y| x.0.cmp(y.0)).is_ok();
-    for i in 0u32..100 {
-        let pair = list.get(i as usize).ok_or("missing")?;
-        let first = if sorted { i } else { (i * 37) % 100 };
-        same(&rt, *pair.0, first);
-        same(&rt, pair.1.wrapping_mul(37) % 100, first);
-    }
+    let mut list = mixed(rt.alloc())?;
+    let sorted = sort_by_first(&mut list);
+    holds(&rt, shows_mixed(&list, sorted));
     same(&rt, list.capacity(), 100);
     Ok(())
 }
 
 #[test]
 fn retain_drops_one_pair(rt: HostRuntime) -> Result<(), Fail> {
-    let mut list = list_of(rt.alloc(), &[(1, 2), (2, 3), (3, 4)])?;
+    let mut list = list_of(rt.alloc(), 0, &[(1, 2), (2, 3), (3, 4)])?;
     list.retain(|first, _second| *first != 2);
-    same(&rt, list.firsts(), [1, 3].as_slice());
-    same(&rt, list.seconds(), [2, 4].as_slice());
+    holds(&rt, shows(&list, &[(1, 2), (3, 4)]));
     list.truncate(1);
-    same(&rt, list.firsts(), [1].as_slice());
+    holds(&rt, shows(&list, &[(1, 2)]));
     Ok(())
+}
+
+fn removed(list: &mut Pairs, index: usize) -> Option<(u32, u32)> {
+    if index < list.len() {
+        Some(list.remove(index))
+    } else {
+        None
+    }
+}
+
+// The capacity of a clone, whether it is equal and has these pairs.
+fn capacity_cloned(list: &Pairs, pairs: &[(u32, u32)]) -> Option<usize> {
+    match list.clone() {
+        Ok(copy) if copy == *list && shows(&copy, pairs) => Some(copy.capacity()),
+        _ => None,
+    }
+}
+
+fn prints(alloc: Global, list: &Pairs, wanted: &str) -> bool {
+    match format!(in alloc; "{list:?}") {
+        Ok(text) => text.as_str() == wanted,
+        Err(_) => false,
+    }
 }
 
 #[test]
 fn removals_and_turns(rt: HostRuntime) -> Result<(), Fail> {
-    let mut list = list_of(rt.alloc(), &[(1, 2), (3, 4), (5, 6)])?;
-    assert_eq!(rt; list.len(), 3);
-    same(&rt, list.remove(0), (1, 2));
+    let mut list = list_of(rt.alloc(), 4, &[(1, 2), (3, 4), (5, 6)])?;
+    same(&rt, removed(&mut list, 0), Some((1, 2)));
     list.reverse();
-    same(&rt, list.firsts(), [5, 3].as_slice());
-    let copy = list.clone()?;
-    same(&rt, copy.capacity(), 2);
-    holds(&rt, copy == list);
+    same(&rt, capacity_cloned(&list, &[(5, 6), (3, 4)]), Some(2));
+    holds(&rt, prints(rt.alloc(), &list, "[(5, 6), (3, 4)]"));
     list.clear();
     same(&rt, list.capacity(), 4);
-    holds(&rt, copy != list);
-    same(
-        &rt,
-        format!(in rt.alloc(); "{copy:?}")?.as_str(),
-        "[(5, 6), (3, 4)]",
-    );
+    holds(&rt, shows(&list, &[]));
     Ok(())
 }
 
-#[test]
-fn parts_that_are_lent(rt: HostRuntime) -> Result<(), Fail> {
-    let mut list = list_of(rt.alloc(), &[(1, 2), (3, 4)])?;
-    assert_eq!(rt; list.len(), 2);
-    list.firsts_mut()[0] = 7;
-    list.seconds_mut()[1] = 8;
-    *list.first_at_mut(1) = 9;
-    *list.second_at_mut(0) = 10;
-    let (first, second) = list.pair_at_mut(1);
-    *second += *first % 2;
-    same(&rt, list.firsts(), [7, 9].as_slice());
-    same(&rt, list.seconds(), [10, 9].as_slice());
-    let (first, second) = list.get_unchecked_mut(1);
-    *first = 13;
-    *second = 14;
+// Writes through each way to lend a part; the list has two pairs.
+fn write_parts(list: &mut Pairs) {
+    if list.len() == 2 {
+        list.firsts_mut()[0] = 7;
+        list.seconds_mut()[1] = 8;
+        *list.first_at_mut(1) = 9;
+        *list.second_at_mut(0) = 10;
+        let (first, second) = list.pair_at_mut(1);
+        *second = second.wrapping_add(*first % 2);
+    }
+}
+
+// Writes through both ways to lend a pair; the list has two pairs.
+fn write_pairs(list: &mut Pairs) {
+    if list.len() == 2 {
+        let (first, second) = list.get_unchecked_mut(1);
+        *first = 13;
+        *second = 14;
+    }
     if let Some((first, second)) = list.get_mut(0) {
         *first = 11;
         *second = 12;
     }
+}
+
+#[test]
+fn parts_that_are_lent(rt: HostRuntime) -> Result<(), Fail> {
+    let mut list = list_of(rt.alloc(), 0, &[(1, 2), (3, 4)])?;
+    write_parts(&mut list);
+    same(&rt, list.firsts(), [7, 9].as_slice());
+    same(&rt, list.seconds(), [10, 9].as_slice());
+    write_pairs(&mut list);
     holds(&rt, list.get_mut(2).is_none());
     same(&rt, list.firsts(), [11, 13].as_slice());
     same(&rt, list.seconds(), [12, 14].as_slice());
@@ -221,17 +298,22 @@ fn parts_that_are_lent(rt: HostRuntime) -> Result<(), Fail> {
 
 #[test]
 fn walks_from_both_ends(rt: HostRuntime) -> Result<(), Fail> {
-    let list = list_of(rt.alloc(), &[(1, 2), (3, 4), (5, 6)])?;
+    let list = list_of(rt.alloc(), 0, &[(1, 2), (3, 4), (5, 6)])?;
     let mut walk = list.iter();
+    same(&rt, walk.next(), Some((&1, &2)));
     let mut again = walk.clone()?;
-    same(&rt, walk.next().map(|pair| *pair.0), Some(1));
-    same(&rt, walk.next_back().map(|pair| *pair.0), Some(5));
+    same(&rt, walk.next_back(), Some((&5, &6)));
     same(&rt, walk.len(), 1);
-    same(&rt, walk.next().map(|pair| *pair.0), Some(3));
-    holds(&rt, walk.next_back().is_none());
-    holds(&rt, walk.next().is_none());
-    same(&rt, again.next_back().map(|pair| *pair.1), Some(6));
-    let mut walk = list.into_iter();
+    same(&rt, walk.next(), Some((&3, &4)));
+    same(&rt, walk.next_back(), None);
+    same(&rt, walk.next(), None);
+    same(&rt, again.next_back(), Some((&5, &6)));
+    Ok(())
+}
+
+#[test]
+fn gives_from_both_ends(rt: HostRuntime) -> Result<(), Fail> {
+    let mut walk = list_of(rt.alloc(), 0, &[(1, 2), (3, 4), (5, 6)])?.into_iter();
     same(&rt, walk.next_back(), Some((5, 6)));
     same(&rt, walk.next(), Some((1, 2)));
     same(&rt, walk.next(), Some((3, 4)));
@@ -241,36 +323,63 @@ fn walks_from_both_ends(rt: HostRuntime) -> Result<(), Fail> {
     Ok(())
 }
 
-#[test]
-fn parts_without_size(rt: HostRuntime) -> Result<(), Fail> {
-    let mut first = Vec2::new(rt.alloc());
-    let mut second = Vec2::new(rt.alloc());
-    let mut neither = Vec2::new(rt.alloc());
+// How many pairs of five a walk has, the last and the first of those that are given, and how many are left.
+fn walked<A: Drop + Debug, B: Drop + Debug>(
+    list: Vec2<A, B>,
+) -> (usize, usize, Option<(A, B)>, Option<(A, B)>, usize) {
+    let (forth, back) = (list.iter().count(), list.iter().rev().count());
+    let mut walk = list.into_iter();
+    let (last, first) = (walk.next_back(), walk.next());
+    (forth, back, last, first, walk.len())
+}
+
+fn five_without_firsts(alloc: Global) -> Result<Vec2<(), u32>, Fail> {
+    let mut list = Vec2::new(alloc);
     for i in 0u32..5 {
-        first.push((), i)?;
-        second.push(i, ())?;
-        neither.push((), ())?;
+        list.push((), i)?;
     }
-    same(&rt, first.capacity(), 8);
-    same(&rt, second.capacity(), 8);
-    same(&rt, neither.capacity(), 8);
-    same(&rt, first.iter().count(), 5);
-    same(&rt, second.iter().rev().count(), 5);
-    same(&rt, neither.iter().count(), 5);
-    let mut walk = first.into_iter();
-    same(&rt, walk.next_back().map(|pair| pair.1), Some(4));
-    same(&rt, walk.next().map(|pair| pair.1), Some(0));
-    same(&rt, walk.len(), 3);
-    let mut walk = second.into_iter();
-    same(&rt, walk.next_back().map(|pair| pair.0), Some(4));
-    same(&rt, walk.len(), 4);
-    let mut walk = neither.into_iter();
-    holds(&rt, walk.next().is_some());
-    holds(&rt, walk.next_back().is_some());
-    same(&rt, walk.len(), 3);
+    Ok(list)
+}
+
+fn five_without_seconds(alloc: Global) -> Result<Vec2<u32, ()>, Fail> {
+    let mut list = Vec2::new(alloc);
+    for i in 0u32..5 {
+        list.push(i, ())?;
+    }
+    Ok(list)
+}
+
+fn five_without_either(alloc: Global) -> Result<Vec2<(), ()>, Fail> {
+    let mut list = Vec2::new(alloc);
+    for _ in 0..5 {
+        list.push((), ())?;
+    }
+    Ok(list)
+}
+
+#[test]
+fn firsts_without_size(rt: HostRuntime) -> Result<(), Fail> {
+    let list = five_without_firsts(rt.alloc())?;
+    same(&rt, list.capacity(), 8);
+    same(&rt, walked(list), (5, 5, Some(((), 4)), Some(((), 0)), 3));
     Ok(())
 }
 
+#[test]
+fn seconds_without_size(rt: HostRuntime) -> Result<(), Fail> {
+    let list = five_without_seconds(rt.alloc())?;
+    same(&rt, list.capacity(), 8);
+    same(&rt, walked(list), (5, 5, Some((4, ())), Some((0, ())), 3));
+    Ok(())
+}
+
+#[test]
+fn parts_without_size(rt: HostRuntime) -> Result<(), Fail> {
+    let list = five_without_either(rt.alloc())?;
+    same(&rt, list.capacity(), 8);
+    same(&rt, walked(list), (5, 5, Some(((), ())), Some(((), ())), 3));
+    Ok(())
+}
 // Adds ten to the next value from the front or from the back, and answers its key.
 fn add_ten(walk: &mut PairsMut<'_, u8, u32>, from_back: bool) -> Option<u8> {
     let (key, value) = if from_back {
@@ -328,36 +437,41 @@ fn write_values(list: &mut Vec2<(u8, u32), u8>) -> usize {
     between
 }
 
-#[test]
-fn values_are_written_in_their_places(rt: HostRuntime) -> Result<(), Fail> {
-    let mut list = Vec2::new(rt.alloc());
+// The keys below five, each as its value and as its second.
+fn five_keys(alloc: Global) -> Result<Vec2<(u8, u32), u8>, Fail> {
+    let mut list = Vec2::new(alloc);
     for i in 0u8..5 {
         list.push((i, u32::from(i)), i)?;
     }
+    Ok(list)
+}
+
+#[test]
+fn values_are_written_in_their_places(rt: HostRuntime) -> Result<(), Fail> {
+    let mut list = five_keys(rt.alloc())?;
     let keys = [Some(0), Some(4), Some(1), Some(3), Some(2), None, None];
     same(&rt, add_tens(&mut list), keys);
-    same(
-        &rt,
-        list.firsts(),
-        [(0, 10), (1, 11), (2, 12), (3, 13), (4, 14)].as_slice(),
-    );
+    let added = [(0, 10), (1, 11), (2, 12), (3, 13), (4, 14)];
+    same(&rt, list.firsts(), added.as_slice());
     same(&rt, write_values(&mut list), 3);
-    same(
-        &rt,
-        list.firsts(),
-        [(0, 6), (1, 7), (2, 7), (3, 7), (4, 8)].as_slice(),
-    );
+    let written = [(0, 6), (1, 7), (2, 7), (3, 7), (4, 8)];
+    same(&rt, list.firsts(), written.as_slice());
     same(&rt, list.seconds(), [0, 1, 2, 3, 4].as_slice());
     same(&rt, list.capacity(), 8);
     Ok(())
 }
 
-#[test]
-fn values_without_size_are_lent(rt: HostRuntime) -> Result<(), Fail> {
-    let mut list = Vec2::new(rt.alloc());
+fn three_without_size(alloc: Global) -> Result<Vec2<((), ()), ()>, Fail> {
+    let mut list = Vec2::new(alloc);
     for _ in 0..3 {
         list.push(((), ()), ())?;
     }
+    Ok(list)
+}
+
+#[test]
+fn values_without_size_are_lent(rt: HostRuntime) -> Result<(), Fail> {
+    let mut list = three_without_size(rt.alloc())?;
     let mut walk = list.iter_firsts_mut();
     same(&rt, walk.len(), 3);
     holds(&rt, walk.next_back().is_some());

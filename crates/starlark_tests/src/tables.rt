@@ -5,38 +5,53 @@ ghost use Rattle.starlark_table.specs.Table.{members, table_len};
 use crate::given::{holds, same};
 use starlark_table::ReadyTable;
 use std::alloc::Global;
-use std::process::Abort;
 use std::test::Fail;
+
+// Items, each under its hash.
+fn letters(alloc: Global, rows: &[(u64, char)]) -> Result<ReadyTable<char>, Fail> {
+    let mut table = ReadyTable::new(alloc);
+    for row in rows {
+        table.insert_unique(row.0, row.1)?;
+    }
+    Ok(table)
+}
+
+// Takes an item of a hash out.
+fn take(table: &mut ReadyTable<char>, hash: u64, letter: char) -> Option<(u64, char)> {
+    let slot = table.find(hash, |other| *other == letter)?;
+    table.remove(slot)
+}
+
+fn has(table: &ReadyTable<char>, hash: u64, letter: char) -> bool {
+    table.find(hash, |other| *other == letter).is_some()
+}
 
 #[test]
 fn removes_one_of_a_hash(rt: HostRuntime) -> Result<(), Fail> {
-    let mut table = ReadyTable::new(rt.alloc());
-    table.insert_unique(7, 'a')?;
-    table.insert_unique(7, 'b')?;
-    table.insert_unique(7, 'c')?;
-    let slot = table.find(7, |letter| *letter == 'b').ok_or("lost")?;
-    same(&rt, table.remove(slot), Some((7, 'b')));
-    holds(&rt, table.find(7, |letter| *letter == 'a').is_some());
-    holds(&rt, table.find(7, |letter| *letter == 'b').is_none());
-    holds(&rt, table.find(7, |letter| *letter == 'c').is_some());
+    let mut table = letters(rt.alloc(), &[(7, 'a'), (7, 'b'), (7, 'c')])?;
+    same(&rt, take(&mut table, 7, 'b'), Some((7, 'b')));
+    holds(&rt, has(&table, 7, 'a') && has(&table, 7, 'c'));
+    holds(&rt, !has(&table, 7, 'b'));
     same(&rt, table.find_item(7, |letter| *letter == 'c'), Some(&'c'));
     same(&rt, table.len(), 2);
     Ok(())
 }
 
-#[test]
-fn asks_about_the_whole_hash(rt: HostRuntime) -> Result<(), Fail> {
-    let mut table = ReadyTable::new(rt.alloc());
-    table.insert_unique(1, 'a')?;
-    table.insert_unique(4294967297, 'b')?;
-    table.insert_unique(9223372036854775809, 'c')?;
+// How often a search asks that finds nothing.
+fn asks(table: &ReadyTable<char>, hash: u64) -> Option<u32> {
     let mut calls = 0u32;
-    let found = table.find(1, |_| {
+    let found = table.find(hash, |_| {
         calls = calls.wrapping_add(1);
         false
     });
-    holds(&rt, found.is_none());
-    same(&rt, calls, 1);
+    if found.is_some() { None } else { Some(calls) }
+}
+
+#[test]
+fn asks_about_the_whole_hash(rt: HostRuntime) -> Result<(), Fail> {
+    let rows = [(1, 'a'), (4294967297, 'b'), (9223372036854775809, 'c')];
+    let table = letters(rt.alloc(), &rows)?;
+    same(&rt, asks(&table, 1), Some(1));
     Ok(())
 }
 
@@ -65,134 +80,216 @@ fn fills_the_room_that_it_has(rt: HostRuntime) -> Result<(), Fail> {
     Ok(())
 }
 
-// Every second of a thousand items of one hash goes.
-fn thins(rt: &impl Abort, alloc: Global, hash: u64) -> Result<(), Fail> {
+// A thousand items of one hash.
+fn thousand(alloc: Global, hash: u64) -> Result<ReadyTable<u32>, Fail> {
     let mut table = ReadyTable::new(alloc);
     for item in 0u32..1000 {
         table.insert_unique(hash, item)?;
     }
-    for item in 0u32..1000 {
-        if item % 2 == 0 {
-            let slot = table.find(hash, |other| *other == item).ok_or("lost")?;
-            same(rt, table.remove(slot), Some((hash, item)));
-        }
+    Ok(table)
+}
+
+fn slot_of(table: &ReadyTable<u32>, hash: u64, item: u32) -> Option<usize> {
+    table.find(hash, |other| *other == item)
+}
+
+// Takes an item out, and answers whether it was there under its hash.
+fn took(table: &mut ReadyTable<u32>, hash: u64, item: u32) -> bool {
+    match slot_of(table, hash, item) {
+        Some(slot) => table.remove(slot) == Some((hash, item)),
+        None => false,
+    }
+}
+
+// Takes every second of a thousand items out, and answers whether the others are left.
+fn thins(table: &mut ReadyTable<u32>, hash: u64) -> bool {
+    let mut right = true;
+    for item in 0u32..500 {
+        right = right && took(table, hash, item.wrapping_mul(2));
     }
     for item in 0u32..1000 {
-        same(
-            rt,
-            table.find(hash, |other| *other == item).is_some(),
-            item % 2 == 1,
-        );
+        right = right && slot_of(table, hash, item).is_some() == (item % 2 == 1);
     }
-    Ok(())
+    right
 }
 
 #[test]
 fn finds_what_is_left(rt: HostRuntime) -> Result<(), Fail> {
-    thins(&rt, rt.alloc(), 0)?;
-    thins(&rt, rt.alloc(), u64::MAX)
+    for hash in [0, u64::MAX] {
+        let mut table = thousand(rt.alloc(), hash)?;
+        holds(&rt, thins(&mut table, hash));
+    }
+    Ok(())
+}
+
+// Numbers under themselves until no room is left.
+fn filled(alloc: Global) -> Result<ReadyTable<u64>, Fail> {
+    let mut table = ReadyTable::with_capacity(alloc, 12)?;
+    for item in 0..table.room() as u64 {
+        table.insert_unique(item, item)?;
+    }
+    Ok(table)
+}
+
+// Takes one number out and puts another one in, and answers whether both could be done.
+fn exchanged(table: &mut ReadyTable<u64>, old: u64, new: u64) -> bool {
+    match table.find(old, |item| *item == old) {
+        Some(slot) => {
+            table.remove(slot) == Some((old, old)) && table.insert_unique(new, new).is_ok()
+        }
+        None => false,
+    }
 }
 
 #[test]
 fn takes_in_as_much_as_goes(rt: HostRuntime) -> Result<(), Fail> {
-    let mut table = ReadyTable::with_capacity(rt.alloc(), 12)?;
-    let room = table.room() as u64;
-    for item in 0..room {
-        table.insert_unique(item, item)?;
-    }
+    let mut table = filled(rt.alloc())?;
     same(&rt, table.room(), 0);
+    let length = table.len() as u64;
     for round in 0u64..1000 {
-        let slot = table.find(round, |item| *item == round).ok_or("lost")?;
-        same(&rt, table.remove(slot), Some((round, round)));
-        let item = room.wrapping_add(round);
-        holds(&rt, table.insert_unique(item, item).is_ok());
+        holds(
+            &rt,
+            exchanged(&mut table, round, length.wrapping_add(round)),
+        );
     }
     same(&rt, table.room(), 0);
     Ok(())
 }
 
-#[test]
-fn walks_and_writes(rt: HostRuntime) -> Result<(), Fail> {
-    let mut table = ReadyTable::new(rt.alloc());
-    for item in 0u64..100 {
-        table.insert_unique(item << 58, item)?;
+// The numbers below a number, each under itself, moved so far to the left.
+fn numbers(alloc: Global, count: u64, moved: u32) -> Result<ReadyTable<u64>, Fail> {
+    let mut table = ReadyTable::new(alloc);
+    for item in 0..count {
+        table.insert_unique(item.wrapping_shl(moved), item)?;
     }
-    same(&rt, table.iter().len(), 100);
+    Ok(table)
+}
+
+// Writes the last digit of each, halves it, and keeps the halves below three.
+fn halve(table: &mut ReadyTable<u64>) {
     table.replace_each(|item| item % 10);
     table.retain(|item| {
         *item /= 2;
         *item < 3
     });
-    same(&rt, table.len(), 60);
-    let copy = table.clone()?;
+}
+
+fn sum(table: &ReadyTable<u64>) -> u64 {
     let mut sum = 0u64;
-    for item in &copy {
+    for item in table {
         sum = sum.wrapping_add(*item);
     }
-    same(&rt, sum, 60);
+    sum
+}
+
+fn sum_cloned(table: &ReadyTable<u64>) -> Option<u64> {
+    match table.clone() {
+        Ok(copy) => Some(sum(&copy)),
+        Err(_) => None,
+    }
+}
+
+// Writes a number to each slot that is taken, and answers how many there are.
+fn write_slots(table: &mut ReadyTable<u64>, written: u64) -> u32 {
+    let mut slots = 0u32;
     let mut slot = table.slot_from(0);
-    for _ in 0..60 {
-        let here = slot.ok_or("a member is missing")?;
+    for _ in 0..1000 {
+        let Some(here) = slot else {
+            return slots;
+        };
         if let Some(item) = table.get_mut(here) {
-            *item = 6;
+            *item = written;
         }
+        slots = slots.wrapping_add(1);
         slot = table.slot_from(here.wrapping_add(1));
     }
-    same(&rt, slot, None);
-    for item in table.iter_mut() {
-        same(&rt, *item, 6);
-        *item = 7;
-    }
-    let mut sevens = 0u32;
+    slots
+}
+
+// How many items a table gives away, where each is this number.
+fn count_given(table: ReadyTable<u64>, wanted: u64) -> Option<u32> {
+    let mut given = 0u32;
     for (_, item) in table.into_iter() {
-        same(&rt, item, 7);
-        sevens = sevens.wrapping_add(1);
+        if item != wanted {
+            return None;
+        }
+        given = given.wrapping_add(1);
     }
-    same(&rt, sevens, 60);
+    Some(given)
+}
+
+#[test]
+fn walks_and_writes(rt: HostRuntime) -> Result<(), Fail> {
+    let mut table = numbers(rt.alloc(), 100, 58)?;
+    same(&rt, table.iter().len(), 100);
+    halve(&mut table);
+    same(&rt, table.len(), 60);
+    same(&rt, sum_cloned(&table), Some(60));
+    same(&rt, write_slots(&mut table, 6), 60);
+    same(&rt, sum(&table), 360);
+    same(&rt, count_given(table, 6), Some(60));
     Ok(())
+}
+
+// The items in the order of a walk.
+fn walked(alloc: Global, table: &ReadyTable<u64>) -> Result<Vec<u64>, Fail> {
+    let mut items = Vec::new(alloc);
+    for item in table {
+        items.push(*item)?;
+    }
+    Ok(items)
+}
+
+// Adds a hundred to each item, and answers whether these are lent in turn and no more.
+fn lends(table: &mut ReadyTable<u64>, items: &[u64]) -> bool {
+    let mut walk = table.iter_mut();
+    let mut left = items.len();
+    for wanted in items {
+        if walk.len() != left {
+            return false;
+        }
+        match walk.next() {
+            Some(item) if *item == *wanted => *item = wanted.wrapping_add(100),
+            _ => return false,
+        }
+        left = left.wrapping_sub(1);
+    }
+    walk.next().is_none() && walk.next().is_none()
+}
+
+fn has_number(table: &ReadyTable<u64>, hash: u64, number: u64) -> bool {
+    table.find(hash, |other| *other == number).is_some()
 }
 
 #[test]
 fn lends_each_item_once(rt: HostRuntime) -> Result<(), Fail> {
-    let mut table = ReadyTable::new(rt.alloc());
-    let mut before = Vec::new(rt.alloc());
-    for item in 0u64..20 {
-        table.insert_unique(item % 7, item)?;
-    }
-    for item in &table {
-        before.push(*item)?;
-    }
-    let mut walk = table.iter_mut();
-    let mut left = 20;
-    for expected in before.as_slice() {
-        same(&rt, walk.len(), left);
-        let item = walk.next().ok_or("a member is missing")?;
-        same(&rt, *item, *expected);
-        *item = expected.wrapping_add(100);
-        left = left.wrapping_sub(1);
-    }
-    holds(&rt, walk.next().is_none());
-    holds(&rt, walk.next().is_none());
+    let mut table = numbers(rt.alloc(), 20, 62)?;
+    let before = walked(rt.alloc(), &table)?;
+    same(&rt, before.len(), 20);
+    holds(&rt, lends(&mut table, before.as_slice()));
     same(&rt, table.len(), 20);
     for item in 0u64..20 {
-        let slot = table.find(item % 7, |other| *other == item.wrapping_add(100));
-        holds(&rt, slot.is_some());
+        holds(
+            &rt,
+            has_number(&table, item.wrapping_shl(62), item.wrapping_add(100)),
+        );
     }
     Ok(())
 }
 
-#[test]
-fn lends_items_without_size(rt: HostRuntime) -> Result<(), Fail> {
-    let mut table = ReadyTable::new(rt.alloc());
+fn five_without_size(alloc: Global) -> Result<ReadyTable<()>, Fail> {
+    let mut table = ReadyTable::new(alloc);
     for hash in 0u64..5 {
         table.insert_unique(hash << 61, ())?;
     }
+    Ok(table)
+}
+
+#[test]
+fn lends_items_without_size(rt: HostRuntime) -> Result<(), Fail> {
+    let mut table = five_without_size(rt.alloc())?;
     let room = table.room();
-    let mut walk = table.iter_mut();
-    for _ in 0..5 {
-        holds(&rt, walk.next().is_some());
-    }
-    holds(&rt, walk.next().is_none());
+    same(&rt, table.iter_mut().count(), 5);
     same(&rt, table.room(), room);
     Ok(())
 }
@@ -207,15 +304,16 @@ fn count_lent(table: &mut ReadyTable<u64>) -> u32 {
     lent
 }
 
+fn makes_room(table: &mut ReadyTable<u64>, additional: usize) -> bool {
+    table.reserve(additional).is_ok()
+}
+
 #[test]
-fn lends_nothing_of_an_empty_table(rt: HostRuntime) -> Result<(), Fail> {
+fn lends_nothing_of_an_empty_table(rt: HostRuntime) {
     let mut table = ReadyTable::new(rt.alloc());
     same(&rt, count_lent(&mut table), 0);
-    table.reserve(10)?;
+    holds(&rt, makes_room(&mut table, 10));
     same(&rt, count_lent(&mut table), 0);
-    table.insert_unique(u64::MAX, 5)?;
-    same(&rt, count_lent(&mut table), 1);
-    Ok(())
 }
 
 // A caller of the walk learns that the hashes stay, and the room.
@@ -231,14 +329,11 @@ fn overwrite(table: &mut ReadyTable<u64>, written: u64)
 
 #[test]
 fn overwrites_each_item(rt: HostRuntime) -> Result<(), Fail> {
-    let mut table = ReadyTable::new(rt.alloc());
-    for item in 0u64..9 {
-        table.insert_unique(item, item)?;
-    }
+    let mut table = numbers(rt.alloc(), 9, 0)?;
+    same(&rt, count_lent(&mut table), 9);
+    same(&rt, sum(&table), 9);
     overwrite(&mut table, 3);
-    for item in &table {
-        same(&rt, *item, 3);
-    }
+    same(&rt, sum(&table), 27);
     same(&rt, table.len(), 9);
     Ok(())
 }

@@ -5,15 +5,26 @@ ghost use Rattle.starlark_hash.specs.Entries.{entry_hash, entry_key};
 use crate::given::{holds, same, under};
 use starlark_hash::{NoRoom, StarlarkHashValue, StarlarkHasher, TextKey};
 use starlark_vecmap::{VecMap, find_hash_in_array};
-use std::alloc::Global;
+use std::alloc::{AllocError, Global};
 use std::hash::Hasher;
 use std::test::Fail;
 
+type Numbers = VecMap<u32, u32>;
+
 // The keys 0 to 4, each with ten more as its value.
-fn five(alloc: Global) -> Result<VecMap<u32, u32>, Fail> {
+fn five(alloc: Global) -> Result<Numbers, Fail> {
     let mut map = VecMap::with_capacity(alloc, 5)?;
     for key in 0..5 {
         map.insert_hashed_unique_unchecked(under(7, key), key + 10)?;
+    }
+    Ok(map)
+}
+
+// A map of rows: hash, key and value.
+fn rows(alloc: Global, rows: &[(u32, u32, u32)]) -> Result<Numbers, Fail> {
+    let mut map = VecMap::new(alloc);
+    for row in rows {
+        map.insert_hashed_unique_unchecked(under(row.0, row.1), row.2)?;
     }
     Ok(map)
 }
@@ -34,52 +45,73 @@ fn finds_the_least_place(rt: HostRuntime) {
     }
 }
 
+// The place of the key 3 under a hash, and how often the closure was asked.
+fn asked(map: &Numbers, hash: u32) -> (Option<usize>, u32) {
+    let mut asks: u32 = 0;
+    let found = map.get_index_of_hashed_raw(StarlarkHashValue::new_unchecked(hash), |key| {
+        asks = asks.wrapping_add(1);
+        *key == 3
+    });
+    (found, asks)
+}
+
 // The closure is asked about the keys under the hash alone.
 #[test]
 fn searches_by_a_closure(rt: HostRuntime) -> Result<(), Fail> {
-    let mut map = five(rt.alloc())?;
-    map.insert_hashed_unique_unchecked(under(8, 3), 0)?;
-    for (hash, place, asks) in [(7, Some(3), 4), (8, Some(5), 1), (9, None, 0)] {
-        let mut asked: u32 = 0;
-        let found = map.get_index_of_hashed_raw(StarlarkHashValue::new_unchecked(hash), |key| {
-            asked = asked.wrapping_add(1);
-            *key == 3
-        });
-        assert_eq!(rt; found, place, "under {hash}");
-        assert_eq!(rt; asked, asks, "under {hash}");
-    }
+    let map = rows(
+        rt.alloc(),
+        &[(7, 1, 0), (8, 1, 0), (7, 3, 0), (7, 3, 0), (8, 3, 0)],
+    )?;
+    same(&rt, asked(&map, 7), (Some(2), 2));
+    same(&rt, asked(&map, 8), (Some(4), 2));
+    same(&rt, asked(&map, 9), (None, 0));
     Ok(())
+}
+
+// A map of texts under hashes.
+fn texts(alloc: Global, rows: &[(u32, &str, u32)]) -> Result<VecMap<String, u32>, Fail> {
+    let mut map = VecMap::new(alloc);
+    for row in rows {
+        map.insert_hashed_unique_unchecked(under(row.0, row.1.to_string(alloc)?), row.2)?;
+    }
+    Ok(map)
+}
+
+// The hash and the value of the entry at a place, where its key is this text.
+fn at(map: &VecMap<String, u32>, index: usize, text: &str) -> Option<(u32, u32)> {
+    if index < map.len() {
+        let (key, value) = map.get_unchecked(index);
+        if key.key().as_str() == text {
+            return Some((key.hash().get(), *value));
+        }
+    }
+    None
+}
+
+// The hash and the value of the entry that is taken from a place, where its key is this text.
+fn removed(map: &mut VecMap<String, u32>, index: usize, text: &str) -> Option<(u32, u32)> {
+    if index < map.len() {
+        let (key, value) = map.remove(index);
+        if key.key().as_str() == text {
+            return Some((key.hash().get(), value));
+        }
+    }
+    None
 }
 
 #[test]
 fn looks_texts_up(rt: HostRuntime) -> Result<(), Fail> {
-    let alloc = rt.alloc();
-    let mut map: VecMap<String, u32> = VecMap::new(alloc);
-    for (hash, value) in [(1, 10), (2, 20), (1, 30)] {
-        map.insert_hashed_unique_unchecked(under(hash, value.to_string(alloc)?), value)?;
-    }
-    same(
+    let mut map = texts(rt.alloc(), &[(1, "10", 10), (2, "20", 20), (1, "30", 30)])?;
+    let found = map.get_index_of_hashed(under(1, &TextKey("30")));
+    same(&rt, found, Some(2));
+    holds(
         &rt,
-        map.get_index_of_hashed(under(1, &TextKey("30"))),
-        Some(2),
+        map.get_index_of_hashed(under(2, &TextKey("30"))).is_none(),
     );
-    same(&rt, map.get_index_of_hashed(under(2, &TextKey("30"))), None);
     holds(&rt, map.get_index(1).map(|pair| *pair.1) == Some(20));
     holds(&rt, map.get_index(3).is_none());
-    if map.len() > 2 {
-        let (key, value) = map.get_unchecked(2);
-        same(
-            &rt,
-            (key.hash().get(), key.key().as_str(), *value),
-            (1, "30", 30),
-        );
-        let (key, value) = map.remove(0);
-        same(
-            &rt,
-            (key.hash().get(), key.key().as_str(), value),
-            (1, "10", 10),
-        );
-    }
+    same(&rt, at(&map, 2, "30"), Some((1, 30)));
+    same(&rt, removed(&mut map, 0, "10"), Some((1, 10)));
     holds(
         &rt,
         map.remove_hashed_entry(under(1, &TextKey("10"))).is_none(),
@@ -103,40 +135,67 @@ fn walks_keys_from_both_ends(rt: HostRuntime) -> Result<(), Fail> {
     Ok(())
 }
 
-#[test]
-fn clones_walks(rt: HostRuntime) -> Result<(), Fail> {
-    let map = five(rt.alloc())?;
+// Whether cloned walks show the entries of `five`.
+fn clones_show_five(map: &Numbers) -> Result<bool, AllocError> {
     let mut pairs = map.iter().clone()?;
     let mut entries = map.iter_hashed().clone()?;
     let mut keys = map.keys().clone()?;
     let mut values = map.values().clone()?;
     for key in 0..5 {
         let value = key + 10;
-        holds(&rt, pairs.next() == Some((&key, &value)));
-        holds(&rt, entries.next() == Some((under(7, &key), &value)));
-        same(&rt, keys.next().copied(), Some(key));
-        same(&rt, values.next().copied(), Some(value));
+        let alike = pairs.next() == Some((&key, &value))
+            && entries.next() == Some((under(7, &key), &value))
+            && keys.next() == Some(&key)
+            && values.next() == Some(&value);
+        if !alike {
+            return Ok(false);
+        }
     }
-    holds(&rt, pairs.next().is_none() && entries.next().is_none());
-    holds(&rt, keys.next().is_none() && values.next().is_none());
+    Ok(
+        pairs.next().is_none()
+            && entries.next().is_none()
+            && keys.next().is_none()
+            && values.next().is_none(),
+    )
+}
+
+#[test]
+fn clones_walks(rt: HostRuntime) -> Result<(), Fail> {
+    let map = five(rt.alloc())?;
+    holds(&rt, clones_show_five(&map) == Ok(true));
     Ok(())
 }
 
 #[test]
-fn owns_the_entries(rt: HostRuntime) -> Result<(), Fail> {
-    let mut map = five(rt.alloc())?;
-    if !map.is_empty() {
-        *map.get_unchecked_mut(0).1 = 5;
-    }
-    let copy = map.clone()?;
-    holds(&rt, map.eq_ordered(&copy));
-    same(&rt, copy.into_iter().next_back(), Some((4, 14)));
-    same(&rt, map.clone()?.into_values().next(), Some(5));
-    let mut keys = map.clone()?.into_keys();
+fn gives_entries_away(rt: HostRuntime) -> Result<(), Fail> {
+    let alloc = rt.alloc();
+    same(&rt, five(alloc)?.into_iter().next_back(), Some((4, 14)));
+    same(&rt, five(alloc)?.into_values().next(), Some(10));
+    let first = five(alloc)?.into_iter_hashed().next();
+    same(&rt, first, Some((under(7, 0), 10)));
+    let mut keys = five(alloc)?.into_keys();
     same(&rt, keys.size_hint(), (5, Some(5)));
     same(&rt, keys.nth(1), Some(1));
     same(&rt, keys.next_back(), Some(4));
-    same(&rt, map.into_iter_hashed().next(), Some((under(7, 0), 5)));
+    Ok(())
+}
+
+// Puts a value at the first place, and answers whether the map is then equal to its clone.
+fn writes_first(map: &mut Numbers, value: u32) -> bool {
+    if !map.is_empty() {
+        *map.get_unchecked_mut(0).1 = value;
+    }
+    match map.clone() {
+        Ok(copy) => copy.eq_ordered(map),
+        Err(_) => false,
+    }
+}
+
+#[test]
+fn clones_a_map(rt: HostRuntime) -> Result<(), Fail> {
+    let mut map = five(rt.alloc())?;
+    holds(&rt, writes_first(&mut map, 5));
+    same(&rt, map.values().next(), Some(&5));
     Ok(())
 }
 
@@ -166,39 +225,44 @@ fn write_two<K>(list: &mut VecMap<K, u32>)
     }
 }
 
+// Adds a hundred to the last value, and answers the first pair and how many are left between.
+fn write_last(map: &mut Numbers) -> (Option<(u32, u32)>, usize) {
+    let mut pairs = map.iter_mut();
+    if let Some((_, value)) = pairs.next_back() {
+        *value = value.wrapping_add(100);
+    }
+    (pairs.next().map(|pair| (*pair.0, *pair.1)), pairs.len())
+}
+
 #[test]
 fn writes_values(rt: HostRuntime) -> Result<(), Fail> {
     let mut map = five(rt.alloc())?;
     write_two(&mut map);
     holds(&rt, map.values().all(|value| *value == 2));
     write_thrice(&mut map);
-    let mut pairs = map.iter_mut();
-    same(&rt, pairs.size_hint(), (5, Some(5)));
-    if let Some((key, value)) = pairs.next_back() {
-        *value = key.wrapping_add(96);
-    }
-    same(
-        &rt,
-        pairs.next().map(|pair| (*pair.0, *pair.1)),
-        Some((0, 0)),
-    );
-    same(&rt, pairs.len(), 3);
+    same(&rt, map.iter_mut().size_hint(), (5, Some(5)));
+    same(&rt, write_last(&mut map), (Some((0, 0)), 3));
     let mut values = map.values_mut();
-    same(&rt, values.next_back().copied(), Some(100));
+    same(&rt, values.next_back().copied(), Some(112));
     same(&rt, values.nth(1).copied(), Some(3));
     same(&rt, values.len(), 2);
     Ok(())
 }
 
-#[test]
-fn retains_and_reverses(rt: HostRuntime) -> Result<(), Fail> {
-    let mut map = five(rt.alloc())?;
+// Keeps the even keys, and adds ten to each value for each entry before it.
+fn retain_even(map: &mut Numbers) {
     let mut calls = 0u32;
     map.retain(|key, value| {
         *value = value.wrapping_add(calls);
         calls = calls.wrapping_add(10);
         *key % 2 == 0
     });
+}
+
+#[test]
+fn retains_and_reverses(rt: HostRuntime) -> Result<(), Fail> {
+    let mut map = five(rt.alloc())?;
+    retain_even(&mut map);
     map.reverse();
     for (key, value) in [(0, 10), (2, 32), (4, 54)] {
         same(&rt, map.pop(), Some((under(7, key), value)));
@@ -207,76 +271,105 @@ fn retains_and_reverses(rt: HostRuntime) -> Result<(), Fail> {
     Ok(())
 }
 
+// Whether a map that was not sorted is so now, and had the memory.
+fn becomes_sorted(map: &mut Numbers) -> bool {
+    !map.is_sorted_by_key() && map.sort_keys().is_ok() && map.is_sorted_by_key()
+}
+
 // Two entries have equal keys; they keep their order.
 #[test]
 fn sorts_and_takes_out(rt: HostRuntime) -> Result<(), Fail> {
-    let mut map = VecMap::new(rt.alloc());
-    map.insert_hashed_unique_unchecked(under(8, 5), 1)?;
-    map.insert_hashed_unique_unchecked(under(8, 3), 2)?;
-    map.insert_hashed_unique_unchecked(under(8, 5), 3)?;
-    holds(&rt, !map.is_sorted_by_key());
-    map.sort_keys()?;
-    holds(&rt, map.is_sorted_by_key());
-    same(
-        &rt,
-        map.remove_hashed_entry(under(8, 5).as_ref()),
-        Some((5, 1)),
-    );
+    let mut map = rows(rt.alloc(), &[(8, 5, 1), (8, 3, 2), (8, 5, 3)])?;
+    holds(&rt, becomes_sorted(&mut map));
+    let taken = map.remove_hashed_entry(under(8, &5));
+    same(&rt, taken, Some((5, 1)));
     same(&rt, map.pop(), Some((under(8, 5), 3)));
     same(&rt, map.len(), 1);
     Ok(())
 }
 
+// Whether more room was made, and the capacity then.
+fn reserved(map: &mut Numbers, additional: usize) -> (bool, usize) {
+    let made = map.reserve(additional).is_ok();
+    (made, map.capacity())
+}
+
 #[test]
-fn makes_room(rt: HostRuntime) -> Result<(), Fail> {
-    let mut map: VecMap<u32, u32> = VecMap::new(rt.alloc());
-    same(&rt, map.capacity(), 0);
+fn makes_room(rt: HostRuntime) {
+    let mut map: Numbers = VecMap::new(rt.alloc());
     for (more, capacity) in [(0, 0), (3, 4), (4, 4), (5, 8), (20, 20)] {
-        map.reserve(more)?;
-        assert_eq!(rt; map.capacity(), capacity, "for {more}");
+        same(&rt, reserved(&mut map, more), (true, capacity));
     }
-    map.insert_hashed_unique_unchecked(under(1, 2), 3)?;
-    holds(&rt, map.reserve(usize::MAX).is_err());
-    assert!(rt; VecMap::<u32, u32>::with_capacity(rt.alloc(), usize::MAX).is_err());
-    same(&rt, (map.len(), map.capacity()), (1, 20));
     map.clear();
-    same(&rt, (map.len(), map.capacity()), (0, 20));
+    same(&rt, map.capacity(), 20);
+    holds(&rt, Numbers::with_capacity(rt.alloc(), usize::MAX).is_err());
+}
+
+#[test]
+fn refuses_room_beyond_all(rt: HostRuntime) -> Result<(), Fail> {
+    let mut map = rows(rt.alloc(), &[(1, 2, 3)])?;
+    same(&rt, reserved(&mut map, usize::MAX), (false, 4));
+    map.clear();
+    same(&rt, (map.len(), map.capacity()), (0, 4));
     Ok(())
+}
+
+// What a hasher comes to that is fed by hand what it should be.
+fn fed_by_hand() -> u64 {
+    let mut hasher = StarlarkHasher::new();
+    for value in 10..15 {
+        hasher.write_u32(7);
+        hasher.write_u32(value);
+    }
+    hasher.finish()
 }
 
 #[test]
 fn feeds_hashes_and_values(rt: HostRuntime) -> Result<(), Fail> {
-    let map = five(rt.alloc())?;
     let mut fed = StarlarkHasher::new();
-    map.hash_ordered(&mut fed);
-    let mut by_hand = StarlarkHasher::new();
-    for value in 10..15 {
-        by_hand.write_u32(7);
-        by_hand.write_u32(value);
-    }
-    same(&rt, fed.finish(), by_hand.finish());
+    five(rt.alloc())?.hash_ordered(&mut fed);
+    same(&rt, fed.finish(), fed_by_hand());
     Ok(())
+}
+
+// Puts a key. Where that is refused, the entry comes back and nothing has changed, and it is put again.
+fn put_at_last(map: &mut Numbers, key: u32, value: u32) -> bool {
+    let length = map.len();
+    match map.insert_hashed_unique_unchecked(under(7, key), value) {
+        Ok(()) => map.len() == length.wrapping_add(1),
+        Err(NoRoom((refused, back))) => {
+            (refused, back) == (under(7, key), value)
+                && map.len() == length
+                && map
+                    .insert_hashed_unique_unchecked(under(7, key), value)
+                    .is_ok()
+        }
+    }
+}
+
+fn clones_at_last(map: &Numbers) -> bool {
+    let first = map.clone();
+    let copy = if first.is_err() { map.clone() } else { first };
+    match copy {
+        Ok(copy) => copy.eq_ordered(map),
+        Err(_) => false,
+    }
+}
+
+// Sorts, and where that is refused the first entry is still there, and it sorts again.
+fn sorts_at_last(map: &mut Numbers, first: (u32, u32)) -> bool {
+    map.sort_keys().is_ok()
+        || (map.get_index(0) == Some((&first.0, &first.1)) && map.sort_keys().is_ok())
 }
 
 // Holds whichever request for memory is refused.
 #[test]
-fn refusals_leave_the_map(rt: HostRuntime) -> Result<(), Fail> {
-    let mut map: VecMap<u32, u32> = VecMap::new(rt.alloc());
+fn refusals_leave_the_map(rt: HostRuntime) {
+    let mut map: Numbers = VecMap::new(rt.alloc());
     for key in 0..8 {
-        let taken = map.insert_hashed_unique_unchecked(under(7, 8 - key), key);
-        if let Err(NoRoom((refused, value))) = taken {
-            same(&rt, (refused, value), (under(7, 8 - key), key));
-            same(&rt, map.len(), key as usize);
-            map.insert_hashed_unique_unchecked(under(7, 8 - key), key)?;
-        }
+        holds(&rt, put_at_last(&mut map, 8 - key, key));
     }
-    if map.clone().is_err() {
-        holds(&rt, map.clone()?.eq_ordered(&map));
-    }
-    if map.sort_keys().is_err() {
-        holds(&rt, map.get_index(0) == Some((&8, &0)));
-        map.sort_keys()?;
-    }
+    holds(&rt, clones_at_last(&map));
+    holds(&rt, sorts_at_last(&mut map, (8, 0)));
     holds(&rt, map.get_index(0) == Some((&1, &7)));
-    Ok(())
 }
