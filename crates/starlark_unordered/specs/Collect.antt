@@ -2,6 +2,7 @@
 use Rattle.std.specs.Prelude.{◌≡◌, ◌≤◌, ◌+◌, ℕ, Bool, List, [], ◌∷◌, Option, IsPermutation}
 use Rattle.std.specs.Iterator.{Count, Drains}
 use Rattle.std.specs.Iterator.SizeHint.{IsWithinCount}
+use Rattle.std.specs.Option.{option_map}
 use Rattle.starlark_table.specs.Table.{Table, table_len}
 use Rattle.starlark_unordered.specs.Pairs.{pairs_of, with_pair}
 
@@ -16,3 +17,7 @@ module _ {K V : Type 0} (eq : K → K → Bool) where
     abbrev pub Collects : {U : Type 0} → (U → T → Type 0) → (T → Count) → U → Table (K × V) → Type 0
     Collects becomes remaining iter m = (it : T) × (first : ℕ) × (xs : List (K × V)) × becomes iter it × IsWithinCount first (remaining it)
         × Drains steps it xs × InsertsAll [] xs (pairs_of m) × (first ≤ table_len m + m.room)
+
+-- a step of an iterator that gives each item beside `()`
+abbrev pub StepsBeside : {S A : Type 0} → (S → Option A → S → Type 0) → S → Option (A × Unit {0}) → S → Type 0
+StepsBeside steps s r t = steps s (option_map (λ p. p.0) r) t

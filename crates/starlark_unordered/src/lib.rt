@@ -10,6 +10,7 @@ mod moved;
 pub mod raw_entry;
 pub mod unordered_map;
 pub mod unordered_set;
+mod with_unit;
 
 pub use entry::{Entry, OccupiedEntry, VacantEntry};
 pub use iter::{Entries, KeysUnordered, ValuesUnordered};

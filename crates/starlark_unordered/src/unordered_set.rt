@@ -7,6 +7,7 @@ ghost use Rattle.starlark_table.specs.Table.{table_len};
 ghost use Rattle.starlark_unordered.specs.Clone.{IsEqualClone, IsLawfulClone};
 ghost use Rattle.starlark_unordered.specs.Pairs.{pairs_of, with_pair, under_own, HasDistinctKeys, KeepsRoom};
 
+mod collect;
 mod compare;
 mod raw_entry;
 

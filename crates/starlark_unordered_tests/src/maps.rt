@@ -49,6 +49,10 @@ fn feeds_length_and_sum(rt: HostRuntime) -> Result<(), Fail> {
     one.write_u64(1);
     one.write_u64(0x517cc1b727220a95);
     same(&rt, finished(&map_of(rt.alloc(), [(0, 1)])?), one.finish());
+    let mut none = StarlarkHasher::new();
+    none.write_u64(0);
+    none.write_u64(0);
+    same(&rt, finished(&UnorderedMap::new(rt.alloc())), none.finish());
     Ok(())
 }
 

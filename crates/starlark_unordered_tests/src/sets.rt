@@ -67,3 +67,24 @@ fn inserts_under_a_hash(rt: HostRuntime) -> Result<(), Fail> {
     same(&rt, set.len(), 1);
     Ok(())
 }
+
+#[test]
+fn is_made_of_items(rt: HostRuntime) -> Result<(), Fail> {
+    let set = UnorderedSet::from_iter(rt.alloc(), [10u32, 10, 20])?;
+    same(&rt, set.len(), 2);
+    holds(&rt, set.contains(&10u32) && set.contains(&20u32));
+    Ok(())
+}
+
+// The element that is put in is answered by the one that was there.
+#[test]
+fn replaces_what_it_finds(rt: HostRuntime) -> Result<(), Fail> {
+    let mut set: UnorderedSet<u32> = UnorderedSet::new(rt.alloc());
+    set.insert(4)?;
+    match set.raw_entry_mut().from_entry(&4u32) {
+        RawEntryMut::Occupied(mut entry) => same(&rt, entry.insert(4), 4),
+        RawEntryMut::Vacant(_entry) => return Err("lost".into()),
+    }
+    same(&rt, set.len(), 1);
+    Ok(())
+}

@@ -1,0 +1,26 @@
+//! `UnorderedSet`s from the items of iterators.
+ghost use Rattle.std.specs.Prelude.{◌≡◌, IfOk, IsOk};
+ghost use Rattle.std.specs.Iterator.{IsFiniteIterable, size};
+ghost use Rattle.starlark_unordered.specs.Collect.{Collects, StepsBeside};
+
+use super::UnorderedSet;
+use crate::unordered_map::UnorderedMap;
+use crate::with_unit::WithUnit;
+use std::alloc::{AllocError, Global};
+use std::hash::Hash;
+
+impl<T: Eq + Hash + Drop> UnorderedSet<T> {
+    /// A set of the items, inserted in their order as `insert` does: the first of equal ones stays. It begins with room
+    /// for the lower bound of the iterator's `size_hint`. Where memory is refused, nothing is made and the items are
+    /// dropped.
+    pub fn from_iter<I: IntoIterator<Item = T>>(alloc: Global, iter: I) -> Result<Self, AllocError>
+        requires { IsFiniteIterable I.into_iter_gives I.IntoIter.can_next I.IntoIter.remaining iter }
+        ensures set { IfOk result (Collects T.eq (StepsBeside I.IntoIter.next_gives) I.into_iter_gives I.IntoIter.remaining iter) }
+        ensures succeeds { ((it : _) → I.into_iter_gives iter it → size (I.IntoIter.remaining it) ≡ 0) → IsOk result }
+    {
+        Ok(UnorderedSet {
+            map: UnorderedMap::from_iter(alloc, WithUnit::new(iter.into_iter()))?,
+            alloc,
+        })
+    }
+}

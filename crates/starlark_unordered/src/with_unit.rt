@@ -1,0 +1,45 @@
+//! An iterator's items, each beside `()`, as a map takes them whose keys are a set's elements.
+ghost use Rattle.std.specs.Prelude.{◌≡◌};
+ghost use Rattle.starlark_unordered.specs.Collect.{StepsBeside};
+
+use std::marker::Model;
+
+// The items, each as `(item, ())`.
+#[derive(Drop)]
+pub(crate) struct WithUnit<I> {
+    items: I,
+}
+
+impl<I> Model for WithUnit<I> {
+    ghost Value = { I };
+
+    ghost view = { λ w. w.items };
+}
+
+impl<I> WithUnit<I> {
+    #[inline]
+    pub(crate) fn new(items: I) -> Self
+        ensures { result ≡ items }
+    {
+        WithUnit { items }
+    }
+}
+
+impl<I: Iterator> Iterator for WithUnit<I> {
+    type Item = (I::Item, ());
+
+    ghost can_next = { I.can_next };
+
+    ghost next_gives = { StepsBeside I.next_gives };
+
+    ghost remaining = { I.remaining };
+
+    fn next(&mut self) -> Option<(I::Item, ())> {
+        let item = self.items.next()?;
+        Some((item, ()))
+    }
+
+    fn size_hint(&self) -> (usize, Option<usize>) {
+        self.items.size_hint()
+    }
+}
