@@ -171,12 +171,18 @@ fn sort_by_first(list: &mut Pairs) -> bool {
 }
 
 #[test]
-fn sort_by_both_parts_and_by_one(rt: HostRuntime) -> Result<(), Fail> {
+fn sort_by_both_parts(rt: HostRuntime) -> Result<(), Fail> {
+    let mut list = list_of(rt.alloc(), 0, &[(1, 2), (3, 4), (2, 3), (3, 2)])?;
+    holds(&rt, sort_by_both(&mut list));
+    holds(&rt, shows(&list, &[(1, 2), (2, 3), (3, 2), (3, 4)]));
+    Ok(())
+}
+
+#[test]
+fn sort_by_one_part(rt: HostRuntime) -> Result<(), Fail> {
     let mut list = list_of(rt.alloc(), 0, &[(3, 4), (1, 2), (3, 2), (1, 0)])?;
     holds(&rt, sort_by_first(&mut list));
     holds(&rt, shows(&list, &[(1, 2), (1, 0), (3, 4), (3, 2)]));
-    holds(&rt, sort_by_both(&mut list));
-    holds(&rt, shows(&list, &[(1, 0), (1, 2), (3, 2), (3, 4)]));
     Ok(())
 }
 
