@@ -15,7 +15,7 @@ try:
 
 # builds the proved benchmarks, and prints name, length, nanoseconds an operation and checksum of each
 bench:
-	@cd crates/starlark_bench && rt run > /dev/null && ./out/starlark_bench a_ b_ c_ d_ e_ g_
+	@cd crates/starlark_bench && rt run > /dev/null && ./out/starlark_bench a_ b_ c_ d_ e_ f_ g_
 
 # the merge gate: every proof, every test, every program
 test:

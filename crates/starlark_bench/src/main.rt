@@ -6,6 +6,7 @@ mod keys;
 mod pass;
 mod report;
 mod script;
+mod unordered;
 mod workloads;
 
 use fault::Fault;

@@ -3,6 +3,7 @@
 use crate::fault::Fault;
 use crate::keys::{Key, stream};
 use crate::pass::Pass;
+use crate::unordered;
 use crate::workloads::{Begin, MILLION, build, cycle, drain, hit, miss, pop, sort, turns, walk};
 
 // How many passes a figure is the best of.
@@ -19,6 +20,9 @@ pub enum Workload {
     Drain,
     Pop,
     Sort,
+    UnorderedInsert,
+    UnorderedHit,
+    UnorderedMiss,
 }
 
 impl Workload {
@@ -35,6 +39,9 @@ impl Workload {
             Workload::Drain => "d_drain",
             Workload::Pop => "d_pop",
             Workload::Sort => "g_sort",
+            Workload::UnorderedInsert => "f_insert",
+            Workload::UnorderedHit => "f_hit",
+            Workload::UnorderedMiss => "f_miss",
         }
     }
 
@@ -47,6 +54,9 @@ impl Workload {
             Workload::Cycle | Workload::Drain => &[8, 32, 1000, 10_000],
             Workload::Pop => &[8, 32, 1000, 10_000, 1_000_000],
             Workload::Sort => &[8, 32, 1000, 100_000, 1_000_000],
+            Workload::UnorderedInsert | Workload::UnorderedHit | Workload::UnorderedMiss => {
+                &[1000, 1_000_000]
+            }
         }
     }
 
@@ -54,8 +64,11 @@ impl Workload {
     fn operations(self, n: usize) -> usize {
         let n = n.max(1);
         match self {
-            Workload::Build(_) | Workload::Pop | Workload::Sort => MILLION / n * n,
+            Workload::Build(_) | Workload::Pop | Workload::Sort | Workload::UnorderedInsert => {
+                MILLION / n * n
+            }
             Workload::Hit | Workload::Miss => MILLION,
+            Workload::UnorderedHit | Workload::UnorderedMiss => MILLION,
             Workload::Walk => 4 * MILLION / n * n,
             Workload::Cycle => turns(n),
             Workload::Drain => 100_000 / n * n,
@@ -73,12 +86,15 @@ impl Workload {
             Workload::Drain => drain(rt, keys, n),
             Workload::Pop => pop(rt, keys, n),
             Workload::Sort => sort(rt, keys, n),
+            Workload::UnorderedInsert => unordered::insert(rt, keys, n),
+            Workload::UnorderedHit => unordered::hit(rt, keys, n),
+            Workload::UnorderedMiss => unordered::miss(rt, keys, n),
         }
     }
 }
 
 // The workloads in the order of their lines.
-const ALL: [Workload; 10] = [
+const ALL: [Workload; 13] = [
     Workload::Build(Begin::New),
     Workload::Build(Begin::Capacity),
     Workload::Build(Begin::Reserve),
@@ -89,10 +105,13 @@ const ALL: [Workload; 10] = [
     Workload::Drain,
     Workload::Pop,
     Workload::Sort,
+    Workload::UnorderedInsert,
+    Workload::UnorderedHit,
+    Workload::UnorderedMiss,
 ];
 
 // The few that the gate compares.
-const FEW: [(Workload, usize); 12] = [
+const FEW: [(Workload, usize); 15] = [
     (Workload::Build(Begin::New), 4),
     (Workload::Build(Begin::New), 64),
     (Workload::Build(Begin::New), 1000),
@@ -105,6 +124,9 @@ const FEW: [(Workload, usize); 12] = [
     (Workload::Drain, 32),
     (Workload::Pop, 32),
     (Workload::Sort, 8),
+    (Workload::UnorderedInsert, 1000),
+    (Workload::UnorderedHit, 1000),
+    (Workload::UnorderedMiss, 1000),
 ];
 
 /// Prints the checksums of a few workloads.
