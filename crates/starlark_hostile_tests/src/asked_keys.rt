@@ -7,6 +7,7 @@ ghost use Rattle.std.specs.Prelude.{nat_eq};
 
 use crate::given::holds;
 use starlark_small::SmallMap;
+use starlark_unordered::UnorderedMap;
 use std::alloc::Global;
 use std::cell::Cell;
 use std::hash::{Hash, Hasher};
@@ -126,5 +127,56 @@ fn compares_keys_of_one_hash_once(rt: HostRuntime) -> Result<(), Fail> {
         holds(&rt, removes_each(&mut map, &notes, count));
         holds(&rt, map.is_empty() && !notes.amiss.get());
     }
+    Ok(())
+}
+
+type Finite<'a> = UnorderedMap<Noted<'a>, u32>;
+
+// The keys below a number, each with its number.
+fn unordered<'a>(alloc: Global, notes: &'a Notes, count: u32) -> Result<Finite<'a>, Fail> {
+    let mut map = UnorderedMap::new(alloc);
+    for number in 0..count {
+        notes.seen.set(0);
+        if map.insert(Noted { number, notes }, number).is_err() {
+            return Err("no room".into());
+        }
+    }
+    Ok(map)
+}
+
+// Looks each key up, puts it again, takes it out and puts it in.
+fn turns_each<'a>(map: &mut Finite<'a>, notes: &'a Notes, count: u32) -> bool {
+    for number in 0..count {
+        notes.seen.set(0);
+        if map.get(&Noted { number, notes }) != Some(&number) {
+            return false;
+        }
+        notes.seen.set(0);
+        match map.insert(Noted { number, notes }, number) {
+            Ok(Some(old)) if old == number => {}
+            _ => return false,
+        }
+        notes.seen.set(0);
+        if map.remove(&Noted { number, notes }) != Some(number) {
+            return false;
+        }
+        notes.seen.set(0);
+        match map.insert(Noted { number, notes }, number) {
+            Ok(None) => {}
+            _ => return false,
+        }
+    }
+    true
+}
+
+#[test]
+fn compares_unordered_keys_of_one_hash_once(rt: HostRuntime) -> Result<(), Fail> {
+    let notes = Notes {
+        seen: Cell::new(0),
+        amiss: Cell::new(false),
+    };
+    let mut map = unordered(rt.alloc(), &notes, 100)?;
+    holds(&rt, turns_each(&mut map, &notes, 100));
+    holds(&rt, map.len() == 100 && !notes.amiss.get());
     Ok(())
 }

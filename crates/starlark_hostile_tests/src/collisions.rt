@@ -3,7 +3,6 @@
 use crate::given::{Numbers, holds, same, tens_under, under};
 use starlark_hash::StarlarkHashValue;
 use starlark_small::SmallMap;
-use starlark_unordered::{RawEntryMut, UnorderedMap};
 use std::alloc::Global;
 use std::test::Fail;
 

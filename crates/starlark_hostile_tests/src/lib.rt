@@ -11,3 +11,7 @@ mod collisions;
 mod given;
 #[cfg(test)]
 mod half_walks;
+#[cfg(test)]
+mod other_walks;
+#[cfg(test)]
+mod raw_searches;
