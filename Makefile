@@ -3,7 +3,7 @@ SCRIPT ?= examples/first.script
 # the crates whose wrong bodies are tried; none: all
 CRATE ?=
 
-.PHONY: run try bench test wrong refused
+.PHONY: run try bench test wrong refused hostile attack
 
 # builds the proved program, and plays the script
 run:
@@ -28,3 +28,11 @@ wrong:
 # runs the tests of memory with each request refused in turn, unproved
 refused:
 	@./refusals/try
+
+# plays scripts with the streams closed, full, cut short or not to be read
+hostile: run
+	@./hostile/streams
+
+# times hashes that an attacker may choose beside random ones
+attack: run
+	@python3 hostile/attack.py crates/starlark_script/out/starlark_script

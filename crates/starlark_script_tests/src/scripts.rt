@@ -156,6 +156,11 @@ fn many_entries(rt: HostRuntime) -> Result<(), Fail> {
     )
 }
 
+#[test]
+fn ten_thousand_lines(rt: HostRuntime) -> Result<(), Fail> {
+    check_after_puts(&rt, 10_000, "get 9999 k\nlen\n", "some 9999\n10000\n")
+}
+
 // A line `put 1 KEY 1` with a key of so many bytes.
 fn long_line(alloc: Global, key: usize) -> Result<String, Fail> {
     let mut line = String::new(alloc);

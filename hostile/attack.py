@@ -1,0 +1,72 @@
+"""Times the script program under hashes that an attacker may choose, beside random ones: nanoseconds a line.
+
+The own hash of a key is not keyed, so that whoever chooses the keys chooses where they stand. A script brings its hashes
+itself. Each figure is the least of some runs, less that of a run without the lines that it is about.
+
+python3 hostile/attack.py PROGRAM
+"""
+
+import random
+import subprocess
+import sys
+import time
+
+WORD = 1 << 64
+FACTOR = 0x9E3779B97F4A7C15
+RUNS = 3
+LOOK_UPS = 10_000
+
+
+def promoted(hash):
+    return hash * FACTOR % WORD
+
+
+def one_home(count):
+    """Hashes whose upper 15 promoted bits are 0, ascending: one home in every table of up to 32768 places."""
+    steps, below = [], (1, 2)
+    while below[0] < 1 << 24:
+        steps.append(below[0])
+        below = (below[1], sum(below))
+    hashes = [0]
+    while len(hashes) < count:
+        hashes.append(next(hashes[-1] + it for it in steps if promoted(hashes[-1] + it) < 1 << 49))
+    return hashes
+
+
+def cases(count):
+    draw = random.Random(1)
+    yield "random hashes", draw.sample(range(1 << 32), count)
+    yield "one hash", [7] * count
+    yield "one home", one_home(count)
+    for stride in 46368, 75025, 121393:
+        yield f"stride {stride}", [i * stride for i in range(count)]
+
+
+def seconds(program, lines):
+    text, best = "".join(lines).encode(), float("inf")
+    for _ in range(RUNS):
+        begin = time.perf_counter()
+        subprocess.run([program], input=text, stdout=subprocess.DEVNULL, check=True)
+        best = min(best, time.perf_counter() - begin)
+    return best
+
+
+def main(program):
+    print(f"{'hashes':<16}{'entries':>8}{'insertion':>12}{'hit':>12}{'miss':>12}{'removal':>12}")
+    for count in 1_000, 10_000:
+        for name, hashes in cases(count):
+            places = random.Random(2).sample(range(count), count) * (LOOK_UPS // count)
+            puts = [f"put {hash} k{i} {i}\n" for i, hash in enumerate(hashes)]
+            hits = [f"get {hashes[i]} k{i}\n" for i in places]
+            misses = [f"get {hashes[i]} n{i}\n" for i in places]
+            # a removal under attack takes milliseconds: few are enough
+            few = 1_000 if name == "random hashes" else 50
+            removals = [f"del {hashes[i]} k{i}\n" for i in places[:few]]
+            empty, built = seconds(program, []), seconds(program, puts)
+            row = [(built - empty) / count]
+            row += [(seconds(program, puts + it) - built) / len(it) for it in (hits, misses, removals)]
+            print(f"{name:<16}{count:>8}" + "".join(f"{max(it, 0) * 1e9:>12.0f}" for it in row), flush=True)
+
+
+if __name__ == "__main__":
+    main(*sys.argv[1:])
