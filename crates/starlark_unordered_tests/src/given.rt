@@ -1,4 +1,5 @@
-//! What several tests begin with.
+//! What several tests begin with, and the calls of a map of numbers. These say nothing of what they do: a test that makes
+//! its calls through them carries no knowledge from line to line, and is proved in a part of the time.
 
 use starlark_hash::StarlarkHasher;
 use starlark_unordered::UnorderedMap;
@@ -17,6 +18,30 @@ pub(crate) fn map_of<const N: usize>(
         map.insert(key, value)?;
     }
     Ok(map)
+}
+
+// What `insert` answers, and none where it was refused.
+pub(crate) fn put(map: &mut UnorderedMap<u64, u64>, key: u64, value: u64) -> Option<Option<u64>> {
+    map.insert(key, value).ok()
+}
+
+pub(crate) fn removed(map: &mut UnorderedMap<u64, u64>, key: u64) -> Option<u64> {
+    map.remove(&key)
+}
+
+// Whether the two are equal, and feed a hasher alike.
+pub(crate) fn alike(first: &UnorderedMap<u64, u64>, second: &UnorderedMap<u64, u64>) -> bool {
+    *first == *second && finished(first) == finished(second)
+}
+
+// Whether the map has these pairs and no more.
+pub(crate) fn shows(map: &UnorderedMap<u64, u64>, pairs: &[(u64, u64)]) -> bool {
+    for pair in pairs {
+        if map.get(&pair.0) != Some(&pair.1) {
+            return false;
+        }
+    }
+    map.len() == pairs.len()
 }
 
 pub(crate) fn finished(map: &UnorderedMap<u64, u64>) -> u64 {

@@ -13,3 +13,5 @@ mod raw_entries;
 mod sets;
 #[cfg(test)]
 mod walks;
+#[cfg(test)]
+mod words;

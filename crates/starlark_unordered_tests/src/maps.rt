@@ -1,18 +1,31 @@
 //! Maps: values from outside.
 
-use crate::given::{finished, holds, map_of, same};
-use starlark_hash::{StarlarkHasher, TextKey};
+use crate::given::{alike, holds, map_of, put, removed, same, shows};
+use starlark_hash::TextKey;
 use starlark_unordered::UnorderedMap;
-use std::hash::Hasher;
+use std::alloc::Global;
 use std::test::Fail;
 
 #[test]
 fn is_equal_in_another_order(rt: HostRuntime) -> Result<(), Fail> {
     let first = map_of(rt.alloc(), [(1, 2), (3, 4)])?;
     let second = map_of(rt.alloc(), [(3, 4), (1, 2)])?;
-    holds(&rt, first == second);
-    same(&rt, finished(&first), finished(&second));
-    holds(&rt, first != map_of(rt.alloc(), [(1, 2), (9, 10)])?);
+    holds(&rt, alike(&first, &second));
+    Ok(())
+}
+
+#[test]
+fn differs_by_keys_and_values(rt: HostRuntime) -> Result<(), Fail> {
+    let map = map_of(rt.alloc(), [(1, 2), (3, 4)])?;
+    let mut other = map_of(rt.alloc(), [(1, 2), (9, 10)])?;
+    holds(&rt, !alike(&map, &other) && map != other);
+    same(&rt, removed(&mut other, 9), Some(10));
+    same(&rt, put(&mut other, 3, 5), Some(None));
+    holds(&rt, map != other);
+    same(&rt, put(&mut other, 3, 4), Some(Some(5)));
+    holds(&rt, alike(&map, &other));
+    same(&rt, put(&mut other, 5, 6), Some(None));
+    holds(&rt, map != other && other != map);
     Ok(())
 }
 
@@ -20,39 +33,21 @@ fn is_equal_in_another_order(rt: HostRuntime) -> Result<(), Fail> {
 fn is_equal_after_removals(rt: HostRuntime) -> Result<(), Fail> {
     let first = map_of(rt.alloc(), [(1, 2), (3, 4)])?;
     let mut second = map_of(rt.alloc(), [(9, 10), (3, 4), (1, 2), (11, 12)])?;
-    same(&rt, second.remove(&9u64), Some(10));
-    same(&rt, second.remove(&11u64), Some(12));
-    holds(&rt, first == second);
-    same(&rt, finished(&first), finished(&second));
+    same(&rt, removed(&mut second, 9), Some(10));
+    same(&rt, removed(&mut second, 11), Some(12));
+    holds(&rt, alike(&first, &second));
     Ok(())
 }
 
 #[test]
 fn replaces_and_removes(rt: HostRuntime) -> Result<(), Fail> {
     let mut map: UnorderedMap<u64, u64> = UnorderedMap::new(rt.alloc());
-    same(&rt, map.insert(1, 2)?, None);
-    same(&rt, map.insert(1, 3)?, Some(2));
-    same(&rt, map.remove(&1u64), Some(3));
-    holds(&rt, map == UnorderedMap::new(rt.alloc()));
-    Ok(())
-}
-
-// The length, and then the sum of what the pairs come to.
-#[test]
-fn feeds_length_and_sum(rt: HostRuntime) -> Result<(), Fail> {
-    let mut two = StarlarkHasher::new();
-    two.write_u64(2);
-    two.write_u64(0x45f306dc9c882a54);
-    let map = map_of(rt.alloc(), [(0, 2), (1, 0x2f9836e4e44152a8)])?;
-    same(&rt, finished(&map), two.finish());
-    let mut one = StarlarkHasher::new();
-    one.write_u64(1);
-    one.write_u64(0x517cc1b727220a95);
-    same(&rt, finished(&map_of(rt.alloc(), [(0, 1)])?), one.finish());
-    let mut none = StarlarkHasher::new();
-    none.write_u64(0);
-    none.write_u64(0);
-    same(&rt, finished(&UnorderedMap::new(rt.alloc())), none.finish());
+    same(&rt, put(&mut map, 1, 2), Some(None));
+    holds(&rt, shows(&map, &[(1, 2)]));
+    same(&rt, put(&mut map, 1, 3), Some(Some(2)));
+    holds(&rt, shows(&map, &[(1, 3)]));
+    same(&rt, removed(&mut map, 1), Some(3));
+    holds(&rt, alike(&map, &UnorderedMap::new(rt.alloc())));
     Ok(())
 }
 
@@ -67,24 +62,52 @@ fn sorts_entries(rt: HostRuntime) -> Result<(), Fail> {
     Ok(())
 }
 
-#[test]
-fn retains_texts(rt: HostRuntime) -> Result<(), Fail> {
-    let alloc = rt.alloc();
-    let mut map: UnorderedMap<String, String> = UnorderedMap::new(alloc);
-    for i in 0..1000u32 {
+type Texts = UnorderedMap<String, String>;
+
+// So many texts under keys with the same numbers.
+fn texts(alloc: Global, count: u32) -> Result<Texts, Fail> {
+    let mut map = UnorderedMap::new(alloc);
+    for i in 0..count {
         map.insert(format!(in alloc; "key{i}")?, format!(in alloc; "value{i}")?)?;
     }
+    Ok(map)
+}
+
+// Appends a letter to each value, and keeps the keys that end so. Answers how many are left.
+fn retain_ending(map: &mut Texts, letter: char, end: char) -> usize {
     map.retain(|key, value| {
-        let _pushed = value.push('x');
-        key.as_str().ends_with('0')
+        let _pushed = value.push(letter);
+        key.as_str().ends_with(end)
     });
-    same(&rt, map.len(), 100);
-    for i in 0..100u32 {
-        let key = format!(in alloc; "key{}", i * 10)?;
-        let value = format!(in alloc; "value{}x", i * 10)?;
-        holds(&rt, map.get(&TextKey(key.as_str())) == Some(&value));
+    map.len()
+}
+
+// Whether the value at the key is this one, by its index.
+fn has_at(map: &Texts, key: &str, value: &str) -> bool {
+    let query = TextKey(key);
+    map.contains_key(&query) && map[&query].as_str() == value
+}
+
+// Whether the map has the changed value at each tenth key, and no other key.
+fn has_tenths(alloc: Global, map: &Texts, count: u32) -> Result<bool, Fail> {
+    for i in 0..count {
+        let key = format!(in alloc; "key{i}")?;
+        let value = format!(in alloc; "value{i}x")?;
+        let wanted = i % 10 == 0;
+        if has_at(map, key.as_str(), value.as_str()) != wanted
+            || map.contains_key(&TextKey(key.as_str())) != wanted
+        {
+            return Ok(false);
+        }
     }
-    holds(&rt, map.get(&TextKey("key1")) == None);
+    Ok(true)
+}
+
+#[test]
+fn retains_texts(rt: HostRuntime) -> Result<(), Fail> {
+    let mut map = texts(rt.alloc(), 1000)?;
+    same(&rt, retain_ending(&mut map, 'x', '0'), 100);
+    holds(&rt, has_tenths(rt.alloc(), &map, 1000)?);
     Ok(())
 }
 

@@ -1,6 +1,6 @@
 //! Raw entries at a concrete type: what they find, and what is written behind the references.
 
-use crate::given::{holds, map_of, same};
+use crate::given::{holds, map_of, same, shows};
 use starlark_hash::{Hashed, NoRoom, StarlarkHashValue};
 use starlark_unordered::{RawEntryMut, UnorderedMap};
 use std::test::Fail;
@@ -19,7 +19,7 @@ fn finds_by_hash_and_closure(rt: HostRuntime) -> Result<(), Fail> {
         same(&rt, entry.remove_entry(), (3, 4));
     }
     same(&rt, calls, 1);
-    holds(&rt, map == map_of(rt.alloc(), [(1, 2)])?);
+    holds(&rt, shows(&map, &[(1, 2)]));
     Ok(())
 }
 

@@ -6,22 +6,39 @@ use starlark_unordered::UnorderedSet;
 use starlark_unordered::unordered_set::RawEntryMut;
 use std::test::Fail;
 
+// What `insert` answers, and none where it was refused.
+fn put(set: &mut UnorderedSet<u32>, element: u32) -> Option<bool> {
+    set.insert(element).ok()
+}
+
+// Whether these are the elements in ascending order.
+fn sorts_to(set: &UnorderedSet<u32>, wanted: &[u32]) -> Result<bool, Fail> {
+    let mut wanted = wanted.iter();
+    for element in set.entries_sorted()? {
+        if wanted.next() != Some(element) {
+            return Ok(false);
+        }
+    }
+    Ok(wanted.next().is_none())
+}
+
 #[test]
 fn inserts_and_sorts(rt: HostRuntime) -> Result<(), Fail> {
     let mut set: UnorderedSet<u32> = UnorderedSet::new(rt.alloc());
-    let mut answers = [false; 5];
-    for (place, element) in [10u32, 10, 20, 20, 30].iter().enumerate() {
-        if place < 5 {
-            answers[place] = set.insert(*element)?;
-        }
-    }
-    same(&rt, answers, [true, false, true, false, true]);
-    let entries = set.entries_sorted()?;
-    assert_eq!(rt; entries.len(), 3);
-    holds(
-        &rt,
-        *entries[0] == 10 && *entries[1] == 20 && *entries[2] == 30,
-    );
+    same(&rt, put(&mut set, 10), Some(true));
+    same(&rt, put(&mut set, 10), Some(false));
+    same(&rt, put(&mut set, 20), Some(true));
+    same(&rt, put(&mut set, 20), Some(false));
+    same(&rt, set.len(), 2);
+    same(&rt, put(&mut set, 30), Some(true));
+    holds(&rt, sorts_to(&set, &[10, 20, 30])?);
+    Ok(())
+}
+
+#[test]
+fn sorts_what_came_unsorted(rt: HostRuntime) -> Result<(), Fail> {
+    let set = UnorderedSet::from_iter(rt.alloc(), [20u32, 10, 30])?;
+    holds(&rt, sorts_to(&set, &[10, 20, 30])?);
     Ok(())
 }
 

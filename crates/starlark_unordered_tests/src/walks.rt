@@ -1,6 +1,6 @@
 //! Walks that write, at a concrete type: what the map has afterwards.
 
-use crate::given::{holds, map_of, same};
+use crate::given::{holds, map_of, same, shows};
 use std::test::Fail;
 
 #[test]
@@ -10,7 +10,7 @@ fn writes_entries(rt: HostRuntime) -> Result<(), Fail> {
     for (key, value) in map.entries_unordered_mut() {
         *value = key.wrapping_add(10);
     }
-    holds(&rt, map == map_of(rt.alloc(), [(1, 11), (3, 13)])?);
+    holds(&rt, shows(&map, &[(1, 11), (3, 13)]));
     Ok(())
 }
 
@@ -21,6 +21,6 @@ fn writes_values(rt: HostRuntime) -> Result<(), Fail> {
     for value in map.values_unordered_mut() {
         *value = value.wrapping_add(5);
     }
-    holds(&rt, map == map_of(rt.alloc(), [(1, 7), (3, 9)])?);
+    holds(&rt, shows(&map, &[(1, 7), (3, 9)]));
     Ok(())
 }
