@@ -1,50 +1,90 @@
 //! Each law's calls, made once at small maps.
 
-use crate::given::{holds, same};
+use crate::given::{Numbers, holds, same, shows};
 use starlark_hash::{Hashed, StarlarkHasher};
 use starlark_laws::{collection, equality, insertion, keys, lists, order};
 use starlark_small::{SmallMap, smallmap};
+use std::alloc::{AllocError, Global};
 use std::hash::Hasher;
 use std::test::Fail;
 
+// The value that was under a key that is there, and none where it was refused.
+fn put(map: &mut Numbers, key: u32, value: u32) -> Option<Option<u32>> {
+    insertion::insertion_of_a_present_key(map, Hashed::new(key), value).ok()
+}
+
+fn turn_twice(map: &mut Numbers) {
+    order::reverse_twice(map);
+}
+
+// Whether it had the memory to sort.
+fn sort_twice(map: &mut Numbers) -> bool {
+    order::sort_twice(map).is_ok()
+}
+
+// Whether nothing was refused.
+fn sort_sorted(map: &mut Numbers) -> bool {
+    order::sort_of_a_sorted_list(map).is_ok()
+}
+
 #[test]
 fn makes_the_calls_on_one_map(rt: HostRuntime) -> Result<(), Fail> {
-    let mut map: SmallMap<u32, u32> = smallmap![rt.alloc(); 2 => 20, 1 => 10, 3 => 30]?;
-    same(
-        &rt,
-        insertion::insertion_of_a_present_key(&mut map, Hashed::new(1), 11)?,
-        Some(10),
-    );
-    order::reverse_twice(&mut map);
-    holds(&rt, map.first() == Some((&2, &20)));
-    order::sort_twice(&mut map)?;
-    holds(&rt, order::sort_of_a_sorted_list(&mut map).is_ok());
-    holds(&rt, map.first() == Some((&1, &11)));
+    let mut map: Numbers = smallmap![rt.alloc(); 2 => 20, 1 => 10, 3 => 30]?;
+    same(&rt, put(&mut map, 1, 11), Some(Some(10)));
+    turn_twice(&mut map);
+    holds(&rt, shows(&map, &[(2, 20), (1, 11), (3, 30)]));
+    holds(&rt, sort_twice(&mut map) && sort_sorted(&mut map));
+    holds(&rt, shows(&map, &[(1, 11), (2, 20), (3, 30)]));
     same(&rt, keys::own_hashes_tell_keys_apart(&map), 3);
     Ok(())
 }
 
-#[test]
-fn makes_the_calls_on_two_maps(rt: HostRuntime) -> Result<(), Fail> {
-    let map = collection::written_in_order(rt.alloc(), (1u32, 11u32), (2, 20), (3, 30))?;
-    let other = collection::written_in_order(rt.alloc(), (1, 11), (2, 20), (3, 30))?;
-    let answers = equality::ordered_equality_is_equality(&map, &other);
-    holds(&rt, answers == (true, true));
+// The keys 1, 2 and 3.
+fn three(alloc: Global) -> Result<Numbers, AllocError> {
+    collection::written_in_order(alloc, (1, 11), (2, 20), (3, 30))
+}
+
+// What both comparisons answer.
+fn compared(map: &Numbers, other: &Numbers) -> (bool, bool) {
+    equality::ordered_equality_is_equality(map, other)
+}
+
+// Whether the maps are equal in their order, and what each of them feeds a new hasher.
+fn fed(map: &Numbers, other: &Numbers) -> (bool, u64, u64) {
     let mut state = StarlarkHasher::new();
     let mut other_state = StarlarkHasher::new();
-    let alike = equality::ordered_equality_feeds_alike(&map, &other, &mut state, &mut other_state);
+    let alike = equality::ordered_equality_feeds_alike(map, other, &mut state, &mut other_state);
+    (alike, state.finish(), other_state.finish())
+}
+
+#[test]
+fn makes_the_calls_on_two_maps(rt: HostRuntime) -> Result<(), Fail> {
+    let map = three(rt.alloc())?;
+    let other = three(rt.alloc())?;
+    same(&rt, compared(&map, &other), (true, true));
+    let (alike, state, other_state) = fed(&map, &other);
     holds(&rt, alike);
-    same(&rt, state.finish(), other_state.finish());
+    same(&rt, state, other_state);
     Ok(())
+}
+
+// The same three keys in a map that has room for them, and its length.
+fn three_with_room(alloc: Global) -> Result<(usize, Numbers), AllocError> {
+    let room = SmallMap::with_capacity(alloc, 3)?;
+    let written = collection::written_with_room(room, (1u32, 11u32), (2, 20), (3, 30))?;
+    Ok((written.len(), written))
+}
+
+fn collected(alloc: Global, map: Numbers) -> Result<Numbers, AllocError> {
+    collection::collected_anew(alloc, map)
 }
 
 #[test]
 fn makes_the_calls_that_collect(rt: HostRuntime) -> Result<(), Fail> {
-    let room = SmallMap::with_capacity(rt.alloc(), 3)?;
-    let written = collection::written_with_room(room, (1u32, 11u32), (2, 20), (3, 30))?;
-    same(&rt, written.len(), 3);
-    let collected = collection::collected_anew(rt.alloc(), written)?;
-    let other = collection::written_in_order(rt.alloc(), (1, 11), (2, 20), (3, 30))?;
+    let (length, written) = three_with_room(rt.alloc())?;
+    same(&rt, length, 3);
+    let collected = collected(rt.alloc(), written)?;
+    let other = three(rt.alloc())?;
     holds(&rt, collected.eq_ordered(&other));
     Ok(())
 }

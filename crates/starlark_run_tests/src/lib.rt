@@ -8,4 +8,6 @@ mod laws;
 #[cfg(test)]
 mod lending;
 #[cfg(test)]
+mod replies;
+#[cfg(test)]
 mod runs;

@@ -1,16 +1,38 @@
 //! Runs of commands: replies from outside, runs that succeed, and what a refused request leaves.
 
-use crate::given::{holds, same, tens, under};
-use starlark_hash::{Hashed, NoRoom};
+use crate::given::{Numbers, holds, pop_last, same, shows, size, tens, under};
+use crate::replies::{Replies, found, is_done, old, shown, taken};
+use starlark_hash::Hashed;
 use starlark_runs::{Command, Reply, replies_agree, run};
 use starlark_small::SmallMap;
 use std::alloc::{AllocError, Global};
 use std::test::Fail;
 
+type Commands = Vec<Command<u32, u32>>;
+
+fn value_of(_key: &u32, value: &u32) -> u32 {
+    *value
+}
+
+fn key_with_value(key: &u32, value: &u32) -> u32 {
+    key ^ value
+}
+
+// What a map replies that has no entries yet.
+fn replied(alloc: Global, commands: Commands) -> Result<Replies, AllocError> {
+    let mut map: Numbers = SmallMap::new(alloc);
+    run(alloc, &mut map, commands, value_of)
+}
+
+// The same, where keys are shown with their values.
+fn replied_with_keys(alloc: Global, commands: Commands) -> Result<Replies, AllocError> {
+    let mut map: Numbers = SmallMap::new(alloc);
+    run(alloc, &mut map, commands, key_with_value)
+}
+
 #[test]
 fn runs_commands(rt: HostRuntime) -> Result<(), Fail> {
     let alloc = rt.alloc();
-    let mut map: SmallMap<u32, u32> = SmallMap::new(alloc);
     let commands = vec![in alloc;
         Command::Insert(under(7, 2), 20),
         Command::Insert(under(9, 2), 30),
@@ -19,26 +41,19 @@ fn runs_commands(rt: HostRuntime) -> Result<(), Fail> {
         Command::Look(under(8, 2)),
         Command::Len,
     ]?;
-    let replies: Vec<Reply<u32, u32, u32>> = run(
-        alloc,
-        &mut map,
-        commands,
-        |key, value| key ^ value,
-    )?;
-    assert_eq!(rt; replies.len(), 6);
-    holds(&rt, matches!(&replies[0], Reply::Old(None)));
-    holds(&rt, matches!(&replies[1], Reply::Old(None)));
-    holds(&rt, matches!(&replies[2], Reply::Old(Some(20))));
-    holds(&rt, matches!(&replies[3], Reply::Found(Some((0, 42)))));
-    holds(&rt, matches!(&replies[4], Reply::Found(None)));
-    holds(&rt, matches!(&replies[5], Reply::Count(2)));
+    let replies = replied_with_keys(alloc, commands)?;
+    same(&rt, replies.len(), 6);
+    same(&rt, old(&replies, 0), Some(None));
+    same(&rt, old(&replies, 1), Some(None));
+    same(&rt, old(&replies, 2), Some(Some(20)));
+    same(&rt, found(&replies, 3), Some(Some((0, 42))));
+    same(&rt, found(&replies, 4), Some(None));
+    holds(&rt, matches!(replies.get(5), Some(Reply::Count(2))));
     Ok(())
 }
 
-#[test]
-fn runs_all_commands(rt: HostRuntime) -> Result<(), Fail> {
-    let alloc = rt.alloc();
-    let mut map: SmallMap<u32, u32> = SmallMap::new(alloc);
+// Each command but those for room.
+fn all_commands(alloc: Global) -> Result<Commands, Fail> {
     let commands = vec![in alloc;
         Command::Insert(under(7, 2), 1),
         Command::Insert(under(9, 1), 2),
@@ -56,63 +71,72 @@ fn runs_all_commands(rt: HostRuntime) -> Result<(), Fail> {
         Command::Pop,
         Command::Clear,
     ]?;
-    let replies: Vec<Reply<u32, u32, u32>> = run(alloc, &mut map, commands, |_, value| *value)?;
-    assert_eq!(rt; replies.len(), 15);
-    holds(&rt, matches!(&replies[2], Reply::Done));
-    holds(&rt, matches!(&replies[3], Reply::Shown(Some(2))));
-    holds(&rt, matches!(&replies[4], Reply::Shown(Some(1))));
-    holds(&rt, matches!(&replies[5], Reply::Old(Some(2))));
-    holds(&rt, matches!(&replies[6], Reply::Old(None)));
-    holds(&rt, matches!(&replies[7], Reply::Done));
-    holds(&rt, matches!(&replies[8], Reply::Shown(Some(5))));
-    holds(&rt, matches!(&replies[9], Reply::Shown(None)));
-    holds(&rt, matches!(&replies[10], Reply::Taken(None)));
-    holds(&rt, matches!(&replies[11], Reply::Taken(Some((2, 1)))));
-    holds(&rt, matches!(&replies[12], Reply::TakenHashed(None)));
-    holds(&rt, matches!(&replies[13], Reply::Taken(Some((1, 5)))));
-    holds(&rt, matches!(&replies[14], Reply::Done));
+    Ok(commands)
+}
+
+#[test]
+fn runs_all_commands(rt: HostRuntime) -> Result<(), Fail> {
+    let alloc = rt.alloc();
+    let replies = replied(alloc, all_commands(alloc)?)?;
+    same(&rt, replies.len(), 15);
+    holds(&rt, is_done(&replies, 2));
+    same(&rt, shown(&replies, 3), Some(Some(2)));
+    same(&rt, shown(&replies, 4), Some(Some(1)));
+    same(&rt, old(&replies, 5), Some(Some(2)));
+    same(&rt, old(&replies, 6), Some(None));
+    holds(&rt, is_done(&replies, 7));
+    same(&rt, shown(&replies, 8), Some(Some(5)));
+    same(&rt, shown(&replies, 9), Some(None));
+    same(&rt, taken(&replies, 10), Some(None));
+    same(&rt, taken(&replies, 11), Some(Some((2, 1))));
+    holds(
+        &rt,
+        matches!(replies.get(12), Some(Reply::TakenHashed(None))),
+    );
+    same(&rt, taken(&replies, 13), Some(Some((1, 5))));
+    holds(&rt, is_done(&replies, 14));
     Ok(())
 }
 
-// Holds whichever request for memory is refused, but for the first, of the commands.
-#[test]
-fn refusals_leave_the_list(rt: HostRuntime) -> Result<(), Fail> {
-    let alloc = rt.alloc();
-    let commands = vec![in alloc; Command::Insert(under(0, 8), 80)]?;
-    let mut map: SmallMap<u32, u32> = SmallMap::new(alloc);
+// The keys below eight under one hash, each put in at the second attempt where the first is refused.
+fn eight(alloc: Global) -> Result<Numbers, Fail> {
+    let mut map: Numbers = SmallMap::new(alloc);
     for key in 0..8 {
-        if let Err(NoRoom(_)) = map.insert_hashed(under(0, key), 10 * key) {
+        if map.insert_hashed(under(0, key), 10 * key).is_err() {
             map.insert_hashed(under(0, key), 10 * key)?;
         }
     }
-    let outcome: Result<Vec<Reply<u32, u32, u32>>, AllocError> = run(
-        alloc,
-        &mut map,
-        commands,
-        |_, value| *value,
-    );
-    let done = match outcome {
-        Ok(replies) => {
-            assert_eq!(rt; replies.len(), 1);
-            match &replies[0] {
-                Reply::Refused(key, value) => {
-                    same(&rt, (*key.key(), *value), (8, 80));
-                    false
-                }
-                reply => {
-                    holds(&rt, matches!(reply, Reply::Old(None)));
-                    true
-                }
-            }
-        }
-        Err(AllocError) => false,
+    Ok(map)
+}
+
+// Whether a run of one insertion, of 8 under hash 0, put it in, and none where it gave no such replies.
+fn puts_eight(alloc: Global, map: &mut Numbers) -> Option<bool> {
+    let Ok(commands) = vec![in alloc; Command::Insert(under(0, 8), 80)] else {
+        return Some(false);
     };
-    same(&rt, map.len(), if done { 9 } else { 8 });
+    let Ok(replies) = run(alloc, map, commands, value_of) else {
+        return Some(false);
+    };
+    match replies.get(0) {
+        Some(Reply::Refused(key, value)) if replies.len() == 1 && (*key.key(), *value) == (8, 80) =>
+            { Some(false) }
+        Some(Reply::Old(None)) if replies.len() == 1 => Some(true),
+        _ => None,
+    }
+}
+
+// Holds whichever request for memory is refused.
+#[test]
+fn refusals_leave_the_list(rt: HostRuntime) -> Result<(), Fail> {
+    let mut map = eight(rt.alloc())?;
+    let done = puts_eight(rt.alloc(), &mut map);
+    holds(&rt, done.is_some());
+    same(&rt, map.len(), if done == Some(true) { 9 } else { 8 });
     Ok(())
 }
 
-// Runs some commands on the first ten keys, and tells whether the replies are those of a plain list.
-fn replies_are_right(alloc: Global, map: &mut SmallMap<u32, u32>) -> Result<bool, Fail> {
+// Commands on the first ten keys.
+fn eleven_commands(alloc: Global) -> Option<Commands> {
     let commands = vec![in alloc;
         Command::Look(Hashed::new(3)),
         Command::RemoveAt(2),
@@ -125,68 +149,81 @@ fn replies_are_right(alloc: Global, map: &mut SmallMap<u32, u32>) -> Result<bool
         Command::Reserve(4),
         Command::DropIndex,
         Command::Len,
-    ]?;
-    let replies: Vec<Reply<u32, u32, u32>> = run(alloc, map, commands, |_, value| *value)?;
-    Ok(
-        replies.len() == 11
-            && matches!(&replies[0], Reply::Found(Some((3, 30))))
-            && matches!(&replies[2], Reply::Found(Some((2, 30))))
-            && matches!(&replies[5], Reply::Found(Some((9, 5))))
-            && matches!(&replies[7], Reply::Found(Some((8, 90))))
-            && matches!(&replies[8], Reply::Done)
-            && matches!(&replies[9], Reply::Done)
-            && matches!(&replies[10], Reply::Count(10)),
-    )
+    ];
+    commands.ok()
+}
+
+// Does those, and tells whether the replies are those of a plain list.
+fn replies_are_right(alloc: Global, map: &mut Numbers) -> bool {
+    let Some(commands) = eleven_commands(alloc) else {
+        return false;
+    };
+    let Ok(replies) = run(alloc, map, commands, value_of) else {
+        return false;
+    };
+    are_right(&replies)
+}
+
+fn are_right(replies: &[Reply<u32, u32, u32>]) -> bool {
+    replies.len() == 11
+        && found(replies, 0) == Some(Some((3, 30)))
+        && found(replies, 2) == Some(Some((2, 30)))
+        && found(replies, 5) == Some(Some((9, 5)))
+        && found(replies, 7) == Some(Some((8, 90)))
+        && is_done(replies, 8)
+        && is_done(replies, 9)
+        && matches!(replies.get(10), Some(Reply::Count(10)))
 }
 
 #[test]
-fn replies_alike_with_an_index_and_without(rt: HostRuntime) -> Result<(), Fail> {
-    let alloc = rt.alloc();
-    let mut long = tens(alloc, 100)?;
-    for _ in 0..90 {
-        long.pop();
-    }
-    let mut short = tens(alloc, 10)?;
-    holds(&rt, long.index().is_some());
-    holds(&rt, short.index().is_none());
-    let alike = replies_are_right(alloc, &mut long)?;
-    holds(&rt, alike);
-    let alike = replies_are_right(alloc, &mut short)?;
-    holds(&rt, alike);
-    holds(&rt, long.index().is_none());
+fn replies_with_an_index(rt: HostRuntime) -> Result<(), Fail> {
+    let mut long = tens(rt.alloc(), 100)?;
+    pop_last(&mut long, 90);
+    same(&rt, size(&long), (10, true));
+    holds(&rt, replies_are_right(rt.alloc(), &mut long));
+    same(&rt, size(&long), (10, false));
     Ok(())
 }
 
-fn few_commands(alloc: Global) -> Result<Vec<Command<u32, u32>>, Fail> {
+#[test]
+fn replies_alike_without_an_index(rt: HostRuntime) -> Result<(), Fail> {
+    let mut short = tens(rt.alloc(), 10)?;
+    same(&rt, size(&short), (10, false));
+    holds(&rt, replies_are_right(rt.alloc(), &mut short));
+    Ok(())
+}
+
+fn few_commands(alloc: Global) -> Option<Commands> {
     let commands = vec![in alloc;
         Command::RemoveAt(2),
         Command::Look(Hashed::new(3)),
         Command::Reverse,
         Command::Last,
-    ]?;
-    Ok(commands)
+    ];
+    commands.ok()
 }
 
-fn value_of(_key: &u32, value: &u32) -> u32 {
-    *value
+// Whether both maps reply alike to those, and as a plain list does.
+fn reply_alike(alloc: Global, long: &mut Numbers, short: &mut Numbers) -> bool {
+    let (Some(commands), Some(again)) = (few_commands(alloc), few_commands(alloc)) else {
+        return false;
+    };
+    let Ok((replies, others)) = replies_agree(
+        alloc, long, short, commands, again, value_of, value_of,
+    ) else {
+        return false;
+    };
+    (replies.len(), others.len()) == (4, 4)
+        && found(&replies, 1) == Some(Some((2, 30)))
+        && found(&others, 1) == Some(Some((2, 30)))
 }
 
 #[test]
 fn replies_agree_on_two_maps(rt: HostRuntime) -> Result<(), Fail> {
-    let alloc = rt.alloc();
-    let mut long = tens(alloc, 40)?;
-    for _ in 0..30 {
-        long.pop();
-    }
-    let mut short = tens(alloc, 10)?;
-    let commands = few_commands(alloc)?;
-    let again = few_commands(alloc)?;
-    let (replies, others) = replies_agree(
-        alloc, &mut long, &mut short, commands, again, value_of, value_of,
-    )?;
-    assert_eq!(rt; (replies.len(), others.len()), (4, 4));
-    holds(&rt, matches!(&replies[1], Reply::Found(Some((2, 30)))));
-    holds(&rt, matches!(&others[1], Reply::Found(Some((2, 30)))));
+    let mut long = tens(rt.alloc(), 40)?;
+    pop_last(&mut long, 30);
+    let mut short = tens(rt.alloc(), 10)?;
+    holds(&rt, reply_alike(rt.alloc(), &mut long, &mut short));
     holds(&rt, long == short);
     Ok(())
 }
