@@ -1,9 +1,12 @@
 //! A vector whose items ascend. It alone sees the vector inside.
-ghost use Rattle.std.specs.Prelude.{◌≡◌, [], IfOk, IfErr};
+ghost use Rattle.std.specs.Prelude.{◌≡◌, ◌^◌, ◌<◌, [], length, IfOk, IfErr};
 ghost use Rattle.std.specs.List.Sorted.{IsPermutation, IsSorted, IsStable};
+ghost use Rattle.std.specs.Iterator.Adapters.{IterYieldsInOrder, IterYieldsInReverse};
+ghost use Rattle.std.specs.Slice.Iter.{iter_rest};
 
 use std::alloc::Global;
 use std::marker::Model;
+use std::slice::Iter;
 
 /// A vector whose items ascend. Equal items may stand side by side.
 #[derive(Drop)]
@@ -38,8 +41,8 @@ impl<T: Ord> SortedVec<T> {
         SortedVec(vec)
     }
 
-    /// Every item of the vector, sorted; equal ones keep their order. Where memory is
-    /// refused, the vector is handed back as it was.
+    /// Every item of the vector, sorted; equal ones keep their order. Where memory is refused, the vector
+    /// is handed back as it was.
     pub fn from_vec(vec: Vec<T>) -> Result<Self, Vec<T>>
         ensures every_item { IfOk result (λ sorted. IsPermutation vec.items sorted) }
         ensures ascends { IfOk result (λ sorted. IsSorted T.cmp sorted) }
@@ -51,5 +54,16 @@ impl<T: Ord> SortedVec<T> {
             Ok(()) => Ok(SortedVec(vec)),
             Err(_) => Err(vec),
         }
+    }
+
+    /// The items in order.
+    #[inline]
+    pub fn iter(&self) -> Iter<'_, T>
+        ensures items { iter_rest result ≡ self.now }
+        ensures fits { length self.now < 2 ^ 64 }
+        ensures runs { IterYieldsInOrder T }
+        ensures runs_back { IterYieldsInReverse T }
+    {
+        self.0.iter()
     }
 }
