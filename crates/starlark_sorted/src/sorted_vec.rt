@@ -1,0 +1,69 @@
+//! A vector whose items ascend. It alone sees the vector inside.
+ghost use Rattle.std.specs.Prelude.{◌≡◌, ◌^◌, ◌<◌, [], length, IfOk, IfErr};
+ghost use Rattle.std.specs.List.Sorted.{IsPermutation, IsSorted, IsStable};
+ghost use Rattle.std.specs.Iterator.Adapters.{IterYieldsInOrder, IterYieldsInReverse};
+ghost use Rattle.std.specs.Slice.Iter.{iter_rest};
+
+use std::alloc::Global;
+use std::marker::Model;
+use std::slice::Iter;
+
+/// A vector whose items ascend. Equal items may stand side by side.
+#[derive(Drop)]
+pub struct SortedVec<T: Ord>(Vec<T>);
+
+impl<T: Ord> Model for SortedVec<T> {
+    ghost use Rattle.std.specs.Prelude.{List};
+    ghost use Rattle.std.specs.List.Sorted.{IsSorted};
+
+    ghost Value = { List T };
+
+    ghost view = { λ v. v.0.items };
+
+    ghost invariant = { λ v. IsSorted T.cmp v.0.items };
+}
+
+impl<T: Ord> SortedVec<T> {
+    /// An empty vector, which asks for no memory.
+    #[inline]
+    pub fn new(alloc: Global) -> Self
+        ensures { result ≡ [] }
+    {
+        SortedVec(Vec::new(alloc))
+    }
+
+    /// The items of a vector that ascends already.
+    #[inline]
+    pub fn new_unchecked(vec: Vec<T>) -> Self
+        requires ascends { IsSorted T.cmp vec.items }
+        ensures { result ≡ vec.items }
+    {
+        SortedVec(vec)
+    }
+
+    /// Every item of the vector, sorted; equal ones keep their order. Where memory is refused, the vector
+    /// is handed back as it was.
+    pub fn from_vec(vec: Vec<T>) -> Result<Self, Vec<T>>
+        ensures every_item { IfOk result (λ sorted. IsPermutation vec.items sorted) }
+        ensures ascends { IfOk result (λ sorted. IsSorted T.cmp sorted) }
+        ensures stable { IfOk result (λ sorted. IsStable T.cmp vec.items sorted) }
+        ensures handed_back { IfErr result (λ source. source.items ≡ vec.items) }
+    {
+        let mut vec = vec;
+        match vec.sort() {
+            Ok(()) => Ok(SortedVec(vec)),
+            Err(_) => Err(vec),
+        }
+    }
+
+    /// The items in order.
+    #[inline]
+    pub fn iter(&self) -> Iter<'_, T>
+        ensures items { iter_rest result ≡ self.now }
+        ensures fits { length self.now < 2 ^ 64 }
+        ensures runs { IterYieldsInOrder T }
+        ensures runs_back { IterYieldsInReverse T }
+    {
+        self.0.iter()
+    }
+}
