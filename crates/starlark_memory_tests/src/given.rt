@@ -38,18 +38,6 @@ pub(crate) fn is_tens(map: &Numbers, count: u32) -> bool {
     walk.next().is_none()
 }
 
-// The keys 9 and 3, in this order.
-pub(crate) fn falling(alloc: Global) -> Result<SmallMap<&'static str, u32>, Fail> {
-    let mut map: SmallMap<&'static str, u32> = SmallMap::new(alloc);
-    if map.insert_hashed(under(9, "b"), 1).is_err() {
-        map.insert_hashed(under(9, "b"), 1)?;
-    }
-    if map.insert_hashed(under(3, "a"), 2).is_err() {
-        map.insert_hashed(under(3, "a"), 2)?;
-    }
-    Ok(map)
-}
-
 // What came back, where a call was refused.
 pub(crate) fn handed_back<R: Drop, T>(found: Result<R, NoRoom<T>>) -> Option<T> {
     match found {
