@@ -1,55 +1,78 @@
 //! Maps that are made with room, of items or of another map.
 
-use crate::given::{holds, same, tens, under};
+use crate::given::{Numbers, holds, same, tens, under};
 use starlark_small::{SmallMap, smallmap};
+use std::alloc::{AllocError, Global};
 use std::test::Fail;
+
+fn with_room(alloc: Global) -> Result<Numbers, AllocError> {
+    match SmallMap::with_capacity(alloc, 40) {
+        Ok(map) => Ok(map),
+        Err(_) => SmallMap::with_capacity(alloc, 40),
+    }
+}
 
 #[test]
 fn begins_with_room(rt: HostRuntime) -> Result<(), Fail> {
-    let alloc = rt.alloc();
-    let map: SmallMap<u32, u32> = match SmallMap::with_capacity(alloc, 40) {
-        Ok(map) => map,
-        Err(_) => SmallMap::with_capacity(alloc, 40)?,
-    };
+    let map = with_room(rt.alloc())?;
     holds(&rt, 40 <= map.room());
     holds(&rt, map.index().is_some());
     Ok(())
 }
 
+fn collected(alloc: Global) -> Result<SmallMap<u32, char>, AllocError> {
+    match SmallMap::from_iter(alloc, [(1u32, 'a'), (2, 'b')]) {
+        Ok(map) => Ok(map),
+        Err(_) => SmallMap::from_iter(alloc, [(1, 'a'), (2, 'b')]),
+    }
+}
+
 #[test]
 fn collects_items(rt: HostRuntime) -> Result<(), Fail> {
-    let alloc = rt.alloc();
-    let map = match SmallMap::from_iter(alloc, [(1u32, 'a'), (2, 'b')]) {
-        Ok(map) => map,
-        Err(_) => SmallMap::from_iter(alloc, [(1, 'a'), (2, 'b')])?,
-    };
+    let map = collected(rt.alloc())?;
     same(&rt, map.len(), 2);
-    let map = match SmallMap::from_iter_hashed(alloc, [(under(7, 1u32), 'a')]) {
-        Ok(map) => map,
-        Err(_) => SmallMap::from_iter_hashed(alloc, [(under(7, 1), 'a')])?,
-    };
+    Ok(())
+}
+
+fn collected_hashed(alloc: Global) -> Result<SmallMap<u32, char>, AllocError> {
+    match SmallMap::from_iter_hashed(alloc, [(under(7, 1u32), 'a')]) {
+        Ok(map) => Ok(map),
+        Err(_) => SmallMap::from_iter_hashed(alloc, [(under(7, 1), 'a')]),
+    }
+}
+
+#[test]
+fn collects_items_under_hashes(rt: HostRuntime) -> Result<(), Fail> {
+    let map = collected_hashed(rt.alloc())?;
     same(&rt, map.len(), 1);
     Ok(())
 }
 
+fn written(alloc: Global) -> Result<SmallMap<u32, char>, AllocError> {
+    match smallmap![alloc; 1u32 => 'a', 2 => 'b'] {
+        Ok(map) => Ok(map),
+        Err(_) => smallmap![alloc; 1 => 'a', 2 => 'b'],
+    }
+}
+
 #[test]
 fn writes_entries_out(rt: HostRuntime) -> Result<(), Fail> {
-    let alloc = rt.alloc();
-    let map = match smallmap![alloc; 1u32 => 'a', 2 => 'b'] {
-        Ok(map) => map,
-        Err(_) => smallmap![alloc; 1 => 'a', 2 => 'b']?,
-    };
+    let map = written(rt.alloc())?;
     same(&rt, map.len(), 2);
     Ok(())
+}
+
+fn copied(map: &Numbers) -> Result<Numbers, AllocError> {
+    match map.clone() {
+        Ok(copy) => Ok(copy),
+        Err(_) => map.clone(),
+    }
 }
 
 #[test]
 fn copies_a_map_and_its_index(rt: HostRuntime) -> Result<(), Fail> {
     let map = tens(rt.alloc(), 33)?;
-    let copy = match map.clone() {
-        Ok(copy) => copy,
-        Err(_) => map.clone()?,
-    };
+    let copy = copied(&map)?;
     holds(&rt, copy == map);
     holds(&rt, copy.index().is_some());
     Ok(())

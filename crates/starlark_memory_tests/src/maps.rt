@@ -1,64 +1,102 @@
 //! Maps that grow and are sorted, and what stands where memory is refused.
 
-use crate::given::{falling, holds, same, tens};
+use crate::given::{Numbers, holds, is_tens, same, tens, under};
 use starlark_small::SmallMap;
+use std::alloc::Global;
 use std::test::Fail;
+
+// A refusal leaves the map, and the second attempt has the memory.
+fn reserves(map: &mut Numbers) -> bool {
+    map.reserve(40).is_ok()
+        || is_tens(map, 3)
+            && map.index().is_none()
+            && map.capacity() <= 86
+            && map.reserve(40).is_ok()
+}
 
 #[test]
 fn makes_room_or_stays(rt: HostRuntime) -> Result<(), Fail> {
     let mut map = tens(rt.alloc(), 3)?;
-    if map.reserve(40).is_err() {
-        same(&rt, map.len(), 3);
-        holds(&rt, map.index().is_none());
-        holds(&rt, map.capacity() <= 86);
-        map.reserve(40)?;
-    }
+    holds(&rt, reserves(&mut map));
     holds(&rt, 40 <= map.room());
     holds(&rt, map.index().is_some());
     Ok(())
+}
+
+// Whether nothing was refused.
+fn extended(map: &mut Numbers) -> bool {
+    map.extend([(5, 500), (100, 1), (6, 600)]).is_ok()
+}
+
+fn at(map: &Numbers, key: u32) -> Option<u32> {
+    map.get(&key).copied()
 }
 
 #[test]
 fn takes_items_up_to_the_one_that_is_refused(rt: HostRuntime) -> Result<(), Fail> {
     let mut map = tens(rt.alloc(), 32)?;
     same(&rt, map.room(), 0);
-    let done = map.extend([(5, 500), (100, 1), (6, 600)]).is_ok();
-    holds(&rt, map.get(&5u32) == Some(&500));
-    holds(&rt, map.contains_key(&100u32) == done);
-    holds(&rt, map.get(&6u32) == Some(if done { &600 } else { &60 }));
+    let done = extended(&mut map);
+    same(&rt, at(&map, 5), Some(500));
+    same(&rt, at(&map, 100), if done { Some(1) } else { None });
+    same(&rt, at(&map, 6), Some(if done { 600 } else { 60 }));
     same(&rt, map.len(), if done { 33 } else { 32 });
     Ok(())
+}
+
+// The keys "b" and "a", in this order, under the hashes 9 and 3.
+fn falling(alloc: Global) -> Result<SmallMap<&'static str, u32>, Fail> {
+    let mut map: SmallMap<&'static str, u32> = SmallMap::new(alloc);
+    if map.insert_hashed(under(9, "b"), 1).is_err() {
+        map.insert_hashed(under(9, "b"), 1)?;
+    }
+    if map.insert_hashed(under(3, "a"), 2).is_err() {
+        map.insert_hashed(under(3, "a"), 2)?;
+    }
+    Ok(map)
+}
+
+fn falls(map: &SmallMap<&'static str, u32>) -> bool {
+    map.len() == 2 && map.get_index(0) == Some((&"b", &1)) && map.get_index(1) == Some((&"a", &2))
+}
+
+fn sorts(map: &mut SmallMap<&'static str, u32>) -> bool {
+    map.sort_keys().is_ok() || falls(map) && map.sort_keys().is_ok()
 }
 
 #[test]
 fn sorts_or_stays(rt: HostRuntime) -> Result<(), Fail> {
     let mut map = falling(rt.alloc())?;
-    if map.sort_keys().is_err() {
-        holds(&rt, map.get_index(0) == Some((&"b", &1)));
-        holds(&rt, map.get_index(1) == Some((&"a", &2)));
-        map.sort_keys()?;
-    }
+    holds(&rt, sorts(&mut map));
     holds(&rt, map.get_index(0) == Some((&"a", &2)));
     Ok(())
 }
 
-// After the first two lines nothing asks for memory.
+fn sorts_turned(map: &mut SmallMap<&'static str, u32>) -> bool {
+    map.reverse();
+    map.sort_keys().is_ok()
+}
+
+// After the first line nothing asks for memory.
 #[test]
 fn sorts_what_ascends(rt: HostRuntime) -> Result<(), Fail> {
     let mut map = falling(rt.alloc())?;
-    map.reverse();
-    holds(&rt, map.sort_keys().is_ok());
+    holds(&rt, sorts_turned(&mut map));
     holds(&rt, map.get_index(0) == Some((&"a", &2)));
     Ok(())
+}
+
+// Takes the first entry out and another in.
+fn takes_in(map: &mut Numbers, key: u32) -> bool {
+    map.shift_remove_index(0).is_some() && map.insert(key, key).is_ok()
 }
 
 // After the first line nothing asks for memory.
 #[test]
 fn takes_in_as_much_as_goes(rt: HostRuntime) -> Result<(), Fail> {
-    let mut map: SmallMap<u32, u32> = tens(rt.alloc(), 40)?;
+    let mut map = tens(rt.alloc(), 40)?;
     for key in 40u32..1040 {
-        holds(&rt, map.shift_remove_index(0).is_some());
-        holds(&rt, map.insert(key, key).is_ok());
+        holds(&rt, takes_in(&mut map, key));
     }
     same(&rt, map.len(), 40);
     Ok(())

@@ -1,8 +1,8 @@
 //! Whole runs: what is reserved is taken, whichever request is refused afterwards.
 
-use crate::given::{holds, same};
+use crate::given::{Numbers, holds, is_tens, same, tens};
 use starlark_hash::Hashed;
-use starlark_runs::{Command, Reply, held_room_stays, reserved_insertions_succeed};
+use starlark_runs::{Command, Reply, held_room_stays, reserved_insertions_succeed, run};
 use starlark_small::SmallMap;
 use std::alloc::Global;
 use std::test::Fail;
@@ -64,5 +64,27 @@ fn takes_thirty_two_without_an_index(rt: HostRuntime) -> Result<(), Fail> {
     } else {
         same(&rt, map.len(), 0);
     }
+    Ok(())
+}
+
+// What a run of one insertion did to a full map: done, refused with the entry back, or not run; the list is as each says.
+fn runs_one(alloc: Global, map: &mut Numbers) -> bool {
+    let Ok(commands) = vec![in alloc; Command::Insert(Hashed::new(100), 1)] else {
+        return is_tens(map, 4);
+    };
+    let Ok(replies) = run(alloc, map, commands, value_of) else {
+        return is_tens(map, 4);
+    };
+    match replies.get(0) {
+        Some(Reply::Old(None)) => map.len() == 5 && map.get(&100) == Some(&1),
+        Some(Reply::Refused(key, value)) => (*key.key(), *value) == (100, 1) && is_tens(map, 4),
+        _ => false,
+    }
+}
+
+#[test]
+fn runs_or_leaves_the_list(rt: HostRuntime) -> Result<(), Fail> {
+    let mut map = tens(rt.alloc(), 4)?;
+    holds(&rt, runs_one(rt.alloc(), &mut map));
     Ok(())
 }

@@ -1,9 +1,9 @@
 //! Sets that grow, and what comes back where no room is found.
 
-use crate::given::{handed_back, holds, same};
+use crate::given::{handed_back, holds, same, under};
 use starlark_hash::Hashed;
 use starlark_sets::{SmallSet, smallset};
-use std::alloc::Global;
+use std::alloc::{AllocError, Global};
 use std::test::Fail;
 
 // The numbers from 31 down to 0, with no room left.
@@ -18,6 +18,10 @@ fn full(alloc: Global) -> Result<SmallSet<u32>, Fail> {
     Ok(set)
 }
 
+fn is_full(set: &SmallSet<u32>) -> bool {
+    set.len() == 32 && set.first() == Some(&31) && set.last() == Some(&0)
+}
+
 // What came back is 100, and the set is as it was; or 100 is last.
 fn stands(set: &SmallSet<u32>, refused: Option<u32>) -> bool {
     match refused {
@@ -26,109 +30,198 @@ fn stands(set: &SmallSet<u32>, refused: Option<u32>) -> bool {
     }
 }
 
-fn is_full(set: &SmallSet<u32>) -> bool {
-    set.len() == 32 && set.first() == Some(&31) && set.last() == Some(&0)
+// The same of an element that came back with its hash.
+fn stands_hashed(set: &SmallSet<u32>, refused: Option<Hashed<u32>>) -> bool {
+    match refused {
+        None => stands(set, None),
+        Some(element) => element == Hashed::new(100) && stands(set, Some(100)),
+    }
+}
+
+fn with_room(alloc: Global) -> Result<SmallSet<u32>, AllocError> {
+    match SmallSet::with_capacity(alloc, 40) {
+        Ok(set) => Ok(set),
+        Err(_) => SmallSet::with_capacity(alloc, 40),
+    }
 }
 
 #[test]
 fn begins_with_room(rt: HostRuntime) -> Result<(), Fail> {
-    let alloc = rt.alloc();
-    let set: SmallSet<u32> = match SmallSet::with_capacity(alloc, 40) {
-        Ok(set) => set,
-        Err(_) => SmallSet::with_capacity(alloc, 40)?,
-    };
+    let set = with_room(rt.alloc())?;
     holds(&rt, 40 <= set.capacity());
     Ok(())
+}
+
+fn inserts(set: &mut SmallSet<u32>) -> bool {
+    let refused = handed_back(set.insert(100));
+    stands(set, refused)
 }
 
 #[test]
 fn takes_an_element_or_hands_it_back(rt: HostRuntime) -> Result<(), Fail> {
     let mut set = full(rt.alloc())?;
-    let refused = handed_back(set.insert(100));
-    holds(&rt, stands(&set, refused));
+    holds(&rt, inserts(&mut set));
     Ok(())
+}
+
+fn inserts_hashed(set: &mut SmallSet<u32>) -> bool {
+    let refused = handed_back(set.insert_hashed(Hashed::new(100)));
+    stands_hashed(set, refused)
 }
 
 #[test]
 fn takes_an_element_under_a_hash(rt: HostRuntime) -> Result<(), Fail> {
     let mut set = full(rt.alloc())?;
-    let refused = handed_back(set.insert_hashed(Hashed::new(100)));
-    holds(&rt, stands(&set, refused.map(|key| key.into_key())));
+    holds(&rt, inserts_hashed(&mut set));
     Ok(())
+}
+
+fn inserts_unique(set: &mut SmallSet<u32>) -> bool {
+    if set.get_index_of(&100).is_some() {
+        return false;
+    }
+    let refused = handed_back(set.insert_unique_unchecked(100));
+    stands(set, refused)
+}
+
+#[test]
+fn takes_an_element_without_a_look_up(rt: HostRuntime) -> Result<(), Fail> {
+    let mut set = full(rt.alloc())?;
+    holds(&rt, inserts_unique(&mut set));
+    Ok(())
+}
+
+fn inserts_hashed_unique(set: &mut SmallSet<u32>) -> bool {
+    let element = Hashed::new(100);
+    if set.get_index_of_hashed(element.as_ref()).is_some() {
+        return false;
+    }
+    let refused = handed_back(set.insert_hashed_unique_unchecked(element));
+    stands_hashed(set, refused)
+}
+
+#[test]
+fn takes_an_element_under_a_hash_without_a_look_up(rt: HostRuntime) -> Result<(), Fail> {
+    let mut set = full(rt.alloc())?;
+    holds(&rt, inserts_hashed_unique(&mut set));
+    Ok(())
+}
+
+fn shows_new(set: &mut SmallSet<u32>) -> bool {
+    let refused = handed_back(set.get_or_insert(100));
+    stands(set, refused)
 }
 
 #[test]
 fn shows_a_new_element_or_hands_it_back(rt: HostRuntime) -> Result<(), Fail> {
     let mut set = full(rt.alloc())?;
-    let refused = handed_back(set.get_or_insert(100));
-    holds(&rt, stands(&set, refused));
+    holds(&rt, shows_new(&mut set));
     Ok(())
+}
+
+fn makes_new(set: &mut SmallSet<u32>) -> bool {
+    let done = set.get_or_insert_owned(&100u32).is_ok();
+    stands(set, if done { None } else { Some(100) })
 }
 
 #[test]
 fn makes_a_new_element_or_stays(rt: HostRuntime) -> Result<(), Fail> {
     let mut set = full(rt.alloc())?;
-    let done = set.get_or_insert_owned(&100u32).is_ok();
-    holds(&rt, stands(&set, if done { None } else { Some(100) }));
+    holds(&rt, makes_new(&mut set));
     Ok(())
+}
+
+// A refusal leaves the set, and the second attempt has the memory.
+fn reserves(set: &mut SmallSet<u32>) -> bool {
+    set.reserve(40).is_ok() || is_full(set) && set.capacity() <= 144 && set.reserve(40).is_ok()
 }
 
 #[test]
 fn makes_room_or_stays(rt: HostRuntime) -> Result<(), Fail> {
     let mut set = full(rt.alloc())?;
-    if set.reserve(40).is_err() {
-        holds(&rt, is_full(&set) && set.capacity() <= 144);
-        set.reserve(40)?;
-    }
+    holds(&rt, reserves(&mut set));
     holds(&rt, 72 <= set.capacity());
     Ok(())
+}
+
+fn sorts(set: &mut SmallSet<u32>) -> bool {
+    set.sort().is_ok() || is_full(set) && set.sort().is_ok()
 }
 
 #[test]
 fn sorts_or_stays(rt: HostRuntime) -> Result<(), Fail> {
     let mut set = full(rt.alloc())?;
-    if set.sort().is_err() {
-        holds(&rt, is_full(&set));
-        set.sort()?;
-    }
-    same(&rt, set.first(), Some(&0));
+    holds(&rt, sorts(&mut set));
+    holds(&rt, set.first() == Some(&0));
     Ok(())
+}
+
+fn extends(set: &mut SmallSet<u32>) -> bool {
+    set.extend([5, 100]).is_ok() || is_full(set) && set.extend([5, 100]).is_ok()
 }
 
 #[test]
 fn takes_elements_up_to_the_one_that_is_refused(rt: HostRuntime) -> Result<(), Fail> {
     let mut set = full(rt.alloc())?;
-    if set.extend([5, 100]).is_err() {
-        holds(&rt, is_full(&set));
-        set.extend([5, 100])?;
-    }
+    holds(&rt, extends(&mut set));
     holds(&rt, stands(&set, None));
     Ok(())
+}
+
+fn copied(set: &SmallSet<u32>) -> Result<SmallSet<u32>, AllocError> {
+    match set.clone() {
+        Ok(copy) => Ok(copy),
+        Err(_) => set.clone(),
+    }
 }
 
 #[test]
 fn copies_a_set(rt: HostRuntime) -> Result<(), Fail> {
     let set = full(rt.alloc())?;
-    let copy = match set.clone() {
-        Ok(copy) => copy,
-        Err(_) => set.clone()?,
-    };
+    let copy = copied(&set)?;
     holds(&rt, copy == set);
     Ok(())
 }
 
+fn collected(alloc: Global) -> Result<SmallSet<u32>, AllocError> {
+    match SmallSet::from_iter(alloc, [1u32, 2]) {
+        Ok(set) => Ok(set),
+        Err(_) => SmallSet::from_iter(alloc, [1, 2]),
+    }
+}
+
 #[test]
 fn collects_elements(rt: HostRuntime) -> Result<(), Fail> {
-    let alloc = rt.alloc();
-    let set = match SmallSet::from_iter(alloc, [1u32, 2]) {
-        Ok(set) => set,
-        Err(_) => SmallSet::from_iter(alloc, [1, 2])?,
-    };
+    let set = collected(rt.alloc())?;
     same(&rt, set.len(), 2);
-    let set = match smallset![alloc; 1u32, 2] {
-        Ok(set) => set,
-        Err(_) => smallset![alloc; 1u32, 2]?,
-    };
+    Ok(())
+}
+
+// One element under two hashes.
+fn collected_hashed(alloc: Global) -> Result<SmallSet<u32>, AllocError> {
+    match SmallSet::from_iter_hashed(alloc, [under(7, 1u32), under(8, 1)]) {
+        Ok(set) => Ok(set),
+        Err(_) => SmallSet::from_iter_hashed(alloc, [under(7, 1), under(8, 1)]),
+    }
+}
+
+#[test]
+fn collects_elements_under_hashes(rt: HostRuntime) -> Result<(), Fail> {
+    let set = collected_hashed(rt.alloc())?;
+    same(&rt, set.len(), 2);
+    Ok(())
+}
+
+fn written(alloc: Global) -> Result<SmallSet<u32>, AllocError> {
+    match smallset![alloc; 1u32, 2] {
+        Ok(set) => Ok(set),
+        Err(_) => smallset![alloc; 1u32, 2],
+    }
+}
+
+#[test]
+fn writes_elements_out(rt: HostRuntime) -> Result<(), Fail> {
+    let set = written(rt.alloc())?;
     same(&rt, set.len(), 2);
     Ok(())
 }
