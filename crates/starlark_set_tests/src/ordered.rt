@@ -1,8 +1,8 @@
 //! Ordered maps and sets at concrete types, and what the order of their entries tells apart.
 
-use crate::given::{holds, same, set, under};
+use crate::given::{holds, same, under};
 use starlark_hash::{NoRoom, StarlarkHasher};
-use starlark_sets::{OrderedMap, OrderedSet, TryInsertError};
+use starlark_sets::{OrderedMap, OrderedSet, SmallSet, TryInsertError};
 use starlark_small::SmallMap;
 use std::alloc::Global;
 use std::cmp::Ordering;
@@ -287,9 +287,12 @@ fn looks_up_elements(rt: HostRuntime) -> Result<(), Fail> {
     Ok(())
 }
 
-// Whether a new element and then another had room.
-fn put_both(set: &mut Ordered, first: u32, second: u32) -> bool {
-    set.insert_unique_unchecked(first).is_ok() && set.insert(second).ok() == Some(true)
+// The set of 3 and 1, by a call that looks nothing up and by one that does.
+fn three_and_one(alloc: Global) -> Result<(Ordered, bool), Fail> {
+    let mut set = OrderedSet::new(alloc);
+    set.insert_unique_unchecked(3)?;
+    let is_new = set.insert(1)?;
+    Ok((set, is_new))
 }
 
 // Whether it had the memory to take these items and sort.
@@ -308,8 +311,8 @@ fn begins(set: &Ordered, first: u32, second: u32) -> bool {
 
 #[test]
 fn changes_a_set(rt: HostRuntime) -> Result<(), Fail> {
-    let mut set: Ordered = OrderedSet::new(rt.alloc());
-    holds(&rt, put_both(&mut set, 3, 1));
+    let (mut set, is_new) = three_and_one(rt.alloc())?;
+    holds(&rt, is_new);
     holds(&rt, take_in_and_sort(&mut set, [2, 3]));
     set.reverse();
     same(&rt, taken(&mut set, 2), Some(2));
@@ -353,9 +356,13 @@ fn prints_set(alloc: Global, set: &Ordered, text: &str) -> bool {
 }
 
 // A set stands for what it was made from.
+fn from_small(alloc: Global, elements: [u32; 2]) -> Result<Ordered, Fail> {
+    Ok(OrderedSet::from(SmallSet::from_iter(alloc, elements)?))
+}
+
 #[test]
 fn is_made_of_a_small_set(rt: HostRuntime) -> Result<(), Fail> {
-    let set = OrderedSet::from(set(rt.alloc(), &[4, 3])?);
+    let set = from_small(rt.alloc(), [4, 3])?;
     same(&rt, set.len(), 2);
     holds(&rt, prints_set(rt.alloc(), &set, "OrderedSet({4, 3})"));
     let mut items = set.into_iter();

@@ -16,6 +16,16 @@ fn writes_a_set_out(rt: HostRuntime) -> Result<(), Fail> {
     Ok(())
 }
 
+fn one(alloc: Global) -> Result<Numbers, Fail> {
+    Ok(smallset![alloc; 3u32]?)
+}
+
+#[test]
+fn writes_one_out(rt: HostRuntime) -> Result<(), Fail> {
+    holds(&rt, shows(&one(rt.alloc())?, &[3]));
+    Ok(())
+}
+
 type Letters = SmallSet<char>;
 
 fn letters(alloc: Global) -> Result<Letters, Fail> {
