@@ -1,57 +1,90 @@
 //! What one set has and another lacks, and what is in either.
 
-use crate::given::{holds, same, under};
-use starlark_sets::{SmallSet, smallset};
+use crate::given::{Numbers, holds, same, two, under};
+use starlark_sets::SmallSet;
+use std::alloc::Global;
 use std::test::Fail;
+
+// Whether what is in either are these elements and no more.
+fn joins(first: &Numbers, second: &Numbers, elements: &[u32]) -> bool {
+    let mut count = 0usize;
+    for element in first.union(second) {
+        if elements.get(count) != Some(element) {
+            return false;
+        }
+        count = count.wrapping_add(1);
+    }
+    count == elements.len()
+}
+
+// Whether what the first has and the second lacks are these elements and no more.
+fn leaves(first: &Numbers, second: &Numbers, elements: &[u32]) -> bool {
+    let mut rest = first.difference(second);
+    for element in elements {
+        if rest.next() != Some(element) {
+            return false;
+        }
+    }
+    rest.next().is_none()
+}
+
+fn bounds(first: &Numbers, second: &Numbers) -> (usize, Option<usize>) {
+    first.union(second).size_hint()
+}
 
 #[test]
 fn joins_two_sets(rt: HostRuntime) -> Result<(), Fail> {
-    let first = smallset![rt.alloc(); 1u32, 2, 3]?;
-    let second = smallset![rt.alloc(); 2u32, 4, 1]?;
-    let mut union = first.union(&second);
-    holds(&rt, union.size_hint() == (3, Some(6)));
-    let mut wanted = 1u32;
-    for element in union {
-        same(&rt, *element, wanted);
-        wanted = wanted.wrapping_add(1);
-    }
-    same(&rt, wanted, 5);
+    let (first, second) = two(rt.alloc(), &[1, 2, 3], &[2, 4, 1])?;
+    same(&rt, bounds(&first, &second), (3, Some(6)));
+    holds(&rt, joins(&first, &second, &[1, 2, 3, 4]));
     Ok(())
 }
 
 #[test]
 fn takes_one_set_from_another(rt: HostRuntime) -> Result<(), Fail> {
-    let first = smallset![rt.alloc(); 1u32, 2, 3]?;
-    let second = smallset![rt.alloc(); 2u32, 4, 1]?;
-    let mut rest = first.difference(&second);
-    holds(&rt, rest.next() == Some(&3));
-    holds(&rt, rest.next() == None);
+    let (first, second) = two(rt.alloc(), &[1, 2, 3], &[2, 4, 1])?;
+    holds(&rt, leaves(&first, &second, &[3]));
     Ok(())
+}
+
+// Whether the bounds shrink as what is left of 1, 2 and 3 without 2 is walked.
+fn shrinks(first: &Numbers, two: &Numbers) -> bool {
+    let mut rest = first.difference(two);
+    rest.size_hint() == (2, Some(3))
+        && rest.next() == Some(&1)
+        && rest.size_hint() == (1, Some(2))
+        && rest.next() == Some(&3)
+        && rest.size_hint() == (0, Some(0))
 }
 
 #[test]
 fn bounds_what_is_left(rt: HostRuntime) -> Result<(), Fail> {
-    let first = smallset![rt.alloc(); 1u32, 2, 3]?;
-    let two = smallset![rt.alloc(); 2u32]?;
-    let mut rest = first.difference(&two);
-    holds(&rt, rest.size_hint() == (2, Some(3)));
-    holds(&rt, rest.next() == Some(&1));
-    holds(&rt, rest.size_hint() == (1, Some(2)));
-    holds(&rt, rest.next() == Some(&3));
-    holds(&rt, rest.size_hint() == (0, Some(0)));
+    let (first, second) = two(rt.alloc(), &[1, 2, 3], &[2])?;
+    holds(&rt, shrinks(&first, &second));
     Ok(())
+}
+
+fn seven_under(alloc: Global, hash: u32) -> Result<Numbers, Fail> {
+    Ok(SmallSet::from_iter_hashed(alloc, [under(hash, 7u32)])?)
+}
+
+// Two sets of the number 7, each under a hash.
+fn sevens(alloc: Global, first: u32, second: u32) -> Result<(Numbers, Numbers), Fail> {
+    let first = seven_under(alloc, first)?;
+    Ok((first, seven_under(alloc, second)?))
 }
 
 #[test]
 fn looks_under_the_stored_hash(rt: HostRuntime) -> Result<(), Fail> {
-    let five = SmallSet::from_iter_hashed(rt.alloc(), [under(5, 7u32)])?;
-    let also = SmallSet::from_iter_hashed(rt.alloc(), [under(5, 7u32)])?;
-    let six = SmallSet::from_iter_hashed(rt.alloc(), [under(6, 7u32)])?;
-    holds(&rt, five.difference(&also).next() == None);
-    holds(&rt, five.difference(&six).next() == Some(&7));
-    let mut union = five.union(&six);
-    holds(&rt, union.next() == Some(&7));
-    holds(&rt, union.next() == Some(&7));
-    holds(&rt, union.next() == None);
+    let (five, also) = sevens(rt.alloc(), 5, 5)?;
+    holds(&rt, leaves(&five, &also, &[]));
+    Ok(())
+}
+
+#[test]
+fn tells_stored_hashes_apart(rt: HostRuntime) -> Result<(), Fail> {
+    let (five, six) = sevens(rt.alloc(), 5, 6)?;
+    holds(&rt, leaves(&five, &six, &[7]));
+    holds(&rt, joins(&five, &six, &[7, 7]));
     Ok(())
 }

@@ -1,80 +1,120 @@
 //! Sets: values from outside, calls that succeed, and what a refused request leaves.
 
-use crate::given::{holds, same, under};
+use crate::given::{Numbers, ends, holds, put, removed, same, set, under};
 use starlark_hash::{NoRoom, TextKey};
-use starlark_sets::{SmallSet, smallset};
+use starlark_sets::SmallSet;
 use std::test::Fail;
+
+// What `insert_hashed` answers, and none where it was refused.
+fn put_under(set: &mut Numbers, hash: u32, element: u32) -> Option<bool> {
+    set.insert_hashed(under(hash, element)).ok()
+}
+
+fn hash_of(set: Numbers) -> u32 {
+    set.hashed().hash().get()
+}
 
 #[test]
 fn hashes_to_known_values(rt: HostRuntime) -> Result<(), Fail> {
-    let empty: SmallSet<u32> = SmallSet::new(rt.alloc());
-    same(&rt, empty.hashed().hash().get(), 0);
-    let mut one = SmallSet::new(rt.alloc());
-    holds(&rt, one.insert_hashed(under(1, 9u32))?);
-    same(&rt, one.hashed().hash().get(), 0x27220a95);
+    same(&rt, hash_of(SmallSet::new(rt.alloc())), 0);
+    let mut one: Numbers = SmallSet::new(rt.alloc());
+    same(&rt, put_under(&mut one, 1, 9), Some(true));
+    same(&rt, hash_of(one), 0x27220a95);
     Ok(())
 }
 
 #[test]
 fn inserts_once(rt: HostRuntime) -> Result<(), Fail> {
-    let mut set = SmallSet::new(rt.alloc());
-    holds(&rt, set.insert(2u32)?);
-    holds(&rt, set.insert(5)?);
-    holds(&rt, !set.insert(5)?);
+    let mut set: Numbers = SmallSet::new(rt.alloc());
+    same(&rt, put(&mut set, 2), Some(true));
+    same(&rt, put(&mut set, 5), Some(true));
+    same(&rt, put(&mut set, 5), Some(false));
     same(&rt, set.len(), 2);
     Ok(())
 }
 
+// The element that is there or new, and none where it was refused.
+fn shown(set: &mut Numbers, element: u32) -> Option<u32> {
+    set.get_or_insert(element).ok().copied()
+}
+
+// The same, of a query.
+fn shown_owned(set: &mut Numbers, element: u32) -> Option<u32> {
+    set.get_or_insert_owned(&element).ok().copied()
+}
+
 #[test]
 fn shows_what_is_there_or_new(rt: HostRuntime) -> Result<(), Fail> {
-    let mut set = SmallSet::new(rt.alloc());
-    holds(&rt, set.get_or_insert(1u32)? == &1);
-    holds(&rt, set.get_or_insert(1u32)? == &1);
-    holds(&rt, set.get_or_insert_owned(&1u32)? == &1);
-    holds(&rt, set.get_or_insert_owned(&1u32)? == &1);
+    let mut set: Numbers = SmallSet::new(rt.alloc());
+    same(&rt, shown(&mut set, 1), Some(1));
+    same(&rt, shown(&mut set, 1), Some(1));
+    same(&rt, shown_owned(&mut set, 1), Some(1));
+    same(&rt, shown_owned(&mut set, 1), Some(1));
     same(&rt, set.len(), 1);
     Ok(())
+}
+
+// Whether the element that is made of a text is that text.
+fn makes(words: &mut SmallSet<String>, text: &str) -> bool {
+    match words.get_or_insert_owned(&TextKey(text)) {
+        Ok(word) => word.as_str() == text,
+        Err(_) => false,
+    }
 }
 
 #[test]
 fn makes_the_element_of_a_query(rt: HostRuntime) -> Result<(), Fail> {
     let mut words: SmallSet<String> = SmallSet::new(rt.alloc());
-    holds(
-        &rt,
-        words.get_or_insert_owned(&TextKey("a"))?.as_str() == "a",
-    );
+    holds(&rt, makes(&mut words, "a"));
     holds(&rt, words.contains(&TextKey("a")));
     Ok(())
 }
 
+// Whether it had the memory to sort.
+fn sort(set: &mut Numbers) -> bool {
+    set.sort().is_ok()
+}
+
+fn at(set: &Numbers, index: usize) -> Option<u32> {
+    set.get_index(index).copied()
+}
+
 #[test]
 fn sorts(rt: HostRuntime) -> Result<(), Fail> {
-    let mut set = smallset![rt.alloc(); 1u32, 3, 2]?;
-    set.sort()?;
-    holds(&rt, set.get_index(0) == Some(&1));
-    holds(&rt, set.get_index(1) == Some(&2));
-    holds(&rt, set.get_index(2) == Some(&3));
+    let mut set = set(rt.alloc(), &[1, 3, 2])?;
+    holds(&rt, sort(&mut set));
+    same(&rt, at(&set, 0), Some(1));
+    same(&rt, at(&set, 1), Some(2));
+    same(&rt, at(&set, 2), Some(3));
     Ok(())
 }
 
 #[test]
 fn removes_once(rt: HostRuntime) -> Result<(), Fail> {
-    let mut set = smallset![rt.alloc(); 17u32]?;
-    holds(&rt, set.shift_remove(&17u32));
-    holds(&rt, !set.shift_remove(&17u32));
-    let mut set = smallset![rt.alloc(); 1u32, 2]?;
-    holds(&rt, set.take(&1u32) == Some(1));
-    holds(&rt, set.first() == Some(&2));
-    holds(&rt, set.last() == Some(&2));
+    let mut set = set(rt.alloc(), &[17])?;
+    holds(&rt, removed(&mut set, 17));
+    holds(&rt, !removed(&mut set, 17));
+    Ok(())
+}
+
+fn taken(set: &mut Numbers, element: u32) -> Option<u32> {
+    set.take(&element)
+}
+
+#[test]
+fn takes_an_element(rt: HostRuntime) -> Result<(), Fail> {
+    let mut set = set(rt.alloc(), &[1, 2])?;
+    same(&rt, taken(&mut set, 1), Some(1));
+    same(&rt, ends(&set), (Some(2), Some(2)));
     Ok(())
 }
 
 #[test]
 fn keeps_its_capacity(rt: HostRuntime) -> Result<(), Fail> {
-    let mut set = SmallSet::with_capacity(rt.alloc(), 40)?;
+    let mut set: Numbers = SmallSet::with_capacity(rt.alloc(), 40)?;
     let capacity = set.capacity();
     for element in 0..3u32 {
-        holds(&rt, set.insert(element)?);
+        same(&rt, put(&mut set, element), Some(true));
     }
     set.clear();
     same(&rt, set.capacity(), capacity);
@@ -82,16 +122,22 @@ fn keeps_its_capacity(rt: HostRuntime) -> Result<(), Fail> {
     Ok(())
 }
 
+// Puts an element. Where that is refused, it comes back and is not there, and it is put again.
+fn put_at_last(set: &mut Numbers, element: u32) -> bool {
+    match set.insert(element) {
+        Ok(is_new) => is_new,
+        Err(NoRoom(refused)) => {
+            refused == element && !set.contains(&element) && put(set, element) == Some(true)
+        }
+    }
+}
+
 // Holds whichever request for memory is refused.
 #[test]
 fn refusals_hand_the_element_back(rt: HostRuntime) -> Result<(), Fail> {
-    let mut set: SmallSet<u32> = SmallSet::new(rt.alloc());
+    let mut set: Numbers = SmallSet::new(rt.alloc());
     for element in 0..5u32 {
-        if let Err(NoRoom(refused)) = set.insert(element) {
-            same(&rt, refused, element);
-            holds(&rt, !set.contains(&element));
-            holds(&rt, set.insert(element)?);
-        }
+        holds(&rt, put_at_last(&mut set, element));
     }
     same(&rt, set.len(), 5);
     Ok(())
