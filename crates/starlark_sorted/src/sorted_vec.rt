@@ -2,14 +2,20 @@
 ghost use Rattle.std.specs.Prelude.{◌≡◌, ◌^◌, ◌<◌, [], length, IfOk, IfErr};
 ghost use Rattle.std.specs.List.Sorted.{IsPermutation, IsSorted, IsStable};
 ghost use Rattle.std.specs.Iterator.Adapters.{IterYieldsInOrder, IterYieldsInReverse};
+ghost use Rattle.std.specs.Iterator.Runs.{EveryRun, ItemsAre};
 ghost use Rattle.std.specs.Slice.Iter.{iter_rest};
+ghost use Rattle.std.specs.declared.alloc.Global.{Global};
+ghost use Rattle.std.specs.Vec.Iter.{into_iter_items, into_iter_len, into_iter_steps};
+
+mod compare;
 
 use std::alloc::Global;
 use std::marker::Model;
 use std::slice::Iter;
+use std::vec::IntoIter;
 
 /// A vector whose items ascend. Equal items may stand side by side.
-#[derive(Drop)]
+#[derive(Drop, Debug)]
 pub struct SortedVec<T: Ord>(Vec<T>);
 
 impl<T: Ord> Model for SortedVec<T> {
@@ -65,5 +71,19 @@ impl<T: Ord> SortedVec<T> {
         ensures runs_back { IterYieldsInReverse T }
     {
         self.0.iter()
+    }
+}
+
+impl<T: Ord + Drop> IntoIterator for SortedVec<T> {
+    type Item = T;
+
+    type IntoIter = IntoIter<T>;
+
+    ghost into_iter_gives = { λ s rest. (into_iter_items rest ≡ s) × (into_iter_len rest < 2 ^ 64) × EveryRun (into_iter_steps {X = T} {Z = Global}) (λ p. ItemsAre p (into_iter_items p.from)) };
+
+    /// The items by value, in order.
+    #[inline]
+    fn into_iter(self) -> IntoIter<T> {
+        self.0.into_iter()
     }
 }
