@@ -1,5 +1,6 @@
 //! A vector whose items ascend. It alone sees the vector inside.
-ghost use Rattle.std.specs.Prelude.{◌≡◌, ◌^◌, ◌<◌, [], length, IfOk, IfErr};
+ghost use Rattle.std.specs.Iterator.{Drains, IsFiniteIterable};
+ghost use Rattle.std.specs.Prelude.{◌≡◌, ◌^◌, ◌<◌, [], List, length, IfOk, IfErr};
 ghost use Rattle.std.specs.List.Sorted.{IsPermutation, IsSorted, IsStable};
 ghost use Rattle.std.specs.Iterator.Adapters.{IterYieldsInOrder, IterYieldsInReverse};
 ghost use Rattle.std.specs.Iterator.Runs.{EveryRun, ItemsAre};
@@ -9,7 +10,7 @@ ghost use Rattle.std.specs.Vec.Iter.{into_iter_items, into_iter_len, into_iter_s
 
 mod compare;
 
-use std::alloc::Global;
+use std::alloc::{AllocError, Global};
 use std::marker::Model;
 use std::slice::Iter;
 use std::vec::IntoIter;
@@ -71,6 +72,22 @@ impl<T: Ord> SortedVec<T> {
         ensures runs_back { IterYieldsInReverse T }
     {
         self.0.iter()
+    }
+}
+
+impl<T: Ord + Drop> SortedVec<T> {
+    /// Every item that the iterator gives, sorted; equal ones keep their order. Where memory is refused, the items are
+    /// dropped.
+    pub fn from_iter<I: IntoIterator<Item = T>>(alloc: Global, iter: I) -> Result<Self, AllocError>
+        requires { IsFiniteIterable I.into_iter_gives I.IntoIter.can_next I.IntoIter.remaining iter }
+        ensures items { IfOk result (λ sorted. (it : I.IntoIter) × (xs : List T) × I.into_iter_gives iter it × Drains I.IntoIter.next_gives it xs × IsPermutation xs sorted × IsStable T.cmp xs sorted) }
+        ensures ascends { IfOk result (λ sorted. IsSorted T.cmp sorted) }
+    {
+        let vec = Vec::from_iter(alloc, iter)?;
+        match SortedVec::from_vec(vec) {
+            Ok(sorted) => Ok(sorted),
+            Err(_) => Err(AllocError),
+        }
     }
 }
 
