@@ -1,19 +1,20 @@
 //! A vector whose items ascend. It alone sees the vector inside.
-ghost use Rattle.std.specs.Iterator.{Drains, IsFiniteIterable};
-ghost use Rattle.std.specs.Prelude.{◌≡◌, ◌^◌, ◌<◌, [], List, length, IfOk, IfErr};
-ghost use Rattle.std.specs.List.Sorted.{IsPermutation, IsSorted, IsStable};
+ghost use Rattle.starlark_sorted.specs.Collect.{HasEveryItem};
 ghost use Rattle.std.specs.Iterator.Adapters.{IterYieldsInOrder, IterYieldsInReverse};
 ghost use Rattle.std.specs.Iterator.Runs.{EveryRun, ItemsAre};
+ghost use Rattle.std.specs.Iterator.{IsFiniteIterable};
+ghost use Rattle.std.specs.List.Sorted.{IsPermutation, IsSorted, IsStable};
+ghost use Rattle.std.specs.Prelude.{◌≡◌, ◌^◌, ◌<◌, [], length, IfOk, IfErr};
 ghost use Rattle.std.specs.Slice.Iter.{iter_rest};
-ghost use Rattle.std.specs.declared.alloc.Global.{Global};
 ghost use Rattle.std.specs.Vec.Iter.{into_iter_items, into_iter_len, into_iter_steps};
-
-mod compare;
+ghost use Rattle.std.specs.declared.alloc.Global.{Global};
 
 use std::alloc::{AllocError, Global};
 use std::marker::Model;
 use std::slice::Iter;
 use std::vec::IntoIter;
+
+mod compare;
 
 /// A vector whose items ascend. Equal items may stand side by side.
 #[derive(Drop, Debug)]
@@ -80,7 +81,7 @@ impl<T: Ord + Drop> SortedVec<T> {
     /// dropped.
     pub fn from_iter<I: IntoIterator<Item = T>>(alloc: Global, iter: I) -> Result<Self, AllocError>
         requires { IsFiniteIterable I.into_iter_gives I.IntoIter.can_next I.IntoIter.remaining iter }
-        ensures items { IfOk result (λ sorted. (it : I.IntoIter) × (xs : List T) × I.into_iter_gives iter it × Drains I.IntoIter.next_gives it xs × IsPermutation xs sorted × IsStable T.cmp xs sorted) }
+        ensures items { IfOk result (HasEveryItem T.cmp I.into_iter_gives I.IntoIter.next_gives iter) }
         ensures ascends { IfOk result (λ sorted. IsSorted T.cmp sorted) }
     {
         let vec = Vec::from_iter(alloc, iter)?;
