@@ -10,4 +10,6 @@ mod ordered;
 #[cfg(test)]
 mod sets;
 #[cfg(test)]
+mod sorted_vectors;
+#[cfg(test)]
 mod written_sets;
