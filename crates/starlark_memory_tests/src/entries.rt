@@ -12,7 +12,10 @@ fn stands(map: &Numbers, refused: Refused, value: u32) -> bool {
     match refused {
         None => map.len() == 33 && map.get_index(32) == Some((&100, &value)),
         Some(back) => {
-            is_tens(map, 32) && map.index().is_none() && back == (Hashed::new(100), value)
+            back == (Hashed::new(100), value)
+                && is_tens(map, 32)
+                && map.index().is_none()
+                && map.capacity() <= 66
         }
     }
 }

@@ -3,7 +3,8 @@
 //! proved in a part of the time.
 
 use starlark_hash::{Hashed, NoRoom, StarlarkHashValue};
-use starlark_small::SmallMap;
+use starlark_sets::Iter as Elements;
+use starlark_small::{Iter, SmallMap};
 use std::alloc::Global;
 use std::fmt::Debug;
 use std::process::Abort;
@@ -33,6 +34,29 @@ pub(crate) fn is_tens(map: &Numbers, count: u32) -> bool {
         match walk.next() {
             Some((found, value)) if (*found, *value) == (key, key.wrapping_mul(10)) => {}
             _ => return false,
+        }
+    }
+    walk.next().is_none()
+}
+
+// Whether a walk shows these pairs and no more.
+pub(crate) fn shows(walk: Iter<'_, u32, char>, pairs: &[(u32, char)]) -> bool {
+    let mut walk = walk;
+    for pair in pairs {
+        match walk.next() {
+            Some((key, value)) if (*key, *value) == *pair => {}
+            _ => return false,
+        }
+    }
+    walk.next().is_none()
+}
+
+// Whether a walk shows these elements and no more.
+pub(crate) fn shows_elements(walk: Elements<'_, u32>, elements: &[u32]) -> bool {
+    let mut walk = walk;
+    for element in elements {
+        if walk.next() != Some(element) {
+            return false;
         }
     }
     walk.next().is_none()

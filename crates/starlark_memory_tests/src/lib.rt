@@ -2,11 +2,17 @@
 #![tactic(auto)]
 
 #[cfg(test)]
+mod columns;
+#[cfg(test)]
 mod entries;
 #[cfg(test)]
 mod given;
 #[cfg(test)]
 mod keys;
+#[cfg(test)]
+mod laws;
+#[cfg(test)]
+mod lending;
 #[cfg(test)]
 mod lists;
 #[cfg(test)]
@@ -18,8 +24,14 @@ mod ordered;
 #[cfg(test)]
 mod runs;
 #[cfg(test)]
+mod scripts;
+#[cfg(test)]
 mod sets;
+#[cfg(test)]
+mod sorted_vectors;
 #[cfg(test)]
 mod tables;
 #[cfg(test)]
 mod unordered;
+#[cfg(test)]
+mod unordered_sets;

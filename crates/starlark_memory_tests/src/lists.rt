@@ -49,12 +49,27 @@ fn begins_a_map_with_a_capacity(rt: HostRuntime) -> Result<(), Fail> {
     Ok(())
 }
 
-// Where a pair is refused, it comes back and the list is as long as it was, and the second attempt has the memory.
+// Whether a list is of the numbers below this one, each with 'a'.
+fn counts_to(list: &Vec2<u32, char>, count: u32) -> bool {
+    let mut walk = list.iter();
+    for item in 0..count {
+        if walk.next() != Some((&item, &'a')) {
+            return false;
+        }
+    }
+    walk.next().is_none()
+}
+
+// Where a pair is refused, it comes back and list and capacity stay, and the second attempt has the memory.
 fn pushes(list: &mut Vec2<u32, char>, item: u32) -> bool {
+    let capacity = list.capacity();
     match handed_back(list.push(item, 'a')) {
         None => true,
         Some(back) => {
-            back == (item, 'a') && list.len() == item as usize && list.push(item, 'a').is_ok()
+            back == (item, 'a')
+                && counts_to(list, item)
+                && list.capacity() == capacity
+                && list.push(item, 'a').is_ok()
         }
     }
 }
@@ -65,8 +80,7 @@ fn takes_a_pair_or_hands_it_back(rt: HostRuntime) -> Result<(), Fail> {
     for item in 0u32..9 {
         holds(&rt, pushes(&mut list, item));
     }
-    same(&rt, list.len(), 9);
-    holds(&rt, list.get(8) == Some((&8, &'a')));
+    holds(&rt, counts_to(&list, 9));
     Ok(())
 }
 
@@ -91,7 +105,9 @@ fn collected(alloc: Global) -> Result<Vec2<u32, char>, AllocError> {
 
 fn extends(list: &mut Vec2<u32, char>) -> bool {
     list.extend([(3, 'c')]).is_ok()
-        || list.firsts() == [1, 2].as_slice() && list.extend([(3, 'c')]).is_ok()
+        || list.firsts() == [1, 2].as_slice()
+            && list.seconds() == ['a', 'b'].as_slice()
+            && list.extend([(3, 'c')]).is_ok()
 }
 
 fn copied(list: &Vec2<u32, char>) -> Result<Vec2<u32, char>, AllocError> {
@@ -107,17 +123,33 @@ fn collects_and_copies_pairs(rt: HostRuntime) -> Result<(), Fail> {
     holds(&rt, extends(&mut list));
     let copy = copied(&list)?;
     holds(&rt, copy.firsts() == [1, 2, 3].as_slice());
+    holds(&rt, copy.seconds() == ['a', 'b', 'c'].as_slice());
     Ok(())
 }
 
-// Puts a new key in under hash 7. Where that is refused, it comes back and the map is as it was.
-fn inserts(map: &mut VecMap<u32, u32>, key: u32, value: u32) -> bool {
-    let length = map.len();
+// Whether a map has the keys below this one under hash 7, each with ten times itself, and no more.
+fn has_tens(map: &VecMap<u32, u32>, count: u32) -> bool {
+    let mut walk = map.iter_hashed();
+    for key in 0..count {
+        match walk.next() {
+            Some((found, value)) if found == under(7, &key) && *value == key.wrapping_mul(10) => {}
+            _ => return false,
+        }
+    }
+    walk.next().is_none()
+}
+
+// Puts the next key in. Where it is refused, it comes back and map and capacity stay, and the second attempt has the
+// memory.
+fn inserts(map: &mut VecMap<u32, u32>, key: u32) -> bool {
+    let capacity = map.capacity();
+    let value = key.wrapping_mul(10);
     match handed_back(map.insert_hashed_unique_unchecked(under(7, key), value)) {
-        None => map.len() == length.wrapping_add(1),
+        None => true,
         Some(back) => {
             back == (under(7, key), value)
-                && map.len() == length
+                && has_tens(map, key)
+                && map.capacity() == capacity
                 && map
                     .insert_hashed_unique_unchecked(under(7, key), value)
                     .is_ok()
@@ -125,17 +157,25 @@ fn inserts(map: &mut VecMap<u32, u32>, key: u32, value: u32) -> bool {
     }
 }
 
+#[test]
+fn takes_an_entry_or_hands_it_back(rt: HostRuntime) -> Result<(), Fail> {
+    let mut map: VecMap<u32, u32> = VecMap::new(rt.alloc());
+    for key in 0u32..9 {
+        holds(&rt, inserts(&mut map, key));
+    }
+    holds(&rt, has_tens(&map, 9));
+    Ok(())
+}
+
 fn reserves_entries(map: &mut VecMap<u32, u32>) -> bool {
     map.reserve(40).is_ok()
-        || (map.len(), map.capacity()) == (1, 4)
-            && map.get_index(0) == Some((&1, &10))
-            && map.reserve(40).is_ok()
+        || has_tens(map, 1) && map.capacity() == 4 && map.reserve(40).is_ok()
 }
 
 #[test]
 fn makes_room_for_entries_or_stays(rt: HostRuntime) -> Result<(), Fail> {
     let mut map: VecMap<u32, u32> = VecMap::new(rt.alloc());
-    holds(&rt, inserts(&mut map, 1, 10));
+    holds(&rt, inserts(&mut map, 0));
     holds(&rt, reserves_entries(&mut map));
     holds(&rt, 41 <= map.capacity());
     Ok(())
@@ -153,18 +193,53 @@ fn gives_room_back_or_stays(rt: HostRuntime) -> Result<(), Fail> {
     Ok(())
 }
 
+// The numbers below 24 in steps of seven, each with itself: so many, and so mixed, that a sort of their places asks for
+// memory too.
+fn mixed(alloc: Global) -> Result<Vec2<u32, u32>, Fail> {
+    let mut list = Vec2::new(alloc);
+    for place in 0..24u32 {
+        let item = place.wrapping_mul(7) % 24;
+        if list.push(item, item).is_err() {
+            list.push(item, item)?;
+        }
+    }
+    Ok(list)
+}
+
+// Whether a list is of the numbers below 24 in these steps, each with itself.
+fn goes_in_steps(list: &Vec2<u32, u32>, step: u32) -> bool {
+    let mut walk = list.iter();
+    for place in 0..24u32 {
+        let item = place.wrapping_mul(step) % 24;
+        if walk.next() != Some((&item, &item)) {
+            return false;
+        }
+    }
+    walk.next().is_none()
+}
+
+fn sorts(list: &mut Vec2<u32, u32>) -> bool {
+    let step = if list.sort_by(|a, b| a.0.cmp(b.0)).is_ok() { 1 } else { 7 };
+    goes_in_steps(list, step) && list.capacity() == 32
+}
+
 #[test]
 fn sorts_pairs_or_stays(rt: HostRuntime) -> Result<(), Fail> {
-    let mut list = pairs(rt.alloc(), 3)?;
-    let done = list.sort_by(|a, b| b.0.cmp(a.0)).is_ok();
-    let first = if done { 2 } else { 0 };
-    same(&rt, list.get(0), Some((&first, &first)));
-    same(&rt, (list.len(), list.capacity()), (3, 4));
+    let mut list = mixed(rt.alloc())?;
+    holds(&rt, sorts(&mut list));
     Ok(())
 }
 
+fn falls(map: &VecMap<u32, u32>) -> bool {
+    map.len() == 3
+        && map.get_index(0) == Some((&2, &20))
+        && map.get_index(1) == Some((&1, &10))
+        && map.get_index(2) == Some((&0, &0))
+}
+
 fn sorts_entries(map: &mut VecMap<u32, u32>) -> bool {
-    map.sort_keys().is_ok() || map.get_index(0) == Some((&2, &20)) && map.sort_keys().is_ok()
+    map.reverse();
+    map.sort_keys().is_ok() || falls(map) && map.sort_keys().is_ok()
 }
 
 fn copied_map(map: &VecMap<u32, u32>) -> Result<VecMap<u32, u32>, AllocError> {
@@ -176,10 +251,12 @@ fn copied_map(map: &VecMap<u32, u32>) -> Result<VecMap<u32, u32>, AllocError> {
 
 #[test]
 fn sorts_and_copies_entries(rt: HostRuntime) -> Result<(), Fail> {
-    let mut map = map_with_capacity(rt.alloc(), 2)?;
-    holds(&rt, inserts(&mut map, 2, 20) && inserts(&mut map, 1, 10));
+    let mut map = map_with_capacity(rt.alloc(), 3)?;
+    for key in 0u32..3 {
+        holds(&rt, inserts(&mut map, key));
+    }
     holds(&rt, sorts_entries(&mut map));
     let copy = copied_map(&map)?;
-    holds(&rt, copy.get_index(0) == Some((&1, &10)));
+    holds(&rt, has_tens(&copy, 3));
     Ok(())
 }

@@ -1,6 +1,6 @@
 //! Maps that are made with room, of items or of another map.
 
-use crate::given::{Numbers, holds, same, tens, under};
+use crate::given::{Numbers, holds, shows, tens, under};
 use starlark_small::{SmallMap, smallmap};
 use std::alloc::{AllocError, Global};
 use std::test::Fail;
@@ -30,7 +30,7 @@ fn collected(alloc: Global) -> Result<SmallMap<u32, char>, AllocError> {
 #[test]
 fn collects_items(rt: HostRuntime) -> Result<(), Fail> {
     let map = collected(rt.alloc())?;
-    same(&rt, map.len(), 2);
+    holds(&rt, shows(map.iter(), &[(1, 'a'), (2, 'b')]));
     Ok(())
 }
 
@@ -44,7 +44,7 @@ fn collected_hashed(alloc: Global) -> Result<SmallMap<u32, char>, AllocError> {
 #[test]
 fn collects_items_under_hashes(rt: HostRuntime) -> Result<(), Fail> {
     let map = collected_hashed(rt.alloc())?;
-    same(&rt, map.len(), 1);
+    holds(&rt, shows(map.iter(), &[(1, 'a')]));
     Ok(())
 }
 
@@ -58,7 +58,7 @@ fn written(alloc: Global) -> Result<SmallMap<u32, char>, AllocError> {
 #[test]
 fn writes_entries_out(rt: HostRuntime) -> Result<(), Fail> {
     let map = written(rt.alloc())?;
-    same(&rt, map.len(), 2);
+    holds(&rt, shows(map.iter(), &[(1, 'a'), (2, 'b')]));
     Ok(())
 }
 

@@ -72,6 +72,40 @@ fn sorts_or_stays(rt: HostRuntime) -> Result<(), Fail> {
     Ok(())
 }
 
+// The keys below 24 in steps of seven: so many, and so mixed, that a sort of their places asks for memory too.
+fn mixed(alloc: Global) -> Result<Numbers, Fail> {
+    let mut map: Numbers = SmallMap::new(alloc);
+    for place in 0..24u32 {
+        let key = place.wrapping_mul(7) % 24;
+        if map.insert(key, key.wrapping_mul(10)).is_err() {
+            map.insert(key, key.wrapping_mul(10))?;
+        }
+    }
+    Ok(map)
+}
+
+fn is_mixed(map: &Numbers) -> bool {
+    let mut walk = map.keys();
+    for place in 0..24u32 {
+        if walk.next() != Some(&(place.wrapping_mul(7) % 24)) {
+            return false;
+        }
+    }
+    walk.next().is_none()
+}
+
+fn sorts_mixed(map: &mut Numbers) -> bool {
+    map.sort_keys().is_ok() || is_mixed(map) && map.sort_keys().is_ok()
+}
+
+#[test]
+fn sorts_many_or_stays(rt: HostRuntime) -> Result<(), Fail> {
+    let mut map = mixed(rt.alloc())?;
+    holds(&rt, sorts_mixed(&mut map));
+    holds(&rt, is_tens(&map, 24));
+    Ok(())
+}
+
 fn sorts_turned(map: &mut SmallMap<&'static str, u32>) -> bool {
     map.reverse();
     map.sort_keys().is_ok()
@@ -83,6 +117,21 @@ fn sorts_what_ascends(rt: HostRuntime) -> Result<(), Fail> {
     let mut map = falling(rt.alloc())?;
     holds(&rt, sorts_turned(&mut map));
     holds(&rt, map.get_index(0) == Some((&"a", &2)));
+    Ok(())
+}
+
+fn copies_walks(map: &Numbers) -> bool {
+    map.iter().clone().is_ok()
+        && map.iter_hashed().clone().is_ok()
+        && map.keys().clone().is_ok()
+        && map.values().clone().is_ok()
+}
+
+// After the first line nothing asks for memory.
+#[test]
+fn copies_walks_of_a_map(rt: HostRuntime) -> Result<(), Fail> {
+    let map = tens(rt.alloc(), 4)?;
+    holds(&rt, copies_walks(&map));
     Ok(())
 }
 

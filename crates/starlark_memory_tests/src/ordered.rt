@@ -1,6 +1,6 @@
 //! Ordered maps and sets that grow, and what comes back where no room is found.
 
-use crate::given::{handed_back, holds, same, tens};
+use crate::given::{handed_back, holds, same, shows, shows_elements, tens};
 use starlark_hash::Hashed;
 use starlark_sets::{OrderedMap, OrderedSet, TryInsertError};
 use starlark_small::Entry;
@@ -107,6 +107,28 @@ fn inserts_the_default_value(rt: HostRuntime) -> Result<(), Fail> {
     Ok(())
 }
 
+// How many times the closure was called, and what came back.
+fn filled_by_closure(map: &mut OrderedMap<u32, u32>) -> (u32, Option<(Hashed<u32>, u32)>) {
+    let mut calls = 0u32;
+    let refused = handed_back(
+        map.entry(100).or_insert_with(|| {
+            calls = calls.wrapping_add(1);
+            1
+        }),
+    );
+    (calls, refused)
+}
+
+// The closure is called before the map grows.
+#[test]
+fn asks_for_the_value_once(rt: HostRuntime) -> Result<(), Fail> {
+    let mut map = four(rt.alloc())?;
+    let (calls, refused) = filled_by_closure(&mut map);
+    same(&rt, calls, 1);
+    holds(&rt, has_or_stays_hashed(&map, refused, 1));
+    Ok(())
+}
+
 fn one(alloc: Global) -> Result<OrderedMap<u32, char>, AllocError> {
     match OrderedMap::from_iter(alloc, [(2u32, 'a')]) {
         Ok(map) => Ok(map),
@@ -117,14 +139,14 @@ fn one(alloc: Global) -> Result<OrderedMap<u32, char>, AllocError> {
 // A refusal leaves the map, and the second attempt has the memory.
 fn extends(map: &mut OrderedMap<u32, char>) -> bool {
     map.extend([(1, 'b')]).is_ok()
-        || map.len() == 1 && map.get_index(0) == Some((&2, &'a')) && map.extend([(1, 'b')]).is_ok()
+        || shows(map.iter(), &[(2, 'a')]) && map.extend([(1, 'b')]).is_ok()
 }
 
 #[test]
 fn collects_entries(rt: HostRuntime) -> Result<(), Fail> {
     let mut map = one(rt.alloc())?;
     holds(&rt, extends(&mut map));
-    same(&rt, map.len(), 2);
+    holds(&rt, shows(map.iter(), &[(2, 'a'), (1, 'b')]));
     Ok(())
 }
 
@@ -176,7 +198,7 @@ fn full(alloc: Global) -> Result<OrderedSet<u32>, Fail> {
 }
 
 fn is_full(set: &OrderedSet<u32>) -> bool {
-    set.len() == 4 && set.first() == Some(&3) && set.last() == Some(&0)
+    shows_elements(set.iter(), &[3, 2, 1, 0])
 }
 
 // What came back is 100, and the set is as it was; or 100 is last.
@@ -272,13 +294,14 @@ fn one_element(alloc: Global) -> Result<OrderedSet<u32>, AllocError> {
 }
 
 fn extends_set(set: &mut OrderedSet<u32>) -> bool {
-    set.extend([1]).is_ok() || set.len() == 1 && set.first() == Some(&2) && set.extend([1]).is_ok()
+    set.extend([1]).is_ok()
+        || shows_elements(set.iter(), &[2]) && set.extend([1]).is_ok()
 }
 
 #[test]
 fn collects_elements(rt: HostRuntime) -> Result<(), Fail> {
     let mut set = one_element(rt.alloc())?;
     holds(&rt, extends_set(&mut set));
-    same(&rt, set.len(), 2);
+    holds(&rt, shows_elements(set.iter(), &[2, 1]));
     Ok(())
 }

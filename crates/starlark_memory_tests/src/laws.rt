@@ -1,0 +1,62 @@
+//! The calls of the laws that collect and sort, and what stands where memory is refused.
+
+use crate::given::{Numbers, holds, shows, tens};
+use starlark_laws::{collection, order};
+use starlark_small::SmallMap;
+use std::alloc::{AllocError, Global};
+use std::test::Fail;
+
+fn written(alloc: Global) -> Result<SmallMap<u32, char>, AllocError> {
+    match collection::written_in_order(alloc, (1u32, 'a'), (2, 'b'), (1, 'c')) {
+        Ok(map) => Ok(map),
+        Err(_) => collection::written_in_order(alloc, (1, 'a'), (2, 'b'), (1, 'c')),
+    }
+}
+
+#[test]
+fn writes_entries_in_order(rt: HostRuntime) -> Result<(), Fail> {
+    let map = written(rt.alloc())?;
+    holds(&rt, shows(map.iter(), &[(1, 'c'), (2, 'b')]));
+    Ok(())
+}
+
+// The keys 2, 1 and 0, each with ten times itself.
+fn falling(alloc: Global) -> Result<Numbers, Fail> {
+    let mut map = tens(alloc, 3)?;
+    map.reverse();
+    Ok(map)
+}
+
+fn falls(map: &Numbers) -> bool {
+    map.len() == 3
+        && map.get_index(0) == Some((&2, &20))
+        && map.get_index(1) == Some((&1, &10))
+        && map.get_index(2) == Some((&0, &0))
+}
+
+// A refusal drops the entries.
+fn collected(alloc: Global) -> Result<Numbers, Fail> {
+    match collection::collected_anew(alloc, falling(alloc)?) {
+        Ok(map) => Ok(map),
+        Err(_) => Ok(collection::collected_anew(alloc, falling(alloc)?)?),
+    }
+}
+
+#[test]
+fn collects_a_map_anew(rt: HostRuntime) -> Result<(), Fail> {
+    let map = collected(rt.alloc())?;
+    holds(&rt, falls(&map));
+    Ok(())
+}
+
+fn sorts_twice(map: &mut Numbers) -> bool {
+    order::sort_twice(map).is_ok() || falls(map) && order::sort_twice(map).is_ok()
+}
+
+#[test]
+fn sorts_twice_or_stays(rt: HostRuntime) -> Result<(), Fail> {
+    let mut map = falling(rt.alloc())?;
+    holds(&rt, sorts_twice(&mut map));
+    holds(&rt, map.get_index(0) == Some((&0, &0)));
+    Ok(())
+}
