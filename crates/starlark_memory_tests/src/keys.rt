@@ -15,7 +15,11 @@ fn makes_and_copies_the_key_of_a_query(rt: HostRuntime) -> Result<(), Fail> {
         Ok(copy) => copy,
         Err(_) => made.as_ref().cloned()?,
     };
-    holds(&rt, copy == made && copy.hash().get() == 7);
+    let clone = match made.clone() {
+        Ok(clone) => clone,
+        Err(_) => made.clone()?,
+    };
+    holds(&rt, copy == made && clone == made && copy.hash().get() == 7);
     holds(&rt, copy.key().as_str() == "a");
     Ok(())
 }

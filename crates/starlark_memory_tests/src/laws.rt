@@ -1,7 +1,8 @@
 //! The calls of the laws that collect and sort, and what stands where memory is refused.
 
-use crate::given::{Numbers, holds, shows, tens};
-use starlark_laws::{collection, order};
+use crate::given::{Numbers, handed_back, holds, is_tens, shows, tens};
+use starlark_hash::Hashed;
+use starlark_laws::{collection, insertion, order};
 use starlark_small::SmallMap;
 use std::alloc::{AllocError, Global};
 use std::test::Fail;
@@ -17,6 +18,38 @@ fn written(alloc: Global) -> Result<SmallMap<u32, char>, AllocError> {
 fn writes_entries_in_order(rt: HostRuntime) -> Result<(), Fail> {
     let map = written(rt.alloc())?;
     holds(&rt, shows(map.iter(), &[(1, 'c'), (2, 'b')]));
+    Ok(())
+}
+
+// A map without room.
+fn written_into(alloc: Global) -> Result<SmallMap<u32, char>, AllocError> {
+    match collection::written_with_room(SmallMap::new(alloc), (1u32, 'a'), (2, 'b'), (1, 'c')) {
+        Ok(map) => Ok(map),
+        Err(_) => {
+            collection::written_with_room(SmallMap::new(alloc), (1, 'a'), (2, 'b'), (1, 'c'))
+        }
+    }
+}
+
+#[test]
+fn writes_entries_without_room(rt: HostRuntime) -> Result<(), Fail> {
+    let map = written_into(rt.alloc())?;
+    holds(&rt, shows(map.iter(), &[(1, 'c'), (2, 'b')]));
+    Ok(())
+}
+
+fn inserts(map: &mut Numbers) -> bool {
+    let refused = handed_back(insertion::insertion_of_a_present_key(map, Hashed::new(100), 1));
+    match refused {
+        None => map.get_index(4) == Some((&100, &1)),
+        Some(back) => back == (Hashed::new(100), 1) && is_tens(map, 4),
+    }
+}
+
+#[test]
+fn takes_an_entry_or_hands_it_back(rt: HostRuntime) -> Result<(), Fail> {
+    let mut map = tens(rt.alloc(), 4)?;
+    holds(&rt, inserts(&mut map));
     Ok(())
 }
 
@@ -57,6 +90,19 @@ fn sorts_twice(map: &mut Numbers) -> bool {
 fn sorts_twice_or_stays(rt: HostRuntime) -> Result<(), Fail> {
     let mut map = falling(rt.alloc())?;
     holds(&rt, sorts_twice(&mut map));
+    holds(&rt, map.get_index(0) == Some((&0, &0)));
+    Ok(())
+}
+
+fn sorts(map: &mut Numbers) -> bool {
+    order::sort_of_a_sorted_list(map).is_ok()
+        || falls(map) && order::sort_of_a_sorted_list(map).is_ok()
+}
+
+#[test]
+fn sorts_or_stays(rt: HostRuntime) -> Result<(), Fail> {
+    let mut map = falling(rt.alloc())?;
+    holds(&rt, sorts(&mut map));
     holds(&rt, map.get_index(0) == Some((&0, &0)));
     Ok(())
 }

@@ -168,8 +168,7 @@ fn takes_an_entry_or_hands_it_back(rt: HostRuntime) -> Result<(), Fail> {
 }
 
 fn reserves_entries(map: &mut VecMap<u32, u32>) -> bool {
-    map.reserve(40).is_ok()
-        || has_tens(map, 1) && map.capacity() == 4 && map.reserve(40).is_ok()
+    map.reserve(40).is_ok() || has_tens(map, 1) && map.capacity() == 4 && map.reserve(40).is_ok()
 }
 
 #[test]
@@ -219,7 +218,11 @@ fn goes_in_steps(list: &Vec2<u32, u32>, step: u32) -> bool {
 }
 
 fn sorts(list: &mut Vec2<u32, u32>) -> bool {
-    let step = if list.sort_by(|a, b| a.0.cmp(b.0)).is_ok() { 1 } else { 7 };
+    let step = if list.sort_by(|a, b| a.0.cmp(b.0)).is_ok() {
+        1
+    } else {
+        7
+    };
     goes_in_steps(list, step) && list.capacity() == 32
 }
 

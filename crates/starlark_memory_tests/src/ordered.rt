@@ -294,8 +294,7 @@ fn one_element(alloc: Global) -> Result<OrderedSet<u32>, AllocError> {
 }
 
 fn extends_set(set: &mut OrderedSet<u32>) -> bool {
-    set.extend([1]).is_ok()
-        || shows_elements(set.iter(), &[2]) && set.extend([1]).is_ok()
+    set.extend([1]).is_ok() || shows_elements(set.iter(), &[2]) && set.extend([1]).is_ok()
 }
 
 #[test]

@@ -125,9 +125,7 @@ fn runs_both(alloc: Global, first: &mut Numbers, second: &mut Numbers) -> bool {
     let (Some(commands), Some(again)) = (insertion(alloc), insertion(alloc)) else {
         return false;
     };
-    match replies_agree(
-        alloc, first, second, commands, again, value_of, value_of,
-    ) {
+    match replies_agree(alloc, first, second, commands, again, value_of, value_of) {
         Ok((replies, others)) => replied(first, &replies) && replied(second, &others),
         Err(_) => is_tens(second, 4) && (is_tens(first, 4) || has_new(first)),
     }

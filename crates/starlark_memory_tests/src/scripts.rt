@@ -52,11 +52,11 @@ fn reserves_or_stops(rt: HostRuntime) -> Result<(), Fail> {
 fn sorts_or_stops(rt: HostRuntime) -> Result<(), Fail> {
     plays(
         &rt,
-        "put 0 t 0\nput 0 u 0\nput 0 s 0\nput 0 r 0\nput 0 q 0\nput 0 p 0\nput 0 o 0\n\
+        "reserve 21\nput 0 t 0\nput 0 u 0\nput 0 s 0\nput 0 r 0\nput 0 q 0\nput 0 p 0\nput 0 o 0\n\
         put 0 n 0\nput 0 m 0\nput 0 l 0\nput 0 k 0\nput 0 j 0\nput 0 i 0\nput 0 h 0\n\
         put 0 g 0\nput 0 f 0\nput 0 e 0\nput 0 d 0\nput 0 c 0\nput 0 b 0\nput 0 a 0\n\
         sort\nat 0\nat 20\n",
-        "none\nnone\nnone\nnone\nnone\nnone\nnone\nnone\nnone\nnone\nnone\n\
+        "ok\nnone\nnone\nnone\nnone\nnone\nnone\nnone\nnone\nnone\nnone\nnone\n\
         none\nnone\nnone\nnone\nnone\nnone\nnone\nnone\nnone\nnone\n\
         ok\nsome a 0\nsome u 0\n",
     )

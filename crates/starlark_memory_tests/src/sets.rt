@@ -1,7 +1,7 @@
 //! Sets that grow, and what comes back where no room is found.
 
 use crate::given::{handed_back, holds, shows_elements, under};
-use starlark_hash::Hashed;
+use starlark_hash::{Hashed, TextKey};
 use starlark_sets::{SmallSet, smallset};
 use std::alloc::{AllocError, Global};
 use std::test::Fail;
@@ -134,6 +134,43 @@ fn makes_new(set: &mut SmallSet<u32>) -> bool {
 fn makes_a_new_element_or_stays(rt: HostRuntime) -> Result<(), Fail> {
     let mut set = full(rt.alloc())?;
     holds(&rt, makes_new(&mut set));
+    Ok(())
+}
+
+// The texts "a", "b", "c" and "d", with no room left.
+fn full_of_texts(alloc: Global) -> Result<SmallSet<String>, Fail> {
+    let mut set: SmallSet<String> = SmallSet::new(alloc);
+    for text in ["a", "b", "c", "d"] {
+        if set.get_or_insert_owned(&TextKey(text)).is_err() {
+            set.get_or_insert_owned(&TextKey(text))?;
+        }
+    }
+    Ok(set)
+}
+
+fn is_full_of_texts(set: &SmallSet<String>) -> bool {
+    let mut walk = set.iter();
+    for text in ["a", "b", "c", "d"] {
+        match walk.next() {
+            Some(found) if found.as_str() == text => {}
+            _ => return false,
+        }
+    }
+    walk.next().is_none()
+}
+
+// The text's own copy is asked for, and then room.
+fn makes_text(set: &mut SmallSet<String>) -> bool {
+    if set.get_or_insert_owned(&TextKey("e")).is_ok() {
+        return set.get_index_of(&TextKey("e")) == Some(4);
+    }
+    is_full_of_texts(set) && set.get_or_insert_owned(&TextKey("e")).is_ok()
+}
+
+#[test]
+fn makes_a_new_text_or_stays(rt: HostRuntime) -> Result<(), Fail> {
+    let mut set = full_of_texts(rt.alloc())?;
+    holds(&rt, makes_text(&mut set));
     Ok(())
 }
 
