@@ -34,7 +34,12 @@ fn stands(map: &mut Numbers, key: u32, refused: Option<(u32, u32)>) -> bool {
     let value = key.wrapping_mul(10);
     match refused {
         None => is_tens(map, key.wrapping_add(1)),
-        Some(pair) => pair == (key, value) && is_tens(map, key) && map.insert(key, value).is_ok(),
+        Some(pair) => {
+            pair == (key, value)
+                && is_tens(map, key)
+                && map.room() == 0
+                && map.insert(key, value).is_ok()
+        }
     }
 }
 
