@@ -1,5 +1,5 @@
 -- Lists that ascend: what is sorted, what keeps the order, and where it is strict.
-use Rattle.std.proofs.Common.{◌≡◌, ℕ, ◌+◌, ◌<◌, Bool, true, false, List, [], ◌∷◌, ◌++◌, length, get_or, Option, Some, None, refl, sym, ap, ◌∙◌, arith}
+use Rattle.std.proofs.Common.{◌≡◌, ℕ, zero, suc, ◌+◌, ◌<◌, Bool, true, false, List, [], ◌∷◌, ◌++◌, length, get_or, Option, Some, None, refl, sym, ap, subst, ◌∙◌, arith}
 use Rattle.std.specs.Prelude.{◌&&◌}
 use Rattle.std.specs.Cmp.{IsTotalOrder, Equal-is, alike_right}
 use Rattle.std.specs.Hash.{HashWrites}
@@ -21,6 +21,8 @@ use Rattle.starlark_hash.proofs.SortingLemmas.{key_lt-order, sorted_by-sorted}
 use Rattle.starlark_small.specs.Clone.{IsEqualClone}
 use Rattle.starlark_vec2.specs.Collect.{IsLawfulClone}
 use Rattle.starlark_vecmap.specs.Clone.{IsEntryClone}
+use Rattle.starlark_vecmap.specs.EntryList.{with_values}
+use Rattle.starlark_vecmap.proofs.Written.{length-with_values}
 use Rattle.starlark_sorted.specs.Sorted.{AreOwn, AscendsStrictly}
 
 -- what is not greater and not equal is less
@@ -75,10 +77,19 @@ lawful_clones is_clone lawful [] (y ∷ ys) zip = absurd zip
 lawful_clones is_clone lawful (x ∷ xs) [] zip = absurd zip
 lawful_clones is_clone lawful (x ∷ xs) (y ∷ ys) zip = λ i. lawful x y zip.0 i ∷ lawful_clones is_clone lawful xs ys zip.1 i
 
+module _ {K V : Type 0} where
+  -- writing values keeps each key under its hash
+  with_values-key : (es ws : List (Entry K V)) (k : ℕ) (d : Entry K V) → (get_or (with_values es ws) k d).0 ≡ (get_or es k d).0
+  with_values-key [] ws k d = refl
+  with_values-key (e ∷ es) [] zero d = refl
+  with_values-key (e ∷ es) [] (suc k) d = with_values-key es [] k d
+  with_values-key (e ∷ es) (w ∷ ws) zero d = refl
+  with_values-key (e ∷ es) (w ∷ ws) (suc k) d = with_values-key es ws k d
+
 module _ {K V : Type 0} (cmp : K → K → Ordering) where
   -- what is sorted ascends
-  pub Ascends-sorted : IsTotalOrder cmp → (es : List (Entry K V)) → Ascends cmp (sorted_by_key cmp es)
-  Ascends-sorted total es = sorted_by-sorted (key_lt cmp) (key_lt-order total) es
+  pub sorted_ascends : IsTotalOrder cmp → (es fs : List (Entry K V)) → fs ≡ sorted_by_key cmp es → Ascends cmp fs
+  sorted_ascends total es fs same = subst (Ascends cmp) (sym same) (sorted_by-sorted (key_lt cmp) (key_lt-order total) es)
 
   -- keys that ascend do so when a value is written
   pub Ascends-set_value_at : (es : List (Entry K V)) (i : ℕ) (value : V) → Ascends cmp es → Ascends cmp (set_value_at es i value)
@@ -91,6 +102,14 @@ module _ {K V : Type 0} (cmp : K → K → Ordering) where
   pub Ascends-with_value : (es : List (Entry K V)) (place : Option ℕ) (value : V) → Ascends cmp es → Ascends cmp (with_value es place value)
   Ascends-with_value es None value up = up
   Ascends-with_value es (Some i) value up = Ascends-set_value_at es i value up
+
+  -- and when each value is written
+  pub Ascends-with_values : (es ws : List (Entry K V)) → Ascends cmp es → Ascends cmp (with_values es ws)
+  Ascends-with_values es ws up k d low high =
+      let inside : k + 1 < length es = omega (arith, high, length-with_values es ws) in
+      ap (λ key. is_lt (cmp key.key (entry_key (get_or (with_values es ws) k d)))) (with_values-key es ws (k + 1) d)
+      ∙ ap (λ key. is_lt (cmp (entry_key (get_or es (k + 1) d)) key.key)) (with_values-key es ws k d)
+      ∙ up k d low inside
 
   -- what ascends strictly ascends
   pub Ascends-from_strictly : IsTotalOrder cmp → (es : List (Entry K V)) → AscendsStrictly cmp es → Ascends cmp es

@@ -34,18 +34,19 @@ impl<K: Ord + Hash, V> SortedMap<K, V> {
     }
 
     /// As `from_ordered_map`, of a `SmallMap`.
+    #[tactic(auto, using(crate::proofs::Ascending::sorted_ascends))]
     pub fn from_small_map(map: SmallMap<K, V>) -> Result<Self, SmallMap<K, V>>
         ensures sorted { IfOk result (IsSortedOf K.cmp map) }
         ensures handed_back { IfErr result (λ source. source.entries ≡ map.entries) }
         ensures kept { IfErr result (KeepsMemory map) }
         ensures succeeds { Ascends K.cmp map.entries → IsOk result }
     {
-        let mut map = map;
-        match map.sort_keys() {
+        let mut source = map;
+        match source.sort_keys() {
             Ok(()) => Ok(SortedMap {
-                map: OrderedMap::from(map),
+                map: OrderedMap::from(source),
             }),
-            Err(_) => Err(map),
+            Err(_) => Err(source),
         }
     }
 }

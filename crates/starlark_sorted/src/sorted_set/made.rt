@@ -35,18 +35,19 @@ impl<T: Ord + Hash> SortedSet<T> {
     }
 
     /// As `from_ordered_set`, of a `SmallSet`.
+    #[tactic(auto, using(crate::proofs::Ascending::sorted_ascends))]
     pub fn from_small_set(set: SmallSet<T>) -> Result<Self, SmallSet<T>>
         ensures sorted { IfOk result (IsSortedOf T.cmp set) }
         ensures handed_back { IfErr result (λ source. source.entries ≡ set.entries) }
         ensures kept { IfErr result (KeepsMemory set) }
         ensures succeeds { Ascends T.cmp set.entries → IsOk result }
     {
-        let mut set = set;
-        match set.sort() {
+        let mut source = set;
+        match source.sort() {
             Ok(()) => Ok(SortedSet {
-                inner: OrderedSet::from(set),
+                inner: OrderedSet::from(source),
             }),
-            Err(_) => Err(set),
+            Err(_) => Err(source),
         }
     }
 }
