@@ -14,6 +14,8 @@ type Lettered = SortedMap<char, u32>;
 
 type Numbered = SortedMap<u32, u32>;
 
+type Lists = SortedMap<u32, Vec<u32>>;
+
 type Row = (u32, char, u32);
 
 fn of_rows(alloc: Global, rows: &[Row]) -> Result<SmallMap<char, u32>, Fail> {
@@ -121,6 +123,76 @@ fn collects_and_writes(rt: HostRuntime) -> Result<(), Fail> {
     write(&mut map, 3, 9);
     write(&mut map, 4, 7);
     holds(&rt, shows(&map, &[(1, 2), (3, 9), (5, 6)]));
+    Ok(())
+}
+
+fn add_keys(map: &mut Numbered) {
+    for (key, value) in map {
+        *value = value.wrapping_add(*key);
+    }
+}
+
+fn add_tens(map: &mut Numbered) {
+    for (_, value) in map.iter_mut() {
+        *value = value.wrapping_add(10);
+    }
+}
+
+fn add_hundreds(map: &mut Numbered) {
+    for value in map.values_mut() {
+        *value = value.wrapping_add(100);
+    }
+}
+
+#[test]
+fn writes_each_value(rt: HostRuntime) -> Result<(), Fail> {
+    let mut map = numbered(rt.alloc(), [(5, 6), (1, 2), (3, 4)])?;
+    add_keys(&mut map);
+    add_tens(&mut map);
+    add_hundreds(&mut map);
+    holds(&rt, shows(&map, &[(1, 113), (3, 117), (5, 121)]));
+    Ok(())
+}
+
+fn list(alloc: Global, items: &[u32]) -> Result<Vec<u32>, Fail> {
+    let mut list = Vec::new(alloc);
+    for item in items {
+        list.push(*item)?;
+    }
+    Ok(list)
+}
+
+fn lists(alloc: Global) -> Result<Lists, Fail> {
+    let one = list(alloc, &[1, 2, 3])?;
+    let two = list(alloc, &[4])?;
+    let three = list(alloc, &[5])?;
+    Ok(SortedMap::from_iter(alloc, [(1, one), (2, two), (3, three)])?)
+}
+
+// Whether there was memory to push the item to the list under the key.
+fn push(map: &mut Lists, key: u32, item: u32) -> bool {
+    match map.get_mut(&key) {
+        Some(list) => list.push(item).is_ok(),
+        None => false,
+    }
+}
+
+fn has_list(map: &Lists, key: u32, items: &[u32]) -> bool {
+    match map.get(&key) {
+        Some(list) => list.as_slice() == items,
+        None => false,
+    }
+}
+
+#[test]
+fn pushes_to_lists_under_keys(rt: HostRuntime) -> Result<(), Fail> {
+    let mut map = lists(rt.alloc())?;
+    holds(&rt, push(&mut map, 1, 11));
+    holds(&rt, push(&mut map, 2, 22));
+    holds(&rt, push(&mut map, 3, 33));
+    holds(&rt, has_list(&map, 1, &[1, 2, 3, 11]));
+    holds(&rt, has_list(&map, 2, &[4, 22]));
+    holds(&rt, has_list(&map, 3, &[5, 33]));
     Ok(())
 }
 
