@@ -17,7 +17,7 @@ impl<K: Ord + Hash, V> SortedMap<K, V> {
     /// room, capacity and index stay.
     #[inline]
     pub fn iter_mut(&mut self) -> IterMut<'_, K, V>
-        ensures* writes_back { sem 𝓛 (values_follow K.row V.row (record { cmp = K.cmp }) K.PartialEq (record { partial_cmp = K.partial_cmp }) (record { hash_input = K.hash_input }) self.entry result.1) }
+        ensures* writes_back { sem 𝓛 (values_follow K.row V.row K.cmp K.eq K.partial_cmp K.hash_input self.entry result.1) }
         ensures pairs { result.0 ≡ map pair_of self.old.entries }
         ensures fits { length self.old.entries < 2 ^ 64 }
     {
@@ -29,7 +29,7 @@ impl<K: Ord + Hash, V> SortedMap<K, V> {
     #[tactic(auto, using(starlark_vecmap::proofs::Written::written))]
     #[inline]
     pub fn values_mut(&mut self) -> ValuesMut<'_, K, V>
-        ensures* writes_back { sem 𝓛 (values_follow K.row V.row (record { cmp = K.cmp }) K.PartialEq (record { partial_cmp = K.partial_cmp }) (record { hash_input = K.hash_input }) self.entry result.1) }
+        ensures* writes_back { sem 𝓛 (values_follow K.row V.row K.cmp K.eq K.partial_cmp K.hash_input self.entry result.1) }
         ensures values { values_of result.0 ≡ map entry_value self.old.entries }
         ensures fits { length self.old.entries < 2 ^ 64 }
     {
@@ -40,7 +40,7 @@ impl<K: Ord + Hash, V> SortedMap<K, V> {
     /// is left in it, and all else stays.
     #[inline]
     pub fn get_mut<Q: Equivalent<K> + Hash>(&mut self, key: &Q) -> Option<&mut V>
-        ensures* writes_back { sem 𝓛 (lends_found K.row V.row (record { cmp = K.cmp }) K.PartialEq (record { partial_cmp = K.partial_cmp }) (record { hash_input = K.hash_input }) self.entry (own_match Q.equivalent Q.hash_input self.old.entries key.now) result) }
+        ensures* writes_back { sem 𝓛 (lends_found K.row V.row K.cmp K.eq K.partial_cmp K.hash_input self.entry (own_match Q.equivalent Q.hash_input self.old.entries key.now) result) }
         ensures value { option_copied_mut result ≡ value_at self.old.entries (own_match Q.equivalent Q.hash_input self.old.entries key.now) }
         ensures absent { IfNone result (own_match Q.equivalent Q.hash_input self.old.entries key.now ≡ None) }
     {
@@ -58,7 +58,7 @@ impl<'a, K: Ord + Hash, V> IntoIterator for &'a mut SortedMap<K, V> {
     /// The keys and values in order, to write the values, as `iter_mut` gives them.
     #[inline]
     fn into_iter(self) -> IterMut<'a, K, V>
-        ensures* writes_back { sem 𝓛 (values_follow K.row V.row (record { cmp = K.cmp }) K.PartialEq (record { partial_cmp = K.partial_cmp }) (record { hash_input = K.hash_input }) self.entry result.1) }
+        ensures* writes_back { sem 𝓛 (values_follow K.row V.row K.cmp K.eq K.partial_cmp K.hash_input self.entry result.1) }
         ensures into_iter_gives { (result.0 ≡ map pair_of self.old.entries) × (length self.old.entries < 2 ^ 64) }
     {
         self.iter_mut()
