@@ -10,6 +10,10 @@ mod ordered;
 #[cfg(test)]
 mod sets;
 #[cfg(test)]
+mod sorted_maps;
+#[cfg(test)]
+mod sorted_sets;
+#[cfg(test)]
 mod sorted_vectors;
 #[cfg(test)]
 mod written_sets;

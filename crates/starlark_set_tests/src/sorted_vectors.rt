@@ -55,6 +55,23 @@ fn prints(alloc: Global, sorted: &SortedVec<u32>, text: &str) -> bool {
 #[test]
 fn prints_a_vector_that_ascends(rt: HostRuntime) -> Result<(), Fail> {
     let sorted = sorted(rt.alloc(), [2, 1, 3])?;
-    holds(&rt, prints(rt.alloc(), &sorted, "SortedVec([1, 2, 3])"));
+    holds(
+        &rt,
+        prints(rt.alloc(), &sorted, "SortedVec { vec: [1, 2, 3] }"),
+    );
+    Ok(())
+}
+
+fn equals_its_copy(sorted: &SortedVec<u32>) -> bool {
+    match sorted.clone() {
+        Ok(copy) => copy == *sorted,
+        Err(_) => false,
+    }
+}
+
+#[test]
+fn copies_a_vector_that_ascends(rt: HostRuntime) -> Result<(), Fail> {
+    let sorted = sorted(rt.alloc(), [2, 1, 3])?;
+    holds(&rt, equals_its_copy(&sorted));
     Ok(())
 }

@@ -1,1 +1,3 @@
 pub mod Collect
+pub mod Sorted
+pub mod Lending

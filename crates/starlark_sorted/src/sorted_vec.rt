@@ -3,11 +3,14 @@ ghost use Rattle.starlark_sorted.specs.Collect.{HasEveryItem};
 ghost use Rattle.std.specs.Iterator.Adapters.{IterYieldsInOrder, IterYieldsInReverse};
 ghost use Rattle.std.specs.Iterator.Runs.{EveryRun, ItemsAre};
 ghost use Rattle.std.specs.Iterator.{IsFiniteIterable};
+ghost use Rattle.std.specs.List.{AllZip};
 ghost use Rattle.std.specs.List.Sorted.{IsPermutation, IsSorted, IsStable};
 ghost use Rattle.std.specs.Prelude.{◌≡◌, ◌^◌, ◌<◌, [], length, IfOk, IfErr};
 ghost use Rattle.std.specs.Slice.Iter.{iter_rest};
 ghost use Rattle.std.specs.Vec.Iter.{into_iter_items, into_iter_len, into_iter_steps};
 ghost use Rattle.std.specs.declared.alloc.Global.{Global};
+ghost use Rattle.starlark_small.specs.Clone.{IsEqualClone};
+ghost use Rattle.starlark_vec2.specs.Collect.{IsLawfulClone};
 
 use std::alloc::{AllocError, Global};
 use std::marker::Model;
@@ -18,7 +21,9 @@ mod compare;
 
 /// A vector whose items ascend. Equal items may stand side by side.
 #[derive(Drop, Debug)]
-pub struct SortedVec<T: Ord>(Vec<T>);
+pub struct SortedVec<T: Ord> {
+    vec: Vec<T>,
+}
 
 impl<T: Ord> Model for SortedVec<T> {
     ghost use Rattle.std.specs.Prelude.{List};
@@ -26,9 +31,9 @@ impl<T: Ord> Model for SortedVec<T> {
 
     ghost Value = { List T };
 
-    ghost view = { λ v. v.0.items };
+    ghost view = { λ v. v.vec.items };
 
-    ghost invariant = { λ v. IsSorted T.cmp v.0.items };
+    ghost invariant = { λ v. IsSorted T.cmp v.vec.items };
 }
 
 impl<T: Ord> SortedVec<T> {
@@ -37,7 +42,9 @@ impl<T: Ord> SortedVec<T> {
     pub fn new(alloc: Global) -> Self
         ensures { result ≡ [] }
     {
-        SortedVec(Vec::new(alloc))
+        SortedVec {
+            vec: Vec::new(alloc),
+        }
     }
 
     /// The items of a vector that ascends already.
@@ -46,7 +53,7 @@ impl<T: Ord> SortedVec<T> {
         requires ascends { IsSorted T.cmp vec.items }
         ensures { result ≡ vec.items }
     {
-        SortedVec(vec)
+        SortedVec { vec }
     }
 
     /// Every item of the vector, sorted; equal ones keep their order. Where memory is refused, the vector
@@ -59,20 +66,42 @@ impl<T: Ord> SortedVec<T> {
     {
         let mut vec = vec;
         match vec.sort() {
-            Ok(()) => Ok(SortedVec(vec)),
+            Ok(()) => Ok(SortedVec { vec }),
             Err(_) => Err(vec),
         }
+    }
+
+    // Where the memory of the items is from.
+    #[inline]
+    pub(crate) fn allocator(&self) -> Global {
+        *self.vec.allocator()
     }
 
     /// The items in order.
     #[inline]
     pub fn iter(&self) -> Iter<'_, T>
         ensures items { iter_rest result ≡ self.now }
+        ensures ascends { IsSorted T.cmp self.now }
         ensures fits { length self.now < 2 ^ 64 }
         ensures runs { IterYieldsInOrder T }
         ensures runs_back { IterYieldsInReverse T }
     {
-        self.0.iter()
+        self.vec.iter()
+    }
+}
+
+impl<T: Ord + Clone> SortedVec<T> {
+    /// A vector of clones of the items, in their order. Where memory is refused, also to the clone of an item, nothing is
+    /// made.
+    pub fn clone(&self) -> Result<Self, AllocError>
+        // A clone of an item is equal to it.
+        requires { IsEqualClone T.eq T.is_clone }
+        ensures items { IfOk result (AllZip T.is_clone self.now) }
+        ensures same { IfOk result (λ sorted. IsLawfulClone T.is_clone → sorted ≡ self.now) }
+    {
+        Ok(SortedVec {
+            vec: self.vec.clone()?,
+        })
     }
 }
 
@@ -97,11 +126,11 @@ impl<T: Ord + Drop> IntoIterator for SortedVec<T> {
 
     type IntoIter = IntoIter<T>;
 
-    ghost into_iter_gives = { λ s rest. (into_iter_items rest ≡ s) × (into_iter_len rest < 2 ^ 64) × EveryRun (into_iter_steps {X = T} {Z = Global}) (λ p. ItemsAre p (into_iter_items p.from)) };
+    ghost into_iter_gives = { λ s rest. (into_iter_items rest ≡ s) × (into_iter_len rest ≡ length s) × (into_iter_len rest < 2 ^ 64) × EveryRun (into_iter_steps {X = T} {Z = Global}) (λ p. ItemsAre p (into_iter_items p.from)) };
 
     /// The items by value, in order.
     #[inline]
     fn into_iter(self) -> IntoIter<T> {
-        self.0.into_iter()
+        self.vec.into_iter()
     }
 }

@@ -13,7 +13,7 @@ impl<T: Ord> PartialEq for SortedVec<T> {
     ghost laws = { lists_per T.PartialEq.laws };
 
     fn eq(&self, other: &SortedVec<T>) -> bool {
-        self.0 == other.0
+        self.vec == other.vec
     }
 }
 
@@ -27,7 +27,7 @@ impl<T: Ord> PartialOrd for SortedVec<T> {
     ghost laws = { lists_po T.PartialOrd.laws };
 
     fn partial_cmp(&self, other: &SortedVec<T>) -> Option<Ordering> {
-        self.0.partial_cmp(&other.0)
+        self.vec.partial_cmp(&other.vec)
     }
 }
 
@@ -41,7 +41,7 @@ impl<T: Ord> Ord for SortedVec<T> {
     ghost matches_eq = { λ x y. lists_ties T.cmp T.matches_eq x y };
 
     fn cmp(&self, other: &SortedVec<T>) -> Ordering {
-        self.0.cmp(&other.0)
+        self.vec.cmp(&other.vec)
     }
 }
 
@@ -51,6 +51,6 @@ impl<T: Ord + Hash> Hash for SortedVec<T> {
     ghost respects_eq = { (items_Alike (record { fed = T.Hash.respects_eq })).fed };
 
     fn hash<H: Hasher>(&self, state: &mut H) {
-        self.0.hash(state);
+        self.vec.hash(state);
     }
 }

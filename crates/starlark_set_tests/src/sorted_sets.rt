@@ -1,0 +1,153 @@
+//! Sets that ascend: values from outside, and calls at a concrete type.
+
+use crate::given::{holds, same};
+use starlark_sets::{OrderedSet, SmallSet};
+use starlark_sorted::{SortedSet, SortedVec};
+use std::alloc::Global;
+use std::test::Fail;
+
+type Sorted = SortedSet<u32>;
+
+fn collected(alloc: Global, items: &[u32]) -> Result<Sorted, Fail> {
+    let mut set = SmallSet::new(alloc);
+    for item in items {
+        set.insert(*item)?;
+    }
+    from_small(set)
+}
+
+fn from_small(set: SmallSet<u32>) -> Result<Sorted, Fail> {
+    match SortedSet::from_small_set(set) {
+        Ok(sorted) => Ok(sorted),
+        Err(_) => Err("no room".into()),
+    }
+}
+
+// Whether a walk shows these elements and no more.
+fn shows(set: &Sorted, elements: &[u32]) -> bool {
+    let mut walk = set.iter();
+    for element in elements {
+        if walk.next() != Some(element) {
+            return false;
+        }
+    }
+    walk.next().is_none()
+}
+
+#[test]
+fn sorts_a_small_set(rt: HostRuntime) -> Result<(), Fail> {
+    let set = collected(rt.alloc(), &[3, 1, 2])?;
+    holds(&rt, shows(&set, &[1, 2, 3]));
+    Ok(())
+}
+
+fn ascending(alloc: Global, items: [u32; 3]) -> Result<SortedVec<u32>, Fail> {
+    match SortedVec::from_vec(Vec::from_iter(alloc, items)?) {
+        Ok(sorted) => Ok(sorted),
+        Err(_) => Err("no room".into()),
+    }
+}
+
+// Whether the vector became these elements, or came back with its items.
+fn becomes_or_comes_back(vec: SortedVec<u32>, items: [u32; 3], elements: &[u32]) -> bool {
+    match SortedSet::from_sorted_vec(vec) {
+        Ok(set) => shows(&set, elements),
+        Err(vec) => has_items(&vec, items),
+    }
+}
+
+fn has_items(vec: &SortedVec<u32>, items: [u32; 3]) -> bool {
+    let mut walk = vec.iter();
+    for item in items {
+        if walk.next() != Some(&item) {
+            return false;
+        }
+    }
+    walk.next().is_none()
+}
+
+// Holds whichever request for memory is refused.
+#[test]
+fn keeps_one_of_equal_items(rt: HostRuntime) -> Result<(), Fail> {
+    let vec = ascending(rt.alloc(), [1, 1, 2])?;
+    holds(&rt, becomes_or_comes_back(vec, [1, 1, 2], &[1, 2]));
+    Ok(())
+}
+
+fn both(alloc: Global, first: &[u32], second: &[u32]) -> Result<(Sorted, Sorted), Fail> {
+    let first = collected(alloc, first)?;
+    Ok((first, collected(alloc, second)?))
+}
+
+fn joins(first: &Sorted, second: &Sorted, elements: [u32; 3]) -> bool {
+    let mut union = first.union(second);
+    for element in elements {
+        if union.next() != Some(&element) {
+            return false;
+        }
+    }
+    union.next().is_none()
+}
+
+#[test]
+fn joins_one_set_after_the_other(rt: HostRuntime) -> Result<(), Fail> {
+    let (first, second) = both(rt.alloc(), &[1, 3], &[2])?;
+    holds(&rt, joins(&first, &second, [1, 3, 2]));
+    holds(&rt, first < second);
+    Ok(())
+}
+
+fn has_three(set: &Sorted) -> bool {
+    set.len() == 3
+        && set.get(&20) == Some(&20)
+        && set.contains(&30)
+        && !set.contains(&40)
+        && set.get_index(0) == Some(&10)
+        && set.get_index(3) == None
+        && !set.is_empty()
+}
+
+fn equals_its_copy(set: &Sorted) -> bool {
+    match set.clone() {
+        Ok(copy) => copy == *set,
+        Err(_) => false,
+    }
+}
+
+fn prints(alloc: Global, set: &Sorted, text: &str) -> bool {
+    match format!(in alloc; "{set:?}") {
+        Ok(printed) => printed.as_str() == text,
+        Err(_) => false,
+    }
+}
+
+fn of_three(alloc: Global, items: [u32; 3]) -> Result<Sorted, Fail> {
+    Ok(SortedSet::from_iter(alloc, items)?)
+}
+
+#[test]
+fn looks_up_copies_and_prints(rt: HostRuntime) -> Result<(), Fail> {
+    let set = of_three(rt.alloc(), [20, 10, 30])?;
+    holds(&rt, has_three(&set));
+    holds(&rt, equals_its_copy(&set));
+    let text = "SortedSet { inner: OrderedSet({10, 20, 30}) }";
+    holds(&rt, prints(rt.alloc(), &set, text));
+    same(&rt, set.into_iter().next(), Some(10));
+    Ok(())
+}
+
+fn from_ordered(alloc: Global, items: [u32; 2]) -> Result<Sorted, Fail> {
+    match SortedSet::from_ordered_set(OrderedSet::from_iter(alloc, items)?) {
+        Ok(sorted) => Ok(sorted),
+        Err(_) => Err("no room".into()),
+    }
+}
+
+#[test]
+fn is_made_of_an_ordered_set(rt: HostRuntime) -> Result<(), Fail> {
+    let set = from_ordered(rt.alloc(), [2, 1])?;
+    holds(&rt, shows(&set, &[1, 2]));
+    let empty: Sorted = SortedSet::new(rt.alloc());
+    holds(&rt, empty < set);
+    Ok(())
+}

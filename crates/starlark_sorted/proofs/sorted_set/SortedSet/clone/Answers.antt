@@ -1,0 +1,8 @@
+use Rattle.std.proofs.Common.{◌≡◌}
+use Rattle.starlark_sorted.proofs.Ascending.{Ascends-clones}
+use Rattle.starlark_sorted.proofs.sorted_set.SortedSet.clone.Goals as goal
+
+pub invariant_of-result : goal.invariant_of-result
+invariant_of-result g c =
+    Ascends-clones g.met.T.Ord.total g.met.T.Ord.matches_eq g.T.Clone.is_clone (λ x y. y ≡ x) c.requires
+    c.self.inside.inner.entries c.in_ok-clone.field-0.entries c.in_ok-clone.ensures.entries c.self.invariant

@@ -1,0 +1,23 @@
+use Rattle.std.proofs.Common.{sym, subst}
+use Rattle.starlark_sorted.specs.Sorted.{AscendsStrictly}
+use Rattle.starlark_sorted.proofs.Ascending.{Ascends-from_strictly}
+use Rattle.starlark_sorted.proofs.InsertedInOrder.{extended, insert_all-strictly}
+use Rattle.starlark_sorted.proofs.sorted_set.SortedSet.from_sorted_vec.Goals as goal
+
+pub returns-clause-set : goal.returns-clause-set
+returns-clause-set g c =
+    let (it, becomes, (xs, put, drained)) = c.in-Ok-extend.ensures.entries in
+    extended g.T.PartialEq.eq g.T.Hash.hash_input it c.args.vec xs c.in-Ok.inner.entries c.extend.new.self.entries becomes.0 becomes.1 drained c.in-Ok.ensures.entries put
+
+pub returns-clause-strictly : goal.returns-clause-strictly
+returns-clause-strictly g c =
+    let (it, becomes, (xs, put, drained)) = c.in-Ok-extend.ensures.entries in
+    let made = extended g.T.PartialEq.eq g.T.Hash.hash_input it c.args.vec xs c.in-Ok.inner.entries c.extend.new.self.entries becomes.0 becomes.1 drained c.in-Ok.ensures.entries put in
+    subst (AscendsStrictly g.T.Ord.cmp) (sym made) (insert_all-strictly g.met.T.Ord.total g.met.T.Ord.matches_eq g.met.T.Hash.respects_eq c.args.vec c.iter.ensures.ascends)
+
+pub invariant_of-result : goal.invariant_of-result
+invariant_of-result g c =
+    let (it, becomes, (xs, put, drained)) = c.in-Ok-extend.ensures.entries in
+    let made = extended g.T.PartialEq.eq g.T.Hash.hash_input it c.args.vec xs c.in-Ok.inner.entries c.extend.new.self.entries becomes.0 becomes.1 drained c.in-Ok.ensures.entries put in
+    Ascends-from_strictly g.T.Ord.cmp g.met.T.Ord.total c.extend.new.self.entries
+    (subst (AscendsStrictly g.T.Ord.cmp) (sym made) (insert_all-strictly g.met.T.Ord.total g.met.T.Ord.matches_eq g.met.T.Hash.respects_eq c.args.vec c.iter.ensures.ascends))

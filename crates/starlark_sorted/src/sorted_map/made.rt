@@ -1,0 +1,89 @@
+//! `SortedMap`s made of other maps, of an iterator's items, and of clones.
+ghost use Rattle.std.specs.Prelude.{◌≡◌, length, nat_lt, IsOk, IfOk, IfErr};
+ghost use Rattle.std.specs.Iterator.{IsFiniteIterable};
+ghost use Rattle.std.specs.List.{AllZip};
+ghost use Rattle.starlark_hash.specs.Sorting.{Ascends};
+ghost use Rattle.starlark_small.specs.Clone.{IsEqualClone};
+ghost use Rattle.starlark_small.specs.Collect.{own_entry};
+ghost use Rattle.starlark_small.specs.Index.{unindexed};
+ghost use Rattle.starlark_small.specs.Map.{KeepsMemory};
+ghost use Rattle.starlark_vec2.specs.Collect.{IsLawfulClone};
+ghost use Rattle.starlark_vecmap.specs.Clone.{IsEntryClone};
+ghost use Rattle.starlark_sorted.specs.Sorted.{CollectsSorted, IsSortedOf};
+
+use super::SortedMap;
+use starlark_sets::OrderedMap;
+use starlark_small::SmallMap;
+use std::alloc::{AllocError, Global};
+use std::hash::Hash;
+
+impl<K: Ord + Hash, V> SortedMap<K, V> {
+    /// The entries of the map, sorted by key; those with equal keys keep their order. Where the keys ascend already it
+    /// asks for no memory. Where memory is refused, the map is handed back with its entries as they were.
+    pub fn from_ordered_map(map: OrderedMap<K, V>) -> Result<Self, OrderedMap<K, V>>
+        ensures sorted { IfOk result (IsSortedOf K.cmp map) }
+        ensures handed_back { IfErr result (λ source. source.entries ≡ map.entries) }
+        ensures kept { IfErr result (KeepsMemory map) }
+        ensures succeeds { Ascends K.cmp map.entries → IsOk result }
+    {
+        let mut map = map;
+        match map.sort_keys() {
+            Ok(()) => Ok(SortedMap { map }),
+            Err(_) => Err(map),
+        }
+    }
+
+    /// As `from_ordered_map`, of a `SmallMap`.
+    #[tactic(auto, using(crate::proofs::Ascending::sorted_ascends))]
+    pub fn from_small_map(map: SmallMap<K, V>) -> Result<Self, SmallMap<K, V>>
+        ensures sorted { IfOk result (IsSortedOf K.cmp map) }
+        ensures handed_back { IfErr result (λ source. source.entries ≡ map.entries) }
+        ensures kept { IfErr result (KeepsMemory map) }
+        ensures succeeds { Ascends K.cmp map.entries → IsOk result }
+    {
+        let mut source = map;
+        match source.sort_keys() {
+            Ok(()) => Ok(SortedMap {
+                map: OrderedMap::from(source),
+            }),
+            Err(_) => Err(source),
+        }
+    }
+}
+
+impl<K: Ord + Hash + Drop, V: Drop> SortedMap<K, V> {
+    /// The items, inserted into an empty map in their order, each under its key's own hash, and then sorted by key. Where
+    /// memory is refused, nothing is made and the items are dropped.
+    pub fn from_iter<I: IntoIterator<Item = (K, V)>>(
+        alloc: Global,
+        iter: I,
+    ) -> Result<Self, AllocError>
+        requires { IsFiniteIterable I.into_iter_gives I.IntoIter.can_next I.IntoIter.remaining iter }
+        ensures map { IfOk result (CollectsSorted K.eq K.cmp (own_entry K.hash_input) I.IntoIter.next_gives I.into_iter_gives I.IntoIter.remaining iter) }
+    {
+        let map = OrderedMap::from_iter(alloc, iter)?;
+        match SortedMap::from_ordered_map(map) {
+            Ok(sorted) => Ok(sorted),
+            Err(_) => Err(AllocError),
+        }
+    }
+}
+
+impl<K: Ord + Hash + Clone, V: Clone> SortedMap<K, V> {
+    /// A map of clones of the entries under the same hashes, in their order, whose capacity is their number. It has an
+    /// index only where the list is too long to do without. Where memory is refused, also to the clone of a key or a
+    /// value, nothing is made. Without entries no memory is needed.
+    pub fn clone(&self) -> Result<Self, AllocError>
+        // A clone of a key is equal to it.
+        requires { IsEqualClone K.eq K.is_clone }
+        ensures entries { IfOk result (λ map. AllZip (IsEntryClone K.is_clone V.is_clone) self.now.entries map.entries) }
+        ensures same { IfOk result (λ map. IsLawfulClone K.is_clone → IsLawfulClone V.is_clone → map.entries ≡ self.now.entries) }
+        ensures capacity { IfOk result (λ map. map.capacity ≡ length self.now.entries) }
+        ensures indexed { IfOk result (λ map. map.indexed ≡ nat_lt unindexed (length self.now.entries)) }
+        ensures succeeds { length self.now.entries ≡ 0 → IsOk result }
+    {
+        Ok(SortedMap {
+            map: self.map.clone()?,
+        })
+    }
+}

@@ -1,0 +1,43 @@
+//! What a `SortedMap` has: entries by key under its own hash.
+ghost use Rattle.std.specs.Prelude.{◌≡◌, ◌==◌, length, is_some};
+ghost use Rattle.std.specs.Option.{option_copied};
+ghost use Rattle.starlark_hash.specs.Entries.{value_at};
+ghost use Rattle.starlark_small.specs.Map.{own_match};
+
+use super::SortedMap;
+use starlark_hash::Equivalent;
+use std::hash::Hash;
+
+impl<K: Ord + Hash, V> SortedMap<K, V> {
+    /// How many entries there are.
+    #[inline]
+    pub fn len(&self) -> usize
+        ensures { result ≡ length self.now.entries }
+    {
+        self.map.len()
+    }
+
+    /// Whether there are no entries.
+    #[inline]
+    pub fn is_empty(&self) -> bool
+        ensures { result ≡ (length self.now.entries == 0) }
+    {
+        self.map.is_empty()
+    }
+
+    /// The value under the query's own hash whose key the query is equivalent to.
+    #[inline]
+    pub fn get<Q: Equivalent<K> + Hash>(&self, key: &Q) -> Option<&V>
+        ensures { option_copied result ≡ value_at self.now.entries (own_match Q.equivalent Q.hash_input self.now.entries key.now) }
+    {
+        self.map.get(key)
+    }
+
+    /// Whether there is an entry under the query's own hash whose key the query is equivalent to.
+    #[inline]
+    pub fn contains_key<Q: Equivalent<K> + Hash>(&self, key: &Q) -> bool
+        ensures { result ≡ is_some (own_match Q.equivalent Q.hash_input self.now.entries key.now) }
+    {
+        self.map.contains_key(key)
+    }
+}

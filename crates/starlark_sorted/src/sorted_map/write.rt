@@ -1,0 +1,66 @@
+//! Values of a `SortedMap` to be written. Keys and hashes stay.
+ghost use Rattle.std.specs.Prelude.{◌≡◌, ◌^◌, ◌<◌, length, map, None};
+ghost use Rattle.std.specs.Borrow.{sem};
+ghost use Rattle.std.specs.Map.{values_of};
+ghost use Rattle.std.specs.Option.{option_copied_mut, IfNone};
+ghost use Rattle.starlark_hash.specs.Entries.{entry_value, pair_of, value_at};
+ghost use Rattle.starlark_small.specs.Map.{own_match};
+ghost use Rattle.starlark_sorted.specs.Lending.{lends_found, values_follow};
+
+use super::SortedMap;
+use starlark_hash::Equivalent;
+use starlark_small::{IterMut, ValuesMut};
+use std::hash::Hash;
+
+impl<K: Ord + Hash, V> SortedMap<K, V> {
+    /// The keys and values in order, to write the values. The map ends with what is left in them; keys, hashes, order,
+    /// room, capacity and index stay.
+    #[inline]
+    pub fn iter_mut(&mut self) -> IterMut<'_, K, V>
+        ensures* writes_back { sem 𝓛 (values_follow K.row V.row K.cmp K.eq K.partial_cmp K.hash_input self.entry result.1) }
+        ensures pairs { result.0 ≡ map pair_of self.old.entries }
+        ensures fits { length self.old.entries < 2 ^ 64 }
+    {
+        self.map.iter_mut()
+    }
+
+    /// The values in the order of their keys, to write them. The map ends with what is left in them; keys, hashes, order,
+    /// room, capacity and index stay.
+    #[tactic(auto, using(starlark_vecmap::proofs::Written::written))]
+    #[inline]
+    pub fn values_mut(&mut self) -> ValuesMut<'_, K, V>
+        ensures* writes_back { sem 𝓛 (values_follow K.row V.row K.cmp K.eq K.partial_cmp K.hash_input self.entry result.1) }
+        ensures values { values_of result.0 ≡ map entry_value self.old.entries }
+        ensures fits { length self.old.entries < 2 ^ 64 }
+    {
+        ValuesMut::of(self.iter_mut())
+    }
+
+    /// The value under the query's own hash whose key the query is equivalent to, to be written. The map ends with what
+    /// is left in it, and all else stays.
+    #[inline]
+    pub fn get_mut<Q: Equivalent<K> + Hash>(&mut self, key: &Q) -> Option<&mut V>
+        ensures* writes_back { sem 𝓛 (lends_found K.row V.row K.cmp K.eq K.partial_cmp K.hash_input self.entry (own_match Q.equivalent Q.hash_input self.old.entries key.now) result) }
+        ensures value { option_copied_mut result ≡ value_at self.old.entries (own_match Q.equivalent Q.hash_input self.old.entries key.now) }
+        ensures absent { IfNone result (own_match Q.equivalent Q.hash_input self.old.entries key.now ≡ None) }
+    {
+        self.map.get_mut(key)
+    }
+}
+
+impl<'a, K: Ord + Hash, V> IntoIterator for &'a mut SortedMap<K, V> {
+    type Item = (&'a K, &'a mut V);
+
+    type IntoIter = IterMut<'a, K, V>;
+
+    ghost into_iter_gives = { λ m rest. (rest.0 ≡ map pair_of m.now.entries) × (length m.now.entries < 2 ^ 64) };
+
+    /// The keys and values in order, to write the values, as `iter_mut` gives them.
+    #[inline]
+    fn into_iter(self) -> IterMut<'a, K, V>
+        ensures* writes_back { sem 𝓛 (values_follow K.row V.row K.cmp K.eq K.partial_cmp K.hash_input self.entry result.1) }
+        ensures into_iter_gives { (result.0 ≡ map pair_of self.old.entries) × (length self.old.entries < 2 ^ 64) }
+    {
+        self.iter_mut()
+    }
+}

@@ -1,0 +1,51 @@
+//! A set whose elements ascend. It alone sees the set inside.
+ghost use Rattle.std.specs.Prelude.{◌≡◌, [], false};
+ghost use Rattle.starlark_hash.specs.Sorting.{Ascends};
+
+mod compare;
+mod made;
+mod read;
+mod walk;
+
+use starlark_sets::OrderedSet;
+use std::alloc::Global;
+use std::hash::Hash;
+use std::marker::Model;
+
+/// An `OrderedSet` whose elements ascend: strictly, where each stands under its own hash.
+#[derive(Debug, Drop)]
+pub struct SortedSet<T: Ord + Hash> {
+    inner: OrderedSet<T>,
+}
+
+impl<T: Ord + Hash> Model for SortedSet<T> {
+    ghost use Rattle.starlark_hash.specs.Sorting.{Ascends};
+    ghost use Rattle.starlark_sets.specs.Set.{Set};
+
+    ghost Value = { Set T };
+
+    ghost view = { λ s. s.inner };
+
+    ghost invariant = { λ s. Ascends T.cmp s.inner.entries };
+}
+
+impl<T: Ord + Hash> SortedSet<T> {
+    /// An empty set, which asks for no memory.
+    #[inline]
+    pub fn new(alloc: Global) -> Self
+        ensures { result ≡ record { entries = []; room = 0; capacity = 0; indexed = false } }
+    {
+        SortedSet {
+            inner: OrderedSet::new(alloc),
+        }
+    }
+
+    /// The elements of a set that ascends already.
+    #[inline]
+    pub fn new_unchecked(inner: OrderedSet<T>) -> Self
+        requires ascends { Ascends T.cmp inner.entries }
+        ensures { result ≡ inner }
+    {
+        SortedSet { inner }
+    }
+}

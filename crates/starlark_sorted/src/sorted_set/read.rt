@@ -1,0 +1,52 @@
+//! What a `SortedSet` has: elements under their own hashes, and by place.
+ghost use Rattle.std.specs.Prelude.{◌≡◌, ◌==◌, slice_get, length, is_some};
+ghost use Rattle.std.specs.Option.{option_copied, option_map};
+ghost use Rattle.starlark_hash.specs.Entries.{entry_key};
+ghost use Rattle.starlark_small.specs.Map.{own_match};
+ghost use Rattle.starlark_sets.specs.Set.{element_at};
+
+use super::SortedSet;
+use starlark_hash::Equivalent;
+use std::hash::Hash;
+
+impl<T: Ord + Hash> SortedSet<T> {
+    /// How many elements there are.
+    #[inline]
+    pub fn len(&self) -> usize
+        ensures { result ≡ length self.now.entries }
+    {
+        self.inner.len()
+    }
+
+    /// Whether there are no elements.
+    #[inline]
+    pub fn is_empty(&self) -> bool
+        ensures { result ≡ (length self.now.entries == 0) }
+    {
+        self.inner.is_empty()
+    }
+
+    /// The element under the query's own hash to which the query is equivalent.
+    #[inline]
+    pub fn get<Q: Equivalent<T> + Hash>(&self, value: &Q) -> Option<&T>
+        ensures { option_copied result ≡ element_at self.now (own_match Q.equivalent Q.hash_input self.now.entries value.now) }
+    {
+        self.inner.get(value)
+    }
+
+    /// Whether there is an element under the query's own hash to which the query is equivalent.
+    #[inline]
+    pub fn contains<Q: Equivalent<T> + Hash>(&self, value: &Q) -> bool
+        ensures { result ≡ is_some (own_match Q.equivalent Q.hash_input self.now.entries value.now) }
+    {
+        self.inner.contains(value)
+    }
+
+    /// The element at a place.
+    #[inline]
+    pub fn get_index(&self, index: usize) -> Option<&T>
+        ensures { option_copied result ≡ option_map entry_key (slice_get self.now.entries index) }
+    {
+        self.inner.get_index(index)
+    }
+}

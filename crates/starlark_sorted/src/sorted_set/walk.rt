@@ -1,0 +1,65 @@
+//! The walks of a `SortedSet`, in ascending order.
+ghost use Rattle.std.specs.Prelude.{◌≡◌, ◌^◌, ◌<◌, length, map};
+ghost use Rattle.std.specs.Map.Iter.{ShowsInOrder, ShowsInReverse, GivesInOrder, GivesInReverse, deref};
+ghost use Rattle.starlark_hash.specs.Entries.{IsSingle, entry_key};
+ghost use Rattle.starlark_hash.specs.Sorting.{Ascends};
+ghost use Rattle.starlark_sets.specs.Union.{ShowsUnion, union};
+ghost use Rattle.starlark_sorted.specs.Sorted.{AreOwn, AscendsStrictly};
+
+use super::SortedSet;
+use starlark_sets::Union;
+use starlark_sets::ordered_set::{IntoIter, Iter};
+use std::hash::Hash;
+
+impl<T: Ord + Hash> SortedSet<T> {
+    /// The elements in order.
+    #[inline]
+    pub fn iter(&self) -> Iter<'_, T>
+        ensures elements { result ≡ map entry_key self.now.entries }
+        ensures ascends { Ascends T.cmp self.now.entries }
+        ensures fits { length self.now.entries < 2 ^ 64 }
+        ensures runs { ShowsInOrder (deref {X = T}) }
+        ensures runs_back { ShowsInReverse (deref {X = T}) }
+    {
+        self.inner.iter()
+    }
+
+    /// The elements of this set, and then those of the other that this one lacks, each looked for under its stored hash.
+    /// The elements of either set ascend strictly, where each stands under its own hash.
+    pub fn union<'a>(&'a self, other: &'a Self) -> Union<'a, T>
+        ensures left { result ≡ record { first = self.now.entries; second = record { left = other.now.entries; other = self.now.entries } } }
+        ensures single { IsSingle T.eq (union T.eq self.now.entries other.now.entries) }
+        ensures strictly { AreOwn T.hash_input self.now.entries → AscendsStrictly T.cmp self.now.entries }
+        ensures runs { ShowsUnion T.eq }
+    {
+        self.inner.union(&other.inner)
+    }
+}
+
+impl<T: Ord + Hash + Drop> IntoIterator for SortedSet<T> {
+    type Item = T;
+
+    type IntoIter = IntoIter<T>;
+
+    ghost into_iter_gives = { λ s rest. (rest ≡ map entry_key s.entries) × Ascends T.cmp s.entries × (length s.entries < 2 ^ 64) × GivesInOrder T × GivesInReverse T };
+
+    /// The elements by value, in order.
+    #[inline]
+    fn into_iter(self) -> IntoIter<T> {
+        self.inner.into_iter()
+    }
+}
+
+impl<'a, T: Ord + Hash> IntoIterator for &'a SortedSet<T> {
+    type Item = &'a T;
+
+    type IntoIter = Iter<'a, T>;
+
+    ghost into_iter_gives = { λ s rest. (rest ≡ map entry_key s.now.entries) × Ascends T.cmp s.now.entries × (length s.now.entries < 2 ^ 64) × ShowsInOrder (deref {X = T}) × ShowsInReverse (deref {X = T}) };
+
+    /// The elements in order.
+    #[inline]
+    fn into_iter(self) -> Iter<'a, T> {
+        self.iter()
+    }
+}
