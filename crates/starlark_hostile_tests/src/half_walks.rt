@@ -44,6 +44,14 @@ fn leave_at_both_ends(map: &Numbers) -> bool {
         && values.next_back() == Some(&40)
 }
 
+// Leaves each walk that writes after an item of each end.
+fn leave_writing_at_both_ends(map: &mut Numbers) -> bool {
+    let mut pairs = map.iter_mut();
+    let written = pairs.next().is_some() && pairs.next_back().is_some();
+    let mut values = map.values_mut();
+    written && values.next().is_some() && values.next_back().is_some()
+}
+
 #[test]
 fn leaves_walks(rt: HostRuntime) -> Result<(), Fail> {
     let mut map = tens(rt.alloc(), 5)?;
@@ -53,6 +61,7 @@ fn leaves_walks(rt: HostRuntime) -> Result<(), Fail> {
         holds(&rt, shows_below(&map, 5));
     }
     holds(&rt, leave_at_both_ends(&map));
+    holds(&rt, leave_writing_at_both_ends(&mut map));
     same(&rt, put(&mut map, 5, 50), Some(None));
     holds(&rt, shows_below(&map, 6));
     Ok(())
@@ -67,7 +76,40 @@ fn leaves_walks_by_value(rt: HostRuntime) -> Result<(), Fail> {
         same(&rt, tens(alloc, 5)?.into_keys().take(count).count(), count);
         let values = tens(alloc, 5)?.into_values();
         same(&rt, values.take(count).count(), count);
+        let entries = tens(alloc, 5)?.into_iter_hashed();
+        same(&rt, entries.take(count).count(), count);
     }
+    Ok(())
+}
+
+// Leaves a walk by value after an item of each end.
+fn leaves_pairs(map: Numbers) -> bool {
+    let mut pairs = map.into_iter();
+    pairs.next() == Some((0, 0)) && pairs.next_back() == Some((4, 40))
+}
+
+fn leaves_entries(map: Numbers) -> bool {
+    let mut entries = map.into_iter_hashed();
+    entries.next().is_some() && entries.next_back().is_some()
+}
+
+fn leaves_keys(map: Numbers) -> bool {
+    let mut keys = map.into_keys();
+    keys.next() == Some(0) && keys.next_back() == Some(4)
+}
+
+fn leaves_values(map: Numbers) -> bool {
+    let mut values = map.into_values();
+    values.next() == Some(0) && values.next_back() == Some(40)
+}
+
+#[test]
+fn leaves_walks_by_value_at_both_ends(rt: HostRuntime) -> Result<(), Fail> {
+    let alloc = rt.alloc();
+    holds(&rt, leaves_pairs(tens(alloc, 5)?));
+    holds(&rt, leaves_entries(tens(alloc, 5)?));
+    holds(&rt, leaves_keys(tens(alloc, 5)?));
+    holds(&rt, leaves_values(tens(alloc, 5)?));
     Ok(())
 }
 

@@ -12,6 +12,8 @@ mod given;
 #[cfg(test)]
 mod half_walks;
 #[cfg(test)]
+mod lower_walks;
+#[cfg(test)]
 mod other_walks;
 #[cfg(test)]
 mod raw_searches;

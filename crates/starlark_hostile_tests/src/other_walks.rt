@@ -80,6 +80,8 @@ fn leaves_walks_of_sets(rt: HostRuntime) -> Result<(), Fail> {
             five_elements(alloc)?.into_iter().take(count).count(),
             count,
         );
+        let entries = five_elements(alloc)?.into_iter_hashed();
+        same(&rt, entries.take(count).count(), count);
     }
     holds(&rt, leaves_elements(&set));
     same(&rt, set.pop(), Some(4));
@@ -105,6 +107,14 @@ fn leave_rows(map: &mut OrderedMap<u32, u32>, count: usize) {
     let _ = map.values_mut().take(count).count();
 }
 
+// Leaves walks after an item of each end.
+fn leaves_rows(map: &mut OrderedMap<u32, u32>) -> bool {
+    let mut keys = map.keys();
+    let shown = keys.next() == Some(&0) && keys.next_back() == Some(&4);
+    let mut rows = map.iter_mut();
+    shown && rows.next().is_some() && rows.next_back().is_some()
+}
+
 #[test]
 fn leaves_walks_of_ordered_maps(rt: HostRuntime) -> Result<(), Fail> {
     let alloc = rt.alloc();
@@ -117,8 +127,15 @@ fn leaves_walks_of_ordered_maps(rt: HostRuntime) -> Result<(), Fail> {
             count,
         );
     }
+    holds(&rt, leaves_rows(&mut map));
     holds(&rt, map == five_rows(alloc)?);
     Ok(())
+}
+
+// Leaves a walk after an item of each end.
+fn leaves_ordered(set: &OrderedSet<u32>) -> bool {
+    let mut walk = set.iter();
+    walk.next() == Some(&3) && walk.next_back() == Some(&4)
 }
 
 #[test]
@@ -128,6 +145,7 @@ fn leaves_walks_of_ordered_sets(rt: HostRuntime) -> Result<(), Fail> {
     for count in [0, 1, 2] {
         same(&rt, set.iter().take(count).count(), count);
     }
+    holds(&rt, leaves_ordered(&set));
     same(&rt, set.len(), 2);
     same(&rt, set.into_iter().take(1).count(), 1);
     Ok(())

@@ -79,6 +79,7 @@ fn bad_lines(rt: HostRuntime) -> Result<(), Fail> {
         "put 1 a -0\n",
         "put 1 a +7\n",
         "put 1 a 9223372036854775808\n",
+        "put 1 a -9223372036854775809\n",
         "put 1  a 5\n",
         "put 1 a 5 \n",
         "put 01 a 5\n",

@@ -1,5 +1,5 @@
 -- The first place at which a list passes a test, as the mask of its first block shows it.
-use Rattle.std.proofs.Common.{◌≡◌, ◌≢◌, ℕ, suc, ◌+◌, ◌*◌, ◌<◌, ◌≤◌, Bool, true, false, not, cond, List, [], ◌∷◌, ◌++◌, Some, None, length, map, arith, rules, ap, sym, ◌∙◌}
+use Rattle.std.proofs.Common.{◌≡◌, ◌≢◌, ℕ, zero, suc, ◌+◌, ◌*◌, ◌<◌, ◌≤◌, Bool, true, false, not, cond, List, [], ◌∷◌, ◌++◌, Some, None, length, drop, map, arith, rules, ap, sym, ◌∙◌}
 use Rattle.std.proofs.lemmas.List.Folds.{prefix_len-append}
 use Rattle.std.proofs.lemmas.Simd.{leading_from_mask_l, trailing_mask_l}
 use Rattle.std.specs.Int.Count.{count_trailing_zeros}
@@ -10,6 +10,10 @@ use Rattle.std.specs.Simd.Lanes.{mask_l}
 passes_by : (b : Bool) (m r l : ℕ) → 0 < cond b 1 0 + 2 * m → (0 < m → r < l) → cond (not b) (1 + r) 0 < suc l
 passes_by true m r l some f = omega arith
 passes_by false m r l some f = omega (arith, f (omega arith))
+
+from_by : (b : Bool) (n r l : ℕ) → suc n ≤ cond (not b) (1 + l) 0 → (n ≤ l → n + r ≡ l) → suc n + r ≡ cond (not b) (1 + l) 0
+from_by true n r l before f = absurd (omega (arith, before))
+from_by false n r l before f = omega (arith, f (omega (arith, before)))
 
 seam_past : (n k r : ℕ) → n ≡ k → cond (nat_eq n k) (k + r) n ≡ k + r
 seam_past n k r is = search rules
@@ -34,6 +38,12 @@ module _ {X : Type 0} (p : X → Bool) where
   some_passes : (xs : List X) → 0 < mask_l (map p xs) → first xs < length xs
   some_passes [] some = absurd (omega arith)
   some_passes (x ∷ xs) some = passes_by (p x) (mask_l (map p xs)) (first xs) (length xs) some (some_passes xs)
+
+  -- a search may begin anywhere before the first place
+  pub first_from : (xs : List X) (n : ℕ) → n ≤ first xs → n + first (drop n xs) ≡ first xs
+  first_from xs zero before = omega arith
+  first_from [] (suc n) before = absurd (omega (arith, before))
+  first_from (x ∷ xs) (suc n) before = from_by (p x) n (first (drop n xs)) (first xs) before (first_from xs n)
 
   pub position_at : (xs : List X) (n : ℕ) → n ≡ first xs → n < length xs → Some n ≡ position p xs
   position_at xs n is less = search rules

@@ -1,10 +1,11 @@
 -- The mask of a list: a bit for each place, set where its item passes a test.
-use Rattle.std.proofs.Common.{◌≡◌, ℕ, ◌+◌, ◌*◌, ◌%◌, ◌^◌, ◌<◌, ◌≤◌, Bool, List, [], ◌∷◌, ◌++◌, cond, length, take, get_or, map, ap, sym, ◌∙◌, arith}
-use Rattle.std.proofs.Math.Nat.{mod-eq_of_lt, pow-suc}
+use Rattle.std.proofs.Common.{◌≡◌, ℕ, ◌+◌, ◌-◌, ◌*◌, ◌/◌, ◌%◌, ◌^◌, ◌<◌, ◌≤◌, Bool, List, [], ◌∷◌, ◌++◌, cond, length, take, drop, get_or, map, ap, subst, sym, ◌∙◌, arith}
+use Rattle.std.proofs.Math.Nat.{add_comm, mod-eq_of_lt, pow-suc}
 use Rattle.std.proofs.Math.Pow.{pow_mono}
 use Rattle.std.proofs.Math.Seq.{take-add}
-use Rattle.std.proofs.lemmas.List.{drop_more, length-map, length-take-le}
-use Rattle.std.proofs.lemmas.Simd.{mask_l-lt}
+use Rattle.std.proofs.lemmas.List.{drop-drop, drop_more, length-drop, length-map, length-take-le, take-append-drop, take_all}
+use Rattle.std.proofs.lemmas.Nat.{div-mul-add}
+use Rattle.std.proofs.lemmas.Simd.{length-chunk, mask_l-lt}
 use Rattle.std.specs.Simd.Lanes.{mask_l, chunk}
 
 one_bit_more : (b m a e t : ℕ) → m ≡ a + e * t → b + 2 * m ≡ b + 2 * a + e * (t * 2)
@@ -54,3 +55,49 @@ module _ {X : Type 0} (p : X → Bool) where
 
       pub mask_more_lt : before + next * 2 ^ i % 2 ^ 64 < 2 ^ 64
       mask_more_lt = omega (arith, mask_more, mask-lt)
+
+  mask-take_lt : (xs : List X) (n : ℕ) → n ≤ length xs → mask (take n xs) < 2 ^ n
+  mask-take_lt xs n within =
+      subst (λ k. mask (take n xs) < 2 ^ k) (length-map (take n xs) p ∙ length-take-le n xs within) (mask_l-lt (map p (take n xs)))
+
+  mask-parts : (xs : List X) (n : ℕ) → n ≤ length xs → mask xs ≡ mask (drop n xs) * 2 ^ n + mask (take n xs)
+  mask-parts xs n within =
+      ap mask (sym (take-append-drop n xs)) ∙ mask-append (take n xs) (drop n xs)
+      ∙ ap (λ k. mask (take n xs) + mask (drop n xs) * 2 ^ k) (length-take-le n xs within)
+      ∙ add_comm (mask (take n xs)) (mask (drop n xs) * 2 ^ n)
+
+  -- without its lowest bits a mask is that of the places behind them
+  mask-drop : (xs : List X) (n : ℕ) → n ≤ length xs → mask xs / 2 ^ n ≡ mask (drop n xs)
+  mask-drop xs n within =
+      ap (λ m. m / 2 ^ n) (mask-parts xs n within)
+      ∙ div-mul-add (mask (drop n xs)) (2 ^ n) (mask (take n xs)) (mask-take_lt xs n within)
+
+  -- the last four places, without those of them that are among the first i
+  module _ (xs : List X) (i last : ℕ) (end : last + 4 ≡ length xs) (from : last ≤ i) (within : i ≤ length xs) (short : length xs ≤ 32) where
+    last_places : chunk last 4 xs ≡ drop last xs
+    last_places = take_all 4 (drop last xs) (omega (arith, length-drop last xs, end))
+
+    new_places : chunk i (length xs - i) xs ≡ drop (i - last) (chunk last 4 xs)
+    new_places =
+        take_all (length xs - i) (drop i xs) (omega (arith, length-drop i xs))
+        ∙ ap (λ k. drop k xs) (omega (arith, from)) ∙ sym (drop-drop (i - last) last xs)
+        ∙ ap (drop (i - last)) (sym last_places)
+
+    module _ (before four : ℕ) (is : before ≡ mask (take i xs)) (are : four ≡ mask (chunk last 4 xs)) where
+      new_bits : four / 2 ^ (i - last) ≡ mask (chunk i (length xs - i) xs)
+      new_bits =
+          ap (λ m. m / 2 ^ (i - last)) are
+          ∙ mask-drop (chunk last 4 xs) (i - last) (omega (arith, length-chunk last 4 xs (omega (arith, end)), from, within, end))
+          ∙ ap mask (sym new_places)
+
+      whole : take (i + (length xs - i)) xs ≡ xs
+      whole = take_all (i + (length xs - i)) xs (omega arith)
+
+      pub mask_last : before + four / 2 ^ (i - last) * 2 ^ i % 2 ^ 64 ≡ mask xs
+      mask_last =
+          mask_more xs i (length xs - i) (omega (arith, within)) (omega (arith, within, short)) before (four / 2 ^ (i - last)) is new_bits
+          ∙ ap mask whole
+
+      pub mask_last_lt : before + four / 2 ^ (i - last) * 2 ^ i % 2 ^ 64 < 2 ^ 64
+      mask_last_lt =
+          mask_more_lt xs i (length xs - i) (omega (arith, within)) (omega (arith, within, short)) before (four / 2 ^ (i - last)) is new_bits

@@ -1,12 +1,15 @@
 //! The search of a hash in an array of hashes.
 ghost use Rattle.std.specs.Prelude.{◌≡◌, ◌+◌, ◌==◌, ◌<◌, ◌≤◌, length, map, drop, position, IfSome};
 ghost use Rattle.std.specs.Option.{option_map};
-ghost use Rattle.std.specs.Simd.Lanes.{mask_l};
+ghost use Rattle.std.specs.Simd.Lanes.{mask_l, chunk};
 
 use std::simd::prelude::*;
 
 // How many hashes one mask covers.
 const BLOCK: usize = 32;
+
+// How many hashes are compared at once.
+const CHUNK: usize = 4;
 
 /// The least place at which the array has this hash.
 #[inline]
@@ -25,30 +28,53 @@ pub fn find_hash_in_array(array: &[u32], hash: u32) -> Option<usize>
         passed += BLOCK;
         rest = tail;
     }
-    let mask = places_of(rest, hash);
+    let start = passed.min(array.len().saturating_sub(CHUNK));
+    let mask = places_of(&array[start..], hash);
     if mask == 0 {
         return None;
     }
-    Some(passed + mask.trailing_zeros() as usize)
+    Some(start + mask.trailing_zeros() as usize)
 }
 
-// A bit for each place of a block, set where it has this hash. No branch depends on the place.
+// A bit for each place of a block, set where it has this hash. No branch depends on the place. The last chunk ends where the
+// block does, and may begin in the one before.
 #[inline]
 fn places_of(block: &[u32], hash: u32) -> u64
     requires { length block.now ≤ 32 }
     ensures { result ≡ mask_l (map (λ h. h == hash) block.now) }
 {
-    let sought = u32x4::splat(hash);
-    let mut mask = 0_u64;
-    let mut i = 0;
-    while block.len() - i >= 4 {
-        let lanes = u32x4::from_slice(&block[i..]);
-        mask += lanes.simd_eq(sought).to_bitmask() << i;
-        i += 4;
+    if block.len() < CHUNK {
+        return places_of_few(block, hash);
     }
-    while i < block.len() {
-        mask += u64::from(block[i] == hash) << i;
-        i += 1;
+    let mut mask = 0;
+    let mut i = 0;
+    while block.len() - i > CHUNK {
+        mask += places_in_chunk(block, i, hash) << i;
+        i += CHUNK;
+    }
+    let last = block.len() - CHUNK;
+    mask + ((places_in_chunk(block, last, hash) >> (i - last)) << i)
+}
+
+// The same of the chunk that begins at a place.
+#[inline]
+fn places_in_chunk(block: &[u32], start: usize, hash: u32) -> u64
+    requires { start + 4 ≤ length block.now }
+    ensures { result ≡ mask_l (map (λ h. h == hash) (chunk start 4 block.now)) }
+{
+    let chunk = u32x4::from_slice(&block[start..]);
+    chunk.simd_eq(u32x4::splat(hash)).to_bitmask()
+}
+
+// The same of a block that is shorter than a chunk.
+#[inline]
+fn places_of_few(block: &[u32], hash: u32) -> u64
+    requires { length block.now < 4 }
+    ensures { result ≡ mask_l (map (λ h. h == hash) block.now) }
+{
+    let mut mask = 0;
+    for (i, found) in block.iter().enumerate() {
+        mask += u64::from(*found == hash) << i;
     }
     mask
 }

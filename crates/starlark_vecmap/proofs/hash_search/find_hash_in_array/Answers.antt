@@ -1,12 +1,12 @@
 -- What is left of the array is a block and the tail behind it, so the block's mask shows the first place.
-use Rattle.std.proofs.Common.{◌≡◌, ◌≢◌, ℕ, ◌+◌, ◌<◌, ◌≤◌, ◌++◌, Bool, List, [], Some, None, length, take, drop, map, arith, ap, sym, ◌∙◌}
-use Rattle.std.proofs.lemmas.List.{take-append-drop, append-nil, length-append}
+use Rattle.std.proofs.Common.{◌≡◌, ◌≢◌, ℕ, ◌+◌, ◌-◌, ◌<◌, ◌≤◌, ◌++◌, Bool, List, [], Some, None, length, take, drop, map, arith, ap, sym, ◌∙◌}
+use Rattle.std.proofs.lemmas.List.{take-append-drop, take_all, append-nil, length-append, length-drop}
 use Rattle.std.proofs.lemmas.Simd.{leading_from_mask_l}
 use Rattle.std.specs.Int.Count.{count_trailing_zeros}
 use Rattle.std.specs.List.{position_or_len}
 use Rattle.std.specs.Prelude.{nat_eq, position}
 use Rattle.std.specs.Simd.Lanes.{mask_l}
-use Rattle.starlark_vecmap.proofs.Blocks.{past_block, lowest_is, lowest_lt, position_at, position_nowhere}
+use Rattle.starlark_vecmap.proofs.Blocks.{first_from, past_block, lowest_is, lowest_lt, position_at, position_nowhere}
 use Rattle.starlark_vecmap.proofs.hash_search.find_hash_in_array.Goals as goal
 
 joined : (rest block tail : List ℕ) → block ≡ take 32 rest → tail ≡ drop 32 rest → rest ≡ block ++ tail
@@ -42,6 +42,20 @@ module _ (hash : ℕ) (array rest : List ℕ) (passed : ℕ) where
             omega (arith, place, ap first both, lowest_is has block tail mask few is some)
             in position_at has array (passed + count_trailing_zeros 64 mask) here within
 
+-- the last block may begin among the hashes that were passed over
+module _ (hash : ℕ) (array rest : List ℕ) (passed start : ℕ) (early : start ≤ passed)
+    (place : passed + position_or_len (λ h. nat_eq h hash) rest ≡ position_or_len (λ h. nat_eq h hash) array) where
+  last_place : start + position_or_len (λ h. nat_eq h hash) (drop start array) ≡ position_or_len (λ h. nat_eq h hash) array
+  last_place = first_from (λ h. nat_eq h hash) array start (omega (arith, early, place))
+
+last_parted : (array : List ℕ) (start : ℕ) → start ≤ length array → start + length (drop start array) ≡ length array
+last_parted array start within = omega (arith, length-drop start array, within)
+
+last_mask : (hash : ℕ) (array : List ℕ) (start mask : ℕ) → mask ≡ mask_l (map (λ h. nat_eq h hash) (take (length array - start) (drop start array)))
+    → mask ≡ mask_l (map (λ h. nat_eq h hash) (drop start array))
+last_mask hash array start mask is =
+    is ∙ ap (λ xs. mask_l (map (λ h. nat_eq h hash) xs)) (take_all (length array - start) (drop start array) (omega (arith, length-drop start array)))
+
 pub returns-then-mask-ne0-clause-place : goal.returns-then-mask-ne0-clause-place
 returns-then-mask-ne0-clause-place c =
     let l = c.loop-rest in let s = c.split_at in let block = s.result.0.now in let tail = s.result.1.now in
@@ -71,18 +85,26 @@ loop-rest-preserved c =
 
 pub returns-then-mask-eq0-clause-place : goal.returns-then-mask-eq0-clause-place
 returns-then-mask-eq0-clause-place c =
-    let l = c.loop-rest in
-    nowhere c.args.hash c.args.array.now l.rest.now l.passed l.invariant.place l.invariant.parted
-    (sym c.places_of-mask-2.ensures ∙ c.if-mask-eq0.true)
+    let l = c.loop-rest in let array = c.args.array.now in let start = c.min-start.result in
+    let early : start ≤ l.passed = omega arith in
+    let within : start ≤ length array = omega arith in
+    nowhere c.args.hash array (drop start array) start (last_place c.args.hash array l.rest.now l.passed start early l.invariant.place)
+    (last_parted array start within) (sym (last_mask c.args.hash array start _ c.places_of-mask-2.ensures) ∙ c.if-mask-eq0.true)
 
 pub returns-clause-place : goal.returns-clause-place
 returns-clause-place c =
-    let l = c.loop-rest in let rest = l.rest.now in
-    found c.args.hash c.args.array.now rest l.passed l.invariant.place l.invariant.parted rest []
-    c.places_of-mask-2.result (sym (append-nil rest)) (omega arith) c.places_of-mask-2.ensures c.if-mask-eq0.false
+    let l = c.loop-rest in let array = c.args.array.now in let start = c.min-start.result in
+    let early : start ≤ l.passed = omega arith in
+    let within : start ≤ length array = omega arith in
+    found c.args.hash array (drop start array) start (last_place c.args.hash array l.rest.now l.passed start early l.invariant.place)
+    (last_parted array start within) (drop start array) [] c.places_of-mask-2.result (sym (append-nil (drop start array)))
+    (omega (arith, length-drop start array)) (last_mask c.args.hash array start _ c.places_of-mask-2.ensures) c.if-mask-eq0.false
 
 pub returns-clause-within : goal.returns-clause-within
 returns-clause-within c =
-    let l = c.loop-rest in let rest = l.rest.now in
-    within c.args.hash c.args.array.now rest l.passed l.invariant.place l.invariant.parted rest []
-    c.places_of-mask-2.result (sym (append-nil rest)) (omega arith) c.places_of-mask-2.ensures c.if-mask-eq0.false
+    let l = c.loop-rest in let array = c.args.array.now in let start = c.min-start.result in
+    let early : start ≤ l.passed = omega arith in
+    let within_start : start ≤ length array = omega arith in
+    within c.args.hash array (drop start array) start (last_place c.args.hash array l.rest.now l.passed start early l.invariant.place)
+    (last_parted array start within_start) (drop start array) [] c.places_of-mask-2.result (sym (append-nil (drop start array)))
+    (omega (arith, length-drop start array)) (last_mask c.args.hash array start _ c.places_of-mask-2.ensures) c.if-mask-eq0.false
