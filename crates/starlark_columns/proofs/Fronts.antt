@@ -14,19 +14,19 @@ module _ {X : Type 0} where
   abbrev pub row : List X → ℕ → List (Option X)
   row xs m = map Some xs ++ empties m
 
-  items_row : (xs : List X) (m : ℕ) → items_of (row xs m) ≡ xs
+  pub items_row : (xs : List X) (m : ℕ) → items_of (row xs m) ≡ xs
   items_row [] zero = refl
   items_row [] (suc m) = items_row [] m
   items_row (x ∷ xs) m = ap (λ l. x ∷ l) (items_row xs m)
 
-  row_count : (xs : List X) (m : ℕ) → length (row xs m) ≡ length xs + m
+  pub row_count : (xs : List X) (m : ℕ) → length (row xs m) ≡ length xs + m
   row_count xs m = omega (arith, length-append (map Some xs) (empties m), length-map xs Some, length-replicate {A = Option X} m None)
 
   items_back : (xs : List X) → items_of (map Some xs) ≡ xs
   items_back [] = refl
   items_back (x ∷ xs) = ap (λ l. x ∷ l) (items_back xs)
 
-  shape_row : (xs : List X) (m : ℕ) → map is_some (row xs m) ≡ replicate (length xs) true ++ replicate m false
+  pub shape_row : (xs : List X) (m : ℕ) → map is_some (row xs m) ≡ replicate (length xs) true ++ replicate m false
   shape_row [] zero = refl
   shape_row [] (suc m) = ap (λ l. false ∷ l) (shape_row [] m)
   shape_row (x ∷ xs) m = ap (λ l. true ∷ l) (shape_row xs m)
@@ -42,14 +42,14 @@ module _ {X : Type 0} where
   is_row cs xs n m e long =
       (subst (λ (ds : List (Option X)). IsFront ds n) (sym e) (subst (λ (k : ℕ). IsFront (row xs m) k) long (front_row xs m)), ap items_of e ∙ items_row xs m)
 
-  none_is : (cs : List (Option X)) (m : ℕ) → map is_some cs ≡ replicate m false → cs ≡ empties m
+  pub none_is : (cs : List (Option X)) (m : ℕ) → map is_some cs ≡ replicate m false → cs ≡ empties m
   none_is [] zero e = refl
   none_is [] (suc m) e = absurd (cc e)
   none_is (c ∷ cs) zero e = absurd (cc e)
   none_is (None ∷ cs) (suc m) e = ap (λ l. None ∷ l) (none_is cs m (cc e))
   none_is (Some x ∷ cs) (suc m) e = absurd (cc e)
 
-  shape_is : (cs : List (Option X)) (n m : ℕ) → map is_some cs ≡ replicate n true ++ replicate m false → (xs : List X) × (cs ≡ row xs m) × (length xs ≡ n)
+  pub shape_is : (cs : List (Option X)) (n m : ℕ) → map is_some cs ≡ replicate n true ++ replicate m false → (xs : List X) × (cs ≡ row xs m) × (length xs ≡ n)
   shape_is cs zero m e = ([], none_is cs m e, refl)
   shape_is [] (suc n) m e = absurd (cc e)
   shape_is (None ∷ cs) (suc n) m e = absurd (cc e)
@@ -76,7 +76,7 @@ module _ {X : Type 0} where
   joined_row [] ys m = refl
   joined_row (b ∷ bs) ys m = ap (λ l. Some b ∷ l) (joined_row bs ys m)
 
-  split : (xs : List X) (i : ℕ) → i < length xs → (x : X) × (xs ≡ take i xs ++ x ∷ drop (suc i) xs) × (slice_get xs i ≡ Some x)
+  pub split : (xs : List X) (i : ℕ) → i < length xs → (x : X) × (xs ≡ take i xs ++ x ∷ drop (suc i) xs) × (slice_get xs i ≡ Some x)
   split [] i lt = absurd (omega (arith, lt))
   split (x ∷ xs) zero lt = (x, refl, refl)
   split (x ∷ xs) (suc i) lt = let r = split xs i (omega (arith, lt)) in (r.0, ap (λ l. x ∷ l) r.1, r.2)

@@ -5,3 +5,4 @@ mod Fields
 mod RowCalls
 mod Slotting
 pub mod Fronts
+pub mod Betweens

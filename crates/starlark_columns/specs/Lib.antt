@@ -4,5 +4,6 @@ pub mod Slotted
 pub mod Lends
 pub mod Claims
 pub mod Front
+pub mod Between
 pub mod ColumnLends
 pub mod formers

@@ -51,6 +51,16 @@ impl<T> Column<T> {
         self.slice_mut(0, len)
     }
 
+    /// The item at this index.
+    #[inline]
+    pub fn item(&self, len: usize, index: usize) -> &T
+        requires front { IsFront self.now len }
+        requires within { index < len }
+        ensures { slice_get (items_of self.now) index ≡ Some result.now }
+    {
+        self.get(index)
+    }
+
     /// The item at this index, to be written.
     #[inline]
     pub fn item_mut(&mut self, len: usize, index: usize) -> &mut T

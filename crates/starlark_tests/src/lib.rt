@@ -2,6 +2,8 @@
 #![tactic(auto)]
 
 #[cfg(test)]
+mod dropped_pairs;
+#[cfg(test)]
 mod given;
 #[cfg(test)]
 mod hashes;

@@ -8,6 +8,7 @@ pub mod PushLemmas
 pub mod Runs
 pub mod Sieving
 pub mod Sorting
+pub mod TwoColumns
 pub mod Values
 pub mod Vec2Open
 pub mod Walks

@@ -72,13 +72,6 @@ module _ {A B : Type 0} where
   slice_get-zip (z ∷ xs) (w ∷ ys) zero x y lt e f = λ j. Some (sym e j, sym f j)
   slice_get-zip (z ∷ xs) (w ∷ ys) (suc i) x y lt e f = slice_get-zip xs ys i x y (omega (arith, lt)) e f
 
-  -- where the first column has an item, the second does too, and they are the pair
-  pub slice_get-zip_some : (xs : List A) (ys : List B) (i : ℕ) (x : A) → length xs ≡ length ys → slice_get xs i ≡ Some x → (i < length ys) × ((y : B) → y ≡ get_or ys i y → slice_get (zip xs ys) i ≡ Some (x, y))
-  slice_get-zip_some [] ys i x e f = cc
-  slice_get-zip_some (z ∷ xs) [] i x e f = absurd (omega (arith, e))
-  slice_get-zip_some (z ∷ xs) (w ∷ ys) zero x e f = (omega arith, λ y g. let same : z ≡ x = cc in λ j. Some (same j, sym g j))
-  slice_get-zip_some (z ∷ xs) (w ∷ ys) (suc i) x e f = let rest = slice_get-zip_some xs ys i x (omega (arith, e)) f in (omega (arith, rest.0), rest.1)
-
   pub slice_get-zip_none : (xs : List A) (ys : List B) (i : ℕ) → slice_get xs i ≡ None → slice_get (zip xs ys) i ≡ None
   slice_get-zip_none [] ys i e = refl
   slice_get-zip_none (z ∷ xs) [] i e = refl
@@ -116,12 +109,6 @@ module _ {A B : Type 0} where
   zip-set (z ∷ xs) [] (suc i) x y = refl
   zip-set (z ∷ xs) (w ∷ ys) zero x y = refl
   zip-set (z ∷ xs) (w ∷ ys) (suc i) x y = ap (λ l. (z, w) ∷ l) (zip-set xs ys i x y)
-
--- the item at a place, from the form that an index gives
-pub slice_get_at : {X : Type 0} (xs : List X) (i : ℕ) (x : X) → i < length xs → x ≡ get_or xs i x → slice_get xs i ≡ Some x
-slice_get_at [] i x lt e = absurd (omega (arith, lt))
-slice_get_at (z ∷ xs) zero x lt e = ap Some (sym e)
-slice_get_at (z ∷ xs) (suc i) x lt e = slice_get_at xs i x (omega (arith, lt)) e
 
 and_shuffled : (a b c d : Bool) → ((a && b) && (c && d)) ≡ ((a && c) && (b && d))
 and_shuffled true true c d = refl

@@ -7,8 +7,7 @@ use mathlib.Core.Path.{◌≡◌, refl, sym, ap, ◌∙◌}
 use Prim.Native.Nat.{ℕ, zero, suc, ◌+◌, ◌<◌}
 use native.Mathlib.Omega.{arith}
 use mathlib.Core.List.{List, [], ◌∷◌, ◌++◌}
-use lib.ListN.{length, length-append, drop as drop_l}
-use lib.Seq.{take_at as take_all}
+use lib.ListN.{length, length-append}
 use seplogic.Ra.Ura.{Ura}
 use mir.Syntax.{Lifetime}
 use mir.Val.{Val, vptr, vstruct, vcons, vnil}
@@ -40,8 +39,10 @@ use denote.Struct.Struct.{Struct, within}
 use denote.Struct.Declared.{shape}
 use denote.Struct.Tuple.{Tuple, tuple_type, parts_loose}
 use borrow.Table.Elements.{at, cut_app, join_app}
-use Rattle.std.specs.Global.{Vec}
-use Rattle.std.specs.Vec.{with_items}
+use Rattle.std.specs.Prelude.{Option}
+use Rattle.starlark_columns.specs.Places.{items_of}
+use Rattle.starlark_columns.specs.Front.{IsFront, with_items}
+use Rattle.starlark_columns.proofs.Fronts.{all_written}
 use Rattle.starlark_vec2.specs.Frozen.{with_seconds, Pair, Kept, KeptRun, lent_one, lent_run}
 
 -- a list that is not empty, cut behind its first item, and before its last
@@ -77,12 +78,9 @@ module _ {K V : Type 0} where
   kept_again (p ∷ ps) [] = ap (λ l. p ∷ l) (kept_again ps [])
   kept_again (p ∷ ps) (w ∷ ws) = ap (λ l. (p.0, w.1) ∷ l) (kept_again ps ws)
 
-  pub all_items : (v : Vec (K × V)) (l : List (K × V)) → length l ≡ length v.items → (with_items v l).items ≡ l
-  all_items v l e = take_all l (drop_l (length l) v.items) v.len (e ∙ sym v.ok.0)
-
-  -- a vector with other second parts has its own first parts
-  pub kept_items : (v : Vec (K × V)) (ws : List (K × V)) → with_items v (with_seconds v.items (with_items v (with_seconds v.items ws)).items) ≡ with_items v (with_seconds v.items ws)
-  kept_items v ws = ap (λ l. with_items v (with_seconds v.items l)) (all_items v (with_seconds v.items ws) (length-with_seconds v.items ws)) ∙ ap (with_items v) (kept_again v.items ws)
+  -- after the second parts of a column's pairs were written, twice as once
+  pub kept_items : (v : List (Option (K × V))) (n : ℕ) → IsFront v n → (ws : List (K × V)) → with_items v (with_seconds (items_of v) (items_of (with_items v (with_seconds (items_of v) ws)))) ≡ with_items v (with_seconds (items_of v) ws)
+  kept_items v n front ws = ap (λ l. with_items v (with_seconds (items_of v) l)) (all_written v n front (with_seconds (items_of v) ws) (length-with_seconds (items_of v) ws)) ∙ ap (with_items v) (kept_again (items_of v) ws)
 
 -- where the two parts of the pair at o lie
 module _ (X Y : RattleType) (o : ℕ) where

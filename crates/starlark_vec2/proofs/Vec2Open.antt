@@ -1,22 +1,31 @@
 -- A `Vec2` in memory is its two columns and the rest, and back, at any columns of which the invariant holds. Assumes `Logic`.
-use mathlib.Core.Path.{◌≡◌}
-use Prim.Native.Nat.{ℕ, zero, ◌+◌}
+use mathlib.Core.Path.{◌≡◌, refl}
+use Prim.Native.Nat.{ℕ, zero, ◌+◌, ◌<◌, ◌^◌}
 use mathlib.Core.List.{List, [], ◌∷◌}
 use seplogic.Ra.Ura.{Ura}
 use base.Fraction.{full_share}
-use base.Logic.{SProp, ent, sep, wand, ex, all_e, apply∗}
+use mir.Syntax.{w64}
+use mir.Val.{Val, vint}
+use base.Fml.{Fml, fsep}
+use base.Logic.{SProp, ent, sep, emp, wand, ex, all_e, apply∗}
+use contract.Monad.{fact, fact_i}
 use prog.Memory.{size, align, up}
-use types.Kit.{‵, raw, ◌⊛◌, some, ◌$◌, ◌∵◌, !, qed, by, move, use1, use2, split, pick, show, fsplit3, fjoin, done}
+use types.Kit.{‵, raw, ◌⊛◌, some, ◌$◌, ◌∵◌, !, qed, by, move, use0, use1, use2, split, pick, show, fsplit, fsplit3, fjoin, fpick, fpack, rewrite, done}
 use types.Logic.{Logic, sem}
 use denote.RattleType.{RattleType, Denots}
-use denote.Memory.{part_at, part_of, lone}
+use denote.Laws.{shows}
+use denote.Memory.{part_at, part_of, cell_at, lone}
 use denote.Model.Fields.{plain_out, Plain-in, view_made}
 use denote.Param.Laws.{Laws}
+use denote.Plain.{uint_Makes}
+use denote.Steps.{facts, owned}
+use denote.Struct.Declared.{field}
 use denote.Struct.Field.{usize-field}
 use denote.Struct.Loose.{lawfuls}
 use denote.Struct.Members.{Member, rows_of, parts_at}
 use denote.Struct.Parts.{shape_of, PartsBack, Struct-parts}
 use denote.Struct.Struct.{Struct}
+use Rattle.std.specs.contracts.alloc.Global as heap
 use Rattle.starlark_vec2.specs.ColumnLending.{column}
 use Rattle.starlark_vec2.specs.declared.vec2.Vec2.TheInside.{Inside}
 use Rattle.starlark_vec2.specs.contracts.vec2.Vec2 as C
@@ -38,7 +47,7 @@ module _ (A B : RattleType) where
   member R = record { row = R; ty = lone R.mir }
 
   abbrev left : List Member
-  left = member usize-field.row ∷ []
+  left = member usize-field.row ∷ member (field heap.the_type).row ∷ []
 
   abbrev ms : List Member
   ms = member (column A) ∷ member (column B) ∷ left
@@ -58,6 +67,33 @@ module _ (A B : RattleType) where
   module _ {M : Type 1} {𝓤 : Ura M} (𝓛 : Logic 𝓤) (b o : ℕ) where
     abbrev pub Rest : D → SProp 𝓤
     Rest d = sep 𝓤 (sem 𝓛 (parts_at full_share left eR (to d).1.1 b o)) (PartsBack 𝓛 full_share (I.the_type A B).name ms b o)
+
+    -- the length's own cell, and what is left beside it
+    abbrev eL : ℕ
+    eL = up (align (lone usize-field.row.mir)) eR
+
+    abbrev pub Len : ℕ → Fml
+    Len n = cell_at full_share usize-field.row.mir (vint w64 n ∷ []) b (o + eL)
+
+    abbrev behind : List Member
+    behind = member (field heap.the_type).row ∷ []
+
+    abbrev pub Less : D → SProp 𝓤
+    Less d = sep 𝓤 (sem 𝓛 (parts_at full_share behind (eL + size (lone usize-field.row.mir)) (to d).1.1.1 b o)) (PartsBack 𝓛 full_share (I.the_type A B).name ms b o)
+
+    pub len_out : (d : D) → ent 𝓤 (Rest d) (sep 𝓤 (fact 𝓤 (d.len < 2 ^ 64)) (sep 𝓤 (sem 𝓛 (Len d.len)) (Less d)))
+    unfolding part_of
+    len_out d =
+        qed 𝓛 (‵ (parts_at full_share left eR (to d).1.1 b o) ∷ raw (PartsBack 𝓛 full_share (I.the_type A B).name ms b o) ∷ []) ∵ fsplit ! $ fpick ! (λ vs. fsplit ! $ move ! (1 ∷ []) $
+        facts ! usize-field.row _ (shows 𝓛 usize-field.row) d.len vs (λ p. rewrite ! 0 (λ (us : List Val). ‵ (cell_at full_share usize-field.row.mir us b (o + eL))) p.0 refl $
+        use0 𝓛 (raw (fact 𝓤 (d.len < 2 ^ 64))) (fact_i 𝓤 _ (emp 𝓤) p.1) $ done !))
+
+    pub len_in : (d : D) → d.len < 2 ^ 64 → ent 𝓤 (sep 𝓤 (sem 𝓛 (Len d.len)) (Less d)) (Rest d)
+    unfolding part_of
+    len_in d fits =
+        qed 𝓛 (‵ (Len d.len) ∷ ‵ (parts_at full_share behind (eL + size (lone usize-field.row.mir)) (to d).1.1.1 b o) ∷ raw (PartsBack 𝓛 full_share (I.the_type A B).name ms b o) ∷ []) ∵
+        owned ! usize-field.row _ (uint_Makes 𝓛 w64) d.len (vint w64 d.len ∷ []) (refl, fits) $ move ! (1 ∷ 0 ∷ []) $ fjoin ! $
+        fpack ! (List Val) (λ us. fsep (cell_at full_share usize-field.row.mir us b (o + eL)) (usize-field.row.own_val d.len us)) (vint w64 d.len ∷ []) $ fjoin ! $ done !
 
     abbrev pub Cut : D → SProp 𝓤
     Cut d = sep 𝓤 (sem 𝓛 (part_at (column A) full_share d.firsts b (o + eA))) (sep 𝓤 (sem 𝓛 (part_at (column B) full_share d.seconds b (o + eB))) (Rest d))

@@ -6,8 +6,6 @@ use Rattle.std.proofs.lemmas.Option.{MatchOption-at_some}
 use Rattle.std.specs.Iterator.{MakesProgress, at_most}
 use Rattle.std.specs.Map.Iter.{TakesFirst, TakesLast, ShowsInOrder, ShowsInReverse, GivesInOrder, GivesInReverse}
 use Rattle.std.specs.Slice.Iter.{iter_rest, iter_steps_back}
-use Rattle.std.specs.Vec.Iter.{into_iter_items, into_iter_steps_back}
-use Rattle.std.specs.declared.vec.IntoIter.{IntoIter}
 use Rattle.starlark_vec2.proofs.Pairs.{zip_push}
 
 module _ {A X : Type 0} (shows : A → X) where
@@ -30,9 +28,6 @@ module _ {X : Type 0} where
 
   pub rest_back : (s t : Iter X) (r : Option (Bor X)) (x : Bor X) → r ≡ Some x → iter_steps_back s r t → iter_rest s ≡ iter_rest t ++ x.now ∷ []
   rest_back s t r x e h = MatchOption-at_some _ _ x e h
-
-  pub into_rest_back : {Z : Type 0} (s t : IntoIter X Z) (r : Option X) (x : X) → r ≡ Some x → into_iter_steps_back s r t → into_iter_items s ≡ into_iter_items t ++ x ∷ []
-  into_rest_back s t r x e h = MatchOption-at_some _ _ x e h
 
 -- two columns, each of which has lost its last part, and the list of pairs of both
 pub pair_back : {A B : Type 0} (xs us : List A) (ys vs : List B) (x : A) (y : B) → xs ≡ us ++ x ∷ [] → ys ≡ vs ++ y ∷ [] → length ys ≡ length xs → zip xs ys ≡ zip us vs ++ (x, y) ∷ []

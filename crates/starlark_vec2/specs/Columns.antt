@@ -1,9 +1,9 @@
--- What the two vectors of a list of pairs keep. No public clause cites this module.
-use Rattle.std.specs.Prelude.{◌≡◌, ℕ, ◌≤◌}
+-- What the two columns of a list of pairs keep. No public clause cites this module.
+use Rattle.std.specs.Prelude.{◌≡◌, ℕ, List, Option, length}
+use Rattle.starlark_columns.specs.Front.{IsFront}
 
--- n first parts and m second parts are as many, and there is room in both for as many as the capacity says
-pub record AreColumns (n m capacity firsts_room seconds_room : ℕ) : Type 0 where
-  pub even : n ≡ m
-  pub within : n ≤ capacity
-  pub firsts_fit : capacity ≤ firsts_room
-  pub seconds_fit : capacity ≤ seconds_room
+-- the first n places of either column are filled and the others empty, and both have as many places
+pub record AreColumns {A B : Type 0} (firsts : List (Option A)) (seconds : List (Option B)) (n : ℕ) : Type 0 where
+  pub firsts_front : IsFront firsts n
+  pub seconds_front : IsFront seconds n
+  pub even : length seconds ≡ length firsts

@@ -1,10 +1,10 @@
 -- Pairs that lie side by side, whose first parts are frozen while their second parts are lent.
 --     frozen κ K V p i γ ps  the right to write the second parts of ps, which lie from the i-th pair at p on, under
 --         the name γ
-use Rattle.std.specs.Prelude.{ℕ, ◌+◌, ◌*◌, List, [], ◌∷◌, length}
+use Rattle.std.specs.Prelude.{ℕ, ◌+◌, ◌*◌, List, [], ◌∷◌, length, Option}
 use Rattle.std.specs.Borrow.{Fml, RattleType, MutBor, GName, Array, Lends, follows}
-use Rattle.std.specs.Global.{Vec}
-use Rattle.std.specs.Vec.{with_items}
+use Rattle.starlark_columns.specs.Places.{items_of}
+use Rattle.starlark_columns.specs.Front.{with_items}
 use Rattle.starlark_vec2.specs.ColumnLending.{column}
 use base.Fml.{Lft, ffalse, fsep, feq, fobs, fbor}
 use base.Stored.{coded_list}
@@ -42,13 +42,13 @@ frozen κ K V (block_ptr b o) i γ ps = fsep (room (Pair K V) (i + length ps)) (
 frozen κ K V null_ptr i γ ps = ffalse
 
 module _ (K V : RattleType) where
-  -- a vector ends with the pairs that are left behind the slice
-  abbrev pub lends_run : MutBor (Vec (K.Denot × V.Denot)) → MutBor (List (K.Denot × V.Denot)) → Fml
+  -- a column ends with the pairs that are left behind the slice
+  abbrev pub lends_run : MutBor (List (Option (K.Denot × V.Denot))) → MutBor (List (K.Denot × V.Denot)) → Fml
   lends_run s r = Lends (column (Pair K V)) (Array (Pair K V) 0) s r (with_items s.now)
 
-  -- a vector ends with the second parts that the loan ends with, and its own first parts
-  abbrev pub pairs_follow : MutBor (Vec (K.Denot × V.Denot)) → GName → Fml
-  pairs_follow s γ = follows (column (Pair K V)) (column (Pair K V)) s.ghost_name γ (λ w. with_items s.now (with_seconds s.now.items w.items))
+  -- a column ends with the second parts that the loan ends with, and its own first parts
+  abbrev pub pairs_follow : MutBor (List (Option (K.Denot × V.Denot))) → GName → Fml
+  pairs_follow s γ = follows (column (Pair K V)) (column (Pair K V)) s.ghost_name γ (λ w. with_items s.now (with_seconds (items_of s.now) (items_of w)))
 
 -- what a `&mut V` points to
 abbrev pub deref_mut : {V : Type 0} → MutBor V → V

@@ -2,8 +2,11 @@
 ghost use Rattle.std.specs.Prelude.{◌≡◌, ℕ, ◌+◌, ◌<◌, List, [], ◌∷◌, ◌++◌, length};
 ghost use Rattle.std.specs.Borrow.{GName, sem};
 ghost use Rattle.std.specs.Map.Iter.{deref_pair_mut};
+ghost use Rattle.starlark_columns.specs.Front.{IsFront};
+ghost use Rattle.starlark_columns.specs.Places.{items_of};
 ghost use Rattle.starlark_vec2.specs.Frozen.{pairs_follow, lends_run, frozen};
 
+use starlark_columns::Column;
 use std::marker::{Model, PhantomData};
 
 /// The right to the pairs at `start` that are still to be taken: those from the `from`-th on, `rest`. Their keys are
@@ -22,23 +25,25 @@ impl<'a, K, V> Model for Loan<'a, K, V> {
     ghost also_owns = { λ l. frozen 'a K.row V.row l.start l.from l.name l.rest };
 }
 
-// The pairs of a vector.
+// The pairs of a column, `len` of them.
 #[inline]
-fn run_mut<K, V>(pairs: &mut Vec<(K, V)>) -> &mut [(K, V)]
+fn run_mut<K, V>(pairs: &mut Column<(K, V)>, len: usize) -> &mut [(K, V)]
+    requires { IsFront pairs.old len }
     ensures* writes_back { sem 𝓛 (lends_run K.row V.row pairs.entry result) }
-    ensures value { result.now ≡ pairs.old.items }
+    ensures value { result.now ≡ items_of pairs.old }
 {
-    pairs.as_mut_slice()
+    pairs.items_mut(len)
 }
 
 impl<'a, K, V> Loan<'a, K, V> {
-    // All pairs of a vector.
+    // All pairs of a column, `len` of them.
     #[inline]
-    pub(crate) fn new(pairs: &'a mut Vec<(K, V)>) -> Loan<'a, K, V>
+    pub(crate) fn new(pairs: &'a mut Column<(K, V)>, len: usize) -> Loan<'a, K, V>
+        requires { IsFront pairs.old len }
         ensures* writes_back { sem 𝓛 (pairs_follow K.row V.row pairs.entry result.tie) }
-        ensures rest { (result.from ≡ 0) × (result.rest ≡ pairs.old.items) }
+        ensures rest { (result.from ≡ 0) × (result.rest ≡ items_of pairs.old) }
     {
-        let run = run_mut(pairs);
+        let run = run_mut(pairs, len);
         Loan {
             start: run.as_mut_ptr(),
             mark: PhantomData,

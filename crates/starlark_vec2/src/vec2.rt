@@ -1,5 +1,5 @@
 //! `Vec2`, a list of pairs in two columns, with a capacity of its own. Its children alone see its fields.
-ghost use Rattle.std.specs.Prelude.{◌≡◌, ◌+◌, ◌*◌, ◌-◌, ◌^◌, ◌<◌, ◌≤◌, ◌==◌, max, min, [], ◌++◌, length, take, remove, reverse, slice_get, vec_capacity, is_ok, if◌then◌else◌, IfOk, IfErr, IsOk, MatchOption};
+ghost use Rattle.std.specs.Prelude.{◌≡◌, ◌+◌, ◌*◌, ◌-◌, ◌^◌, ◌<◌, ◌≤◌, ◌==◌, max, min, [], ◌++◌, length, take, remove, reverse, slice_get, is_ok, if◌then◌else◌, IfOk, IfErr, IsOk, MatchOption};
 ghost use Rattle.std.specs.Option.{option_map};
 ghost use Rattle.std.specs.Map.Iter.{TakesLast, ShowsInOrder, ShowsInReverse, deref_pair};
 ghost use Rattle.starlark_vec2.specs.PairList as list;
@@ -15,31 +15,32 @@ mod traits;
 
 pub use into_iter::IntoIter;
 pub use iter::Iter;
+use starlark_columns::Column;
+use starlark_columns::front::both_columns;
 use starlark_hash::NoRoom;
 use std::alloc::{AllocError, Global};
 use std::marker::Model;
-use std::mem::replace;
 
 /// A list of pairs. The first parts are stored side by side, and so are the second parts.
-#[derive(Drop)]
 pub struct Vec2<A, B> {
-    firsts: Vec<A>,
-    seconds: Vec<B>,
-    // What `capacity` answers. Either vector may have more room after a growth of which the other's part was refused.
-    capacity: usize,
+    firsts: Column<A>,
+    seconds: Column<B>,
+    // How many of the places at the front of either column are filled.
+    len: usize,
+    alloc: Global,
 }
 
 impl<A, B> Model for Vec2<A, B> {
     ghost use Rattle.std.specs.Prelude.{length, zip};
-    ghost use Rattle.std.specs.Vec.{vec_capacity};
+    ghost use Rattle.starlark_columns.specs.Places.{items_of};
     ghost use Rattle.starlark_vec2.specs.PairList.{PairList, pair_list};
     ghost use Rattle.starlark_vec2.specs.Columns.{AreColumns};
 
     ghost Value = { PairList A B };
 
-    ghost view = { λ v. pair_list (zip v.firsts.items v.seconds.items) v.capacity };
+    ghost view = { λ v. pair_list (zip (items_of v.firsts) (items_of v.seconds)) (length v.firsts) };
 
-    ghost invariant = { λ v. AreColumns (length v.firsts.items) (length v.seconds.items) v.capacity (vec_capacity v.firsts) (vec_capacity v.seconds) };
+    ghost invariant = { λ v. AreColumns v.firsts v.seconds v.len };
 }
 
 // Making
@@ -52,9 +53,10 @@ impl<A, B> Vec2<A, B> {
         ensures { result ≡ pair_list [] 0 }
     {
         Vec2 {
-            firsts: Vec::new(alloc),
-            seconds: Vec::new(alloc),
-            capacity: 0,
+            firsts: Column::new(),
+            seconds: Column::new(),
+            len: 0,
+            alloc,
         }
     }
 
@@ -66,18 +68,13 @@ impl<A, B> Vec2<A, B> {
         ensures made { IfOk result (λ v. v ≡ pair_list [] capacity) }
         ensures succeeds { capacity ≡ 0 → IsOk result }
     {
-        let firsts = Vec::with_capacity(alloc, capacity)?;
-        match Vec::with_capacity(alloc, capacity) {
-            Ok(seconds) => Ok(Vec2 {
-                firsts,
-                seconds,
-                capacity,
-            }),
-            Err(refused) => {
-                firsts.destroy_empty();
-                Err(refused)
-            }
-        }
+        let (firsts, seconds) = both_columns(alloc, capacity)?;
+        Ok(Vec2 {
+            firsts,
+            seconds,
+            len: 0,
+            alloc,
+        })
     }
 }
 
@@ -91,7 +88,7 @@ impl<A, B> Vec2<A, B> {
         ensures len { result ≡ length self.now.pairs }
         ensures fits { length self.now.pairs < 2 ^ 64 }
     {
-        self.firsts.len()
+        self.len
     }
 
     /// How many pairs there may be before the list grows.
@@ -101,7 +98,7 @@ impl<A, B> Vec2<A, B> {
         ensures capacity { result ≡ self.now.capacity }
         ensures within { length self.now.pairs ≤ self.now.capacity }
     {
-        self.capacity
+        self.firsts.places()
     }
 
     /// Whether there are no pairs.
@@ -119,7 +116,7 @@ impl<A, B> Vec2<A, B> {
     pub fn firsts(&self) -> &[A]
         ensures { result.now ≡ firsts_of self.now.pairs }
     {
-        self.firsts.as_slice()
+        self.firsts.items(self.len)
     }
 
     /// The second parts of the pairs, in their order.
@@ -128,7 +125,7 @@ impl<A, B> Vec2<A, B> {
     pub fn seconds(&self) -> &[B]
         ensures { result.now ≡ seconds_of self.now.pairs }
     {
-        self.seconds.as_slice()
+        self.seconds.items(self.len)
     }
 
     /// The pair at this index, where there is one.
@@ -151,7 +148,8 @@ impl<A, B> Vec2<A, B> {
         requires { index < length self.now.pairs }
         ensures { slice_get self.now.pairs index ≡ Some (deref_pair result) }
     {
-        (&self.firsts[index], &self.seconds[index])
+        let len = self.len;
+        (self.firsts.item(len, index), self.seconds.item(len, index))
     }
 
     /// The first pair, where there is one.
@@ -197,7 +195,7 @@ impl<A, B> Vec2<A, B> {
         ensures list { self.new ≡ (if is_ok result then list.reserve self.old additional else self.old) }
         ensures succeeds { additional ≤ self.old.capacity - length self.old.pairs → IsOk result }
     {
-        if additional <= self.capacity - self.len() {
+        if additional <= self.capacity() - self.len {
             return Ok(());
         }
         self.grow(additional)
@@ -211,13 +209,22 @@ impl<A, B> Vec2<A, B> {
         requires { self.old.capacity - length self.old.pairs < additional }
         ensures { self.new ≡ (if is_ok result then list.reserve self.old additional else self.old) }
     {
-        let len = self.len();
-        let Some(capacity) = grown(len, self.capacity, additional) else {
+        let Some(capacity) = grown(self.len, self.capacity(), additional) else {
             return Err(AllocError);
         };
-        self.firsts.reserve_exact(capacity - len)?;
-        self.seconds.reserve_exact(capacity - len)?;
-        self.capacity = capacity;
+        self.refit(capacity)
+    }
+
+    // Moves the pairs to new columns of so many places, once both are there.
+    #[tactic(auto, using(crate::proofs::Pairs::columns))]
+    fn refit(&mut self, capacity: usize) -> Result<(), AllocError>
+        requires { length self.old.pairs ≤ capacity }
+        ensures list { self.new ≡ (if is_ok result then pair_list self.old.pairs capacity else self.old) }
+        ensures succeeds { capacity ≡ 0 → IsOk result }
+    {
+        let (firsts, seconds) = both_columns(self.alloc, capacity)?;
+        self.firsts.move_all(self.alloc, self.len, firsts);
+        self.seconds.move_all(self.alloc, self.len, seconds);
         Ok(())
     }
 
@@ -233,8 +240,11 @@ impl<A, B> Vec2<A, B> {
         if self.reserve(1).is_err() {
             return Err(NoRoom((a, b)));
         }
-        self.firsts.push_reserved(a);
-        self.seconds.push_reserved(b);
+        let places = self.firsts.places();
+        prove!(self.len < places);
+        self.firsts.push_last(self.len, a);
+        self.seconds.push_last(self.len, b);
+        self.len += 1;
         Ok(())
     }
 }
@@ -261,7 +271,12 @@ impl<A, B> Vec2<A, B> {
         ensures taken { slice_get self.old.pairs index ≡ Some result }
         ensures list { self.new ≡ with_pairs self.old (remove self.old.pairs index) }
     {
-        (self.firsts.remove(index), self.seconds.remove(index))
+        let len = self.len;
+        self.len = len - 1;
+        (
+            self.firsts.remove_at(len, index),
+            self.seconds.remove_at(len, index),
+        )
     }
 
     /// Takes the last pair out, where there is one.
@@ -271,10 +286,14 @@ impl<A, B> Vec2<A, B> {
         ensures taken { TakesLast (λ p. p) self.old.pairs result self.new.pairs }
         ensures capacity { self.new.capacity ≡ self.old.capacity }
     {
-        if self.is_empty() {
+        if self.len == 0 {
             return None;
         }
-        Some((self.firsts.take_last(), self.seconds.take_last()))
+        self.len -= 1;
+        Some((
+            self.firsts.take_last(self.len),
+            self.seconds.take_last(self.len),
+        ))
     }
 
     /// Makes the capacity equal to the length. Both new columns are there before a pair moves; where there is no memory
@@ -285,39 +304,10 @@ impl<A, B> Vec2<A, B> {
         ensures succeeds_empty { length self.old.pairs ≡ 0 → IsOk result }
         ensures succeeds_fitting { length self.old.pairs ≡ self.old.capacity → IsOk result }
     {
-        let len = self.len();
-        if len == self.capacity {
+        if self.len == self.capacity() {
             return Ok(());
         }
-        let mut fitting = Vec2::with_capacity(*self.firsts.allocator(), len)?;
-        self.move_to(&mut fitting);
-        replace(self, fitting).destroy_empty();
-        Ok(())
-    }
-
-    // Moves all pairs to the end of another list, which has room for them.
-    #[tactic(auto, using(crate::proofs::Pairs::columns))]
-    fn move_to(&mut self, other: &mut Vec2<A, B>)
-        requires { length other.old.pairs + length self.old.pairs ≤ other.old.capacity }
-        ensures moved { other.new ≡ with_pairs other.old (other.old.pairs ++ self.old.pairs) }
-        ensures emptied { self.new ≡ with_pairs self.old [] }
-    {
-        append_reserved(&mut other.firsts, &mut self.firsts);
-        append_reserved(&mut other.seconds, &mut self.seconds);
-    }
-
-    // Gives the memory of a list without pairs back, also where its parts may not be dropped.
-    #[tactic(auto, using(crate::proofs::Pairs::columns))]
-    fn destroy_empty(self)
-        requires { self.pairs ≡ [] }
-    {
-        let Vec2 {
-            firsts,
-            seconds,
-            capacity: _,
-        } = self;
-        firsts.destroy_empty();
-        seconds.destroy_empty();
+        self.refit(self.len)
     }
 
     /// Turns the order of the pairs round.
@@ -326,20 +316,9 @@ impl<A, B> Vec2<A, B> {
     pub fn reverse(&mut self)
         ensures { self.new ≡ with_pairs self.old (reverse self.old.pairs) }
     {
-        self.firsts.reverse();
-        self.seconds.reverse();
+        self.firsts.turn_round(self.len);
+        self.seconds.turn_round(self.len);
     }
-}
-
-// Moves what one vector holds to the end of another, which has room for it.
-fn append_reserved<T>(to: &mut Vec<T>, from: &mut Vec<T>)
-    requires { length to.old.items + length from.old.items ≤ vec_capacity to.old }
-    ensures moved { to.new.items ≡ to.old.items ++ from.old.items }
-    ensures emptied { from.new.items ≡ [] }
-    ensures room { vec_capacity to.old ≤ vec_capacity to.new }
-    ensures kept { vec_capacity from.new ≡ vec_capacity from.old }
-{
-    to.append(from).unwrap();
 }
 
 impl<A: Drop, B: Drop> Vec2<A, B> {
@@ -349,8 +328,7 @@ impl<A: Drop, B: Drop> Vec2<A, B> {
     pub fn clear(&mut self)
         ensures { self.new ≡ with_pairs self.old [] }
     {
-        self.firsts.clear();
-        self.seconds.clear();
+        self.truncate(0);
     }
 
     /// Drops the pairs from this place on. At or above the length nothing is dropped.
@@ -359,7 +337,23 @@ impl<A: Drop, B: Drop> Vec2<A, B> {
     pub fn truncate(&mut self, len: usize)
         ensures { self.new ≡ with_pairs self.old (take len self.old.pairs) }
     {
-        self.firsts.truncate(len);
-        self.seconds.truncate(len);
+        if len < self.len() {
+            self.firsts.truncate(self.len, len);
+            self.seconds.truncate(self.len, len);
+            self.len = len;
+        }
+    }
+}
+
+impl<A: Drop, B: Drop> Drop for Vec2<A, B> {
+    fn drop(self) {
+        let Vec2 {
+            firsts,
+            seconds,
+            len,
+            alloc,
+        } = self;
+        firsts.drop_all(alloc, len);
+        seconds.drop_all(alloc, len);
     }
 }

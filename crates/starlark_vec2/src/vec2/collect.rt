@@ -64,15 +64,18 @@ impl<A: Clone, B: Clone> Vec2<A, B> {
         ensures same { IfOk result (λ v. IsLawfulClone A.is_clone → IsLawfulClone B.is_clone → v ≡ pair_list self.now.pairs (length self.now.pairs)) }
         ensures succeeds { length self.now.pairs ≡ 0 → IsOk result }
     {
-        let alloc = *self.firsts.allocator();
-        let len = self.len();
-        if len == 0 {
-            return Ok(Vec2::new(alloc));
+        let firsts = self.firsts.clone_items(self.alloc, self.len)?;
+        match self.seconds.clone_items(self.alloc, self.len) {
+            Ok(seconds) => Ok(Vec2 {
+                firsts,
+                seconds,
+                len: self.len,
+                alloc: self.alloc,
+            }),
+            Err(refused) => {
+                firsts.drop_all(self.alloc, self.len);
+                Err(refused)
+            }
         }
-        Ok(Vec2 {
-            firsts: self.firsts.clone()?,
-            seconds: self.seconds.clone()?,
-            capacity: len,
-        })
     }
 }

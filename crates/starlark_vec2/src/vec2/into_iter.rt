@@ -5,26 +5,31 @@ ghost use Rattle.std.specs.Iterator.SizeHint.{IsWithinCount};
 ghost use Rattle.std.specs.Map.Iter.{TakesFirst, TakesLast, GivesInOrder, GivesInReverse};
 
 use super::Vec2;
+use starlark_columns::Column;
+use std::alloc::Global;
 use std::iter::FusedIterator;
 use std::marker::Model;
-use std::vec;
 
 /// The pairs, by value. What is left when it is dropped is dropped with it.
-#[derive(Drop)]
 pub struct IntoIter<A, B> {
-    firsts: vec::IntoIter<A>,
-    seconds: vec::IntoIter<B>,
+    firsts: Column<A>,
+    seconds: Column<B>,
+    // Where the pairs that are left begin and end.
+    from: usize,
+    to: usize,
+    alloc: Global,
 }
 
 impl<A, B> Model for IntoIter<A, B> {
     ghost use Rattle.std.specs.Prelude.{◌≡◌, List, length, zip};
-    ghost use Rattle.std.specs.Vec.Iter.{into_iter_items};
+    ghost use Rattle.starlark_columns.specs.Places.{items_of};
+    ghost use Rattle.starlark_columns.specs.Between.{IsBetween};
 
     ghost Value = { List (A × B) };
 
-    ghost view = { λ it. zip (into_iter_items it.firsts) (into_iter_items it.seconds) };
+    ghost view = { λ it. zip (items_of it.firsts) (items_of it.seconds) };
 
-    ghost invariant = { λ it. length (into_iter_items it.seconds) ≡ length (into_iter_items it.firsts) };
+    ghost invariant = { λ it. IsBetween it.firsts it.from it.to × IsBetween it.seconds it.from it.to };
 }
 
 impl<A: Drop, B: Drop> Iterator for IntoIter<A, B> {
@@ -36,8 +41,15 @@ impl<A: Drop, B: Drop> Iterator for IntoIter<A, B> {
 
     #[inline]
     fn next(&mut self) -> Option<(A, B)> {
-        let first = self.firsts.next()?;
-        Some((first, self.seconds.next().unwrap()))
+        let (from, to) = (self.from, self.to);
+        if from == to {
+            return None;
+        }
+        self.from = from + 1;
+        Some((
+            self.firsts.take_first_between(from, to),
+            self.seconds.take_first_between(from, to),
+        ))
     }
 
     #[inline]
@@ -56,15 +68,23 @@ impl<A: Drop, B: Drop> DoubleEndedIterator for IntoIter<A, B> {
 
     #[inline]
     fn next_back(&mut self) -> Option<(A, B)> {
-        let first = self.firsts.next_back()?;
-        Some((first, self.seconds.next_back().unwrap()))
+        let from = self.from;
+        if from == self.to {
+            return None;
+        }
+        let last = self.to - 1;
+        self.to = last;
+        Some((
+            self.firsts.take_last_between(from, last),
+            self.seconds.take_last_between(from, last),
+        ))
     }
 }
 
 impl<A: Drop, B: Drop> ExactSizeIterator for IntoIter<A, B> {
     #[inline]
     fn len(&self) -> usize {
-        self.firsts.len()
+        self.to - self.from
     }
 }
 
@@ -79,14 +99,33 @@ impl<A: Drop, B: Drop> IntoIterator for Vec2<A, B> {
 
     #[inline]
     fn into_iter(self) -> IntoIter<A, B> {
+        let to = self.len();
         let Vec2 {
             firsts,
             seconds,
-            capacity: _,
+            len: _,
+            alloc,
         } = self;
         IntoIter {
-            firsts: firsts.into_iter(),
-            seconds: seconds.into_iter(),
+            firsts,
+            seconds,
+            from: 0,
+            to,
+            alloc,
         }
+    }
+}
+
+impl<A: Drop, B: Drop> Drop for IntoIter<A, B> {
+    fn drop(self) {
+        let IntoIter {
+            firsts,
+            seconds,
+            from,
+            to,
+            alloc,
+        } = self;
+        firsts.drop_between(alloc, from, to);
+        seconds.drop_between(alloc, from, to);
     }
 }

@@ -1,8 +1,10 @@
 //! References into a `Vec2`, handed out as `&mut`.
-ghost use Rattle.std.specs.Prelude.{◌≡◌, ◌<◌, length, slice_get, slice_index_or, Some};
+ghost use Rattle.std.specs.Prelude.{◌≡◌, ◌<◌, length, slice_get, get_or, Some, None};
 ghost use Rattle.std.specs.Option.{option_map, option_copied_mut};
 ghost use Rattle.std.specs.Borrow.{sem};
 ghost use Rattle.std.specs.Map.Iter.{deref_pair_mut};
+ghost use Rattle.starlark_columns.specs.Places.{items_of, IsFilled};
+ghost use Rattle.starlark_columns.specs.Front.{IsFront};
 ghost use Rattle.starlark_vec2.specs.PairList.{firsts_of, seconds_of};
 ghost use Rattle.starlark_vec2.specs.Lending.{deref_both_mut, lends_first, lends_second, lends_firsts, lends_seconds, lends_both, lends_both_if, firsts_follow};
 ghost use Rattle.starlark_vec2.specs.ColumnLending.{lends_place, lends_place_if, lends_places};
@@ -10,6 +12,7 @@ ghost use Rattle.starlark_vec2.specs.ColumnLending.{lends_place, lends_place_if,
 use super::Vec2;
 use crate::loan::Loan;
 use crate::pairs_mut::PairsMut;
+use starlark_columns::Column;
 
 impl<A, B> Vec2<A, B> {
     /// The first parts of the pairs, in their order. The list ends with what is left in them.
@@ -19,7 +22,7 @@ impl<A, B> Vec2<A, B> {
         ensures* writes_back { sem 𝓛 (lends_firsts A.row B.row self.entry result) }
         ensures value { result.now ≡ firsts_of self.old.pairs }
     {
-        self.firsts.as_mut_slice()
+        self.firsts.items_mut(self.len)
     }
 
     /// The second parts of the pairs, in their order. The list ends with what is left in them.
@@ -29,7 +32,7 @@ impl<A, B> Vec2<A, B> {
         ensures* writes_back { sem 𝓛 (lends_seconds A.row B.row self.entry result) }
         ensures value { result.now ≡ seconds_of self.old.pairs }
     {
-        self.seconds.as_mut_slice()
+        self.seconds.items_mut(self.len)
     }
 
     /// The first part of the pair at this index. The list ends with what is left in it.
@@ -40,7 +43,7 @@ impl<A, B> Vec2<A, B> {
         ensures* writes_back { sem 𝓛 (lends_first A.row B.row self.entry index result) }
         ensures value { slice_get (firsts_of self.old.pairs) index ≡ Some result.now }
     {
-        &mut self.firsts[index]
+        self.firsts.item_mut(self.len, index)
     }
 
     /// The second part of the pair at this index. The list ends with what is left in it.
@@ -51,7 +54,7 @@ impl<A, B> Vec2<A, B> {
         ensures* writes_back { sem 𝓛 (lends_second A.row B.row self.entry index result) }
         ensures value { slice_get (seconds_of self.old.pairs) index ≡ Some result.now }
     {
-        &mut self.seconds[index]
+        self.seconds.item_mut(self.len, index)
     }
 
     /// The pair at this index, to read the first part and write the second. The list ends with what is left in that.
@@ -62,7 +65,11 @@ impl<A, B> Vec2<A, B> {
         ensures* writes_back { sem 𝓛 (lends_second A.row B.row self.entry index result.1) }
         ensures value { slice_get self.old.pairs index ≡ Some (deref_pair_mut result) }
     {
-        (&self.firsts[index], &mut self.seconds[index])
+        let len = self.len;
+        (
+            self.firsts.item(len, index),
+            self.seconds.item_mut(len, index),
+        )
     }
 
     /// The pair at this index, to write both parts. The list ends with what is left in them. Rust's is unsafe; here the
@@ -83,7 +90,8 @@ impl<A, B> Vec2<A, B> {
         ensures* writes_back { sem 𝓛 (lends_both_if A.row B.row self.entry index result) }
         ensures value { option_map deref_both_mut result ≡ slice_get self.old.pairs index }
     {
-        match lend_place_if(&mut self.firsts, index) {
+        let len = self.len;
+        match lend_place_if(&mut self.firsts, len, index) {
             Some(first) => Some((first, lend_place(&mut self.seconds, index))),
             None => None,
         }
@@ -99,7 +107,8 @@ impl<K, V, B> Vec2<(K, V), B> {
         ensures untouched { result.from ≡ 0 }
         ensures rest { result.rest ≡ firsts_of self.old.pairs }
     {
-        Loan::new(&mut self.firsts)
+        let len = self.len;
+        Loan::new(&mut self.firsts, len)
     }
 
     /// The same as an iterator, which gives each first part as `(&K, &mut V)`.
@@ -114,36 +123,41 @@ impl<K, V, B> Vec2<(K, V), B> {
     }
 }
 
-// The item at this place of a vector.
+// The item at this place of a column.
 #[inline]
-fn lend_place<T>(items: &mut Vec<T>, index: usize) -> &mut T
-    requires { index < length items.old.items }
-    ensures* writes_back { sem 𝓛 (lends_place T.row items.entry index result) }
-    ensures value { result.now ≡ slice_index_or items.old.items index result.now }
+fn lend_place<T>(column: &mut Column<T>, index: usize) -> &mut T
+    requires { IsFilled column.old index }
+    ensures* writes_back { sem 𝓛 (lends_place T.row column.entry index result) }
+    ensures value { get_or column.old index None ≡ Some result.now }
 {
-    &mut items[index]
+    column.get_mut(index)
 }
 
-// The item at this place of a vector, where there is one.
+// The item at this place of a column, where it is one of the first `len`.
 #[inline]
-fn lend_place_if<T>(items: &mut Vec<T>, index: usize) -> Option<&mut T>
-    ensures* writes_back { sem 𝓛 (lends_place_if T.row items.entry index result) }
-    ensures value { slice_get items.old.items index ≡ option_copied_mut result }
+fn lend_place_if<T>(column: &mut Column<T>, len: usize, index: usize) -> Option<&mut T>
+    requires { IsFront column.old len }
+    ensures* writes_back { sem 𝓛 (lends_place_if T.row column.entry index result) }
+    ensures value { slice_get (items_of column.old) index ≡ option_copied_mut result }
 {
-    items.get_mut(index)
+    if index < len {
+        Some(column.get_mut(index))
+    } else {
+        None
+    }
 }
 
-// The items at this place of two vectors.
+// The items at this place of two columns.
 #[inline]
 fn lend_columns<'a, A, B>(
-    firsts: &'a mut Vec<A>,
-    seconds: &'a mut Vec<B>,
+    firsts: &'a mut Column<A>,
+    seconds: &'a mut Column<B>,
     index: usize,
 ) -> (&'a mut A, &'a mut B)
-    requires in_firsts { index < length firsts.old.items }
-    requires in_seconds { index < length seconds.old.items }
+    requires in_firsts { IsFilled firsts.old index }
+    requires in_seconds { IsFilled seconds.old index }
     ensures* writes_back { sem 𝓛 (lends_places A.row B.row firsts.entry seconds.entry index result) }
-    ensures values { (result.0.now ≡ slice_index_or firsts.old.items index result.0.now) × (result.1.now ≡ slice_index_or seconds.old.items index result.1.now) }
+    ensures values { (get_or firsts.old index None ≡ Some result.0.now) × (get_or seconds.old index None ≡ Some result.1.now) }
 {
     let first = lend_place(firsts, index);
     let second = lend_place(seconds, index);

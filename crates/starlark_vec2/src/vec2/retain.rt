@@ -1,6 +1,5 @@
 //! `Vec2::retain`.
-ghost use Rattle.std.specs.Prelude.{◌≡◌, ◌≤◌, length, zip};
-ghost use Rattle.std.specs.Vec.{vec_capacity};
+ghost use Rattle.std.specs.Prelude.{◌≡◌, ◌≤◌, length, take, zip};
 ghost use Rattle.starlark_vec2.specs.Retain.{Retains, TakesInTurn, TakesBoth, CalledAtBoth};
 
 use super::Vec2;
@@ -14,23 +13,26 @@ impl<A: Drop, B: Drop> Vec2<A, B> {
         ensures pairs { Retains (CalledAtBoth F.FnMut) keep self.old.pairs self.new.pairs }
         ensures capacity { self.new.capacity ≡ self.old.capacity }
     {
-        sieve(&mut self.firsts, &mut self.seconds, keep);
+        let len = self.len;
+        let kept = sieve(
+            self.firsts.items_mut(len),
+            self.seconds.items_mut(len),
+            keep,
+        );
+        self.truncate(kept);
     }
 }
 
-// `Vec2::retain` over its columns.
-fn sieve<A: Drop, B: Drop, F: FnMut(&mut A, &mut B) -> bool>(
-    firsts: &mut Vec<A>,
-    seconds: &mut Vec<B>,
+// Moves the pairs that are kept to the front, and answers how many they are.
+fn sieve<A, B, F: FnMut(&mut A, &mut B) -> bool>(
+    firsts: &mut [A],
+    seconds: &mut [B],
     mut keep: F,
-)
-    requires even { length firsts.old.items ≡ length seconds.old.items }
-    requires callable { TakesInTurn (CalledAtBoth F.FnMut) (TakesBoth F.FnMut) keep (zip firsts.old.items seconds.old.items) }
-    ensures pairs { Retains (CalledAtBoth F.FnMut) keep (zip firsts.old.items seconds.old.items) (zip firsts.new.items seconds.new.items) }
-    ensures even { length firsts.new.items ≡ length seconds.new.items }
-    ensures shorter { length firsts.new.items ≤ length firsts.old.items }
-    ensures firsts_room { vec_capacity firsts.new ≡ vec_capacity firsts.old }
-    ensures seconds_room { vec_capacity seconds.new ≡ vec_capacity seconds.old }
+) -> usize
+    requires even { length firsts.old ≡ length seconds.old }
+    requires callable { TakesInTurn (CalledAtBoth F.FnMut) (TakesBoth F.FnMut) keep (zip firsts.old seconds.old) }
+    ensures pairs { Retains (CalledAtBoth F.FnMut) keep (zip firsts.old seconds.old) (zip (take result firsts.new) (take result seconds.new)) }
+    ensures within { result ≤ length firsts.old }
 {
     let len = firsts.len();
     let mut kept = 0;
@@ -43,8 +45,7 @@ fn sieve<A: Drop, B: Drop, F: FnMut(&mut A, &mut B) -> bool>(
         }
         i += 1;
     }
-    firsts.truncate(kept);
-    seconds.truncate(kept);
+    kept
 }
 
 fn ask<A, B, F: FnMut(&mut A, &mut B) -> bool>(keep: &mut F, first: &mut A, second: &mut B) -> bool

@@ -1,5 +1,5 @@
 //! `Vec2::sort_by`: positions are sorted, and then the pairs are moved in place.
-ghost use Rattle.std.specs.Prelude.{◌≡◌, ◌≤◌, length, zip, vec_capacity, IfOk, IsOk, OnOk, OnErr, IsPermutation};
+ghost use Rattle.std.specs.Prelude.{◌≡◌, ◌≤◌, length, zip, IfOk, IsOk, OnOk, OnErr, IsPermutation};
 ghost use Rattle.std.specs.List.{range_with_len};
 ghost use Rattle.starlark_vec2.specs.Sort.{Sorts};
 ghost use Rattle.starlark_vec2.specs.Positions.{ComparesAt, SortsPositions, PutsInOrder};
@@ -26,7 +26,12 @@ impl<A, B> Vec2<A, B> {
             return Ok(());
         }
         let order = self.sorted_positions(compare)?;
-        put_in_order(&mut self.firsts, &mut self.seconds, order);
+        let len = self.len;
+        put_in_order(
+            self.firsts.items_mut(len),
+            self.seconds.items_mut(len),
+            order,
+        );
         Ok(())
     }
 
@@ -39,7 +44,7 @@ impl<A, B> Vec2<A, B> {
         ensures positions { IfOk result (λ order. IsPermutation (range_with_len 0 (length self.now.pairs)) order.items) }
         ensures sorted { IfOk result (λ order. SortsPositions F.FnMut compare self.now.pairs order.items) }
     {
-        let mut order = positions(*self.firsts.allocator(), self.len())?;
+        let mut order = positions(self.alloc, self.len())?;
         order.sort_by(
             |i: &usize, j: &usize| -> Ordering
                 requires { F.IsAlwaysCallable compare }
@@ -83,14 +88,10 @@ fn positions(alloc: Global, n: usize) -> Result<Vec<usize>, AllocError>
 }
 
 // Moves the pairs in place, so that each place has the pair whose position stands there in the order.
-fn put_in_order<A, B>(firsts: &mut Vec<A>, seconds: &mut Vec<B>, mut order: Vec<usize>)
-    requires even { length firsts.old.items ≡ length seconds.old.items }
-    requires positions { IsPermutation (range_with_len 0 (length firsts.old.items)) order.items }
-    ensures pairs { PutsInOrder (zip firsts.old.items seconds.old.items) order.items (zip firsts.new.items seconds.new.items) }
-    ensures firsts_len { length firsts.new.items ≡ length firsts.old.items }
-    ensures seconds_len { length seconds.new.items ≡ length seconds.old.items }
-    ensures firsts_room { vec_capacity firsts.new ≡ vec_capacity firsts.old }
-    ensures seconds_room { vec_capacity seconds.new ≡ vec_capacity seconds.old }
+fn put_in_order<A, B>(firsts: &mut [A], seconds: &mut [B], mut order: Vec<usize>)
+    requires even { length firsts.old ≡ length seconds.old }
+    requires positions { IsPermutation (range_with_len 0 (length firsts.old)) order.items }
+    ensures { PutsInOrder (zip firsts.old seconds.old) order.items (zip firsts.new seconds.new) }
 {
     let mut place = 0;
     while place < order.len() {

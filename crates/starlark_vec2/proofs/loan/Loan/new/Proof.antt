@@ -1,14 +1,14 @@
--- `new` freezes the first parts of a vector's pairs. The vector stays open while it is lent to the call that shows its
--- slice. Assumes `Logic`.
+-- `new` freezes the first parts of a column's pairs. The column stays open while it is lent to the call that shows its
+-- items. Assumes `Logic`.
 use mathlib.Core.Path.{◌≡◌, refl, sym, ap, subst, ◌∙◌}
-use Prim.Native.Nat.{ℕ, ◌+◌, ◌*◌}
+use Prim.Native.Nat.{ℕ, ◌+◌, ◌*◌, ◌<◌, ◌^◌}
 use native.Mathlib.Nat.{zero-add, zero-mul}
 use mathlib.Core.List.{List, [], ◌∷◌}
 use lib.ListN.{length}
 use seplogic.Ra.Ura.{Ura}
-use mir.Syntax.{Fn, Args, a_type, named}
+use mir.Syntax.{Fn, Args, a_type, named, w64}
 use mir.MapTy.{inst_fn}
-use mir.Val.{Val, vptr, vstruct, vcons, vnil}
+use mir.Val.{Val, vint, vptr, vstruct, vcons, vnil}
 use base.Share
 use base.Logic.{SProp, ent, emp, id⊢, ex_e, fst∗, snd∗}
 use base.Fml.{Lft, GName, Share, ftrue, fsep, flft, fauth}
@@ -28,7 +28,8 @@ use types.Part.{whole, sub, agg}
 use types.Run.{stop, fld, hop, from, addr, and_then, no_more, returns, enter}
 use types.ByLocal.{alloc_all, pass_all, free_all, look_at, look_in_at, get, through, sets, lands_as}
 use denote.Array.{Array}
-use denote.Exit.{no}
+use denote.Builtin.{usize}
+use denote.Exit.{yes, no}
 use denote.Follow.{follows, follows_then}
 use denote.RattleType.{RattleType, owns}
 use denote.Memory.{mem}
@@ -38,7 +39,8 @@ use denote.Ref.{MutBor, mut_vals, mut_Tells}
 use denote.Shadow.{makes_shadow, pure_l, pure_i}
 use denote.Signature.{plain, types_at, mut_ref_to, named_lft}
 use denote.Slice.{MutSlice, Room, room, mut_slice_at, mut_slice_vals}
-use denote.Steps.{nothing, heard, only}
+use denote.Plain.{uint_vals, uint_Tells, uint_Makes}
+use denote.Steps.{nothing, owned, heard, only}
 use denote.Struct.Owning.{shape}
 use denote.Struct.Struct.{Struct}
 use denote.Triple.Call.{calls_at}
@@ -46,9 +48,10 @@ use denote.Triple.Clauses.{Clauses, Ended, closing, ensured, lasts}
 use denote.Triple.Spec.{Meets, triple_of}
 use denote.Triple.Statement.{Contract, Triple}
 use denote.Triple.Table.{entered}
-use denote.Triple.Walked.{says, Stays, stay_dropped, walk_of, ends_at, walked, walk_Meets, Goes-spent_ref}
-use Rattle.std.specs.Global.{Vec}
-use Rattle.std.specs.Vec.{with_items}
+use denote.Triple.Walked.{says, Stays, stay_dropped, walk_of, ends_at, walked, walk_Meets, Goes-dropped, Goes-spent_ref}
+use Rattle.std.specs.Prelude.{Option}
+use Rattle.starlark_columns.specs.Places.{items_of}
+use Rattle.starlark_columns.specs.Front.{IsFront, with_items}
 use Rattle.starlark_vec2.specs.ColumnLending.{column}
 use Rattle.starlark_vec2.specs.Frozen.{Pair, with_seconds, lent_run}
 use Rattle.starlark_vec2.proofs.NamedClose.{closes_named}
@@ -83,10 +86,10 @@ module _ (A B : RattleType) where
   One = A.Denot × B.Denot
 
   abbrev stayed : Stays ended.signature.params ended.kept
-  stayed = (stay_dropped (mut_ref_to (0 ∷ []) tt (plain (λ _. W))) no, tt)
+  stayed = (stay_dropped (mut_ref_to (0 ∷ []) tt (plain (λ _. W))) no, (stay_dropped (plain (λ _. usize)) yes, tt))
 
-  abbrev kept : Vec One → List One → Vec One
-  kept v ws = with_items v (with_seconds v.items ws)
+  abbrev kept : List (Option One) → List One → List (Option One)
+  kept v ws = with_items v (with_seconds (items_of v) ws)
 
   module _ {M : Type 1} {𝓤 : Ura M} (𝓛 : Logic 𝓤) (at_mem : Memory → SProp 𝓤) (run : Routine → Fun 𝓤) where
     open 𝓛 use {H}
@@ -98,9 +101,9 @@ module _ (A B : RattleType) where
     Run = triple_of 𝓛 (g.signature A B) (g.spec A B 𝓛 at_mem run)
 
     module _ (C : Calls 𝓤 H) (Λ : Loops 𝓤 H) (fm : FmC 𝓤 H 𝓛.laws C) (gr : Triple 𝓤 (C (#run args)) Run)
-        (κ κA κB : Lft) (q qA qB : Share) (bounds : (κ ⊑ κA) × ((κ ⊑ κB) × Unit {0})) (r : MutBor (Vec One)) where
+        (κ κA κB : Lft) (q qA qB : Share) (bounds : (κ ⊑ κA) × ((κ ⊑ κB) × Unit {0})) (r : MutBor (List (Option One))) (len : ℕ) (fits : len < 2 ^ 64) where
       abbrev bound : (walk_of 𝓛 ended stayed spec).Ghost
-      bound = (((κ, (κA, (κB, tt))), (q, (qA, (qB, tt))), bounds, (r, tt), (mut_vals r, tt)), tt)
+      bound = (((κ, (κA, (κB, tt))), (q, (qA, (qB, tt))), bounds, (r, (len, tt)), (mut_vals r, (vint w64 len ∷ [], tt))), tt)
 
       abbrev Post : Val → SProp 𝓤
       Post = (walk_of 𝓛 ended stayed spec).post bound
@@ -109,70 +112,70 @@ module _ (A B : RattleType) where
       fields b o = makes_shadow 𝓛 ((Struct (shape (L-type.the_type (named_lft 3 0 tt (κ, (κA, (κB, tt)))) (param 0 A) (param 1 B)))).own_val (block_ptr b o, (record {}, tt)) (vstruct (vcons (vptr b o) (vcons (vstruct vnil) vnil)) ∷ []))
           (λ vss. (tt, (tt, ((λ uss. (tt, tt)), tt)))) ((vptr b o ∷ [], (vstruct vnil ∷ [], tt)), (refl, (refl, ((tt, (refl, tt)), tt))))
 
-      walk : ent 𝓤 ((walk_of 𝓛 ended stayed spec).pre bound) (WpFn 𝓤 H C Λ here (vptr r.ref_ptr.0 r.ref_ptr.1 ∷ []) Post)
+      walk : ent 𝓤 ((walk_of 𝓛 ended stayed spec).pre bound) (WpFn 𝓤 H C Λ here (vptr r.ref_ptr.0 r.ref_ptr.1 ∷ vint w64 len ∷ []) Post)
       walk =
           let b = r.ref_ptr.0 in let o = r.ref_ptr.1 in let v = r.now in let γ = r.ghost_name in
           qed 𝓛 (((‵ (flft κ q) ⊛ ‵ (flft κA qA) ⊛ ‵ (flft κB qB) ⊛ ‵ ftrue) ⊛ ‵ (owns (types_at ended.signature.params bound.0.0) bound.0.3 bound.0.4))
-          ∷ (raw (fact 𝓤 (κA ⊑ A.lives)) ⊛ raw (fact 𝓤 (κB ⊑ B.lives)) ⊛ ‵ ftrue) ∷ []) ∵
-          move ! (1 ∷ []) $ split3 ! $ heard ! (κA ⊑ A.lives) (λ la. heard ! (κB ⊑ B.lives) (λ lb. drop ! $
-          split ! $ split3 ! $ move ! (2 ∷ []) $ split ! $ move ! (4 ∷ []) $ fsplit ! $ keep ! (4 ∷ 5 ∷ 2 ∷ 0 ∷ []) $
-          -- [the tokens of κ, κA, κB; the vector]
-          enter ! C Λ here (vptr b o ∷ []) _ $ alloc_all ! (λ l. pass_all ! refl ((tt, tt), tt) $
+          ∷ (raw (fact 𝓤 (κA ⊑ A.lives)) ⊛ raw (fact 𝓤 (κB ⊑ B.lives)) ⊛ raw (fact 𝓤 (IsFront v len))) ∷ []) ∵
+          move ! (1 ∷ []) $ split3 ! $ heard ! (κA ⊑ A.lives) (λ la. heard ! (κB ⊑ B.lives) (λ lb. heard ! (IsFront v len) (λ front.
+          split ! $ split3 ! $ move ! (2 ∷ []) $ split ! $ move ! (4 ∷ []) $ fsplit3 ! $ keep ! (5 ∷ 6 ∷ 3 ∷ 0 ∷ []) $
+          -- [the tokens of κ, κA, κB; the column]
+          enter ! C Λ here (vptr b o ∷ vint w64 len ∷ []) _ $ alloc_all ! (λ l. pass_all ! refl ((tt, tt), ((tt, record { fits = fits }), tt)) $
           sets ! (addr ! (through ! refl (stop !))) refl (tt, tt) $
           use1 𝓛 (‵ (flft κ (Share.left q)) ⊛ ‵ (flft κ (Share.right q))) (𝓛.lfts.lft_split κ q) $ split ! $
           move ! (4 ∷ []) $ fsplit3 ! $ drop ! $ open_ref ! tt (mem W) {b = b} {o = o} $
           name_new ! tt (W.coded.code v) (λ δ. move ! (2 ∷ 1 ∷ []) $ fjoin ! $ fpack ! W.Denot (λ z. fsep ((mem W).own_at z b o) (fauth δ (W.coded.code z))) v $
           move ! (2 ∷ []) $ ages ! (λ n. move ! (1 ∷ []) $ bor_new_deep ! tt n κ $
           -- [the borrow and its right; the open borrow; obs δ; obs; auth; the other half; the tokens of κA, κB]
-          let lent : MutBor (Vec One) = record { ref_ptr = (b, o); ghost_name = δ; now = v } in
-          move ! (3 ∷ 0 ∷ []) $ feq_i ! (List Val) (mut_vals lent) (mut_vals lent) refl $ fjoin3 ! $ nothing ! $ move ! (1 ∷ 0 ∷ []) $ fjoin ! $
+          let lent : MutBor (List (Option One)) = record { ref_ptr = (b, o); ghost_name = δ; now = v } in
+          move ! (3 ∷ 0 ∷ []) $ feq_i ! (List Val) (mut_vals lent) (mut_vals lent) refl $ fjoin3 ! $ nothing ! $ owned ! usize _ (uint_Makes 𝓛 w64) len _ (refl, fits) $ fjoin ! $ move ! (1 ∷ 0 ∷ []) $ fjoin ! $
           nothing ! $ move ! (8 ∷ 0 ∷ []) $ join ! $ move ! (7 ∷ 0 ∷ []) $ join ! $ move ! (6 ∷ 0 ∷ []) $ join ! $ join ! $
-          nothing ! $ use0 𝓛 (raw (fact 𝓤 (κB ⊑ B.lives))) (fact_i 𝓤 _ (emp 𝓤) lb) $ join ! $ use0 𝓛 (raw (fact 𝓤 (κA ⊑ A.lives))) (fact_i 𝓤 _ (emp 𝓤) la) $ join ! $ move ! (1 ∷ 0 ∷ []) $ join ! $
-          let z : Run.Ghost = (((κ, (κA, (κB, tt))), (Share.right q, (qA, (qB, tt))), bounds, (lent, tt), (mut_vals lent, tt)), tt) in
+          use0 𝓛 (raw (fact 𝓤 (IsFront v len))) (fact_i 𝓤 _ (emp 𝓤) front) $ use0 𝓛 (raw (fact 𝓤 (κB ⊑ B.lives))) (fact_i 𝓤 _ (emp 𝓤) lb) $ join ! $ use0 𝓛 (raw (fact 𝓤 (κA ⊑ A.lives))) (fact_i 𝓤 _ (emp 𝓤) la) $ join ! $ move ! (1 ∷ 0 ∷ []) $ join ! $
+          let z : Run.Ghost = (((κ, (κA, (κB, tt))), (Share.right q, (qA, (qB, tt))), bounds, (lent, (len, tt)), (mut_vals lent, (vint w64 len ∷ [], tt))), tt) in
           use1 𝓛 (raw (Run.pre z)) (id⊢ 𝓤 _) $
-          calls_at ! fm Run gr z (and_then ! (get ! refl) (no_more !)) (λ u.
+          calls_at ! fm Run gr z (and_then ! (get ! refl) (and_then ! (get ! refl) (no_more !))) (λ u.
           use1 𝓛 (later (some (λ (x : MutBor (List One)). ((‵ (flft κ (Share.right q)) ⊛ ‵ (flft κA qA) ⊛ ‵ (flft κB qB) ⊛ ‵ ftrue) ⊛ ‵ ((MutSlice (named 0) κ P).own_val x (u ∷ []))) ⊛ raw (ensured 𝓛 (g.ended A B) (g.clauses A B 𝓛 at_mem run) z.0.0 z.0.3 tt x)))) (id⊢ 𝓤 _) $ await ! tt $ pick ! (λ x. split ! $ move ! (1 ∷ []) $
-          use1 𝓛 (‵ (follows W (Array P 0) δ x.ghost_name (with_items v)) ⊛ raw (fact 𝓤 (x.now ≡ v.items))) (ex_e 𝓤 _ (λ ws. snd∗ 𝓤 (sem 𝓛 (lasts (g.ended A B) z.0.0 z.0.3 ws)) _)) $ split ! $ move ! (1 ∷ []) $ heard ! (x.now ≡ v.items) (λ items.
+          use1 𝓛 (‵ (follows W (Array P 0) δ x.ghost_name (with_items v)) ⊛ raw (fact 𝓤 (x.now ≡ items_of v))) (ex_e 𝓤 _ (λ ws. snd∗ 𝓤 (sem 𝓛 (lasts (g.ended A B) z.0.0 z.0.3 ws)) _)) $ split ! $ move ! (1 ∷ []) $ heard ! (x.now ≡ items_of v) (λ items.
           move ! (1 ∷ []) $ split ! $ move ! (1 ∷ []) $ fsplit3 ! $ fsplit ! $ feq_l ! (λ at_x. pure_l ! (room P (length x.now)) (λ rm.
           lands_as ! (ap only at_x) refl (tt, (tt, (record { fits = rm.0 }, tt))) $
           pure_i ! (mut_slice_at P x (mut_slice_vals x)) (tt, (tt, tt)) (refl, rm) $ fjoin3 ! $ move ! (1 ∷ []) $ split3 ! $
-          -- [half of κ's token; the token of κA; that of κB; the slice; what the vector follows; the right; the open
+          -- [half of κ's token; the token of κA; that of κB; the slice; what the column follows; the right; the open
           -- borrow; obs; auth]
           let bx = x.ref_ptr.0 in let ox = x.ref_ptr.1 in
           move ! (3 ∷ 0 ∷ []) $ use2 𝓛 (later (some (Made A B 𝓛 κ (Share.right q) bx ox x.ghost_name (named 0) x.now))) (run_made A B 𝓛 κ (Share.right q) bx ox x.ghost_name (named 0) x.now (mut_slice_vals x)) $ await ! tt $ pick ! (λ δ'. split3 ! $
           rewrite ! 0 (λ (t : List One). ‵ (lent_run (param 0 A) (param 1 B) κ bx ox δ' t)) items refl $
           rewrite ! 2 (λ (t : List One). ‵ (follows (Array P 0) (Array P 0) x.ghost_name δ' (with_seconds t))) items refl $
-          -- [the run; half of κ's token; what the slice follows; the tokens of κA, κB; what the vector follows; the
+          -- [the run; half of κ's token; what the slice follows; the tokens of κA, κB; what the column follows; the
           -- right; the open borrow; obs; auth]
-          move ! (5 ∷ 2 ∷ []) $ use2 𝓛 (‵ (follows W (Array P 0) δ δ' (kept v))) (follows_then 𝓛 W (Array P 0) (Array P 0) (with_items v) (with_seconds v.items) δ x.ghost_name δ') $
+          move ! (5 ∷ 2 ∷ []) $ use2 𝓛 (‵ (follows W (Array P 0) δ δ' (kept v))) (follows_then 𝓛 W (Array P 0) (Array P 0) (with_items v) (with_seconds (items_of v)) δ x.ghost_name δ') $
           nothing ! $ move ! (7 ∷ 8 ∷ 9 ∷ 6 ∷ 1 ∷ 0 ∷ []) $ group ! 6 $
-          use1 𝓛 (later (some (λ (tie : GName). ‵ (flft κ (Share.left q)) ⊛ ‵ (follows W W γ tie (λ w. kept v w.items)))))
-          (closes_named 𝓛 (mem W) (mem W) (mem (Array P 0)) (kept v) (kept v) (λ w. kept v w.items) (kept_items v) κ (Share.left q) b o b o γ δ δ' (emp 𝓤) (λ w. fst∗ 𝓤 (sem 𝓛 ((mem W).own_at (kept v w) b o)) (emp 𝓤)) n (W.coded.code v) (W.coded.code v) v) $ await ! tt $ pick ! (λ tie. split ! $
-          -- [half of κ's token; what the vector follows; the run; the other half; the tokens of κA, κB]
+          use1 𝓛 (later (some (λ (tie : GName). ‵ (flft κ (Share.left q)) ⊛ ‵ (follows W W γ tie (λ w. kept v (items_of w))))))
+          (closes_named 𝓛 (mem W) (mem W) (mem (Array P 0)) (kept v) (kept v) (λ w. kept v (items_of w)) (kept_items v len front) κ (Share.left q) b o b o γ δ δ' (emp 𝓤) (λ w. fst∗ 𝓤 (sem 𝓛 ((mem W).own_at (kept v w) b o)) (emp 𝓤)) n (W.coded.code v) (W.coded.code v) v) $ await ! tt $ pick ! (λ tie. split ! $
+          -- [half of κ's token; what the column follows; the run; the other half; the tokens of κA, κB]
           move ! (0 ∷ 3 ∷ []) $ use2 𝓛 (‵ (flft κ q)) (𝓛.lfts.lft_join κ q) $ move ! (4 ∷ []) $ split ! $ move ! (4 ∷ []) $
           let start : 0 * (mem P).size + ox ≡ ox = ap (λ (k : ℕ). k + ox) (zero-mul (mem P).size) ∙ zero-add ox in
           let made : Val = vstruct (vcons (vptr bx ox) (vcons (vstruct vnil) vnil)) in
-          let new : Loan A.Denot B.Denot = record { start = block_ptr bx ox; mark = record {}; name = δ'; tie = tie; from = 0; rest = v.items } in
-          rewrite ! 0 (λ (k : ℕ). ‵ (lent_run (param 0 A) (param 1 B) κ bx k δ' v.items)) (sym start) refl $
-          pure_i ! (room P (0 + length v.items)) (tt, tt) (subst (λ (k : ℕ). Room P k) (ap length items ∙ sym (zero-add (length v.items))) rm) $ fjoin ! $
+          let new : Loan A.Denot B.Denot = record { start = block_ptr bx ox; mark = record {}; name = δ'; tie = tie; from = 0; rest = items_of v } in
+          rewrite ! 0 (λ (k : ℕ). ‵ (lent_run (param 0 A) (param 1 B) κ bx k δ' (items_of v))) (sym start) refl $
+          pure_i ! (room P (0 + length (items_of v))) (tt, tt) (subst (λ (k : ℕ). Room P k) (ap length items ∙ sym (zero-add (length (items_of v)))) rm) $ fjoin ! $
           use0 𝓛 (‵ ((Struct (shape (L-type.the_type (named_lft 3 0 tt (κ, (κA, (κB, tt)))) (param 0 A) (param 1 B)))).own_val (block_ptr bx ox, (record {}, tt)) (made ∷ []))) (fields bx ox) $ fjoin ! $
-          -- [the loan; the token of κB; nothing; that of κ; what the vector follows; that of κA]
-          sets ! (addr ! (from ! (fld ! refl (hop ! (look_in_at ! 2 (sub ! 0 refl (whole !))) (stop !))))) refl (tt, tt) $
+          -- [the loan; the token of κB; nothing; that of κ; what the column follows; that of κA]
+          sets ! (addr ! (from ! (fld ! refl (hop ! (look_in_at ! 3 (sub ! 0 refl (whole !))) (stop !))))) refl (tt, tt) $
           sets ! (agg ! (no_more !)) refl (tt, tt) $
           sets ! (agg ! (and_then ! (get ! refl) (and_then ! (get ! refl) (no_more !)))) refl (tt, (tt, (tt, tt))) $
           returns ! (look_at ! 0 refl) $ free_all ! refl $ keep ! (0 ∷ 3 ∷ 5 ∷ 1 ∷ 4 ∷ []) $
-          suffices ! _ (ends_at 𝓛 ended stayed spec bound made new (tt, tt) (tt, tt)) $
-          nothing ! $ nothing ! $ fjoin ! $ join ! $ nothing ! $ move ! (4 ∷ 0 ∷ []) $ join ! $ move ! (3 ∷ 0 ∷ []) $ join ! $ move ! (2 ∷ 0 ∷ []) $ join ! $ join ! $ frame ! $
-          says ! (refl, refl) $ done !))))))))))))
+          suffices ! _ (ends_at 𝓛 ended stayed spec bound made new (tt, (tt, tt)) (tt, (tt, tt))) $
+          nothing ! $ nothing ! $ fjoin ! $ nothing ! $ fjoin ! $ join ! $ nothing ! $ move ! (4 ∷ 0 ∷ []) $ join ! $ move ! (3 ∷ 0 ∷ []) $ join ! $ move ! (2 ∷ 0 ∷ []) $ join ! $ join ! $ frame ! $
+          says ! (refl, refl) $ done !)))))))))))))
 
 meets : (A B : RattleType) {M : Type 1} {𝓤 : Ura M} (𝓛 : Logic 𝓤) (at_mem : Memory → SProp 𝓤) (run : Routine → Fun 𝓤) (𝓣 : Tables 𝓤 𝓛.H)
     → Triple 𝓤 (𝓣.C (#run (args A B))) (Run A B 𝓛 at_mem run)
     → Meets 𝓛 (ended A B).signature (WpFn 𝓤 𝓛.H 𝓣.C 𝓣.Λ (here A B)) (closing 𝓛 (ended A B) (spec A B 𝓛 at_mem run))
 meets A B {𝓤 = 𝓤} 𝓛 at_mem run 𝓣 gr =
-    walk_Meets 𝓛 (ended A B) (stayed A B) (Goes-spent_ref 𝓛 3 (0 ∷ []) tt (plain (λ _. W A B)), tt)
+    walk_Meets 𝓛 (ended A B) (stayed A B) (Goes-spent_ref 𝓛 3 (0 ∷ []) tt (plain (λ _. W A B)), (Goes-dropped 𝓛 3 (plain (λ _. usize)) yes (λ κs x f. refl), tt))
     (spec A B 𝓛 at_mem run) (WpFn 𝓤 𝓛.H 𝓣.C 𝓣.Λ (here A B)) (WpFn-mono 𝓤 𝓛.H 𝓛.laws 𝓣 (here A B))
-    (walked 𝓛 (ended A B) (stayed A B) (spec A B 𝓛 at_mem run) (WpFn 𝓤 𝓛.H 𝓣.C 𝓣.Λ (here A B)) (λ κs. (mut_vals, tt)) (λ κs. (mut_Tells (named 0) κs.0 (W A B), tt))
-    (λ κs qs bounds a g' are. walk A B 𝓛 at_mem run 𝓣.C 𝓣.Λ (fm_of 𝓤 𝓛.H 𝓛.laws 𝓣) gr κs.0 κs.1.0 κs.1.1.0 qs.0 qs.1.0 qs.1.1.0 bounds a.0))
+    (walked 𝓛 (ended A B) (stayed A B) (spec A B 𝓛 at_mem run) (WpFn 𝓤 𝓛.H 𝓣.C 𝓣.Λ (here A B)) (λ κs. (mut_vals, (uint_vals w64, tt))) (λ κs. (mut_Tells (named 0) κs.0 (W A B), (uint_Tells w64, tt)))
+    (λ κs qs bounds a g' are. walk A B 𝓛 at_mem run 𝓣.C 𝓣.Λ (fm_of 𝓤 𝓛.H 𝓛.laws 𝓣) gr κs.0 κs.1.0 κs.1.1.0 qs.0 qs.1.0 qs.1.1.0 bounds a.0 a.1.0 are.1.0.1))
 
 pub new_spec : {M : Type 1} → stated.statement M
 unfolding tables_of

@@ -1,16 +1,15 @@
 -- `get_unchecked_mut` meets its contract, at any two item types: the struct stays open while its columns are lent to one call, and what they follow closes it. Assumes `Logic`.
-use mathlib.Core.Path.{◌≡◌, refl, sym, ap, subst, ◌∙◌}
-use native.Mathlib.Omega.{arith}
+use mathlib.Core.Path.{◌≡◌, refl, ap, ◌∙◌}
 use Prim.Native.Nat.{ℕ, ◌+◌, ◌<◌, ◌^◌}
 use mathlib.Core.List.{List, [], ◌∷◌, ◌++◌}
-use lib.ListN.{length, length-set}
+use lib.ListN.{length}
 use seplogic.Ra.Ura.{Ura}
 use base.Fraction.{full_share}
 use mir.Syntax.{Fn, Args, a_type, named, w64}
 use mir.MapTy.{inst_fn}
 use mir.Val.{Val, vint, vptr, vstruct, vcons, vnil, of_list}
 use base.Share
-use base.Logic.{SProp, ent, sep, emp, id⊢, ex_e, snd∗}
+use base.Logic.{SProp, ent, emp, id⊢, ex_e, snd∗}
 use base.Fml.{Lft, Share, ftrue, fsep, flft, fauth}
 use prog.Memory.{Memory}
 use prog.Routine.{Routine}
@@ -44,18 +43,16 @@ use denote.Triple.Spec.{Meets, triple_of}
 use denote.Triple.Statement.{Contract, Triple}
 use denote.Triple.Table.{entered}
 use denote.Triple.Walked.{says, Stays, stay_dropped, walk_of, ends_at, walked, walk_Meets, Goes-dropped, Goes-spent_ref}
-use Rattle.std.specs.Prelude.{slice_index_or, slice_get}
+use Rattle.std.specs.Prelude.{get_or, slice_set, None}
 use Rattle.std.specs.declared.option.Option.TheVariants.{Some}
-use denote.RattleType.{Valss}
-use denote.Struct.Declared.{shape}
-use denote.Struct.Struct.{within}
-use denote.Struct.Tuple.{tuple_type}
-use Rattle.std.specs.Vec.{with_item}
+use Rattle.starlark_columns.specs.Places.{IsFilled}
+use Rattle.starlark_columns.proofs.Fronts.{front_filled, front_taken}
 use Rattle.starlark_vec2.specs.ColumnLending.{column}
 use Rattle.starlark_vec2.specs.Lending.{with_pair}
-use Rattle.starlark_vec2.specs.PairList.{PairList, pair_list}
+use Rattle.starlark_vec2.specs.PairList.{PairList}
 use Rattle.starlark_vec2.proofs.BothClose.{closes_both}
-use Rattle.starlark_vec2.proofs.Pairs.{length-zip, zip-set, slice_get-zip}
+use Rattle.starlark_vec2.proofs.Runs.{pair_made}
+use Rattle.starlark_vec2.proofs.TwoColumns.{in_columns, both_set, both_end, pair_is}
 use Rattle.starlark_vec2.proofs.Vec2Open.{V, D, Known, Rest, Cuts, eA, eB, cut, shut}
 use Rattle.starlark_vec2.specs.contracts.vec2.Vec2.get_unchecked_mut as F
 use Rattle.starlark_vec2.specs.contracts.vec2.Vec2.get_unchecked_mut.Key.{name as #self}
@@ -64,12 +61,6 @@ use Rattle.starlark_vec2.proofs.vec2.lends.lend_columns.Symbol.{name as #lend}
 use Rattle.starlark_vec2.proofs.vec2.lends.lend_columns.Met as lend
 use Rattle.starlark_vec2.proofs.vec2.Vec2.get_unchecked_mut.Statement as stated
 use Rattle.starlark_vec2.proofs.vec2.Vec2.get_unchecked_mut.Code as code
-
-pair_of : {M : Type 1} {𝓤 : Ura M} (𝓛 : Logic 𝓤) (R S : RattleType) (x : R.Denot) (y : S.Denot) (u v : Val)
-    → ent 𝓤 (sep 𝓤 (sem 𝓛 (R.own_val x (u ∷ []))) (sem 𝓛 (S.own_val y (v ∷ [])))) (sem 𝓛 ((Tuple (R ∷ S ∷ [])).own_val (x, y) (vstruct (vcons u (vcons v vnil)) ∷ [])))
-pair_of 𝓛 R S x y u v =
-    qed 𝓛 (‵ (R.own_val x (u ∷ [])) ∷ ‵ (S.own_val y (v ∷ [])) ∷ []) ∵ nothing ! $ move ! (2 ∷ 0 ∷ []) $ fjoin ! $ move ! (1 ∷ 0 ∷ []) $ fjoin ! $ feq_i ! (List Val) (vstruct (vcons u (vcons v vnil)) ∷ []) (vstruct (vcons u (vcons v vnil)) ∷ []) refl $ fjoin ! $
-    fpack ! (Valss (R ∷ S ∷ [])) (within (shape (tuple_type (R ∷ S ∷ []))) (x, (y, tt)) (vstruct (vcons u (vcons v vnil)) ∷ [])) (u ∷ [], (v ∷ [], tt)) $ done !
 
 module _ (A B : RattleType) where
   abbrev args : Args
@@ -98,14 +89,10 @@ module _ (A B : RattleType) where
 
   -- the struct with both items written
   abbrev written : D A' B' → ℕ → A.Denot → B.Denot → D A' B'
-  written d i x y = record d { firsts = with_item d.firsts i x; seconds = with_item d.seconds i y }
+  written d i x y = record d { firsts = slice_set d.firsts i (Some x); seconds = slice_set d.seconds i (Some y) }
 
-  written_known : (v : W.Denot) (d : D A' B') (i : ℕ) (x : A.Denot) (y : B.Denot) → Known A' B' v d → Known A' B' (with_pair v i (x, y)) (written d i x y)
-  written_known v d i x y k =
-      let lx = length-set d.firsts.items i x in let ly = length-set d.seconds.items i y in (
-        ap (λ ps. pair_list ps d.capacity) (zip-set d.firsts.items d.seconds.items i x y) ∙ ap (λ u. with_pair u i (x, y)) k.0,
-        record { even = lx ∙ k.1.even ∙ sym ly; within = omega (arith, lx, k.1.within); firsts_fit = k.1.firsts_fit; seconds_fit = k.1.seconds_fit },
-      )
+  written_known : (v : W.Denot) (d : D A' B') (i : ℕ) (x : A.Denot) (y : B.Denot) → i < length v.pairs → Known A' B' v d → Known A' B' (with_pair v i (x, y)) (written d i x y)
+  written_known v d i x y lt k = (both_end d.firsts d.seconds d.len k.1 v k.0 i lt x y, both_set d.firsts d.seconds d.len k.1 v k.0 i lt x y)
 
   module _ {M : Type 1} {𝓤 : Ura M} (𝓛 : Logic 𝓤) (at_mem : Memory → SProp 𝓤) (run : Routine → Fun 𝓤) where
     open 𝓛 use {H, A as A₀}
@@ -149,35 +136,34 @@ module _ (A B : RattleType) where
           move ! (5 ∷ []) $ ages ! (λ n. move ! (1 ∷ []) $ bor_new_deep ! tt n κ $ move ! (4 ∷ []) $ bor_new_deep ! tt n κ $
           -- [the first borrow and its right; the second and its; the open borrow; obs δ'; obs δ; the rest; obs; auth; the other half; the tokens of κA, κB]
           let xr : MutBor CA.Denot = record { ref_ptr = (b, o + eA A' B'); ghost_name = δ; now = xs } in let yr : MutBor CB.Denot = record { ref_ptr = (b, o + eB A' B'); ghost_name = δ'; now = ys } in
-          let same : length xs.items ≡ length ys.items = d'.1.1.even in
-          let ix : i < length xs.items = omega (arith, lt, length-zip xs.items ys.items same, ap (λ u. length u.pairs) d'.1.0) in
-          let iy : i < length ys.items = omega (arith, ix, same) in
+          let in_row : i < d.len = in_columns xs ys d.len d'.1.1 v d'.1.0 i lt in
+          let ix : IsFilled xs i = front_filled xs d.len d'.1.1.firsts_front i in_row in let iy : IsFilled ys i = front_filled ys d.len d'.1.1.seconds_front i in_row in
           move ! (6 ∷ 0 ∷ []) $ feq_i ! (List Val) (mut_vals xr) (mut_vals xr) refl $ fjoin3 ! $ move ! (5 ∷ 2 ∷ []) $ feq_i ! (List Val) (mut_vals yr) (mut_vals yr) refl $ fjoin3 ! $
           nothing ! $ owned ! usize _ (uint_Makes 𝓛 w64) i _ (refl, fi) $ fjoin ! $ move ! (1 ∷ 0 ∷ []) $ fjoin ! $ move ! (1 ∷ 0 ∷ []) $ fjoin ! $
           nothing ! $ move ! (10 ∷ 0 ∷ []) $ join ! $ move ! (9 ∷ 0 ∷ []) $ join ! $ move ! (8 ∷ 0 ∷ []) $ join ! $ join ! $
-          use0 𝓛 (raw (fact 𝓤 (i < length ys.items))) (fact_i 𝓤 _ (emp 𝓤) iy) $ use0 𝓛 (raw (fact 𝓤 (i < length xs.items))) (fact_i 𝓤 _ (emp 𝓤) ix) $
+          use0 𝓛 (raw (fact 𝓤 (IsFilled ys i))) (fact_i 𝓤 _ (emp 𝓤) iy) $ use0 𝓛 (raw (fact 𝓤 (IsFilled xs i))) (fact_i 𝓤 _ (emp 𝓤) ix) $
           use0 𝓛 (raw (fact 𝓤 (κB ⊑ B.lives))) (fact_i 𝓤 _ (emp 𝓤) lb) $ use0 𝓛 (raw (fact 𝓤 (κA ⊑ A.lives))) (fact_i 𝓤 _ (emp 𝓤) la) $ group ! 4 $ move ! (1 ∷ 0 ∷ []) $ join ! $
           let z : Lend.Ghost = (((κ, (κA, (κB, tt))), (Share.right q, (qA, (qB, tt))), bounds, (xr, (yr, (i, tt))), (mut_vals xr, (mut_vals yr, (vint w64 i ∷ [], tt)))), tt) in
           use1 𝓛 (raw (Lend.pre z)) (id⊢ 𝓤 _) $
           calls_at ! fm Lend gl z (and_then ! (get ! refl) (and_then ! (get ! refl) (and_then ! (get ! refl) (no_more !)))) (λ u.
           use1 𝓛 (later (some (λ (x : MutBor A.Denot × MutBor B.Denot). ((‵ (flft κ (Share.right q)) ⊛ ‵ (flft κA qA) ⊛ ‵ (flft κB qB) ⊛ ‵ ftrue) ⊛ ‵ ((PairAt κ).own_val x (u ∷ []))) ⊛ raw (ensured 𝓛 (g.ended A B) (g.clauses A B 𝓛 at_mem run) z.0.0 z.0.3 tt x)))) (id⊢ 𝓤 _) $ await ! tt $ pick ! (λ x. split ! $ move ! (1 ∷ []) $
-          use1 𝓛 (‵ (fsep (follows CA A' δ x.0.ghost_name (with_item xs i)) (follows CB B' δ' x.1.ghost_name (with_item ys i))) ⊛ raw (fact 𝓤 ((x.0.now ≡ slice_index_or xs.items i x.0.now) × (x.1.now ≡ slice_index_or ys.items i x.1.now))))
-          (ex_e 𝓤 _ (λ ws. snd∗ 𝓤 (sem 𝓛 (lasts (g.ended A B) z.0.0 z.0.3 ws)) _)) $ split ! $ move ! (1 ∷ []) $ heard ! ((x.0.now ≡ slice_index_or xs.items i x.0.now) × (x.1.now ≡ slice_index_or ys.items i x.1.now)) (λ vals. fsplit ! $
+          use1 𝓛 (‵ (fsep (follows CA A' δ x.0.ghost_name (λ w. slice_set xs i (Some w))) (follows CB B' δ' x.1.ghost_name (λ w. slice_set ys i (Some w)))) ⊛ raw (fact 𝓤 ((get_or xs i None ≡ Some x.0.now) × (get_or ys i None ≡ Some x.1.now))))
+          (ex_e 𝓤 _ (λ ws. snd∗ 𝓤 (sem 𝓛 (lasts (g.ended A B) z.0.0 z.0.3 ws)) _)) $ split ! $ move ! (1 ∷ []) $ heard ! ((get_or xs i None ≡ Some x.0.now) × (get_or ys i None ≡ Some x.1.now)) (λ vals. fsplit ! $
           -- [what the columns follow; the tokens with the result; the two rights; the open borrow; the rest; obs; auth]
           move ! (5 ∷ 7 ∷ 8 ∷ 3 ∷ 4 ∷ 0 ∷ 1 ∷ 6 ∷ []) $ group ! 8 $
           use1 𝓛 (later (‵ (flft κ (Share.left q)) ⊛ ‵ (follows_both W A' B' γ x.0.ghost_name x.1.ghost_name (λ y y'. with_pair v i (y, y')))))
-          (closes_both 𝓛 (mem W) (mem CA) (mem CB) (mem A') (mem B') (with_item xs i) (with_item ys i) (λ y y'. with_pair v i (y, y')) κ (Share.left q) b o b (o + eA A' B') b (o + eB A' B') γ δ δ' x.0.ghost_name x.1.ghost_name
-          (Rest A' B' 𝓛 b o d) (λ y y'. shut A' B' 𝓛 b o (with_pair v i (y, y')) (written d i y y') (written_known v d i y y' d'.1)) n (W.coded.code v) (W.coded.code v)) $ await ! tt $ split ! $
+          (closes_both 𝓛 (mem W) (mem CA) (mem CB) (mem A') (mem B') (λ w. slice_set xs i (Some w)) (λ w. slice_set ys i (Some w)) (λ y y'. with_pair v i (y, y')) κ (Share.left q) b o b (o + eA A' B') b (o + eB A' B') γ δ δ' x.0.ghost_name x.1.ghost_name
+          (Rest A' B' 𝓛 b o d) (λ y y'. shut A' B' 𝓛 b o (with_pair v i (y, y')) (written d i y y') (written_known v d i y y' lt d'.1)) n (W.coded.code v) (W.coded.code v)) $ await ! tt $ split ! $
           -- [half of κ's token; what self follows; the tokens with the result]
           move ! (2 ∷ []) $ split ! $ split ! $ move ! (3 ∷ 0 ∷ []) $ use2 𝓛 (‵ (flft κ q)) (𝓛.lfts.lft_join κ q) $ move ! (2 ∷ []) $
           fpick ! (λ vss. fsplit ! $ feq_l ! (λ e. fsplit3 ! $ fsplit3 ! $ feq_l ! (λ ex. feq_i ! (List Val) (mut_vals x.0) (mut_vals x.0) refl $ fjoin3 ! $ move ! (1 ∷ []) $ fsplit3 ! $ feq_l ! (λ ey. feq_i ! (List Val) (mut_vals x.1) (mut_vals x.1) refl $ fjoin3 ! $
           lands_as ! (ap only e ∙ (λ j. vstruct (of_list (ex j ++ (ey j ++ []))))) refl (tt, (tt, (tt, tt))) $
           returns ! (look_at ! 0 refl) $ free_all ! refl $ keep ! (1 ∷ 0 ∷ 3 ∷ 4 ∷ 5 ∷ []) $
-          use2 𝓛 (‵ ((PairAt κ).own_val x (pair_at x ∷ []))) (pair_of 𝓛 (MutRef (named 0) κ A') (MutRef (named 0) κ B') x.0 x.1 (vptr x.0.ref_ptr.0 x.0.ref_ptr.1) (vptr x.1.ref_ptr.0 x.1.ref_ptr.1)) $
+          use2 𝓛 (‵ ((PairAt κ).own_val x (pair_at x ∷ []))) (pair_made 𝓛 (MutRef (named 0) κ A') (MutRef (named 0) κ B') x.0 x.1 (vptr x.0.ref_ptr.0 x.0.ref_ptr.1) (vptr x.1.ref_ptr.0 x.1.ref_ptr.1)) $
           suffices ! _ (ends_at 𝓛 ended stayed spec bound (pair_at x) x (tt, (tt, tt)) (tt, (tt, tt))) $
           -- [the result; the token of κ; those of κA, κB; what self follows]
           nothing ! $ nothing ! $ fjoin ! $ nothing ! $ fjoin ! $ join ! $ move ! (1 ∷ 2 ∷ []) $ join ! $ join ! $ frame ! $
-          says ! (subst (λ (w : PairList A.Denot B.Denot). slice_get w.pairs i ≡ Some (x.0.now, x.1.now)) d'.1.0 (slice_get-zip xs.items ys.items i x.0.now x.1.now (omega (arith, ix, length-zip xs.items ys.items same)) vals.0 vals.1)) $ done !)))))))))))))))
+          says ! (pair_is xs ys d.len d'.1.1 v d'.1.0 i x.0.now x.1.now (front_taken xs d.len d'.1.1.firsts_front i in_row x.0.now vals.0) (front_taken ys d.len d'.1.1.seconds_front i in_row x.1.now vals.1)) $ done !)))))))))))))))
 
 meets : (A B : RattleType) → Laws A → Laws B → {M : Type 1} {𝓤 : Ura M} (𝓛 : Logic 𝓤) (at_mem : Memory → SProp 𝓤) (run : Routine → Fun 𝓤) (𝓣 : Tables 𝓤 𝓛.H)
     → Triple 𝓤 (𝓣.C (#lend (args A B))) (Lend A B 𝓛 at_mem run)

@@ -1,17 +1,21 @@
-use Rattle.std.proofs.Common.{◌<◌, length, slice_get, refl, sym, ap, subst, ◌∙◌}
-use Rattle.starlark_vec2.specs.PairList.{pair_list, with_pairs}
-use Rattle.starlark_vec2.specs.Lending.{set_second_at}
-use Rattle.starlark_vec2.proofs.Pairs.{zip-set_second, slice_get-zip}
+use Rattle.std.proofs.Common.{refl}
+use Rattle.starlark_vec2.proofs.TwoColumns.{in_columns, second_set, second_end, pair_is}
 use Rattle.starlark_vec2.proofs.vec2.Vec2.pair_at_mut.Goals as goal
 
+pub item-requires-clause-within : goal.item-requires-clause-within
+item-requires-clause-within g c = in_columns c.self.inside.firsts c.self.inside.seconds c.self.inside.len c.self.invariant c.args.self.now c.self.view_is c.args.index c.requires
+
+pub item_mut-requires-clause-within : goal.item_mut-requires-clause-within
+item_mut-requires-clause-within g c = in_columns c.self.inside.firsts c.self.inside.seconds c.self.inside.len c.self.invariant c.args.self.now c.self.view_is c.args.index c.requires
+
+pub invariant_of-self-lent : goal.invariant_of-self-lent
+invariant_of-self-lent g c = second_set c.self.inside.firsts c.self.inside.seconds c.self.inside.len c.self.invariant c.args.self.now c.self.view_is c.args.index c.requires
+
 pub returns : goal.returns
-returns g c =
-    let xs = c.self.inside.firsts.items in
-    let ys = c.self.inside.seconds.items in
-    let within = subst (λ v. c.args.index < length v.pairs) (sym c.self.view_is) c.requires in (
-      (refl {a = c.index_mut.result.ghost_name}, λ w. ap (λ ps. pair_list ps c.self.inside.capacity) (zip-set_second xs ys c.args.index w) ∙ ap (λ v. with_pairs v (set_second_at v.pairs c.args.index w)) c.self.view_is),
-      record {
-        writes_back = tt;
-        value = ap (λ v. slice_get v.pairs c.args.index) (sym c.self.view_is) ∙ slice_get-zip xs ys c.args.index _ _ within c.index.ensures c.index_mut.ensures.value;
-      },
-    )
+returns g c = (
+  (refl {a = c.item_mut.result.ghost_name}, second_end c.self.inside.firsts c.self.inside.seconds c.self.inside.len c.self.invariant c.args.self.now c.self.view_is c.args.index c.requires),
+  record {
+    writes_back = tt;
+    value = pair_is c.self.inside.firsts c.self.inside.seconds c.self.inside.len c.self.invariant c.args.self.now c.self.view_is c.args.index _ _ c.item.ensures c.item_mut.ensures.value;
+  },
+)

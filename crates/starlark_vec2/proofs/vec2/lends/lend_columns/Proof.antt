@@ -1,13 +1,12 @@
--- `lend_columns` meets its contract, at any two item types: two calls, each of which says what its vector follows. Assumes `Logic`.
+-- `lend_columns` meets its contract, at any two item types: two calls, each of which says what its column follows. Assumes `Logic`.
 use mathlib.Core.Path.{◌≡◌, refl, ap}
 use Prim.Native.Nat.{ℕ, ◌<◌, ◌^◌}
 use mathlib.Core.List.{List, [], ◌∷◌}
-use lib.ListN.{length}
 use seplogic.Ra.Ura.{Ura}
 use mir.Syntax.{Fn, Args, a_type, named, w64}
 use mir.MapTy.{inst_fn}
 use mir.Val.{Val, vint, vptr, vstruct, vcons, vnil}
-use base.Logic.{SProp, ent, sep, emp, id⊢, ex_e, snd∗}
+use base.Logic.{SProp, ent, emp, id⊢, ex_e, snd∗}
 use base.Fml.{Lft, Share, ftrue, flft}
 use prog.Memory.{Memory}
 use prog.Routine.{Routine}
@@ -17,12 +16,12 @@ use contract.BorrowLft.{◌⊑◌}
 use contract.Monad.{Fun, fact, fact_i}
 use contract.Running.{tables, tables_of}
 use sound.WpLaws.{FmC, fm_of, WpFn-mono}
-use types.Kit.{‵, raw, ◌⊛◌, some, later, ◌$◌, ◌∵◌, !, qed, move, keep, use0, use1, use2, split, split3, join, pick, fsplit3, fjoin, fjoin3, fpack, feq_i, feq_l, suffices, frame, await, done}
+use types.Kit.{‵, raw, ◌⊛◌, some, later, ◌$◌, ◌∵◌, !, qed, move, keep, use0, use1, use2, split, split3, join, pick, fsplit3, fjoin, fjoin3, feq_i, feq_l, suffices, frame, await, done}
 use types.Part.{agg}
 use types.Run.{stop, addr, and_then, no_more, returns, enter}
 use types.ByLocal.{alloc_all, pass_all, free_all, look_at, get, through, sets, lands_as}
 use denote.Exit.{yes, no}
-use denote.RattleType.{RattleType, owns, Valss}
+use denote.RattleType.{RattleType, owns}
 use denote.Builtin.{usize}
 use denote.Follow.{follows}
 use denote.Param.{param, layouts}
@@ -30,19 +29,17 @@ use denote.Plain.{uint_vals, uint_Tells, uint_Makes}
 use denote.Ref.{MutBor, MutRef, mut_vals, mut_Tells}
 use denote.Signature.{plain, types_at, mut_ref_to}
 use denote.Steps.{nothing, owned, heard, only}
-use denote.Struct.Declared.{shape}
-use denote.Struct.Struct.{within}
-use denote.Struct.Tuple.{Tuple, tuple_type}
+use denote.Struct.Tuple.{Tuple}
 use denote.Triple.Call.{calls_at}
 use denote.Triple.Clauses.{Clauses, Ended, closing, ensured, lasts}
 use denote.Triple.Spec.{Meets, triple_of}
 use denote.Triple.Statement.{Contract, Triple}
 use denote.Triple.Table.{entered}
 use denote.Triple.Walked.{says, Stays, stay_dropped, walk_of, ends_at, walked, walk_Meets, Goes-dropped, Goes-spent_ref}
-use Rattle.std.specs.Prelude.{slice_index_or}
-use Rattle.std.specs.Global.{Vec}
-use Rattle.std.specs.Vec.{with_item}
+use Rattle.std.specs.Prelude.{get_or, slice_set, Option, Some, None}
+use Rattle.starlark_columns.specs.Places.{IsFilled}
 use Rattle.starlark_vec2.specs.ColumnLending.{column}
+use Rattle.starlark_vec2.proofs.Runs.{pair_made}
 use Rattle.starlark_vec2.specs.contracts.vec2.lends.lend_columns as F
 use Rattle.starlark_vec2.specs.contracts.vec2.lends.lend_columns.Key.{name as #self}
 use Rattle.starlark_vec2.specs.contracts.vec2.lends.lend_place as g
@@ -50,12 +47,6 @@ use Rattle.starlark_vec2.proofs.vec2.lends.lend_place.Symbol.{name as #place}
 use Rattle.starlark_vec2.proofs.vec2.lends.lend_place.Met as item
 use Rattle.starlark_vec2.proofs.vec2.lends.lend_columns.Statement as stated
 use Rattle.starlark_vec2.proofs.vec2.lends.lend_columns.Code as code
-
-pair_of : {M : Type 1} {𝓤 : Ura M} (𝓛 : Logic 𝓤) (R S : RattleType) (x : R.Denot) (y : S.Denot) (u v : Val)
-    → ent 𝓤 (sep 𝓤 (sem 𝓛 (R.own_val x (u ∷ []))) (sem 𝓛 (S.own_val y (v ∷ [])))) (sem 𝓛 ((Tuple (R ∷ S ∷ [])).own_val (x, y) (vstruct (vcons u (vcons v vnil)) ∷ [])))
-pair_of 𝓛 R S x y u v =
-    qed 𝓛 (‵ (R.own_val x (u ∷ [])) ∷ ‵ (S.own_val y (v ∷ [])) ∷ []) ∵ nothing ! $ move ! (2 ∷ 0 ∷ []) $ fjoin ! $ move ! (1 ∷ 0 ∷ []) $ fjoin ! $ feq_i ! (List Val) (vstruct (vcons u (vcons v vnil)) ∷ []) (vstruct (vcons u (vcons v vnil)) ∷ []) refl $ fjoin ! $
-    fpack ! (Valss (R ∷ S ∷ [])) (within (shape (tuple_type (R ∷ S ∷ []))) (x, (y, tt)) (vstruct (vcons u (vcons v vnil)) ∷ [])) (u ∷ [], (v ∷ [], tt)) $ done !
 
 module _ (A B : RattleType) where
   abbrev args : Args
@@ -81,7 +72,7 @@ module _ (A B : RattleType) where
 
     module _ (C : Calls 𝓤 H) (Λ : Loops 𝓤 H) (fm : FmC 𝓤 H 𝓛.laws C)
         (ga : Triple 𝓤 (C (#place (layouts (a_type ∷ []) (A, tt)))) (Item A)) (gb : Triple 𝓤 (C (#place (layouts (a_type ∷ []) (B, tt)))) (Item B))
-        (κ κA κB : Lft) (q qA qB : Share) (bounds : (κ ⊑ κA) × ((κ ⊑ κB) × Unit {0})) (r : MutBor (Vec A.Denot)) (s : MutBor (Vec B.Denot)) (i : ℕ)
+        (κ κA κB : Lft) (q qA qB : Share) (bounds : (κ ⊑ κA) × ((κ ⊑ κB) × Unit {0})) (r : MutBor (List (Option A.Denot))) (s : MutBor (List (Option B.Denot))) (i : ℕ)
         (fi : i < 2 ^ 64) where
       abbrev bound : (walk_of 𝓛 ended stayed spec).Ghost
       bound = (((κ, (κA, (κB, tt))), (q, (qA, (qB, tt))), bounds, (r, (s, (i, tt))), (mut_vals r, (mut_vals s, (vint w64 i ∷ [], tt)))), tt)
@@ -98,42 +89,42 @@ module _ (A B : RattleType) where
           let za : (Item A).Ghost = (((κ, (κA, tt)), (q, (qA, tt)), (bounds.0, tt), (r, (i, tt)), (mut_vals r, (vint w64 i ∷ [], tt))), tt) in
           let zb : (Item B).Ghost = (((κ, (κB, tt)), (q, (qB, tt)), (bounds.1.0, tt), (s, (i, tt)), (mut_vals s, (vint w64 i ∷ [], tt))), tt) in
           qed 𝓛 (((‵ (flft κ q) ⊛ ‵ (flft κA qA) ⊛ ‵ (flft κB qB) ⊛ ‵ ftrue) ⊛ ‵ (owns (types_at ended.signature.params bound.0.0) bound.0.3 bound.0.4))
-          ∷ (raw (fact 𝓤 (κA ⊑ A.lives)) ⊛ raw (fact 𝓤 (κB ⊑ B.lives)) ⊛ raw (fact 𝓤 (i < length r.now.items)) ⊛ raw (fact 𝓤 (i < length s.now.items))) ∷ []) ∵
-          move ! (1 ∷ []) $ split3 ! $ move ! (2 ∷ []) $ split ! $ heard ! (i < length r.now.items) (λ ir. heard ! (i < length s.now.items) (λ is. heard ! (κA ⊑ A.lives) (λ la. heard ! (κB ⊑ B.lives) (λ lb.
+          ∷ (raw (fact 𝓤 (κA ⊑ A.lives)) ⊛ raw (fact 𝓤 (κB ⊑ B.lives)) ⊛ raw (fact 𝓤 (IsFilled r.now i)) ⊛ raw (fact 𝓤 (IsFilled s.now i))) ∷ []) ∵
+          move ! (1 ∷ []) $ split3 ! $ move ! (2 ∷ []) $ split ! $ heard ! (IsFilled r.now i) (λ ir. heard ! (IsFilled s.now i) (λ is. heard ! (κA ⊑ A.lives) (λ la. heard ! (κB ⊑ B.lives) (λ lb.
           split ! $ split3 ! $ move ! (2 ∷ []) $ split ! $ move ! (4 ∷ []) $ fsplit3 ! $ keep ! (5 ∷ 6 ∷ 3 ∷ 0 ∷ 1 ∷ []) $
-          -- [the tokens of κ, κA, κB; the two slices]
+          -- [the tokens of κ, κA, κB; both columns]
           enter ! C Λ here (vptr r.ref_ptr.0 r.ref_ptr.1 ∷ vptr s.ref_ptr.0 s.ref_ptr.1 ∷ vint w64 i ∷ []) _ $
           alloc_all ! (λ l. pass_all ! refl ((tt, tt), ((tt, tt), ((tt, record { fits = fi }), tt))) $
           -- &mut *firsts, and the first call
           sets ! (addr ! (through ! refl (stop !))) refl (tt, tt) $
           nothing ! $ owned ! usize _ (uint_Makes 𝓛 w64) i _ (refl, fi) $ fjoin ! $ move ! (4 ∷ 0 ∷ []) $ fjoin ! $
           nothing ! $ move ! (3 ∷ 0 ∷ []) $ join ! $ move ! (2 ∷ 0 ∷ []) $ join ! $ join ! $
-          use0 𝓛 (raw (fact 𝓤 (i < length r.now.items))) (fact_i 𝓤 _ (emp 𝓤) ir) $ use0 𝓛 (raw (fact 𝓤 (κA ⊑ A.lives))) (fact_i 𝓤 _ (emp 𝓤) la) $ join ! $ move ! (1 ∷ 0 ∷ []) $ join ! $
+          use0 𝓛 (raw (fact 𝓤 (IsFilled r.now i))) (fact_i 𝓤 _ (emp 𝓤) ir) $ use0 𝓛 (raw (fact 𝓤 (κA ⊑ A.lives))) (fact_i 𝓤 _ (emp 𝓤) la) $ join ! $ move ! (1 ∷ 0 ∷ []) $ join ! $
           use1 𝓛 (raw ((Item A).pre za)) (id⊢ 𝓤 _) $
           calls_at ! fm (Item A) ga za (and_then ! (get ! refl) (and_then ! (get ! refl) (no_more !))) (λ u.
           use1 𝓛 (later (some (λ (x : MutBor A.Denot). ((‵ (flft κ q) ⊛ ‵ (flft κA qA) ⊛ ‵ ftrue) ⊛ ‵ ((MutRef (named 0) κ (param 0 A)).own_val x (u ∷ []))) ⊛ raw (ensured 𝓛 (g.ended A) (g.clauses A 𝓛 at_mem run) (κ, (κA, tt)) (r, (i, tt)) tt x)))) (id⊢ 𝓤 _) $ await ! tt $ pick ! (λ x. split ! $ move ! (1 ∷ []) $
-          use1 𝓛 (‵ (follows (column (param 0 A)) (param 0 A) r.ghost_name x.ghost_name (with_item r.now i)) ⊛ raw (fact 𝓤 (x.now ≡ slice_index_or r.now.items i x.now))) (ex_e 𝓤 _ (λ ws. snd∗ 𝓤 (sem 𝓛 (lasts (g.ended A) (κ, (κA, tt)) (r, (i, tt)) ws)) _)) $ split ! $
-          move ! (1 ∷ []) $ heard ! (x.now ≡ slice_index_or r.now.items i x.now) (λ ea. move ! (1 ∷ []) $ split ! $ move ! (1 ∷ []) $ fsplit3 ! $ feq_l ! (λ at_x. lands_as ! (ap only at_x) refl (tt, tt) $
+          use1 𝓛 (‵ (follows (column (param 0 A)) (param 0 A) r.ghost_name x.ghost_name (λ w. slice_set r.now i (Some w))) ⊛ raw (fact 𝓤 (get_or r.now i None ≡ Some x.now))) (ex_e 𝓤 _ (λ ws. snd∗ 𝓤 (sem 𝓛 (lasts (g.ended A) (κ, (κA, tt)) (r, (i, tt)) ws)) _)) $ split ! $
+          move ! (1 ∷ []) $ heard ! (get_or r.now i None ≡ Some x.now) (λ ea. move ! (1 ∷ []) $ split ! $ move ! (1 ∷ []) $ fsplit3 ! $ feq_l ! (λ at_x. lands_as ! (ap only at_x) refl (tt, tt) $
           feq_i ! (List Val) (vptr x.ref_ptr.0 x.ref_ptr.1 ∷ []) (vptr x.ref_ptr.0 x.ref_ptr.1 ∷ []) refl $ fjoin3 ! $ move ! (1 ∷ []) $ split3 ! $
           -- [the tokens of κ, κA; nothing; x; what firsts follows; the token of κB; seconds]
           -- the second, the same
           sets ! (addr ! (through ! refl (stop !))) refl (tt, tt) $
           nothing ! $ owned ! usize _ (uint_Makes 𝓛 w64) i _ (refl, fi) $ fjoin ! $ move ! (7 ∷ 0 ∷ []) $ fjoin ! $
           nothing ! $ move ! (7 ∷ 0 ∷ []) $ join ! $ move ! (2 ∷ 0 ∷ []) $ join ! $ join ! $
-          use0 𝓛 (raw (fact 𝓤 (i < length s.now.items))) (fact_i 𝓤 _ (emp 𝓤) is) $ use0 𝓛 (raw (fact 𝓤 (κB ⊑ B.lives))) (fact_i 𝓤 _ (emp 𝓤) lb) $ join ! $ move ! (1 ∷ 0 ∷ []) $ join ! $
+          use0 𝓛 (raw (fact 𝓤 (IsFilled s.now i))) (fact_i 𝓤 _ (emp 𝓤) is) $ use0 𝓛 (raw (fact 𝓤 (κB ⊑ B.lives))) (fact_i 𝓤 _ (emp 𝓤) lb) $ join ! $ move ! (1 ∷ 0 ∷ []) $ join ! $
           use1 𝓛 (raw ((Item B).pre zb)) (id⊢ 𝓤 _) $
           -- [what the call asks; the token of κA; nothing; x; what firsts follows]
           calls_at ! fm (Item B) gb zb (and_then ! (get ! refl) (and_then ! (get ! refl) (no_more !))) (λ v.
           use1 𝓛 (later (some (λ (y : MutBor B.Denot). ((‵ (flft κ q) ⊛ ‵ (flft κB qB) ⊛ ‵ ftrue) ⊛ ‵ ((MutRef (named 0) κ (param 1 B)).own_val y (v ∷ []))) ⊛ raw (ensured 𝓛 (g.ended B) (g.clauses B 𝓛 at_mem run) (κ, (κB, tt)) (s, (i, tt)) tt y)))) (id⊢ 𝓤 _) $ await ! tt $ pick ! (λ y. split ! $ move ! (1 ∷ []) $
-          use1 𝓛 (‵ (follows (column (param 1 B)) (param 1 B) s.ghost_name y.ghost_name (with_item s.now i)) ⊛ raw (fact 𝓤 (y.now ≡ slice_index_or s.now.items i y.now))) (ex_e 𝓤 _ (λ ws. snd∗ 𝓤 (sem 𝓛 (lasts (g.ended B) (κ, (κB, tt)) (s, (i, tt)) ws)) _)) $ split ! $
-          move ! (1 ∷ []) $ heard ! (y.now ≡ slice_index_or s.now.items i y.now) (λ eb. move ! (1 ∷ []) $ split ! $ move ! (1 ∷ []) $ fsplit3 ! $ feq_l ! (λ at_y. lands_as ! (ap only at_y) refl (tt, tt) $
+          use1 𝓛 (‵ (follows (column (param 1 B)) (param 1 B) s.ghost_name y.ghost_name (λ w. slice_set s.now i (Some w))) ⊛ raw (fact 𝓤 (get_or s.now i None ≡ Some y.now))) (ex_e 𝓤 _ (λ ws. snd∗ 𝓤 (sem 𝓛 (lasts (g.ended B) (κ, (κB, tt)) (s, (i, tt)) ws)) _)) $ split ! $
+          move ! (1 ∷ []) $ heard ! (get_or s.now i None ≡ Some y.now) (λ eb. move ! (1 ∷ []) $ split ! $ move ! (1 ∷ []) $ fsplit3 ! $ feq_l ! (λ at_y. lands_as ! (ap only at_y) refl (tt, tt) $
           feq_i ! (List Val) (vptr y.ref_ptr.0 y.ref_ptr.1 ∷ []) (vptr y.ref_ptr.0 y.ref_ptr.1 ∷ []) refl $ fjoin3 ! $ move ! (1 ∷ []) $ split3 ! $
           -- [the tokens of κ, κB; nothing; y; what seconds follows; the token of κA; nothing; x; what firsts follows]
           sets ! (addr ! (through ! refl (stop !))) refl (tt, tt) $ sets ! (addr ! (through ! refl (stop !))) refl (tt, tt) $
           sets ! (agg ! (and_then ! (get ! refl) (and_then ! (get ! refl) (no_more !)))) refl (tt, (tt, (tt, tt))) $
           returns ! (look_at ! 0 refl) $ free_all ! refl $ keep ! (7 ∷ 3 ∷ 0 ∷ 5 ∷ 1 ∷ 8 ∷ 4 ∷ []) $
           -- [x; y; the tokens of κ, κA, κB; what firsts follows, and seconds]
-          use2 𝓛 (‵ ((Tuple (MutRef (named 0) κ (param 0 A) ∷ MutRef (named 0) κ (param 1 B) ∷ [])).own_val (x, y) (pair_at x y ∷ []))) (pair_of 𝓛 (MutRef (named 0) κ (param 0 A)) (MutRef (named 0) κ (param 1 B)) x y (vptr x.ref_ptr.0 x.ref_ptr.1) (vptr y.ref_ptr.0 y.ref_ptr.1)) $
+          use2 𝓛 (‵ ((Tuple (MutRef (named 0) κ (param 0 A) ∷ MutRef (named 0) κ (param 1 B) ∷ [])).own_val (x, y) (pair_at x y ∷ []))) (pair_made 𝓛 (MutRef (named 0) κ (param 0 A)) (MutRef (named 0) κ (param 1 B)) x y (vptr x.ref_ptr.0 x.ref_ptr.1) (vptr y.ref_ptr.0 y.ref_ptr.1)) $
           suffices ! _ (ends_at 𝓛 ended stayed spec bound (pair_at x y) (x, y) (tt, (tt, (tt, tt))) (tt, (tt, (tt, tt)))) $
           nothing ! $ nothing ! $ fjoin ! $ nothing ! $ fjoin ! $ nothing ! $ fjoin ! $ join ! $
           nothing ! $ move ! (4 ∷ 0 ∷ []) $ join ! $ move ! (3 ∷ 0 ∷ []) $ join ! $ move ! (2 ∷ 0 ∷ []) $ join ! $ join ! $ frame ! $ fjoin ! $ says ! (ea, eb) $ done !)))))))))))))

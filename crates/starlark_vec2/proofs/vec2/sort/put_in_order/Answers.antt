@@ -8,12 +8,8 @@ use Rattle.starlark_vec2.proofs.vec2.sort.put_in_order.Goals as goal
 
 pub loop-place-init : goal.loop-place-init
 loop-place-init g c =
-    let n = length c.args.firsts.now.items in record {
-      firsts_len = refl;
-      seconds_len = refl;
+    let n = length c.args.firsts.now in record {
       order_len = length_permutation _ _ c.requires.positions ∙ length-range_with_len 0 n;
-      firsts_room = refl;
-      seconds_room = refl;
       spread = Spread-from_permutation n c.args.order.items c.requires.positions;
       placed = λ k lt. absurd (omega arith);
       placing = λ k d lt. refl;
@@ -30,7 +26,7 @@ loop-place-smaller g c =
     let f : from ≡ get_or order at.place 0 = c.index-from.ensures ∙ get_or_default order at.place from 0 within in
     let there = inv.spread.below at.place within in
     let h : next ≡ get_or order from 0 = c.index-next.ensures ∙ get_or_default order from next 0 (omega (arith, inv.order_len, there, f)) in
-    let fewer = fewer_misplaced order c.swap-else-from-place-2.new.self.items at.place from next (length c.args.firsts.now.items) inv.spread inv.order_len within f h c.swap-else-from-place-2.ensures.items c.if-from-place.false in
+    let fewer = fewer_misplaced order c.swap-else-from-place-2.new.self.items at.place from next (length c.args.firsts.now) inv.spread inv.order_len within f h c.swap-else-from-place-2.ensures.items c.if-from-place.false in
     let count = c.swap-else-from-place-2.ensures.len in
     omega (arith, fewer, count, c.swap-else-from-place-2.new.self.ok.0, at.order.ok.0)
 
@@ -39,7 +35,7 @@ loop-place-preserved g c =
     let at = c.loop-place in
     let inv = at.invariant in
     let order = at.order.items in
-    let n = length c.args.firsts.now.items in
+    let n = length c.args.firsts.now in
     let within : at.place < length order = omega (arith, c.loop-place-test.true, c.len.ensures, at.order.ok.0) in
     let from = c.index-from.result.now in
     let next = c.index-next.result.now in
@@ -48,28 +44,24 @@ loop-place-preserved g c =
     let h : next ≡ get_or order from 0 = c.index-next.ensures ∙ get_or_default order from next 0 (omega (arith, inv.order_len, there, f)) in
     let told = c.swap-else-from-place-2.ensures.items in
     let other = c.if-from-place.false in
-    let even : length at.firsts.items ≡ length at.seconds.items = inv.firsts_len ∙ c.requires.even ∙ sym inv.seconds_len in
-    let moved = (λ j. zip (c.swap.ensures.items j) (c.swap-else-from-place.ensures.items j)) ∙ zip-swap at.firsts.items at.seconds.items from next even in
+    let even : length at.firsts ≡ length at.seconds = at.auto.firsts ∙ c.requires.even ∙ sym at.auto.seconds in
+    let moved = (λ j. zip (c.swap.ensures.after j) (c.swap-else-from-place.ensures.after j)) ∙ zip-swap at.firsts at.seconds from next even in
     record {
-      firsts_len = omega (arith, c.swap.ensures.len, c.swap.new.self.ok.0, at.firsts.ok.0, inv.firsts_len);
-      seconds_len = omega (arith, c.swap-else-from-place.ensures.len, c.swap-else-from-place.new.self.ok.0, at.seconds.ok.0, inv.seconds_len);
       order_len = omega (arith, c.swap-else-from-place-2.ensures.len, c.swap-else-from-place-2.new.self.ok.0, at.order.ok.0, inv.order_len);
-      firsts_room = c.swap.ensures.capacity ∙ inv.firsts_room;
-      seconds_room = c.swap-else-from-place.ensures.capacity ∙ inv.seconds_room;
       spread = Spread-swap at.place from order _ within (from_within order _ at.place from next n inv.spread inv.order_len within f h told other) told n inv.spread;
       placed = placed_stay order _ at.place from next n inv.spread inv.order_len within f h told other inv.placed;
-      placing = placing_step order _ at.place from next n inv.spread inv.order_len within f h told other _ c.args.order.items _ _ (length-zip at.firsts.items at.seconds.items even ∙ inv.firsts_len) moved inv.placing;
+      placing = placing_step order _ at.place from next n inv.spread inv.order_len within f h told other _ c.args.order.items _ _ (length-zip at.firsts at.seconds even ∙ at.auto.firsts) moved inv.placing;
     }
 
-pub returns-clause-pairs : goal.returns-clause-pairs
-returns-clause-pairs g c =
+pub returns : goal.returns
+returns g c =
     let at = c.loop-place in
     let inv = at.invariant in
-    let xs = c.args.firsts.now.items in
-    let ys = c.args.seconds.now.items in
-    let even : length at.firsts.items ≡ length at.seconds.items = inv.firsts_len ∙ c.requires.even ∙ sym inv.seconds_len in
+    let xs = c.args.firsts.now in
+    let ys = c.args.seconds.now in
+    let even : length at.firsts ≡ length at.seconds = at.auto.firsts ∙ c.requires.even ∙ sym at.auto.seconds in
     let total = length_permutation _ _ c.requires.positions ∙ length-range_with_len 0 (length xs) in
     let done : length at.order.items ≡ length c.args.order.items = inv.order_len ∙ sym total in
-    PutsInOrder-from_placed (zip xs ys) c.args.order.items (zip at.firsts.items at.seconds.items) at.order.items (length-zip at.firsts.items at.seconds.items even ∙ inv.firsts_len ∙ sym total) done
+    PutsInOrder-from_placed (zip xs ys) c.args.order.items (zip at.firsts at.seconds) at.order.items (length-zip at.firsts at.seconds even ∙ at.auto.firsts ∙ sym total) done
     (subst (λ n. Spread n c.args.order.items) (sym (length-zip xs ys c.requires.even)) (Spread-from_permutation (length xs) c.args.order.items c.requires.positions))
     (λ k lt. inv.placed k (omega (arith, c.loop-place-test.false, c.len.ensures, at.order.ok.0))) inv.placing

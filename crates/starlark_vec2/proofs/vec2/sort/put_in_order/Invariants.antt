@@ -1,18 +1,14 @@
-use Rattle.std.proofs.Common.{◌≡◌, ℕ, ◌+◌, ◌-◌, ◌<◌, length, get_or, zip, vec_capacity}
+use Rattle.std.proofs.Common.{◌≡◌, ℕ, ◌+◌, ◌-◌, ◌<◌, length, get_or, zip}
 use Rattle.starlark_vec2.proofs.Placing.{Spread, misplaced}
 use Rattle.starlark_vec2.proofs.vec2.sort.put_in_order.Given as goal
 
 abbrev pub invariant-loop-place : goal.invariant-loop-place
 invariant-loop-place g l = record {
-  firsts_len : length l.firsts.items ≡ length l.initial.firsts.items;
-  seconds_len : length l.seconds.items ≡ length l.initial.seconds.items;
-  order_len : length l.order.items ≡ length l.initial.firsts.items;
-  firsts_room : vec_capacity l.firsts ≡ vec_capacity l.initial.firsts;
-  seconds_room : vec_capacity l.seconds ≡ vec_capacity l.initial.seconds;
-  spread : Spread (length l.initial.firsts.items) l.order.items;
+  order_len : length l.order.items ≡ length l.initial.firsts;
+  spread : Spread (length l.initial.firsts) l.order.items;
   placed : (k : ℕ) → k < l.place → get_or l.order.items k 0 ≡ k;
   placing : (k : ℕ) (d : g.row.A.Denot × g.row.B.Denot) → k < length l.order.items
-      → get_or (zip l.firsts.items l.seconds.items) (get_or l.order.items k 0) d ≡ get_or (zip l.initial.firsts.items l.initial.seconds.items) (get_or l.initial.order.items k 0) d;
+      → get_or (zip l.firsts l.seconds) (get_or l.order.items k 0) d ≡ get_or (zip l.initial.firsts l.initial.seconds) (get_or l.initial.order.items k 0) d;
 }
 
 abbrev pub decreases-loop-place : goal.decreases-loop-place

@@ -1,15 +1,12 @@
 use Rattle.std.proofs.Common.{sym, ◌∙◌}
-use Rattle.starlark_vec2.proofs.Walks.{last_progress, into_rest_back, pair_back}
+use Rattle.starlark_vec2.proofs.Walks.{last_progress, pair_back}
+use Rattle.starlark_vec2.proofs.TwoColumns.{between_even}
 use Rattle.starlark_vec2.proofs.vec2.into_iter.IntoIterDoubleEndedIterator.next_back.Goals as goal
 
 pub returns-clause-steps : goal.returns-clause-steps
 returns-clause-steps g c =
-    let xs = into_rest_back c.self.inside.firsts c.next_back.new.self _ _ c.in_ok-first.was c.next_back.ensures.steps in
-    let ys = into_rest_back c.self.inside.seconds c.next_back-2.new.self _ _ c.unwrap.ensures c.next_back-2.ensures.steps in
-    sym c.self.view_is ∙ pair_back _ _ _ _ _ _ xs ys c.self.invariant
+    sym c.self.view_is ∙ pair_back _ _ _ _ _ _ c.take_last_between.ensures.items c.take_last_between-2.ensures.items (sym (between_even c.self.inside.firsts c.self.inside.seconds c.self.inside.from c.self.inside.to c.self.invariant))
 
 pub returns-clause-goes : goal.returns-clause-goes
 returns-clause-goes g c =
-    let xs = into_rest_back c.self.inside.firsts c.next_back.new.self _ _ c.in_ok-first.was c.next_back.ensures.steps in
-    let ys = into_rest_back c.self.inside.seconds c.next_back-2.new.self _ _ c.unwrap.ensures c.next_back-2.ensures.steps in
-    last_progress (λ p. p) _ _ _ (sym c.self.view_is ∙ pair_back _ _ _ _ _ _ xs ys c.self.invariant)
+    last_progress (λ p. p) _ _ _ (sym c.self.view_is ∙ pair_back _ _ _ _ _ _ c.take_last_between.ensures.items c.take_last_between-2.ensures.items (sym (between_even c.self.inside.firsts c.self.inside.seconds c.self.inside.from c.self.inside.to c.self.invariant)))

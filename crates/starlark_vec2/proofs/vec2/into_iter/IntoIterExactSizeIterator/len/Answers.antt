@@ -1,6 +1,6 @@
-use Rattle.std.proofs.Common.{sym, ap, ◌∙◌, length}
-use Rattle.starlark_vec2.proofs.Pairs.{length-zip}
+use Rattle.std.proofs.Common.{length, sym, ap, ◌∙◌}
+use Rattle.starlark_vec2.proofs.TwoColumns.{between_count}
 use Rattle.starlark_vec2.proofs.vec2.into_iter.IntoIterExactSizeIterator.len.Goals as goal
 
 pub returns-clause-value : goal.returns-clause-value
-returns-clause-value g c = c.len.ensures ∙ c.self.inside.firsts.rest.ok.0 ∙ sym (length-zip _ _ (sym c.self.invariant)) ∙ ap length c.self.view_is
+returns-clause-value g c = sym (between_count c.self.inside.firsts c.self.inside.seconds c.self.inside.from c.self.inside.to c.self.invariant) ∙ ap length c.self.view_is

@@ -1,15 +1,14 @@
 -- `lend_firsts` lends the first column, and the whole list, open over the call, is closed by what that follows. Assumes
 -- `Logic`.
 use mathlib.Core.Path.{◌≡◌, refl, sym, ap, ◌∙◌}
-use Prim.Native.Nat.{ℕ, ◌+◌}
-use native.Mathlib.Omega.{arith}
+use Prim.Native.Nat.{ℕ, ◌+◌, ◌<◌, ◌^◌}
 use mathlib.Core.List.{List, [], ◌∷◌}
 use lib.ListN.{length}
 use seplogic.Ra.Ura.{Ura}
 use base.Fraction.{full_share}
-use mir.Syntax.{Fn, Args, a_type, named}
+use mir.Syntax.{Fn, Args, a_type, named, w64}
 use mir.MapTy.{inst_fn}
-use mir.Val.{Val, vptr, vstruct, vcons, vnil}
+use mir.Val.{Val, vint, vptr, vstruct, vcons, vnil}
 use base.Share
 use base.Logic.{SProp, ent, sep, emp, id⊢, ex_e, snd∗}
 use base.Fml.{Lft, GName, Share, ftrue, fsep, flft, fauth}
@@ -25,9 +24,11 @@ use types.Late.{ages, bor_new_deep}
 use types.Mut.{open_ref}
 use types.Tokens.{name_new}
 use types.Kit.{‵, raw, ◌⊛◌, some, later, ◌$◌, ◌∵◌, !, qed, move, keep, drop, use0, use1, use2, split, split3, join, pick, fsplit, fsplit3, fjoin, fjoin3, fpack, feq_i, rewrite, suffices, frame, await, group, done}
-use types.Run.{stop, fld, addr, and_then, no_more, returns, enter}
+use types.Run.{stop, fld, look, load, of_opd, addr, and_then, no_more, returns, enter}
 use types.ByLocal.{alloc_all, pass_all, free_all, look_at, get, through, sets, lands_as}
+use denote.Builtin.{usize}
 use denote.Exit.{no}
+use denote.Plain.{uint_Makes}
 use denote.Follow.{follows}
 use denote.RattleType.{RattleType, owns}
 use denote.Memory.{mem}
@@ -35,15 +36,16 @@ use denote.Param.{param, layouts}
 use denote.Param.Laws.{Laws}
 use denote.Ref.{MutBor, mut_vals, mut_Tells}
 use denote.Signature.{plain, types_at, mut_ref_to, named_lft}
-use denote.Steps.{nothing, heard, only}
+use denote.Steps.{nothing, owned, heard, only}
 use denote.Triple.Call.{calls_at}
 use denote.Triple.Clauses.{Clauses, Ended, closing, ensured, lasts}
 use denote.Triple.Spec.{Meets, triple_of}
 use denote.Triple.Statement.{Contract, Triple}
 use denote.Triple.Table.{entered}
 use denote.Triple.Walked.{Stays, stay_dropped, walk_of, ends_at, walked, walk_Meets, Goes-spent_ref}
-use Rattle.std.specs.Global.{Vec}
-use Rattle.std.specs.Vec.{with_items}
+use Rattle.starlark_columns.specs.Places.{items_of}
+use Rattle.starlark_columns.specs.Front.{IsFront, with_items}
+use Rattle.starlark_columns.proofs.Fronts.{all_written, written_places}
 use Rattle.starlark_vec2.specs.ColumnLending.{column}
 use Rattle.starlark_vec2.specs.Frozen.{Pair, with_seconds}
 use Rattle.starlark_vec2.proofs.NamedClose.{closes_named}
@@ -56,12 +58,12 @@ use Rattle.starlark_vec2.proofs.loan.Loan.new.Symbol.{name as #run}
 use Rattle.starlark_vec2.proofs.loan.Loan.new.Met as loan
 use Rattle.starlark_vec2.proofs.loan.Loan.TheLaws as L-laws
 use Rattle.starlark_vec2.specs.Lending.{with_values}
-use Rattle.starlark_vec2.specs.PairList.{PairList, pair_list, with_pairs, firsts_of}
-use Rattle.starlark_vec2.proofs.Pairs.{firsts_of-zip}
+use Rattle.starlark_vec2.specs.PairList.{pair_list, with_pairs, firsts_of}
+use Rattle.starlark_vec2.proofs.TwoColumns.{firsts_written, firsts_are}
 use Rattle.starlark_vec2.proofs.Values.{with_values-zip}
 use Rattle.starlark_vec2.proofs.Vec2Open as O
-use Rattle.starlark_vec2.proofs.Runs.{all_items, length-with_seconds}
-use Rattle.std.specs.Prelude.{zip}
+use Rattle.starlark_vec2.proofs.Runs.{length-with_seconds}
+use Rattle.std.specs.Prelude.{zip, Option}
 use denote.Laws.{shows}
 use denote.Memory.{part_at}
 use denote.Param.Laws.{param_laws}
@@ -115,29 +117,32 @@ module _ (A B E : RattleType) where
   abbrev stayed : Stays ended.signature.params ended.kept
   stayed = (stay_dropped (mut_ref_to (0 ∷ []) tt (plain (λ _. W))) no, tt)
 
-  abbrev kept : Vec One → Vec One → Vec One
-  kept v w = with_items v (with_seconds v.items w.items)
+  abbrev Row : Type 0
+  Row = List (Option One)
+
+  abbrev kept : Row → Row → Row
+  kept v w = with_items v (with_seconds (items_of v) (items_of w))
 
   -- the fields and the list with the values of w
-  abbrev written : D → Vec One → D
+  abbrev written : D → Row → D
   written d w = record d { firsts = kept d.firsts w }
 
-  abbrev seen : D → Vec One → W.Denot
-  seen d w = pair_list (zip (with_seconds d.firsts.items w.items) d.seconds.items) d.capacity
+  abbrev seen : D → Row → W.Denot
+  seen d w = pair_list (zip (with_seconds (items_of d.firsts) (items_of w)) (items_of d.seconds)) (length d.firsts)
 
   abbrev keeps : W.Denot → W.Denot → W.Denot
   keeps v w = with_pairs v (with_values v.pairs w.pairs)
 
-  written_known : (v : W.Denot) (d : D) (w : Vec One) → O.Known P S v d → O.Known P S (seen d w) (written d w)
+  written_known : (v : W.Denot) (d : D) (w : Row) → O.Known P S v d → O.Known P S (seen d w) (written d w)
   written_known v d w k =
-      let items : (kept d.firsts w).items ≡ with_seconds d.firsts.items w.items = all_items d.firsts (with_seconds d.firsts.items w.items) (length-with_seconds d.firsts.items w.items) in
-      let len : length (kept d.firsts w).items ≡ length d.firsts.items = ap length items ∙ length-with_seconds d.firsts.items w.items in (
-        ap (λ l. pair_list (zip l d.seconds.items) d.capacity) items,
-        record { even = len ∙ k.1.even; within = omega (arith, len, k.1.within); firsts_fit = k.1.firsts_fit; seconds_fit = k.1.seconds_fit },
+      let ws = with_seconds (items_of d.firsts) (items_of w) in
+      let items = all_written d.firsts d.len k.1.firsts_front ws (length-with_seconds (items_of d.firsts) (items_of w)) in (
+        (λ j. pair_list (zip (items j) (items_of d.seconds)) (written_places d.firsts d.len k.1.firsts_front ws j)),
+        firsts_written d.firsts d.seconds d.len k.1 ws,
       )
 
-  same : (v : W.Denot) (d : D) (w : Vec One) → O.Known P S v d → keeps v (seen d w) ≡ seen d w
-  same v d w k = ap (λ z. keeps z (seen d w)) (sym k.0) ∙ ap (λ l. pair_list l d.capacity) (with_values-zip d.firsts.items w.items d.seconds.items)
+  same : (v : W.Denot) (d : D) (w : Row) → O.Known P S v d → keeps v (seen d w) ≡ seen d w
+  same v d w k = ap (λ z. keeps z (seen d w)) (sym k.0) ∙ ap (λ l. pair_list l (length d.firsts)) (with_values-zip (items_of d.firsts) (items_of w) (items_of d.seconds))
 
   module _ {M : Type 1} {𝓤 : Ura M} (𝓛 : Logic 𝓤) (at_mem : Memory → SProp 𝓤) (run : Routine → Fun 𝓤) where
     open 𝓛 use {H}
@@ -171,28 +176,32 @@ module _ (A B E : RattleType) where
           split ! $ split3 ! $ move ! (2 ∷ []) $ split3 ! $ move ! (5 ∷ []) $ fsplit ! $ keep ! (5 ∷ 6 ∷ 2 ∷ 0 ∷ 3 ∷ []) $
           -- [the tokens of κ, κA, κB; the list; the token of κE]
           enter ! C Λ here (vptr b o ∷ []) _ $ alloc_all ! (λ l. pass_all ! refl ((tt, tt), tt) $
-          sets ! (addr ! (through ! refl (fld ! refl (stop !)))) refl (tt, tt) $
           use1 𝓛 (‵ (flft κ (Share.left q)) ⊛ ‵ (flft κ (Share.right q))) (𝓛.lfts.lft_split κ q) $ split ! $
           move ! (4 ∷ []) $ fsplit3 ! $ drop ! $ open_ref ! tt (mem W) {b = b} {o = o} $
           use1 𝓛 (some (λ (d : (d : D) × O.Known P S v d). raw (O.Cuts P S 𝓛 b o v d))) (O.cut P S 𝓛 b o (tuple_laws (K ∷ V ∷ []) (param_laws 0 A LA, (param_laws 1 B LB, tt))) (param_laws 2 E LE) v) $ pick ! (λ d'.
           let d = d'.0 in let xs = d.firsts in let place = o + O.eA P S in
-          use1 𝓛 (‵ (part_at CP full_share xs b place) ⊛ raw (Left b o d)) (id⊢ 𝓤 _) $ split ! $
+          use1 𝓛 (‵ (part_at CP full_share xs b place) ⊛ ‵ (part_at CS full_share d.seconds b (o + O.eB P S)) ⊛ raw (O.Rest P S 𝓛 b o d)) (id⊢ 𝓤 _) $ split3 ! $
+          -- the length is read where it lies
+          move ! (2 ∷ []) $ use1 𝓛 (raw (fact 𝓤 (d.len < 2 ^ 64)) ⊛ ‵ (O.Len P S 𝓛 b o d.len) ⊛ raw (O.Less P S 𝓛 b o d)) (O.len_out P S 𝓛 b o d) $ split3 ! $ heard ! (d.len < 2 ^ 64) (λ fits.
+          sets ! (of_opd ! (load ! (through ! refl (fld ! refl (stop !))) (look ! 0 refl))) refl (tt, record { fits = fits }) $
+          sets ! (addr ! (through ! refl (fld ! refl (stop !)))) refl (tt, tt) $
+          use2 𝓛 (raw (O.Rest P S 𝓛 b o d)) (O.len_in P S 𝓛 b o d fits) $ move ! (2 ∷ 0 ∷ []) $ join ! $ use1 𝓛 (raw (Left b o d)) (id⊢ 𝓤 _) $ move ! (1 ∷ 0 ∷ []) $
           -- [the first column; the rest; the open borrow; obs; auth; half of κ's token; those of κA, κB, κE]
           name_new ! tt (CP.coded.code xs) (λ δ. move ! (2 ∷ 1 ∷ []) $ fjoin ! $ fpack ! CP.Denot (λ z. fsep ((mem CP).own_at z b place) (fauth δ (CP.coded.code z))) xs $
           -- [the content; obs δ; the rest; the open borrow; obs; auth; ..]
           move ! (3 ∷ []) $ ages ! (λ n. move ! (1 ∷ []) $ bor_new_deep ! tt n κ $
           -- [the borrow and its right; the open borrow; obs δ; the rest; obs; auth; the other half; the tokens of κA,
           -- κB, κE]
-          let lent : MutBor (Vec One) = record { ref_ptr = (b, place); ghost_name = δ; now = xs } in
-          move ! (3 ∷ 0 ∷ []) $ feq_i ! (List Val) (mut_vals lent) (mut_vals lent) refl $ fjoin3 ! $ nothing ! $ move ! (1 ∷ 0 ∷ []) $ fjoin ! $
+          let lent : MutBor Row = record { ref_ptr = (b, place); ghost_name = δ; now = xs } in
+          move ! (3 ∷ 0 ∷ []) $ feq_i ! (List Val) (mut_vals lent) (mut_vals lent) refl $ fjoin3 ! $ nothing ! $ owned ! usize _ (uint_Makes 𝓛 w64) d.len _ (refl, fits) $ fjoin ! $ move ! (1 ∷ 0 ∷ []) $ fjoin ! $
           -- [the argument; the right; the open borrow; the rest; obs; auth; the other half; the tokens of κA, κB, κE]
           nothing ! $ move ! (9 ∷ 0 ∷ []) $ join ! $ move ! (8 ∷ 0 ∷ []) $ join ! $ move ! (7 ∷ 0 ∷ []) $ join ! $ join ! $
-          nothing ! $ use0 𝓛 (raw (fact 𝓤 (κB ⊑ B.lives))) (fact_i 𝓤 _ (emp 𝓤) lb) $ join ! $ use0 𝓛 (raw (fact 𝓤 (κA ⊑ A.lives))) (fact_i 𝓤 _ (emp 𝓤) la) $ join ! $ move ! (1 ∷ 0 ∷ []) $ join ! $
-          let z : Run.Ghost = (((κ, (κA, (κB, tt))), (Share.right q, (qA, (qB, tt))), (bounds.0, (bounds.1.0, tt)), (lent, tt), (mut_vals lent, tt)), tt) in
+          use0 𝓛 (raw (fact 𝓤 (IsFront xs d.len))) (fact_i 𝓤 _ (emp 𝓤) d'.1.1.firsts_front) $ use0 𝓛 (raw (fact 𝓤 (κB ⊑ B.lives))) (fact_i 𝓤 _ (emp 𝓤) lb) $ join ! $ use0 𝓛 (raw (fact 𝓤 (κA ⊑ A.lives))) (fact_i 𝓤 _ (emp 𝓤) la) $ join ! $ move ! (1 ∷ 0 ∷ []) $ join ! $
+          let z : Run.Ghost = (((κ, (κA, (κB, tt))), (Share.right q, (qA, (qB, tt))), (bounds.0, (bounds.1.0, tt)), (lent, (d.len, tt)), (mut_vals lent, (vint w64 d.len ∷ [], tt))), tt) in
           use1 𝓛 (raw (Run.pre z)) (id⊢ 𝓤 _) $
-          calls_at ! fm Run gr z (and_then ! (get ! refl) (no_more !)) (λ u.
+          calls_at ! fm Run gr z (and_then ! (get ! refl) (and_then ! (get ! refl) (no_more !))) (λ u.
           use1 𝓛 (later (some (λ (x : Loan A.Denot B.Denot). ((‵ (flft κ (Share.right q)) ⊛ ‵ (flft κA qA) ⊛ ‵ (flft κB qB) ⊛ ‵ ftrue) ⊛ ‵ (It.own_val x (u ∷ []))) ⊛ raw (ensured 𝓛 (g.ended A B) (g.clauses A B 𝓛 at_mem run) z.0.0 z.0.3 tt x)))) (id⊢ 𝓤 _) $ await ! tt $ pick ! (λ x. split ! $ move ! (1 ∷ []) $
-          use1 𝓛 (‵ (follows CP CP δ x.tie (kept xs)) ⊛ raw (fact 𝓤 ((x.from ≡ 0) × (x.rest ≡ xs.items)))) (ex_e 𝓤 _ (λ ws. snd∗ 𝓤 (sem 𝓛 (lasts (g.ended A B) z.0.0 z.0.3 ws)) _)) $ split ! $ move ! (1 ∷ []) $ heard ! ((x.from ≡ 0) × (x.rest ≡ xs.items)) (λ rest.
+          use1 𝓛 (‵ (follows CP CP δ x.tie (kept xs)) ⊛ raw (fact 𝓤 ((x.from ≡ 0) × (x.rest ≡ items_of xs)))) (ex_e 𝓤 _ (λ ws. snd∗ 𝓤 (sem 𝓛 (lasts (g.ended A B) z.0.0 z.0.3 ws)) _)) $ split ! $ move ! (1 ∷ []) $ heard ! ((x.from ≡ 0) × (x.rest ≡ items_of xs)) (λ rest.
           -- [what the column follows; the tokens with the loan; the right; the open borrow; the rest; obs; auth; the
           -- token of κE]
           move ! (3 ∷ 5 ∷ 6 ∷ 2 ∷ 0 ∷ 4 ∷ []) $ group ! 6 $
@@ -213,8 +222,8 @@ module _ (A B E : RattleType) where
           suffices ! _ (ends_at 𝓛 ended stayed spec bound made new (tt, tt) (tt, tt)) $
           nothing ! $ nothing ! $ fjoin ! $ join ! $ nothing ! $ move ! (5 ∷ 0 ∷ []) $ join ! $ move ! (4 ∷ 0 ∷ []) $ join ! $ move ! (3 ∷ 0 ∷ []) $ join ! $ move ! (2 ∷ 0 ∷ []) $ join ! $ join ! $
           frame ! $
-          use0 𝓛 (raw (fact 𝓤 (new.rest ≡ firsts_of v.pairs))) (fact_i 𝓤 _ (emp 𝓤) (rest.1 ∙ sym (firsts_of-zip xs.items d.seconds.items d'.1.1.even) ∙ ap (λ (u : PairList One E.Denot). firsts_of u.pairs) d'.1.0)) $
-          use0 𝓛 (raw (fact 𝓤 (new.from ≡ 0))) (fact_i 𝓤 _ (emp 𝓤) rest.0) $ move ! (2 ∷ 0 ∷ 1 ∷ []) $ done !)))))))))))))
+          use0 𝓛 (raw (fact 𝓤 (new.rest ≡ firsts_of v.pairs))) (fact_i 𝓤 _ (emp 𝓤) (firsts_are xs d.seconds d.len d'.1.1 v d'.1.0 x.rest rest.1)) $
+          use0 𝓛 (raw (fact 𝓤 (new.from ≡ 0))) (fact_i 𝓤 _ (emp 𝓤) rest.0) $ move ! (2 ∷ 0 ∷ 1 ∷ []) $ done !))))))))))))))
 
 meets : (A B E : RattleType) → Laws A → Laws B → Laws E → {M : Type 1} {𝓤 : Ura M} (𝓛 : Logic 𝓤) (at_mem : Memory → SProp 𝓤) (run : Routine → Fun 𝓤) (𝓣 : Tables 𝓤 𝓛.H)
     → Triple 𝓤 (𝓣.C (#run (lends A B E))) (Run A B E 𝓛 at_mem run)
