@@ -1,6 +1,28 @@
 //! The refusal of a new entry.
+ghost use Rattle.std.specs.Prelude.{Some, codes};
+
+use std::alloc::AllocError;
+use std::error::Error;
+use std::fmt;
 
 /// No memory was found for a new entry. What was to be inserted comes back. The entries of the collection are as they
 /// were; its capacity may have grown.
 #[derive(Debug, Drop)]
 pub struct NoRoom<T>(pub T);
+
+impl<T> fmt::Display for NoRoom<T> {
+    ghost output = { λ _. Some (codes "no memory for a new entry") };
+
+    fn fmt<W: fmt::Write>(&self, f: &mut fmt::Formatter<W>) -> fmt::Result {
+        f.write_str("no memory for a new entry")
+    }
+}
+
+impl<T: fmt::Debug + Drop> Error for NoRoom<T> {}
+
+/// So that `?` hands a refusal on in a function that answers `AllocError`. What was to be inserted is dropped.
+impl<T: Drop> From<NoRoom<T>> for AllocError {
+    fn from(_: NoRoom<T>) -> Self {
+        AllocError
+    }
+}
