@@ -184,6 +184,17 @@ impl<T> ReadyTable<T> {
         if let Err(AllocError) = self.reserve(1) {
             return Err(NoRoom(item));
         }
+        Ok(self.insert_reserved(hash, item))
+    }
+
+    /// The same where the room for the item is there: as after `reserve`.
+    #[inline]
+    pub fn insert_reserved(&mut self, hash: u64, item: T) -> usize
+        requires { 0 < self.old.room }
+        ensures named { member_at self.new result ≡ Some (hash, item) }
+        ensures added { IsPermutation ((hash, item) ∷ members self.old) (members self.new) }
+        ensures room { table_len self.old + self.old.room ≤ table_len self.new + self.new.room }
+    {
         let slot = put(
             self.slots.as_mut_slice(),
             self.tags.as_mut_slice(),
@@ -192,7 +203,7 @@ impl<T> ReadyTable<T> {
             item,
         );
         self.len += 1;
-        Ok(slot)
+        slot
     }
 
     /// Makes room for so many insertions at least. It asks for no memory, and changes nothing, where the room is there;

@@ -1,5 +1,5 @@
 //! `Vec2`, a list of pairs in two columns, with a capacity of its own. Its children alone see its fields.
-ghost use Rattle.std.specs.Prelude.{◌≡◌, ◌+◌, ◌*◌, ◌-◌, ◌^◌, ◌<◌, ◌≤◌, ◌==◌, max, min, [], ◌++◌, length, take, remove, reverse, slice_get, is_ok, if◌then◌else◌, IfOk, IfErr, IsOk, MatchOption};
+ghost use Rattle.std.specs.Prelude.{◌≡◌, ◌+◌, ◌*◌, ◌-◌, ◌^◌, ◌<◌, ◌≤◌, ◌==◌, max, min, [], ◌∷◌, ◌++◌, length, take, remove, reverse, slice_get, is_ok, if◌then◌else◌, IfOk, IfErr, IsOk, MatchOption};
 ghost use Rattle.std.specs.Option.{option_map};
 ghost use Rattle.std.specs.Map.Iter.{TakesLast, ShowsInOrder, ShowsInReverse, deref_pair};
 ghost use Rattle.starlark_vec2.specs.PairList as list;
@@ -240,12 +240,22 @@ impl<A, B> Vec2<A, B> {
         if self.reserve(1).is_err() {
             return Err(NoRoom((a, b)));
         }
+        self.push_reserved(a, b);
+        Ok(())
+    }
+
+    /// Puts a pair at the end, where its room is there: as after `reserve`.
+    #[tactic(auto, using(crate::proofs::Pairs::columns))]
+    #[inline]
+    pub fn push_reserved(&mut self, a: A, b: B)
+        requires { length self.old.pairs < self.old.capacity }
+        ensures { self.new ≡ with_pairs self.old (self.old.pairs ++ (a, b) ∷ []) }
+    {
         let places = self.firsts.places();
         prove!(self.len < places);
         self.firsts.push_last(self.len, a);
         self.seconds.push_last(self.len, b);
         self.len += 1;
-        Ok(())
     }
 }
 

@@ -1,5 +1,5 @@
 //! `VecMap`, a list of entries in two columns. Its children alone see its field.
-ghost use Rattle.std.specs.Prelude.{◌≡◌, ◌-◌, ◌^◌, ◌<◌, ◌≤◌, ◌==◌, [], length, map, remove, reverse, slice_get, is_ok, if◌then◌else◌, IfOk, IfErr, IfSome, IsOk};
+ghost use Rattle.std.specs.Prelude.{◌≡◌, ◌-◌, ◌^◌, ◌<◌, ◌≤◌, ◌==◌, [], ◌∷◌, ◌++◌, length, map, remove, reverse, slice_get, is_ok, if◌then◌else◌, IfOk, IfErr, IfSome, IsOk};
 ghost use Rattle.std.specs.Option.{option_map};
 ghost use Rattle.std.specs.Map.Iter.{TakesLast, ShowsInOrder, ShowsInReverse, GivesInOrder, GivesInReverse, deref, deref_pair};
 ghost use Rattle.starlark_hash.specs.Entries.{Entry, entry_key, entry_value, pair_of, position_of, entry_at, without};
@@ -273,13 +273,21 @@ impl<K, V> VecMap<K, V> {
         ensures handed_back { IfErr result (λ refused. refused.0 ≡ (key, value)) }
         ensures succeeds { length self.old.entries < self.old.capacity → IsOk result }
     {
-        let hash = key.hash();
-        match self.columns.push((key.into_key(), value), hash.get()) {
-            Ok(()) => Ok(()),
-            Err(NoRoom(((key, value), _))) => {
-                Err(NoRoom((Hashed::new_unchecked(hash, key), value)))
-            }
+        if self.reserve(1).is_err() {
+            return Err(NoRoom((key, value)));
         }
+        self.push_reserved(key, value);
+        Ok(())
+    }
+
+    /// The same where the room for the entry is there: as after `reserve`.
+    #[inline]
+    pub fn push_reserved(&mut self, key: Hashed<K>, value: V)
+        requires { length self.old.entries < self.old.capacity }
+        ensures { self.new ≡ with_entries self.old (self.old.entries ++ (key, value) ∷ []) }
+    {
+        let hash = key.hash().get();
+        self.columns.push_reserved((key.into_key(), value), hash);
     }
 }
 

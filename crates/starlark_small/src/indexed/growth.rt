@@ -69,9 +69,6 @@ pub(super) fn index_last<K, V>(
     ensures kept { is_some index.new ≡ is_some index.old }
 {
     if let Some(table) = index {
-        match table.insert_unique(hash.promote(), entries.len()) {
-            Ok(_) => {}
-            Err(_) => unreachable!(),
-        }
+        table.insert_reserved(hash.promote(), entries.len());
     }
 }

@@ -92,10 +92,7 @@ pub(super) fn fill_index<K, V>(index: &mut ReadyTable<usize>, entries: &VecMap<K
 {
     for i in 0..entries.len() {
         let hash = entries.get_unchecked(i).0.hash();
-        match index.insert_unique(hash.promote(), i) {
-            Ok(_) => {}
-            Err(_) => unreachable!(),
-        }
+        index.insert_reserved(hash.promote(), i);
     }
 }
 

@@ -16,10 +16,10 @@ loop-i-preserved g c =
     let h = c.hash-hash.ensures in
     let size : i ≡ length (take i es) = omega (arith, length-take i es) in
     let p : c.promote.result ≡ promoted e.0.hash.0 = c.promote.ensures.promoted ∙ ap (λ k. promoted k.0) h in
-    let added = subst (λ k. IsPermutation ((k, i) ∷ members c.loop-i.index) (members c.insert_unique.new.self)) p c.in-Ok.ensures.added in
-    let room = room-push (take i es) c.loop-i.index c.insert_unique.new.self (promoted e.0.hash.0, i) old added c.in-Ok.ensures.room in
+    let added = subst (λ k. IsPermutation ((k, i) ∷ members c.loop-i.index) (members c.insert_reserved.new.self)) p c.insert_reserved.ensures.added in
+    let room = room-push (take i es) c.loop-i.index c.insert_reserved.new.self (promoted e.0.hash.0, i) old added c.insert_reserved.ensures.room in
     record {
-      index = subst (λ l. IsIndexOf l c.insert_unique.new.self) (sym (take-more i es e c.get_unchecked.ensures))
-          (IsIndexOf-push (take i es) e i c.loop-i.index c.insert_unique.new.self size old (subst (λ k. k.0 < 2 ^ 32) h c.promote.ensures.fits) added);
+      index = subst (λ l. IsIndexOf l c.insert_reserved.new.self) (sym (take-more i es e c.get_unchecked.ensures))
+          (IsIndexOf-push (take i es) e i c.loop-i.index c.insert_reserved.new.self size old (subst (λ k. k.0 < 2 ^ 32) h c.promote.ensures.fits) added);
       room = omega (arith, room, c.loop-i.invariant.room);
     }
