@@ -7,3 +7,4 @@ pub mod Lending
 pub mod Collect
 pub mod ColumnLending
 pub mod Frozen
+pub mod formers

@@ -3,3 +3,4 @@ pub mod Ordered
 pub mod Retain
 pub mod Clone
 pub mod Lending
+pub mod formers

@@ -1,0 +1,154 @@
+-- `Vec2` as a type that may hold the type that holds it, in its first parts.
+use Rattle.std.specs.Prelude.{◌≡◌, ℕ, ◌-◌, ◌≤◌, max, Bool, true, false, List, [], ◌∷◌, ◌++◌, map, length, replicate, zip, Option, Some, None, is_some}
+use mathlib.Core.Path.{refl, sym, ap, subst, ◌∙◌}
+use mathlib.Core.Former.{Former, Count, Row, one_more, this, const, pair, list, list_count, list_put, via, children}
+use native.Mathlib.Nat.{ℕ_set}
+use native.Mathlib.Bridge.{le_prop}
+use native.Mathlib.Omega.{arith}
+use lib.ListN.{length-map}
+use base.Stored.{Coded-set, code_map, coded×, coded_bool, coded_list, coded_ℕ, gcons}
+use denote.RattleType.{RattleType}
+use denote.HoleLaws.{Alike}
+use denote.HolePlaces.{Recodes, struct_places, laid}
+use denote.Hole.Carrier.{listed}
+use denote.Hole.Fix.{over}
+use denote.Param.Nested.{deepest}
+use denote.Param.Weighed.{Weighed, most, max_none, List-puts, w_pair, w_const}
+use denote.Model.Placed.{held, view_places_where}
+use Rattle.std.specs.declared.alloc.Global.{Global}
+use Rattle.starlark_columns.specs.Places.{items_of}
+use Rattle.starlark_columns.specs.Front.{IsFront}
+use Rattle.starlark_columns.specs.formers.block.Held.{place, mapped_place, mapped}
+use Rattle.starlark_columns.specs.formers.column.Column as column
+use Rattle.starlark_vec2.specs.declared.vec2.Vec2.TheInside.{Inside}
+use Rattle.starlark_vec2.specs.declared.vec2.Vec2.TheView.{view, invariant}
+use Rattle.starlark_vec2.specs.contracts.vec2.Vec2 as vec2
+use Rattle.starlark_vec2.specs.contracts.vec2.Vec2.TheInside as inside
+use Rattle.starlark_vec2.specs.Columns.{AreColumns}
+use Rattle.starlark_vec2.specs.PairList.{PairList, pair_list, firsts_of}
+
+-- one of g's values beside a second part
+abbrev pub entry : Former {0} → Type 0 → Former {0}
+entry g B = pair g (const B)
+
+-- the pair, with h applied to its first part
+abbrev pub on_first : {X Y B : Type 0} → (X → Y) → X × B → Y × B
+on_first h p = (h p.0, p.1)
+
+abbrev pub the_former : Former {0} → Type 0 → Former {0}
+the_former g B = via (pair (list (entry g B)) (const ℕ)) (λ X. PairList (g.Of X) B) (λ X v. (v.pairs, v.capacity)) (λ X v. pair_list v.0 v.1) (λ X v. refl) (λ X v. refl)
+
+most_firsts : {X B : Type 0} (f : X → ℕ) (ps : List (X × B)) → most (λ p. max (f p.0) 0) ps ≡ most f (firsts_of ps)
+most_firsts f [] = refl
+most_firsts f (p ∷ ps) = λ i. max (max_none (f p.0) i) (most_firsts f ps i)
+
+pub pairs_puts : {g : Former {0}} (w : Weighed g) (B X : Type 0) (μ : X → ℕ) (ps : List (g.Of X × B)) (n : Count) (t : Row X n)
+    → deepest μ (list_count (entry g B) (map ((entry g B).shape X) ps) n) (list_put (entry g B) X ps n t) ≡ max (most (w.weight X μ) (firsts_of ps)) (deepest μ n t)
+pairs_puts w B X μ ps n t = List-puts (w_pair w (w_const B)) X μ ps n t ∙ ap (λ a. max a (deepest μ n t)) (most_firsts (w.weight X μ) ps)
+
+abbrev pub the_weighed : {g : Former {0}} → Weighed g → (B : Type 0) → Weighed (the_former g B)
+the_weighed w B = record { weight = λ X μ v. most (w.weight X μ) (firsts_of v.pairs); puts = λ X μ v. pairs_puts w B X μ v.pairs }
+
+pub the_empty : (B : Type 0) → B → PairList ⊥ B
+the_empty B b = pair_list [] 0
+
+abbrev pub the_items : (B X : Type 0) → PairList X B → List X
+the_items B X v = firsts_of v.pairs
+
+firsts_listed : (B X : Type 0) (ps : List (X × B)) → listed _ (children (list (entry this B)) X ps) ≡ firsts_of ps
+firsts_listed B X [] = refl
+firsts_listed B X (p ∷ ps) = ap (λ l. p.0 ∷ l) (firsts_listed B X ps)
+
+pub the_items_listed : (B X : Type 0) (v : PairList X B) → listed _ (children (the_former this B) X v) ≡ the_items B X v
+the_items_listed B X v = firsts_listed B X v.pairs
+
+abbrev pub fields : Type 0 → Former {0}
+fields B = via (pair (column.the_former this) (const (List (Option B) × ℕ × Global))) (λ X. Inside X B) (λ X a. (a.firsts, (a.seconds, a.len, a.alloc)))
+    (λ X v. record { firsts = v.0; seconds = v.1.0; len = v.1.1; alloc = v.1.2 }) (λ X a. refl) (λ X v. refl)
+
+pub zip-map : {X Y B : Type 0} (h : X → Y) (xs : List X) (bs : List B) → zip (map h xs) bs ≡ map (on_first h) (zip xs bs)
+zip-map h [] bs = refl
+zip-map h (x ∷ xs) [] = refl
+zip-map h (x ∷ xs) (b ∷ bs) = ap (λ l. (h x, b) ∷ l) (zip-map h xs bs)
+
+pub zip-held : (B X : Type 0) (xs : List X) (bs : List B) → length xs ≡ length bs → held (list (entry this B)) X (zip xs bs) ≡ held (list this) X xs
+zip-held B X [] bs e = refl
+zip-held B X (x ∷ xs) [] e = absurd (omega arith)
+zip-held B X (x ∷ xs) (b ∷ bs) e = λ i. (one_more (zip-held B X xs bs (omega arith) i).0, (x, (zip-held B X xs bs (omega arith) i).1))
+
+-- ---- the items of places, and their shape, under a map of the items
+module _ {X Y : Type 0} (h : X → Y) where
+  pub items_of-map : (cs : List (Option X)) → items_of (mapped h cs) ≡ map h (items_of cs)
+  items_of-map [] = refl
+  items_of-map (None ∷ cs) = items_of-map cs
+  items_of-map (Some x ∷ cs) = ap (λ l. h x ∷ l) (items_of-map cs)
+
+  shape-map : (cs : List (Option X)) → map is_some (mapped h cs) ≡ map is_some cs
+  shape-map [] = refl
+  shape-map (None ∷ cs) = ap (λ l. false ∷ l) (shape-map cs)
+  shape-map (Some x ∷ cs) = ap (λ l. true ∷ l) (shape-map cs)
+
+  pub items-count : (cs : List (Option X)) → length (items_of (mapped h cs)) ≡ length (items_of cs)
+  items-count cs = ap length (items_of-map cs) ∙ length-map (items_of cs) h
+
+  places-count : (cs : List (Option X)) → length (mapped h cs) ≡ length cs
+  places-count cs = length-map cs (mapped_place h)
+
+  abbrev front_shape : ℕ → ℕ → List Bool
+  front_shape n places = replicate n true ++ replicate (places - n) false
+
+  front_to : (cs : List (Option X)) (n : ℕ) → IsFront cs n → IsFront (mapped h cs) n
+  front_to cs n s = record {
+    count = items-count cs ∙ s.count;
+    form = shape-map cs ∙ s.form ∙ sym (ap (front_shape n) (places-count cs));
+    within = subst (λ m. n ≤ m) (sym (places-count cs)) s.within;
+  }
+
+  front_from : (cs : List (Option X)) (n : ℕ) → IsFront (mapped h cs) n → IsFront cs n
+  front_from cs n s = record {
+    count = sym (items-count cs) ∙ s.count;
+    form = sym (shape-map cs) ∙ s.form ∙ ap (front_shape n) (places-count cs);
+    within = subst (λ m. n ≤ m) (places-count cs) s.within;
+  }
+
+  columns_to : {B : Type 0} (cs : List (Option X)) (bs : List (Option B)) (n : ℕ) → AreColumns cs bs n → AreColumns (mapped h cs) bs n
+  columns_to cs bs n s = record { firsts_front = front_to cs n s.firsts_front; seconds_front = s.seconds_front; even = s.even ∙ sym (places-count cs) }
+
+  columns_from : {B : Type 0} (cs : List (Option X)) (bs : List (Option B)) (n : ℕ) → AreColumns (mapped h cs) bs n → AreColumns cs bs n
+  columns_from cs bs n s = record { firsts_front = front_from cs n s.firsts_front; seconds_front = s.seconds_front; even = s.even ∙ places-count cs }
+
+pub items_of-held : (X : Type 0) (cs : List (Option X)) → held (list this) X (items_of cs) ≡ held (list (place this)) X cs
+items_of-held X [] = refl
+items_of-held X (None ∷ cs) = items_of-held X cs
+items_of-held X (Some x ∷ cs) = λ i. (one_more (items_of-held X cs i).0, (x, (items_of-held X cs i).1))
+
+IsFront-prop : {X : Type 0} (cs : List (Option X)) (n : ℕ) → IsProp (IsFront cs n)
+IsFront-prop cs n p q = λ i. record { count = ℕ_set _ _ p.count q.count i; form = Coded-set (coded_list coded_bool) _ _ p.form q.form i; within = le_prop p.within q.within i }
+
+AreColumns-prop : {X B : Type 0} (cs : List (Option X)) (bs : List (Option B)) (n : ℕ) → IsProp (AreColumns cs bs n)
+AreColumns-prop cs bs n p q = λ i. record {
+  firsts_front = IsFront-prop cs n p.firsts_front q.firsts_front i;
+  seconds_front = IsFront-prop bs n p.seconds_front q.seconds_front i;
+  even = ℕ_set _ _ p.even q.even i;
+}
+
+even_items : {X B : Type 0} (cs : List (Option X)) (bs : List (Option B)) (n : ℕ) → AreColumns cs bs n → length (items_of cs) ≡ length (items_of bs)
+even_items cs bs n s = s.firsts_front.count ∙ sym s.seconds_front.count
+
+module _ (B : RattleType) (R R' : RattleType) (h : R.Denot → R'.Denot) where
+  pub the_places : Alike R R' h → Alike (vec2.the_row R B) (vec2.the_row R' B) ((the_former this B.Denot).map R.Denot R'.Denot h)
+  the_places a = view_places_where (fields B.Denot) (the_former this B.Denot) (λ X. view X B.Denot)
+      (λ X Y k u. ap (λ xs. pair_list (zip xs (items_of u.seconds)) (length (mapped k u.firsts))) (items_of-map k u.firsts)
+      ∙ (λ i. pair_list (zip-map k (items_of u.firsts) (items_of u.seconds) i) (places-count k u.firsts i)))
+      (λ X u. length (items_of u.firsts) ≡ length (items_of u.seconds)) (λ X Y k u e. sym (items-count k u.firsts) ∙ e)
+      (λ X u e. zip-held B.Denot X (items_of u.firsts) (items_of u.seconds) e ∙ items_of-held X u.firsts)
+      R.Denot R'.Denot h (vec2.the_row R B).coded (vec2.the_row R' B).coded
+      (invariant R.Denot B.Denot) (invariant R'.Denot B.Denot) (λ u. AreColumns-prop _ _ _) (λ u. AreColumns-prop _ _ _)
+      (λ u s. columns_to h u.firsts u.seconds u.len s) (λ u s. columns_from h u.firsts u.seconds u.len s) (λ u s. even_items u.firsts u.seconds u.len s)
+      (over (inside.the_row R B)) (over (inside.the_row R' B))
+      (struct_places (inside.the_type R B) (inside.the_type R' B) (mapped h, (λ n. n, (λ n. n, (λ n. n, tt)))) _ (λ d. refl) refl
+      (laid _ _ _ (column.the_places R R' h a), ((refl, (λ n. refl, λ n. refl)), ((refl, (λ n. refl, λ n. refl)), ((refl, (λ n. refl, λ n. refl)), tt)))))
+
+  pub the_codes_placed : Recodes R R' h → Recodes (vec2.the_row R B) (vec2.the_row R' B) ((the_former this B.Denot).map R.Denot R'.Denot h)
+  the_codes_placed e v = ap (λ x. gcons x (coded_ℕ.code v.capacity))
+      (sym (code_map (coded× R.coded B.coded).code (coded× R'.coded B.coded).code (on_first h) (λ x i. gcons (sym (e x.0) i) (B.coded.code x.1)) v.pairs))
