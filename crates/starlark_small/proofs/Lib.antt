@@ -12,3 +12,4 @@ pub mod Cloned
 pub mod Retained
 pub mod Inserting
 pub mod EntryWritten
+pub mod CallerLemmas

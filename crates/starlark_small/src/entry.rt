@@ -18,7 +18,6 @@ pub enum Entry<'a, K: Eq, V> {
 }
 
 /// An entry that the map has.
-#[derive(Drop)]
 pub struct OccupiedEntry<'a, K: Eq, V> {
     map: &'a mut SmallMap<K, V>,
     index: usize,
@@ -30,6 +29,18 @@ pub struct VacantEntry<'a, K: Eq, V> {
     map: &'a mut SmallMap<K, V>,
     key: Hashed<K>,
     ghost absent: { match_of K.eq map.now.entries key ≡ None },
+}
+
+impl<K: Eq, V> Drop for OccupiedEntry<'_, K, V> {
+    // The map ends as the entry has left it.
+    fn drop(self)
+        ensures { self.exit.0.now ≡ self.entry.map.now }
+    {
+        let OccupiedEntry {
+            map: _map,
+            index: _index,
+        } = self;
+    }
 }
 
 impl<K: Eq + Drop, V> Drop for VacantEntry<'_, K, V> {
@@ -128,8 +139,8 @@ impl<'a, K: Eq, V> OccupiedEntry<'a, K, V> {
         ensures* writes_back { sem 𝓛 (occupied_lends K.row V.row self.entry result) }
         ensures value { option_map entry_value (stored self.entry) ≡ Some result.now }
     {
-        let map = self.map;
-        map.value_at_mut(self.index)
+        let OccupiedEntry { map, index } = self;
+        map.value_at_mut(index)
     }
 
     /// The stored key, and the value, to be written. The map has what is left in it, and all else stays.

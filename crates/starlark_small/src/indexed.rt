@@ -3,6 +3,7 @@ ghost use Rattle.std.specs.Prelude.{◌≡◌, ◌+◌, ◌-◌, ◌<◌, ◌≤
 ghost use Rattle.starlark_hash.specs.Entries.{Entry, insert_entry, match_of, set_value_at, value_at};
 ghost use Rattle.starlark_hash.specs.Search.{CanSearch, Searches, keys_under};
 ghost use Rattle.starlark_hash.specs.Sorting.{Ascends, sorted_by_key};
+ghost use Rattle.starlark_small.specs.Growth.{reserved_capacity};
 ghost use Rattle.starlark_small.specs.Index.{IsIndexed, IsSound, index_room, map_of, room_of, unindexed};
 ghost use Rattle.starlark_small.specs.Map.{GrowsFor, KeepsMemory, KeepsRoom, query_match};
 ghost use Rattle.starlark_vec2.specs.Retain.{Retains, TakesInTurn};
@@ -113,6 +114,7 @@ pub(crate) fn reserve_in<K: Eq, V>(
     ensures unchanged { OnErr result (index.new ≡ index.old) }
     ensures room { KeepsRoom (map_of entries.old index.old) (map_of entries.new index.new) }
     ensures capacity { GrowsFor (length entries.old.entries + additional) (map_of entries.old index.old) (map_of entries.new index.new) }
+    ensures grown { OnOk result (entries.new.capacity ≡ reserved_capacity (map_of entries.old index.old) additional) }
     ensures made { OnOk result (is_some index.new ≡ (is_some index.old || nat_lt unindexed (length entries.old.entries + additional))) }
 {
     if additional <= room_in(entries, index) {
@@ -138,6 +140,7 @@ fn grow_in<K: Eq, V>(
     ensures unchanged { OnErr result (index.new ≡ index.old) }
     ensures room { KeepsRoom (map_of entries.old index.old) (map_of entries.new index.new) }
     ensures capacity { GrowsFor (length entries.old.entries + additional) (map_of entries.old index.old) (map_of entries.new index.new) }
+    ensures grown { OnOk result (entries.new.capacity ≡ reserved_capacity (map_of entries.old index.old) additional) }
     ensures made { OnOk result (is_some index.new ≡ (is_some index.old || nat_lt unindexed (length entries.old.entries + additional))) }
 {
     let _capacity = entries.capacity();
@@ -173,10 +176,8 @@ pub(crate) fn push_in<K: Eq, V>(
     }
     let place = entries.len();
     index_last(index, entries, key.hash());
-    match entries.insert_hashed_unique_unchecked(key, value) {
-        Ok(()) => Ok(place),
-        Err(refused) => Err(refused),
-    }
+    entries.push_reserved(key, value);
+    Ok(place)
 }
 
 // Writes the value at a place, and answers the old one.

@@ -1,7 +1,8 @@
 //! `smallmap!`.
-ghost use Rattle.std.specs.Prelude.{◌≡◌, ◌<◌, IfOk, IsErr, IsOk, MatchResult};
-ghost use Rattle.starlark_hash.specs.Entries.{insert_entry};
-ghost use Rattle.starlark_small.specs.Map.{KeepsRoom, own_hashed};
+ghost use Rattle.std.specs.Prelude.{◌≡◌, ◌+◌, ◌<◌, ◌||◌, length, nat_lt, IfOk, IsErr, IsOk, IsSome, MatchResult};
+ghost use Rattle.starlark_hash.specs.Entries.{insert_entry, match_of};
+ghost use Rattle.starlark_small.specs.Index.{unindexed};
+ghost use Rattle.starlark_small.specs.Map.{GrowsFor, KeepsRoom, own_hashed};
 
 use crate::SmallMap;
 use std::alloc::AllocError;
@@ -22,8 +23,8 @@ macro_rules! smallmap {
     }};
 }
 
-/// One step of `smallmap!`: inserts into a map that was made, as `SmallMap::insert` does. With room to spare it is not
-/// refused; a map that was refused stays so.
+/// One step of `smallmap!`: inserts into a map that was made, as `SmallMap::insert` does. A key that is there is never
+/// refused, nor is any with room to spare; a map that was refused stays so.
 pub fn inserted<K: Eq + Hash + Drop, V: Drop>(
     map: Result<SmallMap<K, V>, AllocError>,
     key: K,
@@ -31,7 +32,10 @@ pub fn inserted<K: Eq + Hash + Drop, V: Drop>(
 ) -> Result<SmallMap<K, V>, AllocError>
     ensures entries { MatchResult map (λ old. IfOk result (λ new. new.entries ≡ insert_entry K.eq old.entries (own_hashed K.hash_input key) value)) (λ _. IsErr result) }
     ensures succeeds { IfOk map (λ old. 0 < old.room → IsOk result) }
+    ensures present { IfOk map (λ old. IsSome (match_of K.eq old.entries (own_hashed K.hash_input key)) → IsOk result) }
     ensures room { IfOk map (λ old. IfOk result (KeepsRoom old)) }
+    ensures capacity { IfOk map (λ old. IfOk result (GrowsFor (length old.entries + 1) old)) }
+    ensures indexed { IfOk map (λ old. IfOk result (λ new. new.indexed ≡ (old.indexed || nat_lt unindexed (length new.entries)))) }
 {
     let mut map = map?;
     match map.insert(key, value) {

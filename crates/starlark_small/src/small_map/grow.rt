@@ -2,6 +2,7 @@
 ghost use Rattle.std.specs.Prelude.{◌≡◌, ◌+◌, ◌<◌, ◌≤◌, ◌||◌, length, nat_lt, None, IsSome, IfOk, IfErr, OnOk, OnErr};
 ghost use Rattle.starlark_hash.specs.Entries.{value_at, match_of, insert_entry};
 ghost use Rattle.starlark_hash.specs.Sorting.{Ascends, sorted_by_key};
+ghost use Rattle.starlark_small.specs.Growth.{reserved_capacity};
 ghost use Rattle.starlark_small.specs.Index.{unindexed};
 ghost use Rattle.starlark_small.specs.Map.{KeepsMemory, KeepsRoom, GrowsFor, own_hashed};
 
@@ -84,6 +85,7 @@ impl<K: Eq, V> SmallMap<K, V> {
 
         ensures room { KeepsRoom self.old self.new }
         ensures capacity { GrowsFor (length self.old.entries + additional) self.old self.new }
+        ensures grown { OnOk result (self.new.capacity ≡ reserved_capacity self.old additional) }
     {
         reserve_in(self.alloc, &mut self.entries, &mut self.index, additional)
     }
