@@ -1,3 +1,4 @@
 pub mod Ascending
 pub mod InsertedInOrder
+pub mod OwnHashes
 pub mod SortedMapOpen

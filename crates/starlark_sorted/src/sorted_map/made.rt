@@ -9,7 +9,7 @@ ghost use Rattle.starlark_small.specs.Index.{unindexed};
 ghost use Rattle.starlark_small.specs.Map.{KeepsMemory};
 ghost use Rattle.starlark_vec2.specs.Collect.{IsLawfulClone};
 ghost use Rattle.starlark_vecmap.specs.Clone.{IsEntryClone};
-ghost use Rattle.starlark_sorted.specs.Sorted.{CollectsSorted, IsSortedOf};
+ghost use Rattle.starlark_sorted.specs.Sorted.{AreOwn, CollectsSorted, IsSortedOf};
 
 use super::SortedMap;
 use starlark_sets::OrderedMap;
@@ -60,6 +60,7 @@ impl<K: Ord + Hash + Drop, V: Drop> SortedMap<K, V> {
     ) -> Result<Self, AllocError>
         requires { IsFiniteIterable I.into_iter_gives I.IntoIter.can_next I.IntoIter.remaining iter }
         ensures map { IfOk result (CollectsSorted K.eq K.cmp (own_entry K.hash_input) I.IntoIter.next_gives I.into_iter_gives I.IntoIter.remaining iter) }
+        ensures own { IfOk result (λ map. AreOwn K.hash_input map.entries) }
     {
         let map = OrderedMap::from_iter(alloc, iter)?;
         match SortedMap::from_ordered_map(map) {

@@ -10,7 +10,7 @@ ghost use Rattle.starlark_small.specs.Map.{KeepsMemory};
 ghost use Rattle.starlark_vec2.specs.Collect.{IsLawfulClone};
 ghost use Rattle.starlark_sets.specs.Collect.{own_element};
 ghost use Rattle.starlark_sets.specs.Unit.{IsElementClone};
-ghost use Rattle.starlark_sorted.specs.Sorted.{AscendsStrictly, CollectsSorted, IsSortedOf};
+ghost use Rattle.starlark_sorted.specs.Sorted.{AreOwn, AscendsStrictly, CollectsSorted, IsSortedOf};
 
 use super::SortedSet;
 use crate::sorted_vec::SortedVec;
@@ -77,6 +77,7 @@ impl<T: Ord + Hash + Drop> SortedSet<T> {
     pub fn from_iter<I: IntoIterator<Item = T>>(alloc: Global, iter: I) -> Result<Self, AllocError>
         requires { IsFiniteIterable I.into_iter_gives I.IntoIter.can_next I.IntoIter.remaining iter }
         ensures set { IfOk result (CollectsSorted T.eq T.cmp (own_element T.hash_input) I.IntoIter.next_gives I.into_iter_gives I.IntoIter.remaining iter) }
+        ensures own { IfOk result (λ set. AreOwn T.hash_input set.entries) }
     {
         let set = OrderedSet::from_iter(alloc, iter)?;
         match SortedSet::from_ordered_set(set) {

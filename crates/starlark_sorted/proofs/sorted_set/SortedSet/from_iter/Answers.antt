@@ -1,0 +1,9 @@
+use Rattle.std.proofs.Common.{refl}
+use Rattle.starlark_sets.specs.Collect.{own_element}
+use Rattle.starlark_sorted.proofs.OwnHashes.{sorted-own}
+use Rattle.starlark_sorted.proofs.sorted_set.SortedSet.from_iter.Goals as goal
+
+pub returns-in-Ok-clause-own : goal.returns-in-Ok-clause-own
+returns-in-Ok-clause-own g c =
+    let made = c.in_ok-set.ensures.set in
+    sorted-own g.T.PartialEq.eq g.T.Hash.hash_input (own_element g.T.Hash.hash_input) (λ x. refl) g.T.Ord.cmp made.2 c.in_ok-set.set.entries c.in-Ok.sorted.entries made.6 c.in-Ok.ensures.sorted.0
