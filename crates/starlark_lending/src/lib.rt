@@ -2,6 +2,7 @@
 #![tactic(auto)]
 
 pub mod entries;
+pub mod looked_up;
 pub mod maps;
 pub mod occupied;
 pub mod pairs;

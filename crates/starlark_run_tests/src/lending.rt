@@ -3,6 +3,9 @@
 use crate::given::{Numbers, holds, rows, same, shows, under};
 use starlark_hash::NoRoom;
 use starlark_lending::entries::put_value;
+use starlark_lending::looked_up::{
+    change_if_there, insert_if_lacking, is_there, or_insert_then_put,
+};
 use starlark_lending::maps::{insert_own_then_put, insert_then_put};
 use starlark_lending::occupied::{put_if_there, put_in_entry};
 use starlark_lending::pairs::{put_both, put_both_if};
@@ -160,5 +163,44 @@ fn puts_no_value_under_another_hash(rt: HostRuntime) -> Result<(), Fail> {
     let mut map = rows(rt.alloc(), &[(7, 1, 10)])?;
     holds(&rt, put_there(&mut map, 8, 1, 50) == Err(50));
     holds(&rt, shows(&map, &[(1, 10)]));
+    Ok(())
+}
+
+fn there(map: &mut Numbers, hash: u32, key: u32) -> bool {
+    is_there(map, under(hash, key))
+}
+
+fn change(map: &mut Numbers, hash: u32, key: u32, value: u32) {
+    change_if_there(map, under(hash, key), value);
+}
+
+#[test]
+fn lets_an_entry_go(rt: HostRuntime) -> Result<(), Fail> {
+    let mut map = rows(rt.alloc(), &[(7, 0, 0), (7, 1, 10)])?;
+    holds(&rt, there(&mut map, 7, 1) && !there(&mut map, 8, 1));
+    change(&mut map, 7, 1, 99);
+    change(&mut map, 8, 1, 50);
+    holds(&rt, shows(&map, &[(0, 0), (1, 99)]));
+    Ok(())
+}
+
+// Whether the key was lacking, and none where it was refused.
+fn insert(map: &mut Numbers, hash: u32, key: u32, value: u32) -> Option<bool> {
+    insert_if_lacking(map, under(hash, key), value).ok()
+}
+
+// The value that was replaced, and none where it was refused.
+fn put_anyway(map: &mut Numbers, hash: u32, key: u32, value: u32, next: u32) -> Option<u32> {
+    or_insert_then_put(map, under(hash, key), value, next).ok()
+}
+
+#[test]
+fn fills_a_vacant_entry(rt: HostRuntime) -> Result<(), Fail> {
+    let mut map = rows(rt.alloc(), &[(7, 0, 0), (7, 1, 10)])?;
+    same(&rt, insert(&mut map, 7, 2, 20), Some(true));
+    same(&rt, insert(&mut map, 7, 2, 50), Some(false));
+    same(&rt, put_anyway(&mut map, 7, 1, 50, 99), Some(10));
+    same(&rt, put_anyway(&mut map, 7, 3, 30, 98), Some(30));
+    holds(&rt, shows(&map, &[(0, 0), (1, 99), (2, 20), (3, 98)]));
     Ok(())
 }
