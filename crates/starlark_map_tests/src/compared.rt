@@ -1,8 +1,8 @@
 //! Maps compared, fed to a hasher and printed.
 
 use crate::given::{holds, same, under};
-use starlark_hash::{NoRoom, StarlarkHasher};
-use starlark_small::SmallMap;
+use starlark_map::small_map::SmallMap;
+use starlark_map::{NoRoom, StarlarkHasher};
 use std::alloc::Global;
 use std::hash::Hasher;
 use std::test::Fail;

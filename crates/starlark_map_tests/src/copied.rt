@@ -1,8 +1,8 @@
 //! Clones of maps, and maps of an iterator's items.
 
 use crate::given::{holds, same, under};
-use starlark_hash::Hashed;
-use starlark_small::SmallMap;
+use starlark_map::Hashed;
+use starlark_map::small_map::SmallMap;
 use std::alloc::Global;
 use std::test::Fail;
 

@@ -1,8 +1,8 @@
 //! What calls on entries of a map give, in maps without an index and with one.
 
 use crate::given::{Numbers, holds, pairs, same, size, under};
-use starlark_hash::{Hashed, NoRoom, TextKey};
-use starlark_small::{Entry, SmallMap};
+use starlark_map::small_map::{Entry, SmallMap};
+use starlark_map::{Hashed, NoRoom, TextKey};
 use std::alloc::Global;
 use std::test::Fail;
 

@@ -3,8 +3,8 @@
 use crate::given::{
     Numbers, at, holds, place, popped, put, removed_at, rows, same, size, sort, tens, turn, under,
 };
-use starlark_hash::{NoRoom, StarlarkHashValue, TextKey};
-use starlark_small::SmallMap;
+use starlark_map::small_map::SmallMap;
+use starlark_map::{NoRoom, StarlarkHashValue, TextKey};
 use std::alloc::Global;
 use std::test::Fail;
 

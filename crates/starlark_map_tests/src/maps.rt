@@ -4,8 +4,8 @@ ghost use Rattle.std.proofs.Common.{[], refl};
 use crate::given::{
     Numbers, at, at_under, holds, pairs, place, popped, put, rows, same, shows, sort, turn, under,
 };
-use starlark_hash::{Hashed, NoRoom, StarlarkHashValue, TextKey};
-use starlark_small::SmallMap;
+use starlark_map::small_map::SmallMap;
+use starlark_map::{Hashed, NoRoom, StarlarkHashValue, TextKey};
 use std::alloc::Global;
 use std::hash::{Hash, Hasher};
 use std::test::Fail;

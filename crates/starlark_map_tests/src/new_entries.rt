@@ -1,8 +1,8 @@
 //! New entries at a concrete type: what is written behind the references, and what a refused request leaves.
 
 use crate::given::{Numbers, at_under, holds, same, size, under};
-use starlark_hash::{Hashed, NoRoom};
-use starlark_small::SmallMap;
+use starlark_map::small_map::SmallMap;
+use starlark_map::{Hashed, NoRoom};
 use std::test::Fail;
 
 // Puts a key that is new under its hash last, and writes its value behind the reference.

@@ -3,8 +3,8 @@
 use crate::given::{
     Numbers, at, holds, pairs, place, popped, put, removed, same, size, sort, tens, turn,
 };
-use starlark_hash::TextKey;
-use starlark_small::SmallMap;
+use starlark_map::TextKey;
+use starlark_map::small_map::SmallMap;
 use std::alloc::Global;
 use std::test::Fail;
 

@@ -1,8 +1,8 @@
 //! Walks by reference, by value and by a reference that writes, and walks that are cloned.
 
 use crate::given::{Numbers, at_under, holds, rows, same, under};
-use starlark_hash::TextKey;
-use starlark_small::{SmallMap, smallmap};
+use starlark_map::small_map::SmallMap;
+use starlark_map::{TextKey, smallmap};
 use std::alloc::{AllocError, Global};
 use std::test::Fail;
 

@@ -2,8 +2,8 @@
 ghost use Rattle.std.proofs.Common.{[], refl};
 
 use crate::given::{holds, same};
-use starlark_hash::StarlarkHasher;
-use starlark_small::{SmallMap, smallmap};
+use starlark_map::small_map::SmallMap;
+use starlark_map::{StarlarkHasher, smallmap};
 use std::cell::Cell;
 use std::hash::{Hash, Hasher};
 use std::test::Fail;

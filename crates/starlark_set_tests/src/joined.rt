@@ -1,7 +1,7 @@
 //! What one set has and another lacks, and what is in either.
 
 use crate::given::{Numbers, holds, same, two, under};
-use starlark_sets::SmallSet;
+use starlark_map::small_set::SmallSet;
 use std::alloc::Global;
 use std::test::Fail;
 

@@ -1,9 +1,11 @@
 //! Ordered maps and sets at concrete types, and what the order of their entries tells apart.
 
 use crate::given::{holds, same, under};
-use starlark_hash::{NoRoom, StarlarkHasher};
-use starlark_sets::{OrderedMap, OrderedSet, SmallSet, TryInsertError};
-use starlark_small::SmallMap;
+use starlark_map::ordered_map::OrderedMap;
+use starlark_map::ordered_set::OrderedSet;
+use starlark_map::small_map::SmallMap;
+use starlark_map::small_set::SmallSet;
+use starlark_map::{NoRoom, StarlarkHasher, TryInsertError};
 use std::alloc::Global;
 use std::cmp::Ordering;
 use std::hash::{Hash, Hasher};

@@ -1,8 +1,8 @@
 //! Sets: values from outside, calls that succeed, and what a refused request leaves.
 
 use crate::given::{Numbers, ends, holds, put, removed, same, set, under};
-use starlark_hash::{NoRoom, TextKey};
-use starlark_sets::SmallSet;
+use starlark_map::small_set::SmallSet;
+use starlark_map::{NoRoom, TextKey};
 use std::test::Fail;
 
 // What `insert_hashed` answers, and none where it was refused.

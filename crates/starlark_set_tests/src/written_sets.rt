@@ -1,7 +1,8 @@
 //! Sets that are written out, made of items, copied, compared and printed.
 
 use crate::given::{Numbers, ends, holds, same, set, shows, two};
-use starlark_sets::{SmallSet, smallset};
+use starlark_map::small_set::SmallSet;
+use starlark_map::smallset;
 use std::alloc::Global;
 use std::test::Fail;
 

@@ -1,7 +1,7 @@
 //! Items that count their drops: each is dropped once, whatever becomes of the list and whatever memory is refused.
 
 use crate::given::holds;
-use starlark_vec2::Vec2;
+use starlark_map::vec2::Vec2;
 use std::alloc::Global;
 use std::cell::Cell;
 

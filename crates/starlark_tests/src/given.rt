@@ -1,7 +1,7 @@
 //! What several tests begin with. The helpers of these tests say nothing of what they do: a test that makes its calls
 //! through them carries no knowledge from line to line, and is proved in a part of the time.
 
-use starlark_hash::{Hashed, StarlarkHashValue};
+use starlark_map::{Hashed, StarlarkHashValue};
 use std::fmt::Debug;
 use std::process::Abort;
 

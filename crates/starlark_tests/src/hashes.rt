@@ -1,9 +1,9 @@
 //! The numbers that hashes come to, printed forms, and calls that are refused.
 
 use crate::given::{holds, same, under};
-use starlark_hash::{
+use starlark_map::{
     Equivalent, Hashed, StarlarkHashValue, StarlarkHasher, StarlarkHasherBuilder, TextKey,
-    ToOwnedKey, hash_value, key_query,
+    ToOwnedKey, laws,
 };
 use std::alloc::{AllocError, Global};
 use std::cmp::Ordering;
@@ -90,9 +90,9 @@ fn finds_by_text(rt: HostRuntime) -> Result<(), Fail> {
         &rt,
         StarlarkHashValue::new(&1u32) == StarlarkHashValue::new_unchecked(0x27220a95),
     );
-    hash_value::equal_keys_have_one_hash(stored.key(), stored.key());
-    key_query::query_has_the_hash_of_its_key(&query, stored.key());
-    hash_value::promotion_is_injective(stored.hash(), stored.hash());
+    laws::equal_keys_have_one_hash(stored.key(), stored.key());
+    laws::query_has_the_hash_of_its_key(&query, stored.key());
+    laws::promotion_is_injective(stored.hash(), stored.hash());
     Ok(())
 }
 

@@ -1,7 +1,7 @@
 //! Values from outside the contracts, and each call at concrete types.
 
 use crate::given::{holds, same};
-use starlark_vec2::{PairsMut, ValuesMut, Vec2};
+use starlark_map::vec2::{PairsMut, ValuesMut, Vec2};
 use std::alloc::Global;
 use std::cmp::Ordering;
 use std::fmt::Debug;
@@ -83,13 +83,21 @@ fn from_iter_takes_the_size_hint(rt: HostRuntime) -> Result<(), Fail> {
     Ok(())
 }
 
-// Whichever allocation is refused, the list has to stay as it was.
+// The capacity once it was made the length, and none where that was refused.
+fn capacity_fitted(list: &mut Pairs) -> Option<usize> {
+    match list.shrink_to_fit() {
+        Ok(()) => Some(list.capacity()),
+        Err(_) => None,
+    }
+}
+
 #[test]
 fn shrink_to_fit_keeps_the_pairs(rt: HostRuntime) -> Result<(), Fail> {
     let mut list = list_of(rt.alloc(), 10, &[(1, 2), (3, 4)])?;
     list.truncate(5);
-    let capacity = if list.shrink_to_fit().is_ok() { 2 } else { 10 };
-    same(&rt, list.capacity(), capacity);
+    same(&rt, capacity_fitted(&mut list), Some(2));
+    same(&rt, reserved(&mut list, 50), (true, 52));
+    same(&rt, capacity_fitted(&mut list), Some(2));
     same(&rt, list.get(1), Some((&3, &4)));
     holds(&rt, shows(&list, &[(1, 2), (3, 4)]));
     Ok(())

@@ -1,9 +1,9 @@
 //! What no clause says: values from outside, calls at concrete types, and what a refused request leaves.
 ghost use Rattle.std.specs.Prelude.{◌≡◌, map};
-ghost use Rattle.starlark_hash.specs.Entries.{entry_hash, entry_key};
+ghost use Rattle.starlark_map.specs.Entries.{entry_hash, entry_key};
 
 use crate::given::{holds, same, under};
-use starlark_hash::{NoRoom, StarlarkHashValue, StarlarkHasher, TextKey};
+use starlark_map::{NoRoom, StarlarkHashValue, StarlarkHasher, TextKey};
 use starlark_vecmap::{VecMap, find_hash_in_array};
 use std::alloc::{AllocError, Global};
 use std::hash::Hasher;

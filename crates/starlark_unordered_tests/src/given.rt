@@ -1,8 +1,8 @@
 //! What several tests begin with, and the calls of a map of numbers. These say nothing of what they do: a test that makes
 //! its calls through them carries no knowledge from line to line, and is proved in a part of the time.
 
-use starlark_hash::StarlarkHasher;
-use starlark_unordered::UnorderedMap;
+use starlark_map::StarlarkHasher;
+use starlark_map::unordered_map::UnorderedMap;
 use std::alloc::Global;
 use std::fmt::Debug;
 use std::hash::{Hash, Hasher};

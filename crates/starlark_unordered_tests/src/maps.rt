@@ -1,8 +1,8 @@
 //! Maps: values from outside.
 
 use crate::given::{alike, holds, map_of, put, removed, same, shows};
-use starlark_hash::TextKey;
-use starlark_unordered::UnorderedMap;
+use starlark_map::TextKey;
+use starlark_map::unordered_map::UnorderedMap;
 use std::alloc::Global;
 use std::test::Fail;
 

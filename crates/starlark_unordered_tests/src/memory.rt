@@ -1,8 +1,8 @@
 //! What a refused request for memory leaves. Each test holds whichever request is refused.
 
 use crate::given::{holds, map_of, same};
-use starlark_hash::NoRoom;
-use starlark_unordered::UnorderedMap;
+use starlark_map::NoRoom;
+use starlark_map::unordered_map::UnorderedMap;
 use std::test::Fail;
 
 // A removal gives its room back at once.

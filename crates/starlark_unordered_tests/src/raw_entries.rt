@@ -1,8 +1,8 @@
 //! Raw entries at a concrete type: what they find, and what is written behind the references.
 
 use crate::given::{holds, map_of, same, shows};
-use starlark_hash::{Hashed, NoRoom, StarlarkHashValue};
-use starlark_unordered::{RawEntryMut, UnorderedMap};
+use starlark_map::unordered_map::{RawEntryMut, UnorderedMap};
+use starlark_map::{Hashed, NoRoom, StarlarkHashValue};
 use std::test::Fail;
 
 #[test]

@@ -1,9 +1,8 @@
 //! Sets: values from outside, and raw entries at a concrete type.
 
 use crate::given::{holds, same};
-use starlark_hash::{Hashed, StarlarkHashValue};
-use starlark_unordered::UnorderedSet;
-use starlark_unordered::unordered_set::RawEntryMut;
+use starlark_map::unordered_set::{RawEntryMut, UnorderedSet};
+use starlark_map::{Hashed, StarlarkHashValue};
 use std::test::Fail;
 
 // What `insert` answers, and none where it was refused.

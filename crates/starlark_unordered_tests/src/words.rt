@@ -2,7 +2,7 @@
 ghost use Rattle.std.specs.Prelude.{◌+◌, ◌*◌, ◌%◌, ◌^◌, fold, length};
 
 use crate::given::{map_of, put, same};
-use starlark_unordered::UnorderedMap;
+use starlark_map::unordered_map::UnorderedMap;
 use std::hash::{Hash, Hasher};
 use std::test::Fail;
 

@@ -1,0 +1,3 @@
+mod Images
+mod Reading
+mod Writing

@@ -1,0 +1,4 @@
+pub mod Fault
+pub mod Texts
+pub mod Objects
+pub mod Arrays

@@ -1,0 +1,10 @@
+//! Small maps of integers and small sets of texts as JSON values, and back.
+#![tactic(auto)]
+
+pub mod fault;
+pub mod map;
+pub mod set;
+
+pub use fault::JsonFault;
+pub use map::{map_from_value, map_to_value};
+pub use set::{set_from_value, set_to_value};

@@ -1,0 +1,71 @@
+pub use Rattle.starlark_hash.specs.HashValue
+pub use Rattle.starlark_hash.specs.Hasher
+pub use Rattle.starlark_hash.specs.HashedOrder
+pub use Rattle.starlark_hash.specs.Entries
+pub use Rattle.starlark_hash.specs.Search
+pub use Rattle.starlark_hash.specs.Sorting
+pub use Rattle.starlark_hash.specs.Lending as HashedLending
+pub use Rattle.starlark_vec2.specs.PairList
+pub use Rattle.starlark_vec2.specs.Columns
+pub use Rattle.starlark_vec2.specs.Positions
+pub use Rattle.starlark_vec2.specs.Frozen
+pub use Rattle.starlark_vec2.specs.Retain as PairListRetain
+pub use Rattle.starlark_vec2.specs.Sort as PairListSort
+pub use Rattle.starlark_vec2.specs.Collect as PairListCollect
+pub use Rattle.starlark_vec2.specs.Lending as PairListLending
+pub use Rattle.starlark_vec2.specs.ColumnLending
+pub use Rattle.starlark_vecmap.specs.EntryList
+pub use Rattle.starlark_vecmap.specs.Ordered as EntryListOrdered
+pub use Rattle.starlark_vecmap.specs.Retain as EntryListRetain
+pub use Rattle.starlark_vecmap.specs.Clone as EntryListClone
+pub use Rattle.starlark_vecmap.specs.Lending as EntryListLending
+pub use Rattle.starlark_table.specs.Table
+pub use Rattle.starlark_small.specs.Map
+pub use Rattle.starlark_small.specs.Insertion
+pub use Rattle.starlark_small.specs.Iter
+pub use Rattle.starlark_small.specs.Lending as MapLending
+pub use Rattle.starlark_small.specs.Index
+pub use Rattle.starlark_small.specs.Compare
+pub use Rattle.starlark_small.specs.EqualityLaws
+pub use Rattle.starlark_small.specs.Clone as MapClone
+pub use Rattle.starlark_small.specs.Collect as MapCollect
+pub use Rattle.starlark_small.specs.MapEntry
+pub use Rattle.starlark_sets.specs.Set
+pub use Rattle.starlark_sets.specs.Unit as SetUnit
+pub use Rattle.starlark_sets.specs.Difference
+pub use Rattle.starlark_sets.specs.Union
+pub use Rattle.starlark_sets.specs.Lending as SetLending
+pub use Rattle.starlark_sets.specs.Collect as SetCollect
+pub use Rattle.starlark_sets.specs.Retain as SetRetain
+pub use Rattle.starlark_sets.specs.Ordered
+pub use Rattle.starlark_sets.specs.OrderedLaws
+pub use Rattle.starlark_sets.specs.OrderedEnd
+pub use Rattle.starlark_sets.specs.OrderedLending
+pub use Rattle.starlark_sets.specs.OrderedTries
+pub use Rattle.starlark_sorted.specs.Sorted
+pub use Rattle.starlark_sorted.specs.Collect as SortedCollect
+pub use Rattle.starlark_sorted.specs.Lending as SortedLending
+pub use Rattle.starlark_json.specs.Fault as JsonFaults
+pub use Rattle.starlark_json.specs.Texts as JsonTexts
+pub use Rattle.starlark_json.specs.Objects as JsonObjects
+pub use Rattle.starlark_json.specs.Arrays as JsonArrays
+pub use Rattle.starlark_unordered.specs.Pairs
+pub use Rattle.starlark_unordered.specs.Bag
+pub use Rattle.starlark_unordered.specs.BagLaws
+pub use Rattle.starlark_unordered.specs.Sound
+pub use Rattle.starlark_unordered.specs.Walk
+pub use Rattle.starlark_unordered.specs.Written
+pub use Rattle.starlark_unordered.specs.Lending as PairsLending
+pub use Rattle.starlark_unordered.specs.MapEntry as PairsEntry
+pub use Rattle.starlark_unordered.specs.RawEntry
+pub use Rattle.starlark_unordered.specs.RawLending
+pub use Rattle.starlark_unordered.specs.Clone as PairsClone
+pub use Rattle.starlark_unordered.specs.Collect as PairsCollect
+pub use Rattle.starlark_unordered.specs.Set as UnorderedSet
+pub use Rattle.starlark_unordered.specs.Unit as UnorderedUnit
+pub use Rattle.starlark_unordered.specs.RawSet
+pub use Rattle.starlark_unordered.specs.SetLending as UnorderedSetLending
+pub use Rattle.starlark_runs.specs.Run
+pub use Rattle.starlark_runs.specs.Memory
+pub use Rattle.starlark_runs.specs.Room
+pub use Rattle.starlark_runs.specs.OneList

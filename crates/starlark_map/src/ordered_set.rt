@@ -1,0 +1,4 @@
+//! `OrderedSet`: a small set whose equality, order and hash look at the order of its elements; its walks, and what
+//! `try_insert` answers of an element that is there.
+
+pub use starlark_sets::ordered_set::{IntoIter, Iter, OccupiedError, OrderedSet, TryInsertError};

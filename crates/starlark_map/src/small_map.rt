@@ -1,0 +1,7 @@
+//! `SmallMap`: a map that walks in the order of insertion, to which a look-up can bring a hash computed before; its
+//! walks and its entries.
+
+pub use starlark_small::{
+    Entry, IntoIter, IntoIterHashed, IntoKeys, IntoValues, Iter, IterHashed, IterMut, Keys,
+    OccupiedEntry, SmallMap, VacantEntry, Values, ValuesMut,
+};

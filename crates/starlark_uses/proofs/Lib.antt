@@ -1,0 +1,4 @@
+pub mod Counted
+pub mod FirstValues
+pub mod Bound
+pub mod CacheLemmas

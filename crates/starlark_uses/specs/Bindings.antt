@@ -1,0 +1,47 @@
+-- What the names of an interpreter are bound to. A name is given by the bytes of its text.
+use Rattle.std.specs.Prelude.{◌≡◌, ℕ, List, [], ◌∷◌, ◌++◌, Option, Some, None, All}
+use Rattle.std.specs.Option.{option_or}
+use Rattle.std.specs.Hash as fed
+use Rattle.std.specs.Str.{bytes_eq}
+use Rattle.std.specs.String.{string_bytes}
+use Rattle.std.specs.declared.alloc.Global.{Global}
+use Rattle.std.specs.declared.string.String.{String}
+use Rattle.starlark_hash.specs.Entries.{position_of, value_at}
+use Rattle.starlark_hash.specs.Hasher.{own_hash}
+use Rattle.starlark_small.specs.Map.{Map}
+
+-- what is bound in one scope
+abbrev pub Scope : Type 0 → Type 0
+Scope V = Map (String Global) V
+
+-- the innermost scope, and those around it, of which the first is the outermost
+pub record Bindings (V : Type 0) : Type 0 where
+  pub innermost : Scope V
+  pub enclosing : List (Scope V)
+
+module _ {V : Type 0} where
+  abbrev pub bindings : Scope V → List (Scope V) → Bindings V
+  bindings scope around = record { innermost = scope; enclosing = around }
+
+  -- the value that a scope binds a name to: that of the first entry under the name's own hash whose key has this text
+  abbrev pub bound : Scope V → List ℕ → Option V
+  bound scope name = value_at scope.entries (position_of (own_hash fed.str name) (λ key. bytes_eq name (string_bytes key)) scope.entries)
+
+  -- what several scopes bind a name to, of which the last is the innermost: its binding stands before those of the others
+  abbrev pub found : List (Scope V) → List ℕ → Option V
+  found [] name = None
+  found (scope ∷ inner) name = option_or (found inner name) (bound scope name)
+
+  -- what a look-up of a name answers
+  abbrev pub lookup : Bindings V → List ℕ → Option V
+  lookup b name = option_or (bound b.innermost name) (found b.enclosing name)
+
+  -- all scopes, of which the last is the innermost
+  abbrev pub scopes_of : Bindings V → List (Scope V)
+  scopes_of b = b.enclosing ++ b.innermost ∷ []
+
+  -- the answer is what the innermost of those scopes that bind the name binds it to, and none where none does
+  abbrev pub IsInnermost : List (Scope V) → List ℕ → Option V → Type 0
+  IsInnermost scopes name None = All (λ scope. bound scope name ≡ None) scopes
+  IsInnermost scopes name (Some value) =
+      (outer : List (Scope V)) × ((scope : Scope V) × ((inner : List (Scope V)) × ((scopes ≡ outer ++ scope ∷ inner) × (bound scope name ≡ Some value) × All (λ s. bound s name ≡ None) inner)))

@@ -1,0 +1,8 @@
+//! Parts of programs that stand on the maps and sets, each with what its user relies on.
+#![tactic(auto)]
+
+pub mod build;
+pub mod cache;
+pub mod scopes;
+pub mod value;
+pub mod visits;

@@ -1,0 +1,119 @@
+//! Visits, a build graph and a cache, each on a short run. The helpers say nothing of what they do, so that a test carries
+//! no knowledge from line to line.
+
+use starlark_sets::OrderedSet;
+use starlark_small::SmallMap;
+use starlark_uses::build::{Targets, declare, depend};
+use starlark_uses::cache::Cache;
+use starlark_uses::visits::{
+    Visits, forget, put, record_first_visit, record_named, record_visit, visit_again,
+};
+use std::alloc::Global;
+use std::process::Abort;
+use std::test::Fail;
+
+// Ends the process where this does not hold.
+fn holds(rt: &impl Abort, what: bool) {
+    assert!(rt; what);
+}
+
+// Visits of these pages, each at ten times its number.
+fn visits_of(alloc: Global, pages: &[u32]) -> Result<Visits, Fail> {
+    let mut visits = SmallMap::new(alloc);
+    for page in pages {
+        record_visit(&mut visits, *page, page.wrapping_mul(10))?;
+    }
+    Ok(visits)
+}
+
+// Whether a walk shows these pages and times, and no more.
+fn shows(visits: &Visits, pairs: &[(u32, u32)]) -> bool {
+    let mut walk = visits.iter();
+    for pair in pairs {
+        match walk.next() {
+            Some((page, time)) if (*page, *time) == *pair => {}
+            _ => return false,
+        }
+    }
+    walk.next().is_none()
+}
+
+#[test]
+fn pages_stay_in_the_order_of_their_first_visits(rt: HostRuntime) -> Result<(), Fail> {
+    let mut visits = visits_of(rt.alloc(), &[3, 1, 2, 1])?;
+    holds(&rt, shows(&visits, &[(3, 30), (1, 10), (2, 20)]));
+    holds(&rt, visit_again(&mut visits, 3, 7));
+    holds(&rt, !visit_again(&mut visits, 4, 7));
+    holds(&rt, forget(&mut visits, 1) == Some(10));
+    holds(&rt, shows(&visits, &[(3, 7), (2, 20)]));
+    Ok(())
+}
+
+// Whether the first visit to a new page, a value that is put and a page that is named succeed.
+fn notes(alloc: Global) -> Result<bool, Fail> {
+    let mut visits: Visits = SmallMap::new(alloc);
+    record_first_visit(&mut visits, 8, 80)?;
+    put(&mut visits, 9, 90)?;
+    let mut named = SmallMap::new(alloc);
+    record_named(&mut named, String::from_str(alloc, "home")?, 5)?;
+    Ok(shows(&visits, &[(8, 80), (9, 90)]) && named.len() == 1)
+}
+
+#[test]
+fn notes_new_pages(rt: HostRuntime) -> Result<(), Fail> {
+    holds(&rt, notes(rt.alloc())?);
+    Ok(())
+}
+
+// How many dependencies a target has, where it was declared.
+fn dependencies(targets: &Targets, target: u32) -> Option<usize> {
+    let found = targets.get(&target)?;
+    Some(found.len())
+}
+
+// Two targets, of which the first is declared twice and has one dependency.
+fn builds(alloc: Global) -> Result<Targets, Fail> {
+    let mut targets = SmallMap::new(alloc);
+    declare(alloc, &mut targets, 5)?;
+    declare(alloc, &mut targets, 2)?;
+    depend(&mut targets, 5, 2)?;
+    declare(alloc, &mut targets, 5)?;
+    Ok(targets)
+}
+
+#[test]
+fn a_target_keeps_its_place_and_dependencies(rt: HostRuntime) -> Result<(), Fail> {
+    let targets = builds(rt.alloc())?;
+    holds(&rt, dependencies(&targets, 5) == Some(1));
+    holds(&rt, dependencies(&targets, 2) == Some(0));
+    holds(&rt, dependencies(&targets, 9).is_none());
+    Ok(())
+}
+
+// A set of two numbers, in this order.
+fn both(alloc: Global, first: u32, second: u32) -> Result<OrderedSet<u32>, Fail> {
+    let mut set = OrderedSet::new(alloc);
+    set.insert(first)?;
+    set.insert(second)?;
+    Ok(set)
+}
+
+// The answer for a set of two numbers.
+fn answer(cache: &Cache<u32>, alloc: Global, first: u32, second: u32) -> Result<Option<u32>, Fail> {
+    Ok(cache.get(&both(alloc, first, second)?).copied())
+}
+
+// A cache with one answer.
+fn one_answer(alloc: Global) -> Result<Cache<u32>, Fail> {
+    let mut cache = Cache::new(alloc);
+    cache.put(both(alloc, 1, 2)?, 12)?;
+    Ok(cache)
+}
+
+#[test]
+fn equal_sets_hit(rt: HostRuntime) -> Result<(), Fail> {
+    let cache = one_answer(rt.alloc())?;
+    holds(&rt, answer(&cache, rt.alloc(), 1, 2)? == Some(12));
+    holds(&rt, answer(&cache, rt.alloc(), 2, 1)?.is_none());
+    Ok(())
+}
