@@ -28,6 +28,10 @@ mod scripts;
 #[cfg(test)]
 mod sets;
 #[cfg(test)]
+mod sorted_maps;
+#[cfg(test)]
+mod sorted_sets;
+#[cfg(test)]
 mod sorted_vectors;
 #[cfg(test)]
 mod tables;

@@ -181,14 +181,16 @@ fn makes_room_for_entries_or_stays(rt: HostRuntime) -> Result<(), Fail> {
 }
 
 fn shrinks(list: &mut Vec2<u32, u32>) -> bool {
-    let capacity = if list.shrink_to_fit().is_ok() { 3 } else { 4 };
-    is_three(list) && list.capacity() == capacity
+    list.shrink_to_fit().is_ok()
+        || is_three(list) && list.capacity() == 4 && list.shrink_to_fit().is_ok()
 }
 
 #[test]
 fn gives_room_back_or_stays(rt: HostRuntime) -> Result<(), Fail> {
     let mut list = pairs(rt.alloc(), 3)?;
     holds(&rt, shrinks(&mut list));
+    holds(&rt, is_three(&list));
+    same(&rt, list.capacity(), 3);
     Ok(())
 }
 
@@ -218,18 +220,16 @@ fn goes_in_steps(list: &Vec2<u32, u32>, step: u32) -> bool {
 }
 
 fn sorts(list: &mut Vec2<u32, u32>) -> bool {
-    let step = if list.sort_by(|a, b| a.0.cmp(b.0)).is_ok() {
-        1
-    } else {
-        7
-    };
-    goes_in_steps(list, step) && list.capacity() == 32
+    list.sort_by(|a, b| a.0.cmp(b.0)).is_ok()
+        || goes_in_steps(list, 7) && list.sort_by(|a, b| a.0.cmp(b.0)).is_ok()
 }
 
 #[test]
 fn sorts_pairs_or_stays(rt: HostRuntime) -> Result<(), Fail> {
     let mut list = mixed(rt.alloc())?;
     holds(&rt, sorts(&mut list));
+    holds(&rt, goes_in_steps(&list, 1));
+    same(&rt, list.capacity(), 32);
     Ok(())
 }
 
