@@ -2,23 +2,32 @@
 SCRIPT ?= examples/first.script
 # the crates whose wrong bodies are tried; none: all
 CRATE ?=
+# the lines of a benchmark run of Rust's, to be set beside ours; none: ours alone
+RUST ?=
 
-.PHONY: run try bench test wrong refused hostile attack
+.PHONY: run try bench chart test wrong refused hostile attack
 
 # builds the proved program, and plays the script
 run:
 	@cd crates/starlark_script && rt run < "$(abspath $(SCRIPT))"
 
-# plays the script in seconds, with no proof
+# plays the script with no proof, in about a minute
 try:
 	@cd crates/starlark_script && rt try < "$(abspath $(SCRIPT))"
 
-# builds the proved benchmarks, and prints name, length, nanoseconds an operation and checksum of each
+# builds the proved benchmarks, and prints name, length, nanoseconds an operation and checksum of each; with RUST=FILE
+# also the ratios, and draws them
 bench:
-	@cd crates/starlark_bench && rt run > /dev/null && ./out/starlark_bench a_ b_ c_ d_ e_ f_ g_
+	@cd crates/starlark_bench && rt run > /dev/null
+	@./bench/measure $(if $(RUST),"$(abspath $(RUST))")
+
+# draws the picture of speed from its table
+chart:
+	@python3 bench/chart.py docs/SPEED.md > docs/speed.svg
 
 # the merge gate: every proof, every test, every program
 test:
+	@./examples/as-in-readme
 	@rt ci
 
 # tries the wrong bodies that stand beside the gate, of all crates or of CRATE, and says which the check refuses
