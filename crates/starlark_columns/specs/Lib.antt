@@ -6,4 +6,5 @@ pub mod Claims
 pub mod Front
 pub mod Between
 pub mod ColumnLends
+pub mod Lent
 pub mod formers

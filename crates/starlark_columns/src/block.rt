@@ -18,7 +18,7 @@ use std::slice;
 
 // Where the first place lies. It owns nothing.
 pub struct Address<T> {
-    at: *const T,
+    pub(crate) at: *const T,
 }
 
 impl<T> Clone for Address<T> {

@@ -6,8 +6,9 @@ ghost use Rattle.starlark_columns.specs.Places.{empties, IsFilled, AreFilled, Ar
 ghost use Rattle.starlark_columns.specs.Front.{IsFront};
 
 use crate::block::{Address, Claim, Held, allocate, bare, deallocate, item_size, let_go};
+use crate::loan::{Keeps, Loan};
 use std::alloc::{AllocError, Global};
-use std::marker::Model;
+use std::marker::{Model, PhantomData};
 use std_alloc::room::may_hold;
 
 /// A row of places, each empty or with an item. Nothing at run time says which: the type above knows. A column is given
@@ -168,6 +169,7 @@ impl<T> Column<T> {
 
 impl<T> Column<T> {
     ghost use Rattle.starlark_columns.specs.ColumnLends.{lends_items};
+    ghost use Rattle.starlark_columns.specs.Lent.{places_follow};
 
     /// The items from place `from` up to place `to`, which are all there.
     #[inline]
@@ -186,6 +188,20 @@ impl<T> Column<T> {
         ensures value { slice_range self.old from to ≡ map Some result.now }
     {
         self.held.slice_mut(self.address, from, to)
+    }
+
+    /// The right to write the items, which a walk takes one by one. Each full place ends with what is left there, with
+    /// what `P` keeps of its item; empty places stay empty.
+    #[inline]
+    pub fn lend<P: Keeps<T>>(&mut self) -> Loan<'_, T, P>
+        ensures* writes_back { sem 𝓛 (places_follow T.row P.kept self.entry result.tie) }
+        ensures untouched { result.from ≡ 0 }
+        ensures rest { result.rest ≡ self.old }
+    {
+        Loan {
+            start: self.address.at.cast_mut(),
+            mark: PhantomData,
+        }
     }
 
     /// Moves the items from place `from` up to place `end` down, to the places from `to` on, as one move of memory. The

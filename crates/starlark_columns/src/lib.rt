@@ -6,5 +6,7 @@ mod block;
 pub mod column;
 pub mod front;
 mod held;
+pub mod loan;
 
 pub use column::Column;
+pub use loan::Loan;

@@ -1,0 +1,96 @@
+-- Places that are lent together: the next comes off, to be written or to stay. Assumes `Logic`.
+--     item_off    the item of a full place comes off, beside the places behind it
+--     place_off   a place stays as it is, and the places behind it are left
+use mathlib.Core.Path.{◌≡◌, refl, sym, ap}
+use Prim.Native.Nat.{ℕ, suc, ◌+◌, ◌<◌}
+use native.Mathlib.Omega.{arith}
+use mathlib.Core.List.{List, [], ◌∷◌}
+use lib.ListN.{length}
+use seplogic.Ra.Ura.{Ura}
+use base.Logic.{ent, sep, emp}
+use base.Fml.{Lft, GName, Share, flft, fobs, fbor}
+use types.Kit.{Item, ‵, raw, ◌⊛◌, some, later, mean, ◌$◌, ◌∵◌, !, qed, move, keep, use1, split, split3, pick, fsplit, fjoin, rewrite, group, await, updating, now, show, done}
+use types.Logic.{Logic, sem}
+use types.SemTy.{Body}
+use types.Mut.{open_ref}
+use types.Follow.{after, after₂, takes_part, takes_two}
+use denote.RattleType.{RattleType}
+use denote.RawPtr.{block_ptr}
+use denote.Steps.{nothing}
+use Rattle.std.specs.Prelude.{Option, Some, None}
+use Rattle.std.specs.Mem.{type_size}
+use Rattle.starlark_columns.specs.Owned.{place_owned, places_owned}
+use Rattle.starlark_columns.specs.Places.{IsFilled}
+use Rattle.starlark_columns.specs.contracts.column.Column.{the_row}
+use Rattle.starlark_columns.proofs.Slotting.{filled_within}
+use Rattle.starlark_columns.specs.Lent.{kept_place, kept_places, KeptItem, KeptPlaces, lent_item, lent_places}
+
+-- a list that is not empty, cut behind its first item
+pub parted : {X : Type 0} (xs : List X) → 0 < length xs → (y : X) × (ys : List X) × (xs ≡ y ∷ ys)
+parted [] p = absurd (omega (arith, p))
+parted (y ∷ ys) p = (y, ys, refl)
+
+-- places of which the first is full
+pub next_full : {X : Type 0} (cs : List (Option X)) → IsFilled cs 0 → (x : X) × (ds : List (Option X)) × (cs ≡ Some x ∷ ds)
+next_full [] full = absurd (omega (arith, filled_within [] 0 full))
+next_full (c ∷ cs) full = (full.0, cs, ap (λ d. d ∷ cs) full.1)
+
+module _ {X : Type 0} (kept : X → X → X) where
+  pub length-kept_places : (cs ws : List (Option X)) → length (kept_places kept cs ws) ≡ length cs
+  length-kept_places [] ws = refl
+  length-kept_places (c ∷ cs) [] = ap suc (length-kept_places cs [])
+  length-kept_places (c ∷ cs) (w ∷ ws) = ap suc (length-kept_places cs ws)
+
+  module _ (itself : (x : X) → kept x x ≡ x) where
+    pub place_itself : (c : Option X) → kept_place kept c c ≡ c
+    place_itself None = refl
+    place_itself (Some x) = ap Some (itself x)
+
+    pub places_itself : (cs : List (Option X)) → kept_places kept cs cs ≡ cs
+    places_itself [] = refl
+    places_itself (c ∷ cs) = λ i. place_itself c i ∷ places_itself cs i
+
+module _ (R : RattleType) (kept : R.Denot → R.Denot → R.Denot) (itself : (x : R.Denot) → kept x x ≡ x) {M : Type 1} {𝓤 : Ura M} (𝓛 : Logic 𝓤) (κ : Lft) (q : Share) (b o : ℕ) (γ : GName) (cs : List (Option R.Denot)) where
+  open 𝓛 use {H, A}
+
+  abbrev s : ℕ
+  s = type_size R
+
+  abbrev C : RattleType
+  C = the_row R
+
+  module _ (x : R.Denot) where
+    -- the item, and the places behind it
+    abbrev pub Off : GName × GName → Item 𝓤
+    Off γs = ‵ (lent_item R kept κ b o γs.0 x) ⊛ ‵ (lent_places R kept κ b (o + s) γs.1 cs) ⊛ ‵ (flft κ q)
+
+    put_item : (w : R.Denot) (ws : List (Option R.Denot)) → ent 𝓤 (sep 𝓤 (sem 𝓛 ((KeptItem R kept x).own_at w b o)) (sep 𝓤 (sem 𝓛 ((KeptPlaces R kept cs).own_at ws b (o + s))) (emp 𝓤)))
+        (sem 𝓛 ((KeptPlaces R kept (Some x ∷ cs)).own_at (Some w ∷ ws) b o))
+    put_item w ws = qed 𝓛 (‵ ((KeptItem R kept x).own_at w b o) ∷ ‵ ((KeptPlaces R kept cs).own_at ws b (o + s)) ∷ raw (emp 𝓤) ∷ []) ∵ fjoin ! $ keep ! (0 ∷ []) $ done !
+
+    pub item_off : ent 𝓤 (sep 𝓤 (sem 𝓛 (lent_places R kept κ b o γ (Some x ∷ cs))) (A.lft κ q)) (H.⇛ (mean 𝓛 (some Off)))
+    item_off =
+        let all : List (Option R.Denot) = Some x ∷ cs in
+        qed 𝓛 (‵ (lent_places R kept κ b o γ all) ∷ ‵ (flft κ q) ∷ []) ∵ updating ! $ fsplit ! $ open_ref ! tt (KeptPlaces R kept all) {x = all} {b = b} {o = o} $
+        fsplit ! $ nothing ! $ move ! (3 ∷ 4 ∷ 5 ∷ 1 ∷ 2 ∷ 0 ∷ []) $ group ! 6 $
+        use1 𝓛 (later (some (λ (γs : GName × GName). (‵ (fobs γs.0 (R.coded.code x)) ⊛ ‵ (fbor κ (Body (KeptItem R kept x) b o γs.0))) ⊛ (‵ (fobs γs.1 (C.coded.code cs)) ⊛ ‵ (fbor κ (Body (KeptPlaces R kept cs) b (o + s) γs.1)))
+        ⊛ ‵ (flft κ q) ⊛ ‵ (after₂ (KeptPlaces R kept all) (KeptItem R kept x) (KeptPlaces R kept cs) γ γs.0 γs.1 (λ w ws. Some w ∷ ws)))))
+        (takes_two 𝓛 (KeptPlaces R kept all) (KeptItem R kept x) (KeptPlaces R kept cs) (λ w ws. Some w ∷ ws) κ q b o b o b (o + s) γ (emp 𝓤) put_item (C.coded.code all) (C.coded.code all) x cs) $ await ! tt $ pick ! (λ γs. split3 ! $
+        split ! $ fjoin ! $ move ! (1 ∷ []) $ split ! $ fjoin ! $ move ! (2 ∷ []) $ split ! $ now ! $ show ! (λ (z : GName × GName). mean 𝓛 (Off z)) γs $ keep ! (3 ∷ 2 ∷ 0 ∷ []) $ done !)
+
+  module _ (c : Option R.Denot) where
+    abbrev pub Left : GName → Item 𝓤
+    Left δ = ‵ (lent_places R kept κ b (o + s) δ cs) ⊛ ‵ (flft κ q)
+
+    put_place : (ws : List (Option R.Denot)) → ent 𝓤 (sep 𝓤 (sem 𝓛 ((KeptPlaces R kept cs).own_at ws b (o + s))) (sem 𝓛 (place_owned R (block_ptr b o) c))) (sem 𝓛 ((KeptPlaces R kept (c ∷ cs)).own_at (c ∷ ws) b o))
+    put_place ws = qed 𝓛 (‵ ((KeptPlaces R kept cs).own_at ws b (o + s)) ∷ ‵ (place_owned R (block_ptr b o) c) ∷ []) ∵
+        move ! (1 ∷ []) $ rewrite ! 0 (λ (d : Option R.Denot). ‵ (place_owned R (block_ptr b o) d)) (sym (place_itself kept itself c)) refl $ fjoin ! $ done !
+
+    pub place_off : ent 𝓤 (sep 𝓤 (sem 𝓛 (lent_places R kept κ b o γ (c ∷ cs))) (A.lft κ q)) (H.⇛ (mean 𝓛 (some Left)))
+    place_off =
+        let all : List (Option R.Denot) = c ∷ cs in
+        qed 𝓛 (‵ (lent_places R kept κ b o γ all) ∷ ‵ (flft κ q) ∷ []) ∵ updating ! $ fsplit ! $ open_ref ! tt (KeptPlaces R kept all) {x = all} {b = b} {o = o} $
+        fsplit ! $ rewrite ! 0 (λ (d : Option R.Denot). ‵ (place_owned R (block_ptr b o) d)) (place_itself kept itself c) refl $ move ! (2 ∷ 3 ∷ 4 ∷ 1 ∷ 0 ∷ []) $ group ! 5 $
+        use1 𝓛 (later (some (λ (δ : GName). ‵ (fobs δ (C.coded.code cs)) ⊛ ‵ (fbor κ (Body (KeptPlaces R kept cs) b (o + s) δ)) ⊛ ‵ (flft κ q) ⊛ ‵ (after (KeptPlaces R kept all) (KeptPlaces R kept cs) γ δ (λ ws. c ∷ ws)))))
+        (takes_part 𝓛 (KeptPlaces R kept all) (KeptPlaces R kept cs) (λ ws. c ∷ ws) κ q b o b (o + s) γ (sem 𝓛 (place_owned R (block_ptr b o) c)) put_place (C.coded.code all) (C.coded.code all) cs) $ await ! tt $ pick ! (λ δ. split3 ! $
+        fjoin ! $ move ! (1 ∷ []) $ split ! $ now ! $ show ! (λ (z : GName). mean 𝓛 (Left z)) δ $ keep ! (2 ∷ 0 ∷ []) $ done !)

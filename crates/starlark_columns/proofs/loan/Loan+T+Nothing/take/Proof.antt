@@ -1,0 +1,94 @@
+-- `take` hands out the item of the next place. Assumes `Logic`.
+use Rattle.std.proofs.Common.{◌≡◌, ℕ, suc, ◌+◌, ◌*◌, ◌<◌, ◌^◌, Option, Some, None, get_or, List, [], ◌∷◌, ◌++◌, length, refl, sym, ap, subst, ◌∙◌, arith, w64}
+use native.Mathlib.Nat.{suc-mul}
+use seplogic.Ra.Ura.{Ura}
+use base.Fml.{Fml, GName, Lft, Share, ftrue, fsep, flft}
+use base.Fraction.{full_share}
+use base.Logic.{SProp, emp, never, id⊢}
+use contract.BorrowLft.{◌⊑◌}
+use contract.Lifetimes.{Lfts}
+use contract.Monad.{fact, fact_i}
+use contract.Running.{tables}
+use mir.MapTy.{inst_fn}
+use mir.Syntax.{a_type, named}
+use mir.Val.{Val, vint, vptr, vstruct, vcons, vnil, of_list}
+use types.ByLocal.{alloc_all, pass_all, free_all, look_at, get, through, is, sets, sets_last, env}
+use types.Kit.{‵, raw, ◌⊛◌, some, later, at_ret, ◌$◌, ◌∵◌, !, qed, by, move, keep, use0, use2, split, split3, join, pick, rewrite, fsplit, fsplit3, fjoin, fjoin3, feq_i, flt_i, flt_l, await, done}
+use types.Logic.{Logic, sem}
+use types.Part.{whole, sub, look_in}
+use types.Run.{stop, fld, load, bin, addr, size_word, of_opd, first, blocks, exec, returns, enter}
+use denote.Builtin.{usize}
+use denote.Exit.{yes}
+use denote.Laws.{shows}
+use denote.Memory.{cell_at}
+use denote.Param.{param, layouts}
+use denote.Plain.{uint_vals, uint_Tells}
+use denote.RattleType.{RattleType, owns}
+use denote.RawPtr.{Ptr, ptr_val, in_a_block}
+use denote.Ref.{MutBor, mut_vals, mut_Tells}
+use denote.Signature.{plain, named_lft, types_at}
+use denote.Steps.{heard, nothing, peeks, opens, closes}
+use denote.Triple.Walked.{Stays, stay_ref, stay_dropped, walk_of, Goes-ref, Goes-dropped}
+use Rattle.core.proofs.ptr.Rows.{times_below}
+use Rattle.core.proofs.slots.Bodies.{after}
+use Rattle.core.proofs.slots.Leases.{uncapped}
+use Rattle.std.proofs.raw_atomic.Walks.{proved, leaves}
+use Rattle.std.specs.Mem.{type_size}
+use Rattle.starlark_columns.specs.Places.{IsFilled}
+use Rattle.starlark_columns.specs.Lent.{lent_from, lent_places}
+use Rattle.starlark_columns.proofs.LentPlaces.{next_full, Off, item_off}
+use Rattle.starlark_columns.specs.contracts.loan.Loan as loan
+use Rattle.starlark_columns.specs.contracts.loan.Nothing as nothing_kept
+use Rattle.starlark_columns.specs.contracts.loan.NothingKeeps.TheImpl.{ghosts}
+use Rattle.starlark_columns.specs.contracts.loan.Loan+T+Nothing.take.{ended, clauses}
+use Rattle.starlark_columns.specs.contracts.loan.Loan+T+Nothing.take.Key as key
+use Rattle.starlark_columns.proofs.loan.Loan+T+Nothing.take.Statement.{statement}
+use Rattle.starlark_columns.proofs.loan.Loan+T+Nothing.take.Code as code
+
+pub take_spec : {M : Type 1} → statement M
+take_spec 𝓤 𝓛 𝓜 𝓡 wired X L =
+    let H = 𝓛.H in let 𝓣 = tables 𝓤 H 𝓜 𝓡 𝓡.env in let En = ended X in let inst = layouts (a_type ∷ []) (X, tt) in let fn = inst_fn inst code.function in
+    let c = clauses X 𝓛 𝓜.mem 𝓡.returns in let K : RattleType = param 0 X in let s : ℕ = type_size K in let g = ghosts K in
+    let It : Lfts 3 → RattleType = λ κs. loan.the_row (named_lft 3 1 tt κs) K nothing_kept.the_row g in
+    let hs : Stays En.signature.params En.kept = (stay_ref (0 ∷ []) tt (plain It), (stay_dropped (plain (λ _. usize)) yes, tt)) in
+    proved 𝓛 En hs c 𝓜 𝓡 (Goes-ref 𝓛 3 0 tt (plain It), (Goes-dropped 𝓛 3 (plain (λ _. usize)) yes (λ κs x f. refl), tt)) (key.name inst) fn (code.unfolded 𝓤 H 𝓜 𝓡 wired (X, tt))
+    (λ κs. (mut_vals, (uint_vals w64, tt))) (λ κs. (mut_Tells (named 0) κs.0 (It κs), (uint_Tells w64, tt))) (λ κs qs bounds a gh are.
+    let κ : Lft = κs.0 in let q : Share = qs.0 in let ι : Lft = κs.1.0 in let r : Share = qs.1.0 in let R : RattleType = It κs in let i : ℕ = a.1.0 in
+    let self : MutBor R.Denot = a.0 in let γ : GName = self.ghost_name in let rb : ℕ = self.ref_ptr.0 in let ro : ℕ = self.ref_ptr.1 in let d : R.Denot = self.now in
+    let y : (walk_of 𝓛 En hs c).Ghost = ((κs, qs, bounds, a, (vptr rb ro ∷ [], (vint w64 i ∷ [], tt))), gh) in let Post : Val → SProp 𝓤 = (walk_of 𝓛 En hs c).post y in
+    let others : Fml = fsep (flft κs.1.1.0 qs.1.1.0) ftrue in let Next : Type 0 = i ≡ d.from in let Full : Type 0 = IsFilled d.rest 0 in
+    qed 𝓛 (((‵ (flft κ q) ⊛ ‵ (flft ι r) ⊛ ‵ others) ⊛ ‵ (owns (types_at En.signature.params κs) a y.0.4)) ∷ raw (fact 𝓤 (κs.1.1.0 ⊑ X.lives)) ∷ raw (fact 𝓤 Next) ∷ raw (fact 𝓤 Full) ∷ []) ∵
+    move ! (2 ∷ 3 ∷ []) $ heard ! Next (λ next. heard ! Full (λ full. split ! $ split3 ! $ move ! (3 ∷ []) $ fsplit ! $ fsplit3 ! $ keep ! (1 ∷ 2 ∷ 4 ∷ 5 ∷ 6 ∷ []) $
+    -- [self's name and borrow; the tokens of κ, ι; the others]
+    enter ! 𝓣.C 𝓣.Λ fn (vptr rb ro ∷ vint w64 i ∷ []) Post $ alloc_all ! (λ l. pass_all ! refl ((tt, tt), ((tt, record { fits = are.1.0.1 }), tt)) $ let Ev = env fn.locals l in
+    opens ! tt R {h = d} rb ro (λ vs. move ! (1 ∷ []) $ peeks ! R _ (shows 𝓛 R) d vs (λ shown. fsplit ! $ move ! (1 ∷ 6 ∷ []) $
+    in_a_block ! d.start (λ p. lent_from ι K g.kept p d.from d.name d.rest) (id⊢ 𝓤 (never 𝓤)) (λ b o at. fsplit ! $ flt_l ! (λ small.
+    -- [the places; the token of ι; the fields; their cell, the open borrow and its names; the others]
+    let two = shown.0 in
+    let word : vs ≡ vstruct (vcons (vptr b o) (vcons (vstruct vnil) vnil)) ∷ [] = two.1.0 ∙ ap (λ (ws : List Val). vstruct (of_list (ws ++ (two.0.1.0 ++ []))) ∷ []) two.1.1.0
+    ∙ ap (λ (ws : List Val). vstruct (of_list (ptr_val d.start ∷ (ws ++ []))) ∷ []) two.1.1.1.0.1.0 ∙ ap (λ (p : Ptr). vstruct (vcons (ptr_val p) (vcons (vstruct vnil) vnil)) ∷ []) at in
+    let cut = next_full d.rest full in let x : X.Denot = cut.0 in let ps : List (Option X.Denot) = cut.1 in let begin : ℕ = i * s + o in
+    let far : i * s < 2 ^ 64 = let h : i * s < 2 ^ 63 = times_below i (d.from + length d.rest) s (2 ^ 63) (omega (arith, next)) small in omega (arith, h) in
+    let on : begin + s ≡ suc d.from * s + o = omega (arith, suc-mul d.from s, ap (λ (k : ℕ). k * s) next) in
+    let fewer : (suc d.from + length ps) * s < 2 ^ 63 = let n : d.from + length d.rest ≡ suc d.from + length ps = omega (arith, ap length cut.2) in subst (λ (k : ℕ). k * s < 2 ^ 63) n small in
+    rewrite ! 3 (λ (ws : List Val). ‵ (cell_at full_share R.mir ws rb ro)) word refl $ first ! $ blocks ! $
+    sets ! (of_opd ! (load ! (through ! refl (fld ! refl (stop !))) (look_in ! 3 (sub ! 0 refl (whole !))))) refl (tt, tt) $
+    sets ! (is ! (bin ! (get ! refl) (size_word !) (record { fits = subst (λ (k : ℕ). k < 2 ^ 64) (sym (uncapped i s far)) far })) (ap (vint w64) (uncapped i s far))) refl (tt, record { fits = far }) $
+    sets ! (bin ! (get ! refl) (get ! refl) tt) refl (tt, tt) $ rewrite ! 3 (λ (ws : List Val). ‵ (cell_at full_share R.mir ws rb ro)) (sym word) refl $
+    rewrite ! 0 (λ (k : ℕ). ‵ (lent_places K g.kept ι b (k * s + o) d.name d.rest)) (sym next) refl $
+    rewrite ! 0 (λ (t : List (Option X.Denot)). ‵ (lent_places K g.kept ι b begin d.name t)) cut.2 refl $
+    use2 𝓛 (later (some (Off K g.kept g.itself 𝓛 ι r b begin d.name ps x))) (item_off K g.kept g.itself 𝓛 ι r b begin d.name ps x) $ await ! tt $ pick ! (λ γs. split3 ! $
+    -- [the item; the places; the token of ι; the fields; their cell, the open borrow and its names; the others]
+    move ! (1 ∷ []) $ rewrite ! 0 (λ (k : ℕ). ‵ (lent_places K g.kept ι b k γs.1 ps)) on refl $ flt_i ! ((suc d.from + length ps) * s) (2 ^ 63) fewer $ fjoin ! $
+    rewrite ! 0 (λ (z : Ptr). ‵ (lent_from ι K g.kept z (suc d.from) γs.1 ps)) (sym at) refl $ move ! (3 ∷ 0 ∷ []) $ fjoin ! $ move ! (3 ∷ 0 ∷ 4 ∷ 5 ∷ 6 ∷ []) $
+    let new : R.Denot = record { start = d.start; mark = d.mark; name = γs.1; tie = d.tie; from = suc d.from; rest = ps } in
+    closes ! tt R new vs rb ro $ sets_last ! (addr ! (through ! refl (stop !))) refl (tt, tt) $ exec ! 𝓣.C 𝓣.Λ Ev (after 1 fn.body) (at_ret Ev Post) $
+    sets ! (of_opd ! (get ! refl)) refl (tt, tt) $ returns ! (look_at ! 0 refl) $ free_all ! refl $
+    -- [self's name and borrow; the token of κ; the item; the token of ι; the others]
+    feq_i ! (List Val) (vptr rb ro ∷ []) (vptr rb ro ∷ []) refl $ fjoin3 ! $ nothing ! $ nothing ! $ fjoin ! $ move ! (1 ∷ 0 ∷ []) $ fjoin ! $
+    move ! (3 ∷ 4 ∷ []) $ join ! $ move ! (2 ∷ 0 ∷ []) $ join ! $ move ! (2 ∷ []) $ fsplit ! $ feq_i ! (List Val) (vptr b begin ∷ []) (vptr b begin ∷ []) refl $ fjoin3 ! $
+    -- [the reference; the tokens; self]
+    let out : MutBor X.Denot = record { ref_ptr = (b, begin); ghost_name = γs.0; now = x } in
+    let Rest : Type 0 = d.rest ≡ Some x ∷ ps in let From : Type 0 = suc d.from ≡ d.from + 1 in let Tie : Type 0 = d.tie ≡ d.tie in
+    use0 𝓛 (raw (fact 𝓤 Tie)) (fact_i 𝓤 Tie (emp 𝓤) refl) $ use0 𝓛 (raw (fact 𝓤 From)) (fact_i 𝓤 From (emp 𝓤) (omega arith)) $ join ! $ use0 𝓛 (raw (fact 𝓤 Rest)) (fact_i 𝓤 Rest (emp 𝓤) cut.2) $ join ! $
+    move ! (2 ∷ 3 ∷ 1 ∷ 0 ∷ []) $ by ! (leaves 𝓛 En hs c y (vptr b begin) out (new, (tt, tt)) (tt, (tt, tt))))))))))))

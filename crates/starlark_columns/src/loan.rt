@@ -1,0 +1,121 @@
+//! The right to write the items of places that a walk has still to reach. Any of the places may be empty.
+ghost use Rattle.std.specs.Prelude.{◌≡◌, ℕ, ◌+◌, ◌<◌, List, ◌∷◌, length, drop, get_or, Option, Some, None, refl};
+ghost use Rattle.std.specs.Option.{option_map};
+ghost use Rattle.std.specs.Borrow.{GName};
+ghost use Rattle.std.specs.Map.Iter.{deref_pair_mut};
+ghost use Rattle.starlark_columns.specs.Places.{IsFilled};
+ghost use Rattle.starlark_columns.specs.Lent.{lent_from};
+
+use std::marker::{Model, PhantomData};
+
+/// What of an item stays as it is while the item is lent.
+pub trait Keeps<T> {
+    // what is written for an item, with what stays of the item itself
+    ghost kept: { T → T → T };
+
+    ghost itself: { (x : T) → kept x x ≡ x };
+}
+
+/// Nothing stays: all of the item may be written.
+pub struct Nothing;
+
+impl<T> Keeps<T> for Nothing {
+    ghost kept = { λ x w. w };
+
+    ghost itself = { λ x. refl };
+}
+
+/// The first part of a pair stays.
+pub struct First;
+
+impl<A, B> Keeps<(A, B)> for First {
+    ghost kept = { λ x w. (x.0, w.1) };
+
+    ghost itself = { λ x. refl };
+}
+
+/// All but the last part of an entry stays.
+pub struct AllButLast;
+
+impl<A, K, V> Keeps<(A, (K, V))> for AllButLast {
+    ghost kept = { λ x w. (x.0, (x.1.0, w.1.1)) };
+
+    ghost itself = { λ x. refl };
+}
+
+/// The right to the places at `start` that are still to be taken: those from the `from`-th on, `rest`. Which of them are full is
+/// frozen, and so is what `P` keeps of each item. `name` is the loan of these, and `tie` the loan of all, which the
+/// column follows.
+#[derive(Drop)]
+pub struct Loan<'a, T, P: Keeps<T>> {
+    pub(crate) start: *mut T,
+    pub(crate) mark: PhantomData<(&'a mut T, P)>,
+    ghost name: { GName },
+    pub ghost tie: { GName },
+    pub ghost from: { ℕ },
+    pub ghost rest: { List (Option T) },
+}
+
+impl<'a, T, P: Keeps<T>> Model for Loan<'a, T, P> {
+    ghost also_owns = { λ l. lent_from 'a T.row P.kept l.start l.from l.name l.rest };
+}
+
+impl<'a, T, P: Keeps<T>> Loan<'a, T, P> {
+    /// Passes over the next place, which stays as it is.
+    #[inline]
+    pub fn skip(&mut self)
+        requires { 0 < length self.old.rest }
+        ensures rest { self.new.rest ≡ drop 1 self.old.rest }
+        ensures from { self.new.from ≡ self.old.from + 1 }
+        ensures tie { self.new.tie ≡ self.old.tie }
+    {}
+}
+
+impl<'a, T> Loan<'a, T, Nothing> {
+    /// The item of the next place, to be written. The place is full.
+    #[inline]
+    pub fn take(&mut self, index: usize) -> &'a mut T
+        requires next { index ≡ self.old.from }
+        requires full { IsFilled self.old.rest 0 }
+        ensures rest { self.old.rest ≡ Some result.now ∷ self.new.rest }
+        ensures from { self.new.from ≡ self.old.from + 1 }
+        ensures tie { self.new.tie ≡ self.old.tie }
+    {
+        unsafe { &mut *self.start.add(index) }
+    }
+}
+
+impl<'a, A, B> Loan<'a, (A, B), First> {
+    /// The pair of the next place, its second part to be written. The place is full.
+    #[inline]
+    pub fn take_pair(&mut self, index: usize) -> (&'a A, &'a mut B)
+        requires next { index ≡ self.old.from }
+        requires full { IsFilled self.old.rest 0 }
+        ensures rest { self.old.rest ≡ Some (deref_pair_mut result) ∷ self.new.rest }
+        ensures from { self.new.from ≡ self.old.from + 1 }
+        ensures tie { self.new.tie ≡ self.old.tie }
+    {
+        unsafe {
+            let pair = self.start.add(index);
+            (&(*pair).0, &mut (*pair).1)
+        }
+    }
+}
+
+impl<'a, A, K, V> Loan<'a, (A, (K, V)), AllButLast> {
+    /// The key and the value of the entry in the next place, the value to be written. The place is full.
+    #[inline]
+    pub fn take_value(&mut self, index: usize) -> (&'a K, &'a mut V)
+        requires next { index ≡ self.old.from }
+        requires full { IsFilled self.old.rest 0 }
+        ensures value { option_map (λ e. e.1) (get_or self.old.rest 0 None) ≡ Some (deref_pair_mut result) }
+        ensures rest { self.new.rest ≡ drop 1 self.old.rest }
+        ensures from { self.new.from ≡ self.old.from + 1 }
+        ensures tie { self.new.tie ≡ self.old.tie }
+    {
+        unsafe {
+            let entry = self.start.add(index);
+            (&(*entry).1.0, &mut (*entry).1.1)
+        }
+    }
+}
