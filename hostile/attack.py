@@ -22,14 +22,12 @@ def promoted(hash):
 
 
 def one_home(count):
-    """Hashes whose upper 15 promoted bits are 0, ascending: one home in every table of up to 32768 places."""
-    steps, below = [], (1, 2)
-    while below[0] < 1 << 24:
-        steps.append(below[0])
-        below = (below[1], sum(below))
+    """Hashes whose promoted bits 32 to 46 are 0, ascending: one home in every table of up to 32768 places."""
+    # the least steps that lead up, down, and up and down, from one such hash to another
+    steps = 7037, 2_686_747, 2_693_784
     hashes = [0]
     while len(hashes) < count:
-        hashes.append(next(hashes[-1] + it for it in steps if promoted(hashes[-1] + it) < 1 << 49))
+        hashes.append(next(hashes[-1] + it for it in steps if promoted(hashes[-1] + it) >> 32 & 0x7FFF == 0))
     return hashes
 
 
@@ -38,7 +36,7 @@ def cases(count):
     yield "random hashes", draw.sample(range(1 << 32), count)
     yield "one hash", [7] * count
     yield "one home", one_home(count)
-    for stride in 46368, 75025, 121393:
+    for stride in 7037, 46368, 75025, 121393:
         yield f"stride {stride}", [i * stride for i in range(count)]
 
 

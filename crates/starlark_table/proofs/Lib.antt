@@ -3,9 +3,10 @@ pub mod Circle
 pub mod Bag
 pub mod Path
 pub mod Searching
-pub mod Absent
 pub mod Closing
 pub mod Tagged
+pub mod TagBits
+pub mod Windows
 pub mod Load
 pub mod Sound
 pub mod Shape

@@ -1,5 +1,5 @@
 -- The search for a hash along its probe path.
-use Rattle.std.proofs.Common.{◌≡◌, ℕ, zero, suc, zero-add, length-drop, ◌+◌, ◌<◌, ◌≤◌, ◌⊎◌, List, [], ◌∷◌, ◌++◌, length, Option, Some, None, IsSome, true, false, nat_eq, get_or, take, drop, arith, refl, IsPermutation, sym, ◌∙◌, ap, subst, add-one, drop-cons, if◌then◌else◌, eq-eqb}
+use Rattle.std.proofs.Common.{◌≡◌, ℕ, zero, suc, zero-add, length-drop, ◌+◌, ◌-◌, ◌<◌, ◌≤◌, List, [], ◌∷◌, ◌++◌, length, Option, Some, None, true, false, nat_eq, get_or, take, drop, arith, refl, IsPermutation, sym, ◌∙◌, ap, subst, add-one, drop-cons, if◌then◌else◌, eq-eqb}
 use Rattle.std.proofs.lemmas.Bool.{ne_eqb}
 use Rattle.std.proofs.lemmas.List.{get_or-drop, get_or_default, take-append-drop}
 use Rattle.std.proofs.lemmas.List.Elements.{All-head, All-tail}
@@ -7,8 +7,8 @@ use Rattle.std.proofs.lemmas.List.FromFn.{length-enumerate_from, get_or-enumerat
 use Rattle.std.proofs.lemmas.List.Sorted.{IsPermutation-append_comm}
 use Rattle.std.specs.List.{enumerate_from, All, Contains}
 use Rattle.starlark_table.specs.Table.{holders, holders_in, filled}
-use Rattle.starlark_table.specs.Layout.{distance, home, at, InPlace}
-use Rattle.starlark_table.proofs.Circle.{turn, length-turn, get_or-turn, step_to, distance-below, nearer_from_home}
+use Rattle.starlark_table.specs.Layout.{distance, at}
+use Rattle.starlark_table.proofs.Circle.{turn, length-turn, get_or-turn, step_to, distance-below}
 
 module _ {T : Type 0} where
   pub holders-append : (hash : ℕ) (ps bs : List (ℕ × Option (ℕ × T)))
@@ -76,45 +76,41 @@ module _ {T : Type 0} where
       drop-cons (turn a (enumerate_from 0 slots)) i (place, None) below
       ∙ rw (on_path a place i slots (place, None) a_in place_in e, add-one) refl
 
-  full_not_empty : (o : Option (ℕ × T)) → IsSome o → o ≡ None → ⊥
-  full_not_empty None full e = cc
-  full_not_empty (Some m) full e = cc
+  -- what is left of the path from so many steps on does not hold the hash, where no place that far does
+  pub path-over : (hash a i : ℕ) (slots : List (Option (ℕ × T))) → a < length slots
+      → ((q : ℕ) (x : T) → q < length slots → i ≤ distance (length slots) a q → at slots q ≡ Some (hash, x) → ⊥)
+      → holders hash (path_from a slots i) ≡ []
+  path-over hash a i slots a_in nobody =
+      holders-none hash (path_from a slots i)
+      (λ k d below x e.
+      let in' : i + k < length slots = rw (← length-path a slots) (omega (arith, simp length-drop at below)) in
+      let target = step_to (length slots) a (i + k) a_in in' in
+      nobody target.0 x target.1 (omega (arith, target.2))
+      (read_there a target.0 i k slots d (Some (hash, x)) a_in target.1 target.2 e))
 
-  -- no slot from the home up to this place holds the hash
-  abbrev pub NoneBefore : ℕ → ℕ → List (Option (ℕ × T)) → ℕ → Type 0
-  NoneBefore shift hash slots start = (q : ℕ) (x : T) → at slots q ≡ Some (hash, x) → (q < home shift hash) ⊎ (start ≤ q)
+  holders-skip : (hash p : ℕ) (o : Option (ℕ × T)) (rest : List (ℕ × Option (ℕ × T))) → ((x : T) → o ≡ Some (hash, x) → ⊥)
+      → holders hash ((p, o) ∷ rest) ≡ holders hash rest
+  holders-skip hash p None rest lacks = refl
+  holders-skip hash p (Some (h, x)) rest lacks = skipped hash p h x rest (λ e. lacks x (ap (λ k. Some (k, x)) e))
 
-  -- past an empty place, no place of the path holds the hash
-  path-ends : (shift hash start place i : ℕ) (slots : List (Option (ℕ × T)))
-      → home shift hash ≤ start → start < length slots → place < length slots → NoneBefore shift hash slots start
-      → distance (length slots) start place ≡ i → at slots place ≡ None → InPlace (length slots) shift slots
-      → holders hash (path_from start slots (i + 1)) ≡ []
-  path-ends shift hash start place i slots behind start_in place_in before e empty reached =
-      holders-none hash (path_from start slots (i + 1))
-      (λ k d below x e'.
-      let in' : i + 1 + k < length slots =
-      rw (← length-path start slots)
-      (omega (arith, simp length-drop at below)) in
-      let target = step_to (length slots) start (i + 1 + k) start_in in' in
-      let here : at slots target.0 ≡ Some (hash, x) = read_there start target.0 (i + 1) k slots d (Some (hash, x)) start_in target.1 target.2 e' in
-      let nearer : distance (length slots) start place < distance (length slots) start target.0 =
-      omega (arith, e, target.2) in
-      let from_home = nearer_from_home (length slots) (home shift hash) start place target.0 behind start_in place_in target.1 (before target.0 x here) nearer in
-      full_not_empty (at slots place) (reached.reached target.0 place hash x here place_in from_home) empty)
+  -- the path, past k places side by side that do not hold the hash
+  pub path-run : (hash a place i k : ℕ) (slots : List (Option (ℕ × T))) → a < length slots → place + k ≤ length slots
+      → ((q : ℕ) → place ≤ q → q < place + k → distance (length slots) a q ≡ i + (q - place))
+      → ((q : ℕ) (x : T) → place ≤ q → q < place + k → at slots q ≡ Some (hash, x) → ⊥)
+      → (j : ℕ) → j ≡ i + k → holders hash (path_from a slots i) ≡ holders hash (path_from a slots j)
+  path-run hash a place i zero slots a_in fits steps lacks j is =
+      let same : i ≡ j = omega arith in ap (λ n. holders hash (path_from a slots n)) same
+  path-run hash a place i (suc k) slots a_in fits steps lacks j is =
+      let first : distance (length slots) a place ≡ i = omega (arith, steps place (omega arith) (omega arith)) in
+      ap (holders hash) (path-step a place i slots a_in (omega arith) first)
+      ∙ holders-skip hash place (at slots place) (path_from a slots (i + 1)) (λ x. lacks place x (omega arith) (omega arith))
+      ∙ path-run hash a (place + 1) (i + 1) k slots a_in (omega arith)
+      (λ q low high. omega (arith, steps q (omega arith) (omega arith)))
+      (λ q x low high. lacks q x (omega arith) (omega arith)) j (omega arith)
 
   pub read_at : (slots : List (Option (ℕ × T))) (place : ℕ) (r : Option (ℕ × T)) → place < length slots
       → r ≡ get_or slots place r → at slots place ≡ r
   read_at slots place r place_in e = get_or_default slots place None r place_in ∙ sym e
-
-  -- at an empty place, the rest of the path does not hold the hash
-  pub nothing_left : (shift hash start place i : ℕ) (slots : List (Option (ℕ × T)))
-      → home shift hash ≤ start → start < length slots → place < length slots → NoneBefore shift hash slots start
-      → distance (length slots) start place ≡ i → at slots place ≡ None → InPlace (length slots) shift slots
-      → holders hash (path_from start slots i) ≡ []
-  nothing_left shift hash start place i slots behind start_in place_in before e empty reached =
-      ap (holders hash) (path-step start place i slots start_in place_in e)
-      ∙ ap (λ o. holders hash ((place, o) ∷ path_from start slots (i + 1))) empty
-      ∙ path-ends shift hash start place i slots behind start_in place_in before e empty reached
 
   -- the path, from a place that holds the hash
   pub path-taken : (hash a place i : ℕ) (item : T) (slots : List (Option (ℕ × T)))

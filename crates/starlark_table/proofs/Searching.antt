@@ -50,6 +50,10 @@ module _ {F T : Type 0} (g : Mut F (Bor T × Unit {0}) Bool) where
     asks = s.rest None f (subst (λ l. Asks g f l None f) (sym none) (refl, refl));
   }
 
+  -- what is left, told in other words
+  pub searching_on : (items left left' : List (ℕ × T)) (first f : F) → left ≡ left' → Searching items first f left → Searching items first f left'
+  searching_on items left left' first f e s = subst (λ l. Searching items first f l) e s
+
   pub searching_as : (items left : List (ℕ × T)) (first f f' : F) → f' ≡ f → Searching items first f left → Searching items first f' left
   searching_as items left first f f' e s = subst (λ f. Searching items first f left) (sym e) s
 

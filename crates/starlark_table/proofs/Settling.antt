@@ -8,7 +8,7 @@ use Rattle.std.proofs.lemmas.List.Edits.{swap_is}
 use Rattle.std.proofs.lemmas.List.Sorted.{IsPermutation-refl}
 use Rattle.starlark_table.specs.Table.{filled}
 use Rattle.starlark_table.specs.Layout.{at, distance, home, InPlace, ReachesBefore, StandsIn}
-use Rattle.starlark_table.proofs.Circle.{distance-below, distance-self, distance-same, distance-by}
+use Rattle.starlark_table.proofs.Circle.{distance-below, distance-self, distance-same, distance-by, home-below}
 use Rattle.starlark_table.proofs.Closing.{full_in_range, full-some, same_hash, full_not_empty, swapped_slots, Moved, moved-origin, apart-by_order}
 
 -- a way that does not lead over z is behind its end, seen from z
@@ -39,32 +39,32 @@ not_below_self a b e less = omega arith
 
 module _ {T : Type 0} where
   -- each member fewer than so many steps behind start has a full way from its home
-  pub record Settled (m shift start : ℕ) (slots : List (Option (ℕ × T))) (step : ℕ) : Type 0 where
+  pub record Settled (m start : ℕ) (slots : List (Option (ℕ × T))) (step : ℕ) : Type 0 where
     pub reached : (p q h : ℕ) (x : T) → at slots p ≡ Some (h, x) → distance m start p < step → q < m
-        → distance m (home shift h) q < distance m (home shift h) p → IsSome (at slots q)
+        → distance m (home m h) q < distance m (home m h) p → IsSome (at slots q)
 
-  module _ (m shift start : ℕ) (start_in : start < m) where
-    pub settled_first : (slots : List (Option (ℕ × T))) → ReachesBefore m shift slots start → length slots ≡ m → Settled m shift start slots 1
+  module _ (m start : ℕ) (start_in : start < m) where
+    pub settled_first : (slots : List (Option (ℕ × T))) → ReachesBefore m slots start → length slots ≡ m → Settled m start slots 1
     settled_first slots reaches sized = record {
       reached = λ p q h x here less q_in nearer.
           let p_in : p < m = rw (← sized) (full_in_range slots p (h, x) here) in
           let none : distance m start p ≡ distance m start start = rw (distance-self m start) (omega arith) in
           let e = distance-same m start p start start_in p_in start_in none in
-          absurd (not_below_self (distance m (home shift h) p) (distance m (home shift h) start) (ap (distance m (home shift h)) e) (reaches.before p h x here));
+          absurd (not_below_self (distance m (home m h) p) (distance m (home m h) start) (ap (distance m (home m h)) e) (reaches.before p h x here));
     }
 
     -- one place more
     settled_on : (slots : List (Option (ℕ × T))) (place step : ℕ) → length slots ≡ m → place < m → distance m start place ≡ step
-        → Settled m shift start slots step
-        → ((q h : ℕ) (x : T) → at slots place ≡ Some (h, x) → q < m → distance m (home shift h) q < distance m (home shift h) place → IsSome (at slots q))
-        → Settled m shift start slots (step + 1)
+        → Settled m start slots step
+        → ((q h : ℕ) (x : T) → at slots place ≡ Some (h, x) → q < m → distance m (home m h) q < distance m (home m h) place → IsSome (at slots q))
+        → Settled m start slots (step + 1)
     settled_on slots place step sized place_in e s here = record {
       reached = λ p q h x at_p less q_in nearer.
           let p_in : p < m = rw (← sized) (full_in_range slots p (h, x) at_p) in
           elim (cases_order (distance m start p) (distance m start place)) [
             | inl same ↦
                 let same_place = distance-same m start p place start_in p_in place_in same in
-                here q h x (ap (at slots) (sym same_place) ∙ at_p) q_in (subst (λ k. distance m (home shift h) q < distance m (home shift h) k) same_place nearer)
+                here q h x (ap (at slots) (sym same_place) ∙ at_p) q_in (subst (λ k. distance m (home m h) q < distance m (home m h) k) same_place nearer)
             | inr order ↦ elim order [
               | inl before ↦ s.reached p q h x at_p (omega arith) q_in nearer
               | inr after ↦ absurd (omega arith)
@@ -73,14 +73,13 @@ module _ {T : Type 0} where
     }
 
     pub settled_empty : (slots : List (Option (ℕ × T))) (place step : ℕ) → length slots ≡ m → place < m → distance m start place ≡ step
-        → at slots place ≡ None → Settled m shift start slots step → Settled m shift start slots (step + 1)
+        → at slots place ≡ None → Settled m start slots step → Settled m start slots (step + 1)
     settled_empty slots place step sized place_in e empty s =
         settled_on slots place step sized place_in e s (λ q h x full q_in nearer. absurd (cc (full, empty)))
 
-    pub settled_all : (slots : List (Option (ℕ × T))) (step : ℕ) → length slots ≡ m → m ≤ step → ReachesBefore m shift slots start
-        → Settled m shift start slots step → InPlace m shift slots
+    pub settled_all : (slots : List (Option (ℕ × T))) (step : ℕ) → length slots ≡ m → m ≤ step → ReachesBefore m slots start
+        → Settled m start slots step → InPlace m slots
     settled_all slots step sized all reaches s = record {
-      homed = reaches.homed;
       reached = λ p q h x here q_in nearer.
           let p_in : p < m = rw (← sized) (full_in_range slots p (h, x) here) in
           let below = distance-below m start p start_in p_in in
@@ -88,30 +87,29 @@ module _ {T : Type 0} where
     }
 
     module _ (old new : List (Option (ℕ × T))) (to place step h : ℕ) (x : T) (sized : length old ≡ m) (to_in : to < m) (place_in : place < m)
-        (e : distance m start place ≡ step) (here : at old place ≡ Some (h, x)) (reaches : ReachesBefore m shift old start)
-        (s : Settled m shift start old step) (near : distance m (home shift h) to ≤ distance m (home shift h) place)
-        (path : (q : ℕ) → q < m → distance m (home shift h) q < distance m (home shift h) to → IsSome (at old q)) where
+        (e : distance m start place ≡ step) (here : at old place ≡ Some (h, x)) (reaches : ReachesBefore m old start)
+        (s : Settled m start old step) (near : distance m (home m h) to ≤ distance m (home m h) place)
+        (path : (q : ℕ) → q < m → distance m (home m h) q < distance m (home m h) to → IsSome (at old q)) where
       -- a member that stays where it is
-      pub settled_stays : to ≡ place → Settled m shift start old (step + 1)
+      pub settled_stays : to ≡ place → Settled m start old (step + 1)
       settled_stays same = settled_on old place step sized place_in e s
           (λ q k y full q_in nearer.
           let hash = same_hash (k, y) (h, x) (sym full ∙ here) in
-          path q q_in (subst (λ p. distance m (home shift h) q < distance m (home shift h) p) (sym same)
-          (subst (λ k. distance m (home shift k) q < distance m (home shift k) place) hash nearer)))
+          path q q_in (subst (λ p. distance m (home m h) q < distance m (home m h) p) (sym same)
+          (subst (λ k. distance m (home m k) q < distance m (home m k) place) hash nearer)))
 
       module _ (moved : Moved old new to place (h, x)) where
-        pub reaches_moved : ReachesBefore m shift new start
+        pub reaches_moved : ReachesBefore m new start
         reaches_moved = record {
-          homed = λ p k y at_p. let o = moved-origin old new to place p (h, x) (k, y) here moved at_p in reaches.homed o.from k y o.there;
           before = λ p k y at_p.
               let o = moved-origin old new to place p (h, x) (k, y) here moved at_p in
               let far = reaches.before o.from k y o.there in
               elim o.which [
-                | inl same ↦ subst (λ p. distance m (home shift k) p < distance m (home shift k) start) same far
+                | inl same ↦ subst (λ p. distance m (home m k) p < distance m (home m k) start) same far
                 | inr both ↦
                     let hash = same_hash (k, y) (h, x) (sym o.there ∙ ap (at old) both.0 ∙ here) in
-                    let near' : distance m (home shift k) to ≤ distance m (home shift k) place = rw hash near in
-                    let far' = subst (λ p. distance m (home shift k) p < distance m (home shift k) start) both.0 far in
+                    let near' : distance m (home m k) to ≤ distance m (home m k) place = rw hash near in
+                    let far' = subst (λ p. distance m (home m k) p < distance m (home m k) start) both.0 far in
                     rw both.1 (omega arith)
               ];
         }
@@ -124,7 +122,7 @@ module _ {T : Type 0} where
             ]
 
         -- a member that moves back
-        pub settled_moved : length new ≡ m → Settled m shift start new (step + 1)
+        pub settled_moved : length new ≡ m → Settled m start new (step + 1)
         settled_moved sized' = record {
           reached = λ p q k y at_p less q_in nearer.
               let o = moved-origin old new to place p (h, x) (k, y) here moved at_p in
@@ -137,25 +135,25 @@ module _ {T : Type 0} where
                       | inl same ↦ absurd (not_place (distance-same m start p place start_in p_in place_in same))
                       | inr order ↦ elim order [ inl before ↦ omega arith | inr after ↦ absurd (omega arith) ]
                     ] in
-                    let far = on_way m start (home shift k) p q start_in (reaches.homed p k y at_old) p_in q_in (reaches.before p k y at_old) nearer in
+                    let far = on_way m start (home m k) p q start_in (home-below m k (omega arith)) p_in q_in (reaches.before p k y at_old) nearer in
                     full_still q (λ same_q. let d : distance m start q ≡ distance m start place = ap (distance m start) same_q in absurd (omega arith))
                     (s.reached p q k y at_old fewer q_in nearer)
                 | inr both ↦
                     let hash = same_hash (k, y) (h, x) (sym o.there ∙ ap (at old) both.0 ∙ here) in
-                    let nearer_to : distance m (home shift h) q < distance m (home shift h) to =
-                    subst (λ k. distance m (home shift k) q < distance m (home shift k) to) hash
-                    (subst (λ p. distance m (home shift k) q < distance m (home shift k) p) both.1 nearer) in
-                    full_still q (λ same_q. let d : distance m (home shift h) q ≡ distance m (home shift h) place = ap (distance m (home shift h)) same_q in
+                    let nearer_to : distance m (home m h) q < distance m (home m h) to =
+                    subst (λ k. distance m (home m k) q < distance m (home m k) to) hash
+                    (subst (λ p. distance m (home m k) q < distance m (home m k) p) both.1 nearer) in
+                    full_still q (λ same_q. let d : distance m (home m h) q ≡ distance m (home m h) place = ap (distance m (home m h)) same_q in
                     absurd (omega arith))
                     (path q q_in nearer_to)
               ];
         }
 
   -- what a step leaves
-  pub record Steps (m shift start step : ℕ) (old new : List (Option (ℕ × T))) : Type 0 where
+  pub record Steps (m start step : ℕ) (old new : List (Option (ℕ × T))) : Type 0 where
     pub sized : length new ≡ m
-    pub reaches : ReachesBefore m shift new start
-    pub settled : Settled m shift start new (step + 1)
+    pub reaches : ReachesBefore m new start
+    pub settled : Settled m start new (step + 1)
     pub bag : IsPermutation (filled old) (filled new)
 
   swap_none : (slots : List (Option (ℕ × T))) (place : ℕ) → place < length slots → swap slots place place ≡ slots
@@ -163,53 +161,52 @@ module _ {T : Type 0} where
       sym (swap_is slots place place None below below)
       ∙ ap (λ l. set l place (at slots place)) (set-get_or slots place None) ∙ set-get_or slots place None
 
-  pub steps_on : (m shift start : ℕ) (old new : List (Option (ℕ × T))) (to place step h : ℕ) (x : T) → start < m → length old ≡ m → to < m → place < m
-      → distance m start place ≡ step → at old place ≡ Some (h, x) → ReachesBefore m shift old start → Settled m shift start old step
-      → distance m (home shift h) to ≤ distance m (home shift h) place
-      → ((q : ℕ) → q < m → distance m (home shift h) q < distance m (home shift h) to → IsSome (at old q))
-      → (to ≡ place) ⊎ (at old to ≡ None) → new ≡ swap old to place → Steps m shift start step old new
-  steps_on m shift start old new to place step h x start_in sized to_in place_in e here reaches s near path (inl same) is =
+  pub steps_on : (m start : ℕ) (old new : List (Option (ℕ × T))) (to place step h : ℕ) (x : T) → start < m → length old ≡ m → to < m → place < m
+      → distance m start place ≡ step → at old place ≡ Some (h, x) → ReachesBefore m old start → Settled m start old step
+      → distance m (home m h) to ≤ distance m (home m h) place
+      → ((q : ℕ) → q < m → distance m (home m h) q < distance m (home m h) to → IsSome (at old q))
+      → (to ≡ place) ⊎ (at old to ≡ None) → new ≡ swap old to place → Steps m start step old new
+  steps_on m start old new to place step h x start_in sized to_in place_in e here reaches s near path (inl same) is =
       let below : place < length old = rw sized place_in in
       let unmoved : new ≡ old = is ∙ ap (λ k. swap old k place) same ∙ swap_none old place below in
-      subst (λ l. Steps m shift start step old l) (sym unmoved) (record {
+      subst (λ l. Steps m start step old l) (sym unmoved) (record {
         sized = sized;
         reaches = reaches;
-        settled = settled_stays m shift start start_in old old to place step h x sized to_in place_in e here reaches s near path same;
+        settled = settled_stays m start start_in old old to place step h x sized to_in place_in e here reaches s near path same;
         bag = IsPermutation-refl (filled old);
       })
-  steps_on m shift start old new to place step h x start_in sized to_in place_in e here reaches s near path (inr empty) is =
+  steps_on m start old new to place step h x start_in sized to_in place_in e here reaches s near path (inr empty) is =
       let moved = swapped_slots old new to place m (h, x) sized to_in place_in empty here is in
       let sized' = moved.0.same_length ∙ sized in
       record {
         sized = sized';
-        reaches = reaches_moved m shift start start_in old new to place step h x sized to_in place_in e here reaches s near path moved.0;
-        settled = settled_moved m shift start start_in old new to place step h x sized to_in place_in e here reaches s near path moved.0 sized';
+        reaches = reaches_moved m start start_in old new to place step h x sized to_in place_in e here reaches s near path moved.0;
+        settled = settled_moved m start start_in old new to place step h x sized to_in place_in e here reaches s near path moved.0 sized';
         bag = moved.1;
       }
 
-  pub steps_over : (m shift start : ℕ) (old new : List (Option (ℕ × T))) (place step : ℕ) → start < m → length old ≡ m → place < m
-      → distance m start place ≡ step → at old place ≡ None → ReachesBefore m shift old start → Settled m shift start old step → new ≡ old
-      → Steps m shift start step old new
-  steps_over m shift start old new place step start_in sized place_in e empty reaches s is =
-      subst (λ l. Steps m shift start step old l) (sym is) (record {
+  pub steps_over : (m start : ℕ) (old new : List (Option (ℕ × T))) (place step : ℕ) → start < m → length old ≡ m → place < m
+      → distance m start place ≡ step → at old place ≡ None → ReachesBefore m old start → Settled m start old step → new ≡ old
+      → Steps m start step old new
+  steps_over m start old new place step start_in sized place_in e empty reaches s is =
+      subst (λ l. Steps m start step old l) (sym is) (record {
         sized = sized;
         reaches = reaches;
-        settled = settled_empty m shift start start_in old place step sized place_in e empty s;
+        settled = settled_empty m start start_in old place step sized place_in e empty s;
         bag = IsPermutation-refl (filled old);
       })
 
   -- before anything moves, no way leads over an empty place
-  pub reaches_before : (m shift start : ℕ) (old new : List (Option (ℕ × T))) → length old ≡ m → start < m → at old start ≡ None → InPlace m shift old
-      → StandsIn old new → ReachesBefore m shift new start
-  reaches_before m shift start old new sized start_in empty in_place stands = record {
-    homed = λ p h y e. let b = stands.stood p h y e in in_place.homed p h b.0 b.1;
+  pub reaches_before : (m start : ℕ) (old new : List (Option (ℕ × T))) → length old ≡ m → start < m → at old start ≡ None → InPlace m old
+      → StandsIn old new → ReachesBefore m new start
+  reaches_before m start old new sized start_in empty in_place stands = record {
     before = λ p h y e.
         let b = stands.stood p h y e in
         let p_in : p < m = rw (← sized) (full_in_range old p (h, b.0) b.1) in
-        let home_in = in_place.homed p h b.0 b.1 in
-        elim (cases_order (distance m (home shift h) p) (distance m (home shift h) start)) [
+        let home_in = home-below m h (omega arith) in
+        elim (cases_order (distance m (home m h) p) (distance m (home m h) start)) [
           | inl same ↦
-              let e = distance-same m (home shift h) p start home_in p_in start_in same in
+              let e = distance-same m (home m h) p start home_in p_in start_in same in
               absurd (cc (ap (at old) e, empty, b.1))
           | inr order ↦ elim order [
             | inl before ↦ before

@@ -1,5 +1,5 @@
 -- Whether slots are well laid out depends on their hashes alone.
-use Rattle.std.proofs.Common.{◌≡◌, ℕ, zero, suc, ◌-◌, ◌*◌, ◌^◌, ◌<◌, ◌≤◌, ◌⊎◌, List, [], ◌∷◌, length, Option, Some, None, IsSome, get_or, arith, refl, sym, ◌∙◌, ap, subst}
+use Rattle.std.proofs.Common.{◌≡◌, ℕ, zero, suc, ◌+◌, ◌-◌, ◌<◌, ◌≤◌, List, [], ◌∷◌, length, Option, Some, None, IsSome, get_or, arith, refl, sym, ◌∙◌, ap, subst}
 use Rattle.std.specs.List.{AllZip}
 use Rattle.std.specs.Prelude.{slice_set}
 use Rattle.std.specs.Option.{option_map}
@@ -8,7 +8,7 @@ use Rattle.std.specs.Borrow.{Bor}
 use Rattle.std.specs.Fn.{Mut}
 use Rattle.starlark_table.specs.Table.{Table, filled, with_item, IsSlotClone}
 use Rattle.starlark_table.specs.Walk.{ReplacesEach}
-use Rattle.starlark_table.specs.Layout.{at, limit, InPlace, IsTagged, IsSound}
+use Rattle.starlark_table.specs.Layout.{at, limit, tag, slot_tag, InPlace, IsTagged, IsSound}
 use Rattle.starlark_table.proofs.Tagged.{sized-alike}
 
 -- how many hashes there are
@@ -55,6 +55,12 @@ module _ {T : Type 0} where
   full_by_hash None h e = absurd (some_not_none h (sym e))
   full_by_hash (Some (k, x)) h e = (x, ap (λ n. Some (n, x)) (same_inside k h e))
 
+  same_slot_tag : (o n : Option (ℕ × T)) → hash_of n ≡ hash_of o → slot_tag n ≡ slot_tag o
+  same_slot_tag None None e = refl
+  same_slot_tag None (Some n) e = absurd (some_not_none n.0 e)
+  same_slot_tag (Some m) None e = absurd (some_not_none m.0 (sym e))
+  same_slot_tag (Some m) (Some n) e = ap tag (same_inside n.0 m.0 e)
+
   full_in_both : (o n : Option (ℕ × T)) → hash_of n ≡ hash_of o → IsSome o → IsSome n
   full_in_both None n e some = absurd (cc)
   full_in_both (Some m) None e some = absurd (some_not_none m.0 (sym e))
@@ -73,22 +79,20 @@ module _ {T : Type 0} where
     same_tags : (tags : List ℕ) → IsTagged tags old → IsTagged tags new
     same_tags tags t = record {
       sized = sized-alike tags tags old new refl same_length t.sized;
-      tagged = λ p h y e.
-          let back = full_by_hash (at old p) h (sym (same_hash_at p) ∙ ap hash_of e) in
-          t.tagged p h back.0 back.1;
+      tagged = λ p below.
+          let p_in : p < length old = rw same_length at below in
+          t.tagged p p_in ∙ sym (same_slot_tag (at old p) (at new p) (same_hash_at p));
+      padded = λ p low high.
+          let low' : length old ≤ p = rw same_length at low in
+          t.padded p low' high;
     }
 
-    pub reshaped : (tags : List ℕ) (len shift : ℕ) → IsSound old tags len shift → IsSound new tags len shift
-    reshaped tags len shift sound = record {
+    pub reshaped : (tags : List ℕ) (len mask : ℕ) → IsSound old tags len mask → IsSound new tags len mask
+    reshaped tags len mask sound = record {
       counted = sound.counted ∙ sym same_count;
       load = subst (λ n. len ≤ limit n) (sym same_length) sound.load;
-      shift_low = sound.shift_low;
-      shift_high = sound.shift_high;
-      places = subst (λ n. (n ≡ 0) ⊎ (n * 2 ^ shift ≡ 2 ^ 64)) (sym same_length) sound.places;
-      in_place = subst (λ n. InPlace n shift new) (sym same_length) (record {
-        homed = λ p h y e.
-            let back = full_by_hash (at old p) h (sym (same_hash_at p) ∙ ap hash_of e) in
-            sound.in_place.homed p h back.0 back.1;
+      masked = subst (λ n. 0 < n → mask + 1 ≡ n) (sym same_length) sound.masked;
+      in_place = subst (λ n. InPlace n new) (sym same_length) (record {
         reached = λ p q h y e below near.
             let back = full_by_hash (at old p) h (sym (same_hash_at p) ∙ ap hash_of e) in
             full_in_both (at old q) (at new q) (same_hash_at q) (sound.in_place.reached p q h back.0 back.1 below near);
@@ -155,9 +159,9 @@ module _ {T : Type 0} (w : T) where
   shape-written (p ∷ slots) zero o e below = ap (λ o. shape (written o ∷ slots)) e ∙ shape-first p slots
   shape-written (p ∷ slots) (suc i) o e below = shape-cons p (set slots i (written o)) slots (shape-written slots i o e (omega arith))
 
-  pub sound-written : (slots : List (Option (ℕ × T))) (i : ℕ) (o : Option (ℕ × T)) (tags : List ℕ) (len shift : ℕ) → o ≡ get_or slots i o → i < length slots
-      → IsSound slots tags len shift → IsSound (set slots i (written o)) tags len shift
-  sound-written slots i o tags len shift e below = reshaped slots (set slots i (written o)) (shape-written slots i o e below) tags len shift
+  pub sound-written : (slots : List (Option (ℕ × T))) (i : ℕ) (o : Option (ℕ × T)) (tags : List ℕ) (len mask : ℕ) → o ≡ get_or slots i o → i < length slots
+      → IsSound slots tags len mask → IsSound (set slots i (written o)) tags len mask
+  sound-written slots i o tags len mask e below = reshaped slots (set slots i (written o)) (shape-written slots i o e below) tags len mask
 
   -- the slots with another item in one
   slots-with_item : (slots : List (Option (ℕ × T))) (i : ℕ) (o : Option (ℕ × T)) → o ≡ get_or slots i o → i < length slots → set slots i (written o) ≡ slice_set slots i (written (at slots i))

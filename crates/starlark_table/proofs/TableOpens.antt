@@ -9,7 +9,7 @@ use base.Logic.{SProp, ent, sep, wand, ex, all_e, apply∗}
 use prog.Memory.{size, align, up}
 use types.Kit.{‵, raw, ◌⊛◌, some, ◌$◌, ◌∵◌, !, qed, by, move, use1, use2, split, pick, show, fsplit, fjoin, done}
 use types.Logic.{Logic, sem}
-use denote.Builtin.{u8, u32, usize}
+use denote.Builtin.{u8, usize}
 use denote.RattleType.{RattleType, Denots}
 use denote.Memory.{part_at, part_of, lone}
 use denote.Model.Fields.{plain_out, Plain-in, view_made}
@@ -42,7 +42,7 @@ module _ (K : RattleType) where
   CS = column (SlotOf K)
 
   abbrev left : List Member
-  left = member (column u8) ∷ member usize ∷ member u32 ∷ []
+  left = member (column u8) ∷ member usize ∷ member usize ∷ []
 
   abbrev ms : List Member
   ms = member CS ∷ left

@@ -1,13 +1,15 @@
 //! Places round a circle: where a hash belongs, which place is next, and how far one is behind another.
-ghost use Rattle.std.specs.Prelude.{◌≡◌, ℕ, ◌+◌, ◌*◌, ◌^◌, ◌<◌, ◌≤◌, ◌==◌, IfSome, if◌then◌else◌};
-ghost use Rattle.starlark_table.specs.Layout.{distance, home, limit};
+ghost use Rattle.std.specs.Prelude.{◌≡◌, ℕ, ◌+◌, ◌^◌, ◌<◌, ◌≤◌, ◌==◌, IfSome, if◌then◌else◌};
+ghost use Rattle.starlark_table.specs.Layout.{distance, home, limit, window};
+
+use crate::tags::WINDOW;
 
 // How many members so many places may hold.
 #[inline]
 pub(crate) fn limit(count: usize) -> usize
     ensures { result ≡ limit count }
 {
-    count / 2
+    count / 8 * 5
 }
 
 #[inline]
@@ -18,13 +20,34 @@ pub(crate) fn next_place(place: usize, count: usize) -> usize
     if place + 1 == count { 0 } else { place + 1 }
 }
 
+// Where the window after the one from `start` on begins: at the first place again where it would begin behind the last.
+#[inline]
+pub(crate) fn window_after(start: usize, mask: usize) -> usize
+    requires { start ≤ mask }
+    ensures on { start + window ≤ mask → result ≡ start + window }
+    ensures round { mask < start + window → result ≡ 0 }
+{
+    if mask - start < WINDOW {
+        0
+    } else {
+        start + WINDOW
+    }
+}
+
 #[inline]
 #[tactic(auto, unfolding(crate::specs::Layout::home))]
-pub(crate) fn home(hash: u64, shift: u32) -> usize
-    requires { shift < 64 }
-    ensures { result ≡ home shift hash }
+pub(crate) fn home(hash: u64, mask: usize) -> usize
+    ensures { result ≡ home (mask + 1) hash }
 {
-    (hash >> shift) as usize
+    (hash >> 32) as usize & mask
+}
+
+#[inline]
+pub(crate) fn home_among(count: usize, hash: u64) -> usize
+    requires { 0 < count }
+    ensures { result ≡ home count hash }
+{
+    home(hash, count - 1)
 }
 
 // How many steps lead from one place to another.
@@ -33,31 +56,27 @@ pub(crate) fn home(hash: u64, shift: u32) -> usize
 pub(crate) fn distance(count: usize, from: usize, to: usize) -> usize
     requires from { from < count }
     requires to { to < count }
-    requires fits { count < 2 ^ 63 }
     ensures { result ≡ distance count from to }
 {
     if from <= to {
         to - from
     } else {
-        to + count - from
+        count - (from - to)
     }
 }
 
-// A number of places, a power of two, that may hold so many members, and its shift.
-pub(crate) fn places_for(needed: usize) -> Option<(usize, u32)>
-    ensures power { IfSome result (λ p. p.0 * 2 ^ p.1 ≡ 2 ^ 64) }
-    ensures low { IfSome result (λ p. 1 < p.1) }
-    ensures high { IfSome result (λ p. p.1 < 63) }
-    ensures enough { IfSome result (λ p. needed ≤ limit p.0) }
+// A number of places that may hold so many members: a power of two, so that each bit of its mask is set.
+pub(crate) fn places_for(needed: usize) -> Option<usize>
+    ensures some { IfSome result (λ count. 0 < count) }
+    ensures fits { IfSome result (λ count. count ≤ 2 ^ 62) }
+    ensures enough { IfSome result (λ count. needed ≤ limit count) }
 {
     if needed > 1 << 60 {
         return None;
     }
-    let mut count = 4;
-    let mut shift = 62;
+    let mut count = 8;
     while limit(count) < needed {
         count *= 2;
-        shift -= 1;
     }
-    Some((count, shift))
+    Some(count)
 }

@@ -1,14 +1,14 @@
 //! Reads and writes of the slots along the way of a hash: from its home on, up to the first empty place.
-ghost use Rattle.std.specs.Prelude.{◌≡◌, ℕ, ◌+◌, ◌*◌, ◌^◌, ◌<◌, Some, None, length, IfSome, IsSome, slice_set};
+ghost use Rattle.std.specs.Prelude.{◌≡◌, ℕ, ◌<◌, Some, None, length, IfSome, IsSome, slice_set};
 ghost use Rattle.std.specs.Option.{option_copied, option_map};
 ghost use Rattle.std.specs.Borrow.{sem};
 ghost use Rattle.starlark_hash.specs.Search.{Searches, CanSearch};
 ghost use Rattle.starlark_table.specs.Table.{holders_in, IsNextSlot};
 ghost use Rattle.starlark_table.specs.Lends.{lends_slot};
-ghost use Rattle.starlark_table.specs.Layout.{distance, at, InPlace, IsShift, IsTagged};
+ghost use Rattle.starlark_table.specs.Layout.{distance, at, InPlace, IsMask, IsTagged};
 
-use crate::places::{home, next_place};
-use crate::tags::{start_of, tag};
+use crate::places::{home, home_among, window_after};
+use crate::tags::{EMPTY, places_up_to_empty, places_with, tag};
 
 pub(crate) type Slot<T> = Option<(u64, T)>;
 
@@ -17,71 +17,80 @@ pub(crate) type Slot<T> = Option<(u64, T)>;
 pub(crate) fn find_slot<'a, T, F: FnMut(&T) -> bool>(
     slots: &'a [Slot<T>],
     tags: &[u8],
-    shift: u32,
+    mask: usize,
     hash: u64,
     mut eq: F,
 ) -> Option<(usize, &'a T)>
-    requires shift { shift < 64 }
-    requires places { IsShift shift slots.now }
-    requires in_place { InPlace (length slots.now) shift slots.now }
+    requires mask { IsMask mask slots.now }
+    requires in_place { InPlace (length slots.now) slots.now }
     requires tagged { IsTagged tags.now slots.now }
     requires free { 0 < length slots.now → (q : ℕ) × (q < length slots.now) × (at slots.now q ≡ None) }
     requires callable { CanSearch F.FnMut (holders_in hash slots.now) eq }
     ensures found { (last : F) × Searches F.FnMut (holders_in hash slots.now) eq (option_map (λ p. p.0) result) last }
     ensures item { IfSome result (λ p. at slots.now p.0 ≡ Some (hash, p.1.now)) }
 {
-    let count = slots.len();
-    if count == 0 {
+    if slots.is_empty() {
         return None;
     }
-    let start = start_of(tags, count, home(hash, shift), tag(hash))?;
+    let sought = tag(hash);
+    let mut start = home(hash, mask);
     let mut place = start;
-    while let Some((stored, item)) = &slots[place] {
-        if *stored == hash && eq(item) {
-            return Some((place, item));
+    let mut same = places_with(tags, start, sought);
+    'windows: loop {
+        if same == 0 {
+            if places_with(tags, start, EMPTY) != 0 {
+                return None;
+            }
+            start = window_after(start, mask);
+            place = start;
+            same = places_up_to_empty(tags, start, sought);
+        } else {
+            place += same.trailing_zeros() as usize;
+            let Some((stored, item)) = &slots[place] else {
+                unreachable!();
+            };
+            if *stored == hash && eq(item) {
+                return Some((place, item));
+            }
+            same = same >> same.trailing_zeros() >> 1;
+            place += 1;
         }
-        place = next_place(place, count);
     }
-    None
 }
 
 // The first empty place from one on.
 #[inline]
-pub(crate) fn free_place<T>(slots: &[Slot<T>], start: usize) -> usize
-    requires start { start < length slots.now }
+pub(crate) fn free_place<T>(slots: &[Slot<T>], tags: &[u8], home: usize) -> usize
+    requires home { home < length slots.now }
+    requires tagged { IsTagged tags.now slots.now }
     requires free { (q : ℕ) × (q < length slots.now) × (at slots.now q ≡ None) }
     ensures in_range { result < length slots.now }
     ensures empty { at slots.now result ≡ None }
-    ensures path { (q : ℕ) → q < length slots.now → distance (length slots.now) start q < distance (length slots.now) start result → IsSome (at slots.now q) }
+    ensures path { (q : ℕ) → q < length slots.now → distance (length slots.now) home q < distance (length slots.now) home result → IsSome (at slots.now q) }
 {
-    let mut place = start;
-    while slots[place].is_some() {
-        place = next_place(place, slots.len());
+    let mask = slots.len() - 1;
+    let mut start = home;
+    let mut empty = places_with(tags, start, EMPTY);
+    'windows: while empty == 0 {
+        start = window_after(start, mask);
+        empty = places_with(tags, start, EMPTY);
     }
-    place
+    start + empty.trailing_zeros() as usize
 }
 
 // Puts a member at the first empty place from its home on, and its tag beside it.
 #[inline]
-pub(crate) fn put<T>(
-    slots: &mut [Slot<T>],
-    tags: &mut [u8],
-    shift: u32,
-    hash: u64,
-    item: T,
-) -> usize
-    requires shift { shift < 64 }
-    requires places { length slots.old * 2 ^ shift ≡ 2 ^ 64 }
-    requires in_place { InPlace (length slots.old) shift slots.old }
+pub(crate) fn put<T>(slots: &mut [Slot<T>], tags: &mut [u8], hash: u64, item: T) -> usize
+    requires in_place { InPlace (length slots.old) slots.old }
     requires tagged { IsTagged tags.old slots.old }
     requires free { (q : ℕ) × (q < length slots.old) × (at slots.old q ≡ None) }
     ensures in_range { result < length slots.old }
     ensures empty { at slots.old result ≡ None }
     ensures set { slots.new ≡ slice_set slots.old result (Some (hash, item)) }
-    ensures in_place { InPlace (length slots.new) shift slots.new }
+    ensures in_place { InPlace (length slots.new) slots.new }
     ensures tagged { IsTagged tags.new slots.new }
 {
-    let place = free_place(slots, home(hash, shift));
+    let place = free_place(slots, tags, home_among(slots.len(), hash));
     tags[place] = tag(hash);
     match slots[place].replace((hash, item)) {
         None => place,

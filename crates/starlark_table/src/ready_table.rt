@@ -16,7 +16,7 @@ use crate::iter_mut::IterMut;
 use crate::loan::Loan;
 use crate::places::{limit, places_for};
 use crate::probe::{Slot, find_slot, full_from, item_at, item_mut, put};
-use crate::tags::retag;
+use crate::tags::{retag, untag};
 use crate::walks::{empty_all, replace_items, retain_items};
 use starlark_hash::NoRoom;
 use std::alloc::{AllocError, Global};
@@ -33,7 +33,7 @@ pub struct ReadyTable<T> {
     slots: Vec<Slot<T>>,
     tags: Vec<u8>,
     len: usize,
-    shift: u32,
+    mask: usize,
 }
 
 impl<T> Model for ReadyTable<T> {
@@ -48,7 +48,7 @@ impl<T> Model for ReadyTable<T> {
 
     ghost view = { λ t. record { slots = t.slots.items; room = limit (length t.slots.items) - t.len } };
 
-    ghost invariant = { λ t. IsSound t.slots.items t.tags.items t.len t.shift };
+    ghost invariant = { λ t. IsSound t.slots.items t.tags.items t.len t.mask };
 }
 
 impl<T> ReadyTable<T> {
@@ -63,7 +63,7 @@ impl<T> ReadyTable<T> {
             slots: Vec::new(alloc),
             tags: Vec::new(alloc),
             len: 0,
-            shift: 62,
+            mask: 0,
         }
     }
 
@@ -76,7 +76,7 @@ impl<T> ReadyTable<T> {
         if capacity == 0 {
             return Ok(ReadyTable::new(alloc));
         }
-        let Some((count, shift)) = places_for(capacity) else {
+        let Some(count) = places_for(capacity) else {
             return Err(AllocError);
         };
         let tags = empty_tags(alloc, count)?;
@@ -85,7 +85,7 @@ impl<T> ReadyTable<T> {
             slots,
             tags,
             len: 0,
-            shift,
+            mask: count - 1,
         })
     }
 
@@ -116,7 +116,7 @@ impl<T> ReadyTable<T> {
         let (slot, _) = find_slot(
             self.slots.as_slice(),
             self.tags.as_slice(),
-            self.shift,
+            self.mask,
             hash,
             eq,
         )?;
@@ -132,7 +132,7 @@ impl<T> ReadyTable<T> {
         let (_, item) = find_slot(
             self.slots.as_slice(),
             self.tags.as_slice(),
-            self.shift,
+            self.mask,
             hash,
             eq,
         )?;
@@ -198,7 +198,6 @@ impl<T> ReadyTable<T> {
         let slot = put(
             self.slots.as_mut_slice(),
             self.tags.as_mut_slice(),
-            self.shift,
             hash,
             item,
         );
@@ -235,20 +234,15 @@ impl<T> ReadyTable<T> {
         ensures bag { IsPermutation (members self.old) (members self.new) }
         ensures unchanged { OnErr result (self.new ≡ self.old) }
     {
-        let Some((count, shift)) = places_for(needed) else {
+        let Some(count) = places_for(needed) else {
             return Err(AllocError);
         };
         let tags = empty_tags(*self.slots.allocator(), count)?;
         let slots = empty_slots(*self.slots.allocator(), count)?;
         let old = mem::replace(&mut self.slots, slots);
         self.tags = tags;
-        self.shift = shift;
-        move_all(
-            old,
-            self.slots.as_mut_slice(),
-            self.tags.as_mut_slice(),
-            shift,
-        );
+        self.mask = count - 1;
+        move_all(old, self.slots.as_mut_slice(), self.tags.as_mut_slice());
         Ok(())
     }
 
@@ -261,12 +255,7 @@ impl<T> ReadyTable<T> {
         ensures none { IfNone result (self.new ≡ self.old) }
         ensures room { table_len self.new + self.new.room ≡ table_len self.old + self.old.room }
     {
-        let member = take_out(
-            self.slots.as_mut_slice(),
-            self.tags.as_mut_slice(),
-            self.shift,
-            slot,
-        );
+        let member = take_out(self.slots.as_mut_slice(), self.tags.as_mut_slice(), slot);
         if member.is_some() {
             self.len -= 1;
         }
@@ -294,7 +283,7 @@ impl<T> ReadyTable<T> {
         ensures kept { (kept : List (ℕ × T)) × RetainsInTurn (AsksMember F.FnMut) f (members self.old) kept × IsPermutation kept (members self.new) }
         ensures room { table_len self.new + self.new.room ≡ table_len self.old + self.old.room }
     {
-        let kept = retain_items(self.slots.as_mut_slice(), self.shift, f);
+        let kept = retain_items(self.slots.as_mut_slice(), self.tags.as_slice(), f);
         retag(self.tags.as_mut_slice(), self.slots.as_slice());
         self.len = kept;
     }
@@ -307,7 +296,7 @@ impl<T> ReadyTable<T> {
         ensures room { self.new.room ≡ table_len self.old + self.old.room }
     {
         empty_all(self.slots.as_mut_slice());
-        self.tags.as_mut_slice().fill(0);
+        untag(self.tags.as_mut_slice(), self.slots.as_slice());
         self.len = 0;
     }
 
@@ -355,7 +344,7 @@ impl<T> ReadyTable<T> {
             slots,
             tags: _,
             len,
-            shift: _,
+            mask: _,
         } = self;
         IntoIter::new(slots, len)
     }
@@ -384,7 +373,7 @@ impl<T: Clone> Clone for ReadyTable<T> {
             slots: self.slots.clone()?,
             tags,
             len: self.len,
-            shift: self.shift,
+            mask: self.mask,
         })
     }
 }

@@ -1,6 +1,6 @@
-//! A tag of one byte for each place: what a search reads to tell where a hash may be, or that it is absent.
-ghost use Rattle.std.specs.Prelude.{◌≡◌, ◌≢◌, ℕ, ◌+◌, ◌<◌, ◌≤◌, IfNone, IfSome, length, slice_index_or};
-ghost use Rattle.starlark_table.specs.Layout.{tag, window, EndsWithout, MayBeginAt, IsTagged, HasTags};
+//! A tag of one byte for each place: what a search reads to tell where a hash may be, and which places are empty.
+ghost use Rattle.std.specs.Prelude.{◌≡◌, ℕ, ◌+◌, ◌≤◌, None, length};
+ghost use Rattle.starlark_table.specs.Layout.{tag, at, window, tag_bits, BitsUpToEmpty, IsTagged, HasTags, IsPadded};
 
 use crate::probe::Slot;
 use std::simd::prelude::*;
@@ -8,58 +8,64 @@ use std::simd::prelude::*;
 // How many tags a search looks at. There are so many more tags than places, so that it may look from each place on.
 pub(crate) const WINDOW: usize = 16;
 
+// The tag of an empty place.
+pub(crate) const EMPTY: u8 = 255;
+
+// What stands behind the tags of the places: neither the tag of a hash nor that of an empty place.
+pub(crate) const PADDING: u8 = 128;
+
 #[inline]
 #[tactic(auto, unfolding(crate::specs::Layout::tag))]
 pub(crate) fn tag(hash: u64) -> u8
     ensures { result ≡ tag hash }
 {
-    ((hash >> 32) & 127) as u8 + 128
+    ((hash >> 25) & 127) as u8
 }
 
-// The next place from one on with this tag, within the window.
+// A bit for each place of the window from one on: whether it has this tag.
 #[inline]
-fn next_tagged(tags: &[u8], from: usize, tag: u8) -> Option<usize>
-    requires { from + window ≤ length tags.now }
-    ensures low { IfSome result (λ place. from ≤ place) }
-    ensures high { IfSome result (λ place. place < from + window) }
-    ensures tagged { IfSome result (λ place. slice_index_or tags.now place 0 ≡ tag) }
-    ensures before { IfSome result (λ place. (p : ℕ) → from ≤ p → p < place → slice_index_or tags.now p 0 ≢ tag) }
-    ensures none { IfNone result ((p : ℕ) → from ≤ p → p < from + window → slice_index_or tags.now p 0 ≢ tag) }
+pub(crate) fn places_with(tags: &[u8], start: usize, tag: u8) -> u64
+    requires { start + window ≤ length tags.now }
+    ensures { result ≡ tag_bits tag tags.now start window }
 {
-    let lanes = u8x16::from_slice(&tags[from..]);
-    let same = lanes.simd_eq(u8x16::splat(tag)).to_bitmask();
-    if same == 0 {
-        return None;
-    }
-    Some(from + same.trailing_zeros() as usize)
+    let lanes = u8x16::from_slice(&tags[start..]);
+    lanes.simd_eq(u8x16::splat(tag)).to_bitmask()
 }
 
-// Where the search of a hash may begin on its way from its home. `None` says that the way ends before it meets the tag.
+// The same, up to the first place with the empty tag.
 #[inline]
-pub(crate) fn start_of(tags: &[u8], count: usize, home: usize, tag: u8) -> Option<usize>
-    requires home { home < count }
-    requires sized { count + window ≤ length tags.now }
-    ensures absent { IfNone result (EndsWithout tag home count tags.now) }
-    ensures start { IfSome result (λ place. MayBeginAt tag home count tags.now place) }
+pub(crate) fn places_up_to_empty(tags: &[u8], start: usize, tag: u8) -> u64
+    requires { start + window ≤ length tags.now }
+    ensures { BitsUpToEmpty tag tags.now start result }
 {
-    if let Some(place) = next_tagged(tags, home, tag) {
-        return Some(if place < count { place } else { home });
+    let same = places_with(tags, start, tag);
+    let empty = places_with(tags, start, EMPTY);
+    if empty == 0 {
+        return same;
     }
-    match next_tagged(tags, home, 0) {
-        Some(end) if end < count => None,
-        _ => Some(home),
-    }
+    same & ((1 << empty.trailing_zeros()) - 1)
 }
 
-// Writes the tag of each place anew, 0 where it is empty.
+// Writes the tag of each place, where all are empty.
+pub(crate) fn untag<T>(tags: &mut [u8], slots: &[Slot<T>])
+    requires sized { HasTags tags.old slots.now }
+    requires padded { IsPadded tags.old slots.now }
+    requires empty { (k : ℕ) → at slots.now k ≡ None }
+    ensures { IsTagged tags.new slots.now }
+{
+    tags[..slots.len()].fill(EMPTY);
+}
+
+// Writes the tag of each place anew.
 pub(crate) fn retag<T>(tags: &mut [u8], slots: &[Slot<T>])
-    requires { HasTags tags.old slots.now }
+    requires sized { HasTags tags.old slots.now }
+    requires padded { IsPadded tags.old slots.now }
     ensures { IsTagged tags.new slots.now }
 {
     for i in 0..slots.len() {
         tags[i] = match &slots[i] {
             Some((hash, _)) => tag(*hash),
-            None => 0,
+            None => EMPTY,
         };
     }
 }

@@ -3,9 +3,9 @@ ghost use Rattle.std.specs.Prelude.{◌≡◌, ℕ, ◌<◌, ◌≤◌, ◌⊎�
 ghost use Rattle.std.specs.List.Retain.{RetainsInTurn};
 ghost use Rattle.starlark_table.specs.Table.{filled, items_in};
 ghost use Rattle.starlark_table.specs.Walk.{CanReplace, ReplacesEach, CanRetain, TakesAtMut, AsksMember};
-ghost use Rattle.starlark_table.specs.Layout.{at, limit, distance, InPlace, IsShift, ReachesBefore, AsksSlot, StandsIn};
+ghost use Rattle.starlark_table.specs.Layout.{at, limit, distance, InPlace, IsTagged, ReachesBefore, AsksSlot, StandsIn};
 
-use crate::places::{home, next_place};
+use crate::places::{home_among, next_place};
 use crate::probe::{Slot, free_place};
 
 pub(crate) fn empty_all<T: Drop>(slots: &mut [Slot<T>])
@@ -31,25 +31,23 @@ pub(crate) fn replace_items<T: Drop, F: FnMut(&T) -> T>(slots: &mut [Slot<T>], m
 // Takes out the members that `f` does not keep, and puts the others back in place. The answer is how many are left.
 pub(crate) fn retain_items<T: Drop, F: FnMut(&mut T) -> bool>(
     slots: &mut [Slot<T>],
-    shift: u32,
+    tags: &[u8],
     f: F,
 ) -> usize
-    requires low { 1 < shift }
-    requires high { shift < 63 }
-    requires places { IsShift shift slots.old }
     requires load { length (filled slots.old) ≤ limit (length slots.old) }
-    requires in_place { InPlace (length slots.old) shift slots.old }
+    requires in_place { InPlace (length slots.old) slots.old }
+    requires tagged { IsTagged tags.now slots.old }
     requires callable { CanRetain F.FnMut (items_in slots.old) f }
     ensures kept { (kept : List (ℕ × T)) × RetainsInTurn (AsksMember F.FnMut) f (filled slots.old) kept × IsPermutation kept (filled slots.new) }
     ensures counted { result ≡ length (filled slots.new) }
-    ensures in_place { InPlace (length slots.new) shift slots.new }
+    ensures in_place { InPlace (length slots.new) slots.new }
 {
     if slots.is_empty() {
         return 0;
     }
-    let start = free_place(slots, 0);
+    let start = free_place(slots, tags, 0);
     let kept = keep_items(slots, f);
-    settle(slots, shift, start);
+    settle(slots, start);
     kept
 }
 
@@ -85,18 +83,17 @@ fn ask<T: Drop, F: FnMut(&mut T) -> bool>(slot: &mut Slot<T>, f: &mut F) -> bool
 }
 
 // Moves members back towards their homes, so that no empty place is left on their ways. No way leads over `start`.
-fn settle<T>(slots: &mut [Slot<T>], shift: u32, start: usize)
-    requires shift { shift < 64 }
+fn settle<T>(slots: &mut [Slot<T>], start: usize)
     requires start { start < length slots.old }
-    requires reaches { ReachesBefore (length slots.old) shift slots.old start }
+    requires reaches { ReachesBefore (length slots.old) slots.old start }
     ensures bag { IsPermutation (filled slots.old) (filled slots.new) }
-    ensures in_place { InPlace (length slots.new) shift slots.new }
+    ensures in_place { InPlace (length slots.new) slots.new }
 {
     let count = slots.len();
     let mut place = next_place(start, count);
     for step in 1..count {
         if let Some((hash, _)) = &slots[place] {
-            let home = home(*hash, shift);
+            let home = home_among(count, *hash);
             let to = free_before(slots, home, place);
             slots.swap(to, place);
         }

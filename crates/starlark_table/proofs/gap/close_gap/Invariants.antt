@@ -4,13 +4,13 @@ use Rattle.starlark_table.specs.Layout.{distance, IsTagged}
 use Rattle.starlark_table.proofs.Closing.{Closing}
 use Rattle.starlark_table.proofs.gap.close_gap.Given as goal
 
-abbrev pub invariant-loop-slots : goal.invariant-loop-slots
-invariant-loop-slots g l = record {
+abbrev pub invariant-loop-tags : goal.invariant-loop-tags
+invariant-loop-tags g l = record {
   counted : l.count ≡ length l.slots;
-  closing : Closing l.count l.shift l.start l.slots l.hole l.next;
+  closing : Closing l.count l.start l.slots l.hole l.next;
   bag : IsPermutation (filled l.initial.slots) (filled l.slots);
   tagged : IsTagged l.tags l.slots;
 }
 
-abbrev pub decreases-loop-slots : goal.decreases-loop-slots
-decreases-loop-slots g l = l.count - distance l.count l.start l.next
+abbrev pub decreases-loop-tags : goal.decreases-loop-tags
+decreases-loop-tags g l = l.count - distance l.count l.start l.next

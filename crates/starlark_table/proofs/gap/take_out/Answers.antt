@@ -1,10 +1,10 @@
-use Rattle.std.proofs.Common.{◌≡◌, ◌≢◌, ℕ, ◌<◌, length, None, arith, refl, sym, ◌∙◌, subst, IsPermutation}
+use Rattle.std.proofs.Common.{◌≡◌, ◌≢◌, ℕ, ◌<◌, length, None, refl, sym, ◌∙◌, subst, IsPermutation}
 use Rattle.std.proofs.Math.ListN.{set, length-set}
 use Rattle.starlark_table.specs.Table.{filled}
-use Rattle.starlark_table.specs.Layout.{at, HasGap, IsTagged}
-use Rattle.starlark_table.proofs.Tagged.{tagged-taken_out}
+use Rattle.starlark_table.specs.Layout.{at, empty_tag, HasGap, IsTagged}
+use Rattle.starlark_table.proofs.Tagged.{tagged-changed}
 use Rattle.starlark_table.proofs.Closing.{read_known, gap_left}
-use Rattle.starlark_table.proofs.Load.{another_empty_slot, places-power, places-fit, bag-taken_out}
+use Rattle.starlark_table.proofs.Load.{another_empty_slot, bag-taken_out}
 use Rattle.starlark_table.proofs.gap.take_out.Goals as goal
 
 pub returns-then-slot-slots-clause-none : goal.returns-then-slot-slots-clause-none
@@ -16,31 +16,22 @@ returns-then-slot-slots-clause-in_place g c = c.requires.in_place
 pub returns-then-slot-slots-clause-tagged : goal.returns-then-slot-slots-clause-tagged
 returns-then-slot-slots-clause-tagged g c = c.requires.tagged
 
-pub close_gap-requires-clause-places : goal.close_gap-requires-clause-places
-close_gap-requires-clause-places g c = rw length-set (places-power c.args.slots.now c.args.shift c.requires.places (omega arith))
-
-pub close_gap-requires-clause-fits : goal.close_gap-requires-clause-fits
-close_gap-requires-clause-fits g c =
-    let e = places-power c.args.slots.now c.args.shift c.requires.places (omega arith) in
-    rw length-set (places-fit (length c.args.slots.now) c.args.shift c.requires.low e)
-
 pub close_gap-requires-clause-gap : goal.close_gap-requires-clause-gap
 close_gap-requires-clause-gap g c =
-    let gap = gap_left (length c.args.slots.now) c.args.shift c.args.slots.now c.args.slot refl c.if-slot-slots.false c.requires.in_place in
-    subst (λ o. HasGap (length (set c.args.slots.now c.args.slot o)) c.args.shift (set c.args.slots.now c.args.slot o) c.args.slot) (sym c.take.ensures.after)
-    (subst (λ m. HasGap m c.args.shift (set c.args.slots.now c.args.slot None) c.args.slot) (sym (length-set c.args.slots.now c.args.slot None)) gap)
+    let gap = gap_left (length c.args.slots.now) c.args.slots.now c.args.slot refl c.if-slot-slots.false c.requires.in_place in
+    subst (λ o. HasGap (length (set c.args.slots.now c.args.slot o)) (set c.args.slots.now c.args.slot o) c.args.slot) (sym c.take.ensures.after)
+    (subst (λ m. HasGap m (set c.args.slots.now c.args.slot None) c.args.slot) (sym (length-set c.args.slots.now c.args.slot None)) gap)
 
 pub close_gap-requires-clause-tagged : goal.close_gap-requires-clause-tagged
 close_gap-requires-clause-tagged g c =
-    subst (λ o. IsTagged (set c.args.tags.now c.args.slot 0) (set c.args.slots.now c.args.slot o)) (sym c.take.ensures.after)
-    (tagged-taken_out c.args.tags.now c.args.slots.now c.args.slot c.if-slot-slots.false c.requires.tagged)
+    subst (λ o. IsTagged (set c.args.tags.now c.args.slot empty_tag) (set c.args.slots.now c.args.slot o)) (sym c.take.ensures.after)
+    (tagged-changed c.args.tags.now c.args.slots.now c.args.slot empty_tag None c.if-slot-slots.false c.requires.tagged refl)
 
 pub close_gap-requires-clause-free : goal.close_gap-requires-clause-free
 close_gap-requires-clause-free g c =
-    let e = places-power c.args.slots.now c.args.shift c.requires.places (omega arith) in
     let full = read_known c.args.slots.now c.args.slot _ c.index-slots-slot.result _ refl c.if-slot-slots.false (sym c.take.ensures.value ∙ c.in_ok-member.was) in
     subst (λ o. (q : ℕ) × (q < length (set c.args.slots.now c.args.slot o)) × (q ≢ c.args.slot) × (at (set c.args.slots.now c.args.slot o) q ≡ None)) (sym c.take.ensures.after)
-    (another_empty_slot c.args.slots.now c.args.shift c.args.slot c.in_ok-member.member c.requires.high e c.requires.load full)
+    (another_empty_slot c.args.slots.now c.args.slot c.in_ok-member.member c.if-slot-slots.false c.requires.load full)
 
 pub returns-clause-found : goal.returns-clause-found
 returns-clause-found g c = sym (read_known c.args.slots.now c.args.slot _ c.index-slots-slot.result _ refl c.if-slot-slots.false (sym c.take.ensures.value ∙ c.in_ok-member.was))

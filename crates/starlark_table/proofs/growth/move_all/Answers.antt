@@ -1,4 +1,4 @@
-use Rattle.std.proofs.Common.{◌*◌, ◌^◌, ◌≤◌, ◌++◌, ◌∷◌, [], length, arith, sym, ◌∙◌, ap, subst, IsPermutation, length-append}
+use Rattle.std.proofs.Common.{◌≤◌, ◌++◌, ◌∷◌, [], length, arith, sym, ◌∙◌, ap, subst, IsPermutation, length-append}
 use Rattle.starlark_table.specs.Table.{filled}
 use Rattle.starlark_table.specs.Layout.{limit}
 use Rattle.starlark_table.proofs.Load.{bag-empty_slot_moved, bag-member_moved, empty_slot-while_moving}
@@ -10,8 +10,7 @@ put-requires-clause-free g c =
     let parts = length-append (filled c.args.old.items) (filled c.args.slots.now) in
     let room = c.requires.room in
     let whole : length (filled c.args.old.items ++ filled c.args.slots.now) ≤ limit (length c.args.slots.now) = omega arith in
-    empty_slot-while_moving (filled c.args.old.items ++ filled c.args.slots.now) c.loop-slot.old.items c.loop-slot.slots c.args.shift c.requires.high
-    (ap (λ n. n * 2 ^ c.args.shift) sized ∙ c.requires.places)
+    empty_slot-while_moving (filled c.args.old.items ++ filled c.args.slots.now) c.loop-slot.old.items c.loop-slot.slots (rw sized c.requires.places)
     (subst (λ n. length (filled c.args.old.items ++ filled c.args.slots.now) ≤ limit n) (sym sized) whole)
     c.loop-slot.invariant.bag
 

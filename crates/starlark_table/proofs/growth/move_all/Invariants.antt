@@ -6,7 +6,7 @@ use Rattle.starlark_table.proofs.growth.move_all.Given as goal
 abbrev pub invariant-loop-slot : goal.invariant-loop-slot
 invariant-loop-slot g l = record {
   sized : length l.slots ≡ length l.initial.slots;
-  in_place : InPlace (length l.slots) l.shift l.slots;
+  in_place : InPlace (length l.slots) l.slots;
   tagged : IsTagged l.tags l.slots;
   bag : IsPermutation (filled l.initial.old.items ++ filled l.initial.slots) (filled l.old.items ++ filled l.slots);
 }

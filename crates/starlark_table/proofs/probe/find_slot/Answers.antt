@@ -1,131 +1,177 @@
-use Rattle.std.proofs.Common.{ℕ, ◌≡◌, ◌*◌, ◌^◌, ◌<◌, ◌⊎◌, length, inl, inr, Some, arith, refl, sym, ◌∙◌, ap, subst, false}
+use Rattle.std.proofs.Common.{ℕ, ◌≡◌, ◌<◌, ◌+◌, ◌-◌, ◌*◌, ◌==◌, Bool, true, false, length, Some, arith, refl, sym, ◌∙◌, ap, subst}
 use Rattle.std.specs.Fn.{CalledAt}
 use Rattle.std.proofs.lemmas.Fn.{called_at}
-use Rattle.std.proofs.lemmas.List.Sorted.{IsPermutation-refl}
+use Rattle.std.proofs.lemmas.Bool.Decides.{nat_tests}
+use Rattle.std.specs.Int.Count.{count_trailing_zeros}
 use Rattle.starlark_table.specs.Table.{holders_in}
-use Rattle.starlark_table.specs.Layout.{home, tag, EndsWithout, MayBeginAt}
-use Rattle.starlark_table.proofs.Circle.{home-below, distance-self, distance-below, next-step, less-left}
-use Rattle.starlark_table.proofs.Closing.{free_farther, path_more, full-some}
-use Rattle.starlark_table.proofs.Path.{read_at, nothing_left, listed}
-use Rattle.starlark_table.proofs.Searching.{searching_begins, searching_as, searches_none, searching_asks, searching_refuses, searching_accepts, searching_ends, path_taken, path_skipped, path_moved}
-use Rattle.starlark_table.proofs.Absent.{nobody_holds, none_before}
+use Rattle.starlark_table.specs.Layout.{home, tag, tag_bits, empty_tag, BitsUpToEmpty}
+use Rattle.starlark_table.proofs.Circle.{home-below, distance-self, distance-below}
+use Rattle.starlark_table.proofs.Closing.{full_not_empty}
+use Rattle.starlark_table.proofs.Path.{read_at, listed}
+use Rattle.starlark_table.proofs.Searching.{searching_begins, searching_on, searching_as, searches_none, searching_asks, searching_refuses, searching_accepts, searching_ends, path_taken, path_skipped, path_moved}
+use Rattle.starlark_table.proofs.TagBits.{first-by_bits, none-by_bits}
+use Rattle.starlark_table.proofs.Windows.{AtWindow, window_begins, window_matches, window_ends, window_goes_on}
 use Rattle.starlark_table.proofs.probe.find_slot.Goals as goal
 use Rattle.starlark_table.proofs.probe.find_slot.Goals.{else-stored-hash-via-then-stored-hash+else-eq, else-stored-hash-via-else-stored-hash}
 
-some_places : (m : ℕ) → (m ≡ 0 → ⊥) → 0 < m
-some_places m some = omega arith
+some_places : (n : ℕ) (b : Bool) → b ≡ (n == 0) → b ≡ false → 0 < n
+some_places n b e f = grind (arith, nat_tests)
 
--- the home is among the places
-home_in : (m shift hash : ℕ) → (m ≡ 0 → ⊥) → (m ≡ 0) ⊎ (m * 2 ^ shift ≡ 2 ^ 64) → hash < 2 ^ 64 → home shift hash < m
-home_in m shift hash some (inl none) fits = absurd (some none)
-home_in m shift hash some (inr e) fits = home-below m shift hash e fits
+no_places : (n : ℕ) (b : Bool) → b ≡ (n == 0) → b ≡ true → n ≡ 0
+no_places n b e f = grind (arith, nat_tests)
 
-pub start_of-requires-clause-home : goal.start_of-requires-clause-home
-start_of-requires-clause-home g c =
-    rw c.home.ensures
-    (home_in (length c.args.slots.now) c.args.shift c.args.hash c.if-count-eq0.false c.requires.places c.ranges.hash.fits)
+nearer : (n start place k : ℕ) → place + k < start + 16 → n + (start + 16 - (place + k + 1)) < n + (start + 16 - place)
+nearer n start place k near = omega arith
 
-pub start_of-requires-clause-sized : goal.start_of-requires-clause-sized
-start_of-requires-clause-sized g c = c.requires.tagged.sized (some_places _ c.if-count-eq0.false)
+farther : (m d d' next start place : ℕ) → d < d' → d' < m → (m - d') * 32 + (next + 16 - next) < (m - d) * 32 + (start + 16 - place)
+farther m d d' next start place more below = omega arith
 
-pub returns-in_err-start-clause-found : goal.returns-in_err-start-clause-found
-returns-in_err-start-clause-found g c =
-    let ends : EndsWithout (tag c.args.hash) (home c.args.shift c.args.hash) (length c.args.slots.now) c.args.tags.now =
-    rw (← c.home.ensures, ← c.tag.ensures) c.in_err-start.ensures.absent in
-    rw c.from_residual.ensures (
-      c.args.eq,
-      searching_ends g.F.FnMut (holders_in c.args.hash c.args.slots.now) (holders_in c.args.hash c.args.slots.now) _ c.args.eq c.args.eq
-          (IsPermutation-refl (holders_in c.args.hash c.args.slots.now))
-          (nobody_holds c.args.tags.now c.args.slots.now c.requires.tagged c.args.shift c.args.hash c.requires.in_place ends)
-          (searching_begins g.F.FnMut (holders_in c.args.hash c.args.slots.now) c.args.eq),
+pub returns-then-is_empty-clause-found : goal.returns-then-is_empty-clause-found
+returns-then-is_empty-clause-found g c =
+    (c.args.eq, searches_none g.F.FnMut c.args.hash c.args.slots.now c.args.eq (no_places (length c.args.slots.now) c.is_empty.result c.is_empty.ensures c.if-is_empty.true))
+
+pub places_with-same-requires : goal.places_with-same-requires
+places_with-same-requires g c =
+    let some = some_places (length c.args.slots.now) c.is_empty.result c.is_empty.ensures c.if-is_empty.false in
+    let at_home : c.home-start.result ≡ home (length c.args.slots.now) c.args.hash = c.home-start.ensures ∙ ap (λ n. home n c.args.hash) (c.requires.mask some) in
+    omega (arith, at_home, home-below (length c.args.slots.now) c.args.hash some, c.requires.tagged.sized some)
+
+pub windows-init : goal.windows-init
+windows-init g c =
+    let some = some_places (length c.args.slots.now) c.is_empty.result c.is_empty.ensures c.if-is_empty.false in
+    let at_home : c.home-start.result ≡ home (length c.args.slots.now) c.args.hash = c.home-start.ensures ∙ ap (λ n. home n c.args.hash) (c.requires.mask some) in
+    let bits = c.places_with-same.ensures ∙ ap (λ t. tag_bits t c.args.tags.now c.home-start.result 16) c.tag-sought.ensures in
+    let begins = window_begins c.args.hash c.args.tags.now c.args.slots.now c.requires.tagged some c.places_with-same.result
+    (bits ∙ ap (λ p. tag_bits (tag c.args.hash) c.args.tags.now p 16) at_home) in
+    let here = distance-self (length c.args.slots.now) (home (length c.args.slots.now) c.args.hash) in
+    record {
+      window = subst (λ p. AtWindow c.args.hash c.args.tags.now c.args.slots.now p p c.places_with-same.result) (sym at_home) begins;
+      search = path_moved g.F.FnMut _ c.args.eq c.args.eq c.args.hash (home (length c.args.slots.now) c.args.hash) 0 _ c.args.slots.now
+          (rw at_home (omega (arith, here)))
+          (searching_begins g.F.FnMut _ c.args.eq);
+    }
+
+pub returns-then-places_with-ne0-clause-found : goal.returns-then-places_with-ne0-clause-found
+returns-then-places_with-ne0-clause-found g c =
+    let some = some_places (length c.args.slots.now) c.is_empty.result c.is_empty.ensures c.if-is_empty.false in
+    let k = c.windows.invariant in
+    let start_in = k.window.start_in in
+    let w = subst (λ b. AtWindow c.args.hash c.args.tags.now c.args.slots.now c.windows.start c.windows.place b) c.if-same-eq0.true k.window in
+    let n = count_trailing_zeros 64 (tag_bits empty_tag c.args.tags.now c.windows.start 16) in
+    let first = first-by_bits empty_tag c.args.tags.now c.windows.start 16 (omega (arith, c.requires.tagged.sized some)) n (omega arith)
+    (λ none. c.if-places_with-ne0.true (c.places_with.ensures ∙ none)) refl in
+    let within = first.within in
+    let ends = window_ends c.args.hash c.args.tags.now c.args.slots.now c.requires.tagged some c.windows.start c.windows.place (c.windows.start + n) w c.requires.in_place
+    (omega arith) (omega arith) first.there first.before in (
+      c.windows.eq,
+      searching_ends g.F.FnMut (holders_in c.args.hash c.args.slots.now) _ _ c.args.eq c.windows.eq
+          (listed c.args.hash (home (length c.args.slots.now) c.args.hash) c.args.slots.now) ends k.search,
     )
 
-pub loop-place-init : goal.loop-place-init
-loop-place-init g c =
-    let none = distance-self (length c.args.slots.now) c.in_ok-start.start in
-    record {
-      in_range = c.in_ok-start.ensures.start.in_range;
-      path = λ q q_in nearer. absurd (omega (arith, none));
-      search = path_moved g.F.FnMut _ c.args.eq c.args.eq c.args.hash c.in_ok-start.start 0 _ c.args.slots.now none (searching_begins g.F.FnMut _ c.args.eq);
-    }
+pub windows-smaller-then-same-eq0 : goal.windows-smaller-then-same-eq0
+windows-smaller-then-same-eq0 g c =
+    let some = some_places (length c.args.slots.now) c.is_empty.result c.is_empty.ensures c.if-is_empty.false in
+    let k = c.windows.invariant in
+    let start_in = k.window.start_in in
+    let w = subst (λ b. AtWindow c.args.hash c.args.tags.now c.args.slots.now c.windows.start c.windows.place b) c.if-same-eq0.true k.window in
+    let full = none-by_bits empty_tag c.args.tags.now c.windows.start 16 (omega (arith, c.requires.tagged.sized some)) (sym c.places_with.ensures ∙ c.if-places_with-ne0.false) in
+    let goes = window_goes_on c.args.hash c.args.tags.now c.args.slots.now c.requires.tagged some (c.requires.free some) c.args.mask c.windows.start c.windows.place
+    c.window_after-start.result c.places_up_to_empty-same.result (c.requires.mask some) w full c.window_after-start.ensures.on c.window_after-start.ensures.round
+    (subst (λ t. BitsUpToEmpty t c.args.tags.now c.window_after-start.result c.places_up_to_empty-same.result) c.tag-sought.ensures c.places_up_to_empty-same.ensures) in
+    farther (length c.args.slots.now) _ _ c.window_after-start.result c.windows.start c.windows.place goes.farther
+    (distance-below (length c.args.slots.now) (home (length c.args.slots.now) c.args.hash) c.window_after-start.result (home-below (length c.args.slots.now) c.args.hash some) goes.on.start_in)
+
+pub windows-preserved-then-same-eq0 : goal.windows-preserved-then-same-eq0
+windows-preserved-then-same-eq0 g c =
+    let some = some_places (length c.args.slots.now) c.is_empty.result c.is_empty.ensures c.if-is_empty.false in
+    let k = c.windows.invariant in
+    let start_in = k.window.start_in in
+    let w = subst (λ b. AtWindow c.args.hash c.args.tags.now c.args.slots.now c.windows.start c.windows.place b) c.if-same-eq0.true k.window in
+    let full = none-by_bits empty_tag c.args.tags.now c.windows.start 16 (omega (arith, c.requires.tagged.sized some)) (sym c.places_with.ensures ∙ c.if-places_with-ne0.false) in
+    let goes = window_goes_on c.args.hash c.args.tags.now c.args.slots.now c.requires.tagged some (c.requires.free some) c.args.mask c.windows.start c.windows.place
+    c.window_after-start.result c.places_up_to_empty-same.result (c.requires.mask some) w full c.window_after-start.ensures.on c.window_after-start.ensures.round
+    (subst (λ t. BitsUpToEmpty t c.args.tags.now c.window_after-start.result c.places_up_to_empty-same.result) c.tag-sought.ensures c.places_up_to_empty-same.ensures) in
+    record { window = goes.on; search = searching_on g.F.FnMut _ _ _ c.args.eq c.windows.eq goes.left k.search }
+
+pub offset_bounds-slots-place : goal.offset_bounds-slots-place
+offset_bounds-slots-place g c =
+    let some = some_places (length c.args.slots.now) c.is_empty.result c.is_empty.ensures c.if-is_empty.false in
+    let found = window_matches c.args.hash c.args.tags.now c.args.slots.now c.requires.tagged some c.windows.start c.windows.place c.windows.same _ c.windows.invariant.window c.if-same-eq0.false refl in
+    omega (arith, found.in_range)
+
+pub bounds-slots-place : goal.bounds-slots-place
+bounds-slots-place g c =
+    let some = some_places (length c.args.slots.now) c.is_empty.result c.is_empty.ensures c.if-is_empty.false in
+    (window_matches c.args.hash c.args.tags.now c.args.slots.now c.requires.tagged some c.windows.start c.windows.place c.windows.same _ c.windows.invariant.window c.if-same-eq0.false refl).in_range
+
+pub unreachable-requires : goal.unreachable-requires
+unreachable-requires g c =
+    let some = some_places (length c.args.slots.now) c.is_empty.result c.is_empty.ensures c.if-is_empty.false in
+    let found = window_matches c.args.hash c.args.tags.now c.args.slots.now c.requires.tagged some c.windows.start c.windows.place c.windows.same _ c.windows.invariant.window c.if-same-eq0.false refl in
+    full_not_empty _ found.full (read_at c.args.slots.now _ _ found.in_range c.index-slots-place.is ∙ c.in_default.is)
 
 pub eq-requires : goal.eq-requires
 eq-requires g c =
-    let k = c.loop-place.invariant in
-    let in' = c.in_ok-start.ensures.start.in_range in
-    let here = read_at c.args.slots.now c.loop-place.place _ k.in_range c.index-slots-place.is ∙ c.in-Some.is in
-    searching_asks g.F.FnMut (holders_in c.args.hash c.args.slots.now) _ c.args.eq c.loop-place.eq (c.loop-place.place, c.in-Some.item) _
-    (listed c.args.hash c.in_ok-start.start c.args.slots.now) c.requires.callable
-    (path_taken g.F.FnMut _ c.args.eq c.loop-place.eq c.args.hash c.in_ok-start.start c.loop-place.place c.in-Some.stored c.in-Some.item c.args.slots.now
-    in' k.in_range here c.if-stored-hash.true k.search) _ refl
+    let some = some_places (length c.args.slots.now) c.is_empty.result c.is_empty.ensures c.if-is_empty.false in
+    let a = home (length c.args.slots.now) c.args.hash in
+    let a_in = home-below (length c.args.slots.now) c.args.hash some in
+    let k = c.windows.invariant in
+    let found = window_matches c.args.hash c.args.tags.now c.args.slots.now c.requires.tagged some c.windows.start c.windows.place c.windows.same _ k.window c.if-same-eq0.false refl in
+    let here = read_at c.args.slots.now _ _ found.in_range c.index-slots-place.is ∙ c.in-Some.is in
+    searching_asks g.F.FnMut (holders_in c.args.hash c.args.slots.now) _ c.args.eq c.windows.eq (c.windows.place + count_trailing_zeros 64 c.windows.same, c.in-Some.item) _
+    (listed c.args.hash a c.args.slots.now) c.requires.callable
+    (path_taken g.F.FnMut _ c.args.eq c.windows.eq c.args.hash a _ c.in-Some.stored c.in-Some.item c.args.slots.now
+    a_in found.in_range here c.if-stored-hash.true (searching_on g.F.FnMut _ _ _ c.args.eq c.windows.eq found.left k.search)) _ refl
 
 pub returns-then-eq-clause-found : goal.returns-then-eq-clause-found
 returns-then-eq-clause-found g c =
-    let k = c.loop-place.invariant in
-    let in' = c.in_ok-start.ensures.start.in_range in
-    let here = read_at c.args.slots.now c.loop-place.place _ k.in_range c.index-slots-place.is ∙ c.in-Some.is in (
+    let some = some_places (length c.args.slots.now) c.is_empty.result c.is_empty.ensures c.if-is_empty.false in
+    let a = home (length c.args.slots.now) c.args.hash in
+    let a_in = home-below (length c.args.slots.now) c.args.hash some in
+    let k = c.windows.invariant in
+    let found = window_matches c.args.hash c.args.tags.now c.args.slots.now c.requires.tagged some c.windows.start c.windows.place c.windows.same _ k.window c.if-same-eq0.false refl in
+    let here = read_at c.args.slots.now _ _ found.in_range c.index-slots-place.is ∙ c.in-Some.is in (
       c.eq.new.self,
-      searching_accepts g.F.FnMut (holders_in c.args.hash c.args.slots.now) _ c.args.eq c.loop-place.eq c.eq.new.self (c.loop-place.place, c.in-Some.item) _
-          (listed c.args.hash c.in_ok-start.start c.args.slots.now)
-          (path_taken g.F.FnMut _ c.args.eq c.loop-place.eq c.args.hash c.in_ok-start.start c.loop-place.place c.in-Some.stored c.in-Some.item c.args.slots.now
-          in' k.in_range here c.if-stored-hash.true k.search)
+      searching_accepts g.F.FnMut (holders_in c.args.hash c.args.slots.now) _ c.args.eq c.windows.eq c.eq.new.self (c.windows.place + count_trailing_zeros 64 c.windows.same, c.in-Some.item) _
+          (listed c.args.hash a c.args.slots.now)
+          (path_taken g.F.FnMut _ c.args.eq c.windows.eq c.args.hash a _ c.in-Some.stored c.in-Some.item c.args.slots.now
+          a_in found.in_range here c.if-stored-hash.true (searching_on g.F.FnMut _ _ _ c.args.eq c.windows.eq found.left k.search))
           (called_at g.F.FnMut c.eq.ensures c.if-eq.true),
     )
 
 pub returns-then-eq-clause-item : goal.returns-then-eq-clause-item
 returns-then-eq-clause-item g c =
-    let here = read_at c.args.slots.now c.loop-place.place _ c.loop-place.invariant.in_range c.index-slots-place.is ∙ c.in-Some.is in
-    here ∙ ap (λ h. Some (h, c.in-Some.item)) c.if-stored-hash.true
+    let some = some_places (length c.args.slots.now) c.is_empty.result c.is_empty.ensures c.if-is_empty.false in
+    let found = window_matches c.args.hash c.args.tags.now c.args.slots.now c.requires.tagged some c.windows.start c.windows.place c.windows.same _ c.windows.invariant.window c.if-same-eq0.false refl in
+    read_at c.args.slots.now _ _ found.in_range c.index-slots-place.is ∙ c.in-Some.is ∙ ap (λ h. Some (h, c.in-Some.item)) c.if-stored-hash.true
 
-pub loop-place-smaller : goal.loop-place-smaller
-loop-place-smaller g c =
-    let k = c.loop-place.invariant in
-    let in' = c.in_ok-start.ensures.start.in_range in
-    let here = read_at c.args.slots.now c.loop-place.place _ k.in_range c.index-slots-place.is ∙ c.in-Some.is in
-    let full = full-some _ _ here in
-    let more = free_farther (length c.args.slots.now) c.in_ok-start.start c.loop-place.place c.args.slots.now in' k.in_range k.path full
-    (c.requires.free (some_places _ c.if-count-eq0.false)) in
-    let next = next-step (length c.args.slots.now) c.in_ok-start.start c.loop-place.place _ in' k.in_range more c.next_place-place.ensures in
-    less-left (length c.args.slots.now) _ _ (distance-below (length c.args.slots.now) c.in_ok-start.start c.loop-place.place in' k.in_range) next.1
+pub windows-smaller : goal.windows-smaller
+windows-smaller g c =
+    let some = some_places (length c.args.slots.now) c.is_empty.result c.is_empty.ensures c.if-is_empty.false in
+    let found = window_matches c.args.hash c.args.tags.now c.args.slots.now c.requires.tagged some c.windows.start c.windows.place c.windows.same _ c.windows.invariant.window c.if-same-eq0.false refl in
+    nearer _ c.windows.start c.windows.place (count_trailing_zeros 64 c.windows.same) found.near
 
-pub loop-place-preserved : goal.loop-place-preserved
-loop-place-preserved g c =
-    let k = c.loop-place.invariant in
-    let in' = c.in_ok-start.ensures.start.in_range in
-    let here = read_at c.args.slots.now c.loop-place.place _ k.in_range c.index-slots-place.is ∙ c.in-Some.is in
-    let full = full-some _ _ here in
-    let more = free_farther (length c.args.slots.now) c.in_ok-start.start c.loop-place.place c.args.slots.now in' k.in_range k.path full
-    (c.requires.free (some_places _ c.if-count-eq0.false)) in
-    let next = next-step (length c.args.slots.now) c.in_ok-start.start c.loop-place.place _ in' k.in_range more c.next_place-place.ensures in
+pub windows-preserved : goal.windows-preserved
+windows-preserved g c =
+    let some = some_places (length c.args.slots.now) c.is_empty.result c.is_empty.ensures c.if-is_empty.false in
+    let a = home (length c.args.slots.now) c.args.hash in
+    let a_in = home-below (length c.args.slots.now) c.args.hash some in
+    let k = c.windows.invariant in
+    let found = window_matches c.args.hash c.args.tags.now c.args.slots.now c.requires.tagged some c.windows.start c.windows.place c.windows.same _ k.window c.if-same-eq0.false refl in
+    let here = read_at c.args.slots.now _ _ found.in_range c.index-slots-place.is ∙ c.in-Some.is in
+    let search = searching_on g.F.FnMut _ _ _ c.args.eq c.windows.eq found.left k.search in
     record {
-      in_range = next.0;
-      path = path_more (length c.args.slots.now) c.in_ok-start.start c.loop-place.place c.args.slots.now in' k.in_range k.path full c.next_place-place.result next.1;
-      search = path_moved g.F.FnMut _ c.args.eq c.else-stored-hash.eq c.args.hash c.in_ok-start.start _ _ c.args.slots.now next.1
+      window = found.on;
+      search = path_moved g.F.FnMut _ c.args.eq c.else-stored-hash.eq c.args.hash a _ _ c.args.slots.now found.after
           (elim c.else-stored-hash.branch [
             | else-stored-hash-via-then-stored-hash+else-eq w ↦
-                searching_refuses g.F.FnMut _ c.args.eq c.loop-place.eq c.else-stored-hash.eq (c.loop-place.place, c.in-Some.item) _
-                (path_taken g.F.FnMut _ c.args.eq c.loop-place.eq c.args.hash c.in_ok-start.start c.loop-place.place c.in-Some.stored c.in-Some.item c.args.slots.now
-                in' k.in_range here w.if-stored-hash.true k.search)
-                (subst (λ f. CalledAt g.F.FnMut c.loop-place.eq c.in-Some.item false f) (sym w.eq-is) (called_at g.F.FnMut w.eq.ensures w.if-eq.false))
+                searching_refuses g.F.FnMut _ c.args.eq c.windows.eq c.else-stored-hash.eq (c.windows.place + count_trailing_zeros 64 c.windows.same, c.in-Some.item) _
+                (path_taken g.F.FnMut _ c.args.eq c.windows.eq c.args.hash a _ c.in-Some.stored c.in-Some.item c.args.slots.now
+                a_in found.in_range here w.if-stored-hash.true search)
+                (subst (λ f. CalledAt g.F.FnMut c.windows.eq c.in-Some.item false f) (sym w.eq-is) (called_at g.F.FnMut w.eq.ensures w.if-eq.false))
             | else-stored-hash-via-else-stored-hash w ↦
-                searching_as g.F.FnMut _ _ c.args.eq c.loop-place.eq c.else-stored-hash.eq w.eq-is
-                (path_skipped g.F.FnMut _ c.args.eq c.loop-place.eq c.args.hash c.in_ok-start.start c.loop-place.place c.in-Some.stored c.in-Some.item c.args.slots.now
-                in' k.in_range here w.if-stored-hash.false k.search)
+                searching_as g.F.FnMut _ _ c.args.eq c.windows.eq c.else-stored-hash.eq w.eq-is
+                (path_skipped g.F.FnMut _ c.args.eq c.windows.eq c.args.hash a _ c.in-Some.stored c.in-Some.item c.args.slots.now
+                a_in found.in_range here w.if-stored-hash.false search)
           ]);
     }
-
-pub returns-then-count-eq0-clause-found : goal.returns-then-count-eq0-clause-found
-returns-then-count-eq0-clause-found g c = (c.args.eq, searches_none g.F.FnMut c.args.hash c.args.slots.now c.args.eq c.if-count-eq0.true)
-
-pub returns-clause-found : goal.returns-clause-found
-returns-clause-found g c =
-    let k = c.loop-place.invariant in
-    let begins : MayBeginAt (tag c.args.hash) (home c.args.shift c.args.hash) (length c.args.slots.now) c.args.tags.now c.in_ok-start.start =
-    rw (← c.home.ensures, ← c.tag.ensures) c.in_ok-start.ensures.start in
-    let here = read_at c.args.slots.now c.loop-place.place _ k.in_range c.index-slots-place.is ∙ c.in_default.is in (
-      c.loop-place.eq,
-      searching_ends g.F.FnMut (holders_in c.args.hash c.args.slots.now) _ _ c.args.eq c.loop-place.eq
-          (listed c.args.hash c.in_ok-start.start c.args.slots.now)
-          (nothing_left c.args.shift c.args.hash c.in_ok-start.start c.loop-place.place _ c.args.slots.now begins.from_home begins.in_range k.in_range
-          (none_before c.args.tags.now c.args.slots.now c.requires.tagged c.args.shift c.args.hash c.in_ok-start.start begins) refl here c.requires.in_place) k.search,
-    )

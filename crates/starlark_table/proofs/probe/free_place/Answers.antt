@@ -1,29 +1,33 @@
-use Rattle.std.proofs.Common.{length, IsSome, arith, refl, sym, ◌∙◌, subst}
-use Rattle.starlark_table.proofs.Circle.{distance-self, distance-below, next-step, less-left}
-use Rattle.starlark_table.proofs.Closing.{read_known, free_farther, path_more}
+use Rattle.std.proofs.Common.{ℕ, ◌-◌, ◌<◌, length, arith, refl, sym, ◌∙◌}
+use Rattle.starlark_table.proofs.Circle.{distance-self, distance-below, one_more}
+use Rattle.starlark_table.proofs.Windows.{passes_window, free_in_window}
 use Rattle.starlark_table.proofs.probe.free_place.Goals as goal
 
-pub loop-place-init : goal.loop-place-init
-loop-place-init g c = record {
-  in_range = c.requires.start;
-  path = λ q q_in nearer. let e = distance-self (length c.args.slots.now) c.args.start in absurd (omega arith);
-}
+fewer : (m x y : ℕ) → x < y → y < m → m - y < m - x
+fewer m x y less below = omega arith
 
-pub loop-place-smaller : goal.loop-place-smaller
-loop-place-smaller g c =
-    let k = c.loop-place.invariant in
-    let some = subst IsSome (sym (read_known c.args.slots.now c.loop-place.place _ c.index-slots-place.result _ refl k.in_range (sym c.index-slots-place.is))) (sym c.is_some.ensures ∙ c.loop-place-test.true) in
-    let more = free_farther (length c.args.slots.now) c.args.start c.loop-place.place c.args.slots.now c.requires.start k.in_range k.path some c.requires.free in
-    let next = next-step (length c.args.slots.now) c.args.start c.loop-place.place _ c.requires.start k.in_range more c.next_place-place.ensures in
-    less-left (length c.args.slots.now) _ _ (distance-below (length c.args.slots.now) c.args.start c.loop-place.place c.requires.start k.in_range) next.1
+pub windows-init : goal.windows-init
+windows-init g c =
+    let here = distance-self (length c.args.slots.now) c.args.home in
+    record { in_range = c.requires.home; path = λ q q_in near. absurd (omega arith); its = c.places_with-empty.ensures }
 
-pub loop-place-preserved : goal.loop-place-preserved
-loop-place-preserved g c =
-    let k = c.loop-place.invariant in
-    let some = subst IsSome (sym (read_known c.args.slots.now c.loop-place.place _ c.index-slots-place.result _ refl k.in_range (sym c.index-slots-place.is))) (sym c.is_some.ensures ∙ c.loop-place-test.true) in
-    let more = free_farther (length c.args.slots.now) c.args.start c.loop-place.place c.args.slots.now c.requires.start k.in_range k.path some c.requires.free in
-    let next = next-step (length c.args.slots.now) c.args.start c.loop-place.place _ c.requires.start k.in_range more c.next_place-place.ensures in
-    record {
-      in_range = next.0;
-      path = path_more (length c.args.slots.now) c.args.start c.loop-place.place c.args.slots.now c.requires.start k.in_range k.path some c.next_place-place.result next.1;
-    }
+pub windows-smaller : goal.windows-smaller
+windows-smaller g c =
+    let k = c.windows.invariant in
+    let p = passes_window c.args.tags.now c.args.slots.now c.requires.tagged c.args.home c.requires.home c.requires.free _ c.windows.start c.window_after-start.result
+    (one_more (length c.args.slots.now) (omega (arith, c.requires.home))) k.in_range k.path (sym c.windows-test.true ∙ k.its) c.window_after-start.ensures.on c.window_after-start.ensures.round in
+    fewer (length c.args.slots.now) _ _ p.2 (distance-below (length c.args.slots.now) c.args.home c.window_after-start.result c.requires.home p.0)
+
+pub windows-preserved : goal.windows-preserved
+windows-preserved g c =
+    let k = c.windows.invariant in
+    let p = passes_window c.args.tags.now c.args.slots.now c.requires.tagged c.args.home c.requires.home c.requires.free _ c.windows.start c.window_after-start.result
+    (one_more (length c.args.slots.now) (omega (arith, c.requires.home))) k.in_range k.path (sym c.windows-test.true ∙ k.its) c.window_after-start.ensures.on c.window_after-start.ensures.round in
+    record { in_range = p.0; path = p.1; its = c.places_with-empty-in-windows.ensures }
+
+pub returns : goal.returns
+returns g c =
+    let k = c.windows.invariant in
+    let found = free_in_window c.args.tags.now c.args.slots.now c.requires.tagged c.args.home c.requires.home c.requires.free c.windows.start c.windows.empty _
+    k.in_range k.path k.its c.windows-test.false refl in
+    record { in_range = found.0; empty = found.1; path = found.2 }

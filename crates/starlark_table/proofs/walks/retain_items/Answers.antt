@@ -1,7 +1,7 @@
 use Rattle.std.proofs.Common.{ℕ, ◌≡◌, ◌<◌, ◌==◌, Bool, false, length, arith, refl, sym, ◌∙◌}
 use Rattle.std.proofs.lemmas.Bool.Decides.{nat_tests}
 use Rattle.std.proofs.lemmas.List.Sorted.{length_permutation}
-use Rattle.starlark_table.proofs.Load.{places-power, four_places, empty_slot, load-below_places}
+use Rattle.starlark_table.proofs.Load.{empty_slot, load-below_places}
 use Rattle.starlark_table.proofs.Settling.{reaches_before}
 use Rattle.starlark_table.proofs.walks.retain_items.Goals as goal
 
@@ -10,14 +10,13 @@ not_empty n b e f = grind (arith, nat_tests)
 
 pub free_place-start-requires-clause-free : goal.free_place-start-requires-clause-free
 free_place-start-requires-clause-free g c =
-    let e = places-power c.args.slots.now c.args.shift c.requires.places (not_empty _ _ c.is_empty.ensures c.if-is_empty.false) in
-    empty_slot c.args.slots.now (load-below_places _ _ c.requires.load (four_places _ c.args.shift c.requires.high e))
+    empty_slot c.args.slots.now (load-below_places _ _ c.requires.load (not_empty _ _ c.is_empty.ensures c.if-is_empty.false))
 
 pub settle-requires-clause-reaches : goal.settle-requires-clause-reaches
 settle-requires-clause-reaches g c =
     let stand = c.keep_items-kept.ensures.stand in
     rw stand.sized
-    (reaches_before (length c.args.slots.now) c.args.shift c.free_place-start.result c.args.slots.now c.keep_items-kept.new.slots refl
+    (reaches_before (length c.args.slots.now) c.free_place-start.result c.args.slots.now c.keep_items-kept.new.slots refl
     c.free_place-start.ensures.in_range c.free_place-start.ensures.empty c.requires.in_place stand)
 
 pub returns-clause-counted : goal.returns-clause-counted

@@ -9,7 +9,7 @@ invariant-loop-step g l = record {
   placed : l.step < l.count → (l.place < l.count) × (distance l.count l.start l.place ≡ l.step);
   sized : length l.slots ≡ l.count;
   start_in : l.start < l.count;
-  reaches : ReachesBefore l.count l.shift l.slots l.start;
-  settled : Settled l.count l.shift l.start l.slots l.step;
+  reaches : ReachesBefore l.count l.slots l.start;
+  settled : Settled l.count l.start l.slots l.step;
   bag : IsPermutation (filled l.initial.slots) (filled l.slots);
 }

@@ -12,7 +12,7 @@ positive a b h = omega arith
 pub put-slot-requires-clause-free : goal.put-slot-requires-clause-free
 put-slot-requires-clause-free g c =
     let room : 1 ≤ limit (length c.self.inside.slots.items) - c.self.inside.len = subst (λ t. 1 ≤ t.room) (sym c.self.view_is) c.requires in
-    let free = (place_for_one c.self.inside.slots.items c.self.inside.tags.items c.self.inside.len c.self.inside.shift c.self.invariant (positive _ _ room)).1 in
+    let free = (place_for_one c.self.inside.slots.items c.self.inside.tags.items c.self.inside.len c.self.inside.mask c.self.invariant (positive _ _ room)).1 in
     subst (λ l. (q : ℕ) × (q < length l) × (at l q ≡ None)) (sym c.as_mut_slice.ensures.value) free
 
 pub invariant_of-self : goal.invariant_of-self
@@ -20,8 +20,8 @@ invariant_of-self g c =
     let room : 1 ≤ limit (length c.self.inside.slots.items) - c.self.inside.len = subst (λ t. 1 ≤ t.room) (sym c.self.view_is) c.requires in
     let same = with_items_is c.self.inside.slots c.put-slot.new.slots (c.put-slot.auto.slots ∙ c.as_mut_slice.ensures.len) in
     let put = c.put-slot.ensures in
-    sound-as _ _ _ _ (c.self.inside.len + 1) c.self.inside.shift same (with_items_is c.self.inside.tags c.put-slot.new.tags (c.put-slot.auto.tags ∙ c.as_mut_slice-2.ensures.len))
-    (sound-inserted c.self.inside.slots.items c.as_mut_slice.result.now c.put-slot.new.slots c.self.inside.tags.items c.put-slot.new.tags c.self.inside.len c.self.inside.shift c.put-slot.result _ c.self.invariant
+    sound-as _ _ _ _ (c.self.inside.len + 1) c.self.inside.mask same (with_items_is c.self.inside.tags c.put-slot.new.tags (c.put-slot.auto.tags ∙ c.as_mut_slice-2.ensures.len))
+    (sound-inserted c.self.inside.slots.items c.as_mut_slice.result.now c.put-slot.new.slots c.self.inside.tags.items c.put-slot.new.tags c.self.inside.len c.self.inside.mask c.put-slot.result _ c.self.invariant
     c.as_mut_slice.ensures.value put.set put.in_range put.empty put.in_place put.tagged room).0
 
 pub returns-clause-added : goal.returns-clause-added
@@ -29,7 +29,7 @@ returns-clause-added g c =
     let room : 1 ≤ limit (length c.self.inside.slots.items) - c.self.inside.len = subst (λ t. 1 ≤ t.room) (sym c.self.view_is) c.requires in
     let same = with_items_is c.self.inside.slots c.put-slot.new.slots (c.put-slot.auto.slots ∙ c.as_mut_slice.ensures.len) in
     let put = c.put-slot.ensures in
-    let bag = (sound-inserted c.self.inside.slots.items c.as_mut_slice.result.now c.put-slot.new.slots c.self.inside.tags.items c.put-slot.new.tags c.self.inside.len c.self.inside.shift c.put-slot.result _ c.self.invariant
+    let bag = (sound-inserted c.self.inside.slots.items c.as_mut_slice.result.now c.put-slot.new.slots c.self.inside.tags.items c.put-slot.new.tags c.self.inside.len c.self.inside.mask c.put-slot.result _ c.self.invariant
     c.as_mut_slice.ensures.value put.set put.in_range put.empty put.in_place put.tagged room).1 in
     subst (λ l. IsPermutation ((c.args.hash, c.args.item) ∷ members c.args.self.now) (filled l)) (sym same)
     (subst (λ t. IsPermutation ((c.args.hash, c.args.item) ∷ members t) (filled c.put-slot.new.slots)) c.self.view_is bag)
@@ -39,10 +39,10 @@ returns-clause-room g c =
     let room : 1 ≤ limit (length c.self.inside.slots.items) - c.self.inside.len = subst (λ t. 1 ≤ t.room) (sym c.self.view_is) c.requires in
     let same = with_items_is c.self.inside.slots c.put-slot.new.slots (c.put-slot.auto.slots ∙ c.as_mut_slice.ensures.len) in
     let put = c.put-slot.ensures in
-    let done = sound-inserted c.self.inside.slots.items c.as_mut_slice.result.now c.put-slot.new.slots c.self.inside.tags.items c.put-slot.new.tags c.self.inside.len c.self.inside.shift c.put-slot.result (c.args.hash, c.args.item) c.self.invariant
+    let done = sound-inserted c.self.inside.slots.items c.as_mut_slice.result.now c.put-slot.new.slots c.self.inside.tags.items c.put-slot.new.tags c.self.inside.len c.self.inside.mask c.put-slot.result (c.args.hash, c.args.item) c.self.invariant
     c.as_mut_slice.ensures.value put.set put.in_range put.empty put.in_place put.tagged room in
-    let before = len-and-room c.self.inside.slots.items c.self.inside.tags.items c.self.inside.len c.self.inside.shift c.self.invariant in
-    let after = len-and-room c.put-slot.new.slots c.put-slot.new.tags (c.self.inside.len + 1) c.self.inside.shift done.0 in
+    let before = len-and-room c.self.inside.slots.items c.self.inside.tags.items c.self.inside.len c.self.inside.mask c.self.invariant in
+    let after = len-and-room c.put-slot.new.slots c.put-slot.new.tags (c.self.inside.len + 1) c.self.inside.mask done.0 in
     let whole : table_len c.args.self.now + c.args.self.now.room ≡ length (filled c.put-slot.new.slots) + (limit (length c.put-slot.new.slots) - (c.self.inside.len + 1)) =
     subst (λ t. table_len t + t.room ≡ length (filled c.put-slot.new.slots) + (limit (length c.put-slot.new.slots) - (c.self.inside.len + 1))) c.self.view_is
     (before ∙ sym (after ∙ ap limit done.2)) in

@@ -1,4 +1,4 @@
-use Rattle.std.proofs.Common.{◌≡◌, ◌∷◌, ◌+◌, ◌≤◌, arith}
+use Rattle.std.proofs.Common.{◌∷◌, arith}
 use Rattle.std.proofs.lemmas.List.Sorted.{IsPermutation-trans, IsPermutation-cons, length_permutation}
 use Rattle.starlark_table.specs.Table.{members}
 use Rattle.starlark_table.proofs.ready_table.ReadyTable.insert_unique.Goals as goal

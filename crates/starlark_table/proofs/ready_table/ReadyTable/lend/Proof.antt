@@ -112,7 +112,7 @@ module _ (A : RattleType) where
 
   written_known : (v : W.Denot) (d : D) (w : Vec One) → O.Known K v d → O.Known K (seen d w) (written d w)
   written_known v d w k =
-      (refl, reshaped d.slots.items (kept d.slots w).items (ap shape (all_written d w) ∙ shape-with_items_of d.slots.items w.items) d.tags.items d.len d.shift k.1)
+      (refl, reshaped d.slots.items (kept d.slots w).items (ap shape (all_written d w) ∙ shape-with_items_of d.slots.items w.items) d.tags.items d.len d.mask k.1)
 
   same : (v : W.Denot) (d : D) (w : Vec One) → O.Known K v d → with_written v (seen d w) ≡ seen d w
   same v d w k =

@@ -1,19 +1,10 @@
 use Rattle.std.proofs.Common.{◌≡◌, ◌+◌, ◌-◌, ◌≤◌, length, sym, ◌∙◌, subst, ap}
 use Rattle.std.proofs.lemmas.List.{with_items_is}
 use Rattle.starlark_table.specs.Table.{filled, member_at, table_len}
-use Rattle.starlark_table.specs.Layout.{at, limit, IsShift, InPlace, IsTagged}
+use Rattle.starlark_table.specs.Layout.{at, limit, InPlace, IsTagged}
 use Rattle.starlark_table.proofs.Sound.{sound-as}
-use Rattle.starlark_table.proofs.Load.{sound-taken_out_of_copy, len-and-room, rest-as, if_none-some, if_some-none, if_none-holds, none-told, table-unchanged}
+use Rattle.starlark_table.proofs.Load.{sound-taken_out_of_copy, sound-unchanged, len-and-room, rest-as, if_none-some, if_some-none, if_none-holds, none-told, table-unchanged}
 use Rattle.starlark_table.proofs.ready_table.ReadyTable.remove.Goals as goal
-
-pub take_out-member-requires-clause-low : goal.take_out-member-requires-clause-low
-take_out-member-requires-clause-low g c = c.self.invariant.shift_low
-
-pub take_out-member-requires-clause-high : goal.take_out-member-requires-clause-high
-take_out-member-requires-clause-high g c = c.self.invariant.shift_high
-
-pub take_out-member-requires-clause-places : goal.take_out-member-requires-clause-places
-take_out-member-requires-clause-places g c = subst (IsShift c.self.inside.shift) (sym c.as_mut_slice.ensures.value) c.self.invariant.places
 
 pub take_out-member-requires-clause-load : goal.take_out-member-requires-clause-load
 take_out-member-requires-clause-load g c =
@@ -21,7 +12,7 @@ take_out-member-requires-clause-load g c =
     (subst (λ n. n ≤ limit (length c.self.inside.slots.items)) c.self.invariant.counted c.self.invariant.load)
 
 pub take_out-member-requires-clause-in_place : goal.take_out-member-requires-clause-in_place
-take_out-member-requires-clause-in_place g c = subst (λ l. InPlace (length l) c.self.inside.shift l) (sym c.as_mut_slice.ensures.value) c.self.invariant.in_place
+take_out-member-requires-clause-in_place g c = subst (λ l. InPlace (length l) l) (sym c.as_mut_slice.ensures.value) c.self.invariant.in_place
 
 pub take_out-member-requires-clause-tagged : goal.take_out-member-requires-clause-tagged
 take_out-member-requires-clause-tagged g c =
@@ -30,26 +21,34 @@ take_out-member-requires-clause-tagged g c =
 
 pub overflow_sub-self : goal.overflow_sub-self
 overflow_sub-self g c =
-    (sound-taken_out_of_copy c.self.inside.slots.items c.as_mut_slice.result.now c.take_out-member.new.slots c.self.inside.tags.items c.take_out-member.new.tags c.self.inside.len c.self.inside.shift c.take_out-member.result c.as_mut_slice.ensures.value c.self.invariant
+    (sound-taken_out_of_copy c.self.inside.slots.items c.as_mut_slice.result.now c.take_out-member.new.slots c.self.inside.tags.items c.take_out-member.new.tags c.self.inside.len c.self.inside.mask c.take_out-member.result c.as_mut_slice.ensures.value c.self.invariant
     c.take_out-member.auto.slots c.take_out-member.ensures.in_place c.take_out-member.ensures.tagged c.take_out-member.ensures.rest (sym c.is_some.ensures ∙ c.if-is_some.true)).1
 
 pub invariant_of-self : goal.invariant_of-self
 invariant_of-self g c =
     let same = with_items_is c.self.inside.slots c.take_out-member.new.slots (c.take_out-member.auto.slots ∙ c.as_mut_slice.ensures.len) in
-    sound-as _ _ _ _ (c.self.inside.len - 1) c.self.inside.shift same (with_items_is c.self.inside.tags c.take_out-member.new.tags (c.take_out-member.auto.tags ∙ c.as_mut_slice-2.ensures.len))
-    (sound-taken_out_of_copy c.self.inside.slots.items c.as_mut_slice.result.now c.take_out-member.new.slots c.self.inside.tags.items c.take_out-member.new.tags c.self.inside.len c.self.inside.shift c.take_out-member.result c.as_mut_slice.ensures.value c.self.invariant
+    sound-as _ _ _ _ (c.self.inside.len - 1) c.self.inside.mask same (with_items_is c.self.inside.tags c.take_out-member.new.tags (c.take_out-member.auto.tags ∙ c.as_mut_slice-2.ensures.len))
+    (sound-taken_out_of_copy c.self.inside.slots.items c.as_mut_slice.result.now c.take_out-member.new.slots c.self.inside.tags.items c.take_out-member.new.tags c.self.inside.len c.self.inside.mask c.take_out-member.result c.as_mut_slice.ensures.value c.self.invariant
     c.take_out-member.auto.slots c.take_out-member.ensures.in_place c.take_out-member.ensures.tagged c.take_out-member.ensures.rest (sym c.is_some.ensures ∙ c.if-is_some.true)).0
+
+pub invariant_of-self-else-is_some : goal.invariant_of-self-else-is_some
+invariant_of-self-else-is_some g c =
+    let unchanged = none-told c.take_out-member.result (sym c.is_some.ensures ∙ c.if-is_some.false) c.take_out-member.ensures.none in
+    let same = with_items_is c.self.inside.slots c.take_out-member.new.slots (c.take_out-member.auto.slots ∙ c.as_mut_slice.ensures.len) in
+    sound-as _ _ _ _ c.self.inside.len c.self.inside.mask same (with_items_is c.self.inside.tags c.take_out-member.new.tags (c.take_out-member.auto.tags ∙ c.as_mut_slice-2.ensures.len))
+    (sound-unchanged c.self.inside.slots.items c.as_mut_slice.result.now c.take_out-member.new.slots c.self.inside.tags.items c.take_out-member.new.tags c.self.inside.len c.self.inside.mask
+    c.as_mut_slice.ensures.value unchanged c.self.invariant c.take_out-member.ensures.tagged)
 
 pub returns-then-is_some-clause-room : goal.returns-then-is_some-clause-room
 returns-then-is_some-clause-room g c =
     let same = with_items_is c.self.inside.slots c.take_out-member.new.slots (c.take_out-member.auto.slots ∙ c.as_mut_slice.ensures.len) in
-    let sound = (sound-taken_out_of_copy c.self.inside.slots.items c.as_mut_slice.result.now c.take_out-member.new.slots c.self.inside.tags.items c.take_out-member.new.tags c.self.inside.len c.self.inside.shift c.take_out-member.result c.as_mut_slice.ensures.value c.self.invariant
+    let sound = (sound-taken_out_of_copy c.self.inside.slots.items c.as_mut_slice.result.now c.take_out-member.new.slots c.self.inside.tags.items c.take_out-member.new.tags c.self.inside.len c.self.inside.mask c.take_out-member.result c.as_mut_slice.ensures.value c.self.invariant
     c.take_out-member.auto.slots c.take_out-member.ensures.in_place c.take_out-member.ensures.tagged c.take_out-member.ensures.rest (sym c.is_some.ensures ∙ c.if-is_some.true)).0 in
     rw (← c.self.view_is)
     (subst (λ l. length (filled l) + (limit (length l) - (c.self.inside.len - 1)) ≡ length (filled c.self.inside.slots.items) + (limit (length c.self.inside.slots.items) - c.self.inside.len)) (sym same)
-    (len-and-room c.take_out-member.new.slots c.take_out-member.new.tags (c.self.inside.len - 1) c.self.inside.shift sound
+    (len-and-room c.take_out-member.new.slots c.take_out-member.new.tags (c.self.inside.len - 1) c.self.inside.mask sound
     ∙ ap limit (c.take_out-member.auto.slots ∙ ap length c.as_mut_slice.ensures.value)
-    ∙ sym (len-and-room c.self.inside.slots.items c.self.inside.tags.items c.self.inside.len c.self.inside.shift c.self.invariant)))
+    ∙ sym (len-and-room c.self.inside.slots.items c.self.inside.tags.items c.self.inside.len c.self.inside.mask c.self.invariant)))
 
 pub returns-then-is_some-clause-found : goal.returns-then-is_some-clause-found
 returns-then-is_some-clause-found g c =

@@ -9,6 +9,6 @@ pub invariant_of-self : goal.invariant_of-self
 invariant_of-self g c =
     let same = with_items_is c.self.inside.slots c.replace_items.new.slots (c.replace_items.auto.slots ∙ c.as_mut_slice.ensures.len) in
     let walk = c.replace_items.ensures in
-    subst (λ l. IsSound l c.self.inside.tags.items c.self.inside.len c.self.inside.shift) (sym same)
+    subst (λ l. IsSound l c.self.inside.tags.items c.self.inside.len c.self.inside.mask) (sym same)
     (reshaped c.self.inside.slots.items c.replace_items.new.slots (shape-replaced g.F.FnMut c.self.inside.slots.items c.replace_items.new.slots c.args.f walk.0
-    (subst (λ l. ReplacesEach g.F.FnMut c.args.f l c.replace_items.new.slots walk.0) c.as_mut_slice.ensures.value walk.1)) c.self.inside.tags.items c.self.inside.len c.self.inside.shift c.self.invariant)
+    (subst (λ l. ReplacesEach g.F.FnMut c.args.f l c.replace_items.new.slots walk.0) c.as_mut_slice.ensures.value walk.1)) c.self.inside.tags.items c.self.inside.len c.self.inside.mask c.self.invariant)

@@ -19,9 +19,9 @@ invariant_of-self g c =
     let kept = c.retain_items-kept.ensures.kept in
     let fewer = shorter (length kept.0) (length (filled c.as_mut_slice.result.now)) (length (filled c.retain_items-kept.new.slots)) (length (filled c.self.inside.slots.items)) (length-retained (AsksMember g.F.FnMut) c.args.f (filled c.as_mut_slice.result.now) kept.0 kept.1) (length_permutation kept.0 (filled c.retain_items-kept.new.slots) kept.2)
     (ap (λ l. length (filled l)) c.as_mut_slice.ensures.value) in
-    let tagged = subst (IsTagged c.retag.new.tags) (c.as_slice.ensures.value ∙ same) c.retag.ensures in
-    sound-as _ _ _ _ c.retain_items-kept.result c.self.inside.shift same (with_items_is c.self.inside.tags c.retag.new.tags (c.retag.auto.tags ∙ c.as_mut_slice-2.ensures.len))
-    (sound-some_kept c.self.inside.slots.items c.retain_items-kept.new.slots c.self.inside.tags.items c.retag.new.tags c.self.inside.len c.retain_items-kept.result c.self.inside.shift c.self.invariant
+    let tagged = subst (IsTagged c.retag.new.tags) (c.as_slice-2.ensures.value ∙ same) c.retag.ensures in
+    sound-as _ _ _ _ c.retain_items-kept.result c.self.inside.mask same (with_items_is c.self.inside.tags c.retag.new.tags (c.retag.auto.tags ∙ c.as_mut_slice-2.ensures.len))
+    (sound-some_kept c.self.inside.slots.items c.retain_items-kept.new.slots c.self.inside.tags.items c.retag.new.tags c.self.inside.len c.retain_items-kept.result c.self.inside.mask c.self.invariant
     (c.retain_items-kept.auto.slots ∙ ap length c.as_mut_slice.ensures.value) c.retain_items-kept.ensures.in_place tagged c.retain_items-kept.ensures.counted fewer)
 
 pub returns-clause-kept : goal.returns-clause-kept
@@ -39,11 +39,11 @@ returns-clause-room g c =
     let kept = c.retain_items-kept.ensures.kept in
     let fewer = shorter (length kept.0) (length (filled c.as_mut_slice.result.now)) (length (filled c.retain_items-kept.new.slots)) (length (filled c.self.inside.slots.items)) (length-retained (AsksMember g.F.FnMut) c.args.f (filled c.as_mut_slice.result.now) kept.0 kept.1) (length_permutation kept.0 (filled c.retain_items-kept.new.slots) kept.2)
     (ap (λ l. length (filled l)) c.as_mut_slice.ensures.value) in
-    let tagged = subst (IsTagged c.retag.new.tags) (c.as_slice.ensures.value ∙ same) c.retag.ensures in
+    let tagged = subst (IsTagged c.retag.new.tags) (c.as_slice-2.ensures.value ∙ same) c.retag.ensures in
     let sized = c.retain_items-kept.auto.slots ∙ ap length c.as_mut_slice.ensures.value in
-    let sound = sound-some_kept c.self.inside.slots.items c.retain_items-kept.new.slots c.self.inside.tags.items c.retag.new.tags c.self.inside.len c.retain_items-kept.result c.self.inside.shift c.self.invariant
+    let sound = sound-some_kept c.self.inside.slots.items c.retain_items-kept.new.slots c.self.inside.tags.items c.retag.new.tags c.self.inside.len c.retain_items-kept.result c.self.inside.mask c.self.invariant
     sized c.retain_items-kept.ensures.in_place tagged c.retain_items-kept.ensures.counted fewer in
     rw (← c.self.view_is)
     (subst (λ l. length (filled l) + (limit (length l) - c.retain_items-kept.result) ≡ length (filled c.self.inside.slots.items) + (limit (length c.self.inside.slots.items) - c.self.inside.len)) (sym same)
-    (len-and-room c.retain_items-kept.new.slots c.retag.new.tags c.retain_items-kept.result c.self.inside.shift sound ∙ ap limit sized
-    ∙ sym (len-and-room c.self.inside.slots.items c.self.inside.tags.items c.self.inside.len c.self.inside.shift c.self.invariant)))
+    (len-and-room c.retain_items-kept.new.slots c.retag.new.tags c.retain_items-kept.result c.self.inside.mask sound ∙ ap limit sized
+    ∙ sym (len-and-room c.self.inside.slots.items c.self.inside.tags.items c.self.inside.len c.self.inside.mask c.self.invariant)))

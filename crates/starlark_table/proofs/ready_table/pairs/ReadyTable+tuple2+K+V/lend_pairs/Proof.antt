@@ -120,7 +120,7 @@ module _ (A B : RattleType) where
 
   written_known : (v : W.Denot) (d : D) (w : Vec One) → O.Known P v d → O.Known P (seen d w) (written d w)
   written_known v d w k =
-      (refl, reshaped d.slots.items (kept d.slots w).items (ap shape (all_written d w) ∙ shape-with_values_of d.slots.items w.items) d.tags.items d.len d.shift k.1)
+      (refl, reshaped d.slots.items (kept d.slots w).items (ap shape (all_written d w) ∙ shape-with_values_of d.slots.items w.items) d.tags.items d.len d.mask k.1)
 
   same : (v : W.Denot) (d : D) (w : Vec One) → O.Known P v d → with_values v (seen d w) ≡ seen d w
   same v d w k =
