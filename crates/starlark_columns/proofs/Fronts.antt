@@ -248,26 +248,6 @@ module _ {X : Type 0} where
             let is = is_row ds before i (suc left) (out ds e ∙ ap (λ l. map Some before ++ None ∷ row l left) none) (omega (arith, long_before, length-map before Some)) in
             let same : the.0 ≡ x = cc (sym at ∙ f) in (is.0, the.1 ∙ (λ j. sym is.1 j ++ same j ∷ none j))
 
-  -- the items of one column behind those of another
-  module _ (cs ds : List (Option X)) (n m : ℕ) (front : IsFront cs n) (behind : IsFront ds m) (room : m + n ≤ length ds) where
-    pub room_behind : AreEmpty ds m (m + (n - 0))
-    room_behind = let fits : m + (n - 0) - m ≤ length ds - m = omega (arith, room) in
-        (omega arith, omega (arith, room), ap (λ l. take (m + (n - 0) - m) l) (front_rest ds m behind) ∙ take-replicate (m + (n - 0) - m) (length ds - m) None fits)
-
-    abbrev over : ℕ
-    over = length ds - m - n
-
-    rest_behind : drop (m + (n - 0)) ds ≡ empties over
-    rest_behind = let split : m + (n - 0) ≡ m + n = omega arith in
-        ap (λ (k : ℕ). drop k ds) split ∙ sym (drop-drop n m ds) ∙ ap (λ l. drop n l) (front_rest ds m behind) ∙ drop-replicate n (length ds - m) None
-
-    front_of : take m ds ≡ map Some (items_of ds)
-    front_of = let whole : m ≡ m - 0 = omega arith in ap (λ (k : ℕ). take k ds) whole ∙ front_range ds m behind
-
-    pub front_appended : (es : List (Option X)) → es ≡ with_range ds m (m + (n - 0)) (slice_range cs 0 n) → IsFront es (m + n) × (items_of es ≡ items_of ds ++ items_of cs)
-    front_appended es e = is_row es (items_of ds ++ items_of cs) (m + n) over
-        (e ∙ (λ j. front_of j ++ (front_range cs n front j ++ rest_behind j)) ∙ joined_row (items_of ds) (items_of cs) over) (omega (arith, length-append (items_of ds) (items_of cs), front.count, behind.count))
-
   -- the first items, once the last of some more is gone
   pub one_fewer : (ys xs : List X) (x : X) (n : ℕ) → 0 < n → take n ys ≡ xs ++ x ∷ [] → length xs ≡ n - 1 → xs ≡ take (n - 1) ys
   one_fewer ys xs x n some e long = let le : n - 1 ≤ n = omega arith in sym (take_at xs (x ∷ []) (n - 1) long) ∙ ap (λ l. take (n - 1) l) (sym e) ∙ take-take (n - 1) n ys le

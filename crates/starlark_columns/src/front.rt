@@ -126,21 +126,6 @@ impl<T> Column<T> {
         to.give_back(alloc);
     }
 
-    /// Moves all `len` items behind the `other_len` of another column, which has places for them.
-    #[inline]
-    pub fn append_to(&mut self, len: usize, other: &mut Column<T>, other_len: usize)
-        requires front { IsFront self.old len }
-        requires other_front { IsFront other.old other_len }
-        requires room { other_len + len ≤ length other.old }
-        ensures front { IsFront self.new 0 }
-        ensures places { length self.new ≡ length self.old }
-        ensures other_front { IsFront other.new (other_len + len) }
-        ensures other_items { items_of other.new ≡ items_of other.old ++ items_of self.old }
-        ensures other_places { length other.new ≡ length other.old }
-    {
-        self.move_to(0, len, other, other_len);
-    }
-
     /// Turns the items round.
     #[inline]
     pub fn turn_round(&mut self, len: usize)

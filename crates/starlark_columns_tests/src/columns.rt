@@ -39,18 +39,6 @@ fn items_move_to_more_places(rt: HostRuntime) -> Result<(), Fail> {
 }
 
 #[test]
-fn items_stand_behind_others(rt: HostRuntime) -> Result<(), Fail> {
-    let (mut from, mut to) = both_columns::<u16, u16>(rt.alloc(), 2)?;
-    from.push_last(0, 5);
-    to.push_last(0, 4);
-    from.append_to(1, &mut to, 1);
-    holds(&rt, to.items(2) == [4u16, 5].as_slice());
-    from.close(rt.alloc());
-    to.drop_all(rt.alloc(), 2);
-    Ok(())
-}
-
-#[test]
 fn items_of_no_bytes_need_no_memory(rt: HostRuntime) -> Result<(), Fail> {
     let mut column: Column<()> = Column::with_room(rt.alloc(), usize::MAX)?;
     column.push_last(0, ());

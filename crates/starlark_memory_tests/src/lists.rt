@@ -49,6 +49,24 @@ fn begins_a_map_with_a_capacity(rt: HostRuntime) -> Result<(), Fail> {
     Ok(())
 }
 
+fn pushes_without_size(list: &mut Vec2<(), ()>, count: usize) -> bool {
+    for _ in 0..count {
+        if list.push((), ()).is_err() {
+            return false;
+        }
+    }
+    true
+}
+
+// No request is made, so none can be refused.
+#[test]
+fn pairs_without_size_need_no_memory(rt: HostRuntime) -> Result<(), Fail> {
+    let mut list = Vec2::new(rt.alloc());
+    holds(&rt, pushes_without_size(&mut list, 100));
+    same(&rt, list.len(), 100);
+    Ok(())
+}
+
 // Whether a list is of the numbers below this one, each with 'a'.
 fn counts_to(list: &Vec2<u32, char>, count: u32) -> bool {
     let mut walk = list.iter();

@@ -12,4 +12,7 @@ pub mod Cloned
 pub mod Retained
 pub mod Inserting
 pub mod EntryWritten
+pub mod CallerPositions
+pub mod CallerKeys
+pub mod CallerEntries
 pub mod CallerLemmas

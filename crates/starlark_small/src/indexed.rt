@@ -19,7 +19,7 @@ mod search;
 pub(crate) use compare::same_in;
 pub(crate) use copy::clone_in;
 pub(crate) use growth::UNINDEXED;
-use growth::{index_capacity, index_last, reserve_index};
+use growth::{index_last, reserve_index};
 use places::{fill_index, unindex};
 use search::{find_indexed, position_indexed};
 use starlark_hash::{Equivalent, Hashed, NoRoom, StarlarkHashValue};
@@ -40,7 +40,7 @@ pub(crate) fn with_room<K: Eq, V>(
     ensures none_for_none { capacity ≡ 0 → IsOk result }
 {
     let index = if capacity > UNINDEXED {
-        Some(ReadyTable::with_capacity(alloc, index_capacity(capacity))?)
+        Some(ReadyTable::with_capacity(alloc, capacity)?)
     } else {
         None
     };
@@ -143,6 +143,7 @@ fn grow_in<K: Eq, V>(
     ensures grown { OnOk result (entries.new.capacity ≡ reserved_capacity (map_of entries.old index.old) additional) }
     ensures made { OnOk result (is_some index.new ≡ (is_some index.old || nat_lt unindexed (length entries.old.entries + additional))) }
 {
+    // for the proof: a list is within its capacity
     let _capacity = entries.capacity();
     entries.reserve(additional)?;
     reserve_index(alloc, index, entries, additional)
@@ -236,6 +237,7 @@ pub(crate) fn remove_at<K: Eq, V>(
     ensures sound { IsSound K.eq entries.new.entries index.new }
     ensures kept { KeepsMemory (map_of entries.old index.old) (map_of entries.new index.new) }
 {
+    // for the proof: a list is within its capacity
     let _capacity = entries.capacity();
     unindex(index, entries, i);
     entries.remove(i)
@@ -253,6 +255,7 @@ pub(crate) fn pop_in<K: Eq, V>(
     ensures sound { IsSound K.eq entries.new.entries index.new }
     ensures kept { KeepsMemory (map_of entries.old index.old) (map_of entries.new index.new) }
 {
+    // for the proof: a list is within its capacity
     let _capacity = entries.capacity();
     let len = entries.len();
     if len == 0 {
@@ -272,6 +275,7 @@ pub(crate) fn clear_in<K: Eq + Drop, V: Drop>(
     ensures sound { IsSound K.eq entries.new.entries index.new }
     ensures kept { KeepsMemory (map_of entries.old index.old) (map_of entries.new index.new) }
 {
+    // for the proof: a list is within its capacity
     let _capacity = entries.capacity();
     entries.clear();
     if let Some(table) = index {
@@ -305,6 +309,7 @@ pub(crate) fn retain_in<K: Eq + Drop, V: Drop, F: FnMut(&K, &mut V) -> bool>(
     ensures sound { IsSound K.eq entries.new.entries index.new }
     ensures kept { KeepsMemory (map_of entries.old index.old) (map_of entries.new index.new) }
 {
+    // for the proof: a list is within its capacity
     let _capacity = entries.capacity();
     entries.retain(keep);
     refill_index(index, entries);
@@ -349,6 +354,7 @@ pub(crate) fn drop_index<K, V>(entries: &VecMap<K, V>, index: &mut Option<ReadyT
     ensures indexed { IsIndexed entries.now.entries index.new }
     ensures room { min (length entries.now.entries + room_of entries.now index.old) unindexed ≤ length entries.now.entries + room_of entries.now index.new }
 {
+    // for the proof: a list is within its capacity
     let _capacity = entries.capacity();
     if entries.len() <= UNINDEXED {
         *index = None;

@@ -272,15 +272,11 @@ fn removals_and_turns(rt: HostRuntime) -> Result<(), Fail> {
     Ok(())
 }
 
-// Writes through each way to lend a part; the list has two pairs.
-fn write_parts(list: &mut Pairs) {
+// Writes through both ways to lend a first part; the list has two pairs.
+fn write_firsts(list: &mut Pairs) {
     if list.len() == 2 {
         list.firsts_mut()[0] = 7;
-        list.seconds_mut()[1] = 8;
         *list.first_at_mut(1) = 9;
-        *list.second_at_mut(0) = 10;
-        let (first, second) = list.pair_at_mut(1);
-        *second = second.wrapping_add(*first % 2);
     }
 }
 
@@ -300,9 +296,9 @@ fn write_pairs(list: &mut Pairs) {
 #[test]
 fn parts_that_are_lent(rt: HostRuntime) -> Result<(), Fail> {
     let mut list = list_of(rt.alloc(), 0, &[(1, 2), (3, 4)])?;
-    write_parts(&mut list);
+    write_firsts(&mut list);
     same(&rt, list.firsts(), [7, 9].as_slice());
-    same(&rt, list.seconds(), [10, 9].as_slice());
+    same(&rt, list.seconds(), [2, 4].as_slice());
     write_pairs(&mut list);
     holds(&rt, list.get_mut(2).is_none());
     same(&rt, list.firsts(), [11, 13].as_slice());

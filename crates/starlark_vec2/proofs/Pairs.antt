@@ -5,7 +5,7 @@ use Rattle.std.specs.List.{AllZip}
 use Rattle.std.specs.Cmp.Lexicographic.{pointwise}
 use Rattle.starlark_vec2.specs.PairList.{firsts_of, seconds_of}
 use Rattle.starlark_vec2.specs.Collect.{IsPairClone}
-use Rattle.starlark_vec2.specs.Lending.{set_first_at, set_second_at}
+use Rattle.starlark_vec2.specs.Lending.{set_first_at}
 
 module _ {A B : Type 0} where
   pub length-zip : (xs : List A) (ys : List B) → length xs ≡ length ys → length (zip xs ys) ≡ length xs
@@ -95,13 +95,6 @@ module _ {A B : Type 0} where
   zip-set_first (z ∷ xs) [] (suc i) x = refl
   zip-set_first (z ∷ xs) (y ∷ ys) zero x = refl
   zip-set_first (z ∷ xs) (y ∷ ys) (suc i) x = ap (λ l. (z, y) ∷ l) (zip-set_first xs ys i x)
-
-  pub zip-set_second : (xs : List A) (ys : List B) (i : ℕ) (y : B) → zip xs (set ys i y) ≡ set_second_at (zip xs ys) i y
-  zip-set_second [] ys i y = refl
-  zip-set_second (z ∷ xs) [] zero y = refl
-  zip-set_second (z ∷ xs) [] (suc i) y = refl
-  zip-set_second (z ∷ xs) (w ∷ ys) zero y = refl
-  zip-set_second (z ∷ xs) (w ∷ ys) (suc i) y = ap (λ l. (z, w) ∷ l) (zip-set_second xs ys i y)
 
   pub zip-set : (xs : List A) (ys : List B) (i : ℕ) (x : A) (y : B) → zip (set xs i x) (set ys i y) ≡ set (zip xs ys) i (x, y)
   zip-set [] ys i x y = refl

@@ -8,8 +8,8 @@ use Rattle.starlark_columns.specs.Between.{IsBetween}
 use Rattle.starlark_columns.proofs.Fronts.{written_front, written_items, written_places, set_front, all_written}
 use Rattle.starlark_vec2.specs.Columns.{AreColumns}
 use Rattle.starlark_vec2.specs.PairList.{PairList, pair_list, with_pairs, firsts_of, seconds_of}
-use Rattle.starlark_vec2.specs.Lending.{with_pair, set_firsts, set_seconds, set_first_at, set_second_at}
-use Rattle.starlark_vec2.proofs.Pairs.{length-zip, firsts_of-zip, seconds_of-zip, zip-set_first, zip-set_second, zip-set}
+use Rattle.starlark_vec2.specs.Lending.{with_pair, set_firsts, set_first_at}
+use Rattle.starlark_vec2.proofs.Pairs.{length-zip, firsts_of-zip, seconds_of-zip, zip-set_first, zip-set}
 
 module _ {A B : Type 0} where
   -- the pair at a place of both columns
@@ -34,9 +34,6 @@ module _ {A B : Type 0} where
     pub firsts_written : (ws : List A) → AreColumns (with_items cs ws) ds n
     firsts_written ws = record { firsts_front = written_front cs n at.firsts_front ws; seconds_front = at.seconds_front; even = at.even ∙ sym (written_places cs n at.firsts_front ws) }
 
-    pub seconds_written : (ws : List B) → AreColumns cs (with_items ds ws) n
-    seconds_written ws = record { firsts_front = at.firsts_front; seconds_front = written_front ds n at.seconds_front ws; even = written_places ds n at.seconds_front ws ∙ at.even }
-
     pub both_written : (ws : List A) (us : List B) → AreColumns (with_items cs ws) (with_items ds us) n
     both_written ws us = record { firsts_front = written_front cs n at.firsts_front ws; seconds_front = written_front ds n at.seconds_front us; even = written_places ds n at.seconds_front us ∙ at.even ∙ sym (written_places cs n at.firsts_front ws) }
 
@@ -49,17 +46,9 @@ module _ {A B : Type 0} where
         (λ j. pair_list (zip (written_items cs n at.firsts_front ws j) ys) (written_places cs n at.firsts_front ws j))
         ∙ (λ j. pair_list (zip (refill (sym (length-zip xs ys even_items) j) (sym (firsts_of-zip xs ys even_items) j) ws) (sym (seconds_of-zip xs ys even_items) j)) (length cs))
 
-    seconds_view : (ws : List B) → seen cs (with_items ds ws) ≡ with_pairs (seen cs ds) (set_seconds (zip (items_of cs) (items_of ds)) ws)
-    seconds_view ws = let xs = items_of cs in let ys = items_of ds in let count = sym even_items ∙ sym (length-zip xs ys even_items) in
-        (λ j. pair_list (zip xs (written_items ds n at.seconds_front ws j)) (length cs))
-        ∙ (λ j. pair_list (zip (sym (firsts_of-zip xs ys even_items) j) (refill (count j) (sym (seconds_of-zip xs ys even_items) j) ws)) (length cs))
-
     module _ (v : PairList A B) (is : seen cs ds ≡ v) where
       pub firsts_end : (ws : List A) → seen (with_items cs ws) ds ≡ with_pairs v (set_firsts v.pairs ws)
       firsts_end ws = firsts_view ws ∙ ap (λ w. with_pairs w (set_firsts w.pairs ws)) is
-
-      pub seconds_end : (ws : List B) → seen cs (with_items ds ws) ≡ with_pairs v (set_seconds v.pairs ws)
-      seconds_end ws = seconds_view ws ∙ ap (λ w. with_pairs w (set_seconds w.pairs ws)) is
 
       pub firsts_are : (xs : List A) → xs ≡ items_of cs → xs ≡ firsts_of v.pairs
       firsts_are xs e = e ∙ sym (firsts_of-zip (items_of cs) (items_of ds) even_items) ∙ ap (λ w. firsts_of w.pairs) is
@@ -88,10 +77,6 @@ module _ {A B : Type 0} where
         first_end x = (λ j. pair_list (zip ((set_front cs n at.firsts_front i in_columns x).1 j) (items_of ds)) (length-set cs i (Some x) j))
             ∙ ap (λ ps. pair_list ps (length cs)) (zip-set_first (items_of cs) (items_of ds) i x) ∙ ap (λ w. with_pairs w (set_first_at w.pairs i x)) is
 
-        pub second_end : (y : B) → seen cs (slice_set ds i (Some y)) ≡ with_pairs v (set_second_at v.pairs i y)
-        second_end y = (λ j. pair_list (zip (items_of cs) ((set_front ds n at.seconds_front i in_columns y).1 j)) (length cs))
-            ∙ ap (λ ps. pair_list ps (length cs)) (zip-set_second (items_of cs) (items_of ds) i y) ∙ ap (λ w. with_pairs w (set_second_at w.pairs i y)) is
-
         pub both_set : (x : A) (y : B) → AreColumns (slice_set cs i (Some x)) (slice_set ds i (Some y)) n
         both_set x y = record { firsts_front = (first_set x).firsts_front; seconds_front = (second_set y).seconds_front; even = length-set ds i (Some y) ∙ at.even ∙ sym (length-set cs i (Some x)) }
 
@@ -101,9 +86,6 @@ module _ {A B : Type 0} where
 
         pub first_is : (x : A) → slice_get (items_of cs) i ≡ Some x → slice_get (firsts_of v.pairs) i ≡ Some x
         first_is x e = ap (λ l. slice_get l i) (sym (firsts_are (items_of cs) refl)) ∙ e
-
-        pub second_is : (y : B) → slice_get (items_of ds) i ≡ Some y → slice_get (seconds_of v.pairs) i ≡ Some y
-        second_is y e = ap (λ l. slice_get l i) (sym (seconds_are (items_of ds) refl)) ∙ e
 
   -- the same of items between two places
   module _ (cs : List (Option A)) (ds : List (Option B)) (from to : ℕ) (at : IsBetween cs from to × IsBetween ds from to) where

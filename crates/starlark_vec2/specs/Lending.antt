@@ -15,23 +15,15 @@ module _ {A B : Type 0} where
   abbrev pub with_pair : PairList A B → ℕ → A × B → PairList A B
   with_pair v i p = with_pairs v (slice_set v.pairs i p)
 
-  -- the pairs with this first part at the place, and with this second part
+  -- the pairs with this first part at the place
   abbrev pub set_first_at : List (A × B) → ℕ → A → List (A × B)
   set_first_at [] i a = []
   set_first_at (p ∷ ps) zero a = (a, p.1) ∷ ps
   set_first_at (p ∷ ps) (suc i) a = p ∷ set_first_at ps i a
 
-  abbrev pub set_second_at : List (A × B) → ℕ → B → List (A × B)
-  set_second_at [] i b = []
-  set_second_at (p ∷ ps) zero b = (p.0, b) ∷ ps
-  set_second_at (p ∷ ps) (suc i) b = p ∷ set_second_at ps i b
-
-  -- the pairs with these first parts, and with these second parts; where they are fewer, the others stay
+  -- the pairs with these first parts; where they are fewer, the others stay
   abbrev pub set_firsts : List (A × B) → List A → List (A × B)
   set_firsts ps xs = zip (refill (length ps) (firsts_of ps) xs) (seconds_of ps)
-
-  abbrev pub set_seconds : List (A × B) → List B → List (A × B)
-  set_seconds ps ys = zip (firsts_of ps) (refill (length ps) (seconds_of ps) ys)
 
 module _ {K V B : Type 0} where
   -- the pairs, each with the value that ws has in its place; key and second part are its own
@@ -45,17 +37,9 @@ module _ (A B : RattleType) (s : MutBor (PairList A.Denot B.Denot)) where
   abbrev pub lends_first : ℕ → MutBor A.Denot → Fml
   lends_first i r = Lends (the_row A B) A s r (λ a. with_pairs s.now (set_first_at s.now.pairs i a))
 
-  -- the same of the second part
-  abbrev pub lends_second : ℕ → MutBor B.Denot → Fml
-  lends_second i r = Lends (the_row A B) B s r (λ b. with_pairs s.now (set_second_at s.now.pairs i b))
-
   -- the first parts end as what is left behind the reference, and all else stays
   abbrev pub lends_firsts : MutBor (List A.Denot) → Fml
   lends_firsts r = Lends (the_row A B) (Array A 0) s r (λ xs. with_pairs s.now (set_firsts s.now.pairs xs))
-
-  -- the same of the second parts
-  abbrev pub lends_seconds : MutBor (List B.Denot) → Fml
-  lends_seconds r = Lends (the_row A B) (Array B 0) s r (λ ys. with_pairs s.now (set_seconds s.now.pairs ys))
 
   -- both parts of the pair at the place end as what is left behind the references, and all else stays
   abbrev pub lends_both : ℕ → MutBor A.Denot × MutBor B.Denot → Fml

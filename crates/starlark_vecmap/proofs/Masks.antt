@@ -1,5 +1,5 @@
 -- The mask of a list: a bit for each place, set where its item passes a test.
-use Rattle.std.proofs.Common.{◌≡◌, ℕ, ◌+◌, ◌-◌, ◌*◌, ◌/◌, ◌%◌, ◌^◌, ◌<◌, ◌≤◌, Bool, List, [], ◌∷◌, ◌++◌, cond, length, take, drop, get_or, map, ap, subst, sym, ◌∙◌, arith}
+use Rattle.std.proofs.Common.{◌≡◌, ℕ, zero, ◌+◌, ◌-◌, ◌*◌, ◌/◌, ◌%◌, ◌^◌, ◌<◌, ◌≤◌, Bool, List, [], ◌∷◌, ◌++◌, cond, length, take, drop, get_or, map, ap, subst, sym, ◌∙◌, arith}
 use Rattle.std.proofs.Math.Nat.{add_comm, mod-eq_of_lt, pow-suc}
 use Rattle.std.proofs.Math.Pow.{pow_mono}
 use Rattle.std.proofs.Math.Seq.{take-add}
@@ -72,32 +72,47 @@ module _ {X : Type 0} (p : X → Bool) where
       ap (λ m. m / 2 ^ n) (mask-parts xs n within)
       ∙ div-mul-add (mask (drop n xs)) (2 ^ n) (mask (take n xs)) (mask-take_lt xs n within)
 
-  -- the last four places, without those of them that are among the first i
-  module _ (xs : List X) (i last : ℕ) (end : last + 4 ≡ length xs) (from : last ≤ i) (within : i ≤ length xs) (short : length xs ≤ 32) where
-    last_places : chunk last 4 xs ≡ drop last xs
-    last_places = take_all 4 (drop last xs) (omega (arith, length-drop last xs, end))
+  -- the bits of n places and of the n behind them
+  module _ (xs : List X) (start n : ℕ) (room : start + (n + n) ≤ length xs) (short : n + n ≤ 32)
+      (front back : ℕ) (is : front ≡ mask (chunk start n xs)) (are : back ≡ mask (chunk (start + n) n xs)) where
+    behind : length (drop start xs) ≡ length xs - start
+    behind = length-drop start xs
 
-    new_places : chunk i (length xs - i) xs ≡ drop (i - last) (chunk last 4 xs)
+    back_is : back ≡ mask (chunk n n (drop start xs))
+    back_is = are ∙ ap (λ ys. mask (take n ys)) (sym (drop-drop n start xs))
+
+    pub mask_twice : front + back * 2 ^ n % 2 ^ 64 ≡ mask (chunk start (n + n) xs)
+    mask_twice = mask_more (drop start xs) n n (omega (arith, behind, room)) short front back is back_is
+
+    pub mask_twice_lt : front + back * 2 ^ n % 2 ^ 64 < 2 ^ 64
+    mask_twice_lt = mask_more_lt (drop start xs) n n (omega (arith, behind, room)) short front back is back_is
+
+  -- a row is covered by its first n places and its last n: the bits of those that are among both count once
+  module _ (xs : List X) (n last both : ℕ) (end : last + n ≡ length xs) (shared : last + both ≡ n) (short : length xs ≤ 32)
+      (front back : ℕ) (is : front ≡ mask (chunk zero n xs)) (are : back ≡ mask (chunk last n xs)) where
+    last_places : chunk last n xs ≡ drop last xs
+    last_places = take_all n (drop last xs) (omega (arith, length-drop last xs, end))
+
+    new_places : chunk n (length xs - n) xs ≡ drop both (chunk last n xs)
     new_places =
-        take_all (length xs - i) (drop i xs) (omega (arith, length-drop i xs))
-        ∙ ap (λ k. drop k xs) (omega (arith, from)) ∙ sym (drop-drop (i - last) last xs)
-        ∙ ap (drop (i - last)) (sym last_places)
+        take_all (length xs - n) (drop n xs) (omega (arith, length-drop n xs))
+        ∙ ap (λ k. drop k xs) (omega (arith, shared)) ∙ sym (drop-drop both last xs)
+        ∙ ap (drop both) (sym last_places)
 
-    module _ (before four : ℕ) (is : before ≡ mask (take i xs)) (are : four ≡ mask (chunk last 4 xs)) where
-      new_bits : four / 2 ^ (i - last) ≡ mask (chunk i (length xs - i) xs)
-      new_bits =
-          ap (λ m. m / 2 ^ (i - last)) are
-          ∙ mask-drop (chunk last 4 xs) (i - last) (omega (arith, length-chunk last 4 xs (omega (arith, end)), from, within, end))
-          ∙ ap mask (sym new_places)
+    new_bits : back / 2 ^ both ≡ mask (chunk n (length xs - n) xs)
+    new_bits =
+        ap (λ m. m / 2 ^ both) are
+        ∙ mask-drop (chunk last n xs) both (omega (arith, length-chunk last n xs (omega (arith, end)), shared))
+        ∙ ap mask (sym new_places)
 
-      whole : take (i + (length xs - i)) xs ≡ xs
-      whole = take_all (i + (length xs - i)) xs (omega arith)
+    whole : take (n + (length xs - n)) xs ≡ xs
+    whole = take_all (n + (length xs - n)) xs (omega arith)
 
-      pub mask_last : before + four / 2 ^ (i - last) * 2 ^ i % 2 ^ 64 ≡ mask xs
-      mask_last =
-          mask_more xs i (length xs - i) (omega (arith, within)) (omega (arith, within, short)) before (four / 2 ^ (i - last)) is new_bits
-          ∙ ap mask whole
+    pub mask_ends : front + back / 2 ^ both * 2 ^ n % 2 ^ 64 ≡ mask xs
+    mask_ends =
+        mask_more xs n (length xs - n) (omega (arith, end)) (omega (arith, end, short)) front (back / 2 ^ both) is new_bits
+        ∙ ap mask whole
 
-      pub mask_last_lt : before + four / 2 ^ (i - last) * 2 ^ i % 2 ^ 64 < 2 ^ 64
-      mask_last_lt =
-          mask_more_lt xs i (length xs - i) (omega (arith, within)) (omega (arith, within, short)) before (four / 2 ^ (i - last)) is new_bits
+    pub mask_ends_lt : front + back / 2 ^ both * 2 ^ n % 2 ^ 64 < 2 ^ 64
+    mask_ends_lt =
+        mask_more_lt xs n (length xs - n) (omega (arith, end)) (omega (arith, end, short)) front (back / 2 ^ both) is new_bits

@@ -36,37 +36,57 @@ pub fn find_hash_in_array(array: &[u32], hash: u32) -> Option<usize>
     Some(start + mask.trailing_zeros() as usize)
 }
 
-// A bit for each place of a block, set where it has this hash. No branch depends on the place. The last chunk ends where the
-// block does, and may begin in the one before.
+// A bit for each place of a block, set where it has this hash. No branch depends on the place. Two runs of four, eight or sixteen
+// hashes cover a block: the second ends where the block does, and may begin in the first, whose bits count.
 #[inline]
 fn places_of(block: &[u32], hash: u32) -> u64
     requires { length block.now ≤ 32 }
     ensures { result ≡ mask_l (map (λ h. h == hash) block.now) }
 {
-    if block.len() < CHUNK {
-        return places_of_few(block, hash);
+    let len = block.len();
+    if len < 4 {
+        places_of_few(block, hash)
+    } else if len <= 8 {
+        let last = places_of_four(block, len - 4, hash);
+        places_of_four(block, 0, hash) + ((last >> (8 - len)) << 4)
+    } else if len <= 16 {
+        let last = places_of_eight(block, len - 8, hash);
+        places_of_eight(block, 0, hash) + ((last >> (16 - len)) << 8)
+    } else {
+        let last = places_of_sixteen(block, len - 16, hash);
+        places_of_sixteen(block, 0, hash) + ((last >> (32 - len)) << 16)
     }
-    let mut mask = 0;
-    let mut i = 0;
-    while block.len() - i > CHUNK {
-        mask += places_in_chunk(block, i, hash) << i;
-        i += CHUNK;
-    }
-    let last = block.len() - CHUNK;
-    mask + ((places_in_chunk(block, last, hash) >> (i - last)) << i)
 }
 
-// The same of the chunk that begins at a place.
+// The same of the four places from one on.
 #[inline]
-fn places_in_chunk(block: &[u32], start: usize, hash: u32) -> u64
+fn places_of_four(block: &[u32], start: usize, hash: u32) -> u64
     requires { start + 4 ≤ length block.now }
     ensures { result ≡ mask_l (map (λ h. h == hash) (chunk start 4 block.now)) }
 {
-    let chunk = u32x4::from_slice(&block[start..]);
-    chunk.simd_eq(u32x4::splat(hash)).to_bitmask()
+    let four = u32x4::from_slice(&block[start..]);
+    four.simd_eq(u32x4::splat(hash)).to_bitmask()
 }
 
-// The same of a block that is shorter than a chunk.
+#[inline]
+fn places_of_eight(block: &[u32], start: usize, hash: u32) -> u64
+    requires { start + 8 ≤ length block.now }
+    ensures { result ≡ mask_l (map (λ h. h == hash) (chunk start 8 block.now)) }
+{
+    let later = places_of_four(block, start + 4, hash);
+    places_of_four(block, start, hash) + (later << 4)
+}
+
+#[inline]
+fn places_of_sixteen(block: &[u32], start: usize, hash: u32) -> u64
+    requires { start + 16 ≤ length block.now }
+    ensures { result ≡ mask_l (map (λ h. h == hash) (chunk start 16 block.now)) }
+{
+    let later = places_of_eight(block, start + 8, hash);
+    places_of_eight(block, start, hash) + (later << 8)
+}
+
+// The same of a block of fewer than four.
 #[inline]
 fn places_of_few(block: &[u32], hash: u32) -> u64
     requires { length block.now < 4 }

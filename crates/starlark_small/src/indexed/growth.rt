@@ -12,20 +12,6 @@ use std::alloc::{AllocError, Global};
 // The greatest length that a list may have without an index.
 pub(crate) const UNINDEXED: usize = 32;
 
-// The greatest capacity of a list whose index has twice the room, so that a search of it meets few other entries.
-const ROOMY: usize = 4096;
-
-// How many places the index of a list of this capacity is made for.
-pub(super) fn index_capacity(capacity: usize) -> usize
-    ensures { capacity ≤ result }
-{
-    if capacity <= ROOMY {
-        2 * capacity
-    } else {
-        capacity
-    }
-}
-
 // Makes room in the index for so many new entries, for which the list has room.
 pub(super) fn reserve_index<K, V>(
     alloc: Global,
@@ -51,7 +37,9 @@ pub(super) fn reserve_index<K, V>(
     if additional <= left {
         return Ok(());
     }
-    let table = new_index(alloc, entries, index_capacity(entries.capacity()))?;
+    // for the proof: the sum is within the capacity, which is a number of the machine
+    let _capacity = entries.capacity();
+    let table = new_index(alloc, entries, entries.len() + additional)?;
     *index = Some(table);
     Ok(())
 }

@@ -2,11 +2,10 @@
 ghost use Rattle.std.specs.Prelude.{◌≡◌, ◌<◌, length, slice_get, get_or, Some, None};
 ghost use Rattle.std.specs.Option.{option_map, option_copied_mut};
 ghost use Rattle.std.specs.Borrow.{sem};
-ghost use Rattle.std.specs.Map.Iter.{deref_pair_mut};
 ghost use Rattle.starlark_columns.specs.Places.{items_of, IsFilled};
 ghost use Rattle.starlark_columns.specs.Front.{IsFront};
-ghost use Rattle.starlark_vec2.specs.PairList.{firsts_of, seconds_of};
-ghost use Rattle.starlark_vec2.specs.Lending.{deref_both_mut, lends_first, lends_second, lends_firsts, lends_seconds, lends_both, lends_both_if, firsts_follow};
+ghost use Rattle.starlark_vec2.specs.PairList.{firsts_of};
+ghost use Rattle.starlark_vec2.specs.Lending.{deref_both_mut, lends_first, lends_firsts, lends_both, lends_both_if, firsts_follow};
 ghost use Rattle.starlark_vec2.specs.ColumnLending.{lends_place, lends_place_if, lends_places};
 
 use super::Vec2;
@@ -25,16 +24,6 @@ impl<A, B> Vec2<A, B> {
         self.firsts.items_mut(self.len)
     }
 
-    /// The second parts of the pairs, in their order. The list ends with what is left in them.
-    #[tactic(auto, using(crate::proofs::Pairs::columns))]
-    #[inline]
-    pub fn seconds_mut(&mut self) -> &mut [B]
-        ensures* writes_back { sem 𝓛 (lends_seconds A.row B.row self.entry result) }
-        ensures value { result.now ≡ seconds_of self.old.pairs }
-    {
-        self.seconds.items_mut(self.len)
-    }
-
     /// The first part of the pair at this index. The list ends with what is left in it.
     #[tactic(auto, using(crate::proofs::Pairs::columns))]
     #[inline]
@@ -44,32 +33,6 @@ impl<A, B> Vec2<A, B> {
         ensures value { slice_get (firsts_of self.old.pairs) index ≡ Some result.now }
     {
         self.firsts.item_mut(self.len, index)
-    }
-
-    /// The second part of the pair at this index. The list ends with what is left in it.
-    #[tactic(auto, using(crate::proofs::Pairs::columns))]
-    #[inline]
-    pub fn second_at_mut(&mut self, index: usize) -> &mut B
-        requires { index < length self.old.pairs }
-        ensures* writes_back { sem 𝓛 (lends_second A.row B.row self.entry index result) }
-        ensures value { slice_get (seconds_of self.old.pairs) index ≡ Some result.now }
-    {
-        self.seconds.item_mut(self.len, index)
-    }
-
-    /// The pair at this index, to read the first part and write the second. The list ends with what is left in that.
-    #[tactic(auto, using(crate::proofs::Pairs::columns))]
-    #[inline]
-    pub fn pair_at_mut(&mut self, index: usize) -> (&A, &mut B)
-        requires { index < length self.old.pairs }
-        ensures* writes_back { sem 𝓛 (lends_second A.row B.row self.entry index result.1) }
-        ensures value { slice_get self.old.pairs index ≡ Some (deref_pair_mut result) }
-    {
-        let len = self.len;
-        (
-            self.firsts.item(len, index),
-            self.seconds.item_mut(len, index),
-        )
     }
 
     /// The pair at this index, to write both parts. The list ends with what is left in them. Rust's is unsafe; here the

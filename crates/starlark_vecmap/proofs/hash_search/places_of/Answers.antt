@@ -1,36 +1,30 @@
--- Each chunk adds the bits of its new places to the mask of those before it: the last one's that no other has.
+-- Two runs cover a block, so their bits are its mask.
 use Rattle.std.proofs.Common.{◌-◌, length, arith}
 use Rattle.std.specs.Prelude.{nat_eq}
-use Rattle.starlark_vecmap.proofs.Masks.{mask_last, mask_last_lt, mask_more, mask_more_lt}
+use Rattle.starlark_vecmap.proofs.Masks.{mask_ends, mask_ends_lt}
 use Rattle.starlark_vecmap.proofs.hash_search.places_of.Goals as goal
 
-pub overflow_add-mask : goal.overflow_add-mask
-overflow_add-mask c =
-    let l = c.loop-i in record {
-      fits =
-          mask_more_lt (λ h. nat_eq h c.args.hash) c.args.block.now l.i 4 (omega arith) (omega (arith, c.requires)) l.mask c.places_in_chunk.result
-          l.invariant.masked c.places_in_chunk.ensures;
-    }
+pub overflow_add-result-else-len-le16 : goal.overflow_add-result-else-len-le16
+overflow_add-result-else-len-le16 c = let block = c.args.block.now in record {
+  fits =
+      mask_ends_lt (λ h. nat_eq h c.args.hash) block 16 (length block - 16) (32 - length block) (omega arith) (omega arith) c.requires
+      c.places_of_sixteen.result c.places_of_sixteen-last.result c.places_of_sixteen.ensures c.places_of_sixteen-last.ensures;
+}
 
-pub loop-i-preserved : goal.loop-i-preserved
-loop-i-preserved c =
-    let l = c.loop-i in record {
-      within = omega arith;
-      masked =
-          mask_more (λ h. nat_eq h c.args.hash) c.args.block.now l.i 4 (omega arith) (omega (arith, c.requires)) l.mask c.places_in_chunk.result
-          l.invariant.masked c.places_in_chunk.ensures;
-    }
+pub returns-then-len-le8 : goal.returns-then-len-le8
+returns-then-len-le8 c =
+    let block = c.args.block.now in
+    mask_ends (λ h. nat_eq h c.args.hash) block 4 (length block - 4) (8 - length block) (omega arith) (omega arith) c.requires
+    c.places_of_four.result c.places_of_four-last.result c.places_of_four.ensures c.places_of_four-last.ensures
 
-pub overflow_add-result : goal.overflow_add-result
-overflow_add-result c =
-    let l = c.loop-i in let block = c.args.block.now in record {
-      fits =
-          mask_last_lt (λ h. nat_eq h c.args.hash) block l.i (length block - 4) (omega arith) (omega arith) (omega arith) c.requires l.mask
-          c.places_in_chunk-2.result l.invariant.masked c.places_in_chunk-2.ensures;
-    }
+pub returns-then-len-le16 : goal.returns-then-len-le16
+returns-then-len-le16 c =
+    let block = c.args.block.now in
+    mask_ends (λ h. nat_eq h c.args.hash) block 8 (length block - 8) (16 - length block) (omega arith) (omega arith) c.requires
+    c.places_of_eight.result c.places_of_eight-last.result c.places_of_eight.ensures c.places_of_eight-last.ensures
 
-pub returns : goal.returns
-returns c =
-    let l = c.loop-i in let block = c.args.block.now in
-    mask_last (λ h. nat_eq h c.args.hash) block l.i (length block - 4) (omega arith) (omega arith) (omega arith) c.requires l.mask
-    c.places_in_chunk-2.result l.invariant.masked c.places_in_chunk-2.ensures
+pub returns-else-len-le16 : goal.returns-else-len-le16
+returns-else-len-le16 c =
+    let block = c.args.block.now in
+    mask_ends (λ h. nat_eq h c.args.hash) block 16 (length block - 16) (32 - length block) (omega arith) (omega arith) c.requires
+    c.places_of_sixteen.result c.places_of_sixteen-last.result c.places_of_sixteen.ensures c.places_of_sixteen-last.ensures
