@@ -1,3 +1,4 @@
 mod Images
+mod InOrder
 mod Reading
 mod Writing

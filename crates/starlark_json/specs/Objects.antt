@@ -5,7 +5,6 @@ use Rattle.std.specs.Str.{bytes_eq}
 use Rattle.serde_json.specs.Data.{Data, object, number, Members, no_members, member, put}
 use Rattle.serde_json.specs.Find.{as_i64, as_number, as_object, of_integer}
 use Rattle.starlark_hash.specs.Entries.{Entry}
-use Rattle.starlark_small.specs.Collect.{insert_all}
 use Rattle.starlark_json.specs.Texts.{Text, own_text}
 use Rattle.starlark_json.specs.declared.fault.JsonFault.{JsonFault}
 use Rattle.starlark_json.specs.declared.fault.JsonFault.TheVariants.{NotObject, NotInteger, Memory}
@@ -37,9 +36,9 @@ abbrev pub entries_of : Members → Option Entries
 entries_of no_members = Some []
 entries_of (member key d ms) = option_and_then (λ n. option_map (λ es. (own_text key, n) ∷ es) (entries_of ms)) (integer_of d)
 
--- the entries of the map that a value is: those of its members, inserted one after the other
+-- the entries of the map that a value is: those of its members, in order
 abbrev pub map_entries : Data → Option Entries
-map_entries d = option_map (insert_all bytes_eq []) (option_and_then entries_of (as_object d))
+map_entries d = option_and_then entries_of (as_object d)
 
 -- how reading these members may fail: the first value that is no integer is at fault, and memory may be refused at one
 -- before it

@@ -1,7 +1,10 @@
 -- What small maps and sets of strings hold, their strings as texts.
-use Rattle.std.specs.Prelude.{ℕ, ℤ, List, map, string_bytes}
+use Rattle.std.specs.Prelude.{ℕ, List, map, string_bytes}
+use Rattle.std.specs.Cmp.Lexicographic.{slice_cmp}
 use Rattle.std.specs.Hash as fed
+use Rattle.std.specs.Ordering.{nat_cmp}
 use Rattle.std.specs.declared.alloc.Global.{Global}
+use Rattle.std.specs.declared.cmp.Ordering.{Ordering}
 use Rattle.std.specs.declared.string.String.{String}
 use Rattle.starlark_hash.specs.declared.hashed.Hashed.{Hashed}
 use Rattle.starlark_hash.specs.Entries.{Entry, entry_hash, entry_key, entry_value}
@@ -11,6 +14,10 @@ use Rattle.starlark_small.specs.Map.{own_hashed}
 -- a text, as its bytes
 abbrev pub Text : Type 0
 Text = List ℕ
+
+-- the order of texts: byte by byte
+abbrev pub text_cmp : Text → Text → Ordering
+text_cmp = slice_cmp nat_cmp
 
 -- a text under its own hash, which is that of the string with these bytes
 abbrev pub own_text : Text → Hashed Text

@@ -4,10 +4,11 @@ ghost use Rattle.serde_json.specs.Data.{number, put as with_member};
 ghost use Rattle.serde_json.specs.Find.{get, of_integer};
 ghost use Rattle.serde_json.specs.View.{view, members_view};
 ghost use Rattle.starlark_hash.specs.Entries.{insert_entry};
+ghost use Rattle.std.specs.List.Sorted.{IsStrictlySortedBy};
 ghost use Rattle.std.specs.Option.{option_map};
 ghost use Rattle.std.specs.Str.{bytes_eq};
 ghost use Rattle.starlark_json.specs.Objects.{object_of, last_value, integer_of, map_entries, IsMapFault};
-ghost use Rattle.starlark_json.specs.Texts.{own_text, pairs_of, text_entries};
+ghost use Rattle.starlark_json.specs.Texts.{own_text, pairs_of, text_cmp, text_entries, texts_of};
 
 use crate::fault::JsonFault;
 use serde_json::{Map, Value};
@@ -42,6 +43,7 @@ fn put_member(members: &mut Map<String, Value>, key: &String, value: i64) -> Res
 /// were found to be integers. On a fault nothing is made.
 pub fn map_from_value(alloc: Global, value: &Value) -> Result<SmallMap<String, i64>, JsonFault>
     ensures entries { IfOk result (λ map. map_entries (view value.now) ≡ Some (text_entries map.entries)) }
+    ensures ascends { IfOk result (λ map. IsStrictlySortedBy text_cmp (texts_of map.entries)) }
     ensures fault { IfErr result (IsMapFault (view value.now)) }
 {
     let Some(members) = value.as_object() else {

@@ -91,6 +91,10 @@ module _ {K V : Type 0} (cmp : K → K → Ordering) where
   pub sorted_ascends : IsTotalOrder cmp → (es fs : List (Entry K V)) → fs ≡ sorted_by_key cmp es → Ascends cmp fs
   sorted_ascends total es fs same = subst (Ascends cmp) (sym same) (sorted_by-sorted (key_lt cmp) (key_lt-order total) es)
 
+  -- and what has no entries
+  pub Ascends-empty : (es : List (Entry K V)) → es ≡ [] → Ascends cmp es
+  Ascends-empty es none = subst (Ascends cmp) (sym none) (λ k d low high. absurd (omega arith))
+
   -- keys that ascend do so when a value is written
   pub Ascends-set_value_at : (es : List (Entry K V)) (i : ℕ) (value : V) → Ascends cmp es → Ascends cmp (set_value_at es i value)
   Ascends-set_value_at es i value up k d low high =

@@ -5,7 +5,7 @@ ghost use Rattle.std.specs.Iterator.Runs.{EveryRun, ItemsAre};
 ghost use Rattle.std.specs.Iterator.{IsFiniteIterable};
 ghost use Rattle.std.specs.List.{AllZip};
 ghost use Rattle.std.specs.List.Sorted.{IsPermutation, IsSorted, IsStable};
-ghost use Rattle.std.specs.Prelude.{◌≡◌, ◌^◌, ◌<◌, [], length, IfOk, IfErr};
+ghost use Rattle.std.specs.Prelude.{◌≡◌, ◌^◌, ◌<◌, ◌≤◌, [], length, IsOk, IfOk, IfErr};
 ghost use Rattle.std.specs.Slice.Iter.{iter_rest};
 ghost use Rattle.std.specs.Vec.Iter.{into_iter_items, into_iter_len, into_iter_steps};
 ghost use Rattle.std.specs.declared.alloc.Global.{Global};
@@ -57,12 +57,13 @@ impl<T: Ord> SortedVec<T> {
     }
 
     /// Every item of the vector, sorted; equal ones keep their order. Where memory is refused, the vector
-    /// is handed back as it was.
+    /// is handed back as it was. Up to 20 items need none.
     pub fn from_vec(vec: Vec<T>) -> Result<Self, Vec<T>>
         ensures every_item { IfOk result (λ sorted. IsPermutation vec.items sorted) }
         ensures ascends { IfOk result (λ sorted. IsSorted T.cmp sorted) }
         ensures stable { IfOk result (λ sorted. IsStable T.cmp vec.items sorted) }
         ensures handed_back { IfErr result (λ source. source.items ≡ vec.items) }
+        ensures succeeds { length vec.items ≤ 20 → IsOk result }
     {
         let mut vec = vec;
         match vec.sort() {
@@ -92,13 +93,17 @@ impl<T: Ord> SortedVec<T> {
 
 impl<T: Ord + Clone> SortedVec<T> {
     /// A vector of clones of the items, in their order. Where memory is refused, also to the clone of an item, nothing is
-    /// made.
+    /// made. Without items no memory is needed.
     pub fn clone(&self) -> Result<Self, AllocError>
         // A clone of an item is equal to it.
         requires { IsEqualClone T.eq T.is_clone }
         ensures items { IfOk result (AllZip T.is_clone self.now) }
         ensures same { IfOk result (λ sorted. IsLawfulClone T.is_clone → sorted ≡ self.now) }
+        ensures succeeds { length self.now ≡ 0 → IsOk result }
     {
+        if self.vec.is_empty() {
+            return Ok(SortedVec::new(self.allocator()));
+        }
         Ok(SortedVec {
             vec: self.vec.clone()?,
         })

@@ -9,6 +9,7 @@ ghost use Rattle.starlark_small.specs.Index.{unindexed};
 ghost use Rattle.starlark_small.specs.Map.{KeepsMemory};
 ghost use Rattle.starlark_vec2.specs.Collect.{IsLawfulClone};
 ghost use Rattle.starlark_vecmap.specs.Clone.{IsEntryClone};
+ghost use Rattle.starlark_sorted.specs.Collect.{GivesNothing};
 ghost use Rattle.starlark_sorted.specs.Sorted.{AreOwn, CollectsSorted, IsSortedOf};
 
 use super::SortedMap;
@@ -53,7 +54,7 @@ impl<K: Ord + Hash, V> SortedMap<K, V> {
 
 impl<K: Ord + Hash + Drop, V: Drop> SortedMap<K, V> {
     /// The items, inserted into an empty map in their order, each under its key's own hash, and then sorted by key. Where
-    /// memory is refused, nothing is made and the items are dropped.
+    /// memory is refused, nothing is made and the items are dropped; without items no memory is needed.
     pub fn from_iter<I: IntoIterator<Item = (K, V)>>(
         alloc: Global,
         iter: I,
@@ -61,6 +62,7 @@ impl<K: Ord + Hash + Drop, V: Drop> SortedMap<K, V> {
         requires { IsFiniteIterable I.into_iter_gives I.IntoIter.can_next I.IntoIter.remaining iter }
         ensures map { IfOk result (CollectsSorted K.eq K.cmp (own_entry K.hash_input) I.IntoIter.next_gives I.into_iter_gives I.IntoIter.remaining iter) }
         ensures own { IfOk result (λ map. AreOwn K.hash_input map.entries) }
+        ensures succeeds { GivesNothing I.into_iter_gives I.IntoIter.next_gives I.IntoIter.remaining iter → IsOk result }
     {
         let map = OrderedMap::from_iter(alloc, iter)?;
         match SortedMap::from_ordered_map(map) {

@@ -10,6 +10,7 @@ ghost use Rattle.starlark_small.specs.Map.{KeepsMemory};
 ghost use Rattle.starlark_vec2.specs.Collect.{IsLawfulClone};
 ghost use Rattle.starlark_sets.specs.Collect.{own_element};
 ghost use Rattle.starlark_sets.specs.Unit.{IsElementClone};
+ghost use Rattle.starlark_sorted.specs.Collect.{GivesNothing};
 ghost use Rattle.starlark_sorted.specs.Sorted.{AreOwn, AscendsStrictly, CollectsSorted, IsSortedOf};
 
 use super::SortedSet;
@@ -73,11 +74,12 @@ impl<T: Ord + Hash + Drop> SortedSet<T> {
     }
 
     /// The items, inserted into an empty set in their order, each under its own hash, and then sorted. Where memory is
-    /// refused, nothing is made and the items are dropped.
+    /// refused, nothing is made and the items are dropped; without items no memory is needed.
     pub fn from_iter<I: IntoIterator<Item = T>>(alloc: Global, iter: I) -> Result<Self, AllocError>
         requires { IsFiniteIterable I.into_iter_gives I.IntoIter.can_next I.IntoIter.remaining iter }
         ensures set { IfOk result (CollectsSorted T.eq T.cmp (own_element T.hash_input) I.IntoIter.next_gives I.into_iter_gives I.IntoIter.remaining iter) }
         ensures own { IfOk result (λ set. AreOwn T.hash_input set.entries) }
+        ensures succeeds { GivesNothing I.into_iter_gives I.IntoIter.next_gives I.IntoIter.remaining iter → IsOk result }
     {
         let set = OrderedSet::from_iter(alloc, iter)?;
         match SortedSet::from_ordered_set(set) {

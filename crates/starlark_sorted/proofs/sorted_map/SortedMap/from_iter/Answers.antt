@@ -1,5 +1,6 @@
-use Rattle.std.proofs.Common.{refl}
-use Rattle.starlark_small.specs.Collect.{own_entry}
+use Rattle.std.proofs.Common.{[], map, refl, ap, ◌∙◌}
+use Rattle.starlark_small.specs.Collect.{insert_all, own_entry}
+use Rattle.starlark_sorted.proofs.Ascending.{Ascends-empty}
 use Rattle.starlark_sorted.proofs.OwnHashes.{sorted-own}
 use Rattle.starlark_sorted.proofs.sorted_map.SortedMap.from_iter.Goals as goal
 
@@ -7,3 +8,9 @@ pub returns-in-Ok-clause-own : goal.returns-in-Ok-clause-own
 returns-in-Ok-clause-own g c =
     let made = c.in_ok-map.ensures.map in
     sorted-own g.K.PartialEq.eq g.K.Hash.hash_input (own_entry g.K.Hash.hash_input) (λ p. refl) g.K.Ord.cmp made.2 c.in_ok-map.map.entries c.in-Ok.sorted.entries made.6 c.in-Ok.ensures.sorted.0
+
+pub returns-clause-succeeds : goal.returns-clause-succeeds
+returns-clause-succeeds g c = λ nothing.
+    let made = c.in_ok-map.ensures.map in
+    let none = ap (λ items. insert_all g.K.PartialEq.eq [] (map (own_entry g.K.Hash.hash_input) items)) ((nothing made.0 made.3).1 made.2 made.5) in
+    c.in-Err.ensures.succeeds (Ascends-empty g.K.Ord.cmp c.in_ok-map.map.entries (made.6 ∙ none))

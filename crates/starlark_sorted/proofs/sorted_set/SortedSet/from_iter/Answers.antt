@@ -1,5 +1,7 @@
-use Rattle.std.proofs.Common.{refl}
+use Rattle.std.proofs.Common.{[], map, refl, ap, ◌∙◌}
+use Rattle.starlark_small.specs.Collect.{insert_all}
 use Rattle.starlark_sets.specs.Collect.{own_element}
+use Rattle.starlark_sorted.proofs.Ascending.{Ascends-empty}
 use Rattle.starlark_sorted.proofs.OwnHashes.{sorted-own}
 use Rattle.starlark_sorted.proofs.sorted_set.SortedSet.from_iter.Goals as goal
 
@@ -7,3 +9,9 @@ pub returns-in-Ok-clause-own : goal.returns-in-Ok-clause-own
 returns-in-Ok-clause-own g c =
     let made = c.in_ok-set.ensures.set in
     sorted-own g.T.PartialEq.eq g.T.Hash.hash_input (own_element g.T.Hash.hash_input) (λ x. refl) g.T.Ord.cmp made.2 c.in_ok-set.set.entries c.in-Ok.sorted.entries made.6 c.in-Ok.ensures.sorted.0
+
+pub returns-clause-succeeds : goal.returns-clause-succeeds
+returns-clause-succeeds g c = λ nothing.
+    let made = c.in_ok-set.ensures.set in
+    let none = ap (λ items. insert_all g.T.PartialEq.eq [] (map (own_element g.T.Hash.hash_input) items)) ((nothing made.0 made.3).1 made.2 made.5) in
+    c.in-Err.ensures.succeeds (Ascends-empty g.T.Ord.cmp c.in_ok-set.set.entries (made.6 ∙ none))
