@@ -5,7 +5,7 @@ CRATE ?=
 # the lines of a benchmark run of Rust's, to be set beside ours; none: ours alone
 RUST ?=
 
-.PHONY: run try bench chart test wrong refused hostile attack
+.PHONY: run try demo bench chart test wrong refused hostile attack
 
 # builds the proved program, and plays the script
 run:
@@ -14,6 +14,10 @@ run:
 # plays the script with no proof, in about a minute
 try:
 	@cd crates/starlark_script && rt try < "$(abspath $(SCRIPT))"
+
+# plays a few lines on the scopes of an interpreter, with no proof, in about a minute
+demo:
+	@cd crates/starlark_demo && rt try
 
 # builds the proved benchmarks, and prints name, length, nanoseconds an operation and checksum of each; with RUST=FILE
 # also the ratios, and draws them

@@ -1,5 +1,5 @@
 -- Lookups in a list of pairs, wherever the pairs stand.
-use Rattle.std.proofs.Common.{◌≡◌, ℕ, zero, suc, ◌+◌, ◌≤◌, ◌<◌, Bool, true, false, cond, List, [], ◌∷◌, Option, Some, None, is_some, refl, sym, ap, ◌∙◌, arith, count_by, nat_eq}
+use Rattle.std.proofs.Common.{◌≡◌, ℕ, zero, suc, ◌≤◌, Bool, true, false, cond, List, [], ◌∷◌, Option, Some, None, is_some, refl, sym, ap, ◌∙◌, arith, count_by}
 use Rattle.std.specs.Cmp.{IsEquivalence, nat_eq_equiv, on_equiv}
 use Rattle.std.specs.List.{Contains}
 use Rattle.std.specs.Map.{lookup, set_value}
@@ -13,7 +13,7 @@ use Rattle.starlark_sets.specs.Set.{Set}
 use Rattle.starlark_sets.specs.Unit.{unit_equiv}
 use Rattle.starlark_unordered.specs.Pairs.{pairs_of, with_pair, HasDistinctKeys}
 use Rattle.starlark_unordered.proofs.Lists.{count-cons, one_if}
-use Rattle.starlark_uses.specs.Cache.{Answers, Caches, cached, set_eq}
+use Rattle.starlark_uses.specs.Cache.{Answers, Caches, set_eq}
 
 module _ {K V : Type 0} (t : K → Bool) where
   -- a value that is found stands beside a key that passes

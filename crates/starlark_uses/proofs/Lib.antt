@@ -2,3 +2,6 @@ pub mod Counted
 pub mod FirstValues
 pub mod Bound
 pub mod CacheLemmas
+pub mod Interning
+pub mod Depending
+pub mod Ordered

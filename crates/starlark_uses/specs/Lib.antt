@@ -1,3 +1,5 @@
 pub mod Counts
 pub mod Bindings
 pub mod Cache
+pub mod Interned
+pub mod Graph

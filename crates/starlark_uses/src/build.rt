@@ -1,11 +1,13 @@
-//! A build graph: targets in the order of their first declarations, each with what it is built from. No proof file: the
-//! proofs close by the one name `callers`.
+//! A build graph: targets in the order of their first declarations, each with what it is built from.
 #![tactic(auto, using(starlark_small::proofs::CallerLemmas::callers))]
 
 ghost use Rattle.std.specs.Hash as fed;
-ghost use Rattle.std.specs.Option.{is_some};
-ghost use Rattle.std.specs.Prelude.{◌≡◌, ◌++◌, [], ◌∷◌, nat_eq, true, IsSome, IfOk, OnOk, OnErr, if◌then◌else◌};
+ghost use Rattle.std.specs.List.{enumerate_from, list_all};
+ghost use Rattle.std.specs.Option.{is_some, option_map};
+ghost use Rattle.std.specs.Prelude.{◌≡◌, ◌↔◌, ℕ, ◌++◌, [], ◌∷◌, map, nat_eq, true, IsSome, IsTrue, IfOk, OnOk, OnErr, if◌then◌else◌};
+ghost use Rattle.starlark_hash.specs.Entries.{entry_value};
 ghost use Rattle.starlark_small.specs.Calling.{get, keys};
+ghost use Rattle.starlark_uses.specs.Graph.{IsOrdered, built_from, is_before};
 
 use starlark_hash::NoRoom;
 use starlark_small::SmallMap;
@@ -31,10 +33,15 @@ pub fn declare(
     Ok(())
 }
 
-/// Adds to what a declared target depends on, and answers whether it was declared. All targets keep their places.
+/// Adds to what a declared target depends on, last, and answers whether it was declared. All targets keep their places,
+/// and what the others depend on. Only a declared one is refused, for want of memory, and then nothing changes.
 pub fn depend(targets: &mut Targets, target: u32, on: u32) -> Result<bool, AllocError>
     ensures declared { IfOk result (λ declared. declared ≡ is_some (get nat_eq fed.u32 targets.old target)) }
     ensures order { keys targets.new ≡ keys targets.old }
+    ensures added { OnOk result (built_from targets.new target ≡ option_map (λ parts. parts ++ on ∷ []) (built_from targets.old target)) }
+    ensures others { (other : ℕ) → (other ≡ target → ⊥) → built_from targets.new other ≡ built_from targets.old other }
+    ensures refused { OnErr result (IsSome (built_from targets.old target)) }
+    ensures unchanged { OnErr result ((other : ℕ) → built_from targets.new other ≡ built_from targets.old other) }
 {
     match targets.get_mut(&target) {
         Some(dependencies) => {
@@ -42,5 +49,42 @@ pub fn depend(targets: &mut Targets, target: u32, on: u32) -> Result<bool, Alloc
             Ok(true)
         }
         None => Ok(false),
+    }
+}
+
+/// Whether each target was declared after all that it depends on, so that they can be built one after another.
+pub fn is_ordered(targets: &Targets) -> bool
+    ensures { IsTrue result ↔ IsOrdered targets.now }
+{
+    come_after_parts(targets)
+}
+
+// Whether the walk finds each target after all that it depends on.
+fn come_after_parts(targets: &Targets) -> bool
+    ensures { result ≡ list_all (λ p. list_all (is_before targets.now p.0) p.1.items) (enumerate_from 0 (map entry_value targets.now.entries)) }
+{
+    targets.values().enumerate().all(|(place, dependencies)| are_before(
+        targets,
+        dependencies,
+        place,
+    ))
+}
+
+// Whether all of these were declared before this place.
+fn are_before(targets: &Targets, dependencies: &[u32], place: usize) -> bool
+    ensures { result ≡ list_all (is_before targets.now place) dependencies.now }
+{
+    dependencies
+        .iter()
+        .all(|on| was_before(targets, *on, place))
+}
+
+// Whether a target was declared before this place.
+fn was_before(targets: &Targets, target: u32, place: usize) -> bool
+    ensures { result ≡ is_before targets.now place target }
+{
+    match targets.get_index_of(&target) {
+        Some(found) => found < place,
+        None => false,
     }
 }

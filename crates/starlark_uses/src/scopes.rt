@@ -54,6 +54,13 @@ impl<V> Scopes<V> {
         }
     }
 
+    /// The innermost scope, to be walked.
+    pub fn innermost(&self) -> &SmallMap<String, V>
+        ensures { result.now ≡ self.now.innermost }
+    {
+        &self.innermost
+    }
+
     /// How many scopes there are around the innermost.
     pub fn depth(&self) -> usize
         ensures { result ≡ length self.now.enclosing }

@@ -3,7 +3,7 @@
 
 use starlark_sets::OrderedSet;
 use starlark_small::SmallMap;
-use starlark_uses::build::{Targets, declare, depend};
+use starlark_uses::build::{Targets, declare, depend, is_ordered};
 use starlark_uses::cache::Cache;
 use starlark_uses::visits::{
     Visits, forget, put, record_first_visit, record_named, record_visit, visit_again,
@@ -87,6 +87,41 @@ fn a_target_keeps_its_place_and_dependencies(rt: HostRuntime) -> Result<(), Fail
     holds(&rt, dependencies(&targets, 5) == Some(1));
     holds(&rt, dependencies(&targets, 2) == Some(0));
     holds(&rt, dependencies(&targets, 9).is_none());
+    Ok(())
+}
+
+// Whether the targets are ordered, and whether they are once a target depends on another.
+fn ordered(targets: &mut Targets, target: u32, on: u32) -> Result<(bool, bool), Fail> {
+    let before = is_ordered(targets);
+    depend(targets, target, on)?;
+    Ok((before, is_ordered(targets)))
+}
+
+// Three targets, of which the last depends on the first.
+fn three(alloc: Global) -> Result<Targets, Fail> {
+    let mut targets = SmallMap::new(alloc);
+    declare(alloc, &mut targets, 5)?;
+    declare(alloc, &mut targets, 2)?;
+    declare(alloc, &mut targets, 7)?;
+    depend(&mut targets, 7, 5)?;
+    Ok(targets)
+}
+
+#[test]
+fn targets_are_ordered_where_all_they_depend_on_comes_before(rt: HostRuntime) -> Result<(), Fail> {
+    holds(&rt, ordered(&mut three(rt.alloc())?, 7, 2)? == (true, true));
+    holds(
+        &rt,
+        ordered(&mut three(rt.alloc())?, 5, 2)? == (true, false),
+    );
+    holds(
+        &rt,
+        ordered(&mut three(rt.alloc())?, 2, 2)? == (true, false),
+    );
+    holds(
+        &rt,
+        ordered(&mut three(rt.alloc())?, 2, 9)? == (true, false),
+    );
     Ok(())
 }
 
