@@ -93,8 +93,6 @@ impl<'a, K: Eq + Hash, V> RawEntryBuilderMut<'a, K, V> {
         hash: StarlarkHashValue,
         is_match: F,
     ) -> RawEntryMut<'a, K, V>
-    where
-        F: Drop,
         requires { CanSearch F.FnMut (keys_under K.hash_input hash self.map.now) is_match }
         ensures same_map { (map_of_raw result).ghost_name ≡ self.entry.map.ghost_name }
         ensures map { (map_of_raw result).now ≡ self.entry.map.now }

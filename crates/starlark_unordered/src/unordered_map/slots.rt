@@ -54,8 +54,6 @@ impl<K: Eq + Hash, V> UnorderedMap<K, V> {
         hash: StarlarkHashValue,
         mut is_match: F,
     ) -> Option<usize>
-    where
-        F: Drop,
         requires { CanSearch F.FnMut (keys_under K.hash_input hash self.now) is_match }
         ensures found { (last : F) × Searches F.FnMut (keys_under K.hash_input hash self.now) is_match result last }
         ensures there { IfSome result (λ slot. is_some (item_in self.now slot) ≡ true) }

@@ -88,7 +88,6 @@ impl<K: Eq + Hash, V> UnorderedMap<K, V> {
         K: Drop,
         V: Drop,
         W: Drop,
-        F: Drop,
         requires { CanMapValues F.FnMut (pairs_of self) f }
         ensures mapped { IfOk result (λ m. (last : F) × (mapped : List (K × W)) × MapsValues F.FnMut f (pairs_of self) mapped last × IsPermutation mapped (pairs_of m)) }
         ensures handed_back { IfErr result (λ m. m ≡ self) }

@@ -95,8 +95,6 @@ impl<'a, T: Eq + Hash> RawEntryBuilderMut<'a, T> {
         hash: StarlarkHashValue,
         is_match: F,
     ) -> RawEntryMut<'a, T>
-    where
-        F: Drop,
         requires { CanSearch F.FnMut (keys_under T.hash_input hash self.map.now) is_match }
         ensures same_set { (set_of_raw result).ghost_name ≡ self.entry.map.ghost_name }
         ensures set { (set_of_raw result).now ≡ self.entry.map.now }
