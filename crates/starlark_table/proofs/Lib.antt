@@ -5,7 +5,12 @@ pub mod Path
 pub mod Searching
 pub mod Closing
 pub mod Tagged
+pub mod Filling
+mod Marked
 pub mod TagBits
+pub mod TaggedWalks
+pub mod Emptying
+pub mod Cloning
 pub mod Windows
 pub mod Load
 pub mod Sound
@@ -17,9 +22,7 @@ pub mod Settling
 pub mod PairBags
 pub mod TableLemmas
 pub mod NamedClose
-mod FrozenRuns
-mod WrittenSlots
-pub mod WrittenValues
+mod BesideClose
 pub mod LentInResult
-mod SlotCloses
+mod WrittenSlots
 mod TableOpens

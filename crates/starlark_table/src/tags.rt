@@ -2,7 +2,7 @@
 ghost use Rattle.std.specs.Prelude.{◌≡◌, ℕ, ◌+◌, ◌≤◌, None, length};
 ghost use Rattle.starlark_table.specs.Layout.{tag, at, window, tag_bits, BitsUpToEmpty, IsTagged, HasTags, IsPadded};
 
-use crate::probe::Slot;
+use crate::probe::Slots;
 use std::simd::prelude::*;
 
 // How many tags a search looks at. There are so many more tags than places, so that it may look from each place on.
@@ -47,25 +47,11 @@ pub(crate) fn places_up_to_empty(tags: &[u8], start: usize, tag: u8) -> u64
 }
 
 // Writes the tag of each place, where all are empty.
-pub(crate) fn untag<T>(tags: &mut [u8], slots: &[Slot<T>])
+pub(crate) fn untag<T>(tags: &mut [u8], slots: &Slots<T>)
     requires sized { HasTags tags.old slots.now }
     requires padded { IsPadded tags.old slots.now }
     requires empty { (k : ℕ) → at slots.now k ≡ None }
     ensures { IsTagged tags.new slots.now }
 {
-    tags[..slots.len()].fill(EMPTY);
-}
-
-// Writes the tag of each place anew.
-pub(crate) fn retag<T>(tags: &mut [u8], slots: &[Slot<T>])
-    requires sized { HasTags tags.old slots.now }
-    requires padded { IsPadded tags.old slots.now }
-    ensures { IsTagged tags.new slots.now }
-{
-    for i in 0..slots.len() {
-        tags[i] = match &slots[i] {
-            Some((hash, _)) => tag(*hash),
-            None => EMPTY,
-        };
-    }
+    tags[..slots.places()].fill(EMPTY);
 }

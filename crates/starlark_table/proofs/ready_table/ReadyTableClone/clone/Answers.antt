@@ -1,26 +1,21 @@
-use Rattle.std.proofs.Common.{◌-◌, refl, ap}
-use Rattle.std.specs.List.{AllZip}
-use Rattle.std.proofs.lemmas.List.Elements.{same_from_all_zip}
-use Rattle.starlark_table.specs.Layout.{limit}
-use Rattle.starlark_table.specs.Table.{IsSlotClone}
-use Rattle.starlark_table.proofs.Sound.{sound-as}
-use Rattle.starlark_table.proofs.Shape.{slots_cloned, shape-cloned, reshaped, same_length}
+use Rattle.std.proofs.Common.{rules, ◌≡◌, ℕ, ◌+◌, ◌<◌, ◌≤◌, Some, true, [], ◌∷◌, List, IsOk, IfOk, OnOk, OnErr, IfErr, IfSome, IfNone, IsSome, IsPermutation, Option, ◌-◌, ◌*◌, length, ◌/◌, ◌%◌, Bool, false, nat_eq, nat_lt, ◌++◌, slice_index_or, slice_set, bit_and, bit_or, Fits, w8, w32, w64, Bor, MutBor}
+use Rattle.std.specs.Option.{option_and_then, option_copied, option_copied_mut, option_map}
+use Rattle.std.specs.Borrow.{sem}
+use Rattle.std.specs.Fn.{CalledAt}
+use Rattle.std.specs.List.Retain.{RetainsInTurn}
+use Rattle.starlark_hash.specs.Search.{Searches, CanSearch}
+use Rattle.starlark_table.specs.Table.{members, table_len, member_at, item_in, items_of, items_under, IsNextSlot, IsTableClone}
+use Rattle.starlark_table.specs.Walk.{CanReplace, ReplacesEach, CanRetain, AsksMember}
 use Rattle.starlark_table.proofs.ready_table.ReadyTableClone.clone.Goals as goal
 
-pub invariant_of-result : goal.invariant_of-result
-invariant_of-result g c =
-    let all : AllZip (IsSlotClone g.T.Clone.is_clone) c.self.inside.slots.items c.in_ok-clone.field-0.items =
-    slots_cloned g.T.Clone.is_clone _ (λ m r. r) (λ m r. r) (λ m n r. r) _ _ c.in_ok-clone.ensures.cases.0 in
-    sound-as _ _ _ _ c.self.inside.len c.self.inside.mask refl (same_from_all_zip _ _ _ c.in_ok-tags.ensures.cases.0 (λ x y e. e))
-    (reshaped c.self.inside.slots.items c.in_ok-clone.field-0.items (shape-cloned g.T.Clone.is_clone _ _ all) c.self.inside.tags.items c.self.inside.len c.self.inside.mask c.self.invariant)
+-- src/ready_table.rt:358:13
+pub returns-then-count-eq0 : goal.returns-then-count-eq0
+returns-then-count-eq0 g c = ?
 
-pub returns : goal.returns
-returns g c =
-    let all : AllZip (IsSlotClone g.T.Clone.is_clone) c.self.inside.slots.items c.in_ok-clone.field-0.items =
-    slots_cloned g.T.Clone.is_clone _ (λ m r. r) (λ m r. r) (λ m n r. r) _ _ c.in_ok-clone.ensures.cases.0 in
-    record {
-      cases = rw (← c.self.view_is) (record {
-        slots = all;
-        room = ap (λ n. limit n - c.self.inside.len) (same_length c.self.inside.slots.items c.in_ok-clone.field-0.items (shape-cloned g.T.Clone.is_clone _ _ all));
-      });
-    }
+-- src/ready_table.rt:360:24
+pub empty_tags-requires : goal.empty_tags-requires
+empty_tags-requires g c = ?
+
+-- src/ready_table.rt:369:23
+pub invariant_of-result : goal.invariant_of-result
+invariant_of-result g c = ?
