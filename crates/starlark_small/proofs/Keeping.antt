@@ -1,6 +1,6 @@
 -- What an index holds once an entry goes last, is written or is taken out.
 use Rattle.std.proofs.Common.{◌≡◌, ℕ, zero, suc, ◌+◌, ◌<◌, ◌≤◌, ◌^◌, Bool, true, false, cond, List, [], ◌∷◌, ◌++◌, length, map, take, Option, Some, None, refl, sym, ap, subst, ◌∙◌, arith, IsPermutation, nat_eq, eq-eqb}
-use Rattle.std.specs.Prelude.{remove, filter, slice_get}
+use Rattle.std.specs.Prelude.{IfSome, remove, filter, slice_get}
 use Rattle.std.specs.Borrow.{Bor}
 use Rattle.std.specs.Fn.{Mut}
 use Rattle.std.specs.List.{Contains, All}
@@ -16,8 +16,8 @@ use Rattle.starlark_hash.proofs.SearchLemmas.{IsTest, test-accepted, test-refuse
 use Rattle.starlark_table.specs.Table.{Table, members, member_at, table_len, items_under}
 use Rattle.starlark_table.proofs.PairBags.{IsPermutation-cancel}
 use Rattle.starlark_table.proofs.TableLemmas.{items-items_under, member_at-items_under}
-use Rattle.starlark_small.specs.Index.{positions, IsIndexOf, IsIndexed}
-use Rattle.starlark_small.proofs.Positions.{positions_from, position-at}
+use Rattle.starlark_small.specs.Index.{positions, positions_from, IsIndexOf, IsIndexed}
+use Rattle.starlark_small.proofs.Positions.{position-at}
 
 take_suc : {X : Type 0} (i : ℕ) (xs : List X) (x : X) → slice_get xs i ≡ Some x → take (suc i) xs ≡ take i xs ++ x ∷ []
 take_suc i [] x at = absurd (none-some x at)
@@ -121,6 +121,10 @@ module _ {F : Type 0} (g : Mut F (Bor ℕ × Unit {0}) Bool) (f : F) (place : �
   named slot last search =
       let it = test-accepted g (λ x. nat_eq x place) f test (items_under hash table) (Some slot) last slot search refl in
       member_at-items_under hash table (slot, it.0) it.1 ∙ ap (λ i. Some (hash, i)) (eqb-true it.0 place it.2)
+
+  pub named-if_some : (answer : Option ℕ) (last : F) → Searches g (items_under hash table) f answer last → IfSome answer (λ slot. member_at table slot ≡ Some (hash, place))
+  named-if_some None last search = tt
+  named-if_some (Some slot) last search = named slot last search
 
   -- and one that is there is found
   pub not_missed : (answer : Option ℕ) (last : F) → answer ≡ None → Contains (members table) (hash, place) → Searches g (items_under hash table) f answer last → ⊥

@@ -1,8 +1,8 @@
 //! The places that an index holds: taken out, moved and filled in.
-ghost use Rattle.std.specs.Prelude.{◌≡◌, ◌+◌, ◌-◌, ◌<◌, ◌≤◌, ◌==◌, Some, [], ◌∷◌, length, remove, is_some, IfOk, IsPermutation};
+ghost use Rattle.std.specs.Prelude.{◌≡◌, ◌+◌, ◌-◌, ◌<◌, ◌≤◌, ◌==◌, Some, [], ◌∷◌, length, map, remove, is_some, IfOk, IfSome, IsPermutation};
 ghost use Rattle.std.specs.List.{Contains};
 ghost use Rattle.starlark_hash.specs.HashValue.{hash_number, promoted};
-ghost use Rattle.starlark_small.specs.Index.{IsIndexOf, IsIndexed, index_room};
+ghost use Rattle.starlark_small.specs.Index.{IsIndexOf, IsIndexed, index_room, lowered, moved_below};
 ghost use Rattle.starlark_table.specs.Table.{members, member_at, table_len};
 
 use starlark_hash::StarlarkHashValue;
@@ -36,18 +36,66 @@ fn take_place(index: &mut ReadyTable<usize>, hash: StarlarkHashValue, place: usi
     index.remove(slot);
 }
 
-// Moves a place that is there one down: the old members and the lower place are the new members and this place.
+// The slot of a place, if a look-up near the home of its hash finds it.
 #[inline]
-fn move_place(index: &mut ReadyTable<usize>, hash: StarlarkHashValue, place: usize)
-    requires there { Contains (members index.old) (promoted (hash_number hash), place) }
+fn near_slot(index: &ReadyTable<usize>, hash: StarlarkHashValue, place: usize) -> Option<usize>
+    ensures { IfSome result (λ slot. member_at index.now slot ≡ Some (promoted (hash_number hash), place)) }
+{
+    index.find(
+        hash.promote(),
+        |i: &usize| -> bool
+            ensures { result ≡ (i.now == place) }
+        { *i == place },
+    )
+}
+
+// Moves the place of a slot one down: the old members and the lower place are the new members and this place.
+#[inline]
+fn lower_slot(index: &mut ReadyTable<usize>, slot: usize, hash: StarlarkHashValue, place: usize)
+    requires there { member_at index.old slot ≡ Some (promoted (hash_number hash), place) }
     requires above { 0 < place }
     ensures moved { IsPermutation ((promoted (hash_number hash), place - 1) ∷ members index.old) ((promoted (hash_number hash), place) ∷ members index.new) }
     ensures room { index.new.room ≡ index.old.room }
 {
-    let slot = slot_of(index, hash, place);
     if let Some(item) = index.get_mut(slot) {
         *item = place - 1;
     }
+}
+
+// Where few places stand above one that was taken out, moves them one down in turn, up to the first that is not found
+// near the home of its hash. The answer is the first place that did not move.
+fn lower_near<K, V>(index: &mut ReadyTable<usize>, entries: &VecMap<K, V>, place: usize) -> usize
+    requires taken { IsPermutation (moved_below entries.now.entries place (place + 1)) (members index.old) }
+    requires within { place < length entries.now.entries }
+    ensures above { place < result }
+    ensures within { result ≤ length entries.now.entries }
+    ensures moved { IsPermutation (moved_below entries.now.entries place result) (members index.new) }
+    ensures room { table_len index.new + index.new.room ≡ table_len index.old + index.old.room }
+{
+    let len = entries.len();
+    if len - place > index.len().saturating_add(index.room()) / 5 {
+        return place + 1;
+    }
+    for j in place + 1..len {
+        let hash = entries.get_unchecked(j).0.hash();
+        let Some(slot) = near_slot(index, hash, j) else {
+            return j;
+        };
+        lower_slot(index, slot, hash, j);
+    }
+    len
+}
+
+// Moves each place one down that is not below the bound, in one pass over the index.
+fn lower_all(index: &mut ReadyTable<usize>, from: usize)
+    ensures members { members index.new ≡ map (λ m. (m.0, lowered from m.1)) (members index.old) }
+    ensures room { table_len index.new + index.new.room ≡ table_len index.old + index.old.room }
+{
+    index.replace_each(
+        |i: &usize| -> usize
+            ensures { result ≡ lowered from i.now }
+        { if *i >= from { i.saturating_sub(1) } else { *i } },
+    );
 }
 
 // Takes out a place of the list, whose entry is still there.
@@ -59,10 +107,9 @@ fn remove_place<K, V>(index: &mut ReadyTable<usize>, entries: &VecMap<K, V>, pla
 {
     let hash = entries.get_unchecked(place).0.hash();
     take_place(index, hash, place);
-    let len = entries.len();
-    for j in place + 1..len {
-        let hash = entries.get_unchecked(j).0.hash();
-        move_place(index, hash, j);
+    let from = lower_near(index, entries, place);
+    if from < entries.len() {
+        lower_all(index, from);
     }
 }
 

@@ -1,7 +1,7 @@
 use Rattle.std.proofs.Common.{◌≡◌, ◌+◌, IsPermutation}
 use Rattle.starlark_table.specs.Table.{members, table_len}
-use Rattle.starlark_small.proofs.Moving.{moved_below}
-use Rattle.starlark_small.proofs.indexed.places.remove_place.Given as goal
+use Rattle.starlark_small.specs.Index.{moved_below}
+use Rattle.starlark_small.proofs.indexed.places.lower_near.Given as goal
 
 abbrev pub invariant-loop-j : goal.invariant-loop-j
 invariant-loop-j g l = record {
