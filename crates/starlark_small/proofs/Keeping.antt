@@ -16,8 +16,8 @@ use Rattle.starlark_hash.proofs.SearchLemmas.{IsTest, test-accepted, test-refuse
 use Rattle.starlark_table.specs.Table.{Table, members, member_at, table_len, items_under}
 use Rattle.starlark_table.proofs.PairBags.{IsPermutation-cancel}
 use Rattle.starlark_table.proofs.TableLemmas.{items-items_under, member_at-items_under}
-use Rattle.starlark_small.specs.Index.{positions, IsIndexOf, IsIndexed}
-use Rattle.starlark_small.proofs.Positions.{positions_from, position-at}
+use Rattle.starlark_small.specs.Index.{positions, positions_from, IsIndexOf, IsIndexed}
+use Rattle.starlark_small.proofs.Positions.{position-at}
 
 take_suc : {X : Type 0} (i : ℕ) (xs : List X) (x : X) → slice_get xs i ≡ Some x → take (suc i) xs ≡ take i xs ++ x ∷ []
 take_suc i [] x at = absurd (none-some x at)
@@ -42,6 +42,10 @@ module _ {K V : Type 0} where
   -- an index has as many members as the list has entries
   pub IsIndexOf-len : (es : List (Entry K V)) (table : Table ℕ) → IsIndexOf es table → table_len table ≡ length es
   IsIndexOf-len es table index = length_permutation (positions es) (members table) index.bag ∙ length-positions 0 es
+
+  -- the index grows
+  pub IsIndexOf-grown : (es : List (Entry K V)) (old new : Table ℕ) → IsIndexOf es old → IsPermutation (members old) (members new) → IsIndexOf es new
+  IsIndexOf-grown es old new index same = record { bag = IsPermutation-trans (positions es) (members old) (members new) index.bag same; fits = index.fits }
 
   -- an entry goes last
   pub IsIndexOf-push : (es : List (Entry K V)) (e : Entry K V) (place : ℕ) (old new : Table ℕ) → place ≡ length es → IsIndexOf es old → e.0.hash.0 < 2 ^ 32
@@ -115,6 +119,12 @@ kept hash i (x ∷ xs) (suc k, below, is) =
       | false ↦ l
     ]
 
+-- a member of a hash is among the items of the hash
+pub item_there : (hash i : ℕ) (table : Table ℕ) → Contains (members table) (hash, i) → (s : ℕ × ℕ) × Contains (items_under hash table) s × (s.1 ≡ i)
+item_there hash i table there =
+    in_map (items_under hash table) i (subst (λ l. Contains l i) (sym (items-items_under hash table))
+    (map_in (filter (λ m. nat_eq m.0 hash) (members table)) (hash, i) (kept hash i (members table) there)))
+
 module _ {F : Type 0} (g : Mut F (Bor ℕ × Unit {0}) Bool) (f : F) (place : ℕ) (test : IsTest g (λ x. nat_eq x place) f) (hash : ℕ) (table : Table ℕ) where
   -- the search for a place names its slot
   pub named : (slot : ℕ) (last : F) → Searches g (items_under hash table) f (Some slot) last → member_at table slot ≡ Some (hash, place)
@@ -125,6 +135,5 @@ module _ {F : Type 0} (g : Mut F (Bor ℕ × Unit {0}) Bool) (f : F) (place : �
   -- and one that is there is found
   pub not_missed : (answer : Option ℕ) (last : F) → answer ≡ None → Contains (members table) (hash, place) → Searches g (items_under hash table) f answer last → ⊥
   not_missed answer last none there search =
-      let item = map_in (filter (λ m. nat_eq m.0 hash) (members table)) (hash, place) (kept hash place (members table) there) in
-      let s = in_map (items_under hash table) place (subst (λ l. Contains l place) (sym (items-items_under hash table)) item) in
+      let s = item_there hash place table there in
       false≢true (sym (test-refused g (λ x. nat_eq x place) f test (items_under hash table) answer last search none s.0 s.1) ∙ eq-eqb s.0.1 place s.2)

@@ -2,6 +2,7 @@ pub mod Positions
 pub mod Transport
 pub mod Keeping
 pub mod Moving
+pub mod Emptying
 pub mod Rooms
 pub mod Inserted
 pub mod LentInResult

@@ -14,7 +14,7 @@ use Rattle.starlark_hash.specs.declared.hash_value.StarlarkHashValue.{StarlarkHa
 use Rattle.starlark_table.specs.Table.{Table, members, items_under}
 use Rattle.starlark_table.proofs.PairBags.{IsPermutation-filter}
 use Rattle.starlark_table.proofs.TableLemmas.{items-items_under}
-use Rattle.starlark_small.specs.Index.{positions, IsIndexOf}
+use Rattle.starlark_small.specs.Index.{positions, positions_from, IsIndexOf}
 
 unequal : (a b h k : ℕ) → (a ≡ b → h ≡ k) → nat_eq h k ≡ false → nat_eq a b ≡ false
 unequal a b h k inj e = elim (cases_order a b) [
@@ -31,9 +31,6 @@ same_test h k h_fits k_fits =
     ]) refl
 
 module _ {K V : Type 0} where
-  abbrev pub positions_from : ℕ → List (Entry K V) → List (ℕ × ℕ)
-  positions_from n es = map (λ p. (promoted p.1.0.hash.0, p.0)) (enumerate_from n es)
-
   abbrev Fits : List (Entry K V) → Type 0
   Fits es = (i : ℕ) (e : Entry K V) → slice_get es i ≡ Some e → e.0.hash.0 < 2 ^ 32
 

@@ -1,5 +1,5 @@
 -- What a closure keeps of a list of entries.
-use Rattle.std.proofs.Common.{◌≡◌, ℕ, suc, ◌+◌, ◌-◌, ◌≤◌, Bool, true, false, ◌&&◌, List, [], ◌∷◌, length, sym, ap, subst, arith, nat_eq, min}
+use Rattle.std.proofs.Common.{◌≡◌, suc, ◌≤◌, Bool, true, false, ◌&&◌, List, [], ◌∷◌, length, sym, ap, subst, arith, nat_eq}
 use Rattle.std.specs.List.{All}
 use Rattle.std.specs.Borrow.{Bor, MutBor}
 use Rattle.std.specs.Fn.{Mut}
@@ -9,10 +9,6 @@ use Rattle.starlark_hash.specs.declared.hashed.Hashed.{Hashed}
 use Rattle.starlark_hash.specs.Entries.{Entry, IsSingle, stands_under}
 use Rattle.starlark_vec2.specs.Retain.{Retains}
 use Rattle.starlark_vecmap.specs.Retain.{CalledAtEntry}
-
--- fewer entries, and as much room in the index as they leave
-pub kept_room : (len len' cap cap' room room' : ℕ) → len' ≤ len → cap' ≡ cap → len + room ≤ len' + room' → len ≤ cap → len + min (cap - len) room ≤ len' + min (cap' - len') room'
-kept_room len len' cap cap' room room' a b c d = omega arith
 
 module _ {F K V : Type 0} (g : Mut F (Bor K × (MutBor V × Unit {0})) (Bool × (MutBor V × Unit {0}))) where
   pub length-retained : (f : F) (es kept : List (Entry K V)) → Retains (CalledAtEntry g) f es kept → length kept ≤ length es

@@ -15,12 +15,12 @@ pub cut_room : (len after cap cap' room room' : ℕ) → after + 1 ≡ len → c
     → len + min (cap - len) room ≤ after + min (cap' - after) room'
 cut_room len after cap cap' room room' a b c d = omega arith
 
--- all were
-pub clear_room : (len len' cap cap' room room' size : ℕ) → len' ≡ 0 → cap' ≡ cap → room' ≡ size + room → size ≡ len → len ≤ cap → len + min (cap - len) room ≤ len' + min (cap' - len') room'
-clear_room len len' cap cap' room room' size a b c d e = omega arith
+-- some were, or all
+pub kept_room : (len len' cap cap' room room' : ℕ) → len' ≤ len → cap' ≡ cap → len + room ≤ len' + room' → len ≤ cap → len + min (cap - len) room ≤ len' + min (cap' - len') room'
+kept_room len len' cap cap' room room' a b c d = omega arith
 
 -- none was
-pub turn_room : (len len' cap cap' room room' : ℕ) → len' ≡ len → cap' ≡ cap → room ≤ room' → len + min (cap - len) room ≤ len' + min (cap' - len') room'
+turn_room : (len len' cap cap' room room' : ℕ) → len' ≡ len → cap' ≡ cap → len + room ≤ len' + room' → len + min (cap - len) room ≤ len' + min (cap' - len') room'
 turn_room len len' cap cap' room room' a b c = omega arith
 
 room_at : (len len' capacity : ℕ) (index : Option (Table ℕ)) → len' ≡ len → len + min (capacity - len) (index_room len index) ≤ len' + min (capacity - len') (index_room len' index)
@@ -53,12 +53,20 @@ module _ {K V : Type 0} where
       subst (λ l. map_of l index ≡ record (map_of old index) { entries = l.entries }) (sym is)
       (ap (λ n. map_at (set_value_at old.entries i value) n old.capacity index) (length-set_value_at old.entries i value))
 
+  -- entries were taken out, and the index has the room of their places
+  pub KeepsMemory-fewer : (old new : EntryList K V) (index after : Option (Table ℕ)) → length new.entries ≤ length old.entries → new.capacity ≡ old.capacity → length old.entries ≤ old.capacity
+      → length old.entries + index_room (length old.entries) index ≤ length new.entries + index_room (length new.entries) after → is_some after ≡ is_some index → KeepsMemory (map_of old index) (map_of new after)
+  KeepsMemory-fewer old new index after fewer capacity within room kept = (
+    kept_room (length old.entries) (length new.entries) old.capacity new.capacity (index_room (length old.entries) index) (index_room (length new.entries) after) fewer capacity room within,
+    capacity,
+    kept,
+  )
+
   -- the entries were put into another order
   pub KeepsMemory-turned : (old new : EntryList K V) (index after : Option (Table ℕ)) → length new.entries ≡ length old.entries → new.capacity ≡ old.capacity
-      → index_room (length new.entries) index ≤ index_room (length new.entries) after → is_some after ≡ is_some index → KeepsMemory (map_of old index) (map_of new after)
+      → length old.entries + index_room (length old.entries) index ≤ length new.entries + index_room (length new.entries) after → is_some after ≡ is_some index → KeepsMemory (map_of old index) (map_of new after)
   KeepsMemory-turned old new index after same capacity room kept = (
-    turn_room (length old.entries) (length new.entries) old.capacity new.capacity (index_room (length old.entries) index) (index_room (length new.entries) after)
-        same capacity (subst (λ n. index_room n index ≤ index_room (length new.entries) after) same room),
+    turn_room (length old.entries) (length new.entries) old.capacity new.capacity (index_room (length old.entries) index) (index_room (length new.entries) after) same capacity room,
     capacity,
     kept,
   )

@@ -7,8 +7,7 @@ use Rattle.starlark_hash.specs.HashValue.{promoted}
 use Rattle.starlark_table.specs.Table.{Table, members}
 use Rattle.starlark_vecmap.specs.EntryList.{with_values}
 use Rattle.starlark_vecmap.proofs.Written.{length-with_values}
-use Rattle.starlark_small.specs.Index.{IsIndexOf, IsIndexed, IsSound}
-use Rattle.starlark_small.proofs.Positions.{positions_from}
+use Rattle.starlark_small.specs.Index.{IsIndexOf, IsIndexed, IsSound, positions_from}
 
 -- whether two keys are alike under their hashes
 abbrev clash : {K : Type 0} → (K → K → Bool) → Hashed K → Hashed K → Bool

@@ -1,5 +1,5 @@
 -- What an index of a list of entries holds, and what list and index make up together.
-use Rattle.std.specs.Prelude.{ℕ, ◌-◌, ◌≤◌, ◌<◌, ◌^◌, min, List, map, length, Option, Some, None, Bool, is_some, IsPermutation}
+use Rattle.std.specs.Prelude.{ℕ, ◌-◌, ◌≤◌, ◌<◌, ◌^◌, ◌++◌, min, nat_le, if◌then◌else◌, List, map, length, take, drop, remove, Option, Some, None, Bool, is_some, IsPermutation}
 use Rattle.std.specs.List.{enumerate_from, All}
 use Rattle.starlark_hash.specs.Entries.{Entry, IsSingle, entry_hash}
 use Rattle.starlark_hash.specs.HashValue.{hash_number, promoted}
@@ -11,15 +11,30 @@ use Rattle.starlark_vecmap.specs.EntryList.{EntryList}
 abbrev pub unindexed : ℕ
 unindexed = 32
 
+-- the place one down, if it is not below a bound
+abbrev pub lowered : ℕ → ℕ → ℕ
+lowered from place = if nat_le from place then place - 1 else place
+
 -- how many new entries an index surely takes without memory, or a list of this length without one
 abbrev pub index_room : ℕ → Option (Table ℕ) → ℕ
 index_room len None = unindexed - len
 index_room len (Some table) = table.room
 
+-- the hashes of a table's members
+abbrev pub hashes_in : Table ℕ → List ℕ
+hashes_in table = map (λ m. m.0) (members table)
+
 module _ {K V : Type 0} where
-  -- each place under the promoted hash of its entry
+  -- each place, counted from n, under the promoted hash of its entry
+  abbrev pub positions_from : ℕ → List (Entry K V) → List (ℕ × ℕ)
+  positions_from n es = map (λ p. (promoted (hash_number (entry_hash p.1)), p.0)) (enumerate_from n es)
+
   abbrev pub positions : List (Entry K V) → List (ℕ × ℕ)
-  positions es = map (λ p. (promoted (hash_number (entry_hash p.1)), p.0)) (enumerate_from 0 es)
+  positions es = positions_from 0 es
+
+  -- the positions without place i, where the places below j have moved one down and those from j on have not
+  abbrev pub moved_below : List (Entry K V) → ℕ → ℕ → List (ℕ × ℕ)
+  moved_below es i j = positions_from 0 (remove (take j es) i) ++ positions_from j (drop j es)
 
   -- the table holds the places of the list, and each hash is a number of 32 bits
   pub record IsIndexOf (es : List (Entry K V)) (table : Table ℕ) : Type 0 where

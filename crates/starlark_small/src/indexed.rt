@@ -1,6 +1,6 @@
 //! A list of entries and its index: what the calls of a map do to both.
-ghost use Rattle.std.specs.Prelude.{◌≡◌, ◌+◌, ◌-◌, ◌<◌, ◌≤◌, [], ◌∷◌, ◌++◌, ◌||◌, length, List, min, nat_le, nat_lt, remove, reverse, slice_get, is_some, if◌then◌else◌, Some, None, IfErr, IfOk, IfSome, IsOk, IsSome, OnErr, OnOk};
-ghost use Rattle.starlark_hash.specs.Entries.{Entry, insert_entry, match_of, set_value_at, value_at};
+ghost use Rattle.std.specs.Prelude.{◌≡◌, ◌+◌, ◌-◌, ◌<◌, ◌≤◌, [], ◌∷◌, ◌++◌, ◌||◌, length, min, nat_le, nat_lt, remove, reverse, slice_get, is_some, if◌then◌else◌, Some, None, IfErr, IfOk, IfSome, IsOk, IsSome, OnErr, OnOk};
+ghost use Rattle.starlark_hash.specs.Entries.{insert_entry, match_of, set_value_at, value_at};
 ghost use Rattle.starlark_hash.specs.Search.{CanSearch, Searches, keys_under};
 ghost use Rattle.starlark_hash.specs.Sorting.{Ascends, sorted_by_key};
 ghost use Rattle.starlark_small.specs.Growth.{reserved_capacity};
@@ -20,7 +20,7 @@ pub(crate) use compare::same_in;
 pub(crate) use copy::clone_in;
 pub(crate) use growth::UNINDEXED;
 use growth::{index_last, reserve_index};
-use places::{fill_index, unindex};
+use places::{index_all, unindex, unindex_all};
 use search::{find_indexed, position_indexed};
 use starlark_hash::{Equivalent, Hashed, NoRoom, StarlarkHashValue};
 use starlark_table::ReadyTable;
@@ -277,24 +277,8 @@ pub(crate) fn clear_in<K: Eq + Drop, V: Drop>(
 {
     // for the proof: a list is within its capacity
     let _capacity = entries.capacity();
+    unindex_all(index, entries);
     entries.clear();
-    if let Some(table) = index {
-        table.clear();
-    }
-}
-
-// Fills the index anew, once the list was put into another order or lost entries. No memory is asked for.
-fn refill_index<K, V>(index: &mut Option<ReadyTable<usize>>, entries: &VecMap<K, V>)
-    requires { (before : List (Entry K V)) × IsIndexed before index.old × (length entries.now.entries ≤ length before) }
-    ensures indexed { IsIndexed entries.now.entries index.new }
-    ensures room { index_room (length entries.now.entries) index.old ≤ index_room (length entries.now.entries) index.new }
-    ensures spare { (before : List (Entry K V)) → IsIndexed before index.old → length before + index_room (length before) index.old ≤ length entries.now.entries + index_room (length entries.now.entries) index.new }
-    ensures kept { is_some index.new ≡ is_some index.old }
-{
-    if let Some(table) = index {
-        table.clear();
-        fill_index(table, entries);
-    }
 }
 
 // Keeps the entries at which the closure answers true, with the value that it leaves.
@@ -311,8 +295,9 @@ pub(crate) fn retain_in<K: Eq + Drop, V: Drop, F: FnMut(&K, &mut V) -> bool>(
 {
     // for the proof: a list is within its capacity
     let _capacity = entries.capacity();
+    unindex_all(index, entries);
     entries.retain(keep);
-    refill_index(index, entries);
+    index_all(index, entries);
 }
 
 // Turns the order of the entries round.
@@ -325,8 +310,9 @@ pub(crate) fn reverse_in<K: Eq, V>(
     ensures sound { IsSound K.eq entries.new.entries index.new }
     ensures kept { KeepsMemory (map_of entries.old index.old) (map_of entries.new index.new) }
 {
+    unindex_all(index, entries);
     entries.reverse();
-    refill_index(index, entries);
+    index_all(index, entries);
 }
 
 // Sorts by key. The index asks for no memory.
@@ -341,8 +327,10 @@ pub(crate) fn sort_in<K: Ord, V>(
     ensures sound { IsSound K.eq entries.new.entries index.new }
     ensures kept { KeepsMemory (map_of entries.old index.old) (map_of entries.new index.new) }
 {
+    // a refusal leaves the index as it was, so its places go out after the sort: the hashes are still the same
     entries.sort_keys()?;
-    refill_index(index, entries);
+    unindex_all(index, entries);
+    index_all(index, entries);
     Ok(())
 }
 

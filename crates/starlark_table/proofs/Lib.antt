@@ -5,21 +5,25 @@ pub mod Path
 pub mod Searching
 pub mod Closing
 pub mod Tagged
+pub mod Filling
+mod Marked
 pub mod TagBits
+pub mod FullBits
+pub mod Emptying
+pub mod Cloning
 pub mod Windows
 pub mod Load
 pub mod Sound
 pub mod Shape
 pub mod Walking
-pub mod Replacing
+pub mod ReplacingWindows
+pub mod MovingWindows
 pub mod Retaining
 pub mod Settling
 pub mod PairBags
 pub mod TableLemmas
 pub mod NamedClose
-mod FrozenRuns
-mod WrittenSlots
-pub mod WrittenValues
+mod BesideClose
 pub mod LentInResult
-mod SlotCloses
+mod WrittenSlots
 mod TableOpens

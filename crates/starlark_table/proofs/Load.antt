@@ -1,6 +1,6 @@
 -- How many members the slots hold.
-use Rattle.std.proofs.Common.{◌≡◌, ◌≢◌, ℕ, zero, suc, add-one, replicate, append_assoc, append-nil, length-append, ◌+◌, ◌-◌, ◌<◌, ◌≤◌, List, [], ◌∷◌, ◌++◌, length, Option, Some, None, arith, refl, IsPermutation, IfSome, IfNone, is_some, true, false, sym, ◌∙◌, ap, subst, get_or}
-use Rattle.std.proofs.lemmas.List.Sorted.{length_permutation, IsPermutation-trans, IsPermutation-cons, IsPermutation-append_right}
+use Rattle.std.proofs.Common.{◌≡◌, ◌≢◌, ℕ, zero, suc, add-one, replicate, append-nil, length-append, ◌+◌, ◌-◌, ◌<◌, ◌≤◌, List, [], ◌∷◌, ◌++◌, length, Option, Some, None, arith, refl, IsPermutation, IfSome, IfNone, is_some, true, false, sym, ◌∙◌, ap, subst, get_or}
+use Rattle.std.proofs.lemmas.List.Sorted.{length_permutation, IsPermutation-trans, IsPermutation-sym, IsPermutation-cons, IsPermutation-middle, IsPermutation-append_left, IsPermutation-append_right}
 use Rattle.std.proofs.lemmas.List.{get_or-set_other, length-replicate, get_or_append_left, get_or-append_right, get_or-replicate}
 use Rattle.std.proofs.Math.ListN.{set, length-set}
 use Rattle.starlark_table.specs.Table.{Table, filled}
@@ -125,21 +125,6 @@ module _ {T : Type 0} where
         tagged = subst (IsTagged tags') (f ∙ e) tagged;
       })
 
-  pub sound-taken_out_of_copy : (old via new : List (Option (ℕ × T))) (tags tags' : List ℕ) (len mask : ℕ) (r : Option (ℕ × T)) → via ≡ old → IsSound old tags len mask
-      → length new ≡ length via → InPlace (length new) new → IsTagged tags' new
-      → IfSome r (λ m. IsPermutation (filled via) (m ∷ filled new)) → is_some r ≡ true
-      → IsSound new tags' (len - 1) mask × (1 ≤ len)
-  sound-taken_out_of_copy old via new tags tags' len mask r e s same in_place tagged bag some =
-      sound-taken_out old new tags tags' len mask r s (same ∙ ap length e) in_place tagged
-      (subst (λ l. IfSome r (λ m. IsPermutation (filled l) (m ∷ filled new))) e bag) some
-
-  -- what was taken out, told of slots that are the same
-  pub rest-as : (old via new new' : List (Option (ℕ × T))) (r : Option (ℕ × T)) → via ≡ old → new' ≡ new
-      → IfSome r (λ m. IsPermutation (filled via) (m ∷ filled new)) → IfSome r (λ m. IsPermutation (filled old) (m ∷ filled new'))
-  rest-as old via new new' None e f rest = tt
-  rest-as old via new new' (Some m) e f rest =
-      subst (λ l. IsPermutation (filled l) (m ∷ filled new')) e (subst (λ l. IsPermutation (filled via) (m ∷ filled l)) (sym f) rest)
-
   abbrev laid : List (Option (ℕ × T)) → ℕ → Table T
   laid slots len = record { slots = slots; room = limit (length slots) - len }
 
@@ -175,22 +160,19 @@ module _ {T : Type 0} where
   filled-replicate zero = refl
   filled-replicate (suc n) = filled-replicate n
 
-  pub bag-empty_slot_moved : (all : List (ℕ × T)) (old rest slots : List (Option (ℕ × T))) → old ≡ rest ++ None ∷ []
-      → IsPermutation all (filled old ++ filled slots) → IsPermutation all (filled rest ++ filled slots)
-  bag-empty_slot_moved all old rest slots e bag =
-      subst (λ l. IsPermutation all (l ++ filled slots))
-      (ap filled e ∙ filled-append rest (None ∷ []) ∙ append-nil (filled rest)) bag
-
-  pub bag-member_moved : (all : List (ℕ × T)) (old rest slots : List (Option (ℕ × T))) (place : ℕ) (m : ℕ × T)
-      → old ≡ rest ++ Some m ∷ [] → place < length slots → at slots place ≡ None
+  -- a member that leaves one place for another, of the new slots
+  pub bag-member_moved : (all : List (ℕ × T)) (old slots : List (Option (ℕ × T))) (from place : ℕ) (m : ℕ × T)
+      → at old from ≡ Some m → place < length slots → at slots place ≡ None
       → IsPermutation all (filled old ++ filled slots)
-      → IsPermutation all (filled rest ++ filled (set slots place (Some m)))
-  bag-member_moved all old rest slots place m e place_in empty bag =
-      let same : filled old ++ filled slots ≡ filled rest ++ m ∷ filled slots =
-      ap (λ l. l ++ filled slots) (ap filled e ∙ filled-append rest (Some m ∷ [])) ∙ append_assoc (filled rest) (m ∷ []) (filled slots) in
-      IsPermutation-trans all (filled rest ++ m ∷ filled slots) (filled rest ++ filled (set slots place (Some m)))
-      (subst (λ l. IsPermutation all l) same bag)
-      (IsPermutation-append_right (filled rest) (m ∷ filled slots) (filled (set slots place (Some m))) (filled-set_some slots place m place_in empty))
+      → IsPermutation all (filled (set old from None) ++ filled (set slots place (Some m)))
+  bag-member_moved all old slots from place m here place_in empty bag =
+      let left = set old from None in
+      IsPermutation-trans all (filled old ++ filled slots) (filled left ++ filled (set slots place (Some m))) bag
+      (IsPermutation-trans (filled old ++ filled slots) ((m ∷ filled left) ++ filled slots) (filled left ++ filled (set slots place (Some m)))
+      (IsPermutation-append_left (filled slots) (filled old) (m ∷ filled left) (filled-set_none old from m here))
+      (IsPermutation-trans ((m ∷ filled left) ++ filled slots) (filled left ++ m ∷ filled slots) (filled left ++ filled (set slots place (Some m)))
+      (IsPermutation-sym (filled left ++ m ∷ filled slots) ((m ∷ filled left) ++ filled slots) (IsPermutation-middle (filled left) m (filled slots)))
+      (IsPermutation-append_right (filled left) (m ∷ filled slots) (filled (set slots place (Some m))) (filled-set_some slots place m place_in empty))))
 
   pub empty_slot-while_moving : (all : List (ℕ × T)) (old slots : List (Option (ℕ × T))) → 0 < length slots
       → length all ≤ limit (length slots)

@@ -1,22 +1,79 @@
 -- The walk that asks about each member whether it is to be kept.
-use Rattle.std.proofs.Common.{◌≡◌, ℕ, suc, ◌+◌, ◌<◌, ◌≤◌, ◌++◌, ◌∷◌, [], List, Option, Some, None, Bool, true, false, cond, take, drop, arith, refl, sym, ◌∙◌, ap, subst, length, get_or, append_assoc, append-nil, length-append, inl, inr, if◌then◌else◌, IfSome}
+use Rattle.std.proofs.Common.{◌≡◌, ℕ, suc, ◌+◌, ◌<◌, ◌≤◌, ◌++◌, ◌∷◌, [], List, Option, Some, None, Bool, true, false, cond, take, drop, arith, refl, sym, ◌∙◌, ap, subst, length, get_or, append_assoc, append-nil, length-append, add-zero, inl, inr, if◌then◌else◌, IfSome}
 use Rattle.std.specs.Borrow.{MutBor}
 use Rattle.std.specs.Fn.{Mut, CalledAtMut}
 use Rattle.std.specs.List.Retain.{RetainsInTurn}
 use Rattle.std.proofs.Math.ListN.{set, length-set}
-use Rattle.std.proofs.lemmas.List.{get_or_default}
+use Rattle.std.proofs.lemmas.List.{get_or_default, set-get_or, set-set}
 use Rattle.starlark_table.specs.Table.{filled, items_in}
 use Rattle.starlark_table.specs.Walk.{CanRetain, TakesAtMut, AsksMember}
-use Rattle.starlark_table.specs.Layout.{at, AsksSlot, StandsIn}
+use Rattle.starlark_table.specs.Layout.{at, empty_tag, StandsIn, IsTagged}
 use Rattle.starlark_table.proofs.Lists.{drop_all, take_all, head_left, taken_more}
 use Rattle.starlark_table.proofs.Walking.{walk_on, walk_asks}
 use Rattle.starlark_table.proofs.Closing.{at-set, same_hash}
 use Rattle.starlark_table.proofs.Load.{filled-append}
+use Rattle.starlark_table.proofs.Tagged.{tagged-changed, empty-by_tag, tagged-rewritten}
+
+-- f was asked about the member of a slot, if one was there, and what it did not keep left the slot
+abbrev pub AsksSlot : {F T : Type 0} → Mut F (MutBor T × Unit {0}) (Bool × (MutBor T × Unit {0}))
+    → F → Option (ℕ × T) → Bool → F → Option (ℕ × T) → Type 0
+AsksSlot g f None kept f' new = (kept ≡ false) × (f' ≡ f) × (new ≡ None)
+AsksSlot {F} {T} g f (Some m) kept f' new = (y : T) × CalledAtMut g f m.1 kept f' y × (new ≡ (if kept then Some (m.0, y) else None))
 
 module _ {F T : Type 0} (g : Mut F (MutBor T × Unit {0}) (Bool × (MutBor T × Unit {0}))) where
-  pub asks-slot : (f : F) (slot : Option (ℕ × T)) (kept : Bool) (h : ℕ) (x y : T) (f' : F) (new : Option (ℕ × T)) → slot ≡ Some (h, x)
-      → CalledAtMut g f x kept f' y → new ≡ (if kept then Some (h, y) else None) → AsksSlot g f slot kept f' new
-  asks-slot f slot kept h x y f' new e called is = subst (λ o. AsksSlot g f o kept f' new) (sym e) (y, called, is)
+  -- what the walk does at one place
+  pub record Turn (cur new : List (Option (ℕ × T))) (tags : List ℕ) (i count count' : ℕ) (f f' : F) : Type 0 where
+    pub keeps : Bool
+    pub slot : Option (ℕ × T)
+    pub asked : AsksSlot g f (at cur i) keeps f' slot
+    pub set_is : new ≡ set cur i slot
+    pub counted : count' ≡ count + cond keeps 1 0
+    pub tagged : IsTagged tags new
+
+  asks-member : (o : Option (ℕ × T)) (m n : ℕ × T) (keeps : Bool) (f f' : F) → o ≡ Some m → AsksMember g f m keeps f' n
+      → AsksSlot g f o keeps f' (if keeps then Some n else None)
+  asks-member o m n keeps f f' here asks =
+      subst (λ o. AsksSlot g f o keeps f' (if keeps then Some n else None)) (sym here)
+      (n.1, asks.called, ap (λ h. if keeps then Some (h, n.1) else None) asks.hash)
+
+  module _ (cur new : List (Option (ℕ × T))) (tags tags' : List ℕ) (i count count' : ℕ) (f f' : F) (below : i < length cur) (tagged : IsTagged tags cur) where
+    pub turn-kept : (m n : ℕ × T) (keeps : Bool) (next : F) → at cur i ≡ Some m → AsksMember g f m keeps next n → keeps ≡ true
+        → new ≡ set cur i (Some n) → tags' ≡ tags → count' ≡ count + 1 → f' ≡ next → Turn cur new tags' i count count' f f'
+    turn-kept m n keeps next here asks kept is same counted called = record {
+      keeps = true;
+      slot = Some n;
+      asked = subst (λ e. AsksSlot g f (at cur i) true e (Some n)) (sym called)
+          (asks-member (at cur i) m n true f next here (subst (λ b. AsksMember g f m b next n) kept asks));
+      set_is = is;
+      counted = counted;
+      tagged = subst (λ l. IsTagged tags' l) (sym is) (subst (λ l. IsTagged l (set cur i (Some n))) (sym same) (tagged-rewritten tags cur i m n below tagged here asks.hash));
+    }
+
+    pub turn-taken : (m n : ℕ × T) (keeps : Bool) (next : F) → at cur i ≡ Some m → AsksMember g f m keeps next n → keeps ≡ false
+        → new ≡ set (set cur i (Some n)) i None → tags' ≡ set tags i empty_tag → count' ≡ count → f' ≡ next → Turn cur new tags' i count count' f f'
+    turn-taken m n keeps next here asks kept is same counted called =
+        let once = is ∙ set-set cur i (Some n) None in
+        record {
+          keeps = false;
+          slot = None;
+          asked = subst (λ e. AsksSlot g f (at cur i) false e None) (sym called)
+              (asks-member (at cur i) m n false f next here (subst (λ b. AsksMember g f m b next n) kept asks));
+          set_is = once;
+          counted = counted ∙ sym (add-zero count);
+          tagged = subst (λ l. IsTagged tags' l) (sym once) (subst (λ l. IsTagged l (set cur i None)) (sym same) (tagged-changed tags cur i empty_tag None below tagged refl));
+        }
+
+    pub turn-empty : get_or tags i 0 ≡ empty_tag → new ≡ cur → tags' ≡ tags → count' ≡ count → f' ≡ f → Turn cur new tags' i count count' f f'
+    turn-empty empty is same counted called =
+        let none = empty-by_tag tags cur i tagged below empty in
+        record {
+          keeps = false;
+          slot = None;
+          asked = subst (λ o. AsksSlot g f o false f' None) (sym none) (refl, called, refl);
+          set_is = is ∙ sym (ap (set cur i) (sym none) ∙ set-get_or cur i None);
+          counted = counted ∙ sym (add-zero count);
+          tagged = subst (λ l. IsTagged tags' l) (sym is) (subst (λ l. IsTagged l cur) (sym same) tagged);
+        }
 
   -- what the call of a slot asks of f
   pub takes-slot_here : (o : Option (ℕ × T)) (slots : List (Option (ℕ × T))) (f : F) → CanRetain g (items_in (o ∷ slots)) f

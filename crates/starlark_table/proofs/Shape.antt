@@ -1,12 +1,10 @@
 -- Whether slots are well laid out depends on their hashes alone.
-use Rattle.std.proofs.Common.{◌≡◌, ℕ, zero, suc, ◌+◌, ◌-◌, ◌<◌, ◌≤◌, List, [], ◌∷◌, length, Option, Some, None, IsSome, get_or, arith, refl, sym, ◌∙◌, ap, subst}
+use Rattle.std.proofs.Common.{◌≡◌, ℕ, zero, suc, ◌+◌, ◌<◌, ◌≤◌, List, [], ◌∷◌, length, Option, Some, None, IsSome, get_or, refl, sym, ◌∙◌, ap, subst}
 use Rattle.std.specs.List.{AllZip}
-use Rattle.std.specs.Prelude.{slice_set}
-use Rattle.std.specs.Option.{option_map}
-use Rattle.std.proofs.Math.ListN.{set, length-set}
+use Rattle.std.proofs.Math.ListN.{set}
 use Rattle.std.specs.Borrow.{Bor}
 use Rattle.std.specs.Fn.{Mut}
-use Rattle.starlark_table.specs.Table.{Table, filled, with_item, IsSlotClone}
+use Rattle.starlark_table.specs.Table.{filled, IsSlotClone}
 use Rattle.starlark_table.specs.Walk.{ReplacesEach}
 use Rattle.starlark_table.specs.Layout.{at, limit, tag, slot_tag, InPlace, IsTagged, IsSound}
 use Rattle.starlark_table.proofs.Tagged.{sized-alike}
@@ -116,65 +114,26 @@ module _ {T : Type 0} (is_clone : T → T → Type 0) where
   shape-cloned (Some (h, x) ∷ old) (p ∷ new) all =
       ap (λ o. shape (o ∷ new)) all.0.2 ∙ ap (λ l. Some h ∷ l) (shape-cloned old new all.1)
 
-  module _ (copies : Option (ℕ × T) → Option (ℕ × T) → Type 0)
-      (none_some : (m : ℕ × T) → copies None (Some m) → ⊥)
-      (some_none : (m : ℕ × T) → copies (Some m) None → ⊥)
-      (both : (m n : ℕ × T) → copies (Some m) (Some n) → (n.0 ≡ m.0) × is_clone m.1 n.1) where
-    one_cloned : (o p : Option (ℕ × T)) → copies o p → IsSlotClone is_clone o p
-    one_cloned None None r = refl
-    one_cloned None (Some n) r = absurd (none_some n r)
-    one_cloned (Some m) None r = absurd (some_none m r)
-    one_cloned (Some (h, x)) (Some (k, y)) r =
-        let same = both (h, x) (k, y) r in (y, same.1, ap (λ n. Some (n, y)) same.0)
-
-    pub slots_cloned : (old new : List (Option (ℕ × T))) → AllZip copies old new → AllZip (IsSlotClone is_clone) old new
-    slots_cloned [] [] all = tt
-    slots_cloned [] (p ∷ new) all = absurd all
-    slots_cloned (o ∷ old) [] all = absurd all
-    slots_cloned (o ∷ old) (p ∷ new) all = (one_cloned o p all.0, slots_cloned old new all.1)
-
-module _ {T : Type 0} where
-  -- the slot that is read
-  pub held : (slots : List (Option (ℕ × T))) (i : ℕ) (o : Option (ℕ × T)) → o ≡ get_or slots i o → i < length slots → at slots i ≡ o
-  held [] i o e below = absurd (omega arith)
-  held (p ∷ slots) zero o e below = sym e
-  held (p ∷ slots) (suc i) o e below = held slots i o e (omega arith)
+  -- clones under their own tags lie as well as what they were made of
+  pub sound-cloned : (old new : List (Option (ℕ × T))) (tags tags' : List ℕ) (len mask : ℕ) → IsSound old tags len mask
+      → AllZip (IsSlotClone is_clone) old new → IsTagged tags' new → IsSound new tags' len mask
+  sound-cloned old new tags tags' len mask sound all tagged =
+      let r = reshaped old new (shape-cloned old new all) tags len mask sound in
+      record { counted = r.counted; load = r.load; masked = r.masked; in_place = r.in_place; tagged = tagged }
 
 module _ {T : Type 0} (w : T) where
-  abbrev written : Option (ℕ × T) → Option (ℕ × T)
-  written o = option_map (λ m. (m.0, w)) o
-
-  shape-first : (o : Option (ℕ × T)) (slots : List (Option (ℕ × T))) → shape (written o ∷ slots) ≡ shape (o ∷ slots)
-  shape-first None slots = refl
-  shape-first (Some m) slots = refl
-
   shape-cons : (o : Option (ℕ × T)) (xs ys : List (Option (ℕ × T))) → shape xs ≡ shape ys → shape (o ∷ xs) ≡ shape (o ∷ ys)
   shape-cons None xs ys e = ap (λ l. None ∷ l) e
   shape-cons (Some m) xs ys e = ap (λ l. Some m.0 ∷ l) e
 
   -- another item in a slot
-  shape-written : (slots : List (Option (ℕ × T))) (i : ℕ) (o : Option (ℕ × T)) → o ≡ get_or slots i o → i < length slots
-      → shape (set slots i (written o)) ≡ shape slots
-  shape-written [] i o e below = absurd (omega arith)
-  shape-written (p ∷ slots) zero o e below = ap (λ o. shape (written o ∷ slots)) e ∙ shape-first p slots
-  shape-written (p ∷ slots) (suc i) o e below = shape-cons p (set slots i (written o)) slots (shape-written slots i o e (omega arith))
+  shape-written : (slots : List (Option (ℕ × T))) (i : ℕ) (m : ℕ × T) → at slots i ≡ Some m
+      → shape (set slots i (Some (m.0, w))) ≡ shape slots
+  shape-written [] i m e = refl
+  shape-written (None ∷ slots) zero m e = absurd (some_not_none m (sym e))
+  shape-written (Some n ∷ slots) zero m e = let same : n ≡ m = cc in ap (λ k. Some k.0 ∷ shape slots) (sym same)
+  shape-written (o ∷ slots) (suc i) m e = shape-cons o (set slots i (Some (m.0, w))) slots (shape-written slots i m e)
 
-  pub sound-written : (slots : List (Option (ℕ × T))) (i : ℕ) (o : Option (ℕ × T)) (tags : List ℕ) (len mask : ℕ) → o ≡ get_or slots i o → i < length slots
-      → IsSound slots tags len mask → IsSound (set slots i (written o)) tags len mask
-  sound-written slots i o tags len mask e below = reshaped slots (set slots i (written o)) (shape-written slots i o e below) tags len mask
-
-  -- the slots with another item in one
-  slots-with_item : (slots : List (Option (ℕ × T))) (i : ℕ) (o : Option (ℕ × T)) → o ≡ get_or slots i o → i < length slots → set slots i (written o) ≡ slice_set slots i (written (at slots i))
-  slots-with_item [] i o e below = absurd (omega arith)
-  slots-with_item (p ∷ slots) zero o e below = ap (λ q. written q ∷ slots) e
-  slots-with_item (p ∷ slots) (suc i) o e below = ap (λ l. p ∷ l) (slots-with_item slots i o e (omega arith))
-
-  abbrev laid : List (Option (ℕ × T)) → ℕ → ℕ → Table T
-  laid slots count len = record { slots = slots; room = limit count - len }
-
-  -- so has the table
-  pub table-with_item : (slots : List (Option (ℕ × T))) (i len : ℕ) (o : Option (ℕ × T)) (t : Table T) → o ≡ get_or slots i o → i < length slots → laid slots (length slots) len ≡ t
-      → laid (set slots i (written o)) (length (set slots i (written o))) len ≡ with_item t i w
-  table-with_item slots i len o t e below view =
-      ap (λ n. laid (set slots i (written o)) n len) (length-set slots i (written o))
-      ∙ ap (λ l. laid l (length slots) len) (slots-with_item slots i o e below) ∙ ap (λ u. with_item u i w) view
+  pub sound-written : (slots : List (Option (ℕ × T))) (i : ℕ) (m : ℕ × T) (tags : List ℕ) (len mask : ℕ) → at slots i ≡ Some m
+      → IsSound slots tags len mask → IsSound (set slots i (Some (m.0, w))) tags len mask
+  sound-written slots i m tags len mask e = reshaped slots (set slots i (Some (m.0, w))) (shape-written slots i m e) tags len mask

@@ -1,4 +1,4 @@
--- A `ReadyTable` in memory is its slots and the rest, and back, at any slots of which the invariant holds. Assumes
+-- A `ReadyTable` in memory is its slots, its tags and the rest, and back, at any slots of which the invariant holds. Assumes
 -- `Logic`.
 use mathlib.Core.Path.{◌≡◌}
 use Prim.Native.Nat.{ℕ, zero, ◌+◌}
@@ -7,9 +7,9 @@ use seplogic.Ra.Ura.{Ura}
 use base.Fraction.{full_share}
 use base.Logic.{SProp, ent, sep, wand, ex, all_e, apply∗}
 use prog.Memory.{size, align, up}
-use types.Kit.{‵, raw, ◌⊛◌, some, ◌$◌, ◌∵◌, !, qed, by, move, use1, use2, split, pick, show, fsplit, fjoin, done}
+use types.Kit.{‵, raw, ◌⊛◌, some, ◌$◌, ◌∵◌, !, qed, by, move, use1, use2, split, pick, show, fsplit3, fjoin, done}
 use types.Logic.{Logic, sem}
-use denote.Builtin.{u8, usize}
+use denote.Builtin.{usize}
 use denote.RattleType.{RattleType, Denots}
 use denote.Memory.{part_at, part_of, lone}
 use denote.Model.Fields.{plain_out, Plain-in, view_made}
@@ -18,7 +18,8 @@ use denote.Struct.Loose.{lawfuls}
 use denote.Struct.Members.{Member, rows_of, parts_at}
 use denote.Struct.Parts.{shape_of, PartsBack, Struct-parts}
 use denote.Struct.Struct.{Struct}
-use Rattle.starlark_table.specs.Frozen.{SlotOf, column}
+use Rattle.starlark_columns.specs.contracts.column.Column.{the_row as column_row}
+use Rattle.starlark_table.specs.Sharing.{Member as MemberRow, Tags}
 use Rattle.starlark_table.specs.declared.ready_table.ReadyTable.TheInside.{Inside}
 use Rattle.starlark_table.specs.contracts.ready_table.ReadyTable as C
 use Rattle.starlark_table.specs.contracts.ready_table.ReadyTable.TheInside as I
@@ -39,29 +40,32 @@ module _ (K : RattleType) where
   member R = record { row = R; ty = lone R.mir }
 
   abbrev pub CS : RattleType
-  CS = column (SlotOf K)
+  CS = column_row (MemberRow K)
 
   abbrev left : List Member
-  left = member (column u8) ∷ member usize ∷ member usize ∷ []
+  left = member usize ∷ member usize ∷ []
 
   abbrev ms : List Member
-  ms = member CS ∷ left
+  ms = member CS ∷ member Tags ∷ left
 
-  abbrev pub place : ℕ
-  place = up (align (lone CS.mir)) zero
+  abbrev pub eS : ℕ
+  eS = up (align (lone CS.mir)) zero
 
-  abbrev next_place : ℕ
-  next_place = place + size (lone CS.mir)
+  abbrev pub eT : ℕ
+  eT = up (align (lone Tags.mir)) (eS + size (lone CS.mir))
+
+  abbrev eR : ℕ
+  eR = eT + size (lone Tags.mir)
 
   abbrev to : D → Denots (rows_of ms)
   to d = (I.the_type K).to d
 
   module _ {M : Type 1} {𝓤 : Ura M} (𝓛 : Logic 𝓤) (b o : ℕ) where
     abbrev pub Rest : D → SProp 𝓤
-    Rest d = sep 𝓤 (sem 𝓛 (parts_at full_share left next_place (to d).1 b o)) (PartsBack 𝓛 full_share (I.the_type K).name ms b o)
+    Rest d = sep 𝓤 (sem 𝓛 (parts_at full_share left eR (to d).1.1 b o)) (PartsBack 𝓛 full_share (I.the_type K).name ms b o)
 
     abbrev pub Cut : D → SProp 𝓤
-    Cut d = sep 𝓤 (sem 𝓛 (part_at CS full_share d.slots b (o + place))) (Rest d)
+    Cut d = sep 𝓤 (sem 𝓛 (part_at CS full_share d.slots b (o + eS))) (sep 𝓤 (sem 𝓛 (part_at Tags full_share d.tags b (o + eT))) (Rest d))
 
     abbrev pub Cuts : (v : W.Denot) → ((d : D) × Known v d) → SProp 𝓤
     Cuts v d = Cut d.0
@@ -71,13 +75,13 @@ module _ (K : RattleType) where
     cut LK v =
         qed 𝓛 (‵ (part_at W full_share v b o) ∷ []) ∵ use1 𝓛 (some (λ (d : (d : D) × Known v d). ‵ (part_at (I.the_row K) full_share d.0 b o))) (plain_out W (I.the_row K) (T.the_opens K) 𝓛 full_share v b o) $ pick ! (λ d.
         use1 𝓛 (‵ (parts_at full_share ms zero (to d.0) b o) ⊛ raw (PartsBack 𝓛 full_share (I.the_type K).name ms b o))
-        (Struct-parts 𝓛 full_share (I.the_type K).name ms (lawfuls 𝓛 (I.the_type K).parts (IL.the_loose K LK)) (to d.0) b o) $ split ! $ fsplit ! $ show ! (Cuts v) d $ done !)
+        (Struct-parts 𝓛 full_share (I.the_type K).name ms (lawfuls 𝓛 (I.the_type K).parts (IL.the_loose K LK)) (to d.0) b o) $ split ! $ fsplit3 ! $ show ! (Cuts v) d $ done !)
 
-    pub shut : (v : W.Denot) (d' : D) → Known v d' → ent 𝓤 (sep 𝓤 (sem 𝓛 (part_at CS full_share d'.slots b (o + place))) (Rest d')) (sem 𝓛 (part_at W full_share v b o))
+    pub shut : (v : W.Denot) (d' : D) → Known v d' → ent 𝓤 (sep 𝓤 (sem 𝓛 (part_at CS full_share d'.slots b (o + eS))) (sep 𝓤 (sem 𝓛 (part_at Tags full_share d'.tags b (o + eT))) (Rest d'))) (sem 𝓛 (part_at W full_share v b o))
     unfolding part_of
     shut v d' k =
-        qed 𝓛 (‵ (part_at CS full_share d'.slots b (o + place)) ∷ (‵ (parts_at full_share left next_place (to d').1 b o) ⊛ raw (PartsBack 𝓛 full_share (I.the_type K).name ms b o)) ∷ []) ∵
-        move ! (1 ∷ []) $ split ! $ move ! (2 ∷ 0 ∷ []) $ fjoin ! $ move ! (1 ∷ []) $
+        qed 𝓛 (‵ (part_at CS full_share d'.slots b (o + eS)) ∷ ‵ (part_at Tags full_share d'.tags b (o + eT)) ∷ (‵ (parts_at full_share left eR (to d').1.1 b o) ⊛ raw (PartsBack 𝓛 full_share (I.the_type K).name ms b o)) ∷ []) ∵
+        move ! (2 ∷ []) $ split ! $ move ! (3 ∷ 0 ∷ []) $ fjoin ! $ move ! (2 ∷ 0 ∷ []) $ fjoin ! $ move ! (1 ∷ []) $
         use1 𝓛 (raw (wand 𝓤 (sem 𝓛 (parts_at full_share ms zero (to d') b o)) (sem 𝓛 (part_at (Struct (shape_of (I.the_type K).name ms)) full_share (to d') b o))))
         (all_e 𝓤 (λ (a' : Denots (rows_of ms)). wand 𝓤 (sem 𝓛 (parts_at full_share ms zero a' b o)) (sem 𝓛 (part_at (Struct (shape_of (I.the_type K).name ms)) full_share a' b o))) (to d')) $
         move ! (1 ∷ 0 ∷ []) $ use2 𝓛 (‵ (part_at (I.the_row K) full_share d' b o)) (apply∗ 𝓤 (sem 𝓛 (parts_at full_share ms zero (to d') b o)) (sem 𝓛 (part_at (Struct (shape_of (I.the_type K).name ms)) full_share (to d') b o))) $

@@ -1,9 +1,9 @@
 -- The tags of slots, and of slots that change.
-use Rattle.std.proofs.Common.{◌≡◌, ℕ, ◌+◌, ◌<◌, ◌≤◌, List, length, Option, Some, None, IsSome, arith, get_or, refl, sym, ◌∙◌, ap, inl, inr}
+use Rattle.std.proofs.Common.{◌≡◌, ℕ, ◌+◌, ◌<◌, ◌≤◌, List, length, Option, Some, None, IsSome, arith, get_or, refl, sym, ◌∙◌, ap, subst, inl, inr}
 use Rattle.std.specs.List.{swap}
 use Rattle.std.proofs.Math.ListN.{set, length-set}
 use Rattle.std.proofs.lemmas.Bool.{cases_order}
-use Rattle.std.proofs.lemmas.List.{get_or-set_other, get_or-set_same}
+use Rattle.std.proofs.lemmas.List.{get_or-set_other, get_or-set_same, set-get_or}
 use Rattle.std.proofs.lemmas.List.Edits.{swapped_from_swap, length-swap}
 use Rattle.starlark_table.specs.Layout.{at, tag, slot_tag, empty_tag, window, HasTags, IsTagged}
 use Rattle.starlark_table.proofs.Closing.{apart-by_order, full_in_range}
@@ -68,6 +68,13 @@ module _ {T : Type 0} where
         let high' : p < length tags = rw (length-set tags i t) at high in
         get_or-set_other tags i p t 0 (λ e. absurd (omega arith)) ∙ old.padded p low' high';
   }
+
+  -- another member under the same hash
+  pub tagged-rewritten : (tags : List ℕ) (slots : List (Option (ℕ × T))) (i : ℕ) (m n : ℕ × T) → i < length slots → IsTagged tags slots
+      → at slots i ≡ Some m → n.0 ≡ m.0 → IsTagged tags (set slots i (Some n))
+  tagged-rewritten tags slots i m n i_in t here same =
+      subst (λ l. IsTagged l (set slots i (Some n))) (set-get_or tags i 0)
+      (tagged-changed tags slots i (get_or tags i 0) (Some n) i_in t (t.tagged i i_in ∙ ap slot_tag here ∙ ap tag (sym same)))
 
   -- both columns, swapped alike
   pub tagged-swapped : (tags : List ℕ) (slots : List (Option (ℕ × T))) (a b : ℕ) → a < length slots → b < length slots → IsTagged tags slots

@@ -1,39 +1,48 @@
--- Slots whose items were written stay as they were but for these: empty, or full under their hashes.
-use mathlib.Core.Path.{◌≡◌, refl, sym, ap, ◌∙◌}
-use Prim.Native.Nat.{ℕ}
-use lib.ListN.{length, drop as drop_l}
-use lib.Seq.{take_at as take_all}
-use Rattle.std.specs.Prelude.{List, [], ◌∷◌, Option, Some, None}
-use Rattle.std.specs.Global.{Vec}
-use Rattle.std.specs.Vec.{with_items}
-use Rattle.starlark_table.specs.Written.{with_item_of, with_items_of}
-use Rattle.starlark_table.specs.Frozen.{slot_with}
-use Rattle.starlark_table.proofs.FrozenRuns.{length-each_updated, slot_itself, slot_again}
+-- Slots whose members were written stay as they were but for these: empty, or full under their hashes.
+use Rattle.std.proofs.Common.{◌≡◌, ℕ, suc, List, [], ◌∷◌, length, Option, Some, None, refl, ap}
+use Rattle.starlark_columns.specs.Lent.{kept_places}
+use Rattle.starlark_table.specs.Written.{with_items_of, with_values_of}
 use Rattle.starlark_table.proofs.Shape.{shape}
 
 module _ {T : Type 0} where
-  -- what a walk wrote, written again
-  pub written_again : (xs ws : List (Option (ℕ × T))) → with_items_of xs (with_items_of xs ws) ≡ with_items_of xs ws
-  written_again [] ws = refl
-  written_again (x ∷ xs) [] = λ i. slot_itself x i ∷ written_again xs [] i
-  written_again (x ∷ xs) (w ∷ ws) = λ i. slot_again x w i ∷ written_again xs ws i
-
-  pub slot_with_again : (x : Option (ℕ × T)) (w : T) → with_item_of x (slot_with x w) ≡ slot_with x w
-  slot_with_again None w = refl
-  slot_with_again (Some m) w = refl
-
-  pub all_items : (v : Vec (Option (ℕ × T))) (l : List (Option (ℕ × T))) → length l ≡ length v.items → (with_items v l).items ≡ l
-  all_items v l e = take_all l (drop_l (length l) v.items) v.len (e ∙ sym v.ok.0)
-
-  -- a vector with other items has its own slots
-  pub kept_items : (v : Vec (Option (ℕ × T))) (ws : List (Option (ℕ × T))) → with_items v (with_items_of v.items (with_items v (with_items_of v.items ws)).items) ≡ with_items v (with_items_of v.items ws)
-  kept_items v ws = ap (λ l. with_items v (with_items_of v.items l)) (all_items v (with_items_of v.items ws) (length-each_updated with_item_of v.items ws)) ∙ ap (with_items v) (written_again v.items ws)
+  -- what is kept of a pair, and what is kept of an entry
+  pub kept-items : (xs ws : List (Option (ℕ × T))) → kept_places (λ x w. (x.0, w.1)) xs ws ≡ with_items_of xs ws
+  kept-items [] ws = refl
+  kept-items (x ∷ xs) [] = ap (λ l. x ∷ l) (kept-items xs [])
+  kept-items (None ∷ xs) (w ∷ ws) = ap (λ l. None ∷ l) (kept-items xs ws)
+  kept-items (Some x ∷ xs) (None ∷ ws) = ap (λ l. Some x ∷ l) (kept-items xs ws)
+  kept-items (Some x ∷ xs) (Some w ∷ ws) = ap (λ l. Some (x.0, w.1) ∷ l) (kept-items xs ws)
 
   -- the hashes stay
-  pub shape-with_items_of : (xs ws : List (Option (ℕ × T))) → shape (with_items_of xs ws) ≡ shape xs
-  shape-with_items_of [] ws = refl
-  shape-with_items_of (None ∷ xs) [] = ap (λ l. None ∷ l) (shape-with_items_of xs [])
-  shape-with_items_of (Some m ∷ xs) [] = ap (λ l. Some m.0 ∷ l) (shape-with_items_of xs [])
-  shape-with_items_of (None ∷ xs) (w ∷ ws) = ap (λ l. None ∷ l) (shape-with_items_of xs ws)
-  shape-with_items_of (Some m ∷ xs) (None ∷ ws) = ap (λ l. Some m.0 ∷ l) (shape-with_items_of xs ws)
-  shape-with_items_of (Some m ∷ xs) (Some w ∷ ws) = ap (λ l. Some m.0 ∷ l) (shape-with_items_of xs ws)
+  module _ (kept : ℕ × T → ℕ × T → ℕ × T) (hash : (x w : ℕ × T) → (kept x w).0 ≡ x.0) where
+    pub shape-kept_places : (xs ws : List (Option (ℕ × T))) → shape (kept_places kept xs ws) ≡ shape xs
+    shape-kept_places [] ws = refl
+    shape-kept_places (None ∷ xs) [] = ap (λ l. None ∷ l) (shape-kept_places xs [])
+    shape-kept_places (Some m ∷ xs) [] = ap (λ l. Some m.0 ∷ l) (shape-kept_places xs [])
+    shape-kept_places (None ∷ xs) (w ∷ ws) = ap (λ l. None ∷ l) (shape-kept_places xs ws)
+    shape-kept_places (Some m ∷ xs) (None ∷ ws) = ap (λ l. Some m.0 ∷ l) (shape-kept_places xs ws)
+    shape-kept_places (Some m ∷ xs) (Some w ∷ ws) = λ i. Some (hash m w i) ∷ shape-kept_places xs ws i
+
+module _ {X : Type 0} (kept : X → X → X) where
+  pub length-kept_places : (xs ws : List (Option X)) → length (kept_places kept xs ws) ≡ length xs
+  length-kept_places [] ws = refl
+  length-kept_places (x ∷ xs) [] = ap suc (length-kept_places xs [])
+  length-kept_places (x ∷ xs) (w ∷ ws) = ap suc (length-kept_places xs ws)
+
+  -- what a walk wrote, written again
+  module _ (itself : (x : X) → kept x x ≡ x) (again : (x w : X) → kept x (kept x w) ≡ kept x w) where
+    pub again-kept_places : (xs ws : List (Option X)) → kept_places kept xs (kept_places kept xs ws) ≡ kept_places kept xs ws
+    again-kept_places [] ws = refl
+    again-kept_places (None ∷ xs) [] = ap (λ l. None ∷ l) (again-kept_places xs [])
+    again-kept_places (Some x ∷ xs) [] = λ i. Some (itself x i) ∷ again-kept_places xs [] i
+    again-kept_places (None ∷ xs) (w ∷ ws) = ap (λ l. None ∷ l) (again-kept_places xs ws)
+    again-kept_places (Some x ∷ xs) (None ∷ ws) = λ i. Some (itself x i) ∷ again-kept_places xs ws i
+    again-kept_places (Some x ∷ xs) (Some w ∷ ws) = λ i. Some (again x w i) ∷ again-kept_places xs ws i
+
+module _ {K V : Type 0} where
+  pub kept-values : (xs ws : List (Option (ℕ × (K × V)))) → kept_places (λ x w. (x.0, (x.1.0, w.1.1))) xs ws ≡ with_values_of xs ws
+  kept-values [] ws = refl
+  kept-values (x ∷ xs) [] = ap (λ l. x ∷ l) (kept-values xs [])
+  kept-values (None ∷ xs) (w ∷ ws) = ap (λ l. None ∷ l) (kept-values xs ws)
+  kept-values (Some x ∷ xs) (None ∷ ws) = ap (λ l. Some x ∷ l) (kept-values xs ws)
+  kept-values (Some x ∷ xs) (Some w ∷ ws) = ap (λ l. Some (x.0, (x.1.0, w.1.1)) ∷ l) (kept-values xs ws)

@@ -1,19 +1,13 @@
 -- What a table ends as, where a `&mut` to one of its items is handed out.
 use Rattle.std.specs.Prelude.{ℕ, Option, [], ◌∷◌}
-use Rattle.std.specs.Option.{option_map}
-use Rattle.std.specs.Borrow.{Lends, LendsIf, follows, GName, Fml, RattleType, MutBor, u64}
-use Rattle.std.specs.contracts.option.Option as option
+use Rattle.std.specs.Borrow.{Lends, LendsIf, follows, GName, Fml, RattleType, MutBor}
 use denote.Struct.Tuple.{Tuple}
 use Rattle.starlark_table.specs.Table.{Table, with_item}
 use Rattle.starlark_table.specs.Written.{with_written, with_values}
 use Rattle.starlark_table.specs.contracts.ready_table.ReadyTable.{the_row}
 
 module _ (T : RattleType) where
-  -- once the borrow r ends, the slot has the last value written through it, under the same hash
-  abbrev pub lends_slot : MutBor (Option (ℕ × T.Denot)) → MutBor T.Denot → Fml
-  lends_slot s r = Lends (option.the_row (Tuple (u64 ∷ T ∷ []))) T s r (λ w. option_map (λ m. (m.0, w)) s.now)
-
-  -- the same of a table and one of its slots
+  -- once the borrow r ends, the slot of the table has the last value written through it, under the same hash
   abbrev pub lends_item : MutBor (Table T.Denot) → ℕ → MutBor T.Denot → Fml
   lends_item s slot r = Lends (the_row T) T s r (with_item s.now slot)
 

@@ -3,4 +3,5 @@ pub mod Walk
 pub mod Lends
 pub mod Layout
 pub mod Written
-pub mod Frozen
+pub mod Lent
+pub mod Sharing

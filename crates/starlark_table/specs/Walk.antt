@@ -1,5 +1,5 @@
 -- What a closure does to the members of a table along the walk.
-use Rattle.std.specs.Prelude.{◌≡◌, ℕ, Bool, List, [], ◌∷◌, ◌++◌, Option, Some, None}
+use Rattle.std.specs.Prelude.{◌≡◌, ℕ, Bool, List, [], ◌∷◌, ◌++◌, take, drop, slice_range, Option, Some, None}
 use Rattle.std.specs.Borrow.{Bor, MutBor}
 use Rattle.std.specs.Fn.{Mut, Takes, TakesAt, CalledAt, CalledAtMut}
 use Rattle.std.specs.List.{FoldsTo}
@@ -20,6 +20,12 @@ module _ {F T : Type 0} (g : Mut F (Bor T × Unit {0}) T) where
   ReplacesEach f (Some (h, x) ∷ old) new last =
       (y : T) × (next : F) × (rest : List (Option (ℕ × T)))
       × CalledAt g f x y next × (new ≡ Some (h, y) ∷ rest) × ReplacesEach next old rest last
+
+  -- the same at the slots from one up to another, where the others stay
+  pub record ReplacesWithin (f : F) (old new : List (Option (ℕ × T))) (last : F) (from to : ℕ) : Type 0 where
+    pub before : take from new ≡ take from old
+    pub items : ReplacesEach f (slice_range old from to) (slice_range new from to) last
+    pub after : drop to new ≡ drop to old
 
 module _ {F T : Type 0} (g : Mut F (MutBor T × Unit {0}) (Bool × (MutBor T × Unit {0}))) where
   -- f may be lent this item

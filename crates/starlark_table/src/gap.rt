@@ -4,31 +4,30 @@ ghost use Rattle.starlark_table.specs.Table.{filled};
 ghost use Rattle.starlark_table.specs.Layout.{at, limit, InPlace, HasGap, IsTagged};
 
 use crate::places::{distance, home_among, next_place};
-use crate::probe::Slot;
+use crate::probe::{Slots, is_full};
 use crate::tags::EMPTY;
 
 // Moves members back, each with its tag, so that no way from a home to its member crosses the empty place `start`.
 #[inline]
-pub(crate) fn close_gap<T>(slots: &mut [Slot<T>], tags: &mut [u8], start: usize)
+pub(crate) fn close_gap<T>(slots: &mut Slots<T>, tags: &mut [u8], start: usize)
     requires start { start < length slots.old }
     requires empty { at slots.old start ≡ None }
     requires gap { HasGap (length slots.old) slots.old start }
     requires tagged { IsTagged tags.old slots.old }
     requires free { (q : ℕ) × (q < length slots.old) × (q ≢ start) × (at slots.old q ≡ None) }
     ensures in_place { InPlace (length slots.new) slots.new }
+    ensures sized { length slots.new ≡ length slots.old }
     ensures bag { IsPermutation (filled slots.old) (filled slots.new) }
     ensures tagged { IsTagged tags.new slots.new }
 {
-    let count = slots.len();
+    let count = slots.places();
     let mut hole = start;
     let mut next = next_place(start, count);
     while tags[next] != EMPTY {
-        let Some((hash, _)) = &slots[next] else {
-            unreachable!();
-        };
-        let home = home_among(count, *hash);
+        let home = home_among(count, slots.get(next).0);
         if distance(count, home, hole) < distance(count, home, next) {
-            slots.swap(hole, next);
+            let member = slots.take(next);
+            slots.write(hole, member);
             tags.swap(hole, next);
             hole = next;
         }
@@ -38,20 +37,21 @@ pub(crate) fn close_gap<T>(slots: &mut [Slot<T>], tags: &mut [u8], start: usize)
 
 // Takes a member out, and puts the others back in place.
 #[inline]
-pub(crate) fn take_out<T>(slots: &mut [Slot<T>], tags: &mut [u8], slot: usize) -> Option<(u64, T)>
+pub(crate) fn take_out<T>(slots: &mut Slots<T>, tags: &mut [u8], slot: usize) -> Option<(u64, T)>
     requires load { length (filled slots.old) ≤ limit (length slots.old) }
     requires in_place { InPlace (length slots.old) slots.old }
     requires tagged { IsTagged tags.old slots.old }
+    ensures sized { length slots.new ≡ length slots.old }
     ensures found { result ≡ at slots.old slot }
     ensures rest { IfSome result (λ m. IsPermutation (filled slots.old) (m ∷ filled slots.new)) }
     ensures none { IfNone result (slots.new ≡ slots.old) }
     ensures in_place { InPlace (length slots.new) slots.new }
     ensures tagged { IsTagged tags.new slots.new }
 {
-    if slot >= slots.len() {
+    if !is_full(slots, tags, slot) {
         return None;
     }
-    let member = slots[slot].take()?;
+    let member = slots.take(slot);
     tags[slot] = EMPTY;
     close_gap(slots, tags, slot);
     Some(member)

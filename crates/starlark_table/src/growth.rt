@@ -1,26 +1,17 @@
 //! Growth: new slots, all empty, and the move of every member into them under the hash that it keeps.
-ghost use Rattle.std.specs.Prelude.{◌≡◌, ℕ, ◌+◌, ◌^◌, ◌<◌, ◌≤◌, None, ◌++◌, length, replicate, IfOk, IsPermutation};
-ghost use Rattle.starlark_table.specs.Table.{filled};
-ghost use Rattle.starlark_table.specs.Layout.{limit, tags_of_empty, InPlace, IsTagged};
+ghost use Rattle.std.specs.Prelude.{◌≡◌, ℕ, ◌+◌, ◌^◌, ◌<◌, ◌≤◌, ◌++◌, None, length, IfOk, OnOk, IsPermutation};
+ghost use Rattle.std.specs.List.{AllZip};
+ghost use Rattle.starlark_columns.specs.Places.{empties};
+ghost use Rattle.starlark_table.specs.Table.{filled, IsSlotClone};
+ghost use Rattle.starlark_table.specs.Layout.{at, limit, tags_of_empty, window, InPlace, IsTagged, IsTaggedFrom};
 
-use crate::probe::{Slot, put};
-use crate::tags::{EMPTY, PADDING, WINDOW};
+use crate::probe::{Slots, put};
+use crate::tags::{EMPTY, PADDING, WINDOW, full_places};
 use std::alloc::{AllocError, Global};
 
-pub(crate) fn empty_slots<T>(alloc: Global, count: usize) -> Result<Vec<Slot<T>>, AllocError>
-    ensures { IfOk result (λ v. v.items ≡ replicate count None) }
-{
-    let mut slots = Vec::with_capacity(alloc, count)?;
-    for made in 0..count {
-        slots.push_reserved(None);
-    }
-    Ok(slots)
-}
-
 // The tags of so many empty places, and the window behind them.
-// Tags can be let go where the slots are then refused, but slots cannot: so they are asked for first.
 pub(crate) fn empty_tags(alloc: Global, count: usize) -> Result<Vec<u8>, AllocError>
-    requires { count ≤ 2 ^ 62 }
+    requires { count + window < 2 ^ 64 }
     ensures { IfOk result (λ v. v.items ≡ tags_of_empty count) }
 {
     let mut tags = Vec::with_capacity(alloc, count + WINDOW)?;
@@ -29,20 +20,87 @@ pub(crate) fn empty_tags(alloc: Global, count: usize) -> Result<Vec<u8>, AllocEr
     Ok(tags)
 }
 
-// Moves each member to the new slots, which have room for all.
-pub(crate) fn move_all<T>(mut old: Vec<Slot<T>>, slots: &mut [Slot<T>], tags: &mut [u8])
+// Moves each member to the new slots, which have room for all, and gives the old ones back.
+pub(crate) fn move_all<T>(
+    alloc: Global,
+    mut old: Slots<T>,
+    old_tags: &[u8],
+    slots: &mut Slots<T>,
+    tags: &mut [u8],
+)
+    requires old_tagged { IsTagged old_tags.now old }
     requires places { 0 < length slots.old }
     requires in_place { InPlace (length slots.old) slots.old }
     requires tagged { IsTagged tags.old slots.old }
-    requires room { length (filled slots.old) + length (filled old.items) ≤ limit (length slots.old) }
-    ensures bag { IsPermutation (filled old.items ++ filled slots.old) (filled slots.new) }
+    requires room { length (filled slots.old) + length (filled old) ≤ limit (length slots.old) }
+    ensures sized { length slots.new ≡ length slots.old }
+    ensures bag { IsPermutation (filled old ++ filled slots.old) (filled slots.new) }
     ensures in_place { InPlace (length slots.new) slots.new }
     ensures tagged { IsTagged tags.new slots.new }
 {
-    while let Some(slot) = old.pop() {
-        if let Some((hash, item)) = slot {
-            put(slots, tags, hash, item);
+    let mut start = 0;
+    'windows: while start < old.places() {
+        start = move_window(&mut old, old_tags, start, slots, tags);
+    }
+    old.give_back(alloc);
+}
+
+// Moves the members of a window of places. The answer is where it ends.
+fn move_window<T>(
+    from: &mut Slots<T>,
+    from_tags: &[u8],
+    start: usize,
+    slots: &mut Slots<T>,
+    tags: &mut [u8],
+) -> usize
+    requires start { start < length from.old }
+    requires from_tagged { IsTaggedFrom start from_tags.now from.old }
+    requires places { 0 < length slots.old }
+    requires in_place { InPlace (length slots.old) slots.old }
+    requires tagged { IsTagged tags.old slots.old }
+    requires room { length (filled from.old ++ filled slots.old) ≤ limit (length slots.old) }
+    ensures some { start < result }
+    ensures sized { length slots.new ≡ length slots.old }
+    ensures bag { IsPermutation (filled from.old ++ filled slots.old) (filled from.new ++ filled slots.new) }
+    ensures in_place { InPlace (length slots.new) slots.new }
+    ensures tagged { IsTagged tags.new slots.new }
+    ensures from_sized { length from.new ≡ length from.old }
+    ensures emptied { (p : ℕ) → start ≤ p → p < result → at from.new p ≡ None }
+    ensures before { (p : ℕ) → p < start → at from.new p ≡ at from.old p }
+    ensures after { (p : ℕ) → result ≤ p → at from.new p ≡ at from.old p }
+{
+    let (mut full, end) = full_places(from_tags, start);
+    'places: while full != 0 {
+        let place = start + full.trailing_zeros() as usize;
+        let (hash, item) = from.take(place);
+        put(slots, tags, hash, item);
+        full &= full - 1;
+    }
+    end
+}
+
+// Puts a clone of each member into the slot of the same place, which is empty. Where one is refused, those that were
+// made stand there.
+pub(crate) fn clone_members<T: Clone>(
+    slots: &Slots<T>,
+    tags: &[u8],
+    copy: &mut Slots<T>,
+    copy_tags: &mut [u8],
+) -> Result<(), AllocError>
+    requires tagged { IsTagged tags.now slots.now }
+    requires copy_tagged { IsTagged copy_tags.old copy.old }
+    requires empty { copy.old ≡ empties (length slots.now) }
+    ensures cloned { OnOk result (AllZip (IsSlotClone T.is_clone) slots.now copy.new) }
+    ensures tagged { IsTagged copy_tags.new copy.new }
+    ensures sized { length copy.new ≡ length slots.now }
+{
+    for place in 0..slots.places() {
+        if tags[place] != EMPTY {
+            let (hash, item) = slots.get(place);
+            let item = item.clone()?;
+            copy_tags[place] = tags[place];
+            copy.write(place, (*hash, item));
         }
     }
-    old.destroy_empty();
+    Ok(())
 }

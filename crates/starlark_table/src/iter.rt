@@ -4,39 +4,51 @@ ghost use Rattle.std.specs.Iterator.{YieldsFirst, YieldsFirstRef, UpTo, at_most,
 ghost use Rattle.std.specs.Iterator.SizeHint.{IsWithinCount};
 ghost use Rattle.starlark_table.specs.Table.{filled, items_in};
 
-use crate::probe::Slot;
-use std::alloc::{AllocError, Global};
+use crate::probe::{Slots, full_slot};
+use crate::tags::EMPTY;
+use crate::walks::drop_all;
+use std::alloc::AllocError;
 use std::iter::FusedIterator;
 use std::marker::Model;
-use std::vec;
 
 /// The items of a table, each by `&`.
 #[derive(Drop)]
 pub struct Iter<'a, T> {
-    slots: &'a [Slot<T>],
+    slots: &'a Slots<T>,
+    tags: &'a [u8],
+    // The first slot that the walk has still to reach, and how many items it has still to give.
+    slot: usize,
     left: usize,
 }
 
 impl<'a, T> Model for Iter<'a, T> {
-    ghost use Rattle.std.specs.Prelude.{◌≡◌, List, length};
+    ghost use Rattle.std.specs.Prelude.{◌≡◌, List, drop, length};
+    ghost use Rattle.starlark_table.specs.Layout.{IsTagged};
     ghost use Rattle.starlark_table.specs.Table.{filled, items_in};
 
     ghost Value = { List T };
 
-    ghost view = { λ it. items_in it.slots.now };
+    ghost view = { λ it. items_in (drop it.slot it.slots.now) };
 
-    ghost invariant = { λ it. it.left ≡ length (filled it.slots.now) };
+    ghost invariant = { λ it. IsTagged it.tags.now it.slots.now × (it.left ≡ length (filled (drop it.slot it.slots.now))) };
 }
 
 impl<'a, T> Iter<'a, T> {
     ghost use Rattle.std.specs.Prelude.{length};
+    ghost use Rattle.starlark_table.specs.Layout.{IsTagged};
 
     #[inline]
-    pub(crate) fn new(slots: &'a [Slot<T>], left: usize) -> Self
-        requires { left ≡ length (filled slots.now) }
+    pub(crate) fn new(slots: &'a Slots<T>, tags: &'a [u8], left: usize) -> Self
+        requires tagged { IsTagged tags.now slots.now }
+        requires all { left ≡ length (filled slots.now) }
         ensures { result ≡ items_in slots.now }
     {
-        Iter { slots, left }
+        Iter {
+            slots,
+            tags,
+            slot: 0,
+            left,
+        }
     }
 }
 
@@ -49,14 +61,13 @@ impl<'a, T> Iterator for Iter<'a, T> {
 
     #[inline]
     fn next(&mut self) -> Option<&'a T> {
-        while let Some((slot, rest)) = self.slots.split_first() {
-            self.slots = rest;
-            if let Some((_, item)) = slot {
-                self.left -= 1;
-                return Some(item);
-            }
+        if self.left == 0 {
+            return None;
         }
-        None
+        let slot = full_slot(self.slots, self.tags, self.slot);
+        self.slot = slot + 1;
+        self.left -= 1;
+        Some(&self.slots.get(slot).1)
     }
 
     #[inline]
@@ -87,40 +98,48 @@ impl<'a, T> Clone for Iter<'a, T> {
     fn clone(&self) -> Result<Self, AllocError> {
         Ok(Iter {
             slots: self.slots,
+            tags: self.tags,
+            slot: self.slot,
             left: self.left,
         })
     }
 }
 
-/// The members of a table, each as its hash and its item, by value.
-#[derive(Drop)]
+/// The members of a table, each as its hash and its item, by value. What is left when it is dropped is dropped with it.
 pub struct IntoIter<T> {
-    slots: vec::IntoIter<Slot<T>, Global>,
+    slots: Slots<T>,
+    tags: Vec<u8>,
+    slot: usize,
     left: usize,
 }
 
 impl<T> Model for IntoIter<T> {
-    ghost use Rattle.std.specs.Prelude.{◌≡◌, ℕ, List, length};
-    ghost use Rattle.std.specs.Vec.Iter.{into_iter_items};
+    ghost use Rattle.std.specs.Prelude.{◌≡◌, ℕ, ◌<◌, List, length, None};
+    ghost use Rattle.starlark_table.specs.Layout.{at, IsTagged};
     ghost use Rattle.starlark_table.specs.Table.{filled};
 
     ghost Value = { List (ℕ × T) };
 
-    ghost view = { λ it. filled (into_iter_items it.slots) };
+    ghost view = { λ it. filled it.slots };
 
-    ghost invariant = { λ it. it.left ≡ length (filled (into_iter_items it.slots)) };
+    // What was given has left its slot, and its tag: so the slots in front of `slot` are empty.
+    ghost invariant = { λ it. IsTagged it.tags.items it.slots × (it.left ≡ length (filled it.slots)) × ((p : ℕ) → p < it.slot → at it.slots p ≡ None) };
 }
 
 impl<T> IntoIter<T> {
     ghost use Rattle.std.specs.Prelude.{length};
+    ghost use Rattle.starlark_table.specs.Layout.{IsTagged};
 
     #[inline]
-    pub(crate) fn new(slots: Vec<Slot<T>>, left: usize) -> Self
-        requires { left ≡ length (filled slots.items) }
-        ensures { result ≡ filled slots.items }
+    pub(crate) fn new(slots: Slots<T>, tags: Vec<u8>, left: usize) -> Self
+        requires tagged { IsTagged tags.items slots }
+        requires all { left ≡ length (filled slots) }
+        ensures { result ≡ filled slots }
     {
         IntoIter {
-            slots: slots.into_iter(),
+            slots,
+            tags,
+            slot: 0,
             left,
         }
     }
@@ -135,13 +154,14 @@ impl<T: Drop> Iterator for IntoIter<T> {
 
     #[inline]
     fn next(&mut self) -> Option<(u64, T)> {
-        while let Some(slot) = self.slots.next() {
-            if let Some(member) = slot {
-                self.left -= 1;
-                return Some(member);
-            }
+        if self.left == 0 {
+            return None;
         }
-        None
+        let slot = full_slot(&self.slots, self.tags.as_slice(), self.slot);
+        self.slot = slot + 1;
+        self.left -= 1;
+        self.tags[slot] = EMPTY;
+        Some(self.slots.take(slot))
     }
 
     #[inline]
@@ -162,3 +182,15 @@ impl<T: Drop> ExactSizeIterator for IntoIter<T> {
 }
 
 impl<T: Drop> FusedIterator for IntoIter<T> {}
+
+impl<T: Drop> Drop for IntoIter<T> {
+    fn drop(self) {
+        let IntoIter {
+            slots,
+            tags,
+            slot: _,
+            left: _,
+        } = self;
+        drop_all(*tags.allocator(), slots, tags.as_slice());
+    }
+}

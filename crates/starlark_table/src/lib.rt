@@ -5,8 +5,8 @@ mod gap;
 mod growth;
 pub mod iter;
 mod iter_mut;
-mod loan;
-pub mod pair_loan;
+pub mod loan;
+mod near;
 mod pairs_mut;
 mod places;
 mod probe;
@@ -16,6 +16,6 @@ mod walks;
 
 pub use iter::{IntoIter, Iter};
 pub use iter_mut::IterMut;
-pub use pair_loan::PairLoan;
+pub use loan::PairLoan;
 pub use pairs_mut::PairsMut;
 pub use ready_table::ReadyTable;

@@ -1,61 +1,43 @@
 //! The right to write the items of slots that lie side by side, and that a walk has still to reach.
-ghost use Rattle.std.specs.Prelude.{◌≡◌, ℕ, ◌+◌, ◌<◌, List, ◌∷◌, length, Option};
-ghost use Rattle.std.specs.Borrow.{GName, sem};
+ghost use Rattle.std.specs.Prelude.{◌≡◌, ℕ, ◌+◌, ◌<◌, ◌∷◌, length, Option};
+ghost use Rattle.std.specs.Map.Iter.{deref_pair_mut};
 ghost use Rattle.std.specs.Option.{option_copied_mut, option_map};
-ghost use Rattle.starlark_table.specs.Frozen.{slots_follow, lends_run, lends_slot_if, frozen};
+ghost use Rattle.starlark_table.specs.Lent.{AreMarked};
 
-use crate::probe::{Slot, item_mut};
-use std::marker::{Model, PhantomData};
+use crate::tags::EMPTY;
+use starlark_columns::loan::{AllButLast, First};
+use std::marker::Model;
 
-/// The right to the slots at `start` that are still to be taken: those from the `from`-th on, `rest`. Their
-/// hashes are frozen. `name` is the loan of these, and `tie` the loan of all, which the vector follows.
+/// The right to the slots that are still to be taken, `rest`, which begin with the `from`-th. Their hashes are frozen.
+/// `tie` is the loan of all, which the table follows.
 #[derive(Drop)]
 pub struct Loan<'a, T> {
-    start: *mut Slot<T>,
-    mark: PhantomData<&'a mut Slot<T>>,
-    ghost name: { GName },
-    ghost tie: { GName },
-    ghost from: { ℕ },
-    ghost rest: { List (Option (ℕ × T)) },
+    places: starlark_columns::Loan<'a, (u64, T), First>,
+    // They alone tell at run time which slots are full.
+    tags: &'a [u8],
 }
 
 impl<'a, T> Model for Loan<'a, T> {
-    ghost also_owns = { λ l. frozen 'a T.row l.start l.from l.name l.rest };
-}
+    ghost use Rattle.starlark_table.specs.Lent.{AreMarked, Lent, lent_code};
 
-// The slots of a vector.
-#[inline]
-pub(crate) fn run_mut<T>(slots: &mut Vec<Slot<T>>) -> &mut [Slot<T>]
-    ensures* writes_back { sem 𝓛 (lends_run T.row slots.entry result) }
-    ensures value { result.now ≡ slots.old.items }
-{
-    slots.as_mut_slice()
-}
+    ghost Value = { Lent T };
 
-// The item in a slot, if it has one.
-#[inline]
-pub(crate) fn item_in<T>(slot: &mut Slot<T>) -> Option<&mut T>
-    ensures* writes_back { sem 𝓛 (lends_slot_if T.row slot.entry result) }
-    ensures value { option_copied_mut result ≡ option_map (λ m. m.1) slot.old }
-{
-    if slot.is_some() {
-        Some(item_mut(slot))
-    } else {
-        None
-    }
+    ghost coded = { lent_code T.code };
+
+    ghost view = { λ l. record { from = l.places.from; rest = l.places.rest; tie = l.places.tie } };
+
+    ghost invariant = { λ l. AreMarked l.tags.now l.places.from l.places.rest };
 }
 
 impl<'a, T> Loan<'a, T> {
     #[inline]
-    pub(crate) fn new(slots: &'a mut Vec<Slot<T>>) -> Loan<'a, T>
-        ensures* writes_back { sem 𝓛 (slots_follow T.row slots.entry result.tie) }
-        ensures rest { (result.from ≡ 0) × (result.rest ≡ slots.old.items) }
+    pub(crate) fn new(places: starlark_columns::Loan<'a, (u64, T), First>, tags: &'a [u8]) -> Self
+        requires { AreMarked tags.now places.from places.rest }
+        ensures from { result.from ≡ places.entry.from }
+        ensures rest { result.rest ≡ places.entry.rest }
+        ensures tie { result.tie ≡ places.entry.tie }
     {
-        let run = run_mut(slots);
-        Loan {
-            start: run.as_mut_ptr(),
-            mark: PhantomData,
-        }
+        Loan { places, tags }
     }
 
     // Takes the next slot, and answers its item if it has one.
@@ -64,7 +46,59 @@ impl<'a, T> Loan<'a, T> {
         requires { (index ≡ self.old.from) × (0 < length self.old.rest) }
         ensures { (slot : Option (ℕ × T)) × (self.old.rest ≡ slot ∷ self.new.rest) × (option_copied_mut result ≡ option_map (λ m. m.1) slot) × (self.new.from ≡ self.old.from + 1) × (self.new.tie ≡ self.old.tie) }
     {
-        let slot = unsafe { &mut *self.start.add(index) };
-        item_in(slot)
+        if self.tags[index] == EMPTY {
+            self.places.skip();
+            return None;
+        }
+        let (_, item) = self.places.take_pair(index);
+        Some(item)
+    }
+}
+
+/// The same of slots with pairs, of which hashes and keys are frozen.
+#[derive(Drop)]
+pub struct PairLoan<'a, K, V> {
+    places: starlark_columns::Loan<'a, (u64, (K, V)), AllButLast>,
+    tags: &'a [u8],
+}
+
+impl<'a, K, V> Model for PairLoan<'a, K, V> {
+    ghost use Rattle.std.specs.Coded.{coded×};
+    ghost use Rattle.starlark_table.specs.Lent.{AreMarked, Lent, lent_code};
+
+    ghost Value = { Lent (K × V) };
+
+    ghost coded = { lent_code (coded× K.code V.code) };
+
+    ghost view = { λ l. record { from = l.places.from; rest = l.places.rest; tie = l.places.tie } };
+
+    ghost invariant = { λ l. AreMarked l.tags.now l.places.from l.places.rest };
+}
+
+impl<'a, K, V> PairLoan<'a, K, V> {
+    #[inline]
+    pub(crate) fn new(
+        places: starlark_columns::Loan<'a, (u64, (K, V)), AllButLast>,
+        tags: &'a [u8],
+    ) -> Self
+        requires { AreMarked tags.now places.from places.rest }
+        ensures from { result.from ≡ places.entry.from }
+        ensures rest { result.rest ≡ places.entry.rest }
+        ensures tie { result.tie ≡ places.entry.tie }
+    {
+        PairLoan { places, tags }
+    }
+
+    // Takes the next slot, and answers its pair if it has one.
+    #[inline]
+    pub(crate) fn take(&mut self, index: usize) -> Option<(&'a K, &'a mut V)>
+        requires { (index ≡ self.old.from) × (0 < length self.old.rest) }
+        ensures { (slot : Option (ℕ × (K × V))) × (self.old.rest ≡ slot ∷ self.new.rest) × (option_map deref_pair_mut result ≡ option_map (λ m. m.1) slot) × (self.new.from ≡ self.old.from + 1) × (self.new.tie ≡ self.old.tie) }
+    {
+        if self.tags[index] == EMPTY {
+            self.places.skip();
+            return None;
+        }
+        Some(self.places.take_value(index))
     }
 }

@@ -9,7 +9,7 @@ use crate::tags::WINDOW;
 pub(crate) fn limit(count: usize) -> usize
     ensures { result ≡ limit count }
 {
-    count / 8 * 5
+    count / 8 * 6 + count / 16
 }
 
 #[inline]

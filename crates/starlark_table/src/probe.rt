@@ -1,21 +1,22 @@
 //! Reads and writes of the slots along the way of a hash: from its home on, up to the first empty place.
-ghost use Rattle.std.specs.Prelude.{◌≡◌, ℕ, ◌<◌, Some, None, length, IfSome, IsSome, slice_set};
+ghost use Rattle.std.specs.Prelude.{◌≡◌, ℕ, ◌+◌, ◌<◌, ◌≤◌, ◌∷◌, Some, None, drop, length, IfSome, IsSome, is_some, slice_set};
 ghost use Rattle.std.specs.Option.{option_copied, option_map};
-ghost use Rattle.std.specs.Borrow.{sem};
 ghost use Rattle.starlark_hash.specs.Search.{Searches, CanSearch};
-ghost use Rattle.starlark_table.specs.Table.{holders_in, IsNextSlot};
-ghost use Rattle.starlark_table.specs.Lends.{lends_slot};
+ghost use Rattle.starlark_columns.specs.Places.{IsFilled};
+ghost use Rattle.starlark_table.specs.Table.{filled, holders_in, IsNextSlot};
 ghost use Rattle.starlark_table.specs.Layout.{distance, at, InPlace, IsMask, IsTagged};
 
 use crate::places::{home, home_among, window_after};
 use crate::tags::{EMPTY, places_up_to_empty, places_with, tag};
+use starlark_columns::Column;
 
-pub(crate) type Slot<T> = Option<(u64, T)>;
+/// A place for a member each: its hash, and its item.
+pub(crate) type Slots<T> = Column<(u64, T)>;
 
 // A slot, with the item in it.
 #[inline]
 pub(crate) fn find_slot<'a, T, F: FnMut(&T) -> bool>(
-    slots: &'a [Slot<T>],
+    slots: &'a Slots<T>,
     tags: &[u8],
     mask: usize,
     hash: u64,
@@ -29,7 +30,7 @@ pub(crate) fn find_slot<'a, T, F: FnMut(&T) -> bool>(
     ensures found { (last : F) × Searches F.FnMut (holders_in hash slots.now) eq (option_map (λ p. p.0) result) last }
     ensures item { IfSome result (λ p. at slots.now p.0 ≡ Some (hash, p.1.now)) }
 {
-    if slots.is_empty() {
+    if slots.places() == 0 {
         return None;
     }
     let sought = tag(hash);
@@ -46,9 +47,7 @@ pub(crate) fn find_slot<'a, T, F: FnMut(&T) -> bool>(
             same = places_up_to_empty(tags, start, sought);
         } else {
             place += same.trailing_zeros() as usize;
-            let Some((stored, item)) = &slots[place] else {
-                unreachable!();
-            };
+            let (stored, item) = slots.get(place);
             if *stored == hash && eq(item) {
                 return Some((place, item));
             }
@@ -60,7 +59,7 @@ pub(crate) fn find_slot<'a, T, F: FnMut(&T) -> bool>(
 
 // The first empty place from one on.
 #[inline]
-pub(crate) fn free_place<T>(slots: &[Slot<T>], tags: &[u8], home: usize) -> usize
+pub(crate) fn free_place<T>(slots: &Slots<T>, tags: &[u8], home: usize) -> usize
     requires home { home < length slots.now }
     requires tagged { IsTagged tags.now slots.now }
     requires free { (q : ℕ) × (q < length slots.now) × (at slots.now q ≡ None) }
@@ -68,7 +67,7 @@ pub(crate) fn free_place<T>(slots: &[Slot<T>], tags: &[u8], home: usize) -> usiz
     ensures empty { at slots.now result ≡ None }
     ensures path { (q : ℕ) → q < length slots.now → distance (length slots.now) home q < distance (length slots.now) home result → IsSome (at slots.now q) }
 {
-    let mask = slots.len() - 1;
+    let mask = slots.places() - 1;
     let mut start = home;
     let mut empty = places_with(tags, start, EMPTY);
     'windows: while empty == 0 {
@@ -80,7 +79,7 @@ pub(crate) fn free_place<T>(slots: &[Slot<T>], tags: &[u8], home: usize) -> usiz
 
 // Puts a member at the first empty place from its home on, and its tag beside it.
 #[inline]
-pub(crate) fn put<T>(slots: &mut [Slot<T>], tags: &mut [u8], hash: u64, item: T) -> usize
+pub(crate) fn put<T>(slots: &mut Slots<T>, tags: &mut [u8], hash: u64, item: T) -> usize
     requires in_place { InPlace (length slots.old) slots.old }
     requires tagged { IsTagged tags.old slots.old }
     requires free { (q : ℕ) × (q < length slots.old) × (at slots.old q ≡ None) }
@@ -90,48 +89,60 @@ pub(crate) fn put<T>(slots: &mut [Slot<T>], tags: &mut [u8], hash: u64, item: T)
     ensures in_place { InPlace (length slots.new) slots.new }
     ensures tagged { IsTagged tags.new slots.new }
 {
-    let place = free_place(slots, tags, home_among(slots.len(), hash));
+    let place = free_place(slots, tags, home_among(slots.places(), hash));
     tags[place] = tag(hash);
-    match slots[place].replace((hash, item)) {
-        None => place,
-        Some(_) => unreachable!(),
-    }
+    slots.write(place, (hash, item));
+    place
+}
+
+// Whether a member stands in a slot.
+#[inline]
+pub(crate) fn is_full<T>(slots: &Slots<T>, tags: &[u8], slot: usize) -> bool
+    requires { IsTagged tags.now slots.now }
+    ensures { result ≡ is_some (at slots.now slot) }
+{
+    slot < slots.places() && tags[slot] != EMPTY
 }
 
 #[inline]
-pub(crate) fn item_at<T>(slots: &[Slot<T>], slot: usize) -> Option<&T>
+pub(crate) fn item_at<'a, T>(slots: &'a Slots<T>, tags: &[u8], slot: usize) -> Option<&'a T>
+    requires { IsTagged tags.now slots.now }
     ensures { option_copied result ≡ option_map (λ m. m.1) (at slots.now slot) }
 {
-    if slot >= slots.len() {
-        return None;
-    }
-    match &slots[slot] {
-        None => None,
-        Some((_, item)) => Some(item),
-    }
-}
-
-#[inline]
-pub(crate) fn item_mut<T>(slot: &mut Slot<T>) -> &mut T
-    requires { IsSome slot.old }
-    ensures* writes_back { sem 𝓛 (lends_slot T.row slot.entry result) }
-    ensures value { option_map (λ m. m.1) slot.old ≡ Some result.now }
-{
-    match slot {
-        Some(member) => &mut member.1,
-        None => unreachable!(),
+    if is_full(slots, tags, slot) {
+        Some(&slots.get(slot).1)
+    } else {
+        None
     }
 }
 
 // The first slot from one on that has a member.
 #[inline]
-pub(crate) fn full_from<T>(slots: &[Slot<T>], from: usize) -> Option<usize>
+pub(crate) fn full_from<T>(slots: &Slots<T>, tags: &[u8], from: usize) -> Option<usize>
+    requires { IsTagged tags.now slots.now }
     ensures { IsNextSlot slots.now from result }
 {
-    for slot in from..slots.len() {
-        if slots[slot].is_some() {
+    for slot in from..slots.places() {
+        if tags[slot] != EMPTY {
             return Some(slot);
         }
     }
     None
+}
+
+// The first slot from one on that has a member. There is one.
+#[inline]
+pub(crate) fn full_slot<T>(slots: &Slots<T>, tags: &[u8], from: usize) -> usize
+    requires tagged { IsTagged tags.now slots.now }
+    requires some { 0 < length (filled (drop from slots.now)) }
+    ensures behind { from ≤ result }
+    ensures passed { (p : ℕ) → from ≤ p → p < result → at slots.now p ≡ None }
+    ensures next { IfSome (at slots.now result) (λ m. filled (drop from slots.now) ≡ m ∷ filled (drop (result + 1) slots.now)) }
+    ensures full { IsFilled slots.now result }
+{
+    let mut slot = from;
+    while tags[slot] == EMPTY {
+        slot += 1;
+    }
+    slot
 }

@@ -1,23 +1,25 @@
 //! A bag of items under ready hashes. It alone sees how the slots are laid out.
-ghost use Rattle.std.specs.Prelude.{◌≡◌, ℕ, ◌+◌, ◌<◌, ◌≤◌, Some, [], ◌∷◌, List, IsOk, IfOk, OnOk, OnErr, IfErr, IfSome, IfNone, IsSome, IsPermutation, Option};
+ghost use Rattle.std.specs.Prelude.{◌≡◌, ℕ, ◌+◌, ◌<◌, ◌≤◌, Some, true, [], ◌∷◌, List, IsOk, IfOk, OnOk, OnErr, IfErr, IfSome, IfNone, IsSome, IsPermutation, Option};
 ghost use Rattle.std.specs.Option.{option_and_then, option_copied, option_copied_mut, option_map};
 ghost use Rattle.std.specs.Borrow.{sem};
+ghost use Rattle.std.specs.Fn.{CalledAt};
 ghost use Rattle.std.specs.List.Retain.{RetainsInTurn};
 ghost use Rattle.starlark_hash.specs.Search.{Searches, CanSearch};
 ghost use Rattle.starlark_table.specs.Table.{members, table_len, member_at, item_in, items_of, items_under, IsNextSlot, IsTableClone};
 ghost use Rattle.starlark_table.specs.Walk.{CanReplace, ReplacesEach, CanRetain, AsksMember};
 
+mod lends;
 mod pairs;
 
 use crate::gap::take_out;
-use crate::growth::{empty_slots, empty_tags, move_all};
+use crate::growth::{clone_members, empty_tags, move_all};
 use crate::iter::{IntoIter, Iter};
-use crate::iter_mut::IterMut;
-use crate::loan::Loan;
+use crate::near::find_slot_near;
 use crate::places::{limit, places_for};
-use crate::probe::{Slot, find_slot, full_from, item_at, item_mut, put};
-use crate::tags::{retag, untag};
-use crate::walks::{empty_all, replace_items, retain_items};
+use crate::probe::{Slots, find_slot, full_from, item_at, put};
+use crate::tags::untag;
+use crate::walks::{drop_all, empty_all, replace_items, retain_items};
+use starlark_columns::Column;
 use starlark_hash::NoRoom;
 use std::alloc::{AllocError, Global};
 use std::marker::Model;
@@ -28,9 +30,9 @@ use std::mem;
 ///
 /// Open addressing: each slot is empty or has a member, which stands as near behind its home as was free when it came.
 /// Beside each slot stands a tag, one byte of the hash: by the tags a search mostly sees at once where its hash may be.
-#[derive(Drop)]
 pub struct ReadyTable<T> {
-    slots: Vec<Slot<T>>,
+    slots: Slots<T>,
+    // Of each slot one byte, which alone tells at run time whether it has a member.
     tags: Vec<u8>,
     len: usize,
     mask: usize,
@@ -46,21 +48,28 @@ impl<T> Model for ReadyTable<T> {
 
     ghost use Rattle.starlark_table.specs.Layout.{limit, IsSound};
 
-    ghost view = { λ t. record { slots = t.slots.items; room = limit (length t.slots.items) - t.len } };
+    ghost view = { λ t. record { slots = t.slots; room = limit (length t.slots) - t.len } };
 
-    ghost invariant = { λ t. IsSound t.slots.items t.tags.items t.len t.mask };
+    ghost invariant = { λ t. IsSound t.slots t.tags.items t.len t.mask };
 }
 
 impl<T> ReadyTable<T> {
-    ghost use Rattle.starlark_table.specs.Lends.{lends_item, lends_get, table_follows};
+    ghost use Rattle.starlark_table.specs.Lends.{lends_item, lends_get};
 
     /// An empty table, which asks for no memory before the first insertion.
     pub fn new(alloc: Global) -> ReadyTable<T>
         ensures empty { members result ≡ [] }
         ensures room { result.room ≡ 0 }
     {
+        ReadyTable::without_slots(alloc)
+    }
+
+    fn without_slots(alloc: Global) -> ReadyTable<T>
+        ensures slots { result.slots ≡ [] }
+        ensures room { result.room ≡ 0 }
+    {
         ReadyTable {
-            slots: Vec::new(alloc),
+            slots: Column::new(),
             tags: Vec::new(alloc),
             len: 0,
             mask: 0,
@@ -80,7 +89,7 @@ impl<T> ReadyTable<T> {
             return Err(AllocError);
         };
         let tags = empty_tags(alloc, count)?;
-        let slots = empty_slots(alloc, count)?;
+        let slots = Column::with_places(alloc, count)?;
         Ok(ReadyTable {
             slots,
             tags,
@@ -102,7 +111,7 @@ impl<T> ReadyTable<T> {
     pub fn room(&self) -> usize
         ensures { result ≡ self.now.room }
     {
-        limit(self.slots.len()) - self.len
+        limit(self.slots.places()) - self.len
     }
 
     /// The slot of an item under exactly this hash that `eq` accepts. `eq` is asked about items of this hash alone,
@@ -113,14 +122,18 @@ impl<T> ReadyTable<T> {
         requires { CanSearch F.FnMut (items_under hash self.now) eq }
         ensures { (last : F) × Searches F.FnMut (items_under hash self.now) eq result last }
     {
-        let (slot, _) = find_slot(
-            self.slots.as_slice(),
-            self.tags.as_slice(),
-            self.mask,
-            hash,
-            eq,
-        )?;
+        let (slot, _) = find_slot(&self.slots, self.tags.as_slice(), self.mask, hash, eq)?;
         Some(slot)
+    }
+
+    /// The slot of such an item, if it stands near the place where its search begins: at most 32 slots are looked at,
+    /// whatever the hashes. `None` says nothing, since an item may stand farther on.
+    #[inline]
+    pub fn find_near<F: FnMut(&T) -> bool>(&self, hash: u64, eq: F) -> Option<usize>
+        requires { CanSearch F.FnMut (items_under hash self.now) eq }
+        ensures { IfSome result (λ slot. (x : T) × (f : F) × (f' : F) × (member_at self.now slot ≡ Some (hash, x)) × CalledAt F.FnMut f x true f') }
+    {
+        find_slot_near(&self.slots, self.tags.as_slice(), self.mask, hash, eq)
     }
 
     /// The item of such a slot, for which `eq` is asked just as by `find`.
@@ -129,13 +142,7 @@ impl<T> ReadyTable<T> {
         requires { CanSearch F.FnMut (items_under hash self.now) eq }
         ensures { (slot : Option ℕ) × (last : F) × Searches F.FnMut (items_under hash self.now) eq slot last × (option_copied result ≡ option_and_then (item_in self.now) slot) }
     {
-        let (_, item) = find_slot(
-            self.slots.as_slice(),
-            self.tags.as_slice(),
-            self.mask,
-            hash,
-            eq,
-        )?;
+        let (_, item) = find_slot(&self.slots, self.tags.as_slice(), self.mask, hash, eq)?;
         Some(item)
     }
 
@@ -144,7 +151,7 @@ impl<T> ReadyTable<T> {
     pub fn get(&self, slot: usize) -> Option<&T>
         ensures { option_copied result ≡ option_map (λ m. m.1) (member_at self.now slot) }
     {
-        item_at(self.slots.as_slice(), slot)
+        item_at(&self.slots, self.tags.as_slice(), slot)
     }
 
     /// The item in a slot, for writing. Its hash stays.
@@ -166,7 +173,7 @@ impl<T> ReadyTable<T> {
         ensures* writes_back { sem 𝓛 (lends_item T.row self.entry slot result) }
         ensures value { option_map (λ m. m.1) (member_at self.old slot) ≡ Some result.now }
     {
-        item_mut(&mut self.slots[slot])
+        &mut self.slots.get_mut(slot).1
     }
 
     /// Puts an item in, also where an equal one is there, and answers its slot. Refused only at room 0; the table is
@@ -195,12 +202,7 @@ impl<T> ReadyTable<T> {
         ensures added { IsPermutation ((hash, item) ∷ members self.old) (members self.new) }
         ensures room { table_len self.old + self.old.room ≤ table_len self.new + self.new.room }
     {
-        let slot = put(
-            self.slots.as_mut_slice(),
-            self.tags.as_mut_slice(),
-            hash,
-            item,
-        );
+        let slot = put(&mut self.slots, self.tags.as_mut_slice(), hash, item);
         self.len += 1;
         slot
     }
@@ -237,12 +239,19 @@ impl<T> ReadyTable<T> {
         let Some(count) = places_for(needed) else {
             return Err(AllocError);
         };
-        let tags = empty_tags(*self.slots.allocator(), count)?;
-        let slots = empty_slots(*self.slots.allocator(), count)?;
+        let alloc = *self.tags.allocator();
+        let tags = empty_tags(alloc, count)?;
+        let slots = Column::with_places(alloc, count)?;
         let old = mem::replace(&mut self.slots, slots);
-        self.tags = tags;
+        let old_tags = mem::replace(&mut self.tags, tags);
         self.mask = count - 1;
-        move_all(old, self.slots.as_mut_slice(), self.tags.as_mut_slice());
+        move_all(
+            alloc,
+            old,
+            old_tags.as_slice(),
+            &mut self.slots,
+            self.tags.as_mut_slice(),
+        );
         Ok(())
     }
 
@@ -255,7 +264,7 @@ impl<T> ReadyTable<T> {
         ensures none { IfNone result (self.new ≡ self.old) }
         ensures room { table_len self.new + self.new.room ≡ table_len self.old + self.old.room }
     {
-        let member = take_out(self.slots.as_mut_slice(), self.tags.as_mut_slice(), slot);
+        let member = take_out(&mut self.slots, self.tags.as_mut_slice(), slot);
         if member.is_some() {
             self.len -= 1;
         }
@@ -271,7 +280,7 @@ impl<T> ReadyTable<T> {
         ensures replaced { (last : F) × ReplacesEach F.FnMut f self.old.slots self.new.slots last }
         ensures room { self.new.room ≡ self.old.room }
     {
-        replace_items(self.slots.as_mut_slice(), f);
+        replace_items(&mut self.slots, self.tags.as_slice(), f);
     }
 
     /// Keeps the members that `f` accepts, with what `f` left in their items, and takes the others out. `f` is called
@@ -283,9 +292,7 @@ impl<T> ReadyTable<T> {
         ensures kept { (kept : List (ℕ × T)) × RetainsInTurn (AsksMember F.FnMut) f (members self.old) kept × IsPermutation kept (members self.new) }
         ensures room { table_len self.new + self.new.room ≡ table_len self.old + self.old.room }
     {
-        let kept = retain_items(self.slots.as_mut_slice(), self.tags.as_slice(), f);
-        retag(self.tags.as_mut_slice(), self.slots.as_slice());
-        self.len = kept;
+        self.len = retain_items(&mut self.slots, self.tags.as_mut_slice(), f);
     }
 
     /// Removes every member. The room that they had comes back.
@@ -295,8 +302,11 @@ impl<T> ReadyTable<T> {
         ensures empty { members self.new ≡ [] }
         ensures room { self.new.room ≡ table_len self.old + self.old.room }
     {
-        empty_all(self.slots.as_mut_slice());
-        untag(self.tags.as_mut_slice(), self.slots.as_slice());
+        if self.len == 0 {
+            return;
+        }
+        empty_all(&mut self.slots, self.tags.as_slice());
+        untag(self.tags.as_mut_slice(), &self.slots);
         self.len = 0;
     }
 
@@ -305,26 +315,7 @@ impl<T> ReadyTable<T> {
     pub fn iter(&self) -> Iter<'_, T>
         ensures { result ≡ items_of self.now }
     {
-        Iter::new(self.slots.as_slice(), self.len)
-    }
-
-    #[inline]
-    pub(crate) fn lend(&mut self) -> Loan<'_, T>
-        ensures* writes_back { sem 𝓛 (table_follows T.row self.entry result.tie) }
-        ensures rest { (result.from ≡ 0) × (result.rest ≡ self.old.slots) }
-    {
-        Loan::new(&mut self.slots)
-    }
-
-    /// The items along the walk, each for writing. The hashes stay, and so does everything but the items.
-    #[inline]
-    pub fn iter_mut(&mut self) -> IterMut<'_, T>
-        ensures* writes_back { sem 𝓛 (table_follows T.row self.entry result.1) }
-        ensures items { result.0 ≡ items_of self.old }
-    {
-        let left = self.len;
-        let end = self.slots.len();
-        IterMut::new(self.lend(), end, left)
+        Iter::new(&self.slots, self.tags.as_slice(), self.len)
     }
 
     /// The first slot from one on that has a member.
@@ -332,7 +323,7 @@ impl<T> ReadyTable<T> {
     pub fn slot_from(&self, from: usize) -> Option<usize>
         ensures { IsNextSlot self.now.slots from result }
     {
-        full_from(self.slots.as_slice(), from)
+        full_from(&self.slots, self.tags.as_slice(), from)
     }
 
     /// The members along the walk, each as its hash and its item, by value.
@@ -342,11 +333,11 @@ impl<T> ReadyTable<T> {
     {
         let ReadyTable {
             slots,
-            tags: _,
+            tags,
             len,
             mask: _,
         } = self;
-        IntoIter::new(slots, len)
+        IntoIter::new(slots, tags, len)
     }
 }
 
@@ -368,12 +359,42 @@ impl<T: Clone> Clone for ReadyTable<T> {
 
     /// A table of clones, slot by slot.
     fn clone(&self) -> Result<Self, AllocError> {
-        let tags = self.tags.clone()?;
-        Ok(ReadyTable {
-            slots: self.slots.clone()?,
+        let alloc = *self.tags.allocator();
+        let count = self.slots.places();
+        if count == 0 {
+            return Ok(ReadyTable::without_slots(alloc));
+        }
+        let mut tags = empty_tags(alloc, count)?;
+        let mut slots = Column::with_places(alloc, count)?;
+        let cloned = clone_members(
+            &self.slots,
+            self.tags.as_slice(),
+            &mut slots,
+            tags.as_mut_slice(),
+        );
+        match cloned {
+            Ok(()) => Ok(ReadyTable {
+                slots,
+                tags,
+                len: self.len,
+                mask: self.mask,
+            }),
+            Err(refused) => {
+                drop_all(alloc, slots, tags.as_slice());
+                Err(refused)
+            }
+        }
+    }
+}
+
+impl<T: Drop> Drop for ReadyTable<T> {
+    fn drop(self) {
+        let ReadyTable {
+            slots,
             tags,
-            len: self.len,
-            mask: self.mask,
-        })
+            len: _,
+            mask: _,
+        } = self;
+        drop_all(*tags.allocator(), slots, tags.as_slice());
     }
 }

@@ -1,12 +1,16 @@
 //! A tag of one byte for each place: what a search reads to tell where a hash may be, and which places are empty.
-ghost use Rattle.std.specs.Prelude.{◌≡◌, ℕ, ◌+◌, ◌≤◌, None, length};
-ghost use Rattle.starlark_table.specs.Layout.{tag, at, window, tag_bits, BitsUpToEmpty, IsTagged, HasTags, IsPadded};
+ghost use Rattle.std.specs.Prelude.{◌≡◌, ℕ, ◌+◌, ◌-◌, ◌<◌, ◌≤◌, None, length};
+ghost use Rattle.starlark_table.specs.Layout.{tag, at, window, tag_bits, hash_tag_bits, BitsUpToEmpty, IsTagged, HasTags, IsPadded};
 
-use crate::probe::Slot;
+use crate::probe::Slots;
 use std::simd::prelude::*;
 
 // How many tags a search looks at. There are so many more tags than places, so that it may look from each place on.
 pub(crate) const WINDOW: usize = 16;
+
+// How many tags a walk over all places looks at, where so many are left. The processor foresees badly where the loop
+// over the full ones ends: once for so many tags is better than four times.
+const WIDE_WINDOW: usize = 64;
 
 // The tag of an empty place.
 pub(crate) const EMPTY: u8 = 255;
@@ -46,26 +50,32 @@ pub(crate) fn places_up_to_empty(tags: &[u8], start: usize, tag: u8) -> u64
     same & ((1 << empty.trailing_zeros()) - 1)
 }
 
+// A bit for each place of a window from one on: whether it is full. With the bits the end of that window.
+#[inline]
+pub(crate) fn full_places(tags: &[u8], start: usize) -> (u64, usize)
+    requires { start + window ≤ length tags.now }
+    ensures some { start < result.1 }
+    ensures short { result.1 ≤ start + 64 }
+    ensures within { result.1 ≤ length tags.now }
+    ensures bits { result.0 ≡ hash_tag_bits tags.now start (result.1 - start) }
+{
+    if tags.len() - start < WIDE_WINDOW {
+        let lanes = u8x16::from_slice(&tags[start..]);
+        let full = lanes.simd_lt(u8x16::splat(PADDING));
+        (full.to_bitmask(), start + WINDOW)
+    } else {
+        let lanes = u8x64::from_slice(&tags[start..]);
+        let full = lanes.simd_lt(u8x64::splat(PADDING));
+        (full.to_bitmask(), start + WIDE_WINDOW)
+    }
+}
+
 // Writes the tag of each place, where all are empty.
-pub(crate) fn untag<T>(tags: &mut [u8], slots: &[Slot<T>])
+pub(crate) fn untag<T>(tags: &mut [u8], slots: &Slots<T>)
     requires sized { HasTags tags.old slots.now }
     requires padded { IsPadded tags.old slots.now }
     requires empty { (k : ℕ) → at slots.now k ≡ None }
     ensures { IsTagged tags.new slots.now }
 {
-    tags[..slots.len()].fill(EMPTY);
-}
-
-// Writes the tag of each place anew.
-pub(crate) fn retag<T>(tags: &mut [u8], slots: &[Slot<T>])
-    requires sized { HasTags tags.old slots.now }
-    requires padded { IsPadded tags.old slots.now }
-    ensures { IsTagged tags.new slots.now }
-{
-    for i in 0..slots.len() {
-        tags[i] = match &slots[i] {
-            Some((hash, _)) => tag(*hash),
-            None => EMPTY,
-        };
-    }
+    tags[..slots.places()].fill(EMPTY);
 }

@@ -1,108 +1,161 @@
 //! Walks over all slots, from the first to the last.
-ghost use Rattle.std.specs.Prelude.{◌≡◌, ℕ, ◌<◌, ◌≤◌, ◌⊎◌, None, List, length, IfSome, IsSome, IsPermutation};
+ghost use Rattle.std.specs.Prelude.{◌≡◌, ℕ, ◌<◌, ◌≤◌, ◌⊎◌, None, List, length, IfSome, IsSome, IsPermutation, drop};
 ghost use Rattle.std.specs.List.Retain.{RetainsInTurn};
 ghost use Rattle.starlark_table.specs.Table.{filled, items_in};
-ghost use Rattle.starlark_table.specs.Walk.{CanReplace, ReplacesEach, CanRetain, TakesAtMut, AsksMember};
-ghost use Rattle.starlark_table.specs.Layout.{at, limit, distance, InPlace, IsTagged, ReachesBefore, AsksSlot, StandsIn};
+ghost use Rattle.starlark_table.specs.Walk.{CanReplace, ReplacesEach, ReplacesWithin, CanRetain, TakesAtMut, AsksMember};
+ghost use Rattle.starlark_table.specs.Layout.{at, limit, distance, InPlace, IsTagged, IsTaggedFrom, ReachesBefore, StandsIn};
 
 use crate::places::{home_among, next_place};
-use crate::probe::{Slot, free_place};
+use crate::probe::{Slots, free_place};
+use crate::tags::{EMPTY, full_places};
+use std::alloc::Global;
 
-pub(crate) fn empty_all<T: Drop>(slots: &mut [Slot<T>])
-    ensures { (k : ℕ) → at slots.new k ≡ None }
+// Drops every member. The tags stay.
+pub(crate) fn empty_all<T: Drop>(slots: &mut Slots<T>, tags: &[u8])
+    requires { IsTagged tags.now slots.old }
+    ensures sized { length slots.new ≡ length slots.old }
+    ensures empty { (k : ℕ) → at slots.new k ≡ None }
 {
-    for i in 0..slots.len() {
-        slots[i] = None;
+    for place in 0..slots.places() {
+        if tags[place] != EMPTY {
+            let _member = slots.take(place);
+        }
     }
 }
 
+// Drops every member, and gives the memory back.
+pub(crate) fn drop_all<T: Drop>(alloc: Global, mut slots: Slots<T>, tags: &[u8])
+    requires { IsTagged tags.now slots }
+{
+    empty_all(&mut slots, tags);
+    slots.give_back(alloc);
+}
+
 // Puts what `f` answers in the place of each item.
-pub(crate) fn replace_items<T: Drop, F: FnMut(&T) -> T>(slots: &mut [Slot<T>], mut f: F)
-    requires { CanReplace F.FnMut (items_in slots.old) f }
+pub(crate) fn replace_items<T: Drop, F: FnMut(&T) -> T>(slots: &mut Slots<T>, tags: &[u8], mut f: F)
+    requires tagged { IsTagged tags.now slots.old }
+    requires callable { CanReplace F.FnMut (items_in slots.old) f }
     ensures { (last : F) × ReplacesEach F.FnMut f slots.old slots.new last }
 {
-    for slot in slots.iter_mut() {
-        if let Some((_, item)) = slot {
-            *item = f(item);
-        }
+    let mut start = 0;
+    'windows: while start < slots.places() {
+        start = replace_window(slots, tags, start, &mut f);
     }
+}
+
+// The same in a window of places. The answer is where it ends.
+fn replace_window<T: Drop, F: FnMut(&T) -> T>(
+    slots: &mut Slots<T>,
+    tags: &[u8],
+    start: usize,
+    f: &mut F,
+) -> usize
+    requires start { start < length slots.old }
+    requires tagged { IsTaggedFrom start tags.now slots.old }
+    requires callable { CanReplace F.FnMut (items_in (drop start slots.old)) f.old }
+    ensures some { start < result }
+    ensures sized { length slots.new ≡ length slots.old }
+    ensures replaced { ReplacesWithin F.FnMut f.old slots.old slots.new f.new start result }
+{
+    let (mut full, end) = full_places(tags, start);
+    'places: while full != 0 {
+        let place = start + full.trailing_zeros() as usize;
+        let (_, item) = slots.get_mut(place);
+        *item = f(item);
+        full &= full - 1;
+    }
+    end
 }
 
 // Takes out the members that `f` does not keep, and puts the others back in place. The answer is how many are left.
 pub(crate) fn retain_items<T: Drop, F: FnMut(&mut T) -> bool>(
-    slots: &mut [Slot<T>],
-    tags: &[u8],
+    slots: &mut Slots<T>,
+    tags: &mut [u8],
     f: F,
 ) -> usize
     requires load { length (filled slots.old) ≤ limit (length slots.old) }
     requires in_place { InPlace (length slots.old) slots.old }
-    requires tagged { IsTagged tags.now slots.old }
+    requires tagged { IsTagged tags.old slots.old }
     requires callable { CanRetain F.FnMut (items_in slots.old) f }
     ensures kept { (kept : List (ℕ × T)) × RetainsInTurn (AsksMember F.FnMut) f (filled slots.old) kept × IsPermutation kept (filled slots.new) }
     ensures counted { result ≡ length (filled slots.new) }
+    ensures sized { length slots.new ≡ length slots.old }
     ensures in_place { InPlace (length slots.new) slots.new }
+    ensures tagged { IsTagged tags.new slots.new }
 {
-    if slots.is_empty() {
+    if slots.places() == 0 {
         return 0;
     }
     let start = free_place(slots, tags, 0);
-    let kept = keep_items(slots, f);
-    settle(slots, start);
+    let kept = keep_items(slots, tags, f);
+    settle(slots, tags, start);
     kept
 }
 
 // Empties the slots of the members that `f` does not keep. The answer is how many are left.
-fn keep_items<T: Drop, F: FnMut(&mut T) -> bool>(slots: &mut [Slot<T>], mut f: F) -> usize
-    requires { CanRetain F.FnMut (items_in slots.old) f }
+fn keep_items<T: Drop, F: FnMut(&mut T) -> bool>(
+    slots: &mut Slots<T>,
+    tags: &mut [u8],
+    mut f: F,
+) -> usize
+    requires tagged { IsTagged tags.old slots.old }
+    requires callable { CanRetain F.FnMut (items_in slots.old) f }
     ensures kept { RetainsInTurn (AsksMember F.FnMut) f (filled slots.old) (filled slots.new) }
     ensures counted { result ≡ length (filled slots.new) }
     ensures stand { StandsIn slots.old slots.new }
+    ensures tagged { IsTagged tags.new slots.new }
 {
     let mut kept = 0;
-    for slot in slots.iter_mut() {
-        if ask(slot, &mut f) {
-            kept += 1;
+    for place in 0..slots.places() {
+        if tags[place] != EMPTY {
+            if ask(slots.get_mut(place), &mut f) {
+                kept += 1;
+            } else {
+                tags[place] = EMPTY;
+                let _member = slots.take(place);
+            }
         }
     }
     kept
 }
 
-// Whether a member is left in the slot, once `f` was asked about one that was there.
-fn ask<T: Drop, F: FnMut(&mut T) -> bool>(slot: &mut Slot<T>, f: &mut F) -> bool
-    requires { IfSome slot.old (λ m. TakesAtMut F.FnMut f.old m.1) }
-    ensures { AsksSlot F.FnMut f.old slot.old result f.new slot.new }
+// Whether a member is kept, once `f` was asked about it.
+fn ask<T, F: FnMut(&mut T) -> bool>(member: &mut (u64, T), f: &mut F) -> bool
+    requires { TakesAtMut F.FnMut f.old member.old.1 }
+    ensures { AsksMember F.FnMut f.old member.old result f.new member.new }
 {
-    let Some((_, item)) = slot else {
-        return false;
-    };
-    let keeps = f(item);
-    if !keeps {
-        *slot = None;
-    }
-    keeps
+    f(&mut member.1)
 }
 
 // Moves members back towards their homes, so that no empty place is left on their ways. No way leads over `start`.
-fn settle<T>(slots: &mut [Slot<T>], start: usize)
+fn settle<T>(slots: &mut Slots<T>, tags: &mut [u8], start: usize)
     requires start { start < length slots.old }
+    requires tagged { IsTagged tags.old slots.old }
     requires reaches { ReachesBefore (length slots.old) slots.old start }
     ensures bag { IsPermutation (filled slots.old) (filled slots.new) }
+    ensures sized { length slots.new ≡ length slots.old }
     ensures in_place { InPlace (length slots.new) slots.new }
+    ensures tagged { IsTagged tags.new slots.new }
 {
-    let count = slots.len();
+    let count = slots.places();
     let mut place = next_place(start, count);
     for step in 1..count {
-        if let Some((hash, _)) = &slots[place] {
-            let home = home_among(count, *hash);
-            let to = free_before(slots, home, place);
-            slots.swap(to, place);
+        if tags[place] != EMPTY {
+            let home = home_among(count, slots.get(place).0);
+            let to = free_before(slots, tags, home, place);
+            if to != place {
+                let member = slots.take(place);
+                slots.write(to, member);
+                tags.swap(to, place);
+            }
         }
         place = next_place(place, count);
     }
 }
 
 // The first empty place from one on, or `end` where none comes before it.
-fn free_before<T>(slots: &[Slot<T>], start: usize, end: usize) -> usize
+fn free_before<T>(slots: &Slots<T>, tags: &[u8], start: usize, end: usize) -> usize
+    requires tagged { IsTagged tags.now slots.now }
     requires start { start < length slots.now }
     requires end { end < length slots.now }
     ensures within { result < length slots.now }
@@ -111,8 +164,8 @@ fn free_before<T>(slots: &[Slot<T>], start: usize, end: usize) -> usize
     ensures path { (q : ℕ) → q < length slots.now → distance (length slots.now) start q < distance (length slots.now) start result → IsSome (at slots.now q) }
 {
     let mut place = start;
-    while place != end && slots[place].is_some() {
-        place = next_place(place, slots.len());
+    while place != end && tags[place] != EMPTY {
+        place = next_place(place, slots.places());
     }
     place
 }

@@ -122,6 +122,25 @@ fn finds_what_is_left(rt: HostRuntime) -> Result<(), Fail> {
     Ok(())
 }
 
+// Whether an item is found near the home of its hash, and about how many it was asked.
+fn near(table: &ReadyTable<u32>, hash: u64, item: u32) -> (bool, u32) {
+    let mut calls = 0u32;
+    let found = table.find_near(hash, |other| {
+        calls = calls.wrapping_add(1);
+        *other == item
+    });
+    (found.is_some(), calls)
+}
+
+#[test]
+fn looks_near_the_home_alone(rt: HostRuntime) -> Result<(), Fail> {
+    let table = thousand(rt.alloc(), 5)?;
+    same(&rt, near(&table, 5, 0), (true, 1));
+    same(&rt, near(&table, 5, 999), (false, 32));
+    same(&rt, near(&table, 6, 0), (false, 0));
+    Ok(())
+}
+
 // Numbers under themselves until no room is left.
 fn filled(alloc: Global) -> Result<ReadyTable<u64>, Fail> {
     let mut table = ReadyTable::with_capacity(alloc, 12)?;

@@ -17,10 +17,10 @@ use denote.Struct.Loose.{lawfuls}
 use denote.Struct.Members.{Member, rows_of, parts_at}
 use denote.Struct.Parts.{shape_of, PartsBack, Struct-parts}
 use denote.Struct.Struct.{Struct}
+use denote.Struct.Tuple.{Tuple}
 use Rattle.std.specs.contracts.alloc.Global as Global
 use Rattle.std.specs.declared.cmp.PartialEq as PartialEq
 use Rattle.std.specs.declared.hash.Hash as Hash
-use Rattle.starlark_table.specs.Frozen.{Pair}
 use Rattle.starlark_table.specs.contracts.ready_table.ReadyTable as part
 use Rattle.starlark_unordered.specs.declared.unordered_map.UnorderedMap.TheInside.{Inside}
 pub use Rattle.starlark_unordered.specs.contracts.unordered_map.UnorderedMap as C
@@ -42,7 +42,7 @@ module _ (K V : RattleType) (g : PartialEq.Ghosts K.Denot) (h : Hash.Ghosts K.De
   member R = record { row = R; ty = lone R.mir }
 
   abbrev pub CP : RattleType
-  CP = part.the_row (Pair K V)
+  CP = part.the_row (Tuple (K ∷ V ∷ []))
 
   abbrev left : List Member
   left = member Global.the_field.row ∷ []

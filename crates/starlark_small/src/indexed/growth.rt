@@ -30,11 +30,10 @@ pub(super) fn reserve_index<K, V>(
     ensures refused { OnErr result (index_room (length entries.now.entries) index.old < additional) }
     ensures unchanged { OnErr result (index.new ≡ index.old) }
 {
-    let left = match index {
-        Some(table) => table.room(),
-        None => UNINDEXED - entries.len(),
-    };
-    if additional <= left {
+    if let Some(table) = index {
+        return table.reserve(additional);
+    }
+    if additional <= UNINDEXED - entries.len() {
         return Ok(());
     }
     // for the proof: the sum is within the capacity, which is a number of the machine

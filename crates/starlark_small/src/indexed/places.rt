@@ -1,8 +1,9 @@
 //! The places that an index holds: taken out, moved and filled in.
-ghost use Rattle.std.specs.Prelude.{◌≡◌, ◌+◌, ◌-◌, ◌<◌, ◌≤◌, ◌==◌, Some, [], ◌∷◌, length, remove, is_some, IfOk, IsPermutation};
+ghost use Rattle.std.specs.Prelude.{◌≡◌, ◌+◌, ◌-◌, ◌<◌, ◌≤◌, ◌==◌, Some, true, List, [], ◌∷◌, length, map, remove, is_some, IfOk, IfSome, IsPermutation};
 ghost use Rattle.std.specs.List.{Contains};
+ghost use Rattle.starlark_hash.specs.Entries.{Entry};
 ghost use Rattle.starlark_hash.specs.HashValue.{hash_number, promoted};
-ghost use Rattle.starlark_small.specs.Index.{IsIndexOf, IsIndexed, index_room};
+ghost use Rattle.starlark_small.specs.Index.{IsIndexOf, IsIndexed, hashes_in, index_room, lowered, moved_below};
 ghost use Rattle.starlark_table.specs.Table.{members, member_at, table_len};
 
 use starlark_hash::StarlarkHashValue;
@@ -36,18 +37,80 @@ fn take_place(index: &mut ReadyTable<usize>, hash: StarlarkHashValue, place: usi
     index.remove(slot);
 }
 
-// Moves a place that is there one down: the old members and the lower place are the new members and this place.
+// Takes one place out from under a hash that has some, whichever it is.
+fn take_under(index: &mut ReadyTable<usize>, hash: StarlarkHashValue)
+    requires { Contains (hashes_in index.old) (promoted (hash_number hash)) }
+    ensures rest { IsPermutation (hashes_in index.old) (promoted (hash_number hash) ∷ hashes_in index.new) }
+    ensures room { table_len index.new + index.new.room ≡ table_len index.old + index.old.room }
+{
+    let found = index.find(
+        hash.promote(),
+        |_: &usize| -> bool
+            ensures { result ≡ true }
+        { true },
+    );
+    let Some(slot) = found else { unreachable!() };
+    index.remove(slot);
+}
+
+// The slot of a place, if a look-up near the home of its hash finds it.
 #[inline]
-fn move_place(index: &mut ReadyTable<usize>, hash: StarlarkHashValue, place: usize)
-    requires there { Contains (members index.old) (promoted (hash_number hash), place) }
+fn near_slot(index: &ReadyTable<usize>, hash: StarlarkHashValue, place: usize) -> Option<usize>
+    ensures { IfSome result (λ slot. member_at index.now slot ≡ Some (promoted (hash_number hash), place)) }
+{
+    let slot = index.find_near(hash.promote(), |i: &usize| *i == place)?;
+    // for the proof: of this slot the table says no more than that it has the hash
+    let found = index.get(slot)?;
+    if *found == place { Some(slot) } else { None }
+}
+
+// Moves the place of a slot one down: the old members and the lower place are the new members and this place.
+#[inline]
+fn lower_slot(index: &mut ReadyTable<usize>, slot: usize, hash: StarlarkHashValue, place: usize)
+    requires there { member_at index.old slot ≡ Some (promoted (hash_number hash), place) }
     requires above { 0 < place }
     ensures moved { IsPermutation ((promoted (hash_number hash), place - 1) ∷ members index.old) ((promoted (hash_number hash), place) ∷ members index.new) }
     ensures room { index.new.room ≡ index.old.room }
 {
-    let slot = slot_of(index, hash, place);
     if let Some(item) = index.get_mut(slot) {
         *item = place - 1;
     }
+}
+
+// Where few places stand above one that was taken out, moves them one down in turn, up to the first that is not found
+// near the home of its hash. The answer is the first place that did not move.
+fn lower_near<K, V>(index: &mut ReadyTable<usize>, entries: &VecMap<K, V>, place: usize) -> usize
+    requires taken { IsPermutation (moved_below entries.now.entries place (place + 1)) (members index.old) }
+    requires within { place < length entries.now.entries }
+    ensures above { place < result }
+    ensures within { result ≤ length entries.now.entries }
+    ensures moved { IsPermutation (moved_below entries.now.entries place result) (members index.new) }
+    ensures room { table_len index.new + index.new.room ≡ table_len index.old + index.old.room }
+{
+    let len = entries.len();
+    if len - place > index.len().saturating_add(index.room()) / 6 {
+        return place + 1;
+    }
+    for j in place + 1..len {
+        let hash = entries.get_unchecked(j).0.hash();
+        let Some(slot) = near_slot(index, hash, j) else {
+            return j;
+        };
+        lower_slot(index, slot, hash, j);
+    }
+    len
+}
+
+// Moves each place one down that is not below the bound, in one pass over the index.
+fn lower_all(index: &mut ReadyTable<usize>, from: usize)
+    ensures members { members index.new ≡ map (λ m. (m.0, lowered from m.1)) (members index.old) }
+    ensures room { table_len index.new + index.new.room ≡ table_len index.old + index.old.room }
+{
+    index.replace_each(
+        |i: &usize| -> usize
+            ensures { result ≡ lowered from i.now }
+        { if *i >= from { i.saturating_sub(1) } else { *i } },
+    );
 }
 
 // Takes out a place of the list, whose entry is still there.
@@ -59,10 +122,9 @@ fn remove_place<K, V>(index: &mut ReadyTable<usize>, entries: &VecMap<K, V>, pla
 {
     let hash = entries.get_unchecked(place).0.hash();
     take_place(index, hash, place);
-    let len = entries.len();
-    for j in place + 1..len {
-        let hash = entries.get_unchecked(j).0.hash();
-        move_place(index, hash, j);
+    let from = lower_near(index, entries, place);
+    if from < entries.len() {
+        lower_all(index, from);
     }
 }
 
@@ -83,6 +145,37 @@ pub(super) fn unindex<K, V>(
     }
 }
 
+// Takes every place out: one by one where the list is so short that this takes fewer steps than there are slots,
+// whatever the hashes; else all at once. The entries need not stand where the index says: under the hash of each a place
+// is taken out, whichever it is.
+fn empty_index<K, V>(index: &mut ReadyTable<usize>, entries: &VecMap<K, V>)
+    requires { (before : List (Entry K V)) × IsIndexOf before index.old × IsPermutation before entries.now.entries }
+    ensures empty { members index.new ≡ [] }
+    ensures room { index.new.room ≡ table_len index.old + index.old.room }
+{
+    let len = entries.len();
+    if len.saturating_mul(len) > index.len().saturating_add(index.room()) {
+        index.clear();
+        return;
+    }
+    for i in 0..len {
+        let hash = entries.get_unchecked(i).0.hash();
+        take_under(index, hash);
+    }
+}
+
+// The same of an index that may be missing.
+pub(super) fn unindex_all<K, V>(index: &mut Option<ReadyTable<usize>>, entries: &VecMap<K, V>)
+    requires { (before : List (Entry K V)) × IsIndexed before index.old × IsPermutation before entries.now.entries }
+    ensures empty { IsIndexed {K = K} {V = V} [] index.new }
+    ensures room { length entries.now.entries + index_room (length entries.now.entries) index.old ≤ index_room 0 index.new }
+    ensures kept { is_some index.new ≡ is_some index.old }
+{
+    if let Some(table) = index {
+        empty_index(table, entries);
+    }
+}
+
 // Puts each place of the list into an empty index that has room for them.
 pub(super) fn fill_index<K, V>(index: &mut ReadyTable<usize>, entries: &VecMap<K, V>)
     requires empty { members index.old ≡ [] }
@@ -93,6 +186,19 @@ pub(super) fn fill_index<K, V>(index: &mut ReadyTable<usize>, entries: &VecMap<K
     for i in 0..entries.len() {
         let hash = entries.get_unchecked(i).0.hash();
         index.insert_reserved(hash.promote(), i);
+    }
+}
+
+// The same of an index that may be missing.
+pub(super) fn index_all<K, V>(index: &mut Option<ReadyTable<usize>>, entries: &VecMap<K, V>)
+    requires empty { IsIndexed {K = K} {V = V} [] index.old }
+    requires room { length entries.now.entries ≤ index_room 0 index.old }
+    ensures indexed { IsIndexed entries.now.entries index.new }
+    ensures room { index_room 0 index.old ≤ length entries.now.entries + index_room (length entries.now.entries) index.new }
+    ensures kept { is_some index.new ≡ is_some index.old }
+{
+    if let Some(table) = index {
+        fill_index(table, entries);
     }
 }
 

@@ -5,8 +5,9 @@ ghost use Rattle.starlark_table.specs.Table.{items_of};
 ghost use Rattle.starlark_table.specs.Lends.{values_follow};
 
 use super::ReadyTable;
-use crate::pair_loan::PairLoan;
+use crate::loan::PairLoan;
 use crate::pairs_mut::PairsMut;
+use starlark_columns::loan::AllButLast;
 
 impl<K, V> ReadyTable<(K, V)> {
     /// How many slots there are, which is how far a `PairsMut` walks.
@@ -14,7 +15,7 @@ impl<K, V> ReadyTable<(K, V)> {
     pub fn slot_count(&self) -> usize
         ensures { result ≡ length self.now.slots }
     {
-        self.slots.len()
+        self.slots.places()
     }
 
     /// The right to write the values, which a `PairsMut` walks. The table ends with the values that are left in its
@@ -25,7 +26,8 @@ impl<K, V> ReadyTable<(K, V)> {
         ensures untouched { result.from ≡ 0 }
         ensures rest { result.rest ≡ self.old.slots }
     {
-        PairLoan::new(&mut self.slots)
+        let (places, tags) = self.lend_kept::<AllButLast>();
+        PairLoan::new(places, tags.as_slice())
     }
 
     /// The pairs along the walk, each value for writing. The hashes and the keys stay, and so does everything but the

@@ -31,6 +31,7 @@ impl<K: Eq + Hash, V> UnorderedMap<K, V> {
     /// Puts the value at the key. A key that is there stays and takes the value, whose old one is answered; else there
     /// is one pair more. Only a new key is refused, where there is no room and no memory is found: then key and
     /// value come back, and the map is as it was.
+    #[tactic(auto, using(crate::proofs::Keys::table_len_written))]
     pub fn insert(&mut self, key: K, value: V) -> Result<Option<V>, NoRoom<(K, V)>>
     where
         K: Drop,

@@ -1,35 +1,61 @@
-use Rattle.std.proofs.Common.{◌≤◌, ◌++◌, ◌∷◌, [], length, arith, sym, ◌∙◌, ap, subst, IsPermutation, length-append}
+use Rattle.std.proofs.Common.{◌++◌, length, arith, refl, ◌∙◌, ap, subst, IsPermutation, length-append, inl, inr}
+use Rattle.std.proofs.lemmas.Bool.{cases_lt}
+use Rattle.std.proofs.lemmas.List.Sorted.{length_permutation, IsPermutation-refl, IsPermutation-trans}
 use Rattle.starlark_table.specs.Table.{filled}
-use Rattle.starlark_table.specs.Layout.{limit}
-use Rattle.starlark_table.proofs.Load.{bag-empty_slot_moved, bag-member_moved, empty_slot-while_moving}
+use Rattle.starlark_table.proofs.Filling.{all_empty}
+use Rattle.starlark_table.proofs.FullBits.{tagged_from-start, tagged_from-later}
+use Rattle.starlark_table.proofs.Load.{filled-replicate}
 use Rattle.starlark_table.proofs.growth.move_all.Goals as goal
 
-pub put-requires-clause-free : goal.put-requires-clause-free
-put-requires-clause-free g c =
-    let sized = c.loop-slot.invariant.sized in
-    let parts = length-append (filled c.args.old.items) (filled c.args.slots.now) in
+pub windows-init : goal.windows-init
+windows-init g c = record {
+  sized = refl;
+  in_place = c.requires.in_place;
+  tagged = c.requires.tagged;
+  old_sized = refl;
+  old_tagged = tagged_from-start c.args.old_tags.now c.args.old c.requires.old_tagged;
+  emptied = λ p below. absurd (omega arith);
+  bag = IsPermutation-refl (filled c.args.old ++ filled c.args.slots.now);
+}
+
+pub move_window-start-requires-clause-room : goal.move_window-start-requires-clause-room
+move_window-start-requires-clause-room g c =
+    let k = c.windows.invariant in
+    let parts = length-append (filled c.args.old) (filled c.args.slots.now) in
     let room = c.requires.room in
-    let whole : length (filled c.args.old.items ++ filled c.args.slots.now) ≤ limit (length c.args.slots.now) = omega arith in
-    empty_slot-while_moving (filled c.args.old.items ++ filled c.args.slots.now) c.loop-slot.old.items c.loop-slot.slots (rw sized c.requires.places)
-    (subst (λ n. length (filled c.args.old.items ++ filled c.args.slots.now) ≤ limit n) (sym sized) whole)
-    c.loop-slot.invariant.bag
+    let count = length_permutation _ _ k.bag in
+    rw k.sized (omega arith)
 
-pub loop-slot-preserved-in-Some-slot : goal.loop-slot-preserved-in-Some-slot
-loop-slot-preserved-in-Some-slot g c = record {
-  sized = c.put.auto.slots ∙ c.loop-slot.invariant.sized;
-  in_place = c.put.ensures.in_place;
-  tagged = c.put.ensures.tagged;
-  bag = subst (λ l. IsPermutation (filled c.args.old.items ++ filled c.args.slots.now) (filled c.pop.new.self.items ++ filled l)) (sym c.put.ensures.set)
-      (bag-member_moved _ c.loop-slot.old.items c.pop.new.self.items c.loop-slot.slots c.put.result (c.in-Some-slot.hash, c.in-Some-slot.item)
-      (c.in-Some.ensures.items ∙ ap (λ s. c.pop.new.self.items ++ s ∷ []) c.in-Some-slot.is)
-      c.put.ensures.in_range c.put.ensures.empty c.loop-slot.invariant.bag);
-}
+pub windows-preserved : goal.windows-preserved
+windows-preserved g c =
+    let k = c.windows.invariant in
+    let start = c.windows.start in
+    let next = c.move_window-start.result in
+    let old = c.windows.old in
+    let left = c.move_window-start.new.from in
+    let moved = c.move_window-start.ensures in
+    record {
+      sized = moved.sized ∙ k.sized;
+      in_place = moved.in_place;
+      tagged = moved.tagged;
+      old_sized = moved.from_sized ∙ k.old_sized;
+      old_tagged = tagged_from-later start next c.args.old_tags.now old left k.old_tagged (omega arith) moved.from_sized moved.after;
+      emptied = λ p below. elim (cases_lt p start) [
+        | inl earlier ↦ moved.before p earlier ∙ k.emptied p earlier
+        | inr here ↦ moved.emptied p here below
+      ];
+      bag = IsPermutation-trans (filled c.args.old ++ filled c.args.slots.now) (filled old ++ filled c.windows.slots)
+          (filled left ++ filled c.move_window-start.new.slots) k.bag moved.bag;
+    }
 
-pub loop-slot-preserved : goal.loop-slot-preserved
-loop-slot-preserved g c = record {
-  sized = c.loop-slot.invariant.sized;
-  in_place = c.loop-slot.invariant.in_place;
-  tagged = c.loop-slot.invariant.tagged;
-  bag = bag-empty_slot_moved _ c.loop-slot.old.items c.pop.new.self.items c.loop-slot.slots
-      (c.in-Some.ensures.items ∙ ap (λ s. c.pop.new.self.items ++ s ∷ []) c.in_default-slot.is) c.loop-slot.invariant.bag;
-}
+pub give_back-requires : goal.give_back-requires
+give_back-requires g c =
+    let sized = c.windows.invariant.old_sized in
+    all_empty c.windows.old (λ p below. c.windows.invariant.emptied p (omega arith))
+
+pub returns-clause-bag : goal.returns-clause-bag
+returns-clause-bag g c =
+    let sized = c.windows.invariant.old_sized in
+    let all = all_empty c.windows.old (λ p below. c.windows.invariant.emptied p (omega arith)) in
+    subst (λ l. IsPermutation (filled c.args.old ++ filled c.args.slots.now) (l ++ filled c.windows.slots))
+    (ap filled all ∙ filled-replicate (length c.windows.old)) c.windows.invariant.bag

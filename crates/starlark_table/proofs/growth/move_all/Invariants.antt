@@ -1,15 +1,18 @@
-use Rattle.std.proofs.Common.{◌≡◌, ◌++◌, length, vec_len, IsPermutation}
+use Rattle.std.proofs.Common.{◌≡◌, ℕ, ◌-◌, ◌<◌, ◌++◌, length, None, IsPermutation}
 use Rattle.starlark_table.specs.Table.{filled}
-use Rattle.starlark_table.specs.Layout.{InPlace, IsTagged}
+use Rattle.starlark_table.specs.Layout.{at, InPlace, IsTagged, IsTaggedFrom}
 use Rattle.starlark_table.proofs.growth.move_all.Given as goal
 
-abbrev pub invariant-loop-slot : goal.invariant-loop-slot
-invariant-loop-slot g l = record {
+abbrev pub invariant-windows : goal.invariant-windows
+invariant-windows g l = record {
   sized : length l.slots ≡ length l.initial.slots;
   in_place : InPlace (length l.slots) l.slots;
   tagged : IsTagged l.tags l.slots;
-  bag : IsPermutation (filled l.initial.old.items ++ filled l.initial.slots) (filled l.old.items ++ filled l.slots);
+  old_sized : length l.old ≡ length l.initial.old;
+  old_tagged : IsTaggedFrom l.start l.old_tags l.old;
+  emptied : (p : ℕ) → p < l.start → at l.old p ≡ None;
+  bag : IsPermutation (filled l.initial.old ++ filled l.initial.slots) (filled l.old ++ filled l.slots);
 }
 
-abbrev pub decreases-loop-slot : goal.decreases-loop-slot
-decreases-loop-slot g l = vec_len l.old
+abbrev pub decreases-windows : goal.decreases-windows
+decreases-windows g l = length l.old - l.start

@@ -1,24 +1,23 @@
-use Rattle.std.proofs.Common.{ℕ, ◌≡◌, ◌<◌, ◌+◌, ◌-◌, ◌*◌, ◌==◌, Bool, true, false, length, Some, arith, refl, sym, ◌∙◌, ap, subst}
+use Rattle.std.proofs.Common.{ℕ, ◌≡◌, ◌<◌, ◌+◌, ◌-◌, ◌*◌, false, length, arith, refl, sym, ◌∙◌, ap, subst}
 use Rattle.std.specs.Fn.{CalledAt}
 use Rattle.std.proofs.lemmas.Fn.{called_at}
-use Rattle.std.proofs.lemmas.Bool.Decides.{nat_tests}
 use Rattle.std.specs.Int.Count.{count_trailing_zeros}
 use Rattle.starlark_table.specs.Table.{holders_in}
-use Rattle.starlark_table.specs.Layout.{home, tag, tag_bits, empty_tag, BitsUpToEmpty}
+use Rattle.starlark_table.specs.Layout.{at, home, tag, tag_bits, empty_tag, BitsUpToEmpty}
 use Rattle.starlark_table.proofs.Circle.{home-below, distance-self, distance-below}
-use Rattle.starlark_table.proofs.Closing.{full_not_empty}
-use Rattle.starlark_table.proofs.Path.{read_at, listed}
+use Rattle.starlark_table.proofs.Filling.{filled-by_some}
+use Rattle.starlark_table.proofs.Path.{listed}
 use Rattle.starlark_table.proofs.Searching.{searching_begins, searching_on, searching_as, searches_none, searching_asks, searching_refuses, searching_accepts, searching_ends, path_taken, path_skipped, path_moved}
 use Rattle.starlark_table.proofs.TagBits.{first-by_bits, none-by_bits}
 use Rattle.starlark_table.proofs.Windows.{AtWindow, window_begins, window_matches, window_ends, window_goes_on}
 use Rattle.starlark_table.proofs.probe.find_slot.Goals as goal
 use Rattle.starlark_table.proofs.probe.find_slot.Goals.{else-stored-hash-via-then-stored-hash+else-eq, else-stored-hash-via-else-stored-hash}
 
-some_places : (n : ℕ) (b : Bool) → b ≡ (n == 0) → b ≡ false → 0 < n
-some_places n b e f = grind (arith, nat_tests)
+some_places : (n k : ℕ) → k ≡ n → (k ≡ 0 → ⊥) → 0 < n
+some_places n k e some = omega arith
 
-no_places : (n : ℕ) (b : Bool) → b ≡ (n == 0) → b ≡ true → n ≡ 0
-no_places n b e f = grind (arith, nat_tests)
+no_places : (n k : ℕ) → k ≡ n → k ≡ 0 → n ≡ 0
+no_places n k e none = omega arith
 
 nearer : (n start place k : ℕ) → place + k < start + 16 → n + (start + 16 - (place + k + 1)) < n + (start + 16 - place)
 nearer n start place k near = omega arith
@@ -26,19 +25,19 @@ nearer n start place k near = omega arith
 farther : (m d d' next start place : ℕ) → d < d' → d' < m → (m - d') * 32 + (next + 16 - next) < (m - d) * 32 + (start + 16 - place)
 farther m d d' next start place more below = omega arith
 
-pub returns-then-is_empty-clause-found : goal.returns-then-is_empty-clause-found
-returns-then-is_empty-clause-found g c =
-    (c.args.eq, searches_none g.F.FnMut c.args.hash c.args.slots.now c.args.eq (no_places (length c.args.slots.now) c.is_empty.result c.is_empty.ensures c.if-is_empty.true))
+pub returns-then-places-eq0-clause-found : goal.returns-then-places-eq0-clause-found
+returns-then-places-eq0-clause-found g c =
+    (c.args.eq, searches_none g.F.FnMut c.args.hash c.args.slots.now c.args.eq (no_places (length c.args.slots.now) c.places.result c.places.ensures.places c.if-places-eq0.true))
 
 pub places_with-same-requires : goal.places_with-same-requires
 places_with-same-requires g c =
-    let some = some_places (length c.args.slots.now) c.is_empty.result c.is_empty.ensures c.if-is_empty.false in
+    let some = some_places (length c.args.slots.now) c.places.result c.places.ensures.places c.if-places-eq0.false in
     let at_home : c.home-start.result ≡ home (length c.args.slots.now) c.args.hash = c.home-start.ensures ∙ ap (λ n. home n c.args.hash) (c.requires.mask some) in
     omega (arith, at_home, home-below (length c.args.slots.now) c.args.hash some, c.requires.tagged.sized some)
 
 pub windows-init : goal.windows-init
 windows-init g c =
-    let some = some_places (length c.args.slots.now) c.is_empty.result c.is_empty.ensures c.if-is_empty.false in
+    let some = some_places (length c.args.slots.now) c.places.result c.places.ensures.places c.if-places-eq0.false in
     let at_home : c.home-start.result ≡ home (length c.args.slots.now) c.args.hash = c.home-start.ensures ∙ ap (λ n. home n c.args.hash) (c.requires.mask some) in
     let bits = c.places_with-same.ensures ∙ ap (λ t. tag_bits t c.args.tags.now c.home-start.result 16) c.tag-sought.ensures in
     let begins = window_begins c.args.hash c.args.tags.now c.args.slots.now c.requires.tagged some c.places_with-same.result
@@ -53,7 +52,7 @@ windows-init g c =
 
 pub returns-then-places_with-ne0-clause-found : goal.returns-then-places_with-ne0-clause-found
 returns-then-places_with-ne0-clause-found g c =
-    let some = some_places (length c.args.slots.now) c.is_empty.result c.is_empty.ensures c.if-is_empty.false in
+    let some = some_places (length c.args.slots.now) c.places.result c.places.ensures.places c.if-places-eq0.false in
     let k = c.windows.invariant in
     let start_in = k.window.start_in in
     let w = subst (λ b. AtWindow c.args.hash c.args.tags.now c.args.slots.now c.windows.start c.windows.place b) c.if-same-eq0.true k.window in
@@ -70,7 +69,7 @@ returns-then-places_with-ne0-clause-found g c =
 
 pub windows-smaller-then-same-eq0 : goal.windows-smaller-then-same-eq0
 windows-smaller-then-same-eq0 g c =
-    let some = some_places (length c.args.slots.now) c.is_empty.result c.is_empty.ensures c.if-is_empty.false in
+    let some = some_places (length c.args.slots.now) c.places.result c.places.ensures.places c.if-places-eq0.false in
     let k = c.windows.invariant in
     let start_in = k.window.start_in in
     let w = subst (λ b. AtWindow c.args.hash c.args.tags.now c.args.slots.now c.windows.start c.windows.place b) c.if-same-eq0.true k.window in
@@ -83,7 +82,7 @@ windows-smaller-then-same-eq0 g c =
 
 pub windows-preserved-then-same-eq0 : goal.windows-preserved-then-same-eq0
 windows-preserved-then-same-eq0 g c =
-    let some = some_places (length c.args.slots.now) c.is_empty.result c.is_empty.ensures c.if-is_empty.false in
+    let some = some_places (length c.args.slots.now) c.places.result c.places.ensures.places c.if-places-eq0.false in
     let k = c.windows.invariant in
     let start_in = k.window.start_in in
     let w = subst (λ b. AtWindow c.args.hash c.args.tags.now c.args.slots.now c.windows.start c.windows.place b) c.if-same-eq0.true k.window in
@@ -93,85 +92,68 @@ windows-preserved-then-same-eq0 g c =
     (subst (λ t. BitsUpToEmpty t c.args.tags.now c.window_after-start.result c.places_up_to_empty-same.result) c.tag-sought.ensures c.places_up_to_empty-same.ensures) in
     record { window = goes.on; search = searching_on g.F.FnMut _ _ _ c.args.eq c.windows.eq goes.left k.search }
 
-pub offset_bounds-slots-place : goal.offset_bounds-slots-place
-offset_bounds-slots-place g c =
-    let some = some_places (length c.args.slots.now) c.is_empty.result c.is_empty.ensures c.if-is_empty.false in
+pub get-requires : goal.get-requires
+get-requires g c =
+    let some = some_places (length c.args.slots.now) c.places.result c.places.ensures.places c.if-places-eq0.false in
     let found = window_matches c.args.hash c.args.tags.now c.args.slots.now c.requires.tagged some c.windows.start c.windows.place c.windows.same _ c.windows.invariant.window c.if-same-eq0.false refl in
-    omega (arith, found.in_range)
-
-pub bounds-slots-place : goal.bounds-slots-place
-bounds-slots-place g c =
-    let some = some_places (length c.args.slots.now) c.is_empty.result c.is_empty.ensures c.if-is_empty.false in
-    (window_matches c.args.hash c.args.tags.now c.args.slots.now c.requires.tagged some c.windows.start c.windows.place c.windows.same _ c.windows.invariant.window c.if-same-eq0.false refl).in_range
-
-pub unreachable-requires : goal.unreachable-requires
-unreachable-requires g c =
-    let some = some_places (length c.args.slots.now) c.is_empty.result c.is_empty.ensures c.if-is_empty.false in
-    let found = window_matches c.args.hash c.args.tags.now c.args.slots.now c.requires.tagged some c.windows.start c.windows.place c.windows.same _ c.windows.invariant.window c.if-same-eq0.false refl in
-    full_not_empty _ found.full (read_at c.args.slots.now _ _ found.in_range c.index-slots-place.is ∙ c.in_default.is)
+    filled-by_some (at c.args.slots.now (c.windows.place + count_trailing_zeros 64 c.windows.same)) found.full
 
 pub eq-requires : goal.eq-requires
 eq-requires g c =
-    let some = some_places (length c.args.slots.now) c.is_empty.result c.is_empty.ensures c.if-is_empty.false in
+    let some = some_places (length c.args.slots.now) c.places.result c.places.ensures.places c.if-places-eq0.false in
     let a = home (length c.args.slots.now) c.args.hash in
     let a_in = home-below (length c.args.slots.now) c.args.hash some in
     let k = c.windows.invariant in
     let found = window_matches c.args.hash c.args.tags.now c.args.slots.now c.requires.tagged some c.windows.start c.windows.place c.windows.same _ k.window c.if-same-eq0.false refl in
-    let here = read_at c.args.slots.now _ _ found.in_range c.index-slots-place.is ∙ c.in-Some.is in
-    searching_asks g.F.FnMut (holders_in c.args.hash c.args.slots.now) _ c.args.eq c.windows.eq (c.windows.place + count_trailing_zeros 64 c.windows.same, c.in-Some.item) _
+    let here = c.get.ensures in
+    searching_asks g.F.FnMut (holders_in c.args.hash c.args.slots.now) _ c.args.eq c.windows.eq (c.windows.place + count_trailing_zeros 64 c.windows.same, c.get.result.now.1) _
     (listed c.args.hash a c.args.slots.now) c.requires.callable
-    (path_taken g.F.FnMut _ c.args.eq c.windows.eq c.args.hash a _ c.in-Some.stored c.in-Some.item c.args.slots.now
+    (path_taken g.F.FnMut _ c.args.eq c.windows.eq c.args.hash a _ c.get.result.now.0 c.get.result.now.1 c.args.slots.now
     a_in found.in_range here c.if-stored-hash.true (searching_on g.F.FnMut _ _ _ c.args.eq c.windows.eq found.left k.search)) _ refl
 
 pub returns-then-eq-clause-found : goal.returns-then-eq-clause-found
 returns-then-eq-clause-found g c =
-    let some = some_places (length c.args.slots.now) c.is_empty.result c.is_empty.ensures c.if-is_empty.false in
+    let some = some_places (length c.args.slots.now) c.places.result c.places.ensures.places c.if-places-eq0.false in
     let a = home (length c.args.slots.now) c.args.hash in
     let a_in = home-below (length c.args.slots.now) c.args.hash some in
     let k = c.windows.invariant in
     let found = window_matches c.args.hash c.args.tags.now c.args.slots.now c.requires.tagged some c.windows.start c.windows.place c.windows.same _ k.window c.if-same-eq0.false refl in
-    let here = read_at c.args.slots.now _ _ found.in_range c.index-slots-place.is ∙ c.in-Some.is in (
+    let here = c.get.ensures in (
       c.eq.new.self,
-      searching_accepts g.F.FnMut (holders_in c.args.hash c.args.slots.now) _ c.args.eq c.windows.eq c.eq.new.self (c.windows.place + count_trailing_zeros 64 c.windows.same, c.in-Some.item) _
+      searching_accepts g.F.FnMut (holders_in c.args.hash c.args.slots.now) _ c.args.eq c.windows.eq c.eq.new.self (c.windows.place + count_trailing_zeros 64 c.windows.same, c.get.result.now.1) _
           (listed c.args.hash a c.args.slots.now)
-          (path_taken g.F.FnMut _ c.args.eq c.windows.eq c.args.hash a _ c.in-Some.stored c.in-Some.item c.args.slots.now
+          (path_taken g.F.FnMut _ c.args.eq c.windows.eq c.args.hash a _ c.get.result.now.0 c.get.result.now.1 c.args.slots.now
           a_in found.in_range here c.if-stored-hash.true (searching_on g.F.FnMut _ _ _ c.args.eq c.windows.eq found.left k.search))
           (called_at g.F.FnMut c.eq.ensures c.if-eq.true),
     )
 
-pub returns-then-eq-clause-item : goal.returns-then-eq-clause-item
-returns-then-eq-clause-item g c =
-    let some = some_places (length c.args.slots.now) c.is_empty.result c.is_empty.ensures c.if-is_empty.false in
-    let found = window_matches c.args.hash c.args.tags.now c.args.slots.now c.requires.tagged some c.windows.start c.windows.place c.windows.same _ c.windows.invariant.window c.if-same-eq0.false refl in
-    read_at c.args.slots.now _ _ found.in_range c.index-slots-place.is ∙ c.in-Some.is ∙ ap (λ h. Some (h, c.in-Some.item)) c.if-stored-hash.true
-
 pub windows-smaller : goal.windows-smaller
 windows-smaller g c =
-    let some = some_places (length c.args.slots.now) c.is_empty.result c.is_empty.ensures c.if-is_empty.false in
+    let some = some_places (length c.args.slots.now) c.places.result c.places.ensures.places c.if-places-eq0.false in
     let found = window_matches c.args.hash c.args.tags.now c.args.slots.now c.requires.tagged some c.windows.start c.windows.place c.windows.same _ c.windows.invariant.window c.if-same-eq0.false refl in
     nearer _ c.windows.start c.windows.place (count_trailing_zeros 64 c.windows.same) found.near
 
 pub windows-preserved : goal.windows-preserved
 windows-preserved g c =
-    let some = some_places (length c.args.slots.now) c.is_empty.result c.is_empty.ensures c.if-is_empty.false in
+    let some = some_places (length c.args.slots.now) c.places.result c.places.ensures.places c.if-places-eq0.false in
     let a = home (length c.args.slots.now) c.args.hash in
     let a_in = home-below (length c.args.slots.now) c.args.hash some in
     let k = c.windows.invariant in
     let found = window_matches c.args.hash c.args.tags.now c.args.slots.now c.requires.tagged some c.windows.start c.windows.place c.windows.same _ k.window c.if-same-eq0.false refl in
-    let here = read_at c.args.slots.now _ _ found.in_range c.index-slots-place.is ∙ c.in-Some.is in
+    let here = c.get.ensures in
     let search = searching_on g.F.FnMut _ _ _ c.args.eq c.windows.eq found.left k.search in
     record {
       window = found.on;
       search = path_moved g.F.FnMut _ c.args.eq c.else-stored-hash.eq c.args.hash a _ _ c.args.slots.now found.after
           (elim c.else-stored-hash.branch [
             | else-stored-hash-via-then-stored-hash+else-eq w ↦
-                searching_refuses g.F.FnMut _ c.args.eq c.windows.eq c.else-stored-hash.eq (c.windows.place + count_trailing_zeros 64 c.windows.same, c.in-Some.item) _
-                (path_taken g.F.FnMut _ c.args.eq c.windows.eq c.args.hash a _ c.in-Some.stored c.in-Some.item c.args.slots.now
+                searching_refuses g.F.FnMut _ c.args.eq c.windows.eq c.else-stored-hash.eq (c.windows.place + count_trailing_zeros 64 c.windows.same, c.get.result.now.1) _
+                (path_taken g.F.FnMut _ c.args.eq c.windows.eq c.args.hash a _ c.get.result.now.0 c.get.result.now.1 c.args.slots.now
                 a_in found.in_range here w.if-stored-hash.true search)
-                (subst (λ f. CalledAt g.F.FnMut c.windows.eq c.in-Some.item false f) (sym w.eq-is) (called_at g.F.FnMut w.eq.ensures w.if-eq.false))
+                (subst (λ f. CalledAt g.F.FnMut c.windows.eq c.get.result.now.1 false f) (sym w.eq-is) (called_at g.F.FnMut w.eq.ensures w.if-eq.false))
             | else-stored-hash-via-else-stored-hash w ↦
                 searching_as g.F.FnMut _ _ c.args.eq c.windows.eq c.else-stored-hash.eq w.eq-is
-                (path_skipped g.F.FnMut _ c.args.eq c.windows.eq c.args.hash a _ c.in-Some.stored c.in-Some.item c.args.slots.now
+                (path_skipped g.F.FnMut _ c.args.eq c.windows.eq c.args.hash a _ c.get.result.now.0 c.get.result.now.1 c.args.slots.now
                 a_in found.in_range here w.if-stored-hash.false search)
           ]);
     }

@@ -1,6 +1,10 @@
-use Rattle.std.proofs.Common.{◌≡◌, ℕ, ◌<◌, None}
+use Rattle.std.proofs.Common.{◌≡◌, ℕ, ◌<◌, ◌≤◌, None, length}
 use Rattle.starlark_table.specs.Layout.{at}
 use Rattle.starlark_table.proofs.walks.empty_all.Given as goal
 
-abbrev pub invariant-loop-i : goal.invariant-loop-i
-invariant-loop-i g l = (k : ℕ) → k < l.i → at l.slots k ≡ None
+abbrev pub invariant-loop-place : goal.invariant-loop-place
+invariant-loop-place g l = record {
+  sized : length l.slots ≡ length l.initial.slots;
+  empty : (k : ℕ) → k < l.place → at l.slots k ≡ None;
+  untouched : (k : ℕ) → l.place ≤ k → at l.slots k ≡ at l.initial.slots k;
+}

@@ -1,7 +1,8 @@
-use Rattle.std.proofs.Common.{◌<◌, ◌≤◌, ◌+◌, ℕ, length, IsSome, arith, refl, sym, ◌∙◌, subst}
+use Rattle.std.proofs.Common.{◌≡◌, ◌<◌, ◌≤◌, ◌+◌, ℕ, length, arith, subst, inr, if◌then◌else◌, ◌==◌}
 use Rattle.starlark_table.proofs.Circle.{distance-self, distance-below, next-step, less-left}
-use Rattle.starlark_table.proofs.Closing.{read_known, path_more}
+use Rattle.starlark_table.proofs.Closing.{path_more}
 use Rattle.starlark_table.proofs.Settling.{short_of}
+use Rattle.starlark_table.proofs.Tagged.{full-by_tag, empty-by_tag}
 use Rattle.starlark_table.proofs.walks.free_before.Goals as goal
 
 not_yet : (d e m : ℕ) → d + 1 ≤ e → e < m → d + 1 < m
@@ -15,20 +16,28 @@ loop-place-init g c =
 pub loop-place-smaller : goal.loop-place-smaller
 loop-place-smaller g c =
     let k = c.loop-place.invariant in
-    let short = short_of (length c.args.slots.now) c.args.start c.loop-place.place c.args.end c.requires.start k.in_range c.requires.end k.near c.loop-place-test.true in
-    let more = not_yet _ _ _ short (distance-below (length c.args.slots.now) c.args.start c.args.end c.requires.start c.requires.end) in
-    let next = next-step (length c.args.slots.now) c.args.start c.loop-place.place _ c.requires.start k.in_range more c.next_place-place.ensures in
-    less-left (length c.args.slots.now) _ _ (distance-below (length c.args.slots.now) c.args.start c.loop-place.place c.requires.start k.in_range) next.1
+    let m = length c.args.slots.now in
+    let short = short_of m c.args.start c.loop-place.place c.args.end c.requires.start k.in_range c.requires.end k.near c.loop-place-test.true in
+    let more = not_yet _ _ _ short (distance-below m c.args.start c.args.end c.requires.start c.requires.end) in
+    let on = subst (λ n. c.next_place-place.result ≡ (if c.loop-place.place + 1 == n then 0 else c.loop-place.place + 1)) c.places.ensures.places c.next_place-place.ensures in
+    let next = next-step m c.args.start c.loop-place.place _ c.requires.start k.in_range more on in
+    less-left m _ _ (distance-below m c.args.start c.loop-place.place c.requires.start k.in_range) next.1
 
 pub loop-place-preserved : goal.loop-place-preserved
 loop-place-preserved g c =
     let k = c.loop-place.invariant in
-    let some = subst IsSome (sym (read_known c.args.slots.now c.loop-place.place _ c.index-slots-place.result _ refl k.in_range (sym c.index-slots-place.is))) (sym c.is_some.ensures ∙ c.if-is_some.true) in
-    let short = short_of (length c.args.slots.now) c.args.start c.loop-place.place c.args.end c.requires.start k.in_range c.requires.end k.near c.loop-place-test.true in
-    let more = not_yet _ _ _ short (distance-below (length c.args.slots.now) c.args.start c.args.end c.requires.start c.requires.end) in
-    let next = next-step (length c.args.slots.now) c.args.start c.loop-place.place _ c.requires.start k.in_range more c.next_place-place.ensures in
+    let m = length c.args.slots.now in
+    let some = full-by_tag c.args.tags.now c.args.slots.now c.loop-place.place c.requires.tagged k.in_range c.if-tags-place.true in
+    let short = short_of m c.args.start c.loop-place.place c.args.end c.requires.start k.in_range c.requires.end k.near c.loop-place-test.true in
+    let more = not_yet _ _ _ short (distance-below m c.args.start c.args.end c.requires.start c.requires.end) in
+    let on = subst (λ n. c.next_place-place.result ≡ (if c.loop-place.place + 1 == n then 0 else c.loop-place.place + 1)) c.places.ensures.places c.next_place-place.ensures in
+    let next = next-step m c.args.start c.loop-place.place _ c.requires.start k.in_range more on in
     record {
       in_range = next.0;
       near = rw next.1 short;
-      path = path_more (length c.args.slots.now) c.args.start c.loop-place.place c.args.slots.now c.requires.start k.in_range k.path some c.next_place-place.result next.1;
+      path = path_more m c.args.start c.loop-place.place c.args.slots.now c.requires.start k.in_range k.path some c.next_place-place.result next.1;
     }
+
+pub returns-else-tags-place-clause-empty : goal.returns-else-tags-place-clause-empty
+returns-else-tags-place-clause-empty g c =
+    inr (empty-by_tag c.args.tags.now c.args.slots.now c.loop-place.place c.requires.tagged c.loop-place.invariant.in_range c.if-tags-place.false)

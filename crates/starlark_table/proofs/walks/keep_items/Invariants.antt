@@ -2,16 +2,17 @@ use Rattle.std.proofs.Common.{◌≡◌, ◌≤◌, ℕ, ◌++◌, List, take, d
 use Rattle.std.specs.List.Retain.{RetainsInTurn}
 use Rattle.starlark_table.specs.Table.{filled, items_in}
 use Rattle.starlark_table.specs.Walk.{CanRetain, AsksMember}
-use Rattle.starlark_table.specs.Layout.{StandsIn}
+use Rattle.starlark_table.specs.Layout.{StandsIn, IsTagged}
 use Rattle.starlark_table.proofs.walks.keep_items.Given as goal
 
-abbrev pub invariant-loop-slot : goal.invariant-loop-slot
-invariant-loop-slot g l = record {
-  callable : CanRetain g.F.FnMut (items_in (drop l.slot-index l.initial.slots)) l.f;
-  untouched : drop l.slot-index l.slots ≡ drop l.slot-index l.initial.slots;
-  counted : l.kept ≡ length (filled (take l.slot-index l.slots));
-  few : l.kept ≤ l.slot-index;
+abbrev pub invariant-loop-place : goal.invariant-loop-place
+invariant-loop-place g l = record {
+  callable : CanRetain g.F.FnMut (items_in (drop l.place l.initial.slots)) l.f;
+  untouched : drop l.place l.slots ≡ drop l.place l.initial.slots;
+  counted : l.kept ≡ length (filled (take l.place l.slots));
+  few : l.kept ≤ l.place;
   stand : StandsIn l.initial.slots l.slots;
-  done : (rest : List (ℕ × _)) → RetainsInTurn (AsksMember g.F.FnMut) l.f (filled (drop l.slot-index l.initial.slots)) rest
-      → RetainsInTurn (AsksMember g.F.FnMut) l.fn.f (filled l.initial.slots) (filled (take l.slot-index l.slots) ++ rest);
+  tagged : IsTagged l.tags l.slots;
+  done : (rest : List (ℕ × _)) → RetainsInTurn (AsksMember g.F.FnMut) l.f (filled (drop l.place l.initial.slots)) rest
+      → RetainsInTurn (AsksMember g.F.FnMut) l.fn.f (filled l.initial.slots) (filled (take l.place l.slots) ++ rest);
 }

@@ -1,12 +1,14 @@
-use Rattle.std.proofs.Common.{◌≡◌, ℕ, ◌++◌, List, Option, take, drop}
-use Rattle.starlark_table.specs.Table.{items_in}
-use Rattle.starlark_table.specs.Walk.{CanReplace, ReplacesEach}
+use Rattle.std.proofs.Common.{◌≡◌, ◌-◌, length}
+use Rattle.starlark_table.specs.Layout.{IsTaggedFrom}
+use Rattle.starlark_table.specs.Walk.{ReplacesWithin}
 use Rattle.starlark_table.proofs.walks.replace_items.Given as goal
 
-abbrev pub invariant-loop-slot : goal.invariant-loop-slot
-invariant-loop-slot g l = record {
-  callable : CanReplace g.F.FnMut (items_in (drop l.slot-index l.initial.slots)) l.f;
-  untouched : drop l.slot-index l.slots ≡ drop l.slot-index l.initial.slots;
-  done : (rest : List (Option (ℕ × _))) (last : _) → ReplacesEach g.F.FnMut l.f (drop l.slot-index l.initial.slots) rest last
-      → ReplacesEach g.F.FnMut l.fn.f l.initial.slots (take l.slot-index l.slots ++ rest) last;
+abbrev pub invariant-windows : goal.invariant-windows
+invariant-windows g l = record {
+  sized : length l.slots ≡ length l.initial.slots;
+  tagged : IsTaggedFrom l.start l.tags l.slots;
+  replaced : ReplacesWithin g.F.FnMut l.fn.f l.initial.slots l.slots l.f 0 l.start;
 }
+
+abbrev pub decreases-windows : goal.decreases-windows
+decreases-windows g l = length l.slots - l.start

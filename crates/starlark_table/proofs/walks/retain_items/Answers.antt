@@ -1,16 +1,15 @@
-use Rattle.std.proofs.Common.{ℕ, ◌≡◌, ◌<◌, ◌==◌, Bool, false, length, arith, refl, sym, ◌∙◌}
-use Rattle.std.proofs.lemmas.Bool.Decides.{nat_tests}
+use Rattle.std.proofs.Common.{ℕ, ◌≡◌, ◌<◌, length, arith, refl, sym, ◌∙◌}
 use Rattle.std.proofs.lemmas.List.Sorted.{length_permutation}
 use Rattle.starlark_table.proofs.Load.{empty_slot, load-below_places}
 use Rattle.starlark_table.proofs.Settling.{reaches_before}
 use Rattle.starlark_table.proofs.walks.retain_items.Goals as goal
 
-not_empty : (n : ℕ) (b : Bool) → b ≡ (n == 0) → b ≡ false → 0 < n
-not_empty n b e f = grind (arith, nat_tests)
+not_empty : (n m : ℕ) → n ≡ m → (n ≡ 0 → ⊥) → 0 < m
+not_empty n m e some = omega (arith, e, some)
 
 pub free_place-start-requires-clause-free : goal.free_place-start-requires-clause-free
 free_place-start-requires-clause-free g c =
-    empty_slot c.args.slots.now (load-below_places _ _ c.requires.load (not_empty _ _ c.is_empty.ensures c.if-is_empty.false))
+    empty_slot c.args.slots.now (load-below_places _ _ c.requires.load (not_empty _ _ c.places.ensures.places c.if-places-eq0.false))
 
 pub settle-requires-clause-reaches : goal.settle-requires-clause-reaches
 settle-requires-clause-reaches g c =

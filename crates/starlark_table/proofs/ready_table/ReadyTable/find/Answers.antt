@@ -1,20 +1,18 @@
-use Rattle.std.proofs.Common.{◌≡◌, ℕ, ◌<◌, length, Some, None, sym, ◌∙◌, subst, ap}
+use Rattle.std.proofs.Common.{Some, sym, subst, ap}
 use Rattle.starlark_hash.specs.Search.{Searches, CanSearch}
-use Rattle.starlark_table.specs.Layout.{at}
 use Rattle.starlark_table.specs.Table.{holders_in}
 use Rattle.starlark_table.proofs.Load.{sound-empty_slot}
 use Rattle.starlark_table.proofs.ready_table.ReadyTable.find.Goals as goal
 
 pub find_slot-requires-clause-free : goal.find_slot-requires-clause-free
 find_slot-requires-clause-free g c =
-    subst (λ l. 0 < length l → (q : ℕ) × (q < length l) × (at l q ≡ None)) (sym c.as_slice.ensures.value)
-    (sound-empty_slot c.self.inside.slots.items c.self.inside.tags.items c.self.inside.len c.self.inside.mask c.self.invariant)
+    sound-empty_slot c.self.inside.slots c.self.inside.tags.items c.self.inside.len c.self.inside.mask c.self.invariant
 
 pub find_slot-requires-clause-callable : goal.find_slot-requires-clause-callable
 find_slot-requires-clause-callable g c =
-    subst (λ l. CanSearch g.F.FnMut (holders_in c.args.hash l) c.args.eq) (sym (c.as_slice.ensures.value ∙ ap (λ t. t.slots) c.self.view_is)) c.requires
+    subst (λ l. CanSearch g.F.FnMut (holders_in c.args.hash l) c.args.eq) (sym (ap (λ t. t.slots) c.self.view_is)) c.requires
 
 pub returns : goal.returns
 returns g c =
     let found = c.in_ok-slot.ensures.found in
-    (found.0, subst (λ l. Searches g.F.FnMut (holders_in c.args.hash l) c.args.eq (Some c.in_ok-slot.slot) found.0) (c.as_slice.ensures.value ∙ ap (λ t. t.slots) c.self.view_is) found.1)
+    (found.0, subst (λ l. Searches g.F.FnMut (holders_in c.args.hash l) c.args.eq (Some c.in_ok-slot.slot) found.0) (ap (λ t. t.slots) c.self.view_is) found.1)

@@ -1,4 +1,4 @@
-use Rattle.std.proofs.Common.{◌≡◌, ℕ, ◌<◌, length, Some, None, sym, ◌∙◌, subst, ap}
+use Rattle.std.proofs.Common.{◌≡◌, Some, sym, subst, ap}
 use Rattle.std.specs.Option.{option_map}
 use Rattle.starlark_hash.specs.Search.{Searches, CanSearch}
 use Rattle.starlark_table.specs.Layout.{at}
@@ -8,17 +8,16 @@ use Rattle.starlark_table.proofs.ready_table.ReadyTable.find_item.Goals as goal
 
 pub find_slot-requires-clause-free : goal.find_slot-requires-clause-free
 find_slot-requires-clause-free g c =
-    subst (λ l. 0 < length l → (q : ℕ) × (q < length l) × (at l q ≡ None)) (sym c.as_slice.ensures.value)
-    (sound-empty_slot c.self.inside.slots.items c.self.inside.tags.items c.self.inside.len c.self.inside.mask c.self.invariant)
+    sound-empty_slot c.self.inside.slots c.self.inside.tags.items c.self.inside.len c.self.inside.mask c.self.invariant
 
 pub find_slot-requires-clause-callable : goal.find_slot-requires-clause-callable
 find_slot-requires-clause-callable g c =
-    subst (λ l. CanSearch g.F.FnMut (holders_in c.args.hash l) c.args.eq) (sym (c.as_slice.ensures.value ∙ ap (λ t. t.slots) c.self.view_is)) c.requires
+    subst (λ l. CanSearch g.F.FnMut (holders_in c.args.hash l) c.args.eq) (sym (ap (λ t. t.slots) c.self.view_is)) c.requires
 
 pub returns : goal.returns
 returns g c =
     let found = c.in_ok-item.ensures.found in
-    let shown = c.as_slice.ensures.value ∙ ap (λ t. t.slots) c.self.view_is in
+    let shown = ap (λ t. t.slots) c.self.view_is in
     let there = subst (λ l. at l c.in_ok-item.field-0-0 ≡ Some (c.args.hash, c.in_ok-item.item.now)) shown c.in_ok-item.ensures.item in (
       Some c.in_ok-item.field-0-0,
       found.0,

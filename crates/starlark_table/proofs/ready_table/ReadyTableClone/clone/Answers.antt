@@ -1,26 +1,41 @@
-use Rattle.std.proofs.Common.{◌-◌, refl, ap}
-use Rattle.std.specs.List.{AllZip}
-use Rattle.std.proofs.lemmas.List.Elements.{same_from_all_zip}
+use Rattle.std.proofs.Common.{◌≡◌, ◌-◌, length, arith, refl, ◌∙◌, ap}
+use Rattle.std.proofs.lemmas.List.{with_items_is}
 use Rattle.starlark_table.specs.Layout.{limit}
-use Rattle.starlark_table.specs.Table.{IsSlotClone}
+use Rattle.starlark_table.proofs.Cloning.{no_slots_cloned}
+use Rattle.starlark_table.proofs.Shape.{shape-cloned, same_length, sound-cloned}
 use Rattle.starlark_table.proofs.Sound.{sound-as}
-use Rattle.starlark_table.proofs.Shape.{slots_cloned, shape-cloned, reshaped, same_length}
 use Rattle.starlark_table.proofs.ready_table.ReadyTableClone.clone.Goals as goal
+
+pub returns-then-count-eq0 : goal.returns-then-count-eq0
+returns-then-count-eq0 g c =
+    let none : length c.self.inside.slots ≡ 0 = omega (arith, c.if-count-eq0.true, c.places-count.ensures.places) in
+    let no_room : 0 ≡ limit (length c.self.inside.slots) - c.self.inside.len = omega (arith, none) in
+    record {
+      cases = rw (← c.self.view_is) (record {
+        slots = no_slots_cloned g.T.Clone.is_clone c.self.inside.slots c.without_slots.result.slots none c.without_slots.ensures.slots;
+        room = c.without_slots.ensures.room ∙ no_room;
+      });
+    }
+
+pub empty_tags-requires : goal.empty_tags-requires
+empty_tags-requires g c =
+    let sized = c.self.invariant.tagged.sized (omega (arith, c.if-count-eq0.false, c.places-count.ensures.places)) in
+    omega (arith, sized, c.places-count.ensures.places, c.self.inside.tags.ok.0)
 
 pub invariant_of-result : goal.invariant_of-result
 invariant_of-result g c =
-    let all : AllZip (IsSlotClone g.T.Clone.is_clone) c.self.inside.slots.items c.in_ok-clone.field-0.items =
-    slots_cloned g.T.Clone.is_clone _ (λ m r. r) (λ m r. r) (λ m n r. r) _ _ c.in_ok-clone.ensures.cases.0 in
-    sound-as _ _ _ _ c.self.inside.len c.self.inside.mask refl (same_from_all_zip _ _ _ c.in_ok-tags.ensures.cases.0 (λ x y e. e))
-    (reshaped c.self.inside.slots.items c.in_ok-clone.field-0.items (shape-cloned g.T.Clone.is_clone _ _ all) c.self.inside.tags.items c.self.inside.len c.self.inside.mask c.self.invariant)
+    sound-as _ _ _ _ c.self.inside.len c.self.inside.mask refl
+    (with_items_is c.in_ok-tags.tags c.clone_members-cloned.new.copy_tags (c.clone_members-cloned.auto.copy_tags ∙ c.as_mut_slice.ensures.len))
+    (sound-cloned g.T.Clone.is_clone c.self.inside.slots c.clone_members-cloned.new.copy c.self.inside.tags.items c.clone_members-cloned.new.copy_tags
+    c.self.inside.len c.self.inside.mask c.self.invariant c.in-Ok.ensures.cloned c.in-Ok.ensures.tagged)
 
-pub returns : goal.returns
-returns g c =
-    let all : AllZip (IsSlotClone g.T.Clone.is_clone) c.self.inside.slots.items c.in_ok-clone.field-0.items =
-    slots_cloned g.T.Clone.is_clone _ (λ m r. r) (λ m r. r) (λ m n r. r) _ _ c.in_ok-clone.ensures.cases.0 in
+pub returns-in-Ok : goal.returns-in-Ok
+returns-in-Ok g c =
+    let all = c.in-Ok.ensures.cloned in
     record {
       cases = rw (← c.self.view_is) (record {
         slots = all;
-        room = ap (λ n. limit n - c.self.inside.len) (same_length c.self.inside.slots.items c.in_ok-clone.field-0.items (shape-cloned g.T.Clone.is_clone _ _ all));
+        room = ap (λ n. limit n - c.self.inside.len)
+            (same_length c.self.inside.slots c.clone_members-cloned.new.copy (shape-cloned g.T.Clone.is_clone _ _ all));
       });
     }

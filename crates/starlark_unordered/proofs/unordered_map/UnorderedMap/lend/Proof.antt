@@ -6,7 +6,7 @@ use seplogic.Ra.Ura.{Ura}
 use base.Fraction.{full_share}
 use mir.Syntax.{Fn, Args, Dict, a_type, dcons, dnil, named}
 use mir.MapTy.{inst_fn}
-use mir.Val.{Val, vptr, vstruct, vcons, vnil}
+use mir.Val.{Val, vptr}
 use base.Share
 use base.Logic.{SProp, ent, emp, id⊢, ex_e, snd∗}
 use base.Fml.{Lft, GName, Share, ftrue, fsep, flft, fauth}
@@ -30,7 +30,7 @@ use denote.RattleType.{RattleType, owns}
 use denote.Memory.{mem}
 use denote.Param.{param, bounded, layouts}
 use denote.Param.Laws.{Laws}
-use denote.Ref.{MutBor, mut_vals, mut_Tells}
+use denote.Ref.{MutBor, NamedLft, mut_vals, mut_Tells}
 use denote.Signature.{plain, types_at, mut_ref_to, named_lft}
 use denote.Steps.{nothing, heard, only}
 use denote.Triple.Call.{calls_at}
@@ -42,25 +42,24 @@ use denote.Triple.Walked.{Stays, stay_dropped, walk_of, ends_at, walked, walk_Me
 use Rattle.std.specs.declared.cmp.Eq as Eq
 use Rattle.std.specs.declared.cmp.PartialEq as PartialEq
 use Rattle.std.specs.declared.hash.Hash as Hash
-use Rattle.starlark_table.specs.Frozen.{frozen_pairs}
 use Rattle.starlark_table.specs.Table.{Table}
 use Rattle.starlark_table.specs.Written.{with_values}
-use Rattle.starlark_table.specs.contracts.pair_loan.PairLoan as L-type
-use Rattle.starlark_table.specs.declared.pair_loan.PairLoan.{PairLoan}
+use Rattle.starlark_table.specs.contracts.loan.PairLoan as L-type
+use Rattle.starlark_table.specs.declared.loan.PairLoan.{PairLoan}
 use Rattle.starlark_table.specs.contracts.ready_table.pairs.ReadyTable+tuple2+K+V.lend_pairs as g
 use Rattle.starlark_table.proofs.ready_table.pairs.ReadyTable+tuple2+K+V.lend_pairs.Symbol.{name as #run}
 use Rattle.starlark_table.proofs.ready_table.pairs.ReadyTable+tuple2+K+V.lend_pairs.Met as loan
-use Rattle.starlark_table.proofs.pair_loan.PairLoan.TheLaws as L-laws
+use Rattle.starlark_table.proofs.loan.PairLoan.TheLaws as L-laws
 use Rattle.starlark_table.proofs.NamedClose.{closes_named}
-use Rattle.starlark_table.proofs.WrittenValues.{values_again}
+use Rattle.starlark_table.proofs.LentInResult.{lone_value}
 use Rattle.starlark_unordered.specs.contracts.unordered_map.UnorderedMap.lend as F
 use Rattle.starlark_unordered.specs.contracts.unordered_map.UnorderedMap.lend.Key.{name as #self}
+use Rattle.starlark_unordered.proofs.LoanRenamed.{renamed}
 use Rattle.starlark_unordered.proofs.UnorderedMapOpen as O
-use Rattle.starlark_unordered.proofs.ValuesWritten.{IsKeyed-with_values}
-use denote.Laws.{shows}
+use Rattle.starlark_unordered.proofs.ValuesWritten.{IsKeyed-with_values, again-with_values}
+use denote.Laws.{Is, shows}
 use denote.Memory.{part_at}
 use denote.Param.Laws.{param_laws}
-use denote.RawPtr.{Ptr, in_a_block}
 use denote.Steps.{peeks}
 use Rattle.starlark_unordered.proofs.unordered_map.UnorderedMap.lend.Statement as stated
 use Rattle.starlark_unordered.proofs.unordered_map.UnorderedMap.lend.Code as code
@@ -107,7 +106,7 @@ module _ (A B : RattleType) (E : Eq.Ghosts A.Denot) (dE : Dict) (P : PartialEq.G
   written_known v d w k = (refl, IsKeyed-with_values P.eq G.hash_input d.table.slots w.slots k.1)
 
   same : (v : W.Denot) (d : D) (w : Bag) → O.Known K V P G v d → with_values v (with_values d.table w) ≡ with_values d.table w
-  same v d w k = ap (λ (z : Bag). with_values z (with_values d.table w)) (sym k.0) ∙ ap (λ slots. record d.table { slots = slots }) (values_again d.table.slots w.slots)
+  same v d w k = ap (λ (z : Bag). with_values z (with_values d.table w)) (sym k.0) ∙ ap (λ slots. record d.table { slots = slots }) (again-with_values d.table.slots w.slots)
 
   module _ {M : Type 1} {𝓤 : Ura M} (𝓛 : Logic 𝓤) (at_mem : Memory → SProp 𝓤) (run : Routine → Fun 𝓤) where
     open 𝓛 use {H}
@@ -126,12 +125,18 @@ module _ (A B : RattleType) (E : Eq.Ghosts A.Denot) (dE : Dict) (P : PartialEq.G
       abbrev Post : Val → SProp 𝓤
       Post = (walk_of 𝓛 ended stayed spec).post bound
 
+      abbrev lft : NamedLft
+      lft = named_lft 3 0 tt (κ, (κA, (κB, tt)))
+
       abbrev It : RattleType
-      It = L-type.the_row (named_lft 3 0 tt (κ, (κA, (κB, tt)))) K V
+      It = L-type.the_row lft K V
+
+      abbrev it_laws : Laws It
+      it_laws = L-laws.the_row_laws lft K V (param_laws 0 A LA) (param_laws 1 B LB)
 
       walk : ent 𝓤 ((walk_of 𝓛 ended stayed spec).pre bound) (WpFn 𝓤 H C Λ here (vptr r.ref_ptr.0 r.ref_ptr.1 ∷ []) Post)
       walk =
-          let b = r.ref_ptr.0 in let o = r.ref_ptr.1 in let v = r.now in let γ = r.ghost_name in let lowers = L-laws.lowers (named_lft 3 0 tt (κ, (κA, (κB, tt)))) K V (param_laws 0 A LA) (param_laws 1 B LB) in
+          let b = r.ref_ptr.0 in let o = r.ref_ptr.1 in let v = r.now in let γ = r.ghost_name in
           qed 𝓛 (((‵ (flft κ q) ⊛ ‵ (flft κA qA) ⊛ ‵ (flft κB qB) ⊛ ‵ ftrue) ⊛ ‵ (owns (types_at ended.signature.params bound.0.0) bound.0.3 bound.0.4))
           ∷ (raw (fact 𝓤 (κA ⊑ A.lives)) ⊛ raw (fact 𝓤 (κB ⊑ B.lives)) ⊛ ‵ ftrue) ∷ []) ∵
           move ! (1 ∷ []) $ split3 ! $ heard ! (κA ⊑ A.lives) (λ la. heard ! (κB ⊑ B.lives) (λ lb. drop ! $
@@ -168,18 +173,17 @@ module _ (A B : RattleType) (E : Eq.Ghosts A.Denot) (dE : Dict) (P : PartialEq.G
           -- [half of κ's token; what the map follows; the tokens with the loan]
           move ! (2 ∷ []) $ split ! $ split3 ! $ move ! (4 ∷ 0 ∷ []) $ use2 𝓛 (‵ (flft κ q)) (𝓛.lfts.lft_join κ q) $ move ! (2 ∷ []) $ split ! $
           -- [the token of κB; nothing; that of κ; that of κA; the loan; what the map follows]
-          move ! (4 ∷ []) $ peeks ! It _ (shows 𝓛 It) x (u ∷ []) (λ shown. fsplit ! $ move ! (1 ∷ []) $ in_a_block ! x.start (λ p. frozen_pairs κ K V p x.from x.name x.rest) (id⊢ 𝓤 _) (λ bx ox e.
-          let made : Val = vstruct (vcons (vptr bx ox) (vcons (vstruct vnil) vnil)) in
-          let word : u ≡ made = ap only (lowers.val_is x (u ∷ []) shown ∙ ap (λ (p : Ptr). lowers.lowered (record x { start = p }) ∷ []) e) in
-          rewrite ! 0 (λ (p : Ptr). ‵ (frozen_pairs κ K V p x.from x.name x.rest)) (sym e) refl $ move ! (1 ∷ 0 ∷ []) $ fjoin ! $
-          rewrite ! 0 (λ (w : Val). ‵ (It.own_val x (w ∷ []))) word refl $ lands_as ! word refl (tt, (tt, (tt, tt))) $
+          move ! (4 ∷ []) $ peeks ! It (Is It) (shows 𝓛 It) x (u ∷ []) (λ is. let lone = lone_value 𝓛 It it_laws x (u ∷ []) is in
+          rewrite ! 0 (λ (us : List Val). ‵ (It.own_val x us)) lone.1 refl $
+          lands_as ! (ap only lone.1) refl lone.2 $
           let new : PairLoan A.Denot B.Denot = record x { tie = tie } in
+          use1 𝓛 (‵ (It.own_val new (lone.0 ∷ []))) (renamed lft K V 𝓛 x tie (lone.0 ∷ [])) $
           -- [the loan; the token of κB; nothing; that of κ; that of κA; what the map follows]
           returns ! (look_at ! 0 refl) $ free_all ! refl $ keep ! (0 ∷ 3 ∷ 4 ∷ 1 ∷ 5 ∷ []) $
-          suffices ! _ (ends_at 𝓛 ended stayed spec bound made new (tt, tt) (tt, tt)) $
+          suffices ! _ (ends_at 𝓛 ended stayed spec bound lone.0 new (tt, tt) (tt, tt)) $
           nothing ! $ nothing ! $ fjoin ! $ join ! $ nothing ! $ move ! (4 ∷ 0 ∷ []) $ join ! $ move ! (3 ∷ 0 ∷ []) $ join ! $ move ! (2 ∷ 0 ∷ []) $ join ! $ join ! $ frame ! $
           use0 𝓛 (raw (fact 𝓤 (new.rest ≡ v.slots))) (fact_i 𝓤 _ (emp 𝓤) (rest ∙ ap (λ (m : Bag). m.slots) d'.1.0)) $
-          use0 𝓛 (raw (fact 𝓤 (new.from ≡ 0))) (fact_i 𝓤 _ (emp 𝓤) untouched) $ move ! (2 ∷ 0 ∷ 1 ∷ []) $ done !)))))))))))))
+          use0 𝓛 (raw (fact 𝓤 (new.from ≡ 0))) (fact_i 𝓤 _ (emp 𝓤) untouched) $ move ! (2 ∷ 0 ∷ 1 ∷ []) $ done !))))))))))))
 
 meets : (A B : RattleType) (E : Eq.Ghosts A.Denot) (dE : Dict) (P : PartialEq.Ghosts A.Denot) (dP : Dict) (G : Hash.Ghosts A.Denot) (dG : Dict) → Laws A → Laws B → {M : Type 1} {𝓤 : Ura M} (𝓛 : Logic 𝓤) (at_mem : Memory → SProp 𝓤) (run : Routine → Fun 𝓤) (𝓣 : Tables 𝓤 𝓛.H)
     → Triple 𝓤 (𝓣.C (#run (lends A B E dE P dP G dG))) (Run A B E dE P dP G dG 𝓛 at_mem run)

@@ -1,0 +1,42 @@
+-- A walk that clones one slot after another.
+use Rattle.std.proofs.Common.{◌≡◌, ℕ, zero, suc, ◌+◌, ◌<◌, ◌≤◌, List, [], ◌∷◌, length, take, Option, None, get_or, sym, ◌∙◌, ap, subst, arith, add-one}
+use Rattle.std.specs.List.{AllZip}
+use Rattle.std.proofs.Math.ListN.{set, length-set}
+use Rattle.std.proofs.lemmas.List.{get_or-set_other}
+use Rattle.starlark_table.specs.Table.{IsSlotClone}
+use Rattle.starlark_table.specs.Layout.{at, slot_tag, IsTagged}
+use Rattle.starlark_table.proofs.Tagged.{tagged-changed}
+
+module _ {X : Type 0} (R : X → X → Type 0) where
+  zip_one_more : (xs ys : List X) (i : ℕ) (d o : X) → length ys ≡ length xs → i < length xs → AllZip R (take i xs) (take i ys) → R (get_or xs i d) o
+      → AllZip R (take (suc i) xs) (take (suc i) (set ys i o))
+  zip_one_more [] ys i d o same below all r = absurd (omega arith)
+  zip_one_more (x ∷ xs) [] i d o same below all r = absurd (omega (arith, same))
+  zip_one_more (x ∷ xs) (y ∷ ys) zero d o same below all r = (r, tt)
+  zip_one_more (x ∷ xs) (y ∷ ys) (suc i) d o same below all r = (all.0, zip_one_more xs ys i d o (omega (arith, same)) (omega arith) all.1 r)
+
+module _ {T : Type 0} (is_clone : T → T → Type 0) where
+  -- the first slots are cloned, and the others are empty
+  pub record Cloned (slots copy : List (Option (ℕ × T))) (tags : List ℕ) (i : ℕ) : Type 0 where
+    pub sized : length copy ≡ length slots
+    pub tagged : IsTagged tags copy
+    pub cloned : AllZip (IsSlotClone is_clone) (take i slots) (take i copy)
+    pub empty : (k : ℕ) → i ≤ k → at copy k ≡ None
+
+  pub cloned-next : (slots copy new : List (Option (ℕ × T))) (tags tags' : List ℕ) (i t : ℕ) (o : Option (ℕ × T)) → i < length slots
+      → Cloned slots copy tags i → IsSlotClone is_clone (at slots i) o → new ≡ set copy i o → tags' ≡ set tags i t → t ≡ slot_tag o
+      → Cloned slots new tags' (i + 1)
+  cloned-next slots copy new tags tags' i t o below k clone is same its = record {
+    sized = ap length is ∙ length-set copy i o ∙ k.sized;
+    tagged = subst (λ l. IsTagged tags' l) (sym is) (subst (λ l. IsTagged l (set copy i o)) (sym same)
+        (tagged-changed tags copy i t o (omega (arith, below, k.sized)) k.tagged its));
+    cloned = subst (λ l. AllZip (IsSlotClone is_clone) (take (i + 1) slots) (take (i + 1) l)) (sym is)
+        (subst (λ n. AllZip (IsSlotClone is_clone) (take n slots) (take n (set copy i o))) (sym (add-one i))
+        (zip_one_more (IsSlotClone is_clone) slots copy i None o k.sized below k.cloned clone));
+    empty = λ p more. ap (λ l. at l p) is ∙ get_or-set_other copy i p o None (λ e. absurd (omega (arith, more, e))) ∙ k.empty p (omega (arith, more));
+  }
+
+  -- no slots are a clone of no slots
+  pub no_slots_cloned : (slots copy : List (Option (ℕ × T))) → length slots ≡ 0 → copy ≡ [] → AllZip (IsSlotClone is_clone) slots copy
+  no_slots_cloned [] copy e none = subst (λ l. AllZip (IsSlotClone is_clone) [] l) (sym none) tt
+  no_slots_cloned (o ∷ slots) copy e none = absurd (omega (arith, e))

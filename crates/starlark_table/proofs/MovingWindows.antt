@@ -1,0 +1,72 @@
+-- The walk that takes every member out, window by window.
+use Rattle.std.proofs.Common.{◌≡◌, ◌≢◌, ℕ, ◌+◌, ◌-◌, ◌<◌, ◌≤◌, List, Option, Some, None, arith, refl, ◌∙◌, ap, length, bit_and, inl, inr}
+use Rattle.std.proofs.Math.ListN.{set, length-set}
+use Rattle.std.proofs.lemmas.Bool.{cases_lt}
+use Rattle.std.proofs.lemmas.List.{get_or-set_other, get_or-set_same}
+use Rattle.std.specs.Int.Count.{count_trailing_zeros}
+use Rattle.starlark_table.specs.Layout.{at}
+use Rattle.starlark_table.proofs.Closing.{full_in_range}
+use Rattle.starlark_table.proofs.FullBits.{LeftInWindow, window_next, window_done}
+
+module _ {T : Type 0} where
+  -- the full places of a window in front of those that are left were emptied, and the others stay
+  pub record EmptyingWindow (initial cur : List (Option (ℕ × T))) (start end bits : ℕ) : Type 0 where
+    pub next : ℕ
+    pub left : LeftInWindow initial start end next bits
+    pub sized : length cur ≡ length initial
+    pub emptied : (p : ℕ) → start ≤ p → p < next → at cur p ≡ None
+    pub before : (p : ℕ) → p < start → at cur p ≡ at initial p
+    pub after : (p : ℕ) → next ≤ p → at cur p ≡ at initial p
+
+  pub emptying-begins : (slots : List (Option (ℕ × T))) (start end bits : ℕ) → LeftInWindow slots start end start bits
+      → EmptyingWindow slots slots start end bits
+  emptying-begins slots start end bits left = record {
+    next = start;
+    left = left;
+    sized = refl;
+    emptied = λ p low high. absurd (omega arith);
+    before = λ p high. refl;
+    after = λ p low. refl;
+  }
+
+  module _ (initial cur : List (Option (ℕ × T))) (start end bits k : ℕ) (w : EmptyingWindow initial cur start end bits)
+      (some : bits ≢ 0) (lowest : k ≡ count_trailing_zeros 64 bits) where
+    -- the place of the lowest bit is full
+    pub emptying-finds : (m : ℕ × T) × (at cur (start + k) ≡ Some m)
+    emptying-finds =
+        let r = window_next initial start end w.next bits k w.left some lowest in
+        (r.member, w.after (start + k) r.ahead ∙ r.here)
+
+    pub emptying-goes_on : EmptyingWindow initial (set cur (start + k) None) start end (bit_and bits (bits - 1))
+    emptying-goes_on =
+        let r = window_next initial start end w.next bits k w.left some lowest in
+        let ahead = r.ahead in
+        let from = w.left.from in
+        let place : ℕ = start + k in
+        let place_in = full_in_range cur place r.member (w.after place ahead ∙ r.here) in
+        let other : (p : ℕ) → p ≢ place → at (set cur place None) p ≡ at cur p = λ p apart. get_or-set_other cur place p None None apart in
+        record {
+          next = place + 1;
+          left = r.on;
+          sized = length-set cur place None ∙ w.sized;
+          emptied = λ p low high. elim (cases_lt p place) [
+            | inr last ↦
+                let same : p ≡ place = omega arith in
+                ap (at (set cur place None)) same ∙ get_or-set_same cur place None None place_in
+            | inl earlier ↦ other p (λ e. absurd (omega arith)) ∙ elim (cases_lt p w.next) [
+              | inl taken ↦ w.emptied p low taken
+              | inr passed ↦ w.after p passed ∙ r.passed p passed earlier
+            ]
+          ];
+          before = λ p high. other p (λ e. absurd (omega arith)) ∙ w.before p high;
+          after = λ p low. other p (λ e. absurd (omega arith)) ∙ w.after p (omega arith);
+        }
+
+  -- where no bit is left, the window is empty
+  pub emptying-ends : (initial cur : List (Option (ℕ × T))) (start end bits : ℕ) → EmptyingWindow initial cur start end bits → bits ≡ 0
+      → (p : ℕ) → start ≤ p → p < end → at cur p ≡ None
+  emptying-ends initial cur start end bits w none p low high =
+      elim (cases_lt p w.next) [
+        | inl taken ↦ w.emptied p low taken
+        | inr passed ↦ w.after p passed ∙ window_done initial start end w.next bits w.left none p passed high
+      ]

@@ -1,0 +1,45 @@
+use Rattle.std.proofs.Common.{◌∷◌, length, None, arith, rules, sym, ◌∙◌, ap, subst, refl}
+use Rattle.std.proofs.Math.ListN.{set}
+use Rattle.starlark_table.specs.Table.{filled}
+use Rattle.starlark_table.specs.Layout.{at, IsTagged}
+use Rattle.starlark_table.proofs.Closing.{full_in_range}
+use Rattle.starlark_table.proofs.Filling.{filled-past_front, filled-first_taken, empty-joined, empty-after_taken}
+use Rattle.starlark_table.proofs.Tagged.{tagged-changed}
+use Rattle.starlark_table.proofs.iter.IntoIterIterator.next.Goals as goal
+
+pub full_slot-slot-requires-clause-some : goal.full_slot-slot-requires-clause-some
+full_slot-slot-requires-clause-some g c =
+    let front = ap length (filled-past_front c.self.inside.slots c.self.inside.slot c.self.invariant.2) in
+    let left = c.self.invariant.1 in
+    let some = c.if-self-eq0.false in
+    omega (arith, front, left, some)
+
+pub invariant_of-self : goal.invariant_of-self
+invariant_of-self g c =
+    let slots = c.self.inside.slots in
+    let i = c.full_slot-slot.result in
+    let here = c.take.ensures.value in
+    let is = c.take.ensures.places in
+    let i_in = full_in_range slots i c.take.result here in
+    let front = empty-joined slots c.self.inside.slot i c.self.invariant.2 c.full_slot-slot.ensures.passed in
+    let taken = ap length (filled-first_taken slots i c.take.result front here) in
+    let left = c.self.invariant.1 in
+    let after = ap (λ l. length (filled l)) is in (
+      subst (λ l. IsTagged (set c.self.inside.tags.items i 255) l) (sym is)
+          (tagged-changed c.self.inside.tags.items slots i 255 None i_in c.self.invariant.0 refl),
+      omega (arith, taken, left, after),
+      λ p below. ap (λ l. at l p) is ∙ empty-after_taken slots i i_in front p below,
+    )
+
+pub returns-clause-steps : goal.returns-clause-steps
+returns-clause-steps g c =
+    let slots = c.self.inside.slots in
+    let i = c.full_slot-slot.result in
+    let front = empty-joined slots c.self.inside.slot i c.self.invariant.2 c.full_slot-slot.ensures.passed in
+    sym c.self.view_is ∙ filled-first_taken slots i c.take.result front c.take.ensures.value
+    ∙ ap (λ l. c.take.result ∷ filled l) (sym c.take.ensures.places)
+
+pub returns-clause-goes : goal.returns-clause-goes
+returns-clause-goes g c =
+    let steps = returns-clause-steps g c in
+    search rules

@@ -1,0 +1,19 @@
+use Rattle.std.proofs.Common.{◌≡◌, Some, true, IfSome, sym, subst, ap}
+use Rattle.std.specs.Fn.{CalledAt}
+use Rattle.starlark_hash.specs.Search.{CanSearch}
+use Rattle.starlark_table.specs.Table.{holders_in, member_at}
+use Rattle.starlark_table.proofs.Load.{sound-empty_slot}
+use Rattle.starlark_table.proofs.ready_table.ReadyTable.find_near.Goals as goal
+
+pub find_slot_near-requires-clause-free : goal.find_slot_near-requires-clause-free
+find_slot_near-requires-clause-free g c =
+    sound-empty_slot c.self.inside.slots c.self.inside.tags.items c.self.inside.len c.self.inside.mask c.self.invariant
+
+pub find_slot_near-requires-clause-callable : goal.find_slot_near-requires-clause-callable
+find_slot_near-requires-clause-callable g c =
+    subst (λ l. CanSearch g.F.FnMut (holders_in c.args.hash l) c.args.eq) (sym (ap (λ t. t.slots) c.self.view_is)) c.requires
+
+pub returns : goal.returns
+returns g c =
+    subst (λ t. IfSome c.find_slot_near.result (λ slot. (x : g.row.T.Denot) × (f : g.row.F.Denot) × (f' : g.row.F.Denot)
+    × (member_at t slot ≡ Some (c.args.hash, x)) × CalledAt g.F.FnMut f x true f')) c.self.view_is c.find_slot_near.ensures

@@ -1,0 +1,33 @@
+-- What a column of slots and a vector of tags end as, where the items of the one are lent and the other is shown.
+use Rattle.std.specs.Prelude.{◌≡◌, ℕ, ⊤, [], ◌∷◌}
+use Rattle.std.specs.Borrow.{Fml, RattleType, MutBor, GName, follows, follows_so, u8, u64}
+use Rattle.std.specs.Global.{Vec}
+use Rattle.std_alloc.specs.contracts.vec.Vec.{the_row as vec_row}
+use Rattle.std_heap.specs.contracts.Global.{the_row as global_row}
+use Rattle.std_heap.specs.contracts.GlobalAllocator.TheImpl.{ghosts}
+use mathlib.Core.Option.{none}
+use denote.Struct.Tuple.{Tuple}
+use Rattle.starlark_columns.specs.Lent.{kept_places}
+use Rattle.starlark_table.specs.Table.{Table}
+use Rattle.starlark_table.specs.contracts.ready_table.ReadyTable.{the_row}
+
+-- `(u64, T)`
+abbrev pub Member : RattleType → RattleType
+Member T = Tuple (u64 ∷ T ∷ [])
+
+-- `Vec<u8>`
+abbrev pub Tags : RattleType
+Tags = vec_row u8 global_row ghosts
+
+-- the tags end as they were
+abbrev pub tags_stay : MutBor (Vec ℕ) → Fml
+tags_stay s = follows_so Tags Tags s.ghost_name none (λ _ _. ⊤) (λ n. n ≡ s.now)
+
+-- a table with what another has in its full slots, but for what stays
+abbrev pub with_kept : {T : Type 0} → (ℕ × T → ℕ × T → ℕ × T) → Table T → Table T → Table T
+with_kept kept t written = record t { slots = kept_places kept t.slots written.slots }
+
+module _ (T : RattleType) (kept : ℕ × T.Denot → ℕ × T.Denot → ℕ × T.Denot) where
+  -- once a loan of the members ends, the table has in each full slot what was left there, but for what stays
+  abbrev pub table_keeps : MutBor (Table T.Denot) → GName → Fml
+  table_keeps s γ = follows (the_row T) (the_row T) s.ghost_name γ (with_kept kept s.now)
