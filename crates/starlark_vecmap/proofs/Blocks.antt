@@ -61,7 +61,7 @@ module _ {X : Type 0} (p : X → Bool) where
       set : 0 < mask_l (map p block)
       set = omega (arith, is)
 
-      lowest : count_trailing_zeros 64 mask ≡ first block
+      pub lowest : count_trailing_zeros 64 mask ≡ first block
       lowest = ap (count_trailing_zeros 64) is ∙ trailing_mask_l p 64 block few set
 
       pub lowest_is : count_trailing_zeros 64 mask ≡ first (block ++ tail)
