@@ -4,7 +4,9 @@ use crate::fault::Fault;
 use crate::keys::{Key, stream};
 use crate::pass::Pass;
 use crate::unordered;
-use crate::workloads::{Begin, MILLION, build, cycle, drain, hit, miss, pop, sort, turns, walk};
+use crate::workloads::{
+    Begin, MILLION, Removed, build, cycle, drain, hit, miss, pop, sort, turns, walk,
+};
 
 // How many passes a figure is the best of.
 const PASSES: usize = 7;
@@ -16,7 +18,7 @@ pub enum Workload {
     Hit,
     Miss,
     Walk,
-    Cycle,
+    Cycle(Removed),
     Drain,
     Pop,
     Sort,
@@ -35,7 +37,10 @@ impl Workload {
             Workload::Hit => "b_hit",
             Workload::Miss => "b_miss",
             Workload::Walk => "c_walk",
-            Workload::Cycle => "d_cycle",
+            Workload::Cycle(Removed::Middle) => "d_cycle",
+            Workload::Cycle(Removed::First) => "d_first",
+            Workload::Cycle(Removed::Random) => "d_random",
+            Workload::Cycle(Removed::LastTenth) => "d_last",
             Workload::Drain => "d_drain",
             Workload::Pop => "d_pop",
             Workload::Sort => "g_sort",
@@ -51,7 +56,8 @@ impl Workload {
             Workload::Build(_) | Workload::Hit | Workload::Miss | Workload::Walk => {
                 &[4, 8, 16, 32, 64, 1000, 100_000, 1_000_000]
             }
-            Workload::Cycle | Workload::Drain => &[8, 32, 1000, 10_000],
+            Workload::Cycle(Removed::Middle) | Workload::Drain => &[8, 32, 1000, 10_000],
+            Workload::Cycle(_) => &[1000, 10_000, 100_000],
             Workload::Pop => &[8, 32, 1000, 10_000, 1_000_000],
             Workload::Sort => &[8, 32, 1000, 100_000, 1_000_000],
             Workload::UnorderedInsert | Workload::UnorderedHit | Workload::UnorderedMiss => {
@@ -70,7 +76,7 @@ impl Workload {
             Workload::Hit | Workload::Miss => MILLION,
             Workload::UnorderedHit | Workload::UnorderedMiss => MILLION,
             Workload::Walk => 4 * MILLION / n * n,
-            Workload::Cycle => turns(n),
+            Workload::Cycle(_) => turns(n),
             Workload::Drain => 100_000 / n * n,
         }
     }
@@ -82,7 +88,7 @@ impl Workload {
             Workload::Hit => hit(rt, keys, n),
             Workload::Miss => miss(rt, keys, n),
             Workload::Walk => walk(rt, keys, n),
-            Workload::Cycle => cycle(rt, keys, n),
+            Workload::Cycle(removed) => cycle(rt, removed, keys, n),
             Workload::Drain => drain(rt, keys, n),
             Workload::Pop => pop(rt, keys, n),
             Workload::Sort => sort(rt, keys, n),
@@ -94,14 +100,17 @@ impl Workload {
 }
 
 // The workloads in the order of their lines.
-const ALL: [Workload; 13] = [
+const ALL: [Workload; 16] = [
     Workload::Build(Begin::New),
     Workload::Build(Begin::Capacity),
     Workload::Build(Begin::Reserve),
     Workload::Hit,
     Workload::Miss,
     Workload::Walk,
-    Workload::Cycle,
+    Workload::Cycle(Removed::Middle),
+    Workload::Cycle(Removed::First),
+    Workload::Cycle(Removed::Random),
+    Workload::Cycle(Removed::LastTenth),
     Workload::Drain,
     Workload::Pop,
     Workload::Sort,
@@ -111,7 +120,7 @@ const ALL: [Workload; 13] = [
 ];
 
 // The few that the gate compares.
-const FEW: [(Workload, usize); 15] = [
+const FEW: [(Workload, usize); 18] = [
     (Workload::Build(Begin::New), 4),
     (Workload::Build(Begin::New), 64),
     (Workload::Build(Begin::New), 1000),
@@ -120,7 +129,10 @@ const FEW: [(Workload, usize); 15] = [
     (Workload::Hit, 1000),
     (Workload::Miss, 1000),
     (Workload::Walk, 1000),
-    (Workload::Cycle, 32),
+    (Workload::Cycle(Removed::Middle), 32),
+    (Workload::Cycle(Removed::First), 1000),
+    (Workload::Cycle(Removed::Random), 1000),
+    (Workload::Cycle(Removed::LastTenth), 1000),
     (Workload::Drain, 32),
     (Workload::Pop, 32),
     (Workload::Sort, 8),

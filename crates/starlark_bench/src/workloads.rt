@@ -160,25 +160,58 @@ pub fn walk<K: Key>(rt: &HostRuntime, keys: &[K], n: usize) -> Result<Pass, Faul
     Pass::since(rt, start, checksum)
 }
 
-// How often `cycle` turns at this length.
+/// Which entry `cycle` removes.
+#[derive(Clone, Copy, Debug, PartialEq, Eq)]
+pub enum Removed {
+    First,
+    Middle,
+    /// Of the last tenth, the first.
+    LastTenth,
+    Random,
+}
+
+impl Removed {
+    // The places of the entries of so many turns.
+    fn places(self, alloc: Global, n: usize, count: usize) -> Result<Vec<usize>, Fault> {
+        let place = match self {
+            Removed::First => 0,
+            Removed::Middle => n / 2,
+            Removed::LastTenth => n / 10 * 9,
+            Removed::Random => return Ok(places(alloc, n, count)?),
+        };
+        let mut same = Vec::with_capacity(alloc, count)?;
+        same.resize(count, place)?;
+        Ok(same)
+    }
+}
+
+/// How often `cycle` turns at this length.
 pub fn turns(n: usize) -> usize {
     if n < 1000 {
         200_000
     } else if n < 10_000 {
         20_000
-    } else {
+    } else if n < 100_000 {
         2_000
+    } else {
+        200
     }
 }
 
-/// Removes the middle entry of a map of `n` keys and inserts it again under the next value, again and again.
-pub fn cycle<K: Key>(rt: &HostRuntime, keys: &[K], n: usize) -> Result<Pass, Fault> {
+/// Removes an entry of a map of `n` keys and inserts it again under the next value, again and again.
+pub fn cycle<K: Key>(
+    rt: &HostRuntime,
+    removed: Removed,
+    keys: &[K],
+    n: usize,
+) -> Result<Pass, Fault> {
     let mut map = SmallMap::new(rt.alloc());
     fill(&mut map, keys.get(..n).unwrap_or(keys), 0)?;
+    let places = removed.places(rt.alloc(), n, turns(n))?;
     let start = Instant::now(rt)?;
     let mut checksum = 0;
-    for _ in 0..turns(n) {
-        if let Some((key, _)) = map.get_index(n / 2) {
+    for place in &places {
+        if let Some((key, _)) = map.get_index(*place) {
             let key = *key;
             if let Some(value) = map.shift_remove(&key) {
                 map.insert(key, K::of(value.number().wrapping_add(1)))?;
