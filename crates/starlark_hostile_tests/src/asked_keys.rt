@@ -6,8 +6,8 @@ ghost use Rattle.std.specs.Ordering.{on};
 ghost use Rattle.std.specs.Prelude.{nat_eq};
 
 use crate::given::holds;
-use starlark_small::SmallMap;
-use starlark_unordered::UnorderedMap;
+use starlark_map::small_map::SmallMap;
+use starlark_map::unordered_map::UnorderedMap;
 use std::alloc::Global;
 use std::cell::Cell;
 use std::hash::{Hash, Hasher};
@@ -104,7 +104,7 @@ fn puts_each<'a>(map: &mut SmallMap<Noted<'a>, u32>, notes: &'a Notes, count: u3
 
 // Takes each key out.
 fn removes_each<'a>(map: &mut SmallMap<Noted<'a>, u32>, notes: &'a Notes, count: u32) -> bool {
-    for number in 0..count {
+    for number in (0..count).rev() {
         notes.seen.set(0);
         if map.shift_remove(&Noted { number, notes }) != Some(number) {
             return false;

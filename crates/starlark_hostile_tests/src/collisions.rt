@@ -1,8 +1,8 @@
 //! Many keys under one hash, one key under many hashes, and closures that count how often they are asked.
 
 use crate::given::{Numbers, holds, same, tens_under, under};
-use starlark_hash::StarlarkHashValue;
-use starlark_small::SmallMap;
+use starlark_map::StarlarkHashValue;
+use starlark_map::small_map::SmallMap;
 use std::alloc::Global;
 use std::test::Fail;
 

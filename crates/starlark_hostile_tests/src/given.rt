@@ -1,8 +1,8 @@
 //! What several tests begin with. These say nothing of what they do: a test that makes its calls through them carries no
 //! knowledge from line to line, and is proved in a part of the time.
 
-use starlark_hash::{Hashed, StarlarkHashValue};
-use starlark_small::SmallMap;
+use starlark_map::small_map::SmallMap;
+use starlark_map::{Hashed, StarlarkHashValue};
 use std::alloc::Global;
 use std::fmt::Debug;
 use std::process::Abort;

@@ -113,3 +113,31 @@ fn leaves_walks_of_tables(rt: HostRuntime) -> Result<(), Fail> {
     holds(&rt, has_below(&table, 6));
     Ok(())
 }
+
+// Leaves the walks that read after an item of each end.
+fn leaves_reading(map: &VecMap<u32, u32>) -> bool {
+    let (mut pairs, mut keys, mut values) = (map.iter(), map.keys(), map.values());
+    let shown = pairs.next() == Some((&0, &0)) && pairs.next_back() == Some((&4, &40));
+    let ends = keys.next() == Some(&0) && keys.next_back() == Some(&4);
+    shown && ends && values.next() == Some(&0) && values.next_back() == Some(&40)
+}
+
+fn gives_entries(map: VecMap<u32, u32>) -> bool {
+    let mut entries = map.into_iter_hashed();
+    entries.next() == Some((under(9, 0), 0)) && entries.next_back() == Some((under(9, 4), 40))
+}
+
+fn gives_values(map: VecMap<u32, u32>) -> bool {
+    let mut values = map.into_values();
+    values.next() == Some(0) && values.next_back() == Some(40)
+}
+
+#[test]
+fn leaves_vector_maps_at_both_ends(rt: HostRuntime) -> Result<(), Fail> {
+    let map = five_entries(rt.alloc())?;
+    holds(&rt, leaves_reading(&map));
+    same(&rt, map.len(), 5);
+    holds(&rt, gives_entries(map));
+    holds(&rt, gives_values(five_entries(rt.alloc())?));
+    Ok(())
+}

@@ -1,9 +1,11 @@
 //! Walks of pair lists, sets, ordered and unordered types that are left half way.
 
 use crate::given::{holds, same, under};
-use starlark_sets::{OrderedMap, OrderedSet, SmallSet};
-use starlark_unordered::UnorderedMap;
-use starlark_vec2::Vec2;
+use starlark_map::ordered_map::OrderedMap;
+use starlark_map::ordered_set::OrderedSet;
+use starlark_map::small_set::SmallSet;
+use starlark_map::unordered_map::UnorderedMap;
+use starlark_map::vec2::{ValuesMut, Vec2};
 use std::alloc::Global;
 use std::test::Fail;
 
@@ -177,5 +179,120 @@ fn leaves_walks_of_unordered_maps(rt: HostRuntime) -> Result<(), Fail> {
     }
     holds(&rt, map == five_found(alloc)?);
     same(&rt, map.remove(&3u32), Some(30));
+    Ok(())
+}
+
+fn three_and_four(alloc: Global) -> Result<OrderedSet<u32>, Fail> {
+    Ok(OrderedSet::from_iter(alloc, [3u32, 4])?)
+}
+
+fn joined(set: &OrderedSet<u32>, none: &OrderedSet<u32>, count: usize) -> usize {
+    set.union(none).take(count).count()
+}
+
+fn gives_ordered(set: OrderedSet<u32>) -> bool {
+    let mut walk = set.into_iter();
+    walk.next() == Some(3) && walk.next_back() == Some(4)
+}
+
+#[test]
+fn leaves_ordered_sets_by_value(rt: HostRuntime) -> Result<(), Fail> {
+    let alloc = rt.alloc();
+    let set = three_and_four(alloc)?;
+    let none: OrderedSet<u32> = OrderedSet::new(alloc);
+    for count in [0, 1, 2] {
+        same(&rt, joined(&set, &none, count), count);
+        same(
+            &rt,
+            three_and_four(alloc)?.into_iter().take(count).count(),
+            count,
+        );
+    }
+    same(&rt, set.len(), 2);
+    holds(&rt, gives_ordered(set));
+    Ok(())
+}
+
+fn read_walks(set: &SmallSet<u32>, count: usize) -> (usize, usize) {
+    (
+        set.iter().take(count).count(),
+        set.iter_hashed().take(count).count(),
+    )
+}
+
+fn gives_elements(set: SmallSet<u32>) -> bool {
+    let mut walk = set.into_iter();
+    walk.next() == Some(0) && walk.next_back() == Some(4)
+}
+
+fn gives_hashed(set: SmallSet<u32>) -> bool {
+    let mut walk = set.into_iter_hashed();
+    walk.next() == Some(under(9, 0)) && walk.next_back() == Some(under(9, 4))
+}
+
+#[test]
+fn leaves_reading_walks_of_sets(rt: HostRuntime) -> Result<(), Fail> {
+    let set = five_elements(rt.alloc())?;
+    for count in COUNTS {
+        same(&rt, read_walks(&set, count), (count, count));
+    }
+    holds(&rt, set.len() == 5 && set.contains_hashed(under(9, &4)));
+    holds(&rt, gives_elements(set));
+    holds(&rt, gives_hashed(five_elements(rt.alloc())?));
+    Ok(())
+}
+
+// Leaves the other walks after an item of each end.
+fn leaves_other_rows(map: &mut OrderedMap<u32, u32>) -> bool {
+    let (mut rows, mut entries, mut values) = (map.iter(), map.iter_hashed(), map.values());
+    let shown = rows.next() == Some((&0, &0)) && rows.next_back() == Some((&4, &40));
+    let under = entries.next().is_some() && entries.next_back().is_some();
+    let ends = values.next() == Some(&0) && values.next_back() == Some(&40);
+    let mut written = map.values_mut();
+    shown && under && ends && written.next().is_some() && written.next_back().is_some()
+}
+
+fn gives_rows(map: OrderedMap<u32, u32>) -> bool {
+    let mut rows = map.into_iter();
+    rows.next() == Some((0, 0)) && rows.next_back() == Some((4, 40))
+}
+
+#[test]
+fn leaves_ordered_maps_at_both_ends(rt: HostRuntime) -> Result<(), Fail> {
+    let mut map = five_rows(rt.alloc())?;
+    holds(&rt, leaves_other_rows(&mut map));
+    holds(&rt, map == five_rows(rt.alloc())?);
+    holds(&rt, gives_rows(map));
+    Ok(())
+}
+
+type Keyed = Vec2<(u32, u32), u32>;
+
+fn three_keyed(alloc: Global) -> Result<Keyed, Fail> {
+    let mut list = Vec2::new(alloc);
+    for key in 0..3u32 {
+        list.push((key, key.wrapping_mul(10)), key)?;
+    }
+    Ok(list)
+}
+
+fn leave_firsts(list: &mut Keyed, count: usize) {
+    let _ = list.iter_firsts_mut().take(count).count();
+}
+
+fn leave_values(list: &mut Keyed, count: usize) {
+    let values = ValuesMut::of(list.iter_firsts_mut());
+    let _ = values.take(count).count();
+}
+
+#[test]
+fn leaves_writing_walks_of_pairs(rt: HostRuntime) -> Result<(), Fail> {
+    let mut list = three_keyed(rt.alloc())?;
+    for count in [0, 1, 2, 3] {
+        leave_firsts(&mut list, count);
+        leave_values(&mut list, count);
+    }
+    same(&rt, list.firsts(), [(0, 0), (1, 10), (2, 20)].as_slice());
+    same(&rt, list.pop(), Some(((2, 20), 2)));
     Ok(())
 }

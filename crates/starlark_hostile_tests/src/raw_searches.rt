@@ -4,8 +4,8 @@ ghost use Rattle.std.specs.Cmp.Rules.{hashing};
 ghost use Rattle.std.specs.Hash as fed;
 
 use crate::given::holds;
-use starlark_hash::StarlarkHashValue;
-use starlark_unordered::{RawEntryMut, UnorderedMap};
+use starlark_map::StarlarkHashValue;
+use starlark_map::unordered_map::{RawEntryMut, UnorderedMap};
 use std::alloc::Global;
 use std::hash::{Hash, Hasher};
 use std::test::Fail;

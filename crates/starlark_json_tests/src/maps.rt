@@ -96,3 +96,10 @@ fn an_ascending_map_comes_back(rt: HostRuntime) -> Result<(), Fail> {
     );
     Ok(())
 }
+
+#[test]
+fn takes_the_greatest_integer(rt: HostRuntime) -> Result<(), Fail> {
+    let map = read(rt.alloc(), "{\"a\":9223372036854775807}")?;
+    holds(&rt, shows(&map, &[("a", i64::MAX)]));
+    Ok(())
+}

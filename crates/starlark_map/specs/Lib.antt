@@ -22,6 +22,8 @@ pub use Rattle.starlark_vecmap.specs.Lending as EntryListLending
 pub use Rattle.starlark_table.specs.Table
 pub use Rattle.starlark_small.specs.Map
 pub use Rattle.starlark_small.specs.Insertion
+pub use Rattle.starlark_small.specs.Growth
+pub use Rattle.starlark_small.specs.Calling
 pub use Rattle.starlark_small.specs.Iter
 pub use Rattle.starlark_small.specs.Lending as MapLending
 pub use Rattle.starlark_small.specs.Index

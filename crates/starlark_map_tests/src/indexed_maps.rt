@@ -177,3 +177,25 @@ fn asks_about_the_keys_of_a_hash_by_the_index(rt: HostRuntime) -> Result<(), Fai
     holds(&rt, finds_by_hash(&long, 40));
     Ok(())
 }
+
+#[test]
+fn turns_an_empty_map_that_keeps_its_index(rt: HostRuntime) -> Result<(), Fail> {
+    let mut map = tens(rt.alloc(), 40)?;
+    map.clear();
+    turn(&mut map);
+    same(&rt, size(&map), (0, true));
+    holds(&rt, map.iter().next().is_none());
+    Ok(())
+}
+
+#[test]
+fn keeps_its_capacity(rt: HostRuntime) -> Result<(), Fail> {
+    let mut map: Numbers = SmallMap::with_capacity(rt.alloc(), 40)?;
+    let capacity = map.capacity();
+    for key in 0..3u32 {
+        same(&rt, put(&mut map, key, key), Some(None));
+    }
+    map.clear();
+    same(&rt, (map.len(), map.capacity()), (0, capacity));
+    Ok(())
+}

@@ -40,6 +40,22 @@ fn has_all(map: &Numbers) -> bool {
     map.len() == 100
 }
 
+// Whether the keys are 1 to 100 in this order, or turned, and no more.
+fn walks_all(map: &Numbers, turned: bool) -> bool {
+    let mut keys = map.keys();
+    for key in 1..101u32 {
+        let wanted = if turned {
+            101u32.wrapping_sub(key)
+        } else {
+            key
+        };
+        if keys.next() != Some(&wanted) {
+            return false;
+        }
+    }
+    keys.next().is_none()
+}
+
 #[test]
 fn sorts_and_turns_a_hundred(rt: HostRuntime) -> Result<(), Fail> {
     let mut map: Numbers = SmallMap::new(rt.alloc());
@@ -48,10 +64,10 @@ fn sorts_and_turns_a_hundred(rt: HostRuntime) -> Result<(), Fail> {
     }
     holds(&rt, sort(&mut map));
     holds(&rt, map.first() == Some((&1, &10)));
-    holds(&rt, has_all(&map));
+    holds(&rt, has_all(&map) && walks_all(&map, false));
     turn(&mut map);
     holds(&rt, map.first() == Some((&100, &1000)));
-    holds(&rt, has_all(&map));
+    holds(&rt, has_all(&map) && walks_all(&map, true));
     Ok(())
 }
 

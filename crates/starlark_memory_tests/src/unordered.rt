@@ -224,3 +224,50 @@ fn retains_without_memory(rt: HostRuntime) -> Result<(), Fail> {
     holds(&rt, is_tens(&map, 1));
     Ok(())
 }
+
+// A removal gives its room back at once: after the first line nothing asks for memory.
+#[test]
+fn needs_no_memory_in_turn(rt: HostRuntime) -> Result<(), Fail> {
+    let mut map = with_room(rt.alloc())?;
+    for key in 0..40u32 {
+        holds(&rt, map.insert(key, key).is_ok());
+    }
+    for key in 0..1000u32 {
+        same(&rt, map.remove(&key), Some(key));
+        let new = key.wrapping_add(40);
+        holds(&rt, map.insert(new, new).is_ok());
+    }
+    same(&rt, map.len(), 40);
+    Ok(())
+}
+
+// 2 at 1 and 4 at 3.
+fn one_and_three(alloc: Global) -> Result<Numbers, Fail> {
+    let mut map: Numbers = UnorderedMap::new(alloc);
+    for (key, value) in [(1, 2), (3, 4)] {
+        if map.insert(key, value).is_err() {
+            map.insert(key, value)?;
+        }
+    }
+    Ok(map)
+}
+
+fn maps_or_is(map: Numbers, before: &Numbers) -> bool {
+    let mut calls = 0u32;
+    let mapped = map.map_values(|value: u32| {
+        calls = calls.wrapping_add(1);
+        value.wrapping_mul(10)
+    });
+    match mapped {
+        Ok(mapped) => calls == 2 && mapped.get(&1) == Some(&20) && mapped.get(&3) == Some(&40),
+        Err(back) => calls == 0 && back == *before,
+    }
+}
+
+#[test]
+fn maps_two_values_or_is_as_before(rt: HostRuntime) -> Result<(), Fail> {
+    let map = one_and_three(rt.alloc())?;
+    let before = one_and_three(rt.alloc())?;
+    holds(&rt, maps_or_is(map, &before));
+    Ok(())
+}

@@ -1,6 +1,6 @@
 //! What a reply of a run is, as plain values: none where it is of another kind, or there is none at this place.
 
-use starlark_runs::Reply;
+use starlark_map::Reply;
 
 pub(crate) type Replies = Vec<Reply<u32, u32, u32>>;
 

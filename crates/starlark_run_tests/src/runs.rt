@@ -3,7 +3,8 @@
 use crate::given::{Numbers, holds, pop_last, same, shows, size, tens, under};
 use crate::replies::{Replies, found, is_done, old, shown, taken};
 use starlark_hash::Hashed;
-use starlark_runs::{Command, Reply, replies_agree, run};
+use starlark_map::{Command, Reply, run};
+use starlark_runs::replies_agree;
 use starlark_small::SmallMap;
 use std::alloc::{AllocError, Global};
 use std::test::Fail;

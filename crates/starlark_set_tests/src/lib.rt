@@ -6,6 +6,8 @@ mod given;
 #[cfg(test)]
 mod joined;
 #[cfg(test)]
+mod memory;
+#[cfg(test)]
 mod ordered;
 #[cfg(test)]
 mod sets;

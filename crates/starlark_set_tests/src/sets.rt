@@ -142,3 +142,12 @@ fn refusals_hand_the_element_back(rt: HostRuntime) -> Result<(), Fail> {
     same(&rt, set.len(), 5);
     Ok(())
 }
+
+#[test]
+fn follows_the_first(rt: HostRuntime) -> Result<(), Fail> {
+    let mut set = set(rt.alloc(), &[1, 2])?;
+    same(&rt, ends(&set), (Some(1), Some(2)));
+    holds(&rt, removed(&mut set, 1));
+    same(&rt, ends(&set), (Some(2), Some(2)));
+    Ok(())
+}

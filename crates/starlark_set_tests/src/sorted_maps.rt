@@ -192,6 +192,15 @@ fn push(map: &mut Lists, key: u32, item: u32) -> bool {
     }
 }
 
+// Whether the keys are 1, 2 and 3 in this order, and no more.
+fn walks_three(map: &Lists) -> bool {
+    let mut keys = map.keys();
+    keys.next() == Some(&1)
+        && keys.next() == Some(&2)
+        && keys.next() == Some(&3)
+        && keys.next().is_none()
+}
+
 fn has_list(map: &Lists, key: u32, items: &[u32]) -> bool {
     match map.get(&key) {
         Some(list) => list.as_slice() == items,
@@ -202,12 +211,14 @@ fn has_list(map: &Lists, key: u32, items: &[u32]) -> bool {
 #[test]
 fn pushes_to_lists_under_keys(rt: HostRuntime) -> Result<(), Fail> {
     let mut map = lists(rt.alloc())?;
+    holds(&rt, walks_three(&map));
     holds(&rt, push(&mut map, 1, 11));
     holds(&rt, push(&mut map, 2, 22));
     holds(&rt, push(&mut map, 3, 33));
     holds(&rt, has_list(&map, 1, &[1, 2, 3, 11]));
     holds(&rt, has_list(&map, 2, &[4, 22]));
     holds(&rt, has_list(&map, 3, &[5, 33]));
+    holds(&rt, walks_three(&map));
     Ok(())
 }
 
@@ -303,5 +314,61 @@ fn is_made_of_an_ordered_map(rt: HostRuntime) -> Result<(), Fail> {
     holds(&rt, shows(&map, &[(1, 2), (2, 1), (3, 3)]));
     let empty: Numbered = SortedMap::new(rt.alloc());
     holds(&rt, empty < map);
+    Ok(())
+}
+
+// Leaves each walk after so many items.
+fn leave_walks(map: &mut Numbered, count: usize) {
+    let _ = map.iter().take(count).count();
+    let _ = map.iter_hashed().take(count).count();
+    let _ = map.keys().take(count).count();
+    let _ = map.values().take(count).count();
+    let _ = map.iter_mut().take(count).count();
+    let _ = map.values_mut().take(count).count();
+}
+
+#[test]
+fn leaves_walks(rt: HostRuntime) -> Result<(), Fail> {
+    let mut map = numbered(rt.alloc(), [(5, 6), (1, 2), (3, 4)])?;
+    for count in [0, 1, 2, 3] {
+        leave_walks(&mut map, count);
+        let given = numbered(rt.alloc(), [(5, 6), (1, 2), (3, 4)])?.into_iter();
+        same(&rt, given.take(count).count(), count);
+    }
+    holds(&rt, shows(&map, &[(1, 2), (3, 4), (5, 6)]));
+    write(&mut map, 3, 9);
+    holds(&rt, shows(&map, &[(1, 2), (3, 9), (5, 6)]));
+    Ok(())
+}
+
+// Leaves the walks that read after an item of each end.
+fn leaves_reading(map: &Numbered) -> bool {
+    let (mut pairs, mut entries) = (map.iter(), map.iter_hashed());
+    let (mut keys, mut values) = (map.keys(), map.values());
+    let shown = pairs.next() == Some((&1, &2)) && pairs.next_back() == Some((&5, &6));
+    let under = entries.next().is_some() && entries.next_back().is_some();
+    let ends = keys.next() == Some(&1) && keys.next_back() == Some(&5);
+    shown && under && ends && values.next() == Some(&2) && values.next_back() == Some(&6)
+}
+
+fn leaves_writing(map: &mut Numbered) -> bool {
+    let mut pairs = map.iter_mut();
+    let written = pairs.next().is_some() && pairs.next_back().is_some();
+    let mut values = map.values_mut();
+    written && values.next().is_some() && values.next_back().is_some()
+}
+
+fn leaves_pairs(map: Numbered) -> bool {
+    let mut pairs = map.into_iter();
+    pairs.next() == Some((1, 2)) && pairs.next_back() == Some((5, 6))
+}
+
+#[test]
+fn leaves_walks_at_both_ends(rt: HostRuntime) -> Result<(), Fail> {
+    let mut map = numbered(rt.alloc(), [(5, 6), (1, 2), (3, 4)])?;
+    holds(&rt, leaves_reading(&map));
+    holds(&rt, leaves_writing(&mut map));
+    holds(&rt, shows(&map, &[(1, 2), (3, 4), (5, 6)]));
+    holds(&rt, leaves_pairs(map));
     Ok(())
 }

@@ -161,3 +161,56 @@ fn is_made_of_an_ordered_set(rt: HostRuntime) -> Result<(), Fail> {
     holds(&rt, empty < set);
     Ok(())
 }
+
+fn of_vector(alloc: Global, items: [u32; 3]) -> Result<Sorted, Fail> {
+    match SortedSet::from_sorted_vec(ascending(alloc, items)?) {
+        Ok(set) => Ok(set),
+        Err(_) => Err("no room".into()),
+    }
+}
+
+#[test]
+fn is_made_of_a_vector(rt: HostRuntime) -> Result<(), Fail> {
+    let set = of_vector(rt.alloc(), [1, 1, 2])?;
+    holds(&rt, shows(&set, &[1, 2]));
+    Ok(())
+}
+
+#[test]
+fn takes_a_set_that_ascends(rt: HostRuntime) {
+    let set: Sorted = SortedSet::new_unchecked(OrderedSet::new(rt.alloc()));
+    holds(&rt, set.is_empty());
+}
+
+// Leaves the walks of a set, and of its union with an empty one, after so many items.
+fn left_walks(set: &Sorted, none: &Sorted, count: usize) -> (usize, usize) {
+    (
+        set.iter().take(count).count(),
+        set.union(none).take(count).count(),
+    )
+}
+
+fn leaves_elements(set: &Sorted) -> bool {
+    let mut walk = set.iter();
+    walk.next() == Some(&10) && walk.next_back() == Some(&30)
+}
+
+fn gives_elements(set: Sorted) -> bool {
+    let mut walk = set.into_iter();
+    walk.next() == Some(10) && walk.next_back() == Some(30)
+}
+
+#[test]
+fn leaves_walks(rt: HostRuntime) -> Result<(), Fail> {
+    let set = of_three(rt.alloc(), [20, 10, 30])?;
+    let none: Sorted = SortedSet::new(rt.alloc());
+    for count in [0, 1, 2, 3] {
+        same(&rt, left_walks(&set, &none, count), (count, count));
+        let given = of_three(rt.alloc(), [20, 10, 30])?.into_iter();
+        same(&rt, given.take(count).count(), count);
+    }
+    holds(&rt, leaves_elements(&set));
+    holds(&rt, shows(&set, &[10, 20, 30]));
+    holds(&rt, gives_elements(set));
+    Ok(())
+}

@@ -83,3 +83,27 @@ fn copies_a_vector_that_ascends(rt: HostRuntime) -> Result<(), Fail> {
     holds(&rt, equals_its_copy(&sorted));
     Ok(())
 }
+
+fn leaves_items(vec: &SortedVec<u32>) -> bool {
+    let mut walk = vec.iter();
+    walk.next() == Some(&1) && walk.next_back() == Some(&3)
+}
+
+fn gives_items(vec: SortedVec<u32>) -> bool {
+    let mut walk = vec.into_iter();
+    walk.next() == Some(1) && walk.next_back() == Some(3)
+}
+
+#[test]
+fn leaves_walks(rt: HostRuntime) -> Result<(), Fail> {
+    let vec = sorted(rt.alloc(), [2, 1, 3])?;
+    for count in [0, 1, 2, 3] {
+        same(&rt, vec.iter().take(count).count(), count);
+        let given = sorted(rt.alloc(), [2, 1, 3])?.into_iter();
+        same(&rt, given.take(count).count(), count);
+    }
+    holds(&rt, leaves_items(&vec));
+    holds(&rt, shows(&vec, [1, 2, 3]));
+    holds(&rt, gives_items(vec));
+    Ok(())
+}
