@@ -1,12 +1,17 @@
 -- Places cross threads as their items do, and the right to a block as its allocator does.
-use Rattle.std.specs.Prelude.{ℕ, ◌+◌, List, [], ◌∷◌, Option, Some, None}
+use Rattle.std.specs.Prelude.{ℕ, ◌+◌, ◌*◌, List, [], ◌∷◌, Option, Some, None}
 use Rattle.std.specs.Mem.{type_size}
-use base.Fml.{ftrue}
+use mathlib.Core.Bool.{Bool, true, false, cond}
+use lib.Dec.{eqb}
+use mir.Syntax.{Ty}
+use prog.Memory.{size}
+use base.Fml.{Fml, ftrue, fsep}
 use base.Fraction.{full_share}
 use base.Shift.{Keyless}
 use denote.Param.Send.{IsSend, IsSync, Common, AllSend, part_keyless, owning_send, struct_send, struct_sync, sendable}
 use denote.RattleType.{RattleType}
-use denote.RawPtr.{Ptr, block_of, count_of, block_ptr, null_ptr, in_block, ◌+ₚ◌}
+use denote.Memory.{lone}
+use denote.RawPtr.{Ptr, block_of, count_of, block_ptr, null_ptr, in_block, room_for, ◌+ₚ◌}
 use denote.Struct.Owning.{shape, fields, to}
 use denote.Struct.Struct.{exits_of}
 use Rattle.core.specs.declared.alloc.Allocator.{Ghosts}
@@ -14,6 +19,8 @@ use Rattle.std_alloc.proofs.SendSync.{FreesAnywhere, quiet}
 use Rattle.starlark_columns.specs.Owned.{places_owned, places_lent, within_lent}
 use Rattle.starlark_columns.specs.contracts.block.Claim as claim
 use Rattle.starlark_columns.specs.contracts.block.Held as held
+use Rattle.starlark_columns.specs.contracts.block.PairClaim as pair_claim
+use Rattle.starlark_columns.specs.Paired.{rooms_rejoin}
 
 within_keyless : (p : Ptr) → Keyless (in_block p ftrue)
 within_keyless null_ptr = tt
@@ -54,3 +61,22 @@ module _ (R : RattleType) where
 
     pub claim_sync : IsSync (claim.the_row R A g)
     claim_sync = let T = claim.the_type R A g in record { shared = λ c b o κ. ((struct_sync (shape T) (search sendable, tt)).shared (to T c) b o κ, tt) }
+
+room_keyless : (τ : Ty) (p : Ptr) → Keyless (room_for τ p)
+room_keyless τ null_ptr = tt
+room_keyless τ (block_ptr b o) = tt
+
+either_keyless : (x : Bool) (F : Fml) → Keyless F → Keyless (cond x ftrue F)
+either_keyless true F k = tt
+either_keyless false F k = k
+
+module _ (R U A : RattleType) (g : Ghosts A.Denot) where
+  pub pair_claim_send : FreesAnywhere A.Denot g → IsSend (pair_claim.the_row R U A g)
+  pair_claim_send free =
+      let T = pair_claim.the_type R U A g in let marks : AllSend (fields T) = (search sendable, tt) in
+      owning_send T marks (λ c. either_keyless (eqb (c.count * (size (lone R.mir) + size (lone U.mir))) 0) (fsep (g.dealloc_token c.alloc _ c.firsts) (rooms_rejoin (lone R.mir) (lone U.mir) c.firsts c.seconds c.count))
+      (free.frees c.alloc _ c.firsts, ((room_keyless _ c.firsts, room_keyless _ c.seconds), room_keyless _ c.firsts)))
+      (λ k. quiet (to T) (exits_of k (fields T)) ((struct_send (shape T) marks).leaving k))
+
+  pub pair_claim_sync : IsSync (pair_claim.the_row R U A g)
+  pair_claim_sync = let T = pair_claim.the_type R U A g in record { shared = λ c b o κ. ((struct_sync (shape T) (search sendable, tt)).shared (to T c) b o κ, tt) }

@@ -1,13 +1,12 @@
 -- A lent pair of which the first part stays is parted, and so is a lent entry of which all but the value stays: a `&` to
 -- the key and a `&mut` to the value. Assumes `Logic`.
-use mathlib.Core.Path.{◌≡◌, refl}
 use Prim.Native.Nat.{ℕ}
-use mathlib.Core.List.{List, [], ◌∷◌}
+use mathlib.Core.List.{[], ◌∷◌}
 use seplogic.Ra.Ura.{Ura}
 use mir.Syntax.{Lifetime}
 use base.Logic.{SProp, ent, sep}
 use base.Fml.{Lft, GName, Share, Incl, flft}
-use types.Kit.{Item, ‵, raw, ◌⊛◌, some, later, mean, ◌$◌, ◌∵◌, !, qed, by, move, use1, use3, split3, fsplit, group, await, updating, now, done, pick, show}
+use types.Kit.{Item, ‵, raw, ◌⊛◌, some, later, mean, ◌$◌, ◌∵◌, !, qed, by, move, use1, use3, split3, fsplit, group, await, updating, now, done}
 use types.Logic.{Logic, sem}
 use types.Mut.{open_ref}
 use denote.Memory.{mem, part_at}

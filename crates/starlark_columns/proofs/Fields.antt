@@ -19,12 +19,13 @@ use Rattle.core.specs.declared.alloc.Allocator.{Ghosts}
 use Rattle.starlark_columns.specs.contracts.block.Address as address
 use Rattle.starlark_columns.specs.contracts.block.Claim as claim
 use Rattle.starlark_columns.specs.contracts.block.Held as held
+use Rattle.starlark_columns.specs.contracts.block.PairClaim as pair_claim
 
 -- an `Address`
 abbrev pub word : Ptr → Val
 word p = vstruct (vcons (ptr_val p) vnil)
 
--- a `Held` or a `Claim`
+-- a `Held`, a `Claim` or a `PairClaim`
 abbrev pub mark : Val
 mark = vstruct (vcons (vstruct vnil) vnil)
 
@@ -32,7 +33,7 @@ pub word_good : (p : Ptr) → T (has_ty (ty_struct [] (tcons ty_ptr tnil)) (word
 word_good (block_ptr b o) = (tt, (tt, tt))
 word_good null_ptr = (tt, (record { fits = lit< tt }, tt))
 
--- a tuple of two, and one of three, from its parts
+-- a tuple of two, of three and of five, from its parts
 module _ {M : Type 1} {𝓤 : Ura M} (𝓛 : Logic 𝓤) (R S : RattleType) (x : R.Denot) (y : S.Denot) (u v : Val) where
   pub both : ent 𝓤 (sep 𝓤 (sem 𝓛 (R.own_val x (u ∷ []))) (sem 𝓛 (S.own_val y (v ∷ [])))) (sem 𝓛 ((Tuple (R ∷ S ∷ [])).own_val (x, y) (vstruct (vcons u (vcons v vnil)) ∷ [])))
   both = let all = vstruct (vcons u (vcons v vnil)) ∷ [] in
@@ -45,6 +46,13 @@ module _ {M : Type 1} {𝓤 : Ura M} (𝓛 : Logic 𝓤) (R S : RattleType) (x :
     three = let all = vstruct (vcons u (vcons v (vcons w vnil))) ∷ [] in
         qed 𝓛 (‵ (R.own_val x (u ∷ [])) ∷ ‵ (S.own_val y (v ∷ [])) ∷ ‵ (Q.own_val z (w ∷ [])) ∷ []) ∵ nothing ! $ move ! (3 ∷ 0 ∷ []) $ fjoin ! $ move ! (2 ∷ 0 ∷ []) $ fjoin ! $ move ! (1 ∷ 0 ∷ []) $ fjoin ! $
         feq_i ! (List Val) all all refl $ fjoin ! $ fpack ! (Valss (R ∷ S ∷ Q ∷ [])) (within (Declared.shape (tuple_type (R ∷ S ∷ Q ∷ []))) (x, (y, (z, tt))) all) (u ∷ [], (v ∷ [], (w ∷ [], tt))) $ done !
+
+    module _ (P O : RattleType) (m : P.Denot) (n : O.Denot) (s t : Val) where
+      pub five : ent 𝓤 (sep 𝓤 (sem 𝓛 (R.own_val x (u ∷ []))) (sep 𝓤 (sem 𝓛 (S.own_val y (v ∷ []))) (sep 𝓤 (sem 𝓛 (Q.own_val z (w ∷ []))) (sep 𝓤 (sem 𝓛 (P.own_val m (s ∷ []))) (sem 𝓛 (O.own_val n (t ∷ [])))))))
+          (sem 𝓛 ((Tuple (R ∷ S ∷ Q ∷ P ∷ O ∷ [])).own_val (x, y, z, m, n) (vstruct (vcons u (vcons v (vcons w (vcons s (vcons t vnil))))) ∷ [])))
+      five = let all = vstruct (vcons u (vcons v (vcons w (vcons s (vcons t vnil))))) ∷ [] in let Rs = R ∷ S ∷ Q ∷ P ∷ O ∷ [] in
+          qed 𝓛 (‵ (R.own_val x (u ∷ [])) ∷ ‵ (S.own_val y (v ∷ [])) ∷ ‵ (Q.own_val z (w ∷ [])) ∷ ‵ (P.own_val m (s ∷ [])) ∷ ‵ (O.own_val n (t ∷ [])) ∷ []) ∵ nothing ! $ move ! (5 ∷ 0 ∷ []) $ fjoin ! $ move ! (4 ∷ 0 ∷ []) $ fjoin ! $ move ! (3 ∷ 0 ∷ []) $ fjoin ! $ move ! (2 ∷ 0 ∷ []) $ fjoin ! $ move ! (1 ∷ 0 ∷ []) $ fjoin ! $
+          feq_i ! (List Val) all all refl $ fjoin ! $ fpack ! (Valss Rs) (within (Declared.shape (tuple_type Rs)) (x, (y, (z, (m, (n, tt))))) all) (u ∷ [], (v ∷ [], (w ∷ [], (s ∷ [], (t ∷ [], tt))))) $ done !
 
 module _ (R : RattleType) where
   pub address_made : {M : Type 1} {𝓤 : Ura M} (𝓛 : Logic 𝓤) (p : Ptr) → ent 𝓤 (emp 𝓤) (sem 𝓛 ((address.the_row R).own_val (record { at = p }) (word p ∷ [])))
@@ -71,3 +79,13 @@ module _ (R : RattleType) where
 
     pub claim_made : {M : Type 1} {𝓤 : Ura M} (𝓛 : Logic 𝓤) → ent 𝓤 (emp 𝓤) (sem 𝓛 (ClaimData.own_val (tt, tt) (mark ∷ [])))
     claim_made 𝓛 = makes_shadow 𝓛 (ClaimData.own_val (tt, tt) (mark ∷ [])) (λ vss. (tt, ((λ uss. (tt, tt)), tt))) ((vstruct vnil ∷ [], tt), (refl, ((tt, (refl, tt)), tt)))
+
+  module _ (S A : RattleType) (g : Ghosts A.Denot) where
+    abbrev pub PairClaimData : RattleType
+    PairClaimData = Struct (shape (pair_claim.the_type R S A g))
+
+    pub pair_claim_told : (vs : List Val) → Is PairClaimData (tt, tt) vs → vs ≡ mark ∷ []
+    pair_claim_told vs is = is.1.0 ∙ ap (λ (ws : List Val). vstruct (of_list (ws ++ [])) ∷ []) is.1.1.0.1.0
+
+    pub pair_claim_made : {M : Type 1} {𝓤 : Ura M} (𝓛 : Logic 𝓤) → ent 𝓤 (emp 𝓤) (sem 𝓛 (PairClaimData.own_val (tt, tt) (mark ∷ [])))
+    pair_claim_made 𝓛 = makes_shadow 𝓛 (PairClaimData.own_val (tt, tt) (mark ∷ [])) (λ vss. (tt, ((λ uss. (tt, tt)), tt))) ((vstruct vnil ∷ [], tt), (refl, ((tt, (refl, tt)), tt)))

@@ -1,6 +1,6 @@
 -- Columns whose items stand at the front, before a step and after it.
 use Rattle.std.proofs.Common.{◌≡◌, ℕ, zero, suc, ◌+◌, ◌-◌, ◌<◌, ◌≤◌, true, false, List, [], ◌∷◌, ◌++◌, map, length, take, drop, replicate, get_or, slice_set, Option, Some, None, refl, sym, ap, subst, ◌∙◌, arith, add-one}
-use Rattle.std.proofs.lemmas.List.{length-map, length-replicate, length-append, length-take, length-drop, nil_from_length, take_at, replicate-append-replicate, drop-replicate, take-replicate, take-take, drop-drop}
+use Rattle.std.proofs.lemmas.List.{length-map, length-replicate, length-append, length-take, length-drop, nil_from_length, take_at, replicate-append-replicate, drop-replicate, take-replicate, take-take}
 use Rattle.std.proofs.Math.Seq.{set-append_seam, get_or-append_seam, drop-append_seam, drop-append-add, take-suc}
 use lib.ListN.{length-set}
 use Rattle.std.specs.List.{slice_range, slice_get, remove, refill, length_refill, AllZip}
@@ -116,6 +116,9 @@ module _ {X : Type 0} where
 
   pub none_at_front : (cs : List (Option X)) → IsFront cs 0 → cs ≡ empties (length cs)
   none_at_front cs front = counted cs (length cs - 0) (none_is cs (length cs - 0) front.form)
+
+  pub none_left : (cs ds : List (Option X)) (n : ℕ) → ds ≡ cs → IsFront cs 0 → n ≡ length cs → ds ≡ empties n
+  none_left cs ds n same front long = same ∙ none_at_front cs front ∙ ap empties (sym long)
 
   module _ (cs : List (Option X)) (n : ℕ) (front : IsFront cs n) where
     -- the places behind the items

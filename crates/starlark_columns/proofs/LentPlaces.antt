@@ -19,7 +19,7 @@ use denote.RawPtr.{block_ptr}
 use denote.Steps.{nothing}
 use Rattle.std.specs.Prelude.{Option, Some, None}
 use Rattle.std.specs.Mem.{type_size}
-use Rattle.starlark_columns.specs.Owned.{place_owned, places_owned}
+use Rattle.starlark_columns.specs.Owned.{place_owned}
 use Rattle.starlark_columns.specs.Places.{IsFilled}
 use Rattle.starlark_columns.specs.contracts.column.Column.{the_row}
 use Rattle.starlark_columns.proofs.Slotting.{filled_within}

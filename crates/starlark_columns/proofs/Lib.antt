@@ -3,10 +3,13 @@ mod Crossing
 mod Memory
 mod Fields
 mod RowCalls
+mod PairRooms
+mod Layouts
 mod Slotting
 mod LentPlaces
 mod ColumnOpens
 mod PairParts
 mod EntryOut
 pub mod Fronts
+pub mod NamedClose
 pub mod Betweens

@@ -1,17 +1,8 @@
--- What a `Column` is once a `&mut` to its items has ended.
+-- What a `Column` is once a `&mut` to an item of it has ended.
 use Rattle.std.specs.Prelude.{ℕ, List, slice_set, Option, Some}
-use Rattle.std.specs.Borrow.{Fml, RattleType, MutBor, Array, Lends}
-use Rattle.starlark_columns.specs.Lends.{rewritten}
-use Rattle.starlark_columns.specs.Front.{with_items}
+use Rattle.std.specs.Borrow.{Fml, RattleType, MutBor, Lends}
 use Rattle.starlark_columns.specs.contracts.column.Column.{the_row}
-
-abbrev pub lends_items : (R : RattleType) → MutBor (List (Option R.Denot)) → ℕ → ℕ → MutBor (List R.Denot) → Fml
-lends_items R c from to r = Lends (the_row R) (Array R 0) c r (λ ws. rewritten c.now from to ws)
 
 -- through the item of one place
 abbrev pub lends_item : (R : RattleType) → MutBor (List (Option R.Denot)) → ℕ → MutBor R.Denot → Fml
 lends_item R c i r = Lends (the_row R) R c r (λ w. slice_set c.now i (Some w))
-
--- through the items at the front
-abbrev pub lends_front : (R : RattleType) → MutBor (List (Option R.Denot)) → MutBor (List R.Denot) → Fml
-lends_front R c r = Lends (the_row R) (Array R 0) c r (λ ws. with_items c.now ws)

@@ -1,8 +1,12 @@
 pub mod Places
 pub mod Owned
+pub mod Paired
 pub mod Slotted
 pub mod Lends
 pub mod Claims
+pub mod Laid
+pub mod Block
+pub mod RowLends
 pub mod Front
 pub mod Between
 pub mod ColumnLends

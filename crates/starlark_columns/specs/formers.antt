@@ -1,2 +1,3 @@
 pub mod block
 pub mod column
+pub mod row

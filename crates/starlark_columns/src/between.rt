@@ -1,20 +1,21 @@
-//! Columns whose items stand between two places, as a walk leaves them that takes from either end.
-ghost use Rattle.std.specs.Prelude.{◌≡◌, ◌+◌, ◌<◌, [], ◌∷◌, ◌++◌};
+//! Rows whose items stand between two places, as a walk leaves them that takes from either end.
+ghost use Rattle.std.specs.Prelude.{◌≡◌, ◌+◌, ◌<◌, [], ◌∷◌, ◌++◌, length};
 ghost use Rattle.starlark_columns.specs.Places.{items_of};
 ghost use Rattle.starlark_columns.specs.Front.{IsFront};
 ghost use Rattle.starlark_columns.specs.Between.{IsBetween};
 
-use crate::column::Column;
-use std::alloc::Global;
+use crate::row::Row;
 
-impl<T> Column<T> {
+impl<T> Row<T> {
     /// Takes the first item out, which stands at `from`.
     #[inline]
     pub fn take_first_between(&mut self, from: usize, to: usize) -> T
-        requires between { IsBetween self.old from to }
+        requires between { IsBetween self.old.places from to }
         requires some { from < to }
-        ensures between { IsBetween self.new (from + 1) to }
-        ensures items { items_of self.old ≡ result ∷ items_of self.new }
+        ensures between { IsBetween self.new.places (from + 1) to }
+        ensures items { items_of self.old.places ≡ result ∷ items_of self.new.places }
+        ensures places { length self.new.places ≡ length self.old.places }
+        ensures at { self.new.at ≡ self.old.at }
     {
         self.take(from)
     }
@@ -22,26 +23,29 @@ impl<T> Column<T> {
     /// Takes the last item out, which stands at `last`.
     #[inline]
     pub fn take_last_between(&mut self, from: usize, last: usize) -> T
-        requires between { IsBetween self.old from (last + 1) }
+        requires between { IsBetween self.old.places from (last + 1) }
         requires some { from < last + 1 }
-        ensures between { IsBetween self.new from last }
-        ensures items { items_of self.old ≡ items_of self.new ++ result ∷ [] }
+        ensures between { IsBetween self.new.places from last }
+        ensures items { items_of self.old.places ≡ items_of self.new.places ++ result ∷ [] }
+        ensures places { length self.new.places ≡ length self.old.places }
+        ensures at { self.new.at ≡ self.old.at }
     {
         self.take(last)
     }
 }
 
-impl<T: Drop> Column<T> {
-    /// Drops the items, and gives the memory back.
-    pub fn drop_between(self, alloc: Global, from: usize, to: usize)
-        requires { IsBetween self from to }
+impl<T: Drop> Row<T> {
+    /// Drops the items.
+    pub fn drop_between(&mut self, from: usize, to: usize)
+        requires { IsBetween self.old.places from to }
+        ensures empty { IsFront self.new.places 0 }
+        ensures places { length self.new.places ≡ length self.old.places }
+        ensures at { self.new.at ≡ self.old.at }
     {
-        let mut column = self;
         let mut first = from;
         while first < to {
-            let _item = column.take_first_between(first, to);
+            let _item = self.take_first_between(first, to);
             first += 1;
         }
-        column.give_back(alloc);
     }
 }

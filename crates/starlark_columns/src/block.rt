@@ -1,17 +1,19 @@
 //! The one file with pointers: where a row of places lies, who owns them, and the right to give their block back.
-ghost use Rattle.std.specs.Prelude.{◌≡◌, ℕ, ◌*◌, ◌<◌, List, [], Option, Some, None, map, length, get_or, slice_range, IfOk};
+ghost use Rattle.std.specs.Prelude.{◌≡◌, ℕ, ◌+◌, ◌*◌, ◌^◌, ◌<◌, List, [], Option, Some, None, map, length, get_or, slice_range, IfOk};
 ghost use Rattle.std.specs.Borrow.{sem};
 ghost use Rattle.std.specs.Mem.{type_size};
 ghost use Rattle.std.specs.Vec.Ownership.{FitsInBlock};
 ghost use base.Fml.{ftrue};
 ghost use denote.RawPtr.{Ptr};
 ghost use prog.Memory.{capped};
+ghost use Rattle.core.specs.Allocator.{HasLayout};
 ghost use Rattle.core.specs.Mem.Slots.{slots_items, slots_filled, slots_len, slots_ptr};
 ghost use Rattle.starlark_columns.specs.Owned.{row_owned, row_lent, claim_owned};
+ghost use Rattle.starlark_columns.specs.Paired.{type_align, pair_ty, second_offset, pair_claimed};
 ghost use Rattle.starlark_columns.specs.Places.{empties, IsFilled, AreFilled};
 
 use core::slots::Slots;
-use std::alloc::{AllocError, Allocator};
+use std::alloc::{AllocError, Allocator, Global};
 use std::marker::{Model, PhantomData, Send, Sync};
 use std::mem::{align_of, size_of};
 use std::slice;
@@ -73,11 +75,38 @@ unsafe impl<T, A: Allocator + Send> Send for Claim<T, A> {}
 // A `&` to it lends nothing.
 unsafe impl<T, A: Allocator> Sync for Claim<T, A> {}
 
+// The right to give back the one block with `count` places at `firsts` and as many at `seconds`. Where the places take
+// no bytes, it is a right to nothing. It takes no bytes.
+pub struct PairClaim<T, U, A: Allocator> {
+    mark: PhantomData<*const (T, U, A)>,
+    pub ghost firsts: { Ptr },
+    pub ghost seconds: { Ptr },
+    pub ghost count: { ℕ },
+    ghost alloc: { A },
+}
+
+impl<T, U, A: Allocator> Model for PairClaim<T, U, A> {
+    ghost also_owns = { λ c. pair_claimed T.row U.row (A.dealloc_token c.alloc) c.firsts c.seconds c.count };
+
+    ghost also_shares = { λ _ _ _. ftrue };
+}
+
+unsafe impl<T, U, A: Allocator + Send> Send for PairClaim<T, U, A> {}
+
+// A `&` to it lends nothing.
+unsafe impl<T, U, A: Allocator> Sync for PairClaim<T, U, A> {}
+
 // The bytes of an item, as a number of its own.
 pub(crate) fn item_size<T>() -> usize
     ensures { result ≡ capped (type_size T.row) }
 {
     size_of::<T>()
+}
+
+pub(crate) fn item_align<T>() -> usize
+    ensures { result ≡ capped (type_align T.row) }
+{
+    align_of::<T>()
 }
 
 // Places that take no bytes lie anywhere.
@@ -135,6 +164,80 @@ pub(crate) fn deallocate<T, A: Allocator>(
             count * size_of::<T>(),
             align_of::<T>(),
         );
+    }
+}
+
+// The claim of places that take no bytes.
+pub(crate) fn no_claim<T, U, A: Allocator>(
+    _alloc: &A,
+    first: Address<T>,
+    second: Address<U>,
+    count: usize,
+) -> PairClaim<T, U, A>
+    requires { count * (type_size T.row + type_size U.row) ≡ 0 }
+    ensures { (result.firsts ≡ first.at) × (result.seconds ≡ second.at) × (result.count ≡ count) }
+{
+    PairClaim { mark: PhantomData }
+}
+
+pub(crate) fn let_go_pair<T, U>(firsts: Held<T>, seconds: Held<U>, claim: PairClaim<T, U, Global>)
+    requires empty { (firsts.places ≡ empties claim.count) × (seconds.places ≡ empties claim.count) }
+    requires light { claim.count * (type_size T.row + type_size U.row) ≡ 0 }
+{
+    let Held { mark: _ } = firsts;
+    let Held { mark: _ } = seconds;
+    let PairClaim { mark: _ } = claim;
+}
+
+// One block for two rows. The second begins at `offset`.
+pub(crate) fn allocate_pair<T, U, A: Allocator>(
+    alloc: &A,
+    count: usize,
+    offset: usize,
+    size: usize,
+    align: usize,
+) -> Result<(Address<T>, Held<T>, Address<U>, Held<U>, PairClaim<T, U, A>), AllocError>
+    requires layout { HasLayout (pair_ty T.row U.row count) size align }
+    requires offset { offset ≡ second_offset T.row U.row count }
+    requires fits { size < 2 ^ 63 }
+    requires bytes { 0 < count * (type_size T.row + type_size U.row) }
+    ensures { IfOk result (λ r. (r.1.at ≡ r.0.at) × (r.1.places ≡ empties count) × (r.3.at ≡ r.2.at) × (r.3.places ≡ empties count) × (r.4.firsts ≡ r.0.at) × (r.4.seconds ≡ r.2.at) × (r.4.count ≡ count) × (r.4.alloc ≡ alloc.now)) }
+{
+    match alloc.allocate(size, align) {
+        Ok(block) => {
+            let first = block as *const T;
+            let second = unsafe { block.add(offset) } as *const U;
+            Ok((
+                Address { at: first },
+                Held { mark: PhantomData },
+                Address { at: second },
+                Held { mark: PhantomData },
+                PairClaim { mark: PhantomData },
+            ))
+        }
+        Err(refused) => Err(refused),
+    }
+}
+
+pub(crate) fn deallocate_pair<T, U, A: Allocator>(
+    alloc: &A,
+    first: Address<T>,
+    size: usize,
+    align: usize,
+    firsts: Held<T>,
+    seconds: Held<U>,
+    claim: PairClaim<T, U, A>,
+)
+    requires layout { HasLayout (pair_ty T.row U.row claim.count) size align }
+    requires bytes { 0 < claim.count * (type_size T.row + type_size U.row) }
+    requires empty { (firsts.at ≡ claim.firsts) × (firsts.places ≡ empties claim.count) × (seconds.at ≡ claim.seconds) × (seconds.places ≡ empties claim.count) }
+    requires claim { (first.at ≡ claim.firsts) × (claim.alloc ≡ alloc.now) }
+{
+    let Held { mark: _ } = firsts;
+    let Held { mark: _ } = seconds;
+    let PairClaim { mark: _ } = claim;
+    unsafe {
+        alloc.deallocate(first.at as *mut u8, size, align);
     }
 }
 

@@ -168,27 +168,7 @@ impl<T> Column<T> {
 // Many places
 
 impl<T> Column<T> {
-    ghost use Rattle.starlark_columns.specs.ColumnLends.{lends_items};
     ghost use Rattle.starlark_columns.specs.Lent.{places_follow};
-
-    /// The items from place `from` up to place `to`, which are all there.
-    #[inline]
-    pub fn slice(&self, from: usize, to: usize) -> &[T]
-        requires { AreFilled self.now from to }
-        ensures { slice_range self.now from to ≡ map Some result.now }
-    {
-        self.held.slice(self.address, from, to)
-    }
-
-    /// The items from place `from` up to place `to`, to be written.
-    #[inline]
-    pub fn slice_mut(&mut self, from: usize, to: usize) -> &mut [T]
-        requires { AreFilled self.old from to }
-        ensures* writes_back { sem 𝓛 (lends_items T.row self.entry from to result) }
-        ensures value { slice_range self.old from to ≡ map Some result.now }
-    {
-        self.held.slice_mut(self.address, from, to)
-    }
 
     /// The right to write the items, which a walk takes one by one. Each full place ends with what is left there, with
     /// what `P` keeps of its item; empty places stay empty.
@@ -201,54 +181,6 @@ impl<T> Column<T> {
         Loan {
             start: self.address.at.cast_mut(),
             mark: PhantomData,
-        }
-    }
-
-    /// Moves the items from place `from` up to place `end` down, to the places from `to` on, as one move of memory. The
-    /// places between are empty before, and as many behind the items are afterwards.
-    #[inline]
-    pub fn move_down(&mut self, from: usize, end: usize, to: usize)
-        requires items { AreFilled self.old from end }
-        requires gap { AreEmpty self.old to from }
-        ensures { self.new ≡ moved_down self.old from end to }
-    {
-        if from != end {
-            self.held.move_down(self.address, self.count, from, end, to);
-        }
-    }
-
-    /// Moves the items from place `from` up to place `end` up, to the places from `to` on, as one move of memory. The
-    /// places behind that they need are empty before, and as many in front of them are afterwards.
-    #[inline]
-    pub fn move_up(&mut self, from: usize, end: usize, to: usize)
-        requires items { AreFilled self.old from end }
-        requires gap { (from ≤ to) × AreEmpty self.old end (end + (to - from)) }
-        ensures { self.new ≡ moved_up self.old from end to }
-    {
-        if from != end {
-            self.held.move_up(self.address, self.count, from, end, to);
-        }
-    }
-
-    /// Moves the items from place `from` up to place `end` to the empty places of `other` from `to` on, as one copy of memory.
-    #[inline]
-    pub fn move_to(&mut self, from: usize, end: usize, other: &mut Column<T>, to: usize)
-        requires items { AreFilled self.old from end }
-        requires room { AreEmpty other.old to (to + (end - from)) }
-        ensures left { self.new ≡ with_range self.old from end (empties (end - from)) }
-        ensures moved { other.new ≡ with_range other.old to (to + (end - from)) (slice_range self.old from end) }
-    {
-        if from != end {
-            self.held.move_to(
-                self.address,
-                self.count,
-                from,
-                end,
-                &mut other.held,
-                other.address,
-                other.count,
-                to,
-            );
         }
     }
 }

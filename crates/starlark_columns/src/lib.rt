@@ -1,4 +1,4 @@
-//! A row of places in raw memory, each empty or with an item. All raw memory of the project is here.
+//! Rows of places in raw memory, each empty or with an item. All raw memory of the project is here.
 #![tactic(auto)]
 
 pub mod between;
@@ -6,7 +6,11 @@ mod block;
 pub mod column;
 pub mod front;
 mod held;
+mod layout;
 pub mod loan;
+pub mod pair;
+pub mod row;
 
 pub use column::Column;
 pub use loan::Loan;
+pub use row::Row;

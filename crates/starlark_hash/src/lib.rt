@@ -1,4 +1,4 @@
-//! Hashes, keys under them, the queries by which they are looked up, and the words on lists of entries.
+//! Hashes, keys under them, and the queries by which they are looked up.
 #![tactic(auto)]
 
 pub mod equivalent;

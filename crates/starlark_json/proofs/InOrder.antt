@@ -12,10 +12,10 @@ use Rattle.std.specs.Prelude.{⊤}
 use Rattle.std.specs.declared.alloc.Global.{Global}
 use Rattle.serde_json.specs.View.{view, members_view}
 use Rattle.serde_json.specs.declared.value.Value.{Value}
-use Rattle.starlark_hash.specs.Entries.{Entry, entry_key, is_under, match_of, set_value_at, stands_under}
+use Rattle.starlark_lists.specs.Entries.{Entry, entry_key, is_under, match_of, set_value_at, stands_under}
 use Rattle.starlark_hash.specs.HashValue.{hash_of, key_of}
 use Rattle.starlark_hash.specs.declared.hashed.Hashed.{Hashed}
-use Rattle.starlark_hash.proofs.PositionLemmas.{position-cons}
+use Rattle.starlark_lists.proofs.PositionLemmas.{position-cons}
 use Rattle.starlark_small.proofs.CallerKeys.{and_false}
 use Rattle.starlark_small.specs.Collect.{insert_all}
 use Rattle.starlark_json.specs.Objects.{Entries, entries_of, integer_of}

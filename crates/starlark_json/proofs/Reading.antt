@@ -1,7 +1,7 @@
 -- What reading one element after the other comes to.
 use Rattle.std.proofs.Common.{◌≡◌, Bool, List, ◌∷◌, Option, Some, None, MatchOption, ◌⊎◌, inl, inr, refl, sym, ap, ◌∙◌, subst}
 use Rattle.std.specs.Option.{option_map, option_and_then}
-use Rattle.starlark_hash.specs.Entries.{Entry, insert_entry}
+use Rattle.starlark_lists.specs.Entries.{Entry, insert_entry}
 use Rattle.starlark_small.specs.Collect.{insert_all}
 
 module _ {K V A : Type 0} (eq : K → K → Bool) (entry : A → Entry K V) where

@@ -9,7 +9,7 @@ use Rattle.std.specs.declared.string.String.{String}
 use Rattle.serde_json.specs.Data.{Data, number, string, Members, no_members, put}
 use Rattle.serde_json.specs.Find.{get_member, of_integer}
 use Rattle.serde_json.proofs.Views.{get_member-put, get_member-put_other}
-use Rattle.starlark_hash.specs.Entries.{Entry, entry_key, entry_value, pair_of}
+use Rattle.starlark_lists.specs.Entries.{Entry, entry_key, entry_value, pair_of}
 use Rattle.starlark_json.specs.Objects.{put_all, last_value}
 use Rattle.starlark_json.specs.Texts.{Text, pairs_of, texts_of}
 

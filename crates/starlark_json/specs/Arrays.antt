@@ -5,7 +5,7 @@ use Rattle.std.specs.Str.{bytes_eq}
 use Rattle.serde_json.specs.Data.{Data, array, string, Items, no_items, item}
 use Rattle.serde_json.specs.Find.{as_array, as_str}
 use Rattle.serde_json.specs.View.{items_of}
-use Rattle.starlark_hash.specs.Entries.{Entry}
+use Rattle.starlark_lists.specs.Entries.{Entry}
 use Rattle.starlark_small.specs.Collect.{insert_all}
 use Rattle.starlark_json.specs.Texts.{Text, own_text}
 use Rattle.starlark_json.specs.declared.fault.JsonFault.{JsonFault}

@@ -4,7 +4,7 @@ use Rattle.std.specs.Option.{option_map, option_or}
 use Rattle.std.specs.Str.{bytes_eq}
 use Rattle.serde_json.specs.Data.{Data, object, number, Members, no_members, member, put}
 use Rattle.serde_json.specs.Find.{as_i64, as_number, as_object, of_integer}
-use Rattle.starlark_hash.specs.Entries.{Entry}
+use Rattle.starlark_lists.specs.Entries.{Entry}
 use Rattle.starlark_json.specs.Texts.{Text, own_text}
 use Rattle.starlark_json.specs.declared.fault.JsonFault.{JsonFault}
 use Rattle.starlark_json.specs.declared.fault.JsonFault.TheVariants.{NotObject, NotInteger, Memory}

@@ -7,7 +7,7 @@ use Rattle.std.specs.declared.alloc.Global.{Global}
 use Rattle.std.specs.declared.cmp.Ordering.{Ordering}
 use Rattle.std.specs.declared.string.String.{String}
 use Rattle.starlark_hash.specs.declared.hashed.Hashed.{Hashed}
-use Rattle.starlark_hash.specs.Entries.{Entry, entry_hash, entry_key, entry_value}
+use Rattle.starlark_lists.specs.Entries.{Entry, entry_hash, entry_key, entry_value}
 use Rattle.starlark_hash.specs.HashValue.{hashed}
 use Rattle.starlark_small.specs.Map.{own_hashed}
 

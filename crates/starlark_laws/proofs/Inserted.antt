@@ -4,7 +4,7 @@ use Rattle.std.specs.Map.{keys_of}
 use Rattle.std.specs.Option.{option_map_or}
 use Rattle.std.proofs.lemmas.Bool.{false≢true}
 use Rattle.starlark_hash.specs.declared.hashed.Hashed.{Hashed}
-use Rattle.starlark_hash.specs.Entries.{Entry, insert_entry, set_value_at}
+use Rattle.starlark_lists.specs.Entries.{Entry, insert_entry, set_value_at}
 use Rattle.starlark_small.specs.Map.{Map, KeepsRoom}
 use Rattle.starlark_small.proofs.Inserting.{length_insert_le}
 

@@ -5,7 +5,7 @@ use Rattle.std.specs.Option.{option_eq}
 use Rattle.std.proofs.lemmas.Bool.{eqb-true, false≢true}
 use Rattle.std.proofs.lemmas.Option.{slice_get-get_or, slice_get_cases}
 use Rattle.core.specs.Cmp.{IsEquivalence}
-use Rattle.starlark_hash.specs.Entries.{Entry, IsSingle, match_of, value_at}
+use Rattle.starlark_lists.specs.Entries.{Entry, IsSingle, match_of, value_at}
 use Rattle.starlark_small.specs.Compare.{agree_at, same_entries}
 use Rattle.starlark_small.specs.EqualityLaws.{as_long}
 use Rattle.starlark_small.proofs.SameEntries.{own_match, own_key, unequal_at, equal_by_keys_of}

@@ -7,10 +7,10 @@ use Rattle.core.specs.Cmp.{IsEquivalence, nat_eq_equiv, first_so, second_so}
 use Rattle.std.proofs.lemmas.Bool.{eqb-true, false≢true}
 use Rattle.std_collections.specs.Map.{lookup}
 use Rattle.starlark_hash.specs.declared.hashed.Hashed.{Hashed}
-use Rattle.starlark_hash.specs.Entries.{Entry}
+use Rattle.starlark_lists.specs.Entries.{Entry}
 use Rattle.starlark_small.specs.Compare.{agree_at, same_entries}
 use Rattle.starlark_small.specs.EqualityLaws.{alike, value_at-lookup}
-use Rattle.starlark_vecmap.specs.Ordered.{same_entry, same_ordered, ordered_feed}
+use Rattle.starlark_lists.specs.Ordered.{same_entry, same_ordered, ordered_feed}
 
 both : (s t : Bool) → s ≡ true → t ≡ true → (s && t) ≡ true
 both s t p q = ap (λ b. b && t) p ∙ q

@@ -1,6 +1,6 @@
 -- What it means that maps are equal, entry by entry.
 use Rattle.std.specs.Prelude.{◌≡◌, Bool, List, length, All, IsSomeAnd, IsTrue}
-use Rattle.starlark_hash.specs.Entries.{Entry, match_of, value_at}
+use Rattle.starlark_lists.specs.Entries.{Entry, match_of, value_at}
 
 module _ {K V : Type 0} (key_eq : K → K → Bool) (value_eq : V → V → Bool) where
   -- es has an entry with the entry's hash and an equal key, and an equal value there

@@ -1,7 +1,7 @@
 //! Insertions of keys that are there.
 ghost use Rattle.std.specs.Prelude.{◌≡◌, IsOk, IsSome, IfOk};
 ghost use Rattle.std.specs.Map.{keys_of};
-ghost use Rattle.starlark_hash.specs.Entries.{match_of, value_at, with_value};
+ghost use Rattle.starlark_lists.specs.Entries.{match_of, value_at, with_value};
 
 use starlark_hash::{Hashed, NoRoom};
 use starlark_small::SmallMap;

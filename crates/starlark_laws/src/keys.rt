@@ -1,6 +1,6 @@
 //! Keys under their own hashes.
 ghost use Rattle.std.specs.Prelude.{◌≡◌, All, AllPairs, false, length};
-ghost use Rattle.starlark_hash.specs.Entries.{entry_hash, entry_key};
+ghost use Rattle.starlark_lists.specs.Entries.{entry_hash, entry_key};
 ghost use Rattle.starlark_hash.specs.Hasher.{own_hash};
 
 use starlark_small::SmallMap;

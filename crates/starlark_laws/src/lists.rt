@@ -3,13 +3,13 @@ ghost use Rattle.std.specs.Prelude.{◌≡◌, ◌↔◌, List, [], All, AllPair
 ghost use Rattle.std.specs.List.Sorted.{IsStableByKey};
 ghost use Rattle.std.specs.Map.{keys_of};
 ghost use Rattle.starlark_hash.specs.declared.hashed.Hashed.{Hashed};
-ghost use Rattle.starlark_hash.specs.Entries.{Entry, IsSingle, entry_hash, entry_key, insert_entry, match_of};
+ghost use Rattle.starlark_lists.specs.Entries.{Entry, IsSingle, entry_hash, entry_key, insert_entry, match_of};
 ghost use Rattle.starlark_hash.specs.Hasher.{own_hash};
-ghost use Rattle.starlark_hash.specs.Sorting.{Ascends, sorted_by_key};
+ghost use Rattle.starlark_lists.specs.Sorting.{Ascends, sorted_by_key};
 ghost use Rattle.starlark_laws.specs.Matches.{HasMatches};
 ghost use Rattle.starlark_small.specs.Collect.{insert_all};
 ghost use Rattle.starlark_small.specs.Compare.{same_entries};
-ghost use Rattle.starlark_vecmap.specs.Ordered.{same_ordered, ordered_feed};
+ghost use Rattle.starlark_lists.specs.Ordered.{same_ordered, ordered_feed};
 
 use std::hash::Hash;
 

@@ -1,6 +1,6 @@
 //! Turns and sorts, made twice.
 ghost use Rattle.std.specs.Prelude.{◌≡◌, IsOk, OnOk, OnErr};
-ghost use Rattle.starlark_hash.specs.Sorting.{Ascends, sorted_by_key};
+ghost use Rattle.starlark_lists.specs.Sorting.{Ascends, sorted_by_key};
 ghost use Rattle.starlark_small.specs.Map.{KeepsMemory};
 
 use starlark_small::SmallMap;
@@ -27,10 +27,12 @@ pub fn sort_twice<K: Ord, V>(map: &mut SmallMap<K, V>) -> Result<(), AllocError>
     map.sort_keys()
 }
 
-/// A sort of what was sorted is never refused and changes nothing.
+/// A sort of what was sorted is never refused, changes nothing and loses no room.
 pub fn sort_of_a_sorted_list<K: Ord, V>(map: &mut SmallMap<K, V>) -> Result<(), AllocError>
+    ensures sorted { OnOk result (map.new.entries ≡ sorted_by_key K.cmp map.old.entries) }
     ensures succeeds { Ascends K.cmp map.old.entries → IsOk result }
     ensures entries { Ascends K.cmp map.old.entries → map.new.entries ≡ map.old.entries }
+    ensures kept { KeepsMemory map.old map.new }
 {
     map.sort_keys()
 }

@@ -1,2 +1,3 @@
-pub mod Opened
+pub mod Walks
+pub mod Steps
 mod LookedUp

@@ -1,12 +1,14 @@
 //! Callers that look the entry of a `SmallMap` up under a key, which it may have or lack, and let it go.
 ghost use Rattle.std.specs.Prelude.{◌≡◌, ◌↔◌, is_some, Some, None, IfErr, IfOk, IsSome, IsTrue, OnErr, OnOk};
-ghost use Rattle.starlark_hash.specs.Entries.{match_of, value_at};
+ghost use Rattle.starlark_lists.specs.Entries.{match_of, value_at};
 ghost use Rattle.starlark_lending.specs.Lending.{with_value_under};
 ghost use Rattle.starlark_small.specs.Insertion.{IsInserted, IsRefused};
+ghost use Rattle.starlark_small.specs.Map.{own_hashed};
 
 use crate::put::put;
 use starlark_hash::{Hashed, NoRoom};
 use starlark_small::{Entry, SmallMap};
+use std::hash::Hash;
 
 /// Whether a map has this key under this hash. The entry is let go whole, and the map stays.
 pub fn is_there<K: Eq + Drop, V>(map: &mut SmallMap<K, V>, key: Hashed<K>) -> bool
@@ -17,6 +19,17 @@ pub fn is_there<K: Eq + Drop, V>(map: &mut SmallMap<K, V>, key: Hashed<K>) -> bo
     match &entry {
         Entry::Occupied(_) => true,
         Entry::Vacant(_) => false,
+    }
+}
+
+/// The value that a map has under a key's own hash. The entry is matched and let go in each arm, and the map stays.
+pub fn look_up<K: Eq + Hash + Drop, V: Copy>(map: &mut SmallMap<K, V>, key: K) -> Option<V>
+    ensures value { result ≡ value_at map.old.entries (match_of K.eq map.old.entries (own_hashed K.hash_input key)) }
+    ensures unchanged { map.new ≡ map.old }
+{
+    match map.entry(key) {
+        Entry::Occupied(there) => Some(*there.get()),
+        Entry::Vacant(_lacking) => None,
     }
 }
 

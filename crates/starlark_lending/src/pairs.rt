@@ -1,7 +1,7 @@
 //! Callers of the pairs of references that a `Vec2` lends.
 ghost use Rattle.std.specs.Prelude.{◌≡◌, ◌<◌, length, slice_get, slice_set, Some, None, IfOk, IfErr, OnOk, OnErr};
 
-use crate::put::put;
+use crate::put::put_pair;
 use starlark_vec2::Vec2;
 
 /// Puts both parts of the pair at this index, and gives those that were there.
@@ -11,8 +11,7 @@ pub fn put_both<A, B>(pairs: &mut Vec2<A, B>, index: usize, first: A, second: B)
     ensures pairs { pairs.new.pairs ≡ slice_set pairs.old.pairs index (first, second) }
     ensures capacity { pairs.new.capacity ≡ pairs.old.capacity }
 {
-    let (a, b) = pairs.get_unchecked_mut(index);
-    (put(a, first), put(b, second))
+    put_pair(pairs.get_unchecked_mut(index), first, second)
 }
 
 /// Puts both parts of the pair at this index, where there is one, and gives those that were there. Without one the
@@ -31,7 +30,7 @@ pub fn put_both_if<A, B>(
     ensures capacity { pairs.new.capacity ≡ pairs.old.capacity }
 {
     match pairs.get_mut(index) {
-        Some(pair) => Ok((put(pair.0, first), put(pair.1, second))),
+        Some(pair) => Ok(put_pair(pair, first, second)),
         None => Err((first, second)),
     }
 }

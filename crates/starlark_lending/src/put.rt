@@ -1,4 +1,4 @@
-//! One value put in the place of another, behind a reference of any type.
+//! Values put in the place of others, behind references of any type.
 ghost use Rattle.std.specs.Prelude.{◌≡◌};
 
 use std::mem;
@@ -10,4 +10,15 @@ pub(crate) fn put<T>(slot: &mut T, value: T) -> T
     ensures taken { result ≡ slot.old }
 {
     mem::replace(slot, value)
+}
+
+// The same of both parts of a pair.
+#[inline]
+pub(crate) fn put_pair<'a, A, B>(pair: (&'a mut A, &'a mut B), first: A, second: B) -> (A, B)
+    ensures first { pair.exit.0.now ≡ first }
+    ensures second { pair.exit.1.0.now ≡ second }
+    ensures taken { result ≡ (pair.entry.0.now, pair.entry.1.now) }
+{
+    let (a, b) = pair;
+    (put(a, first), put(b, second))
 }

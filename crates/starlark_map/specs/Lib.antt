@@ -1,9 +1,9 @@
 pub use Rattle.starlark_hash.specs.HashValue
 pub use Rattle.starlark_hash.specs.Hasher
 pub use Rattle.starlark_hash.specs.HashedOrder
-pub use Rattle.starlark_hash.specs.Entries
-pub use Rattle.starlark_hash.specs.Search
-pub use Rattle.starlark_hash.specs.Sorting
+pub use Rattle.starlark_lists.specs.Entries
+pub use Rattle.starlark_lists.specs.Search
+pub use Rattle.starlark_lists.specs.Sorting
 pub use Rattle.starlark_hash.specs.Lending as HashedLending
 pub use Rattle.starlark_vec2.specs.PairList
 pub use Rattle.starlark_vec2.specs.Columns
@@ -15,9 +15,9 @@ pub use Rattle.starlark_vec2.specs.Collect as PairListCollect
 pub use Rattle.starlark_vec2.specs.Lending as PairListLending
 pub use Rattle.starlark_vec2.specs.ColumnLending
 pub use Rattle.starlark_vecmap.specs.EntryList
-pub use Rattle.starlark_vecmap.specs.Ordered as EntryListOrdered
-pub use Rattle.starlark_vecmap.specs.Retain as EntryListRetain
-pub use Rattle.starlark_vecmap.specs.Clone as EntryListClone
+pub use Rattle.starlark_lists.specs.Ordered as EntryListOrdered
+pub use Rattle.starlark_lists.specs.Retain as EntryListRetain
+pub use Rattle.starlark_lists.specs.Clone as EntryListClone
 pub use Rattle.starlark_vecmap.specs.Lending as EntryListLending
 pub use Rattle.starlark_table.specs.Table
 pub use Rattle.starlark_small.specs.Map

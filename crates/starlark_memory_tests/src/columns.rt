@@ -1,35 +1,34 @@
-//! Columns that are made, and copied, and what is left where memory is refused.
+//! Rows that are made, and copied, and what is left where memory is refused.
 
 use crate::given::holds;
-use starlark_columns::Column;
-use starlark_columns::front::both_columns;
+use starlark_columns::pair::{give_back, with_rows};
 use std::test::Fail;
 
 #[test]
-fn copies_a_column(rt: HostRuntime) -> Result<(), Fail> {
-    let mut column = match Column::with_room(rt.alloc(), 2) {
-        Ok(column) => column,
-        Err(_) => Column::with_room(rt.alloc(), 2)?,
+fn copies_a_row(rt: HostRuntime) -> Result<(), Fail> {
+    let (mut items, mut clones, block) = match with_rows(rt.alloc(), 2) {
+        Ok(rows) => rows,
+        Err(_) => with_rows(rt.alloc(), 2)?,
     };
-    column.push_last(0, 1u32);
-    column.push_last(1, 2);
-    if let Ok(clones) = column.clone_items(rt.alloc(), 2) {
+    items.push_last(0, 1u32);
+    items.push_last(1, 2);
+    if items.clone_items(2, &mut clones).is_ok() {
         holds(&rt, clones.items(2) == [1u32, 2].as_slice());
-        clones.drop_all(rt.alloc(), 2);
+        clones.truncate(2, 0);
     }
-    holds(&rt, column.items(2) == [1u32, 2].as_slice());
-    column.drop_all(rt.alloc(), 2);
+    holds(&rt, items.items(2) == [1u32, 2].as_slice());
+    items.truncate(2, 0);
+    give_back(rt.alloc(), items, clones, block);
     Ok(())
 }
 
 #[test]
-fn makes_two_columns(rt: HostRuntime) -> Result<(), Fail> {
-    let (firsts, seconds) = match both_columns::<u64, u16>(rt.alloc(), 2) {
-        Ok(both) => both,
-        Err(_) => both_columns::<u64, u16>(rt.alloc(), 2)?,
+fn makes_two_rows(rt: HostRuntime) -> Result<(), Fail> {
+    let (firsts, seconds, block) = match with_rows::<u64, u16>(rt.alloc(), 2) {
+        Ok(rows) => rows,
+        Err(_) => with_rows::<u64, u16>(rt.alloc(), 2)?,
     };
     holds(&rt, firsts.items(0).is_empty());
-    firsts.close(rt.alloc());
-    seconds.close(rt.alloc());
+    give_back(rt.alloc(), firsts, seconds, block);
     Ok(())
 }

@@ -2,7 +2,7 @@
 use Rattle.std.specs.Prelude.{ℕ, ℤ, List, map, string_bytes}
 use Rattle.std.specs.declared.string.String.{String}
 use Rattle.std.specs.declared.alloc.Global.{Global}
-use Rattle.starlark_hash.specs.Entries.{Entry, entry_hash, entry_key, entry_value}
+use Rattle.starlark_lists.specs.Entries.{Entry, entry_hash, entry_key, entry_value}
 use Rattle.starlark_hash.specs.HashValue.{hashed}
 use Rattle.starlark_play.specs.Replies.{Entries}
 

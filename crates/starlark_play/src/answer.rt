@@ -3,8 +3,8 @@ ghost use Rattle.std.specs.Prelude.{◌≡◌, ◌≢◌, ℕ, ◌-◌, ◌<◌,
 ghost use Rattle.std.specs.Io.KnownBytes.{Keeps, Appends};
 ghost use Rattle.std.specs.Option.{option_map};
 ghost use Rattle.std.specs.Str.{bytes_eq};
-ghost use Rattle.starlark_hash.specs.Entries.{pair_of, value_at, match_of, insert_entry, without};
-ghost use Rattle.starlark_hash.specs.Sorting.{Ascends, sorted_by_key};
+ghost use Rattle.starlark_lists.specs.Entries.{pair_of, value_at, match_of, insert_entry, without};
+ghost use Rattle.starlark_lists.specs.Sorting.{Ascends, sorted_by_key};
 ghost use Rattle.starlark_lines.specs.Shown.{shown, shown_key};
 ghost use Rattle.starlark_play.specs.Replies.{MayNeedMemory, bytes_cmp, ended, value_text, pair_text, entry_text, reply, after};
 ghost use Rattle.starlark_play.specs.ShownEntries.{entries_of};

@@ -6,8 +6,9 @@ use Rattle.std.proofs.lemmas.Bool.{false≢true}
 use Rattle.std.proofs.lemmas.List.{length_push}
 use Rattle.starlark_hash.specs.declared.hashed.Hashed.{Hashed}
 use Rattle.starlark_hash.specs.declared.hash_value.StarlarkHashValue.{StarlarkHashValue}
-use Rattle.starlark_hash.specs.Entries.{Entry, insert_entry, match_of, set_value_at, position_of, stands_under, value_at}
-use Rattle.starlark_hash.proofs.PositionLemmas.{position-within}
+use Rattle.starlark_lists.specs.Entries.{Entry, insert_entry, match_of, set_value_at, position_of, stands_under, value_at}
+use Rattle.starlark_lists.proofs.PositionLemmas.{position-within}
+use Rattle.starlark_small.specs.Growth.{reserved_capacity}
 use Rattle.starlark_small.specs.Index.{unindexed}
 use Rattle.starlark_small.specs.Insertion.{IsInserted, IsRefused}
 use Rattle.starlark_small.specs.Map.{GrowsFor, KeepsRoom}
@@ -41,20 +42,21 @@ module _ {T : Type 0} where
         → OnErr r ((new.entries ≡ old.entries) × (new.indexed ≡ old.indexed))
         → (IsSome place → new ≡ record old { entries = new.entries })
         → (0 < old.room → (new.capacity ≡ old.capacity) × (new.indexed ≡ old.indexed))
-        → KeepsRoom old new → GrowsFor (length old.entries + 1) old new → new.indexed ≡ (old.indexed || nat_lt unindexed (length new.entries))
+        → KeepsRoom old new → GrowsFor (length old.entries + 1) old new → OnOk r (place ≡ None → new.capacity ≡ reserved_capacity old 1)
+        → new.indexed ≡ (old.indexed || nat_lt unindexed (length new.entries))
         → MatchOption place (MatchResult r (λ _. IsInserted old element tt new) (λ _. IsRefused old new × (old.room ≡ 0))) (λ _. IsOk r × (new ≡ old))
-    added None (Ok a) put absent full same replaced spare room capacity indexed = record {
+    added None (Ok a) put absent full same replaced spare room capacity grown indexed = record {
       entries = put;
       spare = spare;
       room = room;
-      capacity = capacity;
+      capacity = grown refl;
       indexed = subst (λ n. new.indexed ≡ (old.indexed || nat_lt unindexed n)) (ap length put ∙ length_push old.entries (element, tt)) indexed;
     }
-    added None (Err e) put absent full same replaced spare room capacity indexed =
+    added None (Err e) put absent full same replaced spare room capacity grown indexed =
         (record { entries = same.0; indexed = same.1; room = room; capacity = capacity }, full)
-    added (Some i) (Ok a) put absent full same replaced spare room capacity indexed =
+    added (Some i) (Ok a) put absent full same replaced spare room capacity grown indexed =
         (refl, replaced refl ∙ ap (λ es. record old { entries = es }) (put ∙ set_unit_at old.entries i))
-    added (Some i) (Err e) put absent full same replaced spare room capacity indexed = absurd (false≢true (sym (ap is_some absent)))
+    added (Some i) (Err e) put absent full same replaced spare room capacity grown indexed = absurd (false≢true (sym (ap is_some absent)))
 
   -- what the clauses of a map's insertion say of a set
   pub adds : {A E B F : Type 0} (eq : T → T → Bool) (old new : Set T) (element : Hashed T) (r : Result A E) (s : Result B F)
@@ -64,7 +66,8 @@ module _ {T : Type 0} where
       → OnErr r ((new.entries ≡ old.entries) × (new.indexed ≡ old.indexed))
       → (IsSome (match_of eq old.entries element) → new ≡ record old { entries = new.entries })
       → (0 < old.room → (new.capacity ≡ old.capacity) × (new.indexed ≡ old.indexed))
-      → KeepsRoom old new → GrowsFor (length old.entries + 1) old new → new.indexed ≡ (old.indexed || nat_lt unindexed (length new.entries))
+      → KeepsRoom old new → GrowsFor (length old.entries + 1) old new → OnOk r (match_of eq old.entries element ≡ None → new.capacity ≡ reserved_capacity old 1)
+      → new.indexed ≡ (old.indexed || nat_lt unindexed (length new.entries))
       → Adds eq old element s new
   adds {B = B} {F = F} eq old new element (Ok a) (Ok b) same = added {A = B} {E = F} old new element (match_of eq old.entries element) (Ok b)
   adds {B = B} {F = F} eq old new element (Err e) (Err f) same = added {A = B} {E = F} old new element (match_of eq old.entries element) (Err f)

@@ -1,7 +1,7 @@
 -- The runs of an iterator that gives each item beside `()` are runs of the one inside.
 use Rattle.std.proofs.Common.{◌≡◌, Bool, List, [], ◌∷◌, ◌++◌, map, Option, Result, Ok, Err, refl, sym, ap, subst, ◌∙◌}
 use Rattle.std.specs.Iterator.{Count, Drains, Yields}
-use Rattle.starlark_hash.specs.Entries.{Entry}
+use Rattle.starlark_lists.specs.Entries.{Entry}
 use Rattle.starlark_small.specs.Collect.{Collects, Extends, Inserts, insert_all}
 use Rattle.starlark_sets.specs.Collect.{StepsBeside}
 use Rattle.starlark_sets.specs.Set.{Elements, Set}
@@ -32,15 +32,28 @@ module _ {S A : Type 0} (steps : S → Option A → S → Type 0) where
 
     pub inserts_alone : {E : Type 0} (it : S) (old new : Elements T) (r : Result (Unit {0}) E)
         → Inserts eq beside (StepsBeside steps) it old new r → Inserts eq entry steps it old new r
-    inserts_alone it old new (Ok a) (xs, put, drains) = (alone xs, put ∙ ap (insert_all eq old) (entries_alone xs), drains_alone it xs drains)
-    inserts_alone it old new (Err e) (xs, put, (x, rest, gave, lacking)) =
-        (alone xs, put ∙ ap (insert_all eq old) (entries_alone xs), (x.0, rest, yields_last it rest xs x gave, lacking))
+    inserts_alone it old new (Ok a) put = record { items = alone put.items; entries = put.entries ∙ ap (insert_all eq old) (entries_alone put.items); ended = drains_alone it put.items put.ended }
+    inserts_alone it old new (Err e) put = record {
+      items = alone put.items;
+      entries = put.entries ∙ ap (insert_all eq old) (entries_alone put.items);
+      ended = record { next = put.ended.next.0; rest = put.ended.rest; gave = yields_last it put.ended.rest put.items put.ended.next put.ended.gave; absent = put.ended.absent };
+    }
 
     pub collects_alone : {U : Type 0} (becomes : U → S → Type 0) (remaining : S → Count) (iter : U) (it : S) (set : Set T)
         → becomes iter it → Collects eq beside (StepsBeside steps) (λ s t. t ≡ s) remaining it set → Collects eq entry steps becomes remaining iter set
-    collects_alone becomes remaining iter it set made (it', first, xs, is, within, drains, put, room, capacity, indexed) =
-        (it', first, alone xs, subst (becomes iter) (sym is) made, within, drains_alone it' xs drains, put ∙ ap (insert_all eq []) (entries_alone xs), room, capacity, indexed)
+    collects_alone becomes remaining iter it set made put = record {
+      it = put.it;
+      made = subst (becomes iter) (sym put.made) made;
+      first = put.first;
+      bounded = put.bounded;
+      items = alone put.items;
+      drained = drains_alone put.it put.items put.drained;
+      entries = put.entries ∙ ap (insert_all eq []) (entries_alone put.items);
+      room = put.room;
+      capacity = put.capacity;
+      indexed = put.indexed;
+    }
 
     pub extends_alone : {U E : Type 0} (becomes : U → S → Type 0) (iter : U) (it : S) (old new : Elements T) (r : Result (Unit {0}) E)
         → becomes iter it → Extends eq beside (StepsBeside steps) (λ s t. t ≡ s) it old new r → Extends eq entry steps becomes iter old new r
-    extends_alone becomes iter it old new r made (it', is, inserts) = (it', subst (becomes iter) (sym is) made, inserts_alone it' old new r inserts)
+    extends_alone becomes iter it old new r made put = record { it = put.it; made = subst (becomes iter) (sym put.made) made; inserts = inserts_alone put.it old new r put.inserts }

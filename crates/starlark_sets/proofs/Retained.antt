@@ -1,7 +1,7 @@
 -- What one closure's calls retain of a list is what another's retain, of which each of them is a call.
 use Rattle.std.proofs.Common.{Bool, List, [], ◌∷◌, ap}
 use Rattle.std.specs.List.{FoldsTo}
-use Rattle.starlark_vec2.specs.Retain.{Retains, TakesInTurn, MayLeave}
+use Rattle.starlark_lists.specs.Retain.{Retains, TakesInTurn, MayLeave}
 
 module _ {F G X : Type 0} (calls : F → X → Bool → X → F → Type 0) (seen : G → X → Bool → X → G → Type 0) (st : F → G) where
   -- what calls may do, seen may do in the state that is inside

@@ -13,7 +13,7 @@ use denote.RattleType.{RattleType}
 use denote.Follow.{follows_so, such_by, follows_by}
 use Rattle.starlark_hash.specs.declared.hashed.Hashed.{Hashed}
 use Rattle.starlark_hash.specs.declared.no_room.NoRoom.{NoRoom}
-use Rattle.starlark_hash.specs.Entries.{entry_key}
+use Rattle.starlark_lists.specs.Entries.{entry_key}
 use Rattle.starlark_sets.specs.Lending.{IsShown}
 use Rattle.starlark_sets.specs.Set.{Set, Elements, Adds}
 

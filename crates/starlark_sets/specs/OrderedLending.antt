@@ -2,7 +2,7 @@
 use Rattle.std.specs.Prelude.{ℕ, Option}
 use Rattle.std.specs.Borrow.{Fml, RattleType, MutBor, GName, Lends, LendsIf, follows}
 use Rattle.std.specs.declared.cmp.PartialEq as eq
-use Rattle.starlark_hash.specs.Entries.{with_value}
+use Rattle.starlark_lists.specs.Entries.{with_value}
 use Rattle.starlark_vecmap.specs.EntryList.{with_values}
 use Rattle.starlark_small.specs.Map.{Map}
 use Rattle.starlark_small.specs.MapEntry.{map_of_entry}

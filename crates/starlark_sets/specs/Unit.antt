@@ -8,9 +8,9 @@ use Rattle.std.specs.declared.cmp.Ordering.{Ordering}
 use Rattle.std.specs.declared.cmp.Ordering.TheVariants.{Equal}
 use Rattle.starlark_hash.specs.declared.hashed.Hashed.{Hashed}
 use Rattle.starlark_hash.specs.HashValue.{hashed, hash_of, key_of}
-use Rattle.starlark_hash.specs.Entries.{Entry}
-use Rattle.starlark_vecmap.specs.Clone.{IsEntryClone}
-use Rattle.starlark_vecmap.specs.Ordered.{ordered_feed}
+use Rattle.starlark_lists.specs.Entries.{Entry}
+use Rattle.starlark_lists.specs.Clone.{IsEntryClone}
+use Rattle.starlark_lists.specs.Ordered.{ordered_feed}
 
 -- both are equal, and neither is less
 abbrev pub same_unit : Unit {0} → Unit {0} → Bool

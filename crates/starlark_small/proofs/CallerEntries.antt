@@ -12,9 +12,9 @@ use Rattle.starlark_hash.specs.declared.hashed.Hashed.{Hashed}
 use Rattle.starlark_hash.specs.declared.hash_value.StarlarkHashValue.{StarlarkHashValue}
 use Rattle.starlark_hash.specs.Hasher.{own_hash}
 use Rattle.starlark_hash.specs.HashValue.{hashed, hash_number, hash_of, key_of}
-use Rattle.starlark_hash.specs.Entries.{Entry, IsSingle, entry_key, set_value_at, match_of, insert_entry, value_at, with_value, without, position_of}
-use Rattle.starlark_hash.proofs.PositionLemmas.{position-cons, position-within}
-use Rattle.starlark_hash.proofs.EntryLemmas.{length-set_value_at}
+use Rattle.starlark_lists.specs.Entries.{Entry, IsSingle, entry_key, set_value_at, match_of, insert_entry, value_at, with_value, without, position_of}
+use Rattle.starlark_lists.proofs.PositionLemmas.{position-cons, position-within}
+use Rattle.starlark_lists.proofs.EntryLemmas.{length-set_value_at}
 use Rattle.starlark_small.proofs.CallerPositions.{later, not_first, here, pushed_first, pushed_other, none_among}
 use Rattle.starlark_small.proofs.CallerKeys.{alike, place-set_value_at, written_here, written_there, removed_there, pushed_there, pushed_here, both, and_false, under, apart, same_key, keys-set_value_at}
 

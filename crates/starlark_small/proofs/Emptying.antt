@@ -8,13 +8,13 @@ use Rattle.std.proofs.Math.ListN.{drop_of_length-le}
 use Rattle.std.proofs.lemmas.Bool.{false≢true}
 use Rattle.std.proofs.lemmas.List.Sorted.{IsPermutation-refl, IsPermutation-sym, IsPermutation-trans, IsPermutation-map, Contains-permutation, length_permutation}
 use Rattle.starlark_hash.specs.HashValue.{promoted}
-use Rattle.starlark_hash.specs.Entries.{Entry}
-use Rattle.starlark_hash.specs.Search.{Searches}
-use Rattle.starlark_hash.proofs.SearchLemmas.{IsTest, test-accepted, test-refused}
+use Rattle.starlark_lists.specs.Entries.{Entry}
+use Rattle.starlark_lists.specs.Search.{Searches}
+use Rattle.starlark_lists.proofs.SearchLemmas.{IsTest, test-accepted, test-refused}
 use Rattle.starlark_table.specs.Table.{Table, members, member_at, items_under}
 use Rattle.starlark_table.proofs.PairBags.{IsPermutation-cancel}
 use Rattle.starlark_table.proofs.TableLemmas.{member_at-items_under}
-use Rattle.starlark_small.specs.Index.{hashes_in, positions, positions_from, IsIndexOf}
+use Rattle.starlark_small.specs.Index.{hashes_in, positions, positions_from, IsIndexOf, IsIndexed}
 use Rattle.starlark_small.proofs.Keeping.{item_there}
 use Rattle.starlark_small.proofs.Moving.{drop-more}
 
@@ -57,6 +57,10 @@ module _ {F : Type 0} (g : Mut F (Bor ℕ × Unit {0}) Bool) (f : F) (test : IsT
       false≢true (sym (test-refused g (λ x. true) f test (items_under hash table) answer last search none s.0 s.1))
 
 module _ {K V : Type 0} where
+  -- a list that has not moved since it was indexed
+  pub in_its_order : (es : List (Entry K V)) (index : Option (Table ℕ)) → IsIndexed es index → (before : List (Entry K V)) × IsIndexed before index × IsPermutation before es
+  in_its_order es index indexed = (es, indexed, IsPermutation-refl es)
+
   -- the promoted hashes of entries
   abbrev pub hashes_of : List (Entry K V) → List ℕ
   hashes_of es = map (λ e. promoted e.0.hash.0) es

@@ -6,10 +6,11 @@ use Rattle.std.specs.Iterator.{Yields}
 use Rattle.std.specs.Option.{option_map_or}
 use Rattle.std.proofs.lemmas.List.{length_push}
 use Rattle.starlark_hash.specs.declared.hashed.Hashed.{Hashed}
-use Rattle.starlark_hash.specs.Entries.{Entry, insert_entry, match_of, set_value_at}
-use Rattle.starlark_hash.proofs.EntryLemmas.{length-set_value_at}
+use Rattle.starlark_lists.specs.Entries.{Entry, insert_entry, match_of, set_value_at}
+use Rattle.starlark_lists.proofs.EntryLemmas.{length-set_value_at}
 use Rattle.starlark_small.specs.Collect.{insert_all}
 use Rattle.starlark_small.specs.Index.{unindexed}
+use Rattle.starlark_small.specs.Map.{Map, GrowsFor, KeepsRoom}
 
 -- one item more came
 pub yields_more : {S A : Type 0} (steps : S → Option A → S → Type 0) (s t u : S) (xs : List A) (x : A) → Yields steps s xs t → steps t (Some x) u → Yields steps s (xs ++ x ∷ []) u
@@ -23,7 +24,7 @@ module _ {K V : Type 0} (eq : K → K → Bool) where
   insert_all-push item es [] x = refl
   insert_all-push item es (y ∷ ys) x = insert_all-push item (insert_entry eq es (item y).0 (item y).1) ys x
 
-  pub insert_all_next : {A : Type 0} (item : A → Entry K V) (es : List (Entry K V)) (xs : List A) (x : A) (mid last : List (Entry K V)) → mid ≡ insert_all eq es (map item xs)
+  insert_all_next : {A : Type 0} (item : A → Entry K V) (es : List (Entry K V)) (xs : List A) (x : A) (mid last : List (Entry K V)) → mid ≡ insert_all eq es (map item xs)
       → last ≡ insert_entry eq mid (item x).0 (item x).1 → last ≡ insert_all eq es (map item (xs ++ x ∷ []))
   insert_all_next item es xs x mid last before put = put ∙ ap (λ l. insert_entry eq l (item x).0 (item x).1) before ∙ sym (insert_all-push item es xs x)
 
@@ -39,31 +40,27 @@ module _ {K V : Type 0} (eq : K → K → Bool) where
   pub length_insert_le : (es : List (Entry K V)) (key : Hashed K) (value : V) → length (insert_entry eq es key value) ≤ length es + 1
   length_insert_le es key value = length_or_more es key value (match_of eq es key)
 
-  pub length_inserted_le : (es last : List (Entry K V)) (key : Hashed K) (value : V) → last ≡ insert_entry eq es key value → length last ≤ length es + 1
+  length_inserted_le : (es last : List (Entry K V)) (key : Hashed K) (value : V) → last ≡ insert_entry eq es key value → length last ≤ length es + 1
   length_inserted_le es last key value put = subst (λ l. length l ≤ length es + 1) (sym put) (length_insert_le es key value)
 
   -- no entry is lost
   length_le_insert : (es : List (Entry K V)) (key : Hashed K) (value : V) → length es ≤ length (insert_entry eq es key value)
   length_le_insert es key value = length_or es key value (match_of eq es key)
 
-  pub length_le_inserted : (es last : List (Entry K V)) (key : Hashed K) (value : V) → last ≡ insert_entry eq es key value → length es ≤ length last
+  length_le_inserted : (es last : List (Entry K V)) (key : Hashed K) (value : V) → last ≡ insert_entry eq es key value → length es ≤ length last
   length_le_inserted es last key value put = subst (λ l. length es ≤ length l) (sym put) (length_le_insert es key value)
 
 -- capacities that grow for one length, and then for one that is as great
-pub grows_on : (first mid last len len' : ℕ) → (first ≤ mid) × (mid ≤ max first (max 4 (2 * (len + 1)))) → (mid ≤ last) × (last ≤ max mid (max 4 (2 * (len + 1)))) → len ≤ len'
+grows_on : (first mid last len len' : ℕ) → (first ≤ mid) × (mid ≤ max first (max 4 (2 * (len + 1)))) → (mid ≤ last) × (last ≤ max mid (max 4 (2 * (len + 1)))) → len ≤ len'
     → (first ≤ last) × (last ≤ max first (max 4 (2 * (len' + 1))))
 grows_on first mid last len len' a b c = (omega (arith, a.0, b.0), omega (arith, a.1, b.1, c))
 
 -- where there is room for all items, there is room for each that comes
-pub room_for_next : (first seen mid spare room all left after : ℕ) → first + room ≤ mid + spare → mid ≤ first + seen → seen + left ≤ all → after < left → all ≤ room → 0 < spare
+room_for_next : (first seen mid spare room all left after : ℕ) → first + room ≤ mid + spare → mid ≤ first + seen → seen + left ≤ all → after < left → all ≤ room → 0 < spare
 room_for_next first seen mid spare room all left after a b c d e = omega arith
 
--- items that came one by one took no more room than there were of them, so that room for all is not used up before the last
-pub room_left : (first seen mid spare room all left after : ℕ) → first + room ≤ mid + spare → spare ≡ 0 → mid ≤ first + seen → seen + left ≤ all → after < left → all ≤ room → ⊥
-room_left first seen mid spare room all left after a b c d e f = omega arith
-
 -- an index that is made at one length is there at a greater one
-pub indexed_on : (first mid last : Bool) (len len' : ℕ) → mid ≡ (first || nat_lt unindexed len) → last ≡ (mid || nat_lt unindexed len') → len ≤ len' → last ≡ (first || nat_lt unindexed len')
+indexed_on : (first mid last : Bool) (len len' : ℕ) → mid ≡ (first || nat_lt unindexed len) → last ≡ (mid || nat_lt unindexed len') → len ≤ len' → last ≡ (first || nat_lt unindexed len')
 indexed_on true mid last len len' a b c = b ∙ ap (λ had. had || nat_lt unindexed len') a
 indexed_on false mid last len len' a b c = grind (arith, nat_tests)
 
@@ -71,3 +68,54 @@ indexed_on false mid last len len' a b c = grind (arith, nat_tests)
 pub long_is_indexed : {A : Type 0} (index : Option A) (had : Bool) (len : ℕ) → is_some index ≡ had → (unindexed < len → IsSome index) → had ≡ (had || nat_lt unindexed len)
 long_is_indexed (Some table) had len same long = subst (λ b. b ≡ (b || nat_lt unindexed len)) same refl
 long_is_indexed None had len same long = subst (λ b. b ≡ (b || nat_lt unindexed len)) same (grind (arith, nat_tests, long))
+
+-- a map once these items went in, of at most so many in all
+pub record IsFilled {K V A : Type 0} (eq : K → K → Bool) (item : A → Entry K V) (all : ℕ) (first : Map K V) (seen : List A) (now : Map K V) : Type 0 where
+  pub entries : now.entries ≡ insert_all eq first.entries (map item seen)
+  pub room : KeepsRoom first now
+  pub added : length now.entries ≤ length first.entries + length seen
+  pub capacity : GrowsFor (length now.entries + 1) first now
+  pub indexed : now.indexed ≡ (first.indexed || nat_lt unindexed (length now.entries))
+  pub spare : all ≤ first.room → (now.capacity ≡ first.capacity) × (now.indexed ≡ first.indexed)
+
+pub filled_none : {K V A : Type 0} {eq : K → K → Bool} {item : A → Entry K V} {all : ℕ} (first : Map K V) → first.indexed ≡ (first.indexed || nat_lt unindexed (length first.entries)) → IsFilled eq item all first [] first
+filled_none first had = record { entries = refl; room = omega arith; added = omega arith; capacity = (omega arith, omega arith); indexed = had; spare = λ _. (refl, refl) }
+
+-- a further item is tried
+module _ {K V A : Type 0} {eq : K → K → Bool} {item : A → Entry K V} {all : ℕ} {first : Map K V} {seen : List A} {mid : Map K V} (last : Map K V) (held : IsFilled eq item all first seen mid)
+    {left after : ℕ} (counted : length seen + left ≤ all) (fewer : after < left) (spare : 0 < mid.room → (last.capacity ≡ mid.capacity) × (last.indexed ≡ mid.indexed)) (room : KeepsRoom mid last)
+    (capacity : GrowsFor (length mid.entries + 1) mid last) (indexed : last.indexed ≡ (mid.indexed || nat_lt unindexed (length last.entries))) where
+  has_room : all ≤ first.room → 0 < mid.room
+  has_room fits = room_for_next (length first.entries) (length seen) (length mid.entries) mid.room first.room all left after held.room held.added counted fewer fits
+
+  on_spare : all ≤ first.room → (last.capacity ≡ first.capacity) × (last.indexed ≡ first.indexed)
+  on_spare fits = ((spare (has_room fits)).0 ∙ (held.spare fits).0, (spare (has_room fits)).1 ∙ (held.spare fits).1)
+
+  -- it went in
+  pub filled_more : (x : A) → last.entries ≡ insert_entry eq mid.entries (item x).0 (item x).1 → IsFilled eq item all first (seen ++ x ∷ []) last
+  filled_more x put =
+      let longer = length_le_inserted eq mid.entries last.entries (item x).0 (item x).1 put in
+      record {
+        entries = insert_all_next eq item first.entries seen x mid.entries last.entries held.entries put;
+        room = omega (arith, held.room, room);
+        added = omega (arith, length_inserted_le eq mid.entries last.entries (item x).0 (item x).1 put, held.added, length_push seen x);
+        capacity = grows_on first.capacity mid.capacity last.capacity (length mid.entries) (length last.entries) held.capacity capacity longer;
+        indexed = indexed_on first.indexed mid.indexed last.indexed (length mid.entries) (length last.entries) held.indexed indexed longer;
+        spare = on_spare;
+      }
+
+  -- it was refused: the room is used up, so there was not room for all
+  pub filled_still : last.entries ≡ mid.entries → mid.room ≡ 0 → IsFilled eq item all first seen last × (length first.entries + first.room ≤ length last.entries) × (all ≤ first.room → ⊥)
+  filled_still same full =
+      let as_long : length last.entries ≡ length mid.entries = ap length same in (
+        record {
+          entries = same ∙ held.entries;
+          room = omega (arith, held.room, room);
+          added = omega (arith, held.added, as_long);
+          capacity = grows_on first.capacity mid.capacity last.capacity (length mid.entries) (length last.entries) held.capacity capacity (omega (arith, as_long));
+          indexed = indexed_on first.indexed mid.indexed last.indexed (length mid.entries) (length last.entries) held.indexed indexed (omega (arith, as_long));
+          spare = on_spare;
+        },
+        omega (arith, held.room, full, as_long),
+        λ fits. omega (arith, has_room fits, full),
+      )

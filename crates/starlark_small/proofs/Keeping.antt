@@ -9,10 +9,10 @@ use Rattle.std.proofs.lemmas.Option.{get_or_from_slice_get, slice_get_within, no
 use Rattle.std.proofs.lemmas.List.Elements.{All-push, All-tail}
 use Rattle.std.proofs.lemmas.List.Sorted.{IsPermutation-sym, IsPermutation-trans, IsPermutation-cons, IsPermutation-remove, IsPermutation-to_front, All-permutation, length_permutation}
 use Rattle.starlark_hash.specs.HashValue.{promoted}
-use Rattle.starlark_hash.specs.Entries.{Entry, set_value_at}
-use Rattle.starlark_hash.specs.Search.{Searches}
-use Rattle.starlark_hash.proofs.EntryLemmas.{length-set_value_at, set_value_at-key}
-use Rattle.starlark_hash.proofs.SearchLemmas.{IsTest, test-accepted, test-refused}
+use Rattle.starlark_lists.specs.Entries.{Entry, set_value_at}
+use Rattle.starlark_lists.specs.Search.{Searches}
+use Rattle.starlark_lists.proofs.EntryLemmas.{length-set_value_at, set_value_at-key}
+use Rattle.starlark_lists.proofs.SearchLemmas.{IsTest, test-accepted, test-refused}
 use Rattle.starlark_table.specs.Table.{Table, members, member_at, table_len, items_under}
 use Rattle.starlark_table.proofs.PairBags.{IsPermutation-cancel}
 use Rattle.starlark_table.proofs.TableLemmas.{items-items_under, member_at-items_under}

@@ -10,7 +10,7 @@ use Rattle.std.proofs.lemmas.Bool.Decides.{nat_tests}
 use Rattle.std.proofs.lemmas.List.Sorted.{IsPermutation-sym, IsPermutation-trans, IsPermutation-cons, IsPermutation-map, IsPermutation-middle}
 use Rattle.std.proofs.lemmas.Option.{slice_get_within, none-some, same_Some}
 use Rattle.starlark_hash.specs.HashValue.{promoted}
-use Rattle.starlark_hash.specs.Entries.{Entry}
+use Rattle.starlark_lists.specs.Entries.{Entry}
 use Rattle.starlark_table.specs.Table.{Table, filled, members}
 use Rattle.starlark_table.specs.Walk.{ReplacesEach}
 use Rattle.starlark_table.proofs.PairBags.{IsPermutation-cancel}

@@ -8,8 +8,8 @@ use Rattle.std.proofs.lemmas.Option.{get_or_from_slice_get, slice_get_within, no
 use Rattle.std.proofs.lemmas.List.Sorted.{IsPermutation-sym, IsPermutation-map, Contains-permutation}
 use Rattle.starlark_hash.specs.HashValue.{promoted}
 use Rattle.starlark_hash.proofs.Promote.{promoted-injective}
-use Rattle.starlark_hash.specs.Entries.{Entry, entry_key, is_under}
-use Rattle.starlark_hash.specs.Search.{keys_under}
+use Rattle.starlark_lists.specs.Entries.{Entry, entry_key, is_under}
+use Rattle.starlark_lists.specs.Search.{keys_under}
 use Rattle.starlark_hash.specs.declared.hash_value.StarlarkHashValue.{StarlarkHashValue}
 use Rattle.starlark_table.specs.Table.{Table, members, items_under}
 use Rattle.starlark_table.proofs.PairBags.{IsPermutation-filter}

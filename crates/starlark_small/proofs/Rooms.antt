@@ -1,47 +1,23 @@
 -- How much room a list and its index have after each change.
-use Rattle.std.proofs.Common.{◌≡◌, ℕ, Bool, ◌+◌, ◌-◌, ◌≤◌, List, Option, Some, None, arith, min, length, refl, sym, ap, subst}
-use Rattle.std.specs.Prelude.{◌||◌, is_some, nat_lt}
-use Rattle.std.proofs.lemmas.Bool.Decides.{nat_tests}
-use Rattle.starlark_hash.specs.Entries.{Entry, set_value_at}
-use Rattle.starlark_hash.proofs.EntryLemmas.{length-set_value_at, IsSingle-set_value_at}
-use Rattle.starlark_small.specs.Index.{IsIndexed, IsSound, index_room, map_of, unindexed}
+use Rattle.std.proofs.Common.{◌≡◌, ℕ, Bool, ◌+◌, ◌-◌, ◌≤◌, List, Option, arith, min, length, sym, ap, subst}
+use Rattle.std.specs.Prelude.{is_some}
+use Rattle.starlark_lists.specs.Entries.{Entry, set_value_at}
+use Rattle.starlark_lists.proofs.EntryLemmas.{length-set_value_at, IsSingle-set_value_at}
+use Rattle.starlark_small.specs.Index.{IsSound, index_room, map_of}
 use Rattle.starlark_small.specs.Map.{Map, KeepsMemory}
 use Rattle.starlark_small.proofs.Keeping.{IsIndexed-set_value_at}
 use Rattle.starlark_table.specs.Table.{Table}
 use Rattle.starlark_vecmap.specs.EntryList.{EntryList, with_entries}
 
--- an entry was taken out
-pub cut_room : (len after cap cap' room room' : ℕ) → after + 1 ≡ len → cap' ≡ cap → 1 + room ≤ room' → len ≤ cap
-    → len + min (cap - len) room ≤ after + min (cap' - after) room'
-cut_room len after cap cap' room room' a b c d = omega arith
-
--- some were, or all
-pub kept_room : (len len' cap cap' room room' : ℕ) → len' ≤ len → cap' ≡ cap → len + room ≤ len' + room' → len ≤ cap → len + min (cap - len) room ≤ len' + min (cap' - len') room'
-kept_room len len' cap cap' room room' a b c d = omega arith
-
--- none was
+-- entries were put into another order
 turn_room : (len len' cap cap' room room' : ℕ) → len' ≡ len → cap' ≡ cap → len + room ≤ len' + room' → len + min (cap - len) room ≤ len' + min (cap' - len') room'
 turn_room len len' cap cap' room room' a b c = omega arith
 
-room_at : (len len' capacity : ℕ) (index : Option (Table ℕ)) → len' ≡ len → len + min (capacity - len) (index_room len index) ≤ len' + min (capacity - len') (index_room len' index)
-room_at len len' capacity index same = subst (λ n. len + min (capacity - len) (index_room len index) ≤ n + min (capacity - n) (index_room n index)) (sym same) (omega arith)
-
 module _ {K V : Type 0} where
-  -- a list without an index is too short to need one, so as long a list needs none
-  pub index_stays : (es : List (Entry K V)) (index : Option (Table ℕ)) (len : ℕ) → IsIndexed es index → len ≡ length es → is_some index ≡ (is_some index || nat_lt unindexed len)
-  index_stays es None len short same = grind (arith, nat_tests)
-  index_stays es (Some table) len holds same = refl
-
   -- a value was written
   pub IsSound-set_value_at : (eq : K → K → Bool) (es : List (Entry K V)) (i : ℕ) (value : V) (index : Option (Table ℕ)) → IsSound eq es index → IsSound eq (set_value_at es i value) index
   IsSound-set_value_at eq es i value index sound =
       record { single = IsSingle-set_value_at eq es sound.single i value; indexed = IsIndexed-set_value_at es i value index sound.indexed }
-
-  pub KeepsMemory-set_value_at : (old new : EntryList K V) (i : ℕ) (value : V) (index : Option (Table ℕ)) → new ≡ with_entries old (set_value_at old.entries i value)
-      → KeepsMemory (map_of old index) (map_of new index)
-  KeepsMemory-set_value_at old new i value index is =
-      subst (λ l. KeepsMemory (map_of old index) (map_of l index)) (sym is)
-      (room_at (length old.entries) (length (set_value_at old.entries i value)) old.capacity index (length-set_value_at old.entries i value), refl, refl)
 
   -- a map of these entries, with the room of so many
   abbrev map_at : List (Entry K V) → ℕ → ℕ → Option (Table ℕ) → Map K V
@@ -52,15 +28,6 @@ module _ {K V : Type 0} where
   map_of-set_value_at old new i value index is =
       subst (λ l. map_of l index ≡ record (map_of old index) { entries = l.entries }) (sym is)
       (ap (λ n. map_at (set_value_at old.entries i value) n old.capacity index) (length-set_value_at old.entries i value))
-
-  -- entries were taken out, and the index has the room of their places
-  pub KeepsMemory-fewer : (old new : EntryList K V) (index after : Option (Table ℕ)) → length new.entries ≤ length old.entries → new.capacity ≡ old.capacity → length old.entries ≤ old.capacity
-      → length old.entries + index_room (length old.entries) index ≤ length new.entries + index_room (length new.entries) after → is_some after ≡ is_some index → KeepsMemory (map_of old index) (map_of new after)
-  KeepsMemory-fewer old new index after fewer capacity within room kept = (
-    kept_room (length old.entries) (length new.entries) old.capacity new.capacity (index_room (length old.entries) index) (index_room (length new.entries) after) fewer capacity room within,
-    capacity,
-    kept,
-  )
 
   -- the entries were put into another order
   pub KeepsMemory-turned : (old new : EntryList K V) (index after : Option (Table ℕ)) → length new.entries ≡ length old.entries → new.capacity ≡ old.capacity

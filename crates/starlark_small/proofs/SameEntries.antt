@@ -3,15 +3,15 @@ use Rattle.std.proofs.Common.{◌≡◌, ℕ, suc, ◌<◌, Bool, true, false, L
 use Rattle.std.specs.Prelude.{slice_get}
 use Rattle.std.specs.List.{AllByRecursion, IsDistinct}
 use Rattle.std.specs.Option.{option_eq}
-use Rattle.std.proofs.lemmas.Bool.{eqb-true, false≢true}
+use Rattle.std.proofs.lemmas.Bool.{false≢true}
 use Rattle.core.specs.Cmp.{IsEquivalence}
 use Rattle.std_collections.specs.Map.{keys_of, lookup}
 use Rattle.std_collections.specs.HashMap.Eq.{get_from_hash_map_eq}
 use Rattle.std_collections.proofs.HashMapEq.{key_at, own_value, equal_by_keys}
 use Rattle.starlark_hash.specs.declared.hashed.Hashed.{Hashed}
-use Rattle.starlark_hash.specs.Entries.{Entry, IsSingle, value_at, match_of, stands_under}
+use Rattle.starlark_lists.specs.Entries.{Entry, IsSingle, value_at, match_of, stands_under}
 use Rattle.starlark_small.specs.Compare.{agree_at, same_entries}
-use Rattle.starlark_small.specs.EqualityLaws.{alike, alike-laws, value_at-lookup, as_map, as_maps, as_long, both}
+use Rattle.starlark_small.specs.EqualityLaws.{alike, alike-laws, value_at-lookup, as_map, as_maps, both}
 
 -- what cannot be true is false
 refuted : (b : Bool) → (b ≡ true → ⊥) → false ≡ b
@@ -48,9 +48,6 @@ module _ {K V : Type 0} (eq : K → K → Bool) (E : V → V → Bool) where
   pub agree-found : IsEquivalence eq → (ds es : List (Entry K V)) (i : ℕ) (e : Entry K V) → slice_get ds i ≡ Some e → IsSingle eq ds → i < length ds → (found : Option V) (agree answer : Bool)
       → found ≡ value_at es (match_of eq es e.0) → agree ≡ option_eq E (Some e.1) found → agree ≡ answer → agree_at eq E ds es e.0 ≡ answer
   agree-found o ds es i e at single below found agree answer theirs is answers = (λ j. option_eq E (own_match eq o ds i e at single below j) (sym theirs j)) ∙ sym is ∙ answers
-
-  pub unequal_len : (ds es : List (Entry K V)) → (length ds ≡ length es → ⊥) → false ≡ same_entries eq E ds es
-  unequal_len ds es differ = refuted (same_entries eq E ds es) (λ same. differ (eqb-true (length ds) (length es) (as_long eq E ds es same)))
 
   pub unequal_at : IsEquivalence eq → (ds es : List (Entry K V)) (q : Hashed K) → agree_at eq E ds es q ≡ false → false ≡ same_entries eq E ds es
   unequal_at o ds es q differ =

@@ -9,8 +9,8 @@ use Rattle.std.proofs.lemmas.List.Elements.{Contains-append_left, Contains-appen
 use Rattle.std.proofs.lemmas.List.Sorted.{IsPermutation-refl, IsPermutation-sym, IsPermutation-trans, IsPermutation-map, Contains-permutation}
 use Rattle.std.proofs.lemmas.Option.{get_or_from_slice_get, slice_get_within, none-some, same_Some}
 use Rattle.starlark_hash.specs.HashValue.{promoted}
-use Rattle.starlark_hash.specs.Entries.{Entry, entry_key}
-use Rattle.starlark_hash.specs.Search.{Asks, Searches, Refuses, CanSearch, keys_under}
+use Rattle.starlark_lists.specs.Entries.{Entry, entry_key}
+use Rattle.starlark_lists.specs.Search.{Asks, Searches, Refuses, CanSearch, keys_under}
 use Rattle.starlark_hash.specs.declared.hash_value.StarlarkHashValue.{StarlarkHashValue}
 use Rattle.starlark_table.specs.Table.{Table, member_at, items_under}
 use Rattle.starlark_table.proofs.TableLemmas.{member_at-items_under, members-member_at}

@@ -2,11 +2,11 @@
 use Rattle.std.proofs.Common.{zero, suc, eqb, get_or, ◌≡◌, ℕ, ◌+◌, ◌<◌, ◌^◌, Bool, List, [], ◌∷◌, length, Option, Some, None, refl, sym, ap, subst, ◌∙◌, arith, IsPermutation}
 use Rattle.std.specs.Prelude.{◌&&◌}
 use Rattle.starlark_hash.specs.declared.hashed.Hashed.{Hashed}
-use Rattle.starlark_hash.specs.Entries.{Entry, IsSingle}
+use Rattle.starlark_lists.specs.Entries.{Entry, IsSingle}
 use Rattle.starlark_hash.specs.HashValue.{promoted}
 use Rattle.starlark_table.specs.Table.{Table, members}
 use Rattle.starlark_vecmap.specs.EntryList.{with_values}
-use Rattle.starlark_vecmap.proofs.Written.{length-with_values}
+use Rattle.starlark_vecmap.proofs.ValuesWritten.{length-with_values}
 use Rattle.starlark_small.specs.Index.{IsIndexOf, IsIndexed, IsSound, positions_from}
 
 -- whether two keys are alike under their hashes

@@ -1,7 +1,7 @@
 -- What a caller of a `SmallMap` says of it, under keys' own hashes.
 use Rattle.std.specs.Prelude.{◌≡◌, Bool, false, List, Option, map}
 use Rattle.std.specs.Hash.{HashWrites}
-use Rattle.starlark_hash.specs.Entries.{entry_key, value_at}
+use Rattle.starlark_lists.specs.Entries.{entry_key, value_at}
 use Rattle.starlark_small.specs.Map.{Map, own_match}
 
 -- the keys in order

@@ -3,7 +3,7 @@ use Rattle.std.specs.Prelude.{◌≡◌, ◌≤◌, ◌+◌, ◌*◌, ℕ, max, 
 use Rattle.std.specs.Hash.{HashWrites}
 use Rattle.std.specs.Iterator.{Count, Drains, Yields}
 use Rattle.std.specs.Iterator.SizeHint.{IsWithinCount}
-use Rattle.starlark_hash.specs.Entries.{Entry, insert_entry, match_of}
+use Rattle.starlark_lists.specs.Entries.{Entry, insert_entry, match_of}
 use Rattle.starlark_small.specs.Index.{unindexed}
 use Rattle.starlark_small.specs.Map.{Map, own_hashed}
 
@@ -18,20 +18,36 @@ module _ {K V : Type 0} (eq : K → K → Bool) where
   insert_all es (x ∷ xs) = insert_all (insert_entry eq es x.0 x.1) xs
 
   module _ {T A : Type 0} (item : A → Entry K V) (steps : T → Option A → T → Type 0) where
+    -- after these items the iterator gave one that has no match in the list
+    pub record StopsAt (it : T) (items : List A) (es : List (Entry K V)) : Type 0 where
+      pub next : A
+      pub rest : T
+      pub gave : Yields steps it (items ++ next ∷ []) rest
+      pub absent : match_of eq es (item next).0 ≡ None
+
     -- the iterator's items were inserted: all of them, or, after a refusal, those before an item that has no match
-    abbrev pub Inserts : {E : Type 0} → T → List (Entry K V) → List (Entry K V) → Result (Unit {0}) E → Type 0
-    Inserts it old new r = (xs : List A) × (new ≡ insert_all old (map item xs))
-        × MatchResult r (λ _. Drains steps it xs) (λ _. (x : A) × (rest : T) × Yields steps it (xs ++ x ∷ []) rest × (match_of eq new (item x).0 ≡ None))
+    pub record Inserts {E : Type 0} (it : T) (old new : List (Entry K V)) (r : Result (Unit {0}) E) : Type 0 where
+      pub items : List A
+      pub entries : new ≡ insert_all old (map item items)
+      pub ended : MatchResult r (λ _. Drains steps it items) (λ _. StopsAt it items new)
 
     -- the same of what an iterator is made of
-    abbrev pub Extends : {U E : Type 0} → (U → T → Type 0) → U → List (Entry K V) → List (Entry K V) → Result (Unit {0}) E → Type 0
-    Extends becomes iter old new r = (it : T) × becomes iter it × Inserts it old new r
+    pub record Extends {U E : Type 0} (becomes : U → T → Type 0) (iter : U) (old new : List (Entry K V)) (r : Result (Unit {0}) E) : Type 0 where
+      pub it : T
+      pub made : becomes iter it
+      pub inserts : Inserts it old new r
 
     -- the map has the iterator's items, inserted into one that had room for a number of them within what it bounds; the
     -- capacity rose from that number at most to the larger of 4 and twice one more than the length, and there is an index
     -- if that number, or the length now, needs one
-    abbrev pub Collects : {U : Type 0} → (U → T → Type 0) → (T → Count) → U → Map K V → Type 0
-    Collects becomes remaining iter m = (it : T) × (first : ℕ) × (xs : List A) × becomes iter it × IsWithinCount first (remaining it)
-        × Drains steps it xs × (m.entries ≡ insert_all [] (map item xs)) × (first ≤ length m.entries + m.room)
-        × (m.capacity ≤ max first (max 4 (2 * (length m.entries + 1))))
-        × (m.indexed ≡ (nat_lt unindexed first || nat_lt unindexed (length m.entries)))
+    pub record Collects {U : Type 0} (becomes : U → T → Type 0) (remaining : T → Count) (iter : U) (m : Map K V) : Type 0 where
+      pub it : T
+      pub made : becomes iter it
+      pub first : ℕ
+      pub bounded : IsWithinCount first (remaining it)
+      pub items : List A
+      pub drained : Drains steps it items
+      pub entries : m.entries ≡ insert_all [] (map item items)
+      pub room : first ≤ length m.entries + m.room
+      pub capacity : m.capacity ≤ max first (max 4 (2 * (length m.entries + 1)))
+      pub indexed : m.indexed ≡ (nat_lt unindexed first || nat_lt unindexed (length m.entries))

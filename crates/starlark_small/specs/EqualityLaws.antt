@@ -1,35 +1,26 @@
 -- Why lists of entries that have the same entries are equal in the sense of `==`: it is symmetric, transitive and, where the values' is, reflexive.
-use Rattle.std.proofs.Common.{◌≡◌, ℕ, suc, Bool, true, false, cond, ◌&&◌, List, [], ◌∷◌, length, Option, Some, None, refl, sym, ap, ◌∙◌, nat_eq}
+use Rattle.std.proofs.Common.{◌≡◌, ℕ, suc, Bool, true, false, cond, ◌&&◌, List, [], ◌∷◌, length, Option, Some, None, refl, sym, ap, subst, ◌∙◌, nat_eq}
 use Rattle.std.specs.List.{list_all}
 use Rattle.std.specs.Option.{option_eq, option_map}
-use Rattle.core.specs.Cmp.{IsEquivalence, IsPartialEquivalence, equiv, partial_equiv_from_equiv, nat_eq_equiv, first_so, second_so}
+use Rattle.core.specs.Cmp.{IsEquivalence, IsPartialEquivalence, equiv, partial_equiv_from_equiv, nat_eq_equiv, and_equiv, and_per, back_equiv, on_equiv, on_per, first_so, second_so}
 use Rattle.std_collections.specs.Layout.HashMap.{HashMap, hash_map}
 use Rattle.std_collections.specs.Map.{keys_of, lookup, lookup_entry}
 use Rattle.std_collections.specs.HashMap.{entries_eq, hash_map_eq}
 use Rattle.std_collections.specs.HashMap.Eq.{hash_map_eq_symm, hash_map_eq_trans, hash_map_eq_refl}
 use Rattle.starlark_hash.specs.declared.hashed.Hashed.{Hashed}
-use Rattle.starlark_hash.specs.Entries.{Entry, entry_at, value_at, match_of, stands_under}
-use Rattle.starlark_hash.proofs.PositionLemmas.{position-cons}
+use Rattle.starlark_hash.specs.HashValue.{hash_number, hash_of, key_of}
+use Rattle.starlark_lists.specs.Entries.{Entry, entry_at, value_at, match_of, stands_under}
+use Rattle.starlark_lists.proofs.PositionLemmas.{position-cons}
 use Rattle.starlark_small.specs.Compare.{agree_at, same_entries}
 use Rattle.starlark_small.specs.Map.{Map}
 
 module _ {K : Type 0} (eq : K → K → Bool) where
   -- whether two keys are alike under their hashes
   abbrev pub alike : Hashed K → Hashed K → Bool
-  alike q x = nat_eq x.hash.0 q.hash.0 && eq q.key x.key
+  alike q x = nat_eq (hash_number (hash_of x)) (hash_number (hash_of q)) && eq (key_of q) (key_of x)
 
   pub alike-laws : IsEquivalence eq → IsEquivalence alike
-  alike-laws o =
-      let n = nat_eq_equiv in
-      record {
-        refl = λ q i. n.refl q.hash.0 i && o.refl q.key i;
-        symm = λ q x i. n.symm x.hash.0 q.hash.0 i && o.symm q.key x.key i;
-        congr = λ q x z t.
-            let there : nat_eq x.hash.0 q.hash.0 ≡ true = first_so (nat_eq x.hash.0 q.hash.0) (eq q.key x.key) t in
-            let hashes : nat_eq z.hash.0 q.hash.0 ≡ nat_eq z.hash.0 x.hash.0 =
-            n.symm z.hash.0 q.hash.0 ∙ n.congr q.hash.0 x.hash.0 z.hash.0 (n.symm q.hash.0 x.hash.0 ∙ there) ∙ n.symm x.hash.0 z.hash.0 in
-            λ i. hashes i && o.congr q.key x.key z.key (second_so (nat_eq x.hash.0 q.hash.0) (eq q.key x.key) t) i;
-      }
+  alike-laws o = and_equiv (back_equiv (on_equiv (λ h. hash_number (hash_of h)) nat_eq_equiv)) (on_equiv key_of o)
 
 module _ {K V : Type 0} (eq : K → K → Bool) where
   entry_later : (e : Entry K V) (es : List (Entry K V)) (place : Option ℕ) → entry_at (e ∷ es) (option_map suc place) ≡ entry_at es place
@@ -41,7 +32,7 @@ module _ {K V : Type 0} (eq : K → K → Bool) where
   entry_at-lookup [] q = refl
   entry_at-lookup (e ∷ es) q =
       let later = match_of eq es q in
-      ap (entry_at (e ∷ es)) (position-cons (stands_under q.hash (eq q.key)) e es)
+      ap (entry_at (e ∷ es)) (position-cons (stands_under (hash_of q) (eq (key_of q))) e es)
       ∙ elim (alike eq q e.0) as (λ b. entry_at (e ∷ es) (cond b (Some 0) (option_map suc later)) ≡ cond b (Some e) (lookup_entry (alike eq q) es)) [
         | true ↦ refl
         | false ↦ entry_later e es later ∙ entry_at-lookup es q
@@ -96,16 +87,10 @@ module _ {K V : Type 0} (eq : K → K → Bool) (E : V → V → Bool) where
   both ds es long same = same_entries-maps ds es ∙ (λ i. long i && same i)
 
   pub same_entries_laws : IsEquivalence eq → IsPartialEquivalence E → IsPartialEquivalence {K = Map K V} (λ m n. same_entries eq E m.entries n.entries)
-  same_entries_laws o e = record {
-    symm = λ l m.
-        same_entries-maps l.entries m.entries
-        ∙ (λ i. nat_eq_equiv.symm (length l.entries) (length m.entries) i && hash_map_eq_symm (alike eq) E e.symm (as_map l.entries) (as_map m.entries) i)
-        ∙ sym (same_entries-maps m.entries l.entries);
-    trans = λ l m n a b.
-        both l.entries n.entries
-        (nat_eq_equiv.congr (length l.entries) (length m.entries) (length n.entries) (as_long l.entries m.entries a) ∙ as_long m.entries n.entries b)
-        (hash_map_eq_trans (alike eq) E (alike-laws eq o) e.trans (as_map l.entries) (as_map m.entries) (as_map n.entries) (as_maps l.entries m.entries a) (as_maps m.entries n.entries b));
-  }
+  same_entries_laws o e =
+      subst IsPartialEquivalence (λ i m n. sym (same_entries-maps m.entries n.entries) i)
+      (and_per (on_per (λ m. length m.entries) (partial_equiv_from_equiv nat_eq_equiv))
+      (on_per (λ m. as_map m.entries) (record { symm = hash_map_eq_symm (alike eq) E e.symm; trans = hash_map_eq_trans (alike eq) E (alike-laws eq o) e.trans })))
 
   pub same_entries_equivalence : IsEquivalence eq → IsEquivalence E → IsEquivalence {K = Map K V} (λ m n. same_entries eq E m.entries n.entries)
   same_entries_equivalence o e =

@@ -1,7 +1,7 @@
 -- What an index of a list of entries holds, and what list and index make up together.
 use Rattle.std.specs.Prelude.{ℕ, ◌-◌, ◌≤◌, ◌<◌, ◌^◌, ◌++◌, min, nat_le, if◌then◌else◌, List, map, length, take, drop, remove, Option, Some, None, Bool, is_some, IsPermutation}
 use Rattle.std.specs.List.{enumerate_from, All}
-use Rattle.starlark_hash.specs.Entries.{Entry, IsSingle, entry_hash}
+use Rattle.starlark_lists.specs.Entries.{Entry, IsSingle, entry_hash}
 use Rattle.starlark_hash.specs.HashValue.{hash_number, promoted}
 use Rattle.starlark_small.specs.Map.{Map}
 use Rattle.starlark_table.specs.Table.{Table, members}

@@ -3,7 +3,7 @@ use Rattle.std.specs.Prelude.{ℕ, Option, Result, OnOk, OnErr}
 use Rattle.std.specs.Borrow.{Fml, RattleType, Bor, MutBor, GName, Lends, LendsIf, follows, follows_so, name_if_ok}
 use Rattle.std.specs.declared.cmp.PartialEq as eq
 use Rattle.starlark_hash.specs.declared.hashed.Hashed.{Hashed}
-use Rattle.starlark_hash.specs.Entries.{set_value_at, with_value}
+use Rattle.starlark_lists.specs.Entries.{set_value_at, with_value}
 use Rattle.starlark_vecmap.specs.EntryList.{with_values}
 use Rattle.starlark_small.specs.Insertion.{IsInserted, IsRefused}
 use Rattle.starlark_small.specs.Map.{Map}

@@ -1,7 +1,7 @@
 -- What the contracts of a map's `Entry` cite.
 pub use Rattle.starlark_small.specs.declared.entry.Entry.TheVariants.{Occupied, Vacant}
 use Rattle.std.proofs.Common.{subst, sym}
-use Rattle.std.specs.Prelude.{◌≡◌, ◌<◌, Bool, Option, Some, None, Result, MatchResult, OnOk, OnErr, [], length, slice_get, ⊤}
+use Rattle.std.specs.Prelude.{◌≡◌, ℕ, ◌<◌, Bool, Option, Some, None, Result, MatchResult, OnOk, OnErr, [], length, slice_get, ⊤}
 use Rattle.std.specs.Borrow.{Fml, RattleType, MutBor, follows, follows_so, name_if_ok}
 use Rattle.std.specs.Fn.{Once, FnOnceTakesAtMut, FnOnceReturnsAtMut}
 use Rattle.std.specs.Option.{option_map}
@@ -9,9 +9,9 @@ use Rattle.std.specs.declared.cmp.PartialEq as eq
 use mir.Syntax.{named}
 use Rattle.starlark_hash.specs.declared.hashed.Hashed.{Hashed}
 use Rattle.starlark_hash.specs.declared.no_room.NoRoom.{NoRoom}
-use Rattle.starlark_hash.specs.Entries.{entry_key, entry_value, match_of, set_value_at}
+use Rattle.starlark_lists.specs.Entries.{entry_key, entry_value, match_of, set_value_at}
 use Rattle.starlark_hash.specs.HashValue.{key_of}
-use Rattle.starlark_hash.proofs.EntryLemmas.{length-set_value_at}
+use Rattle.starlark_lists.proofs.EntryLemmas.{length-set_value_at}
 use Rattle.starlark_small.specs.Insertion.{IsInserted, IsRefused}
 use Rattle.starlark_small.specs.Map.{Map}
 use Rattle.starlark_small.specs.contracts.entry.OccupiedEntry as occupied
@@ -21,33 +21,46 @@ use Rattle.starlark_small.specs.declared.entry.OccupiedEntry.{OccupiedEntry}
 use Rattle.starlark_small.specs.declared.entry.VacantEntry.{VacantEntry}
 
 module _ {K V : Type 0} {g : eq.Ghosts K} where
+  -- the reference to the map, and the place of the entry; the reference to the map, and the key that is lacking
+  abbrev pub occupied_map : OccupiedEntry K V g → MutBor (Map K V)
+  occupied_map o = o.map
+
+  abbrev pub occupied_place : OccupiedEntry K V g → ℕ
+  occupied_place o = o.index
+
+  abbrev pub vacant_map : VacantEntry K V g → MutBor (Map K V)
+  vacant_map v = v.map
+
+  abbrev pub lacking_key : VacantEntry K V g → Hashed K
+  lacking_key v = v.key
+
   -- the reference to the map
   abbrev pub map_of_entry : Entry K V g → MutBor (Map K V)
-  map_of_entry (Occupied o) = o.map
-  map_of_entry (Vacant v) = v.map
+  map_of_entry (Occupied o) = occupied_map o
+  map_of_entry (Vacant v) = vacant_map v
 
   -- the entry that m has under the key, or the lack of one
   abbrev pub IsEntryOf : (K → K → Bool) → Map K V → Hashed K → Entry K V g → Type 0
-  IsEntryOf eq m key (Occupied o) = (o.map.now ≡ m) × (match_of eq m.entries key ≡ Some o.index)
-  IsEntryOf eq m key (Vacant v) = (v.map.now ≡ m) × (match_of eq m.entries key ≡ None) × (v.key ≡ key)
+  IsEntryOf eq m key (Occupied o) = ((occupied_map o).now ≡ m) × (match_of eq m.entries key ≡ Some (occupied_place o))
+  IsEntryOf eq m key (Vacant v) = ((vacant_map v).now ≡ m) × (match_of eq m.entries key ≡ None) × (lacking_key v ≡ key)
 
   -- what stands at the entry's place
   abbrev pub stored : OccupiedEntry K V g → Option (Hashed K × V)
-  stored o = slice_get o.map.now.entries o.index
+  stored o = slice_get (occupied_map o).now.entries (occupied_place o)
 
   -- the key that is there, or the one that is lacking
   abbrev pub IsKeyOf : Entry K V g → K → Type 0
   IsKeyOf (Occupied o) key = option_map entry_key (stored o) ≡ Some key
-  IsKeyOf (Vacant v) key = key ≡ key_of v.key
+  IsKeyOf (Vacant v) key = key ≡ key_of (lacking_key v)
 
   -- the map, once this is the entry's value
   abbrev pub written : OccupiedEntry K V g → V → Map K V
-  written o value = record o.map.now { entries = set_value_at o.map.now.entries o.index value }
+  written o value = record (occupied_map o).now { entries = set_value_at (occupied_map o).now.entries (occupied_place o) value }
 
   -- what is there once this was put under the entry
   abbrev pub IsPut : Entry K V g → V → Map K V → Type 0
   IsPut (Occupied o) value m = m ≡ written o value
-  IsPut (Vacant v) value m = IsInserted v.map.now v.key value m
+  IsPut (Vacant v) value m = IsInserted (vacant_map v).now (lacking_key v) value m
 
   abbrev pub IsVacant : Entry K V g → Type 0
   IsVacant (Occupied o) = ⊥
@@ -56,14 +69,14 @@ module _ {K V : Type 0} {g : eq.Ghosts K} where
   -- r shows the value that is there, or one that may be given, and an `Err` hands the key back with one
   abbrev pub ShowsOrGives : (V → Type 0) → Entry K V g → Result (MutBor V) (NoRoom (Hashed K × V)) → Type 0
   ShowsOrGives gives (Occupied o) r = MatchResult r (λ p. option_map entry_value (stored o) ≡ Some p.now) (λ _. ⊥)
-  ShowsOrGives gives (Vacant v) r = MatchResult r (λ p. gives p.now) (λ back. (back.0.0 ≡ v.key) × gives back.0.1)
+  ShowsOrGives gives (Vacant v) r = MatchResult r (λ p. gives p.now) (λ back. (back.0.0 ≡ lacking_key v) × gives back.0.1)
 
-  pub still_within : (o : OccupiedEntry K V g) (value : V) → o.index < length (written o value).entries
-  still_within o value = subst (λ n. o.index < n) (sym (length-set_value_at o.map.now.entries o.index value)) o.within
+  pub still_within : (o : OccupiedEntry K V g) (value : V) → occupied_place o < length (written o value).entries
+  still_within o value = subst (λ n. occupied_place o < n) (sym (length-set_value_at (occupied_map o).now.entries (occupied_place o) value)) o.within
 
   -- the entry, once this is its value
   abbrev pub with_entry_value : OccupiedEntry K V g → V → OccupiedEntry K V g
-  with_entry_value o value = record { map = record o.map { now = written o value }; index = o.index; within = still_within o value }
+  with_entry_value o value = record { map = record (occupied_map o) { now = written o value }; index = occupied_place o; within = still_within o value }
 
 module _ {F K V : Type 0} {eqs : eq.Ghosts K} (g : Once F (MutBor V × Unit {0}) (⊤ × (MutBor V × Unit {0}))) (f : F) where
   -- f may be called at a `&mut` to the value that is there
@@ -87,7 +100,7 @@ module _ {F K V : Type 0} {eqs : eq.Ghosts K} (g : Once F (MutBor V × Unit {0})
 module _ (K V : RattleType) {g : eq.Ghosts K.Denot} where
   -- the map ends with the value that is left behind the reference
   abbrev pub occupied_lends : OccupiedEntry K.Denot V.Denot g → MutBor V.Denot → Fml
-  occupied_lends o r = follows (the_row K V g) V o.map.ghost_name r.ghost_name (written o)
+  occupied_lends o r = follows (the_row K V g) V (occupied_map o).ghost_name r.ghost_name (written o)
 
   -- the entry ends with the value that is left behind the reference
   abbrev pub occupied_keeps : MutBor (OccupiedEntry K.Denot V.Denot g) → MutBor V.Denot → Fml
@@ -95,7 +108,7 @@ module _ (K V : RattleType) {g : eq.Ghosts K.Denot} where
 
   -- the map has the new entry with the value that is left behind the reference; refused, it has the entries that it had
   abbrev pub vacant_lends : {E : Type 0} → VacantEntry K.Denot V.Denot g → Result (MutBor V.Denot) E → Fml
-  vacant_lends v r = follows_so (the_row K V g) V v.map.ghost_name (name_if_ok (λ p. p.ghost_name) r) (λ w n. OnOk r (IsInserted v.map.now v.key w n)) (λ n. OnErr r (IsRefused v.map.now n))
+  vacant_lends v r = follows_so (the_row K V g) V (vacant_map v).ghost_name (name_if_ok (λ p. p.ghost_name) r) (λ w n. OnOk r (IsInserted (vacant_map v).now (lacking_key v) w n)) (λ n. OnErr r (IsRefused (vacant_map v).now n))
 
   -- either of these
   abbrev pub entry_lends : {E : Type 0} → Entry K.Denot V.Denot g → Result (MutBor V.Denot) E → Fml

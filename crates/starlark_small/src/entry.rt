@@ -2,7 +2,7 @@
 ghost use Rattle.std.specs.Prelude.{◌≡◌, ◌<◌, length, Some, None, IfErr, IfOk, OnErr};
 ghost use Rattle.std.specs.Borrow.{sem};
 ghost use Rattle.std.specs.Option.{option_map};
-ghost use Rattle.starlark_hash.specs.Entries.{entry_key, entry_value, match_of, pair_of};
+ghost use Rattle.starlark_lists.specs.Entries.{entry_key, entry_value, match_of, pair_of};
 
 use crate::small_map::SmallMap;
 use starlark_hash::{Hashed, NoRoom};
@@ -32,9 +32,11 @@ pub struct VacantEntry<'a, K: Eq, V> {
 }
 
 impl<K: Eq, V> Drop for OccupiedEntry<'_, K, V> {
+    ghost use Rattle.starlark_small.specs.MapEntry.{occupied_map};
+
     // The map ends as the entry has left it.
     fn drop(self)
-        ensures { self.exit.0.now ≡ self.entry.map.now }
+        ensures { self.exit.0.now ≡ (occupied_map self.entry).now }
     {
         let OccupiedEntry {
             map: _map,
@@ -44,9 +46,11 @@ impl<K: Eq, V> Drop for OccupiedEntry<'_, K, V> {
 }
 
 impl<K: Eq + Drop, V> Drop for VacantEntry<'_, K, V> {
+    ghost use Rattle.starlark_small.specs.MapEntry.{vacant_map};
+
     // The map ends as it was.
     fn drop(self)
-        ensures { self.exit.0.now ≡ self.entry.map.now }
+        ensures { self.exit.0.now ≡ (vacant_map self.entry).now }
     {
         let VacantEntry {
             map: _map,
@@ -156,12 +160,12 @@ impl<'a, K: Eq, V> OccupiedEntry<'a, K, V> {
 
 impl<'a, K: Eq, V> VacantEntry<'a, K, V> {
     ghost use Rattle.starlark_hash.specs.HashValue.{key_of};
-    ghost use Rattle.starlark_small.specs.MapEntry.{vacant_lends};
+    ghost use Rattle.starlark_small.specs.MapEntry.{lacking_key, vacant_lends, vacant_map};
 
     /// The key that the map lacks.
     #[inline]
     pub fn key(&self) -> &K
-        ensures { result.now ≡ key_of self.now.key }
+        ensures { result.now ≡ key_of (lacking_key self.now) }
     {
         self.key.key()
     }
@@ -172,8 +176,8 @@ impl<'a, K: Eq, V> VacantEntry<'a, K, V> {
     pub fn insert(self, value: V) -> Result<&'a mut V, NoRoom<(Hashed<K>, V)>>
         ensures* writes_back { sem 𝓛 (vacant_lends K.row V.row self.entry result) }
         ensures value { IfOk result (λ p. p.now ≡ value) }
-        ensures full { OnErr result (self.entry.map.now.room ≡ 0) }
-        ensures handed_back { IfErr result (λ refused. refused.0 ≡ (self.entry.key, value)) }
+        ensures full { OnErr result ((vacant_map self.entry).now.room ≡ 0) }
+        ensures handed_back { IfErr result (λ refused. refused.0 ≡ (lacking_key self.entry, value)) }
     {
         let VacantEntry { map, key } = self;
         map.insert_new(key, value)

@@ -1,6 +1,6 @@
 //! `smallmap!`.
 ghost use Rattle.std.specs.Prelude.{◌≡◌, ◌+◌, ◌<◌, ◌||◌, length, nat_lt, IfOk, IsErr, IsOk, IsSome, MatchResult};
-ghost use Rattle.starlark_hash.specs.Entries.{insert_entry, match_of};
+ghost use Rattle.starlark_lists.specs.Entries.{insert_entry, match_of};
 ghost use Rattle.starlark_small.specs.Index.{unindexed};
 ghost use Rattle.starlark_small.specs.Map.{GrowsFor, KeepsRoom, own_hashed};
 

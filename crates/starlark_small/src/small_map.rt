@@ -6,6 +6,7 @@ mod collect;
 mod compare;
 mod copy;
 mod grow;
+mod order;
 mod read;
 mod retain;
 mod shrink;
@@ -13,7 +14,7 @@ mod unique;
 mod walk;
 mod write;
 
-use crate::indexed::with_room;
+use crate::indexed::UNINDEXED;
 use starlark_table::ReadyTable;
 use starlark_vecmap::VecMap;
 use std::alloc::{AllocError, Global};
@@ -63,7 +64,12 @@ impl<K: Eq, V> SmallMap<K, V> {
         ensures indexed { IfOk result (λ map. map.indexed ≡ nat_lt unindexed capacity) }
         ensures succeeds { capacity ≡ 0 → IsOk result }
     {
-        let (entries, index) = with_room(alloc, capacity)?;
+        let index = if capacity > UNINDEXED {
+            Some(ReadyTable::with_capacity(alloc, capacity)?)
+        } else {
+            None
+        };
+        let entries = VecMap::with_capacity(alloc, capacity)?;
         Ok(SmallMap {
             entries,
             index,

@@ -18,11 +18,11 @@ use Rattle.std.proofs.lemmas.List.{append_assoc, get_or_append_left, get_or-appe
 use Rattle.std.proofs.lemmas.List.Quantifiers.{all_pairs_push, all_pairs_remove}
 use Rattle.std.proofs.lemmas.List.Elements.{All-push}
 use Rattle.std.proofs.lemmas.List.Sorted.{ranks_by, sorted_far}
-use Rattle.starlark_hash.specs.Entries.{Entry, entry_hash, entry_key, match_of, set_value_at, stands_under}
+use Rattle.starlark_lists.specs.Entries.{Entry, entry_hash, entry_key, match_of, set_value_at, stands_under}
 use Rattle.starlark_hash.specs.Hasher.{own_hash}
 use Rattle.starlark_hash.specs.HashValue.{hash_number}
-use Rattle.starlark_hash.proofs.EntryLemmas.{length-set_value_at, set_value_at-key}
-use Rattle.starlark_hash.proofs.PositionLemmas.{position-None}
+use Rattle.starlark_lists.proofs.EntryLemmas.{length-set_value_at, set_value_at-key}
+use Rattle.starlark_lists.proofs.PositionLemmas.{position-None}
 use Rattle.starlark_small.specs.Collect.{insert_all}
 use Rattle.starlark_small.specs.Map.{own_hashed}
 use Rattle.starlark_sets.specs.Collect.{own_element}

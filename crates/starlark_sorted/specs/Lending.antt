@@ -3,7 +3,7 @@ use Rattle.std.specs.Prelude.{ℕ, Bool, Option}
 use Rattle.std.specs.Borrow.{Fml, RattleType, MutBor, GName, LendsIf, follows}
 use Rattle.std.specs.Hash.{HashWrites}
 use Rattle.std.specs.declared.cmp.Ordering.{Ordering}
-use Rattle.starlark_hash.specs.Entries.{with_value}
+use Rattle.starlark_lists.specs.Entries.{with_value}
 use Rattle.starlark_vecmap.specs.EntryList.{with_values}
 use Rattle.starlark_small.specs.Map.{Map}
 use Rattle.starlark_small.specs.contracts.small_map.SmallMap as small

@@ -19,7 +19,7 @@ pub struct SortedMap<K: Ord + Hash, V> {
 }
 
 impl<K: Ord + Hash, V> Model for SortedMap<K, V> {
-    ghost use Rattle.starlark_hash.specs.Sorting.{Ascends};
+    ghost use Rattle.starlark_lists.specs.Sorting.{Ascends};
     ghost use Rattle.starlark_small.specs.Map.{Map};
 
     ghost Value = { Map K V };

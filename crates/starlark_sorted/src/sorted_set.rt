@@ -1,6 +1,6 @@
 //! A set whose elements ascend. It alone sees the set inside.
 ghost use Rattle.std.specs.Prelude.{◌≡◌, [], false};
-ghost use Rattle.starlark_hash.specs.Sorting.{Ascends};
+ghost use Rattle.starlark_lists.specs.Sorting.{Ascends};
 
 mod compare;
 mod made;
@@ -19,7 +19,7 @@ pub struct SortedSet<T: Ord + Hash> {
 }
 
 impl<T: Ord + Hash> Model for SortedSet<T> {
-    ghost use Rattle.starlark_hash.specs.Sorting.{Ascends};
+    ghost use Rattle.starlark_lists.specs.Sorting.{Ascends};
     ghost use Rattle.starlark_sets.specs.Set.{Set};
 
     ghost Value = { Set T };

@@ -12,7 +12,9 @@ pub mod FullBits
 pub mod Emptying
 pub mod Cloning
 pub mod Windows
+pub mod Looking
 pub mod Load
+pub mod Changing
 pub mod Sound
 pub mod Shape
 pub mod Walking
@@ -22,7 +24,6 @@ pub mod Retaining
 pub mod Settling
 pub mod PairBags
 pub mod TableLemmas
-pub mod NamedClose
 mod BesideClose
 pub mod LentInResult
 mod WrittenSlots

@@ -1,5 +1,5 @@
 -- What a contract sees of a `ReadyTable`.
-use Rattle.std.specs.Prelude.{◌≡◌, ℕ, ◌<◌, ◌≤◌, List, [], ◌∷◌, length, map, Option, Some, None, IsSome, slice_index_or, slice_set, refl, nat_eq, if◌then◌else◌}
+use Rattle.std.specs.Prelude.{◌≡◌, ℕ, List, [], ◌∷◌, length, map, Option, Some, None, slice_index_or, slice_set, refl, nat_eq, if◌then◌else◌}
 use Rattle.std.specs.List.{enumerate_from, AllZip}
 use Rattle.std.specs.Option.{option_map}
 use Rattle.std.specs.Coded.{Coded, code_by, coded×, coded_ℕ, coded_list, coded_option}
@@ -64,13 +64,6 @@ module _ {T : Type 0} where
   -- the items in the order of the walk
   abbrev pub items_of : Table T → List T
   items_of t = items_in t.slots
-
-  -- from one slot on, the first that has a member, or none where there is no such slot
-  abbrev pub IsNextSlot : List (Option (ℕ × T)) → ℕ → Option ℕ → Type 0
-  IsNextSlot slots from None = (slot : ℕ) → from ≤ slot → slice_index_or slots slot None ≡ None
-  IsNextSlot slots from (Some next) =
-      (from ≤ next) × IsSome (slice_index_or slots next None)
-      × ((slot : ℕ) → from ≤ slot → slot < next → slice_index_or slots slot None ≡ None)
 
   -- the table with another item at a slot, under the hash of the one that was there
   abbrev pub with_item : Table T → ℕ → T → Table T

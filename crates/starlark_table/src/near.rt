@@ -1,7 +1,6 @@
 //! A search that looks only at the first windows of the way of a hash, and then gives up.
-ghost use Rattle.std.specs.Prelude.{◌≡◌, ℕ, ◌<◌, Some, None, true, length, IfSome};
-ghost use Rattle.std.specs.Fn.{CalledAt};
-ghost use Rattle.starlark_hash.specs.Search.{CanSearch};
+ghost use Rattle.std.specs.Prelude.{◌≡◌, ℕ, ◌<◌, Some, None, length, IfSome};
+ghost use Rattle.starlark_lists.specs.Search.{Searches, CanSearch};
 ghost use Rattle.starlark_table.specs.Table.{holders_in};
 ghost use Rattle.starlark_table.specs.Layout.{at, IsMask, IsTagged};
 
@@ -25,7 +24,7 @@ pub(crate) fn find_slot_near<T, F: FnMut(&T) -> bool>(
     requires tagged { IsTagged tags.now slots.now }
     requires free { 0 < length slots.now → (q : ℕ) × (q < length slots.now) × (at slots.now q ≡ None) }
     requires callable { CanSearch F.FnMut (holders_in hash slots.now) eq }
-    ensures { IfSome result (λ p. (x : T) × (f : F) × (f' : F) × (at slots.now p ≡ Some (hash, x)) × CalledAt F.FnMut f x true f') }
+    ensures { IfSome result (λ p. (last : F) × Searches F.FnMut (holders_in hash slots.now) eq (Some p) last) }
 {
     if slots.places() == 0 {
         return None;

@@ -1,9 +1,9 @@
 //! Reads and writes of the slots along the way of a hash: from its home on, up to the first empty place.
 ghost use Rattle.std.specs.Prelude.{◌≡◌, ℕ, ◌+◌, ◌<◌, ◌≤◌, ◌∷◌, Some, None, drop, length, IfSome, IsSome, is_some, slice_set};
 ghost use Rattle.std.specs.Option.{option_copied, option_map};
-ghost use Rattle.starlark_hash.specs.Search.{Searches, CanSearch};
+ghost use Rattle.starlark_lists.specs.Search.{Searches, CanSearch};
 ghost use Rattle.starlark_columns.specs.Places.{IsFilled};
-ghost use Rattle.starlark_table.specs.Table.{filled, holders_in, IsNextSlot};
+ghost use Rattle.starlark_table.specs.Table.{filled, holders_in};
 ghost use Rattle.starlark_table.specs.Layout.{distance, at, InPlace, IsMask, IsTagged};
 
 use crate::places::{home, home_among, window_after};
@@ -114,20 +114,6 @@ pub(crate) fn item_at<'a, T>(slots: &'a Slots<T>, tags: &[u8], slot: usize) -> O
     } else {
         None
     }
-}
-
-// The first slot from one on that has a member.
-#[inline]
-pub(crate) fn full_from<T>(slots: &Slots<T>, tags: &[u8], from: usize) -> Option<usize>
-    requires { IsTagged tags.now slots.now }
-    ensures { IsNextSlot slots.now from result }
-{
-    for slot in from..slots.places() {
-        if tags[slot] != EMPTY {
-            return Some(slot);
-        }
-    }
-    None
 }
 
 // The first slot from one on that has a member. There is one.

@@ -1,11 +1,10 @@
 //! A bag of items under ready hashes. It alone sees how the slots are laid out.
-ghost use Rattle.std.specs.Prelude.{◌≡◌, ℕ, ◌+◌, ◌<◌, ◌≤◌, Some, true, [], ◌∷◌, List, IsOk, IfOk, OnOk, OnErr, IfErr, IfSome, IfNone, IsSome, IsPermutation, Option};
+ghost use Rattle.std.specs.Prelude.{◌≡◌, ℕ, ◌+◌, ◌<◌, ◌≤◌, Some, [], ◌∷◌, List, IsOk, IfOk, OnOk, OnErr, IfErr, IfSome, IfNone, IsSome, IsPermutation, Option};
 ghost use Rattle.std.specs.Option.{option_and_then, option_copied, option_copied_mut, option_map};
 ghost use Rattle.std.specs.Borrow.{sem};
-ghost use Rattle.std.specs.Fn.{CalledAt};
 ghost use Rattle.std.specs.List.Retain.{RetainsInTurn};
-ghost use Rattle.starlark_hash.specs.Search.{Searches, CanSearch};
-ghost use Rattle.starlark_table.specs.Table.{members, table_len, member_at, item_in, items_of, items_under, IsNextSlot, IsTableClone};
+ghost use Rattle.starlark_lists.specs.Search.{Searches, CanSearch};
+ghost use Rattle.starlark_table.specs.Table.{members, table_len, member_at, item_in, items_of, items_under, IsTableClone};
 ghost use Rattle.starlark_table.specs.Walk.{CanReplace, ReplacesEach, CanRetain, AsksMember};
 
 mod lends;
@@ -16,7 +15,7 @@ use crate::growth::{clone_members, empty_tags, move_all};
 use crate::iter::{IntoIter, Iter};
 use crate::near::find_slot_near;
 use crate::places::{limit, places_for};
-use crate::probe::{Slots, find_slot, full_from, item_at, put};
+use crate::probe::{Slots, find_slot, item_at, put};
 use crate::tags::untag;
 use crate::walks::{drop_all, empty_all, replace_items, retain_items};
 use starlark_columns::Column;
@@ -127,11 +126,11 @@ impl<T> ReadyTable<T> {
     }
 
     /// The slot of such an item, if it stands near the place where its search begins: at most 32 slots are looked at,
-    /// whatever the hashes. `None` says nothing, since an item may stand farther on.
+    /// whatever the hashes. An answer is one that `find` may give; `None` says nothing, since an item may stand farther on.
     #[inline]
     pub fn find_near<F: FnMut(&T) -> bool>(&self, hash: u64, eq: F) -> Option<usize>
         requires { CanSearch F.FnMut (items_under hash self.now) eq }
-        ensures { IfSome result (λ slot. (x : T) × (f : F) × (f' : F) × (member_at self.now slot ≡ Some (hash, x)) × CalledAt F.FnMut f x true f') }
+        ensures { IfSome result (λ slot. (last : F) × Searches F.FnMut (items_under hash self.now) eq (Some slot) last) }
     {
         find_slot_near(&self.slots, self.tags.as_slice(), self.mask, hash, eq)
     }
@@ -264,11 +263,11 @@ impl<T> ReadyTable<T> {
         ensures none { IfNone result (self.new ≡ self.old) }
         ensures room { table_len self.new + self.new.room ≡ table_len self.old + self.old.room }
     {
-        let member = take_out(&mut self.slots, self.tags.as_mut_slice(), slot);
-        if member.is_some() {
-            self.len -= 1;
-        }
-        member
+        let Some(member) = take_out(&mut self.slots, self.tags.as_mut_slice(), slot) else {
+            return None;
+        };
+        self.len -= 1;
+        Some(member)
     }
 
     /// Puts what `f` answers in the place of each item, under the same hash: `f` is called once on each
@@ -316,14 +315,6 @@ impl<T> ReadyTable<T> {
         ensures { result ≡ items_of self.now }
     {
         Iter::new(&self.slots, self.tags.as_slice(), self.len)
-    }
-
-    /// The first slot from one on that has a member.
-    #[inline]
-    pub fn slot_from(&self, from: usize) -> Option<usize>
-        ensures { IsNextSlot self.now.slots from result }
-    {
-        full_from(&self.slots, self.tags.as_slice(), from)
     }
 
     /// The members along the walk, each as its hash and its item, by value.

@@ -211,16 +211,11 @@ fn sum_cloned(table: &ReadyTable<u64>) -> Option<u64> {
 // Writes a number to each slot that is taken, and answers how many there are.
 fn write_slots(table: &mut ReadyTable<u64>, written: u64) -> u32 {
     let mut slots = 0u32;
-    let mut slot = table.slot_from(0);
-    for _ in 0..1000 {
-        let Some(here) = slot else {
-            return slots;
-        };
-        if let Some(item) = table.get_mut(here) {
+    for slot in 0..1000 {
+        if let Some(item) = table.get_mut(slot) {
             *item = written;
+            slots = slots.wrapping_add(1);
         }
-        slots = slots.wrapping_add(1);
-        slot = table.slot_from(here.wrapping_add(1));
     }
     slots
 }

@@ -200,7 +200,7 @@ fn clones_a_map(rt: HostRuntime) -> Result<(), Fail> {
 }
 
 // Writes thrice its key as each value.
-#[tactic(auto, using(starlark_vecmap::proofs::Written::written))]
+#[tactic(auto, using(starlark_vecmap::proofs::ValuesWritten::written))]
 fn write_thrice(list: &mut VecMap<u32, u32>)
     ensures keys { map entry_key list.new.entries ≡ map entry_key list.old.entries }
     ensures hashes { map entry_hash list.new.entries ≡ map entry_hash list.old.entries }
@@ -212,7 +212,7 @@ fn write_thrice(list: &mut VecMap<u32, u32>)
 }
 
 // Writes 1 as each value, and then adds 1.
-#[tactic(auto, using(starlark_vecmap::proofs::Written::written))]
+#[tactic(auto, using(starlark_vecmap::proofs::ValuesWritten::written))]
 fn write_two<K>(list: &mut VecMap<K, u32>)
     ensures keys { map entry_key list.new.entries ≡ map entry_key list.old.entries }
     ensures capacity { list.new.capacity ≡ list.old.capacity }

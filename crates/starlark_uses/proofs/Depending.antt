@@ -5,7 +5,7 @@ use Rattle.std.specs.Global.{Vec}
 use Rattle.std.specs.Hash as fed
 use Rattle.std.specs.Option.{option_map}
 use Rattle.std.proofs.lemmas.Bool.{cases_eq, ne_eqb}
-use Rattle.starlark_hash.specs.Entries.{with_value}
+use Rattle.starlark_lists.specs.Entries.{with_value}
 use Rattle.starlark_small.specs.Calling.{get, Updates}
 use Rattle.starlark_small.specs.Map.{own_match}
 use Rattle.starlark_small.proofs.CallerLemmas.{updates-with_value, updates-here, updates-others}

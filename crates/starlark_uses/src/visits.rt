@@ -1,4 +1,4 @@
-//! Visits of pages, in the order of their first ones. Each proof closes by the one name `callers`, with no proof file.
+//! Visits of pages, in the order of their first ones. Each proof but one closes by the one name `callers`, with no proof file.
 #![tactic(auto, using(starlark_small::proofs::CallerLemmas::callers))]
 
 ghost use Rattle.std.specs.Hash as fed;

@@ -1,14 +1,13 @@
 pub mod BothClose
 pub mod LentInOption
-pub mod NamedClose
 pub mod Pairs
 pub mod Placing
 pub mod Positions
 pub mod PushLemmas
-pub mod Runs
+pub mod FrozenPairs
 pub mod Sieving
-pub mod Sorting
+pub mod OneSortedList
 pub mod TwoColumns
 pub mod Values
 pub mod Vec2Open
-pub mod Walks
+pub mod StepsBack

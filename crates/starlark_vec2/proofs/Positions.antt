@@ -1,9 +1,9 @@
 -- What sorted positions say of the items that stand there, and a comparator of items behind one of positions.
 use Rattle.std.proofs.Common.{◌≡◌, ℕ, suc, ◌+◌, ◌<◌, Bool, true, false, List, [], ◌∷◌, ◌++◌, map, length, get_or, slice_get, Option, Some, None, unwrap_or, refl, sym, ap, subst, ◌∙◌, arith}
 use Rattle.std.specs.Borrow.{Bor}
-use Rattle.std.specs.Fn.{Mut, Called, ReturnsEach, ComparesAs}
+use Rattle.std.specs.Fn.{Mut, Takes, Called, ReturnsEach, ComparesAs}
 use Rattle.std.specs.Cmp.{IsStrictWeakOrder}
-use Rattle.std.specs.List.{range_with_len}
+use Rattle.std.specs.List.{range_with_len, Contains}
 use Rattle.std.specs.List.Sorted.{IsPermutation, IsSortedBy, IsStableBy}
 use Rattle.std.specs.Map.Iter.{deref_pair}
 use Rattle.std.specs.Ordering.{is_lt}
@@ -11,11 +11,11 @@ use Rattle.std.specs.declared.cmp.Ordering.{Ordering}
 use Rattle.std.proofs.lemmas.List.{map-id}
 use Rattle.std.proofs.lemmas.List.FromFn.{get_or-range_with_len, length-range_with_len, map-range_with_len_more}
 use Rattle.std.proofs.lemmas.List.Sorted.{IsPermutation-map, IsPermutation-refl, length_permutation}
-use Rattle.std.proofs.lemmas.Option.{slice_get-get_or}
-use Rattle.starlark_hash.specs.Sorting.{sorted_by}
-use Rattle.starlark_vec2.specs.Sort.{PairRef, ComparesPairsAs}
-use Rattle.starlark_vec2.specs.Positions.{option_lt, lt_at, PutsInOrder, ComparesPairs, ComparesOptions, ComparesAt}
-use Rattle.starlark_vec2.proofs.Sorting.{sorted_by-unique, sorted_by-map}
+use Rattle.std.proofs.lemmas.Option.{slice_get-get_or, slice_get_within, get_or_from_slice_get}
+use Rattle.starlark_lists.specs.Sorting.{sorted_by}
+use Rattle.starlark_vec2.specs.Sort.{PairRef, ComparesPairs, CanCompare, ComparesPairsAs}
+use Rattle.starlark_vec2.specs.Positions.{option_lt, lt_at, PutsInOrder, ComparesOptions, ComparesAt}
+use Rattle.starlark_vec2.proofs.OneSortedList.{sorted_by-unique, sorted_by-map}
 
 module _ {X : Type 0} where
   -- from what stands at each place
@@ -113,6 +113,25 @@ module _ {F G A B : Type 0} (g : Mut F (PairRef A B × (PairRef A B × Unit {0})
   pub compares_positions : (s : G) → pairs s ≡ ps → ComparesPairsAs g lt (state s) → ComparesAs g' (lt_at lt ps) s
   unfolding Each Answers
   compares_positions s same h = record { at = answers_each s same (λ us. h.at us) }
+
+-- what stands at a place is an item
+Contains-from_place : {X : Type 0} (xs : List X) (i : ℕ) (x : X) → Some x ≡ slice_get xs i → Contains xs x
+Contains-from_place xs i x at = (i, slice_get_within xs i x (sym at), get_or_from_slice_get xs i x x (sym at))
+
+module _ {F A B : Type 0} (g : Mut F (PairRef A B × (PairRef A B × Unit {0})) Ordering) (ps : List (A × B)) where
+  -- the pairs that stand at two positions may be compared
+  pub takes_at : (f : F) (i j : ℕ) (p q : PairRef A B) → CanCompare g ps f → Some (deref_pair p) ≡ slice_get ps i → Some (deref_pair q) ≡ slice_get ps j → Takes g f (p, (q, tt))
+  takes_at f i j p q can at at' = can.at [] f _ _ refl (Contains-from_place ps i _ at) (Contains-from_place ps j _ at') p q refl refl
+
+  -- and others after them
+  pub CanCompare-next : (f : F) (i j : ℕ) (r : Ordering) (f2 : F) → ComparesAt g ps f i j r f2 → CanCompare g ps f → CanCompare g ps f2
+  CanCompare-next f i j r f2 = by (slice_get ps i) (slice_get ps j) refl refl
+    where
+      by : (x y : Option (A × B)) → x ≡ slice_get ps i → y ≡ slice_get ps j → ComparesOptions g f x y r f2 → CanCompare g ps f → CanCompare g ps f2
+      by (Some x) (Some y) at at' c can =
+          record { at = λ before later u v told. can.at ((x, y) ∷ before) later u v (f2, (Contains-from_place ps i x at, Contains-from_place ps j y at', r, c), told) }
+      by (Some x) None at at' c can = subst (CanCompare g ps) (sym c.1) can
+      by None y at at' c can = subst (CanCompare g ps) (sym c.1) can
 
 -- a call at the pairs that stand at two positions
 pub compares_at : {F A B : Type 0} (g : Mut F (PairRef A B × (PairRef A B × Unit {0})) Ordering) (ps : List (A × B)) (f : F) (i j : ℕ) (x y : A × B) (r : Ordering) (f2 : F)

@@ -2,7 +2,11 @@
 use Rattle.std.proofs.Common.{◌≡◌, ℕ, zero, suc, ◌-◌, ◌<◌, List, [], ◌∷◌, length, zip, slice_get, slice_set, Option, Some, refl, sym, ap, subst, ◌∙◌, arith}
 use lib.ListN.{length-set}
 use Rattle.std.specs.List.{refill}
+use Rattle.std.specs.declared.alloc.Global.{Global}
+use Rattle.starlark_columns.specs.Block.{IsBlockOf}
+use Rattle.starlark_columns.specs.Laid.{Laid}
 use Rattle.starlark_columns.specs.Places.{items_of}
+use Rattle.starlark_columns.specs.declared.block.PairClaim.{PairClaim}
 use Rattle.starlark_columns.specs.Front.{with_items}
 use Rattle.starlark_columns.specs.Between.{IsBetween}
 use Rattle.starlark_columns.proofs.Fronts.{written_front, written_items, written_places, set_front, all_written}
@@ -12,6 +16,10 @@ use Rattle.starlark_vec2.specs.Lending.{with_pair, set_firsts, set_first_at}
 use Rattle.starlark_vec2.proofs.Pairs.{length-zip, firsts_of-zip, seconds_of-zip, zip-set_first, zip-set}
 
 module _ {A B : Type 0} where
+  -- rows that lie where two of a block lay, with as many places
+  pub same_block : (block : PairClaim A B Global) (r r' : Laid A) (s s' : Laid B) → IsBlockOf block r s → r'.at ≡ r.at → s'.at ≡ s.at → length r'.places ≡ length r.places → length s'.places ≡ length s.places → IsBlockOf block r' s'
+  same_block block r r' s s' is at at' long long' = (is.0 ∙ sym at, is.1 ∙ sym at', is.2 ∙ sym long, is.3 ∙ sym long')
+
   -- the pair at a place of both columns
   pub slice_get-zip_both : (xs : List A) (ys : List B) (i : ℕ) (x : A) (y : B) → slice_get xs i ≡ Some x → slice_get ys i ≡ Some y → slice_get (zip xs ys) i ≡ Some (x, y)
   slice_get-zip_both [] ys i x y e f = absurd (cc e)

@@ -26,6 +26,8 @@ use denote.Struct.Members.{Member, rows_of, parts_at}
 use denote.Struct.Parts.{shape_of, PartsBack, Struct-parts}
 use denote.Struct.Struct.{Struct}
 use Rattle.std.specs.contracts.alloc.Global as heap
+use Rattle.std.specs.contracts.impls.GlobalAllocator.TheImpl.{ghosts}
+use Rattle.starlark_columns.specs.contracts.block.PairClaim as claim
 use Rattle.starlark_vec2.specs.ColumnLending.{column}
 use Rattle.starlark_vec2.specs.declared.vec2.Vec2.TheInside.{Inside}
 use Rattle.starlark_vec2.specs.contracts.vec2.Vec2 as C
@@ -46,8 +48,11 @@ module _ (A B : RattleType) where
   abbrev member : RattleType → Member
   member R = record { row = R; ty = lone R.mir }
 
+  abbrev behind : List Member
+  behind = member (field heap.the_type).row ∷ member (claim.the_row A B heap.the_row ghosts) ∷ []
+
   abbrev left : List Member
-  left = member usize-field.row ∷ member (field heap.the_type).row ∷ []
+  left = member usize-field.row ∷ behind
 
   abbrev ms : List Member
   ms = member (column A) ∷ member (column B) ∷ left
@@ -74,9 +79,6 @@ module _ (A B : RattleType) where
 
     abbrev pub Len : ℕ → Fml
     Len n = cell_at full_share usize-field.row.mir (vint w64 n ∷ []) b (o + eL)
-
-    abbrev behind : List Member
-    behind = member (field heap.the_type).row ∷ []
 
     abbrev pub Less : D → SProp 𝓤
     Less d = sep 𝓤 (sem 𝓛 (parts_at full_share behind (eL + size (lone usize-field.row.mir)) (to d).1.1.1 b o)) (PartsBack 𝓛 full_share (I.the_type A B).name ms b o)

@@ -1,6 +1,6 @@
 -- Lists of pairs made of an iterator's items, and of clones.
-use Rattle.std.specs.Prelude.{◌≡◌, ℕ, List, [], Option, MatchResult, Result}
-use Rattle.std.specs.Iterator.{Count, Drains, Yields}
+use Rattle.std.specs.Prelude.{◌≡◌, ◌<◌, ◌-◌, ℕ, List, length, [], Option, MatchResult, Result}
+use Rattle.std.specs.Iterator.{Count, Drains, Yields, size}
 use Rattle.std.specs.Iterator.SizeHint.{IsWithinCount}
 use Rattle.starlark_vec2.specs.PairList.{PairList, pair_list, push_all, reserve}
 
@@ -18,6 +18,11 @@ module _ {U T A B : Type 0} (becomes : U → T → Type 0) (steps : T → Option
   abbrev pub Collects : PairList A B → Type 0
   Collects v = (it : T) × (first : ℕ) × (ps : List (A × B)) × becomes iter it × IsWithinCount first (remaining it)
       × (v ≡ push_all (pair_list [] first) ps) × Drains steps it ps
+
+module _ {U T A B : Type 0} (becomes : U → T → Type 0) (remaining : T → Count) (iter : U) where
+  -- the iterator may give more items than find room without growth
+  abbrev pub MayExceedRoom : PairList A B → Type 0
+  MayExceedRoom v = (it : T) × becomes iter it × (v.capacity - length v.pairs < size (remaining it))
 
 module _ {A B : Type 0} where
   -- both parts of the second pair are clones of the first's

@@ -1,10 +1,11 @@
 -- Pairs that lie side by side, whose first parts are frozen while their second parts are lent.
 --     frozen κ K V p i γ ps  the right to write the second parts of ps, which lie from the i-th pair at p on, under
 --         the name γ
-use Rattle.std.specs.Prelude.{ℕ, ◌+◌, ◌*◌, List, [], ◌∷◌, length, Option}
+use Rattle.std.specs.Prelude.{◌≡◌, ◌<◌, ◌⊎◌, ℕ, ◌+◌, ◌*◌, List, [], ◌∷◌, ◌++◌, length}
 use Rattle.std.specs.Borrow.{Fml, RattleType, MutBor, GName, Array, Lends, follows}
 use Rattle.starlark_columns.specs.Places.{items_of}
 use Rattle.starlark_columns.specs.Front.{with_items}
+use Rattle.starlark_columns.specs.Laid.{Laid, relaid}
 use Rattle.starlark_vec2.specs.ColumnLending.{column}
 use base.Fml.{Lft, ffalse, fsep, feq, fobs, fbor}
 use base.Stored.{coded_list}
@@ -43,12 +44,23 @@ frozen κ K V null_ptr i γ ps = ffalse
 
 module _ (K V : RattleType) where
   -- a column ends with the pairs that are left behind the slice
-  abbrev pub lends_run : MutBor (List (Option (K.Denot × V.Denot))) → MutBor (List (K.Denot × V.Denot)) → Fml
-  lends_run s r = Lends (column (Pair K V)) (Array (Pair K V) 0) s r (with_items s.now)
+  abbrev pub lends_run : MutBor (Laid (K.Denot × V.Denot)) → MutBor (List (K.Denot × V.Denot)) → Fml
+  lends_run s r = Lends (column (Pair K V)) (Array (Pair K V) 0) s r (λ ws. relaid s.now (with_items s.now.places ws))
 
   -- a column ends with the second parts that the loan ends with, and its own first parts
-  abbrev pub pairs_follow : MutBor (List (Option (K.Denot × V.Denot))) → GName → Fml
-  pairs_follow s γ = follows (column (Pair K V)) (column (Pair K V)) s.ghost_name γ (λ w. with_items s.now (with_seconds (items_of s.now) (items_of w)))
+  abbrev pub pairs_follow : MutBor (Laid (K.Denot × V.Denot)) → GName → Fml
+  pairs_follow s γ = follows (column (Pair K V)) (column (Pair K V)) s.ghost_name γ (λ w. relaid s.now (with_items s.now.places (with_seconds (items_of s.now.places) (items_of w.places))))
+
+module _ {T : Type 0} (from : ℕ) (rest : List T) (index : ℕ) where
+  -- of those that are left, from the from-th of all on, the index-th of all is the first or the last
+  abbrev pub IsEnd : Type 0
+  IsEnd = (0 < length rest) × ((index ≡ from) ⊎ (index + 1 ≡ from + length rest))
+
+  -- it was x, and others are left, from the next-th of all on
+  abbrev pub TakesEnd : T → ℕ → List T → Type 0
+  TakesEnd x next others =
+      (index ≡ from → (rest ≡ x ∷ others) × (next ≡ from + 1))
+      × (index + 1 ≡ from + length rest → (rest ≡ others ++ x ∷ []) × (0 < length others → next ≡ from))
 
 -- what a `&mut V` points to
 abbrev pub deref_mut : {V : Type 0} → MutBor V → V

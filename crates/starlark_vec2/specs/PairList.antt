@@ -1,5 +1,5 @@
 -- A list of pairs with a capacity, and what each call makes of it.
-use Rattle.std.specs.Prelude.{ℕ, ◌+◌, ◌*◌, ◌-◌, ◌^◌, max, min, List, [], ◌∷◌, ◌++◌, map, length, nat_lt, if◌then◌else◌}
+use Rattle.std.specs.Prelude.{◌≡◌, ◌⊎◌, ℕ, ◌+◌, ◌*◌, ◌-◌, ◌^◌, max, min, List, [], ◌∷◌, ◌++◌, map, length, nat_lt, if◌then◌else◌}
 
 -- the pairs, and how many of them there may be before the list grows
 pub record PairList (A B : Type 0) : Type 0 where
@@ -42,3 +42,11 @@ module _ {A B : Type 0} where
   abbrev pub push_all : PairList A B → List (A × B) → PairList A B
   push_all v [] = v
   push_all v (p ∷ ps) = push_all (push v p) ps
+
+  -- each place is taken
+  abbrev pub IsFull : PairList A B → Type 0
+  IsFull v = length v.pairs ≡ v.capacity
+
+  -- nothing was done, or all that there was room for
+  abbrev pub StaysOrIsFull : PairList A B → PairList A B → Type 0
+  StaysOrIsFull old new = (new ≡ old) ⊎ IsFull new

@@ -1,13 +1,12 @@
 -- Positions of pairs, sorted by what stands there. No public clause cites this module.
 use Rattle.std.specs.Prelude.{◌≡◌, ℕ, Bool, true, false, List, Option, Some, None, map, length, slice_get}
-use Rattle.std.specs.Fn.{Mut, Called}
+use Rattle.std.specs.Fn.{Mut}
 use Rattle.std.specs.Cmp.{IsStrictWeakOrder}
 use Rattle.std.specs.List.{range_with_len}
 use Rattle.std.specs.List.Sorted.{IsSortedBy, IsStableBy}
-use Rattle.std.specs.Map.Iter.{deref_pair}
 use Rattle.std.specs.declared.cmp.Ordering.{Ordering}
 use Rattle.std.specs.declared.cmp.Ordering.TheVariants.{Less, Equal}
-use Rattle.starlark_vec2.specs.Sort.{PairRef, ComparesPairsAs}
+use Rattle.starlark_vec2.specs.Sort.{PairRef, ComparesPairs, ComparesPairsAs}
 
 -- lt, where what is not there comes last
 abbrev pub option_lt : {X : Type 0} → (X → X → Bool) → Option X → Option X → Bool
@@ -24,17 +23,9 @@ abbrev pub PutsInOrder : {X : Type 0} → List X → List ℕ → List X → Typ
 PutsInOrder xs order ys = map Some ys ≡ map (slice_get xs) order
 
 module _ {F A B : Type 0} (g : Mut F (PairRef A B × (PairRef A B × Unit {0})) Ordering) where
-  -- a call of f at references to the two pairs may answer r, and leave f2
-  pub record ComparesPairs (f : F) (x y : A × B) (r : Ordering) (f2 : F) : Type 0 where
-    pub left : PairRef A B
-    pub right : PairRef A B
-    pub shows_left : deref_pair left ≡ x
-    pub shows_right : deref_pair right ≡ y
-    pub called : Called g f (left, (right, tt)) r f2
-
   -- where both are there a call of f compares them; what is not there comes last
   abbrev pub ComparesOptions : F → Option (A × B) → Option (A × B) → Ordering → F → Type 0
-  ComparesOptions f (Some x) (Some y) r f2 = ComparesPairs f x y r f2
+  ComparesOptions f (Some x) (Some y) r f2 = ComparesPairs g f x y r f2
   ComparesOptions f (Some x) None r f2 = (r ≡ Less) × (f2 ≡ f)
   ComparesOptions f None o r f2 = (r ≡ Equal) × (f2 ≡ f)
 

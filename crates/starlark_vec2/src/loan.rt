@@ -1,12 +1,12 @@
 //! The right to write the values of pairs that lie side by side, while their keys are frozen.
-ghost use Rattle.std.specs.Prelude.{◌≡◌, ℕ, ◌+◌, ◌<◌, List, [], ◌∷◌, ◌++◌, length};
+ghost use Rattle.std.specs.Prelude.{◌≡◌, ℕ, List};
 ghost use Rattle.std.specs.Borrow.{GName, sem};
 ghost use Rattle.std.specs.Map.Iter.{deref_pair_mut};
 ghost use Rattle.starlark_columns.specs.Front.{IsFront};
 ghost use Rattle.starlark_columns.specs.Places.{items_of};
-ghost use Rattle.starlark_vec2.specs.Frozen.{pairs_follow, lends_run, frozen};
+ghost use Rattle.starlark_vec2.specs.Frozen.{pairs_follow, lends_run, frozen, IsEnd, TakesEnd};
 
-use starlark_columns::Column;
+use starlark_columns::Row;
 use std::marker::{Model, PhantomData};
 
 /// The right to the pairs at `start` that are still to be taken: those from the `from`-th on, `rest`. Their keys are
@@ -27,10 +27,10 @@ impl<'a, K, V> Model for Loan<'a, K, V> {
 
 // The pairs of a column, `len` of them.
 #[inline]
-fn run_mut<K, V>(pairs: &mut Column<(K, V)>, len: usize) -> &mut [(K, V)]
-    requires { IsFront pairs.old len }
+fn run_mut<K, V>(pairs: &mut Row<(K, V)>, len: usize) -> &mut [(K, V)]
+    requires { IsFront pairs.old.places len }
     ensures* writes_back { sem 𝓛 (lends_run K.row V.row pairs.entry result) }
-    ensures value { result.now ≡ items_of pairs.old }
+    ensures value { result.now ≡ items_of pairs.old.places }
 {
     pairs.items_mut(len)
 }
@@ -38,10 +38,10 @@ fn run_mut<K, V>(pairs: &mut Column<(K, V)>, len: usize) -> &mut [(K, V)]
 impl<'a, K, V> Loan<'a, K, V> {
     // All pairs of a column, `len` of them.
     #[inline]
-    pub(crate) fn new(pairs: &'a mut Column<(K, V)>, len: usize) -> Loan<'a, K, V>
-        requires { IsFront pairs.old len }
+    pub(crate) fn new(pairs: &'a mut Row<(K, V)>, len: usize) -> Loan<'a, K, V>
+        requires { IsFront pairs.old.places len }
         ensures* writes_back { sem 𝓛 (pairs_follow K.row V.row pairs.entry result.tie) }
-        ensures rest { (result.from ≡ 0) × (result.rest ≡ items_of pairs.old) }
+        ensures rest { (result.from ≡ 0) × (result.rest ≡ items_of pairs.old.places) }
     {
         let run = run_mut(pairs, len);
         Loan {
@@ -50,23 +50,11 @@ impl<'a, K, V> Loan<'a, K, V> {
         }
     }
 
-    // Takes the first pair that is left; it is the `index`-th of all.
+    // Takes the pair at either end of those that are left; it is the `index`-th of all.
     #[inline]
-    pub(crate) fn take_first(&mut self, index: usize) -> (&'a K, &'a mut V)
-        requires { (index ≡ self.old.from) × (0 < length self.old.rest) }
-        ensures { (self.old.rest ≡ deref_pair_mut result ∷ self.new.rest) × (self.new.from ≡ self.old.from + 1) × (self.new.tie ≡ self.old.tie) }
-    {
-        unsafe {
-            let pair = self.start.add(index);
-            (&(*pair).0, &mut (*pair).1)
-        }
-    }
-
-    // Takes the last pair that is left; it is the `index`-th of all.
-    #[inline]
-    pub(crate) fn take_last(&mut self, index: usize) -> (&'a K, &'a mut V)
-        requires { (self.old.from + length self.old.rest ≡ index + 1) × (0 < length self.old.rest) }
-        ensures { (self.old.rest ≡ self.new.rest ++ deref_pair_mut result ∷ []) × (self.new.from ≡ self.old.from) × (self.new.tie ≡ self.old.tie) }
+    pub(crate) fn take_end(&mut self, index: usize) -> (&'a K, &'a mut V)
+        requires { IsEnd self.old.from self.old.rest index }
+        ensures { TakesEnd self.old.from self.old.rest index (deref_pair_mut result) self.new.from self.new.rest × (self.new.tie ≡ self.old.tie) }
     {
         unsafe {
             let pair = self.start.add(index);

@@ -18,14 +18,14 @@ pub struct PairsMut<'a, K, V> {
 }
 
 impl<'a, K, V> Model for PairsMut<'a, K, V> {
-    ghost use Rattle.std.specs.Prelude.{◌≡◌, ◌+◌, List, length};
+    ghost use Rattle.std.specs.Prelude.{◌≡◌, ◌+◌, ◌<◌, List, length};
     ghost use Rattle.std.specs.Borrow.{GName};
 
     ghost Value = { List (K × V) × GName };
 
     ghost view = { λ p. (p.loan.rest, p.loan.tie) };
 
-    ghost invariant = { λ p. (p.from ≡ p.loan.from) × (p.to ≡ p.loan.from + length p.loan.rest) };
+    ghost invariant = { λ p. (p.to ≡ p.from + length p.loan.rest) × (0 < length p.loan.rest → p.from ≡ p.loan.from) };
 }
 
 impl<'a, K, V> PairsMut<'a, K, V> {
@@ -59,7 +59,7 @@ impl<'a, K, V> Iterator for PairsMut<'a, K, V> {
             return None;
         }
         self.from = index + 1;
-        Some(self.loan.take_first(index))
+        Some(self.loan.take_end(index))
     }
 
     #[inline]
@@ -83,7 +83,7 @@ impl<'a, K, V> DoubleEndedIterator for PairsMut<'a, K, V> {
         }
         let index = self.to - 1;
         self.to = index;
-        Some(self.loan.take_last(index))
+        Some(self.loan.take_end(index))
     }
 }
 

@@ -15,32 +15,36 @@ mod traits;
 
 pub use into_iter::IntoIter;
 pub use iter::Iter;
-use starlark_columns::Column;
-use starlark_columns::front::both_columns;
+use starlark_columns::Row;
+use starlark_columns::pair::{Block, give_back, no_rows, with_rows};
 use starlark_hash::NoRoom;
 use std::alloc::{AllocError, Global};
 use std::marker::Model;
+use std::mem;
 
 /// A list of pairs. The first parts are stored side by side, and so are the second parts.
 pub struct Vec2<A, B> {
-    firsts: Column<A>,
-    seconds: Column<B>,
+    firsts: Row<A>,
+    seconds: Row<B>,
     // How many of the places at the front of either column are filled.
     len: usize,
     alloc: Global,
+    // The right to give back the one block that holds both columns.
+    block: Block<A, B>,
 }
 
 impl<A, B> Model for Vec2<A, B> {
     ghost use Rattle.std.specs.Prelude.{length, zip};
+    ghost use Rattle.starlark_columns.specs.Block.{IsBlockOf};
     ghost use Rattle.starlark_columns.specs.Places.{items_of};
     ghost use Rattle.starlark_vec2.specs.PairList.{PairList, pair_list};
     ghost use Rattle.starlark_vec2.specs.Columns.{AreColumns};
 
     ghost Value = { PairList A B };
 
-    ghost view = { λ v. pair_list (zip (items_of v.firsts) (items_of v.seconds)) (length v.firsts) };
+    ghost view = { λ v. pair_list (zip (items_of v.firsts.places) (items_of v.seconds.places)) (length v.firsts.places) };
 
-    ghost invariant = { λ v. AreColumns v.firsts v.seconds v.len };
+    ghost invariant = { λ v. AreColumns v.firsts.places v.seconds.places v.len × IsBlockOf v.block v.firsts v.seconds };
 }
 
 // Making
@@ -52,11 +56,13 @@ impl<A, B> Vec2<A, B> {
     pub fn new(alloc: Global) -> Vec2<A, B>
         ensures { result ≡ pair_list [] 0 }
     {
+        let (firsts, seconds, block) = no_rows(alloc);
         Vec2 {
-            firsts: Column::new(),
-            seconds: Column::new(),
+            firsts,
+            seconds,
             len: 0,
             alloc,
+            block,
         }
     }
 
@@ -68,12 +74,13 @@ impl<A, B> Vec2<A, B> {
         ensures made { IfOk result (λ v. v ≡ pair_list [] capacity) }
         ensures succeeds { capacity ≡ 0 → IsOk result }
     {
-        let (firsts, seconds) = both_columns(alloc, capacity)?;
+        let (firsts, seconds, block) = with_rows(alloc, capacity)?;
         Ok(Vec2 {
             firsts,
             seconds,
             len: 0,
             alloc,
+            block,
         })
     }
 }
@@ -215,16 +222,20 @@ impl<A, B> Vec2<A, B> {
         self.refit(capacity)
     }
 
-    // Moves the pairs to new columns of so many places, once both are there.
+    // Moves the pairs to columns of so many places in a new block, and gives the old one back.
     #[tactic(auto, using(crate::proofs::Pairs::columns))]
     fn refit(&mut self, capacity: usize) -> Result<(), AllocError>
         requires { length self.old.pairs ≤ capacity }
         ensures list { self.new ≡ (if is_ok result then pair_list self.old.pairs capacity else self.old) }
         ensures succeeds { capacity ≡ 0 → IsOk result }
     {
-        let (firsts, seconds) = both_columns(self.alloc, capacity)?;
-        self.firsts.move_all(self.alloc, self.len, firsts);
-        self.seconds.move_all(self.alloc, self.len, seconds);
+        let (mut firsts, mut seconds, mut block) = with_rows(self.alloc, capacity)?;
+        self.firsts.move_all(self.len, &mut firsts);
+        self.seconds.move_all(self.len, &mut seconds);
+        mem::swap(&mut self.firsts, &mut firsts);
+        mem::swap(&mut self.seconds, &mut seconds);
+        mem::swap(&mut self.block, &mut block);
+        give_back(self.alloc, firsts, seconds, block);
         Ok(())
     }
 
@@ -306,8 +317,8 @@ impl<A, B> Vec2<A, B> {
         ))
     }
 
-    /// Makes the capacity equal to the length. Both new columns are there before a pair moves; where there is no memory
-    /// for them, the list is as it was. Without pairs, or at a capacity that fits already, no memory is needed.
+    /// Makes the capacity equal to the length. The new block is there before a pair moves; where there is no memory
+    /// for it, the list is as it was. Without pairs, or at a capacity that fits already, no memory is needed.
     #[tactic(auto, using(crate::proofs::Pairs::columns))]
     pub fn shrink_to_fit(&mut self) -> Result<(), AllocError>
         ensures list { self.new ≡ (if is_ok result then pair_list self.old.pairs (length self.old.pairs) else self.old) }
@@ -358,12 +369,14 @@ impl<A: Drop, B: Drop> Vec2<A, B> {
 impl<A: Drop, B: Drop> Drop for Vec2<A, B> {
     fn drop(self) {
         let Vec2 {
-            firsts,
-            seconds,
+            mut firsts,
+            mut seconds,
             len,
             alloc,
+            block,
         } = self;
-        firsts.drop_all(alloc, len);
-        seconds.drop_all(alloc, len);
+        firsts.truncate(len, 0);
+        seconds.truncate(len, 0);
+        give_back(alloc, firsts, seconds, block);
     }
 }

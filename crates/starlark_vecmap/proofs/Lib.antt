@@ -2,10 +2,9 @@ pub mod Masks
 pub mod Blocks
 pub mod Searching
 pub mod Views
-pub mod Asked
+pub mod FirstAccepted
 pub mod Ordering
-pub mod Writes
-pub mod Carry
-pub mod Sorts
-pub mod Written
+pub mod OneValueWritten
+pub mod MappedRetention
+pub mod ValuesWritten
 pub mod VecMapOpen

@@ -1,8 +1,8 @@
 //! What a vector map does to its two columns: pairs of a key and a value, and the hash of each.
 ghost use Rattle.std.specs.Prelude.{◌≡◌, length, fold, MatchBool, IsSortedByKey};
-ghost use Rattle.starlark_hash.specs.Search.{Asks, CanSearch, keys_under};
+ghost use Rattle.starlark_lists.specs.Search.{Asks, CanSearch, keys_under};
 ghost use Rattle.starlark_vecmap.specs.EntryList.{entries_in};
-ghost use Rattle.starlark_vecmap.specs.Ordered.{ordered_feed};
+ghost use Rattle.starlark_lists.specs.Ordered.{ordered_feed};
 
 use crate::hash_search::find_hash_from;
 use starlark_hash::StarlarkHashValue;

@@ -5,15 +5,31 @@ ghost use Rattle.std.specs.Simd.Lanes.{mask_l, chunk};
 
 use std::simd::prelude::*;
 
+// Up to so many hashes are searched without a call.
+const SHORT: usize = 8;
+
 // How many hashes one mask covers.
 const BLOCK: usize = 32;
-
-// How many hashes are compared at once.
-const CHUNK: usize = 4;
 
 /// The least place at which the array has this hash.
 #[inline]
 pub fn find_hash_in_array(array: &[u32], hash: u32) -> Option<usize>
+    ensures place { result ≡ position (λ h. h == hash) array.now }
+    ensures within { IfSome result (λ i. i < length array.now) }
+{
+    if array.len() > SHORT {
+        return find_hash_in_blocks(array, hash);
+    }
+    let mask = places_of_short(array, hash);
+    if mask == 0 {
+        return None;
+    }
+    Some(mask.trailing_zeros() as usize)
+}
+
+// The same of an array of more hashes, block by block.
+fn find_hash_in_blocks(array: &[u32], hash: u32) -> Option<usize>
+    requires { 8 < length array.now }
     ensures place { result ≡ position (λ h. h == hash) array.now }
     ensures within { IfSome result (λ i. i < length array.now) }
 {
@@ -28,7 +44,8 @@ pub fn find_hash_in_array(array: &[u32], hash: u32) -> Option<usize>
         passed += BLOCK;
         rest = tail;
     }
-    let start = passed.min(array.len().saturating_sub(CHUNK));
+    // The last block may begin among the hashes that were passed over.
+    let start = passed.min(array.len() - SHORT);
     let mask = places_of(&array[start..], hash);
     if mask == 0 {
         return None;
@@ -36,20 +53,30 @@ pub fn find_hash_in_array(array: &[u32], hash: u32) -> Option<usize>
     Some(start + mask.trailing_zeros() as usize)
 }
 
-// A bit for each place of a block, set where it has this hash. No branch depends on the place. Two runs of four, eight or sixteen
-// hashes cover a block: the second ends where the block does, and may begin in the first, whose bits count.
+// A bit for each place of a short array, set where it has this hash. No branch depends on the place. Two runs of four hashes cover
+// it: the second ends where the array does, and may begin in the first, whose bits count.
+#[inline]
+fn places_of_short(array: &[u32], hash: u32) -> u64
+    requires { length array.now ≤ 8 }
+    ensures { result ≡ mask_l (map (λ h. h == hash) array.now) }
+{
+    let len = array.len();
+    if len < 4 {
+        return places_of_few(array, hash);
+    }
+    let last = places_of_four(array, len - 4, hash);
+    places_of_four(array, 0, hash) + ((last >> (8 - len)) << 4)
+}
+
+// The same of a block, by two runs of eight or sixteen.
 #[inline]
 fn places_of(block: &[u32], hash: u32) -> u64
-    requires { length block.now ≤ 32 }
+    requires enough { 8 ≤ length block.now }
+    requires few { length block.now ≤ 32 }
     ensures { result ≡ mask_l (map (λ h. h == hash) block.now) }
 {
     let len = block.len();
-    if len < 4 {
-        places_of_few(block, hash)
-    } else if len <= 8 {
-        let last = places_of_four(block, len - 4, hash);
-        places_of_four(block, 0, hash) + ((last >> (8 - len)) << 4)
-    } else if len <= 16 {
+    if len <= 16 {
         let last = places_of_eight(block, len - 8, hash);
         places_of_eight(block, 0, hash) + ((last >> (16 - len)) << 8)
     } else {

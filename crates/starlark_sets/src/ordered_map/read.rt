@@ -2,7 +2,7 @@
 ghost use Rattle.std.specs.Prelude.{◌≡◌, ◌<◌, ◌==◌, slice_get, length, is_some, IfSome};
 ghost use Rattle.std.specs.Map.Iter.{deref_pair};
 ghost use Rattle.std.specs.Option.{option_copied, option_map};
-ghost use Rattle.starlark_hash.specs.Entries.{value_at, pair_of};
+ghost use Rattle.starlark_lists.specs.Entries.{value_at, pair_of};
 ghost use Rattle.starlark_small.specs.Map.{own_match};
 
 use super::OrderedMap;

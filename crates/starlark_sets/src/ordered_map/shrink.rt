@@ -1,6 +1,6 @@
 //! What takes entries out of an `OrderedMap`. None of it asks for memory.
 ghost use Rattle.std.specs.Prelude.{◌≡◌, []};
-ghost use Rattle.starlark_hash.specs.Entries.{value_at, without};
+ghost use Rattle.starlark_lists.specs.Entries.{value_at, without};
 ghost use Rattle.starlark_small.specs.Map.{KeepsMemory, own_match};
 
 use super::OrderedMap;

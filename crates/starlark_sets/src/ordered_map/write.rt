@@ -3,7 +3,7 @@ ghost use Rattle.std.specs.Prelude.{◌≡◌, ◌^◌, ◌<◌, length, map, No
 ghost use Rattle.std.specs.Borrow.{sem};
 ghost use Rattle.std.specs.Map.{values_of};
 ghost use Rattle.std.specs.Option.{option_copied_mut, IfNone};
-ghost use Rattle.starlark_hash.specs.Entries.{entry_value, pair_of, value_at};
+ghost use Rattle.starlark_lists.specs.Entries.{entry_value, pair_of, value_at};
 ghost use Rattle.starlark_small.specs.Map.{own_hashed, own_match};
 ghost use Rattle.starlark_small.specs.MapEntry.{IsEntryOf};
 ghost use Rattle.starlark_sets.specs.OrderedLending.{follows_entry, lends_found, lends_inside, values_follow};
@@ -27,7 +27,7 @@ impl<K: Eq, V> OrderedMap<K, V> {
 
     /// The values in order, to write them. The map ends with what is left in them; keys, hashes, order, room, capacity
     /// and index stay.
-    #[tactic(auto, using(starlark_vecmap::proofs::Written::written))]
+    #[tactic(auto, using(starlark_vecmap::proofs::ValuesWritten::written))]
     #[inline]
     pub fn values_mut(&mut self) -> ValuesMut<'_, K, V>
         ensures* writes_back { sem 𝓛 (values_follow K.row V.row K.PartialEq self.entry result.1) }

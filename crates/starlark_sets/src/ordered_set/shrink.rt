@@ -1,6 +1,6 @@
 //! What takes elements out of an `OrderedSet`, and what turns it round. None of it asks for memory.
 ghost use Rattle.std.specs.Prelude.{◌≡◌, [], reverse};
-ghost use Rattle.starlark_hash.specs.Entries.{without};
+ghost use Rattle.starlark_lists.specs.Entries.{without};
 ghost use Rattle.starlark_small.specs.Map.{KeepsMemory, own_match};
 ghost use Rattle.starlark_sets.specs.Set.{element_at};
 

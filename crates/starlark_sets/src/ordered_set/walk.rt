@@ -1,7 +1,7 @@
 //! The walks of an `OrderedSet`, which are those of the set inside.
 ghost use Rattle.std.specs.Prelude.{◌≡◌, ◌^◌, ◌<◌, length, map};
 ghost use Rattle.std.specs.Map.Iter.{ShowsInOrder, ShowsInReverse, GivesInOrder, GivesInReverse, deref};
-ghost use Rattle.starlark_hash.specs.Entries.{IsSingle, entry_key};
+ghost use Rattle.starlark_lists.specs.Entries.{IsSingle, entry_key};
 ghost use Rattle.starlark_sets.specs.Union.{ShowsUnion, union};
 
 use super::OrderedSet;

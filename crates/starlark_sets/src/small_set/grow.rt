@@ -1,7 +1,8 @@
 //! What puts elements into a `SmallSet`, and what may ask for memory.
 ghost use Rattle.std.specs.Prelude.{◌≡◌, ◌+◌, ◌<◌, ◌≤◌, ◌||◌, length, not, nat_lt, is_ok, is_some, IfOk, IfErr, IsOk, OnOk, OnErr};
-ghost use Rattle.starlark_hash.specs.Entries.{match_of};
-ghost use Rattle.starlark_hash.specs.Sorting.{Ascends, sorted_by_key};
+ghost use Rattle.starlark_lists.specs.Entries.{match_of};
+ghost use Rattle.starlark_lists.specs.Sorting.{Ascends, sorted_by_key};
+ghost use Rattle.starlark_small.specs.Growth.{reserved_capacity};
 ghost use Rattle.starlark_small.specs.Index.{unindexed};
 ghost use Rattle.starlark_small.specs.Map.{GrowsFor, KeepsMemory, KeepsRoom, own_hashed};
 ghost use Rattle.starlark_sets.specs.Set.{Adds};
@@ -53,6 +54,7 @@ impl<T: Eq> SmallSet<T> {
 
         ensures room { KeepsRoom self.old self.new }
         ensures capacity { GrowsFor (length self.old.entries + additional) self.old self.new }
+        ensures grown { OnOk result (self.new.capacity ≡ reserved_capacity self.old additional) }
     {
         self.map.reserve(additional)
     }

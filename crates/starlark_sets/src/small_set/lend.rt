@@ -2,7 +2,7 @@
 ghost use Rattle.std.specs.Prelude.{◌≡◌, ◌<◌, length, slice_get, Some, IfErr, IfOk, IsOk};
 ghost use Rattle.std.specs.Borrow.{sem};
 ghost use Rattle.std.specs.Option.{option_map, unwrap_or};
-ghost use Rattle.starlark_hash.specs.Entries.{entry_key, match_of};
+ghost use Rattle.starlark_lists.specs.Entries.{entry_key, match_of};
 ghost use Rattle.starlark_hash.specs.Hasher.{own_hash};
 ghost use Rattle.starlark_hash.specs.HashValue.{key_of};
 ghost use Rattle.starlark_small.specs.Map.{own_hashed};

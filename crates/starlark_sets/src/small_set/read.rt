@@ -1,7 +1,7 @@
 //! What a `SmallSet` has: elements by hash, by equality under their own hash, and by place.
 ghost use Rattle.std.specs.Prelude.{◌≡◌, ◌-◌, ◌<◌, ◌≤◌, ◌==◌, length, slice_get, is_some, IfSome, Some};
 ghost use Rattle.std.specs.Option.{option_copied, option_map};
-ghost use Rattle.starlark_hash.specs.Entries.{entry_key};
+ghost use Rattle.starlark_lists.specs.Entries.{entry_key};
 ghost use Rattle.starlark_small.specs.Map.{own_match, query_match, query_match_by_value};
 ghost use Rattle.starlark_sets.specs.Set.{element_at};
 

@@ -1,7 +1,7 @@
 //! `SmallSet::retain`.
 ghost use Rattle.std.specs.Fn.{CalledAt, TakesAt};
 ghost use Rattle.starlark_small.specs.Map.{KeepsMemory};
-ghost use Rattle.starlark_vec2.specs.Retain.{Retains, TakesInTurn};
+ghost use Rattle.starlark_lists.specs.Retain.{Retains, TakesInTurn};
 ghost use Rattle.starlark_sets.specs.Retain.{CalledAtElement, TakesElement};
 
 use super::SmallSet;

@@ -1,7 +1,7 @@
 //! What takes elements out of a `SmallSet`, and what turns it round. None of it asks for memory.
 ghost use Rattle.std.specs.Prelude.{◌≡◌, ◌-◌, [], is_some, length, remove, reverse, slice_get};
 ghost use Rattle.std.specs.Option.{option_map};
-ghost use Rattle.starlark_hash.specs.Entries.{entry_key, without};
+ghost use Rattle.starlark_lists.specs.Entries.{entry_key, without};
 ghost use Rattle.starlark_small.specs.Map.{KeepsMemory, own_match, query_match};
 ghost use Rattle.starlark_sets.specs.Set.{element_at};
 

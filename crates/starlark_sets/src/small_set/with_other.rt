@@ -1,6 +1,6 @@
 //! A `SmallSet` beside another: what one has and the other lacks, and what is in either.
 ghost use Rattle.std.specs.Prelude.{◌≡◌};
-ghost use Rattle.starlark_hash.specs.Entries.{IsSingle};
+ghost use Rattle.starlark_lists.specs.Entries.{IsSingle};
 ghost use Rattle.starlark_sets.specs.Difference.{ShowsDifference, difference};
 ghost use Rattle.starlark_sets.specs.Union.{ShowsUnion, union};
 

@@ -1,19 +1,17 @@
 //! Room in the index, which is made where the list grows too long to do without.
-ghost use Rattle.std.specs.Prelude.{◌≡◌, ◌+◌, ◌<◌, ◌≤◌, ◌∷◌, [], ◌++◌, ◌||◌, length, is_some, nat_lt, OnOk, OnErr};
-ghost use Rattle.starlark_hash.specs.Entries.{Entry, entry_hash};
+ghost use Rattle.std.specs.Prelude.{◌≡◌, ◌+◌, ◌<◌, ◌≤◌, ◌∷◌, [], ◌++◌, ◌||◌, length, is_some, nat_lt, IfOk, IsOk, OnOk, OnErr};
+ghost use Rattle.starlark_lists.specs.Entries.{Entry, entry_hash};
 ghost use Rattle.starlark_small.specs.Index.{IsIndexed, index_room, unindexed};
 
+use super::UNINDEXED;
 use super::places::new_index;
 use starlark_hash::StarlarkHashValue;
 use starlark_table::ReadyTable;
 use starlark_vecmap::VecMap;
 use std::alloc::{AllocError, Global};
 
-// The greatest length that a list may have without an index.
-pub(crate) const UNINDEXED: usize = 32;
-
 // Makes room in the index for so many new entries, for which the list has room.
-pub(super) fn reserve_index<K, V>(
+pub(crate) fn reserve_index<K, V>(
     alloc: Global,
     index: &mut Option<ReadyTable<usize>>,
     entries: &VecMap<K, V>,
@@ -36,15 +34,14 @@ pub(super) fn reserve_index<K, V>(
     if additional <= UNINDEXED - entries.len() {
         return Ok(());
     }
-    // for the proof: the sum is within the capacity, which is a number of the machine
-    let _capacity = entries.capacity();
+    prove!(additional <= entries.capacity() - entries.len());
     let table = new_index(alloc, entries, entries.len() + additional)?;
     *index = Some(table);
     Ok(())
 }
 
 // Notes the place of an entry that is to go last.
-pub(super) fn index_last<K, V>(
+pub(crate) fn index_last<K, V>(
     index: &mut Option<ReadyTable<usize>>,
     entries: &VecMap<K, V>,
     hash: StarlarkHashValue,
@@ -57,5 +54,22 @@ pub(super) fn index_last<K, V>(
 {
     if let Some(table) = index {
         table.insert_reserved(hash.promote(), entries.len());
+    }
+}
+
+// An index of the list, where it is too long to do without.
+pub(crate) fn needed_index<K, V>(
+    alloc: Global,
+    entries: &VecMap<K, V>,
+) -> Result<Option<ReadyTable<usize>>, AllocError>
+    ensures indexed { IfOk result (λ index. IsIndexed entries.now.entries index) }
+    ensures long { IfOk result (λ index. is_some index ≡ nat_lt unindexed (length entries.now.entries)) }
+    ensures succeeds { length entries.now.entries ≤ unindexed → IsOk result }
+{
+    if entries.len() > UNINDEXED {
+        let table = new_index(alloc, entries, entries.capacity())?;
+        Ok(Some(table))
+    } else {
+        Ok(None)
     }
 }

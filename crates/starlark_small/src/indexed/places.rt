@@ -1,7 +1,7 @@
 //! The places that an index holds: taken out, moved and filled in.
 ghost use Rattle.std.specs.Prelude.{◌≡◌, ◌+◌, ◌-◌, ◌<◌, ◌≤◌, ◌==◌, Some, true, List, [], ◌∷◌, length, map, remove, is_some, IfOk, IfSome, IsPermutation};
 ghost use Rattle.std.specs.List.{Contains};
-ghost use Rattle.starlark_hash.specs.Entries.{Entry};
+ghost use Rattle.starlark_lists.specs.Entries.{Entry};
 ghost use Rattle.starlark_hash.specs.HashValue.{hash_number, promoted};
 ghost use Rattle.starlark_small.specs.Index.{IsIndexOf, IsIndexed, hashes_in, index_room, lowered, moved_below};
 ghost use Rattle.starlark_table.specs.Table.{members, member_at, table_len};
@@ -58,10 +58,12 @@ fn take_under(index: &mut ReadyTable<usize>, hash: StarlarkHashValue)
 fn near_slot(index: &ReadyTable<usize>, hash: StarlarkHashValue, place: usize) -> Option<usize>
     ensures { IfSome result (λ slot. member_at index.now slot ≡ Some (promoted (hash_number hash), place)) }
 {
-    let slot = index.find_near(hash.promote(), |i: &usize| *i == place)?;
-    // for the proof: of this slot the table says no more than that it has the hash
-    let found = index.get(slot)?;
-    if *found == place { Some(slot) } else { None }
+    index.find_near(
+        hash.promote(),
+        |i: &usize| -> bool
+            ensures { result ≡ (i.now == place) }
+        { *i == place },
+    )
 }
 
 // Moves the place of a slot one down: the old members and the lower place are the new members and this place.
@@ -129,7 +131,7 @@ fn remove_place<K, V>(index: &mut ReadyTable<usize>, entries: &VecMap<K, V>, pla
 }
 
 // The same of an index that may be missing.
-pub(super) fn unindex<K, V>(
+pub(crate) fn unindex<K, V>(
     index: &mut Option<ReadyTable<usize>>,
     entries: &VecMap<K, V>,
     place: usize,
@@ -165,7 +167,7 @@ fn empty_index<K, V>(index: &mut ReadyTable<usize>, entries: &VecMap<K, V>)
 }
 
 // The same of an index that may be missing.
-pub(super) fn unindex_all<K, V>(index: &mut Option<ReadyTable<usize>>, entries: &VecMap<K, V>)
+pub(crate) fn unindex_all<K, V>(index: &mut Option<ReadyTable<usize>>, entries: &VecMap<K, V>)
     requires { (before : List (Entry K V)) × IsIndexed before index.old × IsPermutation before entries.now.entries }
     ensures empty { IsIndexed {K = K} {V = V} [] index.new }
     ensures room { length entries.now.entries + index_room (length entries.now.entries) index.old ≤ index_room 0 index.new }
@@ -190,7 +192,7 @@ pub(super) fn fill_index<K, V>(index: &mut ReadyTable<usize>, entries: &VecMap<K
 }
 
 // The same of an index that may be missing.
-pub(super) fn index_all<K, V>(index: &mut Option<ReadyTable<usize>>, entries: &VecMap<K, V>)
+pub(crate) fn index_all<K, V>(index: &mut Option<ReadyTable<usize>>, entries: &VecMap<K, V>)
     requires empty { IsIndexed {K = K} {V = V} [] index.old }
     requires room { length entries.now.entries ≤ index_room 0 index.old }
     ensures indexed { IsIndexed entries.now.entries index.new }

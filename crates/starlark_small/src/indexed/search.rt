@@ -1,8 +1,8 @@
 //! Searches through the index.
 ghost use Rattle.std.specs.Prelude.{◌≡◌, ◌<◌, length, slice_get, Some};
 ghost use Rattle.std.specs.Fn.{CalledAt, TakesAt};
-ghost use Rattle.starlark_hash.specs.Entries.{Entry, IsSingle, entry_key};
-ghost use Rattle.starlark_hash.specs.Search.{CanSearch, Searches, keys_under};
+ghost use Rattle.starlark_lists.specs.Entries.{Entry, IsSingle, entry_key};
+ghost use Rattle.starlark_lists.specs.Search.{CanSearch, Searches, keys_under};
 ghost use Rattle.starlark_small.specs.Index.{IsIndexOf};
 ghost use Rattle.starlark_small.specs.Map.{query_match};
 
@@ -12,7 +12,7 @@ use starlark_vecmap::VecMap;
 
 // A place under the hash whose key `eq` accepts.
 #[inline]
-pub(super) fn find_indexed<K, V, F: FnMut(&K) -> bool>(
+pub(crate) fn find_indexed<K, V, F: FnMut(&K) -> bool>(
     entries: &VecMap<K, V>,
     index: &ReadyTable<usize>,
     hash: StarlarkHashValue,
@@ -36,7 +36,7 @@ pub(super) fn find_indexed<K, V, F: FnMut(&K) -> bool>(
 
 // The place of a single list under the query's hash whose key the query is equivalent to.
 #[inline]
-pub(super) fn position_indexed<K: Eq, V, Q: Equivalent<K>>(
+pub(crate) fn position_indexed<K: Eq, V, Q: Equivalent<K>>(
     entries: &VecMap<K, V>,
     index: &ReadyTable<usize>,
     key: Hashed<&Q>,

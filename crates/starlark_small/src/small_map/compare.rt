@@ -2,10 +2,9 @@
 ghost use Rattle.std.specs.Prelude.{◌≡◌, fold};
 ghost use Rattle.starlark_small.specs.Compare.{same_entries};
 ghost use Rattle.starlark_small.specs.EqualityLaws.{same_entries_laws, same_entries_equivalence};
-ghost use Rattle.starlark_vecmap.specs.Ordered.{same_ordered, ordered_feed};
+ghost use Rattle.starlark_lists.specs.Ordered.{same_ordered, ordered_feed};
 
 use super::SmallMap;
-use crate::indexed::same_in;
 use std::fmt;
 use std::hash::{Hash, Hasher};
 
@@ -17,7 +16,22 @@ impl<K: Eq, V: PartialEq> PartialEq for SmallMap<K, V> {
     ghost laws = { same_entries_laws K.eq V.eq K.Eq.laws V.laws };
 
     fn eq(&self, other: &SmallMap<K, V>) -> bool {
-        same_in(&self.entries, &other.entries, &other.index)
+        let len = self.entries.len();
+        if len != other.entries.len() {
+            return false;
+        }
+        for i in 0..len {
+            let (key, value) = self.entries.get_unchecked(i);
+            match other.get_hashed(key) {
+                Some(found) => {
+                    if !value.eq(found) {
+                        return false;
+                    }
+                }
+                None => return false,
+            }
+        }
+        true
     }
 }
 

@@ -4,10 +4,10 @@ ghost use Rattle.std.specs.List.{AllZip};
 ghost use Rattle.starlark_small.specs.Clone.{IsEqualClone};
 ghost use Rattle.starlark_small.specs.Index.{unindexed};
 ghost use Rattle.starlark_vec2.specs.Collect.{IsLawfulClone};
-ghost use Rattle.starlark_vecmap.specs.Clone.{IsEntryClone};
+ghost use Rattle.starlark_lists.specs.Clone.{IsEntryClone};
 
 use super::SmallMap;
-use crate::indexed::clone_in;
+use crate::indexed::needed_index;
 use std::alloc::AllocError;
 
 impl<K: Eq + Clone, V: Clone> SmallMap<K, V> {
@@ -23,7 +23,8 @@ impl<K: Eq + Clone, V: Clone> SmallMap<K, V> {
         ensures indexed { IfOk result (λ map. map.indexed ≡ nat_lt unindexed (length self.now.entries)) }
         ensures succeeds { length self.now.entries ≡ 0 → IsOk result }
     {
-        let (entries, index) = clone_in(self.alloc, &self.entries)?;
+        let entries = self.entries.clone()?;
+        let index = needed_index(self.alloc, &entries)?;
         Ok(SmallMap {
             entries,
             index,

@@ -1,16 +1,16 @@
-//! What puts entries into a `SmallMap`, and what may ask for memory.
+//! What puts entries into a `SmallMap`, and makes room for them.
 ghost use Rattle.std.specs.Prelude.{◌≡◌, ◌+◌, ◌<◌, ◌≤◌, ◌||◌, length, nat_lt, None, IsSome, IfOk, IfErr, OnOk, OnErr};
-ghost use Rattle.starlark_hash.specs.Entries.{value_at, match_of, insert_entry};
-ghost use Rattle.starlark_hash.specs.Sorting.{Ascends, sorted_by_key};
+ghost use Rattle.starlark_lists.specs.Entries.{value_at, match_of, insert_entry};
 ghost use Rattle.starlark_small.specs.Growth.{reserved_capacity};
 ghost use Rattle.starlark_small.specs.Index.{unindexed};
-ghost use Rattle.starlark_small.specs.Map.{KeepsMemory, KeepsRoom, GrowsFor, own_hashed};
+ghost use Rattle.starlark_small.specs.Map.{KeepsRoom, GrowsFor, own_hashed};
 
 use super::SmallMap;
-use crate::indexed::{insert_in, reserve_in, sort_in};
+use crate::indexed::{UNINDEXED, reserve_index};
 use starlark_hash::{Hashed, NoRoom};
 use std::alloc::AllocError;
 use std::hash::Hash;
+use std::mem;
 
 impl<K: Eq, V> SmallMap<K, V> {
     /// Inserts under the key's own hash, as `insert_hashed` does under one that is brought.
@@ -27,12 +27,13 @@ impl<K: Eq, V> SmallMap<K, V> {
         ensures handed_back { IfErr result (λ refused. refused.0 ≡ (key, value)) }
         ensures unchanged { OnErr result ((self.new.entries ≡ self.old.entries) × (self.new.indexed ≡ self.old.indexed)) }
 
-        // A key that is there changes nothing but its value; with room to spare nothing grows; else the
-        // capacity may, and an index is made once the list is too long to do without.
+        // A key that is there changes nothing but its value; with room to spare nothing grows; else a new
+        // one's capacity is that of a list of pairs, and an index is made once the list is too long to do without.
         ensures replaced { IsSome (match_of K.eq self.old.entries (own_hashed K.hash_input key)) → self.new ≡ record self.old { entries = self.new.entries } }
         ensures spare { 0 < self.old.room → (self.new.capacity ≡ self.old.capacity) × (self.new.indexed ≡ self.old.indexed) }
         ensures room { KeepsRoom self.old self.new }
         ensures capacity { GrowsFor (length self.old.entries + 1) self.old self.new }
+        ensures grown { OnOk result (match_of K.eq self.old.entries (own_hashed K.hash_input key) ≡ None → self.new.capacity ≡ reserved_capacity self.old 1) }
         ensures indexed { self.new.indexed ≡ (self.old.indexed || nat_lt unindexed (length self.new.entries)) }
     {
         match self.insert_hashed(Hashed::new(key), value) {
@@ -61,19 +62,28 @@ impl<K: Eq, V> SmallMap<K, V> {
         ensures handed_back { IfErr result (λ refused. refused.0 ≡ (key, value)) }
         ensures unchanged { OnErr result ((self.new.entries ≡ self.old.entries) × (self.new.indexed ≡ self.old.indexed)) }
 
-        // A key that is there changes nothing but its value; with room to spare nothing grows; else the
-        // capacity may, and an index is made once the list is too long to do without.
+        // A key that is there changes nothing but its value; with room to spare nothing grows; else a new
+        // one's capacity is that of a list of pairs, and an index is made once the list is too long to do without.
         ensures replaced { IsSome (match_of K.eq self.old.entries key) → self.new ≡ record self.old { entries = self.new.entries } }
         ensures spare { 0 < self.old.room → (self.new.capacity ≡ self.old.capacity) × (self.new.indexed ≡ self.old.indexed) }
         ensures room { KeepsRoom self.old self.new }
         ensures capacity { GrowsFor (length self.old.entries + 1) self.old self.new }
+        ensures grown { OnOk result (match_of K.eq self.old.entries key ≡ None → self.new.capacity ≡ reserved_capacity self.old 1) }
         ensures indexed { self.new.indexed ≡ (self.old.indexed || nat_lt unindexed (length self.new.entries)) }
     {
-        insert_in(self.alloc, &mut self.entries, &mut self.index, key, value)
+        prove!(self.index().is_some() || self.len() <= UNINDEXED);
+        match self.get_index_of_hashed(key.as_ref()) {
+            Some(i) => Ok(Some(mem::replace(self.value_at_mut(i), value))),
+            None => match self.push(key, value) {
+                Ok(_) => Ok(None),
+                Err(refused) => Err(refused),
+            },
+        }
     }
 
     /// Makes room for so many new entries, and the index where so many need one. Where the room is there it asks for
     /// no memory and changes nothing. A refusal leaves entries and index.
+    #[inline]
     pub fn reserve(&mut self, additional: usize) -> Result<(), AllocError>
         ensures entries { self.new.entries ≡ self.old.entries }
         ensures ok { OnOk result (additional ≤ self.new.room) }
@@ -87,19 +97,27 @@ impl<K: Eq, V> SmallMap<K, V> {
         ensures capacity { GrowsFor (length self.old.entries + additional) self.old self.new }
         ensures grown { OnOk result (self.new.capacity ≡ reserved_capacity self.old additional) }
     {
-        reserve_in(self.alloc, &mut self.entries, &mut self.index, additional)
+        if additional <= self.room() {
+            prove!(additional <= self.entries.capacity() - self.entries.len());
+            return Ok(());
+        }
+        self.grow(additional)
     }
 
-    /// Sorts by key; entries with equal keys keep their order. Where the keys ascend already it asks for no
-    /// memory. A refusal leaves the entries as they were.
-    pub fn sort_keys(&mut self) -> Result<(), AllocError>
-    where
-        K: Ord,
-        ensures entries { OnOk result (self.new.entries ≡ sorted_by_key K.cmp self.old.entries) }
-        ensures unchanged { OnErr result (self.new.entries ≡ self.old.entries) }
-        ensures needed { OnErr result (Ascends K.cmp self.old.entries → ⊥) }
-        ensures kept { KeepsMemory self.old self.new }
+    // The part of `reserve` that asks for memory, apart so that the test is inlined.
+    #[cold]
+    #[inline(never)]
+    fn grow(&mut self, additional: usize) -> Result<(), AllocError>
+        requires { self.old.room < additional }
+        ensures entries { self.new.entries ≡ self.old.entries }
+        ensures ok { OnOk result (additional ≤ self.new.room) }
+        ensures indexed { OnOk result (self.new.indexed ≡ (self.old.indexed || nat_lt unindexed (length self.old.entries + additional))) }
+        ensures unchanged { OnErr result (self.new.indexed ≡ self.old.indexed) }
+        ensures room { KeepsRoom self.old self.new }
+        ensures capacity { GrowsFor (length self.old.entries + additional) self.old self.new }
+        ensures grown { OnOk result (self.new.capacity ≡ reserved_capacity self.old additional) }
     {
-        sort_in(&mut self.entries, &mut self.index)
+        self.entries.reserve(additional)?;
+        reserve_index(self.alloc, &mut self.index, &self.entries, additional)
     }
 }

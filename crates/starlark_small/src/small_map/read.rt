@@ -2,14 +2,14 @@
 ghost use Rattle.std.specs.Prelude.{◌≡◌, ◌-◌, ◌<◌, ◌≤◌, ◌==◌, slice_get, length, is_some, IfSome, IsPermutation, IsSome, Some};
 ghost use Rattle.std.specs.Map.Iter.{deref_pair};
 ghost use Rattle.std.specs.Option.{option_copied, option_map};
-ghost use Rattle.starlark_hash.specs.Entries.{entry_at, value_at, pair_of};
-ghost use Rattle.starlark_hash.specs.Search.{CanSearch, Searches, keys_under};
+ghost use Rattle.starlark_lists.specs.Entries.{entry_at, value_at, pair_of};
+ghost use Rattle.starlark_lists.specs.Search.{CanSearch, Searches, keys_under};
 ghost use Rattle.starlark_small.specs.Index.{positions, unindexed};
 ghost use Rattle.starlark_table.specs.Table.{members};
 ghost use Rattle.starlark_small.specs.Map.{query_match, query_match_by_value, own_match};
 
 use super::SmallMap;
-use crate::indexed::{find_in, place_in, room_in};
+use crate::indexed::{UNINDEXED, find_indexed, position_indexed};
 use crate::own_hash::under_own_hash;
 use starlark_hash::{Equivalent, Hashed, StarlarkHashValue};
 use starlark_table::ReadyTable;
@@ -54,7 +54,10 @@ impl<K: Eq, V> SmallMap<K, V> {
         ensures place { result ≡ query_match Q.equivalent self.now.entries key.entry }
         ensures within { IfSome result (λ i. i < length self.now.entries) }
     {
-        place_in(&self.entries, &self.index, key)
+        match &self.index {
+            Some(table) => position_indexed(&self.entries, table, key),
+            None => self.entries.get_index_of_hashed(key),
+        }
     }
 
     /// A place under this hash whose key `eq` accepts. It is asked about the keys under this hash alone, about each at
@@ -68,7 +71,10 @@ impl<K: Eq, V> SmallMap<K, V> {
         requires { CanSearch F.FnMut (keys_under hash self.now.entries) eq }
         ensures { (last : F) × Searches F.FnMut (keys_under hash self.now.entries) eq result last }
     {
-        find_in(&self.entries, &self.index, hash, eq)
+        match &self.index {
+            Some(table) => find_indexed(&self.entries, table, hash, eq),
+            None => self.entries.get_index_of_hashed_raw(hash, eq),
+        }
     }
 
     /// As `get_index_of_hashed`, by a query that is handed over and dropped.
@@ -206,7 +212,12 @@ impl<K: Eq, V> SmallMap<K, V> {
     pub fn room(&self) -> usize
         ensures { result ≡ self.now.room }
     {
-        room_in(&self.entries, &self.index)
+        let len = self.entries.len();
+        let left = match &self.index {
+            Some(table) => table.room(),
+            None => UNINDEXED - len,
+        };
+        (self.entries.capacity() - len).min(left)
     }
 
     /// The index, where there is one: each place under the promoted hash of its entry, and no other member.

@@ -1,12 +1,12 @@
-//! What takes entries out of a `SmallMap`, and what turns it round. None of it asks for memory.
-ghost use Rattle.std.specs.Prelude.{◌≡◌, ◌+◌, ◌-◌, ◌<◌, ◌≤◌, [], false, min, nat_le, remove, reverse, slice_get, length, if◌then◌else◌, Some};
+//! What takes entries out of a `SmallMap`. None of it asks for memory.
+ghost use Rattle.std.specs.Prelude.{◌≡◌, ◌+◌, ◌-◌, ◌<◌, ◌≤◌, [], false, min, nat_le, remove, slice_get, length, if◌then◌else◌, Some};
 ghost use Rattle.std.specs.Option.{option_map};
-ghost use Rattle.starlark_hash.specs.Entries.{entry_at, value_at, pair_of, without};
+ghost use Rattle.starlark_lists.specs.Entries.{entry_at, value_at, pair_of, without};
 ghost use Rattle.starlark_small.specs.Index.{unindexed};
 ghost use Rattle.starlark_small.specs.Map.{KeepsMemory, query_match, own_match};
 
 use super::SmallMap;
-use crate::indexed::{clear_in, drop_index, pop_in, remove_at, reverse_in};
+use crate::indexed::{UNINDEXED, unindex, unindex_all};
 use crate::own_hash::under_own_hash;
 use starlark_hash::{Equivalent, Hashed};
 use std::hash::Hash;
@@ -94,11 +94,12 @@ impl<K: Eq, V> SmallMap<K, V> {
         ensures entries { self.new.entries ≡ remove self.old.entries (length self.old.entries - 1) }
         ensures kept { KeepsMemory self.old self.new }
     {
-        let (key, value) = pop_in(&mut self.entries, &mut self.index)?;
+        let (key, value) = self.take_last()?;
         Some((key.into_key(), value))
     }
 
     /// Removes each entry. The memory stays for those to come.
+    #[tactic(auto, using(crate::proofs::Emptying::in_its_order))]
     pub fn clear(&mut self)
     where
         K: Drop,
@@ -106,15 +107,9 @@ impl<K: Eq, V> SmallMap<K, V> {
         ensures entries { self.new.entries ≡ [] }
         ensures kept { KeepsMemory self.old self.new }
     {
-        clear_in(&mut self.entries, &mut self.index);
-    }
-
-    /// Turns the order of the entries round.
-    pub fn reverse(&mut self)
-        ensures entries { self.new.entries ≡ reverse self.old.entries }
-        ensures kept { KeepsMemory self.old self.new }
-    {
-        reverse_in(&mut self.entries, &mut self.index);
+        prove!(self.entries.len() <= self.entries.capacity());
+        unindex_all(&mut self.index, &self.entries);
+        self.entries.clear();
     }
 
     /// Drops the index where the list is short enough to do without. No other call does.
@@ -125,7 +120,9 @@ impl<K: Eq, V> SmallMap<K, V> {
         ensures room { min (length self.old.entries + self.old.room) unindexed ≤ length self.new.entries + self.new.room }
         ensures long { unindexed < length self.old.entries → self.new ≡ self.old }
     {
-        drop_index(&self.entries, &mut self.index);
+        if self.entries.len() <= UNINDEXED {
+            self.index = None;
+        }
     }
 
     // Takes out the entry at a place. Those after it move up.
@@ -135,6 +132,24 @@ impl<K: Eq, V> SmallMap<K, V> {
         ensures entries { self.new.entries ≡ remove self.old.entries index }
         ensures kept { KeepsMemory self.old self.new }
     {
-        remove_at(&mut self.entries, &mut self.index, index)
+        prove!(self.entries.len() <= self.entries.capacity());
+        unindex(&mut self.index, &self.entries, index);
+        self.entries.remove(index)
+    }
+
+    // Takes out the last entry.
+    #[inline]
+    fn take_last(&mut self) -> Option<(Hashed<K>, V)>
+        ensures taken { result ≡ slice_get self.old.entries (length self.old.entries - 1) }
+        ensures entries { self.new.entries ≡ remove self.old.entries (length self.old.entries - 1) }
+        ensures kept { KeepsMemory self.old self.new }
+    {
+        prove!(self.entries.len() <= self.entries.capacity());
+        let len = self.entries.len();
+        if len == 0 {
+            return None;
+        }
+        unindex(&mut self.index, &self.entries, len - 1);
+        self.entries.pop()
     }
 }

@@ -2,14 +2,14 @@
 ghost use Rattle.std.specs.Prelude.{◌≡◌, ◌<◌, length, slice_get, Some, None, IfErr, IfOk, OnErr, OnOk};
 ghost use Rattle.std.specs.Borrow.{sem};
 ghost use Rattle.std.specs.Option.{option_map};
-ghost use Rattle.starlark_hash.specs.Entries.{match_of, pair_of};
+ghost use Rattle.starlark_lists.specs.Entries.{match_of, pair_of};
 ghost use Rattle.starlark_hash.specs.HashValue.{key_of};
 ghost use Rattle.starlark_small.specs.Insertion.{IsInserted, IsRefused};
 ghost use Rattle.starlark_small.specs.Lending.{lends_inserted, lends_value};
 ghost use Rattle.starlark_small.specs.Map.{own_hashed};
 
 use super::SmallMap;
-use crate::indexed::push_in;
+use crate::indexed::index_last;
 use starlark_hash::{Hashed, NoRoom};
 use std::hash::Hash;
 
@@ -82,7 +82,14 @@ impl<K: Eq, V> SmallMap<K, V> {
         ensures refused { OnErr result (IsRefused self.old self.new) }
         ensures handed_back { IfErr result (λ refused. refused.0 ≡ (key, value)) }
     {
-        push_in(self.alloc, &mut self.entries, &mut self.index, key, value)
+        // memory for the list and for the index is had before the entry is stored
+        if let Err(_) = self.reserve(1) {
+            return Err(NoRoom((key, value)));
+        }
+        let place = self.entries.len();
+        index_last(&mut self.index, &self.entries, key.hash());
+        self.entries.push_reserved(key, value);
+        Ok(place)
     }
 
     // The key and the value at a place, the value to be written.

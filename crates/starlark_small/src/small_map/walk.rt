@@ -1,7 +1,7 @@
 //! The walks of a `SmallMap`: the list in order, from both ends.
 ghost use Rattle.std.specs.Prelude.{◌≡◌, ◌^◌, ◌<◌, length, map};
 ghost use Rattle.std.specs.Map.Iter.{ShowsInOrder, ShowsInReverse, GivesInOrder, GivesInReverse, deref, deref_pair};
-ghost use Rattle.starlark_hash.specs.Entries.{Entry, IsSingle, entry_key, entry_value, pair_of};
+ghost use Rattle.starlark_lists.specs.Entries.{Entry, IsSingle, entry_key, entry_value, pair_of};
 ghost use Rattle.starlark_small.specs.Iter.{deref_entry};
 
 use super::SmallMap;

@@ -3,7 +3,7 @@ ghost use Rattle.std.specs.Prelude.{◌≡◌, ◌^◌, ◌<◌, length, map, So
 ghost use Rattle.std.specs.Borrow.{sem};
 ghost use Rattle.std.specs.Map.{values_of};
 ghost use Rattle.std.specs.Option.{option_copied_mut, IfNone};
-ghost use Rattle.starlark_hash.specs.Entries.{entry_value, pair_of, value_at};
+ghost use Rattle.starlark_lists.specs.Entries.{entry_value, pair_of, value_at};
 ghost use Rattle.starlark_small.specs.Map.{query_match, own_match};
 ghost use Rattle.starlark_small.specs.Lending.{lends_value, lends_found, values_follow};
 
@@ -53,7 +53,7 @@ impl<K: Eq, V> SmallMap<K, V> {
 
     /// The keys and values in order of insertion, to write the values. The map ends with what is left in them; keys,
     /// hashes, order, room, capacity and index stay.
-    #[tactic(auto, using(starlark_vecmap::proofs::Written::written))]
+    #[tactic(auto, using(starlark_vecmap::proofs::ValuesWritten::written))]
     #[inline]
     pub fn iter_mut(&mut self) -> IterMut<'_, K, V>
         ensures* writes_back { sem 𝓛 (values_follow K.row V.row K.PartialEq self.entry result.1) }
@@ -66,7 +66,7 @@ impl<K: Eq, V> SmallMap<K, V> {
 
     /// The values in order of insertion, to write them. The map ends with what is left in them; keys, hashes, order,
     /// room, capacity and index stay.
-    #[tactic(auto, using(starlark_vecmap::proofs::Written::written))]
+    #[tactic(auto, using(starlark_vecmap::proofs::ValuesWritten::written))]
     #[inline]
     pub fn values_mut(&mut self) -> ValuesMut<'_, K, V>
         ensures* writes_back { sem 𝓛 (values_follow K.row V.row K.PartialEq self.entry result.1) }

@@ -2,13 +2,13 @@
 ghost use Rattle.std.specs.Prelude.{◌≡◌, length, nat_lt, IsOk, IfOk, IfErr};
 ghost use Rattle.std.specs.Iterator.{IsFiniteIterable};
 ghost use Rattle.std.specs.List.{AllZip};
-ghost use Rattle.starlark_hash.specs.Sorting.{Ascends};
+ghost use Rattle.starlark_lists.specs.Sorting.{Ascends};
 ghost use Rattle.starlark_small.specs.Clone.{IsEqualClone};
 ghost use Rattle.starlark_small.specs.Collect.{own_entry};
 ghost use Rattle.starlark_small.specs.Index.{unindexed};
 ghost use Rattle.starlark_small.specs.Map.{KeepsMemory};
 ghost use Rattle.starlark_vec2.specs.Collect.{IsLawfulClone};
-ghost use Rattle.starlark_vecmap.specs.Clone.{IsEntryClone};
+ghost use Rattle.starlark_lists.specs.Clone.{IsEntryClone};
 ghost use Rattle.starlark_sorted.specs.Collect.{GivesNothing};
 ghost use Rattle.starlark_sorted.specs.Sorted.{AreOwn, CollectsSorted, IsSortedOf};
 

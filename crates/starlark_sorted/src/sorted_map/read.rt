@@ -1,7 +1,7 @@
 //! What a `SortedMap` has: entries by key under its own hash.
 ghost use Rattle.std.specs.Prelude.{◌≡◌, ◌==◌, length, is_some};
 ghost use Rattle.std.specs.Option.{option_copied};
-ghost use Rattle.starlark_hash.specs.Entries.{value_at};
+ghost use Rattle.starlark_lists.specs.Entries.{value_at};
 ghost use Rattle.starlark_small.specs.Map.{own_match};
 
 use super::SortedMap;

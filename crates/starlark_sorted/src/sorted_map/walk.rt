@@ -1,8 +1,8 @@
 //! The walks of a `SortedMap`, in ascending order of the keys.
 ghost use Rattle.std.specs.Prelude.{◌≡◌, ◌^◌, ◌<◌, length, map};
 ghost use Rattle.std.specs.Map.Iter.{ShowsInOrder, ShowsInReverse, GivesInOrder, GivesInReverse, deref, deref_pair};
-ghost use Rattle.starlark_hash.specs.Entries.{IsSingle, entry_key, entry_value, pair_of};
-ghost use Rattle.starlark_hash.specs.Sorting.{Ascends};
+ghost use Rattle.starlark_lists.specs.Entries.{IsSingle, entry_key, entry_value, pair_of};
+ghost use Rattle.starlark_lists.specs.Sorting.{Ascends};
 ghost use Rattle.starlark_small.specs.Iter.{deref_entry};
 ghost use Rattle.starlark_sorted.specs.Sorted.{AreOwn, AscendsStrictly};
 

@@ -3,7 +3,7 @@ ghost use Rattle.std.specs.Prelude.{◌≡◌, ◌^◌, ◌<◌, length, map, No
 ghost use Rattle.std.specs.Borrow.{sem};
 ghost use Rattle.std.specs.Map.{values_of};
 ghost use Rattle.std.specs.Option.{option_copied_mut, IfNone};
-ghost use Rattle.starlark_hash.specs.Entries.{entry_value, pair_of, value_at};
+ghost use Rattle.starlark_lists.specs.Entries.{entry_value, pair_of, value_at};
 ghost use Rattle.starlark_small.specs.Map.{own_match};
 ghost use Rattle.starlark_sorted.specs.Lending.{lends_found, values_follow};
 
@@ -26,7 +26,7 @@ impl<K: Ord + Hash, V> SortedMap<K, V> {
 
     /// The values in the order of their keys, to write them. The map ends with what is left in them; keys, hashes, order,
     /// room, capacity and index stay.
-    #[tactic(auto, using(starlark_vecmap::proofs::Written::written))]
+    #[tactic(auto, using(starlark_vecmap::proofs::ValuesWritten::written))]
     #[inline]
     pub fn values_mut(&mut self) -> ValuesMut<'_, K, V>
         ensures* writes_back { sem 𝓛 (values_follow K.row V.row K.cmp K.eq K.partial_cmp K.hash_input self.entry result.1) }

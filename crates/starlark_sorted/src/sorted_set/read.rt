@@ -1,7 +1,7 @@
 //! What a `SortedSet` has: elements under their own hashes, and by place.
 ghost use Rattle.std.specs.Prelude.{◌≡◌, ◌==◌, slice_get, length, is_some};
 ghost use Rattle.std.specs.Option.{option_copied, option_map};
-ghost use Rattle.starlark_hash.specs.Entries.{entry_key};
+ghost use Rattle.starlark_lists.specs.Entries.{entry_key};
 ghost use Rattle.starlark_small.specs.Map.{own_match};
 ghost use Rattle.starlark_sets.specs.Set.{element_at};
 

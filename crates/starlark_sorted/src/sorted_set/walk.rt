@@ -1,8 +1,8 @@
 //! The walks of a `SortedSet`, in ascending order.
 ghost use Rattle.std.specs.Prelude.{◌≡◌, ◌^◌, ◌<◌, length, map};
 ghost use Rattle.std.specs.Map.Iter.{ShowsInOrder, ShowsInReverse, GivesInOrder, GivesInReverse, deref};
-ghost use Rattle.starlark_hash.specs.Entries.{IsSingle, entry_key};
-ghost use Rattle.starlark_hash.specs.Sorting.{Ascends};
+ghost use Rattle.starlark_lists.specs.Entries.{IsSingle, entry_key};
+ghost use Rattle.starlark_lists.specs.Sorting.{Ascends};
 ghost use Rattle.starlark_sets.specs.Union.{ShowsUnion, union};
 ghost use Rattle.starlark_sorted.specs.Sorted.{AreOwn, AscendsStrictly};
 

@@ -16,8 +16,7 @@ impl<K: Eq + Hash, V> UnorderedMap<K, V> {
     pub fn get<Q: KeyQuery<K>>(&self, query: &Q) -> Option<&V>
         ensures { option_copied result ≡ lookup (Q.equivalent query.now) (pairs_of self.now) }
     {
-        let slot = self.slot_under(StarlarkHashValue::new(query).promote(), query)?;
-        let (_, value) = self.table.get(slot)?;
+        let (_, value) = self.pair_under(StarlarkHashValue::new(query).promote(), query)?;
         Some(value)
     }
 
@@ -26,8 +25,7 @@ impl<K: Eq + Hash, V> UnorderedMap<K, V> {
     pub fn get_hashed<Q: Equivalent<K>>(&self, key: Hashed<&Q>) -> Option<&V>
         ensures { option_copied result ≡ lookup (under_own K.hash_input (hash_of key.entry) (Q.equivalent (key_of key.entry).now)) (pairs_of self.now) }
     {
-        let slot = self.slot_hashed(key.hash(), *key.key())?;
-        let (_, value) = self.table.get(slot)?;
+        let (_, value) = self.pair_hashed(key.hash(), *key.key())?;
         Some(value)
     }
 

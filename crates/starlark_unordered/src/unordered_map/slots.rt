@@ -3,8 +3,8 @@ ghost use Rattle.std.specs.Prelude.{◌≡◌, ◌∷◌, ◌+◌, true, None, S
 ghost use Rattle.std.specs.Borrow.{sem};
 ghost use Rattle.std.specs.Fn.{CalledAt, TakesAt};
 ghost use Rattle.std.specs.Map.{lookup};
-ghost use Rattle.std.specs.Option.{is_some, option_map};
-ghost use Rattle.starlark_hash.specs.Search.{CanSearch, Searches};
+ghost use Rattle.std.specs.Option.{is_some, option_copied, option_map};
+ghost use Rattle.starlark_lists.specs.Search.{CanSearch, Searches};
 ghost use Rattle.starlark_table.specs.Table.{item_in, table_len};
 ghost use Rattle.starlark_unordered.specs.Pairs.{pairs_of, keys_under, under_own, IsSlotOf, KeepsRoom};
 ghost use Rattle.starlark_unordered.specs.Sound.{home_of};
@@ -40,6 +40,37 @@ impl<K: Eq + Hash, V> UnorderedMap<K, V> {
         ensures { IsSlotOf (under_own K.hash_input hash (Q.equivalent query.now)) self.now result }
     {
         self.table.find(
+            hash.promote(),
+            |p: &(K, V)| -> bool
+                ensures { result ≡ Q.equivalent query.entry.now p.now.0 }
+            { query.equivalent(&p.0) },
+        )
+    }
+
+    // The pair of the key, under the query's own hash.
+    #[inline]
+    pub(super) fn pair_under<Q: KeyQuery<K>>(&self, hash: u64, query: &Q) -> Option<&(K, V)>
+        requires { hash ≡ home_of Q.hash_input query.now }
+        ensures { option_map (λ p. p.1) (option_copied result) ≡ lookup (Q.equivalent query.now) (pairs_of self.now) }
+    {
+        self.table.find_item(
+            hash,
+            |p: &(K, V)| -> bool
+                ensures { result ≡ Q.equivalent query.entry.now p.now.0 }
+            { query.equivalent(&p.0) },
+        )
+    }
+
+    // The pair of the key that the query stands for, where this is the key's own hash.
+    #[inline]
+    pub(super) fn pair_hashed<Q: Equivalent<K>>(
+        &self,
+        hash: StarlarkHashValue,
+        query: &Q,
+    ) -> Option<&(K, V)>
+        ensures { option_map (λ p. p.1) (option_copied result) ≡ lookup (under_own K.hash_input hash (Q.equivalent query.now)) (pairs_of self.now) }
+    {
+        self.table.find_item(
             hash.promote(),
             |p: &(K, V)| -> bool
                 ensures { result ≡ Q.equivalent query.entry.now p.now.0 }

@@ -1,20 +1,23 @@
 //! A `Vec2` from the items of an iterator, and from clones.
-ghost use Rattle.std.specs.Prelude.{◌≡◌, ◌-◌, ◌≤◌, length, IfOk, IsOk};
+ghost use Rattle.std.specs.Prelude.{◌≡◌, ◌-◌, ◌≤◌, length, IfOk, IsOk, OnErr};
 ghost use Rattle.std.specs.List.{AllZip};
 ghost use Rattle.std.specs.Iterator.{IsFiniteIterable, IsFinite, size};
-ghost use Rattle.starlark_vec2.specs.PairList.{pair_list};
-ghost use Rattle.starlark_vec2.specs.Collect.{Pushes, Extends, Collects, IsPairClone, IsLawfulClone};
+ghost use Rattle.starlark_vec2.specs.PairList.{pair_list, IsFull, StaysOrIsFull};
+ghost use Rattle.starlark_vec2.specs.Collect.{Pushes, Extends, MayExceedRoom, Collects, IsPairClone, IsLawfulClone};
 
 use super::Vec2;
+use starlark_columns::pair::{give_back, with_rows};
 use std::alloc::{AllocError, Global};
 
 impl<A: Drop, B: Drop> Vec2<A, B> {
     /// Puts the items at the end, in their order. Room for the lower bound of the iterator's `size_hint` is made
-    /// first. Where there is no memory, the items that came before are there, and the others are dropped.
+    /// first. Where there is no memory, the list is as it was, or the items that came before fill it; the others are dropped.
     pub fn extend<I: IntoIterator<Item = (A, B)>>(&mut self, iter: I) -> Result<(), AllocError>
         requires { IsFiniteIterable I.into_iter_gives I.IntoIter.can_next I.IntoIter.remaining iter }
         ensures list { Extends I.into_iter_gives I.IntoIter.next_gives I.IntoIter.remaining iter self.old self.new result }
         ensures succeeds { ((it : _) → I.into_iter_gives iter it → size (I.IntoIter.remaining it) ≤ self.old.capacity - length self.old.pairs) → IsOk result }
+        ensures exceeds { OnErr result (MayExceedRoom I.into_iter_gives I.IntoIter.remaining iter self.old) }
+        ensures full { OnErr result (StaysOrIsFull self.old self.new) }
     {
         let items = iter.into_iter();
         self.reserve(items.size_hint().0)?;
@@ -43,10 +46,12 @@ impl<A: Drop, B: Drop> Vec2<A, B> {
         requires finite { IsFinite (I.remaining items) }
         ensures list { Pushes I.next_gives items self.old self.new result }
         ensures succeeds { size (I.remaining items) ≤ self.old.capacity - length self.old.pairs → IsOk result }
+        ensures full { OnErr result (IsFull self.new) }
     {
         while let Some(pair) = items.next() {
             let (a, b) = pair;
             if self.push(a, b).is_err() {
+                prove!(self.len() <= self.capacity());
                 return Err(AllocError);
             }
         }
@@ -64,16 +69,25 @@ impl<A: Clone, B: Clone> Vec2<A, B> {
         ensures same { IfOk result (λ v. IsLawfulClone A.is_clone → IsLawfulClone B.is_clone → v ≡ pair_list self.now.pairs (length self.now.pairs)) }
         ensures succeeds { length self.now.pairs ≡ 0 → IsOk result }
     {
-        let firsts = self.firsts.clone_items(self.alloc, self.len)?;
-        match self.seconds.clone_items(self.alloc, self.len) {
-            Ok(seconds) => Ok(Vec2 {
-                firsts,
-                seconds,
-                len: self.len,
-                alloc: self.alloc,
-            }),
+        let len = self.len;
+        let (mut firsts, mut seconds, block) = with_rows(self.alloc, len)?;
+        match self.firsts.clone_items(len, &mut firsts) {
+            Ok(()) => match self.seconds.clone_items(len, &mut seconds) {
+                Ok(()) => Ok(Vec2 {
+                    firsts,
+                    seconds,
+                    len,
+                    alloc: self.alloc,
+                    block,
+                }),
+                Err(refused) => {
+                    firsts.truncate(len, 0);
+                    give_back(self.alloc, firsts, seconds, block);
+                    Err(refused)
+                }
+            },
             Err(refused) => {
-                firsts.drop_all(self.alloc, self.len);
+                give_back(self.alloc, firsts, seconds, block);
                 Err(refused)
             }
         }

@@ -5,31 +5,34 @@ ghost use Rattle.std.specs.Iterator.SizeHint.{IsWithinCount};
 ghost use Rattle.std.specs.Map.Iter.{TakesFirst, TakesLast, GivesInOrder, GivesInReverse};
 
 use super::Vec2;
-use starlark_columns::Column;
+use starlark_columns::Row;
+use starlark_columns::pair::{Block, give_back};
 use std::alloc::Global;
 use std::iter::FusedIterator;
 use std::marker::Model;
 
 /// The pairs, by value. What is left when it is dropped is dropped with it.
 pub struct IntoIter<A, B> {
-    firsts: Column<A>,
-    seconds: Column<B>,
+    firsts: Row<A>,
+    seconds: Row<B>,
     // Where the pairs that are left begin and end.
     from: usize,
     to: usize,
     alloc: Global,
+    block: Block<A, B>,
 }
 
 impl<A, B> Model for IntoIter<A, B> {
     ghost use Rattle.std.specs.Prelude.{◌≡◌, List, length, zip};
+    ghost use Rattle.starlark_columns.specs.Block.{IsBlockOf};
     ghost use Rattle.starlark_columns.specs.Places.{items_of};
     ghost use Rattle.starlark_columns.specs.Between.{IsBetween};
 
     ghost Value = { List (A × B) };
 
-    ghost view = { λ it. zip (items_of it.firsts) (items_of it.seconds) };
+    ghost view = { λ it. zip (items_of it.firsts.places) (items_of it.seconds.places) };
 
-    ghost invariant = { λ it. IsBetween it.firsts it.from it.to × IsBetween it.seconds it.from it.to };
+    ghost invariant = { λ it. IsBetween it.firsts.places it.from it.to × IsBetween it.seconds.places it.from it.to × IsBlockOf it.block it.firsts it.seconds };
 }
 
 impl<A: Drop, B: Drop> Iterator for IntoIter<A, B> {
@@ -105,6 +108,7 @@ impl<A: Drop, B: Drop> IntoIterator for Vec2<A, B> {
             seconds,
             len: _,
             alloc,
+            block,
         } = self;
         IntoIter {
             firsts,
@@ -112,6 +116,7 @@ impl<A: Drop, B: Drop> IntoIterator for Vec2<A, B> {
             from: 0,
             to,
             alloc,
+            block,
         }
     }
 }
@@ -119,13 +124,15 @@ impl<A: Drop, B: Drop> IntoIterator for Vec2<A, B> {
 impl<A: Drop, B: Drop> Drop for IntoIter<A, B> {
     fn drop(self) {
         let IntoIter {
-            firsts,
-            seconds,
+            mut firsts,
+            mut seconds,
             from,
             to,
             alloc,
+            block,
         } = self;
-        firsts.drop_between(alloc, from, to);
-        seconds.drop_between(alloc, from, to);
+        firsts.drop_between(from, to);
+        seconds.drop_between(from, to);
+        give_back(alloc, firsts, seconds, block);
     }
 }

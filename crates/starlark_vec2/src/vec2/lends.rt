@@ -11,7 +11,7 @@ ghost use Rattle.starlark_vec2.specs.ColumnLending.{lends_place, lends_place_if,
 use super::Vec2;
 use crate::loan::Loan;
 use crate::pairs_mut::PairsMut;
-use starlark_columns::Column;
+use starlark_columns::Row;
 
 impl<A, B> Vec2<A, B> {
     /// The first parts of the pairs, in their order. The list ends with what is left in them.
@@ -88,20 +88,20 @@ impl<K, V, B> Vec2<(K, V), B> {
 
 // The item at this place of a column.
 #[inline]
-fn lend_place<T>(column: &mut Column<T>, index: usize) -> &mut T
-    requires { IsFilled column.old index }
+fn lend_place<T>(column: &mut Row<T>, index: usize) -> &mut T
+    requires { IsFilled column.old.places index }
     ensures* writes_back { sem 𝓛 (lends_place T.row column.entry index result) }
-    ensures value { get_or column.old index None ≡ Some result.now }
+    ensures value { get_or column.old.places index None ≡ Some result.now }
 {
     column.get_mut(index)
 }
 
 // The item at this place of a column, where it is one of the first `len`.
 #[inline]
-fn lend_place_if<T>(column: &mut Column<T>, len: usize, index: usize) -> Option<&mut T>
-    requires { IsFront column.old len }
+fn lend_place_if<T>(column: &mut Row<T>, len: usize, index: usize) -> Option<&mut T>
+    requires { IsFront column.old.places len }
     ensures* writes_back { sem 𝓛 (lends_place_if T.row column.entry index result) }
-    ensures value { slice_get (items_of column.old) index ≡ option_copied_mut result }
+    ensures value { slice_get (items_of column.old.places) index ≡ option_copied_mut result }
 {
     if index < len {
         Some(column.get_mut(index))
@@ -113,14 +113,14 @@ fn lend_place_if<T>(column: &mut Column<T>, len: usize, index: usize) -> Option<
 // The items at this place of two columns.
 #[inline]
 fn lend_columns<'a, A, B>(
-    firsts: &'a mut Column<A>,
-    seconds: &'a mut Column<B>,
+    firsts: &'a mut Row<A>,
+    seconds: &'a mut Row<B>,
     index: usize,
 ) -> (&'a mut A, &'a mut B)
-    requires in_firsts { IsFilled firsts.old index }
-    requires in_seconds { IsFilled seconds.old index }
+    requires in_firsts { IsFilled firsts.old.places index }
+    requires in_seconds { IsFilled seconds.old.places index }
     ensures* writes_back { sem 𝓛 (lends_places A.row B.row firsts.entry seconds.entry index result) }
-    ensures values { (get_or firsts.old index None ≡ Some result.0.now) × (get_or seconds.old index None ≡ Some result.1.now) }
+    ensures values { (get_or firsts.old.places index None ≡ Some result.0.now) × (get_or seconds.old.places index None ≡ Some result.1.now) }
 {
     let first = lend_place(firsts, index);
     let second = lend_place(seconds, index);

@@ -1,6 +1,7 @@
 //! `Vec2::retain`.
 ghost use Rattle.std.specs.Prelude.{◌≡◌, ◌≤◌, length, take, zip};
-ghost use Rattle.starlark_vec2.specs.Retain.{Retains, TakesInTurn, TakesBoth, CalledAtBoth};
+ghost use Rattle.starlark_lists.specs.Retain.{Retains, TakesInTurn};
+ghost use Rattle.starlark_vec2.specs.Retain.{TakesBoth, CalledAtBoth};
 
 use super::Vec2;
 

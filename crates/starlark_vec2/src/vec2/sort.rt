@@ -1,7 +1,7 @@
 //! `Vec2::sort_by`: positions are sorted, and then the pairs are moved in place.
 ghost use Rattle.std.specs.Prelude.{◌≡◌, ◌≤◌, length, zip, IfOk, IsOk, OnOk, OnErr, IsPermutation};
 ghost use Rattle.std.specs.List.{range_with_len};
-ghost use Rattle.starlark_vec2.specs.Sort.{Sorts};
+ghost use Rattle.starlark_vec2.specs.Sort.{CanCompare, Sorts};
 ghost use Rattle.starlark_vec2.specs.Positions.{ComparesAt, SortsPositions, PutsInOrder};
 
 use super::Vec2;
@@ -15,7 +15,7 @@ impl<A, B> Vec2<A, B> {
         &mut self,
         compare: F,
     ) -> Result<(), AllocError>
-        requires { F.IsAlwaysCallable compare }
+        requires { CanCompare F.FnMut self.old.pairs compare }
         ensures sorted { OnOk result (Sorts F.FnMut compare self.old.pairs self.new.pairs) }
         ensures rearranged { IsPermutation self.old.pairs self.new.pairs }
         ensures unchanged { OnErr result (self.new.pairs ≡ self.old.pairs) }
@@ -40,15 +40,14 @@ impl<A, B> Vec2<A, B> {
         &self,
         mut compare: F,
     ) -> Result<Vec<usize>, AllocError>
-        requires { F.IsAlwaysCallable compare }
+        requires { CanCompare F.FnMut self.now.pairs compare }
         ensures positions { IfOk result (λ order. IsPermutation (range_with_len 0 (length self.now.pairs)) order.items) }
         ensures sorted { IfOk result (λ order. SortsPositions F.FnMut compare self.now.pairs order.items) }
     {
         let mut order = positions(self.alloc, self.len())?;
         order.sort_by(
             |i: &usize, j: &usize| -> Ordering
-                requires { F.IsAlwaysCallable compare }
-                ensures kept { F.IsAlwaysCallable compare.exit }
+                requires { CanCompare F.FnMut self.now.pairs compare }
                 ensures same { self.exit.now ≡ self.entry.now }
                 ensures called { ComparesAt F.FnMut self.entry.now.pairs compare.entry i.now j.now result compare.exit }
             { self.compare_at(&mut compare, *i, *j) },
@@ -64,9 +63,8 @@ impl<A, B> Vec2<A, B> {
         i: usize,
         j: usize,
     ) -> Ordering
-        requires { F.IsAlwaysCallable compare.old }
-        ensures kept { F.IsAlwaysCallable compare.new }
-        ensures called { ComparesAt F.FnMut self.now.pairs compare.old i j result compare.new }
+        requires { CanCompare F.FnMut self.now.pairs compare.old }
+        ensures { ComparesAt F.FnMut self.now.pairs compare.old i j result compare.new }
     {
         match (self.get(i), self.get(j)) {
             (Some(x), Some(y)) => compare(x, y),

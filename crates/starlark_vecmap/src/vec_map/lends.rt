@@ -2,7 +2,7 @@
 ghost use Rattle.std.specs.Prelude.{◌≡◌, ◌<◌, ◌^◌, length, map, slice_get, Some};
 ghost use Rattle.std.specs.Borrow.{sem};
 ghost use Rattle.std.specs.Map.{values_of};
-ghost use Rattle.starlark_hash.specs.Entries.{entry_value, pair_of};
+ghost use Rattle.starlark_lists.specs.Entries.{entry_value, pair_of};
 ghost use Rattle.starlark_vecmap.specs.EntryList.{deref_entry_mut};
 ghost use Rattle.starlark_vecmap.specs.Lending.{lends_value, values_follow};
 
@@ -36,7 +36,7 @@ impl<K, V> VecMap<K, V> {
 
     /// The keys and values of the entries, in their order, to write the values. The map ends with what is left in them;
     /// keys, hashes and capacity stay.
-    #[tactic(auto, using(crate::proofs::Written::written))]
+    #[tactic(auto, using(crate::proofs::ValuesWritten::written))]
     #[inline]
     pub fn iter_mut(&mut self) -> IterMut<'_, K, V>
         ensures* writes_back { sem 𝓛 (values_follow K.row V.row self.entry result.1) }
@@ -49,7 +49,7 @@ impl<K, V> VecMap<K, V> {
 
     /// The values of the entries, in their order, to write them. The map ends with what is left in them; keys, hashes
     /// and capacity stay.
-    #[tactic(auto, using(crate::proofs::Written::written))]
+    #[tactic(auto, using(crate::proofs::ValuesWritten::written))]
     #[inline]
     pub fn values_mut(&mut self) -> ValuesMut<'_, K, V>
         ensures* writes_back { sem 𝓛 (values_follow K.row V.row self.entry result.1) }

@@ -1,8 +1,7 @@
 //! `VecMap::retain`.
 ghost use Rattle.std.specs.Prelude.{◌≡◌};
-ghost use Rattle.starlark_vec2.specs.Retain.{Retains, TakesInTurn};
+ghost use Rattle.starlark_lists.specs.Retain.{Retains, TakesInTurn, TakesEntry, CalledAtEntry};
 ghost use Rattle.starlark_vecmap.specs.EntryList.{entry_of};
-ghost use Rattle.starlark_vecmap.specs.Retain.{TakesEntry, CalledAtEntry};
 
 use super::VecMap;
 

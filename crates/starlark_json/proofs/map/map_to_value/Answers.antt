@@ -1,7 +1,7 @@
 use Rattle.std.proofs.Common.{◌≡◌, ap, ◌∙◌, map, rules}
 use Rattle.serde_json.specs.Data.{object}
 use Rattle.serde_json.specs.Find.{get}
-use Rattle.starlark_hash.specs.Entries.{pair_of}
+use Rattle.starlark_lists.specs.Entries.{pair_of}
 use Rattle.starlark_json.specs.Texts.{pairs_of}
 use Rattle.starlark_json.proofs.Writing.{all_put, get_member-put_all}
 use Rattle.starlark_json.proofs.map.map_to_value.Goals as goal

@@ -1,6 +1,6 @@
 use Rattle.std.proofs.Common.{◌≡◌, string_bytes, sym, ap, ◌∙◌}
 use Rattle.std.specs.Hash as fed
-use Rattle.starlark_hash.specs.Entries.{match_of}
+use Rattle.starlark_lists.specs.Entries.{match_of}
 use Rattle.starlark_small.specs.Map.{own_hashed}
 use Rattle.starlark_json.specs.Texts.{text_entries}
 use Rattle.starlark_json.proofs.Images.{string_eq, element_inserted, own_inserted}

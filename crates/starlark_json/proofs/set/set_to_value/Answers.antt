@@ -1,7 +1,7 @@
 use Rattle.std.proofs.Common.{◌≡◌, ap, ◌∙◌, map, rules}
 use Rattle.serde_json.specs.Data.{array}
 use Rattle.serde_json.specs.View.{items_of}
-use Rattle.starlark_hash.specs.Entries.{entry_key}
+use Rattle.starlark_lists.specs.Entries.{entry_key}
 use Rattle.starlark_json.proofs.Writing.{all_pushed}
 use Rattle.starlark_json.proofs.set.set_to_value.Goals as goal
 

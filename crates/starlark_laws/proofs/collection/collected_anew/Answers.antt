@@ -11,6 +11,6 @@ returns g c =
     let es = c.args.map.entries in
     IfOk-weaker c.from_iter_hashed.result _ _
     (λ m p.
-    let items = items_from_drains p.2 ((p.5.1).0, p.5.1.1, λ _. (p.5.0, p.5.1.2)) (YieldsList-from_rest es (p.3 ∙ c.into_iter_hashed.ensures.entries)) in
-    p.6 ∙ ap (insert_all g.K.PartialEq.eq []) items ∙ insert_all-single g.K.PartialEq.eq g.met.K.Eq.laws es c.into_iter_hashed.ensures.single)
+    let items = items_from_drains p.items (p.drained.1.0, p.drained.1.1, λ _. (p.drained.0, p.drained.1.2)) (YieldsList-from_rest es (p.made ∙ c.into_iter_hashed.ensures.entries)) in
+    p.entries ∙ ap (insert_all g.K.PartialEq.eq []) items ∙ insert_all-single g.K.PartialEq.eq g.met.K.Eq.laws es c.into_iter_hashed.ensures.single)
     c.from_iter_hashed.ensures.map

@@ -1,4 +1,4 @@
-use Rattle.starlark_hash.specs.Entries.{match_of}
+use Rattle.starlark_lists.specs.Entries.{match_of}
 use Rattle.starlark_laws.proofs.Inserted.{keys_of-inserted}
 use Rattle.starlark_laws.proofs.insertion.insertion_of_a_present_key.Goals as goal
 

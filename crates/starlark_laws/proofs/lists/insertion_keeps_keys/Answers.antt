@@ -1,4 +1,4 @@
-use Rattle.starlark_hash.specs.Entries.{match_of}
+use Rattle.starlark_lists.specs.Entries.{match_of}
 use Rattle.starlark_laws.proofs.Inserted.{keys_of-placed}
 use Rattle.starlark_laws.proofs.lists.insertion_keeps_keys.Goals as goal
 

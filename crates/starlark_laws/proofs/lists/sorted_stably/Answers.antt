@@ -1,5 +1,5 @@
-use Rattle.starlark_hash.specs.Sorting.{key_lt}
-use Rattle.starlark_hash.proofs.SortingLemmas.{IsPermutation-sorted_by, sorted_by-sorted, sorted_by-stable, sorted_by-unique, key_lt-order}
+use Rattle.starlark_lists.specs.Sorting.{key_lt}
+use Rattle.starlark_lists.proofs.SortingLemmas.{IsPermutation-sorted_by, sorted_by-sorted, sorted_by-stable, sorted_by-unique, key_lt-order}
 use Rattle.starlark_laws.proofs.lists.sorted_stably.Goals as goal
 
 pub returns-clause-ascends : goal.returns-clause-ascends

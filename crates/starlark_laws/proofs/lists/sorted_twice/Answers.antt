@@ -1,5 +1,5 @@
-use Rattle.starlark_hash.specs.Sorting.{key_lt}
-use Rattle.starlark_hash.proofs.SortingLemmas.{sorted_by-twice, key_lt-order}
+use Rattle.starlark_lists.specs.Sorting.{key_lt}
+use Rattle.starlark_lists.proofs.SortingLemmas.{sorted_by-twice, key_lt-order}
 use Rattle.starlark_laws.proofs.lists.sorted_twice.Goals as goal
 
 pub returns : goal.returns

@@ -1,6 +1,6 @@
 use Rattle.std.proofs.Common.{◌≡◌, OnOk, sym, ap, subst, ◌∙◌}
-use Rattle.starlark_hash.specs.Sorting.{Ascends, key_lt, sorted_by_key}
-use Rattle.starlark_hash.proofs.SortingLemmas.{sorted_by-sorted, sorted_by-twice, key_lt-order}
+use Rattle.starlark_lists.specs.Sorting.{Ascends, key_lt, sorted_by_key}
+use Rattle.starlark_lists.proofs.SortingLemmas.{sorted_by-sorted, sorted_by-twice, key_lt-order}
 use Rattle.starlark_laws.proofs.Sorted.{never_refused}
 use Rattle.starlark_laws.proofs.order.sort_twice.Goals as goal
 

@@ -1,18 +1,8 @@
-use Rattle.std.proofs.Common.{◌+◌, ◌-◌, ◌*◌, length}
-use Rattle.starlark_table.specs.Table.{holders}
-use Rattle.starlark_table.specs.Layout.{home}
-use Rattle.starlark_table.proofs.Path.{path_from}
-use Rattle.starlark_table.proofs.Searching.{Searching}
-use Rattle.starlark_table.proofs.Windows.{AtWindow, way}
+use Rattle.starlark_table.proofs.Looking.{Looking, left_to_look}
 use Rattle.starlark_table.proofs.probe.find_slot.Given as goal
 
 abbrev pub invariant-windows : goal.invariant-windows
-invariant-windows g l = record {
-  window : AtWindow l.hash l.tags l.slots l.start l.place l.same;
-  search : Searching g.F.FnMut (holders l.hash (path_from (home (length l.slots) l.hash) l.slots 0)) l.fn.eq l.eq
-      (holders l.hash (path_from (home (length l.slots) l.hash) l.slots (way l.hash l.slots l.start + (l.place - l.start))));
-}
+invariant-windows g l = Looking g.F.FnMut l.hash l.tags l.slots l.fn.eq l.start l.place l.same l.eq
 
--- the way from the window to the home, and what is left of the window
 abbrev pub decreases-windows : goal.decreases-windows
-decreases-windows g l = (length l.slots - way l.hash l.slots l.start) * 32 + (l.start + 16 - l.place)
+decreases-windows g l = left_to_look l.hash l.slots l.start l.place

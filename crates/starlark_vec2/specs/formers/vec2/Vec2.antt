@@ -1,6 +1,8 @@
 -- `Vec2` as a type that may hold the type that holds it, in its first parts.
 use Rattle.std.specs.Prelude.{◌≡◌, ℕ, ◌-◌, ◌≤◌, max, Bool, true, false, List, [], ◌∷◌, ◌++◌, map, length, replicate, zip, Option, Some, None, is_some}
 use mathlib.Core.Path.{refl, sym, ap, subst, ◌∙◌}
+use mathlib.Core.HLevel.{×_prop}
+use denote.RawPtr.{coded_ptr}
 use mathlib.Core.Former.{Former, Count, Row, one_more, this, const, pair, list, list_count, list_put, via, children}
 use native.Mathlib.Nat.{ℕ_set}
 use native.Mathlib.Bridge.{le_prop}
@@ -16,10 +18,16 @@ use denote.Param.Nested.{deepest}
 use denote.Param.Weighed.{Weighed, most, max_none, List-puts, w_pair, w_const}
 use denote.Model.Placed.{held, view_places_where}
 use Rattle.std.specs.declared.alloc.Global.{Global}
+use Rattle.std.specs.contracts.alloc.Global as heap
+use Rattle.std.specs.contracts.impls.GlobalAllocator.TheImpl.{ghosts}
 use Rattle.starlark_columns.specs.Places.{items_of}
 use Rattle.starlark_columns.specs.Front.{IsFront}
 use Rattle.starlark_columns.specs.formers.block.Held.{place, mapped_place, mapped}
-use Rattle.starlark_columns.specs.formers.column.Column as column
+use Rattle.starlark_columns.specs.Block.{IsBlockOf}
+use Rattle.starlark_columns.specs.Laid.{Laid}
+use Rattle.starlark_columns.specs.declared.block.PairClaim.{PairClaim}
+use Rattle.starlark_columns.specs.formers.block.PairClaim as claim_is
+use Rattle.starlark_columns.specs.formers.row.Row as row_is
 use Rattle.starlark_vec2.specs.declared.vec2.Vec2.TheInside.{Inside}
 use Rattle.starlark_vec2.specs.declared.vec2.Vec2.TheView.{view, invariant}
 use Rattle.starlark_vec2.specs.contracts.vec2.Vec2 as vec2
@@ -63,8 +71,8 @@ pub the_items_listed : (B X : Type 0) (v : PairList X B) → listed _ (children 
 the_items_listed B X v = firsts_listed B X v.pairs
 
 abbrev pub fields : Type 0 → Former {0}
-fields B = via (pair (column.the_former this) (const (List (Option B) × ℕ × Global))) (λ X. Inside X B) (λ X a. (a.firsts, (a.seconds, a.len, a.alloc)))
-    (λ X v. record { firsts = v.0; seconds = v.1.0; len = v.1.1; alloc = v.1.2 }) (λ X a. refl) (λ X v. refl)
+fields B = via (pair (row_is.the_former this) (const (Laid B × ℕ × Global × claim_is.Parts Global))) (λ X. Inside X B) (λ X a. (a.firsts, (a.seconds, a.len, a.alloc, claim_is.parts_of X B Global a.block)))
+    (λ X v. record { firsts = v.0; seconds = v.1.0; len = v.1.1; alloc = v.1.2; block = claim_is.of_parts X B Global v.1.3 }) (λ X a. refl) (λ X v. refl)
 
 pub zip-map : {X Y B : Type 0} (h : X → Y) (xs : List X) (bs : List B) → zip (map h xs) bs ≡ map (on_first h) (zip xs bs)
 zip-map h [] bs = refl
@@ -132,22 +140,26 @@ AreColumns-prop cs bs n p q = λ i. record {
   even = ℕ_set _ _ p.even q.even i;
 }
 
+IsBlockOf-prop : {X B : Type 0} (block : PairClaim X B Global) (r : Laid X) (s : Laid B) → IsProp (IsBlockOf block r s)
+IsBlockOf-prop block r s p q = λ i. (Coded-set coded_ptr _ _ p.0 q.0 i, Coded-set coded_ptr _ _ p.1 q.1 i, ℕ_set _ _ p.2 q.2 i, ℕ_set _ _ p.3 q.3 i)
+
 even_items : {X B : Type 0} (cs : List (Option X)) (bs : List (Option B)) (n : ℕ) → AreColumns cs bs n → length (items_of cs) ≡ length (items_of bs)
 even_items cs bs n s = s.firsts_front.count ∙ sym s.seconds_front.count
 
 module _ (B : RattleType) (R R' : RattleType) (h : R.Denot → R'.Denot) where
   pub the_places : Alike R R' h → Alike (vec2.the_row R B) (vec2.the_row R' B) ((the_former this B.Denot).map R.Denot R'.Denot h)
   the_places a = view_places_where (fields B.Denot) (the_former this B.Denot) (λ X. view X B.Denot)
-      (λ X Y k u. ap (λ xs. pair_list (zip xs (items_of u.seconds)) (length (mapped k u.firsts))) (items_of-map k u.firsts)
-      ∙ (λ i. pair_list (zip-map k (items_of u.firsts) (items_of u.seconds) i) (places-count k u.firsts i)))
-      (λ X u. length (items_of u.firsts) ≡ length (items_of u.seconds)) (λ X Y k u e. sym (items-count k u.firsts) ∙ e)
-      (λ X u e. zip-held B.Denot X (items_of u.firsts) (items_of u.seconds) e ∙ items_of-held X u.firsts)
+      (λ X Y k u. ap (λ xs. pair_list (zip xs (items_of u.seconds.places)) (length (mapped k u.firsts.places))) (items_of-map k u.firsts.places)
+      ∙ (λ i. pair_list (zip-map k (items_of u.firsts.places) (items_of u.seconds.places) i) (places-count k u.firsts.places i)))
+      (λ X u. length (items_of u.firsts.places) ≡ length (items_of u.seconds.places)) (λ X Y k u e. sym (items-count k u.firsts.places) ∙ e)
+      (λ X u e. zip-held B.Denot X (items_of u.firsts.places) (items_of u.seconds.places) e ∙ items_of-held X u.firsts.places)
       R.Denot R'.Denot h (vec2.the_row R B).coded (vec2.the_row R' B).coded
-      (invariant R.Denot B.Denot) (invariant R'.Denot B.Denot) (λ u. AreColumns-prop _ _ _) (λ u. AreColumns-prop _ _ _)
-      (λ u s. columns_to h u.firsts u.seconds u.len s) (λ u s. columns_from h u.firsts u.seconds u.len s) (λ u s. even_items u.firsts u.seconds u.len s)
+      (invariant R.Denot B.Denot) (invariant R'.Denot B.Denot) (λ u. ×_prop (AreColumns-prop _ _ _) (IsBlockOf-prop u.block u.firsts u.seconds)) (λ u. ×_prop (AreColumns-prop _ _ _) (IsBlockOf-prop u.block u.firsts u.seconds))
+      (λ u s. (columns_to h u.firsts.places u.seconds.places u.len s.0, (s.1.0, s.1.1, s.1.2 ∙ sym (places-count h u.firsts.places), s.1.3)))
+      (λ u s. (columns_from h u.firsts.places u.seconds.places u.len s.0, (s.1.0, s.1.1, s.1.2 ∙ places-count h u.firsts.places, s.1.3))) (λ u s. even_items u.firsts.places u.seconds.places u.len s.0)
       (over (inside.the_row R B)) (over (inside.the_row R' B))
-      (struct_places (inside.the_type R B) (inside.the_type R' B) (mapped h, (λ n. n, (λ n. n, (λ n. n, tt)))) _ (λ d. refl) refl
-      (laid _ _ _ (column.the_places R R' h a), ((refl, (λ n. refl, λ n. refl)), ((refl, (λ n. refl, λ n. refl)), ((refl, (λ n. refl, λ n. refl)), tt)))))
+      (struct_places (inside.the_type R B) (inside.the_type R' B) ((row_is.the_former this).map R.Denot R'.Denot h, (λ n. n, (λ n. n, (λ n. n, ((claim_is.the_former this B.Denot Global).map R.Denot R'.Denot h, tt))))) _ (λ d. refl) refl
+      (laid _ _ _ (row_is.the_places R R' h a), ((refl, (λ n. refl, λ n. refl)), ((refl, (λ n. refl, λ n. refl)), ((refl, (λ n. refl, λ n. refl)), (laid _ _ _ (claim_is.the_places B heap.the_row ghosts R R' h a), tt))))))
 
   pub the_codes_placed : Recodes R R' h → Recodes (vec2.the_row R B) (vec2.the_row R' B) ((the_former this B.Denot).map R.Denot R'.Denot h)
   the_codes_placed e v = ap (λ x. gcons x (coded_ℕ.code v.capacity))

@@ -4,27 +4,28 @@ use Rattle.std.specs.Prelude.{nat_eq}
 use Rattle.starlark_vecmap.proofs.Masks.{mask_ends, mask_ends_lt}
 use Rattle.starlark_vecmap.proofs.hash_search.places_of.Goals as goal
 
+pub overflow_add-result : goal.overflow_add-result
+overflow_add-result c = let block = c.args.block.now in record {
+  fits =
+      mask_ends_lt (λ h. nat_eq h c.args.hash) block 8 (length block - 8) (16 - length block) (omega arith) (omega arith) c.requires.few
+      c.places_of_eight.result c.places_of_eight-last.result c.places_of_eight.ensures c.places_of_eight-last.ensures;
+}
+
 pub overflow_add-result-else-len-le16 : goal.overflow_add-result-else-len-le16
 overflow_add-result-else-len-le16 c = let block = c.args.block.now in record {
   fits =
-      mask_ends_lt (λ h. nat_eq h c.args.hash) block 16 (length block - 16) (32 - length block) (omega arith) (omega arith) c.requires
+      mask_ends_lt (λ h. nat_eq h c.args.hash) block 16 (length block - 16) (32 - length block) (omega arith) (omega arith) c.requires.few
       c.places_of_sixteen.result c.places_of_sixteen-last.result c.places_of_sixteen.ensures c.places_of_sixteen-last.ensures;
 }
-
-pub returns-then-len-le8 : goal.returns-then-len-le8
-returns-then-len-le8 c =
-    let block = c.args.block.now in
-    mask_ends (λ h. nat_eq h c.args.hash) block 4 (length block - 4) (8 - length block) (omega arith) (omega arith) c.requires
-    c.places_of_four.result c.places_of_four-last.result c.places_of_four.ensures c.places_of_four-last.ensures
 
 pub returns-then-len-le16 : goal.returns-then-len-le16
 returns-then-len-le16 c =
     let block = c.args.block.now in
-    mask_ends (λ h. nat_eq h c.args.hash) block 8 (length block - 8) (16 - length block) (omega arith) (omega arith) c.requires
+    mask_ends (λ h. nat_eq h c.args.hash) block 8 (length block - 8) (16 - length block) (omega arith) (omega arith) c.requires.few
     c.places_of_eight.result c.places_of_eight-last.result c.places_of_eight.ensures c.places_of_eight-last.ensures
 
 pub returns-else-len-le16 : goal.returns-else-len-le16
 returns-else-len-le16 c =
     let block = c.args.block.now in
-    mask_ends (λ h. nat_eq h c.args.hash) block 16 (length block - 16) (32 - length block) (omega arith) (omega arith) c.requires
+    mask_ends (λ h. nat_eq h c.args.hash) block 16 (length block - 16) (32 - length block) (omega arith) (omega arith) c.requires.few
     c.places_of_sixteen.result c.places_of_sixteen-last.result c.places_of_sixteen.ensures c.places_of_sixteen-last.ensures

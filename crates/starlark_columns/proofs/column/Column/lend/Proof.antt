@@ -1,5 +1,5 @@
 -- `lend` lends the places, and the column, open for good, is closed by what they follow. Assumes `Logic`.
-use Rattle.std.proofs.Common.{◌≡◌, ℕ, ◌+◌, ◌*◌, ◌<◌, ◌^◌, Option, List, [], ◌∷◌, length, refl, sym, ap, subst, ◌∙◌}
+use Rattle.std.proofs.Common.{◌≡◌, ℕ, ◌+◌, ◌*◌, ◌<◌, ◌^◌, List, [], ◌∷◌, length, refl, sym, ap, subst, ◌∙◌}
 use native.Mathlib.Nat.{zero-add, zero-mul}
 use seplogic.Ra.Ura.{Ura}
 use base.Fml.{Fml, GName, Lft, Share, ftrue, fsep, flft, fobs, fbor}
@@ -10,8 +10,8 @@ use contract.Running.{tables}
 use mir.MapTy.{inst_fn}
 use mir.Syntax.{a_type, named, dcons, dnil}
 use mir.Val.{Val, vptr, vstruct, vcons, vnil}
-use types.ByLocal.{alloc_all, pass_all, free_all, look_at, get, through, sets, env}
-use types.Kit.{‵, raw, ◌⊛◌, some, later, ◌$◌, ◌∵◌, !, qed, by, move, keep, use0, use1, split, split3, join, pick, rewrite, fsplit, fsplit3, fjoin, flt_i, flt_l, group, await, done}
+use types.ByLocal.{alloc_all, pass_all, free_all, look_at, get, through, sets}
+use types.Kit.{‵, raw, ◌⊛◌, some, later, ◌$◌, ◌∵◌, !, qed, by, move, keep, use0, use1, split, split3, join, pick, rewrite, fsplit, fsplit3, fjoin, flt_i, flt_l, group, await}
 use types.Logic.{Logic, sem}
 use types.Mut.{open_ref}
 use types.Follow.{takes_part}

@@ -1,7 +1,6 @@
 -- `take_value` hands out the key and the value of the next place, of which the value alone is written. Assumes `Logic`.
 use Rattle.std.proofs.Common.{◌≡◌, ℕ, suc, ◌+◌, ◌*◌, ◌<◌, ◌^◌, Option, Some, None, get_or, List, [], ◌∷◌, ◌++◌, length, drop, refl, sym, ap, subst, ◌∙◌, arith, w64}
 use native.Mathlib.Nat.{suc-mul}
-use seplogic.Ra.Ura.{Ura}
 use base.Fml.{Fml, GName, Lft, Share, Incl-trans, ftrue, fsep, flft}
 use base.Fraction.{full_share}
 use base.Logic.{SProp, emp, never, id⊢}
@@ -13,8 +12,7 @@ use mir.MapTy.{inst_fn}
 use mir.Syntax.{a_type, named}
 use mir.Val.{Val, vint, vptr, vstruct, vcons, vnil, of_list}
 use types.ByLocal.{alloc_all, pass_all, free_all, look_at, get, through, is, sets, sets_last, env}
-use types.Kit.{Item, ‵, raw, ◌⊛◌, some, later, at_ret, ◌$◌, ◌∵◌, !, qed, by, move, keep, use0, use2, split, split3, join, pick, rewrite, fsplit, fsplit3, fjoin, fjoin3, feq_i, flt_i, flt_l, await, done}
-use types.Logic.{Logic, sem}
+use types.Kit.{Item, ‵, raw, ◌⊛◌, some, later, at_ret, ◌$◌, ◌∵◌, !, qed, by, move, keep, use0, use2, split, split3, join, pick, rewrite, fsplit, fsplit3, fjoin, fjoin3, feq_i, flt_i, flt_l, await}
 use types.Part.{whole, sub, look_in, agg}
 use types.Run.{and_then, no_more, stop, fld, load, bin, addr, size_word, of_opd, first, blocks, exec, returns, enter}
 use denote.Builtin.{usize}

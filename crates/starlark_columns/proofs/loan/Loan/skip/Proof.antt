@@ -1,7 +1,6 @@
 -- `skip` passes over a place, which stays as it is. Assumes `Logic`.
-use Rattle.std.proofs.Common.{◌≡◌, ℕ, suc, ◌+◌, ◌*◌, ◌<◌, ◌^◌, Option, List, [], ◌∷◌, length, drop, refl, sym, ap, subst, ◌∙◌, arith}
+use Rattle.std.proofs.Common.{◌≡◌, ℕ, suc, ◌+◌, ◌*◌, ◌<◌, ◌^◌, Option, List, [], ◌∷◌, length, drop, refl, sym, ap, subst, arith}
 use native.Mathlib.Nat.{suc-mul}
-use seplogic.Ra.Ura.{Ura}
 use base.Fml.{Fml, GName, Lft, Share, ftrue, fsep, flft}
 use base.Logic.{SProp, emp, never, id⊢}
 use contract.BorrowLft.{◌⊑◌}
@@ -11,11 +10,9 @@ use contract.Running.{tables}
 use mir.MapTy.{inst_fn}
 use mir.Syntax.{a_type, named, dcons, dnil}
 use mir.Val.{Val, vptr, vunit}
-use types.ByLocal.{alloc_all, pass_all, free_all, look_at, sets, env}
-use types.Kit.{‵, raw, ◌⊛◌, some, later, ◌$◌, ◌∵◌, !, qed, by, move, keep, use0, use2, split, split3, join, pick, rewrite, fsplit, fsplit3, fjoin, fjoin3, feq_i, flt_i, flt_l, await, done}
-use types.Logic.{Logic, sem}
+use types.ByLocal.{alloc_all, pass_all, free_all, look_at, sets}
+use types.Kit.{‵, raw, ◌⊛◌, some, later, ◌$◌, ◌∵◌, !, qed, by, move, keep, use0, use2, split, split3, join, pick, rewrite, fsplit, fsplit3, fjoin, fjoin3, feq_i, flt_i, flt_l, await}
 use types.Run.{unit_lit, of_opd, returns, enter}
-use denote.Memory.{cell_at}
 use denote.Param.{param, bounded}
 use denote.RattleType.{RattleType, owns}
 use denote.RawPtr.{Ptr, in_a_block}

@@ -39,7 +39,7 @@ use Rattle.std.proofs.raw_atomic.Walks.{proved}
 use Rattle.std.specs.Prelude.{map}
 use Rattle.std.specs.declared.cmp.Eq as Eq
 use Rattle.std.specs.declared.cmp.PartialEq as PartialEq
-use Rattle.starlark_hash.specs.Entries.{pair_of}
+use Rattle.starlark_lists.specs.Entries.{pair_of}
 use Rattle.starlark_vec2.proofs.pairs_mut.PairsMut.TheLaws as walk_laws
 use Rattle.starlark_vec2.specs.contracts.pairs_mut.PairsMut as P
 use Rattle.starlark_vecmap.specs.EntryList.{with_values}

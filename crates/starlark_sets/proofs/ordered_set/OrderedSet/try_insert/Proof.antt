@@ -52,7 +52,7 @@ use Rattle.std.specs.Prelude.{Option, Result, IfErr, ⊤}
 use Rattle.std.specs.declared.cmp.Eq as Eq
 use Rattle.std.specs.declared.cmp.PartialEq as PartialEq
 use Rattle.std.specs.declared.hash.Hash as Hash
-use Rattle.starlark_hash.specs.Entries.{match_of}
+use Rattle.starlark_lists.specs.Entries.{match_of}
 use Rattle.starlark_hash.specs.declared.hashed.Hashed.{Hashed}
 use Rattle.starlark_small.specs.Map.{own_hashed}
 use Rattle.starlark_small.proofs.LentInResult.{lone_value}

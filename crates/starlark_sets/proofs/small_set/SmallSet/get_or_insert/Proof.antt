@@ -56,7 +56,7 @@ use Rattle.std.specs.declared.cmp.Eq as Eq
 use Rattle.std.specs.declared.cmp.PartialEq as PartialEq
 use Rattle.std.specs.declared.hash.Hash as Hash
 use Rattle.starlark_hash.proofs.no_room.NoRoom.TheLaws as room_laws
-use Rattle.starlark_hash.specs.Entries.{entry_key, match_of}
+use Rattle.starlark_lists.specs.Entries.{entry_key, match_of}
 use Rattle.starlark_hash.specs.contracts.no_room.NoRoom as N
 use Rattle.starlark_hash.specs.declared.hashed.Hashed.{Hashed}
 use Rattle.starlark_hash.specs.declared.no_room.NoRoom.{NoRoom}

@@ -1,4 +1,4 @@
-use Rattle.starlark_vec2.proofs.Walks.{gives_in_order, gives_in_reverse}
+use Rattle.std_collections.proofs.IterRuns.{gives_in_order, gives_in_reverse}
 use Rattle.starlark_sets.proofs.small_set.SmallSet.into_iter_hashed.Goals as goal
 
 pub returns-clause-runs : goal.returns-clause-runs

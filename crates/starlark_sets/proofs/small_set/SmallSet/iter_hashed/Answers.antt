@@ -1,4 +1,4 @@
-use Rattle.starlark_vec2.proofs.Walks.{shows_in_order, shows_in_reverse}
+use Rattle.std_collections.proofs.IterRuns.{shows_in_order, shows_in_reverse}
 use Rattle.starlark_sets.specs.Unit.{deref_hashed}
 use Rattle.starlark_sets.proofs.small_set.SmallSet.iter_hashed.Goals as goal
 

@@ -1,6 +1,6 @@
 use Rattle.std.proofs.Common.{◌∙◌, sym, subst, rules, of_calls}
 use Rattle.std.specs.Fn.{CalledAt}
-use Rattle.starlark_vec2.specs.Retain.{Retains, TakesInTurn}
+use Rattle.starlark_lists.specs.Retain.{Retains, TakesInTurn}
 use Rattle.starlark_sets.specs.Retain.{CalledAtElement, TakesElement}
 use Rattle.starlark_sets.proofs.Retained.{takes_alone, retains_alone}
 use Rattle.starlark_sets.proofs.small_set.SmallSet.retain.Goals as goal

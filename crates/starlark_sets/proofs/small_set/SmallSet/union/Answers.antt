@@ -1,7 +1,7 @@
 use Rattle.std.proofs.Common.{length, ap, subst}
 use Rattle.std.proofs.iter.runs.Sources.{from_front}
 use Rattle.std.specs.Map.Iter.{deref}
-use Rattle.starlark_hash.specs.Entries.{IsSingle}
+use Rattle.starlark_lists.specs.Entries.{IsSingle}
 use Rattle.starlark_sets.specs.Union.{UnionSteps, union_rest}
 use Rattle.starlark_sets.proofs.Unions.{IsSingle-union}
 use Rattle.starlark_sets.proofs.small_set.SmallSet.union.Goals as goal

@@ -1,6 +1,6 @@
 use Rattle.std.proofs.Common.{rules, of_calls, ◌≡◌, None, Some, sym, ◌∙◌, ap, subst, nat_eq}
 use Rattle.std.specs.List.{Contains}
-use Rattle.starlark_hash.proofs.SearchLemmas.{is_test}
+use Rattle.starlark_lists.proofs.SearchLemmas.{is_test}
 use Rattle.starlark_table.specs.Table.{members}
 use Rattle.starlark_small.proofs.Keeping.{named, not_missed}
 use Rattle.starlark_small.proofs.indexed.places.slot_of.Goals as goal

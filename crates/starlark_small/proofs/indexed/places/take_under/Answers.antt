@@ -2,7 +2,7 @@ use Rattle.std.proofs.Common.{rules, of_calls, ◌≡◌, ◌∷◌, None, true,
 use Rattle.std.specs.Prelude.{IfSome}
 use Rattle.std.specs.List.{Contains}
 use Rattle.std.proofs.lemmas.List.Sorted.{IsPermutation-map}
-use Rattle.starlark_hash.proofs.SearchLemmas.{is_test}
+use Rattle.starlark_lists.proofs.SearchLemmas.{is_test}
 use Rattle.starlark_table.specs.Table.{members}
 use Rattle.starlark_small.specs.Index.{hashes_in}
 use Rattle.starlark_small.proofs.Emptying.{named_under, found_under}

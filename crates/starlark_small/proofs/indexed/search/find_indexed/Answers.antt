@@ -1,7 +1,7 @@
 use Rattle.std.proofs.Common.{◌≡◌, sym, ◌∙◌, ap, subst, refl, Some}
 use Rattle.std.specs.Prelude.{slice_get}
 use Rattle.std.specs.Option.{option_and_then}
-use Rattle.starlark_hash.specs.Search.{Searches, keys_under}
+use Rattle.starlark_lists.specs.Search.{Searches, keys_under}
 use Rattle.starlark_small.proofs.Transport.{can_search-slots, searches-slots, place_in, taken}
 use Rattle.starlark_small.proofs.indexed.search.find_indexed.Goals as goal
 

@@ -1,6 +1,6 @@
 use Rattle.std.specs.Prelude.{◌||◌, nat_lt}
 use Rattle.std.proofs.Common.{◌≡◌, [], length, map, ap, ◌∙◌, arith}
-use Rattle.starlark_hash.specs.Entries.{Entry}
+use Rattle.starlark_lists.specs.Entries.{Entry}
 use Rattle.starlark_small.specs.Collect.{insert_all}
 use Rattle.starlark_small.specs.Index.{unindexed}
 use Rattle.starlark_small.proofs.small_map.SmallMap.from_iter_hashed.Goals as goal
@@ -8,15 +8,16 @@ use Rattle.starlark_small.proofs.small_map.SmallMap.from_iter_hashed.Goals as go
 pub returns-clause-map : goal.returns-clause-map
 returns-clause-map g c =
     let put = c.in_ok-insert_entries.ensures.entries in
-    let none : c.in_ok-map.map.entries ≡ [] = c.in_ok-map.ensures.entries in (
-      c.into_iter-items.result,
-      c.size_hint.result.0,
-      put.0,
-      c.into_iter-items.ensures.into_iter_gives,
-      c.size_hint.ensures.lower,
-      put.2,
-      put.1 ∙ ap (λ l. insert_all g.K.PartialEq.eq l (map (λ (x : Entry g.row.K.Denot g.row.V.Denot). x) put.0)) none,
-      omega (arith, c.insert_entries.ensures.room, c.in_ok-map.ensures.room, ap length none),
-      omega (arith, c.insert_entries.ensures.capacity.1, c.in_ok-map.ensures.capacity),
-      c.in_ok-insert_entries.ensures.indexed ∙ ap (λ had. had || nat_lt unindexed (length c.insert_entries.new.self.entries)) c.in_ok-map.ensures.indexed,
-    )
+    let none : c.in_ok-map.map.entries ≡ [] = c.in_ok-map.ensures.entries in
+    record {
+      it = c.into_iter-items.result;
+      made = c.into_iter-items.ensures.into_iter_gives;
+      first = c.size_hint.result.0;
+      bounded = c.size_hint.ensures.lower;
+      items = put.items;
+      drained = put.ended;
+      entries = put.entries ∙ ap (λ l. insert_all g.K.PartialEq.eq l (map (λ (x : Entry g.row.K.Denot g.row.V.Denot). x) put.items)) none;
+      room = omega (arith, c.insert_entries.ensures.room, c.in_ok-map.ensures.room, ap length none);
+      capacity = omega (arith, c.insert_entries.ensures.capacity.1, c.in_ok-map.ensures.capacity);
+      indexed = c.in_ok-insert_entries.ensures.indexed ∙ ap (λ had. had || nat_lt unindexed (length c.insert_entries.new.self.entries)) c.in_ok-map.ensures.indexed;
+    }

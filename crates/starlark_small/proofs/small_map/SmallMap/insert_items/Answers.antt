@@ -1,108 +1,50 @@
-use Rattle.std.proofs.Common.{◌≡◌, ◌≤◌, None, length, refl, sym, ap, subst, ◌∙◌, arith}
+use Rattle.std.proofs.Common.{◌≡◌, None, sym, subst, length}
 use Rattle.std.proofs.iter.Next as it
-use Rattle.std.proofs.lemmas.List.{length_push}
-use Rattle.std.specs.Iterator.{size}
-use Rattle.starlark_hash.specs.Entries.{Entry, match_of}
+use Rattle.starlark_lists.specs.Entries.{match_of}
 use Rattle.starlark_small.specs.Collect.{own_entry}
-use Rattle.starlark_small.proofs.Inserting.{yields_more, insert_all_next, length_inserted_le, length_le_inserted, room_left, room_for_next, grows_on, indexed_on, long_is_indexed}
+use Rattle.starlark_small.proofs.Inserting.{yields_more, filled_none, filled_more, filled_still, long_is_indexed}
 use Rattle.starlark_small.proofs.small_map.SmallMap.insert_items.Goals as goal
 
 pub loop-pair-init : goal.loop-pair-init
-loop-pair-init g c = it.begun c.requires.can c.requires.finite (refl, omega arith, omega arith, (omega arith, omega arith), long_is_indexed c.index.result c.args.self.now.indexed (length c.args.self.now.entries) c.index.ensures.indexed c.index.ensures.long, λ fits. (refl, refl))
+loop-pair-init g c =
+    it.begun c.requires.can c.requires.finite
+    (filled_none c.args.self.now (long_is_indexed c.index.result c.args.self.now.indexed (length c.args.self.now.entries) c.index.ensures.indexed c.index.ensures.long))
 
 pub loop-pair-preserved-in-Ok : goal.loop-pair-preserved-in-Ok
 loop-pair-preserved-in-Ok g c =
     let inv = c.loop-pair.invariant in
-    let eq = g.K.PartialEq.eq in
-    let first = c.args.self.now in
-    let mid = c.loop-pair.self in
-    let x = c.in-Some.pair in
-    let item : g.row.K.Denot × g.row.V.Denot → Entry g.row.K.Denot g.row.V.Denot = own_entry g.K.Hash.hash_input in
-    let more = λ (fits : size (g.I.Iterator.remaining c.args.items) ≤ first.room). room_for_next (length first.entries) (length inv.seen) (length mid.entries) mid.room first.room
-    (size (g.I.Iterator.remaining c.args.items)) (size (g.I.Iterator.remaining c.loop-pair.items)) (size (g.I.Iterator.remaining c.next.new.self))
-    inv.holds.1 inv.holds.2 inv.counted (it.on x c.in-Some.is c.next.ensures.goes inv.ending).2 fits in
-    it.again inv x c.in-Some.is (c.next.ensures.steps, c.next.ensures.goes) (
-      insert_all_next eq item first.entries inv.seen x mid.entries c.insert.new.self.entries inv.holds.0 c.in-Ok.ensures.entries,
-      omega (arith, inv.holds.1, c.insert.ensures.room),
-      omega (arith, length_inserted_le eq mid.entries c.insert.new.self.entries (item x).0 (item x).1 c.in-Ok.ensures.entries, inv.holds.2, length_push inv.seen x),
-      grows_on first.capacity mid.capacity c.insert.new.self.capacity (length mid.entries) (length c.insert.new.self.entries) inv.holds.3 c.insert.ensures.capacity
-          (length_le_inserted eq mid.entries c.insert.new.self.entries (item x).0 (item x).1 c.in-Ok.ensures.entries),
-      indexed_on first.indexed mid.indexed c.insert.new.self.indexed (length mid.entries) (length c.insert.new.self.entries) inv.holds.4 c.insert.ensures.indexed
-          (length_le_inserted eq mid.entries c.insert.new.self.entries (item x).0 (item x).1 c.in-Ok.ensures.entries),
-      λ fits. ((c.insert.ensures.spare (more fits)).0 ∙ (inv.holds.5 fits).0, (c.insert.ensures.spare (more fits)).1 ∙ (inv.holds.5 fits).1),
-    )
+    it.again inv c.in-Some.pair c.in-Some.is (c.next.ensures.steps, c.next.ensures.goes)
+    (filled_more c.insert.new.self inv.holds inv.counted (it.on c.in-Some.pair c.in-Some.is c.next.ensures.goes inv.ending).2
+    c.insert.ensures.spare c.insert.ensures.room c.insert.ensures.capacity c.insert.ensures.indexed c.in-Some.pair c.in-Ok.ensures.entries)
 
 pub loop-pair-preserved : goal.loop-pair-preserved
 loop-pair-preserved g c =
     let inv = c.loop-pair.invariant in
-    let eq = g.K.PartialEq.eq in
-    let first = c.args.self.now in
-    let mid = c.loop-pair.self in
-    let x = c.in-Some.pair in
-    let item : g.row.K.Denot × g.row.V.Denot → Entry g.row.K.Denot g.row.V.Denot = own_entry g.K.Hash.hash_input in
-    let more = λ (fits : size (g.I.Iterator.remaining c.args.items) ≤ first.room). room_for_next (length first.entries) (length inv.seen) (length mid.entries) mid.room first.room
-    (size (g.I.Iterator.remaining c.args.items)) (size (g.I.Iterator.remaining c.loop-pair.items)) (size (g.I.Iterator.remaining c.next.new.self))
-    inv.holds.1 inv.holds.2 inv.counted (it.on x c.in-Some.is c.next.ensures.goes inv.ending).2 fits in
-    it.again inv x c.in-Some.is (c.next.ensures.steps, c.next.ensures.goes) (
-      insert_all_next eq item first.entries inv.seen x mid.entries c.insert.new.self.entries inv.holds.0 c.in-Ok.ensures.entries,
-      omega (arith, inv.holds.1, c.insert.ensures.room),
-      omega (arith, length_inserted_le eq mid.entries c.insert.new.self.entries (item x).0 (item x).1 c.in-Ok.ensures.entries, inv.holds.2, length_push inv.seen x),
-      grows_on first.capacity mid.capacity c.insert.new.self.capacity (length mid.entries) (length c.insert.new.self.entries) inv.holds.3 c.insert.ensures.capacity
-          (length_le_inserted eq mid.entries c.insert.new.self.entries (item x).0 (item x).1 c.in-Ok.ensures.entries),
-      indexed_on first.indexed mid.indexed c.insert.new.self.indexed (length mid.entries) (length c.insert.new.self.entries) inv.holds.4 c.insert.ensures.indexed
-          (length_le_inserted eq mid.entries c.insert.new.self.entries (item x).0 (item x).1 c.in-Ok.ensures.entries),
-      λ fits. ((c.insert.ensures.spare (more fits)).0 ∙ (inv.holds.5 fits).0, (c.insert.ensures.spare (more fits)).1 ∙ (inv.holds.5 fits).1),
-    )
+    it.again inv c.in-Some.pair c.in-Some.is (c.next.ensures.steps, c.next.ensures.goes)
+    (filled_more c.insert.new.self inv.holds inv.counted (it.on c.in-Some.pair c.in-Some.is c.next.ensures.goes inv.ending).2
+    c.insert.ensures.spare c.insert.ensures.room c.insert.ensures.capacity c.insert.ensures.indexed c.in-Some.pair c.in-Ok.ensures.entries)
 
-pub returns-in-Err-clause-entries : goal.returns-in-Err-clause-entries
-returns-in-Err-clause-entries g c =
+pub returns-in-Err : goal.returns-in-Err
+returns-in-Err g c =
     let inv = c.loop-pair.invariant in
-    let eq = g.K.PartialEq.eq in
-    let x = c.in-Some.pair in
-    let item : g.row.K.Denot × g.row.V.Denot → Entry g.row.K.Denot g.row.V.Denot = own_entry g.K.Hash.hash_input in
-    let stays : c.insert.new.self.entries ≡ c.loop-pair.self.entries = c.in-Err.ensures.unchanged.0 in (
-      inv.seen,
-      stays ∙ inv.holds.0,
-      (
-        x,
-        c.next.new.self,
-        yields_more g.I.Iterator.next_gives c.args.items c.loop-pair.items c.next.new.self inv.seen x inv.gave (it.said g.I.Iterator.next_gives c.in-Some.is c.next.ensures.steps),
-        subst (λ l. match_of eq l (item x).0 ≡ None) (sym stays) c.in-Err.ensures.absent,
-      ),
-    )
-
-pub returns-in-Err-clause-room : goal.returns-in-Err-clause-room
-returns-in-Err-clause-room g c = omega (arith, c.loop-pair.invariant.holds.1, c.insert.ensures.room)
-
-pub returns-in-Err-clause-capacity : goal.returns-in-Err-clause-capacity
-returns-in-Err-clause-capacity g c =
-    let mid = c.loop-pair.self in
-    grows_on c.args.self.now.capacity mid.capacity c.insert.new.self.capacity (length mid.entries) (length c.insert.new.self.entries) c.loop-pair.invariant.holds.3 c.insert.ensures.capacity
-    (omega (arith, ap length {x = c.insert.new.self.entries} {y = mid.entries} c.in-Err.ensures.unchanged.0))
-
-pub returns-in-Err-clause-spare : goal.returns-in-Err-clause-spare
-returns-in-Err-clause-spare g c = λ fits.
-    let inv = c.loop-pair.invariant in
-    let first = c.args.self.now in
-    let mid = c.loop-pair.self in
-    let more = room_for_next (length first.entries) (length inv.seen) (length mid.entries) mid.room first.room
-    (size (g.I.Iterator.remaining c.args.items)) (size (g.I.Iterator.remaining c.loop-pair.items)) (size (g.I.Iterator.remaining c.next.new.self))
-    inv.holds.1 inv.holds.2 inv.counted (it.on c.in-Some.pair c.in-Some.is c.next.ensures.goes inv.ending).2 fits in
-    ((c.insert.ensures.spare more).0 ∙ (inv.holds.5 fits).0, (c.insert.ensures.spare more).1 ∙ (inv.holds.5 fits).1)
-
-pub returns-in-Err-clause-succeeds : goal.returns-in-Err-clause-succeeds
-returns-in-Err-clause-succeeds g c = λ fits.
-    let inv = c.loop-pair.invariant in
-    let first = c.args.self.now in
-    let mid = c.loop-pair.self in
-    absurd (room_left (length first.entries) (length inv.seen) (length mid.entries) mid.room first.room (size (g.I.Iterator.remaining c.args.items)) (size (g.I.Iterator.remaining c.loop-pair.items))
-    (size (g.I.Iterator.remaining c.next.new.self)) inv.holds.1 c.in-Err.ensures.full inv.holds.2 inv.counted (it.on c.in-Some.pair c.in-Some.is c.next.ensures.goes inv.ending).2 fits)
-
-pub returns-in-Err-clause-indexed : goal.returns-in-Err-clause-indexed
-returns-in-Err-clause-indexed g c =
-    let mid = c.loop-pair.self in
-    indexed_on c.args.self.now.indexed mid.indexed c.insert.new.self.indexed (length mid.entries) (length c.insert.new.self.entries) c.loop-pair.invariant.holds.4 c.insert.ensures.indexed
-    (omega (arith, ap length {x = c.insert.new.self.entries} {y = mid.entries} c.in-Err.ensures.unchanged.0))
-
-pub returns-in-Err-clause-full : goal.returns-in-Err-clause-full
-returns-in-Err-clause-full g c = omega (arith, c.loop-pair.invariant.holds.1, c.in-Err.ensures.full, ap length {x = c.insert.new.self.entries} {y = c.loop-pair.self.entries} c.in-Err.ensures.unchanged.0)
+    let same = c.in-Err.ensures.unchanged.0 in
+    let still = filled_still c.insert.new.self inv.holds inv.counted (it.on c.in-Some.pair c.in-Some.is c.next.ensures.goes inv.ending).2
+    c.insert.ensures.spare c.insert.ensures.room c.insert.ensures.capacity c.insert.ensures.indexed same c.in-Err.ensures.full in
+    record {
+      entries = record {
+        items = inv.seen;
+        entries = still.0.entries;
+        ended = record {
+          next = c.in-Some.pair;
+          rest = c.next.new.self;
+          gave = yields_more g.I.Iterator.next_gives c.args.items c.loop-pair.items c.next.new.self inv.seen c.in-Some.pair inv.gave (it.said g.I.Iterator.next_gives c.in-Some.is c.next.ensures.steps);
+          absent = subst (λ l. match_of g.K.PartialEq.eq l (own_entry g.K.Hash.hash_input c.in-Some.pair).0 ≡ None) (sym same) c.in-Err.ensures.absent;
+        };
+      };
+      succeeds = λ fits. absurd (still.2 fits);
+      spare = still.0.spare;
+      full = still.1;
+      room = still.0.room;
+      capacity = still.0.capacity;
+      indexed = still.0.indexed;
+    }

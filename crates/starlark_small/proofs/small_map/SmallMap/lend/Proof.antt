@@ -42,15 +42,15 @@ use denote.Triple.Walked.{Stays, stay_dropped, walk_of, ends_at, walked, walk_Me
 use Rattle.std.specs.Prelude.{map, min, is_some, Option}
 use Rattle.std.specs.declared.cmp.Eq as Eq
 use Rattle.std.specs.declared.cmp.PartialEq as PartialEq
-use Rattle.starlark_hash.specs.Entries.{pair_of}
-use Rattle.starlark_vec2.proofs.NamedClose.{closes_named}
+use Rattle.starlark_lists.specs.Entries.{pair_of}
+use Rattle.starlark_columns.proofs.NamedClose.{closes_named}
 use Rattle.starlark_vec2.proofs.loan.Loan.TheLaws as L-laws
 use Rattle.starlark_vec2.specs.contracts.loan.Loan as L-type
 use Rattle.starlark_vec2.specs.declared.loan.Loan.{Loan}
 use Rattle.starlark_vecmap.specs.contracts.vec_map.VecMap.lend as g
 use Rattle.starlark_vecmap.proofs.vec_map.VecMap.lend.Symbol.{name as #run}
 use Rattle.starlark_vecmap.proofs.vec_map.VecMap.lend.Met as loan
-use Rattle.starlark_vecmap.proofs.Written.{with_values-again, length-with_values}
+use Rattle.starlark_vecmap.proofs.ValuesWritten.{with_values-again, length-with_values}
 use Rattle.starlark_vecmap.specs.EntryList.{EntryList, with_entries, with_values}
 use Rattle.starlark_table.specs.Table.{Table}
 use Rattle.starlark_small.specs.Index.{index_room}

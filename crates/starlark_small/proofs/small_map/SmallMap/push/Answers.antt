@@ -1,29 +1,17 @@
-use Rattle.std.proofs.Common.{◌≡◌, length, subst, ap, ◌∙◌}
-use Rattle.std.specs.Prelude.{◌||◌, is_some, nat_lt}
-use Rattle.std.proofs.lemmas.List.{length_push}
-use Rattle.std.proofs.lemmas.Result.{on_err_weaker, on_ok_weaker}
-use Rattle.starlark_small.specs.Index.{unindexed}
+use mathlib.Core.Path.{subst⁻¹}
+use Rattle.std.proofs.Common.{◌≡◌, None, subst, sym, ap, ◌∙◌, ◌∷◌, [], ◌++◌}
+use Rattle.starlark_lists.specs.Entries.{match_of}
+use Rattle.starlark_lists.proofs.EntryLemmas.{IsSingle-push}
+use Rattle.starlark_vecmap.specs.EntryList.{with_entries}
+use Rattle.starlark_small.specs.Index.{IsSound}
 use Rattle.starlark_small.proofs.small_map.SmallMap.push.Goals as goal
 
-pub returns-clause-inserted : goal.returns-clause-inserted
-returns-clause-inserted g c =
-    let put = c.push_in.ensures in
-    rw (← c.self.view_is)
-    (on_ok_weaker c.push_in.result (λ pushed. record {
-      entries = pushed;
-      spare = put.spare;
-      room = put.room;
-      capacity = put.capacity;
-      indexed = subst (λ n. is_some c.push_in.new.index ≡ (is_some c.self.inside.index || nat_lt unindexed n)) (ap length pushed ∙ length_push c.self.inside.entries.entries (c.args.key, c.args.value)) put.made;
-    }) put.pushed)
-
-pub returns-clause-refused : goal.returns-clause-refused
-returns-clause-refused g c =
-    let put = c.push_in.ensures in
-    rw (← c.self.view_is)
-    (on_err_weaker c.push_in.result (λ same. record {
-      entries = same.0;
-      indexed = ap is_some {x = c.push_in.new.index} {y = c.self.inside.index} same.1;
-      room = put.room;
-      capacity = put.capacity;
-    }) put.unchanged)
+pub invariant_of-self : goal.invariant_of-self
+invariant_of-self g c =
+    let eq = g.K.PartialEq.eq in
+    let list = c.self.inside.entries in
+    let es = list.entries in
+    subst⁻¹ (λ l. IsSound eq l.entries c.index_last.new.index) {x = c.push_reserved.new.self} {y = with_entries list (es ++ (c.args.key, c.args.value) ∷ [])} c.push_reserved.ensures (record {
+      single = IsSingle-push eq g.met.K.Eq.laws es c.args.key c.args.value c.self.invariant.single (subst (λ l. match_of eq l c.args.key ≡ None) (sym (ap (λ m. m.entries) c.self.view_is ∙ c.reserve.ensures.entries)) c.requires);
+      indexed = c.index_last.ensures.indexed (c.args.key, c.args.value) (sym c.hash.ensures);
+    })

@@ -1,4 +1,43 @@
+use Rattle.std.proofs.Common.{ap, subst, sym, ◌∙◌, length, ◌+◌, ◌≤◌, arith, IsPermutation}
+use Rattle.std.proofs.lemmas.Bool.{false≢true}
+use Rattle.std.proofs.lemmas.Result.{err_from_is_err_and}
+use Rattle.std.proofs.lemmas.List.Sorted.{length_permutation}
+use Rattle.starlark_lists.specs.Entries.{IsSingle}
+use Rattle.starlark_lists.specs.Sorting.{key_lt, sorted_by_key}
+use Rattle.starlark_lists.proofs.EntryLemmas.{IsSingle-permutation}
+use Rattle.starlark_lists.proofs.SortingLemmas.{IsPermutation-sorted_by}
+use Rattle.starlark_small.specs.Index.{index_room}
+use Rattle.starlark_small.proofs.Rooms.{KeepsMemory-turned}
 use Rattle.starlark_small.proofs.small_map.SmallMap.sort_keys.Goals as goal
 
-pub returns-clause-needed : goal.returns-clause-needed
-returns-clause-needed g c = rw (← c.self.view_is) c.sort_in.ensures.needed
+pub returns-in_err-sort_keys-clause-needed : goal.returns-in_err-sort_keys-clause-needed
+returns-in_err-sort_keys-clause-needed g c =
+    let p = err_from_is_err_and c.from_residual.result c.from_residual.ensures.1 in
+    rw (p.1, ← c.self.view_is) (λ ascends. absurd (false≢true (c.in_err-sort_keys.ensures.at_once ascends).0))
+
+pub unindex_all-requires : goal.unindex_all-requires
+unindex_all-requires g c =
+    let es = c.self.inside.entries.entries in (
+      es,
+      c.self.invariant.indexed,
+      subst (λ l. IsPermutation es l.entries) (sym c.in_ok-sort_keys.ensures.sorted) (IsPermutation-sorted_by (key_lt g.K.Ord.cmp) es),
+    )
+
+pub invariant_of-self-2 : goal.invariant_of-self-2
+invariant_of-self-2 g c =
+    let es = c.self.inside.entries.entries in
+    record {
+      single = subst (λ l. IsSingle g.K.PartialEq.eq l.entries) (sym c.in_ok-sort_keys.ensures.sorted)
+          (IsSingle-permutation g.K.PartialEq.eq g.met.K.Eq.laws es (sorted_by_key g.K.Ord.cmp es) c.self.invariant.single (IsPermutation-sorted_by (key_lt g.K.Ord.cmp) es));
+      indexed = c.index_all.ensures.indexed;
+    }
+
+pub returns-clause-kept : goal.returns-clause-kept
+returns-clause-kept g c =
+    let es = c.self.inside.entries.entries in
+    let new = c.sort_keys.new.self in
+    let sorted = c.in_ok-sort_keys.ensures.sorted in
+    let size = ap (λ l. length l.entries) sorted ∙ length_permutation es (sorted_by_key g.K.Ord.cmp es) (IsPermutation-sorted_by (key_lt g.K.Ord.cmp) es) in
+    rw (← c.self.view_is)
+    (KeepsMemory-turned c.self.inside.entries new c.self.inside.index c.index_all.new.index size (ap (λ l. l.capacity) sorted)
+    (subst (λ n. n + index_room n c.self.inside.index ≤ length new.entries + index_room (length new.entries) c.index_all.new.index) size (omega (arith, c.unindex_all.ensures.room, c.index_all.ensures.room))) (c.index_all.ensures.kept ∙ c.unindex_all.ensures.kept))

@@ -48,7 +48,7 @@ use Rattle.std.specs.declared.cmp.Ord as Ord
 use Rattle.std.specs.declared.cmp.PartialEq as PartialEq
 use Rattle.std.specs.declared.cmp.PartialOrd as PartialOrd
 use Rattle.std.specs.declared.hash.Hash as Hash
-use Rattle.starlark_hash.specs.Entries.{pair_of}
+use Rattle.starlark_lists.specs.Entries.{pair_of}
 use Rattle.starlark_vec2.proofs.pairs_mut.PairsMut.TheLaws as walk_laws
 use Rattle.starlark_vec2.specs.contracts.pairs_mut.PairsMut as Walk
 use Rattle.starlark_vecmap.specs.EntryList.{with_values}

@@ -6,18 +6,18 @@ use Rattle.starlark_sorted.proofs.sorted_set.SortedSet.from_sorted_vec.Goals as 
 
 pub returns-clause-set : goal.returns-clause-set
 returns-clause-set g c =
-    let (it, becomes, (xs, put, drained)) = c.in-Ok-extend.ensures.entries in
-    extended g.T.PartialEq.eq g.T.Hash.hash_input it c.args.vec xs c.in-Ok.inner.entries c.extend.new.self.entries becomes.0 becomes.1 drained c.in-Ok.ensures.entries put
+    let put = c.in-Ok-extend.ensures.entries in
+    extended g.T.PartialEq.eq g.T.Hash.hash_input put.it c.args.vec put.inserts.items c.in-Ok.inner.entries c.extend.new.self.entries put.made.0 put.made.1 put.inserts.ended c.in-Ok.ensures.entries put.inserts.entries
 
 pub returns-clause-strictly : goal.returns-clause-strictly
 returns-clause-strictly g c =
-    let (it, becomes, (xs, put, drained)) = c.in-Ok-extend.ensures.entries in
-    let made = extended g.T.PartialEq.eq g.T.Hash.hash_input it c.args.vec xs c.in-Ok.inner.entries c.extend.new.self.entries becomes.0 becomes.1 drained c.in-Ok.ensures.entries put in
+    let put = c.in-Ok-extend.ensures.entries in
+    let made = extended g.T.PartialEq.eq g.T.Hash.hash_input put.it c.args.vec put.inserts.items c.in-Ok.inner.entries c.extend.new.self.entries put.made.0 put.made.1 put.inserts.ended c.in-Ok.ensures.entries put.inserts.entries in
     subst (AscendsStrictly g.T.Ord.cmp) (sym made) (insert_all-strictly g.met.T.Ord.total g.met.T.Ord.matches_eq g.met.T.Hash.respects_eq c.args.vec c.iter.ensures.ascends)
 
 pub invariant_of-result : goal.invariant_of-result
 invariant_of-result g c =
-    let (it, becomes, (xs, put, drained)) = c.in-Ok-extend.ensures.entries in
-    let made = extended g.T.PartialEq.eq g.T.Hash.hash_input it c.args.vec xs c.in-Ok.inner.entries c.extend.new.self.entries becomes.0 becomes.1 drained c.in-Ok.ensures.entries put in
+    let put = c.in-Ok-extend.ensures.entries in
+    let made = extended g.T.PartialEq.eq g.T.Hash.hash_input put.it c.args.vec put.inserts.items c.in-Ok.inner.entries c.extend.new.self.entries put.made.0 put.made.1 put.inserts.ended c.in-Ok.ensures.entries put.inserts.entries in
     Ascends-from_strictly g.T.Ord.cmp g.met.T.Ord.total c.extend.new.self.entries
     (subst (AscendsStrictly g.T.Ord.cmp) (sym made) (insert_all-strictly g.met.T.Ord.total g.met.T.Ord.matches_eq g.met.T.Hash.respects_eq c.args.vec c.iter.ensures.ascends))

@@ -1,7 +1,6 @@
-use Rattle.std.proofs.Common.{◌≡◌, Some, true, IfSome, sym, subst, ap}
-use Rattle.std.specs.Fn.{CalledAt}
-use Rattle.starlark_hash.specs.Search.{CanSearch}
-use Rattle.starlark_table.specs.Table.{holders_in, member_at}
+use Rattle.std.proofs.Common.{Some, IfSome, sym, subst, ap}
+use Rattle.starlark_lists.specs.Search.{Searches, CanSearch}
+use Rattle.starlark_table.specs.Table.{holders_in, items_under}
 use Rattle.starlark_table.proofs.Load.{sound-empty_slot}
 use Rattle.starlark_table.proofs.ready_table.ReadyTable.find_near.Goals as goal
 
@@ -15,5 +14,5 @@ find_slot_near-requires-clause-callable g c =
 
 pub returns : goal.returns
 returns g c =
-    subst (λ t. IfSome c.find_slot_near.result (λ slot. (x : g.row.T.Denot) × (f : g.row.F.Denot) × (f' : g.row.F.Denot)
-    × (member_at t slot ≡ Some (c.args.hash, x)) × CalledAt g.F.FnMut f x true f')) c.self.view_is c.find_slot_near.ensures
+    subst (λ t. IfSome c.find_slot_near.result (λ slot. (last : g.row.F.Denot) × Searches g.F.FnMut (items_under c.args.hash t) c.args.eq (Some slot) last)) c.self.view_is
+    c.find_slot_near.ensures

@@ -50,7 +50,7 @@ use Rattle.starlark_table.specs.contracts.ready_table.pairs.ReadyTable+tuple2+K+
 use Rattle.starlark_table.proofs.ready_table.pairs.ReadyTable+tuple2+K+V.lend_pairs.Symbol.{name as #run}
 use Rattle.starlark_table.proofs.ready_table.pairs.ReadyTable+tuple2+K+V.lend_pairs.Met as loan
 use Rattle.starlark_table.proofs.loan.PairLoan.TheLaws as L-laws
-use Rattle.starlark_table.proofs.NamedClose.{closes_named}
+use Rattle.starlark_columns.proofs.NamedClose.{closes_named}
 use Rattle.starlark_table.proofs.LentInResult.{lone_value}
 use Rattle.starlark_unordered.specs.contracts.unordered_map.UnorderedMap.lend as F
 use Rattle.starlark_unordered.specs.contracts.unordered_map.UnorderedMap.lend.Key.{name as #self}

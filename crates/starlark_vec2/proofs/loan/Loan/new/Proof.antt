@@ -49,13 +49,13 @@ use denote.Triple.Spec.{Meets, triple_of}
 use denote.Triple.Statement.{Contract, Triple}
 use denote.Triple.Table.{entered}
 use denote.Triple.Walked.{says, Stays, stay_dropped, walk_of, ends_at, walked, walk_Meets, Goes-dropped, Goes-spent_ref}
-use Rattle.std.specs.Prelude.{Option}
+use Rattle.starlark_columns.specs.Laid.{Laid, relaid}
 use Rattle.starlark_columns.specs.Places.{items_of}
 use Rattle.starlark_columns.specs.Front.{IsFront, with_items}
 use Rattle.starlark_vec2.specs.ColumnLending.{column}
 use Rattle.starlark_vec2.specs.Frozen.{Pair, with_seconds, lent_run}
-use Rattle.starlark_vec2.proofs.NamedClose.{closes_named}
-use Rattle.starlark_vec2.proofs.Runs.{Made, run_made, kept_items}
+use Rattle.starlark_columns.proofs.NamedClose.{closes_named}
+use Rattle.starlark_vec2.proofs.FrozenPairs.{Made, run_made, kept_items}
 use Rattle.starlark_vec2.specs.declared.loan.Loan.{Loan}
 use Rattle.starlark_vec2.specs.contracts.loan.Loan as L-type
 use Rattle.starlark_vec2.specs.contracts.loan.Loan.new as F
@@ -88,8 +88,11 @@ module _ (A B : RattleType) where
   abbrev stayed : Stays ended.signature.params ended.kept
   stayed = (stay_dropped (mut_ref_to (0 ∷ []) tt (plain (λ _. W))) no, (stay_dropped (plain (λ _. usize)) yes, tt))
 
-  abbrev kept : List (Option One) → List One → List (Option One)
-  kept v ws = with_items v (with_seconds (items_of v) ws)
+  abbrev put : Laid One → List One → Laid One
+  put v ws = relaid v (with_items v.places ws)
+
+  abbrev kept : Laid One → List One → Laid One
+  kept v ws = put v (with_seconds (items_of v.places) ws)
 
   module _ {M : Type 1} {𝓤 : Ura M} (𝓛 : Logic 𝓤) (at_mem : Memory → SProp 𝓤) (run : Routine → Fun 𝓤) where
     open 𝓛 use {H}
@@ -101,7 +104,7 @@ module _ (A B : RattleType) where
     Run = triple_of 𝓛 (g.signature A B) (g.spec A B 𝓛 at_mem run)
 
     module _ (C : Calls 𝓤 H) (Λ : Loops 𝓤 H) (fm : FmC 𝓤 H 𝓛.laws C) (gr : Triple 𝓤 (C (#run args)) Run)
-        (κ κA κB : Lft) (q qA qB : Share) (bounds : (κ ⊑ κA) × ((κ ⊑ κB) × Unit {0})) (r : MutBor (List (Option One))) (len : ℕ) (fits : len < 2 ^ 64) where
+        (κ κA κB : Lft) (q qA qB : Share) (bounds : (κ ⊑ κA) × ((κ ⊑ κB) × Unit {0})) (r : MutBor (Laid One)) (len : ℕ) (fits : len < 2 ^ 64) where
       abbrev bound : (walk_of 𝓛 ended stayed spec).Ghost
       bound = (((κ, (κA, (κB, tt))), (q, (qA, (qB, tt))), bounds, (r, (len, tt)), (mut_vals r, (vint w64 len ∷ [], tt))), tt)
 
@@ -116,8 +119,8 @@ module _ (A B : RattleType) where
       walk =
           let b = r.ref_ptr.0 in let o = r.ref_ptr.1 in let v = r.now in let γ = r.ghost_name in
           qed 𝓛 (((‵ (flft κ q) ⊛ ‵ (flft κA qA) ⊛ ‵ (flft κB qB) ⊛ ‵ ftrue) ⊛ ‵ (owns (types_at ended.signature.params bound.0.0) bound.0.3 bound.0.4))
-          ∷ (raw (fact 𝓤 (κA ⊑ A.lives)) ⊛ raw (fact 𝓤 (κB ⊑ B.lives)) ⊛ raw (fact 𝓤 (IsFront v len))) ∷ []) ∵
-          move ! (1 ∷ []) $ split3 ! $ heard ! (κA ⊑ A.lives) (λ la. heard ! (κB ⊑ B.lives) (λ lb. heard ! (IsFront v len) (λ front.
+          ∷ (raw (fact 𝓤 (κA ⊑ A.lives)) ⊛ raw (fact 𝓤 (κB ⊑ B.lives)) ⊛ raw (fact 𝓤 (IsFront v.places len))) ∷ []) ∵
+          move ! (1 ∷ []) $ split3 ! $ heard ! (κA ⊑ A.lives) (λ la. heard ! (κB ⊑ B.lives) (λ lb. heard ! (IsFront v.places len) (λ front.
           split ! $ split3 ! $ move ! (2 ∷ []) $ split ! $ move ! (4 ∷ []) $ fsplit3 ! $ keep ! (5 ∷ 6 ∷ 3 ∷ 0 ∷ []) $
           -- [the tokens of κ, κA, κB; the column]
           enter ! C Λ here (vptr b o ∷ vint w64 len ∷ []) _ $ alloc_all ! (λ l. pass_all ! refl ((tt, tt), ((tt, record { fits = fits }), tt)) $
@@ -127,15 +130,15 @@ module _ (A B : RattleType) where
           name_new ! tt (W.coded.code v) (λ δ. move ! (2 ∷ 1 ∷ []) $ fjoin ! $ fpack ! W.Denot (λ z. fsep ((mem W).own_at z b o) (fauth δ (W.coded.code z))) v $
           move ! (2 ∷ []) $ ages ! (λ n. move ! (1 ∷ []) $ bor_new_deep ! tt n κ $
           -- [the borrow and its right; the open borrow; obs δ; obs; auth; the other half; the tokens of κA, κB]
-          let lent : MutBor (List (Option One)) = record { ref_ptr = (b, o); ghost_name = δ; now = v } in
+          let lent : MutBor (Laid One) = record { ref_ptr = (b, o); ghost_name = δ; now = v } in
           move ! (3 ∷ 0 ∷ []) $ feq_i ! (List Val) (mut_vals lent) (mut_vals lent) refl $ fjoin3 ! $ nothing ! $ owned ! usize _ (uint_Makes 𝓛 w64) len _ (refl, fits) $ fjoin ! $ move ! (1 ∷ 0 ∷ []) $ fjoin ! $
           nothing ! $ move ! (8 ∷ 0 ∷ []) $ join ! $ move ! (7 ∷ 0 ∷ []) $ join ! $ move ! (6 ∷ 0 ∷ []) $ join ! $ join ! $
-          use0 𝓛 (raw (fact 𝓤 (IsFront v len))) (fact_i 𝓤 _ (emp 𝓤) front) $ use0 𝓛 (raw (fact 𝓤 (κB ⊑ B.lives))) (fact_i 𝓤 _ (emp 𝓤) lb) $ join ! $ use0 𝓛 (raw (fact 𝓤 (κA ⊑ A.lives))) (fact_i 𝓤 _ (emp 𝓤) la) $ join ! $ move ! (1 ∷ 0 ∷ []) $ join ! $
+          use0 𝓛 (raw (fact 𝓤 (IsFront v.places len))) (fact_i 𝓤 _ (emp 𝓤) front) $ use0 𝓛 (raw (fact 𝓤 (κB ⊑ B.lives))) (fact_i 𝓤 _ (emp 𝓤) lb) $ join ! $ use0 𝓛 (raw (fact 𝓤 (κA ⊑ A.lives))) (fact_i 𝓤 _ (emp 𝓤) la) $ join ! $ move ! (1 ∷ 0 ∷ []) $ join ! $
           let z : Run.Ghost = (((κ, (κA, (κB, tt))), (Share.right q, (qA, (qB, tt))), bounds, (lent, (len, tt)), (mut_vals lent, (vint w64 len ∷ [], tt))), tt) in
           use1 𝓛 (raw (Run.pre z)) (id⊢ 𝓤 _) $
           calls_at ! fm Run gr z (and_then ! (get ! refl) (and_then ! (get ! refl) (no_more !))) (λ u.
           use1 𝓛 (later (some (λ (x : MutBor (List One)). ((‵ (flft κ (Share.right q)) ⊛ ‵ (flft κA qA) ⊛ ‵ (flft κB qB) ⊛ ‵ ftrue) ⊛ ‵ ((MutSlice (named 0) κ P).own_val x (u ∷ []))) ⊛ raw (ensured 𝓛 (g.ended A B) (g.clauses A B 𝓛 at_mem run) z.0.0 z.0.3 tt x)))) (id⊢ 𝓤 _) $ await ! tt $ pick ! (λ x. split ! $ move ! (1 ∷ []) $
-          use1 𝓛 (‵ (follows W (Array P 0) δ x.ghost_name (with_items v)) ⊛ raw (fact 𝓤 (x.now ≡ items_of v))) (ex_e 𝓤 _ (λ ws. snd∗ 𝓤 (sem 𝓛 (lasts (g.ended A B) z.0.0 z.0.3 ws)) _)) $ split ! $ move ! (1 ∷ []) $ heard ! (x.now ≡ items_of v) (λ items.
+          use1 𝓛 (‵ (follows W (Array P 0) δ x.ghost_name (put v)) ⊛ raw (fact 𝓤 (x.now ≡ items_of v.places))) (ex_e 𝓤 _ (λ ws. snd∗ 𝓤 (sem 𝓛 (lasts (g.ended A B) z.0.0 z.0.3 ws)) _)) $ split ! $ move ! (1 ∷ []) $ heard ! (x.now ≡ items_of v.places) (λ items.
           move ! (1 ∷ []) $ split ! $ move ! (1 ∷ []) $ fsplit3 ! $ fsplit ! $ feq_l ! (λ at_x. pure_l ! (room P (length x.now)) (λ rm.
           lands_as ! (ap only at_x) refl (tt, (tt, (record { fits = rm.0 }, tt))) $
           pure_i ! (mut_slice_at P x (mut_slice_vals x)) (tt, (tt, tt)) (refl, rm) $ fjoin3 ! $ move ! (1 ∷ []) $ split3 ! $
@@ -147,17 +150,17 @@ module _ (A B : RattleType) where
           rewrite ! 2 (λ (t : List One). ‵ (follows (Array P 0) (Array P 0) x.ghost_name δ' (with_seconds t))) items refl $
           -- [the run; half of κ's token; what the slice follows; the tokens of κA, κB; what the column follows; the
           -- right; the open borrow; obs; auth]
-          move ! (5 ∷ 2 ∷ []) $ use2 𝓛 (‵ (follows W (Array P 0) δ δ' (kept v))) (follows_then 𝓛 W (Array P 0) (Array P 0) (with_items v) (with_seconds (items_of v)) δ x.ghost_name δ') $
+          move ! (5 ∷ 2 ∷ []) $ use2 𝓛 (‵ (follows W (Array P 0) δ δ' (kept v))) (follows_then 𝓛 W (Array P 0) (Array P 0) (put v) (with_seconds (items_of v.places)) δ x.ghost_name δ') $
           nothing ! $ move ! (7 ∷ 8 ∷ 9 ∷ 6 ∷ 1 ∷ 0 ∷ []) $ group ! 6 $
-          use1 𝓛 (later (some (λ (tie : GName). ‵ (flft κ (Share.left q)) ⊛ ‵ (follows W W γ tie (λ w. kept v (items_of w))))))
-          (closes_named 𝓛 (mem W) (mem W) (mem (Array P 0)) (kept v) (kept v) (λ w. kept v (items_of w)) (kept_items v len front) κ (Share.left q) b o b o γ δ δ' (emp 𝓤) (λ w. fst∗ 𝓤 (sem 𝓛 ((mem W).own_at (kept v w) b o)) (emp 𝓤)) n (W.coded.code v) (W.coded.code v) v) $ await ! tt $ pick ! (λ tie. split ! $
+          use1 𝓛 (later (some (λ (tie : GName). ‵ (flft κ (Share.left q)) ⊛ ‵ (follows W W γ tie (λ w. kept v (items_of w.places))))))
+          (closes_named 𝓛 (mem W) (mem W) (mem (Array P 0)) (kept v) (kept v) (λ w. kept v (items_of w.places)) (λ w. ap (relaid v) (kept_items v.places len front w)) κ (Share.left q) b o b o γ δ δ' (emp 𝓤) (λ w. fst∗ 𝓤 (sem 𝓛 ((mem W).own_at (kept v w) b o)) (emp 𝓤)) n (W.coded.code v) (W.coded.code v) v) $ await ! tt $ pick ! (λ tie. split ! $
           -- [half of κ's token; what the column follows; the run; the other half; the tokens of κA, κB]
           move ! (0 ∷ 3 ∷ []) $ use2 𝓛 (‵ (flft κ q)) (𝓛.lfts.lft_join κ q) $ move ! (4 ∷ []) $ split ! $ move ! (4 ∷ []) $
           let start : 0 * (mem P).size + ox ≡ ox = ap (λ (k : ℕ). k + ox) (zero-mul (mem P).size) ∙ zero-add ox in
           let made : Val = vstruct (vcons (vptr bx ox) (vcons (vstruct vnil) vnil)) in
-          let new : Loan A.Denot B.Denot = record { start = block_ptr bx ox; mark = record {}; name = δ'; tie = tie; from = 0; rest = items_of v } in
-          rewrite ! 0 (λ (k : ℕ). ‵ (lent_run (param 0 A) (param 1 B) κ bx k δ' (items_of v))) (sym start) refl $
-          pure_i ! (room P (0 + length (items_of v))) (tt, tt) (subst (λ (k : ℕ). Room P k) (ap length items ∙ sym (zero-add (length (items_of v)))) rm) $ fjoin ! $
+          let new : Loan A.Denot B.Denot = record { start = block_ptr bx ox; mark = record {}; name = δ'; tie = tie; from = 0; rest = items_of v.places } in
+          rewrite ! 0 (λ (k : ℕ). ‵ (lent_run (param 0 A) (param 1 B) κ bx k δ' (items_of v.places))) (sym start) refl $
+          pure_i ! (room P (0 + length (items_of v.places))) (tt, tt) (subst (λ (k : ℕ). Room P k) (ap length items ∙ sym (zero-add (length (items_of v.places)))) rm) $ fjoin ! $
           use0 𝓛 (‵ ((Struct (shape (L-type.the_type (named_lft 3 0 tt (κ, (κA, (κB, tt)))) (param 0 A) (param 1 B)))).own_val (block_ptr bx ox, (record {}, tt)) (made ∷ []))) (fields bx ox) $ fjoin ! $
           -- [the loan; the token of κB; nothing; that of κ; what the column follows; that of κA]
           sets ! (addr ! (from ! (fld ! refl (hop ! (look_in_at ! 3 (sub ! 0 refl (whole !))) (stop !))))) refl (tt, tt) $

@@ -49,6 +49,8 @@ use denote.Triple.Walked.{says, Stays, stay_dropped, walk_of, ends_at, walked, w
 use Rattle.std.specs.Prelude.{get_or, slice_get, slice_set}
 use Rattle.std.proofs.lemmas.Option.{slice_get_within}
 use Rattle.std.specs.declared.option.Option.TheVariants.{Some, None}
+use lib.ListN.{length-set}
+use Rattle.starlark_columns.specs.Laid.{relaid}
 use Rattle.starlark_columns.specs.Places.{items_of, IsFilled}
 use Rattle.starlark_columns.specs.Front.{IsFront}
 use Rattle.starlark_columns.proofs.Fronts.{front_filled, front_taken}
@@ -57,7 +59,7 @@ use Rattle.starlark_vec2.specs.Lending.{with_pair, lends_both_if}
 use Rattle.starlark_vec2.specs.PairList.{PairList}
 use Rattle.starlark_vec2.proofs.BothClose.{closes_both, closes_unchanged}
 use Rattle.starlark_vec2.proofs.Pairs.{slice_get-zip_none}
-use Rattle.starlark_vec2.proofs.TwoColumns.{len_is, both_set, both_end, pair_is}
+use Rattle.starlark_vec2.proofs.TwoColumns.{same_block, len_is, both_set, both_end, pair_is}
 use Rattle.starlark_vec2.proofs.Vec2Open.{V, D, Known, Rest, Cuts, Len, Less, len_out, len_in, eA, eB, cut, shut}
 use Rattle.starlark_vec2.specs.contracts.vec2.Vec2.get_mut as F
 use Rattle.starlark_vec2.specs.contracts.vec2.Vec2.get_mut.Key.{name as #self}
@@ -109,10 +111,13 @@ module _ (A B : RattleType) where
 
   -- the struct with both items written
   abbrev written : D A' B' → ℕ → A.Denot → B.Denot → D A' B'
-  written d i x y = record d { firsts = slice_set d.firsts i (Some x); seconds = slice_set d.seconds i (Some y) }
+  written d i x y = record d { firsts = relaid d.firsts (slice_set d.firsts.places i (Some x)); seconds = relaid d.seconds (slice_set d.seconds.places i (Some y)) }
 
   written_known : (v : W.Denot) (d : D A' B') (i : ℕ) (x : A.Denot) (y : B.Denot) → i < length v.pairs → Known A' B' v d → Known A' B' (with_pair v i (x, y)) (written d i x y)
-  written_known v d i x y lt k = (both_end d.firsts d.seconds d.len k.1 v k.0 i lt x y, both_set d.firsts d.seconds d.len k.1 v k.0 i lt x y)
+  written_known v d i x y lt k = let cs = d.firsts.places in let ds = d.seconds.places in let d' = written d i x y in (
+    both_end cs ds d.len k.1.0 v k.0 i lt x y,
+    (both_set cs ds d.len k.1.0 v k.0 i lt x y, same_block d.block d.firsts d'.firsts d.seconds d'.seconds k.1.1 refl refl (length-set cs i (Some x)) (length-set ds i (Some y))),
+  )
 
   module _ {M : Type 1} {𝓤 : Ura M} (𝓛 : Logic 𝓤) (at_mem : Memory → SProp 𝓤) (run : Routine → Fun 𝓤) where
     open 𝓛 use {H, A as A₀}
@@ -174,29 +179,29 @@ module _ (A B : RattleType) where
           use1 𝓛 (‵ (flft κ (Share.left q)) ⊛ ‵ (flft κ (Share.right q))) (𝓛.lfts.lft_split κ q) $ split ! $
           move ! (4 ∷ []) $ fsplit3 ! $ drop ! $ open_ref ! tt (mem W) {b = b} {o = o} $
           use1 𝓛 (some (λ (d : (d : D A' B') × Known A' B' v d). raw (Cuts A' B' 𝓛 b o v d))) (cut A' B' 𝓛 b o (param_laws 0 A LA) (param_laws 1 B LB) v) $ pick ! (λ d'.
-          let d = d'.0 in let xs = d.firsts in let ys = d.seconds in
-          use1 𝓛 (‵ (part_at CA full_share xs b (o + eA A' B')) ⊛ ‵ (part_at CB full_share ys b (o + eB A' B')) ⊛ raw (Rest A' B' 𝓛 b o d)) (id⊢ 𝓤 _) $ split3 ! $
+          let d = d'.0 in let rx = d.firsts in let ry = d.seconds in let xs = rx.places in let ys = ry.places in
+          use1 𝓛 (‵ (part_at CA full_share rx b (o + eA A' B')) ⊛ ‵ (part_at CB full_share ry b (o + eB A' B')) ⊛ raw (Rest A' B' 𝓛 b o d)) (id⊢ 𝓤 _) $ split3 ! $
           -- the length is read where it lies
           move ! (2 ∷ []) $ use1 𝓛 (raw (fact 𝓤 (d.len < 2 ^ 64)) ⊛ ‵ (Len A' B' 𝓛 b o d.len) ⊛ raw (Less A' B' 𝓛 b o d)) (len_out A' B' 𝓛 b o d) $ split3 ! $ heard ! (d.len < 2 ^ 64) (λ fits.
           sets ! (of_opd ! (load ! (through ! refl (fld ! refl (stop !))) (look ! 0 refl))) refl (tt, record { fits = fits }) $
           sets ! (addr ! (through ! refl (fld ! refl (stop !)))) refl (tt, tt) $
           use2 𝓛 (raw (Rest A' B' 𝓛 b o d)) (len_in A' B' 𝓛 b o d fits) $ move ! (1 ∷ 2 ∷ 0 ∷ []) $
           -- [the columns; the rest; the open borrow; obs; auth; half of κ's token; those of κA, κB]
-          name_new ! tt (CA.coded.code xs) (λ δ. move ! (2 ∷ 1 ∷ []) $ fjoin ! $ fpack ! CA.Denot (λ z. fsep ((mem CA).own_at z b (o + eA A' B')) (fauth δ (CA.coded.code z))) xs $
-          name_new ! tt (CB.coded.code ys) (λ δ'. move ! (4 ∷ 1 ∷ []) $ fjoin ! $ fpack ! CB.Denot (λ z. fsep ((mem CB).own_at z b (o + eB A' B')) (fauth δ' (CB.coded.code z))) ys $
+          name_new ! tt (CA.coded.code rx) (λ δ. move ! (2 ∷ 1 ∷ []) $ fjoin ! $ fpack ! CA.Denot (λ z. fsep ((mem CA).own_at z b (o + eA A' B')) (fauth δ (CA.coded.code z))) rx $
+          name_new ! tt (CB.coded.code ry) (λ δ'. move ! (4 ∷ 1 ∷ []) $ fjoin ! $ fpack ! CB.Denot (λ z. fsep ((mem CB).own_at z b (o + eB A' B')) (fauth δ' (CB.coded.code z))) ry $
           move ! (5 ∷ []) $ ages ! (λ n. move ! (1 ∷ []) $ bor_new_deep ! tt n κ $ move ! (4 ∷ []) $ bor_new_deep ! tt n κ $
           -- [the first borrow and its right; the second and its; the open borrow; obs δ'; obs δ; the rest; obs; auth;
           -- the other half; the tokens of κA, κB]
-          let xr : MutBor CA.Denot = record { ref_ptr = (b, o + eA A' B'); ghost_name = δ; now = xs } in let yr : MutBor CB.Denot = record { ref_ptr = (b, o + eB A' B'); ghost_name = δ'; now = ys } in
+          let xr : MutBor CA.Denot = record { ref_ptr = (b, o + eA A' B'); ghost_name = δ; now = rx } in let yr : MutBor CB.Denot = record { ref_ptr = (b, o + eB A' B'); ghost_name = δ'; now = ry } in
           move ! (6 ∷ 0 ∷ []) $ feq_i ! (List Val) (mut_vals xr) (mut_vals xr) refl $ fjoin3 ! $ move ! (5 ∷ 2 ∷ []) $ feq_i ! (List Val) (mut_vals yr) (mut_vals yr) refl $ fjoin3 ! $
           nothing ! $ owned ! usize _ (uint_Makes 𝓛 w64) i _ (refl, fi) $ fjoin ! $ owned ! usize _ (uint_Makes 𝓛 w64) d.len _ (refl, fits) $ fjoin ! $ move ! (2 ∷ 0 ∷ []) $ fjoin ! $
           nothing ! $ move ! (10 ∷ 0 ∷ []) $ join ! $ move ! (9 ∷ 0 ∷ []) $ join ! $ join ! $
-          use0 𝓛 (raw (fact 𝓤 (IsFront xs d.len))) (fact_i 𝓤 _ (emp 𝓤) d'.1.1.firsts_front) $ use0 𝓛 (raw (fact 𝓤 (κA ⊑ A.lives))) (fact_i 𝓤 _ (emp 𝓤) la) $ join ! $ move ! (1 ∷ 0 ∷ []) $ join ! $
+          use0 𝓛 (raw (fact 𝓤 (IsFront xs d.len))) (fact_i 𝓤 _ (emp 𝓤) d'.1.1.0.firsts_front) $ use0 𝓛 (raw (fact 𝓤 (κA ⊑ A.lives))) (fact_i 𝓤 _ (emp 𝓤) la) $ join ! $ move ! (1 ∷ 0 ∷ []) $ join ! $
           let z1 : Looks.Ghost = (((κ, (κA, tt)), (Share.right q, (qA, tt)), (bounds.0, tt), (xr, (d.len, (i, tt))), (mut_vals xr, (vint w64 d.len ∷ [], (vint w64 i ∷ [], tt)))), tt) in
           use1 𝓛 (raw (Looks.pre z1)) (id⊢ 𝓤 _) $
           calls_at ! fm Looks looks z1 (and_then ! (get ! refl) (and_then ! (get ! refl) (and_then ! (get ! refl) (no_more !)))) (λ u.
           use1 𝓛 (later (some (λ (s : Option (MutBor A.Denot)). ((‵ (flft κ (Share.right q)) ⊛ ‵ (flft κA qA) ⊛ ‵ ftrue) ⊛ ‵ (Seen.own_val s (u ∷ []))) ⊛ raw (ensured 𝓛 (h.ended A) (h.clauses A 𝓛 at_mem run) z1.0.0 z1.0.3 tt s)))) (id⊢ 𝓤 _) $ await ! tt $ pick ! (λ s. split ! $ move ! (1 ∷ []) $
-          use1 𝓛 (‵ (follows_if CA A' δ (ghost_name_of s) (λ z. slice_set xs i (Some z)) xs) ⊛ raw (fact 𝓤 (slice_get (items_of xs) i ≡ option_copied_mut s))) (ex_e 𝓤 _ (λ ws. snd∗ 𝓤 (sem 𝓛 (lasts (h.ended A) z1.0.0 z1.0.3 ws)) _)) $ split ! $
+          use1 𝓛 (‵ (follows_if CA A' δ (ghost_name_of s) (λ z. relaid rx (slice_set xs i (Some z))) rx) ⊛ raw (fact 𝓤 (slice_get (items_of xs) i ≡ option_copied_mut s))) (ex_e 𝓤 _ (λ ws. snd∗ 𝓤 (sem 𝓛 (lasts (h.ended A) z1.0.0 z1.0.3 ws)) _)) $ split ! $
           move ! (1 ∷ []) $ heard ! (slice_get (items_of xs) i ≡ option_copied_mut s) (λ found. move ! (1 ∷ []) $ split ! $ split3 ! $ move ! (3 ∷ []) $ move ! (3 ∷ []) $ drop ! $
           -- [what the call gave; half of κ's token; that of κA; what the first column follows; the second; the two
           -- rights; the open borrow; the rest; obs; auth; the token of κB]
@@ -204,13 +209,13 @@ module _ (A B : RattleType) where
             | inl w ↦
                 let x : MutBor A.Denot = w.0 in
                 let at_x : slice_get (items_of xs) i ≡ Some x.now = found ∙ ap option_copied_mut w.1 in
-                let in_row : i < d.len = omega (arith, slice_get_within (items_of xs) i x.now at_x, d'.1.1.firsts_front.count) in
-                let filled : IsFilled ys i = front_filled ys d.len d'.1.1.seconds_front i in_row in
-                let lt : i < length v.pairs = omega (arith, in_row, len_is xs ys d.len d'.1.1 v d'.1.0) in
-                rewrite ! 0 (λ (t : Option (MutBor A.Denot)). ‵ (Seen.own_val t (u ∷ []))) w.1 refl $ rewrite ! 3 (λ (t : Option (MutBor A.Denot)). ‵ (follows_if CA A' δ (ghost_name_of t) (λ z. slice_set xs i (Some z)) xs)) w.1 refl $
+                let in_row : i < d.len = omega (arith, slice_get_within (items_of xs) i x.now at_x, d'.1.1.0.firsts_front.count) in
+                let filled : IsFilled ys i = front_filled ys d.len d'.1.1.0.seconds_front i in_row in
+                let lt : i < length v.pairs = omega (arith, in_row, len_is xs ys d.len d'.1.1.0 v d'.1.0) in
+                rewrite ! 0 (λ (t : Option (MutBor A.Denot)). ‵ (Seen.own_val t (u ∷ []))) w.1 refl $ rewrite ! 3 (λ (t : Option (MutBor A.Denot)). ‵ (follows_if CA A' δ (ghost_name_of t) (λ z. relaid rx (slice_set xs i (Some z))) rx)) w.1 refl $
                 use1 𝓛 (given ((u ≡ live 1 (vcons (vptr x.ref_ptr.0 x.ref_ptr.1) vnil)) × Good (layout (MutRef (named 0) κ A')) (vptr x.ref_ptr.0 x.ref_ptr.1)) (‵ ((MutRef (named 0) κ A').own_val x (mut_vals x))))
                 (in_some_told 𝓛 (MutRef (named 0) κ A') u x (vptr x.ref_ptr.0 x.ref_ptr.1) (λ vs is. (mut_Tells (named 0) κ A' x vs is, (tt, tt)))) $ learn ! (λ at_u.
-                move ! (3 ∷ []) $ use1 𝓛 (‵ (follows CA A' δ x.ghost_name (λ z. slice_set xs i (Some z)))) (left_one 𝓛 CA A' A' δ (λ z. slice_set xs i (Some z)) xs x.ghost_name) $ move ! (1 ∷ 2 ∷ 3 ∷ 0 ∷ []) $
+                move ! (3 ∷ []) $ use1 𝓛 (‵ (follows CA A' δ x.ghost_name (λ z. relaid rx (slice_set xs i (Some z))))) (left_one 𝓛 CA A' A' δ (λ z. relaid rx (slice_set xs i (Some z))) rx x.ghost_name) $ move ! (1 ∷ 2 ∷ 3 ∷ 0 ∷ []) $
                 lands_as ! at_u.0 refl (tt, (record { fits = lit< tt }, (tt, tt))) $
                 first ! $ by_variants ! 24 (whole !) (get_tag ! (vrt ! refl (fld ! refl (stop !))) (whole !)) tt (
                   (λ _. sets ! (of_opd ! (get_in ! (vrt ! refl (fld ! refl (stop !))) (in_variant ! 1 0 refl refl (whole !)))) refl (tt, tt) $
@@ -222,7 +227,7 @@ module _ (A B : RattleType) where
                       use1 𝓛 (raw (Lends.pre z2)) (id⊢ 𝓤 _) $
                       calls_at ! fm Lends lends z2 (and_then ! (get ! refl) (and_then ! (get ! refl) (no_more !))) (λ t.
                       use1 𝓛 (later (some (λ (y : MutBor B.Denot). ((‵ (flft κ (Share.right q)) ⊛ ‵ (flft κB qB) ⊛ ‵ ftrue) ⊛ ‵ ((MutRef (named 0) κ B').own_val y (t ∷ []))) ⊛ raw (ensured 𝓛 (g.ended B) (g.clauses B 𝓛 at_mem run) z2.0.0 z2.0.3 tt y)))) (id⊢ 𝓤 _) $ await ! tt $ pick ! (λ y. split ! $ move ! (1 ∷ []) $
-                      use1 𝓛 (‵ (follows CB B' δ' y.ghost_name (λ z. slice_set ys i (Some z))) ⊛ raw (fact 𝓤 (get_or ys i None ≡ Some y.now))) (ex_e 𝓤 _ (λ ws. snd∗ 𝓤 (sem 𝓛 (lasts (g.ended B) z2.0.0 z2.0.3 ws)) _)) $ split ! $
+                      use1 𝓛 (‵ (follows CB B' δ' y.ghost_name (λ z. relaid ry (slice_set ys i (Some z)))) ⊛ raw (fact 𝓤 (get_or ys i None ≡ Some y.now))) (ex_e 𝓤 _ (λ ws. snd∗ 𝓤 (sem 𝓛 (lasts (g.ended B) z2.0.0 z2.0.3 ws)) _)) $ split ! $
                       move ! (1 ∷ []) $ heard ! (get_or ys i None ≡ Some y.now) (λ yval. move ! (1 ∷ []) $ split ! $ split3 ! $ move ! (3 ∷ []) $
                       fsplit3 ! $ feq_l ! (λ at_t. lands_as ! (ap only at_t) refl (tt, tt) $ feq_i ! (List Val) (mut_vals y) (mut_vals y) refl $ fjoin3 ! $
                       sets ! (agg ! (and_then ! (get ! refl) (and_then ! (get ! refl) (no_more !)))) refl (tt, (tt, (tt, tt))) $
@@ -233,24 +238,24 @@ module _ (A B : RattleType) where
                       -- the rest; obs; auth]
                       move ! (10 ∷ 12 ∷ 13 ∷ 8 ∷ 9 ∷ 7 ∷ 4 ∷ 11 ∷ []) $ group ! 8 $
                       use1 𝓛 (later (‵ (flft κ (Share.left q)) ⊛ ‵ (follows_both W A' B' γ x.ghost_name y.ghost_name (λ a a'. with_pair v i (a, a')))))
-                      (closes_both 𝓛 (mem W) (mem CA) (mem CB) (mem A') (mem B') (λ z. slice_set xs i (Some z)) (λ z. slice_set ys i (Some z)) (λ a a'. with_pair v i (a, a')) κ (Share.left q) b o b (o + eA A' B') b (o + eB A' B') γ δ δ' x.ghost_name y.ghost_name
+                      (closes_both 𝓛 (mem W) (mem CA) (mem CB) (mem A') (mem B') (λ z. relaid rx (slice_set xs i (Some z))) (λ z. relaid ry (slice_set ys i (Some z))) (λ a a'. with_pair v i (a, a')) κ (Share.left q) b o b (o + eA A' B') b (o + eB A' B') γ δ δ' x.ghost_name y.ghost_name
                       (Rest A' B' 𝓛 b o d) (λ a a'. shut A' B' 𝓛 b o (with_pair v i (a, a')) (written d i a a') (written_known v d i a a' lt d'.1)) n (W.coded.code v) (W.coded.code v)) $ await ! tt $ split ! $
                       move ! (0 ∷ 3 ∷ []) $ use2 𝓛 (‵ (flft κ q)) (𝓛.lfts.lft_join κ q) $
                       sets ! (of_opd ! (get ! refl)) refl (tt, (record { fits = lit< tt }, ((tt, (tt, tt)), tt))) $
                       returns ! (look_at ! 0 refl) $ free_all ! refl $ keep ! (5 ∷ 2 ∷ 1 ∷ 0 ∷ 6 ∷ 3 ∷ []) $
-                      by ! (gives_two x y (pair_is xs ys d.len d'.1.1 v d'.1.0 i x.now y.now at_x (front_taken ys d.len d'.1.1.seconds_front i in_row y.now yval)))))))),
+                      by ! (gives_two x y (pair_is xs ys d.len d'.1.1.0 v d'.1.0 i x.now y.now at_x (front_taken ys d.len d'.1.1.0.seconds_front i in_row y.now yval)))))))),
                   ((λ e. absurd (suc-ne-zero 0 e)), tt),
                 ))
             | inr w ↦
-                rewrite ! 0 (λ (t : Option (MutBor A.Denot)). ‵ (Seen.own_val t (u ∷ []))) w refl $ rewrite ! 3 (λ (t : Option (MutBor A.Denot)). ‵ (follows_if CA A' δ (ghost_name_of t) (λ z. slice_set xs i (Some z)) xs)) w refl $
+                rewrite ! 0 (λ (t : Option (MutBor A.Denot)). ‵ (Seen.own_val t (u ∷ []))) w refl $ rewrite ! 3 (λ (t : Option (MutBor A.Denot)). ‵ (follows_if CA A' δ (ghost_name_of t) (λ z. relaid rx (slice_set xs i (Some z))) rx)) w refl $
                 use1 𝓛 (raw (fact 𝓤 (u ≡ live 0 vnil))) (in_none 𝓛 (MutRef (named 0) κ A') u) $ heard ! (u ≡ live 0 vnil) (λ at_u.
-                move ! (2 ∷ []) $ use1 𝓛 (‵ (fres δ (CA.coded.code xs))) (left_none 𝓛 CA A' A' δ (λ z. slice_set xs i (Some z)) xs) $
-                move ! (3 ∷ []) $ use1 𝓛 (later (‵ (fres δ' (CB.coded.code ys)))) (given_up 𝓛 CB (named 0) κ yr) $ await ! tt $
+                move ! (2 ∷ []) $ use1 𝓛 (‵ (fres δ (CA.coded.code rx))) (left_none 𝓛 CA A' A' δ (λ z. relaid rx (slice_set xs i (Some z))) rx) $
+                move ! (3 ∷ []) $ use1 𝓛 (later (‵ (fres δ' (CB.coded.code ry)))) (given_up 𝓛 CB (named 0) κ yr) $ await ! tt $
                 -- [what the second column ends as; what the first does; half of κ's token; that of κA; the two rights;
                 -- the open borrow; the rest; obs; auth; the token of κB]
                 move ! (6 ∷ 8 ∷ 9 ∷ 4 ∷ 5 ∷ 1 ∷ 0 ∷ 7 ∷ []) $ group ! 8 $
                 use1 𝓛 (later (‵ (flft κ (Share.left q)) ⊛ ‵ (fres γ (W.coded.code v))))
-                (closes_unchanged 𝓛 W CA CB κ (Share.left q) b o b (o + eA A' B') b (o + eB A' B') γ δ δ' v xs ys (Rest A' B' 𝓛 b o d) (shut A' B' 𝓛 b o v d d'.1) n (W.coded.code v) (W.coded.code v)) $ await ! tt $ split ! $
+                (closes_unchanged 𝓛 W CA CB κ (Share.left q) b o b (o + eA A' B') b (o + eB A' B') γ δ δ' v rx ry (Rest A' B' 𝓛 b o d) (shut A' B' 𝓛 b o v d d'.1) n (W.coded.code v) (W.coded.code v)) $ await ! tt $ split ! $
                 move ! (0 ∷ 2 ∷ []) $ use2 𝓛 (‵ (flft κ q)) (𝓛.lfts.lft_join κ q) $
                 -- [the token of κ; what self ends as; the tokens of κA, κB]
                 lands_as ! at_u refl (tt, (record { fits = lit< tt }, tt)) $

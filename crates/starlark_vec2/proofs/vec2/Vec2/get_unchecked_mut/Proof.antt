@@ -45,14 +45,16 @@ use denote.Triple.Table.{entered}
 use denote.Triple.Walked.{says, Stays, stay_dropped, walk_of, ends_at, walked, walk_Meets, Goes-dropped, Goes-spent_ref}
 use Rattle.std.specs.Prelude.{get_or, slice_set, None}
 use Rattle.std.specs.declared.option.Option.TheVariants.{Some}
+use lib.ListN.{length-set}
+use Rattle.starlark_columns.specs.Laid.{relaid}
 use Rattle.starlark_columns.specs.Places.{IsFilled}
 use Rattle.starlark_columns.proofs.Fronts.{front_filled, front_taken}
 use Rattle.starlark_vec2.specs.ColumnLending.{column}
 use Rattle.starlark_vec2.specs.Lending.{with_pair}
 use Rattle.starlark_vec2.specs.PairList.{PairList}
 use Rattle.starlark_vec2.proofs.BothClose.{closes_both}
-use Rattle.starlark_vec2.proofs.Runs.{pair_made}
-use Rattle.starlark_vec2.proofs.TwoColumns.{in_columns, both_set, both_end, pair_is}
+use Rattle.starlark_vec2.proofs.FrozenPairs.{pair_made}
+use Rattle.starlark_vec2.proofs.TwoColumns.{same_block, in_columns, both_set, both_end, pair_is}
 use Rattle.starlark_vec2.proofs.Vec2Open.{V, D, Known, Rest, Cuts, eA, eB, cut, shut}
 use Rattle.starlark_vec2.specs.contracts.vec2.Vec2.get_unchecked_mut as F
 use Rattle.starlark_vec2.specs.contracts.vec2.Vec2.get_unchecked_mut.Key.{name as #self}
@@ -89,10 +91,13 @@ module _ (A B : RattleType) where
 
   -- the struct with both items written
   abbrev written : D A' B' → ℕ → A.Denot → B.Denot → D A' B'
-  written d i x y = record d { firsts = slice_set d.firsts i (Some x); seconds = slice_set d.seconds i (Some y) }
+  written d i x y = record d { firsts = relaid d.firsts (slice_set d.firsts.places i (Some x)); seconds = relaid d.seconds (slice_set d.seconds.places i (Some y)) }
 
   written_known : (v : W.Denot) (d : D A' B') (i : ℕ) (x : A.Denot) (y : B.Denot) → i < length v.pairs → Known A' B' v d → Known A' B' (with_pair v i (x, y)) (written d i x y)
-  written_known v d i x y lt k = (both_end d.firsts d.seconds d.len k.1 v k.0 i lt x y, both_set d.firsts d.seconds d.len k.1 v k.0 i lt x y)
+  written_known v d i x y lt k = let cs = d.firsts.places in let ds = d.seconds.places in let d' = written d i x y in (
+    both_end cs ds d.len k.1.0 v k.0 i lt x y,
+    (both_set cs ds d.len k.1.0 v k.0 i lt x y, same_block d.block d.firsts d'.firsts d.seconds d'.seconds k.1.1 refl refl (length-set cs i (Some x)) (length-set ds i (Some y))),
+  )
 
   module _ {M : Type 1} {𝓤 : Ura M} (𝓛 : Logic 𝓤) (at_mem : Memory → SProp 𝓤) (run : Routine → Fun 𝓤) where
     open 𝓛 use {H, A as A₀}
@@ -127,17 +132,17 @@ module _ (A B : RattleType) where
           use1 𝓛 (‵ (flft κ (Share.left q)) ⊛ ‵ (flft κ (Share.right q))) (𝓛.lfts.lft_split κ q) $ split ! $
           move ! (4 ∷ []) $ fsplit3 ! $ drop ! $ open_ref ! tt (mem W) {b = b} {o = o} $
           use1 𝓛 (some (λ (d : (d : D A' B') × Known A' B' v d). raw (Cuts A' B' 𝓛 b o v d))) (cut A' B' 𝓛 b o (param_laws 0 A LA) (param_laws 1 B LB) v) $ pick ! (λ d'.
-          let d = d'.0 in let xs = d.firsts in let ys = d.seconds in
-          use1 𝓛 (‵ (part_at CA full_share xs b (o + eA A' B')) ⊛ ‵ (part_at CB full_share ys b (o + eB A' B')) ⊛ raw (Rest A' B' 𝓛 b o d)) (id⊢ 𝓤 _) $ split3 ! $
+          let d = d'.0 in let rx = d.firsts in let ry = d.seconds in let xs = rx.places in let ys = ry.places in
+          use1 𝓛 (‵ (part_at CA full_share rx b (o + eA A' B')) ⊛ ‵ (part_at CB full_share ry b (o + eB A' B')) ⊛ raw (Rest A' B' 𝓛 b o d)) (id⊢ 𝓤 _) $ split3 ! $
           -- [the columns; the rest; the open borrow; obs; auth; half of κ's token; those of κA, κB]
-          name_new ! tt (CA.coded.code xs) (λ δ. move ! (2 ∷ 1 ∷ []) $ fjoin ! $ fpack ! CA.Denot (λ z. fsep ((mem CA).own_at z b (o + eA A' B')) (fauth δ (CA.coded.code z))) xs $
-          name_new ! tt (CB.coded.code ys) (λ δ'. move ! (4 ∷ 1 ∷ []) $ fjoin ! $ fpack ! CB.Denot (λ z. fsep ((mem CB).own_at z b (o + eB A' B')) (fauth δ' (CB.coded.code z))) ys $
+          name_new ! tt (CA.coded.code rx) (λ δ. move ! (2 ∷ 1 ∷ []) $ fjoin ! $ fpack ! CA.Denot (λ z. fsep ((mem CA).own_at z b (o + eA A' B')) (fauth δ (CA.coded.code z))) rx $
+          name_new ! tt (CB.coded.code ry) (λ δ'. move ! (4 ∷ 1 ∷ []) $ fjoin ! $ fpack ! CB.Denot (λ z. fsep ((mem CB).own_at z b (o + eB A' B')) (fauth δ' (CB.coded.code z))) ry $
           -- [the second content; obs δ'; the first; obs δ; the rest; the open borrow; obs; auth; ..]
           move ! (5 ∷ []) $ ages ! (λ n. move ! (1 ∷ []) $ bor_new_deep ! tt n κ $ move ! (4 ∷ []) $ bor_new_deep ! tt n κ $
           -- [the first borrow and its right; the second and its; the open borrow; obs δ'; obs δ; the rest; obs; auth; the other half; the tokens of κA, κB]
-          let xr : MutBor CA.Denot = record { ref_ptr = (b, o + eA A' B'); ghost_name = δ; now = xs } in let yr : MutBor CB.Denot = record { ref_ptr = (b, o + eB A' B'); ghost_name = δ'; now = ys } in
-          let in_row : i < d.len = in_columns xs ys d.len d'.1.1 v d'.1.0 i lt in
-          let ix : IsFilled xs i = front_filled xs d.len d'.1.1.firsts_front i in_row in let iy : IsFilled ys i = front_filled ys d.len d'.1.1.seconds_front i in_row in
+          let xr : MutBor CA.Denot = record { ref_ptr = (b, o + eA A' B'); ghost_name = δ; now = rx } in let yr : MutBor CB.Denot = record { ref_ptr = (b, o + eB A' B'); ghost_name = δ'; now = ry } in
+          let in_row : i < d.len = in_columns xs ys d.len d'.1.1.0 v d'.1.0 i lt in
+          let ix : IsFilled xs i = front_filled xs d.len d'.1.1.0.firsts_front i in_row in let iy : IsFilled ys i = front_filled ys d.len d'.1.1.0.seconds_front i in_row in
           move ! (6 ∷ 0 ∷ []) $ feq_i ! (List Val) (mut_vals xr) (mut_vals xr) refl $ fjoin3 ! $ move ! (5 ∷ 2 ∷ []) $ feq_i ! (List Val) (mut_vals yr) (mut_vals yr) refl $ fjoin3 ! $
           nothing ! $ owned ! usize _ (uint_Makes 𝓛 w64) i _ (refl, fi) $ fjoin ! $ move ! (1 ∷ 0 ∷ []) $ fjoin ! $ move ! (1 ∷ 0 ∷ []) $ fjoin ! $
           nothing ! $ move ! (10 ∷ 0 ∷ []) $ join ! $ move ! (9 ∷ 0 ∷ []) $ join ! $ move ! (8 ∷ 0 ∷ []) $ join ! $ join ! $
@@ -147,12 +152,12 @@ module _ (A B : RattleType) where
           use1 𝓛 (raw (Lend.pre z)) (id⊢ 𝓤 _) $
           calls_at ! fm Lend gl z (and_then ! (get ! refl) (and_then ! (get ! refl) (and_then ! (get ! refl) (no_more !)))) (λ u.
           use1 𝓛 (later (some (λ (x : MutBor A.Denot × MutBor B.Denot). ((‵ (flft κ (Share.right q)) ⊛ ‵ (flft κA qA) ⊛ ‵ (flft κB qB) ⊛ ‵ ftrue) ⊛ ‵ ((PairAt κ).own_val x (u ∷ []))) ⊛ raw (ensured 𝓛 (g.ended A B) (g.clauses A B 𝓛 at_mem run) z.0.0 z.0.3 tt x)))) (id⊢ 𝓤 _) $ await ! tt $ pick ! (λ x. split ! $ move ! (1 ∷ []) $
-          use1 𝓛 (‵ (fsep (follows CA A' δ x.0.ghost_name (λ w. slice_set xs i (Some w))) (follows CB B' δ' x.1.ghost_name (λ w. slice_set ys i (Some w)))) ⊛ raw (fact 𝓤 ((get_or xs i None ≡ Some x.0.now) × (get_or ys i None ≡ Some x.1.now))))
+          use1 𝓛 (‵ (fsep (follows CA A' δ x.0.ghost_name (λ w. relaid rx (slice_set xs i (Some w)))) (follows CB B' δ' x.1.ghost_name (λ w. relaid ry (slice_set ys i (Some w))))) ⊛ raw (fact 𝓤 ((get_or xs i None ≡ Some x.0.now) × (get_or ys i None ≡ Some x.1.now))))
           (ex_e 𝓤 _ (λ ws. snd∗ 𝓤 (sem 𝓛 (lasts (g.ended A B) z.0.0 z.0.3 ws)) _)) $ split ! $ move ! (1 ∷ []) $ heard ! ((get_or xs i None ≡ Some x.0.now) × (get_or ys i None ≡ Some x.1.now)) (λ vals. fsplit ! $
           -- [what the columns follow; the tokens with the result; the two rights; the open borrow; the rest; obs; auth]
           move ! (5 ∷ 7 ∷ 8 ∷ 3 ∷ 4 ∷ 0 ∷ 1 ∷ 6 ∷ []) $ group ! 8 $
           use1 𝓛 (later (‵ (flft κ (Share.left q)) ⊛ ‵ (follows_both W A' B' γ x.0.ghost_name x.1.ghost_name (λ y y'. with_pair v i (y, y')))))
-          (closes_both 𝓛 (mem W) (mem CA) (mem CB) (mem A') (mem B') (λ w. slice_set xs i (Some w)) (λ w. slice_set ys i (Some w)) (λ y y'. with_pair v i (y, y')) κ (Share.left q) b o b (o + eA A' B') b (o + eB A' B') γ δ δ' x.0.ghost_name x.1.ghost_name
+          (closes_both 𝓛 (mem W) (mem CA) (mem CB) (mem A') (mem B') (λ w. relaid rx (slice_set xs i (Some w))) (λ w. relaid ry (slice_set ys i (Some w))) (λ y y'. with_pair v i (y, y')) κ (Share.left q) b o b (o + eA A' B') b (o + eB A' B') γ δ δ' x.0.ghost_name x.1.ghost_name
           (Rest A' B' 𝓛 b o d) (λ y y'. shut A' B' 𝓛 b o (with_pair v i (y, y')) (written d i y y') (written_known v d i y y' lt d'.1)) n (W.coded.code v) (W.coded.code v)) $ await ! tt $ split ! $
           -- [half of κ's token; what self follows; the tokens with the result]
           move ! (2 ∷ []) $ split ! $ split ! $ move ! (3 ∷ 0 ∷ []) $ use2 𝓛 (‵ (flft κ q)) (𝓛.lfts.lft_join κ q) $ move ! (2 ∷ []) $
@@ -163,7 +168,7 @@ module _ (A B : RattleType) where
           suffices ! _ (ends_at 𝓛 ended stayed spec bound (pair_at x) x (tt, (tt, tt)) (tt, (tt, tt))) $
           -- [the result; the token of κ; those of κA, κB; what self follows]
           nothing ! $ nothing ! $ fjoin ! $ nothing ! $ fjoin ! $ join ! $ move ! (1 ∷ 2 ∷ []) $ join ! $ join ! $ frame ! $
-          says ! (pair_is xs ys d.len d'.1.1 v d'.1.0 i x.0.now x.1.now (front_taken xs d.len d'.1.1.firsts_front i in_row x.0.now vals.0) (front_taken ys d.len d'.1.1.seconds_front i in_row x.1.now vals.1)) $ done !)))))))))))))))
+          says ! (pair_is xs ys d.len d'.1.1.0 v d'.1.0 i x.0.now x.1.now (front_taken xs d.len d'.1.1.0.firsts_front i in_row x.0.now vals.0) (front_taken ys d.len d'.1.1.0.seconds_front i in_row x.1.now vals.1)) $ done !)))))))))))))))
 
 meets : (A B : RattleType) → Laws A → Laws B → {M : Type 1} {𝓤 : Ura M} (𝓛 : Logic 𝓤) (at_mem : Memory → SProp 𝓤) (run : Routine → Fun 𝓤) (𝓣 : Tables 𝓤 𝓛.H)
     → Triple 𝓤 (𝓣.C (#lend (args A B))) (Lend A B 𝓛 at_mem run)

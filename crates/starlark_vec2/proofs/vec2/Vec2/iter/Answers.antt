@@ -1,7 +1,7 @@
 use Rattle.std.proofs.Common.{zip, ◌∙◌}
 use Rattle.std.specs.Map.Iter.{deref_pair}
 use Rattle.starlark_vec2.proofs.Pairs.{zip-parts}
-use Rattle.starlark_vec2.proofs.Walks.{shows_in_order, shows_in_reverse}
+use Rattle.std_collections.proofs.IterRuns.{shows_in_order, shows_in_reverse}
 use Rattle.starlark_vec2.proofs.vec2.Vec2.iter.Goals as goal
 
 pub returns-clause-rest : goal.returns-clause-rest

@@ -1,13 +1,20 @@
-use Rattle.std.proofs.Common.{ap, subst, ◌∙◌, refl, rules, of_calls}
+use Rattle.std.proofs.Common.{◌≡◌, sym, ap, subst, ◌∙◌, refl, rules, of_calls}
 use Rattle.std.specs.List.{range_with_len}
 use Rattle.std.specs.List.Sorted.{IsStableBy}
-use denote.Param.Always.{always_mut, mut_by}
-use Rattle.starlark_vec2.specs.Positions.{lt_at}
-use Rattle.starlark_vec2.proofs.Positions.{compares_positions, lt_at-weak}
+use denote.Param.Always.{mut_by}
+use Rattle.starlark_vec2.specs.Positions.{lt_at, ComparesAt}
+use Rattle.starlark_vec2.specs.Sort.{CanCompare}
+use Rattle.starlark_vec2.proofs.Positions.{CanCompare-next, compares_positions, lt_at-weak}
 use Rattle.starlark_vec2.proofs.vec2.Vec2.sorted_positions.Goals as goal
 
 pub sort_by-requires : goal.sort_by-requires
-sort_by-requires g c = mut_by _ (λ s. always_mut g.F.FnMut s.1.now) (λ s a i. i) (λ s a r t i e. search (rules, of_calls, e)) _ c.requires
+sort_by-requires g c =
+    mut_by _ (λ s. CanCompare g.F.FnMut s.0.now.pairs s.1.now) (λ s a i. i)
+    (λ s a r t i e.
+    let same : t.0.now ≡ s.0.now = search (rules, of_calls, e) in
+    let told : ComparesAt g.F.FnMut s.0.now.pairs s.1.now a.0.now a.1.0.now r t.1.now = search (rules, of_calls, e) in
+    subst (λ v. CanCompare g.F.FnMut v.pairs t.1.now) (sym same) (CanCompare-next g.F.FnMut s.0.now.pairs s.1.now a.0.now a.1.0.now r t.1.now told i))
+    _ c.requires
 
 pub returns-clause-sorted : goal.returns-clause-sorted
 returns-clause-sorted g c = λ lt weak h.

@@ -36,10 +36,11 @@ use denote.Triple.Spec.{Meets, triple_of}
 use denote.Triple.Statement.{Contract, Triple}
 use denote.Triple.Table.{entered}
 use denote.Triple.Walked.{says, Stays, stay_dropped, walk_of, ends_at, walked, walk_Meets, Goes-dropped, Goes-spent_ref}
-use Rattle.std.specs.Prelude.{get_or, slice_set, Option, Some, None}
+use Rattle.std.specs.Prelude.{get_or, slice_set, Some, None}
+use Rattle.starlark_columns.specs.Laid.{Laid, relaid}
 use Rattle.starlark_columns.specs.Places.{IsFilled}
 use Rattle.starlark_vec2.specs.ColumnLending.{column}
-use Rattle.starlark_vec2.proofs.Runs.{pair_made}
+use Rattle.starlark_vec2.proofs.FrozenPairs.{pair_made}
 use Rattle.starlark_vec2.specs.contracts.vec2.lends.lend_columns as F
 use Rattle.starlark_vec2.specs.contracts.vec2.lends.lend_columns.Key.{name as #self}
 use Rattle.starlark_vec2.specs.contracts.vec2.lends.lend_place as g
@@ -72,7 +73,7 @@ module _ (A B : RattleType) where
 
     module _ (C : Calls 𝓤 H) (Λ : Loops 𝓤 H) (fm : FmC 𝓤 H 𝓛.laws C)
         (ga : Triple 𝓤 (C (#place (layouts (a_type ∷ []) (A, tt)))) (Item A)) (gb : Triple 𝓤 (C (#place (layouts (a_type ∷ []) (B, tt)))) (Item B))
-        (κ κA κB : Lft) (q qA qB : Share) (bounds : (κ ⊑ κA) × ((κ ⊑ κB) × Unit {0})) (r : MutBor (List (Option A.Denot))) (s : MutBor (List (Option B.Denot))) (i : ℕ)
+        (κ κA κB : Lft) (q qA qB : Share) (bounds : (κ ⊑ κA) × ((κ ⊑ κB) × Unit {0})) (r : MutBor (Laid A.Denot)) (s : MutBor (Laid B.Denot)) (i : ℕ)
         (fi : i < 2 ^ 64) where
       abbrev bound : (walk_of 𝓛 ended stayed spec).Ghost
       bound = (((κ, (κA, (κB, tt))), (q, (qA, (qB, tt))), bounds, (r, (s, (i, tt))), (mut_vals r, (mut_vals s, (vint w64 i ∷ [], tt)))), tt)
@@ -89,8 +90,8 @@ module _ (A B : RattleType) where
           let za : (Item A).Ghost = (((κ, (κA, tt)), (q, (qA, tt)), (bounds.0, tt), (r, (i, tt)), (mut_vals r, (vint w64 i ∷ [], tt))), tt) in
           let zb : (Item B).Ghost = (((κ, (κB, tt)), (q, (qB, tt)), (bounds.1.0, tt), (s, (i, tt)), (mut_vals s, (vint w64 i ∷ [], tt))), tt) in
           qed 𝓛 (((‵ (flft κ q) ⊛ ‵ (flft κA qA) ⊛ ‵ (flft κB qB) ⊛ ‵ ftrue) ⊛ ‵ (owns (types_at ended.signature.params bound.0.0) bound.0.3 bound.0.4))
-          ∷ (raw (fact 𝓤 (κA ⊑ A.lives)) ⊛ raw (fact 𝓤 (κB ⊑ B.lives)) ⊛ raw (fact 𝓤 (IsFilled r.now i)) ⊛ raw (fact 𝓤 (IsFilled s.now i))) ∷ []) ∵
-          move ! (1 ∷ []) $ split3 ! $ move ! (2 ∷ []) $ split ! $ heard ! (IsFilled r.now i) (λ ir. heard ! (IsFilled s.now i) (λ is. heard ! (κA ⊑ A.lives) (λ la. heard ! (κB ⊑ B.lives) (λ lb.
+          ∷ (raw (fact 𝓤 (κA ⊑ A.lives)) ⊛ raw (fact 𝓤 (κB ⊑ B.lives)) ⊛ raw (fact 𝓤 (IsFilled r.now.places i)) ⊛ raw (fact 𝓤 (IsFilled s.now.places i))) ∷ []) ∵
+          move ! (1 ∷ []) $ split3 ! $ move ! (2 ∷ []) $ split ! $ heard ! (IsFilled r.now.places i) (λ ir. heard ! (IsFilled s.now.places i) (λ is. heard ! (κA ⊑ A.lives) (λ la. heard ! (κB ⊑ B.lives) (λ lb.
           split ! $ split3 ! $ move ! (2 ∷ []) $ split ! $ move ! (4 ∷ []) $ fsplit3 ! $ keep ! (5 ∷ 6 ∷ 3 ∷ 0 ∷ 1 ∷ []) $
           -- [the tokens of κ, κA, κB; both columns]
           enter ! C Λ here (vptr r.ref_ptr.0 r.ref_ptr.1 ∷ vptr s.ref_ptr.0 s.ref_ptr.1 ∷ vint w64 i ∷ []) _ $
@@ -99,25 +100,25 @@ module _ (A B : RattleType) where
           sets ! (addr ! (through ! refl (stop !))) refl (tt, tt) $
           nothing ! $ owned ! usize _ (uint_Makes 𝓛 w64) i _ (refl, fi) $ fjoin ! $ move ! (4 ∷ 0 ∷ []) $ fjoin ! $
           nothing ! $ move ! (3 ∷ 0 ∷ []) $ join ! $ move ! (2 ∷ 0 ∷ []) $ join ! $ join ! $
-          use0 𝓛 (raw (fact 𝓤 (IsFilled r.now i))) (fact_i 𝓤 _ (emp 𝓤) ir) $ use0 𝓛 (raw (fact 𝓤 (κA ⊑ A.lives))) (fact_i 𝓤 _ (emp 𝓤) la) $ join ! $ move ! (1 ∷ 0 ∷ []) $ join ! $
+          use0 𝓛 (raw (fact 𝓤 (IsFilled r.now.places i))) (fact_i 𝓤 _ (emp 𝓤) ir) $ use0 𝓛 (raw (fact 𝓤 (κA ⊑ A.lives))) (fact_i 𝓤 _ (emp 𝓤) la) $ join ! $ move ! (1 ∷ 0 ∷ []) $ join ! $
           use1 𝓛 (raw ((Item A).pre za)) (id⊢ 𝓤 _) $
           calls_at ! fm (Item A) ga za (and_then ! (get ! refl) (and_then ! (get ! refl) (no_more !))) (λ u.
           use1 𝓛 (later (some (λ (x : MutBor A.Denot). ((‵ (flft κ q) ⊛ ‵ (flft κA qA) ⊛ ‵ ftrue) ⊛ ‵ ((MutRef (named 0) κ (param 0 A)).own_val x (u ∷ []))) ⊛ raw (ensured 𝓛 (g.ended A) (g.clauses A 𝓛 at_mem run) (κ, (κA, tt)) (r, (i, tt)) tt x)))) (id⊢ 𝓤 _) $ await ! tt $ pick ! (λ x. split ! $ move ! (1 ∷ []) $
-          use1 𝓛 (‵ (follows (column (param 0 A)) (param 0 A) r.ghost_name x.ghost_name (λ w. slice_set r.now i (Some w))) ⊛ raw (fact 𝓤 (get_or r.now i None ≡ Some x.now))) (ex_e 𝓤 _ (λ ws. snd∗ 𝓤 (sem 𝓛 (lasts (g.ended A) (κ, (κA, tt)) (r, (i, tt)) ws)) _)) $ split ! $
-          move ! (1 ∷ []) $ heard ! (get_or r.now i None ≡ Some x.now) (λ ea. move ! (1 ∷ []) $ split ! $ move ! (1 ∷ []) $ fsplit3 ! $ feq_l ! (λ at_x. lands_as ! (ap only at_x) refl (tt, tt) $
+          use1 𝓛 (‵ (follows (column (param 0 A)) (param 0 A) r.ghost_name x.ghost_name (λ w. relaid r.now (slice_set r.now.places i (Some w)))) ⊛ raw (fact 𝓤 (get_or r.now.places i None ≡ Some x.now))) (ex_e 𝓤 _ (λ ws. snd∗ 𝓤 (sem 𝓛 (lasts (g.ended A) (κ, (κA, tt)) (r, (i, tt)) ws)) _)) $ split ! $
+          move ! (1 ∷ []) $ heard ! (get_or r.now.places i None ≡ Some x.now) (λ ea. move ! (1 ∷ []) $ split ! $ move ! (1 ∷ []) $ fsplit3 ! $ feq_l ! (λ at_x. lands_as ! (ap only at_x) refl (tt, tt) $
           feq_i ! (List Val) (vptr x.ref_ptr.0 x.ref_ptr.1 ∷ []) (vptr x.ref_ptr.0 x.ref_ptr.1 ∷ []) refl $ fjoin3 ! $ move ! (1 ∷ []) $ split3 ! $
           -- [the tokens of κ, κA; nothing; x; what firsts follows; the token of κB; seconds]
           -- the second, the same
           sets ! (addr ! (through ! refl (stop !))) refl (tt, tt) $
           nothing ! $ owned ! usize _ (uint_Makes 𝓛 w64) i _ (refl, fi) $ fjoin ! $ move ! (7 ∷ 0 ∷ []) $ fjoin ! $
           nothing ! $ move ! (7 ∷ 0 ∷ []) $ join ! $ move ! (2 ∷ 0 ∷ []) $ join ! $ join ! $
-          use0 𝓛 (raw (fact 𝓤 (IsFilled s.now i))) (fact_i 𝓤 _ (emp 𝓤) is) $ use0 𝓛 (raw (fact 𝓤 (κB ⊑ B.lives))) (fact_i 𝓤 _ (emp 𝓤) lb) $ join ! $ move ! (1 ∷ 0 ∷ []) $ join ! $
+          use0 𝓛 (raw (fact 𝓤 (IsFilled s.now.places i))) (fact_i 𝓤 _ (emp 𝓤) is) $ use0 𝓛 (raw (fact 𝓤 (κB ⊑ B.lives))) (fact_i 𝓤 _ (emp 𝓤) lb) $ join ! $ move ! (1 ∷ 0 ∷ []) $ join ! $
           use1 𝓛 (raw ((Item B).pre zb)) (id⊢ 𝓤 _) $
           -- [what the call asks; the token of κA; nothing; x; what firsts follows]
           calls_at ! fm (Item B) gb zb (and_then ! (get ! refl) (and_then ! (get ! refl) (no_more !))) (λ v.
           use1 𝓛 (later (some (λ (y : MutBor B.Denot). ((‵ (flft κ q) ⊛ ‵ (flft κB qB) ⊛ ‵ ftrue) ⊛ ‵ ((MutRef (named 0) κ (param 1 B)).own_val y (v ∷ []))) ⊛ raw (ensured 𝓛 (g.ended B) (g.clauses B 𝓛 at_mem run) (κ, (κB, tt)) (s, (i, tt)) tt y)))) (id⊢ 𝓤 _) $ await ! tt $ pick ! (λ y. split ! $ move ! (1 ∷ []) $
-          use1 𝓛 (‵ (follows (column (param 1 B)) (param 1 B) s.ghost_name y.ghost_name (λ w. slice_set s.now i (Some w))) ⊛ raw (fact 𝓤 (get_or s.now i None ≡ Some y.now))) (ex_e 𝓤 _ (λ ws. snd∗ 𝓤 (sem 𝓛 (lasts (g.ended B) (κ, (κB, tt)) (s, (i, tt)) ws)) _)) $ split ! $
-          move ! (1 ∷ []) $ heard ! (get_or s.now i None ≡ Some y.now) (λ eb. move ! (1 ∷ []) $ split ! $ move ! (1 ∷ []) $ fsplit3 ! $ feq_l ! (λ at_y. lands_as ! (ap only at_y) refl (tt, tt) $
+          use1 𝓛 (‵ (follows (column (param 1 B)) (param 1 B) s.ghost_name y.ghost_name (λ w. relaid s.now (slice_set s.now.places i (Some w)))) ⊛ raw (fact 𝓤 (get_or s.now.places i None ≡ Some y.now))) (ex_e 𝓤 _ (λ ws. snd∗ 𝓤 (sem 𝓛 (lasts (g.ended B) (κ, (κB, tt)) (s, (i, tt)) ws)) _)) $ split ! $
+          move ! (1 ∷ []) $ heard ! (get_or s.now.places i None ≡ Some y.now) (λ eb. move ! (1 ∷ []) $ split ! $ move ! (1 ∷ []) $ fsplit3 ! $ feq_l ! (λ at_y. lands_as ! (ap only at_y) refl (tt, tt) $
           feq_i ! (List Val) (vptr y.ref_ptr.0 y.ref_ptr.1 ∷ []) (vptr y.ref_ptr.0 y.ref_ptr.1 ∷ []) refl $ fjoin3 ! $ move ! (1 ∷ []) $ split3 ! $
           -- [the tokens of κ, κB; nothing; y; what seconds follows; the token of κA; nothing; x; what firsts follows]
           sets ! (addr ! (through ! refl (stop !))) refl (tt, tt) $ sets ! (addr ! (through ! refl (stop !))) refl (tt, tt) $

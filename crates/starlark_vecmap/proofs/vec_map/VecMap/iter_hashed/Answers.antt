@@ -1,5 +1,5 @@
 use Rattle.starlark_vecmap.specs.EntryList.{deref_entry}
-use Rattle.starlark_vec2.proofs.Walks.{shows_in_order, shows_in_reverse}
+use Rattle.std_collections.proofs.IterRuns.{shows_in_order, shows_in_reverse}
 use Rattle.starlark_vecmap.proofs.vec_map.VecMap.iter_hashed.Goals as goal
 
 pub returns-clause-runs : goal.returns-clause-runs

@@ -40,7 +40,7 @@ use denote.Triple.Spec.{Meets, triple_of}
 use denote.Triple.Statement.{Contract, Triple}
 use denote.Triple.Table.{entered}
 use denote.Triple.Walked.{Stays, stay_dropped, walk_of, ends_at, walked, walk_Meets, Goes-spent_ref}
-use Rattle.starlark_vec2.proofs.NamedClose.{closes_named}
+use Rattle.starlark_columns.proofs.NamedClose.{closes_named}
 use Rattle.starlark_vec2.specs.declared.loan.Loan.{Loan}
 use Rattle.starlark_vec2.specs.contracts.loan.Loan as L-type
 use Rattle.starlark_vecmap.specs.contracts.vec_map.VecMap.lend as F
@@ -50,12 +50,12 @@ use Rattle.starlark_vec2.proofs.vec2.lends.Vec2+tuple2+K+V+B.lend_firsts.Symbol.
 use Rattle.starlark_vec2.proofs.vec2.lends.Vec2+tuple2+K+V+B.lend_firsts.Met as loan
 use Rattle.starlark_vec2.proofs.loan.Loan.TheLaws as L-laws
 use Rattle.std.specs.Prelude.{map}
-use Rattle.starlark_hash.specs.Entries.{pair_of}
+use Rattle.starlark_lists.specs.Entries.{pair_of}
 use Rattle.starlark_vec2.specs.PairList.{PairList, with_pairs, firsts_of}
 use Rattle.starlark_vec2.specs.Lending as pairs
 use Rattle.starlark_vecmap.specs.EntryList.{EntryList, entry_list, entry_of, with_entries, with_values}
 use Rattle.starlark_vecmap.proofs.Views.{pair_of-entry_of}
-use Rattle.starlark_vecmap.proofs.Written.{with_values-entry_of}
+use Rattle.starlark_vecmap.proofs.ValuesWritten.{with_values-entry_of}
 use Rattle.starlark_vecmap.proofs.VecMapOpen as O
 use denote.Builtin.{u32}
 use denote.Param.Laws.{of_field}

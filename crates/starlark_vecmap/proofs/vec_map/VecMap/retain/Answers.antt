@@ -2,10 +2,9 @@ use Rattle.std.proofs.Common.{◌≡◌, refl, sym, ap, subst, ◌∙◌, rules,
 use Rattle.std.proofs.Common.{ℕ, Bool}
 use Rattle.std.specs.Borrow.{Bor, MutBor}
 use Rattle.std.specs.Fn.{Mut}
-use Rattle.starlark_vec2.specs.Retain.{Retains, TakesInTurn}
+use Rattle.starlark_lists.specs.Retain.{Retains, TakesInTurn, TakesEntry, CalledAtEntry}
 use Rattle.starlark_vecmap.specs.EntryList.{entry_of}
-use Rattle.starlark_vecmap.specs.Retain.{TakesEntry, CalledAtEntry}
-use Rattle.starlark_vecmap.proofs.Carry.{takes_carried, retains_carried}
+use Rattle.starlark_vecmap.proofs.MappedRetention.{takes_carried, retains_carried}
 use Rattle.starlark_vecmap.proofs.vec_map.VecMap.retain.Goals as goal
 
 module _ {F K V : Type 0} (g : Mut F (Bor K × (MutBor V × Unit {0})) (Bool × (MutBor V × Unit {0}))) where

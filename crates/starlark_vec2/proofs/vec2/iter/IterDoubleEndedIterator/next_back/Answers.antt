@@ -1,6 +1,7 @@
 use Rattle.std.proofs.Common.{sym, ◌∙◌}
 use Rattle.std.specs.Map.Iter.{deref_pair}
-use Rattle.starlark_vec2.proofs.Walks.{last_progress, rest_back, pair_back}
+use Rattle.std_collections.proofs.IterRuns.{last_progress}
+use Rattle.starlark_vec2.proofs.StepsBack.{rest_back, pair_back}
 use Rattle.starlark_vec2.proofs.vec2.iter.IterDoubleEndedIterator.next_back.Goals as goal
 
 pub returns-clause-steps : goal.returns-clause-steps

@@ -43,12 +43,13 @@ use denote.Triple.Spec.{Meets, triple_of}
 use denote.Triple.Statement.{Contract, Triple}
 use denote.Triple.Table.{entered}
 use denote.Triple.Walked.{Stays, stay_dropped, walk_of, ends_at, walked, walk_Meets, Goes-spent_ref}
+use Rattle.starlark_columns.specs.Laid.{Laid, relaid}
 use Rattle.starlark_columns.specs.Places.{items_of}
 use Rattle.starlark_columns.specs.Front.{IsFront, with_items}
 use Rattle.starlark_columns.proofs.Fronts.{all_written, written_places}
 use Rattle.starlark_vec2.specs.ColumnLending.{column}
 use Rattle.starlark_vec2.specs.Frozen.{Pair, with_seconds}
-use Rattle.starlark_vec2.proofs.NamedClose.{closes_named}
+use Rattle.starlark_columns.proofs.NamedClose.{closes_named}
 use Rattle.starlark_vec2.specs.declared.loan.Loan.{Loan}
 use Rattle.starlark_vec2.specs.contracts.loan.Loan as L-type
 use Rattle.starlark_vec2.specs.contracts.vec2.lends.Vec2+tuple2+K+V+B.lend_firsts as F
@@ -59,11 +60,11 @@ use Rattle.starlark_vec2.proofs.loan.Loan.new.Met as loan
 use Rattle.starlark_vec2.proofs.loan.Loan.TheLaws as L-laws
 use Rattle.starlark_vec2.specs.Lending.{with_values}
 use Rattle.starlark_vec2.specs.PairList.{pair_list, with_pairs, firsts_of}
-use Rattle.starlark_vec2.proofs.TwoColumns.{firsts_written, firsts_are}
+use Rattle.starlark_vec2.proofs.TwoColumns.{same_block, firsts_written, firsts_are}
 use Rattle.starlark_vec2.proofs.Values.{with_values-zip}
 use Rattle.starlark_vec2.proofs.Vec2Open as O
-use Rattle.starlark_vec2.proofs.Runs.{length-with_seconds}
-use Rattle.std.specs.Prelude.{zip, Option}
+use Rattle.starlark_vec2.proofs.FrozenPairs.{length-with_seconds}
+use Rattle.std.specs.Prelude.{zip}
 use denote.Laws.{shows}
 use denote.Memory.{part_at}
 use denote.Param.Laws.{param_laws}
@@ -118,31 +119,31 @@ module _ (A B E : RattleType) where
   stayed = (stay_dropped (mut_ref_to (0 ∷ []) tt (plain (λ _. W))) no, tt)
 
   abbrev Row : Type 0
-  Row = List (Option One)
+  Row = Laid One
 
   abbrev kept : Row → Row → Row
-  kept v w = with_items v (with_seconds (items_of v) (items_of w))
+  kept v w = relaid v (with_items v.places (with_seconds (items_of v.places) (items_of w.places)))
 
   -- the fields and the list with the values of w
   abbrev written : D → Row → D
   written d w = record d { firsts = kept d.firsts w }
 
   abbrev seen : D → Row → W.Denot
-  seen d w = pair_list (zip (with_seconds (items_of d.firsts) (items_of w)) (items_of d.seconds)) (length d.firsts)
+  seen d w = pair_list (zip (with_seconds (items_of d.firsts.places) (items_of w.places)) (items_of d.seconds.places)) (length d.firsts.places)
 
   abbrev keeps : W.Denot → W.Denot → W.Denot
   keeps v w = with_pairs v (with_values v.pairs w.pairs)
 
   written_known : (v : W.Denot) (d : D) (w : Row) → O.Known P S v d → O.Known P S (seen d w) (written d w)
   written_known v d w k =
-      let ws = with_seconds (items_of d.firsts) (items_of w) in
-      let items = all_written d.firsts d.len k.1.firsts_front ws (length-with_seconds (items_of d.firsts) (items_of w)) in (
-        (λ j. pair_list (zip (items j) (items_of d.seconds)) (written_places d.firsts d.len k.1.firsts_front ws j)),
-        firsts_written d.firsts d.seconds d.len k.1 ws,
+      let cs = d.firsts.places in let ds = d.seconds.places in let ws = with_seconds (items_of cs) (items_of w.places) in
+      let items = all_written cs d.len k.1.0.firsts_front ws (length-with_seconds (items_of cs) (items_of w.places)) in (
+        (λ j. pair_list (zip (items j) (items_of ds)) (written_places cs d.len k.1.0.firsts_front ws j)),
+        (firsts_written cs ds d.len k.1.0 ws, same_block d.block d.firsts (kept d.firsts w) d.seconds d.seconds k.1.1 refl refl (written_places cs d.len k.1.0.firsts_front ws) refl),
       )
 
   same : (v : W.Denot) (d : D) (w : Row) → O.Known P S v d → keeps v (seen d w) ≡ seen d w
-  same v d w k = ap (λ z. keeps z (seen d w)) (sym k.0) ∙ ap (λ l. pair_list l (length d.firsts)) (with_values-zip (items_of d.firsts) (items_of w) (items_of d.seconds))
+  same v d w k = ap (λ z. keeps z (seen d w)) (sym k.0) ∙ ap (λ l. pair_list l (length d.firsts.places)) (with_values-zip (items_of d.firsts.places) (items_of w.places) (items_of d.seconds.places))
 
   module _ {M : Type 1} {𝓤 : Ura M} (𝓛 : Logic 𝓤) (at_mem : Memory → SProp 𝓤) (run : Routine → Fun 𝓤) where
     open 𝓛 use {H}
@@ -196,12 +197,12 @@ module _ (A B E : RattleType) where
           move ! (3 ∷ 0 ∷ []) $ feq_i ! (List Val) (mut_vals lent) (mut_vals lent) refl $ fjoin3 ! $ nothing ! $ owned ! usize _ (uint_Makes 𝓛 w64) d.len _ (refl, fits) $ fjoin ! $ move ! (1 ∷ 0 ∷ []) $ fjoin ! $
           -- [the argument; the right; the open borrow; the rest; obs; auth; the other half; the tokens of κA, κB, κE]
           nothing ! $ move ! (9 ∷ 0 ∷ []) $ join ! $ move ! (8 ∷ 0 ∷ []) $ join ! $ move ! (7 ∷ 0 ∷ []) $ join ! $ join ! $
-          use0 𝓛 (raw (fact 𝓤 (IsFront xs d.len))) (fact_i 𝓤 _ (emp 𝓤) d'.1.1.firsts_front) $ use0 𝓛 (raw (fact 𝓤 (κB ⊑ B.lives))) (fact_i 𝓤 _ (emp 𝓤) lb) $ join ! $ use0 𝓛 (raw (fact 𝓤 (κA ⊑ A.lives))) (fact_i 𝓤 _ (emp 𝓤) la) $ join ! $ move ! (1 ∷ 0 ∷ []) $ join ! $
+          use0 𝓛 (raw (fact 𝓤 (IsFront xs.places d.len))) (fact_i 𝓤 _ (emp 𝓤) d'.1.1.0.firsts_front) $ use0 𝓛 (raw (fact 𝓤 (κB ⊑ B.lives))) (fact_i 𝓤 _ (emp 𝓤) lb) $ join ! $ use0 𝓛 (raw (fact 𝓤 (κA ⊑ A.lives))) (fact_i 𝓤 _ (emp 𝓤) la) $ join ! $ move ! (1 ∷ 0 ∷ []) $ join ! $
           let z : Run.Ghost = (((κ, (κA, (κB, tt))), (Share.right q, (qA, (qB, tt))), (bounds.0, (bounds.1.0, tt)), (lent, (d.len, tt)), (mut_vals lent, (vint w64 d.len ∷ [], tt))), tt) in
           use1 𝓛 (raw (Run.pre z)) (id⊢ 𝓤 _) $
           calls_at ! fm Run gr z (and_then ! (get ! refl) (and_then ! (get ! refl) (no_more !))) (λ u.
           use1 𝓛 (later (some (λ (x : Loan A.Denot B.Denot). ((‵ (flft κ (Share.right q)) ⊛ ‵ (flft κA qA) ⊛ ‵ (flft κB qB) ⊛ ‵ ftrue) ⊛ ‵ (It.own_val x (u ∷ []))) ⊛ raw (ensured 𝓛 (g.ended A B) (g.clauses A B 𝓛 at_mem run) z.0.0 z.0.3 tt x)))) (id⊢ 𝓤 _) $ await ! tt $ pick ! (λ x. split ! $ move ! (1 ∷ []) $
-          use1 𝓛 (‵ (follows CP CP δ x.tie (kept xs)) ⊛ raw (fact 𝓤 ((x.from ≡ 0) × (x.rest ≡ items_of xs)))) (ex_e 𝓤 _ (λ ws. snd∗ 𝓤 (sem 𝓛 (lasts (g.ended A B) z.0.0 z.0.3 ws)) _)) $ split ! $ move ! (1 ∷ []) $ heard ! ((x.from ≡ 0) × (x.rest ≡ items_of xs)) (λ rest.
+          use1 𝓛 (‵ (follows CP CP δ x.tie (kept xs)) ⊛ raw (fact 𝓤 ((x.from ≡ 0) × (x.rest ≡ items_of xs.places)))) (ex_e 𝓤 _ (λ ws. snd∗ 𝓤 (sem 𝓛 (lasts (g.ended A B) z.0.0 z.0.3 ws)) _)) $ split ! $ move ! (1 ∷ []) $ heard ! ((x.from ≡ 0) × (x.rest ≡ items_of xs.places)) (λ rest.
           -- [what the column follows; the tokens with the loan; the right; the open borrow; the rest; obs; auth; the
           -- token of κE]
           move ! (3 ∷ 5 ∷ 6 ∷ 2 ∷ 0 ∷ 4 ∷ []) $ group ! 6 $
@@ -222,7 +223,7 @@ module _ (A B E : RattleType) where
           suffices ! _ (ends_at 𝓛 ended stayed spec bound made new (tt, tt) (tt, tt)) $
           nothing ! $ nothing ! $ fjoin ! $ join ! $ nothing ! $ move ! (5 ∷ 0 ∷ []) $ join ! $ move ! (4 ∷ 0 ∷ []) $ join ! $ move ! (3 ∷ 0 ∷ []) $ join ! $ move ! (2 ∷ 0 ∷ []) $ join ! $ join ! $
           frame ! $
-          use0 𝓛 (raw (fact 𝓤 (new.rest ≡ firsts_of v.pairs))) (fact_i 𝓤 _ (emp 𝓤) (firsts_are xs d.seconds d.len d'.1.1 v d'.1.0 x.rest rest.1)) $
+          use0 𝓛 (raw (fact 𝓤 (new.rest ≡ firsts_of v.pairs))) (fact_i 𝓤 _ (emp 𝓤) (firsts_are xs.places d.seconds.places d.len d'.1.1.0 v d'.1.0 x.rest rest.1)) $
           use0 𝓛 (raw (fact 𝓤 (new.from ≡ 0))) (fact_i 𝓤 _ (emp 𝓤) rest.0) $ move ! (2 ∷ 0 ∷ 1 ∷ []) $ done !))))))))))))))
 
 meets : (A B E : RattleType) → Laws A → Laws B → Laws E → {M : Type 1} {𝓤 : Ura M} (𝓛 : Logic 𝓤) (at_mem : Memory → SProp 𝓤) (run : Routine → Fun 𝓤) (𝓣 : Tables 𝓤 𝓛.H)

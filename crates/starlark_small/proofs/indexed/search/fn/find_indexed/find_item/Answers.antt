@@ -1,6 +1,6 @@
 use Rattle.std.proofs.Common.{sym, ◌∙◌, ap}
 use Rattle.std.proofs.lemmas.Option.{same_Some}
-use Rattle.starlark_hash.specs.Entries.{entry_key}
+use Rattle.starlark_lists.specs.Entries.{entry_key}
 use Rattle.starlark_small.proofs.indexed.search.fn.find_indexed.find_item.Goals as goal
 
 pub returns : goal.returns

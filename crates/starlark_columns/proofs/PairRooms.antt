@@ -1,0 +1,78 @@
+-- Room for two arrays is cut into the rooms of both, with the way back. Assumes `Logic`.
+use Rattle.std.proofs.Common.{◌≡◌, ℕ, zero, ◌+◌, ◌-◌, ◌*◌, ◌%◌, ◌<◌, ◌^◌, Bool, true, false, [], ◌∷◌, refl, sym, ap, subst, ◌∙◌, arith}
+use native.Mathlib.Nat.{mod_self, sub-zero, zero-add, add-zero}
+use lib.Dec.{T, eqb, eqb→eq}
+use seplogic.Ra.Ura.{Ura}
+use base.Fml.{ftrue, froom}
+use base.Logic.{SProp, ent, sep, wand, id⊢, apply∗}
+use mir.Raw.{raw as bare}
+use mir.Syntax.{Ty, Tys, tcons, tnil, ty_array}
+use prog.Align.{Dv, dv_zero}
+use prog.Capped.{capped_small}
+use prog.Memory.{size, align, pad, up, capped}
+use prog.Model.{rooms_at}
+use types.Kit.{‵, raw, ◌⊛◌, ◌$◌, ◌∵◌, !, qed, by, move, keep, use1, use2, split, split3, group, rewrite, assume, done}
+use types.Logic.{Logic, sem}
+use denote.RawPtr.{block_ptr}
+use denote.Steps.{nothing}
+use Rattle.starlark_columns.specs.Paired.{two_arrays, rooms_rejoin}
+
+weighs : (x : Bool) (k : ℕ) → eqb k 0 ≡ x → 0 < k → eqb k 0 ≡ false
+weighs true k e h = absurd (omega (arith, eqb→eq k 0 (subst T (sym e) tt), h))
+weighs false k e h = e
+
+pub some_weight : (k : ℕ) → 0 < k → eqb k 0 ≡ false
+some_weight k = weighs (eqb k 0) k refl
+
+flush : (a n : ℕ) → Dv a n → up a n ≡ n
+flush a n d =
+    let none : n % a ≡ 0 = eqb→eq (n % a) 0 d in
+    let gone : pad a n ≡ 0 = ap (λ (r : ℕ). (a - r) % a) none ∙ ap (λ (r : ℕ). r % a) (sub-zero a) ∙ mod_self a in
+    ap (λ (r : ℕ). n + r) gone ∙ add-zero n
+
+pub starts_flush : (τ : Ty) → up (align τ) 0 ≡ 0
+starts_flush τ = flush (align τ) 0 (dv_zero (align τ))
+
+module _ (τ σ : Ty) (n : ℕ) {M : Type 1} {𝓤 : Ura M} (𝓛 : Logic 𝓤) (b o far : ℕ) (at : far ≡ up (align σ) (n * size τ)) where
+  open 𝓛 use {H}
+
+  abbrev both : Tys
+  both = tcons (ty_array τ n) (tcons (ty_array σ n) tnil)
+
+  abbrev first : ℕ
+  first = up (align τ) 0
+
+  abbrev second : ℕ
+  second = up (align σ) (first + n * size τ)
+
+  abbrev rooms : SProp 𝓤
+  rooms = rooms_at 𝓤 H both zero b o
+
+  first_is : o + first ≡ o
+  first_is = ap (λ (k : ℕ). o + k) (starts_flush τ) ∙ add-zero o
+
+  swapped : o + far ≡ far + o
+  swapped = omega arith
+
+  second_is : o + second ≡ far + o
+  second_is = ap (λ (k : ℕ). o + up (align σ) (k + n * size τ)) (starts_flush τ) ∙ ap (λ (k : ℕ). o + up (align σ) k) (zero-add (n * size τ)) ∙ ap (λ (k : ℕ). o + k) (sym at) ∙ swapped
+
+  rejoins : ent 𝓤 (wand 𝓤 rooms (H.room (two_arrays τ σ n) b o)) (sem 𝓛 (rooms_rejoin τ σ (block_ptr b o) (block_ptr b (far + o)) n))
+  rejoins = qed 𝓛 (raw (wand 𝓤 rooms (H.room (two_arrays τ σ n) b o)) ∷ []) ∵ assume ! (‵ (froom (bare (ty_array τ n)) b o) ⊛ ‵ (froom (bare (ty_array σ n)) b (far + o))) $ split ! $
+      use1 𝓛 (‵ (froom (ty_array τ n) b o)) (𝓛.laws.raw-room (ty_array τ n) b o) $ move ! (1 ∷ []) $ use1 𝓛 (‵ (froom (ty_array σ n) b (far + o))) (𝓛.laws.raw-room (ty_array σ n) b (far + o)) $ move ! (1 ∷ []) $
+      rewrite ! 0 (λ (d : ℕ). ‵ (froom (ty_array τ n) b d)) (sym first_is) refl $ rewrite ! 1 (λ (d : ℕ). ‵ (froom (ty_array σ n) b d)) (sym second_is) refl $
+      nothing ! $ move ! (1 ∷ 2 ∷ 0 ∷ []) $ group ! 3 $ use2 𝓛 (‵ (froom (two_arrays τ σ n) b o)) (apply∗ 𝓤 rooms (H.room (two_arrays τ σ n) b o)) $ by ! (𝓛.laws.room-raw (two_arrays τ σ n) b o)
+
+  pub cut_in_two : ent 𝓤 (H.room (two_arrays τ σ n) b o)
+      (sep 𝓤 (H.room (ty_array τ n) b o) (sep 𝓤 (H.room (ty_array σ n) b (far + o)) (sem 𝓛 (rooms_rejoin τ σ (block_ptr b o) (block_ptr b (far + o)) n))))
+  cut_in_two = qed 𝓛 (‵ (froom (two_arrays τ σ n) b o) ∷ []) ∵
+      use1 𝓛 (raw rooms ⊛ raw (wand 𝓤 rooms (H.room (two_arrays τ σ n) b o))) (𝓛.laws.room_fields [] both b o) $ split ! $
+      use1 𝓛 (‵ (froom (ty_array τ n) b (o + first)) ⊛ ‵ (froom (ty_array σ n) b (o + second)) ⊛ ‵ ftrue) (id⊢ 𝓤 rooms) $ split3 ! $
+      rewrite ! 0 (λ (d : ℕ). ‵ (froom (ty_array τ n) b d)) first_is refl $ rewrite ! 1 (λ (d : ℕ). ‵ (froom (ty_array σ n) b d)) second_is refl $
+      keep ! (3 ∷ 0 ∷ 1 ∷ []) $ use1 𝓛 (‵ (rooms_rejoin τ σ (block_ptr b o) (block_ptr b (far + o)) n)) rejoins $ move ! (1 ∷ 2 ∷ 0 ∷ []) $ done !
+
+-- both arrays are within the block
+pub both_within : (τ σ : Ty) (n z : ℕ) → capped (size (two_arrays τ σ n)) ≡ z → z < 2 ^ 63 → (n * size τ < 2 ^ 63) × (n * size σ < 2 ^ 63)
+both_within τ σ n z laid fits =
+    let ω = two_arrays τ σ n in let fit : size ω < 2 ^ 63 = capped_small (size ω) (subst (λ (k : ℕ). k < 2 ^ 63) (sym laid) fits) in
+    (omega (arith, fit), omega (arith, fit))

@@ -1,0 +1,108 @@
+-- `deallocate_pair` makes the block's room of the bare places of both rows, and hands it back with the right to do so. Assumes `Logic`.
+use Rattle.std.proofs.Common.{◌≡◌, ℕ, ◌+◌, ◌*◌, ◌<◌, Option, T, Bool, false, List, [], ◌∷◌, refl, sym, ap, subst, ◌∙◌, w64}
+use base.Fml.{Fml, ftrue, fsep, froom, flft, Incl-trans}
+use base.Logic.{SProp, never, id⊢, apply∗}
+use contract.BorrowLft.{◌⊑◌}
+use contract.Monad.{fact}
+use contract.Running.{tables}
+use lib.Dec.{eqb}
+use mathlib.Core.Bool.{cond}
+use mir.MapTy.{inst_fn}
+use mir.Raw.{raw as bare}
+use mir.Syntax.{Ty, named, ty_unit, ty_array, a_type, dcons, dnil}
+use mir.Val.{Val, vunit, vint, vptr, has_ty, WT}
+use prog.Memory.{capped}
+use prog.RawLaws.{size-raw, align-raw}
+use types.ByLocal.{alloc_all, pass_all, free_all, look_at, get, get_in, is, sets, lands_last, env}
+use types.Logic.{sem}
+use types.Kit.{‵, raw, ◌⊛◌, given, later, at_ret, ◌$◌, ◌∵◌, !, qed, by, move, keep, use1, use2, group, split, join, learn, rewrite, fsplit, fjoin, feq_i, flt_l, await}
+use types.Part.{whole, sub}
+use types.Run.{stop, fld, unit_lit, no_more, and_then, of_opd, first, blocks, exec, returns, enter}
+use denote.Builtin.{RefOf, usize}
+use denote.Exit.{yes, no}
+use denote.Param.{param, bounded}
+use denote.Plain.{uint_vals, uint_Tells}
+use denote.RattleType.{RattleType, owns}
+use denote.RawPtr.{Ptr, block_ptr, ptr_val, in_block, in_a_block}
+use denote.Ref.{shr_vals, shr_Tells}
+use denote.Signature.{plain, types_at}
+use denote.Steps.{heard, nothing}
+use denote.Triple.Call.{calls_at_last}
+use denote.Triple.Table.{framed}
+use denote.Triple.Walked.{Stays, stay_dropped, walk_of, Goes-dropped}
+use Rattle.core.proofs.alloc.Calls.{Al, token, Gives, at_gives, Gives-goes, Gives-Gives}
+use Rattle.core.proofs.mem.Param.{El, R, elτ}
+use Rattle.core.proofs.slots.Bodies.{after}
+use Rattle.core.specs.Allocator.{HasLayout}
+use Rattle.std.proofs.raw_atomic.Walks.{proved, leaves}
+use Rattle.std.specs.Mem.{type_size}
+use Rattle.starlark_columns.specs.Owned.{places_owned, row_owned}
+use Rattle.starlark_columns.specs.Paired.{two_arrays, pair_ty, rooms_rejoin}
+use Rattle.starlark_columns.proofs.PairRooms.{some_weight}
+use Rattle.starlark_columns.specs.Places.{empties}
+use Rattle.starlark_columns.proofs.Fields.{word, word_good, mark, address_told, held_told, pair_claim_told}
+use Rattle.starlark_columns.proofs.Memory.{to_room}
+use Rattle.starlark_columns.specs.contracts.block.Address as address
+use Rattle.starlark_columns.specs.contracts.block.PairClaim as claim
+use Rattle.starlark_columns.specs.contracts.block.Held as held
+use Rattle.starlark_columns.specs.contracts.block.deallocate_pair.{ended, clauses}
+use Rattle.starlark_columns.specs.contracts.block.deallocate_pair.Key as key
+use Rattle.starlark_columns.proofs.block.deallocate_pair.Statement.{statement}
+use Rattle.starlark_columns.proofs.block.deallocate_pair.Code as code
+
+pub deallocate_pair_spec : {M : Type 1} → statement M
+deallocate_pair_spec 𝓤 𝓛 𝓜 𝓡 wired X Y U L LY LU g d dd met _ =
+    let H = 𝓛.H in let 𝓣 = tables 𝓤 H 𝓜 𝓡 𝓡.env in let En = ended X Y U g d dd in
+    let E : El = record { row = X; laws = L } in let F : El = record { row = Y; laws = LY } in let Z : Al = record { row = U; laws = LU; g = g; d = d; drops = dd } in
+    let inst = bounded (a_type ∷ a_type ∷ a_type ∷ []) (X, (Y, (U, tt))) (dcons d (dcons dd dnil)) in let fn = inst_fn inst code.function in
+    let S : RattleType = param 1 Y in let W : RattleType = param 2 U in let heap = RefOf (0 ∷ []) tt (plain (λ _. W)) (λ _. tt) in let num = plain (λ _. usize) in let c = clauses X Y U g d dd 𝓛 𝓜.mem 𝓡.returns in
+    let At = address.the_row (R E) in let Own = held.the_row (R E) in let Bwn = held.the_row S in let Right = claim.the_row (R E) S W g in
+    let hs : Stays En.signature.params En.kept =
+    (stay_dropped heap yes, (stay_dropped (plain (λ _. At)) no, (stay_dropped num yes, (stay_dropped num yes, (stay_dropped (plain (λ _. Own)) no, (stay_dropped (plain (λ _. Bwn)) no, (stay_dropped (plain (λ _. Right)) no, tt))))))) in
+    let one = Goes-dropped 𝓛 4 num yes (λ κs x f. refl) in
+    proved 𝓛 En hs c 𝓜 𝓡 (
+      Goes-dropped 𝓛 4 heap yes (λ κs x f. refl),
+      (
+        Goes-dropped 𝓛 4 (plain (λ _. At)) no (λ κs x f. refl),
+        (one, (one, (Goes-dropped 𝓛 4 (plain (λ _. Own)) no (λ κs x f. refl), (Goes-dropped 𝓛 4 (plain (λ _. Bwn)) no (λ κs x f. refl), (Goes-dropped 𝓛 4 (plain (λ _. Right)) no (λ κs x f. refl), tt))))),
+      ),
+    ) (key.name inst) fn (code.unfolded 𝓤 H 𝓜 𝓡 wired (X, (Y, (U, tt))) d dd)
+    (λ κs. (shr_vals, ((λ x. word x.at ∷ []), (uint_vals w64, (uint_vals w64, ((λ _. mark ∷ []), ((λ _. mark ∷ []), ((λ _. mark ∷ []), tt))))))))
+    (λ κs. (
+      shr_Tells (named 0) κs.0 W,
+      (address_told (R E), (uint_Tells w64, (uint_Tells w64, ((λ x vs is. held_told (R E) vs is.0), ((λ x vs is. held_told S vs is.0), ((λ x vs is. pair_claim_told (R E) S W g vs is.0), tt)))))),
+    )) (λ κs qs bounds a gh are.
+    let κ = κs.0 in let q = qs.0 in let hp : ℕ × ℕ = a.0.ref_ptr in let h : U.Denot = a.0.now in let p : Ptr = a.1.0.at in let z : ℕ = a.1.1.0 in let al : ℕ = a.1.1.1.0 in
+    let own : Own.Denot = a.1.1.1.1.0 in let bwn : Bwn.Denot = a.1.1.1.1.1.0 in let right : Right.Denot = a.1.1.1.1.1.1.0 in
+    let n : ℕ = right.count in let s : ℕ = type_size (R E) in let t : ℕ = type_size S in let ω : Ty = two_arrays (elτ E) (elτ F) n in let τ : Ty = bare ω in
+    let cs : List (Option X.Denot) = empties n in let es : List (Option Y.Denot) = empties n in
+    let y : (walk_of 𝓛 En hs c).Ghost = ((κs, qs, bounds, a, (vptr hp.0 hp.1 ∷ [], (word p ∷ [], (vint w64 z ∷ [], (vint w64 al ∷ [], (mark ∷ [], (mark ∷ [], (mark ∷ [], tt)))))))), gh) in let Post : Val → SProp 𝓤 = (walk_of 𝓛 En hs c).post y in
+    let others : Fml = fsep (flft κs.1.0 qs.1.0) (fsep (flft κs.1.1.0 qs.1.1.0) (fsep (flft κs.1.1.1.0 qs.1.1.1.0) ftrue)) in
+    let Bare : Type 0 = (own.at ≡ right.firsts) × (own.places ≡ cs) × (bwn.at ≡ right.seconds) × (bwn.places ≡ es) in let Its : Type 0 = (p ≡ right.firsts) × (right.alloc ≡ h) in
+    qed 𝓛 (((‵ (flft κ q) ⊛ ‵ others) ⊛ ‵ (owns (types_at En.signature.params κs) a y.0.4)) ∷ raw (fact 𝓤 (κs.1.0 ⊑ X.lives)) ∷ raw (fact 𝓤 (κs.1.1.0 ⊑ Y.lives)) ∷ raw (fact 𝓤 (κs.1.1.1.0 ⊑ U.lives))
+    ∷ raw (fact 𝓤 (HasLayout (pair_ty (R E) S n) z al)) ∷ raw (fact 𝓤 (0 < n * (s + t))) ∷ raw (fact 𝓤 Bare) ∷ raw (fact 𝓤 Its) ∷ []) ∵
+    keep ! (3 ∷ 4 ∷ 5 ∷ 6 ∷ 7 ∷ 0 ∷ []) $ heard ! (κs.1.1.1.0 ⊑ U.lives) (λ within. heard ! (HasLayout (pair_ty (R E) S n) z al) (λ laid. heard ! (0 < n * (s + t)) (λ some. heard ! Bare (λ empty. heard ! Its (λ its. split ! $ split ! $ move ! (2 ∷ []) $
+    fsplit ! $ move ! (1 ∷ []) $ fsplit ! $ move ! (1 ∷ []) $ fsplit ! $ move ! (1 ∷ []) $ fsplit ! $ move ! (1 ∷ []) $ fsplit ! $ fsplit ! $ move ! (2 ∷ []) $ fsplit ! $ fsplit ! $ move ! (2 ∷ []) $ fsplit ! $ fsplit ! $
+    keep ! (6 ∷ 4 ∷ 1 ∷ 10 ∷ 11 ∷ 12 ∷ []) $ move ! (3 ∷ []) $ fsplit ! $ keep ! (2 ∷ 3 ∷ 4 ∷ 1 ∷ 5 ∷ 6 ∷ []) $
+    -- [the first places; the second; the right; the handle; its token; the other tokens]
+    rewrite ! 0 (λ (z : Ptr × List (Option X.Denot)). ‵ (row_owned (R E) z.0 z.1)) {x = (right.firsts, cs)} {y = (own.at, own.places)} (λ i. (empty.0 i, empty.1 i)) refl $
+    rewrite ! 1 (λ (z : Ptr × List (Option Y.Denot)). ‵ (row_owned S z.0 z.1)) {x = (right.seconds, es)} {y = (bwn.at, bwn.places)} (λ i. (empty.2 i, empty.3 i)) refl $ fsplit ! $ flt_l ! (λ _.
+    in_a_block ! right.firsts (λ r. in_block r (places_owned (R E) r cs)) (id⊢ 𝓤 (never 𝓤)) (λ b o at.
+    use1 𝓛 (‵ (froom (ty_array (elτ E) n) b o)) (to_room E 𝓛 b n o) $ use1 𝓛 (‵ (froom (bare (ty_array (elτ E) n)) b o)) (𝓛.laws.room-raw (ty_array (elτ E) n) b o) $ move ! (1 ∷ []) $ fsplit ! $ flt_l ! (λ _.
+    in_a_block ! right.seconds (λ r. in_block r (places_owned S r es)) (id⊢ 𝓤 (never 𝓤)) (λ b' o' at'.
+    use1 𝓛 (‵ (froom (ty_array (elτ F) n) b' o')) (to_room F 𝓛 b' n o') $ use1 𝓛 (‵ (froom (bare (ty_array (elτ F) n)) b' o')) (𝓛.laws.room-raw (ty_array (elτ F) n) b' o') $
+    rewrite ! 2 (λ (z : U.Denot × Ptr × Ptr × Bool). ‵ (cond z.3 ftrue (fsep (token Z z.0 τ z.1) (rooms_rejoin (elτ E) (elτ F) z.1 z.2 n)))) {x = (h, block_ptr b o, block_ptr b' o', false)} {y = (right.alloc, right.firsts, right.seconds, eqb (n * (s + t)) 0)}
+    (λ i. (its.1 i, at i, at' i, some_weight (n * (s + t)) some i)) refl $ move ! (2 ∷ []) $ fsplit ! $ move ! (3 ∷ 2 ∷ 1 ∷ 0 ∷ []) $ fjoin ! $
+    use2 𝓛 (‵ (froom τ b o)) (apply∗ 𝓤 (sem 𝓛 (fsep (froom (bare (ty_array (elτ E) n)) b o) (froom (bare (ty_array (elτ F) n)) b' o'))) (H.room τ b o)) $
+    enter ! 𝓣.C 𝓣.Λ fn (vptr hp.0 hp.1 ∷ word p ∷ vint w64 z ∷ vint w64 al ∷ mark ∷ mark ∷ mark ∷ []) Post $
+    alloc_all ! (λ l. pass_all ! refl ((tt, tt), (word_good p, ((tt, record { fits = are.1.1.0.1 }), ((tt, record { fits = are.1.1.1.0.1 }), ((tt, (tt, tt)), ((tt, (tt, tt)), ((tt, (tt, tt)), tt))))))) $ let Ev = env fn.locals l in
+    let t : (Gives Z 𝓛 𝓜.mem 𝓡.returns).Ghost = at_gives Z 𝓛 𝓜.mem 𝓡.returns κ q hp h b o z al τ in
+    first ! $ blocks ! $ sets ! (is ! (of_opd ! (get_in ! (fld ! refl (stop !)) (sub ! 0 refl (whole !)))) (ap ptr_val (its.0 ∙ at))) refl (tt, tt) $
+    group ! 4 $ use1 𝓛 (raw ((Gives Z 𝓛 𝓜.mem 𝓡.returns).pre t))
+    (Gives-goes Z 𝓛 𝓜.mem 𝓡.returns κ q hp h (Incl-trans bounds.0 within) b o z al τ (ap capped (size-raw ω) ∙ laid.0) (ap capped (align-raw ω) ∙ laid.1) are.1.1.0.1 are.1.1.1.0.1) $
+    calls_at_last ! (framed 𝓤 H 𝓜 𝓣) (Gives Z 𝓛 𝓜.mem 𝓡.returns) (met.deallocate dd) t (and_then ! (get ! refl) (and_then ! (get ! refl) (and_then ! (get ! refl) (and_then ! (get ! refl) (no_more !))))) (λ v.
+    use1 𝓛 (later (given (v ≡ vunit) (‵ (flft κ q)))) (Gives-Gives Z 𝓛 𝓜.mem 𝓡.returns κ q hp h b o z al τ v) $ await ! tt $ learn ! (λ e.
+    lands_last ! refl (subst (λ (u : Val). T (has_ty ty_unit u) × WT u) (sym e) (tt, tt)) $ exec ! 𝓣.C 𝓣.Λ Ev (after 1 fn.body) (at_ret Ev Post) $
+    sets ! (of_opd ! (unit_lit !)) refl (tt, tt) $ returns ! (look_at ! 0 refl) $ free_all ! refl $
+    join ! $ nothing ! $ feq_i ! (List Val) (vunit ∷ []) (vunit ∷ []) refl $ nothing ! $ nothing ! $ fjoin ! $ nothing ! $ fjoin ! $ nothing ! $ fjoin ! $ nothing ! $ fjoin ! $ nothing ! $ fjoin ! $ nothing ! $ fjoin ! $ nothing ! $ fjoin ! $
+    keep ! (3 ∷ 0 ∷ 1 ∷ 2 ∷ []) $ by ! (leaves 𝓛 En hs c y vunit tt (tt, (tt, (tt, (tt, (tt, (tt, (tt, tt))))))) (tt, (tt, (tt, (tt, (tt, (tt, (tt, tt)))))))))))))))))))))

@@ -1,8 +1,0 @@
-use Rattle.starlark_columns.proofs.Fronts.{front_filled, front_taken}
-use Rattle.starlark_columns.proofs.column.Column.item.Goals as goal
-
-pub get-requires : goal.get-requires
-get-requires g c = front_filled c.args.self.now c.args.len c.requires.front c.args.index c.requires.within
-
-pub returns : goal.returns
-returns g c = front_taken c.args.self.now c.args.len c.requires.front c.args.index c.requires.within c.get.result.now c.get.ensures

@@ -1,8 +1,0 @@
-use Rattle.starlark_columns.proofs.Fronts.{front_full, front_items}
-use Rattle.starlark_columns.proofs.column.Column.items.Goals as goal
-
-pub slice-requires : goal.slice-requires
-slice-requires g c = front_full c.args.self.now c.args.len c.requires
-
-pub returns : goal.returns
-returns g c = front_items c.args.self.now c.args.len c.requires c.slice.result.now c.slice.ensures

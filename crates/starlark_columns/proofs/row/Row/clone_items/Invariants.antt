@@ -1,0 +1,8 @@
+use Rattle.std.proofs.Common.{◌≡◌, length, take}
+use Rattle.std.specs.List.{AllZip}
+use Rattle.starlark_columns.specs.Front.{IsFront}
+use Rattle.starlark_columns.specs.Places.{items_of}
+use Rattle.starlark_columns.proofs.row.Row.clone_items.Given as goal
+
+abbrev pub invariant-loop-made : goal.invariant-loop-made
+invariant-loop-made g l = IsFront l.to.places l.made × (length l.to.places ≡ length l.initial.to.places) × AllZip g.T.Clone.is_clone (take l.made (items_of l.self.places)) (items_of l.to.places) × (l.to.at ≡ l.initial.to.at)

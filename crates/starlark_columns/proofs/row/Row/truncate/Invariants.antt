@@ -1,0 +1,10 @@
+use Rattle.std.proofs.Common.{◌≡◌, ◌-◌, ◌≤◌, length, take}
+use Rattle.starlark_columns.specs.Front.{IsFront}
+use Rattle.starlark_columns.specs.Places.{items_of}
+use Rattle.starlark_columns.proofs.row.Row.truncate.Given as goal
+
+abbrev pub invariant-loop-left : goal.invariant-loop-left
+invariant-loop-left g l = IsFront l.self.places l.left × (items_of l.self.places ≡ take l.left (items_of l.initial.self.places)) × (length l.self.places ≡ length l.initial.self.places) × (l.self.at ≡ l.initial.self.at) × (l.to ≤ l.left)
+
+abbrev pub decreases-loop-left : goal.decreases-loop-left
+decreases-loop-left g l = l.left - l.to

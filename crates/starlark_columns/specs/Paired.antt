@@ -1,0 +1,38 @@
+-- The one block of two rows: how both lie in it, and the right to give it back.
+use Rattle.std.specs.Prelude.{ℕ, ◌+◌, ◌*◌, []}
+use mathlib.Core.Bool.{cond}
+use lib.Dec.{eqb}
+use base.Fml.{Fml, ftrue, fsep, fwand}
+use mir.Raw.{raw}
+use mir.Syntax.{Ty, ty_array, ty_struct, tcons, tnil}
+use prog.Memory.{align, size, up}
+use denote.Memory.{lone}
+use denote.RattleType.{RattleType}
+use denote.RawPtr.{Ptr, room_for}
+
+abbrev pub type_align : RattleType → ℕ
+type_align R = align (lone R.mir)
+
+module _ (τ σ : Ty) where
+  -- n values of τ, and behind them n values of σ
+  abbrev pub two_arrays : ℕ → Ty
+  two_arrays n = ty_struct [] (tcons (ty_array τ n) (tcons (ty_array σ n) tnil))
+
+  -- the rooms at p and q are the block's room again
+  abbrev pub rooms_rejoin : Ptr → Ptr → ℕ → Fml
+  rooms_rejoin p q n = fwand (fsep (room_for (raw (ty_array τ n)) p) (room_for (raw (ty_array σ n)) q)) (room_for (raw (two_arrays n)) p)
+
+  -- what `deallocate` asks for, to take the block of the n values at p and the n values at q back; nothing of no bytes
+  abbrev pub arrays_claimed : (Ty → Ptr → Fml) → Ptr → Ptr → ℕ → Fml
+  arrays_claimed token p q n = cond (eqb (n * (size τ + size σ)) 0) ftrue (fsep (token (raw (two_arrays n)) p) (rooms_rejoin p q n))
+
+module _ (R S : RattleType) where
+  abbrev pub pair_ty : ℕ → Ty
+  pair_ty = two_arrays (lone R.mir) (lone S.mir)
+
+  -- where the second places begin in the block
+  abbrev pub second_offset : ℕ → ℕ
+  second_offset n = up (type_align S) (n * size (lone R.mir))
+
+  abbrev pub pair_claimed : (Ty → Ptr → Fml) → Ptr → Ptr → ℕ → Fml
+  pair_claimed = arrays_claimed (lone R.mir) (lone S.mir)

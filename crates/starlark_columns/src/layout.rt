@@ -1,0 +1,42 @@
+//! How two rows lie in one block: the first from its start on, and the second behind it, where its alignment allows.
+ghost use Rattle.std.specs.Prelude.{◌≡◌, ◌+◌, ◌-◌, ◌*◌, ◌^◌, ◌<◌, min};
+ghost use Rattle.core.specs.Allocator.{HasLayout};
+ghost use prog.Memory.{capped, pad};
+ghost use Rattle.starlark_columns.specs.Paired.{pair_ty, second_offset};
+
+use crate::block::{item_align, item_size};
+
+// The block of two rows of so many places. Numbers past the greatest `usize` are cut there.
+#[derive(Drop)]
+pub(crate) struct Layout {
+    pub offset: usize,
+    pub size: usize,
+    pub align: usize,
+}
+
+pub(crate) fn laid_out<T, U>(count: usize) -> Layout
+    ensures block { HasLayout (pair_ty T.row U.row count) result.size result.align }
+    ensures offset { result.offset ≡ capped (second_offset T.row U.row count) }
+{
+    let first = item_align::<T>();
+    let second = item_align::<U>();
+    let align = first.max(second);
+    let firsts = count.saturating_mul(item_size::<T>());
+    let seconds = count.saturating_mul(item_size::<U>());
+    let offset = rounded_up(firsts, second);
+    let end = offset.saturating_add(seconds);
+    let size = rounded_up(end, align);
+    Layout {
+        offset,
+        size,
+        align,
+    }
+}
+
+// The least multiple of `align` that is not below.
+fn rounded_up(bytes: usize, align: usize) -> usize
+    requires { 0 < align }
+    ensures { result ≡ min (bytes + pad align bytes) (2 ^ 64 - 1) }
+{
+    bytes.saturating_add((align - bytes % align) % align)
+}

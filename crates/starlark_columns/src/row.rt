@@ -1,0 +1,151 @@
+//! `Row`, a row of places without the right to give their block back: another row may lie in the same block.
+ghost use Rattle.std.specs.Prelude.{◌≡◌, ◌+◌, ◌-◌, ◌^◌, ◌<◌, ◌≤◌, Some, None, map, length, get_or, slice_set, slice_range};
+ghost use Rattle.std.specs.Borrow.{sem};
+ghost use Rattle.starlark_columns.specs.Places.{empties, IsFilled, AreFilled, AreEmpty, with_range, moved_down, moved_up};
+
+use crate::block::{Address, Held};
+use std::marker::Model;
+
+/// A row of places, each empty or with an item. Nothing at run time says which: the type above knows. It is seen as its
+/// places and where they lie, so that `pair::give_back` takes rows of one block alone.
+pub struct Row<T> {
+    pub(crate) address: Address<T>,
+    pub(crate) count: usize,
+    pub(crate) held: Held<T>,
+}
+
+impl<T> Model for Row<T> {
+    ghost use Rattle.std.specs.Prelude.{◌≡◌, length};
+    ghost use Rattle.starlark_columns.specs.Laid.{Laid, laid};
+
+    ghost Value = { Laid T };
+
+    ghost view = { λ r. laid r.held.at r.held.places };
+
+    ghost invariant = { λ r. (r.held.at ≡ r.address.at) × (length r.held.places ≡ r.count) };
+}
+
+impl<T> Row<T> {
+    ghost use Rattle.starlark_columns.specs.RowLends.{lends_item, lends_items};
+
+    /// How many places there are.
+    #[inline]
+    pub fn places(&self) -> usize
+        ensures places { result ≡ length self.now.places }
+        ensures fits { length self.now.places < 2 ^ 64 }
+    {
+        self.count
+    }
+
+    /// Puts an item in an empty place.
+    #[inline]
+    pub fn write(&mut self, index: usize, item: T)
+        requires { (index < length self.old.places) × (get_or self.old.places index None ≡ None) }
+        ensures places { self.new.places ≡ slice_set self.old.places index (Some item) }
+        ensures at { self.new.at ≡ self.old.at }
+    {
+        self.held.write(self.address, self.count, index, item);
+    }
+
+    /// Moves the item out of a place, which is then empty.
+    #[inline]
+    pub fn take(&mut self, index: usize) -> T
+        requires { IsFilled self.old.places index }
+        ensures value { get_or self.old.places index None ≡ Some result }
+        ensures places { self.new.places ≡ slice_set self.old.places index None }
+        ensures at { self.new.at ≡ self.old.at }
+    {
+        self.held.take(self.address, self.count, index)
+    }
+
+    /// The item of a place.
+    #[inline]
+    pub fn get(&self, index: usize) -> &T
+        requires { IsFilled self.now.places index }
+        ensures { get_or self.now.places index None ≡ Some result.now }
+    {
+        let count = self.count;
+        prove!(index < count);
+        &self.held.slice(self.address, index, index + 1)[0]
+    }
+
+    /// The item of a place, to be written.
+    #[inline]
+    pub fn get_mut(&mut self, index: usize) -> &mut T
+        requires { IsFilled self.old.places index }
+        ensures* writes_back { sem 𝓛 (lends_item T.row self.entry index result) }
+        ensures value { get_or self.old.places index None ≡ Some result.now }
+    {
+        self.held.get_mut(self.address, index)
+    }
+
+    /// The items from place `from` up to place `to`, which are all there.
+    #[inline]
+    pub fn slice(&self, from: usize, to: usize) -> &[T]
+        requires { AreFilled self.now.places from to }
+        ensures { slice_range self.now.places from to ≡ map Some result.now }
+    {
+        self.held.slice(self.address, from, to)
+    }
+
+    /// The items from place `from` up to place `to`, to be written.
+    #[inline]
+    pub fn slice_mut(&mut self, from: usize, to: usize) -> &mut [T]
+        requires { AreFilled self.old.places from to }
+        ensures* writes_back { sem 𝓛 (lends_items T.row self.entry from to result) }
+        ensures value { slice_range self.old.places from to ≡ map Some result.now }
+    {
+        self.held.slice_mut(self.address, from, to)
+    }
+
+    /// Moves the items from place `from` up to place `end` down, to the places from `to` on, as one move of memory. The
+    /// places between are empty before, and as many behind the items are afterwards.
+    #[inline]
+    pub fn move_down(&mut self, from: usize, end: usize, to: usize)
+        requires items { AreFilled self.old.places from end }
+        requires gap { AreEmpty self.old.places to from }
+        ensures places { self.new.places ≡ moved_down self.old.places from end to }
+        ensures at { self.new.at ≡ self.old.at }
+    {
+        if from != end {
+            self.held.move_down(self.address, self.count, from, end, to);
+        }
+    }
+
+    /// Moves the items from place `from` up to place `end` up, to the places from `to` on, as one move of memory. The
+    /// places behind that they need are empty before, and as many in front of them are afterwards.
+    #[inline]
+    pub fn move_up(&mut self, from: usize, end: usize, to: usize)
+        requires items { AreFilled self.old.places from end }
+        requires gap { (from ≤ to) × AreEmpty self.old.places end (end + (to - from)) }
+        ensures places { self.new.places ≡ moved_up self.old.places from end to }
+        ensures at { self.new.at ≡ self.old.at }
+    {
+        if from != end {
+            self.held.move_up(self.address, self.count, from, end, to);
+        }
+    }
+
+    /// Moves the items from place `from` up to place `end` to the empty places of `other` from `to` on, as one copy of memory.
+    #[inline]
+    pub fn move_to(&mut self, from: usize, end: usize, other: &mut Row<T>, to: usize)
+        requires items { AreFilled self.old.places from end }
+        requires room { AreEmpty other.old.places to (to + (end - from)) }
+        ensures left { self.new.places ≡ with_range self.old.places from end (empties (end - from)) }
+        ensures moved { other.new.places ≡ with_range other.old.places to (to + (end - from)) (slice_range self.old.places from end) }
+        ensures at { (self.new.at ≡ self.old.at) × (other.new.at ≡ other.old.at) }
+    {
+        if from != end {
+            self.held.move_to(
+                self.address,
+                self.count,
+                from,
+                end,
+                &mut other.held,
+                other.address,
+                other.count,
+                to,
+            );
+        }
+    }
+}

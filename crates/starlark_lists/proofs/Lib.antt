@@ -1,0 +1,4 @@
+pub mod PositionLemmas
+pub mod EntryLemmas
+pub mod SearchLemmas
+pub mod SortingLemmas

@@ -1,0 +1,14 @@
+use Rattle.std.proofs.Common.{subst, sym}
+use Rattle.std.specs.Prelude.{reverse}
+use Rattle.std.proofs.lemmas.List.Sorted.{IsPermutation-reverse}
+use Rattle.starlark_lists.specs.Entries.{IsSingle}
+use Rattle.starlark_lists.proofs.EntryLemmas.{IsSingle-permutation}
+use Rattle.starlark_small.proofs.small_map.SmallMap.reverse.Goals as goal
+
+pub invariant_of-self : goal.invariant_of-self
+invariant_of-self g c =
+    let es = c.self.inside.entries.entries in
+    record {
+      single = subst (λ l. IsSingle g.K.PartialEq.eq l.entries) (sym c.reverse.ensures) (IsSingle-permutation g.K.PartialEq.eq g.met.K.Eq.laws es (reverse es) c.self.invariant.single (IsPermutation-reverse es));
+      indexed = c.index_all.ensures.indexed;
+    }

@@ -1,0 +1,38 @@
+//! The order of a `SmallMap`'s entries.
+ghost use Rattle.std.specs.Prelude.{◌≡◌, reverse, OnErr, OnOk};
+ghost use Rattle.starlark_lists.specs.Sorting.{Ascends, sorted_by_key};
+ghost use Rattle.starlark_small.specs.Map.{KeepsMemory};
+
+use super::SmallMap;
+use crate::indexed::{index_all, unindex_all};
+use std::alloc::AllocError;
+
+impl<K: Eq, V> SmallMap<K, V> {
+    /// Sorts by key; entries with equal keys keep their order. Where the keys ascend already it asks for no
+    /// memory. A refusal leaves the entries as they were.
+    pub fn sort_keys(&mut self) -> Result<(), AllocError>
+    where
+        K: Ord,
+        ensures entries { OnOk result (self.new.entries ≡ sorted_by_key K.cmp self.old.entries) }
+        ensures unchanged { OnErr result (self.new.entries ≡ self.old.entries) }
+        ensures needed { OnErr result (Ascends K.cmp self.old.entries → ⊥) }
+        ensures kept { KeepsMemory self.old self.new }
+    {
+        // a refusal leaves the index as it was, so its places go out after the sort: the hashes are still the same
+        self.entries.sort_keys()?;
+        unindex_all(&mut self.index, &self.entries);
+        index_all(&mut self.index, &self.entries);
+        Ok(())
+    }
+
+    /// Turns the order of the entries round.
+    #[tactic(auto, using(crate::proofs::Emptying::in_its_order))]
+    pub fn reverse(&mut self)
+        ensures entries { self.new.entries ≡ reverse self.old.entries }
+        ensures kept { KeepsMemory self.old self.new }
+    {
+        unindex_all(&mut self.index, &self.entries);
+        self.entries.reverse();
+        index_all(&mut self.index, &self.entries);
+    }
+}

@@ -1,0 +1,127 @@
+-- A search for a hash along windows of tags: what each turn of its loop knows, and leaves to the next.
+use Rattle.std.proofs.Common.{◌≡◌, ◌≢◌, ℕ, ◌+◌, ◌-◌, ◌*◌, ◌/◌, ◌^◌, ◌<◌, ◌≤◌, List, ◌∷◌, length, Option, Some, None, Bool, true, false, arith, refl, sym, ◌∙◌, ap, subst}
+use Rattle.std.specs.Borrow.{Bor}
+use Rattle.std.specs.Fn.{CalledAt, TakesAt, Mut}
+use Rattle.std.specs.Int.Count.{count_trailing_zeros}
+use Rattle.starlark_lists.specs.Search.{Searches, CanSearch}
+use Rattle.starlark_columns.specs.Places.{IsFilled}
+use Rattle.starlark_table.specs.Table.{holders, holders_in}
+use Rattle.starlark_table.specs.Layout.{at, home, tag, tag_bits, empty_tag, InPlace, IsTagged, IsMask, BitsUpToEmpty}
+use Rattle.starlark_table.proofs.Circle.{home-below, distance-self, distance-below}
+use Rattle.starlark_table.proofs.Filling.{filled-by_some}
+use Rattle.starlark_table.proofs.Path.{path_from, listed}
+use Rattle.starlark_table.proofs.Searching.{Searching, searching_begins, searching_on, searching_as, searching_asks, searching_refuses, searching_accepts, searching_ends, path_taken, path_skipped, path_moved}
+use Rattle.starlark_table.proofs.TagBits.{first-by_bits, none-by_bits}
+use Rattle.starlark_table.proofs.Windows.{AtWindow, Matched, way, window_begins, window_matches, window_ends, window_goes_on}
+
+nearer : (n start place k : ℕ) → place + k < start + 16 → n + (start + 16 - (place + k + 1)) < n + (start + 16 - place)
+nearer n start place k near = omega arith
+
+farther : (m d d' next start place : ℕ) → d < d' → d' < m → (m - d') * 32 + (next + 16 - next) < (m - d) * 32 + (start + 16 - place)
+farther m d d' next start place more below = omega arith
+
+-- what is left of the way round, and of the window
+abbrev pub left_to_look : {T : Type 0} → ℕ → List (Option (ℕ × T)) → ℕ → ℕ → ℕ
+left_to_look hash slots start place = (length slots - way hash slots start) * 32 + (start + 16 - place)
+
+module _ {F T : Type 0} (g : Mut F (Bor T × Unit {0}) Bool) (hash : ℕ) (tags : List ℕ) (slots : List (Option (ℕ × T))) (first : F) where
+  abbrev a : ℕ
+  a = home (length slots) hash
+
+  -- the items of the hash from so many steps behind its home on
+  abbrev behind : ℕ → List (ℕ × T)
+  behind i = holders hash (path_from a slots i)
+
+  -- the search is at a place of the window from `start` on, and `first` is now f
+  pub record Looking (start place same : ℕ) (f : F) : Type 0 where
+    pub window : AtWindow hash tags slots start place same
+    pub search : Searching g (behind 0) first f (behind (way hash slots start + (place - start)))
+
+  module _ (tagged : IsTagged tags slots) where
+    module _ (count mask start : ℕ) (counted : count ≡ length slots) (some : count ≢ 0) (masked : IsMask mask slots) (is : start ≡ home (mask + 1) hash) where
+      at_home : (0 < length slots) × (start ≡ a)
+      at_home = let places : 0 < length slots = omega arith in (places, is ∙ ap (λ n. home n hash) (masked places))
+
+      pub home_room : start + 16 ≤ length tags
+      home_room = omega (arith, at_home.1, home-below (length slots) hash at_home.0, tagged.sized at_home.0)
+
+      pub looking_begins : (sought same : ℕ) → sought ≡ tag hash → same ≡ tag_bits sought tags start 16 → Looking start start same first
+      looking_begins sought same seeks bits =
+          let here = distance-self (length slots) a in
+          subst (λ p. Looking p p same first) (sym at_home.1) (record {
+            window = window_begins hash tags slots tagged at_home.0 same (bits ∙ ap (λ t. tag_bits t tags start 16) seeks ∙ ap (λ p. tag_bits (tag hash) tags p 16) at_home.1);
+            search = path_moved g (behind 0) first first hash a 0 (way hash slots a + (a - a)) slots (omega (arith, here)) (searching_begins g (behind 0) first);
+          })
+
+    module _ (start place same : ℕ) (f : F) (l : Looking start place same f) where
+      some : 0 < length slots
+      some = let start_in = l.window.start_in in omega arith
+
+      -- where no bit is left
+      module _ (none : same ≡ 0) (empties : ℕ) (its : empties ≡ tag_bits empty_tag tags start 16) where
+        over : AtWindow hash tags slots start place 0
+        over = subst (λ b. AtWindow hash tags slots start place b) none l.window
+
+        room : start + 16 ≤ length tags
+        room = let start_in = l.window.start_in in omega (arith, tagged.sized some)
+
+        -- the search ends at a window with an empty place
+        pub looking_ends : InPlace (length slots) slots → empties ≢ 0 → Searches g (holders_in hash slots) first None f
+        looking_ends in_place empty =
+            let n : ℕ = count_trailing_zeros 64 (tag_bits empty_tag tags start 16) in
+            let there = first-by_bits empty_tag tags start 16 room n (omega arith) (λ z. empty (its ∙ z)) refl in
+            let within = there.within in
+            searching_ends g (holders_in hash slots) (behind 0) (behind (way hash slots start + (place - start))) first f (listed hash a slots)
+            (window_ends hash tags slots tagged some start place (start + n) over in_place (omega arith) (omega arith) there.there there.before) l.search
+
+        -- or goes on to the next
+        pub looking_goes_on : (mask sought next bits : ℕ) → (0 < length slots → (q : ℕ) × (q < length slots) × (at slots q ≡ None)) → IsMask mask slots → sought ≡ tag hash → empties ≡ 0
+            → (start + 16 ≤ mask → next ≡ start + 16) → (mask < start + 16 → next ≡ 0) → BitsUpToEmpty sought tags next bits
+            → Looking next next bits f × (left_to_look hash slots next next < left_to_look hash slots start place)
+        looking_goes_on mask sought next bits free masked seeks full on round b =
+            let goes = window_goes_on hash tags slots tagged some (free some) mask start place next bits (masked some) over
+            (none-by_bits empty_tag tags start 16 room (sym its ∙ full)) on round (subst (λ t. BitsUpToEmpty t tags next bits) seeks b) in (
+              record { window = goes.on; search = searching_on g (behind 0) _ _ first f goes.left l.search },
+              farther (length slots) _ _ next start place goes.farther (distance-below (length slots) a next (home-below (length slots) hash some) goes.on.start_in),
+            )
+
+      -- at the place of the lowest bit
+      module _ (bit : same ≢ 0) where
+        abbrev steps : ℕ
+        steps = count_trailing_zeros 64 same
+
+        abbrev here : ℕ
+        here = place + steps
+
+        found : Matched hash tags slots tagged some start place same steps
+        found = window_matches hash tags slots tagged some start place same steps l.window bit refl
+
+        pub looking_full : IsFilled slots here
+        looking_full = filled-by_some (at slots here) found.full
+
+        pub looking_nearer : left_to_look hash slots start (here + 1) < left_to_look hash slots start place
+        looking_nearer = nearer _ start place steps found.near
+
+        module _ (h : ℕ) (item : T) (is : at slots here ≡ Some (h, item)) where
+          asked : Searching g (behind 0) first f (behind (way hash slots here))
+          asked = searching_on g (behind 0) _ _ first f found.left l.search
+
+          taken : h ≡ hash → Searching g (behind 0) first f ((here, item) ∷ behind (way hash slots here + 1))
+          taken own = path_taken g (behind 0) first f hash a here h item slots (home-below (length slots) hash some) found.in_range is own asked
+
+          pub looking_asks : h ≡ hash → CanSearch g (holders_in hash slots) first → TakesAt g f item
+          looking_asks own can = searching_asks g (holders_in hash slots) (behind 0) first f (here, item) _ (listed hash a slots) can (taken own)
+
+          pub looking_accepts : (f' : F) → h ≡ hash → CalledAt g f item true f' → Searches g (holders_in hash slots) first (Some here) f'
+          looking_accepts f' own called = searching_accepts g (holders_in hash slots) (behind 0) first f f' (here, item) _ (listed hash a slots) (taken own) called
+
+          past : (f' : F) → Searching g (behind 0) first f' (behind (way hash slots here + 1)) → Looking start (here + 1) (same / 2 ^ steps / 2) f'
+          past f' s = record { window = found.on; search = path_moved g (behind 0) first f' hash a _ _ slots found.after s }
+
+          pub looking_refuses : (f' : F) → h ≡ hash → CalledAt g f item false f' → Looking start (here + 1) (same / 2 ^ steps / 2) f'
+          looking_refuses f' own called = past f' (searching_refuses g (behind 0) first f f' (here, item) _ (taken own) called)
+
+          pub looking_skips : (f' : F) → (h ≡ hash → ⊥) → f' ≡ f → Looking start (here + 1) (same / 2 ^ steps / 2) f'
+          looking_skips f' other same_f =
+              past f' (searching_as g (behind 0) _ first f f' same_f
+              (path_skipped g (behind 0) first f hash a here h item slots (home-below (length slots) hash some) found.in_range is other asked))

@@ -1,0 +1,19 @@
+use Rattle.std.proofs.Common.{◌≡◌, sym, ap, ◌∙◌, rules, of_calls, subst}
+use Rattle.std.specs.Map.{lookup}
+use Rattle.std.specs.Option.{option_copied, option_map}
+use Rattle.starlark_lists.proofs.SearchLemmas.{is_test}
+use Rattle.starlark_hash.specs.Hasher.{finish_small, after_writes}
+use Rattle.starlark_hash.specs.HashValue.{hash_number, promoted}
+use Rattle.starlark_unordered.specs.Pairs.{pairs_of}
+use Rattle.starlark_unordered.proofs.QuerySearch.{slot_by_query, value_of-slot}
+use Rattle.starlark_unordered.proofs.unordered_map.UnorderedMap.pair_under.Goals as goal
+
+pub returns : goal.returns
+returns g c =
+    let t = g.Q.Equivalent.equivalent c.args.query.now in
+    let found = c.find_item.ensures in
+    subst (λ m. option_map (λ p. p.1) (option_copied c.find_item.result) ≡ lookup t (pairs_of m)) c.self.view_is
+    (ap (option_map (λ p. p.1)) found.3 ∙ value_of-slot t c.self.inside.table found.0
+    (slot_by_query _ g.K.PartialEq.eq g.K.Hash.hash_input g.met.K.Eq.laws t (g.met.Q.Equivalent.respects_eq c.args.query.now) c.self.inside.table c.self.invariant _ _
+    (is_test _ (λ p. t p.0) _ (λ x accepts next called. (search (rules, of_calls, called), search (rules, of_calls, called)))) c.args.hash found.0 found.2
+    (λ k does. ap (λ ws. promoted (hash_number (finish_small (after_writes ws)))) (sym (g.met.Q.KeyQuery.feeds_alike c.args.query.now k does)) ∙ sym c.requires)))

@@ -1,0 +1,47 @@
+-- Entries whose values were written have their own keys and hashes.
+use Rattle.std.proofs.Common.{◌≡◌, ℕ, suc, List, [], ◌∷◌, map, length, refl, ap}
+use Rattle.std.proofs.lemmas.List.{length-map}
+use Rattle.starlark_lists.specs.Entries.{Entry, entry_hash, entry_key, pair_of}
+use Rattle.starlark_vec2.specs.Lending as pairs
+use Rattle.starlark_vecmap.specs.EntryList.{entry_of, with_values}
+use Rattle.starlark_vecmap.proofs.Views.{values_of-pair_of}
+
+module _ {K V : Type 0} where
+  -- pairs whose values were written, as entries
+  pub with_values-entry_of : (ps ws : List ((K × V) × ℕ)) → with_values (map entry_of ps) (map entry_of (pairs.with_values ps ws)) ≡ map entry_of (pairs.with_values ps ws)
+  with_values-entry_of [] ws = refl
+  with_values-entry_of (p ∷ ps) [] = ap (λ l. entry_of p ∷ l) (with_values-entry_of ps [])
+  with_values-entry_of (p ∷ ps) (w ∷ ws) = ap (λ l. entry_of ((p.0.0, w.0.1), p.1) ∷ l) (with_values-entry_of ps ws)
+
+  -- written again with the same values, they stay
+  pub with_values-again : (es ws : List (Entry K V)) → with_values es (with_values es ws) ≡ with_values es ws
+  with_values-again [] ws = refl
+  with_values-again (e ∷ es) [] = ap (λ l. e ∷ l) (with_values-again es [])
+  with_values-again (e ∷ es) (w ∷ ws) = ap (λ l. (e.0, w.1) ∷ l) (with_values-again es ws)
+
+  pub length-with_values : (es ws : List (Entry K V)) → length (with_values es ws) ≡ length es
+  length-with_values [] ws = refl
+  length-with_values (e ∷ es) [] = ap suc (length-with_values es [])
+  length-with_values (e ∷ es) (w ∷ ws) = ap suc (length-with_values es ws)
+
+  -- each key stays under its hash
+  pub hashed_keys-with_values : (es ws : List (Entry K V)) → map (λ e. e.0) (with_values es ws) ≡ map (λ e. e.0) es
+  hashed_keys-with_values [] ws = refl
+  hashed_keys-with_values (e ∷ es) [] = ap (λ l. e.0 ∷ l) (hashed_keys-with_values es [])
+  hashed_keys-with_values (e ∷ es) (w ∷ ws) = ap (λ l. e.0 ∷ l) (hashed_keys-with_values es ws)
+
+  pub keys-with_values : (es ws : List (Entry K V)) → map entry_key (with_values es ws) ≡ map entry_key es
+  keys-with_values [] ws = refl
+  keys-with_values (e ∷ es) [] = ap (λ l. entry_key e ∷ l) (keys-with_values es [])
+  keys-with_values (e ∷ es) (w ∷ ws) = ap (λ l. entry_key e ∷ l) (keys-with_values es ws)
+
+  pub hashes-with_values : (es ws : List (Entry K V)) → map entry_hash (with_values es ws) ≡ map entry_hash es
+  hashes-with_values [] ws = refl
+  hashes-with_values (e ∷ es) [] = ap (λ l. entry_hash e ∷ l) (hashes-with_values es [])
+  hashes-with_values (e ∷ es) (w ∷ ws) = ap (λ l. entry_hash e ∷ l) (hashes-with_values es ws)
+
+  pub length-pair_of : (es : List (Entry K V)) → length (map pair_of es) ≡ length es
+  length-pair_of es = length-map es pair_of
+
+-- what the makers of a walk that writes, and its callers, may want
+pub ruleset written = (length-with_values, hashed_keys-with_values, keys-with_values, hashes-with_values, values_of-pair_of, length-pair_of)
