@@ -13,3 +13,4 @@ mod EntryOut
 pub mod Fronts
 pub mod NamedClose
 pub mod Betweens
+pub mod LoneValue

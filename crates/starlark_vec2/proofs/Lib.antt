@@ -11,3 +11,4 @@ pub mod TwoColumns
 pub mod Values
 pub mod Vec2Open
 pub mod StepsBack
+pub mod WalkRenamed

@@ -9,8 +9,8 @@ ghost use Rattle.starlark_vec2.specs.Frozen.{pairs_follow, lends_run, frozen, Is
 use starlark_columns::Row;
 use std::marker::{Model, PhantomData};
 
-/// The right to the pairs at `start` that are still to be taken: those from the `from`-th on, `rest`. Their keys are
-/// frozen. `name` is the loan of these, and `tie` the loan of all, which its lender follows. `PairsMut` walks it.
+// The right to the pairs at `start` that are still to be taken: those from the `from`-th on, `rest`. Their keys are
+// frozen. `name` is the loan of these, and `tie` the loan of all, which its lender follows. `PairsMut` walks it.
 #[derive(Drop)]
 pub struct Loan<'a, K, V> {
     start: *mut (K, V),

@@ -29,9 +29,9 @@ impl<'a, K, V> Model for PairsMut<'a, K, V> {
 }
 
 impl<'a, K, V> PairsMut<'a, K, V> {
-    /// The pairs of a loan of which none is taken yet, `len` of them.
+    // The pairs of a loan of which none is taken yet, `len` of them.
     #[inline]
-    pub fn of(loan: Loan<'a, K, V>, len: usize) -> PairsMut<'a, K, V>
+    pub(crate) fn of(loan: Loan<'a, K, V>, len: usize) -> PairsMut<'a, K, V>
         requires untouched { loan.from ≡ 0 }
         requires all { len ≡ length loan.rest }
         ensures rest { result.0 ≡ loan.entry.rest }

@@ -21,7 +21,7 @@ pub use into_iter::{IntoIter, IntoIterHashed, IntoKeys, IntoValues};
 pub use iter::{Iter, IterHashed, Keys, Values};
 use starlark_hash::{Equivalent, Hashed, NoRoom, StarlarkHashValue};
 use starlark_vec2::Vec2;
-pub use starlark_vec2::{Loan, PairsMut as IterMut, ValuesMut};
+pub use starlark_vec2::{PairsMut as IterMut, ValuesMut};
 use std::alloc::{AllocError, Global};
 use std::marker::Model;
 

@@ -11,7 +11,6 @@ use super::SmallMap;
 use crate::iter::{IterMut, ValuesMut};
 use crate::own_hash::under_own_hash;
 use starlark_hash::{Equivalent, Hashed};
-use starlark_vec2::Loan;
 use std::hash::Hash;
 
 impl<K: Eq, V> SmallMap<K, V> {
@@ -53,15 +52,13 @@ impl<K: Eq, V> SmallMap<K, V> {
 
     /// The keys and values in order of insertion, to write the values. The map ends with what is left in them; keys,
     /// hashes, order, room, capacity and index stay.
-    #[tactic(auto, using(starlark_vecmap::proofs::ValuesWritten::written))]
     #[inline]
     pub fn iter_mut(&mut self) -> IterMut<'_, K, V>
         ensures* writes_back { sem 𝓛 (values_follow K.row V.row K.PartialEq self.entry result.1) }
         ensures pairs { result.0 ≡ map pair_of self.old.entries }
         ensures fits { length self.old.entries < 2 ^ 64 }
     {
-        let len = self.entries.len();
-        IterMut::of(self.lend(), len)
+        self.entries.iter_mut()
     }
 
     /// The values in order of insertion, to write them. The map ends with what is left in them; keys, hashes, order,
@@ -74,16 +71,6 @@ impl<K: Eq, V> SmallMap<K, V> {
         ensures fits { length self.old.entries < 2 ^ 64 }
     {
         ValuesMut::of(self.iter_mut())
-    }
-
-    // The right to write the values, which an `IterMut` walks.
-    #[inline]
-    fn lend(&mut self) -> Loan<'_, K, V>
-        ensures* writes_back { sem 𝓛 (values_follow K.row V.row K.PartialEq self.entry result.tie) }
-        ensures untouched { result.from ≡ 0 }
-        ensures rest { result.rest ≡ map pair_of self.old.entries }
-    {
-        self.entries.lend()
     }
 }
 

@@ -1,5 +1,5 @@
 //! References into a `Vec2`, handed out as `&mut`.
-ghost use Rattle.std.specs.Prelude.{◌≡◌, ◌<◌, length, slice_get, get_or, Some, None};
+ghost use Rattle.std.specs.Prelude.{◌≡◌, ◌<◌, ◌^◌, length, slice_get, get_or, Some, None};
 ghost use Rattle.std.specs.Option.{option_map, option_copied_mut};
 ghost use Rattle.std.specs.Borrow.{sem};
 ghost use Rattle.starlark_columns.specs.Places.{items_of, IsFilled};
@@ -62,10 +62,9 @@ impl<A, B> Vec2<A, B> {
 }
 
 impl<K, V, B> Vec2<(K, V), B> {
-    /// The first parts of the pairs, each a key and a value, to write the values. The list ends with the values that
-    /// are left in them, and all else stays. `PairsMut` walks them.
+    // The right to write the values of the first parts, each a key and a value.
     #[inline]
-    pub fn lend_firsts(&mut self) -> Loan<'_, K, V>
+    fn lend_firsts(&mut self) -> Loan<'_, K, V>
         ensures* writes_back { sem 𝓛 (firsts_follow K.row V.row B.row self.entry result.tie) }
         ensures untouched { result.from ≡ 0 }
         ensures rest { result.rest ≡ firsts_of self.old.pairs }
@@ -74,12 +73,14 @@ impl<K, V, B> Vec2<(K, V), B> {
         Loan::new(&mut self.firsts, len)
     }
 
-    /// The same as an iterator, which gives each first part as `(&K, &mut V)`.
+    /// The first parts of the pairs, each a key and a value, as `(&K, &mut V)`. The list ends with the values that are
+    /// left in them, and all else stays.
     #[tactic(auto, using(crate::proofs::Values::values))]
     #[inline]
     pub fn iter_firsts_mut(&mut self) -> PairsMut<'_, K, V>
         ensures* writes_back { sem 𝓛 (firsts_follow K.row V.row B.row self.entry result.1) }
         ensures rest { result.0 ≡ firsts_of self.old.pairs }
+        ensures fits { length self.old.pairs < 2 ^ 64 }
     {
         let len = self.len();
         PairsMut::of(self.lend_firsts(), len)

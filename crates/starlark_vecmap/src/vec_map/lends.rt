@@ -6,7 +6,7 @@ ghost use Rattle.starlark_lists.specs.Entries.{entry_value, pair_of};
 ghost use Rattle.starlark_vecmap.specs.EntryList.{deref_entry_mut};
 ghost use Rattle.starlark_vecmap.specs.Lending.{lends_value, values_follow};
 
-use super::{IterMut, Loan, ValuesMut, VecMap};
+use super::{IterMut, ValuesMut, VecMap};
 use starlark_hash::{Hashed, StarlarkHashValue};
 
 impl<K, V> VecMap<K, V> {
@@ -23,28 +23,15 @@ impl<K, V> VecMap<K, V> {
         (Hashed::new_unchecked(hash, &pair.0), &mut pair.1)
     }
 
-    /// The right to write the values of the entries, which an `IterMut` walks. The map ends with the values that are
-    /// left in them; keys, hashes and capacity stay.
-    #[inline]
-    pub fn lend(&mut self) -> Loan<'_, K, V>
-        ensures* writes_back { sem 𝓛 (values_follow K.row V.row self.entry result.tie) }
-        ensures untouched { result.from ≡ 0 }
-        ensures rest { result.rest ≡ map pair_of self.old.entries }
-    {
-        self.columns.lend_firsts()
-    }
-
     /// The keys and values of the entries, in their order, to write the values. The map ends with what is left in them;
     /// keys, hashes and capacity stay.
-    #[tactic(auto, using(crate::proofs::ValuesWritten::written))]
     #[inline]
     pub fn iter_mut(&mut self) -> IterMut<'_, K, V>
         ensures* writes_back { sem 𝓛 (values_follow K.row V.row self.entry result.1) }
         ensures rest { result.0 ≡ map pair_of self.old.entries }
         ensures fits { length self.old.entries < 2 ^ 64 }
     {
-        let len = self.columns.len();
-        IterMut::of(self.lend(), len)
+        self.columns.iter_firsts_mut()
     }
 
     /// The values of the entries, in their order, to write them. The map ends with what is left in them; keys, hashes

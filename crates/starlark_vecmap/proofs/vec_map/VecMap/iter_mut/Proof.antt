@@ -1,5 +1,5 @@
--- `lend` lends the pairs of the columns, and the whole map, open over the call, is closed by what they follow. Assumes
--- `Logic`.
+-- `iter_mut` walks the pairs of the columns, and the whole map, open over the call, is closed by what they follow.
+-- Assumes `Logic`.
 use mathlib.Core.Path.{◌≡◌, refl, sym, ap, ◌∙◌}
 use Prim.Native.Nat.{ℕ, ◌+◌}
 use mathlib.Core.List.{List, [], ◌∷◌, not-mem-nil}
@@ -7,7 +7,7 @@ use seplogic.Ra.Ura.{Ura}
 use base.Fraction.{full_share}
 use mir.Syntax.{Fn, Args, a_type, named}
 use mir.MapTy.{inst_fn}
-use mir.Val.{Val, vptr, vstruct, vcons, vnil}
+use mir.Val.{Val, vptr}
 use base.Share
 use base.Logic.{SProp, ent, emp, id⊢, ex_e, snd∗}
 use base.Fml.{Lft, GName, Share, ftrue, fsep, flft, fauth}
@@ -31,7 +31,7 @@ use denote.RattleType.{RattleType, owns}
 use denote.Memory.{mem}
 use denote.Param.{param, layouts}
 use denote.Param.Laws.{Laws}
-use denote.Ref.{MutBor, mut_vals, mut_Tells}
+use denote.Ref.{MutBor, NamedLft, mut_vals, mut_Tells}
 use denote.Signature.{plain, types_at, mut_ref_to, named_lft}
 use denote.Steps.{nothing, heard, only}
 use denote.Triple.Call.{calls_at}
@@ -41,15 +41,17 @@ use denote.Triple.Statement.{Contract, Triple}
 use denote.Triple.Table.{entered}
 use denote.Triple.Walked.{Stays, stay_dropped, walk_of, ends_at, walked, walk_Meets, Goes-spent_ref}
 use Rattle.starlark_columns.proofs.NamedClose.{closes_named}
-use Rattle.starlark_vec2.specs.declared.loan.Loan.{Loan}
-use Rattle.starlark_vec2.specs.contracts.loan.Loan as L-type
-use Rattle.starlark_vecmap.specs.contracts.vec_map.VecMap.lend as F
-use Rattle.starlark_vecmap.specs.contracts.vec_map.VecMap.lend.Key.{name as #self}
-use Rattle.starlark_vec2.specs.contracts.vec2.lends.Vec2+tuple2+K+V+B.lend_firsts as g
-use Rattle.starlark_vec2.proofs.vec2.lends.Vec2+tuple2+K+V+B.lend_firsts.Symbol.{name as #run}
-use Rattle.starlark_vec2.proofs.vec2.lends.Vec2+tuple2+K+V+B.lend_firsts.Met as loan
-use Rattle.starlark_vec2.proofs.loan.Loan.TheLaws as L-laws
-use Rattle.std.specs.Prelude.{map}
+use Rattle.starlark_vec2.specs.contracts.pairs_mut.PairsMut as P-type
+use Rattle.starlark_vecmap.specs.contracts.vec_map.VecMap.iter_mut as F
+use Rattle.starlark_vecmap.specs.contracts.vec_map.VecMap.iter_mut.Key.{name as #self}
+use Rattle.starlark_vec2.specs.contracts.vec2.lends.Vec2+tuple2+K+V+B.iter_firsts_mut as g
+use Rattle.starlark_vec2.proofs.vec2.lends.Vec2+tuple2+K+V+B.iter_firsts_mut.Symbol.{name as #run}
+use Rattle.starlark_vec2.proofs.vec2.lends.Vec2+tuple2+K+V+B.iter_firsts_mut.Met as walked_firsts
+use Rattle.starlark_vec2.proofs.pairs_mut.PairsMut.TheLaws as P-laws
+use Rattle.starlark_vec2.proofs.WalkRenamed.{renamed}
+use Rattle.starlark_columns.proofs.LoneValue.{lone_value}
+use Rattle.std.specs.Prelude.{◌<◌, ◌^◌, length, map}
+use Rattle.std.proofs.lemmas.List.{length-map}
 use Rattle.starlark_lists.specs.Entries.{pair_of}
 use Rattle.starlark_vec2.specs.PairList.{PairList, with_pairs, firsts_of}
 use Rattle.starlark_vec2.specs.Lending as pairs
@@ -62,14 +64,12 @@ use denote.Param.Laws.{of_field}
 use denote.Param.Shared.{copy_shared}
 use denote.Struct.Field.{u32-field}
 use denote.Struct.Laws.{u32-laws, u32-copy}
-use denote.Laws.{shows}
+use denote.Laws.{Is, shows}
 use denote.Memory.{part_at}
 use denote.Param.Laws.{param_laws}
-use denote.RawPtr.{Ptr, in_a_block}
 use denote.Steps.{peeks}
-use Rattle.starlark_vec2.specs.Frozen.{frozen}
-use Rattle.starlark_vecmap.proofs.vec_map.VecMap.lend.Statement as stated
-use Rattle.starlark_vecmap.proofs.vec_map.VecMap.lend.Code as code
+use Rattle.starlark_vecmap.proofs.vec_map.VecMap.iter_mut.Statement as stated
+use Rattle.starlark_vecmap.proofs.vec_map.VecMap.iter_mut.Code as code
 
 abbrev hash_laws : Laws u32
 hash_laws = of_field u32-field u32-laws refl (copy_shared u32-field u32-copy)
@@ -151,12 +151,18 @@ module _ (A B : RattleType) where
       abbrev Post : Val → SProp 𝓤
       Post = (walk_of 𝓛 ended stayed spec).post bound
 
+      abbrev lft : NamedLft
+      lft = named_lft 3 0 tt (κ, (κA, (κB, tt)))
+
       abbrev It : RattleType
-      It = L-type.the_row (named_lft 3 0 tt (κ, (κA, (κB, tt)))) K V
+      It = P-type.the_row lft K V
+
+      abbrev it_laws : Laws It
+      it_laws = P-laws.the_row_laws lft K V (param_laws 0 A LA) (param_laws 1 B LB)
 
       walk : ent 𝓤 ((walk_of 𝓛 ended stayed spec).pre bound) (WpFn 𝓤 H C Λ here (vptr r.ref_ptr.0 r.ref_ptr.1 ∷ []) Post)
       walk =
-          let b = r.ref_ptr.0 in let o = r.ref_ptr.1 in let v = r.now in let γ = r.ghost_name in let lowers = L-laws.lowers (named_lft 3 0 tt (κ, (κA, (κB, tt)))) K V (param_laws 0 A LA) (param_laws 1 B LB) in
+          let b = r.ref_ptr.0 in let o = r.ref_ptr.1 in let v = r.now in let γ = r.ghost_name in
           qed 𝓛 (((‵ (flft κ q) ⊛ ‵ (flft κA qA) ⊛ ‵ (flft κB qB) ⊛ ‵ ftrue) ⊛ ‵ (owns (types_at ended.signature.params bound.0.0) bound.0.3 bound.0.4))
           ∷ (raw (fact 𝓤 (κA ⊑ A.lives)) ⊛ raw (fact 𝓤 (κB ⊑ B.lives)) ⊛ ‵ ftrue) ∷ []) ∵
           move ! (1 ∷ []) $ split3 ! $ heard ! (κA ⊑ A.lives) (λ la. heard ! (κB ⊑ B.lives) (λ lb. drop ! $
@@ -184,29 +190,28 @@ module _ (A B : RattleType) where
           let z : Run.Ghost = (((κ, (κA, (κB, ([], tt)))), (Share.right q, (qA, (qB, (full_share, tt)))), (bounds.0, (bounds.1.0, (still, tt))), (lent, tt), (mut_vals lent, tt)), tt) in
           use1 𝓛 (raw (Run.pre z)) (id⊢ 𝓤 _) $
           calls_at ! fm Run gr z (and_then ! (get ! refl) (no_more !)) (λ u.
-          use1 𝓛 (later (some (λ (x : Loan A.Denot B.Denot). ((‵ (flft κ (Share.right q)) ⊛ ‵ (flft κA qA) ⊛ ‵ (flft κB qB) ⊛ ‵ (flft [] full_share) ⊛ ‵ ftrue) ⊛ ‵ (It.own_val x (u ∷ []))) ⊛ raw (ensured 𝓛 (g.ended A B u32) (g.clauses A B u32 𝓛 at_mem run) z.0.0 z.0.3 tt x)))) (id⊢ 𝓤 _) $ await ! tt $ pick ! (λ x. split ! $ move ! (1 ∷ []) $
-          use1 𝓛 (‵ (follows CP CP δ x.tie (kept xs)) ⊛ raw (fact 𝓤 (x.from ≡ 0)) ⊛ raw (fact 𝓤 (x.rest ≡ firsts_of xs.pairs))) (ex_e 𝓤 _ (λ ws. snd∗ 𝓤 (sem 𝓛 (lasts (g.ended A B u32) z.0.0 z.0.3 ws)) _)) $
-          split3 ! $ move ! (1 ∷ []) $ heard ! (x.from ≡ 0) (λ from. move ! (1 ∷ []) $ heard ! (x.rest ≡ firsts_of xs.pairs) (λ rest.
-          -- [what the pairs follow; the tokens with the loan; the right; the open borrow; the rest; obs; auth]
+          use1 𝓛 (later (some (λ (x : List One × GName). ((‵ (flft κ (Share.right q)) ⊛ ‵ (flft κA qA) ⊛ ‵ (flft κB qB) ⊛ ‵ (flft [] full_share) ⊛ ‵ ftrue) ⊛ ‵ (It.own_val x (u ∷ []))) ⊛ raw (ensured 𝓛 (g.ended A B u32) (g.clauses A B u32 𝓛 at_mem run) z.0.0 z.0.3 tt x)))) (id⊢ 𝓤 _) $ await ! tt $ pick ! (λ x. split ! $ move ! (1 ∷ []) $
+          use1 𝓛 (‵ (follows CP CP δ x.1 (kept xs)) ⊛ raw (fact 𝓤 (x.0 ≡ firsts_of xs.pairs)) ⊛ raw (fact 𝓤 (length xs.pairs < 2 ^ 64))) (ex_e 𝓤 _ (λ ws. snd∗ 𝓤 (sem 𝓛 (lasts (g.ended A B u32) z.0.0 z.0.3 ws)) _)) $
+          split3 ! $ move ! (1 ∷ []) $ heard ! (x.0 ≡ firsts_of xs.pairs) (λ rest. move ! (1 ∷ []) $ heard ! (length xs.pairs < 2 ^ 64) (λ fits.
+          -- [what the pairs follow; the tokens with the walk; the right; the open borrow; the rest; obs; auth]
           move ! (3 ∷ 5 ∷ 6 ∷ 2 ∷ 0 ∷ 4 ∷ []) $ group ! 6 $
           use1 𝓛 (later (some (λ (tie : GName). ‵ (flft κ (Share.left q)) ⊛ ‵ (follows W W γ tie (keeps v)))))
-          (closes_named 𝓛 (mem W) (mem CP) (mem CP) (kept xs) (seen d) (keeps v) (λ w. same v d w d'.1) κ (Share.left q) b o b place γ δ x.tie (O.Rest K V 𝓛 b o d)
+          (closes_named 𝓛 (mem W) (mem CP) (mem CP) (kept xs) (seen d) (keeps v) (λ w. same v d w d'.1) κ (Share.left q) b o b place γ δ x.1 (O.Rest K V 𝓛 b o d)
           (λ w. O.shut K V 𝓛 b o (seen d w) (written d w) (written_known v d w d'.1)) n (W.coded.code v) (W.coded.code v) v) $ await ! tt $ pick ! (λ tie. split ! $
-          -- [half of κ's token; what the list follows; the tokens with the loan]
+          -- [half of κ's token; what the list follows; the tokens with the walk]
           move ! (2 ∷ []) $ split ! $ split3 ! $ move ! (4 ∷ 0 ∷ []) $ use2 𝓛 (‵ (flft κ q)) (𝓛.lfts.lft_join κ q) $ move ! (2 ∷ []) $ split3 ! $ move ! (1 ∷ []) $ drop ! $
-          -- [the token of κB; nothing; that of κ; that of κA; the loan; what the list follows]
-          move ! (4 ∷ []) $ peeks ! It _ (shows 𝓛 It) x (u ∷ []) (λ shown. fsplit ! $ move ! (1 ∷ []) $ in_a_block ! x.start (λ p. frozen κ K V p x.from x.name x.rest) (id⊢ 𝓤 _) (λ bx ox e.
-          let made : Val = vstruct (vcons (vptr bx ox) (vcons (vstruct vnil) vnil)) in
-          let word : u ≡ made = ap only (lowers.val_is x (u ∷ []) shown ∙ ap (λ (p : Ptr). lowers.lowered (record x { start = p }) ∷ []) e) in
-          rewrite ! 0 (λ (p : Ptr). ‵ (frozen κ K V p x.from x.name x.rest)) (sym e) refl $ move ! (1 ∷ 0 ∷ []) $ fjoin ! $
-          rewrite ! 0 (λ (w : Val). ‵ (It.own_val x (w ∷ []))) word refl $ lands_as ! word refl (tt, (tt, (tt, tt))) $
-          let new : Loan A.Denot B.Denot = record x { tie = tie } in
-          -- [the loan; the token of κB; nothing; that of κ; that of κA; what the list follows]
+          -- [the token of κB; nothing; that of κ; that of κA; the walk; what the list follows]
+          move ! (4 ∷ []) $ peeks ! It (Is It) (shows 𝓛 It) x (u ∷ []) (λ is. let lone = lone_value 𝓛 It it_laws x (u ∷ []) is in
+          rewrite ! 0 (λ (us : List Val). ‵ (It.own_val x us)) lone.1 refl $
+          lands_as ! (ap only lone.1) refl lone.2 $
+          let new : List One × GName = (x.0, tie) in
+          use1 𝓛 (‵ (It.own_val new (lone.0 ∷ []))) (renamed lft K V 𝓛 x tie (lone.0 ∷ [])) $
+          -- [the walk; the token of κB; nothing; that of κ; that of κA; what the list follows]
           returns ! (look_at ! 0 refl) $ free_all ! refl $ keep ! (0 ∷ 3 ∷ 4 ∷ 1 ∷ 5 ∷ []) $
-          suffices ! _ (ends_at 𝓛 ended stayed spec bound made new (tt, tt) (tt, tt)) $
+          suffices ! _ (ends_at 𝓛 ended stayed spec bound lone.0 new (tt, tt) (tt, tt)) $
           nothing ! $ nothing ! $ fjoin ! $ join ! $ nothing ! $ move ! (4 ∷ 0 ∷ []) $ join ! $ move ! (3 ∷ 0 ∷ []) $ join ! $ move ! (2 ∷ 0 ∷ []) $ join ! $ join ! $ frame ! $
-          use0 𝓛 (raw (fact 𝓤 (new.rest ≡ map pair_of v.entries))) (fact_i 𝓤 _ (emp 𝓤) (rest ∙ sym (pair_of-entry_of xs.pairs) ∙ ap (λ (m : EntryList A.Denot B.Denot). map pair_of m.entries) d'.1.0)) $
-          use0 𝓛 (raw (fact 𝓤 (new.from ≡ 0))) (fact_i 𝓤 _ (emp 𝓤) from) $ move ! (2 ∷ 0 ∷ 1 ∷ []) $ done !)))))))))))))
+          use0 𝓛 (raw (fact 𝓤 (length v.entries < 2 ^ 64))) (fact_i 𝓤 _ (emp 𝓤) (rw (ap (λ (m : EntryList A.Denot B.Denot). length m.entries) (sym d'.1.0) ∙ length-map xs.pairs entry_of) fits)) $
+          use0 𝓛 (raw (fact 𝓤 (new.0 ≡ map pair_of v.entries))) (fact_i 𝓤 _ (emp 𝓤) (rest ∙ sym (pair_of-entry_of xs.pairs) ∙ ap (λ (m : EntryList A.Denot B.Denot). map pair_of m.entries) d'.1.0)) $ move ! (2 ∷ 0 ∷ 1 ∷ []) $ done !))))))))))))
 
 meets : (A B : RattleType) → Laws A → Laws B → {M : Type 1} {𝓤 : Ura M} (𝓛 : Logic 𝓤) (at_mem : Memory → SProp 𝓤) (run : Routine → Fun 𝓤) (𝓣 : Tables 𝓤 𝓛.H)
     → Triple 𝓤 (𝓣.C (#run (lends A B))) (Run A B 𝓛 at_mem run)
@@ -217,9 +222,9 @@ meets A B LA LB {𝓤 = 𝓤} 𝓛 at_mem run 𝓣 gr =
     (walked 𝓛 (ended A B) (stayed A B) (spec A B 𝓛 at_mem run) (WpFn 𝓤 𝓛.H 𝓣.C 𝓣.Λ (here A B)) (λ κs. (mut_vals, tt)) (λ κs. (mut_Tells (named 0) κs.0 (W A B), tt))
     (λ κs qs bounds a g' are. walk A B 𝓛 at_mem run LA LB 𝓣.C 𝓣.Λ (fm_of 𝓤 𝓛.H 𝓛.laws 𝓣) gr κs.0 κs.1.0 κs.1.1.0 qs.0 qs.1.0 qs.1.1.0 bounds a.0))
 
-pub lend_spec : {M : Type 1} → stated.statement M
+pub iter_mut_spec : {M : Type 1} → stated.statement M
 unfolding tables_of
-lend_spec 𝓤 𝓛 𝓜 𝓡 wired A B LA LB =
+iter_mut_spec 𝓤 𝓛 𝓜 𝓡 wired A B LA LB =
     let 𝓣 : Tables 𝓤 𝓛.H = tables_of 𝓤 𝓛.H 𝓜 (tables 𝓤 𝓛.H 𝓜 𝓡 𝓡.env) in
     entered 𝓤 𝓛.H (triple_of 𝓛 (F.signature A B) (F.spec A B 𝓛 𝓜.mem 𝓡.returns)) 𝓣.C 𝓣.Λ (#self (args A B)) (here A B) (code.unfolded 𝓤 𝓛.H 𝓜 𝓡 wired (A, (B, tt)))
-    (meets A B LA LB 𝓛 𝓜.mem 𝓡.returns 𝓣 (loan.met 𝓤 𝓛 𝓜 𝓡 (code.calls-starlark_vec2::vec2::lends::Vec2+tuple2+K+V+B::lend_firsts 𝓡.env wired) A B u32 LA LB hash_laws))
+    (meets A B LA LB 𝓛 𝓜.mem 𝓡.returns 𝓣 (walked_firsts.met 𝓤 𝓛 𝓜 𝓡 (code.calls-starlark_vec2::vec2::lends::Vec2+tuple2+K+V+B::iter_firsts_mut 𝓡.env wired) A B u32 LA LB hash_laws))
