@@ -27,4 +27,5 @@ pub mod TableLemmas
 mod BesideClose
 pub mod LentInResult
 mod WrittenSlots
+pub mod WalkRenamed
 mod TableOpens

@@ -5,7 +5,7 @@ mod gap;
 mod growth;
 pub mod iter;
 mod iter_mut;
-pub mod loan;
+mod loan;
 mod near;
 mod pairs_mut;
 mod places;
@@ -16,6 +16,5 @@ mod walks;
 
 pub use iter::{IntoIter, Iter};
 pub use iter_mut::IterMut;
-pub use loan::PairLoan;
 pub use pairs_mut::PairsMut;
 pub use ready_table::ReadyTable;

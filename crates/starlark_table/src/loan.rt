@@ -8,10 +8,10 @@ use crate::tags::EMPTY;
 use starlark_columns::loan::{AllButLast, First};
 use std::marker::Model;
 
-/// The right to the slots that are still to be taken, `rest`, which begin with the `from`-th. Their hashes are frozen.
-/// `tie` is the loan of all, which the table follows.
+// The right to the slots that are still to be taken, `rest`, which begin with the `from`-th. Their hashes are frozen.
+// `tie` is the loan of all, which the table follows.
 #[derive(Drop)]
-pub struct Loan<'a, T> {
+pub(crate) struct Loan<'a, T> {
     places: starlark_columns::Loan<'a, (u64, T), First>,
     // They alone tell at run time which slots are full.
     tags: &'a [u8],
@@ -55,9 +55,9 @@ impl<'a, T> Loan<'a, T> {
     }
 }
 
-/// The same of slots with pairs, of which hashes and keys are frozen.
+// The same of slots with pairs, of which hashes and keys are frozen.
 #[derive(Drop)]
-pub struct PairLoan<'a, K, V> {
+pub(crate) struct PairLoan<'a, K, V> {
     places: starlark_columns::Loan<'a, (u64, (K, V)), AllButLast>,
     tags: &'a [u8],
 }

@@ -34,14 +34,10 @@ impl<'a, K, V> PairsMut<'a, K, V> {
     ghost use Rattle.std.specs.Prelude.{length};
     ghost use Rattle.starlark_table.specs.Table.{filled};
 
-    /// The pairs of a loan of which no slot is taken yet: `end` slots, of which `left` have a pair.
     #[inline]
-    pub fn of(loan: PairLoan<'a, K, V>, end: usize, left: usize) -> Self
-        requires untouched { loan.from ≡ 0 }
-        requires all { end ≡ length loan.rest }
-        requires full { left ≡ length (filled loan.rest) }
-        ensures rest { result.0 ≡ items_in loan.entry.rest }
-        ensures name { result.1 ≡ loan.entry.tie }
+    pub(crate) fn new(loan: PairLoan<'a, K, V>, end: usize, left: usize) -> Self
+        requires { (loan.from ≡ 0) × (end ≡ length loan.rest) × (left ≡ length (filled loan.rest)) }
+        ensures { (result.0 ≡ items_in loan.entry.rest) × (result.1 ≡ loan.entry.tie) }
     {
         PairsMut {
             loan,

@@ -7,7 +7,6 @@ ghost use Rattle.starlark_unordered.specs.Pairs.{pairs_of, HasDistinctKeys};
 
 use super::UnorderedMap;
 use crate::iter_mut::{EntriesMut, ValuesUnorderedMut};
-use starlark_table::PairLoan;
 use std::hash::Hash;
 
 impl<K: Eq + Hash, V> UnorderedMap<K, V> {
@@ -20,9 +19,7 @@ impl<K: Eq + Hash, V> UnorderedMap<K, V> {
         ensures distinct { HasDistinctKeys K.eq (pairs_of self.old) }
         ensures fits { length (pairs_of self.old) < 2 ^ 64 }
     {
-        let left = self.len();
-        let end = self.table.slot_count();
-        EntriesMut::of(self.lend(), end, left)
+        self.table.pairs_mut()
     }
 
     /// The values, each once for its key, to write them. The map ends with what is left in them, and all else stays.
@@ -33,15 +30,5 @@ impl<K: Eq + Hash, V> UnorderedMap<K, V> {
         ensures fits { length (pairs_of self.old) < 2 ^ 64 }
     {
         ValuesUnorderedMut::new(self.entries_unordered_mut())
-    }
-
-    // The right to write the values, which an `EntriesMut` walks.
-    #[inline]
-    fn lend(&mut self) -> PairLoan<'_, K, V>
-        ensures* writes_back { sem 𝓛 (values_follow K.row V.row K.Hash self.entry result.tie) }
-        ensures untouched { result.from ≡ 0 }
-        ensures rest { result.rest ≡ self.old.slots }
-    {
-        self.table.lend_pairs()
     }
 }

@@ -1,5 +1,5 @@
--- `lend` lends the table; the map, open over the call, is closed by what that follows. Assumes `Logic`.
-use mathlib.Core.Path.{◌≡◌, refl, sym, ap, ◌∙◌}
+-- `entries_unordered_mut` lends the table; the map, open over the call, is closed by what that follows. Assumes `Logic`.
+use mathlib.Core.Path.{◌≡◌, refl, sym, ap, subst, ◌∙◌}
 use Prim.Native.Nat.{◌+◌}
 use mathlib.Core.List.{List, [], ◌∷◌}
 use seplogic.Ra.Ura.{Ura}
@@ -42,27 +42,29 @@ use denote.Triple.Walked.{Stays, stay_dropped, walk_of, ends_at, walked, walk_Me
 use Rattle.std.specs.declared.cmp.Eq as Eq
 use Rattle.std.specs.declared.cmp.PartialEq as PartialEq
 use Rattle.std.specs.declared.hash.Hash as Hash
-use Rattle.starlark_table.specs.Table.{Table}
+use Rattle.std.specs.Prelude.{◌<◌, ◌^◌, length}
+use Rattle.starlark_table.specs.Table.{Table, items_of, members}
 use Rattle.starlark_table.specs.Written.{with_values}
-use Rattle.starlark_table.specs.contracts.loan.PairLoan as L-type
-use Rattle.starlark_table.specs.declared.loan.PairLoan.{PairLoan}
-use Rattle.starlark_table.specs.contracts.ready_table.pairs.ReadyTable+tuple2+K+V.lend_pairs as g
-use Rattle.starlark_table.proofs.ready_table.pairs.ReadyTable+tuple2+K+V.lend_pairs.Symbol.{name as #run}
-use Rattle.starlark_table.proofs.ready_table.pairs.ReadyTable+tuple2+K+V.lend_pairs.Met as loan
-use Rattle.starlark_table.proofs.loan.PairLoan.TheLaws as L-laws
+use Rattle.starlark_table.specs.contracts.pairs_mut.PairsMut as walk-type
+use Rattle.starlark_table.specs.contracts.ready_table.pairs.ReadyTable+tuple2+K+V.pairs_mut as g
+use Rattle.starlark_table.proofs.ready_table.pairs.ReadyTable+tuple2+K+V.pairs_mut.Symbol.{name as #run}
+use Rattle.starlark_table.proofs.ready_table.pairs.ReadyTable+tuple2+K+V.pairs_mut.Met as walks
+use Rattle.starlark_table.proofs.pairs_mut.PairsMut.TheLaws as walk-laws
 use Rattle.starlark_columns.proofs.NamedClose.{closes_named}
 use Rattle.starlark_table.proofs.LentInResult.{lone_value}
-use Rattle.starlark_unordered.specs.contracts.unordered_map.UnorderedMap.lend as F
-use Rattle.starlark_unordered.specs.contracts.unordered_map.UnorderedMap.lend.Key.{name as #self}
-use Rattle.starlark_unordered.proofs.LoanRenamed.{renamed}
+use Rattle.starlark_table.proofs.WalkRenamed.{renamed}
+use Rattle.starlark_unordered.specs.Pairs.{pairs_of, HasDistinctKeys}
+use Rattle.starlark_unordered.specs.contracts.unordered_map.UnorderedMap.entries_unordered_mut as F
+use Rattle.starlark_unordered.specs.contracts.unordered_map.UnorderedMap.entries_unordered_mut.Key.{name as #self}
+use Rattle.starlark_unordered.proofs.Keys.{distinct_pairs}
 use Rattle.starlark_unordered.proofs.UnorderedMapOpen as O
 use Rattle.starlark_unordered.proofs.ValuesWritten.{IsKeyed-with_values, again-with_values}
 use denote.Laws.{Is, shows}
 use denote.Memory.{part_at}
 use denote.Param.Laws.{param_laws}
 use denote.Steps.{peeks}
-use Rattle.starlark_unordered.proofs.unordered_map.UnorderedMap.lend.Statement as stated
-use Rattle.starlark_unordered.proofs.unordered_map.UnorderedMap.lend.Code as code
+use Rattle.starlark_unordered.proofs.unordered_map.UnorderedMap.entries_unordered_mut.Statement as stated
+use Rattle.starlark_unordered.proofs.unordered_map.UnorderedMap.entries_unordered_mut.Code as code
 
 module _ (A B : RattleType) (E : Eq.Ghosts A.Denot) (dE : Dict) (P : PartialEq.Ghosts A.Denot) (dP : Dict) (G : Hash.Ghosts A.Denot) (dG : Dict) where
   abbrev args : Args
@@ -129,10 +131,10 @@ module _ (A B : RattleType) (E : Eq.Ghosts A.Denot) (dE : Dict) (P : PartialEq.G
       lft = named_lft 3 0 tt (κ, (κA, (κB, tt)))
 
       abbrev It : RattleType
-      It = L-type.the_row lft K V
+      It = walk-type.the_row lft K V
 
       abbrev it_laws : Laws It
-      it_laws = L-laws.the_row_laws lft K V (param_laws 0 A LA) (param_laws 1 B LB)
+      it_laws = walk-laws.the_row_laws lft K V (param_laws 0 A LA) (param_laws 1 B LB)
 
       walk : ent 𝓤 ((walk_of 𝓛 ended stayed spec).pre bound) (WpFn 𝓤 H C Λ here (vptr r.ref_ptr.0 r.ref_ptr.1 ∷ []) Post)
       walk =
@@ -162,28 +164,29 @@ module _ (A B : RattleType) (E : Eq.Ghosts A.Denot) (dE : Dict) (P : PartialEq.G
           let z : Run.Ghost = (((κ, (κA, (κB, tt))), (Share.right q, (qA, (qB, tt))), bounds, (lent, tt), (mut_vals lent, tt)), tt) in
           use1 𝓛 (raw (Run.pre z)) (id⊢ 𝓤 _) $
           calls_at ! fm Run gr z (and_then ! (get ! refl) (no_more !)) (λ u.
-          use1 𝓛 (later (some (λ (x : PairLoan A.Denot B.Denot). ((‵ (flft κ (Share.right q)) ⊛ ‵ (flft κA qA) ⊛ ‵ (flft κB qB) ⊛ ‵ ftrue) ⊛ ‵ (It.own_val x (u ∷ []))) ⊛ raw (ensured 𝓛 (g.ended A B) (g.clauses A B 𝓛 at_mem run) z.0.0 z.0.3 tt x)))) (id⊢ 𝓤 _) $ await ! tt $ pick ! (λ x. split ! $ move ! (1 ∷ []) $
-          use1 𝓛 (‵ (follows CP CP δ x.tie (with_values xs)) ⊛ raw (fact 𝓤 (x.from ≡ 0)) ⊛ raw (fact 𝓤 (x.rest ≡ xs.slots))) (ex_e 𝓤 _ (λ ws. snd∗ 𝓤 (sem 𝓛 (lasts (g.ended A B) z.0.0 z.0.3 ws)) _)) $
-          split3 ! $ move ! (1 ∷ []) $ heard ! (x.from ≡ 0) (λ untouched. move ! (1 ∷ []) $ heard ! (x.rest ≡ xs.slots) (λ rest.
-          -- [what the table follows; the tokens with the loan; the right; the open borrow; the rest; obs; auth]
+          use1 𝓛 (later (some (λ (x : It.Denot). ((‵ (flft κ (Share.right q)) ⊛ ‵ (flft κA qA) ⊛ ‵ (flft κB qB) ⊛ ‵ ftrue) ⊛ ‵ (It.own_val x (u ∷ []))) ⊛ raw (ensured 𝓛 (g.ended A B) (g.clauses A B 𝓛 at_mem run) z.0.0 z.0.3 tt x)))) (id⊢ 𝓤 _) $ await ! tt $ pick ! (λ x. split ! $ move ! (1 ∷ []) $
+          use1 𝓛 (‵ (follows CP CP δ x.1 (with_values xs)) ⊛ raw (fact 𝓤 (x.0 ≡ items_of xs)) ⊛ raw (fact 𝓤 (length (items_of xs) < 2 ^ 64))) (ex_e 𝓤 _ (λ ws. snd∗ 𝓤 (sem 𝓛 (lasts (g.ended A B) z.0.0 z.0.3 ws)) _)) $
+          split3 ! $ move ! (1 ∷ []) $ heard ! (x.0 ≡ items_of xs) (λ pairs. move ! (1 ∷ []) $ heard ! (length (items_of xs) < 2 ^ 64) (λ fits.
+          -- [what the table follows; the tokens with the walk; the right; the open borrow; the rest; obs; auth]
           move ! (3 ∷ 5 ∷ 6 ∷ 2 ∷ 0 ∷ 4 ∷ []) $ group ! 6 $
           use1 𝓛 (later (some (λ (tie : GName). ‵ (flft κ (Share.left q)) ⊛ ‵ (follows W W γ tie (with_values v)))))
-          (closes_named 𝓛 (mem W) (mem CP) (mem CP) (with_values xs) (with_values xs) (with_values v) (λ w. same v d w d'.1) κ (Share.left q) b o b place γ δ x.tie (O.Rest K V P G 𝓛 b o d)
+          (closes_named 𝓛 (mem W) (mem CP) (mem CP) (with_values xs) (with_values xs) (with_values v) (λ w. same v d w d'.1) κ (Share.left q) b o b place γ δ x.1 (O.Rest K V P G 𝓛 b o d)
           (λ w. O.shut K V P G 𝓛 b o (with_values xs w) (written d w) (written_known v d w d'.1)) n (W.coded.code v) (W.coded.code v) v) $ await ! tt $ pick ! (λ tie. split ! $
-          -- [half of κ's token; what the map follows; the tokens with the loan]
+          -- [half of κ's token; what the map follows; the tokens with the walk]
           move ! (2 ∷ []) $ split ! $ split3 ! $ move ! (4 ∷ 0 ∷ []) $ use2 𝓛 (‵ (flft κ q)) (𝓛.lfts.lft_join κ q) $ move ! (2 ∷ []) $ split ! $
-          -- [the token of κB; nothing; that of κ; that of κA; the loan; what the map follows]
+          -- [the token of κB; nothing; that of κ; that of κA; the walk; what the map follows]
           move ! (4 ∷ []) $ peeks ! It (Is It) (shows 𝓛 It) x (u ∷ []) (λ is. let lone = lone_value 𝓛 It it_laws x (u ∷ []) is in
           rewrite ! 0 (λ (us : List Val). ‵ (It.own_val x us)) lone.1 refl $
           lands_as ! (ap only lone.1) refl lone.2 $
-          let new : PairLoan A.Denot B.Denot = record x { tie = tie } in
+          let new : It.Denot = (x.0, tie) in
           use1 𝓛 (‵ (It.own_val new (lone.0 ∷ []))) (renamed lft K V 𝓛 x tie (lone.0 ∷ [])) $
-          -- [the loan; the token of κB; nothing; that of κ; that of κA; what the map follows]
+          -- [the walk; the token of κB; nothing; that of κ; that of κA; what the map follows]
           returns ! (look_at ! 0 refl) $ free_all ! refl $ keep ! (0 ∷ 3 ∷ 4 ∷ 1 ∷ 5 ∷ []) $
           suffices ! _ (ends_at 𝓛 ended stayed spec bound lone.0 new (tt, tt) (tt, tt)) $
           nothing ! $ nothing ! $ fjoin ! $ join ! $ nothing ! $ move ! (4 ∷ 0 ∷ []) $ join ! $ move ! (3 ∷ 0 ∷ []) $ join ! $ move ! (2 ∷ 0 ∷ []) $ join ! $ join ! $ frame ! $
-          use0 𝓛 (raw (fact 𝓤 (new.rest ≡ v.slots))) (fact_i 𝓤 _ (emp 𝓤) (rest ∙ ap (λ (m : Bag). m.slots) d'.1.0)) $
-          use0 𝓛 (raw (fact 𝓤 (new.from ≡ 0))) (fact_i 𝓤 _ (emp 𝓤) untouched) $ move ! (2 ∷ 0 ∷ 1 ∷ []) $ done !))))))))))))
+          use0 𝓛 (raw (fact 𝓤 (length (pairs_of v) < 2 ^ 64))) (fact_i 𝓤 _ (emp 𝓤) (subst (λ m. length (pairs_of m) < 2 ^ 64) d'.1.0 fits)) $
+          use0 𝓛 (raw (fact 𝓤 (HasDistinctKeys P.eq (pairs_of v)))) (fact_i 𝓤 _ (emp 𝓤) (subst (λ m. HasDistinctKeys P.eq (pairs_of m)) d'.1.0 (distinct_pairs P.eq G.hash_input (members xs) d'.1.1))) $
+          use0 𝓛 (raw (fact 𝓤 (new.0 ≡ pairs_of v))) (fact_i 𝓤 _ (emp 𝓤) (pairs ∙ ap pairs_of d'.1.0)) $ move ! (3 ∷ 0 ∷ 1 ∷ 2 ∷ []) $ done !))))))))))))
 
 meets : (A B : RattleType) (E : Eq.Ghosts A.Denot) (dE : Dict) (P : PartialEq.Ghosts A.Denot) (dP : Dict) (G : Hash.Ghosts A.Denot) (dG : Dict) → Laws A → Laws B → {M : Type 1} {𝓤 : Ura M} (𝓛 : Logic 𝓤) (at_mem : Memory → SProp 𝓤) (run : Routine → Fun 𝓤) (𝓣 : Tables 𝓤 𝓛.H)
     → Triple 𝓤 (𝓣.C (#run (lends A B E dE P dP G dG))) (Run A B E dE P dP G dG 𝓛 at_mem run)
@@ -194,9 +197,9 @@ meets A B E dE P dP G dG LA LB {𝓤 = 𝓤} 𝓛 at_mem run 𝓣 gr =
     (walked 𝓛 (ended A B E dE P dP G dG) (stayed A B E dE P dP G dG) (spec A B E dE P dP G dG 𝓛 at_mem run) (WpFn 𝓤 𝓛.H 𝓣.C 𝓣.Λ (here A B E dE P dP G dG)) (λ κs. (mut_vals, tt)) (λ κs. (mut_Tells (named 0) κs.0 (W A B E dE P dP G dG), tt))
     (λ κs qs bounds a g' are. walk A B E dE P dP G dG 𝓛 at_mem run LA LB 𝓣.C 𝓣.Λ (fm_of 𝓤 𝓛.H 𝓛.laws 𝓣) gr κs.0 κs.1.0 κs.1.1.0 qs.0 qs.1.0 qs.1.1.0 bounds a.0))
 
-pub lend_spec : {M : Type 1} → stated.statement M
+pub entries_unordered_mut_spec : {M : Type 1} → stated.statement M
 unfolding tables_of
-lend_spec 𝓤 𝓛 𝓜 𝓡 wired A B LA LB E dE P dP G dG is_eq is_partial is_hash =
+entries_unordered_mut_spec 𝓤 𝓛 𝓜 𝓡 wired A B LA LB E dE P dP G dG is_eq is_partial is_hash =
     let 𝓣 : Tables 𝓤 𝓛.H = tables_of 𝓤 𝓛.H 𝓜 (tables 𝓤 𝓛.H 𝓜 𝓡 𝓡.env) in
     entered 𝓤 𝓛.H (triple_of 𝓛 (F.signature A B E dE P dP G dG) (F.spec A B E dE P dP G dG 𝓛 𝓜.mem 𝓡.returns)) 𝓣.C 𝓣.Λ (#self (args A B E dE P dP G dG)) (here A B E dE P dP G dG) (code.unfolded 𝓤 𝓛.H 𝓜 𝓡 wired (A, (B, tt)) dE dP dG)
-    (meets A B E dE P dP G dG LA LB 𝓛 𝓜.mem 𝓡.returns 𝓣 (loan.met 𝓤 𝓛 𝓜 𝓡 (code.calls-starlark_table::ready_table::pairs::ReadyTable+tuple2+K+V::lend_pairs 𝓡.env wired) A B LA LB))
+    (meets A B E dE P dP G dG LA LB 𝓛 𝓜.mem 𝓡.returns 𝓣 (walks.met 𝓤 𝓛 𝓜 𝓡 (code.calls-starlark_table::ready_table::pairs::ReadyTable+tuple2+K+V::pairs_mut 𝓡.env wired) A B LA LB))
