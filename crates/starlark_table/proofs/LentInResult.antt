@@ -46,10 +46,6 @@ module _ {M : Type 1} {𝓤 : Ura M} (𝓛 : Logic 𝓤) where
     unfolding such_by follows_by
     so_follows γ' F p = qed 𝓛 (‵ (follows R T γ γ' F) ∷ []) ∵ fpack ! ((s : (T.Denot → R.Denot) × R.Denot) × ((w : T.Denot) → P w (s.0 w)) × P₀ s.1) (λ s. follows_by R.Denot T.Denot R.coded.code T.coded.code γ (some γ') s.0.0 s.0.1) ((F, v), p, ends) $ done !
 
-  -- the one machine value of what a type owns
-  pub lone_value : (R : RattleType) → Laws R → (x : R.Denot) (vs : List Val) → Is R x vs → (u : Val) × (vs ≡ u ∷ []) × Good (layout R) u
-  lone_value R L x vs is = one (layout R) vs (subst (λ τs. denote.Laws.Typed τs vs) L.one ((L.lawful 𝓛).typed x vs is))
-
   module _ (R E : RattleType) (v : Val) where
     -- where the type tells its machine value
     pub in_ok_told : (x : R.Denot) (u : Val) → ((vs : List Val) → Is R x vs → (vs ≡ u ∷ []) × Good (layout R) u)
