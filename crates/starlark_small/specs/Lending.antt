@@ -5,7 +5,7 @@ use Rattle.std.specs.declared.cmp.PartialEq as eq
 use Rattle.starlark_hash.specs.declared.hashed.Hashed.{Hashed}
 use Rattle.starlark_lists.specs.Entries.{set_value_at, with_value}
 use Rattle.starlark_vecmap.specs.EntryList.{with_values}
-use Rattle.starlark_small.specs.Insertion.{IsInserted, IsRefused}
+use Rattle.starlark_small.specs.Inserted.{IsInserted, IsRefused}
 use Rattle.starlark_small.specs.Map.{Map}
 use Rattle.starlark_small.specs.contracts.small_map.SmallMap.{the_row}
 

@@ -4,7 +4,7 @@ ghost use Rattle.std.specs.Borrow.{sem};
 ghost use Rattle.std.specs.Option.{option_map};
 ghost use Rattle.starlark_lists.specs.Entries.{match_of, pair_of};
 ghost use Rattle.starlark_hash.specs.HashValue.{key_of};
-ghost use Rattle.starlark_small.specs.Insertion.{IsInserted, IsRefused};
+ghost use Rattle.starlark_small.specs.Inserted.{IsInserted, IsRefused};
 ghost use Rattle.starlark_small.specs.Lending.{lends_inserted, lends_value};
 ghost use Rattle.starlark_small.specs.Map.{own_hashed};
 
