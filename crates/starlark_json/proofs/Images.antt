@@ -11,7 +11,7 @@ use Rattle.starlark_lists.specs.Entries.{Entry, stands_under, set_value_at, matc
 use Rattle.starlark_hash.specs.HashValue.{hash_of, key_of}
 use Rattle.starlark_lists.proofs.PositionLemmas.{position-cons}
 use Rattle.starlark_sets.specs.Set.{Set}
-use Rattle.starlark_small.specs.Insertion.{IsInserted}
+use Rattle.starlark_small.specs.Inserted.{IsInserted}
 use Rattle.starlark_small.specs.Map.{own_hashed}
 use Rattle.starlark_json.specs.Texts.{Text, own_text, text_entry, text_entries}
 

@@ -2,7 +2,7 @@
 ghost use Rattle.std.specs.Prelude.{◌≡◌, ◌↔◌, is_some, Some, None, IfErr, IfOk, IsSome, IsTrue, OnErr, OnOk};
 ghost use Rattle.starlark_lists.specs.Entries.{match_of, value_at};
 ghost use Rattle.starlark_lending.specs.Lending.{with_value_under};
-ghost use Rattle.starlark_small.specs.Insertion.{IsInserted, IsRefused};
+ghost use Rattle.starlark_small.specs.Inserted.{IsInserted, IsRefused};
 ghost use Rattle.starlark_small.specs.Map.{own_hashed};
 
 use crate::put::put;

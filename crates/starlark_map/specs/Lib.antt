@@ -21,7 +21,7 @@ pub use Rattle.starlark_lists.specs.Clone as EntryListClone
 pub use Rattle.starlark_vecmap.specs.Lending as EntryListLending
 pub use Rattle.starlark_table.specs.Table
 pub use Rattle.starlark_small.specs.Map
-pub use Rattle.starlark_small.specs.Insertion
+pub use Rattle.starlark_small.specs.Inserted
 pub use Rattle.starlark_small.specs.Growth
 pub use Rattle.starlark_small.specs.Calling
 pub use Rattle.starlark_small.specs.Iter

@@ -10,7 +10,7 @@ use Rattle.starlark_lists.specs.Entries.{Entry, insert_entry, match_of, set_valu
 use Rattle.starlark_lists.proofs.PositionLemmas.{position-within}
 use Rattle.starlark_small.specs.Growth.{reserved_capacity}
 use Rattle.starlark_small.specs.Index.{unindexed}
-use Rattle.starlark_small.specs.Insertion.{IsInserted, IsRefused}
+use Rattle.starlark_small.specs.Inserted.{IsInserted, IsRefused}
 use Rattle.starlark_small.specs.Map.{GrowsFor, KeepsRoom}
 use Rattle.starlark_sets.specs.Set.{Set, Elements, Adds}
 

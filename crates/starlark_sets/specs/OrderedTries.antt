@@ -3,7 +3,7 @@ use Rattle.std.specs.Prelude.{◌≡◌, ◌<◌, Bool, Option, Some, None, Resu
 use Rattle.std.specs.Option.{option_map}
 use Rattle.starlark_hash.specs.declared.hashed.Hashed.{Hashed}
 use Rattle.starlark_lists.specs.Entries.{entry_key, match_of}
-use Rattle.starlark_small.specs.Insertion.{IsInserted, IsRefused}
+use Rattle.starlark_small.specs.Inserted.{IsInserted, IsRefused}
 use Rattle.starlark_sets.specs.Set.{Elements, Set}
 use Rattle.starlark_sets.specs.declared.ordered_set.tries.TryInsertError.{TryInsertError}
 use Rattle.starlark_sets.specs.declared.ordered_set.tries.TryInsertError.TheVariants.{Occupied, Memory}

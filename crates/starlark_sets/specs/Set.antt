@@ -6,7 +6,7 @@ use Rattle.starlark_hash.specs.declared.hashed.Hashed.{Hashed}
 use Rattle.starlark_lists.specs.Entries.{Entry, entry_at, entry_key, match_of, position_of}
 use Rattle.starlark_hash.specs.HashValue.{hashed}
 use Rattle.starlark_hash.specs.declared.hash_value.StarlarkHashValue.{StarlarkHashValue}
-use Rattle.starlark_small.specs.Insertion.{IsInserted, IsRefused}
+use Rattle.starlark_small.specs.Inserted.{IsInserted, IsRefused}
 use Rattle.starlark_small.specs.Map.{Map}
 
 -- the elements in order, each under its hash, with the room, the capacity and whether there is an index

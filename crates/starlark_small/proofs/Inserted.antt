@@ -7,7 +7,7 @@ use Rattle.starlark_hash.specs.declared.hashed.Hashed.{Hashed}
 use Rattle.starlark_hash.specs.HashValue.{key_of}
 use Rattle.starlark_lists.specs.Entries.{Entry, entry_value, pair_of, set_value_at, value_at}
 use Rattle.starlark_lists.proofs.EntryLemmas.{length-set_value_at}
-use Rattle.starlark_small.specs.Insertion.{IsInserted}
+use Rattle.starlark_small.specs.Inserted.{IsInserted}
 use Rattle.starlark_small.specs.Map.{Map}
 
 module _ {K V : Type 0} where

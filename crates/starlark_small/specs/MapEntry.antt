@@ -12,7 +12,7 @@ use Rattle.starlark_hash.specs.declared.no_room.NoRoom.{NoRoom}
 use Rattle.starlark_lists.specs.Entries.{entry_key, entry_value, match_of, set_value_at}
 use Rattle.starlark_hash.specs.HashValue.{key_of}
 use Rattle.starlark_lists.proofs.EntryLemmas.{length-set_value_at}
-use Rattle.starlark_small.specs.Insertion.{IsInserted, IsRefused}
+use Rattle.starlark_small.specs.Inserted.{IsInserted, IsRefused}
 use Rattle.starlark_small.specs.Map.{Map}
 use Rattle.starlark_small.specs.contracts.entry.OccupiedEntry as occupied
 use Rattle.starlark_small.specs.contracts.small_map.SmallMap.{the_row}

@@ -1,7 +1,7 @@
 //! New elements of a `SmallSet` that no look-up precedes.
 ghost use Rattle.std.specs.Prelude.{◌≡◌, None, IfErr, OnErr, OnOk};
 ghost use Rattle.starlark_lists.specs.Entries.{match_of};
-ghost use Rattle.starlark_small.specs.Insertion.{IsInserted, IsRefused};
+ghost use Rattle.starlark_small.specs.Inserted.{IsInserted, IsRefused};
 ghost use Rattle.starlark_small.specs.Map.{own_hashed};
 
 use super::SmallSet;

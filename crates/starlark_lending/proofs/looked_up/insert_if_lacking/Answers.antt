@@ -1,6 +1,6 @@
 use Rattle.std.specs.Prelude.{OnOk}
 use Rattle.std.proofs.Common.{rules, subst}
-use Rattle.starlark_small.specs.Insertion.{IsInserted}
+use Rattle.starlark_small.specs.Inserted.{IsInserted}
 use Rattle.starlark_lending.proofs.LookedUp.{inserted_as}
 use Rattle.starlark_lending.proofs.looked_up.insert_if_lacking.Goals as goal
 

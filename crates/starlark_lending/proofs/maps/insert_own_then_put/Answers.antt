@@ -1,6 +1,6 @@
 use Rattle.std.specs.Prelude.{OnOk}
 use Rattle.std.proofs.Common.{rules, subst}
-use Rattle.starlark_small.specs.Insertion.{IsInserted}
+use Rattle.starlark_small.specs.Inserted.{IsInserted}
 use Rattle.starlark_small.specs.Map.{own_hashed}
 use Rattle.starlark_lending.proofs.maps.insert_own_then_put.Goals as goal
 

@@ -1,6 +1,6 @@
 use Rattle.std.specs.Prelude.{OnOk}
 use Rattle.std.proofs.Common.{rules, subst}
-use Rattle.starlark_small.specs.Insertion.{IsInserted}
+use Rattle.starlark_small.specs.Inserted.{IsInserted}
 use Rattle.starlark_lending.proofs.maps.insert_then_put.Goals as goal
 
 pub returns-in-Ok-clause-inserted : goal.returns-in-Ok-clause-inserted
