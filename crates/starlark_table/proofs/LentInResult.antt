@@ -1,5 +1,5 @@
 -- A `Result` of a key and a value that are lent: a clause of one name is made at `Ok` and at `Err`, a `Result` that a call gave is opened, and a reference is given up. Assumes `Logic`.
-use mathlib.Core.Path.{◌≡◌, refl, ap, subst, ◌∙◌}
+use mathlib.Core.Path.{◌≡◌, refl, ap, ◌∙◌}
 use Prim.Native.Nat.{ℕ}
 use mathlib.Core.Logic.{◌⊎◌, inl, inr}
 use mathlib.Core.List.{List, [], ◌∷◌, ◌++◌}
@@ -20,7 +20,7 @@ use denote.Ref.{Bor, MutBor, MutRef, ShrRef, mut_vals, mut_Tells, shr_Tells}
 use denote.Param.{layout}
 use denote.Param.Laws.{Laws}
 use denote.Steps.{nothing, peeks, only}
-use Rattle.core.proofs.cell.Inside.{one, Good}
+use Rattle.core.proofs.cell.Inside.{Good}
 use denote.Struct.Declared.{shape}
 use denote.Struct.Struct.{within}
 use denote.Struct.Tuple.{Tuple, tuple_type}

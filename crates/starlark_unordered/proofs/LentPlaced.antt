@@ -30,7 +30,7 @@ use denote.Struct.Tuple.{Tuple, tuple_laws}
 use Rattle.core.proofs.cell.Inside.{Good}
 use Rattle.core.proofs.result.Result.TheLaws.{the_row_laws as result_laws}
 use Rattle.core.specs.contracts.result.Result as RS
-use Rattle.starlark_table.proofs.LentInResult.{lone_value}
+use Rattle.starlark_columns.proofs.LoneValue.{lone_value}
 
 pub place_laws : Laws usize
 place_laws = of_field usize-field usize-laws refl (copy_shared usize-field usize-copy)

@@ -61,7 +61,8 @@ use Rattle.starlark_unordered.specs.contracts.unordered_map.UnorderedMap as U
 use Rattle.starlark_unordered.specs.contracts.unordered_map.UnorderedMap.pair_at_mut as e
 use Rattle.starlark_unordered.specs.contracts.raw_entry.lend_placed as F
 use Rattle.starlark_unordered.specs.contracts.raw_entry.lend_placed.Key.{name as #self}
-use Rattle.starlark_table.proofs.LentInResult.{given_up, so_rests, so_follows, lone_value, in_ok_told, in_err, entry_val, entry_told, which}
+use Rattle.starlark_columns.proofs.LoneValue.{lone_value}
+use Rattle.starlark_table.proofs.LentInResult.{given_up, so_rests, so_follows, in_ok_told, in_err, entry_val, entry_told, which}
 use Rattle.starlark_unordered.proofs.LentPlaced.{Placed, placed_laws, placed_blank, pair_val, pair_opened, place_laws}
 use Rattle.starlark_unordered.proofs.unordered_map.UnorderedMap.TheLaws as map_laws
 use Rattle.starlark_unordered.proofs.unordered_map.UnorderedMap.pair_at_mut.Symbol.{name as #pair}

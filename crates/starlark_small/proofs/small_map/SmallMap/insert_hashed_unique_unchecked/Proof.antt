@@ -73,7 +73,8 @@ use Rattle.starlark_small.specs.contracts.small_map.SmallMap.push as p
 use Rattle.starlark_small.specs.contracts.small_map.SmallMap.entry_mut as e
 use Rattle.starlark_small.specs.contracts.small_map.SmallMap.insert_hashed_unique_unchecked as F
 use Rattle.starlark_small.specs.contracts.small_map.SmallMap.insert_hashed_unique_unchecked.Key.{name as #self}
-use Rattle.starlark_table.proofs.LentInResult.{given_up, so_rests, so_follows, lone_value, in_ok_told, in_err, entry_val, entry_told, which}
+use Rattle.starlark_columns.proofs.LoneValue.{lone_value}
+use Rattle.starlark_table.proofs.LentInResult.{given_up, so_rests, so_follows, in_ok_told, in_err, entry_val, entry_told, which}
 use Rattle.starlark_small.proofs.Inserted.{with_value_at, within_inserted, inserted_written, inserted_shown}
 use Rattle.starlark_small.proofs.small_map.SmallMap.push.Symbol.{name as #push}
 use Rattle.starlark_small.proofs.small_map.SmallMap.push.Met as push

@@ -63,7 +63,7 @@ use Rattle.starlark_small.specs.contracts.small_map.SmallMap.insert_hashed_uniqu
 use Rattle.starlark_small.specs.contracts.small_map.unique.without_hash as w
 use Rattle.starlark_small.specs.contracts.small_map.SmallMap.insert_unique_unchecked as F
 use Rattle.starlark_small.specs.contracts.small_map.SmallMap.insert_unique_unchecked.Key.{name as #self}
-use Rattle.starlark_table.proofs.LentInResult.{lone_value}
+use Rattle.starlark_columns.proofs.LoneValue.{lone_value}
 use Rattle.starlark_small.proofs.Unhashed.{ok_unhashed, full_unhashed, back_unhashed, lent_unhashed}
 use Rattle.starlark_small.proofs.small_map.SmallMap.insert_hashed_unique_unchecked.Symbol.{name as #insert}
 use Rattle.starlark_small.proofs.small_map.SmallMap.insert_hashed_unique_unchecked.Met as insert

@@ -60,7 +60,8 @@ use Rattle.starlark_columns.proofs.loan.Loan.TheLaws as loan_laws
 use Rattle.starlark_table.specs.Layout.{limit, IsTagged}
 use Rattle.starlark_table.specs.Sharing.{Member, Tags, tags_stay, with_kept}
 use Rattle.starlark_table.proofs.BesideClose.{closes_beside}
-use Rattle.starlark_table.proofs.LentInResult.{as_tuple, lone_value}
+use Rattle.starlark_columns.proofs.LoneValue.{lone_value}
+use Rattle.starlark_table.proofs.LentInResult.{as_tuple}
 use Rattle.starlark_table.proofs.Shape.{reshaped}
 use Rattle.starlark_table.proofs.TableOpens as O
 use Rattle.starlark_table.proofs.WrittenSlots.{again-kept_places, length-kept_places, shape-kept_places}

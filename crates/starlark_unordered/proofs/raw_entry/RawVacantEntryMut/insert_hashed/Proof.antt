@@ -64,7 +64,7 @@ use Rattle.starlark_unordered.specs.contracts.raw_entry.RawVacantEntryMut.place_
 use Rattle.starlark_unordered.specs.contracts.raw_entry.lend_placed as e
 use Rattle.starlark_unordered.specs.contracts.raw_entry.RawVacantEntryMut.insert_hashed as F
 use Rattle.starlark_unordered.specs.contracts.raw_entry.RawVacantEntryMut.insert_hashed.Key.{name as #self}
-use Rattle.starlark_table.proofs.LentInResult.{lone_value}
+use Rattle.starlark_columns.proofs.LoneValue.{lone_value}
 use Rattle.starlark_unordered.proofs.LentPlaced.{both_in, Placed, placed_laws, mut_laws, shr_laws, good_value, so_weakens}
 use Rattle.starlark_unordered.proofs.unordered_map.UnorderedMap.TheLaws as the_map_laws
 use Rattle.starlark_unordered.proofs.raw_entry.RawVacantEntryMut.TheLaws as vacant_laws

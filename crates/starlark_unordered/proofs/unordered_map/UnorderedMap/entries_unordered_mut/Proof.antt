@@ -51,7 +51,7 @@ use Rattle.starlark_table.proofs.ready_table.pairs.ReadyTable+tuple2+K+V.pairs_m
 use Rattle.starlark_table.proofs.ready_table.pairs.ReadyTable+tuple2+K+V.pairs_mut.Met as walks
 use Rattle.starlark_table.proofs.pairs_mut.PairsMut.TheLaws as walk-laws
 use Rattle.starlark_columns.proofs.NamedClose.{closes_named}
-use Rattle.starlark_table.proofs.LentInResult.{lone_value}
+use Rattle.starlark_columns.proofs.LoneValue.{lone_value}
 use Rattle.starlark_table.proofs.WalkRenamed.{renamed}
 use Rattle.starlark_unordered.specs.Pairs.{pairs_of, HasDistinctKeys}
 use Rattle.starlark_unordered.specs.contracts.unordered_map.UnorderedMap.entries_unordered_mut as F
