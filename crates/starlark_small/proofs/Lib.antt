@@ -1,5 +1,6 @@
 pub mod Positions
 pub mod Transport
+mod Unhashed
 pub mod Keeping
 pub mod Moving
 pub mod Emptying

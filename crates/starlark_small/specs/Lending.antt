@@ -1,13 +1,20 @@
 -- What a `SmallMap` ends as, once a reference into it has ended.
-use Rattle.std.specs.Prelude.{ℕ, Option, Result, OnOk, OnErr}
+use Rattle.std.specs.Prelude.{ℕ, Option, Result, Ok, Err, OnOk, OnErr}
 use Rattle.std.specs.Borrow.{Fml, RattleType, Bor, MutBor, GName, Lends, LendsIf, follows, follows_so, name_if_ok}
 use Rattle.std.specs.declared.cmp.PartialEq as eq
+use Rattle.starlark_hash.specs.HashValue.{key_of}
 use Rattle.starlark_hash.specs.declared.hashed.Hashed.{Hashed}
+use Rattle.starlark_hash.specs.declared.no_room.NoRoom.{NoRoom}
 use Rattle.starlark_lists.specs.Entries.{set_value_at, with_value}
 use Rattle.starlark_vecmap.specs.EntryList.{with_values}
 use Rattle.starlark_small.specs.Inserted.{IsInserted, IsRefused}
 use Rattle.starlark_small.specs.Map.{Map}
 use Rattle.starlark_small.specs.contracts.small_map.SmallMap.{the_row}
+
+-- an answer to an insertion, where a refused key comes back without its hash
+abbrev pub unhashed : {T K V : Type 0} → Result T (NoRoom (Hashed K × V)) → Result T (NoRoom (K × V))
+unhashed (Ok x) = Ok x
+unhashed (Err e) = Err (record { 0 = (key_of e.0.0, e.0.1) })
 
 module _ (K V : RattleType) (g : eq.Ghosts K.Denot) (s : MutBor (Map K.Denot V.Denot)) where
   -- the value at the place ends as what is left behind the reference, and all else stays

@@ -5,7 +5,7 @@ ghost use Rattle.std.specs.Option.{option_map};
 ghost use Rattle.starlark_lists.specs.Entries.{match_of, pair_of};
 ghost use Rattle.starlark_hash.specs.HashValue.{key_of};
 ghost use Rattle.starlark_small.specs.Inserted.{IsInserted, IsRefused};
-ghost use Rattle.starlark_small.specs.Lending.{lends_inserted, lends_value};
+ghost use Rattle.starlark_small.specs.Lending.{lends_inserted, lends_value, unhashed};
 ghost use Rattle.starlark_small.specs.Map.{own_hashed};
 
 use super::SmallMap;
@@ -28,10 +28,7 @@ impl<K: Eq, V> SmallMap<K, V> {
         ensures full { OnErr result (self.old.room ≡ 0) }
         ensures handed_back { IfErr result (λ refused. refused.0 ≡ (key, value)) }
     {
-        match self.push_own(key, value) {
-            Ok(index) => Ok(self.entry_mut(index)),
-            Err(refused) => Err(refused),
-        }
+        without_hash(self.insert_hashed_unique_unchecked(Hashed::new(key), value))
     }
 
     /// Inserts a key that is new under this hash, and lends it with its value. The entry goes last, and the map ends
@@ -101,5 +98,15 @@ impl<K: Eq, V> SmallMap<K, V> {
     {
         let (key, value) = self.entries.get_unchecked_mut(index);
         (key.into_key(), value)
+    }
+}
+
+// The same answer, where a refused key comes back without its hash.
+fn without_hash<T, K, V>(answer: Result<T, NoRoom<(Hashed<K>, V)>>) -> Result<T, NoRoom<(K, V)>>
+    ensures { result ≡ unhashed answer }
+{
+    match answer {
+        Ok(lent) => Ok(lent),
+        Err(NoRoom((key, value))) => Err(NoRoom((key.into_key(), value))),
     }
 }

@@ -1,91 +1,98 @@
--- `insert_unique_unchecked` meets its contract, at any key and value types: the map is lent to the call that puts the entry last under the key's own hash and comes back, and is then lent for good to the call that shows it. Assumes `Logic`.
-use mathlib.Core.Path.{◌≡◌, refl, sym, subst}
-use mathlib.Core.Logic.{inl, inr}
-use Prim.Native.Nat.{ℕ, ◌<◌, ◌^◌}
-use native.Mathlib.Nat.{suc-ne-zero}
+-- `insert_unique_unchecked` meets its contract, at any key and value types: the key is put under its own hash, the next call inserts it and lends it with its value, and the last takes a refused key out of its hash. Assumes `Logic`.
+use mathlib.Core.Path.{◌≡◌, refl, sym, subst, ap}
 use mathlib.Core.List.{List, [], ◌∷◌}
-use lib.ListN.{length}
-use lib.Dec.{lit<}
 use seplogic.Ra.Ura.{Ura}
-use base.Fraction.{full_share}
-use base.FractionLaws.{common}
-use base.Share
-use mir.Syntax.{Fn, Args, Dict, a_type, dcons, dnil, named, w64}
+use mir.Syntax.{Fn, Args, Dict, Ty, a_type, dcons, dnil, named, tcons, tnil, ty_ptr, ty_struct}
 use mir.MapTy.{inst_fn}
-use mir.Val.{Val, vint, vptr, vcons, vnil, of_list}
-use base.Logic.{SProp, ent, sep, emp, wand, id⊢, apply∗, ex_e, snd∗}
-use base.Fml.{Lft, GName, Share, ftrue, fdead, flft, fres}
+use mir.Val.{Val, vptr}
+use base.Logic.{SProp, ent, emp, id⊢, ex_e, snd∗}
+use base.Fml.{Fml, Lft, Share, ftrue, flft}
 use prog.Memory.{Memory}
 use prog.Routine.{Routine}
-use prog.Wp.{Env, Calls, Loops, WpFn}
+use prog.Wp.{Calls, Loops, WpFn}
 use types.Logic.{Logic, sem}
-use types.Match.{live, vrt, in_variant, by_variants}
-use types.Tokens.{lft_new, lft_end, lft-common}
-use contract.BorrowLft.{◌⊑◌, ⊑_trans, meet_⊑_left, meet_⊑_right}
+use contract.BorrowLft.{◌⊑◌, ⊑_meet, ⊑_refl, ⊑_trans}
 use contract.Monad.{Fun, fact, fact_i}
 use contract.Running.{tables}
 use sound.WpLaws.{FmC}
-use types.Kit.{‵, raw, ◌⊛◌, some, given, later, at_ret, ◌$◌, ◌∵◌, !, qed, move, keep, drop, use0, use1, use2, use3, split, split3, join, pick, learn, fsplit, fsplit3, fjoin, suffices, frame, await, rewrite, group, done}
-use types.Part.{whole, agg}
-use types.Run.{stop, fld, addr, lit, of_opd, and_then, no_more, first, exec, returns, enter}
-use types.ByLocal.{alloc_all, pass_all, free_all, look_at, get, get_in, get_tag, through, sets, sets_last, lands_as, env}
-use denote.Exit.{no}
-use denote.RattleType.{RattleType, owns}
-use denote.Builtin.{usize}
-use denote.Follow.{follows}
-use denote.Lend.{lends_again, comes_back, LentAgain}
-use denote.Param.{param, bounded, layout}
-use denote.Param.Laws.{Laws, param_laws}
-use denote.Plain.{uint_Makes, uint_Tells}
-use denote.Ref.{Bor, MutBor, MutRef, ShrRef, mut_vals, mut_Tells}
+use types.Kit.{‵, raw, ◌⊛◌, some, later, ◌$◌, ◌∵◌, !, qed, move, keep, use0, use1, split, split3, join, pick, fsplit, fsplit3, fjoin, suffices, frame, await, rewrite, group, done}
+use types.Run.{stop, addr, of_opd, and_then, no_more, returns, enter}
+use types.ByLocal.{alloc_all, pass_all, free_all, look_at, get, through, sets, lands_as}
+use denote.Exit.{no, yes}
+use denote.RattleType.{RattleType, lives_all, owns}
+use denote.Laws.{Is, shows}
+use denote.Param.{arg, param, bounded, layout, layouts}
+use denote.Param.Laws.{Laws, arg_laws, is_one, of_field, param_laws, row_shared}
+use denote.Param.Lives.{in_all}
+use denote.Param.Shared.{copy_shared, mut_ref_shared}
+use denote.Ref.{Bor, MutBor, MutRef, NamedLft, ShrRef, mut_vals, mut_Tells}
 use denote.Signature.{plain, types_at, mut_ref_to}
-use denote.Steps.{nothing, owned, heard}
+use denote.Steps.{nothing, heard, peeks, only}
+use denote.Struct.Field.{mut_ref_field, shr_ref_field}
+use denote.Struct.Laws.{mut_ref_laws, shr_ref_laws, shr_ref_copy}
 use denote.Struct.Tuple.{Tuple, tuple_laws}
 use denote.Triple.Call.{calls_at}
-use denote.Triple.Clauses.{Clauses, Ended, Lasts, ensured, lasts}
+use denote.Triple.Clauses.{Clauses, Ended, ensured, lasts}
 use denote.Triple.Spec.{triple_of}
 use denote.Triple.Statement.{Contract, Triple}
 use denote.Triple.Table.{framed}
 use denote.Triple.Walked.{Stays, stay_dropped, walk_of, ends_at, Goes-spent_ref}
 use Rattle.core.proofs.alloc.Calls.{Goes-blank}
 use Rattle.core.proofs.cell.Inside.{Good}
-use Rattle.core.proofs.result.Made.{Ok-of, Err-of}
+use Rattle.core.proofs.result.Result.TheLaws.{the_row_laws as result_laws}
 use Rattle.core.specs.contracts.result.Result as RS
-use Rattle.std_alloc.proofs.ResultValues.{and_tt}
-use Rattle.std.proofs.VecSteps.Shapes.{after}
 use Rattle.std.proofs.raw_atomic.Walks.{proved_at}
-use Rattle.std.specs.Prelude.{Result, Ok, Err, Some, None, IfOk, IfErr, OnOk, OnErr, option_map, slice_get}
+use Rattle.std.specs.Prelude.{Result, None, IfOk, IfErr, OnErr}
 use Rattle.std.specs.declared.cmp.Eq as Eq
 use Rattle.std.specs.declared.cmp.PartialEq as PartialEq
 use Rattle.std.specs.declared.hash.Hash as Hash
+use Rattle.starlark_hash.proofs.hashed.Hashed.TheLaws as hashed_laws
+use Rattle.starlark_hash.proofs.hashed.Hashed.new.Symbol.{name as #hash}
+use Rattle.starlark_hash.proofs.hashed.Hashed.new.Met as hash
 use Rattle.starlark_hash.proofs.no_room.NoRoom.TheLaws as room_laws
-use Rattle.starlark_lists.specs.Entries.{pair_of, match_of}
+use Rattle.starlark_hash.specs.contracts.hashed.Hashed as H
+use Rattle.starlark_hash.specs.contracts.hashed.Hashed.new as n
 use Rattle.starlark_hash.specs.contracts.no_room.NoRoom as N
 use Rattle.starlark_hash.specs.declared.hashed.Hashed.{Hashed}
 use Rattle.starlark_hash.specs.declared.no_room.NoRoom.{NoRoom}
-use Rattle.starlark_small.specs.Inserted.{IsInserted, IsRefused}
+use Rattle.starlark_lists.specs.Entries.{match_of}
 use Rattle.starlark_small.specs.Map.{Map, own_hashed}
-use Rattle.starlark_small.specs.Lending.{lends_inserted}
+use Rattle.starlark_small.specs.Lending.{lends_inserted, unhashed}
 use Rattle.starlark_small.specs.contracts.small_map.SmallMap as S
-use Rattle.starlark_small.specs.contracts.small_map.SmallMap.push_own as p
-use Rattle.starlark_small.specs.contracts.small_map.SmallMap.entry_mut as e
+use Rattle.starlark_small.specs.contracts.small_map.SmallMap.insert_hashed_unique_unchecked as p
+use Rattle.starlark_small.specs.contracts.small_map.unique.without_hash as w
 use Rattle.starlark_small.specs.contracts.small_map.SmallMap.insert_unique_unchecked as F
 use Rattle.starlark_small.specs.contracts.small_map.SmallMap.insert_unique_unchecked.Key.{name as #self}
-use Rattle.starlark_table.proofs.LentInResult.{given_up, so_rests, so_follows, lone_value, in_ok_told, in_err, entry_val, entry_told, which}
-use Rattle.starlark_small.proofs.Inserted.{with_value_at, within_inserted, inserted_written, inserted_shown}
-use Rattle.starlark_small.proofs.small_map.SmallMap.push_own.Symbol.{name as #push}
-use Rattle.starlark_small.proofs.small_map.SmallMap.push_own.Met as push
-use Rattle.starlark_small.proofs.small_map.SmallMap.entry_mut.Symbol.{name as #entry}
-use Rattle.starlark_small.proofs.small_map.SmallMap.entry_mut.Met as entry
+use Rattle.starlark_table.proofs.LentInResult.{lone_value}
+use Rattle.starlark_small.proofs.Unhashed.{ok_unhashed, full_unhashed, back_unhashed, lent_unhashed}
+use Rattle.starlark_small.proofs.small_map.SmallMap.insert_hashed_unique_unchecked.Symbol.{name as #insert}
+use Rattle.starlark_small.proofs.small_map.SmallMap.insert_hashed_unique_unchecked.Met as insert
+use Rattle.starlark_small.proofs.small_map.unique.without_hash.Symbol.{name as #without}
+use Rattle.starlark_small.proofs.small_map.unique.without_hash.Met as without
 use Rattle.starlark_small.proofs.small_map.SmallMap.insert_unique_unchecked.Statement.{statement}
 use Rattle.starlark_small.proofs.small_map.SmallMap.insert_unique_unchecked.Code as code
+
+mut_laws : (κ : Lft) (R : RattleType) → Laws R → Laws (MutRef (named 0) κ R)
+mut_laws κ R L = let a : NamedLft = record { mir = named 0; lft = κ } in let one = is_one R L in of_field (mut_ref_field a R one) (mut_ref_laws a R one) refl (mut_ref_shared a R one (row_shared R L))
+
+shr_laws : (κ : Lft) (R : RattleType) → Laws R → Laws (ShrRef (named 0) κ R)
+shr_laws κ R L =
+    let a : NamedLft = record { mir = named 0; lft = κ } in let one = is_one R L in
+    of_field (shr_ref_field a R one) (shr_ref_laws a R one) refl (copy_shared (shr_ref_field a R one) (shr_ref_copy a R one L.shr_laws))
+
+-- the one machine value of what a type owns is a good one
+good_value : {M : Type 1} {𝓤 : Ura M} (𝓛 : Logic 𝓤) (R : RattleType) → Laws R → (x : R.Denot) (v : Val) → Is R x (v ∷ []) → Good (layout R) v
+good_value 𝓛 R L x v is = let t = lone_value 𝓛 R L x (v ∷ []) is in subst (Good (layout R)) (sym (ap only t.1)) t.2
 
 module _ (K V : RattleType) (E : Eq.Ghosts K.Denot) (dE : Dict) (P : PartialEq.Ghosts K.Denot) (dP : Dict) (G : Hash.Ghosts K.Denot) (dG : Dict) where
   abbrev args : Args
   args = bounded (a_type ∷ a_type ∷ []) (K, (V, tt)) (dcons dE (dcons dP (dcons dG dnil)))
 
-  abbrev shown_args : Args
-  shown_args = bounded (a_type ∷ a_type ∷ []) (K, (V, tt)) (dcons dE (dcons dP dnil))
+  abbrev hash_args : Args
+  hash_args = bounded (a_type ∷ []) (K, tt) (dcons dG (dcons dE (dcons dP dnil)))
+
+  abbrev insert_args : Args
+  insert_args = bounded (a_type ∷ a_type ∷ []) (K, (V, tt)) (dcons dE (dcons dP dnil))
 
   abbrev here : Fn
   here = inst_fn args code.function
@@ -99,42 +106,68 @@ module _ (K V : RattleType) (E : Eq.Ghosts K.Denot) (dE : Dict) (P : PartialEq.G
   abbrev V' : RattleType
   V' = param 1 V
 
+  abbrev Key : RattleType
+  Key = H.the_row K'
+
   abbrev R : RattleType
   R = S.the_row K' V' P
 
   abbrev Back : RattleType
   Back = N.the_row (Tuple (K' ∷ V' ∷ []))
 
+  abbrev HashedBack : RattleType
+  HashedBack = N.the_row (Tuple (Key ∷ V' ∷ []))
+
   abbrev Pair : Lft → RattleType
   Pair κ = Tuple (ShrRef (named 0) κ K' ∷ MutRef (named 0) κ V' ∷ [])
+
+  -- the type of the pair, as a call passes it
+  abbrev nameless : Ty
+  nameless = ty_struct [] (tcons ty_ptr (tcons ty_ptr tnil))
+
+  abbrev Passed : Lft → RattleType
+  Passed κ = arg nameless yes (Pair κ)
+
+  abbrev without_args : Lft → Args
+  without_args κ = layouts (a_type ∷ a_type ∷ a_type ∷ []) (Passed κ, (K, (V, tt)))
+
+  abbrev Got : Type 0
+  Got = Result (Bor K.Denot × MutBor V.Denot) (NoRoom (Hashed K.Denot × V.Denot))
 
   abbrev Out : Type 0
   Out = Result (Bor K.Denot × MutBor V.Denot) (NoRoom (K.Denot × V.Denot))
 
-  abbrev back_laws : Laws K → Laws V → Laws Back
-  back_laws LK LV = room_laws.the_row_laws (Tuple (K' ∷ V' ∷ [])) (tuple_laws (K' ∷ V' ∷ []) (param_laws 0 K LK, (param_laws 1 V LV, tt)))
+  key_laws : Laws K → Laws Key
+  key_laws LK = hashed_laws.the_row_laws K' (param_laws 0 K LK)
+
+  pair_laws : Laws K → Laws V → (κ : Lft) → Laws (Pair κ)
+  pair_laws LK LV κ = tuple_laws (ShrRef (named 0) κ K' ∷ MutRef (named 0) κ V' ∷ []) (shr_laws κ K' (param_laws 0 K LK), (mut_laws κ V' (param_laws 1 V LV), tt))
+
+  got_laws : Laws K → Laws V → (κ : Lft) → Laws (RS.the_row (Pair κ) HashedBack)
+  got_laws LK LV κ = result_laws (Pair κ) HashedBack (pair_laws LK LV κ) (room_laws.the_row_laws (Tuple (Key ∷ V' ∷ [])) (tuple_laws (Key ∷ V' ∷ []) (key_laws LK, (param_laws 1 V LV, tt))))
+
+  out_laws : Laws K → Laws V → (κ : Lft) → Laws (RS.the_row (Pair κ) Back)
+  out_laws LK LV κ = result_laws (Pair κ) Back (pair_laws LK LV κ) (room_laws.the_row_laws (Tuple (K' ∷ V' ∷ [])) (tuple_laws (K' ∷ V' ∷ []) (param_laws 0 K LK, (param_laws 1 V LV, tt))))
 
   abbrev stayed : Stays ended.signature.params ended.kept
   stayed = (stay_dropped (mut_ref_to (0 ∷ []) tt (plain (λ _. R))) no, (stay_dropped (plain (λ _. K')) no, (stay_dropped (plain (λ _. V')) no, tt)))
 
   module _ {M : Type 1} {𝓤 : Ura M} (𝓛 : Logic 𝓤) (at_mem : Memory → SProp 𝓤) (run : Routine → Fun 𝓤) where
-    open 𝓛 use {A}
-
     abbrev spec : Clauses 𝓤 ended
     spec = F.clauses K V E dE P dP G dG 𝓛 at_mem run
 
-    abbrev Puts : Contract 𝓤
-    Puts = triple_of 𝓛 (p.signature K V E dE P dP G dG) (p.spec K V E dE P dP G dG 𝓛 at_mem run)
+    abbrev Hashes : Contract 𝓤
+    Hashes = triple_of 𝓛 (n.signature K) (n.spec K G dG E dE P dP 𝓛 at_mem run)
 
-    abbrev Putting : Ended
-    Putting = p.ended K V E dE P dP G dG
+    abbrev Inserts : Contract 𝓤
+    Inserts = triple_of 𝓛 (p.signature K V E dE P dP) (p.spec K V E dE P dP 𝓛 at_mem run)
 
-    abbrev Shows : Contract 𝓤
-    Shows = triple_of 𝓛 (e.signature K V E dE P dP) (e.spec K V E dE P dP 𝓛 at_mem run)
+    abbrev Withouts : Lft → Contract 𝓤
+    Withouts κ = triple_of 𝓛 (w.signature (Passed κ) K V) (w.spec (Passed κ) K V 𝓛 at_mem run)
 
-    module _ (LK : Laws K) (LV : Laws V) (C : Calls 𝓤 𝓛.H) (Λ : Loops 𝓤 𝓛.H) (fm : FmC 𝓤 𝓛.H 𝓛.laws C)
-        (puts : Triple 𝓤 (C (#push args)) Puts) (shows : Triple 𝓤 (C (#entry shown_args)) Shows)
-        (κ κK κV : Lft) (q qK qV : Share) (bounds : (κ ⊑ κK) × ((κ ⊑ κV) × Unit {0})) (r : MutBor (Map K.Denot V.Denot)) (key : K.Denot) (value : V.Denot)
+    module _ (LK : Laws K) (LV : Laws V) (C : Calls 𝓤 𝓛.H) (Λ : Loops 𝓤 𝓛.H) (fm : FmC 𝓤 𝓛.H 𝓛.laws C) (κ κK κV : Lft)
+        (hashes : Triple 𝓤 (C (#hash hash_args)) Hashes) (inserts : Triple 𝓤 (C (#insert insert_args)) Inserts) (withouts : Triple 𝓤 (C (#without (without_args κ))) (Withouts κ))
+        (q qK qV : Share) (bounds : (κ ⊑ κK) × ((κ ⊑ κV) × Unit {0})) (r : MutBor (Map K.Denot V.Denot)) (key : K.Denot) (value : V.Denot)
         (k : Val) (k_good : Good (layout K') k) (v : Val) (v_good : Good (layout V') v) where
       abbrev bound : (walk_of 𝓛 ended stayed spec).Ghost
       bound = (((κ, (κK, (κV, tt))), (q, (qK, (qV, tt))), bounds, (r, (key, (value, tt))), (mut_vals r, (k ∷ [], (v ∷ [], tt)))), tt)
@@ -144,125 +177,60 @@ module _ (K V : RattleType) (E : Eq.Ghosts K.Denot) (dE : Dict) (P : PartialEq.G
 
       walk : ent 𝓤 ((walk_of 𝓛 ended stayed spec).pre bound) (WpFn 𝓤 𝓛.H C Λ here (vptr r.ref_ptr.0 r.ref_ptr.1 ∷ k ∷ v ∷ []) Post)
       walk =
-          let b = r.ref_ptr.0 in let o = r.ref_ptr.1 in let m = r.now in let γ = r.ghost_name in let ql = Share.left q in let qr = Share.right q in
-          let qq : Share = (common full_share qr).0 in let eq = P.eq in let under : Hashed K.Denot = own_hashed G.hash_input key in
-          let Ref = λ (κ' : Lft) (x : MutBor (Map K.Denot V.Denot)). (MutRef (named 0) κ' R).own_val x (vptr b o ∷ []) in
+          let m = r.now in let under : Hashed K.Denot = own_hashed G.hash_input key in
           qed 𝓛 (((‵ (flft κ q) ⊛ ‵ (flft κK qK) ⊛ ‵ (flft κV qV) ⊛ ‵ ftrue) ⊛ ‵ (owns (types_at ended.signature.params bound.0.0) bound.0.3 bound.0.4))
-          ∷ (raw (fact 𝓤 (κK ⊑ K.lives)) ⊛ raw (fact 𝓤 (κV ⊑ V.lives)) ⊛ raw (fact 𝓤 (match_of eq m.entries under ≡ None))) ∷ []) ∵
-          move ! (1 ∷ []) $ split3 ! $ heard ! (κK ⊑ K.lives) (λ lK. heard ! (κV ⊑ V.lives) (λ lV. heard ! (match_of eq m.entries under ≡ None) (λ absent.
+          ∷ (raw (fact 𝓤 (κK ⊑ K.lives)) ⊛ raw (fact 𝓤 (κV ⊑ V.lives)) ⊛ raw (fact 𝓤 (match_of P.eq m.entries under ≡ None))) ∷ []) ∵
+          move ! (1 ∷ []) $ split3 ! $ heard ! (κK ⊑ K.lives) (λ lK. heard ! (κV ⊑ V.lives) (λ lV. heard ! (match_of P.eq m.entries under ≡ None) (λ absent.
           split ! $ split3 ! $ move ! (2 ∷ []) $ split ! $ move ! (4 ∷ []) $ fsplit3 ! $ move ! (2 ∷ []) $ fsplit ! $ keep ! (6 ∷ 7 ∷ 4 ∷ 2 ∷ 3 ∷ 0 ∷ []) $
           -- [the tokens of κ, κK, κV; self; the key; the value]
-          enter ! C Λ here (vptr b o ∷ k ∷ v ∷ []) _ $ alloc_all ! (λ l. let En : Env 𝓤 𝓛.H = env (here).locals l in
-          pass_all ! refl ((tt, tt), (k_good, (v_good, tt))) $
-          sets ! (addr ! (through ! refl (stop !))) refl (tt, tt) $ sets ! (of_opd ! (get ! refl)) refl k_good $ sets ! (of_opd ! (get ! refl)) refl v_good $
-          -- self is lent again, for a lifetime within κ
-          use1 𝓛 (‵ (flft κ ql) ⊛ ‵ (flft κ qr)) (𝓛.lfts.lft_split κ q) $ split ! $
-          lft_new ! tt (λ α. let ακ : Lft = α ∷ κ in
-          -- [α; the two halves of κ; κK; κV; self; the key; the value]
-          move ! (5 ∷ 1 ∷ []) $ use2 𝓛 (later (some (λ (δ : GName). ‵ (Ref ακ (record r { ghost_name = δ })) ⊛ ‵ (LentAgain R κ ακ ql γ b o δ m)))) (lends_again 𝓛 R (named 0) κ ακ ql γ b o (named 0) m) $ await ! tt $ pick ! (λ δ. split ! $
-          move ! (2 ∷ 3 ∷ []) $ use2 𝓛 (‵ (flft ακ qq) ⊛ raw (wand 𝓤 (A.lft ακ qq) (sep 𝓤 (A.lft (α ∷ []) full_share) (A.lft κ qr)))) (lft-common 𝓛 (α ∷ []) κ full_share qr) $ split ! $
-          -- [the token of ακ; its way back; the loan; what the lender keeps; κK; κV; the key; the value]
-          let loan : MutBor (Map K.Denot V.Denot) = record r { ghost_name = δ } in
-          let z : Puts.Ghost = (
-            (
-              (ακ, (κK, (κV, tt))),
-              (qq, (qK, (qV, tt))),
-              (⊑_trans ακ κ κK (meet_⊑_right (α ∷ []) κ) bounds.0, (⊑_trans ακ κ κV (meet_⊑_right (α ∷ []) κ) bounds.1.0, tt)),
-              (loan, (key, (value, tt))),
-              (mut_vals loan, (k ∷ [], (v ∷ [], tt))),
-            ),
-            tt,
-          ) in
-          nothing ! $ move ! (8 ∷ 0 ∷ []) $ fjoin ! $ move ! (7 ∷ 0 ∷ []) $ fjoin ! $ move ! (3 ∷ 0 ∷ []) $ fjoin ! $
-          nothing ! $ move ! (6 ∷ 0 ∷ []) $ join ! $ move ! (5 ∷ 0 ∷ []) $ join ! $ move ! (2 ∷ 0 ∷ []) $ join ! $ join ! $
-          use0 𝓛 (raw (fact 𝓤 (match_of eq m.entries under ≡ None))) (fact_i 𝓤 _ (emp 𝓤) absent) $ use0 𝓛 (raw (fact 𝓤 (κV ⊑ V.lives))) (fact_i 𝓤 _ (emp 𝓤) lV) $ use0 𝓛 (raw (fact 𝓤 (κK ⊑ K.lives))) (fact_i 𝓤 _ (emp 𝓤) lK) $
-          group ! 3 $ move ! (1 ∷ 0 ∷ []) $ join ! $ use1 𝓛 (raw (Puts.pre z)) (id⊢ 𝓤 _) $
-          calls_at ! fm Puts puts z (and_then ! (get ! refl) (and_then ! (get ! refl) (and_then ! (get ! refl) (no_more !)))) (λ u.
-          use1 𝓛 (later (some (λ (g : Result ℕ (NoRoom (K.Denot × V.Denot))). ((‵ (flft ακ qq) ⊛ ‵ (flft κK qK) ⊛ ‵ (flft κV qV) ⊛ ‵ ftrue) ⊛ ‵ ((RS.the_row usize Back).own_val g (u ∷ [])))
-          ⊛ some (λ (ws : Lasts Putting (z.0.0) z.0.3). ‵ (lasts Putting z.0.0 z.0.3 ws) ⊛ raw (fact 𝓤 (IfOk g (λ i. i ≡ length m.entries))) ⊛ raw (fact 𝓤 (OnOk g (IsInserted m under value ws.0))) ⊛ raw (fact 𝓤 (OnErr g (m.room ≡ 0))) ⊛ raw (fact 𝓤 (OnErr g (IsRefused m ws.0))) ⊛ raw (fact 𝓤 (IfErr g (λ x. x.0 ≡ (key, value)))))))) (id⊢ 𝓤 _) $ await ! tt $
-          pick ! (λ g. split ! $ move ! (1 ∷ []) $ pick ! (λ ws. split ! $ fsplit ! $ fsplit ! $ move ! (3 ∷ []) $ split3 ! $
-          heard ! (IfOk g (λ i. i ≡ length m.entries)) (λ at_end. heard ! (OnOk g (IsInserted m under value ws.0)) (λ put. split3 ! $ heard ! (OnErr g (m.room ≡ 0)) (λ none. heard ! (OnErr g (IsRefused m ws.0)) (λ same. heard ! (IfErr g (λ x. x.0 ≡ (key, value))) (λ back.
-          let mm : Map K.Denot V.Denot = ws.0 in let self : MutBor (Map K.Denot V.Denot) = record r { now = mm } in
-          move ! (3 ∷ []) $ split ! $ split3 ! $ move ! (2 ∷ []) $ split ! $
-          -- the loan is over, and self is back
-          move ! (2 ∷ 8 ∷ []) $ use2 𝓛 (‵ (flft (α ∷ []) full_share) ⊛ ‵ (flft κ qr)) (apply∗ 𝓤 (A.lft ακ qq) (sep 𝓤 (A.lft (α ∷ []) full_share) (A.lft κ qr))) $ split ! $
-          lft_end ! tt $ use1 𝓛 (‵ (fdead ακ)) (𝓛.lfts.dead-incl ακ (α ∷ []) (meet_⊑_left (α ∷ []) κ)) $
-          move ! (0 ∷ 9 ∷ 6 ∷ []) $ use3 𝓛 (later (‵ (Ref κ self) ⊛ ‵ (flft κ ql))) (comes_back 𝓛 R (named 0) κ ακ ql γ b o δ m mm) $ await ! tt $ split ! $
-          move ! (1 ∷ 2 ∷ []) $ use2 𝓛 (‵ (flft κ q)) (𝓛.lfts.lft_join κ q) $ move ! (3 ∷ 6 ∷ 7 ∷ []) $ drop ! $ drop ! $ drop ! $ move ! (4 ∷ []) $
-          -- [what the call gave; the token of κ; self; those of κV, κK]
-          elim (which g) [
-            | inl w ↦
-                let i = w.0 in
-                let last : i ≡ length m.entries = subst (λ (h : Result ℕ (NoRoom (K.Denot × V.Denot))). IfOk h (λ j. j ≡ length m.entries)) w.1 at_end in
-                let new : IsInserted m under value mm = subst (λ (h : Result ℕ (NoRoom (K.Denot × V.Denot))). OnOk h (IsInserted m under value mm)) w.1 put in
-                let within : i < length mm.entries = within_inserted m mm under value i last new in
-                rewrite ! 0 (λ (h : Result ℕ (NoRoom (K.Denot × V.Denot))). ‵ ((RS.the_row usize Back).own_val h (u ∷ []))) w.1 refl $
-                use1 𝓛 (given ((u ≡ live 0 (vcons (vint w64 i) vnil)) × Good (layout usize) (vint w64 i)) (‵ (usize.own_val i (vint w64 i ∷ [])))) (in_ok_told 𝓛 usize Back u i (vint w64 i) (λ vs is. (uint_Tells w64 i vs is, (tt, record { fits = is.1 })))) $ learn ! (λ at_u. drop ! $
-                let fi : i < 2 ^ 64 = at_u.1.1.fits in
-                lands_as ! at_u.0 refl (tt, (record { fits = lit< tt }, (record { fits = fi }, tt))) $
-                first ! $ by_variants ! 18 (whole !) (get_tag ! (vrt ! refl (fld ! refl (stop !))) (whole !)) tt (
-                  (λ _. sets ! (of_opd ! (get_in ! (vrt ! refl (fld ! refl (stop !))) (in_variant ! 0 0 refl refl (whole !)))) refl (tt, record { fits = fi }) $
-                      sets ! (addr ! (through ! refl (stop !))) refl (tt, tt) $
-                      let z2 : Shows.Ghost = (((κ, (κK, (κV, tt))), (q, (qK, (qV, tt))), bounds, (self, (i, tt)), (mut_vals self, (vint w64 i ∷ [], tt))), tt) in
-                      nothing ! $ owned ! usize _ (uint_Makes 𝓛 w64) i _ (refl, fi) $ fjoin ! $ move ! (2 ∷ 0 ∷ []) $ fjoin ! $
-                      nothing ! $ move ! (3 ∷ 0 ∷ []) $ join ! $ move ! (3 ∷ 0 ∷ []) $ join ! $ move ! (2 ∷ 0 ∷ []) $ join ! $ join ! $
-                      use0 𝓛 (raw (fact 𝓤 (i < length mm.entries))) (fact_i 𝓤 _ (emp 𝓤) within) $ use0 𝓛 (raw (fact 𝓤 (κV ⊑ V.lives))) (fact_i 𝓤 _ (emp 𝓤) lV) $ use0 𝓛 (raw (fact 𝓤 (κK ⊑ K.lives))) (fact_i 𝓤 _ (emp 𝓤) lK) $
-                      group ! 3 $ move ! (1 ∷ 0 ∷ []) $ join ! $ use1 𝓛 (raw (Shows.pre z2)) (id⊢ 𝓤 _) $
-                      calls_at ! fm Shows shows z2 (and_then ! (get ! refl) (and_then ! (get ! refl) (no_more !))) (λ t.
-                      use1 𝓛 (later (some (λ (x : Bor K.Denot × MutBor V.Denot). ((‵ (flft κ q) ⊛ ‵ (flft κK qK) ⊛ ‵ (flft κV qV) ⊛ ‵ ftrue) ⊛ ‵ ((Pair κ).own_val x (t ∷ [])))
-                      ⊛ raw (ensured 𝓛 (e.ended K V E dE P dP) (e.clauses K V E dE P dP 𝓛 at_mem run) z2.0.0 z2.0.3 tt x)))) (id⊢ 𝓤 _) $ await ! tt $ pick ! (λ x. split ! $ move ! (1 ∷ []) $
-                      use1 𝓛 (‵ (follows R V' γ x.1.ghost_name (with_value_at mm i)) ⊛ raw (fact 𝓤 (option_map pair_of (slice_get mm.entries i) ≡ Some (x.0.now, x.1.now)))) (ex_e 𝓤 _ (λ ws. snd∗ 𝓤 (sem 𝓛 (lasts (e.ended K V E dE P dP) z2.0.0 z2.0.3 ws)) _)) $ split ! $
-                      move ! (1 ∷ []) $ heard ! (option_map pair_of (slice_get mm.entries i) ≡ Some (x.0.now, x.1.now)) (λ read. move ! (1 ∷ []) $ split ! $ move ! (1 ∷ []) $
-                      let ev : Val = entry_val 𝓛 K' V' κ x t in let out : Out = Ok x in
-                      use1 𝓛 (given (t ≡ ev) (‵ ((Pair κ).own_val x (ev ∷ [])))) (entry_told 𝓛 K' V' κ x t) $ learn ! (λ at_t.
-                      lands_as ! at_t refl (tt, (tt, (tt, tt))) $
-                      sets_last ! (agg ! (and_then ! (lit ! tt) (and_then ! (get ! refl) (no_more !)))) refl (tt, (record { fits = lit< tt }, ((tt, (tt, tt)), tt))) $
-                      exec ! C Λ En (after 5 (here).body) (at_ret En Post) $ sets ! (of_opd ! (get ! refl)) refl (tt, (record { fits = lit< tt }, ((tt, (tt, tt)), tt))) $
-                      returns ! (look_at ! 0 refl) $ free_all ! refl $
-                      -- [the result; the tokens; what self follows]
-                      use1 𝓛 (‵ ((RS.the_row (Pair κ) Back).own_val (Ok x) (live 0 (of_list (ev ∷ [])) ∷ []))) (Ok-of 𝓛 (Pair κ) Back x ev) $
-                      move ! (2 ∷ []) $ use1 𝓛 (‵ (lends_inserted K' V' P r under out)) (so_follows 𝓛 R V' γ (λ y n. OnOk out (IsInserted m under y n)) (λ n. OnErr out (IsRefused m n)) m tt x.1.ghost_name (with_value_at mm i) (inserted_written m mm under value i last new)) $
-                      suffices ! _ (ends_at 𝓛 ended stayed spec bound (live 0 (of_list (ev ∷ []))) out (tt, (tt, (tt, tt))) (tt, (tt, (tt, tt)))) $
-                      nothing ! $ nothing ! $ fjoin ! $ nothing ! $ fjoin ! $ nothing ! $ fjoin ! $ move ! (0 ∷ 2 ∷ []) $ join ! $ move ! (2 ∷ 0 ∷ []) $ join ! $ frame ! $
-                      use0 𝓛 (raw (fact 𝓤 (IfErr out (λ x. x.0 ≡ (key, value))))) (fact_i 𝓤 _ (emp 𝓤) tt) $
-                      use0 𝓛 (raw (fact 𝓤 (OnErr out (m.room ≡ 0)))) (fact_i 𝓤 _ (emp 𝓤) tt) $
-                      use0 𝓛 (raw (fact 𝓤 (IfOk out (λ p. (p.0.now ≡ key) × (p.1.now ≡ value))))) (fact_i 𝓤 _ (emp 𝓤) (inserted_shown m mm under value i last new x.0.now x.1.now read)) $
-                      move ! (3 ∷ 0 ∷ 1 ∷ 2 ∷ []) $ done !))))),
-                  ((λ e. absurd (suc-ne-zero 0 (sym e))), tt),
-                ))
-            | inr w ↦
-                let same' : IsRefused m mm = subst (λ (h : Result ℕ (NoRoom (K.Denot × V.Denot))). OnErr h (IsRefused m mm)) w.1 same in
-                let none' : m.room ≡ 0 = subst (λ (h : Result ℕ (NoRoom (K.Denot × V.Denot))). OnErr h (m.room ≡ 0)) w.1 none in
-                let back' : (w.0).0 ≡ (key, value) = subst (λ (h : Result ℕ (NoRoom (K.Denot × V.Denot))). IfErr h (λ x. x.0 ≡ (key, value))) w.1 back in
-                let out : Out = Err w.0 in
-                rewrite ! 0 (λ (h : Result ℕ (NoRoom (K.Denot × V.Denot))). ‵ ((RS.the_row usize Back).own_val h (u ∷ []))) w.1 refl $
-                use1 𝓛 (some (λ (ev : Val). given ((u ≡ live 1 (vcons ev vnil)) × Good (layout Back) ev) (‵ (Back.own_val w.0 (ev ∷ []))))) (in_err 𝓛 usize Back u w.0 (lone_value 𝓛 Back (back_laws LK LV) w.0)) $ pick ! (λ ev. learn ! (λ at_u.
-                let stored : Good (layout (RS.the_row usize Back)) (live 1 (vcons ev vnil)) = (and_tt _ at_u.1.0, (record { fits = lit< tt }, (at_u.1.1, tt))) in
-                move ! (2 ∷ []) $ use1 𝓛 (later (‵ (fres γ (R.coded.code mm)))) (given_up 𝓛 R (named 0) κ self) $ await ! tt $
-                -- [what self ends as; the error; the tokens of κ, κV, κK]
-                lands_as ! at_u.0 refl stored $
-                first ! $ by_variants ! 19 (whole !) (get_tag ! (vrt ! refl (fld ! refl (stop !))) (whole !)) tt (
-                  (λ e. absurd (suc-ne-zero 0 e)),
-                  (
-                    (λ _. sets ! (of_opd ! (get_in ! (vrt ! refl (fld ! refl (stop !))) (in_variant ! 1 0 refl refl (whole !)))) refl at_u.1 $
-                        sets ! (of_opd ! (get ! refl)) refl at_u.1 $
-                        sets_last ! (agg ! (and_then ! (lit ! tt) (and_then ! (get ! refl) (no_more !)))) refl (and_tt _ at_u.1.0, (record { fits = lit< tt }, (at_u.1.1, tt))) $
-                        exec ! C Λ En (after 5 (here).body) (at_ret En Post) $ sets ! (of_opd ! (get ! refl)) refl (and_tt _ at_u.1.0, (record { fits = lit< tt }, (at_u.1.1, tt))) $
-                        returns ! (look_at ! 0 refl) $ free_all ! refl $
-                        use1 𝓛 (‵ (lends_inserted K' V' P r under out)) (so_rests 𝓛 R V' γ (λ y n. OnOk out (IsInserted m under y n)) (λ n. OnErr out (IsRefused m n)) mm same' (λ _. tt)) $
-                        move ! (1 ∷ []) $ use1 𝓛 (‵ ((RS.the_row (Pair κ) Back).own_val (Err w.0) (live 1 (of_list (ev ∷ [])) ∷ []))) (Err-of 𝓛 (Pair κ) Back w.0 ev) $
-                        suffices ! _ (ends_at 𝓛 ended stayed spec bound (live 1 (of_list (ev ∷ []))) out (tt, (tt, (tt, tt))) (tt, (tt, (tt, tt)))) $
-                        nothing ! $ nothing ! $ fjoin ! $ nothing ! $ fjoin ! $ nothing ! $ fjoin ! $ join ! $
-                        -- [the result; what self follows; the tokens of κ, κV, κK]
-                        nothing ! $ move ! (4 ∷ 0 ∷ []) $ join ! $ move ! (4 ∷ 0 ∷ []) $ join ! $ move ! (3 ∷ 0 ∷ []) $ join ! $ join ! $ frame ! $
-                        use0 𝓛 (raw (fact 𝓤 (IfErr out (λ x. x.0 ≡ (key, value))))) (fact_i 𝓤 _ (emp 𝓤) back') $
-                        use0 𝓛 (raw (fact 𝓤 (OnErr out (m.room ≡ 0)))) (fact_i 𝓤 _ (emp 𝓤) none') $
-                        use0 𝓛 (raw (fact 𝓤 (IfOk out (λ p. (p.0.now ≡ key) × (p.1.now ≡ value))))) (fact_i 𝓤 _ (emp 𝓤) tt) $
-                        move ! (3 ∷ 0 ∷ 1 ∷ 2 ∷ []) $ done !),
-                    tt,
-                  ),
-                )))
-          ]))))))))))))))
+          enter ! C Λ here (vptr r.ref_ptr.0 r.ref_ptr.1 ∷ k ∷ v ∷ []) _ $ alloc_all ! (λ l. pass_all ! refl ((tt, tt), (k_good, (v_good, tt))) $
+          sets ! (addr ! (through ! refl (stop !))) refl (tt, tt) $ sets ! (of_opd ! (get ! refl)) refl k_good $
+          let y : Hashes.Ghost = (((κK, tt), (qK, tt), tt, (key, tt), (k ∷ [], tt)), tt) in
+          nothing ! $ move ! (5 ∷ 0 ∷ []) $ fjoin ! $ nothing ! $ move ! (3 ∷ 0 ∷ []) $ join ! $ join ! $
+          use0 𝓛 (raw (emp 𝓤)) (id⊢ 𝓤 _) $ use0 𝓛 (raw (fact 𝓤 (κK ⊑ K.lives))) (fact_i 𝓤 _ (emp 𝓤) lK) $
+          group ! 2 $ move ! (1 ∷ 0 ∷ []) $ join ! $ use1 𝓛 (raw (Hashes.pre y)) (id⊢ 𝓤 _) $
+          calls_at ! fm Hashes hashes y (and_then ! (get ! refl) (no_more !)) (λ h.
+          use1 𝓛 (later (some (λ (x : Hashed K.Denot). ((‵ (flft κK qK) ⊛ ‵ ftrue) ⊛ ‵ (Key.own_val x (h ∷ [])))
+          ⊛ raw (ensured 𝓛 (n.ended K G dG E dE P dP) (n.clauses K G dG E dE P dP 𝓛 at_mem run) y.0.0 y.0.3 tt x)))) (id⊢ 𝓤 _) $ await ! tt $ pick ! (λ x. split ! $ move ! (1 ∷ []) $
+          use1 𝓛 (raw (fact 𝓤 (x ≡ under))) (ex_e 𝓤 _ (λ ws. snd∗ 𝓤 (sem 𝓛 (lasts (n.ended K G dG E dE P dP) y.0.0 y.0.3 ws)) _)) $ heard ! (x ≡ under) (λ is_under.
+          split ! $ move ! (1 ∷ []) $ rewrite ! 0 (λ (c : Hashed K.Denot). ‵ (Key.own_val c (h ∷ []))) is_under refl $
+          peeks ! Key (Is Key) (shows 𝓛 Key) under (h ∷ []) (λ is_h. lands_as ! refl refl (good_value 𝓛 Key (key_laws LK) under h is_h) $
+          sets ! (of_opd ! (get ! refl)) refl v_good $ move ! (1 ∷ []) $ split ! $
+          -- [the token of κK; nothing; the key under its hash; the tokens of κ, κV; self; the value]
+          let z : Inserts.Ghost = (((κ, (κK, (κV, tt))), (q, (qK, (qV, tt))), bounds, (r, (under, (value, tt))), (mut_vals r, (h ∷ [], (v ∷ [], tt)))), tt) in
+          nothing ! $ move ! (7 ∷ 0 ∷ []) $ fjoin ! $ move ! (3 ∷ 0 ∷ []) $ fjoin ! $ move ! (5 ∷ 0 ∷ []) $ fjoin ! $
+          move ! (4 ∷ 2 ∷ []) $ join ! $ move ! (2 ∷ 0 ∷ []) $ join ! $ move ! (2 ∷ 0 ∷ []) $ join ! $ join ! $
+          use0 𝓛 (raw (fact 𝓤 (match_of P.eq m.entries under ≡ None))) (fact_i 𝓤 _ (emp 𝓤) absent) $ use0 𝓛 (raw (fact 𝓤 (κV ⊑ V.lives))) (fact_i 𝓤 _ (emp 𝓤) lV) $ use0 𝓛 (raw (fact 𝓤 (κK ⊑ K.lives))) (fact_i 𝓤 _ (emp 𝓤) lK) $
+          group ! 3 $ move ! (1 ∷ 0 ∷ []) $ join ! $ use1 𝓛 (raw (Inserts.pre z)) (id⊢ 𝓤 _) $
+          calls_at ! fm Inserts inserts z (and_then ! (get ! refl) (and_then ! (get ! refl) (and_then ! (get ! refl) (no_more !)))) (λ u.
+          use1 𝓛 (later (some (λ (g : Got). ((‵ (flft κ q) ⊛ ‵ (flft κK qK) ⊛ ‵ (flft κV qV) ⊛ ‵ ftrue) ⊛ ‵ ((RS.the_row (Pair κ) HashedBack).own_val g (u ∷ [])))
+          ⊛ raw (ensured 𝓛 (p.ended K V E dE P dP) (p.clauses K V E dE P dP 𝓛 at_mem run) z.0.0 z.0.3 tt g)))) (id⊢ 𝓤 _) $ await ! tt $ pick ! (λ g. split ! $ move ! (1 ∷ []) $
+          use1 𝓛 (‵ (lends_inserted K' V' P r under g) ⊛ raw (fact 𝓤 (IfOk g (λ s. (s.0.now ≡ key) × (s.1.now ≡ value)))) ⊛ raw (fact 𝓤 (OnErr g (m.room ≡ 0))) ⊛ raw (fact 𝓤 (IfErr g (λ s. s.0 ≡ (under, value))))) (ex_e 𝓤 _ (λ ws. snd∗ 𝓤 (sem 𝓛 (lasts (p.ended K V E dE P dP) z.0.0 z.0.3 ws)) _)) $ split3 ! $
+          move ! (1 ∷ 2 ∷ []) $ heard ! (IfOk g (λ s. (s.0.now ≡ key) × (s.1.now ≡ value))) (λ shown. split ! $ heard ! (OnErr g (m.room ≡ 0)) (λ full. heard ! (IfErr g (λ s. s.0 ≡ (under, value))) (λ back.
+          move ! (1 ∷ []) $ split ! $ move ! (1 ∷ []) $
+          -- [what the call gave; the tokens; what self follows]
+          peeks ! (RS.the_row (Pair κ) HashedBack) (Is (RS.the_row (Pair κ) HashedBack)) (shows 𝓛 (RS.the_row (Pair κ) HashedBack)) g (u ∷ []) (λ is_u. lands_as ! refl refl (good_value 𝓛 (RS.the_row (Pair κ) HashedBack) (got_laws LK LV κ) g u is_u) $
+          let refs = ShrRef (named 0) κ K' ∷ MutRef (named 0) κ V' ∷ [] in
+          let each = in_all κ refs (⊑_meet κ κ K.lives (⊑_refl κ) (⊑_trans κ κK K.lives bounds.0 lK), (⊑_meet κ κ V.lives (⊑_refl κ) (⊑_trans κ κV V.lives bounds.1.0 lV), tt)) in
+          let in_pair : κ ⊑ (Pair κ).lives = ⊑_meet κ (lives_all refs) (lives_all refs) each each in
+          let c : (Withouts κ).Ghost = (((κ, (κK, (κV, tt))), (q, (qK, (qV, tt))), tt, (g, tt), (u ∷ [], tt)), tt) in
+          nothing ! $ move ! (1 ∷ 0 ∷ []) $ fjoin ! $ move ! (1 ∷ 0 ∷ []) $ join ! $
+          use0 𝓛 (raw (emp 𝓤)) (id⊢ 𝓤 _) $ use0 𝓛 (raw (fact 𝓤 (κV ⊑ V.lives))) (fact_i 𝓤 _ (emp 𝓤) lV) $ use0 𝓛 (raw (fact 𝓤 (κK ⊑ K.lives))) (fact_i 𝓤 _ (emp 𝓤) lK) $ use0 𝓛 (raw (fact 𝓤 (κ ⊑ (Pair κ).lives))) (fact_i 𝓤 _ (emp 𝓤) in_pair) $
+          group ! 4 $ move ! (1 ∷ 0 ∷ []) $ join ! $ use1 𝓛 (raw ((Withouts κ).pre c)) (id⊢ 𝓤 _) $
+          calls_at ! fm (Withouts κ) withouts c (and_then ! (get ! refl) (no_more !)) (λ t.
+          use1 𝓛 (later (some (λ (x : Out). ((‵ (flft κ q) ⊛ ‵ (flft κK qK) ⊛ ‵ (flft κV qV) ⊛ ‵ ftrue) ⊛ ‵ ((RS.the_row (Pair κ) Back).own_val x (t ∷ [])))
+          ⊛ raw (ensured 𝓛 (w.ended (Passed κ) K V) (w.clauses (Passed κ) K V 𝓛 at_mem run) c.0.0 c.0.3 tt x)))) (id⊢ 𝓤 _) $ await ! tt $ pick ! (λ x. split ! $ move ! (1 ∷ []) $
+          let out : Out = unhashed g in
+          use1 𝓛 (raw (fact 𝓤 (x ≡ out))) (ex_e 𝓤 _ (λ ws. snd∗ 𝓤 (sem 𝓛 (lasts (w.ended (Passed κ) K V) c.0.0 c.0.3 ws)) _)) $ heard ! (x ≡ out) (λ is_out.
+          split ! $ move ! (1 ∷ []) $ rewrite ! 0 (λ (s : Out). ‵ ((RS.the_row (Pair κ) Back).own_val s (t ∷ []))) is_out refl $
+          peeks ! (RS.the_row (Pair κ) Back) (Is (RS.the_row (Pair κ) Back)) (shows 𝓛 (RS.the_row (Pair κ) Back)) out (t ∷ []) (λ is_t. lands_as ! refl refl (good_value 𝓛 (RS.the_row (Pair κ) Back) (out_laws LK LV κ) out t is_t) $
+          returns ! (look_at ! 0 refl) $ free_all ! refl $
+          -- [the result; the tokens; what self follows]
+          move ! (2 ∷ []) $ use1 𝓛 (‵ (lends_inserted K' V' P r under out)) (subst (λ (f : Fml). ent 𝓤 (sem 𝓛 (lends_inserted K' V' P r under g)) (sem 𝓛 f)) (lent_unhashed K' V' P r under g) (id⊢ 𝓤 _)) $ move ! (1 ∷ []) $
+          suffices ! _ (ends_at 𝓛 ended stayed spec bound t out (tt, (tt, (tt, tt))) (tt, (tt, (tt, tt)))) $
+          nothing ! $ nothing ! $ fjoin ! $ nothing ! $ fjoin ! $ nothing ! $ fjoin ! $ join ! $ move ! (2 ∷ 0 ∷ []) $ join ! $ frame ! $
+          use0 𝓛 (raw (fact 𝓤 (IfErr out (λ s. s.0 ≡ (key, value))))) (fact_i 𝓤 _ (emp 𝓤) (back_unhashed g under value back)) $ use0 𝓛 (raw (fact 𝓤 (OnErr out (m.room ≡ 0)))) (fact_i 𝓤 _ (emp 𝓤) (full_unhashed g (m.room ≡ 0) full)) $
+          use0 𝓛 (raw (fact 𝓤 (IfOk out (λ s. (s.0.now ≡ key) × (s.1.now ≡ value))))) (fact_i 𝓤 _ (emp 𝓤) (ok_unhashed g (λ s. (s.0.now ≡ key) × (s.1.now ≡ value)) shown)) $ move ! (3 ∷ []) $ done !))))))))))))))))))
 
 pub insert_unique_unchecked_spec : {M : Type 1} → statement M
 insert_unique_unchecked_spec 𝓤 𝓛 𝓜 𝓡 wired K V LK LV E dE P dP G dG is_eq is_partial is_hash =
@@ -276,7 +244,8 @@ insert_unique_unchecked_spec 𝓤 𝓛 𝓜 𝓡 wired K V LK LV E dE P dP G dG 
     let v = lone_value 𝓛 (V' K V E dE P dP G dG) (param_laws 1 V LV) a.1.1.0 vss.1.1.0 are.1.1.0 in
     subst (λ (us : List Val × (List Val × (List Val × Unit {0}))). ent 𝓤 (W.pre ((κs, qs, y.0.2, a, us), y.1)) (WpFn 𝓤 𝓛.H 𝓣.C 𝓣.Λ (here K V E dE P dP G dG) (W.args ((κs, qs, y.0.2, a, us), y.1)) (W.post ((κs, qs, y.0.2, a, us), y.1))))
     (sym (λ j. (self_is j, (k.1 j, (v.1 j, tt)))))
-    (walk K V E dE P dP G dG 𝓛 𝓜.mem 𝓡.returns LK LV 𝓣.C 𝓣.Λ (framed 𝓤 𝓛.H 𝓜 𝓣)
-    (push.met 𝓤 𝓛 𝓜 𝓡 (code.calls-starlark_small::small_map::SmallMap::push_own 𝓡.env wired) K V LK LV E dE P dP G dG is_eq is_partial is_hash)
-    (entry.met 𝓤 𝓛 𝓜 𝓡 (code.calls-starlark_small::small_map::SmallMap::entry_mut 𝓡.env wired) K V LK LV E dE P dP is_eq is_partial)
-    κs.0 κs.1.0 κs.1.1.0 qs.0 qs.1.0 qs.1.1.0 y.0.2 a.0 a.1.0 a.1.1.0 k.0 k.2 v.0 v.2))
+    (walk K V E dE P dP G dG 𝓛 𝓜.mem 𝓡.returns LK LV 𝓣.C 𝓣.Λ (framed 𝓤 𝓛.H 𝓜 𝓣) κs.0 κs.1.0 κs.1.1.0
+    (hash.met 𝓤 𝓛 𝓜 𝓡 (code.calls-starlark_hash::hashed::Hashed::new 𝓡.env wired) K LK G dG E dE P dP is_hash is_eq is_partial)
+    (insert.met 𝓤 𝓛 𝓜 𝓡 (code.calls-starlark_small::small_map::SmallMap::insert_hashed_unique_unchecked 𝓡.env wired) K V LK LV E dE P dP is_eq is_partial)
+    (without.met 𝓤 𝓛 𝓜 𝓡 (code.calls-starlark_small::small_map::unique::without_hash 𝓡.env wired) (Passed K V E dE P dP G dG κs.0) K V (arg_laws (nameless K V E dE P dP G dG) yes (Pair K V E dE P dP G dG κs.0) (pair_laws K V E dE P dP G dG LK LV κs.0) refl) LK LV)
+    qs.0 qs.1.0 qs.1.1.0 y.0.2 a.0 a.1.0 a.1.1.0 k.0 k.2 v.0 v.2))
