@@ -18,7 +18,6 @@ use denote.Follow.{follows, follows_so, such_by, follows_by}
 use denote.Laws.{Is, shows}
 use denote.Ref.{Bor, MutBor, MutRef, ShrRef, mut_vals, mut_Tells, shr_Tells}
 use denote.Param.{layout}
-use denote.Param.Laws.{Laws}
 use denote.Steps.{nothing, peeks, only}
 use Rattle.core.proofs.cell.Inside.{Good}
 use denote.Struct.Declared.{shape}
