@@ -1,11 +1,14 @@
 -- The first place at which a list passes a test, as the mask of its first block shows it.
-use Rattle.std.proofs.Common.{◌≡◌, ◌≢◌, ℕ, zero, suc, ◌+◌, ◌*◌, ◌<◌, ◌≤◌, Bool, true, false, not, cond, List, [], ◌∷◌, ◌++◌, Some, None, length, drop, map, arith, rules, ap, sym, ◌∙◌}
+use Rattle.std.proofs.Common.{◌≡◌, ◌≢◌, ℕ, zero, suc, ◌+◌, ◌*◌, ◌/◌, ◌^◌, ◌<◌, ◌≤◌, Bool, true, false, not, cond, List, [], ◌∷◌, ◌++◌, Some, None, length, drop, map, arith, rules, ap, sym, ◌∙◌}
+use Rattle.std.proofs.lemmas.List.{drop-drop, length-drop}
 use Rattle.std.proofs.lemmas.List.Folds.{prefix_len-append}
 use Rattle.std.proofs.lemmas.Simd.{leading_from_mask_l, trailing_mask_l}
 use Rattle.std.specs.Int.Count.{count_trailing_zeros}
 use Rattle.std.specs.List.{position_or_len}
 use Rattle.std.specs.Prelude.{position, nat_eq}
+use Rattle.std.specs.Option.{option_map}
 use Rattle.std.specs.Simd.Lanes.{mask_l}
+use Rattle.starlark_vecmap.proofs.Masks.{mask-drop}
 
 passes_by : (b : Bool) (m r l : ℕ) → 0 < cond b 1 0 + 2 * m → (0 < m → r < l) → cond (not b) (1 + r) 0 < suc l
 passes_by true m r l some f = omega arith
@@ -69,3 +72,37 @@ module _ {X : Type 0} (p : X → Bool) where
 
       pub lowest_lt : count_trailing_zeros 64 mask < length block
       lowest_lt = omega (arith, lowest, some_passes block set)
+
+  -- the mask of what is left from i on shows the next place, and without its lowest bits it is that of what is left behind it
+  module _ (xs : List X) (i mask : ℕ) (few : length xs ≤ 64) (within : i ≤ length xs) (is : mask ≡ mask_l (map p (drop i xs))) where
+    left : length (drop i xs) + i ≡ length xs
+    left = omega (arith, length-drop i xs, within)
+
+    pub next_nowhere : mask ≡ 0 → option_map (λ s. i + s) (position p (drop i xs)) ≡ None
+    next_nowhere none = ap (option_map (λ s. i + s)) (sym (position_nowhere (drop i xs) (leading_from_mask_l p (drop i xs) (sym is ∙ none))))
+
+    module _ (some : mask ≢ 0) where
+      skipped : ℕ
+      skipped = count_trailing_zeros 64 mask
+
+      skipped_lt : count_trailing_zeros 64 mask < length (drop i xs)
+      skipped_lt = lowest_lt (drop i xs) [] mask (omega (arith, left, few)) is some
+
+      pub next_within : i + count_trailing_zeros 64 mask < length xs
+      next_within = omega (arith, skipped_lt, left)
+
+      pub next_place : option_map (λ s. i + s) (position p (drop i xs)) ≡ Some (i + count_trailing_zeros 64 mask)
+      next_place =
+          let low = lowest (drop i xs) [] mask (omega (arith, left, few)) is some in
+          ap (option_map (λ s. i + s)) (sym (position_at (drop i xs) (count_trailing_zeros 64 mask) low skipped_lt))
+
+      pub next_mask : mask / 2 ^ count_trailing_zeros 64 mask / 2 ≡ mask_l (map p (drop (i + count_trailing_zeros 64 mask + 1) xs))
+      next_mask =
+          let n = count_trailing_zeros 64 mask in
+          let rest : List X = drop n (drop i xs) in
+          let some_left : 1 ≤ length rest = omega (arith, length-drop n (drop i xs), skipped_lt) in
+          let same : drop 1 rest ≡ drop (i + n + 1) xs =
+          drop-drop 1 n (drop i xs) ∙ drop-drop (n + 1) i xs ∙ ap (λ k. drop k xs) {x = i + (n + 1)} {y = i + n + 1} (omega arith)
+          in
+          ap (λ m. m / 2 ^ n / 2) is ∙ ap (λ m. m / 2) (mask-drop p (drop i xs) n (omega (arith, skipped_lt)))
+          ∙ mask-drop p rest 1 some_left ∙ ap (λ ys. mask_l (map p ys)) same

@@ -1,12 +1,17 @@
 -- The mask of a list: a bit for each place, set where its item passes a test.
-use Rattle.std.proofs.Common.{◌≡◌, ℕ, zero, ◌+◌, ◌-◌, ◌*◌, ◌/◌, ◌%◌, ◌^◌, ◌<◌, ◌≤◌, Bool, List, [], ◌∷◌, ◌++◌, cond, length, take, drop, get_or, map, ap, subst, sym, ◌∙◌, arith}
+use Rattle.std.proofs.Common.{◌≡◌, ℕ, zero, ◌+◌, ◌-◌, ◌*◌, ◌/◌, ◌%◌, ◌^◌, ◌<◌, ◌≤◌, Bool, true, false, List, [], ◌∷◌, ◌++◌, cond, length, take, drop, get_or, map, refl, ap, subst, sym, ◌∙◌, arith}
 use Rattle.std.proofs.Math.Nat.{add_comm, mod-eq_of_lt, pow-suc}
 use Rattle.std.proofs.Math.Pow.{pow_mono}
 use Rattle.std.proofs.Math.Seq.{take-add}
 use Rattle.std.proofs.lemmas.List.{drop-drop, drop_more, length-drop, length-map, length-take-le, take-append-drop, take_all}
 use Rattle.std.proofs.lemmas.Nat.{div-mul-add}
 use Rattle.std.proofs.lemmas.Simd.{length-chunk, mask_l-lt}
+use Rattle.std.specs.Int.{from_bool}
 use Rattle.std.specs.Simd.Lanes.{mask_l, chunk}
+
+pub from_bool-is : (b : Bool) → from_bool b ≡ cond b 1 0
+from_bool-is true = refl
+from_bool-is false = refl
 
 one_bit_more : (b m a e t : ℕ) → m ≡ a + e * t → b + 2 * m ≡ b + 2 * a + e * (t * 2)
 one_bit_more b m a e t is = omega (arith, is)
@@ -56,6 +61,20 @@ module _ {X : Type 0} (p : X → Bool) where
       pub mask_more_lt : before + next * 2 ^ i % 2 ^ 64 < 2 ^ 64
       mask_more_lt = omega (arith, mask_more, mask-lt)
 
+  -- the bit of the last place beside those of the places before it
+  module _ (xs : List X) (d : X) (some : 0 < length xs) (short : length xs ≤ 32) (before one : ℕ)
+      (is : before ≡ mask (take (length xs - 1) xs)) (last : one ≡ from_bool (p (get_or xs (length xs - 1) d))) where
+    last_bit : one ≡ mask (chunk (length xs - 1) 1 xs)
+    last_bit = last ∙ from_bool-is (p (get_or xs (length xs - 1) d)) ∙ mask_at xs (length xs - 1) d (omega (arith, some))
+
+    pub mask_last : before + one * 2 ^ (length xs - 1) % 2 ^ 64 ≡ mask xs
+    mask_last =
+        mask_more xs (length xs - 1) 1 (omega (arith, some)) (omega (arith, some, short)) before one is last_bit
+        ∙ ap mask (take_all (length xs - 1 + 1) xs (omega (arith, some)))
+
+    pub mask_last_lt : before + one * 2 ^ (length xs - 1) % 2 ^ 64 < 2 ^ 64
+    mask_last_lt = mask_more_lt xs (length xs - 1) 1 (omega (arith, some)) (omega (arith, some, short)) before one is last_bit
+
   mask-take_lt : (xs : List X) (n : ℕ) → n ≤ length xs → mask (take n xs) < 2 ^ n
   mask-take_lt xs n within =
       subst (λ k. mask (take n xs) < 2 ^ k) (length-map (take n xs) p ∙ length-take-le n xs within) (mask_l-lt (map p (take n xs)))
@@ -67,7 +86,7 @@ module _ {X : Type 0} (p : X → Bool) where
       ∙ add_comm (mask (take n xs)) (mask (drop n xs) * 2 ^ n)
 
   -- without its lowest bits a mask is that of the places behind them
-  mask-drop : (xs : List X) (n : ℕ) → n ≤ length xs → mask xs / 2 ^ n ≡ mask (drop n xs)
+  pub mask-drop : (xs : List X) (n : ℕ) → n ≤ length xs → mask xs / 2 ^ n ≡ mask (drop n xs)
   mask-drop xs n within =
       ap (λ m. m / 2 ^ n) (mask-parts xs n within)
       ∙ div-mul-add (mask (drop n xs)) (2 ^ n) (mask (take n xs)) (mask-take_lt xs n within)

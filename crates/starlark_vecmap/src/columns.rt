@@ -4,7 +4,7 @@ ghost use Rattle.starlark_lists.specs.Search.{Asks, CanSearch, keys_under};
 ghost use Rattle.starlark_vecmap.specs.EntryList.{entries_in};
 ghost use Rattle.starlark_lists.specs.Ordered.{ordered_feed};
 
-use crate::hash_search::find_hash_from;
+use crate::hash_search::{BLOCK, find_hash_from, places_of};
 use starlark_hash::StarlarkHashValue;
 use std::cmp::Ordering;
 use std::hash::{Hash, Hasher};
@@ -12,6 +12,34 @@ use std::hash::{Hash, Hasher};
 // The first place under the hash whose key the closure accepts, asked from the front.
 #[inline]
 pub(crate) fn search_columns<K, V, F: FnMut(&K) -> bool>(
+    pairs: &[(K, V)],
+    hashes: &[u32],
+    hash: StarlarkHashValue,
+    mut accepts: F,
+) -> Option<usize>
+    requires lengths { length hashes.now ≡ length pairs.now }
+    requires callable { CanSearch F.FnMut (keys_under hash (entries_in pairs.now hashes.now)) accepts }
+    ensures { (last : F) × Asks F.FnMut accepts (keys_under hash (entries_in pairs.now hashes.now)) result last }
+{
+    if hashes.len() > BLOCK {
+        return search_long(pairs, hashes, hash, accepts);
+    }
+    let mut mask = places_of(hashes, hash.get());
+    let mut i = 0;
+    while mask != 0 {
+        let place = i + mask.trailing_zeros() as usize;
+        if accepts(&pairs[place].0) {
+            return Some(place);
+        }
+        mask = mask >> mask.trailing_zeros() >> 1;
+        i = place + 1;
+    }
+    None
+}
+
+// The same of columns for which one mask does not do.
+#[inline(never)]
+fn search_long<K, V, F: FnMut(&K) -> bool>(
     pairs: &[(K, V)],
     hashes: &[u32],
     hash: StarlarkHashValue,

@@ -9,7 +9,7 @@ use std::simd::prelude::*;
 const SHORT: usize = 8;
 
 // How many hashes one mask covers.
-const BLOCK: usize = 32;
+pub(crate) const BLOCK: usize = 32;
 
 /// The least place at which the array has this hash.
 #[inline]
@@ -37,7 +37,7 @@ fn find_hash_in_blocks(array: &[u32], hash: u32) -> Option<usize>
     let mut passed = 0;
     while rest.len() > BLOCK {
         let (block, tail) = rest.split_at(BLOCK);
-        let mask = places_of(block, hash);
+        let mask = places_of_block(block, hash);
         if mask != 0 {
             return Some(passed + mask.trailing_zeros() as usize);
         }
@@ -46,15 +46,41 @@ fn find_hash_in_blocks(array: &[u32], hash: u32) -> Option<usize>
     }
     // The last block may begin among the hashes that were passed over.
     let start = passed.min(array.len() - SHORT);
-    let mask = places_of(&array[start..], hash);
+    let mask = places_of_block(&array[start..], hash);
     if mask == 0 {
         return None;
     }
     Some(start + mask.trailing_zeros() as usize)
 }
 
-// A bit for each place of a short array, set where it has this hash. No branch depends on the place. Two runs of four hashes cover
-// it: the second ends where the array does, and may begin in the first, whose bits count.
+// A bit for each place of an array, set where it has this hash. No branch depends on the place.
+#[inline]
+pub(crate) fn places_of(array: &[u32], hash: u32) -> u64
+    requires { length array.now ≤ 32 }
+    ensures { result ≡ mask_l (map (λ h. h == hash) array.now) }
+{
+    if array.len() > SHORT {
+        places_of_long(array, hash)
+    } else {
+        places_of_short(array, hash)
+    }
+}
+
+// The same of a longer array. Its last hash is read by itself: it may just have been written, and a processor that reads it
+// together with others waits until it is in memory. The code is long, so it is called.
+#[inline(never)]
+fn places_of_long(array: &[u32], hash: u32) -> u64
+    requires enough { 8 < length array.now }
+    requires few { length array.now ≤ 32 }
+    ensures { result ≡ mask_l (map (λ h. h == hash) array.now) }
+{
+    let last = array.len() - 1;
+    let front = places_of_block(&array[..last], hash);
+    front + (u64::from(array[last] == hash) << last)
+}
+
+// The same of a short array. Two runs of four hashes cover it: the second ends where the array does, and may begin in
+// the first, whose bits count.
 #[inline]
 fn places_of_short(array: &[u32], hash: u32) -> u64
     requires { length array.now ≤ 8 }
@@ -70,7 +96,7 @@ fn places_of_short(array: &[u32], hash: u32) -> u64
 
 // The same of a block, by two runs of eight or sixteen.
 #[inline]
-fn places_of(block: &[u32], hash: u32) -> u64
+fn places_of_block(block: &[u32], hash: u32) -> u64
     requires enough { 8 ≤ length block.now }
     requires few { length block.now ≤ 32 }
     ensures { result ≡ mask_l (map (λ h. h == hash) block.now) }

@@ -1,38 +1,55 @@
-use Rattle.std.proofs.Common.{refl, sym, arith}
+-- The mask shows the next place under the hash.
+use Rattle.std.proofs.Common.{refl, arith}
+use Rattle.std.specs.Prelude.{nat_eq}
+use Rattle.starlark_vecmap.proofs.Blocks.{next_nowhere, next_within, next_place, next_mask}
 use Rattle.starlark_vecmap.proofs.Searching.{place_asked, place_accepted, place_refused, none_left}
 use Rattle.starlark_vecmap.proofs.columns.search_columns.Goals as goal
 
+pub offset_bounds-pairs-place : goal.offset_bounds-pairs-place
+offset_bounds-pairs-place g c =
+    let at = c.loop-mask in
+    let less = next_within (λ h. nat_eq h c.args.hash.0) c.args.hashes.now at.i at.mask (omega arith) at.invariant.within at.invariant.masked c.loop-mask-test.true in
+    omega (arith, less, at.invariant.lengths)
+
+pub bounds-pairs-place : goal.bounds-pairs-place
+bounds-pairs-place g c =
+    let at = c.loop-mask in
+    let less = next_within (λ h. nat_eq h c.args.hash.0) c.args.hashes.now at.i at.mask (omega arith) at.invariant.within at.invariant.masked c.loop-mask-test.true in
+    omega (arith, less, at.invariant.lengths)
+
 pub accepts-requires : goal.accepts-requires
 accepts-requires g c =
-    let at = c.loop-place in
+    let at = c.loop-mask in
     let pair = c.index-pairs-place in
-    let found = rw c.get-number.ensures.number at (sym c.in-Some.ensures.place) in
-    place_asked c.args.hash g.F.FnMut c.args.accepts at.accepts c.args.pairs.now c.args.hashes.now at.i c.in-Some.place pair.result at.invariant.searching at.invariant.lengths found pair.is _ refl
+    let found = next_place (λ h. nat_eq h c.args.hash.0) c.args.hashes.now at.i at.mask (omega arith) at.invariant.within at.invariant.masked c.loop-mask-test.true in
+    place_asked c.args.hash g.F.FnMut c.args.accepts at.accepts c.args.pairs.now c.args.hashes.now at.i _ pair.result at.invariant.searching at.invariant.lengths found pair.is _ refl
 
 pub returns-then-accepts : goal.returns-then-accepts
 returns-then-accepts g c =
-    let at = c.loop-place in
+    let at = c.loop-mask in
     let pair = c.index-pairs-place in
-    let found = rw c.get-number.ensures.number at (sym c.in-Some.ensures.place) in (
+    let found = next_place (λ h. nat_eq h c.args.hash.0) c.args.hashes.now at.i at.mask (omega arith) at.invariant.within at.invariant.masked c.loop-mask-test.true in (
       c.accepts.new.self,
-      place_accepted c.args.hash g.F.FnMut c.args.accepts at.accepts c.args.pairs.now c.args.hashes.now at.i c.in-Some.place pair.result
+      place_accepted c.args.hash g.F.FnMut c.args.accepts at.accepts c.args.pairs.now c.args.hashes.now at.i _ pair.result
           at.invariant.searching at.invariant.lengths found pair.is _ refl c.accepts.new.self c.accepts.result c.if-accepts.true c.accepts.ensures,
     )
 
-pub loop-place-preserved : goal.loop-place-preserved
-loop-place-preserved g c =
-    let at = c.loop-place in
+pub loop-mask-preserved : goal.loop-mask-preserved
+loop-mask-preserved g c =
+    let at = c.loop-mask in
     let pair = c.index-pairs-place in
-    let found = rw c.get-number.ensures.number at (sym c.in-Some.ensures.place) in
+    let less = next_within (λ h. nat_eq h c.args.hash.0) c.args.hashes.now at.i at.mask (omega arith) at.invariant.within at.invariant.masked c.loop-mask-test.true in
+    let found = next_place (λ h. nat_eq h c.args.hash.0) c.args.hashes.now at.i at.mask (omega arith) at.invariant.within at.invariant.masked c.loop-mask-test.true in
     record {
-      within = omega (arith, c.in-Some.ensures.within);
+      within = omega (arith, less);
       lengths = at.invariant.lengths;
-      searching = place_refused c.args.hash g.F.FnMut c.args.accepts at.accepts c.args.pairs.now c.args.hashes.now at.i c.in-Some.place pair.result
+      masked = next_mask (λ h. nat_eq h c.args.hash.0) c.args.hashes.now at.i at.mask (omega arith) at.invariant.within at.invariant.masked c.loop-mask-test.true;
+      searching = place_refused c.args.hash g.F.FnMut c.args.accepts at.accepts c.args.pairs.now c.args.hashes.now at.i _ pair.result
           at.invariant.searching at.invariant.lengths found pair.is _ refl c.accepts.new.self c.accepts.result c.if-accepts.false c.accepts.ensures;
     }
 
 pub returns : goal.returns
 returns g c =
-    let at = c.loop-place in
-    let found = rw c.get-number.ensures.number at (sym c.in_default.ensures.place) in
-    (at.accepts, none_left c.args.hash g.F.FnMut c.args.accepts at.accepts c.args.pairs.now c.args.hashes.now at.i at.invariant.searching found)
+    let at = c.loop-mask in
+    let none = next_nowhere (λ h. nat_eq h c.args.hash.0) c.args.hashes.now at.i at.mask (omega arith) at.invariant.within at.invariant.masked c.loop-mask-test.false in
+    (at.accepts, none_left c.args.hash g.F.FnMut c.args.accepts at.accepts c.args.pairs.now c.args.hashes.now at.i at.invariant.searching none)

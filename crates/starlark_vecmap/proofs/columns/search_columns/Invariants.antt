@@ -1,16 +1,18 @@
-use Rattle.std.proofs.Common.{◌≡◌, length, drop, ◌-◌, ◌≤◌}
+use Rattle.std.proofs.Common.{◌≡◌, ◌==◌, length, drop, map, ◌-◌, ◌≤◌}
+use Rattle.std.specs.Simd.Lanes.{mask_l}
 use Rattle.starlark_lists.specs.Search.{keys_under}
 use Rattle.starlark_vecmap.specs.EntryList.{entries_in}
 use Rattle.starlark_vecmap.proofs.Searching.{Searching, keys_from}
 use Rattle.starlark_vecmap.proofs.columns.search_columns.Given as goal
 
-abbrev pub invariant-loop-place : goal.invariant-loop-place
-invariant-loop-place g l =
+abbrev pub invariant-loop-mask : goal.invariant-loop-mask
+invariant-loop-mask g l =
     record {
       within : l.i ≤ length l.hashes;
       lengths : length l.hashes ≡ length l.pairs;
+      masked : l.mask ≡ mask_l (map (λ h. h == l.fn.hash.0) (drop l.i l.hashes));
       searching : Searching g.F.FnMut (keys_under l.fn.hash (entries_in l.pairs l.hashes)) l.initial.accepts l.accepts (keys_from l.fn.hash l.i (drop l.i l.pairs) (drop l.i l.hashes));
     }
 
-abbrev pub decreases-loop-place : goal.decreases-loop-place
-decreases-loop-place g l = length l.hashes - l.i
+abbrev pub decreases-loop-mask : goal.decreases-loop-mask
+decreases-loop-mask g l = length l.hashes - l.i

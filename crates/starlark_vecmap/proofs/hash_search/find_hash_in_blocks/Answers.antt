@@ -61,15 +61,15 @@ pub returns-then-mask-ne0-clause-place : goal.returns-then-mask-ne0-clause-place
 returns-then-mask-ne0-clause-place c =
     let l = c.loop-rest in let s = c.split_at in let block = s.result.0.now in let tail = s.result.1.now in
     found c.args.hash c.args.array.now l.rest.now l.passed l.invariant.place l.invariant.parted block tail
-    c.places_of-mask.result (joined l.rest.now block tail s.ensures.front s.ensures.back) (omega arith)
-    c.places_of-mask.ensures c.if-mask-ne0.true
+    c.places_of_block-mask.result (joined l.rest.now block tail s.ensures.front s.ensures.back) (omega arith)
+    c.places_of_block-mask.ensures c.if-mask-ne0.true
 
 pub returns-then-mask-ne0-clause-within : goal.returns-then-mask-ne0-clause-within
 returns-then-mask-ne0-clause-within c =
     let l = c.loop-rest in let s = c.split_at in let block = s.result.0.now in let tail = s.result.1.now in
     within c.args.hash c.args.array.now l.rest.now l.passed l.invariant.place l.invariant.parted block tail
-    c.places_of-mask.result (joined l.rest.now block tail s.ensures.front s.ensures.back) (omega arith)
-    c.places_of-mask.ensures c.if-mask-ne0.true
+    c.places_of_block-mask.result (joined l.rest.now block tail s.ensures.front s.ensures.back) (omega arith)
+    c.places_of_block-mask.ensures c.if-mask-ne0.true
 
 pub loop-rest-preserved : goal.loop-rest-preserved
 loop-rest-preserved c =
@@ -78,7 +78,7 @@ loop-rest-preserved c =
     let place_of : List ℕ → ℕ = position_or_len (λ h. nat_eq h c.args.hash) in
     let after : l.passed + length block + place_of tail ≡ place_of c.args.array.now =
     later c.args.hash c.args.array.now l.rest.now l.passed l.invariant.place l.invariant.parted block tail
-    c.places_of-mask.result both (omega arith) c.places_of-mask.ensures c.if-mask-ne0.false
+    c.places_of_block-mask.result both (omega arith) c.places_of_block-mask.ensures c.if-mask-ne0.false
     in record {
       parted = omega arith;
       place = omega (arith, after, s.ensures.front_len);
@@ -90,7 +90,7 @@ returns-then-mask-eq0-clause-place c =
     let early : start ≤ l.passed = omega arith in
     let within : start ≤ length array = omega arith in
     nowhere c.args.hash array (drop start array) start (last_place c.args.hash array l.rest.now l.passed start early l.invariant.place)
-    (last_parted array start within) (sym (last_mask c.args.hash array start _ _ c.places_of-mask-2.ensures (omega arith)) ∙ c.if-mask-eq0.true)
+    (last_parted array start within) (sym (last_mask c.args.hash array start _ _ c.places_of_block-mask-2.ensures (omega arith)) ∙ c.if-mask-eq0.true)
 
 pub returns-clause-place : goal.returns-clause-place
 returns-clause-place c =
@@ -98,10 +98,10 @@ returns-clause-place c =
     let early : start ≤ l.passed = omega arith in
     let within : start ≤ length array = omega arith in
     let few : length (drop start array) ≤ 64 = omega (arith, length-drop start array) in
-    let is = last_mask c.args.hash array start _ _ c.places_of-mask-2.ensures (omega arith) in
+    let is = last_mask c.args.hash array start _ _ c.places_of_block-mask-2.ensures (omega arith) in
     let place = last_place c.args.hash array l.rest.now l.passed start early l.invariant.place in
-    let low = lowest (has c.args.hash) (drop start array) [] c.places_of-mask-2.result few is c.if-mask-eq0.false in
-    let less = lowest_lt (has c.args.hash) (drop start array) [] c.places_of-mask-2.result few is c.if-mask-eq0.false in
+    let low = lowest (has c.args.hash) (drop start array) [] c.places_of_block-mask-2.result few is c.if-mask-eq0.false in
+    let less = lowest_lt (has c.args.hash) (drop start array) [] c.places_of_block-mask-2.result few is c.if-mask-eq0.false in
     position_at (has c.args.hash) array _ (omega (arith, place, low)) (omega (arith, place, low, less, length-drop start array))
 
 pub returns-clause-within : goal.returns-clause-within
@@ -109,6 +109,6 @@ returns-clause-within c =
     let l = c.loop-rest in let array = c.args.array.now in let start = c.min-start.result in
     let within : start ≤ length array = omega arith in
     let few : length (drop start array) ≤ 64 = omega (arith, length-drop start array) in
-    let is = last_mask c.args.hash array start _ _ c.places_of-mask-2.ensures (omega arith) in
-    let less = lowest_lt (has c.args.hash) (drop start array) [] c.places_of-mask-2.result few is c.if-mask-eq0.false in
+    let is = last_mask c.args.hash array start _ _ c.places_of_block-mask-2.ensures (omega arith) in
+    let less = lowest_lt (has c.args.hash) (drop start array) [] c.places_of_block-mask-2.result few is c.if-mask-eq0.false in
     omega (arith, less, length-drop start array)

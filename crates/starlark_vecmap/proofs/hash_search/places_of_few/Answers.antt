@@ -1,14 +1,10 @@
 -- The next place adds its bit to the mask of those before it.
-use Rattle.std.proofs.Common.{◌≡◌, ◌+◌, ◌*◌, ◌%◌, ◌^◌, ◌<◌, ℕ, Bool, true, false, List, cond, refl, get_or, length, map, take, arith, ◌∙◌}
+use Rattle.std.proofs.Common.{◌≡◌, ◌+◌, ◌*◌, ◌%◌, ◌^◌, ◌<◌, ℕ, Bool, List, get_or, length, map, take, arith, ◌∙◌}
 use Rattle.std.specs.Int.{from_bool}
 use Rattle.std.specs.Prelude.{nat_eq}
 use Rattle.std.specs.Simd.Lanes.{mask_l, chunk}
-use Rattle.starlark_vecmap.proofs.Masks.{mask_at, mask_more, mask_more_lt}
+use Rattle.starlark_vecmap.proofs.Masks.{from_bool-is, mask_at, mask_more, mask_more_lt}
 use Rattle.starlark_vecmap.proofs.hash_search.places_of_few.Goals as goal
-
-from_bool-is : (b : Bool) → from_bool b ≡ cond b 1 0
-from_bool-is true = refl
-from_bool-is false = refl
 
 module _ (block : List ℕ) (hash mask i : ℕ) (short : length block < 4) where
   abbrev is_hash : ℕ → Bool

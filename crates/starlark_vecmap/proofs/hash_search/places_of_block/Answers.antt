@@ -2,7 +2,7 @@
 use Rattle.std.proofs.Common.{◌-◌, length, arith}
 use Rattle.std.specs.Prelude.{nat_eq}
 use Rattle.starlark_vecmap.proofs.Masks.{mask_ends, mask_ends_lt}
-use Rattle.starlark_vecmap.proofs.hash_search.places_of.Goals as goal
+use Rattle.starlark_vecmap.proofs.hash_search.places_of_block.Goals as goal
 
 pub overflow_add-result : goal.overflow_add-result
 overflow_add-result c = let block = c.args.block.now in record {
