@@ -25,7 +25,6 @@ use denote.Struct.Parts.{shape_of, PartsBack, Struct-parts}
 use denote.Struct.Struct.{Struct}
 use Rattle.std.specs.contracts.alloc.Global as heap
 use Rattle.std.specs.contracts.impls.GlobalAllocator.TheImpl.{ghosts}
-use Rattle.std.specs.contracts.option.Option as option
 use Rattle.starlark_columns.specs.Owned.{row_owned}
 use Rattle.starlark_columns.specs.Lends.{with_places}
 use Rattle.starlark_columns.specs.contracts.block.Address as address
@@ -58,7 +57,7 @@ module _ (K : RattleType) where
   CH = held.the_row K
 
   abbrev behind : List Member
-  behind = member (option.the_field (claim.the_row K heap.the_row ghosts)).row ∷ []
+  behind = member (claim.the_row K heap.the_row ghosts) ∷ []
 
   abbrev ms : List Member
   ms = member CA ∷ member usize ∷ member CH ∷ behind

@@ -22,6 +22,10 @@ use Rattle.starlark_columns.specs.contracts.block.Held as held
 use Rattle.starlark_columns.specs.contracts.block.PairClaim as pair_claim
 use Rattle.starlark_columns.specs.Paired.{rooms_rejoin}
 
+either_keyless : (x : Bool) (F : Fml) → Keyless F → Keyless (cond x ftrue F)
+either_keyless true F k = tt
+either_keyless false F k = k
+
 within_keyless : (p : Ptr) → Keyless (in_block p ftrue)
 within_keyless null_ptr = tt
 within_keyless (block_ptr b o) = tt
@@ -57,7 +61,7 @@ module _ (R : RattleType) where
     pub claim_send : FreesAnywhere A.Denot g → IsSend (claim.the_row R A g)
     claim_send free =
         let T = claim.the_type R A g in let marks : AllSend (fields T) = (search sendable, tt) in
-        owning_send T marks (λ c. free.frees c.alloc _ c.at) (λ k. quiet (to T) (exits_of k (fields T)) ((struct_send (shape T) marks).leaving k))
+        owning_send T marks (λ c. either_keyless (eqb (c.count * type_size R) 0) (g.dealloc_token c.alloc _ c.at) (free.frees c.alloc _ c.at)) (λ k. quiet (to T) (exits_of k (fields T)) ((struct_send (shape T) marks).leaving k))
 
     pub claim_sync : IsSync (claim.the_row R A g)
     claim_sync = let T = claim.the_type R A g in record { shared = λ c b o κ. ((struct_sync (shape T) (search sendable, tt)).shared (to T c) b o κ, tt) }
@@ -65,10 +69,6 @@ module _ (R : RattleType) where
 room_keyless : (τ : Ty) (p : Ptr) → Keyless (room_for τ p)
 room_keyless τ null_ptr = tt
 room_keyless τ (block_ptr b o) = tt
-
-either_keyless : (x : Bool) (F : Fml) → Keyless F → Keyless (cond x ftrue F)
-either_keyless true F k = tt
-either_keyless false F k = k
 
 module _ (R U A : RattleType) (g : Ghosts A.Denot) where
   pub pair_claim_send : FreesAnywhere A.Denot g → IsSend (pair_claim.the_row R U A g)

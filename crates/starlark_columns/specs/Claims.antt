@@ -1,5 +1,5 @@
 -- What makes a `Column` of its parts.
-use Rattle.std.specs.Prelude.{◌≡◌, ℕ, length, Option, Some, None}
+use Rattle.std.specs.Prelude.{◌≡◌, ℕ, length}
 use Rattle.std.specs.declared.alloc.Global.{Global}
 use denote.RawPtr.{Ptr}
 use Rattle.starlark_columns.specs.declared.block.Address.{Address}
@@ -7,10 +7,9 @@ use Rattle.starlark_columns.specs.declared.block.Claim.{Claim}
 use Rattle.starlark_columns.specs.declared.block.Held.{Held}
 
 module _ {X : Type 0} where
-  -- the claim, if there is one, is to the n places at p
-  abbrev pub IsClaimTo : Ptr → ℕ → Option (Claim X Global) → Type 0
-  IsClaimTo p n None = Unit {0}
-  IsClaimTo p n (Some c) = (c.at ≡ p) × (c.count ≡ n)
+  -- the claim is to the n places at p
+  abbrev pub IsClaimTo : Ptr → ℕ → Claim X Global → Type 0
+  IsClaimTo p n c = (c.at ≡ p) × (c.count ≡ n)
 
-  abbrev pub IsColumn : Address X → ℕ → Held X → Option (Claim X Global) → Type 0
+  abbrev pub IsColumn : Address X → ℕ → Held X → Claim X Global → Type 0
   IsColumn address n held claim = (held.at ≡ address.at) × (length held.places ≡ n) × IsClaimTo address.at n claim

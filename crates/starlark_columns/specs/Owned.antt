@@ -1,6 +1,8 @@
 -- What a row of places owns and lends, and the right to its block, at items of the row R.
 use Rattle.std.specs.Prelude.{ℕ, ◌*◌, ◌^◌, List, [], ◌∷◌, length, Option, Some, None}
 use Rattle.std.specs.Mem.{type_size}
+use mathlib.Core.Bool.{cond}
+use lib.Dec.{eqb}
 use base.Fraction.{full_share}
 use base.Fml.{Fml, Lft, ftrue, ffalse, fsep, flt}
 use mir.Raw.{raw}
@@ -41,6 +43,6 @@ module _ (R : RattleType) where
   abbrev pub row_lent : Ptr → List (Option R.Denot) → Lft → Fml
   row_lent p cs = beside (said (flt (length cs * type_size R) (2 ^ 63))) (within_lent p cs)
 
-  -- what `deallocate` asks for, to take the block of n places at p back
+  -- what `deallocate` asks for, to take the block of n places at p back; nothing of no bytes
   abbrev pub claim_owned : (Ty → Ptr → Fml) → Ptr → ℕ → Fml
-  claim_owned token p n = token (raw (ty_array (lone R.mir) n)) p
+  claim_owned token p n = cond (eqb (n * type_size R) 0) ftrue (token (raw (ty_array (lone R.mir) n)) p)

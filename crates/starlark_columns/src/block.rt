@@ -56,7 +56,8 @@ unsafe impl<T: Send> Send for Held<T> {}
 
 unsafe impl<T: Sync> Sync for Held<T> {}
 
-// The right to give the block of `count` places back. It takes no bytes.
+// The right to give the block of `count` places back. Where the places take no bytes, it is a right to nothing. It takes
+// no bytes.
 pub struct Claim<T, A: Allocator> {
     mark: PhantomData<*const (T, A)>,
     ghost at: { Ptr },
@@ -119,10 +120,24 @@ pub(crate) fn bare<T>(count: usize) -> (Address<T>, Held<T>)
     (Address { at }, Held { mark: PhantomData })
 }
 
-pub(crate) fn let_go<T>(held: Held<T>, count: usize)
-    requires { held.places ≡ empties count }
+// The claim of places that take no bytes.
+pub(crate) fn bare_claim<T, A: Allocator>(
+    _alloc: &A,
+    address: Address<T>,
+    count: usize,
+) -> Claim<T, A>
+    requires { count * type_size T.row ≡ 0 }
+    ensures { (result.at ≡ address.at) × (result.count ≡ count) }
+{
+    Claim { mark: PhantomData }
+}
+
+pub(crate) fn let_go<T>(held: Held<T>, claim: Claim<T, Global>)
+    requires empty { held.places ≡ empties claim.count }
+    requires light { claim.count * type_size T.row ≡ 0 }
 {
     let Held { mark: _ } = held;
+    let Claim { mark: _ } = claim;
 }
 
 pub(crate) fn allocate<T, A: Allocator>(
@@ -155,6 +170,7 @@ pub(crate) fn deallocate<T, A: Allocator>(
 )
     requires empty { (held.at ≡ address.at) × (held.places ≡ empties count) }
     requires claim { (claim.at ≡ address.at) × (claim.count ≡ count) × (claim.alloc ≡ alloc.now) }
+    requires bytes { 0 < count * type_size T.row }
 {
     let Held { mark: _ } = held;
     let Claim { mark: _ } = claim;

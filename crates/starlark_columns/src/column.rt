@@ -5,7 +5,9 @@ ghost use Rattle.std.specs.Mem.{type_size};
 ghost use Rattle.starlark_columns.specs.Places.{empties, IsFilled, AreFilled, AreEmpty, with_range, moved_down, moved_up, exchanged};
 ghost use Rattle.starlark_columns.specs.Front.{IsFront};
 
-use crate::block::{Address, Claim, Held, allocate, bare, deallocate, item_size, let_go};
+use crate::block::{
+    Address, Claim, Held, allocate, bare, bare_claim, deallocate, item_size, let_go,
+};
 use crate::loan::{Keeps, Loan};
 use std::alloc::{AllocError, Global};
 use std::marker::{Model, PhantomData};
@@ -17,8 +19,7 @@ pub struct Column<T> {
     address: Address<T>,
     count: usize,
     held: Held<T>,
-    // None where the places take no bytes: no block was asked for.
-    claim: Option<Claim<T, Global>>,
+    claim: Claim<T, Global>,
 }
 
 impl<T> Model for Column<T> {
@@ -37,16 +38,26 @@ impl<T> Model for Column<T> {
 impl<T> Column<T> {
     /// A column of no places, without memory.
     #[inline]
-    pub fn new() -> Column<T>
+    pub fn new(alloc: Global) -> Column<T>
         ensures places { result ≡ [] }
         ensures front { IsFront result 0 }
     {
-        let (address, held) = bare(0);
+        Column::without_block(alloc, 0)
+    }
+
+    // A column of places that take no bytes, for which no block was asked.
+    #[inline]
+    fn without_block(alloc: Global, count: usize) -> Column<T>
+        requires { count * type_size T.row ≡ 0 }
+        ensures { result ≡ empties count }
+    {
+        let (address, held) = bare(count);
+        let claim = bare_claim(&alloc, address, count);
         Column {
             address,
-            count: 0,
+            count,
             held,
-            claim: None,
+            claim,
         }
     }
 
@@ -58,13 +69,7 @@ impl<T> Column<T> {
         ensures succeeds { count * type_size T.row ≡ 0 → IsOk result }
     {
         if count == 0 || item_size::<T>() == 0 {
-            let (address, held) = bare(count);
-            return Ok(Column {
-                address,
-                count,
-                held,
-                claim: None,
-            });
+            return Ok(Column::without_block(alloc, count));
         }
         if !may_hold::<T>(count) {
             return Err(AllocError);
@@ -74,7 +79,7 @@ impl<T> Column<T> {
             address,
             count,
             held,
-            claim: Some(claim),
+            claim,
         })
     }
 
@@ -89,9 +94,10 @@ impl<T> Column<T> {
             held,
             claim,
         } = self;
-        match claim {
-            Some(claim) => deallocate(&alloc, address, count, held, claim),
-            None => let_go(held, count),
+        if count == 0 || item_size::<T>() == 0 {
+            let_go(held, claim);
+        } else {
+            deallocate(&alloc, address, count, held, claim);
         }
     }
 

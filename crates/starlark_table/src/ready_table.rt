@@ -68,7 +68,7 @@ impl<T> ReadyTable<T> {
         ensures room { result.room ≡ 0 }
     {
         ReadyTable {
-            slots: Column::new(),
+            slots: Column::new(alloc),
             tags: Vec::new(alloc),
             len: 0,
             mask: 0,

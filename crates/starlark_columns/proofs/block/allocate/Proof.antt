@@ -1,11 +1,13 @@
 -- `allocate` asks for an array's block, and keeps its bare places apart from the right to give it back. Assumes `Logic`.
-use Rattle.std.proofs.Common.{◌≡◌, ℕ, ◌*◌, ◌<◌, ◌^◌, Option, None, true, false, List, [], ◌∷◌, length, refl, sym, ap, subst, arith, lit<, w64, IfOk, Ok, Err}
+use Rattle.std.proofs.Common.{◌≡◌, ℕ, ◌*◌, ◌<◌, ◌^◌, Option, None, Bool, true, false, List, [], ◌∷◌, length, refl, sym, ap, subst, arith, lit<, w64, IfOk, Ok, Err}
 use base.Fml.{Fml, ftrue, fsep, froom, flft, Incl-trans}
 use base.Logic.{SProp, emp}
 use contract.BorrowLft.{◌⊑◌}
 use contract.Monad.{fact, fact_i}
 use contract.Running.{tables}
+use lib.Dec.{eqb}
 use lib.ListN.{length-replicate}
+use mathlib.Core.Bool.{cond}
 use mir.MapTy.{inst_fn}
 use mir.Syntax.{Ty, Body, named, ty_array}
 use mir.Val.{Val, vint, vptr, vstruct, vcons, vnil, WT}
@@ -13,7 +15,7 @@ use prog.Capped.{capped_fits}
 use prog.Memory.{align, capped}
 use prog.Wp.{Wp, after_seq, at_return}
 use types.ByLocal.{alloc_all, pass_all, free_all, look_at, get, get_in, get_tag, is, sets, sets_last, lands_as, env}
-use types.Kit.{Post as After, any_q, ‵, raw, ◌⊛◌, later, at_ret, ◌$◌, ◌∵◌, !, qed, by, move, keep, use0, use1, use2, use3, split, join, fsplit, fjoin, fjoin3, flt_i, await}
+use types.Kit.{Post as After, any_q, ‵, raw, ◌⊛◌, later, at_ret, ◌$◌, ◌∵◌, !, qed, by, move, keep, use0, use1, use2, use3, split, join, rewrite, fsplit, fjoin, fjoin3, flt_i, await}
 use types.Match.{live, vrt, in_variant}
 use types.Part.{whole, agg}
 use types.Run.{stop, fld, lit, size_word, align_word, no_more, and_then, of_opd, bin, first, switches_on, exec, returns, enter}
@@ -33,7 +35,7 @@ use denote.Struct.Tuple.{Tuple}
 use denote.Triple.Call.{calls_at}
 use denote.Triple.Table.{framed}
 use denote.Triple.Walked.{Stays, stay_dropped, walk_of, Goes-dropped}
-use Rattle.core.proofs.alloc.Calls.{Al, Answer-typed, Takes, at_takes, Answered, Takes-goes, Takes-gives, answers}
+use Rattle.core.proofs.alloc.Calls.{Al, token, Answer-typed, Takes, at_takes, Answered, Takes-goes, Takes-gives, answers}
 use Rattle.core.proofs.mem.Param.{El, R, elτ}
 use Rattle.core.proofs.slots.Bodies.{after, head, arm_body}
 use Rattle.core.proofs.slots.Leases.{uncapped, block_ty, block_size, block_align, args}
@@ -46,6 +48,7 @@ use Rattle.std_alloc.proofs.ResultValues.{ok_of, err_of}
 use Rattle.starlark_columns.specs.Places.{empties}
 use Rattle.starlark_columns.proofs.Fields.{word, mark, three, address_made, HeldData, held_made, ClaimData, claim_made}
 use Rattle.starlark_columns.proofs.Memory.{Row, of_room}
+use Rattle.starlark_columns.proofs.PairRooms.{some_weight}
 use Rattle.starlark_columns.specs.contracts.block.Address as address
 use Rattle.starlark_columns.specs.contracts.block.Claim as claim
 use Rattle.starlark_columns.specs.contracts.block.Held as held
@@ -69,7 +72,7 @@ allocate_spec 𝓤 𝓛 𝓜 𝓡 wired X U L LU g d dd met _ =
     let others : Fml = fsep (flft κs.1.0 qs.1.0) (fsep (flft κs.1.1.0 qs.1.1.0) ftrue) in let cs : List (Option X.Denot) = empties n in
     let Told : Out.Denot → Type 0 = λ r. IfOk r (λ t. (t.1.at ≡ t.0.at) × (t.1.places ≡ cs) × (t.2.at ≡ t.0.at) × (t.2.count ≡ n) × (t.2.alloc ≡ h)) in
     qed 𝓛 (((‵ (flft κ q) ⊛ ‵ others) ⊛ ‵ (owns (types_at En.signature.params κs) a y.0.4)) ∷ raw (fact 𝓤 (κs.1.0 ⊑ X.lives)) ∷ raw (fact 𝓤 (κs.1.1.0 ⊑ U.lives)) ∷ raw (fact 𝓤 (FitsInBlock (R E) n)) ∷ raw (fact 𝓤 (0 < n * s)) ∷ []) ∵
-    keep ! (2 ∷ 3 ∷ 0 ∷ []) $ heard ! (κs.1.1.0 ⊑ U.lives) (λ within. heard ! (FitsInBlock (R E) n) (λ fits. split ! $ split ! $ move ! (2 ∷ []) $ fsplit ! $ fsplit ! $ keep ! (1 ∷ 3 ∷ 4 ∷ []) $
+    keep ! (2 ∷ 3 ∷ 4 ∷ 0 ∷ []) $ heard ! (κs.1.1.0 ⊑ U.lives) (λ within. heard ! (FitsInBlock (R E) n) (λ fits. heard ! (0 < n * s) (λ some. split ! $ split ! $ move ! (2 ∷ []) $ fsplit ! $ fsplit ! $ keep ! (1 ∷ 3 ∷ 4 ∷ []) $
     let small : n * s < 2 ^ 63 = fits.0 in let bytes : n * s < 2 ^ 64 = omega arith in
     -- [the handle; its token; the other tokens]
     enter ! 𝓣.C 𝓣.Λ fn (vptr hp.0 hp.1 ∷ vint w64 n ∷ []) Post $ alloc_all ! (λ l. pass_all ! refl ((tt, tt), ((tt, record { fits = are.1.0.1 }), tt)) $ let Ev = env fn.locals l in
@@ -97,6 +100,7 @@ allocate_spec 𝓤 𝓛 𝓜 𝓡 wired X U L LU g d dd met _ =
     use1 𝓛 (‵ (froom (ty_array (elτ E) n) b o)) (𝓛.laws.raw-room (ty_array (elτ E) n) b o) $ use1 𝓛 (‵ (Row E 𝓛 b o cs)) (of_room E 𝓛 b n o) $
     flt_i ! (length cs * s) (2 ^ 63) (subst (λ k. k * s < 2 ^ 63) (sym (length-replicate n None)) small) $ fjoin ! $
     use0 𝓛 (‵ ((HeldData (R E)).own_val (tt, tt) (mark ∷ []))) (held_made (R E) 𝓛) $ fjoin ! $ move ! (1 ∷ []) $
+    rewrite ! 0 (λ (z : Bool). ‵ (cond z ftrue (token Z h τ p))) {x = eqb (n * s) 0} {y = false} (sym (some_weight (n * s) some)) refl $
     use0 𝓛 (‵ ((ClaimData (R E) W g).own_val (tt, tt) (mark ∷ []))) (claim_made (R E) W g 𝓛) $ fjoin ! $ move ! (1 ∷ 0 ∷ []) $
     use0 𝓛 (‵ (At.own_val x.0 (word p ∷ []))) (address_made (R E) 𝓛 p) $
     use3 𝓛 (‵ (Three.own_val x (u ∷ []))) (three 𝓛 At Own x.0 x.1 (word p) mark Right x.2 mark) $
@@ -111,4 +115,4 @@ allocate_spec 𝓤 𝓛 𝓜 𝓡 wired X U L LU g d dd met _ =
     owned ! (Struct (Declared.shape refusal.the_type)) (Is (Struct (Declared.shape refusal.the_type))) (Struct-Makes 𝓛 (Declared.shape refusal.the_type) tt) tt (u ∷ []) (tt, (refl, tt)) $
     use1 𝓛 (‵ (Out.own_val (Err (record {})) (r ∷ []))) (err_of 𝓛 Three refusal.the_row (record {}) u) $
     use0 𝓛 (raw (fact 𝓤 (Told (Err (record {}))))) (fact_i 𝓤 (Told (Err (record {}))) (emp 𝓤) tt) $ nothing ! $ nothing ! $ nothing ! $ fjoin3 ! $
-    keep ! (3 ∷ 0 ∷ 2 ∷ 1 ∷ []) $ by ! (leaves 𝓛 En hs c y r (Err (record {})) (tt, (tt, tt)) (tt, (tt, tt)))))))))
+    keep ! (3 ∷ 0 ∷ 2 ∷ 1 ∷ []) $ by ! (leaves 𝓛 En hs c y r (Err (record {})) (tt, (tt, tt)) (tt, (tt, tt))))))))))

@@ -1,11 +1,13 @@
 -- `deallocate` makes one room of the bare places, and hands it back with the right to do so. Assumes `Logic`.
-use Rattle.std.proofs.Common.{◌≡◌, ℕ, ◌*◌, ◌<◌, ◌^◌, Option, None, T, List, [], ◌∷◌, refl, sym, ap, subst, ◌∙◌, arith, w64}
+use Rattle.std.proofs.Common.{◌≡◌, ℕ, ◌*◌, ◌<◌, ◌^◌, Option, None, T, Bool, false, List, [], ◌∷◌, refl, sym, ap, subst, ◌∙◌, arith, w64}
 use base.Fml.{Fml, ftrue, fsep, froom, flft, Incl-trans}
 use base.Logic.{SProp, never, id⊢}
 use contract.BorrowLft.{◌⊑◌}
 use contract.Monad.{fact}
 use contract.Running.{tables}
+use lib.Dec.{eqb}
 use lib.ListN.{length-replicate}
+use mathlib.Core.Bool.{cond}
 use mir.MapTy.{inst_fn}
 use mir.Syntax.{Ty, named, ty_unit, ty_array}
 use mir.Val.{Val, vunit, vint, vptr, has_ty, WT}
@@ -33,10 +35,11 @@ use Rattle.core.proofs.slots.Bodies.{after}
 use Rattle.core.proofs.slots.Leases.{uncapped, block_ty, block_size, block_align, args}
 use Rattle.std.proofs.raw_atomic.Walks.{proved, leaves}
 use Rattle.std.specs.Mem.{type_size}
-use Rattle.starlark_columns.specs.Owned.{places_owned, row_owned, claim_owned}
+use Rattle.starlark_columns.specs.Owned.{places_owned, row_owned}
 use Rattle.starlark_columns.specs.Places.{empties}
 use Rattle.starlark_columns.proofs.Fields.{word, word_good, mark, address_told, held_told, claim_told}
 use Rattle.starlark_columns.proofs.Memory.{to_room}
+use Rattle.starlark_columns.proofs.PairRooms.{some_weight}
 use Rattle.starlark_columns.specs.contracts.block.Address as address
 use Rattle.starlark_columns.specs.contracts.block.Claim as claim
 use Rattle.starlark_columns.specs.contracts.block.Held as held
@@ -69,14 +72,15 @@ deallocate_spec 𝓤 𝓛 𝓜 𝓡 wired X U L LU g d dd met _ =
     let y : (walk_of 𝓛 En hs c).Ghost = ((κs, qs, bounds, a, (vptr hp.0 hp.1 ∷ [], (word p ∷ [], (vint w64 n ∷ [], (mark ∷ [], (mark ∷ [], tt)))))), gh) in let Post : Val → SProp 𝓤 = (walk_of 𝓛 En hs c).post y in
     let others : Fml = fsep (flft κs.1.0 qs.1.0) (fsep (flft κs.1.1.0 qs.1.1.0) ftrue) in
     let Bare : Type 0 = (own.at ≡ p) × (own.places ≡ cs) in let Its : Type 0 = (right.at ≡ p) × (right.count ≡ n) × (right.alloc ≡ h) in
-    qed 𝓛 (((‵ (flft κ q) ⊛ ‵ others) ⊛ ‵ (owns (types_at En.signature.params κs) a y.0.4)) ∷ raw (fact 𝓤 (κs.1.0 ⊑ X.lives)) ∷ raw (fact 𝓤 (κs.1.1.0 ⊑ U.lives)) ∷ raw (fact 𝓤 Bare) ∷ raw (fact 𝓤 Its) ∷ []) ∵
-    keep ! (2 ∷ 3 ∷ 4 ∷ 0 ∷ []) $ heard ! (κs.1.1.0 ⊑ U.lives) (λ within. heard ! Bare (λ bare. heard ! Its (λ its. split ! $ split ! $ move ! (2 ∷ []) $
+    qed 𝓛 (((‵ (flft κ q) ⊛ ‵ others) ⊛ ‵ (owns (types_at En.signature.params κs) a y.0.4)) ∷ raw (fact 𝓤 (κs.1.0 ⊑ X.lives)) ∷ raw (fact 𝓤 (κs.1.1.0 ⊑ U.lives)) ∷ raw (fact 𝓤 Bare) ∷ raw (fact 𝓤 Its) ∷ raw (fact 𝓤 (0 < n * s)) ∷ []) ∵
+    keep ! (2 ∷ 3 ∷ 4 ∷ 5 ∷ 0 ∷ []) $ heard ! (κs.1.1.0 ⊑ U.lives) (λ within. heard ! Bare (λ bare. heard ! Its (λ its. heard ! (0 < n * s) (λ some. split ! $ split ! $ move ! (2 ∷ []) $
     fsplit ! $ move ! (1 ∷ []) $ fsplit ! $ move ! (1 ∷ []) $ fsplit ! $ move ! (1 ∷ []) $ fsplit ! $ fsplit ! $ move ! (2 ∷ []) $ fsplit ! $ fsplit ! $ keep ! (4 ∷ 1 ∷ 7 ∷ 8 ∷ 9 ∷ []) $ move ! (2 ∷ []) $ fsplit ! $ keep ! (2 ∷ 3 ∷ 1 ∷ 4 ∷ 5 ∷ []) $
     -- [the places; the right; the handle; its token; the other tokens]
     rewrite ! 0 (λ (z : Ptr × List (Option X.Denot)). ‵ (row_owned (R E) z.0 z.1)) {x = (p, cs)} {y = (own.at, own.places)} (λ i. (bare.0 i, bare.1 i)) refl $ fsplit ! $ flt_l ! (λ fit.
     in_a_block ! p (λ r. in_block r (places_owned (R E) r cs)) (id⊢ 𝓤 (never 𝓤)) (λ b o at.
     let small : n * s < 2 ^ 63 = subst (λ k. k * s < 2 ^ 63) (length-replicate n None) fit in let bytes : n * s < 2 ^ 64 = omega arith in
-    rewrite ! 1 (λ (z : U.Denot × Ptr × ℕ). ‵ (claim_owned (R E) (token Z z.0) z.1 z.2)) {x = (h, block_ptr b o, n)} {y = (right.alloc, right.at, right.count)} (λ i. (its.2 i, (its.0 ∙ at) i, its.1 i)) refl $
+    rewrite ! 1 (λ (z : U.Denot × Ptr × ℕ × Bool). ‵ (cond z.3 ftrue (token Z z.0 (block_ty E z.2) z.1))) {x = (h, block_ptr b o, n, false)} {y = (right.alloc, right.at, right.count, eqb (right.count * s) 0)}
+    (λ i. (its.2 i, (its.0 ∙ at) i, its.1 i, (ap (λ k. eqb (k * s) 0) its.1 ∙ some_weight (n * s) some) i)) refl $
     use1 𝓛 (‵ (froom (ty_array (elτ E) n) b o)) (to_room E 𝓛 b n o) $ use1 𝓛 (‵ (froom τ b o)) (𝓛.laws.room-raw (ty_array (elτ E) n) b o) $
     enter ! 𝓣.C 𝓣.Λ fn (vptr hp.0 hp.1 ∷ word p ∷ vint w64 n ∷ mark ∷ mark ∷ []) Post $
     alloc_all ! (λ l. pass_all ! refl ((tt, tt), (word_good p, ((tt, record { fits = are.1.1.0.1 }), ((tt, (tt, tt)), ((tt, (tt, tt)), tt))))) $ let Ev = env fn.locals l in
@@ -90,4 +94,4 @@ deallocate_spec 𝓤 𝓛 𝓜 𝓡 wired X U L LU g d dd met _ =
     lands_last ! refl (subst (λ (u : Val). T (has_ty ty_unit u) × WT u) (sym e) (tt, tt)) $ exec ! 𝓣.C 𝓣.Λ Ev (after 1 fn.body) (at_ret Ev Post) $
     sets ! (of_opd ! (unit_lit !)) refl (tt, tt) $ returns ! (look_at ! 0 refl) $ free_all ! refl $
     join ! $ nothing ! $ feq_i ! (List Val) (vunit ∷ []) (vunit ∷ []) refl $ nothing ! $ nothing ! $ fjoin ! $ nothing ! $ fjoin ! $ nothing ! $ fjoin ! $ nothing ! $ fjoin ! $ nothing ! $ fjoin ! $
-    keep ! (3 ∷ 0 ∷ 1 ∷ 2 ∷ []) $ by ! (leaves 𝓛 En hs c y vunit tt (tt, (tt, (tt, (tt, (tt, tt))))) (tt, (tt, (tt, (tt, (tt, tt)))))))))))))))
+    keep ! (3 ∷ 0 ∷ 1 ∷ 2 ∷ []) $ by ! (leaves 𝓛 En hs c y vunit tt (tt, (tt, (tt, (tt, (tt, tt))))) (tt, (tt, (tt, (tt, (tt, tt))))))))))))))))

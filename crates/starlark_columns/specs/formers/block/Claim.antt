@@ -1,10 +1,13 @@
 -- `Claim` as a type that may name the type that it is about. It holds none of its values.
-use Rattle.std.specs.Prelude.{ℕ}
+use Rattle.std.specs.Prelude.{ℕ, ◌*◌}
+use mathlib.Core.Bool.{cond}
+use lib.Dec.{eqb}
 use mathlib.Core.Path.{refl}
 use mathlib.Core.Former.{Former, const, this, via}
-use base.Fml.{fsep}
+use base.Fml.{ftrue, fsep}
 use mir.Raw.{raw}
 use mir.Syntax.{ty_array}
+use prog.Memory.{size}
 use denote.RattleType.{RattleType}
 use denote.RawPtr.{Ptr}
 use denote.Memory.{lone}
@@ -28,7 +31,7 @@ module _ (A : RattleType) (G : Ghosts A.Denot) (R R' : RattleType) (h : R.Denot 
   pub the_places : Alike R R' h → Alike (claim.the_row R A G) (claim.the_row R' A G) ((the_former this A.Denot).map R.Denot R'.Denot h)
   the_places a = record {
     mir_same = refl;
-    own_same = λ d i vs. fsep ((Struct (shape (claim.the_type R A G))).own_val (to (claim.the_type R A G) d) vs) (G.dealloc_token d.alloc (raw (ty_array (lone (a.mir_same i)) d.count)) d.at);
+    own_same = λ d i vs. fsep ((Struct (shape (claim.the_type R A G))).own_val (to (claim.the_type R A G) d) vs) (cond (eqb (d.count * size (lone (a.mir_same i))) 0) ftrue (G.dealloc_token d.alloc (raw (ty_array (lone (a.mir_same i)) d.count)) d.at));
     shr_same = λ d. refl;
   }
 

@@ -1,7 +1,7 @@
 -- `Column` as a type that may hold the type that holds it, by its places.
-use Rattle.std.specs.Prelude.{◌≡◌, ℕ, List, [], Option, Some, None}
+use Rattle.std.specs.Prelude.{ℕ, List, [], Option}
 use mathlib.Core.Path.{refl, sym, ◌∙◌}
-use mathlib.Core.HLevel.{×_prop, ×₃_prop, Unit-prop}
+use mathlib.Core.HLevel.{×_prop, ×₃_prop}
 use mathlib.Core.Former.{Former, this, const, pair, list, via}
 use native.Mathlib.Nat.{ℕ_set}
 use lib.ListN.{length-map}
@@ -9,18 +9,16 @@ use base.Stored.{Coded-set, code_map, coded⊎, coded_unit}
 use denote.RattleType.{RattleType}
 use denote.RawPtr.{Ptr, coded_ptr}
 use denote.HoleLaws.{Alike}
-use denote.HolePlaces.{Recodes, struct_places, enum_places, eachs, laid}
+use denote.HolePlaces.{Recodes, struct_places, laid}
 use denote.Hole.Fix.{over}
 use denote.Param.Weighed.{Weighed, w_list}
 use denote.Model.Placed.{view_places}
 use Rattle.std.specs.declared.alloc.Global.{Global}
 use Rattle.std.specs.contracts.alloc.Global as heap
 use Rattle.std.specs.contracts.impls.GlobalAllocator.TheImpl.{ghosts}
-use Rattle.std.specs.contracts.option.Option as option
 use Rattle.starlark_columns.specs.declared.block.Address.{Address}
 use Rattle.starlark_columns.specs.declared.block.Claim.{Claim}
 use Rattle.starlark_columns.specs.contracts.block.Address as address
-use Rattle.starlark_columns.specs.contracts.block.Claim as claim
 use Rattle.starlark_columns.specs.declared.column.Column.TheInside.{Inside}
 use Rattle.starlark_columns.specs.declared.column.Column.TheView.{view, invariant}
 use Rattle.starlark_columns.specs.contracts.column.Column as column
@@ -46,57 +44,25 @@ address_at X Y b = record { at = b.at }
 abbrev pub claim_at : (X Y : Type 0) → Claim X Global → Claim Y Global
 claim_at X Y d = record { mark = d.mark; at = d.at; count = d.count; alloc = d.alloc }
 
-abbrev pub claims_at : (X Y : Type 0) → Option (Claim X Global) → Option (Claim Y Global)
-claims_at X Y None = None
-claims_at X Y (Some d) = Some (claim_at X Y d)
-
-pub there_and_back : (X Y : Type 0) (o : Option (Claim X Global)) → claims_at Y X (claims_at X Y o) ≡ o
-there_and_back X Y None = refl
-there_and_back X Y (Some d) = refl
-
 abbrev pub fields : Former {0}
-fields = via (pair (held_is.the_former this) (const (Address ⊥ × ℕ × Option (Claim ⊥ Global)))) Inside (λ X a. (a.held, (address_at X ⊥ a.address, a.count, claims_at X ⊥ a.claim)))
-    (λ X v. record { address = address_at ⊥ X v.1.0; count = v.1.1; held = v.0; claim = claims_at ⊥ X v.1.2 })
-    (λ X a i. record { address = a.address; count = a.count; held = a.held; claim = there_and_back X ⊥ a.claim i }) (λ X v i. (v.0, (v.1.0, v.1.1, there_and_back ⊥ X v.1.2 i)))
+fields = via (pair (held_is.the_former this) (const (Address ⊥ × ℕ × Claim ⊥ Global))) Inside (λ X a. (a.held, (address_at X ⊥ a.address, a.count, claim_at X ⊥ a.claim)))
+    (λ X v. record { address = address_at ⊥ X v.1.0; count = v.1.1; held = v.0; claim = claim_at ⊥ X v.1.2 }) (λ X a. refl) (λ X v. refl)
 
--- a claim at another type, by way of the fields' former
-abbrev pub claims_through : (X Y : Type 0) → Option (Claim X Global) → Option (Claim Y Global)
-claims_through X Y o = claims_at ⊥ Y (claims_at X ⊥ o)
-
-module _ {X : Type 0} (Y : Type 0) (p : Ptr) (n : ℕ) where
-  claim_to : (o : Option (Claim X Global)) → IsClaimTo p n o → IsClaimTo p n (claims_through X Y o)
-  claim_to None s = tt
-  claim_to (Some d) s = s
-
-  claim_from : (o : Option (Claim X Global)) → IsClaimTo p n (claims_through X Y o) → IsClaimTo p n o
-  claim_from None s = tt
-  claim_from (Some d) s = s
-
-IsClaimTo-prop : {X : Type 0} (p : Ptr) (n : ℕ) (o : Option (Claim X Global)) → IsProp (IsClaimTo p n o)
-IsClaimTo-prop p n None = Unit-prop
-IsClaimTo-prop p n (Some d) = ×_prop (Coded-set coded_ptr _ _) (ℕ_set _ _)
+IsClaimTo-prop : {X : Type 0} (p : Ptr) (n : ℕ) (d : Claim X Global) → IsProp (IsClaimTo p n d)
+IsClaimTo-prop p n d = ×_prop (Coded-set coded_ptr _ _) (ℕ_set _ _)
 
 module _ (R R' : RattleType) (h : R.Denot → R'.Denot) where
-  abbrev Right : RattleType → RattleType
-  Right V = claim.the_row V heap.the_row ghosts
-
-  variant : (o : Option (Claim R.Denot Global))
-      → (option.enum (Right R')).as_values (claims_through R.Denot R'.Denot o)
-      ≡ eachs (option.enum (Right R)).parts (option.enum (Right R')).parts (tt, ((claim_at R.Denot R'.Denot, tt), tt)) ((option.enum (Right R)).as_values o)
-  variant None = refl
-  variant (Some d) = refl
-
   pub the_places : Alike R R' h → Alike (column.the_row R) (column.the_row R') ((the_former this).map R.Denot R'.Denot h)
   the_places a =
       let at = struct_places (address.the_type R) (address.the_type R') ((λ p. p), tt) (address_at R.Denot R'.Denot) (λ d. refl) refl ((refl, (λ n. refl, λ n. refl)), tt) in
-      let right = enum_places (option.enum (Right R)) (option.enum (Right R')) (tt, ((claim_at R.Denot R'.Denot, tt), tt)) (claims_through R.Denot R'.Denot) variant refl (tt, ((laid _ _ _ (claim_is.the_places heap.the_row ghosts R R' h a), tt), tt)) in
+      let right = claim_is.the_places heap.the_row ghosts R R' h a in
       view_places fields (the_former this) view (λ X Y k u. refl) (λ X u. refl) R.Denot R'.Denot h (column.the_row R).coded (column.the_row R').coded
       (invariant R.Denot) (invariant R'.Denot)
       (λ u. ×₃_prop (Coded-set coded_ptr _ _) (ℕ_set _ _) (IsClaimTo-prop _ _ u.claim)) (λ u. ×₃_prop (Coded-set coded_ptr _ _) (ℕ_set _ _) (IsClaimTo-prop _ _ u.claim))
-      (λ u s. (s.0, length-map u.held.places (mapped_place h) ∙ s.1, claim_to R'.Denot u.address.at u.count u.claim s.2))
-      (λ u s. (s.0, sym (length-map u.held.places (mapped_place h)) ∙ s.1, claim_from R'.Denot u.address.at u.count u.claim s.2))
+      (λ u s. (s.0, length-map u.held.places (mapped_place h) ∙ s.1, s.2))
+      (λ u s. (s.0, sym (length-map u.held.places (mapped_place h)) ∙ s.1, s.2))
       (over (inside.the_row R)) (over (inside.the_row R'))
-      (struct_places (inside.the_type R) (inside.the_type R') (address_at R.Denot R'.Denot, (λ n. n, ((held_is.the_former this).map R.Denot R'.Denot h, (claims_through R.Denot R'.Denot, tt)))) _ (λ d. refl) refl
+      (struct_places (inside.the_type R) (inside.the_type R') (address_at R.Denot R'.Denot, (λ n. n, ((held_is.the_former this).map R.Denot R'.Denot h, (claim_at R.Denot R'.Denot, tt)))) _ (λ d. refl) refl
       (laid _ _ _ at, ((refl, (λ n. refl, λ n. refl)), (laid _ _ _ (held_is.the_places R R' h a), (laid _ _ _ right, tt)))))
 
   pub the_codes_placed : Recodes R R' h → Recodes (column.the_row R) (column.the_row R') ((the_former this).map R.Denot R'.Denot h)
