@@ -1,7 +1,7 @@
 -- What a step on slots is on places.
 use Rattle.std.proofs.Common.{◌≡◌, ℕ, zero, suc, ◌+◌, ◌-◌, ◌<◌, ◌≤◌, min, max, Bool, true, false, List, [], ◌∷◌, ◌++◌, map, length, take, drop, get_or, Option, Some, None, refl, sym, ap, subst, ◌∙◌, arith}
-use lib.ListN.{set, take-append-drop, get_or-replicate, length-take, length-drop, length-replicate, length-append, length-set}
-use lib.Seq.{drop-cons, get_or-set_same, get_or-set_other, set-get_or}
+use lib.ListN.{set, take-append-drop, get_or-replicate, length-take, length-drop, length-replicate, length-append}
+use lib.Seq.{drop-cons, set-get_or}
 use mathlib.Core.List.{append-nil}
 use mathlib.Core.Logic.{◌⊎◌, inl, inr, ⊎_elim}
 use Rattle.std.proofs.lemmas.List.{ext_get_or, get_or-take, get_or-drop, get_or_append_left, get_or-append_right, length-map}
@@ -247,30 +247,6 @@ module _ {X : Type 0} where
       omega (arith, count, full.0, full.1, length-append (take from cs) (map Some new ++ drop to cs), length-append (map Some new) (drop to cs), length-map new Some, length-take from cs, length-drop to cs)
 
   module _ (cs : List (Option X)) (i j : ℕ) (x y : X) (at_i : get_or cs i None ≡ Some x) (at_j : get_or cs j None ≡ Some y) (apart : ¬ (j ≡ i)) where
-    first_out : List (Option X)
-    first_out = set cs i None
-
-    both_out : List (Option X)
-    both_out = set first_out j None
-
-    in_i : i < length cs
-    in_i = filled_within cs i (x, at_i)
-
-    in_j : j < length cs
-    in_j = filled_within cs j (y, at_j)
-
-    pub second_filled : get_or (set cs i None) j None ≡ Some y
-    second_filled = get_or-set_other cs i j None None apart ∙ at_j
-
-    pub first_free : (i < length (set (set cs i None) j None)) × (get_or (set (set cs i None) j None) i None ≡ None)
-    first_free = (omega (arith, in_i, length-set cs i None, length-set (set cs i None) j None), get_or-set_other (set cs i None) j i None None (λ e. apart (sym e)) ∙ get_or-set_same cs i None None in_i)
-
-    pub second_free : (j < length (set (set (set cs i None) j None) i (Some y))) × (get_or (set (set (set cs i None) j None) i (Some y)) j None ≡ None)
-    second_free = let one = set cs i None in let bs = set one j None in (
-      omega (arith, in_j, length-set cs i None, length-set one j None, length-set bs i (Some y)),
-      get_or-set_other bs i j (Some y) None apart ∙ get_or-set_same one j None None (omega (arith, in_j, length-set cs i None)),
-    )
-
     pub both_set : set (set (set (set cs i None) j None) i (Some y)) j (Some x) ≡ exchanged cs i j
     both_set = ap (λ l. set l j (Some x)) (set_past (set cs i None) j i None (Some y) apart ∙ ap (λ l. set l j None) (set_again cs i None (Some y))) ∙ set_again (set cs i (Some y)) j None (Some x)
         ∙ (λ k. set (set cs i (sym at_j k)) j (sym at_i k))

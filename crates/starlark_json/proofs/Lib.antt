@@ -1,4 +1,3 @@
 mod Images
 mod InOrder
-mod Reading
 mod Writing

@@ -34,15 +34,6 @@ module _ {K V : Type 0} (q : Hashed K → Bool) where
   value-later e es None = refl
   value-later e es (Some i) = refl
 
-  value_step : (b : Bool) (d e : Entry K V) (ds es : List (Entry K V)) (o o' : Option ℕ) → d.1 ≡ e.1 → value_at ds o ≡ value_at es o'
-      → value_at (d ∷ ds) (cond b (Some 0) (option_map suc o)) ≡ value_at (e ∷ es) (cond b (Some 0) (option_map suc o'))
-  value_step true d e ds es o o' same rest = ap Some same
-  value_step false d e ds es o o' same rest = value-later d ds o ∙ rest ∙ sym (value-later e es o')
-
-  -- the values where they are looked up
-  value_found : List (Entry K V) → Option V
-  value_found es = value_at es (position tests es)
-
   value_found-cons : (e : Entry K V) (es : List (Entry K V)) → value_at (e ∷ es) (position tests (e ∷ es)) ≡ cond (q e.0) (Some e.1) (value_at es (position tests es))
   value_found-cons e es = ap (value_at (e ∷ es)) (position-cons tests e es) ∙ elim (q e.0) as (λ b. value_at (e ∷ es) (cond b (Some 0) (option_map suc (position tests es))) ≡ cond b (Some e.1) (value_at es (position tests es))) [
     | true ↦ refl

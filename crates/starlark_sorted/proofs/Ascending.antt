@@ -19,7 +19,6 @@ use Rattle.starlark_lists.specs.Sorting.{Ascends, key_lt, sorted_by_key}
 use Rattle.starlark_lists.proofs.EntryLemmas.{length-set_value_at, set_value_at-key}
 use Rattle.starlark_lists.proofs.SortingLemmas.{key_lt-order, sorted_by-sorted}
 use Rattle.starlark_small.specs.Clone.{IsEqualClone}
-use Rattle.starlark_vec2.specs.Collect.{IsLawfulClone}
 use Rattle.starlark_lists.specs.Clone.{IsEntryClone}
 use Rattle.starlark_vecmap.specs.EntryList.{with_values}
 use Rattle.starlark_vecmap.proofs.ValuesWritten.{length-with_values}
@@ -69,13 +68,6 @@ module _ {K : Type 0} {cmp : K → K → Ordering} {eq : K → K → Bool} (tota
         let hashes = own j d inside ∙ ap (own_hash (λ (writes : HashWrites). writes)) (sym (respects x y same)) ∙ sym (own i d (omega (arith, below, inside))) in
         let under = eq-eqb (hash_number (entry_hash f)) (hash_number (entry_hash e)) (ap hash_number hashes) in
         false≢true (sym (single i j d below inside) ∙ ap (λ b. b && eq x y) under ∙ same))
-
--- where a clone is its original's value, clones are the list
-pub lawful_clones : {X : Type 0} (is_clone : X → X → Type 0) → IsLawfulClone is_clone → (xs ys : List X) → AllZip is_clone xs ys → ys ≡ xs
-lawful_clones is_clone lawful [] [] zip = refl
-lawful_clones is_clone lawful [] (y ∷ ys) zip = absurd zip
-lawful_clones is_clone lawful (x ∷ xs) [] zip = absurd zip
-lawful_clones is_clone lawful (x ∷ xs) (y ∷ ys) zip = λ i. lawful x y zip.0 i ∷ lawful_clones is_clone lawful xs ys zip.1 i
 
 module _ {K V : Type 0} where
   -- writing values keeps each key under its hash

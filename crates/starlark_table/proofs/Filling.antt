@@ -1,5 +1,5 @@
 -- What the tag of a place says of it, in the words of a column.
-use Rattle.std.proofs.Common.{◌≡◌, ℕ, zero, suc, add-one, ◌+◌, ◌<◌, ◌≤◌, List, [], ◌∷◌, length, drop, Option, Some, None, IsSome, is_some, true, false, nat_eq, get_or, arith, refl, sym, ◌∙◌, ap, inl, inr, eq-eqb}
+use Rattle.std.proofs.Common.{◌≡◌, ℕ, zero, suc, add-one, ◌+◌, ◌<◌, ◌≤◌, List, [], ◌∷◌, length, drop, Option, Some, None, IsSome, is_some, true, nat_eq, get_or, arith, refl, sym, ◌∙◌, ap, inl, inr, eq-eqb}
 use Rattle.std.proofs.lemmas.Bool.{ne_eqb, cases_lt, cases_order}
 use Rattle.std.proofs.lemmas.List.{get_or-set_other, get_or-set_same, set_comm}
 use Rattle.std.proofs.lemmas.List.Edits.{swap_is}
@@ -20,10 +20,6 @@ module _ {T : Type 0} where
   pub some-by_test : (o : Option (ℕ × T)) → is_some o ≡ true → IsSome o
   some-by_test None e = absurd (cc)
   some-by_test (Some m) e = refl
-
-  pub none-by_test : (o : Option (ℕ × T)) → is_some o ≡ false → o ≡ None
-  none-by_test None e = refl
-  none-by_test (Some m) e = absurd (cc)
 
   -- a place with another tag than the empty one holds a member
   pub filled-by_tag : (tags : List ℕ) (slots : List (Option (ℕ × T))) (p : ℕ) → IsTagged tags slots → p < length slots

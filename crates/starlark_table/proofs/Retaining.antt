@@ -157,9 +157,6 @@ module _ {F T : Type 0} (g : Mut F (MutBor T × Unit {0}) (Bool × (MutBor T × 
       ];
     }
 
-  pub stands-at_first : (slots : List (Option (ℕ × T))) → StandsIn slots slots
-  stands-at_first slots = record { sized = refl; stood = λ p h y e. (y, e) }
-
   pub retains_all : (first f : F) (initial cur : List (Option (ℕ × T))) (i : ℕ) → length initial ≤ i → length cur ≡ length initial
       → ((rest : List (ℕ × T)) → RetainsInTurn (AsksMember g) f (filled (drop i initial)) rest
       → RetainsInTurn (AsksMember g) first (filled initial) (filled (take i cur) ++ rest))

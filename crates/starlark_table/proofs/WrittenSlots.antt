@@ -1,18 +1,9 @@
 -- Slots whose members were written stay as they were but for these: empty, or full under their hashes.
 use Rattle.std.proofs.Common.{◌≡◌, ℕ, suc, List, [], ◌∷◌, length, Option, Some, None, refl, ap}
 use Rattle.starlark_columns.specs.Lent.{kept_places}
-use Rattle.starlark_table.specs.Written.{with_items_of, with_values_of}
 use Rattle.starlark_table.proofs.Shape.{shape}
 
 module _ {T : Type 0} where
-  -- what is kept of a pair, and what is kept of an entry
-  pub kept-items : (xs ws : List (Option (ℕ × T))) → kept_places (λ x w. (x.0, w.1)) xs ws ≡ with_items_of xs ws
-  kept-items [] ws = refl
-  kept-items (x ∷ xs) [] = ap (λ l. x ∷ l) (kept-items xs [])
-  kept-items (None ∷ xs) (w ∷ ws) = ap (λ l. None ∷ l) (kept-items xs ws)
-  kept-items (Some x ∷ xs) (None ∷ ws) = ap (λ l. Some x ∷ l) (kept-items xs ws)
-  kept-items (Some x ∷ xs) (Some w ∷ ws) = ap (λ l. Some (x.0, w.1) ∷ l) (kept-items xs ws)
-
   -- the hashes stay
   module _ (kept : ℕ × T → ℕ × T → ℕ × T) (hash : (x w : ℕ × T) → (kept x w).0 ≡ x.0) where
     pub shape-kept_places : (xs ws : List (Option (ℕ × T))) → shape (kept_places kept xs ws) ≡ shape xs
@@ -38,11 +29,3 @@ module _ {X : Type 0} (kept : X → X → X) where
     again-kept_places (None ∷ xs) (w ∷ ws) = ap (λ l. None ∷ l) (again-kept_places xs ws)
     again-kept_places (Some x ∷ xs) (None ∷ ws) = λ i. Some (itself x i) ∷ again-kept_places xs ws i
     again-kept_places (Some x ∷ xs) (Some w ∷ ws) = λ i. Some (again x w i) ∷ again-kept_places xs ws i
-
-module _ {K V : Type 0} where
-  pub kept-values : (xs ws : List (Option (ℕ × (K × V)))) → kept_places (λ x w. (x.0, (x.1.0, w.1.1))) xs ws ≡ with_values_of xs ws
-  kept-values [] ws = refl
-  kept-values (x ∷ xs) [] = ap (λ l. x ∷ l) (kept-values xs [])
-  kept-values (None ∷ xs) (w ∷ ws) = ap (λ l. None ∷ l) (kept-values xs ws)
-  kept-values (Some x ∷ xs) (None ∷ ws) = ap (λ l. Some x ∷ l) (kept-values xs ws)
-  kept-values (Some x ∷ xs) (Some w ∷ ws) = ap (λ l. Some (x.0, (x.1.0, w.1.1)) ∷ l) (kept-values xs ws)

@@ -163,6 +163,3 @@ module _ {V : Type 0} where
           | Ok t ↦ λ done kept. ap (λ o. option_or o (found around other)) (bound-assigned_other old new key value other differ done)
           | Err e ↦ λ done kept. same_entries_same kept.0 other
         ] put refused
-
-    pub lookup_refused : OnErr r ((other : List ℕ) → Stays other)
-    lookup_refused = elim r as (λ r. OnErr r ((new.entries ≡ old.entries) × (new.indexed ≡ old.indexed)) → OnErr r ((other : List ℕ) → Stays other)) [ Ok t ↦ λ kept. kept | Err e ↦ λ kept. same_entries_same kept.0 ] refused

@@ -1,5 +1,5 @@
 -- Numbers of texts: what a look-up in the set of strings finds, and what stands once a text is put last.
-use Rattle.std.proofs.Common.{◌≡◌, ℕ, zero, suc, ◌<◌, Bool, true, false, cond, eqb, List, [], ◌∷◌, ◌++◌, length, get_or, Option, Some, None, IfSome, Result, Ok, is_some, refl, sym, ap, subst, ◌∙◌, arith, below_more, eq-eqb}
+use Rattle.std.proofs.Common.{◌≡◌, ℕ, zero, suc, ◌<◌, Bool, true, false, cond, eqb, List, [], ◌∷◌, ◌++◌, length, get_or, Option, Some, None, IfSome, Result, Ok, refl, sym, ap, subst, ◌∙◌, arith, below_more, eq-eqb}
 use Rattle.std.specs.Prelude.{◌&&◌, All, slice_get}
 use Rattle.std.specs.Option.{option_map}
 use Rattle.std.specs.Borrow.{Bor}
@@ -22,7 +22,7 @@ use Rattle.starlark_lists.proofs.PositionLemmas.{position-cons}
 use Rattle.starlark_sets.specs.Set.{AddsFor, Elements, Set}
 use Rattle.starlark_small.proofs.CallerPositions.{found_before, pushed_first, pushed_other}
 use Rattle.starlark_small.proofs.CallerKeys.{and_false}
-use Rattle.starlark_uses.specs.Interned.{HasNumbers, Texts, interned, number_of, text_of, texts_in}
+use Rattle.starlark_uses.specs.Interned.{HasNumbers, Texts, number_of, text_of, texts_in}
 
 abbrev pub Strings : Type 0
 Strings = Elements (String Global)
@@ -126,13 +126,6 @@ pub number_of-text : (es : Strings) → HasNumbers es → (text : List ℕ) (num
 number_of-text es has text number is =
     ap (number_of (texts_in es)) (sym (get_or_from_slice_get (texts_in es) number text [] is)) ∙ has.numbers number [] (slice_get_within (texts_in es) number text is)
 
--- no text has a number
-pub none_numbered : (es : Strings) → es ≡ [] → HasNumbers es
-none_numbered es is = subst HasNumbers (sym is) (record {
-  own = λ k d below. absurd (omega (arith, below));
-  numbers = λ i d below. absurd (omega (arith, below));
-})
-
 -- what an addition to the set does to the texts, where the text had no number
 pub put_last : {E : Type 0} (old new : Set (String Global)) (text : List ℕ) (r : Result (Bor (String Global)) E) (shown : Bor (String Global)) (texts : Texts)
     → HasNumbers old.entries → texts_in old.entries ≡ texts → number_of texts text ≡ None
@@ -156,9 +149,6 @@ module _ (texts all : Texts) (text : List ℕ) (number : ℕ) (none : number_of 
 
   pub next_different : (other : List ℕ) → number_of all other ≡ Some number → other ≡ text
   next_different other has = one_text all text other number next_number has
-
-  pub next_interned : all ≡ interned texts text
-  next_interned = last ∙ sym (ap (λ o. cond (is_some o) texts (texts ++ text ∷ [])) none)
 
 pub numbered_so : (texts : Texts) (text : List ℕ) (o : Option ℕ) → o ≡ number_of texts text → IfSome o (λ number. text_of texts number ≡ Some text)
 numbered_so texts text None is = tt

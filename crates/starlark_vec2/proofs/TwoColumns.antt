@@ -11,7 +11,7 @@ use Rattle.starlark_columns.specs.Front.{with_items}
 use Rattle.starlark_columns.specs.Between.{IsBetween}
 use Rattle.starlark_columns.proofs.Fronts.{written_front, written_items, written_places, set_front, all_written}
 use Rattle.starlark_vec2.specs.Columns.{AreColumns}
-use Rattle.starlark_vec2.specs.PairList.{PairList, pair_list, with_pairs, firsts_of, seconds_of}
+use Rattle.starlark_vec2.specs.PairList.{PairList, pair_list, with_pairs, firsts_of}
 use Rattle.starlark_vec2.specs.Lending.{with_pair, set_firsts, set_first_at}
 use Rattle.starlark_vec2.proofs.Pairs.{length-zip, firsts_of-zip, seconds_of-zip, zip-set_first, zip-set}
 
@@ -60,9 +60,6 @@ module _ {A B : Type 0} where
 
       pub firsts_are : (xs : List A) → xs ≡ items_of cs → xs ≡ firsts_of v.pairs
       firsts_are xs e = e ∙ sym (firsts_of-zip (items_of cs) (items_of ds) even_items) ∙ ap (λ w. firsts_of w.pairs) is
-
-      pub seconds_are : (ys : List B) → ys ≡ items_of ds → ys ≡ seconds_of v.pairs
-      seconds_are ys e = e ∙ sym (seconds_of-zip (items_of cs) (items_of ds) even_items) ∙ ap (λ w. seconds_of w.pairs) is
 
       pub len_is : length v.pairs ≡ n
       len_is = sym (ap (λ w. length w.pairs) is) ∙ pairs_count
