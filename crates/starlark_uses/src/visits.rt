@@ -32,8 +32,10 @@ pub fn record_first_visit(
     time: u32,
 ) -> Result<(), NoRoom<(u32, u32)>>
     requires { get nat_eq fed.u32 visits.old page ≡ None }
+    ensures updates { OnOk result (Updates nat_eq fed.u32 visits.old visits.new page (Some time)) }
     ensures pages { OnOk result (keys visits.new ≡ keys visits.old ++ page ∷ []) }
     ensures one_more { OnOk result (length visits.new.entries ≡ length visits.old.entries + 1) }
+    ensures refused { OnErr result (keys visits.new ≡ keys visits.old) }
 {
     visits.insert(page, time)?;
     Ok(())
