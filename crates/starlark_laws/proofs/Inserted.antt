@@ -5,7 +5,8 @@ use Rattle.std.specs.Option.{option_map_or}
 use Rattle.std.proofs.lemmas.Bool.{false≢true}
 use Rattle.starlark_hash.specs.declared.hashed.Hashed.{Hashed}
 use Rattle.starlark_lists.specs.Entries.{Entry, insert_entry, set_value_at}
-use Rattle.starlark_small.specs.Map.{Map, KeepsRoom}
+use Rattle.starlark_small.specs.Inserted.{LeavesMemory}
+use Rattle.starlark_small.specs.Map.{Map}
 use Rattle.starlark_small.proofs.Inserting.{length_insert_le}
 
 module _ {K V : Type 0} where
@@ -33,10 +34,10 @@ module _ {K V : Type 0} where
   -- an insertion into a map with room is not refused, and takes at most one place of it
   pub HasRoom-inserted : {E : Type 0} (eq : K → K → Bool) (key : Hashed K) (value : V) (n : ℕ) (r s : Result (Map K V) E) → HasRoom (n + 1) r
       → MatchResult r (λ old. IfOk s (λ new. new.entries ≡ insert_entry eq old.entries key value)) (λ _. IsErr s)
-      → IfOk r (λ old. 0 < old.room → IsOk s) → IfOk r (λ old. IfOk s (KeepsRoom old)) → HasRoom n s
+      → IfOk r (λ old. 0 < old.room → IsOk s) → IfOk r (λ old. IfOk s (LeavesMemory eq old key)) → HasRoom n s
   HasRoom-inserted eq key value n (Err e) s room put done kept = absurd room
   HasRoom-inserted eq key value n (Ok old) (Err e) room put done kept = absurd (false≢true (done (omega (arith, room))))
-  HasRoom-inserted eq key value n (Ok old) (Ok new) room put done kept = omega (arith, room, kept, ap length put, length_insert_le eq old.entries key value)
+  HasRoom-inserted eq key value n (Ok old) (Ok new) room put done kept = omega (arith, room, kept.room, ap length put, length_insert_le eq old.entries key value)
 
   pub IsOk-HasRoom : {E : Type 0} (n : ℕ) (r : Result (Map K V) E) → HasRoom n r → IsOk r
   IsOk-HasRoom n (Ok m) room = refl

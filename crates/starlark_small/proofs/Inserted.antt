@@ -1,13 +1,16 @@
 -- A map after an insertion, written at the new place and read there.
-use Rattle.std.proofs.Common.{◌≡◌, ℕ, ◌<◌, List, [], ◌∷◌, ◌++◌, length, slice_get, Some, sym, ap, ◌∙◌, arith, refl}
+use Rattle.std.proofs.Common.{◌≡◌, ℕ, ◌<◌, Bool, List, [], ◌∷◌, ◌++◌, length, slice_get, Some, None, is_some, sym, ap, subst, ◌∙◌, arith, refl}
+use Rattle.std.specs.Prelude.{◌||◌, nat_lt}
 use Rattle.std.specs.Option.{option_map}
+use Rattle.std.proofs.lemmas.Bool.{false≢true}
 use Rattle.std.proofs.lemmas.List.{length_push}
 use Rattle.std.proofs.lemmas.Option.{same_Some}
 use Rattle.starlark_hash.specs.declared.hashed.Hashed.{Hashed}
 use Rattle.starlark_hash.specs.HashValue.{key_of}
-use Rattle.starlark_lists.specs.Entries.{Entry, entry_value, pair_of, set_value_at, value_at}
+use Rattle.starlark_lists.specs.Entries.{Entry, entry_value, match_of, pair_of, set_value_at, value_at}
 use Rattle.starlark_lists.proofs.EntryLemmas.{length-set_value_at}
-use Rattle.starlark_small.specs.Inserted.{IsInserted}
+use Rattle.starlark_small.specs.Index.{unindexed}
+use Rattle.starlark_small.specs.Inserted.{IsInserted, IsRefused, LeavesMemory}
 use Rattle.starlark_small.specs.Map.{Map}
 
 module _ {K V : Type 0} where
@@ -45,3 +48,31 @@ module _ {K V : Type 0} (old new : Map K V) (key : Hashed K) (value : V) (i : �
       let shown : K × V = (k, v) in let wanted : K × V = (key_of key, value) in
       let same = same_Some shown wanted (sym e ∙ (λ j. option_map pair_of (slice_get (put.entries j) (at_end j))) ∙ ap (option_map pair_of) (pushed_last old.entries key value)) in
       (ap (λ p. p.0) same, ap (λ p. p.1) same)
+
+-- what is left of the memory where nothing grew
+module _ {K V : Type 0} (eq : K → K → Bool) (old : Map K V) (key : Hashed K) (short : old.indexed ≡ (old.indexed || nat_lt unindexed (length old.entries))) where
+  -- a key was there: its value was written
+  pub LeavesMemory-written : (i : ℕ) (value : V) → LeavesMemory eq old key (with_value_at old i value)
+  LeavesMemory-written i value =
+      let as_long = length-set_value_at old.entries i value in
+      record {
+        replaced = λ there. refl;
+        spare = λ some. (refl, refl);
+        room = omega (arith, as_long);
+        capacity = (omega arith, omega arith);
+        grown = λ longer. absurd (omega (arith, longer, as_long));
+        indexed = subst (λ n. old.indexed ≡ (old.indexed || nat_lt unindexed n)) (sym as_long) short;
+      }
+
+  -- a new key was refused
+  pub LeavesMemory-refused : (new : Map K V) → match_of eq old.entries key ≡ None → old.room ≡ 0 → IsRefused old new → LeavesMemory eq old key new
+  LeavesMemory-refused new lacking full refused =
+      let as_long = ap length refused.entries in
+      record {
+        replaced = λ there. absurd (false≢true (sym (ap is_some lacking) ∙ there));
+        spare = λ some. absurd (omega (arith, some, full));
+        room = refused.room;
+        capacity = refused.capacity;
+        grown = λ longer. absurd (omega (arith, longer, as_long));
+        indexed = refused.indexed ∙ subst (λ n. old.indexed ≡ (old.indexed || nat_lt unindexed n)) (sym as_long) short;
+      }

@@ -10,6 +10,7 @@ use Rattle.starlark_lists.specs.Entries.{Entry, insert_entry, match_of, set_valu
 use Rattle.starlark_lists.proofs.EntryLemmas.{length-set_value_at}
 use Rattle.starlark_small.specs.Collect.{insert_all}
 use Rattle.starlark_small.specs.Index.{unindexed}
+use Rattle.starlark_small.specs.Inserted.{LeavesMemory}
 use Rattle.starlark_small.specs.Map.{Map, GrowsFor, KeepsRoom}
 
 -- one item more came
@@ -83,13 +84,12 @@ filled_none first had = record { entries = refl; room = omega arith; added = ome
 
 -- a further item is tried
 module _ {K V A : Type 0} {eq : K → K → Bool} {item : A → Entry K V} {all : ℕ} {first : Map K V} {seen : List A} {mid : Map K V} (last : Map K V) (held : IsFilled eq item all first seen mid)
-    {left after : ℕ} (counted : length seen + left ≤ all) (fewer : after < left) (spare : 0 < mid.room → (last.capacity ≡ mid.capacity) × (last.indexed ≡ mid.indexed)) (room : KeepsRoom mid last)
-    (capacity : GrowsFor (length mid.entries + 1) mid last) (indexed : last.indexed ≡ (mid.indexed || nat_lt unindexed (length last.entries))) where
+    {left after : ℕ} (counted : length seen + left ≤ all) (fewer : after < left) {key : Hashed K} (leaves : LeavesMemory eq mid key last) where
   has_room : all ≤ first.room → 0 < mid.room
   has_room fits = room_for_next (length first.entries) (length seen) (length mid.entries) mid.room first.room all left after held.room held.added counted fewer fits
 
   on_spare : all ≤ first.room → (last.capacity ≡ first.capacity) × (last.indexed ≡ first.indexed)
-  on_spare fits = ((spare (has_room fits)).0 ∙ (held.spare fits).0, (spare (has_room fits)).1 ∙ (held.spare fits).1)
+  on_spare fits = ((leaves.spare (has_room fits)).0 ∙ (held.spare fits).0, (leaves.spare (has_room fits)).1 ∙ (held.spare fits).1)
 
   -- it went in
   pub filled_more : (x : A) → last.entries ≡ insert_entry eq mid.entries (item x).0 (item x).1 → IsFilled eq item all first (seen ++ x ∷ []) last
@@ -97,10 +97,10 @@ module _ {K V A : Type 0} {eq : K → K → Bool} {item : A → Entry K V} {all 
       let longer = length_le_inserted eq mid.entries last.entries (item x).0 (item x).1 put in
       record {
         entries = insert_all_next eq item first.entries seen x mid.entries last.entries held.entries put;
-        room = omega (arith, held.room, room);
+        room = omega (arith, held.room, leaves.room);
         added = omega (arith, length_inserted_le eq mid.entries last.entries (item x).0 (item x).1 put, held.added, length_push seen x);
-        capacity = grows_on first.capacity mid.capacity last.capacity (length mid.entries) (length last.entries) held.capacity capacity longer;
-        indexed = indexed_on first.indexed mid.indexed last.indexed (length mid.entries) (length last.entries) held.indexed indexed longer;
+        capacity = grows_on first.capacity mid.capacity last.capacity (length mid.entries) (length last.entries) held.capacity leaves.capacity longer;
+        indexed = indexed_on first.indexed mid.indexed last.indexed (length mid.entries) (length last.entries) held.indexed leaves.indexed longer;
         spare = on_spare;
       }
 
@@ -110,10 +110,10 @@ module _ {K V A : Type 0} {eq : K → K → Bool} {item : A → Entry K V} {all 
       let as_long : length last.entries ≡ length mid.entries = ap length same in (
         record {
           entries = same ∙ held.entries;
-          room = omega (arith, held.room, room);
+          room = omega (arith, held.room, leaves.room);
           added = omega (arith, held.added, as_long);
-          capacity = grows_on first.capacity mid.capacity last.capacity (length mid.entries) (length last.entries) held.capacity capacity (omega (arith, as_long));
-          indexed = indexed_on first.indexed mid.indexed last.indexed (length mid.entries) (length last.entries) held.indexed indexed (omega (arith, as_long));
+          capacity = grows_on first.capacity mid.capacity last.capacity (length mid.entries) (length last.entries) held.capacity leaves.capacity (omega (arith, as_long));
+          indexed = indexed_on first.indexed mid.indexed last.indexed (length mid.entries) (length last.entries) held.indexed leaves.indexed (omega (arith, as_long));
           spare = on_spare;
         },
         omega (arith, held.room, full, as_long),

@@ -1,7 +1,8 @@
--- What a `SmallMap` is after a new entry was inserted, or refused. What any insertion makes of a list is `insert_entry`, in
+-- What a `SmallMap` is after an insertion or a reservation. What any insertion makes of a list is `insert_entry`, in
 -- `starlark_lists/specs/Entries.antt`.
-use Rattle.std.specs.Prelude.{◌≡◌, ◌+◌, ◌<◌, ◌||◌, [], ◌∷◌, ◌++◌, length, nat_lt}
+use Rattle.std.specs.Prelude.{◌≡◌, ℕ, ◌+◌, ◌<◌, ◌≤◌, ◌||◌, Bool, IsSome, [], ◌∷◌, ◌++◌, length, nat_lt}
 use Rattle.starlark_hash.specs.declared.hashed.Hashed.{Hashed}
+use Rattle.starlark_lists.specs.Entries.{match_of}
 use Rattle.starlark_small.specs.Growth.{reserved_capacity}
 use Rattle.starlark_small.specs.Index.{unindexed}
 use Rattle.starlark_small.specs.Map.{Map, GrowsFor, KeepsRoom}
@@ -16,9 +17,36 @@ module _ {K V : Type 0} where
     pub capacity : new.capacity ≡ reserved_capacity old 1
     pub indexed : new.indexed ≡ (old.indexed || nat_lt unindexed (length old.entries + 1))
 
-  -- new is old after a new entry was refused: entries and index stay, no room is lost, and the capacity may have grown
-  pub record IsRefused (old new : Map K V) : Type 0 where
+  -- new is old with room for so many new entries: the entries stay, no room is lost, the capacity is that of the list after
+  -- such a reservation, and there is an index if there was one or so many need one
+  pub record IsReserved (old : Map K V) (additional : ℕ) (new : Map K V) : Type 0 where
+    pub entries : new.entries ≡ old.entries
+    pub enough : additional ≤ new.room
+    pub room : KeepsRoom old new
+    pub capacity : GrowsFor (length old.entries + additional) old new
+    pub grown : new.capacity ≡ reserved_capacity old additional
+    pub indexed : new.indexed ≡ (old.indexed || nat_lt unindexed (length old.entries + additional))
+
+  -- new is old after room for so many new entries was refused: entries and index stay, no room is lost, and the capacity may
+  -- have grown
+  pub record IsRefusedFor (additional : ℕ) (old new : Map K V) : Type 0 where
     pub entries : new.entries ≡ old.entries
     pub indexed : new.indexed ≡ old.indexed
     pub room : KeepsRoom old new
+    pub capacity : GrowsFor (length old.entries + additional) old new
+
+  -- the same after one new entry was refused
+  abbrev pub IsRefused : Map K V → Map K V → Type 0
+  IsRefused old new = IsRefusedFor 1 old new
+
+  -- what an insertion under this key leaves of the map's memory, done or refused: a key that is there changes nothing but its
+  -- value; with room to spare nothing grows; no room is lost; the capacity rises at most to that of a list of one entry more,
+  -- and is that of the list after a reservation for one entry where a new one went in; and there is an index if there was one
+  -- or the list is now too long to do without
+  pub record LeavesMemory (eq : K → K → Bool) (old : Map K V) (key : Hashed K) (new : Map K V) : Type 0 where
+    pub replaced : IsSome (match_of eq old.entries key) → new ≡ record old { entries = new.entries }
+    pub spare : 0 < old.room → (new.capacity ≡ old.capacity) × (new.indexed ≡ old.indexed)
+    pub room : KeepsRoom old new
     pub capacity : GrowsFor (length old.entries + 1) old new
+    pub grown : length old.entries < length new.entries → new.capacity ≡ reserved_capacity old 1
+    pub indexed : new.indexed ≡ (old.indexed || nat_lt unindexed (length new.entries))

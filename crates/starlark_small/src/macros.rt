@@ -1,8 +1,8 @@
 //! `smallmap!`.
-ghost use Rattle.std.specs.Prelude.{◌≡◌, ◌+◌, ◌<◌, ◌||◌, length, nat_lt, IfOk, IsErr, IsOk, IsSome, MatchResult};
+ghost use Rattle.std.specs.Prelude.{◌≡◌, ◌<◌, IfOk, IsErr, IsOk, IsSome, MatchResult};
 ghost use Rattle.starlark_lists.specs.Entries.{insert_entry, match_of};
-ghost use Rattle.starlark_small.specs.Index.{unindexed};
-ghost use Rattle.starlark_small.specs.Map.{GrowsFor, KeepsRoom, own_hashed};
+ghost use Rattle.starlark_small.specs.Inserted.{LeavesMemory};
+ghost use Rattle.starlark_small.specs.Map.{own_hashed};
 
 use crate::SmallMap;
 use std::alloc::AllocError;
@@ -33,9 +33,7 @@ pub fn inserted<K: Eq + Hash + Drop, V: Drop>(
     ensures entries { MatchResult map (λ old. IfOk result (λ new. new.entries ≡ insert_entry K.eq old.entries (own_hashed K.hash_input key) value)) (λ _. IsErr result) }
     ensures succeeds { IfOk map (λ old. 0 < old.room → IsOk result) }
     ensures present { IfOk map (λ old. IsSome (match_of K.eq old.entries (own_hashed K.hash_input key)) → IsOk result) }
-    ensures room { IfOk map (λ old. IfOk result (KeepsRoom old)) }
-    ensures capacity { IfOk map (λ old. IfOk result (GrowsFor (length old.entries + 1) old)) }
-    ensures indexed { IfOk map (λ old. IfOk result (λ new. new.indexed ≡ (old.indexed || nat_lt unindexed (length new.entries)))) }
+    ensures memory { IfOk map (λ old. IfOk result (LeavesMemory K.eq old (own_hashed K.hash_input key))) }
 {
     let mut map = map?;
     match map.insert(key, value) {

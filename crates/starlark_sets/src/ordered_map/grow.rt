@@ -1,13 +1,13 @@
 //! What puts entries into an `OrderedMap`, and what may ask for memory.
-ghost use Rattle.std.specs.Prelude.{◌≡◌, ◌+◌, ◌<◌, ◌≤◌, ◌||◌, length, nat_lt, None, IsSome, IsOk, IfOk, IfErr, OnOk, OnErr};
+ghost use Rattle.std.specs.Prelude.{◌≡◌, ◌+◌, ◌<◌, ◌≤◌, ◌||◌, length, nat_lt, None, IsOk, IfOk, IfErr, OnOk, OnErr};
 ghost use Rattle.std.specs.Iterator.{IsFiniteIterable, size};
 ghost use Rattle.std.specs.List.{AllZip};
 ghost use Rattle.starlark_lists.specs.Entries.{value_at, match_of, insert_entry};
 ghost use Rattle.starlark_lists.specs.Sorting.{Ascends, sorted_by_key};
 ghost use Rattle.starlark_small.specs.Clone.{IsEqualClone};
 ghost use Rattle.starlark_small.specs.Collect.{Collects, Extends, own_entry};
-ghost use Rattle.starlark_small.specs.Growth.{reserved_capacity};
 ghost use Rattle.starlark_small.specs.Index.{unindexed};
+ghost use Rattle.starlark_small.specs.Inserted.{LeavesMemory};
 ghost use Rattle.starlark_small.specs.Map.{KeepsMemory, KeepsRoom, GrowsFor, own_hashed};
 ghost use Rattle.starlark_vec2.specs.Collect.{IsLawfulClone};
 ghost use Rattle.starlark_lists.specs.Clone.{IsEntryClone};
@@ -35,14 +35,8 @@ impl<K: Eq, V> OrderedMap<K, V> {
         ensures handed_back { IfErr result (λ refused. refused.0 ≡ (key, value)) }
         ensures unchanged { OnErr result ((self.new.entries ≡ self.old.entries) × (self.new.indexed ≡ self.old.indexed)) }
 
-        // A key that is there changes nothing but its value; with room to spare nothing grows; else a new
-        // one's capacity is that of a list of pairs, and an index is made once the list is too long to do without.
-        ensures replaced { IsSome (match_of K.eq self.old.entries (own_hashed K.hash_input key)) → self.new ≡ record self.old { entries = self.new.entries } }
-        ensures spare { 0 < self.old.room → (self.new.capacity ≡ self.old.capacity) × (self.new.indexed ≡ self.old.indexed) }
-        ensures room { KeepsRoom self.old self.new }
-        ensures capacity { GrowsFor (length self.old.entries + 1) self.old self.new }
-        ensures grown { OnOk result (match_of K.eq self.old.entries (own_hashed K.hash_input key) ≡ None → self.new.capacity ≡ reserved_capacity self.old 1) }
-        ensures indexed { self.new.indexed ≡ (self.old.indexed || nat_lt unindexed (length self.new.entries)) }
+        // What it leaves of the memory, done or refused.
+        ensures memory { LeavesMemory K.eq self.old (own_hashed K.hash_input key) self.new }
     {
         self.0.insert(key, value)
     }

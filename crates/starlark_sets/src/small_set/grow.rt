@@ -1,10 +1,9 @@
 //! What puts elements into a `SmallSet`, and what may ask for memory.
-ghost use Rattle.std.specs.Prelude.{◌≡◌, ◌+◌, ◌<◌, ◌≤◌, ◌||◌, length, not, nat_lt, is_ok, is_some, IfOk, IfErr, IsOk, OnOk, OnErr};
+ghost use Rattle.std.specs.Prelude.{◌≡◌, ◌<◌, ◌≤◌, not, is_ok, is_some, IfOk, IfErr, IsOk, OnOk, OnErr};
 ghost use Rattle.starlark_lists.specs.Entries.{match_of};
 ghost use Rattle.starlark_lists.specs.Sorting.{Ascends, sorted_by_key};
-ghost use Rattle.starlark_small.specs.Growth.{reserved_capacity};
-ghost use Rattle.starlark_small.specs.Index.{unindexed};
-ghost use Rattle.starlark_small.specs.Map.{GrowsFor, KeepsMemory, KeepsRoom, own_hashed};
+ghost use Rattle.starlark_small.specs.Inserted.{IsRefusedFor, IsReserved};
+ghost use Rattle.starlark_small.specs.Map.{KeepsMemory, own_hashed};
 ghost use Rattle.starlark_sets.specs.Set.{Adds};
 
 use super::SmallSet;
@@ -44,17 +43,11 @@ impl<T: Eq> SmallSet<T> {
     /// Makes room for so many new elements, and the index where so many need one. Where the room is there it asks for
     /// no memory and changes nothing. A refusal leaves elements and index.
     pub fn reserve(&mut self, additional: usize) -> Result<(), AllocError>
-        ensures entries { self.new.entries ≡ self.old.entries }
-        ensures ok { OnOk result (additional ≤ self.new.room) }
-        ensures indexed { OnOk result (self.new.indexed ≡ (self.old.indexed || nat_lt unindexed (length self.old.entries + additional))) }
+        ensures reserved { OnOk result (IsReserved self.old additional self.new) }
         ensures enough { additional ≤ self.old.room → self.new ≡ self.old }
 
-        ensures refused { OnErr result (self.old.room < additional) }
-        ensures unchanged { OnErr result (self.new.indexed ≡ self.old.indexed) }
-
-        ensures room { KeepsRoom self.old self.new }
-        ensures capacity { GrowsFor (length self.old.entries + additional) self.old self.new }
-        ensures grown { OnOk result (self.new.capacity ≡ reserved_capacity self.old additional) }
+        ensures lacking { OnErr result (self.old.room < additional) }
+        ensures refused { OnErr result (IsRefusedFor additional self.old self.new) }
     {
         self.map.reserve(additional)
     }

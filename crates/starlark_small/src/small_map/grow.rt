@@ -1,9 +1,8 @@
 //! What puts entries into a `SmallMap`, and makes room for them.
-ghost use Rattle.std.specs.Prelude.{◌≡◌, ◌+◌, ◌<◌, ◌≤◌, ◌||◌, length, nat_lt, None, IsSome, IfOk, IfErr, OnOk, OnErr};
+ghost use Rattle.std.specs.Prelude.{◌≡◌, ◌<◌, ◌≤◌, None, IfOk, IfErr, OnOk, OnErr};
 ghost use Rattle.starlark_lists.specs.Entries.{value_at, match_of, insert_entry};
-ghost use Rattle.starlark_small.specs.Growth.{reserved_capacity};
-ghost use Rattle.starlark_small.specs.Index.{unindexed};
-ghost use Rattle.starlark_small.specs.Map.{KeepsRoom, GrowsFor, own_hashed};
+ghost use Rattle.starlark_small.specs.Inserted.{IsRefusedFor, IsReserved, LeavesMemory};
+ghost use Rattle.starlark_small.specs.Map.{own_hashed};
 
 use super::SmallMap;
 use crate::indexed::{UNINDEXED, reserve_index};
@@ -27,14 +26,8 @@ impl<K: Eq, V> SmallMap<K, V> {
         ensures handed_back { IfErr result (λ refused. refused.0 ≡ (key, value)) }
         ensures unchanged { OnErr result ((self.new.entries ≡ self.old.entries) × (self.new.indexed ≡ self.old.indexed)) }
 
-        // A key that is there changes nothing but its value; with room to spare nothing grows; else a new
-        // one's capacity is that of a list of pairs, and an index is made once the list is too long to do without.
-        ensures replaced { IsSome (match_of K.eq self.old.entries (own_hashed K.hash_input key)) → self.new ≡ record self.old { entries = self.new.entries } }
-        ensures spare { 0 < self.old.room → (self.new.capacity ≡ self.old.capacity) × (self.new.indexed ≡ self.old.indexed) }
-        ensures room { KeepsRoom self.old self.new }
-        ensures capacity { GrowsFor (length self.old.entries + 1) self.old self.new }
-        ensures grown { OnOk result (match_of K.eq self.old.entries (own_hashed K.hash_input key) ≡ None → self.new.capacity ≡ reserved_capacity self.old 1) }
-        ensures indexed { self.new.indexed ≡ (self.old.indexed || nat_lt unindexed (length self.new.entries)) }
+        // What it leaves of the memory, done or refused.
+        ensures memory { LeavesMemory K.eq self.old (own_hashed K.hash_input key) self.new }
     {
         match self.insert_hashed(Hashed::new(key), value) {
             Ok(old) => Ok(old),
@@ -62,14 +55,8 @@ impl<K: Eq, V> SmallMap<K, V> {
         ensures handed_back { IfErr result (λ refused. refused.0 ≡ (key, value)) }
         ensures unchanged { OnErr result ((self.new.entries ≡ self.old.entries) × (self.new.indexed ≡ self.old.indexed)) }
 
-        // A key that is there changes nothing but its value; with room to spare nothing grows; else a new
-        // one's capacity is that of a list of pairs, and an index is made once the list is too long to do without.
-        ensures replaced { IsSome (match_of K.eq self.old.entries key) → self.new ≡ record self.old { entries = self.new.entries } }
-        ensures spare { 0 < self.old.room → (self.new.capacity ≡ self.old.capacity) × (self.new.indexed ≡ self.old.indexed) }
-        ensures room { KeepsRoom self.old self.new }
-        ensures capacity { GrowsFor (length self.old.entries + 1) self.old self.new }
-        ensures grown { OnOk result (match_of K.eq self.old.entries key ≡ None → self.new.capacity ≡ reserved_capacity self.old 1) }
-        ensures indexed { self.new.indexed ≡ (self.old.indexed || nat_lt unindexed (length self.new.entries)) }
+        // What it leaves of the memory, done or refused.
+        ensures memory { LeavesMemory K.eq self.old key self.new }
     {
         prove!(self.index().is_some() || self.len() <= UNINDEXED);
         match self.get_index_of_hashed(key.as_ref()) {
@@ -85,17 +72,11 @@ impl<K: Eq, V> SmallMap<K, V> {
     /// no memory and changes nothing. A refusal leaves entries and index.
     #[inline]
     pub fn reserve(&mut self, additional: usize) -> Result<(), AllocError>
-        ensures entries { self.new.entries ≡ self.old.entries }
-        ensures ok { OnOk result (additional ≤ self.new.room) }
-        ensures indexed { OnOk result (self.new.indexed ≡ (self.old.indexed || nat_lt unindexed (length self.old.entries + additional))) }
+        ensures reserved { OnOk result (IsReserved self.old additional self.new) }
         ensures enough { additional ≤ self.old.room → self.new ≡ self.old }
 
-        ensures refused { OnErr result (self.old.room < additional) }
-        ensures unchanged { OnErr result (self.new.indexed ≡ self.old.indexed) }
-
-        ensures room { KeepsRoom self.old self.new }
-        ensures capacity { GrowsFor (length self.old.entries + additional) self.old self.new }
-        ensures grown { OnOk result (self.new.capacity ≡ reserved_capacity self.old additional) }
+        ensures lacking { OnErr result (self.old.room < additional) }
+        ensures refused { OnErr result (IsRefusedFor additional self.old self.new) }
     {
         if additional <= self.room() {
             prove!(additional <= self.entries.capacity() - self.entries.len());
@@ -109,13 +90,8 @@ impl<K: Eq, V> SmallMap<K, V> {
     #[inline(never)]
     fn grow(&mut self, additional: usize) -> Result<(), AllocError>
         requires { self.old.room < additional }
-        ensures entries { self.new.entries ≡ self.old.entries }
-        ensures ok { OnOk result (additional ≤ self.new.room) }
-        ensures indexed { OnOk result (self.new.indexed ≡ (self.old.indexed || nat_lt unindexed (length self.old.entries + additional))) }
-        ensures unchanged { OnErr result (self.new.indexed ≡ self.old.indexed) }
-        ensures room { KeepsRoom self.old self.new }
-        ensures capacity { GrowsFor (length self.old.entries + additional) self.old self.new }
-        ensures grown { OnOk result (self.new.capacity ≡ reserved_capacity self.old additional) }
+        ensures reserved { OnOk result (IsReserved self.old additional self.new) }
+        ensures refused { OnErr result (IsRefusedFor additional self.old self.new) }
     {
         self.entries.reserve(additional)?;
         reserve_index(self.alloc, &mut self.index, &self.entries, additional)

@@ -14,21 +14,21 @@ loop-entry-preserved-in-Ok g c =
     let inv = c.loop-entry.invariant in
     it.again inv c.in-Some.entry c.in-Some.is (c.next.ensures.steps, c.next.ensures.goes)
     (filled_more c.insert_hashed.new.self inv.holds inv.counted (it.on c.in-Some.entry c.in-Some.is c.next.ensures.goes inv.ending).2
-    c.insert_hashed.ensures.spare c.insert_hashed.ensures.room c.insert_hashed.ensures.capacity c.insert_hashed.ensures.indexed c.in-Some.entry c.in-Ok.ensures.entries)
+    c.insert_hashed.ensures.memory c.in-Some.entry c.in-Ok.ensures.entries)
 
 pub loop-entry-preserved : goal.loop-entry-preserved
 loop-entry-preserved g c =
     let inv = c.loop-entry.invariant in
     it.again inv c.in-Some.entry c.in-Some.is (c.next.ensures.steps, c.next.ensures.goes)
     (filled_more c.insert_hashed.new.self inv.holds inv.counted (it.on c.in-Some.entry c.in-Some.is c.next.ensures.goes inv.ending).2
-    c.insert_hashed.ensures.spare c.insert_hashed.ensures.room c.insert_hashed.ensures.capacity c.insert_hashed.ensures.indexed c.in-Some.entry c.in-Ok.ensures.entries)
+    c.insert_hashed.ensures.memory c.in-Some.entry c.in-Ok.ensures.entries)
 
 pub returns-in-Err : goal.returns-in-Err
 returns-in-Err g c =
     let inv = c.loop-entry.invariant in
     let same = c.in-Err.ensures.unchanged.0 in
     let still = filled_still c.insert_hashed.new.self inv.holds inv.counted (it.on c.in-Some.entry c.in-Some.is c.next.ensures.goes inv.ending).2
-    c.insert_hashed.ensures.spare c.insert_hashed.ensures.room c.insert_hashed.ensures.capacity c.insert_hashed.ensures.indexed same c.in-Err.ensures.full in
+    c.insert_hashed.ensures.memory same c.in-Err.ensures.full in
     record {
       entries = record {
         items = inv.seen;

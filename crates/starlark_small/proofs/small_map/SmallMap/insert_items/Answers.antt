@@ -15,21 +15,21 @@ loop-pair-preserved-in-Ok g c =
     let inv = c.loop-pair.invariant in
     it.again inv c.in-Some.pair c.in-Some.is (c.next.ensures.steps, c.next.ensures.goes)
     (filled_more c.insert.new.self inv.holds inv.counted (it.on c.in-Some.pair c.in-Some.is c.next.ensures.goes inv.ending).2
-    c.insert.ensures.spare c.insert.ensures.room c.insert.ensures.capacity c.insert.ensures.indexed c.in-Some.pair c.in-Ok.ensures.entries)
+    c.insert.ensures.memory c.in-Some.pair c.in-Ok.ensures.entries)
 
 pub loop-pair-preserved : goal.loop-pair-preserved
 loop-pair-preserved g c =
     let inv = c.loop-pair.invariant in
     it.again inv c.in-Some.pair c.in-Some.is (c.next.ensures.steps, c.next.ensures.goes)
     (filled_more c.insert.new.self inv.holds inv.counted (it.on c.in-Some.pair c.in-Some.is c.next.ensures.goes inv.ending).2
-    c.insert.ensures.spare c.insert.ensures.room c.insert.ensures.capacity c.insert.ensures.indexed c.in-Some.pair c.in-Ok.ensures.entries)
+    c.insert.ensures.memory c.in-Some.pair c.in-Ok.ensures.entries)
 
 pub returns-in-Err : goal.returns-in-Err
 returns-in-Err g c =
     let inv = c.loop-pair.invariant in
     let same = c.in-Err.ensures.unchanged.0 in
     let still = filled_still c.insert.new.self inv.holds inv.counted (it.on c.in-Some.pair c.in-Some.is c.next.ensures.goes inv.ending).2
-    c.insert.ensures.spare c.insert.ensures.room c.insert.ensures.capacity c.insert.ensures.indexed same c.in-Err.ensures.full in
+    c.insert.ensures.memory same c.in-Err.ensures.full in
     record {
       entries = record {
         items = inv.seen;
