@@ -14,3 +14,4 @@ pub mod Fronts
 pub mod NamedClose
 pub mod Betweens
 pub mod LoneValue
+pub mod LentParts

@@ -1,38 +1,32 @@
--- A `Result` of a key and a value that are lent: a clause of one name is made at `Ok` and at `Err`, a `Result` that a call gave is opened, and a reference is given up. Assumes `Logic`.
+-- A `Result` of a key and a value that are lent: a clause of one name is made at `Ok` and at `Err`, and a `Result` that a call gave is opened. Assumes `Logic`.
 use mathlib.Core.Path.{◌≡◌, refl, ap, ◌∙◌}
 use Prim.Native.Nat.{ℕ}
 use mathlib.Core.Logic.{◌⊎◌, inl, inr}
 use mathlib.Core.List.{List, [], ◌∷◌, ◌++◌}
 use mathlib.Core.Option.{none, some}
 use seplogic.Ra.Ura.{Ura}
-use mir.Syntax.{Lifetime, named}
+use mir.Syntax.{named}
 use mir.Val.{Val, of_list, vptr, vstruct, vcons, vnil}
-use base.Logic.{SProp, ent, sep, ex, guard}
+use base.Logic.{SProp, ent, ex, guard}
 use base.Fml.{Lft, GName, fres}
 use types.Logic.{Logic, sem}
-use types.Kit.{‵, ◌$◌, ◌∵◌, !, qed, by, move, keep, drop, fsplit, fsplit3, fjoin, fpick, fpack, feq_i, feq_l, rewrite, updating, now, show, check, done}
+use types.Kit.{‵, ◌$◌, ◌∵◌, !, qed, by, move, keep, drop, fsplit, fsplit3, fpick, fpack, feq_l, rewrite, show, check, done}
 use types.Match.{live}
-use types.Tokens.{name_done}
-use denote.RattleType.{RattleType, Valss}
+use denote.RattleType.{RattleType}
 use denote.Follow.{follows, follows_so, such_by, follows_by}
 use denote.Laws.{Is, shows}
-use denote.Ref.{Bor, MutBor, MutRef, ShrRef, mut_vals, mut_Tells, shr_Tells}
+use denote.Ref.{Bor, MutBor, MutRef, ShrRef, mut_Tells, shr_Tells}
 use denote.Param.{layout}
-use denote.Steps.{nothing, peeks, only}
+use denote.Steps.{peeks, only}
 use Rattle.core.proofs.cell.Inside.{Good}
-use denote.Struct.Declared.{shape}
-use denote.Struct.Struct.{within}
-use denote.Struct.Tuple.{Tuple, tuple_type}
+use denote.Struct.Tuple.{Tuple}
 use Rattle.core.specs.declared.result.Result.{Result}
 use Rattle.core.specs.declared.result.Result.TheVariants.{Ok, Err}
 use Rattle.core.specs.contracts.result.Result as RS
+pub use Rattle.starlark_columns.proofs.LentParts.{given_up, as_tuple}
 
 module _ {M : Type 1} {𝓤 : Ura M} (𝓛 : Logic 𝓤) where
   open 𝓛 use {H}
-
-  -- a `&mut` is given up at the value that it has
-  pub given_up : (R : RattleType) (ℓ : Lifetime) (κ : Lft) (r : MutBor R.Denot) → ent 𝓤 (sem 𝓛 ((MutRef ℓ κ R).own_val r (mut_vals r))) (H.⇛ (sem 𝓛 (fres r.ghost_name (R.coded.code r.now))))
-  given_up R ℓ κ r = qed 𝓛 (‵ ((MutRef ℓ κ R).own_val r (mut_vals r)) ∷ []) ∵ updating ! $ fsplit3 ! $ drop ! $ name_done ! tt $ now ! $ keep ! (0 ∷ []) $ done !
 
   module _ (R T : RattleType) (γ : GName) (P : T.Denot → R.Denot → Type 0) (P₀ : R.Denot → Type 0) (v : R.Denot) (ends : P₀ v) where
     -- no part has left
@@ -65,14 +59,6 @@ module _ {M : Type 1} {𝓤 : Ura M} (𝓛 : Logic 𝓤) where
         rewrite ! 0 (λ (ws : List Val). ‵ (E.own_val x ws)) got.1 refl $ show ! (Held 1 E x) got.0 $
         check ! (ap only e ∙ ap (λ ws. live 1 (of_list ws)) (f ∙ ap (λ ws. ws ++ []) got.1), got.2) $ keep ! (0 ∷ []) $ done !)))))
 
-  -- two values as one tuple
-  pub as_tuple : (R S : RattleType) (x : R.Denot) (y : S.Denot) (u v : Val)
-      → ent 𝓤 (sep 𝓤 (sem 𝓛 (R.own_val x (u ∷ []))) (sem 𝓛 (S.own_val y (v ∷ [])))) (sem 𝓛 ((Tuple (R ∷ S ∷ [])).own_val (x, y) (vstruct (vcons u (vcons v vnil)) ∷ [])))
-  as_tuple R S x y u v =
-      qed 𝓛 (‵ (R.own_val x (u ∷ [])) ∷ ‵ (S.own_val y (v ∷ [])) ∷ []) ∵ nothing ! $ move ! (2 ∷ 0 ∷ []) $ fjoin ! $ move ! (1 ∷ 0 ∷ []) $ fjoin ! $
-      feq_i ! (List Val) (vstruct (vcons u (vcons v vnil)) ∷ []) (vstruct (vcons u (vcons v vnil)) ∷ []) refl $ fjoin ! $
-      fpack ! (Valss (R ∷ S ∷ [])) (within (shape (tuple_type (R ∷ S ∷ []))) (x, (y, tt)) (vstruct (vcons u (vcons v vnil)) ∷ [])) (u ∷ [], (v ∷ [], tt)) $ done !
-
   module _ (K V : RattleType) (κ : Lft) (x : Bor K.Denot × MutBor V.Denot) (v : Val) where
     -- `(&K, &mut V)`
     abbrev pub Entry : RattleType
@@ -89,7 +75,7 @@ module _ {M : Type 1} {𝓤 : Ura M} (𝓛 : Logic 𝓤) where
         let f = shr_Tells (named 0) κ K x.0 vss.0 i in let g = mut_Tells (named 0) κ V x.1 vss.1.0 j in
         rewrite ! 0 (λ (ws : List Val). ‵ ((MutRef (named 0) κ V).own_val x.1 ws)) g refl $ rewrite ! 1 (λ (ws : List Val). ‵ ((ShrRef (named 0) κ K).own_val x.0 ws)) f refl $
         check ! (ap only e ∙ (λ k. vstruct (of_list (f k ++ (g k ++ []))))) $ move ! (1 ∷ 0 ∷ []) $
-        by ! (as_tuple (ShrRef (named 0) κ K) (MutRef (named 0) κ V) x.0 x.1 (vptr x.0.ref_ptr.0 x.0.ref_ptr.1) (vptr x.1.ref_ptr.0 x.1.ref_ptr.1))))))
+        by ! (as_tuple 𝓛 (ShrRef (named 0) κ K) (MutRef (named 0) κ V) x.0 x.1 (vptr x.0.ref_ptr.0 x.0.ref_ptr.1) (vptr x.1.ref_ptr.0 x.1.ref_ptr.1))))))
 
 -- a `Result` is one of the two
 pub which : {A E : Type 0} (r : Result A E) → ((x : A) × (r ≡ Ok x)) ⊎ ((e : E) × (r ≡ Err e))

@@ -1,32 +1,30 @@
--- A clause of two names at `Some` and at `None`, an `Option` that a call gave, opened, and two references made a tuple.
+-- A clause of two names at `Some` and at `None`, and an `Option` that a call gave, opened.
 -- Assumes `Logic`.
 use mathlib.Core.Path.{◌≡◌, refl, ap, ◌∙◌}
 use mathlib.Core.Logic.{◌⊎◌, inl, inr}
 use mathlib.Core.List.{List, [], ◌∷◌, ◌++◌}
 use mathlib.Core.Option.{none, some}
 use seplogic.Ra.Ura.{Ura}
-use mir.Syntax.{Lifetime, named}
+use mir.Syntax.{named}
 use mir.Val.{Val, of_list, vptr, vstruct, vcons, vnil}
-use base.Logic.{ent, sep, guard}
+use base.Logic.{ent, guard}
 use base.Fml.{Lft, GName, fres}
 use types.Logic.{Logic, sem}
-use types.Kit.{‵, ◌$◌, ◌∵◌, !, qed, by, move, keep, drop, fsplit, fsplit3, fjoin, fpick, fpack, feq_i, feq_l, rewrite, updating, now, check, done}
+use types.Kit.{‵, ◌$◌, ◌∵◌, !, qed, by, keep, fsplit, fpick, feq_l, rewrite, check, done}
 use types.Match.{live}
-use types.Tokens.{name_done}
 use contract.Monad.{fact, fact_i}
-use denote.RattleType.{RattleType, Valss}
+use denote.RattleType.{RattleType}
 use denote.Follow.{follows, follows_if, follows_by, follows_both, follows_both_if, both_if_by}
 use denote.Laws.{Is, shows}
 use denote.Param.{layout}
-use denote.Ref.{MutBor, MutRef, mut_vals}
-use denote.Steps.{nothing, peeks, only}
-use denote.Struct.Declared.{shape}
-use denote.Struct.Struct.{within}
-use denote.Struct.Tuple.{Tuple, tuple_type}
+use denote.Ref.{MutBor, MutRef}
+use denote.Steps.{peeks, only}
+use denote.Struct.Tuple.{Tuple}
 use Rattle.core.proofs.cell.Inside.{Good}
 use Rattle.core.specs.declared.option.Option.{Option}
 use Rattle.core.specs.declared.option.Option.TheVariants.{None, Some}
 use Rattle.core.specs.contracts.option.Option as OP
+pub use Rattle.starlark_columns.proofs.LentParts.{given_up, as_tuple}
 
 -- an `Option` is one of the two
 pub either : {A : Type 0} (o : Option A) → ((x : A) × (o ≡ Some x)) ⊎ (o ≡ None)
@@ -66,21 +64,6 @@ module _ {M : Type 1} {𝓤 : Ura M} (𝓛 : Logic 𝓤) (R : RattleType) (v : V
   in_none =
       qed 𝓛 (‵ ((OP.the_row R).own_val None (v ∷ [])) ∷ []) ∵ fpick ! (λ us. fsplit ! $ feq_l ! (λ e. fpick ! (λ vss. fsplit ! $ feq_l ! (λ f.
       keep ! [] $ by ! (fact_i 𝓤 _ _ (ap only e ∙ ap (λ ws. live 0 (of_list ws)) f))))))
-
-module _ {M : Type 1} {𝓤 : Ura M} (𝓛 : Logic 𝓤) where
-  open 𝓛 use {H}
-
-  -- a `&mut` is given up at the value that it has
-  pub given_up : (R : RattleType) (ℓ : Lifetime) (κ : Lft) (r : MutBor R.Denot) → ent 𝓤 (sem 𝓛 ((MutRef ℓ κ R).own_val r (mut_vals r))) (H.⇛ (sem 𝓛 (fres r.ghost_name (R.coded.code r.now))))
-  given_up R ℓ κ r = qed 𝓛 (‵ ((MutRef ℓ κ R).own_val r (mut_vals r)) ∷ []) ∵ updating ! $ fsplit3 ! $ drop ! $ name_done ! tt $ now ! $ keep ! (0 ∷ []) $ done !
-
-  -- two values as one tuple
-  pub as_tuple : (R S : RattleType) (x : R.Denot) (y : S.Denot) (u v : Val)
-      → ent 𝓤 (sep 𝓤 (sem 𝓛 (R.own_val x (u ∷ []))) (sem 𝓛 (S.own_val y (v ∷ [])))) (sem 𝓛 ((Tuple (R ∷ S ∷ [])).own_val (x, y) (vstruct (vcons u (vcons v vnil)) ∷ [])))
-  as_tuple R S x y u v =
-      qed 𝓛 (‵ (R.own_val x (u ∷ [])) ∷ ‵ (S.own_val y (v ∷ [])) ∷ []) ∵ nothing ! $ move ! (2 ∷ 0 ∷ []) $ fjoin ! $ move ! (1 ∷ 0 ∷ []) $ fjoin ! $
-      feq_i ! (List Val) (vstruct (vcons u (vcons v vnil)) ∷ []) (vstruct (vcons u (vcons v vnil)) ∷ []) refl $ fjoin ! $
-      fpack ! (Valss (R ∷ S ∷ [])) (within (shape (tuple_type (R ∷ S ∷ []))) (x, (y, tt)) (vstruct (vcons u (vcons v vnil)) ∷ [])) (u ∷ [], (v ∷ [], tt)) $ done !
 
 -- `(&mut A, &mut B)`
 abbrev pub PairOf : RattleType → RattleType → Lft → RattleType
