@@ -104,6 +104,8 @@ fn looks_texts_up(rt: HostRuntime) -> Result<(), Fail> {
     let mut map = texts(rt.alloc(), &[(1, "10", 10), (2, "20", 20), (1, "30", 30)])?;
     let found = map.get_index_of_hashed(under(1, &TextKey("30")));
     same(&rt, found, Some(2));
+    let found = map.get_index_of_hashed_among_few(under(1, &TextKey("30")));
+    same(&rt, found, Some(2));
     holds(
         &rt,
         map.get_index_of_hashed(under(2, &TextKey("30"))).is_none(),

@@ -91,21 +91,6 @@ module _ {X : Type 0} (p : X → Bool) where
       ap (λ m. m / 2 ^ n) (mask-parts xs n within)
       ∙ div-mul-add (mask (drop n xs)) (2 ^ n) (mask (take n xs)) (mask-take_lt xs n within)
 
-  -- the bits of n places and of the n behind them
-  module _ (xs : List X) (start n : ℕ) (room : start + (n + n) ≤ length xs) (short : n + n ≤ 32)
-      (front back : ℕ) (is : front ≡ mask (chunk start n xs)) (are : back ≡ mask (chunk (start + n) n xs)) where
-    behind : length (drop start xs) ≡ length xs - start
-    behind = length-drop start xs
-
-    back_is : back ≡ mask (chunk n n (drop start xs))
-    back_is = are ∙ ap (λ ys. mask (take n ys)) (sym (drop-drop n start xs))
-
-    pub mask_twice : front + back * 2 ^ n % 2 ^ 64 ≡ mask (chunk start (n + n) xs)
-    mask_twice = mask_more (drop start xs) n n (omega (arith, behind, room)) short front back is back_is
-
-    pub mask_twice_lt : front + back * 2 ^ n % 2 ^ 64 < 2 ^ 64
-    mask_twice_lt = mask_more_lt (drop start xs) n n (omega (arith, behind, room)) short front back is back_is
-
   -- a row is covered by its first n places and its last n: the bits of those that are among both count once
   module _ (xs : List X) (n last both : ℕ) (end : last + n ≡ length xs) (shared : last + both ≡ n) (short : length xs ≤ 32)
       (front back : ℕ) (is : front ≡ mask (chunk zero n xs)) (are : back ≡ mask (chunk last n xs)) where

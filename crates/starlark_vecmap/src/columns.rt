@@ -1,5 +1,5 @@
 //! What a vector map does to its two columns: pairs of a key and a value, and the hash of each.
-ghost use Rattle.std.specs.Prelude.{◌≡◌, length, fold, MatchBool, IsSortedByKey};
+ghost use Rattle.std.specs.Prelude.{◌≡◌, ◌≤◌, length, fold, MatchBool, IsSortedByKey};
 ghost use Rattle.starlark_lists.specs.Search.{Asks, CanSearch, keys_under};
 ghost use Rattle.starlark_vecmap.specs.EntryList.{entries_in};
 ghost use Rattle.starlark_lists.specs.Ordered.{ordered_feed};
@@ -15,7 +15,7 @@ pub(crate) fn search_columns<K, V, F: FnMut(&K) -> bool>(
     pairs: &[(K, V)],
     hashes: &[u32],
     hash: StarlarkHashValue,
-    mut accepts: F,
+    accepts: F,
 ) -> Option<usize>
     requires lengths { length hashes.now ≡ length pairs.now }
     requires callable { CanSearch F.FnMut (keys_under hash (entries_in pairs.now hashes.now)) accepts }
@@ -24,6 +24,22 @@ pub(crate) fn search_columns<K, V, F: FnMut(&K) -> bool>(
     if hashes.len() > BLOCK {
         return search_long(pairs, hashes, hash, accepts);
     }
+    search_few(pairs, hashes, hash, accepts)
+}
+
+// The same of columns that one mask covers.
+#[inline]
+pub(crate) fn search_few<K, V, F: FnMut(&K) -> bool>(
+    pairs: &[(K, V)],
+    hashes: &[u32],
+    hash: StarlarkHashValue,
+    mut accepts: F,
+) -> Option<usize>
+    requires few { length hashes.now ≤ 32 }
+    requires lengths { length hashes.now ≡ length pairs.now }
+    requires callable { CanSearch F.FnMut (keys_under hash (entries_in pairs.now hashes.now)) accepts }
+    ensures { (last : F) × Asks F.FnMut accepts (keys_under hash (entries_in pairs.now hashes.now)) result last }
+{
     let mut mask = places_of(hashes, hash.get());
     let mut i = 0;
     while mask != 0 {

@@ -126,8 +126,8 @@ fn places_of_eight(block: &[u32], start: usize, hash: u32) -> u64
     requires { start + 8 ≤ length block.now }
     ensures { result ≡ mask_l (map (λ h. h == hash) (chunk start 8 block.now)) }
 {
-    let later = places_of_four(block, start + 4, hash);
-    places_of_four(block, start, hash) + (later << 4)
+    let eight = u32x8::from_slice(&block[start..]);
+    eight.simd_eq(u32x8::splat(hash)).to_bitmask()
 }
 
 #[inline]
@@ -135,8 +135,8 @@ fn places_of_sixteen(block: &[u32], start: usize, hash: u32) -> u64
     requires { start + 16 ≤ length block.now }
     ensures { result ≡ mask_l (map (λ h. h == hash) (chunk start 16 block.now)) }
 {
-    let later = places_of_eight(block, start + 8, hash);
-    places_of_eight(block, start, hash) + (later << 8)
+    let sixteen = u32x16::from_slice(&block[start..]);
+    sixteen.simd_eq(u32x16::splat(hash)).to_bitmask()
 }
 
 // The same of a block of fewer than four.

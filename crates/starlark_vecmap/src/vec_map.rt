@@ -1,5 +1,5 @@
 //! `VecMap`, a list of entries in two columns. Its children alone see its field.
-ghost use Rattle.std.specs.Prelude.{◌≡◌, ◌-◌, ◌^◌, ◌<◌, ◌≤◌, ◌==◌, [], ◌∷◌, ◌++◌, length, map, remove, reverse, slice_get, is_ok, if◌then◌else◌, IfOk, IfErr, IfSome, IsOk};
+ghost use Rattle.std.specs.Prelude.{◌≡◌, ◌-◌, ◌^◌, ◌<◌, ◌≤◌, ◌==◌, [], ◌∷◌, ◌++◌, length, map, remove, reverse, slice_get, is_ok, None, if◌then◌else◌, IfOk, IfErr, IfSome, IsOk};
 ghost use Rattle.std.specs.Option.{option_map};
 ghost use Rattle.std.specs.Map.Iter.{TakesLast, ShowsInOrder, ShowsInReverse, GivesInOrder, GivesInReverse, deref, deref_pair};
 ghost use Rattle.starlark_lists.specs.Entries.{Entry, entry_key, entry_value, pair_of, position_of, entry_at, without};
@@ -16,7 +16,8 @@ mod lends;
 mod retain;
 mod sort;
 
-use crate::columns::search_columns;
+use crate::columns::{search_columns, search_few};
+use crate::hash_search::BLOCK;
 pub use into_iter::{IntoIter, IntoIterHashed, IntoKeys, IntoValues};
 pub use iter::{Iter, IterHashed, Keys, Values};
 use starlark_hash::{Equivalent, Hashed, NoRoom, StarlarkHashValue};
@@ -121,6 +122,33 @@ impl<K, V> VecMap<K, V> {
     {
         let query = *key.key();
         self.get_index_of_hashed_raw(key.hash(), |k| query.equivalent(k))
+    }
+
+    /// As `get_index_of_hashed`, where there are up to 32 entries; None where there are more. The code is short, since it
+    /// has one way to search. Rust has no such call.
+    #[inline]
+    pub fn get_index_of_hashed_among_few<Q: Equivalent<K>>(&self, key: Hashed<&Q>) -> Option<usize>
+    where
+        K: Eq,
+        ensures place { length self.now.entries ≤ 32 → result ≡ position_of (hash_of key.entry) (Q.equivalent (key_of key.entry).now) self.now.entries }
+        ensures many { 32 < length self.now.entries → result ≡ None }
+        ensures within { IfSome result (λ i. i < length self.now.entries) }
+    {
+        if self.len() > BLOCK {
+            return None;
+        }
+        let query = *key.key();
+        self.search_few(key.hash(), |k: &K| query.equivalent(k))
+    }
+
+    // The first place under the hash whose key `accepts` answers true for.
+    #[inline]
+    fn search_few<F: FnMut(&K) -> bool>(&self, hash: StarlarkHashValue, accepts: F) -> Option<usize>
+        requires few { length self.now.entries ≤ 32 }
+        requires callable { CanSearch F.FnMut (keys_under hash self.now.entries) accepts }
+        ensures { (last : F) × Asks F.FnMut accepts (keys_under hash self.now.entries) result last }
+    {
+        search_few(self.columns.firsts(), self.columns.seconds(), hash, accepts)
     }
 
     /// The key and the value at this index, where there is an entry.

@@ -56,7 +56,7 @@ impl<K: Eq, V> SmallMap<K, V> {
     {
         match &self.index {
             Some(table) => position_indexed(&self.entries, table, key),
-            None => self.entries.get_index_of_hashed(key),
+            None => self.entries.get_index_of_hashed_among_few(key),
         }
     }
 

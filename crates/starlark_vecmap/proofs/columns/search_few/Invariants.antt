@@ -3,7 +3,7 @@ use Rattle.std.specs.Simd.Lanes.{mask_l}
 use Rattle.starlark_lists.specs.Search.{keys_under}
 use Rattle.starlark_vecmap.specs.EntryList.{entries_in}
 use Rattle.starlark_vecmap.proofs.Searching.{Searching, keys_from}
-use Rattle.starlark_vecmap.proofs.columns.search_columns.Given as goal
+use Rattle.starlark_vecmap.proofs.columns.search_few.Given as goal
 
 abbrev pub invariant-loop-mask : goal.invariant-loop-mask
 invariant-loop-mask g l =

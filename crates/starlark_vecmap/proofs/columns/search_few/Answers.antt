@@ -3,7 +3,7 @@ use Rattle.std.proofs.Common.{refl, arith}
 use Rattle.std.specs.Prelude.{nat_eq}
 use Rattle.starlark_vecmap.proofs.Blocks.{next_nowhere, next_within, next_place, next_mask}
 use Rattle.starlark_vecmap.proofs.Searching.{place_asked, place_accepted, place_refused, none_left}
-use Rattle.starlark_vecmap.proofs.columns.search_columns.Goals as goal
+use Rattle.starlark_vecmap.proofs.columns.search_few.Goals as goal
 
 pub offset_bounds-pairs-place : goal.offset_bounds-pairs-place
 offset_bounds-pairs-place g c =
