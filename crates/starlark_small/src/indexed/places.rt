@@ -103,7 +103,8 @@ fn lower_near<K, V>(index: &mut ReadyTable<usize>, entries: &VecMap<K, V>, place
     len
 }
 
-// Moves each place one down that is not below the bound, in one pass over the index.
+// Moves each place one down that is not below the bound, in one pass over the index. There is no branch for a place:
+// which ones stand above the bound could not be foreseen.
 fn lower_all(index: &mut ReadyTable<usize>, from: usize)
     ensures members { members index.new ≡ map (λ m. (m.0, lowered from m.1)) (members index.old) }
     ensures room { table_len index.new + index.new.room ≡ table_len index.old + index.old.room }
@@ -111,7 +112,7 @@ fn lower_all(index: &mut ReadyTable<usize>, from: usize)
     index.replace_each(
         |i: &usize| -> usize
             ensures { result ≡ lowered from i.now }
-        { if *i >= from { i.saturating_sub(1) } else { *i } },
+        { i.saturating_sub(usize::from(*i >= from)) },
     );
 }
 
