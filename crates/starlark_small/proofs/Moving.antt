@@ -34,23 +34,23 @@ written_over ms ns x y old new held moved =
     subst (λ l. IsPermutation l new) (sym (append_assoc ms (y ∷ []) ns))
     (IsPermutation-trans (ms ++ y ∷ ns) (y ∷ (ms ++ ns)) new (IsPermutation-middle ms y ns) (IsPermutation-cancel x (y ∷ (ms ++ ns)) new both))
 
-stays : (from n : ℕ) → n < from → lowered from n ≡ n
+stays : (from n : ℕ) → n < from → lowered (from - 1) n ≡ n
 stays from n below = grind (arith, nat_tests)
 
-sinks : (from n low : ℕ) → from ≤ n → n ≡ low + 1 → lowered from n ≡ low
+sinks : (from n low : ℕ) → from ≤ n → n ≡ low + 1 → lowered (from - 1) n ≡ low
 sinks from n low above same = grind (arith, nat_tests)
 
-module _ {F : Type 0} (g : Mut F (Bor ℕ × Unit {0}) ℕ) (from : ℕ) where
+module _ {F : Type 0} (g : Mut F (Bor ℕ × Unit {0}) ℕ) (last : ℕ) where
   -- a pass whose calls lower what they are shown lowers the place of each member
-  pub lowered-each : (f last : F) (old new : List (Option (ℕ × ℕ))) → ((x : Bor ℕ) (y : ℕ) (next : F) → Called g f (x, tt) y next → (y ≡ lowered from x.now) × (next ≡ f))
-      → ReplacesEach g f old new last → filled new ≡ map (λ m. (m.0, lowered from m.1)) (filled old)
-  lowered-each f last [] new says (is, same) = ap filled is
-  lowered-each f last (None ∷ old) new says (rest, is, others) = ap filled is ∙ lowered-each f last old rest says others
-  lowered-each f last (Some (h, x) ∷ old) new says (y, next, rest, called, is, others) =
+  pub lowered-each : (f end : F) (old new : List (Option (ℕ × ℕ))) → ((x : Bor ℕ) (y : ℕ) (next : F) → Called g f (x, tt) y next → (y ≡ lowered last x.now) × (next ≡ f))
+      → ReplacesEach g f old new end → filled new ≡ map (λ m. (m.0, lowered last m.1)) (filled old)
+  lowered-each f end [] new says (is, same) = ap filled is
+  lowered-each f end (None ∷ old) new says (rest, is, others) = ap filled is ∙ lowered-each f end old rest says others
+  lowered-each f end (Some (h, x) ∷ old) new says (y, next, rest, called, is, others) =
       let told = says called.shown y next called.called in
       ap filled is
-      ∙ ap (λ z. (h, z) ∷ filled rest) (told.0 ∙ ap (lowered from) called.shows)
-      ∙ ap (λ l. (h, lowered from x) ∷ l) (lowered-each f last old rest says (subst (λ k. ReplacesEach g k old rest last) told.1 others))
+      ∙ ap (λ z. (h, z) ∷ filled rest) (told.0 ∙ ap (lowered last) called.shows)
+      ∙ ap (λ l. (h, lowered last x) ∷ l) (lowered-each f end old rest says (subst (λ k. ReplacesEach g k old rest end) told.1 others))
 
 module _ {K V : Type 0} where
   cut : (n k : ℕ) (es : List (Entry K V)) → k < length es
@@ -101,16 +101,16 @@ module _ {K V : Type 0} where
       (written_over before after (promoted e.0.hash.0, j) (promoted e.0.hash.0, j - 1) (members old) (members new)
       (subst (λ l. IsPermutation (before ++ l) (members old)) (unmoved es j e at) held) moved)
 
-  lowered_none : (from n : ℕ) (es : List (Entry K V)) → n + length es ≤ from → map (λ m. (m.0, lowered from m.1)) (positions_from n es) ≡ positions_from n es
+  lowered_none : (from n : ℕ) (es : List (Entry K V)) → n + length es ≤ from → map (λ m. (m.0, lowered (from - 1) m.1)) (positions_from n es) ≡ positions_from n es
   lowered_none from n [] below = refl
   lowered_none from n (e ∷ es) below =
-      ap (λ i. (promoted e.0.hash.0, i) ∷ map (λ m. (m.0, lowered from m.1)) (positions_from (n + 1) es)) (stays from n (omega arith))
+      ap (λ i. (promoted e.0.hash.0, i) ∷ map (λ m. (m.0, lowered (from - 1) m.1)) (positions_from (n + 1) es)) (stays from n (omega arith))
       ∙ ap (λ l. (promoted e.0.hash.0, n) ∷ l) (lowered_none from (n + 1) es (omega arith))
 
-  lowered_each : (from n low : ℕ) (es : List (Entry K V)) → from ≤ n → n ≡ low + 1 → map (λ m. (m.0, lowered from m.1)) (positions_from n es) ≡ positions_from low es
+  lowered_each : (from n low : ℕ) (es : List (Entry K V)) → from ≤ n → n ≡ low + 1 → map (λ m. (m.0, lowered (from - 1) m.1)) (positions_from n es) ≡ positions_from low es
   lowered_each from n low [] above same = refl
   lowered_each from n low (e ∷ es) above same =
-      ap (λ i. (promoted e.0.hash.0, i) ∷ map (λ m. (m.0, lowered from m.1)) (positions_from (n + 1) es)) (sinks from n low above same)
+      ap (λ i. (promoted e.0.hash.0, i) ∷ map (λ m. (m.0, lowered (from - 1) m.1)) (positions_from (n + 1) es)) (sinks from n low above same)
       ∙ ap (λ l. (promoted e.0.hash.0, low) ∷ l) (lowered_each from (n + 1) (low + 1) es (omega arith) (omega arith))
 
   positions-append : (n : ℕ) (ds es : List (Entry K V)) → positions_from n (ds ++ es) ≡ positions_from n ds ++ positions_from (n + length ds) es
@@ -120,25 +120,25 @@ module _ {K V : Type 0} where
       ∙ ap (λ i. (promoted d.0.hash.0, n) ∷ positions_from (n + 1) ds ++ positions_from i es) {x = n + 1 + length ds} {y = n + suc (length ds)} (omega arith)
 
   -- once all others move, the places are those of the shorter list
-  lowered-moved_below : (es : List (Entry K V)) (i j : ℕ) → i < j → j ≤ length es → map (λ m. (m.0, lowered j m.1)) (moved_below es i j) ≡ positions (remove es i)
+  lowered-moved_below : (es : List (Entry K V)) (i j : ℕ) → i < j → j ≤ length es → map (λ m. (m.0, lowered (j - 1) m.1)) (moved_below es i j) ≡ positions (remove es i)
   lowered-moved_below es i j above within =
       let before = take j es in
       let size : length before ≡ j = omega (arith, length-take j es) in
       let inside : i < length before = omega arith in
       let shorter : length (remove before i) ≡ j - 1 = omega (arith, length-remove before i inside) in
-      map-append (λ m. (m.0, lowered j m.1)) (positions_from 0 (remove before i)) (positions_from j (drop j es))
-      ∙ ap (λ l. l ++ map (λ m. (m.0, lowered j m.1)) (positions_from j (drop j es))) (lowered_none j 0 (remove before i) (omega (arith, shorter)))
+      map-append (λ m. (m.0, lowered (j - 1) m.1)) (positions_from 0 (remove before i)) (positions_from j (drop j es))
+      ∙ ap (λ l. l ++ map (λ m. (m.0, lowered (j - 1) m.1)) (positions_from j (drop j es))) (lowered_none j 0 (remove before i) (omega (arith, shorter)))
       ∙ ap (λ l. positions_from 0 (remove before i) ++ l) (lowered_each j j (0 + length (remove before i)) (drop j es) (omega arith) (omega (arith, shorter)))
       ∙ sym (positions-append 0 (remove before i) (drop j es))
       ∙ ap positions (sym (remove-append_left before (drop j es) i inside))
       ∙ ap (λ l. positions (remove l i)) (take-append-drop j es)
 
   pub moved_below-lowered : (es : List (Entry K V)) (i j : ℕ) (e : Entry K V) (old mid new : Table ℕ) → i < j → j ≤ length es → slice_get es i ≡ Some e → IsIndexOf es old
-      → IsPermutation (moved_below es i j) (members mid) → members new ≡ map (λ m. (m.0, lowered j m.1)) (members mid) → IsIndexOf (remove es i) new
+      → IsPermutation (moved_below es i j) (members mid) → members new ≡ map (λ m. (m.0, lowered (j - 1) m.1)) (members mid) → IsIndexOf (remove es i) new
   moved_below-lowered es i j e old mid new above within at index held is = record {
     bag = subst (λ l. IsPermutation l (members new)) (lowered-moved_below es i j above within)
-        (subst (λ l. IsPermutation (map (λ m. (m.0, lowered j m.1)) (moved_below es i j)) l) (sym is)
-        (IsPermutation-map (λ m. (m.0, lowered j m.1)) (moved_below es i j) (members mid) held));
+        (subst (λ l. IsPermutation (map (λ m. (m.0, lowered (j - 1) m.1)) (moved_below es i j)) l) (sym is)
+        (IsPermutation-map (λ m. (m.0, lowered (j - 1) m.1)) (moved_below es i j) (members mid) held));
     fits = fits-remove es i e at index.fits;
   }
 

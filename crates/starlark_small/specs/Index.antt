@@ -11,9 +11,9 @@ use Rattle.starlark_vecmap.specs.EntryList.{EntryList}
 abbrev pub unindexed : ℕ
 unindexed = 32
 
--- the place one down, if it is not below a bound
+-- the place one down, if it is above the last one that stays
 abbrev pub lowered : ℕ → ℕ → ℕ
-lowered from place = if nat_le from place then place - 1 else place
+lowered last place = if nat_le place last then place else place - 1
 
 -- how many new entries an index surely takes without memory, or a list of this length without one
 abbrev pub index_room : ℕ → Option (Table ℕ) → ℕ

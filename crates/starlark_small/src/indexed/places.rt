@@ -103,16 +103,16 @@ fn lower_near<K, V>(index: &mut ReadyTable<usize>, entries: &VecMap<K, V>, place
     len
 }
 
-// Moves each place one down that is not below the bound, in one pass over the index. There is no branch for a place:
-// which ones stand above the bound could not be foreseen.
-fn lower_all(index: &mut ReadyTable<usize>, from: usize)
-    ensures members { members index.new ≡ map (λ m. (m.0, lowered from m.1)) (members index.old) }
+// Moves each place one down that is above the last one that stays, in one pass over the index. There is no branch for a
+// place: which ones stand above could not be foreseen.
+fn lower_all(index: &mut ReadyTable<usize>, last: usize)
+    ensures members { members index.new ≡ map (λ m. (m.0, lowered last m.1)) (members index.old) }
     ensures room { table_len index.new + index.new.room ≡ table_len index.old + index.old.room }
 {
     index.replace_each(
         |i: &usize| -> usize
-            ensures { result ≡ lowered from i.now }
-        { i.saturating_sub(usize::from(*i >= from)) },
+            ensures { result ≡ lowered last i.now }
+        { *i - usize::from(*i > last) },
     );
 }
 
@@ -127,7 +127,7 @@ fn remove_place<K, V>(index: &mut ReadyTable<usize>, entries: &VecMap<K, V>, pla
     take_place(index, hash, place);
     let from = lower_near(index, entries, place);
     if from < entries.len() {
-        lower_all(index, from);
+        lower_all(index, from - 1);
     }
 }
 
