@@ -117,6 +117,7 @@ fn lower_all(index: &mut ReadyTable<usize>, last: usize)
 }
 
 // Takes out a place of the list, whose entry is still there.
+#[inline(never)]
 fn remove_place<K, V>(index: &mut ReadyTable<usize>, entries: &VecMap<K, V>, place: usize)
     requires index { IsIndexOf entries.now.entries index.old }
     requires within { place < length entries.now.entries }
@@ -132,6 +133,7 @@ fn remove_place<K, V>(index: &mut ReadyTable<usize>, entries: &VecMap<K, V>, pla
 }
 
 // The same of an index that may be missing.
+#[inline]
 pub(crate) fn unindex<K, V>(
     index: &mut Option<ReadyTable<usize>>,
     entries: &VecMap<K, V>,
