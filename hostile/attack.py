@@ -15,6 +15,7 @@ WORD = 1 << 64
 FACTOR = 0x9E3779B97F4A7C15
 RUNS = 3
 LOOK_UPS = 10_000
+REMOVALS = 1_000
 
 
 def promoted(hash):
@@ -57,9 +58,7 @@ def main(program):
             puts = [f"put {hash} k{i} {i}\n" for i, hash in enumerate(hashes)]
             hits = [f"get {hashes[i]} k{i}\n" for i in places]
             misses = [f"get {hashes[i]} n{i}\n" for i in places]
-            # a removal under attack takes milliseconds: few are enough
-            few = 1_000 if name == "random hashes" else 50
-            removals = [f"del {hashes[i]} k{i}\n" for i in places[:few]]
+            removals = [f"del {hashes[i]} k{i}\n" for i in places[:REMOVALS]]
             empty, built = seconds(program, []), seconds(program, puts)
             row = [(built - empty) / count]
             row += [(seconds(program, puts + it) - built) / len(it) for it in (hits, misses, removals)]
