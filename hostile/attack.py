@@ -1,4 +1,5 @@
-"""Times the script program under hashes that an attacker may choose, beside random ones: nanoseconds a line.
+"""Times the script program under hashes that an attacker may choose, beside random ones: nanoseconds of processor time a
+line.
 
 The own hash of a key is not keyed, so that whoever chooses the keys chooses where they stand. A script brings its hashes
 itself. Each figure is the least of some runs, less that of a run without the lines that it is about.
@@ -7,13 +8,13 @@ python3 hostile/attack.py PROGRAM
 """
 
 import random
+import resource
 import subprocess
 import sys
-import time
 
 WORD = 1 << 64
 FACTOR = 0x9E3779B97F4A7C15
-RUNS = 3
+RUNS = 5
 LOOK_UPS = 10_000
 REMOVALS = 1_000
 
@@ -44,9 +45,10 @@ def cases(count):
 def seconds(program, lines):
     text, best = "".join(lines).encode(), float("inf")
     for _ in range(RUNS):
-        begin = time.perf_counter()
+        before = resource.getrusage(resource.RUSAGE_CHILDREN)
         subprocess.run([program], input=text, stdout=subprocess.DEVNULL, check=True)
-        best = min(best, time.perf_counter() - begin)
+        after = resource.getrusage(resource.RUSAGE_CHILDREN)
+        best = min(best, after.ru_utime + after.ru_stime - before.ru_utime - before.ru_stime)
     return best
 
 
