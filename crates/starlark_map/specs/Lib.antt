@@ -47,6 +47,7 @@ pub use Rattle.starlark_sets.specs.OrderedTries
 pub use Rattle.starlark_sorted.specs.Sorted
 pub use Rattle.starlark_sorted.specs.Collect as SortedCollect
 pub use Rattle.starlark_sorted.specs.Lending as SortedLending
+pub use Rattle.starlark_sorted.specs.Union as SortedUnion
 pub use Rattle.starlark_json.specs.Fault as JsonFaults
 pub use Rattle.starlark_json.specs.Texts as JsonTexts
 pub use Rattle.starlark_json.specs.Objects as JsonObjects

@@ -105,3 +105,29 @@ fn clones_a_set(rt: HostRuntime) -> Result<(), Fail> {
     holds(&rt, rises(&sorted) && rises(&copy));
     Ok(())
 }
+
+fn pair(alloc: Global, items: [u32; 2]) -> Result<SortedSet<u32>, AllocError> {
+    match SortedSet::from_iter(alloc, items) {
+        Ok(set) => Ok(set),
+        Err(_) => SortedSet::from_iter(alloc, items),
+    }
+}
+
+// Whether the walk over both shows 1, 2 and 3, with the right bounds before.
+fn joins(first: &SortedSet<u32>, second: &SortedSet<u32>) -> bool {
+    let mut union = first.union(second);
+    union.size_hint() == (2, Some(4))
+        && union.next() == Some(&1)
+        && union.next() == Some(&2)
+        && union.next() == Some(&3)
+        && union.next().is_none()
+}
+
+// After the first two lines nothing asks for memory.
+#[test]
+fn joins_two_sets(rt: HostRuntime) -> Result<(), Fail> {
+    let first = pair(rt.alloc(), [3, 1])?;
+    let second = pair(rt.alloc(), [2, 1])?;
+    holds(&rt, joins(&first, &second));
+    Ok(())
+}

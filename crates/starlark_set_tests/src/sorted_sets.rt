@@ -1,6 +1,6 @@
 //! Sets that ascend: values from outside, and calls at a concrete type.
 
-use crate::given::{holds, same};
+use crate::given::{holds, same, under};
 use starlark_map::ordered_set::OrderedSet;
 use starlark_map::small_set::SmallSet;
 use starlark_map::sorted_set::SortedSet;
@@ -89,21 +89,51 @@ fn both(alloc: Global, first: &[u32], second: &[u32]) -> Result<(Sorted, Sorted)
     Ok((first, collected(alloc, second)?))
 }
 
-fn joins(first: &Sorted, second: &Sorted, elements: [u32; 3]) -> bool {
+// Whether the walk over both shows these elements and no more, with these bounds of what is left before each.
+fn joins(first: &Sorted, second: &Sorted, steps: &[(usize, usize, u32)]) -> bool {
     let mut union = first.union(second);
-    for element in elements {
-        if union.next() != Some(&element) {
+    for step in steps {
+        if union.size_hint() != (step.0, Some(step.1)) || union.next() != Some(&step.2) {
             return false;
         }
     }
-    union.next().is_none()
+    union.size_hint() == (0, Some(0)) && union.next().is_none()
 }
 
 #[test]
-fn joins_one_set_after_the_other(rt: HostRuntime) -> Result<(), Fail> {
+fn joins_in_ascending_order(rt: HostRuntime) -> Result<(), Fail> {
     let (first, second) = both(rt.alloc(), &[1, 3], &[2])?;
-    holds(&rt, joins(&first, &second, [1, 3, 2]));
+    holds(&rt, joins(&first, &second, &[(2, 3, 1), (1, 2, 2), (1, 1, 3)]));
     holds(&rt, first < second);
+    Ok(())
+}
+
+#[test]
+fn passes_over_what_it_has(rt: HostRuntime) -> Result<(), Fail> {
+    let (first, second) = both(rt.alloc(), &[1, 3], &[1, 2])?;
+    holds(&rt, joins(&first, &second, &[(2, 4, 1), (1, 3, 2), (1, 1, 3)]));
+    Ok(())
+}
+
+#[test]
+fn joins_an_empty_set(rt: HostRuntime) -> Result<(), Fail> {
+    let (none, some) = both(rt.alloc(), &[], &[2, 4])?;
+    holds(&rt, joins(&none, &some, &[(2, 2, 2), (1, 1, 4)]));
+    holds(&rt, joins(&some, &none, &[(2, 2, 2), (1, 1, 4)]));
+    Ok(())
+}
+
+// The number 7 under 5, and under 6 before 8.
+fn sevens(alloc: Global) -> Result<(Sorted, Sorted), Fail> {
+    let first = from_small(SmallSet::from_iter_hashed(alloc, [under(5, 7)])?)?;
+    let both = SmallSet::from_iter_hashed(alloc, [under(6, 7), under(8, 8)])?;
+    Ok((first, from_small(both)?))
+}
+
+#[test]
+fn tells_stored_hashes_apart(rt: HostRuntime) -> Result<(), Fail> {
+    let (first, second) = sevens(rt.alloc())?;
+    holds(&rt, joins(&first, &second, &[(2, 3, 7), (1, 2, 7), (0, 1, 8)]));
     Ok(())
 }
 

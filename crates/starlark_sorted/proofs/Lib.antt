@@ -1,4 +1,5 @@
 pub mod Ascending
 pub mod InsertedInOrder
 pub mod OwnHashes
+pub mod Rising
 pub mod SortedMapOpen

@@ -1,3 +1,4 @@
 pub mod Collect
 pub mod Sorted
 pub mod Lending
+pub mod Union

@@ -2,11 +2,11 @@
 ghost use Rattle.std.specs.Prelude.{◌≡◌, ◌-◌, ◌<◌, ◌==◌, slice_get, length, is_some, IfSome};
 ghost use Rattle.std.specs.Option.{option_copied, option_map};
 ghost use Rattle.starlark_lists.specs.Entries.{entry_key};
-ghost use Rattle.starlark_small.specs.Map.{own_match};
+ghost use Rattle.starlark_small.specs.Map.{own_match, query_match};
 ghost use Rattle.starlark_sets.specs.Set.{element_at};
 
 use super::OrderedSet;
-use starlark_hash::Equivalent;
+use starlark_hash::{Equivalent, Hashed};
 use std::hash::Hash;
 
 impl<T: Eq> OrderedSet<T> {
@@ -40,6 +40,14 @@ impl<T: Eq> OrderedSet<T> {
         ensures { result ≡ is_some (own_match Q.equivalent Q.hash_input self.now.entries query.now) }
     {
         self.0.contains(query)
+    }
+
+    /// Whether there is an element under this hash to which the query is equivalent.
+    #[inline]
+    pub fn contains_hashed<Q: Equivalent<T>>(&self, query: Hashed<&Q>) -> bool
+        ensures { result ≡ is_some (query_match Q.equivalent self.now.entries query.entry) }
+    {
+        self.0.contains_hashed(query)
     }
 
     /// The element at a place.

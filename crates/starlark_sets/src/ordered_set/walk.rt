@@ -1,11 +1,13 @@
 //! The walks of an `OrderedSet`, which are those of the set inside.
 ghost use Rattle.std.specs.Prelude.{◌≡◌, ◌^◌, ◌<◌, length, map};
+ghost use Rattle.std.specs.Map.{keys_of};
 ghost use Rattle.std.specs.Map.Iter.{ShowsInOrder, ShowsInReverse, GivesInOrder, GivesInReverse, deref};
 ghost use Rattle.starlark_lists.specs.Entries.{IsSingle, entry_key};
 ghost use Rattle.starlark_sets.specs.Union.{ShowsUnion, union};
+ghost use Rattle.starlark_sets.specs.Unit.{deref_hashed};
 
 use super::OrderedSet;
-use crate::iter;
+use crate::iter::{self, IterHashed};
 use crate::union::Union;
 
 /// The elements in order.
@@ -24,6 +26,18 @@ impl<T: Eq> OrderedSet<T> {
         ensures runs_back { ShowsInReverse (deref {X = T}) }
     {
         self.0.iter()
+    }
+
+    /// The elements in order, each under its hash. No two have the same hash and are equal.
+    #[inline]
+    pub fn iter_hashed(&self) -> IterHashed<'_, T>
+        ensures elements { result ≡ keys_of self.now.entries }
+        ensures single { IsSingle T.eq self.now.entries }
+        ensures fits { length self.now.entries < 2 ^ 64 }
+        ensures runs { ShowsInOrder (deref_hashed {T = T}) }
+        ensures runs_back { ShowsInReverse (deref_hashed {T = T}) }
+    {
+        self.0.iter_hashed()
     }
 
     /// The elements of this set, and then those of the other that this one lacks, each looked for under its stored hash.

@@ -22,10 +22,11 @@ impl<T: Eq> SmallSet<T> {
         self.map.keys()
     }
 
-    /// The elements in order of insertion, each under its hash.
+    /// The elements in order of insertion, each under its hash. No two have the same hash and are equal.
     #[inline]
     pub fn iter_hashed(&self) -> IterHashed<'_, T>
         ensures elements { result ≡ keys_of self.now.entries }
+        ensures single { IsSingle T.eq self.now.entries }
         ensures fits { length self.now.entries < 2 ^ 64 }
         ensures runs { ShowsInOrder (deref_hashed {T = T}) }
         ensures runs_back { ShowsInReverse (deref_hashed {T = T}) }

@@ -3,11 +3,11 @@ ghost use Rattle.std.specs.Prelude.{◌≡◌, ◌^◌, ◌<◌, length, map};
 ghost use Rattle.std.specs.Map.Iter.{ShowsInOrder, ShowsInReverse, GivesInOrder, GivesInReverse, deref};
 ghost use Rattle.starlark_lists.specs.Entries.{IsSingle, entry_key};
 ghost use Rattle.starlark_lists.specs.Sorting.{Ascends};
-ghost use Rattle.starlark_sets.specs.Union.{ShowsUnion, union};
 ghost use Rattle.starlark_sorted.specs.Sorted.{AreOwn, AscendsStrictly};
+ghost use Rattle.starlark_sorted.specs.Union.{ShowsRise, rise};
 
 use super::SortedSet;
-use starlark_sets::Union;
+use crate::union::SortedUnion;
 use starlark_sets::ordered_set::{IntoIter, Iter};
 use std::hash::Hash;
 
@@ -24,15 +24,21 @@ impl<T: Ord + Hash> SortedSet<T> {
         self.inner.iter()
     }
 
-    /// The elements of this set, and then those of the other that this one lacks, each looked for under its stored hash.
-    /// The elements of either set ascend strictly, where each stands under its own hash.
-    pub fn union<'a>(&'a self, other: &'a Self) -> Union<'a, T>
-        ensures left { result ≡ record { first = self.now.entries; second = record { left = other.now.entries; other = self.now.entries } } }
-        ensures single { IsSingle T.eq (union T.eq self.now.entries other.now.entries) }
-        ensures strictly { AreOwn T.hash_input self.now.entries → AscendsStrictly T.cmp self.now.entries }
-        ensures runs { ShowsUnion T.eq }
+    /// The elements of this set and those of the other that this one lacks, in ascending order, each looked for under
+    /// its stored hash; of equal ones those of this set come first. They ascend strictly, where each stands under its own
+    /// hash. It asks for no memory.
+    pub fn union<'a>(&'a self, other: &'a Self) -> SortedUnion<'a, T>
+        ensures left { result ≡ record { left = self.now.entries; right = other.now.entries; there = self.now.entries } }
+        ensures single { IsSingle T.eq (rise T.eq T.cmp self.now.entries other.now.entries) }
+        ensures ascends { Ascends T.cmp (rise T.eq T.cmp self.now.entries other.now.entries) }
+        ensures strictly { AreOwn T.hash_input self.now.entries → AreOwn T.hash_input other.now.entries → AscendsStrictly T.cmp (rise T.eq T.cmp self.now.entries other.now.entries) }
+        ensures runs { ShowsRise T.eq T.cmp }
     {
-        self.inner.union(&other.inner)
+        SortedUnion::new(
+            self.inner.iter_hashed(),
+            other.inner.iter_hashed(),
+            &self.inner,
+        )
     }
 }
 

@@ -1,0 +1,77 @@
+-- What is in either of two lists that ascend, in ascending order.
+use Rattle.std.specs.Prelude.{◌≡◌, Bool, true, false, not, ◌&&◌, List, [], ◌∷◌, ◌++◌, Option, Some, None, if◌then◌else◌, drop, map}
+use Rattle.std.specs.Borrow.{Bor}
+use Rattle.std.specs.Iterator.{YieldsFirstRef}
+use Rattle.std.specs.Iterator.Runs.{EveryRun, ItemsMapTo}
+use Rattle.std.specs.Map.Iter.{deref}
+use Rattle.std.specs.declared.cmp.Ordering.{Ordering}
+use Rattle.starlark_hash.specs.declared.hashed.Hashed.{Hashed}
+use Rattle.starlark_lists.specs.Entries.{Entry, entry_key}
+use Rattle.starlark_lists.specs.Sorting.{key_lt, sorted_by_key}
+use Rattle.starlark_sets.specs.Difference.{difference, lacks}
+use Rattle.starlark_sets.specs.Set.{Elements}
+use Rattle.starlark_sets.specs.Union.{union}
+use Rattle.starlark_sets.specs.Unit.{deref_hashed}
+
+-- what is left of either list, and the first list, in which the second's elements are looked for
+pub record SortedUnion (T : Type 0) : Type 0 where
+  pub left : Elements T
+  pub right : Elements T
+  pub there : Elements T
+
+module _ {T : Type 0} where
+  -- what a `Hashed<&T>` shows, as an element of a set
+  abbrev pub shown : Hashed (Bor T) → Entry T (Unit {0})
+  shown h = (deref_hashed h, tt)
+
+  -- hashed elements as those of a set
+  abbrev pub elements_under : List (Hashed T) → Elements T
+  elements_under hs = map (λ h. (h, tt)) hs
+
+  -- the element that was taken from a walk beforehand, and those that the walk has left
+  abbrev pub ahead : Option (Hashed (Bor T)) → List (Hashed T) → Elements T
+  ahead None hs = []
+  ahead (Some h) hs = shown h ∷ elements_under hs
+
+-- the list from the first item on that does not pass
+abbrev pub behind : {X : Type 0} → (X → Bool) → List X → List X
+behind p [] = []
+behind p (x ∷ xs) = if p x then behind p xs else x ∷ xs
+
+module _ {T : Type 0} (cmp : T → T → Ordering) where
+  -- whether an element comes before all that is left of the first list
+  abbrev pub comes_first : Elements T → Entry T (Unit {0}) → Bool
+  comes_first [] f = true
+  comes_first (e ∷ es) f = key_lt cmp f e
+
+  -- whether the second list has the next element
+  abbrev pub is_others : Elements T → Elements T → Bool
+  is_others es [] = false
+  is_others es (f ∷ fs) = comes_first es f
+
+module _ {T : Type 0} (eq : T → T → Bool) (cmp : T → T → Ordering) where
+  -- one list and what the other has that it lacks, ascending: of equal elements the first list's come first
+  abbrev pub rise : Elements T → Elements T → Elements T
+  rise es fs = sorted_by_key cmp (union eq es fs)
+
+  -- the elements that are still to come
+  abbrev pub rise_rest : SortedUnion T → List T
+  rise_rest u = map entry_key (sorted_by_key cmp (u.left ++ difference eq u.right u.there))
+
+  -- whether an element of the second list is passed over: the first list has it, and it comes before what is left of that
+  abbrev pub is_passed : Elements T → Elements T → Entry T (Unit {0}) → Bool
+  is_passed es there f = comes_first cmp es f && not (lacks eq there f)
+
+  -- what a step leaves
+  abbrev pub after : SortedUnion T → SortedUnion T
+  after u =
+      let fs = behind (is_passed u.left u.there) u.right in
+      if is_others cmp u.left fs then record u { right = drop 1 fs } else record u { left = drop 1 u.left; right = fs }
+
+  -- a step gives the first element to come, and passes over those of the second list that come before it and are not to come
+  abbrev pub RiseSteps : SortedUnion T → Option (Bor T) → SortedUnion T → Type 0
+  RiseSteps s r t = YieldsFirstRef rise_rest s r t × (t ≡ after s)
+
+  -- each run of `next` shows the elements that were still to come, in order
+  abbrev pub ShowsRise : Type 0
+  ShowsRise = EveryRun RiseSteps (λ p. ItemsMapTo p deref (rise_rest p.from))

@@ -1,0 +1,172 @@
+//! The elements of either of two sets that ascend, in ascending order.
+ghost use Rattle.std.specs.Prelude.{◌≡◌, ◌+◌, ◌-◌, ◌^◌, ◌<◌, [], ◌∷◌, false, true, length, min, drop, IfSome, MatchOption};
+ghost use Rattle.std.specs.Iterator.{UpTo, at_most};
+ghost use Rattle.std.specs.Iterator.SizeHint.{IsWithinCount};
+ghost use Rattle.std.specs.Map.Iter.{TakesFirst};
+ghost use Rattle.starlark_lists.specs.Entries.{IsSingle};
+ghost use Rattle.starlark_lists.specs.Sorting.{Ascends};
+ghost use Rattle.starlark_sets.specs.Union.{fits_in};
+ghost use Rattle.starlark_sorted.specs.Union.{RiseSteps, behind, comes_first, elements_under, is_others, is_passed, rise_rest, shown};
+
+use starlark_hash::Hashed;
+use starlark_sets::{IterHashed, OrderedSet};
+use std::cmp::Ordering;
+use std::hash::Hash;
+use std::marker::Model;
+
+/// The elements of one set and those of another that it lacks, in ascending order; of equal ones those of the first set
+/// come first. An element is looked for under the hash that it stands under.
+#[derive(Drop)]
+pub struct SortedUnion<'a, T: Ord + Hash> {
+    left: Ahead<'a, T>,
+    right: Ahead<'a, T>,
+    there: &'a OrderedSet<T>,
+}
+
+impl<'a, T: Ord + Hash> Model for SortedUnion<'a, T> {
+    ghost use Rattle.std.specs.Prelude.{};
+    ghost use Rattle.starlark_lists.specs.Entries.{IsSingle};
+    ghost use Rattle.starlark_lists.specs.Sorting.{Ascends};
+    ghost use Rattle.starlark_sorted.specs.Union.{SortedUnion as Both};
+
+    ghost Value = { Both T };
+
+    ghost view = { λ u. record { left = u.left; right = u.right; there = u.there.now.entries } };
+
+    ghost invariant = { λ u. Ascends T.cmp u.left × Ascends T.cmp u.right × IsSingle T.eq u.right };
+}
+
+impl<'a, T: Ord + Hash> SortedUnion<'a, T> {
+    pub(crate) fn new(
+        left: IterHashed<'a, T>,
+        right: IterHashed<'a, T>,
+        there: &'a OrderedSet<T>,
+    ) -> Self
+        requires left { Ascends T.cmp (elements_under left) }
+        requires right { Ascends T.cmp (elements_under right) }
+        requires single { IsSingle T.eq (elements_under right) }
+        requires fits { (length left < 2 ^ 64) × (length right < 2 ^ 64) }
+        ensures { result ≡ record { left = elements_under left.entry; right = elements_under right.entry; there = there.now.entries } }
+    {
+        SortedUnion {
+            left: Ahead::new(left),
+            right: Ahead::new(right),
+            there,
+        }
+    }
+}
+
+impl<'a, T: Ord + Hash> Iterator for SortedUnion<'a, T> {
+    type Item = &'a T;
+
+    ghost next_gives = { RiseSteps T.eq T.cmp };
+
+    ghost remaining = { λ u. at_most (length (rise_rest T.eq T.cmp u)) };
+
+    fn next(&mut self) -> Option<&'a T> {
+        if let Some(element) = next_before(&mut self.right, &self.left, self.there) {
+            return Some(element.into_key());
+        }
+        let element = self.left.take()?;
+        Some(element.into_key())
+    }
+
+    fn size_hint(&self) -> (usize, Option<usize>)
+        ensures lower { IsWithinCount result.0 (at_most (length (rise_rest T.eq T.cmp self.now))) }
+        ensures upper { IfSome result.1 (UpTo (at_most (length (rise_rest T.eq T.cmp self.now)))) }
+        ensures least { result.0 ≡ min (length self.now.left + (length self.now.right - length self.now.there)) (2 ^ 64 - 1) }
+        ensures most { result.1 ≡ fits_in (length self.now.left + length self.now.right) }
+    {
+        let left = self.left.len();
+        let right = self.right.len();
+        (
+            left.saturating_add(right.saturating_sub(self.there.len())),
+            left.checked_add(right),
+        )
+    }
+}
+
+// The next element, if it is the other set's: passes over those that this set has, as long as they come before all that
+// is left of this set.
+fn next_before<'a, T: Ord + Hash>(
+    right: &mut Ahead<'a, T>,
+    left: &Ahead<'a, T>,
+    there: &OrderedSet<T>,
+) -> Option<Hashed<&'a T>>
+    ensures steps { MatchOption result ((right.new ≡ behind (is_passed T.eq T.cmp left.now there.now.entries) right.old) × (is_others T.cmp left.now right.new ≡ false)) (λ f. (behind (is_passed T.eq T.cmp left.now there.now.entries) right.old ≡ shown f ∷ right.new) × (comes_first T.cmp left.now (shown f) ≡ true)) }
+{
+    while let Some(element) = right.first() {
+        if !stands_before(element, left) {
+            return None;
+        }
+        right.take();
+        if !there.contains_hashed(element) {
+            return Some(element);
+        }
+    }
+    None
+}
+
+// Whether an element comes before all that is left of a list that ascends.
+fn stands_before<T: Ord>(element: Hashed<&T>, left: &Ahead<'_, T>) -> bool
+    ensures { result ≡ comes_first T.cmp left.now (shown element.entry) }
+{
+    match left.first() {
+        None => true,
+        Some(first) => element.key().cmp(first.key()) == Ordering::Less,
+    }
+}
+
+// The elements that a walk has left. The first has been taken from it already.
+#[derive(Drop)]
+struct Ahead<'a, T> {
+    first: Option<Hashed<&'a T>>,
+    rest: IterHashed<'a, T>,
+}
+
+impl<'a, T> Model for Ahead<'a, T> {
+    ghost use Rattle.std.specs.Prelude.{◌<◌, ◌^◌, length};
+    ghost use Rattle.starlark_sets.specs.Set.{Elements};
+    ghost use Rattle.starlark_sorted.specs.Union.{ahead};
+
+    ghost Value = { Elements T };
+
+    ghost view = { λ a. ahead a.first a.rest };
+
+    ghost invariant = { λ a. length (ahead a.first a.rest) < 2 ^ 64 };
+}
+
+impl<'a, T> Ahead<'a, T> {
+    fn new(walk: IterHashed<'a, T>) -> Self
+        requires { length walk < 2 ^ 64 }
+        ensures { result ≡ elements_under walk.entry }
+    {
+        let mut rest = walk;
+        let first = rest.next();
+        Ahead { first, rest }
+    }
+
+    // The next element, which stays.
+    fn first(&self) -> Option<Hashed<&'a T>>
+        ensures { MatchOption result (self.now ≡ []) (λ h. self.now ≡ shown h ∷ drop 1 self.now) }
+    {
+        self.first
+    }
+
+    fn take(&mut self) -> Option<Hashed<&'a T>>
+        ensures { TakesFirst shown self.old result self.new }
+    {
+        let first = self.first?;
+        self.first = self.rest.next();
+        Some(first)
+    }
+
+    fn len(&self) -> usize
+        ensures { result ≡ length self.now }
+    {
+        match self.first {
+            None => 0,
+            Some(_) => self.rest.len() + 1,
+        }
+    }
+}
