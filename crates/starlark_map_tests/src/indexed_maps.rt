@@ -55,34 +55,34 @@ fn closes_the_places_behind_a_removal(rt: HostRuntime) -> Result<(), Fail> {
     Ok(())
 }
 
-// Drops the index of a map of at most 32 entries.
+// Drops the index of a map of at most 16 entries.
 fn without_index(map: &mut Numbers) {
     map.maybe_drop_index();
 }
 
-// Puts a key that is new to a list of 32. Where that is refused, the pair comes back and nothing has changed, and it is put again.
+// Puts a key that is new to a list of 16. Where that is refused, the pair comes back and nothing has changed, and it is put again.
 fn put_at_last(map: &mut Numbers, key: u32, value: u32) -> bool {
     match map.insert(key, value) {
         Ok(old) => old.is_none(),
         Err(NoRoom(refused)) => {
             refused == (key, value)
-                && size(map) == (32, false)
-                && at(map, 31) == Some(310)
+                && size(map) == (16, false)
+                && at(map, 15) == Some(150)
                 && put(map, key, value) == Some(None)
         }
     }
 }
 
-// Holds whichever request for memory is refused, but for those of the first 33 insertions.
+// Holds whichever request for memory is refused, but for those of the first 17 insertions.
 #[test]
 fn refused_index_leaves_the_list(rt: HostRuntime) -> Result<(), Fail> {
-    let mut map = tens(rt.alloc(), 33)?;
-    same(&rt, map.capacity(), 64);
-    same(&rt, popped(&mut map), Some((32, 320)));
+    let mut map = tens(rt.alloc(), 17)?;
+    same(&rt, map.capacity(), 32);
+    same(&rt, popped(&mut map), Some((16, 160)));
     without_index(&mut map);
-    same(&rt, (size(&map), map.room()), ((32, false), 0));
+    same(&rt, (size(&map), map.room()), ((16, false), 0));
     holds(&rt, put_at_last(&mut map, 100, 1));
-    same(&rt, size(&map), (33, true));
+    same(&rt, size(&map), (17, true));
     same(&rt, at(&map, 100), Some(1));
     Ok(())
 }
@@ -90,22 +90,22 @@ fn refused_index_leaves_the_list(rt: HostRuntime) -> Result<(), Fail> {
 // What follows the first line asks for no memory.
 #[test]
 fn keeps_the_room_of_what_was_taken_out(rt: HostRuntime) -> Result<(), Fail> {
-    let mut map = tens(rt.alloc(), 33)?;
-    same(&rt, popped(&mut map), Some((32, 320)));
+    let mut map = tens(rt.alloc(), 17)?;
+    same(&rt, popped(&mut map), Some((16, 160)));
     holds(&rt, 0 < map.room());
     same(&rt, put(&mut map, 100, 1), Some(None));
-    same(&rt, map.len(), 33);
+    same(&rt, map.len(), 17);
     Ok(())
 }
 
-// Puts the keys below 32, and says whether each had room.
-fn fills(map: &mut Numbers) -> bool {
-    for key in 0..32 {
+// Puts the keys below a number, and says whether each had room and the map has so many.
+fn fills(map: &mut Numbers, count: u32) -> bool {
+    for key in 0..count {
         if map.insert(key, key).is_err() {
             return false;
         }
     }
-    map.len() == 32
+    map.len() == count as usize
 }
 
 // Only the reservation asks for memory.
@@ -116,19 +116,30 @@ fn reserves_an_index_for_forty(rt: HostRuntime) -> Result<(), Fail> {
     holds(&rt, 40 <= map.room());
     without_index(&mut map);
     same(&rt, size(&map), (0, false));
-    holds(&rt, fills(&mut map));
+    holds(&rt, fills(&mut map, 16));
     Ok(())
 }
 
 // Only the reservation asks for memory.
 #[test]
-fn reserves_a_list_for_thirty_two(rt: HostRuntime) -> Result<(), Fail> {
-    let mut map: Numbers = SmallMap::with_capacity(rt.alloc(), 32)?;
+fn reserves_a_list_for_sixteen(rt: HostRuntime) -> Result<(), Fail> {
+    let mut map: Numbers = SmallMap::with_capacity(rt.alloc(), 16)?;
     same(&rt, size(&map), (0, false));
-    holds(&rt, fills(&mut map));
+    holds(&rt, fills(&mut map, 16));
     holds(&rt, map.reserve(8).is_ok());
-    same(&rt, size(&map), (32, true));
+    same(&rt, size(&map), (16, true));
     holds(&rt, 8 <= map.room());
+    Ok(())
+}
+
+// Only the reservation asks for memory: at 20 entries the index stays.
+#[test]
+fn keeps_the_index_of_twenty(rt: HostRuntime) -> Result<(), Fail> {
+    let mut map: Numbers = SmallMap::with_capacity(rt.alloc(), 40)?;
+    holds(&rt, fills(&mut map, 20));
+    without_index(&mut map);
+    same(&rt, size(&map), (20, true));
+    holds(&rt, fills(&mut map, 40));
     Ok(())
 }
 

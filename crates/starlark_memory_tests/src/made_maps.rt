@@ -71,7 +71,7 @@ fn copied(map: &Numbers) -> Result<Numbers, AllocError> {
 
 #[test]
 fn copies_a_map_and_its_index(rt: HostRuntime) -> Result<(), Fail> {
-    let map = tens(rt.alloc(), 33)?;
+    let map = tens(rt.alloc(), 17)?;
     let copy = copied(&map)?;
     holds(&rt, copy == map);
     holds(&rt, copy.index().is_some());

@@ -1,8 +1,8 @@
 //! Maps that grow and are sorted, and what stands where memory is refused.
 
-use crate::given::{Numbers, holds, is_tens, same, tens, under};
+use crate::given::{Numbers, handed_back, holds, is_tens, same, tens, under};
 use starlark_small::SmallMap;
-use std::alloc::Global;
+use std::alloc::{AllocError, Global};
 use std::test::Fail;
 
 // A refusal leaves the map, and the second attempt has the memory.
@@ -34,13 +34,13 @@ fn at(map: &Numbers, key: u32) -> Option<u32> {
 
 #[test]
 fn takes_items_up_to_the_one_that_is_refused(rt: HostRuntime) -> Result<(), Fail> {
-    let mut map = tens(rt.alloc(), 32)?;
+    let mut map = tens(rt.alloc(), 16)?;
     same(&rt, map.room(), 0);
     let done = extended(&mut map);
     same(&rt, at(&map, 5), Some(500));
     same(&rt, at(&map, 100), if done { Some(1) } else { None });
     same(&rt, at(&map, 6), Some(if done { 600 } else { 60 }));
-    same(&rt, map.len(), if done { 33 } else { 32 });
+    same(&rt, map.len(), if done { 17 } else { 16 });
     Ok(())
 }
 
@@ -148,5 +148,86 @@ fn takes_in_as_much_as_goes(rt: HostRuntime) -> Result<(), Fail> {
         holds(&rt, takes_in(&mut map, key));
     }
     same(&rt, map.len(), 40);
+    Ok(())
+}
+
+fn with_room(alloc: Global, capacity: usize) -> Result<Numbers, AllocError> {
+    match SmallMap::with_capacity(alloc, capacity) {
+        Ok(map) => Ok(map),
+        Err(_) => SmallMap::with_capacity(alloc, capacity),
+    }
+}
+
+// Puts the keys below a number, and says whether each had room and the map has so many.
+fn fills(map: &mut Numbers, count: u32) -> bool {
+    for key in 0..count {
+        if map.insert(key, key.wrapping_mul(10)).is_err() {
+            return false;
+        }
+    }
+    is_tens(map, count)
+}
+
+fn without_index(map: &mut Numbers) -> bool {
+    map.maybe_drop_index();
+    map.index().is_none()
+}
+
+// After the first line nothing asks for memory.
+#[test]
+fn takes_sixteen_that_were_reserved(rt: HostRuntime) -> Result<(), Fail> {
+    let mut map = with_room(rt.alloc(), 16)?;
+    holds(&rt, map.index().is_none());
+    holds(&rt, fills(&mut map, 16));
+    Ok(())
+}
+
+// After the first line nothing asks for memory.
+#[test]
+fn takes_sixteen_without_the_index(rt: HostRuntime) -> Result<(), Fail> {
+    let mut map = with_room(rt.alloc(), 40)?;
+    holds(&rt, without_index(&mut map));
+    holds(&rt, fills(&mut map, 16));
+    Ok(())
+}
+
+// After the first line nothing asks for memory: at 20 entries the index stays.
+#[test]
+fn keeps_the_index_of_twenty(rt: HostRuntime) -> Result<(), Fail> {
+    let mut map = with_room(rt.alloc(), 40)?;
+    holds(&rt, fills(&mut map, 20));
+    holds(&rt, !without_index(&mut map));
+    holds(&rt, fills(&mut map, 40));
+    Ok(())
+}
+
+// Sixteen entries whose list has room for more, and no index.
+fn sixteen(alloc: Global) -> Result<Numbers, Fail> {
+    let mut map = tens(alloc, 17)?;
+    if map.pop() != Some((16, 160)) || !without_index(&mut map) {
+        return Err("an index stays".into());
+    }
+    Ok(map)
+}
+
+// A new entry, for which the list has room, came back where there was no memory for the index, and all was as before.
+fn takes_or_hands_back(map: &mut Numbers) -> bool {
+    match handed_back(map.insert(100, 1)) {
+        None => true,
+        Some(pair) => {
+            pair == (100, 1)
+                && is_tens(map, 16)
+                && map.index().is_none()
+                && map.insert(100, 1).is_ok()
+        }
+    }
+}
+
+#[test]
+fn makes_the_index_of_seventeen_or_stays(rt: HostRuntime) -> Result<(), Fail> {
+    let mut map = sixteen(rt.alloc())?;
+    same(&rt, (map.capacity(), map.room()), (32, 0));
+    holds(&rt, takes_or_hands_back(&mut map));
+    same(&rt, (map.len(), map.index().is_some()), (17, true));
     Ok(())
 }

@@ -66,13 +66,13 @@ fn takes_what_is_reserved(rt: HostRuntime) -> Result<(), Fail> {
 }
 
 #[test]
-fn takes_thirty_two_without_an_index(rt: HostRuntime) -> Result<(), Fail> {
+fn takes_sixteen_without_an_index(rt: HostRuntime) -> Result<(), Fail> {
     let alloc = rt.alloc();
     let mut map: SmallMap<u32, u32> = SmallMap::new(alloc);
     let commands = forty(alloc, true)?;
     if let Ok(replies) = held_room_stays(alloc, &mut map, commands, value_of) {
         same(&rt, replies.len(), 42);
-        holds(&rt, 33 < replies.len() && inserted(&replies[2..34]) == 32);
+        holds(&rt, 17 < replies.len() && inserted(&replies[2..18]) == 16);
         same(&rt, inserted(&replies), map.len());
         holds(&rt, agrees(&map, &replies));
     } else {

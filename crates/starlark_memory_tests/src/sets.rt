@@ -6,11 +6,11 @@ use starlark_sets::{SmallSet, smallset};
 use std::alloc::{AllocError, Global};
 use std::test::Fail;
 
-// The numbers from 31 down to 0, with no room left.
+// The numbers from 15 down to 0, with no room left.
 fn full(alloc: Global) -> Result<SmallSet<u32>, Fail> {
     let mut set: SmallSet<u32> = SmallSet::new(alloc);
-    for element in 0..32u32 {
-        let element = 31u32.wrapping_sub(element);
+    for element in 0..16u32 {
+        let element = 15u32.wrapping_sub(element);
         if set.insert(element).is_err() {
             set.insert(element)?;
         }
@@ -20,8 +20,8 @@ fn full(alloc: Global) -> Result<SmallSet<u32>, Fail> {
 
 fn is_full(set: &SmallSet<u32>) -> bool {
     let mut walk = set.iter();
-    for element in 0..32u32 {
-        if walk.next() != Some(&31u32.wrapping_sub(element)) {
+    for element in 0..16u32 {
+        if walk.next() != Some(&15u32.wrapping_sub(element)) {
             return false;
         }
     }
@@ -31,8 +31,8 @@ fn is_full(set: &SmallSet<u32>) -> bool {
 // What came back is 100, and the set is as it was; or 100 is last.
 fn stands(set: &SmallSet<u32>, refused: Option<u32>) -> bool {
     match refused {
-        None => set.len() == 33 && set.last() == Some(&100),
-        Some(element) => element == 100 && is_full(set) && set.capacity() <= 66,
+        None => set.len() == 17 && set.last() == Some(&100),
+        Some(element) => element == 100 && is_full(set) && set.capacity() <= 34,
     }
 }
 
@@ -176,14 +176,14 @@ fn makes_a_new_text_or_stays(rt: HostRuntime) -> Result<(), Fail> {
 
 // A refusal leaves the set, and the second attempt has the memory.
 fn reserves(set: &mut SmallSet<u32>) -> bool {
-    set.reserve(40).is_ok() || is_full(set) && set.capacity() <= 144 && set.reserve(40).is_ok()
+    set.reserve(40).is_ok() || is_full(set) && set.capacity() <= 112 && set.reserve(40).is_ok()
 }
 
 #[test]
 fn makes_room_or_stays(rt: HostRuntime) -> Result<(), Fail> {
     let mut set = full(rt.alloc())?;
     holds(&rt, reserves(&mut set));
-    holds(&rt, 72 <= set.capacity());
+    holds(&rt, 56 <= set.capacity());
     Ok(())
 }
 

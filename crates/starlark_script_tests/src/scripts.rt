@@ -140,7 +140,7 @@ fn check_after_puts(
     check(rt, script.as_str(), replies.as_str(), Ok(()))
 }
 
-// At 33 entries the map has an index, which a line drops at 32.
+// At 17 entries the map has an index, which a line drops at 16.
 #[test]
 fn many_entries(rt: HostRuntime) -> Result<(), Fail> {
     check_after_puts(
@@ -151,10 +151,25 @@ fn many_entries(rt: HostRuntime) -> Result<(), Fail> {
     )?;
     check_after_puts(
         &rt,
-        33,
-        "del 3 k\nslim\nget 32 k\nget 3 k\nput 33 k 33\nget 33 k\nreserve 1000\nget 0 k\nlen\n",
-        "some 3\nok\nsome 32\nnone\nnone\nsome 33\nok\nsome 0\n33\n",
+        17,
+        "del 3 k\nslim\nget 16 k\nget 3 k\nput 17 k 17\nget 17 k\nreserve 1000\nget 0 k\nlen\n",
+        "some 3\nok\nsome 16\nnone\nnone\nsome 17\nok\nsome 0\n17\n",
     )
+}
+
+// One key under seventeen hashes: the index is dropped at sixteen entries, and made again.
+#[test]
+fn seventeen_hashes(rt: HostRuntime) -> Result<(), Fail> {
+    let mut script = String::new(rt.alloc());
+    let mut replies = String::new(rt.alloc());
+    for i in 1..18 {
+        let line = format!(in rt.alloc(); "put {i} a {i}\n")?;
+        script.push_str(line.as_str())?;
+        replies.push_str("none\n")?;
+    }
+    script.push_str("del 3 a\nslim\nget 17 a\nget 3 a\nput 18 a 18\nlen\n")?;
+    replies.push_str("some 3\nok\nsome 17\nnone\nnone\n17\n")?;
+    check(&rt, script.as_str(), replies.as_str(), Ok(()))
 }
 
 #[test]

@@ -9,7 +9,7 @@ use Rattle.starlark_vecmap.specs.EntryList.{EntryList}
 
 -- the greatest length that a list may have without an index
 abbrev pub unindexed : ℕ
-unindexed = 32
+unindexed = 16
 
 -- the place one down, if it is above the last one that stays
 abbrev pub lowered : ℕ → ℕ → ℕ

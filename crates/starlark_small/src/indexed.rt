@@ -9,4 +9,4 @@ pub(crate) use places::{index_all, unindex, unindex_all};
 pub(crate) use search::{find_indexed, position_indexed};
 
 // The greatest length that a list may have without an index.
-pub(crate) const UNINDEXED: usize = 32;
+pub(crate) const UNINDEXED: usize = 16;
