@@ -140,7 +140,7 @@ module _ {K V : Type 0} (eq : K → K → Bool) (laws : IsEquivalence eq) (key :
       swapped : (a b c : ℕ) → eqb c b ≡ true → eqb a b ≡ eqb a c
       swapped a b c h = grind (arith, nat_tests)
 
-  gone : (es : List (Entry K V)) (i : ℕ) → IsSingle eq es → position (λ e. alike eq key e.0) es ≡ Some i → position (λ e. alike eq key e.0) (remove es i) ≡ None
+  pub gone : (es : List (Entry K V)) (i : ℕ) → IsSingle eq es → position (λ e. alike eq key e.0) es ≡ Some i → position (λ e. alike eq key e.0) (remove es i) ≡ None
   gone [] i single at = absurd (none-some i at)
   gone (e ∷ es) zero single at = none_after e es single (here (alike eq key e.0) (position (λ e. alike eq key e.0) es) (sym (position-cons (λ e. alike eq key e.0) e es) ∙ at))
   gone (e ∷ es) (suc i) single at =

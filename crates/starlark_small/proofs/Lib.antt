@@ -17,4 +17,6 @@ pub mod EntryWritten
 pub mod CallerPositions
 pub mod CallerKeys
 pub mod CallerEntries
+pub mod CallerUpdates
+pub mod CallerOrder
 pub mod CallerLemmas

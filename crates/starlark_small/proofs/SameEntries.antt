@@ -24,7 +24,7 @@ module _ {K V : Type 0} (eq : K → K → Bool) where
   none_alike q [] none = tt
   none_alike q (e ∷ es) none = (none 0 e (omega arith), none_alike q es (λ k x below. none (suc k) x (omega arith)))
 
-  distinct : (es : List (Entry K V)) → IsSingle eq es → IsDistinct (alike eq) (keys_of es)
+  pub distinct : (es : List (Entry K V)) → IsSingle eq es → IsDistinct (alike eq) (keys_of es)
   unfolding IsDistinct
   distinct [] single = tt
   distinct (e ∷ es) single = (

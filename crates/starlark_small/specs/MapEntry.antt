@@ -1,7 +1,7 @@
 -- What the contracts of a map's `Entry` cite.
 pub use Rattle.starlark_small.specs.declared.entry.Entry.TheVariants.{Occupied, Vacant}
 use Rattle.std.proofs.Common.{subst, sym}
-use Rattle.std.specs.Prelude.{◌≡◌, ℕ, ◌<◌, Bool, Option, Some, None, Result, MatchResult, OnOk, OnErr, [], length, slice_get, ⊤}
+use Rattle.std.specs.Prelude.{◌≡◌, ℕ, ◌<◌, Bool, Option, Some, None, Result, MatchResult, IsOk, OnOk, OnErr, [], length, slice_get, ⊤}
 use Rattle.std.specs.Borrow.{Fml, RattleType, MutBor, follows, follows_so, name_if_ok}
 use Rattle.std.specs.Fn.{Once, FnOnceTakesAtMut, FnOnceReturnsAtMut}
 use Rattle.std.specs.Option.{option_map}
@@ -48,6 +48,11 @@ module _ {K V : Type 0} {g : eq.Ghosts K} where
   abbrev pub stored : OccupiedEntry K V g → Option (Hashed K × V)
   stored o = slice_get (occupied_map o).now.entries (occupied_place o)
 
+  -- the value that is there, if any
+  abbrev pub entry_value_of : Entry K V g → Option V
+  entry_value_of (Occupied o) = option_map entry_value (stored o)
+  entry_value_of (Vacant v) = None
+
   -- the key that is there, or the one that is lacking
   abbrev pub IsKeyOf : Entry K V g → K → Type 0
   IsKeyOf (Occupied o) key = option_map entry_key (stored o) ≡ Some key
@@ -61,6 +66,10 @@ module _ {K V : Type 0} {g : eq.Ghosts K} where
   abbrev pub IsPut : Entry K V g → V → Map K V → Type 0
   IsPut (Occupied o) value m = m ≡ written o value
   IsPut (Vacant v) value m = IsInserted (vacant_map v).now (lacking_key v) value m
+
+  -- the same as one word, which callers' proofs leave closed
+  unfoldable pub Puts : Entry K V g → V → Map K V → Type 0
+  Puts e value m = IsPut e value m
 
   abbrev pub IsVacant : Entry K V g → Type 0
   IsVacant (Occupied o) = ⊥
@@ -81,8 +90,7 @@ module _ {K V : Type 0} {g : eq.Ghosts K} where
 module _ {F K V : Type 0} {eqs : eq.Ghosts K} (g : Once F (MutBor V × Unit {0}) (⊤ × (MutBor V × Unit {0}))) (f : F) where
   -- f may be called at a `&mut` to the value that is there
   abbrev pub TakesItsValue : Entry K V eqs → Type 0
-  TakesItsValue (Occupied o) = (value : V) → option_map entry_value (stored o) ≡ Some value → FnOnceTakesAtMut g f value
-  TakesItsValue (Vacant v) = ⊤
+  TakesItsValue e = (value : V) → entry_value_of e ≡ Some value → FnOnceTakesAtMut g f value
 
   -- a call of f at the value that is there left another one, and e is the entry with that
   pub record ChangesItsValue (o : OccupiedEntry K V eqs) (e : Entry K V eqs) : Type 0 where
@@ -108,8 +116,8 @@ module _ (K V : RattleType) {g : eq.Ghosts K.Denot} where
 
   -- the map has the new entry with the value that is left behind the reference; refused, it has the entries that it had
   abbrev pub vacant_lends : {E : Type 0} → VacantEntry K.Denot V.Denot g → Result (MutBor V.Denot) E → Fml
-  vacant_lends v r = follows_so (the_row K V g) V (vacant_map v).ghost_name (name_if_ok (λ p. p.ghost_name) r) (λ w n. OnOk r (IsInserted (vacant_map v).now (lacking_key v) w n)) (λ n. OnErr r (IsRefused (vacant_map v).now n))
+  vacant_lends v r = follows_so (the_row K V g) V (vacant_map v).ghost_name (name_if_ok (λ p. p.ghost_name) r) (λ w n. OnOk r (IsInserted (vacant_map v).now (lacking_key v) w n) × (IsOk r → Puts (Vacant v) w n)) (λ n. OnErr r (IsRefused (vacant_map v).now n))
 
   -- either of these
   abbrev pub entry_lends : {E : Type 0} → Entry K.Denot V.Denot g → Result (MutBor V.Denot) E → Fml
-  entry_lends e r = follows_so (the_row K V g) V (map_of_entry e).ghost_name (name_if_ok (λ p. p.ghost_name) r) (λ w n. OnOk r (IsPut e w n)) (λ n. OnErr r (IsRefused (map_of_entry e).now n))
+  entry_lends e r = follows_so (the_row K V g) V (map_of_entry e).ghost_name (name_if_ok (λ p. p.ghost_name) r) (λ w n. OnOk r (IsPut e w n) × (IsOk r → Puts e w n)) (λ n. OnErr r (IsRefused (map_of_entry e).now n))

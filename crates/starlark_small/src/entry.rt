@@ -60,8 +60,12 @@ impl<K: Eq + Drop, V> Drop for VacantEntry<'_, K, V> {
 }
 
 impl<K: Eq, V> SmallMap<K, V> {
-    ghost use Rattle.starlark_small.specs.Map.{own_hashed};
-    ghost use Rattle.starlark_small.specs.MapEntry.{map_of_entry, IsEntryOf};
+    ghost use Rattle.std.specs.Prelude.{◌++◌, ◌∷◌, [], is_some, if◌then◌else◌};
+    ghost use Rattle.std.specs.Hash.{HashWrites};
+    ghost use Rattle.starlark_hash.specs.HashValue.{key_of};
+    ghost use Rattle.starlark_small.specs.Calling.{get, keys, Updates};
+    ghost use Rattle.starlark_small.specs.Map.{Map, own_hashed};
+    ghost use Rattle.starlark_small.specs.MapEntry.{map_of_entry, entry_value_of, IsEntryOf, Puts};
 
     /// The entry of a key under its own hash. Where there is one, it keeps its key, and this one is dropped.
     pub fn entry(&mut self, key: K) -> Entry<'_, K, V>
@@ -69,6 +73,9 @@ impl<K: Eq, V> SmallMap<K, V> {
         K: Hash + Drop,
         ensures same_map { (map_of_entry result).ghost_name ≡ self.entry.ghost_name }
         ensures entry { IsEntryOf K.eq self.old (own_hashed K.hash_input key) result }
+        ensures value { entry_value_of result ≡ get K.eq K.hash_input self.old key }
+        ensures updates { (value : V) (new : Map K V) → Puts result value new → Updates K.eq K.hash_input self.old new key (Some value) }
+        ensures keys { (value : V) (new : Map K V) → Puts result value new → keys new ≡ (if is_some (get K.eq K.hash_input self.old key) then keys self.old else keys self.old ++ key ∷ []) }
     {
         self.entry_hashed(Hashed::new(key))
     }
@@ -79,6 +86,9 @@ impl<K: Eq, V> SmallMap<K, V> {
         K: Drop,
         ensures same_map { (map_of_entry result).ghost_name ≡ self.entry.ghost_name }
         ensures entry { IsEntryOf K.eq self.old key result }
+        ensures value { (feeds : K → HashWrites) → key ≡ own_hashed feeds (key_of key) → entry_value_of result ≡ get K.eq feeds self.old (key_of key) }
+        ensures updates { (feeds : K → HashWrites) → key ≡ own_hashed feeds (key_of key) → (value : V) (new : Map K V) → Puts result value new → Updates K.eq feeds self.old new (key_of key) (Some value) }
+        ensures keys { (feeds : K → HashWrites) → key ≡ own_hashed feeds (key_of key) → (value : V) (new : Map K V) → Puts result value new → keys new ≡ (if is_some (get K.eq feeds self.old (key_of key)) then keys self.old else keys self.old ++ key_of key ∷ []) }
     {
         if let Some(index) = self.get_index_of_hashed(key.as_ref()) {
             return Entry::Occupied(OccupiedEntry { map: self, index });
@@ -106,7 +116,7 @@ impl<K: Eq, V> SmallMap<K, V> {
 }
 
 impl<'a, K: Eq, V> OccupiedEntry<'a, K, V> {
-    ghost use Rattle.starlark_small.specs.MapEntry.{occupied_keeps, occupied_lends, stored};
+    ghost use Rattle.starlark_small.specs.MapEntry.{occupied_keeps, occupied_lends, stored, written, Occupied, Puts};
 
     /// The stored key.
     #[inline]
@@ -142,6 +152,7 @@ impl<'a, K: Eq, V> OccupiedEntry<'a, K, V> {
     pub fn into_mut(self) -> &'a mut V
         ensures* writes_back { sem 𝓛 (occupied_lends K.row V.row self.entry result) }
         ensures value { option_map entry_value (stored self.entry) ≡ Some result.now }
+        ensures puts { (value : V) → Puts (Occupied self.entry) value (written self.entry value) }
     {
         let OccupiedEntry { map, index } = self;
         map.value_at_mut(index)
@@ -185,7 +196,10 @@ impl<'a, K: Eq, V> VacantEntry<'a, K, V> {
 }
 
 impl<'a, K: Eq, V> Entry<'a, K, V> {
-    ghost use Rattle.starlark_small.specs.MapEntry.{entry_lends, map_of_entry, IsKeyOf, IsModified, IsVacant, ShowsOrGives, TakesItsValue};
+    ghost use Rattle.std.specs.Map.Calls.{ModifiesValue};
+    ghost use Rattle.std.specs.Option.{unwrap_or, UnwrapsOrElse};
+    ghost use Rattle.starlark_small.specs.Map.{Map};
+    ghost use Rattle.starlark_small.specs.MapEntry.{entry_lends, entry_value_of, map_of_entry, Puts, IsKeyOf, IsModified, IsVacant, ShowsOrGives, TakesItsValue};
 
     /// The stored key, or the one that the map lacks.
     #[inline]
@@ -205,6 +219,7 @@ impl<'a, K: Eq, V> Entry<'a, K, V> {
         V: Drop,
         ensures* writes_back { sem 𝓛 (entry_lends K.row V.row self.entry result) }
         ensures value { ShowsOrGives (λ value. value ≡ default) self.entry result }
+        ensures shown { IfOk result (λ p. p.now ≡ unwrap_or (entry_value_of self.entry) default) }
         ensures full { OnErr result ((map_of_entry self.entry).now.room ≡ 0) }
     {
         self.or_insert_with(|| default)
@@ -220,6 +235,7 @@ impl<'a, K: Eq, V> Entry<'a, K, V> {
         requires { IsVacant self → F.pre default }
         ensures* writes_back { sem 𝓛 (entry_lends K.row V.row self.entry result) }
         ensures value { ShowsOrGives (F.post default) self.entry result }
+        ensures shown { IfOk result (λ p. UnwrapsOrElse (entry_value_of self.entry) (F.post default) p.now) }
         ensures full { OnErr result ((map_of_entry self.entry).now.room ≡ 0) }
     {
         match self {
@@ -235,6 +251,7 @@ impl<'a, K: Eq, V> Entry<'a, K, V> {
         V: Default,
         ensures* writes_back { sem 𝓛 (entry_lends K.row V.row self.entry result) }
         ensures value { ShowsOrGives V.is_default self.entry result }
+        ensures shown { IfOk result (λ p. UnwrapsOrElse (entry_value_of self.entry) V.is_default p.now) }
         ensures full { OnErr result ((map_of_entry self.entry).now.room ≡ 0) }
     {
         match self {
@@ -248,6 +265,8 @@ impl<'a, K: Eq, V> Entry<'a, K, V> {
         requires { TakesItsValue F.FnOnce f self }
         ensures same_map { (map_of_entry result).ghost_name ≡ (map_of_entry self.entry).ghost_name }
         ensures modified { IsModified F.FnOnce f self.entry result }
+        ensures changed { ModifiesValue F.FnOnce f (entry_value_of self.entry) (entry_value_of result) }
+        ensures puts { (value : V) (new : Map K V) → Puts result value new → Puts self.entry value new }
     {
         match self {
             Entry::Occupied(mut entry) => {

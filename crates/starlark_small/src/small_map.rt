@@ -1,5 +1,7 @@
 //! The map. It alone sees its list of entries and their index.
-ghost use Rattle.std.specs.Prelude.{◌≡◌, ◌≤◌, [], false, nat_lt, IfOk, IsOk};
+ghost use Rattle.std.specs.Prelude.{◌≡◌, ◌≤◌, [], false, nat_lt, None, IfOk, IsOk};
+ghost use Rattle.std.specs.Hash.{HashWrites};
+ghost use Rattle.starlark_small.specs.Calling.{get};
 ghost use Rattle.starlark_small.specs.Index.{unindexed};
 
 mod collect;
@@ -46,7 +48,8 @@ impl<K: Eq, V> SmallMap<K, V> {
     /// An empty map, which asks for no memory until the first insertion.
     #[inline]
     pub fn new(alloc: Global) -> Self
-        ensures { result ≡ record { entries = []; room = 0; capacity = 0; indexed = false } }
+        ensures empty { result ≡ record { entries = []; room = 0; capacity = 0; indexed = false } }
+        ensures lacks { (f : K → HashWrites) (key : K) → get K.eq f result key ≡ None }
     {
         SmallMap {
             entries: VecMap::new(alloc),
@@ -59,6 +62,7 @@ impl<K: Eq, V> SmallMap<K, V> {
     /// nothing is made; capacity 0 asks for none.
     pub fn with_capacity(alloc: Global, capacity: usize) -> Result<Self, AllocError>
         ensures entries { IfOk result (λ map. map.entries ≡ []) }
+        ensures lacks { IfOk result (λ map. (f : K → HashWrites) (key : K) → get K.eq f map key ≡ None) }
         ensures capacity { IfOk result (λ map. map.capacity ≡ capacity) }
         ensures room { IfOk result (λ map. capacity ≤ map.room) }
         ensures indexed { IfOk result (λ map. map.indexed ≡ nat_lt unindexed capacity) }

@@ -3,5 +3,4 @@ pub mod FirstValues
 pub mod Bound
 pub mod CacheLemmas
 pub mod Interning
-pub mod Depending
 pub mod Ordered

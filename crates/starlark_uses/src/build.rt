@@ -1,5 +1,5 @@
 //! A build graph: targets in the order of their first declarations, each with what it is built from.
-#![tactic(auto, using(starlark_small::proofs::CallerLemmas::callers))]
+#![tactic(auto)]
 
 ghost use Rattle.std.specs.Hash as fed;
 ghost use Rattle.std.specs.List.{enumerate_from, list_all};

@@ -1,5 +1,5 @@
-//! Visits of pages, in the order of their first ones. Each proof but one closes by the one name `callers`, with no proof file.
-#![tactic(auto, using(starlark_small::proofs::CallerLemmas::callers))]
+//! Visits of pages, in the order of their first ones. Each proof closes by the contracts of the map alone.
+#![tactic(auto)]
 
 ghost use Rattle.std.specs.Hash as fed;
 ghost use Rattle.std.specs.Option.{is_some};
@@ -61,8 +61,6 @@ pub fn forget(visits: &mut Visits, page: u32) -> Option<u32>
     ensures last { result ≡ get nat_eq fed.u32 visits.old page }
     ensures updates { Updates nat_eq fed.u32 visits.old visits.new page None }
 {
-    // The walk says that no two pages are alike, so that what is forgotten is gone.
-    let _walk = visits.iter_hashed();
     visits.shift_remove(&page)
 }
 

@@ -1,6 +1,7 @@
 //! The order of a `SmallMap`'s entries.
-ghost use Rattle.std.specs.Prelude.{◌≡◌, reverse, OnErr, OnOk};
+ghost use Rattle.std.specs.Prelude.{◌≡◌, reverse, IsSorted, OnErr, OnOk};
 ghost use Rattle.starlark_lists.specs.Sorting.{Ascends, sorted_by_key};
+ghost use Rattle.starlark_small.specs.Calling.{keys, IsSameAt};
 ghost use Rattle.starlark_small.specs.Map.{KeepsMemory};
 
 use super::SmallMap;
@@ -15,6 +16,8 @@ impl<K: Eq, V> SmallMap<K, V> {
         K: Ord,
         ensures entries { OnOk result (self.new.entries ≡ sorted_by_key K.cmp self.old.entries) }
         ensures unchanged { OnErr result (self.new.entries ≡ self.old.entries) }
+        ensures sorted { OnOk result (IsSorted K.cmp (keys self.new)) }
+        ensures same { IsSameAt K.eq self.old self.new }
         ensures needed { OnErr result (Ascends K.cmp self.old.entries → ⊥) }
         ensures kept { KeepsMemory self.old self.new }
     {
@@ -29,6 +32,7 @@ impl<K: Eq, V> SmallMap<K, V> {
     #[tactic(auto, using(crate::proofs::Emptying::in_its_order))]
     pub fn reverse(&mut self)
         ensures entries { self.new.entries ≡ reverse self.old.entries }
+        ensures same { IsSameAt K.eq self.old self.new }
         ensures kept { KeepsMemory self.old self.new }
     {
         unindex_all(&mut self.index, &self.entries);

@@ -4,8 +4,9 @@ ghost use Rattle.std.specs.Borrow.{sem};
 ghost use Rattle.std.specs.Map.{values_of};
 ghost use Rattle.std.specs.Option.{option_copied_mut, IfNone};
 ghost use Rattle.starlark_lists.specs.Entries.{entry_value, pair_of, value_at};
+ghost use Rattle.starlark_small.specs.Calling.{get};
 ghost use Rattle.starlark_small.specs.Map.{query_match, own_match};
-ghost use Rattle.starlark_small.specs.Lending.{lends_value, lends_found, values_follow};
+ghost use Rattle.starlark_small.specs.Lending.{lends_value, lends_found, lends_get, values_follow};
 
 use super::SmallMap;
 use crate::iter::{IterMut, ValuesMut};
@@ -32,8 +33,9 @@ impl<K: Eq, V> SmallMap<K, V> {
     /// is left in it, and all else stays.
     #[inline]
     pub fn get_mut<Q: Equivalent<K> + Hash>(&mut self, key: &Q) -> Option<&mut V>
-        ensures* writes_back { sem 𝓛 (lends_found K.row V.row K.PartialEq self.entry (own_match Q.equivalent Q.hash_input self.old.entries key.now) result) }
+        ensures* writes_back { sem 𝓛 (lends_get K.row V.row K.PartialEq self.entry Q.equivalent Q.hash_input key.now result) }
         ensures value { option_copied_mut result ≡ value_at self.old.entries (own_match Q.equivalent Q.hash_input self.old.entries key.now) }
+        ensures found { option_copied_mut result ≡ get Q.equivalent Q.hash_input self.old key.now }
         ensures absent { IfNone result (own_match Q.equivalent Q.hash_input self.old.entries key.now ≡ None) }
     {
         self.get_mut_hashed(under_own_hash(key))

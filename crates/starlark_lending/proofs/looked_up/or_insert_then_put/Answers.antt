@@ -10,7 +10,7 @@ returns-in-Ok-clause-written g c =
     let entry = c.entry_hashed.result in
     let next = c.args.next in
     put_there g.K.PartialEq.eq c.args.map.now _ c.args.key next entry c.entry_hashed.ensures.entry
-    (subst (IsPut entry next) {x = made.follows.lender next} (search rules) (subst (λ r. OnOk r (IsPut entry next (made.follows.lender next))) c.in-Ok.is (made.follows.holds next)))
+    (subst (IsPut entry next) {x = made.follows.lender next} (search rules) (subst (λ r. OnOk r (IsPut entry next (made.follows.lender next))) c.in-Ok.is (made.follows.holds next).0))
 
 pub returns-in-Ok-clause-inserted : goal.returns-in-Ok-clause-inserted
 returns-in-Ok-clause-inserted g c =
@@ -18,4 +18,4 @@ returns-in-Ok-clause-inserted g c =
     let entry = c.entry_hashed.result in
     let next = c.args.next in
     put_new g.K.PartialEq.eq c.args.map.now _ c.args.key next entry c.entry_hashed.ensures.entry
-    (subst (IsPut entry next) {x = made.follows.lender next} (search rules) (subst (λ r. OnOk r (IsPut entry next (made.follows.lender next))) c.in-Ok.is (made.follows.holds next)))
+    (subst (IsPut entry next) {x = made.follows.lender next} (search rules) (subst (λ r. OnOk r (IsPut entry next (made.follows.lender next))) c.in-Ok.is (made.follows.holds next).0))

@@ -6,7 +6,7 @@ use Rattle.starlark_play.proofs.Results.{IfOk-weaker}
 use Rattle.starlark_play.proofs.play.play.Goals as goal
 
 pub loop-i-init : goal.loop-i-init
-loop-i-init g c = rw (c.new-window.ensures, c.new-map.ensures) (going-start (g.R.Read.remaining c.args.reader.now) (g.W.Write.contents c.args.writer.now))
+loop-i-init g c = rw (c.new-window.ensures, c.new-map.ensures.empty) (going-start (g.R.Read.remaining c.args.reader.now) (g.W.Write.contents c.args.writer.now))
 
 pub returns-in-End-clause-ok : goal.returns-in-End-clause-ok
 returns-in-End-clause-ok g c =

@@ -11,7 +11,7 @@ returns-in-Some g c =
     let scope = c.index-scopes-i.result in
     let within : i < length scopes = omega (arith, c.loop-i.auto.i, c.loop-i-test.true) in
     let next : suc i ≡ c.loop-i.i = omega (arith, c.loop-i-test.true) in
-    sym (found_here scopes i scope name c.in-Some.value.now within (ap (λ s. bound s name) (sym c.index-scopes-i.is) ∙ sym c.in-Some.ensures))
+    sym (found_here scopes i scope name c.in-Some.value.now within (ap (λ s. bound s name) (sym c.index-scopes-i.is) ∙ sym c.in-Some.ensures.value))
     ∙ ap (λ n. found (take n scopes) name) next ∙ c.loop-i.invariant
 
 pub loop-i-preserved : goal.loop-i-preserved
@@ -22,5 +22,5 @@ loop-i-preserved g c =
     let scope = c.index-scopes-i.result in
     let within : i < length scopes = omega (arith, c.loop-i.auto.i, c.loop-i-test.true) in
     let next : suc i ≡ c.loop-i.i = omega (arith, c.loop-i-test.true) in
-    sym (found_outer scopes i scope name within (ap (λ s. bound s name) (sym c.index-scopes-i.is) ∙ sym c.in_default.ensures))
+    sym (found_outer scopes i scope name within (ap (λ s. bound s name) (sym c.index-scopes-i.is) ∙ sym c.in_default.ensures.value))
     ∙ ap (λ n. found (take n scopes) name) next ∙ c.loop-i.invariant

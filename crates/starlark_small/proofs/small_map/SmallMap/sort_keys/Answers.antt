@@ -2,11 +2,15 @@ use Rattle.std.proofs.Common.{ap, subst, sym, ◌∙◌, length, ◌+◌, ◌≤
 use Rattle.std.proofs.lemmas.Bool.{false≢true}
 use Rattle.std.proofs.lemmas.Result.{err_from_is_err_and}
 use Rattle.std.proofs.lemmas.List.Sorted.{length_permutation}
-use Rattle.starlark_lists.specs.Entries.{IsSingle}
+use Rattle.std.proofs.Common.{map, rules}
+use Rattle.std.specs.List.Sorted.{IsSorted}
+use Rattle.starlark_lists.specs.Entries.{IsSingle, entry_key}
 use Rattle.starlark_lists.specs.Sorting.{key_lt, sorted_by_key}
 use Rattle.starlark_lists.proofs.EntryLemmas.{IsSingle-permutation}
 use Rattle.starlark_lists.proofs.SortingLemmas.{IsPermutation-sorted_by}
 use Rattle.starlark_small.specs.Index.{index_room}
+use Rattle.starlark_small.proofs.CallerOrder.{keys-sorted, same-permuted}
+use Rattle.starlark_small.proofs.CallerUpdates.{get_same}
 use Rattle.starlark_small.proofs.Rooms.{KeepsMemory-turned}
 use Rattle.starlark_small.proofs.small_map.SmallMap.sort_keys.Goals as goal
 
@@ -41,3 +45,18 @@ returns-clause-kept g c =
     rw (← c.self.view_is)
     (KeepsMemory-turned c.self.inside.entries new c.self.inside.index c.index_all.new.index size (ap (λ l. l.capacity) sorted)
     (subst (λ n. n + index_room n c.self.inside.index ≤ length new.entries + index_room (length new.entries) c.index_all.new.index) size (omega (arith, c.unindex_all.ensures.room, c.index_all.ensures.room))) (c.index_all.ensures.kept ∙ c.unindex_all.ensures.kept))
+
+pub returns-in_err-sort_keys-clause-same : goal.returns-in_err-sort_keys-clause-same
+returns-in_err-sort_keys-clause-same g c f key = get_same g.K.PartialEq.eq f c.args.self.now _ key (search rules)
+
+pub returns-clause-sorted : goal.returns-clause-sorted
+returns-clause-sorted g c =
+    let cmp = g.K.Ord.cmp in
+    subst (λ l. IsSorted cmp (map (entry_key {V = g.row.V.Denot}) l.entries)) (sym c.in_ok-sort_keys.ensures.sorted) (keys-sorted g.met.K.Ord.total c.self.inside.entries.entries)
+
+pub returns-clause-same : goal.returns-clause-same
+returns-clause-same g c =
+    let es = c.self.inside.entries.entries in
+    rw (← c.self.view_is)
+    (same-permuted g.K.PartialEq.eq g.met.K.Eq.laws _ _ c.self.invariant.single
+    (subst (λ l. IsPermutation es l.entries) (sym c.in_ok-sort_keys.ensures.sorted) (IsPermutation-sorted_by (key_lt g.K.Ord.cmp) es)))

@@ -16,7 +16,7 @@ returns-then-not-eq g c =
     let within : c.loop-i.i < length ds = omega (arith, ap (λ m. length m.entries) c.self.view_is) in
     unequal_at g.K.PartialEq.eq g.V.PartialEq.eq g.met.K.Eq.laws ds c.args.other.now.entries e.0
     (agree-found g.K.PartialEq.eq g.V.PartialEq.eq g.met.K.Eq.laws ds c.args.other.now.entries c.loop-i.i e at (subst (λ m. IsSingle g.K.PartialEq.eq m.entries) c.self.view_is c.self.invariant.single) within
-    (Some c.in-Some.found.now) c.eq.result false c.in-Some.ensures c.eq.ensures c.if-not-eq.true)
+    (Some c.in-Some.found.now) c.eq.result false c.in-Some.ensures.value c.eq.ensures c.if-not-eq.true)
 
 pub returns-in-None : goal.returns-in-None
 returns-in-None g c =
@@ -26,7 +26,7 @@ returns-in-None g c =
     let within : c.loop-i.i < length ds = omega (arith, ap (λ m. length m.entries) c.self.view_is) in
     unequal_at g.K.PartialEq.eq g.V.PartialEq.eq g.met.K.Eq.laws ds c.args.other.now.entries e.0
     (agree-found g.K.PartialEq.eq g.V.PartialEq.eq g.met.K.Eq.laws ds c.args.other.now.entries c.loop-i.i e at (subst (λ m. IsSingle g.K.PartialEq.eq m.entries) c.self.view_is c.self.invariant.single) within
-    None false false c.in-None.ensures (refl {a = false}) (refl {a = false}))
+    None false false c.in-None.ensures.value (refl {a = false}) (refl {a = false}))
 
 pub loop-i-preserved : goal.loop-i-preserved
 loop-i-preserved g c =
@@ -37,7 +37,7 @@ loop-i-preserved g c =
     let within : c.loop-i.i < length ds = omega (arith, ap (λ m. length m.entries) c.self.view_is) in
     let agree = λ (q : Hashed g.row.K.Denot). agree_at g.K.PartialEq.eq g.V.PartialEq.eq ds es q ≡ true in
     let here : agree e.0 = agree-found g.K.PartialEq.eq g.V.PartialEq.eq g.met.K.Eq.laws ds es c.loop-i.i e at (subst (λ m. IsSingle g.K.PartialEq.eq m.entries) c.self.view_is c.self.invariant.single) within
-    (Some c.in-Some.found.now) c.eq.result true c.in-Some.ensures c.eq.ensures c.if-not-eq.false in
+    (Some c.in-Some.found.now) c.eq.result true c.in-Some.ensures.value c.eq.ensures c.if-not-eq.false in
     below_more (λ n. (d : Hashed g.row.K.Denot) → agree (get_or (keys_of ds) n d)) c.loop-i.i c.loop-i.invariant
     (λ d. subst agree (sym (own_key g.K.PartialEq.eq g.met.K.Eq.laws ds c.loop-i.i e at d)) here)
 
