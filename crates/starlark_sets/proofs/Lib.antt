@@ -5,3 +5,4 @@ pub mod Differences
 pub mod Unions
 pub mod Collecting
 pub mod Retained
+pub mod Callers

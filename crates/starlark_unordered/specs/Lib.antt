@@ -14,3 +14,4 @@ pub mod Set
 pub mod Unit
 pub mod RawSet
 pub mod SetLending
+pub mod Calling

@@ -1,9 +1,10 @@
 //! What puts elements into a `SmallSet`, and what may ask for memory.
-ghost use Rattle.std.specs.Prelude.{◌≡◌, ◌<◌, ◌≤◌, not, is_ok, is_some, IfOk, IfErr, IsOk, OnOk, OnErr};
+ghost use Rattle.std.specs.Prelude.{◌≡◌, ◌<◌, ◌≤◌, false, not, is_ok, is_some, Some, IfOk, IfErr, IsOk, OnOk, OnErr};
 ghost use Rattle.starlark_lists.specs.Entries.{match_of};
 ghost use Rattle.starlark_lists.specs.Sorting.{Ascends, sorted_by_key};
 ghost use Rattle.starlark_small.specs.Inserted.{IsRefusedFor, IsReserved};
 ghost use Rattle.starlark_small.specs.Map.{KeepsMemory, own_hashed};
+ghost use Rattle.starlark_sets.specs.Calling.{Updates, contains};
 ghost use Rattle.starlark_sets.specs.Set.{Adds};
 
 use super::SmallSet;
@@ -13,10 +14,15 @@ use std::hash::Hash;
 
 impl<T: Eq> SmallSet<T> {
     /// Inserts under the element's own hash, as `insert_hashed` does under one that is brought.
+    #[tactic(auto, using(crate::proofs::Callers::callers))]
     pub fn insert(&mut self, key: T) -> Result<bool, NoRoom<T>>
     where
         T: Hash + Drop,
         ensures is_new { IfOk result (λ is_new. is_new ≡ not (is_some (match_of T.eq self.old.entries (own_hashed T.hash_input key)))) }
+        ensures was { IfOk result (λ is_new. is_new ≡ not (contains T.eq T.hash_input self.old key)) }
+        ensures updates { OnOk result (Updates T.eq T.hash_input self.old self.new key (Some tt)) }
+        ensures absent { OnErr result (contains T.eq T.hash_input self.old key ≡ false) }
+        ensures unchanged { OnErr result (self.new.entries ≡ self.old.entries) }
         ensures set { Adds T.eq self.old (own_hashed T.hash_input key) result self.new }
         ensures handed_back { IfErr result (λ refused. refused.0 ≡ key) }
     {

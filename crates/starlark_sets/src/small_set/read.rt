@@ -4,6 +4,7 @@ ghost use Rattle.std.specs.Option.{option_copied, option_map};
 ghost use Rattle.starlark_lists.specs.Entries.{entry_key};
 ghost use Rattle.starlark_small.specs.Map.{own_match, query_match, query_match_by_value};
 ghost use Rattle.starlark_sets.specs.Set.{element_at};
+ghost use Rattle.starlark_sets.specs.Calling.{contains};
 
 use super::SmallSet;
 use starlark_hash::{Equivalent, Hashed};
@@ -61,9 +62,11 @@ impl<T: Eq> SmallSet<T> {
     }
 
     /// Whether there is an element under the query's own hash to which the query is equivalent.
+    #[tactic(auto, using(crate::proofs::Callers::callers))]
     #[inline]
     pub fn contains<Q: Equivalent<T> + Hash>(&self, key: &Q) -> bool
-        ensures { result ≡ is_some (own_match Q.equivalent Q.hash_input self.now.entries key.now) }
+        ensures place { result ≡ is_some (own_match Q.equivalent Q.hash_input self.now.entries key.now) }
+        ensures found { result ≡ contains Q.equivalent Q.hash_input self.now key.now }
     {
         self.map.contains_key(key)
     }

@@ -1,9 +1,10 @@
 //! What takes elements out of a `SmallSet`, and what turns it round. None of it asks for memory.
-ghost use Rattle.std.specs.Prelude.{◌≡◌, ◌-◌, [], is_some, length, remove, reverse, slice_get};
+ghost use Rattle.std.specs.Prelude.{◌≡◌, ◌-◌, [], None, is_some, length, remove, reverse, slice_get};
 ghost use Rattle.std.specs.Option.{option_map};
 ghost use Rattle.starlark_lists.specs.Entries.{entry_key, without};
 ghost use Rattle.starlark_small.specs.Map.{KeepsMemory, own_match, query_match};
 ghost use Rattle.starlark_sets.specs.Set.{element_at};
+ghost use Rattle.starlark_sets.specs.Calling.{UpdatesBy, contains};
 
 use super::SmallSet;
 use starlark_hash::{Equivalent, Hashed};
@@ -14,14 +15,18 @@ use std::hash::Hash;
 impl<T: Eq> SmallSet<T> {
     /// Removes the element under the query's own hash to which the query is equivalent, and answers whether it was
     /// there. Those after it move up.
-    #[tactic(auto, using(crate::proofs::Additions::additions))]
+    #[tactic(auto, using(crate::proofs::Additions::additions, crate::proofs::Callers::callers))]
     pub fn shift_remove<Q: Equivalent<T> + Hash>(&mut self, key: &Q) -> bool
     where
         T: Drop,
+        ensures was { result ≡ contains Q.equivalent Q.hash_input self.old key.now }
+        ensures updates { UpdatesBy T.eq Q.equivalent Q.hash_input self.old self.new key.now None }
         ensures taken { result ≡ is_some (own_match Q.equivalent Q.hash_input self.old.entries key.now) }
         ensures entries { self.new.entries ≡ without self.old.entries (own_match Q.equivalent Q.hash_input self.old.entries key.now) }
         ensures kept { KeepsMemory self.old self.new }
     {
+        // Its clauses say that no two elements are alike.
+        let _entries = self.map.iter_hashed();
         self.map.shift_remove(key).is_some()
     }
 

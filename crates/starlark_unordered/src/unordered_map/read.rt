@@ -4,6 +4,7 @@ ghost use Rattle.std.specs.Map.{lookup};
 ghost use Rattle.std.specs.Option.{is_some, option_copied};
 ghost use Rattle.starlark_unordered.specs.Pairs.{pairs_of, under_own};
 ghost use Rattle.starlark_hash.specs.HashValue.{hash_of, key_of};
+ghost use Rattle.starlark_unordered.specs.Calling.{contains, get};
 
 use super::UnorderedMap;
 use starlark_hash::{Equivalent, Hashed, KeyQuery, StarlarkHashValue};
@@ -12,9 +13,11 @@ use std::ops::Index;
 
 impl<K: Eq + Hash, V> UnorderedMap<K, V> {
     /// The value at the key.
+    #[tactic(auto, using(crate::proofs::Callers::callers), unfolding(crate::specs::Calling::found))]
     #[inline]
     pub fn get<Q: KeyQuery<K>>(&self, query: &Q) -> Option<&V>
-        ensures { option_copied result ≡ lookup (Q.equivalent query.now) (pairs_of self.now) }
+        ensures found { option_copied result ≡ get Q.equivalent self.now query.now }
+        ensures value { option_copied result ≡ lookup (Q.equivalent query.now) (pairs_of self.now) }
     {
         let (_, value) = self.pair_under(StarlarkHashValue::new(query).promote(), query)?;
         Some(value)
@@ -30,9 +33,11 @@ impl<K: Eq + Hash, V> UnorderedMap<K, V> {
     }
 
     /// Whether the map has the key.
+    #[tactic(auto, using(crate::proofs::Callers::callers), unfolding(crate::specs::Calling::found))]
     #[inline]
     pub fn contains_key<Q: KeyQuery<K>>(&self, query: &Q) -> bool
-        ensures { result ≡ is_some (lookup (Q.equivalent query.now) (pairs_of self.now)) }
+        ensures found { result ≡ contains Q.equivalent self.now query.now }
+        ensures value { result ≡ is_some (lookup (Q.equivalent query.now) (pairs_of self.now)) }
     {
         self.get(query).is_some()
     }

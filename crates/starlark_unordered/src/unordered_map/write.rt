@@ -1,10 +1,11 @@
 //! Calls that write an `UnorderedMap`.
-ghost use Rattle.std.specs.Prelude.{◌≡◌, ◌+◌, [], List, None, IfOk, IfErr, OnOk, OnErr, IfSome, IfNone, IsPermutation};
+ghost use Rattle.std.specs.Prelude.{◌≡◌, ◌+◌, [], List, None, Some, IfOk, IfErr, OnOk, OnErr, IfSome, IfNone, IsPermutation};
 ghost use Rattle.std.specs.Borrow.{sem};
 ghost use Rattle.std.specs.List.Retain.{RetainsInTurn};
 ghost use Rattle.std.specs.Map.{lookup};
 ghost use Rattle.std.specs.Option.{option_copied_mut};
 ghost use Rattle.starlark_table.specs.Table.{table_len};
+ghost use Rattle.starlark_unordered.specs.Calling.{Updates, Writes, get};
 ghost use Rattle.starlark_unordered.specs.Pairs.{pairs_of, with_pair, IsWithout, KeepsRoom};
 ghost use Rattle.starlark_unordered.specs.Walk.{CanAskPairs, AsksPair, TakesPair};
 
@@ -31,10 +32,13 @@ impl<K: Eq + Hash, V> UnorderedMap<K, V> {
     /// Puts the value at the key. A key that is there stays and takes the value, whose old one is answered; else there
     /// is one pair more. Only a new key is refused, where there is no room and no memory is found: then key and
     /// value come back, and the map is as it was.
-    #[tactic(auto, using(crate::proofs::Keys::table_len_written))]
+    #[tactic(auto, using(crate::proofs::Keys::table_len_written, crate::proofs::Callers::callers), unfolding(crate::specs::Calling::found))]
     pub fn insert(&mut self, key: K, value: V) -> Result<Option<V>, NoRoom<(K, V)>>
     where
         K: Drop,
+        ensures was { IfOk result (λ old. old ≡ get K.eq self.old key) }
+        ensures updates { OnOk result (Updates K.eq self.old self.new key (Some value)) }
+        ensures lacks { OnErr result (get K.eq self.old key ≡ None) }
         ensures old { IfOk result (λ old. old ≡ lookup (K.eq key) (pairs_of self.old)) }
         ensures pairs { OnOk result (IsPermutation (with_pair K.eq key value (pairs_of self.old)) (pairs_of self.new)) }
         ensures room { KeepsRoom self.old self.new }
@@ -48,21 +52,30 @@ impl<K: Eq + Hash, V> UnorderedMap<K, V> {
         match self.slot_under(hash, &key) {
             Some(slot) => Ok(Some(mem::replace(self.value_at_mut(slot), value))),
             None => match self.insert_new(hash, key, value) {
-                Ok(_) => Ok(None),
+                Ok(_) => {
+                    // Its clauses say that no two keys are equal.
+                    let _len = self.len();
+                    Ok(None)
+                }
                 Err(refused) => Err(refused),
             },
         }
     }
 
     /// Takes the pair of the key out, and answers its value. The room comes back.
+    #[tactic(auto, using(crate::proofs::Callers::callers), unfolding(crate::specs::Calling::found))]
     pub fn remove<Q: KeyQuery<K>>(&mut self, query: &Q) -> Option<V>
     where
         K: Drop,
+        ensures was { result ≡ get Q.equivalent self.old query.now }
+        ensures updates { Writes K.eq (Q.equivalent query.now) self.old self.new None }
         ensures value { result ≡ lookup (Q.equivalent query.now) (pairs_of self.old) }
         ensures rest { IfSome result (λ value. IsWithout (Q.equivalent query.now) value (pairs_of self.old) (pairs_of self.new)) }
         ensures none { IfNone result (self.new ≡ self.old) }
         ensures room { table_len self.new + self.new.room ≡ table_len self.old + self.old.room }
     {
+        // Its clauses say that no two keys are equal.
+        let _len = self.len();
         match self.slot_under(StarlarkHashValue::new(query).promote(), query) {
             Some(slot) => {
                 let (_key, value) = self.take_out(slot);
