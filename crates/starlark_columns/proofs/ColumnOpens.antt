@@ -1,30 +1,6 @@
 -- A `Column` in memory is its address, its places and the rest, and back, at any places as many. Assumes `Logic`.
-use mathlib.Core.Path.{◌≡◌, refl, sym, ap, ◌∙◌}
-use Prim.Native.Nat.{ℕ, zero, ◌+◌}
-use mathlib.Core.List.{List, [], ◌∷◌}
-use lib.ListN.{length}
-use seplogic.Ra.Ura.{Ura}
-use mir.Val.{Val}
-use base.Fraction.{full_share}
-use base.Fml.{Fml, fsep}
-use base.Logic.{SProp, ent, sep, wand, ex, all_e, apply∗}
-use prog.Memory.{size, align, up}
-use types.Kit.{‵, raw, ◌⊛◌, some, ◌$◌, ◌∵◌, !, qed, by, move, keep, use0, use1, use2, split, split3, pick, show, fsplit, fsplit3, fjoin, fpick, fpack, rewrite, done}
-use types.Logic.{Logic, sem}
-use denote.Builtin.{usize}
-use denote.Laws.{shows}
-use denote.RattleType.{RattleType, Denots}
-use denote.RawPtr.{Ptr}
-use denote.Memory.{part_at, part_of, cell_at, lone}
-use denote.Model.Fields.{plain_out, Plain-in, view_made}
-use denote.Param.Laws.{Laws}
-use denote.Steps.{facts}
-use denote.Struct.Loose.{lawfuls}
-use denote.Struct.Members.{Member, rows_of, parts_at}
-use denote.Struct.Parts.{shape_of, PartsBack, Struct-parts}
-use denote.Struct.Struct.{Struct}
+use Rattle.starlark_columns.proofs.Walking.{◌≡◌, refl, sym, ap, ◌∙◌, ℕ, zero, ◌+◌, List, [], ◌∷◌, length, Ura, Val, full_share, Fml, fsep, SProp, ent, sep, wand, ex, all_e, apply∗, size, align, up, ‵, raw, ◌⊛◌, some, ◌$◌, ◌∵◌, !, qed, by, move, keep, use0, use1, use2, split, split3, pick, show, fsplit, fsplit3, fjoin, fpick, fpack, rewrite, done, Logic, sem, usize, shows, RattleType, Denots, Ptr, part_at, part_of, cell_at, lone, plain_out, Plain-in, view_made, Laws, facts, lawfuls, Member, rows_of, parts_at, shape_of, PartsBack, Struct-parts, Struct, ghosts}
 use Rattle.std.specs.contracts.alloc.Global as heap
-use Rattle.std.specs.contracts.impls.GlobalAllocator.TheImpl.{ghosts}
 use Rattle.starlark_columns.specs.Owned.{row_owned}
 use Rattle.starlark_columns.specs.Lends.{with_places}
 use Rattle.starlark_columns.specs.contracts.block.Address as address

@@ -1,21 +1,7 @@
 -- A lent pair of which the first part stays is parted, and so is a lent entry of which all but the value stays: a `&` to
 -- the key and a `&mut` to the value. Assumes `Logic`.
-use Prim.Native.Nat.{ℕ}
-use mathlib.Core.List.{[], ◌∷◌}
-use seplogic.Ra.Ura.{Ura}
-use mir.Syntax.{Lifetime}
-use base.Logic.{SProp, ent, sep}
-use base.Fml.{Lft, GName, Share, Incl, flft}
-use types.Kit.{Item, ‵, raw, ◌⊛◌, some, later, mean, ◌$◌, ◌∵◌, !, qed, by, move, use1, use3, split3, fsplit, group, await, updating, now, done}
-use types.Logic.{Logic, sem}
-use types.Mut.{open_ref}
-use denote.Memory.{mem, part_at}
-use denote.Param.Laws.{Laws}
-use denote.RattleType.{RattleType}
-use denote.Struct.Tuple.{tuple_laws}
-use base.Fraction.{full_share}
+use Rattle.starlark_columns.proofs.Walking.{ℕ, [], ◌∷◌, Ura, Lifetime, SProp, ent, sep, Lft, GName, Share, Incl, flft, Item, ‵, raw, ◌⊛◌, some, later, mean, ◌$◌, ◌∵◌, !, qed, by, move, use1, use3, split3, fsplit, group, await, updating, now, done, Logic, sem, open_ref, mem, part_at, Laws, RattleType, tuple_laws, full_share, Member, row_of}
 use Rattle.starlark_columns.specs.Lent.{KeptItem, lent_item}
-use denote.Struct.Members.{Member, row_of}
 use Rattle.starlark_columns.proofs.PairParts.{part, Pair, first_at, second_at, Back, First, Second, apart, together, Parted, parts_leave}
 
 module _ (k v : Member) (LK : Laws (row_of k)) (LV : Laws (row_of v)) {M : Type 1} {𝓤 : Ura M} (𝓛 : Logic 𝓤) (κ : Lft) (q : Share) (b o : ℕ) (γ : GName) (ℓ : Lifetime) (long : Incl κ (row_of k).lives) (p : (row_of k).Denot × (row_of v).Denot) where

@@ -1,21 +1,7 @@
 -- The machine's values of the types with pointers, which are one word or nothing. Assumes `Logic`.
-use Rattle.std.proofs.Common.{◌≡◌, List, [], ◌∷◌, ◌++◌, T, refl, ap, ◌∙◌, lit<}
-use seplogic.Ra.Ura.{Ura}
-use base.Logic.{ent, emp, sep}
-use mir.Syntax.{ty_ptr, ty_struct, tcons, tnil}
-use mir.Val.{Val, vstruct, vcons, vnil, of_list, has_ty, WT}
-use types.Kit.{‵, ◌$◌, ◌∵◌, !, qed, move, fjoin, feq_i, fpack, done}
-use types.Logic.{Logic, sem}
-use denote.Laws.{Is}
-use denote.RattleType.{RattleType, Valss}
-use denote.RawPtr.{Ptr, block_ptr, null_ptr, ptr_val}
-use denote.Shadow.{makes_shadow}
-use denote.Steps.{nothing}
+use Rattle.starlark_columns.proofs.Walking.{◌≡◌, List, [], ◌∷◌, ◌++◌, refl, ap, ◌∙◌, lit<, Ura, ent, emp, sep, ty_ptr, ty_struct, tcons, tnil, Val, vstruct, vcons, vnil, of_list, has_ty, WT, ‵, ◌$◌, ◌∵◌, !, qed, move, fjoin, feq_i, fpack, done, Logic, sem, Is, RattleType, Valss, Ptr, block_ptr, null_ptr, ptr_val, makes_shadow, nothing, shape, Struct, within, Tuple, tuple_type, Ghosts}
+use Rattle.std.proofs.Common.{T}
 use denote.Struct.Declared as Declared
-use denote.Struct.Owning.{shape}
-use denote.Struct.Struct.{Struct, within}
-use denote.Struct.Tuple.{Tuple, tuple_type}
-use Rattle.core.specs.declared.alloc.Allocator.{Ghosts}
 use Rattle.starlark_columns.specs.contracts.block.Address as address
 use Rattle.starlark_columns.specs.contracts.block.Claim as claim
 use Rattle.starlark_columns.specs.contracts.block.Held as held

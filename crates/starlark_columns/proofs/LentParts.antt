@@ -1,20 +1,6 @@
 -- A reference that is given up, and two values that are made one tuple. Assumes `Logic`.
-use mathlib.Core.Path.{refl}
-use mathlib.Core.List.{List, [], ◌∷◌}
-use seplogic.Ra.Ura.{Ura}
-use mir.Syntax.{Lifetime}
-use mir.Val.{Val, vstruct, vcons, vnil}
-use base.Logic.{ent, sep}
-use base.Fml.{Lft, fres}
-use types.Logic.{Logic, sem}
-use types.Kit.{‵, ◌$◌, ◌∵◌, !, qed, move, keep, drop, fsplit3, fjoin, fpack, feq_i, updating, now, done}
-use types.Tokens.{name_done}
-use denote.RattleType.{RattleType, Valss}
-use denote.Ref.{MutBor, MutRef, mut_vals}
-use denote.Steps.{nothing}
+use Rattle.starlark_columns.proofs.Walking.{refl, List, [], ◌∷◌, Ura, Lifetime, Val, vstruct, vcons, vnil, ent, sep, Lft, fres, Logic, sem, ‵, ◌$◌, ◌∵◌, !, qed, move, keep, drop, fsplit3, fjoin, fpack, feq_i, updating, now, done, name_done, RattleType, Valss, MutBor, MutRef, mut_vals, nothing, within, Tuple, tuple_type}
 use denote.Struct.Declared.{shape}
-use denote.Struct.Struct.{within}
-use denote.Struct.Tuple.{Tuple, tuple_type}
 
 module _ {M : Type 1} {𝓤 : Ura M} (𝓛 : Logic 𝓤) where
   open 𝓛 use {H}

@@ -1,24 +1,9 @@
 -- Places that are lent together: the next comes off, to be written or to stay. Assumes `Logic`.
 --     item_off    the item of a full place comes off, beside the places behind it
 --     place_off   a place stays as it is, and the places behind it are left
-use mathlib.Core.Path.{◌≡◌, refl, sym, ap}
-use Prim.Native.Nat.{ℕ, suc, ◌+◌, ◌<◌}
-use native.Mathlib.Omega.{arith}
-use mathlib.Core.List.{List, [], ◌∷◌}
-use lib.ListN.{length}
-use seplogic.Ra.Ura.{Ura}
-use base.Logic.{ent, sep, emp}
-use base.Fml.{Lft, GName, Share, flft, fobs, fbor}
-use types.Kit.{Item, ‵, raw, ◌⊛◌, some, later, mean, ◌$◌, ◌∵◌, !, qed, move, keep, use1, split, split3, pick, fsplit, fjoin, rewrite, group, await, updating, now, show, done}
-use types.Logic.{Logic, sem}
-use types.SemTy.{Body}
-use types.Mut.{open_ref}
-use types.Follow.{after, after₂, takes_part, takes_two}
-use denote.RattleType.{RattleType}
-use denote.RawPtr.{block_ptr}
-use denote.Steps.{nothing}
-use Rattle.std.specs.Prelude.{Option, Some, None}
-use Rattle.std.specs.Mem.{type_size}
+use Rattle.starlark_columns.proofs.Walking.{◌≡◌, refl, sym, ap, ℕ, suc, ◌+◌, ◌<◌, arith, List, [], ◌∷◌, length, Ura, ent, sep, emp, Lft, GName, Share, flft, fobs, fbor, Item, ‵, raw, ◌⊛◌, some, later, mean, ◌$◌, ◌∵◌, !, qed, move, keep, use1, split, split3, pick, fsplit, fjoin, rewrite, group, await, updating, now, show, done, Logic, sem, Body, open_ref, after₂, takes_part, takes_two, RattleType, block_ptr, nothing, None, type_size}
+use types.Follow.{after}
+use Rattle.std.specs.Prelude.{Option, Some}
 use Rattle.starlark_columns.specs.Owned.{place_owned}
 use Rattle.starlark_columns.specs.Places.{IsFilled}
 use Rattle.starlark_columns.specs.contracts.column.Column.{the_row}

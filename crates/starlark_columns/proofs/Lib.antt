@@ -15,3 +15,4 @@ pub mod NamedClose
 pub mod Betweens
 pub mod LoneValue
 pub mod LentParts
+pub mod Walking

@@ -1,28 +1,7 @@
 -- A row of places is made of room, cut, and read as the kit's slots or as the items of a slice. Assumes `Logic`.
-use Rattle.std.proofs.Common.{◌≡◌, ℕ, zero, suc, ◌+◌, ◌-◌, ◌*◌, ◌≤◌, Bool, true, false, List, [], ◌∷◌, ◌++◌, map, length, take, drop, Option, Some, None, refl, sym, ap, subst, ◌∙◌, arith}
-use lib.ListN.{length-take, length-drop, take-append-drop}
-use native.Mathlib.Nat.{zero-mul, suc-mul}
-use seplogic.Ra.Ura.{Ura}
-use base.Fml.{Fml, Lft, ftrue, fsep, fat, froom}
-use base.Fraction.{full_share}
-use base.Logic.{ent, sep, emp, wand, via, id⊢, snd∗, mono_r}
-use mir.Syntax.{ty_array}
-use mir.Val.{Val}
-use prog.Align.{dv_self}
-use prog.Memory.{align}
-use types.Kit.{‵, raw, ◌⊛◌, some, given, ◌$◌, ◌∵◌, !, qed, by, move, keep, use0, use1, use2, split, pick, learn, rewrite, fsplit, fjoin, done}
-use types.Logic.{Logic, sem}
-use types.SemTy.{cells}
-use denote.Memory.{mem, part_at}
-use denote.RawPtr.{block_ptr}
-use denote.Slice.{elements_shared}
-use denote.Steps.{nothing}
-use Rattle.core.proofs.mem.Param.{El, R, el_x, elτ, Good}
-use Rattle.core.proofs.slice.Rows.{el_out}
-use Rattle.core.specs.Mem.Slots.Ownership.{slots}
-use Rattle.std.proofs.lemmas.List.Folds.{drop_split}
-use Rattle.std.specs.List.{slice_range}
-use Rattle.std.specs.Mem.{type_size}
+use Rattle.starlark_columns.proofs.Walking.{◌≡◌, ℕ, zero, suc, ◌+◌, ◌-◌, ◌*◌, ◌≤◌, Bool, true, false, List, [], ◌∷◌, ◌++◌, map, length, take, Option, Some, refl, sym, ap, subst, ◌∙◌, arith, length-take, length-drop, take-append-drop, zero-mul, suc-mul, Ura, Fml, Lft, ftrue, fsep, fat, froom, full_share, ent, sep, emp, wand, via, id⊢, snd∗, mono_r, ty_array, Val, dv_self, align, ‵, raw, ◌⊛◌, some, given, ◌$◌, ◌∵◌, !, qed, by, move, keep, use0, use1, use2, split, pick, learn, rewrite, fsplit, fjoin, done, Logic, sem, cells, mem, part_at, block_ptr, elements_shared, nothing, El, el_x, elτ, el_out, slots, drop_split, slice_range, type_size}
+use Rattle.std.proofs.Common.{drop, None}
+use Rattle.core.proofs.mem.Param.{R, Good}
 use Rattle.starlark_columns.specs.Owned.{place_owned, places_owned, place_lent, places_lent}
 use Rattle.starlark_columns.specs.Places.{empties, with_range}
 use Rattle.starlark_columns.specs.Slotted.{places_of, emptied}

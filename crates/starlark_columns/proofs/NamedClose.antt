@@ -3,20 +3,8 @@
 --     closes_named    the whole R is open at (b, o), and its part T, under the name δ, follows γ' by G. With the
 --         part at any G w the rest makes F w of the whole, and `keeps` leaves each F w as it is:  the whole follows a
 --         new name by `keeps`
-use mathlib.Core.Path.{◌≡◌, refl}
-use Prim.Native.Nat.{ℕ}
-use mathlib.Core.List.{[], ◌∷◌}
-use seplogic.Ra.Ura.{Ura}
-use base.Logic.{SProp, ent, sep, wand, ex, all, all_e, apply∗, upd_i, emp, wand_i, snd∗}
-use base.Fml.{Lft, GName, Share, fsep, fex, fwand, fupd, fdead, fobs, fauth, flent, flft, fseps}
-use base.Stored.{Gv}
-use ghost.Rules.{aged}
-use types.Kit.{‵, raw, ◌⊛◌, later, ◌$◌, ◌∵◌, !, qed, move, keep, drop, use0, use1, use2, split, fsplit, fjoin, fpick, fpack, suffices, updating, await, now, show, assume, done, feq_l, rewrite, group}
-use types.Logic.{Logic, sem}
-use types.Late.{deep, close_deep}
-use types.SemTy.{SemTy, Body}
-use types.Follow.{after, came, Came, follows_anew}
-use types.Tokens.{name_new}
+use Rattle.starlark_columns.proofs.Walking.{◌≡◌, refl, ℕ, [], ◌∷◌, Ura, SProp, ent, sep, wand, ex, all, all_e, apply∗, upd_i, emp, wand_i, snd∗, Lft, GName, Share, fsep, fex, fwand, fupd, fdead, fobs, fauth, flent, flft, fseps, Gv, aged, ‵, raw, ◌⊛◌, later, ◌$◌, ◌∵◌, !, qed, move, keep, drop, use0, use1, use2, split, fsplit, fjoin, fpick, fpack, suffices, updating, await, now, show, assume, done, feq_l, rewrite, group, Logic, sem, deep, close_deep, SemTy, Body, came, Came, follows_anew, name_new}
+use types.Follow.{after}
 
 module _ {M : Type 1} {𝓤 : Ura M} (𝓛 : Logic 𝓤) (R T U : SemTy) (G : U.rep → T.rep) (F : U.rep → R.rep) (keeps : R.rep → R.rep) (same : (w : U.rep) → keeps (F w) ≡ F w)
     (κ : Lft) (q : Share) (b o b' o' : ℕ) (γ δ γ' : GName) (Rest : SProp 𝓤)

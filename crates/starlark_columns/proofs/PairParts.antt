@@ -1,30 +1,7 @@
 -- A pair in memory is its two parts, and back; and parts of a lent item leave: a `&` to one and a `&mut` to another.
 -- Assumes `Logic`.
-use mathlib.Core.Path.{refl}
-use Prim.Native.Nat.{ℕ, zero, ◌+◌}
-use mathlib.Core.List.{List, [], ◌∷◌}
-use seplogic.Ra.Ura.{Ura}
-use mir.Syntax.{Lifetime}
-use mir.Val.{Val, vptr}
-use base.Fraction.{full_share}
-use base.Logic.{SProp, ent, sep, emp, wand, id⊢, all_e, apply∗}
-use base.Fml.{Lft, GName, Share, Fml, Incl, Incl-refl, ftrue, fseps, flft, fobs, fbor, fauth, fobor}
-use base.Stored.{Gv}
-use prog.Memory.{size, align, up}
-use types.Kit.{Item, ‵, raw, ◌⊛◌, some, later, mean, ◌$◌, ◌∵◌, !, qed, by, move, keep, use0, use1, use2, split, split3, pick, fsplit, fsplit3, fjoin, fjoin3, feq_i, group, await, updating, now, show, done}
-use types.Logic.{Logic, sem}
-use types.SemTy.{SemTy, Body}
-use types.Follow.{after, takes_beside}
-use denote.Memory.{mem, lone, part_at, part_of}
-use denote.Opens.{hide}
-use denote.Param.Laws.{Laws}
-use denote.RattleType.{RattleType, Denots}
-use denote.Ref.{MutRef, ShrRef}
-use denote.Struct.Loose.{lawfuls}
-use denote.Struct.Members.{Member, row_of, rows_of, parts_at}
-use denote.Struct.Parts.{shape_of, PartsBack, Struct-parts}
-use denote.Struct.Struct.{Struct}
-use denote.Struct.Tuple.{Tuple, tuple_type, parts_loose}
+use Rattle.starlark_columns.proofs.Walking.{refl, ℕ, zero, ◌+◌, List, [], ◌∷◌, Ura, Lifetime, Val, vptr, full_share, SProp, ent, sep, emp, wand, id⊢, all_e, apply∗, Lft, GName, Share, Fml, Incl, Incl-refl, ftrue, fseps, flft, fobs, fbor, fauth, fobor, Gv, size, align, up, Item, ‵, raw, ◌⊛◌, some, later, mean, ◌$◌, ◌∵◌, !, qed, by, move, keep, use0, use1, use2, split, split3, pick, fsplit, fsplit3, fjoin, fjoin3, feq_i, group, await, updating, now, show, done, Logic, sem, SemTy, Body, takes_beside, mem, lone, part_at, part_of, hide, Laws, RattleType, Denots, MutRef, ShrRef, lawfuls, Member, row_of, rows_of, parts_at, shape_of, PartsBack, Struct-parts, Struct, Tuple, tuple_type, parts_loose}
+use types.Follow.{after}
 
 -- a type of one machine value, as a part
 abbrev pub part : RattleType → Member

@@ -1,20 +1,6 @@
 -- Room for two arrays is cut into the rooms of both, with the way back. Assumes `Logic`.
-use Rattle.std.proofs.Common.{◌≡◌, ℕ, zero, ◌+◌, ◌-◌, ◌*◌, ◌%◌, ◌<◌, ◌^◌, Bool, true, false, [], ◌∷◌, refl, sym, ap, subst, ◌∙◌, arith}
-use native.Mathlib.Nat.{mod_self, sub-zero, zero-add, add-zero}
-use lib.Dec.{T, eqb, eqb→eq}
-use seplogic.Ra.Ura.{Ura}
-use base.Fml.{ftrue, froom}
-use base.Logic.{SProp, ent, sep, wand, id⊢, apply∗}
-use mir.Raw.{raw as bare}
-use mir.Syntax.{Ty, Tys, tcons, tnil, ty_array}
-use prog.Align.{Dv, dv_zero}
-use prog.Capped.{capped_small}
-use prog.Memory.{size, align, pad, up, capped}
-use prog.Model.{rooms_at}
-use types.Kit.{‵, raw, ◌⊛◌, ◌$◌, ◌∵◌, !, qed, by, move, keep, use1, use2, split, split3, group, rewrite, assume, done}
-use types.Logic.{Logic, sem}
-use denote.RawPtr.{block_ptr}
-use denote.Steps.{nothing}
+use Rattle.starlark_columns.proofs.Walking.{◌≡◌, ℕ, zero, ◌+◌, ◌-◌, ◌*◌, ◌%◌, ◌<◌, ◌^◌, Bool, true, false, [], ◌∷◌, refl, sym, ap, subst, ◌∙◌, arith, mod_self, sub-zero, zero-add, add-zero, eqb, eqb→eq, Ura, ftrue, froom, SProp, ent, sep, wand, id⊢, apply∗, bare, Ty, Tys, tcons, tnil, ty_array, Dv, dv_zero, capped_small, size, align, pad, up, capped, rooms_at, ‵, raw, ◌⊛◌, ◌$◌, ◌∵◌, !, qed, by, move, keep, use1, use2, split, split3, group, rewrite, assume, done, Logic, sem, block_ptr, nothing}
+use lib.Dec.{T}
 use Rattle.starlark_columns.specs.Paired.{two_arrays, rooms_rejoin}
 
 weighs : (x : Bool) (k : ℕ) → eqb k 0 ≡ x → 0 < k → eqb k 0 ≡ false

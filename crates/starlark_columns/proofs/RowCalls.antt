@@ -1,30 +1,8 @@
 -- The two calls between places that a walk holds and the kit's slots: what each asks for, and what it gives. Assumes `Logic`.
-use Rattle.std.proofs.Common.{◌≡◌, ℕ, ◌*◌, ◌<◌, ◌^◌, Bool, T, List, [], ◌∷◌, ◌++◌, length, refl, sym, ap, subst, ◌∙◌, lit<, w64}
-use seplogic.Ra.Ura.{Ura}
-use base.Fml.{Fml, Lft, Share, ftrue, fsep, flft}
-use base.Logic.{SProp, ent, sep, ex, guard, emp, id⊢}
-use contract.BorrowLft.{◌⊑◌}
-use contract.Monad.{Fun, fact, fact_i}
-use mir.Syntax.{ty_ptr, ty_int, ty_struct, tcons, tnil}
-use mir.Val.{Val, vint, vptr, vstruct, of_list, has_ty, WT}
-use prog.Memory.{Memory}
-use prog.Routine.{Routine}
-use types.Kit.{‵, raw, ◌⊛◌, some, later, ◌$◌, ◌∵◌, !, qed, move, keep, drop, use0, use1, split, join, pick, rewrite, fsplit, fsplit3, fjoin, fjoin3, fpick, feq_i, feq_l, flt_i, check, show, await, updating, now, done}
-use types.Logic.{Logic, sem}
-use denote.Builtin.{usize}
-use denote.Laws.{Is}
-use denote.Param.{layout}
-use denote.RattleType.{RattleType}
-use denote.RawPtr.{Ptr, RawPtr, block_ptr, null_ptr, ptr_val, in_block}
-use denote.Steps.{heard, nothing, only}
-use denote.Struct.Tuple.{Tuple}
-use denote.Triple.Spec.{triple_of}
-use denote.Triple.Statement.{Contract}
-use Rattle.core.proofs.mem.Param.{El, el_x, R}
-use Rattle.core.proofs.slots.Opens.{Sr, words_val, row_val, row_had, row_made}
-use Rattle.core.proofs.slots.Places.{sz}
-use Rattle.core.specs.Mem.Slots.Ownership.{slots, owned}
-use Rattle.core.specs.Mem.Slots.{slots_items, slots_filled, slots_ptr, slots_len}
+use Rattle.starlark_columns.proofs.Walking.{◌≡◌, ℕ, ◌*◌, ◌<◌, ◌^◌, Bool, List, [], ◌∷◌, ◌++◌, length, refl, sym, ap, subst, ◌∙◌, lit<, w64, Ura, Fml, Lft, Share, ftrue, fsep, flft, SProp, ent, sep, ex, guard, emp, id⊢, ◌⊑◌, Fun, fact, fact_i, ty_ptr, ty_int, ty_struct, tcons, tnil, Val, vint, vptr, vstruct, of_list, has_ty, WT, Memory, Routine, ‵, raw, ◌⊛◌, some, later, ◌$◌, ◌∵◌, !, qed, move, keep, drop, use0, use1, split, join, pick, rewrite, fsplit, fsplit3, fjoin, fjoin3, fpick, feq_i, feq_l, flt_i, check, show, await, updating, now, done, Logic, sem, usize, Is, layout, RattleType, Ptr, RawPtr, block_ptr, null_ptr, ptr_val, in_block, heard, nothing, only, Tuple, triple_of, Contract, El, el_x, Sr, words_val, row_val, row_had, row_made, sz, slots, slots_items, slots_filled, slots_ptr, slots_len}
+use Rattle.std.proofs.Common.{T}
+use Rattle.core.proofs.mem.Param.{R}
+use Rattle.core.specs.Mem.Slots.Ownership.{owned}
 use Rattle.core.specs.contracts.slots.Slots.from_raw_parts as makes
 use Rattle.core.specs.contracts.slots.Slots.into_raw_parts as breaks
 

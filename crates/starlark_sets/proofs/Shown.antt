@@ -1,16 +1,6 @@
 -- What is said of a place holds of the element that is shown there, and a set that is no longer written ends as it is. Assumes `Logic`.
-use Rattle.std.proofs.Common.{◌≡◌, ℕ, Bool, Some, Result, Ok, Err, IfOk, IfErr, Bor, slice_get, sym, ap, ◌∙◌}
-use Rattle.std.specs.Prelude.{⊤}
-use Rattle.std.specs.Option.{option_map, unwrap_or}
-use mathlib.Core.List.{[], ◌∷◌}
-use mathlib.Core.Option.{none}
-use seplogic.Ra.Ura.{Ura}
-use base.Logic.{ent}
-use base.Fml.{GName}
-use types.Logic.{Logic, sem}
-use types.Kit.{‵, ◌$◌, ◌∵◌, !, qed, fpick, fpack, done}
-use denote.RattleType.{RattleType}
-use denote.Follow.{follows_so, such_by, follows_by}
+use Rattle.starlark_columns.proofs.Walking.{◌≡◌, ℕ, Bool, Some, Result, Ok, Err, IfOk, IfErr, slice_get, sym, ap, ◌∙◌, ⊤, option_map, unwrap_or, [], ◌∷◌, none, Ura, ent, GName, Logic, sem, ‵, ◌$◌, ◌∵◌, !, qed, fpick, fpack, done, RattleType, follows_so, such_by, follows_by}
+use Rattle.std.proofs.Common.{Bor}
 use Rattle.starlark_hash.specs.declared.hashed.Hashed.{Hashed}
 use Rattle.starlark_hash.specs.declared.no_room.NoRoom.{NoRoom}
 use Rattle.starlark_lists.specs.Entries.{entry_key}

@@ -1,22 +1,5 @@
 -- A `SmallMap` in memory is its list of entries and the rest, and back, at any list of entries that goes with its index. Assumes `Logic`.
-use mathlib.Core.Path.{◌≡◌}
-use Prim.Native.Nat.{ℕ, zero, ◌+◌}
-use mathlib.Core.List.{List, [], ◌∷◌}
-use seplogic.Ra.Ura.{Ura}
-use base.Fraction.{full_share}
-use base.Logic.{SProp, ent, sep, wand, ex, all_e, apply∗}
-use prog.Memory.{size, align, up}
-use types.Kit.{‵, raw, ◌⊛◌, some, ◌$◌, ◌∵◌, !, qed, by, move, use1, use2, split, pick, show, fsplit, fjoin, done}
-use types.Logic.{Logic, sem}
-use denote.Builtin.{usize}
-use denote.RattleType.{RattleType, Denots}
-use denote.Memory.{part_at, part_of, lone}
-use denote.Model.Fields.{plain_out, Plain-in, view_made}
-use denote.Param.Laws.{Laws}
-use denote.Struct.Loose.{lawfuls}
-use denote.Struct.Members.{Member, rows_of, parts_at}
-use denote.Struct.Parts.{shape_of, PartsBack, Struct-parts}
-use denote.Struct.Struct.{Struct}
+use Rattle.starlark_columns.proofs.Walking.{◌≡◌, ℕ, zero, ◌+◌, List, [], ◌∷◌, Ura, full_share, SProp, ent, sep, wand, ex, all_e, apply∗, size, align, up, ‵, raw, ◌⊛◌, some, ◌$◌, ◌∵◌, !, qed, by, move, use1, use2, split, pick, show, fsplit, fjoin, done, Logic, sem, usize, RattleType, Denots, part_at, part_of, lone, plain_out, Plain-in, view_made, Laws, lawfuls, Member, rows_of, parts_at, shape_of, PartsBack, Struct-parts, Struct}
 use Rattle.core.specs.contracts.option.Option as option
 use Rattle.std.specs.contracts.alloc.Global as Global
 use Rattle.std.specs.declared.cmp.PartialEq as PartialEq

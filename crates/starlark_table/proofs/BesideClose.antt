@@ -4,20 +4,8 @@
 --     closes_beside    the whole R is open at (b, o). Its part T, under the name δ, follows γ' by G, and its part X, under the
 --                      name δ₂, ends as x. With the part at any G w, and x, the rest makes F w of the whole, and `keeps`
 --                      leaves each F w as it is:  the whole follows a new name by `keeps`
-use mathlib.Core.Path.{◌≡◌, refl, sym}
-use Prim.Native.Nat.{ℕ}
-use mathlib.Core.List.{[], ◌∷◌}
-use seplogic.Ra.Ura.{Ura}
-use base.Logic.{SProp, ent, sep, wand, ex, all, all_e, apply∗, upd_i, emp, wand_i, snd∗}
-use base.Fml.{Lft, GName, Share, Fml, fsep, fex, fwand, fupd, fdead, fobs, fauth, fres, flent, flft, fseps}
-use base.Stored.{Gv}
-use ghost.Rules.{aged}
-use types.Kit.{‵, raw, ◌⊛◌, later, ◌$◌, ◌∵◌, !, qed, move, keep, drop, use0, use1, use2, use3, split, fsplit, fsplit3, fjoin, fpick, fpack, suffices, updating, await, now, show, assume, done, feq_l, rewrite, group}
-use types.Logic.{Logic, sem}
-use types.Late.{deep, close_deep}
-use types.SemTy.{SemTy, Body}
-use types.Follow.{after, came, Came, follows_anew}
-use types.Tokens.{name_new, res_agree}
+use Rattle.starlark_columns.proofs.Walking.{◌≡◌, refl, sym, ℕ, [], ◌∷◌, Ura, SProp, ent, sep, wand, ex, all, all_e, apply∗, upd_i, emp, wand_i, snd∗, Lft, GName, Share, Fml, fsep, fex, fwand, fupd, fdead, fobs, fauth, fres, flent, flft, fseps, Gv, aged, ‵, raw, ◌⊛◌, later, ◌$◌, ◌∵◌, !, qed, move, keep, drop, use0, use1, use2, use3, split, fsplit, fsplit3, fjoin, fpick, fpack, suffices, updating, await, now, show, assume, done, feq_l, rewrite, group, Logic, sem, deep, close_deep, SemTy, Body, came, Came, follows_anew, name_new, res_agree}
+use types.Follow.{after}
 
 module _ {M : Type 1} {𝓤 : Ura M} (𝓛 : Logic 𝓤) (R T U X : SemTy) (G : U.rep → T.rep) (F : U.rep → R.rep) (keeps : R.rep → R.rep) (same : (w : U.rep) → keeps (F w) ≡ F w) (x : X.rep)
     (κ : Lft) (q : Share) (b o b₁ o₁ b₂ o₂ : ℕ) (γ δ δ₂ γ' : GName) (Rest : SProp 𝓤)

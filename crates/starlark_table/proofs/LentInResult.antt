@@ -1,25 +1,6 @@
 -- A `Result` of a key and a value that are lent: a clause of one name is made at `Ok` and at `Err`, and a `Result` that a call gave is opened. Assumes `Logic`.
-use mathlib.Core.Path.{◌≡◌, refl, ap, ◌∙◌}
-use Prim.Native.Nat.{ℕ}
-use mathlib.Core.Logic.{◌⊎◌, inl, inr}
-use mathlib.Core.List.{List, [], ◌∷◌, ◌++◌}
-use mathlib.Core.Option.{none, some}
-use seplogic.Ra.Ura.{Ura}
-use mir.Syntax.{named}
-use mir.Val.{Val, of_list, vptr, vstruct, vcons, vnil}
-use base.Logic.{SProp, ent, ex, guard}
-use base.Fml.{Lft, GName, fres}
-use types.Logic.{Logic, sem}
-use types.Kit.{‵, ◌$◌, ◌∵◌, !, qed, by, move, keep, drop, fsplit, fsplit3, fpick, fpack, feq_l, rewrite, show, check, done}
-use types.Match.{live}
-use denote.RattleType.{RattleType}
-use denote.Follow.{follows, follows_so, such_by, follows_by}
-use denote.Laws.{Is, shows}
-use denote.Ref.{Bor, MutBor, MutRef, ShrRef, mut_Tells, shr_Tells}
-use denote.Param.{layout}
-use denote.Steps.{peeks, only}
-use Rattle.core.proofs.cell.Inside.{Good}
-use denote.Struct.Tuple.{Tuple}
+use Rattle.starlark_columns.proofs.Walking.{◌≡◌, refl, ap, ◌∙◌, ℕ, ◌⊎◌, inl, inr, List, [], ◌∷◌, ◌++◌, none, Ura, named, Val, of_list, vptr, vstruct, vcons, vnil, SProp, ent, ex, guard, Lft, GName, fres, Logic, sem, ‵, ◌$◌, ◌∵◌, !, qed, by, move, keep, drop, fsplit, fsplit3, fpick, fpack, feq_l, rewrite, show, check, done, live, RattleType, follows, follows_so, such_by, follows_by, Is, shows, Bor, MutBor, MutRef, ShrRef, mut_Tells, shr_Tells, layout, peeks, only, Good, Tuple}
+use mathlib.Core.Option.{some}
 use Rattle.core.specs.declared.result.Result.{Result}
 use Rattle.core.specs.declared.result.Result.TheVariants.{Ok, Err}
 use Rattle.core.specs.contracts.result.Result as RS

@@ -1,16 +1,6 @@
 -- The walk that writes the values of a table, under another name for its loan. Assumes `Logic`.
-use mathlib.Core.Path.{◌≡◌, ap}
-use mathlib.Core.List.{List, [], ◌∷◌}
-use seplogic.Ra.Ura.{Ura}
-use mir.Val.{Val}
-use base.Logic.{ent}
-use base.Fml.{GName, ftrue, fsep}
-use types.Logic.{Logic, sem}
-use types.Kit.{‵, ◌$◌, ◌∵◌, !, qed, use1, move, fsplit, fjoin, fpick, fpack, done}
-use denote.RattleType.{RattleType, Valss}
-use denote.Ref.{NamedLft}
-use denote.Struct.Declared.{fields, shape}
-use denote.Struct.Struct.{within}
+use Rattle.starlark_columns.proofs.Walking.{◌≡◌, ap, List, [], ◌∷◌, Ura, Val, ent, GName, ftrue, fsep, Logic, sem, ‵, ◌$◌, ◌∵◌, !, qed, use1, move, fsplit, fjoin, fpick, fpack, done, RattleType, Valss, NamedLft, fields, within}
+use denote.Struct.Declared.{shape}
 use Rattle.starlark_table.specs.contracts.loan.PairLoan as L
 use Rattle.starlark_table.specs.contracts.loan.PairLoan.TheInside as LI
 use Rattle.starlark_table.specs.declared.loan.PairLoan.{PairLoan}

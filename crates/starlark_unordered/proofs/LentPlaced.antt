@@ -1,34 +1,8 @@
 -- A `&mut` and a `Result` beside it: laws of both, and the pair opened. Assumes `Logic`.
-use mathlib.Core.Path.{◌≡◌, refl, sym, subst, ap, ◌∙◌}
+use Rattle.starlark_columns.proofs.Walking.{◌≡◌, refl, sym, subst, ap, ◌∙◌, List, [], ◌∷◌, ◌++◌, Ura, named, Val, of_list, vptr, vstruct, vcons, vnil, SProp, ent, sep, ex, guard, Lft, GName, Logic, sem, ‵, ◌$◌, ◌∵◌, !, qed, move, drop, fsplit, fsplit3, fpick, fpack, feq_l, rewrite, show, check, done, ◌⊑◌, ⊑_meet, RattleType, lives_all, in_all, usize, Is, shows, follows_so, such_by, follows_by, NamedLft, MutBor, MutRef, ShrRef, mut_vals, mut_Tells, Last, left, no, layout, param, blank, Laws, is_one, of_field, row_shared, copy_shared, mut_ref_shared, peeks, only, usize-field, mut_ref_field, shr_ref_field, usize-laws, usize-copy, mut_ref_laws, shr_ref_laws, shr_ref_copy, Tuple, tuple_laws, Good, result_laws}
 use mathlib.Core.Option.{Option}
-use mathlib.Core.List.{List, [], ◌∷◌, ◌++◌}
-use seplogic.Ra.Ura.{Ura}
-use mir.Syntax.{named}
-use mir.Val.{Val, of_list, vptr, vstruct, vcons, vnil}
-use base.Logic.{SProp, ent, sep, ex, guard}
-use base.Fml.{Lft, GName}
-use types.Logic.{Logic, sem}
-use types.Kit.{‵, ◌$◌, ◌∵◌, !, qed, move, drop, fsplit, fsplit3, fpick, fpack, feq_l, rewrite, show, check, done}
-use contract.BorrowLft.{◌⊑◌, ⊑_meet}
-use denote.RattleType.{RattleType, lives_all}
-use denote.Param.Lives.{in_all}
-use denote.Builtin.{usize}
-use denote.Laws.{Is, shows}
-use denote.Follow.{follows_so, such_by, follows_by}
-use denote.Ref.{NamedLft, MutBor, MutRef, ShrRef, mut_vals, mut_Tells}
-use denote.Exit.{Last, left, no}
-use denote.Param.{layout, param}
-use denote.Param.Mute.{blank}
 use lib.Dec.{T}
 use Rattle.core.specs.declared.result.Result.TheVariants.{Ok, Err}
-use denote.Param.Laws.{Laws, is_one, of_field, row_shared}
-use denote.Param.Shared.{copy_shared, mut_ref_shared}
-use denote.Steps.{peeks, only}
-use denote.Struct.Field.{usize-field, mut_ref_field, shr_ref_field}
-use denote.Struct.Laws.{usize-laws, usize-copy, mut_ref_laws, shr_ref_laws, shr_ref_copy}
-use denote.Struct.Tuple.{Tuple, tuple_laws}
-use Rattle.core.proofs.cell.Inside.{Good}
-use Rattle.core.proofs.result.Result.TheLaws.{the_row_laws as result_laws}
 use Rattle.core.specs.contracts.result.Result as RS
 use Rattle.starlark_columns.proofs.LoneValue.{lone_value}
 

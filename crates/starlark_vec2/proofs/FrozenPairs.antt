@@ -3,45 +3,9 @@
 --     run_made             a `&mut [(K, V)]` becomes such a run, and the slice follows its loan
 --     end_out              the first or the last pair comes off, beside the run of the others
 --     pair_out             of a pair that came off: a `&` to the first part and a `&mut` to the second
-use mathlib.Core.Path.{◌≡◌, refl, sym, ap, subst, ◌∙◌}
-use Prim.Native.Nat.{ℕ, zero, suc, ◌+◌, ◌*◌, ◌<◌, ◌≤◌}
-use native.Mathlib.Nat.{suc-mul}
-use native.Mathlib.Omega.{arith}
-use mathlib.Core.List.{List, [], ◌∷◌, ◌++◌}
-use lib.ListN.{length, length-append}
-use seplogic.Ra.Ura.{Ura}
-use mir.Syntax.{Lifetime}
-use mir.Val.{Val, vptr, vstruct, vcons, vnil}
-use base.Fraction.{full_share}
-use base.Logic.{SProp, ent, sep, emp, wand, id⊢, all_e, apply∗}
-use base.Fml.{Lft, GName, Share, Fml, Incl, Incl-refl, ftrue, fseps, flft, fobs, fbor}
-use base.Stored.{coded_list}
-use prog.Memory.{size, align, up}
-use types.Kit.{Item, ‵, raw, ◌⊛◌, some, later, mean, ◌$◌, ◌∵◌, !, qed, by, move, keep, drop, use0, use1, use2, split, split3, pick, fsplit, fsplit3, fjoin, fjoin3, fpack, feq_i, feq_l, rewrite, group, await, updating, now, show, done}
-use types.Logic.{Logic, sem}
-use types.SemTy.{cells, Arr, Body}
-use types.Mut.{open_ref}
-use types.Follow.{after, after₂, takes_part, takes_two, takes_beside}
-use denote.Array.{Array}
-use denote.Follow.{follows}
-use denote.FollowSlice.{heres_id}
-use denote.Memory.{mem, lone, part_at, part_of}
-use denote.Opens.{hide}
-use denote.Param.{param}
-use denote.Param.Laws.{Laws, param_laws}
-use denote.RattleType.{RattleType, Denots, Valss}
-use denote.Ref.{MutRef, ShrRef}
-use denote.Slice.{MutSlice}
-use denote.Steps.{nothing}
-use denote.Struct.Loose.{lawfuls}
-use denote.Struct.Members.{Member, rows_of, parts_at}
-use denote.Struct.Parts.{shape_of, PartsBack, Struct-parts}
-use denote.Struct.Struct.{Struct, within}
+use Rattle.starlark_columns.proofs.Walking.{◌≡◌, refl, sym, ap, subst, ◌∙◌, ℕ, zero, suc, ◌+◌, ◌*◌, ◌<◌, ◌≤◌, suc-mul, arith, List, [], ◌∷◌, ◌++◌, length, length-append, Ura, Lifetime, Val, vptr, vstruct, vcons, vnil, full_share, SProp, ent, sep, emp, wand, id⊢, all_e, apply∗, Lft, GName, Share, Fml, Incl, Incl-refl, ftrue, fseps, flft, fobs, fbor, coded_list, size, align, up, Item, ‵, raw, ◌⊛◌, some, later, mean, ◌$◌, ◌∵◌, !, qed, by, move, keep, drop, use0, use1, use2, split, split3, pick, fsplit, fsplit3, fjoin, fjoin3, fpack, feq_i, feq_l, rewrite, group, await, updating, now, show, done, Logic, sem, cells, Arr, Body, open_ref, after₂, takes_part, takes_two, takes_beside, Array, follows, heres_id, mem, lone, part_at, part_of, hide, param, Laws, param_laws, RattleType, Denots, Valss, MutRef, ShrRef, MutSlice, nothing, lawfuls, Member, rows_of, parts_at, shape_of, PartsBack, Struct-parts, Struct, within, Tuple, tuple_type, parts_loose, at, at_mul, cut_app, join_app, add_times, inl, inr, ◌⊎◌}
+use types.Follow.{after}
 use denote.Struct.Declared.{shape}
-use denote.Struct.Tuple.{Tuple, tuple_type, parts_loose}
-use borrow.Table.Elements.{at, at_mul, cut_app, join_app}
-use Rattle.core.proofs.ptr.Rows.{add_times}
-use Rattle.std.proofs.Common.{inl, inr, ◌⊎◌}
 use Rattle.std.specs.Prelude.{Option}
 use Rattle.starlark_columns.specs.Places.{items_of}
 use Rattle.starlark_columns.specs.Front.{IsFront, with_items}

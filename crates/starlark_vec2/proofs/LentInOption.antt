@@ -1,26 +1,7 @@
 -- A clause of two names at `Some` and at `None`, and an `Option` that a call gave, opened.
 -- Assumes `Logic`.
-use mathlib.Core.Path.{◌≡◌, refl, ap, ◌∙◌}
-use mathlib.Core.Logic.{◌⊎◌, inl, inr}
-use mathlib.Core.List.{List, [], ◌∷◌, ◌++◌}
-use mathlib.Core.Option.{none, some}
-use seplogic.Ra.Ura.{Ura}
-use mir.Syntax.{named}
-use mir.Val.{Val, of_list, vptr, vstruct, vcons, vnil}
-use base.Logic.{ent, guard}
-use base.Fml.{Lft, GName, fres}
-use types.Logic.{Logic, sem}
-use types.Kit.{‵, ◌$◌, ◌∵◌, !, qed, by, keep, fsplit, fpick, feq_l, rewrite, check, done}
-use types.Match.{live}
-use contract.Monad.{fact, fact_i}
-use denote.RattleType.{RattleType}
-use denote.Follow.{follows, follows_if, follows_by, follows_both, follows_both_if, both_if_by}
-use denote.Laws.{Is, shows}
-use denote.Param.{layout}
-use denote.Ref.{MutBor, MutRef}
-use denote.Steps.{peeks, only}
-use denote.Struct.Tuple.{Tuple}
-use Rattle.core.proofs.cell.Inside.{Good}
+use Rattle.starlark_columns.proofs.Walking.{◌≡◌, refl, ap, ◌∙◌, ◌⊎◌, inl, inr, List, [], ◌∷◌, ◌++◌, none, Ura, named, Val, of_list, vptr, vstruct, vcons, vnil, ent, guard, Lft, GName, fres, Logic, sem, ‵, ◌$◌, ◌∵◌, !, qed, by, keep, fsplit, fpick, feq_l, rewrite, check, done, live, fact, fact_i, RattleType, follows, follows_if, follows_by, follows_both, follows_both_if, both_if_by, Is, shows, layout, MutBor, MutRef, peeks, only, Tuple, Good}
+use mathlib.Core.Option.{some}
 use Rattle.core.specs.declared.option.Option.{Option}
 use Rattle.core.specs.declared.option.Option.TheVariants.{None, Some}
 use Rattle.core.specs.contracts.option.Option as OP

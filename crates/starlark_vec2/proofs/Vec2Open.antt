@@ -1,32 +1,6 @@
 -- A `Vec2` in memory is its two columns and the rest, and back, at any columns of which the invariant holds. Assumes `Logic`.
-use mathlib.Core.Path.{◌≡◌, refl}
-use Prim.Native.Nat.{ℕ, zero, ◌+◌, ◌<◌, ◌^◌}
-use mathlib.Core.List.{List, [], ◌∷◌}
-use seplogic.Ra.Ura.{Ura}
-use base.Fraction.{full_share}
-use mir.Syntax.{w64}
-use mir.Val.{Val, vint}
-use base.Fml.{Fml, fsep}
-use base.Logic.{SProp, ent, sep, emp, wand, ex, all_e, apply∗}
-use contract.Monad.{fact, fact_i}
-use prog.Memory.{size, align, up}
-use types.Kit.{‵, raw, ◌⊛◌, some, ◌$◌, ◌∵◌, !, qed, by, move, use0, use1, use2, split, pick, show, fsplit, fsplit3, fjoin, fpick, fpack, rewrite, done}
-use types.Logic.{Logic, sem}
-use denote.RattleType.{RattleType, Denots}
-use denote.Laws.{shows}
-use denote.Memory.{part_at, part_of, cell_at, lone}
-use denote.Model.Fields.{plain_out, Plain-in, view_made}
-use denote.Param.Laws.{Laws}
-use denote.Plain.{uint_Makes}
-use denote.Steps.{facts, owned}
-use denote.Struct.Declared.{field}
-use denote.Struct.Field.{usize-field}
-use denote.Struct.Loose.{lawfuls}
-use denote.Struct.Members.{Member, rows_of, parts_at}
-use denote.Struct.Parts.{shape_of, PartsBack, Struct-parts}
-use denote.Struct.Struct.{Struct}
+use Rattle.starlark_columns.proofs.Walking.{◌≡◌, refl, ℕ, zero, ◌+◌, ◌<◌, ◌^◌, List, [], ◌∷◌, Ura, full_share, w64, Val, vint, Fml, fsep, SProp, ent, sep, emp, wand, ex, all_e, apply∗, fact, fact_i, size, align, up, ‵, raw, ◌⊛◌, some, ◌$◌, ◌∵◌, !, qed, by, move, use0, use1, use2, split, pick, show, fsplit, fsplit3, fjoin, fpick, fpack, rewrite, done, Logic, sem, RattleType, Denots, shows, part_at, part_of, cell_at, lone, plain_out, Plain-in, view_made, Laws, uint_Makes, facts, owned, field, usize-field, lawfuls, Member, rows_of, parts_at, shape_of, PartsBack, Struct-parts, Struct, ghosts}
 use Rattle.std.specs.contracts.alloc.Global as heap
-use Rattle.std.specs.contracts.impls.GlobalAllocator.TheImpl.{ghosts}
 use Rattle.starlark_columns.specs.contracts.block.PairClaim as claim
 use Rattle.starlark_vec2.specs.ColumnLending.{column}
 use Rattle.starlark_vec2.specs.declared.vec2.Vec2.TheInside.{Inside}

@@ -1,14 +1,5 @@
 -- The walk that writes the values of pairs, under another name for the loan of all. Assumes `Logic`.
-use mathlib.Core.Path.{◌≡◌, ap}
-use mathlib.Core.List.{List, [], ◌∷◌}
-use seplogic.Ra.Ura.{Ura}
-use mir.Val.{Val}
-use base.Logic.{ent}
-use base.Fml.{GName, ftrue, fsep}
-use types.Logic.{Logic, sem}
-use types.Kit.{‵, ◌$◌, ◌∵◌, !, qed, fpick, fpack, done}
-use denote.RattleType.{RattleType}
-use denote.Ref.{NamedLft}
+use Rattle.starlark_columns.proofs.Walking.{◌≡◌, ap, List, [], ◌∷◌, Ura, Val, ent, GName, ftrue, fsep, Logic, sem, ‵, ◌$◌, ◌∵◌, !, qed, fpick, fpack, done, RattleType, NamedLft}
 use Rattle.starlark_vec2.specs.contracts.pairs_mut.PairsMut as C
 use Rattle.starlark_vec2.specs.contracts.pairs_mut.PairsMut.TheInside as I
 use Rattle.starlark_vec2.specs.declared.pairs_mut.PairsMut.TheInside.{Inside}

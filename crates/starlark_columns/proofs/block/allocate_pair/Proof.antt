@@ -1,50 +1,11 @@
 -- `allocate_pair` asks for a block of two arrays, and cuts it into the places of both and the right to give it back. Assumes `Logic`.
-use Rattle.std.proofs.Common.{◌≡◌, ℕ, ◌+◌, ◌*◌, ◌<◌, ◌^◌, Option, None, Bool, true, false, List, [], ◌∷◌, length, refl, sym, ap, subst, ◌∙◌, lit<, w64, IfOk, Ok, Err}
-use base.Fml.{Fml, ftrue, fsep, froom, flft, Incl-trans}
-use base.Logic.{SProp, emp}
-use contract.BorrowLft.{◌⊑◌}
-use contract.Monad.{fact, fact_i}
-use contract.Running.{tables}
-use lib.Dec.{eqb}
-use lib.ListN.{length-replicate}
-use mathlib.Core.Bool.{cond}
-use mir.MapTy.{inst_fn}
-use mir.Raw.{raw as bare}
-use mir.Syntax.{Ty, Body, named, ty_array, a_type, dcons, dnil}
-use mir.Val.{Val, vint, vptr, vstruct, vcons, vnil, WT}
-use prog.Memory.{capped}
-use prog.RawLaws.{size-raw, align-raw}
-use prog.Wp.{Wp, after_seq, at_return}
-use types.ByLocal.{alloc_all, pass_all, free_all, look_at, get, get_in, get_tag, sets, sets_last, lands_as, env}
-use types.Kit.{Post as After, any_q, ‵, raw, ◌⊛◌, later, at_ret, ◌$◌, ◌∵◌, !, qed, by, move, keep, use0, use1, use2, split, split3, join, group, rewrite, fsplit, fjoin, flt_i, await}
-use types.Match.{live, vrt, in_variant}
-use types.Part.{whole, agg}
-use types.Run.{stop, fld, lit, no_more, and_then, of_opd, bin, first, blocks, switches_on, exec, returns, enter}
-use denote.Builtin.{RefOf, usize}
-use denote.Exit.{yes}
-use denote.Laws.{Is}
-use denote.Param.{param, bounded}
-use denote.Plain.{uint_vals, uint_Tells}
-use denote.RattleType.{RattleType, owns}
-use denote.RawPtr.{Ptr, block_ptr}
-use denote.Ref.{shr_vals, shr_Tells}
-use denote.Signature.{plain, types_at}
-use denote.Steps.{heard, nothing, owned}
+use Rattle.starlark_columns.proofs.Walking.{◌≡◌, ℕ, ◌+◌, ◌*◌, ◌<◌, ◌^◌, Option, Bool, true, false, List, [], ◌∷◌, length, refl, sym, ap, subst, ◌∙◌, lit<, w64, IfOk, Ok, Err, Fml, ftrue, fsep, froom, flft, Incl-trans, SProp, emp, ◌⊑◌, fact, fact_i, tables, eqb, length-replicate, cond, inst_fn, bare, Ty, named, ty_array, a_type, dcons, dnil, Val, vint, vptr, vstruct, vcons, vnil, WT, capped, size-raw, align-raw, Wp, after_seq, at_return, alloc_all, pass_all, free_all, look_at, get, get_in, get_tag, sets, sets_last, lands_as, env, After, any_q, ‵, raw, ◌⊛◌, later, at_ret, ◌$◌, ◌∵◌, !, qed, by, move, keep, use0, use1, use2, split, split3, join, group, rewrite, fsplit, fjoin, flt_i, await, live, vrt, in_variant, whole, agg, stop, fld, lit, no_more, and_then, of_opd, bin, first, blocks, switches_on, exec, returns, enter, RefOf, usize, yes, Is, param, bounded, uint_vals, uint_Tells, RattleType, owns, Ptr, block_ptr, shr_vals, shr_Tells, plain, types_at, heard, nothing, owned, Struct, Struct-Makes, Tuple, calls_at, framed, Stays, stay_dropped, walk_of, Goes-dropped, Al, token, Answer-typed, Takes, at_takes, Answered, Takes-goes, Takes-gives, answers, El, elτ, HasLayout, after, head, arm_body, proved, leaves, type_size, ok_of, err_of}
+use Rattle.std.proofs.Common.{None}
+use mir.Syntax.{Body}
 use denote.Struct.Declared as Declared
-use denote.Struct.Struct.{Struct, Struct-Makes}
-use denote.Struct.Tuple.{Tuple}
-use denote.Triple.Call.{calls_at}
-use denote.Triple.Table.{framed}
-use denote.Triple.Walked.{Stays, stay_dropped, walk_of, Goes-dropped}
-use Rattle.core.proofs.alloc.Calls.{Al, token, Answer-typed, Takes, at_takes, Answered, Takes-goes, Takes-gives, answers}
-use Rattle.core.proofs.mem.Param.{El, R, elτ}
-use Rattle.core.specs.Allocator.{HasLayout}
-use Rattle.core.proofs.slots.Bodies.{after, head, arm_body}
+use Rattle.core.proofs.mem.Param.{R}
 use Rattle.core.specs.contracts.alloc.AllocError as refusal
 use Rattle.core.specs.contracts.result.Result as outcome
-use Rattle.std.proofs.raw_atomic.Walks.{proved, leaves}
-use Rattle.std.specs.Mem.{type_size}
-use Rattle.std_alloc.proofs.ResultValues.{ok_of, err_of}
 use Rattle.starlark_columns.specs.Places.{empties}
 use Rattle.starlark_columns.specs.Paired.{two_arrays, pair_ty, second_offset, rooms_rejoin}
 use Rattle.starlark_columns.proofs.PairRooms.{cut_in_two, some_weight, both_within}

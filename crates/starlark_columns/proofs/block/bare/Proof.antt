@@ -1,30 +1,7 @@
 -- `bare` makes places of no bytes out of nothing. Assumes `Logic`.
-use Rattle.std.proofs.Common.{◌≡◌, Option, None, ℕ, ◌*◌, ◌<◌, ◌^◌, List, [], ◌∷◌, length, refl, sym, subst, lit<, w64}
-use base.Fml.{ftrue, flft}
-use base.Logic.{emp}
-use contract.BorrowLft.{◌⊑◌}
-use contract.Monad.{fact, fact_i}
-use lib.ListN.{length-replicate}
-use mir.MapTy.{inst_fn}
-use mir.Syntax.{a_type}
-use mir.Val.{Val, vint, vstruct, vcons, vnil}
-use types.ByLocal.{alloc_all, pass_all, free_all, look_at, get, sets}
-use types.Kit.{‵, raw, ◌⊛◌, ◌$◌, ◌∵◌, !, qed, by, move, keep, use0, use2, split, fjoin, flt_i}
-use types.Part.{agg}
-use types.Run.{stop, from, addr, and_then, no_more, returns, enter}
-use denote.Builtin.{usize}
-use denote.Exit.{yes}
-use denote.Param.{layouts}
-use denote.Plain.{uint_vals, uint_Tells}
-use denote.RattleType.{owns}
-use denote.RawPtr.{Ptr, block_ptr}
-use denote.Signature.{plain, types_at}
-use denote.Steps.{heard, nothing}
-use denote.Struct.Tuple.{Tuple}
-use denote.Triple.Walked.{Stays, stay_dropped, walk_of, Goes-dropped}
-use Rattle.core.proofs.mem.Param.{El, R}
-use Rattle.std.proofs.raw_atomic.Walks.{proved, leaves}
-use Rattle.std.specs.Mem.{type_size}
+use Rattle.starlark_columns.proofs.Walking.{◌≡◌, Option, ℕ, ◌*◌, ◌<◌, ◌^◌, List, [], ◌∷◌, length, refl, sym, subst, lit<, w64, ftrue, flft, emp, ◌⊑◌, fact, fact_i, length-replicate, inst_fn, a_type, Val, vint, vstruct, vcons, vnil, alloc_all, pass_all, free_all, look_at, get, sets, ‵, raw, ◌⊛◌, ◌$◌, ◌∵◌, !, qed, by, move, keep, use0, use2, split, fjoin, flt_i, agg, stop, from, addr, and_then, no_more, returns, enter, usize, yes, layouts, uint_vals, uint_Tells, owns, Ptr, block_ptr, plain, types_at, heard, nothing, Tuple, Stays, stay_dropped, walk_of, Goes-dropped, El, proved, leaves, type_size}
+use Rattle.std.proofs.Common.{None}
+use Rattle.core.proofs.mem.Param.{R}
 use Rattle.starlark_columns.specs.Places.{empties}
 use Rattle.starlark_columns.proofs.Fields.{word, mark, both, address_made, HeldData, held_made}
 use Rattle.starlark_columns.proofs.Memory.{Row, weightless}

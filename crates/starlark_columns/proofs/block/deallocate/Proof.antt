@@ -1,40 +1,7 @@
 -- `deallocate` makes one room of the bare places, and hands it back with the right to do so. Assumes `Logic`.
-use Rattle.std.proofs.Common.{◌≡◌, ℕ, ◌*◌, ◌<◌, ◌^◌, Option, None, T, Bool, false, List, [], ◌∷◌, refl, sym, ap, subst, ◌∙◌, arith, w64}
-use base.Fml.{Fml, ftrue, fsep, froom, flft, Incl-trans}
-use base.Logic.{SProp, never, id⊢}
-use contract.BorrowLft.{◌⊑◌}
-use contract.Monad.{fact}
-use contract.Running.{tables}
-use lib.Dec.{eqb}
-use lib.ListN.{length-replicate}
-use mathlib.Core.Bool.{cond}
-use mir.MapTy.{inst_fn}
-use mir.Syntax.{Ty, named, ty_unit, ty_array}
-use mir.Val.{Val, vunit, vint, vptr, has_ty, WT}
-use prog.Capped.{capped_fits}
-use prog.Memory.{align, capped}
-use types.ByLocal.{alloc_all, pass_all, free_all, look_at, get, get_in, is, sets, lands_last, env}
-use types.Kit.{‵, raw, ◌⊛◌, given, later, at_ret, ◌$◌, ◌∵◌, !, qed, by, move, keep, use1, group, split, join, learn, rewrite, fsplit, fjoin, feq_i, flt_l, await}
-use types.Part.{whole, sub}
-use types.Run.{stop, fld, unit_lit, size_word, align_word, no_more, and_then, of_opd, bin, first, blocks, exec, returns, enter}
-use denote.Builtin.{RefOf, usize}
-use denote.Exit.{yes, no}
-use denote.Param.{param}
-use denote.Plain.{uint_vals, uint_Tells}
-use denote.RattleType.{RattleType, owns}
-use denote.RawPtr.{Ptr, block_ptr, ptr_val, in_block, in_a_block}
-use denote.Ref.{shr_vals, shr_Tells}
-use denote.Signature.{plain, types_at}
-use denote.Steps.{heard, nothing}
-use denote.Triple.Call.{calls_at_last}
-use denote.Triple.Table.{framed}
-use denote.Triple.Walked.{Stays, stay_dropped, walk_of, Goes-dropped}
-use Rattle.core.proofs.alloc.Calls.{Al, token, Gives, at_gives, Gives-goes, Gives-Gives}
-use Rattle.core.proofs.mem.Param.{El, R, elτ}
-use Rattle.core.proofs.slots.Bodies.{after}
-use Rattle.core.proofs.slots.Leases.{uncapped, block_ty, block_size, block_align, args}
-use Rattle.std.proofs.raw_atomic.Walks.{proved, leaves}
-use Rattle.std.specs.Mem.{type_size}
+use Rattle.starlark_columns.proofs.Walking.{◌≡◌, ℕ, ◌*◌, ◌<◌, ◌^◌, Option, Bool, false, List, [], ◌∷◌, refl, sym, ap, subst, ◌∙◌, arith, w64, Fml, ftrue, fsep, froom, flft, Incl-trans, SProp, never, id⊢, ◌⊑◌, fact, tables, eqb, length-replicate, cond, inst_fn, Ty, named, ty_unit, ty_array, Val, vunit, vint, vptr, has_ty, WT, capped_fits, align, capped, alloc_all, pass_all, free_all, look_at, get, get_in, is, sets, lands_last, env, ‵, raw, ◌⊛◌, given, later, at_ret, ◌$◌, ◌∵◌, !, qed, by, move, keep, use1, group, split, join, learn, rewrite, fsplit, fjoin, feq_i, flt_l, await, whole, sub, stop, fld, unit_lit, size_word, align_word, no_more, and_then, of_opd, bin, first, blocks, exec, returns, enter, RefOf, usize, yes, no, param, uint_vals, uint_Tells, RattleType, owns, Ptr, block_ptr, ptr_val, in_block, in_a_block, shr_vals, shr_Tells, plain, types_at, heard, nothing, calls_at_last, framed, Stays, stay_dropped, walk_of, Goes-dropped, Al, token, Gives, at_gives, Gives-goes, Gives-Gives, El, elτ, after, uncapped, block_ty, block_size, block_align, args, proved, leaves, type_size}
+use Rattle.std.proofs.Common.{None, T}
+use Rattle.core.proofs.mem.Param.{R}
 use Rattle.starlark_columns.specs.Owned.{places_owned, row_owned}
 use Rattle.starlark_columns.specs.Places.{empties}
 use Rattle.starlark_columns.proofs.Fields.{word, word_good, mark, address_told, held_told, claim_told}

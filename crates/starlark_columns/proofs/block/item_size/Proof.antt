@@ -1,21 +1,5 @@
 -- `item_size` is the machine's own number. Assumes `Logic`.
-use Rattle.std.proofs.Common.{ℕ, ◌≡◌, ◌^◌, List, [], ◌∷◌, refl, w64}
-use base.Fml.{ftrue, flft}
-use base.Logic.{emp}
-use contract.Monad.{fact, fact_i}
-use mir.MapTy.{inst_fn}
-use mir.Syntax.{a_type}
-use mir.Val.{Val, vint}
-use prog.Capped.{capped_fits}
-use prog.Memory.{capped}
-use types.ByLocal.{alloc_all, pass_all, free_all, look_at, sets}
-use types.Kit.{‵, raw, ◌⊛◌, ◌$◌, ◌∵◌, !, qed, by, move, keep, use0, fjoin, feq_i, flt_i, split}
-use types.Run.{size_word, of_opd, returns, enter}
-use denote.Param.{param, layouts}
-use denote.Steps.{nothing}
-use denote.Triple.Walked.{walk_of}
-use Rattle.std.proofs.raw_atomic.Walks.{proved, leaves}
-use Rattle.std.specs.Mem.{type_size}
+use Rattle.starlark_columns.proofs.Walking.{ℕ, ◌≡◌, ◌^◌, List, [], ◌∷◌, refl, w64, ftrue, flft, emp, fact, fact_i, inst_fn, a_type, Val, vint, capped_fits, capped, alloc_all, pass_all, free_all, look_at, sets, ‵, raw, ◌⊛◌, ◌$◌, ◌∵◌, !, qed, by, move, keep, use0, fjoin, feq_i, flt_i, split, size_word, of_opd, returns, enter, param, layouts, nothing, walk_of, proved, leaves, type_size}
 use Rattle.starlark_columns.specs.contracts.block.item_size.{ended, clauses}
 use Rattle.starlark_columns.specs.contracts.block.item_size.Key as key
 use Rattle.starlark_columns.proofs.block.item_size.Statement.{statement}

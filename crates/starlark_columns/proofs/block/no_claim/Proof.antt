@@ -1,32 +1,5 @@
 -- `no_claim` is a right to nothing. Assumes `Logic`.
-use Rattle.std.proofs.Common.{◌≡◌, ℕ, ◌+◌, ◌*◌, [], ◌∷◌, Bool, true, refl, sym, ap, w64}
-use lib.Dec.{eqb}
-use mathlib.Core.Bool.{cond}
-use base.Fml.{Fml, ftrue, fsep, flft}
-use base.Logic.{emp}
-use contract.BorrowLft.{◌⊑◌}
-use contract.Monad.{fact, fact_i}
-use mir.MapTy.{inst_fn}
-use mir.Raw.{raw as bare}
-use mir.Syntax.{a_type, named, dcons, dnil}
-use mir.Val.{vint, vptr}
-use types.ByLocal.{alloc_all, pass_all, free_all, look_at, get, sets}
-use types.Kit.{‵, raw, ◌⊛◌, ◌$◌, ◌∵◌, !, qed, by, move, keep, use0, split, fjoin, rewrite}
-use types.Part.{agg}
-use types.Run.{and_then, no_more, returns, enter}
-use denote.Builtin.{RefOf, usize}
-use denote.Exit.{yes, no}
-use denote.Memory.{lone}
-use denote.Param.{param, bounded}
-use denote.Plain.{uint_vals, uint_Tells}
-use denote.RattleType.{RattleType, owns}
-use denote.RawPtr.{Ptr}
-use denote.Ref.{shr_vals, shr_Tells}
-use denote.Signature.{plain, types_at}
-use denote.Steps.{heard, nothing}
-use denote.Triple.Walked.{Stays, stay_dropped, walk_of, Goes-dropped}
-use Rattle.std.proofs.raw_atomic.Walks.{proved, leaves}
-use Rattle.std.specs.Mem.{type_size}
+use Rattle.starlark_columns.proofs.Walking.{◌≡◌, ℕ, ◌+◌, ◌*◌, [], ◌∷◌, Bool, true, refl, sym, ap, w64, eqb, cond, Fml, ftrue, fsep, flft, emp, ◌⊑◌, fact, fact_i, inst_fn, bare, a_type, named, dcons, dnil, vint, vptr, alloc_all, pass_all, free_all, look_at, get, sets, ‵, raw, ◌⊛◌, ◌$◌, ◌∵◌, !, qed, by, move, keep, use0, split, fjoin, rewrite, agg, and_then, no_more, returns, enter, RefOf, usize, yes, no, lone, param, bounded, uint_vals, uint_Tells, RattleType, owns, Ptr, shr_vals, shr_Tells, plain, types_at, heard, nothing, Stays, stay_dropped, walk_of, Goes-dropped, proved, leaves, type_size}
 use Rattle.starlark_columns.specs.Paired.{two_arrays, rooms_rejoin}
 use Rattle.starlark_columns.proofs.Fields.{word, word_good, mark, address_told, PairClaimData, pair_claim_made}
 use Rattle.starlark_columns.specs.contracts.block.Address as address

@@ -1,56 +1,8 @@
 -- `lend_placed` meets its contract, at any types: where there is a place, the map is lent for good to the call that shows the pair, and else it is given up. Assumes `Logic`.
-use mathlib.Core.Path.{◌≡◌, refl, sym, subst, ap, ◌∙◌}
-use mathlib.Core.Logic.{inl, inr}
-use Prim.Native.Nat.{ℕ, ◌<◌, ◌^◌}
-use native.Mathlib.Nat.{suc-ne-zero}
-use mathlib.Core.List.{List, [], ◌∷◌}
-use lib.Dec.{lit<}
-use seplogic.Ra.Ura.{Ura}
-use mir.Syntax.{Fn, Args, Dict, a_type, dcons, dnil, named, w64}
-use mir.MapTy.{inst_fn}
-use mir.Val.{Val, vint, vcons, vnil, of_list}
-use base.Logic.{SProp, ent, emp, id⊢, ex_e, snd∗}
-use base.Fml.{Lft, Share, ftrue, flft, fres}
-use prog.Memory.{Memory}
-use prog.Routine.{Routine}
-use prog.Wp.{Env, Calls, Loops, WpFn}
-use types.Logic.{Logic, sem}
-use types.Match.{live, vrt, in_variant, by_variants}
-use contract.BorrowLft.{◌⊑◌}
-use contract.Monad.{Fun, fact, fact_i}
-use contract.Running.{tables}
-use sound.WpLaws.{FmC}
-use types.Kit.{‵, raw, ◌⊛◌, some, given, later, prop, at_ret, ◌$◌, ◌∵◌, !, qed, move, keep, drop, use0, use1, split, split3, join, pick, learn, fsplit, fjoin, suffices, frame, await, rewrite, regoal, group, done}
-use types.Part.{whole, agg}
-use types.Run.{stop, fld, addr, lit, of_opd, and_then, no_more, first, exec, returns, enter}
-use types.ByLocal.{alloc_all, pass_all, free_all, look_at, get, get_in, get_tag, through, sets, sets_last, lands_as, env}
-use types.Part.{sub}
-use denote.Exit.{no, rest}
-use denote.RattleType.{RattleType, owns}
-use denote.Builtin.{usize}
-use denote.Follow.{follows}
-use denote.Param.{param, bounded, layout}
-use denote.Param.Laws.{Laws, param_laws}
-use denote.Plain.{uint_Makes, uint_Tells}
-use denote.Ref.{Bor, MutBor, MutRef, ShrRef, mut_vals}
-use denote.Signature.{plain, types_at}
-use denote.Steps.{nothing, owned, heard}
-use denote.Struct.Tuple.{Tuple}
-use denote.Triple.Call.{calls_at}
-use denote.Triple.Clauses.{Clauses, Ended, ensured, lasts}
-use denote.Triple.Spec.{triple_of}
-use denote.Triple.Statement.{Contract, Triple}
-use denote.Triple.Table.{framed}
-use denote.Triple.Walked.{Stays, stay_dropped, walk_of, ends_at}
-use Rattle.core.proofs.alloc.Calls.{Goes-blank}
-use Rattle.core.proofs.cell.Inside.{Good}
-use Rattle.core.proofs.result.Made.{Ok-of, Err-of}
+use Rattle.starlark_columns.proofs.Walking.{◌≡◌, refl, sym, subst, ap, ◌∙◌, inl, inr, ℕ, ◌<◌, ◌^◌, suc-ne-zero, List, [], ◌∷◌, lit<, Ura, Fn, Args, Dict, a_type, dcons, dnil, named, w64, inst_fn, Val, vint, vcons, vnil, of_list, SProp, ent, emp, id⊢, ex_e, snd∗, Lft, Share, ftrue, flft, fres, Memory, Routine, Env, Calls, Loops, WpFn, Logic, sem, live, vrt, in_variant, by_variants, ◌⊑◌, Fun, fact, fact_i, tables, FmC, ‵, raw, ◌⊛◌, some, given, later, prop, at_ret, ◌$◌, ◌∵◌, !, qed, move, keep, drop, use0, use1, split, split3, join, pick, learn, fsplit, fjoin, suffices, frame, await, rewrite, regoal, group, done, whole, agg, stop, fld, addr, lit, of_opd, and_then, no_more, first, exec, returns, enter, alloc_all, pass_all, free_all, look_at, get, get_in, get_tag, through, sets, sets_last, lands_as, env, sub, no, rest, RattleType, owns, usize, follows, param, bounded, layout, Laws, param_laws, uint_Makes, uint_Tells, Bor, MutBor, MutRef, ShrRef, mut_vals, plain, types_at, nothing, owned, heard, Tuple, calls_at, Clauses, Ended, ensured, lasts, triple_of, Contract, Triple, framed, Stays, stay_dropped, walk_of, ends_at, Goes-blank, Good, Ok-of, Err-of, and_tt, proved_at, Result, Ok, Err, IfOk, IsOk, OnErr, MatchResult, true, is_some, result_laws}
 use Rattle.core.specs.contracts.result.Result as RS
-use Rattle.std_alloc.proofs.ResultValues.{and_tt}
 use Rattle.std.proofs.VecSteps.Shapes.{after}
-use Rattle.std.proofs.raw_atomic.Walks.{proved_at}
-use Rattle.std.specs.Prelude.{Result, Ok, Err, Some, IfOk, IsOk, OnErr, MatchResult, true}
-use Rattle.std.specs.Option.{is_some}
+use Rattle.std.specs.Prelude.{Some}
 use Rattle.std.specs.declared.cmp.Eq as Eq
 use Rattle.std.specs.declared.cmp.PartialEq as PartialEq
 use Rattle.std.specs.declared.hash.Hash as Hash
@@ -67,7 +19,6 @@ use Rattle.starlark_unordered.proofs.LentPlaced.{Placed, placed_laws, placed_bla
 use Rattle.starlark_unordered.proofs.unordered_map.UnorderedMap.TheLaws as map_laws
 use Rattle.starlark_unordered.proofs.unordered_map.UnorderedMap.pair_at_mut.Symbol.{name as #pair}
 use Rattle.starlark_unordered.proofs.unordered_map.UnorderedMap.pair_at_mut.Met as pair
-use Rattle.core.proofs.result.Result.TheLaws.{the_row_laws as result_laws}
 use Rattle.starlark_unordered.proofs.raw_entry.lend_placed.Statement.{statement}
 use Rattle.starlark_unordered.proofs.raw_entry.lend_placed.Code as code
 

@@ -1,13 +1,6 @@
 -- A `&` to a `Claim` lends nothing. Assumes `Logic`.
-use denote.Param.Laws.{Laws}
-use denote.Param.Shared.{copy_shared}
-use denote.RattleType.{RattleType}
-use denote.RawPtr.{RawPtr}
-use denote.SharingLaws.{nothing_shr_laws}
-use denote.Struct.Laws.{field_copy}
-use denote.Struct.Lending.{of_Lends, Lends-nothing}
+use Rattle.starlark_columns.proofs.Walking.{Laws, copy_shared, RattleType, RawPtr, nothing_shr_laws, field_copy, of_Lends, Lends-nothing, Ghosts}
 use Rattle.core.specs.contracts.marker.PhantomData as mark
-use Rattle.core.specs.declared.alloc.Allocator.{Ghosts}
 use Rattle.starlark_columns.proofs.block.Claim.TheLaw.Statement.{statement}
 use Rattle.starlark_columns.specs.contracts.block.Claim as claim
 

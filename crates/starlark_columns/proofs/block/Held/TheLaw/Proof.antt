@@ -1,13 +1,5 @@
 -- A `&` to a `Held` lends the items of its places. Assumes `Logic`.
-use mathlib.Core.List.{[], ◌++◌}
-use base.Fml.{Incl-trans}
-use contract.BorrowLft.{meet_⊑_left}
-use denote.Param.Laws.{Laws}
-use denote.Param.Shared.{copy_shared}
-use denote.RattleType.{RattleType}
-use denote.RawPtr.{RawPtr}
-use denote.Struct.Laws.{field_copy}
-use denote.Struct.Lending.{of_Lends}
+use Rattle.starlark_columns.proofs.Walking.{[], ◌++◌, Incl-trans, meet_⊑_left, Laws, copy_shared, RattleType, RawPtr, field_copy, of_Lends}
 use Rattle.core.specs.contracts.marker.PhantomData as mark
 use Rattle.starlark_columns.proofs.Lending.{of_row, lends_row}
 use Rattle.starlark_columns.proofs.block.Held.TheLaw.Statement.{statement}

@@ -1,36 +1,7 @@
 -- `close` takes the places of slots, and forgets what a run of them holds. Assumes `Logic`.
-use Rattle.std.proofs.Common.{◌≡◌, ℕ, ◌*◌, ◌<◌, ◌^◌, Option, Bool, List, [], ◌∷◌, length, refl, sym, subst, ◌∙◌, w64}
-use base.Fml.{Lft, Share, ftrue, flft}
-use base.Logic.{SProp, emp}
-use contract.BorrowLft.{◌⊑◌}
-use contract.Monad.{fact, fact_i}
-use contract.Running.{tables}
-use mir.MapTy.{inst_fn}
-use mir.Syntax.{a_type, named}
-use mir.Val.{Val, vunit, vint, vptr, WT}
-use types.ByLocal.{alloc_all, pass_all, free_all, look_at, get, is, sets, lands_last, env}
-use types.Kit.{‵, raw, ◌⊛◌, given, later, at_ret, ◌$◌, ◌∵◌, !, qed, by, move, keep, use0, use1, use2, split, split3, drop, join, learn, rewrite, fsplit, fsplit3, fjoin, fjoin3, feq_i, flt_i, await}
-use types.Run.{unit_lit, no_more, and_then, of_opd, first, blocks, exec, returns, enter}
-use denote.Builtin.{usize}
-use denote.Exit.{yes, no}
-use denote.Param.{layouts}
-use denote.Plain.{uint_vals, uint_Tells}
-use denote.RattleType.{RattleType, owns}
-use denote.RawPtr.{Ptr, block_ptr}
-use denote.Ref.{MutBor, mut_vals, mut_Tells}
-use denote.Signature.{plain, types_at}
-use denote.Steps.{heard, nothing, opens, closes}
-use denote.Triple.Call.{calls_at_last}
-use denote.Triple.Table.{framed}
-use denote.Triple.Walked.{Stays, stay_dropped, stay_ref, walk_of, Goes-dropped, Goes-ref}
-use Rattle.core.proofs.mem.Param.{El, R}
-use Rattle.core.proofs.slots.Bodies.{after}
-use Rattle.core.proofs.slots.Opens.{Sr, words_val, row_val, row_had, row_made}
+use Rattle.starlark_columns.proofs.Walking.{◌≡◌, ℕ, ◌*◌, ◌<◌, ◌^◌, Option, Bool, List, [], ◌∷◌, length, refl, sym, subst, ◌∙◌, w64, Lft, Share, ftrue, flft, SProp, emp, ◌⊑◌, fact, fact_i, tables, inst_fn, a_type, named, Val, vunit, vint, vptr, WT, alloc_all, pass_all, free_all, look_at, get, is, sets, lands_last, env, ‵, raw, ◌⊛◌, given, later, at_ret, ◌$◌, ◌∵◌, !, qed, by, move, keep, use0, use1, use2, split, split3, drop, join, learn, rewrite, fsplit, fsplit3, fjoin, fjoin3, feq_i, flt_i, await, unit_lit, no_more, and_then, of_opd, first, blocks, exec, returns, enter, usize, yes, no, layouts, uint_vals, uint_Tells, RattleType, owns, Ptr, block_ptr, MutBor, mut_vals, mut_Tells, plain, types_at, heard, nothing, opens, closes, calls_at_last, framed, Stays, stay_dropped, stay_ref, walk_of, Goes-dropped, Goes-ref, El, after, Sr, words_val, row_val, row_had, row_made, slots, slots_items, slots_filled, slots_ptr, slots_len, slots_counts, slots_small, proved, leaves, type_size}
+use Rattle.core.proofs.mem.Param.{R}
 use Rattle.core.proofs.slots.Slots.into_raw_parts.Met as callee
-use Rattle.core.specs.Mem.Slots.Ownership.{slots}
-use Rattle.core.specs.Mem.Slots.{slots_items, slots_filled, slots_ptr, slots_len, slots_counts, slots_small}
-use Rattle.std.proofs.raw_atomic.Walks.{proved, leaves}
-use Rattle.std.specs.Mem.{type_size}
 use Rattle.starlark_columns.specs.Owned.{row_owned}
 use Rattle.starlark_columns.specs.Slotted.{places_of, emptied}
 use Rattle.starlark_columns.proofs.Memory.{Row, of_slots, empties_run, places_count, emptied_count}

@@ -1,44 +1,11 @@
 -- `get_mut` lends one item, and its place follows it. Assumes `Logic`.
-use Rattle.std.proofs.Common.{◌≡◌, ◌≤◌, ◌+◌, ◌-◌, Some, None, get_or, slice_set, zero, suc, add-one, ℕ, ◌*◌, ◌<◌, ◌^◌, Option, List, [], ◌∷◌, ◌++◌, length, refl, sym, ap, subst, ◌∙◌, arith, w64}
-use seplogic.Ra.Ura.{Ura}
-use lib.ListN.{length-set, take, drop}
-use lib.Seq.{drop-cons}
-use base.Fml.{Fml, GName, Lft, Share, ftrue, fsep, fat, flft}
-use base.Fraction.{full_share}
-use base.Logic.{SProp, ent, sep, emp, never, id⊢, fst∗}
-use contract.BorrowLft.{◌⊑◌}
-use contract.Monad.{fact, fact_i}
-use contract.Running.{tables}
-use mir.MapTy.{inst_fn}
-use mir.Syntax.{a_type, named}
-use mir.Val.{Val, vint, vptr}
-use types.ByLocal.{alloc_all, pass_all, free_all, look_at, take_at, give_at, get, get_in, through, is, sets, sets_last, env}
-use types.Kit.{done, ‵, raw, ◌⊛◌, some, later, at_ret, ◌$◌, ◌∵◌, !, qed, by, move, keep, use0, use1, use2, split, split3, join, pick, rewrite, fsplit, fsplit3, group, fpack, fjoin, fjoin3, flt_i, flt_l, await}
-use types.Logic.{Logic, sem}
-use types.Part.{whole, sub}
-use types.Run.{stop, bin, addr, size_word, fld, of_opd, first, blocks, exec, returns, enter}
-use denote.Builtin.{usize}
-use denote.Exit.{yes, no}
-use denote.Memory.{mem, cell_at, part_of}
-use denote.Param.{layout, layouts}
-use denote.Plain.{uint_vals, uint_Tells}
-use denote.RattleType.{RattleType, owns}
-use denote.RawPtr.{Ptr, block_ptr, in_block, in_a_block}
-use denote.Follow.{follows, Part, lends_Part}
-use denote.Ref.{MutBor, MutRef, mut_vals, mut_Tells}
-use denote.Signature.{plain, mut_ref_to, types_at}
-use denote.Steps.{heard, nothing, opens}
-use denote.Triple.Walked.{Stays, stay_dropped, walk_of, Goes-dropped, Goes-spent_ref}
-use Rattle.core.proofs.mem.Param.{El, R, el_x}
-use Rattle.core.proofs.ptr.Rows.{times_below}
-use Rattle.core.proofs.slots.Leases.{uncapped}
-use Rattle.core.proofs.slots.Bodies.{after}
-use Rattle.std.proofs.raw_atomic.Walks.{proved, leaves}
-use Rattle.std.specs.Mem.{type_size}
+use Rattle.starlark_columns.proofs.Walking.{◌≡◌, ◌≤◌, ◌+◌, ◌-◌, Some, get_or, slice_set, zero, suc, add-one, ℕ, ◌*◌, ◌<◌, ◌^◌, Option, List, [], ◌∷◌, ◌++◌, length, refl, sym, ap, subst, ◌∙◌, arith, w64, Ura, length-set, take, drop-cons, Fml, GName, Lft, Share, ftrue, fsep, fat, flft, full_share, SProp, ent, sep, emp, never, id⊢, fst∗, ◌⊑◌, fact, fact_i, tables, inst_fn, a_type, named, Val, vint, vptr, alloc_all, pass_all, free_all, look_at, take_at, give_at, get, get_in, through, is, sets, sets_last, env, done, ‵, raw, ◌⊛◌, some, later, at_ret, ◌$◌, ◌∵◌, !, qed, by, move, keep, use0, use1, use2, split, split3, join, pick, rewrite, fsplit, fsplit3, group, fpack, fjoin, fjoin3, flt_i, flt_l, await, Logic, sem, whole, sub, stop, bin, addr, size_word, fld, of_opd, first, blocks, exec, returns, enter, usize, yes, no, mem, cell_at, part_of, layout, layouts, uint_vals, uint_Tells, RattleType, owns, Ptr, block_ptr, in_block, in_a_block, follows, Part, lends_Part, MutBor, MutRef, mut_vals, mut_Tells, plain, mut_ref_to, types_at, heard, nothing, opens, Stays, stay_dropped, walk_of, Goes-dropped, Goes-spent_ref, El, el_x, times_below, uncapped, after, proved, leaves, type_size, slice_range}
+use Rattle.std.proofs.Common.{None}
+use lib.ListN.{drop}
+use Rattle.core.proofs.mem.Param.{R}
 use Rattle.starlark_columns.specs.Owned.{places_owned, row_owned}
 use Rattle.starlark_columns.specs.Places.{IsFilled, with_range}
 use Rattle.starlark_columns.specs.Lends.{with_places}
-use Rattle.std.specs.List.{slice_range}
 use Rattle.starlark_columns.proofs.Fields.{word, word_good, address_told, HeldData}
 use Rattle.starlark_columns.proofs.Memory.{Row, Around, run_out, run_in}
 use Rattle.starlark_columns.proofs.Slotting.{filled_within}

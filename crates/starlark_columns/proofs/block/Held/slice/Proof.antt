@@ -1,40 +1,9 @@
 -- `slice` shows a run of items that the places lend. Assumes `Logic`.
-use Rattle.std.proofs.Common.{◌≡◌, T, ◌+◌, ◌-◌, Some, ℕ, ◌*◌, ◌<◌, ◌^◌, Option, List, [], ◌∷◌, map, length, refl, sym, ap, subst, ◌∙◌, arith, w64}
-use base.Fml.{Lft, Share, ftrue, fat, flft}
-use base.Fraction.{full_share}
-use base.Logic.{SProp, emp, never, id⊢}
-use contract.BorrowLft.{◌⊑◌}
-use contract.Monad.{fact, fact_i}
-use contract.Running.{tables}
-use mir.MapTy.{inst_fn}
-use mir.Syntax.{a_type, named, ty_ptr}
-use mir.Val.{Val, vint, vptr, has_ty, WT}
-use types.ByLocal.{alloc_all, pass_all, free_all, look_at, take_at, give_at, get, get_in, is, sets, sets_last, env}
-use types.Kit.{‵, raw, ◌⊛◌, at_ret, ◌$◌, ◌∵◌, !, qed, by, move, keep, use0, use1, split, rewrite, fsplit, fjoin, feq_i, flt_i, flt_l}
-use types.Part.{whole, sub, agg}
-use types.Run.{stop, bin, size_word, fld, no_more, and_then, of_opd, first, blocks, exec, returns, enter}
-use denote.Builtin.{RefOf, usize}
-use denote.Exit.{yes, no}
-use denote.Param.{layout, layouts}
-use denote.Plain.{uint_vals, uint_Tells}
-use denote.RattleType.{RattleType, owns}
-use denote.RawPtr.{Ptr, in_a_block}
-use denote.Opens.{hide, unhide}
-use denote.Ref.{Bor, shr_vals, shr_Tells}
-use denote.Slice.{ShrSlice, slice_ty, slice_val, elements_shared}
-use denote.Signature.{plain, types_at}
-use denote.Steps.{heard, nothing}
-use denote.Triple.Walked.{Stays, stay_dropped, walk_of, Goes-dropped}
-use Rattle.core.proofs.mem.Param.{El, R}
-use Rattle.core.proofs.ptr.Rows.{times_below}
-use Rattle.core.proofs.slots.Leases.{uncapped}
-use Rattle.core.proofs.slots.Bodies.{after}
-use Rattle.std.proofs.lemmas.List.{length-map}
-use Rattle.std.proofs.raw_atomic.Walks.{proved, leaves}
-use Rattle.std.specs.Mem.{type_size}
+use Rattle.starlark_columns.proofs.Walking.{◌≡◌, ◌+◌, ◌-◌, Some, ℕ, ◌*◌, ◌<◌, ◌^◌, Option, List, [], ◌∷◌, map, length, refl, sym, ap, subst, ◌∙◌, arith, w64, Lft, Share, ftrue, fat, flft, full_share, SProp, emp, never, id⊢, ◌⊑◌, fact, fact_i, tables, inst_fn, a_type, named, ty_ptr, Val, vint, vptr, has_ty, WT, alloc_all, pass_all, free_all, look_at, take_at, give_at, get, get_in, is, sets, sets_last, env, ‵, raw, ◌⊛◌, at_ret, ◌$◌, ◌∵◌, !, qed, by, move, keep, use0, use1, split, rewrite, fsplit, fjoin, feq_i, flt_i, flt_l, whole, sub, agg, stop, bin, size_word, fld, no_more, and_then, of_opd, first, blocks, exec, returns, enter, RefOf, usize, yes, no, layout, layouts, uint_vals, uint_Tells, RattleType, owns, Ptr, in_a_block, hide, unhide, Bor, shr_vals, shr_Tells, ShrSlice, slice_ty, slice_val, elements_shared, plain, types_at, heard, nothing, Stays, stay_dropped, walk_of, Goes-dropped, El, times_below, uncapped, after, length-map, proved, leaves, type_size, slice_range}
+use Rattle.std.proofs.Common.{T}
+use Rattle.core.proofs.mem.Param.{R}
 use Rattle.starlark_columns.specs.Owned.{within_lent}
 use Rattle.starlark_columns.specs.Places.{AreFilled}
-use Rattle.std.specs.List.{slice_range}
 use Rattle.starlark_columns.proofs.Fields.{word, word_good, address_told}
 use Rattle.starlark_columns.proofs.Memory.{run_long, run_seen}
 use Rattle.starlark_columns.specs.contracts.block.Address as address

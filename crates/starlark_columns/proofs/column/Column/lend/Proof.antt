@@ -1,39 +1,5 @@
 -- `lend` lends the places, and the column, open for good, is closed by what they follow. Assumes `Logic`.
-use Rattle.std.proofs.Common.{◌≡◌, ℕ, ◌+◌, ◌*◌, ◌<◌, ◌^◌, List, [], ◌∷◌, length, refl, sym, ap, subst, ◌∙◌}
-use native.Mathlib.Nat.{zero-add, zero-mul}
-use seplogic.Ra.Ura.{Ura}
-use base.Fml.{Fml, GName, Lft, Share, ftrue, fsep, flft, fobs, fbor}
-use base.Logic.{SProp, ent, sep, emp, never, id⊢}
-use contract.BorrowLft.{◌⊑◌}
-use contract.Monad.{fact, fact_i}
-use contract.Running.{tables}
-use mir.MapTy.{inst_fn}
-use mir.Syntax.{a_type, named, dcons, dnil}
-use mir.Val.{Val, vptr, vstruct, vcons, vnil}
-use types.ByLocal.{alloc_all, pass_all, free_all, look_at, get, through, sets}
-use types.Kit.{‵, raw, ◌⊛◌, some, later, ◌$◌, ◌∵◌, !, qed, by, move, keep, use0, use1, split, split3, join, pick, rewrite, fsplit, fsplit3, fjoin, flt_i, flt_l, group, await}
-use types.Logic.{Logic, sem}
-use types.Mut.{open_ref}
-use types.Follow.{takes_part}
-use types.SemTy.{Body}
-use types.Part.{whole, sub, agg, look_in}
-use types.Run.{stop, fld, load, of_opd, no_more, and_then, returns, enter}
-use denote.Exit.{no}
-use denote.Follow.{follows}
-use denote.Memory.{mem}
-use denote.Param.{param, bounded}
-use denote.Param.Laws.{param_laws}
-use denote.RattleType.{RattleType, owns}
-use denote.RawPtr.{Ptr, block_ptr, in_block, in_a_block}
-use denote.Ref.{MutBor, mut_vals, mut_Tells}
-use denote.Shadow.{makes_shadow}
-use denote.Signature.{plain, mut_ref_to, named_lft, types_at}
-use denote.Steps.{nothing}
-use denote.Struct.Owning.{shape}
-use denote.Struct.Struct.{Struct}
-use denote.Triple.Walked.{Stays, stay_dropped, walk_of, Goes-spent_ref}
-use Rattle.std.proofs.raw_atomic.Walks.{proved, leaves}
-use Rattle.std.specs.Mem.{type_size}
+use Rattle.starlark_columns.proofs.Walking.{◌≡◌, ℕ, ◌+◌, ◌*◌, ◌<◌, ◌^◌, List, [], ◌∷◌, length, refl, sym, ap, subst, ◌∙◌, zero-add, zero-mul, Ura, Fml, GName, Lft, Share, ftrue, fsep, flft, fobs, fbor, SProp, ent, sep, emp, never, id⊢, ◌⊑◌, fact, fact_i, tables, inst_fn, a_type, named, dcons, dnil, Val, vptr, vstruct, vcons, vnil, alloc_all, pass_all, free_all, look_at, get, through, sets, ‵, raw, ◌⊛◌, some, later, ◌$◌, ◌∵◌, !, qed, by, move, keep, use0, use1, split, split3, join, pick, rewrite, fsplit, fsplit3, fjoin, flt_i, flt_l, group, await, Logic, sem, open_ref, takes_part, Body, whole, sub, agg, look_in, stop, fld, load, of_opd, no_more, and_then, returns, enter, no, follows, mem, param, bounded, param_laws, RattleType, owns, Ptr, block_ptr, in_block, in_a_block, MutBor, mut_vals, mut_Tells, makes_shadow, plain, mut_ref_to, named_lft, types_at, nothing, shape, Struct, Stays, stay_dropped, walk_of, Goes-spent_ref, proved, leaves, type_size}
 use Rattle.starlark_columns.specs.Owned.{places_owned, row_owned}
 use Rattle.starlark_columns.specs.Lent.{kept_places, KeptPlaces, lent_places}
 use Rattle.starlark_columns.proofs.ColumnOpens as O

@@ -1,37 +1,5 @@
 -- `take` hands out the item of the next place. Assumes `Logic`.
-use Rattle.std.proofs.Common.{◌≡◌, ℕ, suc, ◌+◌, ◌*◌, ◌<◌, ◌^◌, Option, Some, List, [], ◌∷◌, ◌++◌, length, refl, sym, ap, subst, ◌∙◌, arith, w64}
-use native.Mathlib.Nat.{suc-mul}
-use base.Fml.{Fml, GName, Lft, Share, ftrue, fsep, flft}
-use base.Fraction.{full_share}
-use base.Logic.{SProp, emp, never, id⊢}
-use contract.BorrowLft.{◌⊑◌}
-use contract.Lifetimes.{Lfts}
-use contract.Monad.{fact, fact_i}
-use contract.Running.{tables}
-use mir.MapTy.{inst_fn}
-use mir.Syntax.{a_type, named}
-use mir.Val.{Val, vint, vptr, vstruct, vcons, vnil, of_list}
-use types.ByLocal.{alloc_all, pass_all, free_all, look_at, get, through, is, sets, sets_last, env}
-use types.Kit.{‵, raw, ◌⊛◌, some, later, at_ret, ◌$◌, ◌∵◌, !, qed, by, move, keep, use0, use2, split, split3, join, pick, rewrite, fsplit, fsplit3, fjoin, fjoin3, feq_i, flt_i, flt_l, await}
-use types.Part.{whole, sub, look_in}
-use types.Run.{stop, fld, load, bin, addr, size_word, of_opd, first, blocks, exec, returns, enter}
-use denote.Builtin.{usize}
-use denote.Exit.{yes}
-use denote.Laws.{shows}
-use denote.Memory.{cell_at}
-use denote.Param.{param, layouts}
-use denote.Plain.{uint_vals, uint_Tells}
-use denote.RattleType.{RattleType, owns}
-use denote.RawPtr.{Ptr, ptr_val, in_a_block}
-use denote.Ref.{MutBor, mut_vals, mut_Tells}
-use denote.Signature.{plain, named_lft, types_at}
-use denote.Steps.{heard, nothing, peeks, opens, closes}
-use denote.Triple.Walked.{Stays, stay_ref, stay_dropped, walk_of, Goes-ref, Goes-dropped}
-use Rattle.core.proofs.ptr.Rows.{times_below}
-use Rattle.core.proofs.slots.Bodies.{after}
-use Rattle.core.proofs.slots.Leases.{uncapped}
-use Rattle.std.proofs.raw_atomic.Walks.{proved, leaves}
-use Rattle.std.specs.Mem.{type_size}
+use Rattle.starlark_columns.proofs.Walking.{◌≡◌, ℕ, suc, ◌+◌, ◌*◌, ◌<◌, ◌^◌, Option, Some, List, [], ◌∷◌, ◌++◌, length, refl, sym, ap, subst, ◌∙◌, arith, w64, suc-mul, Fml, GName, Lft, Share, ftrue, fsep, flft, full_share, SProp, emp, never, id⊢, ◌⊑◌, Lfts, fact, fact_i, tables, inst_fn, a_type, named, Val, vint, vptr, vstruct, vcons, vnil, of_list, alloc_all, pass_all, free_all, look_at, get, through, is, sets, sets_last, env, ‵, raw, ◌⊛◌, some, later, at_ret, ◌$◌, ◌∵◌, !, qed, by, move, keep, use0, use2, split, split3, join, pick, rewrite, fsplit, fsplit3, fjoin, fjoin3, feq_i, flt_i, flt_l, await, whole, sub, look_in, stop, fld, load, bin, addr, size_word, of_opd, first, blocks, exec, returns, enter, usize, yes, shows, cell_at, param, layouts, uint_vals, uint_Tells, RattleType, owns, Ptr, ptr_val, in_a_block, MutBor, mut_vals, mut_Tells, plain, named_lft, types_at, heard, nothing, peeks, opens, closes, Stays, stay_ref, stay_dropped, walk_of, Goes-ref, Goes-dropped, times_below, after, uncapped, proved, leaves, type_size}
 use Rattle.starlark_columns.specs.Places.{IsFilled}
 use Rattle.starlark_columns.specs.Lent.{lent_from, lent_places}
 use Rattle.starlark_columns.proofs.LentPlaces.{next_full, Off, item_off}

@@ -1,27 +1,6 @@
 -- `skip` passes over a place, which stays as it is. Assumes `Logic`.
-use Rattle.std.proofs.Common.{◌≡◌, ℕ, suc, ◌+◌, ◌*◌, ◌<◌, ◌^◌, Option, List, [], ◌∷◌, length, drop, refl, sym, ap, subst, arith}
-use native.Mathlib.Nat.{suc-mul}
-use base.Fml.{Fml, GName, Lft, Share, ftrue, fsep, flft}
-use base.Logic.{SProp, emp, never, id⊢}
-use contract.BorrowLft.{◌⊑◌}
-use contract.Lifetimes.{Lfts}
-use contract.Monad.{fact, fact_i}
-use contract.Running.{tables}
-use mir.MapTy.{inst_fn}
-use mir.Syntax.{a_type, named, dcons, dnil}
-use mir.Val.{Val, vptr, vunit}
-use types.ByLocal.{alloc_all, pass_all, free_all, look_at, sets}
-use types.Kit.{‵, raw, ◌⊛◌, some, later, ◌$◌, ◌∵◌, !, qed, by, move, keep, use0, use2, split, split3, join, pick, rewrite, fsplit, fsplit3, fjoin, fjoin3, feq_i, flt_i, flt_l, await}
-use types.Run.{unit_lit, of_opd, returns, enter}
-use denote.Param.{param, bounded}
-use denote.RattleType.{RattleType, owns}
-use denote.RawPtr.{Ptr, in_a_block}
-use denote.Ref.{MutBor, mut_vals, mut_Tells}
-use denote.Signature.{plain, named_lft, types_at}
-use denote.Steps.{heard, nothing, opens, closes}
-use denote.Triple.Walked.{Stays, stay_ref, walk_of, Goes-ref}
-use Rattle.std.proofs.raw_atomic.Walks.{proved, leaves}
-use Rattle.std.specs.Mem.{type_size}
+use Rattle.starlark_columns.proofs.Walking.{◌≡◌, ℕ, suc, ◌+◌, ◌*◌, ◌<◌, ◌^◌, Option, List, [], ◌∷◌, length, refl, sym, ap, subst, arith, suc-mul, Fml, GName, Lft, Share, ftrue, fsep, flft, SProp, emp, never, id⊢, ◌⊑◌, Lfts, fact, fact_i, tables, inst_fn, a_type, named, dcons, dnil, Val, vptr, vunit, alloc_all, pass_all, free_all, look_at, sets, ‵, raw, ◌⊛◌, some, later, ◌$◌, ◌∵◌, !, qed, by, move, keep, use0, use2, split, split3, join, pick, rewrite, fsplit, fsplit3, fjoin, fjoin3, feq_i, flt_i, flt_l, await, unit_lit, of_opd, returns, enter, param, bounded, RattleType, owns, Ptr, in_a_block, MutBor, mut_vals, mut_Tells, plain, named_lft, types_at, heard, nothing, opens, closes, Stays, stay_ref, walk_of, Goes-ref, proved, leaves, type_size}
+use Rattle.std.proofs.Common.{drop}
 use Rattle.starlark_columns.specs.Lent.{lent_from, lent_places}
 use Rattle.starlark_columns.proofs.LentPlaces.{parted, Left, place_off}
 use Rattle.starlark_columns.specs.contracts.loan.Loan as loan

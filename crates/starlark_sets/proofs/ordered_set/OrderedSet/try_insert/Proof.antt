@@ -1,54 +1,8 @@
 -- `try_insert` meets its contract, at any element type: the set is lent to the call that inserts the element or refuses it and comes back, is then written no more, and shows the element that is there. Assumes `Logic`.
-use mathlib.Core.Path.{◌≡◌, refl, sym, ap, subst}
-use mathlib.Core.List.{List, [], ◌∷◌}
-use mathlib.Core.Option.{none}
-use seplogic.Ra.Ura.{Ura}
-use base.Fraction.{full_share}
-use base.FractionLaws.{common}
+use Rattle.starlark_columns.proofs.Walking.{◌≡◌, refl, sym, ap, subst, List, [], ◌∷◌, none, Ura, full_share, common, Fn, Args, Dict, a_type, dcons, dnil, named, inst_fn, Val, vptr, SProp, ent, sep, emp, wand, id⊢, apply∗, ex_e, snd∗, Lft, GName, Share, ftrue, fdead, flft, Memory, Routine, Env, Calls, Loops, WpFn, Logic, sem, lft_new, lft_end, lft-common, ◌⊑◌, ⊑_trans, meet_⊑_left, meet_⊑_right, Fun, fact, fact_i, tables, FmC, ‵, raw, ◌⊛◌, some, later, ◌$◌, ◌∵◌, !, qed, move, keep, drop, use0, use1, use2, use3, split, split3, join, pick, fsplit, fsplit3, fjoin, suffices, frame, await, rewrite, done, stop, addr, of_opd, and_then, no_more, returns, enter, alloc_all, pass_all, free_all, look_at, get, through, sets, lands_as, env, no, RattleType, owns, unit, follows_so, Is, shows, lends_again, comes_back, LentAgain, param, bounded, layout, Laws, param_laws, of_field, copy_shared, Bor, MutBor, MutRef, ShrRef, mut_vals, mut_Tells, shr_vals, shr_Tells, plain, types_at, mut_ref_to, named_lft, nothing, heard, only, peeks, unit-field, unit-laws, unit-copy, calls_at, Clauses, Ended, Lasts, ensured, lasts, triple_of, Contract, Triple, framed, Stays, stay_dropped, walk_of, ends_at, Goes-spent_ref, Goes-blank, Good, result_laws, proved_at, Result, IfErr, ⊤}
 use base.Share
-use mir.Syntax.{Fn, Args, Dict, a_type, dcons, dnil, named}
-use mir.MapTy.{inst_fn}
-use mir.Val.{Val, vptr}
-use base.Logic.{SProp, ent, sep, emp, wand, id⊢, apply∗, ex_e, snd∗}
-use base.Fml.{Lft, GName, Share, ftrue, fdead, flft}
-use prog.Memory.{Memory}
-use prog.Routine.{Routine}
-use prog.Wp.{Env, Calls, Loops, WpFn}
-use types.Logic.{Logic, sem}
-use types.Tokens.{lft_new, lft_end, lft-common}
-use contract.BorrowLft.{◌⊑◌, ⊑_trans, meet_⊑_left, meet_⊑_right}
-use contract.Monad.{Fun, fact, fact_i}
-use contract.Running.{tables}
-use sound.WpLaws.{FmC}
-use types.Kit.{‵, raw, ◌⊛◌, some, later, ◌$◌, ◌∵◌, !, qed, move, keep, drop, use0, use1, use2, use3, split, split3, join, pick, fsplit, fsplit3, fjoin, suffices, frame, await, rewrite, done}
-use types.Run.{stop, addr, of_opd, and_then, no_more, returns, enter}
-use types.ByLocal.{alloc_all, pass_all, free_all, look_at, get, through, sets, lands_as, env}
-use denote.Exit.{no}
-use denote.RattleType.{RattleType, owns}
-use denote.Builtin.{unit}
-use denote.Follow.{follows_so}
-use denote.Laws.{Is, shows}
-use denote.Lend.{lends_again, comes_back, LentAgain}
-use denote.Param.{param, bounded, layout}
-use denote.Param.Laws.{Laws, param_laws, of_field}
-use denote.Param.Shared.{copy_shared}
-use denote.Ref.{Bor, MutBor, MutRef, ShrRef, mut_vals, mut_Tells, shr_vals, shr_Tells}
-use denote.Signature.{plain, types_at, mut_ref_to, named_lft}
-use denote.Steps.{nothing, heard, only, peeks}
-use denote.Struct.Field.{unit-field}
-use denote.Struct.Laws.{unit-laws, unit-copy}
-use denote.Triple.Call.{calls_at}
-use denote.Triple.Clauses.{Clauses, Ended, Lasts, ensured, lasts}
-use denote.Triple.Spec.{triple_of}
-use denote.Triple.Statement.{Contract, Triple}
-use denote.Triple.Table.{framed}
-use denote.Triple.Walked.{Stays, stay_dropped, walk_of, ends_at, Goes-spent_ref}
-use Rattle.core.proofs.alloc.Calls.{Goes-blank}
-use Rattle.core.proofs.cell.Inside.{Good}
-use Rattle.core.proofs.result.Result.TheLaws.{the_row_laws as result_laws}
 use Rattle.core.specs.contracts.result.Result as RS
-use Rattle.std.proofs.raw_atomic.Walks.{proved_at}
-use Rattle.std.specs.Prelude.{Option, Result, IfErr, ⊤}
+use Rattle.std.specs.Prelude.{Option}
 use Rattle.std.specs.declared.cmp.Eq as Eq
 use Rattle.std.specs.declared.cmp.PartialEq as PartialEq
 use Rattle.std.specs.declared.hash.Hash as Hash

@@ -1,60 +1,9 @@
 -- `insert_hashed_unique_unchecked` meets its contract, at any key and value types: the map is lent to the call that puts the entry at the end and comes back, and is then lent for good to the call that shows it. Assumes `Logic`.
-use mathlib.Core.Path.{◌≡◌, refl, sym, subst}
-use mathlib.Core.Logic.{inl, inr}
-use Prim.Native.Nat.{ℕ, ◌<◌, ◌^◌}
-use native.Mathlib.Nat.{suc-ne-zero}
-use mathlib.Core.List.{List, [], ◌∷◌}
-use lib.ListN.{length}
-use lib.Dec.{lit<}
-use seplogic.Ra.Ura.{Ura}
-use base.Fraction.{full_share}
-use base.FractionLaws.{common}
+use Rattle.starlark_columns.proofs.Walking.{◌≡◌, refl, sym, subst, inl, inr, ℕ, ◌<◌, ◌^◌, suc-ne-zero, List, [], ◌∷◌, length, lit<, Ura, full_share, common, Fn, Args, Dict, a_type, dcons, dnil, named, w64, inst_fn, Val, vint, vptr, vcons, vnil, of_list, SProp, ent, sep, emp, wand, id⊢, apply∗, ex_e, snd∗, Lft, GName, Share, ftrue, fdead, flft, fres, Memory, Routine, Env, Calls, Loops, WpFn, Logic, sem, live, vrt, in_variant, by_variants, lft_new, lft_end, lft-common, ◌⊑◌, ⊑_trans, meet_⊑_left, meet_⊑_right, Fun, fact, fact_i, tables, FmC, ‵, raw, ◌⊛◌, some, given, later, at_ret, ◌$◌, ◌∵◌, !, qed, move, keep, drop, use0, use1, use2, use3, split, split3, join, pick, learn, fsplit, fsplit3, fjoin, suffices, frame, await, rewrite, group, done, whole, agg, stop, fld, addr, lit, of_opd, and_then, no_more, first, exec, returns, enter, alloc_all, pass_all, free_all, look_at, get, get_in, get_tag, through, sets, sets_last, lands_as, env, no, RattleType, owns, usize, follows, lends_again, comes_back, LentAgain, param, bounded, layout, Laws, param_laws, uint_Makes, uint_Tells, Bor, MutBor, MutRef, ShrRef, mut_vals, mut_Tells, plain, types_at, mut_ref_to, nothing, owned, heard, Tuple, tuple_laws, calls_at, Clauses, Ended, Lasts, ensured, lasts, triple_of, Contract, Triple, framed, Stays, stay_dropped, walk_of, ends_at, Goes-spent_ref, Goes-blank, Good, Ok-of, Err-of, and_tt, proved_at, Result, Ok, Err, None, IfOk, IfErr, OnOk, OnErr, slice_get}
 use base.Share
-use mir.Syntax.{Fn, Args, Dict, a_type, dcons, dnil, named, w64}
-use mir.MapTy.{inst_fn}
-use mir.Val.{Val, vint, vptr, vcons, vnil, of_list}
-use base.Logic.{SProp, ent, sep, emp, wand, id⊢, apply∗, ex_e, snd∗}
-use base.Fml.{Lft, GName, Share, ftrue, fdead, flft, fres}
-use prog.Memory.{Memory}
-use prog.Routine.{Routine}
-use prog.Wp.{Env, Calls, Loops, WpFn}
-use types.Logic.{Logic, sem}
-use types.Match.{live, vrt, in_variant, by_variants}
-use types.Tokens.{lft_new, lft_end, lft-common}
-use contract.BorrowLft.{◌⊑◌, ⊑_trans, meet_⊑_left, meet_⊑_right}
-use contract.Monad.{Fun, fact, fact_i}
-use contract.Running.{tables}
-use sound.WpLaws.{FmC}
-use types.Kit.{‵, raw, ◌⊛◌, some, given, later, at_ret, ◌$◌, ◌∵◌, !, qed, move, keep, drop, use0, use1, use2, use3, split, split3, join, pick, learn, fsplit, fsplit3, fjoin, suffices, frame, await, rewrite, group, done}
-use types.Part.{whole, agg}
-use types.Run.{stop, fld, addr, lit, of_opd, and_then, no_more, first, exec, returns, enter}
-use types.ByLocal.{alloc_all, pass_all, free_all, look_at, get, get_in, get_tag, through, sets, sets_last, lands_as, env}
-use denote.Exit.{no}
-use denote.RattleType.{RattleType, owns}
-use denote.Builtin.{usize}
-use denote.Follow.{follows}
-use denote.Lend.{lends_again, comes_back, LentAgain}
-use denote.Param.{param, bounded, layout}
-use denote.Param.Laws.{Laws, param_laws}
-use denote.Plain.{uint_Makes, uint_Tells}
-use denote.Ref.{Bor, MutBor, MutRef, ShrRef, mut_vals, mut_Tells}
-use denote.Signature.{plain, types_at, mut_ref_to}
-use denote.Steps.{nothing, owned, heard}
-use denote.Struct.Tuple.{Tuple, tuple_laws}
-use denote.Triple.Call.{calls_at}
-use denote.Triple.Clauses.{Clauses, Ended, Lasts, ensured, lasts}
-use denote.Triple.Spec.{triple_of}
-use denote.Triple.Statement.{Contract, Triple}
-use denote.Triple.Table.{framed}
-use denote.Triple.Walked.{Stays, stay_dropped, walk_of, ends_at, Goes-spent_ref}
-use Rattle.core.proofs.alloc.Calls.{Goes-blank}
-use Rattle.core.proofs.cell.Inside.{Good}
-use Rattle.core.proofs.result.Made.{Ok-of, Err-of}
 use Rattle.core.specs.contracts.result.Result as RS
-use Rattle.std_alloc.proofs.ResultValues.{and_tt}
 use Rattle.std.proofs.VecSteps.Shapes.{after}
-use Rattle.std.proofs.raw_atomic.Walks.{proved_at}
-use Rattle.std.specs.Prelude.{Result, Ok, Err, Some, None, IfOk, IfErr, OnOk, OnErr, option_map, slice_get}
+use Rattle.std.specs.Prelude.{Some, option_map}
 use Rattle.std.specs.declared.cmp.Eq as Eq
 use Rattle.std.specs.declared.cmp.PartialEq as PartialEq
 use Rattle.starlark_hash.proofs.hashed.Hashed.TheLaws as hashed_laws

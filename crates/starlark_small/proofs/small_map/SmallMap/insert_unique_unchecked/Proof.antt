@@ -1,48 +1,6 @@
 -- `insert_unique_unchecked` meets its contract, at any key and value types: the key is put under its own hash, the next call inserts it and lends it with its value, and the last takes a refused key out of its hash. Assumes `Logic`.
-use mathlib.Core.Path.{◌≡◌, refl, sym, subst, ap}
-use mathlib.Core.List.{List, [], ◌∷◌}
-use seplogic.Ra.Ura.{Ura}
-use mir.Syntax.{Fn, Args, Dict, Ty, a_type, dcons, dnil, named, tcons, tnil, ty_ptr, ty_struct}
-use mir.MapTy.{inst_fn}
-use mir.Val.{Val, vptr}
-use base.Logic.{SProp, ent, emp, id⊢, ex_e, snd∗}
-use base.Fml.{Fml, Lft, Share, ftrue, flft}
-use prog.Memory.{Memory}
-use prog.Routine.{Routine}
-use prog.Wp.{Calls, Loops, WpFn}
-use types.Logic.{Logic, sem}
-use contract.BorrowLft.{◌⊑◌, ⊑_meet, ⊑_refl, ⊑_trans}
-use contract.Monad.{Fun, fact, fact_i}
-use contract.Running.{tables}
-use sound.WpLaws.{FmC}
-use types.Kit.{‵, raw, ◌⊛◌, some, later, ◌$◌, ◌∵◌, !, qed, move, keep, use0, use1, split, split3, join, pick, fsplit, fsplit3, fjoin, suffices, frame, await, rewrite, group, done}
-use types.Run.{stop, addr, of_opd, and_then, no_more, returns, enter}
-use types.ByLocal.{alloc_all, pass_all, free_all, look_at, get, through, sets, lands_as}
-use denote.Exit.{no, yes}
-use denote.RattleType.{RattleType, lives_all, owns}
-use denote.Laws.{Is, shows}
-use denote.Param.{arg, param, bounded, layout, layouts}
-use denote.Param.Laws.{Laws, arg_laws, is_one, of_field, param_laws, row_shared}
-use denote.Param.Lives.{in_all}
-use denote.Param.Shared.{copy_shared, mut_ref_shared}
-use denote.Ref.{Bor, MutBor, MutRef, NamedLft, ShrRef, mut_vals, mut_Tells}
-use denote.Signature.{plain, types_at, mut_ref_to}
-use denote.Steps.{nothing, heard, peeks, only}
-use denote.Struct.Field.{mut_ref_field, shr_ref_field}
-use denote.Struct.Laws.{mut_ref_laws, shr_ref_laws, shr_ref_copy}
-use denote.Struct.Tuple.{Tuple, tuple_laws}
-use denote.Triple.Call.{calls_at}
-use denote.Triple.Clauses.{Clauses, Ended, ensured, lasts}
-use denote.Triple.Spec.{triple_of}
-use denote.Triple.Statement.{Contract, Triple}
-use denote.Triple.Table.{framed}
-use denote.Triple.Walked.{Stays, stay_dropped, walk_of, ends_at, Goes-spent_ref}
-use Rattle.core.proofs.alloc.Calls.{Goes-blank}
-use Rattle.core.proofs.cell.Inside.{Good}
-use Rattle.core.proofs.result.Result.TheLaws.{the_row_laws as result_laws}
+use Rattle.starlark_columns.proofs.Walking.{◌≡◌, refl, sym, subst, ap, List, [], ◌∷◌, Ura, Fn, Args, Dict, Ty, a_type, dcons, dnil, named, tcons, tnil, ty_ptr, ty_struct, inst_fn, Val, vptr, SProp, ent, emp, id⊢, ex_e, snd∗, Fml, Lft, Share, ftrue, flft, Memory, Routine, Calls, Loops, WpFn, Logic, sem, ◌⊑◌, ⊑_meet, ⊑_refl, ⊑_trans, Fun, fact, fact_i, tables, FmC, ‵, raw, ◌⊛◌, some, later, ◌$◌, ◌∵◌, !, qed, move, keep, use0, use1, split, split3, join, pick, fsplit, fsplit3, fjoin, suffices, frame, await, rewrite, group, done, stop, addr, of_opd, and_then, no_more, returns, enter, alloc_all, pass_all, free_all, look_at, get, through, sets, lands_as, no, yes, RattleType, lives_all, owns, Is, shows, arg, param, bounded, layout, layouts, Laws, arg_laws, is_one, of_field, param_laws, row_shared, in_all, copy_shared, mut_ref_shared, Bor, MutBor, MutRef, NamedLft, ShrRef, mut_vals, mut_Tells, plain, types_at, mut_ref_to, nothing, heard, peeks, only, mut_ref_field, shr_ref_field, mut_ref_laws, shr_ref_laws, shr_ref_copy, Tuple, tuple_laws, calls_at, Clauses, Ended, ensured, lasts, triple_of, Contract, Triple, framed, Stays, stay_dropped, walk_of, ends_at, Goes-spent_ref, Goes-blank, Good, result_laws, proved_at, Result, None, IfOk, IfErr, OnErr}
 use Rattle.core.specs.contracts.result.Result as RS
-use Rattle.std.proofs.raw_atomic.Walks.{proved_at}
-use Rattle.std.specs.Prelude.{Result, None, IfOk, IfErr, OnErr}
 use Rattle.std.specs.declared.cmp.Eq as Eq
 use Rattle.std.specs.declared.cmp.PartialEq as PartialEq
 use Rattle.std.specs.declared.hash.Hash as Hash

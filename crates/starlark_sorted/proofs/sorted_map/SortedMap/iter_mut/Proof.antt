@@ -1,48 +1,6 @@
 -- `iter_mut` lends the map inside; the sorted map, open over the call, is closed by what that follows. Assumes `Logic`.
-use mathlib.Core.Path.{◌≡◌, refl, ap, ◌∙◌}
-use Prim.Native.Nat.{◌+◌, ◌<◌, ◌^◌}
-use mathlib.Core.List.{List, [], ◌∷◌}
-use lib.ListN.{length}
-use seplogic.Ra.Ura.{Ura}
-use base.Fraction.{full_share}
-use mir.Syntax.{Fn, Args, Dict, a_type, dcons, dnil, named}
-use mir.MapTy.{inst_fn}
-use mir.Val.{Val, vptr}
+use Rattle.starlark_columns.proofs.Walking.{◌≡◌, refl, ap, ◌∙◌, ◌+◌, ◌<◌, ◌^◌, List, [], ◌∷◌, length, Ura, full_share, Fn, Args, Dict, a_type, dcons, dnil, named, inst_fn, Val, vptr, SProp, ent, emp, id⊢, ex_e, snd∗, Lft, GName, Share, ftrue, fsep, flft, fauth, Memory, Routine, Calls, Loops, WpFn, Tables, Logic, sem, ◌⊑◌, Fun, fact, fact_i, tables, tables_of, FmC, fm_of, WpFn-mono, closes_following, ages, bor_new_deep, open_ref, name_new, ‵, raw, ◌⊛◌, some, later, ◌$◌, ◌∵◌, !, qed, move, keep, drop, use0, use1, use2, split, split3, join, pick, fsplit, fsplit3, fjoin, fjoin3, fpack, feq_i, rewrite, suffices, frame, await, group, done, stop, fld, addr, and_then, no_more, returns, enter, alloc_all, pass_all, free_all, look_at, get, through, sets, lands_as, no, follows, Is, shows, RattleType, owns, mem, part_at, param, bounded, Laws, param_laws, MutBor, mut_vals, mut_Tells, plain, types_at, mut_ref_to, named_lft, nothing, heard, peeks, only, calls_at, Clauses, Ended, closing, ensured, lasts, Meets, triple_of, Contract, Triple, entered, Stays, stay_dropped, walk_of, ends_at, walked, walk_Meets, Goes-spent_ref, map}
 use base.Share
-use base.Logic.{SProp, ent, emp, id⊢, ex_e, snd∗}
-use base.Fml.{Lft, GName, Share, ftrue, fsep, flft, fauth}
-use prog.Memory.{Memory}
-use prog.Routine.{Routine}
-use prog.Wp.{Calls, Loops, WpFn, Tables}
-use types.Logic.{Logic, sem}
-use contract.BorrowLft.{◌⊑◌}
-use contract.Monad.{Fun, fact, fact_i}
-use contract.Running.{tables, tables_of}
-use sound.WpLaws.{FmC, fm_of, WpFn-mono}
-use types.Follow.{closes_following}
-use types.Late.{ages, bor_new_deep}
-use types.Mut.{open_ref}
-use types.Tokens.{name_new}
-use types.Kit.{‵, raw, ◌⊛◌, some, later, ◌$◌, ◌∵◌, !, qed, move, keep, drop, use0, use1, use2, split, split3, join, pick, fsplit, fsplit3, fjoin, fjoin3, fpack, feq_i, rewrite, suffices, frame, await, group, done}
-use types.Run.{stop, fld, addr, and_then, no_more, returns, enter}
-use types.ByLocal.{alloc_all, pass_all, free_all, look_at, get, through, sets, lands_as}
-use denote.Exit.{no}
-use denote.Follow.{follows}
-use denote.Laws.{Is, shows}
-use denote.RattleType.{RattleType, owns}
-use denote.Memory.{mem, part_at}
-use denote.Param.{param, bounded}
-use denote.Param.Laws.{Laws, param_laws}
-use denote.Ref.{MutBor, mut_vals, mut_Tells}
-use denote.Signature.{plain, types_at, mut_ref_to, named_lft}
-use denote.Steps.{nothing, heard, peeks, only}
-use denote.Triple.Call.{calls_at}
-use denote.Triple.Clauses.{Clauses, Ended, closing, ensured, lasts}
-use denote.Triple.Spec.{Meets, triple_of}
-use denote.Triple.Statement.{Contract, Triple}
-use denote.Triple.Table.{entered}
-use denote.Triple.Walked.{Stays, stay_dropped, walk_of, ends_at, walked, walk_Meets, Goes-spent_ref}
-use Rattle.std.specs.Prelude.{map}
 use Rattle.std.specs.declared.cmp.Eq as Eq
 use Rattle.std.specs.declared.cmp.Ord as Ord
 use Rattle.std.specs.declared.cmp.PartialEq as PartialEq

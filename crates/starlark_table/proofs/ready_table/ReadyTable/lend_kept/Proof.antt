@@ -1,57 +1,9 @@
 -- `lend_kept` lends the slots and the tags, and the whole table, open over the call, is closed by what they end as. Assumes
 -- `Logic`.
-use mathlib.Core.Path.{◌≡◌, refl, sym, ap, subst, ◌∙◌}
-use mathlib.Core.Bool.{Bool, true, false, ◌&&◌}
-use Prim.Native.Nat.{ℕ, ◌+◌}
-use mathlib.Core.List.{List, [], ◌∷◌, ◌++◌}
-use lib.ListN.{length}
+use Rattle.starlark_columns.proofs.Walking.{◌≡◌, refl, sym, ap, subst, ◌∙◌, Bool, true, false, ◌&&◌, ℕ, ◌+◌, List, [], ◌∷◌, ◌++◌, length, Ura, full_share, Fn, Args, Dict, a_type, dcons, dnil, named, inst_fn, Val, vptr, vstruct, vcons, vnil, of_list, SProp, ent, emp, id⊢, ex_e, snd∗, Lft, GName, Share, ftrue, fsep, fauth, fres, flft, Memory, Routine, Calls, Loops, WpFn, ages, bor_new_deep, Logic, sem, open_ref, name_new, ◌⊑◌, Fun, fact, fact_i, tables, FmC, ‵, raw, ◌⊛◌, some, later, ◌$◌, ◌∵◌, !, qed, move, keep, drop, use0, use1, use2, split, split3, join, pick, fsplit, fsplit3, fjoin, fjoin3, fpack, fpick, feq_i, feq_l, rewrite, suffices, frame, group, await, done, stop, fld, addr, and_then, no_more, returns, enter, alloc_all, pass_all, free_all, look_at, get, through, sets, lands_as, no, follows, such_by, follows_by, Is, shows, u64, mem, part_at, param, bounded, Laws, param_laws, of_field, copy_shared, RattleType, owns, Bor, MutBor, ShrRef, mut_vals, mut_Tells, shr_Tells, plain, types_at, mut_ref_to, named_lft, nothing, heard, peeks, only, u64-field, u64-laws, u64-copy, Tuple, tuple_laws, calls_at, Clauses, Ended, ensured, lasts, triple_of, Contract, Triple, framed, Stays, stay_dropped, walk_of, ends_at, Goes-spent_ref, proved, ◌-◌, Vec}
 use lib.Dec as Dec
-use seplogic.Ra.Ura.{Ura}
-use base.Fraction.{full_share}
 use base.Share
-use mir.Syntax.{Fn, Args, Dict, a_type, dcons, dnil, named}
-use mir.MapTy.{inst_fn}
-use mir.Val.{Val, vptr, vstruct, vcons, vnil, of_list}
-use base.Logic.{SProp, ent, emp, id⊢, ex_e, snd∗}
-use base.Fml.{Lft, GName, Share, ftrue, fsep, fauth, fres, flft}
-use prog.Memory.{Memory}
-use prog.Routine.{Routine}
-use prog.Wp.{Calls, Loops, WpFn}
-use types.Late.{ages, bor_new_deep}
-use types.Logic.{Logic, sem}
-use types.Mut.{open_ref}
-use types.Tokens.{name_new}
-use contract.BorrowLft.{◌⊑◌}
-use contract.Monad.{Fun, fact, fact_i}
-use contract.Running.{tables}
-use sound.WpLaws.{FmC}
-use types.Kit.{‵, raw, ◌⊛◌, some, later, ◌$◌, ◌∵◌, !, qed, move, keep, drop, use0, use1, use2, split, split3, join, pick, fsplit, fsplit3, fjoin, fjoin3, fpack, fpick, feq_i, feq_l, rewrite, suffices, frame, group, await, done}
-use types.Run.{stop, fld, addr, and_then, no_more, returns, enter}
-use types.ByLocal.{alloc_all, pass_all, free_all, look_at, get, through, sets, lands_as}
-use denote.Exit.{no}
-use denote.Follow.{follows, such_by, follows_by}
-use denote.Laws.{Is, shows}
-use denote.Builtin.{u64}
-use denote.Memory.{mem, part_at}
-use denote.Param.{param, bounded}
-use denote.Param.Laws.{Laws, param_laws, of_field}
-use denote.Param.Shared.{copy_shared}
-use denote.RattleType.{RattleType, owns}
-use denote.Ref.{Bor, MutBor, ShrRef, mut_vals, mut_Tells, shr_Tells}
-use denote.Signature.{plain, types_at, mut_ref_to, named_lft}
-use denote.Steps.{nothing, heard, peeks, only}
-use denote.Struct.Field.{u64-field}
-use denote.Struct.Laws.{u64-laws, u64-copy}
-use denote.Struct.Tuple.{Tuple, tuple_laws}
-use denote.Triple.Call.{calls_at}
-use denote.Triple.Clauses.{Clauses, Ended, ensured, lasts}
-use denote.Triple.Spec.{triple_of}
-use denote.Triple.Statement.{Contract, Triple}
-use denote.Triple.Table.{framed}
-use denote.Triple.Walked.{Stays, stay_dropped, walk_of, ends_at, Goes-spent_ref}
-use Rattle.std.proofs.raw_atomic.Walks.{proved}
-use Rattle.std.specs.Prelude.{Option, ◌-◌}
-use Rattle.std.specs.Global.{Vec}
+use Rattle.std.specs.Prelude.{Option}
 use Rattle.starlark_columns.specs.declared.loan.Keeps as Keeps
 use Rattle.starlark_columns.specs.declared.loan.Loan.{Loan}
 use Rattle.starlark_columns.specs.Lent.{kept_places}

@@ -1,45 +1,7 @@
 -- `insert_hashed` meets its contract, at any types, as `insert` does its own: one call takes the entry and puts the pair in, the next lends it. Assumes `Logic`.
-use mathlib.Core.Path.{◌≡◌, refl, sym, subst}
-use Prim.Native.Nat.{ℕ}
-use mathlib.Core.List.{List, [], ◌∷◌}
-use seplogic.Ra.Ura.{Ura}
-use mir.Syntax.{Fn, Args, Dict, Ty, a_type, dcons, dnil, named, tcons, tnil, ty_int, ty_struct, w32}
-use mir.MapTy.{inst_fn}
-use mir.Val.{Val}
-use base.Logic.{SProp, ent, emp, id⊢, ex_e, snd∗}
-use base.Fml.{Lft, GName, Share, ftrue, flft}
-use prog.Memory.{Memory}
-use prog.Routine.{Routine}
-use prog.Wp.{Calls, Loops, WpFn}
-use types.Logic.{Logic, sem}
-use contract.BorrowLft.{◌⊑◌, ⊑_trans}
-use contract.Monad.{Fun, fact, fact_i}
-use contract.Running.{tables}
-use sound.WpLaws.{FmC}
-use types.Kit.{‵, raw, ◌⊛◌, some, later, ◌$◌, ◌∵◌, !, qed, move, drop, use0, use1, use2, split, split3, join, pick, fjoin, suffices, frame, await, rewrite, group, done}
-use types.Run.{of_opd, and_then, no_more, returns, enter}
-use types.ByLocal.{alloc_all, pass_all, free_all, look_at, get, sets, lands_as}
-use denote.Exit.{no, rest, yes}
-use denote.RattleType.{RattleType, owns}
-use denote.Follow.{follows_so}
-use denote.Param.{arg, param, bounded, layout}
-use denote.Param.Laws.{Laws, arg_laws, param_laws}
-use denote.Ref.{Bor, MutBor, MutRef, ShrRef}
-use denote.Signature.{plain, types_at}
-use denote.Steps.{nothing, heard, peeks}
-use denote.Struct.Tuple.{Tuple, tuple_laws}
-use denote.Triple.Call.{calls_at}
-use denote.Triple.Clauses.{Clauses, Ended, Lasts, ensured, lasts}
-use denote.Triple.Spec.{triple_of}
-use denote.Triple.Statement.{Contract, Triple}
-use denote.Triple.Table.{framed}
-use denote.Triple.Walked.{Stays, stay_dropped, walk_of, ends_at}
-use Rattle.core.proofs.alloc.Calls.{Goes-blank}
-use Rattle.core.proofs.cell.Inside.{Good}
+use Rattle.starlark_columns.proofs.Walking.{◌≡◌, refl, sym, subst, ℕ, List, [], ◌∷◌, Ura, Fn, Args, Dict, Ty, a_type, dcons, dnil, named, tcons, tnil, ty_int, ty_struct, w32, inst_fn, Val, SProp, ent, emp, id⊢, ex_e, snd∗, Lft, GName, Share, ftrue, flft, Memory, Routine, Calls, Loops, WpFn, Logic, sem, ◌⊑◌, ⊑_trans, Fun, fact, fact_i, tables, FmC, ‵, raw, ◌⊛◌, some, later, ◌$◌, ◌∵◌, !, qed, move, drop, use0, use1, use2, split, split3, join, pick, fjoin, suffices, frame, await, rewrite, group, done, of_opd, and_then, no_more, returns, enter, alloc_all, pass_all, free_all, look_at, get, sets, lands_as, no, rest, yes, RattleType, owns, follows_so, arg, param, bounded, layout, Laws, arg_laws, param_laws, Bor, MutBor, MutRef, ShrRef, plain, types_at, nothing, heard, peeks, Tuple, tuple_laws, calls_at, Clauses, Ended, Lasts, ensured, lasts, triple_of, Contract, Triple, framed, Stays, stay_dropped, walk_of, ends_at, Goes-blank, Good, proved_at, Result, Err, None, IfOk, IfErr, IsOk, OnOk, OnErr, MatchResult, true, is_some, lookup, name_if_ok, Is, shows, result_laws}
 use Rattle.core.specs.contracts.result.Result as RS
-use Rattle.std.proofs.raw_atomic.Walks.{proved_at}
-use Rattle.std.specs.Prelude.{Result, Err, Some, None, IfOk, IfErr, IsOk, OnOk, OnErr, MatchResult, true}
-use Rattle.std.specs.Option.{is_some}
+use Rattle.std.specs.Prelude.{Some}
 use Rattle.std.specs.declared.cmp.Eq as Eq
 use Rattle.std.specs.declared.cmp.PartialEq as PartialEq
 use Rattle.std.specs.declared.hash.Hash as Hash
@@ -54,9 +16,6 @@ use Rattle.starlark_hash.specs.Hasher.{own_hash}
 use Rattle.starlark_hash.specs.HashValue.{hash_of, key_of}
 use Rattle.starlark_hash.specs.declared.no_room.NoRoom.{NoRoom}
 use Rattle.starlark_hash.proofs.no_room.NoRoom.TheLaws as room_laws
-use Rattle.std.specs.Map.{lookup}
-use Rattle.std.specs.Borrow.{name_if_ok}
-use denote.Laws.{Is, shows}
 use base.Share
 use Rattle.starlark_unordered.specs.contracts.unordered_map.UnorderedMap as U
 use Rattle.starlark_unordered.specs.contracts.raw_entry.RawVacantEntryMut as Vacant
@@ -72,7 +31,6 @@ use Rattle.starlark_unordered.proofs.raw_entry.RawVacantEntryMut.place_hashed.Sy
 use Rattle.starlark_unordered.proofs.raw_entry.RawVacantEntryMut.place_hashed.Met as place
 use Rattle.starlark_unordered.proofs.raw_entry.lend_placed.Symbol.{name as #lend}
 use Rattle.starlark_unordered.proofs.raw_entry.lend_placed.Met as lend
-use Rattle.core.proofs.result.Result.TheLaws.{the_row_laws as result_laws}
 use Rattle.starlark_unordered.proofs.raw_entry.RawVacantEntryMut.insert_hashed.Statement.{statement}
 use Rattle.starlark_unordered.proofs.raw_entry.RawVacantEntryMut.insert_hashed.Code as code
 

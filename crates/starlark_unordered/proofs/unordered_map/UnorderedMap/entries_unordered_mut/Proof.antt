@@ -1,48 +1,9 @@
 -- `entries_unordered_mut` lends the table; the map, open over the call, is closed by what that follows. Assumes `Logic`.
-use mathlib.Core.Path.{◌≡◌, refl, sym, ap, subst, ◌∙◌}
-use Prim.Native.Nat.{◌+◌}
-use mathlib.Core.List.{List, [], ◌∷◌}
-use seplogic.Ra.Ura.{Ura}
-use base.Fraction.{full_share}
-use mir.Syntax.{Fn, Args, Dict, a_type, dcons, dnil, named}
-use mir.MapTy.{inst_fn}
-use mir.Val.{Val, vptr}
+use Rattle.starlark_columns.proofs.Walking.{◌≡◌, refl, sym, ap, subst, ◌∙◌, ◌+◌, List, [], ◌∷◌, Ura, full_share, Fn, Args, Dict, a_type, dcons, dnil, named, inst_fn, Val, vptr, SProp, ent, emp, id⊢, ex_e, snd∗, Lft, GName, Share, ftrue, fsep, flft, fauth, Memory, Routine, Calls, Loops, WpFn, Tables, Logic, sem, ◌⊑◌, Fun, fact, fact_i, tables, tables_of, FmC, fm_of, WpFn-mono, ages, bor_new_deep, open_ref, name_new, ‵, raw, ◌⊛◌, some, later, ◌$◌, ◌∵◌, !, qed, move, keep, drop, use0, use1, use2, split, split3, join, pick, fsplit, fsplit3, fjoin, fjoin3, fpack, feq_i, rewrite, suffices, frame, await, group, done, stop, fld, addr, and_then, no_more, returns, enter, alloc_all, pass_all, free_all, look_at, get, through, sets, lands_as, no, follows, RattleType, owns, mem, param, bounded, layouts, Laws, MutBor, NamedLft, mut_vals, mut_Tells, plain, types_at, mut_ref_to, named_lft, nothing, heard, only, calls_at, Clauses, Ended, closing, ensured, lasts, Meets, triple_of, Contract, Triple, entered, Stays, stay_dropped, walk_of, ends_at, walked, walk_Meets, Goes-spent_ref, ◌<◌, ◌^◌, length, Is, shows, part_at, param_laws, peeks}
 use base.Share
-use base.Logic.{SProp, ent, emp, id⊢, ex_e, snd∗}
-use base.Fml.{Lft, GName, Share, ftrue, fsep, flft, fauth}
-use prog.Memory.{Memory}
-use prog.Routine.{Routine}
-use prog.Wp.{Calls, Loops, WpFn, Tables}
-use types.Logic.{Logic, sem}
-use contract.BorrowLft.{◌⊑◌}
-use contract.Monad.{Fun, fact, fact_i}
-use contract.Running.{tables, tables_of}
-use sound.WpLaws.{FmC, fm_of, WpFn-mono}
-use types.Late.{ages, bor_new_deep}
-use types.Mut.{open_ref}
-use types.Tokens.{name_new}
-use types.Kit.{‵, raw, ◌⊛◌, some, later, ◌$◌, ◌∵◌, !, qed, move, keep, drop, use0, use1, use2, split, split3, join, pick, fsplit, fsplit3, fjoin, fjoin3, fpack, feq_i, rewrite, suffices, frame, await, group, done}
-use types.Run.{stop, fld, addr, and_then, no_more, returns, enter}
-use types.ByLocal.{alloc_all, pass_all, free_all, look_at, get, through, sets, lands_as}
-use denote.Exit.{no}
-use denote.Follow.{follows}
-use denote.RattleType.{RattleType, owns}
-use denote.Memory.{mem}
-use denote.Param.{param, bounded, layouts}
-use denote.Param.Laws.{Laws}
-use denote.Ref.{MutBor, NamedLft, mut_vals, mut_Tells}
-use denote.Signature.{plain, types_at, mut_ref_to, named_lft}
-use denote.Steps.{nothing, heard, only}
-use denote.Triple.Call.{calls_at}
-use denote.Triple.Clauses.{Clauses, Ended, closing, ensured, lasts}
-use denote.Triple.Spec.{Meets, triple_of}
-use denote.Triple.Statement.{Contract, Triple}
-use denote.Triple.Table.{entered}
-use denote.Triple.Walked.{Stays, stay_dropped, walk_of, ends_at, walked, walk_Meets, Goes-spent_ref}
 use Rattle.std.specs.declared.cmp.Eq as Eq
 use Rattle.std.specs.declared.cmp.PartialEq as PartialEq
 use Rattle.std.specs.declared.hash.Hash as Hash
-use Rattle.std.specs.Prelude.{◌<◌, ◌^◌, length}
 use Rattle.starlark_table.specs.Table.{Table, items_of, members}
 use Rattle.starlark_table.specs.Written.{with_values}
 use Rattle.starlark_table.specs.contracts.pairs_mut.PairsMut as walk-type
@@ -59,10 +20,6 @@ use Rattle.starlark_unordered.specs.contracts.unordered_map.UnorderedMap.entries
 use Rattle.starlark_unordered.proofs.Keys.{distinct_pairs}
 use Rattle.starlark_unordered.proofs.UnorderedMapOpen as O
 use Rattle.starlark_unordered.proofs.ValuesWritten.{IsKeyed-with_values, again-with_values}
-use denote.Laws.{Is, shows}
-use denote.Memory.{part_at}
-use denote.Param.Laws.{param_laws}
-use denote.Steps.{peeks}
 use Rattle.starlark_unordered.proofs.unordered_map.UnorderedMap.entries_unordered_mut.Statement as stated
 use Rattle.starlark_unordered.proofs.unordered_map.UnorderedMap.entries_unordered_mut.Code as code
 

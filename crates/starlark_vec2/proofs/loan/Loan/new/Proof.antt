@@ -1,54 +1,7 @@
 -- `new` freezes the first parts of a column's pairs. The column stays open while it is lent to the call that shows its
 -- items. Assumes `Logic`.
-use mathlib.Core.Path.{◌≡◌, refl, sym, ap, subst, ◌∙◌}
-use Prim.Native.Nat.{ℕ, ◌+◌, ◌*◌, ◌<◌, ◌^◌}
-use native.Mathlib.Nat.{zero-add, zero-mul}
-use mathlib.Core.List.{List, [], ◌∷◌}
-use lib.ListN.{length}
-use seplogic.Ra.Ura.{Ura}
-use mir.Syntax.{Fn, Args, a_type, named, w64}
-use mir.MapTy.{inst_fn}
-use mir.Val.{Val, vint, vptr, vstruct, vcons, vnil}
+use Rattle.starlark_columns.proofs.Walking.{◌≡◌, refl, sym, ap, subst, ◌∙◌, ℕ, ◌+◌, ◌*◌, ◌<◌, ◌^◌, zero-add, zero-mul, List, [], ◌∷◌, length, Ura, Fn, Args, a_type, named, w64, inst_fn, Val, vint, vptr, vstruct, vcons, vnil, SProp, ent, emp, id⊢, ex_e, fst∗, snd∗, Lft, GName, Share, ftrue, fsep, flft, fauth, Memory, Routine, Calls, Loops, WpFn, Tables, Logic, sem, ◌⊑◌, Fun, fact, fact_i, tables, tables_of, FmC, fm_of, WpFn-mono, ages, bor_new_deep, open_ref, name_new, ‵, raw, ◌⊛◌, some, later, ◌$◌, ◌∵◌, !, qed, move, keep, drop, use0, use1, use2, split, split3, join, pick, fsplit, fsplit3, fjoin, fjoin3, fpack, feq_i, feq_l, rewrite, suffices, frame, await, group, done, whole, sub, agg, stop, fld, hop, from, addr, and_then, no_more, returns, enter, alloc_all, pass_all, free_all, look_at, look_in_at, get, through, sets, lands_as, Array, usize, yes, no, follows, follows_then, RattleType, owns, mem, param, layouts, block_ptr, MutBor, mut_vals, mut_Tells, makes_shadow, pure_l, pure_i, plain, types_at, mut_ref_to, named_lft, MutSlice, Room, room, mut_slice_at, mut_slice_vals, uint_vals, uint_Tells, uint_Makes, nothing, owned, heard, only, shape, Struct, calls_at, Clauses, Ended, closing, ensured, lasts, Meets, triple_of, Contract, Triple, entered, says, Stays, stay_dropped, walk_of, ends_at, walked, walk_Meets, Goes-dropped, Goes-spent_ref}
 use base.Share
-use base.Logic.{SProp, ent, emp, id⊢, ex_e, fst∗, snd∗}
-use base.Fml.{Lft, GName, Share, ftrue, fsep, flft, fauth}
-use prog.Memory.{Memory}
-use prog.Routine.{Routine}
-use prog.Wp.{Calls, Loops, WpFn, Tables}
-use types.Logic.{Logic, sem}
-use contract.BorrowLft.{◌⊑◌}
-use contract.Monad.{Fun, fact, fact_i}
-use contract.Running.{tables, tables_of}
-use sound.WpLaws.{FmC, fm_of, WpFn-mono}
-use types.Late.{ages, bor_new_deep}
-use types.Mut.{open_ref}
-use types.Tokens.{name_new}
-use types.Kit.{‵, raw, ◌⊛◌, some, later, ◌$◌, ◌∵◌, !, qed, move, keep, drop, use0, use1, use2, split, split3, join, pick, fsplit, fsplit3, fjoin, fjoin3, fpack, feq_i, feq_l, rewrite, suffices, frame, await, group, done}
-use types.Part.{whole, sub, agg}
-use types.Run.{stop, fld, hop, from, addr, and_then, no_more, returns, enter}
-use types.ByLocal.{alloc_all, pass_all, free_all, look_at, look_in_at, get, through, sets, lands_as}
-use denote.Array.{Array}
-use denote.Builtin.{usize}
-use denote.Exit.{yes, no}
-use denote.Follow.{follows, follows_then}
-use denote.RattleType.{RattleType, owns}
-use denote.Memory.{mem}
-use denote.Param.{param, layouts}
-use denote.RawPtr.{block_ptr}
-use denote.Ref.{MutBor, mut_vals, mut_Tells}
-use denote.Shadow.{makes_shadow, pure_l, pure_i}
-use denote.Signature.{plain, types_at, mut_ref_to, named_lft}
-use denote.Slice.{MutSlice, Room, room, mut_slice_at, mut_slice_vals}
-use denote.Plain.{uint_vals, uint_Tells, uint_Makes}
-use denote.Steps.{nothing, owned, heard, only}
-use denote.Struct.Owning.{shape}
-use denote.Struct.Struct.{Struct}
-use denote.Triple.Call.{calls_at}
-use denote.Triple.Clauses.{Clauses, Ended, closing, ensured, lasts}
-use denote.Triple.Spec.{Meets, triple_of}
-use denote.Triple.Statement.{Contract, Triple}
-use denote.Triple.Table.{entered}
-use denote.Triple.Walked.{says, Stays, stay_dropped, walk_of, ends_at, walked, walk_Meets, Goes-dropped, Goes-spent_ref}
 use Rattle.starlark_columns.specs.Laid.{Laid, relaid}
 use Rattle.starlark_columns.specs.Places.{items_of}
 use Rattle.starlark_columns.specs.Front.{IsFront, with_items}

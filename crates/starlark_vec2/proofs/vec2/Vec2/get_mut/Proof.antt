@@ -1,55 +1,9 @@
 -- `get_mut` meets its contract, at any two item types: the struct stays open while its columns are lent, each to a
 -- call, and what they follow closes it; where the first has no item, both are given up and it closes unchanged. Assumes
 -- `Logic`.
-use mathlib.Core.Path.{◌≡◌, refl, sym, ap, subst, ◌∙◌}
-use native.Mathlib.Omega.{arith}
-use Prim.Native.Nat.{ℕ, ◌+◌, ◌<◌, ◌^◌}
-use mathlib.Core.List.{List, [], ◌∷◌}
-use lib.ListN.{length}
-use seplogic.Ra.Ura.{Ura}
-use base.Fraction.{full_share}
-use mir.Syntax.{Fn, Args, a_type, named, w64}
-use mir.MapTy.{inst_fn}
-use mir.Val.{Val, vint, vptr, vcons, vnil, of_list}
+use Rattle.starlark_columns.proofs.Walking.{◌≡◌, refl, sym, ap, subst, ◌∙◌, arith, ℕ, ◌+◌, ◌<◌, ◌^◌, List, [], ◌∷◌, length, Ura, full_share, Fn, Args, a_type, named, w64, inst_fn, Val, vint, vptr, vcons, vnil, of_list, SProp, ent, sep, emp, id⊢, ex_e, snd∗, Lft, Share, ftrue, fsep, flft, fauth, fres, Memory, Routine, Calls, Loops, WpFn, Tables, ages, bor_new_deep, Logic, sem, open_ref, name_new, ◌⊑◌, Fun, fact, fact_i, tables, tables_of, FmC, fm_of, WpFn-mono, whole, agg, learn, given, at_ret, rewrite, ‵, raw, ◌⊛◌, some, later, ◌$◌, ◌∵◌, !, qed, by, move, keep, use0, use1, use2, drop, split, split3, join, pick, fsplit3, fjoin, fjoin3, fpack, feq_i, feq_l, suffices, frame, await, group, done, stop, fld, look, load, addr, lit, of_opd, and_then, no_more, first, exec, returns, enter, alloc_all, pass_all, free_all, look_at, get, get_in, get_tag, through, sets, sets_last, lands_as, env, yes, no, RattleType, owns, usize, follows, follows_if, follows_both, both_by, mem, part_at, param, layout, layouts, Laws, param_laws, uint_vals, uint_Tells, uint_Makes, MutBor, MutRef, mut_vals, mut_Tells, plain, types_at, mut_ref_to, nothing, owned, heard, only, calls_at, Clauses, Ended, closing, ensured, lasts, Meets, triple_of, Contract, Triple, entered, says, Stays, stay_dropped, walk_of, ends_at, walked, walk_Meets, Goes-dropped, Goes-spent_ref, get_or, slice_get, slice_set, slice_get_within, length-set, Good, Some-of, none_of, ghost_name_of, option_copied_mut, inl, inr, suc-ne-zero, lit<, Env, live, vrt, in_variant, by_variants}
 use base.Share
-use base.Logic.{SProp, ent, sep, emp, id⊢, ex_e, snd∗}
-use base.Fml.{Lft, Share, ftrue, fsep, flft, fauth, fres}
-use prog.Memory.{Memory}
-use prog.Routine.{Routine}
-use prog.Wp.{Calls, Loops, WpFn, Tables}
-use types.Late.{ages, bor_new_deep}
-use types.Logic.{Logic, sem}
-use types.Mut.{open_ref}
-use types.Tokens.{name_new}
-use contract.BorrowLft.{◌⊑◌}
-use contract.Monad.{Fun, fact, fact_i}
-use contract.Running.{tables, tables_of}
-use sound.WpLaws.{FmC, fm_of, WpFn-mono}
-use types.Part.{whole, agg}
-use types.Kit.{learn, given, at_ret, rewrite, ‵, raw, ◌⊛◌, some, later, ◌$◌, ◌∵◌, !, qed, by, move, keep, use0, use1, use2, drop, split, split3, join, pick, fsplit3, fjoin, fjoin3, fpack, feq_i, feq_l, suffices, frame, await, group, done}
-use types.Run.{stop, fld, look, load, addr, lit, of_opd, and_then, no_more, first, exec, returns, enter}
-use types.ByLocal.{alloc_all, pass_all, free_all, look_at, get, get_in, get_tag, through, sets, sets_last, lands_as, env}
-use denote.Exit.{yes, no}
-use denote.RattleType.{RattleType, owns}
-use denote.Builtin.{usize}
-use denote.Follow.{follows, follows_if, follows_both, both_by}
-use denote.Memory.{mem, part_at}
-use denote.Param.{param, layout, layouts}
-use denote.Param.Laws.{Laws, param_laws}
-use denote.Plain.{uint_vals, uint_Tells, uint_Makes}
-use denote.Ref.{MutBor, MutRef, mut_vals, mut_Tells}
-use denote.Signature.{plain, types_at, mut_ref_to}
-use denote.Steps.{nothing, owned, heard, only}
-use denote.Triple.Call.{calls_at}
-use denote.Triple.Clauses.{Clauses, Ended, closing, ensured, lasts}
-use denote.Triple.Spec.{Meets, triple_of}
-use denote.Triple.Statement.{Contract, Triple}
-use denote.Triple.Table.{entered}
-use denote.Triple.Walked.{says, Stays, stay_dropped, walk_of, ends_at, walked, walk_Meets, Goes-dropped, Goes-spent_ref}
-use Rattle.std.specs.Prelude.{get_or, slice_get, slice_set}
-use Rattle.std.proofs.lemmas.Option.{slice_get_within}
 use Rattle.std.specs.declared.option.Option.TheVariants.{Some, None}
-use lib.ListN.{length-set}
 use Rattle.starlark_columns.specs.Laid.{relaid}
 use Rattle.starlark_columns.specs.Places.{items_of, IsFilled}
 use Rattle.starlark_columns.specs.Front.{IsFront}
@@ -70,17 +24,9 @@ use Rattle.starlark_vec2.specs.contracts.vec2.lends.lend_place_if as h
 use Rattle.starlark_vec2.proofs.vec2.lends.lend_place_if.Symbol.{name as #place_if}
 use Rattle.starlark_vec2.proofs.vec2.lends.lend_place_if.Met as place_if
 use Rattle.starlark_vec2.proofs.LentInOption.{either, left_one, left_none, leaves_two, leaves_none, in_some_told, in_none, given_up, as_tuple, PairOf, pair_val}
-use Rattle.core.proofs.cell.Inside.{Good}
-use Rattle.core.proofs.option.Made.{Some-of, none_of}
 use Rattle.core.specs.contracts.option.Option as OP
-use Rattle.core.specs.Option.{ghost_name_of, option_copied_mut}
 use Rattle.std.proofs.VecSteps.Shapes.{after}
 use Rattle.std.specs.declared.option.Option.{Option}
-use mathlib.Core.Logic.{inl, inr}
-use native.Mathlib.Nat.{suc-ne-zero}
-use lib.Dec.{lit<}
-use prog.Wp.{Env}
-use types.Match.{live, vrt, in_variant, by_variants}
 use Rattle.starlark_vec2.proofs.vec2.Vec2.get_mut.Statement as stated
 use Rattle.starlark_vec2.proofs.vec2.Vec2.get_mut.Code as code
 

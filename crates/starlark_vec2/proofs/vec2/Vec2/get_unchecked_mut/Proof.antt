@@ -1,51 +1,7 @@
 -- `get_unchecked_mut` meets its contract, at any two item types: the struct stays open while its columns are lent to one call, and what they follow closes it. Assumes `Logic`.
-use mathlib.Core.Path.{◌≡◌, refl, ap, ◌∙◌}
-use Prim.Native.Nat.{ℕ, ◌+◌, ◌<◌, ◌^◌}
-use mathlib.Core.List.{List, [], ◌∷◌, ◌++◌}
-use lib.ListN.{length}
-use seplogic.Ra.Ura.{Ura}
-use base.Fraction.{full_share}
-use mir.Syntax.{Fn, Args, a_type, named, w64}
-use mir.MapTy.{inst_fn}
-use mir.Val.{Val, vint, vptr, vstruct, vcons, vnil, of_list}
+use Rattle.starlark_columns.proofs.Walking.{◌≡◌, refl, ap, ◌∙◌, ℕ, ◌+◌, ◌<◌, ◌^◌, List, [], ◌∷◌, ◌++◌, length, Ura, full_share, Fn, Args, a_type, named, w64, inst_fn, Val, vint, vptr, vstruct, vcons, vnil, of_list, SProp, ent, emp, id⊢, ex_e, snd∗, Lft, Share, ftrue, fsep, flft, fauth, Memory, Routine, Calls, Loops, WpFn, Tables, ages, bor_new_deep, Logic, sem, open_ref, name_new, ◌⊑◌, Fun, fact, fact_i, tables, tables_of, FmC, fm_of, WpFn-mono, ‵, raw, ◌⊛◌, some, later, ◌$◌, ◌∵◌, !, qed, move, keep, use0, use1, use2, drop, split, split3, join, pick, fsplit, fsplit3, fjoin, fjoin3, fpack, fpick, feq_i, feq_l, suffices, frame, await, group, done, stop, fld, addr, and_then, no_more, returns, enter, alloc_all, pass_all, free_all, look_at, get, through, sets, lands_as, yes, no, RattleType, owns, usize, follows, follows_both, both_by, mem, part_at, param, layouts, Laws, param_laws, uint_vals, uint_Tells, uint_Makes, MutBor, MutRef, mut_vals, mut_Tells, plain, types_at, mut_ref_to, nothing, owned, heard, only, Tuple, calls_at, Clauses, Ended, closing, ensured, lasts, Meets, triple_of, Contract, Triple, entered, says, Stays, stay_dropped, walk_of, ends_at, walked, walk_Meets, Goes-dropped, Goes-spent_ref, get_or, slice_set, None, length-set}
 use base.Share
-use base.Logic.{SProp, ent, emp, id⊢, ex_e, snd∗}
-use base.Fml.{Lft, Share, ftrue, fsep, flft, fauth}
-use prog.Memory.{Memory}
-use prog.Routine.{Routine}
-use prog.Wp.{Calls, Loops, WpFn, Tables}
-use types.Late.{ages, bor_new_deep}
-use types.Logic.{Logic, sem}
-use types.Mut.{open_ref}
-use types.Tokens.{name_new}
-use contract.BorrowLft.{◌⊑◌}
-use contract.Monad.{Fun, fact, fact_i}
-use contract.Running.{tables, tables_of}
-use sound.WpLaws.{FmC, fm_of, WpFn-mono}
-use types.Kit.{‵, raw, ◌⊛◌, some, later, ◌$◌, ◌∵◌, !, qed, move, keep, use0, use1, use2, drop, split, split3, join, pick, fsplit, fsplit3, fjoin, fjoin3, fpack, fpick, feq_i, feq_l, suffices, frame, await, group, done}
-use types.Run.{stop, fld, addr, and_then, no_more, returns, enter}
-use types.ByLocal.{alloc_all, pass_all, free_all, look_at, get, through, sets, lands_as}
-use denote.Exit.{yes, no}
-use denote.RattleType.{RattleType, owns}
-use denote.Builtin.{usize}
-use denote.Follow.{follows, follows_both, both_by}
-use denote.Memory.{mem, part_at}
-use denote.Param.{param, layouts}
-use denote.Param.Laws.{Laws, param_laws}
-use denote.Plain.{uint_vals, uint_Tells, uint_Makes}
-use denote.Ref.{MutBor, MutRef, mut_vals, mut_Tells}
-use denote.Signature.{plain, types_at, mut_ref_to}
-use denote.Steps.{nothing, owned, heard, only}
-use denote.Struct.Tuple.{Tuple}
-use denote.Triple.Call.{calls_at}
-use denote.Triple.Clauses.{Clauses, Ended, closing, ensured, lasts}
-use denote.Triple.Spec.{Meets, triple_of}
-use denote.Triple.Statement.{Contract, Triple}
-use denote.Triple.Table.{entered}
-use denote.Triple.Walked.{says, Stays, stay_dropped, walk_of, ends_at, walked, walk_Meets, Goes-dropped, Goes-spent_ref}
-use Rattle.std.specs.Prelude.{get_or, slice_set, None}
 use Rattle.std.specs.declared.option.Option.TheVariants.{Some}
-use lib.ListN.{length-set}
 use Rattle.starlark_columns.specs.Laid.{relaid}
 use Rattle.starlark_columns.specs.Places.{IsFilled}
 use Rattle.starlark_columns.proofs.Fronts.{front_filled, front_taken}

@@ -1,45 +1,7 @@
 -- `iter_mut` walks the pairs of the columns, and the whole map, open over the call, is closed by what they follow.
 -- Assumes `Logic`.
-use mathlib.Core.Path.{◌≡◌, refl, sym, ap, ◌∙◌}
-use Prim.Native.Nat.{ℕ, ◌+◌}
-use mathlib.Core.List.{List, [], ◌∷◌, not-mem-nil}
-use seplogic.Ra.Ura.{Ura}
-use base.Fraction.{full_share}
-use mir.Syntax.{Fn, Args, a_type, named}
-use mir.MapTy.{inst_fn}
-use mir.Val.{Val, vptr}
+use Rattle.starlark_columns.proofs.Walking.{◌≡◌, refl, sym, ap, ◌∙◌, ℕ, ◌+◌, List, [], ◌∷◌, not-mem-nil, Ura, full_share, Fn, Args, a_type, named, inst_fn, Val, vptr, SProp, ent, emp, id⊢, ex_e, snd∗, Lft, GName, Share, ftrue, fsep, flft, fauth, Memory, Routine, Calls, Loops, WpFn, Tables, Logic, sem, ◌⊑◌, ⊑_refl, Fun, fact, fact_i, tables, tables_of, FmC, fm_of, WpFn-mono, ages, bor_new_deep, open_ref, name_new, ‵, raw, ◌⊛◌, some, later, ◌$◌, ◌∵◌, !, qed, move, keep, drop, use0, use1, use2, split, split3, join, pick, fsplit, fsplit3, fjoin, fjoin3, fpack, feq_i, rewrite, suffices, frame, await, group, done, stop, fld, addr, and_then, no_more, returns, enter, alloc_all, pass_all, free_all, look_at, get, through, sets, lands_as, no, follows, RattleType, owns, mem, param, layouts, Laws, MutBor, NamedLft, mut_vals, mut_Tells, plain, types_at, mut_ref_to, named_lft, nothing, heard, only, calls_at, Clauses, Ended, closing, ensured, lasts, Meets, triple_of, Contract, Triple, entered, Stays, stay_dropped, walk_of, ends_at, walked, walk_Meets, Goes-spent_ref, ◌<◌, ◌^◌, length, map, length-map, u32, of_field, copy_shared, u32-field, u32-laws, u32-copy, Is, shows, part_at, param_laws, peeks}
 use base.Share
-use base.Logic.{SProp, ent, emp, id⊢, ex_e, snd∗}
-use base.Fml.{Lft, GName, Share, ftrue, fsep, flft, fauth}
-use prog.Memory.{Memory}
-use prog.Routine.{Routine}
-use prog.Wp.{Calls, Loops, WpFn, Tables}
-use types.Logic.{Logic, sem}
-use contract.BorrowLft.{◌⊑◌, ⊑_refl}
-use contract.Monad.{Fun, fact, fact_i}
-use contract.Running.{tables, tables_of}
-use sound.WpLaws.{FmC, fm_of, WpFn-mono}
-use types.Late.{ages, bor_new_deep}
-use types.Mut.{open_ref}
-use types.Tokens.{name_new}
-use types.Kit.{‵, raw, ◌⊛◌, some, later, ◌$◌, ◌∵◌, !, qed, move, keep, drop, use0, use1, use2, split, split3, join, pick, fsplit, fsplit3, fjoin, fjoin3, fpack, feq_i, rewrite, suffices, frame, await, group, done}
-use types.Run.{stop, fld, addr, and_then, no_more, returns, enter}
-use types.ByLocal.{alloc_all, pass_all, free_all, look_at, get, through, sets, lands_as}
-use denote.Exit.{no}
-use denote.Follow.{follows}
-use denote.RattleType.{RattleType, owns}
-use denote.Memory.{mem}
-use denote.Param.{param, layouts}
-use denote.Param.Laws.{Laws}
-use denote.Ref.{MutBor, NamedLft, mut_vals, mut_Tells}
-use denote.Signature.{plain, types_at, mut_ref_to, named_lft}
-use denote.Steps.{nothing, heard, only}
-use denote.Triple.Call.{calls_at}
-use denote.Triple.Clauses.{Clauses, Ended, closing, ensured, lasts}
-use denote.Triple.Spec.{Meets, triple_of}
-use denote.Triple.Statement.{Contract, Triple}
-use denote.Triple.Table.{entered}
-use denote.Triple.Walked.{Stays, stay_dropped, walk_of, ends_at, walked, walk_Meets, Goes-spent_ref}
 use Rattle.starlark_columns.proofs.NamedClose.{closes_named}
 use Rattle.starlark_vec2.specs.contracts.pairs_mut.PairsMut as P-type
 use Rattle.starlark_vecmap.specs.contracts.vec_map.VecMap.iter_mut as F
@@ -50,8 +12,6 @@ use Rattle.starlark_vec2.proofs.vec2.lends.Vec2+tuple2+K+V+B.iter_firsts_mut.Met
 use Rattle.starlark_vec2.proofs.pairs_mut.PairsMut.TheLaws as P-laws
 use Rattle.starlark_vec2.proofs.WalkRenamed.{renamed}
 use Rattle.starlark_columns.proofs.LoneValue.{lone_value}
-use Rattle.std.specs.Prelude.{◌<◌, ◌^◌, length, map}
-use Rattle.std.proofs.lemmas.List.{length-map}
 use Rattle.starlark_lists.specs.Entries.{pair_of}
 use Rattle.starlark_vec2.specs.PairList.{PairList, with_pairs, firsts_of}
 use Rattle.starlark_vec2.specs.Lending as pairs
@@ -59,15 +19,6 @@ use Rattle.starlark_vecmap.specs.EntryList.{EntryList, entry_list, entry_of, wit
 use Rattle.starlark_vecmap.proofs.Views.{pair_of-entry_of}
 use Rattle.starlark_vecmap.proofs.ValuesWritten.{with_values-entry_of}
 use Rattle.starlark_vecmap.proofs.VecMapOpen as O
-use denote.Builtin.{u32}
-use denote.Param.Laws.{of_field}
-use denote.Param.Shared.{copy_shared}
-use denote.Struct.Field.{u32-field}
-use denote.Struct.Laws.{u32-laws, u32-copy}
-use denote.Laws.{Is, shows}
-use denote.Memory.{part_at}
-use denote.Param.Laws.{param_laws}
-use denote.Steps.{peeks}
 use Rattle.starlark_vecmap.proofs.vec_map.VecMap.iter_mut.Statement as stated
 use Rattle.starlark_vecmap.proofs.vec_map.VecMap.iter_mut.Code as code
 

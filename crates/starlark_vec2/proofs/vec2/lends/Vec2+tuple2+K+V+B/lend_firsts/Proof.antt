@@ -1,48 +1,7 @@
 -- `lend_firsts` lends the first column, and the whole list, open over the call, is closed by what that follows. Assumes
 -- `Logic`.
-use mathlib.Core.Path.{◌≡◌, refl, sym, ap, ◌∙◌}
-use Prim.Native.Nat.{ℕ, ◌+◌, ◌<◌, ◌^◌}
-use mathlib.Core.List.{List, [], ◌∷◌}
-use lib.ListN.{length}
-use seplogic.Ra.Ura.{Ura}
-use base.Fraction.{full_share}
-use mir.Syntax.{Fn, Args, a_type, named, w64}
-use mir.MapTy.{inst_fn}
-use mir.Val.{Val, vint, vptr, vstruct, vcons, vnil}
+use Rattle.starlark_columns.proofs.Walking.{◌≡◌, refl, sym, ap, ◌∙◌, ℕ, ◌+◌, ◌<◌, ◌^◌, List, [], ◌∷◌, length, Ura, full_share, Fn, Args, a_type, named, w64, inst_fn, Val, vint, vptr, vstruct, vcons, vnil, SProp, ent, sep, emp, id⊢, ex_e, snd∗, Lft, GName, Share, ftrue, fsep, flft, fauth, Memory, Routine, Calls, Loops, WpFn, Tables, Logic, sem, ◌⊑◌, Fun, fact, fact_i, tables, tables_of, FmC, fm_of, WpFn-mono, ages, bor_new_deep, open_ref, name_new, ‵, raw, ◌⊛◌, some, later, ◌$◌, ◌∵◌, !, qed, move, keep, drop, use0, use1, use2, split, split3, join, pick, fsplit, fsplit3, fjoin, fjoin3, fpack, feq_i, rewrite, suffices, frame, await, group, done, stop, fld, look, load, of_opd, addr, and_then, no_more, returns, enter, alloc_all, pass_all, free_all, look_at, get, through, sets, lands_as, usize, no, uint_Makes, follows, RattleType, owns, mem, param, layouts, Laws, MutBor, mut_vals, mut_Tells, plain, types_at, mut_ref_to, named_lft, nothing, owned, heard, only, calls_at, Clauses, Ended, closing, ensured, lasts, Meets, triple_of, Contract, Triple, entered, Stays, stay_dropped, walk_of, ends_at, walked, walk_Meets, Goes-spent_ref, zip, shows, part_at, param_laws, tuple_laws, Ptr, in_a_block, peeks}
 use base.Share
-use base.Logic.{SProp, ent, sep, emp, id⊢, ex_e, snd∗}
-use base.Fml.{Lft, GName, Share, ftrue, fsep, flft, fauth}
-use prog.Memory.{Memory}
-use prog.Routine.{Routine}
-use prog.Wp.{Calls, Loops, WpFn, Tables}
-use types.Logic.{Logic, sem}
-use contract.BorrowLft.{◌⊑◌}
-use contract.Monad.{Fun, fact, fact_i}
-use contract.Running.{tables, tables_of}
-use sound.WpLaws.{FmC, fm_of, WpFn-mono}
-use types.Late.{ages, bor_new_deep}
-use types.Mut.{open_ref}
-use types.Tokens.{name_new}
-use types.Kit.{‵, raw, ◌⊛◌, some, later, ◌$◌, ◌∵◌, !, qed, move, keep, drop, use0, use1, use2, split, split3, join, pick, fsplit, fsplit3, fjoin, fjoin3, fpack, feq_i, rewrite, suffices, frame, await, group, done}
-use types.Run.{stop, fld, look, load, of_opd, addr, and_then, no_more, returns, enter}
-use types.ByLocal.{alloc_all, pass_all, free_all, look_at, get, through, sets, lands_as}
-use denote.Builtin.{usize}
-use denote.Exit.{no}
-use denote.Plain.{uint_Makes}
-use denote.Follow.{follows}
-use denote.RattleType.{RattleType, owns}
-use denote.Memory.{mem}
-use denote.Param.{param, layouts}
-use denote.Param.Laws.{Laws}
-use denote.Ref.{MutBor, mut_vals, mut_Tells}
-use denote.Signature.{plain, types_at, mut_ref_to, named_lft}
-use denote.Steps.{nothing, owned, heard, only}
-use denote.Triple.Call.{calls_at}
-use denote.Triple.Clauses.{Clauses, Ended, closing, ensured, lasts}
-use denote.Triple.Spec.{Meets, triple_of}
-use denote.Triple.Statement.{Contract, Triple}
-use denote.Triple.Table.{entered}
-use denote.Triple.Walked.{Stays, stay_dropped, walk_of, ends_at, walked, walk_Meets, Goes-spent_ref}
 use Rattle.starlark_columns.specs.Laid.{Laid, relaid}
 use Rattle.starlark_columns.specs.Places.{items_of}
 use Rattle.starlark_columns.specs.Front.{IsFront, with_items}
@@ -64,13 +23,6 @@ use Rattle.starlark_vec2.proofs.TwoColumns.{same_block, firsts_written, firsts_a
 use Rattle.starlark_vec2.proofs.Values.{with_values-zip}
 use Rattle.starlark_vec2.proofs.Vec2Open as O
 use Rattle.starlark_vec2.proofs.FrozenPairs.{length-with_seconds}
-use Rattle.std.specs.Prelude.{zip}
-use denote.Laws.{shows}
-use denote.Memory.{part_at}
-use denote.Param.Laws.{param_laws}
-use denote.Struct.Tuple.{tuple_laws}
-use denote.RawPtr.{Ptr, in_a_block}
-use denote.Steps.{peeks}
 use Rattle.starlark_vec2.specs.Frozen.{frozen}
 use Rattle.starlark_vec2.proofs.vec2.lends.Vec2+tuple2+K+V+B.lend_firsts.Statement as stated
 use Rattle.starlark_vec2.proofs.vec2.lends.Vec2+tuple2+K+V+B.lend_firsts.Code as code
