@@ -1,9 +1,11 @@
 //! The refusal of a new entry.
-ghost use Rattle.std.specs.Prelude.{Some, codes};
+ghost use Rattle.std.specs.Prelude.{◌≡◌, Some, codes};
+ghost use Rattle.std.specs.IoError.{error_kind};
+ghost use Rattle.std.specs.declared.io.ErrorKind.TheVariants.{OutOfMemory};
 
 use std::alloc::AllocError;
 use std::error::Error;
-use std::fmt;
+use std::{fmt, io};
 
 /// No memory was found for a new entry. What was to be inserted comes back. The entries of the collection are as they
 /// were; its capacity may have grown.
@@ -24,5 +26,15 @@ impl<T: fmt::Debug + Drop> Error for NoRoom<T> {}
 impl<T: Drop> From<NoRoom<T>> for AllocError {
     fn from(_: NoRoom<T>) -> Self {
         AllocError
+    }
+}
+
+/// So that `?` hands a refusal on in a function that answers `io::Result`, as want of memory. What was to be inserted is
+/// dropped.
+impl<T: Drop> From<NoRoom<T>> for io::Error {
+    ghost from_gives = { λ _ e. error_kind e ≡ OutOfMemory };
+
+    fn from(_: NoRoom<T>) -> Self {
+        io::Error::from(AllocError)
     }
 }
