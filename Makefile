@@ -1,51 +1,75 @@
-# The program is proved and run by the kit's command `rt`; nothing else is needed.
+# The program is proved and run by the kit's command `rt`; nothing else is needed. `make` alone lists the targets, and each
+# target says its line, on standard error, before it begins.
+
+# a script of map calls, by its path
 SCRIPT ?= examples/first.script
-# the crates whose wrong bodies are tried; none: all
+# a crate, by its name; of `wrong`, none: all
 CRATE ?=
 # the lines of a benchmark run of Rust's, to be set beside ours; none: ours alone
 RUST ?=
+export SCRIPT CRATE RUST
 
-.PHONY: run try demo bench chart test wrong refused hostile attack
+.PHONY: help try run demo check tests test bench chart wrong refused hostile attack clean
 
-# builds the proved program, and plays the script
-run:
-	@cd crates/starlark_script && rt run < "$(abspath $(SCRIPT))"
+define says
+@awk -F ' *## ' '/^$@:/ { print "make $@: " $$2 }' Makefile >&2
+endef
 
-# plays the script with no proof, in about a minute
-try:
-	@cd crates/starlark_script && rt try < "$(abspath $(SCRIPT))"
+help:
+	@awk -F ':.*## ' '/^[a-z]+:.*## / { printf "make %-8s %s\n", $$1, $$2 }' Makefile
 
-# plays a few lines on the scopes of an interpreter, with no proof, in about a minute
-demo:
+try: ## plays SCRIPT (examples/first.script) with no proof, in about a minute
+	$(says)
+	@./examples/play try "$$SCRIPT"
+
+run: ## proves the program and plays SCRIPT: some ten minutes the first time, then seconds
+	$(says)
+	@./examples/play run "$$SCRIPT"
+
+demo: ## plays a few lines on the scopes of an interpreter, with no proof, in about a minute
+	$(says)
 	@cd crates/starlark_demo && rt try
 
-# builds the proved benchmarks, and prints name, length, nanoseconds an operation and checksum of each; with RUST=FILE
-# also the ratios, and draws them
-bench:
-	@cd crates/starlark_bench && rt run > /dev/null
-	@./bench/measure $(if $(RUST),"$(abspath $(RUST))")
+check: ## proves CRATE and what it stands on: a minute or two for each crate the first time, then seconds
+	$(says)
+	@./examples/crate "$$CRATE"
+	@cd "crates/$$CRATE" && rt check
 
-# draws the picture of speed from its table
-chart:
-	@python3 bench/chart.py docs/SPEED.md > docs/speed.svg
+tests: ## runs the tests of CRATE with no proof, in about a minute
+	$(says)
+	@./examples/crate "$$CRATE"
+	@cd "crates/$$CRATE" && rt try --test
 
-# the merge gate: every proof, every test, every program
-test:
+test: ## the merge gate, every proof, test and program: about an hour on four cores, and 4.6 GB in out/, see clean
+	$(says)
 	@./examples/as-in-readme
 	@rt ci
 
-# tries the wrong bodies that stand beside the gate, of all crates or of CRATE, and says which the check refuses
-wrong:
-	@./wrong-bodies/try $(CRATE)
+bench: ## proves and runs the benchmarks, some ten minutes the first time; with RUST=FILE also the ratios, drawn
+	$(says)
+	@cd crates/starlark_bench && rt run > /dev/null
+	@if [ -n "$$RUST" ]; then ./bench/measure "$$RUST"; else ./bench/measure; fi
 
-# runs the tests of memory with each request refused in turn, unproved
-refused:
+chart: ## draws the picture of speed from its table, at once
+	$(says)
+	@python3 bench/chart.py docs/SPEED.md > docs/speed.svg
+
+wrong: ## tries the wrong bodies that stand beside the gate, of CRATE or of all: minutes for each crate
+	$(says)
+	@if [ -n "$$CRATE" ]; then ./wrong-bodies/try "$$CRATE"; else ./wrong-bodies/try; fi
+
+refused: ## runs the tests of memory with each request refused in turn, unproved: 25 rounds of some minutes
+	$(says)
 	@./refusals/try
 
-# plays scripts with the streams closed, full, cut short or not to be read
-hostile: run
+hostile: run ## plays scripts with the streams closed, full, cut short or not to be read: seconds after `run`
+	$(says)
 	@./hostile/streams
 
-# times hashes that an attacker may choose beside random ones
-attack: run
+attack: run ## times hashes that an attacker may choose beside random ones: a few minutes after `run`
+	$(says)
 	@python3 hostile/attack.py crates/starlark_script/out/starlark_script
+
+clean: ## removes each out/, where checks keep their work (4.6 GB after a whole gate): the next check proves anew
+	$(says)
+	@rm -rf crates/*/out
