@@ -7,9 +7,13 @@ SCRIPT ?= examples/first.script
 CRATE ?=
 # the lines of a benchmark run of Rust's, to be set beside ours; none: ours alone
 RUST ?=
-export SCRIPT CRATE RUST
+# the repository that is to have the crates
+INTO ?=
+# not empty: what the checks of these crates kept comes too
+PROOFS ?=
+export SCRIPT CRATE RUST INTO
 
-.PHONY: help try run demo check tests test bench chart wrong refused hostile attack clean
+.PHONY: help try run demo check tests test bench chart vendor wrong refused hostile attack clean
 
 define says
 @awk -F ' *## ' '/^$@:/ { print "make $@: " $$2 }' Makefile >&2
@@ -53,6 +57,10 @@ bench: ## proves and runs the benchmarks, some ten minutes the first time; with 
 chart: ## draws the picture of speed from its table, at once
 	$(says)
 	@python3 bench/chart.py docs/SPEED.md > docs/speed.svg
+
+vendor: ## copies starlark_map and the crates below it INTO another repository, in seconds; with PROOFS=yes also their proofs
+	$(says)
+	@./vendor/copy "$$INTO" $(if $(PROOFS),--proofs)
 
 wrong: ## tries the wrong bodies that stand beside the gate, of CRATE or of all: minutes for each crate
 	$(says)
