@@ -16,14 +16,21 @@ pub use Rattle.core.specs.Mem.Slots.{slots_counts, slots_filled, slots_items, sl
 pub use Rattle.core.specs.Mem.Slots.Ownership.{slots}
 pub use Rattle.core.specs.Option.{ghost_name_of, option_copied_mut}
 pub use Rattle.core.specs.declared.alloc.Allocator.{Ghosts}
-pub use Rattle.std.proofs.Common.{Bool, Err, IfErr, IfOk, List, Ok, Option, Result, Some, [], add-one, ap, arith, false, get_or, inl, inr, length, lit<, map, refl, slice_get, slice_set, subst, suc, sym, take, true, w64, zero, ℕ, ◌%◌, ◌*◌, ◌++◌, ◌+◌, ◌-◌, ◌<◌, ◌^◌, ◌∙◌, ◌∷◌, ◌≡◌, ◌≤◌, ◌⊎◌}
-pub use Rattle.std.proofs.lemmas.List.{length-map}
+pub use Rattle.std.proofs.Common.{Bool, Err, IfErr, IfOk, IfSome, List, Ok, Option, Result, Some, [], add-one, ap, append-nil, append_assoc, arith, bit_and, false, get_or, inl, inr, length, lit<, map, refl, rules, slice_get, slice_set, subst, suc, sym, take, true, w64, zero, ℕ, ◌%◌, ◌*◌, ◌++◌, ◌+◌, ◌-◌, ◌<◌, ◌^◌, ◌∙◌, ◌∷◌, ◌≡◌, ◌≢◌, ◌≤◌, ◌⊎◌}
+pub use Rattle.std.proofs.Math.ListN.{set}
+pub use Rattle.std.proofs.Math.Seq.{take-add}
+pub use Rattle.std.proofs.lemmas.Bool.{cases_lt}
+pub use Rattle.std.proofs.lemmas.List.{drop-drop, drop-take, get_or-drop, get_or-set_same, get_or_default, length-map, set-get_or, set-set, take-set, take-take}
 pub use Rattle.std.proofs.lemmas.List.Folds.{drop_split}
+pub use Rattle.std.proofs.lemmas.List.Sorted.{length_permutation}
 pub use Rattle.std.proofs.lemmas.Option.{slice_get_within}
 pub use Rattle.std.proofs.raw_atomic.Walks.{leaves, proved, proved_at}
 pub use Rattle.std.specs.Borrow.{name_if_ok}
+pub use Rattle.std.specs.Fn.{CalledAt, CalledAtMut, Mut, TakesAt}
 pub use Rattle.std.specs.Global.{Vec}
+pub use Rattle.std.specs.Int.Count.{count_trailing_zeros}
 pub use Rattle.std.specs.List.{refill, slice_range}
+pub use Rattle.std.specs.List.Retain.{RetainsInTurn}
 pub use Rattle.std.specs.Map.{lookup}
 pub use Rattle.std.specs.Mem.{type_size}
 pub use Rattle.std.specs.Option.{is_some, option_map, unwrap_or}

@@ -1,9 +1,7 @@
 -- A `SmallMap` in memory is its list of entries and the rest, and back, at any list of entries that goes with its index. Assumes `Logic`.
-use Rattle.starlark_columns.proofs.Walking.{◌≡◌, ℕ, zero, ◌+◌, List, [], ◌∷◌, Ura, full_share, SProp, ent, sep, wand, ex, all_e, apply∗, size, align, up, ‵, raw, ◌⊛◌, some, ◌$◌, ◌∵◌, !, qed, by, move, use1, use2, split, pick, show, fsplit, fjoin, done, Logic, sem, usize, RattleType, Denots, part_at, part_of, lone, plain_out, Plain-in, view_made, Laws, lawfuls, Member, rows_of, parts_at, shape_of, PartsBack, Struct-parts, Struct}
-use Rattle.core.specs.contracts.option.Option as option
-use Rattle.std.specs.contracts.alloc.Global as Global
+use Rattle.starlark_columns.proofs.Walking.{Ura, full_share, SProp, ent, sep, wand, ex, all_e, apply∗, size, align, up, ‵, raw, ◌⊛◌, some, ◌$◌, ◌∵◌, !, qed, by, move, use1, use2, split, pick, show, fsplit, fjoin, done, Logic, sem, RattleType, Denots, part_at, part_of, lone, plain_out, Plain-in, view_made, Laws, lawfuls, Member, rows_of, parts_at, shape_of, PartsBack, Struct-parts, Struct, ◌≡◌, ℕ, zero, ◌+◌, List, [], ◌∷◌}
 use Rattle.std.specs.declared.cmp.PartialEq as PartialEq
-use Rattle.starlark_table.specs.contracts.ready_table.ReadyTable as table
+use Rattle.starlark_small.specs.contracts.index.Index as index
 use Rattle.starlark_vecmap.specs.contracts.vec_map.VecMap as part
 use Rattle.starlark_small.specs.declared.small_map.SmallMap.TheInside.{Inside}
 pub use Rattle.starlark_small.specs.contracts.small_map.SmallMap as C
@@ -28,7 +26,7 @@ module _ (K V : RattleType) (g : PartialEq.Ghosts K.Denot) where
   CP = part.the_row K V
 
   abbrev left : List Member
-  left = member (option.the_field (table.the_row usize)).row ∷ member Global.the_field.row ∷ []
+  left = member index.the_row ∷ []
 
   abbrev ms : List Member
   ms = member CP ∷ left

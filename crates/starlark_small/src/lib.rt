@@ -2,7 +2,7 @@
 #![tactic(auto)]
 
 pub mod entry;
-mod indexed;
+mod index;
 pub mod iter;
 pub mod macros;
 mod own_hash;

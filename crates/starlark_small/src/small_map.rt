@@ -16,8 +16,7 @@ mod unique;
 mod walk;
 mod write;
 
-use crate::indexed::UNINDEXED;
-use starlark_table::ReadyTable;
+use crate::index::Index;
 use starlark_vecmap::VecMap;
 use std::alloc::{AllocError, Global};
 use std::marker::Model;
@@ -28,9 +27,7 @@ use std::marker::Model;
 #[derive(Drop)]
 pub struct SmallMap<K: Eq, V> {
     entries: VecMap<K, V>,
-    index: Option<ReadyTable<usize>>,
-    // Where the index gets its memory.
-    alloc: Global,
+    index: Index,
 }
 
 impl<K: Eq, V> Model for SmallMap<K, V> {
@@ -53,8 +50,7 @@ impl<K: Eq, V> SmallMap<K, V> {
     {
         SmallMap {
             entries: VecMap::new(alloc),
-            index: None,
-            alloc,
+            index: Index::none(alloc),
         }
     }
 
@@ -68,16 +64,8 @@ impl<K: Eq, V> SmallMap<K, V> {
         ensures indexed { IfOk result (λ map. map.indexed ≡ nat_lt unindexed capacity) }
         ensures succeeds { capacity ≡ 0 → IsOk result }
     {
-        let index = if capacity > UNINDEXED {
-            Some(ReadyTable::with_capacity(alloc, capacity)?)
-        } else {
-            None
-        };
+        let index = Index::with_capacity::<K, V>(alloc, capacity)?;
         let entries = VecMap::with_capacity(alloc, capacity)?;
-        Ok(SmallMap {
-            entries,
-            index,
-            alloc,
-        })
+        Ok(SmallMap { entries, index })
     }
 }

@@ -1,13 +1,8 @@
 -- The walk that replaces each item, window by window.
-use Rattle.std.proofs.Common.{◌≡◌, ◌≢◌, ℕ, zero, suc, ◌+◌, ◌-◌, ◌<◌, ◌≤◌, ◌++◌, ◌∷◌, [], List, Option, Some, None, take, drop, arith, refl, sym, ◌∙◌, ap, subst, length, get_or, slice_range, bit_and, drop-cons, inl, inr}
-use Rattle.std.proofs.Math.ListN.{set, length-set}
-use Rattle.std.proofs.Math.Seq.{take-add}
-use Rattle.std.proofs.lemmas.Bool.{cases_lt}
-use Rattle.std.proofs.lemmas.List.{take-set, take-take, drop-drop, drop-take, get_or-drop, get_or-set_same}
-use Rattle.std.proofs.lemmas.List.Folds.{drop_split}
+use Rattle.starlark_columns.proofs.Walking.{◌≡◌, ◌≢◌, ℕ, zero, suc, ◌+◌, ◌-◌, ◌<◌, ◌≤◌, ◌++◌, ◌∷◌, [], List, Option, Some, take, arith, refl, sym, ◌∙◌, ap, subst, length, get_or, bit_and, inl, inr, set, take-add, cases_lt, take-set, take-take, drop-drop, drop-take, get_or-drop, get_or-set_same, drop_split, count_trailing_zeros, Mut, CalledAt, TakesAt}
+use Rattle.std.proofs.Common.{None, drop, slice_range, drop-cons}
+use Rattle.std.proofs.Math.ListN.{length-set}
 use Rattle.std.specs.Borrow.{Bor}
-use Rattle.std.specs.Int.Count.{count_trailing_zeros}
-use Rattle.std.specs.Fn.{Mut, CalledAt, TakesAt}
 use Rattle.starlark_table.specs.Table.{items_in}
 use Rattle.starlark_table.specs.Layout.{at}
 use Rattle.starlark_table.specs.Walk.{CanReplace, ReplacesEach, ReplacesWithin}

@@ -1,10 +1,8 @@
 -- The walk that asks about each member whether it is to be kept.
-use Rattle.std.proofs.Common.{◌≡◌, ℕ, suc, ◌+◌, ◌<◌, ◌≤◌, ◌++◌, ◌∷◌, [], List, Option, Some, None, Bool, true, false, cond, take, drop, arith, refl, sym, ◌∙◌, ap, subst, length, get_or, append_assoc, append-nil, length-append, add-zero, inl, inr, if◌then◌else◌, IfSome}
+use Rattle.starlark_columns.proofs.Walking.{◌≡◌, ℕ, suc, ◌+◌, ◌<◌, ◌≤◌, ◌++◌, ◌∷◌, [], List, Option, Some, Bool, true, false, cond, take, arith, refl, sym, ◌∙◌, ap, subst, length, get_or, append_assoc, append-nil, length-append, add-zero, inl, inr, if◌then◌else◌, IfSome, Mut, CalledAtMut, RetainsInTurn, set, get_or_default, set-get_or, set-set}
+use Rattle.std.proofs.Common.{None, drop}
 use Rattle.std.specs.Borrow.{MutBor}
-use Rattle.std.specs.Fn.{Mut, CalledAtMut}
-use Rattle.std.specs.List.Retain.{RetainsInTurn}
-use Rattle.std.proofs.Math.ListN.{set, length-set}
-use Rattle.std.proofs.lemmas.List.{get_or_default, set-get_or, set-set}
+use Rattle.std.proofs.Math.ListN.{length-set}
 use Rattle.starlark_table.specs.Table.{filled, items_in}
 use Rattle.starlark_table.specs.Walk.{CanRetain, TakesAtMut, AsksMember}
 use Rattle.starlark_table.specs.Layout.{at, empty_tag, StandsIn, IsTagged}

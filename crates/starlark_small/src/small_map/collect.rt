@@ -6,7 +6,7 @@ ghost use Rattle.starlark_small.specs.Index.{unindexed};
 ghost use Rattle.starlark_small.specs.Map.{GrowsFor, KeepsRoom};
 
 use super::SmallMap;
-use crate::indexed::UNINDEXED;
+use crate::index::UNINDEXED;
 use starlark_hash::Hashed;
 use std::alloc::{AllocError, Global};
 use std::hash::Hash;

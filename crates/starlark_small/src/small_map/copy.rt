@@ -7,7 +7,7 @@ ghost use Rattle.starlark_vec2.specs.Collect.{IsLawfulClone};
 ghost use Rattle.starlark_lists.specs.Clone.{IsEntryClone};
 
 use super::SmallMap;
-use crate::indexed::needed_index;
+use crate::index::Index;
 use std::alloc::AllocError;
 
 impl<K: Eq + Clone, V: Clone> SmallMap<K, V> {
@@ -24,11 +24,7 @@ impl<K: Eq + Clone, V: Clone> SmallMap<K, V> {
         ensures succeeds { length self.now.entries ≡ 0 → IsOk result }
     {
         let entries = self.entries.clone()?;
-        let index = needed_index(self.alloc, &entries)?;
-        Ok(SmallMap {
-            entries,
-            index,
-            alloc: self.alloc,
-        })
+        let index = self.index.of_other(&entries)?;
+        Ok(SmallMap { entries, index })
     }
 }

@@ -8,7 +8,7 @@ ghost use Rattle.starlark_small.specs.Inserted.{IsRefusedFor, IsReserved, Leaves
 ghost use Rattle.starlark_small.specs.Map.{own_hashed};
 
 use super::SmallMap;
-use crate::indexed::{UNINDEXED, reserve_index};
+use crate::index::UNINDEXED;
 use starlark_hash::{Hashed, NoRoom};
 use std::alloc::AllocError;
 use std::hash::Hash;
@@ -111,6 +111,6 @@ impl<K: Eq, V> SmallMap<K, V> {
         ensures refused { OnErr result (IsRefusedFor additional self.old self.new) }
     {
         self.entries.reserve(additional)?;
-        reserve_index(self.alloc, &mut self.index, &self.entries, additional)
+        self.index.reserve(&self.entries, additional)
     }
 }

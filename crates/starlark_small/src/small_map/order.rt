@@ -5,7 +5,6 @@ ghost use Rattle.starlark_small.specs.Calling.{keys, IsSameAt};
 ghost use Rattle.starlark_small.specs.Map.{KeepsMemory};
 
 use super::SmallMap;
-use crate::indexed::{index_all, unindex_all};
 use std::alloc::AllocError;
 
 impl<K: Eq, V> SmallMap<K, V> {
@@ -23,8 +22,8 @@ impl<K: Eq, V> SmallMap<K, V> {
     {
         // a refusal leaves the index as it was, so its places go out after the sort: the hashes are still the same
         self.entries.sort_keys()?;
-        unindex_all(&mut self.index, &self.entries);
-        index_all(&mut self.index, &self.entries);
+        self.index.forget_all(&self.entries);
+        self.index.note_all(&self.entries);
         Ok(())
     }
 
@@ -35,8 +34,8 @@ impl<K: Eq, V> SmallMap<K, V> {
         ensures same { IsSameAt K.eq self.old self.new }
         ensures kept { KeepsMemory self.old self.new }
     {
-        unindex_all(&mut self.index, &self.entries);
+        self.index.forget_all(&self.entries);
         self.entries.reverse();
-        index_all(&mut self.index, &self.entries);
+        self.index.note_all(&self.entries);
     }
 }

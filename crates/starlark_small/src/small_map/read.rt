@@ -13,7 +13,6 @@ ghost use Rattle.starlark_small.specs.Calling.{get};
 ghost use Rattle.starlark_small.specs.Map.{query_match, query_match_by_value, own_match};
 
 use super::SmallMap;
-use crate::indexed::{UNINDEXED, find_indexed, position_indexed};
 use crate::own_hash::under_own_hash;
 use starlark_hash::{Equivalent, Hashed, StarlarkHashValue};
 use starlark_table::ReadyTable;
@@ -60,10 +59,7 @@ impl<K: Eq, V> SmallMap<K, V> {
         ensures within { IfSome result (λ i. i < length self.now.entries) }
         ensures single { IsSingle K.eq self.now.entries }
     {
-        match &self.index {
-            Some(table) => position_indexed(&self.entries, table, key),
-            None => self.entries.get_index_of_hashed_among_few(key),
-        }
+        self.index.position_of(&self.entries, key)
     }
 
     /// A place under this hash whose key `eq` accepts. It is asked about the keys under this hash alone, about each at
@@ -77,10 +73,7 @@ impl<K: Eq, V> SmallMap<K, V> {
         requires { CanSearch F.FnMut (keys_under hash self.now.entries) eq }
         ensures { (last : F) × Searches F.FnMut (keys_under hash self.now.entries) eq result last }
     {
-        match &self.index {
-            Some(table) => find_indexed(&self.entries, table, hash, eq),
-            None => self.entries.get_index_of_hashed_raw(hash, eq),
-        }
+        self.index.find(&self.entries, hash, eq)
     }
 
     /// As `get_index_of_hashed`, by a query that is handed over and dropped.
@@ -225,11 +218,7 @@ impl<K: Eq, V> SmallMap<K, V> {
         ensures { result ≡ self.now.room }
     {
         let len = self.entries.len();
-        let left = match &self.index {
-            Some(table) => table.room(),
-            None => UNINDEXED - len,
-        };
-        (self.entries.capacity() - len).min(left)
+        (self.entries.capacity() - len).min(self.index.room(len))
     }
 
     /// The index, where there is one: each place under the promoted hash of its entry, and no other member.
@@ -239,6 +228,6 @@ impl<K: Eq, V> SmallMap<K, V> {
         ensures indexed { is_some result ≡ self.now.indexed }
         ensures long { unindexed < length self.now.entries → IsSome result }
     {
-        self.index.as_ref()
+        self.index.table()
     }
 }

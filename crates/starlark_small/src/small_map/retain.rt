@@ -3,7 +3,6 @@ ghost use Rattle.starlark_small.specs.Map.{KeepsMemory};
 ghost use Rattle.starlark_lists.specs.Retain.{Retains, TakesInTurn, TakesEntry, CalledAtEntry};
 
 use super::SmallMap;
-use crate::indexed::{index_all, unindex_all};
 
 impl<K: Eq + Drop, V: Drop> SmallMap<K, V> {
     /// Keeps the entries at which the closure answers true, with the value that it leaves, in their order. It is called
@@ -15,8 +14,8 @@ impl<K: Eq + Drop, V: Drop> SmallMap<K, V> {
         ensures kept { KeepsMemory self.old self.new }
     {
         prove!(self.entries.len() <= self.entries.capacity());
-        unindex_all(&mut self.index, &self.entries);
+        self.index.forget_all(&self.entries);
         self.entries.retain(keep);
-        index_all(&mut self.index, &self.entries);
+        self.index.note_all(&self.entries);
     }
 }

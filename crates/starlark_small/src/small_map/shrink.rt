@@ -10,7 +10,6 @@ ghost use Rattle.starlark_small.specs.Index.{unindexed};
 ghost use Rattle.starlark_small.specs.Map.{KeepsMemory, query_match, own_match};
 
 use super::SmallMap;
-use crate::indexed::{UNINDEXED, unindex, unindex_all};
 use crate::own_hash::under_own_hash;
 use starlark_hash::{Equivalent, Hashed};
 use std::hash::Hash;
@@ -122,7 +121,7 @@ impl<K: Eq, V> SmallMap<K, V> {
         ensures kept { KeepsMemory self.old self.new }
     {
         prove!(self.entries.len() <= self.entries.capacity());
-        unindex_all(&mut self.index, &self.entries);
+        self.index.forget_all(&self.entries);
         self.entries.clear();
     }
 
@@ -134,9 +133,7 @@ impl<K: Eq, V> SmallMap<K, V> {
         ensures room { min (length self.old.entries + self.old.room) unindexed ≤ length self.new.entries + self.new.room }
         ensures long { unindexed < length self.old.entries → self.new ≡ self.old }
     {
-        if self.entries.len() <= UNINDEXED {
-            self.index = None;
-        }
+        self.index.drop_if_short(self.entries.len());
     }
 
     // Takes out the entry at a place. Those after it move up.
@@ -147,7 +144,7 @@ impl<K: Eq, V> SmallMap<K, V> {
         ensures kept { KeepsMemory self.old self.new }
     {
         prove!(self.entries.len() <= self.entries.capacity());
-        unindex(&mut self.index, &self.entries, index);
+        self.index.forget(&self.entries, index);
         self.entries.remove(index)
     }
 
@@ -163,7 +160,7 @@ impl<K: Eq, V> SmallMap<K, V> {
         if len == 0 {
             return None;
         }
-        unindex(&mut self.index, &self.entries, len - 1);
+        self.index.forget(&self.entries, len - 1);
         self.entries.pop()
     }
 }

@@ -9,7 +9,6 @@ ghost use Rattle.starlark_small.specs.Lending.{lends_inserted, lends_value, unha
 ghost use Rattle.starlark_small.specs.Map.{own_hashed};
 
 use super::SmallMap;
-use crate::indexed::index_last;
 use starlark_hash::{Hashed, NoRoom};
 use std::hash::Hash;
 
@@ -84,7 +83,7 @@ impl<K: Eq, V> SmallMap<K, V> {
             return Err(NoRoom((key, value)));
         }
         let place = self.entries.len();
-        index_last(&mut self.index, &self.entries, key.hash());
+        self.index.note_last(&self.entries, key.hash());
         self.entries.push_reserved(key, value);
         Ok(place)
     }

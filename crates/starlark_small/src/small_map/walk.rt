@@ -66,7 +66,6 @@ impl<K: Eq + Drop, V: Drop> SmallMap<K, V> {
         let SmallMap {
             entries,
             index: _index,
-            alloc: _alloc,
         } = self;
         entries.into_keys()
     }
@@ -82,7 +81,6 @@ impl<K: Eq + Drop, V: Drop> SmallMap<K, V> {
         let SmallMap {
             entries,
             index: _index,
-            alloc: _alloc,
         } = self;
         entries.into_values()
     }
@@ -99,7 +97,6 @@ impl<K: Eq + Drop, V: Drop> SmallMap<K, V> {
         let SmallMap {
             entries,
             index: _index,
-            alloc: _alloc,
         } = self;
         entries.into_iter_hashed()
     }
@@ -118,7 +115,6 @@ impl<K: Eq + Drop, V: Drop> IntoIterator for SmallMap<K, V> {
         let SmallMap {
             entries,
             index: _index,
-            alloc: _alloc,
         } = self;
         entries.into_iter()
     }

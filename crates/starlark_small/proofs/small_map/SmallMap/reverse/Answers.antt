@@ -11,7 +11,7 @@ invariant_of-self g c =
     let es = c.self.inside.entries.entries in
     record {
       single = subst (λ l. IsSingle g.K.PartialEq.eq l.entries) (sym c.reverse.ensures) (IsSingle-permutation g.K.PartialEq.eq g.met.K.Eq.laws es (reverse es) c.self.invariant.single (IsPermutation-reverse es));
-      indexed = c.index_all.ensures.indexed;
+      indexed = c.note_all.ensures.indexed;
     }
 
 pub returns-clause-same : goal.returns-clause-same

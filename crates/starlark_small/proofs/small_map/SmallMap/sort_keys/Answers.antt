@@ -19,8 +19,8 @@ returns-in_err-sort_keys-clause-needed g c =
     let p = err_from_is_err_and c.from_residual.result c.from_residual.ensures.1 in
     rw (p.1, ← c.self.view_is) (λ ascends. absurd (false≢true (c.in_err-sort_keys.ensures.at_once ascends).0))
 
-pub unindex_all-requires : goal.unindex_all-requires
-unindex_all-requires g c =
+pub forget_all-requires : goal.forget_all-requires
+forget_all-requires g c =
     let es = c.self.inside.entries.entries in (
       es,
       c.self.invariant.indexed,
@@ -33,7 +33,7 @@ invariant_of-self-2 g c =
     record {
       single = subst (λ l. IsSingle g.K.PartialEq.eq l.entries) (sym c.in_ok-sort_keys.ensures.sorted)
           (IsSingle-permutation g.K.PartialEq.eq g.met.K.Eq.laws es (sorted_by_key g.K.Ord.cmp es) c.self.invariant.single (IsPermutation-sorted_by (key_lt g.K.Ord.cmp) es));
-      indexed = c.index_all.ensures.indexed;
+      indexed = c.note_all.ensures.indexed;
     }
 
 pub returns-clause-kept : goal.returns-clause-kept
@@ -43,8 +43,8 @@ returns-clause-kept g c =
     let sorted = c.in_ok-sort_keys.ensures.sorted in
     let size = ap (λ l. length l.entries) sorted ∙ length_permutation es (sorted_by_key g.K.Ord.cmp es) (IsPermutation-sorted_by (key_lt g.K.Ord.cmp) es) in
     rw (← c.self.view_is)
-    (KeepsMemory-turned c.self.inside.entries new c.self.inside.index c.index_all.new.index size (ap (λ l. l.capacity) sorted)
-    (subst (λ n. n + index_room n c.self.inside.index ≤ length new.entries + index_room (length new.entries) c.index_all.new.index) size (omega (arith, c.unindex_all.ensures.room, c.index_all.ensures.room))) (c.index_all.ensures.kept ∙ c.unindex_all.ensures.kept))
+    (KeepsMemory-turned c.self.inside.entries new c.self.inside.index c.note_all.new.self size (ap (λ l. l.capacity) sorted)
+    (subst (λ n. n + index_room n c.self.inside.index ≤ length new.entries + index_room (length new.entries) c.note_all.new.self) size (omega (arith, c.forget_all.ensures.room, c.note_all.ensures.room))) (c.note_all.ensures.kept ∙ c.forget_all.ensures.kept))
 
 pub returns-in_err-sort_keys-clause-same : goal.returns-in_err-sort_keys-clause-same
 returns-in_err-sort_keys-clause-same g c f key = get_same g.K.PartialEq.eq f c.args.self.now _ key (search rules)

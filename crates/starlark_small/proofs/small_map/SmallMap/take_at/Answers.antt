@@ -8,5 +8,5 @@ use Rattle.starlark_small.proofs.small_map.SmallMap.take_at.Goals as goal
 pub invariant_of-self : goal.invariant_of-self
 invariant_of-self g c =
     let list = c.self.inside.entries in
-    subst (λ l. IsSound g.K.PartialEq.eq l.entries c.unindex.new.index) {x = with_entries list (remove list.entries c.args.index)} {y = c.remove.new.self} (sym c.remove.ensures.list)
-    (record { single = IsSingle-remove g.K.PartialEq.eq list.entries c.args.index (omega (arith, c.requires, ap (λ m. length m.entries) c.self.view_is)) c.self.invariant.single; indexed = c.unindex.ensures.indexed })
+    subst (λ l. IsSound g.K.PartialEq.eq l.entries c.forget.new.self) {x = with_entries list (remove list.entries c.args.index)} {y = c.remove.new.self} (sym c.remove.ensures.list)
+    (record { single = IsSingle-remove g.K.PartialEq.eq list.entries c.args.index (omega (arith, c.requires, ap (λ m. length m.entries) c.self.view_is)) c.self.invariant.single; indexed = c.forget.ensures.indexed })

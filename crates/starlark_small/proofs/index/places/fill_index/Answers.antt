@@ -1,0 +1,25 @@
+use Rattle.std.proofs.Common.{◌≡◌, ◌∷◌, ◌<◌, ◌^◌, length, sym, ◌∙◌, ap, subst, IsPermutation, arith, take}
+use Rattle.std.proofs.lemmas.List.{length-take}
+use Rattle.starlark_hash.specs.HashValue.{promoted}
+use Rattle.starlark_table.specs.Table.{members}
+use Rattle.starlark_vecmap.specs.EntryList.{deref_entry}
+use Rattle.starlark_small.specs.Index.{IsIndexOf}
+use Rattle.starlark_small.proofs.Keeping.{IsIndexOf-push, room-push, take-more}
+use Rattle.starlark_small.proofs.index.places.fill_index.Goals as goal
+
+pub loop-i-preserved : goal.loop-i-preserved
+loop-i-preserved g c =
+    let es = c.args.entries.now.entries in
+    let i = c.loop-i.i in
+    let e = deref_entry c.get_unchecked.result in
+    let old = c.loop-i.invariant.index in
+    let h = c.hash-hash.ensures in
+    let size : i ≡ length (take i es) = omega (arith, length-take i es) in
+    let p : c.promote.result ≡ promoted e.0.hash.0 = c.promote.ensures.promoted ∙ ap (λ k. promoted k.0) h in
+    let added = subst (λ k. IsPermutation ((k, i) ∷ members c.loop-i.index) (members c.insert_reserved.new.self)) p c.insert_reserved.ensures.added in
+    let room = room-push (take i es) c.loop-i.index c.insert_reserved.new.self (promoted e.0.hash.0, i) old added c.insert_reserved.ensures.room in
+    record {
+      index = subst (λ l. IsIndexOf l c.insert_reserved.new.self) (sym (take-more i es e c.get_unchecked.ensures))
+          (IsIndexOf-push (take i es) e i c.loop-i.index c.insert_reserved.new.self size old (subst (λ k. k.0 < 2 ^ 32) h c.promote.ensures.fits) added);
+      room = omega (arith, room, c.loop-i.invariant.room);
+    }

@@ -1,0 +1,28 @@
+//! The index of a list of entries: it alone sees the table of places. The list stands beside it, and is brought to each call.
+mod growth;
+mod places;
+mod search;
+
+use starlark_table::ReadyTable;
+use std::alloc::Global;
+use std::marker::Model;
+
+// The greatest length that a list may have without an index.
+pub(crate) const UNINDEXED: usize = 16;
+
+/// Where each entry of a list stands, by its hash; or nothing, where the list is short enough to do without.
+#[derive(Drop)]
+pub(crate) struct Index {
+    table: Option<ReadyTable<usize>>,
+    // Where the table gets its memory.
+    alloc: Global,
+}
+
+impl Model for Index {
+    ghost use Rattle.std.specs.Prelude.{Option, ℕ};
+    ghost use Rattle.starlark_table.specs.Table.{Table};
+
+    ghost Value = { Option (Table ℕ) };
+
+    ghost view = { λ i. i.table };
+}

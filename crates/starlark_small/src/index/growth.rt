@@ -1,0 +1,96 @@
+//! Room in the index, which is made where the list grows too long to do without.
+ghost use Rattle.std.specs.Prelude.{◌≡◌, ◌+◌, ◌<◌, ◌≤◌, ◌∷◌, [], ◌++◌, ◌||◌, length, is_some, nat_lt, IfOk, IsOk, None, OnOk, OnErr};
+ghost use Rattle.starlark_lists.specs.Entries.{Entry, entry_hash};
+ghost use Rattle.starlark_small.specs.Index.{IsIndexed, index_room, unindexed};
+
+use super::places::new_table;
+use super::{Index, UNINDEXED};
+use starlark_hash::StarlarkHashValue;
+use starlark_table::ReadyTable;
+use starlark_vecmap::VecMap;
+use std::alloc::{AllocError, Global};
+
+impl Index {
+    /// No index, as of a list that is short.
+    #[inline]
+    pub(crate) fn none(alloc: Global) -> Self
+        ensures { result ≡ None }
+    {
+        Index { table: None, alloc }
+    }
+
+    /// An index of an empty list, with room for so many entries, where so many need one.
+    pub(crate) fn with_capacity<K, V>(alloc: Global, capacity: usize) -> Result<Self, AllocError>
+        ensures indexed { IfOk result (λ index. IsIndexed {K = K} {V = V} [] index) }
+        ensures made { IfOk result (λ index. is_some index ≡ nat_lt unindexed capacity) }
+        ensures room { IfOk result (λ index. capacity ≤ index_room 0 index) }
+        ensures succeeds { capacity ≤ unindexed → IsOk result }
+    {
+        if capacity <= UNINDEXED {
+            return Ok(Index::none(alloc));
+        }
+        let table = ReadyTable::with_capacity(alloc, capacity)?;
+        Ok(Index {
+            table: Some(table),
+            alloc,
+        })
+    }
+
+    /// An index of another list, with room for all that the list has room for, where it is too long to do without.
+    pub(crate) fn of_other<K, V>(&self, entries: &VecMap<K, V>) -> Result<Self, AllocError>
+        ensures indexed { IfOk result (λ index. IsIndexed entries.now.entries index) }
+        ensures long { IfOk result (λ index. is_some index ≡ nat_lt unindexed (length entries.now.entries)) }
+        ensures succeeds { length entries.now.entries ≤ unindexed → IsOk result }
+    {
+        if entries.len() <= UNINDEXED {
+            return Ok(Index::none(self.alloc));
+        }
+        let table = new_table(self.alloc, entries, entries.capacity())?;
+        Ok(Index {
+            table: Some(table),
+            alloc: self.alloc,
+        })
+    }
+
+    /// Makes room for so many new entries, for which the list has room.
+    pub(crate) fn reserve<K, V>(
+        &mut self,
+        entries: &VecMap<K, V>,
+        additional: usize,
+    ) -> Result<(), AllocError>
+        requires indexed { IsIndexed entries.now.entries self.old }
+        requires spare { length entries.now.entries + additional ≤ entries.now.capacity }
+        ensures indexed { IsIndexed entries.now.entries self.new }
+        ensures room { OnOk result (additional ≤ index_room (length entries.now.entries) self.new) }
+        ensures grows { index_room (length entries.now.entries) self.old ≤ index_room (length entries.now.entries) self.new }
+        ensures enough { additional ≤ index_room (length entries.now.entries) self.old → self.new ≡ self.old }
+        ensures made { OnOk result (is_some self.new ≡ (is_some self.old || nat_lt unindexed (length entries.now.entries + additional))) }
+
+        ensures refused { OnErr result (index_room (length entries.now.entries) self.old < additional) }
+        ensures unchanged { OnErr result (self.new ≡ self.old) }
+    {
+        if let Some(table) = &mut self.table {
+            return table.reserve(additional);
+        }
+        if additional <= UNINDEXED - entries.len() {
+            return Ok(());
+        }
+        prove!(additional <= entries.capacity() - entries.len());
+        let table = new_table(self.alloc, entries, entries.len() + additional)?;
+        self.table = Some(table);
+        Ok(())
+    }
+
+    /// Notes the place of an entry that is to go last.
+    pub(crate) fn note_last<K, V>(&mut self, entries: &VecMap<K, V>, hash: StarlarkHashValue)
+        requires indexed { IsIndexed entries.now.entries self.old }
+        requires room { 1 ≤ index_room (length entries.now.entries) self.old }
+        ensures indexed { (e : Entry K V) → entry_hash e ≡ hash → IsIndexed (entries.now.entries ++ e ∷ []) self.new }
+        ensures room { index_room (length entries.now.entries) self.old ≤ 1 + index_room (length entries.now.entries + 1) self.new }
+        ensures kept { is_some self.new ≡ is_some self.old }
+    {
+        if let Some(table) = &mut self.table {
+            table.insert_reserved(hash.promote(), entries.len());
+        }
+    }
+}

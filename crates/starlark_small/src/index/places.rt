@@ -1,0 +1,231 @@
+//! The places that an index holds: taken out, moved and filled in.
+ghost use Rattle.std.specs.Prelude.{◌≡◌, None, ◌+◌, ◌-◌, ◌<◌, ◌≤◌, ◌==◌, Some, true, List, [], ◌∷◌, length, map, remove, if◌then◌else◌, nat_le, is_some, IfOk, IfSome, IsPermutation};
+ghost use Rattle.std.specs.List.{Contains};
+ghost use Rattle.starlark_lists.specs.Entries.{Entry};
+ghost use Rattle.starlark_hash.specs.HashValue.{hash_number, promoted};
+ghost use Rattle.starlark_small.specs.Index.{IsIndexOf, IsIndexed, hashes_in, index_room, lowered, moved_below, unindexed};
+ghost use Rattle.starlark_table.specs.Table.{members, member_at, table_len};
+
+use super::{Index, UNINDEXED};
+use starlark_hash::StarlarkHashValue;
+use starlark_table::ReadyTable;
+use starlark_vecmap::VecMap;
+use std::alloc::{AllocError, Global};
+
+impl Index {
+    /// Takes out the place of an entry, which is still there.
+    #[inline]
+    pub(crate) fn forget<K, V>(&mut self, entries: &VecMap<K, V>, place: usize)
+        requires indexed { IsIndexed entries.now.entries self.old }
+        requires within { place < length entries.now.entries }
+        ensures indexed { IsIndexed (remove entries.now.entries place) self.new }
+        ensures room { 1 + index_room (length entries.now.entries) self.old ≤ index_room (length (remove entries.now.entries place)) self.new }
+        ensures kept { is_some self.new ≡ is_some self.old }
+    {
+        if let Some(table) = &mut self.table {
+            remove_place(table, entries, place);
+        }
+    }
+
+    /// Takes every place out. The entries may stand in another order than the index says.
+    pub(crate) fn forget_all<K, V>(&mut self, entries: &VecMap<K, V>)
+        requires { (before : List (Entry K V)) × IsIndexed before self.old × IsPermutation before entries.now.entries }
+        ensures empty { IsIndexed {K = K} {V = V} [] self.new }
+        ensures room { length entries.now.entries + index_room (length entries.now.entries) self.old ≤ index_room 0 self.new }
+        ensures kept { is_some self.new ≡ is_some self.old }
+    {
+        if let Some(table) = &mut self.table {
+            empty_index(table, entries);
+        }
+    }
+
+    /// Puts each place of the list into an empty index that has room for them.
+    pub(crate) fn note_all<K, V>(&mut self, entries: &VecMap<K, V>)
+        requires empty { IsIndexed {K = K} {V = V} [] self.old }
+        requires room { length entries.now.entries ≤ index_room 0 self.old }
+        ensures indexed { IsIndexed entries.now.entries self.new }
+        ensures room { index_room 0 self.old ≤ length entries.now.entries + index_room (length entries.now.entries) self.new }
+        ensures kept { is_some self.new ≡ is_some self.old }
+    {
+        if let Some(table) = &mut self.table {
+            fill_index(table, entries);
+        }
+    }
+
+    /// Lets the index go where the list is short enough to do without.
+    pub(crate) fn drop_if_short(&mut self, len: usize)
+        ensures { self.new ≡ (if nat_le len unindexed then None else self.old) }
+    {
+        if len <= UNINDEXED {
+            self.table = None;
+        }
+    }
+}
+
+// The slot of a place that is there.
+#[inline]
+fn slot_of(index: &ReadyTable<usize>, hash: StarlarkHashValue, place: usize) -> usize
+    requires { Contains (members index.now) (promoted (hash_number hash), place) }
+    ensures { member_at index.now result ≡ Some (promoted (hash_number hash), place) }
+{
+    let found = index.find(
+        hash.promote(),
+        |i: &usize| -> bool
+            ensures { result ≡ (i.now == place) }
+        { *i == place },
+    );
+    let Some(slot) = found else { unreachable!() };
+    slot
+}
+
+// Takes one place out.
+fn take_place(index: &mut ReadyTable<usize>, hash: StarlarkHashValue, place: usize)
+    requires { Contains (members index.old) (promoted (hash_number hash), place) }
+    ensures rest { IsPermutation (members index.old) ((promoted (hash_number hash), place) ∷ members index.new) }
+    ensures room { table_len index.new + index.new.room ≡ table_len index.old + index.old.room }
+{
+    let slot = slot_of(index, hash, place);
+    index.remove(slot);
+}
+
+// Takes one place out from under a hash that has some, whichever it is.
+fn take_under(index: &mut ReadyTable<usize>, hash: StarlarkHashValue)
+    requires { Contains (hashes_in index.old) (promoted (hash_number hash)) }
+    ensures rest { IsPermutation (hashes_in index.old) (promoted (hash_number hash) ∷ hashes_in index.new) }
+    ensures room { table_len index.new + index.new.room ≡ table_len index.old + index.old.room }
+{
+    let found = index.find(
+        hash.promote(),
+        |_: &usize| -> bool
+            ensures { result ≡ true }
+        { true },
+    );
+    let Some(slot) = found else { unreachable!() };
+    index.remove(slot);
+}
+
+// The slot of a place, if a look-up near the home of its hash finds it.
+#[inline]
+fn near_slot(index: &ReadyTable<usize>, hash: StarlarkHashValue, place: usize) -> Option<usize>
+    ensures { IfSome result (λ slot. member_at index.now slot ≡ Some (promoted (hash_number hash), place)) }
+{
+    index.find_near(
+        hash.promote(),
+        |i: &usize| -> bool
+            ensures { result ≡ (i.now == place) }
+        { *i == place },
+    )
+}
+
+// Moves the place of a slot one down: the old members and the lower place are the new members and this place.
+#[inline]
+fn lower_slot(index: &mut ReadyTable<usize>, slot: usize, hash: StarlarkHashValue, place: usize)
+    requires there { member_at index.old slot ≡ Some (promoted (hash_number hash), place) }
+    requires above { 0 < place }
+    ensures moved { IsPermutation ((promoted (hash_number hash), place - 1) ∷ members index.old) ((promoted (hash_number hash), place) ∷ members index.new) }
+    ensures room { index.new.room ≡ index.old.room }
+{
+    if let Some(item) = index.get_mut(slot) {
+        *item = place - 1;
+    }
+}
+
+// Where few places stand above one that was taken out, moves them one down in turn, up to the first that is not found
+// near the home of its hash. The answer is the first place that did not move.
+fn lower_near<K, V>(index: &mut ReadyTable<usize>, entries: &VecMap<K, V>, place: usize) -> usize
+    requires taken { IsPermutation (moved_below entries.now.entries place (place + 1)) (members index.old) }
+    requires within { place < length entries.now.entries }
+    ensures above { place < result }
+    ensures within { result ≤ length entries.now.entries }
+    ensures moved { IsPermutation (moved_below entries.now.entries place result) (members index.new) }
+    ensures room { table_len index.new + index.new.room ≡ table_len index.old + index.old.room }
+{
+    let len = entries.len();
+    if len - place > index.len().saturating_add(index.room()) / 6 {
+        return place + 1;
+    }
+    for j in place + 1..len {
+        let hash = entries.get_unchecked(j).0.hash();
+        let Some(slot) = near_slot(index, hash, j) else {
+            return j;
+        };
+        lower_slot(index, slot, hash, j);
+    }
+    len
+}
+
+// Moves each place one down that is above the last one that stays, in one pass over the index. There is no branch for a
+// place: which ones stand above could not be foreseen.
+fn lower_all(index: &mut ReadyTable<usize>, last: usize)
+    ensures members { members index.new ≡ map (λ m. (m.0, lowered last m.1)) (members index.old) }
+    ensures room { table_len index.new + index.new.room ≡ table_len index.old + index.old.room }
+{
+    index.replace_each(
+        |i: &usize| -> usize
+            ensures { result ≡ lowered last i.now }
+        { *i - usize::from(*i > last) },
+    );
+}
+
+// Takes out a place of the list, whose entry is still there.
+#[inline(never)]
+fn remove_place<K, V>(index: &mut ReadyTable<usize>, entries: &VecMap<K, V>, place: usize)
+    requires index { IsIndexOf entries.now.entries index.old }
+    requires within { place < length entries.now.entries }
+    ensures index { IsIndexOf (remove entries.now.entries place) index.new }
+    ensures room { table_len index.new + index.new.room ≡ table_len index.old + index.old.room }
+{
+    let hash = entries.get_unchecked(place).0.hash();
+    take_place(index, hash, place);
+    let from = lower_near(index, entries, place);
+    if from < entries.len() {
+        lower_all(index, from - 1);
+    }
+}
+
+// Takes every place out: one by one where the list is so short that this takes fewer steps than there are slots,
+// whatever the hashes; else all at once. The entries need not stand where the index says: under the hash of each a place
+// is taken out, whichever it is.
+fn empty_index<K, V>(index: &mut ReadyTable<usize>, entries: &VecMap<K, V>)
+    requires { (before : List (Entry K V)) × IsIndexOf before index.old × IsPermutation before entries.now.entries }
+    ensures empty { members index.new ≡ [] }
+    ensures room { index.new.room ≡ table_len index.old + index.old.room }
+{
+    let len = entries.len();
+    if len.saturating_mul(len) > index.len().saturating_add(index.room()) {
+        index.clear();
+        return;
+    }
+    for i in 0..len {
+        let hash = entries.get_unchecked(i).0.hash();
+        take_under(index, hash);
+    }
+}
+
+// Puts each place of the list into an empty index that has room for them.
+pub(super) fn fill_index<K, V>(index: &mut ReadyTable<usize>, entries: &VecMap<K, V>)
+    requires empty { members index.old ≡ [] }
+    requires room { length entries.now.entries ≤ index.old.room }
+    ensures index { IsIndexOf entries.now.entries index.new }
+    ensures room { index.old.room ≤ length entries.now.entries + index.new.room }
+{
+    for i in 0..entries.len() {
+        let hash = entries.get_unchecked(i).0.hash();
+        index.insert_reserved(hash.promote(), i);
+    }
+}
+
+// A table of the list's places, with room for so many places in all.
+pub(super) fn new_table<K, V>(
+    alloc: Global,
+    entries: &VecMap<K, V>,
+    capacity: usize,
+) -> Result<ReadyTable<usize>, AllocError>
+    requires { length entries.now.entries ≤ capacity }
+    ensures index { IfOk result (λ table. IsIndexOf entries.now.entries table) }
+    ensures room { IfOk result (λ table. capacity ≤ length entries.now.entries + table.room) }
+{
+    let mut index = ReadyTable::with_capacity(alloc, capacity)?;
+    fill_index(&mut index, entries);
+    Ok(index)
+}

@@ -1,0 +1,107 @@
+//! Searches through the index.
+ghost use Rattle.std.specs.Prelude.{◌≡◌, ◌<◌, length, slice_get, Some};
+ghost use Rattle.std.specs.Fn.{CalledAt, TakesAt};
+ghost use Rattle.starlark_lists.specs.Entries.{Entry, IsSingle, entry_key};
+ghost use Rattle.starlark_lists.specs.Search.{CanSearch, Searches, keys_under};
+ghost use Rattle.std.specs.Option.{option_copied};
+ghost use Rattle.starlark_small.specs.Index.{IsIndexOf, IsIndexed, IsSound, index_room};
+ghost use Rattle.starlark_small.specs.Map.{query_match};
+
+use super::{Index, UNINDEXED};
+use starlark_hash::{Equivalent, Hashed, StarlarkHashValue};
+use starlark_table::ReadyTable;
+use starlark_vecmap::VecMap;
+
+impl Index {
+    /// A place under the hash whose key `eq` accepts.
+    #[inline]
+    pub(crate) fn find<K, V, F: FnMut(&K) -> bool>(
+        &self,
+        entries: &VecMap<K, V>,
+        hash: StarlarkHashValue,
+        eq: F,
+    ) -> Option<usize>
+        requires indexed { IsIndexed entries.now.entries self.now }
+        requires callable { CanSearch F.FnMut (keys_under hash entries.now.entries) eq }
+        ensures { (last : F) × Searches F.FnMut (keys_under hash entries.now.entries) eq result last }
+    {
+        match &self.table {
+            Some(table) => find_indexed(entries, table, hash, eq),
+            None => entries.get_index_of_hashed_raw(hash, eq),
+        }
+    }
+
+    /// The place of a single list under the query's hash whose key the query is equivalent to.
+    #[inline(always)]
+    pub(crate) fn position_of<K: Eq, V, Q: Equivalent<K>>(
+        &self,
+        entries: &VecMap<K, V>,
+        key: Hashed<&Q>,
+    ) -> Option<usize>
+        requires sound { IsSound K.eq entries.now.entries self.now }
+        ensures { result ≡ query_match Q.equivalent entries.now.entries key.entry }
+    {
+        match &self.table {
+            Some(table) => position_indexed(entries, table, key),
+            None => entries.get_index_of_hashed_among_few(key),
+        }
+    }
+
+    /// How many new entries of a list of this length surely need no memory for the index.
+    #[inline]
+    pub(crate) fn room(&self, len: usize) -> usize
+        ensures { result ≡ index_room len self.now }
+    {
+        match &self.table {
+            Some(table) => table.room(),
+            None => UNINDEXED.saturating_sub(len),
+        }
+    }
+
+    /// The table of the places, where there is one.
+    #[inline]
+    pub(crate) fn table(&self) -> Option<&ReadyTable<usize>>
+        ensures { option_copied result ≡ self.now }
+    {
+        self.table.as_ref()
+    }
+}
+
+// A place under the hash whose key `eq` accepts.
+#[inline]
+fn find_indexed<K, V, F: FnMut(&K) -> bool>(
+    entries: &VecMap<K, V>,
+    index: &ReadyTable<usize>,
+    hash: StarlarkHashValue,
+    mut eq: F,
+) -> Option<usize>
+    requires index { IsIndexOf entries.now.entries index.now }
+    requires callable { CanSearch F.FnMut (keys_under hash entries.now.entries) eq }
+    ensures { (last : F) × Searches F.FnMut (keys_under hash entries.now.entries) eq result last }
+{
+    index
+        .find_item(
+            hash.promote(),
+            |i: &usize| -> bool
+                requires within { i.now < length entries.now.entries }
+                requires takes { (e : Entry K V) → slice_get entries.now.entries i.now ≡ Some e → TakesAt F.FnMut eq (entry_key e) }
+                ensures { (e : Entry K V) → slice_get entries.entry.now.entries i.now ≡ Some e → CalledAt F.FnMut eq.entry (entry_key e) result eq.exit }
+            { eq(entries.get_unchecked(*i).0.into_key()) },
+        )
+        .copied()
+}
+
+// The place of a single list under the query's hash whose key the query is equivalent to.
+#[inline]
+fn position_indexed<K: Eq, V, Q: Equivalent<K>>(
+    entries: &VecMap<K, V>,
+    index: &ReadyTable<usize>,
+    key: Hashed<&Q>,
+) -> Option<usize>
+    requires index { IsIndexOf entries.now.entries index.now }
+    requires single { IsSingle K.eq entries.now.entries }
+    ensures { result ≡ query_match Q.equivalent entries.now.entries key.entry }
+{
+    let query = *key.key();
+    find_indexed(entries, index, key.hash(), |k: &K| query.equivalent(k))
+}
