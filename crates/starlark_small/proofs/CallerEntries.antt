@@ -3,20 +3,18 @@ use Rattle.std.proofs.Common.{◌≡◌, ℕ, zero, suc, ◌+◌, ◌<◌, Bool,
 use Rattle.std.specs.Prelude.{◌&&◌, if◌then◌else◌}
 use Rattle.std.specs.Option.{option_map, option_map_or, unwrap_or}
 use Rattle.std.specs.Cmp.{IsEquivalence}
-use Rattle.std.specs.Hash.{HashWrites}
 use Rattle.std.proofs.lemmas.Bool.{false≢true}
 use Rattle.std.proofs.lemmas.Bool.Decides.{nat_tests}
 use Rattle.std.proofs.lemmas.List.{length_push, map-append}
 use Rattle.std.proofs.lemmas.Option.{none-some}
 use Rattle.starlark_hash.specs.declared.hashed.Hashed.{Hashed}
 use Rattle.starlark_hash.specs.declared.hash_value.StarlarkHashValue.{StarlarkHashValue}
-use Rattle.starlark_hash.specs.Hasher.{own_hash}
-use Rattle.starlark_hash.specs.HashValue.{hashed, hash_number, hash_of, key_of}
+use Rattle.starlark_hash.specs.HashValue.{hash_of, key_of}
 use Rattle.starlark_lists.specs.Entries.{Entry, IsSingle, entry_key, set_value_at, match_of, insert_entry, value_at, with_value, without, position_of}
 use Rattle.starlark_lists.proofs.PositionLemmas.{position-cons, position-within}
 use Rattle.starlark_lists.proofs.EntryLemmas.{length-set_value_at}
 use Rattle.starlark_small.proofs.CallerPositions.{later, not_first, here, pushed_first, pushed_other, none_among}
-use Rattle.starlark_small.proofs.CallerKeys.{alike, place-set_value_at, written_here, written_there, removed_there, pushed_there, pushed_here, both, and_false, under, apart, same_key, keys-set_value_at}
+use Rattle.starlark_small.proofs.CallerKeys.{alike, place-set_value_at, written_here, written_there, removed_there, pushed_there, pushed_here, both, under, apart, same_key, keys-set_value_at}
 
 module _ {K V : Type 0} (eq : K → K → Bool) (es : List (Entry K V)) (key : Hashed K) (value : V) where
   -- a new key makes the list one longer, and stands last
@@ -169,12 +167,7 @@ module _ {K V : Type 0} (hash : StarlarkHashValue) (passes : K → Bool) (es : L
       there (e ∷ es) zero below = refl
       there (e ∷ es) (suc i) below = there es i (omega (arith, below))
 
-module _ {K : Type 0} (eq : K → K → Bool) (feeds : K → HashWrites) (laws : IsEquivalence eq) (key other : K) (hash : StarlarkHashValue) where
-  pub own_apart : eq key other ≡ false → under (own_hash feeds other) (eq other) (hashed hash key) ≡ false
-  own_apart not =
-      ap (λ b. eqb (hash_number hash) (hash_number (own_hash feeds other)) && b) (laws.symm other key ∙ not)
-      ∙ and_false (eqb (hash_number hash) (hash_number (own_hash feeds other)))
-
+-- a value that is written where there was one
 pub rewritten : {V : Type 0} (w : V) (o : Option V) → is_some o ≡ true → option_map (λ _. w) o ≡ Some w
 rewritten w None e = absurd (false≢true e)
 rewritten w (Some x) e = refl

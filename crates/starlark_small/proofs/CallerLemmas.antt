@@ -1,11 +1,12 @@
 -- What a caller cites of a `SmallMap`: what stands after an insertion, a write and a removal. One name, `callers`, has what a
 -- caller's proof wants.
-use Rattle.std.proofs.Common.{◌≡◌, ℕ, Bool, true, false, List, nat_eq, Option, Some, None, is_some, ap, ◌∙◌}
+use Rattle.std.proofs.Common.{◌≡◌, ℕ, Bool, true, List, nat_eq, Some, None, is_some}
 use Rattle.std.specs.Cmp.{IsEquivalence, int_eq_equiv, nat_eq_equiv}
 use Rattle.std.specs.Hash.{HashWrites}
 use Rattle.std.specs.String.{string_eq, string_eq_equiv}
 use Rattle.std.specs.declared.string.String.{String}
 use Rattle.std.proofs.lemmas.List.{length_push, length-append, length-drop, length-take, map-append}
+use Rattle.starlark_hash.specs.Hasher.{own_hash}
 use Rattle.starlark_hash.specs.declared.hashed.Hashed.{Hashed}
 use Rattle.starlark_lists.specs.Entries.{Entry, IsSingle, match_of, insert_entry, value_at, with_value, without}
 use Rattle.starlark_lists.proofs.EntryLemmas.{length-set_value_at}
@@ -13,28 +14,21 @@ use Rattle.starlark_small.specs.Calling.{get, Updates}
 use Rattle.starlark_small.specs.Map.{Map, own_hashed, own_match}
 use Rattle.starlark_small.proofs.CallerKeys.{keys-set_value_at}
 use Rattle.starlark_small.proofs.CallerEntries.{value-insert_entry, is_some-value_at}
-use Rattle.starlark_small.proofs.CallerUpdates.{updates-put, updates_by-written, updates_by-removed}
+use Rattle.starlark_small.proofs.CallerUpdates.{writes-inserted, writes-with_value, writes-removed}
 
 -- The same of the map, under keys' own hashes: one word for the key and all others.
 module _ {K V : Type 0} (eq : K → K → Bool) (feeds : K → HashWrites) (old new : Map K V) (key : K) where
   -- an insertion
   pub updates-insert : (value : V) → IsEquivalence eq → new.entries ≡ insert_entry eq old.entries (own_hashed feeds key) value → Updates eq feeds old new key (Some value)
-  updates-insert value laws put = updates-put eq feeds old new key value put laws
+  updates-insert value laws put = writes-inserted eq laws old.entries new.entries (own_hashed feeds key) value put
 
   -- a value that was written where there was one
   pub updates-with_value : (w : V) → IsEquivalence eq → is_some (get eq feeds old key) ≡ true → new.entries ≡ with_value old.entries (own_match eq feeds old.entries key) w → Updates eq feeds old new key (Some w)
-  updates-with_value w laws was put = updates_by-written eq laws eq feeds key (laws.congr key) old new w put was
+  updates-with_value w laws was put = writes-with_value eq laws (own_hash feeds key) (eq key) (laws.congr key) old.entries new.entries w was put
 
   -- a removal, where no two entries are alike
   pub updates-without : IsEquivalence eq → IsSingle eq old.entries → new.entries ≡ without old.entries (own_match eq feeds old.entries key) → Updates eq feeds old new key None
-  updates-without laws single put = updates_by-removed eq laws eq feeds key (laws.congr key) old new single put
-
-  -- what the word says
-  pub updates-here : (value : Option V) → Updates eq feeds old new key value → get eq feeds new key ≡ value
-  updates-here value u = u.0
-
-  pub updates-others : (value : Option V) → Updates eq feeds old new key value → (other : K) → eq key other ≡ false → get eq feeds new other ≡ get eq feeds old other
-  updates-others value u = u.1 feeds
+  updates-without laws single put = writes-removed eq laws (own_hash feeds key) (eq key) (laws.congr key) old.entries new.entries single put
 
 -- the value that was put is found, at numbers, texts and signed numbers
 module _ {V : Type 0} where

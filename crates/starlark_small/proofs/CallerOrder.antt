@@ -14,13 +14,14 @@ use Rattle.std.proofs.lemmas.Map.{none_passes_from_lookup}
 use Rattle.std.proofs.lemmas.Map.Entries.{place_from_lookup, lookup_from_place}
 use Rattle.std.proofs.lemmas.Option.{slice_get-get_or, slice_get_within, get_or_from_slice_get}
 use Rattle.std_collections.proofs.Entries.{lookup-none, lookup_class}
+use Rattle.starlark_hash.specs.declared.hash_value.StarlarkHashValue.{StarlarkHashValue}
+use Rattle.starlark_hash.specs.HashValue.{hashed}
 use Rattle.starlark_lists.specs.Entries.{Entry, IsSingle, entry_key}
+use Rattle.starlark_lists.specs.Finding.{found}
 use Rattle.starlark_lists.specs.Sorting.{key_lt, sorted_by_key}
 use Rattle.starlark_lists.proofs.SortingLemmas.{sorted_by-sorted, key_lt-order}
 use Rattle.starlark_lists.proofs.EntryLemmas.{IsSingle-permutation}
-use Rattle.starlark_small.specs.Calling.{get, IsSameAt}
 use Rattle.starlark_small.specs.EqualityLaws.{alike-laws, value_at-lookup}
-use Rattle.starlark_small.specs.Map.{Map, own_hashed}
 use Rattle.starlark_small.proofs.SameEntries.{distinct}
 
 module _ {K X : Type 0} {R : K → K → Bool} (o : IsEquivalence R) (es fs : List (K × X)) (moves : IsPermutation es fs) (apart : IsDistinct R (keys_of fs)) (q : K) where
@@ -36,12 +37,17 @@ module _ {K X : Type 0} {R : K → K → Bool} (o : IsEquivalence R) (es fs : Li
   lookup_permuted = found_then (lookup (R q) es) refl
 
 -- each key has what it had
-pub same-permuted : {K V : Type 0} (eq : K → K → Bool) → IsEquivalence eq → (old new : Map K V) → IsSingle eq old.entries → IsPermutation old.entries new.entries → IsSameAt eq old new
-unfolding get
-same-permuted eq laws old new single moves f key =
-    value_at-lookup eq new.entries (own_hashed f key)
-    ∙ lookup_permuted (alike-laws eq laws) old.entries new.entries moves (distinct eq new.entries (IsSingle-permutation eq laws old.entries new.entries single moves)) (own_hashed f key)
-    ∙ sym (value_at-lookup eq old.entries (own_hashed f key))
+pub same-permuted : {K V : Type 0} (eq : K → K → Bool) → IsEquivalence eq → (old new : List (Entry K V)) → IsSingle eq old → IsPermutation old new
+    → (under : StarlarkHashValue) (key : K) → found (eq key) under new ≡ found (eq key) under old
+unfolding found
+same-permuted eq laws old new single moves under key =
+    value_at-lookup eq new (hashed under key)
+    ∙ lookup_permuted (alike-laws eq laws) old new moves (distinct eq new (IsSingle-permutation eq laws old new single moves)) (hashed under key)
+    ∙ sym (value_at-lookup eq old (hashed under key))
+
+-- and where they stay
+pub same-entries : {K V : Type 0} (eq : K → K → Bool) (old new : List (Entry K V)) → new ≡ old → (under : StarlarkHashValue) (key : K) → found (eq key) under new ≡ found (eq key) under old
+same-entries eq old new same under key = ap (found (eq key) under) same
 
 -- the keys of sorted entries ascend
 pub keys-sorted : {K V : Type 0} {cmp : K → K → Ordering} → IsTotalOrder cmp → (es : List (Entry K V)) → IsSorted cmp (map entry_key (sorted_by_key cmp es))

@@ -1,26 +1,25 @@
--- What a call leaves at its query and at all other keys, in the closed words of `specs/Calling.antt`.
-use Rattle.std.proofs.Common.{◌≡◌, ℕ, zero, suc, ◌<◌, Bool, true, false, eqb, List, [], ◌∷◌, ◌++◌, get_or, map, remove, Option, Some, None, IsSome, is_some, slice_get, length, Bor, Result, Ok, Err, IsOk, OnOk, arith, refl, sym, ap, ◌∙◌}
+-- What a call leaves at its query and at all other keys, in the closed words of `starlark_lists/specs/Finding.antt`.
+use Rattle.std.proofs.Common.{◌≡◌, ℕ, zero, suc, ◌<◌, Bool, true, false, eqb, List, [], ◌∷◌, ◌++◌, get_or, map, remove, Option, Some, None, IsSome, is_some, slice_get, length, Result, Ok, Err, IsOk, OnOk, arith, refl, sym, ap, ◌∙◌}
 use Rattle.std.specs.Prelude.{◌&&◌, if◌then◌else◌}
 use Rattle.std.specs.Cmp.{IsEquivalence}
-use Rattle.std.specs.Hash.{HashWrites}
 use Rattle.std.specs.Option.{option_map, option_map_or}
 use Rattle.std.proofs.lemmas.Bool.{false≢true}
 use Rattle.std.proofs.lemmas.Option.{none-some}
 use Rattle.starlark_hash.specs.declared.hashed.Hashed.{Hashed}
 use Rattle.starlark_hash.specs.declared.hash_value.StarlarkHashValue.{StarlarkHashValue}
-use Rattle.starlark_hash.specs.Hasher.{after_writes, finish_small, own_hash}
 use Rattle.starlark_hash.specs.HashValue.{hashed, hash_of, key_of}
 use Rattle.starlark_lists.specs.Entries.{Entry, IsSingle, entry_at, entry_key, entry_value, pair_of, match_of, set_value_at, insert_entry, value_at, with_value, without, position_of}
+use Rattle.starlark_lists.specs.Finding.{found, Writes}
 use Rattle.starlark_lists.proofs.PositionLemmas.{position-passes}
-use Rattle.starlark_small.specs.Calling.{get, keys, UpdatesBy, Updates}
+use Rattle.starlark_small.specs.Calling.{keys}
 use Rattle.std.specs.declared.cmp.PartialEq as PartialEq
 use Rattle.starlark_small.specs.MapEntry.{Occupied, Vacant, IsEntryOf, Puts, entry_value_of, lacking_key, occupied_map, occupied_place, vacant_map, stored, written, with_entry_value}
 use Rattle.starlark_small.specs.Inserted.{IsInserted}
 use Rattle.starlark_small.specs.declared.entry.Entry as E
 use Rattle.starlark_small.specs.declared.entry.OccupiedEntry.{OccupiedEntry}
 use Rattle.starlark_small.specs.declared.entry.VacantEntry.{VacantEntry}
-use Rattle.starlark_small.specs.Map.{Map, own_hashed, own_match, query_match}
-use Rattle.starlark_small.proofs.CallerEntries.{position_of-match, gone, value-insert_entry, value-insert_other, keys-insert_entry, value-with_value, rewritten, is_some-value_at, own_apart}
+use Rattle.starlark_small.specs.Map.{Map}
+use Rattle.starlark_small.proofs.CallerEntries.{position_of-match, gone, value-insert_entry, value-insert_other, keys-insert_entry, value-with_value, rewritten, is_some-value_at}
 use Rattle.starlark_small.proofs.CallerKeys.{alike, under, apart, both, and_false, written_there, removed_there}
 
 -- a key that does not pass is no key that passes
@@ -63,118 +62,83 @@ module _ {K V : Type 0} (eq : K → K → Bool) (laws : IsEquivalence eq) (hash 
           position_of-match eq passes one key does.1 (remove (e ∷ es) i)
           ∙ gone eq laws key (e ∷ es) i single (sym (position_of-match eq passes one key does.1 (e ∷ es)) ∙ at)
 
--- the word is a look-up
-pub get_is : {Q K V : Type 0} (equivalent : Q → K → Bool) (feeds : Q → HashWrites) (m : Map K V) (query : Q) → value_at m.entries (own_match equivalent feeds m.entries query) ≡ get equivalent feeds m query
-unfolding get
-get_is equivalent feeds m query = refl
+module _ {K V : Type 0} (test : K → Bool) (hash : StarlarkHashValue) (es : List (Entry K V)) where
+  -- the word is a look-up
+  pub found_is : (o : Option V) → o ≡ value_at es (position_of hash test es) → o ≡ found test hash es
+  unfolding found
+  found_is o is = is
 
--- nothing is found where there are no entries, and the same where they are the same
-pub get_none : {Q K V : Type 0} (equivalent : Q → K → Bool) (feeds : Q → HashWrites) (m : Map K V) (query : Q) → m.entries ≡ [] → get equivalent feeds m query ≡ None
-unfolding get
-get_none equivalent feeds m query none = ap (λ es. value_at es (own_match equivalent feeds es query)) none
-
-pub get_same : {Q K V : Type 0} (equivalent : Q → K → Bool) (feeds : Q → HashWrites) (old new : Map K V) (query : Q) → new.entries ≡ old.entries → get equivalent feeds new query ≡ get equivalent feeds old query
-unfolding get
-get_same equivalent feeds old new query same = ap (λ es. value_at es (own_match equivalent feeds es query)) same
-
--- there is a value where there is a place
-pub is_some-get : {Q K V : Type 0} (equivalent : Q → K → Bool) (feeds : Q → HashWrites) (m : Map K V) (query : Q) → is_some (own_match equivalent feeds m.entries query) ≡ is_some (get equivalent feeds m query)
-unfolding get
-is_some-get equivalent feeds m query = sym (is_some-value_at (own_hash feeds query) (equivalent query) m.entries)
-
--- a query finds what a key finds that it is equivalent to and that feeds the same
-pub get-by_key : {Q K V : Type 0} (eq : K → K → Bool) (equivalent : Q → K → Bool) (feeds : Q → HashWrites) (m : Map K V) (query : Q) → ((x y : K) → equivalent query x ≡ true → equivalent query y ≡ eq x y)
-    → (f : K → HashWrites) (k : K) → equivalent query k ≡ true → feeds query ≡ f k → get equivalent feeds m query ≡ get eq f m k
-unfolding get
-get-by_key eq equivalent feeds m query one f k does fed =
-    λ i. value_at m.entries (position_of (finish_small (after_writes (fed i))) (λ y. one k y does i) m.entries)
-
--- what is found under a ready hash, where it is the query's own
-module _ {Q K V : Type 0} (equivalent : Q → K → Bool) (m : Map K V) (key : Hashed (Bor Q)) (feeds : Q → HashWrites) (own : hash_of key ≡ own_hash feeds (key_of key).now) where
-  pub match-own : query_match equivalent m.entries key ≡ own_match equivalent feeds m.entries (key_of key).now
-  match-own = ap (λ h. position_of h (equivalent (key_of key).now) m.entries) own
-
-  pub get-own : (o : Option V) → o ≡ value_at m.entries (query_match equivalent m.entries key) → o ≡ get equivalent feeds m (key_of key).now
-  get-own o found = found ∙ ap (value_at m.entries) match-own ∙ get_is equivalent feeds m (key_of key).now
-
-  pub is_some-own : (b : Bool) → b ≡ is_some (query_match equivalent m.entries key) → b ≡ is_some (get equivalent feeds m (key_of key).now)
-  is_some-own b found = found ∙ ap is_some match-own ∙ is_some-get equivalent feeds m (key_of key).now
-
-  pub pair-own : (o : Option (K × V)) → o ≡ option_map pair_of (entry_at m.entries (query_match equivalent m.entries key)) → option_map (λ (p : K × V). p.1) o ≡ get equivalent feeds m (key_of key).now
-  pair-own o found =
-      ap (option_map (λ (p : K × V). p.1)) found ∙ second (entry_at m.entries (query_match equivalent m.entries key)) ∙ ap (value_at m.entries) match-own ∙ get_is equivalent feeds m (key_of key).now
+  pub pair_found : (o : Option (K × V)) → o ≡ option_map pair_of (entry_at es (position_of hash test es)) → option_map (λ (p : K × V). p.1) o ≡ found test hash es
+  unfolding found
+  pair_found o is = ap (option_map (λ (p : K × V). p.1)) is ∙ second (entry_at es (position_of hash test es))
     where
       second : (e : Option (Entry K V)) → option_map (λ (p : K × V). p.1) (option_map pair_of e) ≡ option_map entry_value e
       second None = refl
       second (Some e) = refl
 
-module _ {Q K V : Type 0} (eq : K → K → Bool) (laws : IsEquivalence eq) (equivalent : Q → K → Bool) (feeds : Q → HashWrites) (query : Q)
-    (one : (x y : K) → equivalent query x ≡ true → equivalent query y ≡ eq x y) (old new : Map K V) where
-  -- a value that is written where one stands
-  pub updates_by-written : (w : V) → new.entries ≡ with_value old.entries (own_match equivalent feeds old.entries query) w → IsSome (get equivalent feeds old query) → UpdatesBy eq equivalent feeds old new query (Some w)
-  unfolding get
-  updates_by-written w put found =
-      let es = with_value old.entries (own_match equivalent feeds old.entries query) w in (
-        ap (λ l. value_at l (own_match equivalent feeds l query)) put ∙ value-with_value (own_hash feeds query) (equivalent query) old.entries w
-            ∙ rewritten w (value_at old.entries (own_match equivalent feeds old.entries query)) found,
-        λ f other not.
-            ap (λ l. value_at l (own_match eq f l other)) put
-            ∙ written_other eq laws (own_hash feeds query) (equivalent query) one old.entries (own_hashed f other) not w,
-      )
+  -- there is a value where there is a place
+  pub is_some-found : is_some (position_of hash test es) ≡ is_some (found test hash es)
+  unfolding found
+  is_some-found = sym (is_some-value_at hash test es)
 
-  -- a removal, where no two entries are alike
-  pub updates_by-removed : IsSingle eq old.entries → new.entries ≡ without old.entries (own_match equivalent feeds old.entries query) → UpdatesBy eq equivalent feeds old new query None
-  unfolding get
-  updates_by-removed single put =
-      let es = without old.entries (own_match equivalent feeds old.entries query) in (
-        ap (λ l. value_at l (own_match equivalent feeds l query)) put ∙ ap (value_at es) (removed_here eq laws (own_hash feeds query) (equivalent query) one old.entries single),
-        λ f other not.
-            ap (λ l. value_at l (own_match eq f l other)) put
-            ∙ removed_other eq laws (own_hash feeds query) (equivalent query) one old.entries (own_hashed f other) not,
-      )
+  pub has_found : (b : Bool) → b ≡ is_some (position_of hash test es) → b ≡ is_some (found test hash es)
+  has_found b is = is ∙ is_some-found
 
--- a removal under a ready hash, where it is the query's own
-pub updates_by-removed_own : {Q K V : Type 0} (eq : K → K → Bool) → IsEquivalence eq → (equivalent : Q → K → Bool) (key : Hashed (Bor Q)) → ((x y : K) → equivalent (key_of key).now x ≡ true → equivalent (key_of key).now y ≡ eq x y)
-    → (old new : Map K V) → IsSingle eq old.entries → new.entries ≡ without old.entries (query_match equivalent old.entries key)
-    → (feeds : Q → HashWrites) → hash_of key ≡ own_hash feeds (key_of key).now → UpdatesBy eq equivalent feeds old new (key_of key).now None
-updates_by-removed_own eq laws equivalent key one old new single put feeds own =
-    updates_by-removed eq laws equivalent feeds (key_of key).now one old new single (put ∙ ap (without old.entries) (match-own equivalent old key feeds own))
+  pub none_found : position_of hash test es ≡ None → found test hash es ≡ None
+  unfolding found
+  none_found is = ap (value_at es) is
 
-module _ {K V : Type 0} (eq : K → K → Bool) (feeds : K → HashWrites) (old new : Map K V) (key : K) (value : V) (put : new.entries ≡ insert_entry eq old.entries (own_hashed feeds key) value) where
+-- nothing is found where there are no entries
+pub empty-found : {K V : Type 0} (es : List (Entry K V)) → es ≡ [] → (test : K → Bool) (hash : StarlarkHashValue) → found test hash es ≡ None
+unfolding found
+empty-found es none test hash = ap (λ l. value_at l (position_of hash test l)) none
+
+other_under : {K : Type 0} (eq : K → K → Bool) → IsEquivalence eq → (h : StarlarkHashValue) (key : Hashed K) (other : K) → eq (key_of key) other ≡ false → under h (eq other) key ≡ false
+other_under eq laws h key other not = ap (λ b. under h (λ _. b) key) (laws.symm other (key_of key) ∙ not) ∙ and_false _
+
+module _ {K V : Type 0} (eq : K → K → Bool) (laws : IsEquivalence eq) where
   -- an insertion
-  pub updates-put : IsEquivalence eq → Updates eq feeds old new key (Some value)
-  unfolding get
-  updates-put laws = (
-    ap (λ l. value_at l (own_match eq feeds l key)) put ∙ value-insert_entry eq old.entries (own_hashed feeds key) value laws,
-    λ f other not.
-        ap (λ l. value_at l (own_match eq f l other)) put
-        ∙ value-insert_other eq old.entries (own_hashed feeds key) value laws (own_hash f other) (eq other) (laws.congr other) (own_apart eq f laws key other (own_hash feeds key) not),
+  pub writes-inserted : (old new : List (Entry K V)) (key : Hashed K) (value : V) → new ≡ insert_entry eq old key value → Writes eq (eq (key_of key)) (hash_of key) old new (Some value)
+  unfolding found
+  writes-inserted old new key value put = (
+    ap (λ l. value_at l (match_of eq l key)) put ∙ value-insert_entry eq old key value laws,
+    λ h other not. ap (λ l. value_at l (position_of h (eq other) l)) put ∙ value-insert_other eq old key value laws h (eq other) (laws.congr other) (other_under eq laws h key other not),
   )
 
-  -- of a new key
-  pub entries-pushed : get eq feeds old key ≡ None → new.entries ≡ old.entries ++ (own_hashed feeds key, value) ∷ []
+  pub updates-inserted : {A E : Type 0} (r : Result A E) (old new : List (Entry K V)) (key : Hashed K) (value : V) → OnOk r (new ≡ insert_entry eq old key value) → OnOk r (Writes eq (eq (key_of key)) (hash_of key) old new (Some value))
+  updates-inserted (Ok a) old new key value put = writes-inserted old new key value put
+  updates-inserted (Err e) old new key value put = tt
+
+  module _ (hash : StarlarkHashValue) (passes : K → Bool) (one : (x y : K) → passes x ≡ true → passes y ≡ eq x y) where
+    -- a value that is written where one stands
+    pub writes-with_value : (old new : List (Entry K V)) (w : V) → IsSome (found passes hash old) → new ≡ with_value old (position_of hash passes old) w → Writes eq passes hash old new (Some w)
+    unfolding found
+    writes-with_value old new w there put = (
+      ap (λ l. value_at l (position_of hash passes l)) put ∙ value-with_value hash passes old w ∙ rewritten w (value_at old (position_of hash passes old)) there,
+      λ h other not. ap (λ l. value_at l (position_of h (eq other) l)) put ∙ written_other eq laws hash passes one old (hashed h other) not w,
+    )
+
+    -- a removal, where no two entries are alike
+    pub writes-removed : (old new : List (Entry K V)) → IsSingle eq old → new ≡ without old (position_of hash passes old) → Writes eq passes hash old new None
+    unfolding found
+    writes-removed old new single put = (
+      ap (λ l. value_at l (position_of hash passes l)) put ∙ ap (value_at (without old (position_of hash passes old))) (removed_here eq laws hash passes one old single),
+      λ h other not. ap (λ l. value_at l (position_of h (eq other) l)) put ∙ removed_other eq laws hash passes one old (hashed h other) not,
+    )
+
+-- an insertion of a new key, and the keys in order after any
+module _ {K V : Type 0} (eq : K → K → Bool) (old new : Map K V) (key : Hashed K) (value : V) (put : new.entries ≡ insert_entry eq old.entries key value) where
+  pub entries-pushed : found (eq (key_of key)) (hash_of key) old.entries ≡ None → new.entries ≡ old.entries ++ (key, value) ∷ []
   entries-pushed lacking =
-      put ∙ elim (match_of eq old.entries (own_hashed feeds key)) as (λ o. is_some o ≡ false → option_map_or (λ i. set_value_at old.entries i value) o (old.entries ++ (own_hashed feeds key, value) ∷ []) ≡ old.entries ++ (own_hashed feeds key, value) ∷ []) [
+      put ∙ elim (match_of eq old.entries key) as (λ o. is_some o ≡ false → option_map_or (λ i. set_value_at old.entries i value) o (old.entries ++ (key, value) ∷ []) ≡ old.entries ++ (key, value) ∷ []) [
         | None ↦ λ none. refl
         | Some i ↦ λ none. absurd (false≢true (sym none))
-      ] (is_some-get eq feeds old key ∙ ap is_some lacking)
+      ] (is_some-found (eq (key_of key)) (hash_of key) old.entries ∙ ap is_some lacking)
 
-  -- the keys in order
-  pub keys-put : keys new ≡ (if is_some (get eq feeds old key) then keys old else keys old ++ key ∷ [])
+  pub keys-put : keys new ≡ (if is_some (found (eq (key_of key)) (hash_of key) old.entries) then keys old else keys old ++ key_of key ∷ [])
   keys-put =
-      ap (map entry_key) put ∙ keys-insert_entry eq old.entries (own_hashed feeds key) value
-      ∙ ap (λ b. if b then map entry_key old.entries else map entry_key old.entries ++ key ∷ []) (is_some-get eq feeds old key)
-
--- an insertion under a ready hash, where it is the key's own
-module _ {K V : Type 0} (eq : K → K → Bool) (old new : Map K V) (key : Hashed K) (feeds : K → HashWrites) (own : key ≡ own_hashed feeds (key_of key)) where
-  pub get_own_key : (o : Option V) → o ≡ value_at old.entries (match_of eq old.entries key) → o ≡ get eq feeds old (key_of key)
-  get_own_key o found = found ∙ ap (λ h. value_at old.entries (match_of eq old.entries h)) own ∙ get_is eq feeds old (key_of key)
-
-  pub updates-put_own : IsEquivalence eq → (value : V) → new.entries ≡ insert_entry eq old.entries key value → Updates eq feeds old new (key_of key) (Some value)
-  updates-put_own laws value put = updates-put eq feeds old new (key_of key) value (put ∙ ap (λ h. insert_entry eq old.entries h value) own) laws
-
-  pub keys-put_own : (value : V) → new.entries ≡ insert_entry eq old.entries key value → keys new ≡ (if is_some (get eq feeds old (key_of key)) then keys old else keys old ++ key_of key ∷ [])
-  keys-put_own value put = keys-put eq feeds old new (key_of key) value (put ∙ ap (λ h. insert_entry eq old.entries h value) own)
+      ap (map entry_key) put ∙ keys-insert_entry eq old.entries key value
+      ∙ ap (λ b. if b then map entry_key old.entries else map entry_key old.entries ++ key_of key ∷ []) (is_some-found (eq (key_of key)) (hash_of key) old.entries)
 
 -- what is put under an entry goes into the map under its key
 module _ {K V : Type 0} {g : PartialEq.Ghosts K} (eq : K → K → Bool) (m : Map K V) (key : Hashed K) where

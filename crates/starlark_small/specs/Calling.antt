@@ -1,30 +1,59 @@
--- What a caller of a `SmallMap` says of it, under keys' own hashes; and what a call leaves at its query and at all other keys.
-use Rattle.std.specs.Prelude.{◌≡◌, Bool, false, List, Option, map}
+-- What a caller of a `SmallMap` says of it, and of the collections made of one: what a query finds under its own hash, and what
+-- a call leaves at its query and at all other keys.
+use Rattle.std.specs.Prelude.{◌≡◌, ℕ, Bool, List, Option, None, is_some, map}
+use Rattle.std.specs.Hash as fed
 use Rattle.std.specs.Hash.{HashWrites}
-use Rattle.starlark_lists.specs.Entries.{entry_key, value_at}
-use Rattle.starlark_small.specs.Map.{Map, own_match}
+use Rattle.std.specs.Str.{bytes_eq}
+use Rattle.std.specs.String.{string_bytes}
+use Rattle.std.specs.declared.string.String.{String}
+use Rattle.starlark_hash.specs.Hasher.{own_hash}
+use Rattle.starlark_hash.specs.declared.hash_value.StarlarkHashValue.{StarlarkHashValue}
+use Rattle.starlark_lists.specs.Entries.{entry_key}
+use Rattle.starlark_lists.specs.Finding.{found, found_key, Writes}
+use Rattle.starlark_small.specs.Map.{Map}
 
 -- the keys in order
 abbrev pub keys : {K V : Type 0} → Map K V → List K
 keys m = map entry_key m.entries
 
 module _ {Q K V : Type 0} (equivalent : Q → K → Bool) (feeds : Q → HashWrites) where
-  -- the value at what the query is equivalent to, under the query's own hash. Callers' proofs leave this word closed
-  unfoldable pub get : Map K V → Q → Option V
-  get m query = value_at m.entries (own_match equivalent feeds m.entries query)
+  -- the value at what the query is equivalent to, under the query's own hash
+  abbrev pub get : Map K V → Q → Option V
+  get m query = found (equivalent query) (own_hash feeds query) m.entries
+
+  -- the stored key
+  abbrev pub get_key : Map K V → Q → Option K
+  get_key m query = found_key (equivalent query) (own_hash feeds query) m.entries
+
+  -- whether there is one
+  abbrev pub contains : Map K V → Q → Bool
+  contains m query = is_some (get m query)
 
 module _ {Q K V : Type 0} (eq : K → K → Bool) (equivalent : Q → K → Bool) (feeds : Q → HashWrites) where
-  -- the new map has this value, or none, at the query; and at each key that the query is not equivalent to, whatever keys
-  -- feed, it has what the old one had
+  -- the new map has this value, or none, at the query; and at each key that the query is not equivalent to, whatever the
+  -- key's hash, it has what the old one had
   abbrev pub UpdatesBy : Map K V → Map K V → Q → Option V → Type 0
-  UpdatesBy old new query value = (get equivalent feeds new query ≡ value)
-      × ((f : K → HashWrites) (other : K) → equivalent query other ≡ false → get eq f new other ≡ get eq f old other)
+  UpdatesBy old new query value = Writes eq (equivalent query) (own_hash feeds query) old.entries new.entries value
+
+module _ {K V : Type 0} (eq : K → K → Bool) (feeds : K → HashWrites) where
+  -- the same by a key
+  abbrev pub Updates : Map K V → Map K V → K → Option V → Type 0
+  Updates old new key value = UpdatesBy eq eq feeds old new key value
 
 module _ {K V : Type 0} (eq : K → K → Bool) where
-  -- the same by a key
-  abbrev pub Updates : (K → HashWrites) → Map K V → Map K V → K → Option V → Type 0
-  Updates feeds old new key value = UpdatesBy eq eq feeds old new key value
-
-  -- each key has what it had, whatever keys feed
+  -- each key, whatever its hash, has what it had
   abbrev pub IsSameAt : Map K V → Map K V → Type 0
-  IsSameAt old new = (f : K → HashWrites) (key : K) → get eq f new key ≡ get eq f old key
+  IsSameAt old new = (under : StarlarkHashValue) (key : K) → found (eq key) under new.entries ≡ found (eq key) under old.entries
+
+module _ {K V : Type 0} where
+  -- no look-up finds a value
+  abbrev pub IsEmpty : Map K V → Type 0
+  IsEmpty m = (test : K → Bool) (hash : StarlarkHashValue) → found test hash m.entries ≡ None
+
+module _ {A V : Type 0} where
+  -- the value at the string of these bytes
+  abbrev pub get_text : Map (String A) V → List ℕ → Option V
+  get_text m text = get (λ q k. bytes_eq q (string_bytes k)) fed.str m text
+
+  abbrev pub contains_text : Map (String A) V → List ℕ → Bool
+  contains_text m text = is_some (get_text m text)

@@ -61,8 +61,8 @@ impl<K: Eq + Drop, V> Drop for VacantEntry<'_, K, V> {
 
 impl<K: Eq, V> SmallMap<K, V> {
     ghost use Rattle.std.specs.Prelude.{◌++◌, ◌∷◌, [], is_some, if◌then◌else◌};
-    ghost use Rattle.std.specs.Hash.{HashWrites};
-    ghost use Rattle.starlark_hash.specs.HashValue.{key_of};
+    ghost use Rattle.starlark_hash.specs.HashValue.{hash_of, key_of};
+    ghost use Rattle.starlark_lists.specs.Finding.{found, Writes};
     ghost use Rattle.starlark_small.specs.Calling.{get, keys, Updates};
     ghost use Rattle.starlark_small.specs.Map.{Map, own_hashed};
     ghost use Rattle.starlark_small.specs.MapEntry.{map_of_entry, entry_value_of, IsEntryOf, Puts};
@@ -86,9 +86,9 @@ impl<K: Eq, V> SmallMap<K, V> {
         K: Drop,
         ensures same_map { (map_of_entry result).ghost_name ≡ self.entry.ghost_name }
         ensures entry { IsEntryOf K.eq self.old key result }
-        ensures value { (feeds : K → HashWrites) → key ≡ own_hashed feeds (key_of key) → entry_value_of result ≡ get K.eq feeds self.old (key_of key) }
-        ensures updates { (feeds : K → HashWrites) → key ≡ own_hashed feeds (key_of key) → (value : V) (new : Map K V) → Puts result value new → Updates K.eq feeds self.old new (key_of key) (Some value) }
-        ensures keys { (feeds : K → HashWrites) → key ≡ own_hashed feeds (key_of key) → (value : V) (new : Map K V) → Puts result value new → keys new ≡ (if is_some (get K.eq feeds self.old (key_of key)) then keys self.old else keys self.old ++ key_of key ∷ []) }
+        ensures value { entry_value_of result ≡ found (K.eq (key_of key)) (hash_of key) self.old.entries }
+        ensures updates { (value : V) (new : Map K V) → Puts result value new → Writes K.eq (K.eq (key_of key)) (hash_of key) self.old.entries new.entries (Some value) }
+        ensures keys { (value : V) (new : Map K V) → Puts result value new → keys new ≡ (if is_some (found (K.eq (key_of key)) (hash_of key) self.old.entries) then keys self.old else keys self.old ++ key_of key ∷ []) }
     {
         if let Some(index) = self.get_index_of_hashed(key.as_ref()) {
             return Entry::Occupied(OccupiedEntry { map: self, index });

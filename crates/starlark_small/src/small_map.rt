@@ -1,7 +1,6 @@
 //! The map. It alone sees its list of entries and their index.
-ghost use Rattle.std.specs.Prelude.{◌≡◌, ◌≤◌, [], false, nat_lt, None, IfOk, IsOk};
-ghost use Rattle.std.specs.Hash.{HashWrites};
-ghost use Rattle.starlark_small.specs.Calling.{get};
+ghost use Rattle.std.specs.Prelude.{◌≡◌, ◌≤◌, [], false, nat_lt, IfOk, IsOk};
+ghost use Rattle.starlark_small.specs.Calling.{IsEmpty};
 ghost use Rattle.starlark_small.specs.Index.{unindexed};
 
 mod collect;
@@ -46,7 +45,7 @@ impl<K: Eq, V> SmallMap<K, V> {
     #[inline]
     pub fn new(alloc: Global) -> Self
         ensures empty { result ≡ record { entries = []; room = 0; capacity = 0; indexed = false } }
-        ensures lacks { (f : K → HashWrites) (key : K) → get K.eq f result key ≡ None }
+        ensures lacks { IsEmpty result }
     {
         SmallMap {
             entries: VecMap::new(alloc),
@@ -58,7 +57,7 @@ impl<K: Eq, V> SmallMap<K, V> {
     /// nothing is made; capacity 0 asks for none.
     pub fn with_capacity(alloc: Global, capacity: usize) -> Result<Self, AllocError>
         ensures entries { IfOk result (λ map. map.entries ≡ []) }
-        ensures lacks { IfOk result (λ map. (f : K → HashWrites) (key : K) → get K.eq f map key ≡ None) }
+        ensures lacks { IfOk result IsEmpty }
         ensures capacity { IfOk result (λ map. map.capacity ≡ capacity) }
         ensures room { IfOk result (λ map. capacity ≤ map.room) }
         ensures indexed { IfOk result (λ map. map.indexed ≡ nat_lt unindexed capacity) }

@@ -1,9 +1,9 @@
 //! What puts entries into a `SmallMap`, and makes room for them.
 ghost use Rattle.std.specs.Prelude.{◌≡◌, ◌<◌, ◌≤◌, ◌++◌, ◌∷◌, [], Some, None, is_some, if◌then◌else◌, IfOk, IfErr, OnOk, OnErr};
 ghost use Rattle.starlark_lists.specs.Entries.{value_at, match_of, insert_entry};
-ghost use Rattle.std.specs.Hash.{HashWrites};
-ghost use Rattle.starlark_hash.specs.HashValue.{key_of};
-ghost use Rattle.starlark_small.specs.Calling.{get, keys, IsSameAt, Updates};
+ghost use Rattle.starlark_lists.specs.Finding.{found, Writes};
+ghost use Rattle.starlark_hash.specs.HashValue.{hash_of, key_of};
+ghost use Rattle.starlark_small.specs.Calling.{get, keys, Updates};
 ghost use Rattle.starlark_small.specs.Inserted.{IsRefusedFor, IsReserved, LeavesMemory};
 ghost use Rattle.starlark_small.specs.Map.{own_hashed};
 
@@ -30,7 +30,6 @@ impl<K: Eq, V> SmallMap<K, V> {
         ensures pushed { OnOk result (get K.eq K.hash_input self.old key ≡ None → self.new.entries ≡ self.old.entries ++ (own_hashed K.hash_input key, value) ∷ []) }
         ensures keys { OnOk result (keys self.new ≡ (if is_some (get K.eq K.hash_input self.old key) then keys self.old else keys self.old ++ key ∷ [])) }
         ensures lacking { OnErr result (get K.eq K.hash_input self.old key ≡ None) }
-        ensures same { OnErr result (IsSameAt K.eq self.old self.new) }
 
         // A refusal comes only of a new key and without room. The pair comes back, and entries and index stay.
         ensures absent { OnErr result (match_of K.eq self.old.entries (own_hashed K.hash_input key) ≡ None) }
@@ -61,10 +60,9 @@ impl<K: Eq, V> SmallMap<K, V> {
         ensures old { IfOk result (λ old. old ≡ value_at self.old.entries (match_of K.eq self.old.entries key)) }
         ensures entries { OnOk result (self.new.entries ≡ insert_entry K.eq self.old.entries key value) }
 
-        // The same by key, where this is the key's own hash.
-        ensures was { IfOk result (λ old. (feeds : K → HashWrites) → key ≡ own_hashed feeds (key_of key) → old ≡ get K.eq feeds self.old (key_of key)) }
-        ensures updates { OnOk result ((feeds : K → HashWrites) → key ≡ own_hashed feeds (key_of key) → Updates K.eq feeds self.old self.new (key_of key) (Some value)) }
-        ensures same { OnErr result (IsSameAt K.eq self.old self.new) }
+        // The same by key: the value that was there, and what is there now, and at all other keys.
+        ensures was { IfOk result (λ old. old ≡ found (K.eq (key_of key)) (hash_of key) self.old.entries) }
+        ensures updates { OnOk result (Writes K.eq (K.eq (key_of key)) (hash_of key) self.old.entries self.new.entries (Some value)) }
 
         // A refusal comes only of a new key and without room. The pair comes back, and entries and index stay.
         ensures absent { OnErr result (match_of K.eq self.old.entries key ≡ None) }

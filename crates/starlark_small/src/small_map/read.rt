@@ -1,15 +1,14 @@
 //! What a `SmallMap` has: entries by hash and key, by key alone under its own hash, and by place.
-ghost use Rattle.std.specs.Prelude.{◌≡◌, ◌-◌, ◌<◌, ◌≤◌, ◌==◌, slice_get, length, is_some, IfSome, IsPermutation, IsSome, Some, true};
+ghost use Rattle.std.specs.Prelude.{◌≡◌, ◌-◌, ◌<◌, ◌≤◌, ◌==◌, slice_get, length, is_some, IfSome, IsPermutation, IsSome, Some};
 ghost use Rattle.std.specs.Map.Iter.{deref_pair};
 ghost use Rattle.std.specs.Option.{option_copied, option_map};
-ghost use Rattle.std.specs.Hash.{HashWrites};
 ghost use Rattle.starlark_hash.specs.HashValue.{hash_of, key_of};
-ghost use Rattle.starlark_hash.specs.Hasher.{own_hash};
 ghost use Rattle.starlark_lists.specs.Entries.{IsSingle, entry_at, value_at, pair_of};
+ghost use Rattle.starlark_lists.specs.Finding.{found};
 ghost use Rattle.starlark_lists.specs.Search.{CanSearch, Searches, keys_under};
 ghost use Rattle.starlark_small.specs.Index.{positions, unindexed};
 ghost use Rattle.starlark_table.specs.Table.{members};
-ghost use Rattle.starlark_small.specs.Calling.{get};
+ghost use Rattle.starlark_small.specs.Calling.{contains, get};
 ghost use Rattle.starlark_small.specs.Map.{query_match, query_match_by_value, own_match};
 
 use super::SmallMap;
@@ -25,7 +24,7 @@ impl<K: Eq, V> SmallMap<K, V> {
     #[inline(always)]
     pub fn get_hashed<Q: Equivalent<K>>(&self, key: Hashed<&Q>) -> Option<&V>
         ensures value { option_copied result ≡ value_at self.now.entries (query_match Q.equivalent self.now.entries key.entry) }
-        ensures found { (feeds : Q → HashWrites) → hash_of key.entry ≡ own_hash feeds (key_of key.entry).now → option_copied result ≡ get Q.equivalent feeds self.now (key_of key.entry).now }
+        ensures found { option_copied result ≡ found (Q.equivalent (key_of key.entry).now) (hash_of key.entry) self.now.entries }
     {
         let index = self.get_index_of_hashed(key)?;
         let (_, value) = self.entries.get_unchecked(index);
@@ -92,7 +91,7 @@ impl<K: Eq, V> SmallMap<K, V> {
     #[inline]
     pub fn contains_key_hashed<Q: Equivalent<K>>(&self, key: Hashed<&Q>) -> bool
         ensures place { result ≡ is_some (query_match Q.equivalent self.now.entries key.entry) }
-        ensures found { (feeds : Q → HashWrites) → hash_of key.entry ≡ own_hash feeds (key_of key.entry).now → result ≡ is_some (get Q.equivalent feeds self.now (key_of key.entry).now) }
+        ensures found { result ≡ is_some (found (Q.equivalent (key_of key.entry).now) (hash_of key.entry) self.now.entries) }
     {
         self.get_index_of_hashed(key).is_some()
     }
@@ -114,7 +113,6 @@ impl<K: Eq, V> SmallMap<K, V> {
     pub fn get<Q: Equivalent<K> + Hash>(&self, key: &Q) -> Option<&V>
         ensures value { option_copied result ≡ value_at self.now.entries (own_match Q.equivalent Q.hash_input self.now.entries key.now) }
         ensures found { option_copied result ≡ get Q.equivalent Q.hash_input self.now key.now }
-        ensures by_key { (f : K → HashWrites) (k : K) → Q.equivalent key.now k ≡ true → Q.hash_input key.now ≡ f k → option_copied result ≡ get K.eq f self.now k }
     {
         self.get_hashed(under_own_hash(key))
     }
@@ -133,7 +131,7 @@ impl<K: Eq, V> SmallMap<K, V> {
     #[inline]
     pub fn get_index_of<Q: Equivalent<K> + Hash>(&self, key: &Q) -> Option<usize>
         ensures place { result ≡ own_match Q.equivalent Q.hash_input self.now.entries key.now }
-        ensures found { is_some result ≡ is_some (get Q.equivalent Q.hash_input self.now key.now) }
+        ensures found { is_some result ≡ contains Q.equivalent Q.hash_input self.now key.now }
         ensures within { IfSome result (λ i. i < length self.now.entries) }
     {
         self.get_index_of_hashed(under_own_hash(key))
@@ -143,8 +141,7 @@ impl<K: Eq, V> SmallMap<K, V> {
     #[inline]
     pub fn contains_key<Q: Equivalent<K> + Hash>(&self, key: &Q) -> bool
         ensures place { result ≡ is_some (own_match Q.equivalent Q.hash_input self.now.entries key.now) }
-        ensures found { result ≡ is_some (get Q.equivalent Q.hash_input self.now key.now) }
-        ensures by_key { (f : K → HashWrites) (k : K) → Q.equivalent key.now k ≡ true → Q.hash_input key.now ≡ f k → result ≡ is_some (get K.eq f self.now k) }
+        ensures found { result ≡ contains Q.equivalent Q.hash_input self.now key.now }
     {
         self.contains_key_hashed(under_own_hash(key))
     }

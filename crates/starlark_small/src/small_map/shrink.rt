@@ -1,11 +1,10 @@
 //! What takes entries out of a `SmallMap`. None of it asks for memory.
-ghost use Rattle.std.specs.Prelude.{◌≡◌, ◌+◌, ◌-◌, ◌<◌, ◌≤◌, [], true, false, min, nat_le, remove, slice_get, length, if◌then◌else◌, Some, None};
+ghost use Rattle.std.specs.Prelude.{◌≡◌, ◌+◌, ◌-◌, ◌<◌, ◌≤◌, [], false, min, nat_le, remove, slice_get, length, if◌then◌else◌, Some, None};
 ghost use Rattle.std.specs.Option.{option_map};
 ghost use Rattle.starlark_lists.specs.Entries.{entry_at, value_at, pair_of, without};
-ghost use Rattle.std.specs.Hash.{HashWrites};
+ghost use Rattle.starlark_lists.specs.Finding.{found, Writes};
 ghost use Rattle.starlark_hash.specs.HashValue.{hash_of, key_of};
-ghost use Rattle.starlark_hash.specs.Hasher.{own_hash};
-ghost use Rattle.starlark_small.specs.Calling.{get, UpdatesBy};
+ghost use Rattle.starlark_small.specs.Calling.{get, IsEmpty, UpdatesBy};
 ghost use Rattle.starlark_small.specs.Index.{unindexed};
 ghost use Rattle.starlark_small.specs.Map.{KeepsMemory, query_match, own_match};
 
@@ -24,8 +23,8 @@ impl<K: Eq, V> SmallMap<K, V> {
         K: Drop,
         ensures taken { result ≡ value_at self.old.entries (query_match Q.equivalent self.old.entries key.entry) }
         ensures entries { self.new.entries ≡ without self.old.entries (query_match Q.equivalent self.old.entries key.entry) }
-        ensures was { (feeds : Q → HashWrites) → hash_of key.entry ≡ own_hash feeds (key_of key.entry).now → result ≡ get Q.equivalent feeds self.old (key_of key.entry).now }
-        ensures updates { (feeds : Q → HashWrites) → hash_of key.entry ≡ own_hash feeds (key_of key.entry).now → UpdatesBy K.eq Q.equivalent feeds self.old self.new (key_of key.entry).now None }
+        ensures was { result ≡ found (Q.equivalent (key_of key.entry).now) (hash_of key.entry) self.old.entries }
+        ensures updates { Writes K.eq (Q.equivalent (key_of key.entry).now) (hash_of key.entry) self.old.entries self.new.entries None }
         ensures kept { KeepsMemory self.old self.new }
     {
         let (_, value) = self.shift_remove_hashed_entry(key)?;
@@ -37,8 +36,8 @@ impl<K: Eq, V> SmallMap<K, V> {
     pub fn shift_remove_hashed_entry<Q: Equivalent<K>>(&mut self, key: Hashed<&Q>) -> Option<(K, V)>
         ensures taken { result ≡ option_map pair_of (entry_at self.old.entries (query_match Q.equivalent self.old.entries key.entry)) }
         ensures entries { self.new.entries ≡ without self.old.entries (query_match Q.equivalent self.old.entries key.entry) }
-        ensures was { (feeds : Q → HashWrites) → hash_of key.entry ≡ own_hash feeds (key_of key.entry).now → option_map (λ pair. pair.1) result ≡ get Q.equivalent feeds self.old (key_of key.entry).now }
-        ensures updates { (feeds : Q → HashWrites) → hash_of key.entry ≡ own_hash feeds (key_of key.entry).now → UpdatesBy K.eq Q.equivalent feeds self.old self.new (key_of key.entry).now None }
+        ensures was { option_map (λ pair. pair.1) result ≡ found (Q.equivalent (key_of key.entry).now) (hash_of key.entry) self.old.entries }
+        ensures updates { Writes K.eq (Q.equivalent (key_of key.entry).now) (hash_of key.entry) self.old.entries self.new.entries None }
         ensures kept { KeepsMemory self.old self.new }
     {
         let index = self.get_index_of_hashed(key)?;
@@ -55,7 +54,6 @@ impl<K: Eq, V> SmallMap<K, V> {
         ensures entries { self.new.entries ≡ without self.old.entries (own_match Q.equivalent Q.hash_input self.old.entries key.now) }
         ensures was { result ≡ get Q.equivalent Q.hash_input self.old key.now }
         ensures updates { UpdatesBy K.eq Q.equivalent Q.hash_input self.old self.new key.now None }
-        ensures by_key { (f : K → HashWrites) (k : K) → Q.equivalent key.now k ≡ true → Q.hash_input key.now ≡ f k → (result ≡ get K.eq f self.old k) × (get K.eq f self.new k ≡ None) }
         ensures kept { KeepsMemory self.old self.new }
     {
         self.shift_remove_hashed(under_own_hash(key))
@@ -117,7 +115,7 @@ impl<K: Eq, V> SmallMap<K, V> {
         K: Drop,
         V: Drop,
         ensures entries { self.new.entries ≡ [] }
-        ensures lacks { (f : K → HashWrites) (key : K) → get K.eq f self.new key ≡ None }
+        ensures lacks { IsEmpty self.new }
         ensures kept { KeepsMemory self.old self.new }
     {
         prove!(self.entries.len() <= self.entries.capacity());

@@ -1,9 +1,10 @@
 use Rattle.std.proofs.Common.{◌≡◌, rules, refl, ap, ◌∙◌}
+use Rattle.starlark_hash.specs.Hasher.{own_hash}
+use Rattle.starlark_hash.specs.HashValue.{hash_of, key_of}
 use Rattle.starlark_lists.specs.Entries.{position_of, value_at, with_value}
 use Rattle.starlark_small.specs.Map.{query_match, own_match}
-use Rattle.starlark_hash.specs.HashValue.{hash_of, key_of}
 use Rattle.starlark_small.proofs.CallerEntries.{keys-with_value}
-use Rattle.starlark_small.proofs.CallerUpdates.{get_is, updates_by-written}
+use Rattle.starlark_small.proofs.CallerUpdates.{found_is, writes-with_value}
 use Rattle.starlark_small.proofs.small_map.SmallMap.get_mut.Goals as goal
 
 pub returns : goal.returns
@@ -20,10 +21,10 @@ returns g c =
         λ w. (
           ap (λ p. record old { entries = with_value old.entries p w }) same,
           keys-with_value (hash_of under.result) (equivalent (key_of under.result).now) old.entries w,
-          updates_by-written g.K.PartialEq.eq g.met.K.Eq.laws equivalent feeds query (g.met.Q.Equivalent.respects_eq query)
-              old (record old { entries = with_value old.entries (query_match equivalent old.entries under.result) w }) w (ap (λ p. with_value old.entries p w) same),
+          λ there. writes-with_value g.K.PartialEq.eq g.met.K.Eq.laws (own_hash feeds query) (equivalent query) (g.met.Q.Equivalent.respects_eq query)
+              old.entries (with_value old.entries (query_match equivalent old.entries under.result) w) w there (ap (λ p. with_value old.entries p w) same),
         ),
         refl,
       ),
-      record { writes_back = tt; value = value; found = value ∙ get_is equivalent feeds old query; absent = search rules },
+      record { writes_back = tt; value = value; found = found_is (equivalent query) (own_hash feeds query) old.entries _ value; absent = search rules },
     )

@@ -1,6 +1,6 @@
 use Rattle.std.proofs.Common.{rules}
-use Rattle.starlark_small.proofs.CallerUpdates.{get_none}
+use Rattle.starlark_small.proofs.CallerUpdates.{empty-found}
 use Rattle.starlark_small.proofs.small_map.SmallMap.new.Goals as goal
 
 pub returns-clause-lacks : goal.returns-clause-lacks
-returns-clause-lacks g c f key = get_none g.K.PartialEq.eq f _ key (search rules)
+returns-clause-lacks g c test hash = empty-found _ (search rules) test hash

@@ -15,8 +15,8 @@ invariant_of-self g c =
     }
 
 pub returns-clause-same : goal.returns-clause-same
-returns-clause-same g c =
+returns-clause-same g c under key =
     let es = c.self.inside.entries.entries in
     rw (← c.self.view_is)
     (same-permuted g.K.PartialEq.eq g.met.K.Eq.laws _ _ c.self.invariant.single
-    (subst (λ l. IsPermutation es l.entries) (sym c.reverse.ensures) (IsPermutation-reverse es)))
+    (subst (λ l. IsPermutation es l.entries) (sym c.reverse.ensures) (IsPermutation-reverse es)) under key)

@@ -9,8 +9,7 @@ use Rattle.starlark_lists.specs.Sorting.{key_lt, sorted_by_key}
 use Rattle.starlark_lists.proofs.EntryLemmas.{IsSingle-permutation}
 use Rattle.starlark_lists.proofs.SortingLemmas.{IsPermutation-sorted_by}
 use Rattle.starlark_small.specs.Index.{index_room}
-use Rattle.starlark_small.proofs.CallerOrder.{keys-sorted, same-permuted}
-use Rattle.starlark_small.proofs.CallerUpdates.{get_same}
+use Rattle.starlark_small.proofs.CallerOrder.{keys-sorted, same-entries, same-permuted}
 use Rattle.starlark_small.proofs.Rooms.{KeepsMemory-turned}
 use Rattle.starlark_small.proofs.small_map.SmallMap.sort_keys.Goals as goal
 
@@ -47,7 +46,7 @@ returns-clause-kept g c =
     (subst (λ n. n + index_room n c.self.inside.index ≤ length new.entries + index_room (length new.entries) c.note_all.new.self) size (omega (arith, c.forget_all.ensures.room, c.note_all.ensures.room))) (c.note_all.ensures.kept ∙ c.forget_all.ensures.kept))
 
 pub returns-in_err-sort_keys-clause-same : goal.returns-in_err-sort_keys-clause-same
-returns-in_err-sort_keys-clause-same g c f key = get_same g.K.PartialEq.eq f c.args.self.now _ key (search rules)
+returns-in_err-sort_keys-clause-same g c = same-entries g.K.PartialEq.eq c.args.self.now.entries _ (search rules)
 
 pub returns-clause-sorted : goal.returns-clause-sorted
 returns-clause-sorted g c =
@@ -55,8 +54,8 @@ returns-clause-sorted g c =
     subst (λ l. IsSorted cmp (map (entry_key {V = g.row.V.Denot}) l.entries)) (sym c.in_ok-sort_keys.ensures.sorted) (keys-sorted g.met.K.Ord.total c.self.inside.entries.entries)
 
 pub returns-clause-same : goal.returns-clause-same
-returns-clause-same g c =
+returns-clause-same g c under key =
     let es = c.self.inside.entries.entries in
     rw (← c.self.view_is)
     (same-permuted g.K.PartialEq.eq g.met.K.Eq.laws _ _ c.self.invariant.single
-    (subst (λ l. IsPermutation es l.entries) (sym c.in_ok-sort_keys.ensures.sorted) (IsPermutation-sorted_by (key_lt g.K.Ord.cmp) es)))
+    (subst (λ l. IsPermutation es l.entries) (sym c.in_ok-sort_keys.ensures.sorted) (IsPermutation-sorted_by (key_lt g.K.Ord.cmp) es)) under key)
