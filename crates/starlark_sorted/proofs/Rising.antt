@@ -155,10 +155,11 @@ module _ {T : Type 0} (eq : T → T → Bool) {cmp : T → T → Ordering} (tota
       let rest_up : Ascends cmp (f ∷ gs) = subst (Ascends cmp) is (behind-keeps p (Ascends cmp) (λ e es. Ascends-tail cmp e es) fs over) in
       let lacking = both_true (comes_first cmp es f) (lacks eq there f) first (behind-head p fs gs f is) in
       let all : sorted_by_key cmp (es ++ difference eq fs there) ≡ f ∷ sorted_by_key cmp (es ++ difference eq gs there) =
-      ap (λ l. sorted_by_key cmp (es ++ l)) (sym (skipped es fs there) ∙ ap (λ l. difference eq l there) is) ∙ other-first es gs there f up rest_up first lacking in
-      (ap (map entry_key) all,
-      sym (ap (λ l. cond (is_others cmp es l) (record { left = es; right = drop 1 l; there = there }) (record { left = drop 1 es; right = l; there = there })) is
-      ∙ ap (λ b. cond b (record { left = es; right = gs; there = there }) (record { left = drop 1 es; right = f ∷ gs; there = there })) first))
+      ap (λ l. sorted_by_key cmp (es ++ l)) (sym (skipped es fs there) ∙ ap (λ l. difference eq l there) is) ∙ other-first es gs there f up rest_up first lacking in (
+        ap (map entry_key) all,
+        sym (ap (λ l. cond (is_others cmp es l) (record { left = es; right = drop 1 l; there = there }) (record { left = drop 1 es; right = l; there = there })) is
+            ∙ ap (λ b. cond b (record { left = es; right = gs; there = there }) (record { left = drop 1 es; right = f ∷ gs; there = there })) first),
+      )
 
   after-own : (es fs there gs : Elements T) → behind (is_passed eq cmp es there) fs ≡ gs → is_others cmp es gs ≡ false
       → after eq cmp (record { left = es; right = fs; there = there }) ≡ record { left = drop 1 es; right = gs; there = there }
@@ -172,27 +173,35 @@ module _ {T : Type 0} (eq : T → T → Bool) {cmp : T → T → Ordering} (tota
       → (rise_rest eq cmp (record { left = es; right = fs; there = there }) ≡ entry_key e ∷ rise_rest eq cmp (record { left = ds; right = gs; there = there }))
       × (record { left = ds; right = gs; there = there } ≡ after eq cmp (record { left = es; right = fs; there = there }))
   step-own es fs there gs e ds up over is own at =
-      let rest_up : Ascends cmp gs = subst (Ascends cmp) is (behind-keeps (is_passed eq cmp es there) (Ascends cmp) (λ e es. Ascends-tail cmp e es) fs over) in
-      (ap (λ l. map entry_key (sorted_by_key cmp (es ++ l))) (sym (skipped es fs there) ∙ ap (λ l. difference eq l there) is)
-      ∙ ap (λ l. map entry_key (sorted_by_key cmp (l ++ difference eq gs there))) at
-      ∙ ap (map entry_key) (own-first e ds gs there (subst (Ascends cmp) at up) rest_up (subst (λ l. is_others cmp l gs ≡ false) at own)),
-      sym (after-own es fs there gs is own ∙ ap (λ l. record { left = drop 1 l; right = gs; there = there }) at))
+      let rest_up : Ascends cmp gs = subst (Ascends cmp) is (behind-keeps (is_passed eq cmp es there) (Ascends cmp) (λ e es. Ascends-tail cmp e es) fs over) in (
+        ap (λ l. map entry_key (sorted_by_key cmp (es ++ l))) (sym (skipped es fs there) ∙ ap (λ l. difference eq l there) is)
+            ∙ ap (λ l. map entry_key (sorted_by_key cmp (l ++ difference eq gs there))) at
+            ∙ ap (map entry_key) (own-first e ds gs there (subst (Ascends cmp) at up) rest_up (subst (λ l. is_others cmp l gs ≡ false) at own)),
+        sym (after-own es fs there gs is own ∙ ap (λ l. record { left = drop 1 l; right = gs; there = there }) at),
+      )
 
   pub step-none : (es fs there gs ds : Elements T) → behind (is_passed eq cmp es there) fs ≡ gs → is_others cmp es gs ≡ false → es ≡ [] → ds ≡ []
       → (rise_rest eq cmp (record { left = es; right = fs; there = there }) ≡ []) × (rise_rest eq cmp (record { left = ds; right = gs; there = there }) ≡ [])
       × (record { left = ds; right = gs; there = there } ≡ after eq cmp (record { left = es; right = fs; there = there }))
   step-none es fs there gs ds is own at end =
       let none : gs ≡ [] = none-left gs (subst (λ l. is_others cmp l gs ≡ false) at own) in
-      let last = λ (l : Elements T) (empty : l ≡ []). ap (λ l. map entry_key (sorted_by_key cmp (l ++ difference eq gs there))) empty ∙ ap (λ l. map entry_key (sorted_by_key cmp (difference eq l there))) none in
-      (ap (λ l. map entry_key (sorted_by_key cmp (es ++ l))) (sym (skipped es fs there) ∙ ap (λ l. difference eq l there) is) ∙ last es at, last ds end,
-      sym (after-own es fs there gs is own ∙ ap (λ l. record { left = l; right = gs; there = there }) (ap (drop 1) at ∙ sym end)))
+      let last = λ (l : Elements T) (empty : l ≡ []). ap (λ l. map entry_key (sorted_by_key cmp (l ++ difference eq gs there))) empty ∙ ap (λ l. map entry_key (sorted_by_key cmp (difference eq l there))) none in (
+        ap (λ l. map entry_key (sorted_by_key cmp (es ++ l))) (sym (skipped es fs there) ∙ ap (λ l. difference eq l there) is) ∙ last es at,
+        last ds end,
+        sym (after-own es fs there gs is own ∙ ap (λ l. record { left = l; right = gs; there = there }) (ap (drop 1) at ∙ sym end)),
+      )
 
 module _ {T : Type 0} (eq : T → T → Bool) (cmp : T → T → Ordering) where
   -- how many elements are to come
   pub length-rest : (u : SortedUnion T) → length (rise_rest eq cmp u) ≡ length u.left + length (map entry_key (difference eq u.right u.there))
   length-rest u =
-      omega (arith, length-map (sorted_by_key cmp (u.left ++ difference eq u.right u.there)) entry_key, length-sorted_by (key_lt cmp) (u.left ++ difference eq u.right u.there),
-      length-append u.left (difference eq u.right u.there), length-map (difference eq u.right u.there) entry_key)
+      omega (
+        arith,
+        length-map (sorted_by_key cmp (u.left ++ difference eq u.right u.there)) entry_key,
+        length-sorted_by (key_lt cmp) (u.left ++ difference eq u.right u.there),
+        length-append u.left (difference eq u.right u.there),
+        length-map (difference eq u.right u.there) entry_key,
+      )
 
 -- what a walk over two sets begins with
 pub elements-of : {T : Type 0} (es : Elements T) (hs : List (Hashed T)) → hs ≡ keys_of es → elements_under hs ≡ es

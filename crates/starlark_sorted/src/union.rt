@@ -11,19 +11,18 @@ ghost use Rattle.starlark_sorted.specs.Union.{RiseSteps, behind, comes_first, el
 use starlark_hash::Hashed;
 use starlark_sets::{IterHashed, OrderedSet};
 use std::cmp::Ordering;
-use std::hash::Hash;
 use std::marker::Model;
 
 /// The elements of one set and those of another that it lacks, in ascending order; of equal ones those of the first set
 /// come first. An element is looked for under the hash that it stands under.
 #[derive(Drop)]
-pub struct SortedUnion<'a, T: Ord + Hash> {
+pub struct SortedUnion<'a, T: Ord> {
     left: Ahead<'a, T>,
     right: Ahead<'a, T>,
     there: &'a OrderedSet<T>,
 }
 
-impl<'a, T: Ord + Hash> Model for SortedUnion<'a, T> {
+impl<'a, T: Ord> Model for SortedUnion<'a, T> {
     ghost use Rattle.std.specs.Prelude.{};
     ghost use Rattle.starlark_lists.specs.Entries.{IsSingle};
     ghost use Rattle.starlark_lists.specs.Sorting.{Ascends};
@@ -36,7 +35,7 @@ impl<'a, T: Ord + Hash> Model for SortedUnion<'a, T> {
     ghost invariant = { λ u. Ascends T.cmp u.left × Ascends T.cmp u.right × IsSingle T.eq u.right };
 }
 
-impl<'a, T: Ord + Hash> SortedUnion<'a, T> {
+impl<'a, T: Ord> SortedUnion<'a, T> {
     pub(crate) fn new(
         left: IterHashed<'a, T>,
         right: IterHashed<'a, T>,
@@ -56,7 +55,7 @@ impl<'a, T: Ord + Hash> SortedUnion<'a, T> {
     }
 }
 
-impl<'a, T: Ord + Hash> Iterator for SortedUnion<'a, T> {
+impl<'a, T: Ord> Iterator for SortedUnion<'a, T> {
     type Item = &'a T;
 
     ghost next_gives = { RiseSteps T.eq T.cmp };
@@ -88,7 +87,7 @@ impl<'a, T: Ord + Hash> Iterator for SortedUnion<'a, T> {
 
 // The next element, if it is the other set's: passes over those that this set has, as long as they come before all that
 // is left of this set.
-fn next_before<'a, T: Ord + Hash>(
+fn next_before<'a, T: Ord>(
     right: &mut Ahead<'a, T>,
     left: &Ahead<'a, T>,
     there: &OrderedSet<T>,

@@ -10,10 +10,11 @@ invariant_of-self g c =
     let eq = g.T.PartialEq.eq in let cmp = g.T.Ord.cmp in let s = c.self.inside in
     let f = shown c.in-Some.element in
     let p = is_passed eq cmp s.left s.there.now.entries in
-    let is = c.in-Some.ensures.steps.0 in
-    (c.self.invariant.0,
-    Ascends-tail cmp f c.next_before.new.right (Ascends-behind cmp p s.right _ is c.self.invariant.1),
-    IsSingle-tail eq _ f c.next_before.new.right is (IsSingle-behind eq p s.right _ refl c.self.invariant.2))
+    let is = c.in-Some.ensures.steps.0 in (
+      c.self.invariant.0,
+      Ascends-tail cmp f c.next_before.new.right (Ascends-behind cmp p s.right _ is c.self.invariant.1),
+      IsSingle-tail eq _ f c.next_before.new.right is (IsSingle-behind eq p s.right _ refl c.self.invariant.2),
+    )
 
 pub returns-in-Some-clause-steps : goal.returns-in-Some-clause-steps
 returns-in-Some-clause-steps g c =
@@ -46,10 +47,11 @@ invariant_of-self-2 g c =
     let eq = g.T.PartialEq.eq in let cmp = g.T.Ord.cmp in let s = c.self.inside in
     let p = is_passed eq cmp s.left s.there.now.entries in
     let is = sym c.in_default.ensures.steps.0 in
-    let e = shown c.in_ok-element.element in
-    (Ascends-tail cmp e c.take.new.self (subst (Ascends cmp) c.in_ok-element.ensures c.self.invariant.0),
-    Ascends-behind cmp p s.right _ is c.self.invariant.1,
-    IsSingle-behind eq p s.right _ is c.self.invariant.2)
+    let e = shown c.in_ok-element.element in (
+      Ascends-tail cmp e c.take.new.self (subst (Ascends cmp) c.in_ok-element.ensures c.self.invariant.0),
+      Ascends-behind cmp p s.right _ is c.self.invariant.1,
+      IsSingle-behind eq p s.right _ is c.self.invariant.2,
+    )
 
 pub returns-clause-steps : goal.returns-clause-steps
 returns-clause-steps g c =

@@ -8,12 +8,28 @@ pub returns-clause-lower : goal.returns-clause-lower
 returns-clause-lower g c = λ _.
     let eq = g.T.PartialEq.eq in let cmp = g.T.Ord.cmp in let s = c.self.inside in
     let u : SortedUnion g.row.T.Denot = record { left = s.left; right = s.right; there = s.there.now.entries } in
-    omega (arith, length-rest eq cmp u, ap (λ v. length (rise_rest eq cmp v)) c.self.view_is, length-difference eq g.met.T.Eq.laws s.right s.there.now.entries c.self.invariant.2,
-    c.saturating_add.ensures, c.saturating_sub.ensures, c.len-left.ensures, c.len-right.ensures, c.len.ensures)
+    omega (
+      arith,
+      length-rest eq cmp u,
+      ap (λ v. length (rise_rest eq cmp v)) c.self.view_is,
+      length-difference eq g.met.T.Eq.laws s.right s.there.now.entries c.self.invariant.2,
+      c.saturating_add.ensures,
+      c.saturating_sub.ensures,
+      c.len-left.ensures,
+      c.len-right.ensures,
+      c.len.ensures,
+    )
 
 pub returns-clause-upper : goal.returns-clause-upper
 returns-clause-upper g c =
     let eq = g.T.PartialEq.eq in let cmp = g.T.Ord.cmp in let s = c.self.inside in
     let u : SortedUnion g.row.T.Denot = record { left = s.left; right = s.right; there = s.there.now.entries } in
-    grind (arith, length-rest eq cmp u, ap (λ v. length (rise_rest eq cmp v)) c.self.view_is, length-difference-le eq s.right s.there.now.entries,
-    c.checked_add.ensures, c.len-left.ensures, c.len-right.ensures)
+    grind (
+      arith,
+      length-rest eq cmp u,
+      ap (λ v. length (rise_rest eq cmp v)) c.self.view_is,
+      length-difference-le eq s.right s.there.now.entries,
+      c.checked_add.ensures,
+      c.len-left.ensures,
+      c.len-right.ensures,
+    )
