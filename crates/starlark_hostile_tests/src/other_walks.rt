@@ -1,9 +1,10 @@
-//! Walks of pair lists, sets, ordered and unordered types that are left half way.
+//! Walks of pair lists, sets, ordered, sorted and unordered types that are left half way.
 
 use crate::given::{holds, same, under};
 use starlark_map::ordered_map::OrderedMap;
 use starlark_map::ordered_set::OrderedSet;
 use starlark_map::small_set::SmallSet;
+use starlark_map::sorted_set::SortedSet;
 use starlark_map::unordered_map::UnorderedMap;
 use starlark_map::vec2::{ValuesMut, Vec2};
 use std::alloc::Global;
@@ -210,6 +211,35 @@ fn leaves_ordered_sets_by_value(rt: HostRuntime) -> Result<(), Fail> {
     }
     same(&rt, set.len(), 2);
     holds(&rt, gives_ordered(set));
+    Ok(())
+}
+
+fn sorted(alloc: Global, items: [u32; 3]) -> Result<SortedSet<u32>, Fail> {
+    Ok(SortedSet::from_iter(alloc, items)?)
+}
+
+fn joins_the_rest(first: &SortedSet<u32>, second: &SortedSet<u32>, count: usize) -> bool {
+    let _ = first.union(second).take(count).count();
+    let mut union = first.union(second);
+    for element in 1..6u32 {
+        if union.next() != Some(&element) {
+            return false;
+        }
+    }
+    union.next().is_none() && union.next().is_none()
+}
+
+// 3 is in both sets.
+#[test]
+fn leaves_unions_of_sorted_sets(rt: HostRuntime) -> Result<(), Fail> {
+    let first = sorted(rt.alloc(), [5, 1, 3])?;
+    let second = sorted(rt.alloc(), [4, 2, 3])?;
+    for count in [0, 1, 2, 3, 4, 5, 6] {
+        holds(&rt, joins_the_rest(&first, &second, count));
+    }
+    same(&rt, (first.len(), second.len()), (3, 3));
+    same(&rt, first.into_iter().next(), Some(1));
+    same(&rt, second.into_iter().next_back(), Some(4));
     Ok(())
 }
 

@@ -1,7 +1,7 @@
 //! Sets that ascend: made of other sets, of vectors, of an iterator's items and of clones, and what comes back where memory
-//! is refused.
+//! is refused; their unions.
 
-use crate::given::{holds, shows_elements};
+use crate::given::{holds, shows_elements, under};
 use starlark_sets::{OrderedSet, SmallSet};
 use starlark_sorted::{SortedSet, SortedVec};
 use std::alloc::{AllocError, Global};
@@ -106,28 +106,70 @@ fn clones_a_set(rt: HostRuntime) -> Result<(), Fail> {
     Ok(())
 }
 
-fn pair(alloc: Global, items: [u32; 2]) -> Result<SortedSet<u32>, AllocError> {
-    match SortedSet::from_iter(alloc, items) {
-        Ok(set) => Ok(set),
-        Err(_) => SortedSet::from_iter(alloc, items),
+// Made at the second attempt where a request of the first is refused.
+fn set_of(alloc: Global, rows: &[(u32, u32)]) -> Result<SortedSet<u32>, Fail> {
+    let mut set = SmallSet::new(alloc);
+    for (hash, number) in rows {
+        if set.insert_hashed(under(*hash, *number)).is_err() {
+            set.insert_hashed(under(*hash, *number))?;
+        }
+    }
+    match SortedSet::from_small_set(set) {
+        Ok(sorted) => Ok(sorted),
+        Err(back) => sorted_again(back),
     }
 }
 
-// Whether the walk over both shows 1, 2 and 3, with the right bounds before.
-fn joins(first: &SortedSet<u32>, second: &SortedSet<u32>) -> bool {
-    let mut union = first.union(second);
-    union.size_hint() == (2, Some(4))
-        && union.next() == Some(&1)
-        && union.next() == Some(&2)
-        && union.next() == Some(&3)
-        && union.next().is_none()
+fn sorted_again(set: SmallSet<u32>) -> Result<SortedSet<u32>, Fail> {
+    match SortedSet::from_small_set(set) {
+        Ok(sorted) => Ok(sorted),
+        Err(_) => Err("no room".into()),
+    }
 }
 
-// After the first two lines nothing asks for memory.
+// Whether the walk over both shows these elements and no more, with these bounds of what is left before each. The sets are
+// made before: nothing asks for memory here.
+fn joins(first: &SortedSet<u32>, second: &SortedSet<u32>, steps: &[(usize, usize, u32)]) -> bool {
+    let mut union = first.union(second);
+    for step in steps {
+        if union.size_hint() != (step.0, Some(step.1)) || union.next() != Some(&step.2) {
+            return false;
+        }
+    }
+    union.size_hint() == (0, Some(0)) && union.next().is_none()
+}
+
 #[test]
 fn joins_two_sets(rt: HostRuntime) -> Result<(), Fail> {
-    let first = pair(rt.alloc(), [3, 1])?;
-    let second = pair(rt.alloc(), [2, 1])?;
-    holds(&rt, joins(&first, &second));
+    let first = set_of(rt.alloc(), &[(7, 3), (8, 1)])?;
+    let second = set_of(rt.alloc(), &[(9, 2)])?;
+    holds(
+        &rt,
+        joins(&first, &second, &[(2, 3, 1), (1, 2, 2), (1, 1, 3)]),
+    );
+    let second = set_of(rt.alloc(), &[(9, 2), (8, 1)])?;
+    holds(
+        &rt,
+        joins(&first, &second, &[(2, 4, 1), (1, 3, 2), (1, 1, 3)]),
+    );
+    Ok(())
+}
+
+#[test]
+fn joins_an_empty_set(rt: HostRuntime) -> Result<(), Fail> {
+    let none = set_of(rt.alloc(), &[])?;
+    let some = set_of(rt.alloc(), &[(8, 4), (9, 2)])?;
+    holds(&rt, joins(&none, &some, &[(2, 2, 2), (1, 1, 4)]));
+    Ok(())
+}
+
+#[test]
+fn joins_equal_elements_under_two_hashes(rt: HostRuntime) -> Result<(), Fail> {
+    let first = set_of(rt.alloc(), &[(5, 7)])?;
+    let second = set_of(rt.alloc(), &[(6, 7), (8, 8)])?;
+    holds(
+        &rt,
+        joins(&first, &second, &[(2, 3, 7), (1, 2, 7), (0, 1, 8)]),
+    );
     Ok(())
 }

@@ -18,4 +18,6 @@ mod sorted_sets;
 #[cfg(test)]
 mod sorted_vectors;
 #[cfg(test)]
+mod tagged;
+#[cfg(test)]
 mod written_sets;

@@ -103,7 +103,10 @@ fn joins(first: &Sorted, second: &Sorted, steps: &[(usize, usize, u32)]) -> bool
 #[test]
 fn joins_in_ascending_order(rt: HostRuntime) -> Result<(), Fail> {
     let (first, second) = both(rt.alloc(), &[1, 3], &[2])?;
-    holds(&rt, joins(&first, &second, &[(2, 3, 1), (1, 2, 2), (1, 1, 3)]));
+    holds(
+        &rt,
+        joins(&first, &second, &[(2, 3, 1), (1, 2, 2), (1, 1, 3)]),
+    );
     holds(&rt, first < second);
     Ok(())
 }
@@ -111,7 +114,10 @@ fn joins_in_ascending_order(rt: HostRuntime) -> Result<(), Fail> {
 #[test]
 fn passes_over_what_it_has(rt: HostRuntime) -> Result<(), Fail> {
     let (first, second) = both(rt.alloc(), &[1, 3], &[1, 2])?;
-    holds(&rt, joins(&first, &second, &[(2, 4, 1), (1, 3, 2), (1, 1, 3)]));
+    holds(
+        &rt,
+        joins(&first, &second, &[(2, 4, 1), (1, 3, 2), (1, 1, 3)]),
+    );
     Ok(())
 }
 
@@ -133,7 +139,10 @@ fn sevens(alloc: Global) -> Result<(Sorted, Sorted), Fail> {
 #[test]
 fn tells_stored_hashes_apart(rt: HostRuntime) -> Result<(), Fail> {
     let (first, second) = sevens(rt.alloc())?;
-    holds(&rt, joins(&first, &second, &[(2, 3, 7), (1, 2, 7), (0, 1, 8)]));
+    holds(
+        &rt,
+        joins(&first, &second, &[(2, 3, 7), (1, 2, 7), (0, 1, 8)]),
+    );
     Ok(())
 }
 
