@@ -33,6 +33,7 @@ WORK = {
     "f_insert": "insertions, unordered",
     "f_miss": "misses, unordered",
     "g_sort": "sort_keys",
+    "i_union": "unions of sorted sets",
 }
 BAR, GROUP, GAP, LEFT, RIGHT, TOP, HEIGHT, BELOW = 16, 74, 20, 44, 12, 58, 230, 58
 LIGHT, DARK = (158, 202, 225), (8, 69, 148)

@@ -6,6 +6,7 @@ mod keys;
 mod pass;
 mod report;
 mod script;
+mod sorted;
 mod unordered;
 mod workloads;
 

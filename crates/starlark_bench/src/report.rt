@@ -3,10 +3,10 @@
 use crate::fault::Fault;
 use crate::keys::{Key, stream};
 use crate::pass::Pass;
-use crate::unordered;
 use crate::workloads::{
     Begin, MILLION, Removed, build, cycle, drain, hit, miss, pop, sort, turns, walk,
 };
+use crate::{sorted, unordered};
 
 // How many passes a figure is the best of.
 const PASSES: usize = 7;
@@ -25,6 +25,7 @@ pub enum Workload {
     UnorderedInsert,
     UnorderedHit,
     UnorderedMiss,
+    Union,
 }
 
 impl Workload {
@@ -47,6 +48,7 @@ impl Workload {
             Workload::UnorderedInsert => "f_insert",
             Workload::UnorderedHit => "f_hit",
             Workload::UnorderedMiss => "f_miss",
+            Workload::Union => "i_union",
         }
     }
 
@@ -63,6 +65,7 @@ impl Workload {
             Workload::UnorderedInsert | Workload::UnorderedHit | Workload::UnorderedMiss => {
                 &[1000, 1_000_000]
             }
+            Workload::Union => &[1000, 100_000],
         }
     }
 
@@ -73,6 +76,7 @@ impl Workload {
             Workload::Build(_) | Workload::Pop | Workload::Sort | Workload::UnorderedInsert => {
                 MILLION / n * n
             }
+            Workload::Union => MILLION / n * n,
             Workload::Hit | Workload::Miss => MILLION,
             Workload::UnorderedHit | Workload::UnorderedMiss => MILLION,
             Workload::Walk => 4 * MILLION / n * n,
@@ -95,12 +99,13 @@ impl Workload {
             Workload::UnorderedInsert => unordered::insert(rt, keys, n),
             Workload::UnorderedHit => unordered::hit(rt, keys, n),
             Workload::UnorderedMiss => unordered::miss(rt, keys, n),
+            Workload::Union => sorted::union(rt, keys, n),
         }
     }
 }
 
 // The workloads in the order of their lines.
-const ALL: [Workload; 16] = [
+const ALL: [Workload; 17] = [
     Workload::Build(Begin::New),
     Workload::Build(Begin::Capacity),
     Workload::Build(Begin::Reserve),
@@ -117,10 +122,11 @@ const ALL: [Workload; 16] = [
     Workload::UnorderedInsert,
     Workload::UnorderedHit,
     Workload::UnorderedMiss,
+    Workload::Union,
 ];
 
 // The few that the gate compares.
-const FEW: [(Workload, usize); 18] = [
+const FEW: [(Workload, usize); 19] = [
     (Workload::Build(Begin::New), 4),
     (Workload::Build(Begin::New), 64),
     (Workload::Build(Begin::New), 1000),
@@ -139,6 +145,7 @@ const FEW: [(Workload, usize); 18] = [
     (Workload::UnorderedInsert, 1000),
     (Workload::UnorderedHit, 1000),
     (Workload::UnorderedMiss, 1000),
+    (Workload::Union, 1000),
 ];
 
 /// Prints the checksums of a few workloads.
