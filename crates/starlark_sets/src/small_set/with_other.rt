@@ -1,7 +1,7 @@
 //! A `SmallSet` beside another: what one has and the other lacks, and what is in either.
-ghost use Rattle.std.specs.Prelude.{◌≡◌};
+ghost use Rattle.std.specs.Prelude.{◌≡◌, ◌^◌, ◌<◌, length};
 ghost use Rattle.starlark_lists.specs.Entries.{IsSingle};
-ghost use Rattle.starlark_sets.specs.Difference.{ShowsDifference, difference};
+ghost use Rattle.starlark_sets.specs.Difference.{ShowsDifference, difference, difference_rest};
 ghost use Rattle.starlark_sets.specs.Union.{ShowsUnion, union};
 
 use super::SmallSet;
@@ -13,6 +13,7 @@ impl<T: Eq> SmallSet<T> {
     pub fn difference<'a>(&'a self, other: &'a Self) -> Difference<'a, T>
         ensures left { result ≡ record { left = self.now.entries; other = other.now.entries } }
         ensures single { IsSingle T.eq (difference T.eq self.now.entries other.now.entries) }
+        ensures fits { length (difference_rest T.eq result) < 2 ^ 64 }
         ensures runs { ShowsDifference T.eq }
     {
         Difference::new(self.map.iter_hashed(), other)

@@ -1,12 +1,17 @@
-use Rattle.std.proofs.Common.{length, ap}
+use Rattle.std.proofs.Common.{length, ap, arith}
 use Rattle.std.proofs.iter.runs.Sources.{from_front}
 use Rattle.std.specs.Map.Iter.{deref}
 use Rattle.starlark_sets.specs.Difference.{DifferenceSteps, difference_rest}
+use Rattle.starlark_sets.proofs.Differences.{length-difference-le}
 use Rattle.starlark_sets.proofs.Unions.{IsSingle-difference}
 use Rattle.starlark_sets.proofs.small_set.SmallSet.difference.Goals as goal
 
 pub returns-clause-single : goal.returns-clause-single
 returns-clause-single g c = rw (← c.self.view_is) (IsSingle-difference g.T.PartialEq.eq _ _ c.iter_hashed.ensures.single)
+
+pub returns-clause-fits : goal.returns-clause-fits
+returns-clause-fits g c =
+    omega (arith, length-difference-le g.T.PartialEq.eq c.new.result.left c.new.result.other, ap (λ d. length d.left) c.new.ensures, ap length c.iter_hashed.ensures.entries, c.iter_hashed.ensures.fits)
 
 pub returns-clause-runs : goal.returns-clause-runs
 returns-clause-runs g c =
