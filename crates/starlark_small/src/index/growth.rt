@@ -3,7 +3,6 @@ ghost use Rattle.std.specs.Prelude.{◌≡◌, ◌+◌, ◌<◌, ◌≤◌, ◌�
 ghost use Rattle.starlark_lists.specs.Entries.{Entry, entry_hash};
 ghost use Rattle.starlark_small.specs.Index.{IsIndexed, index_room, unindexed};
 
-use super::places::new_table;
 use super::{Index, UNINDEXED};
 use starlark_hash::StarlarkHashValue;
 use starlark_table::ReadyTable;
@@ -45,11 +44,9 @@ impl Index {
         if entries.len() <= UNINDEXED {
             return Ok(Index::none(self.alloc));
         }
-        let table = new_table(self.alloc, entries, entries.capacity())?;
-        Ok(Index {
-            table: Some(table),
-            alloc: self.alloc,
-        })
+        let mut index = Index::with_capacity::<K, V>(self.alloc, entries.capacity())?;
+        index.note_all(entries);
+        Ok(index)
     }
 
     /// Makes room for so many new entries, for which the list has room.
@@ -76,8 +73,9 @@ impl Index {
             return Ok(());
         }
         prove!(additional <= entries.capacity() - entries.len());
-        let table = new_table(self.alloc, entries, entries.len() + additional)?;
-        self.table = Some(table);
+        let mut index = Index::with_capacity::<K, V>(self.alloc, entries.len() + additional)?;
+        index.note_all(entries);
+        *self = index;
         Ok(())
     }
 
@@ -89,8 +87,7 @@ impl Index {
         ensures room { index_room (length entries.now.entries) self.old ≤ 1 + index_room (length entries.now.entries + 1) self.new }
         ensures kept { is_some self.new ≡ is_some self.old }
     {
-        if let Some(table) = &mut self.table {
-            table.insert_reserved(hash.promote(), entries.len());
-        }
+        let Some(table) = &mut self.table else { return };
+        table.insert_reserved(hash.promote(), entries.len());
     }
 }

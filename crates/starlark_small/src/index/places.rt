@@ -1,5 +1,5 @@
 //! The places that an index holds: taken out, moved and filled in.
-ghost use Rattle.std.specs.Prelude.{◌≡◌, None, ◌+◌, ◌-◌, ◌<◌, ◌≤◌, ◌==◌, Some, true, List, [], ◌∷◌, length, map, remove, if◌then◌else◌, nat_le, is_some, IfOk, IfSome, IsPermutation};
+ghost use Rattle.std.specs.Prelude.{◌≡◌, None, ◌+◌, ◌-◌, ◌<◌, ◌≤◌, ◌==◌, Some, true, List, [], ◌∷◌, length, map, remove, if◌then◌else◌, nat_le, is_some, IfSome, IsPermutation};
 ghost use Rattle.std.specs.List.{Contains};
 ghost use Rattle.starlark_lists.specs.Entries.{Entry};
 ghost use Rattle.starlark_hash.specs.HashValue.{hash_number, promoted};
@@ -10,7 +10,6 @@ use super::{Index, UNINDEXED};
 use starlark_hash::StarlarkHashValue;
 use starlark_table::ReadyTable;
 use starlark_vecmap::VecMap;
-use std::alloc::{AllocError, Global};
 
 impl Index {
     /// Takes out the place of an entry, which is still there.
@@ -22,20 +21,28 @@ impl Index {
         ensures room { 1 + index_room (length entries.now.entries) self.old ≤ index_room (length (remove entries.now.entries place)) self.new }
         ensures kept { is_some self.new ≡ is_some self.old }
     {
-        if let Some(table) = &mut self.table {
-            remove_place(table, entries, place);
-        }
+        let Some(table) = &mut self.table else { return };
+        remove_place(table, entries, place);
     }
 
-    /// Takes every place out. The entries may stand in another order than the index says.
+    /// Takes every place out: one by one where the list is so short that this takes fewer steps than there are slots,
+    /// whatever the hashes; else all at once. The entries need not stand where the index says: under the hash of each a
+    /// place is taken out, whichever it is.
     pub(crate) fn forget_all<K, V>(&mut self, entries: &VecMap<K, V>)
         requires { (before : List (Entry K V)) × IsIndexed before self.old × IsPermutation before entries.now.entries }
         ensures empty { IsIndexed {K = K} {V = V} [] self.new }
         ensures room { length entries.now.entries + index_room (length entries.now.entries) self.old ≤ index_room 0 self.new }
         ensures kept { is_some self.new ≡ is_some self.old }
     {
-        if let Some(table) = &mut self.table {
-            empty_index(table, entries);
+        let Some(table) = &mut self.table else { return };
+        let len = entries.len();
+        if len.saturating_mul(len) > table.len().saturating_add(table.room()) {
+            table.clear();
+            return;
+        }
+        for i in 0..len {
+            let hash = entries.get_unchecked(i).0.hash();
+            take_under(table, hash);
         }
     }
 
@@ -47,8 +54,10 @@ impl Index {
         ensures room { index_room 0 self.old ≤ length entries.now.entries + index_room (length entries.now.entries) self.new }
         ensures kept { is_some self.new ≡ is_some self.old }
     {
-        if let Some(table) = &mut self.table {
-            fill_index(table, entries);
+        let Some(table) = &mut self.table else { return };
+        for i in 0..entries.len() {
+            let hash = entries.get_unchecked(i).0.hash();
+            table.insert_reserved(hash.promote(), i);
         }
     }
 
@@ -181,51 +190,4 @@ fn remove_place<K, V>(index: &mut ReadyTable<usize>, entries: &VecMap<K, V>, pla
     if from < entries.len() {
         lower_all(index, from - 1);
     }
-}
-
-// Takes every place out: one by one where the list is so short that this takes fewer steps than there are slots,
-// whatever the hashes; else all at once. The entries need not stand where the index says: under the hash of each a place
-// is taken out, whichever it is.
-fn empty_index<K, V>(index: &mut ReadyTable<usize>, entries: &VecMap<K, V>)
-    requires { (before : List (Entry K V)) × IsIndexOf before index.old × IsPermutation before entries.now.entries }
-    ensures empty { members index.new ≡ [] }
-    ensures room { index.new.room ≡ table_len index.old + index.old.room }
-{
-    let len = entries.len();
-    if len.saturating_mul(len) > index.len().saturating_add(index.room()) {
-        index.clear();
-        return;
-    }
-    for i in 0..len {
-        let hash = entries.get_unchecked(i).0.hash();
-        take_under(index, hash);
-    }
-}
-
-// Puts each place of the list into an empty index that has room for them.
-pub(super) fn fill_index<K, V>(index: &mut ReadyTable<usize>, entries: &VecMap<K, V>)
-    requires empty { members index.old ≡ [] }
-    requires room { length entries.now.entries ≤ index.old.room }
-    ensures index { IsIndexOf entries.now.entries index.new }
-    ensures room { index.old.room ≤ length entries.now.entries + index.new.room }
-{
-    for i in 0..entries.len() {
-        let hash = entries.get_unchecked(i).0.hash();
-        index.insert_reserved(hash.promote(), i);
-    }
-}
-
-// A table of the list's places, with room for so many places in all.
-pub(super) fn new_table<K, V>(
-    alloc: Global,
-    entries: &VecMap<K, V>,
-    capacity: usize,
-) -> Result<ReadyTable<usize>, AllocError>
-    requires { length entries.now.entries ≤ capacity }
-    ensures index { IfOk result (λ table. IsIndexOf entries.now.entries table) }
-    ensures room { IfOk result (λ table. capacity ≤ length entries.now.entries + table.room) }
-{
-    let mut index = ReadyTable::with_capacity(alloc, capacity)?;
-    fill_index(&mut index, entries);
-    Ok(index)
 }

@@ -1,10 +1,10 @@
 //! Searches through the index.
 ghost use Rattle.std.specs.Prelude.{◌≡◌, ◌<◌, length, slice_get, Some};
 ghost use Rattle.std.specs.Fn.{CalledAt, TakesAt};
-ghost use Rattle.starlark_lists.specs.Entries.{Entry, IsSingle, entry_key};
+ghost use Rattle.starlark_lists.specs.Entries.{Entry, entry_key};
 ghost use Rattle.starlark_lists.specs.Search.{CanSearch, Searches, keys_under};
 ghost use Rattle.std.specs.Option.{option_copied};
-ghost use Rattle.starlark_small.specs.Index.{IsIndexOf, IsIndexed, IsSound, index_room};
+ghost use Rattle.starlark_small.specs.Index.{IsIndexed, IsSound, index_room};
 ghost use Rattle.starlark_small.specs.Map.{query_match};
 
 use super::{Index, UNINDEXED};
@@ -14,21 +14,30 @@ use starlark_vecmap::VecMap;
 
 impl Index {
     /// A place under the hash whose key `eq` accepts.
-    #[inline]
+    #[inline(always)]
     pub(crate) fn find<K, V, F: FnMut(&K) -> bool>(
         &self,
         entries: &VecMap<K, V>,
         hash: StarlarkHashValue,
-        eq: F,
+        mut eq: F,
     ) -> Option<usize>
         requires indexed { IsIndexed entries.now.entries self.now }
         requires callable { CanSearch F.FnMut (keys_under hash entries.now.entries) eq }
         ensures { (last : F) × Searches F.FnMut (keys_under hash entries.now.entries) eq result last }
     {
-        match &self.table {
-            Some(table) => find_indexed(entries, table, hash, eq),
-            None => entries.get_index_of_hashed_raw(hash, eq),
-        }
+        let Some(table) = &self.table else {
+            return entries.get_index_of_hashed_raw(hash, eq);
+        };
+        table
+            .find_item(
+                hash.promote(),
+                |i: &usize| -> bool
+                    requires within { i.now < length entries.now.entries }
+                    requires takes { (e : Entry K V) → slice_get entries.now.entries i.now ≡ Some e → TakesAt F.FnMut eq (entry_key e) }
+                    ensures { (e : Entry K V) → slice_get entries.entry.now.entries i.now ≡ Some e → CalledAt F.FnMut eq.entry (entry_key e) result eq.exit }
+                { eq(entries.get_unchecked(*i).0.into_key()) },
+            )
+            .copied()
     }
 
     /// The place of a single list under the query's hash whose key the query is equivalent to.
@@ -42,19 +51,23 @@ impl Index {
         ensures { result ≡ query_match Q.equivalent entries.now.entries key.entry }
     {
         match &self.table {
-            Some(table) => position_indexed(entries, table, key),
+            Some(_) => {
+                let query = *key.key();
+                self.find(entries, key.hash(), |k: &K| query.equivalent(k))
+            }
             None => entries.get_index_of_hashed_among_few(key),
         }
     }
 
-    /// How many new entries of a list of this length surely need no memory for the index.
+    /// How many new entries surely need no memory for the index.
     #[inline]
-    pub(crate) fn room(&self, len: usize) -> usize
-        ensures { result ≡ index_room len self.now }
+    pub(crate) fn room<K, V>(&self, entries: &VecMap<K, V>) -> usize
+        requires { IsIndexed entries.now.entries self.now }
+        ensures { result ≡ index_room (length entries.now.entries) self.now }
     {
         match &self.table {
             Some(table) => table.room(),
-            None => UNINDEXED.saturating_sub(len),
+            None => UNINDEXED - entries.len(),
         }
     }
 
@@ -65,43 +78,4 @@ impl Index {
     {
         self.table.as_ref()
     }
-}
-
-// A place under the hash whose key `eq` accepts.
-#[inline]
-fn find_indexed<K, V, F: FnMut(&K) -> bool>(
-    entries: &VecMap<K, V>,
-    index: &ReadyTable<usize>,
-    hash: StarlarkHashValue,
-    mut eq: F,
-) -> Option<usize>
-    requires index { IsIndexOf entries.now.entries index.now }
-    requires callable { CanSearch F.FnMut (keys_under hash entries.now.entries) eq }
-    ensures { (last : F) × Searches F.FnMut (keys_under hash entries.now.entries) eq result last }
-{
-    index
-        .find_item(
-            hash.promote(),
-            |i: &usize| -> bool
-                requires within { i.now < length entries.now.entries }
-                requires takes { (e : Entry K V) → slice_get entries.now.entries i.now ≡ Some e → TakesAt F.FnMut eq (entry_key e) }
-                ensures { (e : Entry K V) → slice_get entries.entry.now.entries i.now ≡ Some e → CalledAt F.FnMut eq.entry (entry_key e) result eq.exit }
-            { eq(entries.get_unchecked(*i).0.into_key()) },
-        )
-        .copied()
-}
-
-// The place of a single list under the query's hash whose key the query is equivalent to.
-#[inline]
-fn position_indexed<K: Eq, V, Q: Equivalent<K>>(
-    entries: &VecMap<K, V>,
-    index: &ReadyTable<usize>,
-    key: Hashed<&Q>,
-) -> Option<usize>
-    requires index { IsIndexOf entries.now.entries index.now }
-    requires single { IsSingle K.eq entries.now.entries }
-    ensures { result ≡ query_match Q.equivalent entries.now.entries key.entry }
-{
-    let query = *key.key();
-    find_indexed(entries, index, key.hash(), |k: &K| query.equivalent(k))
 }

@@ -214,8 +214,8 @@ impl<K: Eq, V> SmallMap<K, V> {
     pub fn room(&self) -> usize
         ensures { result ≡ self.now.room }
     {
-        let len = self.entries.len();
-        (self.entries.capacity() - len).min(self.index.room(len))
+        let spare = self.entries.capacity() - self.entries.len();
+        spare.min(self.index.room(&self.entries))
     }
 
     /// The index, where there is one: each place under the promoted hash of its entry, and no other member.

@@ -1,9 +1,34 @@
-use Rattle.std.proofs.Common.{◌∙◌, [], sym}
+use Rattle.std.proofs.Common.{◌≡◌, ◌∷◌, ◌+◌, ◌<◌, ◌≤◌, ◌^◌, [], length, sym, ◌∙◌, ap, subst, IsPermutation, arith, take}
 use mathlib.Core.Path.{subst⁻¹}
-use Rattle.starlark_small.specs.Index.{IsIndexed}
-use Rattle.starlark_small.proofs.Emptying.{members-none}
+use Rattle.std.proofs.lemmas.List.{length-take}
+use Rattle.starlark_hash.specs.HashValue.{promoted}
+use Rattle.starlark_table.specs.Table.{members}
+use Rattle.starlark_vecmap.specs.EntryList.{deref_entry}
+use Rattle.starlark_small.specs.Index.{IsIndexOf, IsIndexed, index_room}
+use Rattle.starlark_small.proofs.Keeping.{IsIndexOf-push, room-push, take-more}
 use Rattle.starlark_small.proofs.index.Index.note_all.Goals as goal
 
-pub fill_index-requires-clause-empty : goal.fill_index-requires-clause-empty
-fill_index-requires-clause-empty g c =
-    members-none c.in-Some.table (subst⁻¹ (λ o. IsIndexed {K = g.row.K.Denot} {V = g.row.V.Denot} [] o) (sym c.in-Some.is ∙ c.self.view_is) c.requires.empty)
+pub loop-i-init : goal.loop-i-init
+loop-i-init g c =
+    let was = sym c.self.view_is ∙ c.in-Some.is in
+    record {
+      index = subst (λ o. IsIndexed {K = g.row.K.Denot} {V = g.row.V.Denot} [] o) was c.requires.empty;
+      room = subst⁻¹ (λ o. index_room 0 o ≤ 0 + c.in-Some.table.room) was (omega arith);
+    }
+
+pub loop-i-preserved : goal.loop-i-preserved
+loop-i-preserved g c =
+    let es = c.args.entries.now.entries in
+    let i = c.loop-i.i in
+    let e = deref_entry c.get_unchecked.result in
+    let old = c.loop-i.invariant.index in
+    let h = c.hash-hash.ensures in
+    let size : i ≡ length (take i es) = omega (arith, length-take i es) in
+    let p : c.promote.result ≡ promoted e.0.hash.0 = c.promote.ensures.promoted ∙ ap (λ k. promoted k.0) h in
+    let added = subst (λ k. IsPermutation ((k, i) ∷ members c.loop-i.table) (members c.insert_reserved.new.self)) p c.insert_reserved.ensures.added in
+    let room = room-push (take i es) c.loop-i.table c.insert_reserved.new.self (promoted e.0.hash.0, i) old added c.insert_reserved.ensures.room in
+    record {
+      index = subst (λ l. IsIndexOf l c.insert_reserved.new.self) (sym (take-more i es e c.get_unchecked.ensures))
+          (IsIndexOf-push (take i es) e i c.loop-i.table c.insert_reserved.new.self size old (subst (λ k. k.0 < 2 ^ 32) h c.promote.ensures.fits) added);
+      room = omega (arith, room, c.loop-i.invariant.room);
+    }

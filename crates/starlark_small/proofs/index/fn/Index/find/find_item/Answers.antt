@@ -1,7 +1,7 @@
 use Rattle.std.proofs.Common.{sym, ◌∙◌, ap}
 use Rattle.std.proofs.lemmas.Option.{same_Some}
 use Rattle.starlark_lists.specs.Entries.{entry_key}
-use Rattle.starlark_small.proofs.index.search.fn.find_indexed.find_item.Goals as goal
+use Rattle.starlark_small.proofs.index.fn.Index.find.find_item.Goals as goal
 
 pub returns : goal.returns
 returns g c = λ e there.
