@@ -7,8 +7,8 @@ use starlark_table::ReadyTable;
 use std::alloc::Global;
 use std::marker::Model;
 
-// The greatest length that a list may have without an index.
-pub(crate) const UNINDEXED: usize = 16;
+/// The greatest length that a list may have without an index; a longer one always has one.
+pub const UNINDEXED: usize = 16;
 
 /// Where each entry of a list stands, by its hash; or nothing, where the list is short enough to do without.
 #[derive(Drop)]
