@@ -62,7 +62,6 @@ impl Index {
         ensures grows { index_room (length entries.now.entries) self.old ≤ index_room (length entries.now.entries) self.new }
         ensures enough { additional ≤ index_room (length entries.now.entries) self.old → self.new ≡ self.old }
         ensures made { OnOk result (is_some self.new ≡ (is_some self.old || nat_lt unindexed (length entries.now.entries + additional))) }
-
         ensures refused { OnErr result (index_room (length entries.now.entries) self.old < additional) }
         ensures unchanged { OnErr result (self.new ≡ self.old) }
     {
