@@ -1,7 +1,7 @@
 //! What several tests begin with, and the calls of a map of numbers. These say nothing of what they do: a test that makes
 //! its calls through them carries no knowledge from line to line, and is proved in a part of the time.
 
-use starlark_map::small_map::SmallMap;
+use starlark_map::small_map::{NO_INDEX_THRESHOLD, SmallMap};
 use starlark_map::{Hashed, StarlarkHashValue};
 use std::alloc::Global;
 use std::fmt::Debug;
@@ -9,6 +9,9 @@ use std::process::Abort;
 use std::test::Fail;
 
 pub(crate) type Numbers = SmallMap<u32, u32>;
+
+// How many keys a map has at most without an index.
+pub(crate) const THRESHOLD: u32 = NO_INDEX_THRESHOLD as u32;
 
 pub(crate) fn under<K>(hash: u32, key: K) -> Hashed<K> {
     Hashed::new_unchecked(StarlarkHashValue::new_unchecked(hash), key)

@@ -1,10 +1,11 @@
-//! Maps that are long enough for an index: values from outside, and what a refused request leaves.
+//! Maps that are long enough for an index, or just not: values from outside.
 
 use crate::given::{
-    Numbers, at, holds, place, popped, put, removed_at, rows, same, size, sort, tens, turn, under,
+    Numbers, THRESHOLD, at, holds, place, popped, put, removed_at, rows, same, size, sort, tens,
+    turn, under,
 };
-use starlark_map::small_map::SmallMap;
-use starlark_map::{NoRoom, StarlarkHashValue, TextKey};
+use starlark_map::small_map::{NO_INDEX_THRESHOLD, SmallMap};
+use starlark_map::{StarlarkHashValue, TextKey};
 use std::alloc::Global;
 use std::test::Fail;
 
@@ -55,34 +56,28 @@ fn closes_the_places_behind_a_removal(rt: HostRuntime) -> Result<(), Fail> {
     Ok(())
 }
 
-// Drops the index of a map of at most 16 entries.
+// Drops the index of a list that is short enough to do without.
 fn without_index(map: &mut Numbers) {
     map.maybe_drop_index();
 }
 
-// Puts a key that is new to a list of 16. Where that is refused, the pair comes back and nothing has changed, and it is put again.
-fn put_at_last(map: &mut Numbers, key: u32, value: u32) -> bool {
-    match map.insert(key, value) {
-        Ok(old) => old.is_none(),
-        Err(NoRoom(refused)) => {
-            refused == (key, value)
-                && size(map) == (16, false)
-                && at(map, 15) == Some(150)
-                && put(map, key, value) == Some(None)
-        }
-    }
-}
-
-// Holds whichever request for memory is refused, but for those of the first 17 insertions.
 #[test]
-fn refused_index_leaves_the_list(rt: HostRuntime) -> Result<(), Fail> {
-    let mut map = tens(rt.alloc(), 17)?;
-    same(&rt, map.capacity(), 32);
-    same(&rt, popped(&mut map), Some((16, 160)));
+fn makes_the_index_again(rt: HostRuntime) -> Result<(), Fail> {
+    let mut map = tens(rt.alloc(), THRESHOLD + 1)?;
+    same(
+        &rt,
+        map.capacity(),
+        (NO_INDEX_THRESHOLD + 1).next_power_of_two(),
+    );
+    same(&rt, popped(&mut map), Some((THRESHOLD, THRESHOLD * 10)));
     without_index(&mut map);
-    same(&rt, (size(&map), map.room()), ((16, false), 0));
-    holds(&rt, put_at_last(&mut map, 100, 1));
-    same(&rt, size(&map), (17, true));
+    same(
+        &rt,
+        (size(&map), map.room()),
+        ((NO_INDEX_THRESHOLD, false), 0),
+    );
+    same(&rt, put(&mut map, 100, 1), Some(None));
+    same(&rt, size(&map), (NO_INDEX_THRESHOLD + 1, true));
     same(&rt, at(&map, 100), Some(1));
     Ok(())
 }
@@ -90,56 +85,23 @@ fn refused_index_leaves_the_list(rt: HostRuntime) -> Result<(), Fail> {
 // What follows the first line asks for no memory.
 #[test]
 fn keeps_the_room_of_what_was_taken_out(rt: HostRuntime) -> Result<(), Fail> {
-    let mut map = tens(rt.alloc(), 17)?;
-    same(&rt, popped(&mut map), Some((16, 160)));
+    let mut map = tens(rt.alloc(), THRESHOLD + 1)?;
+    same(&rt, popped(&mut map), Some((THRESHOLD, THRESHOLD * 10)));
     holds(&rt, 0 < map.room());
     same(&rt, put(&mut map, 100, 1), Some(None));
-    same(&rt, map.len(), 17);
+    same(&rt, map.len(), NO_INDEX_THRESHOLD + 1);
     Ok(())
 }
 
-// Puts the keys below a number, and says whether each had room and the map has so many.
-fn fills(map: &mut Numbers, count: u32) -> bool {
-    for key in 0..count {
-        if map.insert(key, key).is_err() {
-            return false;
-        }
-    }
-    map.len() == count as usize
-}
-
-// Only the reservation asks for memory.
 #[test]
-fn reserves_an_index_for_forty(rt: HostRuntime) -> Result<(), Fail> {
-    let mut map: Numbers = SmallMap::with_capacity(rt.alloc(), 40)?;
+fn reserves_an_index(rt: HostRuntime) -> Result<(), Fail> {
+    let mut map: Numbers = SmallMap::with_capacity(rt.alloc(), NO_INDEX_THRESHOLD)?;
+    same(&rt, size(&map), (0, false));
+    holds(&rt, map.reserve(NO_INDEX_THRESHOLD).is_ok());
+    same(&rt, size(&map), (0, false));
+    holds(&rt, map.reserve(NO_INDEX_THRESHOLD + 1).is_ok());
     same(&rt, size(&map), (0, true));
-    holds(&rt, 40 <= map.room());
-    without_index(&mut map);
-    same(&rt, size(&map), (0, false));
-    holds(&rt, fills(&mut map, 16));
-    Ok(())
-}
-
-// Only the reservation asks for memory.
-#[test]
-fn reserves_a_list_for_sixteen(rt: HostRuntime) -> Result<(), Fail> {
-    let mut map: Numbers = SmallMap::with_capacity(rt.alloc(), 16)?;
-    same(&rt, size(&map), (0, false));
-    holds(&rt, fills(&mut map, 16));
-    holds(&rt, map.reserve(8).is_ok());
-    same(&rt, size(&map), (16, true));
-    holds(&rt, 8 <= map.room());
-    Ok(())
-}
-
-// Only the reservation asks for memory: at 20 entries the index stays.
-#[test]
-fn keeps_the_index_of_twenty(rt: HostRuntime) -> Result<(), Fail> {
-    let mut map: Numbers = SmallMap::with_capacity(rt.alloc(), 40)?;
-    holds(&rt, fills(&mut map, 20));
-    without_index(&mut map);
-    same(&rt, size(&map), (20, true));
-    holds(&rt, fills(&mut map, 40));
+    holds(&rt, NO_INDEX_THRESHOLD < map.room());
     Ok(())
 }
 
