@@ -1,8 +1,8 @@
 //! New entries of a full map, and what comes back where no room is found.
 
-use crate::given::{Numbers, handed_back, holds, is_tens, same, tens};
+use crate::given::{Numbers, THRESHOLD, full, handed_back, holds, is_tens, same};
 use starlark_hash::Hashed;
-use starlark_small::Entry;
+use starlark_small::{Entry, UNINDEXED};
 use std::test::Fail;
 
 type Refused = Option<(Hashed<u32>, u32)>;
@@ -10,12 +10,12 @@ type Refused = Option<(Hashed<u32>, u32)>;
 // What came back is this entry, and the map is as it was; or the entry is last.
 fn stands(map: &Numbers, refused: Refused, value: u32) -> bool {
     match refused {
-        None => map.len() == 17 && map.get_index(16) == Some((&100, &value)),
+        None => map.len() == UNINDEXED + 1 && map.get_index(UNINDEXED) == Some((&100, &value)),
         Some(back) => {
             back == (Hashed::new(100), value)
-                && is_tens(map, 16)
+                && is_tens(map, THRESHOLD)
                 && map.index().is_none()
-                && map.capacity() <= 34
+                && map.capacity() <= 2 * (UNINDEXED + 1)
         }
     }
 }
@@ -38,7 +38,7 @@ fn fills_vacant(map: &mut Numbers) -> bool {
 
 #[test]
 fn inserts_through_a_vacant_entry(rt: HostRuntime) -> Result<(), Fail> {
-    let mut map = tens(rt.alloc(), 16)?;
+    let mut map = full(rt.alloc())?;
     holds(&rt, fills_vacant(&mut map));
     Ok(())
 }
@@ -50,7 +50,7 @@ fn fills_entry(map: &mut Numbers) -> bool {
 
 #[test]
 fn inserts_where_nothing_is(rt: HostRuntime) -> Result<(), Fail> {
-    let mut map = tens(rt.alloc(), 16)?;
+    let mut map = full(rt.alloc())?;
     holds(&rt, fills_entry(&mut map));
     Ok(())
 }
@@ -62,7 +62,7 @@ fn fills_by_default(map: &mut Numbers) -> bool {
 
 #[test]
 fn inserts_the_default_value(rt: HostRuntime) -> Result<(), Fail> {
-    let mut map = tens(rt.alloc(), 16)?;
+    let mut map = full(rt.alloc())?;
     holds(&rt, fills_by_default(&mut map));
     Ok(())
 }
@@ -82,7 +82,7 @@ fn filled_by_closure(map: &mut Numbers) -> (u32, Refused) {
 // The closure is called before the map grows.
 #[test]
 fn asks_for_the_value_once(rt: HostRuntime) -> Result<(), Fail> {
-    let mut map = tens(rt.alloc(), 16)?;
+    let mut map = full(rt.alloc())?;
     let (calls, refused) = filled_by_closure(&mut map);
     same(&rt, calls, 1);
     holds(&rt, stands(&map, refused, 1));
@@ -96,7 +96,7 @@ fn inserts_hashed(map: &mut Numbers) -> bool {
 
 #[test]
 fn pushes_an_entry(rt: HostRuntime) -> Result<(), Fail> {
-    let mut map = tens(rt.alloc(), 16)?;
+    let mut map = full(rt.alloc())?;
     holds(&rt, inserts_hashed(&mut map));
     Ok(())
 }
@@ -108,7 +108,7 @@ fn inserts_own(map: &mut Numbers) -> bool {
 
 #[test]
 fn takes_an_entry_or_hands_it_back(rt: HostRuntime) -> Result<(), Fail> {
-    let mut map = tens(rt.alloc(), 16)?;
+    let mut map = full(rt.alloc())?;
     holds(&rt, inserts_own(&mut map));
     Ok(())
 }
@@ -123,7 +123,7 @@ fn inserts_unique(map: &mut Numbers) -> bool {
 
 #[test]
 fn inserts_without_a_look_up(rt: HostRuntime) -> Result<(), Fail> {
-    let mut map = tens(rt.alloc(), 16)?;
+    let mut map = full(rt.alloc())?;
     holds(&rt, inserts_unique(&mut map));
     Ok(())
 }
@@ -139,7 +139,7 @@ fn inserts_hashed_unique(map: &mut Numbers) -> bool {
 
 #[test]
 fn inserts_under_a_hash_without_a_look_up(rt: HostRuntime) -> Result<(), Fail> {
-    let mut map = tens(rt.alloc(), 16)?;
+    let mut map = full(rt.alloc())?;
     holds(&rt, inserts_hashed_unique(&mut map));
     Ok(())
 }
@@ -154,7 +154,7 @@ fn pushes_own(map: &mut Numbers) -> bool {
 
 #[test]
 fn counts_to_an_entry(rt: HostRuntime) -> Result<(), Fail> {
-    let mut map = tens(rt.alloc(), 16)?;
+    let mut map = full(rt.alloc())?;
     holds(&rt, pushes_own(&mut map));
     Ok(())
 }
@@ -170,7 +170,7 @@ fn pushes_hashed(map: &mut Numbers) -> bool {
 
 #[test]
 fn counts_to_an_entry_under_a_hash(rt: HostRuntime) -> Result<(), Fail> {
-    let mut map = tens(rt.alloc(), 16)?;
+    let mut map = full(rt.alloc())?;
     holds(&rt, pushes_hashed(&mut map));
     Ok(())
 }

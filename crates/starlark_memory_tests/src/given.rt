@@ -4,16 +4,26 @@
 
 use starlark_hash::{Hashed, NoRoom, StarlarkHashValue};
 use starlark_sets::Iter as Elements;
-use starlark_small::{Iter, SmallMap};
-use std::alloc::Global;
+use starlark_small::{Iter, SmallMap, UNINDEXED};
+use std::alloc::{AllocError, Global};
 use std::fmt::Debug;
 use std::process::Abort;
 use std::test::Fail;
 
 pub(crate) type Numbers = SmallMap<u32, u32>;
 
+// How many keys a map has at most without an index.
+pub(crate) const THRESHOLD: u32 = UNINDEXED as u32;
+
 pub(crate) fn under<K>(hash: u32, key: K) -> Hashed<K> {
     Hashed::new_unchecked(StarlarkHashValue::new_unchecked(hash), key)
+}
+
+pub(crate) fn with_room(alloc: Global, capacity: usize) -> Result<Numbers, AllocError> {
+    match SmallMap::with_capacity(alloc, capacity) {
+        Ok(map) => Ok(map),
+        Err(_) => SmallMap::with_capacity(alloc, capacity),
+    }
 }
 
 // The keys below a number, each with ten times itself.
@@ -37,6 +47,15 @@ pub(crate) fn is_tens(map: &Numbers, count: u32) -> bool {
         }
     }
     walk.next().is_none()
+}
+
+// The longest such map without an index, with no room left in the list either.
+pub(crate) fn full(alloc: Global) -> Result<Numbers, Fail> {
+    let mut map = with_room(alloc, UNINDEXED)?;
+    for key in 0..THRESHOLD {
+        map.insert(key, key.wrapping_mul(10))?;
+    }
+    Ok(map)
 }
 
 // Whether a walk shows these pairs and no more.

@@ -1,20 +1,13 @@
 //! Maps that are made with room, of items or of another map.
 
-use crate::given::{Numbers, holds, shows, tens, under};
+use crate::given::{Numbers, THRESHOLD, holds, shows, tens, under, with_room};
 use starlark_small::{SmallMap, smallmap};
 use std::alloc::{AllocError, Global};
 use std::test::Fail;
 
-fn with_room(alloc: Global) -> Result<Numbers, AllocError> {
-    match SmallMap::with_capacity(alloc, 40) {
-        Ok(map) => Ok(map),
-        Err(_) => SmallMap::with_capacity(alloc, 40),
-    }
-}
-
 #[test]
 fn begins_with_room(rt: HostRuntime) -> Result<(), Fail> {
-    let map = with_room(rt.alloc())?;
+    let map = with_room(rt.alloc(), 40)?;
     holds(&rt, 40 <= map.room());
     holds(&rt, map.index().is_some());
     Ok(())
@@ -71,7 +64,7 @@ fn copied(map: &Numbers) -> Result<Numbers, AllocError> {
 
 #[test]
 fn copies_a_map_and_its_index(rt: HostRuntime) -> Result<(), Fail> {
-    let map = tens(rt.alloc(), 17)?;
+    let map = tens(rt.alloc(), THRESHOLD + 1)?;
     let copy = copied(&map)?;
     holds(&rt, copy == map);
     holds(&rt, copy.index().is_some());

@@ -1,8 +1,10 @@
 //! Maps that grow and are sorted, and what stands where memory is refused.
 
-use crate::given::{Numbers, handed_back, holds, is_tens, same, tens, under};
-use starlark_small::SmallMap;
-use std::alloc::{AllocError, Global};
+use crate::given::{
+    Numbers, THRESHOLD, full, handed_back, holds, is_tens, same, tens, under, with_room,
+};
+use starlark_small::{SmallMap, UNINDEXED};
+use std::alloc::Global;
 use std::test::Fail;
 
 // A refusal leaves the map, and the second attempt has the memory.
@@ -34,13 +36,13 @@ fn at(map: &Numbers, key: u32) -> Option<u32> {
 
 #[test]
 fn takes_items_up_to_the_one_that_is_refused(rt: HostRuntime) -> Result<(), Fail> {
-    let mut map = tens(rt.alloc(), 16)?;
+    let mut map = full(rt.alloc())?;
     same(&rt, map.room(), 0);
     let done = extended(&mut map);
     same(&rt, at(&map, 5), Some(500));
     same(&rt, at(&map, 100), if done { Some(1) } else { None });
     same(&rt, at(&map, 6), Some(if done { 600 } else { 60 }));
-    same(&rt, map.len(), if done { 17 } else { 16 });
+    same(&rt, map.len(), if done { UNINDEXED + 1 } else { UNINDEXED });
     Ok(())
 }
 
@@ -151,13 +153,6 @@ fn takes_in_as_much_as_goes(rt: HostRuntime) -> Result<(), Fail> {
     Ok(())
 }
 
-fn with_room(alloc: Global, capacity: usize) -> Result<Numbers, AllocError> {
-    match SmallMap::with_capacity(alloc, capacity) {
-        Ok(map) => Ok(map),
-        Err(_) => SmallMap::with_capacity(alloc, capacity),
-    }
-}
-
 // Puts the keys below a number, and says whether each had room and the map has so many.
 fn fills(map: &mut Numbers, count: u32) -> bool {
     for key in 0..count {
@@ -175,36 +170,37 @@ fn without_index(map: &mut Numbers) -> bool {
 
 // After the first line nothing asks for memory.
 #[test]
-fn takes_sixteen_that_were_reserved(rt: HostRuntime) -> Result<(), Fail> {
-    let mut map = with_room(rt.alloc(), 16)?;
+fn takes_what_was_reserved_without_an_index(rt: HostRuntime) -> Result<(), Fail> {
+    let mut map = with_room(rt.alloc(), UNINDEXED)?;
     holds(&rt, map.index().is_none());
-    holds(&rt, fills(&mut map, 16));
+    holds(&rt, fills(&mut map, THRESHOLD));
     Ok(())
 }
 
 // After the first line nothing asks for memory.
 #[test]
-fn takes_sixteen_without_the_index(rt: HostRuntime) -> Result<(), Fail> {
+fn takes_what_needs_no_index(rt: HostRuntime) -> Result<(), Fail> {
     let mut map = with_room(rt.alloc(), 40)?;
+    holds(&rt, 40 <= map.room());
     holds(&rt, without_index(&mut map));
-    holds(&rt, fills(&mut map, 16));
+    holds(&rt, fills(&mut map, THRESHOLD));
     Ok(())
 }
 
-// After the first line nothing asks for memory: at 20 entries the index stays.
+// After the first line nothing asks for memory: above the threshold the index stays.
 #[test]
-fn keeps_the_index_of_twenty(rt: HostRuntime) -> Result<(), Fail> {
-    let mut map = with_room(rt.alloc(), 40)?;
-    holds(&rt, fills(&mut map, 20));
+fn keeps_the_index_of_a_longer_list(rt: HostRuntime) -> Result<(), Fail> {
+    let mut map = with_room(rt.alloc(), 2 * (UNINDEXED + 4))?;
+    holds(&rt, fills(&mut map, THRESHOLD + 4));
     holds(&rt, !without_index(&mut map));
-    holds(&rt, fills(&mut map, 40));
+    holds(&rt, fills(&mut map, 2 * (THRESHOLD + 4)));
     Ok(())
 }
 
-// Sixteen entries whose list has room for more, and no index.
-fn sixteen(alloc: Global) -> Result<Numbers, Fail> {
-    let mut map = tens(alloc, 17)?;
-    if map.pop() != Some((16, 160)) || !without_index(&mut map) {
+// As many entries as have no index, in a list with room for more.
+fn unindexed(alloc: Global) -> Result<Numbers, Fail> {
+    let mut map = tens(alloc, THRESHOLD + 1)?;
+    if map.pop() != Some((THRESHOLD, THRESHOLD * 10)) || !without_index(&mut map) {
         return Err("an index stays".into());
     }
     Ok(map)
@@ -216,7 +212,7 @@ fn takes_or_hands_back(map: &mut Numbers) -> bool {
         None => true,
         Some(pair) => {
             pair == (100, 1)
-                && is_tens(map, 16)
+                && is_tens(map, THRESHOLD)
                 && map.index().is_none()
                 && map.insert(100, 1).is_ok()
         }
@@ -224,10 +220,15 @@ fn takes_or_hands_back(map: &mut Numbers) -> bool {
 }
 
 #[test]
-fn makes_the_index_of_seventeen_or_stays(rt: HostRuntime) -> Result<(), Fail> {
-    let mut map = sixteen(rt.alloc())?;
-    same(&rt, (map.capacity(), map.room()), (32, 0));
+fn makes_the_index_or_stays(rt: HostRuntime) -> Result<(), Fail> {
+    let mut map = unindexed(rt.alloc())?;
+    same(&rt, map.capacity(), (UNINDEXED + 1).next_power_of_two());
+    same(&rt, map.room(), 0);
     holds(&rt, takes_or_hands_back(&mut map));
-    same(&rt, (map.len(), map.index().is_some()), (17, true));
+    same(
+        &rt,
+        (map.len(), map.index().is_some()),
+        (UNINDEXED + 1, true),
+    );
     Ok(())
 }

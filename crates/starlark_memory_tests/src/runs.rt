@@ -5,7 +5,7 @@ use starlark_hash::Hashed;
 use starlark_runs::{
     Command, Reply, held_room_stays, replies_agree, reserved_insertions_succeed, run,
 };
-use starlark_small::SmallMap;
+use starlark_small::{SmallMap, UNINDEXED};
 use std::alloc::Global;
 use std::test::Fail;
 
@@ -66,13 +66,17 @@ fn takes_what_is_reserved(rt: HostRuntime) -> Result<(), Fail> {
 }
 
 #[test]
-fn takes_sixteen_without_an_index(rt: HostRuntime) -> Result<(), Fail> {
+fn takes_what_needs_no_index(rt: HostRuntime) -> Result<(), Fail> {
     let alloc = rt.alloc();
     let mut map: SmallMap<u32, u32> = SmallMap::new(alloc);
     let commands = forty(alloc, true)?;
     if let Ok(replies) = held_room_stays(alloc, &mut map, commands, value_of) {
         same(&rt, replies.len(), 42);
-        holds(&rt, 17 < replies.len() && inserted(&replies[2..18]) == 16);
+        let sure = UNINDEXED + 2;
+        holds(
+            &rt,
+            sure <= replies.len() && inserted(&replies[2..sure]) == UNINDEXED,
+        );
         same(&rt, inserted(&replies), map.len());
         holds(&rt, agrees(&map, &replies));
     } else {

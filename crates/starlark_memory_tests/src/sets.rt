@@ -1,27 +1,32 @@
 //! Sets that grow, and what comes back where no room is found.
 
-use crate::given::{handed_back, holds, shows_elements, under};
+use crate::given::{THRESHOLD, handed_back, holds, shows_elements, under};
 use starlark_hash::{Hashed, TextKey};
 use starlark_sets::{SmallSet, smallset};
+use starlark_small::UNINDEXED;
 use std::alloc::{AllocError, Global};
 use std::test::Fail;
 
-// The numbers from 15 down to 0, with no room left.
+fn with_room(alloc: Global, capacity: usize) -> Result<SmallSet<u32>, AllocError> {
+    match SmallSet::with_capacity(alloc, capacity) {
+        Ok(set) => Ok(set),
+        Err(_) => SmallSet::with_capacity(alloc, capacity),
+    }
+}
+
+// As many numbers as have no index, down to 0, with no room left in the list either.
 fn full(alloc: Global) -> Result<SmallSet<u32>, Fail> {
-    let mut set: SmallSet<u32> = SmallSet::new(alloc);
-    for element in 0..16u32 {
-        let element = 15u32.wrapping_sub(element);
-        if set.insert(element).is_err() {
-            set.insert(element)?;
-        }
+    let mut set = with_room(alloc, UNINDEXED)?;
+    for element in (0..THRESHOLD).rev() {
+        set.insert(element)?;
     }
     Ok(set)
 }
 
 fn is_full(set: &SmallSet<u32>) -> bool {
     let mut walk = set.iter();
-    for element in 0..16u32 {
-        if walk.next() != Some(&15u32.wrapping_sub(element)) {
+    for element in (0..THRESHOLD).rev() {
+        if walk.next() != Some(&element) {
             return false;
         }
     }
@@ -31,8 +36,8 @@ fn is_full(set: &SmallSet<u32>) -> bool {
 // What came back is 100, and the set is as it was; or 100 is last.
 fn stands(set: &SmallSet<u32>, refused: Option<u32>) -> bool {
     match refused {
-        None => set.len() == 17 && set.last() == Some(&100),
-        Some(element) => element == 100 && is_full(set) && set.capacity() <= 34,
+        None => set.len() == UNINDEXED + 1 && set.last() == Some(&100),
+        Some(element) => { element == 100 && is_full(set) && set.capacity() <= 2 * (UNINDEXED + 1) }
     }
 }
 
@@ -44,16 +49,9 @@ fn stands_hashed(set: &SmallSet<u32>, refused: Option<Hashed<u32>>) -> bool {
     }
 }
 
-fn with_room(alloc: Global) -> Result<SmallSet<u32>, AllocError> {
-    match SmallSet::with_capacity(alloc, 40) {
-        Ok(set) => Ok(set),
-        Err(_) => SmallSet::with_capacity(alloc, 40),
-    }
-}
-
 #[test]
 fn begins_with_room(rt: HostRuntime) -> Result<(), Fail> {
-    let set = with_room(rt.alloc())?;
+    let set = with_room(rt.alloc(), 40)?;
     holds(&rt, 40 <= set.capacity());
     Ok(())
 }
@@ -176,14 +174,15 @@ fn makes_a_new_text_or_stays(rt: HostRuntime) -> Result<(), Fail> {
 
 // A refusal leaves the set, and the second attempt has the memory.
 fn reserves(set: &mut SmallSet<u32>) -> bool {
-    set.reserve(40).is_ok() || is_full(set) && set.capacity() <= 112 && set.reserve(40).is_ok()
+    set.reserve(40).is_ok()
+        || is_full(set) && set.capacity() <= 2 * (UNINDEXED + 40) && set.reserve(40).is_ok()
 }
 
 #[test]
 fn makes_room_or_stays(rt: HostRuntime) -> Result<(), Fail> {
     let mut set = full(rt.alloc())?;
     holds(&rt, reserves(&mut set));
-    holds(&rt, 56 <= set.capacity());
+    holds(&rt, UNINDEXED + 40 <= set.capacity());
     Ok(())
 }
 
