@@ -3,6 +3,7 @@
 use crate::fakes::{NEVER, bytes_in_pieces};
 use starlark_lines::PlayFault;
 use starlark_play::play::play;
+use starlark_small::UNINDEXED;
 use std::alloc::Global;
 use std::io::ErrorKind;
 use std::process::Abort;
@@ -121,7 +122,7 @@ fn bad_lines(rt: HostRuntime) -> Result<(), Fail> {
     check(&rt, "len\n\n", "0\n", Err(PlayFault::BadLine(2)))
 }
 
-// So many lines that put new keys under hashes from 0 on, and then these lines, with their replies.
+// So many lines that put one key under the hashes from 1 on, and then these lines, with their replies.
 fn check_after_puts(
     rt: &(impl Abort + AllocGlobal),
     count: usize,
@@ -130,8 +131,8 @@ fn check_after_puts(
 ) -> Result<(), Fail> {
     let mut script = String::new(rt.alloc());
     let mut replies = String::new(rt.alloc());
-    for i in 0..count {
-        let line = format!(in rt.alloc(); "put {i} k {i}\n")?;
+    for i in 1..=count {
+        let line = format!(in rt.alloc(); "put {i} a {i}\n")?;
         script.push_str(line.as_str())?;
         replies.push_str("none\n")?;
     }
@@ -140,41 +141,33 @@ fn check_after_puts(
     check(rt, script.as_str(), replies.as_str(), Ok(()))
 }
 
-// At 17 entries the map has an index, which a line drops at 16.
 #[test]
 fn many_entries(rt: HostRuntime) -> Result<(), Fail> {
     check_after_puts(
         &rt,
         40,
-        "slim\nreserve 5\nget 39 k\nget 40 k\nput 39 k 5\nget 39 k\nslim\nlen\n",
-        "ok\nok\nsome 39\nnone\nsome 39\nsome 5\nok\n40\n",
-    )?;
-    check_after_puts(
-        &rt,
-        17,
-        "del 3 k\nslim\nget 16 k\nget 3 k\nput 17 k 17\nget 17 k\nreserve 1000\nget 0 k\nlen\n",
-        "some 3\nok\nsome 16\nnone\nnone\nsome 17\nok\nsome 0\n17\n",
+        "slim\nreserve 5\nget 40 a\nget 41 a\nput 40 a 5\nget 40 a\nslim\nlen\n",
+        "ok\nok\nsome 40\nnone\nsome 40\nsome 5\nok\n40\n",
     )
 }
 
-// One key under seventeen hashes: the index is dropped at sixteen entries, and made again.
+// The map has just become long enough for an index. One entry fewer does without, and one more has it again.
 #[test]
-fn seventeen_hashes(rt: HostRuntime) -> Result<(), Fail> {
-    let mut script = String::new(rt.alloc());
-    let mut replies = String::new(rt.alloc());
-    for i in 1..18 {
-        let line = format!(in rt.alloc(); "put {i} a {i}\n")?;
-        script.push_str(line.as_str())?;
-        replies.push_str("none\n")?;
-    }
-    script.push_str("del 3 a\nslim\nget 17 a\nget 3 a\nput 18 a 18\nlen\n")?;
-    replies.push_str("some 3\nok\nsome 17\nnone\nnone\n17\n")?;
-    check(&rt, script.as_str(), replies.as_str(), Ok(()))
+fn drops_and_makes_the_index(rt: HostRuntime) -> Result<(), Fail> {
+    let last = UNINDEXED + 1;
+    let next = UNINDEXED + 2;
+    let lines = format!(in rt.alloc();
+        "del 3 a\nslim\nget {last} a\nget 3 a\nput {next} a {next}\nlen\nget {next} a\nreserve 1000\nget 1 a\n"
+    )?;
+    let replies = format!(in rt.alloc();
+        "some 3\nok\nsome {last}\nnone\nnone\n{last}\nsome {next}\nok\nsome 1\n"
+    )?;
+    check_after_puts(&rt, last, lines.as_str(), replies.as_str())
 }
 
 #[test]
 fn ten_thousand_lines(rt: HostRuntime) -> Result<(), Fail> {
-    check_after_puts(&rt, 10_000, "get 9999 k\nlen\n", "some 9999\n10000\n")
+    check_after_puts(&rt, 10_000, "get 9999 a\nlen\n", "some 9999\n10000\n")
 }
 
 // A line `put 1 KEY 1` with a key of so many bytes.
