@@ -58,7 +58,7 @@ chart: ## draws the picture of speed from its table, at once
 	$(says)
 	@python3 bench/chart.py docs/SPEED.md > docs/speed.svg
 
-vendor: ## copies starlark_map and the crates below it INTO another repository, in seconds; with PROOFS=yes also their proofs
+vendor: ## copies starlark_map and the crates below it INTO another repository, in seconds; with PROOFS=yes also their proofs, 4.5 GB
 	$(says)
 	@./vendor/copy "$$INTO" $(if $(PROOFS),--proofs)
 
