@@ -6,3 +6,4 @@ pub mod Unions
 pub mod Collecting
 pub mod Retained
 pub mod Callers
+pub mod Lookups

@@ -11,3 +11,4 @@ pub mod Union
 pub mod Collect
 pub mod Retain
 pub mod Calling
+pub mod Others

@@ -1,19 +1,25 @@
 -- What an `OrderedMap` ends as, once a reference into it has ended.
-use Rattle.std.specs.Prelude.{ℕ, Option}
-use Rattle.std.specs.Borrow.{Fml, RattleType, MutBor, GName, Lends, LendsIf, follows}
+use Rattle.std.specs.Prelude.{◌≡◌, Bool, Option, Some, IsSome}
+use Rattle.std.specs.Borrow.{Fml, RattleType, MutBor, GName, Lends, LendsSo, follows}
 use Rattle.std.specs.declared.cmp.PartialEq as eq
-use Rattle.starlark_lists.specs.Entries.{with_value}
+use Rattle.starlark_hash.specs.declared.hash_value.StarlarkHashValue.{StarlarkHashValue}
+use Rattle.starlark_lists.specs.Entries.{position_of, with_value}
 use Rattle.starlark_vecmap.specs.EntryList.{with_values}
 use Rattle.starlark_small.specs.Map.{Map}
 use Rattle.starlark_small.specs.MapEntry.{map_of_entry}
 use Rattle.starlark_small.specs.declared.entry.Entry.{Entry}
 use Rattle.starlark_small.specs.contracts.small_map.SmallMap as small
+use Rattle.starlark_sets.specs.Calling.{Writes, found}
 use Rattle.starlark_sets.specs.contracts.ordered_map.OrderedMap.{the_row}
 
 module _ (K V : RattleType) (g : eq.Ghosts K.Denot) (s : MutBor (Map K.Denot V.Denot)) where
-  -- the value at the place that was found ends as what is left behind the reference; where none was found, the map stays
-  abbrev pub lends_found : Option ℕ → Option (MutBor V.Denot) → Fml
-  lends_found place r = LendsIf (the_row K V g) V s r (λ w. record s.now { entries = with_value s.now.entries place w }) s.now
+  -- the value at the place that was found ends as what is left behind the reference, which is found then, and all else stays;
+  -- where none was found, the map stays
+  abbrev pub lends_get : (K.Denot → Bool) → StarlarkHashValue → Option (MutBor V.Denot) → Fml
+  lends_get test hash r = LendsSo (the_row K V g) V s r
+      (λ n w. (n ≡ record s.now { entries = with_value s.now.entries (position_of hash test s.now.entries) w })
+      × (IsSome (found test hash s.now.entries) → Writes g.eq test hash s.now.entries n.entries (Some w)))
+      (λ n. n ≡ s.now)
 
   -- the map ends with the values that the loan of this name ends with, and all else stays
   abbrev pub values_follow : GName → Fml

@@ -33,7 +33,7 @@ module _ {K X : Type 0} {R : K → K → Bool} (o : IsEquivalence R) (es fs : Li
       let c = Contains-permutation es fs (p.1, v) moves here in
       sym (lookup_class o (R q) (o.congr q) p.1 p.3 fs) ∙ lookup_from_place o fs c.0 p.1 v apart (slice_get-get_or fs c.0 (p.1, v) c.1 ∙ ap Some c.2)
 
-  lookup_permuted : lookup (R q) fs ≡ lookup (R q) es
+  pub lookup_permuted : lookup (R q) fs ≡ lookup (R q) es
   lookup_permuted = found_then (lookup (R q) es) refl
 
 -- each key has what it had

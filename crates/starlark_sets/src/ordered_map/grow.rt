@@ -1,5 +1,5 @@
 //! What puts entries into an `OrderedMap`, and what may ask for memory.
-ghost use Rattle.std.specs.Prelude.{◌≡◌, ◌+◌, ◌<◌, ◌≤◌, ◌||◌, length, nat_lt, None, IsOk, IfOk, IfErr, OnOk, OnErr};
+ghost use Rattle.std.specs.Prelude.{◌≡◌, ◌+◌, ◌<◌, ◌≤◌, ◌||◌, if◌then◌else◌, is_some, length, nat_lt, None, Some, IsOk, IfOk, IfErr, OnOk, OnErr};
 ghost use Rattle.std.specs.Iterator.{IsFiniteIterable, size};
 ghost use Rattle.std.specs.List.{AllZip};
 ghost use Rattle.starlark_lists.specs.Entries.{value_at, match_of, insert_entry};
@@ -11,6 +11,8 @@ ghost use Rattle.starlark_small.specs.Inserted.{LeavesMemory};
 ghost use Rattle.starlark_small.specs.Map.{KeepsMemory, KeepsRoom, GrowsFor, own_hashed};
 ghost use Rattle.starlark_vec2.specs.Collect.{IsLawfulClone};
 ghost use Rattle.starlark_lists.specs.Clone.{IsEntryClone};
+ghost use Rattle.starlark_sets.specs.Calling.{Updates, contains, get};
+ghost use Rattle.starlark_sets.specs.Others.{FindsAlike};
 
 use super::OrderedMap;
 use starlark_hash::NoRoom;
@@ -22,10 +24,17 @@ impl<K: Eq, V> OrderedMap<K, V> {
     /// Inserts under the key's own hash. A key that is there keeps its place and its stored key and takes the value,
     /// whose old one is answered; a new key goes last. Only a new key is refused, where there is no room and no memory
     /// is found: it comes back with its value, and the entries stay.
+    #[tactic(auto, using(crate::proofs::Callers::callers))]
     pub fn insert(&mut self, key: K, value: V) -> Result<Option<V>, NoRoom<(K, V)>>
     where
         K: Hash + Drop,
-        // The value that was there, and the entries now.
+        // The value that was there, and what is found now.
+        ensures was { IfOk result (λ old. old ≡ get K.eq K.hash_input self.old key) }
+        ensures updates { OnOk result (Updates K.eq K.hash_input self.old self.new key (Some value)) }
+        ensures length { OnOk result (length self.new.entries ≡ length self.old.entries + (if contains K.eq K.hash_input self.old key then 0 else 1)) }
+        ensures lacking { OnErr result (get K.eq K.hash_input self.old key ≡ None) }
+
+        // The entries, too.
         ensures old { IfOk result (λ old. old ≡ value_at self.old.entries (match_of K.eq self.old.entries (own_hashed K.hash_input key))) }
         ensures entries { OnOk result (self.new.entries ≡ insert_entry K.eq self.old.entries (own_hashed K.hash_input key) value) }
 
@@ -33,6 +42,7 @@ impl<K: Eq, V> OrderedMap<K, V> {
         ensures absent { OnErr result (match_of K.eq self.old.entries (own_hashed K.hash_input key) ≡ None) }
         ensures full { OnErr result (self.old.room ≡ 0) }
         ensures handed_back { IfErr result (λ refused. refused.0 ≡ (key, value)) }
+        ensures same { OnErr result (self.new.entries ≡ self.old.entries) }
         ensures unchanged { OnErr result ((self.new.entries ≡ self.old.entries) × (self.new.indexed ≡ self.old.indexed)) }
 
         // What it leaves of the memory, done or refused.
@@ -48,9 +58,11 @@ impl<K: Eq, V> OrderedMap<K, V> {
         K: Ord,
         ensures entries { OnOk result (self.new.entries ≡ sorted_by_key K.cmp self.old.entries) }
         ensures unchanged { OnErr result (self.new.entries ≡ self.old.entries) }
+        ensures same { FindsAlike K.eq self.old.entries self.new.entries }
         ensures succeeds { Ascends K.cmp self.old.entries → IsOk result }
         ensures kept { KeepsMemory self.old self.new }
     {
+        let _entries = self.0.iter_hashed();
         self.0.sort_keys()
     }
 }

@@ -4,6 +4,7 @@ ghost use Rattle.std.specs.Map.Iter.{deref_pair};
 ghost use Rattle.std.specs.Option.{option_copied, option_map};
 ghost use Rattle.starlark_lists.specs.Entries.{value_at, pair_of};
 ghost use Rattle.starlark_small.specs.Map.{own_match};
+ghost use Rattle.starlark_sets.specs.Calling.{contains, get};
 
 use super::OrderedMap;
 use starlark_hash::Equivalent;
@@ -27,9 +28,11 @@ impl<K: Eq, V> OrderedMap<K, V> {
     }
 
     /// The value under the query's own hash whose key the query is equivalent to.
+    #[tactic(auto, using(crate::proofs::Callers::callers))]
     #[inline]
     pub fn get<Q: Equivalent<K> + Hash>(&self, key: &Q) -> Option<&V>
-        ensures { option_copied result ≡ value_at self.now.entries (own_match Q.equivalent Q.hash_input self.now.entries key.now) }
+        ensures value { option_copied result ≡ value_at self.now.entries (own_match Q.equivalent Q.hash_input self.now.entries key.now) }
+        ensures found { option_copied result ≡ get Q.equivalent Q.hash_input self.now key.now }
     {
         self.0.get(key)
     }
@@ -52,9 +55,11 @@ impl<K: Eq, V> OrderedMap<K, V> {
     }
 
     /// Whether there is an entry under the query's own hash whose key the query is equivalent to.
+    #[tactic(auto, using(crate::proofs::Callers::callers))]
     #[inline]
     pub fn contains_key<Q: Equivalent<K> + Hash>(&self, key: &Q) -> bool
-        ensures { result ≡ is_some (own_match Q.equivalent Q.hash_input self.now.entries key.now) }
+        ensures place { result ≡ is_some (own_match Q.equivalent Q.hash_input self.now.entries key.now) }
+        ensures found { result ≡ contains Q.equivalent Q.hash_input self.now key.now }
     {
         self.0.contains_key(key)
     }

@@ -6,7 +6,9 @@ ghost use Rattle.std.specs.Option.{option_copied_mut, IfNone};
 ghost use Rattle.starlark_lists.specs.Entries.{entry_value, pair_of, value_at};
 ghost use Rattle.starlark_small.specs.Map.{own_hashed, own_match};
 ghost use Rattle.starlark_small.specs.MapEntry.{IsEntryOf};
-ghost use Rattle.starlark_sets.specs.OrderedLending.{follows_entry, lends_found, lends_inside, values_follow};
+ghost use Rattle.starlark_hash.specs.Hasher.{own_hash};
+ghost use Rattle.starlark_sets.specs.Calling.{get};
+ghost use Rattle.starlark_sets.specs.OrderedLending.{follows_entry, lends_get, lends_inside, values_follow};
 
 use super::OrderedMap;
 use starlark_hash::Equivalent;
@@ -41,7 +43,8 @@ impl<K: Eq, V> OrderedMap<K, V> {
     /// is left in it, and all else stays.
     #[inline]
     pub fn get_mut<Q: Equivalent<K> + Hash>(&mut self, key: &Q) -> Option<&mut V>
-        ensures* writes_back { sem 𝓛 (lends_found K.row V.row K.PartialEq self.entry (own_match Q.equivalent Q.hash_input self.old.entries key.now) result) }
+        ensures* writes_back { sem 𝓛 (lends_get K.row V.row K.PartialEq self.entry (Q.equivalent key.now) (own_hash Q.hash_input key.now) result) }
+        ensures found { option_copied_mut result ≡ get Q.equivalent Q.hash_input self.old key.now }
         ensures value { option_copied_mut result ≡ value_at self.old.entries (own_match Q.equivalent Q.hash_input self.old.entries key.now) }
         ensures absent { IfNone result (own_match Q.equivalent Q.hash_input self.old.entries key.now ≡ None) }
     {

@@ -1,5 +1,5 @@
 //! What puts elements into an `OrderedSet`, and what may ask for memory.
-ghost use Rattle.std.specs.Prelude.{◌≡◌, ◌+◌, ◌≤◌, ◌||◌, not, is_some, length, nat_lt, None, IsOk, IfOk, IfErr, OnOk, OnErr};
+ghost use Rattle.std.specs.Prelude.{◌≡◌, ◌+◌, ◌≤◌, ◌||◌, false, if◌then◌else◌, not, is_some, length, nat_lt, None, Some, IsOk, IfOk, IfErr, OnOk, OnErr};
 ghost use Rattle.std.specs.Iterator.{IsFiniteIterable, size};
 ghost use Rattle.std.specs.List.{AllZip};
 ghost use Rattle.starlark_lists.specs.Entries.{match_of};
@@ -10,7 +10,9 @@ ghost use Rattle.starlark_small.specs.Index.{unindexed};
 ghost use Rattle.starlark_small.specs.Inserted.{IsInserted, IsRefused};
 ghost use Rattle.starlark_small.specs.Map.{GrowsFor, KeepsMemory, KeepsRoom, own_hashed};
 ghost use Rattle.starlark_vec2.specs.Collect.{IsLawfulClone};
+ghost use Rattle.starlark_sets.specs.Calling.{Updates, contains};
 ghost use Rattle.starlark_sets.specs.Collect.{own_element};
+ghost use Rattle.starlark_sets.specs.Others.{FindsAlike};
 ghost use Rattle.starlark_sets.specs.Set.{Adds};
 ghost use Rattle.starlark_sets.specs.Unit.{IsElementClone};
 
@@ -28,6 +30,11 @@ impl<T: Eq> OrderedSet<T> {
     where
         T: Hash + Drop,
         ensures is_new { IfOk result (λ is_new. is_new ≡ not (is_some (match_of T.eq self.old.entries (own_hashed T.hash_input element)))) }
+        ensures was { IfOk result (λ is_new. is_new ≡ not (contains T.eq T.hash_input self.old element)) }
+        ensures updates { OnOk result (Updates T.eq T.hash_input self.old self.new element (Some tt)) }
+        ensures length { OnOk result (length self.new.entries ≡ length self.old.entries + (if contains T.eq T.hash_input self.old element then 0 else 1)) }
+        ensures absent { OnErr result (contains T.eq T.hash_input self.old element ≡ false) }
+        ensures unchanged { OnErr result (self.new.entries ≡ self.old.entries) }
         ensures set { Adds T.eq self.old (own_hashed T.hash_input element) result self.new }
         ensures handed_back { IfErr result (λ refused. refused.0 ≡ element) }
     {
@@ -55,6 +62,7 @@ impl<T: Eq> OrderedSet<T> {
         T: Ord,
         ensures entries { OnOk result (self.new.entries ≡ sorted_by_key T.cmp self.old.entries) }
         ensures unchanged { OnErr result (self.new.entries ≡ self.old.entries) }
+        ensures same { FindsAlike T.eq self.old.entries self.new.entries }
         ensures succeeds { Ascends T.cmp self.old.entries → IsOk result }
         ensures kept { KeepsMemory self.old self.new }
     {

@@ -1,8 +1,10 @@
 //! What an `OrderedSet` has: elements under their own hashes, and by place.
-ghost use Rattle.std.specs.Prelude.{◌≡◌, ◌-◌, ◌<◌, ◌==◌, slice_get, length, is_some, IfSome};
+ghost use Rattle.std.specs.Prelude.{◌≡◌, ◌-◌, ◌<◌, ◌==◌, slice_get, length, is_some, IfSome, IsTrue};
 ghost use Rattle.std.specs.Option.{option_copied, option_map};
+ghost use Rattle.starlark_hash.specs.HashValue.{hash_of, key_of};
 ghost use Rattle.starlark_lists.specs.Entries.{entry_key};
 ghost use Rattle.starlark_small.specs.Map.{own_match, query_match};
+ghost use Rattle.starlark_sets.specs.Calling.{contains, found, get_key};
 ghost use Rattle.starlark_sets.specs.Set.{element_at};
 
 use super::OrderedSet;
@@ -29,7 +31,10 @@ impl<T: Eq> OrderedSet<T> {
     /// The element under the query's own hash to which the query is equivalent.
     #[inline]
     pub fn get<Q: Equivalent<T> + Hash>(&self, query: &Q) -> Option<&T>
-        ensures { option_copied result ≡ element_at self.now (own_match Q.equivalent Q.hash_input self.now.entries query.now) }
+        ensures element { option_copied result ≡ element_at self.now (own_match Q.equivalent Q.hash_input self.now.entries query.now) }
+        ensures found { option_copied result ≡ get_key Q.equivalent Q.hash_input self.now query.now }
+        ensures is_there { is_some result ≡ contains Q.equivalent Q.hash_input self.now query.now }
+        ensures equivalent { IfSome result (λ element. IsTrue (Q.equivalent query.now element.now)) }
     {
         self.0.get(query)
     }
@@ -37,7 +42,8 @@ impl<T: Eq> OrderedSet<T> {
     /// Whether there is an element under the query's own hash to which the query is equivalent.
     #[inline]
     pub fn contains<Q: Equivalent<T> + Hash>(&self, query: &Q) -> bool
-        ensures { result ≡ is_some (own_match Q.equivalent Q.hash_input self.now.entries query.now) }
+        ensures place { result ≡ is_some (own_match Q.equivalent Q.hash_input self.now.entries query.now) }
+        ensures found { result ≡ contains Q.equivalent Q.hash_input self.now query.now }
     {
         self.0.contains(query)
     }
@@ -45,7 +51,8 @@ impl<T: Eq> OrderedSet<T> {
     /// Whether there is an element under this hash to which the query is equivalent.
     #[inline]
     pub fn contains_hashed<Q: Equivalent<T>>(&self, query: Hashed<&Q>) -> bool
-        ensures { result ≡ is_some (query_match Q.equivalent self.now.entries query.entry) }
+        ensures place { result ≡ is_some (query_match Q.equivalent self.now.entries query.entry) }
+        ensures found { result ≡ is_some (found (Q.equivalent (key_of query.entry).now) (hash_of query.entry) self.now.entries) }
     {
         self.0.contains_hashed(query)
     }

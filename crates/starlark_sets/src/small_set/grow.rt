@@ -1,10 +1,12 @@
 //! What puts elements into a `SmallSet`, and what may ask for memory.
-ghost use Rattle.std.specs.Prelude.{◌≡◌, ◌<◌, ◌≤◌, false, not, is_ok, is_some, Some, IfOk, IfErr, IsOk, OnOk, OnErr};
+ghost use Rattle.std.specs.Prelude.{◌≡◌, ◌+◌, ◌<◌, ◌≤◌, false, if◌then◌else◌, length, not, is_ok, is_some, Some, IfOk, IfErr, IsOk, OnOk, OnErr};
+ghost use Rattle.starlark_hash.specs.HashValue.{hash_of, key_of};
 ghost use Rattle.starlark_lists.specs.Entries.{match_of};
 ghost use Rattle.starlark_lists.specs.Sorting.{Ascends, sorted_by_key};
 ghost use Rattle.starlark_small.specs.Inserted.{IsRefusedFor, IsReserved};
 ghost use Rattle.starlark_small.specs.Map.{KeepsMemory, own_hashed};
-ghost use Rattle.starlark_sets.specs.Calling.{Updates, contains};
+ghost use Rattle.starlark_sets.specs.Calling.{Updates, Writes, contains, found};
+ghost use Rattle.starlark_sets.specs.Others.{FindsAlike};
 ghost use Rattle.starlark_sets.specs.Set.{Adds};
 
 use super::SmallSet;
@@ -21,6 +23,7 @@ impl<T: Eq> SmallSet<T> {
         ensures is_new { IfOk result (λ is_new. is_new ≡ not (is_some (match_of T.eq self.old.entries (own_hashed T.hash_input key)))) }
         ensures was { IfOk result (λ is_new. is_new ≡ not (contains T.eq T.hash_input self.old key)) }
         ensures updates { OnOk result (Updates T.eq T.hash_input self.old self.new key (Some tt)) }
+        ensures length { OnOk result (length self.new.entries ≡ length self.old.entries + (if contains T.eq T.hash_input self.old key then 0 else 1)) }
         ensures absent { OnErr result (contains T.eq T.hash_input self.old key ≡ false) }
         ensures unchanged { OnErr result (self.new.entries ≡ self.old.entries) }
         ensures set { Adds T.eq self.old (own_hashed T.hash_input key) result self.new }
@@ -35,11 +38,16 @@ impl<T: Eq> SmallSet<T> {
     /// Inserts under this hash, and answers whether the element was new. One that is there changes nothing, and the
     /// stored element stays; a new one goes last. Only a new one is refused, where there is no room and no memory is
     /// found: it comes back, and elements and index stay.
-    #[tactic(auto, using(crate::proofs::Additions::additions))]
+    #[tactic(auto, using(crate::proofs::Additions::additions, crate::proofs::Callers::callers))]
     pub fn insert_hashed(&mut self, key: Hashed<T>) -> Result<bool, NoRoom<Hashed<T>>>
     where
         T: Drop,
         ensures is_new { IfOk result (λ is_new. is_new ≡ not (is_some (match_of T.eq self.old.entries key))) }
+        ensures was { IfOk result (λ is_new. is_new ≡ not (is_some (found (T.eq (key_of key)) (hash_of key) self.old.entries))) }
+        ensures updates { OnOk result (Writes T.eq (T.eq (key_of key)) (hash_of key) self.old.entries self.new.entries (Some tt)) }
+        ensures length { OnOk result (length self.new.entries ≡ length self.old.entries + (if is_some (found (T.eq (key_of key)) (hash_of key) self.old.entries) then 0 else 1)) }
+        ensures absent { OnErr result (is_some (found (T.eq (key_of key)) (hash_of key) self.old.entries) ≡ false) }
+        ensures unchanged { OnErr result (self.new.entries ≡ self.old.entries) }
         ensures set { Adds T.eq self.old key result self.new }
         ensures handed_back { IfErr result (λ refused. refused.0 ≡ key) }
     {
@@ -65,9 +73,11 @@ impl<T: Eq> SmallSet<T> {
         T: Ord,
         ensures entries { OnOk result (self.new.entries ≡ sorted_by_key T.cmp self.old.entries) }
         ensures unchanged { OnErr result (self.new.entries ≡ self.old.entries) }
+        ensures same { FindsAlike T.eq self.old.entries self.new.entries }
         ensures succeeds { Ascends T.cmp self.old.entries → IsOk result }
         ensures kept { KeepsMemory self.old self.new }
     {
+        let _entries = self.map.iter_hashed();
         self.map.sort_keys()
     }
 }

@@ -1,10 +1,11 @@
 //! What a `SmallSet` has: elements by hash, by equality under their own hash, and by place.
-ghost use Rattle.std.specs.Prelude.{◌≡◌, ◌-◌, ◌<◌, ◌≤◌, ◌==◌, length, slice_get, is_some, IfSome, Some};
+ghost use Rattle.std.specs.Prelude.{◌≡◌, ◌-◌, ◌<◌, ◌≤◌, ◌==◌, length, slice_get, is_some, IfSome, IsTrue, Some};
 ghost use Rattle.std.specs.Option.{option_copied, option_map};
+ghost use Rattle.starlark_hash.specs.HashValue.{hash_of, key_of};
 ghost use Rattle.starlark_lists.specs.Entries.{entry_key};
 ghost use Rattle.starlark_small.specs.Map.{own_match, query_match, query_match_by_value};
 ghost use Rattle.starlark_sets.specs.Set.{element_at};
-ghost use Rattle.starlark_sets.specs.Calling.{contains};
+ghost use Rattle.starlark_sets.specs.Calling.{contains, found, found_key, get_key};
 
 use super::SmallSet;
 use starlark_hash::{Equivalent, Hashed};
@@ -16,7 +17,10 @@ impl<T: Eq> SmallSet<T> {
     /// The element under the query's own hash to which the query is equivalent.
     #[inline]
     pub fn get<Q: Equivalent<T> + Hash>(&self, value: &Q) -> Option<&T>
-        ensures { option_copied result ≡ element_at self.now (own_match Q.equivalent Q.hash_input self.now.entries value.now) }
+        ensures element { option_copied result ≡ element_at self.now (own_match Q.equivalent Q.hash_input self.now.entries value.now) }
+        ensures found { option_copied result ≡ get_key Q.equivalent Q.hash_input self.now value.now }
+        ensures is_there { is_some result ≡ contains Q.equivalent Q.hash_input self.now value.now }
+        ensures equivalent { IfSome result (λ element. IsTrue (Q.equivalent value.now element.now)) }
     {
         let (_, element, _) = self.map.get_full(value)?;
         Some(element)
@@ -25,7 +29,10 @@ impl<T: Eq> SmallSet<T> {
     /// The element under this hash to which the query is equivalent.
     #[inline]
     pub fn get_hashed<Q: Equivalent<T>>(&self, value: Hashed<&Q>) -> Option<&T>
-        ensures { option_copied result ≡ element_at self.now (query_match Q.equivalent self.now.entries value.entry) }
+        ensures element { option_copied result ≡ element_at self.now (query_match Q.equivalent self.now.entries value.entry) }
+        ensures found { option_copied result ≡ found_key (Q.equivalent (key_of value.entry).now) (hash_of value.entry) self.now.entries }
+        ensures is_there { is_some result ≡ is_some (found (Q.equivalent (key_of value.entry).now) (hash_of value.entry) self.now.entries) }
+        ensures equivalent { IfSome result (λ element. IsTrue (Q.equivalent (key_of value.entry).now element.now)) }
     {
         let (_, element, _) = self.map.get_full_hashed(value)?;
         Some(element)
@@ -72,9 +79,11 @@ impl<T: Eq> SmallSet<T> {
     }
 
     /// Whether there is an element under this hash to which the query is equivalent.
+    #[tactic(auto, using(crate::proofs::Callers::callers))]
     #[inline]
     pub fn contains_hashed<Q: Equivalent<T>>(&self, key: Hashed<&Q>) -> bool
-        ensures { result ≡ is_some (query_match Q.equivalent self.now.entries key.entry) }
+        ensures place { result ≡ is_some (query_match Q.equivalent self.now.entries key.entry) }
+        ensures found { result ≡ is_some (found (Q.equivalent (key_of key.entry).now) (hash_of key.entry) self.now.entries) }
     {
         self.map.contains_key_hashed(key)
     }

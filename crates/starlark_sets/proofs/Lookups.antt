@@ -1,0 +1,155 @@
+-- The stored keys that are found, how long a list is after a call, and what is found once an entry was taken out of its place or entries only changed places.
+use Rattle.std.proofs.Common.{◌≡◌, ℕ, zero, suc, ◌+◌, ◌<◌, Bool, Bor, true, false, cond, List, [], ◌∷◌, length, get_or, position, remove, Option, Some, None, Result, Ok, Err, OnOk, OnErr, IsPermutation, is_ok, is_some, slice_get, refl, subst, sym, ap, ◌∙◌, arith}
+use Rattle.std.specs.Prelude.{IfSome, if◌then◌else◌, reverse}
+use Rattle.std.specs.Cmp.{IsEquivalence}
+use Rattle.std.specs.Option.{IfNone, option_copied, option_map}
+use Rattle.std.specs.declared.cmp.Ordering.{Ordering}
+use Rattle.std.proofs.lemmas.Bool.{false≢true}
+use Rattle.std.proofs.lemmas.Option.{get_or_from_slice_get, same_Some, slice_get_within}
+use Rattle.std.proofs.lemmas.List.Sorted.{IsPermutation-reverse}
+use Rattle.starlark_hash.specs.declared.hashed.Hashed.{Hashed}
+use Rattle.starlark_hash.specs.declared.hash_value.StarlarkHashValue.{StarlarkHashValue}
+use Rattle.starlark_hash.specs.Hasher.{own_hash}
+use Rattle.starlark_hash.specs.HashValue.{hashed}
+use Rattle.starlark_lists.specs.Entries.{Entry, IsSingle, entry_at, entry_key, insert_entry, match_of, position_of, stands_under, without}
+use Rattle.starlark_lists.specs.Sorting.{key_lt, sorted_by_key}
+use Rattle.starlark_lists.proofs.EntryLemmas.{IsSingle-permutation}
+use Rattle.starlark_lists.proofs.PositionLemmas.{position-cons}
+use Rattle.starlark_lists.proofs.SortingLemmas.{IsPermutation-sorted_by}
+use Rattle.starlark_small.specs.EqualityLaws.{alike, alike-laws, value_at-lookup}
+use Rattle.starlark_small.specs.Map.{Map}
+use Rattle.starlark_small.proofs.CallerEntries.{length-insert_entry, length-without}
+use Rattle.starlark_small.proofs.CallerKeys.{same_key}
+use Rattle.starlark_small.proofs.CallerOrder.{lookup_permuted}
+use Rattle.starlark_small.proofs.SameEntries.{distinct}
+use Rattle.starlark_sets.specs.Calling.{AreOwn, found, found_key, Writes}
+use Rattle.starlark_sets.specs.Others.{FindsAlike, LacksNow}
+use Rattle.starlark_sets.proofs.Additions.{is_some-value_at}
+use Rattle.starlark_sets.proofs.Callers.{key_stands, writes-removed}
+
+module _ {K V : Type 0} (test : K → Bool) (hash : StarlarkHashValue) (es : List (Entry K V)) where
+  -- the stored key that is found: it is there where a value is, and passes
+  pub key_found : (o : Option K) → o ≡ option_map entry_key (entry_at es (position_of hash test es)) → o ≡ found_key test hash es
+  key_found o is = (key_stands test hash es o is).0
+
+  pub key_there : (o : Option K) → o ≡ option_map entry_key (entry_at es (position_of hash test es)) → is_some o ≡ is_some (found test hash es)
+  key_there o is = (key_stands test hash es o is).1
+
+  pub key_passes : (o : Option K) → o ≡ option_map entry_key (entry_at es (position_of hash test es)) → IfSome o (λ k. test k ≡ true)
+  key_passes o is = (key_stands test hash es o is).2
+
+  -- the same behind a reference
+  pub shown_there : (o : Option (Bor K)) → option_copied o ≡ option_map entry_key (entry_at es (position_of hash test es)) → is_some o ≡ is_some (found test hash es)
+  shown_there None is = key_there None is
+  shown_there (Some p) is = key_there (Some p.now) is
+
+  pub shown_passes : (o : Option (Bor K)) → option_copied o ≡ option_map entry_key (entry_at es (position_of hash test es)) → IfSome o (λ p. test p.now ≡ true)
+  shown_passes None is = tt
+  shown_passes (Some p) is = key_passes (Some p.now) is
+
+  -- a removal leaves one entry less, where there was one
+  pub length-removed : (new : List (Entry K V)) → new ≡ without es (position_of hash test es) → length new + (if is_some (found test hash es) then 1 else 0) ≡ length es
+  unfolding found
+  length-removed new is =
+      ap (λ b. length new + (if b then 1 else 0)) (is_some-value_at hash test es)
+      ∙ ap (λ l. length l + (if is_some (position_of hash test es) then 1 else 0)) is
+      ∙ length-without hash test es
+
+module _ {K V : Type 0} (eq : K → K → Bool) (old : List (Entry K V)) (key : Hashed K) (value : V) where
+  -- an insertion makes one entry more, where there was none
+  pub length-inserted : {A E : Type 0} (r : Result A E) (new : List (Entry K V)) → OnOk r (new ≡ insert_entry eq old key value)
+      → OnOk r (length new ≡ length old + (if is_some (found (eq key.key) key.hash old) then 0 else 1))
+  unfolding found
+  length-inserted (Ok a) new is =
+      ap length is ∙ length-insert_entry eq old key value
+      ∙ ap (λ b. length old + (if b then 0 else 1)) (sym (is_some-value_at key.hash (eq key.key) old))
+  length-inserted (Err e) new is = tt
+
+module _ {K V : Type 0} (eq : K → K → Bool) (laws : IsEquivalence eq) where
+  -- an entry stands at the first place that is like it
+  place-single : (es : List (Entry K V)) (i : ℕ) (e : Entry K V) → IsSingle eq es → slice_get es i ≡ Some e → match_of eq es e.0 ≡ Some i
+  place-single [] i e single at = absurd (omega (arith, slice_get_within [] i e at))
+  place-single (d ∷ es) zero e single at =
+      let is : d ≡ e = same_Some d e at in
+      position-cons (stands_under e.0.hash (eq e.0.key)) d es
+      ∙ ap (λ b. cond b (Some 0) (option_map suc (position (stands_under e.0.hash (eq e.0.key)) es))) (ap (λ (x : Entry K V). stands_under e.0.hash (eq e.0.key) x) is ∙ same_key eq laws e.0)
+  place-single (d ∷ es) (suc i) e single at =
+      let inside = slice_get_within es i e at in
+      let there : get_or es i d ≡ e = get_or_from_slice_get es i e d at in
+      let not : alike eq e.0 d.0 ≡ false = (alike-laws eq laws).symm e.0 d.0 ∙ ap (λ (x : Entry K V). alike eq d.0 x.0) (sym there) ∙ single 0 (suc i) d (omega arith) (omega (arith, inside)) in
+      position-cons (stands_under e.0.hash (eq e.0.key)) d es
+      ∙ ap (λ b. cond b (Some 0) (option_map suc (position (stands_under e.0.hash (eq e.0.key)) es))) not
+      ∙ ap (option_map suc) (place-single es i e (λ j k x below within. single (suc j) (suc k) x (omega (arith, below)) (omega (arith, within))) at)
+
+  -- the entry at a place was taken out
+  pub writes-taken : (old new : List (Entry K V)) (i : ℕ) (e : Entry K V) → IsSingle eq old → slice_get old i ≡ Some e → new ≡ remove old i
+      → Writes eq (eq e.0.key) e.0.hash old new None
+  writes-taken old new i e single at is =
+      writes-removed eq laws (eq e.0.key) (λ x y does. laws.congr e.0.key x y does) e.0.hash old new single
+      (is ∙ ap (without old) (sym (place-single old i e single at)))
+
+  an_entry : {Y : Type 0} (f : Entry K V → Y) (y : Y) (o : Option (Entry K V)) → Some y ≡ option_map f o → (e : Entry K V) × (o ≡ Some e) × (f e ≡ y)
+  an_entry f y None at = cc
+  an_entry f y (Some e) at = (e, refl, same_Some (f e) y (sym at))
+
+  -- the key at a place, with its hash or alone
+  pub writes-key : (old new : List (Entry K V)) (i : ℕ) (key : Hashed K) → IsSingle eq old → Some key ≡ option_map (λ e. e.0) (slice_get old i) → new ≡ remove old i
+      → Writes eq (eq key.key) key.hash old new None
+  writes-key old new i key single at is =
+      let e = an_entry (λ e. e.0) key (slice_get old i) at in
+      subst (λ (k : Hashed K). Writes eq (eq k.key) k.hash old new None) e.2 (writes-taken old new i e.0 single e.1 is)
+
+  pub lacks-key : (old new : Map K V) (i : ℕ) (key : K) → IsSingle eq old.entries → Some key ≡ option_map entry_key (slice_get old.entries i) → new.entries ≡ remove old.entries i → LacksNow eq old new key
+  unfolding AreOwn
+  lacks-key old new i key single at is =
+      let e = an_entry entry_key key (slice_get old.entries i) at in
+      let taken : Writes eq (eq key) e.0.0.hash old.entries new.entries None = subst (λ (k : K). Writes eq (eq k) e.0.0.hash old.entries new.entries None) e.2 (writes-taken old.entries new.entries i e.0 single e.1 is) in
+      record {
+        others = taken.1;
+        gone = λ feeds own.
+            let there : get_or old.entries i e.0 ≡ e.0 = get_or_from_slice_get old.entries i e.0 e.0 e.1 in
+            let hash : e.0.0.hash ≡ own_hash feeds key =
+            ap (λ (x : Entry K V). x.0.hash) (sym there) ∙ own i e.0 (slice_get_within old.entries i e.0 e.1) ∙ ap (λ (x : Entry K V). own_hash feeds (entry_key x)) there ∙ ap (own_hash feeds) e.2 in
+            subst (λ h. Writes eq (eq key) h old.entries new.entries None) hash taken;
+      }
+
+  -- entries changed their places
+  pub alike-permuted : (old new : List (Entry K V)) → IsSingle eq old → IsPermutation old new → FindsAlike eq old new
+  unfolding found
+  alike-permuted old new single moves under key =
+      let k : Hashed K = hashed under key in
+      value_at-lookup eq new k
+      ∙ lookup_permuted (alike-laws eq laws) old new moves (distinct eq new (IsSingle-permutation eq laws old new single moves)) k
+      ∙ sym (value_at-lookup eq old k)
+
+  pub alike-same : (old new : List (Entry K V)) → new ≡ old → FindsAlike eq old new
+  alike-same old new is under key = ap (found (eq key) under) is
+
+  pub alike-sorted : {A E : Type 0} (cmp : K → K → Ordering) (r : Result A E) (old new : List (Entry K V)) → IsSingle eq old → OnOk r (new ≡ sorted_by_key cmp old) → OnErr r (new ≡ old) → FindsAlike eq old new
+  alike-sorted cmp (Ok a) old new single put same = alike-permuted old new single (subst (IsPermutation old) (sym put) (IsPermutation-sorted_by (key_lt cmp) old))
+  alike-sorted cmp (Err e) old new single put same = alike-same old new same
+
+  pub alike-reversed : (old new : List (Entry K V)) → IsSingle eq old → new ≡ reverse old → FindsAlike eq old new
+  alike-reversed old new single put = alike-permuted old new single (subst (IsPermutation old) (sym put) (IsPermutation-reverse old))
+
+-- what holds where a map's answer is `Ok` holds where the set's is
+pub put_too : {A E B F X : Type 0} (r : Result A E) (s : Result B F) → is_ok s ≡ is_ok r → (new es : X) → OnOk r (new ≡ es) → OnOk s (new ≡ es)
+put_too (Ok a) (Ok b) same new es put = put
+put_too (Ok a) (Err f) same new es put = tt
+put_too (Err e) (Ok b) same new es put = absurd (false≢true (sym same))
+put_too (Err e) (Err f) same new es put = tt
+
+-- nothing is taken from where there is nothing
+beyond : {X : Type 0} (xs : List X) (i : ℕ) → slice_get xs i ≡ None → remove xs i ≡ xs
+beyond [] zero none = refl
+beyond [] (suc i) none = refl
+beyond (x ∷ xs) zero none = cc
+beyond (x ∷ xs) (suc i) none = ap (λ l. x ∷ l) (beyond xs i none)
+
+pub stays-beyond : {X Y : Type 0} (f : X → Y) (xs ys : List X) (i : ℕ) (o : Option Y) → o ≡ option_map f (slice_get xs i) → ys ≡ remove xs i → IfNone o (ys ≡ xs)
+stays-beyond f xs ys i None at is = is ∙ beyond xs i (nothing f (slice_get xs i) at)
+  where
+    nothing : {X Y : Type 0} (f : X → Y) (o : Option X) → None ≡ option_map f o → o ≡ None
+    nothing f None at = refl
+    nothing f (Some x) at = cc
+stays-beyond f xs ys i (Some y) at is = tt
