@@ -1,4 +1,5 @@
 pub mod Ascending
+pub mod Given
 pub mod InsertedInOrder
 pub mod OwnHashes
 pub mod Rising

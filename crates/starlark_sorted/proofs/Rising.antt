@@ -1,5 +1,5 @@
 -- What is in either of two lists that ascend, in ascending order: which element comes first, and what is left after it.
-use Rattle.std.proofs.Common.{◌≡◌, ℕ, zero, suc, ◌+◌, ◌-◌, ◌<◌, ◌≤◌, Bool, true, false, cond, not, List, [], ◌∷◌, ◌++◌, map, length, get_or, Option, Some, None, refl, sym, ap, subst, ◌∙◌, arith, true≢false}
+use Rattle.std.proofs.Common.{◌≡◌, suc, ◌+◌, ◌-◌, Bool, true, false, cond, not, List, [], ◌∷◌, ◌++◌, map, length, get_or, Some, refl, sym, ap, subst, ◌∙◌, arith, true≢false}
 use Rattle.std.specs.Prelude.{◌&&◌, filter, drop, All}
 use Rattle.std.specs.Borrow.{Bor}
 use Rattle.std.specs.Cmp.{IsEquivalence, IsTotalOrder}
@@ -23,10 +23,10 @@ use Rattle.starlark_sets.proofs.Unions.{IsSingle-difference, IsSingle-union}
 use Rattle.starlark_sorted.specs.Sorted.{AreOwn}
 use Rattle.starlark_sorted.specs.Union.{RiseSteps, SortedUnion, after, behind, comes_first, elements_under, is_others, is_passed, rise, rise_rest, shown}
 
-vacuous : {X : Type 0} (P : X → Type 0) → All P []
+pub vacuous : {X : Type 0} (P : X → Type 0) → All P []
 vacuous P k d inside = absurd (omega (arith, inside))
 
-is_true : (b : Bool) → (b ≡ false → ⊥) → b ≡ true
+pub is_true : (b : Bool) → (b ≡ false → ⊥) → b ≡ true
 is_true true never = refl
 is_true false never = absurd (never refl)
 
@@ -90,10 +90,10 @@ elements-keys [] = refl
 elements-keys (e ∷ es) = ap (λ l. e ∷ l) (elements-keys es)
 
 module _ {T : Type 0} {cmp : T → T → Ordering} (total : IsTotalOrder cmp) where
-  rest-above : (e : Entry T (Unit {0})) (es : Elements T) → Ascends cmp (e ∷ es) → All (λ w. key_lt cmp w e ≡ false) es
+  pub rest-above : (e : Entry T (Unit {0})) (es : Elements T) → Ascends cmp (e ∷ es) → All (λ w. key_lt cmp w e ≡ false) es
   rest-above e es up k d below = sorted_far (key_lt cmp) (key_lt-order total) (e ∷ es) up 0 (suc k) d (omega arith) (omega (arith, below))
 
-  before-all : (es : Elements T) (f : Entry T (Unit {0})) → Ascends cmp es → comes_first cmp es f ≡ true → All (λ w. key_lt cmp f w ≡ true) es
+  pub before-all : (es : Elements T) (f : Entry T (Unit {0})) → Ascends cmp es → comes_first cmp es f ≡ true → All (λ w. key_lt cmp f w ≡ true) es
   before-all [] f up first = vacuous (λ w. key_lt cmp f w ≡ true)
   before-all (e ∷ es) f up first =
       let order = key_lt-order total in

@@ -7,7 +7,7 @@ use Rattle.std.specs.Map.Iter.{deref}
 use Rattle.std.specs.declared.cmp.Ordering.{Ordering}
 use Rattle.starlark_hash.specs.declared.hashed.Hashed.{Hashed}
 use Rattle.starlark_lists.specs.Entries.{Entry, entry_key}
-use Rattle.starlark_lists.specs.Sorting.{key_lt, sorted_by_key}
+use Rattle.starlark_lists.specs.Sorting.{Ascends, key_lt, sorted_by_key}
 use Rattle.starlark_sets.specs.Difference.{difference, lacks}
 use Rattle.starlark_sets.specs.Set.{Elements}
 use Rattle.starlark_sets.specs.Union.{union}
@@ -33,6 +33,11 @@ module _ {T : Type 0} where
   ahead None hs = []
   ahead (Some h) hs = shown h ∷ elements_under hs
 
+  -- whether a list is what another has behind this element, or all of it where there is none
+  abbrev pub Follows : Option (Hashed (Bor T)) → Elements T → Elements T → Type 0
+  Follows None es there = there ≡ es
+  Follows (Some h) es there = (ds : Elements T) × (there ≡ ds ++ shown h ∷ es)
+
 -- the list from the first item on that does not pass
 abbrev pub behind : {X : Type 0} → (X → Bool) → List X → List X
 behind p [] = []
@@ -48,6 +53,10 @@ module _ {T : Type 0} (cmp : T → T → Ordering) where
   abbrev pub is_others : Elements T → Elements T → Bool
   is_others es [] = false
   is_others es (f ∷ fs) = comes_first es f
+
+  -- whether an element comes before all that a list that ascends has behind this element
+  abbrev pub ComesNext : Option (Hashed (Bor T)) → Elements T → Entry T (Unit {0}) → Type 0
+  ComesNext last there f = (es : Elements T) × Ascends cmp there × Follows last es there × (comes_first es f ≡ true)
 
 module _ {T : Type 0} (eq : T → T → Bool) (cmp : T → T → Ordering) where
   -- one list and what the other has that it lacks, ascending: of equal elements the first list's come first

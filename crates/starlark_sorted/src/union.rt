@@ -1,12 +1,13 @@
 //! The elements of either of two sets that ascend, in ascending order.
-ghost use Rattle.std.specs.Prelude.{◌≡◌, ◌+◌, ◌-◌, ◌^◌, ◌<◌, [], ◌∷◌, false, true, length, min, drop, IfSome, MatchOption};
+ghost use Rattle.std.specs.Prelude.{◌≡◌, ◌+◌, ◌-◌, ◌^◌, ◌<◌, [], ◌∷◌, false, true, not, length, min, drop, IfSome, MatchOption};
 ghost use Rattle.std.specs.Iterator.{UpTo, at_most};
 ghost use Rattle.std.specs.Iterator.SizeHint.{IsWithinCount};
 ghost use Rattle.std.specs.Map.Iter.{TakesFirst};
 ghost use Rattle.starlark_lists.specs.Entries.{IsSingle};
 ghost use Rattle.starlark_lists.specs.Sorting.{Ascends};
+ghost use Rattle.starlark_sets.specs.Difference.{lacks};
 ghost use Rattle.starlark_sets.specs.Union.{fits_in};
-ghost use Rattle.starlark_sorted.specs.Union.{RiseSteps, behind, comes_first, elements_under, is_others, is_passed, rise_rest, shown};
+ghost use Rattle.starlark_sorted.specs.Union.{ComesNext, Follows, RiseSteps, behind, comes_first, elements_under, is_others, is_passed, rise_rest, shown};
 
 use starlark_hash::Hashed;
 use starlark_sets::{IterHashed, OrderedSet};
@@ -19,6 +20,8 @@ use std::marker::Model;
 pub struct SortedUnion<'a, T: Ord> {
     left: Ahead<'a, T>,
     right: Ahead<'a, T>,
+    // the element of the first set that was given last
+    last: Option<Hashed<&'a T>>,
     there: &'a OrderedSet<T>,
 }
 
@@ -26,13 +29,13 @@ impl<'a, T: Ord> Model for SortedUnion<'a, T> {
     ghost use Rattle.std.specs.Prelude.{};
     ghost use Rattle.starlark_lists.specs.Entries.{IsSingle};
     ghost use Rattle.starlark_lists.specs.Sorting.{Ascends};
-    ghost use Rattle.starlark_sorted.specs.Union.{SortedUnion as Both};
+    ghost use Rattle.starlark_sorted.specs.Union.{SortedUnion as Both, Follows};
 
     ghost Value = { Both T };
 
     ghost view = { λ u. record { left = u.left; right = u.right; there = u.there.now.entries } };
 
-    ghost invariant = { λ u. Ascends T.cmp u.left × Ascends T.cmp u.right × IsSingle T.eq u.right };
+    ghost invariant = { λ u. Ascends T.cmp u.left × Ascends T.cmp u.right × IsSingle T.eq u.right × Ascends T.cmp u.there.now.entries × Follows u.last u.left u.there.now.entries };
 }
 
 impl<'a, T: Ord> SortedUnion<'a, T> {
@@ -44,12 +47,14 @@ impl<'a, T: Ord> SortedUnion<'a, T> {
         requires left { Ascends T.cmp (elements_under left) }
         requires right { Ascends T.cmp (elements_under right) }
         requires single { IsSingle T.eq (elements_under right) }
+        requires all { there.now.entries ≡ elements_under left }
         requires fits { (length left < 2 ^ 64) × (length right < 2 ^ 64) }
         ensures { result ≡ record { left = elements_under left.entry; right = elements_under right.entry; there = there.now.entries } }
     {
         SortedUnion {
             left: Ahead::new(left),
             right: Ahead::new(right),
+            last: None,
             there,
         }
     }
@@ -63,10 +68,11 @@ impl<'a, T: Ord> Iterator for SortedUnion<'a, T> {
     ghost remaining = { λ u. at_most (length (rise_rest T.eq T.cmp u)) };
 
     fn next(&mut self) -> Option<&'a T> {
-        if let Some(element) = next_before(&mut self.right, &self.left, self.there) {
+        if let Some(element) = next_before(&mut self.right, &self.left, self.last, self.there) {
             return Some(element.into_key());
         }
         let element = self.left.take()?;
+        self.last = Some(element);
         Some(element.into_key())
     }
 
@@ -90,8 +96,11 @@ impl<'a, T: Ord> Iterator for SortedUnion<'a, T> {
 fn next_before<'a, T: Ord>(
     right: &mut Ahead<'a, T>,
     left: &Ahead<'a, T>,
+    last: Option<Hashed<&'a T>>,
     there: &OrderedSet<T>,
 ) -> Option<Hashed<&'a T>>
+    requires ascends { Ascends T.cmp there.now.entries }
+    requires follows { Follows last left.now there.now.entries }
     ensures steps { MatchOption result ((right.new ≡ behind (is_passed T.eq T.cmp left.now there.now.entries) right.old) × (is_others T.cmp left.now right.new ≡ false)) (λ f. (behind (is_passed T.eq T.cmp left.now there.now.entries) right.old ≡ shown f ∷ right.new) × (comes_first T.cmp left.now (shown f) ≡ true)) }
 {
     while let Some(element) = right.first() {
@@ -99,11 +108,26 @@ fn next_before<'a, T: Ord>(
             return None;
         }
         right.take();
-        if !there.contains_hashed(element) {
+        if !is_given(element, last, there) {
             return Some(element);
         }
     }
     None
+}
+
+// Whether a set has an element that comes before all that is left of it. Only one that is not less than the last that was
+// given can be there.
+fn is_given<T: Ord>(element: Hashed<&T>, last: Option<Hashed<&T>>, there: &OrderedSet<T>) -> bool
+    requires { ComesNext T.cmp last there.now.entries (shown element) }
+    ensures { result ≡ not (lacks T.eq there.now.entries (shown element.entry)) }
+{
+    match last {
+        None => false,
+        Some(last) => match last.key().cmp(element.key()) {
+            Ordering::Less => false,
+            _ => there.contains_hashed(element),
+        },
+    }
 }
 
 // Whether an element comes before all that is left of a list that ascends.

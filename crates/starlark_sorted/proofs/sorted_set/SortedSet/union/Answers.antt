@@ -18,6 +18,9 @@ new-requires-clause-right g c = subst (Ascends g.T.Ord.cmp) (sym (elements-of c.
 pub new-requires-clause-single : goal.new-requires-clause-single
 new-requires-clause-single g c = subst (IsSingle g.T.PartialEq.eq) (sym (elements-of c.other.inside.inner.entries _ c.iter_hashed-2.ensures.elements)) c.iter_hashed-2.ensures.single
 
+pub new-requires-clause-all : goal.new-requires-clause-all
+new-requires-clause-all g c = sym (elements-of c.self.inside.inner.entries _ c.iter_hashed.ensures.elements)
+
 pub returns-clause-left : goal.returns-clause-left
 returns-clause-left g c =
     let es = c.self.inside.inner.entries in

@@ -2,6 +2,7 @@ use Rattle.std.proofs.Common.{◌∷◌, length, ap, refl, sym, subst, ◌∙◌
 use Rattle.starlark_lists.specs.Sorting.{Ascends}
 use Rattle.starlark_sets.proofs.Differences.{IsSingle-tail}
 use Rattle.starlark_sorted.specs.Union.{is_passed, rise_rest, shown}
+use Rattle.starlark_sorted.proofs.Given.{Follows-taken}
 use Rattle.starlark_sorted.proofs.Rising.{Ascends-behind, Ascends-tail, IsSingle-behind, step-none, step-other, step-own}
 use Rattle.starlark_sorted.proofs.union.SortedUnionIterator.next.Goals as goal
 
@@ -14,6 +15,8 @@ invariant_of-self g c =
       c.self.invariant.0,
       Ascends-tail cmp f c.next_before.new.right (Ascends-behind cmp p s.right _ is c.self.invariant.1),
       IsSingle-tail eq _ f c.next_before.new.right is (IsSingle-behind eq p s.right _ refl c.self.invariant.2),
+      c.self.invariant.3,
+      c.self.invariant.4,
     )
 
 pub returns-in-Some-clause-steps : goal.returns-in-Some-clause-steps
@@ -51,6 +54,8 @@ invariant_of-self-2 g c =
       Ascends-tail cmp e c.take.new.self (subst (Ascends cmp) c.in_ok-element.ensures c.self.invariant.0),
       Ascends-behind cmp p s.right _ is c.self.invariant.1,
       IsSingle-behind eq p s.right _ is c.self.invariant.2,
+      c.self.invariant.3,
+      Follows-taken s.last c.in_ok-element.element c.take.new.self s.left s.there.now.entries c.in_ok-element.ensures c.self.invariant.4,
     )
 
 pub returns-clause-steps : goal.returns-clause-steps
