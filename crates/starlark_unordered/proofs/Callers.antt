@@ -5,10 +5,10 @@ use Rattle.std.specs.List.{Contains}
 use Rattle.std.specs.Map.{keys_of, lookup, set_value, IsKeyTest}
 use Rattle.std.specs.Borrow.{MutBor}
 use Rattle.std.specs.Option.{option_copied_mut, option_map, OnSome, IsSome}
-use Rattle.std.specs.Prelude.{IsPermutation, if◌then◌else◌, IfSome, IfNone}
+use Rattle.std.specs.Prelude.{IsPermutation, length, if◌then◌else◌, IfSome, IfNone}
 use Rattle.std.proofs.lemmas.Bool.{false≢true}
-use Rattle.std.proofs.lemmas.List.Sorted.{Contains-permutation, IsPermutation-sym, sum_by-IsPermutation}
-use Rattle.std.proofs.lemmas.Map.{lookup-set_value}
+use Rattle.std.proofs.lemmas.List.Sorted.{Contains-permutation, IsPermutation-sym, length_permutation, sum_by-IsPermutation}
+use Rattle.std.proofs.lemmas.Map.{length-set_value, lookup-set_value}
 use Rattle.std.proofs.lemmas.Option.{none-some, same_Some}
 use Rattle.starlark_table.specs.Table.{Table, item_in}
 use Rattle.starlark_unordered.specs.Pairs.{pairs_of, with_pair, with_value, HasDistinctKeys, IsPairAt, IsWithout, IsWritten}
@@ -138,6 +138,10 @@ pub found_is : {K V : Type 0} (test : K → Bool) (ps : List (K × V)) (o : Opti
 unfolding found
 found_is test ps o is = is
 
+pub not_there : {K V : Type 0} (test : K → Bool) (ps : List (K × V)) → lookup test ps ≡ None → IsSome (found test ps) → ⊥
+unfolding found
+not_there test ps lacks there = false≢true (subst (λ o. IsSome o) lacks there)
+
 -- a set without elements
 pub nothing_found : {K V : Type 0} (ps : List (K × V)) → keys_of ps ≡ [] → (test : K → Bool) → found test ps ≡ None
 unfolding found
@@ -188,5 +192,40 @@ module _ {K V : Type 0} (eq : K → K → Bool) (laws : IsEquivalence eq) where
   updates-new old new key value lacks moves distinct =
       let same : with_pair eq key value (pairs_of old) ≡ (key, value) ∷ pairs_of old = ap (λ o. if is_some o then set_value (eq key) (pairs_of old) value else (key, value) ∷ pairs_of old) lacks in
       updates-inserted eq laws old new key value (subst (λ l. IsPermutation l (pairs_of new)) (sym same) moves) distinct
+
+module _ {K V : Type 0} (t : K → Bool) where
+  -- a value in the place of another adds none
+  pub length-slot : (m : Table (K × V)) (slot : ℕ) → IsPairAt t m slot → (w : V) → length (pairs_of (with_value m slot w)) ≡ length (pairs_of m) + cond (is_some (found t (pairs_of m))) 0 1
+  unfolding found
+  length-slot m slot at w =
+      let same = ap length (at.writes w) ∙ length-set_value t (pairs_of m) w in
+      let none : cond {A = ℕ} (is_some (lookup t (pairs_of m))) 0 1 ≡ 0 = ap (λ o. cond {A = ℕ} (is_some o) 0 1) at.found in
+      omega (arith, same, none)
+
+  -- a removal takes one out where the key was there
+  pub length-taken : (old new : Table (K × V)) (slot : ℕ) (p : K × V) → IsPairAt t old slot → IsPermutation (pairs_of old) (p ∷ pairs_of new) → length (pairs_of old) ≡ length (pairs_of new) + cond (is_some (found t (pairs_of old))) 1 0
+  unfolding found
+  length-taken old new slot p at moves =
+      let less = length_permutation (pairs_of old) (p ∷ pairs_of new) moves in
+      let one : cond {A = ℕ} (is_some (lookup t (pairs_of old))) 1 0 ≡ 1 = ap (λ o. cond {A = ℕ} (is_some o) 1 0) at.found in
+      omega (arith, less, one)
+
+  -- a new pair is one more
+  pub length-new : (old new : Table (K × V)) (p : K × V) → lookup t (pairs_of old) ≡ None → IsPermutation (p ∷ pairs_of old) (pairs_of new) → length (pairs_of new) ≡ length (pairs_of old) + cond (is_some (found t (pairs_of old))) 0 1
+  unfolding found
+  length-new old new p lacks moves =
+      let more = length_permutation (p ∷ pairs_of old) (pairs_of new) moves in
+      let one : cond {A = ℕ} (is_some (lookup t (pairs_of old))) 0 1 ≡ 1 = ap (λ o. cond {A = ℕ} (is_some o) 0 1) lacks in
+      omega (arith, more, one)
+
+  pub length-lacks : (m : Table (K × V)) → lookup t (pairs_of m) ≡ None → length (pairs_of m) ≡ length (pairs_of m) + cond (is_some (found t (pairs_of m))) 1 0
+  unfolding found
+  length-lacks m lacks =
+      let none : cond {A = ℕ} (is_some (lookup t (pairs_of m))) 1 0 ≡ 0 = ap (λ o. cond {A = ℕ} (is_some o) 1 0) lacks in
+      omega (arith, none)
+
+-- a pair more is one more
+pub length-more : {K V : Type 0} (old new : Table (K × V)) (p : K × V) → IsPermutation (p ∷ pairs_of old) (pairs_of new) → length (pairs_of new) ≡ length (pairs_of old) + 1
+length-more old new p moves = let more = length_permutation (p ∷ pairs_of old) (pairs_of new) moves in omega (arith, more)
 
 pub ruleset callers = (updates-inserted, writes-removed, nothing_found, found_is)

@@ -1,5 +1,6 @@
 //! The map. It alone sees its table.
 ghost use Rattle.std.specs.Prelude.{◌≡◌, ◌≤◌, ◌==◌, [], length, IfOk, IsOk};
+ghost use Rattle.starlark_unordered.specs.Calling.{IsEmpty};
 ghost use Rattle.starlark_unordered.specs.Pairs.{pairs_of, HasDistinctKeys};
 
 mod collect;
@@ -40,7 +41,9 @@ impl<K: Eq + Hash, V> UnorderedMap<K, V> {
     ghost use Rattle.starlark_unordered.specs.Lending.{lends_at, lends_value};
 
     /// An empty map, which asks for no memory before the first insertion.
+    #[tactic(auto, using(crate::proofs::Callers::callers), unfolding(crate::specs::Calling::found))]
     pub fn new(alloc: Global) -> Self
+        ensures found { IsEmpty result }
         ensures empty { pairs_of result ≡ [] }
         ensures room { result.room ≡ 0 }
     {
@@ -51,7 +54,9 @@ impl<K: Eq + Hash, V> UnorderedMap<K, V> {
     }
 
     /// An empty map with room for so many pairs at least.
+    #[tactic(auto, using(crate::proofs::Callers::callers), unfolding(crate::specs::Calling::found))]
     pub fn with_capacity(alloc: Global, capacity: usize) -> Result<Self, AllocError>
+        ensures found { IfOk result (λ m. IsEmpty m) }
         ensures empty { IfOk result (λ m. pairs_of m ≡ []) }
         ensures room { IfOk result (λ m. capacity ≤ m.room) }
         ensures none_for_none { capacity ≡ 0 → IsOk result }

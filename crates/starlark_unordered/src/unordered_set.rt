@@ -1,9 +1,10 @@
 //! The set: an `UnorderedMap` to `()`.
-ghost use Rattle.std.specs.Prelude.{◌≡◌, ◌≤◌, ◌==◌, ◌+◌, [], length, map, not, None, IfOk, IfErr, IsOk, OnOk, OnErr, IsPermutation, IsSortedByKey};
+ghost use Rattle.std.specs.Prelude.{◌≡◌, ◌≤◌, ◌==◌, ◌+◌, [], length, if◌then◌else◌, map, not, false, None, Some, IfOk, IfErr, IsOk, OnOk, OnErr, IsPermutation, IsSortedByKey};
 ghost use Rattle.std.specs.Map.{lookup};
 ghost use Rattle.std.specs.Map.Iter.{deref};
 ghost use Rattle.starlark_hash.specs.HashValue.{hash_of, key_of};
 ghost use Rattle.starlark_table.specs.Table.{table_len};
+ghost use Rattle.starlark_unordered.specs.Calling.{IsEmpty, Updates, contains};
 ghost use Rattle.starlark_unordered.specs.Clone.{IsEqualClone, IsLawfulClone};
 ghost use Rattle.starlark_unordered.specs.Pairs.{pairs_of, with_pair, under_own, HasDistinctKeys, KeepsRoom};
 
@@ -40,6 +41,7 @@ impl<T: Eq + Hash> UnorderedSet<T> {
 
     /// An empty set, which asks for no memory before the first insertion.
     pub fn new(alloc: Global) -> Self
+        ensures found { IsEmpty result }
         ensures empty { elements_of result ≡ [] }
         ensures room { result.room ≡ 0 }
     {
@@ -51,6 +53,7 @@ impl<T: Eq + Hash> UnorderedSet<T> {
 
     /// An empty set with room for so many elements at least.
     pub fn with_capacity(alloc: Global, capacity: usize) -> Result<Self, AllocError>
+        ensures found { IfOk result (λ s. IsEmpty s) }
         ensures empty { IfOk result (λ s. elements_of s ≡ []) }
         ensures room { IfOk result (λ s. capacity ≤ s.room) }
         ensures none_for_none { capacity ≡ 0 → IsOk result }
@@ -66,6 +69,10 @@ impl<T: Eq + Hash> UnorderedSet<T> {
     pub fn insert(&mut self, element: T) -> Result<bool, NoRoom<T>>
     where
         T: Drop,
+        ensures was { IfOk result (λ is_new. is_new ≡ not (contains T.eq self.old element)) }
+        ensures updates { OnOk result (Updates T.eq self.old self.new element (Some tt)) }
+        ensures length { OnOk result (length (pairs_of self.new) ≡ length (pairs_of self.old) + (if contains T.eq self.old element then 0 else 1)) }
+        ensures lacks { OnErr result (contains T.eq self.old element ≡ false) }
         ensures is_new { IfOk result (λ is_new. is_new ≡ not (has (T.eq element) self.old)) }
         ensures elements { OnOk result (IsPermutation (with_pair T.eq element tt (pairs_of self.old)) (pairs_of self.new)) }
         ensures room { KeepsRoom self.old self.new }
@@ -85,6 +92,7 @@ impl<T: Eq + Hash> UnorderedSet<T> {
     pub fn clear(&mut self)
     where
         T: Drop,
+        ensures found { IsEmpty self.new }
         ensures empty { elements_of self.new ≡ [] }
         ensures room { self.new.room ≡ table_len self.old + self.old.room }
     {
@@ -111,7 +119,8 @@ impl<T: Eq + Hash> UnorderedSet<T> {
     /// Whether the set has the element.
     #[inline]
     pub fn contains<Q: KeyQuery<T>>(&self, query: &Q) -> bool
-        ensures { result ≡ has (Q.equivalent query.now) self.now }
+        ensures found { result ≡ contains Q.equivalent self.now query.now }
+        ensures has { result ≡ has (Q.equivalent query.now) self.now }
     {
         self.map.contains_key(query)
     }
@@ -143,12 +152,13 @@ impl<T: Eq + Hash> UnorderedSet<T> {
 
 impl<T: Eq + Hash + Clone> UnorderedSet<T> {
     /// A set of clones of the elements, with as much room. Where memory is refused, also to the clone of an element,
-    /// nothing is made.
+    /// nothing is made. An empty set without room needs none.
     pub fn clone(&self) -> Result<Self, AllocError>
         // A clone of an element is equal to it.
         requires { IsEqualClone T.eq T.is_clone }
         ensures same { IfOk result (λ s. IsLawfulClone T.is_clone → pairs_of s ≡ pairs_of self.now) }
         ensures room { IfOk result (λ s. s.room ≡ self.now.room) }
+        ensures none_for_none { pairs_of self.now ≡ [] → self.now.room ≡ 0 → IsOk result }
     {
         Ok(UnorderedSet {
             map: self.map.clone()?,

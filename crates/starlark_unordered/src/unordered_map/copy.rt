@@ -1,5 +1,5 @@
 //! `UnorderedMap`s made of clones.
-ghost use Rattle.std.specs.Prelude.{◌≡◌, IfOk};
+ghost use Rattle.std.specs.Prelude.{◌≡◌, [], IfOk, IsOk};
 ghost use Rattle.std.specs.List.{AllZip};
 ghost use Rattle.starlark_unordered.specs.Clone.{IsEqualClone, IsLawfulClone, IsPairClone};
 ghost use Rattle.starlark_unordered.specs.Pairs.{pairs_of};
@@ -10,14 +10,18 @@ use std::hash::Hash;
 
 impl<K: Eq + Hash + Clone, V: Clone> UnorderedMap<K, V> {
     /// A map of clones of the pairs, with as much room. Where memory is refused, also to the clone of a key or a value,
-    /// nothing is made.
+    /// nothing is made. An empty map without room needs none.
     pub fn clone(&self) -> Result<Self, AllocError>
         // A clone of a key is equal to it.
         requires { IsEqualClone K.eq K.is_clone }
         ensures pairs { IfOk result (λ map. AllZip (IsPairClone K.is_clone V.is_clone) (pairs_of self.now) (pairs_of map)) }
         ensures same { IfOk result (λ map. IsLawfulClone K.is_clone → IsLawfulClone V.is_clone → pairs_of map ≡ pairs_of self.now) }
         ensures room { IfOk result (λ map. map.room ≡ self.now.room) }
+        ensures none_for_none { pairs_of self.now ≡ [] → self.now.room ≡ 0 → IsOk result }
     {
+        if self.len() == 0 && self.room() == 0 {
+            return Ok(UnorderedMap::new(self.alloc));
+        }
         Ok(UnorderedMap {
             table: self.table.clone()?,
             alloc: self.alloc,

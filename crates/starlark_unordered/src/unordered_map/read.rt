@@ -54,9 +54,9 @@ impl<K: Eq + Hash, V> UnorderedMap<K, V> {
 impl<K: Eq + Hash, V, Q: KeyQuery<K>> Index<&Q> for UnorderedMap<K, V> {
     type Output = V;
 
-    ghost can_index = { λ m query. IsSome (lookup (Q.equivalent query.now) (pairs_of m)) };
+    ghost can_index = { λ m query. IsSome (get Q.equivalent m query.now) };
 
-    ghost index_gives = { λ m query value. lookup (Q.equivalent query.now) (pairs_of m) ≡ Some value };
+    ghost index_gives = { λ m query value. get Q.equivalent m query.now ≡ Some value };
 
     /// The value at the key, which is to be there.
     #[inline]

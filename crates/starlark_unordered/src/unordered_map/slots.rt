@@ -6,7 +6,7 @@ ghost use Rattle.std.specs.Map.{lookup};
 ghost use Rattle.std.specs.Option.{is_some, option_copied, option_map};
 ghost use Rattle.starlark_lists.specs.Search.{CanSearch, Searches};
 ghost use Rattle.starlark_table.specs.Table.{item_in, table_len};
-ghost use Rattle.starlark_unordered.specs.Pairs.{pairs_of, keys_under, under_own, IsSlotOf, KeepsRoom};
+ghost use Rattle.starlark_unordered.specs.Pairs.{pairs_of, keys_under, under_own, HasDistinctKeys, IsSlotOf, KeepsRoom};
 ghost use Rattle.starlark_unordered.specs.Sound.{home_of};
 
 use super::UnorderedMap;
@@ -109,6 +109,7 @@ impl<K: Eq + Hash, V> UnorderedMap<K, V> {
         requires absent { lookup (K.eq key) (pairs_of self.old) ≡ None }
         ensures placed { IfOk result (λ slot. item_in self.new slot ≡ Some (key, value)) }
         ensures pairs { OnOk result (IsPermutation ((key, value) ∷ pairs_of self.old) (pairs_of self.new)) }
+        ensures distinct { HasDistinctKeys K.eq (pairs_of self.new) }
         ensures room { KeepsRoom self.old self.new }
 
         ensures full { OnErr result (self.old.room ≡ 0) }
@@ -148,6 +149,7 @@ impl<K: Eq + Hash, V> UnorderedMap<K, V> {
         requires { is_some (item_in self.old slot) ≡ true }
         ensures pair { item_in self.old slot ≡ Some result }
         ensures rest { IsPermutation (pairs_of self.old) (result ∷ pairs_of self.new) }
+        ensures distinct { HasDistinctKeys K.eq (pairs_of self.old) }
         ensures room { table_len self.new + self.new.room ≡ table_len self.old + self.old.room }
     {
         match self.table.remove(slot) {

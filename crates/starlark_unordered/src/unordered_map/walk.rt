@@ -1,5 +1,5 @@
 //! The walks of an `UnorderedMap`, in an order that nothing promises.
-ghost use Rattle.std.specs.Prelude.{◌≡◌, ◌^◌, ◌<◌, List, length, map, IfOk, IfErr, OnOk, IsPermutation, IsSortedByKey};
+ghost use Rattle.std.specs.Prelude.{◌≡◌, ◌^◌, ◌<◌, List, [], length, map, IsOk, IfOk, IfErr, OnOk, IsPermutation, IsSortedByKey};
 ghost use Rattle.std.specs.Map.{keys_of, values_of};
 ghost use Rattle.std.specs.Map.Iter.{ShowsInOrder, deref, deref_pair};
 ghost use Rattle.starlark_unordered.specs.Pairs.{pairs_of, HasDistinctKeys};
@@ -79,7 +79,7 @@ impl<K: Eq + Hash, V> UnorderedMap<K, V> {
     }
 
     /// The map with what `f` gives in the place of each value. All its memory is asked for before the first call; refused,
-    /// nothing was called, and the map comes back. `f` is called once on each value, along the walk.
+    /// nothing was called, and the map comes back; an empty map is not refused. `f` is called once on each value, along the walk.
     pub fn map_values<W, F: FnMut(V) -> W>(
         self,
         f: F,
@@ -91,6 +91,7 @@ impl<K: Eq + Hash, V> UnorderedMap<K, V> {
         requires { CanMapValues F.FnMut (pairs_of self) f }
         ensures mapped { IfOk result (λ m. (last : F) × (mapped : List (K × W)) × MapsValues F.FnMut f (pairs_of self) mapped last × IsPermutation mapped (pairs_of m)) }
         ensures handed_back { IfErr result (λ m. m ≡ self) }
+        ensures none_for_none { pairs_of self ≡ [] → IsOk result }
     {
         let UnorderedMap { table, alloc } = self;
         let Ok(mut mapped) = ReadyTable::with_capacity(alloc, table.len()) else {

@@ -1,11 +1,11 @@
 //! Calls that write an `UnorderedMap`.
-ghost use Rattle.std.specs.Prelude.{◌≡◌, ◌+◌, [], List, None, Some, IfOk, IfErr, OnOk, OnErr, IfSome, IfNone, IsPermutation};
+ghost use Rattle.std.specs.Prelude.{◌≡◌, ◌+◌, [], List, length, if◌then◌else◌, None, Some, IfOk, IfErr, OnOk, OnErr, IfSome, IfNone, IsPermutation};
 ghost use Rattle.std.specs.Borrow.{sem};
 ghost use Rattle.std.specs.List.Retain.{RetainsInTurn};
 ghost use Rattle.std.specs.Map.{lookup};
 ghost use Rattle.std.specs.Option.{option_copied_mut};
 ghost use Rattle.starlark_table.specs.Table.{table_len};
-ghost use Rattle.starlark_unordered.specs.Calling.{Updates, Writes, get};
+ghost use Rattle.starlark_unordered.specs.Calling.{IsEmpty, Updates, Writes, contains, get};
 ghost use Rattle.starlark_unordered.specs.Pairs.{pairs_of, with_pair, IsWithout, KeepsRoom};
 ghost use Rattle.starlark_unordered.specs.Walk.{CanAskPairs, AsksPair, TakesPair};
 
@@ -21,6 +21,7 @@ impl<K: Eq + Hash, V> UnorderedMap<K, V> {
     #[inline]
     pub fn get_mut<Q: KeyQuery<K>>(&mut self, query: &Q) -> Option<&mut V>
         ensures* writes_back { sem 𝓛 (lends_at K.row V.row K.Hash self.entry (Q.equivalent query.now) result) }
+        ensures found { option_copied_mut result ≡ get Q.equivalent self.old query.now }
         ensures value { option_copied_mut result ≡ lookup (Q.equivalent query.now) (pairs_of self.old) }
     {
         match self.slot_under(StarlarkHashValue::new(query).promote(), query) {
@@ -38,6 +39,7 @@ impl<K: Eq + Hash, V> UnorderedMap<K, V> {
         K: Drop,
         ensures was { IfOk result (λ old. old ≡ get K.eq self.old key) }
         ensures updates { OnOk result (Updates K.eq self.old self.new key (Some value)) }
+        ensures length { OnOk result (length (pairs_of self.new) ≡ length (pairs_of self.old) + (if contains K.eq self.old key then 0 else 1)) }
         ensures lacks { OnErr result (get K.eq self.old key ≡ None) }
         ensures old { IfOk result (λ old. old ≡ lookup (K.eq key) (pairs_of self.old)) }
         ensures pairs { OnOk result (IsPermutation (with_pair K.eq key value (pairs_of self.old)) (pairs_of self.new)) }
@@ -52,11 +54,7 @@ impl<K: Eq + Hash, V> UnorderedMap<K, V> {
         match self.slot_under(hash, &key) {
             Some(slot) => Ok(Some(mem::replace(self.value_at_mut(slot), value))),
             None => match self.insert_new(hash, key, value) {
-                Ok(_) => {
-                    // Its clauses say that no two keys are equal.
-                    let _len = self.len();
-                    Ok(None)
-                }
+                Ok(_) => Ok(None),
                 Err(refused) => Err(refused),
             },
         }
@@ -69,13 +67,12 @@ impl<K: Eq + Hash, V> UnorderedMap<K, V> {
         K: Drop,
         ensures was { result ≡ get Q.equivalent self.old query.now }
         ensures updates { Writes K.eq (Q.equivalent query.now) self.old self.new None }
+        ensures length { length (pairs_of self.old) ≡ length (pairs_of self.new) + (if contains Q.equivalent self.old query.now then 1 else 0) }
         ensures value { result ≡ lookup (Q.equivalent query.now) (pairs_of self.old) }
         ensures rest { IfSome result (λ value. IsWithout (Q.equivalent query.now) value (pairs_of self.old) (pairs_of self.new)) }
         ensures none { IfNone result (self.new ≡ self.old) }
         ensures room { table_len self.new + self.new.room ≡ table_len self.old + self.old.room }
     {
-        // Its clauses say that no two keys are equal.
-        let _len = self.len();
         match self.slot_under(StarlarkHashValue::new(query).promote(), query) {
             Some(slot) => {
                 let (_key, value) = self.take_out(slot);
@@ -86,10 +83,12 @@ impl<K: Eq + Hash, V> UnorderedMap<K, V> {
     }
 
     /// Takes every pair out. The room comes back.
+    #[tactic(auto, using(crate::proofs::Callers::callers), unfolding(crate::specs::Calling::found))]
     pub fn clear(&mut self)
     where
         K: Drop,
         V: Drop,
+        ensures found { IsEmpty self.new }
         ensures empty { pairs_of self.new ≡ [] }
         ensures room { self.new.room ≡ table_len self.old + self.old.room }
     {

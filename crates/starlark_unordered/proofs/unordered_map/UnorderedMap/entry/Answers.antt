@@ -1,0 +1,12 @@
+use Rattle.std.proofs.Common.{refl}
+use Rattle.starlark_unordered.proofs.Callers.{value-slot, writes-slot}
+use Rattle.starlark_unordered.proofs.unordered_map.UnorderedMap.entry.Goals as goal
+
+pub returns-in-Some-clause-place : goal.returns-in-Some-clause-place
+returns-in-Some-clause-place g c =
+    let eq = g.K.PartialEq.eq in
+    let m = c.args.self.now in (
+      refl,
+      value-slot eq g.met.K.Eq.laws (eq c.args.key) (λ x y. g.met.K.Eq.laws.congr c.args.key x y) m m c.in-Some.slot refl c.in-Some.ensures,
+      writes-slot eq g.met.K.Eq.laws (eq c.args.key) (λ x y. g.met.K.Eq.laws.congr c.args.key x y) m m c.in-Some.slot refl c.in-Some.ensures,
+    )
