@@ -29,7 +29,7 @@ module _ {K V : Type 0} (t : K → Bool) where
       let rest = later none in
       omega (arith, c, no, rest)
 
-  none_counted : (ps : List (K × V)) → lookup t ps ≡ None → count_by passes ps ≡ 0
+  pub none_counted : (ps : List (K × V)) → lookup t ps ≡ None → count_by passes ps ≡ 0
   none_counted [] none = refl
   none_counted (p ∷ ps) none = none_counted_step p ps (t p.0) refl (none_counted ps) none
 

@@ -1,10 +1,16 @@
 -- Maps of an iterator's items.
-use Rattle.std.specs.Prelude.{◌≡◌, ◌≤◌, ◌+◌, ℕ, Bool, List, [], ◌∷◌, Option, IsPermutation}
+use Rattle.std.specs.Prelude.{◌≡◌, ◌≤◌, ◌+◌, ℕ, Bool, List, [], ◌∷◌, Option, Some, None, if◌then◌else◌, IsPermutation}
 use Rattle.std.specs.Iterator.{Count, Drains}
 use Rattle.std.specs.Iterator.SizeHint.{IsWithinCount}
-use Rattle.std.specs.Option.{option_map}
+use Rattle.std.specs.Option.{option_map, option_or}
 use Rattle.starlark_table.specs.Table.{Table, table_len}
+use Rattle.starlark_unordered.specs.Calling.{get}
 use Rattle.starlark_unordered.specs.Pairs.{pairs_of, with_pair}
+
+-- the last value that the pairs have for the key that passes
+abbrev pub last_value : {K V : Type 0} → (K → Bool) → List (K × V) → Option V
+last_value test [] = None
+last_value test (p ∷ ps) = option_or (last_value test ps) (if test p.0 then Some p.1 else None)
 
 module _ {K V : Type 0} (eq : K → K → Bool) where
   -- new is what these pairs, put in one after the other, make of old, where no order counts
@@ -17,6 +23,10 @@ module _ {K V : Type 0} (eq : K → K → Bool) where
     abbrev pub Collects : {U : Type 0} → (U → T → Type 0) → (T → Count) → U → Table (K × V) → Type 0
     Collects becomes remaining iter m = (it : T) × (first : ℕ) × (xs : List (K × V)) × becomes iter it × IsWithinCount first (remaining it)
         × Drains steps it xs × InsertsAll [] xs (pairs_of m) × (first ≤ table_len m + m.room)
+
+    -- each key has the last of the values that the iterator's items have for it
+    abbrev pub HasLast : {U : Type 0} → (U → T → Type 0) → U → Table (K × V) → Type 0
+    HasLast becomes iter m = (it : T) × (xs : List (K × V)) × becomes iter it × Drains steps it xs × ((key : K) → get eq m key ≡ last_value (eq key) xs)
 
 -- a step of an iterator that gives each item beside `()`
 abbrev pub StepsBeside : {S A : Type 0} → (S → Option A → S → Type 0) → S → Option (A × Unit {0}) → S → Type 0

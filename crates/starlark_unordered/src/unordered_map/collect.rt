@@ -1,7 +1,7 @@
 //! `UnorderedMap`s from the items of iterators.
 ghost use Rattle.std.specs.Prelude.{◌≡◌, List, IfOk, IsOk, OnOk};
 ghost use Rattle.std.specs.Iterator.{Drains, IsFiniteIterable, IsFinite, size};
-ghost use Rattle.starlark_unordered.specs.Collect.{Collects, InsertsAll};
+ghost use Rattle.starlark_unordered.specs.Collect.{Collects, HasLast, InsertsAll};
 ghost use Rattle.starlark_unordered.specs.Pairs.{pairs_of, KeepsRoom};
 
 use super::UnorderedMap;
@@ -16,6 +16,7 @@ impl<K: Eq + Hash + Drop, V: Drop> UnorderedMap<K, V> {
         iter: I,
     ) -> Result<Self, AllocError>
         requires { IsFiniteIterable I.into_iter_gives I.IntoIter.can_next I.IntoIter.remaining iter }
+        ensures found { IfOk result (HasLast K.eq I.IntoIter.next_gives I.into_iter_gives iter) }
         ensures map { IfOk result (Collects K.eq I.IntoIter.next_gives I.into_iter_gives I.IntoIter.remaining iter) }
         ensures succeeds { ((it : _) → I.into_iter_gives iter it → size (I.IntoIter.remaining it) ≡ 0) → IsOk result }
     {

@@ -1,6 +1,8 @@
-use Rattle.std.proofs.Common.{arith, ◌≡◌, subst, []}
+use Rattle.std.proofs.Common.{arith, ◌≡◌, subst, sym, []}
 use Rattle.starlark_unordered.specs.Collect.{InsertsAll}
 use Rattle.starlark_unordered.specs.Pairs.{pairs_of}
+use Rattle.starlark_unordered.proofs.Callers.{found_is}
+use Rattle.starlark_unordered.proofs.Collected.{found-collected}
 use Rattle.starlark_unordered.proofs.unordered_map.UnorderedMap.from_iter.Goals as goal
 
 pub returns-clause-map : goal.returns-clause-map
@@ -15,4 +17,17 @@ returns-clause-map g c =
       put.1,
       subst (λ l. InsertsAll g.K.PartialEq.eq l put.0 (pairs_of c.insert_items.new.self)) none put.2,
       omega (arith, c.insert_items.ensures.room, c.in_ok-map.ensures.room),
+    )
+
+pub returns-clause-found : goal.returns-clause-found
+returns-clause-found g c =
+    let put = c.in_ok-insert_items.ensures.pairs in
+    let none : pairs_of c.in_ok-map.map ≡ [] = c.in_ok-map.ensures.empty in
+    let eq = g.K.PartialEq.eq in
+    let made = subst (λ l. InsertsAll eq l put.0 (pairs_of c.insert_items.new.self)) none put.2 in (
+      c.into_iter-items.result,
+      put.0,
+      c.into_iter-items.ensures.into_iter_gives,
+      put.1,
+      λ key. sym (found_is (eq key) (pairs_of c.insert_items.new.self) _ (sym (found-collected eq g.met.K.Eq.laws put.0 (pairs_of c.insert_items.new.self) made key))),
     )
