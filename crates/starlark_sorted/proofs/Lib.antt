@@ -4,3 +4,4 @@ pub mod InsertedInOrder
 pub mod OwnHashes
 pub mod Rising
 pub mod SortedMapOpen
+pub mod Along

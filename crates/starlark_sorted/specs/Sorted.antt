@@ -1,7 +1,8 @@
 -- Lists of entries that ascend by their keys, and the maps that have them.
-use Rattle.std.specs.Prelude.{◌≡◌, Bool, List, Option, All, AllPairs}
+use Rattle.std.specs.Prelude.{◌≡◌, Bool, false, List, [], ◌∷◌, Option, All, AllPairs, ⊤}
 use Rattle.std.specs.Hash.{HashWrites}
 use Rattle.std.specs.Iterator.{Count}
+use Rattle.std.specs.Ordering.{is_gt}
 use Rattle.std.specs.declared.cmp.Ordering.{Ordering}
 use Rattle.std.specs.declared.cmp.Ordering.TheVariants.{Less}
 use Rattle.starlark_lists.specs.Entries.{Entry, entry_hash, entry_key}
@@ -9,6 +10,11 @@ use Rattle.starlark_hash.specs.Hasher.{own_hash}
 use Rattle.starlark_lists.specs.Sorting.{sorted_by_key}
 use Rattle.starlark_small.specs.Collect.{Collects}
 use Rattle.starlark_small.specs.Map.{KeepsMemory, Map}
+
+-- no item is greater than one after it, said along the list
+abbrev pub AscendsAlong : {X : Type 0} → (X → X → Ordering) → List X → Type 0
+AscendsAlong cmp [] = ⊤
+AscendsAlong cmp (x ∷ xs) = All (λ y. is_gt (cmp x y) ≡ false) xs × AscendsAlong cmp xs
 
 module _ {K V : Type 0} where
   -- each entry stands under its key's own hash, where `feeds` tells what a key feeds

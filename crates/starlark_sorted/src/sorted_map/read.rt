@@ -3,6 +3,7 @@ ghost use Rattle.std.specs.Prelude.{◌≡◌, ◌==◌, length, is_some};
 ghost use Rattle.std.specs.Option.{option_copied};
 ghost use Rattle.starlark_lists.specs.Entries.{value_at};
 ghost use Rattle.starlark_small.specs.Map.{own_match};
+ghost use Rattle.starlark_sets.specs.Calling.{contains, get};
 
 use super::SortedMap;
 use starlark_hash::Equivalent;
@@ -28,7 +29,8 @@ impl<K: Ord + Hash, V> SortedMap<K, V> {
     /// The value under the query's own hash whose key the query is equivalent to.
     #[inline]
     pub fn get<Q: Equivalent<K> + Hash>(&self, key: &Q) -> Option<&V>
-        ensures { option_copied result ≡ value_at self.now.entries (own_match Q.equivalent Q.hash_input self.now.entries key.now) }
+        ensures value { option_copied result ≡ value_at self.now.entries (own_match Q.equivalent Q.hash_input self.now.entries key.now) }
+        ensures found { option_copied result ≡ get Q.equivalent Q.hash_input self.now key.now }
     {
         self.map.get(key)
     }
@@ -36,7 +38,8 @@ impl<K: Ord + Hash, V> SortedMap<K, V> {
     /// Whether there is an entry under the query's own hash whose key the query is equivalent to.
     #[inline]
     pub fn contains_key<Q: Equivalent<K> + Hash>(&self, key: &Q) -> bool
-        ensures { result ≡ is_some (own_match Q.equivalent Q.hash_input self.now.entries key.now) }
+        ensures place { result ≡ is_some (own_match Q.equivalent Q.hash_input self.now.entries key.now) }
+        ensures found { result ≡ contains Q.equivalent Q.hash_input self.now key.now }
     {
         self.map.contains_key(key)
     }

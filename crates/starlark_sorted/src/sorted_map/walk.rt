@@ -4,7 +4,7 @@ ghost use Rattle.std.specs.Map.Iter.{ShowsInOrder, ShowsInReverse, GivesInOrder,
 ghost use Rattle.starlark_lists.specs.Entries.{IsSingle, entry_key, entry_value, pair_of};
 ghost use Rattle.starlark_lists.specs.Sorting.{Ascends};
 ghost use Rattle.starlark_small.specs.Iter.{deref_entry};
-ghost use Rattle.starlark_sorted.specs.Sorted.{AreOwn, AscendsStrictly};
+ghost use Rattle.starlark_sorted.specs.Sorted.{AreOwn, AscendsAlong, AscendsStrictly};
 
 use super::SortedMap;
 use starlark_small::{IntoIter, Iter, IterHashed, Keys, Values};
@@ -28,6 +28,7 @@ impl<K: Ord + Hash, V> SortedMap<K, V> {
     pub fn keys(&self) -> Keys<'_, K, V>
         ensures keys { result ≡ map entry_key self.now.entries }
         ensures ascends { Ascends K.cmp self.now.entries }
+        ensures along { AscendsAlong K.cmp result }
         ensures fits { length self.now.entries < 2 ^ 64 }
         ensures runs { ShowsInOrder (deref {X = K}) }
         ensures runs_back { ShowsInReverse (deref {X = K}) }

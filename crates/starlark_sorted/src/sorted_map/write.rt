@@ -5,7 +5,9 @@ ghost use Rattle.std.specs.Map.{values_of};
 ghost use Rattle.std.specs.Option.{option_copied_mut, IfNone};
 ghost use Rattle.starlark_lists.specs.Entries.{entry_value, pair_of, value_at};
 ghost use Rattle.starlark_small.specs.Map.{own_match};
-ghost use Rattle.starlark_sorted.specs.Lending.{lends_found, values_follow};
+ghost use Rattle.starlark_hash.specs.Hasher.{own_hash};
+ghost use Rattle.starlark_sets.specs.Calling.{get};
+ghost use Rattle.starlark_sorted.specs.Lending.{lends_get, values_follow};
 
 use super::SortedMap;
 use starlark_hash::Equivalent;
@@ -40,7 +42,8 @@ impl<K: Ord + Hash, V> SortedMap<K, V> {
     /// is left in it, and all else stays.
     #[inline]
     pub fn get_mut<Q: Equivalent<K> + Hash>(&mut self, key: &Q) -> Option<&mut V>
-        ensures* writes_back { sem 𝓛 (lends_found K.row V.row K.cmp K.eq K.partial_cmp K.hash_input self.entry (own_match Q.equivalent Q.hash_input self.old.entries key.now) result) }
+        ensures* writes_back { sem 𝓛 (lends_get K.row V.row K.cmp K.eq K.partial_cmp K.hash_input self.entry (Q.equivalent key.now) (own_hash Q.hash_input key.now) result) }
+        ensures found { option_copied_mut result ≡ get Q.equivalent Q.hash_input self.old key.now }
         ensures value { option_copied_mut result ≡ value_at self.old.entries (own_match Q.equivalent Q.hash_input self.old.entries key.now) }
         ensures absent { IfNone result (own_match Q.equivalent Q.hash_input self.old.entries key.now ≡ None) }
     {

@@ -3,7 +3,7 @@ ghost use Rattle.std.specs.Prelude.{◌≡◌, ◌^◌, ◌<◌, length, map};
 ghost use Rattle.std.specs.Map.Iter.{ShowsInOrder, ShowsInReverse, GivesInOrder, GivesInReverse, deref};
 ghost use Rattle.starlark_lists.specs.Entries.{IsSingle, entry_key};
 ghost use Rattle.starlark_lists.specs.Sorting.{Ascends};
-ghost use Rattle.starlark_sorted.specs.Sorted.{AreOwn, AscendsStrictly};
+ghost use Rattle.starlark_sorted.specs.Sorted.{AreOwn, AscendsAlong, AscendsStrictly};
 ghost use Rattle.starlark_sorted.specs.Union.{ShowsRise, rise};
 
 use super::SortedSet;
@@ -13,10 +13,12 @@ use std::hash::Hash;
 
 impl<T: Ord + Hash> SortedSet<T> {
     /// The elements in order.
+    #[tactic(auto, using(crate::proofs::Along::along))]
     #[inline]
     pub fn iter(&self) -> Iter<'_, T>
         ensures elements { result ≡ map entry_key self.now.entries }
         ensures ascends { Ascends T.cmp self.now.entries }
+        ensures along { AscendsAlong T.cmp result }
         ensures fits { length self.now.entries < 2 ^ 64 }
         ensures runs { ShowsInOrder (deref {X = T}) }
         ensures runs_back { ShowsInReverse (deref {X = T}) }
