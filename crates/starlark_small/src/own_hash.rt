@@ -7,7 +7,7 @@ use starlark_hash::{Hashed, StarlarkHashValue};
 use std::hash::Hash;
 
 // A reference to the query, under the query's own hash.
-#[inline]
+#[inline(always)]
 pub(crate) fn under_own_hash<Q: Hash>(query: &Q) -> Hashed<&Q>
     ensures hash { hash_of result ≡ own_hash Q.hash_input query.now }
     ensures key { (key_of result).now ≡ query.now }

@@ -117,7 +117,7 @@ impl<T: Eq + Hash> UnorderedSet<T> {
     }
 
     /// Whether the set has the element.
-    #[inline]
+    #[inline(always)]
     pub fn contains<Q: KeyQuery<T>>(&self, query: &Q) -> bool
         ensures found { result ≡ contains Q.equivalent self.now query.now }
         ensures has { result ≡ has (Q.equivalent query.now) self.now }
@@ -126,7 +126,7 @@ impl<T: Eq + Hash> UnorderedSet<T> {
     }
 
     /// Whether the set has the element, and this is its own hash.
-    #[inline]
+    #[inline(always)]
     pub fn contains_hashed<Q: Equivalent<T>>(&self, element: Hashed<&Q>) -> bool
         ensures { result ≡ has (under_own T.hash_input (hash_of element.entry) (Q.equivalent (key_of element.entry).now)) self.now }
     {

@@ -40,7 +40,7 @@ impl<K: Eq, V> SmallMap<K, V> {
     }
 
     /// The place under this hash whose key the query is equivalent to, with the key and the value there.
-    #[inline]
+    #[inline(always)]
     pub fn get_full_hashed<Q: Equivalent<K>>(&self, key: Hashed<&Q>) -> Option<(usize, &K, &V)>
         ensures place { option_map (λ found. found.0) result ≡ query_match Q.equivalent self.now.entries key.entry }
         ensures pair { option_map (λ found. (found.1.now, found.2.now)) result
@@ -88,7 +88,7 @@ impl<K: Eq, V> SmallMap<K, V> {
     }
 
     /// Whether there is an entry under this hash whose key the query is equivalent to.
-    #[inline]
+    #[inline(always)]
     pub fn contains_key_hashed<Q: Equivalent<K>>(&self, key: Hashed<&Q>) -> bool
         ensures place { result ≡ is_some (query_match Q.equivalent self.now.entries key.entry) }
         ensures found { result ≡ is_some (found (Q.equivalent (key_of key.entry).now) (hash_of key.entry) self.now.entries) }
@@ -109,7 +109,7 @@ impl<K: Eq, V> SmallMap<K, V> {
 
 impl<K: Eq, V> SmallMap<K, V> {
     /// The value under the query's own hash whose key the query is equivalent to.
-    #[inline]
+    #[inline(always)]
     pub fn get<Q: Equivalent<K> + Hash>(&self, key: &Q) -> Option<&V>
         ensures value { option_copied result ≡ value_at self.now.entries (own_match Q.equivalent Q.hash_input self.now.entries key.now) }
         ensures found { option_copied result ≡ get Q.equivalent Q.hash_input self.now key.now }
@@ -118,7 +118,7 @@ impl<K: Eq, V> SmallMap<K, V> {
     }
 
     /// The place under the query's own hash whose key the query is equivalent to, with the key and the value there.
-    #[inline]
+    #[inline(always)]
     pub fn get_full<Q: Equivalent<K> + Hash>(&self, key: &Q) -> Option<(usize, &K, &V)>
         ensures place { option_map (λ found. found.0) result ≡ own_match Q.equivalent Q.hash_input self.now.entries key.now }
         ensures pair { option_map (λ found. (found.1.now, found.2.now)) result
@@ -128,7 +128,7 @@ impl<K: Eq, V> SmallMap<K, V> {
     }
 
     /// The place under the query's own hash whose key the query is equivalent to.
-    #[inline]
+    #[inline(always)]
     pub fn get_index_of<Q: Equivalent<K> + Hash>(&self, key: &Q) -> Option<usize>
         ensures place { result ≡ own_match Q.equivalent Q.hash_input self.now.entries key.now }
         ensures found { is_some result ≡ contains Q.equivalent Q.hash_input self.now key.now }
@@ -138,7 +138,7 @@ impl<K: Eq, V> SmallMap<K, V> {
     }
 
     /// Whether there is an entry under the query's own hash whose key the query is equivalent to.
-    #[inline]
+    #[inline(always)]
     pub fn contains_key<Q: Equivalent<K> + Hash>(&self, key: &Q) -> bool
         ensures place { result ≡ is_some (own_match Q.equivalent Q.hash_input self.now.entries key.now) }
         ensures found { result ≡ contains Q.equivalent Q.hash_input self.now key.now }

@@ -47,6 +47,7 @@ impl<K: Eq, V> SmallMap<K, V> {
 
     /// Removes the entry under the query's own hash whose key the query is equivalent to, drops its key and answers
     /// its value. Those after it move up.
+    #[inline]
     pub fn shift_remove<Q: Equivalent<K> + Hash>(&mut self, key: &Q) -> Option<V>
     where
         K: Drop,
@@ -61,6 +62,7 @@ impl<K: Eq, V> SmallMap<K, V> {
 
     /// Removes the entry under the query's own hash whose key the query is equivalent to, and answers its key and
     /// value. Those after it move up.
+    #[inline]
     pub fn shift_remove_entry<Q: Equivalent<K> + Hash>(&mut self, key: &Q) -> Option<(K, V)>
         ensures taken { result ≡ option_map pair_of (entry_at self.old.entries (own_match Q.equivalent Q.hash_input self.old.entries key.now)) }
         ensures entries { self.new.entries ≡ without self.old.entries (own_match Q.equivalent Q.hash_input self.old.entries key.now) }

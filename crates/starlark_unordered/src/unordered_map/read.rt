@@ -14,7 +14,7 @@ use std::ops::Index;
 impl<K: Eq + Hash, V> UnorderedMap<K, V> {
     /// The value at the key.
     #[tactic(auto, using(crate::proofs::Callers::callers), unfolding(crate::specs::Calling::found))]
-    #[inline]
+    #[inline(always)]
     pub fn get<Q: KeyQuery<K>>(&self, query: &Q) -> Option<&V>
         ensures found { option_copied result ≡ get Q.equivalent self.now query.now }
         ensures value { option_copied result ≡ lookup (Q.equivalent query.now) (pairs_of self.now) }
@@ -24,7 +24,7 @@ impl<K: Eq + Hash, V> UnorderedMap<K, V> {
     }
 
     /// The value at the key, where this is its own hash: another hash finds nothing.
-    #[inline]
+    #[inline(always)]
     pub fn get_hashed<Q: Equivalent<K>>(&self, key: Hashed<&Q>) -> Option<&V>
         ensures { option_copied result ≡ lookup (under_own K.hash_input (hash_of key.entry) (Q.equivalent (key_of key.entry).now)) (pairs_of self.now) }
     {
@@ -34,7 +34,7 @@ impl<K: Eq + Hash, V> UnorderedMap<K, V> {
 
     /// Whether the map has the key.
     #[tactic(auto, using(crate::proofs::Callers::callers), unfolding(crate::specs::Calling::found))]
-    #[inline]
+    #[inline(always)]
     pub fn contains_key<Q: KeyQuery<K>>(&self, query: &Q) -> bool
         ensures found { result ≡ contains Q.equivalent self.now query.now }
         ensures value { result ≡ is_some (lookup (Q.equivalent query.now) (pairs_of self.now)) }
@@ -43,7 +43,7 @@ impl<K: Eq + Hash, V> UnorderedMap<K, V> {
     }
 
     /// Whether the map has the key, and this is its own hash.
-    #[inline]
+    #[inline(always)]
     pub fn contains_key_hashed<Q: Equivalent<K>>(&self, key: Hashed<&Q>) -> bool
         ensures { result ≡ is_some (lookup (under_own K.hash_input (hash_of key.entry) (Q.equivalent (key_of key.entry).now)) (pairs_of self.now)) }
     {

@@ -17,7 +17,7 @@ impl<K: Eq + Hash, V> UnorderedMap<K, V> {
     ghost use Rattle.starlark_unordered.specs.Lending.{lends_value};
 
     // The slot of the key, under the query's own hash.
-    #[inline]
+    #[inline(always)]
     pub(crate) fn slot_under<Q: KeyQuery<K>>(&self, hash: u64, query: &Q) -> Option<usize>
         requires { hash ≡ home_of Q.hash_input query.now }
         ensures { IsSlotOf (Q.equivalent query.now) self.now result }
@@ -31,7 +31,7 @@ impl<K: Eq + Hash, V> UnorderedMap<K, V> {
     }
 
     // The slot of the key that the query stands for, where this is the key's own hash.
-    #[inline]
+    #[inline(always)]
     pub(crate) fn slot_hashed<Q: Equivalent<K>>(
         &self,
         hash: StarlarkHashValue,
@@ -48,7 +48,7 @@ impl<K: Eq + Hash, V> UnorderedMap<K, V> {
     }
 
     // The pair of the key, under the query's own hash.
-    #[inline]
+    #[inline(always)]
     pub(super) fn pair_under<Q: KeyQuery<K>>(&self, hash: u64, query: &Q) -> Option<&(K, V)>
         requires { hash ≡ home_of Q.hash_input query.now }
         ensures { option_map (λ p. p.1) (option_copied result) ≡ lookup (Q.equivalent query.now) (pairs_of self.now) }
@@ -62,7 +62,7 @@ impl<K: Eq + Hash, V> UnorderedMap<K, V> {
     }
 
     // The pair of the key that the query stands for, where this is the key's own hash.
-    #[inline]
+    #[inline(always)]
     pub(super) fn pair_hashed<Q: Equivalent<K>>(
         &self,
         hash: StarlarkHashValue,

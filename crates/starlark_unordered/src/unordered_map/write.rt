@@ -18,7 +18,7 @@ impl<K: Eq + Hash, V> UnorderedMap<K, V> {
     ghost use Rattle.starlark_unordered.specs.Lending.{lends_at};
 
     /// The value at the key, to be written. The map ends with what is left in it, and all else stays.
-    #[inline]
+    #[inline(always)]
     pub fn get_mut<Q: KeyQuery<K>>(&mut self, query: &Q) -> Option<&mut V>
         ensures* writes_back { sem 𝓛 (lends_at K.row V.row K.Hash self.entry (Q.equivalent query.now) result) }
         ensures found { option_copied_mut result ≡ get Q.equivalent self.old query.now }
