@@ -49,7 +49,7 @@ test: ## the merge gate, every proof, test and program: about an hour on four co
 	@./examples/as-in-readme
 	@rt ci
 
-bench: ## proves and runs the benchmarks, some ten minutes the first time; with RUST=FILE also the ratios, drawn
+bench: ## proves and runs the benchmarks, beside the maps of the kit: some ten minutes the first time; with RUST=FILE also beside those
 	$(says)
 	@cd crates/starlark_bench && rt run > /dev/null
 	@if [ -n "$$RUST" ]; then ./bench/measure "$$RUST"; else ./bench/measure; fi

@@ -43,8 +43,8 @@ def ratios_of_runs(ours, rust, what):
     """For each kind of work and length the least and the greatest ratio, over the types of keys."""
     base = {name: time for name, time, _ in lines_of(rust)}
     found = {}
-    for (work, _, key, n), time, _ in lines_of(ours):
-        if (work, what, key, n) in base:
+    for (work, own, key, n), time, _ in lines_of(ours):
+        if own == "proved" and (work, what, key, n) in base:
             ratio = time / base[(work, what, key, n)]
             low, high = found.setdefault(WORK.get(work, work), {}).get(n, (ratio, ratio))
             found[WORK.get(work, work)][n] = (min(low, ratio), max(high, ratio))

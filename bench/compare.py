@@ -2,12 +2,15 @@
 
 usage: compare.py OURS BASELINE [WHAT]
 
-A line is `WORKLOAD.WHAT.KEYTYPE N NS_PER_OP CHECKSUM`. Each line of OURS is set beside the line of BASELINE with
-the same workload, key type and length, and this WHAT (without one: upstream). Ends with status 1 where two
-checksums differ.
+A line is `WORKLOAD.WHAT.KEYTYPE N NS_PER_OP CHECKSUM`. Each line of OURS that is of our maps is set beside the line of
+BASELINE with the same workload, key type and length, and this WHAT (without one: upstream). Ends with status 1 where
+two checksums differ.
 """
 
 import sys
+
+# what stands for our maps in a line: asked by a hash that was computed before, and by key
+OURS = "proved", "by_key"
 
 
 def lines_of(path):
@@ -26,13 +29,13 @@ def main():
     what = sys.argv[3] if len(sys.argv) == 4 else "upstream"
     baseline = {name: (time, checksum) for name, time, checksum in lines_of(sys.argv[2])}
     differ = False
-    print(f"{'workload':<14}{'keys':<6}{'n':>9}{'ours':>10}{what:>12}{'ratio':>8}")
-    for (workload, _, key, n), time, checksum in lines_of(sys.argv[1]):
+    print(f"{'workload':<14}{'ours':<8}{'keys':<6}{'n':>9}{'ns':>10}{what:>12}{'ratio':>8}")
+    for (workload, own, key, n), time, checksum in lines_of(sys.argv[1]):
         name = (workload, what, key, n)
-        if name not in baseline:
+        if own not in OURS or name not in baseline:
             continue
         base, expected = baseline[name]
-        print(f"{workload:<14}{key:<6}{n:>9}{time:>10.2f}{base:>12.2f}{time / base:>8.2f}")
+        print(f"{workload:<14}{own:<8}{key:<6}{n:>9}{time:>10.2f}{base:>12.2f}{time / base:>8.2f}")
         if checksum != expected:
             differ = True
             print(f"  checksum {checksum}, not {expected}")

@@ -14,6 +14,8 @@ pub enum Fault {
     Io,
     /// Two passes of one workload gave different checksums.
     Checksum,
+    /// A map was to do what it is not asked for.
+    Map,
     /// The words after the program's name are not those of a benchmark.
     Words,
 }
@@ -48,6 +50,7 @@ impl fmt::Display for Fault {
             Fault::Memory => write!(f, "out of memory"),
             Fault::Io => write!(f, "the clock, the arguments or the output failed"),
             Fault::Checksum => write!(f, "two passes gave different checksums"),
+            Fault::Map => write!(f, "a workload was run on a map that has no such calls"),
             Fault::Words => write!(
                 f,
                 "script wants SPACE, PUT and GET, three numbers, SPACE above 0"

@@ -3,11 +3,13 @@
 
 mod fault;
 mod keys;
+mod maps;
 mod pass;
+mod peer;
 mod report;
 mod script;
 mod sorted;
-mod unordered;
+mod workload;
 mod workloads;
 
 use fault::Fault;

@@ -1,10 +1,9 @@
-//! The workloads on `SmallMap`. Each does one pass; its checksum is the same on any map in order of insertion.
+//! The workloads. Each does one pass on any map that can be asked for what it does.
 
 use crate::fault::Fault;
 use crate::keys::{Key, places};
 use crate::pass::{Pass, mix};
-use starlark_hash::Hashed;
-use starlark_small::SmallMap;
+use crate::peer::{Asked, Listed, Roomy, Walked};
 use std::alloc::Global;
 use std::time::Instant;
 
@@ -13,26 +12,26 @@ pub const MILLION: usize = 1_000_000;
 
 // The map of these keys, each with its number in the stream as its value.
 #[inline]
-fn fill<K: Key>(map: &mut SmallMap<K, K>, block: &[K], first: u64) -> Result<(), Fault> {
+fn fill<K: Key, M: Asked<K>>(map: &mut M, block: &[K], first: u64) -> Result<(), Fault> {
     let mut number = first;
     for key in block {
-        map.insert(*key, K::of(number))?;
+        map.put(*key, K::of(number))?;
         number = number.wrapping_add(1);
     }
     Ok(())
 }
 
 // Maps of `n` keys each, the first of the first `n` keys, and so on.
-fn prepared<K: Key>(
+fn prepared<K: Key, M: Asked<K>>(
     alloc: Global,
     keys: &[K],
     n: usize,
     count: usize,
-) -> Result<Vec<SmallMap<K, K>>, Fault> {
+) -> Result<Vec<M>, Fault> {
     let mut maps = Vec::with_capacity(alloc, count)?;
     let mut first = 0_u64;
     for block in keys.chunks(n.max(1)).take(count) {
-        let mut map = SmallMap::new(alloc);
+        let mut map = M::empty(alloc);
         fill(&mut map, block, first)?;
         maps.push(map)?;
         first = first.wrapping_add(n as u64);
@@ -40,53 +39,89 @@ fn prepared<K: Key>(
     Ok(maps)
 }
 
-/// How a map begins that is built.
+// What a built map adds to the checksum.
+#[inline]
+fn built<K: Key, M: Walked<K>>(map: &M, checksum: u64, first: u64, n: usize) -> u64 {
+    let last = map.last_or(first.wrapping_add(n as u64).wrapping_sub(1));
+    mix(checksum, (map.entries() as u64).wrapping_add(last))
+}
+
+/// Builds maps of `n` keys, a million keys in all.
+pub fn build<K: Key, M: Walked<K>>(rt: &HostRuntime, keys: &[K], n: usize) -> Result<Pass, Fault> {
+    let start = Instant::now(rt)?;
+    let mut checksum = 0;
+    let mut first = 0_u64;
+    for block in keys.chunks(n.max(1)).take(MILLION / n.max(1)) {
+        let mut map = M::empty(rt.alloc());
+        fill(&mut map, block, first)?;
+        checksum = built(&map, checksum, first, n);
+        first = first.wrapping_add(n as u64);
+    }
+    Pass::since(rt, start, checksum)
+}
+
+/// How a map begins that is built with room for all its keys.
 #[derive(Clone, Copy, Debug, PartialEq, Eq)]
-pub enum Begin {
-    /// By `new`.
-    New,
-    /// By `with_capacity`, for all its keys.
+pub enum Room {
+    /// By `with_capacity`.
     Capacity,
-    /// By `new` and `reserve`, for all its keys.
+    /// By `new` and `reserve`.
     Reserve,
 }
 
-impl Begin {
+impl Room {
     // An empty map.
     #[inline]
-    fn map<K: Key>(self, alloc: Global, n: usize) -> Result<SmallMap<K, K>, Fault> {
+    fn map<K: Key, M: Roomy<K>>(self, alloc: Global, n: usize) -> Result<M, Fault> {
         match self {
-            Begin::New => Ok(SmallMap::new(alloc)),
-            Begin::Capacity => Ok(SmallMap::with_capacity(alloc, n)?),
-            Begin::Reserve => {
-                let mut map = SmallMap::new(alloc);
-                map.reserve(n)?;
+            Room::Capacity => M::with_room(alloc, n),
+            Room::Reserve => {
+                let mut map = M::empty(alloc);
+                map.make_room(n)?;
                 Ok(map)
             }
         }
     }
 }
 
-/// Builds maps of `n` keys, a million keys in all.
-pub fn build<K: Key>(rt: &HostRuntime, begin: Begin, keys: &[K], n: usize) -> Result<Pass, Fault> {
+/// The same, each begun with room for its keys.
+pub fn build_roomy<K: Key, M: Roomy<K>>(
+    rt: &HostRuntime,
+    room: Room,
+    keys: &[K],
+    n: usize,
+) -> Result<Pass, Fault> {
     let start = Instant::now(rt)?;
     let mut checksum = 0;
     let mut first = 0_u64;
     for block in keys.chunks(n.max(1)).take(MILLION / n.max(1)) {
-        let mut map = begin.map(rt.alloc(), n)?;
+        let mut map = room.map::<K, M>(rt.alloc(), n)?;
         fill(&mut map, block, first)?;
-        let last = map.last().map_or(0, |(_, value)| value.number());
-        checksum = mix(checksum, (map.len() as u64).wrapping_add(last));
+        checksum = built(&map, checksum, first, n);
+        first = first.wrapping_add(n as u64);
+    }
+    Pass::since(rt, start, checksum)
+}
+
+/// Builds maps of `n` keys, a million keys in all, of which only the lengths count.
+pub fn insert<K: Key, M: Walked<K>>(rt: &HostRuntime, keys: &[K], n: usize) -> Result<Pass, Fault> {
+    let start = Instant::now(rt)?;
+    let mut checksum = 0;
+    let mut first = 0_u64;
+    for block in keys.chunks(n.max(1)).take(MILLION / n.max(1)) {
+        let mut map = M::empty(rt.alloc());
+        fill(&mut map, block, first)?;
+        checksum = mix(checksum, map.entries() as u64);
         first = first.wrapping_add(n as u64);
     }
     Pass::since(rt, start, checksum)
 }
 
 // The sum of the values under these keys.
-fn found<K: Key>(map: &SmallMap<K, K>, queries: &[Hashed<K>]) -> u64 {
+fn found<K: Key, M: Asked<K>>(map: &M, queries: &[M::Query]) -> u64 {
     let mut sum = 0_u64;
     for query in queries {
-        if let Some(value) = map.get_hashed(query.as_ref()) {
+        if let Some(value) = map.at(query) {
             sum = sum.wrapping_add(value.number());
         }
     }
@@ -94,13 +129,13 @@ fn found<K: Key>(map: &SmallMap<K, K>, queries: &[Hashed<K>]) -> u64 {
 }
 
 /// Looks up a million keys that are there, in a map of `n` keys.
-pub fn hit<K: Key>(rt: &HostRuntime, keys: &[K], n: usize) -> Result<Pass, Fault> {
-    let mut map = SmallMap::new(rt.alloc());
+pub fn hit<K: Key, M: Asked<K>>(rt: &HostRuntime, keys: &[K], n: usize) -> Result<Pass, Fault> {
+    let mut map = M::empty(rt.alloc());
     fill(&mut map, keys.get(..n).unwrap_or(keys), 0)?;
     let mut queries = Vec::with_capacity(rt.alloc(), MILLION)?;
     for place in places(rt.alloc(), n, MILLION)? {
         if let Some(key) = keys.get(place) {
-            queries.push(Hashed::new(*key))?;
+            queries.push(M::query(*key))?;
         }
     }
     let start = Instant::now(rt)?;
@@ -109,10 +144,10 @@ pub fn hit<K: Key>(rt: &HostRuntime, keys: &[K], n: usize) -> Result<Pass, Fault
 }
 
 // How many of the keys are not there.
-fn lacking<K: Key>(map: &SmallMap<K, K>, queries: &[Hashed<K>]) -> u64 {
+fn lacking<K: Key, M: Asked<K>>(map: &M, queries: &[M::Query]) -> u64 {
     let mut count = 0_u64;
     for query in queries {
-        if map.get_hashed(query.as_ref()).is_none() {
+        if map.at(query).is_none() {
             count = count.wrapping_add(1);
         }
     }
@@ -120,40 +155,30 @@ fn lacking<K: Key>(map: &SmallMap<K, K>, queries: &[Hashed<K>]) -> u64 {
 }
 
 /// Looks up a million keys that are not there, in a map of `n` keys.
-pub fn miss<K: Key>(rt: &HostRuntime, keys: &[K], n: usize) -> Result<Pass, Fault> {
-    let mut map = SmallMap::new(rt.alloc());
+pub fn miss<K: Key, M: Asked<K>>(rt: &HostRuntime, keys: &[K], n: usize) -> Result<Pass, Fault> {
+    let mut map = M::empty(rt.alloc());
     fill(&mut map, keys.get(..n).unwrap_or(keys), 0)?;
     let mut queries = Vec::with_capacity(rt.alloc(), MILLION)?;
     for key in keys.iter().skip(MILLION).take(MILLION) {
-        queries.push(Hashed::new(*key))?;
+        queries.push(M::query(*key))?;
     }
     let start = Instant::now(rt)?;
     let checksum = lacking(&map, &queries);
     Pass::since(rt, start, checksum)
 }
 
-// The sum of all keys and values.
-#[inline]
-fn sum<K: Key>(map: &SmallMap<K, K>) -> u64 {
-    let mut sum = 0_u64;
-    for (key, value) in map {
-        sum = sum.wrapping_add(key.number()).wrapping_add(value.number());
-    }
-    sum
-}
-
-// The same, so many times over.
-fn sums<K: Key>(map: &SmallMap<K, K>, count: usize) -> u64 {
+// The sum of all keys and values, so many times over.
+fn sums<K: Key, M: Walked<K>>(map: &M, count: usize) -> u64 {
     let mut total = 0_u64;
     for _ in 0..count {
-        total = total.wrapping_add(sum(map));
+        total = total.wrapping_add(map.sum());
     }
     total
 }
 
 /// Walks a map of `n` keys, four million entries in all.
-pub fn walk<K: Key>(rt: &HostRuntime, keys: &[K], n: usize) -> Result<Pass, Fault> {
-    let mut map = SmallMap::new(rt.alloc());
+pub fn walk<K: Key, M: Walked<K>>(rt: &HostRuntime, keys: &[K], n: usize) -> Result<Pass, Fault> {
+    let mut map = M::empty(rt.alloc());
     fill(&mut map, keys.get(..n).unwrap_or(keys), 0)?;
     let start = Instant::now(rt)?;
     let checksum = sums(&map, 4 * MILLION / n.max(1));
@@ -199,22 +224,21 @@ pub fn turns(n: usize) -> usize {
 }
 
 /// Removes an entry of a map of `n` keys and inserts it again under the next value, again and again.
-pub fn cycle<K: Key>(
+pub fn cycle<K: Key, M: Listed<K>>(
     rt: &HostRuntime,
     removed: Removed,
     keys: &[K],
     n: usize,
 ) -> Result<Pass, Fault> {
-    let mut map = SmallMap::new(rt.alloc());
+    let mut map = M::empty(rt.alloc());
     fill(&mut map, keys.get(..n).unwrap_or(keys), 0)?;
     let places = removed.places(rt.alloc(), n, turns(n))?;
     let start = Instant::now(rt)?;
     let mut checksum = 0;
     for place in &places {
-        if let Some((key, _)) = map.get_index(*place) {
-            let key = *key;
-            if let Some(value) = map.shift_remove(&key) {
-                map.insert(key, K::of(value.number().wrapping_add(1)))?;
+        if let Some(key) = map.key_at(*place) {
+            if let Some(value) = map.take(&key) {
+                map.put(key, K::of(value.number().wrapping_add(1)))?;
                 checksum = mix(checksum, key.number().wrapping_add(value.number()));
             }
         }
@@ -222,15 +246,46 @@ pub fn cycle<K: Key>(
     Pass::since(rt, start, checksum)
 }
 
+// The keys that come to stand in the middle of a list of `n` keys, as each is removed and inserted again.
+fn middles<K: Key>(alloc: Global, keys: &[K], n: usize) -> Result<Vec<K>, Fault> {
+    let mut middles = Vec::with_capacity(alloc, turns(n))?;
+    let rest = n.saturating_sub(n / 2).max(1);
+    for turn in 0..turns(n) {
+        if let Some(key) = keys.get((n / 2).saturating_add(turn % rest)) {
+            middles.push(*key)?;
+        }
+    }
+    Ok(middles)
+}
+
+/// Does with a map that has no places what `cycle` does in the middle of a list: it is asked for the same keys.
+pub fn cycle_keys<K: Key, M: Walked<K>>(
+    rt: &HostRuntime,
+    keys: &[K],
+    n: usize,
+) -> Result<Pass, Fault> {
+    let mut map = M::empty(rt.alloc());
+    fill(&mut map, keys.get(..n).unwrap_or(keys), 0)?;
+    let middles = middles(rt.alloc(), keys, n)?;
+    let start = Instant::now(rt)?;
+    let mut checksum = 0;
+    for key in &middles {
+        if let Some(value) = map.take(key) {
+            map.put(*key, K::of(value.number().wrapping_add(1)))?;
+            checksum = mix(checksum, key.number().wrapping_add(value.number()));
+        }
+    }
+    Pass::since(rt, start, checksum)
+}
+
 // Removes the middle entry until none is left.
-fn drain_one<K: Key>(map: &mut SmallMap<K, K>, checksum: u64) -> u64 {
+fn drain_one<K: Key, M: Listed<K>>(map: &mut M, checksum: u64) -> u64 {
     let mut checksum = checksum;
-    for _ in 0..map.len() {
-        let Some((key, _)) = map.get_index(map.len() / 2) else {
+    for _ in 0..map.entries() {
+        let Some(key) = map.key_at(map.entries() / 2) else {
             return checksum;
         };
-        let key = *key;
-        if let Some(value) = map.shift_remove(&key) {
+        if let Some(value) = map.take(&key) {
             checksum = mix(checksum, value.number());
         }
     }
@@ -238,8 +293,8 @@ fn drain_one<K: Key>(map: &mut SmallMap<K, K>, checksum: u64) -> u64 {
 }
 
 /// Drains maps of `n` keys, a hundred thousand keys in all, always by the middle key.
-pub fn drain<K: Key>(rt: &HostRuntime, keys: &[K], n: usize) -> Result<Pass, Fault> {
-    let mut maps = prepared(rt.alloc(), keys, n, 100_000 / n.max(1))?;
+pub fn drain<K: Key, M: Listed<K>>(rt: &HostRuntime, keys: &[K], n: usize) -> Result<Pass, Fault> {
+    let mut maps = prepared::<K, M>(rt.alloc(), keys, n, 100_000 / n.max(1))?;
     let start = Instant::now(rt)?;
     let mut checksum = 0;
     for map in &mut maps {
@@ -249,10 +304,10 @@ pub fn drain<K: Key>(rt: &HostRuntime, keys: &[K], n: usize) -> Result<Pass, Fau
 }
 
 // Pops until no entry is left.
-fn pop_one<K: Key>(map: &mut SmallMap<K, K>, checksum: u64) -> u64 {
+fn pop_one<K: Key, M: Listed<K>>(map: &mut M, checksum: u64) -> u64 {
     let mut checksum = checksum;
-    for _ in 0..map.len() {
-        if let Some((_, value)) = map.pop() {
+    for _ in 0..map.entries() {
+        if let Some(value) = map.pop_value() {
             checksum = mix(checksum, value.number());
         }
     }
@@ -260,8 +315,8 @@ fn pop_one<K: Key>(map: &mut SmallMap<K, K>, checksum: u64) -> u64 {
 }
 
 /// Pops each entry of maps of `n` keys, a million keys in all.
-pub fn pop<K: Key>(rt: &HostRuntime, keys: &[K], n: usize) -> Result<Pass, Fault> {
-    let mut maps = prepared(rt.alloc(), keys, n, MILLION / n.max(1))?;
+pub fn pop<K: Key, M: Listed<K>>(rt: &HostRuntime, keys: &[K], n: usize) -> Result<Pass, Fault> {
+    let mut maps = prepared::<K, M>(rt.alloc(), keys, n, MILLION / n.max(1))?;
     let start = Instant::now(rt)?;
     let mut checksum = 0;
     for map in &mut maps {
@@ -271,18 +326,16 @@ pub fn pop<K: Key>(rt: &HostRuntime, keys: &[K], n: usize) -> Result<Pass, Fault
 }
 
 /// Sorts maps of `n` keys, a million keys in all.
-pub fn sort<K: Key>(rt: &HostRuntime, keys: &[K], n: usize) -> Result<Pass, Fault> {
-    let mut maps = prepared(rt.alloc(), keys, n, MILLION / n.max(1))?;
+pub fn sort<K: Key, M: Listed<K>>(rt: &HostRuntime, keys: &[K], n: usize) -> Result<Pass, Fault> {
+    let mut maps = prepared::<K, M>(rt.alloc(), keys, n, MILLION / n.max(1))?;
     let start = Instant::now(rt)?;
     for map in &mut maps {
-        map.sort_keys()?;
+        map.sort()?;
     }
     let pass = Pass::since(rt, start, 0)?;
     let mut checksum = 0;
     for map in &maps {
-        for (_, value) in map {
-            checksum = mix(checksum, value.number());
-        }
+        checksum = map.mixed(checksum);
     }
     Ok(Pass { checksum, ..pass })
 }

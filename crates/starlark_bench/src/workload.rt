@@ -1,0 +1,302 @@
+//! Which workloads there are, of what lengths, and on which maps.
+
+use crate::fault::Fault;
+use crate::keys::Key;
+use crate::maps::{SmallByHash, UnorderedByHash};
+use crate::pass::Pass;
+use crate::peer::{Asked, Listed, Roomy, Walked};
+use crate::sorted;
+use crate::workloads::{
+    MILLION, Removed, Room, build, build_roomy, cycle, cycle_keys, drain, hit, insert, miss, pop,
+    sort, turns, walk,
+};
+use indexmap::IndexMap;
+use starlark_hash::StarlarkHasherBuilder;
+use starlark_small::SmallMap;
+use starlark_unordered::UnorderedMap;
+use std::collections::{BTreeMap, HashMap};
+use std::hash::{BuildHasherDefault, FoldHasher};
+
+/// A map.
+#[derive(Clone, Copy, Debug, PartialEq, Eq)]
+pub enum Map {
+    /// Ours; its look-ups are by a hash that was computed before.
+    Proved,
+    /// Ours, with look-ups by key.
+    ByKey,
+    /// `IndexMap`, with its own hasher.
+    Index,
+    /// `IndexMap`, with ours.
+    IndexFx,
+    /// `HashMap`, with its own hasher.
+    Hash,
+    /// `HashMap`, with ours.
+    HashFx,
+    /// `BTreeMap`.
+    BTree,
+}
+
+impl Map {
+    /// What stands for it in a line.
+    pub fn name(self) -> &'static str {
+        match self {
+            Map::Proved => "proved",
+            Map::ByKey => "by_key",
+            Map::Index => "indexmap",
+            Map::IndexFx => "indexmap_fx",
+            Map::Hash => "hashmap",
+            Map::HashFx => "hashmap_fx",
+            Map::BTree => "btreemap",
+        }
+    }
+}
+
+/// A workload. Those of unordered maps are run on our `UnorderedMap`, the union on our `SortedSet`, all others on our
+/// `SmallMap`.
+#[derive(Clone, Copy, Debug, PartialEq, Eq)]
+pub enum Workload {
+    Build,
+    BuildRoomy(Room),
+    Hit,
+    Miss,
+    Walk,
+    Cycle(Removed),
+    Drain,
+    Pop,
+    Sort,
+    UnorderedInsert,
+    UnorderedHit,
+    UnorderedMiss,
+    UnorderedWalk,
+    UnorderedCycle,
+    Union,
+}
+
+/// The workloads in the order of their lines.
+pub const ALL: [Workload; 19] = [
+    Workload::Build,
+    Workload::BuildRoomy(Room::Capacity),
+    Workload::BuildRoomy(Room::Reserve),
+    Workload::Hit,
+    Workload::Miss,
+    Workload::Walk,
+    Workload::Cycle(Removed::Middle),
+    Workload::Cycle(Removed::First),
+    Workload::Cycle(Removed::Random),
+    Workload::Cycle(Removed::LastTenth),
+    Workload::Drain,
+    Workload::Pop,
+    Workload::Sort,
+    Workload::UnorderedInsert,
+    Workload::UnorderedHit,
+    Workload::UnorderedMiss,
+    Workload::UnorderedWalk,
+    Workload::UnorderedCycle,
+    Workload::Union,
+];
+
+impl Workload {
+    /// Its name in a line.
+    pub fn name(self) -> &'static str {
+        match self {
+            Workload::Build => "a_build",
+            Workload::BuildRoomy(Room::Capacity) => "e_capacity",
+            Workload::BuildRoomy(Room::Reserve) => "e_reserve",
+            Workload::Hit => "b_hit",
+            Workload::Miss => "b_miss",
+            Workload::Walk => "c_walk",
+            Workload::Cycle(Removed::Middle) => "d_cycle",
+            Workload::Cycle(Removed::First) => "d_first",
+            Workload::Cycle(Removed::Random) => "d_random",
+            Workload::Cycle(Removed::LastTenth) => "d_last",
+            Workload::Drain => "d_drain",
+            Workload::Pop => "d_pop",
+            Workload::Sort => "g_sort",
+            Workload::UnorderedInsert => "f_insert",
+            Workload::UnorderedHit => "f_hit",
+            Workload::UnorderedMiss => "f_miss",
+            Workload::UnorderedWalk => "f_walk",
+            Workload::UnorderedCycle => "f_cycle",
+            Workload::Union => "i_union",
+        }
+    }
+
+    /// The lengths of its maps.
+    pub fn lengths(self) -> &'static [usize] {
+        match self {
+            Workload::Build
+            | Workload::BuildRoomy(_)
+            | Workload::Hit
+            | Workload::Miss
+            | Workload::Walk => &[4, 8, 16, 32, 64, 1000, 10_000, 100_000, 1_000_000],
+            Workload::Cycle(Removed::Middle) | Workload::Drain => &[8, 32, 1000, 10_000],
+            Workload::Cycle(_) => &[1000, 10_000, 100_000],
+            Workload::Pop => &[8, 32, 1000, 10_000, 1_000_000],
+            Workload::Sort => &[8, 32, 1000, 100_000, 1_000_000],
+            Workload::UnorderedInsert
+            | Workload::UnorderedHit
+            | Workload::UnorderedMiss
+            | Workload::UnorderedWalk => &[8, 32, 1000, 100_000, 1_000_000],
+            Workload::UnorderedCycle => &[8, 32, 1000, 10_000],
+            Workload::Union => &[1000, 100_000],
+        }
+    }
+
+    /// How many operations a pass at this length has.
+    pub fn operations(self, n: usize) -> usize {
+        let n = n.max(1);
+        match self {
+            Workload::Build | Workload::BuildRoomy(_) | Workload::Pop | Workload::Sort => {
+                MILLION / n * n
+            }
+            Workload::UnorderedInsert | Workload::Union => MILLION / n * n,
+            Workload::Hit | Workload::Miss => MILLION,
+            Workload::UnorderedHit | Workload::UnorderedMiss => MILLION,
+            Workload::Walk | Workload::UnorderedWalk => 4 * MILLION / n * n,
+            Workload::Cycle(_) | Workload::UnorderedCycle => turns(n),
+            Workload::Drain => 100_000 / n * n,
+        }
+    }
+
+    /// The maps that it is run on.
+    pub fn maps(self) -> &'static [Map] {
+        match self {
+            Workload::Build | Workload::Walk => &[
+                Map::Proved,
+                Map::Index,
+                Map::IndexFx,
+                Map::Hash,
+                Map::HashFx,
+                Map::BTree,
+            ],
+            Workload::BuildRoomy(_) => &[
+                Map::Proved,
+                Map::Index,
+                Map::IndexFx,
+                Map::Hash,
+                Map::HashFx,
+            ],
+            Workload::Hit | Workload::Miss => &[
+                Map::Proved,
+                Map::ByKey,
+                Map::Index,
+                Map::IndexFx,
+                Map::Hash,
+                Map::HashFx,
+                Map::BTree,
+            ],
+            Workload::Cycle(_) | Workload::Drain | Workload::Pop | Workload::Sort => {
+                &[Map::Proved, Map::Index, Map::IndexFx]
+            }
+            Workload::UnorderedInsert | Workload::UnorderedWalk | Workload::UnorderedCycle => {
+                &[Map::Proved, Map::Hash, Map::HashFx, Map::BTree]
+            }
+            Workload::UnorderedHit | Workload::UnorderedMiss => &[
+                Map::Proved,
+                Map::ByKey,
+                Map::Hash,
+                Map::HashFx,
+                Map::BTree,
+            ],
+            Workload::Union => &[Map::Proved],
+        }
+    }
+
+    /// One pass on a map.
+    pub fn pass<K: Key>(
+        self,
+        rt: &HostRuntime,
+        map: Map,
+        keys: &[K],
+        n: usize,
+    ) -> Result<Pass, Fault> {
+        match (map, self) {
+            (_, Workload::Union) => sorted::union(rt, keys, n),
+            (Map::Proved, Workload::Hit | Workload::Miss) => {
+                self.asked::<K, SmallByHash<K>>(rt, keys, n)
+            }
+            (Map::Proved, Workload::UnorderedHit | Workload::UnorderedMiss) => {
+                self.asked::<K, UnorderedByHash<K>>(rt, keys, n)
+            }
+            (
+                Map::Proved | Map::ByKey,
+                Workload::UnorderedInsert
+                | Workload::UnorderedHit
+                | Workload::UnorderedMiss
+                | Workload::UnorderedWalk
+                | Workload::UnorderedCycle,
+            ) => self.walked::<K, UnorderedMap<K, K>>(rt, keys, n),
+            (Map::Proved | Map::ByKey, _) => self.listed::<K, SmallMap<K, K>>(rt, keys, n),
+            (Map::Index, _) => {
+                self.listed::<K, IndexMap<K, K, BuildHasherDefault<FoldHasher>>>(rt, keys, n)
+            }
+            (Map::IndexFx, _) => self.listed::<K, IndexMap<K, K, StarlarkHasherBuilder>>(
+                rt, keys, n,
+            ),
+            (Map::Hash, _) => {
+                self.roomy::<K, HashMap<K, K, BuildHasherDefault<FoldHasher>>>(rt, keys, n)
+            }
+            (Map::HashFx, _) => self.roomy::<K, HashMap<K, K, StarlarkHasherBuilder>>(rt, keys, n),
+            (Map::BTree, _) => self.walked::<K, BTreeMap<K, K>>(rt, keys, n),
+        }
+    }
+
+    // One pass on a map that is asked.
+    fn asked<K: Key, M: Asked<K>>(
+        self,
+        rt: &HostRuntime,
+        keys: &[K],
+        n: usize,
+    ) -> Result<Pass, Fault> {
+        match self {
+            Workload::Hit | Workload::UnorderedHit => hit::<K, M>(rt, keys, n),
+            Workload::Miss | Workload::UnorderedMiss => miss::<K, M>(rt, keys, n),
+            _ => Err(Fault::Map),
+        }
+    }
+
+    // One pass on a map that is walked, and that gives a key away.
+    fn walked<K: Key, M: Walked<K>>(
+        self,
+        rt: &HostRuntime,
+        keys: &[K],
+        n: usize,
+    ) -> Result<Pass, Fault> {
+        match self {
+            Workload::Build => build::<K, M>(rt, keys, n),
+            Workload::Walk | Workload::UnorderedWalk => walk::<K, M>(rt, keys, n),
+            Workload::UnorderedInsert => insert::<K, M>(rt, keys, n),
+            Workload::UnorderedCycle => cycle_keys::<K, M>(rt, keys, n),
+            _ => self.asked::<K, M>(rt, keys, n),
+        }
+    }
+
+    // One pass on a map that makes room for its keys.
+    fn roomy<K: Key, M: Roomy<K>>(
+        self,
+        rt: &HostRuntime,
+        keys: &[K],
+        n: usize,
+    ) -> Result<Pass, Fault> {
+        match self {
+            Workload::BuildRoomy(room) => build_roomy::<K, M>(rt, room, keys, n),
+            _ => self.walked::<K, M>(rt, keys, n),
+        }
+    }
+
+    // One pass on a list of entries.
+    fn listed<K: Key, M: Listed<K>>(
+        self,
+        rt: &HostRuntime,
+        keys: &[K],
+        n: usize,
+    ) -> Result<Pass, Fault> {
+        match self {
+            Workload::Cycle(removed) => cycle::<K, M>(rt, removed, keys, n),
+            Workload::Drain => drain::<K, M>(rt, keys, n),
+            Workload::Pop => pop::<K, M>(rt, keys, n),
+            Workload::Sort => sort::<K, M>(rt, keys, n),
+            _ => self.roomy::<K, M>(rt, keys, n),
+        }
+    }
+}
