@@ -25,6 +25,7 @@ impl<K: Eq, V> OrderedMap<K, V> {
     /// whose old one is answered; a new key goes last. Only a new key is refused, where there is no room and no memory
     /// is found: it comes back with its value, and the entries stay.
     #[tactic(auto, using(crate::proofs::Callers::callers))]
+    #[inline]
     pub fn insert(&mut self, key: K, value: V) -> Result<Option<V>, NoRoom<(K, V)>>
     where
         K: Hash + Drop,

@@ -29,7 +29,7 @@ impl<K: Eq, V> OrderedMap<K, V> {
 
     /// The value under the query's own hash whose key the query is equivalent to.
     #[tactic(auto, using(crate::proofs::Callers::callers))]
-    #[inline]
+    #[inline(always)]
     pub fn get<Q: Equivalent<K> + Hash>(&self, key: &Q) -> Option<&V>
         ensures value { option_copied result ≡ value_at self.now.entries (own_match Q.equivalent Q.hash_input self.now.entries key.now) }
         ensures found { option_copied result ≡ get Q.equivalent Q.hash_input self.now key.now }
@@ -46,7 +46,7 @@ impl<K: Eq, V> OrderedMap<K, V> {
     }
 
     /// The place under the query's own hash whose key the query is equivalent to.
-    #[inline]
+    #[inline(always)]
     pub fn get_index_of<Q: Equivalent<K> + Hash>(&self, key: &Q) -> Option<usize>
         ensures place { result ≡ own_match Q.equivalent Q.hash_input self.now.entries key.now }
         ensures within { IfSome result (λ i. i < length self.now.entries) }
@@ -56,7 +56,7 @@ impl<K: Eq, V> OrderedMap<K, V> {
 
     /// Whether there is an entry under the query's own hash whose key the query is equivalent to.
     #[tactic(auto, using(crate::proofs::Callers::callers))]
-    #[inline]
+    #[inline(always)]
     pub fn contains_key<Q: Equivalent<K> + Hash>(&self, key: &Q) -> bool
         ensures place { result ≡ is_some (own_match Q.equivalent Q.hash_input self.now.entries key.now) }
         ensures found { result ≡ contains Q.equivalent Q.hash_input self.now key.now }

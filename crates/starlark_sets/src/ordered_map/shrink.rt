@@ -12,6 +12,7 @@ impl<K: Eq, V> OrderedMap<K, V> {
     /// Removes the entry under the query's own hash whose key the query is equivalent to, drops its key and answers
     /// its value. Those after it move up.
     #[tactic(auto, using(crate::proofs::Callers::callers))]
+    #[inline]
     pub fn remove<Q: Equivalent<K> + Hash>(&mut self, key: &Q) -> Option<V>
     where
         K: Drop,

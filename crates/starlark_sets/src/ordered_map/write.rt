@@ -41,7 +41,7 @@ impl<K: Eq, V> OrderedMap<K, V> {
 
     /// The value under the query's own hash whose key the query is equivalent to, to be written. The map ends with what
     /// is left in it, and all else stays.
-    #[inline]
+    #[inline(always)]
     pub fn get_mut<Q: Equivalent<K> + Hash>(&mut self, key: &Q) -> Option<&mut V>
         ensures* writes_back { sem 𝓛 (lends_get K.row V.row K.PartialEq self.entry (Q.equivalent key.now) (own_hash Q.hash_input key.now) result) }
         ensures found { option_copied_mut result ≡ get Q.equivalent Q.hash_input self.old key.now }

@@ -26,6 +26,7 @@ impl<T: Eq> OrderedSet<T> {
     /// Inserts under the element's own hash, and answers whether it was new. An element that is there stays, and this
     /// one is dropped. Only a new one is refused, where there is no room and no memory is found: it comes back, and the
     /// elements stay.
+    #[inline]
     pub fn insert(&mut self, element: T) -> Result<bool, NoRoom<T>>
     where
         T: Hash + Drop,

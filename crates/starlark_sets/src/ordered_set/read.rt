@@ -29,7 +29,7 @@ impl<T: Eq> OrderedSet<T> {
     }
 
     /// The element under the query's own hash to which the query is equivalent.
-    #[inline]
+    #[inline(always)]
     pub fn get<Q: Equivalent<T> + Hash>(&self, query: &Q) -> Option<&T>
         ensures element { option_copied result ≡ element_at self.now (own_match Q.equivalent Q.hash_input self.now.entries query.now) }
         ensures found { option_copied result ≡ get_key Q.equivalent Q.hash_input self.now query.now }
@@ -40,7 +40,7 @@ impl<T: Eq> OrderedSet<T> {
     }
 
     /// Whether there is an element under the query's own hash to which the query is equivalent.
-    #[inline]
+    #[inline(always)]
     pub fn contains<Q: Equivalent<T> + Hash>(&self, query: &Q) -> bool
         ensures place { result ≡ is_some (own_match Q.equivalent Q.hash_input self.now.entries query.now) }
         ensures found { result ≡ contains Q.equivalent Q.hash_input self.now query.now }
@@ -49,7 +49,7 @@ impl<T: Eq> OrderedSet<T> {
     }
 
     /// Whether there is an element under this hash to which the query is equivalent.
-    #[inline]
+    #[inline(always)]
     pub fn contains_hashed<Q: Equivalent<T>>(&self, query: Hashed<&Q>) -> bool
         ensures place { result ≡ is_some (query_match Q.equivalent self.now.entries query.entry) }
         ensures found { result ≡ is_some (found (Q.equivalent (key_of query.entry).now) (hash_of query.entry) self.now.entries) }
@@ -66,7 +66,7 @@ impl<T: Eq> OrderedSet<T> {
     }
 
     /// The place of the element under the query's own hash to which the query is equivalent.
-    #[inline]
+    #[inline(always)]
     pub fn get_index_of<Q: Equivalent<T> + Hash>(&self, query: &Q) -> Option<usize>
         ensures place { result ≡ own_match Q.equivalent Q.hash_input self.now.entries query.now }
         ensures within { IfSome result (λ i. i < length self.now.entries) }

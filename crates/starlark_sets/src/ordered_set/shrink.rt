@@ -13,6 +13,7 @@ use std::hash::Hash;
 impl<T: Eq> OrderedSet<T> {
     /// Removes the element under the query's own hash to which the query is equivalent, and answers it. Those after it
     /// move up.
+    #[inline]
     pub fn take<Q: Equivalent<T> + Hash>(&mut self, query: &Q) -> Option<T>
         ensures was { result ≡ get_key Q.equivalent Q.hash_input self.old query.now }
         ensures is_there { is_some result ≡ contains Q.equivalent Q.hash_input self.old query.now }

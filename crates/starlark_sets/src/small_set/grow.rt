@@ -17,6 +17,7 @@ use std::hash::Hash;
 impl<T: Eq> SmallSet<T> {
     /// Inserts under the element's own hash, as `insert_hashed` does under one that is brought.
     #[tactic(auto, using(crate::proofs::Callers::callers))]
+    #[inline]
     pub fn insert(&mut self, key: T) -> Result<bool, NoRoom<T>>
     where
         T: Hash + Drop,

@@ -15,7 +15,7 @@ use std::hash::Hash;
 
 impl<T: Eq> SmallSet<T> {
     /// The element under the query's own hash to which the query is equivalent.
-    #[inline]
+    #[inline(always)]
     pub fn get<Q: Equivalent<T> + Hash>(&self, value: &Q) -> Option<&T>
         ensures element { option_copied result ≡ element_at self.now (own_match Q.equivalent Q.hash_input self.now.entries value.now) }
         ensures found { option_copied result ≡ get_key Q.equivalent Q.hash_input self.now value.now }
@@ -27,7 +27,7 @@ impl<T: Eq> SmallSet<T> {
     }
 
     /// The element under this hash to which the query is equivalent.
-    #[inline]
+    #[inline(always)]
     pub fn get_hashed<Q: Equivalent<T>>(&self, value: Hashed<&Q>) -> Option<&T>
         ensures element { option_copied result ≡ element_at self.now (query_match Q.equivalent self.now.entries value.entry) }
         ensures found { option_copied result ≡ found_key (Q.equivalent (key_of value.entry).now) (hash_of value.entry) self.now.entries }
@@ -39,7 +39,7 @@ impl<T: Eq> SmallSet<T> {
     }
 
     /// The place of the element under the query's own hash to which the query is equivalent.
-    #[inline]
+    #[inline(always)]
     pub fn get_index_of<Q: Equivalent<T> + Hash>(&self, value: &Q) -> Option<usize>
         ensures place { result ≡ own_match Q.equivalent Q.hash_input self.now.entries value.now }
         ensures within { IfSome result (λ i. i < length self.now.entries) }
@@ -48,7 +48,7 @@ impl<T: Eq> SmallSet<T> {
     }
 
     /// The place of the element under this hash to which the query is equivalent.
-    #[inline]
+    #[inline(always)]
     pub fn get_index_of_hashed<Q: Equivalent<T>>(&self, value: Hashed<&Q>) -> Option<usize>
         ensures place { result ≡ query_match Q.equivalent self.now.entries value.entry }
         ensures within { IfSome result (λ i. i < length self.now.entries) }
@@ -70,7 +70,7 @@ impl<T: Eq> SmallSet<T> {
 
     /// Whether there is an element under the query's own hash to which the query is equivalent.
     #[tactic(auto, using(crate::proofs::Callers::callers))]
-    #[inline]
+    #[inline(always)]
     pub fn contains<Q: Equivalent<T> + Hash>(&self, key: &Q) -> bool
         ensures place { result ≡ is_some (own_match Q.equivalent Q.hash_input self.now.entries key.now) }
         ensures found { result ≡ contains Q.equivalent Q.hash_input self.now key.now }
@@ -80,7 +80,7 @@ impl<T: Eq> SmallSet<T> {
 
     /// Whether there is an element under this hash to which the query is equivalent.
     #[tactic(auto, using(crate::proofs::Callers::callers))]
-    #[inline]
+    #[inline(always)]
     pub fn contains_hashed<Q: Equivalent<T>>(&self, key: Hashed<&Q>) -> bool
         ensures place { result ≡ is_some (query_match Q.equivalent self.now.entries key.entry) }
         ensures found { result ≡ is_some (found (Q.equivalent (key_of key.entry).now) (hash_of key.entry) self.now.entries) }

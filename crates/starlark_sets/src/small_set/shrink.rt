@@ -18,6 +18,7 @@ impl<T: Eq> SmallSet<T> {
     /// Removes the element under the query's own hash to which the query is equivalent, and answers whether it was
     /// there. Those after it move up.
     #[tactic(auto, using(crate::proofs::Additions::additions, crate::proofs::Callers::callers))]
+    #[inline]
     pub fn shift_remove<Q: Equivalent<T> + Hash>(&mut self, key: &Q) -> bool
     where
         T: Drop,
@@ -52,6 +53,7 @@ impl<T: Eq> SmallSet<T> {
 
     /// Removes the element under the query's own hash to which the query is equivalent, and answers it. Those after
     /// it move up.
+    #[inline]
     pub fn take<Q: Equivalent<T> + Hash>(&mut self, key: &Q) -> Option<T>
         ensures was { result ≡ get_key Q.equivalent Q.hash_input self.old key.now }
         ensures is_there { is_some result ≡ contains Q.equivalent Q.hash_input self.old key.now }
