@@ -1,5 +1,5 @@
 -- What a call leaves at its query and at all other keys, in the closed words of `starlark_lists/specs/Finding.antt`.
-use Rattle.std.proofs.Common.{◌≡◌, ℕ, zero, suc, ◌<◌, Bool, true, false, eqb, List, [], ◌∷◌, ◌++◌, get_or, map, remove, Option, Some, None, IsSome, is_some, slice_get, length, Result, Ok, Err, IsOk, OnOk, arith, refl, sym, ap, ◌∙◌}
+use Rattle.std.proofs.Common.{◌≡◌, ℕ, zero, suc, ◌+◌, ◌<◌, Bool, true, false, eqb, List, [], ◌∷◌, ◌++◌, get_or, map, remove, Option, Some, None, IsSome, is_some, slice_get, length, Result, Ok, Err, IsOk, OnOk, arith, refl, sym, ap, ◌∙◌}
 use Rattle.std.specs.Prelude.{◌&&◌, if◌then◌else◌}
 use Rattle.std.specs.Cmp.{IsEquivalence}
 use Rattle.std.specs.Option.{option_map, option_map_or}
@@ -19,7 +19,7 @@ use Rattle.starlark_small.specs.declared.entry.Entry as E
 use Rattle.starlark_small.specs.declared.entry.OccupiedEntry.{OccupiedEntry}
 use Rattle.starlark_small.specs.declared.entry.VacantEntry.{VacantEntry}
 use Rattle.starlark_small.specs.Map.{Map}
-use Rattle.starlark_small.proofs.CallerEntries.{position_of-match, gone, value-insert_entry, value-insert_other, keys-insert_entry, value-with_value, rewritten, is_some-value_at}
+use Rattle.starlark_small.proofs.CallerEntries.{position_of-match, gone, value-insert_entry, value-insert_other, keys-insert_entry, length-insert_entry, length-without, value-with_value, rewritten, is_some-value_at}
 use Rattle.starlark_small.proofs.CallerKeys.{alike, under, apart, both, and_false, written_there, removed_there}
 
 -- a key that does not pass is no key that passes
@@ -88,6 +88,11 @@ module _ {K V : Type 0} (test : K → Bool) (hash : StarlarkHashValue) (es : Lis
   unfolding found
   none_found is = ap (value_at es) is
 
+  pub length-removed : (left : List (Entry K V)) → left ≡ without es (position_of hash test es) → length es ≡ length left + (if is_some (found test hash es) then 1 else 0)
+  length-removed left put =
+      sym (length-without hash test es) ∙ ap (λ l. length l + (if is_some (position_of hash test es) then 1 else 0)) (sym put)
+      ∙ ap (λ b. length left + (if b then 1 else 0)) is_some-found
+
 -- nothing is found where there are no entries
 pub empty-found : {K V : Type 0} (es : List (Entry K V)) → es ≡ [] → (test : K → Bool) (hash : StarlarkHashValue) → found test hash es ≡ None
 unfolding found
@@ -125,6 +130,12 @@ module _ {K V : Type 0} (eq : K → K → Bool) (laws : IsEquivalence eq) where
       ap (λ l. value_at l (position_of hash passes l)) put ∙ ap (value_at (without old (position_of hash passes old))) (removed_here eq laws hash passes one old single),
       λ h other not. ap (λ l. value_at l (position_of h (eq other) l)) put ∙ removed_other eq laws hash passes one old (hashed h other) not,
     )
+
+-- the length after an insertion
+pub length-put : {K V : Type 0} (eq : K → K → Bool) (old new : List (Entry K V)) (key : Hashed K) (value : V) → new ≡ insert_entry eq old key value
+    → length new ≡ length old + (if is_some (found (eq (key_of key)) (hash_of key) old) then 0 else 1)
+length-put eq old new key value put =
+    ap length put ∙ length-insert_entry eq old key value ∙ ap (λ b. length old + (if b then 0 else 1)) (is_some-found (eq (key_of key)) (hash_of key) old)
 
 -- an insertion of a new key, and the keys in order after any
 module _ {K V : Type 0} (eq : K → K → Bool) (old new : Map K V) (key : Hashed K) (value : V) (put : new.entries ≡ insert_entry eq old.entries key value) where

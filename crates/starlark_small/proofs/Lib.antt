@@ -18,5 +18,6 @@ pub mod CallerPositions
 pub mod CallerKeys
 pub mod CallerEntries
 pub mod CallerUpdates
+pub mod CallerOwn
 pub mod CallerOrder
 pub mod CallerLemmas

@@ -1,5 +1,6 @@
 -- What a closure keeps of a list of entries.
-use Rattle.std.proofs.Common.{◌≡◌, suc, ◌≤◌, Bool, true, false, ◌&&◌, List, [], ◌∷◌, length, sym, ap, subst, arith, nat_eq}
+use Rattle.std.proofs.Common.{◌≡◌, suc, ◌≤◌, Bool, true, false, ◌&&◌, List, [], ◌∷◌, length, sym, ap, ◌∙◌, subst, arith, nat_eq}
+use Rattle.std.specs.Prelude.{filter, if◌then◌else◌}
 use Rattle.std.specs.List.{All}
 use Rattle.std.specs.Borrow.{Bor, MutBor}
 use Rattle.std.specs.Fn.{Mut}
@@ -16,7 +17,7 @@ module _ {F K V : Type 0} (g : Mut F (Bor K × (MutBor V × Unit {0})) (Bool × 
   length-retained f (e ∷ es) kept (false, d, f', rest, called, others, is) = omega (arith, ap length is, length-retained f' es rest others)
 
   -- what holds of all keys under their hashes holds of those that are kept
-  all_retained : (P : Hashed K → Type 0) (f : F) (es kept : List (Entry K V)) → Retains (CalledAtEntry g) f es kept → All (λ e. P e.0) es → All (λ e. P e.0) kept
+  pub all_retained : (P : Hashed K → Type 0) (f : F) (es kept : List (Entry K V)) → Retains (CalledAtEntry g) f es kept → All (λ e. P e.0) es → All (λ e. P e.0) kept
   all_retained P f [] kept none all = subst (λ l. All (λ e. P e.0) l) (sym none) all
   all_retained P f (e ∷ es) kept (true, d, f', rest, called, others, is) all =
       subst (λ l. All (λ x. P x.0) l) (sym is)
@@ -37,3 +38,11 @@ module _ {F K V : Type 0} (g : Mut F (Bor K × (MutBor V × Unit {0})) (Bool × 
       (IsSingle-retained eq f' es rest others (λ i j x before below. single (suc i) (suc j) x (omega arith) (omega arith))))
   IsSingle-retained eq f (e ∷ es) kept (false, d, f', rest, called, others, is) single =
       subst (λ l. IsSingle eq l) (sym is) (IsSingle-retained eq f' es rest others (λ i j x before below. single (suc i) (suc j) x (omega arith) (omega arith)))
+
+  -- where it answers as a test of the entry and leaves the value, it filters the list
+  pub filtered : (test : Entry K V → Bool) → ((f : F) (e : Entry K V) (keeps : Bool) (d : Entry K V) (left : F) → CalledAtEntry g f e keeps d left → (keeps ≡ test e) × (d ≡ e))
+      → (f : F) (es kept : List (Entry K V)) → Retains (CalledAtEntry g) f es kept → kept ≡ filter test es
+  filtered test says f [] kept none = none
+  filtered test says f (e ∷ es) kept (keeps, d, f', rest, called, others, is) =
+      let s = says f e keeps d f' called in
+      is ∙ (λ i. if s.0 i then s.1 i ∷ rest else rest) ∙ ap (λ l. if test e then e ∷ l else l) (filtered test says f' es rest others)

@@ -1,6 +1,6 @@
 -- What a caller of a `SmallMap` says of it, and of the collections made of one: what a query finds under its own hash, and what
 -- a call leaves at its query and at all other keys.
-use Rattle.std.specs.Prelude.{◌≡◌, ℕ, Bool, List, Option, None, is_some, map}
+use Rattle.std.specs.Prelude.{◌≡◌, ℕ, All, Bool, List, Option, None, is_some, map}
 use Rattle.std.specs.Hash as fed
 use Rattle.std.specs.Hash.{HashWrites}
 use Rattle.std.specs.Str.{bytes_eq}
@@ -8,7 +8,7 @@ use Rattle.std.specs.String.{string_bytes}
 use Rattle.std.specs.declared.string.String.{String}
 use Rattle.starlark_hash.specs.Hasher.{own_hash}
 use Rattle.starlark_hash.specs.declared.hash_value.StarlarkHashValue.{StarlarkHashValue}
-use Rattle.starlark_lists.specs.Entries.{entry_key}
+use Rattle.starlark_lists.specs.Entries.{Entry, entry_hash, entry_key}
 use Rattle.starlark_lists.specs.Finding.{found, found_key, Writes}
 use Rattle.starlark_small.specs.Map.{Map}
 
@@ -49,6 +49,13 @@ module _ {K V : Type 0} where
   -- no look-up finds a value
   abbrev pub IsEmpty : Map K V → Type 0
   IsEmpty m = (test : K → Bool) (hash : StarlarkHashValue) → found test hash m.entries ≡ None
+
+  -- each key stands under its own hash. Callers' proofs leave the word on entries closed
+  unfoldable pub AreOwnEntries : (K → HashWrites) → List (Entry K V) → Type 0
+  AreOwnEntries feeds es = All (λ e. entry_hash e ≡ own_hash feeds (entry_key e)) es
+
+  abbrev pub AreOwn : (K → HashWrites) → Map K V → Type 0
+  AreOwn feeds m = AreOwnEntries feeds m.entries
 
 module _ {A V : Type 0} where
   -- the value at the string of these bytes

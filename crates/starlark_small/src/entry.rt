@@ -61,9 +61,11 @@ impl<K: Eq + Drop, V> Drop for VacantEntry<'_, K, V> {
 
 impl<K: Eq, V> SmallMap<K, V> {
     ghost use Rattle.std.specs.Prelude.{◌++◌, ◌∷◌, [], is_some, if◌then◌else◌};
+    ghost use Rattle.std.specs.Hash.{HashWrites};
+    ghost use Rattle.starlark_hash.specs.Hasher.{own_hash};
     ghost use Rattle.starlark_hash.specs.HashValue.{hash_of, key_of};
     ghost use Rattle.starlark_lists.specs.Finding.{found, Writes};
-    ghost use Rattle.starlark_small.specs.Calling.{get, keys, Updates};
+    ghost use Rattle.starlark_small.specs.Calling.{get, keys, AreOwn, Updates};
     ghost use Rattle.starlark_small.specs.Map.{Map, own_hashed};
     ghost use Rattle.starlark_small.specs.MapEntry.{map_of_entry, entry_value_of, IsEntryOf, Puts};
 
@@ -89,6 +91,7 @@ impl<K: Eq, V> SmallMap<K, V> {
         ensures value { entry_value_of result ≡ found (K.eq (key_of key)) (hash_of key) self.old.entries }
         ensures updates { (value : V) (new : Map K V) → Puts result value new → Writes K.eq (K.eq (key_of key)) (hash_of key) self.old.entries new.entries (Some value) }
         ensures keys { (value : V) (new : Map K V) → Puts result value new → keys new ≡ (if is_some (found (K.eq (key_of key)) (hash_of key) self.old.entries) then keys self.old else keys self.old ++ key_of key ∷ []) }
+        ensures own { (feeds : K → HashWrites) → hash_of key ≡ own_hash feeds (key_of key) → (value : V) (new : Map K V) → Puts result value new → AreOwn feeds self.old → AreOwn feeds new }
     {
         if let Some(index) = self.get_index_of_hashed(key.as_ref()) {
             return Entry::Occupied(OccupiedEntry { map: self, index });

@@ -1,6 +1,7 @@
 //! The map. It alone sees its list of entries and their index.
 ghost use Rattle.std.specs.Prelude.{◌≡◌, ◌≤◌, [], false, nat_lt, IfOk, IsOk};
-ghost use Rattle.starlark_small.specs.Calling.{IsEmpty};
+ghost use Rattle.std.specs.Hash.{HashWrites};
+ghost use Rattle.starlark_small.specs.Calling.{AreOwn, IsEmpty};
 ghost use Rattle.starlark_small.specs.Index.{unindexed};
 
 mod collect;
@@ -46,6 +47,7 @@ impl<K: Eq, V> SmallMap<K, V> {
     pub fn new(alloc: Global) -> Self
         ensures empty { result ≡ record { entries = []; room = 0; capacity = 0; indexed = false } }
         ensures lacks { IsEmpty result }
+        ensures own { (feeds : K → HashWrites) → AreOwn feeds result }
     {
         SmallMap {
             entries: VecMap::new(alloc),
@@ -58,6 +60,7 @@ impl<K: Eq, V> SmallMap<K, V> {
     pub fn with_capacity(alloc: Global, capacity: usize) -> Result<Self, AllocError>
         ensures entries { IfOk result (λ map. map.entries ≡ []) }
         ensures lacks { IfOk result IsEmpty }
+        ensures own { IfOk result (λ map. (feeds : K → HashWrites) → AreOwn feeds map) }
         ensures capacity { IfOk result (λ map. map.capacity ≡ capacity) }
         ensures room { IfOk result (λ map. capacity ≤ map.room) }
         ensures indexed { IfOk result (λ map. map.indexed ≡ nat_lt unindexed capacity) }

@@ -1,6 +1,7 @@
 //! `SmallMap`s from the items of iterators.
 ghost use Rattle.std.specs.Prelude.{◌≡◌, ◌+◌, ◌≤◌, ◌||◌, length, nat_lt, IfOk, IsOk, OnErr};
 ghost use Rattle.std.specs.Iterator.{IsFiniteIterable, IsFinite, size};
+ghost use Rattle.starlark_small.specs.Calling.{AreOwn};
 ghost use Rattle.starlark_small.specs.Collect.{Collects, Extends, Inserts, own_entry};
 ghost use Rattle.starlark_small.specs.Index.{unindexed};
 ghost use Rattle.starlark_small.specs.Map.{GrowsFor, KeepsRoom};
@@ -20,6 +21,8 @@ impl<K: Eq + Hash + Drop, V: Drop> SmallMap<K, V> {
         ensures entries { Extends K.eq (own_entry K.hash_input) I.IntoIter.next_gives I.into_iter_gives iter self.old.entries self.new.entries result }
         ensures succeeds { ((it : _) → I.into_iter_gives iter it → size (I.IntoIter.remaining it) ≤ self.old.room) → IsOk result }
         ensures spare { ((it : _) → I.into_iter_gives iter it → size (I.IntoIter.remaining it) ≤ self.old.room) → (self.new.capacity ≡ self.old.capacity) × (self.new.indexed ≡ self.old.indexed) }
+        ensures left { (it : I.IntoIter) × I.into_iter_gives iter it × (self.old.room ≤ self.new.room + size (I.IntoIter.remaining it)) }
+        ensures own { AreOwn K.hash_input self.old → AreOwn K.hash_input self.new }
         ensures full { OnErr result (length self.old.entries + self.old.room ≤ length self.new.entries) }
         ensures room { KeepsRoom self.old self.new }
         ensures capacity { GrowsFor (length self.new.entries + 1) self.old self.new }
@@ -36,6 +39,7 @@ impl<K: Eq + Hash + Drop, V: Drop> SmallMap<K, V> {
     ) -> Result<Self, AllocError>
         requires { IsFiniteIterable I.into_iter_gives I.IntoIter.can_next I.IntoIter.remaining iter }
         ensures map { IfOk result (Collects K.eq (own_entry K.hash_input) I.IntoIter.next_gives I.into_iter_gives I.IntoIter.remaining iter) }
+        ensures own { IfOk result (AreOwn K.hash_input) }
         ensures succeeds { ((it : _) → I.into_iter_gives iter it → size (I.IntoIter.remaining it) ≡ 0) → IsOk result }
     {
         let items = iter.into_iter();
@@ -51,6 +55,7 @@ impl<K: Eq + Hash + Drop, V: Drop> SmallMap<K, V> {
         ensures entries { Inserts K.eq (own_entry K.hash_input) I.next_gives items self.old.entries self.new.entries result }
         ensures succeeds { size (I.remaining items) ≤ self.old.room → IsOk result }
         ensures spare { size (I.remaining items) ≤ self.old.room → (self.new.capacity ≡ self.old.capacity) × (self.new.indexed ≡ self.old.indexed) }
+        ensures left { self.old.room ≤ self.new.room + size (I.remaining items) }
         ensures full { OnErr result (length self.old.entries + self.old.room ≤ length self.new.entries) }
         ensures room { KeepsRoom self.old self.new }
         ensures capacity { GrowsFor (length self.new.entries + 1) self.old self.new }

@@ -1,9 +1,11 @@
 //! What puts entries into a `SmallMap`, and makes room for them.
-ghost use Rattle.std.specs.Prelude.{◌≡◌, ◌<◌, ◌≤◌, ◌++◌, ◌∷◌, [], Some, None, is_some, if◌then◌else◌, IfOk, IfErr, OnOk, OnErr};
+ghost use Rattle.std.specs.Prelude.{◌≡◌, ◌<◌, ◌≤◌, ◌+◌, ◌++◌, ◌∷◌, [], Some, None, is_some, length, if◌then◌else◌, IfOk, IfErr, OnOk, OnErr};
 ghost use Rattle.starlark_lists.specs.Entries.{value_at, match_of, insert_entry};
 ghost use Rattle.starlark_lists.specs.Finding.{found, Writes};
+ghost use Rattle.std.specs.Hash.{HashWrites};
+ghost use Rattle.starlark_hash.specs.Hasher.{own_hash};
 ghost use Rattle.starlark_hash.specs.HashValue.{hash_of, key_of};
-ghost use Rattle.starlark_small.specs.Calling.{get, keys, Updates};
+ghost use Rattle.starlark_small.specs.Calling.{contains, get, keys, AreOwn, Updates};
 ghost use Rattle.starlark_small.specs.Inserted.{IsRefusedFor, IsReserved, LeavesMemory};
 ghost use Rattle.starlark_small.specs.Map.{own_hashed};
 
@@ -30,7 +32,11 @@ impl<K: Eq, V> SmallMap<K, V> {
         ensures updates { OnOk result (Updates K.eq K.hash_input self.old self.new key (Some value)) }
         ensures pushed { OnOk result (get K.eq K.hash_input self.old key ≡ None → self.new.entries ≡ self.old.entries ++ (own_hashed K.hash_input key, value) ∷ []) }
         ensures keys { OnOk result (keys self.new ≡ (if is_some (get K.eq K.hash_input self.old key) then keys self.old else keys self.old ++ key ∷ [])) }
+        ensures count { OnOk result (length self.new.entries ≡ length self.old.entries + (if contains K.eq K.hash_input self.old key then 0 else 1)) }
         ensures lacking { OnErr result (get K.eq K.hash_input self.old key ≡ None) }
+
+        // Keys under their own hashes stay so, done or refused.
+        ensures own { AreOwn K.hash_input self.old → AreOwn K.hash_input self.new }
 
         // A refusal comes only of a new key and without room. The pair comes back, and entries and index stay.
         ensures absent { OnErr result (match_of K.eq self.old.entries (own_hashed K.hash_input key) ≡ None) }
@@ -64,6 +70,8 @@ impl<K: Eq, V> SmallMap<K, V> {
         // The same by key: the value that was there, and what is there now, and at all other keys.
         ensures was { IfOk result (λ old. old ≡ found (K.eq (key_of key)) (hash_of key) self.old.entries) }
         ensures updates { OnOk result (Writes K.eq (K.eq (key_of key)) (hash_of key) self.old.entries self.new.entries (Some value)) }
+        ensures count { OnOk result (length self.new.entries ≡ length self.old.entries + (if is_some (found (K.eq (key_of key)) (hash_of key) self.old.entries) then 0 else 1)) }
+        ensures own { (feeds : K → HashWrites) → hash_of key ≡ own_hash feeds (key_of key) → AreOwn feeds self.old → AreOwn feeds self.new }
 
         // A refusal comes only of a new key and without room. The pair comes back, and entries and index stay.
         ensures absent { OnErr result (match_of K.eq self.old.entries key ≡ None) }

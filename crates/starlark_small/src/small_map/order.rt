@@ -1,7 +1,8 @@
 //! The order of a `SmallMap`'s entries.
 ghost use Rattle.std.specs.Prelude.{◌≡◌, reverse, IsSorted, OnErr, OnOk};
+ghost use Rattle.std.specs.Hash.{HashWrites};
 ghost use Rattle.starlark_lists.specs.Sorting.{Ascends, sorted_by_key};
-ghost use Rattle.starlark_small.specs.Calling.{keys, IsSameAt};
+ghost use Rattle.starlark_small.specs.Calling.{keys, AreOwn, IsSameAt};
 ghost use Rattle.starlark_small.specs.Map.{KeepsMemory};
 
 use super::SmallMap;
@@ -17,6 +18,7 @@ impl<K: Eq, V> SmallMap<K, V> {
         ensures unchanged { OnErr result (self.new.entries ≡ self.old.entries) }
         ensures sorted { OnOk result (IsSorted K.cmp (keys self.new)) }
         ensures same { IsSameAt K.eq self.old self.new }
+        ensures own { (feeds : K → HashWrites) → AreOwn feeds self.old → AreOwn feeds self.new }
         ensures needed { OnErr result (Ascends K.cmp self.old.entries → ⊥) }
         ensures kept { KeepsMemory self.old self.new }
     {
@@ -32,6 +34,7 @@ impl<K: Eq, V> SmallMap<K, V> {
     pub fn reverse(&mut self)
         ensures entries { self.new.entries ≡ reverse self.old.entries }
         ensures same { IsSameAt K.eq self.old self.new }
+        ensures own { (feeds : K → HashWrites) → AreOwn feeds self.old → AreOwn feeds self.new }
         ensures kept { KeepsMemory self.old self.new }
     {
         self.index.forget_all(&self.entries);

@@ -1,4 +1,8 @@
 //! `SmallMap::retain`.
+ghost use Rattle.std.specs.Hash.{HashWrites};
+ghost use Rattle.std.specs.Prelude.{◌≡◌, Bool, filter};
+ghost use Rattle.starlark_lists.specs.Entries.{Entry};
+ghost use Rattle.starlark_small.specs.Calling.{AreOwn};
 ghost use Rattle.starlark_small.specs.Map.{KeepsMemory};
 ghost use Rattle.starlark_lists.specs.Retain.{Retains, TakesInTurn, TakesEntry, CalledAtEntry};
 
@@ -6,11 +10,14 @@ use super::SmallMap;
 
 impl<K: Eq + Drop, V: Drop> SmallMap<K, V> {
     /// Keeps the entries at which the closure answers true, with the value that it leaves, in their order. It is called
-    /// once an entry, from the front. No memory is asked for.
+    /// once an entry, from the front; one that answers by a test of the entry and leaves the value filters the list. No
+    /// memory is asked for.
     #[tactic(auto, using(crate::proofs::Emptying::in_its_order))]
     pub fn retain<F: FnMut(&K, &mut V) -> bool>(&mut self, keep: F)
         requires { TakesInTurn (CalledAtEntry F.FnMut) (TakesEntry F.FnMut) keep self.old.entries }
         ensures entries { Retains (CalledAtEntry F.FnMut) keep self.old.entries self.new.entries }
+        ensures filtered { (test : Entry K V → Bool) → ((f : F) (e : Entry K V) (keeps : Bool) (d : Entry K V) (left : F) → CalledAtEntry F.FnMut f e keeps d left → (keeps ≡ test e) × (d ≡ e)) → self.new.entries ≡ filter test self.old.entries }
+        ensures own { (feeds : K → HashWrites) → AreOwn feeds self.old → AreOwn feeds self.new }
         ensures kept { KeepsMemory self.old self.new }
     {
         prove!(self.entries.len() <= self.entries.capacity());

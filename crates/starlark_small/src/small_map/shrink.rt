@@ -1,10 +1,11 @@
 //! What takes entries out of a `SmallMap`. None of it asks for memory.
-ghost use Rattle.std.specs.Prelude.{◌≡◌, ◌+◌, ◌-◌, ◌<◌, ◌≤◌, [], false, min, nat_le, remove, slice_get, length, if◌then◌else◌, Some, None};
+ghost use Rattle.std.specs.Prelude.{◌≡◌, ◌+◌, ◌-◌, ◌<◌, ◌≤◌, [], false, min, nat_le, remove, slice_get, length, is_some, if◌then◌else◌, Some, None};
 ghost use Rattle.std.specs.Option.{option_map};
 ghost use Rattle.starlark_lists.specs.Entries.{entry_at, value_at, pair_of, without};
 ghost use Rattle.starlark_lists.specs.Finding.{found, Writes};
+ghost use Rattle.std.specs.Hash.{HashWrites};
 ghost use Rattle.starlark_hash.specs.HashValue.{hash_of, key_of};
-ghost use Rattle.starlark_small.specs.Calling.{get, IsEmpty, UpdatesBy};
+ghost use Rattle.starlark_small.specs.Calling.{contains, get, AreOwn, IsEmpty, UpdatesBy};
 ghost use Rattle.starlark_small.specs.Index.{unindexed};
 ghost use Rattle.starlark_small.specs.Map.{KeepsMemory, query_match, own_match};
 
@@ -25,6 +26,8 @@ impl<K: Eq, V> SmallMap<K, V> {
         ensures entries { self.new.entries ≡ without self.old.entries (query_match Q.equivalent self.old.entries key.entry) }
         ensures was { result ≡ found (Q.equivalent (key_of key.entry).now) (hash_of key.entry) self.old.entries }
         ensures updates { Writes K.eq (Q.equivalent (key_of key.entry).now) (hash_of key.entry) self.old.entries self.new.entries None }
+        ensures count { length self.old.entries ≡ length self.new.entries + (if is_some (found (Q.equivalent (key_of key.entry).now) (hash_of key.entry) self.old.entries) then 1 else 0) }
+        ensures own { (feeds : K → HashWrites) → AreOwn feeds self.old → AreOwn feeds self.new }
         ensures kept { KeepsMemory self.old self.new }
     {
         let (_, value) = self.shift_remove_hashed_entry(key)?;
@@ -38,6 +41,8 @@ impl<K: Eq, V> SmallMap<K, V> {
         ensures entries { self.new.entries ≡ without self.old.entries (query_match Q.equivalent self.old.entries key.entry) }
         ensures was { option_map (λ pair. pair.1) result ≡ found (Q.equivalent (key_of key.entry).now) (hash_of key.entry) self.old.entries }
         ensures updates { Writes K.eq (Q.equivalent (key_of key.entry).now) (hash_of key.entry) self.old.entries self.new.entries None }
+        ensures count { length self.old.entries ≡ length self.new.entries + (if is_some (found (Q.equivalent (key_of key.entry).now) (hash_of key.entry) self.old.entries) then 1 else 0) }
+        ensures own { (feeds : K → HashWrites) → AreOwn feeds self.old → AreOwn feeds self.new }
         ensures kept { KeepsMemory self.old self.new }
     {
         let index = self.get_index_of_hashed(key)?;
@@ -55,6 +60,8 @@ impl<K: Eq, V> SmallMap<K, V> {
         ensures entries { self.new.entries ≡ without self.old.entries (own_match Q.equivalent Q.hash_input self.old.entries key.now) }
         ensures was { result ≡ get Q.equivalent Q.hash_input self.old key.now }
         ensures updates { UpdatesBy K.eq Q.equivalent Q.hash_input self.old self.new key.now None }
+        ensures count { length self.old.entries ≡ length self.new.entries + (if contains Q.equivalent Q.hash_input self.old key.now then 1 else 0) }
+        ensures own { (feeds : K → HashWrites) → AreOwn feeds self.old → AreOwn feeds self.new }
         ensures kept { KeepsMemory self.old self.new }
     {
         self.shift_remove_hashed(under_own_hash(key))
@@ -68,6 +75,8 @@ impl<K: Eq, V> SmallMap<K, V> {
         ensures entries { self.new.entries ≡ without self.old.entries (own_match Q.equivalent Q.hash_input self.old.entries key.now) }
         ensures was { option_map (λ pair. pair.1) result ≡ get Q.equivalent Q.hash_input self.old key.now }
         ensures updates { UpdatesBy K.eq Q.equivalent Q.hash_input self.old self.new key.now None }
+        ensures count { length self.old.entries ≡ length self.new.entries + (if contains Q.equivalent Q.hash_input self.old key.now then 1 else 0) }
+        ensures own { (feeds : K → HashWrites) → AreOwn feeds self.old → AreOwn feeds self.new }
         ensures kept { KeepsMemory self.old self.new }
     {
         self.shift_remove_hashed_entry(under_own_hash(key))
@@ -118,6 +127,7 @@ impl<K: Eq, V> SmallMap<K, V> {
         V: Drop,
         ensures entries { self.new.entries ≡ [] }
         ensures lacks { IsEmpty self.new }
+        ensures own { (feeds : K → HashWrites) → AreOwn feeds self.new }
         ensures kept { KeepsMemory self.old self.new }
     {
         prove!(self.entries.len() <= self.entries.capacity());

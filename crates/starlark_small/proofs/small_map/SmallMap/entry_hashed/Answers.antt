@@ -2,6 +2,7 @@ use Rattle.std.proofs.Common.{◌≡◌, Some, None, rules, sym, ap}
 use Rattle.starlark_hash.specs.HashValue.{hash_of, key_of}
 use Rattle.starlark_lists.specs.Entries.{match_of, value_at}
 use Rattle.starlark_small.proofs.CallerUpdates.{found_is, keys-put, writes-inserted, inserted-puts}
+use Rattle.starlark_small.proofs.CallerOwn.{own-inserted}
 use Rattle.starlark_small.proofs.small_map.SmallMap.entry_hashed.Goals as goal
 
 pub returns-in-Some-clause-value : goal.returns-in-Some-clause-value
@@ -37,3 +38,13 @@ pub returns-clause-keys : goal.returns-clause-keys
 returns-clause-keys g c value new put =
     let eq = g.K.PartialEq.eq in
     keys-put eq c.args.self.now new c.args.key value (inserted-puts eq c.args.self.now c.args.key _ (search rules) value new put)
+
+pub returns-in-Some-clause-own : goal.returns-in-Some-clause-own
+returns-in-Some-clause-own g c feeds is value new put =
+    let eq = g.K.PartialEq.eq in
+    own-inserted feeds eq c.args.self.now.entries new.entries c.args.key value (inserted-puts eq c.args.self.now c.args.key _ (search rules) value new put) is
+
+pub returns-clause-own : goal.returns-clause-own
+returns-clause-own g c feeds is value new put =
+    let eq = g.K.PartialEq.eq in
+    own-inserted feeds eq c.args.self.now.entries new.entries c.args.key value (inserted-puts eq c.args.self.now c.args.key _ (search rules) value new put) is

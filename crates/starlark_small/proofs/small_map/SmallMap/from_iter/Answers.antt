@@ -2,6 +2,7 @@ use Rattle.std.specs.Prelude.{◌||◌, nat_lt}
 use Rattle.std.proofs.Common.{◌≡◌, [], length, map, ap, ◌∙◌, arith}
 use Rattle.starlark_small.specs.Collect.{insert_all, own_entry}
 use Rattle.starlark_small.specs.Index.{unindexed}
+use Rattle.starlark_small.proofs.CallerOwn.{own-empty, own-inserted_all}
 use Rattle.starlark_small.proofs.small_map.SmallMap.from_iter.Goals as goal
 
 pub returns-clause-map : goal.returns-clause-map
@@ -20,3 +21,8 @@ returns-clause-map g c =
       capacity = omega (arith, c.insert_items.ensures.capacity.1, c.in_ok-map.ensures.capacity);
       indexed = c.in_ok-insert_items.ensures.indexed ∙ ap (λ had. had || nat_lt unindexed (length c.insert_items.new.self.entries)) c.in_ok-map.ensures.indexed;
     }
+
+pub returns-clause-own : goal.returns-clause-own
+returns-clause-own g c =
+    let put = c.in_ok-insert_items.ensures.entries in
+    own-inserted_all g.K.Hash.hash_input g.K.PartialEq.eq c.in_ok-map.map.entries c.insert_items.new.self.entries put.items put.entries (own-empty g.K.Hash.hash_input c.in_ok-map.map.entries c.in_ok-map.ensures.entries)

@@ -3,6 +3,8 @@ use Rattle.starlark_hash.specs.HashValue.{hash_of, key_of}
 use Rattle.starlark_small.proofs.CallerUpdates.{found_is, writes-inserted}
 use Rattle.starlark_small.proofs.Inserted.{LeavesMemory-written, LeavesMemory-refused}
 use Rattle.starlark_small.proofs.Inserting.{long_is_indexed}
+use Rattle.starlark_small.proofs.CallerUpdates.{length-put}
+use Rattle.starlark_small.proofs.CallerOwn.{own-inserted, own-same}
 use Rattle.starlark_small.proofs.small_map.SmallMap.insert_hashed.Goals as goal
 
 pub returns-in-Some-clause-memory : goal.returns-in-Some-clause-memory
@@ -28,3 +30,18 @@ returns-in-Ok-clause-was g c = found_is (g.K.PartialEq.eq (key_of c.args.key)) (
 
 pub returns-in-Ok-clause-updates : goal.returns-in-Ok-clause-updates
 returns-in-Ok-clause-updates g c = writes-inserted g.K.PartialEq.eq g.met.K.Eq.laws c.args.self.now.entries c.push.new.self.entries c.args.key c.args.value (search rules)
+
+pub returns-in-Some-clause-count : goal.returns-in-Some-clause-count
+returns-in-Some-clause-count g c = length-put g.K.PartialEq.eq c.args.self.now.entries _ c.args.key c.args.value (search rules)
+
+pub returns-in-Some-clause-own : goal.returns-in-Some-clause-own
+returns-in-Some-clause-own g c feeds is = own-inserted feeds g.K.PartialEq.eq c.args.self.now.entries _ c.args.key c.args.value (search rules) is
+
+pub returns-in-Ok-clause-count : goal.returns-in-Ok-clause-count
+returns-in-Ok-clause-count g c = length-put g.K.PartialEq.eq c.args.self.now.entries c.push.new.self.entries c.args.key c.args.value (search rules)
+
+pub returns-in-Ok-clause-own : goal.returns-in-Ok-clause-own
+returns-in-Ok-clause-own g c feeds is = own-inserted feeds g.K.PartialEq.eq c.args.self.now.entries c.push.new.self.entries c.args.key c.args.value (search rules) is
+
+pub returns-in-Err-clause-own : goal.returns-in-Err-clause-own
+returns-in-Err-clause-own g c feeds is = own-same feeds c.args.self.now.entries c.push.new.self.entries c.in-Err.ensures.refused.entries

@@ -3,6 +3,7 @@ use Rattle.std.proofs.iter.Next as it
 use Rattle.starlark_lists.specs.Entries.{match_of}
 use Rattle.starlark_small.specs.Collect.{own_entry}
 use Rattle.starlark_small.proofs.Inserting.{yields_more, filled_none, filled_more, filled_still, long_is_indexed}
+use Rattle.std.proofs.Common.{arith}
 use Rattle.starlark_small.proofs.small_map.SmallMap.insert_items.Goals as goal
 
 pub loop-pair-init : goal.loop-pair-init
@@ -43,8 +44,14 @@ returns-in-Err g c =
       };
       succeeds = λ fits. absurd (still.2 fits);
       spare = still.0.spare;
+      left = omega (arith, still.0.room, still.0.added, inv.counted);
       full = still.1;
       room = still.0.room;
       capacity = still.0.capacity;
       indexed = still.0.indexed;
     }
+
+pub returns-clause-left : goal.returns-clause-left
+returns-clause-left g c =
+    let inv = c.loop-pair.invariant in
+    omega (arith, inv.holds.room, inv.holds.added, inv.counted)

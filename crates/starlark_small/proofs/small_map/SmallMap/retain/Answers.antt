@@ -1,5 +1,8 @@
 use Rattle.std.proofs.Common.{arith}
 use Rattle.starlark_small.proofs.Retained.{IsSingle-retained, length-retained}
+use Rattle.std.proofs.Common.{rules}
+use Rattle.starlark_small.proofs.CallerOwn.{own-retained}
+use Rattle.starlark_small.proofs.Retained.{filtered}
 use Rattle.starlark_small.proofs.small_map.SmallMap.retain.Goals as goal
 
 pub note_all-requires-clause-room : goal.note_all-requires-clause-room
@@ -11,3 +14,9 @@ invariant_of-self g c = record {
   single = IsSingle-retained g.F.FnMut g.K.PartialEq.eq c.args.keep c.self.inside.entries.entries c.retain.new.self.entries c.retain.ensures.entries c.self.invariant.single;
   indexed = c.note_all.ensures.indexed;
 }
+
+pub returns-clause-filtered : goal.returns-clause-filtered
+returns-clause-filtered g c test says = filtered g.F.FnMut test says c.args.keep _ _ (search rules)
+
+pub returns-clause-own : goal.returns-clause-own
+returns-clause-own g c feeds = own-retained feeds g.F.FnMut c.args.keep _ _ (search rules)

@@ -1,6 +1,8 @@
 use Rattle.std.proofs.Common.{Some, rules}
 use Rattle.starlark_hash.specs.HashValue.{hash_of, key_of}
 use Rattle.starlark_small.proofs.CallerUpdates.{pair_found, writes-removed}
+use Rattle.starlark_small.proofs.CallerUpdates.{length-removed}
+use Rattle.starlark_small.proofs.CallerOwn.{own-removed}
 use Rattle.starlark_small.proofs.small_map.SmallMap.shift_remove_hashed_entry.Goals as goal
 
 pub returns-in_err-index-clause-was : goal.returns-in_err-index-clause-was
@@ -22,3 +24,14 @@ returns-clause-updates g c =
     let query = (key_of c.args.key).now in
     writes-removed g.K.PartialEq.eq g.met.K.Eq.laws (hash_of c.args.key) (g.Q.Equivalent.equivalent query) (g.met.Q.Equivalent.respects_eq query)
     c.args.self.now.entries c.take_at-key.new.self.entries c.in_ok-index.ensures.single (search rules)
+
+pub returns-in_err-index-clause-count : goal.returns-in_err-index-clause-count
+returns-in_err-index-clause-count g c =
+    length-removed (g.Q.Equivalent.equivalent (key_of c.args.key).now) (hash_of c.args.key) c.args.self.now.entries c.args.self.now.entries (search rules)
+
+pub returns-clause-count : goal.returns-clause-count
+returns-clause-count g c =
+    length-removed (g.Q.Equivalent.equivalent (key_of c.args.key).now) (hash_of c.args.key) c.args.self.now.entries c.take_at-key.new.self.entries (search rules)
+
+pub returns-clause-own : goal.returns-clause-own
+returns-clause-own g c feeds = own-removed feeds c.args.self.now.entries c.take_at-key.new.self.entries _ c.take_at-key.ensures.entries

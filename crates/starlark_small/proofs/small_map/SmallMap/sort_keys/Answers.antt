@@ -11,6 +11,7 @@ use Rattle.starlark_lists.proofs.SortingLemmas.{IsPermutation-sorted_by}
 use Rattle.starlark_small.specs.Index.{index_room}
 use Rattle.starlark_small.proofs.CallerOrder.{keys-sorted, same-entries, same-permuted}
 use Rattle.starlark_small.proofs.Rooms.{KeepsMemory-turned}
+use Rattle.starlark_small.proofs.CallerOwn.{own-permuted, own-same}
 use Rattle.starlark_small.proofs.small_map.SmallMap.sort_keys.Goals as goal
 
 pub returns-in_err-sort_keys-clause-needed : goal.returns-in_err-sort_keys-clause-needed
@@ -59,3 +60,12 @@ returns-clause-same g c under key =
     rw (← c.self.view_is)
     (same-permuted g.K.PartialEq.eq g.met.K.Eq.laws _ _ c.self.invariant.single
     (subst (λ l. IsPermutation es l.entries) (sym c.in_ok-sort_keys.ensures.sorted) (IsPermutation-sorted_by (key_lt g.K.Ord.cmp) es)) under key)
+
+pub returns-in_err-sort_keys-clause-own : goal.returns-in_err-sort_keys-clause-own
+returns-in_err-sort_keys-clause-own g c feeds = own-same feeds c.args.self.now.entries _ (search rules)
+
+pub returns-clause-own : goal.returns-clause-own
+returns-clause-own g c feeds =
+    let es = c.self.inside.entries.entries in
+    rw (← c.self.view_is)
+    (own-permuted feeds _ _ (subst (λ l. IsPermutation es l.entries) (sym c.in_ok-sort_keys.ensures.sorted) (IsPermutation-sorted_by (key_lt g.K.Ord.cmp) es)))

@@ -1,0 +1,84 @@
+-- Which lists have each key under its own hash: what insertions, removals and moves leave of them.
+use Rattle.std.proofs.Common.{◌≡◌, ℕ, zero, suc, Bool, List, [], ◌∷◌, ◌++◌, map, remove, Option, Some, None, IsPermutation, refl, sym, subst, arith}
+use Rattle.std.specs.Borrow.{Bor, MutBor}
+use Rattle.std.specs.Fn.{Mut}
+use Rattle.std.specs.Hash.{HashWrites}
+use Rattle.std.specs.List.{All}
+use Rattle.std.specs.Option.{option_map_or}
+use Rattle.std.proofs.lemmas.List.Elements.{All-cons, All-head, All-tail}
+use Rattle.std.proofs.lemmas.List.Sorted.{All-permutation}
+use Rattle.starlark_hash.specs.declared.hashed.Hashed.{Hashed}
+use Rattle.starlark_hash.specs.Hasher.{own_hash}
+use Rattle.starlark_hash.specs.HashValue.{hash_of, key_of}
+use Rattle.starlark_lists.specs.Entries.{Entry, entry_hash, entry_key, insert_entry, match_of, set_value_at, without}
+use Rattle.starlark_lists.specs.Retain.{CalledAtEntry, Retains}
+use Rattle.starlark_small.specs.Calling.{AreOwnEntries}
+use Rattle.starlark_small.specs.Collect.{insert_all, own_entry}
+use Rattle.starlark_small.proofs.Retained.{all_retained}
+
+module _ {K V : Type 0} (feeds : K → HashWrites) where
+  -- the entry stands under its key's own hash
+  abbrev is_own : Entry K V → Type 0
+  is_own e = entry_hash e ≡ own_hash feeds (entry_key e)
+
+  set_own : (es : List (Entry K V)) (i : ℕ) (w : V) → All is_own es → All is_own (set_value_at es i w)
+  set_own [] i w own = own
+  set_own (e ∷ es) zero w own = All-cons is_own (e.0, w) es (All-head is_own e es own) (All-tail is_own e es own)
+  set_own (e ∷ es) (suc i) w own = All-cons is_own e (set_value_at es i w) (All-head is_own e es own) (set_own es i w (All-tail is_own e es own))
+
+  push_own : (es : List (Entry K V)) (e : Entry K V) → All is_own es → is_own e → All is_own (es ++ e ∷ [])
+  push_own [] e own is = All-cons is_own e [] is own
+  push_own (d ∷ es) e own is = All-cons is_own d (es ++ e ∷ []) (All-head is_own d es own) (push_own es e (All-tail is_own d es own) is)
+
+  remove_own : (es : List (Entry K V)) (i : ℕ) → All is_own es → All is_own (remove es i)
+  remove_own [] zero own = own
+  remove_own [] (suc i) own = own
+  remove_own (e ∷ es) zero own = All-tail is_own e es own
+  remove_own (e ∷ es) (suc i) own = All-cons is_own e (remove es i) (All-head is_own e es own) (remove_own es i (All-tail is_own e es own))
+
+  insert_own : (eq : K → K → Bool) (es : List (Entry K V)) (key : Hashed K) (value : V) → hash_of key ≡ own_hash feeds (key_of key) → All is_own es → All is_own (insert_entry eq es key value)
+  insert_own eq es key value is own = elim (match_of eq es key) as (λ o. All is_own (option_map_or (λ i. set_value_at es i value) o (es ++ (key, value) ∷ []))) [
+    | None ↦ push_own es (key, value) own is
+    | Some i ↦ set_own es i value own
+  ]
+
+  insert_all_own : (eq : K → K → Bool) (items : List (K × V)) (es : List (Entry K V)) → All is_own es → All is_own (insert_all eq es (map (own_entry feeds) items))
+  insert_all_own eq [] es own = own
+  insert_all_own eq (x ∷ xs) es own =
+      let e = own_entry feeds x in
+      insert_all_own eq xs (insert_entry eq es e.0 e.1) (insert_own eq es e.0 e.1 refl own)
+
+  without_own : (es : List (Entry K V)) (place : Option ℕ) → All is_own es → All is_own (without es place)
+  without_own es None own = own
+  without_own es (Some i) own = remove_own es i own
+
+  pub own-empty : (es : List (Entry K V)) → es ≡ [] → AreOwnEntries feeds es
+  unfolding AreOwnEntries
+  own-empty es none = subst (All is_own) (sym none) (λ k d below. absurd (omega (arith, below)))
+
+  pub own-same : (old new : List (Entry K V)) → new ≡ old → AreOwnEntries feeds old → AreOwnEntries feeds new
+  own-same old new same own = subst (AreOwnEntries feeds) (sym same) own
+
+  pub own-inserted : (eq : K → K → Bool) (old new : List (Entry K V)) (key : Hashed K) (value : V) → new ≡ insert_entry eq old key value → hash_of key ≡ own_hash feeds (key_of key)
+      → AreOwnEntries feeds old → AreOwnEntries feeds new
+  unfolding AreOwnEntries
+  own-inserted eq old new key value put is own = subst (All is_own) (sym put) (insert_own eq old key value is own)
+
+  pub own-inserted_all : (eq : K → K → Bool) (old new : List (Entry K V)) (items : List (K × V)) → new ≡ insert_all eq old (map (own_entry feeds) items) → AreOwnEntries feeds old → AreOwnEntries feeds new
+  unfolding AreOwnEntries
+  own-inserted_all eq old new items put own = subst (All is_own) (sym put) (insert_all_own eq items old own)
+
+  pub own-without : (old new : List (Entry K V)) (place : Option ℕ) → new ≡ without old place → AreOwnEntries feeds old → AreOwnEntries feeds new
+  unfolding AreOwnEntries
+  own-without old new place put own = subst (All is_own) (sym put) (without_own old place own)
+
+  pub own-removed : (old new : List (Entry K V)) (i : ℕ) → new ≡ remove old i → AreOwnEntries feeds old → AreOwnEntries feeds new
+  own-removed old new i put = own-without old new (Some i) put
+
+  pub own-retained : {F : Type 0} (g : Mut F (Bor K × (MutBor V × Unit {0})) (Bool × (MutBor V × Unit {0}))) (f : F) (old new : List (Entry K V)) → Retains (CalledAtEntry g) f old new → AreOwnEntries feeds old → AreOwnEntries feeds new
+  unfolding AreOwnEntries
+  own-retained g f old new kept own = all_retained g (λ k. hash_of k ≡ own_hash feeds (key_of k)) f old new kept own
+
+  pub own-permuted : (old new : List (Entry K V)) → IsPermutation old new → AreOwnEntries feeds old → AreOwnEntries feeds new
+  unfolding AreOwnEntries
+  own-permuted old new moves own = All-permutation is_own old new moves own
