@@ -1,8 +1,9 @@
 //! Plays a script of map calls: reads standard input, and writes the reply to each line.
 #![tactic(auto)]
 
-use starlark_lines::PlayFault;
+use starlark_lines::{PlayFault, PromptReader, SharedWriter};
 use starlark_play::play::play;
+use std::cell::RefCell;
 use std::io::{BufWriter, Write};
 use std::process::ExitCode;
 
@@ -16,13 +17,16 @@ fn main(rt: HostRuntime) -> ExitCode {
     }
 }
 
-// Plays standard input, and puts the replies out whether or not it was played to its end.
+// Plays standard input, and puts the replies out before each read and at the end, whether or not it was played to its end.
 fn run(rt: &HostRuntime) -> Result<(), PlayFault> {
-    let Ok(mut output) = BufWriter::new(rt.alloc(), rt.stdout()) else {
+    let Ok(output) = BufWriter::new(rt.alloc(), rt.stdout()) else {
         return Err(PlayFault::Memory);
     };
-    let played = play(rt.alloc(), &mut rt.stdin(), &mut output);
-    match output.flush() {
+    let output = RefCell::new(output);
+    let mut reader = PromptReader::new(rt.stdin(), &output);
+    let mut writer = SharedWriter::new(&output);
+    let played = play(rt.alloc(), &mut reader, &mut writer);
+    match writer.flush() {
         Ok(()) => played,
         Err(_) => Err(PlayFault::Io),
     }

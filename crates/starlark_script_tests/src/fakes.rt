@@ -1,6 +1,7 @@
 //! Readers and writers that take or give little a call, and fail at one call.
 
 use std::alloc::Global;
+use std::cell::RefCell;
 use std::io;
 use std::io::{ErrorKind, Read, Write};
 
@@ -72,6 +73,43 @@ impl Write for Full {
     }
 }
 
+/// Keeps what it is given until it is flushed.
+#[derive(Drop)]
+pub struct Held {
+    kept: Vec<u8>,
+    /// The bytes that went out.
+    pub out: Vec<u8>,
+}
+
+impl Write for Held {
+    fn write(&mut self, buf: &[u8]) -> io::Result<usize> {
+        self.kept.extend_from_slice(buf)?;
+        Ok(buf.len())
+    }
+
+    fn flush(&mut self) -> io::Result<()> {
+        self.out.extend_from_slice(self.kept.as_slice())?;
+        self.kept.clear();
+        Ok(())
+    }
+}
+
+/// Gives what the pieces give, and fails where the writer keeps anything back.
+#[derive(Drop)]
+pub struct Asked<'a> {
+    pieces: Pieces<'a>,
+    writer: &'a RefCell<Held>,
+}
+
+impl Read for Asked<'_> {
+    fn read(&mut self, buf: &mut [u8]) -> io::Result<usize> {
+        if !self.writer.try_borrow()?.kept.is_empty() {
+            return Err(io::Error::from(ErrorKind::Other));
+        }
+        self.pieces.read(buf)
+    }
+}
+
 /// A failure that no script reaches.
 pub const NEVER: usize = usize::MAX;
 
@@ -103,5 +141,21 @@ pub fn narrow_writer(
         kind,
         flushes: 0,
         flush_fails,
+    }
+}
+
+/// A writer that keeps what it is given until it is flushed.
+pub fn held_writer(alloc: Global) -> Held {
+    Held {
+        kept: Vec::new(alloc),
+        out: Vec::new(alloc),
+    }
+}
+
+/// A reader of the script, so many bytes a call, that fails where the writer keeps anything back.
+pub fn asked_reader<'a>(script: &'a str, most: usize, writer: &'a RefCell<Held>) -> Asked<'a> {
+    Asked {
+        pieces: bytes_in_pieces(script, most, NEVER, ErrorKind::Other),
+        writer,
     }
 }

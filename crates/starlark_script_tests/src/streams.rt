@@ -1,9 +1,10 @@
 //! Reads, writes and flushes that fail under `play`, and the text of each fault.
 
-use crate::fakes::{Full, NEVER, bytes_in_pieces, narrow_writer};
+use crate::fakes::{Full, NEVER, asked_reader, bytes_in_pieces, held_writer, narrow_writer};
 use crate::given::holds;
-use starlark_lines::{PlayFault, lines_are_of_one};
+use starlark_lines::{PlayFault, PromptReader, SharedWriter, lines_are_of_one};
 use starlark_play::play::play;
+use std::cell::RefCell;
 use std::io::ErrorKind;
 use std::test::Fail;
 
@@ -71,6 +72,37 @@ fn flushes_at_the_end_alone(rt: HostRuntime) -> Result<(), Fail> {
         let mut reader = script.as_bytes();
         let _ = play(rt.alloc(), &mut reader, &mut writer);
         assert!(rt; writer.flushes == flushes, "{script}");
+    }
+    Ok(())
+}
+
+// The writer has nothing left to put out whenever the reader is asked.
+#[test]
+fn replies_go_out_before_a_read(rt: HostRuntime) -> Result<(), Fail> {
+    for most in [1, 11, 100] {
+        let output = RefCell::new(held_writer(rt.alloc()));
+        let script = "put 1 a 10\nget 1 a\nlen\n";
+        let mut reader = PromptReader::new(asked_reader(script, most, &output), &output);
+        let mut writer = SharedWriter::new(&output);
+        holds(&rt, play(rt.alloc(), &mut reader, &mut writer) == Ok(()));
+        let replies = output.into_inner().out;
+        holds(&rt, replies.as_slice() == "none\nsome 10\n1\n".as_bytes());
+    }
+    Ok(())
+}
+
+// A flush that fails before a read is answered as a read that failed.
+#[test]
+fn failing_flushes_before_a_read(rt: HostRuntime) -> Result<(), Fail> {
+    for kind in KINDS {
+        let output = RefCell::new(narrow_writer(rt.alloc(), NEVER, kind, true));
+        let mut reader = PromptReader::new("len\n".as_bytes(), &output);
+        let mut writer = SharedWriter::new(&output);
+        holds(
+            &rt,
+            play(rt.alloc(), &mut reader, &mut writer) == Err(PlayFault::Io),
+        );
+        holds(&rt, output.into_inner().taken.is_empty());
     }
     Ok(())
 }
