@@ -11,6 +11,7 @@ import random
 import resource
 import subprocess
 import sys
+from bisect import bisect
 
 WORD = 1 << 64
 FACTOR = 0x9E3779B97F4A7C15
@@ -24,13 +25,19 @@ def promoted(hash):
 
 
 def one_home(count):
-    """Hashes whose promoted bits 32 to 46 are 0, ascending: one home in every table of up to 32768 places."""
-    # the least steps that lead up, down, and up and down, from one such hash to another
-    steps = 7037, 2_686_747, 2_693_784
-    hashes = [0]
-    while len(hashes) < count:
-        hashes.append(next(hashes[-1] + it for it in steps if promoted(hashes[-1] + it) >> 32 & 0x7FFF == 0))
-    return hashes
+    """Hashes whose promoted bits 32 to 46 are its lowest 15, ascending: one home in every table of up to 32768 places."""
+    # of a hash a + 2^15 b, a alone makes the lowest bits; b moves those above, by so much modulo 2^32
+    moves = sorted((b * FACTOR % (1 << 32), b) for b in range(1 << 17))
+    hashes = []
+    for a in range(1 << 15):
+        above, lowest = divmod(promoted(a), 1 << 15)
+        first = ((lowest << 17) - above) % (1 << 32)
+        at = bisect(moves, (first,))
+        while (moves[at % len(moves)][0] - first) % (1 << 32) < 1 << 17:
+            hashes.append(a + (moves[at % len(moves)][1] << 15))
+            at += 1
+        if len(hashes) >= count:
+            return sorted(hashes[:count])
 
 
 def cases(count):

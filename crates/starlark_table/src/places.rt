@@ -39,7 +39,7 @@ pub(crate) fn window_after(start: usize, mask: usize) -> usize
 pub(crate) fn home(hash: u64, mask: usize) -> usize
     ensures { result ≡ home (mask + 1) hash }
 {
-    (hash >> 32) as usize & mask
+    ((hash >> 32) ^ hash) as usize & mask
 }
 
 #[inline]
