@@ -19,7 +19,8 @@ use Rattle.starlark_small.proofs.CallerKeys.{and_false, both, under}
 use Rattle.starlark_small.proofs.CallerPositions.{here, later}
 use Rattle.starlark_sets.specs.Set.{Adds, Set}
 use Rattle.starlark_sets.proofs.Additions.{is_some-value_at, set_unit_at}
-use Rattle.starlark_sets.specs.Calling.{found, found_key, IsEmpty, Writes}
+use Rattle.starlark_lists.specs.Finding.{found, found_key, Writes}
+use Rattle.starlark_small.specs.Calling.{IsEmpty}
 
 module _ {K V : Type 0} (test : K → Bool) (hash : StarlarkHashValue) (es : List (Entry K V)) where
   pub found_is : (o : Option V) → o ≡ value_at es (position_of hash test es) → o ≡ found test hash es

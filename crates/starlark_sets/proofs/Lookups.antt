@@ -22,10 +22,15 @@ use Rattle.starlark_small.proofs.CallerEntries.{length-insert_entry, length-with
 use Rattle.starlark_small.proofs.CallerKeys.{same_key}
 use Rattle.starlark_small.proofs.CallerOrder.{lookup_permuted}
 use Rattle.starlark_small.proofs.SameEntries.{distinct}
-use Rattle.starlark_sets.specs.Calling.{AreOwn, found, found_key, Writes}
-use Rattle.starlark_sets.specs.Others.{FindsAlike, LacksNow}
+use Rattle.starlark_lists.specs.Finding.{found, found_key, Writes}
+use Rattle.starlark_small.specs.Calling.{AreOwnEntries}
+use Rattle.starlark_sets.specs.Others.{LacksNow}
 use Rattle.starlark_sets.proofs.Additions.{is_some-value_at}
 use Rattle.starlark_sets.proofs.Callers.{key_stands, writes-removed}
+
+-- each key, under each hash, has what it had
+abbrev pub FindsAlike : {K V : Type 0} → (K → K → Bool) → List (Entry K V) → List (Entry K V) → Type 0
+FindsAlike {K = K} eq old new = (under : StarlarkHashValue) (key : K) → found (eq key) under new ≡ found (eq key) under old
 
 module _ {K V : Type 0} (test : K → Bool) (hash : StarlarkHashValue) (es : List (Entry K V)) where
   -- the stored key that is found: it is there where a value is, and passes
@@ -100,7 +105,7 @@ module _ {K V : Type 0} (eq : K → K → Bool) (laws : IsEquivalence eq) where
       subst (λ (k : Hashed K). Writes eq (eq k.key) k.hash old new None) e.2 (writes-taken old new i e.0 single e.1 is)
 
   pub lacks-key : (old new : Map K V) (i : ℕ) (key : K) → IsSingle eq old.entries → Some key ≡ option_map entry_key (slice_get old.entries i) → new.entries ≡ remove old.entries i → LacksNow eq old new key
-  unfolding AreOwn
+  unfolding AreOwnEntries
   lacks-key old new i key single at is =
       let e = an_entry entry_key key (slice_get old.entries i) at in
       let taken : Writes eq (eq key) e.0.0.hash old.entries new.entries None = subst (λ (k : K). Writes eq (eq k) e.0.0.hash old.entries new.entries None) e.2 (writes-taken old.entries new.entries i e.0 single e.1 is) in

@@ -10,5 +10,4 @@ pub mod Difference
 pub mod Union
 pub mod Collect
 pub mod Retain
-pub mod Calling
 pub mod Others

@@ -9,7 +9,7 @@ use Rattle.starlark_small.specs.Map.{Map}
 use Rattle.starlark_small.specs.MapEntry.{map_of_entry}
 use Rattle.starlark_small.specs.declared.entry.Entry.{Entry}
 use Rattle.starlark_small.specs.contracts.small_map.SmallMap as small
-use Rattle.starlark_sets.specs.Calling.{Writes, found}
+use Rattle.starlark_lists.specs.Finding.{Writes, found}
 use Rattle.starlark_sets.specs.contracts.ordered_map.OrderedMap.{the_row}
 
 module _ (K V : RattleType) (g : eq.Ghosts K.Denot) (s : MutBor (Map K.Denot V.Denot)) where

@@ -8,7 +8,7 @@ use Rattle.starlark_lists.specs.Entries.{position_of, with_value}
 use Rattle.starlark_vecmap.specs.EntryList.{with_values}
 use Rattle.starlark_small.specs.Map.{Map}
 use Rattle.starlark_small.specs.contracts.small_map.SmallMap as small
-use Rattle.starlark_sets.specs.Calling.{Writes, found}
+use Rattle.starlark_lists.specs.Finding.{Writes, found}
 use Rattle.starlark_sorted.specs.contracts.sorted_map.SortedMap as sorted
 
 module _ (K V : RattleType) (cmp : K.Denot → K.Denot → Ordering) (eq : K.Denot → K.Denot → Bool) (partial_cmp : K.Denot → K.Denot → Option Ordering) (feeds : K.Denot → HashWrites) where

@@ -11,8 +11,7 @@ ghost use Rattle.starlark_small.specs.Inserted.{LeavesMemory};
 ghost use Rattle.starlark_small.specs.Map.{KeepsMemory, KeepsRoom, GrowsFor, own_hashed};
 ghost use Rattle.starlark_vec2.specs.Collect.{IsLawfulClone};
 ghost use Rattle.starlark_lists.specs.Clone.{IsEntryClone};
-ghost use Rattle.starlark_sets.specs.Calling.{Updates, contains, get};
-ghost use Rattle.starlark_sets.specs.Others.{FindsAlike};
+ghost use Rattle.starlark_small.specs.Calling.{IsSameAt, Updates, contains, get};
 
 use super::OrderedMap;
 use starlark_hash::NoRoom;
@@ -59,7 +58,7 @@ impl<K: Eq, V> OrderedMap<K, V> {
         K: Ord,
         ensures entries { OnOk result (self.new.entries ≡ sorted_by_key K.cmp self.old.entries) }
         ensures unchanged { OnErr result (self.new.entries ≡ self.old.entries) }
-        ensures same { FindsAlike K.eq self.old.entries self.new.entries }
+        ensures same { IsSameAt K.eq self.old self.new }
         ensures succeeds { Ascends K.cmp self.old.entries → IsOk result }
         ensures kept { KeepsMemory self.old self.new }
     {

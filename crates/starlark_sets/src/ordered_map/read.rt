@@ -4,7 +4,7 @@ ghost use Rattle.std.specs.Map.Iter.{deref_pair};
 ghost use Rattle.std.specs.Option.{option_copied, option_map};
 ghost use Rattle.starlark_lists.specs.Entries.{value_at, pair_of};
 ghost use Rattle.starlark_small.specs.Map.{own_match};
-ghost use Rattle.starlark_sets.specs.Calling.{contains, get};
+ghost use Rattle.starlark_small.specs.Calling.{contains, get};
 
 use super::OrderedMap;
 use starlark_hash::Equivalent;

@@ -2,7 +2,7 @@
 ghost use Rattle.std.specs.Prelude.{◌≡◌, ◌+◌, [], None, if◌then◌else◌, length};
 ghost use Rattle.starlark_lists.specs.Entries.{value_at, without};
 ghost use Rattle.starlark_small.specs.Map.{KeepsMemory, own_match};
-ghost use Rattle.starlark_sets.specs.Calling.{IsEmpty, UpdatesBy, contains, get};
+ghost use Rattle.starlark_small.specs.Calling.{IsEmpty, UpdatesBy, contains, get};
 
 use super::OrderedMap;
 use starlark_hash::Equivalent;

@@ -7,7 +7,7 @@ ghost use Rattle.starlark_lists.specs.Entries.{entry_value, pair_of, value_at};
 ghost use Rattle.starlark_small.specs.Map.{own_hashed, own_match};
 ghost use Rattle.starlark_small.specs.MapEntry.{IsEntryOf};
 ghost use Rattle.starlark_hash.specs.Hasher.{own_hash};
-ghost use Rattle.starlark_sets.specs.Calling.{get};
+ghost use Rattle.starlark_small.specs.Calling.{get};
 ghost use Rattle.starlark_sets.specs.OrderedLending.{follows_entry, lends_get, lends_inside, values_follow};
 
 use super::OrderedMap;

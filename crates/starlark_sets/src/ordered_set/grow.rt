@@ -10,9 +10,8 @@ ghost use Rattle.starlark_small.specs.Index.{unindexed};
 ghost use Rattle.starlark_small.specs.Inserted.{IsInserted, IsRefused};
 ghost use Rattle.starlark_small.specs.Map.{GrowsFor, KeepsMemory, KeepsRoom, own_hashed};
 ghost use Rattle.starlark_vec2.specs.Collect.{IsLawfulClone};
-ghost use Rattle.starlark_sets.specs.Calling.{Updates, contains};
+ghost use Rattle.starlark_small.specs.Calling.{IsSameAt, Updates, contains};
 ghost use Rattle.starlark_sets.specs.Collect.{own_element};
-ghost use Rattle.starlark_sets.specs.Others.{FindsAlike};
 ghost use Rattle.starlark_sets.specs.Set.{Adds};
 ghost use Rattle.starlark_sets.specs.Unit.{IsElementClone};
 
@@ -63,7 +62,7 @@ impl<T: Eq> OrderedSet<T> {
         T: Ord,
         ensures entries { OnOk result (self.new.entries ≡ sorted_by_key T.cmp self.old.entries) }
         ensures unchanged { OnErr result (self.new.entries ≡ self.old.entries) }
-        ensures same { FindsAlike T.eq self.old.entries self.new.entries }
+        ensures same { IsSameAt T.eq self.old self.new }
         ensures succeeds { Ascends T.cmp self.old.entries → IsOk result }
         ensures kept { KeepsMemory self.old self.new }
     {

@@ -4,7 +4,8 @@ ghost use Rattle.std.specs.Option.{option_copied, option_map};
 ghost use Rattle.starlark_hash.specs.HashValue.{hash_of, key_of};
 ghost use Rattle.starlark_lists.specs.Entries.{entry_key};
 ghost use Rattle.starlark_small.specs.Map.{own_match, query_match};
-ghost use Rattle.starlark_sets.specs.Calling.{contains, found, get_key};
+ghost use Rattle.starlark_lists.specs.Finding.{found};
+ghost use Rattle.starlark_small.specs.Calling.{contains, get_key};
 ghost use Rattle.starlark_sets.specs.Set.{element_at};
 
 use super::OrderedSet;

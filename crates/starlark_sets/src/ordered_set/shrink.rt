@@ -2,8 +2,7 @@
 ghost use Rattle.std.specs.Prelude.{◌≡◌, ◌+◌, [], None, if◌then◌else◌, is_some, length, reverse, IfSome, IsTrue};
 ghost use Rattle.starlark_lists.specs.Entries.{without};
 ghost use Rattle.starlark_small.specs.Map.{KeepsMemory, own_match};
-ghost use Rattle.starlark_sets.specs.Calling.{IsEmpty, UpdatesBy, contains, get_key};
-ghost use Rattle.starlark_sets.specs.Others.{FindsAlike};
+ghost use Rattle.starlark_small.specs.Calling.{IsEmpty, IsSameAt, UpdatesBy, contains, get_key};
 ghost use Rattle.starlark_sets.specs.Set.{element_at};
 
 use super::OrderedSet;
@@ -40,7 +39,7 @@ impl<T: Eq> OrderedSet<T> {
 
     /// Turns the order of the elements round.
     pub fn reverse(&mut self)
-        ensures same { FindsAlike T.eq self.old.entries self.new.entries }
+        ensures same { IsSameAt T.eq self.old self.new }
         ensures entries { self.new.entries ≡ reverse self.old.entries }
         ensures kept { KeepsMemory self.old self.new }
     {

@@ -5,8 +5,8 @@ ghost use Rattle.starlark_lists.specs.Entries.{match_of};
 ghost use Rattle.starlark_lists.specs.Sorting.{Ascends, sorted_by_key};
 ghost use Rattle.starlark_small.specs.Inserted.{IsRefusedFor, IsReserved};
 ghost use Rattle.starlark_small.specs.Map.{KeepsMemory, own_hashed};
-ghost use Rattle.starlark_sets.specs.Calling.{Updates, Writes, contains, found};
-ghost use Rattle.starlark_sets.specs.Others.{FindsAlike};
+ghost use Rattle.starlark_lists.specs.Finding.{Writes, found};
+ghost use Rattle.starlark_small.specs.Calling.{IsSameAt, Updates, contains};
 ghost use Rattle.starlark_sets.specs.Set.{Adds};
 
 use super::SmallSet;
@@ -74,7 +74,7 @@ impl<T: Eq> SmallSet<T> {
         T: Ord,
         ensures entries { OnOk result (self.new.entries ≡ sorted_by_key T.cmp self.old.entries) }
         ensures unchanged { OnErr result (self.new.entries ≡ self.old.entries) }
-        ensures same { FindsAlike T.eq self.old.entries self.new.entries }
+        ensures same { IsSameAt T.eq self.old self.new }
         ensures succeeds { Ascends T.cmp self.old.entries → IsOk result }
         ensures kept { KeepsMemory self.old self.new }
     {

@@ -5,7 +5,8 @@ ghost use Rattle.starlark_hash.specs.HashValue.{hash_of, key_of};
 ghost use Rattle.starlark_lists.specs.Entries.{entry_key};
 ghost use Rattle.starlark_small.specs.Map.{own_match, query_match, query_match_by_value};
 ghost use Rattle.starlark_sets.specs.Set.{element_at};
-ghost use Rattle.starlark_sets.specs.Calling.{contains, found, found_key, get_key};
+ghost use Rattle.starlark_lists.specs.Finding.{found, found_key};
+ghost use Rattle.starlark_small.specs.Calling.{contains, get_key};
 
 use super::SmallSet;
 use starlark_hash::{Equivalent, Hashed};

@@ -5,8 +5,9 @@ ghost use Rattle.starlark_hash.specs.HashValue.{hash_of, key_of};
 ghost use Rattle.starlark_lists.specs.Entries.{entry_key, without};
 ghost use Rattle.starlark_small.specs.Map.{KeepsMemory, own_match, query_match};
 ghost use Rattle.starlark_sets.specs.Set.{element_at};
-ghost use Rattle.starlark_sets.specs.Calling.{IsEmpty, UpdatesBy, Writes, contains, found, get_key};
-ghost use Rattle.starlark_sets.specs.Others.{FindsAlike, LacksNow};
+ghost use Rattle.starlark_lists.specs.Finding.{Writes, found};
+ghost use Rattle.starlark_small.specs.Calling.{IsEmpty, IsSameAt, UpdatesBy, contains, get_key};
+ghost use Rattle.starlark_sets.specs.Others.{LacksNow};
 
 use super::SmallSet;
 use starlark_hash::{Equivalent, Hashed};
@@ -126,7 +127,7 @@ impl<T: Eq> SmallSet<T> {
 
     /// Turns the order of the elements round.
     pub fn reverse(&mut self)
-        ensures same { FindsAlike T.eq self.old.entries self.new.entries }
+        ensures same { IsSameAt T.eq self.old self.new }
         ensures entries { self.new.entries ≡ reverse self.old.entries }
         ensures kept { KeepsMemory self.old self.new }
     {

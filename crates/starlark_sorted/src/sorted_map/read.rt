@@ -3,7 +3,7 @@ ghost use Rattle.std.specs.Prelude.{◌≡◌, ◌==◌, length, is_some};
 ghost use Rattle.std.specs.Option.{option_copied};
 ghost use Rattle.starlark_lists.specs.Entries.{value_at};
 ghost use Rattle.starlark_small.specs.Map.{own_match};
-ghost use Rattle.starlark_sets.specs.Calling.{contains, get};
+ghost use Rattle.starlark_small.specs.Calling.{contains, get};
 
 use super::SortedMap;
 use starlark_hash::Equivalent;

@@ -6,7 +6,7 @@ ghost use Rattle.std.specs.Option.{option_copied_mut, IfNone};
 ghost use Rattle.starlark_lists.specs.Entries.{entry_value, pair_of, value_at};
 ghost use Rattle.starlark_small.specs.Map.{own_match};
 ghost use Rattle.starlark_hash.specs.Hasher.{own_hash};
-ghost use Rattle.starlark_sets.specs.Calling.{get};
+ghost use Rattle.starlark_small.specs.Calling.{get};
 ghost use Rattle.starlark_sorted.specs.Lending.{lends_get, values_follow};
 
 use super::SortedMap;

@@ -3,7 +3,7 @@ ghost use Rattle.std.specs.Prelude.{◌≡◌, ◌==◌, slice_get, length, is_s
 ghost use Rattle.std.specs.Option.{option_copied, option_map};
 ghost use Rattle.starlark_lists.specs.Entries.{entry_key};
 ghost use Rattle.starlark_small.specs.Map.{own_match};
-ghost use Rattle.starlark_sets.specs.Calling.{contains, get_key};
+ghost use Rattle.starlark_small.specs.Calling.{contains, get_key};
 ghost use Rattle.starlark_sets.specs.Set.{element_at};
 
 use super::SortedSet;

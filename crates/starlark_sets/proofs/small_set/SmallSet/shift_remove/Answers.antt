@@ -1,6 +1,6 @@
 use Rattle.std.proofs.Common.{subst, None}
 use Rattle.starlark_hash.specs.Hasher.{own_hash}
-use Rattle.starlark_sets.specs.Calling.{Writes}
+use Rattle.starlark_lists.specs.Finding.{Writes}
 use Rattle.starlark_sets.proofs.Callers.{writes-removed}
 use Rattle.starlark_sets.proofs.Lookups.{length-removed}
 use Rattle.starlark_sets.proofs.small_set.SmallSet.shift_remove.Goals as goal
