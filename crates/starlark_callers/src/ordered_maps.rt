@@ -1,0 +1,145 @@
+//! Callers of ordered maps.
+ghost use Rattle.std.specs.Hash as fed;
+ghost use Rattle.std.specs.Option.{unwrap_or};
+ghost use Rattle.std.specs.Prelude.{◌≡◌, ℕ, ◌+◌, ◌-◌, ◌^◌, if◌then◌else◌, is_some, length, min, nat_eq, false, Some, None, IfOk, OnOk, OnErr};
+ghost use Rattle.std.specs.String.{string_bytes, string_eq};
+ghost use Rattle.std.specs.declared.alloc.Global.{Global};
+ghost use Rattle.std.specs.declared.string.String.{String};
+ghost use Rattle.starlark_small.specs.Calling.{contains, get, get_text};
+
+use starlark_hash::{NoRoom, TextKey};
+use starlark_sets::OrderedMap;
+use std::alloc::AllocError;
+use std::hash::Hash;
+
+/// Puts a value under a number.
+pub fn record(
+    map: &mut OrderedMap<u32, u64>,
+    key: u32,
+    value: u64,
+) -> Result<(), NoRoom<(u32, u64)>>
+    ensures here { OnOk result (get nat_eq fed.u32 map.new key ≡ Some value) }
+    ensures others { OnOk result ((other : ℕ) → nat_eq key other ≡ false → get nat_eq fed.u32 map.new other ≡ get nat_eq fed.u32 map.old other) }
+    ensures unchanged { OnErr result ((other : ℕ) → get nat_eq fed.u32 map.new other ≡ get nat_eq fed.u32 map.old other) }
+{
+    map.insert(key, value)?;
+    Ok(())
+}
+
+/// Puts a value under any key.
+pub fn record_any<K: Eq + Hash + Drop, V: Drop>(
+    map: &mut OrderedMap<K, V>,
+    key: K,
+    value: V,
+) -> Result<(), NoRoom<(K, V)>>
+    ensures here { OnOk result (get K.eq K.hash_input map.new key ≡ Some value) }
+    ensures others { OnOk result ((other : K) → K.eq key other ≡ false → get K.eq K.hash_input map.new other ≡ get K.eq K.hash_input map.old other) }
+{
+    map.insert(key, value)?;
+    Ok(())
+}
+
+/// Puts a number under a string.
+pub fn record_named(
+    map: &mut OrderedMap<String, u64>,
+    key: String,
+    value: u64,
+) -> Result<(), NoRoom<(String, u64)>>
+    ensures here { OnOk result (get string_eq (λ s. fed.str (string_bytes s)) map.new key ≡ Some value) }
+    ensures text { OnOk result (get_text map.new (string_bytes key) ≡ Some value) }
+    ensures others { OnOk result ((other : String Global) → string_eq key other ≡ false → get string_eq (λ s. fed.str (string_bytes s)) map.new other ≡ get string_eq (λ s. fed.str (string_bytes s)) map.old other) }
+{
+    map.insert(key, value)?;
+    Ok(())
+}
+
+/// The number under a number, or another.
+pub fn lookup_or(map: &OrderedMap<u32, u64>, key: u32, default: u64) -> u64
+    ensures { result ≡ unwrap_or (get nat_eq fed.u32 map.now key) default }
+{
+    match map.get(&key) {
+        Some(value) => *value,
+        None => default,
+    }
+}
+
+/// The number under a text, or 0.
+pub fn lookup_text(map: &OrderedMap<String, u64>, key: &str) -> u64
+    ensures { result ≡ unwrap_or (get_text map.now key.now) 0 }
+{
+    match map.get(&TextKey(key)) {
+        Some(value) => *value,
+        None => 0,
+    }
+}
+
+/// Takes out what is under a key.
+pub fn forget<K: Eq + Hash + Drop, V: Drop>(map: &mut OrderedMap<K, V>, key: &K) -> Option<V>
+    ensures was { result ≡ get K.eq K.hash_input map.old key.now }
+    ensures here { get K.eq K.hash_input map.new key.now ≡ None }
+    ensures others { (other : K) → K.eq key.now other ≡ false → get K.eq K.hash_input map.new other ≡ get K.eq K.hash_input map.old other }
+{
+    map.remove(key)
+}
+
+/// Adds one to the number under a number, or begins with one.
+pub fn count(map: &mut OrderedMap<u32, u64>, key: u32) -> Result<(), NoRoom<(u32, u64)>>
+    ensures here { OnOk result (get nat_eq fed.u32 map.new key ≡ Some (min (unwrap_or (get nat_eq fed.u32 map.old key) 0 + 1) (2 ^ 64 - 1))) }
+    ensures others { OnOk result ((other : ℕ) → nat_eq key other ≡ false → get nat_eq fed.u32 map.new other ≡ get nat_eq fed.u32 map.old other) }
+{
+    match map.get_mut(&key) {
+        Some(count) => *count = count.saturating_add(1),
+        None => {
+            map.insert(key, 1)?;
+        }
+    }
+    Ok(())
+}
+
+/// Puts a value under any key, where it is or anew.
+pub fn put<K: Eq + Hash + Drop, V: Drop>(
+    map: &mut OrderedMap<K, V>,
+    key: K,
+    value: V,
+) -> Result<(), NoRoom<(K, V)>>
+    ensures here { OnOk result (get K.eq K.hash_input map.new key ≡ Some value) }
+    ensures others { OnOk result ((other : K) → K.eq key other ≡ false → get K.eq K.hash_input map.new other ≡ get K.eq K.hash_input map.old other) }
+{
+    match map.get_mut(&key) {
+        Some(there) => *there = value,
+        None => {
+            map.insert(key, value)?;
+        }
+    }
+    Ok(())
+}
+
+/// Puts a value under a key, and tells how long the map is.
+pub fn longer<K: Eq + Hash + Drop, V: Drop>(
+    map: &mut OrderedMap<K, V>,
+    key: K,
+    value: V,
+) -> Result<usize, NoRoom<(K, V)>>
+    ensures { IfOk result (λ n. n ≡ length map.old.entries + (if contains K.eq K.hash_input map.old key then 0 else 1)) }
+{
+    map.insert(key, value)?;
+    Ok(map.len())
+}
+
+/// Takes all out, and looks for one.
+pub fn empty(map: &mut OrderedMap<u32, u64>, key: u32) -> bool
+    ensures none { (other : ℕ) → get nat_eq fed.u32 map.new other ≡ None }
+    ensures looked { result ≡ false }
+{
+    map.clear();
+    map.contains_key(&key)
+}
+
+/// Sorts the keys, and looks for one.
+pub fn sorted(map: &mut OrderedMap<u32, u64>, key: u32) -> Result<bool, AllocError>
+    ensures same { (other : ℕ) → get nat_eq fed.u32 map.new other ≡ get nat_eq fed.u32 map.old other }
+    ensures looked { IfOk result (λ is. is ≡ contains nat_eq fed.u32 map.old key) }
+{
+    map.sort_keys()?;
+    Ok(map.contains_key(&key))
+}

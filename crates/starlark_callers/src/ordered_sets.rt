@@ -1,0 +1,50 @@
+//! Callers of ordered sets.
+ghost use Rattle.std.specs.Hash as fed;
+ghost use Rattle.std.specs.Prelude.{◌≡◌, ℕ, nat_eq, true, false, not, is_some, Some, None, IfOk, OnOk};
+ghost use Rattle.std.specs.String.{string_bytes, string_eq};
+ghost use Rattle.starlark_small.specs.Calling.{contains, contains_text};
+
+use starlark_hash::{NoRoom, TextKey};
+use starlark_sets::OrderedSet;
+use std::hash::Hash;
+
+/// Puts an element in, and answers whether it was new.
+pub fn add<T: Eq + Hash + Drop>(set: &mut OrderedSet<T>, n: T) -> Result<bool, NoRoom<T>>
+    ensures was { IfOk result (λ is_new. is_new ≡ not (contains T.eq T.hash_input set.old n)) }
+    ensures here { OnOk result (contains T.eq T.hash_input set.new n ≡ true) }
+    ensures others { OnOk result ((other : T) → T.eq n other ≡ false → contains T.eq T.hash_input set.new other ≡ contains T.eq T.hash_input set.old other) }
+{
+    set.insert(n)
+}
+
+/// Takes one out, and looks for another.
+pub fn take_and_look(set: &mut OrderedSet<u32>, n: u32, m: u32) -> bool
+    requires { nat_eq n m ≡ false }
+    ensures { result ≡ contains nat_eq fed.u32 set.old m }
+{
+    set.take(&n);
+    set.contains(&m)
+}
+
+/// Whether a string is there, by its text.
+pub fn has(set: &OrderedSet<String>, name: &str) -> bool
+    ensures { result ≡ contains_text set.now name.now }
+{
+    set.contains(&TextKey(name))
+}
+
+/// Puts a string in.
+pub fn add_named(set: &mut OrderedSet<String>, name: String) -> Result<(), NoRoom<String>>
+    ensures { OnOk result (contains_text set.new (string_bytes name) ≡ true) }
+{
+    set.insert(name)?;
+    Ok(())
+}
+
+/// Turns the elements round, and looks for one.
+pub fn turned<T: Eq + Hash>(set: &mut OrderedSet<T>, n: &T) -> bool
+    ensures { result ≡ contains T.eq T.hash_input set.old n.now }
+{
+    set.reverse();
+    set.contains(n)
+}

@@ -1,0 +1,5 @@
+//! Callers of small sets.
+pub mod any;
+pub mod numbers;
+pub mod strings;
+pub mod texts;

@@ -1,0 +1,7 @@
+//! Callers of `UnorderedMap`.
+
+pub mod built;
+pub mod entries;
+pub mod generic;
+pub mod numbers;
+pub mod texts;
