@@ -2,6 +2,8 @@
 #![tactic(auto)]
 
 #[cfg(test)]
+mod entries;
+#[cfg(test)]
 mod given;
 #[cfg(test)]
 mod maps;
