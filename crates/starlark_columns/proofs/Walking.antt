@@ -117,7 +117,7 @@ pub use seplogic.Ra.Ura.{Ura}
 pub use sound.WpLaws.{FmC, WpFn-mono, fm_of}
 pub use types.ByLocal.{alloc_all, env, free_all, get, get_in, get_tag, give_at, holding, is, lands_as, lands_last, look_at, look_in_at, pass_all, sets, sets_last, take_at, through}
 pub use types.Follow.{Came, after₂, came, closes_following, followed₂, follows_anew, takes_beside, takes_part, takes_two}
-pub use types.Kit.{!, Post as After, Item, any_q, assume, at_ret, await, by, check, done, drop, feq_i, feq_l, fjoin, fjoin3, flt_i, flt_l, fpack, fpick, frame, fsplit, fsplit3, given, group, join, keep, later, learn, mean, move, now, pick, prop, qed, raw, regoal, rewrite, show, some, split, split3, suffices, updating, use0, use1, use2, use3, ‵, ◌$◌, ◌∵◌, ◌⊛◌}
+pub use types.Kit.{ !, Post as After, Item, any_q, assume, at_ret, await, by, check, done, drop, feq_i, feq_l, fjoin, fjoin3, flt_i, flt_l, fpack, fpick, frame, fsplit, fsplit3, given, group, join, keep, later, learn, mean, move, now, pick, prop, qed, raw, regoal, rewrite, show, some, split, split3, suffices, updating, use0, use1, use2, use3, ‵, ◌$◌, ◌∵◌, ◌⊛◌}
 pub use types.Late.{ages, bor_new_deep, close_deep, deep}
 pub use types.Logic.{Logic, sem}
 pub use types.Match.{by_variants, in_variant, live, vrt}
