@@ -1,4 +1,4 @@
--- What makes a `Column` of its parts.
+-- What makes a `Column` of its parts. No public clause cites this module.
 use Rattle.std.specs.Prelude.{◌≡◌, ℕ, length}
 use Rattle.std.specs.declared.alloc.Global.{Global}
 use denote.RawPtr.{Ptr}
@@ -11,5 +11,6 @@ module _ {X : Type 0} where
   abbrev pub IsClaimTo : Ptr → ℕ → Claim X Global → Type 0
   IsClaimTo p n c = (c.at ≡ p) × (c.count ≡ n)
 
+  -- the row of n places stands at the address, and the claim is to them
   abbrev pub IsColumn : Address X → ℕ → Held X → Claim X Global → Type 0
   IsColumn address n held claim = (held.at ≡ address.at) × (length held.places ≡ n) × IsClaimTo address.at n claim

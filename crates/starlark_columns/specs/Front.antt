@@ -4,7 +4,7 @@ use Rattle.std.specs.List.{refill}
 use Rattle.starlark_columns.specs.Places.{empties, items_of}
 
 module _ {X : Type 0} where
-  -- n places, of which the first hold xs and the others are empty
+  -- a row of n places, of which the first hold xs and the others are empty
   abbrev pub fronted : List X → ℕ → List (Option X)
   fronted xs n = map Some xs ++ empties (n - length xs)
 
@@ -14,6 +14,6 @@ module _ {X : Type 0} where
     pub form : map is_some cs ≡ replicate n true ++ replicate (length cs - n) false
     pub within : n ≤ length cs
 
-  -- ws in the places of the items, of which as many count as there were
+  -- the row with ws in the places of its items, of which as many count as there were
   abbrev pub with_items : List (Option X) → List X → List (Option X)
   with_items cs ws = fronted (refill (length (items_of cs)) (items_of cs) ws) (length cs)

@@ -2,6 +2,7 @@
 use Rattle.std.specs.Prelude.{List, Option}
 use denote.RawPtr.{Ptr}
 
+-- where a row of places begins, and the places
 pub record Laid (X : Type 0) : Type 0 where
   pub at : Ptr
   pub places : List (Option X)

@@ -1,4 +1,5 @@
--- What a row of places owns and lends, and the right to its block, at items of the row R.
+-- What a row of places owns and lends, at items of the row R: the item or the bare room at each place, and the bound on their
+-- bytes; and the right to the block, where there is one. No public clause cites this module.
 use Rattle.std.specs.Prelude.{ℕ, ◌*◌, ◌^◌, List, [], ◌∷◌, length, Option, Some, None}
 use Rattle.std.specs.Mem.{type_size}
 use mathlib.Core.Bool.{cond}
@@ -19,6 +20,7 @@ module _ (R : RattleType) where
   place_owned p None = room_for (raw (lone R.mir)) p
   place_owned p (Some x) = lies_at R full_share p x
 
+  -- the places from p on, one behind the other
   abbrev pub places_owned : Ptr → List (Option R.Denot) → Fml
   places_owned p [] = ftrue
   places_owned p (c ∷ cs) = fsep (place_owned p c) (places_owned (p +ₚ type_size R) cs)
@@ -27,19 +29,22 @@ module _ (R : RattleType) where
   abbrev pub row_owned : Ptr → List (Option R.Denot) → Fml
   row_owned p cs = fsep (flt (length cs * type_size R) (2 ^ 63)) (in_block p (places_owned p cs))
 
+  -- the item at p, lent; nothing of an empty place
   abbrev pub place_lent : Ptr → Option R.Denot → Lft → Fml
   place_lent p None = nothing
   place_lent p (Some x) = lent_at R p x
 
+  -- the places from p on, lent
   abbrev pub places_lent : Ptr → List (Option R.Denot) → Lft → Fml
   places_lent p [] = nothing
   places_lent p (c ∷ cs) = beside (place_lent p c) (places_lent (p +ₚ type_size R) cs)
 
-  -- nothing is lent at null
+  -- the places from p on, lent, where p is not null
   abbrev pub within_lent : Ptr → List (Option R.Denot) → Lft → Fml
   within_lent null_ptr cs = said ffalse
   within_lent (block_ptr b o) cs = places_lent (block_ptr b o) cs
 
+  -- all places, lent, which take fewer than 2 ^ 63 bytes
   abbrev pub row_lent : Ptr → List (Option R.Denot) → Lft → Fml
   row_lent p cs = beside (said (flt (length cs * type_size R) (2 ^ 63))) (within_lent p cs)
 

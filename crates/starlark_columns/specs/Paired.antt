@@ -10,6 +10,7 @@ use denote.Memory.{lone}
 use denote.RattleType.{RattleType}
 use denote.RawPtr.{Ptr, room_for}
 
+-- what the address of a value is a multiple of
 abbrev pub type_align : RattleType → ℕ
 type_align R = align (lone R.mir)
 
@@ -27,6 +28,7 @@ module _ (τ σ : Ty) where
   arrays_claimed token p q n = cond (eqb (n * (size τ + size σ)) 0) ftrue (fsep (token (raw (two_arrays n)) p) (rooms_rejoin p q n))
 
 module _ (R S : RattleType) where
+  -- n values of the first type, and behind them n of the second
   abbrev pub pair_ty : ℕ → Ty
   pair_ty = two_arrays (lone R.mir) (lone S.mir)
 
@@ -34,5 +36,6 @@ module _ (R S : RattleType) where
   abbrev pub second_offset : ℕ → ℕ
   second_offset n = up (type_align S) (n * size (lone R.mir))
 
+  -- what `deallocate` asks for, to take the block of both rows back
   abbrev pub pair_claimed : (Ty → Ptr → Fml) → Ptr → Ptr → ℕ → Fml
   pair_claimed = arrays_claimed (lone R.mir) (lone S.mir)

@@ -2,7 +2,7 @@
 use Rattle.std.specs.Prelude.{◌≡◌, ℕ, ◌+◌, ◌-◌, ◌≤◌, List, [], ◌∷◌, ◌++◌, map, length, take, drop, replicate, get_or, slice_set, slice_range, Option, Some, None}
 
 module _ {X : Type 0} where
-  -- n empty places
+  -- a row of n empty places
   abbrev pub empties : ℕ → List (Option X)
   empties n = replicate n None
 
@@ -24,7 +24,7 @@ module _ {X : Type 0} where
   items_of (None ∷ cs) = items_of cs
   items_of (Some x ∷ cs) = x ∷ items_of cs
 
-  -- ds in the places from `from` up to `to`
+  -- the row with ds in the places from `from` up to `to`
   abbrev pub with_range : List (Option X) → ℕ → ℕ → List (Option X) → List (Option X)
   with_range cs from to ds = take from cs ++ (ds ++ drop to cs)
 
@@ -36,6 +36,6 @@ module _ {X : Type 0} where
   abbrev pub moved_up : List (Option X) → ℕ → ℕ → ℕ → List (Option X)
   moved_up cs from end to = with_range cs from (end + (to - from)) (empties (to - from) ++ slice_range cs from end)
 
-  -- the items of two places in each other's
+  -- the row with the items of two places in each other's
   abbrev pub exchanged : List (Option X) → ℕ → ℕ → List (Option X)
   exchanged cs i j = slice_set (slice_set cs i (get_or cs j None)) j (get_or cs i None)

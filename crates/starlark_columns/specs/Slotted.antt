@@ -1,11 +1,13 @@
--- A row of the kit's slots as places: a list of items, and which of them are there.
+-- How a row of `Slots` is read as places: a list of items, and which of them are there. No public clause cites this module.
 use Rattle.std.specs.Prelude.{ℕ, zero, suc, Bool, true, false, List, [], ◌∷◌, Option, Some, None}
 
 module _ {X : Type 0} where
+  -- a place with the item, where the flag says that it is there
   abbrev pub place_of : X → Bool → Option X
   place_of x true = Some x
   place_of x false = None
 
+  -- a place for each item, full where its flag says so
   abbrev pub places_of : List X → List Bool → List (Option X)
   places_of [] fs = []
   places_of (x ∷ xs) [] = []

@@ -7,7 +7,7 @@ ghost use Rattle.starlark_columns.specs.Between.{IsBetween};
 use crate::row::Row;
 
 impl<T> Row<T> {
-    /// Takes the first item out, which stands at `from`.
+    /// The items stand at the places from `from` up to `to`. Takes the first one out.
     #[inline]
     pub fn take_first_between(&mut self, from: usize, to: usize) -> T
         requires between { IsBetween self.old.places from to }
@@ -20,7 +20,7 @@ impl<T> Row<T> {
         self.take(from)
     }
 
-    /// Takes the last item out, which stands at `last`.
+    /// The items stand at the places from `from` to `last`. Takes the last one out.
     #[inline]
     pub fn take_last_between(&mut self, from: usize, last: usize) -> T
         requires between { IsBetween self.old.places from (last + 1) }
@@ -35,7 +35,7 @@ impl<T> Row<T> {
 }
 
 impl<T: Drop> Row<T> {
-    /// Drops the items.
+    /// The items stand at the places from `from` up to `to`. Drops them all.
     pub fn drop_between(&mut self, from: usize, to: usize)
         requires { IsBetween self.old.places from to }
         ensures empty { IsFront self.new.places 0 }

@@ -14,7 +14,8 @@ use std::marker::{Model, PhantomData};
 use std_alloc::room::may_hold;
 
 /// A row of places, each empty or with an item. Nothing at run time says which: the type above knows. A column is given
-/// back, with every place empty, by `give_back`.
+/// back, with every place empty, by `give_back`. It is seen as the list of its places, and each call says the whole row
+/// afterwards.
 pub struct Column<T> {
     address: Address<T>,
     count: usize,
@@ -125,7 +126,7 @@ impl<T> Column<T> {
         self.held.write(self.address, self.count, index, item);
     }
 
-    /// Moves the item out of a place, which is then empty.
+    /// Moves the item out of a full place, which is then empty.
     #[inline]
     pub fn take(&mut self, index: usize) -> T
         requires { IsFilled self.old index }
@@ -135,7 +136,7 @@ impl<T> Column<T> {
         self.held.take(self.address, self.count, index)
     }
 
-    /// The item of a place.
+    /// The item of a full place.
     #[inline]
     pub fn get(&self, index: usize) -> &T
         requires { IsFilled self.now index }
@@ -146,7 +147,7 @@ impl<T> Column<T> {
         &self.held.slice(self.address, index, index + 1)[0]
     }
 
-    /// The item of a place, to be written.
+    /// The item of a full place, to be written. The place ends with what is left in it, and all else stays.
     #[inline]
     pub fn get_mut(&mut self, index: usize) -> &mut T
         requires { IsFilled self.old index }
@@ -156,7 +157,7 @@ impl<T> Column<T> {
         self.held.get_mut(self.address, index)
     }
 
-    /// Exchanges the items of two places.
+    /// Exchanges the items of two full places.
     #[inline]
     pub fn swap(&mut self, one: usize, other: usize)
         requires { IsFilled self.old one × IsFilled self.old other }

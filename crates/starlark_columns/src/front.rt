@@ -20,7 +20,7 @@ impl<T> Row<T> {
         self.slice(0, len)
     }
 
-    /// The first `len` places, which hold all the items, to be written.
+    /// The first `len` places, which hold all the items, to be written. They end with what is left in them.
     #[inline]
     pub fn items_mut(&mut self, len: usize) -> &mut [T]
         requires { IsFront self.old.places len }
@@ -40,7 +40,7 @@ impl<T> Row<T> {
         self.get(index)
     }
 
-    /// The item at this index, to be written.
+    /// The item at this index, to be written. The row ends with what is left in it, and all else stays.
     #[inline]
     pub fn item_mut(&mut self, len: usize, index: usize) -> &mut T
         requires front { IsFront self.old.places len }
@@ -92,7 +92,7 @@ impl<T> Row<T> {
         item
     }
 
-    /// Moves all `len` items to the places of `to`, which are empty.
+    /// Moves all `len` items to the places of `to`, which are empty, and enough. None is left here.
     #[inline]
     pub fn move_all(&mut self, len: usize, to: &mut Row<T>)
         requires front { IsFront self.old.places len }
@@ -139,8 +139,8 @@ impl<T: Drop> Row<T> {
 }
 
 impl<T: Clone + Drop> Row<T> {
-    /// Clones of all `len` items, in the places of `to`, which are empty. Where memory is refused to a clone, the clones
-    /// made so far are dropped, and `to` is empty as before.
+    /// Clones of all `len` items, in the places of `to`, which are empty. Where memory is refused to a clone, the
+    /// clones made so far are dropped, and `to` is empty as before.
     pub fn clone_items(&self, len: usize, to: &mut Row<T>) -> Result<(), AllocError>
         requires front { IsFront self.now.places len }
         requires empty { IsFront to.old.places 0 }

@@ -43,9 +43,9 @@ impl<A, K, V> Keeps<(A, (K, V))> for AllButLast {
     ghost itself = { λ x. refl };
 }
 
-/// The right to the places at `start` that are still to be taken: those from the `from`-th on, `rest`. Which of them are full is
-/// frozen, and so is what `P` keeps of each item. `name` is the loan of these, and `tie` the loan of all, which the
-/// column follows.
+/// The right to the places at `start` that are still to be taken: those from the `from`-th on, `rest`. Which of them
+/// are full is frozen, and so is what `P` keeps of each item. `name` is the loan of these, and `tie` the loan of all,
+/// which the column follows.
 #[derive(Drop)]
 pub struct Loan<'a, T, P: Keeps<T>> {
     pub(crate) start: *mut T,

@@ -17,8 +17,9 @@ use std::alloc::{AllocError, Global};
 /// The right to give the block of two rows back. It takes no bytes.
 pub type Block<A, B> = PairClaim<A, B, Global>;
 
-/// Two rows of `count` places each, and no items. They are refused where there is no memory, or where that many items
-/// cannot be addressed; places that take no bytes never are, and ask for no memory.
+/// Two rows of `count` empty places each in one block of memory, and the right to give the block back. They are refused
+/// where there is no memory, or where that many items cannot be addressed; places that take no bytes never are, and ask
+/// for no memory.
 pub fn with_rows<A, B>(
     alloc: Global,
     count: usize,
@@ -60,7 +61,7 @@ pub fn no_rows<A, B>(alloc: Global) -> (Row<A>, Row<B>, Block<A, B>)
     bare_rows(alloc, 0)
 }
 
-/// Gives the block back. No item is to be left in either row.
+/// Gives the block back. It is that of both rows, and no item is left in either.
 #[inline]
 pub fn give_back<A, B>(alloc: Global, firsts: Row<A>, seconds: Row<B>, block: Block<A, B>)
     requires empty { IsFront firsts.places 0 × IsFront seconds.places 0 }

@@ -7,7 +7,7 @@ use crate::block::{Address, Held};
 use std::marker::Model;
 
 /// A row of places, each empty or with an item. Nothing at run time says which: the type above knows. It is seen as its
-/// places and where they lie, so that `pair::give_back` takes rows of one block alone.
+/// places and where they lie, so that `pair::give_back` takes rows of one block alone. No call changes where they lie.
 pub struct Row<T> {
     pub(crate) address: Address<T>,
     pub(crate) count: usize,
@@ -47,7 +47,7 @@ impl<T> Row<T> {
         self.held.write(self.address, self.count, index, item);
     }
 
-    /// Moves the item out of a place, which is then empty.
+    /// Moves the item out of a full place, which is then empty.
     #[inline]
     pub fn take(&mut self, index: usize) -> T
         requires { IsFilled self.old.places index }
@@ -58,7 +58,7 @@ impl<T> Row<T> {
         self.held.take(self.address, self.count, index)
     }
 
-    /// The item of a place.
+    /// The item of a full place.
     #[inline]
     pub fn get(&self, index: usize) -> &T
         requires { IsFilled self.now.places index }
@@ -69,7 +69,7 @@ impl<T> Row<T> {
         &self.held.slice(self.address, index, index + 1)[0]
     }
 
-    /// The item of a place, to be written.
+    /// The item of a full place, to be written. The place ends with what is left in it, and all else stays.
     #[inline]
     pub fn get_mut(&mut self, index: usize) -> &mut T
         requires { IsFilled self.old.places index }
@@ -88,7 +88,8 @@ impl<T> Row<T> {
         self.held.slice(self.address, from, to)
     }
 
-    /// The items from place `from` up to place `to`, to be written.
+    /// The items from place `from` up to place `to`, which are all there, to be written. The places end with what is
+    /// left in them, and all else stays.
     #[inline]
     pub fn slice_mut(&mut self, from: usize, to: usize) -> &mut [T]
         requires { AreFilled self.old.places from to }
@@ -126,7 +127,8 @@ impl<T> Row<T> {
         }
     }
 
-    /// Moves the items from place `from` up to place `end` to the empty places of `other` from `to` on, as one copy of memory.
+    /// Moves the items from place `from` up to place `end` to the empty places of `other` from `to` on, as one copy of
+    /// memory. The places that they leave are empty afterwards.
     #[inline]
     pub fn move_to(&mut self, from: usize, end: usize, other: &mut Row<T>, to: usize)
         requires items { AreFilled self.old.places from end }

@@ -5,7 +5,7 @@ use Rattle.std.specs.Hash.{HashWrites}
 use Rattle.starlark_hash.specs.declared.hash_value.StarlarkHashValue.{StarlarkHashValue}
 use Rattle.starlark_hash.specs.declared.hasher.StarlarkHasher.{StarlarkHasher}
 
--- the state after one word
+-- the state s after one word w: s rotated left by 5 bits, xor w, times 0x517cc1b727220a95, modulo 2^64
 unfoldable pub add_word : ℕ → ℕ → ℕ
 add_word s w = (bit_xor (rotate_left w64 s 5) w * 0x517cc1b727220a95) % 2 ^ 64
 
@@ -23,32 +23,35 @@ abbrev pub groups : ℕ → List ℕ → List ℕ
 groups zero bs = group 4 (group 2 (group 1 (λ _. []))) bs
 groups (suc n) bs = number (take 8 bs) ∷ groups n (drop 8 bs)
 
--- the words of some bytes: whole groups of 8, then one of 4, one of 2 and one of 1 where so many are left
+-- the words of some bytes: one for each whole group of 8, then one of 4, one of 2 and one of 1 where so many are left
 unfoldable pub words : List ℕ → List ℕ
 words bs = groups (length bs / 8) bs
 
--- the hasher to which nothing was written
+-- the hasher to which nothing was written: its state is 0
 abbrev pub initial : StarlarkHasher
 initial = record { state = 0 }
 
--- the hasher after one word, and after a write of some bytes
+-- the hasher after one word
 abbrev pub with_word : StarlarkHasher → ℕ → StarlarkHasher
 with_word s w = record { state = add_word s.state w }
 
+-- the hasher after the words of these bytes, one after another
 abbrev pub write : StarlarkHasher → List ℕ → StarlarkHasher
 write s bytes = fold with_word s (words bytes)
 
--- a new hasher after these writes
+-- a new hasher after these writes. What a value feeds is a list of writes, each a list of bytes
 abbrev pub after_writes : HashWrites → StarlarkHasher
 after_writes writes = fold write initial writes
 
--- what a hasher finishes with, and the hash value of its low 32 bits
+-- what a hasher finishes with: its state
 abbrev pub finish : StarlarkHasher → ℕ
 finish s = s.state
 
+-- the hash value of the low 32 bits of what a hasher finishes with
 abbrev pub finish_small : StarlarkHasher → StarlarkHashValue
 finish_small s = record { 0 = finish s % 2 ^ 32 }
 
--- the own hash of a key, where `feeds` tells what a key feeds
+-- the own hash of a key: what a new hasher comes to, cut to 32 bits, once it was fed all that the key feeds. `feeds` is the key
+-- type's `hash_input`
 abbrev pub own_hash : {K : Type 0} → (K → HashWrites) → K → StarlarkHashValue
 own_hash feeds key = finish_small (after_writes (feeds key))

@@ -5,6 +5,6 @@ use Rattle.starlark_hash.specs.contracts.hashed.Hashed.{the_row}
 use Rattle.starlark_hash.specs.HashValue.{hashed, hash_of}
 
 module _ (K : RattleType) where
-  -- the key is the last one written through r, under the same hash
+  -- once the `&mut` r has ended, h has the last key written through it, under the hash that h had
   abbrev pub lends_key : MutBor (Hashed K.Denot) → MutBor K.Denot → Fml
   lends_key h r = Lends (the_row K) K h r (λ key. hashed (hash_of h.now) key)

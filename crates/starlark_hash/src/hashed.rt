@@ -10,7 +10,8 @@ use crate::key_query::ToOwnedKey;
 use std::alloc::{AllocError, Global};
 use std::hash::Hash;
 
-/// A key and the hash that it stands under.
+/// A key and the hash that it stands under. `==` compares both. The order goes by key and then by hash. `Hash` feeds
+/// the hash alone, as one number of 32 bits.
 #[derive(Clone, Copy, Debug, Drop)]
 pub struct Hashed<K> {
     hash: StarlarkHashValue,
@@ -47,7 +48,8 @@ impl<K> Hashed<K> {
         &self.key
     }
 
-    /// The key, to be changed. The hash stays, also where it is no longer the key's own.
+    /// The key, to be changed: what is left in it is the key afterwards. The hash stays, also where it is no longer the
+    /// key's own.
     #[inline]
     pub fn key_mut(&mut self) -> &mut K
         ensures* writes_back { sem 𝓛 (lends_key K.row self.entry result) }

@@ -8,10 +8,10 @@ use std::hash::{BuildHasher, Hasher};
 
 /// A fast hasher that is not meant to withstand chosen keys.
 ///
-/// It starts at 0. A word w turns the state s into (s rotated left by 5 bits, xor w) times
-/// 0x517cc1b727220a95, modulo 2^64. A number of up to 64 bits is one word, and bytes are read the
-/// lowest first on every machine: groups of 8, then one of 4, one of 2 and one byte where so many
-/// are left. What it finishes with is promised to no other build of this crate.
+/// It starts at 0. A word w turns the state s into (s rotated left by 5 bits, xor w) times 0x517cc1b727220a95, modulo
+/// 2^64. A number of up to 64 bits is one word, and one of 128 bits is two, the lower first. Bytes are read the lowest
+/// first on every machine: groups of 8, then one of 4, one of 2 and one byte where so many are left. `finish` answers
+/// the state, which is promised to no other build of this crate.
 #[derive(Drop)]
 pub struct StarlarkHasher {
     state: u64,

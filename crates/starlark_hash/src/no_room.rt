@@ -29,8 +29,8 @@ impl<T: Drop> From<NoRoom<T>> for AllocError {
     }
 }
 
-/// So that `?` hands a refusal on in a function that answers `io::Result`, as want of memory. What was to be inserted is
-/// dropped.
+/// So that `?` hands a refusal on in a function that answers `io::Result`, as want of memory. What was to be inserted
+/// is dropped.
 impl<T: Drop> From<NoRoom<T>> for io::Error {
     ghost from_gives = { λ _ e. error_kind e ≡ OutOfMemory };
 

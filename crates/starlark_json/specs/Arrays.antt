@@ -1,4 +1,4 @@
--- Sets of texts as arrays.
+-- Sets of texts as arrays. `Data`, `Items`, `as_array` and their kin are the words of `serde_json` for its `Value`.
 use Rattle.std.specs.Prelude.{◌≡◌, List, [], ◌∷◌, ◌⊎◌, Option, Some, MatchOption, map, option_and_then}
 use Rattle.std.specs.Option.{option_map}
 use Rattle.std.specs.Str.{bytes_eq}
@@ -24,7 +24,7 @@ abbrev pub elements_of : Items → Option Elements
 elements_of no_items = Some []
 elements_of (item d ds) = option_and_then (λ text. option_map (λ es. (own_text text, tt) ∷ es) (elements_of ds)) (as_str d)
 
--- the elements of the set that a value is: its items, inserted one after the other, so that a text keeps its first place
+-- the elements of the set that a value is: an array's items, inserted one after the other, so that a text keeps its first place
 abbrev pub set_entries : Data → Option Elements
 set_entries d = option_map (insert_all bytes_eq []) (option_and_then elements_of (as_array d))
 
@@ -33,6 +33,6 @@ abbrev pub IsItemFault : Items → JsonFault → Type 0
 IsItemFault no_items fault = ⊥
 IsItemFault (item d ds) fault = MatchOption (as_str d) (fault ≡ NotText) (λ text. (fault ≡ Memory) ⊎ IsItemFault ds fault)
 
--- how reading this value as a set may fail
+-- how reading this value as a set may fail: it is no array, or reading its items fails
 abbrev pub IsSetFault : Data → JsonFault → Type 0
 IsSetFault d fault = MatchOption (as_array d) (fault ≡ NotArray) (λ ds. IsItemFault ds fault)

@@ -1,4 +1,5 @@
--- Maps to integers as objects.
+-- Maps to integers as objects. `Data`, `Members`, `put`, `as_object` and their kin are the words of `serde_json` for its
+-- `Value`.
 use Rattle.std.specs.Prelude.{◌≡◌, ℤ, List, [], ◌∷◌, ◌⊎◌, Option, Some, None, MatchOption, option_and_then, if◌then◌else◌}
 use Rattle.std.specs.Option.{option_map, option_or}
 use Rattle.std.specs.Str.{bytes_eq}
@@ -27,7 +28,7 @@ abbrev pub last_value : List (Text × ℤ) → Text → Option ℤ
 last_value [] key = None
 last_value (p ∷ ps) key = option_or (last_value ps key) (if bytes_eq key p.0 then Some p.1 else None)
 
--- the integer from -2^63 to 2^63 - 1 that a value is
+-- the integer from -2^63 to 2^63 - 1 that a value is; none of a float
 abbrev pub integer_of : Data → Option ℤ
 integer_of d = option_and_then as_i64 (as_number d)
 
@@ -36,7 +37,7 @@ abbrev pub entries_of : Members → Option Entries
 entries_of no_members = Some []
 entries_of (member key d ms) = option_and_then (λ n. option_map (λ es. (own_text key, n) ∷ es) (entries_of ms)) (integer_of d)
 
--- the entries of the map that a value is: those of its members, in order
+-- the entries of the map that a value is: those of an object's members, in order
 abbrev pub map_entries : Data → Option Entries
 map_entries d = option_and_then entries_of (as_object d)
 
@@ -46,6 +47,6 @@ abbrev pub IsMemberFault : Members → JsonFault → Type 0
 IsMemberFault no_members fault = ⊥
 IsMemberFault (member key d ms) fault = MatchOption (integer_of d) (fault ≡ NotInteger) (λ n. (fault ≡ Memory) ⊎ IsMemberFault ms fault)
 
--- how reading this value as a map may fail
+-- how reading this value as a map may fail: it is no object, or reading its members fails
 abbrev pub IsMapFault : Data → JsonFault → Type 0
 IsMapFault d fault = MatchOption (as_object d) (fault ≡ NotObject) (λ ms. IsMemberFault ms fault)

@@ -15,8 +15,8 @@ use serde_json::{Map, Value};
 use starlark_small::SmallMap;
 use std::alloc::{AllocError, Global};
 
-/// The object of a map: each key once, with the value of its last place. It is refused for memory alone, and then
-/// nothing is made; an empty map asks for none.
+/// The object of a map: each key once, with the value of its last place, as it may stand under two hashes. It is
+/// refused for memory alone, and then nothing is made; an empty map asks for none.
 pub fn map_to_value(alloc: Global, map: &SmallMap<String, i64>) -> Result<Value, AllocError>
     ensures object { IfOk result (λ value. view value ≡ object_of (pairs_of map.now.entries)) }
     ensures members { IfOk result (λ value. (key : List ℕ) → get key (view value) ≡ option_map (λ n. number (of_integer n)) (last_value (pairs_of map.now.entries) key)) }
@@ -38,9 +38,11 @@ fn put_member(members: &mut Map<String, Value>, key: &String, value: i64) -> Res
     Ok(())
 }
 
-/// The map of an object: its members in ascending order of their keys, each under its key's own hash. The first member
-/// whose value is no integer of 64 bits decides; memory is asked for a member only once its value, and those before,
-/// were found to be integers. On a fault nothing is made.
+/// The map of an object: its members in ascending order of their keys, each under its key's own hash. Another value is
+/// `NotObject`. Else the first member whose value is no integer of 64 bits decides, as `NotInteger`; memory is asked
+/// for a member only once its value, and those before, were found to be integers. So neither an empty object, nor one
+/// whose first member is at fault, is refused for memory. No answer shows at which member memory was refused. On a
+/// fault nothing is made.
 pub fn map_from_value(alloc: Global, value: &Value) -> Result<SmallMap<String, i64>, JsonFault>
     ensures entries { IfOk result (λ map. map_entries (view value.now) ≡ Some (text_entries map.entries)) }
     ensures ascends { IfOk result (λ map. IsStrictlySortedBy text_cmp (texts_of map.entries)) }

@@ -26,8 +26,9 @@ pub fn set_to_value(alloc: Global, set: &SmallSet<String>) -> Result<Value, Allo
 }
 
 /// The set of an array: its texts in their order, each under its own hash; one that comes again keeps its first place.
-/// The first item that is no text decides; memory is asked for an item only once it, and those before, were found to be
-/// texts. On a fault nothing is made.
+/// Another value is `NotArray`. Else the first item that is no text decides, as `NotText`; memory is asked for an item
+/// only once it, and those before, were found to be texts. So neither an empty array, nor one whose first item is at
+/// fault, is refused for memory. No answer shows at which item memory was refused. On a fault nothing is made.
 pub fn set_from_value(alloc: Global, value: &Value) -> Result<SmallSet<String>, JsonFault>
     ensures elements { IfOk result (λ set. set_entries (view value.now) ≡ Some (text_entries set.entries)) }
     ensures fault { IfErr result (IsSetFault (view value.now)) }

@@ -7,7 +7,8 @@ use starlark_small::{SmallMap, smallmap};
 use std::alloc::{AllocError, Global};
 use std::hash::Hash;
 
-/// The entries of a map, collected into a new one, are the same list.
+/// The entries of a map, taken by `into_iter_hashed` and collected by `from_iter_hashed`, are the same list, where that
+/// is not refused.
 pub fn collected_anew<K: Eq + Drop, V: Drop>(
     alloc: Global,
     map: SmallMap<K, V>,
@@ -17,7 +18,7 @@ pub fn collected_anew<K: Eq + Drop, V: Drop>(
     SmallMap::from_iter_hashed(alloc, map.into_iter_hashed())
 }
 
-/// `smallmap!` inserts its entries in their order, each under its key's own hash.
+/// `smallmap!` inserts its entries, here three, in their order, each under its key's own hash.
 pub fn written_in_order<K: Eq + Hash + Drop, V: Drop>(
     alloc: Global,
     first: (K, V),
@@ -29,7 +30,8 @@ pub fn written_in_order<K: Eq + Hash + Drop, V: Drop>(
     smallmap![alloc; first.0 => first.1, second.0 => second.1, third.0 => third.1]
 }
 
-/// What `smallmap!` inserts after its reservation, in its order, is never refused, so only the reservation can be.
+/// What `smallmap!` inserts after its reservation, here three entries in a map with room for them, in its order, is
+/// never refused, so only the reservation can be.
 pub fn written_with_room<K: Eq + Hash + Drop, V: Drop>(
     map: SmallMap<K, V>,
     first: (K, V),

@@ -7,7 +7,7 @@ use starlark_hash::{Hashed, NoRoom};
 use starlark_small::SmallMap;
 
 /// An insertion of a key that is there is never refused and hands the old value back. All keys keep their places and
-/// their hashes, the stored key among them; what changes is the one value.
+/// their hashes, the stored key among them; what changes is the one value. Room, capacity and index stay.
 pub fn insertion_of_a_present_key<K: Eq + Drop, V>(
     map: &mut SmallMap<K, V>,
     key: Hashed<K>,

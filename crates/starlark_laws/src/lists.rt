@@ -28,8 +28,8 @@ pub fn sorted_twice<K: Ord, V>()
     ensures { (es : List (Entry K V)) → sorted_by_key K.cmp (sorted_by_key K.cmp es) ≡ sorted_by_key K.cmp es }
 {}
 
-/// What is sorted by key ascends, has the same entries, and among those with equal keys keeps their order. No other list
-/// does.
+/// What is sorted by key ascends, has the same entries, and among those with equal keys keeps their order. No other
+/// list does.
 pub fn sorted_stably<K: Ord, V>()
     ensures ascends { (es : List (Entry K V)) → Ascends K.cmp (sorted_by_key K.cmp es) }
     ensures rearranged { (es : List (Entry K V)) → IsPermutation es (sorted_by_key K.cmp es) }
@@ -37,8 +37,8 @@ pub fn sorted_stably<K: Ord, V>()
     ensures only { (es sorted : List (Entry K V)) → Ascends K.cmp sorted → IsStableByKey entry_key K.cmp es sorted → sorted ≡ sorted_by_key K.cmp es }
 {}
 
-/// Lists in which no two entries have the same hash and equal keys have the same entries exactly where they are as long,
-/// and each entry of the one has a match in the other with an equal value.
+/// Lists in which no two entries have the same hash and equal keys have the same entries exactly where they are as
+/// long, and each entry of the one has a match in the other with an equal value.
 pub fn equal_by_matches<K: Eq, V: PartialEq>()
     ensures { (ds es : List (Entry K V)) → IsSingle K.eq ds → IsSingle K.eq es → (IsTrue (same_entries K.eq V.eq ds es) ↔ HasMatches K.eq V.eq ds es) }
 {}

@@ -6,7 +6,7 @@ ghost use Rattle.starlark_small.specs.Map.{KeepsMemory};
 use starlark_small::SmallMap;
 use std::alloc::AllocError;
 
-/// A list that is turned round twice is the list.
+/// A list that is turned round twice is the list. Capacity and index stay, and no room is lost.
 pub fn reverse_twice<K: Eq, V>(map: &mut SmallMap<K, V>)
     ensures entries { map.new.entries ≡ map.old.entries }
     ensures kept { KeepsMemory map.old map.new }

@@ -6,7 +6,8 @@ ghost use Rattle.starlark_lists.specs.Entries.{entry_value, set_value_at};
 use crate::put::put;
 use starlark_vecmap::VecMap;
 
-/// Puts the value of the entry at this index, and gives the one that was there.
+/// Puts the value of the entry at this index, and gives the one that was there. It writes through
+/// `VecMap::get_unchecked_mut`; all else stays.
 pub fn put_value<K, V>(map: &mut VecMap<K, V>, index: usize, value: V) -> V
     requires { index < length map.old.entries }
     ensures taken { option_map entry_value (slice_get map.old.entries index) ≡ Some result }

@@ -33,8 +33,8 @@ pub fn look_up<K: Eq + Hash + Drop, V: Copy>(map: &mut SmallMap<K, V>, key: K) -
     }
 }
 
-/// Puts the value that a map has under this hash and key, by a closure that is called there. The entry is let go whole;
-/// where the map has none, it stays.
+/// Puts the value that a map has under this hash and key, by a closure that `Entry::and_modify` calls there. The entry
+/// is let go whole; where the map has none, it stays.
 pub fn change_if_there<K: Eq + Drop, V: Drop>(map: &mut SmallMap<K, V>, key: Hashed<K>, value: V)
     ensures { map.new ≡ with_value_under K.eq map.old key value }
 {
@@ -45,8 +45,8 @@ pub fn change_if_there<K: Eq + Drop, V: Drop>(map: &mut SmallMap<K, V>, key: Has
     );
 }
 
-/// Inserts a key that a map lacks under this hash, and says whether it was lacking. Where the map has it, the value is
-/// dropped and the map stays. Where the new entry is refused, it comes back.
+/// Inserts a key that a map lacks under this hash, by `VacantEntry::insert`, and says whether it was lacking. Where the
+/// map has it, the value is dropped and the map stays. Where the new entry is refused, it comes back.
 pub fn insert_if_lacking<K: Eq + Drop, V: Drop>(
     map: &mut SmallMap<K, V>,
     key: Hashed<K>,
@@ -69,9 +69,9 @@ pub fn insert_if_lacking<K: Eq + Drop, V: Drop>(
     }
 }
 
-/// Puts the value under this hash and key, and gives the one that was there; where the map has none, a new entry is
-/// made with what the closure gives, and that is what is replaced and given. Where the new entry is refused, all comes
-/// back.
+/// Puts the value under this hash and key through what `Entry::or_insert_with` lends, and gives the one that was there;
+/// where the map has none, a new entry is made with what the closure gives, and that is what is replaced and given.
+/// Where the new entry is refused, all comes back.
 pub fn or_insert_then_put<K: Eq + Drop, V: Drop>(
     map: &mut SmallMap<K, V>,
     key: Hashed<K>,

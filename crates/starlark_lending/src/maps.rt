@@ -11,8 +11,8 @@ use starlark_hash::{Hashed, NoRoom};
 use starlark_small::SmallMap;
 use std::hash::Hash;
 
-/// Inserts a key that is new under this hash, and hands on the reference to its value alone: the map ends with what is
-/// left behind it. Where the entry is refused, it comes back.
+/// Inserts a key that is new under this hash by `SmallMap::insert_hashed_unique_unchecked`, and hands on the reference
+/// to its value alone: the map ends with what is left behind it. Where the entry is refused, it comes back.
 pub fn lend_new_value<K: Eq, V>(
     map: &mut SmallMap<K, V>,
     key: Hashed<K>,
@@ -30,7 +30,7 @@ pub fn lend_new_value<K: Eq, V>(
     }
 }
 
-/// The same of a key under its own hash.
+/// The same of a key under its own hash, by `SmallMap::insert_unique_unchecked`.
 pub fn lend_own_new_value<K: Eq + Hash, V>(
     map: &mut SmallMap<K, V>,
     key: K,

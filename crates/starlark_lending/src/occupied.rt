@@ -9,7 +9,8 @@ use crate::put::put;
 use starlark_hash::Hashed;
 use starlark_small::{Entry, OccupiedEntry, SmallMap};
 
-/// Puts the value of an entry that the map has, and gives the one that was there.
+/// Puts the value of an entry that the map has, and gives the one that was there. It writes through
+/// `OccupiedEntry::as_key_and_mut_value`; all else of the map stays.
 pub fn put_in_entry<K: Eq, V>(entry: &mut OccupiedEntry<'_, K, V>, value: V) -> V
     ensures taken { option_map entry_value (stored entry.old) ≡ Some result }
     ensures written { entry.new ≡ with_entry_value entry.old value }
@@ -18,8 +19,8 @@ pub fn put_in_entry<K: Eq, V>(entry: &mut OccupiedEntry<'_, K, V>, value: V) -> 
     put(slot, value)
 }
 
-/// Puts the value that a map has under this hash and key, and gives the one that was there. Where it has none, the value
-/// comes back and the map stays.
+/// Puts the value that a map has under this hash and key, and gives the one that was there. Where it has none, the
+/// value comes back and the map stays. It writes through `OccupiedEntry::get_mut`; all else stays.
 pub fn put_if_there<K: Eq + Drop, V>(
     map: &mut SmallMap<K, V>,
     key: Hashed<K>,

@@ -4,7 +4,8 @@ ghost use Rattle.std.specs.Prelude.{◌≡◌, ◌<◌, length, slice_get, slice
 use crate::put::put_pair;
 use starlark_vec2::Vec2;
 
-/// Puts both parts of the pair at this index, and gives those that were there.
+/// Puts both parts of the pair at this index, and gives those that were there. It writes through
+/// `Vec2::get_unchecked_mut`; all else stays.
 pub fn put_both<A, B>(pairs: &mut Vec2<A, B>, index: usize, first: A, second: B) -> (A, B)
     requires { index < length pairs.old.pairs }
     ensures taken { slice_get pairs.old.pairs index ≡ Some result }
@@ -15,7 +16,7 @@ pub fn put_both<A, B>(pairs: &mut Vec2<A, B>, index: usize, first: A, second: B)
 }
 
 /// Puts both parts of the pair at this index, where there is one, and gives those that were there. Without one the
-/// parts come back, and the list stays.
+/// parts come back, and the list stays. It writes through `Vec2::get_mut`; all else stays.
 pub fn put_both_if<A, B>(
     pairs: &mut Vec2<A, B>,
     index: usize,

@@ -6,10 +6,11 @@ use Rattle.std.specs.List.{slice_split}
 use Rattle.starlark_hash.specs.declared.hashed.Hashed.{Hashed}
 use Rattle.starlark_hash.specs.HashValue.{hash_number, hash_of, key_of}
 
--- a key as its bytes, under a hash
+-- a key of a script: its bytes, under a hash
 abbrev pub Key : Type 0
 Key = Hashed (List ℕ)
 
+-- a line's command, its texts as bytes and its hashes and numbers as numbers
 pub data Command : Type 0 where
   Put : (key : Key) (value : ℤ) → Command
   Get : (key : Key) → Command
@@ -24,7 +25,7 @@ pub data Command : Type 0 where
   Len : Command
   Walk : Command
 
--- the fields of a line: what stands between its spaces
+-- the fields of a line: what stands between its spaces, empty pieces too
 abbrev pub fields_of : List ℕ → List (List ℕ)
 fields_of line = slice_split (λ b. b == 32) line
 
@@ -32,7 +33,8 @@ fields_of line = slice_split (λ b. b == 32) line
 abbrev pub hash_text : Key → List ℕ
 hash_text key = decimal (hash_number (hash_of key))
 
--- how a command is written, field by field
+-- how a command is written, one field each: its word; then the number of the hash, the key, and the value; or a place; or how
+-- much room. Numbers are as Rust prints them
 abbrev pub fields : Command → List (List ℕ)
 fields (Put key value) = codes "put" ∷ hash_text key ∷ key_of key ∷ signed_decimal value ∷ []
 fields (Get key) = codes "get" ∷ hash_text key ∷ key_of key ∷ []
@@ -47,13 +49,14 @@ fields Slim = codes "slim" ∷ []
 fields Len = codes "len" ∷ []
 fields Walk = codes "walk" ∷ []
 
--- the hash is a number of 32 bits, and the key is one or more visible ASCII characters
+-- the hash is a number below 2^32, and the key is one or more bytes from 33 to 126, the visible ASCII characters
 pub record IsKey (key : Key) : Type 0 where
   pub hash : hash_number (hash_of key) < 2 ^ 32
   pub some : 0 < length (key_of key)
   pub visible : All (λ b. (33 ≤ b) × (b ≤ 126)) (key_of key)
 
--- the parts of the command are such as a script may have
+-- the command's parts are such as a script may have: its key `IsKey`; its value has 64 bits; its place, or its room, is at most
+-- 1000000
 abbrev pub IsLawful : Command → Type 0
 IsLawful (Put key value) = IsKey key × FitsSigned w64 value
 IsLawful (Get key) = IsKey key
@@ -68,7 +71,8 @@ IsLawful Slim = Unit {0}
 IsLawful Len = Unit {0}
 IsLawful Walk = Unit {0}
 
--- the line is that of the command
+-- the line is that of the command: it has at most 1000 bytes, the command's parts are lawful, and the line's fields are exactly
+-- those that the command is written with. There is no parser in this definition
 pub record IsLineOf (line : List ℕ) (command : Command) : Type 0 where
   pub short : length line ≤ 1000
   pub lawful : IsLawful command

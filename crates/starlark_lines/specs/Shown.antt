@@ -13,6 +13,7 @@ use Rattle.starlark_lines.specs.declared.command.Fields.TheVariants.{One, Two, T
 abbrev pub shown_key : Hashed TextKey → script.Key
 shown_key key = hashed (hash_of key) (key_of key).0.now
 
+-- a command of the program as a command of the definitions
 abbrev pub shown : Command → script.Command
 shown (Put key value) = script.Put (shown_key key) value
 shown (Get key) = script.Get (shown_key key)

@@ -1,26 +1,28 @@
--- Lists of entries: what look-ups, insertions and removals are to them.
+-- Lists of entries: what look-ups, insertions and removals are to them. A list is written from the front; places count from 0.
 use Rattle.std.specs.Prelude.{◌≡◌, ℕ, zero, suc, Bool, false, ◌&&◌, ◌==◌, List, [], ◌∷◌, ◌++◌, Option, AllPairs, position, remove, slice_get}
 use Rattle.std.specs.Option.{option_map, option_map_or, option_and_then}
 use Rattle.starlark_hash.specs.declared.hash_value.StarlarkHashValue.{StarlarkHashValue}
 use Rattle.starlark_hash.specs.declared.hashed.Hashed.{Hashed}
 use Rattle.starlark_hash.specs.HashValue.{hash_number, hash_of, key_of}
 
--- a key under a hash, and its value
+-- a key under a hash, and its value: the very pair that calls hand in and out
 abbrev pub Entry : Type 0 → Type 0 → Type 0
 Entry K V = Hashed K × V
 
 module _ {K V : Type 0} where
-  -- the parts of an entry
+  -- an entry's hash
   abbrev pub entry_hash : Entry K V → StarlarkHashValue
   entry_hash e = hash_of e.0
 
+  -- an entry's key
   abbrev pub entry_key : Entry K V → K
   entry_key e = key_of e.0
 
+  -- an entry's value
   abbrev pub entry_value : Entry K V → V
   entry_value e = e.1
 
-  -- the key and the value
+  -- an entry's key and value
   abbrev pub pair_of : Entry K V → K × V
   pair_of e = (entry_key e, entry_value e)
 
@@ -36,10 +38,11 @@ module _ {K V : Type 0} where
   abbrev pub position_of : StarlarkHashValue → (K → Bool) → List (Entry K V) → Option ℕ
   position_of hash passes es = position (stands_under hash passes) es
 
-  -- the entry at a place, and its value
+  -- the entry at a place that may be none
   abbrev pub entry_at : List (Entry K V) → Option ℕ → Option (Entry K V)
   entry_at es place = option_and_then (slice_get es) place
 
+  -- the value at a place that may be none
   abbrev pub value_at : List (Entry K V) → Option ℕ → Option V
   value_at es place = option_map entry_value (entry_at es place)
 
@@ -49,15 +52,16 @@ module _ {K V : Type 0} where
   set_value_at (e ∷ es) zero value = (e.0, value) ∷ es
   set_value_at (e ∷ es) (suc i) value = e ∷ set_value_at es i value
 
+  -- the list with this value at a place; where there is no place, the list itself
   abbrev pub with_value : List (Entry K V) → Option ℕ → V → List (Entry K V)
   with_value es place value = option_map_or (λ i. set_value_at es i value) place es
 
-  -- the list without the entry at the place
+  -- the list without the entry at the place; where there is no place, the list itself
   abbrev pub without : List (Entry K V) → Option ℕ → List (Entry K V)
   without es place = option_map_or (remove es) place es
 
 module _ {K V : Type 0} (eq : K → K → Bool) where
-  -- the place with this hash and an equal key
+  -- the first place with this hash and an equal key
   abbrev pub match_of : List (Entry K V) → Hashed K → Option ℕ
   match_of es key = position_of (hash_of key) (eq (key_of key)) es
 
@@ -65,6 +69,7 @@ module _ {K V : Type 0} (eq : K → K → Bool) where
   abbrev pub IsSingle : List (Entry K V) → Type 0
   IsSingle es = AllPairs (λ d e. stands_under (entry_hash d) (eq (entry_key d)) e ≡ false) es
 
-  -- the list after an insertion: a key that is there keeps its place and takes the value, and a new one goes last
+  -- the list after an insertion: a key that is there keeps its place and its stored key and takes the value, and a new one goes
+  -- last
   abbrev pub insert_entry : List (Entry K V) → Hashed K → V → List (Entry K V)
   insert_entry es key value = option_map_or (λ i. set_value_at es i value) (match_of es key) (es ++ (key, value) ∷ [])

@@ -11,11 +11,12 @@ module _ {F X : Type 0} (calls : F → X → Bool → X → F → Type 0) where
   abbrev pub MayLeave : F → X → F → Type 0
   MayLeave f x g = (keeps : Bool) × (y : X) × calls f x keeps y g
 
-  -- takes holds at each item, of the closure as the calls at the items before may have left it
+  -- `takes` holds at each item, of the closure as its calls at the items before may have left it
   pub record TakesInTurn (takes : F → X → Type 0) (f : F) (xs : List X) : Type 0 where
     pub at : (before after : List X) (g : F) (x : X) → xs ≡ before ++ x ∷ after → FoldsTo MayLeave f before g → takes g x
 
-  -- the closure was called once at each item, from the front, its state carried on; kept are the items at which it answered true, as it left them
+  -- the closure was called once at each item, from the front, its state carried on. Kept are the items at which it answered
+  -- true, as it left them
   abbrev pub Retains : F → List X → List X → Type 0
   Retains f [] kept = kept ≡ []
   Retains f (x ∷ xs) kept =
@@ -26,7 +27,7 @@ module _ {F K V : Type 0} (g : Mut F (Bor K × (MutBor V × Unit {0})) (Bool × 
   abbrev pub TakesEntry : F → Entry K V → Type 0
   TakesEntry f e = (key : Bor K) (value : MutBor V) → key.now ≡ entry_key e → value.now ≡ entry_value e → Takes g f (key, (value, tt))
 
-  -- such a call may answer keeps, and leave the entry as d and f as f'
+  -- such a call may answer `keeps`, and leave the entry as d and f as f'
   pub record CalledAtEntry (f : F) (e : Entry K V) (keeps : Bool) (d : Entry K V) (f' : F) : Type 0 where
     pub key : Bor K
     pub value : MutBor V

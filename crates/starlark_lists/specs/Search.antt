@@ -7,14 +7,15 @@ use Rattle.starlark_hash.specs.declared.hash_value.StarlarkHashValue.{StarlarkHa
 use Rattle.starlark_lists.specs.Entries.{Entry, entry_key, is_under}
 
 module _ {F N X : Type 0} (g : Mut F (Bor X × Unit {0}) Bool) where
-  -- f is asked about the items in turn, its state carried on, until it accepts one: the answer is that one's name, or none where f refused all, and f ends in the last state
+  -- the closure f is asked about named items in turn, its state carried on, until it accepts one. The answer is that one's
+  -- name, or none where f refused all; the state that f ends in is `last`
   abbrev pub Asks : F → List (N × X) → Option N → F → Type 0
   Asks f [] answer last = (answer ≡ None) × (last ≡ f)
   Asks f (p ∷ ps) answer last =
       (accepts : Bool) × (next : F) × CalledAt g f p.1 accepts next
       × MatchBool accepts ((answer ≡ Some p.0) × (last ≡ next)) (Asks next ps answer last)
 
-  -- f is asked about these items in some order, about each at most once
+  -- f is asked so along some order of these items, about each at most once
   pub record Searches (items : List (N × X)) (f : F) (answer : Option N) (last : F) : Type 0 where
     pub order : List (N × X)
     pub rearranged : IsPermutation items order
@@ -24,7 +25,7 @@ module _ {F N X : Type 0} (g : Mut F (Bor X × Unit {0}) Bool) where
   abbrev pub Refuses : F → List (N × X) → F → Type 0
   Refuses f items last = FoldsTo (λ s p t. CalledAt g s p.1 false t) f items last
 
-  -- f may be called on each of these items in any order, once it has refused those before
+  -- f may be called on each of these items, in whatever order, once it has refused those before
   pub record CanSearch (items : List (N × X)) (f : F) : Type 0 where
     pub at : (before : List (N × X)) (p : N × X) (after : List (N × X)) (later : F)
         → IsPermutation items (before ++ p ∷ after) → Refuses f before later → TakesAt g later p.1

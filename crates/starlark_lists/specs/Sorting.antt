@@ -5,7 +5,7 @@ use Rattle.std.specs.declared.cmp.Ordering.{Ordering}
 use Rattle.starlark_lists.specs.Entries.{Entry, entry_key}
 
 module _ {X : Type 0} (lt : X → X → Bool) where
-  -- x before the first item that is not less
+  -- the list with x put before the first item that is not less
   abbrev pub insert_sorted : X → List X → List X
   insert_sorted x [] = x ∷ []
   insert_sorted x (y ∷ ys) = if lt y x then y ∷ insert_sorted x ys else x ∷ y ∷ ys

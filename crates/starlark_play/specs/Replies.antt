@@ -10,7 +10,8 @@ use Rattle.starlark_lists.specs.Entries.{Entry, entry_key, entry_value, pair_of,
 use Rattle.starlark_lists.specs.Sorting.{Ascends, sorted_by_key}
 use Rattle.starlark_lines.specs.Commands.{Command, Put, Get, Del, At, Pop, Rev, Sort, Clear, Reserve, Slim, Len, Walk, hash_text}
 
--- the entries of a map in order, their keys as bytes
+-- the entries of a script's map in order: hash, bytes of the key, and value. The words on lists of entries are used on them as
+-- they stand, with equality of bytes
 abbrev pub Entries : Type 0
 Entries = List (Entry (List ℕ) ℤ)
 
@@ -22,19 +23,21 @@ bytes_cmp a b = slice_cmp nat_cmp a b
 abbrev pub ended : List ℕ → List ℕ
 ended text = text ++ (10 ∷ [])
 
+-- the reply that shows a value, or that there is none
 abbrev pub value_text : Option ℤ → List ℕ
 value_text None = ended (codes "none")
 value_text (Some value) = ended (codes "some " ++ signed_decimal value)
 
--- a key and its value
+-- the reply that shows a key and its value, or that there is none
 abbrev pub pair_text : Option (List ℕ × ℤ) → List ℕ
 pair_text None = ended (codes "none")
 pair_text (Some p) = ended (codes "some " ++ p.0 ++ codes " " ++ signed_decimal p.1)
 
+-- the line that shows an entry: the number of its hash, its key and its value
 abbrev pub entry_text : Entry (List ℕ) ℤ → List ℕ
 entry_text e = ended (hash_text e.0 ++ codes " " ++ entry_key e ++ codes " " ++ signed_decimal (entry_value e))
 
--- what is answered to a command at these entries
+-- what is answered to a command at these entries, line feeds included
 abbrev pub reply : Entries → Command → List ℕ
 reply es (Put key value) = value_text (value_at es (match_of bytes_eq es key))
 reply es (Get key) = value_text (value_at es (match_of bytes_eq es key))
@@ -64,8 +67,8 @@ after es Slim = es
 after es Len = es
 after es Walk = es
 
--- the commands for which memory may be asked at these entries: an insertion of a new key, a sort where the keys do
--- not ascend, and a reservation of some room
+-- the commands for which memory may be asked at these entries: `put` of a key that is not there, `sort` where the keys do not
+-- ascend, and `reserve` of more than 0
 abbrev pub MayNeedMemory : Entries → Command → Type 0
 MayNeedMemory es (Put key value) = match_of bytes_eq es key ≡ None
 MayNeedMemory es Sort = ¬ (Ascends bytes_cmp es)

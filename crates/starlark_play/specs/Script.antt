@@ -1,4 +1,5 @@
--- What was written for a script. Bytes are `None` where a reader or a writer does not tell them.
+-- What was written for a script. Bytes are `None` where a reader or a writer does not tell them. This model of a script has no
+-- block, no buffer, no parser and no `String`: it takes all lines at once, and a key as its bytes.
 use Rattle.std.specs.Prelude.{◌≡◌, ℕ, ◌+◌, List, [], ◌∷◌, ◌++◌, length, Option}
 use Rattle.std.specs.List.{AllZip}
 use Rattle.std.specs.Io.KnownBytes.{Appends}
@@ -21,13 +22,14 @@ pub record Reaches (script : List ℕ) (commands : List Command) (line : List �
   pub cut : lines_of script ≡ before ++ line ∷ more
   pub good : AreLinesOf before commands
 
--- every line of the script is that of a command, and their replies were written
+-- every line of the script is that of a command, and the writer got their replies
 pub record IsPlayed (old new : Option (List ℕ)) (script : List ℕ) : Type 0 where
   pub commands : List Command
   pub good : AreLinesOf (lines_of script) commands
   pub written : Answers old new commands
 
--- the script's line of this number is the first that is bad, and the replies to the lines before it were written
+-- the script's line of this number is the first that is bad, and the replies to the lines before it were written, all of them
+-- and nothing else
 pub record StopsAtBadLine (old new : Option (List ℕ)) (number : ℕ) (script : List ℕ) : Type 0 where
   pub commands : List Command
   pub line : List ℕ
@@ -36,7 +38,8 @@ pub record StopsAtBadLine (old new : Option (List ℕ)) (number : ℕ) (script :
   pub number_is : number ≡ length commands + 1
   pub written : Answers old new commands
 
--- the replies to some first lines of the script were written, and the next line's command may need memory there
+-- the replies to some first lines of the script were written, and the next line is that of a command that may need memory at
+-- the entries after them
 pub record StopsForMemory (old new : Option (List ℕ)) (script : List ℕ) : Type 0 where
   pub commands : List Command
   pub line : List ℕ

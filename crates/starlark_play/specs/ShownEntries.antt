@@ -6,6 +6,7 @@ use Rattle.starlark_lists.specs.Entries.{Entry, entry_hash, entry_key, entry_val
 use Rattle.starlark_hash.specs.HashValue.{hashed}
 use Rattle.starlark_play.specs.Replies.{Entries}
 
+-- an entry with the bytes of its key in place of the text
 abbrev pub shown_entry : Entry (String Global) ℤ → Entry (List ℕ) ℤ
 shown_entry e = (hashed (entry_hash e) (string_bytes (entry_key e)), entry_value e)
 

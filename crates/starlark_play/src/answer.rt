@@ -17,7 +17,9 @@ use starlark_small::{IterHashed, SmallMap};
 use std::alloc::Global;
 use std::io::Write;
 
-/// Does what a line asks for, and writes the reply. Where memory is refused nothing is written.
+/// Does what a line asks for, and writes the reply. Keys are the same where their hashes and their bytes are, and are
+/// sorted by their bytes. Memory is refused only to a new key, to a sort of keys that do not ascend, and to a
+/// reservation of more than 0; then nothing is written.
 pub fn answer<W: Write>(
     alloc: Global,
     map: &mut SmallMap<String, i64>,

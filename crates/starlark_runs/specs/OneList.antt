@@ -12,11 +12,11 @@ module _ {K V R : Type 0} where
   abbrev pub IsGranted : Reply K V R → Type 0
   IsGranted reply = is_refusal reply ≡ false
 
-  -- the same commands are refused
+  -- the same commands are refused in both replies
   abbrev pub SameRefused : List (Reply K V R) → List (Reply K V R) → Type 0
   SameRefused replies others = refusals replies ≡ refusals others
 
-  -- no command is refused
+  -- no command is refused in either
   abbrev pub NoneRefused : List (Reply K V R) → List (Reply K V R) → Type 0
   NoneRefused replies others = All IsGranted replies × All IsGranted others
 
@@ -30,7 +30,7 @@ module _ {K V R : Type 0} (eq : K → K → Bool) (cmp : K → K → Ordering) (
   HaveSameRuns first second =
       (commands : List (Command K V)) (replies : List (Reply K V R)) (end : List (Entry K V)) → Run eq cmp shows first commands replies end ↔ Run eq cmp shows second commands replies end
 
-  -- two runs of the same commands, one from each list, have equal replies and lead to one list if their replies are so
+  -- two runs of the same commands, one from each list, have equal replies and lead to one list if their replies are `so`
   abbrev pub AgreeWhere : (List (Reply K V R) → List (Reply K V R) → Type 0) → List (Entry K V) → List (Entry K V) → Type 0
   AgreeWhere so first second =
       (commands : List (Command K V)) (replies others : List (Reply K V R)) (new end : List (Entry K V))

@@ -14,7 +14,7 @@ module _ {K V R : Type 0} where
   IsAccepted (Refused key value) = ⊥
   IsAccepted reply = ⊤
 
-  -- until an index may be dropped, the next n insertions are accepted
+  -- until a `DropIndex` the next n insertions are accepted
   abbrev pub AcceptsNext : ℕ → List (Command K V) → List (Reply K V R) → Type 0
   AcceptsNext (suc n) (DropIndex ∷ commands) replies = ⊤
   AcceptsNext (suc n) (Insert key value ∷ commands) (reply ∷ replies) = IsAccepted reply × AcceptsNext n commands replies
@@ -22,7 +22,7 @@ module _ {K V R : Type 0} where
   AcceptsNext n commands replies = ⊤
 
 module _ {K V R : Type 0} (eq : K → K → Bool) (cmp : K → K → Ordering) (shows : Entry K V → R → Type 0) where
-  -- until an index may be dropped, each insertion is accepted that leaves the list at n entries or fewer
+  -- until a `DropIndex` each insertion is accepted that leaves the list at n entries or fewer
   abbrev pub AcceptsUpTo : ℕ → List (Entry K V) → List (Command K V) → List (Reply K V R) → Type 0
   AcceptsUpTo n old (DropIndex ∷ commands) replies = ⊤
   AcceptsUpTo n old (command ∷ commands) (reply ∷ replies) =

@@ -17,11 +17,11 @@ is_refusal (Refused key value) = true
 is_refusal NoMemory = true
 is_refusal reply = false
 
--- which replies are refusals
+-- for each reply whether it is a refusal: the refusals of a run are read off its replies
 abbrev pub refusals : {K V R : Type 0} → List (Reply K V R) → List Bool
 refusals replies = map is_refusal replies
 
--- this is shown of the entry, where there is one
+-- this is shown of the entry where there is one, and nothing where there is none
 abbrev pub IsShown : {E R : Type 0} → (E → R → Type 0) → Option E → Option R → Type 0
 IsShown shows None None = ⊤
 IsShown shows (Some e) (Some r) = shows e r
@@ -36,7 +36,9 @@ entry_shown eq es Last = slice_get es (length es - 1)
 entry_shown eq es command = None
 
 module _ {K V R : Type 0} (eq : K → K → Bool) (cmp : K → K → Ordering) (shows : Entry K V → R → Type 0) where
-  -- from old, a map may give this reply to the command and go on to new
+  -- from the list `old` a map may give this reply to the command and go on to the list `new`. There is one case for each
+  -- command and each reply that it may have; the last case excludes all others. `Refused` may answer an `Insert` of a new key
+  -- alone; `NoMemory` a `Reserve`, or a `Sort` of a list whose keys do not ascend. Refusals leave the list
   abbrev pub Step : List (Entry K V) → Command K V → Reply K V R → List (Entry K V) → Type 0
   Step old (Look key) (Found found) new =
       (option_map (λ p. p.0) found ≡ match_of eq old key)
@@ -66,13 +68,14 @@ module _ {K V R : Type 0} (eq : K → K → Bool) (cmp : K → K → Ordering) (
   -- no other reply is given
   Step old command reply new = ⊥
 
-  -- these replies, one to each command in turn, lead from old to new
+  -- a step for each command in turn, with one reply to each, leads from old to new
   abbrev pub Run : List (Entry K V) → List (Command K V) → List (Reply K V R) → List (Entry K V) → Type 0
   Run old [] [] new = new ≡ old
   Run old (command ∷ commands) (reply ∷ replies) new = (next : List (Entry K V)) × Step old command reply next × Run next commands replies new
   Run old commands replies new = ⊥
 
-  -- where an entry is shown in one way only, these replies and this list are those of every run with the same refusals
+  -- where an entry is shown in one way only, every run of these commands on this list with these refusals gives these replies
+  -- and leads to this list. So refusals count as inputs, and nothing else is left open
   abbrev pub IsDetermined : List (Entry K V) → List (Command K V) → List (Reply K V R) → List (Entry K V) → Type 0
   IsDetermined old commands replies new =
       ((e : Entry K V) (r s : R) → shows e r → shows e s → r ≡ s)
@@ -80,7 +83,7 @@ module _ {K V R : Type 0} (eq : K → K → Bool) (cmp : K → K → Ordering) (
       → (others ≡ replies) × (end ≡ new)
 
 module _ {F K V R : Type 0} (g : Shared F (Bor K × (Bor V × Unit {0})) R) where
-  -- look may be called at references to the entry's key and value
+  -- the closure `look` may be called at references to the entry's key and value
   abbrev pub TakesEntry : F → Entry K V → Type 0
   TakesEntry look e = (key : Bor K) (value : Bor V) → key.now ≡ entry_key e → value.now ≡ entry_value e → g.pre look (key, (value, tt))
 
@@ -91,7 +94,7 @@ module _ {F K V R : Type 0} (g : Shared F (Bor K × (Bor V × Unit {0})) R) wher
     pub points : (key.now ≡ entry_key e) × (value.now ≡ entry_value e)
     pub met : g.post look (key, (value, tt)) r
 
-  -- look may be called on each entry that a command shows, once those before it are done
+  -- `look` may be called on each entry that a command shows, once those before it are done; nothing is asked of any other entry
   pub record CanShow (eq : K → K → Bool) (cmp : K → K → Ordering) (look : F) (start : List (Entry K V)) (commands : List (Command K V)) : Type 0 where
     pub at : (before : List (Command K V)) (command : Command K V) (after : List (Command K V)) (replies : List (Reply K V R)) (now : List (Entry K V)) (e : Entry K V)
         → commands ≡ before ++ command ∷ after → Run eq cmp (Shows look) start before replies now

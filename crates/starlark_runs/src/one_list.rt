@@ -10,7 +10,7 @@ use std::alloc::{AllocError, Global};
 
 /// Two maps with the same entries have the same runs, with an index or without: what one may reply the other may, and
 /// both come to the same list. Where the same commands are refused memory on both, or none is on either, the replies
-/// are equal.
+/// are equal, if `look` shows an entry in one way only.
 pub fn index_never_shows<K: Ord, V, R, F: Fn(&K, &V) -> R>(
     first: &SmallMap<K, V>,
     second: &SmallMap<K, V>,
@@ -21,8 +21,9 @@ pub fn index_never_shows<K: Ord, V, R, F: Fn(&K, &V) -> R>(
     ensures none_refused { first.now.entries ≡ second.now.entries → IsShownOnce (Shows F.Fn look.now) → AgreeWhere K.eq K.cmp (Shows F.Fn look.now) NoneRefused first.now.entries second.now.entries }
 {}
 
-/// Does the same commands on two maps with the same entries, of which one may have an index and the other not. Where the
-/// same commands are refused memory on both, the replies are equal, and both maps have the same entries afterwards.
+/// Does the same commands on two maps with the same entries, of which one may have an index and the other not, with one
+/// `look` that shows an entry in one way only. Where the same commands are refused memory on both, the replies are
+/// equal, and both maps have the same entries afterwards.
 pub fn replies_agree<K: Ord + Drop, V: Drop, R: Drop, F: Fn(&K, &V) -> R>(
     alloc: Global,
     first: &mut SmallMap<K, V>,

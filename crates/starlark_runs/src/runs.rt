@@ -117,10 +117,15 @@ fn run_in<K: Ord + Drop, V: Drop, R, F: Fn(&K, &V) -> R>(
     }
 }
 
-/// Does the commands in order on the map, and answers their replies. `look` gives the part of an entry that a
-/// reply shows. Memory for the replies is asked for before the first command: where it is not found no
-/// command is done. What needs no memory is not refused: a run of no commands, and in a run an insertion or a
-/// reservation below the ceiling, which is what lengths and reservations before it have made sure of.
+/// Does the commands in order on the map, and answers their replies: those of one plain list, and of every run with the
+/// same refusals. `look` gives the part of an entry that a reply shows. It need be callable on those entries alone that
+/// commands show.
+///
+/// Memory for the replies is asked for before the first command: where it is not found no command is done. What needs
+/// no memory is not refused: a run of no commands, and in a run an insertion or a reservation below the ceiling, which
+/// is what lengths and reservations before it have made sure of. Afterwards length plus room is at least the last
+/// ceiling. The capacity is at most the largest of the one before, 4 and twice the greatest length that was asked for.
+/// There is an index exactly where commands and replies leave one.
 pub fn run<K: Ord + Drop, V: Drop, R: Drop, F: Fn(&K, &V) -> R>(
     alloc: Global,
     map: &mut SmallMap<K, V>,

@@ -15,6 +15,6 @@ module _ {T : Type 0} where
   abbrev pub own_element : (T → HashWrites) → T → Entry T (Unit {0})
   own_element feeds element = element_entry (own_hashed feeds element)
 
--- a step of an iterator that gives each item beside `()`
+-- a step of an iterator that gives each item beside `()`, as a set puts it in
 abbrev pub StepsBeside : {S A : Type 0} → (S → Option A → S → Type 0) → S → Option (A × Unit {0}) → S → Type 0
 StepsBeside steps s r t = steps s (option_map (λ p. p.0) r) t

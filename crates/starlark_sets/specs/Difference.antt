@@ -7,7 +7,7 @@ use Rattle.std.specs.Map.Iter.{deref}
 use Rattle.starlark_lists.specs.Entries.{Entry, entry_key, match_of}
 use Rattle.starlark_sets.specs.Set.{Elements}
 
--- what a difference has left to look at, and the list that it looks in
+-- what a difference has left to look at, and the list in which it looks each element up
 pub record Difference (T : Type 0) : Type 0 where
   pub left : Elements T
   pub other : Elements T

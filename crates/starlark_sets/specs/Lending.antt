@@ -12,7 +12,7 @@ use Rattle.starlark_sets.specs.Set.{Elements, Set}
 use Rattle.starlark_sets.specs.contracts.small_set.SmallSet.{the_row}
 
 module _ (T : RattleType) (g : eq.Ghosts T.Denot) (s : MutBor (Set T.Denot)) where
-  -- the set ends as P says
+  -- the set ends as P says, once what was shown of it is no longer looked at
   abbrev pub ends_so : (Set T.Denot → Type 0) → Fml
   ends_so P = follows_so (the_row T g) (the_row T g) s.ghost_name none (λ _ _. ⊤) P
 

@@ -7,6 +7,6 @@ use Rattle.starlark_sets.specs.Set.{Set}
 use Rattle.starlark_sets.specs.contracts.ordered_set.OrderedSet.{the_row}
 
 module _ (T : RattleType) (g : eq.Ghosts T.Denot) (s : MutBor (Set T.Denot)) where
-  -- the set ends as P says
+  -- the set ends as P says, once what a call showed of it is no longer looked at
   abbrev pub ends_so : (Set T.Denot → Type 0) → Fml
   ends_so P = follows_so (the_row T g) (the_row T g) s.ghost_name none (λ _ _. ⊤) P

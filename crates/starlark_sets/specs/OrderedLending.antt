@@ -13,8 +13,8 @@ use Rattle.starlark_lists.specs.Finding.{Writes, found}
 use Rattle.starlark_sets.specs.contracts.ordered_map.OrderedMap.{the_row}
 
 module _ (K V : RattleType) (g : eq.Ghosts K.Denot) (s : MutBor (Map K.Denot V.Denot)) where
-  -- the value at the place that was found ends as what is left behind the reference, which is found then, and all else stays;
-  -- where none was found, the map stays
+  -- the value at the place that was found ends as what is left behind the reference, a look-up then finds it, and all else
+  -- stays; where none was found, the map stays
   abbrev pub lends_get : (K.Denot → Bool) → StarlarkHashValue → Option (MutBor V.Denot) → Fml
   lends_get test hash r = LendsSo (the_row K V g) V s r
       (λ n w. (n ≡ record s.now { entries = with_value s.now.entries (position_of hash test s.now.entries) w })
@@ -25,10 +25,10 @@ module _ (K V : RattleType) (g : eq.Ghosts K.Denot) (s : MutBor (Map K.Denot V.D
   abbrev pub values_follow : GName → Fml
   values_follow γ = follows (the_row K V g) (small.the_row K V g) s.ghost_name γ (λ w. record s.now { entries = with_values s.now.entries w.entries })
 
-  -- the map ends as the one inside is left
+  -- the ordered map ends as the map inside is left
   abbrev pub lends_inside : MutBor (Map K.Denot V.Denot) → Fml
   lends_inside r = Lends (the_row K V g) (small.the_row K V g) s r (λ m. m)
 
-  -- the map ends as the one that the entry writes
+  -- the ordered map ends as the map that the entry writes is left
   abbrev pub follows_entry : Entry K.Denot V.Denot g → Fml
   follows_entry e = follows (the_row K V g) (small.the_row K V g) s.ghost_name (map_of_entry e).ghost_name (λ m. m)

@@ -11,8 +11,8 @@ use Rattle.starlark_sets.specs.declared.ordered_set.tries.Refusal.{Refusal}
 use Rattle.starlark_sets.specs.declared.ordered_set.tries.Refusal.TheVariants.{Placed, Full}
 
 module _ {T : Type 0} where
-  -- new is old after this element was inserted, or refused: where one is there it is refused and nothing changes; a new
-  -- one goes last, or is refused where there is no room
+  -- new is old after this element was tried: where an equal one stands under its hash it is refused and nothing changes; a new
+  -- one goes last, or is refused, which happens at room 0 alone
   abbrev pub Tries : {A E : Type 0} → (T → T → Bool) → Set T → Hashed T → Result A E → Set T → Type 0
   Tries eq old element r new =
       MatchOption (match_of eq old.entries element)
@@ -29,7 +29,7 @@ module _ {T : Type 0} where
   IsPlaced es there value (Placed place refused) = (refused ≡ value) × (there ≡ option_map entry_key (slice_get es place))
   IsPlaced es there value (Full e) = (e.0 ≡ value) × (there ≡ None)
 
-  -- the place is within the list
+  -- the place that the refusal names is within the list
   abbrev pub IsWithin : Elements T → Refusal T → Type 0
   IsWithin es (Placed place refused) = place < length es
   IsWithin es (Full e) = ⊤

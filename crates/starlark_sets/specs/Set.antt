@@ -9,29 +9,29 @@ use Rattle.starlark_hash.specs.declared.hash_value.StarlarkHashValue.{StarlarkHa
 use Rattle.starlark_small.specs.Inserted.{IsInserted, IsRefused}
 use Rattle.starlark_small.specs.Map.{Map}
 
--- the elements in order, each under its hash, with the room, the capacity and whether there is an index
+-- the map to `()`: the elements in order, each under its hash, with the room, the capacity and whether there is an index
 abbrev pub Set : Type 0 → Type 0
 Set T = Map T (Unit {0})
 
--- the list of a set
+-- the elements of a set, as the entries of the map
 abbrev pub Elements : Type 0 → Type 0
 Elements T = List (Entry T (Unit {0}))
 
 module _ {T : Type 0} where
-  -- the element at a place
+  -- the element at a place that may be none
   abbrev pub element_at : Set T → Option ℕ → Option T
   element_at s place = option_map entry_key (entry_at s.entries place)
 
-  -- new is old after this element was inserted, or refused: one that is there changes nothing, and a new one goes last,
-  -- or is refused where there is no room
+  -- new is old after this element was inserted, or refused: one that is there changes nothing; a new one goes last, or is
+  -- refused, which happens at room 0 alone
   abbrev pub Adds : {A E : Type 0} → (T → T → Bool) → Set T → Hashed T → Result A E → Set T → Type 0
   Adds eq old element r new =
       MatchOption (match_of eq old.entries element)
       (MatchResult r (λ _. IsInserted old element tt new) (λ _. IsRefused old new × (old.room ≡ 0)))
       (λ _. IsOk r × (new ≡ old))
 
-  -- new is old after an element was wanted for this query under this hash, and r shows it: one that is there changes
-  -- nothing; where it is lacking, one to which the query is equivalent goes last, or is refused
+  -- new is old after an element was wanted for this query under this hash, and r shows it: one that is there, and nothing
+  -- changes; or else one to which the query is equivalent, now last under this hash; or it was refused
   abbrev pub AddsFor : {Q E : Type 0} → (Q → T → Bool) → Q → StarlarkHashValue → Set T → Result (Bor T) E → Set T → Type 0
   AddsFor equivalent query hash old r new =
       let place = position_of hash (equivalent query) old.entries in

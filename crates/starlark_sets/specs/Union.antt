@@ -14,7 +14,7 @@ pub record Union (T : Type 0) : Type 0 where
   pub second : Difference T
 
 module _ {T : Type 0} (eq : T → T → Bool) where
-  -- one list, and then what the other has that it lacks
+  -- one list, and then what the other has that the first lacks
   abbrev pub union : Elements T → Elements T → Elements T
   union es fs = es ++ difference eq fs es
 

@@ -12,24 +12,28 @@ use Rattle.starlark_lists.specs.Entries.{Entry}
 use Rattle.starlark_lists.specs.Clone.{IsEntryClone}
 use Rattle.starlark_lists.specs.Ordered.{ordered_feed}
 
--- both are equal, and neither is less
+-- whether two `()` are equal; any two are
 abbrev pub same_unit : Unit {0} → Unit {0} → Bool
 same_unit x y = true
 
+-- the order of `()`: neither is less
 abbrev pub unit_cmp : Unit {0} → Unit {0} → Ordering
 unit_cmp x y = Equal
 
+-- equality of `()` is an equivalence
 pub unit_equiv : IsEquivalence same_unit
 unit_equiv = record { refl = λ x. refl; symm = λ x y. refl; congr = λ x y z e. refl }
 
+-- equality of `()` is symmetric and transitive
 pub unit_per : IsPartialEquivalence same_unit
 unit_per = record { symm = λ x y. refl; trans = λ x y z a b. refl }
 
+-- the order of `()` is total
 pub unit_total : IsTotalOrder unit_cmp
 unit_total = record { antisymm = λ x y. refl; trans = λ x y z a b. a; congr = λ x y z e. refl }
 
 module _ {T : Type 0} where
-  -- what a set feeds to a hasher: the hash of each element, as one number of 32 bits
+  -- what a set feeds to a hasher: the hash of each element as one number of 32 bits, and no length
   abbrev pub set_feed : List (Entry T (Unit {0})) → HashWrites
   set_feed es = ordered_feed (λ _. []) es
 

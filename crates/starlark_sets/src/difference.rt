@@ -10,6 +10,7 @@ use starlark_small::IterHashed;
 use std::marker::Model;
 
 /// The elements of one set that another lacks, in order. An element is looked for under the hash that it stands under.
+/// It is seen as what it has left to look at, and the list that it looks in. A step passes over those that are there.
 #[derive(Drop)]
 pub struct Difference<'a, T: Eq> {
     left: IterHashed<'a, T, ()>,

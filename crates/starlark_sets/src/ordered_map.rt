@@ -13,7 +13,8 @@ use starlark_small::SmallMap;
 use std::alloc::{AllocError, Global};
 use std::marker::Model;
 
-/// A `SmallMap` that is compared and hashed in its order.
+/// A `SmallMap` that is compared and hashed in its order. It is seen as the map inside, and its calls say what that
+/// map's do.
 #[derive(Debug, Drop)]
 pub struct OrderedMap<K: Eq, V>(SmallMap<K, V>);
 
@@ -26,7 +27,7 @@ impl<K: Eq, V> Model for OrderedMap<K, V> {
 }
 
 impl<K: Eq, V> OrderedMap<K, V> {
-    /// An empty map, which asks for no memory until the first insertion.
+    /// An empty map without room, capacity and index. It asks for no memory until the first insertion.
     #[inline]
     pub fn new(alloc: Global) -> Self
         ensures { result ≡ record { entries = []; room = 0; capacity = 0; indexed = false } }
@@ -34,8 +35,8 @@ impl<K: Eq, V> OrderedMap<K, V> {
         OrderedMap(SmallMap::new(alloc))
     }
 
-    /// An empty map with room for so many entries, and with an index where so many need one. Where memory is refused,
-    /// nothing is made; capacity 0 asks for none.
+    /// An empty map of this capacity, with room for so many entries, and with an index where so many need one. Where
+    /// memory is refused, nothing is made; capacity 0 asks for none.
     pub fn with_capacity(alloc: Global, capacity: usize) -> Result<Self, AllocError>
         ensures entries { IfOk result (λ map. map.entries ≡ []) }
         ensures capacity { IfOk result (λ map. map.capacity ≡ capacity) }

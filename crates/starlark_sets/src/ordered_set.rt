@@ -15,7 +15,8 @@ use std::marker::Model;
 pub use tries::{OccupiedError, TryInsertError};
 pub use walk::{IntoIter, Iter};
 
-/// A `SmallSet` that is compared and hashed in its order.
+/// A `SmallSet` that is compared and hashed in its order. It is seen as the set inside, and its calls say what that
+/// set's do.
 #[derive(Debug, Drop)]
 pub struct OrderedSet<T: Eq>(SmallSet<T>);
 
@@ -28,7 +29,7 @@ impl<T: Eq> Model for OrderedSet<T> {
 }
 
 impl<T: Eq> OrderedSet<T> {
-    /// An empty set, which asks for no memory until the first insertion.
+    /// An empty set without room, capacity and index. It asks for no memory until the first insertion.
     #[inline]
     pub fn new(alloc: Global) -> Self
         ensures { result ≡ record { entries = []; room = 0; capacity = 0; indexed = false } }
@@ -36,8 +37,8 @@ impl<T: Eq> OrderedSet<T> {
         OrderedSet(SmallSet::new(alloc))
     }
 
-    /// An empty set with room for so many elements, and with an index where so many need one. Where memory is refused,
-    /// nothing is made; capacity 0 asks for none.
+    /// An empty set of this capacity, with room for so many elements, and with an index where so many need one. Where
+    /// memory is refused, nothing is made; capacity 0 asks for none.
     pub fn with_capacity(alloc: Global, capacity: usize) -> Result<Self, AllocError>
         ensures entries { IfOk result (λ set. set.entries ≡ []) }
         ensures capacity { IfOk result (λ set. set.capacity ≡ capacity) }

@@ -18,9 +18,13 @@ use starlark_small::SmallMap;
 use std::alloc::{AllocError, Global};
 use std::marker::Model;
 
-/// A set that walks in the order of insertion. An element stands under a hash that its caller brings, which need not
-/// be its own: a look-up finds the element of that hash that is equal. A list that has grown long has an index of its
-/// places.
+/// A set that walks in the order of insertion. It is seen as the map whose keys are the elements and whose every value
+/// is `()`.
+///
+/// An element stands under a hash that its caller brings, which need not be its own: a look-up finds the element of
+/// that hash that is equal. No two elements have the same hash and are equal. A list that has grown longer than
+/// `UNINDEXED` has an index of its places, which changes no answer. The walks go from both ends, with exact length and
+/// size hint.
 #[derive(Drop)]
 pub struct SmallSet<T: Eq> {
     map: SmallMap<T, ()>,
@@ -37,7 +41,7 @@ impl<T: Eq> Model for SmallSet<T> {
 }
 
 impl<T: Eq> SmallSet<T> {
-    /// An empty set, which asks for no memory until the first insertion.
+    /// An empty set without room, capacity and index. It asks for no memory until the first insertion.
     #[inline]
     pub fn new(alloc: Global) -> Self
         ensures { result ≡ record { entries = []; room = 0; capacity = 0; indexed = false } }
@@ -48,8 +52,8 @@ impl<T: Eq> SmallSet<T> {
         }
     }
 
-    /// An empty set with room for so many elements, and with an index where so many need one. Where memory is refused,
-    /// nothing is made; capacity 0 asks for none.
+    /// An empty set of this capacity, with room for so many elements, and with an index where so many need one. Where
+    /// memory is refused, nothing is made; capacity 0 asks for none.
     pub fn with_capacity(alloc: Global, capacity: usize) -> Result<Self, AllocError>
         ensures entries { IfOk result (λ set. set.entries ≡ []) }
         ensures capacity { IfOk result (λ set. set.capacity ≡ capacity) }

@@ -9,7 +9,7 @@ use starlark_small::IterHashed;
 use std::marker::Model;
 
 /// The elements of one set, and then those of another that it lacks, in order. An element is looked for under the hash
-/// that it stands under.
+/// that it stands under. It is seen as what it has left of the first set, and the other's `Difference` to that set.
 #[derive(Drop)]
 pub struct Union<'a, T: Eq> {
     first: IterHashed<'a, T, ()>,

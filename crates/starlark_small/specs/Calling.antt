@@ -1,5 +1,6 @@
--- What a caller of a `SmallMap` says of it, and of the collections made of one: what a query finds under its own hash, and what
--- a call leaves at its query and at all other keys.
+-- What a caller of a `SmallMap` says of it: what a query finds under its own hash, and what a call leaves at its query and at
+-- all other keys. Sets, ordered and sorted types share these words: a set is a map to `()`. All of them but `found`,
+-- `found_key`, `AreOwnEntries` and `Puts` unfold by themselves in callers' proofs.
 use Rattle.std.specs.Prelude.{◌≡◌, ℕ, All, Bool, List, Option, None, is_some, map}
 use Rattle.std.specs.Hash as fed
 use Rattle.std.specs.Hash.{HashWrites}
@@ -12,31 +13,31 @@ use Rattle.starlark_lists.specs.Entries.{Entry, entry_hash, entry_key}
 use Rattle.starlark_lists.specs.Finding.{found, found_key, Writes}
 use Rattle.starlark_small.specs.Map.{Map}
 
--- the keys in order
+-- the keys of a map in order
 abbrev pub keys : {K V : Type 0} → Map K V → List K
 keys m = map entry_key m.entries
 
 module _ {Q K V : Type 0} (equivalent : Q → K → Bool) (feeds : Q → HashWrites) where
-  -- the value at what the query is equivalent to, under the query's own hash
+  -- the value at what the query is equivalent to, under the query's own hash, where there is one
   abbrev pub get : Map K V → Q → Option V
   get m query = found (equivalent query) (own_hash feeds query) m.entries
 
-  -- the stored key
+  -- the stored key there, where there is one
   abbrev pub get_key : Map K V → Q → Option K
   get_key m query = found_key (equivalent query) (own_hash feeds query) m.entries
 
-  -- whether there is one
+  -- whether the map has a value at the query
   abbrev pub contains : Map K V → Q → Bool
   contains m query = is_some (get m query)
 
 module _ {Q K V : Type 0} (eq : K → K → Bool) (equivalent : Q → K → Bool) (feeds : Q → HashWrites) where
-  -- the new map has this value, or none, at the query; and at each key that the query is not equivalent to, whatever the
-  -- key's hash, it has what the old one had
+  -- `Writes` of two maps at a query under its own hash: the new map has this value, or none, at the query; at each key that the
+  -- query is not equivalent to, whatever the key's hash, it has what the old one had
   abbrev pub UpdatesBy : Map K V → Map K V → Q → Option V → Type 0
   UpdatesBy old new query value = Writes eq (equivalent query) (own_hash feeds query) old.entries new.entries value
 
 module _ {K V : Type 0} (eq : K → K → Bool) (feeds : K → HashWrites) where
-  -- the same by a key
+  -- the same at a key under its own hash
   abbrev pub Updates : Map K V → Map K V → K → Option V → Type 0
   Updates old new key value = UpdatesBy eq eq feeds old new key value
 
@@ -50,17 +51,19 @@ module _ {K V : Type 0} where
   abbrev pub IsEmpty : Map K V → Type 0
   IsEmpty m = (test : K → Bool) (hash : StarlarkHashValue) → found test hash m.entries ≡ None
 
-  -- each key stands under its own hash. Callers' proofs leave the word on entries closed
+  -- each key of the list stands under its own hash; callers' proofs never unfold this word
   unfoldable pub AreOwnEntries : (K → HashWrites) → List (Entry K V) → Type 0
   AreOwnEntries feeds es = All (λ e. entry_hash e ≡ own_hash feeds (entry_key e)) es
 
+  -- each key of the map stands under its own hash
   abbrev pub AreOwn : (K → HashWrites) → Map K V → Type 0
   AreOwn feeds m = AreOwnEntries feeds m.entries
 
 module _ {A V : Type 0} where
-  -- the value at the string of these bytes
+  -- the value at the string of these bytes, under its own hash, where there is one
   abbrev pub get_text : Map (String A) V → List ℕ → Option V
   get_text m text = get (λ q k. bytes_eq q (string_bytes k)) fed.str m text
 
+  -- whether there is a value at the string of these bytes
   abbrev pub contains_text : Map (String A) V → List ℕ → Bool
   contains_text m text = is_some (get_text m text)

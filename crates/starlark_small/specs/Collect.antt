@@ -37,9 +37,9 @@ module _ {K V : Type 0} (eq : K → K → Bool) where
       pub made : becomes iter it
       pub inserts : Inserts it old new r
 
-    -- the map has the iterator's items, inserted into one that had room for a number of them within what it bounds; the
-    -- capacity rose from that number at most to the larger of 4 and twice one more than the length, and there is an index
-    -- if that number, or the length now, needs one
+    -- the map has all of the iterator's items, inserted into one that had room for a number of them within what the iterator
+    -- bounds; the capacity rose from that number at most to the larger of 4 and twice one more than the length; and there is an
+    -- index if that number, or the length now, is above the threshold
     pub record Collects {U : Type 0} (becomes : U → T → Type 0) (remaining : T → Count) (iter : U) (m : Map K V) : Type 0 where
       pub it : T
       pub made : becomes iter it

@@ -1,4 +1,4 @@
--- Why lists of entries that have the same entries are equal in the sense of `==`: it is symmetric, transitive and, where the values' is, reflexive.
+-- Why `same_entries` is symmetric and transitive where the equality of values is, and an equivalence where that is one.
 use Rattle.std.proofs.Common.{◌≡◌, ℕ, suc, Bool, true, false, cond, ◌&&◌, List, [], ◌∷◌, length, Option, Some, None, refl, sym, ap, subst, ◌∙◌, nat_eq}
 use Rattle.std.specs.List.{list_all}
 use Rattle.std.specs.Option.{option_eq, option_map}
@@ -76,22 +76,26 @@ module _ {K V : Type 0} (eq : K → K → Bool) (E : V → V → Bool) where
       let agree : Hashed K → Bool = λ q. option_eq (λ d e. E d.1 e.1) (lookup_entry (alike eq q) ds) (lookup_entry (alike eq q) es) in
       λ i. nat_eq (length ds) (length es) && (each_key (agree_at eq E ds es) agree (agree-entries ds es) ds i && each_key (agree_at eq E ds es) agree (agree-entries ds es) es i)
 
+  -- lists with the same entries are equal as finite maps
   pub as_maps : (ds es : List (Entry K V)) → same_entries eq E ds es ≡ true → hash_map_eq (alike eq) E (as_map ds) (as_map es) ≡ true
   as_maps ds es same = second_so (nat_eq (length ds) (length es)) _ (sym (same_entries-maps ds es) ∙ same)
 
+  -- lists with the same entries are as long
   pub as_long : (ds es : List (Entry K V)) → same_entries eq E ds es ≡ true → nat_eq (length ds) (length es) ≡ true
   as_long ds es same = first_so (nat_eq (length ds) (length es)) _ same
 
-  -- both, together, are the equality
+  -- lists that are as long and equal as finite maps have the same entries
   pub both : (ds es : List (Entry K V)) → nat_eq (length ds) (length es) ≡ true → hash_map_eq (alike eq) E (as_map ds) (as_map es) ≡ true → same_entries eq E ds es ≡ true
   both ds es long same = same_entries-maps ds es ∙ (λ i. long i && same i)
 
+  -- `==` of maps is symmetric and transitive where that of values is
   pub same_entries_laws : IsEquivalence eq → IsPartialEquivalence E → IsPartialEquivalence {K = Map K V} (λ m n. same_entries eq E m.entries n.entries)
   same_entries_laws o e =
       subst IsPartialEquivalence (λ i m n. sym (same_entries-maps m.entries n.entries) i)
       (and_per (on_per (λ m. length m.entries) (partial_equiv_from_equiv nat_eq_equiv))
       (on_per (λ m. as_map m.entries) (record { symm = hash_map_eq_symm (alike eq) E e.symm; trans = hash_map_eq_trans (alike eq) E (alike-laws eq o) e.trans })))
 
+  -- `==` of maps is an equivalence, so reflexive too, where that of values is
   pub same_entries_equivalence : IsEquivalence eq → IsEquivalence E → IsEquivalence {K = Map K V} (λ m n. same_entries eq E m.entries n.entries)
   same_entries_equivalence o e =
       equiv (same_entries_laws o (partial_equiv_from_equiv e))

@@ -7,11 +7,11 @@ use Rattle.starlark_small.specs.Map.{Map}
 use Rattle.starlark_table.specs.Table.{Table, members}
 use Rattle.starlark_vecmap.specs.EntryList.{EntryList}
 
--- the greatest length that a list may have without an index
+-- the threshold: 16, the greatest length that a list may have without an index
 abbrev pub unindexed : ℕ
 unindexed = 16
 
--- the place one down, if it is above the last one that stays
+-- the place one down, if it is above `last`
 abbrev pub lowered : ℕ → ℕ → ℕ
 lowered last place = if nat_le place last then place else place - 1
 
@@ -20,7 +20,7 @@ abbrev pub index_room : ℕ → Option (Table ℕ) → ℕ
 index_room len None = unindexed - len
 index_room len (Some table) = table.room
 
--- the hashes of a table's members
+-- the hashes under which a table has members
 abbrev pub hashes_in : Table ℕ → List ℕ
 hashes_in table = map (λ m. m.0) (members table)
 
@@ -29,24 +29,25 @@ module _ {K V : Type 0} where
   abbrev pub positions_from : ℕ → List (Entry K V) → List (ℕ × ℕ)
   positions_from n es = map (λ p. (promoted (hash_number (entry_hash p.1)), p.0)) (enumerate_from n es)
 
+  -- each place under the promoted hash of its entry
   abbrev pub positions : List (Entry K V) → List (ℕ × ℕ)
   positions es = positions_from 0 es
 
-  -- the positions without place i, where the places below j have moved one down and those from j on have not
+  -- the positions once place i was taken out and the places behind it, up to j, have moved one down
   abbrev pub moved_below : List (Entry K V) → ℕ → ℕ → List (ℕ × ℕ)
   moved_below es i j = positions_from 0 (remove (take j es) i) ++ positions_from j (drop j es)
 
-  -- the table holds the places of the list, and each hash is a number of 32 bits
+  -- the table holds the places of the list and nothing else, and each hash is a number of 32 bits
   pub record IsIndexOf (es : List (Entry K V)) (table : Table ℕ) : Type 0 where
     pub bag : IsPermutation (positions es) (members table)
     pub fits : All (λ e. hash_number (entry_hash e) < 2 ^ 32) es
 
-  -- an index holds the places, and without one the list is short
+  -- where there is an index, it is one of the list; without one the list is short
   abbrev pub IsIndexed : List (Entry K V) → Option (Table ℕ) → Type 0
   IsIndexed es None = length es ≤ unindexed
   IsIndexed es (Some table) = IsIndexOf es table
 
-  -- no two entries have the same hash and equal keys, and the list is indexed or short
+  -- the map's invariant: no two entries have the same hash and equal keys, and the list is indexed or short
   pub record IsSound (eq : K → K → Bool) (es : List (Entry K V)) (index : Option (Table ℕ)) : Type 0 where
     pub single : IsSingle eq es
     pub indexed : IsIndexed es index

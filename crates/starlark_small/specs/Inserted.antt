@@ -8,8 +8,8 @@ use Rattle.starlark_small.specs.Index.{unindexed}
 use Rattle.starlark_small.specs.Map.{Map, GrowsFor, KeepsRoom}
 
 module _ {K V : Type 0} where
-  -- new is old with this entry last: with room to spare nothing grew, no room is lost, the capacity is that of the list after
-  -- a reservation for one entry, and there is an index if there was one or the list is now too long to do without
+  -- new is old with this entry last; with room to spare capacity and index stay; no room is lost; the capacity is that of the
+  -- list after a reservation for one entry; and there is an index if there was one or the list is now longer than the threshold
   pub record IsInserted (old : Map K V) (key : Hashed K) (value : V) (new : Map K V) : Type 0 where
     pub entries : new.entries ≡ old.entries ++ (key, value) ∷ []
     pub spare : 0 < old.room → (new.capacity ≡ old.capacity) × (new.indexed ≡ old.indexed)
@@ -18,7 +18,7 @@ module _ {K V : Type 0} where
     pub indexed : new.indexed ≡ (old.indexed || nat_lt unindexed (length old.entries + 1))
 
   -- new is old with room for so many new entries: the entries stay, no room is lost, the capacity is that of the list after
-  -- such a reservation, and there is an index if there was one or so many need one
+  -- such a reservation, and there is an index if there was one or the length and so many together are above the threshold
   pub record IsReserved (old : Map K V) (additional : ℕ) (new : Map K V) : Type 0 where
     pub entries : new.entries ≡ old.entries
     pub enough : additional ≤ new.room
@@ -27,8 +27,8 @@ module _ {K V : Type 0} where
     pub grown : new.capacity ≡ reserved_capacity old additional
     pub indexed : new.indexed ≡ (old.indexed || nat_lt unindexed (length old.entries + additional))
 
-  -- new is old after room for so many new entries was refused: entries and index stay, no room is lost, and the capacity may
-  -- have grown
+  -- new is old after room for so many new entries was refused: entries and index stay, no room is lost, and the capacity has
+  -- grown at most as for so many
   pub record IsRefusedFor (additional : ℕ) (old new : Map K V) : Type 0 where
     pub entries : new.entries ≡ old.entries
     pub indexed : new.indexed ≡ old.indexed
@@ -39,10 +39,10 @@ module _ {K V : Type 0} where
   abbrev pub IsRefused : Map K V → Map K V → Type 0
   IsRefused old new = IsRefusedFor 1 old new
 
-  -- what an insertion under this key leaves of the map's memory, done or refused: a key that is there changes nothing but its
-  -- value; with room to spare nothing grows; no room is lost; the capacity rises at most to that of a list of one entry more,
-  -- and is that of the list after a reservation for one entry where a new one went in; and there is an index if there was one
-  -- or the list is now too long to do without
+  -- what an insertion under this key leaves of the map's memory, done or refused. A key that is there changes nothing but its
+  -- value. With room to spare capacity and index stay. No room is lost. The capacity grows at most as for one entry more, and
+  -- is that of the list after a reservation for one entry where a new one went in. There is an index if there was one or the
+  -- list is now longer than the threshold
   pub record LeavesMemory (eq : K → K → Bool) (old : Map K V) (key : Hashed K) (new : Map K V) : Type 0 where
     pub replaced : IsSome (match_of eq old.entries key) → new ≡ record old { entries = new.entries }
     pub spare : 0 < old.room → (new.capacity ≡ old.capacity) × (new.indexed ≡ old.indexed)

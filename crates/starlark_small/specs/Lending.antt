@@ -13,13 +13,13 @@ use Rattle.starlark_small.specs.Inserted.{IsInserted, IsRefused}
 use Rattle.starlark_small.specs.Map.{Map, own_match}
 use Rattle.starlark_small.specs.contracts.small_map.SmallMap.{the_row}
 
--- an answer to an insertion, where a refused key comes back without its hash
+-- the answer of an insertion, where a refused key comes back without its hash
 abbrev pub unhashed : {T K V : Type 0} → Result T (NoRoom (Hashed K × V)) → Result T (NoRoom (K × V))
 unhashed (Ok x) = Ok x
 unhashed (Err e) = Err (record { 0 = (key_of e.0.0, e.0.1) })
 
 module _ (K V : RattleType) (g : eq.Ghosts K.Denot) (s : MutBor (Map K.Denot V.Denot)) where
-  -- the value at the place ends as what is left behind the reference, and all else stays
+  -- the map ends with what is left behind a reference to the value at the place, and all else stays
   abbrev pub lends_value : ℕ → MutBor V.Denot → Fml
   lends_value i r = Lends (the_row K V g) V s r (λ w. record s.now { entries = set_value_at s.now.entries i w })
 
@@ -27,23 +27,25 @@ module _ (K V : RattleType) (g : eq.Ghosts K.Denot) (s : MutBor (Map K.Denot V.D
   abbrev pub lends_found : Option ℕ → Option (MutBor V.Denot) → Fml
   lends_found place r = LendsIf (the_row K V g) V s r (λ w. record s.now { entries = with_value s.now.entries place w }) s.now
 
-  -- the value at the query ends as what is left behind the reference, and all else stays; where there is none, the map stays
+  -- the value at the query ends as what is left behind the reference, and all else stays, which is said by look-ups too; where
+  -- there is none, the map stays
   abbrev pub lends_get : {Q : Type 0} → (Q → K.Denot → Bool) → (Q → HashWrites) → Q → Option (MutBor V.Denot) → Fml
   lends_get equivalent feeds query r = LendsSo (the_row K V g) V s r
       (λ n w. (n ≡ record s.now { entries = with_value s.now.entries (own_match equivalent feeds s.now.entries query) w }) × (keys n ≡ keys s.now) × (IsSome (get equivalent feeds s.now query) → UpdatesBy g.eq equivalent feeds s.now n query (Some w)))
       (λ n. n ≡ s.now)
 
-  -- the map ends with the values that the loan of this name ends with, and all else stays
+  -- the map ends with the values that the loan of this name ends with, each in its place; hashes, keys, order, room, capacity
+  -- and index stay
   abbrev pub values_follow : GName → Fml
   values_follow γ = follows (the_row K V g) (the_row K V g) s.ghost_name γ (λ w. record s.now { entries = with_values s.now.entries w.entries })
 
-  -- the map ends with the new entry last, its value what is left behind the reference; where it was refused, with the
-  -- entries that it had
+  -- the map ends as after an insertion of the new entry, its value what is left behind the reference; where it was refused, as
+  -- after a refusal
   abbrev pub lends_inserted : {E : Type 0} → Hashed K.Denot → Result (Bor K.Denot × MutBor V.Denot) E → Fml
   lends_inserted key r =
       follows_so (the_row K V g) V s.ghost_name (name_if_ok (λ p. p.1.ghost_name) r) (λ w n. OnOk r (IsInserted s.now key w n)) (λ n. OnErr r (IsRefused s.now n))
 
-  -- the same, where only the value is lent
+  -- the same, where only a reference to the value is lent
   abbrev pub lends_new : {E : Type 0} → Hashed K.Denot → Result (MutBor V.Denot) E → Fml
   lends_new key r =
       follows_so (the_row K V g) V s.ghost_name (name_if_ok (λ p. p.ghost_name) r) (λ w n. OnOk r (IsInserted s.now key w n)) (λ n. OnErr r (IsRefused s.now n))

@@ -21,20 +21,23 @@ use Rattle.starlark_small.specs.declared.entry.OccupiedEntry.{OccupiedEntry}
 use Rattle.starlark_small.specs.declared.entry.VacantEntry.{VacantEntry}
 
 module _ {K V : Type 0} {g : eq.Ghosts K} where
-  -- the reference to the map, and the place of the entry; the reference to the map, and the key that is lacking
+  -- the lent map that an occupied entry holds
   abbrev pub occupied_map : OccupiedEntry K V g → MutBor (Map K V)
   occupied_map o = o.map
 
+  -- the place of an occupied entry in that map
   abbrev pub occupied_place : OccupiedEntry K V g → ℕ
   occupied_place o = o.index
 
+  -- the lent map that a vacant entry holds
   abbrev pub vacant_map : VacantEntry K V g → MutBor (Map K V)
   vacant_map v = v.map
 
+  -- the key that is lacking
   abbrev pub lacking_key : VacantEntry K V g → Hashed K
   lacking_key v = v.key
 
-  -- the reference to the map
+  -- the lent map that an entry holds
   abbrev pub map_of_entry : Entry K V g → MutBor (Map K V)
   map_of_entry (Occupied o) = occupied_map o
   map_of_entry (Vacant v) = vacant_map v
@@ -44,7 +47,7 @@ module _ {K V : Type 0} {g : eq.Ghosts K} where
   IsEntryOf eq m key (Occupied o) = ((occupied_map o).now ≡ m) × (match_of eq m.entries key ≡ Some (occupied_place o))
   IsEntryOf eq m key (Vacant v) = ((vacant_map v).now ≡ m) × (match_of eq m.entries key ≡ None) × (lacking_key v ≡ key)
 
-  -- what stands at the entry's place
+  -- what stands at an occupied entry's place
   abbrev pub stored : OccupiedEntry K V g → Option (Hashed K × V)
   stored o = slice_get (occupied_map o).now.entries (occupied_place o)
 
@@ -53,46 +56,49 @@ module _ {K V : Type 0} {g : eq.Ghosts K} where
   entry_value_of (Occupied o) = option_map entry_value (stored o)
   entry_value_of (Vacant v) = None
 
-  -- the key that is there, or the one that is lacking
+  -- the key is the one that is there, or the one that is lacking
   abbrev pub IsKeyOf : Entry K V g → K → Type 0
   IsKeyOf (Occupied o) key = option_map entry_key (stored o) ≡ Some key
   IsKeyOf (Vacant v) key = key ≡ key_of (lacking_key v)
 
-  -- the map, once this is the entry's value
+  -- the map, once this is the entry's value: all else is as it was
   abbrev pub written : OccupiedEntry K V g → V → Map K V
   written o value = record (occupied_map o).now { entries = set_value_at (occupied_map o).now.entries (occupied_place o) value }
 
-  -- what is there once this was put under the entry
+  -- what the map is once this value was put under the entry: `written` where it was occupied, inserted where it was vacant
   abbrev pub IsPut : Entry K V g → V → Map K V → Type 0
   IsPut (Occupied o) value m = m ≡ written o value
   IsPut (Vacant v) value m = IsInserted (vacant_map v).now (lacking_key v) value m
 
-  -- the same as one word, which callers' proofs leave closed
+  -- the same as one word, which callers' proofs never unfold
   unfoldable pub Puts : Entry K V g → V → Map K V → Type 0
   Puts e value m = IsPut e value m
 
+  -- there is no such entry: none stands under the key
   abbrev pub IsVacant : Entry K V g → Type 0
   IsVacant (Occupied o) = ⊥
   IsVacant (Vacant v) = ⊤
 
-  -- r shows the value that is there, or one that may be given, and an `Err` hands the key back with one
+  -- r shows the value that is there, or one that may be given; an `Err` is of a vacant entry alone, and hands the key back with
+  -- such a value
   abbrev pub ShowsOrGives : (V → Type 0) → Entry K V g → Result (MutBor V) (NoRoom (Hashed K × V)) → Type 0
   ShowsOrGives gives (Occupied o) r = MatchResult r (λ p. option_map entry_value (stored o) ≡ Some p.now) (λ _. ⊥)
   ShowsOrGives gives (Vacant v) r = MatchResult r (λ p. gives p.now) (λ back. (back.0.0 ≡ lacking_key v) × gives back.0.1)
 
+  -- the place of an entry stays within the list, whatever value stands there
   pub still_within : (o : OccupiedEntry K V g) (value : V) → occupied_place o < length (written o value).entries
   still_within o value = subst (λ n. occupied_place o < n) (sym (length-set_value_at (occupied_map o).now.entries (occupied_place o) value)) o.within
 
-  -- the entry, once this is its value
+  -- the entry, once this is its value: all else is as it was
   abbrev pub with_entry_value : OccupiedEntry K V g → V → OccupiedEntry K V g
   with_entry_value o value = record { map = record (occupied_map o) { now = written o value }; index = occupied_place o; within = still_within o value }
 
 module _ {F K V : Type 0} {eqs : eq.Ghosts K} (g : Once F (MutBor V × Unit {0}) (⊤ × (MutBor V × Unit {0}))) (f : F) where
-  -- f may be called at a `&mut` to the value that is there
+  -- f may be called at a `&mut` to the value that is there, if any
   abbrev pub TakesItsValue : Entry K V eqs → Type 0
   TakesItsValue e = (value : V) → entry_value_of e ≡ Some value → FnOnceTakesAtMut g f value
 
-  -- a call of f at the value that is there left another one, and e is the entry with that
+  -- f was called once at the value that is there and left another one, and e is the entry with that
   pub record ChangesItsValue (o : OccupiedEntry K V eqs) (e : Entry K V eqs) : Type 0 where
     pub old : V
     pub new : V
@@ -118,6 +124,6 @@ module _ (K V : RattleType) {g : eq.Ghosts K.Denot} where
   abbrev pub vacant_lends : {E : Type 0} → VacantEntry K.Denot V.Denot g → Result (MutBor V.Denot) E → Fml
   vacant_lends v r = follows_so (the_row K V g) V (vacant_map v).ghost_name (name_if_ok (λ p. p.ghost_name) r) (λ w n. OnOk r (IsInserted (vacant_map v).now (lacking_key v) w n) × (IsOk r → Puts (Vacant v) w n)) (λ n. OnErr r (IsRefused (vacant_map v).now n))
 
-  -- either of these
+  -- the map ends with what is left behind the reference put under the entry; refused, it has the entries that it had
   abbrev pub entry_lends : {E : Type 0} → Entry K.Denot V.Denot g → Result (MutBor V.Denot) E → Fml
   entry_lends e r = follows_so (the_row K V g) V (map_of_entry e).ghost_name (name_if_ok (λ p. p.ghost_name) r) (λ w n. OnOk r (IsPut e w n) × (IsOk r → Puts e w n)) (λ n. OnErr r (IsRefused (map_of_entry e).now n))

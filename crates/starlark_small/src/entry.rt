@@ -8,7 +8,9 @@ use crate::small_map::SmallMap;
 use starlark_hash::{Hashed, NoRoom};
 use std::hash::Hash;
 
-/// The place of a key under a hash, where the map has an entry or lacks one.
+/// The place of a key under a hash, where the map has an entry or lacks one. That the entry is there, or is lacking, is
+/// a fact of the type: no call requires anything but that its closure may be called. What is written through an entry
+/// is the value at its place, and all else of the map stays. Let go, it leaves the map as it is.
 #[derive(Drop)]
 pub enum Entry<'a, K: Eq, V> {
     /// There is an entry of this hash with an equal key.
@@ -17,14 +19,14 @@ pub enum Entry<'a, K: Eq, V> {
     Vacant(VacantEntry<'a, K, V>),
 }
 
-/// An entry that the map has.
+/// An entry that the map has: the lent map, and a place within its list.
 pub struct OccupiedEntry<'a, K: Eq, V> {
     map: &'a mut SmallMap<K, V>,
     index: usize,
     ghost within: { index < length map.now.entries },
 }
 
-/// A key that the map lacks.
+/// A key that the map lacks: the lent map, and the key, which has no match there.
 pub struct VacantEntry<'a, K: Eq, V> {
     map: &'a mut SmallMap<K, V>,
     key: Hashed<K>,
@@ -69,7 +71,8 @@ impl<K: Eq, V> SmallMap<K, V> {
     ghost use Rattle.starlark_small.specs.Map.{Map, own_hashed};
     ghost use Rattle.starlark_small.specs.MapEntry.{map_of_entry, entry_value_of, IsEntryOf, Puts};
 
-    /// The entry of a key under its own hash. Where there is one, it keeps its key, and this one is dropped.
+    /// The entry of a key under its own hash, or the lack of one. Where there is one, it keeps its key, and this one is
+    /// dropped.
     pub fn entry(&mut self, key: K) -> Entry<'_, K, V>
     where
         K: Hash + Drop,
@@ -82,7 +85,8 @@ impl<K: Eq, V> SmallMap<K, V> {
         self.entry_hashed(Hashed::new(key))
     }
 
-    /// The entry under this hash with an equal key. Where there is one, it keeps its key, and this one is dropped.
+    /// The entry under this hash with an equal key, or the lack of one. Where there is one, it keeps its key, and this
+    /// one is dropped.
     pub fn entry_hashed(&mut self, key: Hashed<K>) -> Entry<'_, K, V>
     where
         K: Drop,
@@ -186,7 +190,7 @@ impl<'a, K: Eq, V> VacantEntry<'a, K, V> {
 
     /// Inserts the key with this value, and lends the value. The entry goes last, and the map ends with what is left in
     /// the value. It is refused where there is no room and no memory is found: then key and value come back, and
-    /// entries and index stay.
+    /// entries and index stay. Capacity, room and index are left as `SmallMap::insert_hashed` leaves them.
     pub fn insert(self, value: V) -> Result<&'a mut V, NoRoom<(Hashed<K>, V)>>
         ensures* writes_back { sem 𝓛 (vacant_lends K.row V.row self.entry result) }
         ensures value { IfOk result (λ p. p.now ≡ value) }

@@ -24,7 +24,8 @@ macro_rules! smallmap {
 }
 
 /// One step of `smallmap!`: inserts into a map that was made, as `SmallMap::insert` does. A key that is there is never
-/// refused, nor is any with room to spare; a map that was refused stays so.
+/// refused, nor is any with room to spare; a map that was refused stays so. Room, capacity and index are left as an
+/// insertion leaves them.
 pub fn inserted<K: Eq + Hash + Drop, V: Drop>(
     map: Result<SmallMap<K, V>, AllocError>,
     key: K,

@@ -21,9 +21,13 @@ use starlark_vecmap::VecMap;
 use std::alloc::{AllocError, Global};
 use std::marker::Model;
 
-/// A map that walks in the order of insertion. An entry stands under a hash that its caller brings, which
-/// need not be the key's own: a look-up finds the entry of that hash and an equal key. A list that has grown long has
-/// an index of its places.
+/// A map that walks in the order of insertion. It is seen as the list of its entries, its room, its capacity, and
+/// whether it has an index.
+///
+/// An entry stands under a hash that its caller brings, which need not be the key's own: a look-up finds the entry of
+/// that hash and an equal key. No two entries have the same hash and equal keys. One key may stand under two hashes,
+/// and each is found under its own alone. A list that has grown longer than `UNINDEXED` has an index of its places,
+/// which changes no answer. The walks go from both ends, with exact length and size hint.
 #[derive(Drop)]
 pub struct SmallMap<K: Eq, V> {
     entries: VecMap<K, V>,
@@ -42,7 +46,7 @@ impl<K: Eq, V> Model for SmallMap<K, V> {
 }
 
 impl<K: Eq, V> SmallMap<K, V> {
-    /// An empty map, which asks for no memory until the first insertion.
+    /// An empty map without room, capacity and index. It asks for no memory until the first insertion.
     #[inline]
     pub fn new(alloc: Global) -> Self
         ensures empty { result ≡ record { entries = []; room = 0; capacity = 0; indexed = false } }
@@ -55,8 +59,8 @@ impl<K: Eq, V> SmallMap<K, V> {
         }
     }
 
-    /// An empty map with room for so many entries, and with an index where so many need one. Where memory is refused,
-    /// nothing is made; capacity 0 asks for none.
+    /// An empty map of this capacity, with room for so many entries, and with an index where so many need one. Where
+    /// memory is refused, nothing is made; capacity 0 asks for none.
     pub fn with_capacity(alloc: Global, capacity: usize) -> Result<Self, AllocError>
         ensures entries { IfOk result (λ map. map.entries ≡ []) }
         ensures lacks { IfOk result IsEmpty }

@@ -5,7 +5,7 @@ use Rattle.std.specs.List.Sorted.{IsPermutation, IsStable}
 use Rattle.std.specs.declared.cmp.Ordering.{Ordering}
 
 module _ {U S T : Type 0} (cmp : T → T → Ordering) (becomes : U → S → Type 0) (steps : S → Option T → S → Type 0) (iter : U) where
-  -- the list has every item of the iterator, equal ones in their order
+  -- the list has every item that the iterator gives, as often as it gives it, and equal ones in their order
   abbrev pub HasEveryItem : List T → Type 0
   HasEveryItem sorted = (it : S) × (items : List T) × becomes iter it × Drains steps it items × IsPermutation items sorted × IsStable cmp items sorted
 

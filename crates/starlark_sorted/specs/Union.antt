@@ -33,7 +33,7 @@ module _ {T : Type 0} where
   ahead None hs = []
   ahead (Some h) hs = shown h ∷ elements_under hs
 
-  -- whether a list is what another has behind this element, or all of it where there is none
+  -- whether a list is what another has behind this element, or all of it where no element is given
   abbrev pub Follows : Option (Hashed (Bor T)) → Elements T → Elements T → Type 0
   Follows None es there = there ≡ es
   Follows (Some h) es there = (ds : Elements T) × (there ≡ ds ++ shown h ∷ es)
@@ -44,7 +44,7 @@ behind p [] = []
 behind p (x ∷ xs) = if p x then behind p xs else x ∷ xs
 
 module _ {T : Type 0} (cmp : T → T → Ordering) where
-  -- whether an element comes before all that is left of the first list
+  -- whether an element comes before all that is left of the first list, or nothing is left of that
   abbrev pub comes_first : Elements T → Entry T (Unit {0}) → Bool
   comes_first [] f = true
   comes_first (e ∷ es) f = key_lt cmp f e
@@ -59,7 +59,8 @@ module _ {T : Type 0} (cmp : T → T → Ordering) where
   ComesNext last there f = (es : Elements T) × Ascends cmp there × Follows last es there × (comes_first es f ≡ true)
 
 module _ {T : Type 0} (eq : T → T → Bool) (cmp : T → T → Ordering) where
-  -- one list and what the other has that it lacks, ascending: of equal elements the first list's come first
+  -- one list and what the other has that it lacks, in ascending order: of equal elements the first list's come first, and those
+  -- of one list stay in their order
   abbrev pub rise : Elements T → Elements T → Elements T
   rise es fs = sorted_by_key cmp (union eq es fs)
 
@@ -71,7 +72,8 @@ module _ {T : Type 0} (eq : T → T → Bool) (cmp : T → T → Ordering) where
   abbrev pub is_passed : Elements T → Elements T → Entry T (Unit {0}) → Bool
   is_passed es there f = comes_first cmp es f && not (lacks eq there f)
 
-  -- what a step leaves
+  -- what a step leaves: those of the second list that are passed over are gone; then its first is taken where it comes before
+  -- what is left of the first list, and else the first of that list
   abbrev pub after : SortedUnion T → SortedUnion T
   after u =
       let fs = behind (is_passed u.left u.there) u.right in

@@ -12,7 +12,8 @@ use std::alloc::Global;
 use std::hash::Hash;
 use std::marker::Model;
 
-/// An `OrderedMap` whose keys ascend: strictly, where each stands under its own hash.
+/// An `OrderedMap` whose keys ascend: strictly, where each stands under its own hash. Equal keys under different hashes
+/// may stand side by side. It is seen as the ordered map inside, and compared and hashed as that is.
 #[derive(Debug, Drop)]
 pub struct SortedMap<K: Ord + Hash, V> {
     map: OrderedMap<K, V>,

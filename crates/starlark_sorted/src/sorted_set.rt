@@ -12,7 +12,8 @@ use std::alloc::Global;
 use std::hash::Hash;
 use std::marker::Model;
 
-/// An `OrderedSet` whose elements ascend: strictly, where each stands under its own hash.
+/// An `OrderedSet` whose elements ascend: strictly, where each stands under its own hash. Equal elements under
+/// different hashes may stand side by side. It is seen as the ordered set inside, and compared and hashed as that is.
 #[derive(Debug, Drop)]
 pub struct SortedSet<T: Ord + Hash> {
     inner: OrderedSet<T>,
@@ -40,7 +41,7 @@ impl<T: Ord + Hash> SortedSet<T> {
         }
     }
 
-    /// The elements of a set that ascends already.
+    /// The elements of a set that ascends already, which is required.
     #[inline]
     pub fn new_unchecked(inner: OrderedSet<T>) -> Self
         requires ascends { Ascends T.cmp inner.entries }

@@ -19,7 +19,8 @@ use std::vec::IntoIter;
 
 mod compare;
 
-/// A vector whose items ascend. Equal items may stand side by side.
+/// A vector whose items ascend. Equal items may stand side by side. It is seen as the list of its items; `==`, the
+/// order and `Hash` are those of that list.
 #[derive(Drop, Debug)]
 pub struct SortedVec<T: Ord> {
     vec: Vec<T>,
@@ -47,7 +48,7 @@ impl<T: Ord> SortedVec<T> {
         }
     }
 
-    /// The items of a vector that ascends already.
+    /// The items of a vector that ascends already, which is required.
     #[inline]
     pub fn new_unchecked(vec: Vec<T>) -> Self
         requires ascends { IsSorted T.cmp vec.items }
@@ -78,7 +79,7 @@ impl<T: Ord> SortedVec<T> {
         *self.vec.allocator()
     }
 
-    /// The items in order.
+    /// The items in order, from both ends.
     #[inline]
     pub fn iter(&self) -> Iter<'_, T>
         ensures items { iter_rest result ≡ self.now }
@@ -92,8 +93,8 @@ impl<T: Ord> SortedVec<T> {
 }
 
 impl<T: Ord + Clone> SortedVec<T> {
-    /// A vector of clones of the items, in their order. Where memory is refused, also to the clone of an item, nothing is
-    /// made. Without items no memory is needed.
+    /// A vector of clones of the items, in their order. Where memory is refused, also to the clone of an item, nothing
+    /// is made. Without items no memory is needed. Required is that a clone of an item is equal to it.
     pub fn clone(&self) -> Result<Self, AllocError>
         // A clone of an item is equal to it.
         requires { IsEqualClone T.eq T.is_clone }
@@ -112,7 +113,7 @@ impl<T: Ord + Clone> SortedVec<T> {
 
 impl<T: Ord + Drop> SortedVec<T> {
     /// Every item that the iterator gives, sorted; equal ones keep their order. Where memory is refused, the items are
-    /// dropped.
+    /// dropped. The iterator must end.
     pub fn from_iter<I: IntoIterator<Item = T>>(alloc: Global, iter: I) -> Result<Self, AllocError>
         requires { IsFiniteIterable I.into_iter_gives I.IntoIter.can_next I.IntoIter.remaining iter }
         ensures items { IfOk result (HasEveryItem T.cmp I.into_iter_gives I.IntoIter.next_gives iter) }

@@ -15,7 +15,9 @@ use std::cmp::Ordering;
 use std::marker::Model;
 
 /// The elements of one set and those of another that it lacks, in ascending order; of equal ones those of the first set
-/// come first. An element is looked for under the hash that it stands under.
+/// come first. An element is looked for under the hash that it stands under. It is seen as what it has left of both,
+/// and the list of the first set. A step passes over elements of the other set only where they come before all that is
+/// left of the first.
 #[derive(Drop)]
 pub struct SortedUnion<'a, T: Ord> {
     left: Ahead<'a, T>,

@@ -15,12 +15,14 @@ module _ (T : RattleType) where
   abbrev pub lends_get : MutBor (Table T.Denot) → ℕ → Option (MutBor T.Denot) → Fml
   lends_get s slot r = LendsIf (the_row T) T s r (with_item s.now slot) s.now
 
-  -- once a loan of the items ends, the table has in each slot the item that was left there, under the same hash
+  -- the table ends as `with_written` of what a loan of its items ends as: each full slot has the item that was left there,
+  -- under the same hash
   abbrev pub table_follows : MutBor (Table T.Denot) → GName → Fml
   table_follows s γ = follows (the_row T) (the_row T) s.ghost_name γ (with_written s.now)
 
 module _ (K V : RattleType) where
-  -- once a loan of the values ends, the table has in each slot the value that was left there, under the same hash and key
+  -- a table of pairs ends as `with_values` of what a loan of its values ends as: each full slot has the value that was left
+  -- there, under the same hash and key
   abbrev pub values_follow : MutBor (Table (K.Denot × V.Denot)) → GName → Fml
   values_follow s γ = follows (the_row (Tuple (K ∷ V ∷ []))) (the_row (Tuple (K ∷ V ∷ []))) s.ghost_name γ (with_values s.now)
 

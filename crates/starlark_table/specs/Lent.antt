@@ -4,12 +4,14 @@ use Rattle.std.specs.Coded.{Coded, code_by, coded×, coded_ℕ, coded_list, code
 use Rattle.std.specs.Borrow.{GName}
 use Rattle.starlark_table.specs.Layout.{at, empty_tag}
 
--- the slots that a walk has still to take, which begin with the `from`-th, and the name of the loan of all
+-- what a loan of slots is seen as: the slots that its walk has still to take, which begin with the `from`-th of all, and the
+-- name of the loan of all
 pub record Lent (T : Type 0) : Type 0 where
   pub from : ℕ
   pub rest : List (Option (ℕ × T))
   pub tie : GName
 
+-- how a lent walk is written down as a number
 abbrev pub lent_code : {T : Type 0} → Coded T → Coded (Lent T)
 lent_code {T} code =
     code_by
@@ -19,7 +21,7 @@ lent_code {T} code =
     (λ p. record { from = p.1.0; rest = p.0; tie = p.1.1 })
     (λ _. refl)
 
--- the tags from one on tell which of these slots are full
+-- the tags from the `from`-th on tell which of these slots are full
 pub record AreMarked {T : Type 0} (tags : List ℕ) (from : ℕ) (rest : List (Option (ℕ × T))) : Type 0 where
   pub sized : from + length rest ≤ length tags
   pub empty : (k : ℕ) → k < length rest → slice_index_or tags (from + k) 0 ≡ empty_tag → at rest k ≡ None

@@ -1,4 +1,5 @@
--- What a column of slots and a vector of tags end as, where the items of the one are lent and the other is shown.
+-- What a column of slots and a vector of tags end as, where the items of the one are lent and the other is shown. No public
+-- clause cites this module.
 use Rattle.std.specs.Prelude.{◌≡◌, ℕ, ⊤, [], ◌∷◌}
 use Rattle.std.specs.Borrow.{Fml, RattleType, MutBor, GName, follows, follows_so, u8, u64}
 use Rattle.std.specs.Global.{Vec}
@@ -11,11 +12,11 @@ use Rattle.starlark_columns.specs.Lent.{kept_places}
 use Rattle.starlark_table.specs.Table.{Table}
 use Rattle.starlark_table.specs.contracts.ready_table.ReadyTable.{the_row}
 
--- `(u64, T)`
+-- the type `(u64, T)` of a member
 abbrev pub Member : RattleType → RattleType
 Member T = Tuple (u64 ∷ T ∷ [])
 
--- `Vec<u8>`
+-- the type `Vec<u8>` of the tags
 abbrev pub Tags : RattleType
 Tags = vec_row u8 global_row ghosts
 

@@ -4,7 +4,7 @@ use Rattle.std.specs.List.{enumerate_from, AllZip}
 use Rattle.std.specs.Option.{option_map}
 use Rattle.std.specs.Coded.{Coded, code_by, coded×, coded_ℕ, coded_list, coded_option}
 
--- a (hash, item) or nothing at each slot, and how many insertions surely need no memory
+-- the slots, each empty or with a member, which is a 64-bit hash and an item; and how many insertions surely need no memory
 pub record Table (T : Type 0) : Type 0 where
   pub slots : List (Option (ℕ × T))
   pub room : ℕ
@@ -26,7 +26,7 @@ module _ {T : Type 0} where
   filled (None ∷ slots) = filled slots
   filled (Some m ∷ slots) = m ∷ filled slots
 
-  -- the bag of (hash, item), in the order of the walk
+  -- the members in the order of the walk, the first slot first. As a bag they are all that most callers need
   abbrev pub members : Table T → List (ℕ × T)
   members t = filled t.slots
 
@@ -34,11 +34,11 @@ module _ {T : Type 0} where
   abbrev pub table_len : Table T → ℕ
   table_len t = length (members t)
 
-  -- the member that a slot names
+  -- the member that a slot names, or none
   abbrev pub member_at : Table T → ℕ → Option (ℕ × T)
   member_at t slot = slice_index_or t.slots slot None
 
-  -- the item in a slot
+  -- the item in a slot, if one is there
   abbrev pub item_in : Table T → ℕ → Option T
   item_in t slot = option_map (λ m. m.1) (member_at t slot)
 
@@ -53,7 +53,7 @@ module _ {T : Type 0} where
   abbrev pub holders_in : ℕ → List (Option (ℕ × T)) → List (ℕ × T)
   holders_in hash slots = holders hash (enumerate_from 0 slots)
 
-  -- the slots of a hash, each with its item
+  -- the slots of a 64-bit hash, each with its item: what a search asks about
   abbrev pub items_under : ℕ → Table T → List (ℕ × T)
   items_under hash t = holders_in hash t.slots
 
@@ -75,7 +75,7 @@ module _ {T : Type 0} (is_clone : T → T → Type 0) where
   IsSlotClone None copy = copy ≡ None
   IsSlotClone (Some (h, x)) copy = (y : T) × is_clone x y × (copy ≡ Some (h, y))
 
-  -- slot by slot a clone, and as much room
+  -- the copy has slot by slot a clone of the item under the same hash, and as much room
   pub record IsTableClone (t copy : Table T) : Type 0 where
     pub slots : AllZip IsSlotClone t.slots copy.slots
     pub room : copy.room ≡ t.room

@@ -4,7 +4,7 @@ use Rattle.std.specs.Borrow.{Bor, MutBor}
 use Rattle.std.specs.Fn.{Mut, Takes, TakesAt, CalledAt, CalledAtMut}
 use Rattle.std.specs.List.{FoldsTo}
 
--- f may be called on each of the items in turn, as its calls on those before may leave it
+-- a closure f may be called on each of the items in turn, each time as its calls on those before may have left it
 pub record CanWalk {F X : Type 0} (takes : F → X → Type 0) (leaves : F → X → F → Type 0) (items : List X) (f : F) : Type 0 where
   pub at : (before : List X) (x : X) (after : List X) (later : F) → items ≡ before ++ x ∷ after → FoldsTo leaves f before later → takes later x
 
@@ -13,7 +13,8 @@ module _ {F T : Type 0} (g : Mut F (Bor T × Unit {0}) T) where
   abbrev pub CanReplace : List T → F → Type 0
   CanReplace = CanWalk (TakesAt g) (λ f x f'. (y : T) × CalledAt g f x y f')
 
-  -- f is shown the item of each member in turn, its state carried on, and its answer stands in the item's place: slots and hashes stay
+  -- f is shown the item of each member in turn, its state carried on, and each answer stands in the item's place: slots and
+  -- hashes stay
   abbrev pub ReplacesEach : F → List (Option (ℕ × T)) → List (Option (ℕ × T)) → F → Type 0
   ReplacesEach f [] new last = (new ≡ []) × (last ≡ f)
   ReplacesEach f (None ∷ old) new last = (rest : List (Option (ℕ × T))) × (new ≡ None ∷ rest) × ReplacesEach f old rest last
@@ -36,7 +37,8 @@ module _ {F T : Type 0} (g : Mut F (MutBor T × Unit {0}) (Bool × (MutBor T × 
   abbrev pub CanRetain : List T → F → Type 0
   CanRetain = CanWalk TakesAtMut (λ f x f'. (keeps : Bool) × (y : T) × CalledAtMut g f x keeps f' y)
 
-  -- f was lent the item of a member, answered whether to keep it, and left another item under the same hash
+  -- f is lent the item of a member, answers whether it is kept, and leaves another item under the same hash. With the word
+  -- `RetainsInTurn` of std, over all members, this is `retain`
   pub record AsksMember (f : F) (m : ℕ × T) (keeps : Bool) (f' : F) (n : ℕ × T) : Type 0 where
     pub hash : n.0 ≡ m.0
     pub called : CalledAtMut g f m.1 keeps f' n.1

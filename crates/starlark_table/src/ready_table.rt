@@ -24,8 +24,8 @@ use std::alloc::{AllocError, Global};
 use std::marker::Model;
 use std::mem;
 
-/// A bag of items, each under a 64-bit hash that was ready when it came in, and that it keeps. Items need not
-/// differ, nor their hashes.
+/// A bag of items, each under a 64-bit hash that was ready when it came in, and that it keeps. Items need not differ,
+/// nor their hashes. It is seen as its slots and its room. Length plus room falls in no call.
 ///
 /// Open addressing: each slot is empty or has a member, which stands as near behind its home as was free when it came.
 /// Beside each slot stands a tag, one byte of the hash: by the tags a search mostly sees at once where its hash may be.
@@ -55,7 +55,7 @@ impl<T> Model for ReadyTable<T> {
 impl<T> ReadyTable<T> {
     ghost use Rattle.starlark_table.specs.Lends.{lends_item, lends_get};
 
-    /// An empty table, which asks for no memory before the first insertion.
+    /// An empty table without room. It asks for no memory before the first insertion.
     pub fn new(alloc: Global) -> ReadyTable<T>
         ensures empty { members result ≡ [] }
         ensures room { result.room ≡ 0 }
@@ -75,7 +75,8 @@ impl<T> ReadyTable<T> {
         }
     }
 
-    /// An empty table with room for so many insertions at least.
+    /// An empty table with room for so many insertions at least. Where memory is refused, nothing is made; capacity 0
+    /// is not refused.
     pub fn with_capacity(alloc: Global, capacity: usize) -> Result<ReadyTable<T>, AllocError>
         ensures empty { IfOk result (λ t. members t ≡ []) }
         ensures room { IfOk result (λ t. capacity ≤ t.room) }
@@ -114,8 +115,9 @@ impl<T> ReadyTable<T> {
     }
 
     /// The slot of an item under exactly this hash that `eq` accepts. `eq` is asked about items of this hash alone,
-    /// about each at most once and in no promised order, until it accepts one; `None` says that it refused them all.
-    /// A slot is good until the next change.
+    /// about each at most once and in no promised order, until it accepts one; `None` says that it refused them all. A
+    /// slot is good until the next change. Required is no more than that `eq` may be called on those items, in the
+    /// states that its refusals leave.
     #[inline]
     pub fn find<F: FnMut(&T) -> bool>(&self, hash: u64, eq: F) -> Option<usize>
         requires { CanSearch F.FnMut (items_under hash self.now) eq }
@@ -125,8 +127,9 @@ impl<T> ReadyTable<T> {
         Some(slot)
     }
 
-    /// The slot of such an item, if it stands near the place where its search begins: at most 32 slots are looked at,
-    /// whatever the hashes. An answer is one that `find` may give; `None` says nothing, since an item may stand farther on.
+    /// The slot of such an item, if it stands near the place where its search begins. The code looks at 32 slots at
+    /// most, whatever the hashes; no clause says how many. An answer is one that `find` may give; `None` says nothing,
+    /// since an item may stand farther on.
     #[inline]
     pub fn find_near<F: FnMut(&T) -> bool>(&self, hash: u64, eq: F) -> Option<usize>
         requires { CanSearch F.FnMut (items_under hash self.now) eq }
@@ -145,7 +148,7 @@ impl<T> ReadyTable<T> {
         Some(item)
     }
 
-    /// The item in a slot.
+    /// The item in a slot, where it has one.
     #[inline]
     pub fn get(&self, slot: usize) -> Option<&T>
         ensures { option_copied result ≡ option_map (λ m. m.1) (member_at self.now slot) }
@@ -153,7 +156,8 @@ impl<T> ReadyTable<T> {
         item_at(&self.slots, self.tags.as_slice(), slot)
     }
 
-    /// The item in a slot, for writing. Its hash stays.
+    /// The item in a slot, where it has one, for writing. The slot ends with what is left in it, under the same hash,
+    /// and all else stays.
     #[inline]
     pub fn get_mut(&mut self, slot: usize) -> Option<&mut T>
         ensures* writes_back { sem 𝓛 (lends_get T.row self.entry slot result) }
@@ -193,7 +197,7 @@ impl<T> ReadyTable<T> {
         Ok(self.insert_reserved(hash, item))
     }
 
-    /// The same where the room for the item is there: as after `reserve`.
+    /// The same where the room for the item is there, as after `reserve`: it is never refused.
     #[inline]
     pub fn insert_reserved(&mut self, hash: u64, item: T) -> usize
         requires { 0 < self.old.room }
@@ -254,8 +258,8 @@ impl<T> ReadyTable<T> {
         Ok(())
     }
 
-    /// Takes the member of a slot out, with its hash. All others stay, though not in their slots, and the
-    /// room comes back at once.
+    /// Takes the member of a slot out, with its hash. All others stay, though not in their slots, so a search still
+    /// finds each. The room comes back at once. Where the slot has no member, nothing changes.
     #[inline]
     pub fn remove(&mut self, slot: usize) -> Option<(u64, T)>
         ensures found { result ≡ member_at self.old slot }
@@ -270,8 +274,8 @@ impl<T> ReadyTable<T> {
         Some(member)
     }
 
-    /// Puts what `f` answers in the place of each item, under the same hash: `f` is called once on each
-    /// member, along the walk.
+    /// Puts what `f` answers in the place of each item, under the same hash: `f` is called once on each member, along
+    /// the walk, its state carried on. The room stays.
     pub fn replace_each<F: FnMut(&T) -> T>(&mut self, f: F)
     where
         T: Drop,
@@ -283,7 +287,8 @@ impl<T> ReadyTable<T> {
     }
 
     /// Keeps the members that `f` accepts, with what `f` left in their items, and takes the others out. `f` is called
-    /// once on each member, along the walk. No memory is asked for, and the room of what was taken out comes back.
+    /// once on each member, along the walk, its state carried on. No memory is asked for, and the room of what was
+    /// taken out comes back.
     pub fn retain<F: FnMut(&mut T) -> bool>(&mut self, f: F)
     where
         T: Drop,
@@ -309,7 +314,7 @@ impl<T> ReadyTable<T> {
         self.len = 0;
     }
 
-    /// The items along the walk, in no promised order.
+    /// The items along the walk, in no promised order, with exact length and size hint.
     #[inline]
     pub fn iter(&self) -> Iter<'_, T>
         ensures { result ≡ items_of self.now }
@@ -317,7 +322,7 @@ impl<T> ReadyTable<T> {
         Iter::new(&self.slots, self.tags.as_slice(), self.len)
     }
 
-    /// The members along the walk, each as its hash and its item, by value.
+    /// The members along the walk, each as its hash and its item, by value, with exact length and size hint.
     #[inline]
     pub fn into_iter(self) -> IntoIter<T>
         ensures { result ≡ members self }

@@ -28,6 +28,6 @@ module _ {K V : Type 0} (eq : K → K → Bool) where
     abbrev pub HasLast : {U : Type 0} → (U → T → Type 0) → U → Table (K × V) → Type 0
     HasLast becomes iter m = (it : T) × (xs : List (K × V)) × becomes iter it × Drains steps it xs × ((key : K) → get eq m key ≡ last_value (eq key) xs)
 
--- a step of an iterator that gives each item beside `()`
+-- a step of an iterator that gives each item beside `()`, as a set puts it in
 abbrev pub StepsBeside : {S A : Type 0} → (S → Option A → S → Type 0) → S → Option (A × Unit {0}) → S → Type 0
 StepsBeside steps s r t = steps s (option_map (λ p. p.0) r) t

@@ -34,17 +34,17 @@ module _ {K V : Type 0} where
       ap (λ o. is_some (option_map {T = ℕ × (K × V)} (λ m. m.1) o)) (set_same (option_map (λ e. (e.0, (key, e.1.1)))) refl m.slots slot) ∙ still_some key (member_at m slot) there
 
 module _ {K V : Type 0} {g : eq.Ghosts K} {h : hash.Ghosts K} where
-  -- the reference to the map
+  -- the lent map that a raw entry holds
   abbrev pub map_of_raw : RawEntryMut K V g h → MutBor (Table (K × V))
   map_of_raw (Occupied o) = o.map
   map_of_raw (Vacant v) = v.map
 
-  -- the slot that was found
+  -- the slot that was found, if any
   abbrev pub slot_of_raw : RawEntryMut K V g h → Option ℕ
   slot_of_raw (Occupied o) = Some o.slot
   slot_of_raw (Vacant v) = None
 
-  -- the pair that is there
+  -- the pair at an occupied entry's slot
   abbrev pub stored_raw : RawOccupiedEntryMut K V g h → Option (K × V)
   stored_raw o = item_in o.map.now o.slot
 

@@ -5,7 +5,7 @@ use Rattle.starlark_table.specs.Table.{Table}
 use Rattle.starlark_unordered.specs.Lending.{HashMembers, map_row}
 use Rattle.starlark_unordered.specs.Pairs.{pairs_of, with_value, KeepsRoom}
 
--- new is old and one pair more
+-- new is old and one pair more, and length plus room has not fallen
 pub record IsAdded {K V : Type 0} (old : Table (K × V)) (key : K) (value : V) (new : Table (K × V)) : Type 0 where
   pub pairs : IsPermutation ((key, value) ∷ pairs_of old) (pairs_of new)
   pub room : KeepsRoom old new

@@ -11,16 +11,16 @@ use Rattle.starlark_unordered.specs.declared.unordered_set.raw_entry.RawEntryMut
 use Rattle.starlark_unordered.specs.declared.unordered_set.raw_entry.RawOccupiedEntryMut.{RawOccupiedEntryMut}
 
 module _ {T : Type 0} {g : eq.Ghosts T} {h : hash.Ghosts T} where
-  -- the reference to the set
+  -- the lent set that a raw entry holds
   abbrev pub set_of_raw : RawEntryMut T g h → MutBor (Set T)
   set_of_raw (Occupied o) = o.map
   set_of_raw (Vacant v) = v.map
 
-  -- the slot that was found
+  -- the slot that was found, if any
   abbrev pub slot_of_raw : RawEntryMut T g h → Option ℕ
   slot_of_raw (Occupied o) = Some o.slot
   slot_of_raw (Vacant v) = None
 
-  -- the element that is there
+  -- the element at an occupied entry's slot
   abbrev pub stored_raw : RawOccupiedEntryMut T g h → Option T
   stored_raw o = option_map (λ p. p.0) (item_in o.map.now o.slot)

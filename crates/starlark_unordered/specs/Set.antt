@@ -5,6 +5,7 @@ use Rattle.std.specs.Option.{is_some}
 use Rattle.starlark_table.specs.Table.{Table}
 use Rattle.starlark_unordered.specs.Pairs.{pairs_of}
 
+-- what a set is seen as: the table of a map to `()`
 abbrev pub Set : Type 0 → Type 0
 Set T = Table (T × Unit {0})
 
@@ -13,6 +14,6 @@ module _ {T : Type 0} where
   abbrev pub elements_of : Set T → List T
   elements_of s = keys_of (pairs_of s)
 
-  -- whether an element passes
+  -- whether an element of the set passes
   abbrev pub has : (T → Bool) → Set T → Bool
   has t s = is_some (lookup t (pairs_of s))

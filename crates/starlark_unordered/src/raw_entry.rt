@@ -58,7 +58,7 @@ impl<K: Eq + Hash, V> UnorderedMap<K, V> {
 impl<'a, K: Eq + Hash, V> RawEntryBuilderMut<'a, K, V> {
     ghost use Rattle.starlark_unordered.specs.RawEntry.{map_of_raw, slot_of_raw};
 
-    /// The pair of the key that the query stands for, or vacant where the map lacks it.
+    /// The pair of the key that the query stands for, or vacant where the map lacks it. The map is as it was.
     #[inline]
     pub fn from_key<Q: KeyQuery<K>>(self, query: &Q) -> RawEntryMut<'a, K, V>
         ensures same_map { (map_of_raw result).ghost_name ≡ self.entry.map.ghost_name }
@@ -72,7 +72,8 @@ impl<'a, K: Eq + Hash, V> RawEntryBuilderMut<'a, K, V> {
         }
     }
 
-    /// The pair of the key that the query stands for, where the hash that is brought is its own, or else vacant.
+    /// The pair of the key that the query stands for, where the hash that is brought is its own, or else vacant. The
+    /// map is as it was.
     #[inline]
     pub fn from_key_hashed<Q: Equivalent<K>>(self, key: Hashed<&Q>) -> RawEntryMut<'a, K, V>
         ensures same_map { (map_of_raw result).ghost_name ≡ self.entry.map.ghost_name }
@@ -88,6 +89,8 @@ impl<'a, K: Eq + Hash, V> RawEntryBuilderMut<'a, K, V> {
 
     /// A pair whose key's own hash this is, and which `is_match` accepts. It is asked about keys of this hash alone,
     /// about each at most once, in no promised order, until it accepts one; vacant says that it refused them all.
+    /// Required is no more than that it may be called on those keys, in the states that its refusals leave. The map is
+    /// as it was.
     pub fn from_hash<F: FnMut(&K) -> bool>(
         self,
         hash: StarlarkHashValue,
@@ -109,7 +112,7 @@ impl<'a, K: Eq + Hash, V> RawEntryBuilderMut<'a, K, V> {
 impl<'a, K: Eq + Hash, V> RawOccupiedEntryMut<'a, K, V> {
     ghost use Rattle.starlark_unordered.specs.RawEntry.{raw_keeps, stored_raw, with_raw_key, with_raw_value, IsInPlace};
 
-    /// Puts this value in the place of the one that is there, which is answered.
+    /// Puts this value in the place of the one that is there, which is answered. The other pairs stay.
     #[inline]
     pub fn insert(&mut self, value: V) -> V
         ensures old { option_map (λ p. p.1) (stored_raw self.old) ≡ Some result }
@@ -119,7 +122,8 @@ impl<'a, K: Eq + Hash, V> RawOccupiedEntryMut<'a, K, V> {
         mem::replace(self.get_mut(), value)
     }
 
-    /// Puts this key, which is to be equal, in the place of the one that is there, which is answered.
+    /// Puts this key, which is to be equal, in the place of the one that is there, which is answered. The other pairs
+    /// stay.
     #[inline]
     pub fn insert_key(&mut self, key: K) -> K
         requires { IfSome (stored_raw self.old) (λ p. K.eq key p.0 ≡ true) }
@@ -149,7 +153,7 @@ impl<'a, K: Eq + Hash, V> RawOccupiedEntryMut<'a, K, V> {
         self.map.value_at_mut(slot)
     }
 
-    /// Takes the pair out, and answers its value. The room comes back.
+    /// Takes the pair out, and answers its value. The other pairs stay, and the room comes back.
     #[inline]
     pub fn remove(self) -> V
     where
@@ -163,7 +167,7 @@ impl<'a, K: Eq + Hash, V> RawOccupiedEntryMut<'a, K, V> {
         value
     }
 
-    /// Takes the pair out. The room comes back.
+    /// Takes the pair out, and answers it. The other pairs stay, and the room comes back.
     #[inline]
     pub fn remove_entry(self) -> (K, V)
         ensures pair { stored_raw self.entry ≡ Some result }
@@ -178,7 +182,7 @@ impl<'a, K: Eq + Hash, V> RawOccupiedEntryMut<'a, K, V> {
 impl<'a, K: Eq + Hash, V> RawVacantEntryMut<'a, K, V> {
     ghost use Rattle.starlark_unordered.specs.RawLending.{lends_added};
 
-    /// Puts a key in that the map lacks, under its own hash, as `insert_hashed` does under one that is brought.
+    /// Puts a key in under its own hash, as `insert_hashed` does under one that is brought.
     pub fn insert(self, key: K, value: V) -> Result<(&'a K, &'a mut V), NoRoom<(K, V)>>
         requires { lookup (K.eq key) (pairs_of self.map.now) ≡ None }
         ensures* writes_back { sem 𝓛 (lends_added K.row V.row K.Hash self.entry.map key result) }
@@ -189,9 +193,10 @@ impl<'a, K: Eq + Hash, V> RawVacantEntryMut<'a, K, V> {
         lend_placed(self.place(key, value))
     }
 
-    /// Puts a key in that the map lacks, under its own hash, which is brought, and lends it with its value. The map ends
-    /// with one pair more, its value what is left behind the reference. It is refused where there is no room and no
-    /// memory is found: then key and value come back, and the map is as it was.
+    /// Puts a key in under its own hash, which is brought, and lends it with its value. That the map lacks the key, and
+    /// that the hash is its own, are required. The map ends with one pair more, its value what is left behind the
+    /// reference. It is refused where there is no room and no memory is found: then key and value come back, and the
+    /// map is as it was.
     pub fn insert_hashed(
         self,
         key: Hashed<K>,

@@ -18,7 +18,11 @@ use std::alloc::{AllocError, Global};
 use std::hash::Hash;
 use std::marker::Model;
 
-/// A map without an order: pairs without two equal keys.
+/// A map without an order: pairs without two equal keys. It is seen as a table of pairs, each under its key's own hash,
+/// promoted to 64 bits. `pairs_of` lists them in an order that nothing promises.
+///
+/// `==` is true of maps with equal pairs, whatever their order. `Hash` feeds the length, and then the sum of the pairs'
+/// hashes in 64 bits.
 #[derive(Drop)]
 pub struct UnorderedMap<K: Eq + Hash, V> {
     table: ReadyTable<(K, V)>,
@@ -40,7 +44,7 @@ impl<K: Eq + Hash, V> Model for UnorderedMap<K, V> {
 impl<K: Eq + Hash, V> UnorderedMap<K, V> {
     ghost use Rattle.starlark_unordered.specs.Lending.{lends_at, lends_value};
 
-    /// An empty map, which asks for no memory before the first insertion.
+    /// An empty map without room. It asks for no memory before the first insertion.
     #[tactic(auto, using(crate::proofs::Callers::callers), unfolding(crate::specs::Calling::found))]
     pub fn new(alloc: Global) -> Self
         ensures found { IsEmpty result }
@@ -53,7 +57,8 @@ impl<K: Eq + Hash, V> UnorderedMap<K, V> {
         }
     }
 
-    /// An empty map with room for so many pairs at least.
+    /// An empty map with room for so many pairs at least. Where memory is refused, nothing is made; capacity 0 is not
+    /// refused.
     #[tactic(auto, using(crate::proofs::Callers::callers), unfolding(crate::specs::Calling::found))]
     pub fn with_capacity(alloc: Global, capacity: usize) -> Result<Self, AllocError>
         ensures found { IfOk result (λ m. IsEmpty m) }

@@ -20,7 +20,8 @@ use std::cmp::Ordering;
 use std::hash::Hash;
 use std::marker::Model;
 
-/// A set without an order: elements of which no two are equal.
+/// A set without an order: elements of which no two are equal. It is seen as the map from the elements to `()`, and
+/// compared as that is.
 #[derive(Drop)]
 pub struct UnorderedSet<T: Eq + Hash> {
     map: UnorderedMap<T, ()>,
@@ -39,7 +40,7 @@ impl<T: Eq + Hash> Model for UnorderedSet<T> {
 impl<T: Eq + Hash> UnorderedSet<T> {
     ghost use Rattle.starlark_unordered.specs.Set.{elements_of, has};
 
-    /// An empty set, which asks for no memory before the first insertion.
+    /// An empty set without room. It asks for no memory before the first insertion.
     pub fn new(alloc: Global) -> Self
         ensures found { IsEmpty result }
         ensures empty { elements_of result ≡ [] }
@@ -51,7 +52,8 @@ impl<T: Eq + Hash> UnorderedSet<T> {
         }
     }
 
-    /// An empty set with room for so many elements at least.
+    /// An empty set with room for so many elements at least. Where memory is refused, nothing is made; capacity 0 is
+    /// not refused.
     pub fn with_capacity(alloc: Global, capacity: usize) -> Result<Self, AllocError>
         ensures found { IfOk result (λ s. IsEmpty s) }
         ensures empty { IfOk result (λ s. elements_of s ≡ []) }
@@ -66,6 +68,7 @@ impl<T: Eq + Hash> UnorderedSet<T> {
 
     /// Puts the element in, and answers whether it is new. One that is there stays, and this one is dropped. Only a new
     /// element is refused, where there is no room and no memory is found: then it comes back, and the set is as it was.
+    /// Length plus room never falls.
     pub fn insert(&mut self, element: T) -> Result<bool, NoRoom<T>>
     where
         T: Drop,
@@ -116,7 +119,7 @@ impl<T: Eq + Hash> UnorderedSet<T> {
         self.map.len()
     }
 
-    /// Whether the set has the element.
+    /// Whether the set has the element that the query stands for.
     #[inline(always)]
     pub fn contains<Q: KeyQuery<T>>(&self, query: &Q) -> bool
         ensures found { result ≡ contains Q.equivalent self.now query.now }
@@ -133,7 +136,7 @@ impl<T: Eq + Hash> UnorderedSet<T> {
         self.map.contains_key_hashed(element)
     }
 
-    /// The elements in ascending order. Refused only for want of memory.
+    /// The elements, each once, in ascending order. Refused only for want of memory.
     pub fn entries_sorted(&self) -> Result<Vec<&T>, AllocError>
     where
         T: Ord,
@@ -152,7 +155,7 @@ impl<T: Eq + Hash> UnorderedSet<T> {
 
 impl<T: Eq + Hash + Clone> UnorderedSet<T> {
     /// A set of clones of the elements, with as much room. Where memory is refused, also to the clone of an element,
-    /// nothing is made. An empty set without room needs none.
+    /// nothing is made. An empty set without room needs none. Required is that a clone of an element is equal to it.
     pub fn clone(&self) -> Result<Self, AllocError>
         // A clone of an element is equal to it.
         requires { IsEqualClone T.eq T.is_clone }

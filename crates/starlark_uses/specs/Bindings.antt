@@ -10,7 +10,7 @@ use Rattle.starlark_lists.specs.Entries.{position_of, value_at}
 use Rattle.starlark_hash.specs.Hasher.{own_hash}
 use Rattle.starlark_small.specs.Map.{Map}
 
--- what is bound in one scope
+-- what is bound in one scope: a map from names
 abbrev pub Scope : Type 0 → Type 0
 Scope V = Map (String Global) V
 
@@ -20,6 +20,7 @@ pub record Bindings (V : Type 0) : Type 0 where
   pub enclosing : List (Scope V)
 
 module _ {V : Type 0} where
+  -- the innermost scope and those around it
   abbrev pub bindings : Scope V → List (Scope V) → Bindings V
   bindings scope around = record { innermost = scope; enclosing = around }
 
@@ -27,12 +28,13 @@ module _ {V : Type 0} where
   abbrev pub bound : Scope V → List ℕ → Option V
   bound scope name = value_at scope.entries (position_of (own_hash fed.str name) (λ key. bytes_eq name (string_bytes key)) scope.entries)
 
-  -- what several scopes bind a name to, of which the last is the innermost: its binding stands before those of the others
+  -- what several scopes bind a name to, of which the last is the innermost: the binding of an inner one stands before those of
+  -- the others
   abbrev pub found : List (Scope V) → List ℕ → Option V
   found [] name = None
   found (scope ∷ inner) name = option_or (found inner name) (bound scope name)
 
-  -- what a look-up of a name answers
+  -- what a look-up of a name answers: the same of all scopes
   abbrev pub lookup : Bindings V → List ℕ → Option V
   lookup b name = option_or (bound b.innermost name) (found b.enclosing name)
 

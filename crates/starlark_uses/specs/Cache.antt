@@ -8,7 +8,7 @@ use Rattle.starlark_table.specs.Table.{Table}
 use Rattle.starlark_unordered.specs.Pairs.{pairs_of}
 use Rattle.starlark_lists.specs.Ordered.{same_ordered}
 
--- answers for sets
+-- the table of a cache: sets, each with its answer
 abbrev pub Answers : Type 0 → Type 0
 Answers V = Table (Set ℕ × V)
 
@@ -17,7 +17,7 @@ abbrev pub set_eq : Set ℕ → Set ℕ → Bool
 set_eq = on (λ s. s.entries) (same_ordered nat_eq same_unit)
 
 module _ {V : Type 0} where
-  -- the answer for an equal set
+  -- the answer that the cache has for an equal set, if any
   abbrev pub cached : Answers V → Set ℕ → Option V
   cached c set = lookup (set_eq set) (pairs_of c)
 

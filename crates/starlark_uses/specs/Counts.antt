@@ -5,6 +5,7 @@ use Rattle.starlark_uses.specs.declared.value.Value.{Value}
 use Rattle.starlark_uses.specs.declared.value.Value.TheOpen.{Value-F}
 use Rattle.starlark_uses.specs.declared.value.Value.TheFolds.{fold-Value}
 
+-- the sum of numbers
 abbrev pub sum_of : List ℕ → ℕ
 sum_of [] = 0
 sum_of (n ∷ ns) = n + sum_of ns

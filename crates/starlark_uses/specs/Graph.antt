@@ -7,6 +7,7 @@ use Rattle.starlark_lists.specs.Entries.{entry_value}
 use Rattle.starlark_small.specs.Calling.{get}
 use Rattle.starlark_small.specs.Map.{Map, own_match}
 
+-- each target with those that it is built from, in the order of their declarations
 abbrev pub Graph : Type 0
 Graph = Map ℕ (Vec ℕ)
 

@@ -10,7 +10,7 @@ use Rattle.starlark_hash.specs.Hasher.{own_hash}
 use Rattle.starlark_hash.specs.HashValue.{hash_number}
 use Rattle.starlark_sets.specs.Set.{Elements}
 
--- texts in the order of their numbers
+-- texts in the order of their numbers, each as its bytes
 abbrev pub Texts : Type 0
 Texts = List (List ℕ)
 

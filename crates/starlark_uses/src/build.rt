@@ -52,7 +52,8 @@ pub fn depend(targets: &mut Targets, target: u32, on: u32) -> Result<bool, Alloc
     }
 }
 
-/// Whether each target was declared after all that it depends on, so that they can be built one after another.
+/// Whether each target was declared after all that it depends on, so that they can be built one after another: a
+/// look-up finds each of these at a place before the target's.
 pub fn is_ordered(targets: &Targets) -> bool
     ensures { IsTrue result ↔ IsOrdered targets.now }
 {

@@ -41,8 +41,8 @@ impl<V> Cache<V> {
         self.answers.get(set)
     }
 
-    /// Keeps the answer for a set, and gives the one that it had. Every equal set hits it then, and all others have what
-    /// they had. Where there is no memory, the set and the answer come back, and nothing changes.
+    /// Keeps the answer for a set, and gives the one that it had. Every equal set hits it then, and all others have
+    /// what they had. Where there is no memory, the set and the answer come back, and nothing changes.
     #[tactic(auto, using(crate::proofs::CacheLemmas::caches))]
     pub fn put(
         &mut self,

@@ -59,7 +59,8 @@ impl Interner {
     }
 
     /// The number of a text, which has it from now on. A text that has a number keeps it, and is never refused; a new
-    /// one gets the next number, or is refused for want of memory, and then all is as it was.
+    /// one gets the next number, or is refused for want of memory, and then all is as it was. All other texts keep
+    /// their numbers, and none has this one.
     pub fn intern(&mut self, text: &str) -> Result<usize, AllocError>
         // The text and its number belong to each other alone.
         ensures number { IfOk result (λ number. number_of self.new text.now ≡ Some number) }

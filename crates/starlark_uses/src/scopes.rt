@@ -11,7 +11,8 @@ use std::alloc::{AllocError, Global};
 use std::marker::Model;
 use std::mem;
 
-/// The scopes that an interpreter is in, one within the other. There is always one, the outermost.
+/// The scopes that an interpreter is in, one within the other. There is always one, the outermost. No call requires
+/// anything.
 #[derive(Drop)]
 pub struct Scopes<V> {
     innermost: SmallMap<String, V>,
@@ -69,8 +70,9 @@ impl<V> Scopes<V> {
     }
 
     /// Binds the name in the innermost scope, and answers the value that it had there. What the scopes around it bind
-    /// the name to is hidden by it and stays as it was, as in a function of Starlark. A name that the innermost scope
-    /// binds is never refused. Where memory is, the name and the value come back, and all is as it was.
+    /// the name to is hidden by it and stays as it was, as in a function of Starlark. All other names are bound as
+    /// before. A name that the innermost scope binds is never refused. Where memory is, the name and the value come
+    /// back, and all is as it was.
     pub fn assign(&mut self, name: String, value: V) -> Result<Option<V>, NoRoom<(String, V)>>
         // The value that was there, and what the look-ups answer now.
         ensures old { IfOk result (λ old. old ≡ bound self.old.innermost (string_bytes name)) }
@@ -87,7 +89,7 @@ impl<V> Scopes<V> {
     }
 
     /// Unbinds the name in the innermost scope, and answers the value that it had there. What the scopes around it bind
-    /// the name to is seen again.
+    /// the name to is seen again. All other names are bound as before.
     pub fn delete(&mut self, name: &str) -> Option<V>
         ensures old { result ≡ bound self.old.innermost name.now }
         ensures uncovered { lookup self.new name.now ≡ found self.old.enclosing name.now }
@@ -100,7 +102,8 @@ impl<V> Scopes<V> {
 }
 
 impl<V: Drop> Scopes<V> {
-    /// Enters a scope in which no name is bound yet. Where memory is refused, all is as it was.
+    /// Enters a scope in which no name is bound yet, so that every look-up answers as before. Where memory is refused,
+    /// all is as it was.
     pub fn enter(&mut self) -> Result<(), AllocError>
         ensures innermost { OnOk result (self.new.innermost.entries ≡ []) }
         ensures enclosing { OnOk result (self.new.enclosing ≡ self.old.enclosing ++ self.old.innermost ∷ []) }
@@ -113,8 +116,8 @@ impl<V: Drop> Scopes<V> {
         Ok(())
     }
 
-    /// Leaves the innermost scope, whose bindings are dropped, for the one around it. The outermost is not left: `false`
-    /// says that it is the innermost.
+    /// Leaves the innermost scope, whose bindings are dropped, for the one around it. The outermost is not left:
+    /// `false` says that it is the innermost.
     pub fn leave(&mut self) -> bool
         ensures left { IsTrue result → self.old.enclosing ≡ self.new.enclosing ++ self.new.innermost ∷ [] }
         ensures outermost { result ≡ false → (self.old.enclosing ≡ []) × (self.new ≡ self.old) }

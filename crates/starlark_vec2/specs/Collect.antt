@@ -10,11 +10,12 @@ module _ {T A B : Type 0} (steps : T → Option (A × B) → T → Type 0) where
   Pushes it old new r = (ps : List (A × B)) × (new ≡ push_all old ps) × MatchResult r (λ _. Drains steps it ps) (λ _. (rest : T) × Yields steps it ps rest)
 
 module _ {U T A B : Type 0} (becomes : U → T → Type 0) (steps : T → Option (A × B) → T → Type 0) (remaining : T → Count) (iter : U) where
-  -- room was reserved for a number of items within what the iterator bounds, and then its items were pushed
+  -- room was reserved for a number of items within what the iterator bounds, and then its items were pushed: all, or, after a
+  -- refusal, those before
   abbrev pub Extends : {E : Type 0} → PairList A B → PairList A B → Result (Unit {0}) E → Type 0
   Extends old new r = (it : T) × (first : ℕ) × becomes iter it × IsWithinCount first (remaining it) × Pushes steps it (reserve old first) new r
 
-  -- the list has all items of the iterator, pushed where the capacity had been a number of items within what it bounds
+  -- the list has all items of the iterator, pushed where the capacity had been a number within what the iterator bounds
   abbrev pub Collects : PairList A B → Type 0
   Collects v = (it : T) × (first : ℕ) × (ps : List (A × B)) × becomes iter it × IsWithinCount first (remaining it)
       × (v ≡ push_all (pair_list [] first) ps) × Drains steps it ps

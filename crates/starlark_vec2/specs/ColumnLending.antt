@@ -5,7 +5,7 @@ use Rattle.starlark_columns.specs.Laid.{Laid, relaid}
 use Rattle.starlark_columns.specs.contracts.row.Row.{the_row}
 
 module _ (A : RattleType) where
-  -- `Row<A>`
+  -- the type `Row<A>`
   abbrev pub column : RattleType
   column = the_row A
 

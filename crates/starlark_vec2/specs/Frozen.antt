@@ -1,6 +1,4 @@
 -- Pairs that lie side by side, whose first parts are frozen while their second parts are lent.
---     frozen κ K V p i γ ps  the right to write the second parts of ps, which lie from the i-th pair at p on, under
---         the name γ
 use Rattle.std.specs.Prelude.{◌≡◌, ◌<◌, ◌⊎◌, ℕ, ◌+◌, ◌*◌, List, [], ◌∷◌, ◌++◌, length}
 use Rattle.std.specs.Borrow.{Fml, RattleType, MutBor, GName, Array, Lends, follows}
 use Rattle.starlark_columns.specs.Places.{items_of}
@@ -15,35 +13,40 @@ use denote.RawPtr.{Ptr, block_ptr, null_ptr}
 use denote.Slice.{room}
 use denote.Struct.Tuple.{Tuple}
 
--- the first parts of ps, each beside the second part that ws has in its place
+-- the pairs of ps, each with the second part that ws has in its place; first parts are their own
 abbrev pub with_seconds : {K V : Type 0} → List (K × V) → List (K × V) → List (K × V)
 with_seconds [] ws = []
 with_seconds (p ∷ ps) [] = p ∷ with_seconds ps []
 with_seconds (p ∷ ps) (w ∷ ws) = (p.0, w.1) ∷ with_seconds ps ws
 
 module _ (K V : RattleType) where
+  -- the type of pairs
   abbrev pub Pair : RattleType
   Pair = Tuple (K ∷ V ∷ [])
 
-  -- one pair, and a run of pairs, whose first parts are theirs whatever value they are seen at
+  -- a pair whose first part is its own, whatever value it is seen at
   abbrev pub Kept : K.Denot × V.Denot → SemTy
   Kept p = record { rep = K.Denot × V.Denot; coded = Pair.coded; size = 0; own_at = λ w b o. (mem Pair).own_at (p.0, w.1) b o }
 
+  -- a run of pairs whose first parts are their own, whatever values they are seen at
   abbrev pub KeptRun : List (K.Denot × V.Denot) → SemTy
   KeptRun ps = record { rep = List (K.Denot × V.Denot); coded = coded_list Pair.coded; size = 0; own_at = λ ws b o. fsep (feq ℕ (length ws) (length ps)) (cells (mem Pair) (with_seconds ps ws) b o) }
 
+  -- the right to write the second part of one pair, under a name
   abbrev pub lent_one : Lft → ℕ → ℕ → GName → K.Denot × V.Denot → Fml
   lent_one κ b o γ p = fsep (fobs γ (Pair.coded.code p)) (fbor κ (Body (Kept p) b o γ))
 
+  -- the right to write the second parts of a run of pairs, under a name
   abbrev pub lent_run : Lft → ℕ → ℕ → GName → List (K.Denot × V.Denot) → Fml
   lent_run κ b o γ ps = fsep (fobs γ ((coded_list Pair.coded).code ps)) (fbor κ (Body (KeptRun ps) b o γ))
 
+-- the right to write the second parts of ps, which lie from the i-th pair at p on, under the name γ
 abbrev pub frozen : Lft → (K V : RattleType) → Ptr → ℕ → GName → List (K.Denot × V.Denot) → Fml
 frozen κ K V (block_ptr b o) i γ ps = fsep (room (Pair K V) (i + length ps)) (lent_run K V κ b (i * (mem (Pair K V)).size + o) γ ps)
 frozen κ K V null_ptr i γ ps = ffalse
 
 module _ (K V : RattleType) where
-  -- a column ends with the pairs that are left behind the slice
+  -- a column ends with the pairs that are left behind the slice, in the places of its own
   abbrev pub lends_run : MutBor (Laid (K.Denot × V.Denot)) → MutBor (List (K.Denot × V.Denot)) → Fml
   lends_run s r = Lends (column (Pair K V)) (Array (Pair K V) 0) s r (λ ws. relaid s.now (with_items s.now.places ws))
 

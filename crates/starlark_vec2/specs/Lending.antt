@@ -33,15 +33,15 @@ module _ {K V B : Type 0} where
   with_values (p ∷ ps) (w ∷ ws) = ((p.0.0, w.0.1), p.1) ∷ with_values ps ws
 
 module _ (A B : RattleType) (s : MutBor (PairList A.Denot B.Denot)) where
-  -- the first part at the place ends as what is left behind the reference, and all else stays
+  -- the list ends with what is left behind a reference to the first part at the place, and all else stays
   abbrev pub lends_first : ℕ → MutBor A.Denot → Fml
   lends_first i r = Lends (the_row A B) A s r (λ a. with_pairs s.now (set_first_at s.now.pairs i a))
 
-  -- the first parts end as what is left behind the reference, and all else stays
+  -- the list ends with what is left behind a reference to all first parts, and all else stays
   abbrev pub lends_firsts : MutBor (List A.Denot) → Fml
   lends_firsts r = Lends (the_row A B) (Array A 0) s r (λ xs. with_pairs s.now (set_firsts s.now.pairs xs))
 
-  -- both parts of the pair at the place end as what is left behind the references, and all else stays
+  -- the list ends with what is left behind references to both parts of the pair at the place, and all else stays
   abbrev pub lends_both : ℕ → MutBor A.Denot × MutBor B.Denot → Fml
   lends_both i r = LendsBoth (the_row A B) A B s r (λ a b. with_pair s.now i (a, b))
 
@@ -50,6 +50,6 @@ module _ (A B : RattleType) (s : MutBor (PairList A.Denot B.Denot)) where
   lends_both_if i r = LendsBothIf (the_row A B) A B s r (λ a b. with_pair s.now i (a, b)) s.now
 
 module _ (K V B : RattleType) where
-  -- the list ends with the values that the loan of this name ends with, and all else stays
+  -- the list ends as `with_values` of what the loan of this name ends as: keys, second parts and capacity stay
   abbrev pub firsts_follow : MutBor (PairList (K.Denot × V.Denot) B.Denot) → GName → Fml
   firsts_follow s γ = follows (the_row (Pair K V) B) (the_row (Pair K V) B) s.ghost_name γ (λ w. with_pairs s.now (with_values s.now.pairs w.pairs))

@@ -1,4 +1,5 @@
--- A list of pairs with a capacity, and what each call makes of it.
+-- A list of pairs with a capacity, and what each call makes of it. An iterator over it is seen as the list of what it has left;
+-- its `next` and `next_back` are the words `TakesFirst` and `TakesLast` of std.
 use Rattle.std.specs.Prelude.{◌≡◌, ◌⊎◌, ℕ, ◌+◌, ◌*◌, ◌-◌, ◌^◌, max, min, List, [], ◌∷◌, ◌++◌, map, length, nat_lt, if◌then◌else◌}
 
 -- the pairs, and how many of them there may be before the list grows
@@ -11,10 +12,11 @@ module _ {A B : Type 0} where
   abbrev pub pair_list : List (A × B) → ℕ → PairList A B
   pair_list ps n = record { pairs = ps; capacity = n }
 
-  -- the first parts, and the second parts
+  -- the first parts in order
   abbrev pub firsts_of : List (A × B) → List A
   firsts_of ps = map (λ p. p.0) ps
 
+  -- the second parts in order
   abbrev pub seconds_of : List (A × B) → List B
   seconds_of ps = map (λ p. p.1) ps
 
@@ -22,11 +24,12 @@ module _ {A B : Type 0} where
   abbrev pub with_pairs : PairList A B → List (A × B) → PairList A B
   with_pairs v ps = pair_list ps v.capacity
 
-  -- the capacity after growth that makes room for n further pairs: the largest of what is needed, 4 and twice the old one
+  -- the capacity after growth that makes room for n further pairs: the largest of what is needed, 4 and twice the old one,
+  -- where twice is cut at the greatest `usize`
   abbrev pub grown_capacity : PairList A B → ℕ → ℕ
   grown_capacity v n = max (length v.pairs + n) (max 4 (min (2 * v.capacity) (2 ^ 64 - 1)))
 
-  -- the capacity after a reservation for n further pairs: it grows only where their room is missing
+  -- the capacity after a reservation for n further pairs: it grows only where capacity less length is below n
   abbrev pub reserved_capacity : PairList A B → ℕ → ℕ
   reserved_capacity v n = if nat_lt (v.capacity - length v.pairs) n then grown_capacity v n else v.capacity
 
@@ -43,10 +46,10 @@ module _ {A B : Type 0} where
   push_all v [] = v
   push_all v (p ∷ ps) = push_all (push v p) ps
 
-  -- each place is taken
+  -- each place is taken: the length is the capacity
   abbrev pub IsFull : PairList A B → Type 0
   IsFull v = length v.pairs ≡ v.capacity
 
-  -- nothing was done, or all that there was room for
+  -- the list is as it was, or full: nothing was done, or all that there was room for
   abbrev pub StaysOrIsFull : PairList A B → PairList A B → Type 0
   StaysOrIsFull old new = (new ≡ old) ⊎ IsFull new

@@ -8,13 +8,13 @@ use Rattle.std.specs.declared.cmp.Ordering.{Ordering}
 use Rattle.std.specs.declared.cmp.Ordering.TheVariants.{Less, Equal}
 use Rattle.starlark_vec2.specs.Sort.{PairRef, ComparesPairs, ComparesPairsAs}
 
--- lt, where what is not there comes last
+-- the order lt, where what is not there comes last
 abbrev pub option_lt : {X : Type 0} → (X → X → Bool) → Option X → Option X → Bool
 option_lt lt (Some x) (Some y) = lt x y
 option_lt lt (Some x) None = true
 option_lt lt None o = false
 
--- lt, of what stands at two positions
+-- the order lt of what stands at two positions
 abbrev pub lt_at : {X : Type 0} → (X → X → Bool) → List X → ℕ → ℕ → Bool
 lt_at lt xs i j = option_lt lt (slice_get xs i) (slice_get xs j)
 
@@ -29,6 +29,7 @@ module _ {F A B : Type 0} (g : Mut F (PairRef A B × (PairRef A B × Unit {0})) 
   ComparesOptions f (Some x) None r f2 = (r ≡ Less) × (f2 ≡ f)
   ComparesOptions f None o r f2 = (r ≡ Equal) × (f2 ≡ f)
 
+  -- a call of f compares what stands at two places
   abbrev pub ComparesAt : List (A × B) → F → ℕ → ℕ → Ordering → F → Type 0
   ComparesAt ps f i j r f2 = ComparesOptions f (slice_get ps i) (slice_get ps j) r f2
 

@@ -18,7 +18,7 @@ module _ {F A B : Type 0} (g : Mut F (PairRef A B × (PairRef A B × Unit {0})) 
   abbrev pub TakesPairs : F → A × B → A × B → Type 0
   TakesPairs f x y = (p q : PairRef A B) → deref_pair p ≡ x → deref_pair q ≡ y → Takes g f (p, (q, tt))
 
-  -- such a call may answer r, and leave f2
+  -- such a call may answer r, and leave f2 as the closure
   pub record ComparesPairs (f : F) (x y : A × B) (r : Ordering) (f2 : F) : Type 0 where
     pub left : PairRef A B
     pub right : PairRef A B
@@ -26,7 +26,7 @@ module _ {F A B : Type 0} (g : Mut F (PairRef A B × (PairRef A B × Unit {0})) 
     pub shows_right : deref_pair right ≡ y
     pub called : Called g f (left, (right, tt)) r f2
 
-  -- a call of f at two pairs of ps may leave f2
+  -- a call of f at two pairs of ps may leave f2 as the closure
   abbrev pub ComparesTwoOf : List (A × B) → F → (A × B) × (A × B) → F → Type 0
   ComparesTwoOf ps f two f2 = Contains ps two.0 × Contains ps two.1 × (r : Ordering) × ComparesPairs f two.0 two.1 r f2
 
@@ -34,10 +34,12 @@ module _ {F A B : Type 0} (g : Mut F (PairRef A B × (PairRef A B × Unit {0})) 
   pub record CanCompare (ps : List (A × B)) (f : F) : Type 0 where
     pub at : (before : List ((A × B) × (A × B))) (later : F) (x y : A × B) → FoldsTo (ComparesTwoOf ps) f before later → Contains ps x → Contains ps y → TakesPairs later x y
 
-  -- each call from f on, at references to two pairs, answers `Less` just where lt holds of them
+  -- f answers by one order of all pairs: each call from f on, at references to two pairs, answers `Less` just where lt holds of
+  -- them
   abbrev pub ComparesPairsAs : (A × B → A × B → Bool) → F → Type 0
   ComparesPairsAs lt = AlwaysReturns g (λ a r. is_lt r ≡ lt (deref_pair a.0) (deref_pair a.1.0))
 
-  -- qs has the pairs of ps in ascending order, with ties as they stood, where f answers by one order of all pairs
+  -- where f answers by one strict weak order of all pairs, qs is `sorted_by` it: the pairs of ps in ascending order, ties as
+  -- they stood
   abbrev pub Sorts : F → List (A × B) → List (A × B) → Type 0
   Sorts f ps qs = (lt : A × B → A × B → Bool) → IsStrictWeakOrder lt → ComparesPairsAs lt f → qs ≡ sorted_by lt ps

@@ -22,7 +22,8 @@ use std::alloc::{AllocError, Global};
 use std::marker::Model;
 use std::mem;
 
-/// A list of pairs. The first parts are stored side by side, and so are the second parts.
+/// A list of pairs. The first parts are stored side by side, and so are the second parts. It is seen as its pairs and
+/// its capacity: no clause names a column or a block, so another body may keep the clauses.
 pub struct Vec2<A, B> {
     firsts: Row<A>,
     seconds: Row<B>,
@@ -194,8 +195,9 @@ impl<A, B> Vec2<A, B> {
 
 impl<A, B> Vec2<A, B> {
     /// Makes room for so many further pairs. It grows only where their room is missing, to the largest of what is
-    /// needed, 4 and twice the capacity (cut at the greatest `usize`); Rust's grows by a rule of its own.
-    /// Where memory is refused, and where a block would be too large, the list is as it was.
+    /// needed, 4 and twice the capacity (cut at the greatest `usize`); Rust's grows by a rule of its own. Where memory
+    /// is refused, and where a block would be too large, the list is as it was. Where the room is there, it is not
+    /// refused and nothing changes.
     #[tactic(auto, using(crate::proofs::Pairs::columns))]
     #[inline]
     pub fn reserve(&mut self, additional: usize) -> Result<(), AllocError>
@@ -255,7 +257,7 @@ impl<A, B> Vec2<A, B> {
         Ok(())
     }
 
-    /// Puts a pair at the end, where its room is there: as after `reserve`.
+    /// Puts a pair at the end, where its room is there: as after `reserve`. The capacity stays.
     #[tactic(auto, using(crate::proofs::Pairs::columns))]
     #[inline]
     pub fn push_reserved(&mut self, a: A, b: B)
@@ -284,7 +286,7 @@ const LEAST_CAPACITY: usize = 4;
 // Shrinking and turning
 
 impl<A, B> Vec2<A, B> {
-    /// Takes the pair at this index out. Those after it move up.
+    /// Takes the pair at this index out. Those after it move up. The capacity stays.
     #[tactic(auto, using(crate::proofs::Pairs::columns))]
     #[inline]
     pub fn remove(&mut self, index: usize) -> (A, B)
@@ -300,7 +302,7 @@ impl<A, B> Vec2<A, B> {
         )
     }
 
-    /// Takes the last pair out, where there is one.
+    /// Takes the last pair out, where there is one. The capacity stays.
     #[tactic(auto, using(crate::proofs::Pairs::columns))]
     #[inline]
     pub fn pop(&mut self) -> Option<(A, B)>
@@ -331,7 +333,7 @@ impl<A, B> Vec2<A, B> {
         self.refit(self.len)
     }
 
-    /// Turns the order of the pairs round.
+    /// Turns the order of the pairs round. The capacity stays.
     #[tactic(auto, using(crate::proofs::Pairs::columns))]
     #[inline]
     pub fn reverse(&mut self)
@@ -352,7 +354,7 @@ impl<A: Drop, B: Drop> Vec2<A, B> {
         self.truncate(0);
     }
 
-    /// Drops the pairs from this place on. At or above the length nothing is dropped.
+    /// Drops the pairs from this place on. At or above the length nothing is dropped. The capacity stays.
     #[tactic(auto, using(crate::proofs::Pairs::columns))]
     #[inline]
     pub fn truncate(&mut self, len: usize)

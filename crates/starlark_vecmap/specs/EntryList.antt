@@ -6,7 +6,8 @@ use Rattle.starlark_lists.specs.Entries.{Entry}
 use Rattle.starlark_hash.specs.HashValue.{hash_value, hashed, hash_of, key_of}
 use Rattle.starlark_vec2.specs.PairList.{PairList, pair_list, reserved_capacity}
 
--- the entries in order, and how many of them there may be before the list grows
+-- the entries in order, and how many of them there may be before the list grows. Nothing keeps two of them from having one hash
+-- and equal keys
 pub record EntryList (K V : Type 0) : Type 0 where
   pub entries : List (Entry K V)
   pub capacity : ℕ
@@ -20,7 +21,7 @@ module _ {K V : Type 0} where
   abbrev pub with_entries : EntryList K V → List (Entry K V) → EntryList K V
   with_entries m es = entry_list es m.capacity
 
-  -- an entry is a pair of a key under a hash and a value, so a list of entries grows as a list of pairs
+  -- the list as one of pairs of a key under a hash and a value, so that its capacity moves as that of such a list does
   abbrev pub as_pairs : EntryList K V → PairList (Hashed K) V
   as_pairs m = pair_list m.entries m.capacity
 
@@ -32,11 +33,11 @@ module _ {K V : Type 0} where
   abbrev pub push : EntryList K V → Entry K V → EntryList K V
   push m e = entry_list (m.entries ++ e ∷ []) (reserved_capacity (as_pairs m) 1)
 
-  -- the entry of a key and a value, and the number of their hash
+  -- the entry of a key, a value and the number of their hash
   abbrev pub entry_of : (K × V) × ℕ → Entry K V
   entry_of p = (hashed (hash_value p.1) p.0.0, p.0.1)
 
-  -- the entries of two columns
+  -- the entries of two columns: one of keys and values, one of the numbers of their hashes
   abbrev pub entries_in : List (K × V) → List ℕ → List (Entry K V)
   entries_in pairs hashes = map entry_of (zip pairs hashes)
 
@@ -46,9 +47,10 @@ module _ {K V : Type 0} where
   with_values (e ∷ es) [] = e ∷ with_values es []
   with_values (e ∷ es) (w ∷ ws) = (e.0, w.1) ∷ with_values es ws
 
-  -- what a `(Hashed<&K>, &V)` points to, and a `(Hashed<&K>, &mut V)`
+  -- what a `(Hashed<&K>, &V)` points to
   abbrev pub deref_entry : Hashed (Bor K) × Bor V → Entry K V
   deref_entry p = (hashed (hash_of p.0) (key_of p.0).now, p.1.now)
 
+  -- what a `(Hashed<&K>, &mut V)` points to
   abbrev pub deref_entry_mut : Hashed (Bor K) × MutBor V → Entry K V
   deref_entry_mut p = (hashed (hash_of p.0) (key_of p.0).now, p.1.now)

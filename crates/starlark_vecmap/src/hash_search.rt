@@ -11,7 +11,7 @@ const SHORT: usize = 8;
 // How many hashes one mask covers.
 pub(crate) const BLOCK: usize = 32;
 
-/// The least place at which the array has this hash.
+/// The least place at which the array has this hash. `None` where it does not have it.
 #[inline]
 pub fn find_hash_in_array(array: &[u32], hash: u32) -> Option<usize>
     ensures place { result ≡ position (λ h. h == hash) array.now }

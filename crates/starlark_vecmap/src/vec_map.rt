@@ -27,7 +27,8 @@ use std::alloc::{AllocError, Global};
 use std::marker::Model;
 
 /// A list of entries, looked up by hash and key. An entry is a key under a hash, and a value. Nothing keeps two entries
-/// from having the same hash and equal keys.
+/// from having the same hash and equal keys. It is seen as its entries and its capacity. Its walks go from both ends,
+/// with exact length and size hint.
 #[derive(Drop)]
 pub struct VecMap<K, V> {
     // The keys with their values, and the number of the hash of each.
@@ -99,7 +100,9 @@ impl<K, V> VecMap<K, V> {
     }
 
     /// The first place under the hash whose key `accepts` answers true for. It is asked about the keys under this hash
-    /// alone, from the front, about each at most once.
+    /// alone, from the front, about each at most once, its state carried on, until it accepts one; `None` says that it
+    /// refused them all. Required is no more than that it may be called on those keys, in the states that its refusals
+    /// leave.
     #[inline]
     pub fn get_index_of_hashed_raw<F: FnMut(&K) -> bool>(
         &self,
@@ -124,8 +127,8 @@ impl<K, V> VecMap<K, V> {
         self.get_index_of_hashed_raw(key.hash(), |k| query.equivalent(k))
     }
 
-    /// As `get_index_of_hashed`, where there are up to 32 entries; None where there are more. The code is short, since it
-    /// has one way to search. Rust has no such call.
+    /// As `get_index_of_hashed`, where there are up to 32 entries; None where there are more. The code is short, since
+    /// it has one way to search. Rust has no such call.
     #[inline]
     pub fn get_index_of_hashed_among_few<Q: Equivalent<K>>(&self, key: Hashed<&Q>) -> Option<usize>
     where
@@ -280,7 +283,8 @@ impl<K: Drop, V: Drop> IntoIterator for VecMap<K, V> {
 
 impl<K, V> VecMap<K, V> {
     /// Makes room for so many further entries. It grows only where their room is missing, to the largest of what is
-    /// needed, 4 and twice the capacity. Where memory is refused, the map is as it was.
+    /// needed, 4 and twice the capacity. Where memory is refused, the map is as it was. Where the room is there, it is
+    /// not refused and nothing changes.
     #[inline]
     pub fn reserve(&mut self, additional: usize) -> Result<(), AllocError>
         ensures list { self.new ≡ (if is_ok result then list.reserve self.old additional else self.old) }
@@ -308,7 +312,7 @@ impl<K, V> VecMap<K, V> {
         Ok(())
     }
 
-    /// The same where the room for the entry is there: as after `reserve`.
+    /// The same where the room for the entry is there: as after `reserve`. The capacity stays.
     #[inline]
     pub fn push_reserved(&mut self, key: Hashed<K>, value: V)
         requires { length self.old.entries < self.old.capacity }
@@ -322,7 +326,7 @@ impl<K, V> VecMap<K, V> {
 // Shrinking and turning
 
 impl<K, V> VecMap<K, V> {
-    /// Takes the entry at this index out. Those after it move up.
+    /// Takes the entry at this index out. Those after it move up. The capacity stays.
     #[tactic(auto, using(crate::proofs::Views::views))]
     #[inline]
     pub fn remove(&mut self, index: usize) -> (Hashed<K>, V)
@@ -337,7 +341,7 @@ impl<K, V> VecMap<K, V> {
         )
     }
 
-    /// Takes the last entry out, where there is one.
+    /// Takes the last entry out, where there is one. The capacity stays.
     #[inline]
     pub fn pop(&mut self) -> Option<(Hashed<K>, V)>
         ensures taken { TakesLast (λ e. e) self.old.entries result self.new.entries }
@@ -350,7 +354,7 @@ impl<K, V> VecMap<K, V> {
         ))
     }
 
-    /// Turns the order of the entries round.
+    /// Turns the order of the entries round. The capacity stays.
     #[tactic(auto, using(crate::proofs::Views::views))]
     #[inline]
     pub fn reverse(&mut self)
@@ -362,7 +366,7 @@ impl<K, V> VecMap<K, V> {
 
 impl<K: Eq, V> VecMap<K, V> {
     /// Takes the first entry out that stands under the query's hash and whose key the query is equivalent to, where
-    /// there is one. Those after it move up.
+    /// there is one. Those after it move up. The capacity stays.
     pub fn remove_hashed_entry<Q: Equivalent<K>>(&mut self, key: Hashed<&Q>) -> Option<(K, V)>
         ensures taken { result ≡ option_map pair_of (entry_at self.old.entries (position_of (hash_of key.entry) (Q.equivalent (key_of key.entry).now) self.old.entries)) }
         ensures list { self.new ≡ with_entries self.old (without self.old.entries (position_of (hash_of key.entry) (Q.equivalent (key_of key.entry).now) self.old.entries)) }

@@ -37,7 +37,7 @@ impl<K: Eq, V> OrderedMap<K, V> {
         self.0.get(key)
     }
 
-    /// The key and the value at a place.
+    /// The key and the value at a place; `None` past the end.
     #[inline]
     pub fn get_index(&self, index: usize) -> Option<(&K, &V)>
         ensures { option_map deref_pair result ≡ option_map pair_of (slice_get self.now.entries index) }

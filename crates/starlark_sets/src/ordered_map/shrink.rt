@@ -9,8 +9,8 @@ use starlark_hash::Equivalent;
 use std::hash::Hash;
 
 impl<K: Eq, V> OrderedMap<K, V> {
-    /// Removes the entry under the query's own hash whose key the query is equivalent to, drops its key and answers
-    /// its value. Those after it move up.
+    /// Removes the entry under the query's own hash whose key the query is equivalent to, drops its key and answers its
+    /// value. Those after it move up. Capacity and index stay.
     #[tactic(auto, using(crate::proofs::Callers::callers))]
     #[inline]
     pub fn remove<Q: Equivalent<K> + Hash>(&mut self, key: &Q) -> Option<V>
@@ -27,7 +27,7 @@ impl<K: Eq, V> OrderedMap<K, V> {
         self.0.shift_remove(key)
     }
 
-    /// Removes each entry. The memory stays for those to come.
+    /// Removes each entry. Capacity and index stay for those to come.
     #[tactic(auto, using(crate::proofs::Callers::callers))]
     pub fn clear(&mut self)
     where

@@ -40,7 +40,7 @@ impl<K: Eq, V> OrderedMap<K, V> {
     }
 
     /// The value under the query's own hash whose key the query is equivalent to, to be written. The map ends with what
-    /// is left in it, and all else stays.
+    /// is left in it, and all else stays. `None` where there is no such entry, and then the map is as it was.
     #[inline(always)]
     pub fn get_mut<Q: Equivalent<K> + Hash>(&mut self, key: &Q) -> Option<&mut V>
         ensures* writes_back { sem 𝓛 (lends_get K.row V.row K.PartialEq self.entry (Q.equivalent key.now) (own_hash Q.hash_input key.now) result) }
@@ -51,8 +51,8 @@ impl<K: Eq, V> OrderedMap<K, V> {
         self.0.get_mut(key)
     }
 
-    /// The entry of a key under its own hash. Where there is one, it keeps its key, and this one is dropped. The map
-    /// ends as the entry leaves it.
+    /// The entry of a key under its own hash, which is the `Entry` of the map inside. Where there is one, it keeps its
+    /// key, and this one is dropped. The map ends as the entry leaves it.
     pub fn entry(&mut self, key: K) -> Entry<'_, K, V>
     where
         K: Hash + Drop,

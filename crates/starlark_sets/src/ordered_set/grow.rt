@@ -23,8 +23,8 @@ use std::hash::Hash;
 
 impl<T: Eq> OrderedSet<T> {
     /// Inserts under the element's own hash, and answers whether it was new. An element that is there stays, and this
-    /// one is dropped. Only a new one is refused, where there is no room and no memory is found: it comes back, and the
-    /// elements stay.
+    /// one is dropped. Only a new one is refused, where there is no room and no memory is found: it comes back, and
+    /// elements and index stay. Capacity, room and index are left as `SmallMap::insert_hashed` leaves them.
     #[inline]
     pub fn insert(&mut self, element: T) -> Result<bool, NoRoom<T>>
     where
@@ -41,8 +41,8 @@ impl<T: Eq> OrderedSet<T> {
         self.0.insert(element)
     }
 
-    /// Inserts an element that is new under its own hash, without a look-up. It is refused where there is no room and
-    /// no memory is found: then it comes back, and the elements stay.
+    /// Inserts an element that is new under its own hash, which is required and not looked for. It goes last. It is
+    /// refused where there is no room and no memory is found: then it comes back, and elements and index stay.
     pub fn insert_unique_unchecked(&mut self, element: T) -> Result<(), NoRoom<T>>
     where
         T: Hash,
@@ -56,7 +56,7 @@ impl<T: Eq> OrderedSet<T> {
     }
 
     /// Sorts the elements; equal ones keep their order. Where they ascend already it asks for no memory. A refusal
-    /// leaves the elements as they were.
+    /// leaves the elements as they were. Capacity and index stay.
     pub fn sort(&mut self) -> Result<(), AllocError>
     where
         T: Ord,
@@ -71,9 +71,9 @@ impl<T: Eq> OrderedSet<T> {
 }
 
 impl<T: Eq + Hash + Drop> OrderedSet<T> {
-    /// Inserts the items in their order, each under its own hash, as `insert` does. It reserves nothing, and where there
-    /// is room for all of them, capacity and index stay. Where a new element is refused, the items that came before are
-    /// there and have used up the room, and it and the others are dropped.
+    /// Inserts the items in their order, each under its own hash, as `insert` does. It reserves nothing, and where
+    /// there is room for all of them, capacity and index stay. Where a new element is refused, the items that came
+    /// before are there and have used up the room, and it and the others are dropped. The iterator must end.
     pub fn extend<I: IntoIterator<Item = T>>(&mut self, iter: I) -> Result<(), AllocError>
         requires { IsFiniteIterable I.into_iter_gives I.IntoIter.can_next I.IntoIter.remaining iter }
         ensures entries { Extends T.eq (own_element T.hash_input) I.IntoIter.next_gives I.into_iter_gives iter self.old.entries self.new.entries result }
@@ -88,7 +88,8 @@ impl<T: Eq + Hash + Drop> OrderedSet<T> {
     }
 
     /// A set of the items, inserted in their order, each under its own hash. It begins with room for the lower bound of
-    /// the iterator's `size_hint`. Where memory is refused, nothing is made and the items are dropped.
+    /// the iterator's `size_hint`. Where memory is refused, nothing is made and the items are dropped. Capacity and
+    /// index are as `SmallMap::from_iter` makes them. Without items it is not refused. The iterator must end.
     pub fn from_iter<I: IntoIterator<Item = T>>(alloc: Global, iter: I) -> Result<Self, AllocError>
         requires { IsFiniteIterable I.into_iter_gives I.IntoIter.can_next I.IntoIter.remaining iter }
         ensures set { IfOk result (Collects T.eq (own_element T.hash_input) I.IntoIter.next_gives I.into_iter_gives I.IntoIter.remaining iter) }
@@ -101,7 +102,7 @@ impl<T: Eq + Hash + Drop> OrderedSet<T> {
 impl<T: Eq + Clone> OrderedSet<T> {
     /// A set of clones of the elements under the same hashes, in their order, whose capacity is their number. It has an
     /// index only where the list is too long to do without. Where memory is refused, also to the clone of an element,
-    /// nothing is made. Without elements no memory is needed.
+    /// nothing is made. Without elements no memory is needed. Required is that a clone of an element is equal to it.
     pub fn clone(&self) -> Result<Self, AllocError>
         // A clone is equal to its element.
         requires { IsEqualClone T.eq T.is_clone }

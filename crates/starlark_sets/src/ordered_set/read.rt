@@ -58,7 +58,7 @@ impl<T: Eq> OrderedSet<T> {
         self.0.contains_hashed(query)
     }
 
-    /// The element at a place.
+    /// The element at a place; `None` past the end.
     #[inline]
     pub fn get_index(&self, index: usize) -> Option<&T>
         ensures { option_copied result ≡ option_map entry_key (slice_get self.now.entries index) }
@@ -75,7 +75,7 @@ impl<T: Eq> OrderedSet<T> {
         self.0.get_index_of(query)
     }
 
-    /// The first element.
+    /// The first element, if there is one.
     #[inline]
     pub fn first(&self) -> Option<&T>
         ensures { option_copied result ≡ option_map entry_key (slice_get self.now.entries 0) }
@@ -83,7 +83,7 @@ impl<T: Eq> OrderedSet<T> {
         self.0.first()
     }
 
-    /// The last element.
+    /// The last element, if there is one.
     #[inline]
     pub fn last(&self) -> Option<&T>
         ensures { option_copied result ≡ option_map entry_key (slice_get self.now.entries (length self.now.entries - 1)) }

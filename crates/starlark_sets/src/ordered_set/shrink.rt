@@ -11,7 +11,7 @@ use std::hash::Hash;
 
 impl<T: Eq> OrderedSet<T> {
     /// Removes the element under the query's own hash to which the query is equivalent, and answers it. Those after it
-    /// move up.
+    /// move up. Capacity and index stay.
     #[inline]
     pub fn take<Q: Equivalent<T> + Hash>(&mut self, query: &Q) -> Option<T>
         ensures was { result ≡ get_key Q.equivalent Q.hash_input self.old query.now }
@@ -26,7 +26,7 @@ impl<T: Eq> OrderedSet<T> {
         self.0.take(query)
     }
 
-    /// Removes each element. The memory stays for those to come.
+    /// Removes each element. Capacity and index stay for those to come.
     pub fn clear(&mut self)
     where
         T: Drop,
@@ -37,7 +37,7 @@ impl<T: Eq> OrderedSet<T> {
         self.0.clear();
     }
 
-    /// Turns the order of the elements round.
+    /// Turns the order of the elements round. Capacity and index stay.
     pub fn reverse(&mut self)
         ensures same { IsSameAt T.eq self.old self.new }
         ensures entries { self.new.entries ≡ reverse self.old.entries }

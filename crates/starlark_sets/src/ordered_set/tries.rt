@@ -37,9 +37,9 @@ enum Refusal<T> {
 }
 
 impl<T: Eq> OrderedSet<T> {
-    /// Inserts an element that is new under its own hash, last. Where an equal one is there it is answered beside the
-    /// refused one, and nothing changes; where a new one finds no room and no memory it comes back, and elements and
-    /// index stay.
+    /// Inserts an element that is new under its own hash, last. Where an equal one is there, this one is neither
+    /// inserted nor dropped: `Occupied` hands it back beside the one that is there, and nothing changes. Where a new
+    /// one finds no room and no memory, `Memory` hands it back, and elements and index stay.
     pub fn try_insert(&mut self, value: T) -> Result<(), TryInsertError<'_, T>>
     where
         T: Hash,

@@ -40,7 +40,8 @@ impl<T: Eq> OrderedSet<T> {
         self.0.iter_hashed()
     }
 
-    /// The elements of this set, and then those of the other that this one lacks, each looked for under its stored hash.
+    /// The elements of this set, and then those of the other that this one lacks, each looked for under its stored
+    /// hash. No two have the same hash and are equal. The size hint is that of `SmallSet::union`.
     pub fn union<'a>(&'a self, other: &'a Self) -> Union<'a, T>
         ensures left { result ≡ record { first = self.now.entries; second = record { left = other.now.entries; other = self.now.entries } } }
         ensures single { IsSingle T.eq (union T.eq self.now.entries other.now.entries) }

@@ -14,9 +14,9 @@ use std::alloc::{AllocError, Global};
 use std::hash::Hash;
 
 impl<T: Eq + Hash + Drop> SmallSet<T> {
-    /// Inserts the items in their order, each under its own hash, as `insert` does. It reserves nothing, and where there
-    /// is room for all of them, capacity and index stay. Where a new element is refused, the items that came before are
-    /// there and have used up the room, and it and the others are dropped.
+    /// Inserts the items in their order, each under its own hash, as `insert` does. It reserves nothing, and where
+    /// there is room for all of them, capacity and index stay. Where a new element is refused, the items that came
+    /// before are there and have used up the room, and it and the others are dropped. The iterator must end.
     pub fn extend<I: IntoIterator<Item = T>>(&mut self, iter: I) -> Result<(), AllocError>
         requires { IsFiniteIterable I.into_iter_gives I.IntoIter.can_next I.IntoIter.remaining iter }
         ensures entries { Extends T.eq (own_element T.hash_input) I.IntoIter.next_gives I.into_iter_gives iter self.old.entries self.new.entries result }
@@ -31,7 +31,8 @@ impl<T: Eq + Hash + Drop> SmallSet<T> {
     }
 
     /// A set of the items, inserted in their order, each under its own hash. It begins with room for the lower bound of
-    /// the iterator's `size_hint`. Where memory is refused, nothing is made and the items are dropped.
+    /// the iterator's `size_hint`. Where memory is refused, nothing is made and the items are dropped. Capacity and
+    /// index are as `SmallMap::from_iter` makes them. Without items it is not refused. The iterator must end.
     pub fn from_iter<I: IntoIterator<Item = T>>(alloc: Global, iter: I) -> Result<Self, AllocError>
         requires { IsFiniteIterable I.into_iter_gives I.IntoIter.can_next I.IntoIter.remaining iter }
         ensures set { IfOk result (Collects T.eq (own_element T.hash_input) I.IntoIter.next_gives I.into_iter_gives I.IntoIter.remaining iter) }

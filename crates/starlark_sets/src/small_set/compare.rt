@@ -43,7 +43,7 @@ impl<T: Eq> SmallSet<T> {
         self.map.hash_ordered(state);
     }
 
-    /// The set under the hash that its `hash_ordered` leaves in a new `StarlarkHasher`.
+    /// The set under the low 32 bits of what its `hash_ordered` leaves in a new `StarlarkHasher`.
     pub fn hashed(self) -> Hashed<Self>
         ensures { result ≡ hashed (finish_small (after_writes (set_feed self.entries))) self }
     {

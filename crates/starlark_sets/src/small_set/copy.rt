@@ -12,7 +12,7 @@ use std::alloc::AllocError;
 impl<T: Eq + Clone> SmallSet<T> {
     /// A set of clones of the elements under the same hashes, in their order, whose capacity is their number. It has an
     /// index only where the list is too long to do without. Where memory is refused, also to the clone of an element,
-    /// nothing is made. Without elements no memory is needed.
+    /// nothing is made. Without elements no memory is needed. Required is that a clone of an element is equal to it.
     pub fn clone(&self) -> Result<Self, AllocError>
         // A clone of an element is equal to it.
         requires { IsEqualClone T.eq T.is_clone }

@@ -38,7 +38,8 @@ impl<T: Eq> SmallSet<T> {
 
     /// Inserts under this hash, and answers whether the element was new. One that is there changes nothing, and the
     /// stored element stays; a new one goes last. Only a new one is refused, where there is no room and no memory is
-    /// found: it comes back, and elements and index stay.
+    /// found: it comes back, and elements and index stay. Capacity, room and index are left as
+    /// `SmallMap::insert_hashed` leaves them.
     #[tactic(auto, using(crate::proofs::Additions::additions, crate::proofs::Callers::callers))]
     pub fn insert_hashed(&mut self, key: Hashed<T>) -> Result<bool, NoRoom<Hashed<T>>>
     where
@@ -55,8 +56,8 @@ impl<T: Eq> SmallSet<T> {
         answered(self.map.insert_hashed(key, ()))
     }
 
-    /// Makes room for so many new elements, and the index where so many need one. Where the room is there it asks for
-    /// no memory and changes nothing. A refusal leaves elements and index.
+    /// Makes room for so many new elements, and the index where so many need one, as `SmallMap::reserve` does. Where
+    /// the room is there it asks for no memory and changes nothing. A refusal leaves elements and index.
     pub fn reserve(&mut self, additional: usize) -> Result<(), AllocError>
         ensures reserved { OnOk result (IsReserved self.old additional self.new) }
         ensures enough { additional ≤ self.old.room → self.new ≡ self.old }
@@ -68,7 +69,7 @@ impl<T: Eq> SmallSet<T> {
     }
 
     /// Sorts the elements; equal ones keep their order. Where they ascend already it asks for no memory. A refusal
-    /// leaves the elements as they were.
+    /// leaves the elements as they were. Capacity and index stay.
     pub fn sort(&mut self) -> Result<(), AllocError>
     where
         T: Ord,

@@ -18,7 +18,8 @@ use std::hash::Hash;
 
 impl<T: Eq> SmallSet<T> {
     /// The element that is there under this one's own hash and equal to it, or else this one, put last. Only a new one
-    /// is refused, where there is no room and no memory is found: it comes back, and elements and index stay.
+    /// is refused, where there is no room and no memory is found: it comes back, and elements and index stay. One that
+    /// is there changes nothing.
     pub fn get_or_insert(&mut self, value: T) -> Result<&T, NoRoom<T>>
     where
         T: Hash + Drop,
@@ -30,9 +31,10 @@ impl<T: Eq> SmallSet<T> {
         shown(self.frozen(), place)
     }
 
-    /// The element that is there under the query's own hash and to which the query is equivalent, or else the one that
-    /// the query makes, put last under that hash. It is refused where the query's element is lacking, and `to_owned_key`
-    /// is refused or there is no room and no memory is found: then elements and index stay.
+    /// The element that is there under the query's own hash and to which the query is equivalent, and then nothing
+    /// changes; or else the one that the query makes, put last under that hash. It is refused where the query's element
+    /// is lacking, and `to_owned_key` is refused or there is no room and no memory is found: then elements and index
+    /// stay. Where there is room, and the query's `to_owned_key` can't be refused, it is not.
     pub fn get_or_insert_owned<Q: ToOwnedKey<T> + Hash>(
         &mut self,
         value: &Q,

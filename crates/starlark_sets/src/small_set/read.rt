@@ -93,7 +93,7 @@ impl<T: Eq> SmallSet<T> {
 // By place
 
 impl<T: Eq> SmallSet<T> {
-    /// The element at a place.
+    /// The element at a place; `None` past the end.
     #[inline]
     pub fn get_index(&self, index: usize) -> Option<&T>
         ensures { option_copied result ≡ option_map entry_key (slice_get self.now.entries index) }
@@ -102,7 +102,7 @@ impl<T: Eq> SmallSet<T> {
         Some(element)
     }
 
-    /// The first element.
+    /// The first element, if there is one.
     #[inline]
     pub fn first(&self) -> Option<&T>
         ensures { option_copied result ≡ option_map entry_key (slice_get self.now.entries 0) }
@@ -111,7 +111,7 @@ impl<T: Eq> SmallSet<T> {
         Some(element)
     }
 
-    /// The last element.
+    /// The last element, if there is one.
     #[inline]
     pub fn last(&self) -> Option<&T>
         ensures { option_copied result ≡ option_map entry_key (slice_get self.now.entries (length self.now.entries - 1)) }

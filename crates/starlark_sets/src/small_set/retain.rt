@@ -8,7 +8,7 @@ use super::SmallSet;
 
 impl<T: Eq + Drop> SmallSet<T> {
     /// Keeps the elements at which the closure answers true, in their order. It is called once an element, from the
-    /// front. No memory is asked for.
+    /// front, its state carried on. No memory is asked for. Capacity and index stay.
     pub fn retain<F: FnMut(&T) -> bool>(&mut self, mut keep: F)
         requires { TakesInTurn (CalledAtElement F.FnMut) (TakesElement F.FnMut) keep self.old.entries }
         ensures entries { Retains (CalledAtElement F.FnMut) keep self.old.entries self.new.entries }

@@ -17,7 +17,7 @@ use std::hash::Hash;
 
 impl<T: Eq> SmallSet<T> {
     /// Removes the element under the query's own hash to which the query is equivalent, and answers whether it was
-    /// there. Those after it move up.
+    /// there. Those after it move up. Capacity and index stay.
     #[tactic(auto, using(crate::proofs::Additions::additions, crate::proofs::Callers::callers))]
     #[inline]
     pub fn shift_remove<Q: Equivalent<T> + Hash>(&mut self, key: &Q) -> bool
@@ -36,7 +36,7 @@ impl<T: Eq> SmallSet<T> {
     }
 
     /// Removes the element under this hash to which the query is equivalent, and answers whether it was there. Those
-    /// after it move up.
+    /// after it move up. Capacity and index stay.
     #[tactic(auto, using(crate::proofs::Additions::additions, crate::proofs::Callers::callers))]
     pub fn shift_remove_hashed<Q: Equivalent<T>>(&mut self, key: Hashed<&Q>) -> bool
     where
@@ -52,8 +52,8 @@ impl<T: Eq> SmallSet<T> {
         self.map.shift_remove_hashed(key).is_some()
     }
 
-    /// Removes the element under the query's own hash to which the query is equivalent, and answers it. Those after
-    /// it move up.
+    /// Removes the element under the query's own hash to which the query is equivalent, and answers it. Those after it
+    /// move up. Capacity and index stay.
     #[inline]
     pub fn take<Q: Equivalent<T> + Hash>(&mut self, key: &Q) -> Option<T>
         ensures was { result ≡ get_key Q.equivalent Q.hash_input self.old key.now }
@@ -74,7 +74,7 @@ impl<T: Eq> SmallSet<T> {
 // Removals by place, and turns
 
 impl<T: Eq> SmallSet<T> {
-    /// Removes the element at a place, and answers it. Those after it move up.
+    /// Removes the element at a place, and answers it. Those after it move up. Capacity and index stay.
     pub fn shift_remove_index(&mut self, i: usize) -> Option<T>
         ensures lacks { IfSome result (LacksNow T.eq self.old self.new) }
         ensures unchanged { IfNone result (self.new.entries ≡ self.old.entries) }
@@ -87,7 +87,7 @@ impl<T: Eq> SmallSet<T> {
         Some(element)
     }
 
-    /// Removes the element at a place, and answers it under its hash. Those after it move up.
+    /// Removes the element at a place, and answers it under its hash. Those after it move up. Capacity and index stay.
     pub fn shift_remove_index_hashed(&mut self, i: usize) -> Option<Hashed<T>>
         ensures updates { IfSome result (λ element. Writes T.eq (T.eq (key_of element)) (hash_of element) self.old.entries self.new.entries None) }
         ensures unchanged { IfNone result (self.new.entries ≡ self.old.entries) }
@@ -100,7 +100,7 @@ impl<T: Eq> SmallSet<T> {
         Some(element)
     }
 
-    /// Removes the last element, and answers it.
+    /// Removes the last element, and answers it. Capacity and index stay.
     pub fn pop(&mut self) -> Option<T>
         ensures lacks { IfSome result (LacksNow T.eq self.old self.new) }
         ensures unchanged { IfNone result (self.new.entries ≡ self.old.entries) }
@@ -113,7 +113,7 @@ impl<T: Eq> SmallSet<T> {
         Some(element)
     }
 
-    /// Removes each element. The memory stays for those to come.
+    /// Removes each element. Capacity and index stay for those to come.
     #[tactic(auto, using(crate::proofs::Callers::callers))]
     pub fn clear(&mut self)
     where
@@ -125,7 +125,7 @@ impl<T: Eq> SmallSet<T> {
         self.map.clear();
     }
 
-    /// Turns the order of the elements round.
+    /// Turns the order of the elements round. Capacity and index stay.
     pub fn reverse(&mut self)
         ensures same { IsSameAt T.eq self.old self.new }
         ensures entries { self.new.entries ≡ reverse self.old.entries }

@@ -25,8 +25,8 @@ impl<T: Eq> SmallSet<T> {
         }
     }
 
-    /// Inserts an element that is new under this hash, last. It is refused where there is no room and no memory is
-    /// found: then it comes back, and elements and index stay.
+    /// Inserts an element that is new under this hash, which is required and not looked for. It goes last. It is
+    /// refused where there is no room and no memory is found: then it comes back, and elements and index stay.
     pub fn insert_hashed_unique_unchecked(
         &mut self,
         key: Hashed<T>,

@@ -10,6 +10,8 @@ use crate::union::Union;
 
 impl<T: Eq> SmallSet<T> {
     /// The elements that the other set lacks, in order. An element is looked for under the hash that it stands under.
+    /// No two have the same hash and are equal. The size hint goes from the number left to look at, less the length of
+    /// the other set, up to the number left to look at.
     pub fn difference<'a>(&'a self, other: &'a Self) -> Difference<'a, T>
         ensures left { result ≡ record { left = self.now.entries; other = other.now.entries } }
         ensures single { IsSingle T.eq (difference T.eq self.now.entries other.now.entries) }
@@ -19,7 +21,10 @@ impl<T: Eq> SmallSet<T> {
         Difference::new(self.map.iter_hashed(), other)
     }
 
-    /// The elements of this set, and then those of the other that this one lacks.
+    /// The elements of this set, and then those of the other that this one lacks. Those are looked for under their
+    /// stored hashes. No two have the same hash and are equal. The size hint is that of the rest of this set and of the
+    /// other's `difference` together: its lower end is cut at the greatest `usize`, and its upper end is `None` where
+    /// the sum is above that.
     pub fn union<'a>(&'a self, other: &'a Self) -> Union<'a, T>
         ensures left { result ≡ record { first = self.now.entries; second = record { left = other.now.entries; other = self.now.entries } } }
         ensures single { IsSingle T.eq (union T.eq self.now.entries other.now.entries) }

@@ -13,9 +13,9 @@ use std::alloc::{AllocError, Global};
 use std::hash::Hash;
 
 impl<K: Eq + Hash + Drop, V: Drop> SmallMap<K, V> {
-    /// Inserts the items in their order, each under its key's own hash, as `insert` does. It reserves nothing, and where
-    /// there is room for all of them, capacity and index stay. Where a new key is refused, the items that came before
-    /// are there and have used up the room, and it and the others are dropped.
+    /// Inserts the items in their order, each under its key's own hash, as `insert` does. It reserves nothing, and
+    /// where there is room for all of them, capacity and index stay. Where a new key is refused, the items that came
+    /// before are there and have used up the room, and it and the others are dropped. The iterator must end.
     pub fn extend<I: IntoIterator<Item = (K, V)>>(&mut self, iter: I) -> Result<(), AllocError>
         requires { IsFiniteIterable I.into_iter_gives I.IntoIter.can_next I.IntoIter.remaining iter }
         ensures entries { Extends K.eq (own_entry K.hash_input) I.IntoIter.next_gives I.into_iter_gives iter self.old.entries self.new.entries result }
@@ -32,7 +32,10 @@ impl<K: Eq + Hash + Drop, V: Drop> SmallMap<K, V> {
     }
 
     /// A map of the items, inserted in their order, each under its key's own hash. It begins with room for the lower
-    /// bound of the iterator's `size_hint`. Where memory is refused, nothing is made and the items are dropped.
+    /// bound of the iterator's `size_hint`. Where memory is refused, nothing is made and the items are dropped. The
+    /// capacity is at most the largest of that room, 4 and twice one more than the length, and there is an index
+    /// exactly where that room or the length is above `UNINDEXED`. Without items it is not refused. The iterator must
+    /// end.
     pub fn from_iter<I: IntoIterator<Item = (K, V)>>(
         alloc: Global,
         iter: I,

@@ -8,8 +8,8 @@ use super::SmallMap;
 use std::fmt;
 use std::hash::{Hash, Hasher};
 
-/// Maps are equal where they have as many entries, and each entry of one is found in the other by its hash and key, with
-/// an equal value. The order does not count.
+/// Maps are equal where they have as many entries, and each entry of one is found in the other by its hash and key,
+/// with an equal value. The order does not count.
 impl<K: Eq, V: PartialEq> PartialEq for SmallMap<K, V> {
     ghost eq = { λ m n. same_entries K.eq V.eq m.entries n.entries };
 

@@ -9,8 +9,8 @@ use super::SmallMap;
 use std::alloc::AllocError;
 
 impl<K: Eq, V> SmallMap<K, V> {
-    /// Sorts by key; entries with equal keys keep their order. Where the keys ascend already it asks for no
-    /// memory. A refusal leaves the entries as they were.
+    /// Sorts by key; entries with equal keys keep their order. Where the keys ascend already it asks for no memory. A
+    /// refusal leaves the entries as they were. Capacity and index stay.
     pub fn sort_keys(&mut self) -> Result<(), AllocError>
     where
         K: Ord,
@@ -29,7 +29,7 @@ impl<K: Eq, V> SmallMap<K, V> {
         Ok(())
     }
 
-    /// Turns the order of the entries round.
+    /// Turns the order of the entries round. Capacity and index stay.
     #[tactic(auto, using(crate::proofs::Emptying::in_its_order))]
     pub fn reverse(&mut self)
         ensures entries { self.new.entries ≡ reverse self.old.entries }

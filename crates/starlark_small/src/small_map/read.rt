@@ -62,7 +62,8 @@ impl<K: Eq, V> SmallMap<K, V> {
     }
 
     /// A place under this hash whose key `eq` accepts. It is asked about the keys under this hash alone, about each at
-    /// most once and in no promised order, until it accepts one; `None` says that it refused them all.
+    /// most once and in no promised order, its state carried on, until it accepts one; `None` says that it refused them
+    /// all. Required is no more than that it may be called on those keys, in the states that its refusals leave.
     #[inline]
     pub fn find_by_hash<F: FnMut(&K) -> bool>(
         &self,
@@ -150,7 +151,7 @@ impl<K: Eq, V> SmallMap<K, V> {
 // By place
 
 impl<K: Eq, V> SmallMap<K, V> {
-    /// The key and the value at a place.
+    /// The key and the value at a place; `None` past the end.
     #[inline]
     pub fn get_index(&self, index: usize) -> Option<(&K, &V)>
         ensures { option_map deref_pair result ≡ option_map pair_of (slice_get self.now.entries index) }
@@ -158,7 +159,7 @@ impl<K: Eq, V> SmallMap<K, V> {
         self.entries.get_index(index)
     }
 
-    /// The key and the value of the first entry.
+    /// The key and the value of the first entry, if there is one.
     #[inline]
     pub fn first(&self) -> Option<(&K, &V)>
         ensures { option_map deref_pair result ≡ option_map pair_of (slice_get self.now.entries 0) }
@@ -166,7 +167,7 @@ impl<K: Eq, V> SmallMap<K, V> {
         self.entries.get_index(0)
     }
 
-    /// The key and the value of the last entry.
+    /// The key and the value of the last entry, if there is one.
     #[inline]
     pub fn last(&self) -> Option<(&K, &V)>
         ensures { option_map deref_pair result ≡ option_map pair_of (slice_get self.now.entries (length self.now.entries - 1)) }
@@ -218,7 +219,8 @@ impl<K: Eq, V> SmallMap<K, V> {
         spare.min(self.index.room(&self.entries))
     }
 
-    /// The index, where there is one: each place under the promoted hash of its entry, and no other member.
+    /// The index, where there is one: each place under the promoted hash of its entry, and no other member. There is
+    /// one wherever the list is longer than `UNINDEXED`.
     #[inline]
     pub fn index(&self) -> Option<&ReadyTable<usize>>
         ensures places { IfSome result (λ table. IsPermutation (positions self.now.entries) (members table.now)) }

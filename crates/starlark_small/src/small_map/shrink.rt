@@ -18,7 +18,7 @@ use std::hash::Hash;
 
 impl<K: Eq, V> SmallMap<K, V> {
     /// Removes the entry under this hash whose key the query is equivalent to, drops its key and answers its value.
-    /// Those after it move up.
+    /// Those after it move up. Capacity and index stay.
     pub fn shift_remove_hashed<Q: Equivalent<K>>(&mut self, key: Hashed<&Q>) -> Option<V>
     where
         K: Drop,
@@ -34,8 +34,8 @@ impl<K: Eq, V> SmallMap<K, V> {
         Some(value)
     }
 
-    /// Removes the entry under this hash whose key the query is equivalent to, and answers its key and value.
-    /// Those after it move up.
+    /// Removes the entry under this hash whose key the query is equivalent to, and answers its key and value. Those
+    /// after it move up. Capacity and index stay.
     pub fn shift_remove_hashed_entry<Q: Equivalent<K>>(&mut self, key: Hashed<&Q>) -> Option<(K, V)>
         ensures taken { result ≡ option_map pair_of (entry_at self.old.entries (query_match Q.equivalent self.old.entries key.entry)) }
         ensures entries { self.new.entries ≡ without self.old.entries (query_match Q.equivalent self.old.entries key.entry) }
@@ -50,8 +50,8 @@ impl<K: Eq, V> SmallMap<K, V> {
         Some((key.into_key(), value))
     }
 
-    /// Removes the entry under the query's own hash whose key the query is equivalent to, drops its key and answers
-    /// its value. Those after it move up.
+    /// Removes the entry under the query's own hash whose key the query is equivalent to, drops its key and answers its
+    /// value. Those after it move up. Capacity and index stay.
     #[inline]
     pub fn shift_remove<Q: Equivalent<K> + Hash>(&mut self, key: &Q) -> Option<V>
     where
@@ -68,7 +68,7 @@ impl<K: Eq, V> SmallMap<K, V> {
     }
 
     /// Removes the entry under the query's own hash whose key the query is equivalent to, and answers its key and
-    /// value. Those after it move up.
+    /// value. Those after it move up. Capacity and index stay.
     #[inline]
     pub fn shift_remove_entry<Q: Equivalent<K> + Hash>(&mut self, key: &Q) -> Option<(K, V)>
         ensures taken { result ≡ option_map pair_of (entry_at self.old.entries (own_match Q.equivalent Q.hash_input self.old.entries key.now)) }
@@ -86,7 +86,7 @@ impl<K: Eq, V> SmallMap<K, V> {
 // Removals by place, and turns
 
 impl<K: Eq, V> SmallMap<K, V> {
-    /// Removes the entry at a place, and answers its key and value. Those after it move up.
+    /// Removes the entry at a place, and answers its key and value. Those after it move up. Capacity and index stay.
     pub fn shift_remove_index(&mut self, index: usize) -> Option<(K, V)>
         ensures taken { result ≡ option_map pair_of (slice_get self.old.entries index) }
         ensures entries { self.new.entries ≡ remove self.old.entries index }
@@ -96,7 +96,7 @@ impl<K: Eq, V> SmallMap<K, V> {
         Some((key.into_key(), value))
     }
 
-    /// Removes the entry at a place, and answers it. Those after it move up.
+    /// Removes the entry at a place, and answers it. Those after it move up. Capacity and index stay.
     pub fn shift_remove_index_hashed(&mut self, index: usize) -> Option<(Hashed<K>, V)>
         ensures taken { result ≡ slice_get self.old.entries index }
         ensures entries { self.new.entries ≡ remove self.old.entries index }
@@ -109,7 +109,7 @@ impl<K: Eq, V> SmallMap<K, V> {
         }
     }
 
-    /// Removes the last entry, and answers its key and value.
+    /// Removes the last entry, and answers its key and value. Capacity and index stay.
     pub fn pop(&mut self) -> Option<(K, V)>
         ensures taken { result ≡ option_map pair_of (slice_get self.old.entries (length self.old.entries - 1)) }
         ensures entries { self.new.entries ≡ remove self.old.entries (length self.old.entries - 1) }
@@ -119,7 +119,7 @@ impl<K: Eq, V> SmallMap<K, V> {
         Some((key.into_key(), value))
     }
 
-    /// Removes each entry. The memory stays for those to come.
+    /// Removes each entry. Capacity and index stay for those to come.
     #[tactic(auto, using(crate::proofs::Emptying::in_its_order))]
     pub fn clear(&mut self)
     where
@@ -135,7 +135,9 @@ impl<K: Eq, V> SmallMap<K, V> {
         self.entries.clear();
     }
 
-    /// Drops the index where the list is short enough to do without. No other call does.
+    /// Drops the index where the list is short enough to do without, and does nothing where it is longer than
+    /// `UNINDEXED`. Length plus room is then at least the smaller of what it was and `UNINDEXED`. In no other call does
+    /// it fall, and no other call drops the index.
     pub fn maybe_drop_index(&mut self)
         ensures entries { self.new.entries ≡ self.old.entries }
         ensures capacity { self.new.capacity ≡ self.old.capacity }

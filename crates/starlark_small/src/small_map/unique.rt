@@ -30,9 +30,10 @@ impl<K: Eq, V> SmallMap<K, V> {
         without_hash(self.insert_hashed_unique_unchecked(Hashed::new(key), value))
     }
 
-    /// Inserts a key that is new under this hash, and lends it with its value. The entry goes last, and the map ends
-    /// with what is left in the value. It is refused where there is no room and no memory is found: then it comes back,
-    /// and entries and index stay.
+    /// Inserts a key that is new under this hash, which is required and not looked for, and lends it with its value.
+    /// The entry goes last, and the map ends with what is left in the value. It is refused where there is no room and
+    /// no memory is found: then it comes back, and entries and index stay. Capacity, room and index are left as
+    /// `insert_hashed` leaves them.
     pub fn insert_hashed_unique_unchecked(
         &mut self,
         key: Hashed<K>,
@@ -50,9 +51,9 @@ impl<K: Eq, V> SmallMap<K, V> {
         }
     }
 
-    /// Puts a new key last under its own hash, and answers its place. It is refused where there is no room and no memory
-    /// is found: then it comes back, and entries and index stay. Upstream has no such call: `insert_unique_unchecked`
-    /// lends the entry, this one counts to it.
+    /// Puts a new key last under its own hash, and answers its place. It is refused where there is no room and no
+    /// memory is found: then it comes back, and entries and index stay. Upstream has no such call:
+    /// `insert_unique_unchecked` lends the entry, this one counts to it.
     pub fn push_own(&mut self, key: K, value: V) -> Result<usize, NoRoom<(K, V)>>
     where
         K: Hash,

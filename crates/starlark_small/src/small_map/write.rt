@@ -15,8 +15,8 @@ use starlark_hash::{Equivalent, Hashed};
 use std::hash::Hash;
 
 impl<K: Eq, V> SmallMap<K, V> {
-    /// The value under this hash whose key the query is equivalent to, to be written. The map ends with what is left
-    /// in it, and all else stays.
+    /// The value under this hash whose key the query is equivalent to, to be written. The map ends with what is left in
+    /// it, and all else stays. `None` where there is no such entry, and then the map is as it was.
     #[inline(always)]
     pub fn get_mut_hashed<Q: Equivalent<K>>(&mut self, key: Hashed<&Q>) -> Option<&mut V>
         ensures* writes_back { sem 𝓛 (lends_found K.row V.row K.PartialEq self.entry (query_match Q.equivalent self.old.entries key.entry) result) }
@@ -30,7 +30,7 @@ impl<K: Eq, V> SmallMap<K, V> {
     }
 
     /// The value under the query's own hash whose key the query is equivalent to, to be written. The map ends with what
-    /// is left in it, and all else stays.
+    /// is left in it, and all else stays. `None` where there is no such entry, and then the map is as it was.
     #[inline(always)]
     pub fn get_mut<Q: Equivalent<K> + Hash>(&mut self, key: &Q) -> Option<&mut V>
         ensures* writes_back { sem 𝓛 (lends_get K.row V.row K.PartialEq self.entry Q.equivalent Q.hash_input key.now result) }

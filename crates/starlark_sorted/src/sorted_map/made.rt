@@ -20,7 +20,8 @@ use std::hash::Hash;
 
 impl<K: Ord + Hash, V> SortedMap<K, V> {
     /// The entries of the map, sorted by key; those with equal keys keep their order. Where the keys ascend already it
-    /// asks for no memory. Where memory is refused, the map is handed back with its entries as they were.
+    /// asks for no memory. Where memory is refused, the map is handed back with its entries as they were. Capacity and
+    /// index are those of the map, done or refused.
     pub fn from_ordered_map(map: OrderedMap<K, V>) -> Result<Self, OrderedMap<K, V>>
         ensures sorted { IfOk result (IsSortedOf K.cmp map) }
         ensures handed_back { IfErr result (λ source. source.entries ≡ map.entries) }
@@ -53,8 +54,9 @@ impl<K: Ord + Hash, V> SortedMap<K, V> {
 }
 
 impl<K: Ord + Hash + Drop, V: Drop> SortedMap<K, V> {
-    /// The items, inserted into an empty map in their order, each under its key's own hash, and then sorted by key. Where
-    /// memory is refused, nothing is made and the items are dropped; without items no memory is needed.
+    /// The items, inserted into an empty map in their order, each under its key's own hash, and then sorted by key.
+    /// Where memory is refused, nothing is made and the items are dropped; without items no memory is needed. The
+    /// iterator must end.
     pub fn from_iter<I: IntoIterator<Item = (K, V)>>(
         alloc: Global,
         iter: I,
@@ -75,7 +77,7 @@ impl<K: Ord + Hash + Drop, V: Drop> SortedMap<K, V> {
 impl<K: Ord + Hash + Clone, V: Clone> SortedMap<K, V> {
     /// A map of clones of the entries under the same hashes, in their order, whose capacity is their number. It has an
     /// index only where the list is too long to do without. Where memory is refused, also to the clone of a key or a
-    /// value, nothing is made. Without entries no memory is needed.
+    /// value, nothing is made. Without entries no memory is needed. Required is that a clone of a key is equal to it.
     pub fn clone(&self) -> Result<Self, AllocError>
         // A clone of a key is equal to it.
         requires { IsEqualClone K.eq K.is_clone }

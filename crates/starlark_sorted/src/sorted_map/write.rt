@@ -26,8 +26,8 @@ impl<K: Ord + Hash, V> SortedMap<K, V> {
         self.map.iter_mut()
     }
 
-    /// The values in the order of their keys, to write them. The map ends with what is left in them; keys, hashes, order,
-    /// room, capacity and index stay.
+    /// The values in the order of their keys, to write them. The map ends with what is left in them; keys, hashes,
+    /// order, room, capacity and index stay.
     #[tactic(auto, using(starlark_vecmap::proofs::ValuesWritten::written))]
     #[inline]
     pub fn values_mut(&mut self) -> ValuesMut<'_, K, V>
@@ -39,7 +39,7 @@ impl<K: Ord + Hash, V> SortedMap<K, V> {
     }
 
     /// The value under the query's own hash whose key the query is equivalent to, to be written. The map ends with what
-    /// is left in it, and all else stays.
+    /// is left in it, and all else stays. `None` where there is no such entry, and then the map is as it was.
     #[inline]
     pub fn get_mut<Q: Equivalent<K> + Hash>(&mut self, key: &Q) -> Option<&mut V>
         ensures* writes_back { sem 𝓛 (lends_get K.row V.row K.cmp K.eq K.partial_cmp K.hash_input self.entry (Q.equivalent key.now) (own_hash Q.hash_input key.now) result) }

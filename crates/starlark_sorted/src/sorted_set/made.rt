@@ -21,7 +21,8 @@ use std::hash::Hash;
 
 impl<T: Ord + Hash> SortedSet<T> {
     /// The elements of the set, sorted; equal ones, under different hashes, keep their order. Where they ascend already
-    /// it asks for no memory. Where memory is refused, the set is handed back with its elements as they were.
+    /// it asks for no memory. Where memory is refused, the set is handed back with its elements as they were. Capacity
+    /// and index are those of the set, done or refused.
     pub fn from_ordered_set(set: OrderedSet<T>) -> Result<Self, OrderedSet<T>>
         ensures sorted { IfOk result (IsSortedOf T.cmp set) }
         ensures handed_back { IfErr result (λ source. source.entries ≡ set.entries) }
@@ -54,7 +55,8 @@ impl<T: Ord + Hash> SortedSet<T> {
 }
 
 impl<T: Ord + Hash + Drop> SortedSet<T> {
-    /// The items, each once and under its own hash: of equal ones the first. Its capacity is their number. Where memory is
+    /// The items, each once and under its own hash: of equal ones the first. The elements ascend strictly. The capacity
+    /// is the length of the vector, and there is an index exactly where that is above `UNINDEXED`. Where memory is
     /// refused, the vector is handed back as it was; without items no memory is needed.
     pub fn from_sorted_vec(vec: SortedVec<T>) -> Result<Self, SortedVec<T>>
         ensures set { IfOk result (λ set. set.entries ≡ insert_all T.eq [] (map (own_element T.hash_input) vec)) }
@@ -74,7 +76,7 @@ impl<T: Ord + Hash + Drop> SortedSet<T> {
     }
 
     /// The items, inserted into an empty set in their order, each under its own hash, and then sorted. Where memory is
-    /// refused, nothing is made and the items are dropped; without items no memory is needed.
+    /// refused, nothing is made and the items are dropped; without items no memory is needed. The iterator must end.
     pub fn from_iter<I: IntoIterator<Item = T>>(alloc: Global, iter: I) -> Result<Self, AllocError>
         requires { IsFiniteIterable I.into_iter_gives I.IntoIter.can_next I.IntoIter.remaining iter }
         ensures set { IfOk result (CollectsSorted T.eq T.cmp (own_element T.hash_input) I.IntoIter.next_gives I.into_iter_gives I.IntoIter.remaining iter) }
@@ -92,7 +94,7 @@ impl<T: Ord + Hash + Drop> SortedSet<T> {
 impl<T: Ord + Hash + Clone> SortedSet<T> {
     /// A set of clones of the elements under the same hashes, in their order, whose capacity is their number. It has an
     /// index only where the list is too long to do without. Where memory is refused, also to the clone of an element,
-    /// nothing is made. Without elements no memory is needed.
+    /// nothing is made. Without elements no memory is needed. Required is that a clone of an element is equal to it.
     pub fn clone(&self) -> Result<Self, AllocError>
         // A clone of an element is equal to it.
         requires { IsEqualClone T.eq T.is_clone }

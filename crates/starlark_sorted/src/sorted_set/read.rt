@@ -47,7 +47,7 @@ impl<T: Ord + Hash> SortedSet<T> {
         self.inner.contains(value)
     }
 
-    /// The element at a place.
+    /// The element at a place; `None` past the end.
     #[inline]
     pub fn get_index(&self, index: usize) -> Option<&T>
         ensures { option_copied result ≡ option_map entry_key (slice_get self.now.entries index) }

@@ -27,8 +27,11 @@ impl<T: Ord + Hash> SortedSet<T> {
     }
 
     /// The elements of this set and those of the other that this one lacks, in ascending order, each looked for under
-    /// its stored hash; of equal ones those of this set come first. They ascend strictly, where each stands under its own
-    /// hash. It asks for no memory.
+    /// its stored hash; of equal ones those of this set come first. They ascend strictly, where each stands under its
+    /// own hash. It asks for no memory. No two have the same hash and are equal; an equal one of the other set under
+    /// another hash does come. The size hint goes from the number left of this set, with that of the other's left less
+    /// this set's length, up to all that are left of both. Its lower end is cut at the greatest `usize`, and its upper
+    /// end is `None` where the sum is above that. There is no exact length, and no clone.
     pub fn union<'a>(&'a self, other: &'a Self) -> SortedUnion<'a, T>
         ensures left { result ≡ record { left = self.now.entries; right = other.now.entries; there = self.now.entries } }
         ensures single { IsSingle T.eq (rise T.eq T.cmp self.now.entries other.now.entries) }

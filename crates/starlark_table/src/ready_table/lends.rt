@@ -76,7 +76,8 @@ impl<T> ReadyTable<T> {
         Loan::new(places, tags.as_slice())
     }
 
-    /// The items along the walk, each for writing. The hashes stay, and so does everything but the items.
+    /// The items along the walk, each for writing, with exact length and size hint. The table ends with the items that
+    /// are left in its slots; hashes and room stay, and so does all else.
     #[inline]
     pub fn iter_mut(&mut self) -> IterMut<'_, T>
         ensures* writes_back { sem 𝓛 (table_follows T.row self.entry result.1) }

@@ -20,8 +20,8 @@ impl<K, V> ReadyTable<(K, V)> {
         PairLoan::new(places, tags.as_slice())
     }
 
-    /// The pairs along the walk, each value for writing. The table ends with the values that are left in its slots;
-    /// hashes and keys stay, and so does all else.
+    /// The pairs along the walk, each value for writing, with exact length and size hint. There are fewer than 2^64 of
+    /// them. The table ends with the values that are left in its slots; hashes and keys stay, and so does all else.
     #[inline]
     pub fn pairs_mut(&mut self) -> PairsMut<'_, K, V>
         ensures* writes_back { sem 𝓛 (values_follow K.row V.row self.entry result.1) }

@@ -10,7 +10,7 @@ use std::hash::Hash;
 
 impl<K: Eq + Hash + Clone, V: Clone> UnorderedMap<K, V> {
     /// A map of clones of the pairs, with as much room. Where memory is refused, also to the clone of a key or a value,
-    /// nothing is made. An empty map without room needs none.
+    /// nothing is made. An empty map without room needs none. Required is that a clone of a key is equal to it.
     pub fn clone(&self) -> Result<Self, AllocError>
         // A clone of a key is equal to it.
         requires { IsEqualClone K.eq K.is_clone }

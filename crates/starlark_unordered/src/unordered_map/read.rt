@@ -12,7 +12,7 @@ use std::hash::Hash;
 use std::ops::Index;
 
 impl<K: Eq + Hash, V> UnorderedMap<K, V> {
-    /// The value at the key.
+    /// The value at the key that the query stands for.
     #[tactic(auto, using(crate::proofs::Callers::callers), unfolding(crate::specs::Calling::found))]
     #[inline(always)]
     pub fn get<Q: KeyQuery<K>>(&self, query: &Q) -> Option<&V>
@@ -32,7 +32,7 @@ impl<K: Eq + Hash, V> UnorderedMap<K, V> {
         Some(value)
     }
 
-    /// Whether the map has the key.
+    /// Whether the map has the key that the query stands for.
     #[tactic(auto, using(crate::proofs::Callers::callers), unfolding(crate::specs::Calling::found))]
     #[inline(always)]
     pub fn contains_key<Q: KeyQuery<K>>(&self, query: &Q) -> bool

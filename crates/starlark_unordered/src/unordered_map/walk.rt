@@ -16,7 +16,7 @@ use std::collections::HashMap;
 use std::hash::Hash;
 
 impl<K: Eq + Hash, V> UnorderedMap<K, V> {
-    /// The pairs, each once. No two keys are equal.
+    /// The pairs, each once, with exact length and size hint. No two keys are equal.
     #[inline]
     pub fn entries_unordered(&self) -> Entries<'_, K, V>
         ensures pairs { result ≡ pairs_of self.now }
@@ -29,7 +29,7 @@ impl<K: Eq + Hash, V> UnorderedMap<K, V> {
         Entries::new(self.table.iter())
     }
 
-    /// The keys, each once.
+    /// The keys, each once, with exact length and size hint.
     #[inline]
     pub fn keys_unordered(&self) -> KeysUnordered<'_, K, V>
         ensures keys { result ≡ keys_of (pairs_of self.now) }
@@ -39,7 +39,7 @@ impl<K: Eq + Hash, V> UnorderedMap<K, V> {
         KeysUnordered::new(self.entries_unordered())
     }
 
-    /// The values, each once for its key.
+    /// The values, each once for its key, with exact length and size hint.
     #[inline]
     pub fn values_unordered(&self) -> ValuesUnordered<'_, K, V>
         ensures values { result ≡ values_of (pairs_of self.now) }
@@ -49,7 +49,7 @@ impl<K: Eq + Hash, V> UnorderedMap<K, V> {
         ValuesUnordered::new(self.entries_unordered())
     }
 
-    /// The pairs in ascending order of their keys. Refused only for want of memory.
+    /// The pairs, each once, in ascending order of their keys. Refused only for want of memory.
     pub fn entries_sorted(&self) -> Result<Vec<(&K, &V)>, AllocError>
     where
         K: Ord,
@@ -78,8 +78,9 @@ impl<K: Eq + Hash, V> UnorderedMap<K, V> {
         Ok(map)
     }
 
-    /// The map with what `f` gives in the place of each value. All its memory is asked for before the first call; refused,
-    /// nothing was called, and the map comes back; an empty map is not refused. `f` is called once on each value, along the walk.
+    /// The map with what `f` gives in the place of each value. All its memory is asked for before the first call;
+    /// refused, nothing was called, and the map comes back; an empty map is not refused. `f` is called once on each
+    /// value, along the walk, its state carried on.
     pub fn map_values<W, F: FnMut(V) -> W>(
         self,
         f: F,

@@ -10,8 +10,8 @@ use crate::iter_mut::{EntriesMut, ValuesUnorderedMut};
 use std::hash::Hash;
 
 impl<K: Eq + Hash, V> UnorderedMap<K, V> {
-    /// The pairs, each once, to write the values. No two keys are equal. The map ends with what is left in the values,
-    /// and all else stays.
+    /// The pairs, each once, to write the values, with exact length and size hint. No two keys are equal. The map ends
+    /// with what is left in the values, and all else stays.
     #[inline]
     pub fn entries_unordered_mut(&mut self) -> EntriesMut<'_, K, V>
         ensures* writes_back { sem 𝓛 (values_follow K.row V.row K.Hash self.entry result.1) }
@@ -22,7 +22,8 @@ impl<K: Eq + Hash, V> UnorderedMap<K, V> {
         self.table.pairs_mut()
     }
 
-    /// The values, each once for its key, to write them. The map ends with what is left in them, and all else stays.
+    /// The values, each once for its key, to write them, with exact length and size hint. The map ends with what is
+    /// left in them, and all else stays.
     #[inline]
     pub fn values_unordered_mut(&mut self) -> ValuesUnorderedMut<'_, K, V>
         ensures* writes_back { sem 𝓛 (values_follow K.row V.row K.Hash self.entry result.1) }

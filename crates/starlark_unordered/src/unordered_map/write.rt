@@ -17,7 +17,8 @@ use std::mem;
 impl<K: Eq + Hash, V> UnorderedMap<K, V> {
     ghost use Rattle.starlark_unordered.specs.Lending.{lends_at};
 
-    /// The value at the key, to be written. The map ends with what is left in it, and all else stays.
+    /// The value at the key that the query stands for, to be written. The map ends with what is left in it, and all
+    /// else stays. `None` where there is no such key, and then the map is as it was.
     #[inline(always)]
     pub fn get_mut<Q: KeyQuery<K>>(&mut self, query: &Q) -> Option<&mut V>
         ensures* writes_back { sem 𝓛 (lends_at K.row V.row K.Hash self.entry (Q.equivalent query.now) result) }
@@ -31,8 +32,8 @@ impl<K: Eq + Hash, V> UnorderedMap<K, V> {
     }
 
     /// Puts the value at the key. A key that is there stays and takes the value, whose old one is answered; else there
-    /// is one pair more. Only a new key is refused, where there is no room and no memory is found: then key and
-    /// value come back, and the map is as it was.
+    /// is one pair more. Only a new key is refused, where there is no room and no memory is found: then key and value
+    /// come back, and the map is as it was. Length plus room never falls.
     #[tactic(auto, using(crate::proofs::Keys::table_len_written, crate::proofs::Callers::callers), unfolding(crate::specs::Calling::found))]
     pub fn insert(&mut self, key: K, value: V) -> Result<Option<V>, NoRoom<(K, V)>>
     where
@@ -60,7 +61,8 @@ impl<K: Eq + Hash, V> UnorderedMap<K, V> {
         }
     }
 
-    /// Takes the pair of the key out, and answers its value. The room comes back.
+    /// Takes the pair of the key out, and answers its value. The other pairs stay, and the room comes back. Where the
+    /// map lacks the key, nothing changes.
     #[tactic(auto, using(crate::proofs::Callers::callers), unfolding(crate::specs::Calling::found))]
     pub fn remove<Q: KeyQuery<K>>(&mut self, query: &Q) -> Option<V>
     where
@@ -95,8 +97,9 @@ impl<K: Eq + Hash, V> UnorderedMap<K, V> {
         self.table.clear();
     }
 
-    /// Keeps the pairs that `keep` accepts, with the value that it left, and takes the others out. `keep` is called once
-    /// on each pair, along the walk. No memory is asked for, and the room of what was taken out comes back.
+    /// Keeps the pairs that `keep` accepts, with the value that it left, and takes the others out. `keep` is called
+    /// once on each pair, along the walk, its state carried on. No memory is asked for, and the room of what was taken
+    /// out comes back.
     pub fn retain<F: FnMut(&K, &mut V) -> bool>(&mut self, mut keep: F)
     where
         K: Drop,

@@ -12,7 +12,7 @@ use std::hash::Hash;
 impl<T: Eq + Hash + Drop> UnorderedSet<T> {
     /// A set of the items, inserted in their order as `insert` does: the first of equal ones stays. It begins with room
     /// for the lower bound of the iterator's `size_hint`. Where memory is refused, nothing is made and the items are
-    /// dropped.
+    /// dropped. Without items it is not refused. The iterator must end.
     pub fn from_iter<I: IntoIterator<Item = T>>(alloc: Global, iter: I) -> Result<Self, AllocError>
         requires { IsFiniteIterable I.into_iter_gives I.IntoIter.can_next I.IntoIter.remaining iter }
         ensures set { IfOk result (Collects T.eq (StepsBeside I.IntoIter.next_gives) I.into_iter_gives I.IntoIter.remaining iter) }

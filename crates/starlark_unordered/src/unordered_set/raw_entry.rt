@@ -60,7 +60,7 @@ impl<T: Eq + Hash> UnorderedSet<T> {
 impl<'a, T: Eq + Hash> RawEntryBuilderMut<'a, T> {
     ghost use Rattle.starlark_unordered.specs.RawSet.{set_of_raw, slot_of_raw};
 
-    /// The element that the query stands for, or vacant where the set lacks it.
+    /// The element that the query stands for, or vacant where the set lacks it. The set is as it was.
     #[inline]
     pub fn from_entry<Q: KeyQuery<T>>(self, query: &Q) -> RawEntryMut<'a, T>
         ensures same_set { (set_of_raw result).ghost_name ≡ self.entry.map.ghost_name }
@@ -74,7 +74,8 @@ impl<'a, T: Eq + Hash> RawEntryBuilderMut<'a, T> {
         }
     }
 
-    /// The element that the query stands for, where the hash that is brought is its own, or else vacant.
+    /// The element that the query stands for, where the hash that is brought is its own, or else vacant. The set is as
+    /// it was.
     #[inline]
     pub fn from_entry_hashed<Q: Equivalent<T>>(self, element: Hashed<&Q>) -> RawEntryMut<'a, T>
         ensures same_set { (set_of_raw result).ghost_name ≡ self.entry.map.ghost_name }
@@ -90,6 +91,8 @@ impl<'a, T: Eq + Hash> RawEntryBuilderMut<'a, T> {
 
     /// An element whose own hash this is, and which `is_match` accepts. It is asked about elements of this hash alone,
     /// about each at most once, in no promised order, until it accepts one; vacant says that it refused them all.
+    /// Required is no more than that it may be called on those elements, in the states that its refusals leave. The set
+    /// is as it was.
     pub fn from_hash<F: FnMut(&T) -> bool>(
         self,
         hash: StarlarkHashValue,
@@ -111,7 +114,7 @@ impl<'a, T: Eq + Hash> RawEntryBuilderMut<'a, T> {
 impl<T: Eq + Hash> RawOccupiedEntryMut<'_, T> {
     ghost use Rattle.starlark_unordered.specs.RawSet.{stored_raw};
 
-    /// Takes the element out. The room comes back.
+    /// Takes the element out, and answers it. The others stay, and the room comes back.
     #[inline]
     pub fn remove(self) -> T
         ensures element { stored_raw self.entry ≡ Some result }
@@ -123,7 +126,8 @@ impl<T: Eq + Hash> RawOccupiedEntryMut<'_, T> {
         element
     }
 
-    /// Puts this element, which is to be equal, in the place of the one that is there, which is answered.
+    /// Puts this element, which is to be equal, in the place of the one that is there, which is answered. The others
+    /// stay.
     #[inline]
     pub fn insert(&mut self, element: T) -> T
         requires { IfSome (stored_raw self.old) (λ there. T.eq element there ≡ true) }
@@ -136,8 +140,8 @@ impl<T: Eq + Hash> RawOccupiedEntryMut<'_, T> {
 }
 
 impl<T: Eq + Hash> RawVacantEntryMut<'_, T> {
-    /// Puts an element in that the set lacks, under its own hash. It is refused where there is no room and no memory is
-    /// found: then it comes back, and the set is as it was.
+    /// Puts an element in under its own hash, and lends nothing. That the set lacks it is required. It is refused where
+    /// there is no room and no memory is found: then it comes back, and the set is as it was.
     pub fn insert(self, element: T) -> Result<(), NoRoom<T>>
         requires { lookup (T.eq element) (pairs_of self.map.now) ≡ None }
         ensures elements { OnOk result (IsPermutation ((element, tt) ∷ pairs_of self.entry.map.now) (pairs_of self.exit.0.now)) }
@@ -154,7 +158,7 @@ impl<T: Eq + Hash> RawVacantEntryMut<'_, T> {
         }
     }
 
-    /// The same under the element's own hash, which is brought.
+    /// The same under the element's own hash, which is brought; that it is its own is required.
     pub fn insert_hashed(self, element: Hashed<T>) -> Result<(), NoRoom<Hashed<T>>>
         requires own { hash_of element ≡ own_hash T.hash_input (key_of element) }
         requires absent { lookup (T.eq (key_of element)) (pairs_of self.map.now) ≡ None }

@@ -10,8 +10,9 @@ use starlark_columns::pair::{give_back, with_rows};
 use std::alloc::{AllocError, Global};
 
 impl<A: Drop, B: Drop> Vec2<A, B> {
-    /// Puts the items at the end, in their order. Room for the lower bound of the iterator's `size_hint` is made
-    /// first. Where there is no memory, the list is as it was, or the items that came before fill it; the others are dropped.
+    /// Puts the items at the end, in their order. Room for the lower bound of the iterator's `size_hint` is made first.
+    /// Where there is no memory, the list is as it was, or the items that came before fill it; the others are dropped.
+    /// Where there is room for all of them, it is not refused. The iterator must end.
     pub fn extend<I: IntoIterator<Item = (A, B)>>(&mut self, iter: I) -> Result<(), AllocError>
         requires { IsFiniteIterable I.into_iter_gives I.IntoIter.can_next I.IntoIter.remaining iter }
         ensures list { Extends I.into_iter_gives I.IntoIter.next_gives I.IntoIter.remaining iter self.old self.new result }
@@ -25,7 +26,8 @@ impl<A: Drop, B: Drop> Vec2<A, B> {
     }
 
     /// The items, in their order. The list begins with a capacity of the lower bound of the iterator's `size_hint`.
-    /// Where there is no memory, nothing is made and the items are dropped.
+    /// Where there is no memory, nothing is made and the items are dropped. Without items it is not refused. The
+    /// iterator must end.
     pub fn from_iter<I: IntoIterator<Item = (A, B)>>(
         alloc: Global,
         iter: I,

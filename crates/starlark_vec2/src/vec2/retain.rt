@@ -7,7 +7,7 @@ use super::Vec2;
 
 impl<A: Drop, B: Drop> Vec2<A, B> {
     /// Keeps the pairs at which the closure answers true, as it leaves them, in their order. It is called once a pair,
-    /// from the front.
+    /// from the front, its state carried on; that it may be called so is required. The capacity stays.
     #[inline]
     pub fn retain<F: FnMut(&mut A, &mut B) -> bool>(&mut self, keep: F)
         requires { TakesInTurn (CalledAtBoth F.FnMut) (TakesBoth F.FnMut) keep self.old.pairs }

@@ -10,7 +10,9 @@ use std::cmp::Ordering;
 
 impl<A, B> Vec2<A, B> {
     /// Sorts the pairs; those that compare as equal keep their order. All memory is had before a pair moves; where it
-    /// is refused, the list is as it was. Up to one pair no memory is needed. Rust's states no stability.
+    /// is refused, the list is as it was. Up to one pair no memory is needed. Rust's states no stability. In any case
+    /// the list has the same pairs, and the same capacity. Required is that the closure may be called at any two of the
+    /// pairs, in each state that its calls leave.
     pub fn sort_by<F: FnMut((&A, &B), (&A, &B)) -> Ordering>(
         &mut self,
         compare: F,

@@ -7,7 +7,7 @@ use super::VecMap;
 
 impl<K: Drop, V: Drop> VecMap<K, V> {
     /// Keeps the entries at which the closure answers true, with the value that it leaves, in their order. It is called
-    /// once an entry, from the front.
+    /// once an entry, from the front, its state carried on; that it may be called so is required. The capacity stays.
     pub fn retain<F: FnMut(&K, &mut V) -> bool>(&mut self, mut keep: F)
         requires { TakesInTurn (CalledAtEntry F.FnMut) (TakesEntry F.FnMut) keep self.old.entries }
         ensures entries { Retains (CalledAtEntry F.FnMut) keep self.old.entries self.new.entries }
