@@ -13,7 +13,7 @@ INTO ?=
 PROOFS ?=
 export SCRIPT CRATE RUST INTO
 
-.PHONY: help try run demo check tests test bench chart vendor wrong refused hostile attack clean
+.PHONY: help try run demo check tests test pages bench chart vendor wrong refused hostile attack clean
 
 define says
 @awk -F ' *## ' '/^$@:/ { print "make $@: " $$2 }' Makefile >&2
@@ -47,7 +47,12 @@ tests: ## runs the tests of CRATE with no proof, in about a minute
 test: ## the merge gate, every proof, test and program: about an hour on four cores, and 4.6 GB in out/, see clean
 	$(says)
 	@./examples/as-in-readme
+	@./docs/pages.py check
 	@rt ci
+
+pages: ## writes docs/words.md and docs/calls.md from the comments of the sources, at once
+	$(says)
+	@./docs/pages.py write
 
 bench: ## proves and runs the benchmarks, beside the maps of the kit: some ten minutes the first time; with RUST=FILE also beside those
 	$(says)
