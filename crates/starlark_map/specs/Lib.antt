@@ -2,6 +2,7 @@ pub use Rattle.starlark_hash.specs.HashValue
 pub use Rattle.starlark_hash.specs.Hasher
 pub use Rattle.starlark_hash.specs.HashedOrder
 pub use Rattle.starlark_lists.specs.Entries
+pub use Rattle.starlark_lists.specs.Finding
 pub use Rattle.starlark_lists.specs.Search
 pub use Rattle.starlark_lists.specs.Sorting
 pub use Rattle.starlark_hash.specs.Lending as HashedLending
@@ -39,6 +40,7 @@ pub use Rattle.starlark_sets.specs.Union
 pub use Rattle.starlark_sets.specs.Lending as SetLending
 pub use Rattle.starlark_sets.specs.Collect as SetCollect
 pub use Rattle.starlark_sets.specs.Retain as SetRetain
+pub use Rattle.starlark_sets.specs.Others as SetCalling
 pub use Rattle.starlark_sets.specs.Ordered
 pub use Rattle.starlark_sets.specs.OrderedLaws
 pub use Rattle.starlark_sets.specs.OrderedEnd
@@ -52,6 +54,7 @@ pub use Rattle.starlark_json.specs.Fault as JsonFaults
 pub use Rattle.starlark_json.specs.Texts as JsonTexts
 pub use Rattle.starlark_json.specs.Objects as JsonObjects
 pub use Rattle.starlark_json.specs.Arrays as JsonArrays
+pub use Rattle.starlark_unordered.specs.Calling as UnorderedCalling
 pub use Rattle.starlark_unordered.specs.Pairs
 pub use Rattle.starlark_unordered.specs.Bag
 pub use Rattle.starlark_unordered.specs.BagLaws

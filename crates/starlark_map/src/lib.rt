@@ -1,4 +1,4 @@
-//! The collections under Rust's module paths: the one crate that a caller names.
+//! The collections under Rust's module paths: the crate that a caller names first.
 #![tactic(auto)]
 
 pub mod json;
@@ -22,3 +22,4 @@ pub use starlark_hash::{
 pub use starlark_json::JsonFault;
 pub use starlark_runs::{Command, Reply, run};
 pub use starlark_sets::TryInsertError;
+pub use starlark_table::ReadyTable;
