@@ -112,6 +112,13 @@ def types_of(path):
     return found
 
 
+def parted(note):
+    """What a comment says of a call, and what of its refusals."""
+    sentences = re.split(r"(?<=\.) (?=[A-Z`])", note)
+    refused = [s for s in sentences if re.search(r"refus|\bErr\b|handed back|hands .* back|comes back", s)]
+    return " ".join(s for s in sentences if s not in refused), " ".join(refused)
+
+
 def named(path, crate):
     return path.relative_to(TOP / "crates" / crate).as_posix()
 
@@ -130,7 +137,7 @@ def words_page():
 
 
 def calls_page():
-    out = ["# The public calls", "", "Written by `make pages` from the comments of `src/` and the names of the clauses. Where memory is refused, or a call answers an error, the comment says what stands then."]
+    out = ["# The public calls", "", "Written by `make pages` from the comments of `src/` and the names of the clauses."]
     for crate in library():
         tables, types = {}, {}
         for path in tracked(f"crates/{crate}/src/*.rt"):
@@ -140,8 +147,10 @@ def calls_page():
         for owner, rows in tables.items():
             title = f"`{crate}`: `{owner}`" if owner else f"`{crate}`: functions"
             lead = [types[owner], ""] if types.get(owner) else []
-            out += ["", f"## {title}", "", *lead, "| Call | What it does | Clauses | File |", "|---|---|---|---|"]
-            out += [f"| `{call}` | {note} | {', '.join(clauses)} | `{file}` |" for call, note, clauses, file in rows]
+            out += ["", f"## {title}", "", *lead, "| Call | What it does | When it is refused | Clauses | File |", "|---|---|---|---|---|"]
+            for call, note, clauses, file in rows:
+                does, refused = parted(note)
+                out.append(f"| `{call}` | {does} | {refused} | {', '.join(clauses)} | `{file}` |")
     return "\n".join(out) + "\n"
 
 
