@@ -134,9 +134,9 @@ fn near(table: &ReadyTable<u32>, hash: u64, item: u32) -> (bool, u32) {
 
 #[test]
 fn looks_near_the_home_alone(rt: HostRuntime) -> Result<(), Fail> {
-    let table = thousand(rt.alloc(), 5)?;
-    same(&rt, near(&table, 5, 0), (true, 1));
-    same(&rt, near(&table, 5, 999), (false, 32));
+    let table = thousand(rt.alloc(), 0)?;
+    same(&rt, near(&table, 0, 0), (true, 1));
+    same(&rt, near(&table, 0, 999), (false, 32));
     same(&rt, near(&table, 6, 0), (false, 0));
     Ok(())
 }
