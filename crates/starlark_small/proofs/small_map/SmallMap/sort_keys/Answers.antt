@@ -4,15 +4,38 @@ use Rattle.std.proofs.lemmas.Result.{err_from_is_err_and}
 use Rattle.std.proofs.lemmas.List.Sorted.{length_permutation}
 use Rattle.std.proofs.Common.{map, rules}
 use Rattle.std.specs.List.Sorted.{IsSorted}
+use Rattle.std.specs.Prelude.{MatchBool}
 use Rattle.starlark_lists.specs.Entries.{IsSingle, entry_key}
-use Rattle.starlark_lists.specs.Sorting.{key_lt, sorted_by_key}
+use Rattle.starlark_lists.specs.Sorting.{Ascends, key_lt, sorted_by_key}
 use Rattle.starlark_lists.proofs.EntryLemmas.{IsSingle-permutation}
-use Rattle.starlark_lists.proofs.SortingLemmas.{IsPermutation-sorted_by}
+use Rattle.starlark_lists.proofs.SortingLemmas.{IsPermutation-sorted_by, sorted_by-fixed, key_lt-order}
 use Rattle.starlark_small.specs.Index.{index_room}
 use Rattle.starlark_small.proofs.CallerOrder.{keys-sorted, same-entries, same-permuted}
 use Rattle.starlark_small.proofs.Rooms.{KeepsMemory-turned}
 use Rattle.starlark_small.proofs.CallerOwn.{own-permuted, own-same}
 use Rattle.starlark_small.proofs.small_map.SmallMap.sort_keys.Goals as goal
+
+pub returns-then-is_sorted_by_key-clause-entries : goal.returns-then-is_sorted_by_key-clause-entries
+returns-then-is_sorted_by_key-clause-entries g c =
+    let es = c.self.inside.entries.entries in
+    let up = subst (λ b. MatchBool b (Ascends g.K.Ord.cmp es) (Ascends g.K.Ord.cmp es → ⊥)) c.if-is_sorted_by_key.true c.is_sorted_by_key.ensures in
+    rw (← c.self.view_is) (sym (sorted_by-fixed (key_lt g.K.Ord.cmp) (key_lt-order g.met.K.Ord.total) es up))
+
+pub returns-then-is_sorted_by_key-clause-sorted : goal.returns-then-is_sorted_by_key-clause-sorted
+returns-then-is_sorted_by_key-clause-sorted g c =
+    subst (λ l. IsSorted g.K.Ord.cmp (map (entry_key {V = g.row.V.Denot}) l)) (sym (returns-then-is_sorted_by_key-clause-entries g c)) (keys-sorted g.met.K.Ord.total c.args.self.now.entries)
+
+pub returns-in_err-sort_keys-clause-at_once : goal.returns-in_err-sort_keys-clause-at_once
+returns-in_err-sort_keys-clause-at_once g c =
+    let es = c.self.inside.entries.entries in
+    let not_up = subst (λ b. MatchBool b (Ascends g.K.Ord.cmp es) (Ascends g.K.Ord.cmp es → ⊥)) c.if-is_sorted_by_key.false c.is_sorted_by_key.ensures in
+    rw (← c.self.view_is) (λ ascends. absurd (not_up ascends))
+
+pub returns-clause-at_once : goal.returns-clause-at_once
+returns-clause-at_once g c =
+    let es = c.self.inside.entries.entries in
+    let not_up = subst (λ b. MatchBool b (Ascends g.K.Ord.cmp es) (Ascends g.K.Ord.cmp es → ⊥)) c.if-is_sorted_by_key.false c.is_sorted_by_key.ensures in
+    rw (← c.self.view_is) (λ ascends. absurd (not_up ascends))
 
 pub returns-in_err-sort_keys-clause-needed : goal.returns-in_err-sort_keys-clause-needed
 returns-in_err-sort_keys-clause-needed g c =
