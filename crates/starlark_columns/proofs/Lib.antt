@@ -9,6 +9,7 @@ mod Slotting
 mod LentPlaces
 mod ColumnOpens
 mod PairParts
+mod PerhapsThere
 mod EntryOut
 pub mod Fronts
 pub mod NamedClose

@@ -11,4 +11,6 @@ pub mod Front
 pub mod Between
 pub mod ColumnLends
 pub mod Lent
+pub mod Perhaps
+pub mod PerhapsLends
 pub mod formers

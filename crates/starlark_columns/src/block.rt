@@ -1,10 +1,10 @@
 //! The one file with pointers: where a row of places lies, who owns them, and the right to give their block back.
-ghost use Rattle.std.specs.Prelude.{◌≡◌, ℕ, ◌+◌, ◌*◌, ◌^◌, ◌<◌, List, [], Option, Some, None, map, length, get_or, slice_range, IfOk};
+ghost use Rattle.std.specs.Prelude.{◌≡◌, ℕ, ◌+◌, ◌*◌, ◌^◌, ◌<◌, List, [], Option, Some, None, map, length, get_or, slice_range, IfOk, MatchBool};
 ghost use Rattle.std.specs.Borrow.{sem};
 ghost use Rattle.std.specs.Mem.{type_size};
 ghost use Rattle.std.specs.Vec.Ownership.{FitsInBlock};
 ghost use base.Fml.{ftrue};
-ghost use denote.RawPtr.{Ptr};
+ghost use denote.RawPtr.{Ptr, InBlock, Testable, null_ptr};
 ghost use prog.Memory.{capped};
 ghost use Rattle.core.specs.Allocator.{HasLayout};
 ghost use Rattle.core.specs.Mem.Slots.{slots_items, slots_filled, slots_len, slots_ptr};
@@ -16,6 +16,7 @@ use core::slots::Slots;
 use std::alloc::{AllocError, Allocator, Global};
 use std::marker::{Model, PhantomData, Send, Sync};
 use std::mem::{align_of, size_of};
+use std::ptr::{NonNull, null};
 use std::slice;
 
 // Where the first place lies. It owns nothing.
@@ -110,6 +111,23 @@ pub(crate) fn item_align<T>() -> usize
     align_of::<T>()
 }
 
+// The address of no place.
+#[inline]
+pub(crate) fn nowhere<T>() -> Address<T>
+    ensures { result.at ≡ null_ptr }
+{
+    Address { at: null() }
+}
+
+// Whether it is the address of no place.
+#[inline]
+pub(crate) fn is_nowhere<T>(address: Address<T>) -> bool
+    requires { Testable address.at }
+    ensures { MatchBool result (address.at ≡ null_ptr) (InBlock address.at) }
+{
+    NonNull::new(address.at.cast_mut()).is_none()
+}
+
 // Places that take no bytes lie anywhere.
 pub(crate) fn bare<T>(count: usize) -> (Address<T>, Held<T>)
     requires { count * type_size T.row ≡ 0 }
@@ -140,13 +158,22 @@ pub(crate) fn let_go<T>(held: Held<T>, claim: Claim<T, Global>)
     let Claim { mark: _ } = claim;
 }
 
+// The block of a right to `Global` begins where the right is to, so its address may be compared with null.
+#[inline]
+pub(crate) fn known<T>(claim: Claim<T, Global>) -> Claim<T, Global>
+    requires { 0 < claim.count * type_size T.row }
+    ensures { (result ≡ claim) × Testable claim.at }
+{
+    claim
+}
+
 pub(crate) fn allocate<T, A: Allocator>(
     alloc: &A,
     count: usize,
 ) -> Result<(Address<T>, Held<T>, Claim<T, A>), AllocError>
     requires fits { FitsInBlock T.row count }
     requires bytes { 0 < count * type_size T.row }
-    ensures { IfOk result (λ r. (r.1.at ≡ r.0.at) × (r.1.places ≡ empties count) × (r.2.at ≡ r.0.at) × (r.2.count ≡ count) × (r.2.alloc ≡ alloc.now)) }
+    ensures { IfOk result (λ r. (r.1.at ≡ r.0.at) × (r.1.places ≡ empties count) × (r.2.at ≡ r.0.at) × (r.2.count ≡ count) × (r.2.alloc ≡ alloc.now) × InBlock r.0.at) }
 {
     match alloc.allocate(count * size_of::<T>(), align_of::<T>()) {
         Ok(block) => {

@@ -9,8 +9,10 @@ mod held;
 mod layout;
 pub mod loan;
 pub mod pair;
+pub mod perhaps;
 pub mod row;
 
 pub use column::Column;
 pub use loan::Loan;
+pub use perhaps::Perhaps;
 pub use row::Row;

@@ -3,6 +3,7 @@ mod growth;
 mod places;
 mod search;
 
+use starlark_columns::Perhaps;
 use starlark_table::ReadyTable;
 use std::alloc::Global;
 use std::marker::Model;
@@ -10,11 +11,12 @@ use std::marker::Model;
 /// The greatest length that a list may have without an index; a longer one always has one.
 pub const UNINDEXED: usize = 16;
 
-/// Where each entry of a list stands, by its hash; or nothing, where the list is short enough to do without.
+/// Where each entry of a list stands, by its hash; or nothing, where the list is short enough to do without. The table
+/// stands in a block of its own, so that a map takes no more room for it than a pointer.
 #[derive(Drop)]
 pub(crate) struct Index {
-    table: Option<ReadyTable<usize>>,
-    // Where the table gets its memory.
+    table: Perhaps<ReadyTable<usize>>,
+    // Where the table and its block get their memory.
     alloc: Global,
 }
 

@@ -4,6 +4,7 @@ ghost use Rattle.starlark_lists.specs.Entries.{Entry, entry_hash};
 ghost use Rattle.starlark_small.specs.Index.{IsIndexed, index_room, unindexed};
 
 use super::{Index, UNINDEXED};
+use starlark_columns::Perhaps;
 use starlark_hash::StarlarkHashValue;
 use starlark_table::ReadyTable;
 use starlark_vecmap::VecMap;
@@ -15,7 +16,10 @@ impl Index {
     pub(crate) fn none(alloc: Global) -> Self
         ensures { result ≡ None }
     {
-        Index { table: None, alloc }
+        Index {
+            table: Perhaps::none(alloc),
+            alloc,
+        }
     }
 
     /// An index of an empty list, with room for so many entries, where so many need one.
@@ -28,11 +32,8 @@ impl Index {
         if capacity <= UNINDEXED {
             return Ok(Index::none(alloc));
         }
-        let table = ReadyTable::with_capacity(alloc, capacity)?;
-        Ok(Index {
-            table: Some(table),
-            alloc,
-        })
+        let table = Perhaps::of(alloc, ReadyTable::with_capacity(alloc, capacity)?)?;
+        Ok(Index { table, alloc })
     }
 
     /// An index of another list, with room for all that the list has room for, where it is too long to do without.
@@ -65,7 +66,7 @@ impl Index {
         ensures refused { OnErr result (index_room (length entries.now.entries) self.old < additional) }
         ensures unchanged { OnErr result (self.new ≡ self.old) }
     {
-        if let Some(table) = &mut self.table {
+        if let Some(table) = self.table.get_mut() {
             return table.reserve(additional);
         }
         if additional <= UNINDEXED - entries.len() {
@@ -86,7 +87,9 @@ impl Index {
         ensures room { index_room (length entries.now.entries) self.old ≤ 1 + index_room (length entries.now.entries + 1) self.new }
         ensures kept { is_some self.new ≡ is_some self.old }
     {
-        let Some(table) = &mut self.table else { return };
+        let Some(table) = self.table.get_mut() else {
+            return;
+        };
         table.insert_reserved(hash.promote(), entries.len());
     }
 }

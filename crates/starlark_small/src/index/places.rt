@@ -7,6 +7,7 @@ ghost use Rattle.starlark_small.specs.Index.{IsIndexOf, IsIndexed, hashes_in, in
 ghost use Rattle.starlark_table.specs.Table.{members, member_at, table_len};
 
 use super::{Index, UNINDEXED};
+use starlark_columns::Perhaps;
 use starlark_hash::StarlarkHashValue;
 use starlark_table::ReadyTable;
 use starlark_vecmap::VecMap;
@@ -21,7 +22,9 @@ impl Index {
         ensures room { 1 + index_room (length entries.now.entries) self.old ≤ index_room (length (remove entries.now.entries place)) self.new }
         ensures kept { is_some self.new ≡ is_some self.old }
     {
-        let Some(table) = &mut self.table else { return };
+        let Some(table) = self.table.get_mut() else {
+            return;
+        };
         remove_place(table, entries, place);
     }
 
@@ -34,7 +37,9 @@ impl Index {
         ensures room { length entries.now.entries + index_room (length entries.now.entries) self.old ≤ index_room 0 self.new }
         ensures kept { is_some self.new ≡ is_some self.old }
     {
-        let Some(table) = &mut self.table else { return };
+        let Some(table) = self.table.get_mut() else {
+            return;
+        };
         let len = entries.len();
         if len.saturating_mul(len) > table.len().saturating_add(table.room()) {
             table.clear();
@@ -54,7 +59,9 @@ impl Index {
         ensures room { index_room 0 self.old ≤ length entries.now.entries + index_room (length entries.now.entries) self.new }
         ensures kept { is_some self.new ≡ is_some self.old }
     {
-        let Some(table) = &mut self.table else { return };
+        let Some(table) = self.table.get_mut() else {
+            return;
+        };
         for i in 0..entries.len() {
             let hash = entries.get_unchecked(i).0.hash();
             table.insert_reserved(hash.promote(), i);
@@ -66,7 +73,7 @@ impl Index {
         ensures { self.new ≡ (if nat_le len unindexed then None else self.old) }
     {
         if len <= UNINDEXED {
-            self.table = None;
+            self.table = Perhaps::none(self.alloc);
         }
     }
 }

@@ -25,7 +25,7 @@ impl Index {
         requires callable { CanSearch F.FnMut (keys_under hash entries.now.entries) eq }
         ensures { (last : F) × Searches F.FnMut (keys_under hash entries.now.entries) eq result last }
     {
-        let Some(table) = &self.table else {
+        let Some(table) = self.table.get() else {
             return entries.get_index_of_hashed_raw(hash, eq);
         };
         table
@@ -50,7 +50,7 @@ impl Index {
         requires sound { IsSound K.eq entries.now.entries self.now }
         ensures { result ≡ query_match Q.equivalent entries.now.entries key.entry }
     {
-        match &self.table {
+        match self.table.get() {
             Some(_) => {
                 let query = *key.key();
                 self.find(entries, key.hash(), |k: &K| query.equivalent(k))
@@ -65,7 +65,7 @@ impl Index {
         requires { IsIndexed entries.now.entries self.now }
         ensures { result ≡ index_room (length entries.now.entries) self.now }
     {
-        match &self.table {
+        match self.table.get() {
             Some(table) => table.room(),
             None => UNINDEXED - entries.len(),
         }
@@ -76,6 +76,6 @@ impl Index {
     pub(crate) fn table(&self) -> Option<&ReadyTable<usize>>
         ensures { option_copied result ≡ self.now }
     {
-        self.table.as_ref()
+        self.table.get()
     }
 }

@@ -1,6 +1,7 @@
 -- `allocate` asks for an array's block, and keeps its bare places apart from the right to give it back. Assumes `Logic`.
 use Rattle.starlark_columns.proofs.Walking.{◌≡◌, ℕ, ◌*◌, ◌<◌, ◌^◌, Option, Bool, true, false, List, [], ◌∷◌, length, refl, sym, ap, subst, arith, lit<, w64, IfOk, Ok, Err, Fml, ftrue, fsep, froom, flft, Incl-trans, SProp, emp, ◌⊑◌, fact, fact_i, tables, eqb, length-replicate, cond, inst_fn, Ty, named, ty_array, Val, vint, vptr, vstruct, vcons, vnil, WT, capped_fits, align, capped, Wp, after_seq, at_return, alloc_all, pass_all, free_all, look_at, get, get_in, get_tag, is, sets, sets_last, lands_as, env, After, any_q, ‵, raw, ◌⊛◌, later, at_ret, ◌$◌, ◌∵◌, !, qed, by, move, keep, use0, use1, use2, use3, split, join, rewrite, fsplit, fjoin, fjoin3, flt_i, await, live, vrt, in_variant, whole, agg, stop, fld, lit, size_word, align_word, no_more, and_then, of_opd, bin, first, switches_on, exec, returns, enter, RefOf, usize, yes, Is, param, uint_vals, uint_Tells, RattleType, owns, Ptr, block_ptr, shr_vals, shr_Tells, plain, types_at, heard, nothing, owned, Struct, Struct-Makes, Tuple, calls_at, framed, Stays, stay_dropped, walk_of, Goes-dropped, Al, token, Answer-typed, Takes, at_takes, Answered, Takes-goes, Takes-gives, answers, El, elτ, after, head, arm_body, uncapped, block_ty, block_size, block_align, args, proved, leaves, type_size, FitsInBlock, ok_of, err_of}
 use Rattle.std.proofs.Common.{None}
+use denote.RawPtr.{InBlock}
 use mir.Syntax.{Body}
 use denote.Struct.Declared as Declared
 use Rattle.core.proofs.mem.Param.{R}
@@ -31,7 +32,7 @@ allocate_spec 𝓤 𝓛 𝓜 𝓡 wired X U L LU g d dd met _ =
     let κ = κs.0 in let q = qs.0 in let hp : ℕ × ℕ = a.0.ref_ptr in let h : U.Denot = a.0.now in let n : ℕ = a.1.0 in let s : ℕ = type_size (R E) in let al : ℕ = capped (align (elτ E)) in let τ : Ty = block_ty E n in
     let y : (walk_of 𝓛 En hs c).Ghost = ((κs, qs, bounds, a, (vptr hp.0 hp.1 ∷ [], (vint w64 n ∷ [], tt))), gh) in let Post : Val → SProp 𝓤 = (walk_of 𝓛 En hs c).post y in
     let others : Fml = fsep (flft κs.1.0 qs.1.0) (fsep (flft κs.1.1.0 qs.1.1.0) ftrue) in let cs : List (Option X.Denot) = empties n in
-    let Told : Out.Denot → Type 0 = λ r. IfOk r (λ t. (t.1.at ≡ t.0.at) × (t.1.places ≡ cs) × (t.2.at ≡ t.0.at) × (t.2.count ≡ n) × (t.2.alloc ≡ h)) in
+    let Told : Out.Denot → Type 0 = λ r. IfOk r (λ t. (t.1.at ≡ t.0.at) × (t.1.places ≡ cs) × (t.2.at ≡ t.0.at) × (t.2.count ≡ n) × (t.2.alloc ≡ h) × InBlock t.0.at) in
     qed 𝓛 (((‵ (flft κ q) ⊛ ‵ others) ⊛ ‵ (owns (types_at En.signature.params κs) a y.0.4)) ∷ raw (fact 𝓤 (κs.1.0 ⊑ X.lives)) ∷ raw (fact 𝓤 (κs.1.1.0 ⊑ U.lives)) ∷ raw (fact 𝓤 (FitsInBlock (R E) n)) ∷ raw (fact 𝓤 (0 < n * s)) ∷ []) ∵
     keep ! (2 ∷ 3 ∷ 4 ∷ 0 ∷ []) $ heard ! (κs.1.1.0 ⊑ U.lives) (λ within. heard ! (FitsInBlock (R E) n) (λ fits. heard ! (0 < n * s) (λ some. split ! $ split ! $ move ! (2 ∷ []) $ fsplit ! $ fsplit ! $ keep ! (1 ∷ 3 ∷ 4 ∷ []) $
     let small : n * s < 2 ^ 63 = fits.0 in let bytes : n * s < 2 ^ 64 = omega arith in
@@ -66,7 +67,7 @@ allocate_spec 𝓤 𝓛 𝓜 𝓡 wired X U L LU g d dd met _ =
     use0 𝓛 (‵ (At.own_val x.0 (word p ∷ []))) (address_made (R E) 𝓛 p) $
     use3 𝓛 (‵ (Three.own_val x (u ∷ []))) (three 𝓛 At Own x.0 x.1 (word p) mark Right x.2 mark) $
     use1 𝓛 (‵ (Out.own_val (Ok x) (r ∷ []))) (ok_of 𝓛 Three refusal.the_row x u) $
-    use0 𝓛 (raw (fact 𝓤 (Told (Ok x)))) (fact_i 𝓤 (Told (Ok x)) (emp 𝓤) (refl, refl, refl, refl, refl)) $ nothing ! $ nothing ! $ nothing ! $ fjoin3 ! $
+    use0 𝓛 (raw (fact 𝓤 (Told (Ok x)))) (fact_i 𝓤 (Told (Ok x)) (emp 𝓤) (refl, refl, refl, refl, refl, tt)) $ nothing ! $ nothing ! $ nothing ! $ fjoin3 ! $
     keep ! (3 ∷ 0 ∷ 2 ∷ 1 ∷ []) $ by ! (leaves 𝓛 En hs c y r (Ok x) (tt, (tt, tt)) (tt, (tt, tt))))
     (λ e. let u : Val = vstruct vnil in let r : Val = live 1 (vcons u vnil) in let none : WT r = (record { fits = lit< tt }, (tt, tt)) in
     lands_as ! e refl (Answer-typed false 0 0) $ first ! $ switches_on ! (get_tag ! (vrt ! refl (fld ! refl (stop !))) (whole !)) $ exec ! 𝓣.C 𝓣.Λ Ev (arm_body 1 both) Then $

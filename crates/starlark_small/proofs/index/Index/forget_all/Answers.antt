@@ -1,5 +1,6 @@
 use Rattle.std.proofs.Common.{◌∷◌, ◌+◌, ◌≤◌, ◌∙◌, subst, sym, ap, length, IsPermutation, arith}
 use mathlib.Core.Path.{subst⁻¹}
+use Rattle.std.specs.Option.{option_copied_mut}
 use Rattle.std.specs.List.{Contains}
 use Rattle.std.proofs.lemmas.List.Sorted.{length_permutation}
 use Rattle.starlark_hash.specs.HashValue.{promoted}
@@ -12,27 +13,28 @@ use Rattle.starlark_small.proofs.index.Index.forget_all.Goals as goal
 
 pub returns-in_default-clause-room : goal.returns-in_default-clause-room
 returns-in_default-clause-room g c =
-    let was = sym c.self.view_is ∙ c.in_default.is in
+    let none = sym c.get_mut.ensures.value ∙ ap option_copied_mut c.in_default.is in
+    let was = sym c.self.view_is ∙ none in
     let short = subst (λ o. IsIndexed c.requires.0 o) was c.requires.1 in
-    simp (was, c.in_default.is) (omega (arith, short, length_permutation c.requires.0 c.args.entries.now.entries c.requires.2))
+    simp (was, none) (omega (arith, short, length_permutation c.requires.0 c.args.entries.now.entries c.requires.2))
 
 pub returns-then-saturating_mul-saturating_add-clause-room : goal.returns-then-saturating_mul-saturating_add-clause-room
 returns-then-saturating_mul-saturating_add-clause-room g c =
     let es = c.args.entries.now.entries in
-    let was = sym c.self.view_is ∙ c.in-Some.is in
-    let all = IsIndexOf-len c.requires.0 c.in-Some.table (subst (λ o. IsIndexed c.requires.0 o) was c.requires.1) in
+    let was = sym c.self.view_is ∙ sym c.get_mut.ensures.value ∙ ap option_copied_mut c.in-Some.is in
+    let all = IsIndexOf-len c.requires.0 c.in-Some.table.now (subst (λ o. IsIndexed c.requires.0 o) was c.requires.1) in
     subst⁻¹ (λ o. length es + index_room (length es) o ≤ c.clear.new.self.room) was
     (omega (arith, c.clear.ensures.room, all, length_permutation c.requires.0 es c.requires.2))
 
 pub loop-i-init : goal.loop-i-init
 loop-i-init g c =
     let es = c.args.entries.now.entries in
-    let was = sym c.self.view_is ∙ c.in-Some.is in
+    let was = sym c.self.view_is ∙ sym c.get_mut.ensures.value ∙ ap option_copied_mut c.in-Some.is in
     let index = subst (λ o. IsIndexed c.requires.0 o) was c.requires.1 in
-    let all = IsIndexOf-len c.requires.0 c.in-Some.table index in
+    let all = IsIndexOf-len c.requires.0 c.in-Some.table.now index in
     record {
-      left = left-all c.requires.0 es c.in-Some.table index c.requires.2;
-      room = subst⁻¹ (λ o. length es + index_room (length es) o ≤ table_len c.in-Some.table + c.in-Some.table.room) was
+      left = left-all c.requires.0 es c.in-Some.table.now index c.requires.2;
+      room = subst⁻¹ (λ o. length es + index_room (length es) o ≤ table_len c.in-Some.table.now + c.in-Some.table.now.room) was
           (omega (arith, all, length_permutation c.requires.0 es c.requires.2));
     }
 

@@ -1,5 +1,6 @@
 use Rattle.std.proofs.Common.{◌≡◌, ◌∷◌, ◌+◌, ◌<◌, ◌≤◌, ◌^◌, [], length, sym, ◌∙◌, ap, subst, IsPermutation, arith, take}
 use mathlib.Core.Path.{subst⁻¹}
+use Rattle.std.specs.Option.{option_copied_mut}
 use Rattle.std.proofs.lemmas.List.{length-take}
 use Rattle.starlark_hash.specs.HashValue.{promoted}
 use Rattle.starlark_table.specs.Table.{members}
@@ -10,10 +11,10 @@ use Rattle.starlark_small.proofs.index.Index.note_all.Goals as goal
 
 pub loop-i-init : goal.loop-i-init
 loop-i-init g c =
-    let was = sym c.self.view_is ∙ c.in-Some.is in
+    let was = sym c.self.view_is ∙ sym c.get_mut.ensures.value ∙ ap option_copied_mut c.in-Some.is in
     record {
       index = subst (λ o. IsIndexed {K = g.row.K.Denot} {V = g.row.V.Denot} [] o) was c.requires.empty;
-      room = subst⁻¹ (λ o. index_room 0 o ≤ 0 + c.in-Some.table.room) was (omega arith);
+      room = subst⁻¹ (λ o. index_room 0 o ≤ 0 + c.in-Some.table.now.room) was (omega arith);
     }
 
 pub loop-i-preserved : goal.loop-i-preserved
