@@ -2,6 +2,7 @@
 use Rattle.std.proofs.Common.{◌≡◌, ℕ, ◌<◌, Bool, List, [], ◌∷◌, ◌++◌, length, slice_get, Some, None, is_some, sym, ap, subst, ◌∙◌, arith, refl}
 use Rattle.std.specs.Prelude.{◌||◌, nat_lt}
 use Rattle.std.specs.Option.{option_map}
+use mathlib.Core.Logic.{inl}
 use Rattle.std.proofs.lemmas.Bool.{false≢true}
 use Rattle.std.proofs.lemmas.List.{length_push}
 use Rattle.std.proofs.lemmas.Option.{same_Some}
@@ -59,7 +60,7 @@ module _ {K V : Type 0} (eq : K → K → Bool) (old : Map K V) (key : Hashed K)
         replaced = λ there. refl;
         spare = λ some. (refl, refl);
         room = omega (arith, as_long);
-        capacity = (omega arith, omega arith);
+        capacity = inl refl;
         grown = λ longer. absurd (omega (arith, longer, as_long));
         indexed = subst (λ n. old.indexed ≡ (old.indexed || nat_lt unindexed n)) (sym as_long) short;
       }

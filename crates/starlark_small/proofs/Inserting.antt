@@ -1,5 +1,5 @@
--- Insertions one after the other, and how the room and the capacity follow them.
-use Rattle.std.proofs.Common.{◌≡◌, ℕ, ◌+◌, ◌*◌, ◌<◌, ◌≤◌, max, Bool, true, false, List, [], ◌∷◌, ◌++◌, length, map, Option, Some, None, refl, sym, ap, ◌∙◌, subst, arith}
+-- Insertions one after the other, and how the room follows them.
+use Rattle.std.proofs.Common.{◌≡◌, ℕ, ◌+◌, ◌<◌, ◌≤◌, Bool, true, false, List, [], ◌∷◌, ◌++◌, length, map, Option, Some, None, refl, sym, ap, ◌∙◌, subst, arith}
 use Rattle.std.specs.Prelude.{◌||◌, is_some, nat_lt, IsSome}
 use Rattle.std.proofs.lemmas.Bool.Decides.{nat_tests}
 use Rattle.std.specs.Iterator.{Yields}
@@ -9,9 +9,11 @@ use Rattle.starlark_hash.specs.declared.hashed.Hashed.{Hashed}
 use Rattle.starlark_lists.specs.Entries.{Entry, insert_entry, match_of, set_value_at}
 use Rattle.starlark_lists.proofs.EntryLemmas.{length-set_value_at}
 use Rattle.starlark_small.specs.Collect.{insert_all}
+use Rattle.starlark_small.specs.Growth.{StaysOrGrows, stepped_capacity}
 use Rattle.starlark_small.specs.Index.{unindexed}
 use Rattle.starlark_small.specs.Inserted.{LeavesMemory}
-use Rattle.starlark_small.specs.Map.{Map, GrowsFor, KeepsRoom}
+use Rattle.starlark_small.specs.Map.{Map, KeepsRoom}
+use Rattle.starlark_small.proofs.Growing.{stepped_none, stepped_inserted, stepped_refused}
 
 -- one item more came
 pub yields_more : {S A : Type 0} (steps : S → Option A → S → Type 0) (s t u : S) (xs : List A) (x : A) → Yields steps s xs t → steps t (Some x) u → Yields steps s (xs ++ x ∷ []) u
@@ -51,11 +53,6 @@ module _ {K V : Type 0} (eq : K → K → Bool) where
   length_le_inserted : (es last : List (Entry K V)) (key : Hashed K) (value : V) → last ≡ insert_entry eq es key value → length es ≤ length last
   length_le_inserted es last key value put = subst (λ l. length es ≤ length l) (sym put) (length_le_insert es key value)
 
--- capacities that grow for one length, and then for one that is as great
-grows_on : (first mid last len len' : ℕ) → (first ≤ mid) × (mid ≤ max first (max 4 (2 * (len + 1)))) → (mid ≤ last) × (last ≤ max mid (max 4 (2 * (len + 1)))) → len ≤ len'
-    → (first ≤ last) × (last ≤ max first (max 4 (2 * (len' + 1))))
-grows_on first mid last len len' a b c = (omega (arith, a.0, b.0), omega (arith, a.1, b.1, c))
-
 -- where there is room for all items, there is room for each that comes
 room_for_next : (first seen mid spare room all left after : ℕ) → first + room ≤ mid + spare → mid ≤ first + seen → seen + left ≤ all → after < left → all ≤ room → 0 < spare
 room_for_next first seen mid spare room all left after a b c d e = omega arith
@@ -75,16 +72,28 @@ pub record IsFilled {K V A : Type 0} (eq : K → K → Bool) (item : A → Entry
   pub entries : now.entries ≡ insert_all eq first.entries (map item seen)
   pub room : KeepsRoom first now
   pub added : length now.entries ≤ length first.entries + length seen
-  pub capacity : GrowsFor (length now.entries + 1) first now
+  pub longer : length first.entries ≤ length now.entries
+  pub capacity : now.capacity ≡ stepped_capacity first now
+  pub indexed : now.indexed ≡ (first.indexed || nat_lt unindexed (length now.entries))
+  pub spare : all ≤ first.room → (now.capacity ≡ first.capacity) × (now.indexed ≡ first.indexed)
+
+-- a map where these items went in, and one more was refused
+pub record IsStopped {K V A : Type 0} (eq : K → K → Bool) (item : A → Entry K V) (all : ℕ) (first : Map K V) (seen : List A) (now : Map K V) : Type 0 where
+  pub entries : now.entries ≡ insert_all eq first.entries (map item seen)
+  pub room : KeepsRoom first now
+  pub left : first.room ≤ now.room + all
+  pub full : length first.entries + first.room ≤ length now.entries
+  pub lacked : all ≤ first.room → ⊥
+  pub capacity : StaysOrGrows 1 (record now { capacity = stepped_capacity first now }) now
   pub indexed : now.indexed ≡ (first.indexed || nat_lt unindexed (length now.entries))
   pub spare : all ≤ first.room → (now.capacity ≡ first.capacity) × (now.indexed ≡ first.indexed)
 
 pub filled_none : {K V A : Type 0} {eq : K → K → Bool} {item : A → Entry K V} {all : ℕ} (first : Map K V) → first.indexed ≡ (first.indexed || nat_lt unindexed (length first.entries)) → IsFilled eq item all first [] first
-filled_none first had = record { entries = refl; room = omega arith; added = omega arith; capacity = (omega arith, omega arith); indexed = had; spare = λ _. (refl, refl) }
+filled_none first had = record { entries = refl; room = omega arith; added = omega arith; longer = omega arith; capacity = stepped_none first; indexed = had; spare = λ _. (refl, refl) }
 
 -- a further item is tried
 module _ {K V A : Type 0} {eq : K → K → Bool} {item : A → Entry K V} {all : ℕ} {first : Map K V} {seen : List A} {mid : Map K V} (last : Map K V) (held : IsFilled eq item all first seen mid)
-    {left after : ℕ} (counted : length seen + left ≤ all) (fewer : after < left) {key : Hashed K} (leaves : LeavesMemory eq mid key last) where
+    {left after : ℕ} (counted : length seen + left ≤ all) (fewer : after < left) (x : A) (leaves : LeavesMemory eq mid (item x).0 last) where
   has_room : all ≤ first.room → 0 < mid.room
   has_room fits = room_for_next (length first.entries) (length seen) (length mid.entries) mid.room first.room all left after held.room held.added counted fewer fits
 
@@ -92,30 +101,30 @@ module _ {K V A : Type 0} {eq : K → K → Bool} {item : A → Entry K V} {all 
   on_spare fits = ((leaves.spare (has_room fits)).0 ∙ (held.spare fits).0, (leaves.spare (has_room fits)).1 ∙ (held.spare fits).1)
 
   -- it went in
-  pub filled_more : (x : A) → last.entries ≡ insert_entry eq mid.entries (item x).0 (item x).1 → IsFilled eq item all first (seen ++ x ∷ []) last
-  filled_more x put =
+  pub filled_more : last.entries ≡ insert_entry eq mid.entries (item x).0 (item x).1 → IsFilled eq item all first (seen ++ x ∷ []) last
+  filled_more put =
       let longer = length_le_inserted eq mid.entries last.entries (item x).0 (item x).1 put in
       record {
         entries = insert_all_next eq item first.entries seen x mid.entries last.entries held.entries put;
         room = omega (arith, held.room, leaves.room);
         added = omega (arith, length_inserted_le eq mid.entries last.entries (item x).0 (item x).1 put, held.added, length_push seen x);
-        capacity = grows_on first.capacity mid.capacity last.capacity (length mid.entries) (length last.entries) held.capacity leaves.capacity longer;
+        longer = omega (arith, held.longer, longer);
+        capacity = stepped_inserted first mid last held.longer held.capacity eq (item x).0 (item x).1 put leaves;
         indexed = indexed_on first.indexed mid.indexed last.indexed (length mid.entries) (length last.entries) held.indexed leaves.indexed longer;
         spare = on_spare;
       }
 
   -- it was refused: the room is used up, so there was not room for all
-  pub filled_still : last.entries ≡ mid.entries → mid.room ≡ 0 → IsFilled eq item all first seen last × (length first.entries + first.room ≤ length last.entries) × (all ≤ first.room → ⊥)
+  pub filled_still : last.entries ≡ mid.entries → mid.room ≡ 0 → IsStopped eq item all first seen last
   filled_still same full =
-      let as_long : length last.entries ≡ length mid.entries = ap length same in (
-        record {
-          entries = same ∙ held.entries;
-          room = omega (arith, held.room, leaves.room);
-          added = omega (arith, held.added, as_long);
-          capacity = grows_on first.capacity mid.capacity last.capacity (length mid.entries) (length last.entries) held.capacity leaves.capacity (omega (arith, as_long));
-          indexed = indexed_on first.indexed mid.indexed last.indexed (length mid.entries) (length last.entries) held.indexed leaves.indexed (omega (arith, as_long));
-          spare = on_spare;
-        },
-        omega (arith, held.room, full, as_long),
-        λ fits. omega (arith, has_room fits, full),
-      )
+      let as_long : length last.entries ≡ length mid.entries = ap length same in
+      record {
+        entries = same ∙ held.entries;
+        room = omega (arith, held.room, leaves.room);
+        left = omega (arith, held.room, leaves.room, held.added, counted, as_long);
+        full = omega (arith, held.room, full, as_long);
+        lacked = λ fits. omega (arith, has_room fits, full);
+        capacity = stepped_refused first mid last held.longer held.capacity same leaves.capacity;
+        indexed = indexed_on first.indexed mid.indexed last.indexed (length mid.entries) (length last.entries) held.indexed leaves.indexed (omega (arith, as_long));
+        spare = on_spare;
+      }

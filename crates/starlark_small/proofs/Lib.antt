@@ -12,6 +12,7 @@ pub mod SmallMapOpen
 pub mod SameEntries
 pub mod Cloned
 pub mod Retained
+pub mod Growing
 pub mod Inserting
 pub mod EntryWritten
 pub mod CallerPositions

@@ -1,11 +1,12 @@
 -- Maps of an iterator's items.
-use Rattle.std.specs.Prelude.{◌≡◌, ◌≤◌, ◌+◌, ◌*◌, ℕ, max, List, [], ◌∷◌, ◌++◌, Bool, Option, None, Result, MatchResult, ◌||◌, nat_lt, length, map}
+use Rattle.std.specs.Prelude.{◌≡◌, ◌≤◌, ◌+◌, ℕ, List, [], ◌∷◌, ◌++◌, Bool, Option, None, Result, MatchResult, ◌||◌, nat_lt, length, map}
 use Rattle.std.specs.Hash.{HashWrites}
 use Rattle.std.specs.Iterator.{Count, Drains, Yields}
 use Rattle.std.specs.Iterator.SizeHint.{IsWithinCount}
 use Rattle.starlark_lists.specs.Entries.{Entry, insert_entry, match_of}
 use Rattle.starlark_small.specs.Index.{unindexed}
 use Rattle.starlark_small.specs.Map.{Map, own_hashed}
+use Rattle.starlark_vec2.specs.PairList.{pair_list, push_all}
 
 -- the entry of a pair, under its key's own hash
 abbrev pub own_entry : {K V : Type 0} → (K → HashWrites) → K × V → Entry K V
@@ -38,8 +39,8 @@ module _ {K V : Type 0} (eq : K → K → Bool) where
       pub inserts : Inserts it old new r
 
     -- the map has all of the iterator's items, inserted into one that had room for a number of them within what the iterator
-    -- bounds; the capacity rose from that number at most to the larger of 4 and twice one more than the length; and there is an
-    -- index if that number, or the length now, is above the threshold
+    -- bounds; the capacity is what that number became while the entries came one after the other; and there is an index if that
+    -- number, or the length now, is above the threshold
     pub record Collects {U : Type 0} (becomes : U → T → Type 0) (remaining : T → Count) (iter : U) (m : Map K V) : Type 0 where
       pub it : T
       pub made : becomes iter it
@@ -49,5 +50,5 @@ module _ {K V : Type 0} (eq : K → K → Bool) where
       pub drained : Drains steps it items
       pub entries : m.entries ≡ insert_all [] (map item items)
       pub room : first ≤ length m.entries + m.room
-      pub capacity : m.capacity ≤ max first (max 4 (2 * (length m.entries + 1)))
+      pub capacity : m.capacity ≡ (push_all (pair_list [] first) m.entries).capacity
       pub indexed : m.indexed ≡ (nat_lt unindexed first || nat_lt unindexed (length m.entries))

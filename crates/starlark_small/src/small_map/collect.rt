@@ -3,8 +3,9 @@ ghost use Rattle.std.specs.Prelude.{◌≡◌, ◌+◌, ◌≤◌, ◌||◌, len
 ghost use Rattle.std.specs.Iterator.{IsFiniteIterable, IsFinite, size};
 ghost use Rattle.starlark_small.specs.Calling.{AreOwn};
 ghost use Rattle.starlark_small.specs.Collect.{Collects, Extends, Inserts, own_entry};
+ghost use Rattle.starlark_small.specs.Growth.{GrowsInSteps};
 ghost use Rattle.starlark_small.specs.Index.{unindexed};
-ghost use Rattle.starlark_small.specs.Map.{GrowsFor, KeepsRoom};
+ghost use Rattle.starlark_small.specs.Map.{KeepsRoom};
 
 use super::SmallMap;
 use crate::index::UNINDEXED;
@@ -15,7 +16,8 @@ use std::hash::Hash;
 impl<K: Eq + Hash + Drop, V: Drop> SmallMap<K, V> {
     /// Inserts the items in their order, each under its key's own hash, as `insert` does. It reserves nothing, and
     /// where there is room for all of them, capacity and index stay. Where a new key is refused, the items that came
-    /// before are there and have used up the room, and it and the others are dropped. The iterator must end.
+    /// before are there and have used up the room, and it and the others are dropped. The capacity grows as by
+    /// insertions one after the other. The iterator must end.
     pub fn extend<I: IntoIterator<Item = (K, V)>>(&mut self, iter: I) -> Result<(), AllocError>
         requires { IsFiniteIterable I.into_iter_gives I.IntoIter.can_next I.IntoIter.remaining iter }
         ensures entries { Extends K.eq (own_entry K.hash_input) I.IntoIter.next_gives I.into_iter_gives iter self.old.entries self.new.entries result }
@@ -25,17 +27,16 @@ impl<K: Eq + Hash + Drop, V: Drop> SmallMap<K, V> {
         ensures own { AreOwn K.hash_input self.old → AreOwn K.hash_input self.new }
         ensures full { OnErr result (length self.old.entries + self.old.room ≤ length self.new.entries) }
         ensures room { KeepsRoom self.old self.new }
-        ensures capacity { GrowsFor (length self.new.entries + 1) self.old self.new }
+        ensures capacity { GrowsInSteps self.old self.new result }
         ensures indexed { self.new.indexed ≡ (self.old.indexed || nat_lt unindexed (length self.new.entries)) }
     {
         self.insert_items(iter.into_iter())
     }
 
     /// A map of the items, inserted in their order, each under its key's own hash. It begins with room for the lower
-    /// bound of the iterator's `size_hint`. Where memory is refused, nothing is made and the items are dropped. The
-    /// capacity is at most the largest of that room, 4 and twice one more than the length, and there is an index
-    /// exactly where that room or the length is above `UNINDEXED`. Without items it is not refused. The iterator must
-    /// end.
+    /// bound of the iterator's `size_hint`, and from there the capacity grows as by insertions one after the other.
+    /// Where memory is refused, nothing is made and the items are dropped. There is an index exactly where that room or
+    /// the length is above `UNINDEXED`. Without items it is not refused. The iterator must end.
     pub fn from_iter<I: IntoIterator<Item = (K, V)>>(
         alloc: Global,
         iter: I,
@@ -61,7 +62,7 @@ impl<K: Eq + Hash + Drop, V: Drop> SmallMap<K, V> {
         ensures left { self.old.room ≤ self.new.room + size (I.remaining items) }
         ensures full { OnErr result (length self.old.entries + self.old.room ≤ length self.new.entries) }
         ensures room { KeepsRoom self.old self.new }
-        ensures capacity { GrowsFor (length self.new.entries + 1) self.old self.new }
+        ensures capacity { GrowsInSteps self.old self.new result }
         ensures indexed { self.new.indexed ≡ (self.old.indexed || nat_lt unindexed (length self.new.entries)) }
     {
         prove!(self.index().is_some() || self.len() <= UNINDEXED);
@@ -103,7 +104,7 @@ impl<K: Eq + Drop, V: Drop> SmallMap<K, V> {
         ensures succeeds { size (I.remaining items) ≤ self.old.room → IsOk result }
         ensures full { OnErr result (length self.old.entries + self.old.room ≤ length self.new.entries) }
         ensures room { KeepsRoom self.old self.new }
-        ensures capacity { GrowsFor (length self.new.entries + 1) self.old self.new }
+        ensures capacity { GrowsInSteps self.old self.new result }
         ensures indexed { self.new.indexed ≡ (self.old.indexed || nat_lt unindexed (length self.new.entries)) }
     {
         prove!(self.index().is_some() || self.len() <= UNINDEXED);

@@ -56,9 +56,9 @@ impl<K: Eq, V> SmallMap<K, V> {
     /// Inserts under this hash. A key that is there keeps its place and its stored key and takes the value, whose old
     /// one is answered; a new key goes last. Only a new key is refused, where there is no room and no memory is found:
     /// it comes back with its value, and entries and index stay. With room to spare capacity and index stay too. Else
-    /// the capacity grows as that of a `Vec2` does, at most to the larger of 4 and twice the new length, and may have
-    /// grown where the key is refused. There is an index afterwards exactly where there was one, or where the list is
-    /// now longer than `UNINDEXED`. Length plus room never falls.
+    /// the capacity grows as that of a `Vec2` does, and may have grown where the key is refused: a second refusal grows
+    /// it no further. There is an index afterwards exactly where there was one, or where the list is now longer than
+    /// `UNINDEXED`. Length plus room never falls.
     pub fn insert_hashed(
         &mut self,
         key: Hashed<K>,
@@ -96,9 +96,9 @@ impl<K: Eq, V> SmallMap<K, V> {
     }
 
     /// Makes room for so many new entries. Where the room is there it asks for no memory and changes nothing. A refusal
-    /// leaves entries and index. The capacity grows as that of a `Vec2` does, at most to the larger of 4 and twice the
-    /// length asked for, and may have grown where the rest is refused. Where nothing is refused, there is an index
-    /// exactly where there was one, or where the length asked for is above `UNINDEXED`. Length plus room never falls.
+    /// leaves entries and index. The capacity grows as that of a `Vec2` does, and may have grown where the rest is
+    /// refused: a second refusal grows it no further. Where nothing is refused, there is an index exactly where there
+    /// was one, or where the length asked for is above `UNINDEXED`. Length plus room never falls.
     #[inline]
     pub fn reserve(&mut self, additional: usize) -> Result<(), AllocError>
         ensures reserved { OnOk result (IsReserved self.old additional self.new) }

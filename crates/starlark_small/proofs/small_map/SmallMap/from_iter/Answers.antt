@@ -1,5 +1,6 @@
 use Rattle.std.specs.Prelude.{◌||◌, nat_lt}
 use Rattle.std.proofs.Common.{◌≡◌, [], length, map, ap, ◌∙◌, arith}
+use Rattle.starlark_small.proofs.Growing.{stepped_from}
 use Rattle.starlark_small.specs.Collect.{insert_all, own_entry}
 use Rattle.starlark_small.specs.Index.{unindexed}
 use Rattle.starlark_small.proofs.CallerOwn.{own-empty, own-inserted_all}
@@ -18,7 +19,7 @@ returns-clause-map g c =
       drained = put.ended;
       entries = put.entries ∙ ap (λ l. insert_all g.K.PartialEq.eq l (map (own_entry g.K.Hash.hash_input) put.items)) none;
       room = omega (arith, c.insert_items.ensures.room, c.in_ok-map.ensures.room, ap length none);
-      capacity = omega (arith, c.insert_items.ensures.capacity.1, c.in_ok-map.ensures.capacity);
+      capacity = c.in_ok-insert_items.ensures.capacity ∙ stepped_from c.in_ok-map.map c.insert_items.new.self c.size_hint.result.0 none c.in_ok-map.ensures.capacity;
       indexed = c.in_ok-insert_items.ensures.indexed ∙ ap (λ had. had || nat_lt unindexed (length c.insert_items.new.self.entries)) c.in_ok-map.ensures.indexed;
     }
 

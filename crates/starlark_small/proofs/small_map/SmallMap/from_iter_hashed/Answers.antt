@@ -1,6 +1,7 @@
 use Rattle.std.specs.Prelude.{◌||◌, nat_lt}
 use Rattle.std.proofs.Common.{◌≡◌, [], length, map, ap, ◌∙◌, arith}
 use Rattle.starlark_lists.specs.Entries.{Entry}
+use Rattle.starlark_small.proofs.Growing.{stepped_from}
 use Rattle.starlark_small.specs.Collect.{insert_all}
 use Rattle.starlark_small.specs.Index.{unindexed}
 use Rattle.starlark_small.proofs.small_map.SmallMap.from_iter_hashed.Goals as goal
@@ -18,6 +19,6 @@ returns-clause-map g c =
       drained = put.ended;
       entries = put.entries ∙ ap (λ l. insert_all g.K.PartialEq.eq l (map (λ (x : Entry g.row.K.Denot g.row.V.Denot). x) put.items)) none;
       room = omega (arith, c.insert_entries.ensures.room, c.in_ok-map.ensures.room, ap length none);
-      capacity = omega (arith, c.insert_entries.ensures.capacity.1, c.in_ok-map.ensures.capacity);
+      capacity = c.in_ok-insert_entries.ensures.capacity ∙ stepped_from c.in_ok-map.map c.insert_entries.new.self c.size_hint.result.0 none c.in_ok-map.ensures.capacity;
       indexed = c.in_ok-insert_entries.ensures.indexed ∙ ap (λ had. had || nat_lt unindexed (length c.insert_entries.new.self.entries)) c.in_ok-map.ensures.indexed;
     }

@@ -14,25 +14,25 @@ loop-entry-preserved-in-Ok g c =
     let inv = c.loop-entry.invariant in
     it.again inv c.in-Some.entry c.in-Some.is (c.next.ensures.steps, c.next.ensures.goes)
     (filled_more c.insert_hashed.new.self inv.holds inv.counted (it.on c.in-Some.entry c.in-Some.is c.next.ensures.goes inv.ending).2
-    c.insert_hashed.ensures.memory c.in-Some.entry c.in-Ok.ensures.entries)
+    c.in-Some.entry c.insert_hashed.ensures.memory c.in-Ok.ensures.entries)
 
 pub loop-entry-preserved : goal.loop-entry-preserved
 loop-entry-preserved g c =
     let inv = c.loop-entry.invariant in
     it.again inv c.in-Some.entry c.in-Some.is (c.next.ensures.steps, c.next.ensures.goes)
     (filled_more c.insert_hashed.new.self inv.holds inv.counted (it.on c.in-Some.entry c.in-Some.is c.next.ensures.goes inv.ending).2
-    c.insert_hashed.ensures.memory c.in-Some.entry c.in-Ok.ensures.entries)
+    c.in-Some.entry c.insert_hashed.ensures.memory c.in-Ok.ensures.entries)
 
 pub returns-in-Err : goal.returns-in-Err
 returns-in-Err g c =
     let inv = c.loop-entry.invariant in
     let same = c.in-Err.ensures.unchanged.0 in
     let still = filled_still c.insert_hashed.new.self inv.holds inv.counted (it.on c.in-Some.entry c.in-Some.is c.next.ensures.goes inv.ending).2
-    c.insert_hashed.ensures.memory same c.in-Err.ensures.full in
+    c.in-Some.entry c.insert_hashed.ensures.memory same c.in-Err.ensures.full in
     record {
       entries = record {
         items = inv.seen;
-        entries = still.0.entries;
+        entries = still.entries;
         ended = record {
           next = c.in-Some.entry;
           rest = c.next.new.self;
@@ -40,9 +40,9 @@ returns-in-Err g c =
           absent = subst (λ l. match_of g.K.PartialEq.eq l c.in-Some.entry.0 ≡ None) (sym same) c.in-Err.ensures.absent;
         };
       };
-      succeeds = λ fits. absurd (still.2 fits);
-      full = still.1;
-      room = still.0.room;
-      capacity = still.0.capacity;
-      indexed = still.0.indexed;
+      succeeds = λ fits. absurd (still.lacked fits);
+      full = still.full;
+      room = still.room;
+      capacity = still.capacity;
+      indexed = still.indexed;
     }

@@ -16,25 +16,25 @@ loop-pair-preserved-in-Ok g c =
     let inv = c.loop-pair.invariant in
     it.again inv c.in-Some.pair c.in-Some.is (c.next.ensures.steps, c.next.ensures.goes)
     (filled_more c.insert.new.self inv.holds inv.counted (it.on c.in-Some.pair c.in-Some.is c.next.ensures.goes inv.ending).2
-    c.insert.ensures.memory c.in-Some.pair c.in-Ok.ensures.entries)
+    c.in-Some.pair c.insert.ensures.memory c.in-Ok.ensures.entries)
 
 pub loop-pair-preserved : goal.loop-pair-preserved
 loop-pair-preserved g c =
     let inv = c.loop-pair.invariant in
     it.again inv c.in-Some.pair c.in-Some.is (c.next.ensures.steps, c.next.ensures.goes)
     (filled_more c.insert.new.self inv.holds inv.counted (it.on c.in-Some.pair c.in-Some.is c.next.ensures.goes inv.ending).2
-    c.insert.ensures.memory c.in-Some.pair c.in-Ok.ensures.entries)
+    c.in-Some.pair c.insert.ensures.memory c.in-Ok.ensures.entries)
 
 pub returns-in-Err : goal.returns-in-Err
 returns-in-Err g c =
     let inv = c.loop-pair.invariant in
     let same = c.in-Err.ensures.unchanged.0 in
     let still = filled_still c.insert.new.self inv.holds inv.counted (it.on c.in-Some.pair c.in-Some.is c.next.ensures.goes inv.ending).2
-    c.insert.ensures.memory same c.in-Err.ensures.full in
+    c.in-Some.pair c.insert.ensures.memory same c.in-Err.ensures.full in
     record {
       entries = record {
         items = inv.seen;
-        entries = still.0.entries;
+        entries = still.entries;
         ended = record {
           next = c.in-Some.pair;
           rest = c.next.new.self;
@@ -42,13 +42,13 @@ returns-in-Err g c =
           absent = subst (λ l. match_of g.K.PartialEq.eq l (own_entry g.K.Hash.hash_input c.in-Some.pair).0 ≡ None) (sym same) c.in-Err.ensures.absent;
         };
       };
-      succeeds = λ fits. absurd (still.2 fits);
-      spare = still.0.spare;
-      left = omega (arith, still.0.room, still.0.added, inv.counted);
-      full = still.1;
-      room = still.0.room;
-      capacity = still.0.capacity;
-      indexed = still.0.indexed;
+      succeeds = λ fits. absurd (still.lacked fits);
+      spare = still.spare;
+      left = still.left;
+      full = still.full;
+      room = still.room;
+      capacity = still.capacity;
+      indexed = still.indexed;
     }
 
 pub returns-clause-left : goal.returns-clause-left

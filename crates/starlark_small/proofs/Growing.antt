@@ -1,0 +1,116 @@
+-- How the capacity follows entries that come one after the other.
+use Rattle.std.proofs.Common.{◌≡◌, ℕ, zero, suc, ◌+◌, ◌-◌, ◌*◌, ◌^◌, ◌≤◌, max, min, List, [], ◌∷◌, ◌++◌, length, drop, Option, Some, None, refl, sym, ap, ◌∙◌, subst, arith, Bool}
+use Rattle.std.specs.Prelude.{IsSome, nat_lt, if◌then◌else◌}
+use Rattle.std.specs.Option.{option_map_or}
+use Rattle.std.proofs.lemmas.Bool.Decides.{nat_tests}
+use Rattle.std.proofs.lemmas.List.{length-drop, length_push}
+use mathlib.Core.Logic.{inl, inr}
+use Rattle.starlark_hash.specs.declared.hashed.Hashed.{Hashed}
+use Rattle.starlark_lists.specs.Entries.{insert_entry, match_of, set_value_at}
+use Rattle.starlark_lists.proofs.EntryLemmas.{length-set_value_at}
+use Rattle.starlark_small.specs.Growth.{StaysOrGrows, reserved_capacity, stepped_capacity}
+use Rattle.starlark_small.specs.Inserted.{LeavesMemory}
+use Rattle.starlark_small.specs.Map.{Map}
+use Rattle.starlark_vec2.specs.PairList.{PairList, pair_list, push, push_all}
+
+-- the capacity of a list of this length and capacity, after it made room for so many more
+abbrev made : ℕ → ℕ → ℕ → ℕ
+made n len capacity = if nat_lt (capacity - len) n then max (len + n) (max 4 (min (2 * capacity) (2 ^ 64 - 1))) else capacity
+
+-- the same after it made room for so many more, one after the other
+steps : ℕ → ℕ → ℕ → ℕ
+steps len capacity zero = capacity
+steps len capacity (suc n) = made 1 (len + n) (steps len capacity n)
+
+steps_on : (len capacity n : ℕ) → steps (len + 1) (made 1 len capacity) n ≡ steps len capacity (suc n)
+unfolding steps
+steps_on len capacity zero = ap (λ l. made 1 l capacity) (omega arith)
+steps_on len capacity (suc n) =
+    let lengths : len + 1 + n ≡ len + suc n = omega arith in
+    λ j. made 1 (lengths j) (steps_on len capacity n j)
+
+pushed_steps : {A B : Type 0} (v : PairList A B) (ps : List (A × B)) → (push_all v ps).capacity ≡ steps (length v.pairs) v.capacity (length ps)
+unfolding steps
+pushed_steps v [] = refl
+pushed_steps v (p ∷ ps) =
+    let longer : length (push v p).pairs ≡ length v.pairs + 1 = omega (arith, length_push v.pairs p) in
+    pushed_steps (push v p) ps ∙ ap (λ l. steps l (made 1 (length v.pairs) v.capacity) (length ps)) longer ∙ steps_on (length v.pairs) v.capacity (length ps)
+
+-- room once made is there
+made_twice : (n len capacity : ℕ) → made n len (made n len capacity) ≡ made n len capacity
+made_twice n len capacity = grind (arith, nat_tests)
+
+-- no capacity is lost, and it is at most twice the length
+made_bounds : (len capacity : ℕ) → (capacity ≤ made 1 len capacity) × (made 1 len capacity ≤ max capacity (max 4 (2 * (len + 1))))
+made_bounds len capacity = (grind (arith, nat_tests), grind (arith, nat_tests))
+
+steps_bounds : (len capacity n : ℕ) → (capacity ≤ steps len capacity n) × (steps len capacity n ≤ max capacity (max 4 (2 * (len + n))))
+unfolding steps
+steps_bounds len capacity zero = (omega arith, omega arith)
+steps_bounds len capacity (suc n) =
+    let before = steps_bounds len capacity n in let one = made_bounds (len + n) (steps len capacity n) in
+    (omega (arith, before.0, one.0), omega (arith, before.1, one.1))
+
+module _ {K V : Type 0} where
+  stepped_steps : (old new : Map K V) → stepped_capacity old new ≡ steps (length old.entries) old.capacity (length new.entries - length old.entries)
+  stepped_steps old new =
+      pushed_steps (pair_list old.entries old.capacity) (drop (length old.entries) new.entries) ∙ ap (steps (length old.entries) old.capacity) (length-drop (length old.entries) new.entries)
+
+  -- a second refusal of the same reservation grows the capacity no further
+  pub StaysOrGrows-twice : (n : ℕ) (old mid new : Map K V) → mid.entries ≡ old.entries → StaysOrGrows n old mid → StaysOrGrows n mid new → StaysOrGrows n old new
+  StaysOrGrows-twice n old mid new same (inl a) (inl b) = inl (b ∙ a)
+  StaysOrGrows-twice n old mid new same (inr a) (inl b) = inr (b ∙ a)
+  StaysOrGrows-twice n old mid new same (inl a) (inr b) = inr (b ∙ (λ j. made n (length (same j)) (a j)))
+  StaysOrGrows-twice n old mid new same (inr a) (inr b) = inr (b ∙ (λ j. made n (length (same j)) (a j)) ∙ made_twice n (length old.entries) old.capacity)
+
+  -- how far such a capacity is from the old one
+  pub stepped_bounds : (old new : Map K V) → length old.entries ≤ length new.entries → (old.capacity ≤ stepped_capacity old new) × (stepped_capacity old new ≤ max old.capacity (max 4 (2 * length new.entries)))
+  stepped_bounds old new longer =
+      let bounds = steps_bounds (length old.entries) old.capacity (length new.entries - length old.entries) in
+      (omega (arith, bounds.0, stepped_steps old new), omega (arith, bounds.1, stepped_steps old new, longer))
+
+  -- the entries came into an empty map
+  pub stepped_from : (old new : Map K V) (n : ℕ) → old.entries ≡ [] → old.capacity ≡ n → stepped_capacity old new ≡ (push_all (pair_list [] n) new.entries).capacity
+  stepped_from old new n none is = λ j. (push_all (pair_list (none j) (is j)) (drop (length (none j)) new.entries)).capacity
+
+  pub stepped_none : (m : Map K V) → m.capacity ≡ stepped_capacity m m
+  unfolding steps
+  stepped_none m =
+      let none : length m.entries - length m.entries ≡ zero = omega arith in
+      sym (stepped_steps m m ∙ ap (steps (length m.entries) m.capacity) none)
+
+  -- an entry more came, or none did
+  module _ (first mid last : Map K V) (longer : length first.entries ≤ length mid.entries) (before : mid.capacity ≡ stepped_capacity first mid) where
+    stepped_same : length last.entries ≡ length mid.entries → last.capacity ≡ mid.capacity → last.capacity ≡ stepped_capacity first last
+    stepped_same as_long stays =
+        let as_many : length mid.entries - length first.entries ≡ length last.entries - length first.entries = omega (arith, as_long) in
+        stays ∙ before ∙ stepped_steps first mid ∙ ap (steps (length first.entries) first.capacity) as_many ∙ sym (stepped_steps first last)
+
+    stepped_more : length last.entries ≡ length mid.entries + 1 → last.capacity ≡ reserved_capacity mid 1 → last.capacity ≡ stepped_capacity first last
+    unfolding steps
+    stepped_more by_one grown =
+        let more : length last.entries - length first.entries ≡ suc (length mid.entries - length first.entries) = omega (arith, by_one, longer) in
+        let here : length mid.entries ≡ length first.entries + (length mid.entries - length first.entries) = omega (arith, longer) in
+        grown ∙ (λ j. made 1 (here j) ((before ∙ stepped_steps first mid) j)) ∙ ap (steps (length first.entries) first.capacity) (sym more) ∙ sym (stepped_steps first last)
+
+    -- an entry was inserted
+    stepped_at : (eq : K → K → Bool) (key : Hashed K) (value : V) (o : Option ℕ) → match_of eq mid.entries key ≡ o → last.entries ≡ option_map_or (λ i. set_value_at mid.entries i value) o (mid.entries ++ (key, value) ∷ [])
+        → LeavesMemory eq mid key last → last.capacity ≡ stepped_capacity first last
+    stepped_at eq key value None lacks put leaves =
+        let by_one : length last.entries ≡ length mid.entries + 1 = omega (arith, ap length put, length_push mid.entries (key, value)) in
+        stepped_more by_one (leaves.grown (omega (arith, by_one)))
+    stepped_at eq key value (Some i) is put leaves =
+        let there : IsSome (match_of eq mid.entries key) = subst (λ o. IsSome o) (sym is) refl in
+        stepped_same (ap length put ∙ length-set_value_at mid.entries i value) (ap (λ m. m.capacity) (leaves.replaced there))
+
+    pub stepped_inserted : (eq : K → K → Bool) (key : Hashed K) (value : V) → last.entries ≡ insert_entry eq mid.entries key value → LeavesMemory eq mid key last → last.capacity ≡ stepped_capacity first last
+    stepped_inserted eq key value put leaves = stepped_at eq key value (match_of eq mid.entries key) refl put leaves
+
+    -- one was refused
+    pub stepped_refused : last.entries ≡ mid.entries → StaysOrGrows 1 mid last → StaysOrGrows 1 (record last { capacity = stepped_capacity first last }) last
+    stepped_refused same grows =
+        let is : mid.capacity ≡ stepped_capacity first last = stepped_capacity_same same in
+        elim grows [ inl stays ↦ inl (stays ∙ is) | inr grown ↦ inr (grown ∙ (λ j. made 1 (length (sym same j)) (is j))) ]
+      where
+        stepped_capacity_same : last.entries ≡ mid.entries → mid.capacity ≡ stepped_capacity first last
+        stepped_capacity_same here = before ∙ (λ j. (push_all (pair_list first.entries first.capacity) (drop (length first.entries) (sym here j))).capacity)
