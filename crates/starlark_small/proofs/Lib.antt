@@ -20,5 +20,6 @@ pub mod CallerKeys
 pub mod CallerEntries
 pub mod CallerUpdates
 pub mod CallerOwn
+pub mod CallerPlaces
 pub mod CallerOrder
 pub mod CallerLemmas

@@ -1,7 +1,7 @@
 -- What a caller of a `SmallMap` says of it: what a query finds under its own hash, and what a call leaves at its query and at
 -- all other keys. Sets, ordered and sorted types share these words: a set is a map to `()`. All of them but `found`,
 -- `found_key`, `AreOwnEntries` and `Puts` unfold by themselves in callers' proofs.
-use Rattle.std.specs.Prelude.{◌≡◌, ℕ, All, Bool, List, Option, None, is_some, map}
+use Rattle.std.specs.Prelude.{◌≡◌, ℕ, All, Bool, false, List, Option, Some, None, is_some, map}
 use Rattle.std.specs.Hash as fed
 use Rattle.std.specs.Hash.{HashWrites}
 use Rattle.std.specs.Str.{bytes_eq}
@@ -58,6 +58,14 @@ module _ {K V : Type 0} where
   -- each key of the map stands under its own hash
   abbrev pub AreOwn : (K → HashWrites) → Map K V → Type 0
   AreOwn feeds m = AreOwnEntries feeds m.entries
+
+module _ {K V : Type 0} (eq : K → K → Bool) where
+  -- the entry of this key and value was taken out from its place: each key that it is not equal to has what it had, and where
+  -- keys stand under their own hashes the value was at the key, and is gone
+  pub record TakesOut (old new : Map K V) (key : K) (value : V) : Type 0 where
+    pub others : (under : StarlarkHashValue) (other : K) → eq key other ≡ false → found (eq other) under new.entries ≡ found (eq other) under old.entries
+    pub was : (feeds : K → HashWrites) → AreOwn feeds old → get eq feeds old key ≡ Some value
+    pub gone : (feeds : K → HashWrites) → AreOwn feeds old → Updates eq feeds old new key None
 
 module _ {A V : Type 0} where
   -- the value at the string of these bytes, under its own hash, where there is one

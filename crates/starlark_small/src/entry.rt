@@ -81,6 +81,7 @@ impl<K: Eq, V> SmallMap<K, V> {
         ensures value { entry_value_of result ≡ get K.eq K.hash_input self.old key }
         ensures updates { (value : V) (new : Map K V) → Puts result value new → Updates K.eq K.hash_input self.old new key (Some value) }
         ensures keys { (value : V) (new : Map K V) → Puts result value new → keys new ≡ (if is_some (get K.eq K.hash_input self.old key) then keys self.old else keys self.old ++ key ∷ []) }
+        ensures own { (value : V) (new : Map K V) → Puts result value new → AreOwn K.hash_input self.old → AreOwn K.hash_input new }
     {
         self.entry_hashed(Hashed::new(key))
     }

@@ -1,11 +1,11 @@
 //! What takes entries out of a `SmallMap`. None of it asks for memory.
-ghost use Rattle.std.specs.Prelude.{◌≡◌, ◌+◌, ◌-◌, ◌<◌, ◌≤◌, [], false, min, nat_le, remove, slice_get, length, is_some, if◌then◌else◌, Some, None};
+ghost use Rattle.std.specs.Prelude.{◌≡◌, ◌+◌, ◌-◌, ◌<◌, ◌≤◌, [], false, min, nat_le, remove, slice_get, length, is_some, if◌then◌else◌, Some, None, IfSome};
 ghost use Rattle.std.specs.Option.{option_map};
 ghost use Rattle.starlark_lists.specs.Entries.{entry_at, value_at, pair_of, without};
 ghost use Rattle.starlark_lists.specs.Finding.{found, Writes};
 ghost use Rattle.std.specs.Hash.{HashWrites};
 ghost use Rattle.starlark_hash.specs.HashValue.{hash_of, key_of};
-ghost use Rattle.starlark_small.specs.Calling.{contains, get, AreOwn, IsEmpty, UpdatesBy};
+ghost use Rattle.starlark_small.specs.Calling.{contains, get, AreOwn, IsEmpty, TakesOut, UpdatesBy};
 ghost use Rattle.starlark_small.specs.Index.{unindexed};
 ghost use Rattle.starlark_small.specs.Map.{KeepsMemory, query_match, own_match};
 
@@ -90,6 +90,9 @@ impl<K: Eq, V> SmallMap<K, V> {
     pub fn shift_remove_index(&mut self, index: usize) -> Option<(K, V)>
         ensures taken { result ≡ option_map pair_of (slice_get self.old.entries index) }
         ensures entries { self.new.entries ≡ remove self.old.entries index }
+        ensures takes { IfSome result (λ p. TakesOut K.eq self.old self.new p.0 p.1) }
+        ensures count { length self.old.entries ≡ length self.new.entries + (if is_some result then 1 else 0) }
+        ensures own { (feeds : K → HashWrites) → AreOwn feeds self.old → AreOwn feeds self.new }
         ensures kept { KeepsMemory self.old self.new }
     {
         let (key, value) = self.shift_remove_index_hashed(index)?;
@@ -100,6 +103,9 @@ impl<K: Eq, V> SmallMap<K, V> {
     pub fn shift_remove_index_hashed(&mut self, index: usize) -> Option<(Hashed<K>, V)>
         ensures taken { result ≡ slice_get self.old.entries index }
         ensures entries { self.new.entries ≡ remove self.old.entries index }
+        ensures takes { IfSome result (λ p. TakesOut K.eq self.old self.new (key_of p.0) p.1) }
+        ensures count { length self.old.entries ≡ length self.new.entries + (if is_some result then 1 else 0) }
+        ensures own { (feeds : K → HashWrites) → AreOwn feeds self.old → AreOwn feeds self.new }
         ensures kept { KeepsMemory self.old self.new }
     {
         if index < self.len() {
@@ -113,6 +119,9 @@ impl<K: Eq, V> SmallMap<K, V> {
     pub fn pop(&mut self) -> Option<(K, V)>
         ensures taken { result ≡ option_map pair_of (slice_get self.old.entries (length self.old.entries - 1)) }
         ensures entries { self.new.entries ≡ remove self.old.entries (length self.old.entries - 1) }
+        ensures takes { IfSome result (λ p. TakesOut K.eq self.old self.new p.0 p.1) }
+        ensures count { length self.old.entries ≡ length self.new.entries + (if is_some result then 1 else 0) }
+        ensures own { (feeds : K → HashWrites) → AreOwn feeds self.old → AreOwn feeds self.new }
         ensures kept { KeepsMemory self.old self.new }
     {
         let (key, value) = self.take_last()?;
@@ -153,6 +162,9 @@ impl<K: Eq, V> SmallMap<K, V> {
         requires { index < length self.old.entries }
         ensures taken { slice_get self.old.entries index ≡ Some result }
         ensures entries { self.new.entries ≡ remove self.old.entries index }
+        ensures takes { TakesOut K.eq self.old self.new (key_of result.0) result.1 }
+        ensures count { length self.old.entries ≡ length self.new.entries + 1 }
+        ensures own { (feeds : K → HashWrites) → AreOwn feeds self.old → AreOwn feeds self.new }
         ensures kept { KeepsMemory self.old self.new }
     {
         prove!(self.entries.len() <= self.entries.capacity());
@@ -165,6 +177,9 @@ impl<K: Eq, V> SmallMap<K, V> {
     fn take_last(&mut self) -> Option<(Hashed<K>, V)>
         ensures taken { result ≡ slice_get self.old.entries (length self.old.entries - 1) }
         ensures entries { self.new.entries ≡ remove self.old.entries (length self.old.entries - 1) }
+        ensures takes { IfSome result (λ p. TakesOut K.eq self.old self.new (key_of p.0) p.1) }
+        ensures count { length self.old.entries ≡ length self.new.entries + (if is_some result then 1 else 0) }
+        ensures own { (feeds : K → HashWrites) → AreOwn feeds self.old → AreOwn feeds self.new }
         ensures kept { KeepsMemory self.old self.new }
     {
         prove!(self.entries.len() <= self.entries.capacity());

@@ -1,8 +1,10 @@
-use Rattle.std.proofs.Common.{subst, sym, ap, length, arith}
+use Rattle.std.proofs.Common.{subst, sym, ap, length, arith, rules}
 use Rattle.std.specs.Prelude.{remove}
 use Rattle.starlark_lists.proofs.EntryLemmas.{IsSingle-remove}
 use Rattle.starlark_vecmap.specs.EntryList.{with_entries}
 use Rattle.starlark_small.specs.Index.{IsSound}
+use Rattle.starlark_small.proofs.CallerOwn.{own-removed}
+use Rattle.starlark_small.proofs.CallerPlaces.{takes-out}
 use Rattle.starlark_small.proofs.small_map.SmallMap.take_at.Goals as goal
 
 pub invariant_of-self : goal.invariant_of-self
@@ -10,3 +12,11 @@ invariant_of-self g c =
     let list = c.self.inside.entries in
     subst (λ l. IsSound g.K.PartialEq.eq l.entries c.forget.new.self) {x = with_entries list (remove list.entries c.args.index)} {y = c.remove.new.self} (sym c.remove.ensures.list)
     (record { single = IsSingle-remove g.K.PartialEq.eq list.entries c.args.index (omega (arith, c.requires, ap (λ m. length m.entries) c.self.view_is)) c.self.invariant.single; indexed = c.forget.ensures.indexed })
+
+pub returns-clause-takes : goal.returns-clause-takes
+returns-clause-takes g c =
+    rw (← c.self.view_is)
+    (takes-out g.K.PartialEq.eq g.met.K.Eq.laws _ _ c.args.index c.remove.result c.self.invariant.single (search rules) (ap (λ l. l.entries) c.remove.ensures.list))
+
+pub returns-clause-own : goal.returns-clause-own
+returns-clause-own g c feeds = own-removed feeds c.args.self.now.entries _ c.args.index (search rules)
