@@ -10,6 +10,8 @@ mod hashes;
 #[cfg(test)]
 mod pair_lists;
 #[cfg(test)]
+mod sizes;
+#[cfg(test)]
 mod tables;
 #[cfg(test)]
 mod vector_maps;
