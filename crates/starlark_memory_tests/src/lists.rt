@@ -251,6 +251,20 @@ fn sorts_pairs_or_stays(rt: HostRuntime) -> Result<(), Fail> {
     Ok(())
 }
 
+fn sorts_whole(list: &mut Vec2<u32, u32>) -> bool {
+    list.sort_pairs_by(|a, b| a.0.cmp(&b.0)).is_ok()
+        || goes_in_steps(list, 7) && list.sort_pairs_by(|a, b| a.0.cmp(&b.0)).is_ok()
+}
+
+#[test]
+fn sorts_whole_pairs_or_stays(rt: HostRuntime) -> Result<(), Fail> {
+    let mut list = mixed(rt.alloc())?;
+    holds(&rt, sorts_whole(&mut list));
+    holds(&rt, goes_in_steps(&list, 1));
+    same(&rt, list.capacity(), 32);
+    Ok(())
+}
+
 fn falls(map: &VecMap<u32, u32>) -> bool {
     map.len() == 3
         && map.get_index(0) == Some((&2, &20))

@@ -178,6 +178,11 @@ fn sort_by_first(list: &mut Pairs) -> bool {
     list.sort_by(|x, y| x.0.cmp(y.0)).is_ok()
 }
 
+// The same of whole pairs.
+fn sort_pairs_by_first(list: &mut Pairs) -> bool {
+    list.sort_pairs_by(|x, y| x.0.cmp(&y.0)).is_ok()
+}
+
 #[test]
 fn sort_by_both_parts(rt: HostRuntime) -> Result<(), Fail> {
     let mut list = list_of(rt.alloc(), 0, &[(1, 2), (3, 4), (2, 3), (3, 2)])?;
@@ -190,6 +195,14 @@ fn sort_by_both_parts(rt: HostRuntime) -> Result<(), Fail> {
 fn sort_by_one_part(rt: HostRuntime) -> Result<(), Fail> {
     let mut list = list_of(rt.alloc(), 0, &[(3, 4), (1, 2), (3, 2), (1, 0)])?;
     holds(&rt, sort_by_first(&mut list));
+    holds(&rt, shows(&list, &[(1, 2), (1, 0), (3, 4), (3, 2)]));
+    Ok(())
+}
+
+#[test]
+fn sort_whole_pairs_by_one_part(rt: HostRuntime) -> Result<(), Fail> {
+    let mut list = list_of(rt.alloc(), 0, &[(3, 4), (1, 2), (3, 2), (1, 0)])?;
+    holds(&rt, sort_pairs_by_first(&mut list));
     holds(&rt, shows(&list, &[(1, 2), (1, 0), (3, 4), (3, 2)]));
     Ok(())
 }
@@ -221,6 +234,16 @@ fn shows_mixed(list: &Pairs, sorted: bool) -> bool {
 fn sort_of_many_pairs(rt: HostRuntime) -> Result<(), Fail> {
     let mut list = mixed(rt.alloc())?;
     let sorted = sort_by_first(&mut list);
+    holds(&rt, shows_mixed(&list, sorted));
+    same(&rt, list.capacity(), 100);
+    Ok(())
+}
+
+// So it is where whole pairs move.
+#[test]
+fn sort_of_many_whole_pairs(rt: HostRuntime) -> Result<(), Fail> {
+    let mut list = mixed(rt.alloc())?;
+    let sorted = sort_pairs_by_first(&mut list);
     holds(&rt, shows_mixed(&list, sorted));
     same(&rt, list.capacity(), 100);
     Ok(())

@@ -2,7 +2,7 @@
 use Rattle.std.specs.Prelude.{◌≡◌, Bool, List, Contains}
 use Rattle.std.specs.Borrow.{Bor}
 use Rattle.std.specs.List.{FoldsTo}
-use Rattle.std.specs.Fn.{Mut, Takes, Called, AlwaysReturns}
+use Rattle.std.specs.Fn.{Mut, Takes, Called, AlwaysReturns, ComparesAs}
 use Rattle.std.specs.Cmp.{IsStrictWeakOrder}
 use Rattle.std.specs.Ordering.{is_lt}
 use Rattle.std.specs.Map.Iter.{deref_pair}
@@ -43,3 +43,9 @@ module _ {F A B : Type 0} (g : Mut F (PairRef A B × (PairRef A B × Unit {0})) 
   -- they stood
   abbrev pub Sorts : F → List (A × B) → List (A × B) → Type 0
   Sorts f ps qs = (lt : A × B → A × B → Bool) → IsStrictWeakOrder lt → ComparesPairsAs lt f → qs ≡ sorted_by lt ps
+
+module _ {F X : Type 0} (g : Mut F (Bor X × (Bor X × Unit {0})) Ordering) where
+  -- where f answers by one strict weak order of all items, ys is `sorted_by` it: the items of xs in ascending order, ties as
+  -- they stood
+  abbrev pub SortsItems : F → List X → List X → Type 0
+  SortsItems f xs ys = (lt : X → X → Bool) → IsStrictWeakOrder lt → ComparesAs g lt f → ys ≡ sorted_by lt xs

@@ -11,6 +11,7 @@ mod iter;
 mod lends;
 mod retain;
 mod sort;
+mod sort_pairs;
 mod traits;
 
 pub use into_iter::IntoIter;

@@ -31,9 +31,9 @@ impl<K, V> VecMap<K, V> {
         ensures sorted { OnOk result (self.new ≡ with_entries self.old (sorted_by_key K.cmp self.old.entries)) }
         ensures unchanged { OnErr result (self.new ≡ self.old) }
     {
-        self.columns.sort_by(
-            |d: (&(K, V), &u32), e: (&(K, V), &u32)| -> Ordering
-                ensures { result ≡ K.cmp d.entry.0.now.0 e.entry.0.now.0 }
+        self.columns.sort_pairs_by(
+            |d: &((K, V), u32), e: &((K, V), u32)| -> Ordering
+                ensures { result ≡ K.cmp d.now.0.0 e.now.0.0 }
             { d.0.0.cmp(&e.0.0) },
         )
     }
