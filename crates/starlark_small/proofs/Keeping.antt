@@ -62,7 +62,7 @@ module _ {K V : Type 0} where
 
   -- and takes one insertion's room
   pub room-push : (es : List (Entry K V)) (old new : Table ℕ) (x : ℕ × ℕ) → IsIndexOf es old → IsPermutation (x ∷ members old) (members new)
-      → table_len old + old.room ≤ table_len new + new.room → old.room ≤ 1 + new.room
+      → table_len new + new.room ≡ table_len old + old.room → old.room ≤ 1 + new.room
   room-push es old new x index added sum = omega (arith, length_permutation (x ∷ members old) (members new) added, sum)
 
   positions-set_value_at : (n : ℕ) (es : List (Entry K V)) (i : ℕ) (value : V) → positions_from n (set_value_at es i value) ≡ positions_from n es

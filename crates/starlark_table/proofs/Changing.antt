@@ -1,9 +1,9 @@
 -- What a change of the slots leaves of a table: its members, its room, and that it is sound.
-use Rattle.std.proofs.Common.{◌≡◌, ℕ, ◌+◌, ◌-◌, ◌<◌, ◌≤◌, List, ◌∷◌, ◌++◌, length, Option, Some, None, replicate, arith, sym, ◌∙◌, ap, subst, append-nil, IsPermutation}
+use Rattle.std.proofs.Common.{◌≡◌, ℕ, ◌+◌, ◌-◌, ◌*◌, ◌^◌, ◌<◌, ◌≤◌, List, ◌∷◌, ◌++◌, length, Option, Some, None, replicate, arith, sym, ◌∙◌, ap, subst, append-nil, IsPermutation}
 use Rattle.std.proofs.lemmas.List.{length-replicate}
 use Rattle.std.proofs.lemmas.List.Sorted.{length_permutation}
 use Rattle.std.proofs.Math.ListN.{set, length-set}
-use Rattle.starlark_table.specs.Table.{Table, filled, members, table_len}
+use Rattle.starlark_table.specs.Table.{Table, filled, members, most_for, table_len}
 use Rattle.starlark_table.specs.Layout.{at, limit, InPlace, IsTagged, IsSound}
 use Rattle.starlark_table.proofs.Bag.{filled-set_some}
 use Rattle.starlark_table.proofs.Load.{filled-replicate, sound-empty_slot}
@@ -28,7 +28,7 @@ module _ {T : Type 0} (slots : List (Option (ℕ × T))) (tags : List ℕ) (len 
   pub record Inserted (m : ℕ × T) (new : List (Option (ℕ × T))) (tags' : List ℕ) : Type 0 where
     pub sound : IsSound new tags' (len + 1) mask
     pub added : IsPermutation (m ∷ members t) (filled new)
-    pub room : table_len t + t.room ≤ length (filled new) + (limit (length new) - (len + 1))
+    pub room : length (filled new) + (limit (length new) - (len + 1)) ≡ table_len t + t.room
 
   pub inserted : (slot : ℕ) (m : ℕ × T) (new : List (Option (ℕ × T))) (tags' : List ℕ) → 0 < t.room → new ≡ set slots slot (Some m) → slot < length slots → at slots slot ≡ None
       → InPlace (length new) new → IsTagged tags' new → Inserted m new tags'
@@ -44,6 +44,7 @@ module _ {T : Type 0} (slots : List (Option (ℕ × T))) (tags : List ℕ) (len 
           counted = omega arith;
           load = rw sized (omega arith);
           masked = rw sized before.masked;
+          doubled = rw sized before.doubled;
           in_place = in_place;
           tagged = tagged;
         };
@@ -71,6 +72,7 @@ module _ {T : Type 0} (slots : List (Option (ℕ × T))) (tags : List ℕ) (len 
           counted = omega arith;
           load = rw sized (omega arith);
           masked = rw sized before.masked;
+          doubled = rw sized before.doubled;
           in_place = in_place;
           tagged = tagged;
         };
@@ -94,6 +96,7 @@ module _ {T : Type 0} (slots : List (Option (ℕ × T))) (tags : List ℕ) (len 
           counted = is;
           load = rw sized (omega arith);
           masked = rw sized before.masked;
+          doubled = rw sized before.doubled;
           in_place = in_place;
           tagged = tagged;
         };
@@ -117,11 +120,12 @@ module _ {T : Type 0} (slots : List (Option (ℕ × T))) (tags : List ℕ) (len 
       pub sound : IsSound new tags' len (count - 1)
       pub bag : IsPermutation (members t) (filled new)
       pub enough : needed ≤ table_len t + (limit (length new) - len)
+      pub most : limit count ≤ most_for needed → length (filled new) + (limit (length new) - len) ≤ most_for needed
       pub room : t.room ≤ limit (length new) - len
 
-    pub grown : (new : List (Option (ℕ × T))) (tags' : List ℕ) → 0 < count → length new ≡ length mid → InPlace (length new) new → IsTagged tags' new
+    pub grown : (new : List (Option (ℕ × T))) (tags' : List ℕ) → 0 < count → (k : ℕ) × (count ≡ 8 * 2 ^ k) → length new ≡ length mid → InPlace (length new) new → IsTagged tags' new
         → IsPermutation (filled old ++ filled mid) (filled new) → Grown new tags'
-    grown new tags' some same in_place tagged all =
+    grown new tags' some doubled same in_place tagged all =
         let sized : length new ≡ count = same ∙ ap length empty ∙ length-replicate count None in
         let bag : IsPermutation (members t) (filled new) =
         subst (λ l. IsPermutation l (filled new))
@@ -136,10 +140,12 @@ module _ {T : Type 0} (slots : List (Option (ℕ × T))) (tags : List ℕ) (len 
             counted = omega arith;
             load = rw sized fit;
             masked = λ places. omega arith;
+            doubled = λ places. (doubled.0, sized ∙ doubled.1);
             in_place = in_place;
             tagged = tagged;
           };
           bag = bag;
           enough = rw sized (omega arith);
+          most = λ less. rw sized (omega (arith, less));
           room = rw sized (omega arith);
         }

@@ -1,5 +1,5 @@
 -- How many members the slots hold.
-use Rattle.std.proofs.Common.{◌≡◌, ◌≢◌, ℕ, zero, suc, add-one, replicate, length-append, ◌+◌, ◌-◌, ◌<◌, ◌≤◌, List, [], ◌∷◌, ◌++◌, length, Option, Some, None, arith, refl, IsPermutation, sym, ◌∙◌, ap, subst, get_or}
+use Rattle.std.proofs.Common.{◌≡◌, ◌≢◌, ℕ, zero, suc, add-one, replicate, length-append, ◌+◌, ◌-◌, ◌*◌, ◌^◌, ◌<◌, ◌≤◌, List, [], ◌∷◌, ◌++◌, length, Option, Some, None, arith, refl, IsPermutation, sym, ◌∙◌, ap, subst, get_or}
 use Rattle.std.proofs.lemmas.List.Sorted.{length_permutation, IsPermutation-trans, IsPermutation-sym, IsPermutation-cons, IsPermutation-middle, IsPermutation-append_left, IsPermutation-append_right}
 use Rattle.std.proofs.lemmas.List.{get_or-set_other, length-replicate, get_or_append_left, get_or-append_right, get_or-replicate}
 use Rattle.std.proofs.Math.ListN.{set, length-set}
@@ -104,14 +104,15 @@ module _ {T : Type 0} where
   in_place-all_empty items count e = subst (λ l. InPlace (length l) l) (sym e) (in_place-replicate (length (replicate count None)) count)
 
   pub sound-all_empty : (items : List (Option (ℕ × T))) (tags : List ℕ) (mask count : ℕ) → items ≡ replicate count None
-      → tags ≡ tags_of_empty count → mask + 1 ≡ count → IsSound items tags 0 mask × (filled items ≡ [])
-  sound-all_empty items tags mask count e f masked =
+      → tags ≡ tags_of_empty count → mask + 1 ≡ count → (k : ℕ) × (count ≡ 8 * 2 ^ k) → IsSound items tags 0 mask × (filled items ≡ [])
+  sound-all_empty items tags mask count e f masked doubled =
       let none : filled items ≡ [] = ap filled e ∙ filled-replicate count in
       let sized : length items ≡ count = ap length e ∙ length-replicate count None in (
         record {
           counted = sym (ap length none);
           load = omega arith;
           masked = λ some. masked ∙ sym sized;
+          doubled = λ some. (doubled.0, sized ∙ doubled.1);
           in_place = in_place-all_empty items count e;
           tagged = tagged-replicate items tags count e f;
         },

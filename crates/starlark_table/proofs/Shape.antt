@@ -1,5 +1,5 @@
 -- Whether slots are well laid out depends on their hashes alone.
-use Rattle.std.proofs.Common.{◌≡◌, ℕ, zero, suc, ◌+◌, ◌<◌, ◌≤◌, List, [], ◌∷◌, length, Option, Some, None, IsSome, get_or, refl, sym, ◌∙◌, ap, subst}
+use Rattle.std.proofs.Common.{◌≡◌, ℕ, zero, suc, ◌+◌, ◌*◌, ◌^◌, ◌<◌, ◌≤◌, List, [], ◌∷◌, length, Option, Some, None, IsSome, get_or, refl, sym, ◌∙◌, ap, subst}
 use Rattle.std.specs.List.{AllZip}
 use Rattle.std.proofs.Math.ListN.{set}
 use Rattle.std.specs.Borrow.{Bor}
@@ -90,6 +90,7 @@ module _ {T : Type 0} where
       counted = sound.counted ∙ sym same_count;
       load = subst (λ n. len ≤ limit n) (sym same_length) sound.load;
       masked = subst (λ n. 0 < n → mask + 1 ≡ n) (sym same_length) sound.masked;
+      doubled = subst (λ n. 0 < n → (k : ℕ) × (n ≡ 8 * 2 ^ k)) (sym same_length) sound.doubled;
       in_place = subst (λ n. InPlace n new) (sym same_length) (record {
         reached = λ p q h y e below near.
             let back = full_by_hash (at old p) h (sym (same_hash_at p) ∙ ap hash_of e) in
@@ -119,7 +120,7 @@ module _ {T : Type 0} (is_clone : T → T → Type 0) where
       → AllZip (IsSlotClone is_clone) old new → IsTagged tags' new → IsSound new tags' len mask
   sound-cloned old new tags tags' len mask sound all tagged =
       let r = reshaped old new (shape-cloned old new all) tags len mask sound in
-      record { counted = r.counted; load = r.load; masked = r.masked; in_place = r.in_place; tagged = tagged }
+      record { counted = r.counted; load = r.load; masked = r.masked; doubled = r.doubled; in_place = r.in_place; tagged = tagged }
 
 module _ {T : Type 0} (w : T) where
   shape-cons : (o : Option (ℕ × T)) (xs ys : List (Option (ℕ × T))) → shape xs ≡ shape ys → shape (o ∷ xs) ≡ shape (o ∷ ys)

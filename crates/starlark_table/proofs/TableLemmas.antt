@@ -1,12 +1,13 @@
 -- What the words on tables say of one another, for the crates above.
-use Rattle.std.proofs.Common.{◌≡◌, ℕ, zero, suc, ◌+◌, true, false, cond, nat_eq, List, [], ◌∷◌, map, length, Option, Some, None, refl, sym, ap, subst, ◌∙◌, arith, if◌then◌else◌, IsPermutation}
+use Rattle.std.proofs.Common.{◌≡◌, ℕ, zero, suc, ◌+◌, ◌<◌, ◌≤◌, inl, inr, true, false, cond, nat_eq, List, [], ◌∷◌, map, length, Option, Some, None, refl, sym, ap, subst, ◌∙◌, arith, if◌then◌else◌, IsPermutation}
 use Rattle.std.specs.Prelude.{slice_index_or, slice_set}
 use Rattle.std.specs.List.{Contains, enumerate_from, filter}
 use Rattle.std.specs.Option.{option_map}
 use Rattle.std.proofs.Common.{eqb-true}
-use Rattle.std.proofs.lemmas.List.Sorted.{IsPermutation-trans, IsPermutation-cons, IsPermutation-middle}
+use Rattle.std.proofs.lemmas.List.Sorted.{IsPermutation-trans, IsPermutation-cons, IsPermutation-middle, length_permutation}
+use Rattle.std.proofs.lemmas.Bool.{cases_lt}
 use Rattle.std.proofs.lemmas.Option.{none-some}
-use Rattle.starlark_table.specs.Table.{Table, filled, holders, members, member_at, items_under, with_item}
+use Rattle.starlark_table.specs.Table.{Table, filled, holders, members, member_at, most_for, items_under, table_capacity, table_len, with_item, GrowsAsNeeded}
 use Rattle.starlark_table.specs.Written.{with_items_of}
 use Rattle.starlark_table.proofs.Path.{in_filled}
 
@@ -56,6 +57,72 @@ module _ {T : Type 0} where
   member_at-items_under hash t s there =
       let held = stands hash 0 t.slots s there in
       ap (member_at t) {x = s.0} {y = held.0} (omega (arith, held.1)) ∙ held.2
+
+-- ---- how room grows
+module _ {T : Type 0} where
+  -- a table that stays
+  pub grows-not : (old new : Table T) → new ≡ old → GrowsAsNeeded old new
+  grows-not old new same =
+      let as_much = ap table_capacity same in
+      let as_many = ap table_len same in
+      record { least = omega (arith, as_much); stays = λ fits. as_much; most = λ more. absurd (omega (arith, as_many, more)) }
+
+  -- one step after another, where no member leaves in the second
+  pub grows-on : (old mid new : Table T) → table_len mid ≤ table_len new → GrowsAsNeeded old mid → GrowsAsNeeded mid new → GrowsAsNeeded old new
+  grows-on old mid new more first later =
+      let a = first.least in
+      let b = later.least in
+      record {
+        least = omega (arith, a, b);
+        stays = λ fits.
+            let here = first.stays (omega (arith, more, fits)) in
+            let there = later.stays (omega (arith, a, fits)) in
+            there ∙ here;
+        most = λ lacks. grown-most old mid new lacks more a first.most first.stays later.stays later.most;
+      }
+    where
+      grown-most : (old mid new : Table T) → table_capacity old < table_len new → table_len mid ≤ table_len new → table_capacity old ≤ table_capacity mid
+          → (table_capacity old < table_len mid → table_capacity mid ≤ most_for (table_len mid))
+          → (table_len mid ≤ table_capacity old → table_capacity mid ≡ table_capacity old)
+          → (table_len new ≤ table_capacity mid → table_capacity new ≡ table_capacity mid)
+          → (table_capacity mid < table_len new → table_capacity new ≤ most_for (table_len new)) → table_capacity new ≤ most_for (table_len new)
+      grown-most old mid new lacks more least first same stays later = elim (cases_lt (table_capacity mid) (table_len new)) [
+        | inl grown ↦ later grown
+        | inr fits ↦
+            let as_mid = stays (omega (arith, fits)) in
+            elim (cases_lt (table_capacity old) (table_len mid)) [
+              | inl grown ↦ let most = first grown in omega (arith, as_mid, most, more)
+              | inr fit ↦ let as_old = same (omega (arith, fit)) in absurd (omega (arith, as_old, fits, lacks))
+            ]
+      ]
+
+  -- how many members there are, and how much room, is all that counts
+  pub grows-alike : (old new also : Table T) → table_len also ≡ table_len new → also.room ≡ new.room → GrowsAsNeeded old new → GrowsAsNeeded old also
+  grows-alike old new also long wide grows =
+      let as_much : table_capacity also ≡ table_capacity new = omega (arith, long, wide) in
+      let least = grows.least in
+      record {
+        least = omega (arith, as_much, least);
+        stays = λ fits. as_much ∙ grows.stays (omega (arith, fits, long));
+        most = λ lacks. let most = grows.most (omega (arith, lacks, long)) in omega (arith, as_much, most, long);
+      }
+
+  -- room for one, and then a member more
+  pub grows-by_one : (old mid new : Table T) (m : ℕ × T) → IsPermutation (members old) (members mid) → 1 ≤ mid.room → (1 ≤ old.room → mid ≡ old)
+      → (old.room < 1 → table_capacity mid ≤ most_for (table_len old + 1)) → IsPermutation (m ∷ members mid) (members new) → table_capacity new ≡ table_capacity mid
+      → GrowsAsNeeded old new
+  grows-by_one old mid new m bag some there most added as_much =
+      let as_many = length_permutation (members old) (members mid) bag in
+      let longer = length_permutation (m ∷ members mid) (members new) added in
+      let same : 1 ≤ old.room → table_capacity new ≡ table_capacity old = λ room. as_much ∙ ap table_capacity (there room) in
+      record {
+        least = elim (cases_lt old.room 1) [
+          | inl none ↦ omega (arith, as_much, as_many, none)
+          | inr room ↦ let is = same (omega (arith, room)) in omega (arith, is)
+        ];
+        stays = λ fits. same (omega (arith, fits, longer, as_many));
+        most = λ lacks. let at_most = most (omega (arith, lacks, longer, as_many)) in omega (arith, as_much, at_most, longer, as_many);
+      }
 
 -- ---- what writing the item of one slot leaves
 behind_front : {X : Type 0} (a b m : X) (xs ys : List X) → IsPermutation (a ∷ xs) (b ∷ ys) → IsPermutation (a ∷ m ∷ xs) (b ∷ m ∷ ys)

@@ -1,5 +1,5 @@
 -- What a contract sees of a `ReadyTable`.
-use Rattle.std.specs.Prelude.{◌≡◌, ℕ, List, [], ◌∷◌, length, map, Option, Some, None, slice_index_or, slice_set, refl, nat_eq, if◌then◌else◌}
+use Rattle.std.specs.Prelude.{◌≡◌, ℕ, ◌+◌, ◌*◌, ◌<◌, ◌≤◌, max, List, [], ◌∷◌, length, map, Option, Some, None, slice_index_or, slice_set, refl, nat_eq, if◌then◌else◌}
 use Rattle.std.specs.List.{enumerate_from, AllZip}
 use Rattle.std.specs.Option.{option_map}
 use Rattle.std.specs.Coded.{Coded, code_by, coded×, coded_ℕ, coded_list, coded_option}
@@ -19,6 +19,10 @@ table_code {T} code =
     (λ p. record { slots = p.0; room = p.1 })
     (λ _. refl)
 
+-- the greatest capacity that a table makes for n members in all: twice as many, or 6
+abbrev pub most_for : ℕ → ℕ
+most_for n = max 6 (2 * n)
+
 module _ {T : Type 0} where
   -- the members among some slots, in their order
   abbrev pub filled : List (Option (ℕ × T)) → List (ℕ × T)
@@ -33,6 +37,21 @@ module _ {T : Type 0} where
   -- how many members there are
   abbrev pub table_len : Table T → ℕ
   table_len t = length (members t)
+
+  -- how many members there may be before the table grows: length plus room
+  abbrev pub table_capacity : Table T → ℕ
+  table_capacity t = table_len t + t.room
+
+  -- the capacity has not fallen: where it was enough for the members that there are now, it is as it was; else it has grown, at
+  -- most to `most_for` so many
+  pub record GrowsAsNeeded (old new : Table T) : Type 0 where
+    pub least : table_capacity old ≤ table_capacity new
+    pub stays : table_len new ≤ table_capacity old → table_capacity new ≡ table_capacity old
+    pub most : table_capacity old < table_len new → table_capacity new ≤ most_for (table_len new)
+
+  -- no member and no room, as a table has that never asked for memory
+  abbrev pub NeedsNoMemory : Table T → Type 0
+  NeedsNoMemory t = (members t ≡ []) × (t.room ≡ 0)
 
   -- the member that a slot names, or none
   abbrev pub member_at : Table T → ℕ → Option (ℕ × T)

@@ -4,7 +4,7 @@ ghost use Rattle.std.specs.Option.{option_and_then, option_copied, option_copied
 ghost use Rattle.std.specs.Borrow.{sem};
 ghost use Rattle.std.specs.List.Retain.{RetainsInTurn};
 ghost use Rattle.starlark_lists.specs.Search.{Searches, CanSearch};
-ghost use Rattle.starlark_table.specs.Table.{members, table_len, member_at, item_in, items_of, items_under, IsTableClone};
+ghost use Rattle.starlark_table.specs.Table.{members, most_for, table_capacity, table_len, member_at, item_in, items_of, items_under, GrowsAsNeeded, IsTableClone, NeedsNoMemory};
 ghost use Rattle.starlark_table.specs.Walk.{CanReplace, ReplacesEach, CanRetain, AsksMember};
 
 mod lends;
@@ -75,11 +75,12 @@ impl<T> ReadyTable<T> {
         }
     }
 
-    /// An empty table with room for so many insertions at least. Where memory is refused, nothing is made; capacity 0
-    /// is not refused.
+    /// An empty table with room for so many insertions at least, and for twice as many, or 6, at most. Where memory is
+    /// refused, nothing is made; capacity 0 is not refused.
     pub fn with_capacity(alloc: Global, capacity: usize) -> Result<ReadyTable<T>, AllocError>
         ensures empty { IfOk result (λ t. members t ≡ []) }
         ensures room { IfOk result (λ t. capacity ≤ t.room) }
+        ensures most { IfOk result (λ t. t.room ≤ most_for capacity) }
         ensures none_for_none { capacity ≡ 0 → IsOk result }
     {
         if capacity == 0 {
@@ -179,13 +180,14 @@ impl<T> ReadyTable<T> {
         &mut self.slots.get_mut(slot).1
     }
 
-    /// Puts an item in, also where an equal one is there, and answers its slot. Refused only at room 0; the table is
-    /// then as it was, and the item comes back.
+    /// Puts an item in, also where an equal one is there, and answers its slot. The table grows only at room 0, and
+    /// then at most to room for twice its length, or for 6. Refused only at room 0; the table is then as it was, and the
+    /// item comes back.
     #[inline]
     pub fn insert_unique(&mut self, hash: u64, item: T) -> Result<usize, NoRoom<T>>
         ensures named { IfOk result (λ slot. member_at self.new slot ≡ Some (hash, item)) }
         ensures added { OnOk result (IsPermutation ((hash, item) ∷ members self.old) (members self.new)) }
-        ensures room { OnOk result (table_len self.old + self.old.room ≤ table_len self.new + self.new.room) }
+        ensures room { OnOk result (GrowsAsNeeded self.old self.new) }
 
         ensures refused { OnErr result (self.old.room ≡ 0) }
         ensures unchanged { OnErr result (self.new ≡ self.old) }
@@ -203,7 +205,7 @@ impl<T> ReadyTable<T> {
         requires { 0 < self.old.room }
         ensures named { member_at self.new result ≡ Some (hash, item) }
         ensures added { IsPermutation ((hash, item) ∷ members self.old) (members self.new) }
-        ensures room { table_len self.old + self.old.room ≤ table_len self.new + self.new.room }
+        ensures room { table_capacity self.new ≡ table_capacity self.old }
     {
         let slot = put(&mut self.slots, self.tags.as_mut_slice(), hash, item);
         self.len += 1;
@@ -211,10 +213,12 @@ impl<T> ReadyTable<T> {
     }
 
     /// Makes room for so many insertions at least. It asks for no memory, and changes nothing, where the room is there;
-    /// where it is refused, the table is as it was.
+    /// else the table grows at most to room for twice the members that it is to hold, or for 6. Where it is refused, the
+    /// table is as it was.
     #[inline]
     pub fn reserve(&mut self, additional: usize) -> Result<(), AllocError>
         ensures ok { OnOk result (additional ≤ self.new.room) }
+        ensures most { self.old.room < additional → OnOk result (table_capacity self.new ≤ most_for (table_len self.old + additional)) }
         ensures bag { IsPermutation (members self.old) (members self.new) }
         ensures room { self.old.room ≤ self.new.room }
         ensures enough { additional ≤ self.old.room → self.new ≡ self.old }
@@ -235,6 +239,7 @@ impl<T> ReadyTable<T> {
     fn grow(&mut self, needed: usize) -> Result<(), AllocError>
         requires { table_len self.old + self.old.room < needed }
         ensures ok { OnOk result (needed ≤ table_len self.old + self.new.room) }
+        ensures most { OnOk result (table_capacity self.new ≤ most_for needed) }
         ensures room { self.old.room ≤ self.new.room }
         ensures bag { IsPermutation (members self.old) (members self.new) }
         ensures unchanged { OnErr result (self.new ≡ self.old) }
@@ -265,7 +270,7 @@ impl<T> ReadyTable<T> {
         ensures found { result ≡ member_at self.old slot }
         ensures rest { IfSome result (λ m. IsPermutation (members self.old) (m ∷ members self.new)) }
         ensures none { IfNone result (self.new ≡ self.old) }
-        ensures room { table_len self.new + self.new.room ≡ table_len self.old + self.old.room }
+        ensures room { table_capacity self.new ≡ table_capacity self.old }
     {
         let Some(member) = take_out(&mut self.slots, self.tags.as_mut_slice(), slot) else {
             return None;
@@ -294,7 +299,7 @@ impl<T> ReadyTable<T> {
         T: Drop,
         requires { CanRetain F.FnMut (items_of self.old) f }
         ensures kept { (kept : List (ℕ × T)) × RetainsInTurn (AsksMember F.FnMut) f (members self.old) kept × IsPermutation kept (members self.new) }
-        ensures room { table_len self.new + self.new.room ≡ table_len self.old + self.old.room }
+        ensures room { table_capacity self.new ≡ table_capacity self.old }
     {
         self.len = retain_items(&mut self.slots, self.tags.as_mut_slice(), f);
     }
@@ -304,7 +309,7 @@ impl<T> ReadyTable<T> {
     where
         T: Drop,
         ensures empty { members self.new ≡ [] }
-        ensures room { self.new.room ≡ table_len self.old + self.old.room }
+        ensures room { self.new.room ≡ table_capacity self.old }
     {
         if self.len == 0 {
             return;
@@ -353,7 +358,9 @@ impl<'a, T> IntoIterator for &'a ReadyTable<T> {
 impl<T: Clone> Clone for ReadyTable<T> {
     ghost is_clone = { IsTableClone T.is_clone };
 
-    /// A table of clones, slot by slot.
+    ghost is_infallible = { λ t. NeedsNoMemory t };
+
+    /// A table of clones, slot by slot. One without members and room asks for no memory, and is not refused.
     fn clone(&self) -> Result<Self, AllocError> {
         let alloc = *self.tags.allocator();
         let count = self.slots.places();

@@ -6,8 +6,9 @@ use Rattle.std.specs.Map.{lookup}
 use Rattle.std.proofs.lemmas.List.{length-map}
 use Rattle.std.proofs.lemmas.List.Sorted.{IsPermutation-map, sum_by-IsPermutation}
 use Rattle.std.proofs.lemmas.Option.{none-some}
-use Rattle.starlark_table.specs.Table.{Table, item_in, members}
-use Rattle.starlark_unordered.specs.Pairs.{pairs_of, with_value, KeepsRoom}
+use Rattle.starlark_table.specs.Table.{Table, item_in, members, table_len, GrowsAsNeeded}
+use Rattle.starlark_table.proofs.TableLemmas.{grows-alike}
+use Rattle.starlark_unordered.specs.Pairs.{pairs_of, with_value}
 use Rattle.starlark_unordered.specs.RawEntry.{IsInPlace}
 use Rattle.starlark_unordered.specs.RawLending.{IsAdded}
 use Rattle.starlark_unordered.proofs.Lists.{count-cons, count-middle, one_if}
@@ -95,11 +96,11 @@ module _ {K V : Type 0} (eq : K → K → Bool) (laws : IsEquivalence eq) (old :
       let now = length-map (members (with_value new slot w)) (λ m. m.1) in
       let was = length-map (members new) (λ m. m.1) in
       let same = same_length (key, value) (key, w) (pairs_of new) (pairs_of (with_value new slot w)) place in
-      let room = added.room in
-      record { pairs = rewritten_pairs w (pairs_of new) (pairs_of (with_value new slot w)) added.pairs place; room = omega (arith, now, was, same, room) }
+      let long : table_len (with_value new slot w) ≡ table_len new = omega (arith, now, was, same) in
+      record { pairs = rewritten_pairs w (pairs_of new) (pairs_of (with_value new slot w)) added.pairs place; room = grows-alike old new (with_value new slot w) long refl added.room }
 
   -- whatever is left in its place
-  pub added_any : {E : Type 0} (new : Table (K × V)) (r : Result ℕ E) → IfOk r (λ slot. item_in new slot ≡ Some (key, value)) → OnOk r (IsPermutation ((key, value) ∷ pairs_of old) (pairs_of new)) → KeepsRoom old new
+  pub added_any : {E : Type 0} (new : Table (K × V)) (r : Result ℕ E) → IfOk r (λ slot. item_in new slot ≡ Some (key, value)) → OnOk r (IsPermutation ((key, value) ∷ pairs_of old) (pairs_of new)) → GrowsAsNeeded old new
       → IfOk r (λ slot. (w : V) → IsAdded old key w (with_value new slot w))
   added_any new (Ok slot) there added room = λ w. added_written new slot w (item_in new slot) refl there (record { pairs = added; room = room })
   added_any new (Err e) there added room = tt

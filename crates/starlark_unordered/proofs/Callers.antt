@@ -1,5 +1,5 @@
 -- What the clauses of a map say in the callers' words.
-use Rattle.std.proofs.Common.{◌≡◌, ℕ, zero, suc, ◌≤◌, ◌+◌, Bool, true, false, cond, List, [], ◌∷◌, Option, Some, None, is_some, refl, subst, sym, ap, ◌∙◌, arith, count_by, true≢false}
+use Rattle.std.proofs.Common.{◌≡◌, ℕ, zero, suc, ◌≤◌, ◌+◌, Bool, true, false, cond, List, [], ◌∷◌, Option, Some, None, is_some, refl, subst, sym, ap, ◌∙◌, arith, count_by}
 use Rattle.std.specs.Cmp.{IsEquivalence}
 use Rattle.std.specs.List.{Contains}
 use Rattle.std.specs.Map.{keys_of, lookup, set_value, IsKeyTest}
@@ -10,8 +10,11 @@ use Rattle.std.proofs.lemmas.Bool.{false≢true}
 use Rattle.std.proofs.lemmas.List.Sorted.{Contains-permutation, IsPermutation-sym, length_permutation, sum_by-IsPermutation}
 use Rattle.std.proofs.lemmas.Map.{length-set_value, lookup-set_value}
 use Rattle.std.proofs.lemmas.Option.{none-some, same_Some}
-use Rattle.starlark_table.specs.Table.{Table, item_in}
+use Rattle.std.proofs.lemmas.List.{length-map}
+use Rattle.starlark_table.specs.Table.{Table, item_in, members, table_len, GrowsAsNeeded}
+use Rattle.starlark_table.proofs.TableLemmas.{grows-alike, grows-not, grows-on}
 use Rattle.starlark_unordered.specs.Pairs.{pairs_of, with_pair, with_value, HasDistinctKeys, IsPairAt, IsWithout, IsWritten}
+use Rattle.starlark_unordered.proofs.Keys.{table_len_written}
 use Rattle.starlark_unordered.proofs.Lists.{count-cons, one_if}
 use Rattle.starlark_unordered.specs.Calling.{found, Writes, Updates}
 
@@ -37,6 +40,10 @@ module _ {K V : Type 0} (t : K → Bool) where
       let c = count-cons (λ (p : K × V). t p.0) e es in
       let rest = counted es k v does (n, omega (arith, below), is) in
       omega (arith, c, rest)
+
+  -- where a value is found, a key is counted
+  pub counted_found : (es : List (K × V)) (v : V) → lookup t es ≡ Some v → 1 ≤ count_by (λ p. t p.0) es
+  counted_found es v h = let r = at_some es v h in counted es r.0 v r.1 r.2
 
   only_step : (e : K × V) (es : List (K × V)) (v : V) (b : Bool) → t e.0 ≡ b → count_by (λ p. t p.0) (e ∷ es) ≤ 1 → 1 ≤ count_by (λ p. t p.0) es → lookup t es ≡ Some v → cond b (Some e.1) (lookup t es) ≡ Some v
   only_step e es v true is once more later =
@@ -227,5 +234,17 @@ module _ {K V : Type 0} (t : K → Bool) where
 -- a pair more is one more
 pub length-more : {K V : Type 0} (old new : Table (K × V)) (p : K × V) → IsPermutation (p ∷ pairs_of old) (pairs_of new) → length (pairs_of new) ≡ length (pairs_of old) + 1
 length-more old new p moves = let more = length_permutation (p ∷ pairs_of old) (pairs_of new) moves in omega (arith, more)
+
+-- a step that takes no pair out goes on with room
+pub grows-with : {K V : Type 0} (old mid new : Table (K × V)) (there : Bool) → length (pairs_of new) ≡ length (pairs_of mid) + cond there 0 1 → GrowsAsNeeded old mid → GrowsAsNeeded mid new → GrowsAsNeeded old new
+grows-with old mid new there longer first later = grows-on old mid new (more there longer) first later
+  where
+    more : (b : Bool) → length (pairs_of new) ≡ length (pairs_of mid) + cond b 0 1 → table_len mid ≤ table_len new
+    more true is = omega (arith, is, length-map (members new) (λ m. m.1), length-map (members mid) (λ m. m.1))
+    more false is = omega (arith, is, length-map (members new) (λ m. m.1), length-map (members mid) (λ m. m.1))
+
+-- a value that is written leaves the room
+pub grows-slot : {K V : Type 0} (t : K → Bool) (m : Table (K × V)) (slot : ℕ) → IsPairAt t m slot → (w : V) → GrowsAsNeeded m (with_value m slot w)
+grows-slot t m slot at w = grows-alike m m (with_value m slot w) (table_len_written t m slot w at) refl (grows-not m m refl)
 
 pub ruleset callers = (updates-inserted, writes-removed, nothing_found, found_is)

@@ -1,10 +1,11 @@
 -- Maps of an iterator's items.
 use Rattle.std.specs.Prelude.{◌≡◌, ◌≤◌, ◌+◌, ℕ, Bool, List, [], ◌∷◌, Option, Some, None, if◌then◌else◌, IsPermutation}
+use Rattle.std.specs.List.{list_any}
 use Rattle.std.specs.Iterator.{Count, Drains}
 use Rattle.std.specs.Iterator.SizeHint.{IsWithinCount}
 use Rattle.std.specs.Option.{option_map, option_or}
 use Rattle.starlark_table.specs.Table.{Table, table_len}
-use Rattle.starlark_unordered.specs.Calling.{get}
+use Rattle.starlark_unordered.specs.Calling.{contains, get}
 use Rattle.starlark_unordered.specs.Pairs.{pairs_of, with_pair}
 
 -- the last value that the pairs have for the key that passes
@@ -27,6 +28,10 @@ module _ {K V : Type 0} (eq : K → K → Bool) where
     -- each key has the last of the values that the iterator's items have for it
     abbrev pub HasLast : {U : Type 0} → (U → T → Type 0) → U → Table (K × V) → Type 0
     HasLast becomes iter m = (it : T) × (xs : List (K × V)) × becomes iter it × Drains steps it xs × ((key : K) → get eq m key ≡ last_value (eq key) xs)
+
+  -- the set has each of the iterator's items, and nothing else
+  abbrev pub HasEach : {S U : Type 0} → (S → Option K → S → Type 0) → (U → S → Type 0) → U → Table (K × V) → Type 0
+  HasEach {S = S} steps becomes iter s = (it : S) × (xs : List K) × becomes iter it × Drains steps it xs × ((element : K) → contains eq s element ≡ list_any (eq element) xs)
 
 -- a step of an iterator that gives each item beside `()`, as a set puts it in
 abbrev pub StepsBeside : {S A : Type 0} → (S → Option A → S → Type 0) → S → Option (A × Unit {0}) → S → Type 0

@@ -1,14 +1,14 @@
 -- What an `UnorderedMap` ends as, once a reference into a pair that was put in has ended.
 use Rattle.std.specs.Prelude.{◌≡◌, ◌∷◌, ℕ, Result, OnOk, OnErr, IfOk, IsPermutation}
 use Rattle.std.specs.Borrow.{Fml, RattleType, Bor, MutBor, follows_so, name_if_ok}
-use Rattle.starlark_table.specs.Table.{Table}
+use Rattle.starlark_table.specs.Table.{Table, GrowsAsNeeded}
 use Rattle.starlark_unordered.specs.Lending.{HashMembers, map_row}
-use Rattle.starlark_unordered.specs.Pairs.{pairs_of, with_value, KeepsRoom}
+use Rattle.starlark_unordered.specs.Pairs.{pairs_of, with_value}
 
--- new is old and one pair more, and length plus room has not fallen
+-- new is old and one pair more, grown only where there was no room
 pub record IsAdded {K V : Type 0} (old : Table (K × V)) (key : K) (value : V) (new : Table (K × V)) : Type 0 where
   pub pairs : IsPermutation ((key, value) ∷ pairs_of old) (pairs_of new)
-  pub room : KeepsRoom old new
+  pub room : GrowsAsNeeded old new
 
 module _ (K V : RattleType) (g : HashMembers K.Denot) (s : MutBor (Table (K.Denot × V.Denot))) {E : Type 0} where
   -- the value in the slot ends as what is left behind the reference, and all else stays

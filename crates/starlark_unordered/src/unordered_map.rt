@@ -1,5 +1,6 @@
 //! The map. It alone sees its table.
 ghost use Rattle.std.specs.Prelude.{◌≡◌, ◌≤◌, ◌==◌, [], length, IfOk, IsOk};
+ghost use Rattle.starlark_table.specs.Table.{most_for};
 ghost use Rattle.starlark_unordered.specs.Calling.{IsEmpty};
 ghost use Rattle.starlark_unordered.specs.Pairs.{pairs_of, HasDistinctKeys};
 
@@ -57,13 +58,14 @@ impl<K: Eq + Hash, V> UnorderedMap<K, V> {
         }
     }
 
-    /// An empty map with room for so many pairs at least. Where memory is refused, nothing is made; capacity 0 is not
-    /// refused.
+    /// An empty map with room for so many pairs at least, and for twice as many, or 6, at most. Where memory is refused,
+    /// nothing is made; capacity 0 is not refused.
     #[tactic(auto, using(crate::proofs::Callers::callers), unfolding(crate::specs::Calling::found))]
     pub fn with_capacity(alloc: Global, capacity: usize) -> Result<Self, AllocError>
         ensures found { IfOk result (λ m. IsEmpty m) }
         ensures empty { IfOk result (λ m. pairs_of m ≡ []) }
         ensures room { IfOk result (λ m. capacity ≤ m.room) }
+        ensures most { IfOk result (λ m. m.room ≤ most_for capacity) }
         ensures none_for_none { capacity ≡ 0 → IsOk result }
     {
         Ok(UnorderedMap {

@@ -1,12 +1,13 @@
 //! The set: an `UnorderedMap` to `()`.
 ghost use Rattle.std.specs.Prelude.{◌≡◌, ◌≤◌, ◌==◌, ◌+◌, [], length, if◌then◌else◌, map, not, false, None, Some, IfOk, IfErr, IsOk, OnOk, OnErr, IsPermutation, IsSortedByKey};
+ghost use Rattle.std.specs.List.{AllZip};
 ghost use Rattle.std.specs.Map.{lookup};
 ghost use Rattle.std.specs.Map.Iter.{deref};
 ghost use Rattle.starlark_hash.specs.HashValue.{hash_of, key_of};
-ghost use Rattle.starlark_table.specs.Table.{table_len};
+ghost use Rattle.starlark_table.specs.Table.{most_for, table_len, GrowsAsNeeded};
 ghost use Rattle.starlark_unordered.specs.Calling.{IsEmpty, Updates, contains};
 ghost use Rattle.starlark_unordered.specs.Clone.{IsEqualClone, IsLawfulClone};
-ghost use Rattle.starlark_unordered.specs.Pairs.{pairs_of, with_pair, under_own, HasDistinctKeys, KeepsRoom};
+ghost use Rattle.starlark_unordered.specs.Pairs.{pairs_of, with_pair, under_own, HasDistinctKeys};
 
 mod collect;
 mod compare;
@@ -52,12 +53,13 @@ impl<T: Eq + Hash> UnorderedSet<T> {
         }
     }
 
-    /// An empty set with room for so many elements at least. Where memory is refused, nothing is made; capacity 0 is
-    /// not refused.
+    /// An empty set with room for so many elements at least, and for twice as many, or 6, at most. Where memory is
+    /// refused, nothing is made; capacity 0 is not refused.
     pub fn with_capacity(alloc: Global, capacity: usize) -> Result<Self, AllocError>
         ensures found { IfOk result (λ s. IsEmpty s) }
         ensures empty { IfOk result (λ s. elements_of s ≡ []) }
         ensures room { IfOk result (λ s. capacity ≤ s.room) }
+        ensures most { IfOk result (λ s. s.room ≤ most_for capacity) }
         ensures none_for_none { capacity ≡ 0 → IsOk result }
     {
         Ok(UnorderedSet {
@@ -68,7 +70,7 @@ impl<T: Eq + Hash> UnorderedSet<T> {
 
     /// Puts the element in, and answers whether it is new. One that is there stays, and this one is dropped. Only a new
     /// element is refused, where there is no room and no memory is found: then it comes back, and the set is as it was.
-    /// Length plus room never falls.
+    /// It grows only at room 0, to room for twice its elements, or for 6, at most.
     pub fn insert(&mut self, element: T) -> Result<bool, NoRoom<T>>
     where
         T: Drop,
@@ -78,7 +80,7 @@ impl<T: Eq + Hash> UnorderedSet<T> {
         ensures lacks { OnErr result (contains T.eq self.old element ≡ false) }
         ensures is_new { IfOk result (λ is_new. is_new ≡ not (has (T.eq element) self.old)) }
         ensures elements { OnOk result (IsPermutation (with_pair T.eq element tt (pairs_of self.old)) (pairs_of self.new)) }
-        ensures room { KeepsRoom self.old self.new }
+        ensures room { GrowsAsNeeded self.old self.new }
 
         ensures absent { OnErr result (lookup (T.eq element) (pairs_of self.old) ≡ None) }
         ensures full { OnErr result (self.old.room ≡ 0) }
@@ -154,11 +156,16 @@ impl<T: Eq + Hash> UnorderedSet<T> {
 }
 
 impl<T: Eq + Hash + Clone> UnorderedSet<T> {
-    /// A set of clones of the elements, with as much room. Where memory is refused, also to the clone of an element,
-    /// nothing is made. An empty set without room needs none. Required is that a clone of an element is equal to it.
+    ghost use Rattle.starlark_unordered.specs.Set.{elements_of};
+
+    /// A set of clones of the elements, each in its original's place, with as much room. Where memory is refused, also
+    /// to the clone of an element, nothing is made. An empty set without room needs none. Required is that a clone of an
+    /// element is equal to it.
     pub fn clone(&self) -> Result<Self, AllocError>
         // A clone of an element is equal to it.
         requires { IsEqualClone T.eq T.is_clone }
+        ensures elements { IfOk result (λ s. AllZip T.is_clone (elements_of self.now) (elements_of s)) }
+        ensures found { IfOk result (λ s. (element : T) → contains T.eq s element ≡ contains T.eq self.now element) }
         ensures same { IfOk result (λ s. IsLawfulClone T.is_clone → pairs_of s ≡ pairs_of self.now) }
         ensures room { IfOk result (λ s. s.room ≡ self.now.room) }
         ensures none_for_none { pairs_of self.now ≡ [] → self.now.room ≡ 0 → IsOk result }

@@ -1,8 +1,9 @@
 //! `UnorderedMap`s from the items of iterators.
 ghost use Rattle.std.specs.Prelude.{◌≡◌, List, IfOk, IsOk, OnOk};
 ghost use Rattle.std.specs.Iterator.{Drains, IsFiniteIterable, IsFinite, size};
+ghost use Rattle.starlark_table.specs.Table.{GrowsAsNeeded};
 ghost use Rattle.starlark_unordered.specs.Collect.{Collects, HasLast, InsertsAll};
-ghost use Rattle.starlark_unordered.specs.Pairs.{pairs_of, KeepsRoom};
+ghost use Rattle.starlark_unordered.specs.Pairs.{pairs_of};
 
 use super::UnorderedMap;
 use std::alloc::{AllocError, Global};
@@ -33,7 +34,7 @@ impl<K: Eq + Hash + Drop, V: Drop> UnorderedMap<K, V> {
         requires finite { IsFinite (I.remaining items) }
         ensures pairs { OnOk result ((xs : List (K × V)) × Drains I.next_gives items xs × InsertsAll K.eq (pairs_of self.old) xs (pairs_of self.new)) }
         ensures succeeds { size (I.remaining items) ≡ 0 → IsOk result }
-        ensures room { KeepsRoom self.old self.new }
+        ensures room { GrowsAsNeeded self.old self.new }
     {
         while let Some(pair) = items.next() {
             let (key, value) = pair;

@@ -5,8 +5,8 @@ ghost use Rattle.std.specs.Fn.{CalledAt, TakesAt};
 ghost use Rattle.std.specs.Map.{lookup};
 ghost use Rattle.std.specs.Option.{is_some, option_copied, option_map};
 ghost use Rattle.starlark_lists.specs.Search.{CanSearch, Searches};
-ghost use Rattle.starlark_table.specs.Table.{item_in, table_len};
-ghost use Rattle.starlark_unordered.specs.Pairs.{pairs_of, keys_under, under_own, HasDistinctKeys, IsSlotOf, KeepsRoom};
+ghost use Rattle.starlark_table.specs.Table.{item_in, table_len, GrowsAsNeeded};
+ghost use Rattle.starlark_unordered.specs.Pairs.{pairs_of, keys_under, under_own, HasDistinctKeys, IsSlotOf};
 ghost use Rattle.starlark_unordered.specs.Sound.{home_of};
 
 use super::UnorderedMap;
@@ -110,7 +110,7 @@ impl<K: Eq + Hash, V> UnorderedMap<K, V> {
         ensures placed { IfOk result (λ slot. item_in self.new slot ≡ Some (key, value)) }
         ensures pairs { OnOk result (IsPermutation ((key, value) ∷ pairs_of self.old) (pairs_of self.new)) }
         ensures distinct { HasDistinctKeys K.eq (pairs_of self.new) }
-        ensures room { KeepsRoom self.old self.new }
+        ensures room { GrowsAsNeeded self.old self.new }
 
         ensures full { OnErr result (self.old.room ≡ 0) }
         ensures handed_back { IfErr result (λ refused. refused.0 ≡ (key, value)) }

@@ -4,9 +4,9 @@ ghost use Rattle.std.specs.Borrow.{sem};
 ghost use Rattle.std.specs.List.Retain.{RetainsInTurn};
 ghost use Rattle.std.specs.Map.{lookup};
 ghost use Rattle.std.specs.Option.{option_copied_mut};
-ghost use Rattle.starlark_table.specs.Table.{table_len};
+ghost use Rattle.starlark_table.specs.Table.{table_len, GrowsAsNeeded};
 ghost use Rattle.starlark_unordered.specs.Calling.{IsEmpty, Updates, Writes, contains, get};
-ghost use Rattle.starlark_unordered.specs.Pairs.{pairs_of, with_pair, IsWithout, KeepsRoom};
+ghost use Rattle.starlark_unordered.specs.Pairs.{pairs_of, with_pair, IsWithout};
 ghost use Rattle.starlark_unordered.specs.Walk.{CanAskPairs, AsksPair, TakesPair};
 
 use super::UnorderedMap;
@@ -33,7 +33,7 @@ impl<K: Eq + Hash, V> UnorderedMap<K, V> {
 
     /// Puts the value at the key. A key that is there stays and takes the value, whose old one is answered; else there
     /// is one pair more. Only a new key is refused, where there is no room and no memory is found: then key and value
-    /// come back, and the map is as it was. Length plus room never falls.
+    /// come back, and the map is as it was. It grows only at room 0, to room for twice its pairs, or for 6, at most.
     #[tactic(auto, using(crate::proofs::Keys::table_len_written, crate::proofs::Callers::callers), unfolding(crate::specs::Calling::found))]
     pub fn insert(&mut self, key: K, value: V) -> Result<Option<V>, NoRoom<(K, V)>>
     where
@@ -44,7 +44,7 @@ impl<K: Eq + Hash, V> UnorderedMap<K, V> {
         ensures lacks { OnErr result (get K.eq self.old key ≡ None) }
         ensures old { IfOk result (λ old. old ≡ lookup (K.eq key) (pairs_of self.old)) }
         ensures pairs { OnOk result (IsPermutation (with_pair K.eq key value (pairs_of self.old)) (pairs_of self.new)) }
-        ensures room { KeepsRoom self.old self.new }
+        ensures room { GrowsAsNeeded self.old self.new }
 
         ensures absent { OnErr result (lookup (K.eq key) (pairs_of self.old) ≡ None) }
         ensures full { OnErr result (self.old.room ≡ 0) }

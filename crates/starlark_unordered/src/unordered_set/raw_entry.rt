@@ -6,8 +6,8 @@ ghost use Rattle.std.specs.Option.{is_some};
 ghost use Rattle.starlark_hash.specs.HashValue.{hash_of, key_of};
 ghost use Rattle.starlark_hash.specs.Hasher.{own_hash};
 ghost use Rattle.starlark_lists.specs.Search.{CanSearch, Searches};
-ghost use Rattle.starlark_table.specs.Table.{item_in, table_len};
-ghost use Rattle.starlark_unordered.specs.Pairs.{pairs_of, keys_under, under_own, IsSlotOf, KeepsRoom};
+ghost use Rattle.starlark_table.specs.Table.{item_in, table_len, GrowsAsNeeded};
+ghost use Rattle.starlark_unordered.specs.Pairs.{pairs_of, keys_under, under_own, IsSlotOf};
 ghost use Rattle.starlark_unordered.specs.RawEntry.{IsInPlace};
 
 use super::UnorderedSet;
@@ -145,7 +145,7 @@ impl<T: Eq + Hash> RawVacantEntryMut<'_, T> {
     pub fn insert(self, element: T) -> Result<(), NoRoom<T>>
         requires { lookup (T.eq element) (pairs_of self.map.now) ≡ None }
         ensures elements { OnOk result (IsPermutation ((element, tt) ∷ pairs_of self.entry.map.now) (pairs_of self.exit.0.now)) }
-        ensures room { KeepsRoom self.entry.map.now self.exit.0.now }
+        ensures room { GrowsAsNeeded self.entry.map.now self.exit.0.now }
 
         ensures full { OnErr result (self.entry.map.now.room ≡ 0) }
         ensures handed_back { IfErr result (λ refused. refused.0 ≡ element) }
@@ -163,7 +163,7 @@ impl<T: Eq + Hash> RawVacantEntryMut<'_, T> {
         requires own { hash_of element ≡ own_hash T.hash_input (key_of element) }
         requires absent { lookup (T.eq (key_of element)) (pairs_of self.map.now) ≡ None }
         ensures elements { OnOk result (IsPermutation ((key_of element, tt) ∷ pairs_of self.entry.map.now) (pairs_of self.exit.0.now)) }
-        ensures room { KeepsRoom self.entry.map.now self.exit.0.now }
+        ensures room { GrowsAsNeeded self.entry.map.now self.exit.0.now }
 
         ensures full { OnErr result (self.entry.map.now.room ≡ 0) }
         ensures handed_back { IfErr result (λ refused. refused.0 ≡ element) }

@@ -1,10 +1,14 @@
-use Rattle.std.proofs.Common.{◌-◌, ◌^◌, ◌≤◌}
+use Rattle.std.proofs.Common.{◌≡◌, ℕ, ◌-◌, ◌*◌, ◌^◌, ◌≤◌}
+use Rattle.starlark_table.specs.Layout.{limit}
+use Rattle.starlark_table.specs.Table.{most_for}
 use Rattle.starlark_table.proofs.places.places_for.Given as goal
 
 abbrev pub invariant-loop-count : goal.invariant-loop-count
 invariant-loop-count l = record {
   low : 8 ≤ l.count;
   fits : l.count ≤ 2 ^ 62;
+  most : limit l.count ≤ most_for l.needed;
+  doubled : (k : ℕ) × (l.count ≡ 8 * 2 ^ k);
 }
 
 abbrev pub decreases-loop-count : goal.decreases-loop-count

@@ -37,12 +37,12 @@ pub invariant_of-self : goal.invariant_of-self
 invariant_of-self g c =
     let made = grown c.self.inside.slots c.self.inside.tags.items c.self.inside.len c.self.inside.mask c.self.invariant c.args.self.now c.self.view_is c.args.needed c.in-Some.count c.requires
     c.in-Some.ensures.enough c.replace-old.result c.replace-old.new.dest c.replace-old.ensures.value (c.replace-old.ensures.after ∙ c.in_ok-slots.ensures.made)
-    c.move_all.new.slots c.move_all.new.tags c.in-Some.ensures.some c.move_all.ensures.sized c.move_all.ensures.in_place c.move_all.ensures.tagged c.move_all.ensures.bag in
+    c.move_all.new.slots c.move_all.new.tags c.in-Some.ensures.some c.in-Some.ensures.doubled c.move_all.ensures.sized c.move_all.ensures.in_place c.move_all.ensures.tagged c.move_all.ensures.bag in
     sound-as _ _ _ _ c.self.inside.len (c.in-Some.count - 1) refl (with_items_is c.replace-old_tags.new.dest c.move_all.new.tags (c.move_all.auto.tags ∙ c.as_mut_slice.ensures.len)) made.sound
 
 pub returns : goal.returns
 returns g c =
     let made = grown c.self.inside.slots c.self.inside.tags.items c.self.inside.len c.self.inside.mask c.self.invariant c.args.self.now c.self.view_is c.args.needed c.in-Some.count c.requires
     c.in-Some.ensures.enough c.replace-old.result c.replace-old.new.dest c.replace-old.ensures.value (c.replace-old.ensures.after ∙ c.in_ok-slots.ensures.made)
-    c.move_all.new.slots c.move_all.new.tags c.in-Some.ensures.some c.move_all.ensures.sized c.move_all.ensures.in_place c.move_all.ensures.tagged c.move_all.ensures.bag in
-    record { ok = made.enough; room = made.room; bag = made.bag; unchanged = tt }
+    c.move_all.new.slots c.move_all.new.tags c.in-Some.ensures.some c.in-Some.ensures.doubled c.move_all.ensures.sized c.move_all.ensures.in_place c.move_all.ensures.tagged c.move_all.ensures.bag in
+    record { ok = made.enough; most = made.most c.in-Some.ensures.most; room = made.room; bag = made.bag; unchanged = tt }

@@ -1,6 +1,7 @@
-use Rattle.std.proofs.Common.{◌∷◌, arith}
-use Rattle.std.proofs.lemmas.List.Sorted.{IsPermutation-trans, IsPermutation-cons, length_permutation}
+use Rattle.std.proofs.Common.{◌∷◌}
+use Rattle.std.proofs.lemmas.List.Sorted.{IsPermutation-trans, IsPermutation-cons}
 use Rattle.starlark_table.specs.Table.{members}
+use Rattle.starlark_table.proofs.TableLemmas.{grows-by_one}
 use Rattle.starlark_table.proofs.ready_table.ReadyTable.insert_unique.Goals as goal
 
 pub returns-clause-added : goal.returns-clause-added
@@ -10,4 +11,6 @@ returns-clause-added g c =
 
 pub returns-clause-room : goal.returns-clause-room
 returns-clause-room g c =
-    omega (arith, length_permutation (members c.args.self.now) (members c.reserve.new.self) c.reserve.ensures.bag, c.reserve.ensures.room, c.insert_reserved.ensures.room)
+    let put = c.insert_reserved.ensures in
+    let made = c.in_default.ensures {u = tt} in
+    grows-by_one c.args.self.now c.reserve.new.self c.insert_reserved.new.self (c.args.hash, c.args.item) made.bag made.ok made.enough made.most put.added put.room

@@ -3,6 +3,7 @@ use Rattle.std.specs.List.{AllZip}
 use Rattle.starlark_table.specs.Table.{members}
 use Rattle.starlark_unordered.specs.Clone.{IsPairClone}
 use Rattle.starlark_unordered.specs.Pairs.{pairs_of}
+use Rattle.starlark_unordered.proofs.Agreeing.{found-cloned}
 use Rattle.starlark_unordered.proofs.Cloned.{members-cloned, pairs-cloned, same-cloned, keyed-cloned}
 use Rattle.starlark_unordered.proofs.unordered_map.UnorderedMap.clone.Goals as goal
 
@@ -22,3 +23,7 @@ returns-clause-pairs g c =
 
 pub returns-clause-same : goal.returns-clause-same
 returns-clause-same g c = λ keys values. same-cloned g.K.Clone.is_clone g.V.Clone.is_clone keys values (pairs_of c.args.self.now) (pairs_of c.in_ok-clone.field-0) (returns-clause-pairs g c)
+
+pub returns-clause-found : goal.returns-clause-found
+returns-clause-found g c =
+    found-cloned g.K.PartialEq.eq g.met.K.Eq.laws g.K.Clone.is_clone g.V.Clone.is_clone c.requires (pairs_of c.args.self.now) (pairs_of c.in_ok-clone.field-0) (returns-clause-pairs g c)

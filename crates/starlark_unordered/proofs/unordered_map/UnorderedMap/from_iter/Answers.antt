@@ -16,7 +16,7 @@ returns-clause-map g c =
       c.size_hint.ensures.lower,
       put.1,
       subst (λ l. InsertsAll g.K.PartialEq.eq l put.0 (pairs_of c.insert_items.new.self)) none put.2,
-      omega (arith, c.insert_items.ensures.room, c.in_ok-map.ensures.room),
+      omega (arith, c.insert_items.ensures.room.least, c.in_ok-map.ensures.room),
     )
 
 pub returns-clause-found : goal.returns-clause-found

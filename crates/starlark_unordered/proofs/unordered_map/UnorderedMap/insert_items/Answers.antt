@@ -1,18 +1,21 @@
-use Rattle.std.proofs.Common.{refl, arith}
+use Rattle.std.proofs.Common.{refl, arith, ap}
 use Rattle.std.proofs.iter.Next as it
 use Rattle.starlark_unordered.specs.Pairs.{pairs_of}
+use Rattle.starlark_table.specs.Table.{table_len}
+use Rattle.starlark_table.proofs.TableLemmas.{grows-not, grows-on}
+use Rattle.starlark_unordered.proofs.Callers.{grows-with}
 use Rattle.starlark_unordered.proofs.Collected.{inserts_more}
 use Rattle.starlark_unordered.proofs.unordered_map.UnorderedMap.insert_items.Goals as goal
 
 pub loop-pair-init : goal.loop-pair-init
-loop-pair-init g c = it.begun c.requires.can c.requires.finite (refl, omega arith)
+loop-pair-init g c = it.begun c.requires.can c.requires.finite (refl, grows-not c.args.self.now c.args.self.now refl)
 
 pub loop-pair-preserved : goal.loop-pair-preserved
 loop-pair-preserved g c =
     let inv = c.loop-pair.invariant in
     it.again inv c.in-Some.pair c.in-Some.is (c.next.ensures.steps, c.next.ensures.goes) (
       inserts_more g.K.PartialEq.eq inv.seen c.in-Some.pair (pairs_of c.args.self.now) (pairs_of c.loop-pair.self) (pairs_of c.insert.new.self) inv.holds.0 c.in-Ok.ensures.pairs,
-      omega (arith, inv.holds.1, c.insert.ensures.room),
+      grows-with c.args.self.now c.loop-pair.self c.insert.new.self _ c.in-Ok.ensures.length inv.holds.1 c.insert.ensures.room,
     )
 
 pub loop-pair-preserved-in-Ok : goal.loop-pair-preserved-in-Ok
@@ -20,11 +23,12 @@ loop-pair-preserved-in-Ok g c =
     let inv = c.loop-pair.invariant in
     it.again inv c.in-Some.pair c.in-Some.is (c.next.ensures.steps, c.next.ensures.goes) (
       inserts_more g.K.PartialEq.eq inv.seen c.in-Some.pair (pairs_of c.args.self.now) (pairs_of c.loop-pair.self) (pairs_of c.insert.new.self) inv.holds.0 c.in-Ok.ensures.pairs,
-      omega (arith, inv.holds.1, c.insert.ensures.room),
+      grows-with c.args.self.now c.loop-pair.self c.insert.new.self _ c.in-Ok.ensures.length inv.holds.1 c.insert.ensures.room,
     )
 
 pub returns-in-Err-clause-room : goal.returns-in-Err-clause-room
-returns-in-Err-clause-room g c = omega (arith, c.loop-pair.invariant.holds.1, c.insert.ensures.room)
+returns-in-Err-clause-room g c =
+    grows-on c.args.self.now c.loop-pair.self c.insert.new.self (omega (arith, ap table_len c.in-Err.ensures.unchanged)) c.loop-pair.invariant.holds.1 c.insert.ensures.room
 
 pub returns-in-Err-clause-succeeds : goal.returns-in-Err-clause-succeeds
 returns-in-Err-clause-succeeds g c = λ none.
