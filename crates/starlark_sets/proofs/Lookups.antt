@@ -1,5 +1,5 @@
 -- The stored keys that are found, how long a list is after a call, and what is found once an entry was taken out of its place or entries only changed places.
-use Rattle.std.proofs.Common.{◌≡◌, ℕ, zero, suc, ◌+◌, ◌<◌, Bool, Bor, true, false, cond, List, [], ◌∷◌, length, get_or, position, remove, Option, Some, None, Result, Ok, Err, OnOk, OnErr, IsPermutation, is_ok, is_some, slice_get, refl, subst, sym, ap, ◌∙◌, arith}
+use Rattle.std.proofs.Common.{◌≡◌, ℕ, zero, suc, ◌+◌, Bool, Bor, true, false, List, [], ◌∷◌, length, get_or, remove, Option, Some, None, Result, Ok, Err, OnOk, OnErr, IsPermutation, is_ok, is_some, slice_get, refl, subst, sym, ap, ◌∙◌}
 use Rattle.std.specs.Prelude.{IfSome, if◌then◌else◌, reverse}
 use Rattle.std.specs.Cmp.{IsEquivalence}
 use Rattle.std.specs.Option.{IfNone, option_copied, option_map}
@@ -11,22 +11,21 @@ use Rattle.starlark_hash.specs.declared.hashed.Hashed.{Hashed}
 use Rattle.starlark_hash.specs.declared.hash_value.StarlarkHashValue.{StarlarkHashValue}
 use Rattle.starlark_hash.specs.Hasher.{own_hash}
 use Rattle.starlark_hash.specs.HashValue.{hashed}
-use Rattle.starlark_lists.specs.Entries.{Entry, IsSingle, entry_at, entry_key, insert_entry, match_of, position_of, stands_under, without}
+use Rattle.starlark_lists.specs.Entries.{Entry, IsSingle, entry_at, entry_key, insert_entry, position_of, without}
 use Rattle.starlark_lists.specs.Sorting.{key_lt, sorted_by_key}
 use Rattle.starlark_lists.proofs.EntryLemmas.{IsSingle-permutation}
-use Rattle.starlark_lists.proofs.PositionLemmas.{position-cons}
 use Rattle.starlark_lists.proofs.SortingLemmas.{IsPermutation-sorted_by}
-use Rattle.starlark_small.specs.EqualityLaws.{alike, alike-laws, value_at-lookup}
+use Rattle.starlark_small.specs.EqualityLaws.{alike-laws, value_at-lookup}
 use Rattle.starlark_small.specs.Map.{Map}
 use Rattle.starlark_small.proofs.CallerEntries.{length-insert_entry, length-without}
-use Rattle.starlark_small.proofs.CallerKeys.{same_key}
 use Rattle.starlark_small.proofs.CallerOrder.{lookup_permuted}
+use Rattle.starlark_small.proofs.CallerPlaces.{writes-taken}
 use Rattle.starlark_small.proofs.SameEntries.{distinct}
 use Rattle.starlark_lists.specs.Finding.{found, found_key, Writes}
 use Rattle.starlark_small.specs.Calling.{AreOwnEntries}
 use Rattle.starlark_sets.specs.Others.{LacksNow}
 use Rattle.starlark_sets.proofs.Additions.{is_some-value_at}
-use Rattle.starlark_sets.proofs.Callers.{key_stands, writes-removed}
+use Rattle.starlark_sets.proofs.Callers.{key_stands}
 
 -- each key, under each hash, has what it had
 abbrev pub FindsAlike : {K V : Type 0} → (K → K → Bool) → List (Entry K V) → List (Entry K V) → Type 0
@@ -71,28 +70,6 @@ module _ {K V : Type 0} (eq : K → K → Bool) (old : List (Entry K V)) (key : 
   length-inserted (Err e) new is = tt
 
 module _ {K V : Type 0} (eq : K → K → Bool) (laws : IsEquivalence eq) where
-  -- an entry stands at the first place that is like it
-  place-single : (es : List (Entry K V)) (i : ℕ) (e : Entry K V) → IsSingle eq es → slice_get es i ≡ Some e → match_of eq es e.0 ≡ Some i
-  place-single [] i e single at = absurd (omega (arith, slice_get_within [] i e at))
-  place-single (d ∷ es) zero e single at =
-      let is : d ≡ e = same_Some d e at in
-      position-cons (stands_under e.0.hash (eq e.0.key)) d es
-      ∙ ap (λ b. cond b (Some 0) (option_map suc (position (stands_under e.0.hash (eq e.0.key)) es))) (ap (λ (x : Entry K V). stands_under e.0.hash (eq e.0.key) x) is ∙ same_key eq laws e.0)
-  place-single (d ∷ es) (suc i) e single at =
-      let inside = slice_get_within es i e at in
-      let there : get_or es i d ≡ e = get_or_from_slice_get es i e d at in
-      let not : alike eq e.0 d.0 ≡ false = (alike-laws eq laws).symm e.0 d.0 ∙ ap (λ (x : Entry K V). alike eq d.0 x.0) (sym there) ∙ single 0 (suc i) d (omega arith) (omega (arith, inside)) in
-      position-cons (stands_under e.0.hash (eq e.0.key)) d es
-      ∙ ap (λ b. cond b (Some 0) (option_map suc (position (stands_under e.0.hash (eq e.0.key)) es))) not
-      ∙ ap (option_map suc) (place-single es i e (λ j k x below within. single (suc j) (suc k) x (omega (arith, below)) (omega (arith, within))) at)
-
-  -- the entry at a place was taken out
-  pub writes-taken : (old new : List (Entry K V)) (i : ℕ) (e : Entry K V) → IsSingle eq old → slice_get old i ≡ Some e → new ≡ remove old i
-      → Writes eq (eq e.0.key) e.0.hash old new None
-  writes-taken old new i e single at is =
-      writes-removed eq laws (eq e.0.key) (λ x y does. laws.congr e.0.key x y does) e.0.hash old new single
-      (is ∙ ap (without old) (sym (place-single old i e single at)))
-
   an_entry : {Y : Type 0} (f : Entry K V → Y) (y : Y) (o : Option (Entry K V)) → Some y ≡ option_map f o → (e : Entry K V) × (o ≡ Some e) × (f e ≡ y)
   an_entry f y None at = cc
   an_entry f y (Some e) at = (e, refl, same_Some (f e) y (sym at))
@@ -102,13 +79,13 @@ module _ {K V : Type 0} (eq : K → K → Bool) (laws : IsEquivalence eq) where
       → Writes eq (eq key.key) key.hash old new None
   writes-key old new i key single at is =
       let e = an_entry (λ e. e.0) key (slice_get old i) at in
-      subst (λ (k : Hashed K). Writes eq (eq k.key) k.hash old new None) e.2 (writes-taken old new i e.0 single e.1 is)
+      subst (λ (k : Hashed K). Writes eq (eq k.key) k.hash old new None) e.2 (writes-taken eq laws old new i e.0 single e.1 is)
 
   pub lacks-key : (old new : Map K V) (i : ℕ) (key : K) → IsSingle eq old.entries → Some key ≡ option_map entry_key (slice_get old.entries i) → new.entries ≡ remove old.entries i → LacksNow eq old new key
   unfolding AreOwnEntries
   lacks-key old new i key single at is =
       let e = an_entry entry_key key (slice_get old.entries i) at in
-      let taken : Writes eq (eq key) e.0.0.hash old.entries new.entries None = subst (λ (k : K). Writes eq (eq k) e.0.0.hash old.entries new.entries None) e.2 (writes-taken old.entries new.entries i e.0 single e.1 is) in
+      let taken : Writes eq (eq key) e.0.0.hash old.entries new.entries None = subst (λ (k : K). Writes eq (eq k) e.0.0.hash old.entries new.entries None) e.2 (writes-taken eq laws old.entries new.entries i e.0 single e.1 is) in
       record {
         others = taken.1;
         gone = λ feeds own.

@@ -1,12 +1,12 @@
 -- What is found once the entry at a place was taken out.
-use Rattle.std.proofs.Common.{◌≡◌, ℕ, zero, suc, ◌+◌, ◌<◌, Bool, false, cond, List, [], ◌∷◌, ◌++◌, length, get_or, position, remove, Option, Some, None, slice_get, refl, sym, ap, ◌∙◌, subst, arith}
+use Rattle.std.proofs.Common.{◌≡◌, ℕ, zero, suc, Bool, false, cond, List, [], ◌∷◌, ◌++◌, length, get_or, position, remove, Option, Some, None, slice_get, refl, sym, ap, ◌∙◌, subst, arith}
 use Rattle.std.specs.Prelude.{IfSome}
 use Rattle.std.specs.Cmp.{IsEquivalence}
 use Rattle.std.specs.Option.{option_map}
 use Rattle.std.specs.Map.Iter.{TakesLast}
 use Rattle.std.proofs.lemmas.Option.{get_or_from_slice_get, same_Some, slice_get_within}
 use Rattle.starlark_hash.specs.Hasher.{own_hash}
-use Rattle.starlark_lists.specs.Entries.{Entry, IsSingle, entry_hash, entry_key, entry_value, match_of, stands_under, value_at, without}
+use Rattle.starlark_lists.specs.Entries.{Entry, IsSingle, entry_key, entry_value, match_of, stands_under, value_at, without}
 use Rattle.starlark_lists.specs.Finding.{found, Writes}
 use Rattle.starlark_lists.proofs.PositionLemmas.{position-cons}
 use Rattle.starlark_small.specs.Calling.{AreOwnEntries, TakesOut}

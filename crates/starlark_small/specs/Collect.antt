@@ -1,11 +1,12 @@
 -- Maps of an iterator's items.
-use Rattle.std.specs.Prelude.{◌≡◌, ◌≤◌, ◌+◌, ℕ, List, [], ◌∷◌, ◌++◌, Bool, Option, None, Result, MatchResult, ◌||◌, nat_lt, length, map}
+use Rattle.std.specs.Prelude.{◌≡◌, ◌≤◌, ◌+◌, ℕ, List, [], ◌∷◌, ◌++◌, Bool, Option, None, Result, MatchResult, IsOk, OnErr, ◌||◌, nat_lt, length, map}
 use Rattle.std.specs.Hash.{HashWrites}
 use Rattle.std.specs.Iterator.{Count, Drains, Yields}
 use Rattle.std.specs.Iterator.SizeHint.{IsWithinCount}
 use Rattle.starlark_lists.specs.Entries.{Entry, insert_entry, match_of}
+use Rattle.starlark_small.specs.Growth.{GrowsInSteps}
 use Rattle.starlark_small.specs.Index.{unindexed}
-use Rattle.starlark_small.specs.Map.{Map, own_hashed}
+use Rattle.starlark_small.specs.Map.{Map, KeepsRoom, own_hashed}
 use Rattle.starlark_vec2.specs.PairList.{pair_list, push_all}
 
 -- the entry of a pair, under its key's own hash
@@ -52,3 +53,14 @@ module _ {K V : Type 0} (eq : K → K → Bool) where
       pub room : first ≤ length m.entries + m.room
       pub capacity : m.capacity ≡ (push_all (pair_list [] first) m.entries).capacity
       pub indexed : m.indexed ≡ (nat_lt unindexed first || nat_lt unindexed (length m.entries))
+
+-- what the insertion of an iterator's items leaves of a map's memory, done or refused, where `fits` says that there was room for
+-- all of them: then none is refused, and capacity and index stay. A refusal comes once the room is used up. No room is lost, the
+-- capacity grows in steps, and there is an index if there was one or the list is now longer than the threshold
+pub record IsExtended {K V A E : Type 0} (fits : Type 0) (old new : Map K V) (r : Result A E) : Type 0 where
+  pub succeeds : fits → IsOk r
+  pub spare : fits → (new.capacity ≡ old.capacity) × (new.indexed ≡ old.indexed)
+  pub full : OnErr r (length old.entries + old.room ≤ length new.entries)
+  pub room : KeepsRoom old new
+  pub capacity : GrowsInSteps old new r
+  pub indexed : new.indexed ≡ (old.indexed || nat_lt unindexed (length new.entries))

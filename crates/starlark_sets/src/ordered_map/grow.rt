@@ -1,14 +1,14 @@
 //! What puts entries into an `OrderedMap`, and what may ask for memory.
-ghost use Rattle.std.specs.Prelude.{◌≡◌, ◌+◌, ◌<◌, ◌≤◌, ◌||◌, if◌then◌else◌, is_some, length, nat_lt, None, Some, IsOk, IfOk, IfErr, OnOk, OnErr};
+ghost use Rattle.std.specs.Prelude.{◌≡◌, ◌+◌, ◌<◌, ◌≤◌, if◌then◌else◌, length, nat_lt, None, Some, IsOk, IfOk, IfErr, OnOk, OnErr};
 ghost use Rattle.std.specs.Iterator.{IsFiniteIterable, size};
 ghost use Rattle.std.specs.List.{AllZip};
 ghost use Rattle.starlark_lists.specs.Entries.{value_at, match_of, insert_entry};
 ghost use Rattle.starlark_lists.specs.Sorting.{Ascends, sorted_by_key};
 ghost use Rattle.starlark_small.specs.Clone.{IsEqualClone};
-ghost use Rattle.starlark_small.specs.Collect.{Collects, Extends, own_entry};
+ghost use Rattle.starlark_small.specs.Collect.{Collects, Extends, IsExtended, own_entry};
 ghost use Rattle.starlark_small.specs.Index.{unindexed};
 ghost use Rattle.starlark_small.specs.Inserted.{LeavesMemory};
-ghost use Rattle.starlark_small.specs.Map.{KeepsMemory, KeepsRoom, GrowsFor, own_hashed};
+ghost use Rattle.starlark_small.specs.Map.{KeepsMemory, own_hashed};
 ghost use Rattle.starlark_vec2.specs.Collect.{IsLawfulClone};
 ghost use Rattle.starlark_lists.specs.Clone.{IsEntryClone};
 ghost use Rattle.starlark_small.specs.Calling.{IsSameAt, Updates, contains, get};
@@ -71,16 +71,12 @@ impl<K: Eq, V> OrderedMap<K, V> {
 impl<K: Eq + Hash + Drop, V: Drop> OrderedMap<K, V> {
     /// Inserts the items in their order, each under its key's own hash, as `insert` does. It reserves nothing, and
     /// where there is room for all of them, capacity and index stay. Where a new key is refused, the items that came
-    /// before are there and have used up the room, and it and the others are dropped. The iterator must end.
+    /// before are there and have used up the room, and it and the others are dropped. The capacity grows as by
+    /// insertions one after the other. The iterator must end.
     pub fn extend<I: IntoIterator<Item = (K, V)>>(&mut self, iter: I) -> Result<(), AllocError>
         requires { IsFiniteIterable I.into_iter_gives I.IntoIter.can_next I.IntoIter.remaining iter }
         ensures entries { Extends K.eq (own_entry K.hash_input) I.IntoIter.next_gives I.into_iter_gives iter self.old.entries self.new.entries result }
-        ensures succeeds { ((it : _) → I.into_iter_gives iter it → size (I.IntoIter.remaining it) ≤ self.old.room) → IsOk result }
-        ensures spare { ((it : _) → I.into_iter_gives iter it → size (I.IntoIter.remaining it) ≤ self.old.room) → (self.new.capacity ≡ self.old.capacity) × (self.new.indexed ≡ self.old.indexed) }
-        ensures full { OnErr result (length self.old.entries + self.old.room ≤ length self.new.entries) }
-        ensures room { KeepsRoom self.old self.new }
-        ensures capacity { GrowsFor (length self.new.entries + 1) self.old self.new }
-        ensures indexed { self.new.indexed ≡ (self.old.indexed || nat_lt unindexed (length self.new.entries)) }
+        ensures memory { IsExtended ((it : _) → I.into_iter_gives iter it → size (I.IntoIter.remaining it) ≤ self.old.room) self.old self.new result }
     {
         self.0.extend(iter)
     }

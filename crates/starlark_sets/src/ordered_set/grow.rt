@@ -1,14 +1,14 @@
 //! What puts elements into an `OrderedSet`, and what may ask for memory.
-ghost use Rattle.std.specs.Prelude.{◌≡◌, ◌+◌, ◌≤◌, ◌||◌, false, if◌then◌else◌, not, is_some, length, nat_lt, None, Some, IsOk, IfOk, IfErr, OnOk, OnErr};
+ghost use Rattle.std.specs.Prelude.{◌≡◌, ◌+◌, ◌≤◌, false, if◌then◌else◌, not, is_some, length, nat_lt, None, Some, IsOk, IfOk, IfErr, OnOk, OnErr};
 ghost use Rattle.std.specs.Iterator.{IsFiniteIterable, size};
 ghost use Rattle.std.specs.List.{AllZip};
 ghost use Rattle.starlark_lists.specs.Entries.{match_of};
 ghost use Rattle.starlark_lists.specs.Sorting.{Ascends, sorted_by_key};
 ghost use Rattle.starlark_small.specs.Clone.{IsEqualClone};
-ghost use Rattle.starlark_small.specs.Collect.{Collects, Extends};
+ghost use Rattle.starlark_small.specs.Collect.{Collects, Extends, IsExtended};
 ghost use Rattle.starlark_small.specs.Index.{unindexed};
 ghost use Rattle.starlark_small.specs.Inserted.{IsInserted, IsRefused};
-ghost use Rattle.starlark_small.specs.Map.{GrowsFor, KeepsMemory, KeepsRoom, own_hashed};
+ghost use Rattle.starlark_small.specs.Map.{KeepsMemory, own_hashed};
 ghost use Rattle.starlark_vec2.specs.Collect.{IsLawfulClone};
 ghost use Rattle.starlark_small.specs.Calling.{IsSameAt, Updates, contains};
 ghost use Rattle.starlark_sets.specs.Collect.{own_element};
@@ -73,16 +73,12 @@ impl<T: Eq> OrderedSet<T> {
 impl<T: Eq + Hash + Drop> OrderedSet<T> {
     /// Inserts the items in their order, each under its own hash, as `insert` does. It reserves nothing, and where
     /// there is room for all of them, capacity and index stay. Where a new element is refused, the items that came
-    /// before are there and have used up the room, and it and the others are dropped. The iterator must end.
+    /// before are there and have used up the room, and it and the others are dropped. The capacity grows as by
+    /// insertions one after the other. The iterator must end.
     pub fn extend<I: IntoIterator<Item = T>>(&mut self, iter: I) -> Result<(), AllocError>
         requires { IsFiniteIterable I.into_iter_gives I.IntoIter.can_next I.IntoIter.remaining iter }
         ensures entries { Extends T.eq (own_element T.hash_input) I.IntoIter.next_gives I.into_iter_gives iter self.old.entries self.new.entries result }
-        ensures succeeds { ((it : _) → I.into_iter_gives iter it → size (I.IntoIter.remaining it) ≤ self.old.room) → IsOk result }
-        ensures spare { ((it : _) → I.into_iter_gives iter it → size (I.IntoIter.remaining it) ≤ self.old.room) → (self.new.capacity ≡ self.old.capacity) × (self.new.indexed ≡ self.old.indexed) }
-        ensures full { OnErr result (length self.old.entries + self.old.room ≤ length self.new.entries) }
-        ensures room { KeepsRoom self.old self.new }
-        ensures capacity { GrowsFor (length self.new.entries + 1) self.old self.new }
-        ensures indexed { self.new.indexed ≡ (self.old.indexed || nat_lt unindexed (length self.new.entries)) }
+        ensures memory { IsExtended ((it : _) → I.into_iter_gives iter it → size (I.IntoIter.remaining it) ≤ self.old.room) self.old self.new result }
     {
         self.0.extend(iter)
     }

@@ -1,9 +1,7 @@
 //! `SmallSet`s from the items of iterators.
-ghost use Rattle.std.specs.Prelude.{◌≡◌, ◌+◌, ◌≤◌, ◌||◌, length, nat_lt, IfOk, IsOk, OnErr};
+ghost use Rattle.std.specs.Prelude.{◌≡◌, ◌+◌, ◌≤◌, IfOk, IsOk};
 ghost use Rattle.std.specs.Iterator.{IsFiniteIterable, size};
-ghost use Rattle.starlark_small.specs.Collect.{Collects, Extends};
-ghost use Rattle.starlark_small.specs.Index.{unindexed};
-ghost use Rattle.starlark_small.specs.Map.{GrowsFor, KeepsRoom};
+ghost use Rattle.starlark_small.specs.Collect.{Collects, Extends, IsExtended};
 ghost use Rattle.starlark_sets.specs.Collect.{element_entry, own_element};
 
 use super::SmallSet;
@@ -16,16 +14,12 @@ use std::hash::Hash;
 impl<T: Eq + Hash + Drop> SmallSet<T> {
     /// Inserts the items in their order, each under its own hash, as `insert` does. It reserves nothing, and where
     /// there is room for all of them, capacity and index stay. Where a new element is refused, the items that came
-    /// before are there and have used up the room, and it and the others are dropped. The iterator must end.
+    /// before are there and have used up the room, and it and the others are dropped. The capacity grows as by
+    /// insertions one after the other. The iterator must end.
     pub fn extend<I: IntoIterator<Item = T>>(&mut self, iter: I) -> Result<(), AllocError>
         requires { IsFiniteIterable I.into_iter_gives I.IntoIter.can_next I.IntoIter.remaining iter }
         ensures entries { Extends T.eq (own_element T.hash_input) I.IntoIter.next_gives I.into_iter_gives iter self.old.entries self.new.entries result }
-        ensures succeeds { ((it : _) → I.into_iter_gives iter it → size (I.IntoIter.remaining it) ≤ self.old.room) → IsOk result }
-        ensures spare { ((it : _) → I.into_iter_gives iter it → size (I.IntoIter.remaining it) ≤ self.old.room) → (self.new.capacity ≡ self.old.capacity) × (self.new.indexed ≡ self.old.indexed) }
-        ensures full { OnErr result (length self.old.entries + self.old.room ≤ length self.new.entries) }
-        ensures room { KeepsRoom self.old self.new }
-        ensures capacity { GrowsFor (length self.new.entries + 1) self.old self.new }
-        ensures indexed { self.new.indexed ≡ (self.old.indexed || nat_lt unindexed (length self.new.entries)) }
+        ensures memory { IsExtended ((it : _) → I.into_iter_gives iter it → size (I.IntoIter.remaining it) ≤ self.old.room) self.old self.new result }
     {
         self.map.extend(WithUnit::new(iter.into_iter()))
     }

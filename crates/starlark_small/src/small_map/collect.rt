@@ -2,7 +2,7 @@
 ghost use Rattle.std.specs.Prelude.{◌≡◌, ◌+◌, ◌≤◌, ◌||◌, length, nat_lt, IfOk, IsOk, OnErr};
 ghost use Rattle.std.specs.Iterator.{IsFiniteIterable, IsFinite, size};
 ghost use Rattle.starlark_small.specs.Calling.{AreOwn};
-ghost use Rattle.starlark_small.specs.Collect.{Collects, Extends, Inserts, own_entry};
+ghost use Rattle.starlark_small.specs.Collect.{Collects, Extends, Inserts, IsExtended, own_entry};
 ghost use Rattle.starlark_small.specs.Growth.{GrowsInSteps};
 ghost use Rattle.starlark_small.specs.Index.{unindexed};
 ghost use Rattle.starlark_small.specs.Map.{KeepsRoom};
@@ -21,14 +21,9 @@ impl<K: Eq + Hash + Drop, V: Drop> SmallMap<K, V> {
     pub fn extend<I: IntoIterator<Item = (K, V)>>(&mut self, iter: I) -> Result<(), AllocError>
         requires { IsFiniteIterable I.into_iter_gives I.IntoIter.can_next I.IntoIter.remaining iter }
         ensures entries { Extends K.eq (own_entry K.hash_input) I.IntoIter.next_gives I.into_iter_gives iter self.old.entries self.new.entries result }
-        ensures succeeds { ((it : _) → I.into_iter_gives iter it → size (I.IntoIter.remaining it) ≤ self.old.room) → IsOk result }
-        ensures spare { ((it : _) → I.into_iter_gives iter it → size (I.IntoIter.remaining it) ≤ self.old.room) → (self.new.capacity ≡ self.old.capacity) × (self.new.indexed ≡ self.old.indexed) }
+        ensures memory { IsExtended ((it : _) → I.into_iter_gives iter it → size (I.IntoIter.remaining it) ≤ self.old.room) self.old self.new result }
         ensures left { (it : I.IntoIter) × I.into_iter_gives iter it × (self.old.room ≤ self.new.room + size (I.IntoIter.remaining it)) }
         ensures own { AreOwn K.hash_input self.old → AreOwn K.hash_input self.new }
-        ensures full { OnErr result (length self.old.entries + self.old.room ≤ length self.new.entries) }
-        ensures room { KeepsRoom self.old self.new }
-        ensures capacity { GrowsInSteps self.old self.new result }
-        ensures indexed { self.new.indexed ≡ (self.old.indexed || nat_lt unindexed (length self.new.entries)) }
     {
         self.insert_items(iter.into_iter())
     }

@@ -6,7 +6,7 @@ use Rattle.std.specs.declared.hash.Hash as Hash
 use Rattle.starlark_small.proofs.entry.Entry.TheLaws as entry_laws
 use Rattle.starlark_small.specs.Map.{Map, own_hashed}
 use Rattle.starlark_small.specs.MapEntry.{map_of_entry, entry_value_of, IsEntryOf, Puts}
-use Rattle.starlark_small.specs.Calling.{get as find, keys, Updates}
+use Rattle.starlark_small.specs.Calling.{get as find, keys, AreOwn, Updates}
 use Rattle.std.proofs.Common.{is_some}
 use Rattle.starlark_small.specs.contracts.entry.Entry as R
 use Rattle.starlark_small.specs.declared.entry.Entry.{Entry}
@@ -109,7 +109,7 @@ module _ (K V : RattleType) (E : Eq.Ghosts K.Denot) (dE : Dict) (Q : PartialEq.G
           use1 𝓛 (raw (Enters.pre z2)) (id⊢ 𝓤 _) $
           calls_at ! fm Enters gives z2 (and_then ! (get ! refl) (and_then ! (get ! refl) (no_more !))) (λ t.
           use1 𝓛 (later (some (λ (y : Entry K.Denot V.Denot Q). ((‵ (flft κ q) ⊛ ‵ (flft κK qK) ⊛ ‵ (flft κV qV) ⊛ ‵ ftrue) ⊛ ‵ (Out.own_val y (t ∷ []))) ⊛ raw (ensured 𝓛 (e.ended K V E dE Q dQ G dG dD) (e.clauses K V E dE Q dQ G dG dD 𝓛 at_mem run) z2.0.0 z2.0.3 tt y)))) (id⊢ 𝓤 _) $ await ! tt $ pick ! (λ y. split ! $ move ! (1 ∷ []) $
-          use1 𝓛 (raw (fact 𝓤 ((map_of_entry y).ghost_name ≡ x.ghost_name)) ⊛ raw (fact 𝓤 (IsEntryOf Q.eq x.now (own_hashed G.hash_input key) y)) ⊛ raw (fact 𝓤 (entry_value_of y ≡ find Q.eq G.hash_input x.now key)) ⊛ raw (fact 𝓤 ((value : V.Denot) (new : M) → Puts y value new → Updates Q.eq G.hash_input x.now new key (Some value))) ⊛ raw (fact 𝓤 ((value : V.Denot) (new : M) → Puts y value new → keys new ≡ (if is_some (find Q.eq G.hash_input x.now key) then keys x.now else keys x.now ++ key ∷ [])))) (ex_e 𝓤 _ (λ ws. snd∗ 𝓤 (sem 𝓛 (lasts (e.ended K V E dE Q dQ G dG dD) z2.0.0 z2.0.3 ws)) _)) $ split ! $
+          use1 𝓛 (raw (fact 𝓤 ((map_of_entry y).ghost_name ≡ x.ghost_name)) ⊛ raw (fact 𝓤 (IsEntryOf Q.eq x.now (own_hashed G.hash_input key) y)) ⊛ raw (fact 𝓤 (entry_value_of y ≡ find Q.eq G.hash_input x.now key)) ⊛ raw (fact 𝓤 ((value : V.Denot) (new : M) → Puts y value new → Updates Q.eq G.hash_input x.now new key (Some value))) ⊛ raw (fact 𝓤 ((value : V.Denot) (new : M) → Puts y value new → keys new ≡ (if is_some (find Q.eq G.hash_input x.now key) then keys x.now else keys x.now ++ key ∷ []))) ⊛ raw (fact 𝓤 ((value : V.Denot) (new : M) → Puts y value new → AreOwn G.hash_input x.now → AreOwn G.hash_input new))) (ex_e 𝓤 _ (λ ws. snd∗ 𝓤 (sem 𝓛 (lasts (e.ended K V E dE Q dQ G dG dD) z2.0.0 z2.0.3 ws)) _)) $ split ! $
           heard ! ((map_of_entry y).ghost_name ≡ x.ghost_name) (λ name. split ! $ heard ! (IsEntryOf Q.eq x.now (own_hashed G.hash_input key) y) (λ is. drop ! $
           -- [the tokens with the entry; what self follows]
           move ! (1 ∷ []) $ rewrite ! 0 (λ (n : GName). ‵ (follows Outer Inner γ n (λ w. w))) (sym name) refl $
