@@ -1,5 +1,6 @@
 -- What one closure's calls retain of a list is what another's retain, of which each of them is a call.
-use Rattle.std.proofs.Common.{Bool, List, [], ◌∷◌, ap}
+use Rattle.std.proofs.Common.{◌≡◌, Bool, List, [], ◌∷◌, ap, ◌∙◌}
+use Rattle.std.specs.Prelude.{filter, if◌then◌else◌}
 use Rattle.std.specs.List.{FoldsTo}
 use Rattle.starlark_lists.specs.Retain.{Retains, TakesInTurn, MayLeave}
 
@@ -21,3 +22,11 @@ module _ {F G X : Type 0} (calls : F → X → Bool → X → F → Type 0) (see
   takes_alone c asks sees on f xs t = record {
     at = λ before after f' x e r. on f' x (t.at before after (st f') x e (folds c f before f' r));
   }
+
+-- calls that answer by a test of the item and leave it filter the list
+pub filtered_by : {F X : Type 0} (calls : F → X → Bool → X → F → Type 0) (test : X → Bool) → ((f : F) (x : X) (keeps : Bool) (y : X) (left : F) → calls f x keeps y left → (keeps ≡ test x) × (y ≡ x))
+    → (f : F) (xs kept : List X) → Retains calls f xs kept → kept ≡ filter test xs
+filtered_by calls test says f [] kept none = none
+filtered_by calls test says f (x ∷ xs) kept (keeps, y, f', rest, called, others, is) =
+    let s = says f x keeps y f' called in
+    is ∙ (λ i. if s.0 i then s.1 i ∷ rest else rest) ∙ ap (λ l. if test x then x ∷ l else l) (filtered_by calls test says f' xs rest others)

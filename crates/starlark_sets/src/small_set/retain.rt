@@ -1,5 +1,9 @@
 //! `SmallSet::retain`.
 ghost use Rattle.std.specs.Fn.{CalledAt, TakesAt};
+ghost use Rattle.std.specs.Hash.{HashWrites};
+ghost use Rattle.std.specs.Prelude.{◌≡◌, Bool, filter};
+ghost use Rattle.starlark_lists.specs.Entries.{entry_key};
+ghost use Rattle.starlark_small.specs.Calling.{AreOwn};
 ghost use Rattle.starlark_small.specs.Map.{KeepsMemory};
 ghost use Rattle.starlark_lists.specs.Retain.{Retains, TakesInTurn};
 ghost use Rattle.starlark_sets.specs.Retain.{CalledAtElement, TakesElement};
@@ -8,10 +12,13 @@ use super::SmallSet;
 
 impl<T: Eq + Drop> SmallSet<T> {
     /// Keeps the elements at which the closure answers true, in their order. It is called once an element, from the
-    /// front, its state carried on. No memory is asked for. Capacity and index stay.
+    /// front, its state carried on; one that answers by a test of the element filters the set. No memory is asked for.
+    /// Capacity and index stay.
     pub fn retain<F: FnMut(&T) -> bool>(&mut self, mut keep: F)
         requires { TakesInTurn (CalledAtElement F.FnMut) (TakesElement F.FnMut) keep self.old.entries }
         ensures entries { Retains (CalledAtElement F.FnMut) keep self.old.entries self.new.entries }
+        ensures filtered { (test : T → Bool) → ((f : F) (element : T) (keeps : Bool) (left : F) → CalledAt F.FnMut f element keeps left → keeps ≡ test element) → self.new.entries ≡ filter (λ e. test (entry_key e)) self.old.entries }
+        ensures own { (feeds : T → HashWrites) → AreOwn feeds self.old → AreOwn feeds self.new }
         ensures kept { KeepsMemory self.old self.new }
     {
         self.map.retain(

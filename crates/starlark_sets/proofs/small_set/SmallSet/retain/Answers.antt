@@ -1,8 +1,9 @@
 use Rattle.std.proofs.Common.{◌∙◌, sym, subst, rules, of_calls}
 use Rattle.std.specs.Fn.{CalledAt}
+use Rattle.starlark_lists.specs.Entries.{entry_key}
 use Rattle.starlark_lists.specs.Retain.{Retains, TakesInTurn}
 use Rattle.starlark_sets.specs.Retain.{CalledAtElement, TakesElement}
-use Rattle.starlark_sets.proofs.Retained.{takes_alone, retains_alone}
+use Rattle.starlark_sets.proofs.Retained.{filtered_by, takes_alone, retains_alone}
 use Rattle.starlark_sets.proofs.small_set.SmallSet.retain.Goals as goal
 
 pub retain-requires : goal.retain-requires
@@ -15,3 +16,8 @@ pub returns-clause-entries : goal.returns-clause-entries
 returns-clause-entries g c =
     subst (λ m. Retains (CalledAtElement g.F.FnMut) c.args.keep m.entries c.retain.new.self.entries) c.self.view_is
     (retains_alone _ (CalledAtElement g.F.FnMut) (λ s. s.0.now) (record { at = λ f x b y f' t. (subst (λ k. CalledAt g.F.FnMut f.0.now k b f'.0.now) t.shows.0 (search (rules, of_calls, t.called)), t.leaves) }) _ _ _ c.retain.ensures.entries)
+
+pub returns-clause-filtered : goal.returns-clause-filtered
+returns-clause-filtered g c test says =
+    filtered_by (CalledAtElement g.F.FnMut) (λ e. test (entry_key e)) (λ f e keeps d left t. (says f (entry_key e) keeps left t.0, t.1))
+    c.args.keep c.args.self.now.entries c.retain.new.self.entries (returns-clause-entries g c)
