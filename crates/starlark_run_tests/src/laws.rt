@@ -13,8 +13,9 @@ fn put(map: &mut Numbers, key: u32, value: u32) -> Option<Option<u32>> {
     insertion::insertion_of_a_present_key(map, Hashed::new(key), value).ok()
 }
 
-fn turn_twice(map: &mut Numbers) {
-    order::reverse_twice(map);
+// The place of a key in the list that is turned between.
+fn turn_twice(map: &mut Numbers, key: u32) -> Option<usize> {
+    order::reverse_twice(map, Hashed::new(key).as_ref())
 }
 
 // Whether it had the memory to sort.
@@ -31,7 +32,7 @@ fn sort_sorted(map: &mut Numbers) -> bool {
 fn makes_the_calls_on_one_map(rt: HostRuntime) -> Result<(), Fail> {
     let mut map: Numbers = smallmap![rt.alloc(); 2 => 20, 1 => 10, 3 => 30]?;
     same(&rt, put(&mut map, 1, 11), Some(Some(10)));
-    turn_twice(&mut map);
+    same(&rt, turn_twice(&mut map, 3), Some(0));
     holds(&rt, shows(&map, &[(2, 20), (1, 11), (3, 30)]));
     holds(&rt, sort_twice(&mut map) && sort_sorted(&mut map));
     holds(&rt, shows(&map, &[(1, 11), (2, 20), (3, 30)]));
