@@ -6,6 +6,7 @@ ghost use Rattle.std.specs.Str.{bytes_eq};
 ghost use Rattle.starlark_lists.specs.Entries.{pair_of, value_at, match_of, insert_entry, without};
 ghost use Rattle.starlark_lists.specs.Sorting.{Ascends, sorted_by_key};
 ghost use Rattle.starlark_lines.specs.Shown.{shown, shown_key};
+ghost use Rattle.starlark_play.specs.Memory.{LeavesMemory};
 ghost use Rattle.starlark_play.specs.Replies.{MayNeedMemory, bytes_cmp, ended, value_text, pair_text, entry_text, reply, after};
 ghost use Rattle.starlark_play.specs.ShownEntries.{entries_of};
 ghost use Rattle.starlark_small.specs.Index.{unindexed};
@@ -19,7 +20,8 @@ use std::io::Write;
 
 /// Does what a line asks for, and writes the reply. Keys are the same where their hashes and their bytes are, and are
 /// sorted by their bytes. Memory is refused only to a new key, to a sort of keys that do not ascend, and to a
-/// reservation of more than 0; then nothing is written.
+/// reservation of more than 0; then nothing is written. What `reserve` and `slim` leave of room and index is what the
+/// map's calls leave.
 pub fn answer<W: Write>(
     alloc: Global,
     map: &mut SmallMap<String, i64>,
@@ -28,6 +30,7 @@ pub fn answer<W: Write>(
 ) -> Result<(), PlayFault>
     ensures done { OnOk result (entries_of map.new.entries ≡ after (entries_of map.old.entries) (shown command.entry)) }
     ensures replied { OnOk result (Appends (W.contents writer.old) (W.contents writer.new) (reply (entries_of map.old.entries) (shown command.entry))) }
+    ensures room { OnOk result (LeavesMemory map.old map.new (shown command.entry)) }
     ensures memory { result ≡ Err PlayFault.Memory → Keeps (W.contents writer.old) (W.contents writer.new) }
     ensures needed { result ≡ Err PlayFault.Memory → MayNeedMemory (entries_of map.old.entries) (shown command.entry) }
     ensures good { (n : ℕ) → result ≢ Err (PlayFault.BadLine n) }
