@@ -11,6 +11,7 @@ module _ {X : Type 0} where
   -- the first n places hold items, and the others are empty
   pub record IsFront (cs : List (Option X)) (n : ℕ) : Type 0 where
     pub count : length (items_of cs) ≡ n
+    -- by which places are full, and no equation of rows, so that it goes along a map of the items
     pub form : map is_some cs ≡ replicate n true ++ replicate (length cs - n) false
     pub within : n ≤ length cs
 

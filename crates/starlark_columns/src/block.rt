@@ -128,7 +128,7 @@ pub(crate) fn is_nowhere<T>(address: Address<T>) -> bool
     NonNull::new(address.at.cast_mut()).is_none()
 }
 
-// Places that take no bytes lie anywhere.
+// Places that take no bytes lie anywhere: here where an array of no items does, so that their address is aligned.
 pub(crate) fn bare<T>(count: usize) -> (Address<T>, Held<T>)
     requires { count * type_size T.row ≡ 0 }
     ensures { (result.1.at ≡ result.0.at) × (result.1.places ≡ empties count) }

@@ -1,4 +1,5 @@
-//! Maps to integers and JSON objects.
+//! Maps to integers and JSON objects. A value may be seen as members in any order, so `ascends` says beside `entries` that
+//! those of a map that is made of one ascend.
 ghost use Rattle.std.specs.Prelude.{◌≡◌, ℕ, ℤ, List, [], Some, None, IfOk, IfErr, IsOk, OnOk, MatchOption, string_bytes};
 ghost use Rattle.serde_json.specs.Data.{number, put as with_member};
 ghost use Rattle.serde_json.specs.Find.{get, of_integer};

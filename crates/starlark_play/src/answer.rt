@@ -1,4 +1,5 @@
-//! What each command does to the map, and what is replied.
+//! What each command does to the map, and what is replied. Each that changes the map has a small function over the
+//! entries seen as bytes, so that a wrong body is refused there, with few facts in sight.
 ghost use Rattle.std.specs.Prelude.{◌≡◌, ◌≢◌, ℕ, ◌-◌, ◌<◌, ◌≤◌, false, nat_le, if◌then◌else◌, [], length, remove, reverse, slice_get, IfOk, OnOk, IfErr, OnErr, Some, None, codes, decimal, flat_map};
 ghost use Rattle.std.specs.Io.KnownBytes.{Keeps, Appends};
 ghost use Rattle.std.specs.Option.{option_map};

@@ -57,6 +57,7 @@ module _ (A B : RattleType) where
     abbrev pub Less : D → SProp 𝓤
     Less d = sep 𝓤 (sem 𝓛 (parts_at full_share behind (eL + size (lone usize-field.row.mir)) (to d).1.1.1 b o)) (PartsBack 𝓛 full_share (I.the_type A B).name ms b o)
 
+    -- `get_mut` and `lend_firsts` read the length by hand, before a column is lent: here out of the parts, and by len_in back
     pub len_out : (d : D) → ent 𝓤 (Rest d) (sep 𝓤 (fact 𝓤 (d.len < 2 ^ 64)) (sep 𝓤 (sem 𝓛 (Len d.len)) (Less d)))
     unfolding part_of
     len_out d =
