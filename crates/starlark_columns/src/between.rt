@@ -9,7 +9,8 @@ use crate::row::Row;
 impl<T> Row<T> {
     /// The items stand at the places from `from` up to `to`. Takes the first one out.
     #[inline]
-    pub fn take_first_between(&mut self, from: usize, to: usize) -> T
+    pub fn take_first_between(&mut self, count: usize, from: usize, to: usize) -> T
+        requires count { count ≡ length self.old.places }
         requires between { IsBetween self.old.places from to }
         requires some { from < to }
         ensures between { IsBetween self.new.places (from + 1) to }
@@ -17,12 +18,13 @@ impl<T> Row<T> {
         ensures places { length self.new.places ≡ length self.old.places }
         ensures at { self.new.at ≡ self.old.at }
     {
-        self.take(from)
+        self.take(count, from)
     }
 
     /// The items stand at the places from `from` to `last`. Takes the last one out.
     #[inline]
-    pub fn take_last_between(&mut self, from: usize, last: usize) -> T
+    pub fn take_last_between(&mut self, count: usize, from: usize, last: usize) -> T
+        requires count { count ≡ length self.old.places }
         requires between { IsBetween self.old.places from (last + 1) }
         requires some { from < last + 1 }
         ensures between { IsBetween self.new.places from last }
@@ -30,21 +32,22 @@ impl<T> Row<T> {
         ensures places { length self.new.places ≡ length self.old.places }
         ensures at { self.new.at ≡ self.old.at }
     {
-        self.take(last)
+        self.take(count, last)
     }
 }
 
 impl<T: Drop> Row<T> {
     /// The items stand at the places from `from` up to `to`. Drops them all.
-    pub fn drop_between(&mut self, from: usize, to: usize)
-        requires { IsBetween self.old.places from to }
+    pub fn drop_between(&mut self, count: usize, from: usize, to: usize)
+        requires count { count ≡ length self.old.places }
+        requires between { IsBetween self.old.places from to }
         ensures empty { IsFront self.new.places 0 }
         ensures places { length self.new.places ≡ length self.old.places }
         ensures at { self.new.at ≡ self.old.at }
     {
         let mut first = from;
         while first < to {
-            let _item = self.take_first_between(first, to);
+            let _item = self.take_first_between(count, first, to);
             first += 1;
         }
     }

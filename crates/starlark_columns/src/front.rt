@@ -1,4 +1,5 @@
-//! Rows whose items stand at the front. Each call is told how many there are, so that two rows can share one length.
+//! Rows whose items stand at the front. Each call is told how many there are, so that two rows share one length. `count`
+//! is the number of places.
 ghost use Rattle.std.specs.Prelude.{◌≡◌, ◌+◌, ◌-◌, ◌<◌, ◌≤◌, [], ◌∷◌, ◌++◌, Some, length, take, reverse, slice_get, IsOk, OnOk, OnErr};
 ghost use Rattle.std.specs.Borrow.{sem};
 ghost use Rattle.std.specs.List.{remove, AllZip};
@@ -37,7 +38,7 @@ impl<T> Row<T> {
         requires within { index < len }
         ensures { slice_get (items_of self.now.places) index ≡ Some result.now }
     {
-        self.get(index)
+        self.get(len, index)
     }
 
     /// The item at this index, to be written. The row ends with what is left in it, and all else stays.
@@ -53,7 +54,8 @@ impl<T> Row<T> {
 
     /// Puts an item behind the `len` that are there. A place is to be left.
     #[inline]
-    pub fn push_last(&mut self, len: usize, item: T)
+    pub fn push_last(&mut self, count: usize, len: usize, item: T)
+        requires count { count ≡ length self.old.places }
         requires front { IsFront self.old.places len }
         requires room { len < length self.old.places }
         ensures front { IsFront self.new.places (len + 1) }
@@ -61,24 +63,26 @@ impl<T> Row<T> {
         ensures places { length self.new.places ≡ length self.old.places }
         ensures at { self.new.at ≡ self.old.at }
     {
-        self.write(len, item);
+        self.write(count, len, item);
     }
 
     /// Takes the last item out, which has `last` in front of it.
     #[inline]
-    pub fn take_last(&mut self, last: usize) -> T
-        requires { IsFront self.old.places (last + 1) }
+    pub fn take_last(&mut self, count: usize, last: usize) -> T
+        requires count { count ≡ length self.old.places }
+        requires front { IsFront self.old.places (last + 1) }
         ensures front { IsFront self.new.places last }
         ensures items { items_of self.old.places ≡ items_of self.new.places ++ result ∷ [] }
         ensures places { length self.new.places ≡ length self.old.places }
         ensures at { self.new.at ≡ self.old.at }
     {
-        self.take(last)
+        self.take(count, last)
     }
 
     /// Takes the item at `index` out. Those behind it move up by one place.
     #[inline]
-    pub fn remove_at(&mut self, len: usize, index: usize) -> T
+    pub fn remove_at(&mut self, count: usize, len: usize, index: usize) -> T
+        requires count { count ≡ length self.old.places }
         requires front { IsFront self.old.places len }
         requires within { index < len }
         ensures taken { slice_get (items_of self.old.places) index ≡ Some result }
@@ -87,14 +91,15 @@ impl<T> Row<T> {
         ensures places { length self.new.places ≡ length self.old.places }
         ensures at { self.new.at ≡ self.old.at }
     {
-        let item = self.take(index);
-        self.move_down(index + 1, len, index);
+        let item = self.take(count, index);
+        self.move_down(count, index + 1, len, index);
         item
     }
 
     /// Moves all `len` items to the places of `to`, which are empty, and enough. None is left here.
     #[inline]
-    pub fn move_all(&mut self, len: usize, to: &mut Row<T>)
+    pub fn move_all(&mut self, count: usize, len: usize, to: &mut Row<T>, to_count: usize)
+        requires counts { (count ≡ length self.old.places) × (to_count ≡ length to.old.places) }
         requires front { IsFront self.old.places len }
         requires empty { IsFront to.old.places 0 }
         requires room { len ≤ length to.old.places }
@@ -104,7 +109,7 @@ impl<T> Row<T> {
         ensures places { (length self.new.places ≡ length self.old.places) × (length to.new.places ≡ length to.old.places) }
         ensures at { (self.new.at ≡ self.old.at) × (to.new.at ≡ to.old.at) }
     {
-        self.move_to(0, len, to, 0);
+        self.move_to(count, 0, len, to, to_count, 0);
     }
 
     /// Turns the items round.
@@ -122,7 +127,8 @@ impl<T> Row<T> {
 
 impl<T: Drop> Row<T> {
     /// Drops the items from `to` on, the last first.
-    pub fn truncate(&mut self, len: usize, to: usize)
+    pub fn truncate(&mut self, count: usize, len: usize, to: usize)
+        requires count { count ≡ length self.old.places }
         requires front { IsFront self.old.places len }
         requires within { to ≤ len }
         ensures front { IsFront self.new.places to }
@@ -133,7 +139,7 @@ impl<T: Drop> Row<T> {
         let mut left = len;
         while to < left {
             left -= 1;
-            let _item = self.take_last(left);
+            let _item = self.take_last(count, left);
         }
     }
 }
@@ -141,7 +147,13 @@ impl<T: Drop> Row<T> {
 impl<T: Clone + Drop> Row<T> {
     /// Clones of all `len` items, in the places of `to`, which are empty. Where memory is refused to a clone, the
     /// clones made so far are dropped, and `to` is empty as before.
-    pub fn clone_items(&self, len: usize, to: &mut Row<T>) -> Result<(), AllocError>
+    pub fn clone_items(
+        &self,
+        len: usize,
+        to: &mut Row<T>,
+        to_count: usize,
+    ) -> Result<(), AllocError>
+        requires count { to_count ≡ length to.old.places }
         requires front { IsFront self.now.places len }
         requires empty { IsFront to.old.places 0 }
         requires room { len ≤ length to.old.places }
@@ -155,9 +167,9 @@ impl<T: Clone + Drop> Row<T> {
         let items = self.items(len);
         for made in 0..len {
             match items[made].clone() {
-                Ok(item) => to.push_last(made, item),
+                Ok(item) => to.push_last(to_count, made, item),
                 Err(refused) => {
-                    to.truncate(made, 0);
+                    to.truncate(to_count, made, 0);
                     return Err(refused);
                 }
             }

@@ -44,11 +44,7 @@ pub fn with_rows<A, B>(
         layout.size,
         layout.align,
     )?;
-    Ok((
-        row_of(first, count, firsts),
-        row_of(second, count, seconds),
-        block,
-    ))
+    Ok((row_of(first, firsts), row_of(second, seconds), block))
 }
 
 /// Two rows of no places, without memory.
@@ -61,20 +57,22 @@ pub fn no_rows<A, B>(alloc: Global) -> (Row<A>, Row<B>, Block<A, B>)
     bare_rows(alloc, 0)
 }
 
-/// Gives the block back. It is that of both rows, and no item is left in either.
+/// Gives the block back. It is that of both rows, which have `count` places each, and no item is left in either.
 #[inline]
-pub fn give_back<A, B>(alloc: Global, firsts: Row<A>, seconds: Row<B>, block: Block<A, B>)
+pub fn give_back<A, B>(
+    alloc: Global,
+    count: usize,
+    firsts: Row<A>,
+    seconds: Row<B>,
+    block: Block<A, B>,
+)
+    requires count { count ≡ length firsts.places }
     requires empty { IsFront firsts.places 0 × IsFront seconds.places 0 }
     requires block { IsBlockOf block firsts seconds }
 {
-    let Row {
-        address,
-        count,
-        held,
-    } = firsts;
+    let Row { address, held } = firsts;
     let Row {
         address: _,
-        count: _,
         held: other,
     } = seconds;
     if weightless::<A, B>(count) {
@@ -111,22 +109,14 @@ fn bare_rows<A, B>(alloc: Global, count: usize) -> (Row<A>, Row<B>, Block<A, B>)
     let (first, firsts) = bare(count);
     let (second, seconds) = bare(count);
     let block = no_claim(&alloc, first, second, count);
-    (
-        row_of(first, count, firsts),
-        row_of(second, count, seconds),
-        block,
-    )
+    (row_of(first, firsts), row_of(second, seconds), block)
 }
 
 // The row of these parts.
 #[inline]
-fn row_of<T>(address: Address<T>, count: usize, held: Held<T>) -> Row<T>
-    requires { (held.at ≡ address.at) × (held.places ≡ empties count) }
-    ensures places { result ≡ laid address.at (empties count) }
+fn row_of<T>(address: Address<T>, held: Held<T>) -> Row<T>
+    requires { held.at ≡ address.at }
+    ensures places { result ≡ laid address.at held.places }
 {
-    Row {
-        address,
-        count,
-        held,
-    }
+    Row { address, held }
 }

@@ -8,64 +8,56 @@ use std::marker::Model;
 
 /// A row of places, each empty or with an item. Nothing at run time says which: the type above knows. It is seen as its
 /// places and where they lie, so that `pair::give_back` takes rows of one block alone. No call changes where they lie.
+/// It stores no count: each call that moves an item is told how many places there are, so that two rows share one count.
 pub struct Row<T> {
     pub(crate) address: Address<T>,
-    pub(crate) count: usize,
     pub(crate) held: Held<T>,
 }
 
 impl<T> Model for Row<T> {
-    ghost use Rattle.std.specs.Prelude.{◌≡◌, length};
+    ghost use Rattle.std.specs.Prelude.{◌≡◌};
     ghost use Rattle.starlark_columns.specs.Laid.{Laid, laid};
 
     ghost Value = { Laid T };
 
     ghost view = { λ r. laid r.held.at r.held.places };
 
-    ghost invariant = { λ r. (r.held.at ≡ r.address.at) × (length r.held.places ≡ r.count) };
+    ghost invariant = { λ r. r.held.at ≡ r.address.at };
 }
 
 impl<T> Row<T> {
     ghost use Rattle.starlark_columns.specs.RowLends.{lends_item, lends_items};
 
-    /// How many places there are.
-    #[inline]
-    pub fn places(&self) -> usize
-        ensures places { result ≡ length self.now.places }
-        ensures fits { length self.now.places < 2 ^ 64 }
-    {
-        self.count
-    }
-
     /// Puts an item in an empty place.
     #[inline]
-    pub fn write(&mut self, index: usize, item: T)
-        requires { (index < length self.old.places) × (get_or self.old.places index None ≡ None) }
+    pub fn write(&mut self, count: usize, index: usize, item: T)
+        requires count { count ≡ length self.old.places }
+        requires empty { (index < length self.old.places) × (get_or self.old.places index None ≡ None) }
         ensures places { self.new.places ≡ slice_set self.old.places index (Some item) }
         ensures at { self.new.at ≡ self.old.at }
     {
-        self.held.write(self.address, self.count, index, item);
+        self.held.write(self.address, count, index, item);
     }
 
     /// Moves the item out of a full place, which is then empty.
     #[inline]
-    pub fn take(&mut self, index: usize) -> T
-        requires { IsFilled self.old.places index }
+    pub fn take(&mut self, count: usize, index: usize) -> T
+        requires count { count ≡ length self.old.places }
+        requires filled { IsFilled self.old.places index }
         ensures value { get_or self.old.places index None ≡ Some result }
         ensures places { self.new.places ≡ slice_set self.old.places index None }
         ensures at { self.new.at ≡ self.old.at }
     {
-        self.held.take(self.address, self.count, index)
+        self.held.take(self.address, count, index)
     }
 
-    /// The item of a full place.
+    /// The item of a full place, which is below `end`.
     #[inline]
-    pub fn get(&self, index: usize) -> &T
-        requires { IsFilled self.now.places index }
+    pub fn get(&self, end: usize, index: usize) -> &T
+        requires below { index < end }
+        requires filled { IsFilled self.now.places index }
         ensures { get_or self.now.places index None ≡ Some result.now }
     {
-        let count = self.count;
-        prove!(index < count);
         &self.held.slice(self.address, index, index + 1)[0]
     }
 
@@ -102,35 +94,46 @@ impl<T> Row<T> {
     /// Moves the items from place `from` up to place `end` down, to the places from `to` on, as one move of memory. The
     /// places between are empty before, and as many behind the items are afterwards.
     #[inline]
-    pub fn move_down(&mut self, from: usize, end: usize, to: usize)
+    pub fn move_down(&mut self, count: usize, from: usize, end: usize, to: usize)
+        requires count { count ≡ length self.old.places }
         requires items { AreFilled self.old.places from end }
         requires gap { AreEmpty self.old.places to from }
         ensures places { self.new.places ≡ moved_down self.old.places from end to }
         ensures at { self.new.at ≡ self.old.at }
     {
         if from != end {
-            self.held.move_down(self.address, self.count, from, end, to);
+            self.held.move_down(self.address, count, from, end, to);
         }
     }
 
     /// Moves the items from place `from` up to place `end` up, to the places from `to` on, as one move of memory. The
     /// places behind that they need are empty before, and as many in front of them are afterwards.
     #[inline]
-    pub fn move_up(&mut self, from: usize, end: usize, to: usize)
+    pub fn move_up(&mut self, count: usize, from: usize, end: usize, to: usize)
+        requires count { count ≡ length self.old.places }
         requires items { AreFilled self.old.places from end }
         requires gap { (from ≤ to) × AreEmpty self.old.places end (end + (to - from)) }
         ensures places { self.new.places ≡ moved_up self.old.places from end to }
         ensures at { self.new.at ≡ self.old.at }
     {
         if from != end {
-            self.held.move_up(self.address, self.count, from, end, to);
+            self.held.move_up(self.address, count, from, end, to);
         }
     }
 
     /// Moves the items from place `from` up to place `end` to the empty places of `other` from `to` on, as one copy of
     /// memory. The places that they leave are empty afterwards.
     #[inline]
-    pub fn move_to(&mut self, from: usize, end: usize, other: &mut Row<T>, to: usize)
+    pub fn move_to(
+        &mut self,
+        count: usize,
+        from: usize,
+        end: usize,
+        other: &mut Row<T>,
+        other_count: usize,
+        to: usize,
+    )
+        requires counts { (count ≡ length self.old.places) × (other_count ≡ length other.old.places) }
         requires items { AreFilled self.old.places from end }
         requires room { AreEmpty other.old.places to (to + (end - from)) }
         ensures left { self.new.places ≡ with_range self.old.places from end (empties (end - from)) }
@@ -140,12 +143,12 @@ impl<T> Row<T> {
         if from != end {
             self.held.move_to(
                 self.address,
-                self.count,
+                count,
                 from,
                 end,
                 &mut other.held,
                 other.address,
-                other.count,
+                other_count,
                 to,
             );
         }

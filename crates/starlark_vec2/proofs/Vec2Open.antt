@@ -23,7 +23,7 @@ module _ (A B : RattleType) where
   member R = record { row = R; ty = lone R.mir }
 
   abbrev behind : List Member
-  behind = member (field heap.the_type).row ∷ member (claim.the_row A B heap.the_row ghosts) ∷ []
+  behind = member usize-field.row ∷ member (field heap.the_type).row ∷ member (claim.the_row A B heap.the_row ghosts) ∷ []
 
   abbrev left : List Member
   left = member usize-field.row ∷ behind

@@ -30,13 +30,15 @@ pub struct Vec2<A, B> {
     seconds: Row<B>,
     // How many of the places at the front of either column are filled.
     len: usize,
+    // How many places either column has.
+    count: usize,
     alloc: Global,
     // The right to give back the one block that holds both columns.
     block: Block<A, B>,
 }
 
 impl<A, B> Model for Vec2<A, B> {
-    ghost use Rattle.std.specs.Prelude.{length, zip};
+    ghost use Rattle.std.specs.Prelude.{◌≡◌, length, zip};
     ghost use Rattle.starlark_columns.specs.Block.{IsBlockOf};
     ghost use Rattle.starlark_columns.specs.Places.{items_of};
     ghost use Rattle.starlark_vec2.specs.PairList.{PairList, pair_list};
@@ -46,7 +48,7 @@ impl<A, B> Model for Vec2<A, B> {
 
     ghost view = { λ v. pair_list (zip (items_of v.firsts.places) (items_of v.seconds.places)) (length v.firsts.places) };
 
-    ghost invariant = { λ v. AreColumns v.firsts.places v.seconds.places v.len × IsBlockOf v.block v.firsts v.seconds };
+    ghost invariant = { λ v. AreColumns v.firsts.places v.seconds.places v.len × IsBlockOf v.block v.firsts v.seconds × (v.count ≡ v.block.count) };
 }
 
 // Making
@@ -63,6 +65,7 @@ impl<A, B> Vec2<A, B> {
             firsts,
             seconds,
             len: 0,
+            count: 0,
             alloc,
             block,
         }
@@ -81,6 +84,7 @@ impl<A, B> Vec2<A, B> {
             firsts,
             seconds,
             len: 0,
+            count: capacity,
             alloc,
             block,
         })
@@ -107,7 +111,7 @@ impl<A, B> Vec2<A, B> {
         ensures capacity { result ≡ self.now.capacity }
         ensures within { length self.now.pairs ≤ self.now.capacity }
     {
-        self.firsts.places()
+        self.count
     }
 
     /// Whether there are no pairs.
@@ -233,12 +237,15 @@ impl<A, B> Vec2<A, B> {
         ensures succeeds { capacity ≡ 0 → IsOk result }
     {
         let (mut firsts, mut seconds, mut block) = with_rows(self.alloc, capacity)?;
-        self.firsts.move_all(self.len, &mut firsts);
-        self.seconds.move_all(self.len, &mut seconds);
+        let count = self.count;
+        self.firsts.move_all(count, self.len, &mut firsts, capacity);
+        self.seconds
+            .move_all(count, self.len, &mut seconds, capacity);
         mem::swap(&mut self.firsts, &mut firsts);
         mem::swap(&mut self.seconds, &mut seconds);
         mem::swap(&mut self.block, &mut block);
-        give_back(self.alloc, firsts, seconds, block);
+        self.count = capacity;
+        give_back(self.alloc, count, firsts, seconds, block);
         Ok(())
     }
 
@@ -265,10 +272,10 @@ impl<A, B> Vec2<A, B> {
         requires { length self.old.pairs < self.old.capacity }
         ensures { self.new ≡ with_pairs self.old (self.old.pairs ++ (a, b) ∷ []) }
     {
-        let places = self.firsts.places();
-        prove!(self.len < places);
-        self.firsts.push_last(self.len, a);
-        self.seconds.push_last(self.len, b);
+        let count = self.count;
+        prove!(self.len < count);
+        self.firsts.push_last(count, self.len, a);
+        self.seconds.push_last(count, self.len, b);
         self.len += 1;
     }
 }
@@ -295,11 +302,11 @@ impl<A, B> Vec2<A, B> {
         ensures taken { slice_get self.old.pairs index ≡ Some result }
         ensures list { self.new ≡ with_pairs self.old (remove self.old.pairs index) }
     {
-        let len = self.len;
+        let (count, len) = (self.count, self.len);
         self.len = len - 1;
         (
-            self.firsts.remove_at(len, index),
-            self.seconds.remove_at(len, index),
+            self.firsts.remove_at(count, len, index),
+            self.seconds.remove_at(count, len, index),
         )
     }
 
@@ -315,8 +322,8 @@ impl<A, B> Vec2<A, B> {
         }
         self.len -= 1;
         Some((
-            self.firsts.take_last(self.len),
-            self.seconds.take_last(self.len),
+            self.firsts.take_last(self.count, self.len),
+            self.seconds.take_last(self.count, self.len),
         ))
     }
 
@@ -362,8 +369,8 @@ impl<A: Drop, B: Drop> Vec2<A, B> {
         ensures { self.new ≡ with_pairs self.old (take len self.old.pairs) }
     {
         if len < self.len() {
-            self.firsts.truncate(self.len, len);
-            self.seconds.truncate(self.len, len);
+            self.firsts.truncate(self.count, self.len, len);
+            self.seconds.truncate(self.count, self.len, len);
             self.len = len;
         }
     }
@@ -375,11 +382,12 @@ impl<A: Drop, B: Drop> Drop for Vec2<A, B> {
             mut firsts,
             mut seconds,
             len,
+            count,
             alloc,
             block,
         } = self;
-        firsts.truncate(len, 0);
-        seconds.truncate(len, 0);
-        give_back(alloc, firsts, seconds, block);
+        firsts.truncate(count, len, 0);
+        seconds.truncate(count, len, 0);
+        give_back(alloc, count, firsts, seconds, block);
     }
 }

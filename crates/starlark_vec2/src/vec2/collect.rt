@@ -73,23 +73,24 @@ impl<A: Clone, B: Clone> Vec2<A, B> {
     {
         let len = self.len;
         let (mut firsts, mut seconds, block) = with_rows(self.alloc, len)?;
-        match self.firsts.clone_items(len, &mut firsts) {
-            Ok(()) => match self.seconds.clone_items(len, &mut seconds) {
+        match self.firsts.clone_items(len, &mut firsts, len) {
+            Ok(()) => match self.seconds.clone_items(len, &mut seconds, len) {
                 Ok(()) => Ok(Vec2 {
                     firsts,
                     seconds,
                     len,
+                    count: len,
                     alloc: self.alloc,
                     block,
                 }),
                 Err(refused) => {
-                    firsts.truncate(len, 0);
-                    give_back(self.alloc, firsts, seconds, block);
+                    firsts.truncate(len, len, 0);
+                    give_back(self.alloc, len, firsts, seconds, block);
                     Err(refused)
                 }
             },
             Err(refused) => {
-                give_back(self.alloc, firsts, seconds, block);
+                give_back(self.alloc, len, firsts, seconds, block);
                 Err(refused)
             }
         }

@@ -18,6 +18,8 @@ pub struct IntoIter<A, B> {
     // Where the pairs that are left begin and end.
     from: usize,
     to: usize,
+    // How many places either column has.
+    count: usize,
     alloc: Global,
     block: Block<A, B>,
 }
@@ -32,7 +34,7 @@ impl<A, B> Model for IntoIter<A, B> {
 
     ghost view = { λ it. zip (items_of it.firsts.places) (items_of it.seconds.places) };
 
-    ghost invariant = { λ it. IsBetween it.firsts.places it.from it.to × IsBetween it.seconds.places it.from it.to × IsBlockOf it.block it.firsts it.seconds };
+    ghost invariant = { λ it. IsBetween it.firsts.places it.from it.to × IsBetween it.seconds.places it.from it.to × IsBlockOf it.block it.firsts it.seconds × (it.count ≡ it.block.count) };
 }
 
 impl<A: Drop, B: Drop> Iterator for IntoIter<A, B> {
@@ -50,8 +52,8 @@ impl<A: Drop, B: Drop> Iterator for IntoIter<A, B> {
         }
         self.from = from + 1;
         Some((
-            self.firsts.take_first_between(from, to),
-            self.seconds.take_first_between(from, to),
+            self.firsts.take_first_between(self.count, from, to),
+            self.seconds.take_first_between(self.count, from, to),
         ))
     }
 
@@ -78,8 +80,8 @@ impl<A: Drop, B: Drop> DoubleEndedIterator for IntoIter<A, B> {
         let last = self.to - 1;
         self.to = last;
         Some((
-            self.firsts.take_last_between(from, last),
-            self.seconds.take_last_between(from, last),
+            self.firsts.take_last_between(self.count, from, last),
+            self.seconds.take_last_between(self.count, from, last),
         ))
     }
 }
@@ -107,6 +109,7 @@ impl<A: Drop, B: Drop> IntoIterator for Vec2<A, B> {
             firsts,
             seconds,
             len: _,
+            count,
             alloc,
             block,
         } = self;
@@ -115,6 +118,7 @@ impl<A: Drop, B: Drop> IntoIterator for Vec2<A, B> {
             seconds,
             from: 0,
             to,
+            count,
             alloc,
             block,
         }
@@ -128,11 +132,12 @@ impl<A: Drop, B: Drop> Drop for IntoIter<A, B> {
             mut seconds,
             from,
             to,
+            count,
             alloc,
             block,
         } = self;
-        firsts.drop_between(from, to);
-        seconds.drop_between(from, to);
-        give_back(alloc, firsts, seconds, block);
+        firsts.drop_between(count, from, to);
+        seconds.drop_between(count, from, to);
+        give_back(alloc, count, firsts, seconds, block);
     }
 }

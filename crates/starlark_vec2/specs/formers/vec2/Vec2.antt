@@ -1,7 +1,7 @@
 -- `Vec2` as a type that may hold the type that holds it, in its first parts.
 use Rattle.std.specs.Prelude.{◌≡◌, ℕ, ◌-◌, ◌≤◌, max, Bool, true, false, List, [], ◌∷◌, ◌++◌, map, length, replicate, zip, Option, Some, None, is_some}
 use mathlib.Core.Path.{refl, sym, ap, subst, ◌∙◌}
-use mathlib.Core.HLevel.{×_prop}
+use mathlib.Core.HLevel.{×₃_prop}
 use denote.RawPtr.{coded_ptr}
 use mathlib.Core.Former.{Former, Count, Row, one_more, this, const, pair, list, list_count, list_put, via, children}
 use native.Mathlib.Nat.{ℕ_set}
@@ -71,8 +71,8 @@ pub the_items_listed : (B X : Type 0) (v : PairList X B) → listed _ (children 
 the_items_listed B X v = firsts_listed B X v.pairs
 
 abbrev pub fields : Type 0 → Former {0}
-fields B = via (pair (row_is.the_former this) (const (Laid B × ℕ × Global × claim_is.Parts Global))) (λ X. Inside X B) (λ X a. (a.firsts, (a.seconds, a.len, a.alloc, claim_is.parts_of X B Global a.block)))
-    (λ X v. record { firsts = v.0; seconds = v.1.0; len = v.1.1; alloc = v.1.2; block = claim_is.of_parts X B Global v.1.3 }) (λ X a. refl) (λ X v. refl)
+fields B = via (pair (row_is.the_former this) (const (Laid B × ℕ × ℕ × Global × claim_is.Parts Global))) (λ X. Inside X B) (λ X a. (a.firsts, (a.seconds, a.len, a.count, a.alloc, claim_is.parts_of X B Global a.block)))
+    (λ X v. record { firsts = v.0; seconds = v.1.0; len = v.1.1; count = v.1.2; alloc = v.1.3; block = claim_is.of_parts X B Global v.1.4 }) (λ X a. refl) (λ X v. refl)
 
 pub zip-map : {X Y B : Type 0} (h : X → Y) (xs : List X) (bs : List B) → zip (map h xs) bs ≡ map (on_first h) (zip xs bs)
 zip-map h [] bs = refl
@@ -154,12 +154,12 @@ module _ (B : RattleType) (R R' : RattleType) (h : R.Denot → R'.Denot) where
       (λ X u. length (items_of u.firsts.places) ≡ length (items_of u.seconds.places)) (λ X Y k u e. sym (items-count k u.firsts.places) ∙ e)
       (λ X u e. zip-held B.Denot X (items_of u.firsts.places) (items_of u.seconds.places) e ∙ items_of-held X u.firsts.places)
       R.Denot R'.Denot h (vec2.the_row R B).coded (vec2.the_row R' B).coded
-      (invariant R.Denot B.Denot) (invariant R'.Denot B.Denot) (λ u. ×_prop (AreColumns-prop _ _ _) (IsBlockOf-prop u.block u.firsts u.seconds)) (λ u. ×_prop (AreColumns-prop _ _ _) (IsBlockOf-prop u.block u.firsts u.seconds))
-      (λ u s. (columns_to h u.firsts.places u.seconds.places u.len s.0, (s.1.0, s.1.1, s.1.2 ∙ sym (places-count h u.firsts.places), s.1.3)))
-      (λ u s. (columns_from h u.firsts.places u.seconds.places u.len s.0, (s.1.0, s.1.1, s.1.2 ∙ places-count h u.firsts.places, s.1.3))) (λ u s. even_items u.firsts.places u.seconds.places u.len s.0)
+      (invariant R.Denot B.Denot) (invariant R'.Denot B.Denot) (λ u. ×₃_prop (AreColumns-prop _ _ _) (IsBlockOf-prop u.block u.firsts u.seconds) (ℕ_set _ _)) (λ u. ×₃_prop (AreColumns-prop _ _ _) (IsBlockOf-prop u.block u.firsts u.seconds) (ℕ_set _ _))
+      (λ u s. (columns_to h u.firsts.places u.seconds.places u.len s.0, (s.1.0, s.1.1, s.1.2 ∙ sym (places-count h u.firsts.places), s.1.3), s.2))
+      (λ u s. (columns_from h u.firsts.places u.seconds.places u.len s.0, (s.1.0, s.1.1, s.1.2 ∙ places-count h u.firsts.places, s.1.3), s.2)) (λ u s. even_items u.firsts.places u.seconds.places u.len s.0)
       (over (inside.the_row R B)) (over (inside.the_row R' B))
-      (struct_places (inside.the_type R B) (inside.the_type R' B) ((row_is.the_former this).map R.Denot R'.Denot h, (λ n. n, (λ n. n, (λ n. n, ((claim_is.the_former this B.Denot Global).map R.Denot R'.Denot h, tt))))) _ (λ d. refl) refl
-      (laid _ _ _ (row_is.the_places R R' h a), ((refl, (λ n. refl, λ n. refl)), ((refl, (λ n. refl, λ n. refl)), ((refl, (λ n. refl, λ n. refl)), (laid _ _ _ (claim_is.the_places B heap.the_row ghosts R R' h a), tt))))))
+      (struct_places (inside.the_type R B) (inside.the_type R' B) ((row_is.the_former this).map R.Denot R'.Denot h, (λ n. n, (λ n. n, (λ n. n, (λ n. n, ((claim_is.the_former this B.Denot Global).map R.Denot R'.Denot h, tt)))))) _ (λ d. refl) refl
+      (laid _ _ _ (row_is.the_places R R' h a), ((refl, (λ n. refl, λ n. refl)), ((refl, (λ n. refl, λ n. refl)), ((refl, (λ n. refl, λ n. refl)), ((refl, (λ n. refl, λ n. refl)), (laid _ _ _ (claim_is.the_places B heap.the_row ghosts R R' h a), tt)))))))
 
   pub the_codes_placed : Recodes R R' h → Recodes (vec2.the_row R B) (vec2.the_row R' B) ((the_former this B.Denot).map R.Denot R'.Denot h)
   the_codes_placed e v = ap (λ x. gcons x (coded_ℕ.code v.capacity))

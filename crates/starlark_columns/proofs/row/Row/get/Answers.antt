@@ -4,4 +4,4 @@ use Rattle.starlark_columns.proofs.Slotting.{one_filled}
 use Rattle.starlark_columns.proofs.row.Row.get.Goals as goal
 
 pub slice-requires : goal.slice-requires
-slice-requires g c = (sym c.self.invariant.0, one_filled c.self.inside.held.places c.args.index (subst (λ r. IsFilled r.places c.args.index) (sym c.self.view_is) c.requires))
+slice-requires g c = (sym c.self.invariant, one_filled c.self.inside.held.places c.args.index (subst (λ r. IsFilled r.places c.args.index) (sym c.self.view_is) c.requires.filled))

@@ -1,6 +1,4 @@
-use Rattle.std.proofs.Common.{◌∙◌}
-use lib.ListN.{length-set}
 use Rattle.starlark_columns.proofs.row.Row.get_mut.Goals as goal
 
 pub invariant_of-self-lent : goal.invariant_of-self-lent
-invariant_of-self-lent g c = λ w. (c.self.invariant.0, length-set c.self.inside.held.places c.args.index _ ∙ c.self.invariant.1)
+invariant_of-self-lent g c = λ w. c.self.invariant

@@ -1,8 +1,8 @@
 use Rattle.starlark_columns.proofs.Fronts.{front_filled, front_taken, rest_filled, gap_empty, front_removed}
 use Rattle.starlark_columns.proofs.row.Row.remove_at.Goals as goal
 
-pub take-item-requires : goal.take-item-requires
-take-item-requires g c = front_filled c.args.self.now.places c.args.len c.requires.front c.args.index c.requires.within
+pub take-item-requires-clause-filled : goal.take-item-requires-clause-filled
+take-item-requires-clause-filled g c = front_filled c.args.self.now.places c.args.len c.requires.front c.args.index c.requires.within
 
 pub move_down-requires-clause-items : goal.move_down-requires-clause-items
 move_down-requires-clause-items g c = rest_filled c.args.self.now.places c.args.len c.requires.front c.args.index c.requires.within c.take-item.new.self.places c.take-item.ensures.places

@@ -2,8 +2,8 @@ use Rattle.std.proofs.Common.{◌+◌, refl}
 use Rattle.starlark_columns.proofs.Betweens.{last_filled, last_taken_between}
 use Rattle.starlark_columns.proofs.row.Row.take_last_between.Goals as goal
 
-pub take-requires : goal.take-requires
-take-requires g c = last_filled c.args.self.now.places c.args.from (c.args.last + 1) c.requires.between c.requires.some c.args.last refl
+pub take-requires-clause-filled : goal.take-requires-clause-filled
+take-requires-clause-filled g c = last_filled c.args.self.now.places c.args.from (c.args.last + 1) c.requires.between c.requires.some c.args.last refl
 
 pub returns-clause-between : goal.returns-clause-between
 returns-clause-between g c = (last_taken_between c.args.self.now.places c.args.from (c.args.last + 1) c.requires.between c.requires.some c.args.last refl c.take.new.self.places c.take.result c.take.ensures.places c.take.ensures.value).0

@@ -11,6 +11,7 @@ pub invariant_of-self-lent : goal.invariant_of-self-lent
 invariant_of-self-lent g c = λ w. let cs = slice_set c.self.inside.firsts.places c.args.index (Some w) in (
   first_set c.self.inside.firsts.places c.self.inside.seconds.places c.self.inside.len c.self.invariant.0 c.args.self.now c.self.view_is c.args.index c.requires w,
   same_block c.self.inside.block c.self.inside.firsts (relaid c.self.inside.firsts cs) c.self.inside.seconds c.self.inside.seconds c.self.invariant.1 refl refl (length-set c.self.inside.firsts.places c.args.index (Some w)) refl,
+  c.self.invariant.2,
 )
 
 pub returns : goal.returns

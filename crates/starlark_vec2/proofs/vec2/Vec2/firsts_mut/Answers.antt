@@ -9,6 +9,7 @@ pub invariant_of-self-lent : goal.invariant_of-self-lent
 invariant_of-self-lent g c = λ ws. (
   firsts_written c.self.inside.firsts.places c.self.inside.seconds.places c.self.inside.len c.self.invariant.0 ws,
   same_block c.self.inside.block c.self.inside.firsts (relaid c.self.inside.firsts (with_items c.self.inside.firsts.places ws)) c.self.inside.seconds c.self.inside.seconds c.self.invariant.1 refl refl (written_places c.self.inside.firsts.places c.self.inside.len c.self.invariant.0.firsts_front ws) refl,
+  c.self.invariant.2,
 )
 
 pub returns : goal.returns

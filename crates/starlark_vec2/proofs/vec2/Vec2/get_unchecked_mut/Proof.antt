@@ -52,7 +52,7 @@ module _ (A B : RattleType) where
   written_known : (v : W.Denot) (d : D A' B') (i : ℕ) (x : A.Denot) (y : B.Denot) → i < length v.pairs → Known A' B' v d → Known A' B' (with_pair v i (x, y)) (written d i x y)
   written_known v d i x y lt k = let cs = d.firsts.places in let ds = d.seconds.places in let d' = written d i x y in (
     both_end cs ds d.len k.1.0 v k.0 i lt x y,
-    (both_set cs ds d.len k.1.0 v k.0 i lt x y, same_block d.block d.firsts d'.firsts d.seconds d'.seconds k.1.1 refl refl (length-set cs i (Some x)) (length-set ds i (Some y))),
+    (both_set cs ds d.len k.1.0 v k.0 i lt x y, same_block d.block d.firsts d'.firsts d.seconds d'.seconds k.1.1 refl refl (length-set cs i (Some x)) (length-set ds i (Some y)), k.1.2),
   )
 
   module _ {M : Type 1} {𝓤 : Ura M} (𝓛 : Logic 𝓤) (at_mem : Memory → SProp 𝓤) (run : Routine → Fun 𝓤) where

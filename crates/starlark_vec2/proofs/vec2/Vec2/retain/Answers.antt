@@ -14,6 +14,7 @@ invariant_of-self g c = let cs = c.self.inside.firsts.places in let ds = c.self.
   both_written c.self.inside.firsts.places c.self.inside.seconds.places c.self.inside.len c.self.invariant.0 xs ys,
   same_block c.self.inside.block c.self.inside.firsts (relaid c.self.inside.firsts (with_items cs xs)) c.self.inside.seconds (relaid c.self.inside.seconds (with_items ds ys)) c.self.invariant.1 refl refl
       (written_places cs c.self.inside.len c.self.invariant.0.firsts_front xs) (written_places ds c.self.inside.len c.self.invariant.0.seconds_front ys),
+  c.self.invariant.2,
 )
 
 pub returns-clause-pairs : goal.returns-clause-pairs

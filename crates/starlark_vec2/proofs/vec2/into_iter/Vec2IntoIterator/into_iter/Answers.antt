@@ -11,6 +11,7 @@ invariant_of-result g c =
       subst (λ n. IsBetween c.self.inside.firsts.places 0 n) all (between_front c.self.inside.firsts.places c.self.inside.len c.self.invariant.0.firsts_front),
       subst (λ n. IsBetween c.self.inside.seconds.places 0 n) all (between_front c.self.inside.seconds.places c.self.inside.len c.self.invariant.0.seconds_front),
       c.self.invariant.1,
+      c.self.invariant.2,
     )
 
 pub returns : goal.returns

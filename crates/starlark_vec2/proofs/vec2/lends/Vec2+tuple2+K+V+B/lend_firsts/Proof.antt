@@ -91,7 +91,7 @@ module _ (A B E : RattleType) where
       let cs = d.firsts.places in let ds = d.seconds.places in let ws = with_seconds (items_of cs) (items_of w.places) in
       let items = all_written cs d.len k.1.0.firsts_front ws (length-with_seconds (items_of cs) (items_of w.places)) in (
         (λ j. pair_list (zip (items j) (items_of ds)) (written_places cs d.len k.1.0.firsts_front ws j)),
-        (firsts_written cs ds d.len k.1.0 ws, same_block d.block d.firsts (kept d.firsts w) d.seconds d.seconds k.1.1 refl refl (written_places cs d.len k.1.0.firsts_front ws) refl),
+        (firsts_written cs ds d.len k.1.0 ws, same_block d.block d.firsts (kept d.firsts w) d.seconds d.seconds k.1.1 refl refl (written_places cs d.len k.1.0.firsts_front ws) refl, k.1.2),
       )
 
   same : (v : W.Denot) (d : D) (w : Row) → O.Known P S v d → keeps v (seen d w) ≡ seen d w
