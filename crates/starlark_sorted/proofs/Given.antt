@@ -11,7 +11,7 @@ use Rattle.std.proofs.lemmas.List.{append_assoc}
 use Rattle.std.proofs.lemmas.List.Elements.{All-append, All-cons, All-head, All-tail, All-weaker}
 use Rattle.starlark_hash.specs.declared.hashed.Hashed.{Hashed}
 use Rattle.starlark_hash.specs.HashValue.{hash_of, key_of}
-use Rattle.starlark_lists.specs.Entries.{Entry, entry_key, stands_under}
+use Rattle.starlark_lists.specs.Entries.{Entry, entry_key, is_under, stands_under}
 use Rattle.starlark_lists.specs.Sorting.{Ascends, key_lt}
 use Rattle.starlark_lists.proofs.PositionLemmas.{position-cons}
 use Rattle.starlark_lists.proofs.SortingLemmas.{key_lt-order}
@@ -28,6 +28,13 @@ not_found : (b : Bool) (o : Option ℕ) → not (is_some (cond b (Some 0) (optio
 not_found true o = refl
 not_found false None = refl
 not_found false (Some i) = refl
+
+cond_same : (b : Bool) → cond b false false ≡ false
+cond_same true = refl
+cond_same false = refl
+
+both : (a b : Bool) → a ≡ true → b ≡ true → (a && b) ≡ true
+both a b first second = ap (λ x. x && b) first ∙ second
 
 lt-apart : (r : Ordering) → is_lt r ≡ true → is_eq r ≡ false
 lt-apart Less lt = refl
@@ -53,6 +60,15 @@ module _ {T : Type 0} (eq : T → T → Bool) where
       lacks-cons f x xs
       ∙ ap (λ b. cond b false (lacks eq xs f)) (and_false _ (eq (entry_key f) (entry_key x)) (All-head P x xs apart))
       ∙ lacks-apart f xs (All-tail P x xs apart)
+
+  -- nor does it lack what one of its elements is equal to, under that one's hash
+  holds-at : (f : Entry T (Unit {0})) (ds : Elements T) (x : Entry T (Unit {0})) (xs : Elements T) → stands_under (hash_of f.0) (eq (key_of f.0)) x ≡ true
+      → lacks eq (ds ++ x ∷ xs) f ≡ false
+  holds-at f [] x xs same = lacks-cons f x xs ∙ ap (λ b. cond b false (lacks eq xs f)) same
+  holds-at f (d ∷ ds) x xs same =
+      lacks-cons f d (ds ++ x ∷ xs)
+      ∙ ap (λ l. cond (stands_under (hash_of f.0) (eq (key_of f.0)) d) false l) (holds-at f ds x xs same)
+      ∙ cond_same (stands_under (hash_of f.0) (eq (key_of f.0)) d)
 
 all-at : {X : Type 0} (P : X → Type 0) (ds : List X) (x : X) (xs : List X) → All P (ds ++ x ∷ xs) → P x
 all-at P [] x xs all = All-head P x xs all
@@ -110,6 +126,15 @@ module _ {T : Type 0} {eq : T → T → Bool} {cmp : T → T → Ordering} (tota
       let behind : Follows (Some h) next.0 there = assumption next in
       let first : comes_first cmp next.0 f ≡ true = assumption next in
       sym (ap not (subst (λ l. lacks eq l f ≡ true) (sym behind.1) (lacks-between behind.0 next.0 (shown h) f (subst (Ascends cmp) behind.1 up) lt first)))
+
+  -- but what ties with the last and stands under its hash is in it
+  pub holds-tie : (h : Hashed (Bor T)) (there : Elements T) (f : Entry T (Unit {0})) → ComesNext cmp (Some h) there f → cmp (entry_key (shown h)) (entry_key f) ≡ Equal
+      → is_under (hash_of f.0) (shown h) ≡ true → true ≡ not (lacks eq there f)
+  holds-tie h there f next tie under =
+      let behind : Follows (Some h) next.0 there = assumption next in
+      let equal : eq (entry_key f) (entry_key (shown h)) ≡ true =
+      ties (entry_key f) (entry_key (shown h)) ∙ ap is_eq (total.antisymm (entry_key f) (entry_key (shown h)) ∙ ap ordering_reverse tie) in
+      sym (ap not (subst (λ l. lacks eq l f ≡ false) (sym behind.1) (holds-at eq f behind.0 (shown h) next.0 (both _ _ under equal))))
 
 -- the element that was taken from what is left is the last that was given
 pub Follows-taken : {T : Type 0} (last : Option (Hashed (Bor T))) (h : Hashed (Bor T)) (es fs there : Elements T) → fs ≡ shown h ∷ es → Follows last fs there → Follows (Some h) es there

@@ -127,6 +127,8 @@ fn is_given<T: Ord>(element: Hashed<&T>, last: Option<Hashed<&T>>, there: &Order
         None => false,
         Some(last) => match last.key().cmp(element.key()) {
             Ordering::Less => false,
+            // the last given is in the set itself
+            Ordering::Equal if last.hash() == element.hash() => true,
             _ => there.contains_hashed(element),
         },
     }
