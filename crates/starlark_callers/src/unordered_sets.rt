@@ -4,6 +4,7 @@ ghost use Rattle.std.specs.String.{string_eq};
 ghost use Rattle.std.specs.declared.alloc.Global.{Global};
 ghost use Rattle.std.specs.declared.string.String.{String};
 ghost use Rattle.starlark_unordered.specs.Calling.{contains};
+ghost use Rattle.starlark_unordered.specs.Clone.{IsEqualClone};
 ghost use Rattle.starlark_unordered.specs.Pairs.{pairs_of};
 
 use starlark_hash::NoRoom;
@@ -74,4 +75,28 @@ pub fn copied(set: &UnorderedSet<u32>) -> Result<UnorderedSet<u32>, AllocError>
     ensures { IfOk result (λ copy. (other : ℕ) → contains nat_eq copy other ≡ contains nat_eq set.now other) }
 {
     set.clone()
+}
+
+/// A copy of elements of any type, which has what the set has.
+pub fn copied_any<T: Eq + Hash + Clone>(
+    set: &UnorderedSet<T>,
+) -> Result<UnorderedSet<T>, AllocError>
+    requires { IsEqualClone T.eq T.is_clone }
+    ensures { IfOk result (λ copy. (other : T) → contains T.eq copy other ≡ contains T.eq set.now other) }
+{
+    set.clone()
+}
+
+/// Whether two sets of numbers are equal: if so, what the one has the other has.
+pub fn same(set: &UnorderedSet<u32>, other: &UnorderedSet<u32>) -> bool
+    ensures { result ≡ true → (n : ℕ) → contains nat_eq set.now n ≡ contains nat_eq other.now n }
+{
+    *set == *other
+}
+
+/// The same of sets of any type.
+pub fn same_any<T: Eq + Hash>(set: &UnorderedSet<T>, other: &UnorderedSet<T>) -> bool
+    ensures { result ≡ true → (element : T) → contains T.eq set.now element ≡ contains T.eq other.now element }
+{
+    *set == *other
 }

@@ -1,10 +1,13 @@
 //! Maps that are made of others.
-ghost use Rattle.std.specs.Prelude.{◌≡◌, ℕ, length, nat_eq, IfOk};
-ghost use Rattle.starlark_unordered.specs.Calling.{get};
+ghost use Rattle.std.specs.Prelude.{◌≡◌, ◌≤◌, ℕ, length, nat_eq, IfOk};
+ghost use Rattle.starlark_table.specs.Table.{most_for};
+ghost use Rattle.starlark_unordered.specs.Calling.{contains, get};
+ghost use Rattle.starlark_unordered.specs.Clone.{IsEqualClone};
 ghost use Rattle.starlark_unordered.specs.Pairs.{pairs_of};
 
 use starlark_unordered::UnorderedMap;
-use std::alloc::AllocError;
+use std::alloc::{AllocError, Global};
+use std::hash::Hash;
 
 /// A copy, which has what the map has.
 pub fn copied(map: &UnorderedMap<u32, u64>) -> Result<UnorderedMap<u32, u64>, AllocError>
@@ -18,4 +21,25 @@ pub fn count_of(map: &UnorderedMap<u32, u64>) -> usize
     ensures { result ≡ length (pairs_of map.now) }
 {
     map.len()
+}
+
+/// A copy of pairs of any type, which has the same keys.
+pub fn copied_any<K: Eq + Hash + Clone, V: Clone>(
+    map: &UnorderedMap<K, V>,
+) -> Result<UnorderedMap<K, V>, AllocError>
+    requires { IsEqualClone K.eq K.is_clone }
+    ensures { IfOk result (λ copy. (key : K) → contains K.eq copy key ≡ contains K.eq map.now key) }
+{
+    map.clone()
+}
+
+/// A map with room for so many pairs, and not for many more.
+pub fn roomy<K: Eq + Hash, V>(
+    alloc: Global,
+    capacity: usize,
+) -> Result<UnorderedMap<K, V>, AllocError>
+    ensures room { IfOk result (λ map. capacity ≤ map.room) }
+    ensures most { IfOk result (λ map. map.room ≤ most_for capacity) }
+{
+    UnorderedMap::with_capacity(alloc, capacity)
 }

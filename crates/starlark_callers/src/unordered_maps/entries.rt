@@ -1,6 +1,6 @@
 //! Through entries.
 ghost use Rattle.std.specs.Option.{unwrap_or};
-ghost use Rattle.std.specs.Prelude.{◌≡◌, ℕ, ◌+◌, ◌-◌, ◌^◌, min, nat_eq, false, None, Some, IfOk, OnOk, OnErr};
+ghost use Rattle.std.specs.Prelude.{◌≡◌, ℕ, ◌+◌, ◌-◌, ◌^◌, min, nat_eq, false, None, Some, IfOk, IfSome, OnOk, OnErr};
 ghost use Rattle.std.specs.String.{string_eq};
 ghost use Rattle.std.specs.declared.alloc.Global.{Global};
 ghost use Rattle.std.specs.declared.string.String.{String};
@@ -88,5 +88,33 @@ pub fn key_back<K: Eq + Hash + Drop, V: Drop>(map: &mut UnorderedMap<K, V>, key:
     match map.entry(key) {
         Entry::Occupied(_entry) => None,
         Entry::Vacant(entry) => Some(entry.into_key()),
+    }
+}
+
+/// Lets an entry go where it stands: the map stays.
+pub fn has_number(map: &mut UnorderedMap<u32, u64>, key: u32) -> bool
+    ensures { map.new ≡ map.old }
+{
+    match map.entry(key) {
+        Entry::Occupied(_entry) => true,
+        Entry::Vacant(_entry) => false,
+    }
+}
+
+/// Writes the value of a key of any type that is there, and else answers key and value.
+pub fn write_if_there<K: Eq + Hash + Drop, V: Drop>(
+    map: &mut UnorderedMap<K, V>,
+    key: K,
+    value: V,
+) -> Option<(K, V)>
+    ensures others { (other : K) → K.eq key other ≡ false → get K.eq map.new other ≡ get K.eq map.old other }
+    ensures lacks { IfSome result (λ _. map.new ≡ map.old) }
+{
+    match map.entry(key) {
+        Entry::Occupied(mut entry) => {
+            *entry.get_mut() = value;
+            None
+        }
+        Entry::Vacant(entry) => Some((entry.into_key(), value)),
     }
 }
