@@ -1,5 +1,5 @@
 //! Small maps from keys of any type.
-ghost use Rattle.std.specs.Prelude.{◌≡◌, ◌+◌, false, true, length, None, Some, IfOk, IfSome, OnOk, OnErr, if◌then◌else◌};
+ghost use Rattle.std.specs.Prelude.{◌≡◌, ◌+◌, false, true, length, None, Some, IfOk, IfSome, is_some, OnOk, OnErr, if◌then◌else◌};
 ghost use Rattle.starlark_small.specs.Calling.{get, contains, AreOwn};
 
 use starlark_hash::{Hashed, NoRoom};
@@ -146,4 +146,38 @@ pub fn one<K: Eq + Hash + Drop, V: Drop>(
     let mut map = SmallMap::new(alloc);
     map.insert(key, value)?;
     Ok(map)
+}
+
+/// Takes the last entry out.
+pub fn take_last<K: Eq + Hash + Drop, V: Drop>(map: &mut SmallMap<K, V>) -> Option<(K, V)>
+    ensures was { AreOwn K.hash_input map.old → IfSome result (λ p. get K.eq K.hash_input map.old p.0 ≡ Some p.1) }
+    ensures gone { AreOwn K.hash_input map.old → IfSome result (λ p. get K.eq K.hash_input map.new p.0 ≡ None) }
+    ensures others { IfSome result (λ p. (other : K) → K.eq p.0 other ≡ false → get K.eq K.hash_input map.new other ≡ get K.eq K.hash_input map.old other) }
+    ensures own { AreOwn K.hash_input map.old → AreOwn K.hash_input map.new }
+    ensures count { length map.old.entries ≡ length map.new.entries + (if is_some result then 1 else 0) }
+{
+    map.pop()
+}
+
+/// Takes the entry at a place out.
+pub fn take_at<K: Eq + Hash + Drop, V: Drop>(map: &mut SmallMap<K, V>, place: usize) -> Option<(K, V)>
+    ensures was { AreOwn K.hash_input map.old → IfSome result (λ p. get K.eq K.hash_input map.old p.0 ≡ Some p.1) }
+    ensures gone { AreOwn K.hash_input map.old → IfSome result (λ p. get K.eq K.hash_input map.new p.0 ≡ None) }
+    ensures others { IfSome result (λ p. (other : K) → K.eq p.0 other ≡ false → get K.eq K.hash_input map.new other ≡ get K.eq K.hash_input map.old other) }
+    ensures own { AreOwn K.hash_input map.old → AreOwn K.hash_input map.new }
+    ensures count { length map.old.entries ≡ length map.new.entries + (if is_some result then 1 else 0) }
+{
+    map.shift_remove_index(place)
+}
+
+/// Writes the value at an entry of a map whose keys stand under their own hashes.
+pub fn put_own<K: Eq + Hash + Drop, V: Drop>(
+    map: &mut SmallMap<K, V>,
+    key: K,
+    value: V,
+) -> Result<(), NoRoom<(Hashed<K>, V)>>
+    ensures own { OnOk result (AreOwn K.hash_input map.old → AreOwn K.hash_input map.new) }
+{
+    map.entry(key).or_insert(value)?;
+    Ok(())
 }

@@ -1,6 +1,6 @@
 //! Small maps from numbers.
 ghost use Rattle.std.specs.Hash as fed;
-ghost use Rattle.std.specs.Prelude.{◌≡◌, ◌+◌, ℕ, nat_eq, false, true, length, None, Some, IfOk, IfSome, OnOk, OnErr, if◌then◌else◌};
+ghost use Rattle.std.specs.Prelude.{◌≡◌, ◌+◌, ℕ, nat_eq, false, true, length, None, Some, IfOk, IfSome, is_some, OnOk, OnErr, if◌then◌else◌};
 ghost use Rattle.starlark_small.specs.Calling.{get, contains, AreOwn};
 
 use starlark_hash::{Hashed, NoRoom};
@@ -134,4 +134,26 @@ pub fn one(alloc: Global, key: u32, value: u64) -> Result<SmallMap<u32, u64>, No
     let mut map = SmallMap::new(alloc);
     map.insert(key, value)?;
     Ok(map)
+}
+
+/// Takes the last entry out.
+pub fn take_last(map: &mut SmallMap<u32, u64>) -> Option<(u32, u64)>
+    ensures was { AreOwn fed.u32 map.old → IfSome result (λ p. get nat_eq fed.u32 map.old p.0 ≡ Some p.1) }
+    ensures gone { AreOwn fed.u32 map.old → IfSome result (λ p. get nat_eq fed.u32 map.new p.0 ≡ None) }
+    ensures others { IfSome result (λ p. (other : ℕ) → nat_eq p.0 other ≡ false → get nat_eq fed.u32 map.new other ≡ get nat_eq fed.u32 map.old other) }
+    ensures own { AreOwn fed.u32 map.old → AreOwn fed.u32 map.new }
+    ensures count { length map.old.entries ≡ length map.new.entries + (if is_some result then 1 else 0) }
+{
+    map.pop()
+}
+
+/// The last value, taken out, or 0.
+pub fn take_last_value(map: &mut SmallMap<u32, u64>) -> u64
+    ensures shorter { length map.old.entries ≡ 0 → result ≡ 0 }
+    ensures own { AreOwn fed.u32 map.old → AreOwn fed.u32 map.new }
+{
+    match map.pop() {
+        Some((_key, value)) => value,
+        None => 0,
+    }
 }

@@ -1,6 +1,6 @@
 //! Small maps from strings.
 ghost use Rattle.std.specs.Hash as fed;
-ghost use Rattle.std.specs.Prelude.{◌≡◌, ◌+◌, false, true, length, None, Some, IfOk, IfSome, OnOk, OnErr, if◌then◌else◌};
+ghost use Rattle.std.specs.Prelude.{◌≡◌, ◌+◌, false, true, length, None, Some, IfOk, IfSome, is_some, OnOk, OnErr, if◌then◌else◌};
 ghost use Rattle.std.specs.String.{string_bytes, string_eq};
 ghost use Rattle.std.specs.declared.alloc.Global.{Global};
 ghost use Rattle.std.specs.declared.string.String.{String};
@@ -148,4 +148,15 @@ pub fn one(
     let mut map = SmallMap::new(alloc);
     map.insert(key, value)?;
     Ok(map)
+}
+
+/// Takes the last entry out.
+pub fn take_last(map: &mut SmallMap<String, u64>) -> Option<(String, u64)>
+    ensures was { AreOwn (λ s. fed.str (string_bytes s)) map.old → IfSome result (λ p. get string_eq (λ s. fed.str (string_bytes s)) map.old p.0 ≡ Some p.1) }
+    ensures gone { AreOwn (λ s. fed.str (string_bytes s)) map.old → IfSome result (λ p. get string_eq (λ s. fed.str (string_bytes s)) map.new p.0 ≡ None) }
+    ensures others { IfSome result (λ p. (other : String Global) → string_eq p.0 other ≡ false → get string_eq (λ s. fed.str (string_bytes s)) map.new other ≡ get string_eq (λ s. fed.str (string_bytes s)) map.old other) }
+    ensures own { AreOwn (λ s. fed.str (string_bytes s)) map.old → AreOwn (λ s. fed.str (string_bytes s)) map.new }
+    ensures count { length map.old.entries ≡ length map.new.entries + (if is_some result then 1 else 0) }
+{
+    map.pop()
 }

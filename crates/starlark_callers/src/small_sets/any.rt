@@ -1,6 +1,11 @@
 //! Small sets of any elements.
 ghost use Rattle.std.specs.Prelude.{◌≡◌, true, false, not, Some, None, IfOk, IfErr, OnOk, OnErr};
-ghost use Rattle.starlark_small.specs.Calling.{get, contains};
+ghost use Rattle.std.specs.Fn.{CalledAt};
+ghost use Rattle.std.specs.Prelude.{Bool, filter};
+ghost use Rattle.starlark_lists.specs.Entries.{entry_key};
+ghost use Rattle.starlark_lists.specs.Retain.{TakesInTurn};
+ghost use Rattle.starlark_sets.specs.Retain.{CalledAtElement, TakesElement};
+ghost use Rattle.starlark_small.specs.Calling.{get, contains, AreOwn};
 
 use starlark_hash::NoRoom;
 use starlark_sets::SmallSet;
@@ -79,4 +84,13 @@ pub fn take_out<T: Eq + Hash + Drop>(set: &mut SmallSet<T>, n: T) -> Option<T>
     ensures others { (other : T) → T.eq n other ≡ false → contains T.eq T.hash_input set.new other ≡ contains T.eq T.hash_input set.old other }
 {
     set.take(&n)
+}
+
+/// Keeps the elements that a test passes, and tells that those under their own hashes stay so.
+pub fn keep_if<T: Eq + Hash + Drop, F: FnMut(&T) -> bool>(set: &mut SmallSet<T>, keep: F)
+    requires { TakesInTurn (CalledAtElement F.FnMut) (TakesElement F.FnMut) keep set.old.entries }
+    ensures filtered { (test : T → Bool) → ((f : F) (element : T) (keeps : Bool) (left : F) → CalledAt F.FnMut f element keeps left → keeps ≡ test element) → set.new.entries ≡ filter (λ e. test (entry_key e)) set.old.entries }
+    ensures own { AreOwn T.hash_input set.old → AreOwn T.hash_input set.new }
+{
+    set.retain(keep);
 }
