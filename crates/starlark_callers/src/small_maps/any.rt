@@ -160,7 +160,10 @@ pub fn take_last<K: Eq + Hash + Drop, V: Drop>(map: &mut SmallMap<K, V>) -> Opti
 }
 
 /// Takes the entry at a place out.
-pub fn take_at<K: Eq + Hash + Drop, V: Drop>(map: &mut SmallMap<K, V>, place: usize) -> Option<(K, V)>
+pub fn take_at<K: Eq + Hash + Drop, V: Drop>(
+    map: &mut SmallMap<K, V>,
+    place: usize,
+) -> Option<(K, V)>
     ensures was { AreOwn K.hash_input map.old → IfSome result (λ p. get K.eq K.hash_input map.old p.0 ≡ Some p.1) }
     ensures gone { AreOwn K.hash_input map.old → IfSome result (λ p. get K.eq K.hash_input map.new p.0 ≡ None) }
     ensures others { IfSome result (λ p. (other : K) → K.eq p.0 other ≡ false → get K.eq K.hash_input map.new other ≡ get K.eq K.hash_input map.old other) }
