@@ -4,6 +4,7 @@ use crate::given::holds;
 use starlark_map::vec2::Vec2;
 use std::alloc::Global;
 use std::cell::Cell;
+use std::test::Fail;
 
 // How many items were made, and how many of them dropped.
 #[derive(Drop)]
@@ -113,4 +114,43 @@ fn items_are_dropped_once(rt: HostRuntime) {
     holds(&rt, all_dropped(&counts, 50));
     holds(&rt, grown(rt.alloc(), &counts) <= 40);
     holds(&rt, all_dropped(&counts, 130));
+}
+
+// An item with a digit, which it appends to a number when it is dropped.
+struct Digit<'a> {
+    digit: u64,
+    number: &'a Cell<u64>,
+}
+
+impl<'a> Drop for Digit<'a> {
+    fn drop(self) {
+        let Digit { digit, number } = self;
+        number.set(number.get().wrapping_mul(10).wrapping_add(digit));
+    }
+}
+
+// The pairs of 1 and 4, 2 and 5, and 3 and 6, cut to the first.
+fn truncates(alloc: Global, number: &Cell<u64>) -> Result<Vec2<Digit<'_>, Digit<'_>>, Fail> {
+    let mut list = Vec2::with_capacity(alloc, 3)?;
+    for digit in 1..4u64 {
+        let second = Digit {
+            digit: digit.wrapping_add(3),
+            number,
+        };
+        if list.push(Digit { digit, number }, second).is_err() {
+            return Err("no room".into());
+        }
+    }
+    list.truncate(1);
+    Ok(list)
+}
+
+#[test]
+fn first_parts_are_dropped_before_second_parts(rt: HostRuntime) -> Result<(), Fail> {
+    let number = Cell::new(0);
+    let mut list = truncates(rt.alloc(), &number)?;
+    holds(&rt, number.get() == 3265);
+    list.clear();
+    holds(&rt, number.get() == 326514);
+    Ok(())
 }

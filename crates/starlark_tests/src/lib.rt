@@ -2,11 +2,15 @@
 #![tactic(auto)]
 
 #[cfg(test)]
+mod counted_clones;
+#[cfg(test)]
 mod dropped_pairs;
 #[cfg(test)]
 mod given;
 #[cfg(test)]
 mod hashes;
+#[cfg(test)]
+mod large;
 #[cfg(test)]
 mod pair_lists;
 #[cfg(test)]

@@ -275,11 +275,12 @@ fn capacity_cloned(list: &Pairs, pairs: &[(u32, u32)]) -> Option<usize> {
     }
 }
 
-fn prints(alloc: Global, list: &Pairs, wanted: &str) -> bool {
-    match format!(in alloc; "{list:?}") {
-        Ok(text) => text.as_str() == wanted,
-        Err(_) => false,
-    }
+// Whether a list and a walk over all of it are printed so.
+fn prints(alloc: Global, list: &Pairs, wanted: &str) -> Result<bool, Fail> {
+    let walk = list.iter();
+    let of_list = format!(in alloc; "{list:?}")?;
+    let of_walk = format!(in alloc; "{walk:?}")?;
+    Ok(of_list.as_str() == wanted && of_walk.as_str() == wanted)
 }
 
 #[test]
@@ -288,7 +289,7 @@ fn removals_and_turns(rt: HostRuntime) -> Result<(), Fail> {
     same(&rt, removed(&mut list, 0), Some((1, 2)));
     list.reverse();
     same(&rt, capacity_cloned(&list, &[(5, 6), (3, 4)]), Some(2));
-    holds(&rt, prints(rt.alloc(), &list, "[(5, 6), (3, 4)]"));
+    holds(&rt, prints(rt.alloc(), &list, "[(5, 6), (3, 4)]")?);
     list.clear();
     same(&rt, list.capacity(), 4);
     holds(&rt, shows(&list, &[]));
