@@ -3,7 +3,8 @@
 
     docs/pages.py write    writes docs/words.md, from the comments of specs/, and docs/calls.md, from those of src/
     docs/pages.py check    says where a page is not what the sources say: a written page that is out of date; a public word
-                           of specs/ or a public function with no comment; a name, a file or a link that is not there
+                           of specs/ or a public function with no comment; a name, a clause, a file, a target of make or a
+                           link that is not there; a page longer than it may be; a changelog that does not begin with VERSION
 """
 import re
 import subprocess
@@ -13,6 +14,8 @@ from pathlib import Path
 TOP = Path(__file__).resolve().parent.parent
 # Names of Rust's crates and of std that pages speak of, and that no source of this repository has.
 ELSEWHERE = set((TOP / "docs/elsewhere.txt").read_text().split())
+# The most words that a page may have.
+LONGEST = {"README.md": 1000, "CONTRIBUTING.md": 700, "docs/PROVED.md": 2500, "docs/DECISIONS.md": 7000, "docs/ARCHITECTURE.md": 1500, "crates/starlark_map/CALLING.md": 1500}
 
 
 def tracked(pattern):
@@ -173,10 +176,18 @@ def faults():
             for owner, call, note, _ in calls_of(path):
                 if not note:
                     yield f"{path.relative_to(TOP)}: the public function {owner + '::' if owner else ''}{call} has no comment"
+    for name, most in LONGEST.items():
+        words = len((TOP / name).read_text().split())
+        if words > most:
+            yield f"{name} has {words} words, and may have {most}"
+    version, newest = (TOP / "VERSION").read_text().strip(), re.search(r"^## (\S+),", (TOP / "CHANGELOG.md").read_text(), re.M)
+    if not newest or newest.group(1) != version:
+        yield f"CHANGELOG.md does not begin with {version}, as VERSION has it"
     yield from faults_of_names()
 
 
 def faults_of_names():
+    targets = set(re.findall(r"^([a-z]+):", (TOP / "Makefile").read_text(), re.M))
     sources, clauses = "", {}
     for path in tracked("."):
         if path.suffix != ".md":
@@ -193,6 +204,9 @@ def faults_of_names():
         name, text = page.relative_to(TOP).as_posix(), page.read_text()
         # the changelog names what is gone
         plain = "" if name == "CHANGELOG.md" else re.sub(r"```.*?```", "", text, flags=re.S)
+        for target in re.findall(r"(?:`|^    |^)make ([a-z]+)", text, re.M):
+            if target not in targets:
+                yield f"{name}: there is no make {target}"
         for quoted in re.findall(r"`([^`\n]+)`", plain):
             for word in re.findall(r"[A-Za-z_][A-Za-z0-9_]*", quoted):
                 if word not in known and not word.isupper():
