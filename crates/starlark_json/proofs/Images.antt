@@ -7,7 +7,8 @@ use Rattle.std.specs.Str.{bytes_eq}
 use Rattle.std.specs.declared.alloc.Global.{Global}
 use Rattle.std.specs.declared.string.String.{String}
 use Rattle.starlark_hash.specs.declared.hashed.Hashed.{Hashed}
-use Rattle.starlark_lists.specs.Entries.{Entry, stands_under, set_value_at, match_of, insert_entry}
+use Rattle.starlark_lists.specs.Entries.{Entry, stands_under, set_value_at, match_of}
+use Rattle.starlark_lists.specs.Insertion.{insert_entry}
 use Rattle.starlark_hash.specs.HashValue.{hash_of, key_of}
 use Rattle.starlark_lists.proofs.PositionLemmas.{position-cons}
 use Rattle.starlark_sets.specs.Set.{Set}

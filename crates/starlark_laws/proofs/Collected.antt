@@ -4,7 +4,8 @@ use Rattle.std.specs.Prelude.{position}
 use Rattle.std.specs.Option.{option_map, option_map_or}
 use Rattle.core.specs.Cmp.{IsEquivalence}
 use Rattle.std.proofs.lemmas.List.{append-nil, append_assoc, get_or_append_left, get_or-append-add, length-append}
-use Rattle.starlark_lists.specs.Entries.{Entry, stands_under, set_value_at, match_of, insert_entry, IsSingle}
+use Rattle.starlark_lists.specs.Entries.{Entry, stands_under, set_value_at, match_of, IsSingle}
+use Rattle.starlark_lists.specs.Insertion.{insert_entry}
 use Rattle.starlark_lists.proofs.PositionLemmas.{position-cons}
 use Rattle.starlark_small.specs.Collect.{insert_all}
 use Rattle.starlark_small.specs.EqualityLaws.{alike, alike-laws}

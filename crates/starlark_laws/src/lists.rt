@@ -3,7 +3,8 @@ ghost use Rattle.std.specs.Prelude.{◌≡◌, ◌↔◌, List, [], All, AllPair
 ghost use Rattle.std.specs.List.Sorted.{IsStableByKey};
 ghost use Rattle.std.specs.Map.{keys_of};
 ghost use Rattle.starlark_hash.specs.declared.hashed.Hashed.{Hashed};
-ghost use Rattle.starlark_lists.specs.Entries.{Entry, IsSingle, entry_hash, entry_key, insert_entry, match_of};
+ghost use Rattle.starlark_lists.specs.Entries.{Entry, IsSingle, entry_hash, entry_key, match_of};
+ghost use Rattle.starlark_lists.specs.Insertion.{insert_entry};
 ghost use Rattle.starlark_hash.specs.Hasher.{own_hash};
 ghost use Rattle.starlark_lists.specs.Sorting.{Ascends, sorted_by_key};
 ghost use Rattle.starlark_laws.specs.Matches.{HasMatches};

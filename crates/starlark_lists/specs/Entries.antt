@@ -68,8 +68,3 @@ module _ {K V : Type 0} (eq : K → K → Bool) where
   -- no two places have the same hash and equal keys
   abbrev pub IsSingle : List (Entry K V) → Type 0
   IsSingle es = AllPairs (λ d e. stands_under (entry_hash d) (eq (entry_key d)) e ≡ false) es
-
-  -- the list after an insertion: a key that is there keeps its place and its stored key and takes the value, and a new one goes
-  -- last
-  abbrev pub insert_entry : List (Entry K V) → Hashed K → V → List (Entry K V)
-  insert_entry es key value = option_map_or (λ i. set_value_at es i value) (match_of es key) (es ++ (key, value) ∷ [])

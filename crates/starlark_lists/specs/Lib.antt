@@ -1,4 +1,5 @@
 pub mod Entries
+pub mod Insertion
 pub mod Finding
 pub mod Search
 pub mod Sorting

@@ -10,7 +10,8 @@ use Rattle.std.proofs.lemmas.List.{length-map}
 use Rattle.std.proofs.lemmas.Option.{slice_get-map, none-some}
 use Rattle.starlark_hash.specs.declared.hashed.Hashed.{Hashed}
 use Rattle.starlark_hash.specs.declared.hash_value.StarlarkHashValue.{StarlarkHashValue}
-use Rattle.starlark_lists.specs.Entries.{Entry, entry_value, pair_of, entry_at, position_of, value_at, set_value_at, match_of, insert_entry, with_value, without}
+use Rattle.starlark_lists.specs.Entries.{Entry, entry_value, pair_of, entry_at, position_of, value_at, set_value_at, match_of, with_value, without}
+use Rattle.starlark_lists.specs.Insertion.{insert_entry}
 use Rattle.starlark_hash.specs.HashValue.{hashed, hash_of, key_of}
 use Rattle.starlark_lists.specs.Sorting.{Ascends, key_lt, sorted_by_key}
 use Rattle.starlark_lines.specs.Commands.{Key}

@@ -6,7 +6,8 @@ use Rattle.std.specs.Option.{option_map}
 use Rattle.std.specs.Ordering.{nat_cmp}
 use Rattle.std.specs.Str.{bytes_eq}
 use Rattle.std.specs.declared.cmp.Ordering.{Ordering}
-use Rattle.starlark_lists.specs.Entries.{Entry, entry_key, entry_value, pair_of, value_at, match_of, insert_entry, without}
+use Rattle.starlark_lists.specs.Entries.{Entry, entry_key, entry_value, pair_of, value_at, match_of, without}
+use Rattle.starlark_lists.specs.Insertion.{insert_entry}
 use Rattle.starlark_lists.specs.Sorting.{Ascends, sorted_by_key}
 use Rattle.starlark_lines.specs.Commands.{Command, Put, Get, Del, At, Pop, Rev, Sort, Clear, Reserve, Slim, Len, Walk, hash_text}
 

@@ -4,7 +4,8 @@ ghost use Rattle.std.specs.Prelude.{◌≡◌, ◌≢◌, ℕ, ◌-◌, ◌<◌,
 ghost use Rattle.std.specs.Io.KnownBytes.{Keeps, Appends};
 ghost use Rattle.std.specs.Option.{option_map};
 ghost use Rattle.std.specs.Str.{bytes_eq};
-ghost use Rattle.starlark_lists.specs.Entries.{pair_of, value_at, match_of, insert_entry, without};
+ghost use Rattle.starlark_lists.specs.Entries.{pair_of, value_at, match_of, without};
+ghost use Rattle.starlark_lists.specs.Insertion.{insert_entry};
 ghost use Rattle.starlark_lists.specs.Sorting.{Ascends, sorted_by_key};
 ghost use Rattle.starlark_lines.specs.Shown.{shown, shown_key};
 ghost use Rattle.starlark_play.specs.Memory.{LeavesMemory};

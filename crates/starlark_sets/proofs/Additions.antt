@@ -6,7 +6,8 @@ use Rattle.std.proofs.lemmas.Bool.{false≢true}
 use Rattle.std.proofs.lemmas.List.{length_push}
 use Rattle.starlark_hash.specs.declared.hashed.Hashed.{Hashed}
 use Rattle.starlark_hash.specs.declared.hash_value.StarlarkHashValue.{StarlarkHashValue}
-use Rattle.starlark_lists.specs.Entries.{Entry, insert_entry, match_of, set_value_at, position_of, stands_under, value_at}
+use Rattle.starlark_lists.specs.Entries.{Entry, match_of, set_value_at, position_of, stands_under, value_at}
+use Rattle.starlark_lists.specs.Insertion.{insert_entry}
 use Rattle.starlark_lists.proofs.PositionLemmas.{position-within}
 use Rattle.starlark_small.specs.Index.{unindexed}
 use Rattle.starlark_small.specs.Inserted.{IsInserted, IsRefused, LeavesMemory}

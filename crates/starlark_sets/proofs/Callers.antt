@@ -10,7 +10,8 @@ use Rattle.std.proofs.lemmas.Option.{none-some}
 use Rattle.starlark_hash.specs.declared.hashed.Hashed.{Hashed}
 use Rattle.starlark_hash.specs.declared.hash_value.StarlarkHashValue.{StarlarkHashValue}
 use Rattle.starlark_hash.specs.HashValue.{hashed, hash_of, key_of}
-use Rattle.starlark_lists.specs.Entries.{Entry, IsSingle, entry_at, entry_key, insert_entry, match_of, position_of, set_value_at, stands_under, value_at, with_value, without}
+use Rattle.starlark_lists.specs.Entries.{Entry, IsSingle, entry_at, entry_key, match_of, position_of, set_value_at, stands_under, value_at, with_value, without}
+use Rattle.starlark_lists.specs.Insertion.{insert_entry}
 use Rattle.starlark_lists.proofs.PositionLemmas.{position-cons}
 use Rattle.starlark_small.specs.Inserted.{IsInserted, IsRefused}
 use Rattle.starlark_small.specs.Map.{Map}

@@ -11,7 +11,8 @@ use Rattle.starlark_hash.specs.declared.hashed.Hashed.{Hashed}
 use Rattle.starlark_hash.specs.declared.hash_value.StarlarkHashValue.{StarlarkHashValue}
 use Rattle.starlark_hash.specs.Hasher.{own_hash}
 use Rattle.starlark_hash.specs.HashValue.{hashed}
-use Rattle.starlark_lists.specs.Entries.{Entry, IsSingle, entry_at, entry_key, insert_entry, position_of, without}
+use Rattle.starlark_lists.specs.Entries.{Entry, IsSingle, entry_at, entry_key, position_of, without}
+use Rattle.starlark_lists.specs.Insertion.{insert_entry}
 use Rattle.starlark_lists.specs.Sorting.{key_lt, sorted_by_key}
 use Rattle.starlark_lists.proofs.EntryLemmas.{IsSingle-permutation}
 use Rattle.starlark_lists.proofs.SortingLemmas.{IsPermutation-sorted_by}

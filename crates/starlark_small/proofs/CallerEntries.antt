@@ -10,7 +10,8 @@ use Rattle.std.proofs.lemmas.Option.{none-some}
 use Rattle.starlark_hash.specs.declared.hashed.Hashed.{Hashed}
 use Rattle.starlark_hash.specs.declared.hash_value.StarlarkHashValue.{StarlarkHashValue}
 use Rattle.starlark_hash.specs.HashValue.{hash_of, key_of}
-use Rattle.starlark_lists.specs.Entries.{Entry, IsSingle, entry_key, set_value_at, match_of, insert_entry, value_at, with_value, without, position_of}
+use Rattle.starlark_lists.specs.Entries.{Entry, IsSingle, entry_key, set_value_at, match_of, value_at, with_value, without, position_of}
+use Rattle.starlark_lists.specs.Insertion.{insert_entry}
 use Rattle.starlark_lists.proofs.PositionLemmas.{position-cons, position-within}
 use Rattle.starlark_lists.proofs.EntryLemmas.{length-set_value_at}
 use Rattle.starlark_small.proofs.CallerPositions.{later, not_first, here, pushed_first, pushed_other, none_among}

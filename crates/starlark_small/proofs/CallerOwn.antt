@@ -10,7 +10,8 @@ use Rattle.std.proofs.lemmas.List.Sorted.{All-permutation}
 use Rattle.starlark_hash.specs.declared.hashed.Hashed.{Hashed}
 use Rattle.starlark_hash.specs.Hasher.{own_hash}
 use Rattle.starlark_hash.specs.HashValue.{hash_of, key_of}
-use Rattle.starlark_lists.specs.Entries.{Entry, entry_hash, entry_key, insert_entry, match_of, set_value_at, without}
+use Rattle.starlark_lists.specs.Entries.{Entry, entry_hash, entry_key, match_of, set_value_at, without}
+use Rattle.starlark_lists.specs.Insertion.{insert_entry}
 use Rattle.starlark_lists.specs.Retain.{CalledAtEntry, Retains}
 use Rattle.starlark_small.specs.Calling.{AreOwnEntries}
 use Rattle.starlark_small.specs.Collect.{insert_all, own_entry}

@@ -8,7 +8,8 @@ use Rattle.std.proofs.lemmas.Option.{none-some}
 use Rattle.starlark_hash.specs.declared.hashed.Hashed.{Hashed}
 use Rattle.starlark_hash.specs.declared.hash_value.StarlarkHashValue.{StarlarkHashValue}
 use Rattle.starlark_hash.specs.HashValue.{hashed, hash_of, key_of}
-use Rattle.starlark_lists.specs.Entries.{Entry, IsSingle, entry_at, entry_key, entry_value, pair_of, match_of, set_value_at, insert_entry, value_at, with_value, without, position_of}
+use Rattle.starlark_lists.specs.Entries.{Entry, IsSingle, entry_at, entry_key, entry_value, pair_of, match_of, set_value_at, value_at, with_value, without, position_of}
+use Rattle.starlark_lists.specs.Insertion.{insert_entry}
 use Rattle.starlark_lists.specs.Finding.{found, Writes}
 use Rattle.starlark_lists.proofs.PositionLemmas.{position-passes}
 use Rattle.starlark_small.specs.Calling.{keys}

@@ -6,12 +6,14 @@ use Rattle.std.proofs.lemmas.Bool.Decides.{nat_tests}
 use Rattle.std.proofs.lemmas.List.{length-drop, length_push}
 use mathlib.Core.Logic.{inl, inr}
 use Rattle.starlark_hash.specs.declared.hashed.Hashed.{Hashed}
-use Rattle.starlark_lists.specs.Entries.{insert_entry, match_of, set_value_at}
+use Rattle.starlark_lists.specs.Entries.{match_of, set_value_at}
+use Rattle.starlark_lists.specs.Insertion.{insert_entry}
 use Rattle.starlark_lists.proofs.EntryLemmas.{length-set_value_at}
 use Rattle.starlark_small.specs.Growth.{StaysOrGrows, reserved_capacity, stepped_capacity}
 use Rattle.starlark_small.specs.Inserted.{LeavesMemory}
 use Rattle.starlark_small.specs.Map.{Map}
-use Rattle.starlark_vec2.specs.PairList.{PairList, pair_list, push, push_all}
+use Rattle.starlark_vec2.specs.PairList.{PairList, pair_list}
+use Rattle.starlark_vec2.specs.Growth.{push, push_all}
 
 -- the capacity of a list of this length and capacity, after it made room for so many more
 abbrev made : ℕ → ℕ → ℕ → ℕ

@@ -3,11 +3,13 @@ use Rattle.std.specs.Prelude.{◌≡◌, ◌≤◌, ◌+◌, ℕ, List, [], ◌�
 use Rattle.std.specs.Hash.{HashWrites}
 use Rattle.std.specs.Iterator.{Count, Drains, Yields}
 use Rattle.std.specs.Iterator.SizeHint.{IsWithinCount}
-use Rattle.starlark_lists.specs.Entries.{Entry, insert_entry, match_of}
+use Rattle.starlark_lists.specs.Entries.{Entry, match_of}
+use Rattle.starlark_lists.specs.Insertion.{insert_entry}
 use Rattle.starlark_small.specs.Growth.{GrowsInSteps}
 use Rattle.starlark_small.specs.Index.{unindexed}
 use Rattle.starlark_small.specs.Map.{Map, KeepsRoom, own_hashed}
-use Rattle.starlark_vec2.specs.PairList.{pair_list, push_all}
+use Rattle.starlark_vec2.specs.PairList.{pair_list}
+use Rattle.starlark_vec2.specs.Growth.{push_all}
 
 -- the entry of a pair, under its key's own hash
 abbrev pub own_entry : {K V : Type 0} → (K → HashWrites) → K × V → Entry K V

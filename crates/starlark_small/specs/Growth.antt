@@ -1,7 +1,8 @@
 -- How far the list of a `SmallMap` grows.
 use Rattle.std.specs.Prelude.{◌≡◌, ◌⊎◌, ℕ, Result, MatchResult, drop, length}
 use Rattle.starlark_small.specs.Map.{Map}
-use Rattle.starlark_vec2.specs.PairList.{pair_list, push_all}
+use Rattle.starlark_vec2.specs.PairList.{pair_list}
+use Rattle.starlark_vec2.specs.Growth.{push_all}
 use Rattle.starlark_vecmap.specs.EntryList.{entry_list, reserve}
 
 module _ {K V : Type 0} where

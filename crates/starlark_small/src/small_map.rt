@@ -8,7 +8,7 @@ mod collect;
 mod compare;
 mod copy;
 mod grow;
-mod order;
+mod sort;
 mod read;
 mod retain;
 mod shrink;

@@ -3,8 +3,10 @@ use Rattle.std.proofs.Common.{◌≡◌, ℕ, ◌+◌, ◌-◌, ◌*◌, ◌^◌
 use Rattle.std.proofs.lemmas.List.{length-replicate}
 use Rattle.std.proofs.lemmas.List.Sorted.{length_permutation}
 use Rattle.std.proofs.Math.ListN.{set, length-set}
-use Rattle.starlark_table.specs.Table.{Table, filled, members, most_for, table_len}
-use Rattle.starlark_table.specs.Layout.{at, limit, InPlace, IsTagged, IsSound}
+use Rattle.starlark_table.specs.Table.{Table, filled, members, table_len}
+use Rattle.starlark_table.specs.Growth.{most_for}
+use Rattle.starlark_table.specs.Layout.{at, InPlace, IsTagged, IsSound}
+use Rattle.starlark_table.specs.Growth.{limit}
 use Rattle.starlark_table.proofs.Bag.{filled-set_some}
 use Rattle.starlark_table.proofs.Load.{filled-replicate, sound-empty_slot}
 

@@ -4,7 +4,8 @@ use Rattle.std.proofs.lemmas.List.Sorted.{length_permutation, IsPermutation-tran
 use Rattle.std.proofs.lemmas.List.{get_or-set_other, length-replicate, get_or_append_left, get_or-append_right, get_or-replicate}
 use Rattle.std.proofs.Math.ListN.{set, length-set}
 use Rattle.starlark_table.specs.Table.{filled}
-use Rattle.starlark_table.specs.Layout.{at, limit, window, empty_tag, padding, slot_tag, tags_of_empty, InPlace, IsTagged, IsSound}
+use Rattle.starlark_table.specs.Layout.{at, window, empty_tag, padding, slot_tag, tags_of_empty, InPlace, IsTagged, IsSound}
+use Rattle.starlark_table.specs.Growth.{limit}
 use Rattle.starlark_table.proofs.Bag.{filled-set_none, filled-set_some}
 
 pub load-below_places : (m n : ℕ) → n ≤ limit m → 0 < m → n < m

@@ -6,7 +6,8 @@ use Rattle.std.specs.Borrow.{Bor}
 use Rattle.std.specs.Fn.{Mut}
 use Rattle.starlark_table.specs.Table.{filled, IsSlotClone}
 use Rattle.starlark_table.specs.Walk.{ReplacesEach}
-use Rattle.starlark_table.specs.Layout.{at, limit, tag, slot_tag, InPlace, IsTagged, IsSound}
+use Rattle.starlark_table.specs.Layout.{at, tag, slot_tag, InPlace, IsTagged, IsSound}
+use Rattle.starlark_table.specs.Growth.{limit}
 use Rattle.starlark_table.proofs.Tagged.{sized-alike}
 
 -- how many hashes there are

@@ -7,7 +7,8 @@ use Rattle.std.proofs.Common.{eqb-true}
 use Rattle.std.proofs.lemmas.List.Sorted.{IsPermutation-trans, IsPermutation-cons, IsPermutation-middle, length_permutation}
 use Rattle.std.proofs.lemmas.Bool.{cases_lt}
 use Rattle.std.proofs.lemmas.Option.{none-some}
-use Rattle.starlark_table.specs.Table.{Table, filled, holders, members, member_at, most_for, items_under, table_capacity, table_len, with_item, GrowsAsNeeded}
+use Rattle.starlark_table.specs.Table.{Table, filled, holders, members, member_at, items_under, table_capacity, table_len, with_item, GrowsAsNeeded}
+use Rattle.starlark_table.specs.Growth.{most_for}
 use Rattle.starlark_table.specs.Written.{with_items_of}
 use Rattle.starlark_table.proofs.Path.{in_filled}
 

@@ -1,6 +1,7 @@
 pub mod Table
 pub mod Walk
 pub mod Lends
+pub mod Growth
 pub mod Layout
 pub mod Written
 pub mod Lent

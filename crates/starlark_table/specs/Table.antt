@@ -3,6 +3,7 @@ use Rattle.std.specs.Prelude.{◌≡◌, ℕ, ◌+◌, ◌*◌, ◌<◌, ◌≤�
 use Rattle.std.specs.List.{enumerate_from, AllZip}
 use Rattle.std.specs.Option.{option_map}
 use Rattle.std.specs.Coded.{Coded, code_by, coded×, coded_ℕ, coded_list, coded_option}
+use Rattle.starlark_table.specs.Growth.{most_for}
 
 -- the slots, each empty or with a member, which is a 64-bit hash and an item; and how many insertions surely need no memory
 pub record Table (T : Type 0) : Type 0 where
@@ -18,10 +19,6 @@ table_code {T} code =
     (λ t. (t.slots, t.room))
     (λ p. record { slots = p.0; room = p.1 })
     (λ _. refl)
-
--- the greatest capacity that a table makes for n members in all: twice as many, or 6
-abbrev pub most_for : ℕ → ℕ
-most_for n = max 6 (2 * n)
 
 module _ {T : Type 0} where
   -- the members among some slots, in their order

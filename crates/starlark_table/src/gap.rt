@@ -1,7 +1,8 @@
 //! Removal from the slots: the members behind an emptied place move back, so that none is lost to its search.
 ghost use Rattle.std.specs.Prelude.{◌≡◌, ◌≢◌, ℕ, ◌<◌, ◌≤◌, None, ◌∷◌, length, IfSome, IfNone, IsPermutation};
 ghost use Rattle.starlark_table.specs.Table.{filled};
-ghost use Rattle.starlark_table.specs.Layout.{at, limit, InPlace, HasGap, IsTagged};
+ghost use Rattle.starlark_table.specs.Layout.{at, InPlace, HasGap, IsTagged};
+ghost use Rattle.starlark_table.specs.Growth.{limit};
 
 use crate::places::{distance, home_among, next_place};
 use crate::probe::{Slots, is_full};

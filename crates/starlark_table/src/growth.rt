@@ -1,13 +1,42 @@
-//! Growth: new slots, all empty, and the move of every member into them under the hash that it keeps.
-ghost use Rattle.std.specs.Prelude.{◌≡◌, ℕ, ◌+◌, ◌^◌, ◌<◌, ◌≤◌, ◌++◌, None, length, IfOk, OnOk, IsPermutation};
+//! Growth: how many places so many members want; new slots, all empty; and the move of every member into them under the hash
+//! that it keeps.
+ghost use Rattle.std.specs.Prelude.{◌≡◌, ℕ, ◌+◌, ◌^◌, ◌*◌, ◌<◌, ◌≤◌, ◌++◌, None, length, IfOk, OnOk, IsPermutation, IfSome};
 ghost use Rattle.std.specs.List.{AllZip};
 ghost use Rattle.starlark_columns.specs.Places.{empties};
 ghost use Rattle.starlark_table.specs.Table.{filled, IsSlotClone};
-ghost use Rattle.starlark_table.specs.Layout.{at, limit, tags_of_empty, window, InPlace, IsTagged, IsTaggedFrom};
+ghost use Rattle.starlark_table.specs.Layout.{at, tags_of_empty, window, InPlace, IsTagged, IsTaggedFrom};
+ghost use Rattle.starlark_table.specs.Growth.{limit, most_for};
 
 use crate::probe::{Slots, put};
 use crate::tags::{EMPTY, PADDING, WINDOW, full_places};
 use std::alloc::{AllocError, Global};
+
+// How many members so many places may hold.
+#[inline]
+pub(crate) fn limit(count: usize) -> usize
+    ensures { result ≡ limit count }
+{
+    count / 8 * 6 + count / 16
+}
+
+// The least number of places that may hold so many members, and at least eight: a power of two, so that each bit of its
+// mask is set.
+pub(crate) fn places_for(needed: usize) -> Option<usize>
+    ensures some { IfSome result (λ count. 0 < count) }
+    ensures fits { IfSome result (λ count. count ≤ 2 ^ 62) }
+    ensures enough { IfSome result (λ count. needed ≤ limit count) }
+    ensures most { IfSome result (λ count. limit count ≤ most_for needed) }
+    ensures doubled { IfSome result (λ count. (k : ℕ) × (count ≡ 8 * 2 ^ k)) }
+{
+    if needed > 1 << 60 {
+        return None;
+    }
+    let mut count = 8;
+    while limit(count) < needed {
+        count *= 2;
+    }
+    Some(count)
+}
 
 // The tags of so many empty places, and the window behind them.
 pub(crate) fn empty_tags(alloc: Global, count: usize) -> Result<Vec<u8>, AllocError>

@@ -1,17 +1,8 @@
 //! Places round a circle: where a hash belongs, which place is next, and how far one is behind another.
-ghost use Rattle.std.specs.Prelude.{◌≡◌, ℕ, ◌+◌, ◌*◌, ◌^◌, ◌<◌, ◌≤◌, ◌==◌, IfSome, if◌then◌else◌};
-ghost use Rattle.starlark_table.specs.Layout.{distance, home, limit, window};
-ghost use Rattle.starlark_table.specs.Table.{most_for};
+ghost use Rattle.std.specs.Prelude.{◌≡◌, ℕ, ◌+◌, ◌^◌, ◌<◌, ◌≤◌, ◌==◌, if◌then◌else◌};
+ghost use Rattle.starlark_table.specs.Layout.{distance, home, window};
 
 use crate::tags::WINDOW;
-
-// How many members so many places may hold.
-#[inline]
-pub(crate) fn limit(count: usize) -> usize
-    ensures { result ≡ limit count }
-{
-    count / 8 * 6 + count / 16
-}
 
 #[inline]
 pub(crate) fn next_place(place: usize, count: usize) -> usize
@@ -64,23 +55,4 @@ pub(crate) fn distance(count: usize, from: usize, to: usize) -> usize
     } else {
         count - (from - to)
     }
-}
-
-// The least number of places that may hold so many members, and at least eight: a power of two, so that each bit of its
-// mask is set.
-pub(crate) fn places_for(needed: usize) -> Option<usize>
-    ensures some { IfSome result (λ count. 0 < count) }
-    ensures fits { IfSome result (λ count. count ≤ 2 ^ 62) }
-    ensures enough { IfSome result (λ count. needed ≤ limit count) }
-    ensures most { IfSome result (λ count. limit count ≤ most_for needed) }
-    ensures doubled { IfSome result (λ count. (k : ℕ) × (count ≡ 8 * 2 ^ k)) }
-{
-    if needed > 1 << 60 {
-        return None;
-    }
-    let mut count = 8;
-    while limit(count) < needed {
-        count *= 2;
-    }
-    Some(count)
 }

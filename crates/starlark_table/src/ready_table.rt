@@ -4,17 +4,17 @@ ghost use Rattle.std.specs.Option.{option_and_then, option_copied, option_copied
 ghost use Rattle.std.specs.Borrow.{sem};
 ghost use Rattle.std.specs.List.Retain.{RetainsInTurn};
 ghost use Rattle.starlark_lists.specs.Search.{Searches, CanSearch};
-ghost use Rattle.starlark_table.specs.Table.{members, most_for, table_capacity, table_len, member_at, item_in, items_of, items_under, GrowsAsNeeded, IsTableClone, NeedsNoMemory};
+ghost use Rattle.starlark_table.specs.Table.{members, table_capacity, table_len, member_at, item_in, items_of, items_under, GrowsAsNeeded, IsTableClone, NeedsNoMemory};
+ghost use Rattle.starlark_table.specs.Growth.{most_for};
 ghost use Rattle.starlark_table.specs.Walk.{CanReplace, ReplacesEach, CanRetain, AsksMember};
 
 mod lends;
 mod pairs;
 
 use crate::gap::take_out;
-use crate::growth::{clone_members, empty_tags, move_all};
+use crate::growth::{clone_members, empty_tags, limit, move_all, places_for};
 use crate::iter::{IntoIter, Iter};
 use crate::near::find_slot_near;
-use crate::places::{limit, places_for};
 use crate::probe::{Slots, find_slot, item_at, put};
 use crate::tags::untag;
 use crate::walks::{drop_all, empty_all, replace_items, retain_items};
@@ -45,7 +45,8 @@ impl<T> Model for ReadyTable<T> {
 
     ghost coded = { table_code T.code };
 
-    ghost use Rattle.starlark_table.specs.Layout.{limit, IsSound};
+    ghost use Rattle.starlark_table.specs.Layout.{IsSound};
+    ghost use Rattle.starlark_table.specs.Growth.{limit};
 
     ghost view = { λ t. record { slots = t.slots; room = limit (length t.slots) - t.len } };
 

@@ -3,7 +3,8 @@ ghost use Rattle.std.specs.Prelude.{◌≡◌, ℕ, ◌<◌, ◌≤◌, ◌⊎�
 ghost use Rattle.std.specs.List.Retain.{RetainsInTurn};
 ghost use Rattle.starlark_table.specs.Table.{filled, items_in};
 ghost use Rattle.starlark_table.specs.Walk.{CanReplace, ReplacesEach, ReplacesWithin, CanRetain, TakesAtMut, AsksMember};
-ghost use Rattle.starlark_table.specs.Layout.{at, limit, distance, InPlace, IsTagged, IsTaggedFrom, ReachesBefore, StandsIn};
+ghost use Rattle.starlark_table.specs.Layout.{at, distance, InPlace, IsTagged, IsTaggedFrom, ReachesBefore, StandsIn};
+ghost use Rattle.starlark_table.specs.Growth.{limit};
 
 use crate::places::{home_among, next_place};
 use crate::probe::{Slots, free_place};

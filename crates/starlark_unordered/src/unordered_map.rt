@@ -1,6 +1,6 @@
 //! The map. It alone sees its table.
 ghost use Rattle.std.specs.Prelude.{◌≡◌, ◌≤◌, ◌==◌, [], length, IfOk, IsOk};
-ghost use Rattle.starlark_table.specs.Table.{most_for};
+ghost use Rattle.starlark_table.specs.Growth.{most_for};
 ghost use Rattle.starlark_unordered.specs.Calling.{IsEmpty};
 ghost use Rattle.starlark_unordered.specs.Pairs.{pairs_of, HasDistinctKeys};
 

@@ -1,6 +1,7 @@
 -- Reservations and pushes of a list of pairs.
 use Rattle.std.proofs.Common.{◌≡◌, ℕ, ◌≤◌, List, [], ◌∷◌, ◌++◌, refl, arith}
-use Rattle.starlark_vec2.specs.PairList.{PairList, reserved_capacity, push, push_all}
+use Rattle.starlark_vec2.specs.PairList.{PairList}
+use Rattle.starlark_vec2.specs.Growth.{reserved_capacity, push, push_all}
 
 module _ {A B : Type 0} where
   pub push_all-push : (v : PairList A B) (ps : List (A × B)) (p : A × B) → push_all v (ps ++ p ∷ []) ≡ push (push_all v ps) p

@@ -2,7 +2,8 @@
 use Rattle.std.specs.Prelude.{◌≡◌, ◌<◌, ◌-◌, ℕ, List, length, [], Option, MatchResult, Result}
 use Rattle.std.specs.Iterator.{Count, Drains, Yields, size}
 use Rattle.std.specs.Iterator.SizeHint.{IsWithinCount}
-use Rattle.starlark_vec2.specs.PairList.{PairList, pair_list, push_all, reserve}
+use Rattle.starlark_vec2.specs.PairList.{PairList, pair_list}
+use Rattle.starlark_vec2.specs.Growth.{push_all, reserve}
 
 module _ {T A B : Type 0} (steps : T → Option (A × B) → T → Type 0) where
   -- the iterator's items were pushed: all of them, or, after a refusal, those that came before

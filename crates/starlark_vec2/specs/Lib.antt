@@ -1,4 +1,5 @@
 pub mod PairList
+pub mod Growth
 pub mod Columns
 pub mod Retain
 pub mod Sort

@@ -1,11 +1,13 @@
 //! `Vec2`, a list of pairs in two columns, with a capacity of its own. Its children alone see its fields.
-ghost use Rattle.std.specs.Prelude.{◌≡◌, ◌+◌, ◌*◌, ◌-◌, ◌^◌, ◌<◌, ◌≤◌, ◌==◌, max, min, [], ◌∷◌, ◌++◌, length, take, remove, reverse, slice_get, is_ok, if◌then◌else◌, IfOk, IfErr, IsOk, MatchOption};
+ghost use Rattle.std.specs.Prelude.{◌≡◌, ◌+◌, ◌*◌, ◌-◌, ◌^◌, ◌<◌, ◌≤◌, ◌==◌, [], ◌∷◌, ◌++◌, length, take, remove, reverse, slice_get, is_ok, if◌then◌else◌, IfOk, IfErr, IsOk};
 ghost use Rattle.std.specs.Option.{option_map};
 ghost use Rattle.std.specs.Map.Iter.{TakesLast, ShowsInOrder, ShowsInReverse, deref_pair};
-ghost use Rattle.starlark_vec2.specs.PairList as list;
-ghost use Rattle.starlark_vec2.specs.PairList.{pair_list, firsts_of, seconds_of, with_pairs, reserved_capacity};
+ghost use Rattle.starlark_vec2.specs.Growth as after;
+ghost use Rattle.starlark_vec2.specs.PairList.{pair_list, firsts_of, seconds_of, with_pairs};
+ghost use Rattle.starlark_vec2.specs.Growth.{reserved_capacity};
 
 mod collect;
+mod growth;
 mod into_iter;
 mod iter;
 mod lends;
@@ -16,6 +18,7 @@ mod traits;
 
 pub use into_iter::IntoIter;
 pub use iter::Iter;
+use growth::grown;
 use starlark_columns::Row;
 use starlark_columns::pair::{Block, give_back, no_rows, with_rows};
 use starlark_hash::NoRoom;
@@ -206,7 +209,7 @@ impl<A, B> Vec2<A, B> {
     #[tactic(auto, using(crate::proofs::Pairs::columns))]
     #[inline]
     pub fn reserve(&mut self, additional: usize) -> Result<(), AllocError>
-        ensures list { self.new ≡ (if is_ok result then list.reserve self.old additional else self.old) }
+        ensures list { self.new ≡ (if is_ok result then after.reserve self.old additional else self.old) }
         ensures succeeds { additional ≤ self.old.capacity - length self.old.pairs → IsOk result }
     {
         if additional <= self.capacity() - self.len {
@@ -221,7 +224,7 @@ impl<A, B> Vec2<A, B> {
     #[inline(never)]
     fn grow(&mut self, additional: usize) -> Result<(), AllocError>
         requires { self.old.capacity - length self.old.pairs < additional }
-        ensures { self.new ≡ (if is_ok result then list.reserve self.old additional else self.old) }
+        ensures { self.new ≡ (if is_ok result then after.reserve self.old additional else self.old) }
     {
         let Some(capacity) = grown(self.len, self.capacity(), additional) else {
             return Err(AllocError);
@@ -254,7 +257,7 @@ impl<A, B> Vec2<A, B> {
     #[tactic(auto, using(crate::proofs::Pairs::columns))]
     #[inline]
     pub fn push(&mut self, a: A, b: B) -> Result<(), NoRoom<(A, B)>>
-        ensures list { self.new ≡ (if is_ok result then list.push self.old (a, b) else self.old) }
+        ensures list { self.new ≡ (if is_ok result then after.push self.old (a, b) else self.old) }
         ensures handed_back { IfErr result (λ refused. refused.0 ≡ (a, b)) }
         ensures succeeds { length self.old.pairs < self.old.capacity → IsOk result }
     {
@@ -279,17 +282,6 @@ impl<A, B> Vec2<A, B> {
         self.len += 1;
     }
 }
-
-// The capacity that makes room for `additional` more pairs than `len`, where that number can be written.
-fn grown(len: usize, capacity: usize, additional: usize) -> Option<usize>
-    ensures { MatchOption result (2 ^ 64 ≤ len + additional) (λ n. n ≡ max (len + additional) (max 4 (min (2 * capacity) (2 ^ 64 - 1)))) }
-{
-    let needed = len.checked_add(additional)?;
-    Some(needed.max(capacity.saturating_mul(2).max(LEAST_CAPACITY)))
-}
-
-// No growth gives a capacity below this.
-const LEAST_CAPACITY: usize = 4;
 
 // Shrinking and turning
 

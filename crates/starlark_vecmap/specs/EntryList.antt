@@ -4,7 +4,8 @@ use Rattle.std.specs.Borrow.{Bor, MutBor}
 use Rattle.starlark_hash.specs.declared.hashed.Hashed.{Hashed}
 use Rattle.starlark_lists.specs.Entries.{Entry}
 use Rattle.starlark_hash.specs.HashValue.{hash_value, hashed, hash_of, key_of}
-use Rattle.starlark_vec2.specs.PairList.{PairList, pair_list, reserved_capacity}
+use Rattle.starlark_vec2.specs.PairList.{PairList, pair_list}
+use Rattle.starlark_vec2.specs.Growth.{reserved_capacity}
 
 -- the entries in order, and how many of them there may be before the list grows. Nothing keeps two of them from having one hash
 -- and equal keys

@@ -1,6 +1,6 @@
 //! Maps that are made of others.
 ghost use Rattle.std.specs.Prelude.{◌≡◌, ◌≤◌, ℕ, length, nat_eq, IfOk};
-ghost use Rattle.starlark_table.specs.Table.{most_for};
+ghost use Rattle.starlark_table.specs.Growth.{most_for};
 ghost use Rattle.starlark_unordered.specs.Calling.{contains, get};
 ghost use Rattle.starlark_unordered.specs.Clone.{IsEqualClone};
 ghost use Rattle.starlark_unordered.specs.Pairs.{pairs_of};

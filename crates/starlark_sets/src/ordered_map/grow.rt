@@ -2,7 +2,8 @@
 ghost use Rattle.std.specs.Prelude.{◌≡◌, ◌+◌, ◌<◌, ◌≤◌, if◌then◌else◌, length, nat_lt, None, Some, IsOk, IfOk, IfErr, OnOk, OnErr};
 ghost use Rattle.std.specs.Iterator.{IsFiniteIterable, size};
 ghost use Rattle.std.specs.List.{AllZip};
-ghost use Rattle.starlark_lists.specs.Entries.{value_at, match_of, insert_entry};
+ghost use Rattle.starlark_lists.specs.Entries.{value_at, match_of};
+ghost use Rattle.starlark_lists.specs.Insertion.{insert_entry};
 ghost use Rattle.starlark_lists.specs.Sorting.{Ascends, sorted_by_key};
 ghost use Rattle.starlark_small.specs.Clone.{IsEqualClone};
 ghost use Rattle.starlark_small.specs.Collect.{Collects, Extends, IsExtended, own_entry};

@@ -1,6 +1,7 @@
 //! What puts entries into a `SmallMap`, and makes room for them.
 ghost use Rattle.std.specs.Prelude.{◌≡◌, ◌<◌, ◌≤◌, ◌+◌, ◌++◌, ◌∷◌, [], Some, None, is_some, length, if◌then◌else◌, IfOk, IfErr, OnOk, OnErr};
-ghost use Rattle.starlark_lists.specs.Entries.{value_at, match_of, insert_entry};
+ghost use Rattle.starlark_lists.specs.Entries.{value_at, match_of};
+ghost use Rattle.starlark_lists.specs.Insertion.{insert_entry};
 ghost use Rattle.starlark_lists.specs.Finding.{found, Writes};
 ghost use Rattle.std.specs.Hash.{HashWrites};
 ghost use Rattle.starlark_hash.specs.Hasher.{own_hash};

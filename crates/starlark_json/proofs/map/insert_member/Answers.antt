@@ -2,7 +2,7 @@ use Rattle.std.proofs.Common.{string_bytes, sym, ap, ◌∙◌, rules}
 use Rattle.std.proofs.lemmas.Int.{to_z-of_z}
 use Rattle.std.specs.Int.{w64}
 use Rattle.std.specs.Str.{bytes_eq}
-use Rattle.starlark_lists.specs.Entries.{insert_entry}
+use Rattle.starlark_lists.specs.Insertion.{insert_entry}
 use Rattle.starlark_json.specs.Texts.{own_text, text_entries}
 use Rattle.starlark_json.proofs.Images.{own_inserted}
 use Rattle.starlark_json.proofs.map.insert_member.Goals as goal

@@ -3,7 +3,7 @@ use Rattle.std.proofs.Math.ListN.{length-set}
 use Rattle.std.proofs.lemmas.List.Sorted.{IsPermutation-refl}
 use Rattle.std.specs.Int.Count.{count_trailing_zeros}
 use Rattle.starlark_table.specs.Table.{filled}
-use Rattle.starlark_table.specs.Layout.{limit}
+use Rattle.starlark_table.specs.Growth.{limit}
 use Rattle.starlark_table.proofs.FullBits.{window_opens}
 use Rattle.starlark_table.proofs.Load.{bag-member_moved, empty_slot-while_moving}
 use Rattle.starlark_table.proofs.MovingWindows.{emptying-begins, emptying-finds, emptying-goes_on, emptying-ends}

@@ -1,4 +1,4 @@
-use Rattle.starlark_lists.specs.Entries.{insert_entry}
+use Rattle.starlark_lists.specs.Insertion.{insert_entry}
 use Rattle.starlark_sets.proofs.Callers.{updates-inserted}
 use Rattle.starlark_sets.proofs.Lookups.{length-inserted, put_too}
 use Rattle.starlark_sets.proofs.small_set.SmallSet.insert_hashed.Goals as goal

@@ -1,5 +1,6 @@
 use Rattle.std.proofs.Common.{ap, sym, ◌∙◌}
-use Rattle.starlark_lists.specs.Entries.{insert_entry, match_of}
+use Rattle.starlark_lists.specs.Entries.{match_of}
+use Rattle.starlark_lists.specs.Insertion.{insert_entry}
 use Rattle.starlark_small.specs.Map.{own_hashed}
 use Rattle.starlark_hash.specs.Hasher.{own_hash}
 use Rattle.starlark_small.proofs.CallerUpdates.{keys-put, none_found}

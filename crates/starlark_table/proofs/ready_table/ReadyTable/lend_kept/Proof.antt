@@ -9,7 +9,8 @@ use Rattle.starlark_columns.specs.declared.loan.Loan.{Loan}
 use Rattle.starlark_columns.specs.Lent.{kept_places}
 use Rattle.starlark_columns.specs.contracts.loan.Loan as loan
 use Rattle.starlark_columns.proofs.loan.Loan.TheLaws as loan_laws
-use Rattle.starlark_table.specs.Layout.{limit, IsTagged}
+use Rattle.starlark_table.specs.Layout.{IsTagged}
+use Rattle.starlark_table.specs.Growth.{limit}
 use Rattle.starlark_table.specs.Sharing.{Member, Tags, tags_stay, with_kept}
 use Rattle.starlark_table.proofs.BesideClose.{closes_beside}
 use Rattle.starlark_columns.proofs.LoneValue.{lone_value}

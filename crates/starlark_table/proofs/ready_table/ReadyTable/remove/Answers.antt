@@ -1,6 +1,7 @@
 use Rattle.std.proofs.Common.{◌-◌, ◌≤◌, length, refl, sym, ◌∙◌, subst}
 use Rattle.std.proofs.lemmas.List.{with_items_is}
-use Rattle.starlark_table.specs.Layout.{limit, IsTagged}
+use Rattle.starlark_table.specs.Layout.{IsTagged}
+use Rattle.starlark_table.specs.Growth.{limit}
 use Rattle.starlark_table.proofs.Changing.{removed}
 use Rattle.starlark_table.proofs.Sound.{sound-as}
 use Rattle.starlark_table.proofs.ready_table.ReadyTable.remove.Goals as goal

@@ -1,5 +1,5 @@
 use Rattle.std.proofs.Common.{◌-◌, ap, ◌∙◌}
-use Rattle.starlark_table.specs.Layout.{limit}
+use Rattle.starlark_table.specs.Growth.{limit}
 use Rattle.starlark_table.proofs.Shape.{reshaped, shape-replaced, same_length}
 use Rattle.starlark_table.proofs.ready_table.ReadyTable.replace_each.Goals as goal
 

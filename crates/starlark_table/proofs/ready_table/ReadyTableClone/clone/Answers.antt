@@ -1,6 +1,6 @@
 use Rattle.std.proofs.Common.{◌≡◌, ◌-◌, length, arith, refl, ◌∙◌, ap}
 use Rattle.std.proofs.lemmas.List.{with_items_is}
-use Rattle.starlark_table.specs.Layout.{limit}
+use Rattle.starlark_table.specs.Growth.{limit}
 use Rattle.starlark_table.proofs.Cloning.{no_slots_cloned}
 use Rattle.starlark_table.proofs.Shape.{shape-cloned, same_length, sound-cloned}
 use Rattle.starlark_table.proofs.Sound.{sound-as}

@@ -1,7 +1,7 @@
 use Rattle.std.proofs.Common.{◌≡◌, ◌+◌, ◌≤◌, length}
 use Rattle.std.proofs.iter.Next as it
 use Rattle.std.specs.Iterator.{EndsFrom, items_left}
-use Rattle.starlark_vec2.specs.PairList.{push_all}
+use Rattle.starlark_vec2.specs.Growth.{push_all}
 use Rattle.starlark_vec2.proofs.vec2.Vec2.push_items.Given as goal
 
 abbrev pub invariant-loop-pair : goal.invariant-loop-pair

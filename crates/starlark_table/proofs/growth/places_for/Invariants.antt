@@ -1,7 +1,7 @@
 use Rattle.std.proofs.Common.{◌≡◌, ℕ, ◌-◌, ◌*◌, ◌^◌, ◌≤◌}
-use Rattle.starlark_table.specs.Layout.{limit}
-use Rattle.starlark_table.specs.Table.{most_for}
-use Rattle.starlark_table.proofs.places.places_for.Given as goal
+use Rattle.starlark_table.specs.Growth.{limit}
+use Rattle.starlark_table.specs.Growth.{most_for}
+use Rattle.starlark_table.proofs.growth.places_for.Given as goal
 
 abbrev pub invariant-loop-count : goal.invariant-loop-count
 invariant-loop-count l = record {

@@ -1,7 +1,7 @@
 use Rattle.std.proofs.Common.{◌≡◌, ℕ, suc, ◌*◌, ◌^◌, ◌<◌, ◌≤◌, arith}
-use Rattle.starlark_table.specs.Layout.{limit}
-use Rattle.starlark_table.specs.Table.{most_for}
-use Rattle.starlark_table.proofs.places.places_for.Goals as goal
+use Rattle.starlark_table.specs.Growth.{limit}
+use Rattle.starlark_table.specs.Growth.{most_for}
+use Rattle.starlark_table.proofs.growth.places_for.Goals as goal
 
 -- where so many places hold too few, twice as many do not hold too many
 twice : (count needed eighths : ℕ) → count ≡ 8 * eighths → limit count < needed → limit (count * 2) ≤ most_for needed
