@@ -32,7 +32,7 @@ run: ## proves the program and plays SCRIPT: some ten minutes the first time, th
 
 demo: ## plays a few lines on the scopes of an interpreter, with no proof, in about a minute
 	$(says)
-	@cd crates/starlark_demo && rt try
+	@cd crates/program_demo && rt try
 
 check: ## proves CRATE and what it stands on: a minute or two for each crate the first time, then seconds
 	$(says)
@@ -56,7 +56,7 @@ pages: ## writes docs/words.md and docs/calls.md from the comments of the source
 
 bench: ## proves and runs the benchmarks, beside the maps of the kit: some ten minutes the first time; with RUST=FILE also beside those
 	$(says)
-	@cd crates/starlark_bench && rt run > /dev/null
+	@cd crates/program_bench && rt run > /dev/null
 	@if [ -n "$$RUST" ]; then ./bench/measure "$$RUST"; else ./bench/measure; fi
 
 chart: ## draws the picture of speed from its table, at once
@@ -81,7 +81,7 @@ hostile: run ## plays scripts with the streams closed, full, cut short or not to
 
 attack: run ## times hashes that an attacker may choose beside random ones: a few minutes after `run`
 	$(says)
-	@python3 hostile/attack.py crates/starlark_script/out/starlark_script
+	@python3 hostile/attack.py crates/script_program/out/script_program
 
 clean: ## removes each out/, where checks keep their work (4.6 GB after a whole gate): the next check proves anew
 	$(says)

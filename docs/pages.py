@@ -26,7 +26,7 @@ def tracked(pattern):
 def library():
     """The crates that a user may name, in the order of crates.txt."""
     names = [line.split(":")[0].strip() for line in (TOP / "crates.txt").read_text().split("\n") if ":" in line and not line.startswith("#")]
-    return [n for n in names if n.startswith("starlark_") and not re.search(r"_tests$|^starlark_(tests|bench|demo|first_program|script)$", n)]
+    return [n for n in names if n.startswith(("starlark_", "script_")) and n != "script_program"]
 
 
 def indent(line):

@@ -16,9 +16,9 @@ mod sort;
 mod sort_pairs;
 mod traits;
 
+use growth::grown;
 pub use into_iter::IntoIter;
 pub use iter::Iter;
-use growth::grown;
 use starlark_columns::Row;
 use starlark_columns::pair::{Block, give_back, no_rows, with_rows};
 use starlark_hash::NoRoom;

@@ -1,0 +1,187 @@
+//! Lines as commands.
+ghost use Rattle.std.specs.Prelude.{◌≡◌, ◌≢◌, ℕ, ℤ, ◌<◌, ◌≤◌, ◌^◌, [], ◌∷◌, length, All, IsTrue, ◌↔◌, IfSome, IfNone, MatchOption, decimal, FitsSigned};
+ghost use Rattle.std.specs.Int.{w64};
+ghost use Rattle.std.specs.Fmt.{signed_decimal};
+ghost use Rattle.script_lines.specs.Commands.{fields_of, IsLineOf, IsBad, LinesAreOfOne};
+ghost use Rattle.script_lines.specs.Numbers.{IsPlain, IsPlainSigned};
+ghost use Rattle.script_lines.specs.Shown.{shown, AreFields, IsVisible, IsKeyIn};
+
+use starlark_hash::text_key::TextKey;
+use starlark_hash::{Hashed, StarlarkHashValue};
+use std::str;
+
+// The largest place, and the most room, that a line names.
+const MOST: usize = 1_000_000;
+
+/// What a line asks for.
+#[derive(Clone, Copy)]
+pub enum Command<'a> {
+    /// Insert the value under this hash and key.
+    Put(Hashed<TextKey<'a>>, i64),
+    /// Look up the value under this hash and key.
+    Get(Hashed<TextKey<'a>>),
+    /// Remove the entry under this hash and key.
+    Del(Hashed<TextKey<'a>>),
+    /// Show the entry at this place, counted from 0.
+    At(usize),
+    /// Remove the last entry.
+    Pop,
+    /// Turn the order of the entries round.
+    Rev,
+    /// Sort the entries by key.
+    Sort,
+    /// Remove each entry.
+    Clear,
+    /// Make room for so many new entries.
+    Reserve(usize),
+    /// Drop the index where the map is short enough to do without.
+    Slim,
+    /// Count the entries.
+    Len,
+    /// Show the entries in order.
+    Walk,
+}
+
+// The fields of a line, as far as any command has them.
+#[derive(Clone, Copy)]
+enum Fields<'a> {
+    One(&'a str),
+    Two(&'a str, &'a str),
+    Three(&'a str, &'a str, &'a str),
+    Four(&'a str, &'a str, &'a str, &'a str),
+    More,
+}
+
+/// The command whose line this is, without its end; `None` where it is a bad line.
+pub fn read_line(line: &[u8]) -> Option<Command<'_>>
+    requires { length line.now ≤ 1000 }
+    ensures { MatchOption result (IsBad line.now) (λ command. IsLineOf line.now (shown command)) }
+{
+    match str::from_utf8(line) {
+        Ok(line) => command_of(line),
+        Err(_) => None,
+    }
+}
+
+/// A line is that of one command at most, so a script has one list of commands and of replies.
+pub fn lines_are_of_one()
+    ensures { LinesAreOfOne }
+{}
+
+fn command_of(line: &str) -> Option<Command<'_>>
+    requires { length line.now ≤ 1000 }
+    ensures { MatchOption result (IsBad line.now) (λ command. IsLineOf line.now (shown command)) }
+{
+    match fields_in(line) {
+        Fields::One("pop") => Some(Command::Pop),
+        Fields::One("rev") => Some(Command::Rev),
+        Fields::One("sort") => Some(Command::Sort),
+        Fields::One("clear") => Some(Command::Clear),
+        Fields::One("slim") => Some(Command::Slim),
+        Fields::One("len") => Some(Command::Len),
+        Fields::One("walk") => Some(Command::Walk),
+        Fields::Two("at", place) => Some(Command::At(count_in(place)?)),
+        Fields::Two("reserve", additional) => Some(Command::Reserve(count_in(additional)?)),
+        Fields::Three("get", hash, key) => Some(Command::Get(key_under(hash, key)?)),
+        Fields::Three("del", hash, key) => Some(Command::Del(key_under(hash, key)?)),
+        Fields::Four("put", hash, key, value) => {
+            Some(Command::Put(key_under(hash, key)?, value_in(value)?))
+        }
+        _ => None,
+    }
+}
+
+fn fields_in(line: &str) -> Fields<'_>
+    ensures { AreFields result (fields_of line.now) }
+{
+    let Some((first, rest)) = cut(line) else {
+        return Fields::One(line);
+    };
+    let Some((second, rest)) = cut(rest) else {
+        return Fields::Two(first, rest);
+    };
+    let Some((third, rest)) = cut(rest) else {
+        return Fields::Three(first, second, rest);
+    };
+    match cut(rest) {
+        None => Fields::Four(first, second, third, rest),
+        Some(_) => Fields::More,
+    }
+}
+
+// What stands before the first space and behind it.
+fn cut(line: &str) -> Option<(&str, &str)>
+    ensures { MatchOption result (fields_of line.now ≡ line.now ∷ []) (λ parts. fields_of line.now ≡ parts.0.now ∷ fields_of parts.1.now) }
+{
+    line.split_once(' ')
+}
+
+// The key under the hash, if both are spelled as a script spells them.
+fn key_under<'a>(hash: &str, key: &'a str) -> Option<Hashed<TextKey<'a>>>
+    ensures { IsKeyIn hash.now key.now result }
+{
+    let hash = number_in(hash)?;
+    if !is_visible(key) {
+        return None;
+    }
+    let hash = StarlarkHashValue::new_unchecked(hash);
+    Some(Hashed::new_unchecked(hash, TextKey(key)))
+}
+
+// Whether the text is one or more visible ASCII characters.
+fn is_visible(key: &str) -> bool
+    ensures { IsTrue result ↔ IsVisible key.now }
+{
+    !key.is_empty() && key.as_bytes().iter().all(|b| 33 <= *b && *b <= 126)
+}
+
+// The number that is written so, up to a million.
+fn count_in(text: &str) -> Option<usize>
+    ensures some { IfSome result (λ n. (text.now ≡ decimal n) × (n ≤ 1000000)) }
+    ensures none { IfNone result ((n : ℕ) → n ≤ 1000000 → text.now ≢ decimal n) }
+{
+    let n = number_in(text)? as usize;
+    if n <= MOST { Some(n) } else { None }
+}
+
+// The number that is written so.
+fn number_in(text: &str) -> Option<u32>
+    ensures some { IfSome result (λ n. text.now ≡ decimal n) }
+    ensures none { IfNone result ((n : ℕ) → n < 2 ^ 32 → text.now ≢ decimal n) }
+{
+    if !is_plain(text.as_bytes()) {
+        return None;
+    }
+    text.parse::<u32>().ok()
+}
+
+// The number that is written so.
+fn value_in(text: &str) -> Option<i64>
+    ensures some { IfSome result (λ z. text.now ≡ signed_decimal z) }
+    ensures none { IfNone result ((z : ℤ) → FitsSigned w64 z → text.now ≢ signed_decimal z) }
+{
+    if !is_plain_signed(text.as_bytes()) {
+        return None;
+    }
+    text.parse::<i64>().ok()
+}
+
+fn is_plain(text: &[u8]) -> bool
+    ensures { IsTrue result ↔ IsPlain text.now }
+{
+    if text.is_empty() {
+        return true;
+    }
+    let first = text[0];
+    first != b'+' && (first != b'0' || text.len() == 1)
+}
+
+fn is_plain_signed(text: &[u8]) -> bool
+    ensures { IsTrue result ↔ IsPlainSigned text.now }
+{
+    if text.len() > 1 && text[0] == b'-' {
+        text[1] != b'0'
+    } else {
+        is_plain(text)
+    }
+}

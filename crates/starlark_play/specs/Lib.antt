@@ -1,7 +1,0 @@
-pub use Rattle.starlark_lines.specs.Commands
-pub use Rattle.starlark_lines.specs.Shown
-pub mod Lines
-pub mod Memory
-pub mod Replies
-pub mod Script
-pub mod ShownEntries
