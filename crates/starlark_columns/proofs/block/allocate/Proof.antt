@@ -22,59 +22,58 @@ use Rattle.starlark_columns.proofs.block.allocate.Code as code
 pub allocate_spec : {M : Type 1} → statement M
 allocate_spec 𝓤 𝓛 𝓜 𝓡 wired X U L LU g d dd met _ =
     let H = 𝓛.H in let 𝓣 = tables 𝓤 H 𝓜 𝓡 𝓡.env in let En = ended X U g d dd in
-    let E : El = record { row = X; laws = L } in let Z : Al = record { row = U; laws = LU; g = g; d = d; drops = dd } in let fn = inst_fn (args E Z) code.function in
+    let Z : Al = record { row = U; laws = LU; g = g; d = d; drops = dd } in let E : El = record { row = X; laws = L } in
+    let fn = inst_fn (args E Z) code.function in
     let W : RattleType = param 1 U in let heap = RefOf (0 ∷ []) tt (plain (λ _. W)) (λ _. tt) in let c = clauses X U g d dd 𝓛 𝓜.mem 𝓡.returns in
     let At = address.the_row (R E) in let Own = held.the_row (R E) in let Right = claim.the_row (R E) W g in
     let Three : RattleType = Tuple (At ∷ Own ∷ Right ∷ []) in let Out : RattleType = outcome.the_row Three refusal.the_row in
     let hs : Stays En.signature.params En.kept = (stay_dropped heap yes, (stay_dropped (plain (λ _. usize)) yes, tt)) in
     proved 𝓛 En hs c 𝓜 𝓡 (Goes-dropped 𝓛 3 heap yes (λ κs x f. refl), (Goes-dropped 𝓛 3 (plain (λ _. usize)) yes (λ κs x f. refl), tt)) (key.name (args E Z)) fn (code.unfolded 𝓤 H 𝓜 𝓡 wired (X, (U, tt)) d dd)
-    (λ κs. (shr_vals, (uint_vals w64, tt))) (λ κs. (shr_Tells (named 0) κs.0 W, (uint_Tells w64, tt))) (λ κs qs bounds a gh are.
-    let κ = κs.0 in let q = qs.0 in let hp : ℕ × ℕ = a.0.ref_ptr in let h : U.Denot = a.0.now in let n : ℕ = a.1.0 in let s : ℕ = type_size (R E) in let al : ℕ = capped (align (elτ E)) in let τ : Ty = block_ty E n in
-    let y : (walk_of 𝓛 En hs c).Ghost = ((κs, qs, bounds, a, (vptr hp.0 hp.1 ∷ [], (vint w64 n ∷ [], tt))), gh) in let Post : Val → SProp 𝓤 = (walk_of 𝓛 En hs c).post y in
-    let others : Fml = fsep (flft κs.1.0 qs.1.0) (fsep (flft κs.1.1.0 qs.1.1.0) ftrue) in let cs : List (Option X.Denot) = empties n in
-    let Told : Out.Denot → Type 0 = λ r. IfOk r (λ t. (t.1.at ≡ t.0.at) × (t.1.places ≡ cs) × (t.2.at ≡ t.0.at) × (t.2.count ≡ n) × (t.2.alloc ≡ h) × InBlock t.0.at) in
-    qed 𝓛 (((‵ (flft κ q) ⊛ ‵ others) ⊛ ‵ (owns (types_at En.signature.params κs) a y.0.4)) ∷ raw (fact 𝓤 (κs.1.0 ⊑ X.lives)) ∷ raw (fact 𝓤 (κs.1.1.0 ⊑ U.lives)) ∷ raw (fact 𝓤 (FitsInBlock (R E) n)) ∷ raw (fact 𝓤 (0 < n * s)) ∷ []) ∵
-    keep ! (2 ∷ 3 ∷ 4 ∷ 0 ∷ []) $ heard ! (κs.1.1.0 ⊑ U.lives) (λ within. heard ! (FitsInBlock (R E) n) (λ fits. heard ! (0 < n * s) (λ some. split ! $ split ! $ move ! (2 ∷ []) $ fsplit ! $ fsplit ! $ keep ! (1 ∷ 3 ∷ 4 ∷ []) $
-    let small : n * s < 2 ^ 63 = fits.0 in let bytes : n * s < 2 ^ 64 = omega arith in
+    (λ κs. (shr_vals, (uint_vals w64, tt)))
+    (λ κs. (shr_Tells (named 0) κs.0 W, (uint_Tells w64, tt)))
+    (λ κs qs bounds a gh are.
+    let κ = κs.0 in let q = qs.0 in let handle : ℕ × ℕ = a.0.ref_ptr in let giver : U.Denot = a.0.now in let many : ℕ = a.1.0 in let each : ℕ = type_size (R E) in let step : ℕ = capped (align (elτ E)) in let τ : Ty = block_ty E many in
+    let bound : (walk_of 𝓛 En hs c).Ghost = ((κs, qs, bounds, a, (vptr handle.0 handle.1 ∷ [], (vint w64 many ∷ [], tt))), gh) in let Ends : Val → SProp 𝓤 = (walk_of 𝓛 En hs c).post bound in
+    let others : Fml = fsep (flft κs.1.0 qs.1.0) (fsep (flft κs.1.1.0 qs.1.1.0) ftrue) in let cs : List (Option X.Denot) = empties many in
+    let Promised : Out.Denot → Type 0 = λ got. IfOk got (λ t. (t.1.at ≡ t.0.at) × (t.1.places ≡ cs) × (t.2.at ≡ t.0.at) × (t.2.count ≡ many) × (t.2.alloc ≡ giver) × InBlock t.0.at) in
+    qed 𝓛 (((‵ (flft κ q) ⊛ ‵ others) ⊛ ‵ (owns (types_at En.signature.params κs) a bound.0.4)) ∷ raw (fact 𝓤 (κs.1.0 ⊑ X.lives)) ∷ raw (fact 𝓤 (κs.1.1.0 ⊑ U.lives)) ∷ raw (fact 𝓤 (FitsInBlock (R E) many)) ∷ raw (fact 𝓤 (0 < many * each)) ∷ []) ∵
+    keep ! (2 ∷ 3 ∷ 4 ∷ 0 ∷ []) $ heard ! (κs.1.1.0 ⊑ U.lives) (λ within. heard ! (FitsInBlock (R E) many) (λ fits. heard ! (0 < many * each) (λ some. split ! $ split ! $ move ! (2 ∷ []) $ fsplit ! $ fsplit ! $ keep ! (1 ∷ 3 ∷ 4 ∷ []) $
+    let below : many * each < 2 ^ 63 = fits.0 in let short : many * each < 2 ^ 64 = omega arith in
     -- [the handle; its token; the other tokens]
-    enter ! 𝓣.C 𝓣.Λ fn (vptr hp.0 hp.1 ∷ vint w64 n ∷ []) Post $ alloc_all ! (λ l. pass_all ! refl ((tt, tt), ((tt, record { fits = are.1.0.1 }), tt)) $ let Ev = env fn.locals l in
-    let both : Body = head (after 2 fn.body) in
-    let Then : After 𝓤 H = any_q (after_seq 𝓤 H (Wp 𝓤 H 𝓣.C 𝓣.Λ Ev (after 3 fn.body) (at_return 𝓤 H Ev Post)) (at_return 𝓤 H Ev Post)) in
-    let t : (Takes Z 𝓛 𝓜.mem 𝓡.returns).Ghost = at_takes Z 𝓛 𝓜.mem 𝓡.returns κ q hp h (n * s) al τ in
-    sets ! (is ! (bin ! (get ! refl) (size_word !) (record { fits = subst (λ (k : ℕ). k < 2 ^ 64) (sym (uncapped n s bytes)) bytes })) (ap (vint w64) (uncapped n s bytes))) refl (tt, record { fits = bytes }) $
-    use2 𝓛 (raw ((Takes Z 𝓛 𝓜.mem 𝓡.returns).pre t))
-    (Takes-goes Z 𝓛 𝓜.mem 𝓡.returns κ q hp h (Incl-trans bounds.0 within) (n * s) al τ (block_size E n bytes) (block_align E n) bytes (capped_fits (align (elτ E)))) $
-    calls_at ! (framed 𝓤 H 𝓜 𝓣) (Takes Z 𝓛 𝓜.mem 𝓡.returns) (met.allocate dd) t (and_then ! (get ! refl) (and_then ! (get ! refl) (and_then ! (align_word !) (no_more !)))) (λ v.
-    use1 𝓛 (later (raw (Answered Z 𝓛 𝓜.mem 𝓡.returns h τ v) ⊛ ‵ (flft κ q))) (Takes-gives Z 𝓛 𝓜.mem 𝓡.returns κ q hp h (n * s) al τ v) $ await ! tt $ split ! $
-    move ! (1 ∷ 2 ∷ []) $ join ! $ move ! (1 ∷ []) $ answers Z ! 𝓜.mem 𝓡.returns h τ v
-    (λ b o e. let p : Ptr = block_ptr b o in let marked : WT mark = (tt, tt) in
-    let x : Three.Denot = (record { at = p }, record { mark = record {}; at = p; places = cs }, record { mark = record {}; at = p; count = n; alloc = h }) in
-    let u : Val = vstruct (vcons (word p) (vcons mark (vcons mark vnil))) in let r : Val = live 0 (vcons u vnil) in let good : WT u = ((tt, tt), (marked, (marked, tt))) in let all : WT r = (record { fits = lit< tt }, (good, tt)) in
-    lands_as ! e refl (Answer-typed true b o) $ first ! $ switches_on ! (get_tag ! (vrt ! refl (fld ! refl (stop !))) (whole !)) $ exec ! 𝓣.C 𝓣.Λ Ev (arm_body 0 both) Then $
-    sets ! (of_opd ! (get_in ! (vrt ! refl (fld ! refl (stop !))) (in_variant ! 0 0 refl refl (whole !)))) refl (tt, tt) $ sets ! (of_opd ! (get ! refl)) refl (tt, tt) $
+    enter ! 𝓣.C 𝓣.Λ fn (vptr handle.0 handle.1 ∷ vint w64 many ∷ []) Ends $ alloc_all ! (λ l. pass_all ! refl ((tt, tt), ((tt, record { fits = are.1.0.1 }), tt)) $ let here = env fn.locals l in
+    let tail = after 3 fn.body in let Left = at_return 𝓤 H here Ends in
+    let Onward : After 𝓤 H = any_q (after_seq 𝓤 H (Wp 𝓤 H 𝓣.C 𝓣.Λ here tail Left) Left) in let arms : Body = head (after 2 fn.body) in
+    let Asks = Takes Z 𝓛 𝓜.mem 𝓡.returns in let asked : Asks.Ghost = at_takes Z 𝓛 𝓜.mem 𝓡.returns κ q handle giver (many * each) step τ in
+    sets ! (is ! (bin ! (get ! refl) (size_word !) (record { fits = subst (λ (k : ℕ). k < 2 ^ 64) (sym (uncapped many each short)) short })) (ap (vint w64) (uncapped many each short))) refl (tt, record { fits = short }) $
+    use2 𝓛 (raw (Asks.pre asked)) (Takes-goes Z 𝓛 𝓜.mem 𝓡.returns κ q handle giver (Incl-trans bounds.0 within) (many * each) step τ (block_size E many short) (block_align E many) short (capped_fits (align (elτ E)))) $
+    calls_at ! (framed 𝓤 H 𝓜 𝓣) Asks (met.allocate dd) asked (and_then ! (get ! refl) (and_then ! (get ! refl) (and_then ! (align_word !) (no_more !)))) (λ v.
+    use1 𝓛 (later (raw (Answered Z 𝓛 𝓜.mem 𝓡.returns giver τ v) ⊛ ‵ (flft κ q))) (Takes-gives Z 𝓛 𝓜.mem 𝓡.returns κ q handle giver (many * each) step τ v) $
+    await ! tt $ split ! $ move ! (1 ∷ 2 ∷ []) $ join ! $ move ! (1 ∷ []) $ answers Z ! 𝓜.mem 𝓡.returns giver τ v
+    (λ b o e. let p : Ptr = block_ptr b o in let nought : WT mark = (tt, tt) in
+    let x : Three.Denot = (record { at = p }, record { mark = record {}; at = p; places = cs }, record { mark = record {}; at = p; count = many; alloc = giver }) in
+    let inner : Val = vstruct (vcons (word p) (vcons mark (vcons mark vnil))) in let outer : Val = live 0 (vcons inner vnil) in let inside : WT inner = ((tt, tt), (nought, (nought, tt))) in let typed : WT outer = (record { fits = lit< tt }, (inside, tt)) in
+    lands_as ! e refl (Answer-typed true b o) $
+    first ! $ switches_on ! (get_tag ! (vrt ! refl (fld ! refl (stop !))) (whole !)) $ exec ! 𝓣.C 𝓣.Λ here (arm_body 0 arms) Onward $ sets ! (of_opd ! (get_in ! (vrt ! refl (fld ! refl (stop !))) (in_variant ! 0 0 refl refl (whole !)))) refl (tt, tt) $ sets ! (of_opd ! (get ! refl)) refl (tt, tt) $
     sets ! (agg ! (and_then ! (get ! refl) (no_more !))) refl (tt, (tt, tt)) $
-    sets ! (agg ! (no_more !)) refl (tt, tt) $ sets ! (agg ! (and_then ! (get ! refl) (no_more !))) refl (tt, marked) $
-    sets ! (agg ! (no_more !)) refl (tt, tt) $ sets ! (agg ! (and_then ! (get ! refl) (no_more !))) refl (tt, marked) $
-    sets ! (agg ! (and_then ! (get ! refl) (and_then ! (get ! refl) (and_then ! (get ! refl) (no_more !))))) refl (tt, good) $
-    sets_last ! (agg ! (and_then ! (lit ! tt) (and_then ! (get ! refl) (no_more !)))) refl (tt, all) $
-    exec ! 𝓣.C 𝓣.Λ Ev (after 3 fn.body) (at_ret Ev Post) $ sets ! (of_opd ! (get ! refl)) refl (tt, all) $ returns ! (look_at ! 0 refl) $ free_all ! refl $
+    sets ! (agg ! (no_more !)) refl (tt, tt) $ sets ! (agg ! (and_then ! (get ! refl) (no_more !))) refl (tt, nought) $
+    sets ! (agg ! (no_more !)) refl (tt, tt) $ sets ! (agg ! (and_then ! (get ! refl) (no_more !))) refl (tt, nought) $
+    sets ! (agg ! (and_then ! (get ! refl) (and_then ! (get ! refl) (and_then ! (get ! refl) (no_more !))))) refl (tt, inside) $ sets_last ! (agg ! (and_then ! (lit ! tt) (and_then ! (get ! refl) (no_more !)))) refl (tt, typed) $
+    exec ! 𝓣.C 𝓣.Λ here tail (at_ret here Ends) $ sets ! (of_opd ! (get ! refl)) refl (tt, typed) $ returns ! (look_at ! 0 refl) $ free_all ! refl $
     -- [the room; the right; the tokens]
-    use1 𝓛 (‵ (froom (ty_array (elτ E) n) b o)) (𝓛.laws.raw-room (ty_array (elτ E) n) b o) $ use1 𝓛 (‵ (Row E 𝓛 b o cs)) (of_room E 𝓛 b n o) $
-    flt_i ! (length cs * s) (2 ^ 63) (subst (λ k. k * s < 2 ^ 63) (sym (length-replicate n None)) small) $ fjoin ! $
+    use1 𝓛 (‵ (froom (ty_array (elτ E) many) b o)) (𝓛.laws.raw-room (ty_array (elτ E) many) b o) $ use1 𝓛 (‵ (Row E 𝓛 b o cs)) (of_room E 𝓛 b many o) $
+    flt_i ! (length cs * each) (2 ^ 63) (subst (λ k. k * each < 2 ^ 63) (sym (length-replicate many None)) below) $ fjoin ! $
     use0 𝓛 (‵ ((HeldData (R E)).own_val (tt, tt) (mark ∷ []))) (held_made (R E) 𝓛) $ fjoin ! $ move ! (1 ∷ []) $
-    rewrite ! 0 (λ (z : Bool). ‵ (cond z ftrue (token Z h τ p))) {x = eqb (n * s) 0} {y = false} (sym (some_weight (n * s) some)) refl $
+    rewrite ! 0 (λ (z : Bool). ‵ (cond z ftrue (token Z giver τ p))) {x = eqb (many * each) 0} {y = false} (sym (some_weight (many * each) some)) refl $
     use0 𝓛 (‵ ((ClaimData (R E) W g).own_val (tt, tt) (mark ∷ []))) (claim_made (R E) W g 𝓛) $ fjoin ! $ move ! (1 ∷ 0 ∷ []) $
     use0 𝓛 (‵ (At.own_val x.0 (word p ∷ []))) (address_made (R E) 𝓛 p) $
-    use3 𝓛 (‵ (Three.own_val x (u ∷ []))) (three 𝓛 At Own x.0 x.1 (word p) mark Right x.2 mark) $
-    use1 𝓛 (‵ (Out.own_val (Ok x) (r ∷ []))) (ok_of 𝓛 Three refusal.the_row x u) $
-    use0 𝓛 (raw (fact 𝓤 (Told (Ok x)))) (fact_i 𝓤 (Told (Ok x)) (emp 𝓤) (refl, refl, refl, refl, refl, tt)) $ nothing ! $ nothing ! $ nothing ! $ fjoin3 ! $
-    keep ! (3 ∷ 0 ∷ 2 ∷ 1 ∷ []) $ by ! (leaves 𝓛 En hs c y r (Ok x) (tt, (tt, tt)) (tt, (tt, tt))))
-    (λ e. let u : Val = vstruct vnil in let r : Val = live 1 (vcons u vnil) in let none : WT r = (record { fits = lit< tt }, (tt, tt)) in
-    lands_as ! e refl (Answer-typed false 0 0) $ first ! $ switches_on ! (get_tag ! (vrt ! refl (fld ! refl (stop !))) (whole !)) $ exec ! 𝓣.C 𝓣.Λ Ev (arm_body 1 both) Then $
-    sets ! (of_opd ! (get_in ! (vrt ! refl (fld ! refl (stop !))) (in_variant ! 1 0 refl refl (whole !)))) refl (tt, tt) $
-    sets_last ! (agg ! (and_then ! (lit ! tt) (and_then ! (get ! refl) (no_more !)))) refl (tt, none) $
-    exec ! 𝓣.C 𝓣.Λ Ev (after 3 fn.body) (at_ret Ev Post) $ sets ! (of_opd ! (get ! refl)) refl (tt, none) $ returns ! (look_at ! 0 refl) $ free_all ! refl $
-    owned ! (Struct (Declared.shape refusal.the_type)) (Is (Struct (Declared.shape refusal.the_type))) (Struct-Makes 𝓛 (Declared.shape refusal.the_type) tt) tt (u ∷ []) (tt, (refl, tt)) $
-    use1 𝓛 (‵ (Out.own_val (Err (record {})) (r ∷ []))) (err_of 𝓛 Three refusal.the_row (record {}) u) $
-    use0 𝓛 (raw (fact 𝓤 (Told (Err (record {}))))) (fact_i 𝓤 (Told (Err (record {}))) (emp 𝓤) tt) $ nothing ! $ nothing ! $ nothing ! $ fjoin3 ! $
-    keep ! (3 ∷ 0 ∷ 2 ∷ 1 ∷ []) $ by ! (leaves 𝓛 En hs c y r (Err (record {})) (tt, (tt, tt)) (tt, (tt, tt))))))))))
+    use3 𝓛 (‵ (Three.own_val x (inner ∷ []))) (three 𝓛 At Own x.0 x.1 (word p) mark Right x.2 mark) $
+    use1 𝓛 (‵ (Out.own_val (Ok x) (outer ∷ []))) (ok_of 𝓛 Three refusal.the_row x inner) $
+    use0 𝓛 (raw (fact 𝓤 (Promised (Ok x)))) (fact_i 𝓤 (Promised (Ok x)) (emp 𝓤) (refl, refl, refl, refl, refl, tt)) $ nothing ! $ nothing ! $ nothing ! $ fjoin3 ! $ keep ! (3 ∷ 0 ∷ 2 ∷ 1 ∷ []) $ by ! (leaves 𝓛 En hs c bound outer (Ok x) (tt, (tt, tt)) (tt, (tt, tt))))
+    (λ e. let inner : Val = vstruct vnil in let outer : Val = live 1 (vcons inner vnil) in let bare : WT outer = (record { fits = lit< tt }, (tt, tt)) in
+    lands_as ! e refl (Answer-typed false 0 0) $
+    first ! $ switches_on ! (get_tag ! (vrt ! refl (fld ! refl (stop !))) (whole !)) $ exec ! 𝓣.C 𝓣.Λ here (arm_body 1 arms) Onward $ sets ! (of_opd ! (get_in ! (vrt ! refl (fld ! refl (stop !))) (in_variant ! 1 0 refl refl (whole !)))) refl (tt, tt) $ sets_last ! (agg ! (and_then ! (lit ! tt) (and_then ! (get ! refl) (no_more !)))) refl (tt, bare) $
+    exec ! 𝓣.C 𝓣.Λ here tail (at_ret here Ends) $ sets ! (of_opd ! (get ! refl)) refl (tt, bare) $ returns ! (look_at ! 0 refl) $ free_all ! refl $
+    owned ! (Struct (Declared.shape refusal.the_type)) (Is (Struct (Declared.shape refusal.the_type))) (Struct-Makes 𝓛 (Declared.shape refusal.the_type) tt) tt (inner ∷ []) (tt, (refl, tt)) $
+    use1 𝓛 (‵ (Out.own_val (Err (record {})) (outer ∷ []))) (err_of 𝓛 Three refusal.the_row (record {}) inner) $
+    use0 𝓛 (raw (fact 𝓤 (Promised (Err (record {}))))) (fact_i 𝓤 (Promised (Err (record {}))) (emp 𝓤) tt) $
+    nothing ! $ nothing ! $ nothing ! $ fjoin3 ! $ keep ! (3 ∷ 0 ∷ 2 ∷ 1 ∷ []) $ by ! (leaves 𝓛 En hs c bound outer (Err (record {})) (tt, (tt, tt)) (tt, (tt, tt))))))))))
