@@ -128,10 +128,10 @@ impl Workload {
             | Workload::BuildRoomy(_)
             | Workload::Hit
             | Workload::Miss
-            | Workload::Walk => &[4, 8, 16, 32, 64, 1000, 10_000, 100_000, 1_000_000],
-            Workload::Cycle(Removed::Middle) | Workload::Drain => &[8, 32, 1000, 10_000],
+            | Workload::Walk => &[4, 8, 16, 17, 24, 32, 64, 1000, 10_000, 100_000, 1_000_000],
+            Workload::Cycle(Removed::Middle) | Workload::Drain => &[8, 17, 24, 32, 1000, 10_000],
             Workload::Cycle(_) => &[1000, 10_000, 100_000],
-            Workload::Pop => &[8, 32, 1000, 10_000, 1_000_000],
+            Workload::Pop => &[8, 17, 24, 32, 1000, 10_000, 1_000_000],
             Workload::Sort => &[8, 32, 1000, 100_000, 1_000_000],
             Workload::UnorderedInsert
             | Workload::UnorderedHit
