@@ -12,7 +12,7 @@ ghost use Rattle.starlark_small.specs.Inserted.{LeavesMemory};
 ghost use Rattle.starlark_small.specs.Map.{KeepsMemory, own_hashed};
 ghost use Rattle.starlark_vec2.specs.Collect.{IsLawfulClone};
 ghost use Rattle.starlark_lists.specs.Clone.{IsEntryClone};
-ghost use Rattle.starlark_small.specs.Calling.{IsSameAt, Updates, contains, get};
+ghost use Rattle.starlark_small.specs.Calling.{AreOwn, IsSameAt, Updates, contains, get};
 
 use super::OrderedMap;
 use starlark_hash::NoRoom;
@@ -78,6 +78,7 @@ impl<K: Eq + Hash + Drop, V: Drop> OrderedMap<K, V> {
         requires { IsFiniteIterable I.into_iter_gives I.IntoIter.can_next I.IntoIter.remaining iter }
         ensures entries { Extends K.eq (own_entry K.hash_input) I.IntoIter.next_gives I.into_iter_gives iter self.old.entries self.new.entries result }
         ensures memory { IsExtended ((it : _) → I.into_iter_gives iter it → size (I.IntoIter.remaining it) ≤ self.old.room) self.old self.new result }
+        ensures own { AreOwn K.hash_input self.old → AreOwn K.hash_input self.new }
     {
         self.0.extend(iter)
     }
@@ -92,6 +93,7 @@ impl<K: Eq + Hash + Drop, V: Drop> OrderedMap<K, V> {
     ) -> Result<Self, AllocError>
         requires { IsFiniteIterable I.into_iter_gives I.IntoIter.can_next I.IntoIter.remaining iter }
         ensures map { IfOk result (Collects K.eq (own_entry K.hash_input) I.IntoIter.next_gives I.into_iter_gives I.IntoIter.remaining iter) }
+        ensures own { IfOk result (AreOwn K.hash_input) }
         ensures succeeds { ((it : _) → I.into_iter_gives iter it → size (I.IntoIter.remaining it) ≡ 0) → IsOk result }
     {
         Ok(OrderedMap(SmallMap::from_iter(alloc, iter)?))

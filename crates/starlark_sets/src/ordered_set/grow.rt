@@ -10,7 +10,7 @@ ghost use Rattle.starlark_small.specs.Index.{unindexed};
 ghost use Rattle.starlark_small.specs.Inserted.{IsInserted, IsRefused};
 ghost use Rattle.starlark_small.specs.Map.{KeepsMemory, own_hashed};
 ghost use Rattle.starlark_vec2.specs.Collect.{IsLawfulClone};
-ghost use Rattle.starlark_small.specs.Calling.{IsSameAt, Updates, contains};
+ghost use Rattle.starlark_small.specs.Calling.{AreOwn, IsSameAt, Updates, contains};
 ghost use Rattle.starlark_sets.specs.Collect.{own_element};
 ghost use Rattle.starlark_sets.specs.Set.{Adds};
 ghost use Rattle.starlark_sets.specs.Unit.{IsElementClone};
@@ -79,6 +79,7 @@ impl<T: Eq + Hash + Drop> OrderedSet<T> {
         requires { IsFiniteIterable I.into_iter_gives I.IntoIter.can_next I.IntoIter.remaining iter }
         ensures entries { Extends T.eq (own_element T.hash_input) I.IntoIter.next_gives I.into_iter_gives iter self.old.entries self.new.entries result }
         ensures memory { IsExtended ((it : _) → I.into_iter_gives iter it → size (I.IntoIter.remaining it) ≤ self.old.room) self.old self.new result }
+        ensures own { AreOwn T.hash_input self.old → AreOwn T.hash_input self.new }
     {
         self.0.extend(iter)
     }
@@ -89,6 +90,7 @@ impl<T: Eq + Hash + Drop> OrderedSet<T> {
     pub fn from_iter<I: IntoIterator<Item = T>>(alloc: Global, iter: I) -> Result<Self, AllocError>
         requires { IsFiniteIterable I.into_iter_gives I.IntoIter.can_next I.IntoIter.remaining iter }
         ensures set { IfOk result (Collects T.eq (own_element T.hash_input) I.IntoIter.next_gives I.into_iter_gives I.IntoIter.remaining iter) }
+        ensures own { IfOk result (AreOwn T.hash_input) }
         ensures succeeds { ((it : _) → I.into_iter_gives iter it → size (I.IntoIter.remaining it) ≡ 0) → IsOk result }
     {
         Ok(OrderedSet(SmallSet::from_iter(alloc, iter)?))

@@ -1,6 +1,7 @@
 //! `SmallSet`s from the items of iterators.
 ghost use Rattle.std.specs.Prelude.{◌≡◌, ◌+◌, ◌≤◌, IfOk, IsOk};
 ghost use Rattle.std.specs.Iterator.{IsFiniteIterable, size};
+ghost use Rattle.starlark_small.specs.Calling.{AreOwn};
 ghost use Rattle.starlark_small.specs.Collect.{Collects, Extends, IsExtended};
 ghost use Rattle.starlark_sets.specs.Collect.{element_entry, own_element};
 
@@ -20,6 +21,7 @@ impl<T: Eq + Hash + Drop> SmallSet<T> {
         requires { IsFiniteIterable I.into_iter_gives I.IntoIter.can_next I.IntoIter.remaining iter }
         ensures entries { Extends T.eq (own_element T.hash_input) I.IntoIter.next_gives I.into_iter_gives iter self.old.entries self.new.entries result }
         ensures memory { IsExtended ((it : _) → I.into_iter_gives iter it → size (I.IntoIter.remaining it) ≤ self.old.room) self.old self.new result }
+        ensures own { AreOwn T.hash_input self.old → AreOwn T.hash_input self.new }
     {
         self.map.extend(WithUnit::new(iter.into_iter()))
     }
@@ -30,6 +32,7 @@ impl<T: Eq + Hash + Drop> SmallSet<T> {
     pub fn from_iter<I: IntoIterator<Item = T>>(alloc: Global, iter: I) -> Result<Self, AllocError>
         requires { IsFiniteIterable I.into_iter_gives I.IntoIter.can_next I.IntoIter.remaining iter }
         ensures set { IfOk result (Collects T.eq (own_element T.hash_input) I.IntoIter.next_gives I.into_iter_gives I.IntoIter.remaining iter) }
+        ensures own { IfOk result (AreOwn T.hash_input) }
         ensures succeeds { ((it : _) → I.into_iter_gives iter it → size (I.IntoIter.remaining it) ≡ 0) → IsOk result }
     {
         Ok(SmallSet {
