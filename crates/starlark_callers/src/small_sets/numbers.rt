@@ -1,10 +1,11 @@
 //! Small sets of numbers.
 ghost use Rattle.std.specs.Hash as fed;
 ghost use Rattle.std.specs.Prelude.{◌≡◌, ℕ, nat_eq, true, false, not, Some, None, IfOk, IfErr, OnOk, OnErr};
-ghost use Rattle.starlark_small.specs.Calling.{get, contains};
+ghost use Rattle.starlark_small.specs.Calling.{get, contains, AreOwn};
 
 use starlark_hash::{Hashed, NoRoom};
 use starlark_sets::SmallSet;
+use std::alloc::{AllocError, Global};
 
 /// Puts an element in.
 pub fn add(set: &mut SmallSet<u32>, n: u32) -> Result<(), NoRoom<u32>>
@@ -96,4 +97,18 @@ pub fn add_and_look_hashed(set: &mut SmallSet<u32>, n: u32) -> Result<bool, NoRo
     let hashed = Hashed::new(n);
     set.insert(n)?;
     Ok(set.contains_hashed(hashed.as_ref()))
+}
+
+/// A set of two numbers, each under its own hash.
+pub fn two_of(alloc: Global, a: u32, b: u32) -> Result<SmallSet<u32>, AllocError>
+    ensures own { IfOk result (AreOwn fed.u32) }
+{
+    SmallSet::from_iter(alloc, [a, b])
+}
+
+/// Puts two numbers in, each under its own hash.
+pub fn add_both(set: &mut SmallSet<u32>, a: u32, b: u32) -> Result<(), AllocError>
+    ensures own { AreOwn fed.u32 set.old → AreOwn fed.u32 set.new }
+{
+    set.extend([a, b])
 }
