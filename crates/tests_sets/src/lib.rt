@@ -10,6 +10,8 @@ mod memory;
 #[cfg(test)]
 mod ordered;
 #[cfg(test)]
+mod rooms;
+#[cfg(test)]
 mod sets;
 #[cfg(test)]
 mod sorted_maps;

@@ -3,6 +3,7 @@
 use crate::given::{Numbers, ends, holds, put, removed, same, set, under};
 use starlark_map::small_set::SmallSet;
 use starlark_map::{NoRoom, TextKey};
+use std::alloc::Global;
 use std::test::Fail;
 
 // What `insert_hashed` answers, and none where it was refused.
@@ -140,6 +141,58 @@ fn refusals_hand_the_element_back(rt: HostRuntime) -> Result<(), Fail> {
         holds(&rt, put_at_last(&mut set, element));
     }
     same(&rt, set.len(), 5);
+    Ok(())
+}
+
+// The element 7 under the hashes 1 and 2, and then 8 under 2.
+fn under_hashes(alloc: Global) -> Result<Numbers, Fail> {
+    Ok(SmallSet::from_iter_hashed(alloc, [under(1, 7), under(2, 7), under(2, 8)])?)
+}
+
+// The place of an element under a hash, where there is one, asked by reference and by value.
+fn place_under(set: &Numbers, hash: u32, element: u32) -> (Option<usize>, Option<usize>) {
+    let by_value = set.get_index_of_hashed_by_value(under(hash, element));
+    (set.get_index_of_hashed(under(hash, &element)), by_value)
+}
+
+fn found_under(set: &Numbers, hash: u32, element: u32) -> Option<u32> {
+    set.get_hashed(under(hash, &element)).copied()
+}
+
+#[test]
+fn finds_under_a_hash(rt: HostRuntime) -> Result<(), Fail> {
+    let set = under_hashes(rt.alloc())?;
+    same(&rt, place_under(&set, 2, 7), (Some(1), Some(1)));
+    same(&rt, place_under(&set, 1, 8), (None, None));
+    same(&rt, found_under(&set, 2, 8), Some(8));
+    same(&rt, found_under(&set, 3, 8), None);
+    Ok(())
+}
+
+fn removed_under(set: &mut Numbers, hash: u32, element: u32) -> bool {
+    set.shift_remove_hashed(under(hash, &element))
+}
+
+// The element that was at a place, and its hash.
+fn removed_at_hashed(set: &mut Numbers, index: usize) -> Option<(u32, u32)> {
+    let element = set.shift_remove_index_hashed(index)?;
+    Some((element.hash().get(), element.into_key()))
+}
+
+fn removed_at(set: &mut Numbers, index: usize) -> Option<u32> {
+    set.shift_remove_index(index)
+}
+
+#[test]
+fn removes_under_a_hash_and_at_a_place(rt: HostRuntime) -> Result<(), Fail> {
+    let mut set = under_hashes(rt.alloc())?;
+    holds(&rt, !removed_under(&mut set, 3, 7));
+    holds(&rt, removed_under(&mut set, 2, 7));
+    same(&rt, removed_at_hashed(&mut set, 2), None);
+    same(&rt, removed_at_hashed(&mut set, 0), Some((1, 7)));
+    same(&rt, removed_at(&mut set, 1), None);
+    same(&rt, removed_at(&mut set, 0), Some(8));
+    holds(&rt, set.is_empty());
     Ok(())
 }
 
