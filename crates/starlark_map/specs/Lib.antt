@@ -2,11 +2,13 @@ pub use Rattle.starlark_hash.specs.HashValue
 pub use Rattle.starlark_hash.specs.Hasher
 pub use Rattle.starlark_hash.specs.HashedOrder
 pub use Rattle.starlark_lists.specs.Entries
+pub use Rattle.starlark_lists.specs.Insertion
 pub use Rattle.starlark_lists.specs.Finding
 pub use Rattle.starlark_lists.specs.Search
 pub use Rattle.starlark_lists.specs.Sorting
 pub use Rattle.starlark_hash.specs.Lending as HashedLending
 pub use Rattle.starlark_vec2.specs.PairList
+pub use Rattle.starlark_vec2.specs.Growth as PairListGrowth
 pub use Rattle.starlark_vec2.specs.Columns
 pub use Rattle.starlark_vec2.specs.Positions
 pub use Rattle.starlark_vec2.specs.Frozen
@@ -21,6 +23,7 @@ pub use Rattle.starlark_lists.specs.Retain as EntryListRetain
 pub use Rattle.starlark_lists.specs.Clone as EntryListClone
 pub use Rattle.starlark_vecmap.specs.Lending as EntryListLending
 pub use Rattle.starlark_table.specs.Table
+pub use Rattle.starlark_table.specs.Growth as TableGrowth
 pub use Rattle.starlark_small.specs.Map
 pub use Rattle.starlark_small.specs.Inserted
 pub use Rattle.starlark_small.specs.Growth
