@@ -58,6 +58,18 @@ pub(crate) fn full(alloc: Global) -> Result<Numbers, Fail> {
     Ok(map)
 }
 
+// Whether a walk shows these numbers and no more.
+pub(crate) fn shows_numbers(walk: Iter<'_, u32, u32>, pairs: &[(u32, u32)]) -> bool {
+    let mut walk = walk;
+    for pair in pairs {
+        match walk.next() {
+            Some((key, value)) if (*key, *value) == *pair => {}
+            _ => return false,
+        }
+    }
+    walk.next().is_none()
+}
+
 // Whether a walk shows these pairs and no more.
 pub(crate) fn shows(walk: Iter<'_, u32, char>, pairs: &[(u32, char)]) -> bool {
     let mut walk = walk;

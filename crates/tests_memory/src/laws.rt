@@ -1,6 +1,6 @@
 //! The calls of the laws that collect and sort, and what stands where memory is refused.
 
-use crate::given::{Numbers, handed_back, holds, is_tens, shows, tens};
+use crate::given::{Numbers, handed_back, holds, is_tens, shows, shows_numbers, tens};
 use starlark_hash::Hashed;
 use starlark_laws::{collection, insertion, order};
 use starlark_small::SmallMap;
@@ -42,7 +42,9 @@ fn inserts(map: &mut Numbers) -> bool {
     let refused = handed_back(insertion::insertion_of_a_present_key(map, Hashed::new(100), 1));
     match refused {
         None => map.get_index(4) == Some((&100, &1)),
-        Some(back) => back == (Hashed::new(100), 1) && is_tens(map, 4),
+        Some(back) => {
+            back == (Hashed::new(100), 1) && is_tens(map, 4) && map.insert(100, 1).is_ok()
+        }
     }
 }
 
@@ -61,10 +63,7 @@ fn falling(alloc: Global) -> Result<Numbers, Fail> {
 }
 
 fn falls(map: &Numbers) -> bool {
-    map.len() == 3
-        && map.get_index(0) == Some((&2, &20))
-        && map.get_index(1) == Some((&1, &10))
-        && map.get_index(2) == Some((&0, &0))
+    shows_numbers(map.iter(), &[(2, 20), (1, 10), (0, 0)])
 }
 
 // A refusal drops the entries.

@@ -1,13 +1,11 @@
-//! Maps that grow and are sorted, and what stands where memory is refused.
+//! Maps that grow and are sorted: a call does what it says where memory is there, and where it is refused, the map is as it
+//! was and the second attempt has the memory.
 
-use crate::given::{
-    Numbers, THRESHOLD, full, handed_back, holds, is_tens, same, tens, under, with_room,
-};
+use crate::given::{Numbers, THRESHOLD, full, handed_back, holds, is_tens, same, tens, with_room};
 use starlark_small::{SmallMap, UNINDEXED};
-use std::alloc::Global;
+use std::alloc::{AllocError, Global};
 use std::test::Fail;
 
-// A refusal leaves the map, and the second attempt has the memory.
 fn reserves(map: &mut Numbers) -> bool {
     map.reserve(40).is_ok()
         || is_tens(map, 3)
@@ -16,12 +14,16 @@ fn reserves(map: &mut Numbers) -> bool {
             && map.reserve(40).is_ok()
 }
 
+// The length, the room, and whether there is an index.
+fn size(map: &Numbers) -> (usize, usize, bool) {
+    (map.len(), map.room(), map.index().is_some())
+}
+
 #[test]
 fn makes_room_or_stays(rt: HostRuntime) -> Result<(), Fail> {
     let mut map = tens(rt.alloc(), 3)?;
     holds(&rt, reserves(&mut map));
-    holds(&rt, 40 <= map.room());
-    holds(&rt, map.index().is_some());
+    same(&rt, size(&map), (3, 40, true));
     Ok(())
 }
 
@@ -34,51 +36,36 @@ fn at(map: &Numbers, key: u32) -> Option<u32> {
     map.get(&key).copied()
 }
 
+// Whether all items were taken, or those before the one that was refused.
+fn shows_items(map: &Numbers, done: bool) -> bool {
+    let (new, last) = if done { (Some(1), 600) } else { (None, 60) };
+    at(map, 5) == Some(500) && at(map, 100) == new && at(map, 6) == Some(last)
+}
+
+fn takes_items(map: &mut Numbers) -> bool {
+    (extended(map) || shows_items(map, false) && extended(map)) && shows_items(map, true)
+}
+
 #[test]
 fn takes_items_up_to_the_one_that_is_refused(rt: HostRuntime) -> Result<(), Fail> {
     let mut map = full(rt.alloc())?;
-    same(&rt, map.room(), 0);
-    let done = extended(&mut map);
-    same(&rt, at(&map, 5), Some(500));
-    same(&rt, at(&map, 100), if done { Some(1) } else { None });
-    same(&rt, at(&map, 6), Some(if done { 600 } else { 60 }));
-    same(&rt, map.len(), if done { UNINDEXED + 1 } else { UNINDEXED });
+    holds(&rt, takes_items(&mut map));
     Ok(())
 }
 
-// The keys "b" and "a", in this order, under the hashes 9 and 3.
-fn falling(alloc: Global) -> Result<SmallMap<&'static str, u32>, Fail> {
-    let mut map: SmallMap<&'static str, u32> = SmallMap::new(alloc);
-    if map.insert_hashed(under(9, "b"), 1).is_err() {
-        map.insert_hashed(under(9, "b"), 1)?;
-    }
-    if map.insert_hashed(under(3, "a"), 2).is_err() {
-        map.insert_hashed(under(3, "a"), 2)?;
-    }
-    Ok(map)
+// The key at a place of so many that neither ascend nor descend.
+fn mixed_key(place: u32, count: u32) -> u32 {
+    place
+        .wrapping_mul(7)
+        .wrapping_add(1)
+        .checked_rem(count)
+        .unwrap_or(0)
 }
 
-fn falls(map: &SmallMap<&'static str, u32>) -> bool {
-    map.len() == 2 && map.get_index(0) == Some((&"b", &1)) && map.get_index(1) == Some((&"a", &2))
-}
-
-fn sorts(map: &mut SmallMap<&'static str, u32>) -> bool {
-    map.sort_keys().is_ok() || falls(map) && map.sort_keys().is_ok()
-}
-
-#[test]
-fn sorts_or_stays(rt: HostRuntime) -> Result<(), Fail> {
-    let mut map = falling(rt.alloc())?;
-    holds(&rt, sorts(&mut map));
-    holds(&rt, map.get_index(0) == Some((&"a", &2)));
-    Ok(())
-}
-
-// The keys below 24 in steps of seven: so many, and so mixed, that a sort of their places asks for memory too.
-fn mixed(alloc: Global) -> Result<Numbers, Fail> {
+fn mixed(alloc: Global, count: u32) -> Result<Numbers, Fail> {
     let mut map: Numbers = SmallMap::new(alloc);
-    for place in 0..24u32 {
-        let key = place.wrapping_mul(7) % 24;
+    for place in 0..count {
+        let key = mixed_key(place, count);
         if map.insert(key, key.wrapping_mul(10)).is_err() {
             map.insert(key, key.wrapping_mul(10))?;
         }
@@ -86,39 +73,36 @@ fn mixed(alloc: Global) -> Result<Numbers, Fail> {
     Ok(map)
 }
 
-fn is_mixed(map: &Numbers) -> bool {
+fn is_mixed(map: &Numbers, count: u32) -> bool {
     let mut walk = map.keys();
-    for place in 0..24u32 {
-        if walk.next() != Some(&(place.wrapping_mul(7) % 24)) {
+    for place in 0..count {
+        if walk.next() != Some(&mixed_key(place, count)) {
             return false;
         }
     }
     walk.next().is_none()
 }
 
-fn sorts_mixed(map: &mut Numbers) -> bool {
-    map.sort_keys().is_ok() || is_mixed(map) && map.sort_keys().is_ok()
+fn sorts(map: &mut Numbers, count: u32) -> bool {
+    (map.sort_keys().is_ok() || is_mixed(map, count) && map.sort_keys().is_ok())
+        && is_tens(map, count)
 }
 
+// Up to 20 entries a sort of their places asks for no memory of its own.
 #[test]
-fn sorts_many_or_stays(rt: HostRuntime) -> Result<(), Fail> {
-    let mut map = mixed(rt.alloc())?;
-    holds(&rt, sorts_mixed(&mut map));
-    holds(&rt, is_tens(&map, 24));
+fn sorts_or_stays(rt: HostRuntime) -> Result<(), Fail> {
+    for count in [2, 24] {
+        let mut map = mixed(rt.alloc(), count)?;
+        holds(&rt, sorts(&mut map, count));
+    }
     Ok(())
-}
-
-fn sorts_turned(map: &mut SmallMap<&'static str, u32>) -> bool {
-    map.reverse();
-    map.sort_keys().is_ok()
 }
 
 // After the first line nothing asks for memory.
 #[test]
 fn sorts_what_ascends(rt: HostRuntime) -> Result<(), Fail> {
-    let mut map = falling(rt.alloc())?;
-    holds(&rt, sorts_turned(&mut map));
-    holds(&rt, map.get_index(0) == Some((&"a", &2)));
+    let mut map = tens(rt.alloc(), 24)?;
+    holds(&rt, sorts(&mut map, 24));
     Ok(())
 }
 
@@ -137,19 +121,21 @@ fn copies_walks_of_a_map(rt: HostRuntime) -> Result<(), Fail> {
     Ok(())
 }
 
-// Takes the first entry out and another in.
-fn takes_in(map: &mut Numbers, key: u32) -> bool {
-    map.shift_remove_index(0).is_some() && map.insert(key, key).is_ok()
+// Takes the first entry out and another in, a thousand times.
+fn takes_in(map: &mut Numbers) -> bool {
+    for key in 40u32..1040 {
+        if map.shift_remove_index(0).is_none() || map.insert(key, key).is_err() {
+            return false;
+        }
+    }
+    map.len() == 40
 }
 
 // After the first line nothing asks for memory.
 #[test]
 fn takes_in_as_much_as_goes(rt: HostRuntime) -> Result<(), Fail> {
     let mut map = tens(rt.alloc(), 40)?;
-    for key in 40u32..1040 {
-        holds(&rt, takes_in(&mut map, key));
-    }
-    same(&rt, map.len(), 40);
+    holds(&rt, takes_in(&mut map));
     Ok(())
 }
 
@@ -168,42 +154,41 @@ fn without_index(map: &mut Numbers) -> bool {
     map.index().is_none()
 }
 
-// After the first line nothing asks for memory.
+// Whether a map of so much room and without an index takes as many keys as need none. Once it has its room, nothing asks
+// for memory.
+fn takes_reserved(alloc: Global, capacity: usize) -> Result<bool, AllocError> {
+    let mut map = with_room(alloc, capacity)?;
+    Ok(without_index(&mut map) && fills(&mut map, THRESHOLD))
+}
+
 #[test]
 fn takes_what_was_reserved_without_an_index(rt: HostRuntime) -> Result<(), Fail> {
-    let mut map = with_room(rt.alloc(), UNINDEXED)?;
-    holds(&rt, map.index().is_none());
-    holds(&rt, fills(&mut map, THRESHOLD));
+    holds(&rt, takes_reserved(rt.alloc(), UNINDEXED)?);
     Ok(())
+}
+
+#[test]
+fn takes_what_needs_no_index(rt: HostRuntime) -> Result<(), Fail> {
+    holds(&rt, takes_reserved(rt.alloc(), 40)?);
+    Ok(())
+}
+
+// Above the threshold the index stays.
+fn keeps_index(map: &mut Numbers) -> bool {
+    fills(map, THRESHOLD + 4) && !without_index(map) && fills(map, 2 * (THRESHOLD + 4))
 }
 
 // After the first line nothing asks for memory.
-#[test]
-fn takes_what_needs_no_index(rt: HostRuntime) -> Result<(), Fail> {
-    let mut map = with_room(rt.alloc(), 40)?;
-    holds(&rt, 40 <= map.room());
-    holds(&rt, without_index(&mut map));
-    holds(&rt, fills(&mut map, THRESHOLD));
-    Ok(())
-}
-
-// After the first line nothing asks for memory: above the threshold the index stays.
 #[test]
 fn keeps_the_index_of_a_longer_list(rt: HostRuntime) -> Result<(), Fail> {
     let mut map = with_room(rt.alloc(), 2 * (UNINDEXED + 4))?;
-    holds(&rt, fills(&mut map, THRESHOLD + 4));
-    holds(&rt, !without_index(&mut map));
-    holds(&rt, fills(&mut map, 2 * (THRESHOLD + 4)));
+    holds(&rt, keeps_index(&mut map));
     Ok(())
 }
 
-// As many entries as have no index, in a list with room for more.
-fn unindexed(alloc: Global) -> Result<Numbers, Fail> {
-    let mut map = tens(alloc, THRESHOLD + 1)?;
-    if map.pop() != Some((THRESHOLD, THRESHOLD * 10)) || !without_index(&mut map) {
-        return Err("an index stays".into());
-    }
-    Ok(map)
+// Takes the last entry out, so that the list has room and needs no index.
+fn shortens(map: &mut Numbers) -> bool {
+    map.pop() == Some((THRESHOLD, THRESHOLD * 10)) && without_index(map)
 }
 
 // A new entry, for which the list has room, came back where there was no memory for the index, and all was as before.
@@ -221,14 +206,9 @@ fn takes_or_hands_back(map: &mut Numbers) -> bool {
 
 #[test]
 fn makes_the_index_or_stays(rt: HostRuntime) -> Result<(), Fail> {
-    let mut map = unindexed(rt.alloc())?;
-    same(&rt, map.capacity(), (UNINDEXED + 1).next_power_of_two());
-    same(&rt, map.room(), 0);
-    holds(&rt, takes_or_hands_back(&mut map));
-    same(
-        &rt,
-        (map.len(), map.index().is_some()),
-        (UNINDEXED + 1, true),
-    );
+    let mut map = tens(rt.alloc(), THRESHOLD + 1)?;
+    holds(&rt, shortens(&mut map));
+    same(&rt, size(&map), (UNINDEXED, 0, false));
+    holds(&rt, takes_or_hands_back(&mut map) && map.index().is_some());
     Ok(())
 }

@@ -1,114 +1,134 @@
-//! Ordered maps and sets that grow, and what comes back where no room is found.
+//! Ordered maps and sets that are made, grow and are sorted: a call does what it says where memory is there; where it is
+//! refused, all is as it was, and what was to be put in comes back.
 
-use crate::given::{handed_back, holds, same, shows, shows_elements, tens};
+use crate::given::{handed_back, holds, shows_elements, shows_numbers, tens};
 use starlark_hash::Hashed;
 use starlark_sets::{OrderedMap, OrderedSet, TryInsertError};
 use starlark_small::Entry;
 use std::alloc::{AllocError, Global};
 use std::test::Fail;
 
-// The keys below four, each with ten times itself, with no room left.
-fn four(alloc: Global) -> Result<OrderedMap<u32, u32>, Fail> {
-    Ok(OrderedMap::from(tens(alloc, 4)?))
+type Map = OrderedMap<u32, u32>;
+
+type Set = OrderedSet<u32>;
+
+type Refused = Option<(Hashed<u32>, u32)>;
+
+// The keys 3, 2, 1 and 0, each with ten times itself, with no room left.
+fn four(alloc: Global) -> Result<Map, Fail> {
+    let mut map = tens(alloc, 4)?;
+    map.reverse();
+    Ok(OrderedMap::from(map))
 }
 
-fn is_four(map: &OrderedMap<u32, u32>) -> bool {
-    map.len() == 4
-        && map.get_index(0) == Some((&0, &0))
-        && map.get_index(1) == Some((&1, &10))
-        && map.get_index(2) == Some((&2, &20))
-        && map.get_index(3) == Some((&3, &30))
+fn is_four(map: &Map) -> bool {
+    shows_numbers(map.iter(), &[(3, 30), (2, 20), (1, 10), (0, 0)])
 }
 
-// What came back is this entry, and the map is as it was; or the entry is last.
-fn has_or_stays(map: &OrderedMap<u32, u32>, refused: Option<(u32, u32)>, value: u32) -> bool {
+// The calls of a map that ask for memory.
+#[derive(Clone, Copy)]
+enum Call {
+    Insert,
+    Vacant,
+    OrInsert,
+    OrDefault,
+    Extend,
+    SortKeys,
+}
+
+fn under_own(refused: Option<(u32, u32)>) -> Refused {
     match refused {
-        None => map.len() == 5 && map.get_index(4) == Some((&100, &value)),
-        Some(back) => back == (100, value) && is_four(map),
+        Some((key, value)) => Some((Hashed::new(key), value)),
+        None => None,
     }
 }
 
-// The same of an entry that came back with its hash.
-fn has_or_stays_hashed(
-    map: &OrderedMap<u32, u32>,
-    refused: Option<(Hashed<u32>, u32)>,
-    value: u32,
-) -> bool {
-    match refused {
-        None => has_or_stays(map, None, value),
-        Some((key, back)) => {
-            key == Hashed::new(100) && has_or_stays(map, Some((100, back)), value)
+// Puts the key 100 in, and answers what came back.
+fn put(map: &mut Map, call: Call) -> Refused {
+    match call {
+        Call::Insert => under_own(handed_back(map.insert(100, 1))),
+        Call::Vacant => match map.entry(100) {
+            Entry::Vacant(entry) => handed_back(entry.insert(1)),
+            Entry::Occupied(_entry) => None,
+        },
+        Call::OrInsert => handed_back(map.entry(100).or_insert(1)),
+        Call::OrDefault => handed_back(map.entry(100).or_default()),
+        Call::Extend => refused_whole(map.extend([(100, 1)])),
+        Call::SortKeys => refused_whole(map.sort_keys()),
+    }
+}
+
+// What was to come back of a call that hands nothing back.
+fn refused_whole(done: Result<(), AllocError>) -> Refused {
+    match done {
+        Ok(()) => None,
+        Err(_) => Some((Hashed::new(100), 1)),
+    }
+}
+
+// Whether the map is as such a call leaves it.
+fn is_done(map: &Map, call: Call) -> bool {
+    match call {
+        Call::SortKeys => shows_numbers(map.iter(), &[(0, 0), (1, 10), (2, 20), (3, 30)]),
+        Call::OrDefault => map.len() == 5 && map.get_index(4) == Some((&100, &0)),
+        _ => map.len() == 5 && map.get_index(4) == Some((&100, &1)),
+    }
+}
+
+// Whether a call did what it says, at once or, where it was refused, when it was made again.
+fn does(map: &mut Map, call: Call) -> bool {
+    if let Some((key, _value)) = put(map, call) {
+        if key != Hashed::new(100) || !is_four(map) || put(map, call).is_some() {
+            return false;
         }
     }
+    is_done(map, call)
 }
 
-fn map_with_room(alloc: Global) -> Result<OrderedMap<u32, u32>, AllocError> {
-    match OrderedMap::with_capacity(alloc, 40) {
-        Ok(map) => Ok(map),
-        Err(_) => OrderedMap::with_capacity(alloc, 40),
-    }
-}
-
-#[test]
-fn begins_a_map_with_room(rt: HostRuntime) -> Result<(), Fail> {
-    let map = map_with_room(rt.alloc())?;
-    holds(&rt, map.is_empty());
-    Ok(())
-}
-
-fn inserts(map: &mut OrderedMap<u32, u32>) -> bool {
-    let refused = handed_back(map.insert(100, 1));
-    has_or_stays(map, refused, 1)
+// The same of a map of four entries.
+fn changes(alloc: Global, call: Call) -> Result<bool, Fail> {
+    let mut map = four(alloc)?;
+    Ok(does(&mut map, call))
 }
 
 #[test]
 fn takes_an_entry_or_hands_it_back(rt: HostRuntime) -> Result<(), Fail> {
-    let mut map = four(rt.alloc())?;
-    holds(&rt, inserts(&mut map));
+    holds(&rt, changes(rt.alloc(), Call::Insert)?);
     Ok(())
-}
-
-fn fills_vacant(map: &mut OrderedMap<u32, u32>) -> bool {
-    let refused = match map.entry(100) {
-        Entry::Vacant(entry) => handed_back(entry.insert(1)),
-        Entry::Occupied(_entry) => None,
-    };
-    has_or_stays_hashed(map, refused, 1)
 }
 
 #[test]
 fn inserts_through_a_vacant_entry(rt: HostRuntime) -> Result<(), Fail> {
-    let mut map = four(rt.alloc())?;
-    holds(&rt, fills_vacant(&mut map));
+    holds(&rt, changes(rt.alloc(), Call::Vacant)?);
     Ok(())
-}
-
-fn fills_entry(map: &mut OrderedMap<u32, u32>) -> bool {
-    let refused = handed_back(map.entry(100).or_insert(1));
-    has_or_stays_hashed(map, refused, 1)
 }
 
 #[test]
 fn inserts_where_nothing_is(rt: HostRuntime) -> Result<(), Fail> {
-    let mut map = four(rt.alloc())?;
-    holds(&rt, fills_entry(&mut map));
+    holds(&rt, changes(rt.alloc(), Call::OrInsert)?);
     Ok(())
-}
-
-fn fills_by_default(map: &mut OrderedMap<u32, u32>) -> bool {
-    let refused = handed_back(map.entry(100).or_default());
-    has_or_stays_hashed(map, refused, 0)
 }
 
 #[test]
 fn inserts_the_default_value(rt: HostRuntime) -> Result<(), Fail> {
-    let mut map = four(rt.alloc())?;
-    holds(&rt, fills_by_default(&mut map));
+    holds(&rt, changes(rt.alloc(), Call::OrDefault)?);
+    Ok(())
+}
+
+#[test]
+fn takes_more_entries(rt: HostRuntime) -> Result<(), Fail> {
+    holds(&rt, changes(rt.alloc(), Call::Extend)?);
+    Ok(())
+}
+
+#[test]
+fn sorts_a_map(rt: HostRuntime) -> Result<(), Fail> {
+    holds(&rt, changes(rt.alloc(), Call::SortKeys)?);
     Ok(())
 }
 
 // How many times the closure was called, and what came back.
-fn filled_by_closure(map: &mut OrderedMap<u32, u32>) -> (u32, Option<(Hashed<u32>, u32)>) {
+fn filled_by_closure(map: &mut Map) -> (u32, Refused) {
     let mut calls = 0u32;
     let refused = handed_back(
         map.entry(100).or_insert_with(|| {
@@ -119,77 +139,77 @@ fn filled_by_closure(map: &mut OrderedMap<u32, u32>) -> (u32, Option<(Hashed<u32
     (calls, refused)
 }
 
-// The closure is called before the map grows.
+// The closure is called before the map grows, and again only where it was refused.
+fn asks_once(map: &mut Map) -> bool {
+    let (calls, refused) = filled_by_closure(map);
+    let again = match refused {
+        None => (1, None),
+        Some(back) => {
+            if back != (Hashed::new(100), 1) || !is_four(map) {
+                return false;
+            }
+            filled_by_closure(map)
+        }
+    };
+    calls == 1 && again == (1, None) && is_done(map, Call::OrInsert)
+}
+
 #[test]
 fn asks_for_the_value_once(rt: HostRuntime) -> Result<(), Fail> {
     let mut map = four(rt.alloc())?;
-    let (calls, refused) = filled_by_closure(&mut map);
-    same(&rt, calls, 1);
-    holds(&rt, has_or_stays_hashed(&map, refused, 1));
+    holds(&rt, asks_once(&mut map));
     Ok(())
 }
 
-fn one(alloc: Global) -> Result<OrderedMap<u32, char>, AllocError> {
-    match OrderedMap::from_iter(alloc, [(2u32, 'a')]) {
-        Ok(map) => Ok(map),
-        Err(_) => OrderedMap::from_iter(alloc, [(2, 'a')]),
+// The calls that make a map of two entries, or one with room for forty.
+#[derive(Clone, Copy)]
+enum Making {
+    FromIter,
+    Clone,
+    WithCapacity,
+}
+
+fn made(alloc: Global, call: Making) -> Result<Map, AllocError> {
+    match call {
+        Making::FromIter => OrderedMap::from_iter(alloc, [(2, 20), (1, 10)]),
+        Making::Clone => OrderedMap::from_iter(alloc, [(2, 20), (1, 10)])?.clone(),
+        Making::WithCapacity => OrderedMap::with_capacity(alloc, 40),
     }
 }
 
-// A refusal leaves the map, and the second attempt has the memory.
-fn extends(map: &mut OrderedMap<u32, char>) -> bool {
-    map.extend([(1, 'b')]).is_ok()
-        || shows(map.iter(), &[(2, 'a')]) && map.extend([(1, 'b')]).is_ok()
+// Whether such a call makes a map of these entries, at the first attempt or at the second.
+fn makes(alloc: Global, call: Making, entries: &[(u32, u32)]) -> Result<bool, AllocError> {
+    let map = match made(alloc, call) {
+        Ok(map) => map,
+        Err(_) => made(alloc, call)?,
+    };
+    Ok(shows_numbers(map.iter(), entries))
+}
+
+#[test]
+fn begins_a_map_with_room(rt: HostRuntime) -> Result<(), Fail> {
+    holds(&rt, makes(rt.alloc(), Making::WithCapacity, &[])?);
+    Ok(())
 }
 
 #[test]
 fn collects_entries(rt: HostRuntime) -> Result<(), Fail> {
-    let mut map = one(rt.alloc())?;
-    holds(&rt, extends(&mut map));
-    holds(&rt, shows(map.iter(), &[(2, 'a'), (1, 'b')]));
+    let entries = [(2, 20), (1, 10)];
+    holds(&rt, makes(rt.alloc(), Making::FromIter, &entries)?);
     Ok(())
 }
 
-// The keys 2, 1 and 0, each with ten times itself.
-fn falling(alloc: Global) -> Result<OrderedMap<u32, u32>, Fail> {
-    let mut small = tens(alloc, 3)?;
-    small.reverse();
-    Ok(OrderedMap::from(small))
-}
-
-fn falls(map: &OrderedMap<u32, u32>) -> bool {
-    map.len() == 3
-        && map.get_index(0) == Some((&2, &20))
-        && map.get_index(1) == Some((&1, &10))
-        && map.get_index(2) == Some((&0, &0))
-}
-
-fn sorts_map(map: &mut OrderedMap<u32, u32>) -> bool {
-    map.sort_keys().is_ok() || falls(map) && map.sort_keys().is_ok()
-}
-
-fn copied_map(map: &OrderedMap<u32, u32>) -> Result<OrderedMap<u32, u32>, AllocError> {
-    match map.clone() {
-        Ok(copy) => Ok(copy),
-        Err(_) => map.clone(),
-    }
-}
-
 #[test]
-fn sorts_and_copies_a_map(rt: HostRuntime) -> Result<(), Fail> {
-    let mut map = falling(rt.alloc())?;
-    holds(&rt, sorts_map(&mut map));
-    holds(&rt, map.get_index(0) == Some((&0, &0)));
-    let copy = copied_map(&map)?;
-    holds(&rt, copy == map);
+fn copies_a_map(rt: HostRuntime) -> Result<(), Fail> {
+    let entries = [(2, 20), (1, 10)];
+    holds(&rt, makes(rt.alloc(), Making::Clone, &entries)?);
     Ok(())
 }
 
 // The numbers 3, 2, 1, 0, with no room left.
-fn full(alloc: Global) -> Result<OrderedSet<u32>, Fail> {
-    let mut set: OrderedSet<u32> = OrderedSet::new(alloc);
-    for element in 0..4u32 {
-        let element = 3u32.wrapping_sub(element);
+fn full(alloc: Global) -> Result<Set, Fail> {
+    let mut set: Set = OrderedSet::new(alloc);
+    for element in [3, 2, 1, 0] {
         if set.insert(element).is_err() {
             set.insert(element)?;
         }
@@ -197,110 +217,124 @@ fn full(alloc: Global) -> Result<OrderedSet<u32>, Fail> {
     Ok(set)
 }
 
-fn is_full(set: &OrderedSet<u32>) -> bool {
+fn is_full(set: &Set) -> bool {
     shows_elements(set.iter(), &[3, 2, 1, 0])
 }
 
-// What came back is 100, and the set is as it was; or 100 is last.
-fn stands(set: &OrderedSet<u32>, refused: Option<u32>) -> bool {
-    match refused {
-        None => set.len() == 5 && set.last() == Some(&100),
-        Some(element) => element == 100 && is_full(set),
+// The calls of a set that ask for memory.
+#[derive(Clone, Copy)]
+enum SetCall {
+    Insert,
+    InsertUnique,
+    TryInsert,
+    Extend,
+    Sort,
+}
+
+// Puts 100 in, or sorts, and answers what came back, or was to.
+fn put_element(set: &mut Set, call: SetCall) -> Option<u32> {
+    match call {
+        SetCall::Insert => handed_back(set.insert(100)),
+        SetCall::InsertUnique => put_unique(set),
+        SetCall::TryInsert => match set.try_insert(100) {
+            Err(TryInsertError::Memory(refused)) => Some(refused.0),
+            _ => None,
+        },
+        SetCall::Extend => set.extend([100]).err().map(|_| 100),
+        SetCall::Sort => set.sort().err().map(|_| 100),
     }
 }
 
-fn set_with_room(alloc: Global) -> Result<OrderedSet<u32>, AllocError> {
-    match OrderedSet::with_capacity(alloc, 40) {
-        Ok(set) => Ok(set),
-        Err(_) => OrderedSet::with_capacity(alloc, 40),
+fn put_unique(set: &mut Set) -> Option<u32> {
+    if set.get_index_of(&100).is_some() {
+        return None;
+    }
+    handed_back(set.insert_unique_unchecked(100))
+}
+
+fn is_done_to(set: &Set, call: SetCall) -> bool {
+    match call {
+        SetCall::Sort => shows_elements(set.iter(), &[0, 1, 2, 3]),
+        _ => shows_elements(set.iter(), &[3, 2, 1, 0, 100]),
     }
 }
 
-#[test]
-fn begins_a_set_with_room(rt: HostRuntime) -> Result<(), Fail> {
-    let set = set_with_room(rt.alloc())?;
-    holds(&rt, set.is_empty());
-    Ok(())
+// Whether a call did what it says, at once or, where it was refused, when it was made again.
+fn does_to(set: &mut Set, call: SetCall) -> bool {
+    if let Some(back) = put_element(set, call) {
+        if back != 100 || !is_full(set) || put_element(set, call).is_some() {
+            return false;
+        }
+    }
+    is_done_to(set, call)
 }
 
-fn inserts_element(set: &mut OrderedSet<u32>) -> bool {
-    let refused = handed_back(set.insert(100));
-    stands(set, refused)
+// The same of a set of four elements.
+fn changes_set(alloc: Global, call: SetCall) -> Result<bool, Fail> {
+    let mut set = full(alloc)?;
+    Ok(does_to(&mut set, call))
 }
 
 #[test]
 fn takes_an_element_or_hands_it_back(rt: HostRuntime) -> Result<(), Fail> {
-    let mut set = full(rt.alloc())?;
-    holds(&rt, inserts_element(&mut set));
+    holds(&rt, changes_set(rt.alloc(), SetCall::Insert)?);
     Ok(())
-}
-
-fn inserts_unique(set: &mut OrderedSet<u32>) -> bool {
-    if set.get_index_of(&100).is_some() {
-        return false;
-    }
-    let refused = handed_back(set.insert_unique_unchecked(100));
-    stands(set, refused)
 }
 
 #[test]
 fn takes_an_element_without_a_look_up(rt: HostRuntime) -> Result<(), Fail> {
-    let mut set = full(rt.alloc())?;
-    holds(&rt, inserts_unique(&mut set));
+    holds(&rt, changes_set(rt.alloc(), SetCall::InsertUnique)?);
     Ok(())
-}
-
-fn tries(set: &mut OrderedSet<u32>) -> bool {
-    let refused = match set.try_insert(100) {
-        Err(TryInsertError::Memory(refused)) => Some(refused.0),
-        _ => None,
-    };
-    stands(set, refused)
 }
 
 #[test]
 fn tries_an_element_or_hands_it_back(rt: HostRuntime) -> Result<(), Fail> {
-    let mut set = full(rt.alloc())?;
-    holds(&rt, tries(&mut set));
+    holds(&rt, changes_set(rt.alloc(), SetCall::TryInsert)?);
     Ok(())
-}
-
-fn sorts_set(set: &mut OrderedSet<u32>) -> bool {
-    set.sort().is_ok() || is_full(set) && set.sort().is_ok()
-}
-
-fn copied_set(set: &OrderedSet<u32>) -> Result<OrderedSet<u32>, AllocError> {
-    match set.clone() {
-        Ok(copy) => Ok(copy),
-        Err(_) => set.clone(),
-    }
 }
 
 #[test]
-fn sorts_and_copies_a_set(rt: HostRuntime) -> Result<(), Fail> {
-    let mut set = full(rt.alloc())?;
-    holds(&rt, sorts_set(&mut set));
-    holds(&rt, set.first() == Some(&0));
-    let copy = copied_set(&set)?;
-    holds(&rt, copy == set);
+fn takes_more_elements(rt: HostRuntime) -> Result<(), Fail> {
+    holds(&rt, changes_set(rt.alloc(), SetCall::Extend)?);
     Ok(())
 }
 
-fn one_element(alloc: Global) -> Result<OrderedSet<u32>, AllocError> {
-    match OrderedSet::from_iter(alloc, [2u32]) {
-        Ok(set) => Ok(set),
-        Err(_) => OrderedSet::from_iter(alloc, [2]),
+#[test]
+fn sorts_a_set(rt: HostRuntime) -> Result<(), Fail> {
+    holds(&rt, changes_set(rt.alloc(), SetCall::Sort)?);
+    Ok(())
+}
+
+fn made_set(alloc: Global, call: Making) -> Result<Set, AllocError> {
+    match call {
+        Making::FromIter => OrderedSet::from_iter(alloc, [2u32, 1]),
+        Making::Clone => OrderedSet::from_iter(alloc, [2u32, 1])?.clone(),
+        Making::WithCapacity => OrderedSet::with_capacity(alloc, 40),
     }
 }
 
-fn extends_set(set: &mut OrderedSet<u32>) -> bool {
-    set.extend([1]).is_ok() || shows_elements(set.iter(), &[2]) && set.extend([1]).is_ok()
+fn makes_set(alloc: Global, call: Making, elements: &[u32]) -> Result<bool, AllocError> {
+    let set = match made_set(alloc, call) {
+        Ok(set) => set,
+        Err(_) => made_set(alloc, call)?,
+    };
+    Ok(shows_elements(set.iter(), elements))
+}
+
+#[test]
+fn begins_a_set_with_room(rt: HostRuntime) -> Result<(), Fail> {
+    holds(&rt, makes_set(rt.alloc(), Making::WithCapacity, &[])?);
+    Ok(())
 }
 
 #[test]
 fn collects_elements(rt: HostRuntime) -> Result<(), Fail> {
-    let mut set = one_element(rt.alloc())?;
-    holds(&rt, extends_set(&mut set));
-    holds(&rt, shows_elements(set.iter(), &[2, 1]));
+    holds(&rt, makes_set(rt.alloc(), Making::FromIter, &[2, 1])?);
+    Ok(())
+}
+
+#[test]
+fn copies_a_set(rt: HostRuntime) -> Result<(), Fail> {
+    holds(&rt, makes_set(rt.alloc(), Making::Clone, &[2, 1])?);
     Ok(())
 }

@@ -1,4 +1,5 @@
-//! Sets that grow, and what comes back where no room is found.
+//! Sets that are made, grow and are sorted: a call does what it says where memory is there; where it is refused, the set is
+//! as it was, and what was to be put in comes back.
 
 use crate::given::{THRESHOLD, handed_back, holds, shows_elements, under};
 use starlark_hash::{Hashed, TextKey};
@@ -7,7 +8,11 @@ use starlark_small::UNINDEXED;
 use std::alloc::{AllocError, Global};
 use std::test::Fail;
 
-fn with_room(alloc: Global, capacity: usize) -> Result<SmallSet<u32>, AllocError> {
+type Numbers = SmallSet<u32>;
+
+type Refused = Option<Hashed<u32>>;
+
+fn with_room(alloc: Global, capacity: usize) -> Result<Numbers, AllocError> {
     match SmallSet::with_capacity(alloc, capacity) {
         Ok(set) => Ok(set),
         Err(_) => SmallSet::with_capacity(alloc, capacity),
@@ -15,7 +20,7 @@ fn with_room(alloc: Global, capacity: usize) -> Result<SmallSet<u32>, AllocError
 }
 
 // As many numbers as have no index, down to 0, with no room left in the list either.
-fn full(alloc: Global) -> Result<SmallSet<u32>, Fail> {
+fn full(alloc: Global) -> Result<Numbers, Fail> {
     let mut set = with_room(alloc, UNINDEXED)?;
     for element in (0..THRESHOLD).rev() {
         set.insert(element)?;
@@ -23,7 +28,7 @@ fn full(alloc: Global) -> Result<SmallSet<u32>, Fail> {
     Ok(set)
 }
 
-fn is_full(set: &SmallSet<u32>) -> bool {
+fn is_full(set: &Numbers) -> bool {
     let mut walk = set.iter();
     for element in (0..THRESHOLD).rev() {
         if walk.next() != Some(&element) {
@@ -33,105 +38,150 @@ fn is_full(set: &SmallSet<u32>) -> bool {
     walk.next().is_none()
 }
 
-// What came back is 100, and the set is as it was; or 100 is last.
-fn stands(set: &SmallSet<u32>, refused: Option<u32>) -> bool {
-    match refused {
-        None => set.len() == UNINDEXED + 1 && set.last() == Some(&100),
-        Some(element) => { element == 100 && is_full(set) && set.capacity() <= 2 * (UNINDEXED + 1) }
+// The calls that look an element up and put it in.
+#[derive(Clone, Copy)]
+enum Call {
+    Insert,
+    InsertHashed,
+    GetOrInsert,
+    GetOrInsertOwned,
+    InsertUnique,
+    InsertHashedUnique,
+}
+
+// Puts 100 in, and answers what came back.
+fn put(set: &mut Numbers, call: Call) -> Refused {
+    match call {
+        Call::Insert => handed_back(set.insert(100)).map(Hashed::new),
+        Call::InsertHashed => handed_back(set.insert_hashed(Hashed::new(100))),
+        Call::GetOrInsert => handed_back(set.get_or_insert(100)).map(Hashed::new),
+        Call::GetOrInsertOwned => match set.get_or_insert_owned(&100u32) {
+            Ok(_) => None,
+            Err(_) => Some(Hashed::new(100)),
+        },
+        Call::InsertUnique => put_unique(set),
+        Call::InsertHashedUnique => put_hashed_unique(set),
     }
 }
 
-// The same of an element that came back with its hash.
-fn stands_hashed(set: &SmallSet<u32>, refused: Option<Hashed<u32>>) -> bool {
-    match refused {
-        None => stands(set, None),
-        Some(element) => element == Hashed::new(100) && stands(set, Some(100)),
+fn put_unique(set: &mut Numbers) -> Refused {
+    if set.get_index_of(&100).is_some() {
+        return None;
     }
+    handed_back(set.insert_unique_unchecked(100)).map(Hashed::new)
 }
 
-#[test]
-fn begins_with_room(rt: HostRuntime) -> Result<(), Fail> {
-    let set = with_room(rt.alloc(), 40)?;
-    holds(&rt, 40 <= set.capacity());
-    Ok(())
+fn put_hashed_unique(set: &mut Numbers) -> Refused {
+    let element = Hashed::new(100);
+    if set.get_index_of_hashed(element.as_ref()).is_some() {
+        return None;
+    }
+    handed_back(set.insert_hashed_unique_unchecked(element))
 }
 
-fn inserts(set: &mut SmallSet<u32>) -> bool {
-    let refused = handed_back(set.insert(100));
-    stands(set, refused)
+fn has_new(set: &Numbers) -> bool {
+    set.len() == UNINDEXED + 1 && set.last() == Some(&100)
+}
+
+// Whether 100 is last, at the first call or, where that was refused, at the second.
+fn takes(set: &mut Numbers, call: Call) -> bool {
+    if let Some(back) = put(set, call) {
+        let unchanged = back == Hashed::new(100) && is_full(set);
+        if !unchanged || set.capacity() > 2 * (UNINDEXED + 1) || put(set, call).is_some() {
+            return false;
+        }
+    }
+    has_new(set)
+}
+
+// The same of a set that is full.
+fn fills(alloc: Global, call: Call) -> Result<bool, Fail> {
+    let mut set = full(alloc)?;
+    Ok(takes(&mut set, call))
 }
 
 #[test]
 fn takes_an_element_or_hands_it_back(rt: HostRuntime) -> Result<(), Fail> {
-    let mut set = full(rt.alloc())?;
-    holds(&rt, inserts(&mut set));
+    holds(&rt, fills(rt.alloc(), Call::Insert)?);
     Ok(())
-}
-
-fn inserts_hashed(set: &mut SmallSet<u32>) -> bool {
-    let refused = handed_back(set.insert_hashed(Hashed::new(100)));
-    stands_hashed(set, refused)
 }
 
 #[test]
 fn takes_an_element_under_a_hash(rt: HostRuntime) -> Result<(), Fail> {
-    let mut set = full(rt.alloc())?;
-    holds(&rt, inserts_hashed(&mut set));
+    holds(&rt, fills(rt.alloc(), Call::InsertHashed)?);
     Ok(())
-}
-
-fn inserts_unique(set: &mut SmallSet<u32>) -> bool {
-    if set.get_index_of(&100).is_some() {
-        return false;
-    }
-    let refused = handed_back(set.insert_unique_unchecked(100));
-    stands(set, refused)
 }
 
 #[test]
 fn takes_an_element_without_a_look_up(rt: HostRuntime) -> Result<(), Fail> {
-    let mut set = full(rt.alloc())?;
-    holds(&rt, inserts_unique(&mut set));
+    holds(&rt, fills(rt.alloc(), Call::InsertUnique)?);
     Ok(())
-}
-
-fn inserts_hashed_unique(set: &mut SmallSet<u32>) -> bool {
-    let element = Hashed::new(100);
-    if set.get_index_of_hashed(element.as_ref()).is_some() {
-        return false;
-    }
-    let refused = handed_back(set.insert_hashed_unique_unchecked(element));
-    stands_hashed(set, refused)
 }
 
 #[test]
 fn takes_an_element_under_a_hash_without_a_look_up(rt: HostRuntime) -> Result<(), Fail> {
-    let mut set = full(rt.alloc())?;
-    holds(&rt, inserts_hashed_unique(&mut set));
+    holds(&rt, fills(rt.alloc(), Call::InsertHashedUnique)?);
     Ok(())
-}
-
-fn shows_new(set: &mut SmallSet<u32>) -> bool {
-    let refused = handed_back(set.get_or_insert(100));
-    stands(set, refused)
 }
 
 #[test]
 fn shows_a_new_element_or_hands_it_back(rt: HostRuntime) -> Result<(), Fail> {
-    let mut set = full(rt.alloc())?;
-    holds(&rt, shows_new(&mut set));
+    holds(&rt, fills(rt.alloc(), Call::GetOrInsert)?);
     Ok(())
-}
-
-fn makes_new(set: &mut SmallSet<u32>) -> bool {
-    let done = set.get_or_insert_owned(&100u32).is_ok();
-    stands(set, if done { None } else { Some(100) })
 }
 
 #[test]
 fn makes_a_new_element_or_stays(rt: HostRuntime) -> Result<(), Fail> {
-    let mut set = full(rt.alloc())?;
-    holds(&rt, makes_new(&mut set));
+    holds(&rt, fills(rt.alloc(), Call::GetOrInsertOwned)?);
+    Ok(())
+}
+
+// The other calls that ask for memory.
+#[derive(Clone, Copy)]
+enum Change {
+    Reserve,
+    Sort,
+    Extend,
+}
+
+fn did(set: &mut Numbers, call: Change) -> bool {
+    match call {
+        Change::Reserve => set.reserve(40).is_ok(),
+        Change::Sort => set.sort().is_ok(),
+        Change::Extend => set.extend([5, 100]).is_ok(),
+    }
+}
+
+fn is_changed(set: &Numbers, call: Change) -> bool {
+    match call {
+        Change::Reserve => UNINDEXED + 40 <= set.capacity(),
+        Change::Sort => set.first() == Some(&0),
+        Change::Extend => has_new(set),
+    }
+}
+
+// Whether a full set is changed. A refusal leaves it, and the second attempt has the memory.
+fn changes(alloc: Global, call: Change) -> Result<bool, Fail> {
+    let mut set = full(alloc)?;
+    let done = did(&mut set, call) || is_full(&set) && did(&mut set, call);
+    Ok(done && is_changed(&set, call))
+}
+
+#[test]
+fn makes_room_or_stays(rt: HostRuntime) -> Result<(), Fail> {
+    holds(&rt, changes(rt.alloc(), Change::Reserve)?);
+    Ok(())
+}
+
+#[test]
+fn sorts_or_stays(rt: HostRuntime) -> Result<(), Fail> {
+    holds(&rt, changes(rt.alloc(), Change::Sort)?);
+    Ok(())
+}
+
+#[test]
+fn takes_elements_up_to_the_one_that_is_refused(rt: HostRuntime) -> Result<(), Fail> {
+    holds(&rt, changes(rt.alloc(), Change::Extend)?);
     Ok(())
 }
 
@@ -172,98 +222,65 @@ fn makes_a_new_text_or_stays(rt: HostRuntime) -> Result<(), Fail> {
     Ok(())
 }
 
-// A refusal leaves the set, and the second attempt has the memory.
-fn reserves(set: &mut SmallSet<u32>) -> bool {
-    set.reserve(40).is_ok()
-        || is_full(set) && set.capacity() <= 2 * (UNINDEXED + 40) && set.reserve(40).is_ok()
+// The calls that make a set of two elements.
+#[derive(Clone, Copy)]
+enum Making {
+    FromIter,
+    // One element under two hashes.
+    FromIterHashed,
+    Written,
+    Clone,
 }
 
-#[test]
-fn makes_room_or_stays(rt: HostRuntime) -> Result<(), Fail> {
-    let mut set = full(rt.alloc())?;
-    holds(&rt, reserves(&mut set));
-    holds(&rt, UNINDEXED + 40 <= set.capacity());
-    Ok(())
-}
-
-fn sorts(set: &mut SmallSet<u32>) -> bool {
-    set.sort().is_ok() || is_full(set) && set.sort().is_ok()
-}
-
-#[test]
-fn sorts_or_stays(rt: HostRuntime) -> Result<(), Fail> {
-    let mut set = full(rt.alloc())?;
-    holds(&rt, sorts(&mut set));
-    holds(&rt, set.first() == Some(&0));
-    Ok(())
-}
-
-fn extends(set: &mut SmallSet<u32>) -> bool {
-    set.extend([5, 100]).is_ok() || is_full(set) && set.extend([5, 100]).is_ok()
-}
-
-#[test]
-fn takes_elements_up_to_the_one_that_is_refused(rt: HostRuntime) -> Result<(), Fail> {
-    let mut set = full(rt.alloc())?;
-    holds(&rt, extends(&mut set));
-    holds(&rt, stands(&set, None));
-    Ok(())
-}
-
-fn copied(set: &SmallSet<u32>) -> Result<SmallSet<u32>, AllocError> {
-    match set.clone() {
-        Ok(copy) => Ok(copy),
-        Err(_) => set.clone(),
+fn made(alloc: Global, call: Making) -> Result<Numbers, AllocError> {
+    match call {
+        Making::FromIter => SmallSet::from_iter(alloc, [1u32, 2]),
+        Making::FromIterHashed => SmallSet::from_iter_hashed(alloc, [under(7, 1), under(8, 1)]),
+        Making::Written => smallset![alloc; 1u32, 2],
+        Making::Clone => smallset![alloc; 1u32, 2]?.clone(),
     }
 }
 
-#[test]
-fn copies_a_set(rt: HostRuntime) -> Result<(), Fail> {
-    let set = full(rt.alloc())?;
-    let copy = copied(&set)?;
-    holds(&rt, copy == set);
-    Ok(())
-}
-
-fn collected(alloc: Global) -> Result<SmallSet<u32>, AllocError> {
-    match SmallSet::from_iter(alloc, [1u32, 2]) {
+fn made_at_last(alloc: Global, call: Making) -> Result<Numbers, AllocError> {
+    match made(alloc, call) {
         Ok(set) => Ok(set),
-        Err(_) => SmallSet::from_iter(alloc, [1, 2]),
+        Err(_) => made(alloc, call),
     }
+}
+
+// Whether such a call makes a set of these elements.
+fn makes(alloc: Global, call: Making, elements: &[u32]) -> Result<bool, AllocError> {
+    let set = made_at_last(alloc, call)?;
+    Ok(shows_elements(set.iter(), elements))
 }
 
 #[test]
 fn collects_elements(rt: HostRuntime) -> Result<(), Fail> {
-    let set = collected(rt.alloc())?;
-    holds(&rt, shows_elements(set.iter(), &[1, 2]));
+    holds(&rt, makes(rt.alloc(), Making::FromIter, &[1, 2])?);
     Ok(())
-}
-
-// One element under two hashes.
-fn collected_hashed(alloc: Global) -> Result<SmallSet<u32>, AllocError> {
-    match SmallSet::from_iter_hashed(alloc, [under(7, 1u32), under(8, 1)]) {
-        Ok(set) => Ok(set),
-        Err(_) => SmallSet::from_iter_hashed(alloc, [under(7, 1), under(8, 1)]),
-    }
 }
 
 #[test]
 fn collects_elements_under_hashes(rt: HostRuntime) -> Result<(), Fail> {
-    let set = collected_hashed(rt.alloc())?;
-    holds(&rt, shows_elements(set.iter(), &[1, 1]));
+    holds(&rt, makes(rt.alloc(), Making::FromIterHashed, &[1, 1])?);
     Ok(())
-}
-
-fn written(alloc: Global) -> Result<SmallSet<u32>, AllocError> {
-    match smallset![alloc; 1u32, 2] {
-        Ok(set) => Ok(set),
-        Err(_) => smallset![alloc; 1u32, 2],
-    }
 }
 
 #[test]
 fn writes_elements_out(rt: HostRuntime) -> Result<(), Fail> {
-    let set = written(rt.alloc())?;
-    holds(&rt, shows_elements(set.iter(), &[1, 2]));
+    holds(&rt, makes(rt.alloc(), Making::Written, &[1, 2])?);
+    Ok(())
+}
+
+#[test]
+fn copies_a_set(rt: HostRuntime) -> Result<(), Fail> {
+    holds(&rt, makes(rt.alloc(), Making::Clone, &[1, 2])?);
+    Ok(())
+}
+
+#[test]
+fn begins_with_room(rt: HostRuntime) -> Result<(), Fail> {
+    let set = with_room(rt.alloc(), 40)?;
+    holds(&rt, 40 <= set.capacity());
     Ok(())
 }

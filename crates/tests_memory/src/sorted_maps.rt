@@ -44,7 +44,7 @@ fn rises(map: &SortedMap<u32, u32>) -> bool {
 fn sorts(map: Numbers) -> bool {
     match SortedMap::from_small_map(map) {
         Ok(sorted) => rises(&sorted),
-        Err(back) => falls(back.iter()),
+        Err(back) => falls(back.iter()) && SortedMap::from_small_map(back).is_ok(),
     }
 }
 
@@ -58,7 +58,7 @@ fn sorts_a_map_or_hands_it_back(rt: HostRuntime) -> Result<(), Fail> {
 fn sorts_ordered(map: OrderedMap<u32, u32>) -> bool {
     match SortedMap::from_ordered_map(map) {
         Ok(sorted) => rises(&sorted),
-        Err(back) => falls(back.iter()),
+        Err(back) => falls(back.iter()) && SortedMap::from_ordered_map(back).is_ok(),
     }
 }
 

@@ -30,7 +30,9 @@ fn rises(set: &SortedSet<u32>) -> bool {
 fn sorts(set: SmallSet<u32>) -> bool {
     match SortedSet::from_small_set(set) {
         Ok(sorted) => rises(&sorted),
-        Err(back) => shows_elements(back.iter(), MIXED.as_slice()),
+        Err(back) => {
+            shows_elements(back.iter(), MIXED.as_slice()) && SortedSet::from_small_set(back).is_ok()
+        }
     }
 }
 
@@ -44,7 +46,10 @@ fn sorts_a_set_or_hands_it_back(rt: HostRuntime) -> Result<(), Fail> {
 fn sorts_ordered(set: OrderedSet<u32>) -> bool {
     match SortedSet::from_ordered_set(set) {
         Ok(sorted) => rises(&sorted),
-        Err(back) => shows_elements(back.iter(), MIXED.as_slice()),
+        Err(back) => {
+            shows_elements(back.iter(), MIXED.as_slice())
+                && SortedSet::from_ordered_set(back).is_ok()
+        }
     }
 }
 
@@ -65,7 +70,9 @@ fn vector(alloc: Global) -> Result<SortedVec<u32>, AllocError> {
 fn takes(vec: SortedVec<u32>) -> bool {
     match SortedSet::from_sorted_vec(vec) {
         Ok(sorted) => rises(&sorted),
-        Err(back) => back.iter().as_slice() == RISING.as_slice(),
+        Err(back) => {
+            back.iter().as_slice() == RISING.as_slice() && SortedSet::from_sorted_vec(back).is_ok()
+        }
     }
 }
 

@@ -31,7 +31,7 @@ fn ascends(sorted: &SortedVec<u32>) -> bool {
 fn sorts(vec: Vec<u32>) -> bool {
     match SortedVec::from_vec(vec) {
         Ok(sorted) => ascends(&sorted),
-        Err(back) => back.as_slice() == MIXED.as_slice(),
+        Err(back) => back.as_slice() == MIXED.as_slice() && SortedVec::from_vec(back).is_ok(),
     }
 }
 

@@ -28,64 +28,72 @@ fn counts_to(set: &UnorderedSet<u32>, count: u32) -> bool {
     set.len() == count as usize
 }
 
-// The next number went in; or it came back, the set stays, and the second attempt has the memory.
-fn stands(set: &mut UnorderedSet<u32>, element: u32, refused: Option<u32>) -> bool {
-    match refused {
-        None => counts_to(set, element.wrapping_add(1)),
-        Some(back) => back == element && counts_to(set, element) && set.insert(element).is_ok(),
+// The calls that put an element in.
+#[derive(Clone, Copy)]
+enum Call {
+    Insert,
+    RawInsert,
+    RawInsertHashed,
+}
+
+// Puts an element in, and answers what came back.
+fn put(set: &mut UnorderedSet<u32>, element: u32, call: Call) -> Option<u32> {
+    match call {
+        Call::Insert => handed_back(set.insert(element)),
+        Call::RawInsert => match set.raw_entry_mut().from_entry(&element) {
+            RawEntryMut::Vacant(entry) => handed_back(entry.insert(element)),
+            RawEntryMut::Occupied(_entry) => None,
+        },
+        Call::RawInsertHashed => put_hashed(set, element),
     }
 }
 
-fn inserts(set: &mut UnorderedSet<u32>, element: u32) -> bool {
-    let refused = handed_back(set.insert(element));
-    stands(set, element, refused)
-}
-
-#[test]
-fn takes_an_element_or_hands_it_back(rt: HostRuntime) -> Result<(), Fail> {
-    let mut set: UnorderedSet<u32> = UnorderedSet::new(rt.alloc());
-    for element in 0u32..20 {
-        holds(&rt, inserts(&mut set, element));
-    }
-    Ok(())
-}
-
-fn fills_raw(set: &mut UnorderedSet<u32>, element: u32) -> bool {
-    let refused = match set.raw_entry_mut().from_entry(&element) {
-        RawEntryMut::Vacant(entry) => handed_back(entry.insert(element)),
-        RawEntryMut::Occupied(_entry) => None,
-    };
-    stands(set, element, refused)
-}
-
-#[test]
-fn takes_an_element_through_a_raw_entry(rt: HostRuntime) -> Result<(), Fail> {
-    let mut set: UnorderedSet<u32> = UnorderedSet::new(rt.alloc());
-    for element in 0u32..20 {
-        holds(&rt, fills_raw(&mut set, element));
-    }
-    Ok(())
-}
-
-fn fills_raw_hashed(set: &mut UnorderedSet<u32>, element: u32) -> bool {
+fn put_hashed(set: &mut UnorderedSet<u32>, element: u32) -> Option<u32> {
     let hashed = Hashed::new(element);
     let refused = match set.raw_entry_mut().from_entry(&element) {
         RawEntryMut::Vacant(entry) => handed_back(entry.insert_hashed(hashed)),
         RawEntryMut::Occupied(_entry) => None,
     };
     match refused {
-        None => stands(set, element, None),
-        Some(back) => back == hashed && stands(set, element, Some(element)),
+        Some(back) if back == hashed => Some(back.into_key()),
+        _ => None,
     }
 }
 
-#[test]
-fn takes_an_element_through_a_raw_entry_under_a_hash(rt: HostRuntime) -> Result<(), Fail> {
-    let mut set: UnorderedSet<u32> = UnorderedSet::new(rt.alloc());
-    for element in 0u32..20 {
-        holds(&rt, fills_raw_hashed(&mut set, element));
+// The next number went in; or it came back, the set stays, and the second attempt has the memory.
+fn takes(set: &mut UnorderedSet<u32>, element: u32, call: Call) -> bool {
+    if let Some(back) = put(set, element, call) {
+        if back != element || !counts_to(set, element) || put(set, element, call).is_some() {
+            return false;
+        }
     }
-    Ok(())
+    counts_to(set, element.wrapping_add(1))
+}
+
+// The same of twenty numbers in turn.
+fn takes_twenty(alloc: Global, call: Call) -> bool {
+    let mut set: UnorderedSet<u32> = UnorderedSet::new(alloc);
+    for element in 0u32..20 {
+        if !takes(&mut set, element, call) {
+            return false;
+        }
+    }
+    true
+}
+
+#[test]
+fn takes_an_element_or_hands_it_back(rt: HostRuntime) {
+    holds(&rt, takes_twenty(rt.alloc(), Call::Insert));
+}
+
+#[test]
+fn takes_an_element_through_a_raw_entry(rt: HostRuntime) {
+    holds(&rt, takes_twenty(rt.alloc(), Call::RawInsert));
+}
+
+#[test]
+fn takes_an_element_through_a_raw_entry_under_a_hash(rt: HostRuntime) {
+    holds(&rt, takes_twenty(rt.alloc(), Call::RawInsertHashed));
 }
 
 fn with_room(alloc: Global) -> Result<UnorderedSet<u32>, AllocError> {
@@ -130,7 +138,7 @@ fn ascends(elements: &[&u32]) -> bool {
 fn shows_sorted(set: &UnorderedSet<u32>) -> bool {
     match set.entries_sorted() {
         Ok(sorted) => ascends(&sorted),
-        Err(_) => counts_to(set, 40),
+        Err(_) => counts_to(set, 40) && set.entries_sorted().is_ok(),
     }
 }
 
