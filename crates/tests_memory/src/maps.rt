@@ -10,7 +10,7 @@ fn reserves(map: &mut Numbers) -> bool {
     map.reserve(40).is_ok()
         || is_tens(map, 3)
             && map.index().is_none()
-            && map.capacity() <= 86
+            && map.capacity() <= 43
             && map.reserve(40).is_ok()
 }
 
