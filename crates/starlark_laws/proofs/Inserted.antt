@@ -1,5 +1,5 @@
 -- Keys and room after an insertion.
-use Rattle.std.proofs.Common.{◌≡◌, ℕ, zero, suc, ◌+◌, ◌≤◌, ◌<◌, Bool, List, [], ◌∷◌, ◌++◌, length, Option, None, Some, IsSome, is_some, Result, Ok, Err, IfOk, IsOk, IsErr, OnOk, OnErr, MatchResult, refl, sym, ap, ◌∙◌, arith}
+use Rattle.std.proofs.Common.{◌≡◌, ℕ, zero, suc, ◌+◌, ◌≤◌, ◌<◌, Bool, List, [], ◌∷◌, ◌++◌, length, Option, None, Some, IsSome, is_some, Result, Ok, Err, IfOk, IsOk, IsErr, OnOk, OnErr, MatchResult, refl, sym, ap, subst, ◌∙◌, arith}
 use Rattle.std.specs.Map.{keys_of}
 use Rattle.std.specs.Option.{option_map_or}
 use Rattle.std.proofs.lemmas.Bool.{false≢true}
@@ -39,6 +39,13 @@ module _ {K V : Type 0} where
   HasRoom-inserted eq key value n (Err e) s room put done kept = absurd room
   HasRoom-inserted eq key value n (Ok old) (Err e) room put done kept = absurd (false≢true (done (omega (arith, room))))
   HasRoom-inserted eq key value n (Ok old) (Ok new) room put done kept = omega (arith, room, kept.room, ap length put, length_insert_le eq old.entries key value)
+
+  -- the entries of a map that was made of these by an insertion, if both were done
+  pub entries-inserted : {E : Type 0} (eq : K → K → Bool) (es : List (Entry K V)) (key : Hashed K) (value : V) (r s : Result (Map K V) E) → IfOk r (λ m. m.entries ≡ es)
+      → MatchResult r (λ old. IfOk s (λ new. new.entries ≡ insert_entry eq old.entries key value)) (λ _. IsErr s) → IfOk s (λ m. m.entries ≡ insert_entry eq es key value)
+  entries-inserted eq es key value r (Err e) were put = tt
+  entries-inserted eq es key value (Ok old) (Ok new) were put = subst (λ (ds : List (Entry K V)). new.entries ≡ insert_entry eq ds key value) were put
+  entries-inserted eq es key value (Err e) (Ok new) were put = absurd (false≢true put)
 
   pub IsOk-HasRoom : {E : Type 0} (n : ℕ) (r : Result (Map K V) E) → HasRoom n r → IsOk r
   IsOk-HasRoom n (Ok m) room = refl
