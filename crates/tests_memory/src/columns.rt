@@ -10,15 +10,15 @@ fn copies_a_row(rt: HostRuntime) -> Result<(), Fail> {
         Ok(rows) => rows,
         Err(_) => with_rows(rt.alloc(), 2)?,
     };
-    items.push_last(0, 1u32);
-    items.push_last(1, 2);
-    if items.clone_items(2, &mut clones).is_ok() {
+    items.push_last(2, 0, 1u32);
+    items.push_last(2, 1, 2);
+    if items.clone_items(2, &mut clones, 2).is_ok() {
         holds(&rt, clones.items(2) == [1u32, 2].as_slice());
-        clones.truncate(2, 0);
+        clones.truncate(2, 2, 0);
     }
     holds(&rt, items.items(2) == [1u32, 2].as_slice());
-    items.truncate(2, 0);
-    give_back(rt.alloc(), items, clones, block);
+    items.truncate(2, 2, 0);
+    give_back(rt.alloc(), 2, items, clones, block);
     Ok(())
 }
 
@@ -29,6 +29,6 @@ fn makes_two_rows(rt: HostRuntime) -> Result<(), Fail> {
         Err(_) => with_rows::<u64, u16>(rt.alloc(), 2)?,
     };
     holds(&rt, firsts.items(0).is_empty());
-    give_back(rt.alloc(), firsts, seconds, block);
+    give_back(rt.alloc(), 2, firsts, seconds, block);
     Ok(())
 }
