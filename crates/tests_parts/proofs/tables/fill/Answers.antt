@@ -16,7 +16,7 @@ pub loop-item-preserved : goal.loop-item-preserved
 loop-item-preserved c =
     let k = c.loop-item.invariant in
     let ok : is_err c.insert_unique.result ≡ false = sym c.is_err.ensures.value ∙ c.if-is_err.false in
-    let room = was_ok c.insert_unique.result ok c.insert_unique.ensures.room in
+    let room = (was_ok c.insert_unique.result ok c.insert_unique.ensures.room).least in
     let one : table_len c.insert_unique.new.self ≡ table_len c.loop-item.table + 1 = length_permutation _ _ (was_ok c.insert_unique.result ok c.insert_unique.ensures.added) ∙ omega arith in
     record {
       fits = still_fits c.args.count c.loop-item.item _ _ _ _ k.fits room one;
