@@ -34,7 +34,7 @@ demo: ## plays a few lines on the scopes of an interpreter, with no proof, in ab
 	$(says)
 	@cd crates/program_demo && rt try
 
-check: ## proves CRATE and what it stands on: a minute or two for each crate the first time, then seconds
+check: ## proves CRATE and what it stands on: minutes for each crate the first time, then seconds
 	$(says)
 	@./examples/crate "$$CRATE"
 	@cd "crates/$$CRATE" && rt check
