@@ -1,4 +1,4 @@
--- The fields of a line.
+-- The fields of a text.
 use Rattle.std.proofs.Common.{◌≡◌, ◌≢◌, ℕ, ◌<◌, ◌≤◌, List, [], ◌∷◌, ◌++◌, length, get_or, Bool, true, false, Option, Some, None, refl, sym, ap, subst, ◌∙◌, arith, lit<}
 use Rattle.std.specs.Prelude.{◌==◌, ◌&&◌, nat_lt, All, MatchOption, IsUtf8, codes}
 use Rattle.std.specs.List.{join_with_byte, AllByRecursion}
@@ -11,7 +11,7 @@ use Rattle.std.proofs.lemmas.Str.Ascii.{IsAscii-nil, IsAscii-cons, IsAscii-from_
 use Rattle.std.proofs.lemmas.Fmt.{IsAscii-decimal, IsAscii-signed}
 use Rattle.std.proofs.lemmas.Bool.Decides.{nat_tests}
 use Rattle.starlark_hash.specs.HashValue.{hash_number, hash_of, key_of}
-use Rattle.script_lines.specs.Commands.{Key, Command, Put, Get, Del, At, Pop, Rev, Sort, Clear, Reserve, Slim, Len, Walk, fields_of, fields, hash_text, IsKey, IsLawful, IsLineOf, IsBad}
+use Rattle.script_lines.specs.Line.{Key, Line, Put, Get, Del, At, Pop, Rev, Sort, Clear, Reserve, Slim, Len, Walk, fields_of, fields, hash_text, IsKey, IsLawful, IsTextOf, IsBad}
 use Rattle.script_lines.proofs.Numbers.{fits-mag}
 
 no-space : (b : ℕ) → b ≢ 32 → (b == 32) ≡ false
@@ -23,23 +23,23 @@ HasNoSpace xs = (i : ℕ) → i < length xs → get_or xs i 0 ≢ 32
 untested : (xs : List ℕ) → HasNoSpace xs → All (λ b. (b == 32) ≡ false) xs
 untested xs h = All-from_get_or (λ b. (b == 32) ≡ false) xs 0 (λ i k. no-space (get_or xs i 0) (h i k))
 
-fields-cut : (line a rest : List ℕ) → line ≡ a ++ (32 ∷ rest) → HasNoSpace a → fields_of line ≡ a ∷ fields_of rest
-fields-cut line a rest e h = ap fields_of e ∙ slice_split_at (λ b. b == 32) a 32 rest (untested a h) refl
+fields-cut : (text a rest : List ℕ) → text ≡ a ++ (32 ∷ rest) → HasNoSpace a → fields_of text ≡ a ∷ fields_of rest
+fields-cut text a rest e h = ap fields_of e ∙ slice_split_at (λ b. b == 32) a 32 rest (untested a h) refl
 
-fields-whole : (line : List ℕ) → HasNoSpace line → fields_of line ≡ line ∷ []
-fields-whole line h = slice_split_none (λ b. b == 32) line (untested line h)
+fields-whole : (text : List ℕ) → HasNoSpace text → fields_of text ≡ text ∷ []
+fields-whole text h = slice_split_none (λ b. b == 32) text (untested text h)
 
 -- what a cut at the first space says of the fields
-pub cut-fields : (line : List ℕ) (r : Option (Bor (List ℕ) × Bor (List ℕ)))
-    → MatchOption r (HasNoSpace line) (λ x. (line ≡ x.0.now ++ (32 ∷ x.1.now)) × HasNoSpace x.0.now)
-    → MatchOption r (fields_of line ≡ line ∷ []) (λ x. fields_of line ≡ x.0.now ∷ fields_of x.1.now)
-cut-fields line None h = fields-whole line h
-cut-fields line (Some x) h = fields-cut line x.0.now x.1.now h.0 h.1
+pub cut-fields : (text : List ℕ) (r : Option (Bor (List ℕ) × Bor (List ℕ)))
+    → MatchOption r (HasNoSpace text) (λ x. (text ≡ x.0.now ++ (32 ∷ x.1.now)) × HasNoSpace x.0.now)
+    → MatchOption r (fields_of text ≡ text ∷ []) (λ x. fields_of text ≡ x.0.now ∷ fields_of x.1.now)
+cut-fields text None h = fields-whole text h
+cut-fields text (Some x) h = fields-cut text x.0.now x.1.now h.0 h.1
 
-pub some-field : (line : List ℕ) → 0 < length (fields_of line)
-some-field line = omega (arith, length-slice_split (λ b. b == 32) line)
+pub some-field : (text : List ℕ) → 0 < length (fields_of text)
+some-field text = omega (arith, length-slice_split (λ b. b == 32) text)
 
--- a line of a command is ASCII
+-- the text of a line is ASCII
 join-ascii : (c : ℕ) (fs : List (List ℕ)) → c < 128 → AllByRecursion IsAscii fs → IsAscii (join_with_byte c fs)
 join-ascii c [] h g = IsAscii-nil
 join-ascii c (x ∷ []) h g = g.0
@@ -68,7 +68,7 @@ word (b ∷ bs) e = by (nat_lt b 128) refl (small bs) refl e (word bs)
     by true x false y e w = cc
     by false x u y e w = cc
 
-fields-ascii : (c : Command) → IsLawful c → AllByRecursion IsAscii (fields c)
+fields-ascii : (c : Line) → IsLawful c → AllByRecursion IsAscii (fields c)
 fields-ascii (Put key v) l = (word (codes "put") refl, (hash-ascii key l.0, (key-ascii key l.0, (IsAscii-signed v (fits-mag v l.1), tt))))
 fields-ascii (Get key) l = (word (codes "get") refl, (hash-ascii key l, (key-ascii key l, tt)))
 fields-ascii (Del key) l = (word (codes "del") refl, (hash-ascii key l, (key-ascii key l, tt)))
@@ -82,10 +82,10 @@ fields-ascii Slim l = (word (codes "slim") refl, tt)
 fields-ascii Len l = (word (codes "len") refl, tt)
 fields-ascii Walk l = (word (codes "walk") refl, tt)
 
-pub line-ascii : (line : List ℕ) (c : Command) → IsLineOf line c → IsAscii line
-line-ascii line c h =
-    let e : join_with_byte 32 (fields c) ≡ line = ap (join_with_byte 32) (sym h.written) ∙ join_with_byte-slice_split 32 line in
+pub text-ascii : (text : List ℕ) (c : Line) → IsTextOf text c → IsAscii text
+text-ascii text c h =
+    let e : join_with_byte 32 (fields c) ≡ text = ap (join_with_byte 32) (sym h.written) ∙ join_with_byte-slice_split 32 text in
     subst IsAscii e (join-ascii 32 (fields c) (lit< tt) (fields-ascii c h.lawful))
 
-pub not-text-is-bad : (line : List ℕ) → ¬ (IsUtf8 line) → IsBad line
-not-text-is-bad line h = λ c w. h (IsUtf8-from_ascii line (line-ascii line c w))
+pub not-text-is-bad : (text : List ℕ) → ¬ (IsUtf8 text) → IsBad text
+not-text-is-bad text h = λ c w. h (IsUtf8-from_ascii text (text-ascii text c w))

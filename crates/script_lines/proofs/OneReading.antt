@@ -1,4 +1,4 @@
--- A line is that of one command at most.
+-- A text is that of one line at most.
 use Rattle.std.proofs.Common.{◌≡◌, ℕ, true, List, [], get_or, refl, sym, ap, ◌∙◌, arith}
 use Rattle.std.specs.Prelude.{decimal}
 use Rattle.std.specs.Cmp.Lexicographic.{nat_list_eq_equiv}
@@ -7,7 +7,7 @@ use Rattle.std.specs.Str.{bytes_eq}
 use Rattle.std.proofs.lemmas.Bool.{false≢true}
 use Rattle.std.proofs.lemmas.Fmt.{decimal_injective, signed_decimal_injective}
 use Rattle.starlark_hash.specs.HashValue.{hash_number, hash_of, key_of}
-use Rattle.script_lines.specs.Commands.{Key, Command, Put, Get, Del, At, Pop, Rev, Sort, Clear, Reserve, Slim, Len, Walk, fields, hash_text, IsKey, IsLawful, LinesAreOfOne}
+use Rattle.script_lines.specs.Line.{Key, Line, Put, Get, Del, At, Pop, Rev, Sort, Clear, Reserve, Slim, Len, Walk, fields, hash_text, IsKey, IsLawful, TextsAreOfOne}
 use Rattle.script_lines.proofs.Numbers.{fits-mag}
 
 one-key : (j k : Key) → IsKey j → IsKey k → hash_text j ≡ hash_text k → key_of j ≡ key_of k → j ≡ k
@@ -16,11 +16,11 @@ one-key j k p q a b =
     let of : ℕ → List ℕ → Key = λ n text. record { hash = record { 0 = n }; key = text } in
     ap (λ n. of n (key_of j)) m ∙ ap (λ text. of (hash_number (hash_of k)) text) b
 
--- two lines of one command begin with one word
-same-word : (c d : Command) → fields c ≡ fields d → bytes_eq (get_or (fields c) 0 []) (get_or (fields d) 0 []) ≡ true
+-- two lines with one text begin with one word
+same-word : (c d : Line) → fields c ≡ fields d → bytes_eq (get_or (fields c) 0 []) (get_or (fields d) 0 []) ≡ true
 same-word c d e = ap (λ (fs : List (List ℕ)). bytes_eq (get_or (fields c) 0 []) (get_or fs 0 [])) (sym e) ∙ nat_list_eq_equiv.refl (get_or (fields c) 0 [])
 
-one : (c d : Command) → IsLawful c → IsLawful d → fields c ≡ fields d → c ≡ d
+one : (c d : Line) → IsLawful c → IsLawful d → fields c ≡ fields d → c ≡ d
 one (Put j v) (Put k w) p q e =
     let a : hash_text j ≡ hash_text k = cc in
     let b : key_of j ≡ key_of k = cc in
@@ -51,5 +51,5 @@ one Len Len p q e = refl
 one Walk Walk p q e = refl
 one c d p q e = absurd (false≢true (same-word c d e))
 
-pub one-reading : LinesAreOfOne
-one-reading line c d g h = one c d g.lawful h.lawful (sym g.written ∙ h.written)
+pub one-reading : TextsAreOfOne
+one-reading text c d g h = one c d g.lawful h.lawful (sym g.written ∙ h.written)

@@ -1,5 +1,5 @@
 pub mod Numbers
-pub mod Commands
+pub mod Line
 pub mod Fault
 pub mod Found
 pub mod Shown

@@ -3,18 +3,18 @@ use Rattle.std.specs.Prelude.{◌≡◌, ℕ, ◌<◌, ◌≤◌, List, [], ◌�
 use Rattle.starlark_hash.specs.declared.hashed.Hashed.{Hashed}
 use Rattle.starlark_hash.specs.declared.text_key.TextKey.{TextKey}
 use Rattle.starlark_hash.specs.HashValue.{hashed, hash_of, key_of}
-use Rattle.script_lines.specs.Commands as script
-use Rattle.script_lines.specs.declared.command.Command.{Command}
-use Rattle.script_lines.specs.declared.command.Command.TheVariants.{Put, Get, Del, At, Pop, Rev, Sort, Clear, Reserve, Slim, Len, Walk}
-use Rattle.script_lines.specs.declared.command.Fields.{Fields}
-use Rattle.script_lines.specs.declared.command.Fields.TheVariants.{One, Two, Three, Four, More}
+use Rattle.script_lines.specs.Line as script
+use Rattle.script_lines.specs.declared.line.Line.{Line}
+use Rattle.script_lines.specs.declared.line.Line.TheVariants.{Put, Get, Del, At, Pop, Rev, Sort, Clear, Reserve, Slim, Len, Walk}
+use Rattle.script_lines.specs.declared.line.Fields.{Fields}
+use Rattle.script_lines.specs.declared.line.Fields.TheVariants.{One, Two, Three, Four, More}
 
 -- a key that a text stands for
 abbrev pub shown_key : Hashed TextKey → script.Key
 shown_key key = hashed (hash_of key) (key_of key).0.now
 
--- a command of the program as a command of the definitions
-abbrev pub shown : Command → script.Command
+-- a line of the program as a line of the definitions
+abbrev pub shown : Line → script.Line
 shown (Put key value) = script.Put (shown_key key) value
 shown (Get key) = script.Get (shown_key key)
 shown (Del key) = script.Del (shown_key key)

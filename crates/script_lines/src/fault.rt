@@ -8,7 +8,7 @@ use std::fmt;
 /// Why a script was not played to its end.
 #[derive(Clone, Copy, Debug, PartialEq, Eq)]
 pub enum PlayFault {
-    /// The line of this number, counted from 1, is no command.
+    /// The line of this number, counted from 1, is bad.
     BadLine(u64),
     /// A request for memory was refused.
     Memory,

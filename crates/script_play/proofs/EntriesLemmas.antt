@@ -14,7 +14,7 @@ use Rattle.starlark_lists.specs.Entries.{Entry, entry_value, pair_of, entry_at, 
 use Rattle.starlark_lists.specs.Insertion.{insert_entry}
 use Rattle.starlark_hash.specs.HashValue.{hashed, hash_of, key_of}
 use Rattle.starlark_lists.specs.Sorting.{Ascends, key_lt, sorted_by_key}
-use Rattle.script_lines.specs.Commands.{Key}
+use Rattle.script_lines.specs.Line.{Key}
 use Rattle.script_play.specs.Replies.{bytes_cmp}
 use Rattle.script_play.specs.ShownEntries.{shown_entry, entries_of}
 use Rattle.script_play.proofs.Images.{position-map, remove-map, reverse-map, sorted_by-map, ascends-map}

@@ -1,4 +1,4 @@
-pub use Rattle.script_lines.specs.Commands
+pub use Rattle.script_lines.specs.Line
 pub use Rattle.script_lines.specs.Shown
 pub mod Lines
 pub mod Memory

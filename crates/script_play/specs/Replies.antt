@@ -1,4 +1,4 @@
--- What is answered to the commands of a script.
+-- What is answered to the lines of a script.
 use Rattle.std.specs.Prelude.{◌≡◌, ℕ, ◌-◌, ◌<◌, ℤ, List, [], ◌∷◌, ◌++◌, length, remove, reverse, slice_get, Option, Some, None, codes, decimal, flat_map}
 use Rattle.std.specs.Cmp.Lexicographic.{slice_cmp}
 use Rattle.std.specs.Fmt.{signed_decimal}
@@ -9,7 +9,7 @@ use Rattle.std.specs.declared.cmp.Ordering.{Ordering}
 use Rattle.starlark_lists.specs.Entries.{Entry, entry_key, entry_value, pair_of, value_at, match_of, without}
 use Rattle.starlark_lists.specs.Insertion.{insert_entry}
 use Rattle.starlark_lists.specs.Sorting.{Ascends, sorted_by_key}
-use Rattle.script_lines.specs.Commands.{Command, Put, Get, Del, At, Pop, Rev, Sort, Clear, Reserve, Slim, Len, Walk, hash_text}
+use Rattle.script_lines.specs.Line.{Line, Put, Get, Del, At, Pop, Rev, Sort, Clear, Reserve, Slim, Len, Walk, hash_text}
 
 -- the entries of a script's map in order: hash, bytes of the key, and value. The words on lists of entries are used on them as
 -- they stand, with equality of bytes
@@ -38,8 +38,8 @@ pair_text (Some p) = ended (codes "some " ++ p.0 ++ codes " " ++ signed_decimal 
 abbrev pub entry_text : Entry (List ℕ) ℤ → List ℕ
 entry_text e = ended (hash_text e.0 ++ codes " " ++ entry_key e ++ codes " " ++ signed_decimal (entry_value e))
 
--- what is answered to a command at these entries, line feeds included
-abbrev pub reply : Entries → Command → List ℕ
+-- what is answered to a line at these entries, line feeds included
+abbrev pub reply : Entries → Line → List ℕ
 reply es (Put key value) = value_text (value_at es (match_of bytes_eq es key))
 reply es (Get key) = value_text (value_at es (match_of bytes_eq es key))
 reply es (Del key) = value_text (value_at es (match_of bytes_eq es key))
@@ -53,8 +53,8 @@ reply es Slim = ended (codes "ok")
 reply es Len = ended (decimal (length es))
 reply es Walk = flat_map entry_text es
 
--- the entries after a command
-abbrev pub after : Entries → Command → Entries
+-- the entries after a line
+abbrev pub after : Entries → Line → Entries
 after es (Put key value) = insert_entry bytes_eq es key value
 after es (Get key) = es
 after es (Del key) = without es (match_of bytes_eq es key)
@@ -68,20 +68,20 @@ after es Slim = es
 after es Len = es
 after es Walk = es
 
--- the commands for which memory may be asked at these entries: `put` of a key that is not there, `sort` where the keys do not
+-- the lines for which memory may be asked at these entries: `put` of a key that is not there, `sort` where the keys do not
 -- ascend, and `reserve` of more than 0
-abbrev pub MayNeedMemory : Entries → Command → Type 0
+abbrev pub MayNeedMemory : Entries → Line → Type 0
 MayNeedMemory es (Put key value) = match_of bytes_eq es key ≡ None
 MayNeedMemory es Sort = ¬ (Ascends bytes_cmp es)
 MayNeedMemory es (Reserve additional) = 0 < additional
-MayNeedMemory es command = ⊥
+MayNeedMemory es line = ⊥
 
--- the entries after commands in turn
-abbrev pub entries_after : Entries → List Command → Entries
+-- the entries after lines in turn
+abbrev pub entries_after : Entries → List Line → Entries
 entries_after es [] = es
-entries_after es (c ∷ cs) = entries_after (after es c) cs
+entries_after es (l ∷ ls) = entries_after (after es l) ls
 
--- the replies to commands in turn, at these entries
-abbrev pub replies : Entries → List Command → List ℕ
+-- the replies to lines in turn, at these entries
+abbrev pub replies : Entries → List Line → List ℕ
 replies es [] = []
-replies es (c ∷ cs) = reply es c ++ replies (after es c) cs
+replies es (l ∷ ls) = reply es l ++ replies (after es l) ls

@@ -1,4 +1,4 @@
-//! What each command does to the map, and what is replied. Each that changes the map has a small function over the
+//! What each line does to the map, and what is replied. Each that changes the map has a small function over the
 //! entries seen as bytes, so that a wrong body is refused there, with few facts in sight.
 ghost use Rattle.std.specs.Prelude.{◌≡◌, ◌≢◌, ℕ, ◌-◌, ◌<◌, ◌≤◌, false, nat_le, if◌then◌else◌, [], length, remove, reverse, slice_get, IfOk, OnOk, IfErr, OnErr, Some, None, codes, decimal, flat_map};
 ghost use Rattle.std.specs.Io.KnownBytes.{Keeps, Appends};
@@ -13,7 +13,7 @@ ghost use Rattle.script_play.specs.Replies.{MayNeedMemory, bytes_cmp, ended, val
 ghost use Rattle.script_play.specs.ShownEntries.{entries_of};
 ghost use Rattle.starlark_small.specs.Index.{unindexed};
 
-use script_lines::{Command, PlayFault, write_line};
+use script_lines::{Line, PlayFault, write_line};
 use starlark_hash::Hashed;
 use starlark_hash::text_key::TextKey;
 use starlark_small::{IterHashed, SmallMap};
@@ -28,49 +28,49 @@ pub fn answer<W: Write>(
     alloc: Global,
     map: &mut SmallMap<String, i64>,
     writer: &mut W,
-    command: Command<'_>,
+    line: Line<'_>,
 ) -> Result<(), PlayFault>
-    ensures done { OnOk result (entries_of map.new.entries ≡ after (entries_of map.old.entries) (shown command.entry)) }
-    ensures replied { OnOk result (Appends (W.contents writer.old) (W.contents writer.new) (reply (entries_of map.old.entries) (shown command.entry))) }
-    ensures room { OnOk result (LeavesMemory map.old map.new (shown command.entry)) }
+    ensures done { OnOk result (entries_of map.new.entries ≡ after (entries_of map.old.entries) (shown line.entry)) }
+    ensures replied { OnOk result (Appends (W.contents writer.old) (W.contents writer.new) (reply (entries_of map.old.entries) (shown line.entry))) }
+    ensures room { OnOk result (LeavesMemory map.old map.new (shown line.entry)) }
     ensures memory { result ≡ Err PlayFault.Memory → Keeps (W.contents writer.old) (W.contents writer.new) }
-    ensures needed { result ≡ Err PlayFault.Memory → MayNeedMemory (entries_of map.old.entries) (shown command.entry) }
+    ensures needed { result ≡ Err PlayFault.Memory → MayNeedMemory (entries_of map.old.entries) (shown line.entry) }
     ensures good { (n : ℕ) → result ≢ Err (PlayFault.BadLine n) }
 {
-    match command {
-        Command::Put(key, value) => {
+    match line {
+        Line::Put(key, value) => {
             let old = put(alloc, map, key, value)?;
             write_value(writer, old)
         }
-        Command::Get(key) => write_value(writer, get(map, key)),
-        Command::Del(key) => {
+        Line::Get(key) => write_value(writer, get(map, key)),
+        Line::Del(key) => {
             let old = remove_key(map, key);
             write_value(writer, old)
         }
-        Command::At(place) => write_at(writer, map, place),
-        Command::Pop => write_popped(writer, map),
-        Command::Rev => {
+        Line::At(place) => write_at(writer, map, place),
+        Line::Pop => write_popped(writer, map),
+        Line::Rev => {
             turn(map);
             write_ok(writer)
         }
-        Command::Sort => {
+        Line::Sort => {
             sort(map)?;
             write_ok(writer)
         }
-        Command::Clear => {
+        Line::Clear => {
             clear(map);
             write_ok(writer)
         }
-        Command::Reserve(additional) => {
+        Line::Reserve(additional) => {
             reserve(map, additional)?;
             write_ok(writer)
         }
-        Command::Slim => {
+        Line::Slim => {
             slim(map);
             write_ok(writer)
         }
-        Command::Len => write_count(writer, map.len()),
-        Command::Walk => write_entries(writer, map.iter_hashed()),
+        Line::Len => write_count(writer, map.len()),
+        Line::Walk => write_entries(writer, map.iter_hashed()),
     }
 }
 

@@ -1,4 +1,4 @@
-//! Plays a script on a small map: what each command does and replies, and the loop over the lines.
+//! Plays a script on a small map: what each line does and replies, and the loop over the lines.
 #![tactic(auto)]
 
 pub mod answer;

@@ -35,11 +35,11 @@ pub fn play<R: Read, W: Write>(
             Found::Line(len) => len,
             Found::TooLong => return Err(PlayFault::BadLine(i + 1)),
         };
-        let line = &window.bytes()[..len];
-        let Some(command) = read_line(line) else {
+        let text = &window.bytes()[..len];
+        let Some(line) = read_line(text) else {
             return Err(PlayFault::BadLine(i + 1));
         };
-        answer(alloc, &mut map, writer, command)?;
+        answer(alloc, &mut map, writer, line)?;
         window.skip_line(len);
     }
     Err(PlayFault::Io)

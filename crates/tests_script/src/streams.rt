@@ -2,7 +2,7 @@
 
 use crate::fakes::{Full, NEVER, asked_reader, bytes_in_pieces, held_writer, narrow_writer};
 use crate::given::holds;
-use script_lines::{PlayFault, PromptReader, SharedWriter, lines_are_of_one};
+use script_lines::{PlayFault, PromptReader, SharedWriter, texts_are_of_one};
 use script_play::play::play;
 use std::cell::RefCell;
 use std::io::ErrorKind;
@@ -109,7 +109,7 @@ fn failing_flushes_before_a_read(rt: HostRuntime) -> Result<(), Fail> {
 
 #[test]
 fn faults(rt: HostRuntime) -> Result<(), Fail> {
-    lines_are_of_one();
+    texts_are_of_one();
     let faults = [
         (
             PlayFault::BadLine(18446744073709551615),

@@ -1,6 +1,6 @@
 use Rattle.std.proofs.Common.{◌<◌, ◌^◌, sym, ◌∙◌, rules, arith}
 use Rattle.std.proofs.lemmas.Fmt.{decimal_injective}
-use Rattle.script_lines.proofs.command.count_in.Goals as goal
+use Rattle.script_lines.proofs.line.count_in.Goals as goal
 
 pub returns-else-n-le-MOST-clause-none : goal.returns-else-n-le-MOST-clause-none
 returns-else-n-le-MOST-clause-none c = λ n small e.

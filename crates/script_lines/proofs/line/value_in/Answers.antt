@@ -1,5 +1,5 @@
 use Rattle.script_lines.proofs.Numbers.{read-signed-some, read-signed-none, plain-signed-none}
-use Rattle.script_lines.proofs.command.value_in.Goals as goal
+use Rattle.script_lines.proofs.line.value_in.Goals as goal
 
 pub returns-then-not-is_plain_signed-clause-none : goal.returns-then-not-is_plain_signed-clause-none
 returns-then-not-is_plain_signed-clause-none c = plain-signed-none c.args.text.now c.is_plain_signed.result (rw c.as_bytes.ensures.value at c.is_plain_signed.ensures.1) c.if-not-is_plain_signed.true

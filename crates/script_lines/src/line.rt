@@ -1,8 +1,8 @@
-//! Lines as commands.
+//! Lines, read from their texts.
 ghost use Rattle.std.specs.Prelude.{◌≡◌, ◌≢◌, ℕ, ℤ, ◌<◌, ◌≤◌, ◌^◌, [], ◌∷◌, length, All, IsTrue, ◌↔◌, IfSome, IfNone, MatchOption, decimal, FitsSigned};
 ghost use Rattle.std.specs.Int.{w64};
 ghost use Rattle.std.specs.Fmt.{signed_decimal};
-ghost use Rattle.script_lines.specs.Commands.{fields_of, IsLineOf, IsBad, LinesAreOfOne};
+ghost use Rattle.script_lines.specs.Line.{fields_of, IsTextOf, IsBad, TextsAreOfOne};
 ghost use Rattle.script_lines.specs.Numbers.{IsPlain, IsPlainSigned};
 ghost use Rattle.script_lines.specs.Shown.{shown, AreFields, IsVisible, IsKeyIn};
 
@@ -13,9 +13,9 @@ use std::str;
 // The largest place, and the most room, that a line names.
 const MOST: usize = 1_000_000;
 
-/// What a line asks for.
+/// A line of a script: what it asks for.
 #[derive(Clone, Copy)]
-pub enum Command<'a> {
+pub enum Line<'a> {
     /// Insert the value under this hash and key.
     Put(Hashed<TextKey<'a>>, i64),
     /// Look up the value under this hash and key.
@@ -42,7 +42,7 @@ pub enum Command<'a> {
     Walk,
 }
 
-// The fields of a line, as far as any command has them.
+// The fields of a text, as far as any line has them.
 #[derive(Clone, Copy)]
 enum Fields<'a> {
     One(&'a str),
@@ -52,50 +52,50 @@ enum Fields<'a> {
     More,
 }
 
-/// The command whose line this is, without its end; `None` where it is a bad line.
-pub fn read_line(line: &[u8]) -> Option<Command<'_>>
-    requires { length line.now ≤ 1000 }
-    ensures { MatchOption result (IsBad line.now) (λ command. IsLineOf line.now (shown command)) }
+/// The line whose text this is, without its end; `None` where it is a bad line.
+pub fn read_line(text: &[u8]) -> Option<Line<'_>>
+    requires { length text.now ≤ 1000 }
+    ensures { MatchOption result (IsBad text.now) (λ line. IsTextOf text.now (shown line)) }
 {
-    match str::from_utf8(line) {
-        Ok(line) => command_of(line),
+    match str::from_utf8(text) {
+        Ok(text) => line_of(text),
         Err(_) => None,
     }
 }
 
-/// A line is that of one command at most, so a script has one list of commands and of replies.
-pub fn lines_are_of_one()
-    ensures { LinesAreOfOne }
+/// A text is that of one line at most, so a script has one list of lines and of replies.
+pub fn texts_are_of_one()
+    ensures { TextsAreOfOne }
 {}
 
-fn command_of(line: &str) -> Option<Command<'_>>
-    requires { length line.now ≤ 1000 }
-    ensures { MatchOption result (IsBad line.now) (λ command. IsLineOf line.now (shown command)) }
+fn line_of(text: &str) -> Option<Line<'_>>
+    requires { length text.now ≤ 1000 }
+    ensures { MatchOption result (IsBad text.now) (λ line. IsTextOf text.now (shown line)) }
 {
-    match fields_in(line) {
-        Fields::One("pop") => Some(Command::Pop),
-        Fields::One("rev") => Some(Command::Rev),
-        Fields::One("sort") => Some(Command::Sort),
-        Fields::One("clear") => Some(Command::Clear),
-        Fields::One("slim") => Some(Command::Slim),
-        Fields::One("len") => Some(Command::Len),
-        Fields::One("walk") => Some(Command::Walk),
-        Fields::Two("at", place) => Some(Command::At(count_in(place)?)),
-        Fields::Two("reserve", additional) => Some(Command::Reserve(count_in(additional)?)),
-        Fields::Three("get", hash, key) => Some(Command::Get(key_under(hash, key)?)),
-        Fields::Three("del", hash, key) => Some(Command::Del(key_under(hash, key)?)),
+    match fields_in(text) {
+        Fields::One("pop") => Some(Line::Pop),
+        Fields::One("rev") => Some(Line::Rev),
+        Fields::One("sort") => Some(Line::Sort),
+        Fields::One("clear") => Some(Line::Clear),
+        Fields::One("slim") => Some(Line::Slim),
+        Fields::One("len") => Some(Line::Len),
+        Fields::One("walk") => Some(Line::Walk),
+        Fields::Two("at", place) => Some(Line::At(count_in(place)?)),
+        Fields::Two("reserve", additional) => Some(Line::Reserve(count_in(additional)?)),
+        Fields::Three("get", hash, key) => Some(Line::Get(key_under(hash, key)?)),
+        Fields::Three("del", hash, key) => Some(Line::Del(key_under(hash, key)?)),
         Fields::Four("put", hash, key, value) => {
-            Some(Command::Put(key_under(hash, key)?, value_in(value)?))
+            Some(Line::Put(key_under(hash, key)?, value_in(value)?))
         }
         _ => None,
     }
 }
 
-fn fields_in(line: &str) -> Fields<'_>
-    ensures { AreFields result (fields_of line.now) }
+fn fields_in(text: &str) -> Fields<'_>
+    ensures { AreFields result (fields_of text.now) }
 {
-    let Some((first, rest)) = cut(line) else {
-        return Fields::One(line);
+    let Some((first, rest)) = cut(text) else {
+        return Fields::One(text);
     };
     let Some((second, rest)) = cut(rest) else {
         return Fields::Two(first, rest);
@@ -110,10 +110,10 @@ fn fields_in(line: &str) -> Fields<'_>
 }
 
 // What stands before the first space and behind it.
-fn cut(line: &str) -> Option<(&str, &str)>
-    ensures { MatchOption result (fields_of line.now ≡ line.now ∷ []) (λ parts. fields_of line.now ≡ parts.0.now ∷ fields_of parts.1.now) }
+fn cut(text: &str) -> Option<(&str, &str)>
+    ensures { MatchOption result (fields_of text.now ≡ text.now ∷ []) (λ parts. fields_of text.now ≡ parts.0.now ∷ fields_of parts.1.now) }
 {
-    line.split_once(' ')
+    text.split_once(' ')
 }
 
 // The key under the hash, if both are spelled as a script spells them.

@@ -1,5 +1,5 @@
 use Rattle.script_lines.proofs.Numbers.{read-some, read-none, plain-none}
-use Rattle.script_lines.proofs.command.number_in.Goals as goal
+use Rattle.script_lines.proofs.line.number_in.Goals as goal
 
 pub returns-then-not-is_plain-clause-none : goal.returns-then-not-is_plain-clause-none
 returns-then-not-is_plain-clause-none c = plain-none c.args.text.now c.is_plain.result (rw c.as_bytes.ensures.value at c.is_plain.ensures.1) c.if-not-is_plain.true
