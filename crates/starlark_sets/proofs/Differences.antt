@@ -1,5 +1,5 @@
 -- Lists of elements without those of another list.
-use Rattle.std.proofs.Common.{◌≡◌, ℕ, suc, ◌+◌, ◌-◌, ◌<◌, ◌≤◌, Bool, true, false, cond, not, List, [], ◌∷◌, length, map, get_or, Option, Some, None, is_some, refl, sym, ap, ◌∙◌, arith, true≢false}
+use Rattle.std.proofs.Common.{◌≡◌, ℕ, suc, ◌+◌, ◌-◌, ◌<◌, ◌≤◌, Bool, true, false, cond, not, List, [], ◌∷◌, ◌++◌, length, map, get_or, Option, Some, None, is_some, refl, sym, ap, ◌∙◌, arith, length-append, true≢false}
 use Rattle.std.specs.Prelude.{filter}
 use Rattle.std.specs.Option.{option_map}
 use Rattle.std.specs.Cmp.{IsEquivalence}
@@ -93,6 +93,11 @@ module _ {T : Type 0} (eq : T → T → Bool) where
 
   pub length-difference-le : (es fs : Elements T) → length (map entry_key (difference eq es fs)) ≤ length es
   length-difference-le es fs = omega (arith, kept_and_lost (lacks eq fs) es, length_keys (difference eq es fs))
+
+  -- a union has at most as many elements as both lists together
+  pub length-union-le : (es fs ds : Elements T) → length (map entry_key (es ++ difference eq fs ds)) ≤ length es + length fs
+  length-union-le es fs ds =
+      omega (arith, kept_and_lost (lacks eq ds) fs, length_keys (es ++ difference eq fs ds), length-append es (difference eq fs ds))
 
   -- an element that is in the other list is passed over
   pub passed : (first es : Elements T) (e : Entry T (Unit {0})) (fs other : Elements T) → es ≡ e ∷ fs → lacks eq other e ≡ false

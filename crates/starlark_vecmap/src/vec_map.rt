@@ -222,7 +222,9 @@ impl<K, V> VecMap<K, V> {
         ensures fits { length self.now.entries < 2 ^ 64 }
         ensures runs { ShowsInOrder (deref_entry {K = K} {V = V}) }
         ensures runs_back { ShowsInReverse (deref_entry {K = K} {V = V}) }
+        ensures few { length self.now.entries < 2 ^ 63 }
     {
+        let _hashes = self.columns.seconds(); // a hash takes four bytes
         IterHashed::new(self.columns.iter())
     }
 }

@@ -3,7 +3,7 @@ ghost use Rattle.std.specs.Prelude.{◌≡◌, ◌^◌, ◌<◌, length, map};
 ghost use Rattle.std.specs.Map.{keys_of};
 ghost use Rattle.std.specs.Map.Iter.{ShowsInOrder, ShowsInReverse, GivesInOrder, GivesInReverse, deref};
 ghost use Rattle.starlark_lists.specs.Entries.{IsSingle, entry_key};
-ghost use Rattle.starlark_sets.specs.Union.{ShowsUnion, union};
+ghost use Rattle.starlark_sets.specs.Union.{ShowsUnion, union, union_rest};
 ghost use Rattle.starlark_sets.specs.Unit.{deref_hashed};
 
 use super::OrderedSet;
@@ -36,6 +36,7 @@ impl<T: Eq> OrderedSet<T> {
         ensures fits { length self.now.entries < 2 ^ 64 }
         ensures runs { ShowsInOrder (deref_hashed {T = T}) }
         ensures runs_back { ShowsInReverse (deref_hashed {T = T}) }
+        ensures few { length self.now.entries < 2 ^ 63 }
     {
         self.0.iter_hashed()
     }
@@ -45,6 +46,7 @@ impl<T: Eq> OrderedSet<T> {
     pub fn union<'a>(&'a self, other: &'a Self) -> Union<'a, T>
         ensures left { result ≡ record { first = self.now.entries; second = record { left = other.now.entries; other = self.now.entries } } }
         ensures single { IsSingle T.eq (union T.eq self.now.entries other.now.entries) }
+        ensures fits { length (union_rest T.eq result) < 2 ^ 64 }
         ensures runs { ShowsUnion T.eq }
     {
         self.0.union(&other.0)

@@ -30,6 +30,7 @@ impl<T: Eq> SmallSet<T> {
         ensures fits { length self.now.entries < 2 ^ 64 }
         ensures runs { ShowsInOrder (deref_hashed {T = T}) }
         ensures runs_back { ShowsInReverse (deref_hashed {T = T}) }
+        ensures few { length self.now.entries < 2 ^ 63 }
     {
         IterHashed::new(self.entries())
     }
@@ -40,6 +41,7 @@ impl<T: Eq> SmallSet<T> {
         ensures entries { result ≡ self.now.entries }
         ensures single { IsSingle T.eq self.now.entries }
         ensures fits { length self.now.entries < 2 ^ 64 }
+        ensures few { length self.now.entries < 2 ^ 63 }
     {
         self.map.iter_hashed()
     }

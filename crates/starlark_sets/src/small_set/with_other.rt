@@ -2,7 +2,7 @@
 ghost use Rattle.std.specs.Prelude.{◌≡◌, ◌^◌, ◌<◌, length};
 ghost use Rattle.starlark_lists.specs.Entries.{IsSingle};
 ghost use Rattle.starlark_sets.specs.Difference.{ShowsDifference, difference, difference_rest};
-ghost use Rattle.starlark_sets.specs.Union.{ShowsUnion, union};
+ghost use Rattle.starlark_sets.specs.Union.{ShowsUnion, union, union_rest};
 
 use super::SmallSet;
 use crate::difference::Difference;
@@ -28,8 +28,10 @@ impl<T: Eq> SmallSet<T> {
     pub fn union<'a>(&'a self, other: &'a Self) -> Union<'a, T>
         ensures left { result ≡ record { first = self.now.entries; second = record { left = other.now.entries; other = self.now.entries } } }
         ensures single { IsSingle T.eq (union T.eq self.now.entries other.now.entries) }
+        ensures fits { length (union_rest T.eq result) < 2 ^ 64 }
         ensures runs { ShowsUnion T.eq }
     {
-        Union::new(self.map.iter_hashed(), other.difference(self))
+        let first = self.entries();
+        Union::new(first, Difference::new(other.entries(), self))
     }
 }

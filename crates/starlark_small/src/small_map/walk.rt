@@ -49,6 +49,7 @@ impl<K: Eq, V> SmallMap<K, V> {
         ensures runs { ShowsInOrder (deref_entry {K = K} {V = V}) }
         ensures runs_back { ShowsInReverse (deref_entry {K = K} {V = V}) }
         ensures fits { length self.now.entries < 2 ^ 64 }
+        ensures few { length self.now.entries < 2 ^ 63 }
     {
         self.entries.iter_hashed()
     }

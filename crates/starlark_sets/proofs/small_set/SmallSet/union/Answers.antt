@@ -1,14 +1,20 @@
-use Rattle.std.proofs.Common.{length, ap, subst}
+use Rattle.std.proofs.Common.{length, ap, arith}
 use Rattle.std.proofs.iter.runs.Sources.{from_front}
 use Rattle.std.specs.Map.Iter.{deref}
-use Rattle.starlark_lists.specs.Entries.{IsSingle}
 use Rattle.starlark_sets.specs.Union.{UnionSteps, union_rest}
-use Rattle.starlark_sets.proofs.Unions.{IsSingle-union}
+use Rattle.starlark_sets.proofs.Differences.{length-union-le}
+use Rattle.starlark_sets.proofs.Unions.{IsSingle-difference, IsSingle-union}
 use Rattle.starlark_sets.proofs.small_set.SmallSet.union.Goals as goal
 
 pub returns-clause-single : goal.returns-clause-single
 returns-clause-single g c =
-    let eq = g.T.PartialEq.eq in IsSingle-union eq g.met.T.Eq.laws _ _ (subst (λ s. IsSingle eq s.entries) c.self.view_is c.iter_hashed.ensures.single) c.difference.ensures.single
+    let eq = g.T.PartialEq.eq in
+    IsSingle-union eq g.met.T.Eq.laws _ _ c.entries-first.ensures.single (IsSingle-difference eq _ _ c.entries.ensures.single)
+
+pub returns-clause-fits : goal.returns-clause-fits
+returns-clause-fits g c =
+    rw (c.new-2.ensures, c.new.ensures, c.entries-first.ensures.entries, c.entries.ensures.entries)
+    (omega (arith, length-union-le g.T.PartialEq.eq c.args.self.now.entries c.args.other.now.entries c.args.self.now.entries, c.entries-first.ensures.few, c.entries.ensures.few))
 
 pub returns-clause-runs : goal.returns-clause-runs
 returns-clause-runs g c =

@@ -1,12 +1,13 @@
-use Rattle.std.proofs.Common.{length, ap, refl, sym, subst}
+use Rattle.std.proofs.Common.{length, ap, refl, sym, subst, arith}
 use Rattle.std.proofs.iter.runs.Sources.{from_front}
 use Rattle.std.specs.Map.Iter.{deref}
 use Rattle.starlark_lists.specs.Entries.{IsSingle}
 use Rattle.starlark_lists.specs.Sorting.{Ascends}
+use Rattle.starlark_sets.proofs.Differences.{length-difference-le}
 use Rattle.starlark_sets.specs.Union.{union}
 use Rattle.starlark_sorted.specs.Union.{RiseSteps, rise, rise_rest}
 use Rattle.starlark_sorted.proofs.Ascending.{Ascends-strictly, sorted_ascends}
-use Rattle.starlark_sorted.proofs.Rising.{begun, elements-of, rise-own, rise-single}
+use Rattle.starlark_sorted.proofs.Rising.{begun, elements-of, length-rest, rise-own, rise-single}
 use Rattle.starlark_sorted.proofs.sorted_set.SortedSet.union.Goals as goal
 
 pub new-requires-clause-left : goal.new-requires-clause-left
@@ -42,6 +43,20 @@ returns-clause-strictly g c = λ first second.
     let eq = g.T.PartialEq.eq in let cmp = g.T.Ord.cmp in let es = c.args.self.now.entries in let fs = c.args.other.now.entries in
     Ascends-strictly g.met.T.Ord.total g.met.T.Ord.matches_eq g.met.T.Hash.respects_eq (rise eq cmp es fs) (returns-clause-single g c) (returns-clause-ascends g c)
     (rise-own eq cmp es fs g.T.Hash.hash_input first second)
+
+pub returns-clause-fits : goal.returns-clause-fits
+returns-clause-fits g c =
+    let eq = g.T.PartialEq.eq in let cmp = g.T.Ord.cmp in let es = c.args.self.now.entries in let fs = c.args.other.now.entries in
+    rw (returns-clause-left g c)
+    (omega (
+      arith,
+      length-rest eq cmp (record { left = es; right = fs; there = es }),
+      length-difference-le eq fs es,
+      ap (λ s. length s.entries) c.self.view_is,
+      ap (λ s. length s.entries) c.other.view_is,
+      c.iter_hashed.ensures.few,
+      c.iter_hashed-2.ensures.few,
+    ))
 
 pub returns-clause-runs : goal.returns-clause-runs
 returns-clause-runs g c =
