@@ -37,6 +37,7 @@ pub fn sort_of_a_sorted_list<K: Ord, V>(map: &mut SmallMap<K, V>) -> Result<(), 
     ensures sorted { OnOk result (map.new.entries ≡ sorted_by_key K.cmp map.old.entries) }
     ensures succeeds { Ascends K.cmp map.old.entries → IsOk result }
     ensures entries { Ascends K.cmp map.old.entries → map.new.entries ≡ map.old.entries }
+    ensures unchanged { OnErr result (map.new.entries ≡ map.old.entries) }
     ensures kept { KeepsMemory map.old map.new }
 {
     map.sort_keys()

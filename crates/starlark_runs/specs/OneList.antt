@@ -1,11 +1,12 @@
 -- What runs on two maps with one list have in common.
-use Rattle.std.specs.Prelude.{◌≡◌, ◌↔◌, Bool, false, List}
+use Rattle.std.specs.Prelude.{◌≡◌, ◌↔◌, ◌⊎◌, Bool, false, List}
 use Rattle.std.specs.List.{All}
 use Rattle.std.specs.declared.cmp.Ordering.{Ordering}
 use Rattle.starlark_lists.specs.Entries.{Entry}
 use Rattle.starlark_runs.specs.Run.{Run, is_refusal, refusals}
 use Rattle.starlark_runs.specs.declared.command.Command.{Command}
 use Rattle.starlark_runs.specs.declared.command.Reply.{Reply}
+use Rattle.starlark_small.specs.Map.{Map}
 
 module _ {K V R : Type 0} where
   -- the reply is no refusal
@@ -36,3 +37,7 @@ module _ {K V R : Type 0} (eq : K → K → Bool) (cmp : K → K → Ordering) (
       (commands : List (Command K V)) (replies others : List (Reply K V R)) (new end : List (Entry K V))
       → Run eq cmp shows first commands replies new → Run eq cmp shows second commands others end → so replies others
       → (replies ≡ others) × (new ≡ end)
+
+  -- a map on which no command was begun, or all commands are done
+  abbrev pub RunsOrStays : Map K V → Map K V → List (Command K V) → Type 0
+  RunsOrStays old new commands = (new ≡ old) ⊎ ((replies : List (Reply K V R)) × Run eq cmp shows old.entries commands replies new.entries)

@@ -1,6 +1,6 @@
 //! The law that an index never shows in a reply.
-ghost use Rattle.std.specs.Prelude.{◌≡◌, IfOk};
-ghost use Rattle.starlark_runs.specs.OneList.{AgreeWhere, HaveSameRuns, IsShownOnce, NoneRefused, SameRefused};
+ghost use Rattle.std.specs.Prelude.{◌≡◌, IfOk, OnErr};
+ghost use Rattle.starlark_runs.specs.OneList.{AgreeWhere, HaveSameRuns, IsShownOnce, NoneRefused, RunsOrStays, SameRefused};
 ghost use Rattle.starlark_runs.specs.Run.{CanShow, Run, Shows};
 
 use crate::command::{Command, Reply};
@@ -23,7 +23,8 @@ pub fn index_never_shows<K: Ord, V, R, F: Fn(&K, &V) -> R>(
 
 /// Does the same commands on two maps with the same entries, of which one may have an index and the other not, with one
 /// `look` that shows an entry in one way only. Where the same commands are refused memory on both, the replies are
-/// equal, and both maps have the same entries afterwards.
+/// equal, and both maps have the same entries afterwards. Where memory for replies is refused, the second map is as it
+/// was, and so is the first, or its commands are done.
 pub fn replies_agree<K: Ord + Drop, V: Drop, R: Drop, F: Fn(&K, &V) -> R>(
     alloc: Global,
     first: &mut SmallMap<K, V>,
@@ -45,6 +46,8 @@ where
         first.old.entries ≡ second.old.entries → commands.items ≡ same_commands.items → look ≡ same_look
         → IsShownOnce (Shows F.Fn look) → SameRefused replies.0.items replies.1.items
         → (replies.0.items ≡ replies.1.items) × (first.new.entries ≡ second.new.entries)) }
+    ensures unchanged { OnErr result (second.new ≡ second.old) }
+    ensures first_alone { OnErr result (RunsOrStays K.eq K.cmp (Shows F.Fn look) first.old first.new commands.items) }
 {
     index_never_shows(first, second, &look);
     let replies = run(alloc, first, commands, look)?;

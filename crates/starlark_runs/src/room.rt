@@ -1,5 +1,5 @@
 //! The laws that a map takes again, in a run, what it has held or what was reserved.
-ghost use Rattle.std.specs.Prelude.{◌≡◌, ◌+◌, [], length, IfOk, IsOk};
+ghost use Rattle.std.specs.Prelude.{◌≡◌, ◌+◌, [], length, IfOk, IsOk, OnErr};
 ghost use Rattle.starlark_runs.specs.Room.{AcceptsReserved, AcceptsUpTo, AcceptsWhatItHeld, AcceptsWhatItReserved};
 ghost use Rattle.starlark_runs.specs.Run.{CanShow, Run, Shows};
 
@@ -10,7 +10,8 @@ use std::alloc::{AllocError, Global};
 
 /// Does the commands as `run` does. A map that has held n entries, or for which n were reserved, refuses no insertion
 /// that leaves it at n entries or fewer, whatever was removed, turned, sorted or cleared between, until a `DropIndex`.
-/// That holds from the start, where length and room are as many, and from each command on.
+/// That holds from the start, where length and room are as many, and from each command on. A run that is refused leaves
+/// the map as it was.
 pub fn held_room_stays<K: Ord + Drop, V: Drop, R: Drop, F: Fn(&K, &V) -> R>(
     alloc: Global,
     map: &mut SmallMap<K, V>,
@@ -28,6 +29,7 @@ where
         AcceptsWhatItHeld K.eq K.cmp (Shows F.Fn look) map.old.entries commands.items replies.items) }
     ensures reserved { IfOk result (λ replies.
         AcceptsWhatItReserved K.eq K.cmp (Shows F.Fn look) map.old.entries commands.items replies.items) }
+    ensures unchanged { OnErr result (map.new ≡ map.old) }
     ensures succeeds { commands.items ≡ [] → IsOk result }
 {
     let replies = run(alloc, map, commands, look)?;
@@ -35,7 +37,7 @@ where
 }
 
 /// Does the commands as `run` does. After a `Reserve(n)` that is done, the next n insertions are not refused, whatever
-/// stands between them, until a `DropIndex`.
+/// stands between them, until a `DropIndex`. A run that is refused leaves the map as it was.
 pub fn reserved_insertions_succeed<K: Ord + Drop, V: Drop, R: Drop, F: Fn(&K, &V) -> R>(
     alloc: Global,
     map: &mut SmallMap<K, V>,
@@ -49,6 +51,7 @@ where
         Run K.eq K.cmp (Shows F.Fn look) map.old.entries commands.items replies.items map.new.entries) }
     ensures next { IfOk result (λ replies.
         AcceptsReserved K.eq K.cmp (Shows F.Fn look) map.old.entries commands.items replies.items) }
+    ensures unchanged { OnErr result (map.new ≡ map.old) }
     ensures succeeds { commands.items ≡ [] → IsOk result }
 {
     let replies = run(alloc, map, commands, look)?;
