@@ -4,7 +4,8 @@
     docs/pages.py write    writes docs/words.md, from the comments of specs/, and docs/calls.md, from those of src/
     docs/pages.py check    says where a page is not what the sources say: a written page that is out of date; a public word
                            of specs/ or a public function with no comment; a name, a clause, a file, a target of make or a
-                           link that is not there; a page longer than it may be; a changelog that does not begin with VERSION
+                           link that is not there; a page longer than it may be; a changelog that does not begin with VERSION;
+                           where crates/tests_memory/calls.txt is not the list of the calls that may be refused
 """
 import re
 import subprocess
@@ -184,6 +185,7 @@ def faults():
     if not newest or newest.group(1) != version:
         yield f"CHANGELOG.md does not begin with {version}, as VERSION has it"
     yield from faults_of_names()
+    yield from faults_of_refusals()
 
 
 def faults_of_names():
@@ -225,6 +227,52 @@ def faults_of_names():
         for link in re.findall(r"\]\(([^)#:]+)[^)]*\)", text):
             if not (page.parent / link).exists():
                 yield f"{name}: there is no {link}"
+
+
+def refusable(path):
+    """Each public function, and each method of a trait, that answers a Result."""
+    owner, of_trait, head, lines = "", False, "", path.read_text().split("\n")
+    for at, line in enumerate(lines):
+        text = line.strip()
+        if head or re.match(r"(unsafe )?impl\b|pub trait ", line):
+            head += " " + text
+            if "{" in text:
+                plain = without_generics(head.split("{")[0].split(" where ")[0])
+                owner, of_trait, head = re.findall(r"\w+", plain)[-1], " for " in plain, ""
+            continue
+        call = re.match(r"(pub )?(?:final )?(?:const )?(?:unsafe )?fn (\w+)", text)
+        if call and (call.group(1) or indent(line) == 4 and of_trait):
+            head_of_call = text
+            while not head_of_call.endswith(("{", ";")) and not re.match(r"requires|ensures|where|//|{", lines[at + 1].strip()):
+                at += 1
+                head_of_call += " " + lines[at].strip()
+            if re.match(r"\s*Result<", head_of_call.split("->")[-1]) and "->" in head_of_call:
+                yield f"{owner if indent(line) else path.stem}::{call.group(2)}"
+
+
+def faults_of_refusals():
+    name = "crates/tests_memory/calls.txt"
+    listed, crate = [], ""
+    for line in (TOP / name).read_text().split("\n"):
+        call, _, tried = line.partition(": ")
+        if line and not tried:
+            crate = line if line[0] != "#" else crate
+        elif line and line[0] != "#":
+            listed.append((crate, call))
+            made = re.fullmatch(r"(\w+)/(\w+) (\w+)(?: by (\w+))?", tried)
+            if made:
+                path = TOP / f"crates/{made.group(1)}/src/{made.group(2)}.rt"
+                text = path.read_text() if path.exists() else ""
+                if not re.search(rf"#\[test\]\nfn {made.group(3)}\(", text):
+                    yield f"{name}: {call}: there is no test {tried}"
+                elif not re.search(rf"\b{made.group(4) or call.split('::')[-1]}\b", text):
+                    yield f"{name}: {call}: the file of {tried} does not name it"
+            elif "no memory" not in tried:
+                yield f"{name}: {call}: neither a test nor a reason: {tried}"
+    there = [(crate, call) for crate in library() if crate != "starlark_callers" for path in tracked(f"crates/{crate}/src/*.rt") for call in refusable(path)]
+    for crate, call in sorted({*listed, *there}):
+        if listed.count((crate, call)) != there.count((crate, call)):
+            yield f"{name}: {crate} has {call} {there.count((crate, call))} times, the list {listed.count((crate, call))} times"
 
 
 def file_there(quoted):

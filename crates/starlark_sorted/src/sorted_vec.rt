@@ -132,9 +132,9 @@ impl<T: Ord + Drop> IntoIterator for SortedVec<T> {
 
     type IntoIter = IntoIter<T>;
 
-    ghost into_iter_gives = { λ s rest. (into_iter_items rest ≡ s) × (into_iter_len rest ≡ length s) × (into_iter_len rest < 2 ^ 64) × EveryRun (into_iter_steps {X = T} {Z = Global}) (λ p. ItemsAre p (into_iter_items p.from)) };
+    ghost into_iter_gives = { λ s rest. (into_iter_items rest ≡ s) × (into_iter_len rest ≡ length s) × (into_iter_len rest < 2 ^ 64) × EveryRun (into_iter_steps {X = T} {Z = Global}) (λ p. ItemsAre p (into_iter_items p.from)) × IsSorted T.cmp s };
 
-    /// The items by value, in order.
+    /// The items by value, in order: they ascend.
     #[inline]
     fn into_iter(self) -> IntoIter<T> {
         self.vec.into_iter()
