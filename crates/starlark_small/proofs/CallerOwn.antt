@@ -1,15 +1,16 @@
 -- Which lists have each key under its own hash: what insertions, removals and moves leave of them.
-use Rattle.std.proofs.Common.{◌≡◌, ℕ, zero, suc, Bool, List, [], ◌∷◌, ◌++◌, map, remove, Option, Some, None, IsPermutation, refl, sym, subst, arith}
+use Rattle.std.proofs.Common.{◌≡◌, ℕ, zero, suc, Bool, List, [], ◌∷◌, ◌++◌, map, remove, Option, Some, None, IsPermutation, refl, sym, ◌∙◌, subst, arith}
 use Rattle.std.specs.Borrow.{Bor, MutBor}
 use Rattle.std.specs.Fn.{Mut}
 use Rattle.std.specs.Hash.{HashWrites}
-use Rattle.std.specs.List.{All}
+use Rattle.std.specs.List.{All, AllZip}
 use Rattle.std.specs.Option.{option_map_or}
 use Rattle.std.proofs.lemmas.List.Elements.{All-cons, All-head, All-tail}
 use Rattle.std.proofs.lemmas.List.Sorted.{All-permutation}
 use Rattle.starlark_hash.specs.declared.hashed.Hashed.{Hashed}
 use Rattle.starlark_hash.specs.Hasher.{own_hash}
 use Rattle.starlark_hash.specs.HashValue.{hash_of, key_of}
+use Rattle.starlark_lists.specs.Clone.{IsEntryClone}
 use Rattle.starlark_lists.specs.Entries.{Entry, entry_hash, entry_key, match_of, set_value_at, without}
 use Rattle.starlark_lists.specs.Insertion.{insert_entry}
 use Rattle.starlark_lists.specs.Retain.{CalledAtEntry, Retains}
@@ -49,6 +50,11 @@ module _ {K V : Type 0} (feeds : K → HashWrites) where
       let e = own_entry feeds x in
       insert_all_own eq xs (insert_entry eq es e.0 e.1) (insert_own eq es e.0 e.1 refl own)
 
+  insert_entries_own : (eq : K → K → Bool) (items es : List (Entry K V)) → All is_own items → All is_own es → All is_own (insert_all eq es items)
+  insert_entries_own eq [] es all own = own
+  insert_entries_own eq (x ∷ xs) es all own =
+      insert_entries_own eq xs (insert_entry eq es x.0 x.1) (All-tail is_own x xs all) (insert_own eq es x.0 x.1 (All-head is_own x xs all) own)
+
   without_own : (es : List (Entry K V)) (place : Option ℕ) → All is_own es → All is_own (without es place)
   without_own es None own = own
   without_own es (Some i) own = remove_own es i own
@@ -68,6 +74,25 @@ module _ {K V : Type 0} (feeds : K → HashWrites) where
   pub own-inserted_all : (eq : K → K → Bool) (old new : List (Entry K V)) (items : List (K × V)) → new ≡ insert_all eq old (map (own_entry feeds) items) → AreOwnEntries feeds old → AreOwnEntries feeds new
   unfolding AreOwnEntries
   own-inserted_all eq old new items put own = subst (All is_own) (sym put) (insert_all_own eq items old own)
+
+  pub own-inserted_entries : (eq : K → K → Bool) (new items : List (Entry K V)) → new ≡ insert_all eq [] items → AreOwnEntries feeds items → AreOwnEntries feeds new
+  unfolding AreOwnEntries
+  own-inserted_entries eq new items put all = subst (All is_own) (sym put) (insert_entries_own eq items [] all (λ k d below. absurd (omega (arith, below))))
+
+  clones_own : (key : K → K → Type 0) (value : V → V → Type 0) → ((x y : K) → key x y → feeds x ≡ feeds y) → (es fs : List (Entry K V)) → AllZip (IsEntryClone key value) es fs → All is_own es → All is_own fs
+  clones_own key value alike [] [] all own = own
+  clones_own key value alike [] (f ∷ fs) all own = absurd all
+  clones_own key value alike (e ∷ es) [] all own = absurd all
+  clones_own key value alike (e ∷ es) (f ∷ fs) all own =
+      All-cons is_own f fs
+      (all.0.0 ∙ All-head is_own e es own ∙ (λ i. own_hash (λ _. alike (entry_key e) (entry_key f) all.0.1 i) (entry_key e)))
+      (clones_own key value alike es fs all.1 (All-tail is_own e es own))
+
+  -- clones of keys under their own hashes, where equal keys feed alike
+  pub own-clones : (key : K → K → Type 0) (value : V → V → Type 0) → ((x y : K) → key x y → feeds x ≡ feeds y) → (es fs : List (Entry K V)) → AllZip (IsEntryClone key value) es fs
+      → AreOwnEntries feeds es → AreOwnEntries feeds fs
+  unfolding AreOwnEntries
+  own-clones key value alike es fs all own = clones_own key value alike es fs all own
 
   pub own-without : (old new : List (Entry K V)) (place : Option ℕ) → new ≡ without old place → AreOwnEntries feeds old → AreOwnEntries feeds new
   unfolding AreOwnEntries

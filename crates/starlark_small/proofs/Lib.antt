@@ -20,6 +20,7 @@ pub mod CallerKeys
 pub mod CallerEntries
 pub mod CallerUpdates
 pub mod CallerOwn
+pub mod CallerCollected
 pub mod CallerPlaces
 pub mod CallerOrder
 pub mod CallerLemmas

@@ -46,3 +46,11 @@ module _ {F K V : Type 0} (g : Mut F (Bor K × (MutBor V × Unit {0})) (Bool × 
   filtered test says f (e ∷ es) kept (keeps, d, f', rest, called, others, is) =
       let s = says f e keeps d f' called in
       is ∙ (λ i. if s.0 i then s.1 i ∷ rest else rest) ∙ ap (λ l. if test e then e ∷ l else l) (filtered test says f' es rest others)
+
+  -- the same, where each call leaves the closure as it was
+  pub tested : (test : Entry K V → Bool) (f : F) → ((e : Entry K V) (keeps : Bool) (d : Entry K V) (left : F) → CalledAtEntry g f e keeps d left → (keeps ≡ test e) × (d ≡ e) × (left ≡ f))
+      → (f' : F) → f' ≡ f → (es kept : List (Entry K V)) → Retains (CalledAtEntry g) f' es kept → kept ≡ filter test es
+  tested test f says f' same [] kept none = none
+  tested test f says f' same (e ∷ es) kept (keeps, d, left, rest, called, others, is) =
+      let s = says e keeps d left (subst (λ h. CalledAtEntry g h e keeps d left) same called) in
+      is ∙ (λ i. if s.0 i then s.1 i ∷ rest else rest) ∙ ap (λ l. if test e then e ∷ l else l) (tested test f says left s.2 es rest others)

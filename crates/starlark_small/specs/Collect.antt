@@ -2,9 +2,12 @@
 use Rattle.std.specs.Prelude.{◌≡◌, ◌≤◌, ◌+◌, ℕ, List, [], ◌∷◌, ◌++◌, Bool, Option, None, Result, MatchResult, IsOk, OnErr, ◌||◌, nat_lt, length, map}
 use Rattle.std.specs.Hash.{HashWrites}
 use Rattle.std.specs.Iterator.{Count, Drains, Yields}
+use Rattle.std.specs.Iterator.Runs.{WholeRun}
 use Rattle.std.specs.Iterator.SizeHint.{IsWithinCount}
+use Rattle.std.specs.Map.{update_all}
 use Rattle.starlark_lists.specs.Entries.{Entry, match_of}
 use Rattle.starlark_lists.specs.Insertion.{insert_entry}
+use Rattle.starlark_small.specs.Calling.{AreOwn, AreOwnEntries, get}
 use Rattle.starlark_small.specs.Growth.{GrowsInSteps}
 use Rattle.starlark_small.specs.Index.{unindexed}
 use Rattle.starlark_small.specs.Map.{Map, KeepsRoom, own_hashed}
@@ -66,3 +69,13 @@ pub record IsExtended {K V A E : Type 0} (fits : Type 0) (old new : Map K V) (r 
   pub room : KeepsRoom old new
   pub capacity : GrowsInSteps old new r
   pub indexed : new.indexed ≡ (old.indexed || nat_lt unindexed (length new.entries))
+
+module _ {K V T U : Type 0} (eq : K → K → Bool) (feeds : K → HashWrites) (steps : T → Option (K × V) → T → Type 0) (becomes : U → T → Type 0) (iter : U) where
+  -- each key has the last value that the iterator's items have for it, or else the one that it had before. It speaks of a run, as
+  -- the kit's clauses on iterators do, so that callers' proofs find the items
+  abbrev pub FindsLast : (K → Option V) → Map K V → Type 0
+  FindsLast before m = (it : T) × becomes iter it × WholeRun steps it (λ p. (key : K) → get eq feeds m key ≡ update_all eq before p.items key)
+
+-- if the iterator's items stand under their keys' own hashes, the map's entries do
+abbrev pub KeepsOwn : {K V T U : Type 0} → (T → Option (Entry K V) → T → Type 0) → (U → T → Type 0) → U → Map K V → Type 0
+KeepsOwn {K} {V} {T} {U} steps becomes iter m = (it : T) × becomes iter it × WholeRun steps it (λ p. (feeds : K → HashWrites) → AreOwnEntries feeds p.items → AreOwn feeds m)

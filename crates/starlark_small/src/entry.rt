@@ -149,6 +149,7 @@ impl<'a, K: Eq, V> OccupiedEntry<'a, K, V> {
     pub fn get_mut(&mut self) -> &mut V
         ensures* writes_back { sem 𝓛 (occupied_keeps K.row V.row self.entry result) }
         ensures value { option_map entry_value (stored self.old) ≡ Some result.now }
+        ensures puts { (value : V) → Puts (Occupied self.old) value (written self.old value) }
     {
         let index = self.index;
         self.map.value_at_mut(index)
@@ -171,6 +172,7 @@ impl<'a, K: Eq, V> OccupiedEntry<'a, K, V> {
     pub fn as_key_and_mut_value(&mut self) -> (&K, &mut V)
         ensures* writes_back { sem 𝓛 (occupied_keeps K.row V.row self.entry result.1) }
         ensures pair { option_map pair_of (stored self.old) ≡ Some (result.0.now, result.1.now) }
+        ensures puts { (value : V) → Puts (Occupied self.old) value (written self.old value) }
     {
         let index = self.index;
         self.map.entry_mut(index)

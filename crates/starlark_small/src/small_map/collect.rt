@@ -1,8 +1,8 @@
 //! `SmallMap`s from the items of iterators.
-ghost use Rattle.std.specs.Prelude.{◌≡◌, ◌+◌, ◌≤◌, ◌||◌, length, nat_lt, IfOk, IsOk, OnErr};
+ghost use Rattle.std.specs.Prelude.{◌≡◌, ◌+◌, ◌≤◌, ◌||◌, length, nat_lt, None, IfOk, IsOk, OnOk, OnErr};
 ghost use Rattle.std.specs.Iterator.{IsFiniteIterable, IsFinite, size};
-ghost use Rattle.starlark_small.specs.Calling.{AreOwn};
-ghost use Rattle.starlark_small.specs.Collect.{Collects, Extends, Inserts, IsExtended, own_entry};
+ghost use Rattle.starlark_small.specs.Calling.{AreOwn, get};
+ghost use Rattle.starlark_small.specs.Collect.{Collects, Extends, FindsLast, Inserts, IsExtended, KeepsOwn, own_entry};
 ghost use Rattle.starlark_small.specs.Growth.{GrowsInSteps};
 ghost use Rattle.starlark_small.specs.Index.{unindexed};
 ghost use Rattle.starlark_small.specs.Map.{KeepsRoom};
@@ -20,6 +20,7 @@ impl<K: Eq + Hash + Drop, V: Drop> SmallMap<K, V> {
     /// insertions one after the other. The iterator must end.
     pub fn extend<I: IntoIterator<Item = (K, V)>>(&mut self, iter: I) -> Result<(), AllocError>
         requires { IsFiniteIterable I.into_iter_gives I.IntoIter.can_next I.IntoIter.remaining iter }
+        ensures found { OnOk result (FindsLast K.eq K.hash_input I.IntoIter.next_gives I.into_iter_gives iter (get K.eq K.hash_input self.old) self.new) }
         ensures entries { Extends K.eq (own_entry K.hash_input) I.IntoIter.next_gives I.into_iter_gives iter self.old.entries self.new.entries result }
         ensures memory { IsExtended ((it : _) → I.into_iter_gives iter it → size (I.IntoIter.remaining it) ≤ self.old.room) self.old self.new result }
         ensures left { (it : I.IntoIter) × I.into_iter_gives iter it × (self.old.room ≤ self.new.room + size (I.IntoIter.remaining it)) }
@@ -37,6 +38,7 @@ impl<K: Eq + Hash + Drop, V: Drop> SmallMap<K, V> {
         iter: I,
     ) -> Result<Self, AllocError>
         requires { IsFiniteIterable I.into_iter_gives I.IntoIter.can_next I.IntoIter.remaining iter }
+        ensures found { IfOk result (FindsLast K.eq K.hash_input I.IntoIter.next_gives I.into_iter_gives iter (λ _. None)) }
         ensures map { IfOk result (Collects K.eq (own_entry K.hash_input) I.IntoIter.next_gives I.into_iter_gives I.IntoIter.remaining iter) }
         ensures own { IfOk result (AreOwn K.hash_input) }
         ensures succeeds { ((it : _) → I.into_iter_gives iter it → size (I.IntoIter.remaining it) ≡ 0) → IsOk result }
@@ -80,6 +82,7 @@ impl<K: Eq + Drop, V: Drop> SmallMap<K, V> {
     ) -> Result<Self, AllocError>
         requires { IsFiniteIterable I.into_iter_gives I.IntoIter.can_next I.IntoIter.remaining iter }
         ensures map { IfOk result (Collects K.eq (λ item. item) I.IntoIter.next_gives I.into_iter_gives I.IntoIter.remaining iter) }
+        ensures own { IfOk result (KeepsOwn I.IntoIter.next_gives I.into_iter_gives iter) }
         ensures succeeds { ((it : _) → I.into_iter_gives iter it → size (I.IntoIter.remaining it) ≡ 0) → IsOk result }
     {
         let items = iter.into_iter();

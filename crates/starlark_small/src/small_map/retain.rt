@@ -17,6 +17,7 @@ impl<K: Eq + Drop, V: Drop> SmallMap<K, V> {
         requires { TakesInTurn (CalledAtEntry F.FnMut) (TakesEntry F.FnMut) keep self.old.entries }
         ensures entries { Retains (CalledAtEntry F.FnMut) keep self.old.entries self.new.entries }
         ensures filtered { (test : Entry K V → Bool) → ((f : F) (e : Entry K V) (keeps : Bool) (d : Entry K V) (left : F) → CalledAtEntry F.FnMut f e keeps d left → (keeps ≡ test e) × (d ≡ e)) → self.new.entries ≡ filter test self.old.entries }
+        ensures tested { (test : Entry K V → Bool) → ((e : Entry K V) (keeps : Bool) (d : Entry K V) (left : F) → CalledAtEntry F.FnMut keep e keeps d left → (keeps ≡ test e) × (d ≡ e) × (left ≡ keep)) → self.new.entries ≡ filter test self.old.entries }
         ensures own { (feeds : K → HashWrites) → AreOwn feeds self.old → AreOwn feeds self.new }
         ensures kept { KeepsMemory self.old self.new }
     {

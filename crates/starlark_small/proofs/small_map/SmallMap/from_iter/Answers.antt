@@ -4,6 +4,7 @@ use Rattle.starlark_small.proofs.Growing.{stepped_from}
 use Rattle.starlark_small.specs.Collect.{insert_all, own_entry}
 use Rattle.starlark_small.specs.Index.{unindexed}
 use Rattle.starlark_small.proofs.CallerOwn.{own-empty, own-inserted_all}
+use Rattle.starlark_small.proofs.CallerCollected.{finds_collected}
 use Rattle.starlark_small.proofs.small_map.SmallMap.from_iter.Goals as goal
 
 pub returns-clause-map : goal.returns-clause-map
@@ -22,6 +23,11 @@ returns-clause-map g c =
       capacity = c.in_ok-insert_items.ensures.capacity ∙ stepped_from c.in_ok-map.map c.insert_items.new.self c.size_hint.result.0 none c.in_ok-map.ensures.capacity;
       indexed = c.in_ok-insert_items.ensures.indexed ∙ ap (λ had. had || nat_lt unindexed (length c.insert_items.new.self.entries)) c.in_ok-map.ensures.indexed;
     }
+
+pub returns-clause-found : goal.returns-clause-found
+returns-clause-found g c =
+    finds_collected g.K.PartialEq.eq g.met.K.Eq.laws g.K.Hash.hash_input g.met.K.Hash.respects_eq g.I.IntoIter.Iterator.next_gives g.I.IntoIterator.into_iter_gives c.args.iter
+    g.I.IntoIter.Iterator.remaining _ (returns-clause-map g c)
 
 pub returns-clause-own : goal.returns-clause-own
 returns-clause-own g c =

@@ -4,6 +4,7 @@ use Rattle.starlark_lists.specs.Entries.{Entry}
 use Rattle.starlark_small.proofs.Growing.{stepped_from}
 use Rattle.starlark_small.specs.Collect.{insert_all}
 use Rattle.starlark_small.specs.Index.{unindexed}
+use Rattle.starlark_small.proofs.CallerCollected.{own_collected}
 use Rattle.starlark_small.proofs.small_map.SmallMap.from_iter_hashed.Goals as goal
 
 pub returns-clause-map : goal.returns-clause-map
@@ -22,3 +23,8 @@ returns-clause-map g c =
       capacity = c.in_ok-insert_entries.ensures.capacity ∙ stepped_from c.in_ok-map.map c.insert_entries.new.self c.size_hint.result.0 none c.in_ok-map.ensures.capacity;
       indexed = c.in_ok-insert_entries.ensures.indexed ∙ ap (λ had. had || nat_lt unindexed (length c.insert_entries.new.self.entries)) c.in_ok-map.ensures.indexed;
     }
+
+pub returns-clause-own : goal.returns-clause-own
+returns-clause-own g c =
+    own_collected g.K.PartialEq.eq g.I.IntoIter.Iterator.next_gives g.I.IntoIterator.into_iter_gives c.args.iter
+    g.I.IntoIter.Iterator.remaining _ (returns-clause-map g c)

@@ -1,8 +1,8 @@
 use Rattle.std.proofs.Common.{arith}
 use Rattle.starlark_small.proofs.Retained.{IsSingle-retained, length-retained}
-use Rattle.std.proofs.Common.{rules}
+use Rattle.std.proofs.Common.{refl, rules}
 use Rattle.starlark_small.proofs.CallerOwn.{own-retained}
-use Rattle.starlark_small.proofs.Retained.{filtered}
+use Rattle.starlark_small.proofs.Retained.{filtered, tested}
 use Rattle.starlark_small.proofs.small_map.SmallMap.retain.Goals as goal
 
 pub note_all-requires-clause-room : goal.note_all-requires-clause-room
@@ -20,3 +20,6 @@ returns-clause-filtered g c test says = filtered g.F.FnMut test says c.args.keep
 
 pub returns-clause-own : goal.returns-clause-own
 returns-clause-own g c feeds = own-retained feeds g.F.FnMut c.args.keep _ _ (search rules)
+
+pub returns-clause-tested : goal.returns-clause-tested
+returns-clause-tested g c test says = tested g.F.FnMut test c.args.keep says c.args.keep refl _ _ (search rules)
