@@ -1,9 +1,22 @@
 -- The runs of an iterator that gives each item beside `()` are runs of the one inside.
-use Rattle.std.proofs.Common.{◌≡◌, Bool, List, [], ◌∷◌, ◌++◌, map, Option, Result, Ok, Err, refl, sym, ap, subst, ◌∙◌}
+use Rattle.std.proofs.Common.{◌≡◌, Bool, true, false, List, [], ◌∷◌, ◌++◌, map, Option, Result, Ok, Err, OnOk, is_some, refl, sym, ap, subst, ◌∙◌}
+use Rattle.std.specs.Prelude.{◌||◌}
+use Rattle.std.specs.Cmp.{IsEquivalence}
+use Rattle.std.specs.Hash.{HashWrites}
 use Rattle.std.specs.Iterator.{Count, Drains, Yields}
+use Rattle.std.specs.Map.{keys_of}
+use Rattle.std.specs.Set.{is_member}
+use Rattle.std.proofs.lemmas.Map.Made.{is_some-update_all}
+use Rattle.starlark_hash.specs.Hasher.{own_hash}
+use Rattle.starlark_hash.specs.declared.hashed.Hashed.{Hashed}
 use Rattle.starlark_lists.specs.Entries.{Entry}
-use Rattle.starlark_small.specs.Collect.{Collects, Extends, Inserts, insert_all}
-use Rattle.starlark_sets.specs.Collect.{StepsBeside}
+use Rattle.starlark_lists.specs.Finding.{found}
+use Rattle.starlark_small.specs.Calling.{AreOwn, AreOwnEntries, contains}
+use Rattle.starlark_small.specs.Collect.{Collects, Extends, Inserts, insert_all, own_entry}
+use Rattle.starlark_small.proofs.CallerCollected.{looked_all, run_of}
+use Rattle.starlark_small.proofs.CallerOwn.{own-inserted_entries}
+use Rattle.starlark_small.proofs.CallerUpdates.{empty-found as none_found}
+use Rattle.starlark_sets.specs.Collect.{HasEach, KeepsOwn, StepsBeside, element_entry, own_element}
 use Rattle.starlark_sets.specs.Set.{Elements, Set}
 
 module _ {S A : Type 0} (steps : S → Option A → S → Type 0) where
@@ -57,3 +70,62 @@ module _ {S A : Type 0} (steps : S → Option A → S → Type 0) where
     pub extends_alone : {U E : Type 0} (becomes : U → S → Type 0) (iter : U) (it : S) (old new : Elements T) (r : Result (Unit {0}) E)
         → becomes iter it → Extends eq beside (StepsBeside steps) (λ s t. t ≡ s) it old new r → Extends eq entry steps becomes iter old new r
     extends_alone becomes iter it old new r made put = record { it = put.it; made = subst (becomes iter) (sym put.made) made; inserts = inserts_alone put.it old new r put.inserts }
+
+-- what a set has once an iterator's items went in
+module _ {T : Type 0} (eq : T → T → Bool) (laws : IsEquivalence eq) (feeds : T → HashWrites) (alike : (x y : T) → eq x y ≡ true → feeds x ≡ feeds y) where
+  abbrev paired : T → T × Unit {0}
+  paired x = (x, tt)
+
+  keys_paired : (xs : List T) → keys_of (map paired xs) ≡ xs
+  keys_paired [] = refl
+  keys_paired (x ∷ xs) = ap (λ l. x ∷ l) (keys_paired xs)
+
+  entries_paired : (xs : List T) → map (own_element feeds) xs ≡ map (own_entry feeds) (map paired xs)
+  entries_paired [] = refl
+  entries_paired (x ∷ xs) = ap (λ l. own_element feeds x ∷ l) (entries_paired xs)
+
+  or_comm : (a b : Bool) → (a || b) ≡ (b || a)
+  or_comm true true = refl
+  or_comm true false = refl
+  or_comm false true = refl
+  or_comm false false = refl
+
+  has_all : (xs : List T) (es : Elements T) (element : T)
+      → is_some (found (eq element) (own_hash feeds element) (insert_all eq es (map (own_element feeds) xs))) ≡ (is_member eq xs element || is_some (found (eq element) (own_hash feeds element) es))
+  has_all xs es element =
+      ap (λ l. is_some (found (eq element) (own_hash feeds element) (insert_all eq es l))) (entries_paired xs)
+      ∙ ap is_some (looked_all eq laws feeds alike (map paired xs) es element)
+      ∙ is_some-update_all laws element (λ k. found (eq k) (own_hash feeds k) es) (map paired xs)
+      ∙ ap (λ l. is_some (found (eq element) (own_hash feeds element) es) || is_member eq l element) (keys_paired xs)
+      ∙ or_comm (is_some (found (eq element) (own_hash feeds element) es)) (is_member eq xs element)
+
+  module _ {S U : Type 0} (steps : S → Option T → S → Type 0) (becomes : U → S → Type 0) (iter : U) where
+    pub has_extended : {E : Type 0} (r : Result (Unit {0}) E) (old new : Set T) → Extends eq (own_element feeds) steps becomes iter old.entries new.entries r
+        → OnOk r (HasEach eq feeds steps becomes iter (contains eq feeds old) new)
+    has_extended (Ok a) old new went =
+        let in_all = went.inserts in (
+          went.it,
+          went.made,
+          run_of steps went.it in_all.items (λ xs. (element : T) → contains eq feeds new element ≡ (is_member eq xs element || contains eq feeds old element)) in_all.ended
+              (λ element. ap (λ l. is_some (found (eq element) (own_hash feeds element) l)) in_all.entries ∙ has_all in_all.items old.entries element),
+        )
+    has_extended (Err e) old new went = tt
+
+    pub has_collected : (remaining : S → Count) (set : Set T) → Collects eq (own_element feeds) steps becomes remaining iter set → HasEach eq feeds steps becomes iter (λ _. false) set
+    has_collected remaining set has = (
+      has.it,
+      has.made,
+      run_of steps has.it has.items (λ xs. (element : T) → contains eq feeds set element ≡ (is_member eq xs element || false)) has.drained
+          (λ element. ap (λ l. is_some (found (eq element) (own_hash feeds element) l)) has.entries ∙ has_all has.items [] element
+          ∙ ap (λ o. is_member eq has.items element || is_some o) (none_found {K = T} {V = Unit {0}} [] refl (eq element) (own_hash feeds element))),
+    )
+
+-- elements that were given under their own hashes stay so
+pub own_collected : {T S U : Type 0} (eq : T → T → Bool) (steps : S → Option (Hashed T) → S → Type 0) (becomes : U → S → Type 0) (iter : U) (remaining : S → Count) (set : Set T)
+    → Collects eq element_entry steps becomes remaining iter set → KeepsOwn steps becomes iter set
+own_collected {T} eq steps becomes iter remaining set has = (
+  has.it,
+  has.made,
+  run_of steps has.it has.items (λ xs. (feeds : T → HashWrites) → AreOwnEntries feeds (map element_entry xs) → AreOwn feeds set) has.drained
+      (λ feeds own. own-inserted_entries feeds eq set.entries (map element_entry has.items) has.entries own),
+)

@@ -1,5 +1,5 @@
 -- What one closure's calls retain of a list is what another's retain, of which each of them is a call.
-use Rattle.std.proofs.Common.{◌≡◌, Bool, List, [], ◌∷◌, ap, ◌∙◌}
+use Rattle.std.proofs.Common.{◌≡◌, Bool, List, [], ◌∷◌, ap, subst, ◌∙◌}
 use Rattle.std.specs.Prelude.{filter, if◌then◌else◌}
 use Rattle.std.specs.List.{FoldsTo}
 use Rattle.starlark_lists.specs.Retain.{Retains, TakesInTurn, MayLeave}
@@ -30,3 +30,11 @@ filtered_by calls test says f [] kept none = none
 filtered_by calls test says f (x ∷ xs) kept (keeps, y, f', rest, called, others, is) =
     let s = says f x keeps y f' called in
     is ∙ (λ i. if s.0 i then s.1 i ∷ rest else rest) ∙ ap (λ l. if test x then x ∷ l else l) (filtered_by calls test says f' xs rest others)
+
+-- the same, where each call leaves the closure as it was
+pub tested_by : {F X : Type 0} (calls : F → X → Bool → X → F → Type 0) (test : X → Bool) (f : F) → ((x : X) (keeps : Bool) (y : X) (left : F) → calls f x keeps y left → (keeps ≡ test x) × (y ≡ x) × (left ≡ f))
+    → (f' : F) → f' ≡ f → (xs kept : List X) → Retains calls f' xs kept → kept ≡ filter test xs
+tested_by calls test f says f' same [] kept none = none
+tested_by calls test f says f' same (x ∷ xs) kept (keeps, y, left, rest, called, others, is) =
+    let s = says x keeps y left (subst (λ h. calls h x keeps y left) same called) in
+    is ∙ (λ i. if s.0 i then s.1 i ∷ rest else rest) ∙ ap (λ l. if test x then x ∷ l else l) (tested_by calls test f says left s.2 xs rest others)

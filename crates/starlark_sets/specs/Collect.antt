@@ -1,10 +1,14 @@
 -- Sets of an iterator's items.
-use Rattle.std.specs.Prelude.{Option}
+use Rattle.std.specs.Prelude.{◌≡◌, ◌||◌, Bool, Option, map}
 use Rattle.std.specs.Hash.{HashWrites}
+use Rattle.std.specs.Iterator.Runs.{WholeRun}
 use Rattle.std.specs.Option.{option_map}
+use Rattle.std.specs.Set.{is_member}
 use Rattle.starlark_hash.specs.declared.hashed.Hashed.{Hashed}
 use Rattle.starlark_lists.specs.Entries.{Entry}
+use Rattle.starlark_small.specs.Calling.{AreOwn, AreOwnEntries, contains}
 use Rattle.starlark_small.specs.Map.{own_hashed}
+use Rattle.starlark_sets.specs.Set.{Set}
 
 module _ {T : Type 0} where
   -- an element that stands under a hash, as a set's entry
@@ -18,3 +22,13 @@ module _ {T : Type 0} where
 -- a step of an iterator that gives each item beside `()`, as a set puts it in
 abbrev pub StepsBeside : {S A : Type 0} → (S → Option A → S → Type 0) → S → Option (A × Unit {0}) → S → Type 0
 StepsBeside steps s r t = steps s (option_map (λ p. p.0) r) t
+
+module _ {T S U : Type 0} (eq : T → T → Bool) (feeds : T → HashWrites) (steps : S → Option T → S → Type 0) (becomes : U → S → Type 0) (iter : U) where
+  -- the set has each of the iterator's items, and of all others what it had before. It speaks of a run, as the kit's clauses on
+  -- iterators do, so that callers' proofs find the items
+  abbrev pub HasEach : (T → Bool) → Set T → Type 0
+  HasEach before s = (it : S) × becomes iter it × WholeRun steps it (λ p. (element : T) → contains eq feeds s element ≡ (is_member eq p.items element || before element))
+
+-- if the iterator's elements stand under their own hashes, the set's do
+abbrev pub KeepsOwn : {T S U : Type 0} → (S → Option (Hashed T) → S → Type 0) → (U → S → Type 0) → U → Set T → Type 0
+KeepsOwn {T} {S} {U} steps becomes iter s = (it : S) × becomes iter it × WholeRun steps it (λ p. (feeds : T → HashWrites) → AreOwnEntries feeds (map element_entry p.items) → AreOwn feeds s)

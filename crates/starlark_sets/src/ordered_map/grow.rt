@@ -1,12 +1,15 @@
 //! What puts entries into an `OrderedMap`, and what may ask for memory.
-ghost use Rattle.std.specs.Prelude.{◌≡◌, ◌+◌, ◌<◌, ◌≤◌, if◌then◌else◌, length, nat_lt, None, Some, IsOk, IfOk, IfErr, OnOk, OnErr};
+ghost use Rattle.std.specs.Prelude.{◌≡◌, ◌+◌, ◌<◌, ◌≤◌, if◌then◌else◌, is_some, length, nat_lt, None, Some, IsOk, IsTrue, IfOk, IfErr, OnOk, OnErr};
 ghost use Rattle.std.specs.Iterator.{IsFiniteIterable, size};
+ghost use Rattle.std.specs.Hash.{HashWrites};
 ghost use Rattle.std.specs.List.{AllZip};
+ghost use Rattle.starlark_hash.specs.declared.hash_value.StarlarkHashValue.{StarlarkHashValue};
+ghost use Rattle.starlark_lists.specs.Finding.{found};
 ghost use Rattle.starlark_lists.specs.Entries.{value_at, match_of};
 ghost use Rattle.starlark_lists.specs.Insertion.{insert_entry};
 ghost use Rattle.starlark_lists.specs.Sorting.{Ascends, sorted_by_key};
 ghost use Rattle.starlark_small.specs.Clone.{IsEqualClone};
-ghost use Rattle.starlark_small.specs.Collect.{Collects, Extends, IsExtended, own_entry};
+ghost use Rattle.starlark_small.specs.Collect.{Collects, Extends, FindsLast, IsExtended, own_entry};
 ghost use Rattle.starlark_small.specs.Index.{unindexed};
 ghost use Rattle.starlark_small.specs.Inserted.{LeavesMemory};
 ghost use Rattle.starlark_small.specs.Map.{KeepsMemory, own_hashed};
@@ -76,6 +79,7 @@ impl<K: Eq + Hash + Drop, V: Drop> OrderedMap<K, V> {
     /// insertions one after the other. The iterator must end.
     pub fn extend<I: IntoIterator<Item = (K, V)>>(&mut self, iter: I) -> Result<(), AllocError>
         requires { IsFiniteIterable I.into_iter_gives I.IntoIter.can_next I.IntoIter.remaining iter }
+        ensures found { OnOk result (FindsLast K.eq K.hash_input I.IntoIter.next_gives I.into_iter_gives iter (get K.eq K.hash_input self.old) self.new) }
         ensures entries { Extends K.eq (own_entry K.hash_input) I.IntoIter.next_gives I.into_iter_gives iter self.old.entries self.new.entries result }
         ensures memory { IsExtended ((it : _) → I.into_iter_gives iter it → size (I.IntoIter.remaining it) ≤ self.old.room) self.old self.new result }
         ensures own { AreOwn K.hash_input self.old → AreOwn K.hash_input self.new }
@@ -92,6 +96,7 @@ impl<K: Eq + Hash + Drop, V: Drop> OrderedMap<K, V> {
         iter: I,
     ) -> Result<Self, AllocError>
         requires { IsFiniteIterable I.into_iter_gives I.IntoIter.can_next I.IntoIter.remaining iter }
+        ensures found { IfOk result (FindsLast K.eq K.hash_input I.IntoIter.next_gives I.into_iter_gives iter (λ _. None)) }
         ensures map { IfOk result (Collects K.eq (own_entry K.hash_input) I.IntoIter.next_gives I.into_iter_gives I.IntoIter.remaining iter) }
         ensures own { IfOk result (AreOwn K.hash_input) }
         ensures succeeds { ((it : _) → I.into_iter_gives iter it → size (I.IntoIter.remaining it) ≡ 0) → IsOk result }
@@ -109,6 +114,8 @@ impl<K: Eq + Clone, V: Clone> OrderedMap<K, V> {
         requires { IsEqualClone K.eq K.is_clone }
         ensures entries { IfOk result (λ map. AllZip (IsEntryClone K.is_clone V.is_clone) self.now.entries map.entries) }
         ensures same { IfOk result (λ map. IsLawfulClone K.is_clone → IsLawfulClone V.is_clone → map.entries ≡ self.now.entries) }
+        ensures found { IfOk result (λ map. (under : StarlarkHashValue) (key : K) → is_some (found (K.eq key) under map.entries) ≡ is_some (found (K.eq key) under self.now.entries)) }
+        ensures own { IfOk result (λ map. (feeds : K → HashWrites) → ((x y : K) → IsTrue (K.eq x y) → feeds x ≡ feeds y) → AreOwn feeds self.now → AreOwn feeds map) }
         ensures capacity { IfOk result (λ map. map.capacity ≡ length self.now.entries) }
         ensures indexed { IfOk result (λ map. map.indexed ≡ nat_lt unindexed (length self.now.entries)) }
         ensures succeeds { length self.now.entries ≡ 0 → IsOk result }

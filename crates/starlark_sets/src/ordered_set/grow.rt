@@ -1,7 +1,10 @@
 //! What puts elements into an `OrderedSet`, and what may ask for memory.
-ghost use Rattle.std.specs.Prelude.{◌≡◌, ◌+◌, ◌≤◌, false, if◌then◌else◌, not, is_some, length, nat_lt, None, Some, IsOk, IfOk, IfErr, OnOk, OnErr};
+ghost use Rattle.std.specs.Prelude.{◌≡◌, ◌+◌, ◌≤◌, false, if◌then◌else◌, not, is_some, length, nat_lt, None, Some, IsOk, IsTrue, IfOk, IfErr, OnOk, OnErr};
 ghost use Rattle.std.specs.Iterator.{IsFiniteIterable, size};
+ghost use Rattle.std.specs.Hash.{HashWrites};
 ghost use Rattle.std.specs.List.{AllZip};
+ghost use Rattle.starlark_hash.specs.declared.hash_value.StarlarkHashValue.{StarlarkHashValue};
+ghost use Rattle.starlark_lists.specs.Finding.{found};
 ghost use Rattle.starlark_lists.specs.Entries.{match_of};
 ghost use Rattle.starlark_lists.specs.Sorting.{Ascends, sorted_by_key};
 ghost use Rattle.starlark_small.specs.Clone.{IsEqualClone};
@@ -11,7 +14,7 @@ ghost use Rattle.starlark_small.specs.Inserted.{IsInserted, IsRefused};
 ghost use Rattle.starlark_small.specs.Map.{KeepsMemory, own_hashed};
 ghost use Rattle.starlark_vec2.specs.Collect.{IsLawfulClone};
 ghost use Rattle.starlark_small.specs.Calling.{AreOwn, IsSameAt, Updates, contains};
-ghost use Rattle.starlark_sets.specs.Collect.{own_element};
+ghost use Rattle.starlark_sets.specs.Collect.{HasEach, own_element};
 ghost use Rattle.starlark_sets.specs.Set.{Adds};
 ghost use Rattle.starlark_sets.specs.Unit.{IsElementClone};
 
@@ -77,6 +80,7 @@ impl<T: Eq + Hash + Drop> OrderedSet<T> {
     /// insertions one after the other. The iterator must end.
     pub fn extend<I: IntoIterator<Item = T>>(&mut self, iter: I) -> Result<(), AllocError>
         requires { IsFiniteIterable I.into_iter_gives I.IntoIter.can_next I.IntoIter.remaining iter }
+        ensures found { OnOk result (HasEach T.eq T.hash_input I.IntoIter.next_gives I.into_iter_gives iter (contains T.eq T.hash_input self.old) self.new) }
         ensures entries { Extends T.eq (own_element T.hash_input) I.IntoIter.next_gives I.into_iter_gives iter self.old.entries self.new.entries result }
         ensures memory { IsExtended ((it : _) → I.into_iter_gives iter it → size (I.IntoIter.remaining it) ≤ self.old.room) self.old self.new result }
         ensures own { AreOwn T.hash_input self.old → AreOwn T.hash_input self.new }
@@ -89,6 +93,7 @@ impl<T: Eq + Hash + Drop> OrderedSet<T> {
     /// index are as `SmallMap::from_iter` makes them. Without items it is not refused. The iterator must end.
     pub fn from_iter<I: IntoIterator<Item = T>>(alloc: Global, iter: I) -> Result<Self, AllocError>
         requires { IsFiniteIterable I.into_iter_gives I.IntoIter.can_next I.IntoIter.remaining iter }
+        ensures found { IfOk result (HasEach T.eq T.hash_input I.IntoIter.next_gives I.into_iter_gives iter (λ _. false)) }
         ensures set { IfOk result (Collects T.eq (own_element T.hash_input) I.IntoIter.next_gives I.into_iter_gives I.IntoIter.remaining iter) }
         ensures own { IfOk result (AreOwn T.hash_input) }
         ensures succeeds { ((it : _) → I.into_iter_gives iter it → size (I.IntoIter.remaining it) ≡ 0) → IsOk result }
@@ -106,6 +111,8 @@ impl<T: Eq + Clone> OrderedSet<T> {
         requires { IsEqualClone T.eq T.is_clone }
         ensures entries { IfOk result (λ set. AllZip (IsElementClone T.is_clone) self.now.entries set.entries) }
         ensures same { IfOk result (λ set. IsLawfulClone T.is_clone → set.entries ≡ self.now.entries) }
+        ensures found { IfOk result (λ set. (under : StarlarkHashValue) (key : T) → is_some (found (T.eq key) under set.entries) ≡ is_some (found (T.eq key) under self.now.entries)) }
+        ensures own { IfOk result (λ set. (feeds : T → HashWrites) → ((x y : T) → IsTrue (T.eq x y) → feeds x ≡ feeds y) → AreOwn feeds self.now → AreOwn feeds set) }
         ensures capacity { IfOk result (λ set. set.capacity ≡ length self.now.entries) }
         ensures indexed { IfOk result (λ set. set.indexed ≡ nat_lt unindexed (length self.now.entries)) }
         ensures succeeds { length self.now.entries ≡ 0 → IsOk result }

@@ -18,6 +18,7 @@ impl<T: Eq + Drop> SmallSet<T> {
         requires { TakesInTurn (CalledAtElement F.FnMut) (TakesElement F.FnMut) keep self.old.entries }
         ensures entries { Retains (CalledAtElement F.FnMut) keep self.old.entries self.new.entries }
         ensures filtered { (test : T → Bool) → ((f : F) (element : T) (keeps : Bool) (left : F) → CalledAt F.FnMut f element keeps left → keeps ≡ test element) → self.new.entries ≡ filter (λ e. test (entry_key e)) self.old.entries }
+        ensures tested { (test : T → Bool) → ((element : T) (keeps : Bool) (left : F) → CalledAt F.FnMut keep element keeps left → (keeps ≡ test element) × (left ≡ keep)) → self.new.entries ≡ filter (λ e. test (entry_key e)) self.old.entries }
         ensures own { (feeds : T → HashWrites) → AreOwn feeds self.old → AreOwn feeds self.new }
         ensures kept { KeepsMemory self.old self.new }
     {
