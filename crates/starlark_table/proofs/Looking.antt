@@ -1,8 +1,9 @@
 -- A search for a hash along windows of tags: what each turn of its loop knows, and leaves to the next.
-use Rattle.std.proofs.Common.{◌≡◌, ◌≢◌, ℕ, ◌+◌, ◌-◌, ◌*◌, ◌/◌, ◌^◌, ◌<◌, ◌≤◌, List, ◌∷◌, length, Option, Some, None, Bool, true, false, arith, refl, sym, ◌∙◌, ap, subst}
+use Rattle.std.proofs.Common.{◌≡◌, ◌≢◌, ℕ, ◌+◌, ◌-◌, ◌*◌, ◌/◌, ◌^◌, ◌<◌, ◌≤◌, List, ◌∷◌, length, Option, Some, None, Bool, true, false, nat_eq, eq-eqb, arith, refl, sym, ◌∙◌, ap, subst}
 use Rattle.std.specs.Borrow.{Bor}
 use Rattle.std.specs.Fn.{CalledAt, TakesAt, Mut}
 use Rattle.std.specs.Int.Count.{count_trailing_zeros}
+use Rattle.std.proofs.lemmas.Bool.{eqb-true, false≢true}
 use Rattle.starlark_lists.specs.Search.{Searches, CanSearch}
 use Rattle.starlark_columns.specs.Places.{IsFilled}
 use Rattle.starlark_table.specs.Table.{holders, holders_in}
@@ -13,6 +14,14 @@ use Rattle.starlark_table.proofs.Path.{path_from, listed}
 use Rattle.starlark_table.proofs.Searching.{Searching, searching_begins, searching_on, searching_as, searching_asks, searching_refuses, searching_accepts, searching_ends, path_taken, path_skipped, path_moved}
 use Rattle.starlark_table.proofs.TagBits.{first-by_bits, none-by_bits}
 use Rattle.starlark_table.proofs.Windows.{AtWindow, Matched, way, window_begins, window_matches, window_ends, window_goes_on}
+
+-- by the answer of a test, a hash is the one that is sought
+pub same-by_test : {b : Bool} (h hash : ℕ) → b ≡ nat_eq h hash → b ≡ true → h ≡ hash
+same-by_test h hash is said = eqb-true h hash (sym is ∙ said)
+
+-- and another one is not
+pub other-by_test : {b : Bool} (h hash : ℕ) → b ≡ nat_eq h hash → b ≡ false → h ≡ hash → ⊥
+other-by_test h hash is said same = false≢true (sym said ∙ is ∙ eq-eqb h hash same)
 
 nearer : (n start place k : ℕ) → place + k < start + 16 → n + (start + 16 - (place + k + 1)) < n + (start + 16 - place)
 nearer n start place k near = omega arith

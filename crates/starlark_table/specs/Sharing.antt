@@ -5,20 +5,26 @@ use Rattle.std.specs.Borrow.{Fml, RattleType, MutBor, GName, follows, follows_so
 use Rattle.std.specs.Global.{Vec}
 use Rattle.std_alloc.specs.contracts.vec.Vec.{the_row as vec_row}
 use Rattle.std_heap.specs.contracts.Global.{the_row as global_row}
-use Rattle.std_heap.specs.contracts.GlobalAllocator.TheImpl.{ghosts}
+use Rattle.std_heap.specs.contracts.GlobalAllocator.TheImpl.{ghosts as global_ghosts}
 use mathlib.Core.Option.{none}
 use denote.Struct.Tuple.{Tuple}
 use Rattle.starlark_columns.specs.Lent.{kept_places}
 use Rattle.starlark_table.specs.Table.{Table}
-use Rattle.starlark_table.specs.contracts.ready_table.ReadyTable.{the_row}
+use Rattle.starlark_table.specs.Lends.{table_row}
+use Rattle.starlark_table.specs.contracts.kept.Kept.{the_row as kept_row}
+use Rattle.starlark_table.specs.contracts.kept.U64KeptHash.TheImpl.{ghosts}
 
--- the type `(u64, T)` of a member
+-- the type of a hash of 64 bits in its slot
+abbrev pub KeptRow : RattleType
+KeptRow = kept_row u64 ghosts
+
+-- the type of a member under such a hash
 abbrev pub Member : RattleType → RattleType
-Member T = Tuple (u64 ∷ T ∷ [])
+Member T = Tuple (KeptRow ∷ T ∷ [])
 
 -- the type `Vec<u8>` of the tags
 abbrev pub Tags : RattleType
-Tags = vec_row u8 global_row ghosts
+Tags = vec_row u8 global_row global_ghosts
 
 -- the tags end as they were
 abbrev pub tags_stay : MutBor (Vec ℕ) → Fml
@@ -31,4 +37,4 @@ with_kept kept t written = record t { slots = kept_places kept t.slots written.s
 module _ (T : RattleType) (kept : ℕ × T.Denot → ℕ × T.Denot → ℕ × T.Denot) where
   -- once a loan of the members ends, the table has in each full slot what was left there, but for what stays
   abbrev pub table_keeps : MutBor (Table T.Denot) → GName → Fml
-  table_keeps s γ = follows (the_row T) (the_row T) s.ghost_name γ (with_kept kept s.now)
+  table_keeps s γ = follows (table_row T) (table_row T) s.ghost_name γ (with_kept kept s.now)

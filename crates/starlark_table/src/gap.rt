@@ -4,13 +4,14 @@ ghost use Rattle.starlark_table.specs.Table.{filled};
 ghost use Rattle.starlark_table.specs.Layout.{at, InPlace, HasGap, IsTagged};
 ghost use Rattle.starlark_table.specs.Growth.{limit};
 
+use crate::kept::{Kept, KeptHash};
 use crate::places::{distance, home_among, next_place};
 use crate::probe::{Slots, is_full};
 use crate::tags::EMPTY;
 
 // Moves members back, each with its tag, so that no way from a home to its member crosses the empty place `start`.
 #[inline]
-pub(crate) fn close_gap<T>(slots: &mut Slots<T>, tags: &mut [u8], start: usize)
+pub(crate) fn close_gap<T, H: KeptHash>(slots: &mut Slots<T, H>, tags: &mut [u8], start: usize)
     requires start { start < length slots.old }
     requires empty { at slots.old start ≡ None }
     requires gap { HasGap (length slots.old) slots.old start }
@@ -25,7 +26,7 @@ pub(crate) fn close_gap<T>(slots: &mut Slots<T>, tags: &mut [u8], start: usize)
     let mut hole = start;
     let mut next = next_place(start, count);
     while tags[next] != EMPTY {
-        let home = home_among(count, slots.get(next).0);
+        let home = home_among(count, &slots.get(next).0);
         if distance(count, home, hole) < distance(count, home, next) {
             let member = slots.take(next);
             slots.write(hole, member);
@@ -38,7 +39,11 @@ pub(crate) fn close_gap<T>(slots: &mut Slots<T>, tags: &mut [u8], start: usize)
 
 // Takes a member out, and puts the others back in place.
 #[inline]
-pub(crate) fn take_out<T>(slots: &mut Slots<T>, tags: &mut [u8], slot: usize) -> Option<(u64, T)>
+pub(crate) fn take_out<T, H: KeptHash>(
+    slots: &mut Slots<T, H>,
+    tags: &mut [u8],
+    slot: usize,
+) -> Option<(Kept<H>, T)>
     requires load { length (filled slots.old) ≤ limit (length slots.old) }
     requires in_place { InPlace (length slots.old) slots.old }
     requires tagged { IsTagged tags.old slots.old }

@@ -7,6 +7,7 @@ ghost use Rattle.starlark_table.specs.Table.{filled, IsSlotClone};
 ghost use Rattle.starlark_table.specs.Layout.{at, tags_of_empty, window, InPlace, IsTagged, IsTaggedFrom};
 ghost use Rattle.starlark_table.specs.Growth.{limit, most_for};
 
+use crate::kept::KeptHash;
 use crate::probe::{Slots, put};
 use crate::tags::{EMPTY, PADDING, WINDOW, full_places};
 use std::alloc::{AllocError, Global};
@@ -50,11 +51,11 @@ pub(crate) fn empty_tags(alloc: Global, count: usize) -> Result<Vec<u8>, AllocEr
 }
 
 // Moves each member to the new slots, which have room for all, and gives the old ones back.
-pub(crate) fn move_all<T>(
+pub(crate) fn move_all<T, H: KeptHash>(
     alloc: Global,
-    mut old: Slots<T>,
+    mut old: Slots<T, H>,
     old_tags: &[u8],
-    slots: &mut Slots<T>,
+    slots: &mut Slots<T, H>,
     tags: &mut [u8],
 )
     requires old_tagged { IsTagged old_tags.now old }
@@ -75,11 +76,11 @@ pub(crate) fn move_all<T>(
 }
 
 // Moves the members of a window of places. The answer is where it ends.
-fn move_window<T>(
-    from: &mut Slots<T>,
+fn move_window<T, H: KeptHash>(
+    from: &mut Slots<T, H>,
     from_tags: &[u8],
     start: usize,
-    slots: &mut Slots<T>,
+    slots: &mut Slots<T, H>,
     tags: &mut [u8],
 ) -> usize
     requires start { start < length from.old }
@@ -110,10 +111,10 @@ fn move_window<T>(
 
 // Puts a clone of each member into the slot of the same place, which is empty. Where one is refused, those that were
 // made stand there.
-pub(crate) fn clone_members<T: Clone>(
-    slots: &Slots<T>,
+pub(crate) fn clone_members<T: Clone, H: KeptHash>(
+    slots: &Slots<T, H>,
     tags: &[u8],
-    copy: &mut Slots<T>,
+    copy: &mut Slots<T, H>,
     copy_tags: &mut [u8],
 ) -> Result<(), AllocError>
     requires tagged { IsTagged tags.now slots.now }
@@ -128,7 +129,7 @@ pub(crate) fn clone_members<T: Clone>(
             let (hash, item) = slots.get(place);
             let item = item.clone()?;
             copy_tags[place] = tags[place];
-            copy.write(place, (*hash, item));
+            copy.write(place, (hash.copied(), item));
         }
     }
     Ok(())

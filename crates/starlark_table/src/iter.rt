@@ -4,6 +4,7 @@ ghost use Rattle.std.specs.Iterator.{YieldsFirst, YieldsFirstRef, UpTo, at_most,
 ghost use Rattle.std.specs.Iterator.SizeHint.{IsWithinCount};
 ghost use Rattle.starlark_table.specs.Table.{filled, items_in};
 
+use crate::kept::KeptHash;
 use crate::probe::{Slots, full_slot};
 use crate::tags::EMPTY;
 use crate::walks::drop_all;
@@ -13,15 +14,15 @@ use std::marker::Model;
 
 /// The items of a table, each by `&`.
 #[derive(Drop)]
-pub struct Iter<'a, T> {
-    slots: &'a Slots<T>,
+pub struct Iter<'a, T, H: KeptHash = u64> {
+    slots: &'a Slots<T, H>,
     tags: &'a [u8],
     // The first slot that the walk has still to reach, and how many items it has still to give.
     slot: usize,
     left: usize,
 }
 
-impl<'a, T> Model for Iter<'a, T> {
+impl<'a, T, H: KeptHash> Model for Iter<'a, T, H> {
     ghost use Rattle.std.specs.Prelude.{◌≡◌, List, drop, length};
     ghost use Rattle.starlark_table.specs.Layout.{IsTagged};
     ghost use Rattle.starlark_table.specs.Table.{filled, items_in};
@@ -33,12 +34,12 @@ impl<'a, T> Model for Iter<'a, T> {
     ghost invariant = { λ it. IsTagged it.tags.now it.slots.now × (it.left ≡ length (filled (drop it.slot it.slots.now))) };
 }
 
-impl<'a, T> Iter<'a, T> {
+impl<'a, T, H: KeptHash> Iter<'a, T, H> {
     ghost use Rattle.std.specs.Prelude.{length};
     ghost use Rattle.starlark_table.specs.Layout.{IsTagged};
 
     #[inline]
-    pub(crate) fn new(slots: &'a Slots<T>, tags: &'a [u8], left: usize) -> Self
+    pub(crate) fn new(slots: &'a Slots<T, H>, tags: &'a [u8], left: usize) -> Self
         requires tagged { IsTagged tags.now slots.now }
         requires all { left ≡ length (filled slots.now) }
         ensures { result ≡ items_in slots.now }
@@ -52,7 +53,7 @@ impl<'a, T> Iter<'a, T> {
     }
 }
 
-impl<'a, T> Iterator for Iter<'a, T> {
+impl<'a, T, H: KeptHash> Iterator for Iter<'a, T, H> {
     type Item = &'a T;
 
     ghost next_gives = { YieldsFirstRef (λ rest. rest) };
@@ -80,16 +81,16 @@ impl<'a, T> Iterator for Iter<'a, T> {
     }
 }
 
-impl<'a, T> ExactSizeIterator for Iter<'a, T> {
+impl<'a, T, H: KeptHash> ExactSizeIterator for Iter<'a, T, H> {
     #[inline]
     fn len(&self) -> usize {
         self.left
     }
 }
 
-impl<'a, T> FusedIterator for Iter<'a, T> {}
+impl<'a, T, H: KeptHash> FusedIterator for Iter<'a, T, H> {}
 
-impl<'a, T> Clone for Iter<'a, T> {
+impl<'a, T, H: KeptHash> Clone for Iter<'a, T, H> {
     ghost is_clone = { λ it copy. copy ≡ it };
 
     ghost is_infallible = { λ _. ⊤ };
@@ -106,14 +107,14 @@ impl<'a, T> Clone for Iter<'a, T> {
 }
 
 /// The members of a table, each as its hash and its item, by value. What is left when it is dropped is dropped with it.
-pub struct IntoIter<T> {
-    slots: Slots<T>,
+pub struct IntoIter<T, H: KeptHash = u64> {
+    slots: Slots<T, H>,
     tags: Vec<u8>,
     slot: usize,
     left: usize,
 }
 
-impl<T> Model for IntoIter<T> {
+impl<T, H: KeptHash> Model for IntoIter<T, H> {
     ghost use Rattle.std.specs.Prelude.{◌≡◌, ℕ, ◌<◌, List, length, None};
     ghost use Rattle.starlark_table.specs.Layout.{at, IsTagged};
     ghost use Rattle.starlark_table.specs.Table.{filled};
@@ -126,12 +127,12 @@ impl<T> Model for IntoIter<T> {
     ghost invariant = { λ it. IsTagged it.tags.items it.slots × (it.left ≡ length (filled it.slots)) × ((p : ℕ) → p < it.slot → at it.slots p ≡ None) };
 }
 
-impl<T> IntoIter<T> {
+impl<T, H: KeptHash> IntoIter<T, H> {
     ghost use Rattle.std.specs.Prelude.{length};
     ghost use Rattle.starlark_table.specs.Layout.{IsTagged};
 
     #[inline]
-    pub(crate) fn new(slots: Slots<T>, tags: Vec<u8>, left: usize) -> Self
+    pub(crate) fn new(slots: Slots<T, H>, tags: Vec<u8>, left: usize) -> Self
         requires tagged { IsTagged tags.items slots }
         requires all { left ≡ length (filled slots) }
         ensures { result ≡ filled slots }
@@ -145,7 +146,7 @@ impl<T> IntoIter<T> {
     }
 }
 
-impl<T: Drop> Iterator for IntoIter<T> {
+impl<T: Drop, H: KeptHash> Iterator for IntoIter<T, H> {
     type Item = (u64, T);
 
     ghost next_gives = { YieldsFirst (λ rest. rest) };
@@ -161,7 +162,8 @@ impl<T: Drop> Iterator for IntoIter<T> {
         self.slot = slot + 1;
         self.left -= 1;
         self.tags[slot] = EMPTY;
-        Some(self.slots.take(slot))
+        let (hash, item) = self.slots.take(slot);
+        Some((hash.number(), item))
     }
 
     #[inline]
@@ -174,16 +176,16 @@ impl<T: Drop> Iterator for IntoIter<T> {
     }
 }
 
-impl<T: Drop> ExactSizeIterator for IntoIter<T> {
+impl<T: Drop, H: KeptHash> ExactSizeIterator for IntoIter<T, H> {
     #[inline]
     fn len(&self) -> usize {
         self.left
     }
 }
 
-impl<T: Drop> FusedIterator for IntoIter<T> {}
+impl<T: Drop, H: KeptHash> FusedIterator for IntoIter<T, H> {}
 
-impl<T: Drop> Drop for IntoIter<T> {
+impl<T: Drop, H: KeptHash> Drop for IntoIter<T, H> {
     fn drop(self) {
         let IntoIter {
             slots,

@@ -5,6 +5,7 @@ mod gap;
 mod growth;
 pub mod iter;
 mod iter_mut;
+pub mod kept;
 mod loan;
 mod near;
 mod pairs_mut;
@@ -16,5 +17,6 @@ mod walks;
 
 pub use iter::{IntoIter, Iter};
 pub use iter_mut::IterMut;
+pub use kept::KeptHash;
 pub use pairs_mut::PairsMut;
 pub use ready_table::ReadyTable;

@@ -4,6 +4,7 @@ ghost use Rattle.std.specs.Map.Iter.{deref_pair_mut};
 ghost use Rattle.std.specs.Option.{option_copied_mut, option_map};
 ghost use Rattle.starlark_table.specs.Lent.{AreMarked};
 
+use crate::kept::Kept;
 use crate::tags::EMPTY;
 use starlark_columns::loan::{AllButLast, First};
 use std::marker::Model;
@@ -12,7 +13,7 @@ use std::marker::Model;
 // `tie` is the loan of all, which the table follows.
 #[derive(Drop)]
 pub(crate) struct Loan<'a, T> {
-    places: starlark_columns::Loan<'a, (u64, T), First>,
+    places: starlark_columns::Loan<'a, (Kept<u64>, T), First>,
     // They alone tell at run time which slots are full.
     tags: &'a [u8],
 }
@@ -31,7 +32,10 @@ impl<'a, T> Model for Loan<'a, T> {
 
 impl<'a, T> Loan<'a, T> {
     #[inline]
-    pub(crate) fn new(places: starlark_columns::Loan<'a, (u64, T), First>, tags: &'a [u8]) -> Self
+    pub(crate) fn new(
+        places: starlark_columns::Loan<'a, (Kept<u64>, T), First>,
+        tags: &'a [u8],
+    ) -> Self
         requires { AreMarked tags.now places.from places.rest }
         ensures from { result.from ≡ places.entry.from }
         ensures rest { result.rest ≡ places.entry.rest }
@@ -58,7 +62,7 @@ impl<'a, T> Loan<'a, T> {
 // The same of slots with pairs, of which hashes and keys are frozen.
 #[derive(Drop)]
 pub(crate) struct PairLoan<'a, K, V> {
-    places: starlark_columns::Loan<'a, (u64, (K, V)), AllButLast>,
+    places: starlark_columns::Loan<'a, (Kept<u64>, (K, V)), AllButLast>,
     tags: &'a [u8],
 }
 
@@ -78,7 +82,7 @@ impl<'a, K, V> Model for PairLoan<'a, K, V> {
 impl<'a, K, V> PairLoan<'a, K, V> {
     #[inline]
     pub(crate) fn new(
-        places: starlark_columns::Loan<'a, (u64, (K, V)), AllButLast>,
+        places: starlark_columns::Loan<'a, (Kept<u64>, (K, V)), AllButLast>,
         tags: &'a [u8],
     ) -> Self
         requires { AreMarked tags.now places.from places.rest }

@@ -4,6 +4,7 @@ ghost use Rattle.starlark_lists.specs.Search.{Searches, CanSearch};
 ghost use Rattle.starlark_table.specs.Table.{holders_in};
 ghost use Rattle.starlark_table.specs.Layout.{at, IsMask, IsTagged};
 
+use crate::kept::{Kept, KeptHash};
 use crate::places::{home, window_after};
 use crate::probe::Slots;
 use crate::tags::{EMPTY, places_up_to_empty, places_with, tag};
@@ -13,11 +14,11 @@ const NEAR_WINDOWS: usize = 2;
 
 // A slot whose item is accepted, for which `eq` is asked just as by `find_slot`.
 #[inline]
-pub(crate) fn find_slot_near<T, F: FnMut(&T) -> bool>(
-    slots: &Slots<T>,
+pub(crate) fn find_slot_near<T, H: KeptHash, F: FnMut(&T) -> bool>(
+    slots: &Slots<T, H>,
     tags: &[u8],
     mask: usize,
-    hash: u64,
+    hash: Kept<H>,
     mut eq: F,
 ) -> Option<usize>
     requires mask { IsMask mask slots.now }
@@ -29,8 +30,8 @@ pub(crate) fn find_slot_near<T, F: FnMut(&T) -> bool>(
     if slots.places() == 0 {
         return None;
     }
-    let sought = tag(hash);
-    let mut start = home(hash, mask);
+    let sought = tag(&hash);
+    let mut start = home(&hash, mask);
     let mut place = start;
     let mut same = places_with(tags, start, sought);
     let mut looked = 1;
@@ -49,7 +50,7 @@ pub(crate) fn find_slot_near<T, F: FnMut(&T) -> bool>(
         } else {
             place += same.trailing_zeros() as usize;
             let (stored, item) = slots.get(place);
-            if *stored == hash && eq(item) {
+            if stored.is(&hash) && eq(item) {
                 return Some(place);
             }
             same = same >> same.trailing_zeros() >> 1;

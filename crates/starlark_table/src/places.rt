@@ -2,6 +2,7 @@
 ghost use Rattle.std.specs.Prelude.{◌≡◌, ℕ, ◌+◌, ◌^◌, ◌<◌, ◌≤◌, ◌==◌, if◌then◌else◌};
 ghost use Rattle.starlark_table.specs.Layout.{distance, home, window};
 
+use crate::kept::{Kept, KeptHash};
 use crate::tags::WINDOW;
 
 #[inline]
@@ -28,16 +29,17 @@ pub(crate) fn window_after(start: usize, mask: usize) -> usize
 
 #[inline]
 #[tactic(auto, unfolding(crate::specs::Layout::home))]
-pub(crate) fn home(hash: u64, mask: usize) -> usize
-    ensures { result ≡ home (mask + 1) hash }
+pub(crate) fn home<H: KeptHash>(hash: &Kept<H>, mask: usize) -> usize
+    ensures { result ≡ home (mask + 1) hash.now }
 {
+    let hash = hash.number();
     ((hash >> 32) ^ hash) as usize & mask
 }
 
 #[inline]
-pub(crate) fn home_among(count: usize, hash: u64) -> usize
+pub(crate) fn home_among<H: KeptHash>(count: usize, hash: &Kept<H>) -> usize
     requires { 0 < count }
-    ensures { result ≡ home count hash }
+    ensures { result ≡ home count hash.now }
 {
     home(hash, count - 1)
 }

@@ -6,20 +6,21 @@ ghost use Rattle.starlark_columns.specs.Places.{IsFilled};
 ghost use Rattle.starlark_table.specs.Table.{filled, holders_in};
 ghost use Rattle.starlark_table.specs.Layout.{distance, at, InPlace, IsMask, IsTagged};
 
+use crate::kept::{Kept, KeptHash};
 use crate::places::{home, home_among, window_after};
 use crate::tags::{EMPTY, places_up_to_empty, places_with, tag};
 use starlark_columns::Column;
 
 /// A place for a member each: its hash, and its item.
-pub(crate) type Slots<T> = Column<(u64, T)>;
+pub(crate) type Slots<T, H> = Column<(Kept<H>, T)>;
 
 // A slot, with the item in it.
 #[inline]
-pub(crate) fn find_slot<'a, T, F: FnMut(&T) -> bool>(
-    slots: &'a Slots<T>,
+pub(crate) fn find_slot<'a, T, H: KeptHash, F: FnMut(&T) -> bool>(
+    slots: &'a Slots<T, H>,
     tags: &[u8],
     mask: usize,
-    hash: u64,
+    hash: Kept<H>,
     mut eq: F,
 ) -> Option<(usize, &'a T)>
     requires mask { IsMask mask slots.now }
@@ -33,8 +34,8 @@ pub(crate) fn find_slot<'a, T, F: FnMut(&T) -> bool>(
     if slots.places() == 0 {
         return None;
     }
-    let sought = tag(hash);
-    let mut start = home(hash, mask);
+    let sought = tag(&hash);
+    let mut start = home(&hash, mask);
     let mut place = start;
     let mut same = places_with(tags, start, sought);
     'windows: loop {
@@ -48,7 +49,7 @@ pub(crate) fn find_slot<'a, T, F: FnMut(&T) -> bool>(
         } else {
             place += same.trailing_zeros() as usize;
             let (stored, item) = slots.get(place);
-            if *stored == hash && eq(item) {
+            if stored.is(&hash) && eq(item) {
                 return Some((place, item));
             }
             same = same >> same.trailing_zeros() >> 1;
@@ -59,7 +60,7 @@ pub(crate) fn find_slot<'a, T, F: FnMut(&T) -> bool>(
 
 // The first empty place from one on.
 #[inline]
-pub(crate) fn free_place<T>(slots: &Slots<T>, tags: &[u8], home: usize) -> usize
+pub(crate) fn free_place<T, H: KeptHash>(slots: &Slots<T, H>, tags: &[u8], home: usize) -> usize
     requires home { home < length slots.now }
     requires tagged { IsTagged tags.now slots.now }
     requires free { (q : ℕ) × (q < length slots.now) × (at slots.now q ≡ None) }
@@ -79,7 +80,12 @@ pub(crate) fn free_place<T>(slots: &Slots<T>, tags: &[u8], home: usize) -> usize
 
 // Puts a member at the first empty place from its home on, and its tag beside it.
 #[inline]
-pub(crate) fn put<T>(slots: &mut Slots<T>, tags: &mut [u8], hash: u64, item: T) -> usize
+pub(crate) fn put<T, H: KeptHash>(
+    slots: &mut Slots<T, H>,
+    tags: &mut [u8],
+    hash: Kept<H>,
+    item: T,
+) -> usize
     requires in_place { InPlace (length slots.old) slots.old }
     requires tagged { IsTagged tags.old slots.old }
     requires free { (q : ℕ) × (q < length slots.old) × (at slots.old q ≡ None) }
@@ -89,15 +95,15 @@ pub(crate) fn put<T>(slots: &mut Slots<T>, tags: &mut [u8], hash: u64, item: T) 
     ensures in_place { InPlace (length slots.new) slots.new }
     ensures tagged { IsTagged tags.new slots.new }
 {
-    let place = free_place(slots, tags, home_among(slots.places(), hash));
-    tags[place] = tag(hash);
+    let place = free_place(slots, tags, home_among(slots.places(), &hash));
+    tags[place] = tag(&hash);
     slots.write(place, (hash, item));
     place
 }
 
 // Whether a member stands in a slot.
 #[inline]
-pub(crate) fn is_full<T>(slots: &Slots<T>, tags: &[u8], slot: usize) -> bool
+pub(crate) fn is_full<T, H: KeptHash>(slots: &Slots<T, H>, tags: &[u8], slot: usize) -> bool
     requires { IsTagged tags.now slots.now }
     ensures { result ≡ is_some (at slots.now slot) }
 {
@@ -105,7 +111,11 @@ pub(crate) fn is_full<T>(slots: &Slots<T>, tags: &[u8], slot: usize) -> bool
 }
 
 #[inline]
-pub(crate) fn item_at<'a, T>(slots: &'a Slots<T>, tags: &[u8], slot: usize) -> Option<&'a T>
+pub(crate) fn item_at<'a, T, H: KeptHash>(
+    slots: &'a Slots<T, H>,
+    tags: &[u8],
+    slot: usize,
+) -> Option<&'a T>
     requires { IsTagged tags.now slots.now }
     ensures { option_copied result ≡ option_map (λ m. m.1) (at slots.now slot) }
 {
@@ -118,7 +128,7 @@ pub(crate) fn item_at<'a, T>(slots: &'a Slots<T>, tags: &[u8], slot: usize) -> O
 
 // The first slot from one on that has a member. There is one.
 #[inline]
-pub(crate) fn full_slot<T>(slots: &Slots<T>, tags: &[u8], from: usize) -> usize
+pub(crate) fn full_slot<T, H: KeptHash>(slots: &Slots<T, H>, tags: &[u8], from: usize) -> usize
     requires tagged { IsTagged tags.now slots.now }
     requires some { 0 < length (filled (drop from slots.now)) }
     ensures behind { from ≤ result }

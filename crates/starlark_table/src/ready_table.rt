@@ -14,6 +14,7 @@ mod pairs;
 use crate::gap::take_out;
 use crate::growth::{clone_members, empty_tags, limit, move_all, places_for};
 use crate::iter::{IntoIter, Iter};
+use crate::kept::{Kept, KeptHash};
 use crate::near::find_slot_near;
 use crate::probe::{Slots, find_slot, item_at, put};
 use crate::tags::untag;
@@ -29,15 +30,18 @@ use std::mem;
 ///
 /// Open addressing: each slot is empty or has a member, which stands as near behind its home as was free when it came.
 /// Beside each slot stands a tag, one byte of the hash: by the tags a search mostly sees at once where its hash may be.
-pub struct ReadyTable<T> {
-    slots: Slots<T>,
+///
+/// In its slots a table keeps of each hash what `H` keeps: all 64 bits, or a `StarlarkHashValue`, which stands for its
+/// promoted hash.
+pub struct ReadyTable<T, H: KeptHash = u64> {
+    slots: Slots<T, H>,
     // Of each slot one byte, which alone tells at run time whether it has a member.
     tags: Vec<u8>,
     len: usize,
     mask: usize,
 }
 
-impl<T> Model for ReadyTable<T> {
+impl<T, H: KeptHash> Model for ReadyTable<T, H> {
     ghost use Rattle.std.specs.Prelude.{ℕ, ◌-◌, length};
     ghost use Rattle.starlark_table.specs.Table.{Table, table_code};
 
@@ -54,8 +58,6 @@ impl<T> Model for ReadyTable<T> {
 }
 
 impl<T> ReadyTable<T> {
-    ghost use Rattle.starlark_table.specs.Lends.{lends_item, lends_get};
-
     /// An empty table without room. It asks for no memory before the first insertion.
     pub fn new(alloc: Global) -> ReadyTable<T>
         ensures empty { members result ≡ [] }
@@ -64,7 +66,22 @@ impl<T> ReadyTable<T> {
         ReadyTable::without_slots(alloc)
     }
 
-    fn without_slots(alloc: Global) -> ReadyTable<T>
+    /// An empty table with room for so many insertions at least, and for twice as many, or 6, at most. Where memory is
+    /// refused, nothing is made; capacity 0 is not refused.
+    pub fn with_capacity(alloc: Global, capacity: usize) -> Result<ReadyTable<T>, AllocError>
+        ensures empty { IfOk result (λ t. members t ≡ []) }
+        ensures room { IfOk result (λ t. capacity ≤ t.room) }
+        ensures most { IfOk result (λ t. t.room ≤ most_for capacity) }
+        ensures none_for_none { capacity ≡ 0 → IsOk result }
+    {
+        ReadyTable::keeping(alloc, capacity)
+    }
+}
+
+impl<T, H: KeptHash> ReadyTable<T, H> {
+    ghost use Rattle.starlark_table.specs.Lends.{lends_item, lends_get};
+
+    fn without_slots(alloc: Global) -> ReadyTable<T, H>
         ensures slots { result.slots ≡ [] }
         ensures room { result.room ≡ 0 }
     {
@@ -76,16 +93,15 @@ impl<T> ReadyTable<T> {
         }
     }
 
-    /// An empty table with room for so many insertions at least, and for twice as many, or 6, at most. Where memory is
-    /// refused, nothing is made; capacity 0 is not refused.
-    pub fn with_capacity(alloc: Global, capacity: usize) -> Result<ReadyTable<T>, AllocError>
+    /// As `with_capacity`, in the form in which `H` keeps hashes.
+    pub fn keeping(alloc: Global, capacity: usize) -> Result<ReadyTable<T, H>, AllocError>
         ensures empty { IfOk result (λ t. members t ≡ []) }
         ensures room { IfOk result (λ t. capacity ≤ t.room) }
         ensures most { IfOk result (λ t. t.room ≤ most_for capacity) }
         ensures none_for_none { capacity ≡ 0 → IsOk result }
     {
         if capacity == 0 {
-            return Ok(ReadyTable::new(alloc));
+            return Ok(ReadyTable::without_slots(alloc));
         }
         let Some(count) = places_for(capacity) else {
             return Err(AllocError);
@@ -121,11 +137,17 @@ impl<T> ReadyTable<T> {
     /// slot is good until the next change. Required is no more than that `eq` may be called on those items, in the
     /// states that its refusals leave.
     #[inline]
-    pub fn find<F: FnMut(&T) -> bool>(&self, hash: u64, eq: F) -> Option<usize>
-        requires { CanSearch F.FnMut (items_under hash self.now) eq }
-        ensures { (last : F) × Searches F.FnMut (items_under hash self.now) eq result last }
+    pub fn find<F: FnMut(&T) -> bool>(&self, hash: H, eq: F) -> Option<usize>
+        requires { CanSearch F.FnMut (items_under (H.number hash) self.now) eq }
+        ensures { (last : F) × Searches F.FnMut (items_under (H.number hash) self.now) eq result last }
     {
-        let (slot, _) = find_slot(&self.slots, self.tags.as_slice(), self.mask, hash, eq)?;
+        let (slot, _) = find_slot(
+            &self.slots,
+            self.tags.as_slice(),
+            self.mask,
+            Kept::of(hash),
+            eq,
+        )?;
         Some(slot)
     }
 
@@ -133,20 +155,32 @@ impl<T> ReadyTable<T> {
     /// most, whatever the hashes; no clause says how many. An answer is one that `find` may give; `None` says nothing,
     /// since an item may stand farther on.
     #[inline]
-    pub fn find_near<F: FnMut(&T) -> bool>(&self, hash: u64, eq: F) -> Option<usize>
-        requires { CanSearch F.FnMut (items_under hash self.now) eq }
-        ensures { IfSome result (λ slot. (last : F) × Searches F.FnMut (items_under hash self.now) eq (Some slot) last) }
+    pub fn find_near<F: FnMut(&T) -> bool>(&self, hash: H, eq: F) -> Option<usize>
+        requires { CanSearch F.FnMut (items_under (H.number hash) self.now) eq }
+        ensures { IfSome result (λ slot. (last : F) × Searches F.FnMut (items_under (H.number hash) self.now) eq (Some slot) last) }
     {
-        find_slot_near(&self.slots, self.tags.as_slice(), self.mask, hash, eq)
+        find_slot_near(
+            &self.slots,
+            self.tags.as_slice(),
+            self.mask,
+            Kept::of(hash),
+            eq,
+        )
     }
 
     /// The item of such a slot, for which `eq` is asked just as by `find`.
     #[inline]
-    pub fn find_item<F: FnMut(&T) -> bool>(&self, hash: u64, eq: F) -> Option<&T>
-        requires { CanSearch F.FnMut (items_under hash self.now) eq }
-        ensures { (slot : Option ℕ) × (last : F) × Searches F.FnMut (items_under hash self.now) eq slot last × (option_copied result ≡ option_and_then (item_in self.now) slot) }
+    pub fn find_item<F: FnMut(&T) -> bool>(&self, hash: H, eq: F) -> Option<&T>
+        requires { CanSearch F.FnMut (items_under (H.number hash) self.now) eq }
+        ensures { (slot : Option ℕ) × (last : F) × Searches F.FnMut (items_under (H.number hash) self.now) eq slot last × (option_copied result ≡ option_and_then (item_in self.now) slot) }
     {
-        let (_, item) = find_slot(&self.slots, self.tags.as_slice(), self.mask, hash, eq)?;
+        let (_, item) = find_slot(
+            &self.slots,
+            self.tags.as_slice(),
+            self.mask,
+            Kept::of(hash),
+            eq,
+        )?;
         Some(item)
     }
 
@@ -162,7 +196,7 @@ impl<T> ReadyTable<T> {
     /// and all else stays.
     #[inline]
     pub fn get_mut(&mut self, slot: usize) -> Option<&mut T>
-        ensures* writes_back { sem 𝓛 (lends_get T.row self.entry slot result) }
+        ensures* writes_back { sem 𝓛 (lends_get T.row H.row ⟦<H as KeptHash>⟧ self.entry slot result) }
         ensures value { option_copied_mut result ≡ option_map (λ m. m.1) (member_at self.old slot) }
     {
         if self.get(slot).is_some() {
@@ -175,7 +209,7 @@ impl<T> ReadyTable<T> {
     #[inline]
     fn item_mut(&mut self, slot: usize) -> &mut T
         requires { IsSome (member_at self.old slot) }
-        ensures* writes_back { sem 𝓛 (lends_item T.row self.entry slot result) }
+        ensures* writes_back { sem 𝓛 (lends_item T.row H.row ⟦<H as KeptHash>⟧ self.entry slot result) }
         ensures value { option_map (λ m. m.1) (member_at self.old slot) ≡ Some result.now }
     {
         &mut self.slots.get_mut(slot).1
@@ -185,9 +219,9 @@ impl<T> ReadyTable<T> {
     /// then at most to room for twice its length, or for 6. Refused only at room 0; the table is then as it was, and the
     /// item comes back.
     #[inline]
-    pub fn insert_unique(&mut self, hash: u64, item: T) -> Result<usize, NoRoom<T>>
-        ensures named { IfOk result (λ slot. member_at self.new slot ≡ Some (hash, item)) }
-        ensures added { OnOk result (IsPermutation ((hash, item) ∷ members self.old) (members self.new)) }
+    pub fn insert_unique(&mut self, hash: H, item: T) -> Result<usize, NoRoom<T>>
+        ensures named { IfOk result (λ slot. member_at self.new slot ≡ Some (H.number hash, item)) }
+        ensures added { OnOk result (IsPermutation ((H.number hash, item) ∷ members self.old) (members self.new)) }
         ensures room { OnOk result (GrowsAsNeeded self.old self.new) }
 
         ensures refused { OnErr result (self.old.room ≡ 0) }
@@ -202,13 +236,18 @@ impl<T> ReadyTable<T> {
 
     /// The same where the room for the item is there, as after `reserve`: it is never refused.
     #[inline]
-    pub fn insert_reserved(&mut self, hash: u64, item: T) -> usize
+    pub fn insert_reserved(&mut self, hash: H, item: T) -> usize
         requires { 0 < self.old.room }
-        ensures named { member_at self.new result ≡ Some (hash, item) }
-        ensures added { IsPermutation ((hash, item) ∷ members self.old) (members self.new) }
+        ensures named { member_at self.new result ≡ Some (H.number hash, item) }
+        ensures added { IsPermutation ((H.number hash, item) ∷ members self.old) (members self.new) }
         ensures room { table_capacity self.new ≡ table_capacity self.old }
     {
-        let slot = put(&mut self.slots, self.tags.as_mut_slice(), hash, item);
+        let slot = put(
+            &mut self.slots,
+            self.tags.as_mut_slice(),
+            Kept::of(hash),
+            item,
+        );
         self.len += 1;
         slot
     }
@@ -277,7 +316,7 @@ impl<T> ReadyTable<T> {
             return None;
         };
         self.len -= 1;
-        Some(member)
+        Some((member.0.number(), member.1))
     }
 
     /// Puts what `f` answers in the place of each item, under the same hash: `f` is called once on each member, along
@@ -322,7 +361,7 @@ impl<T> ReadyTable<T> {
 
     /// The items along the walk, in no promised order, with exact length and size hint.
     #[inline]
-    pub fn iter(&self) -> Iter<'_, T>
+    pub fn iter(&self) -> Iter<'_, T, H>
         ensures { result ≡ items_of self.now }
     {
         Iter::new(&self.slots, self.tags.as_slice(), self.len)
@@ -330,7 +369,7 @@ impl<T> ReadyTable<T> {
 
     /// The members along the walk, each as its hash and its item, by value, with exact length and size hint.
     #[inline]
-    pub fn into_iter(self) -> IntoIter<T>
+    pub fn into_iter(self) -> IntoIter<T, H>
         ensures { result ≡ members self }
     {
         let ReadyTable {
@@ -343,20 +382,20 @@ impl<T> ReadyTable<T> {
     }
 }
 
-impl<'a, T> IntoIterator for &'a ReadyTable<T> {
+impl<'a, T, H: KeptHash> IntoIterator for &'a ReadyTable<T, H> {
     type Item = &'a T;
 
-    type IntoIter = Iter<'a, T>;
+    type IntoIter = Iter<'a, T, H>;
 
     ghost into_iter_gives = { λ t it. it ≡ items_of t.now };
 
     #[inline]
-    fn into_iter(self) -> Iter<'a, T> {
+    fn into_iter(self) -> Iter<'a, T, H> {
         self.iter()
     }
 }
 
-impl<T: Clone> Clone for ReadyTable<T> {
+impl<T: Clone, H: KeptHash> Clone for ReadyTable<T, H> {
     ghost is_clone = { IsTableClone T.is_clone };
 
     ghost is_infallible = { λ t. NeedsNoMemory t };
@@ -391,7 +430,7 @@ impl<T: Clone> Clone for ReadyTable<T> {
     }
 }
 
-impl<T: Drop> Drop for ReadyTable<T> {
+impl<T: Drop, H: KeptHash> Drop for ReadyTable<T, H> {
     fn drop(self) {
         let ReadyTable {
             slots,

@@ -2,6 +2,7 @@
 ghost use Rattle.std.specs.Prelude.{◌≡◌, ℕ, ◌+◌, ◌-◌, ◌<◌, ◌≤◌, None, length};
 ghost use Rattle.starlark_table.specs.Layout.{tag, at, window, tag_bits, hash_tag_bits, BitsUpToEmpty, IsTagged, HasTags, IsPadded};
 
+use crate::kept::{Kept, KeptHash};
 use crate::probe::Slots;
 use std::simd::prelude::*;
 
@@ -20,10 +21,10 @@ pub(crate) const PADDING: u8 = 128;
 
 #[inline]
 #[tactic(auto, unfolding(crate::specs::Layout::tag))]
-pub(crate) fn tag(hash: u64) -> u8
-    ensures { result ≡ tag hash }
+pub(crate) fn tag<H: KeptHash>(hash: &Kept<H>) -> u8
+    ensures { result ≡ tag hash.now }
 {
-    ((hash >> 25) & 127) as u8
+    ((hash.number() >> 25) & 127) as u8
 }
 
 // A bit for each place of the window from one on: whether it has this tag.
@@ -71,7 +72,7 @@ pub(crate) fn full_places(tags: &[u8], start: usize) -> (u64, usize)
 }
 
 // Writes the tag of each place, where all are empty.
-pub(crate) fn untag<T>(tags: &mut [u8], slots: &Slots<T>)
+pub(crate) fn untag<T, H: KeptHash>(tags: &mut [u8], slots: &Slots<T, H>)
     requires sized { HasTags tags.old slots.now }
     requires padded { IsPadded tags.old slots.now }
     requires empty { (k : ℕ) → at slots.now k ≡ None }

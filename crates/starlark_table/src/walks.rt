@@ -6,13 +6,14 @@ ghost use Rattle.starlark_table.specs.Walk.{CanReplace, ReplacesEach, ReplacesWi
 ghost use Rattle.starlark_table.specs.Layout.{at, distance, InPlace, IsTagged, IsTaggedFrom, ReachesBefore, StandsIn};
 ghost use Rattle.starlark_table.specs.Growth.{limit};
 
+use crate::kept::{Kept, KeptHash};
 use crate::places::{home_among, next_place};
 use crate::probe::{Slots, free_place};
 use crate::tags::{EMPTY, full_places};
 use std::alloc::Global;
 
 // Drops every member. The tags stay.
-pub(crate) fn empty_all<T: Drop>(slots: &mut Slots<T>, tags: &[u8])
+pub(crate) fn empty_all<T: Drop, H: KeptHash>(slots: &mut Slots<T, H>, tags: &[u8])
     requires { IsTagged tags.now slots.old }
     ensures sized { length slots.new ≡ length slots.old }
     ensures empty { (k : ℕ) → at slots.new k ≡ None }
@@ -25,7 +26,7 @@ pub(crate) fn empty_all<T: Drop>(slots: &mut Slots<T>, tags: &[u8])
 }
 
 // Drops every member, and gives the memory back.
-pub(crate) fn drop_all<T: Drop>(alloc: Global, mut slots: Slots<T>, tags: &[u8])
+pub(crate) fn drop_all<T: Drop, H: KeptHash>(alloc: Global, mut slots: Slots<T, H>, tags: &[u8])
     requires { IsTagged tags.now slots }
 {
     empty_all(&mut slots, tags);
@@ -33,7 +34,11 @@ pub(crate) fn drop_all<T: Drop>(alloc: Global, mut slots: Slots<T>, tags: &[u8])
 }
 
 // Puts what `f` answers in the place of each item.
-pub(crate) fn replace_items<T: Drop, F: FnMut(&T) -> T>(slots: &mut Slots<T>, tags: &[u8], mut f: F)
+pub(crate) fn replace_items<T: Drop, H: KeptHash, F: FnMut(&T) -> T>(
+    slots: &mut Slots<T, H>,
+    tags: &[u8],
+    mut f: F,
+)
     requires tagged { IsTagged tags.now slots.old }
     requires callable { CanReplace F.FnMut (items_in slots.old) f }
     ensures { (last : F) × ReplacesEach F.FnMut f slots.old slots.new last }
@@ -45,8 +50,8 @@ pub(crate) fn replace_items<T: Drop, F: FnMut(&T) -> T>(slots: &mut Slots<T>, ta
 }
 
 // The same in a window of places. The answer is where it ends.
-fn replace_window<T: Drop, F: FnMut(&T) -> T>(
-    slots: &mut Slots<T>,
+fn replace_window<T: Drop, H: KeptHash, F: FnMut(&T) -> T>(
+    slots: &mut Slots<T, H>,
     tags: &[u8],
     start: usize,
     f: &mut F,
@@ -69,8 +74,8 @@ fn replace_window<T: Drop, F: FnMut(&T) -> T>(
 }
 
 // Takes out the members that `f` does not keep, and puts the others back in place. The answer is how many are left.
-pub(crate) fn retain_items<T: Drop, F: FnMut(&mut T) -> bool>(
-    slots: &mut Slots<T>,
+pub(crate) fn retain_items<T: Drop, H: KeptHash, F: FnMut(&mut T) -> bool>(
+    slots: &mut Slots<T, H>,
     tags: &mut [u8],
     f: F,
 ) -> usize
@@ -94,8 +99,8 @@ pub(crate) fn retain_items<T: Drop, F: FnMut(&mut T) -> bool>(
 }
 
 // Empties the slots of the members that `f` does not keep. The answer is how many are left.
-fn keep_items<T: Drop, F: FnMut(&mut T) -> bool>(
-    slots: &mut Slots<T>,
+fn keep_items<T: Drop, H: KeptHash, F: FnMut(&mut T) -> bool>(
+    slots: &mut Slots<T, H>,
     tags: &mut [u8],
     mut f: F,
 ) -> usize
@@ -121,7 +126,7 @@ fn keep_items<T: Drop, F: FnMut(&mut T) -> bool>(
 }
 
 // Whether a member is kept, once `f` was asked about it.
-fn ask<T, F: FnMut(&mut T) -> bool>(member: &mut (u64, T), f: &mut F) -> bool
+fn ask<T, H: KeptHash, F: FnMut(&mut T) -> bool>(member: &mut (Kept<H>, T), f: &mut F) -> bool
     requires { TakesAtMut F.FnMut f.old member.old.1 }
     ensures { AsksMember F.FnMut f.old member.old result f.new member.new }
 {
@@ -129,7 +134,7 @@ fn ask<T, F: FnMut(&mut T) -> bool>(member: &mut (u64, T), f: &mut F) -> bool
 }
 
 // Moves members back towards their homes, so that no empty place is left on their ways. No way leads over `start`.
-fn settle<T>(slots: &mut Slots<T>, tags: &mut [u8], start: usize)
+fn settle<T, H: KeptHash>(slots: &mut Slots<T, H>, tags: &mut [u8], start: usize)
     requires start { start < length slots.old }
     requires tagged { IsTagged tags.old slots.old }
     requires reaches { ReachesBefore (length slots.old) slots.old start }
@@ -142,7 +147,7 @@ fn settle<T>(slots: &mut Slots<T>, tags: &mut [u8], start: usize)
     let mut place = next_place(start, count);
     for step in 1..count {
         if tags[place] != EMPTY {
-            let home = home_among(count, slots.get(place).0);
+            let home = home_among(count, &slots.get(place).0);
             let to = free_before(slots, tags, home, place);
             if to != place {
                 let member = slots.take(place);
@@ -155,7 +160,7 @@ fn settle<T>(slots: &mut Slots<T>, tags: &mut [u8], start: usize)
 }
 
 // The first empty place from one on, or `end` where none comes before it.
-fn free_before<T>(slots: &Slots<T>, tags: &[u8], start: usize, end: usize) -> usize
+fn free_before<T, H: KeptHash>(slots: &Slots<T, H>, tags: &[u8], start: usize, end: usize) -> usize
     requires tagged { IsTagged tags.now slots.now }
     requires start { start < length slots.now }
     requires end { end < length slots.now }

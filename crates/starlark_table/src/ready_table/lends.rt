@@ -8,15 +8,16 @@ ghost use Rattle.starlark_table.specs.Table.{items_of};
 
 use super::ReadyTable;
 use crate::iter_mut::IterMut;
+use crate::kept::Kept;
 use crate::loan::Loan;
 use crate::probe::Slots;
 use starlark_columns::loan::{First, Keeps};
 
 // The members of slots, to be written but for what `P` keeps.
 #[inline]
-fn lend_members<T, P: Keeps<(u64, T)>>(
-    slots: &mut Slots<T>,
-) -> starlark_columns::Loan<'_, (u64, T), P>
+fn lend_members<T, P: Keeps<(Kept<u64>, T)>>(
+    slots: &mut Slots<T, u64>,
+) -> starlark_columns::Loan<'_, (Kept<u64>, T), P>
     ensures* writes_back { sem 𝓛 (places_follow (Member T.row) P.kept slots.entry result.tie) }
     ensures untouched { result.from ≡ 0 }
     ensures rest { result.rest ≡ slots.old }
@@ -35,10 +36,10 @@ fn shown(tags: &mut Vec<u8>) -> &Vec<u8>
 
 // Both at once.
 #[inline]
-fn lend_fields<'a, T, P: Keeps<(u64, T)>>(
-    slots: &'a mut Slots<T>,
+fn lend_fields<'a, T, P: Keeps<(Kept<u64>, T)>>(
+    slots: &'a mut Slots<T, u64>,
     tags: &'a mut Vec<u8>,
-) -> (starlark_columns::Loan<'a, (u64, T), P>, &'a Vec<u8>)
+) -> (starlark_columns::Loan<'a, (Kept<u64>, T), P>, &'a Vec<u8>)
     ensures* slots { sem 𝓛 (places_follow (Member T.row) P.kept slots.entry result.0.tie) }
     ensures* tags { sem 𝓛 (tags_stay tags.entry) }
     ensures untouched { result.0.from ≡ 0 }
@@ -54,9 +55,9 @@ impl<T> ReadyTable<T> {
 
     // The members, to be written but for what `P` keeps of them, and the tags, to be read.
     #[inline]
-    pub(super) fn lend_kept<P: Keeps<(u64, T)>>(
+    pub(super) fn lend_kept<P: Keeps<(Kept<u64>, T)>>(
         &mut self,
-    ) -> (starlark_columns::Loan<'_, (u64, T), P>, &Vec<u8>)
+    ) -> (starlark_columns::Loan<'_, (Kept<u64>, T), P>, &Vec<u8>)
         requires hash { (x w : ℕ × T) → (P.kept x w).0 ≡ x.0 }
         requires again { (x w : ℕ × T) → P.kept x (P.kept x w) ≡ P.kept x w }
         ensures* writes_back { sem 𝓛 (table_keeps T.row P.kept self.entry result.0.tie) }

@@ -1,4 +1,5 @@
 use Rattle.std.proofs.Common.{◌+◌, ◌<◌, length, None, Some, arith, refl, sym, ap, ◌∙◌, subst}
+use Rattle.std.proofs.Math.ListN.{set}
 use Rattle.std.proofs.lemmas.List.{set-get_or}
 use Rattle.starlark_table.specs.Table.{IsSlotClone}
 use Rattle.starlark_table.specs.Layout.{at, slot_tag}
@@ -27,7 +28,7 @@ loop-place-preserved g c =
           cloned-next g.T.Clone.is_clone slots c.loop-place.copy c.if-tags-place.copy c.loop-place.copy_tags c.if-tags-place.copy_tags i _
           (Some (member.0, w.in_ok-item.item)) below before
           (subst (λ o. IsSlotClone g.T.Clone.is_clone o (Some (member.0, w.in_ok-item.item))) (sym w.get.ensures) (w.in_ok-item.item, w.in_ok-item.ensures.cases, refl))
-          (w.copy-is ∙ w.write.ensures) w.copy_tags-is
+          (w.copy-is ∙ w.write.ensures ∙ ap (λ h. set c.loop-place.copy i (Some (h, w.in_ok-item.item))) w.copied.ensures) w.copy_tags-is
           (c.requires.tagged.tagged i below ∙ ap slot_tag w.get.ensures)
       | else-tags-place w ↦
           let none = empty-by_tag c.args.tags.now slots i c.requires.tagged below w.if-tags-place.false in

@@ -1,9 +1,9 @@
 use Rattle.std.proofs.Common.{false, arith, refl, sym, subst}
 use Rattle.std.specs.Fn.{CalledAt}
 use Rattle.std.proofs.lemmas.Fn.{called_at}
-use Rattle.starlark_table.proofs.Looking.{home_room, looking_begins, looking_goes_on, looking_full, looking_asks, looking_accepts, looking_nearer, looking_refuses, looking_skips}
+use Rattle.starlark_table.proofs.Looking.{same-by_test, other-by_test, home_room, looking_begins, looking_goes_on, looking_full, looking_asks, looking_accepts, looking_nearer, looking_refuses, looking_skips}
 use Rattle.starlark_table.proofs.near.find_slot_near.Goals as goal
-use Rattle.starlark_table.proofs.near.find_slot_near.Goals.{else-stored-hash-via-then-stored-hash+else-eq, else-stored-hash-via-else-stored-hash}
+use Rattle.starlark_table.proofs.near.find_slot_near.Goals.{else-is-via-then-is+else-eq, else-is-via-else-is}
 
 pub places_with-same-requires : goal.places_with-same-requires
 places_with-same-requires g c =
@@ -39,13 +39,13 @@ get-requires g c =
 pub eq-requires : goal.eq-requires
 eq-requires g c =
     looking_asks g.F.FnMut c.args.hash c.args.tags.now c.args.slots.now c.args.eq c.requires.tagged c.windows.start c.windows.place c.windows.same c.windows.eq c.windows.invariant.looking c.if-same-eq0.false
-    c.get.result.now.0 c.get.result.now.1 c.get.ensures c.if-stored-hash.true c.requires.callable _ refl
+    c.get.result.now.0 c.get.result.now.1 c.get.ensures (same-by_test _ _ c.is.ensures c.if-is.true) c.requires.callable _ refl
 
 pub returns-then-eq : goal.returns-then-eq
 returns-then-eq g c = (
   c.eq.new.self,
   looking_accepts g.F.FnMut c.args.hash c.args.tags.now c.args.slots.now c.args.eq c.requires.tagged c.windows.start c.windows.place c.windows.same c.windows.eq c.windows.invariant.looking c.if-same-eq0.false
-      c.get.result.now.0 c.get.result.now.1 c.get.ensures c.eq.new.self c.if-stored-hash.true (called_at g.F.FnMut c.eq.ensures c.if-eq.true),
+      c.get.result.now.0 c.get.result.now.1 c.get.ensures c.eq.new.self (same-by_test _ _ c.is.ensures c.if-is.true) (called_at g.F.FnMut c.eq.ensures c.if-eq.true),
 )
 
 pub windows-smaller : goal.windows-smaller
@@ -56,13 +56,13 @@ pub windows-preserved : goal.windows-preserved
 windows-preserved g c =
     record {
       few = omega arith;
-      looking = elim c.else-stored-hash.branch [
-        | else-stored-hash-via-then-stored-hash+else-eq w ↦
+      looking = elim c.else-is.branch [
+        | else-is-via-then-is+else-eq w ↦
             looking_refuses g.F.FnMut c.args.hash c.args.tags.now c.args.slots.now c.args.eq c.requires.tagged c.windows.start c.windows.place c.windows.same c.windows.eq c.windows.invariant.looking c.if-same-eq0.false
-            c.get.result.now.0 c.get.result.now.1 c.get.ensures c.else-stored-hash.eq w.if-stored-hash.true
+            c.get.result.now.0 c.get.result.now.1 c.get.ensures c.else-is.eq (same-by_test _ _ c.is.ensures w.if-is.true)
             (subst (λ f. CalledAt g.F.FnMut c.windows.eq c.get.result.now.1 false f) (sym w.eq-is) (called_at g.F.FnMut w.eq.ensures w.if-eq.false))
-        | else-stored-hash-via-else-stored-hash w ↦
+        | else-is-via-else-is w ↦
             looking_skips g.F.FnMut c.args.hash c.args.tags.now c.args.slots.now c.args.eq c.requires.tagged c.windows.start c.windows.place c.windows.same c.windows.eq c.windows.invariant.looking c.if-same-eq0.false
-            c.get.result.now.0 c.get.result.now.1 c.get.ensures c.else-stored-hash.eq w.if-stored-hash.false w.eq-is
+            c.get.result.now.0 c.get.result.now.1 c.get.ensures c.else-is.eq (other-by_test _ _ c.is.ensures w.if-is.false) w.eq-is
       ];
     }

@@ -18,11 +18,11 @@ pub invariant_of-self : goal.invariant_of-self
 invariant_of-self g c =
     let slots = c.self.inside.slots in
     let i = c.full_slot-slot.result in
-    let here = c.take.ensures.value in
-    let is = c.take.ensures.places in
-    let i_in = full_in_range slots i c.take.result here in
+    let here = c.take-hash.ensures.value in
+    let is = c.take-hash.ensures.places in
+    let i_in = full_in_range slots i c.take-hash.result here in
     let front = empty-joined slots c.self.inside.slot i c.self.invariant.2 c.full_slot-slot.ensures.passed in
-    let taken = ap length (filled-first_taken slots i c.take.result front here) in
+    let taken = ap length (filled-first_taken slots i c.take-hash.result front here) in
     let left = c.self.invariant.1 in
     let after = ap (λ l. length (filled l)) is in (
       subst (λ l. IsTagged (set c.self.inside.tags.items i 255) l) (sym is)
@@ -36,8 +36,9 @@ returns-clause-steps g c =
     let slots = c.self.inside.slots in
     let i = c.full_slot-slot.result in
     let front = empty-joined slots c.self.inside.slot i c.self.invariant.2 c.full_slot-slot.ensures.passed in
-    sym c.self.view_is ∙ filled-first_taken slots i c.take.result front c.take.ensures.value
-    ∙ ap (λ l. c.take.result ∷ filled l) (sym c.take.ensures.places)
+    sym c.self.view_is ∙ filled-first_taken slots i c.take-hash.result front c.take-hash.ensures.value
+    ∙ ap (λ l. c.take-hash.result ∷ filled l) (sym c.take-hash.ensures.places)
+    ∙ ap (λ h. (h, c.take-hash.result.1) ∷ filled c.take-hash.new.self) (sym c.number.ensures)
 
 pub returns-clause-goes : goal.returns-clause-goes
 returns-clause-goes g c =

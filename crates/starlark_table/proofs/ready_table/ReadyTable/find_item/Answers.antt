@@ -2,7 +2,7 @@ use Rattle.std.proofs.Common.{◌≡◌, Some, sym, subst, ap}
 use Rattle.std.specs.Option.{option_map}
 use Rattle.starlark_lists.specs.Search.{Searches, CanSearch}
 use Rattle.starlark_table.specs.Layout.{at}
-use Rattle.starlark_table.specs.Table.{holders_in}
+use Rattle.starlark_table.specs.Table.{holders_in, items_under}
 use Rattle.starlark_table.proofs.Load.{sound-empty_slot}
 use Rattle.starlark_table.proofs.ready_table.ReadyTable.find_item.Goals as goal
 
@@ -12,15 +12,17 @@ find_slot-requires-clause-free g c =
 
 pub find_slot-requires-clause-callable : goal.find_slot-requires-clause-callable
 find_slot-requires-clause-callable g c =
-    subst (λ l. CanSearch g.F.FnMut (holders_in c.args.hash l) c.args.eq) (sym (ap (λ t. t.slots) c.self.view_is)) c.requires
+    subst (λ l. CanSearch g.F.FnMut (holders_in c.of.result l) c.args.eq) (sym (ap (λ t. t.slots) c.self.view_is))
+    (subst (λ h. CanSearch g.F.FnMut (items_under h c.args.self.now) c.args.eq) (sym c.of.ensures) c.requires)
 
 pub returns : goal.returns
 returns g c =
     let found = c.in_ok-item.ensures.found in
     let shown = ap (λ t. t.slots) c.self.view_is in
-    let there = subst (λ l. at l c.in_ok-item.field-0-0 ≡ Some (c.args.hash, c.in_ok-item.item.now)) shown c.in_ok-item.ensures.item in (
+    let there = subst (λ l. at l c.in_ok-item.field-0-0 ≡ Some (c.of.result, c.in_ok-item.item.now)) shown c.in_ok-item.ensures.item in (
       Some c.in_ok-item.field-0-0,
       found.0,
-      subst (λ l. Searches g.F.FnMut (holders_in c.args.hash l) c.args.eq (Some c.in_ok-item.field-0-0) found.0) shown found.1,
+      subst (λ h. Searches g.F.FnMut (items_under h c.args.self.now) c.args.eq (Some c.in_ok-item.field-0-0) found.0) c.of.ensures
+          (subst (λ l. Searches g.F.FnMut (holders_in c.of.result l) c.args.eq (Some c.in_ok-item.field-0-0) found.0) shown found.1),
       sym (ap (option_map (λ m. m.1)) there),
     )

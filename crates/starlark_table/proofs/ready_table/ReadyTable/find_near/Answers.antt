@@ -10,9 +10,11 @@ find_slot_near-requires-clause-free g c =
 
 pub find_slot_near-requires-clause-callable : goal.find_slot_near-requires-clause-callable
 find_slot_near-requires-clause-callable g c =
-    subst (λ l. CanSearch g.F.FnMut (holders_in c.args.hash l) c.args.eq) (sym (ap (λ t. t.slots) c.self.view_is)) c.requires
+    subst (λ l. CanSearch g.F.FnMut (holders_in c.of.result l) c.args.eq) (sym (ap (λ t. t.slots) c.self.view_is))
+    (subst (λ h. CanSearch g.F.FnMut (items_under h c.args.self.now) c.args.eq) (sym c.of.ensures) c.requires)
 
 pub returns : goal.returns
 returns g c =
-    subst (λ t. IfSome c.find_slot_near.result (λ slot. (last : g.row.F.Denot) × Searches g.F.FnMut (items_under c.args.hash t) c.args.eq (Some slot) last)) c.self.view_is
-    c.find_slot_near.ensures
+    subst (λ h. IfSome c.find_slot_near.result (λ slot. (last : g.row.F.Denot) × Searches g.F.FnMut (items_under h c.args.self.now) c.args.eq (Some slot) last)) c.of.ensures
+    (subst (λ t. IfSome c.find_slot_near.result (λ slot. (last : g.row.F.Denot) × Searches g.F.FnMut (items_under c.of.result t) c.args.eq (Some slot) last)) c.self.view_is
+    c.find_slot_near.ensures)

@@ -8,7 +8,9 @@ use Rattle.starlark_columns.specs.Lent.{places_follow}
 use Rattle.starlark_columns.specs.contracts.loan.Loan as loan
 use Rattle.starlark_columns.specs.contracts.column.Column.{the_row as column_row}
 use Rattle.starlark_columns.proofs.loan.Loan.TheLaws as loan_laws
-use Rattle.starlark_table.specs.Sharing.{Member, Tags, tags_stay}
+use Rattle.starlark_table.specs.contracts.kept.U64KeptHash.TheImpl as U64
+use Rattle.starlark_table.proofs.kept.Kept.TheLaws as kept_laws
+use Rattle.starlark_table.specs.Sharing.{KeptRow, Member, Tags, tags_stay}
 use Rattle.starlark_table.proofs.LentInResult.{as_tuple}
 use Rattle.starlark_table.specs.contracts.ready_table.lends.lend_fields as F
 use Rattle.starlark_table.specs.contracts.ready_table.lends.lend_fields.Key.{name as #self}
@@ -74,7 +76,7 @@ module _ (T P : RattleType) (G : Keeps.Ghosts P.Denot (ℕ × T.Denot)) (dG : Di
       It = loan.the_row (named_lft 3 0 tt (κ, (κT, (κP, tt)))) (Member T') P' G
 
       abbrev it_laws : Laws It
-      it_laws = loan_laws.the_row_laws (named_lft 3 0 tt (κ, (κT, (κP, tt)))) (Member T') P' G (tuple_laws (u64 ∷ T' ∷ []) (of_field u64-field u64-laws refl (copy_shared u64-field u64-copy), (param_laws 0 T LT, tt))) (param_laws 1 P LP)
+      it_laws = loan_laws.the_row_laws (named_lft 3 0 tt (κ, (κT, (κP, tt)))) (Member T') P' G (tuple_laws (KeptRow ∷ T' ∷ []) (kept_laws.the_row_laws u64 U64.ghosts (of_field u64-field u64-laws refl (copy_shared u64-field u64-copy)), (param_laws 0 T LT, tt))) (param_laws 1 P LP)
 
       abbrev Ref : RattleType
       Ref = ShrRef (named 0) κ Tags

@@ -1,7 +1,7 @@
 use Rattle.std.proofs.Common.{◌-◌, arith}
 use Rattle.starlark_table.proofs.Circle.{one_more}
 use Rattle.starlark_table.proofs.Load.{sound-all_empty}
-use Rattle.starlark_table.proofs.ready_table.ReadyTable.with_capacity.Goals as goal
+use Rattle.starlark_table.proofs.ready_table.ReadyTable.keeping.Goals as goal
 
 pub empty_tags-requires : goal.empty_tags-requires
 empty_tags-requires g c = let fits = c.in-Some.ensures.fits in omega arith

@@ -9,22 +9,24 @@ use Rattle.starlark_columns.specs.declared.loan.Loan.{Loan}
 use Rattle.starlark_columns.specs.Lent.{kept_places}
 use Rattle.starlark_columns.specs.contracts.loan.Loan as loan
 use Rattle.starlark_columns.proofs.loan.Loan.TheLaws as loan_laws
+use Rattle.starlark_table.specs.contracts.kept.U64KeptHash.TheImpl as U64
+use Rattle.starlark_table.proofs.kept.Kept.TheLaws as kept_laws
 use Rattle.starlark_table.specs.Layout.{IsTagged}
 use Rattle.starlark_table.specs.Growth.{limit}
-use Rattle.starlark_table.specs.Sharing.{Member, Tags, tags_stay, with_kept}
+use Rattle.starlark_table.specs.Sharing.{KeptRow, Member, Tags, tags_stay, with_kept}
 use Rattle.starlark_table.proofs.BesideClose.{closes_beside}
 use Rattle.starlark_columns.proofs.LoneValue.{lone_value}
 use Rattle.starlark_table.proofs.LentInResult.{as_tuple}
 use Rattle.starlark_table.proofs.Shape.{reshaped}
 use Rattle.starlark_table.proofs.TableOpens as O
 use Rattle.starlark_table.proofs.WrittenSlots.{again-kept_places, length-kept_places, shape-kept_places}
-use Rattle.starlark_table.specs.contracts.ready_table.ReadyTable.lend_kept as F
-use Rattle.starlark_table.specs.contracts.ready_table.ReadyTable.lend_kept.Key.{name as #self}
+use Rattle.starlark_table.specs.contracts.ready_table.lends.ReadyTable+T.lend_kept as F
+use Rattle.starlark_table.specs.contracts.ready_table.lends.ReadyTable+T.lend_kept.Key.{name as #self}
 use Rattle.starlark_table.specs.contracts.ready_table.lends.lend_fields as g
 use Rattle.starlark_table.proofs.ready_table.lends.lend_fields.Symbol.{name as #lend}
 use Rattle.starlark_table.proofs.ready_table.lends.lend_fields.Met as lend
-use Rattle.starlark_table.proofs.ready_table.ReadyTable.lend_kept.Statement.{statement}
-use Rattle.starlark_table.proofs.ready_table.ReadyTable.lend_kept.Code as code
+use Rattle.starlark_table.proofs.ready_table.lends.ReadyTable+T.lend_kept.Statement.{statement}
+use Rattle.starlark_table.proofs.ready_table.lends.ReadyTable+T.lend_kept.Code as code
 
 -- a truth, as a tuple of which the other type is sure asks for it
 and_sure : (a : Bool) → Dec.T a → Dec.T (a && (true && true))
@@ -103,7 +105,7 @@ module _ (T P : RattleType) (G : Keeps.Ghosts P.Denot (ℕ × T.Denot)) (dG : Di
       It = loan.the_row (named_lft 3 0 tt (κ, (κT, (κP, tt)))) (Member K) P' G
 
       abbrev it_laws : Laws It
-      it_laws = loan_laws.the_row_laws (named_lft 3 0 tt (κ, (κT, (κP, tt)))) (Member K) P' G (tuple_laws (u64 ∷ K ∷ []) (of_field u64-field u64-laws refl (copy_shared u64-field u64-copy), (param_laws 0 T LT, tt))) (param_laws 1 P LP)
+      it_laws = loan_laws.the_row_laws (named_lft 3 0 tt (κ, (κT, (κP, tt)))) (Member K) P' G (tuple_laws (KeptRow ∷ K ∷ []) (kept_laws.the_row_laws u64 U64.ghosts (of_field u64-field u64-laws refl (copy_shared u64-field u64-copy)), (param_laws 0 T LT, tt))) (param_laws 1 P LP)
 
       abbrev Ref : RattleType
       Ref = ShrRef (named 0) κ Tags
