@@ -7,3 +7,4 @@ pub mod maps;
 pub mod occupied;
 pub mod pairs;
 mod put;
+pub mod unordered;

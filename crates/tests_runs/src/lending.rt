@@ -9,6 +9,8 @@ use starlark_lending::looked_up::{
 use starlark_lending::maps::{insert_own_then_put, insert_then_put};
 use starlark_lending::occupied::{put_if_there, put_in_entry};
 use starlark_lending::pairs::{put_both, put_both_if};
+use starlark_lending::unordered::{has_key, has_number};
+use starlark_map::unordered_map::UnorderedMap;
 use starlark_small::{Entry, SmallMap};
 use starlark_vec2::Vec2;
 use starlark_vecmap::VecMap;
@@ -202,5 +204,19 @@ fn fills_a_vacant_entry(rt: HostRuntime) -> Result<(), Fail> {
     same(&rt, put_anyway(&mut map, 7, 1, 50, 99), Some(10));
     same(&rt, put_anyway(&mut map, 7, 3, 30, 98), Some(30));
     holds(&rt, shows(&map, &[(0, 0), (1, 99), (2, 20), (3, 98)]));
+    Ok(())
+}
+
+// Whether an unordered map has a key, asked by an entry that is let go.
+fn has(map: &mut UnorderedMap<u32, u64>, key: u32) -> bool {
+    has_key(map, key) && has_number(map, key)
+}
+
+#[test]
+fn lets_an_unordered_entry_go(rt: HostRuntime) -> Result<(), Fail> {
+    let mut map: UnorderedMap<u32, u64> = UnorderedMap::new(rt.alloc());
+    map.insert(1, 10)?;
+    holds(&rt, has(&mut map, 1) && !has(&mut map, 2));
+    same(&rt, map.get(&1u32), Some(&10));
     Ok(())
 }
