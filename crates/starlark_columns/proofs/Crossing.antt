@@ -74,9 +74,12 @@ module _ (R U A : RattleType) (g : Ghosts A.Denot) where
   pub pair_claim_send : FreesAnywhere A.Denot g → IsSend (pair_claim.the_row R U A g)
   pair_claim_send free =
       let T = pair_claim.the_type R U A g in let marks : AllSend (fields T) = (search sendable, tt) in
-      owning_send T marks (λ c. either_keyless (eqb (c.count * (size (lone R.mir) + size (lone U.mir))) 0) (fsep (g.dealloc_token c.alloc _ c.firsts) (rooms_rejoin (lone R.mir) (lone U.mir) c.firsts c.seconds c.count))
-      (free.frees c.alloc _ c.firsts, ((room_keyless _ c.firsts, room_keyless _ c.seconds), room_keyless _ c.firsts)))
+      owning_send T marks (λ c. (
+        tt,
+        either_keyless (eqb (c.count * (size (lone R.mir) + size (lone U.mir))) 0) (fsep (g.dealloc_token c.alloc _ c.firsts) (rooms_rejoin (lone R.mir) (lone U.mir) c.firsts c.seconds c.count))
+            (free.frees c.alloc _ c.firsts, ((room_keyless _ c.firsts, room_keyless _ c.seconds), room_keyless _ c.firsts)),
+      ))
       (λ k. quiet (to T) (exits_of k (fields T)) ((struct_send (shape T) marks).leaving k))
 
   pub pair_claim_sync : IsSync (pair_claim.the_row R U A g)
-  pair_claim_sync = let T = pair_claim.the_type R U A g in record { shared = λ c b o κ. ((struct_sync (shape T) (search sendable, tt)).shared (to T c) b o κ, tt) }
+  pair_claim_sync = let T = pair_claim.the_type R U A g in record { shared = λ c b o κ. ((struct_sync (shape T) (search sendable, tt)).shared (to T c) b o κ, (tt, tt)) }

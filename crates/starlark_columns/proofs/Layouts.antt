@@ -1,5 +1,5 @@
 -- Sizes that are cut at the greatest `usize` as they are added up, and so the layout of a block.
-use Rattle.std.proofs.Common.{◌≡◌, ℕ, zero, suc, ◌+◌, ◌-◌, ◌*◌, ◌^◌, ◌<◌, ◌≤◌, min, max, Bool, true, false, refl, sym, ap, subst, ◌∙◌, arith, lit<}
+use Rattle.std.proofs.Common.{◌≡◌, ℕ, zero, suc, ◌+◌, ◌-◌, ◌*◌, ◌%◌, ◌^◌, ◌<◌, ◌≤◌, min, max, Bool, true, false, refl, sym, ap, subst, ◌∙◌, arith, lit<}
 use mathlib.Core.Bool.{cond}
 use mathlib.Core.Logic.{◌⊎◌, inl, inr}
 use lib.Dec.{T, ltb, ltb→lt, lt→ltb}
@@ -10,8 +10,8 @@ use prog.Align.{align_w, align-bytes, align_pos}
 use prog.Capped.{capped_is, capped_small}
 use prog.Memory.{size, align, pad, up, capped}
 use Rattle.core.specs.Allocator.{HasLayout}
-use Rattle.starlark_columns.specs.Paired.{two_arrays}
-use Rattle.starlark_columns.proofs.PairRooms.{starts_flush}
+use Rattle.starlark_columns.specs.Paired.{two_arrays, arrays_skipped}
+use Rattle.starlark_columns.proofs.PairRooms.{starts_flush, both_within}
 
 abbrev Greatest : ℕ
 Greatest = 2 ^ 64 - 1
@@ -89,10 +89,17 @@ module _ (τ σ : Ty) (n a b al f s off end z : ℕ) (ea : a ≡ capped (align �
       capped_is (align (two_arrays τ σ n)) (small_align (two_arrays τ σ n)) ∙ sym aligned,
     )
 
+small_rest : (k : ℕ) → k < 2 ^ 64 → k % 2 ^ 64 ≡ k
+small_rest k fit = omega (arith, fit)
+
 -- below the bound nothing is cut
-pub offset_exact : (τ σ : Ty) (n off z al : ℕ) → HasLayout (two_arrays τ σ n) z al → off ≡ capped (up (align σ) (n * size τ)) → z < 2 ^ 63 → off ≡ up (align σ) (n * size τ)
-offset_exact τ σ n off z al laid e fits =
+pub skipped_exact : (τ σ : Ty) (n z al : ℕ) → HasLayout (two_arrays τ σ n) z al → z < 2 ^ 63 → arrays_skipped τ σ n ≡ up (align σ) (n * size τ)
+skipped_exact τ σ n z al laid fits =
     let ω = two_arrays τ σ n in let small : size ω < 2 ^ 63 = capped_small (size ω) (subst (λ (k : ℕ). k < 2 ^ 63) (sym laid.0) fits) in
     let front : up (align σ) (up (align τ) 0 + n * size τ) ≡ up (align σ) (n * size τ) = ap (λ (k : ℕ). up (align σ) (k + n * size τ)) (starts_flush τ) ∙ ap (up (align σ)) (zero-add (n * size τ)) in
     let within : up (align σ) (up (align τ) 0 + n * size τ) < 2 ^ 64 = omega (arith, small) in
-    e ∙ capped_is (up (align σ) (n * size τ)) (subst (λ (k : ℕ). k < 2 ^ 64) front within)
+    let short : up (align σ) (n * size τ) < 2 ^ 64 = subst (λ (k : ℕ). k < 2 ^ 64) front within in
+    let bytes : n * size τ < 2 ^ 63 = (both_within τ σ n z laid.0 fits).0 in let fit : n * size τ < 2 ^ 64 = omega (arith, bytes) in
+    let times : n * capped (size τ) ≡ n * size τ = omega (arith, times_cut n (size τ), capped_is (n * size τ) fit, fit) in
+    let whole : (n * capped (size τ)) % 2 ^ 64 ≡ n * size τ = ap (λ (k : ℕ). k % 2 ^ 64) times ∙ small_rest (n * size τ) fit in
+    (λ i. (whole i + pad (capped_is (align σ) (small_align σ) i) (whole i)) % 2 ^ 64) ∙ small_rest (up (align σ) (n * size τ)) short

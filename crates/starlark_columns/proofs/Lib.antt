@@ -16,4 +16,5 @@ pub mod NamedClose
 pub mod Betweens
 pub mod LoneValue
 pub mod LentParts
+pub mod Addresses
 pub mod Walking

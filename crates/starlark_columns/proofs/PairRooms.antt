@@ -37,25 +37,22 @@ module _ (τ σ : Ty) (n : ℕ) {M : Type 1} {𝓤 : Ura M} (𝓛 : Logic 𝓤) 
   first_is : o + first ≡ o
   first_is = ap (λ (k : ℕ). o + k) (starts_flush τ) ∙ add-zero o
 
-  swapped : o + far ≡ far + o
-  swapped = omega arith
+  second_is : o + second ≡ o + far
+  second_is = ap (λ (k : ℕ). o + up (align σ) (k + n * size τ)) (starts_flush τ) ∙ ap (λ (k : ℕ). o + up (align σ) k) (zero-add (n * size τ)) ∙ ap (λ (k : ℕ). o + k) (sym at)
 
-  second_is : o + second ≡ far + o
-  second_is = ap (λ (k : ℕ). o + up (align σ) (k + n * size τ)) (starts_flush τ) ∙ ap (λ (k : ℕ). o + up (align σ) k) (zero-add (n * size τ)) ∙ ap (λ (k : ℕ). o + k) (sym at) ∙ swapped
-
-  rejoins : ent 𝓤 (wand 𝓤 rooms (H.room (two_arrays τ σ n) b o)) (sem 𝓛 (rooms_rejoin τ σ (block_ptr b o) (block_ptr b (far + o)) n))
-  rejoins = qed 𝓛 (raw (wand 𝓤 rooms (H.room (two_arrays τ σ n) b o)) ∷ []) ∵ assume ! (‵ (froom (bare (ty_array τ n)) b o) ⊛ ‵ (froom (bare (ty_array σ n)) b (far + o))) $ split ! $
-      use1 𝓛 (‵ (froom (ty_array τ n) b o)) (𝓛.laws.raw-room (ty_array τ n) b o) $ move ! (1 ∷ []) $ use1 𝓛 (‵ (froom (ty_array σ n) b (far + o))) (𝓛.laws.raw-room (ty_array σ n) b (far + o)) $ move ! (1 ∷ []) $
+  rejoins : ent 𝓤 (wand 𝓤 rooms (H.room (two_arrays τ σ n) b o)) (sem 𝓛 (rooms_rejoin τ σ (block_ptr b o) (block_ptr b (o + far)) n))
+  rejoins = qed 𝓛 (raw (wand 𝓤 rooms (H.room (two_arrays τ σ n) b o)) ∷ []) ∵ assume ! (‵ (froom (bare (ty_array τ n)) b o) ⊛ ‵ (froom (bare (ty_array σ n)) b (o + far))) $ split ! $
+      use1 𝓛 (‵ (froom (ty_array τ n) b o)) (𝓛.laws.raw-room (ty_array τ n) b o) $ move ! (1 ∷ []) $ use1 𝓛 (‵ (froom (ty_array σ n) b (o + far))) (𝓛.laws.raw-room (ty_array σ n) b (o + far)) $ move ! (1 ∷ []) $
       rewrite ! 0 (λ (d : ℕ). ‵ (froom (ty_array τ n) b d)) (sym first_is) refl $ rewrite ! 1 (λ (d : ℕ). ‵ (froom (ty_array σ n) b d)) (sym second_is) refl $
       nothing ! $ move ! (1 ∷ 2 ∷ 0 ∷ []) $ group ! 3 $ use2 𝓛 (‵ (froom (two_arrays τ σ n) b o)) (apply∗ 𝓤 rooms (H.room (two_arrays τ σ n) b o)) $ by ! (𝓛.laws.room-raw (two_arrays τ σ n) b o)
 
   pub cut_in_two : ent 𝓤 (H.room (two_arrays τ σ n) b o)
-      (sep 𝓤 (H.room (ty_array τ n) b o) (sep 𝓤 (H.room (ty_array σ n) b (far + o)) (sem 𝓛 (rooms_rejoin τ σ (block_ptr b o) (block_ptr b (far + o)) n))))
+      (sep 𝓤 (H.room (ty_array τ n) b o) (sep 𝓤 (H.room (ty_array σ n) b (o + far)) (sem 𝓛 (rooms_rejoin τ σ (block_ptr b o) (block_ptr b (o + far)) n))))
   cut_in_two = qed 𝓛 (‵ (froom (two_arrays τ σ n) b o) ∷ []) ∵
       use1 𝓛 (raw rooms ⊛ raw (wand 𝓤 rooms (H.room (two_arrays τ σ n) b o))) (𝓛.laws.room_fields [] both b o) $ split ! $
       use1 𝓛 (‵ (froom (ty_array τ n) b (o + first)) ⊛ ‵ (froom (ty_array σ n) b (o + second)) ⊛ ‵ ftrue) (id⊢ 𝓤 rooms) $ split3 ! $
       rewrite ! 0 (λ (d : ℕ). ‵ (froom (ty_array τ n) b d)) first_is refl $ rewrite ! 1 (λ (d : ℕ). ‵ (froom (ty_array σ n) b d)) second_is refl $
-      keep ! (3 ∷ 0 ∷ 1 ∷ []) $ use1 𝓛 (‵ (rooms_rejoin τ σ (block_ptr b o) (block_ptr b (far + o)) n)) rejoins $ move ! (1 ∷ 2 ∷ 0 ∷ []) $ done !
+      keep ! (3 ∷ 0 ∷ 1 ∷ []) $ use1 𝓛 (‵ (rooms_rejoin τ σ (block_ptr b o) (block_ptr b (o + far)) n)) rejoins $ move ! (1 ∷ 2 ∷ 0 ∷ []) $ done !
 
 -- both arrays are within the block
 pub both_within : (τ σ : Ty) (n z : ℕ) → capped (size (two_arrays τ σ n)) ≡ z → z < 2 ^ 63 → (n * size τ < 2 ^ 63) × (n * size σ < 2 ^ 63)

@@ -1,10 +1,23 @@
 -- When two rows lie in the block that a claim is to.
 use Rattle.std.specs.Prelude.{◌≡◌, length}
 use Rattle.std.specs.declared.alloc.Global.{Global}
+use denote.RattleType.{RattleType}
+use denote.RawPtr.{Ptr, InBlock}
 use Rattle.starlark_columns.specs.Laid.{Laid}
+use Rattle.starlark_columns.specs.Paired.{behind}
 use Rattle.starlark_columns.specs.declared.block.PairClaim.{PairClaim}
+use Rattle.starlark_columns.specs.declared.block.Spot.{Spot}
 
 module _ {A B : Type 0} where
   -- the claim, which is the right to give a block back, is to the block of these two rows, which have as many places
   abbrev pub IsBlockOf : PairClaim A B Global → Laid A → Laid B → Type 0
   IsBlockOf block r s = (block.firsts ≡ r.at) × (block.seconds ≡ s.at) × (block.count ≡ length r.places) × (block.count ≡ length s.places)
+
+  -- the block begins here, and its rows have so many places each
+  abbrev pub IsSpotOf : Spot A → PairClaim A B Global → Type 0
+  IsSpotOf spot block = (spot.count ≡ block.count) × (spot.address.at ≡ block.firsts)
+
+module _ (R S : RattleType) where
+  -- the spot is in a block, and p is where the second row begins there
+  abbrev pub IsBehind : Spot R.Denot → Ptr → Type 0
+  IsBehind spot p = InBlock spot.address.at × (p ≡ behind R S spot.count spot.address.at)

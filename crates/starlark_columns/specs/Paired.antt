@@ -1,14 +1,14 @@
 -- The one block of two rows: how both lie in it, and the right to give it back.
-use Rattle.std.specs.Prelude.{ℕ, ◌+◌, ◌*◌, []}
+use Rattle.std.specs.Prelude.{ℕ, ◌+◌, ◌*◌, ◌%◌, ◌^◌, []}
 use mathlib.Core.Bool.{cond}
 use lib.Dec.{eqb}
-use base.Fml.{Fml, ftrue, fsep, fwand}
+use base.Fml.{Fml, ftrue, fsep, fwand, feq}
 use mir.Raw.{raw}
 use mir.Syntax.{Ty, ty_array, ty_struct, tcons, tnil}
-use prog.Memory.{align, size, up}
+use prog.Memory.{align, size, up, pad, capped}
 use denote.Memory.{lone}
 use denote.RattleType.{RattleType}
-use denote.RawPtr.{Ptr, room_for}
+use denote.RawPtr.{Ptr, block_ptr, block_of, count_of, room_for, ◌+ₚ◌}
 
 -- what the address of a value is a multiple of
 abbrev pub type_align : RattleType → ℕ
@@ -27,6 +27,15 @@ module _ (τ σ : Ty) where
   abbrev pub arrays_claimed : (Ty → Ptr → Fml) → Ptr → Ptr → ℕ → Fml
   arrays_claimed token p q n = cond (eqb (n * (size τ + size σ)) 0) ftrue (fsep (token (raw (two_arrays n)) p) (rooms_rejoin p q n))
 
+  -- how far behind the first values the second begin, reckoned in 64 bits: the bytes of the first, and up to the next
+  -- multiple of what the second ask for
+  abbrev pub arrays_skipped : ℕ → ℕ
+  arrays_skipped n = let bytes = (n * capped (size τ)) % 2 ^ 64 in (bytes + pad (capped (align σ)) bytes) % 2 ^ 64
+
+  -- p is an address in a block, and q is so far behind it
+  abbrev pub arrays_apart : Ptr → Ptr → ℕ → Fml
+  arrays_apart p q n = feq (Ptr × Ptr) (p, q) (block_ptr (block_of p) (count_of p), p +ₚ arrays_skipped n)
+
 module _ (R S : RattleType) where
   -- n values of the first type, and behind them n of the second
   abbrev pub pair_ty : ℕ → Ty
@@ -36,6 +45,18 @@ module _ (R S : RattleType) where
   abbrev pub second_offset : ℕ → ℕ
   second_offset n = up (type_align S) (n * size (lone R.mir))
 
-  -- what `deallocate` asks for, to take the block of both rows back
+  -- the same as it is reckoned from the count, in 64 bits
+  abbrev pub skipped : ℕ → ℕ
+  skipped = arrays_skipped (lone R.mir) (lone S.mir)
+
+  -- where the second places begin, where the first begin at p
+  abbrev pub behind : ℕ → Ptr → Ptr
+  behind n p = p +ₚ skipped n
+
+  -- p is an address in a block, and q is where the second places begin
+  abbrev pub apart : Ptr → Ptr → ℕ → Fml
+  apart = arrays_apart (lone R.mir) (lone S.mir)
+
+  -- what `deallocate` asks for, to take the block of both rows back, which lie apart
   abbrev pub pair_claimed : (Ty → Ptr → Fml) → Ptr → Ptr → ℕ → Fml
-  pair_claimed = arrays_claimed (lone R.mir) (lone S.mir)
+  pair_claimed token p q n = fsep (apart p q n) (arrays_claimed (lone R.mir) (lone S.mir) token p q n)

@@ -4,12 +4,13 @@ ghost use Rattle.std.specs.Borrow.{sem};
 ghost use Rattle.std.specs.Mem.{type_size};
 ghost use Rattle.std.specs.Vec.Ownership.{FitsInBlock};
 ghost use base.Fml.{ftrue};
-ghost use denote.RawPtr.{Ptr, InBlock, Testable, null_ptr};
+ghost use denote.Sharing.{said, nothing, beside};
+ghost use denote.RawPtr.{Ptr, InBlock, Testable, null_ptr, ◌+ₚ◌};
 ghost use prog.Memory.{capped};
 ghost use Rattle.core.specs.Allocator.{HasLayout};
 ghost use Rattle.core.specs.Mem.Slots.{slots_items, slots_filled, slots_len, slots_ptr};
 ghost use Rattle.starlark_columns.specs.Owned.{row_owned, row_lent, claim_owned};
-ghost use Rattle.starlark_columns.specs.Paired.{type_align, pair_ty, second_offset, pair_claimed};
+ghost use Rattle.starlark_columns.specs.Paired.{type_align, pair_ty, second_offset, skipped, behind, apart, pair_claimed};
 ghost use Rattle.starlark_columns.specs.Places.{empties, IsFilled, AreFilled};
 
 use core::slots::Slots;
@@ -19,7 +20,7 @@ use std::mem::{align_of, size_of};
 use std::ptr::{NonNull, null};
 use std::slice;
 
-// Where the first place lies. It owns nothing.
+/// Where the first place of a row lies. It owns nothing.
 pub struct Address<T> {
     pub(crate) at: *const T,
 }
@@ -39,6 +40,28 @@ impl<T> Copy for Address<T> {}
 unsafe impl<T> Send for Address<T> {}
 
 unsafe impl<T> Sync for Address<T> {}
+
+/// Where the block of two rows begins, at the first place of one, and how many places each has. It owns nothing.
+pub struct Spot<T> {
+    pub address: Address<T>,
+    pub count: usize,
+}
+
+impl<T> Clone for Spot<T> {
+    ghost is_clone = { λ x y. y ≡ x };
+
+    ghost is_infallible = { λ _. Unit {0} };
+
+    fn clone(&self) -> Result<Spot<T>, AllocError> {
+        Ok(*self)
+    }
+}
+
+impl<T> Copy for Spot<T> {}
+
+unsafe impl<T> Send for Spot<T> {}
+
+unsafe impl<T> Sync for Spot<T> {}
 
 // The owner of the places. It takes no bytes.
 pub struct Held<T> {
@@ -77,8 +100,8 @@ unsafe impl<T, A: Allocator + Send> Send for Claim<T, A> {}
 // A `&` to it lends nothing.
 unsafe impl<T, A: Allocator> Sync for Claim<T, A> {}
 
-// The right to give back the one block with `count` places at `firsts` and as many at `seconds`. Where the places take
-// no bytes, it is a right to nothing. It takes no bytes.
+// The right to give back the one block with `count` places at `firsts` and as many at `seconds`, which lie as far apart
+// as the count says. Where the places take no bytes, it is a right to nothing. It takes no bytes.
 pub struct PairClaim<T, U, A: Allocator> {
     mark: PhantomData<*const (T, U, A)>,
     pub ghost firsts: { Ptr },
@@ -90,13 +113,31 @@ pub struct PairClaim<T, U, A: Allocator> {
 impl<T, U, A: Allocator> Model for PairClaim<T, U, A> {
     ghost also_owns = { λ c. pair_claimed T.row U.row (A.dealloc_token c.alloc) c.firsts c.seconds c.count };
 
-    ghost also_shares = { λ _ _ _. ftrue };
+    ghost also_shares = { λ c _ κ. beside (said (apart T.row U.row c.firsts c.seconds c.count)) nothing κ };
 }
 
 unsafe impl<T, U, A: Allocator + Send> Send for PairClaim<T, U, A> {}
 
 // A `&` to it lends nothing.
 unsafe impl<T, U, A: Allocator> Sync for PairClaim<T, U, A> {}
+
+impl<T, U> PairClaim<T, U, Global> {
+    // Says where the rows lie. It does nothing.
+    #[inline]
+    pub(crate) fn told(&self)
+        ensures { InBlock self.now.firsts × (self.now.seconds ≡ behind T.row U.row self.now.count self.now.firsts) }
+    {}
+}
+
+// The address so many bytes further on.
+#[inline]
+pub(crate) fn moved<T, U>(first: Address<T>, offset: usize) -> Address<U>
+    requires { InBlock first.at }
+    ensures { result.at ≡ first.at +ₚ offset }
+{
+    let at = unsafe { first.at.byte_add(offset) } as *const U;
+    Address { at }
+}
 
 // The bytes of an item, as a number of its own.
 pub(crate) fn item_size<T>() -> usize
@@ -210,17 +251,23 @@ pub(crate) fn deallocate<T, A: Allocator>(
     }
 }
 
-// The claim of places that take no bytes.
-pub(crate) fn no_claim<T, U, A: Allocator>(
+// Two rows of places that take no bytes, and a right to nothing. They lie where an array of no pairs does, so that the
+// addresses of both are aligned.
+pub(crate) fn bare_pair<T, U, A: Allocator>(
     _alloc: &A,
-    first: Address<T>,
-    second: Address<U>,
     count: usize,
-) -> PairClaim<T, U, A>
+) -> (Address<T>, Held<T>, Held<U>, PairClaim<T, U, A>)
     requires { count * (type_size T.row + type_size U.row) ≡ 0 }
-    ensures { (result.firsts ≡ first.at) × (result.seconds ≡ second.at) × (result.count ≡ count) }
+    ensures { (result.1.at ≡ result.0.at) × (result.1.places ≡ empties count) × (result.2.places ≡ empties count) × (result.3.firsts ≡ result.0.at) × (result.3.seconds ≡ result.2.at) × (result.3.count ≡ count) }
 {
-    PairClaim { mark: PhantomData }
+    let nowhere: [(T, U); 0] = [];
+    let at = &raw const nowhere as *const T;
+    (
+        Address { at },
+        Held { mark: PhantomData },
+        Held { mark: PhantomData },
+        PairClaim { mark: PhantomData },
+    )
 }
 
 pub(crate) fn let_go_pair<T, U>(firsts: Held<T>, seconds: Held<U>, claim: PairClaim<T, U, Global>)
@@ -232,28 +279,25 @@ pub(crate) fn let_go_pair<T, U>(firsts: Held<T>, seconds: Held<U>, claim: PairCl
     let PairClaim { mark: _ } = claim;
 }
 
-// One block for two rows. The second begins at `offset`.
+// One block for two rows. The second begins where it is reckoned to from the count.
 pub(crate) fn allocate_pair<T, U, A: Allocator>(
     alloc: &A,
     count: usize,
-    offset: usize,
     size: usize,
     align: usize,
-) -> Result<(Address<T>, Held<T>, Address<U>, Held<U>, PairClaim<T, U, A>), AllocError>
+) -> Result<(Address<T>, Held<T>, Held<U>, PairClaim<T, U, A>), AllocError>
     requires layout { HasLayout (pair_ty T.row U.row count) size align }
-    requires offset { offset ≡ second_offset T.row U.row count }
+    requires offset { skipped T.row U.row count ≡ second_offset T.row U.row count }
     requires fits { size < 2 ^ 63 }
     requires bytes { 0 < count * (type_size T.row + type_size U.row) }
-    ensures { IfOk result (λ r. (r.1.at ≡ r.0.at) × (r.1.places ≡ empties count) × (r.3.at ≡ r.2.at) × (r.3.places ≡ empties count) × (r.4.firsts ≡ r.0.at) × (r.4.seconds ≡ r.2.at) × (r.4.count ≡ count) × (r.4.alloc ≡ alloc.now)) }
+    ensures { IfOk result (λ r. (r.1.at ≡ r.0.at) × (r.1.places ≡ empties count) × (r.2.places ≡ empties count) × (r.3.firsts ≡ r.0.at) × (r.3.seconds ≡ r.2.at) × (r.3.count ≡ count) × (r.3.alloc ≡ alloc.now)) }
 {
     match alloc.allocate(size, align) {
         Ok(block) => {
-            let first = block as *const T;
-            let second = unsafe { block.add(offset) } as *const U;
+            let at = block as *const T;
             Ok((
-                Address { at: first },
+                Address { at },
                 Held { mark: PhantomData },
-                Address { at: second },
                 Held { mark: PhantomData },
                 PairClaim { mark: PhantomData },
             ))

@@ -1,11 +1,12 @@
-//! Rows whose items stand at the front. Each call is told how many there are, so that two rows share one length. `count`
-//! is the number of places.
+//! Rows whose items stand at the front. Each call is told how many there are, so that two rows share one length. `address`
+//! is where the places lie, and `count` their number.
 ghost use Rattle.std.specs.Prelude.{◌≡◌, ◌+◌, ◌-◌, ◌<◌, ◌≤◌, [], ◌∷◌, ◌++◌, Some, length, take, reverse, slice_get, IsOk, OnOk, OnErr};
 ghost use Rattle.std.specs.Borrow.{sem};
 ghost use Rattle.std.specs.List.{remove, AllZip};
 ghost use Rattle.starlark_columns.specs.Places.{items_of};
 ghost use Rattle.starlark_columns.specs.Front.{IsFront};
 
+use crate::block::Address;
 use crate::row::Row;
 use std::alloc::AllocError;
 
@@ -14,48 +15,52 @@ impl<T> Row<T> {
 
     /// The first `len` places, which hold all the items.
     #[inline]
-    pub fn items(&self, len: usize) -> &[T]
-        requires { IsFront self.now.places len }
+    pub fn items(&self, address: Address<T>, len: usize) -> &[T]
+        requires at { address.at ≡ self.now.at }
+        requires front { IsFront self.now.places len }
         ensures { result.now ≡ items_of self.now.places }
     {
-        self.slice(0, len)
+        self.slice(address, 0, len)
     }
 
     /// The first `len` places, which hold all the items, to be written. They end with what is left in them.
     #[inline]
-    pub fn items_mut(&mut self, len: usize) -> &mut [T]
-        requires { IsFront self.old.places len }
+    pub fn items_mut(&mut self, address: Address<T>, len: usize) -> &mut [T]
+        requires at { address.at ≡ self.old.at }
+        requires front { IsFront self.old.places len }
         ensures* writes_back { sem 𝓛 (lends_front T.row self.entry result) }
         ensures value { result.now ≡ items_of self.old.places }
     {
-        self.slice_mut(0, len)
+        self.slice_mut(address, 0, len)
     }
 
     /// The item at this index.
     #[inline]
-    pub fn item(&self, len: usize, index: usize) -> &T
+    pub fn item(&self, address: Address<T>, len: usize, index: usize) -> &T
+        requires at { address.at ≡ self.now.at }
         requires front { IsFront self.now.places len }
         requires within { index < len }
         ensures { slice_get (items_of self.now.places) index ≡ Some result.now }
     {
-        self.get(len, index)
+        self.get(address, len, index)
     }
 
     /// The item at this index, to be written. The row ends with what is left in it, and all else stays.
     #[inline]
-    pub fn item_mut(&mut self, len: usize, index: usize) -> &mut T
+    pub fn item_mut(&mut self, address: Address<T>, len: usize, index: usize) -> &mut T
+        requires at { address.at ≡ self.old.at }
         requires front { IsFront self.old.places len }
         requires within { index < len }
         ensures* writes_back { sem 𝓛 (lends_item T.row self.entry index result) }
         ensures value { slice_get (items_of self.old.places) index ≡ Some result.now }
     {
-        self.get_mut(index)
+        self.get_mut(address, index)
     }
 
     /// Puts an item behind the `len` that are there. A place is to be left.
     #[inline]
-    pub fn push_last(&mut self, count: usize, len: usize, item: T)
-        requires count { count ≡ length self.old.places }
+    pub fn push_last(&mut self, address: Address<T>, count: usize, len: usize, item: T)
+        requires its { (address.at ≡ self.old.at) × (count ≡ length self.old.places) }
         requires front { IsFront self.old.places len }
         requires room { len < length self.old.places }
         ensures front { IsFront self.new.places (len + 1) }
@@ -63,26 +68,26 @@ impl<T> Row<T> {
         ensures places { length self.new.places ≡ length self.old.places }
         ensures at { self.new.at ≡ self.old.at }
     {
-        self.write(count, len, item);
+        self.write(address, count, len, item);
     }
 
     /// Takes the last item out, which has `last` in front of it.
     #[inline]
-    pub fn take_last(&mut self, count: usize, last: usize) -> T
-        requires count { count ≡ length self.old.places }
+    pub fn take_last(&mut self, address: Address<T>, count: usize, last: usize) -> T
+        requires its { (address.at ≡ self.old.at) × (count ≡ length self.old.places) }
         requires front { IsFront self.old.places (last + 1) }
         ensures front { IsFront self.new.places last }
         ensures items { items_of self.old.places ≡ items_of self.new.places ++ result ∷ [] }
         ensures places { length self.new.places ≡ length self.old.places }
         ensures at { self.new.at ≡ self.old.at }
     {
-        self.take(count, last)
+        self.take(address, count, last)
     }
 
     /// Takes the item at `index` out. Those behind it move up by one place.
     #[inline]
-    pub fn remove_at(&mut self, count: usize, len: usize, index: usize) -> T
-        requires count { count ≡ length self.old.places }
+    pub fn remove_at(&mut self, address: Address<T>, count: usize, len: usize, index: usize) -> T
+        requires its { (address.at ≡ self.old.at) × (count ≡ length self.old.places) }
         requires front { IsFront self.old.places len }
         requires within { index < len }
         ensures taken { slice_get (items_of self.old.places) index ≡ Some result }
@@ -91,15 +96,24 @@ impl<T> Row<T> {
         ensures places { length self.new.places ≡ length self.old.places }
         ensures at { self.new.at ≡ self.old.at }
     {
-        let item = self.take(count, index);
-        self.move_down(count, index + 1, len, index);
+        let item = self.take(address, count, index);
+        self.move_down(address, count, index + 1, len, index);
         item
     }
 
     /// Moves all `len` items to the places of `to`, which are empty, and enough. None is left here.
     #[inline]
-    pub fn move_all(&mut self, count: usize, len: usize, to: &mut Row<T>, to_count: usize)
-        requires counts { (count ≡ length self.old.places) × (to_count ≡ length to.old.places) }
+    pub fn move_all(
+        &mut self,
+        address: Address<T>,
+        count: usize,
+        len: usize,
+        to: &mut Row<T>,
+        to_address: Address<T>,
+        to_count: usize,
+    )
+        requires its { (address.at ≡ self.old.at) × (count ≡ length self.old.places) }
+        requires others { (to_address.at ≡ to.old.at) × (to_count ≡ length to.old.places) }
         requires front { IsFront self.old.places len }
         requires empty { IsFront to.old.places 0 }
         requires room { len ≤ length to.old.places }
@@ -109,26 +123,27 @@ impl<T> Row<T> {
         ensures places { (length self.new.places ≡ length self.old.places) × (length to.new.places ≡ length to.old.places) }
         ensures at { (self.new.at ≡ self.old.at) × (to.new.at ≡ to.old.at) }
     {
-        self.move_to(count, 0, len, to, to_count, 0);
+        self.move_to(address, count, 0, len, to, to_address, to_count, 0);
     }
 
     /// Turns the items round.
     #[inline]
-    pub fn turn_round(&mut self, len: usize)
-        requires { IsFront self.old.places len }
+    pub fn turn_round(&mut self, address: Address<T>, len: usize)
+        requires at { address.at ≡ self.old.at }
+        requires front { IsFront self.old.places len }
         ensures front { IsFront self.new.places len }
         ensures items { items_of self.new.places ≡ reverse (items_of self.old.places) }
         ensures places { length self.new.places ≡ length self.old.places }
         ensures at { self.new.at ≡ self.old.at }
     {
-        self.items_mut(len).reverse();
+        self.items_mut(address, len).reverse();
     }
 }
 
 impl<T: Drop> Row<T> {
     /// Drops the items from `to` on, the last first.
-    pub fn truncate(&mut self, count: usize, len: usize, to: usize)
-        requires count { count ≡ length self.old.places }
+    pub fn truncate(&mut self, address: Address<T>, count: usize, len: usize, to: usize)
+        requires its { (address.at ≡ self.old.at) × (count ≡ length self.old.places) }
         requires front { IsFront self.old.places len }
         requires within { to ≤ len }
         ensures front { IsFront self.new.places to }
@@ -139,7 +154,7 @@ impl<T: Drop> Row<T> {
         let mut left = len;
         while to < left {
             left -= 1;
-            let _item = self.take_last(count, left);
+            let _item = self.take_last(address, count, left);
         }
     }
 }
@@ -149,11 +164,14 @@ impl<T: Clone + Drop> Row<T> {
     /// clones made so far are dropped, and `to` is empty as before.
     pub fn clone_items(
         &self,
+        address: Address<T>,
         len: usize,
         to: &mut Row<T>,
+        to_address: Address<T>,
         to_count: usize,
     ) -> Result<(), AllocError>
-        requires count { to_count ≡ length to.old.places }
+        requires at { address.at ≡ self.now.at }
+        requires others { (to_address.at ≡ to.old.at) × (to_count ≡ length to.old.places) }
         requires front { IsFront self.now.places len }
         requires empty { IsFront to.old.places 0 }
         requires room { len ≤ length to.old.places }
@@ -164,12 +182,12 @@ impl<T: Clone + Drop> Row<T> {
         ensures at { to.new.at ≡ to.old.at }
         ensures succeeds { len ≡ 0 → IsOk result }
     {
-        let items = self.items(len);
+        let items = self.items(address, len);
         for made in 0..len {
             match items[made].clone() {
-                Ok(item) => to.push_last(to_count, made, item),
+                Ok(item) => to.push_last(to_address, to_count, made, item),
                 Err(refused) => {
-                    to.truncate(to_count, made, 0);
+                    to.truncate(to_address, to_count, made, 0);
                     return Err(refused);
                 }
             }

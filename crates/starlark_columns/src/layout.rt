@@ -1,22 +1,20 @@
 //! How two rows lie in one block: the first from its start on, and the second behind it, where its alignment allows.
-ghost use Rattle.std.specs.Prelude.{◌≡◌, ◌+◌, ◌-◌, ◌*◌, ◌^◌, ◌<◌, min};
+ghost use Rattle.std.specs.Prelude.{◌≡◌, ◌+◌, ◌-◌, ◌*◌, ◌%◌, ◌^◌, ◌<◌, min};
 ghost use Rattle.core.specs.Allocator.{HasLayout};
-ghost use prog.Memory.{capped, pad};
-ghost use Rattle.starlark_columns.specs.Paired.{pair_ty, second_offset};
+ghost use prog.Memory.{pad};
+ghost use Rattle.starlark_columns.specs.Paired.{pair_ty, skipped};
 
 use crate::block::{item_align, item_size};
 
 // The block of two rows of so many places. Numbers past the greatest `usize` are cut there.
 #[derive(Drop)]
 pub(crate) struct Layout {
-    pub offset: usize,
     pub size: usize,
     pub align: usize,
 }
 
 pub(crate) fn laid_out<T, U>(count: usize) -> Layout
-    ensures block { HasLayout (pair_ty T.row U.row count) result.size result.align }
-    ensures offset { result.offset ≡ capped (second_offset T.row U.row count) }
+    ensures { HasLayout (pair_ty T.row U.row count) result.size result.align }
 {
     let first = item_align::<T>();
     let second = item_align::<U>();
@@ -26,11 +24,16 @@ pub(crate) fn laid_out<T, U>(count: usize) -> Layout
     let offset = rounded_up(firsts, second);
     let end = offset.saturating_add(seconds);
     let size = rounded_up(end, align);
-    Layout {
-        offset,
-        size,
-        align,
-    }
+    Layout { size, align }
+}
+
+// How far behind the first row the second begins. In a block no number is past the greatest `usize`, so that nothing is
+// tested here.
+#[inline]
+pub(crate) fn skip<T, U>(count: usize) -> usize
+    ensures { result ≡ skipped T.row U.row count }
+{
+    wrapped_up(count.wrapping_mul(item_size::<T>()), item_align::<U>())
 }
 
 // The least multiple of `align` that is not below.
@@ -39,4 +42,13 @@ fn rounded_up(bytes: usize, align: usize) -> usize
     ensures { result ≡ min (bytes + pad align bytes) (2 ^ 64 - 1) }
 {
     bytes.saturating_add((align - bytes % align) % align)
+}
+
+// The same in 64 bits, without a test.
+#[inline]
+fn wrapped_up(bytes: usize, align: usize) -> usize
+    requires { 0 < align }
+    ensures { result ≡ (bytes + pad align bytes) % 2 ^ 64 }
+{
+    bytes.wrapping_add((align - bytes % align) % align)
 }

@@ -12,6 +12,7 @@ pub mod pair;
 pub mod perhaps;
 pub mod row;
 
+pub use block::{Address, Spot};
 pub use column::Column;
 pub use loan::Loan;
 pub use perhaps::Perhaps;

@@ -1,33 +1,58 @@
 //! Two rows of as many places in one block of memory, so that they are had, and given back, by one call of the allocator.
+//! The first row begins where the block does. Where the second begins is reckoned, so that one address does for both.
 ghost use Rattle.std.specs.Prelude.{◌≡◌, ◌↔◌, ◌+◌, ◌*◌, ◌^◌, ◌<◌, [], length, IfOk, IsOk, IsTrue};
 ghost use Rattle.std.specs.Mem.{type_size};
 ghost use Rattle.starlark_columns.specs.Places.{empties, items_of};
 ghost use Rattle.starlark_columns.specs.Front.{IsFront};
-ghost use Rattle.starlark_columns.specs.Block.{IsBlockOf};
+ghost use denote.RawPtr.{InBlock};
+ghost use Rattle.starlark_columns.specs.Paired.{behind};
+ghost use Rattle.starlark_columns.specs.Block.{IsBlockOf, IsSpotOf};
 ghost use Rattle.starlark_columns.specs.Laid.{laid};
 
 use crate::block::{
-    Address, Held, PairClaim, allocate_pair, bare, deallocate_pair, item_size, let_go_pair,
-    no_claim,
+    Address, Held, PairClaim, Spot, allocate_pair, bare_pair, deallocate_pair, item_size,
+    let_go_pair, moved,
 };
-use crate::layout::laid_out;
+use crate::layout::{laid_out, skip};
 use crate::row::Row;
 use std::alloc::{AllocError, Global};
 
 /// The right to give the block of two rows back. It takes no bytes.
 pub type Block<A, B> = PairClaim<A, B, Global>;
 
-/// Two rows of `count` empty places each in one block of memory, and the right to give the block back. They are refused
-/// where there is no memory, or where that many items cannot be addressed; places that take no bytes never are, and ask
-/// for no memory.
+impl<A, B> PairClaim<A, B, Global> {
+    /// Where the second row lies, from where the block does.
+    #[inline]
+    pub fn second(&self, spot: Spot<A>) -> Address<B>
+        requires { IsSpotOf spot self.now }
+        ensures { result.at ≡ self.now.seconds }
+    {
+        self.told();
+        second_at(spot)
+    }
+}
+
+/// The same without the right, where it is known that the spot is in a block.
+#[inline]
+pub fn second_at<A, B>(spot: Spot<A>) -> Address<B>
+    requires { InBlock spot.address.at }
+    ensures { result.at ≡ behind A.row B.row spot.count spot.address.at }
+{
+    moved(spot.address, skip::<A, B>(spot.count))
+}
+
+/// Two rows of `count` empty places each in one block of memory, where it begins, and the right to give it back. They are
+/// refused where there is no memory, or where that many items cannot be addressed; places that take no bytes never are,
+/// and ask for no memory.
 pub fn with_rows<A, B>(
     alloc: Global,
     count: usize,
-) -> Result<(Row<A>, Row<B>, Block<A, B>), AllocError>
-    ensures fronts { IfOk result (λ r. IsFront r.0.places 0 × IsFront r.1.places 0) }
-    ensures items { IfOk result (λ r. (items_of r.0.places ≡ []) × (items_of r.1.places ≡ [])) }
-    ensures places { IfOk result (λ r. (length r.0.places ≡ count) × (length r.1.places ≡ count)) }
-    ensures block { IfOk result (λ r. IsBlockOf r.2 r.0 r.1) }
+) -> Result<(Spot<A>, Row<A>, Row<B>, Block<A, B>), AllocError>
+    ensures fronts { IfOk result (λ r. IsFront r.1.places 0 × IsFront r.2.places 0) }
+    ensures items { IfOk result (λ r. (items_of r.1.places ≡ []) × (items_of r.2.places ≡ [])) }
+    ensures places { IfOk result (λ r. (length r.1.places ≡ count) × (length r.2.places ≡ count)) }
+    ensures block { IfOk result (λ r. IsBlockOf r.3 r.1 r.2) }
+    ensures spot { IfOk result (λ r. IsSpotOf r.0 r.3) }
     ensures succeeds { count * type_size A.row ≡ 0 → count * type_size B.row ≡ 0 → IsOk result }
 {
     if weightless::<A, B>(count) {
@@ -37,51 +62,53 @@ pub fn with_rows<A, B>(
     if layout.size >= 1 << 63 {
         return Err(AllocError);
     }
-    let (first, firsts, second, seconds, block) = allocate_pair(
+    let (address, firsts, seconds, block) = allocate_pair(
         &alloc,
         count,
-        layout.offset,
         layout.size,
         layout.align,
     )?;
-    Ok((row_of(first, firsts), row_of(second, seconds), block))
+    Ok((
+        Spot { address, count },
+        row_of(firsts),
+        row_of(seconds),
+        block,
+    ))
 }
 
 /// Two rows of no places, without memory.
 #[inline]
-pub fn no_rows<A, B>(alloc: Global) -> (Row<A>, Row<B>, Block<A, B>)
-    ensures fronts { IsFront result.0.places 0 × IsFront result.1.places 0 }
-    ensures places { (length result.0.places ≡ 0) × (length result.1.places ≡ 0) }
-    ensures block { IsBlockOf result.2 result.0 result.1 }
+pub fn no_rows<A, B>(alloc: Global) -> (Spot<A>, Row<A>, Row<B>, Block<A, B>)
+    ensures fronts { IsFront result.1.places 0 × IsFront result.2.places 0 }
+    ensures places { (length result.1.places ≡ 0) × (length result.2.places ≡ 0) }
+    ensures block { IsBlockOf result.3 result.1 result.2 }
+    ensures spot { IsSpotOf result.0 result.3 }
 {
     bare_rows(alloc, 0)
 }
 
-/// Gives the block back. It is that of both rows, which have `count` places each, and no item is left in either.
+/// Gives the block back. It is that of both rows, and begins at the spot; no item is left in either.
 #[inline]
 pub fn give_back<A, B>(
     alloc: Global,
-    count: usize,
+    spot: Spot<A>,
     firsts: Row<A>,
     seconds: Row<B>,
     block: Block<A, B>,
 )
-    requires count { count ≡ length firsts.places }
+    requires spot { IsSpotOf spot block }
     requires empty { IsFront firsts.places 0 × IsFront seconds.places 0 }
     requires block { IsBlockOf block firsts seconds }
 {
-    let Row { address, held } = firsts;
-    let Row {
-        address: _,
-        held: other,
-    } = seconds;
-    if weightless::<A, B>(count) {
+    let Row { held } = firsts;
+    let Row { held: other } = seconds;
+    if weightless::<A, B>(spot.count) {
         let_go_pair(held, other, block);
     } else {
-        let layout = laid_out::<A, B>(count);
+        let layout = laid_out::<A, B>(spot.count);
         deallocate_pair(
             &alloc,
-            address,
+            spot.address,
             layout.size,
             layout.align,
             held,
@@ -99,24 +126,27 @@ fn weightless<A, B>(count: usize) -> bool
 }
 
 // Rows of places that take no bytes.
-fn bare_rows<A, B>(alloc: Global, count: usize) -> (Row<A>, Row<B>, Block<A, B>)
+fn bare_rows<A, B>(alloc: Global, count: usize) -> (Spot<A>, Row<A>, Row<B>, Block<A, B>)
     requires { count * (type_size A.row + type_size B.row) ≡ 0 }
-    ensures fronts { IsFront result.0.places 0 × IsFront result.1.places 0 }
-    ensures items { (items_of result.0.places ≡ []) × (items_of result.1.places ≡ []) }
-    ensures places { (length result.0.places ≡ count) × (length result.1.places ≡ count) }
-    ensures block { IsBlockOf result.2 result.0 result.1 }
+    ensures fronts { IsFront result.1.places 0 × IsFront result.2.places 0 }
+    ensures items { (items_of result.1.places ≡ []) × (items_of result.2.places ≡ []) }
+    ensures places { (length result.1.places ≡ count) × (length result.2.places ≡ count) }
+    ensures block { IsBlockOf result.3 result.1 result.2 }
+    ensures spot { IsSpotOf result.0 result.3 }
 {
-    let (first, firsts) = bare(count);
-    let (second, seconds) = bare(count);
-    let block = no_claim(&alloc, first, second, count);
-    (row_of(first, firsts), row_of(second, seconds), block)
+    let (address, firsts, seconds, block) = bare_pair(&alloc, count);
+    (
+        Spot { address, count },
+        row_of(firsts),
+        row_of(seconds),
+        block,
+    )
 }
 
-// The row of these parts.
+// The row of these places.
 #[inline]
-fn row_of<T>(address: Address<T>, held: Held<T>) -> Row<T>
-    requires { held.at ≡ address.at }
-    ensures places { result ≡ laid address.at held.places }
+fn row_of<T>(held: Held<T>) -> Row<T>
+    ensures places { result ≡ laid held.at held.places }
 {
-    Row { address, held }
+    Row { held }
 }

@@ -17,8 +17,8 @@ use Rattle.starlark_vec2.proofs.Pairs.{length-zip, firsts_of-zip, seconds_of-zip
 
 module _ {A B : Type 0} where
   -- rows that lie where two of a block lay, with as many places
-  pub same_block : (block : PairClaim A B Global) (r r' : Laid A) (s s' : Laid B) → IsBlockOf block r s → r'.at ≡ r.at → s'.at ≡ s.at → length r'.places ≡ length r.places → length s'.places ≡ length s.places → IsBlockOf block r' s'
-  same_block block r r' s s' is at at' long long' = (is.0 ∙ sym at, is.1 ∙ sym at', is.2 ∙ sym long, is.3 ∙ sym long')
+  pub same_block : (block : PairClaim B A Global) (r r' : Laid A) (s s' : Laid B) → IsBlockOf block s r → r'.at ≡ r.at → s'.at ≡ s.at → length r'.places ≡ length r.places → length s'.places ≡ length s.places → IsBlockOf block s' r'
+  same_block block r r' s s' is at at' long long' = (is.0 ∙ sym at', is.1 ∙ sym at, is.2 ∙ sym long', is.3 ∙ sym long)
 
   -- the pair at a place of both columns
   pub slice_get-zip_both : (xs : List A) (ys : List B) (i : ℕ) (x : A) (y : B) → slice_get xs i ≡ Some x → slice_get ys i ≡ Some y → slice_get (zip xs ys) i ≡ Some (x, y)

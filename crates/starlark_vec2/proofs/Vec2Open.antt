@@ -1,7 +1,12 @@
 -- A `Vec2` in memory is its two columns and the rest, and back, at any columns of which the invariant holds. Assumes `Logic`.
-use Rattle.starlark_columns.proofs.Walking.{◌≡◌, refl, ℕ, zero, ◌+◌, ◌<◌, ◌^◌, List, [], ◌∷◌, Ura, full_share, w64, Val, vint, Fml, fsep, SProp, ent, sep, emp, wand, ex, all_e, apply∗, fact, fact_i, size, align, up, ‵, raw, ◌⊛◌, some, ◌$◌, ◌∵◌, !, qed, by, move, use0, use1, use2, split, pick, show, fsplit, fsplit3, fjoin, fpick, fpack, rewrite, done, Logic, sem, RattleType, Denots, shows, part_at, part_of, cell_at, lone, plain_out, Plain-in, view_made, Laws, uint_Makes, facts, owned, field, usize-field, lawfuls, Member, rows_of, parts_at, shape_of, PartsBack, Struct-parts, Struct, ghosts}
+use Rattle.starlark_columns.proofs.Walking.{◌≡◌, refl, ℕ, zero, ◌+◌, ◌<◌, ◌^◌, List, [], ◌∷◌, Ura, full_share, w64, Val, vint, Fml, fsep, SProp, ent, sep, emp, wand, ex, all_e, apply∗, fact, fact_i, size, align, up, ‵, raw, ◌⊛◌, some, ◌$◌, ◌∵◌, !, qed, by, move, use0, use1, use2, split, pick, show, fsplit, fsplit3, fjoin, fpick, fpack, rewrite, done, Logic, sem, RattleType, Denots, shows, part_at, part_of, cell_at, lone, plain_out, Plain-in, view_made, Laws, uint_Makes, facts, owned, field, usize-field, peeks, fat, Ptr, sym, ap, subst, ◌∙◌, lawfuls, Member, rows_of, parts_at, shape_of, PartsBack, Struct-parts, Struct, ghosts}
 use Rattle.std.specs.contracts.alloc.Global as heap
+use denote.RawPtr.{InBlock, block_ptr, block_of, count_of}
+use Rattle.starlark_columns.specs.Block.{IsBehind}
+use Rattle.starlark_columns.specs.Paired.{behind as starts}
 use Rattle.starlark_columns.specs.contracts.block.PairClaim as claim
+use Rattle.starlark_columns.specs.contracts.block.Spot as spot
+use Rattle.starlark_columns.proofs.Addresses.{words, spot_made, spot_told}
 use Rattle.starlark_vec2.specs.ColumnLending.{column}
 use Rattle.starlark_vec2.specs.declared.vec2.Vec2.TheInside.{Inside}
 use Rattle.starlark_vec2.specs.contracts.vec2.Vec2 as C
@@ -22,8 +27,17 @@ module _ (A B : RattleType) where
   abbrev member : RattleType → Member
   member R = record { row = R; ty = lone R.mir }
 
+  abbrev At : RattleType
+  At = (spot.the_field B).row
+
+  abbrev Right : RattleType
+  Right = claim.the_row B A heap.the_row ghosts
+
+  abbrev last : List Member
+  last = member (field heap.the_type).row ∷ member Right ∷ []
+
   abbrev behind : List Member
-  behind = member usize-field.row ∷ member (field heap.the_type).row ∷ member (claim.the_row A B heap.the_row ghosts) ∷ []
+  behind = member At ∷ last
 
   abbrev left : List Member
   left = member usize-field.row ∷ behind
@@ -43,6 +57,19 @@ module _ (A B : RattleType) where
   abbrev to : D → Denots (rows_of ms)
   to d = (I.the_type A B).to d
 
+  -- the length and the count are words, and the columns lie as the block's right says
+  abbrev pub Told : D → Type 0
+  Told d = (d.len < 2 ^ 64) × (d.spot.count < 2 ^ 64) × ◌≡◌ {A = Ptr × Ptr} (d.block.firsts, d.block.seconds) (block_ptr (block_of d.block.firsts) (count_of d.block.firsts), starts B A d.block.count d.block.firsts)
+
+  pub at_behind : (v : V.Denot) (d : D) → Known v d → Told d → IsBehind B A d.spot d.firsts.at
+  at_behind v d k told = (
+    subst InBlock (sym (k.1.2.1 ∙ ap (λ (z : Ptr × Ptr). z.0) told.2)) tt,
+    sym k.1.1.1 ∙ ap (λ (z : Ptr × Ptr). z.1) told.2 ∙ (λ i. starts B A (sym k.1.2.0 i) (sym k.1.2.1 i)),
+  )
+
+  pub at_front : (v : V.Denot) (d : D) → Known v d → d.spot.address.at ≡ d.seconds.at
+  at_front v d k = k.1.2.1 ∙ k.1.1.0
+
   module _ {M : Type 1} {𝓤 : Ura M} (𝓛 : Logic 𝓤) (b o : ℕ) where
     abbrev pub Rest : D → SProp 𝓤
     Rest d = sep 𝓤 (sem 𝓛 (parts_at full_share left eR (to d).1.1 b o)) (PartsBack 𝓛 full_share (I.the_type A B).name ms b o)
@@ -54,22 +81,45 @@ module _ (A B : RattleType) where
     abbrev pub Len : ℕ → Fml
     Len n = cell_at full_share usize-field.row.mir (vint w64 n ∷ []) b (o + eL)
 
-    abbrev pub Less : D → SProp 𝓤
-    Less d = sep 𝓤 (sem 𝓛 (parts_at full_share behind (eL + size (lone usize-field.row.mir)) (to d).1.1.1 b o)) (PartsBack 𝓛 full_share (I.the_type A B).name ms b o)
+    -- the spot's own cell, behind the length, under its type's name
+    abbrev eS : ℕ
+    eS = up (align (lone At.mir)) (eL + size (lone usize-field.row.mir))
 
-    -- `get_mut` and `lend_firsts` read the length by hand, before a column is lent: here out of the parts, and by len_in back
-    pub len_out : (d : D) → ent 𝓤 (Rest d) (sep 𝓤 (fact 𝓤 (d.len < 2 ^ 64)) (sep 𝓤 (sem 𝓛 (Len d.len)) (Less d)))
+    abbrev pub Place : Ptr → ℕ → Fml
+    Place p n = fat full_share (lone At.mir) b (o + eS) (words p n)
+
+    abbrev eG : ℕ
+    eG = up (align (lone (field heap.the_type).row.mir)) (eS + size (lone At.mir))
+
+    abbrev eC : ℕ
+    eC = up (align (lone Right.mir)) (eG + size (lone (field heap.the_type).row.mir))
+
+    abbrev pub Less : D → SProp 𝓤
+    Less d = sep 𝓤 (sem 𝓛 (parts_at full_share last (eS + size (lone At.mir)) (to d).1.1.1.1 b o)) (PartsBack 𝓛 full_share (I.the_type A B).name ms b o)
+
+    -- those that lend a column read the length and the spot by hand, and how the columns lie: here out of the parts, and by
+    -- fields_in back
+    pub fields_out : (d : D) → ent 𝓤 (Rest d) (sep 𝓤 (fact 𝓤 (Told d)) (sep 𝓤 (sem 𝓛 (Len d.len)) (sep 𝓤 (sem 𝓛 (Place d.spot.address.at d.spot.count)) (Less d))))
     unfolding part_of
-    len_out d =
+    fields_out d =
         qed 𝓛 (‵ (parts_at full_share left eR (to d).1.1 b o) ∷ raw (PartsBack 𝓛 full_share (I.the_type A B).name ms b o) ∷ []) ∵ fsplit ! $ fpick ! (λ vs. fsplit ! $ move ! (1 ∷ []) $
         facts ! usize-field.row _ (shows 𝓛 usize-field.row) d.len vs (λ p. rewrite ! 0 (λ (us : List Val). ‵ (cell_at full_share usize-field.row.mir us b (o + eL))) p.0 refl $
-        use0 𝓛 (raw (fact 𝓤 (d.len < 2 ^ 64))) (fact_i 𝓤 _ (emp 𝓤) p.1) $ done !))
+        -- [the length; the others; the way back]
+        move ! (1 ∷ []) $ fsplit ! $ fpick ! (λ ws. fsplit ! $ move ! (1 ∷ []) $
+        facts ! At _ (shows 𝓛 At) ((d.spot.address.at, tt), (d.spot.count, tt)) ws (λ s. let told = spot_told B d.spot ws s in rewrite ! 0 (λ (us : List Val). ‵ (cell_at full_share At.mir us b (o + eS))) told.0 refl $
+        use1 𝓛 (‵ (Place d.spot.address.at d.spot.count)) (𝓛.laws.raw_at full_share (lone At.mir) b (o + eS) (words d.spot.address.at d.spot.count)) $
+        -- [the spot; what is behind; the length; the way back]
+        move ! (1 ∷ []) $ fsplit ! $ move ! (1 ∷ []) $ fsplit ! $ fpick ! (λ cs. fsplit ! $ move ! (1 ∷ []) $
+        peeks ! Right _ (shows 𝓛 Right) d.block cs (λ z. move ! (1 ∷ 0 ∷ []) $ fjoin ! $ fpack ! (List Val) (λ us. fsep (cell_at full_share Right.mir us b (o + eC)) (Right.own_val d.block us)) cs $ fjoin ! $ move ! (1 ∷ 0 ∷ []) $ fjoin ! $
+        use0 𝓛 (raw (fact 𝓤 (Told d))) (fact_i 𝓤 _ (emp 𝓤) (p.1, told.1, z.1.0)) $ move ! (0 ∷ 3 ∷ 2 ∷ 1 ∷ []) $ done !))))))
 
-    pub len_in : (d : D) → d.len < 2 ^ 64 → ent 𝓤 (sep 𝓤 (sem 𝓛 (Len d.len)) (Less d)) (Rest d)
+    pub fields_in : (d : D) → Told d → ent 𝓤 (sep 𝓤 (sem 𝓛 (Len d.len)) (sep 𝓤 (sem 𝓛 (Place d.spot.address.at d.spot.count)) (Less d))) (Rest d)
     unfolding part_of
-    len_in d fits =
-        qed 𝓛 (‵ (Len d.len) ∷ ‵ (parts_at full_share behind (eL + size (lone usize-field.row.mir)) (to d).1.1.1 b o) ∷ raw (PartsBack 𝓛 full_share (I.the_type A B).name ms b o) ∷ []) ∵
-        owned ! usize-field.row _ (uint_Makes 𝓛 w64) d.len (vint w64 d.len ∷ []) (refl, fits) $ move ! (1 ∷ 0 ∷ []) $ fjoin ! $
+    fields_in d told =
+        qed 𝓛 (‵ (Len d.len) ∷ ‵ (Place d.spot.address.at d.spot.count) ∷ ‵ (parts_at full_share last (eS + size (lone At.mir)) (to d).1.1.1.1 b o) ∷ raw (PartsBack 𝓛 full_share (I.the_type A B).name ms b o) ∷ []) ∵
+        move ! (1 ∷ []) $ use1 𝓛 (‵ (cell_at full_share At.mir (words d.spot.address.at d.spot.count ∷ []) b (o + eS))) (𝓛.laws.at_raw full_share (lone At.mir) b (o + eS) (words d.spot.address.at d.spot.count)) $ use0 𝓛 (‵ (At.own_val ((d.spot.address.at, tt), (d.spot.count, tt)) (words d.spot.address.at d.spot.count ∷ []))) (spot_made B 𝓛 d.spot told.1) $ move ! (1 ∷ 0 ∷ []) $ fjoin ! $
+        fpack ! (List Val) (λ us. fsep (cell_at full_share At.mir us b (o + eS)) (At.own_val ((d.spot.address.at, tt), (d.spot.count, tt)) us)) (words d.spot.address.at d.spot.count ∷ []) $ move ! (0 ∷ 2 ∷ []) $ fjoin ! $ move ! (1 ∷ []) $
+        owned ! usize-field.row _ (uint_Makes 𝓛 w64) d.len (vint w64 d.len ∷ []) (refl, told.0) $ move ! (1 ∷ 0 ∷ []) $ fjoin ! $
         fpack ! (List Val) (λ us. fsep (cell_at full_share usize-field.row.mir us b (o + eL)) (usize-field.row.own_val d.len us)) (vint w64 d.len ∷ []) $ fjoin ! $ done !
 
     abbrev pub Cut : D → SProp 𝓤

@@ -1,12 +1,15 @@
 //! The right to write the values of pairs that lie side by side, while their keys are frozen.
-ghost use Rattle.std.specs.Prelude.{◌≡◌, ℕ, List};
+ghost use Rattle.std.specs.Prelude.{◌≡◌, ℕ, List, [], ◌∷◌};
+ghost use denote.Struct.Tuple.{Tuple};
+ghost use Rattle.starlark_columns.specs.Block.{IsBehind};
 ghost use Rattle.std.specs.Borrow.{GName, sem};
 ghost use Rattle.std.specs.Map.Iter.{deref_pair_mut};
 ghost use Rattle.starlark_columns.specs.Front.{IsFront};
 ghost use Rattle.starlark_columns.specs.Places.{items_of};
 ghost use Rattle.starlark_vec2.specs.Frozen.{pairs_follow, lends_run, frozen, IsEnd, TakesEnd};
 
-use starlark_columns::Row;
+use starlark_columns::pair::second_at;
+use starlark_columns::{Address, Row, Spot};
 use std::marker::{Model, PhantomData};
 
 // The right to the pairs at `start` that are still to be taken: those from the `from`-th on, `rest`. Their keys are
@@ -27,27 +30,44 @@ impl<'a, K, V> Model for Loan<'a, K, V> {
 
 // The pairs of a column, `len` of them.
 #[inline]
-fn run_mut<K, V>(pairs: &mut Row<(K, V)>, len: usize) -> &mut [(K, V)]
-    requires { IsFront pairs.old.places len }
+fn run_mut<K, V>(pairs: &mut Row<(K, V)>, address: Address<(K, V)>, len: usize) -> &mut [(K, V)]
+    requires at { address.at ≡ pairs.old.at }
+    requires front { IsFront pairs.old.places len }
     ensures* writes_back { sem 𝓛 (lends_run K.row V.row pairs.entry result) }
     ensures value { result.now ≡ items_of pairs.old.places }
 {
-    pairs.items_mut(len)
+    pairs.items_mut(address, len)
 }
 
 impl<'a, K, V> Loan<'a, K, V> {
     // All pairs of a column, `len` of them.
     #[inline]
-    pub(crate) fn new(pairs: &'a mut Row<(K, V)>, len: usize) -> Loan<'a, K, V>
-        requires { IsFront pairs.old.places len }
+    pub(crate) fn new(
+        pairs: &'a mut Row<(K, V)>,
+        address: Address<(K, V)>,
+        len: usize,
+    ) -> Loan<'a, K, V>
+        requires at { address.at ≡ pairs.old.at }
+        requires front { IsFront pairs.old.places len }
         ensures* writes_back { sem 𝓛 (pairs_follow K.row V.row pairs.entry result.tie) }
         ensures rest { (result.from ≡ 0) × (result.rest ≡ items_of pairs.old.places) }
     {
-        let run = run_mut(pairs, len);
+        let run = run_mut(pairs, address, len);
         Loan {
             start: run.as_mut_ptr(),
             mark: PhantomData,
         }
+    }
+
+    // The same of the column behind another, by the spot of their block.
+    #[inline]
+    pub(crate) fn behind<B>(pairs: &'a mut Row<(K, V)>, spot: Spot<B>, len: usize) -> Loan<'a, K, V>
+        requires at { IsBehind B.row (Tuple (K.row ∷ V.row ∷ [])) spot pairs.old.at }
+        requires front { IsFront pairs.old.places len }
+        ensures* writes_back { sem 𝓛 (pairs_follow K.row V.row pairs.entry result.tie) }
+        ensures rest { (result.from ≡ 0) × (result.rest ≡ items_of pairs.old.places) }
+    {
+        Loan::new(pairs, second_at(spot), len)
     }
 
     // Takes the pair at either end of those that are left; it is the `index`-th of all.

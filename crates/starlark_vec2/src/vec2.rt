@@ -19,8 +19,8 @@ mod traits;
 use growth::grown;
 pub use into_iter::IntoIter;
 pub use iter::Iter;
-use starlark_columns::Row;
 use starlark_columns::pair::{Block, give_back, no_rows, with_rows};
+use starlark_columns::{Row, Spot};
 use starlark_hash::NoRoom;
 use std::alloc::{AllocError, Global};
 use std::marker::Model;
@@ -29,20 +29,21 @@ use std::mem;
 /// A list of pairs. The first parts are stored side by side, and so are the second parts. It is seen as its pairs and
 /// its capacity: no clause names a column or a block, so another body may keep the clauses.
 pub struct Vec2<A, B> {
+    // Both columns lie in one block, the second in front: whoever looks for a second part needs no more than the spot.
     firsts: Row<A>,
     seconds: Row<B>,
     // How many of the places at the front of either column are filled.
     len: usize,
-    // How many places either column has.
-    count: usize,
+    // Where the block begins, and how many places either column has.
+    spot: Spot<B>,
     alloc: Global,
-    // The right to give back the one block that holds both columns.
-    block: Block<A, B>,
+    // The right to give the block back.
+    block: Block<B, A>,
 }
 
 impl<A, B> Model for Vec2<A, B> {
-    ghost use Rattle.std.specs.Prelude.{◌≡◌, length, zip};
-    ghost use Rattle.starlark_columns.specs.Block.{IsBlockOf};
+    ghost use Rattle.std.specs.Prelude.{length, zip};
+    ghost use Rattle.starlark_columns.specs.Block.{IsBlockOf, IsSpotOf};
     ghost use Rattle.starlark_columns.specs.Places.{items_of};
     ghost use Rattle.starlark_vec2.specs.PairList.{PairList, pair_list};
     ghost use Rattle.starlark_vec2.specs.Columns.{AreColumns};
@@ -51,7 +52,7 @@ impl<A, B> Model for Vec2<A, B> {
 
     ghost view = { λ v. pair_list (zip (items_of v.firsts.places) (items_of v.seconds.places)) (length v.firsts.places) };
 
-    ghost invariant = { λ v. AreColumns v.firsts.places v.seconds.places v.len × IsBlockOf v.block v.firsts v.seconds × (v.count ≡ v.block.count) };
+    ghost invariant = { λ v. AreColumns v.firsts.places v.seconds.places v.len × IsBlockOf v.block v.seconds v.firsts × IsSpotOf v.spot v.block };
 }
 
 // Making
@@ -63,12 +64,12 @@ impl<A, B> Vec2<A, B> {
     pub fn new(alloc: Global) -> Vec2<A, B>
         ensures { result ≡ pair_list [] 0 }
     {
-        let (firsts, seconds, block) = no_rows(alloc);
+        let (spot, seconds, firsts, block) = no_rows(alloc);
         Vec2 {
             firsts,
             seconds,
             len: 0,
-            count: 0,
+            spot,
             alloc,
             block,
         }
@@ -82,12 +83,12 @@ impl<A, B> Vec2<A, B> {
         ensures made { IfOk result (λ v. v ≡ pair_list [] capacity) }
         ensures succeeds { capacity ≡ 0 → IsOk result }
     {
-        let (firsts, seconds, block) = with_rows(alloc, capacity)?;
+        let (spot, seconds, firsts, block) = with_rows(alloc, capacity)?;
         Ok(Vec2 {
             firsts,
             seconds,
             len: 0,
-            count: capacity,
+            spot,
             alloc,
             block,
         })
@@ -114,7 +115,7 @@ impl<A, B> Vec2<A, B> {
         ensures capacity { result ≡ self.now.capacity }
         ensures within { length self.now.pairs ≤ self.now.capacity }
     {
-        self.count
+        self.spot.count
     }
 
     /// Whether there are no pairs.
@@ -132,7 +133,7 @@ impl<A, B> Vec2<A, B> {
     pub fn firsts(&self) -> &[A]
         ensures { result.now ≡ firsts_of self.now.pairs }
     {
-        self.firsts.items(self.len)
+        self.firsts.items(self.block.second(self.spot), self.len)
     }
 
     /// The second parts of the pairs, in their order.
@@ -141,7 +142,7 @@ impl<A, B> Vec2<A, B> {
     pub fn seconds(&self) -> &[B]
         ensures { result.now ≡ seconds_of self.now.pairs }
     {
-        self.seconds.items(self.len)
+        self.seconds.items(self.spot.address, self.len)
     }
 
     /// The pair at this index, where there is one.
@@ -164,8 +165,11 @@ impl<A, B> Vec2<A, B> {
         requires { index < length self.now.pairs }
         ensures { slice_get self.now.pairs index ≡ Some (deref_pair result) }
     {
-        let len = self.len;
-        (self.firsts.item(len, index), self.seconds.item(len, index))
+        let (spot, len) = (self.spot, self.len);
+        (
+            self.firsts.item(self.block.second(spot), len, index),
+            self.seconds.item(spot.address, len, index),
+        )
     }
 
     /// The first pair, where there is one.
@@ -239,16 +243,29 @@ impl<A, B> Vec2<A, B> {
         ensures list { self.new ≡ (if is_ok result then pair_list self.old.pairs capacity else self.old) }
         ensures succeeds { capacity ≡ 0 → IsOk result }
     {
-        let (mut firsts, mut seconds, mut block) = with_rows(self.alloc, capacity)?;
-        let count = self.count;
-        self.firsts.move_all(count, self.len, &mut firsts, capacity);
-        self.seconds
-            .move_all(count, self.len, &mut seconds, capacity);
+        let (spot, mut seconds, mut firsts, mut block) = with_rows(self.alloc, capacity)?;
+        let old = self.spot;
+        self.firsts.move_all(
+            self.block.second(old),
+            old.count,
+            self.len,
+            &mut firsts,
+            block.second(spot),
+            capacity,
+        );
+        self.seconds.move_all(
+            old.address,
+            old.count,
+            self.len,
+            &mut seconds,
+            spot.address,
+            capacity,
+        );
         mem::swap(&mut self.firsts, &mut firsts);
         mem::swap(&mut self.seconds, &mut seconds);
         mem::swap(&mut self.block, &mut block);
-        self.count = capacity;
-        give_back(self.alloc, count, firsts, seconds, block);
+        self.spot = spot;
+        give_back(self.alloc, old, seconds, firsts, block);
         Ok(())
     }
 
@@ -275,10 +292,12 @@ impl<A, B> Vec2<A, B> {
         requires { length self.old.pairs < self.old.capacity }
         ensures { self.new ≡ with_pairs self.old (self.old.pairs ++ (a, b) ∷ []) }
     {
-        let count = self.count;
-        prove!(self.len < count);
-        self.firsts.push_last(count, self.len, a);
-        self.seconds.push_last(count, self.len, b);
+        let spot = self.spot;
+        prove!(self.len < spot.count);
+        self.firsts
+            .push_last(self.block.second(spot), spot.count, self.len, a);
+        self.seconds
+            .push_last(spot.address, spot.count, self.len, b);
         self.len += 1;
     }
 }
@@ -294,11 +313,12 @@ impl<A, B> Vec2<A, B> {
         ensures taken { slice_get self.old.pairs index ≡ Some result }
         ensures list { self.new ≡ with_pairs self.old (remove self.old.pairs index) }
     {
-        let (count, len) = (self.count, self.len);
+        let (spot, len) = (self.spot, self.len);
         self.len = len - 1;
         (
-            self.firsts.remove_at(count, len, index),
-            self.seconds.remove_at(count, len, index),
+            self.firsts
+                .remove_at(self.block.second(spot), spot.count, len, index),
+            self.seconds.remove_at(spot.address, spot.count, len, index),
         )
     }
 
@@ -312,10 +332,12 @@ impl<A, B> Vec2<A, B> {
         if self.len == 0 {
             return None;
         }
+        let spot = self.spot;
         self.len -= 1;
         Some((
-            self.firsts.take_last(self.count, self.len),
-            self.seconds.take_last(self.count, self.len),
+            self.firsts
+                .take_last(self.block.second(spot), spot.count, self.len),
+            self.seconds.take_last(spot.address, spot.count, self.len),
         ))
     }
 
@@ -339,8 +361,9 @@ impl<A, B> Vec2<A, B> {
     pub fn reverse(&mut self)
         ensures { self.new ≡ with_pairs self.old (reverse self.old.pairs) }
     {
-        self.firsts.turn_round(self.len);
-        self.seconds.turn_round(self.len);
+        self.firsts
+            .turn_round(self.block.second(self.spot), self.len);
+        self.seconds.turn_round(self.spot.address, self.len);
     }
 }
 
@@ -361,8 +384,11 @@ impl<A: Drop, B: Drop> Vec2<A, B> {
         ensures { self.new ≡ with_pairs self.old (take len self.old.pairs) }
     {
         if len < self.len() {
-            self.firsts.truncate(self.count, self.len, len);
-            self.seconds.truncate(self.count, self.len, len);
+            let spot = self.spot;
+            self.firsts
+                .truncate(self.block.second(spot), spot.count, self.len, len);
+            self.seconds
+                .truncate(spot.address, spot.count, self.len, len);
             self.len = len;
         }
     }
@@ -374,12 +400,12 @@ impl<A: Drop, B: Drop> Drop for Vec2<A, B> {
             mut firsts,
             mut seconds,
             len,
-            count,
+            spot,
             alloc,
             block,
         } = self;
-        firsts.truncate(count, len, 0);
-        seconds.truncate(count, len, 0);
-        give_back(alloc, count, firsts, seconds, block);
+        firsts.truncate(block.second(spot), spot.count, len, 0);
+        seconds.truncate(spot.address, spot.count, len, 0);
+        give_back(alloc, spot, seconds, firsts, block);
     }
 }

@@ -72,25 +72,33 @@ impl<A: Clone, B: Clone> Vec2<A, B> {
         ensures succeeds { length self.now.pairs ≡ 0 → IsOk result }
     {
         let len = self.len;
-        let (mut firsts, mut seconds, block) = with_rows(self.alloc, len)?;
-        match self.firsts.clone_items(len, &mut firsts, len) {
-            Ok(()) => match self.seconds.clone_items(len, &mut seconds, len) {
+        let old = self.spot;
+        let (spot, mut seconds, mut firsts, block) = with_rows(self.alloc, len)?;
+        let (front, behind) = (spot.address, block.second(spot));
+        match self
+            .firsts
+            .clone_items(self.block.second(old), len, &mut firsts, behind, len)
+        {
+            Ok(()) => match self
+                .seconds
+                .clone_items(old.address, len, &mut seconds, front, len)
+            {
                 Ok(()) => Ok(Vec2 {
                     firsts,
                     seconds,
                     len,
-                    count: len,
+                    spot,
                     alloc: self.alloc,
                     block,
                 }),
                 Err(refused) => {
-                    firsts.truncate(len, len, 0);
-                    give_back(self.alloc, len, firsts, seconds, block);
+                    firsts.truncate(behind, len, len, 0);
+                    give_back(self.alloc, spot, seconds, firsts, block);
                     Err(refused)
                 }
             },
             Err(refused) => {
-                give_back(self.alloc, len, firsts, seconds, block);
+                give_back(self.alloc, spot, seconds, firsts, block);
                 Err(refused)
             }
         }

@@ -5,8 +5,8 @@ ghost use Rattle.std.specs.Iterator.SizeHint.{IsWithinCount};
 ghost use Rattle.std.specs.Map.Iter.{TakesFirst, TakesLast, GivesInOrder, GivesInReverse};
 
 use super::Vec2;
-use starlark_columns::Row;
 use starlark_columns::pair::{Block, give_back};
+use starlark_columns::{Row, Spot};
 use std::alloc::Global;
 use std::iter::FusedIterator;
 use std::marker::Model;
@@ -18,15 +18,15 @@ pub struct IntoIter<A, B> {
     // Where the pairs that are left begin and end.
     from: usize,
     to: usize,
-    // How many places either column has.
-    count: usize,
+    // Where the block begins, and how many places either column has.
+    spot: Spot<B>,
     alloc: Global,
-    block: Block<A, B>,
+    block: Block<B, A>,
 }
 
 impl<A, B> Model for IntoIter<A, B> {
-    ghost use Rattle.std.specs.Prelude.{◌≡◌, List, length, zip};
-    ghost use Rattle.starlark_columns.specs.Block.{IsBlockOf};
+    ghost use Rattle.std.specs.Prelude.{List, zip};
+    ghost use Rattle.starlark_columns.specs.Block.{IsBlockOf, IsSpotOf};
     ghost use Rattle.starlark_columns.specs.Places.{items_of};
     ghost use Rattle.starlark_columns.specs.Between.{IsBetween};
 
@@ -34,7 +34,7 @@ impl<A, B> Model for IntoIter<A, B> {
 
     ghost view = { λ it. zip (items_of it.firsts.places) (items_of it.seconds.places) };
 
-    ghost invariant = { λ it. IsBetween it.firsts.places it.from it.to × IsBetween it.seconds.places it.from it.to × IsBlockOf it.block it.firsts it.seconds × (it.count ≡ it.block.count) };
+    ghost invariant = { λ it. IsBetween it.firsts.places it.from it.to × IsBetween it.seconds.places it.from it.to × IsBlockOf it.block it.seconds it.firsts × IsSpotOf it.spot it.block };
 }
 
 impl<A: Drop, B: Drop> Iterator for IntoIter<A, B> {
@@ -50,10 +50,13 @@ impl<A: Drop, B: Drop> Iterator for IntoIter<A, B> {
         if from == to {
             return None;
         }
+        let spot = self.spot;
         self.from = from + 1;
         Some((
-            self.firsts.take_first_between(self.count, from, to),
-            self.seconds.take_first_between(self.count, from, to),
+            self.firsts
+                .take_first_between(self.block.second(spot), spot.count, from, to),
+            self.seconds
+                .take_first_between(spot.address, spot.count, from, to),
         ))
     }
 
@@ -78,10 +81,13 @@ impl<A: Drop, B: Drop> DoubleEndedIterator for IntoIter<A, B> {
             return None;
         }
         let last = self.to - 1;
+        let spot = self.spot;
         self.to = last;
         Some((
-            self.firsts.take_last_between(self.count, from, last),
-            self.seconds.take_last_between(self.count, from, last),
+            self.firsts
+                .take_last_between(self.block.second(spot), spot.count, from, last),
+            self.seconds
+                .take_last_between(spot.address, spot.count, from, last),
         ))
     }
 }
@@ -109,7 +115,7 @@ impl<A: Drop, B: Drop> IntoIterator for Vec2<A, B> {
             firsts,
             seconds,
             len: _,
-            count,
+            spot,
             alloc,
             block,
         } = self;
@@ -118,7 +124,7 @@ impl<A: Drop, B: Drop> IntoIterator for Vec2<A, B> {
             seconds,
             from: 0,
             to,
-            count,
+            spot,
             alloc,
             block,
         }
@@ -132,12 +138,12 @@ impl<A: Drop, B: Drop> Drop for IntoIter<A, B> {
             mut seconds,
             from,
             to,
-            count,
+            spot,
             alloc,
             block,
         } = self;
-        firsts.drop_between(count, from, to);
-        seconds.drop_between(count, from, to);
-        give_back(alloc, count, firsts, seconds, block);
+        firsts.drop_between(block.second(spot), spot.count, from, to);
+        seconds.drop_between(spot.address, spot.count, from, to);
+        give_back(alloc, spot, seconds, firsts, block);
     }
 }

@@ -3,6 +3,7 @@ ghost use Rattle.std.specs.Prelude.{◌≡◌, ◌<◌, ◌^◌, length, slice_g
 ghost use Rattle.std.specs.Option.{option_map, option_copied_mut};
 ghost use Rattle.std.specs.Borrow.{sem};
 ghost use Rattle.starlark_columns.specs.Places.{items_of, IsFilled};
+ghost use Rattle.starlark_columns.specs.Block.{IsBehind};
 ghost use Rattle.starlark_columns.specs.Front.{IsFront};
 ghost use Rattle.starlark_vec2.specs.PairList.{firsts_of};
 ghost use Rattle.starlark_vec2.specs.Lending.{deref_both_mut, lends_first, lends_firsts, lends_both, lends_both_if, firsts_follow};
@@ -11,7 +12,8 @@ ghost use Rattle.starlark_vec2.specs.ColumnLending.{lends_place, lends_place_if,
 use super::Vec2;
 use crate::loan::Loan;
 use crate::pairs_mut::PairsMut;
-use starlark_columns::Row;
+use starlark_columns::pair::second_at;
+use starlark_columns::{Row, Spot};
 
 impl<A, B> Vec2<A, B> {
     /// The first parts of the pairs, in their order. The list ends with what is left in them.
@@ -21,7 +23,8 @@ impl<A, B> Vec2<A, B> {
         ensures* writes_back { sem 𝓛 (lends_firsts A.row B.row self.entry result) }
         ensures value { result.now ≡ firsts_of self.old.pairs }
     {
-        self.firsts.items_mut(self.len)
+        let address = self.block.second(self.spot);
+        self.firsts.items_mut(address, self.len)
     }
 
     /// The first part of the pair at this index. The list ends with what is left in it.
@@ -32,7 +35,8 @@ impl<A, B> Vec2<A, B> {
         ensures* writes_back { sem 𝓛 (lends_first A.row B.row self.entry index result) }
         ensures value { slice_get (firsts_of self.old.pairs) index ≡ Some result.now }
     {
-        self.firsts.item_mut(self.len, index)
+        let address = self.block.second(self.spot);
+        self.firsts.item_mut(address, self.len, index)
     }
 
     /// The pair at this index, to write both parts. The list ends with what is left in them. Rust's is unsafe; here the
@@ -43,7 +47,8 @@ impl<A, B> Vec2<A, B> {
         ensures* writes_back { sem 𝓛 (lends_both A.row B.row self.entry index result) }
         ensures value { slice_get self.old.pairs index ≡ Some (deref_both_mut result) }
     {
-        lend_columns(&mut self.firsts, &mut self.seconds, index)
+        let spot = self.spot;
+        lend_columns(&mut self.firsts, &mut self.seconds, spot, index)
     }
 
     /// The pair at this index, where there is one, to write both parts. The list ends with what is left in them, and
@@ -53,9 +58,10 @@ impl<A, B> Vec2<A, B> {
         ensures* writes_back { sem 𝓛 (lends_both_if A.row B.row self.entry index result) }
         ensures value { option_map deref_both_mut result ≡ slice_get self.old.pairs index }
     {
+        let spot = self.spot;
         let len = self.len;
-        match lend_place_if(&mut self.firsts, len, index) {
-            Some(first) => Some((first, lend_place(&mut self.seconds, index))),
+        match lend_behind_if(&mut self.firsts, spot, len, index) {
+            Some(first) => Some((first, lend_front(&mut self.seconds, spot, index))),
             None => None,
         }
     }
@@ -69,8 +75,9 @@ impl<K, V, B> Vec2<(K, V), B> {
         ensures untouched { result.from ≡ 0 }
         ensures rest { result.rest ≡ firsts_of self.old.pairs }
     {
+        let spot = self.spot;
         let len = self.len;
-        Loan::new(&mut self.firsts, len)
+        Loan::behind(&mut self.firsts, spot, len)
     }
 
     /// The first parts of the pairs, each a key and a value, as `(&K, &mut V)`. The list ends with the values that are
@@ -87,43 +94,64 @@ impl<K, V, B> Vec2<(K, V), B> {
     }
 }
 
-// The item at this place of a column.
+// The item at this place of the column in front.
 #[inline]
-fn lend_place<T>(column: &mut Row<T>, index: usize) -> &mut T
-    requires { IsFilled column.old.places index }
+fn lend_front<T>(column: &mut Row<T>, spot: Spot<T>, index: usize) -> &mut T
+    requires at { spot.address.at ≡ column.old.at }
+    requires filled { IsFilled column.old.places index }
     ensures* writes_back { sem 𝓛 (lends_place T.row column.entry index result) }
     ensures value { get_or column.old.places index None ≡ Some result.now }
 {
-    column.get_mut(index)
+    column.get_mut(spot.address, index)
 }
 
-// The item at this place of a column, where it is one of the first `len`.
+// The item at this place of the column behind, by the spot of the block.
 #[inline]
-fn lend_place_if<T>(column: &mut Row<T>, len: usize, index: usize) -> Option<&mut T>
-    requires { IsFront column.old.places len }
+fn lend_behind<T, B>(column: &mut Row<T>, spot: Spot<B>, index: usize) -> &mut T
+    requires at { IsBehind B.row T.row spot column.old.at }
+    requires filled { IsFilled column.old.places index }
+    ensures* writes_back { sem 𝓛 (lends_place T.row column.entry index result) }
+    ensures value { get_or column.old.places index None ≡ Some result.now }
+{
+    column.get_mut(second_at(spot), index)
+}
+
+// The same, where it is one of the first `len`.
+#[inline]
+fn lend_behind_if<T, B>(
+    column: &mut Row<T>,
+    spot: Spot<B>,
+    len: usize,
+    index: usize,
+) -> Option<&mut T>
+    requires at { IsBehind B.row T.row spot column.old.at }
+    requires front { IsFront column.old.places len }
     ensures* writes_back { sem 𝓛 (lends_place_if T.row column.entry index result) }
     ensures value { slice_get (items_of column.old.places) index ≡ option_copied_mut result }
 {
     if index < len {
-        Some(column.get_mut(index))
+        Some(column.get_mut(second_at(spot), index))
     } else {
         None
     }
 }
 
-// The items at this place of two columns.
+// The items at this place of two columns of a block, the second in front.
 #[inline]
 fn lend_columns<'a, A, B>(
     firsts: &'a mut Row<A>,
     seconds: &'a mut Row<B>,
+    spot: Spot<B>,
     index: usize,
 ) -> (&'a mut A, &'a mut B)
+    requires behind { IsBehind B.row A.row spot firsts.old.at }
+    requires front { spot.address.at ≡ seconds.old.at }
     requires in_firsts { IsFilled firsts.old.places index }
     requires in_seconds { IsFilled seconds.old.places index }
     ensures* writes_back { sem 𝓛 (lends_places A.row B.row firsts.entry seconds.entry index result) }
     ensures values { (get_or firsts.old.places index None ≡ Some result.0.now) × (get_or seconds.old.places index None ≡ Some result.1.now) }
 {
-    let first = lend_place(firsts, index);
-    let second = lend_place(seconds, index);
+    let first = lend_behind(firsts, spot, index);
+    let second = lend_front(seconds, spot, index);
     (first, second)
 }

@@ -14,10 +14,10 @@ impl<A: Drop, B: Drop> Vec2<A, B> {
         ensures pairs { Retains (CalledAtBoth F.FnMut) keep self.old.pairs self.new.pairs }
         ensures capacity { self.new.capacity ≡ self.old.capacity }
     {
-        let len = self.len;
+        let (spot, len) = (self.spot, self.len);
         let kept = sieve(
-            self.firsts.items_mut(len),
-            self.seconds.items_mut(len),
+            self.firsts.items_mut(self.block.second(spot), len),
+            self.seconds.items_mut(spot.address, len),
             keep,
         );
         self.truncate(kept);

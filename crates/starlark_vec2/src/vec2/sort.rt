@@ -28,10 +28,10 @@ impl<A, B> Vec2<A, B> {
             return Ok(());
         }
         let order = self.sorted_positions(compare)?;
-        let len = self.len;
+        let (spot, len) = (self.spot, self.len);
         put_in_order(
-            self.firsts.items_mut(len),
-            self.seconds.items_mut(len),
+            self.firsts.items_mut(self.block.second(spot), len),
+            self.seconds.items_mut(spot.address, len),
             order,
         );
         Ok(())

@@ -49,7 +49,7 @@ deallocate_pair_spec 𝓤 𝓛 𝓜 𝓡 wired X Y U L LY LU g d dd met _ =
     ∷ raw (fact 𝓤 (HasLayout (pair_ty (R E) S n) z al)) ∷ raw (fact 𝓤 (0 < n * (s + t))) ∷ raw (fact 𝓤 Bare) ∷ raw (fact 𝓤 Its) ∷ []) ∵
     keep ! (3 ∷ 4 ∷ 5 ∷ 6 ∷ 7 ∷ 0 ∷ []) $ heard ! (κs.1.1.1.0 ⊑ U.lives) (λ within. heard ! (HasLayout (pair_ty (R E) S n) z al) (λ laid. heard ! (0 < n * (s + t)) (λ some. heard ! Bare (λ empty. heard ! Its (λ its. split ! $ split ! $ move ! (2 ∷ []) $
     fsplit ! $ move ! (1 ∷ []) $ fsplit ! $ move ! (1 ∷ []) $ fsplit ! $ move ! (1 ∷ []) $ fsplit ! $ move ! (1 ∷ []) $ fsplit ! $ fsplit ! $ move ! (2 ∷ []) $ fsplit ! $ fsplit ! $ move ! (2 ∷ []) $ fsplit ! $ fsplit ! $
-    keep ! (6 ∷ 4 ∷ 1 ∷ 10 ∷ 11 ∷ 12 ∷ []) $ move ! (3 ∷ []) $ fsplit ! $ keep ! (2 ∷ 3 ∷ 4 ∷ 1 ∷ 5 ∷ 6 ∷ []) $
+    keep ! (6 ∷ 4 ∷ 1 ∷ 10 ∷ 11 ∷ 12 ∷ []) $ move ! (3 ∷ []) $ fsplit ! $ keep ! (2 ∷ 3 ∷ 4 ∷ 1 ∷ 5 ∷ 6 ∷ []) $ move ! (2 ∷ []) $ fsplit ! $ keep ! (2 ∷ 3 ∷ 1 ∷ 4 ∷ 5 ∷ 6 ∷ []) $
     -- [the first places; the second; the right; the handle; its token; the other tokens]
     rewrite ! 0 (λ (z : Ptr × List (Option X.Denot)). ‵ (row_owned (R E) z.0 z.1)) {x = (right.firsts, cs)} {y = (own.at, own.places)} (λ i. (empty.0 i, empty.1 i)) refl $
     rewrite ! 1 (λ (z : Ptr × List (Option Y.Denot)). ‵ (row_owned S z.0 z.1)) {x = (right.seconds, es)} {y = (bwn.at, bwn.places)} (λ i. (empty.2 i, empty.3 i)) refl $ fsplit ! $ flt_l ! (λ _.

@@ -1,17 +1,17 @@
 use Rattle.std.proofs.Common.{ap, ◌∙◌}
 use denote.Memory.{lone}
-use Rattle.starlark_columns.proofs.Layouts.{offset_exact}
+use Rattle.starlark_columns.proofs.Layouts.{skipped_exact}
 use Rattle.starlark_columns.proofs.Fronts.{front_empties}
 use Rattle.starlark_columns.proofs.pair.with_rows.Goals as goal
 
 pub returns-clause-fronts : goal.returns-clause-fronts
 returns-clause-fronts g c = let n = c.args.count in
-    ((front_empties c.row_of.result.places n (ap (λ r. r.places) c.row_of.ensures.places ∙ c.in_ok-first.ensures.1)).0, (front_empties c.row_of-2.result.places n (ap (λ r. r.places) c.row_of-2.ensures.places ∙ c.in_ok-first.ensures.3)).0)
+    ((front_empties c.row_of.result.places n (ap (λ r. r.places) c.row_of.ensures.places ∙ c.in_ok-address.ensures.1)).0, (front_empties c.row_of-2.result.places n (ap (λ r. r.places) c.row_of-2.ensures.places ∙ c.in_ok-address.ensures.2)).0)
 
 pub returns-clause-items : goal.returns-clause-items
 returns-clause-items g c = let n = c.args.count in
-    ((front_empties c.row_of.result.places n (ap (λ r. r.places) c.row_of.ensures.places ∙ c.in_ok-first.ensures.1)).1, (front_empties c.row_of-2.result.places n (ap (λ r. r.places) c.row_of-2.ensures.places ∙ c.in_ok-first.ensures.3)).1)
+    ((front_empties c.row_of.result.places n (ap (λ r. r.places) c.row_of.ensures.places ∙ c.in_ok-address.ensures.1)).1, (front_empties c.row_of-2.result.places n (ap (λ r. r.places) c.row_of-2.ensures.places ∙ c.in_ok-address.ensures.2)).1)
 
 pub allocate_pair-requires-clause-offset : goal.allocate_pair-requires-clause-offset
 allocate_pair-requires-clause-offset g c = let l = c.laid_out-layout in
-    offset_exact (lone g.row.A.mir) (lone g.row.B.mir) c.args.count l.result.offset l.result.size l.result.align l.ensures.block l.ensures.offset c.if-layout.false
+    skipped_exact (lone g.row.A.mir) (lone g.row.B.mir) c.args.count l.result.size l.result.align l.ensures c.if-layout.false

@@ -23,9 +23,10 @@ use Rattle.std.specs.contracts.impls.GlobalAllocator.TheImpl.{ghosts}
 use Rattle.starlark_columns.specs.Places.{items_of}
 use Rattle.starlark_columns.specs.Front.{IsFront}
 use Rattle.starlark_columns.specs.formers.block.Held.{place, mapped_place, mapped}
-use Rattle.starlark_columns.specs.Block.{IsBlockOf}
+use Rattle.starlark_columns.specs.Block.{IsBlockOf, IsSpotOf}
 use Rattle.starlark_columns.specs.Laid.{Laid}
 use Rattle.starlark_columns.specs.declared.block.PairClaim.{PairClaim}
+use Rattle.starlark_columns.specs.declared.block.Spot.{Spot}
 use Rattle.starlark_columns.specs.formers.block.PairClaim as claim_is
 use Rattle.starlark_columns.specs.formers.row.Row as row_is
 use Rattle.starlark_vec2.specs.declared.vec2.Vec2.TheInside.{Inside}
@@ -71,8 +72,8 @@ pub the_items_listed : (B X : Type 0) (v : PairList X B) → listed _ (children 
 the_items_listed B X v = firsts_listed B X v.pairs
 
 abbrev pub fields : Type 0 → Former {0}
-fields B = via (pair (row_is.the_former this) (const (Laid B × ℕ × ℕ × Global × claim_is.Parts Global))) (λ X. Inside X B) (λ X a. (a.firsts, (a.seconds, a.len, a.count, a.alloc, claim_is.parts_of X B Global a.block)))
-    (λ X v. record { firsts = v.0; seconds = v.1.0; len = v.1.1; count = v.1.2; alloc = v.1.3; block = claim_is.of_parts X B Global v.1.4 }) (λ X a. refl) (λ X v. refl)
+fields B = via (pair (row_is.the_former this) (const (Laid B × ℕ × Spot B × Global × claim_is.Parts Global))) (λ X. Inside X B) (λ X a. (a.firsts, (a.seconds, a.len, a.spot, a.alloc, claim_is.parts_of B X Global a.block)))
+    (λ X v. record { firsts = v.0; seconds = v.1.0; len = v.1.1; spot = v.1.2; alloc = v.1.3; block = claim_is.of_parts B X Global v.1.4 }) (λ X a. refl) (λ X v. refl)
 
 pub zip-map : {X Y B : Type 0} (h : X → Y) (xs : List X) (bs : List B) → zip (map h xs) bs ≡ map (on_first h) (zip xs bs)
 zip-map h [] bs = refl
@@ -140,8 +141,11 @@ AreColumns-prop cs bs n p q = λ i. record {
   even = ℕ_set _ _ p.even q.even i;
 }
 
-IsBlockOf-prop : {X B : Type 0} (block : PairClaim X B Global) (r : Laid X) (s : Laid B) → IsProp (IsBlockOf block r s)
+IsBlockOf-prop : {X B : Type 0} (block : PairClaim B X Global) (r : Laid X) (s : Laid B) → IsProp (IsBlockOf block s r)
 IsBlockOf-prop block r s p q = λ i. (Coded-set coded_ptr _ _ p.0 q.0 i, Coded-set coded_ptr _ _ p.1 q.1 i, ℕ_set _ _ p.2 q.2 i, ℕ_set _ _ p.3 q.3 i)
+
+IsSpotOf-prop : {X B : Type 0} (spot : Spot B) (block : PairClaim B X Global) → IsProp (IsSpotOf spot block)
+IsSpotOf-prop spot block p q = λ i. (ℕ_set _ _ p.0 q.0 i, Coded-set coded_ptr _ _ p.1 q.1 i)
 
 even_items : {X B : Type 0} (cs : List (Option X)) (bs : List (Option B)) (n : ℕ) → AreColumns cs bs n → length (items_of cs) ≡ length (items_of bs)
 even_items cs bs n s = s.firsts_front.count ∙ sym s.seconds_front.count
@@ -154,9 +158,9 @@ module _ (B : RattleType) (R R' : RattleType) (h : R.Denot → R'.Denot) where
       (λ X u. length (items_of u.firsts.places) ≡ length (items_of u.seconds.places)) (λ X Y k u e. sym (items-count k u.firsts.places) ∙ e)
       (λ X u e. zip-held B.Denot X (items_of u.firsts.places) (items_of u.seconds.places) e ∙ items_of-held X u.firsts.places)
       R.Denot R'.Denot h (vec2.the_row R B).coded (vec2.the_row R' B).coded
-      (invariant R.Denot B.Denot) (invariant R'.Denot B.Denot) (λ u. ×₃_prop (AreColumns-prop _ _ _) (IsBlockOf-prop u.block u.firsts u.seconds) (ℕ_set _ _)) (λ u. ×₃_prop (AreColumns-prop _ _ _) (IsBlockOf-prop u.block u.firsts u.seconds) (ℕ_set _ _))
-      (λ u s. (columns_to h u.firsts.places u.seconds.places u.len s.0, (s.1.0, s.1.1, s.1.2 ∙ sym (places-count h u.firsts.places), s.1.3), s.2))
-      (λ u s. (columns_from h u.firsts.places u.seconds.places u.len s.0, (s.1.0, s.1.1, s.1.2 ∙ places-count h u.firsts.places, s.1.3), s.2)) (λ u s. even_items u.firsts.places u.seconds.places u.len s.0)
+      (invariant R.Denot B.Denot) (invariant R'.Denot B.Denot) (λ u. ×₃_prop (AreColumns-prop _ _ _) (IsBlockOf-prop u.block u.firsts u.seconds) (IsSpotOf-prop u.spot u.block)) (λ u. ×₃_prop (AreColumns-prop _ _ _) (IsBlockOf-prop u.block u.firsts u.seconds) (IsSpotOf-prop u.spot u.block))
+      (λ u s. (columns_to h u.firsts.places u.seconds.places u.len s.0, (s.1.0, s.1.1, s.1.2, s.1.3 ∙ sym (places-count h u.firsts.places)), s.2))
+      (λ u s. (columns_from h u.firsts.places u.seconds.places u.len s.0, (s.1.0, s.1.1, s.1.2, s.1.3 ∙ places-count h u.firsts.places), s.2)) (λ u s. even_items u.firsts.places u.seconds.places u.len s.0)
       (over (inside.the_row R B)) (over (inside.the_row R' B))
       (struct_places (inside.the_type R B) (inside.the_type R' B) ((row_is.the_former this).map R.Denot R'.Denot h, (λ n. n, (λ n. n, (λ n. n, (λ n. n, ((claim_is.the_former this B.Denot Global).map R.Denot R'.Denot h, tt)))))) _ (λ d. refl) refl
       (laid _ _ _ (row_is.the_places R R' h a), ((refl, (λ n. refl, λ n. refl)), ((refl, (λ n. refl, λ n. refl)), ((refl, (λ n. refl, λ n. refl)), ((refl, (λ n. refl, λ n. refl)), (laid _ _ _ (claim_is.the_places B heap.the_row ghosts R R' h a), tt)))))))

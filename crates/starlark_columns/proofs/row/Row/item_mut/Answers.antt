@@ -2,8 +2,8 @@ use Rattle.std.proofs.Common.{refl}
 use Rattle.starlark_columns.proofs.Fronts.{front_filled, front_taken}
 use Rattle.starlark_columns.proofs.row.Row.item_mut.Goals as goal
 
-pub get_mut-requires : goal.get_mut-requires
-get_mut-requires g c = front_filled c.args.self.now.places c.args.len c.requires.front c.args.index c.requires.within
+pub get_mut-requires-clause-filled : goal.get_mut-requires-clause-filled
+get_mut-requires-clause-filled g c = front_filled c.args.self.now.places c.args.len c.requires.front c.args.index c.requires.within
 
 pub returns : goal.returns
 returns g c = (

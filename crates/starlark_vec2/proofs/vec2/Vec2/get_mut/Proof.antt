@@ -4,7 +4,10 @@
 use Rattle.starlark_columns.proofs.Walking.{◌≡◌, refl, sym, ap, subst, ◌∙◌, arith, ℕ, ◌+◌, ◌<◌, ◌^◌, List, [], ◌∷◌, length, Ura, full_share, Fn, Args, a_type, named, w64, inst_fn, Val, vint, vptr, vcons, vnil, of_list, SProp, ent, sep, emp, id⊢, ex_e, snd∗, Lft, Share, ftrue, fsep, flft, fauth, fres, Memory, Routine, Calls, Loops, WpFn, Tables, ages, bor_new_deep, Logic, sem, open_ref, name_new, ◌⊑◌, Fun, fact, fact_i, tables, tables_of, FmC, fm_of, WpFn-mono, whole, agg, learn, given, at_ret, rewrite, ‵, raw, ◌⊛◌, some, later, ◌$◌, ◌∵◌, !, qed, by, move, keep, use0, use1, use2, drop, split, split3, join, pick, fsplit3, fjoin, fjoin3, fpack, feq_i, feq_l, suffices, frame, await, group, done, stop, fld, look, load, addr, lit, of_opd, and_then, no_more, first, exec, returns, enter, alloc_all, pass_all, free_all, look_at, get, get_in, get_tag, through, sets, sets_last, lands_as, env, yes, no, RattleType, owns, usize, follows, follows_if, follows_both, both_by, mem, part_at, param, layout, layouts, Laws, param_laws, uint_vals, uint_Tells, uint_Makes, MutBor, MutRef, mut_vals, mut_Tells, plain, types_at, mut_ref_to, nothing, owned, heard, only, calls_at, Clauses, Ended, closing, ensured, lasts, Meets, triple_of, Contract, Triple, entered, says, Stays, stay_dropped, walk_of, ends_at, walked, walk_Meets, Goes-dropped, Goes-spent_ref, get_or, slice_get, slice_set, slice_get_within, length-set, Good, Some-of, none_of, ghost_name_of, option_copied_mut, inl, inr, suc-ne-zero, lit<, Env, live, vrt, in_variant, by_variants}
 use base.Share
 use Rattle.std.specs.declared.option.Option.TheVariants.{Some, None}
+use Rattle.starlark_columns.specs.Block.{IsBehind}
 use Rattle.starlark_columns.specs.Laid.{relaid}
+use Rattle.starlark_columns.specs.contracts.block.Spot as spot
+use Rattle.starlark_columns.proofs.Addresses.{words, words_good, spot_made}
 use Rattle.starlark_columns.specs.Places.{items_of, IsFilled}
 use Rattle.starlark_columns.specs.Front.{IsFront}
 use Rattle.starlark_columns.proofs.Fronts.{front_filled, front_taken}
@@ -14,15 +17,15 @@ use Rattle.starlark_vec2.specs.PairList.{PairList}
 use Rattle.starlark_vec2.proofs.BothClose.{closes_both, closes_unchanged}
 use Rattle.starlark_vec2.proofs.Pairs.{slice_get-zip_none}
 use Rattle.starlark_vec2.proofs.TwoColumns.{same_block, len_is, both_set, both_end, pair_is}
-use Rattle.starlark_vec2.proofs.Vec2Open.{V, D, Known, Rest, Cuts, Len, Less, len_out, len_in, eA, eB, cut, shut}
+use Rattle.starlark_vec2.proofs.Vec2Open.{V, D, Known, Told, Rest, Cuts, Len, Place, Less, eA, eB, cut, shut, fields_out, fields_in, at_behind, at_front}
 use Rattle.starlark_vec2.specs.contracts.vec2.Vec2.get_mut as F
 use Rattle.starlark_vec2.specs.contracts.vec2.Vec2.get_mut.Key.{name as #self}
-use Rattle.starlark_vec2.specs.contracts.vec2.lends.lend_place as g
-use Rattle.starlark_vec2.proofs.vec2.lends.lend_place.Symbol.{name as #place}
-use Rattle.starlark_vec2.proofs.vec2.lends.lend_place.Met as place
-use Rattle.starlark_vec2.specs.contracts.vec2.lends.lend_place_if as h
-use Rattle.starlark_vec2.proofs.vec2.lends.lend_place_if.Symbol.{name as #place_if}
-use Rattle.starlark_vec2.proofs.vec2.lends.lend_place_if.Met as place_if
+use Rattle.starlark_vec2.specs.contracts.vec2.lends.lend_front as g
+use Rattle.starlark_vec2.proofs.vec2.lends.lend_front.Symbol.{name as #front}
+use Rattle.starlark_vec2.proofs.vec2.lends.lend_front.Met as front
+use Rattle.starlark_vec2.specs.contracts.vec2.lends.lend_behind_if as h
+use Rattle.starlark_vec2.proofs.vec2.lends.lend_behind_if.Symbol.{name as #behind_if}
+use Rattle.starlark_vec2.proofs.vec2.lends.lend_behind_if.Met as behind_if
 use Rattle.starlark_vec2.proofs.LentInOption.{either, left_one, left_none, leaves_two, leaves_none, in_some_told, in_none, given_up, as_tuple, PairOf, pair_val}
 use Rattle.core.specs.contracts.option.Option as OP
 use Rattle.std.proofs.VecSteps.Shapes.{after}
@@ -72,13 +75,13 @@ module _ (A B : RattleType) where
     spec = F.clauses A B 𝓛 at_mem run
 
     abbrev Looks : Contract 𝓤
-    Looks = triple_of 𝓛 (h.signature A) (h.spec A 𝓛 at_mem run)
+    Looks = triple_of 𝓛 (h.signature A B) (h.spec A B 𝓛 at_mem run)
 
     abbrev Lends : Contract 𝓤
     Lends = triple_of 𝓛 (g.signature B) (g.spec B 𝓛 at_mem run)
 
     module _ (LA : Laws A) (LB : Laws B) (C : Calls 𝓤 H) (Λ : Loops 𝓤 H) (fm : FmC 𝓤 H 𝓛.laws C)
-        (looks : Triple 𝓤 (C (#place_if (layouts (a_type ∷ []) (A, tt)))) Looks) (lends : Triple 𝓤 (C (#place (layouts (a_type ∷ []) (B, tt)))) Lends)
+        (looks : Triple 𝓤 (C (#behind_if args)) Looks) (lends : Triple 𝓤 (C (#front (layouts (a_type ∷ []) (B, tt)))) Lends)
         (κ κA κB : Lft) (q qA qB : Share) (bounds : (κ ⊑ κA) × ((κ ⊑ κB) × Unit {0})) (r : MutBor (PairList A.Denot B.Denot)) (i : ℕ) (fi : i < 2 ^ 64) where
       abbrev bound : (walk_of 𝓛 ended stayed spec).Ghost
       bound = (((κ, (κA, (κB, tt))), (q, (qA, (qB, tt))), bounds, (r, (i, tt)), (mut_vals r, (vint w64 i ∷ [], tt))), tt)
@@ -127,11 +130,13 @@ module _ (A B : RattleType) where
           use1 𝓛 (some (λ (d : (d : D A' B') × Known A' B' v d). raw (Cuts A' B' 𝓛 b o v d))) (cut A' B' 𝓛 b o (param_laws 0 A LA) (param_laws 1 B LB) v) $ pick ! (λ d'.
           let d = d'.0 in let rx = d.firsts in let ry = d.seconds in let xs = rx.places in let ys = ry.places in
           use1 𝓛 (‵ (part_at CA full_share rx b (o + eA A' B')) ⊛ ‵ (part_at CB full_share ry b (o + eB A' B')) ⊛ raw (Rest A' B' 𝓛 b o d)) (id⊢ 𝓤 _) $ split3 ! $
-          -- the length is read where it lies
-          move ! (2 ∷ []) $ use1 𝓛 (raw (fact 𝓤 (d.len < 2 ^ 64)) ⊛ ‵ (Len A' B' 𝓛 b o d.len) ⊛ raw (Less A' B' 𝓛 b o d)) (len_out A' B' 𝓛 b o d) $ split3 ! $ heard ! (d.len < 2 ^ 64) (λ fits.
-          sets ! (of_opd ! (load ! (through ! refl (fld ! refl (stop !))) (look ! 0 refl))) refl (tt, record { fits = fits }) $
+          -- the spot and the length are read where they lie
+          move ! (2 ∷ []) $ use1 𝓛 (raw (fact 𝓤 (Told A' B' d)) ⊛ ‵ (Len A' B' 𝓛 b o d.len) ⊛ ‵ (Place A' B' 𝓛 b o d.spot.address.at d.spot.count) ⊛ raw (Less A' B' 𝓛 b o d)) (fields_out A' B' 𝓛 b o d) $ split3 ! $ heard ! (Told A' B' d) (λ told. move ! (1 ∷ []) $ split ! $
+          let at = d.spot in let place : Val = words at.address.at at.count in let Lies : Type 0 = IsBehind B' A' at rx.at in let Lies' : Type 0 = at.address.at ≡ ry.at in let At : RattleType = spot.the_row B' in
+          sets ! (of_opd ! (load ! (through ! refl (fld ! refl (stop !))) (look ! 0 refl))) refl (words_good at.address.at at.count told.1) $
+          sets ! (of_opd ! (load ! (through ! refl (fld ! refl (stop !))) (look ! 2 refl))) refl (tt, record { fits = told.0 }) $
           sets ! (addr ! (through ! refl (fld ! refl (stop !)))) refl (tt, tt) $
-          use2 𝓛 (raw (Rest A' B' 𝓛 b o d)) (len_in A' B' 𝓛 b o d fits) $ move ! (1 ∷ 2 ∷ 0 ∷ []) $
+          move ! (2 ∷ 0 ∷ 1 ∷ []) $ group ! 3 $ use1 𝓛 (raw (Rest A' B' 𝓛 b o d)) (fields_in A' B' 𝓛 b o d told) $ move ! (1 ∷ 2 ∷ 0 ∷ []) $
           -- [the columns; the rest; the open borrow; obs; auth; half of κ's token; those of κA, κB]
           name_new ! tt (CA.coded.code rx) (λ δ. move ! (2 ∷ 1 ∷ []) $ fjoin ! $ fpack ! CA.Denot (λ z. fsep ((mem CA).own_at z b (o + eA A' B')) (fauth δ (CA.coded.code z))) rx $
           name_new ! tt (CB.coded.code ry) (λ δ'. move ! (4 ∷ 1 ∷ []) $ fjoin ! $ fpack ! CB.Denot (λ z. fsep ((mem CB).own_at z b (o + eB A' B')) (fauth δ' (CB.coded.code z))) ry $
@@ -140,15 +145,16 @@ module _ (A B : RattleType) where
           -- the other half; the tokens of κA, κB]
           let xr : MutBor CA.Denot = record { ref_ptr = (b, o + eA A' B'); ghost_name = δ; now = rx } in let yr : MutBor CB.Denot = record { ref_ptr = (b, o + eB A' B'); ghost_name = δ'; now = ry } in
           move ! (6 ∷ 0 ∷ []) $ feq_i ! (List Val) (mut_vals xr) (mut_vals xr) refl $ fjoin3 ! $ move ! (5 ∷ 2 ∷ []) $ feq_i ! (List Val) (mut_vals yr) (mut_vals yr) refl $ fjoin3 ! $
-          nothing ! $ owned ! usize _ (uint_Makes 𝓛 w64) i _ (refl, fi) $ fjoin ! $ owned ! usize _ (uint_Makes 𝓛 w64) d.len _ (refl, fits) $ fjoin ! $ move ! (2 ∷ 0 ∷ []) $ fjoin ! $
-          nothing ! $ move ! (10 ∷ 0 ∷ []) $ join ! $ move ! (9 ∷ 0 ∷ []) $ join ! $ join ! $
-          use0 𝓛 (raw (fact 𝓤 (IsFront xs d.len))) (fact_i 𝓤 _ (emp 𝓤) d'.1.1.0.firsts_front) $ use0 𝓛 (raw (fact 𝓤 (κA ⊑ A.lives))) (fact_i 𝓤 _ (emp 𝓤) la) $ join ! $ move ! (1 ∷ 0 ∷ []) $ join ! $
-          let z1 : Looks.Ghost = (((κ, (κA, tt)), (Share.right q, (qA, tt)), (bounds.0, tt), (xr, (d.len, (i, tt))), (mut_vals xr, (vint w64 d.len ∷ [], (vint w64 i ∷ [], tt)))), tt) in
+          nothing ! $ owned ! usize _ (uint_Makes 𝓛 w64) i _ (refl, fi) $ fjoin ! $ owned ! usize _ (uint_Makes 𝓛 w64) d.len _ (refl, told.0) $ fjoin ! $ use0 𝓛 (‵ (At.own_val at (place ∷ []))) (spot_made B' 𝓛 at told.1) $ fjoin ! $ move ! (2 ∷ 0 ∷ []) $ fjoin ! $
+          nothing ! $ move ! (11 ∷ 0 ∷ []) $ join ! $ move ! (10 ∷ 0 ∷ []) $ join ! $ move ! (9 ∷ 0 ∷ []) $ join ! $ join ! $
+          use0 𝓛 (raw (fact 𝓤 (IsFront xs d.len))) (fact_i 𝓤 _ (emp 𝓤) d'.1.1.0.firsts_front) $ use0 𝓛 (raw (fact 𝓤 Lies)) (fact_i 𝓤 _ (emp 𝓤) (at_behind A' B' v d d'.1 told)) $
+          use0 𝓛 (raw (fact 𝓤 (κB ⊑ B.lives))) (fact_i 𝓤 _ (emp 𝓤) lb) $ use0 𝓛 (raw (fact 𝓤 (κA ⊑ A.lives))) (fact_i 𝓤 _ (emp 𝓤) la) $ group ! 4 $ move ! (1 ∷ 0 ∷ []) $ join ! $
+          let z1 : Looks.Ghost = (((κ, (κA, (κB, tt))), (Share.right q, (qA, (qB, tt))), (bounds.0, tt), (xr, (at, (d.len, (i, tt)))), (mut_vals xr, (place ∷ [], (vint w64 d.len ∷ [], (vint w64 i ∷ [], tt))))), tt) in
           use1 𝓛 (raw (Looks.pre z1)) (id⊢ 𝓤 _) $
-          calls_at ! fm Looks looks z1 (and_then ! (get ! refl) (and_then ! (get ! refl) (and_then ! (get ! refl) (no_more !)))) (λ u.
-          use1 𝓛 (later (some (λ (s : Option (MutBor A.Denot)). ((‵ (flft κ (Share.right q)) ⊛ ‵ (flft κA qA) ⊛ ‵ ftrue) ⊛ ‵ (Seen.own_val s (u ∷ []))) ⊛ raw (ensured 𝓛 (h.ended A) (h.clauses A 𝓛 at_mem run) z1.0.0 z1.0.3 tt s)))) (id⊢ 𝓤 _) $ await ! tt $ pick ! (λ s. split ! $ move ! (1 ∷ []) $
-          use1 𝓛 (‵ (follows_if CA A' δ (ghost_name_of s) (λ z. relaid rx (slice_set xs i (Some z))) rx) ⊛ raw (fact 𝓤 (slice_get (items_of xs) i ≡ option_copied_mut s))) (ex_e 𝓤 _ (λ ws. snd∗ 𝓤 (sem 𝓛 (lasts (h.ended A) z1.0.0 z1.0.3 ws)) _)) $ split ! $
-          move ! (1 ∷ []) $ heard ! (slice_get (items_of xs) i ≡ option_copied_mut s) (λ found. move ! (1 ∷ []) $ split ! $ split3 ! $ move ! (3 ∷ []) $ move ! (3 ∷ []) $ drop ! $
+          calls_at ! fm Looks looks z1 (and_then ! (get ! refl) (and_then ! (get ! refl) (and_then ! (get ! refl) (and_then ! (get ! refl) (no_more !))))) (λ u.
+          use1 𝓛 (later (some (λ (s : Option (MutBor A.Denot)). ((‵ (flft κ (Share.right q)) ⊛ ‵ (flft κA qA) ⊛ ‵ (flft κB qB) ⊛ ‵ ftrue) ⊛ ‵ (Seen.own_val s (u ∷ []))) ⊛ raw (ensured 𝓛 (h.ended A B) (h.clauses A B 𝓛 at_mem run) z1.0.0 z1.0.3 tt s)))) (id⊢ 𝓤 _) $ await ! tt $ pick ! (λ s. split ! $ move ! (1 ∷ []) $
+          use1 𝓛 (‵ (follows_if CA A' δ (ghost_name_of s) (λ z. relaid rx (slice_set xs i (Some z))) rx) ⊛ raw (fact 𝓤 (slice_get (items_of xs) i ≡ option_copied_mut s))) (ex_e 𝓤 _ (λ ws. snd∗ 𝓤 (sem 𝓛 (lasts (h.ended A B) z1.0.0 z1.0.3 ws)) _)) $ split ! $
+          move ! (1 ∷ []) $ heard ! (slice_get (items_of xs) i ≡ option_copied_mut s) (λ found. move ! (1 ∷ []) $ split ! $ split3 ! $ move ! (2 ∷ []) $ split ! $ move ! (1 ∷ []) $ drop ! $ move ! (3 ∷ 1 ∷ 2 ∷ 4 ∷ 5 ∷ 6 ∷ 7 ∷ 8 ∷ 9 ∷ 10 ∷ 11 ∷ []) $
           -- [what the call gave; half of κ's token; that of κA; what the first column follows; the second; the two
           -- rights; the open borrow; the rest; obs; auth; the token of κB]
           elim (either s) [
@@ -166,19 +172,19 @@ module _ (A B : RattleType) where
                 first ! $ by_variants ! 24 (whole !) (get_tag ! (vrt ! refl (fld ! refl (stop !))) (whole !)) tt (
                   (λ _. sets ! (of_opd ! (get_in ! (vrt ! refl (fld ! refl (stop !))) (in_variant ! 1 0 refl refl (whole !)))) refl (tt, tt) $
                       sets ! (addr ! (through ! refl (stop !))) refl (tt, tt) $ sets ! (addr ! (through ! refl (fld ! refl (stop !)))) refl (tt, tt) $
-                      let z2 : Lends.Ghost = (((κ, (κB, tt)), (Share.right q, (qB, tt)), (bounds.1.0, tt), (yr, (i, tt)), (mut_vals yr, (vint w64 i ∷ [], tt))), tt) in
-                      nothing ! $ owned ! usize _ (uint_Makes 𝓛 w64) i _ (refl, fi) $ fjoin ! $ move ! (5 ∷ 0 ∷ []) $ fjoin ! $
+                      let z2 : Lends.Ghost = (((κ, (κB, tt)), (Share.right q, (qB, tt)), (bounds.1.0, tt), (yr, (at, (i, tt))), (mut_vals yr, (place ∷ [], (vint w64 i ∷ [], tt)))), tt) in
+                      nothing ! $ owned ! usize _ (uint_Makes 𝓛 w64) i _ (refl, fi) $ fjoin ! $ use0 𝓛 (‵ (At.own_val at (place ∷ []))) (spot_made B' 𝓛 at told.1) $ fjoin ! $ move ! (5 ∷ 0 ∷ []) $ fjoin ! $
                       nothing ! $ move ! (12 ∷ 0 ∷ []) $ join ! $ move ! (3 ∷ 0 ∷ []) $ join ! $ join ! $
-                      use0 𝓛 (raw (fact 𝓤 (IsFilled ys i))) (fact_i 𝓤 _ (emp 𝓤) filled) $ use0 𝓛 (raw (fact 𝓤 (κB ⊑ B.lives))) (fact_i 𝓤 _ (emp 𝓤) lb) $ join ! $ move ! (1 ∷ 0 ∷ []) $ join ! $
+                      use0 𝓛 (raw (fact 𝓤 (IsFilled ys i))) (fact_i 𝓤 _ (emp 𝓤) filled) $ use0 𝓛 (raw (fact 𝓤 Lies')) (fact_i 𝓤 _ (emp 𝓤) (at_front A' B' v d d'.1)) $ use0 𝓛 (raw (fact 𝓤 (κB ⊑ B.lives))) (fact_i 𝓤 _ (emp 𝓤) lb) $ group ! 3 $ move ! (1 ∷ 0 ∷ []) $ join ! $
                       use1 𝓛 (raw (Lends.pre z2)) (id⊢ 𝓤 _) $
-                      calls_at ! fm Lends lends z2 (and_then ! (get ! refl) (and_then ! (get ! refl) (no_more !))) (λ t.
+                      calls_at ! fm Lends lends z2 (and_then ! (get ! refl) (and_then ! (get ! refl) (and_then ! (get ! refl) (no_more !)))) (λ t.
                       use1 𝓛 (later (some (λ (y : MutBor B.Denot). ((‵ (flft κ (Share.right q)) ⊛ ‵ (flft κB qB) ⊛ ‵ ftrue) ⊛ ‵ ((MutRef (named 0) κ B').own_val y (t ∷ []))) ⊛ raw (ensured 𝓛 (g.ended B) (g.clauses B 𝓛 at_mem run) z2.0.0 z2.0.3 tt y)))) (id⊢ 𝓤 _) $ await ! tt $ pick ! (λ y. split ! $ move ! (1 ∷ []) $
                       use1 𝓛 (‵ (follows CB B' δ' y.ghost_name (λ z. relaid ry (slice_set ys i (Some z)))) ⊛ raw (fact 𝓤 (get_or ys i None ≡ Some y.now))) (ex_e 𝓤 _ (λ ws. snd∗ 𝓤 (sem 𝓛 (lasts (g.ended B) z2.0.0 z2.0.3 ws)) _)) $ split ! $
                       move ! (1 ∷ []) $ heard ! (get_or ys i None ≡ Some y.now) (λ yval. move ! (1 ∷ []) $ split ! $ split3 ! $ move ! (3 ∷ []) $
                       fsplit3 ! $ feq_l ! (λ at_t. lands_as ! (ap only at_t) refl (tt, tt) $ feq_i ! (List Val) (mut_vals y) (mut_vals y) refl $ fjoin3 ! $
                       sets ! (agg ! (and_then ! (get ! refl) (and_then ! (get ! refl) (no_more !)))) refl (tt, (tt, (tt, tt))) $
                       sets_last ! (agg ! (and_then ! (lit ! tt) (and_then ! (get ! refl) (no_more !)))) refl (tt, (record { fits = lit< tt }, ((tt, (tt, tt)), tt))) $
-                      exec ! C Λ En (after 4 (here).body) (at_ret En Post) $
+                      exec ! C Λ En (after 5 (here).body) (at_ret En Post) $
                       -- [the second reference; half of κ's token; that of κB; nothing; what the second column follows;
                       -- the first reference; the token of κA; what the first follows; the two rights; the open borrow;
                       -- the rest; obs; auth]
@@ -209,7 +215,7 @@ module _ (A B : RattleType) where
                   (λ e. absurd (suc-ne-zero 0 (sym e))),
                   (
                     (λ _. sets_last ! (agg ! (and_then ! (lit ! tt) (no_more !))) refl (tt, (record { fits = lit< tt }, tt)) $
-                        exec ! C Λ En (after 4 (here).body) (at_ret En Post) $ sets ! (of_opd ! (get ! refl)) refl (tt, (record { fits = lit< tt }, tt)) $
+                        exec ! C Λ En (after 5 (here).body) (at_ret En Post) $ sets ! (of_opd ! (get ! refl)) refl (tt, (record { fits = lit< tt }, tt)) $
                         returns ! (look_at ! 0 refl) $ free_all ! refl $
                         by ! (gives_none (subst (λ (m : PairList A.Denot B.Denot). slice_get m.pairs i ≡ None) d'.1.0 (slice_get-zip_none (items_of xs) (items_of ys) i (found ∙ ap option_copied_mut w))))),
                     tt,
@@ -218,7 +224,7 @@ module _ (A B : RattleType) where
           ])))))))))))
 
 meets : (A B : RattleType) → Laws A → Laws B → {M : Type 1} {𝓤 : Ura M} (𝓛 : Logic 𝓤) (at_mem : Memory → SProp 𝓤) (run : Routine → Fun 𝓤) (𝓣 : Tables 𝓤 𝓛.H)
-    → Triple 𝓤 (𝓣.C (#place_if (layouts (a_type ∷ []) (A, tt)))) (Looks A B 𝓛 at_mem run) → Triple 𝓤 (𝓣.C (#place (layouts (a_type ∷ []) (B, tt)))) (Lends A B 𝓛 at_mem run)
+    → Triple 𝓤 (𝓣.C (#behind_if (args A B))) (Looks A B 𝓛 at_mem run) → Triple 𝓤 (𝓣.C (#front (layouts (a_type ∷ []) (B, tt)))) (Lends A B 𝓛 at_mem run)
     → Meets 𝓛 (ended A B).signature (WpFn 𝓤 𝓛.H 𝓣.C 𝓣.Λ (here A B)) (closing 𝓛 (ended A B) (spec A B 𝓛 at_mem run))
 meets A B LA LB {𝓤 = 𝓤} 𝓛 at_mem run 𝓣 looks lends =
     walk_Meets 𝓛 (ended A B) (stayed A B) (Goes-spent_ref 𝓛 3 (0 ∷ []) tt (plain (λ _. W A B)), (Goes-dropped 𝓛 3 (plain (λ _. usize)) yes (λ κs x f. refl), tt))
@@ -232,4 +238,4 @@ unfolding tables_of
 get_mut_spec 𝓤 𝓛 𝓜 𝓡 wired A B LA LB =
     let 𝓣 : Tables 𝓤 𝓛.H = tables_of 𝓤 𝓛.H 𝓜 (tables 𝓤 𝓛.H 𝓜 𝓡 𝓡.env) in
     entered 𝓤 𝓛.H (triple_of 𝓛 (F.signature A B) (F.spec A B 𝓛 𝓜.mem 𝓡.returns)) 𝓣.C 𝓣.Λ (#self (args A B)) (here A B) (code.unfolded 𝓤 𝓛.H 𝓜 𝓡 wired (A, (B, tt)))
-    (meets A B LA LB 𝓛 𝓜.mem 𝓡.returns 𝓣 (place_if.met 𝓤 𝓛 𝓜 𝓡 (code.calls-starlark_vec2::vec2::lends::lend_place_if 𝓡.env wired) A LA) (place.met 𝓤 𝓛 𝓜 𝓡 (code.calls-starlark_vec2::vec2::lends::lend_place 𝓡.env wired) B LB))
+    (meets A B LA LB 𝓛 𝓜.mem 𝓡.returns 𝓣 (behind_if.met 𝓤 𝓛 𝓜 𝓡 (code.calls-starlark_vec2::vec2::lends::lend_behind_if 𝓡.env wired) A B LA LB) (front.met 𝓤 𝓛 𝓜 𝓡 (code.calls-starlark_vec2::vec2::lends::lend_front 𝓡.env wired) B LB))

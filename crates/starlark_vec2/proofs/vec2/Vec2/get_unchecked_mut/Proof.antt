@@ -1,8 +1,11 @@
 -- `get_unchecked_mut` meets its contract, at any two item types: the struct stays open while its columns are lent to one call, and what they follow closes it. Assumes `Logic`.
-use Rattle.starlark_columns.proofs.Walking.{◌≡◌, refl, ap, ◌∙◌, ℕ, ◌+◌, ◌<◌, ◌^◌, List, [], ◌∷◌, ◌++◌, length, Ura, full_share, Fn, Args, a_type, named, w64, inst_fn, Val, vint, vptr, vstruct, vcons, vnil, of_list, SProp, ent, emp, id⊢, ex_e, snd∗, Lft, Share, ftrue, fsep, flft, fauth, Memory, Routine, Calls, Loops, WpFn, Tables, ages, bor_new_deep, Logic, sem, open_ref, name_new, ◌⊑◌, Fun, fact, fact_i, tables, tables_of, FmC, fm_of, WpFn-mono, ‵, raw, ◌⊛◌, some, later, ◌$◌, ◌∵◌, !, qed, move, keep, use0, use1, use2, drop, split, split3, join, pick, fsplit, fsplit3, fjoin, fjoin3, fpack, fpick, feq_i, feq_l, suffices, frame, await, group, done, stop, fld, addr, and_then, no_more, returns, enter, alloc_all, pass_all, free_all, look_at, get, through, sets, lands_as, yes, no, RattleType, owns, usize, follows, follows_both, both_by, mem, part_at, param, layouts, Laws, param_laws, uint_vals, uint_Tells, uint_Makes, MutBor, MutRef, mut_vals, mut_Tells, plain, types_at, mut_ref_to, nothing, owned, heard, only, Tuple, calls_at, Clauses, Ended, closing, ensured, lasts, Meets, triple_of, Contract, Triple, entered, says, Stays, stay_dropped, walk_of, ends_at, walked, walk_Meets, Goes-dropped, Goes-spent_ref, get_or, slice_set, None, length-set}
+use Rattle.starlark_columns.proofs.Walking.{◌≡◌, refl, ap, ◌∙◌, ℕ, ◌+◌, ◌<◌, ◌^◌, List, [], ◌∷◌, ◌++◌, length, Ura, full_share, Fn, Args, a_type, named, w64, inst_fn, Val, vint, vptr, vstruct, vcons, vnil, of_list, SProp, ent, emp, id⊢, ex_e, snd∗, Lft, Share, ftrue, fsep, flft, fauth, Memory, Routine, Calls, Loops, WpFn, Tables, ages, bor_new_deep, Logic, sem, open_ref, name_new, ◌⊑◌, Fun, fact, fact_i, tables, tables_of, FmC, fm_of, WpFn-mono, ‵, raw, ◌⊛◌, some, later, ◌$◌, ◌∵◌, !, qed, move, keep, use0, use1, use2, drop, split, split3, join, pick, fsplit, fsplit3, fjoin, fjoin3, fpack, fpick, feq_i, feq_l, suffices, frame, await, group, done, stop, fld, look, load, of_opd, addr, and_then, no_more, returns, enter, alloc_all, pass_all, free_all, look_at, get, through, sets, lands_as, yes, no, RattleType, owns, usize, follows, follows_both, both_by, mem, part_at, param, layouts, Laws, param_laws, uint_vals, uint_Tells, uint_Makes, MutBor, MutRef, mut_vals, mut_Tells, plain, types_at, mut_ref_to, nothing, owned, heard, only, Tuple, calls_at, Clauses, Ended, closing, ensured, lasts, Meets, triple_of, Contract, Triple, entered, says, Stays, stay_dropped, walk_of, ends_at, walked, walk_Meets, Goes-dropped, Goes-spent_ref, get_or, slice_set, None, length-set}
 use base.Share
 use Rattle.std.specs.declared.option.Option.TheVariants.{Some}
+use Rattle.starlark_columns.specs.Block.{IsBehind}
 use Rattle.starlark_columns.specs.Laid.{relaid}
+use Rattle.starlark_columns.specs.contracts.block.Spot as spot
+use Rattle.starlark_columns.proofs.Addresses.{words, words_good, spot_made}
 use Rattle.starlark_columns.specs.Places.{IsFilled}
 use Rattle.starlark_columns.proofs.Fronts.{front_filled, front_taken}
 use Rattle.starlark_vec2.specs.ColumnLending.{column}
@@ -11,7 +14,7 @@ use Rattle.starlark_vec2.specs.PairList.{PairList}
 use Rattle.starlark_vec2.proofs.BothClose.{closes_both}
 use Rattle.starlark_vec2.proofs.FrozenPairs.{pair_made}
 use Rattle.starlark_vec2.proofs.TwoColumns.{same_block, in_columns, both_set, both_end, pair_is}
-use Rattle.starlark_vec2.proofs.Vec2Open.{V, D, Known, Rest, Cuts, eA, eB, cut, shut}
+use Rattle.starlark_vec2.proofs.Vec2Open.{V, D, Known, Told, Rest, Cuts, Len, Place, Less, eA, eB, cut, shut, fields_out, fields_in, at_behind, at_front}
 use Rattle.starlark_vec2.specs.contracts.vec2.Vec2.get_unchecked_mut as F
 use Rattle.starlark_vec2.specs.contracts.vec2.Vec2.get_unchecked_mut.Key.{name as #self}
 use Rattle.starlark_vec2.specs.contracts.vec2.lends.lend_columns as g
@@ -83,13 +86,18 @@ module _ (A B : RattleType) where
           split ! $ split3 ! $ move ! (2 ∷ []) $ split ! $ move ! (4 ∷ []) $ fsplit3 ! $ keep ! (5 ∷ 6 ∷ 3 ∷ 0 ∷ []) $
           enter ! C Λ here (vptr b o ∷ vint w64 i ∷ []) _ $
           alloc_all ! (λ l. pass_all ! refl ((tt, tt), ((tt, record { fits = fi }), tt)) $
-          sets ! (addr ! (through ! refl (fld ! refl (stop !)))) refl (tt, tt) $ sets ! (addr ! (through ! refl (fld ! refl (stop !)))) refl (tt, tt) $
           -- half of κ's token opens the struct, and half goes into the call
           use1 𝓛 (‵ (flft κ (Share.left q)) ⊛ ‵ (flft κ (Share.right q))) (𝓛.lfts.lft_split κ q) $ split ! $
           move ! (4 ∷ []) $ fsplit3 ! $ drop ! $ open_ref ! tt (mem W) {b = b} {o = o} $
           use1 𝓛 (some (λ (d : (d : D A' B') × Known A' B' v d). raw (Cuts A' B' 𝓛 b o v d))) (cut A' B' 𝓛 b o (param_laws 0 A LA) (param_laws 1 B LB) v) $ pick ! (λ d'.
           let d = d'.0 in let rx = d.firsts in let ry = d.seconds in let xs = rx.places in let ys = ry.places in
           use1 𝓛 (‵ (part_at CA full_share rx b (o + eA A' B')) ⊛ ‵ (part_at CB full_share ry b (o + eB A' B')) ⊛ raw (Rest A' B' 𝓛 b o d)) (id⊢ 𝓤 _) $ split3 ! $
+          -- the spot is read where it lies
+          move ! (2 ∷ []) $ use1 𝓛 (raw (fact 𝓤 (Told A' B' d)) ⊛ ‵ (Len A' B' 𝓛 b o d.len) ⊛ ‵ (Place A' B' 𝓛 b o d.spot.address.at d.spot.count) ⊛ raw (Less A' B' 𝓛 b o d)) (fields_out A' B' 𝓛 b o d) $ split3 ! $ heard ! (Told A' B' d) (λ told. move ! (1 ∷ []) $ split ! $
+          let at = d.spot in let place : Val = words at.address.at at.count in let Lies : Type 0 = IsBehind B' A' at rx.at in let Lies' : Type 0 = at.address.at ≡ ry.at in let At : RattleType = spot.the_row B' in
+          sets ! (of_opd ! (load ! (through ! refl (fld ! refl (stop !))) (look ! 0 refl))) refl (words_good at.address.at at.count told.1) $
+          sets ! (addr ! (through ! refl (fld ! refl (stop !)))) refl (tt, tt) $ sets ! (addr ! (through ! refl (fld ! refl (stop !)))) refl (tt, tt) $
+          move ! (2 ∷ 0 ∷ 1 ∷ []) $ group ! 3 $ use1 𝓛 (raw (Rest A' B' 𝓛 b o d)) (fields_in A' B' 𝓛 b o d told) $ move ! (1 ∷ 2 ∷ 0 ∷ []) $
           -- [the columns; the rest; the open borrow; obs; auth; half of κ's token; those of κA, κB]
           name_new ! tt (CA.coded.code rx) (λ δ. move ! (2 ∷ 1 ∷ []) $ fjoin ! $ fpack ! CA.Denot (λ z. fsep ((mem CA).own_at z b (o + eA A' B')) (fauth δ (CA.coded.code z))) rx $
           name_new ! tt (CB.coded.code ry) (λ δ'. move ! (4 ∷ 1 ∷ []) $ fjoin ! $ fpack ! CB.Denot (λ z. fsep ((mem CB).own_at z b (o + eB A' B')) (fauth δ' (CB.coded.code z))) ry $
@@ -100,13 +108,14 @@ module _ (A B : RattleType) where
           let in_row : i < d.len = in_columns xs ys d.len d'.1.1.0 v d'.1.0 i lt in
           let ix : IsFilled xs i = front_filled xs d.len d'.1.1.0.firsts_front i in_row in let iy : IsFilled ys i = front_filled ys d.len d'.1.1.0.seconds_front i in_row in
           move ! (6 ∷ 0 ∷ []) $ feq_i ! (List Val) (mut_vals xr) (mut_vals xr) refl $ fjoin3 ! $ move ! (5 ∷ 2 ∷ []) $ feq_i ! (List Val) (mut_vals yr) (mut_vals yr) refl $ fjoin3 ! $
-          nothing ! $ owned ! usize _ (uint_Makes 𝓛 w64) i _ (refl, fi) $ fjoin ! $ move ! (1 ∷ 0 ∷ []) $ fjoin ! $ move ! (1 ∷ 0 ∷ []) $ fjoin ! $
+          nothing ! $ owned ! usize _ (uint_Makes 𝓛 w64) i _ (refl, fi) $ fjoin ! $ use0 𝓛 (‵ (At.own_val at (place ∷ []))) (spot_made B' 𝓛 at told.1) $ fjoin ! $ move ! (1 ∷ 0 ∷ []) $ fjoin ! $ move ! (1 ∷ 0 ∷ []) $ fjoin ! $
           nothing ! $ move ! (10 ∷ 0 ∷ []) $ join ! $ move ! (9 ∷ 0 ∷ []) $ join ! $ move ! (8 ∷ 0 ∷ []) $ join ! $ join ! $
           use0 𝓛 (raw (fact 𝓤 (IsFilled ys i))) (fact_i 𝓤 _ (emp 𝓤) iy) $ use0 𝓛 (raw (fact 𝓤 (IsFilled xs i))) (fact_i 𝓤 _ (emp 𝓤) ix) $
-          use0 𝓛 (raw (fact 𝓤 (κB ⊑ B.lives))) (fact_i 𝓤 _ (emp 𝓤) lb) $ use0 𝓛 (raw (fact 𝓤 (κA ⊑ A.lives))) (fact_i 𝓤 _ (emp 𝓤) la) $ group ! 4 $ move ! (1 ∷ 0 ∷ []) $ join ! $
-          let z : Lend.Ghost = (((κ, (κA, (κB, tt))), (Share.right q, (qA, (qB, tt))), bounds, (xr, (yr, (i, tt))), (mut_vals xr, (mut_vals yr, (vint w64 i ∷ [], tt)))), tt) in
+          use0 𝓛 (raw (fact 𝓤 Lies')) (fact_i 𝓤 _ (emp 𝓤) (at_front A' B' v d d'.1)) $ use0 𝓛 (raw (fact 𝓤 Lies)) (fact_i 𝓤 _ (emp 𝓤) (at_behind A' B' v d d'.1 told)) $
+          use0 𝓛 (raw (fact 𝓤 (κB ⊑ B.lives))) (fact_i 𝓤 _ (emp 𝓤) lb) $ use0 𝓛 (raw (fact 𝓤 (κA ⊑ A.lives))) (fact_i 𝓤 _ (emp 𝓤) la) $ group ! 6 $ move ! (1 ∷ 0 ∷ []) $ join ! $
+          let z : Lend.Ghost = (((κ, (κA, (κB, tt))), (Share.right q, (qA, (qB, tt))), bounds, (xr, (yr, (at, (i, tt)))), (mut_vals xr, (mut_vals yr, (place ∷ [], (vint w64 i ∷ [], tt))))), tt) in
           use1 𝓛 (raw (Lend.pre z)) (id⊢ 𝓤 _) $
-          calls_at ! fm Lend gl z (and_then ! (get ! refl) (and_then ! (get ! refl) (and_then ! (get ! refl) (no_more !)))) (λ u.
+          calls_at ! fm Lend gl z (and_then ! (get ! refl) (and_then ! (get ! refl) (and_then ! (get ! refl) (and_then ! (get ! refl) (no_more !))))) (λ u.
           use1 𝓛 (later (some (λ (x : MutBor A.Denot × MutBor B.Denot). ((‵ (flft κ (Share.right q)) ⊛ ‵ (flft κA qA) ⊛ ‵ (flft κB qB) ⊛ ‵ ftrue) ⊛ ‵ ((PairAt κ).own_val x (u ∷ []))) ⊛ raw (ensured 𝓛 (g.ended A B) (g.clauses A B 𝓛 at_mem run) z.0.0 z.0.3 tt x)))) (id⊢ 𝓤 _) $ await ! tt $ pick ! (λ x. split ! $ move ! (1 ∷ []) $
           use1 𝓛 (‵ (fsep (follows CA A' δ x.0.ghost_name (λ w. relaid rx (slice_set xs i (Some w)))) (follows CB B' δ' x.1.ghost_name (λ w. relaid ry (slice_set ys i (Some w))))) ⊛ raw (fact 𝓤 ((get_or xs i None ≡ Some x.0.now) × (get_or ys i None ≡ Some x.1.now))))
           (ex_e 𝓤 _ (λ ws. snd∗ 𝓤 (sem 𝓛 (lasts (g.ended A B) z.0.0 z.0.3 ws)) _)) $ split ! $ move ! (1 ∷ []) $ heard ! ((get_or xs i None ≡ Some x.0.now) × (get_or ys i None ≡ Some x.1.now)) (λ vals. fsplit ! $
@@ -124,7 +133,7 @@ module _ (A B : RattleType) where
           suffices ! _ (ends_at 𝓛 ended stayed spec bound (pair_at x) x (tt, (tt, tt)) (tt, (tt, tt))) $
           -- [the result; the token of κ; those of κA, κB; what self follows]
           nothing ! $ nothing ! $ fjoin ! $ nothing ! $ fjoin ! $ join ! $ move ! (1 ∷ 2 ∷ []) $ join ! $ join ! $ frame ! $
-          says ! (pair_is xs ys d.len d'.1.1.0 v d'.1.0 i x.0.now x.1.now (front_taken xs d.len d'.1.1.0.firsts_front i in_row x.0.now vals.0) (front_taken ys d.len d'.1.1.0.seconds_front i in_row x.1.now vals.1)) $ done !)))))))))))))))
+          says ! (pair_is xs ys d.len d'.1.1.0 v d'.1.0 i x.0.now x.1.now (front_taken xs d.len d'.1.1.0.firsts_front i in_row x.0.now vals.0) (front_taken ys d.len d'.1.1.0.seconds_front i in_row x.1.now vals.1)) $ done !))))))))))))))))
 
 meets : (A B : RattleType) → Laws A → Laws B → {M : Type 1} {𝓤 : Ura M} (𝓛 : Logic 𝓤) (at_mem : Memory → SProp 𝓤) (run : Routine → Fun 𝓤) (𝓣 : Tables 𝓤 𝓛.H)
     → Triple 𝓤 (𝓣.C (#lend (args A B))) (Lend A B 𝓛 at_mem run)
