@@ -1,10 +1,12 @@
 //! The index of a list of entries: it alone sees the table of places. The list stands beside it, and is brought to each call.
 mod growth;
+mod place;
+mod place_table;
 mod places;
 mod search;
 
+pub use place_table::PlaceTable;
 use starlark_columns::Perhaps;
-use starlark_table::ReadyTable;
 use std::alloc::Global;
 use std::marker::Model;
 
@@ -15,7 +17,7 @@ pub const UNINDEXED: usize = 16;
 /// stands in a block of its own, so that a map takes no more room for it than a pointer.
 #[derive(Drop)]
 pub(crate) struct Index {
-    table: Perhaps<ReadyTable<usize>>,
+    table: Perhaps<PlaceTable>,
     // Where the table and its block get their memory.
     alloc: Global,
 }

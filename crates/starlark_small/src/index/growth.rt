@@ -1,12 +1,11 @@
 //! Room in the index, which is made where the list grows too long to do without.
-ghost use Rattle.std.specs.Prelude.{◌≡◌, ◌+◌, ◌<◌, ◌≤◌, ◌∷◌, [], ◌++◌, ◌||◌, length, is_some, nat_lt, IfOk, IsOk, None, OnOk, OnErr};
+ghost use Rattle.std.specs.Prelude.{◌≡◌, ◌+◌, ◌<◌, ◌≤◌, ◌∷◌, [], ◌++◌, ◌||◌, length, is_some, nat_lt, true, false, IfOk, IsOk, None, OnOk, OnErr};
 ghost use Rattle.starlark_lists.specs.Entries.{Entry, entry_hash};
 ghost use Rattle.starlark_small.specs.Index.{IsIndexed, index_room, unindexed};
 
-use super::{Index, UNINDEXED};
+use super::{Index, PlaceTable, UNINDEXED};
 use starlark_columns::Perhaps;
 use starlark_hash::StarlarkHashValue;
-use starlark_table::ReadyTable;
 use starlark_vecmap::VecMap;
 use std::alloc::{AllocError, Global};
 
@@ -32,7 +31,7 @@ impl Index {
         if capacity <= UNINDEXED {
             return Ok(Index::none(alloc));
         }
-        let table = Perhaps::of(alloc, ReadyTable::with_capacity(alloc, capacity)?)?;
+        let table = Perhaps::of(alloc, PlaceTable::with_capacity(alloc, capacity)?)?;
         Ok(Index { table, alloc })
     }
 
@@ -66,10 +65,7 @@ impl Index {
         ensures refused { OnErr result (index_room (length entries.now.entries) self.old < additional) }
         ensures unchanged { OnErr result (self.new ≡ self.old) }
     {
-        if let Some(table) = self.table.get_mut() {
-            return table.reserve(additional);
-        }
-        if additional <= UNINDEXED - entries.len() {
+        if self.reserve_as_it_is(entries, additional)? {
             return Ok(());
         }
         prove!(additional <= entries.capacity() - entries.len());
@@ -77,6 +73,30 @@ impl Index {
         index.note_all(entries);
         *self = index;
         Ok(())
+    }
+
+    // The same, if it needs no other index.
+    fn reserve_as_it_is<K, V>(
+        &mut self,
+        entries: &VecMap<K, V>,
+        additional: usize,
+    ) -> Result<bool, AllocError>
+        requires indexed { IsIndexed entries.now.entries self.old }
+        ensures indexed { IsIndexed entries.now.entries self.new }
+        ensures room { IfOk result (λ fits. fits ≡ true → additional ≤ index_room (length entries.now.entries) self.new) }
+        ensures grows { index_room (length entries.now.entries) self.old ≤ index_room (length entries.now.entries) self.new }
+        ensures enough { additional ≤ index_room (length entries.now.entries) self.old → self.new ≡ self.old }
+        ensures made { IfOk result (λ fits. fits ≡ true → is_some self.new ≡ (is_some self.old || nat_lt unindexed (length entries.now.entries + additional))) }
+        ensures other { IfOk result (λ fits. fits ≡ false → index_room (length entries.now.entries) self.old < additional) }
+        ensures long { IfOk result (λ fits. fits ≡ false → unindexed < length entries.now.entries + additional) }
+        ensures kept { IfOk result (λ fits. fits ≡ false → self.new ≡ self.old) }
+        ensures refused { OnErr result (index_room (length entries.now.entries) self.old < additional) }
+        ensures unchanged { OnErr result (self.new ≡ self.old) }
+    {
+        let Some(table) = self.table.get_mut() else {
+            return Ok(additional <= UNINDEXED - entries.len());
+        };
+        table.reserve(additional)
     }
 
     /// Notes the place of an entry that is to go last.
@@ -90,6 +110,6 @@ impl Index {
         let Some(table) = self.table.get_mut() else {
             return;
         };
-        table.insert_reserved(hash.promote(), entries.len());
+        table.note(hash, entries.len());
     }
 }

@@ -6,6 +6,7 @@ ghost use Rattle.starlark_hash.specs.HashValue.{hash_number, promoted};
 ghost use Rattle.starlark_small.specs.Index.{IsIndexOf, IsIndexed, hashes_in, index_room, lowered, moved_below, unindexed};
 ghost use Rattle.starlark_table.specs.Table.{members, member_at, table_len};
 
+use super::place::{Place, PlaceNumber};
 use super::{Index, UNINDEXED};
 use starlark_columns::Perhaps;
 use starlark_hash::StarlarkHashValue;
@@ -25,7 +26,7 @@ impl Index {
         let Some(table) = self.table.get_mut() else {
             return;
         };
-        remove_place(table, entries, place);
+        table.remove_place(entries, place);
     }
 
     /// Takes every place out: one by one where the list is so short that this takes fewer steps than there are slots,
@@ -47,7 +48,7 @@ impl Index {
         }
         for i in 0..len {
             let hash = entries.get_unchecked(i).0.hash();
-            take_under(table, hash);
+            table.take_under(hash);
         }
     }
 
@@ -64,7 +65,7 @@ impl Index {
         };
         for i in 0..entries.len() {
             let hash = entries.get_unchecked(i).0.hash();
-            table.insert_reserved(hash.promote(), i);
+            table.note(hash, i);
         }
     }
 
@@ -78,24 +79,27 @@ impl Index {
     }
 }
 
+/// Places under hashes of 32 bits, which stand for their promoted ones.
+pub(crate) type Placed<N> = ReadyTable<Place<N>, StarlarkHashValue>;
+
 // The slot of a place that is there.
 #[inline]
-fn slot_of(index: &ReadyTable<usize>, hash: StarlarkHashValue, place: usize) -> usize
+fn slot_of<N: PlaceNumber>(index: &Placed<N>, hash: StarlarkHashValue, place: usize) -> usize
     requires { Contains (members index.now) (promoted (hash_number hash), place) }
     ensures { member_at index.now result ≡ Some (promoted (hash_number hash), place) }
 {
     let found = index.find(
-        hash.promote(),
-        |i: &usize| -> bool
+        hash,
+        |i: &Place<N>| -> bool
             ensures { result ≡ (i.now == place) }
-        { *i == place },
+        { i.is(place) },
     );
     let Some(slot) = found else { unreachable!() };
     slot
 }
 
 // Takes one place out.
-fn take_place(index: &mut ReadyTable<usize>, hash: StarlarkHashValue, place: usize)
+fn take_place<N: PlaceNumber>(index: &mut Placed<N>, hash: StarlarkHashValue, place: usize)
     requires { Contains (members index.old) (promoted (hash_number hash), place) }
     ensures rest { IsPermutation (members index.old) ((promoted (hash_number hash), place) ∷ members index.new) }
     ensures room { table_len index.new + index.new.room ≡ table_len index.old + index.old.room }
@@ -105,14 +109,14 @@ fn take_place(index: &mut ReadyTable<usize>, hash: StarlarkHashValue, place: usi
 }
 
 // Takes one place out from under a hash that has some, whichever it is.
-fn take_under(index: &mut ReadyTable<usize>, hash: StarlarkHashValue)
+pub(super) fn take_under<N: PlaceNumber>(index: &mut Placed<N>, hash: StarlarkHashValue)
     requires { Contains (hashes_in index.old) (promoted (hash_number hash)) }
     ensures rest { IsPermutation (hashes_in index.old) (promoted (hash_number hash) ∷ hashes_in index.new) }
     ensures room { table_len index.new + index.new.room ≡ table_len index.old + index.old.room }
 {
     let found = index.find(
-        hash.promote(),
-        |_: &usize| -> bool
+        hash,
+        |_: &Place<N>| -> bool
             ensures { result ≡ true }
         { true },
     );
@@ -122,33 +126,46 @@ fn take_under(index: &mut ReadyTable<usize>, hash: StarlarkHashValue)
 
 // The slot of a place, if a look-up near the home of its hash finds it.
 #[inline]
-fn near_slot(index: &ReadyTable<usize>, hash: StarlarkHashValue, place: usize) -> Option<usize>
+fn near_slot<N: PlaceNumber>(
+    index: &Placed<N>,
+    hash: StarlarkHashValue,
+    place: usize,
+) -> Option<usize>
     ensures { IfSome result (λ slot. member_at index.now slot ≡ Some (promoted (hash_number hash), place)) }
 {
     index.find_near(
-        hash.promote(),
-        |i: &usize| -> bool
+        hash,
+        |i: &Place<N>| -> bool
             ensures { result ≡ (i.now == place) }
-        { *i == place },
+        { i.is(place) },
     )
 }
 
 // Moves the place of a slot one down: the old members and the lower place are the new members and this place.
 #[inline]
-fn lower_slot(index: &mut ReadyTable<usize>, slot: usize, hash: StarlarkHashValue, place: usize)
+fn lower_slot<N: PlaceNumber>(
+    index: &mut Placed<N>,
+    slot: usize,
+    hash: StarlarkHashValue,
+    place: usize,
+)
     requires there { member_at index.old slot ≡ Some (promoted (hash_number hash), place) }
     requires above { 0 < place }
     ensures moved { IsPermutation ((promoted (hash_number hash), place - 1) ∷ members index.old) ((promoted (hash_number hash), place) ∷ members index.new) }
     ensures room { index.new.room ≡ index.old.room }
 {
     if let Some(item) = index.get_mut(slot) {
-        *item = place - 1;
+        *item = item.down();
     }
 }
 
 // Where few places stand above one that was taken out, moves them one down in turn, up to the first that is not found
 // near the home of its hash. The answer is the first place that did not move.
-fn lower_near<K, V>(index: &mut ReadyTable<usize>, entries: &VecMap<K, V>, place: usize) -> usize
+fn lower_near<N: PlaceNumber, K, V>(
+    index: &mut Placed<N>,
+    entries: &VecMap<K, V>,
+    place: usize,
+) -> usize
     requires taken { IsPermutation (moved_below entries.now.entries place (place + 1)) (members index.old) }
     requires within { place < length entries.now.entries }
     ensures above { place < result }
@@ -170,22 +187,25 @@ fn lower_near<K, V>(index: &mut ReadyTable<usize>, entries: &VecMap<K, V>, place
     len
 }
 
-// Moves each place one down that is above the last one that stays, in one pass over the index. There is no branch for a
-// place: which ones stand above could not be foreseen.
-fn lower_all(index: &mut ReadyTable<usize>, last: usize)
+// Moves each place one down that is above the last one that stays, in one pass over the index.
+fn lower_all<N: PlaceNumber>(index: &mut Placed<N>, last: usize)
     ensures members { members index.new ≡ map (λ m. (m.0, lowered last m.1)) (members index.old) }
     ensures room { table_len index.new + index.new.room ≡ table_len index.old + index.old.room }
 {
     index.replace_each(
-        |i: &usize| -> usize
+        |i: &Place<N>| -> Place<N>
             ensures { result ≡ lowered last i.now }
-        { *i - usize::from(*i > last) },
+        { i.lowered(last) },
     );
 }
 
 // Takes out a place of the list, whose entry is still there.
 #[inline(never)]
-fn remove_place<K, V>(index: &mut ReadyTable<usize>, entries: &VecMap<K, V>, place: usize)
+pub(super) fn remove_place<N: PlaceNumber, K, V>(
+    index: &mut Placed<N>,
+    entries: &VecMap<K, V>,
+    place: usize,
+)
     requires index { IsIndexOf entries.now.entries index.old }
     requires within { place < length entries.now.entries }
     ensures index { IsIndexOf (remove entries.now.entries place) index.new }

@@ -4,12 +4,13 @@ ghost use Rattle.std.specs.Fn.{CalledAt, TakesAt};
 ghost use Rattle.starlark_lists.specs.Entries.{Entry, entry_key};
 ghost use Rattle.starlark_lists.specs.Search.{CanSearch, Searches, keys_under};
 ghost use Rattle.std.specs.Option.{option_copied};
-ghost use Rattle.starlark_small.specs.Index.{IsIndexed, IsSound, index_room};
+ghost use Rattle.starlark_small.specs.Index.{IsIndexOf, IsIndexed, IsSound, index_room};
 ghost use Rattle.starlark_small.specs.Map.{query_match};
 
-use super::{Index, UNINDEXED};
+use super::place::{Place, PlaceNumber};
+use super::places::Placed;
+use super::{Index, PlaceTable, UNINDEXED};
 use starlark_hash::{Equivalent, Hashed, StarlarkHashValue};
-use starlark_table::ReadyTable;
 use starlark_vecmap::VecMap;
 
 impl Index {
@@ -19,25 +20,16 @@ impl Index {
         &self,
         entries: &VecMap<K, V>,
         hash: StarlarkHashValue,
-        mut eq: F,
+        eq: F,
     ) -> Option<usize>
         requires indexed { IsIndexed entries.now.entries self.now }
         requires callable { CanSearch F.FnMut (keys_under hash entries.now.entries) eq }
         ensures { (last : F) × Searches F.FnMut (keys_under hash entries.now.entries) eq result last }
     {
-        let Some(table) = self.table.get() else {
-            return entries.get_index_of_hashed_raw(hash, eq);
-        };
-        table
-            .find_item(
-                hash.promote(),
-                |i: &usize| -> bool
-                    requires within { i.now < length entries.now.entries }
-                    requires takes { (e : Entry K V) → slice_get entries.now.entries i.now ≡ Some e → TakesAt F.FnMut eq (entry_key e) }
-                    ensures { (e : Entry K V) → slice_get entries.entry.now.entries i.now ≡ Some e → CalledAt F.FnMut eq.entry (entry_key e) result eq.exit }
-                { eq(entries.get_unchecked(*i).0.into_key()) },
-            )
-            .copied()
+        match self.table.get() {
+            Some(table) => table.find(entries, hash, eq),
+            None => entries.get_index_of_hashed_raw(hash, eq),
+        }
     }
 
     /// The place of a single list under the query's hash whose key the query is equivalent to.
@@ -73,9 +65,33 @@ impl Index {
 
     /// The table of the places, where there is one.
     #[inline]
-    pub(crate) fn table(&self) -> Option<&ReadyTable<usize>>
+    pub(crate) fn table(&self) -> Option<&PlaceTable>
         ensures { option_copied result ≡ self.now }
     {
         self.table.get()
     }
+}
+
+// A place under the hash whose key `eq` accepts, in a table of places of one width.
+#[inline(always)]
+pub(super) fn find_in<N: PlaceNumber, K, V, F: FnMut(&K) -> bool>(
+    table: &Placed<N>,
+    entries: &VecMap<K, V>,
+    hash: StarlarkHashValue,
+    mut eq: F,
+) -> Option<usize>
+    requires index { IsIndexOf entries.now.entries table.now }
+    requires callable { CanSearch F.FnMut (keys_under hash entries.now.entries) eq }
+    ensures { (last : F) × Searches F.FnMut (keys_under hash entries.now.entries) eq result last }
+{
+    let _number = hash.get();
+    let place = table.find_item(
+        hash,
+        |i: &Place<N>| -> bool
+            requires within { i.now < length entries.now.entries }
+            requires takes { (e : Entry K V) → slice_get entries.now.entries i.now ≡ Some e → TakesAt F.FnMut eq (entry_key e) }
+            ensures { (e : Entry K V) → slice_get entries.entry.now.entries i.now ≡ Some e → CalledAt F.FnMut eq.entry (entry_key e) result eq.exit }
+        { eq(entries.get_unchecked(i.get()).0.into_key()) },
+    )?;
+    Some(place.get())
 }

@@ -13,6 +13,6 @@ returns-clause-room g c =
     let left = remove es c.args.place in
     let was = sym c.self.view_is ∙ sym c.get_mut.ensures.value ∙ ap option_copied_mut c.in-Some.is in
     let before = IsIndexOf-len es c.in-Some.table.now (subst (λ o. IsIndexed es o) was c.requires.indexed) in
-    let after = IsIndexOf-len left c.remove_place.new.index c.remove_place.ensures.index in
-    subst⁻¹ (λ o. 1 + index_room (length es) o ≤ c.remove_place.new.index.room) was
+    let after = IsIndexOf-len left c.remove_place.new.self c.remove_place.ensures.index in
+    subst⁻¹ (λ o. 1 + index_room (length es) o ≤ c.remove_place.new.self.room) was
     (omega (arith, before, after, length-remove es c.args.place c.requires.within, c.remove_place.ensures.room))

@@ -45,8 +45,8 @@ take_under-requires g c =
 
 pub loop-i-preserved : goal.loop-i-preserved
 loop-i-preserved g c = record {
-  left = left-taken c.args.entries.now.entries c.loop-i.i (deref_entry c.get_unchecked.result) c.loop-i.table c.take_under.new.index c.get_unchecked.ensures c.loop-i.invariant.left
-      (subst (λ k. IsPermutation (hashes_in c.loop-i.table) (promoted k.0 ∷ hashes_in c.take_under.new.index)) c.hash-hash.ensures c.take_under.ensures.rest);
+  left = left-taken c.args.entries.now.entries c.loop-i.i (deref_entry c.get_unchecked.result) c.loop-i.table c.take_under.new.self c.get_unchecked.ensures c.loop-i.invariant.left
+      (subst (λ k. IsPermutation (hashes_in c.loop-i.table) (promoted k.0 ∷ hashes_in c.take_under.new.self)) c.hash-hash.ensures c.take_under.ensures.rest);
   room = omega (arith, c.take_under.ensures.room, c.loop-i.invariant.room);
 }
 

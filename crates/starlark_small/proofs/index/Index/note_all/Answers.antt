@@ -6,7 +6,7 @@ use Rattle.starlark_hash.specs.HashValue.{promoted}
 use Rattle.starlark_table.specs.Table.{members}
 use Rattle.starlark_vecmap.specs.EntryList.{deref_entry}
 use Rattle.starlark_small.specs.Index.{IsIndexOf, IsIndexed, index_room}
-use Rattle.starlark_small.proofs.Keeping.{IsIndexOf-push, room-push, take-more}
+use Rattle.starlark_small.proofs.Keeping.{IsIndexOf-len, IsIndexOf-push, room-push, take-more}
 use Rattle.starlark_small.proofs.index.Index.note_all.Goals as goal
 
 pub loop-i-init : goal.loop-i-init
@@ -17,6 +17,13 @@ loop-i-init g c =
       room = subst⁻¹ (λ o. index_room 0 o ≤ 0 + c.in-Some.table.now.room) was (omega arith);
     }
 
+pub note-requires-clause-within : goal.note-requires-clause-within
+note-requires-clause-within g c =
+    let es = c.args.entries.now.entries in
+    let i = c.loop-i.i in
+    let all = IsIndexOf-len (take i es) c.loop-i.table c.loop-i.invariant.index in
+    omega (arith, length-take i es, all, c.loop-i.invariant.room, c.requires.room, c.loop-i-test.true, c.len-i-end.ensures.len)
+
 pub loop-i-preserved : goal.loop-i-preserved
 loop-i-preserved g c =
     let es = c.args.entries.now.entries in
@@ -25,11 +32,10 @@ loop-i-preserved g c =
     let old = c.loop-i.invariant.index in
     let h = c.hash-hash.ensures in
     let size : i ≡ length (take i es) = omega (arith, length-take i es) in
-    let p : c.promote.result ≡ promoted e.0.hash.0 = c.promote.ensures.promoted ∙ ap (λ k. promoted k.0) h in
-    let added = subst (λ k. IsPermutation ((k, i) ∷ members c.loop-i.table) (members c.insert_reserved.new.self)) p c.insert_reserved.ensures.added in
-    let room = room-push (take i es) c.loop-i.table c.insert_reserved.new.self (promoted e.0.hash.0, i) old added c.insert_reserved.ensures.room in
+    let added = subst (λ k. IsPermutation ((promoted k.0, i) ∷ members c.loop-i.table) (members c.note.new.self)) h c.note.ensures.added in
+    let room = room-push (take i es) c.loop-i.table c.note.new.self (promoted e.0.hash.0, i) old added c.note.ensures.room in
     record {
-      index = subst (λ l. IsIndexOf l c.insert_reserved.new.self) (sym (take-more i es e c.get_unchecked.ensures))
-          (IsIndexOf-push (take i es) e i c.loop-i.table c.insert_reserved.new.self size old (subst (λ k. k.0 < 2 ^ 32) h c.promote.ensures.fits) added);
+      index = subst (λ l. IsIndexOf l c.note.new.self) (sym (take-more i es e c.get_unchecked.ensures))
+          (IsIndexOf-push (take i es) e i c.loop-i.table c.note.new.self size old (subst (λ k. k.0 < 2 ^ 32) h c.note.ensures.fits) added);
       room = omega (arith, room, c.loop-i.invariant.room);
     }

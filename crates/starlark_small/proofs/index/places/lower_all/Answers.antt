@@ -6,9 +6,9 @@ use Rattle.starlark_small.proofs.Moving.{lowered-each}
 use Rattle.starlark_small.proofs.index.places.lower_all.Goals as goal
 
 pub returns-clause-members : goal.returns-clause-members
-returns-clause-members c =
+returns-clause-members g c =
     lowered-each _ c.args.last _ c.replace_each.ensures.replaced.0 _ _ (λ x y next called. (search (rules, of_calls, called), search (rules, of_calls, called))) c.replace_each.ensures.replaced.1
 
 pub returns-clause-room : goal.returns-clause-room
-returns-clause-room c =
+returns-clause-room g c =
     omega (arith, c.replace_each.ensures.room, ap length (lowered-each _ c.args.last _ c.replace_each.ensures.replaced.0 _ _ (λ x y next called. (search (rules, of_calls, called), search (rules, of_calls, called))) c.replace_each.ensures.replaced.1) ∙ length-map (members c.args.index.now) (λ m. (m.0, lowered c.args.last m.1)))
