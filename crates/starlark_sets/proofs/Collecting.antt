@@ -84,20 +84,13 @@ module _ {T : Type 0} (eq : T → T → Bool) (laws : IsEquivalence eq) (feeds :
   entries_paired [] = refl
   entries_paired (x ∷ xs) = ap (λ l. own_element feeds x ∷ l) (entries_paired xs)
 
-  or_comm : (a b : Bool) → (a || b) ≡ (b || a)
-  or_comm true true = refl
-  or_comm true false = refl
-  or_comm false true = refl
-  or_comm false false = refl
-
   has_all : (xs : List T) (es : Elements T) (element : T)
-      → is_some (found (eq element) (own_hash feeds element) (insert_all eq es (map (own_element feeds) xs))) ≡ (is_member eq xs element || is_some (found (eq element) (own_hash feeds element) es))
+      → is_some (found (eq element) (own_hash feeds element) (insert_all eq es (map (own_element feeds) xs))) ≡ (is_some (found (eq element) (own_hash feeds element) es) || is_member eq xs element)
   has_all xs es element =
       ap (λ l. is_some (found (eq element) (own_hash feeds element) (insert_all eq es l))) (entries_paired xs)
       ∙ ap is_some (looked_all eq laws feeds alike (map paired xs) es element)
       ∙ is_some-update_all laws element (λ k. found (eq k) (own_hash feeds k) es) (map paired xs)
       ∙ ap (λ l. is_some (found (eq element) (own_hash feeds element) es) || is_member eq l element) (keys_paired xs)
-      ∙ or_comm (is_some (found (eq element) (own_hash feeds element) es)) (is_member eq xs element)
 
   module _ {S U : Type 0} (steps : S → Option T → S → Type 0) (becomes : U → S → Type 0) (iter : U) where
     pub has_extended : {E : Type 0} (r : Result (Unit {0}) E) (old new : Set T) → Extends eq (own_element feeds) steps becomes iter old.entries new.entries r
@@ -106,7 +99,7 @@ module _ {T : Type 0} (eq : T → T → Bool) (laws : IsEquivalence eq) (feeds :
         let in_all = went.inserts in (
           went.it,
           went.made,
-          run_of steps went.it in_all.items (λ xs. (element : T) → contains eq feeds new element ≡ (is_member eq xs element || contains eq feeds old element)) in_all.ended
+          run_of steps went.it in_all.items (λ xs. (element : T) → contains eq feeds new element ≡ (contains eq feeds old element || is_member eq xs element)) in_all.ended
               (λ element. ap (λ l. is_some (found (eq element) (own_hash feeds element) l)) in_all.entries ∙ has_all in_all.items old.entries element),
         )
     has_extended (Err e) old new went = tt
@@ -115,9 +108,9 @@ module _ {T : Type 0} (eq : T → T → Bool) (laws : IsEquivalence eq) (feeds :
     has_collected remaining set has = (
       has.it,
       has.made,
-      run_of steps has.it has.items (λ xs. (element : T) → contains eq feeds set element ≡ (is_member eq xs element || false)) has.drained
+      run_of steps has.it has.items (λ xs. (element : T) → contains eq feeds set element ≡ is_member eq xs element) has.drained
           (λ element. ap (λ l. is_some (found (eq element) (own_hash feeds element) l)) has.entries ∙ has_all has.items [] element
-          ∙ ap (λ o. is_member eq has.items element || is_some o) (none_found {K = T} {V = Unit {0}} [] refl (eq element) (own_hash feeds element))),
+          ∙ ap (λ o. is_some o || is_member eq has.items element) (none_found {K = T} {V = Unit {0}} [] refl (eq element) (own_hash feeds element))),
     )
 
 -- elements that were given under their own hashes stay so

@@ -27,7 +27,7 @@ module _ {T S U : Type 0} (eq : T → T → Bool) (feeds : T → HashWrites) (st
   -- the set has each of the iterator's items, and of all others what it had before. It speaks of a run, as the kit's clauses on
   -- iterators do, so that callers' proofs find the items
   abbrev pub HasEach : (T → Bool) → Set T → Type 0
-  HasEach before s = (it : S) × becomes iter it × WholeRun steps it (λ p. (element : T) → contains eq feeds s element ≡ (is_member eq p.items element || before element))
+  HasEach before s = (it : S) × becomes iter it × WholeRun steps it (λ p. (element : T) → contains eq feeds s element ≡ (before element || is_member eq p.items element))
 
 -- if the iterator's elements stand under their own hashes, the set's do
 abbrev pub KeepsOwn : {T S U : Type 0} → (S → Option (Hashed T) → S → Type 0) → (U → S → Type 0) → U → Set T → Type 0

@@ -10,6 +10,7 @@ use Rattle.starlark_hash.specs.Hasher.{own_hash}
 use Rattle.starlark_lists.specs.Sorting.{key_lt, sorted_by_key}
 use Rattle.starlark_lists.proofs.EntryLemmas.{length-set_value_at, set_value_at-key}
 use Rattle.starlark_lists.proofs.SortingLemmas.{IsPermutation-sorted_by}
+use Rattle.starlark_small.specs.Calling.{AreOwnEntries}
 use Rattle.starlark_small.specs.Collect.{insert_all}
 use Rattle.starlark_sorted.specs.Sorted.{AreOwn}
 
@@ -31,3 +32,13 @@ module _ {K V A : Type 0} (eq : K → K → Bool) (feeds : K → HashWrites) (it
       subst (AreOwn feeds) (sym sorted)
       (All-permutation (λ e. entry_hash e ≡ own_hash feeds (entry_key e)) source (sorted_by_key cmp source) (IsPermutation-sorted_by (key_lt cmp) source)
       (subst (AreOwn feeds) (sym made) (inserted [] xs (λ k d inside. absurd (omega arith)))))
+
+-- the callers' closed word says the same
+module _ {K V : Type 0} (feeds : K → HashWrites) (es : List (Entry K V)) where
+  pub opened : AreOwnEntries feeds es → AreOwn feeds es
+  unfolding AreOwnEntries
+  opened own = own
+
+  pub shut : AreOwn feeds es → AreOwnEntries feeds es
+  unfolding AreOwnEntries
+  shut own = own

@@ -1,10 +1,14 @@
 //! `SortedMap`s made of other maps, of an iterator's items, and of clones.
-ghost use Rattle.std.specs.Prelude.{◌≡◌, length, nat_lt, IsOk, IfOk, IfErr};
+ghost use Rattle.std.specs.Prelude.{◌≡◌, is_some, length, nat_lt, None, IsOk, IsTrue, IfOk, IfErr};
+ghost use Rattle.std.specs.Hash.{HashWrites};
 ghost use Rattle.std.specs.Iterator.{IsFiniteIterable};
 ghost use Rattle.std.specs.List.{AllZip};
+ghost use Rattle.starlark_hash.specs.declared.hash_value.StarlarkHashValue.{StarlarkHashValue};
+ghost use Rattle.starlark_lists.specs.Finding.{found};
 ghost use Rattle.starlark_lists.specs.Sorting.{Ascends};
+ghost use Rattle.starlark_small.specs.Calling.{IsSameAt};
 ghost use Rattle.starlark_small.specs.Clone.{IsEqualClone};
-ghost use Rattle.starlark_small.specs.Collect.{own_entry};
+ghost use Rattle.starlark_small.specs.Collect.{FindsLast, own_entry};
 ghost use Rattle.starlark_small.specs.Index.{unindexed};
 ghost use Rattle.starlark_small.specs.Map.{KeepsMemory};
 ghost use Rattle.starlark_vec2.specs.Collect.{IsLawfulClone};
@@ -24,6 +28,7 @@ impl<K: Ord + Hash, V> SortedMap<K, V> {
     /// index are those of the map, done or refused.
     pub fn from_ordered_map(map: OrderedMap<K, V>) -> Result<Self, OrderedMap<K, V>>
         ensures sorted { IfOk result (IsSortedOf K.cmp map) }
+        ensures same { IfOk result (IsSameAt K.eq map) }
         ensures handed_back { IfErr result (λ source. source.entries ≡ map.entries) }
         ensures kept { IfErr result (KeepsMemory map) }
         ensures succeeds { Ascends K.cmp map.entries → IsOk result }
@@ -39,6 +44,7 @@ impl<K: Ord + Hash, V> SortedMap<K, V> {
     #[tactic(auto, using(crate::proofs::Ascending::sorted_ascends))]
     pub fn from_small_map(map: SmallMap<K, V>) -> Result<Self, SmallMap<K, V>>
         ensures sorted { IfOk result (IsSortedOf K.cmp map) }
+        ensures same { IfOk result (IsSameAt K.eq map) }
         ensures handed_back { IfErr result (λ source. source.entries ≡ map.entries) }
         ensures kept { IfErr result (KeepsMemory map) }
         ensures succeeds { Ascends K.cmp map.entries → IsOk result }
@@ -62,6 +68,7 @@ impl<K: Ord + Hash + Drop, V: Drop> SortedMap<K, V> {
         iter: I,
     ) -> Result<Self, AllocError>
         requires { IsFiniteIterable I.into_iter_gives I.IntoIter.can_next I.IntoIter.remaining iter }
+        ensures found { IfOk result (FindsLast K.eq K.hash_input I.IntoIter.next_gives I.into_iter_gives iter (λ _. None)) }
         ensures map { IfOk result (CollectsSorted K.eq K.cmp (own_entry K.hash_input) I.IntoIter.next_gives I.into_iter_gives I.IntoIter.remaining iter) }
         ensures own { IfOk result (λ map. AreOwn K.hash_input map.entries) }
         ensures succeeds { GivesNothing I.into_iter_gives I.IntoIter.next_gives I.IntoIter.remaining iter → IsOk result }
@@ -83,6 +90,8 @@ impl<K: Ord + Hash + Clone, V: Clone> SortedMap<K, V> {
         requires { IsEqualClone K.eq K.is_clone }
         ensures entries { IfOk result (λ map. AllZip (IsEntryClone K.is_clone V.is_clone) self.now.entries map.entries) }
         ensures same { IfOk result (λ map. IsLawfulClone K.is_clone → IsLawfulClone V.is_clone → map.entries ≡ self.now.entries) }
+        ensures found { IfOk result (λ map. (under : StarlarkHashValue) (key : K) → is_some (found (K.eq key) under map.entries) ≡ is_some (found (K.eq key) under self.now.entries)) }
+        ensures own { IfOk result (λ map. (feeds : K → HashWrites) → ((x y : K) → IsTrue (K.eq x y) → feeds x ≡ feeds y) → AreOwn feeds self.now.entries → AreOwn feeds map.entries) }
         ensures capacity { IfOk result (λ map. map.capacity ≡ length self.now.entries) }
         ensures indexed { IfOk result (λ map. map.indexed ≡ nat_lt unindexed (length self.now.entries)) }
         ensures succeeds { length self.now.entries ≡ 0 → IsOk result }
