@@ -1,16 +1,17 @@
 -- When the look-ups of two lists of pairs agree.
 use Rattle.std.proofs.Common.{◌≡◌, ℕ, Bool, true, false, cond, List, [], ◌∷◌, Option, Some, None, refl, sym, ap, ◌∙◌, arith, count_by, is_some}
 use Rattle.std.specs.Cmp.{IsEquivalence}
-use Rattle.std.specs.List.{AllZip, list_any}
-use Rattle.std.specs.Map.{keys_of, lookup}
-use Rattle.std.specs.Option.{option_or}
+use Rattle.std.specs.List.{AllZip}
+use Rattle.std.specs.Map.{keys_of, lookup, update_all}
+use Rattle.std.specs.Set.{is_member}
+use Rattle.std.proofs.lemmas.Map.Made.{is_some-update_all}
 use Rattle.std.specs.Iterator.{Drains, Yields}
 use Rattle.std.specs.Prelude.{◌||◌, ◌&&◌}
 use Rattle.starlark_unordered.specs.Bag.{same_bag}
 use Rattle.starlark_unordered.specs.BagLaws.{counts_from_bag, pair_equiv}
 use Rattle.starlark_unordered.specs.Calling.{found}
 use Rattle.starlark_unordered.specs.Clone.{IsEqualClone, IsPairClone}
-use Rattle.starlark_unordered.specs.Collect.{last_value, StepsBeside}
+use Rattle.starlark_unordered.specs.Collect.{StepsBeside}
 use Rattle.starlark_unordered.specs.Pairs.{pair_eq}
 use Rattle.starlark_unordered.specs.Unit.{same_unit, unit_equiv}
 use Rattle.starlark_unordered.proofs.AddedWritten.{none_counted}
@@ -70,17 +71,6 @@ module _ {T : Type 0} (eq : T → T → Bool) (laws : IsEquivalence eq) where
       let test : (λ (p : T × Unit {0}). pair_eq eq same_unit (k, tt) p) ≡ (λ p. eq k p.0) = λ i p. and_true (eq k p.0) i in
       agree (eq k) ps qs (ap (λ t. count_by t ps) (sym test) ∙ counts ∙ ap (λ t. count_by t qs) test)
 
-  -- what is among the items of an iterator
-  last_any : (t : T → Bool) (xs : List (T × Unit {0})) → is_some (last_value t xs) ≡ list_any t (keys_of xs)
-  last_any t [] = refl
-  last_any t (x ∷ xs) = last_any_step (last_value t xs) (t x.0) (list_any t (keys_of xs)) (last_any t xs)
-    where
-      last_any_step : (o : Option (Unit {0})) (b later : Bool) → is_some o ≡ later → is_some (option_or o (cond b (Some tt) None)) ≡ (b || later)
-      last_any_step None true later e = refl
-      last_any_step None false later e = e
-      last_any_step (Some u) true later e = refl
-      last_any_step (Some u) false later e = e
-
   -- the items of an iterator that gives each beside `()`
   yields-beside : {S : Type 0} (steps : S → Option T → S → Type 0) (s t : S) (xs : List (T × Unit {0})) → Yields (StepsBeside steps) s xs t → Yields steps s (keys_of xs) t
   yields-beside steps s t [] is = is
@@ -89,5 +79,6 @@ module _ {T : Type 0} (eq : T → T → Bool) (laws : IsEquivalence eq) where
   pub drains-beside : {S : Type 0} (steps : S → Option T → S → Type 0) (s : S) (xs : List (T × Unit {0})) → Drains (StepsBeside steps) s xs → Drains steps s (keys_of xs)
   drains-beside steps s xs d = (d.0, (d.1.0, yields-beside steps s d.1.0 xs d.1.1, d.1.2))
 
-  pub found-each : (s : List (T × Unit {0})) (xs : List (T × Unit {0})) (k : T) → found (eq k) s ≡ last_value (eq k) xs → is_some (found (eq k) s) ≡ list_any (eq k) (keys_of xs)
-  found-each s xs k is = ap is_some is ∙ last_any (eq k) xs
+  -- what is among the items of an iterator
+  pub found-each : (s : List (T × Unit {0})) (xs : List (T × Unit {0})) (k : T) → found (eq k) s ≡ update_all eq (λ _. None) xs k → is_some (found (eq k) s) ≡ is_member eq (keys_of xs) k
+  found-each s xs k is = ap is_some is ∙ is_some-update_all laws k (λ _. None) xs

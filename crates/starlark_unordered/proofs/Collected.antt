@@ -1,11 +1,14 @@
 -- Pairs that are put in one after the other.
-use Rattle.std.proofs.Common.{◌≡◌, ℕ, ◌≤◌, Bool, true, false, cond, List, [], ◌∷◌, ◌++◌, Option, Some, None, refl, subst, ap, ◌∙◌, arith, count_by, is_some, IsPermutation}
+use Rattle.std.proofs.Common.{◌≡◌, ℕ, ◌≤◌, Bool, true, false, cond, List, [], ◌∷◌, ◌++◌, Option, Some, None, refl, sym, subst, ap, ◌∙◌, arith, count_by, is_some, IsPermutation}
 use Rattle.std.specs.Cmp.{IsEquivalence}
-use Rattle.std.specs.Map.{keys_of, lookup, set_value}
-use Rattle.std.specs.Option.{option_or}
+use Rattle.std.proofs.iter.SoFar.{exit_by}
+use Rattle.std.specs.Iterator.{Drains}
+use Rattle.std.specs.Iterator.Runs.{WholeRun}
+use Rattle.std.specs.Map.{keys_of, lookup, set_value, update_all}
 use Rattle.std.proofs.lemmas.List.Sorted.{sum_by-IsPermutation}
 use Rattle.std.proofs.lemmas.Map.{keys-set_value}
-use Rattle.starlark_unordered.specs.Collect.{InsertsAll, last_value}
+use Rattle.starlark_unordered.specs.Calling.{found}
+use Rattle.starlark_unordered.specs.Collect.{InsertsAll}
 use Rattle.starlark_unordered.specs.Pairs.{with_pair, HasDistinctKeys}
 use Rattle.starlark_unordered.proofs.AddedWritten.{none_counted}
 use Rattle.starlark_unordered.proofs.Callers.{lookup-inserted}
@@ -47,27 +50,20 @@ module _ {K V : Type 0} (eq : K → K → Bool) (laws : IsEquivalence eq) where
       let o = put_step key value old (lookup (eq key) old) refl distinct k in
       omega (arith, sums, o)
 
-  last_step : (q : K) (p : K × V) (last was : Option V) → option_or last (cond (eq p.0 q) (Some p.1) was) ≡ option_or (option_or last (cond (eq q p.0) (Some p.1) None)) was
-  last_step q p (Some v) was = refl
-  last_step q p None was = ap (λ b. cond b (Some p.1) was) (laws.symm p.0 q) ∙ split (eq q p.0)
-    where
-      split : (b : Bool) → cond b (Some p.1) was ≡ option_or (cond b (Some p.1) None) was
-      split true = refl
-      split false = refl
-
   -- each key has the last of its values, or what it had
-  pub found-inserted : (ps old new : List (K × V)) → HasDistinctKeys eq old → InsertsAll eq old ps new → (q : K) → lookup (eq q) new ≡ option_or (last_value (eq q) ps) (lookup (eq q) old)
+  found-inserted : (ps old new : List (K × V)) → HasDistinctKeys eq old → InsertsAll eq old ps new → (q : K) → lookup (eq q) new ≡ update_all eq (λ k. lookup (eq k) old) ps q
   found-inserted [] old new distinct is q = ap (lookup (eq q)) is
   found-inserted (p ∷ ps) old new distinct (next, moves, rest) q =
       let apart = distinct-put p.0 p.1 old next distinct moves in
-      found-inserted ps next new apart rest q
-      ∙ ap (option_or (last_value (eq q) ps)) (lookup-inserted eq laws p.0 p.1 old next moves apart q)
-      ∙ last_step q p (last_value (eq q) ps) (lookup (eq q) old)
-
-  or_none : (o : Option V) → option_or o None ≡ o
-  or_none None = refl
-  or_none (Some v) = refl
+      found-inserted ps next new apart rest q ∙ (λ i. update_all eq (λ k. lookup-inserted eq laws p.0 p.1 old next moves apart k i) ps q)
 
   -- and of no pairs the last of its values
-  pub found-collected : (ps new : List (K × V)) → InsertsAll eq [] ps new → (q : K) → lookup (eq q) new ≡ last_value (eq q) ps
-  found-collected ps new put q = found-inserted ps [] new (λ k. omega arith) put q ∙ or_none (last_value (eq q) ps)
+  pub found-collected : (ps : List (K × V)) (new : List (K × V)) → InsertsAll eq [] ps new → (q : K) → found (eq q) new ≡ update_all eq (λ _. None) ps q
+  unfolding found
+  found-collected ps new put q = found-inserted ps [] new (λ k. omega arith) put q
+
+-- the run of an iterator that gave these items and ended
+pub run_of : {T A : Type 0} (steps : T → Option A → T → Type 0) (it : T) (xs : List A) (P : List A → Type 0) → Drains steps it xs → P xs → WholeRun steps it (λ p. P p.items)
+run_of steps it xs P drained holds =
+    let run = exit_by steps (xs, drained.1.1) drained.0 drained.1.2 in
+    (run.0, run.1, run.2, subst P (sym run.3.0) holds)

@@ -1,8 +1,9 @@
-use Rattle.std.proofs.Common.{arith, ◌≡◌, subst, sym, []}
+use Rattle.std.proofs.Common.{arith, ◌≡◌, subst, [], None}
+use Rattle.std.specs.Map.{update_all}
+use Rattle.starlark_unordered.specs.Calling.{get}
 use Rattle.starlark_unordered.specs.Collect.{InsertsAll}
 use Rattle.starlark_unordered.specs.Pairs.{pairs_of}
-use Rattle.starlark_unordered.proofs.Callers.{found_is}
-use Rattle.starlark_unordered.proofs.Collected.{found-collected}
+use Rattle.starlark_unordered.proofs.Collected.{found-collected, run_of}
 use Rattle.starlark_unordered.proofs.unordered_map.UnorderedMap.from_iter.Goals as goal
 
 pub returns-clause-map : goal.returns-clause-map
@@ -26,8 +27,8 @@ returns-clause-found g c =
     let eq = g.K.PartialEq.eq in
     let made = subst (λ l. InsertsAll eq l put.0 (pairs_of c.insert_items.new.self)) none put.2 in (
       c.into_iter-items.result,
-      put.0,
       c.into_iter-items.ensures.into_iter_gives,
-      put.1,
-      λ key. sym (found_is (eq key) (pairs_of c.insert_items.new.self) _ (sym (found-collected eq g.met.K.Eq.laws put.0 (pairs_of c.insert_items.new.self) made key))),
+      run_of g.I.IntoIter.Iterator.next_gives c.into_iter-items.result put.0
+          (λ xs. (key : g.row.K.Denot) → get eq c.insert_items.new.self key ≡ update_all eq (λ _. None) xs key) put.1
+          (found-collected eq g.met.K.Eq.laws put.0 (pairs_of c.insert_items.new.self) made),
     )
