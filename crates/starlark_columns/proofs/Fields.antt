@@ -1,6 +1,5 @@
 -- The machine's values of the types with pointers, which are one word or nothing. Assumes `Logic`.
-use Rattle.starlark_columns.proofs.Walking.{◌≡◌, List, [], ◌∷◌, ◌++◌, refl, ap, ◌∙◌, lit<, Ura, ent, emp, sep, ty_ptr, ty_struct, tcons, tnil, Val, vstruct, vcons, vnil, of_list, has_ty, WT, ‵, ◌$◌, ◌∵◌, !, qed, move, fjoin, feq_i, fpack, done, Logic, sem, Is, RattleType, Valss, Ptr, block_ptr, null_ptr, ptr_val, makes_shadow, nothing, shape, Struct, within, Tuple, tuple_type, Ghosts}
-use Rattle.std.proofs.Common.{T}
+use Rattle.starlark_columns.proofs.Walking.{◌≡◌, List, [], ◌∷◌, ◌++◌, refl, ap, ◌∙◌, Ura, ent, emp, sep, Val, vstruct, vcons, vnil, of_list, ‵, ◌$◌, ◌∵◌, !, qed, move, fjoin, feq_i, fpack, done, Logic, sem, Is, RattleType, Valss, makes_shadow, nothing, shape, Struct, within, Tuple, tuple_type, Ghosts}
 use denote.Struct.Declared as Declared
 pub use Rattle.starlark_columns.proofs.Addresses.{word, word_good, address_made, address_told}
 use Rattle.starlark_columns.specs.contracts.block.Claim as claim
