@@ -41,9 +41,12 @@ impl<R: Read, W: Write> Read for PromptReader<'_, R, W> {
 }
 
 impl<W: Write> Write for SharedWriter<'_, W> {
+    #[inline]
     fn write(&mut self, buf: &[u8]) -> io::Result<usize> {
         let mut writer = self.writer.try_borrow_mut()?;
-        writer.write(buf)
+        // The count alone outlives the borrow: a whole `Result` would be taken apart by its bytes.
+        let count = writer.write(buf)?;
+        Ok(count)
     }
 
     fn flush(&mut self) -> io::Result<()> {

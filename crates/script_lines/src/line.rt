@@ -110,6 +110,7 @@ fn fields_in(text: &str) -> Fields<'_>
 }
 
 // What stands before the first space and behind it.
+#[inline(always)]
 fn cut(text: &str) -> Option<(&str, &str)>
     ensures { MatchOption result (fields_of text.now ≡ text.now ∷ []) (λ parts. fields_of text.now ≡ parts.0.now ∷ fields_of parts.1.now) }
 {

@@ -34,12 +34,14 @@ impl<W: Write> fmt::Write for Output<'_, W> {
     ghost write_str_gives = { λ s text t. (t.writer.ghost_name ≡ s.writer.ghost_name)
         × Appends (W.contents s.writer.now) (W.contents t.writer.now) text };
 
+    #[inline]
     fn write_str(&mut self, text: &str) -> fmt::Result {
         write_bytes(self.writer, text.as_bytes())
     }
 }
 
 // Writes all the bytes. Any failed write ends it, and so does one that takes none of them.
+#[inline]
 fn write_bytes<W: Write>(writer: &mut W, bytes: &[u8]) -> fmt::Result
     ensures { OnOk result (Appends (W.contents writer.old) (W.contents writer.new) bytes.now) }
 {

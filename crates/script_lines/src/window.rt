@@ -12,7 +12,7 @@ use std::marker::Model;
 const LONGEST: usize = 1000;
 
 // The most bytes that are held, and so that one read gives.
-const ROOM: usize = 4096;
+const ROOM: usize = 16_384;
 
 /// The line that a window begins with.
 #[derive(Clone, Copy)]
