@@ -174,6 +174,9 @@ fn lower_near<N: PlaceNumber, K, V>(
     ensures room { table_len index.new + index.new.room ≡ table_len index.old + index.old.room }
 {
     let len = entries.len();
+    if place + 1 == len {
+        return len;
+    }
     if len - place > index.len().saturating_add(index.room()) / 6 {
         return place + 1;
     }
