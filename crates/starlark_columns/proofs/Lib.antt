@@ -11,6 +11,7 @@ mod ColumnOpens
 mod PairParts
 mod PerhapsThere
 mod EntryOut
+mod ByteRows
 pub mod Fronts
 pub mod NamedClose
 pub mod Betweens

@@ -13,4 +13,6 @@ pub mod ColumnLends
 pub mod Lent
 pub mod Perhaps
 pub mod PerhapsLends
+pub mod Bytes
+pub mod BytesLends
 pub mod formers

@@ -3,6 +3,7 @@
 
 pub mod between;
 mod block;
+pub mod bytes;
 pub mod column;
 pub mod front;
 mod held;
@@ -13,6 +14,7 @@ pub mod perhaps;
 pub mod row;
 
 pub use block::{Address, Spot};
+pub use bytes::Bytes;
 pub use column::Column;
 pub use loan::Loan;
 pub use perhaps::Perhaps;

@@ -15,7 +15,7 @@ module _ {T : Type 0} where
   abbrev pub laid : List (Option (ℕ × T)) → ℕ → Table T
   laid slots len = record { slots = slots; room = limit (length slots) - len }
 
-module _ {T : Type 0} (slots : List (Option (ℕ × T))) (tags : List ℕ) (len mask : ℕ) (before : IsSound slots tags len mask) (t : Table T) (view : laid slots len ≡ t) where
+module _ {T : Type 0} (slots : List (Option (ℕ × T))) (tags : List ℕ) (len : ℕ) (before : IsSound slots tags len) (t : Table T) (view : laid slots len ≡ t) where
   -- members and room together fill the load
   whole : table_len t + t.room ≡ limit (length slots)
   whole = let counted = before.counted in let load = before.load in subst (λ t. table_len t + t.room ≡ limit (length slots)) view (omega arith)
@@ -24,11 +24,11 @@ module _ {T : Type 0} (slots : List (Option (ℕ × T))) (tags : List ℕ) (len 
   counted = before.counted ∙ ap table_len view
 
   pub place_for_one : 0 < t.room → (q : ℕ) × (q < length slots) × (at slots q ≡ None)
-  place_for_one some = let full = whole in sound-empty_slot slots tags len mask before (omega arith)
+  place_for_one some = let full = whole in sound-empty_slot slots tags len before (omega arith)
 
   -- ---- a member more
   pub record Inserted (m : ℕ × T) (new : List (Option (ℕ × T))) (tags' : List ℕ) : Type 0 where
-    pub sound : IsSound new tags' (len + 1) mask
+    pub sound : IsSound new tags' (len + 1)
     pub added : IsPermutation (m ∷ members t) (filled new)
     pub room : length (filled new) + (limit (length new) - (len + 1)) ≡ table_len t + t.room
 
@@ -45,7 +45,6 @@ module _ {T : Type 0} (slots : List (Option (ℕ × T))) (tags : List ℕ) (len 
         sound = record {
           counted = omega arith;
           load = rw sized (omega arith);
-          masked = rw sized before.masked;
           doubled = rw sized before.doubled;
           in_place = in_place;
           tagged = tagged;
@@ -57,7 +56,7 @@ module _ {T : Type 0} (slots : List (Option (ℕ × T))) (tags : List ℕ) (len 
   -- ---- a member less
   pub record Removed (m : ℕ × T) (new : List (Option (ℕ × T))) (tags' : List ℕ) : Type 0 where
     pub some : 1 ≤ len
-    pub sound : IsSound new tags' (len - 1) mask
+    pub sound : IsSound new tags' (len - 1)
     pub rest : IsPermutation (members t) (m ∷ filled new)
     pub room : length (filled new) + (limit (length new) - (len - 1)) ≡ table_len t + t.room
 
@@ -73,7 +72,6 @@ module _ {T : Type 0} (slots : List (Option (ℕ × T))) (tags : List ℕ) (len 
         sound = record {
           counted = omega arith;
           load = rw sized (omega arith);
-          masked = rw sized before.masked;
           doubled = rw sized before.doubled;
           in_place = in_place;
           tagged = tagged;
@@ -84,7 +82,7 @@ module _ {T : Type 0} (slots : List (Option (ℕ × T))) (tags : List ℕ) (len 
 
   -- ---- some of the members
   pub record Kept (kept : ℕ) (new : List (Option (ℕ × T))) (tags' : List ℕ) : Type 0 where
-    pub sound : IsSound new tags' kept mask
+    pub sound : IsSound new tags' kept
     pub room : length (filled new) + (limit (length new) - kept) ≡ table_len t + t.room
 
   pub some_kept : (kept : ℕ) (new : List (Option (ℕ × T))) (tags' : List ℕ) → length new ≡ length slots → InPlace (length new) new → IsTagged tags' new
@@ -97,7 +95,6 @@ module _ {T : Type 0} (slots : List (Option (ℕ × T))) (tags : List ℕ) (len 
         sound = record {
           counted = is;
           load = rw sized (omega arith);
-          masked = rw sized before.masked;
           doubled = rw sized before.doubled;
           in_place = in_place;
           tagged = tagged;
@@ -119,7 +116,7 @@ module _ {T : Type 0} (slots : List (Option (ℕ × T))) (tags : List ℕ) (len 
         rw (none, full, places) (omega arith)
 
     pub record Grown (new : List (Option (ℕ × T))) (tags' : List ℕ) : Type 0 where
-      pub sound : IsSound new tags' len (count - 1)
+      pub sound : IsSound new tags' len
       pub bag : IsPermutation (members t) (filled new)
       pub enough : needed ≤ table_len t + (limit (length new) - len)
       pub most : limit count ≤ most_for needed → length (filled new) + (limit (length new) - len) ≤ most_for needed
@@ -141,7 +138,6 @@ module _ {T : Type 0} (slots : List (Option (ℕ × T))) (tags : List ℕ) (len 
           sound = record {
             counted = omega arith;
             load = rw sized fit;
-            masked = λ places. omega arith;
             doubled = λ places. (doubled.0, sized ∙ doubled.1);
             in_place = in_place;
             tagged = tagged;

@@ -4,6 +4,7 @@ pub mod Bag
 pub mod Path
 pub mod Searching
 pub mod Closing
+pub mod TagCount
 pub mod Tagged
 pub mod Filling
 mod Marked

@@ -4,9 +4,10 @@ use Rattle.std.proofs.lemmas.List.Sorted.{length_permutation, IsPermutation-tran
 use Rattle.std.proofs.lemmas.List.{get_or-set_other, length-replicate, get_or_append_left, get_or-append_right, get_or-replicate}
 use Rattle.std.proofs.Math.ListN.{set, length-set}
 use Rattle.starlark_table.specs.Table.{filled}
-use Rattle.starlark_table.specs.Layout.{at, window, empty_tag, padding, slot_tag, tags_of_empty, InPlace, IsTagged, IsSound}
+use Rattle.starlark_table.specs.Layout.{at, window, empty_tag, padding, slot_tag, tag_count, tags_of_empty, InPlace, IsTagged, IsSound}
 use Rattle.starlark_table.specs.Growth.{limit}
 use Rattle.starlark_table.proofs.Bag.{filled-set_none, filled-set_some}
+use Rattle.starlark_table.proofs.TagCount.{tag_count-some}
 
 pub load-below_places : (m n : ℕ) → n ≤ limit m → 0 < m → n < m
 load-below_places m n load some = omega arith
@@ -35,9 +36,9 @@ module _ {T : Type 0} where
       (filled-set_none slots slot m full) (IsPermutation-cons m (filled (set slots slot None)) (filled new) moved)
 
   -- a table that has slots has an empty one
-  pub sound-empty_slot : (slots : List (Option (ℕ × T))) (tags : List ℕ) (len mask : ℕ) → IsSound slots tags len mask → 0 < length slots
+  pub sound-empty_slot : (slots : List (Option (ℕ × T))) (tags : List ℕ) (len : ℕ) → IsSound slots tags len → 0 < length slots
       → (q : ℕ) × (q < length slots) × (at slots q ≡ None)
-  sound-empty_slot slots tags len mask s some =
+  sound-empty_slot slots tags len s some =
       let counted = s.counted in
       let load = s.load in
       empty_slot slots (load-below_places (length slots) (length (filled slots)) (omega arith) some)
@@ -82,15 +83,15 @@ module _ {T : Type 0} where
   pub in_place-replicate : (m n : ℕ) → InPlace {T = T} m (replicate n None)
   in_place-replicate m n = record { reached = λ p q h x e q_in nearer. absurd (cc (at-replicate n p)) }
 
-  pub tagged-replicate : (items : List (Option (ℕ × T))) (tags : List ℕ) (count : ℕ) → items ≡ replicate count None
+  pub tagged-replicate : (items : List (Option (ℕ × T))) (tags : List ℕ) (count : ℕ) → 0 < count → items ≡ replicate count None
       → tags ≡ tags_of_empty count → IsTagged tags items
-  tagged-replicate items tags count e f =
+  tagged-replicate items tags count some e f =
       let places : length items ≡ count = ap length e ∙ length-replicate count None in
       let first : length (replicate count empty_tag) ≡ count = length-replicate count empty_tag in
       let sized : length tags ≡ count + window = ap length f ∙ length-append (replicate count empty_tag) (replicate window padding) ∙ ap (λ n. n + window) first in
       let none : (k : ℕ) → at items k ≡ None = λ k. ap (λ l. at l k) e ∙ at-replicate count k in
       record {
-        sized = λ some. rw places sized;
+        sized = sized ∙ sym (ap tag_count places ∙ tag_count-some count some);
         tagged = λ p below.
             ap (λ l. get_or l p 0) f
             ∙ get_or_append_left (replicate count empty_tag) (replicate window padding) 0 p (omega arith)
@@ -104,18 +105,17 @@ module _ {T : Type 0} where
   pub in_place-all_empty : (items : List (Option (ℕ × T))) (count : ℕ) → items ≡ replicate count None → InPlace (length items) items
   in_place-all_empty items count e = subst (λ l. InPlace (length l) l) (sym e) (in_place-replicate (length (replicate count None)) count)
 
-  pub sound-all_empty : (items : List (Option (ℕ × T))) (tags : List ℕ) (mask count : ℕ) → items ≡ replicate count None
-      → tags ≡ tags_of_empty count → mask + 1 ≡ count → (k : ℕ) × (count ≡ 8 * 2 ^ k) → IsSound items tags 0 mask × (filled items ≡ [])
-  sound-all_empty items tags mask count e f masked doubled =
+  pub sound-all_empty : (items : List (Option (ℕ × T))) (tags : List ℕ) (count : ℕ) → items ≡ replicate count None
+      → tags ≡ tags_of_empty count → 0 < count → (k : ℕ) × (count ≡ 8 * 2 ^ k) → IsSound items tags 0 × (filled items ≡ [])
+  sound-all_empty items tags count e f some doubled =
       let none : filled items ≡ [] = ap filled e ∙ filled-replicate count in
       let sized : length items ≡ count = ap length e ∙ length-replicate count None in (
         record {
           counted = sym (ap length none);
           load = omega arith;
-          masked = λ some. masked ∙ sym sized;
-          doubled = λ some. (doubled.0, sized ∙ doubled.1);
+          doubled = λ _. (doubled.0, sized ∙ doubled.1);
           in_place = in_place-all_empty items count e;
-          tagged = tagged-replicate items tags count e f;
+          tagged = tagged-replicate items tags count some e f;
         },
         none,
       )

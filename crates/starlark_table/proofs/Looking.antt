@@ -13,6 +13,7 @@ use Rattle.starlark_table.proofs.Filling.{filled-by_some}
 use Rattle.starlark_table.proofs.Path.{path_from, listed}
 use Rattle.starlark_table.proofs.Searching.{Searching, searching_begins, searching_on, searching_as, searching_asks, searching_refuses, searching_accepts, searching_ends, path_taken, path_skipped, path_moved}
 use Rattle.starlark_table.proofs.TagBits.{first-by_bits, none-by_bits}
+use Rattle.starlark_table.proofs.TagCount.{long_tags}
 use Rattle.starlark_table.proofs.Windows.{AtWindow, Matched, way, window_begins, window_matches, window_ends, window_goes_on}
 
 -- by the answer of a test, a hash is the one that is sought
@@ -52,7 +53,7 @@ module _ {F T : Type 0} (g : Mut F (Bor T × Unit {0}) Bool) (hash : ℕ) (tags 
       at_home = let places : 0 < length slots = omega arith in (places, is ∙ ap (λ n. home n hash) (masked places))
 
       pub home_room : start + 16 ≤ length tags
-      home_room = omega (arith, at_home.1, home-below (length slots) hash at_home.0, tagged.sized at_home.0)
+      home_room = omega (arith, at_home.1, home-below (length slots) hash at_home.0, long_tags tags slots tagged.sized at_home.0)
 
       pub looking_begins : (sought same : ℕ) → sought ≡ tag hash → same ≡ tag_bits sought tags start 16 → Looking start start same first
       looking_begins sought same seeks bits =
@@ -72,7 +73,7 @@ module _ {F T : Type 0} (g : Mut F (Bor T × Unit {0}) Bool) (hash : ℕ) (tags 
         over = subst (λ b. AtWindow hash tags slots start place b) none l.window
 
         room : start + 16 ≤ length tags
-        room = let start_in = l.window.start_in in omega (arith, tagged.sized some)
+        room = let start_in = l.window.start_in in omega (arith, long_tags tags slots tagged.sized some)
 
         -- the search ends at a window with an empty place
         pub looking_ends : InPlace (length slots) slots → empties ≢ 0 → Searches g (holders_in hash slots) first None f

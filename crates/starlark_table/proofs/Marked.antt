@@ -4,6 +4,7 @@ use Rattle.starlark_columns.specs.Places.{IsFilled}
 use Rattle.starlark_table.specs.Layout.{empty_tag, IsTagged}
 use Rattle.starlark_table.specs.Lent.{AreMarked, Lent}
 use Rattle.starlark_table.proofs.Filling.{filled-by_some}
+use Rattle.starlark_table.proofs.TagCount.{long_tags}
 use Rattle.starlark_table.proofs.Tagged.{full-by_tag, empty-by_tag}
 
 module _ {T : Type 0} where
@@ -46,7 +47,7 @@ module _ {T : Type 0} where
     full = λ k below n. absurd (omega (arith, below));
   }
   marked-all tags (c ∷ slots) t = record {
-    sized = let s = t.sized (omega arith) in omega (arith, s);
+    sized = let s = long_tags tags (c ∷ slots) t.sized (omega arith) in omega (arith, s);
     empty = λ k below e. empty-by_tag tags (c ∷ slots) k t below (subst (λ p. slice_index_or tags p 0 ≡ empty_tag) (omega arith) e);
     full = λ k below n. full-by_tag tags (c ∷ slots) k t below (subst (λ p. slice_index_or tags p 0 ≡ empty_tag → ⊥) (omega arith) n);
   }

@@ -1,5 +1,5 @@
 -- Whether slots are well laid out depends on their hashes alone.
-use Rattle.std.proofs.Common.{◌≡◌, ℕ, zero, suc, ◌+◌, ◌*◌, ◌^◌, ◌<◌, ◌≤◌, List, [], ◌∷◌, length, Option, Some, None, IsSome, get_or, refl, sym, ◌∙◌, ap, subst}
+use Rattle.std.proofs.Common.{◌≡◌, ℕ, zero, suc, ◌*◌, ◌^◌, ◌<◌, ◌≤◌, List, [], ◌∷◌, length, Option, Some, None, IsSome, get_or, refl, sym, ◌∙◌, ap, subst}
 use Rattle.std.specs.List.{AllZip}
 use Rattle.std.proofs.Math.ListN.{set}
 use Rattle.std.specs.Borrow.{Bor}
@@ -86,11 +86,10 @@ module _ {T : Type 0} where
           t.padded p low' high;
     }
 
-    pub reshaped : (tags : List ℕ) (len mask : ℕ) → IsSound old tags len mask → IsSound new tags len mask
-    reshaped tags len mask sound = record {
+    pub reshaped : (tags : List ℕ) (len : ℕ) → IsSound old tags len → IsSound new tags len
+    reshaped tags len sound = record {
       counted = sound.counted ∙ sym same_count;
       load = subst (λ n. len ≤ limit n) (sym same_length) sound.load;
-      masked = subst (λ n. 0 < n → mask + 1 ≡ n) (sym same_length) sound.masked;
       doubled = subst (λ n. 0 < n → (k : ℕ) × (n ≡ 8 * 2 ^ k)) (sym same_length) sound.doubled;
       in_place = subst (λ n. InPlace n new) (sym same_length) (record {
         reached = λ p q h y e below near.
@@ -117,11 +116,11 @@ module _ {T : Type 0} (is_clone : T → T → Type 0) where
       ap (λ o. shape (o ∷ new)) all.0.2 ∙ ap (λ l. Some h ∷ l) (shape-cloned old new all.1)
 
   -- clones under their own tags lie as well as what they were made of
-  pub sound-cloned : (old new : List (Option (ℕ × T))) (tags tags' : List ℕ) (len mask : ℕ) → IsSound old tags len mask
-      → AllZip (IsSlotClone is_clone) old new → IsTagged tags' new → IsSound new tags' len mask
-  sound-cloned old new tags tags' len mask sound all tagged =
-      let r = reshaped old new (shape-cloned old new all) tags len mask sound in
-      record { counted = r.counted; load = r.load; masked = r.masked; doubled = r.doubled; in_place = r.in_place; tagged = tagged }
+  pub sound-cloned : (old new : List (Option (ℕ × T))) (tags tags' : List ℕ) (len : ℕ) → IsSound old tags len
+      → AllZip (IsSlotClone is_clone) old new → IsTagged tags' new → IsSound new tags' len
+  sound-cloned old new tags tags' len sound all tagged =
+      let r = reshaped old new (shape-cloned old new all) tags len sound in
+      record { counted = r.counted; load = r.load; doubled = r.doubled; in_place = r.in_place; tagged = tagged }
 
 module _ {T : Type 0} (w : T) where
   shape-cons : (o : Option (ℕ × T)) (xs ys : List (Option (ℕ × T))) → shape xs ≡ shape ys → shape (o ∷ xs) ≡ shape (o ∷ ys)
@@ -136,6 +135,6 @@ module _ {T : Type 0} (w : T) where
   shape-written (Some n ∷ slots) zero m e = let same : n ≡ m = cc in ap (λ k. Some k.0 ∷ shape slots) (sym same)
   shape-written (o ∷ slots) (suc i) m e = shape-cons o (set slots i (Some (m.0, w))) slots (shape-written slots i m e)
 
-  pub sound-written : (slots : List (Option (ℕ × T))) (i : ℕ) (m : ℕ × T) (tags : List ℕ) (len mask : ℕ) → at slots i ≡ Some m
-      → IsSound slots tags len mask → IsSound (set slots i (Some (m.0, w))) tags len mask
-  sound-written slots i m tags len mask e = reshaped slots (set slots i (Some (m.0, w))) (shape-written slots i m e) tags len mask
+  pub sound-written : (slots : List (Option (ℕ × T))) (i : ℕ) (m : ℕ × T) (tags : List ℕ) (len : ℕ) → at slots i ≡ Some m
+      → IsSound slots tags len → IsSound (set slots i (Some (m.0, w))) tags len
+  sound-written slots i m tags len e = reshaped slots (set slots i (Some (m.0, w))) (shape-written slots i m e) tags len

@@ -27,7 +27,7 @@ module _ (K : RattleType) where
   CS = column_row (MemberRow K)
 
   abbrev left : List Member
-  left = member usize ∷ member usize ∷ []
+  left = member usize ∷ []
 
   abbrev ms : List Member
   ms = member CS ∷ member Tags ∷ left

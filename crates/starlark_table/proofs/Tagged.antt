@@ -1,12 +1,13 @@
 -- The tags of slots, and of slots that change.
-use Rattle.std.proofs.Common.{◌≡◌, ℕ, ◌+◌, ◌<◌, ◌≤◌, List, length, Option, Some, None, IsSome, arith, get_or, refl, sym, ◌∙◌, ap, subst, inl, inr}
+use Rattle.std.proofs.Common.{◌≡◌, ℕ, ◌<◌, ◌≤◌, List, length, Option, Some, None, IsSome, arith, get_or, refl, sym, ◌∙◌, ap, subst, inl, inr}
 use Rattle.std.specs.List.{swap}
 use Rattle.std.proofs.Math.ListN.{set, length-set}
 use Rattle.std.proofs.lemmas.Bool.{cases_order}
 use Rattle.std.proofs.lemmas.List.{get_or-set_other, get_or-set_same, set-get_or}
 use Rattle.std.proofs.lemmas.List.Edits.{swapped_from_swap, length-swap}
-use Rattle.starlark_table.specs.Layout.{at, tag, slot_tag, empty_tag, window, HasTags, IsTagged}
+use Rattle.starlark_table.specs.Layout.{at, tag, slot_tag, empty_tag, tag_count, HasTags, IsTagged}
 use Rattle.starlark_table.proofs.Closing.{apart-by_order, full_in_range}
+use Rattle.starlark_table.proofs.TagCount.{long_tags}
 
 -- the tag of a hash is below the padding, and below the empty one
 pub tag-below : (hash : ℕ) → tag hash < 128
@@ -18,13 +19,13 @@ module _ {T : Type 0} where
   pub tag-in_range : (tags : List ℕ) (slots : List (Option (ℕ × T))) (i : ℕ) → HasTags tags slots → i < length slots
       → i < length tags
   tag-in_range tags slots i sized i_in =
-      let long : length tags ≡ length slots + window = sized (omega arith) in omega arith
+      let long = long_tags tags slots sized (omega arith) in omega arith
 
   -- other slots and other tags, as many of both
   pub sized-alike : (tags tags' : List ℕ) (slots slots' : List (Option (ℕ × T))) → length tags' ≡ length tags
       → length slots' ≡ length slots → HasTags tags slots → HasTags tags' slots'
   sized-alike tags tags' slots slots' same_tags same_slots sized =
-      λ some. rw (same_slots, same_tags) (sized (rw (← same_slots) some))
+      same_tags ∙ sized ∙ ap tag_count (sym same_slots)
 
   -- a member has the tag of its hash
   pub tag-member : (tags : List ℕ) (slots : List (Option (ℕ × T))) (p h : ℕ) (x : T) → IsTagged tags slots → at slots p ≡ Some (h, x)

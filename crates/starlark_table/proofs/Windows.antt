@@ -10,6 +10,7 @@ use Rattle.starlark_table.proofs.Closing.{full_not_empty}
 use Rattle.starlark_table.proofs.Path.{path_from, path-run, path-over}
 use Rattle.starlark_table.proofs.Tagged.{tag-below, tag-member, empty-by_tag, full-by_tag}
 use Rattle.starlark_table.proofs.TagBits.{none-by_bits, first-by_bits, tag_bits-later}
+use Rattle.starlark_table.proofs.TagCount.{long_tags}
 
 module _ {T : Type 0} (tags : List ℕ) (slots : List (Option (ℕ × T))) (tagged : IsTagged tags slots) where
   -- a tag that is not the padding is that of a place
@@ -71,7 +72,7 @@ module _ {T : Type 0} (tags : List ℕ) (slots : List (Option (ℕ × T))) (tagg
         }
 
     room_at : (start : ℕ) → start < length slots → start + 16 ≤ length tags
-    room_at start start_in = let long : length tags ≡ length slots + 16 = tagged.sized (omega arith) in omega arith
+    room_at start start_in = let long : length tags ≡ length slots + 16 = long_tags tags slots tagged.sized (omega arith) in omega arith
 
     -- past a window with no empty place
     pub passes_window : (mask start next : ℕ) → mask + 1 ≡ length slots → start < length slots → FullUpTo start → 0 ≡ tag_bits empty_tag tags start 16
@@ -138,7 +139,7 @@ module _ {T : Type 0} (hash : ℕ) (tags : List ℕ) (slots : List (Option (ℕ 
 
   room : (start place bits : ℕ) (w : AtWindow hash tags slots start place bits) → place + (w.end - place) ≤ length tags
   room start place bits w =
-      let long : length tags ≡ length slots + 16 = tagged.sized some in
+      let long : length tags ≡ length slots + 16 = long_tags tags slots tagged.sized some in
       let start_in = w.start_in in
       let to = w.to in
       let short = w.short in
@@ -187,7 +188,7 @@ module _ {T : Type 0} (hash : ℕ) (tags : List ℕ) (slots : List (Option (ℕ 
       let to = w.to in
       let short = w.short in
       let from = w.from in
-      let long : length tags ≡ length slots + 16 = tagged.sized some in
+      let long : length tags ≡ length slots + 16 = long_tags tags slots tagged.sized some in
       let start_in = w.start_in in
       let few : n ≤ 16 = omega arith in
       let set : tag_bits (tag hash) tags place n ≢ 0 = λ none. some_bit (w.its ∙ none) in
@@ -227,7 +228,7 @@ module _ {T : Type 0} (hash : ℕ) (tags : List ℕ) (slots : List (Option (ℕ 
       → start ≤ e → e < start + 16 → get_or tags e 0 ≡ empty_tag → ((p : ℕ) → start ≤ p → p < e → get_or tags p 0 ≢ empty_tag)
       → holders hash (path_from (home (length slots) hash) slots (way hash slots start + (place - start))) ≡ []
   window_ends start place e w in_place low high empty first =
-      let long : length tags ≡ length slots + 16 = tagged.sized some in
+      let long : length tags ≡ length slots + 16 = long_tags tags slots tagged.sized some in
       let start_in = w.start_in in
       let from = w.from in
       let to = w.to in

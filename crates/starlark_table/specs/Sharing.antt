@@ -1,14 +1,11 @@
--- What a column of slots and a vector of tags end as, where the items of the one are lent and the other is shown. No public
+-- What a column of slots and the tags beside it end as, where the items of the one are lent and the other is shown. No public
 -- clause cites this module.
-use Rattle.std.specs.Prelude.{◌≡◌, ℕ, ⊤, [], ◌∷◌}
-use Rattle.std.specs.Borrow.{Fml, RattleType, MutBor, GName, follows, follows_so, u8, u64}
-use Rattle.std.specs.Global.{Vec}
-use Rattle.std_alloc.specs.contracts.vec.Vec.{the_row as vec_row}
-use Rattle.std_heap.specs.contracts.Global.{the_row as global_row}
-use Rattle.std_heap.specs.contracts.GlobalAllocator.TheImpl.{ghosts as global_ghosts}
+use Rattle.std.specs.Prelude.{◌≡◌, ℕ, ⊤, List, [], ◌∷◌}
+use Rattle.std.specs.Borrow.{Fml, RattleType, MutBor, GName, follows, follows_so, u64}
 use mathlib.Core.Option.{none}
 use denote.Struct.Tuple.{Tuple}
 use Rattle.starlark_columns.specs.Lent.{kept_places}
+use Rattle.starlark_columns.specs.contracts.bytes.Bytes.{the_row as bytes_row}
 use Rattle.starlark_table.specs.Table.{Table}
 use Rattle.starlark_table.specs.Lends.{table_row}
 use Rattle.starlark_table.specs.contracts.kept.Kept.{the_row as kept_row}
@@ -22,12 +19,12 @@ KeptRow = kept_row u64 ghosts
 abbrev pub Member : RattleType → RattleType
 Member T = Tuple (KeptRow ∷ T ∷ [])
 
--- the type `Vec<u8>` of the tags
+-- the type `Bytes` of the tags
 abbrev pub Tags : RattleType
-Tags = vec_row u8 global_row global_ghosts
+Tags = bytes_row
 
 -- the tags end as they were
-abbrev pub tags_stay : MutBor (Vec ℕ) → Fml
+abbrev pub tags_stay : MutBor (List ℕ) → Fml
 tags_stay s = follows_so Tags Tags s.ghost_name none (λ _ _. ⊤) (λ n. n ≡ s.now)
 
 -- a table with what another has in its full slots, but for what stays

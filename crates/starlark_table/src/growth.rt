@@ -4,12 +4,13 @@ ghost use Rattle.std.specs.Prelude.{◌≡◌, ℕ, ◌+◌, ◌^◌, ◌*◌, �
 ghost use Rattle.std.specs.List.{AllZip};
 ghost use Rattle.starlark_columns.specs.Places.{empties};
 ghost use Rattle.starlark_table.specs.Table.{filled, IsSlotClone};
-ghost use Rattle.starlark_table.specs.Layout.{at, tags_of_empty, window, InPlace, IsTagged, IsTaggedFrom};
+ghost use Rattle.starlark_table.specs.Layout.{at, tags_of_empty, window, AreDoubled, InPlace, IsTagged, IsTaggedFrom};
 ghost use Rattle.starlark_table.specs.Growth.{limit, most_for};
 
 use crate::kept::KeptHash;
 use crate::probe::{Slots, put};
-use crate::tags::{EMPTY, PADDING, WINDOW, full_places};
+use crate::tags::{EMPTY, PADDING, WINDOW, full_places, tags_beside};
+use starlark_columns::{Bytes, Column};
 use std::alloc::{AllocError, Global};
 
 // How many members so many places may hold.
@@ -39,26 +40,44 @@ pub(crate) fn places_for(needed: usize) -> Option<usize>
     Some(count)
 }
 
-// The tags of so many empty places, and the window behind them.
-pub(crate) fn empty_tags(alloc: Global, count: usize) -> Result<Vec<u8>, AllocError>
+// So many empty places, and their tags.
+pub(crate) fn empty_places<T, H: KeptHash>(
+    alloc: Global,
+    count: usize,
+) -> Result<(Slots<T, H>, Bytes), AllocError>
     requires { count + window < 2 ^ 64 }
-    ensures { IfOk result (λ v. v.items ≡ tags_of_empty count) }
+    ensures slots { IfOk result (λ r. r.0 ≡ empties count) }
+    ensures tags { IfOk result (λ r. r.1 ≡ tags_of_empty count) }
 {
-    let mut tags = Vec::with_capacity(alloc, count + WINDOW)?;
-    tags.resize(count, EMPTY)?;
-    tags.resize(count + WINDOW, PADDING)?;
+    let slots = Column::with_places(alloc, count)?;
+    match empty_tags(alloc, count) {
+        Ok(tags) => Ok((slots, tags)),
+        Err(refused) => {
+            slots.give_back(alloc);
+            Err(refused)
+        }
+    }
+}
+
+// The tags of so many empty places, and the window behind them.
+fn empty_tags(alloc: Global, count: usize) -> Result<Bytes, AllocError>
+    requires { count + window < 2 ^ 64 }
+    ensures { IfOk result (λ tags. tags ≡ tags_of_empty count) }
+{
+    let mut tags = Bytes::filled(alloc, count + WINDOW, EMPTY)?;
+    tags.as_mut_slice(count + WINDOW)[count..].fill(PADDING);
     Ok(tags)
 }
 
 // Moves each member to the new slots, which have room for all, and gives the old ones back.
 pub(crate) fn move_all<T, H: KeptHash>(
-    alloc: Global,
     mut old: Slots<T, H>,
-    old_tags: &[u8],
+    old_tags: Bytes,
     slots: &mut Slots<T, H>,
     tags: &mut [u8],
 )
-    requires old_tagged { IsTagged old_tags.now old }
+    requires old_tagged { IsTagged old_tags old }
+    requires old_doubled { AreDoubled old }
     requires places { 0 < length slots.old }
     requires in_place { InPlace (length slots.old) slots.old }
     requires tagged { IsTagged tags.old slots.old }
@@ -68,11 +87,13 @@ pub(crate) fn move_all<T, H: KeptHash>(
     ensures in_place { InPlace (length slots.new) slots.new }
     ensures tagged { IsTagged tags.new slots.new }
 {
+    let count = tags_beside(&old);
     let mut start = 0;
     'windows: while start < old.places() {
-        start = move_window(&mut old, old_tags, start, slots, tags);
+        start = move_window(&mut old, old_tags.as_slice(count), start, slots, tags);
     }
-    old.give_back(alloc);
+    old.give_back(old_tags.allocator());
+    old_tags.give_back(count);
 }
 
 // Moves the members of a window of places. The answer is where it ends.

@@ -6,8 +6,9 @@ ghost use Rattle.starlark_table.specs.Table.{filled, items_in};
 
 use crate::kept::KeptHash;
 use crate::probe::{Slots, full_slot};
-use crate::tags::EMPTY;
+use crate::tags::{EMPTY, tags_beside};
 use crate::walks::drop_all;
+use starlark_columns::Bytes;
 use std::alloc::AllocError;
 use std::iter::FusedIterator;
 use std::marker::Model;
@@ -109,14 +110,14 @@ impl<'a, T, H: KeptHash> Clone for Iter<'a, T, H> {
 /// The members of a table, each as its hash and its item, by value. What is left when it is dropped is dropped with it.
 pub struct IntoIter<T, H: KeptHash = u64> {
     slots: Slots<T, H>,
-    tags: Vec<u8>,
+    tags: Bytes,
     slot: usize,
     left: usize,
 }
 
 impl<T, H: KeptHash> Model for IntoIter<T, H> {
     ghost use Rattle.std.specs.Prelude.{◌≡◌, ℕ, ◌<◌, List, length, None};
-    ghost use Rattle.starlark_table.specs.Layout.{at, IsTagged};
+    ghost use Rattle.starlark_table.specs.Layout.{at, AreDoubled, IsTagged};
     ghost use Rattle.starlark_table.specs.Table.{filled};
 
     ghost Value = { List (ℕ × T) };
@@ -124,16 +125,17 @@ impl<T, H: KeptHash> Model for IntoIter<T, H> {
     ghost view = { λ it. filled it.slots };
 
     // What was given has left its slot, and its tag: so the slots in front of `slot` are empty.
-    ghost invariant = { λ it. IsTagged it.tags.items it.slots × (it.left ≡ length (filled it.slots)) × ((p : ℕ) → p < it.slot → at it.slots p ≡ None) };
+    ghost invariant = { λ it. IsTagged it.tags it.slots × (it.left ≡ length (filled it.slots)) × ((p : ℕ) → p < it.slot → at it.slots p ≡ None) × AreDoubled it.slots };
 }
 
 impl<T, H: KeptHash> IntoIter<T, H> {
     ghost use Rattle.std.specs.Prelude.{length};
-    ghost use Rattle.starlark_table.specs.Layout.{IsTagged};
+    ghost use Rattle.starlark_table.specs.Layout.{AreDoubled, IsTagged};
 
     #[inline]
-    pub(crate) fn new(slots: Slots<T, H>, tags: Vec<u8>, left: usize) -> Self
-        requires tagged { IsTagged tags.items slots }
+    pub(crate) fn new(slots: Slots<T, H>, tags: Bytes, left: usize) -> Self
+        requires tagged { IsTagged tags slots }
+        requires doubled { AreDoubled slots }
         requires all { left ≡ length (filled slots) }
         ensures { result ≡ filled slots }
     {
@@ -158,10 +160,11 @@ impl<T: Drop, H: KeptHash> Iterator for IntoIter<T, H> {
         if self.left == 0 {
             return None;
         }
-        let slot = full_slot(&self.slots, self.tags.as_slice(), self.slot);
+        let count = tags_beside(&self.slots);
+        let slot = full_slot(&self.slots, self.tags.as_slice(count), self.slot);
         self.slot = slot + 1;
         self.left -= 1;
-        self.tags[slot] = EMPTY;
+        self.tags.as_mut_slice(count)[slot] = EMPTY;
         let (hash, item) = self.slots.take(slot);
         Some((hash.number(), item))
     }
@@ -193,6 +196,6 @@ impl<T: Drop, H: KeptHash> Drop for IntoIter<T, H> {
             slot: _,
             left: _,
         } = self;
-        drop_all(*tags.allocator(), slots, tags.as_slice());
+        drop_all(slots, tags);
     }
 }

@@ -1,8 +1,9 @@
 //! Places round a circle: where a hash belongs, which place is next, and how far one is behind another.
 ghost use Rattle.std.specs.Prelude.{◌≡◌, ℕ, ◌+◌, ◌^◌, ◌<◌, ◌≤◌, ◌==◌, if◌then◌else◌};
-ghost use Rattle.starlark_table.specs.Layout.{distance, home, window};
+ghost use Rattle.starlark_table.specs.Layout.{distance, home, window, IsMask};
 
 use crate::kept::{Kept, KeptHash};
+use crate::probe::Slots;
 use crate::tags::WINDOW;
 
 #[inline]
@@ -25,6 +26,14 @@ pub(crate) fn window_after(start: usize, mask: usize) -> usize
     } else {
         start + WINDOW
     }
+}
+
+// The mask of these slots. Without slots none is asked for, and no test is made here.
+#[inline]
+pub(crate) fn mask_of<T, H: KeptHash>(slots: &Slots<T, H>) -> usize
+    ensures { IsMask result slots.now }
+{
+    slots.places().wrapping_sub(1)
 }
 
 #[inline]

@@ -12,14 +12,15 @@ mod lends;
 mod pairs;
 
 use crate::gap::take_out;
-use crate::growth::{clone_members, empty_tags, limit, move_all, places_for};
+use crate::growth::{clone_members, empty_places, limit, move_all, places_for};
 use crate::iter::{IntoIter, Iter};
 use crate::kept::{Kept, KeptHash};
 use crate::near::find_slot_near;
+use crate::places::mask_of;
 use crate::probe::{Slots, find_slot, item_at, put};
-use crate::tags::untag;
+use crate::tags::{WINDOW, tags_beside, untag};
 use crate::walks::{drop_all, empty_all, replace_items, retain_items};
-use starlark_columns::Column;
+use starlark_columns::{Bytes, Column};
 use starlark_hash::NoRoom;
 use std::alloc::{AllocError, Global};
 use std::marker::Model;
@@ -35,10 +36,9 @@ use std::mem;
 /// promoted hash.
 pub struct ReadyTable<T, H: KeptHash = u64> {
     slots: Slots<T, H>,
-    // Of each slot one byte, which alone tells at run time whether it has a member.
-    tags: Vec<u8>,
+    // Of each slot one byte, which alone tells at run time whether it has a member. How many there are the slots tell.
+    tags: Bytes,
     len: usize,
-    mask: usize,
 }
 
 impl<T, H: KeptHash> Model for ReadyTable<T, H> {
@@ -54,7 +54,7 @@ impl<T, H: KeptHash> Model for ReadyTable<T, H> {
 
     ghost view = { λ t. record { slots = t.slots; room = limit (length t.slots) - t.len } };
 
-    ghost invariant = { λ t. IsSound t.slots t.tags.items t.len t.mask };
+    ghost invariant = { λ t. IsSound t.slots t.tags t.len };
 }
 
 impl<T> ReadyTable<T> {
@@ -87,9 +87,8 @@ impl<T, H: KeptHash> ReadyTable<T, H> {
     {
         ReadyTable {
             slots: Column::new(alloc),
-            tags: Vec::new(alloc),
+            tags: Bytes::none(alloc),
             len: 0,
-            mask: 0,
         }
     }
 
@@ -106,13 +105,11 @@ impl<T, H: KeptHash> ReadyTable<T, H> {
         let Some(count) = places_for(capacity) else {
             return Err(AllocError);
         };
-        let tags = empty_tags(alloc, count)?;
-        let slots = Column::with_places(alloc, count)?;
+        let (slots, tags) = empty_places(alloc, count)?;
         Ok(ReadyTable {
             slots,
             tags,
             len: 0,
-            mask: count - 1,
         })
     }
 
@@ -143,8 +140,8 @@ impl<T, H: KeptHash> ReadyTable<T, H> {
     {
         let (slot, _) = find_slot(
             &self.slots,
-            self.tags.as_slice(),
-            self.mask,
+            self.tags.as_slice(tags_beside(&self.slots)),
+            mask_of(&self.slots),
             Kept::of(hash),
             eq,
         )?;
@@ -161,8 +158,8 @@ impl<T, H: KeptHash> ReadyTable<T, H> {
     {
         find_slot_near(
             &self.slots,
-            self.tags.as_slice(),
-            self.mask,
+            self.tags.as_slice(tags_beside(&self.slots)),
+            mask_of(&self.slots),
             Kept::of(hash),
             eq,
         )
@@ -176,8 +173,8 @@ impl<T, H: KeptHash> ReadyTable<T, H> {
     {
         let (_, item) = find_slot(
             &self.slots,
-            self.tags.as_slice(),
-            self.mask,
+            self.tags.as_slice(tags_beside(&self.slots)),
+            mask_of(&self.slots),
             Kept::of(hash),
             eq,
         )?;
@@ -189,7 +186,8 @@ impl<T, H: KeptHash> ReadyTable<T, H> {
     pub fn get(&self, slot: usize) -> Option<&T>
         ensures { option_copied result ≡ option_map (λ m. m.1) (member_at self.now slot) }
     {
-        item_at(&self.slots, self.tags.as_slice(), slot)
+        let tags = self.tags.as_slice(tags_beside(&self.slots));
+        item_at(&self.slots, tags, slot)
     }
 
     /// The item in a slot, where it has one, for writing. The slot ends with what is left in it, under the same hash,
@@ -242,9 +240,10 @@ impl<T, H: KeptHash> ReadyTable<T, H> {
         ensures added { IsPermutation ((H.number hash, item) ∷ members self.old) (members self.new) }
         ensures room { table_capacity self.new ≡ table_capacity self.old }
     {
+        let count = tags_beside(&self.slots);
         let slot = put(
             &mut self.slots,
-            self.tags.as_mut_slice(),
+            self.tags.as_mut_slice(count),
             Kept::of(hash),
             item,
         );
@@ -287,18 +286,14 @@ impl<T, H: KeptHash> ReadyTable<T, H> {
         let Some(count) = places_for(needed) else {
             return Err(AllocError);
         };
-        let alloc = *self.tags.allocator();
-        let tags = empty_tags(alloc, count)?;
-        let slots = Column::with_places(alloc, count)?;
+        let (slots, tags) = empty_places(self.tags.allocator(), count)?;
         let old = mem::replace(&mut self.slots, slots);
         let old_tags = mem::replace(&mut self.tags, tags);
-        self.mask = count - 1;
         move_all(
-            alloc,
             old,
-            old_tags.as_slice(),
+            old_tags,
             &mut self.slots,
-            self.tags.as_mut_slice(),
+            self.tags.as_mut_slice(count + WINDOW),
         );
         Ok(())
     }
@@ -312,7 +307,8 @@ impl<T, H: KeptHash> ReadyTable<T, H> {
         ensures none { IfNone result (self.new ≡ self.old) }
         ensures room { table_capacity self.new ≡ table_capacity self.old }
     {
-        let Some(member) = take_out(&mut self.slots, self.tags.as_mut_slice(), slot) else {
+        let count = tags_beside(&self.slots);
+        let Some(member) = take_out(&mut self.slots, self.tags.as_mut_slice(count), slot) else {
             return None;
         };
         self.len -= 1;
@@ -328,7 +324,8 @@ impl<T, H: KeptHash> ReadyTable<T, H> {
         ensures replaced { (last : F) × ReplacesEach F.FnMut f self.old.slots self.new.slots last }
         ensures room { self.new.room ≡ self.old.room }
     {
-        replace_items(&mut self.slots, self.tags.as_slice(), f);
+        let count = tags_beside(&self.slots);
+        replace_items(&mut self.slots, self.tags.as_slice(count), f);
     }
 
     /// Keeps the members that `f` accepts, with what `f` left in their items, and takes the others out. `f` is called
@@ -341,7 +338,8 @@ impl<T, H: KeptHash> ReadyTable<T, H> {
         ensures kept { (kept : List (ℕ × T)) × RetainsInTurn (AsksMember F.FnMut) f (members self.old) kept × IsPermutation kept (members self.new) }
         ensures room { table_capacity self.new ≡ table_capacity self.old }
     {
-        self.len = retain_items(&mut self.slots, self.tags.as_mut_slice(), f);
+        let count = tags_beside(&self.slots);
+        self.len = retain_items(&mut self.slots, self.tags.as_mut_slice(count), f);
     }
 
     /// Removes every member. The room that they had comes back.
@@ -354,8 +352,9 @@ impl<T, H: KeptHash> ReadyTable<T, H> {
         if self.len == 0 {
             return;
         }
-        empty_all(&mut self.slots, self.tags.as_slice());
-        untag(self.tags.as_mut_slice(), &self.slots);
+        let count = tags_beside(&self.slots);
+        empty_all(&mut self.slots, self.tags.as_slice(count));
+        untag(self.tags.as_mut_slice(count), &self.slots);
         self.len = 0;
     }
 
@@ -364,7 +363,8 @@ impl<T, H: KeptHash> ReadyTable<T, H> {
     pub fn iter(&self) -> Iter<'_, T, H>
         ensures { result ≡ items_of self.now }
     {
-        Iter::new(&self.slots, self.tags.as_slice(), self.len)
+        let tags = self.tags.as_slice(tags_beside(&self.slots));
+        Iter::new(&self.slots, tags, self.len)
     }
 
     /// The members along the walk, each as its hash and its item, by value, with exact length and size hint.
@@ -372,12 +372,7 @@ impl<T, H: KeptHash> ReadyTable<T, H> {
     pub fn into_iter(self) -> IntoIter<T, H>
         ensures { result ≡ members self }
     {
-        let ReadyTable {
-            slots,
-            tags,
-            len,
-            mask: _,
-        } = self;
+        let ReadyTable { slots, tags, len } = self;
         IntoIter::new(slots, tags, len)
     }
 }
@@ -402,28 +397,26 @@ impl<T: Clone, H: KeptHash> Clone for ReadyTable<T, H> {
 
     /// A table of clones, slot by slot. One without members and room asks for no memory, and is not refused.
     fn clone(&self) -> Result<Self, AllocError> {
-        let alloc = *self.tags.allocator();
+        let alloc = self.tags.allocator();
         let count = self.slots.places();
         if count == 0 {
             return Ok(ReadyTable::without_slots(alloc));
         }
-        let mut tags = empty_tags(alloc, count)?;
-        let mut slots = Column::with_places(alloc, count)?;
+        let (mut slots, mut tags) = empty_places(alloc, count)?;
         let cloned = clone_members(
             &self.slots,
-            self.tags.as_slice(),
+            self.tags.as_slice(count + WINDOW),
             &mut slots,
-            tags.as_mut_slice(),
+            tags.as_mut_slice(count + WINDOW),
         );
         match cloned {
             Ok(()) => Ok(ReadyTable {
                 slots,
                 tags,
                 len: self.len,
-                mask: self.mask,
             }),
             Err(refused) => {
-                drop_all(alloc, slots, tags.as_slice());
+                drop_all(slots, tags);
                 Err(refused)
             }
         }
@@ -436,8 +429,7 @@ impl<T: Drop, H: KeptHash> Drop for ReadyTable<T, H> {
             slots,
             tags,
             len: _,
-            mask: _,
         } = self;
-        drop_all(*tags.allocator(), slots, tags.as_slice());
+        drop_all(slots, tags);
     }
 }

@@ -1,6 +1,6 @@
 //! A tag of one byte for each place: what a search reads to tell where a hash may be, and which places are empty.
 ghost use Rattle.std.specs.Prelude.{◌≡◌, ℕ, ◌+◌, ◌-◌, ◌<◌, ◌≤◌, None, length};
-ghost use Rattle.starlark_table.specs.Layout.{tag, at, window, tag_bits, hash_tag_bits, BitsUpToEmpty, IsTagged, HasTags, IsPadded};
+ghost use Rattle.starlark_table.specs.Layout.{tag, at, window, tag_count, tag_bits, hash_tag_bits, AreDoubled, BitsUpToEmpty, IsTagged, HasTags, IsPadded};
 
 use crate::kept::{Kept, KeptHash};
 use crate::probe::Slots;
@@ -25,6 +25,16 @@ pub(crate) fn tag<H: KeptHash>(hash: &Kept<H>) -> u8
     ensures { result ≡ tag hash.now }
 {
     ((hash.number() >> 25) & 127) as u8
+}
+
+// How many tags there are beside these slots.
+#[inline]
+pub(crate) fn tags_beside<T, H: KeptHash>(slots: &Slots<T, H>) -> usize
+    requires { AreDoubled slots.now }
+    ensures { result ≡ tag_count (length slots.now) }
+{
+    let places = slots.places();
+    if places == 0 { 0 } else { places + WINDOW }
 }
 
 // A bit for each place of the window from one on: whether it has this tag.

@@ -3,14 +3,14 @@ ghost use Rattle.std.specs.Prelude.{◌≡◌, ℕ, ◌<◌, ◌≤◌, ◌⊎�
 ghost use Rattle.std.specs.List.Retain.{RetainsInTurn};
 ghost use Rattle.starlark_table.specs.Table.{filled, items_in};
 ghost use Rattle.starlark_table.specs.Walk.{CanReplace, ReplacesEach, ReplacesWithin, CanRetain, TakesAtMut, AsksMember};
-ghost use Rattle.starlark_table.specs.Layout.{at, distance, InPlace, IsTagged, IsTaggedFrom, ReachesBefore, StandsIn};
+ghost use Rattle.starlark_table.specs.Layout.{at, distance, AreDoubled, InPlace, IsTagged, IsTaggedFrom, ReachesBefore, StandsIn};
 ghost use Rattle.starlark_table.specs.Growth.{limit};
 
 use crate::kept::{Kept, KeptHash};
 use crate::places::{home_among, next_place};
 use crate::probe::{Slots, free_place};
-use crate::tags::{EMPTY, full_places};
-use std::alloc::Global;
+use crate::tags::{EMPTY, full_places, tags_beside};
+use starlark_columns::Bytes;
 
 // Drops every member. The tags stay.
 pub(crate) fn empty_all<T: Drop, H: KeptHash>(slots: &mut Slots<T, H>, tags: &[u8])
@@ -26,11 +26,14 @@ pub(crate) fn empty_all<T: Drop, H: KeptHash>(slots: &mut Slots<T, H>, tags: &[u
 }
 
 // Drops every member, and gives the memory back.
-pub(crate) fn drop_all<T: Drop, H: KeptHash>(alloc: Global, mut slots: Slots<T, H>, tags: &[u8])
-    requires { IsTagged tags.now slots }
+pub(crate) fn drop_all<T: Drop, H: KeptHash>(mut slots: Slots<T, H>, tags: Bytes)
+    requires tagged { IsTagged tags slots }
+    requires doubled { AreDoubled slots }
 {
-    empty_all(&mut slots, tags);
-    slots.give_back(alloc);
+    let count = tags_beside(&slots);
+    empty_all(&mut slots, tags.as_slice(count));
+    slots.give_back(tags.allocator());
+    tags.give_back(count);
 }
 
 // Puts what `f` answers in the place of each item.

@@ -17,7 +17,7 @@ use std::mem::size_of;
 #[test]
 fn takes_these_bytes(rt: HostRuntime) {
     same(&rt, size_of::<Vec2<u32, u32>>(), 24);
-    same(&rt, size_of::<ReadyTable<u32>>(), 56);
+    same(&rt, size_of::<ReadyTable<u32>>(), 32);
     same(&rt, size_of::<SmallMap<u32, u32>>(), 32);
     same(&rt, size_of::<SmallSet<u32>>(), 32);
     same(&rt, size_of::<OrderedMap<u32, u32>>(), 32);
@@ -25,14 +25,14 @@ fn takes_these_bytes(rt: HostRuntime) {
     same(&rt, size_of::<SortedMap<u32, u32>>(), 32);
     same(&rt, size_of::<SortedSet<u32>>(), 32);
     same(&rt, size_of::<SortedVec<u32>>(), 24);
-    same(&rt, size_of::<UnorderedMap<u32, u32>>(), 56);
-    same(&rt, size_of::<UnorderedSet<u32>>(), 56);
+    same(&rt, size_of::<UnorderedMap<u32, u32>>(), 32);
+    same(&rt, size_of::<UnorderedSet<u32>>(), 32);
 }
 
 #[test]
 fn takes_as_many_with_texts(rt: HostRuntime) {
     same(&rt, size_of::<Vec2<String, u64>>(), 24);
-    same(&rt, size_of::<ReadyTable<String>>(), 56);
+    same(&rt, size_of::<ReadyTable<String>>(), 32);
     same(&rt, size_of::<SmallMap<String, u64>>(), 32);
     same(&rt, size_of::<SmallSet<String>>(), 32);
     same(&rt, size_of::<OrderedMap<String, u64>>(), 32);
@@ -40,6 +40,6 @@ fn takes_as_many_with_texts(rt: HostRuntime) {
     same(&rt, size_of::<SortedMap<String, u64>>(), 32);
     same(&rt, size_of::<SortedSet<String>>(), 32);
     same(&rt, size_of::<SortedVec<String>>(), 24);
-    same(&rt, size_of::<UnorderedMap<String, u64>>(), 56);
-    same(&rt, size_of::<UnorderedSet<String>>(), 56);
+    same(&rt, size_of::<UnorderedMap<String, u64>>(), 32);
+    same(&rt, size_of::<UnorderedSet<String>>(), 32);
 }

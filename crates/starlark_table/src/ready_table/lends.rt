@@ -11,6 +11,8 @@ use crate::iter_mut::IterMut;
 use crate::kept::Kept;
 use crate::loan::Loan;
 use crate::probe::Slots;
+use crate::tags::tags_beside;
+use starlark_columns::Bytes;
 use starlark_columns::loan::{First, Keeps};
 
 // The members of slots, to be written but for what `P` keeps.
@@ -27,7 +29,7 @@ fn lend_members<T, P: Keeps<(Kept<u64>, T)>>(
 
 // The tags, which are written no more.
 #[inline]
-fn shown(tags: &mut Vec<u8>) -> &Vec<u8>
+fn shown(tags: &mut Bytes) -> &Bytes
     ensures* stay { sem 𝓛 (tags_stay tags.entry) }
     ensures now { result.now ≡ tags.old }
 {
@@ -38,8 +40,8 @@ fn shown(tags: &mut Vec<u8>) -> &Vec<u8>
 #[inline]
 fn lend_fields<'a, T, P: Keeps<(Kept<u64>, T)>>(
     slots: &'a mut Slots<T, u64>,
-    tags: &'a mut Vec<u8>,
-) -> (starlark_columns::Loan<'a, (Kept<u64>, T), P>, &'a Vec<u8>)
+    tags: &'a mut Bytes,
+) -> (starlark_columns::Loan<'a, (Kept<u64>, T), P>, &'a Bytes)
     ensures* slots { sem 𝓛 (places_follow (Member T.row) P.kept slots.entry result.0.tie) }
     ensures* tags { sem 𝓛 (tags_stay tags.entry) }
     ensures untouched { result.0.from ≡ 0 }
@@ -57,13 +59,13 @@ impl<T> ReadyTable<T> {
     #[inline]
     pub(super) fn lend_kept<P: Keeps<(Kept<u64>, T)>>(
         &mut self,
-    ) -> (starlark_columns::Loan<'_, (Kept<u64>, T), P>, &Vec<u8>)
+    ) -> (starlark_columns::Loan<'_, (Kept<u64>, T), P>, &Bytes)
         requires hash { (x w : ℕ × T) → (P.kept x w).0 ≡ x.0 }
         requires again { (x w : ℕ × T) → P.kept x (P.kept x w) ≡ P.kept x w }
         ensures* writes_back { sem 𝓛 (table_keeps T.row P.kept self.entry result.0.tie) }
         ensures untouched { result.0.from ≡ 0 }
         ensures rest { result.0.rest ≡ self.old.slots }
-        ensures tagged { IsTagged result.1.now.items self.old.slots }
+        ensures tagged { IsTagged result.1.now self.old.slots }
     {
         lend_fields(&mut self.slots, &mut self.tags)
     }
@@ -73,8 +75,9 @@ impl<T> ReadyTable<T> {
         ensures* writes_back { sem 𝓛 (table_follows T.row self.entry result.tie) }
         ensures rest { (result.from ≡ 0) × (result.rest ≡ self.old.slots) }
     {
+        let count = tags_beside(&self.slots);
         let (places, tags) = self.lend_kept::<First>();
-        Loan::new(places, tags.as_slice())
+        Loan::new(places, tags.as_slice(count))
     }
 
     /// The items along the walk, each for writing, with exact length and size hint. The table ends with the items that

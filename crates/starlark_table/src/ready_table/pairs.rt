@@ -7,6 +7,7 @@ ghost use Rattle.starlark_table.specs.Lends.{values_follow};
 use super::ReadyTable;
 use crate::loan::PairLoan;
 use crate::pairs_mut::PairsMut;
+use crate::tags::tags_beside;
 use starlark_columns::loan::AllButLast;
 
 impl<K, V> ReadyTable<(K, V)> {
@@ -16,8 +17,9 @@ impl<K, V> ReadyTable<(K, V)> {
         ensures* writes_back { sem 𝓛 (values_follow K.row V.row self.entry result.tie) }
         ensures rest { (result.from ≡ 0) × (result.rest ≡ self.old.slots) }
     {
+        let count = tags_beside(&self.slots);
         let (places, tags) = self.lend_kept::<AllButLast>();
-        PairLoan::new(places, tags.as_slice())
+        PairLoan::new(places, tags.as_slice(count))
     }
 
     /// The pairs along the walk, each value for writing, with exact length and size hint. There are fewer than 2^64 of

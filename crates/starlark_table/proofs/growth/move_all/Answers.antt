@@ -13,7 +13,7 @@ windows-init g c = record {
   in_place = c.requires.in_place;
   tagged = c.requires.tagged;
   old_sized = refl;
-  old_tagged = tagged_from-start c.args.old_tags.now c.args.old c.requires.old_tagged;
+  old_tagged = tagged_from-start c.args.old_tags c.args.old c.requires.old_tagged;
   emptied = λ p below. absurd (omega arith);
   bag = IsPermutation-refl (filled c.args.old ++ filled c.args.slots.now);
 }
@@ -39,7 +39,7 @@ windows-preserved g c =
       in_place = moved.in_place;
       tagged = moved.tagged;
       old_sized = moved.from_sized ∙ k.old_sized;
-      old_tagged = tagged_from-later start next c.args.old_tags.now old left k.old_tagged (omega arith) moved.from_sized moved.after;
+      old_tagged = tagged_from-later start next c.args.old_tags old left k.old_tagged (omega arith) moved.from_sized moved.after;
       emptied = λ p below. elim (cases_lt p start) [
         | inl earlier ↦ moved.before p earlier ∙ k.emptied p earlier
         | inr here ↦ moved.emptied p here below

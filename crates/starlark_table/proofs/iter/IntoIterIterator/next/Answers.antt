@@ -1,9 +1,10 @@
 use Rattle.std.proofs.Common.{◌∷◌, length, None, arith, rules, sym, ◌∙◌, ap, subst, refl}
-use Rattle.std.proofs.Math.ListN.{set}
+use Rattle.std.proofs.Math.ListN.{set, length-set}
 use Rattle.starlark_table.specs.Table.{filled}
 use Rattle.starlark_table.specs.Layout.{at, IsTagged}
 use Rattle.starlark_table.proofs.Closing.{full_in_range}
 use Rattle.starlark_table.proofs.Filling.{filled-past_front, filled-first_taken, empty-joined, empty-after_taken}
+use Rattle.starlark_table.proofs.TagCount.{doubled-alike, refilled}
 use Rattle.starlark_table.proofs.Tagged.{tagged-changed}
 use Rattle.starlark_table.proofs.iter.IntoIterIterator.next.Goals as goal
 
@@ -24,11 +25,16 @@ invariant_of-self g c =
     let front = empty-joined slots c.self.inside.slot i c.self.invariant.2 c.full_slot-slot.ensures.passed in
     let taken = ap length (filled-first_taken slots i c.take-hash.result front here) in
     let left = c.self.invariant.1 in
-    let after = ap (λ l. length (filled l)) is in (
-      subst (λ l. IsTagged (set c.self.inside.tags.items i 255) l) (sym is)
-          (tagged-changed c.self.inside.tags.items slots i 255 None i_in c.self.invariant.0 refl),
+    let after = ap (λ l. length (filled l)) is in
+    let tags = c.self.inside.tags in
+    let shown = c.as_mut_slice.result.now in
+    let same = c.as_mut_slice.ensures.value in
+    let written = refilled tags (set shown i 255) (length-set shown i 255 ∙ ap length same) ∙ ap (λ l. set l i 255) same in (
+      subst (λ l. IsTagged l c.take-hash.new.self) (sym written)
+          (subst (λ l. IsTagged (set tags i 255) l) (sym is) (tagged-changed tags slots i 255 None i_in c.self.invariant.0 refl)),
       omega (arith, taken, left, after),
       λ p below. ap (λ l. at l p) is ∙ empty-after_taken slots i i_in front p below,
+      doubled-alike slots c.take-hash.new.self (ap length is ∙ length-set slots i None) c.self.invariant.3,
     )
 
 pub returns-clause-steps : goal.returns-clause-steps

@@ -6,7 +6,7 @@ use Rattle.starlark_table.proofs.ready_table.ReadyTable.find_near.Goals as goal
 
 pub find_slot_near-requires-clause-free : goal.find_slot_near-requires-clause-free
 find_slot_near-requires-clause-free g c =
-    sound-empty_slot c.self.inside.slots c.self.inside.tags.items c.self.inside.len c.self.inside.mask c.self.invariant
+    sound-empty_slot c.self.inside.slots c.self.inside.tags c.self.inside.len c.self.invariant
 
 pub find_slot_near-requires-clause-callable : goal.find_slot_near-requires-clause-callable
 find_slot_near-requires-clause-callable g c =

@@ -8,7 +8,7 @@ invariant_of-self g c =
     let walk = c.replace_items.ensures in
     reshaped c.self.inside.slots c.replace_items.new.slots
     (shape-replaced g.F.FnMut c.self.inside.slots c.replace_items.new.slots c.args.f walk.0 walk.1)
-    c.self.inside.tags.items c.self.inside.len c.self.inside.mask c.self.invariant
+    c.self.inside.tags c.self.inside.len c.self.invariant
 
 pub returns-clause-room : goal.returns-clause-room
 returns-clause-room g c =

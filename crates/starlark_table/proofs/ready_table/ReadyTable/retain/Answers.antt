@@ -1,11 +1,11 @@
-use Rattle.std.proofs.Common.{ℕ, ◌≡◌, ◌≤◌, refl, ◌∙◌, arith}
-use Rattle.std.proofs.lemmas.List.{with_items_is}
+use Rattle.std.proofs.Common.{ap, length, ℕ, ◌≡◌, ◌≤◌, refl, ◌∙◌, arith}
 use Rattle.std.proofs.lemmas.List.Sorted.{length_permutation}
 use Rattle.starlark_table.specs.Table.{filled}
 use Rattle.starlark_table.specs.Walk.{AsksMember}
 use Rattle.starlark_table.proofs.Changing.{some_kept}
 use Rattle.starlark_table.proofs.Sound.{sound-as}
 use Rattle.starlark_table.proofs.Retaining.{length-retained}
+use Rattle.starlark_table.proofs.TagCount.{refilled}
 use Rattle.starlark_table.proofs.ready_table.ReadyTable.retain.Goals as goal
 
 shorter : (a b c : ℕ) → a ≤ b → c ≡ a → c ≤ b
@@ -15,8 +15,8 @@ pub invariant_of-self : goal.invariant_of-self
 invariant_of-self g c =
     let after = c.retain_items-self-inside in
     let kept = after.ensures.kept in
-    sound-as _ _ _ _ after.result c.self.inside.mask refl (with_items_is c.self.inside.tags after.new.tags (after.auto.tags ∙ c.as_mut_slice.ensures.len))
-    (some_kept c.self.inside.slots c.self.inside.tags.items c.self.inside.len c.self.inside.mask c.self.invariant c.args.self.now c.self.view_is
+    sound-as _ _ _ _ after.result refl (refilled c.self.inside.tags after.new.tags (after.auto.tags ∙ ap length c.as_mut_slice.ensures.value))
+    (some_kept c.self.inside.slots c.self.inside.tags c.self.inside.len c.self.invariant c.args.self.now c.self.view_is
     after.result after.new.slots after.new.tags after.ensures.sized after.ensures.in_place after.ensures.tagged after.ensures.counted
     (shorter _ _ _ (length-retained (AsksMember g.F.FnMut) c.args.f (filled c.self.inside.slots) kept.0 kept.1) (length_permutation kept.0 (filled after.new.slots) kept.2))).sound
 
@@ -24,6 +24,6 @@ pub returns-clause-room : goal.returns-clause-room
 returns-clause-room g c =
     let after = c.retain_items-self-inside in
     let kept = after.ensures.kept in
-    (some_kept c.self.inside.slots c.self.inside.tags.items c.self.inside.len c.self.inside.mask c.self.invariant c.args.self.now c.self.view_is
+    (some_kept c.self.inside.slots c.self.inside.tags c.self.inside.len c.self.invariant c.args.self.now c.self.view_is
     after.result after.new.slots after.new.tags after.ensures.sized after.ensures.in_place after.ensures.tagged after.ensures.counted
     (shorter _ _ _ (length-retained (AsksMember g.F.FnMut) c.args.f (filled c.self.inside.slots) kept.0 kept.1) (length_permutation kept.0 (filled after.new.slots) kept.2))).room

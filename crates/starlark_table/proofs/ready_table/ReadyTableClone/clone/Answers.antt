@@ -1,9 +1,9 @@
 use Rattle.std.proofs.Common.{◌≡◌, ◌-◌, length, arith, refl, ◌∙◌, ap}
-use Rattle.std.proofs.lemmas.List.{with_items_is}
 use Rattle.starlark_table.specs.Growth.{limit}
 use Rattle.starlark_table.proofs.Cloning.{no_slots_cloned}
 use Rattle.starlark_table.proofs.Shape.{shape-cloned, same_length, sound-cloned}
 use Rattle.starlark_table.proofs.Sound.{sound-as}
+use Rattle.starlark_table.proofs.TagCount.{refilled, tags_fit}
 use Rattle.starlark_table.proofs.ready_table.ReadyTableClone.clone.Goals as goal
 
 pub returns-then-count-eq0 : goal.returns-then-count-eq0
@@ -17,17 +17,18 @@ returns-then-count-eq0 g c =
       });
     }
 
-pub empty_tags-requires : goal.empty_tags-requires
-empty_tags-requires g c =
-    let sized = c.self.invariant.tagged.sized (omega (arith, c.if-count-eq0.false, c.places-count.ensures.places)) in
-    omega (arith, sized, c.places-count.ensures.places, c.self.inside.tags.ok.0)
+pub empty_places-requires : goal.empty_places-requires
+empty_places-requires g c =
+    let places = c.places-count.ensures.places in
+    let fit = tags_fit c.self.inside.slots c.self.invariant.doubled (omega (arith, c.if-count-eq0.false, places)) c.places-count.ensures.fits in
+    omega (arith, fit, places)
 
 pub invariant_of-result : goal.invariant_of-result
 invariant_of-result g c =
-    sound-as _ _ _ _ c.self.inside.len c.self.inside.mask refl
-    (with_items_is c.in_ok-tags.tags c.clone_members-cloned.new.copy_tags (c.clone_members-cloned.auto.copy_tags ∙ c.as_mut_slice.ensures.len))
-    (sound-cloned g.T.Clone.is_clone c.self.inside.slots c.clone_members-cloned.new.copy c.self.inside.tags.items c.clone_members-cloned.new.copy_tags
-    c.self.inside.len c.self.inside.mask c.self.invariant c.in-Ok.ensures.cloned c.in-Ok.ensures.tagged)
+    sound-as _ _ _ _ c.self.inside.len refl
+    (refilled c.in_ok-slots.tags c.clone_members-cloned.new.copy_tags (c.clone_members-cloned.auto.copy_tags ∙ ap length c.as_mut_slice.ensures.value))
+    (sound-cloned g.T.Clone.is_clone c.self.inside.slots c.clone_members-cloned.new.copy c.self.inside.tags c.clone_members-cloned.new.copy_tags
+    c.self.inside.len c.self.invariant c.in-Ok.ensures.cloned c.in-Ok.ensures.tagged)
 
 pub returns-in-Ok : goal.returns-in-Ok
 returns-in-Ok g c =

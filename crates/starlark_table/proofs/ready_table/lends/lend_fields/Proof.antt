@@ -1,5 +1,5 @@
 -- `lend_fields` meets its contract: two calls, each of which says what its parameter ends as. Assumes `Logic`.
-use Rattle.starlark_columns.proofs.Walking.{◌≡◌, refl, ap, ℕ, Bool, true, false, ◌&&◌, List, [], ◌∷◌, Ura, Fn, Args, Dict, a_type, dcons, dnil, named, inst_fn, Val, vptr, vstruct, vcons, vnil, SProp, ent, emp, id⊢, ex_e, snd∗, Lft, Share, ftrue, flft, Memory, Routine, Calls, Loops, WpFn, Logic, sem, ◌⊑◌, Fun, fact, fact_i, tables, FmC, ‵, raw, ◌⊛◌, some, later, ◌$◌, ◌∵◌, !, qed, move, keep, drop, use0, use1, use2, split, split3, join, pick, fsplit3, fjoin, rewrite, suffices, frame, await, done, agg, stop, addr, and_then, no_more, returns, enter, alloc_all, pass_all, free_all, look_at, get, through, sets, lands_as, no, Is, shows, param, bounded, Laws, param_laws, of_field, copy_shared, u64, RattleType, owns, Bor, MutBor, ShrRef, mut_vals, mut_Tells, shr_Tells, plain, types_at, mut_ref_to, named_lft, nothing, heard, peeks, only, u64-field, u64-laws, u64-copy, Tuple, tuple_laws, calls_at, Clauses, Ended, ensured, lasts, triple_of, Contract, Triple, framed, Stays, stay_dropped, walk_of, ends_at, Goes-spent_ref, proved, Vec}
+use Rattle.starlark_columns.proofs.Walking.{◌≡◌, refl, ap, ℕ, Bool, true, false, ◌&&◌, List, [], ◌∷◌, Ura, Fn, Args, Dict, a_type, dcons, dnil, named, inst_fn, Val, vptr, vstruct, vcons, vnil, SProp, ent, emp, id⊢, ex_e, snd∗, Lft, Share, ftrue, flft, Memory, Routine, Calls, Loops, WpFn, Logic, sem, ◌⊑◌, Fun, fact, fact_i, tables, FmC, ‵, raw, ◌⊛◌, some, later, ◌$◌, ◌∵◌, !, qed, move, keep, drop, use0, use1, use2, split, split3, join, pick, fsplit3, fjoin, rewrite, suffices, frame, await, done, agg, stop, addr, and_then, no_more, returns, enter, alloc_all, pass_all, free_all, look_at, get, through, sets, lands_as, no, Is, shows, param, bounded, Laws, param_laws, of_field, copy_shared, u64, RattleType, owns, Bor, MutBor, ShrRef, mut_vals, mut_Tells, shr_Tells, plain, types_at, mut_ref_to, named_lft, nothing, heard, peeks, only, u64-field, u64-laws, u64-copy, Tuple, tuple_laws, calls_at, Clauses, Ended, ensured, lasts, triple_of, Contract, Triple, framed, Stays, stay_dropped, walk_of, ends_at, Goes-spent_ref, proved}
 use lib.Dec as Dec
 use Rattle.std.specs.Prelude.{Option}
 use Rattle.starlark_columns.specs.declared.loan.Keeps as Keeps
@@ -65,7 +65,7 @@ module _ (T P : RattleType) (G : Keeps.Ghosts P.Denot (ℕ × T.Denot)) (dG : Di
 
     module _ (LT : Laws T) (LP : Laws P) (C : Calls 𝓤 𝓛.H) (Λ : Loops 𝓤 𝓛.H) (fm : FmC 𝓤 𝓛.H 𝓛.laws C)
         (gm : Triple 𝓤 (C (#members args)) Members) (gs : Triple 𝓤 (C #shown) Shown)
-        (κ κT κP : Lft) (q qT qP : Share) (bounds : (κ ⊑ κT) × Unit {0}) (r : MutBor Places) (s : MutBor (Vec ℕ)) where
+        (κ κT κP : Lft) (q qT qP : Share) (bounds : (κ ⊑ κT) × Unit {0}) (r : MutBor Places) (s : MutBor (List ℕ)) where
       abbrev bound : (walk_of 𝓛 ended stayed spec).Ghost
       bound = (((κ, (κT, (κP, tt))), (q, (qT, (qP, tt))), bounds, (r, (s, tt)), (mut_vals r, (mut_vals s, tt))), tt)
 
@@ -108,7 +108,7 @@ module _ (T P : RattleType) (G : Keeps.Ghosts P.Denot (ℕ × T.Denot)) (dG : Di
           nothing ! $ move ! (7 ∷ 0 ∷ []) $ fjoin ! $ nothing ! $ move ! (4 ∷ 0 ∷ []) $ join ! $ join ! $ nothing ! $ move ! (1 ∷ 0 ∷ []) $ join ! $
           use1 𝓛 (raw (Shown.pre z2)) (id⊢ 𝓤 _) $
           calls_at ! fm Shown gs z2 (and_then ! (get ! refl) (no_more !)) (λ t.
-          use1 𝓛 (later (some (λ (y : Bor (Vec ℕ)). ((‵ (flft κ q) ⊛ ‵ ftrue) ⊛ ‵ (Ref.own_val y (t ∷ []))) ⊛ raw (ensured 𝓛 h.ended (h.clauses 𝓛 at_mem run) z2.0.0 z2.0.3 tt y)))) (id⊢ 𝓤 _) $ await ! tt $ pick ! (λ y. split ! $ move ! (1 ∷ []) $
+          use1 𝓛 (later (some (λ (y : Bor (List ℕ)). ((‵ (flft κ q) ⊛ ‵ ftrue) ⊛ ‵ (Ref.own_val y (t ∷ []))) ⊛ raw (ensured 𝓛 h.ended (h.clauses 𝓛 at_mem run) z2.0.0 z2.0.3 tt y)))) (id⊢ 𝓤 _) $ await ! tt $ pick ! (λ y. split ! $ move ! (1 ∷ []) $
           use1 𝓛 (‵ (tags_stay s) ⊛ raw (fact 𝓤 (y.now ≡ s.now))) (ex_e 𝓤 _ (λ ws. snd∗ 𝓤 (sem 𝓛 (lasts h.ended z2.0.0 z2.0.3 ws)) _)) $ split ! $
           move ! (1 ∷ []) $ heard ! (y.now ≡ s.now) (λ seen. move ! (1 ∷ []) $ split ! $ move ! (1 ∷ []) $
           peeks ! Ref (Is Ref) (shows 𝓛 Ref) y (t ∷ []) (λ is_y. let at_t : t ≡ vptr y.ref_ptr.0 y.ref_ptr.1 = ap only (shr_Tells (named 0) κ Tags y (t ∷ []) is_y) in

@@ -1,6 +1,6 @@
 -- `lend_kept` lends the slots and the tags, and the whole table, open over the call, is closed by what they end as. Assumes
 -- `Logic`.
-use Rattle.starlark_columns.proofs.Walking.{◌≡◌, refl, sym, ap, subst, ◌∙◌, Bool, true, false, ◌&&◌, ℕ, ◌+◌, List, [], ◌∷◌, ◌++◌, length, Ura, full_share, Fn, Args, Dict, a_type, dcons, dnil, named, inst_fn, Val, vptr, vstruct, vcons, vnil, of_list, SProp, ent, emp, id⊢, ex_e, snd∗, Lft, GName, Share, ftrue, fsep, fauth, fres, flft, Memory, Routine, Calls, Loops, WpFn, ages, bor_new_deep, Logic, sem, open_ref, name_new, ◌⊑◌, Fun, fact, fact_i, tables, FmC, ‵, raw, ◌⊛◌, some, later, ◌$◌, ◌∵◌, !, qed, move, keep, drop, use0, use1, use2, split, split3, join, pick, fsplit, fsplit3, fjoin, fjoin3, fpack, fpick, feq_i, feq_l, rewrite, suffices, frame, group, await, done, stop, fld, addr, and_then, no_more, returns, enter, alloc_all, pass_all, free_all, look_at, get, through, sets, lands_as, no, follows, such_by, follows_by, Is, shows, u64, mem, part_at, param, bounded, Laws, param_laws, of_field, copy_shared, RattleType, owns, Bor, MutBor, ShrRef, mut_vals, mut_Tells, shr_Tells, plain, types_at, mut_ref_to, named_lft, nothing, heard, peeks, only, u64-field, u64-laws, u64-copy, Tuple, tuple_laws, calls_at, Clauses, Ended, ensured, lasts, triple_of, Contract, Triple, framed, Stays, stay_dropped, walk_of, ends_at, Goes-spent_ref, proved, ◌-◌, Vec}
+use Rattle.starlark_columns.proofs.Walking.{◌≡◌, refl, sym, ap, subst, ◌∙◌, Bool, true, false, ◌&&◌, ℕ, ◌+◌, List, [], ◌∷◌, ◌++◌, length, Ura, full_share, Fn, Args, Dict, a_type, dcons, dnil, named, inst_fn, Val, vptr, vstruct, vcons, vnil, of_list, SProp, ent, emp, id⊢, ex_e, snd∗, Lft, GName, Share, ftrue, fsep, fauth, fres, flft, Memory, Routine, Calls, Loops, WpFn, ages, bor_new_deep, Logic, sem, open_ref, name_new, ◌⊑◌, Fun, fact, fact_i, tables, FmC, ‵, raw, ◌⊛◌, some, later, ◌$◌, ◌∵◌, !, qed, move, keep, drop, use0, use1, use2, split, split3, join, pick, fsplit, fsplit3, fjoin, fjoin3, fpack, fpick, feq_i, feq_l, rewrite, suffices, frame, group, await, done, stop, fld, addr, and_then, no_more, returns, enter, alloc_all, pass_all, free_all, look_at, get, through, sets, lands_as, no, follows, such_by, follows_by, Is, shows, u64, mem, part_at, param, bounded, Laws, param_laws, of_field, copy_shared, RattleType, owns, Bor, MutBor, ShrRef, mut_vals, mut_Tells, shr_Tells, plain, types_at, mut_ref_to, named_lft, nothing, heard, peeks, only, u64-field, u64-laws, u64-copy, Tuple, tuple_laws, calls_at, Clauses, Ended, ensured, lasts, triple_of, Contract, Triple, framed, Stays, stay_dropped, walk_of, ends_at, Goes-spent_ref, proved, ◌-◌}
 use lib.Dec as Dec
 use base.Share
 use Rattle.std.specs.Prelude.{Option}
@@ -73,7 +73,7 @@ module _ (T P : RattleType) (G : Keeps.Ghosts P.Denot (ℕ × T.Denot)) (dG : Di
 
   module _ (hash : (x w : ℕ × T.Denot) → (G.kept x w).0 ≡ x.0) (again : (x w : ℕ × T.Denot) → G.kept x (G.kept x w) ≡ G.kept x w) where
     written_known : (v : W.Denot) (d : D) (w : Places) → O.Known K v d → O.Known K (seen d w) (written d w)
-    written_known v d w k = (refl, reshaped d.slots (kept_places G.kept d.slots w) (shape-kept_places G.kept hash d.slots w) d.tags.items d.len d.mask k.1)
+    written_known v d w k = (refl, reshaped d.slots (kept_places G.kept d.slots w) (shape-kept_places G.kept hash d.slots w) d.tags d.len k.1)
 
     same : (v : W.Denot) (d : D) (w : Places) → O.Known K v d → with_kept G.kept v (seen d w) ≡ seen d w
     same v d w k =
@@ -89,9 +89,9 @@ module _ (T P : RattleType) (G : Keeps.Ghosts P.Denot (ℕ × T.Denot)) (dG : Di
     abbrev Lend : Contract 𝓤
     Lend = triple_of 𝓛 (g.signature T P G dG) (g.spec T P G dG 𝓛 at_mem run)
 
-    stays_res : (s : MutBor (Vec ℕ)) → ent 𝓤 (sem 𝓛 (tags_stay s)) (A.res s.ghost_name (Tags.coded.code s.now))
+    stays_res : (s : MutBor (List ℕ)) → ent 𝓤 (sem 𝓛 (tags_stay s)) (A.res s.ghost_name (Tags.coded.code s.now))
     unfolding such_by follows_by
-    stays_res s = qed 𝓛 (‵ (tags_stay s) ∷ []) ∵ fpick ! (λ t. rewrite ! 0 (λ (n : Vec ℕ). ‵ (fres s.ghost_name (Tags.coded.code n))) t.2 refl $ done !)
+    stays_res s = qed 𝓛 (‵ (tags_stay s) ∷ []) ∵ fpick ! (λ t. rewrite ! 0 (λ (n : List ℕ). ‵ (fres s.ghost_name (Tags.coded.code n))) t.2 refl $ done !)
 
     module _ (LT : Laws T) (LP : Laws P) (C : Calls 𝓤 𝓛.H) (Λ : Loops 𝓤 𝓛.H) (fm : FmC 𝓤 𝓛.H 𝓛.laws C) (gl : Triple 𝓤 (C (#lend args)) Lend)
         (κ κT κP : Lft) (q qT qP : Share) (bounds : (κ ⊑ κT) × Unit {0}) (r : MutBor W.Denot) where
@@ -148,7 +148,7 @@ module _ (T P : RattleType) (G : Keeps.Ghosts P.Denot (ℕ × T.Denot)) (dG : Di
           let z : Lend.Ghost = (((κ, (κT, (κP, tt))), (Share.right q, (qT, (qP, tt))), bounds, (xr, (yr, tt)), (mut_vals xr, (mut_vals yr, tt))), tt) in
           use1 𝓛 (raw (Lend.pre z)) (id⊢ 𝓤 _) $
           calls_at ! fm Lend gl z (and_then ! (get ! refl) (and_then ! (get ! refl) (no_more !))) (λ u.
-          use1 𝓛 (later (some (λ (x : Loan (ℕ × T.Denot) P.Denot × Bor (Vec ℕ)). ((‵ (flft κ (Share.right q)) ⊛ ‵ (flft κT qT) ⊛ ‵ (flft κP qP) ⊛ ‵ ftrue) ⊛ ‵ (Pair.own_val x (u ∷ []))) ⊛ raw (ensured 𝓛 (g.ended T P G dG) (g.clauses T P G dG 𝓛 at_mem run) z.0.0 z.0.3 tt x)))) (id⊢ 𝓤 _) $ await ! tt $ pick ! (λ x. split ! $ move ! (1 ∷ []) $
+          use1 𝓛 (later (some (λ (x : Loan (ℕ × T.Denot) P.Denot × Bor (List ℕ)). ((‵ (flft κ (Share.right q)) ⊛ ‵ (flft κT qT) ⊛ ‵ (flft κP qP) ⊛ ‵ ftrue) ⊛ ‵ (Pair.own_val x (u ∷ []))) ⊛ raw (ensured 𝓛 (g.ended T P G dG) (g.clauses T P G dG 𝓛 at_mem run) z.0.0 z.0.3 tt x)))) (id⊢ 𝓤 _) $ await ! tt $ pick ! (λ x. split ! $ move ! (1 ∷ []) $
           use1 𝓛 (‵ (follows CS CS δ x.0.tie (kept_places G.kept xs)) ⊛ ‵ (tags_stay yr) ⊛ raw (fact 𝓤 (x.0.from ≡ 0)) ⊛ raw (fact 𝓤 (x.0.rest ≡ xs)) ⊛ raw (fact 𝓤 (x.1.now ≡ ys)))
           (ex_e 𝓤 _ (λ ws. snd∗ 𝓤 (sem 𝓛 (lasts (g.ended T P G dG) z.0.0 z.0.3 ws)) _)) $ split3 ! $ move ! (2 ∷ []) $ split3 ! $
           heard ! (x.0.from ≡ 0) (λ at_0. heard ! (x.0.rest ≡ xs) (λ all. heard ! (x.1.now ≡ ys) (λ seen_tags.
@@ -165,13 +165,13 @@ module _ (T P : RattleType) (G : Keeps.Ghosts P.Denot (ℕ × T.Denot)) (dG : Di
           move ! (1 ∷ []) $ peeks ! Ref (Is Ref) (shows 𝓛 Ref) x.1 vss.1.0 (λ is_y. let at_y = shr_Tells (named 0) κ Tags x.1 vss.1.0 is_y in rewrite ! 0 (λ (us : List Val). ‵ (Ref.own_val x.1 us)) at_y refl $
           -- [the tags; the loan; nothing; the token of κ; those of κT, κP; what self follows]
           let made : Val = vstruct (vcons lone.0 (vcons (vptr x.1.ref_ptr.0 x.1.ref_ptr.1) vnil)) in
-          let new : Loan (ℕ × T.Denot) P.Denot × Bor (Vec ℕ) = (record x.0 { tie = tie }, x.1) in
+          let new : Loan (ℕ × T.Denot) P.Denot × Bor (List ℕ) = (record x.0 { tie = tie }, x.1) in
           lands_as ! (ap only e ∙ (λ j. vstruct (of_list (lone.1 j ++ (at_y j ++ []))))) refl (and_sure _ lone.2.0, (lone.2.1, (tt, tt))) $
           returns ! (look_at ! 0 refl) $ free_all ! refl $ keep ! (1 ∷ 0 ∷ 3 ∷ 4 ∷ 5 ∷ []) $
           use2 𝓛 (‵ (Pair.own_val new (made ∷ []))) (as_tuple 𝓛 It Ref new.0 new.1 lone.0 (vptr x.1.ref_ptr.0 x.1.ref_ptr.1)) $
           suffices ! _ (ends_at 𝓛 ended stayed spec bound made new (tt, tt) (tt, tt)) $
           nothing ! $ nothing ! $ fjoin ! $ join ! $ move ! (1 ∷ 2 ∷ []) $ join ! $ join ! $ frame ! $
-          use0 𝓛 (raw (fact 𝓤 (IsTagged x.1.now.items v.slots))) (fact_i 𝓤 _ (emp 𝓤) (subst (λ (l : Places). IsTagged x.1.now.items l) (ap (λ (t : W.Denot). t.slots) d'.1.0) (subst (λ (t : Vec ℕ). IsTagged t.items xs) (sym seen_tags) d'.1.1.tagged))) $
+          use0 𝓛 (raw (fact 𝓤 (IsTagged x.1.now v.slots))) (fact_i 𝓤 _ (emp 𝓤) (subst (λ (l : Places). IsTagged x.1.now l) (ap (λ (t : W.Denot). t.slots) d'.1.0) (subst (λ (t : List ℕ). IsTagged t xs) (sym seen_tags) d'.1.1.tagged))) $
           use0 𝓛 (raw (fact 𝓤 (x.0.rest ≡ v.slots))) (fact_i 𝓤 _ (emp 𝓤) (all ∙ ap (λ (t : W.Denot). t.slots) d'.1.0)) $ use0 𝓛 (raw (fact 𝓤 (x.0.from ≡ 0))) (fact_i 𝓤 _ (emp 𝓤) at_0) $
           move ! (3 ∷ 0 ∷ 1 ∷ 2 ∷ []) $ done !)))))))))))))))))))
 

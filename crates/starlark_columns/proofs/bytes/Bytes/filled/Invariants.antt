@@ -1,0 +1,7 @@
+use Rattle.std.proofs.Common.{◌≡◌, length, replicate}
+use Rattle.starlark_columns.specs.Front.{IsFront}
+use Rattle.starlark_columns.specs.Places.{items_of}
+use Rattle.starlark_columns.proofs.bytes.Bytes.filled.Given as goal
+
+abbrev pub invariant-loop-made : goal.invariant-loop-made
+invariant-loop-made l = IsFront l.row.places l.made × (items_of l.row.places ≡ replicate l.made l.byte) × (length l.row.places ≡ l.count) × (l.row.at ≡ l.address.at)

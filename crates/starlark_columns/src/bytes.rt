@@ -1,0 +1,128 @@
+//! `Bytes`, bytes in a block of their own, of which no more is kept than the address.
+ghost use Rattle.std.specs.Prelude.{◌≡◌, ◌<◌, [], length, replicate, IfOk};
+ghost use Rattle.std.specs.Borrow.{sem};
+ghost use Rattle.starlark_columns.specs.Places.{empties};
+
+use crate::block::{Address, Claim, Held, allocate, bare, bare_claim, deallocate, let_go};
+use crate::row::Row;
+use std::alloc::{AllocError, Global};
+use std::marker::Model;
+use std_alloc::room::may_hold;
+
+/// Bytes in one block of memory, or none and no memory. It takes the 8 bytes of an address: each call is told how many
+/// there are, which the type above knows. It is given back by `give_back`, and seen as the bytes.
+pub struct Bytes {
+    address: Address<u8>,
+    row: Row<u8>,
+    claim: Claim<u8, Global>,
+    // Where the block comes from.
+    alloc: Global,
+}
+
+impl Model for Bytes {
+    ghost use Rattle.std.specs.Prelude.{ℕ, List};
+    ghost use Rattle.starlark_columns.specs.Bytes.{IsBytes};
+    ghost use Rattle.starlark_columns.specs.Places.{items_of};
+
+    ghost Value = { List ℕ };
+
+    ghost view = { λ b. items_of b.row.places };
+
+    ghost invariant = { λ b. IsBytes b.address b.row b.claim };
+}
+
+impl Bytes {
+    ghost use Rattle.starlark_columns.specs.BytesLends.{lends_bytes};
+
+    /// No bytes, without memory.
+    #[inline]
+    pub fn none(alloc: Global) -> Bytes
+        ensures { result ≡ [] }
+    {
+        let (address, held) = bare(0);
+        let claim = bare_claim(&alloc, address, 0);
+        Bytes {
+            address,
+            row: Row { held },
+            claim,
+            alloc,
+        }
+    }
+
+    /// So many times one byte. It is refused where there is no memory for them.
+    pub fn filled(alloc: Global, count: usize, byte: u8) -> Result<Bytes, AllocError>
+        requires { 0 < count }
+        ensures { IfOk result (λ b. b ≡ replicate count byte) }
+    {
+        if !may_hold::<u8>(count) {
+            return Err(AllocError);
+        }
+        let (address, held, claim) = allocate(&alloc, count)?;
+        let mut row = Row { held };
+        for made in 0..count {
+            row.push_last(address, count, made, byte);
+        }
+        Ok(Bytes {
+            address,
+            row,
+            claim,
+            alloc,
+        })
+    }
+
+    /// Where the memory comes from.
+    #[inline]
+    pub fn allocator(&self) -> Global {
+        self.alloc
+    }
+
+    /// The bytes.
+    #[inline]
+    pub fn as_slice(&self, count: usize) -> &[u8]
+        requires { count ≡ length self.now }
+        ensures { result.now ≡ self.now }
+    {
+        self.row.items(self.address, count)
+    }
+
+    /// The bytes, to be written. They end as what is left in them.
+    #[inline]
+    pub fn as_mut_slice(&mut self, count: usize) -> &mut [u8]
+        requires { count ≡ length self.old }
+        ensures* writes_back { sem 𝓛 (lends_bytes self.entry result) }
+        ensures value { result.now ≡ self.old }
+    {
+        self.row.items_mut(self.address, count)
+    }
+
+    /// Gives the memory back.
+    #[inline]
+    pub fn give_back(self, count: usize)
+        requires { count ≡ length self }
+    {
+        let Bytes {
+            address,
+            row,
+            claim,
+            alloc,
+        } = self;
+        let held = emptied(row, address, count);
+        if count == 0 {
+            let_go(held, claim);
+        } else {
+            deallocate(&alloc, address, count, held, claim);
+        }
+    }
+}
+
+// The places without their bytes.
+#[inline]
+fn emptied(row: Row<u8>, address: Address<u8>, count: usize) -> Held<u8>
+    requires { (address.at ≡ row.at) × (count ≡ length row.places) }
+    ensures { (result.at ≡ row.at) × (result.places ≡ empties count) }
+{
+    let Row { mut held } = row;
+    let places = held.open(address, count);
+    held.close(places, 0, count);
+    held
+}

@@ -1,0 +1,40 @@
+-- How many tags there are beside the slots.
+use Rattle.std.proofs.Common.{◌≡◌, ℕ, ◌+◌, ◌*◌, ◌^◌, ◌<◌, ◌≤◌, true, false, nat_eq, eqb-true, if◌then◌else◌, List, length, drop, Option, refl, sym, ◌∙◌, subst, arith, inl, inr}
+use Rattle.std.proofs.Math.Nat.{pow-le-pow_right}
+use Rattle.std.proofs.lemmas.Bool.{cases_lt}
+use Rattle.std.specs.List.{refill}
+use Rattle.std.proofs.lemmas.List.{take_at}
+use Rattle.starlark_table.specs.Layout.{window, tag_count, AreDoubled, HasTags}
+
+pub tag_count-some : (m : ℕ) → 0 < m → tag_count m ≡ m + window
+tag_count-some m some =
+    (elim (nat_eq m 0) as (λ b. nat_eq m 0 ≡ b → (if b then 0 else m + window) ≡ m + window) [
+      | true ↦ λ test. absurd (omega (arith, some, eqb-true m 0 test))
+      | false ↦ λ test. refl
+    ]) refl
+
+-- eight, doubled some times, is far from the greatest `usize` where it is below it
+doubled_fits : (n k : ℕ) → n ≡ 8 * 2 ^ k → n < 2 ^ 64 → n + window < 2 ^ 64
+doubled_fits n k is below = elim (cases_lt k 61) [
+  | inl few ↦
+      let near : k ≤ 60 = omega (arith, few) in
+      let most : 2 ^ k ≤ 2 ^ 60 = pow-le-pow_right {n = 2} (omega arith) near in
+      omega (arith, is, most)
+  | inr many ↦
+      let least : 2 ^ 61 ≤ 2 ^ k = pow-le-pow_right {n = 2} (omega arith) many in
+      absurd (omega (arith, is, least, below))
+]
+
+module _ {T : Type 0} where
+  pub long_tags : (tags : List ℕ) (slots : List (Option (ℕ × T))) → HasTags tags slots → 0 < length slots → length tags ≡ length slots + window
+  long_tags tags slots sized some = sized ∙ tag_count-some (length slots) some
+
+  pub tags_fit : (slots : List (Option (ℕ × T))) → AreDoubled slots → 0 < length slots → length slots < 2 ^ 64 → length slots + window < 2 ^ 64
+  tags_fit slots doubled some below = let d = doubled some in doubled_fits (length slots) d.0 d.1 below
+
+  pub doubled-alike : (old new : List (Option (ℕ × T))) → length new ≡ length old → AreDoubled old → AreDoubled new
+  doubled-alike old new same doubled = subst (λ n. 0 < n → (k : ℕ) × (n ≡ 8 * 2 ^ k)) (sym same) doubled
+
+-- as many bytes written as there are
+pub refilled : (old new : List ℕ) → length new ≡ length old → refill (length old) old new ≡ new
+refilled old new same = take_at new (drop (length new) old) (length old) same
