@@ -75,7 +75,7 @@ impl Index {
         Ok(())
     }
 
-    // The same, if it needs no other index.
+    // The same, unless it wants another index: false says that it does, and that nothing has changed.
     fn reserve_as_it_is<K, V>(
         &mut self,
         entries: &VecMap<K, V>,

@@ -80,7 +80,8 @@ impl PlaceTable {
         }
     }
 
-    /// Makes room for so many further places, if they fit: false says that so many want a wider table.
+    /// Makes room for so many further places, unless so many want a wider table: false says that they do, and that nothing
+    /// has changed.
     pub(crate) fn reserve(&mut self, additional: usize) -> Result<bool, AllocError>
         ensures made { IfOk result (λ fits. fits ≡ true → additional ≤ self.new.room) }
         ensures other { IfOk result (λ fits. fits ≡ false → self.old.room < additional) }
@@ -113,6 +114,7 @@ impl PlaceTable {
         ensures added { IsPermutation ((promoted (hash_number hash), place) ∷ members self.old) (members self.new) }
         ensures room { table_capacity self.new ≡ table_capacity self.old }
     {
+        // A hash is below 2^32.
         let _number = hash.get();
         match &mut self.width {
             Width::Narrow(table) => {

@@ -84,6 +84,7 @@ pub(super) fn find_in<N: PlaceNumber, K, V, F: FnMut(&K) -> bool>(
     requires callable { CanSearch F.FnMut (keys_under hash entries.now.entries) eq }
     ensures { (last : F) × Searches F.FnMut (keys_under hash entries.now.entries) eq result last }
 {
+    // A hash is below 2^32, so no two have one promotion.
     let _number = hash.get();
     let place = table.find_item(
         hash,
