@@ -7,3 +7,4 @@ pub mod Collecting
 pub mod Retained
 pub mod Callers
 pub mod Lookups
+pub mod Members

@@ -2,7 +2,9 @@
 ghost use Rattle.std.specs.Fn.{CalledAt, TakesAt};
 ghost use Rattle.std.specs.Hash.{HashWrites};
 ghost use Rattle.std.specs.Prelude.{◌≡◌, Bool, filter};
-ghost use Rattle.starlark_lists.specs.Entries.{entry_key};
+ghost use Rattle.starlark_hash.specs.HashValue.{hashed};
+ghost use Rattle.starlark_hash.specs.declared.hash_value.StarlarkHashValue.{StarlarkHashValue};
+ghost use Rattle.starlark_lists.specs.Entries.{Entry, entry_key};
 ghost use Rattle.starlark_small.specs.Calling.{AreOwn};
 ghost use Rattle.starlark_small.specs.Map.{KeepsMemory};
 ghost use Rattle.starlark_lists.specs.Retain.{Retains, TakesInTurn};
@@ -18,7 +20,7 @@ impl<T: Eq + Drop> SmallSet<T> {
         requires { TakesInTurn (CalledAtElement F.FnMut) (TakesElement F.FnMut) keep self.old.entries }
         ensures entries { Retains (CalledAtElement F.FnMut) keep self.old.entries self.new.entries }
         ensures filtered { (test : T → Bool) → ((f : F) (element : T) (keeps : Bool) (left : F) → CalledAt F.FnMut f element keeps left → keeps ≡ test element) → self.new.entries ≡ filter (λ e. test (entry_key e)) self.old.entries }
-        ensures tested { (test : T → Bool) → ((element : T) (keeps : Bool) (left : F) → CalledAt F.FnMut keep element keeps left → (keeps ≡ test element) × (left ≡ keep)) → self.new.entries ≡ filter (λ e. test (entry_key e)) self.old.entries }
+        ensures tested { (test : Entry T (Unit {0}) → Bool) → ((element : T) (keeps : Bool) (left : F) → CalledAt F.FnMut keep element keeps left → ((hash : StarlarkHashValue) → keeps ≡ test (hashed hash element, tt)) × (left ≡ keep)) → self.new.entries ≡ filter test self.old.entries }
         ensures own { (feeds : T → HashWrites) → AreOwn feeds self.old → AreOwn feeds self.new }
         ensures kept { KeepsMemory self.old self.new }
     {

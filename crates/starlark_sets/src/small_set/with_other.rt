@@ -1,6 +1,9 @@
 //! A `SmallSet` beside another: what one has and the other lacks, and what is in either.
-ghost use Rattle.std.specs.Prelude.{◌≡◌, ◌^◌, ◌<◌, length};
+ghost use Rattle.std.specs.Hash.{HashWrites};
+ghost use Rattle.std.specs.Prelude.{◌≡◌, ◌^◌, ◌<◌, ◌&&◌, ◌||◌, length, not, IsTrue};
+ghost use Rattle.std.specs.Set.{is_member};
 ghost use Rattle.starlark_lists.specs.Entries.{IsSingle};
+ghost use Rattle.starlark_small.specs.Calling.{AreOwn, contains};
 ghost use Rattle.starlark_sets.specs.Difference.{ShowsDifference, difference, difference_rest};
 ghost use Rattle.starlark_sets.specs.Union.{ShowsUnion, union, union_rest};
 
@@ -15,6 +18,7 @@ impl<T: Eq> SmallSet<T> {
     pub fn difference<'a>(&'a self, other: &'a Self) -> Difference<'a, T>
         ensures left { result ≡ record { left = self.now.entries; other = other.now.entries } }
         ensures single { IsSingle T.eq (difference T.eq self.now.entries other.now.entries) }
+        ensures members { (feeds : T → HashWrites) → ((x y : T) → IsTrue (T.eq x y) → feeds x ≡ feeds y) → AreOwn feeds self.now → (element : T) → is_member T.eq (difference_rest T.eq result) element ≡ (contains T.eq feeds self.now element && not (contains T.eq feeds other.now element)) }
         ensures fits { length (difference_rest T.eq result) < 2 ^ 64 }
         ensures runs { ShowsDifference T.eq }
     {
@@ -29,6 +33,7 @@ impl<T: Eq> SmallSet<T> {
         ensures left { result ≡ record { first = self.now.entries; second = record { left = other.now.entries; other = self.now.entries } } }
         ensures single { IsSingle T.eq (union T.eq self.now.entries other.now.entries) }
         ensures fits { length (union_rest T.eq result) < 2 ^ 64 }
+        ensures members { (feeds : T → HashWrites) → ((x y : T) → IsTrue (T.eq x y) → feeds x ≡ feeds y) → AreOwn feeds self.now → AreOwn feeds other.now → (element : T) → is_member T.eq (union_rest T.eq result) element ≡ (contains T.eq feeds self.now element || contains T.eq feeds other.now element) }
         ensures runs { ShowsUnion T.eq }
     {
         let first = self.entries();

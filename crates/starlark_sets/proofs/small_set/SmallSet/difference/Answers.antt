@@ -1,8 +1,10 @@
-use Rattle.std.proofs.Common.{length, ap, arith}
+use Rattle.std.proofs.Common.{◌≡◌, length, ap, ◌∙◌, arith, rules}
+use Rattle.std.specs.Set.{is_member}
 use Rattle.std.proofs.iter.runs.Sources.{from_front}
 use Rattle.std.specs.Map.Iter.{deref}
 use Rattle.starlark_sets.specs.Difference.{DifferenceSteps, difference_rest}
 use Rattle.starlark_sets.proofs.Differences.{length-difference-le}
+use Rattle.starlark_sets.proofs.Members.{members-difference}
 use Rattle.starlark_sets.proofs.Unions.{IsSingle-difference}
 use Rattle.starlark_sets.proofs.small_set.SmallSet.difference.Goals as goal
 
@@ -16,3 +18,11 @@ returns-clause-fits g c =
 pub returns-clause-runs : goal.returns-clause-runs
 returns-clause-runs g c =
     let eq = g.T.PartialEq.eq in from_front (DifferenceSteps eq) deref (difference_rest eq) (λ s t h. ap length h.0.0) (λ s x t h. h.0)
+
+pub returns-clause-members : goal.returns-clause-members
+returns-clause-members g c feeds alike own element =
+    let eq = g.T.PartialEq.eq in
+    let es = c.args.self.now.entries in
+    let fs = c.args.other.now.entries in
+    let is : c.new.result ≡ record { left = es; other = fs } = search rules in
+    ap (λ d. is_member eq (difference_rest eq d) element) is ∙ members-difference eq g.met.T.Eq.laws feeds alike es fs own element

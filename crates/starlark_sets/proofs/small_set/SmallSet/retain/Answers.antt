@@ -1,6 +1,6 @@
 use Rattle.std.proofs.Common.{◌∙◌, refl, sym, subst, rules, of_calls}
 use Rattle.std.specs.Fn.{CalledAt}
-use Rattle.starlark_lists.specs.Entries.{entry_key}
+use Rattle.starlark_lists.specs.Entries.{entry_hash, entry_key}
 use Rattle.starlark_lists.specs.Retain.{Retains, TakesInTurn}
 use Rattle.starlark_sets.specs.Retain.{CalledAtElement, TakesElement}
 use Rattle.starlark_sets.proofs.Retained.{filtered_by, takes_alone, tested_by, retains_alone}
@@ -24,5 +24,5 @@ returns-clause-filtered g c test says =
 
 pub returns-clause-tested : goal.returns-clause-tested
 returns-clause-tested g c test says =
-    tested_by (CalledAtElement g.F.FnMut) (λ e. test (entry_key e)) c.args.keep (λ e keeps d left t. let s = says (entry_key e) keeps left t.0 in (s.0, t.1, s.1))
+    tested_by (CalledAtElement g.F.FnMut) test c.args.keep (λ e keeps d left t. let s = says (entry_key e) keeps left t.0 in (s.0 (entry_hash e), t.1, s.1))
     c.args.keep refl c.args.self.now.entries c.retain.new.self.entries (returns-clause-entries g c)

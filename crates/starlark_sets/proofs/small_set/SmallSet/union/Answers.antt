@@ -1,8 +1,10 @@
-use Rattle.std.proofs.Common.{length, ap, arith}
+use Rattle.std.proofs.Common.{◌≡◌, length, ap, ◌∙◌, arith, rules}
+use Rattle.std.specs.Set.{is_member}
 use Rattle.std.proofs.iter.runs.Sources.{from_front}
 use Rattle.std.specs.Map.Iter.{deref}
 use Rattle.starlark_sets.specs.Union.{UnionSteps, union_rest}
 use Rattle.starlark_sets.proofs.Differences.{length-union-le}
+use Rattle.starlark_sets.proofs.Members.{members-union}
 use Rattle.starlark_sets.proofs.Unions.{IsSingle-difference, IsSingle-union}
 use Rattle.starlark_sets.proofs.small_set.SmallSet.union.Goals as goal
 
@@ -19,3 +21,11 @@ returns-clause-fits g c =
 pub returns-clause-runs : goal.returns-clause-runs
 returns-clause-runs g c =
     let eq = g.T.PartialEq.eq in from_front (UnionSteps eq) deref (union_rest eq) (λ s t h. ap length h.0.0) (λ s x t h. h.0)
+
+pub returns-clause-members : goal.returns-clause-members
+returns-clause-members g c feeds alike mine theirs element =
+    let eq = g.T.PartialEq.eq in
+    let es = c.args.self.now.entries in
+    let fs = c.args.other.now.entries in
+    let is : c.new-2.result ≡ record { first = es; second = record { left = fs; other = es } } = search rules in
+    ap (λ u. is_member eq (union_rest eq u) element) is ∙ members-union eq g.met.T.Eq.laws feeds alike es fs mine theirs element
