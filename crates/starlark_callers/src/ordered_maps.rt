@@ -1,15 +1,17 @@
 //! Callers of ordered maps.
 ghost use Rattle.std.specs.Hash as fed;
+ghost use Rattle.std.specs.Map.{update_all};
 ghost use Rattle.std.specs.Option.{unwrap_or};
 ghost use Rattle.std.specs.Prelude.{◌≡◌, ℕ, ◌+◌, ◌-◌, ◌^◌, if◌then◌else◌, is_some, length, min, nat_eq, false, Some, None, IfOk, OnOk, OnErr};
 ghost use Rattle.std.specs.String.{string_bytes, string_eq};
 ghost use Rattle.std.specs.declared.alloc.Global.{Global};
 ghost use Rattle.std.specs.declared.string.String.{String};
-ghost use Rattle.starlark_small.specs.Calling.{contains, get, get_text};
+ghost use Rattle.starlark_small.specs.Calling.{contains, get, get_text, AreOwn};
+ghost use Rattle.starlark_small.specs.Clone.{IsEqualClone};
 
 use starlark_hash::{NoRoom, TextKey};
 use starlark_sets::OrderedMap;
-use std::alloc::AllocError;
+use std::alloc::{AllocError, Global};
 use std::hash::Hash;
 
 /// Puts a value under a number.
@@ -142,4 +144,36 @@ pub fn sorted(map: &mut OrderedMap<u32, u64>, key: u32) -> Result<bool, AllocErr
 {
     map.sort_keys()?;
     Ok(map.contains_key(&key))
+}
+
+/// A map of the pairs of a vector: each key has its last value.
+pub fn of_vec<K: Eq + Hash + Drop, V: Drop>(
+    alloc: Global,
+    items: Vec<(K, V)>,
+) -> Result<OrderedMap<K, V>, AllocError>
+    ensures { IfOk result (λ m. (key : K) → get K.eq K.hash_input m key ≡ update_all K.eq (λ _. None) items.items key) }
+{
+    OrderedMap::from_iter(alloc, items)
+}
+
+/// Puts the pairs of a vector in.
+pub fn add_vec<K: Eq + Hash + Drop, V: Drop>(
+    map: &mut OrderedMap<K, V>,
+    items: Vec<(K, V)>,
+) -> Result<(), AllocError>
+    ensures { OnOk result ((key : K) → get K.eq K.hash_input map.new key ≡ update_all K.eq (get K.eq K.hash_input map.old) items.items key) }
+{
+    map.extend(items)?;
+    Ok(())
+}
+
+/// A copy of keys of any type, which has the same keys.
+pub fn copied<K: Eq + Hash + Clone, V: Clone>(
+    map: &OrderedMap<K, V>,
+) -> Result<OrderedMap<K, V>, AllocError>
+    requires { IsEqualClone K.eq K.is_clone }
+    ensures same { IfOk result (λ copy. (key : K) → contains K.eq K.hash_input copy key ≡ contains K.eq K.hash_input map.now key) }
+    ensures own { AreOwn K.hash_input map.now → IfOk result (AreOwn K.hash_input) }
+{
+    map.clone()
 }

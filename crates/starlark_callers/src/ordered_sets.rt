@@ -1,11 +1,13 @@
 //! Callers of ordered sets.
 ghost use Rattle.std.specs.Hash as fed;
-ghost use Rattle.std.specs.Prelude.{◌≡◌, ℕ, nat_eq, true, false, not, is_some, Some, None, IfOk, OnOk};
+ghost use Rattle.std.specs.Prelude.{◌≡◌, ℕ, ◌||◌, nat_eq, true, false, not, is_some, Some, None, IfOk, OnOk};
+ghost use Rattle.std.specs.Set.{is_member};
 ghost use Rattle.std.specs.String.{string_bytes, string_eq};
 ghost use Rattle.starlark_small.specs.Calling.{contains, contains_text};
 
 use starlark_hash::{NoRoom, TextKey};
 use starlark_sets::OrderedSet;
+use std::alloc::{AllocError, Global};
 use std::hash::Hash;
 
 /// Puts an element in, and answers whether it was new.
@@ -47,4 +49,26 @@ pub fn turned<T: Eq + Hash>(set: &mut OrderedSet<T>, n: &T) -> bool
 {
     set.reverse();
     set.contains(n)
+}
+
+/// A set of the elements of a vector.
+pub fn of_vec<T: Eq + Hash + Drop>(
+    alloc: Global,
+    items: Vec<T>,
+) -> Result<OrderedSet<T>, AllocError>
+    ensures { IfOk result (λ s. (element : T) → contains T.eq T.hash_input s element ≡ is_member T.eq items.items element) }
+{
+    let made = OrderedSet::from_iter(alloc, items)?;
+    Ok(made)
+}
+
+/// Puts the elements of a vector in.
+pub fn add_vec<T: Eq + Hash + Drop>(
+    set: &mut OrderedSet<T>,
+    items: Vec<T>,
+) -> Result<(), AllocError>
+    ensures { OnOk result ((element : T) → contains T.eq T.hash_input set.new element ≡ (contains T.eq T.hash_input set.old element || is_member T.eq items.items element)) }
+{
+    set.extend(items)?;
+    Ok(())
 }

@@ -1,5 +1,6 @@
 //! Callers of small sets.
 pub mod any;
+pub mod collected;
 pub mod numbers;
 pub mod strings;
 pub mod texts;

@@ -1,11 +1,13 @@
 //! Callers of sorted maps.
 ghost use Rattle.std.specs.Hash as fed;
+ghost use Rattle.std.specs.Map.{update_all};
 ghost use Rattle.std.specs.Option.{unwrap_or};
-ghost use Rattle.std.specs.Prelude.{◌≡◌, ℕ, ◌+◌, ◌-◌, ◌≤◌, ◌^◌, min, nat_eq, false, is_some, Some, IfSome, OnOk};
+ghost use Rattle.std.specs.Prelude.{◌≡◌, ℕ, ◌+◌, ◌-◌, ◌≤◌, ◌^◌, min, nat_eq, false, is_some, None, Some, IfOk, IfSome, OnOk};
 ghost use Rattle.starlark_small.specs.Calling.{get, get_text};
 
 use starlark_hash::TextKey;
 use starlark_sorted::SortedMap;
+use std::alloc::{AllocError, Global};
 use std::hash::Hash;
 
 /// The number under a number, or another.
@@ -65,4 +67,23 @@ pub fn first_two(map: &SortedMap<u32, u64>) -> Option<(u32, u32)>
     let a = keys.next()?;
     let b = keys.next()?;
     Some((*a, *b))
+}
+
+/// A map of the pairs of a vector: each key has its last value.
+pub fn of_vec<K: Ord + Hash + Drop, V: Drop>(
+    alloc: Global,
+    items: Vec<(K, V)>,
+) -> Result<SortedMap<K, V>, AllocError>
+    ensures { IfOk result (λ m. (key : K) → get K.eq K.hash_input m key ≡ update_all K.eq (λ _. None) items.items key) }
+{
+    SortedMap::from_iter(alloc, items)
+}
+
+/// A map of two pairs.
+pub fn two(alloc: Global, a: (u32, u64), b: (u32, u64)) -> Result<SortedMap<u32, u64>, AllocError>
+    requires { nat_eq a.0 b.0 ≡ false }
+    ensures first { IfOk result (λ m. get nat_eq fed.u32 m a.0 ≡ Some a.1) }
+    ensures second { IfOk result (λ m. get nat_eq fed.u32 m b.0 ≡ Some b.1) }
+{
+    SortedMap::from_iter(alloc, [a, b])
 }

@@ -1,10 +1,12 @@
 //! Callers of sorted sets.
 ghost use Rattle.std.specs.Hash as fed;
-ghost use Rattle.std.specs.Prelude.{◌≡◌, ◌≤◌, nat_eq, true, is_some, IfSome};
+ghost use Rattle.std.specs.Prelude.{◌≡◌, ◌≤◌, nat_eq, true, is_some, IfOk, IfSome};
+ghost use Rattle.std.specs.Set.{is_member};
 ghost use Rattle.starlark_small.specs.Calling.{contains, contains_text};
 
 use starlark_hash::TextKey;
 use starlark_sorted::SortedSet;
+use std::alloc::{AllocError, Global};
 use std::hash::Hash;
 
 /// Whether an element is there.
@@ -40,4 +42,15 @@ pub fn first_two(set: &SortedSet<u32>) -> Option<(u32, u32)>
     let a = elements.next()?;
     let b = elements.next()?;
     Some((*a, *b))
+}
+
+/// A set of the elements of a vector.
+pub fn of_vec<T: Ord + Hash + Drop>(
+    alloc: Global,
+    items: Vec<T>,
+) -> Result<SortedSet<T>, AllocError>
+    ensures { IfOk result (λ s. (element : T) → contains T.eq T.hash_input s element ≡ is_member T.eq items.items element) }
+{
+    let made = SortedSet::from_iter(alloc, items)?;
+    Ok(made)
 }

@@ -1,5 +1,6 @@
 //! Callers of `UnorderedSet`.
 ghost use Rattle.std.specs.Prelude.{◌≡◌, ℕ, ◌+◌, nat_eq, false, true, length, not, IfOk, OnOk, OnErr, if◌then◌else◌};
+ghost use Rattle.std.specs.Set.{is_member};
 ghost use Rattle.std.specs.String.{string_eq};
 ghost use Rattle.std.specs.declared.alloc.Global.{Global};
 ghost use Rattle.std.specs.declared.string.String.{String};
@@ -99,4 +100,30 @@ pub fn same_any<T: Eq + Hash>(set: &UnorderedSet<T>, other: &UnorderedSet<T>) ->
     ensures { result ≡ true → (element : T) → contains T.eq set.now element ≡ contains T.eq other.now element }
 {
     *set == *other
+}
+
+/// A set of two numbers, and nothing else.
+pub fn two(alloc: Global, a: u32, b: u32) -> Result<UnorderedSet<u32>, AllocError>
+    ensures first { IfOk result (λ s. contains nat_eq s a ≡ true) }
+    ensures second { IfOk result (λ s. contains nat_eq s b ≡ true) }
+    ensures others { IfOk result (λ s. (n : ℕ) → nat_eq n a ≡ false → nat_eq n b ≡ false → contains nat_eq s n ≡ false) }
+{
+    UnorderedSet::from_iter(alloc, [a, b])
+}
+
+/// A set of the elements of a vector.
+pub fn of_vec<T: Eq + Hash + Drop>(
+    alloc: Global,
+    items: Vec<T>,
+) -> Result<UnorderedSet<T>, AllocError>
+    ensures { IfOk result (λ s. (element : T) → contains T.eq s element ≡ is_member T.eq items.items element) }
+{
+    UnorderedSet::from_iter(alloc, items)
+}
+
+/// A set of the strings of a vector.
+pub fn of_names(alloc: Global, items: Vec<String>) -> Result<UnorderedSet<String>, AllocError>
+    ensures { IfOk result (λ s. (name : String Global) → contains string_eq s name ≡ is_member string_eq items.items name) }
+{
+    UnorderedSet::from_iter(alloc, items)
 }

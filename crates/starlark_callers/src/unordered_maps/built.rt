@@ -1,5 +1,6 @@
 //! Maps that are made of others.
-ghost use Rattle.std.specs.Prelude.{◌≡◌, ◌≤◌, ℕ, length, nat_eq, IfOk};
+ghost use Rattle.std.specs.Map.{update_all};
+ghost use Rattle.std.specs.Prelude.{◌≡◌, ◌≤◌, ℕ, length, nat_eq, nat_lt, filter, false, None, Some, IfOk, IsPermutation};
 ghost use Rattle.starlark_table.specs.Growth.{most_for};
 ghost use Rattle.starlark_unordered.specs.Calling.{contains, get};
 ghost use Rattle.starlark_unordered.specs.Clone.{IsEqualClone};
@@ -42,4 +43,35 @@ pub fn roomy<K: Eq + Hash, V>(
     ensures most { IfOk result (λ map. map.room ≤ most_for capacity) }
 {
     UnorderedMap::with_capacity(alloc, capacity)
+}
+
+/// A map of two pairs.
+pub fn two(
+    alloc: Global,
+    a: (u32, u64),
+    b: (u32, u64),
+) -> Result<UnorderedMap<u32, u64>, AllocError>
+    requires { nat_eq a.0 b.0 ≡ false }
+    ensures first { IfOk result (λ m. get nat_eq m a.0 ≡ Some a.1) }
+    ensures second { IfOk result (λ m. get nat_eq m b.0 ≡ Some b.1) }
+{
+    UnorderedMap::from_iter(alloc, [a, b])
+}
+
+/// A map of the pairs of a vector: each key has its last value.
+pub fn of_vec<K: Eq + Hash + Drop, V: Drop>(
+    alloc: Global,
+    items: Vec<(K, V)>,
+) -> Result<UnorderedMap<K, V>, AllocError>
+    ensures { IfOk result (λ m. (key : K) → get K.eq m key ≡ update_all K.eq (λ _. None) items.items key) }
+{
+    let made = UnorderedMap::from_iter(alloc, items)?;
+    Ok(made)
+}
+
+/// Keeps what is above the least value.
+pub fn keep_above<K: Eq + Hash + Drop>(map: &mut UnorderedMap<K, u64>, least: u64)
+    ensures { IsPermutation (filter (λ p. nat_lt least p.1) (pairs_of map.old)) (pairs_of map.new) }
+{
+    map.retain(|_key, value| *value > least);
 }
