@@ -2,6 +2,8 @@
 
 use crate::given::holds;
 use starlark_columns::pair::{give_back, with_rows};
+use starlark_columns::{Column, Perhaps};
+use std::alloc::{AllocError, Global};
 use std::test::Fail;
 
 #[test]
@@ -31,5 +33,36 @@ fn makes_two_rows(rt: HostRuntime) -> Result<(), Fail> {
     };
     holds(&rt, firsts.items(spot.address, 0).is_empty());
     give_back(rt.alloc(), spot, firsts, seconds, block);
+    Ok(())
+}
+
+// Whether a row of forty places had its memory.
+fn makes_row(alloc: Global) -> bool {
+    match Column::<u64>::with_places(alloc, 40) {
+        Ok(row) => {
+            let places = row.places();
+            row.give_back(alloc);
+            places == 40
+        }
+        Err(_) => false,
+    }
+}
+
+#[test]
+fn makes_a_row_of_places(rt: HostRuntime) {
+    holds(&rt, makes_row(rt.alloc()) || makes_row(rt.alloc()));
+}
+
+fn item_in_a_block(alloc: Global) -> Result<Perhaps<u64>, AllocError> {
+    match Perhaps::of(alloc, 7) {
+        Ok(item) => Ok(item),
+        Err(_) => Perhaps::of(alloc, 7),
+    }
+}
+
+#[test]
+fn makes_a_block_for_one_item(rt: HostRuntime) -> Result<(), Fail> {
+    let item = item_in_a_block(rt.alloc())?;
+    holds(&rt, item.get() == Some(&7));
     Ok(())
 }

@@ -1,14 +1,16 @@
 //! Maps that grow and are sorted: a call does what it says where memory is there, and where it is refused, the map is as it
-//! was and the second attempt has the memory.
+//! was and the second attempt has the memory. One request of a run is refused at most, so of two equal maps one grows at the
+//! first call.
 
 use crate::given::{Numbers, THRESHOLD, full, handed_back, holds, is_tens, same, tens, with_room};
 use starlark_small::{SmallMap, UNINDEXED};
 use std::alloc::{AllocError, Global};
 use std::test::Fail;
 
-fn reserves(map: &mut Numbers) -> bool {
+fn reserves(map: &mut Numbers, refused_before: bool) -> bool {
     map.reserve(40).is_ok()
-        || is_tens(map, 3)
+        || !refused_before
+            && is_tens(map, 3)
             && map.index().is_none()
             && map.capacity() <= 43
             && map.reserve(40).is_ok()
@@ -21,8 +23,10 @@ fn size(map: &Numbers) -> (usize, usize, bool) {
 
 #[test]
 fn makes_room_or_stays(rt: HostRuntime) -> Result<(), Fail> {
+    let mut other = tens(rt.alloc(), 3)?;
+    let refused = other.reserve(40).is_err();
     let mut map = tens(rt.alloc(), 3)?;
-    holds(&rt, reserves(&mut map));
+    holds(&rt, reserves(&mut map, refused));
     same(&rt, size(&map), (3, 40, true));
     Ok(())
 }
@@ -42,14 +46,17 @@ fn shows_items(map: &Numbers, done: bool) -> bool {
     at(map, 5) == Some(500) && at(map, 100) == new && at(map, 6) == Some(last)
 }
 
-fn takes_items(map: &mut Numbers) -> bool {
-    (extended(map) || shows_items(map, false) && extended(map)) && shows_items(map, true)
+fn takes_items(map: &mut Numbers, refused_before: bool) -> bool {
+    (extended(map) || !refused_before && shows_items(map, false) && extended(map))
+        && shows_items(map, true)
 }
 
 #[test]
 fn takes_items_up_to_the_one_that_is_refused(rt: HostRuntime) -> Result<(), Fail> {
+    let mut other = full(rt.alloc())?;
+    let refused = !extended(&mut other);
     let mut map = full(rt.alloc())?;
-    holds(&rt, takes_items(&mut map));
+    holds(&rt, takes_items(&mut map, refused));
     Ok(())
 }
 

@@ -51,37 +51,58 @@ fn agrees(map: &Numbers, replies: &[Reply<u32, u32, u32>]) -> bool {
     true
 }
 
+type Replies = Vec<Reply<u32, u32, u32>>;
+
+// The replies at the first attempt or, where it was refused and left the map empty, at the second.
+fn after_reservation(alloc: Global, map: &mut Numbers) -> Result<Replies, Fail> {
+    match reserved_insertions_succeed(alloc, map, forty(alloc, false)?, value_of) {
+        Ok(replies) => Ok(replies),
+        Err(_) if map.is_empty() => again_after_reservation(alloc, map),
+        Err(_) => Err("not as it was".into()),
+    }
+}
+
+fn again_after_reservation(alloc: Global, map: &mut Numbers) -> Result<Replies, Fail> {
+    let commands = forty(alloc, false)?;
+    Ok(reserved_insertions_succeed(alloc, map, commands, value_of)?)
+}
+
 #[test]
 fn takes_what_is_reserved(rt: HostRuntime) -> Result<(), Fail> {
     let alloc = rt.alloc();
-    let mut map: SmallMap<u32, u32> = SmallMap::new(alloc);
-    let commands = forty(alloc, false)?;
-    if let Ok(replies) = reserved_insertions_succeed(alloc, &mut map, commands, value_of) {
-        same(&rt, inserted(&replies), 40);
-        same(&rt, replies.len(), 41);
-    } else {
-        same(&rt, map.len(), 0);
-    }
+    let mut map: Numbers = SmallMap::new(alloc);
+    let replies = after_reservation(alloc, &mut map)?;
+    same(&rt, (inserted(&replies), replies.len()), (40, 41));
     Ok(())
+}
+
+// The same where the index is dropped between.
+fn after_dropping(alloc: Global, map: &mut Numbers) -> Result<Replies, Fail> {
+    match held_room_stays(alloc, map, forty(alloc, true)?, value_of) {
+        Ok(replies) => Ok(replies),
+        Err(_) if map.is_empty() => again_after_dropping(alloc, map),
+        Err(_) => Err("not as it was".into()),
+    }
+}
+
+fn again_after_dropping(alloc: Global, map: &mut Numbers) -> Result<Replies, Fail> {
+    let commands = forty(alloc, true)?;
+    Ok(held_room_stays(alloc, map, commands, value_of)?)
 }
 
 #[test]
 fn takes_what_needs_no_index(rt: HostRuntime) -> Result<(), Fail> {
     let alloc = rt.alloc();
-    let mut map: SmallMap<u32, u32> = SmallMap::new(alloc);
-    let commands = forty(alloc, true)?;
-    if let Ok(replies) = held_room_stays(alloc, &mut map, commands, value_of) {
-        same(&rt, replies.len(), 42);
-        let sure = UNINDEXED + 2;
-        holds(
-            &rt,
-            sure <= replies.len() && inserted(&replies[2..sure]) == UNINDEXED,
-        );
-        same(&rt, inserted(&replies), map.len());
-        holds(&rt, agrees(&map, &replies));
-    } else {
-        same(&rt, map.len(), 0);
-    }
+    let mut map: Numbers = SmallMap::new(alloc);
+    let replies = after_dropping(alloc, &mut map)?;
+    same(&rt, replies.len(), 42);
+    let sure = UNINDEXED + 2;
+    holds(
+        &rt,
+        sure <= replies.len() && inserted(&replies[2..sure]) == UNINDEXED,
+    );
+    same(&rt, inserted(&replies), map.len());
+    holds(&rt, agrees(&map, &replies));
     Ok(())
 }
 
@@ -106,14 +127,24 @@ fn replied(map: &Numbers, replies: &[Reply<u32, u32, u32>]) -> bool {
     }
 }
 
-// Where memory for the replies is refused, nothing is done.
+fn run_one(alloc: Global, map: &mut Numbers) -> Option<Replies> {
+    match insertion(alloc) {
+        Some(commands) => run(alloc, map, commands, value_of).ok(),
+        None => None,
+    }
+}
+
+// Where memory for the replies is refused, nothing is done, and the second attempt has the memory.
 fn runs_one(alloc: Global, map: &mut Numbers) -> bool {
-    let Some(commands) = insertion(alloc) else {
+    if let Some(replies) = run_one(alloc, map) {
+        return replied(map, &replies);
+    }
+    if !is_tens(map, 4) {
         return false;
-    };
-    match run(alloc, map, commands, value_of) {
-        Ok(replies) => replied(map, &replies),
-        Err(_) => is_tens(map, 4),
+    }
+    match run_one(alloc, map) {
+        Some(replies) => replied(map, &replies),
+        None => false,
     }
 }
 
@@ -124,15 +155,26 @@ fn runs_or_leaves_the_list(rt: HostRuntime) -> Result<(), Fail> {
     Ok(())
 }
 
-// Where memory for the replies of the second run is refused, the first is done.
-fn runs_both(alloc: Global, first: &mut Numbers, second: &mut Numbers) -> bool {
-    let (Some(commands), Some(again)) = (insertion(alloc), insertion(alloc)) else {
-        return false;
-    };
-    match replies_agree(alloc, first, second, commands, again, value_of, value_of) {
-        Ok((replies, others)) => replied(first, &replies) && replied(second, &others),
-        Err(_) => is_tens(second, 4) && (is_tens(first, 4) || has_new(first)),
+fn run_both(
+    alloc: Global,
+    first: &mut Numbers,
+    second: &mut Numbers,
+) -> Option<(Replies, Replies)> {
+    match (insertion(alloc), insertion(alloc)) {
+        (Some(commands), Some(again)) => {
+            replies_agree(alloc, first, second, commands, again, value_of, value_of).ok()
+        }
+        _ => None,
     }
+}
+
+// Where memory for the replies of the second run is refused, the first is done, and both attempts come to one list.
+fn runs_both(alloc: Global, first: &mut Numbers, second: &mut Numbers) -> bool {
+    if let Some((replies, others)) = run_both(alloc, first, second) {
+        return replied(first, &replies) && replied(second, &others);
+    }
+    let unchanged = is_tens(second, 4) && (is_tens(first, 4) || has_new(first));
+    unchanged && run_both(alloc, first, second).is_some() && has_new(first) && has_new(second)
 }
 
 #[test]

@@ -1,5 +1,6 @@
 //! Sets that are made, grow and are sorted: a call does what it says where memory is there; where it is refused, the set is
-//! as it was, and what was to be put in comes back.
+//! as it was, and what was to be put in comes back. One request of a run is refused at most, so of two equal sets one is
+//! changed at the first call.
 
 use crate::given::{THRESHOLD, handed_back, holds, shows_elements, under};
 use starlark_hash::{Hashed, TextKey};
@@ -83,21 +84,27 @@ fn has_new(set: &Numbers) -> bool {
     set.len() == UNINDEXED + 1 && set.last() == Some(&100)
 }
 
-// Whether 100 is last, at the first call or, where that was refused, at the second.
-fn takes(set: &mut Numbers, call: Call) -> bool {
+fn stays(set: &Numbers) -> bool {
+    is_full(set) && set.capacity() <= 2 * (UNINDEXED + 1)
+}
+
+// Whether 100 is last, at the first call or, where that was refused and no call before it was, at the second.
+fn takes(set: &mut Numbers, call: Call, refused_before: bool) -> bool {
     if let Some(back) = put(set, call) {
-        let unchanged = back == Hashed::new(100) && is_full(set);
-        if !unchanged || set.capacity() > 2 * (UNINDEXED + 1) || put(set, call).is_some() {
+        let unchanged = back == Hashed::new(100) && stays(set);
+        if refused_before || !unchanged || put(set, call).is_some() {
             return false;
         }
     }
     has_new(set)
 }
 
-// The same of a set that is full.
+// The same of a set that is full, after the call was made on another.
 fn fills(alloc: Global, call: Call) -> Result<bool, Fail> {
+    let mut other = full(alloc)?;
+    let refused = put(&mut other, call).is_some();
     let mut set = full(alloc)?;
-    Ok(takes(&mut set, call))
+    Ok(takes(&mut set, call, refused))
 }
 
 #[test]
@@ -160,10 +167,12 @@ fn is_changed(set: &Numbers, call: Change) -> bool {
     }
 }
 
-// Whether a full set is changed. A refusal leaves it, and the second attempt has the memory.
+// Whether a full set is changed, after another was. A refusal leaves it, and the second attempt has the memory.
 fn changes(alloc: Global, call: Change) -> Result<bool, Fail> {
+    let mut other = full(alloc)?;
+    let done_before = did(&mut other, call);
     let mut set = full(alloc)?;
-    let done = did(&mut set, call) || is_full(&set) && did(&mut set, call);
+    let done = did(&mut set, call) || done_before && is_full(&set) && did(&mut set, call);
     Ok(done && is_changed(&set, call))
 }
 
@@ -207,18 +216,24 @@ fn is_full_of_texts(set: &SmallSet<String>) -> bool {
     walk.next().is_none()
 }
 
+fn took_text(set: &mut SmallSet<String>) -> bool {
+    set.get_or_insert_owned(&TextKey("e")).is_ok()
+}
+
 // The text's own copy is asked for, and then room.
-fn makes_text(set: &mut SmallSet<String>) -> bool {
-    if set.get_or_insert_owned(&TextKey("e")).is_ok() {
+fn makes_text(set: &mut SmallSet<String>, refused_before: bool) -> bool {
+    if took_text(set) {
         return set.get_index_of(&TextKey("e")) == Some(4);
     }
-    is_full_of_texts(set) && set.get_or_insert_owned(&TextKey("e")).is_ok()
+    !refused_before && is_full_of_texts(set) && took_text(set)
 }
 
 #[test]
 fn makes_a_new_text_or_stays(rt: HostRuntime) -> Result<(), Fail> {
+    let mut other = full_of_texts(rt.alloc())?;
+    let refused = !took_text(&mut other);
     let mut set = full_of_texts(rt.alloc())?;
-    holds(&rt, makes_text(&mut set));
+    holds(&rt, makes_text(&mut set, refused));
     Ok(())
 }
 

@@ -1,4 +1,4 @@
-//! Vectors that ascend: made of a vector, or of an iterator's items, and what comes back where memory is refused.
+//! Vectors that ascend: made of a vector, of an iterator's items or of clones, and what comes back where memory is refused.
 
 use crate::given::holds;
 use starlark_sorted::SortedVec;
@@ -53,5 +53,20 @@ fn collected(alloc: Global) -> Result<SortedVec<u32>, AllocError> {
 fn collects_items(rt: HostRuntime) -> Result<(), Fail> {
     let sorted = collected(rt.alloc())?;
     holds(&rt, ascends(&sorted));
+    Ok(())
+}
+
+fn copied(sorted: &SortedVec<u32>) -> Result<SortedVec<u32>, AllocError> {
+    match sorted.clone() {
+        Ok(copy) => Ok(copy),
+        Err(_) => sorted.clone(),
+    }
+}
+
+#[test]
+fn copies_a_vector(rt: HostRuntime) -> Result<(), Fail> {
+    let sorted = collected(rt.alloc())?;
+    let copy = copied(&sorted)?;
+    holds(&rt, ascends(&sorted) && ascends(&copy));
     Ok(())
 }

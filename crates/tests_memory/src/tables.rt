@@ -73,3 +73,11 @@ fn copies_a_table(rt: HostRuntime) -> Result<(), Fail> {
     holds(&rt, has_items(&copy, 3));
     Ok(())
 }
+
+// After the first line nothing asks for memory.
+#[test]
+fn copies_a_walk(rt: HostRuntime) -> Result<(), Fail> {
+    let table = items(rt.alloc(), 3)?;
+    holds(&rt, table.iter().clone().is_ok());
+    Ok(())
+}

@@ -2,6 +2,7 @@
 
 use crate::given::{handed_back, holds};
 use starlark_hash::Hashed;
+use starlark_lending::unordered::{add_raw, add_raw_number};
 use starlark_unordered::UnorderedSet;
 use starlark_unordered::unordered_set::RawEntryMut;
 use std::alloc::{AllocError, Global};
@@ -34,6 +35,8 @@ enum Call {
     Insert,
     RawInsert,
     RawInsertHashed,
+    AddRaw,
+    AddRawNumber,
 }
 
 // Puts an element in, and answers what came back.
@@ -45,6 +48,8 @@ fn put(set: &mut UnorderedSet<u32>, element: u32, call: Call) -> Option<u32> {
             RawEntryMut::Occupied(_entry) => None,
         },
         Call::RawInsertHashed => put_hashed(set, element),
+        Call::AddRaw => handed_back(add_raw(set, element)),
+        Call::AddRawNumber => handed_back(add_raw_number(set, element)),
     }
 }
 
@@ -94,6 +99,12 @@ fn takes_an_element_through_a_raw_entry(rt: HostRuntime) {
 #[test]
 fn takes_an_element_through_a_raw_entry_under_a_hash(rt: HostRuntime) {
     holds(&rt, takes_twenty(rt.alloc(), Call::RawInsertHashed));
+}
+
+#[test]
+fn takes_an_element_through_a_caller(rt: HostRuntime) {
+    holds(&rt, takes_twenty(rt.alloc(), Call::AddRaw));
+    holds(&rt, takes_twenty(rt.alloc(), Call::AddRawNumber));
 }
 
 fn with_room(alloc: Global) -> Result<UnorderedSet<u32>, AllocError> {
