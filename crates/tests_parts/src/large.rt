@@ -1,9 +1,9 @@
-//! Large lists and tables, and such as are too large.
+//! Large lists and tables, such as are too large, and memory that is given back.
 
 use crate::given::{holds, same};
 use starlark_map::ReadyTable;
 use starlark_map::vec2::Vec2;
-use std::alloc::Global;
+use std::alloc::{AllocError, Global};
 use std::test::Fail;
 
 const LARGE: usize = 131072;
@@ -49,4 +49,21 @@ fn asks_for_no_item_once_it_is_refused(rt: HostRuntime) -> Result<(), Fail> {
     same(&rt, asked(rt.alloc(), 3)?, (true, 3, 4));
     same(&rt, asked(rt.alloc(), u64::MAX)?, (false, 0, 1));
     Ok(())
+}
+
+// Whether so many lists of a gigabyte each, one after the other, had their memory.
+fn makes_gigabytes(alloc: Global, count: u32) -> bool {
+    for _ in 0..count {
+        let list: Result<Vec2<u64, u64>, AllocError> = Vec2::with_capacity(alloc, 67108864);
+        if list.is_err() {
+            return false;
+        }
+    }
+    true
+}
+
+// More in all than addresses reach: 150 terabytes, of 128. No byte of them is touched.
+#[test]
+fn gives_its_memory_back(rt: HostRuntime) {
+    holds(&rt, makes_gigabytes(rt.alloc(), 150000));
 }
