@@ -82,3 +82,19 @@ fn begins_with_room_for_what_the_iterator_promises(rt: HostRuntime) -> Result<()
     same(&rt, forty.room().wrapping_add(1), reserved(rt.alloc(), 40)?);
     Ok(())
 }
+
+fn refuses_map(alloc: Global) -> bool {
+    UnorderedMap::from_iter(alloc, (0..u64::MAX).map(|_| (7u64, 70u64))).is_err()
+}
+
+fn refuses_set(alloc: Global) -> bool {
+    UnorderedSet::from_iter(alloc, (0..u64::MAX).map(|_| 7u64)).is_err()
+}
+
+// The iterators promise more items than can be addressed. All items are one and the same: begun with less room, a map or a
+// set would go through all of them.
+#[test]
+fn is_refused_the_room_for_what_is_promised(rt: HostRuntime) {
+    holds(&rt, refuses_map(rt.alloc()));
+    holds(&rt, refuses_set(rt.alloc()));
+}
