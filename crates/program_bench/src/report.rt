@@ -10,12 +10,13 @@ use crate::workloads::{MILLION, Removed, Room};
 const PASSES: usize = 7;
 
 // The few that the gate compares, on our maps.
-const FEW: [(Workload, usize); 19] = [
+const FEW: [(Workload, usize); 20] = [
     (Workload::Build, 4),
     (Workload::Build, 64),
     (Workload::Build, 1000),
     (Workload::BuildRoomy(Room::Capacity), 1000),
     (Workload::BuildRoomy(Room::Reserve), 64),
+    (Workload::Hold, 1),
     (Workload::Hit, 1000),
     (Workload::Miss, 1000),
     (Workload::Walk, 1000),

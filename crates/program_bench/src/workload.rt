@@ -7,8 +7,8 @@ use crate::pass::Pass;
 use crate::peer::{Asked, Listed, Roomy, Walked};
 use crate::sorted;
 use crate::workloads::{
-    MILLION, Removed, Room, build, build_roomy, cycle, cycle_keys, drain, hit, insert, miss, pop,
-    sort, turns, walk,
+    MILLION, Removed, Room, build, build_roomy, cycle, cycle_keys, drain, hit, hold, insert, miss,
+    pop, sort, turns, walk,
 };
 use indexmap::IndexMap;
 use starlark_hash::StarlarkHasherBuilder;
@@ -57,6 +57,7 @@ impl Map {
 pub enum Workload {
     Build,
     BuildRoomy(Room),
+    Hold,
     Hit,
     Miss,
     Walk,
@@ -73,10 +74,11 @@ pub enum Workload {
 }
 
 /// The workloads in the order of their lines.
-pub const ALL: [Workload; 19] = [
+pub const ALL: [Workload; 20] = [
     Workload::Build,
     Workload::BuildRoomy(Room::Capacity),
     Workload::BuildRoomy(Room::Reserve),
+    Workload::Hold,
     Workload::Hit,
     Workload::Miss,
     Workload::Walk,
@@ -102,6 +104,7 @@ impl Workload {
             Workload::Build => "a_build",
             Workload::BuildRoomy(Room::Capacity) => "e_capacity",
             Workload::BuildRoomy(Room::Reserve) => "e_reserve",
+            Workload::Hold => "h_hold",
             Workload::Hit => "b_hit",
             Workload::Miss => "b_miss",
             Workload::Walk => "c_walk",
@@ -129,6 +132,7 @@ impl Workload {
             | Workload::Hit
             | Workload::Miss
             | Workload::Walk => &[4, 8, 16, 17, 24, 32, 64, 1000, 10_000, 100_000, 1_000_000],
+            Workload::Hold => &[0, 1, 4, 8],
             Workload::Cycle(Removed::Middle) | Workload::Drain => &[8, 17, 24, 32, 1000, 10_000],
             Workload::Cycle(_) => &[1000, 10_000, 100_000],
             Workload::Pop => &[8, 17, 24, 32, 1000, 10_000, 1_000_000],
@@ -150,7 +154,7 @@ impl Workload {
                 MILLION / n * n
             }
             Workload::UnorderedInsert | Workload::Union => MILLION / n * n,
-            Workload::Hit | Workload::Miss => MILLION,
+            Workload::Hit | Workload::Miss | Workload::Hold => MILLION,
             Workload::UnorderedHit | Workload::UnorderedMiss => MILLION,
             Workload::Walk | Workload::UnorderedWalk => 4 * MILLION / n * n,
             Workload::Cycle(_) | Workload::UnorderedCycle => turns(n),
@@ -161,7 +165,7 @@ impl Workload {
     /// The maps that it is run on.
     pub fn maps(self) -> &'static [Map] {
         match self {
-            Workload::Build | Workload::Walk => &[
+            Workload::Build | Workload::Hold | Workload::Walk => &[
                 Map::Proved,
                 Map::Index,
                 Map::IndexFx,
@@ -264,6 +268,7 @@ impl Workload {
     ) -> Result<Pass, Fault> {
         match self {
             Workload::Build => build::<K, M>(rt, keys, n),
+            Workload::Hold => hold::<K, M>(rt, keys, n),
             Workload::Walk | Workload::UnorderedWalk => walk::<K, M>(rt, keys, n),
             Workload::UnorderedInsert => insert::<K, M>(rt, keys, n),
             Workload::UnorderedCycle => cycle_keys::<K, M>(rt, keys, n),

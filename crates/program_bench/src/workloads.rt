@@ -103,6 +103,21 @@ pub fn build_roomy<K: Key, M: Roomy<K>>(
     Pass::since(rt, start, checksum)
 }
 
+/// Builds a million maps of the same `n` keys, all of which stand at the end.
+pub fn hold<K: Key, M: Walked<K>>(rt: &HostRuntime, keys: &[K], n: usize) -> Result<Pass, Fault> {
+    let block = keys.get(..n).unwrap_or(keys);
+    let start = Instant::now(rt)?;
+    let mut maps = Vec::with_capacity(rt.alloc(), MILLION)?;
+    let mut checksum = 0;
+    for _ in 0..MILLION {
+        let mut map = M::empty(rt.alloc());
+        fill(&mut map, block, 0)?;
+        checksum = mix(checksum, map.entries() as u64);
+        maps.push(map)?;
+    }
+    Pass::since(rt, start, checksum)
+}
+
 /// Builds maps of `n` keys, a million keys in all, of which only the lengths count.
 pub fn insert<K: Key, M: Walked<K>>(rt: &HostRuntime, keys: &[K], n: usize) -> Result<Pass, Fault> {
     let start = Instant::now(rt)?;
