@@ -1,4 +1,4 @@
-//! Laws of the public calls on small maps. Each function makes the calls, and its contract is the law.
+//! Laws of the public calls on small maps and lists. Each function makes the calls, and its contract is the law.
 #![tactic(auto)]
 
 pub mod collection;

@@ -8,8 +8,8 @@ use std::alloc::AllocError;
 use std::hash::Hash;
 
 /// A `SmallSet` of these elements, as `smallset![alloc; 1, 4, 2]?`. It begins with room for as many elements as are
-/// written, and inserts them in their order, each under its own hash: one that is written again changes nothing. Only
-/// the first request for memory may be refused; then nothing is made.
+/// written, and inserts them in their order, each under its own hash: one that is written again changes nothing. The
+/// room at the beginning alone may be refused; then nothing is made.
 #[macro_export]
 macro_rules! smallset {
     (@one $element:expr) => {

@@ -1,6 +1,6 @@
 -- What a caller of a `SmallMap` says of it: what a query finds under its own hash, and what a call leaves at its query and at
 -- all other keys. Sets, ordered and sorted types share these words: a set is a map to `()`. All of them but `found`,
--- `found_key`, `AreOwnEntries` and `Puts` unfold by themselves in callers' proofs.
+-- `found_key` and `AreOwnEntries` unfold by themselves in callers' proofs.
 use Rattle.std.specs.Prelude.{◌≡◌, ℕ, All, Bool, false, List, Option, Some, None, is_some, map}
 use Rattle.std.specs.Hash as fed
 use Rattle.std.specs.Hash.{HashWrites}

@@ -1,5 +1,5 @@
 -- What a `SmallMap` is after an insertion or a reservation. What any insertion makes of a list is `insert_entry`, in
--- `starlark_lists/specs/Entries.antt`.
+-- `starlark_lists/specs/Insertion.antt`.
 use Rattle.std.specs.Prelude.{◌≡◌, ℕ, ◌+◌, ◌<◌, ◌≤◌, ◌||◌, Bool, IsSome, [], ◌∷◌, ◌++◌, length, nat_lt}
 use Rattle.starlark_hash.specs.declared.hashed.Hashed.{Hashed}
 use Rattle.starlark_lists.specs.Entries.{match_of}

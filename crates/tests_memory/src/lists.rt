@@ -252,8 +252,7 @@ fn makes_room_for_entries_or_stays(rt: HostRuntime) -> Result<(), Fail> {
     Ok(())
 }
 
-// The numbers below 24 in steps of seven, each with itself: so many, and so mixed, that a sort of their places asks for
-// memory too.
+// The numbers below 24 in steps of seven, each with itself: so many, and so mixed, that a sort of them asks for memory too.
 fn mixed(alloc: Global) -> Result<Vec2<u32, u32>, Fail> {
     let mut list = Vec2::new(alloc);
     for place in 0..24u32 {

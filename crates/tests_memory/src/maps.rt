@@ -95,7 +95,7 @@ fn sorts(map: &mut Numbers, count: u32) -> bool {
         && is_tens(map, count)
 }
 
-// Up to 20 entries a sort of their places asks for no memory of its own.
+// A sort of two entries asks for no memory, one of 24 for some.
 #[test]
 fn sorts_or_stays(rt: HostRuntime) -> Result<(), Fail> {
     for count in [2, 24] {

@@ -52,8 +52,8 @@ impl<K: Eq, V> SmallMap<K, V> {
     }
 
     /// Puts a new key last under its own hash, and answers its place. It is refused where there is no room and no
-    /// memory is found: then it comes back, and entries and index stay. Upstream has no such call:
-    /// `insert_unique_unchecked` lends the entry, this one counts to it.
+    /// memory is found: then it comes back, and entries and index stay. Rust's crate has no such
+    /// call: `insert_unique_unchecked` lends the entry, this one counts to it.
     pub fn push_own(&mut self, key: K, value: V) -> Result<usize, NoRoom<(K, V)>>
     where
         K: Hash,
