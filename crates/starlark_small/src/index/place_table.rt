@@ -3,9 +3,10 @@ ghost use Rattle.std.specs.Prelude.{◌≡◌, ◌<◌, ◌≤◌, ◌∷◌, []
 ghost use Rattle.std.specs.List.{Contains};
 ghost use Rattle.starlark_hash.specs.HashValue.{hash_number, promoted};
 ghost use Rattle.starlark_lists.specs.Search.{CanSearch, Searches, keys_under};
-ghost use Rattle.starlark_small.specs.Index.{IsIndexOf, hashes_in};
+ghost use Rattle.starlark_small.specs.Index.{IsIndexOf, hashes_in, unindexed};
 ghost use Rattle.starlark_table.specs.Table.{members, table_capacity, table_len};
 
+use super::UNINDEXED;
 use super::place::Place;
 use super::places::{Placed, remove_place, take_under};
 use super::search::find_in;
@@ -18,6 +19,10 @@ use std::marker::Model;
 // The greatest length for which places are made in 32 bits: the room that such a table has is at most twice as much.
 const NARROW: usize = 1 << 31;
 
+// The greatest length up to which a larger table is filled from the list: its hashes are read in order there, and the slots
+// still lie in a processor's cache. A longer one is filled from the old slots, whose order is that of the new ones.
+const FILLED_FROM_LIST: usize = 1 << 17;
+
 // The table, with places of 32 or of 64 bits.
 #[derive(Drop)]
 pub(crate) enum Width {
@@ -26,7 +31,7 @@ pub(crate) enum Width {
 }
 
 /// The table of an index: the place of each entry under the promoted hash of the entry. It is seen as a `ReadyTable` of
-/// places. A slot takes 8 bytes, and 16 where the list has grown beyond 2^31 entries.
+/// places. A slot takes 8 bytes, and 16 in a table that was made for more than 2^31 places.
 #[derive(Drop)]
 pub struct PlaceTable {
     width: Width,
@@ -80,12 +85,12 @@ impl PlaceTable {
         }
     }
 
-    /// Makes room for so many further places, unless so many want a wider table: false says that they do, and that nothing
-    /// has changed.
+    /// Makes room for so many further places, unless another table is to be filled from the list, since so many want a wider
+    /// one or that is quicker: false says so, and that nothing has changed.
     pub(crate) fn reserve(&mut self, additional: usize) -> Result<bool, AllocError>
         ensures made { IfOk result (λ fits. fits ≡ true → additional ≤ self.new.room) }
         ensures other { IfOk result (λ fits. fits ≡ false → self.old.room < additional) }
-        ensures many { IfOk result (λ fits. fits ≡ false → 2 ^ 31 < table_len self.old + additional) }
+        ensures many { IfOk result (λ fits. fits ≡ false → unindexed < table_len self.old + additional) }
         ensures kept { IfOk result (λ fits. fits ≡ false → self.new ≡ self.old) }
         ensures bag { IsPermutation (members self.old) (members self.new) }
         ensures room { self.old.room ≤ self.new.room }
@@ -95,7 +100,9 @@ impl PlaceTable {
     {
         match &mut self.width {
             Width::Narrow(table) => {
-                if additional > table.room() && table.len().saturating_add(additional) > NARROW {
+                let len = table.len();
+                let anew = UNINDEXED < len && len <= FILLED_FROM_LIST;
+                if additional > table.room() && (anew || len.saturating_add(additional) > NARROW) {
                     return Ok(false);
                 }
                 table.reserve(additional)?;

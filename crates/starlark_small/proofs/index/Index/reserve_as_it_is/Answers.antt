@@ -5,7 +5,7 @@ use Rattle.starlark_small.specs.Index.{IsIndexed, unindexed}
 use Rattle.starlark_small.proofs.Keeping.{IsIndexOf-grown, IsIndexOf-len}
 use Rattle.starlark_small.proofs.index.Index.reserve_as_it_is.Goals as goal
 
-longer : (n len additional : ℕ) → len ≡ n → 2 ^ 31 < len + additional → unindexed < n + additional
+longer : (n len additional : ℕ) → len ≡ n → unindexed < len + additional → unindexed < n + additional
 longer n len additional all many = omega arith
 
 pub returns-clause-indexed : goal.returns-clause-indexed
