@@ -2,6 +2,7 @@ pub mod BothClose
 pub mod LentInOption
 pub mod Pairs
 pub mod Placing
+pub mod Moving
 pub mod Positions
 pub mod PushLemmas
 pub mod FrozenPairs

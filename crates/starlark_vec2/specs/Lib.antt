@@ -4,6 +4,7 @@ pub mod Columns
 pub mod Retain
 pub mod Sort
 pub mod Positions
+pub mod Moves
 pub mod Lending
 pub mod Collect
 pub mod ColumnLending

@@ -1,5 +1,5 @@
 -- Comparators of pairs, and what a sort by one leaves.
-use Rattle.std.specs.Prelude.{◌≡◌, Bool, List, Contains}
+use Rattle.std.specs.Prelude.{◌≡◌, ℕ, Bool, List, Contains}
 use Rattle.std.specs.Borrow.{Bor}
 use Rattle.std.specs.List.{FoldsTo}
 use Rattle.std.specs.Fn.{Mut, Takes, Called, AlwaysReturns, ComparesAs}
@@ -49,3 +49,8 @@ module _ {F X : Type 0} (g : Mut F (Bor X × (Bor X × Unit {0})) Ordering) wher
   -- they stood
   abbrev pub SortsItems : F → List X → List X → Type 0
   SortsItems f xs ys = (lt : X → X → Bool) → IsStrictWeakOrder lt → ComparesAs g lt f → ys ≡ sorted_by lt xs
+
+module _ {F X : Type 0} (g : Mut F (Bor (ℕ × X) × (Bor (ℕ × X) × Unit {0})) Ordering) where
+  -- where f answers by one strict weak order of all items, whatever numbers stand before them, ys is `sorted_by` it
+  abbrev pub SortsNumbered : F → List X → List X → Type 0
+  SortsNumbered f xs ys = (lt : X → X → Bool) → IsStrictWeakOrder lt → ComparesAs g (λ d e. lt d.1 e.1) f → ys ≡ sorted_by lt xs

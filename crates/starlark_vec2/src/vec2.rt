@@ -13,6 +13,7 @@ mod iter;
 mod lends;
 mod retain;
 mod sort;
+mod sort_moves;
 mod sort_pairs;
 mod traits;
 

@@ -304,6 +304,25 @@ fn sorts_whole_pairs_or_stays(rt: HostRuntime) -> Result<(), Fail> {
     Ok(())
 }
 
+fn sorts_with_moves(list: &mut Vec2<u32, u32>) -> bool {
+    list.len() == 24
+        && list
+            .sort_pairs_with_moves_by(|a, b| a.1.0.cmp(&b.1.0))
+            .is_ok()
+}
+
+#[test]
+fn sorts_pairs_with_their_moves_or_stays(rt: HostRuntime) -> Result<(), Fail> {
+    let mut list = mixed(rt.alloc())?;
+    holds(
+        &rt,
+        sorts_with_moves(&mut list) || goes_in_steps(&list, 7) && sorts_with_moves(&mut list),
+    );
+    holds(&rt, goes_in_steps(&list, 1));
+    same(&rt, list.capacity(), 32);
+    Ok(())
+}
+
 fn falls(map: &VecMap<u32, u32>) -> bool {
     map.len() == 3
         && map.get_index(0) == Some((&2, &20))
@@ -316,11 +335,30 @@ fn sorts_entries(map: &mut VecMap<u32, u32>) -> bool {
     map.sort_keys().is_ok() || falls(map) && map.sort_keys().is_ok()
 }
 
+fn sorts_entries_with_moves(map: &mut VecMap<u32, u32>) -> bool {
+    map.len() == 3 && map.sort_keys_with_moves().is_ok()
+}
+
 fn copied_map(map: &VecMap<u32, u32>) -> Result<VecMap<u32, u32>, AllocError> {
     match map.clone() {
         Ok(copy) => Ok(copy),
         Err(_) => map.clone(),
     }
+}
+
+#[test]
+fn sorts_entries_with_their_moves_or_stays(rt: HostRuntime) -> Result<(), Fail> {
+    let mut map = map_with_capacity(rt.alloc(), 3)?;
+    for key in 0u32..3 {
+        holds(&rt, inserts(&mut map, key));
+    }
+    map.reverse();
+    holds(
+        &rt,
+        sorts_entries_with_moves(&mut map) || falls(&map) && sorts_entries_with_moves(&mut map),
+    );
+    holds(&rt, has_tens(&map, 3));
+    Ok(())
 }
 
 #[test]

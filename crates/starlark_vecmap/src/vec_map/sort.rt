@@ -1,6 +1,7 @@
 //! Sorting a `VecMap` by its keys.
-ghost use Rattle.std.specs.Prelude.{◌≡◌, IsOk, OnOk, OnErr, MatchBool};
+ghost use Rattle.std.specs.Prelude.{◌≡◌, ◌≤◌, ◌^◌, length, IfOk, IsOk, OnOk, OnErr, MatchBool};
 ghost use Rattle.starlark_lists.specs.Sorting.{Ascends, sorted_by_key};
+ghost use Rattle.starlark_vec2.specs.Moves.{Moves};
 ghost use Rattle.starlark_vecmap.specs.EntryList.{with_entries};
 
 use super::VecMap;
@@ -35,6 +36,24 @@ impl<K, V> VecMap<K, V> {
             |d: &((K, V), u32), e: &((K, V), u32)| -> Ordering
                 ensures { result ≡ K.cmp d.now.0.0 e.now.0.0 }
             { d.0.0.cmp(&e.0.0) },
+        )
+    }
+
+    /// Sorts the entries as `sort_keys` does, and answers for each place the one to which its entry went. It asks for
+    /// memory where the keys ascend already, too; where memory is refused, the map is as it was. Required is that
+    /// places fit in 32 bits.
+    pub fn sort_keys_with_moves(&mut self) -> Result<Vec<u32>, AllocError>
+    where
+        K: Ord,
+        requires few { length self.old.entries ≤ 2 ^ 32 }
+        ensures sorted { OnOk result (self.new ≡ with_entries self.old (sorted_by_key K.cmp self.old.entries)) }
+        ensures moves { IfOk result (λ to. Moves self.old.entries to.items self.new.entries) }
+        ensures unchanged { OnErr result (self.new ≡ self.old) }
+    {
+        self.columns.sort_pairs_with_moves_by(
+            |d: &(u32, ((K, V), u32)), e: &(u32, ((K, V), u32))| -> Ordering
+                ensures { result ≡ K.cmp d.now.1.0.0 e.now.1.0.0 }
+            { d.1.0.0.cmp(&e.1.0.0) },
         )
     }
 

@@ -1,0 +1,47 @@
+use Rattle.std.proofs.Common.{◌≡◌, length, map, sym, ◌∙◌, refl, arith}
+use Rattle.std.proofs.lemmas.List.{length-map, get_or-map}
+use Rattle.std.proofs.lemmas.List.FromFn.{length-range_with_len}
+use Rattle.std.proofs.lemmas.List.Sorted.{length_permutation}
+use Rattle.starlark_vec2.proofs.Moving.{noted-more, noted-all}
+use Rattle.starlark_vec2.proofs.Placing.{Spread-from_permutation}
+use Rattle.starlark_vec2.proofs.vec2.sort_moves.note_moves.Goals as goal
+
+pub loop-j-init : goal.loop-j-init
+loop-j-init g c =
+    let n = length c.args.to.now in
+    let from = map (λ p. p.0) c.args.numbered.now in
+    let count : length c.args.numbered.now ≡ n = sym (length-map c.args.numbered.now (λ p. p.0)) ∙ length_permutation _ _ c.requires.places ∙ length-range_with_len 0 n in
+    record {
+      spread = Spread-from_permutation n from c.requires.places;
+      count = count;
+      few = omega (arith, count, c.requires.few);
+      noted = λ k lt. absurd (omega arith);
+    }
+
+pub bounds-to-place : goal.bounds-to-place
+bounds-to-place g c =
+    let at = c.loop-j in
+    let place = get_or-map (λ p. p.0) c.args.numbered.now at.j c.index-numbered-j.result 0 c.loop-j-test.true in
+    omega (arith, place, at.invariant.spread.below at.j (omega (arith, length-map c.args.numbered.now (λ p. p.0), c.loop-j-test.true)), at.auto.to)
+
+pub loop-j-preserved : goal.loop-j-preserved
+loop-j-preserved g c =
+    let at = c.loop-j in
+    let inv = at.invariant in
+    let xs = c.args.numbered.now in
+    record {
+      spread = inv.spread;
+      count = inv.count;
+      few = inv.few;
+      noted = noted-more (map (λ p. p.0) xs) at.to _ (length c.args.to.now) at.j _ inv.spread at.auto.to (omega (arith, length-map xs (λ p. p.0), c.loop-j-test.true))
+          (sym (get_or-map (λ p. p.0) xs at.j c.index-numbered-j.result 0 c.loop-j-test.true)) refl inv.noted;
+    }
+
+pub returns : goal.returns
+returns g c =
+    let at = c.loop-j in
+    let inv = at.invariant in
+    let xs = c.args.numbered.now in
+    let n = length c.args.to.now in
+    noted-all (map (λ p. p.0) xs) at.to n inv.spread at.auto.to (length-map xs (λ p. p.0) ∙ inv.count)
+    (λ k lt. inv.noted k (omega (arith, lt, inv.count, c.loop-j-test.false)))
