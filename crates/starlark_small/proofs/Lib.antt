@@ -3,6 +3,7 @@ pub mod Transport
 mod Unhashed
 pub mod Keeping
 pub mod Moving
+pub mod Renaming
 pub mod Emptying
 pub mod Rooms
 pub mod Inserted

@@ -1,8 +1,6 @@
 -- What an index holds while the places above one that was taken out move down, one after the other.
-use Rattle.std.proofs.Common.{◌≡◌, ℕ, zero, suc, ◌+◌, ◌-◌, ◌<◌, ◌≤◌, List, [], ◌∷◌, ◌++◌, length, map, take, drop, Option, Some, None, refl, sym, ap, subst, ◌∙◌, arith, append-nil, append_assoc, IsPermutation}
+use Rattle.std.proofs.Common.{◌≡◌, ℕ, zero, suc, ◌+◌, ◌-◌, ◌<◌, ◌≤◌, List, [], ◌∷◌, ◌++◌, length, map, take, drop, Some, refl, sym, ap, subst, ◌∙◌, arith, append-nil, append_assoc, IsPermutation}
 use Rattle.std.specs.Prelude.{remove, slice_get}
-use Rattle.std.specs.Borrow.{Bor}
-use Rattle.std.specs.Fn.{Mut, Called}
 use Rattle.std.proofs.Math.ListN.{drop_of_length-le}
 use Rattle.std.proofs.lemmas.List.{length-take, map-append, take-append-drop, take_all}
 use Rattle.std.proofs.lemmas.List.Edits.{length-remove, remove-append_left}
@@ -11,8 +9,7 @@ use Rattle.std.proofs.lemmas.List.Sorted.{IsPermutation-sym, IsPermutation-trans
 use Rattle.std.proofs.lemmas.Option.{slice_get_within, none-some, same_Some}
 use Rattle.starlark_hash.specs.HashValue.{promoted}
 use Rattle.starlark_lists.specs.Entries.{Entry}
-use Rattle.starlark_table.specs.Table.{Table, filled, members}
-use Rattle.starlark_table.specs.Walk.{ReplacesEach}
+use Rattle.starlark_table.specs.Table.{Table, members}
 use Rattle.starlark_table.proofs.PairBags.{IsPermutation-cancel}
 use Rattle.starlark_small.specs.Index.{lowered, positions, positions_from, moved_below, IsIndexOf}
 use Rattle.starlark_small.proofs.Keeping.{positions-push, take-more, without_place, fits-remove}
@@ -39,18 +36,6 @@ stays from n below = grind (arith, nat_tests)
 
 sinks : (from n low : ℕ) → from ≤ n → n ≡ low + 1 → lowered (from - 1) n ≡ low
 sinks from n low above same = grind (arith, nat_tests)
-
-module _ {F : Type 0} (g : Mut F (Bor ℕ × Unit {0}) ℕ) (last : ℕ) where
-  -- a pass whose calls lower what they are shown lowers the place of each member
-  pub lowered-each : (f end : F) (old new : List (Option (ℕ × ℕ))) → ((x : Bor ℕ) (y : ℕ) (next : F) → Called g f (x, tt) y next → (y ≡ lowered last x.now) × (next ≡ f))
-      → ReplacesEach g f old new end → filled new ≡ map (λ m. (m.0, lowered last m.1)) (filled old)
-  lowered-each f end [] new says (is, same) = ap filled is
-  lowered-each f end (None ∷ old) new says (rest, is, others) = ap filled is ∙ lowered-each f end old rest says others
-  lowered-each f end (Some (h, x) ∷ old) new says (y, next, rest, called, is, others) =
-      let told = says called.shown y next called.called in
-      ap filled is
-      ∙ ap (λ z. (h, z) ∷ filled rest) (told.0 ∙ ap (lowered last) called.shows)
-      ∙ ap (λ l. (h, lowered last x) ∷ l) (lowered-each f end old rest says (subst (λ k. ReplacesEach g k old rest end) told.1 others))
 
 module _ {K V : Type 0} where
   cut : (n k : ℕ) (es : List (Entry K V)) → k < length es

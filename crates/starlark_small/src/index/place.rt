@@ -1,5 +1,5 @@
 //! A place in a list, in as many bytes as an index has for it.
-ghost use Rattle.std.specs.Prelude.{◌≡◌, ℕ, ◌-◌, ◌<◌, ◌^◌, ◌==◌};
+ghost use Rattle.std.specs.Prelude.{◌≡◌, ℕ, ◌-◌, ◌<◌, ◌≤◌, ◌^◌, ◌==◌, length, slice_index};
 ghost use Rattle.starlark_small.specs.Index.{lowered};
 
 use std::marker::Model;
@@ -15,6 +15,10 @@ pub trait PlaceNumber: Copy {
     /// The number of a place.
     fn of(place: usize) -> Self
         requires { place < bound }
+        ensures { number result ≡ place };
+
+    /// The number of a place of 32 bits.
+    fn of_short(place: u32) -> Self
         ensures { number result ≡ place };
 
     /// The place.
@@ -34,6 +38,11 @@ impl PlaceNumber for u32 {
     }
 
     #[inline]
+    fn of_short(place: u32) -> u32 {
+        place
+    }
+
+    #[inline]
     fn get(self) -> usize {
         self as usize
     }
@@ -47,6 +56,11 @@ impl PlaceNumber for usize {
     #[inline]
     fn of(place: usize) -> usize {
         place
+    }
+
+    #[inline]
+    fn of_short(place: u32) -> usize {
+        place as usize
     }
 
     #[inline]
@@ -105,5 +119,24 @@ impl<N: PlaceNumber> Place<N> {
     {
         let place = self.0.get();
         Place(N::of(place - usize::from(place > last)))
+    }
+
+    /// The place that `to` names for this one.
+    #[inline]
+    pub(crate) fn renamed(&self, to: &[u32]) -> Self
+        requires { self.now < length to.now }
+        ensures { result ≡ slice_index to.now self.now }
+    {
+        Place(N::of_short(to[self.0.get()]))
+    }
+
+    /// The place as far from the end of a list of this length as this one is from its front.
+    #[inline]
+    pub(crate) fn turned(&self, len: usize) -> Self
+        requires within { self.now < len }
+        requires few { len ≤ N.bound }
+        ensures { result ≡ len - 1 - self.now }
+    {
+        Place(N::of(len - 1 - self.0.get()))
     }
 }

@@ -1,6 +1,6 @@
 //! The table of an index: places under promoted hashes, in slots of 8 bytes wherever the list is short enough for that.
-ghost use Rattle.std.specs.Prelude.{◌≡◌, ◌<◌, ◌≤◌, ◌∷◌, [], ◌+◌, ◌^◌, IfOk, OnErr, true, false, IsPermutation, length, remove};
-ghost use Rattle.std.specs.List.{Contains};
+ghost use Rattle.std.specs.Prelude.{◌≡◌, ◌<◌, ◌≤◌, ◌∷◌, [], ◌+◌, ◌-◌, ◌^◌, IfOk, OnErr, true, false, IsPermutation, length, map, remove, slice_index};
+ghost use Rattle.std.specs.List.{All, Contains};
 ghost use Rattle.starlark_hash.specs.HashValue.{hash_number, promoted};
 ghost use Rattle.starlark_lists.specs.Search.{CanSearch, Searches, keys_under};
 ghost use Rattle.starlark_small.specs.Index.{IsIndexOf, hashes_in, unindexed};
@@ -8,7 +8,7 @@ ghost use Rattle.starlark_table.specs.Table.{members, table_capacity, table_len}
 
 use super::UNINDEXED;
 use super::place::Place;
-use super::places::{Placed, remove_place, take_under};
+use super::places::{Placed, remove_place, rename_places, take_under, turn_places};
 use super::search::find_in;
 use starlark_hash::StarlarkHashValue;
 use starlark_table::ReadyTable;
@@ -155,6 +155,31 @@ impl PlaceTable {
         match &mut self.width {
             Width::Narrow(table) => take_under(table, hash),
             Width::Wide(table) => take_under(table, hash),
+        }
+    }
+
+    /// Puts for each place the one that `to` names for it.
+    pub(crate) fn rename(&mut self, to: &[u32])
+        requires { All (λ m. m.1 < length to.now) (members self.old) }
+        ensures members { members self.new ≡ map (λ m. (m.0, slice_index to.now m.1)) (members self.old) }
+        ensures room { table_capacity self.new ≡ table_capacity self.old }
+    {
+        match &mut self.width {
+            Width::Narrow(table) => rename_places(table, to),
+            Width::Wide(table) => rename_places(table, to),
+        }
+    }
+
+    /// Turns each place round in a list of this length.
+    pub(crate) fn turn(&mut self, len: usize)
+        requires within { All (λ m. m.1 < len) (members self.old) }
+        requires few { len ≤ table_capacity self.old }
+        ensures members { members self.new ≡ map (λ m. (m.0, len - 1 - m.1)) (members self.old) }
+        ensures room { table_capacity self.new ≡ table_capacity self.old }
+    {
+        match &mut self.width {
+            Width::Narrow(table) => turn_places(table, len),
+            Width::Wide(table) => turn_places(table, len),
         }
     }
 

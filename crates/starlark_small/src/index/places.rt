@@ -1,10 +1,11 @@
 //! The places that an index holds: taken out, moved and filled in.
-ghost use Rattle.std.specs.Prelude.{◌≡◌, None, ◌+◌, ◌-◌, ◌<◌, ◌≤◌, ◌==◌, Some, true, List, [], ◌∷◌, length, map, remove, if◌then◌else◌, nat_le, is_some, IfSome, IsPermutation};
-ghost use Rattle.std.specs.List.{Contains};
+ghost use Rattle.std.specs.Prelude.{◌≡◌, None, ◌+◌, ◌-◌, ◌<◌, ◌≤◌, ◌==◌, Some, true, List, [], ◌∷◌, length, map, remove, reverse, if◌then◌else◌, nat_le, is_some, slice_index, IfSome, IsPermutation};
+ghost use Rattle.std.specs.List.{All, Contains};
 ghost use Rattle.starlark_lists.specs.Entries.{Entry};
 ghost use Rattle.starlark_hash.specs.HashValue.{hash_number, promoted};
 ghost use Rattle.starlark_small.specs.Index.{IsIndexOf, IsIndexed, hashes_in, index_room, lowered, moved_below, unindexed};
 ghost use Rattle.starlark_table.specs.Table.{members, member_at, table_len};
+ghost use Rattle.starlark_vec2.specs.Moves.{Moves};
 
 use super::place::{Place, PlaceNumber};
 use super::{Index, UNINDEXED};
@@ -67,6 +68,43 @@ impl Index {
             let hash = entries.get_unchecked(i).0.hash();
             table.note(hash, i);
         }
+    }
+
+    /// Whether one pass over the slots costs less than taking each place out and in again: there are only a few slots
+    /// for each place.
+    pub(crate) fn is_dense(&self) -> bool {
+        match self.table.get() {
+            Some(table) => table.room() / 8 <= table.len(),
+            None => false,
+        }
+    }
+
+    /// Renames each place to the one where its entry went, which `to` names for it: the entries stand there already.
+    /// The room stays.
+    pub(crate) fn rename<K, V>(&mut self, entries: &VecMap<K, V>, to: &[u32])
+        requires { (before : List (Entry K V)) × IsIndexed before self.old × Moves before to.now entries.now.entries }
+        ensures indexed { IsIndexed entries.now.entries self.new }
+        ensures room { index_room (length entries.now.entries) self.new ≡ index_room (length entries.now.entries) self.old }
+        ensures kept { is_some self.new ≡ is_some self.old }
+    {
+        prove!(to.len() == entries.len());
+        let Some(table) = self.table.get_mut() else {
+            return;
+        };
+        table.rename(to);
+    }
+
+    /// Turns each place round, as the entries are about to turn. The room stays.
+    pub(crate) fn turn<K, V>(&mut self, entries: &VecMap<K, V>)
+        requires { IsIndexed entries.now.entries self.old }
+        ensures indexed { IsIndexed (reverse entries.now.entries) self.new }
+        ensures room { index_room (length entries.now.entries) self.new ≡ index_room (length entries.now.entries) self.old }
+        ensures kept { is_some self.new ≡ is_some self.old }
+    {
+        let Some(table) = self.table.get_mut() else {
+            return;
+        };
+        table.turn(entries.len());
     }
 
     /// Lets the index go where the list is short enough to do without.
@@ -199,6 +237,38 @@ fn lower_all<N: PlaceNumber>(index: &mut Placed<N>, last: usize)
         |i: &Place<N>| -> Place<N>
             ensures { result ≡ lowered last i.now }
         { i.lowered(last) },
+    );
+}
+
+// Puts for each place the one that `to` names for it, in one pass over the index.
+#[inline(never)]
+pub(super) fn rename_places<N: PlaceNumber>(index: &mut Placed<N>, to: &[u32])
+    requires { All (λ m. m.1 < length to.now) (members index.old) }
+    ensures members { members index.new ≡ map (λ m. (m.0, slice_index to.now m.1)) (members index.old) }
+    ensures room { table_len index.new + index.new.room ≡ table_len index.old + index.old.room }
+{
+    index.replace_each(
+        |i: &Place<N>| -> Place<N>
+            requires { i.now < length to.now }
+            ensures { result ≡ slice_index to.entry.now i.now }
+        { i.renamed(to) },
+    );
+}
+
+// Turns each place of a list of this length round, in one pass over the index.
+#[inline(never)]
+pub(super) fn turn_places<N: PlaceNumber>(index: &mut Placed<N>, len: usize)
+    requires within { All (λ m. m.1 < len) (members index.old) }
+    requires few { len ≤ N.bound }
+    ensures members { members index.new ≡ map (λ m. (m.0, len - 1 - m.1)) (members index.old) }
+    ensures room { table_len index.new + index.new.room ≡ table_len index.old + index.old.room }
+{
+    index.replace_each(
+        |i: &Place<N>| -> Place<N>
+            requires within { i.now < len }
+            requires few { len ≤ N.bound }
+            ensures { result ≡ len - 1 - i.now }
+        { i.turned(len) },
     );
 }
 

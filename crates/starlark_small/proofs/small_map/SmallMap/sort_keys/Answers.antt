@@ -1,18 +1,15 @@
-use Rattle.std.proofs.Common.{ap, subst, sym, ◌∙◌, length, ◌+◌, ◌≤◌, arith, IsPermutation}
-use Rattle.std.proofs.lemmas.Bool.{false≢true}
-use Rattle.std.proofs.lemmas.Result.{err_from_is_err_and}
-use Rattle.std.proofs.lemmas.List.Sorted.{length_permutation}
-use Rattle.std.proofs.Common.{map, rules}
+use Rattle.std.proofs.Common.{◌≡◌, List, Result, Ok, Err, ap, subst, sym, map, IsPermutation}
+use Rattle.std.proofs.lemmas.List.Sorted.{IsPermutation-refl, length_permutation}
 use Rattle.std.specs.List.Sorted.{IsSorted}
-use Rattle.std.specs.Prelude.{MatchBool}
-use Rattle.starlark_lists.specs.Entries.{IsSingle, entry_key}
+use Rattle.std.specs.Prelude.{MatchBool, OnOk, OnErr}
+use Rattle.starlark_lists.specs.Entries.{Entry, entry_key}
 use Rattle.starlark_lists.specs.Sorting.{Ascends, key_lt, sorted_by_key}
 use Rattle.starlark_lists.proofs.EntryLemmas.{IsSingle-permutation}
 use Rattle.starlark_lists.proofs.SortingLemmas.{IsPermutation-sorted_by, sorted_by-fixed, key_lt-order}
-use Rattle.starlark_small.specs.Index.{index_room}
-use Rattle.starlark_small.proofs.CallerOrder.{keys-sorted, same-entries, same-permuted}
+use Rattle.starlark_vecmap.specs.EntryList.{EntryList, with_entries}
+use Rattle.starlark_small.proofs.CallerOrder.{keys-sorted, same-permuted}
 use Rattle.starlark_small.proofs.Rooms.{KeepsMemory-turned}
-use Rattle.starlark_small.proofs.CallerOwn.{own-permuted, own-same}
+use Rattle.starlark_small.proofs.CallerOwn.{own-permuted}
 use Rattle.starlark_small.proofs.small_map.SmallMap.sort_keys.Goals as goal
 
 pub returns-then-is_sorted_by_key-clause-entries : goal.returns-then-is_sorted_by_key-clause-entries
@@ -25,11 +22,49 @@ pub returns-then-is_sorted_by_key-clause-sorted : goal.returns-then-is_sorted_by
 returns-then-is_sorted_by_key-clause-sorted g c =
     subst (λ l. IsSorted g.K.Ord.cmp (map (entry_key {V = g.row.V.Denot}) l)) (sym (returns-then-is_sorted_by_key-clause-entries g c)) (keys-sorted g.met.K.Ord.total c.args.self.now.entries)
 
-pub returns-in_err-sort_keys-clause-at_once : goal.returns-in_err-sort_keys-clause-at_once
-returns-in_err-sort_keys-clause-at_once g c =
+OnOk-map : {X E : Type 0} {P Q : Type 0} (r : Result X E) → (P → Q) → OnOk r P → OnOk r Q
+OnOk-map (Ok x) f told = f told
+OnOk-map (Err e) f told = tt
+
+OnErr-always : {X E : Type 0} {P : Type 0} (r : Result X E) → P → OnErr r P
+OnErr-always (Ok x) p = tt
+OnErr-always (Err e) p = p
+
+-- a sort that may be refused puts the entries into another order, or leaves them
+turned : {K V X E : Type 0} (r : Result X E) (old new : EntryList K V) (sorted : List (Entry K V)) → IsPermutation old.entries sorted → OnOk r (new ≡ with_entries old sorted) → OnErr r (new ≡ old)
+    → IsPermutation old.entries new.entries × (new.capacity ≡ old.capacity)
+turned (Ok x) old new sorted moved done kept = (subst (λ l. IsPermutation old.entries l.entries) (sym done) moved, ap (λ l. l.capacity) done)
+turned (Err e) old new sorted moved done kept = (subst (λ l. IsPermutation old.entries l.entries) (sym kept) (IsPermutation-refl old.entries), ap (λ l. l.capacity) kept)
+
+pub invariant_of-self : goal.invariant_of-self
+invariant_of-self g c =
     let es = c.self.inside.entries.entries in
-    let not_up = subst (λ b. MatchBool b (Ascends g.K.Ord.cmp es) (Ascends g.K.Ord.cmp es → ⊥)) c.if-is_sorted_by_key.false c.is_sorted_by_key.ensures in
-    rw (← c.self.view_is) (λ ascends. absurd (not_up ascends))
+    let new = c.sort_indexed.new.entries in
+    let is = turned c.sort_indexed.result c.self.inside.entries new (sorted_by_key g.K.Ord.cmp es) (IsPermutation-sorted_by (key_lt g.K.Ord.cmp) es) c.sort_indexed.ensures.sorted c.sort_indexed.ensures.unchanged in
+    record {
+      single = IsSingle-permutation g.K.PartialEq.eq g.met.K.Eq.laws es new.entries c.self.invariant.single is.0;
+      indexed = c.sort_indexed.ensures.indexed;
+    }
+
+pub returns-clause-sorted : goal.returns-clause-sorted
+returns-clause-sorted g c =
+    let cmp = g.K.Ord.cmp in
+    OnOk-map c.sort_indexed.result
+    (λ done. subst (λ l. IsSorted cmp (map (entry_key {V = g.row.V.Denot}) l.entries)) (sym done) (keys-sorted g.met.K.Ord.total c.self.inside.entries.entries)) c.sort_indexed.ensures.sorted
+
+pub returns-clause-same : goal.returns-clause-same
+returns-clause-same g c under key =
+    let es = c.self.inside.entries.entries in
+    let new = c.sort_indexed.new.entries in
+    let is = turned c.sort_indexed.result c.self.inside.entries new (sorted_by_key g.K.Ord.cmp es) (IsPermutation-sorted_by (key_lt g.K.Ord.cmp) es) c.sort_indexed.ensures.sorted c.sort_indexed.ensures.unchanged in
+    rw (← c.self.view_is) (same-permuted g.K.PartialEq.eq g.met.K.Eq.laws _ _ c.self.invariant.single is.0 under key)
+
+pub returns-clause-own : goal.returns-clause-own
+returns-clause-own g c feeds =
+    let es = c.self.inside.entries.entries in
+    let new = c.sort_indexed.new.entries in
+    let is = turned c.sort_indexed.result c.self.inside.entries new (sorted_by_key g.K.Ord.cmp es) (IsPermutation-sorted_by (key_lt g.K.Ord.cmp) es) c.sort_indexed.ensures.sorted c.sort_indexed.ensures.unchanged in
+    rw (← c.self.view_is) (own-permuted feeds _ _ is.0)
 
 pub returns-clause-at_once : goal.returns-clause-at_once
 returns-clause-at_once g c =
@@ -37,58 +72,16 @@ returns-clause-at_once g c =
     let not_up = subst (λ b. MatchBool b (Ascends g.K.Ord.cmp es) (Ascends g.K.Ord.cmp es → ⊥)) c.if-is_sorted_by_key.false c.is_sorted_by_key.ensures in
     rw (← c.self.view_is) (λ ascends. absurd (not_up ascends))
 
-pub returns-in_err-sort_keys-clause-needed : goal.returns-in_err-sort_keys-clause-needed
-returns-in_err-sort_keys-clause-needed g c =
-    let p = err_from_is_err_and c.from_residual.result c.from_residual.ensures.1 in
-    rw (p.1, ← c.self.view_is) (λ ascends. absurd (false≢true (c.in_err-sort_keys.ensures.at_once ascends).0))
-
-pub forget_all-requires : goal.forget_all-requires
-forget_all-requires g c =
-    let es = c.self.inside.entries.entries in (
-      es,
-      c.self.invariant.indexed,
-      subst (λ l. IsPermutation es l.entries) (sym c.in_ok-sort_keys.ensures.sorted) (IsPermutation-sorted_by (key_lt g.K.Ord.cmp) es),
-    )
-
-pub invariant_of-self-2 : goal.invariant_of-self-2
-invariant_of-self-2 g c =
+pub returns-clause-needed : goal.returns-clause-needed
+returns-clause-needed g c =
     let es = c.self.inside.entries.entries in
-    record {
-      single = subst (λ l. IsSingle g.K.PartialEq.eq l.entries) (sym c.in_ok-sort_keys.ensures.sorted)
-          (IsSingle-permutation g.K.PartialEq.eq g.met.K.Eq.laws es (sorted_by_key g.K.Ord.cmp es) c.self.invariant.single (IsPermutation-sorted_by (key_lt g.K.Ord.cmp) es));
-      indexed = c.note_all.ensures.indexed;
-    }
+    let not_up = subst (λ b. MatchBool b (Ascends g.K.Ord.cmp es) (Ascends g.K.Ord.cmp es → ⊥)) c.if-is_sorted_by_key.false c.is_sorted_by_key.ensures in
+    rw (← c.self.view_is) (OnErr-always c.sort_indexed.result not_up)
 
 pub returns-clause-kept : goal.returns-clause-kept
 returns-clause-kept g c =
     let es = c.self.inside.entries.entries in
-    let new = c.sort_keys.new.self in
-    let sorted = c.in_ok-sort_keys.ensures.sorted in
-    let size = ap (λ l. length l.entries) sorted ∙ length_permutation es (sorted_by_key g.K.Ord.cmp es) (IsPermutation-sorted_by (key_lt g.K.Ord.cmp) es) in
+    let new = c.sort_indexed.new.entries in
+    let is = turned c.sort_indexed.result c.self.inside.entries new (sorted_by_key g.K.Ord.cmp es) (IsPermutation-sorted_by (key_lt g.K.Ord.cmp) es) c.sort_indexed.ensures.sorted c.sort_indexed.ensures.unchanged in
     rw (← c.self.view_is)
-    (KeepsMemory-turned c.self.inside.entries new c.self.inside.index c.note_all.new.self size (ap (λ l. l.capacity) sorted)
-    (subst (λ n. n + index_room n c.self.inside.index ≤ length new.entries + index_room (length new.entries) c.note_all.new.self) size (omega (arith, c.forget_all.ensures.room, c.note_all.ensures.room))) (c.note_all.ensures.kept ∙ c.forget_all.ensures.kept))
-
-pub returns-in_err-sort_keys-clause-same : goal.returns-in_err-sort_keys-clause-same
-returns-in_err-sort_keys-clause-same g c = same-entries g.K.PartialEq.eq c.args.self.now.entries _ (search rules)
-
-pub returns-clause-sorted : goal.returns-clause-sorted
-returns-clause-sorted g c =
-    let cmp = g.K.Ord.cmp in
-    subst (λ l. IsSorted cmp (map (entry_key {V = g.row.V.Denot}) l.entries)) (sym c.in_ok-sort_keys.ensures.sorted) (keys-sorted g.met.K.Ord.total c.self.inside.entries.entries)
-
-pub returns-clause-same : goal.returns-clause-same
-returns-clause-same g c under key =
-    let es = c.self.inside.entries.entries in
-    rw (← c.self.view_is)
-    (same-permuted g.K.PartialEq.eq g.met.K.Eq.laws _ _ c.self.invariant.single
-    (subst (λ l. IsPermutation es l.entries) (sym c.in_ok-sort_keys.ensures.sorted) (IsPermutation-sorted_by (key_lt g.K.Ord.cmp) es)) under key)
-
-pub returns-in_err-sort_keys-clause-own : goal.returns-in_err-sort_keys-clause-own
-returns-in_err-sort_keys-clause-own g c feeds = own-same feeds c.args.self.now.entries _ (search rules)
-
-pub returns-clause-own : goal.returns-clause-own
-returns-clause-own g c feeds =
-    let es = c.self.inside.entries.entries in
-    rw (← c.self.view_is)
-    (own-permuted feeds _ _ (subst (λ l. IsPermutation es l.entries) (sym c.in_ok-sort_keys.ensures.sorted) (IsPermutation-sorted_by (key_lt g.K.Ord.cmp) es)))
+    (KeepsMemory-turned c.self.inside.entries new c.self.inside.index c.sort_indexed.new.index (length_permutation es new.entries is.0) is.1 c.sort_indexed.ensures.room c.sort_indexed.ensures.kept)
