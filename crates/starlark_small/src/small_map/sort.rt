@@ -65,8 +65,8 @@ fn sort_indexed<K: Ord, V>(entries: &mut VecMap<K, V>, index: &mut Index) -> Res
     Ok(())
 }
 
-// The same in one pass over the index, which reads no hash: if there is one and it is dense, places fit in 32 bits, and
-// memory is found to tell where each entry goes. False says that nothing has changed.
+// The same in one pass over the index, which reads no hash: if there is one and it is dense, and where each entry goes is
+// told. False says that nothing has changed.
 fn sort_and_rename<K: Ord, V>(entries: &mut VecMap<K, V>, index: &mut Index) -> bool
     requires { IsIndexed entries.old.entries index.old }
     ensures sorted { result ≡ true → entries.new ≡ with_entries entries.old (sorted_by_key K.cmp entries.old.entries) }
@@ -76,7 +76,7 @@ fn sort_and_rename<K: Ord, V>(entries: &mut VecMap<K, V>, index: &mut Index) -> 
     ensures room { length entries.old.entries + index_room (length entries.old.entries) index.old ≤ length entries.new.entries + index_room (length entries.new.entries) index.new }
     ensures kept { is_some index.new ≡ is_some index.old }
 {
-    if !index.is_dense() || entries.len() > u32::MAX as usize {
+    if !index.is_dense() {
         return false;
     }
     let Ok(to) = entries.sort_keys_with_moves() else {

@@ -12,19 +12,21 @@ use std::cmp::Ordering;
 
 impl<A, B> Vec2<A, B> {
     /// Sorts the pairs as `sort_pairs_by` does, and answers for each place the one to which its pair went. The closure
-    /// sees each pair behind the place where it stood. Where memory is refused, the list is as it was. Required is that
-    /// places fit in 32 bits.
+    /// sees each pair behind the place where it stood. It is refused where memory is not found, and where places do not
+    /// fit in 32 bits; the list is then as it was.
     pub fn sort_pairs_with_moves_by<F: FnMut(&(u32, (A, B)), &(u32, (A, B))) -> Ordering>(
         &mut self,
         compare: F,
     ) -> Result<Vec<u32>, AllocError>
         requires callable { F.IsAlwaysCallable compare }
-        requires few { length self.old.pairs ≤ 2 ^ 32 }
         ensures sorted { OnOk result (SortsNumbered F.FnMut compare self.old.pairs self.new.pairs) }
         ensures moves { IfOk result (λ to. Moves self.old.pairs to.items self.new.pairs) }
         ensures unchanged { OnErr result (self.new.pairs ≡ self.old.pairs) }
         ensures capacity { self.new.capacity ≡ self.old.capacity }
     {
+        if self.len() > u32::MAX as usize {
+            return Err(AllocError);
+        }
         prove!(self.len() <= self.capacity());
         let mut to = vec![in self.alloc; 0u32; self.len()]?;
         let mut numbered = self.take_numbered()?;

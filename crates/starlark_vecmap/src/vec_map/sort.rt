@@ -1,5 +1,5 @@
 //! Sorting a `VecMap` by its keys.
-ghost use Rattle.std.specs.Prelude.{◌≡◌, ◌≤◌, ◌^◌, length, IfOk, IsOk, OnOk, OnErr, MatchBool};
+ghost use Rattle.std.specs.Prelude.{◌≡◌, IfOk, IsOk, OnOk, OnErr, MatchBool};
 ghost use Rattle.starlark_lists.specs.Sorting.{Ascends, sorted_by_key};
 ghost use Rattle.starlark_vec2.specs.Moves.{Moves};
 ghost use Rattle.starlark_vecmap.specs.EntryList.{with_entries};
@@ -40,12 +40,11 @@ impl<K, V> VecMap<K, V> {
     }
 
     /// Sorts the entries as `sort_keys` does, and answers for each place the one to which its entry went. It asks for
-    /// memory where the keys ascend already, too; where memory is refused, the map is as it was. Required is that
-    /// places fit in 32 bits.
+    /// memory where the keys ascend already, too. It is refused where memory is not found, and where places do not fit
+    /// in 32 bits; the map is then as it was.
     pub fn sort_keys_with_moves(&mut self) -> Result<Vec<u32>, AllocError>
     where
         K: Ord,
-        requires few { length self.old.entries ≤ 2 ^ 32 }
         ensures sorted { OnOk result (self.new ≡ with_entries self.old (sorted_by_key K.cmp self.old.entries)) }
         ensures moves { IfOk result (λ to. Moves self.old.entries to.items self.new.entries) }
         ensures unchanged { OnErr result (self.new ≡ self.old) }
