@@ -20,7 +20,14 @@ use Rattle.starlark_table.proofs.Windows.{AtWindow, Matched, way, window_begins,
 pub same-by_test : {b : Bool} (h hash : ℕ) → b ≡ nat_eq h hash → b ≡ true → h ≡ hash
 same-by_test h hash is said = eqb-true h hash (sym is ∙ said)
 
--- and another one is not
+-- what is told of a number is told of the hash that has it
+pub home_at : (m start number hash : ℕ) → start ≡ home m number → number ≡ hash → start ≡ home m hash
+home_at m start number hash is same = is ∙ ap (λ n. home m n) same
+
+pub tag_at : (t number hash : ℕ) → t ≡ tag number → number ≡ hash → t ≡ tag hash
+tag_at t number hash is same = is ∙ ap tag same
+
+-- and another one is not the one that is sought
 pub other-by_test : {b : Bool} (h hash : ℕ) → b ≡ nat_eq h hash → b ≡ false → h ≡ hash → ⊥
 other-by_test h hash is said same = false≢true (sym said ∙ is ∙ eq-eqb h hash same)
 
@@ -46,6 +53,11 @@ module _ {F T : Type 0} (g : Mut F (Bor T × Unit {0}) Bool) (hash : ℕ) (tags 
   pub record Looking (start place same : ℕ) (f : F) : Type 0 where
     pub window : AtWindow hash tags slots start place same
     pub search : Searching g (behind 0) first f (behind (way hash slots start + (place - start)))
+
+  -- the same, told by other names
+  pub looking_told : (start place place' same same' : ℕ) (f f' : F) → place' ≡ place → same' ≡ same → f' ≡ f → Looking start place same f → Looking start place' same' f'
+  looking_told start place place' same same' f f' at_place at_bits at_state l =
+      subst (λ s. Looking start place' same' s) (sym at_state) (subst (λ b. Looking start place' b f) (sym at_bits) (subst (λ p. Looking start p same f) (sym at_place) l))
 
   module _ (tagged : IsTagged tags slots) where
     module _ (count mask start : ℕ) (counted : count ≡ length slots) (some : count ≢ 0) (masked : IsMask mask slots) (is : start ≡ home (mask + 1) hash) where
@@ -105,6 +117,9 @@ module _ {F T : Type 0} (g : Mut F (Bor T × Unit {0}) Bool) (hash : ℕ) (tags 
 
         found : Matched hash tags slots tagged some start place same steps
         found = window_matches hash tags slots tagged some start place same steps l.window bit refl
+
+        pub looking_within : here < length slots
+        looking_within = found.in_range
 
         pub looking_full : IsFilled slots here
         looking_full = filled-by_some (at slots here) found.full

@@ -30,8 +30,9 @@ pub(crate) fn find_slot_near<T, H: KeptHash, F: FnMut(&T) -> bool>(
     if slots.places() == 0 {
         return None;
     }
-    let sought = tag(&hash);
-    let mut start = home(&hash, mask);
+    let number = hash.number();
+    let sought = tag(number);
+    let mut start = home(number, mask);
     let mut place = start;
     let mut same = places_with(tags, start, sought);
     let mut looked = 1;

@@ -36,13 +36,13 @@ pub(crate) fn mask_of<T, H: KeptHash>(slots: &Slots<T, H>) -> usize
     slots.places().wrapping_sub(1)
 }
 
+// The home of a number. A search asks for the number once, for it and for the tag.
 #[inline]
 #[tactic(auto, unfolding(crate::specs::Layout::home))]
-pub(crate) fn home<H: KeptHash>(hash: &Kept<H>, mask: usize) -> usize
-    ensures { result ≡ home (mask + 1) hash.now }
+pub(crate) fn home(number: u64, mask: usize) -> usize
+    ensures { result ≡ home (mask + 1) number }
 {
-    let hash = hash.number();
-    ((hash >> 32) ^ hash) as usize & mask
+    ((number >> 32) ^ number) as usize & mask
 }
 
 #[inline]
@@ -50,7 +50,7 @@ pub(crate) fn home_among<H: KeptHash>(count: usize, hash: &Kept<H>) -> usize
     requires { 0 < count }
     ensures { result ≡ home count hash.now }
 {
-    home(hash, count - 1)
+    home(hash.number(), count - 1)
 }
 
 // How many steps lead from one place to another.

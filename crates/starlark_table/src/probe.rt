@@ -7,7 +7,7 @@ ghost use Rattle.starlark_table.specs.Table.{filled, holders_in};
 ghost use Rattle.starlark_table.specs.Layout.{distance, at, InPlace, IsMask, IsTagged};
 
 use crate::kept::{Kept, KeptHash};
-use crate::places::{home, home_among, window_after};
+use crate::places::{home, window_after};
 use crate::tags::{EMPTY, places_up_to_empty, places_with, tag};
 use starlark_columns::Column;
 
@@ -15,7 +15,7 @@ use starlark_columns::Column;
 pub(crate) type Slots<T, H> = Column<(Kept<H>, T)>;
 
 // A slot, with the item in it.
-#[inline]
+#[inline(always)]
 pub(crate) fn find_slot<'a, T, H: KeptHash, F: FnMut(&T) -> bool>(
     slots: &'a Slots<T, H>,
     tags: &[u8],
@@ -34,10 +34,21 @@ pub(crate) fn find_slot<'a, T, H: KeptHash, F: FnMut(&T) -> bool>(
     if slots.places() == 0 {
         return None;
     }
-    let sought = tag(&hash);
-    let mut start = home(&hash, mask);
+    let number = hash.number();
+    let sought = tag(number);
+    let mut start = home(number, mask);
     let mut place = start;
     let mut same = places_with(tags, start, sought);
+    // The first place with the tag is mostly the one that is sought: before the loop, no jump leads there.
+    if same != 0 {
+        place += same.trailing_zeros() as usize;
+        let (stored, item) = slots.get(place);
+        if stored.is(&hash) && eq(item) {
+            return Some((place, item));
+        }
+        same = same >> same.trailing_zeros() >> 1;
+        place += 1;
+    }
     'windows: loop {
         if same == 0 {
             if places_with(tags, start, EMPTY) != 0 {
@@ -95,8 +106,9 @@ pub(crate) fn put<T, H: KeptHash>(
     ensures in_place { InPlace (length slots.new) slots.new }
     ensures tagged { IsTagged tags.new slots.new }
 {
-    let place = free_place(slots, tags, home_among(slots.places(), &hash));
-    tags[place] = tag(&hash);
+    let number = hash.number();
+    let place = free_place(slots, tags, home(number, slots.places() - 1));
+    tags[place] = tag(number);
     slots.write(place, (hash, item));
     place
 }

@@ -166,7 +166,7 @@ impl<T, H: KeptHash> ReadyTable<T, H> {
     }
 
     /// The item of such a slot, for which `eq` is asked just as by `find`.
-    #[inline]
+    #[inline(always)]
     pub fn find_item<F: FnMut(&T) -> bool>(&self, hash: H, eq: F) -> Option<&T>
         requires { CanSearch F.FnMut (items_under (H.number hash) self.now) eq }
         ensures { (slot : Option ℕ) × (last : F) × Searches F.FnMut (items_under (H.number hash) self.now) eq slot last × (option_copied result ≡ option_and_then (item_in self.now) slot) }

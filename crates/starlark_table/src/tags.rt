@@ -2,7 +2,7 @@
 ghost use Rattle.std.specs.Prelude.{◌≡◌, ℕ, ◌+◌, ◌-◌, ◌<◌, ◌≤◌, None, length};
 ghost use Rattle.starlark_table.specs.Layout.{tag, at, window, tag_count, tag_bits, hash_tag_bits, AreDoubled, BitsUpToEmpty, IsTagged, HasTags, IsPadded};
 
-use crate::kept::{Kept, KeptHash};
+use crate::kept::KeptHash;
 use crate::probe::Slots;
 use std::simd::prelude::*;
 
@@ -21,10 +21,10 @@ pub(crate) const PADDING: u8 = 128;
 
 #[inline]
 #[tactic(auto, unfolding(crate::specs::Layout::tag))]
-pub(crate) fn tag<H: KeptHash>(hash: &Kept<H>) -> u8
-    ensures { result ≡ tag hash.now }
+pub(crate) fn tag(number: u64) -> u8
+    ensures { result ≡ tag number }
 {
-    ((hash.number() >> 25) & 127) as u8
+    ((number >> 25) & 127) as u8
 }
 
 // How many tags there are beside these slots.

@@ -208,7 +208,23 @@ impl PlaceTable {
     {
         match &self.width {
             Width::Narrow(table) => find_in(table, entries, hash, eq),
-            Width::Wide(table) => find_in(table, entries, hash, eq),
+            Width::Wide(table) => find_wide(table, entries, hash, eq),
         }
     }
+}
+
+// The same among places of 64 bits. Few lists are so long: apart, it leaves the code of the others short.
+#[cold]
+#[inline(never)]
+fn find_wide<K, V, F: FnMut(&K) -> bool>(
+    table: &Placed<usize>,
+    entries: &VecMap<K, V>,
+    hash: StarlarkHashValue,
+    eq: F,
+) -> Option<usize>
+    requires index { IsIndexOf entries.now.entries table.now }
+    requires callable { CanSearch F.FnMut (keys_under hash entries.now.entries) eq }
+    ensures { (last : F) × Searches F.FnMut (keys_under hash entries.now.entries) eq result last }
+{
+    find_in(table, entries, hash, eq)
 }

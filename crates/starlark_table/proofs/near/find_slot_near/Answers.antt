@@ -1,26 +1,26 @@
 use Rattle.std.proofs.Common.{false, arith, refl, sym, subst}
 use Rattle.std.specs.Fn.{CalledAt}
 use Rattle.std.proofs.lemmas.Fn.{called_at}
-use Rattle.starlark_table.proofs.Looking.{same-by_test, other-by_test, home_room, looking_begins, looking_goes_on, looking_full, looking_asks, looking_accepts, looking_nearer, looking_refuses, looking_skips}
+use Rattle.starlark_table.proofs.Looking.{home_at, tag_at, same-by_test, other-by_test, home_room, looking_begins, looking_goes_on, looking_full, looking_asks, looking_accepts, looking_nearer, looking_refuses, looking_skips}
 use Rattle.starlark_table.proofs.near.find_slot_near.Goals as goal
 use Rattle.starlark_table.proofs.near.find_slot_near.Goals.{else-is-via-then-is+else-eq, else-is-via-else-is}
 
 pub places_with-same-requires : goal.places_with-same-requires
 places_with-same-requires g c =
-    home_room g.F.FnMut c.args.hash c.args.tags.now c.args.slots.now c.args.eq c.requires.tagged c.places.result c.args.mask c.home-start.result c.places.ensures.places c.if-places-eq0.false c.requires.mask c.home-start.ensures
+    home_room g.F.FnMut c.args.hash c.args.tags.now c.args.slots.now c.args.eq c.requires.tagged c.places.result c.args.mask c.home-start.result c.places.ensures.places c.if-places-eq0.false c.requires.mask (home_at _ _ _ _ c.home-start.ensures c.number-number.ensures)
 
 pub windows-init : goal.windows-init
 windows-init g c =
     record {
       few = omega arith;
-      looking = looking_begins g.F.FnMut c.args.hash c.args.tags.now c.args.slots.now c.args.eq c.requires.tagged c.places.result c.args.mask c.home-start.result c.places.ensures.places c.if-places-eq0.false c.requires.mask c.home-start.ensures
-          c.tag-sought.result c.places_with-same.result c.tag-sought.ensures c.places_with-same.ensures;
+      looking = looking_begins g.F.FnMut c.args.hash c.args.tags.now c.args.slots.now c.args.eq c.requires.tagged c.places.result c.args.mask c.home-start.result c.places.ensures.places c.if-places-eq0.false c.requires.mask (home_at _ _ _ _ c.home-start.ensures c.number-number.ensures)
+          c.tag-sought.result c.places_with-same.result (tag_at _ _ _ c.tag-sought.ensures c.number-number.ensures) c.places_with-same.ensures;
     }
 
 pub windows-smaller-then-same-eq0 : goal.windows-smaller-then-same-eq0
 windows-smaller-then-same-eq0 g c =
     (looking_goes_on g.F.FnMut c.args.hash c.args.tags.now c.args.slots.now c.args.eq c.requires.tagged c.windows.start c.windows.place c.windows.same c.windows.eq c.windows.invariant.looking
-    c.if-same-eq0.true c.places_with.result c.places_with.ensures c.args.mask c.tag-sought.result c.window_after-start.result c.places_up_to_empty-same.result c.requires.free c.requires.mask c.tag-sought.ensures
+    c.if-same-eq0.true c.places_with.result c.places_with.ensures c.args.mask c.tag-sought.result c.window_after-start.result c.places_up_to_empty-same.result c.requires.free c.requires.mask (tag_at _ _ _ c.tag-sought.ensures c.number-number.ensures)
     c.if-places_with-ne0.false c.window_after-start.ensures.on c.window_after-start.ensures.round c.places_up_to_empty-same.ensures).1
 
 pub windows-preserved-then-same-eq0 : goal.windows-preserved-then-same-eq0
@@ -28,7 +28,7 @@ windows-preserved-then-same-eq0 g c =
     record {
       few = omega arith;
       looking = (looking_goes_on g.F.FnMut c.args.hash c.args.tags.now c.args.slots.now c.args.eq c.requires.tagged c.windows.start c.windows.place c.windows.same c.windows.eq c.windows.invariant.looking
-          c.if-same-eq0.true c.places_with.result c.places_with.ensures c.args.mask c.tag-sought.result c.window_after-start.result c.places_up_to_empty-same.result c.requires.free c.requires.mask c.tag-sought.ensures
+          c.if-same-eq0.true c.places_with.result c.places_with.ensures c.args.mask c.tag-sought.result c.window_after-start.result c.places_up_to_empty-same.result c.requires.free c.requires.mask (tag_at _ _ _ c.tag-sought.ensures c.number-number.ensures)
           c.if-places_with-ne0.false c.window_after-start.ensures.on c.window_after-start.ensures.round c.places_up_to_empty-same.ensures).0;
     }
 
