@@ -7,9 +7,9 @@ use Rattle.std.specs.Borrow.{Bor}
 use Rattle.std.specs.Fn.{Mut, CalledAt, TakesAt}
 use Rattle.std.proofs.lemmas.List.Elements.{Contains-append_left, Contains-append_right}
 use Rattle.std.proofs.lemmas.List.Sorted.{IsPermutation-refl, IsPermutation-sym, IsPermutation-trans, IsPermutation-map, Contains-permutation}
-use Rattle.std.proofs.lemmas.Option.{get_or_from_slice_get, slice_get_within, none-some, same_Some}
+use Rattle.std.proofs.lemmas.Option.{get_or_from_slice_get, slice_get-map, slice_get_within, none-some, same_Some}
 use Rattle.starlark_hash.specs.HashValue.{promoted}
-use Rattle.starlark_lists.specs.Entries.{Entry, entry_key}
+use Rattle.starlark_lists.specs.Entries.{Entry, entry_key, pair_of}
 use Rattle.starlark_lists.specs.Search.{Asks, Searches, Refuses, CanSearch, keys_under}
 use Rattle.starlark_hash.specs.declared.hash_value.StarlarkHashValue.{StarlarkHashValue}
 use Rattle.starlark_table.specs.Table.{Table, member_at, items_under}
@@ -155,10 +155,16 @@ module _ {C F K V : Type 0} (g : Mut F (Bor K × Unit {0}) Bool) (w : Mut C (Bor
     pub searches-slots : (last : C) (slot : Option ℕ) → Searches w (items_under ph table) s slot last → Searches g (keys_under hash es) (inner s) (option_and_then (place_in table) slot) (inner last)
     searches-slots last slot search = found_by table hash index fits es refl relate s last slot sees (subst (λ h. Searches w (items_under h table) s slot last) is search)
 
+-- the pair of an entry stands where the entry does
+pub pair_there : {K V : Type 0} (es : List (Entry K V)) (pairs : List (K × V)) (x i : ℕ) (e : Entry K V) → pairs ≡ map pair_of es → i ≡ x
+    → slice_get es x ≡ Some e → slice_get pairs i ≡ Some (pair_of e)
+pair_there es pairs x i e sees shows at =
+    ap (λ l. slice_get l i) sees ∙ slice_get-map pair_of es i ∙ ap (option_map pair_of) (ap (slice_get es) shows ∙ at)
+
 -- where the closure shows a place that is there, it may be called
-pub taken : {F K V : Type 0} (g : Mut F (Bor K × Unit {0}) Bool) (es seen : List (Entry K V)) (x i : ℕ) (f : F) → seen ≡ es → i ≡ x
+pub taken : {F K V : Type 0} (g : Mut F (Bor K × Unit {0}) Bool) (es : List (Entry K V)) (pairs : List (K × V)) (x i : ℕ) (f : F) → pairs ≡ map pair_of es → i ≡ x
     → (e : Entry K V) → slice_get es x ≡ Some e → TakesAt g f (entry_key e)
-    → (i < length seen) × ((d : Entry K V) → slice_get seen i ≡ Some d → TakesAt g f (entry_key d))
-taken g es seen x i f sees shows e at takes =
-    let here : slice_get seen i ≡ Some e = ap (λ l. slice_get l i) sees ∙ ap (slice_get es) shows ∙ at in
-    (slice_get_within seen i e here, λ d is. subst (λ z. TakesAt g f (entry_key z)) (same_Some e d (sym here ∙ is)) takes)
+    → (i < length pairs) × ((p : K × V) → slice_get pairs i ≡ Some p → TakesAt g f p.0)
+taken g es pairs x i f sees shows e at takes =
+    let here = pair_there es pairs x i e sees shows at in
+    (slice_get_within pairs i (pair_of e) here, λ p is. subst (λ z. TakesAt g f z.0) (same_Some (pair_of e) p (sym here ∙ is)) takes)

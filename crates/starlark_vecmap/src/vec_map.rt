@@ -178,6 +178,15 @@ impl<K, V> VecMap<K, V> {
 // Walking
 
 impl<K, V> VecMap<K, V> {
+    /// The keys and values of the entries, side by side in their order. Rust has no such call.
+    #[tactic(auto, using(crate::proofs::Views::views))]
+    #[inline]
+    pub fn pairs(&self) -> &[(K, V)]
+        ensures { result.now ≡ map pair_of self.now.entries }
+    {
+        self.columns.firsts()
+    }
+
     /// The keys, in their order.
     #[tactic(auto, using(crate::proofs::Views::views))]
     #[inline]

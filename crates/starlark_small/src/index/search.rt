@@ -1,7 +1,6 @@
 //! Searches through the index.
 ghost use Rattle.std.specs.Prelude.{◌≡◌, ◌<◌, length, slice_get, Some};
 ghost use Rattle.std.specs.Fn.{CalledAt, TakesAt};
-ghost use Rattle.starlark_lists.specs.Entries.{Entry, entry_key};
 ghost use Rattle.starlark_lists.specs.Search.{CanSearch, Searches, keys_under};
 ghost use Rattle.std.specs.Option.{option_copied};
 ghost use Rattle.starlark_small.specs.Index.{IsIndexOf, IsIndexed, IsSound, index_room};
@@ -86,13 +85,15 @@ pub(super) fn find_in<N: PlaceNumber, K, V, F: FnMut(&K) -> bool>(
 {
     // A hash is below 2^32, so no two have one promotion.
     let _number = hash.get();
+    // Where the pairs lie is reckoned once, before the search.
+    let pairs = entries.pairs();
     let place = table.find_item(
         hash,
         |i: &Place<N>| -> bool
-            requires within { i.now < length entries.now.entries }
-            requires takes { (e : Entry K V) → slice_get entries.now.entries i.now ≡ Some e → TakesAt F.FnMut eq (entry_key e) }
-            ensures { (e : Entry K V) → slice_get entries.entry.now.entries i.now ≡ Some e → CalledAt F.FnMut eq.entry (entry_key e) result eq.exit }
-        { eq(entries.get_unchecked(i.get()).0.into_key()) },
+            requires within { i.now < length pairs.now }
+            requires takes { (p : K × V) → slice_get pairs.now i.now ≡ Some p → TakesAt F.FnMut eq p.0 }
+            ensures { (p : K × V) → slice_get pairs.entry.now i.now ≡ Some p → CalledAt F.FnMut eq.entry p.0 result eq.exit }
+        { eq(&pairs[i.get()].0) },
     )?;
     Some(place.get())
 }

@@ -1,10 +1,9 @@
-use Rattle.std.proofs.Common.{sym, ◌∙◌, ap}
-use Rattle.std.specs.Prelude.{slice_get}
-use Rattle.std.proofs.lemmas.Option.{same_Some}
-use Rattle.starlark_lists.specs.Entries.{entry_key}
+use Rattle.std.proofs.Common.{◌∙◌, ap, get_or}
+use Rattle.std.proofs.lemmas.Option.{get_or_from_slice_get}
 use Rattle.starlark_small.proofs.index.search.fn.find_in.find_item.Goals as goal
 
 pub returns : goal.returns
-returns g c = λ e there.
-    let same = same_Some _ e (sym c.get_unchecked.ensures ∙ ap (slice_get _) c.get.ensures ∙ there) in
-    record { shown = c.into_key.result; shows = ap (λ k. k.now) c.into_key.ensures ∙ ap entry_key same; called = c.eq.ensures }
+returns g c = λ p there.
+    let pair = c.index-pairs-get.result in
+    let same = ap (λ j. get_or c.captures.pairs.now j pair) c.get.ensures ∙ get_or_from_slice_get c.captures.pairs.now c.args.i.now p pair there in
+    record { shown = _; shows = ap (λ r. r.0) same; called = c.eq.ensures }
