@@ -24,7 +24,7 @@ impl<K: Eq, V> OrderedMap<K, V> {
         ensures pairs { result.0 ≡ map pair_of self.old.entries }
         ensures fits { length self.old.entries < 2 ^ 64 }
     {
-        self.inside().iter_mut()
+        self.as_mut_small_map().iter_mut()
     }
 
     /// The values in order, to write them. The map ends with what is left in them; keys, hashes, order, room, capacity
@@ -59,12 +59,13 @@ impl<K: Eq, V> OrderedMap<K, V> {
         ensures* writes_back { sem 𝓛 (follows_entry K.row V.row K.PartialEq self.entry result) }
         ensures entry { IsEntryOf K.eq self.old (own_hashed K.hash_input key) result }
     {
-        self.inside().entry(key)
+        self.as_mut_small_map().entry(key)
     }
 
-    // The map inside, lent for good.
+    /// The map inside, to be written by a function over small maps, such as one that goes by entries. The ordered map
+    /// ends as that leaves it.
     #[inline]
-    fn inside(&mut self) -> &mut SmallMap<K, V>
+    pub fn as_mut_small_map(&mut self) -> &mut SmallMap<K, V>
         ensures* writes_back { sem 𝓛 (lends_inside K.row V.row K.PartialEq self.entry result) }
         ensures value { result.now ≡ self.old }
     {

@@ -16,11 +16,11 @@ use Rattle.starlark_small.proofs.small_map.SmallMap.entry.Symbol.{name as #enter
 use Rattle.starlark_small.proofs.small_map.SmallMap.entry.Met as enters
 use Rattle.starlark_small.proofs.LentInResult.{lone_value}
 use Rattle.starlark_sets.specs.contracts.ordered_map.OrderedMap as O
-use Rattle.starlark_sets.specs.contracts.ordered_map.OrderedMap.inside as i
+use Rattle.starlark_sets.specs.contracts.ordered_map.OrderedMap.as_mut_small_map as i
 use Rattle.starlark_sets.specs.contracts.ordered_map.OrderedMap.entry as F
 use Rattle.starlark_sets.specs.contracts.ordered_map.OrderedMap.entry.Key.{name as #self}
-use Rattle.starlark_sets.proofs.ordered_map.OrderedMap.inside.Symbol.{name as #inside}
-use Rattle.starlark_sets.proofs.ordered_map.OrderedMap.inside.Met as inside
+use Rattle.starlark_sets.proofs.ordered_map.OrderedMap.as_mut_small_map.Symbol.{name as #inside}
+use Rattle.starlark_sets.proofs.ordered_map.OrderedMap.as_mut_small_map.Met as inside
 use Rattle.starlark_sets.proofs.ordered_map.OrderedMap.entry.Statement.{statement}
 use Rattle.starlark_sets.proofs.ordered_map.OrderedMap.entry.Code as code
 
@@ -134,6 +134,6 @@ entry_spec 𝓤 𝓛 𝓜 𝓡 wired K V LK LV E dE Q dQ G dG dD is_eq is_partia
     subst (λ (us : List Val × (List Val × Unit {0})). ent 𝓤 (W.pre ((κs, qs, y.0.2, a, us), y.1)) (WpFn 𝓤 𝓛.H 𝓣.C 𝓣.Λ (here K V E dE Q dQ G dG dD) (W.args ((κs, qs, y.0.2, a, us), y.1)) (W.post ((κs, qs, y.0.2, a, us), y.1))))
     (sym (λ j. (self_is j, (k.1 j, tt))))
     (walk K V E dE Q dQ G dG dD 𝓛 𝓜.mem 𝓡.returns LK LV 𝓣.C 𝓣.Λ (framed 𝓤 𝓛.H 𝓜 𝓣)
-    (inside.met 𝓤 𝓛 𝓜 𝓡 (code.calls-starlark_sets::ordered_map::OrderedMap::inside 𝓡.env wired) K V LK LV E dE Q dQ is_eq is_partial)
+    (inside.met 𝓤 𝓛 𝓜 𝓡 (code.calls-starlark_sets::ordered_map::OrderedMap::as_mut_small_map 𝓡.env wired) K V LK LV E dE Q dQ is_eq is_partial)
     (enters.met 𝓤 𝓛 𝓜 𝓡 (code.calls-starlark_small::small_map::SmallMap::entry 𝓡.env wired) K V LK LV E dE Q dQ G dG dD is_eq is_partial is_hash is_drop)
     κs.0 κs.1.0 κs.1.1.0 qs.0 qs.1.0 qs.1.1.0 y.0.2 a.0 a.1.0 k.0 k.2))

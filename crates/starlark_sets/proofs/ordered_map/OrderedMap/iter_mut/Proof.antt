@@ -13,11 +13,11 @@ use Rattle.starlark_small.proofs.small_map.SmallMap.iter_mut.Symbol.{name as #wa
 use Rattle.starlark_small.proofs.small_map.SmallMap.iter_mut.Met as walks
 use Rattle.starlark_small.proofs.LentInResult.{lone_value}
 use Rattle.starlark_sets.specs.contracts.ordered_map.OrderedMap as O
-use Rattle.starlark_sets.specs.contracts.ordered_map.OrderedMap.inside as i
+use Rattle.starlark_sets.specs.contracts.ordered_map.OrderedMap.as_mut_small_map as i
 use Rattle.starlark_sets.specs.contracts.ordered_map.OrderedMap.iter_mut as F
 use Rattle.starlark_sets.specs.contracts.ordered_map.OrderedMap.iter_mut.Key.{name as #self}
-use Rattle.starlark_sets.proofs.ordered_map.OrderedMap.inside.Symbol.{name as #inside}
-use Rattle.starlark_sets.proofs.ordered_map.OrderedMap.inside.Met as inside
+use Rattle.starlark_sets.proofs.ordered_map.OrderedMap.as_mut_small_map.Symbol.{name as #inside}
+use Rattle.starlark_sets.proofs.ordered_map.OrderedMap.as_mut_small_map.Met as inside
 use Rattle.starlark_sets.proofs.ordered_map.OrderedMap.iter_mut.Statement.{statement}
 use Rattle.starlark_sets.proofs.ordered_map.OrderedMap.iter_mut.Code as code
 
@@ -128,6 +128,6 @@ iter_mut_spec 𝓤 𝓛 𝓜 𝓡 wired K V LK LV E dE Q dQ is_eq is_partial =
     (#self (args K V E dE Q dQ)) (here K V E dE Q dQ) (code.unfolded 𝓤 𝓛.H 𝓜 𝓡 wired (K, (V, tt)) dE dQ)
     (λ κs. (mut_vals, tt)) (λ κs. (mut_Tells (named 0) κs.0 (Outer K V E dE Q dQ), tt))
     (λ κs qs bounds a g are. walk K V E dE Q dQ 𝓛 𝓜.mem 𝓡.returns LK LV 𝓣.C 𝓣.Λ (framed 𝓤 𝓛.H 𝓜 𝓣)
-    (inside.met 𝓤 𝓛 𝓜 𝓡 (code.calls-starlark_sets::ordered_map::OrderedMap::inside 𝓡.env wired) K V LK LV E dE Q dQ is_eq is_partial)
+    (inside.met 𝓤 𝓛 𝓜 𝓡 (code.calls-starlark_sets::ordered_map::OrderedMap::as_mut_small_map 𝓡.env wired) K V LK LV E dE Q dQ is_eq is_partial)
     (walks.met 𝓤 𝓛 𝓜 𝓡 (code.calls-starlark_small::small_map::SmallMap::iter_mut 𝓡.env wired) K V LK LV E dE Q dQ is_eq is_partial)
     κs.0 κs.1.0 κs.1.1.0 qs.0 qs.1.0 qs.1.1.0 bounds a.0)
