@@ -9,7 +9,8 @@ ghost use Rattle.std.specs.declared.string.String.{String};
 ghost use Rattle.starlark_small.specs.Calling.{contains, get, get_text, AreOwn};
 ghost use Rattle.starlark_small.specs.Clone.{IsEqualClone};
 
-use starlark_hash::{NoRoom, TextKey};
+use crate::small_maps::{entries, written};
+use starlark_hash::{Hashed, NoRoom, TextKey};
 use starlark_sets::OrderedMap;
 use std::alloc::{AllocError, Global};
 use std::hash::Hash;
@@ -176,4 +177,39 @@ pub fn copied<K: Eq + Hash + Clone, V: Clone>(
     ensures own { AreOwn K.hash_input map.now → IfOk result (AreOwn K.hash_input) }
 {
     map.clone()
+}
+
+/// Counts a number at its entry, which is one of the map inside.
+pub fn count_by_entry(
+    map: &mut OrderedMap<u32, u64>,
+    key: u32,
+) -> Result<(), NoRoom<(Hashed<u32>, u64)>>
+    ensures here { OnOk result (get nat_eq fed.u32 map.new key ≡ Some (min (unwrap_or (get nat_eq fed.u32 map.old key) 0 + 1) (2 ^ 64 - 1))) }
+    ensures others { OnOk result ((other : ℕ) → nat_eq key other ≡ false → get nat_eq fed.u32 map.new other ≡ get nat_eq fed.u32 map.old other) }
+{
+    entries::count_by_entry(map.as_mut_small_map(), key)
+}
+
+/// Puts a value at the entry of any key, and answers the one that was there.
+pub fn put_by_entry<K: Eq + Hash + Drop, V: Drop>(
+    map: &mut OrderedMap<K, V>,
+    key: K,
+    value: V,
+) -> Result<Option<V>, NoRoom<(Hashed<K>, V)>>
+    ensures was { IfOk result (λ was. was ≡ get K.eq K.hash_input map.old key) }
+    ensures here { OnOk result (get K.eq K.hash_input map.new key ≡ Some value) }
+    ensures others { OnOk result ((other : K) → K.eq key other ≡ false → get K.eq K.hash_input map.new other ≡ get K.eq K.hash_input map.old other) }
+{
+    written::put(map.as_mut_small_map(), key, value)
+}
+
+/// Counts a string at its entry.
+pub fn count_named(
+    map: &mut OrderedMap<String, u64>,
+    word: String,
+) -> Result<(), NoRoom<(Hashed<String>, u64)>>
+    ensures here { OnOk result (get string_eq (λ s. fed.str (string_bytes s)) map.new word ≡ Some (min (unwrap_or (get string_eq (λ s. fed.str (string_bytes s)) map.old word) 0 + 1) (2 ^ 64 - 1))) }
+    ensures others { OnOk result ((other : String Global) → string_eq word other ≡ false → get string_eq (λ s. fed.str (string_bytes s)) map.new other ≡ get string_eq (λ s. fed.str (string_bytes s)) map.old other) }
+{
+    entries::count_named(map.as_mut_small_map(), word)
 }

@@ -2,8 +2,11 @@
 pub mod any;
 pub mod collected;
 pub mod entries;
+pub mod held;
 pub mod kept;
 pub mod numbers;
+pub mod roomy;
 pub mod strings;
 pub mod texts;
+pub mod walked;
 pub mod written;

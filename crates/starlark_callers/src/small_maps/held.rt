@@ -1,0 +1,50 @@
+//! A small map in a field.
+ghost use Rattle.std.specs.Hash as fed;
+ghost use Rattle.std.specs.Option.{unwrap_or};
+ghost use Rattle.std.specs.Prelude.{◌≡◌, ◌≢◌, ℕ, ◌+◌, ◌<◌, ◌^◌, nat_eq, true, Some, None, OnOk, OnErr};
+ghost use Rattle.starlark_small.specs.Calling.{get};
+
+use starlark_small::SmallMap;
+use std::alloc::AllocError;
+
+/// How many of each item there are.
+#[derive(Drop)]
+pub struct Stock {
+    counts: SmallMap<u32, u32>,
+}
+
+impl Stock {
+    /// How many of an item there are, and 0 of one that was never delivered.
+    pub fn count(&self, item: u32) -> u32
+        ensures { result ≡ unwrap_or (get nat_eq fed.u32 self.now.counts item) 0 }
+    {
+        self.counts.get(&item).copied().unwrap_or(0)
+    }
+
+    /// Adds so many of an item. Where memory is refused, all counts stay.
+    pub fn deliver(&mut self, item: u32, n: u32) -> Result<(), AllocError>
+        requires { unwrap_or (get nat_eq fed.u32 self.old.counts item) 0 + n < 2 ^ 32 }
+        ensures here { OnOk result (get nat_eq fed.u32 self.new.counts item ≡ Some (unwrap_or (get nat_eq fed.u32 self.old.counts item) 0 + n)) }
+        ensures others { OnOk result ((other : ℕ) → other ≢ item → get nat_eq fed.u32 self.new.counts other ≡ get nat_eq fed.u32 self.old.counts other) }
+        ensures unchanged { OnErr result ((other : ℕ) → get nat_eq fed.u32 self.new.counts other ≡ get nat_eq fed.u32 self.old.counts other) }
+    {
+        *self.counts.entry(item).or_insert(0)? += n;
+        Ok(())
+    }
+
+    /// Sets the count of an item, and answers whether there was room.
+    pub fn set(&mut self, item: u32, n: u32) -> bool
+        ensures { result ≡ true → get nat_eq fed.u32 self.new.counts item ≡ Some n }
+    {
+        self.counts.insert(item, n).is_ok()
+    }
+
+    /// Takes an item off the list, and answers how many there were.
+    pub fn retire(&mut self, item: u32) -> u32
+        ensures was { result ≡ unwrap_or (get nat_eq fed.u32 self.old.counts item) 0 }
+        ensures here { get nat_eq fed.u32 self.new.counts item ≡ None }
+        ensures others { (other : ℕ) → other ≢ item → get nat_eq fed.u32 self.new.counts other ≡ get nat_eq fed.u32 self.old.counts other }
+    {
+        self.counts.shift_remove(&item).unwrap_or(0)
+    }
+}

@@ -1,0 +1,79 @@
+//! Small maps with room to spare, and with contents that are written out.
+ghost use Rattle.std.specs.Hash as fed;
+ghost use Rattle.std.specs.Prelude.{◌≡◌, ◌+◌, ◌≤◌, ◌<◌, [], ◌∷◌, length, nat_eq, false, true, None, Some, IfOk, OnOk};
+ghost use Rattle.starlark_small.specs.Calling.{get, keys};
+
+use starlark_small::{Entry, SmallMap};
+use std::alloc::{AllocError, Global};
+
+/// Makes room for two entries, and puts them in: no insertion is refused.
+pub fn reserve_and_put(map: &mut SmallMap<u32, u64>, a: u32, b: u32) -> Result<(), AllocError>
+    requires { nat_eq a b ≡ false }
+    ensures first { OnOk result (get nat_eq fed.u32 map.new a ≡ Some 1) }
+    ensures second { OnOk result (get nat_eq fed.u32 map.new b ≡ Some 2) }
+{
+    map.reserve(2)?;
+    map.insert(a, 1).unwrap();
+    map.insert(b, 2).unwrap();
+    Ok(())
+}
+
+/// Puts pairs in, and then one more, where there is room for all.
+pub fn add_and_one(
+    map: &mut SmallMap<u32, u64>,
+    more: Vec<(u32, u64)>,
+    key: u32,
+) -> Result<(), AllocError>
+    requires { length more.items < map.old.room }
+    ensures { OnOk result (get nat_eq fed.u32 map.new key ≡ Some 0) }
+{
+    map.extend(more)?;
+    map.insert(key, 0).unwrap();
+    Ok(())
+}
+
+/// Takes all out: as many fit again without memory.
+pub fn start_over(map: &mut SmallMap<u32, u64>)
+    ensures { length map.old.entries + map.old.room ≤ map.new.room }
+{
+    map.clear();
+}
+
+/// A map whose pairs are known.
+pub fn known(alloc: Global) -> Result<SmallMap<u32, u64>, AllocError>
+    ensures one { IfOk result (λ map. get nat_eq fed.u32 map 1 ≡ Some 10) }
+    ensures two { IfOk result (λ map. get nat_eq fed.u32 map 2 ≡ None) }
+    ensures three { IfOk result (λ map. get nat_eq fed.u32 map 3 ≡ Some 31) }
+{
+    let mut map = SmallMap::new(alloc);
+    map.insert(3, 30)?;
+    map.insert(1, 10)?;
+    map.insert(2, 20)?;
+    map.shift_remove(&2);
+    map.insert(3, 31)?;
+    Ok(map)
+}
+
+/// A map whose keys are known, in their order.
+pub fn known_order(alloc: Global) -> Result<SmallMap<u32, u64>, AllocError>
+    ensures { IfOk result (λ map. keys map ≡ 3 ∷ 1 ∷ []) }
+{
+    let mut map = SmallMap::new(alloc);
+    map.insert(3, 30)?;
+    map.insert(1, 10)?;
+    map.insert(3, 31)?;
+    Ok(map)
+}
+
+/// Writes a value by the entry's variants, and answers by a pattern whether there was room.
+pub fn put_by_pattern(map: &mut SmallMap<u32, u64>, key: u32, value: u64) -> bool
+    ensures { result ≡ true → get nat_eq fed.u32 map.new key ≡ Some value }
+{
+    match map.entry(key) {
+        Entry::Occupied(entry) => {
+            *entry.into_mut() = value;
+            true
+        }
+        Entry::Vacant(entry) => matches!(entry.insert(value), Ok(_)),
+    }
+}
