@@ -4,3 +4,4 @@ pub mod Bound
 pub mod CacheLemmas
 pub mod Interning
 pub mod Ordered
+pub mod Tallies

@@ -3,3 +3,4 @@ pub mod Bindings
 pub mod Cache
 pub mod Interned
 pub mod Graph
+pub mod Words

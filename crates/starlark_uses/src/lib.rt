@@ -7,3 +7,4 @@ pub mod interner;
 pub mod scopes;
 pub mod value;
 pub mod visits;
+pub mod words;
