@@ -30,6 +30,24 @@ impl Index {
         table.remove_place(entries, place);
     }
 
+    /// Takes out the place of the last entry, which is still there, if there is one.
+    #[inline]
+    pub(crate) fn forget_last<K, V>(&mut self, entries: &VecMap<K, V>)
+        requires { IsIndexed entries.now.entries self.old }
+        ensures indexed { IsIndexed (remove entries.now.entries (length entries.now.entries - 1)) self.new }
+        ensures room { length entries.now.entries + index_room (length entries.now.entries) self.old
+            ≤ length (remove entries.now.entries (length entries.now.entries - 1)) + index_room (length (remove entries.now.entries (length entries.now.entries - 1))) self.new }
+        ensures kept { is_some self.new ≡ is_some self.old }
+    {
+        if self.table.get().is_none() {
+            return;
+        }
+        let len = entries.len();
+        if len != 0 {
+            self.forget(entries, len - 1);
+        }
+    }
+
     /// Takes every place out: one by one where the list is so short that this takes fewer steps than there are slots,
     /// whatever the hashes; else all at once. The entries need not stand where the index says: under the hash of each a
     /// place is taken out, whichever it is.

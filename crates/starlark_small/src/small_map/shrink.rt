@@ -183,11 +183,7 @@ impl<K: Eq, V> SmallMap<K, V> {
         ensures kept { KeepsMemory self.old self.new }
     {
         prove!(self.entries.len() <= self.entries.capacity());
-        let len = self.entries.len();
-        if len == 0 {
-            return None;
-        }
-        self.index.forget(&self.entries, len - 1);
+        self.index.forget_last(&self.entries);
         self.entries.pop()
     }
 }
