@@ -293,13 +293,12 @@ impl<A, B> Vec2<A, B> {
         requires { length self.old.pairs < self.old.capacity }
         ensures { self.new ≡ with_pairs self.old (self.old.pairs ++ (a, b) ∷ []) }
     {
-        let spot = self.spot;
-        prove!(self.len < spot.count);
+        let (spot, len) = (self.spot, self.len);
+        prove!(len < spot.count);
         self.firsts
-            .push_last(self.block.second(spot), spot.count, self.len, a);
-        self.seconds
-            .push_last(spot.address, spot.count, self.len, b);
-        self.len += 1;
+            .push_last(self.block.second(spot), spot.count, len, a);
+        self.seconds.push_last(spot.address, spot.count, len, b);
+        self.len = len + 1;
     }
 }
 
