@@ -6,7 +6,7 @@ ghost use Rattle.starlark_small.specs.Calling.{get, keys};
 use starlark_small::{Entry, SmallMap};
 use std::alloc::{AllocError, Global};
 
-/// Makes room for two entries, and puts them in: no insertion is refused.
+/// Makes room for two entries, and then unwraps both insertions.
 pub fn reserve_and_put(map: &mut SmallMap<u32, u64>, a: u32, b: u32) -> Result<(), AllocError>
     requires { nat_eq a b ≡ false }
     ensures first { OnOk result (get nat_eq fed.u32 map.new a ≡ Some 1) }
