@@ -1,5 +1,5 @@
-//! Visits, a build graph and a cache, each on a short run. The helpers say nothing of what they do, so that a test carries
-//! no knowledge from line to line.
+//! Visits, words, a build graph and a cache, each on a short run. The helpers say nothing of what they do, so that a test
+//! carries no knowledge from line to line.
 
 use starlark_sets::OrderedSet;
 use starlark_small::SmallMap;
@@ -8,6 +8,7 @@ use starlark_uses::cache::Cache;
 use starlark_uses::visits::{
     Visits, forget, put, record_first_visit, record_named, record_visit, visit_again,
 };
+use starlark_uses::words::{count_of, tally_of};
 use std::alloc::Global;
 use std::process::Abort;
 use std::test::Fail;
@@ -62,6 +63,19 @@ fn notes(alloc: Global) -> Result<bool, Fail> {
 #[test]
 fn notes_new_pages(rt: HostRuntime) -> Result<(), Fail> {
     holds(&rt, notes(rt.alloc())?);
+    Ok(())
+}
+
+// Whether a text's words come as often as they stand in it, and no other is there.
+fn counts(alloc: Global) -> Result<bool, Fail> {
+    let tally = tally_of(alloc, "one fish  two fish\nred fish ")?;
+    let often = (count_of(&tally, "fish"), count_of(&tally, "one"));
+    Ok(often == (3, 1) && count_of(&tally, "blue") == 0 && tally.len() == 4)
+}
+
+#[test]
+fn counts_words(rt: HostRuntime) -> Result<(), Fail> {
+    holds(&rt, counts(rt.alloc())?);
     Ok(())
 }
 
