@@ -1,12 +1,12 @@
 //! Callers of ordered sets.
 ghost use Rattle.std.specs.Hash as fed;
-ghost use Rattle.std.specs.Prelude.{◌≡◌, ℕ, ◌||◌, nat_eq, true, false, not, is_some, Some, None, IfOk, OnOk};
+ghost use Rattle.std.specs.Prelude.{◌≡◌, ℕ, ◌||◌, nat_eq, true, false, not, is_some, Some, None, IfOk, IfSome, OnOk};
 ghost use Rattle.std.specs.Set.{is_member};
 ghost use Rattle.std.specs.String.{string_bytes, string_eq};
 ghost use Rattle.starlark_small.specs.Calling.{contains, contains_text};
 
 use starlark_hash::{NoRoom, TextKey};
-use starlark_sets::OrderedSet;
+use starlark_sets::{OrderedSet, TryInsertError};
 use std::alloc::{AllocError, Global};
 use std::hash::Hash;
 
@@ -71,4 +71,26 @@ pub fn add_vec<T: Eq + Hash + Drop>(
 {
     set.extend(items)?;
     Ok(())
+}
+
+/// Tries an element, which comes back where an equal one is there or there is no room.
+pub fn try_in<T: Eq + Hash + Drop>(set: &mut OrderedSet<T>, element: T) -> Option<T>
+    ensures { IfSome result (λ back. back ≡ element) }
+{
+    match set.try_insert(element) {
+        Ok(()) => None,
+        Err(TryInsertError::Occupied(refused)) => Some(refused.value),
+        Err(TryInsertError::Memory(NoRoom(back))) => Some(back),
+    }
+}
+
+/// The same of a number.
+pub fn try_number(set: &mut OrderedSet<u32>, n: u32) -> Option<u32>
+    ensures { IfSome result (λ back. back ≡ n) }
+{
+    match set.try_insert(n) {
+        Ok(()) => None,
+        Err(TryInsertError::Occupied(refused)) => Some(refused.value),
+        Err(TryInsertError::Memory(NoRoom(back))) => Some(back),
+    }
 }

@@ -2,5 +2,6 @@
 pub mod any;
 pub mod collected;
 pub mod numbers;
+pub mod shown;
 pub mod strings;
 pub mod texts;

@@ -85,3 +85,10 @@ pub fn either<'a, T: Eq + Hash>(set: &'a SmallSet<T>, other: &'a SmallSet<T>) ->
 {
     set.union(other)
 }
+
+/// What either set of numbers has, by the function above.
+pub fn either_number<'a>(set: &'a SmallSet<u32>, other: &'a SmallSet<u32>) -> Union<'a, u32>
+    ensures { AreOwn fed.u32 set.now → AreOwn fed.u32 other.now → (n : ℕ) → is_member nat_eq (union_rest nat_eq result) n ≡ (contains nat_eq fed.u32 set.now n || contains nat_eq fed.u32 other.now n) }
+{
+    either(set, other)
+}
