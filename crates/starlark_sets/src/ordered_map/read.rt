@@ -49,6 +49,7 @@ impl<K: Eq, V> OrderedMap<K, V> {
     #[inline(always)]
     pub fn get_index_of<Q: Equivalent<K> + Hash>(&self, key: &Q) -> Option<usize>
         ensures place { result ≡ own_match Q.equivalent Q.hash_input self.now.entries key.now }
+        ensures found { is_some result ≡ contains Q.equivalent Q.hash_input self.now key.now }
         ensures within { IfSome result (λ i. i < length self.now.entries) }
     {
         self.0.get_index_of(key)

@@ -70,6 +70,7 @@ impl<T: Eq> OrderedSet<T> {
     #[inline(always)]
     pub fn get_index_of<Q: Equivalent<T> + Hash>(&self, query: &Q) -> Option<usize>
         ensures place { result ≡ own_match Q.equivalent Q.hash_input self.now.entries query.now }
+        ensures found { is_some result ≡ contains Q.equivalent Q.hash_input self.now query.now }
         ensures within { IfSome result (λ i. i < length self.now.entries) }
     {
         self.0.get_index_of(query)

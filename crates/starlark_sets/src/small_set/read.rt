@@ -43,6 +43,7 @@ impl<T: Eq> SmallSet<T> {
     #[inline(always)]
     pub fn get_index_of<Q: Equivalent<T> + Hash>(&self, value: &Q) -> Option<usize>
         ensures place { result ≡ own_match Q.equivalent Q.hash_input self.now.entries value.now }
+        ensures found { is_some result ≡ contains Q.equivalent Q.hash_input self.now value.now }
         ensures within { IfSome result (λ i. i < length self.now.entries) }
     {
         self.map.get_index_of(value)
