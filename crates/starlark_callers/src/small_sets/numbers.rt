@@ -1,6 +1,6 @@
 //! Small sets of numbers.
 ghost use Rattle.std.specs.Hash as fed;
-ghost use Rattle.std.specs.Prelude.{◌≡◌, ℕ, nat_eq, true, false, not, Some, None, IfOk, IfErr, OnOk, OnErr};
+ghost use Rattle.std.specs.Prelude.{◌≡◌, ◌<◌, ℕ, length, nat_eq, true, false, not, Some, None, IfOk, IfErr, OnOk, OnErr};
 ghost use Rattle.starlark_small.specs.Calling.{get, contains, AreOwn};
 
 use starlark_hash::{Hashed, NoRoom};
@@ -111,4 +111,15 @@ pub fn add_both(set: &mut SmallSet<u32>, a: u32, b: u32) -> Result<(), AllocErro
     ensures own { AreOwn fed.u32 set.old → AreOwn fed.u32 set.new }
 {
     set.extend([a, b])
+}
+
+/// The place of a number, which is put in where it is lacking.
+pub fn place_of(set: &mut SmallSet<u32>, n: u32) -> Result<usize, NoRoom<u32>>
+    ensures { IfOk result (λ place. place < length set.new.entries) }
+{
+    set.insert(n)?;
+    match set.get_index_of(&n) {
+        Some(place) => Ok(place),
+        None => unreachable!(),
+    }
 }
