@@ -1,5 +1,5 @@
 -- What one more word makes of a tally, and what a loop over a text's words has seen.
-use Rattle.std.proofs.Common.{◌≡◌, ℕ, ◌+◌, ◌<◌, ◌≤◌, Bool, true, false, cond, List, [], ◌∷◌, ◌++◌, length, Option, Some, sym, refl, ap, ◌∙◌, subst, append_assoc, append-nil, arith, length-append, unwrap_or}
+use Rattle.std.proofs.Common.{◌≡◌, ℕ, ◌+◌, ◌<◌, ◌≤◌, Bool, true, false, cond, List, [], ◌∷◌, ◌++◌, length, Some, sym, refl, ap, ◌∙◌, subst, append_assoc, append-nil, arith, length-append, unwrap_or}
 use Rattle.std.specs.Char.{is_whitespace, is_not_whitespace}
 use Rattle.std.specs.Cmp.Lexicographic.{bytes_decides, nat_list_eq_equiv}
 use Rattle.std.specs.Hash as fed
@@ -17,7 +17,7 @@ use Rattle.starlark_small.specs.Calling.{IsEmpty, get_text}
 use Rattle.starlark_small.specs.Map.{own_hashed}
 use Rattle.starlark_uses.specs.Bindings.{bound}
 use Rattle.starlark_uses.proofs.Bound.{bound-assigned, bound-assigned_other}
-use Rattle.starlark_uses.specs.Words.{BeginsWithWord, CountsOneMore, HasNoZero, HasWords, IsTallyOf, Tally, count_of, times}
+use Rattle.starlark_uses.specs.Words.{BeginsWithWord, CountsOneMore, HasNoZero, HasWords, IsTallyOf, Tally, count_of}
 
 text_bound : (m : Tally) (word : List ℕ) → get_text m word ≡ bound m word
 unfolding found
