@@ -1,5 +1,5 @@
 -- What an address that is not null says of a `Perhaps`.
-use Rattle.std.proofs.Common.{◌≡◌, ◌≤◌, List, [], ◌∷◌, Option, Some, None, refl, subst, arith}
+use Rattle.std.proofs.Common.{◌≡◌, List, [], ◌∷◌, Option, Some, None, refl, subst, arith}
 use Rattle.std.specs.declared.alloc.Global.{Global}
 use denote.RawPtr.{Ptr, InBlock}
 use Rattle.starlark_columns.specs.declared.block.Claim.{Claim}

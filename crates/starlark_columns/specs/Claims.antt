@@ -1,4 +1,4 @@
--- What makes a `Column` of its parts. No public clause cites this module.
+-- Claims to a row of places, and a column made of its parts.
 use Rattle.std.specs.Prelude.{◌≡◌, ℕ, length}
 use Rattle.std.specs.declared.alloc.Global.{Global}
 use denote.RawPtr.{Ptr}

@@ -1,4 +1,4 @@
-//! The one file with pointers: where a row of places lies, who owns them, and the right to give their block back.
+//! Pointers to blocks: where a row of places lies, who owns them, and the right to give their block back.
 ghost use Rattle.std.specs.Prelude.{◌≡◌, ℕ, ◌+◌, ◌*◌, ◌^◌, ◌<◌, List, [], Option, Some, None, map, length, get_or, slice_range, IfOk, MatchBool};
 ghost use Rattle.std.specs.Borrow.{sem};
 ghost use Rattle.std.specs.Mem.{type_size};

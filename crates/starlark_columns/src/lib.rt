@@ -1,4 +1,5 @@
-//! Rows of places in raw memory, each empty or with an item. All raw memory of the project is here.
+//! Raw memory: rows of places, each empty or with an item, rows of bytes, and a pointer that may be to nothing. All raw
+//! memory of the library is here.
 #![tactic(auto)]
 
 pub mod between;

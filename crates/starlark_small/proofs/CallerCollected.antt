@@ -1,20 +1,19 @@
 -- What look-ups find once an iterator's items went in, and in a list of clones.
-use Rattle.std.proofs.Common.{◌≡◌, Bool, true, false, List, [], ◌∷◌, map, position, cond, Option, Some, None, is_some, Result, Ok, Err, OnOk, refl, sym, ap, ◌∙◌, subst, suc, nat_eq}
-use Rattle.std.specs.Prelude.{◌&&◌, ◌==◌}
+use Rattle.std.proofs.Common.{◌≡◌, Bool, true, false, List, [], ◌∷◌, map, position, cond, Option, Some, None, is_some, Result, Ok, Err, OnOk, refl, sym, ap, ◌∙◌, subst, suc}
+use Rattle.std.specs.Prelude.{◌&&◌}
 use Rattle.std.proofs.iter.SoFar.{exit_by}
 use Rattle.std.specs.Cmp.{IsEquivalence}
 use Rattle.std.specs.Hash.{HashWrites}
 use Rattle.std.specs.Iterator.{Count, Drains}
 use Rattle.std.specs.Iterator.Runs.{WholeRun}
-use Rattle.std.specs.List.{All, AllZip}
+use Rattle.std.specs.List.{AllZip}
 use Rattle.std.specs.Map.{update, update_all}
 use Rattle.std.specs.Option.{option_map}
 use Rattle.std.proofs.lemmas.List.{map-id}
 use Rattle.starlark_hash.specs.Hasher.{own_hash}
-use Rattle.starlark_hash.specs.HashValue.{hash_of, key_of}
 use Rattle.starlark_hash.specs.declared.hash_value.StarlarkHashValue.{StarlarkHashValue}
 use Rattle.starlark_lists.specs.Clone.{IsEntryClone}
-use Rattle.starlark_lists.specs.Entries.{Entry, entry_hash, entry_key, is_under, stands_under}
+use Rattle.starlark_lists.specs.Entries.{Entry, entry_key, is_under, stands_under}
 use Rattle.starlark_lists.specs.Finding.{found}
 use Rattle.starlark_lists.specs.Insertion.{insert_entry}
 use Rattle.starlark_lists.proofs.PositionLemmas.{position-cons}

@@ -48,6 +48,8 @@ pub(crate) fn find_slot<'a, T, H: KeptHash, F: FnMut(&T) -> bool>(
         }
         same = same >> same.trailing_zeros() >> 1;
         place += 1;
+    } else if places_with(tags, start, EMPTY) != 0 {
+        return None;
     }
     'windows: loop {
         if same == 0 {

@@ -6,7 +6,8 @@ use crate::kept::KeptHash;
 use crate::probe::Slots;
 use std::simd::prelude::*;
 
-// How many tags a search looks at. There are so many more tags than places, so that it may look from each place on.
+// How many tags a step of a search looks at. There are so many more tags than places, so that it may look from each
+// place on.
 pub(crate) const WINDOW: usize = 16;
 
 // How many tags a walk over all places looks at, where so many are left. The processor foresees badly where the loop

@@ -6,7 +6,7 @@ use Rattle.std.specs.Map.{keys_of, lookup, update_all}
 use Rattle.std.specs.Set.{is_member}
 use Rattle.std.proofs.lemmas.Map.Made.{is_some-update_all}
 use Rattle.std.specs.Iterator.{Drains, Yields}
-use Rattle.std.specs.Prelude.{◌||◌, ◌&&◌}
+use Rattle.std.specs.Prelude.{◌&&◌}
 use Rattle.starlark_unordered.specs.Bag.{same_bag}
 use Rattle.starlark_unordered.specs.BagLaws.{counts_from_bag, pair_equiv}
 use Rattle.starlark_unordered.specs.Calling.{found}

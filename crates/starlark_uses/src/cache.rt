@@ -1,4 +1,4 @@
-//! Answers that are kept for sets of numbers.
+//! Answers that are kept under sets of numbers.
 ghost use Rattle.std.specs.Option.{option_copied};
 ghost use Rattle.std.specs.Prelude.{◌≡◌, [], IfErr, IfOk, OnErr, OnOk};
 ghost use Rattle.starlark_unordered.specs.Pairs.{pairs_of};

@@ -1,6 +1,6 @@
 -- A list of pairs with a capacity, and what each call makes of it. An iterator over it is seen as the list of what it has left;
 -- its `next` and `next_back` are the words `TakesFirst` and `TakesLast` of std.
-use Rattle.std.specs.Prelude.{◌≡◌, ◌⊎◌, ℕ, ◌+◌, ◌*◌, ◌-◌, ◌^◌, max, min, List, [], ◌∷◌, ◌++◌, map, length, nat_lt, if◌then◌else◌}
+use Rattle.std.specs.Prelude.{◌≡◌, ◌⊎◌, ℕ, List, map, length}
 
 -- the pairs, and how many of them there may be before the list grows
 pub record PairList (A B : Type 0) : Type 0 where

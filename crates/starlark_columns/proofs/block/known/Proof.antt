@@ -1,7 +1,7 @@
 -- `known` tells that the block of a right begins where the right is to. Assumes `Logic`.
-use Rattle.std.proofs.Common.{◌≡◌, ℕ, ◌*◌, ◌<◌, Bool, false, List, [], ◌∷◌, refl, sym}
+use Rattle.std.proofs.Common.{◌≡◌, ℕ, ◌*◌, ◌<◌, Bool, false, [], ◌∷◌, refl, sym}
 use base.Fml.{Fml, ftrue, flft}
-use base.Logic.{SProp, emp, ent, guard, guard_i}
+use base.Logic.{emp, guard_i}
 use contract.BorrowLft.{◌⊑◌}
 use contract.Monad.{fact, fact_i, fact_use}
 use lib.Dec.{eqb}
@@ -9,14 +9,13 @@ use mathlib.Core.Bool.{cond}
 use mir.MapTy.{inst_fn}
 use mir.Raw.{raw as bare}
 use mir.Syntax.{Ty, ty_array, a_type}
-use mir.Val.{Val}
 use types.ByLocal.{alloc_all, pass_all, free_all, look_at, get, sets}
 use types.Kit.{‵, raw, ◌⊛◌, given, ◌$◌, ◌∵◌, !, qed, by, move, keep, use0, use1, split, learn, rewrite, fsplit, fjoin}
 use types.Logic.{sem}
 use types.Run.{of_opd, returns, enter}
 use denote.Exit.{no}
 use denote.Param.{layouts}
-use denote.RattleType.{RattleType, owns}
+use denote.RattleType.{owns}
 use denote.RawPtr.{Ptr, Testable}
 use denote.Signature.{plain, types_at}
 use denote.Steps.{heard, nothing}

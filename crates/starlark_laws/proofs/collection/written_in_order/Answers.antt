@@ -1,6 +1,5 @@
 use Rattle.std.proofs.Common.{[], ◌∷◌}
 use Rattle.starlark_small.specs.Collect.{insert_all, own_entry}
-use Rattle.starlark_small.specs.Map.{own_hashed}
 use Rattle.starlark_laws.proofs.Inserted.{entries-inserted}
 use Rattle.starlark_laws.proofs.collection.written_in_order.Goals as goal
 

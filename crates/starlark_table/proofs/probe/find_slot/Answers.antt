@@ -4,7 +4,7 @@ use Rattle.std.proofs.lemmas.Fn.{called_at}
 use Rattle.starlark_table.proofs.Searching.{searches_none}
 use Rattle.starlark_table.proofs.Looking.{home_at, tag_at, same-by_test, other-by_test, home_room, looking_begins, looking_told, looking_within, looking_ends, looking_goes_on, looking_full, looking_asks, looking_accepts, looking_nearer, looking_refuses, looking_skips}
 use Rattle.starlark_table.proofs.probe.find_slot.Goals as goal
-use Rattle.starlark_table.proofs.probe.find_slot.Goals.{then-same-ne0+else-is, else-same-ne0, else-is-via-then-is+else-eq, else-is-via-else-is, else-is-2-via-then-is-2+else-eq-2, else-is-2-via-else-is-2}
+use Rattle.starlark_table.proofs.probe.find_slot.Goals.{then-same-ne0+else-is, else-same-ne0+else-places_with-ne0, else-is-via-then-is+else-eq, else-is-via-else-is, else-is-2-via-then-is-2+else-eq-2, else-is-2-via-else-is-2}
 
 no_places : (n k : ℕ) → k ≡ n → k ≡ 0 → n ≡ 0
 no_places n k e none = omega arith
@@ -62,30 +62,45 @@ windows-init g c =
                 looking_skips g.F.FnMut c.args.hash c.args.tags.now c.args.slots.now c.args.eq c.requires.tagged c.home-start.result c.home-start.result c.places_with-same.result c.args.eq begins w.if-same-ne0.true
                 w.get.result.now.0 w.get.result.now.1 w.get.ensures w.else-is.eq (other-by_test _ _ w.is.ensures v.if-is.false) v.eq-is
           ])
-      | else-same-ne0 w ↦
+      | else-same-ne0+else-places_with-ne0 w ↦
           looking_told g.F.FnMut c.args.hash c.args.tags.now c.args.slots.now c.args.eq c.home-start.result _ c.if-same-ne0.place _ c.if-same-ne0.same c.args.eq c.if-same-ne0.eq w.place-is w.same-is w.eq-is begins
     ]
 
+pub places_with-requires : goal.places_with-requires
+places_with-requires g c =
+    home_room g.F.FnMut c.args.hash c.args.tags.now c.args.slots.now c.args.eq c.requires.tagged c.places.result c.args.mask c.home-start.result c.places.ensures.places c.if-places-eq0.false c.requires.mask
+    (home_at _ _ _ _ c.home-start.ensures c.number-number.ensures)
+
 pub returns-then-places_with-ne0-clause-found : goal.returns-then-places_with-ne0-clause-found
 returns-then-places_with-ne0-clause-found g c = (
+  c.args.eq,
+  looking_ends g.F.FnMut c.args.hash c.args.tags.now c.args.slots.now c.args.eq c.requires.tagged c.home-start.result c.home-start.result c.places_with-same.result c.args.eq
+      (looking_begins g.F.FnMut c.args.hash c.args.tags.now c.args.slots.now c.args.eq c.requires.tagged c.places.result c.args.mask c.home-start.result c.places.ensures.places c.if-places-eq0.false c.requires.mask
+      (home_at _ _ _ _ c.home-start.ensures c.number-number.ensures)
+      c.tag-sought.result c.places_with-same.result (tag_at _ _ _ c.tag-sought.ensures c.number-number.ensures) c.places_with-same.ensures)
+      c.if-same-ne0.false c.places_with.result c.places_with.ensures c.requires.in_place c.if-places_with-ne0.true,
+)
+
+pub returns-then-places_with-ne0-2-clause-found : goal.returns-then-places_with-ne0-2-clause-found
+returns-then-places_with-ne0-2-clause-found g c = (
   c.windows.eq,
   looking_ends g.F.FnMut c.args.hash c.args.tags.now c.args.slots.now c.args.eq c.requires.tagged c.windows.start c.windows.place c.windows.same c.windows.eq c.windows.invariant
-      c.if-same-eq0.true c.places_with.result c.places_with.ensures c.requires.in_place c.if-places_with-ne0.true,
+      c.if-same-eq0.true c.places_with-then-same-eq0.result c.places_with-then-same-eq0.ensures c.requires.in_place c.if-places_with-ne0-2.true,
 )
 
 pub windows-smaller-then-same-eq0 : goal.windows-smaller-then-same-eq0
 windows-smaller-then-same-eq0 g c =
     (looking_goes_on g.F.FnMut c.args.hash c.args.tags.now c.args.slots.now c.args.eq c.requires.tagged c.windows.start c.windows.place c.windows.same c.windows.eq c.windows.invariant
-    c.if-same-eq0.true c.places_with.result c.places_with.ensures c.args.mask c.tag-sought.result c.window_after-start.result c.places_up_to_empty-same.result c.requires.free c.requires.mask
+    c.if-same-eq0.true c.places_with-then-same-eq0.result c.places_with-then-same-eq0.ensures c.args.mask c.tag-sought.result c.window_after-start.result c.places_up_to_empty-same.result c.requires.free c.requires.mask
     (tag_at _ _ _ c.tag-sought.ensures c.number-number.ensures)
-    c.if-places_with-ne0.false c.window_after-start.ensures.on c.window_after-start.ensures.round c.places_up_to_empty-same.ensures).1
+    c.if-places_with-ne0-2.false c.window_after-start.ensures.on c.window_after-start.ensures.round c.places_up_to_empty-same.ensures).1
 
 pub windows-preserved-then-same-eq0 : goal.windows-preserved-then-same-eq0
 windows-preserved-then-same-eq0 g c =
     (looking_goes_on g.F.FnMut c.args.hash c.args.tags.now c.args.slots.now c.args.eq c.requires.tagged c.windows.start c.windows.place c.windows.same c.windows.eq c.windows.invariant
-    c.if-same-eq0.true c.places_with.result c.places_with.ensures c.args.mask c.tag-sought.result c.window_after-start.result c.places_up_to_empty-same.result c.requires.free c.requires.mask
+    c.if-same-eq0.true c.places_with-then-same-eq0.result c.places_with-then-same-eq0.ensures c.args.mask c.tag-sought.result c.window_after-start.result c.places_up_to_empty-same.result c.requires.free c.requires.mask
     (tag_at _ _ _ c.tag-sought.ensures c.number-number.ensures)
-    c.if-places_with-ne0.false c.window_after-start.ensures.on c.window_after-start.ensures.round c.places_up_to_empty-same.ensures).0
+    c.if-places_with-ne0-2.false c.window_after-start.ensures.on c.window_after-start.ensures.round c.places_up_to_empty-same.ensures).0
 
 pub get-requires-else-same-eq0 : goal.get-requires-else-same-eq0
 get-requires-else-same-eq0 g c =

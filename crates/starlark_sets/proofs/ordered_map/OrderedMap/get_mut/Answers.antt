@@ -1,4 +1,4 @@
-use Rattle.std.proofs.Common.{Some, refl, rules, subst, sym}
+use Rattle.std.proofs.Common.{Some, refl, subst, sym}
 use Rattle.starlark_hash.specs.Hasher.{own_hash}
 use Rattle.starlark_lists.specs.Finding.{Writes}
 use Rattle.starlark_sets.proofs.Callers.{found_is, writes-with_value}

@@ -1,4 +1,4 @@
-use Rattle.std.proofs.Common.{arith, rules, Some, ◌-◌, length}
+use Rattle.std.proofs.Common.{arith, rules, ◌-◌, length}
 use Rattle.std.proofs.lemmas.Grind.{common_steps}
 use Rattle.starlark_sets.proofs.Lookups.{lacks-key}
 use Rattle.starlark_sets.proofs.small_set.SmallSet.pop.Goals as goal

@@ -1,4 +1,4 @@
-use Rattle.std.proofs.Common.{arith, rules, Some}
+use Rattle.std.proofs.Common.{arith, rules}
 use Rattle.std.proofs.lemmas.Grind.{common_steps}
 use Rattle.starlark_lists.specs.Entries.{entry_key}
 use Rattle.starlark_sets.proofs.Lookups.{lacks-key, stays-beyond}

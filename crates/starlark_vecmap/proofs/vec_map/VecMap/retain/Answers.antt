@@ -1,4 +1,4 @@
-use Rattle.std.proofs.Common.{◌≡◌, refl, sym, ap, subst, ◌∙◌, rules, of_calls}
+use Rattle.std.proofs.Common.{◌≡◌, sym, ap, subst, ◌∙◌, rules, of_calls}
 use Rattle.std.proofs.Common.{ℕ, Bool}
 use Rattle.std.specs.Borrow.{Bor, MutBor}
 use Rattle.std.specs.Fn.{Mut}
