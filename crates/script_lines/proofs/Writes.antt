@@ -1,6 +1,6 @@
 -- What the writes of a text append together.
-use Rattle.std.proofs.Common.{◌≡◌, ℕ, ◌-◌, List, ◌++◌, length, take, drop, Option, Some, None, sym, ap, ◌∙◌, append_assoc, take-append-drop}
-use Rattle.std.specs.Prelude.{IfSome}
+use Rattle.std.proofs.Common.{◌≡◌, ℕ, ◌-◌, List, ◌++◌, length, take, drop, Option, Some, None, Result, Ok, Err, sym, ap, subst, ◌∙◌, append_assoc, take-append-drop}
+use Rattle.std.specs.Prelude.{IfSome, OnOk}
 use Rattle.std.proofs.lemmas.List.{take_rest}
 
 -- what was written grows by the front of the rest
@@ -11,3 +11,12 @@ moves_front all done rest n e =
 pub IfSome-weaker : {X : Type 0} (o : Option X) (P Q : X → Type 0) → ((x : X) → P x → Q x) → IfSome o P → IfSome o Q
 IfSome-weaker None P Q f h = tt
 IfSome-weaker (Some x) P Q f h = f x h
+
+pub OnOk-weaker : {X Y : Type 0} (r : Result X Y) (P Q : Type 0) → (P → Q) → OnOk r P → OnOk r Q
+OnOk-weaker (Ok x) P Q f h = f h
+OnOk-weaker (Err y) P Q f h = tt
+
+-- what holds of the bytes that a text is holds of the text
+pub IfSome-known : (o : Option (List ℕ)) (P : List ℕ → Type 0) (bytes : List ℕ) → IfSome o (λ bs. bytes ≡ bs) → P bytes → IfSome o P
+IfSome-known None P bytes e h = tt
+IfSome-known (Some bs) P bytes e h = subst P e h

@@ -4,12 +4,29 @@ ghost use Rattle.std.specs.Fmt.{with_newline};
 ghost use Rattle.std.specs.Io.KnownBytes.{Appends};
 
 use crate::fault::PlayFault;
+use arrayvec::ArrayString;
 use std::fmt;
 use std::fmt::{Display, Formatter};
 use std::io::Write;
 
-/// Writes a text and a line feed. A write that fails is not tried again, whatever its kind.
+// The most bytes of a line that goes out in one write.
+const SHORT: usize = 64;
+
+/// Writes a text and a line feed, in one write where they are short. A write that fails is not tried again, whatever its
+/// kind.
 pub fn write_line<W: Write, D: Display + Drop>(writer: &mut W, text: D) -> Result<(), PlayFault>
+    ensures ok { OnOk result (IfSome (with_newline (D.output text)) (Appends (W.contents writer.old) (W.contents writer.new))) }
+    ensures err { IfErr result (λ fault. fault ≡ PlayFault.Io) }
+{
+    let mut line: ArrayString<SHORT> = ArrayString::new();
+    match fmt::Write::writeln(&mut line, &text) {
+        Ok(()) => write_all(writer, line.as_bytes()),
+        Err(_) => write_in_parts(writer, text),
+    }
+}
+
+// Writes a text and a line feed, each part of the text as it comes.
+fn write_in_parts<W: Write, D: Display + Drop>(writer: &mut W, text: D) -> Result<(), PlayFault>
     ensures ok { OnOk result (IfSome (with_newline (D.output text)) (Appends (W.contents writer.old) (W.contents writer.new))) }
     ensures err { IfErr result (λ fault. fault ≡ PlayFault.Io) }
 {
@@ -22,6 +39,13 @@ pub fn write_line<W: Write, D: Display + Drop>(writer: &mut W, text: D) -> Resul
         Ok(()) => Ok(()),
         Err(_) => Err(PlayFault::Io),
     }
+}
+
+fn write_all<W: Write>(writer: &mut W, bytes: &[u8]) -> Result<(), PlayFault>
+    ensures ok { OnOk result (Appends (W.contents writer.old) (W.contents writer.new) bytes.now) }
+    ensures err { IfErr result (λ fault. fault ≡ PlayFault.Io) }
+{
+    write_bytes(writer, bytes).map_err(|_| PlayFault::Io)
 }
 
 // A writer of bytes as a writer of texts.

@@ -1,22 +1,16 @@
-use Rattle.std.proofs.Common.{◌≡◌, Ok, rules, refl, sym, ap, subst₂, ◌∙◌}
-use Rattle.std.specs.Fmt.{with_newline, WritesOnOk}
+use Rattle.std.proofs.Common.{◌≡◌, ◌∙◌, ap, subst, List, ℕ, ◌++◌}
+use Rattle.core.proofs.fmt.Output.{contents_after_writes}
+use Rattle.std.specs.Fmt.{with_newline, WritesInCalls}
 use Rattle.std.specs.Io.KnownBytes.{Appends}
-use Rattle.std.proofs.KnownBytes.{Appends-of_writes}
-use Rattle.script_lines.specs.declared.output.Output.{Output}
-use Rattle.script_lines.proofs.Writes.{IfSome-weaker}
+use Rattle.arrayvec.specs.ArrayString.{ArrayString}
+use Rattle.script_lines.proofs.Writes.{IfSome-weaker, OnOk-weaker, IfSome-known}
 use Rattle.script_lines.proofs.output.write_line.Goals as goal
 
 pub returns-in-Ok-clause-ok : goal.returns-in-Ok-clause-ok
 returns-in-Ok-clause-ok g c =
-    let held = g.W.Write.contents in
-    let given = c.new-line.ensures.writer in
-    let back = c.into_inner-writer.ensures in
-    IfSome-weaker (with_newline (g.D.Display.output c.args.text))
-    (λ bs. WritesOnOk (λ (s : Output g.row.W.Denot) text t. (t.writer.ghost_name ≡ s.writer.ghost_name) × Appends (held s.writer.now) (held t.writer.now) text) c.new-line.result (Ok c.in-Ok.field-0) bs c.writeln-written.new.self)
-    _
-    (λ bs k.
-    let (same, appended) = Appends-of_writes (λ s. s.writer.ghost_name) (λ s. held s.writer.now) _ bs _ (k c.new-line.ensures.plain refl).wrote in
-    let name = ap (λ s. s.writer.ghost_name) back ∙ same ∙ ap (λ s. s.writer.ghost_name) given in
-    let bytes = subst₂ (λ s t. Appends (held s.writer.now) (held t.writer.now) bs) given (sym back) appended in
-    search rules)
-    c.in-Ok.ensures.writes
+    let took = λ (s : ArrayString) (bs : List ℕ) (t : ArrayString). t.bytes ≡ s.bytes ++ bs in
+    let text = with_newline (g.D.Display.output c.args.text) in
+    let line = c.writeln.new.self in
+    let bytes = IfSome-weaker text (λ bs. WritesInCalls took c.new-line.result bs line) (λ bs. line.bytes ≡ bs)
+    (λ bs k. contents_after_writes took (λ s. s.bytes) (λ s xs t e. e) _ bs _ k ∙ ap (λ xs. xs ++ bs) c.new-line.ensures) c.in-Ok.ensures.writes in
+    OnOk-weaker c.write_all.result _ _ (λ sent. IfSome-known text _ line.bytes bytes (subst (Appends _ _) (c.as_bytes.ensures.value ∙ c.deref.ensures.0) sent)) c.write_all.ensures.ok
