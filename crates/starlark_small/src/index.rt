@@ -1,4 +1,5 @@
 //! The index of a list of entries: it alone sees the table of places. The list stands beside it, and is brought to each call.
+mod changes;
 mod growth;
 mod place;
 mod place_table;
