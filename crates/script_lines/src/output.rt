@@ -20,7 +20,7 @@ pub fn write_line<W: Write, D: Display + Drop>(writer: &mut W, text: D) -> Resul
 {
     let mut line: ArrayString<SHORT> = ArrayString::new();
     match fmt::Write::writeln(&mut line, &text) {
-        Ok(()) => write_all(writer, line.as_bytes()),
+        Ok(()) => write_text(writer, line.as_str()),
         Err(_) => write_in_parts(writer, text),
     }
 }
@@ -41,11 +41,12 @@ fn write_in_parts<W: Write, D: Display + Drop>(writer: &mut W, text: D) -> Resul
     }
 }
 
-fn write_all<W: Write>(writer: &mut W, bytes: &[u8]) -> Result<(), PlayFault>
-    ensures ok { OnOk result (Appends (W.contents writer.old) (W.contents writer.new) bytes.now) }
+/// Writes a text as it is. A write that fails is not tried again, whatever its kind.
+pub fn write_text<W: Write>(writer: &mut W, text: &str) -> Result<(), PlayFault>
+    ensures ok { OnOk result (Appends (W.contents writer.old) (W.contents writer.new) text.now) }
     ensures err { IfErr result (λ fault. fault ≡ PlayFault.Io) }
 {
-    write_bytes(writer, bytes).map_err(|_| PlayFault::Io)
+    write_bytes(writer, text.as_bytes()).map_err(|_| PlayFault::Io)
 }
 
 // A writer of bytes as a writer of texts.

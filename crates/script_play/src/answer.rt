@@ -13,7 +13,8 @@ ghost use Rattle.script_play.specs.Replies.{MayNeedMemory, bytes_cmp, ended, val
 ghost use Rattle.script_play.specs.ShownEntries.{entries_of};
 ghost use Rattle.starlark_small.specs.Index.{unindexed};
 
-use script_lines::{Line, PlayFault, write_line};
+use itoa::Buffer;
+use script_lines::{Line, PlayFault, write_line, write_text};
 use starlark_hash::Hashed;
 use starlark_hash::text_key::TextKey;
 use starlark_small::{IterHashed, SmallMap};
@@ -185,7 +186,7 @@ fn write_at<W: Write>(
     ensures err { IfErr result (λ fault. fault ≡ PlayFault.Io) }
 {
     match map.get_index(place) {
-        None => write_line(writer, "none"),
+        None => write_text(writer, "none\n"),
         Some((key, value)) => write_pair(writer, key.as_str(), *value),
     }
 }
@@ -197,7 +198,7 @@ fn write_popped<W: Write>(writer: &mut W, map: &mut SmallMap<String, i64>) -> Re
     ensures err { IfErr result (λ fault. fault ≡ PlayFault.Io) }
 {
     match map.pop() {
-        None => write_line(writer, "none"),
+        None => write_text(writer, "none\n"),
         Some((key, value)) => write_pair(writer, key.as_str(), value),
     }
 }
@@ -213,14 +214,16 @@ fn write_count<W: Write>(writer: &mut W, n: usize) -> Result<(), PlayFault>
     ensures ok { OnOk result (Appends (W.contents writer.old) (W.contents writer.new) (ended (decimal n))) }
     ensures err { IfErr result (λ fault. fault ≡ PlayFault.Io) }
 {
-    write_line(writer, format_args!("{n}"))
+    let mut digits = Buffer::new();
+    write_text(writer, digits.format(n))?;
+    write_text(writer, "\n")
 }
 
 fn write_ok<W: Write>(writer: &mut W) -> Result<(), PlayFault>
     ensures ok { OnOk result (Appends (W.contents writer.old) (W.contents writer.new) (ended (codes "ok"))) }
     ensures err { IfErr result (λ fault. fault ≡ PlayFault.Io) }
 {
-    write_line(writer, "ok")
+    write_text(writer, "ok\n")
 }
 
 fn write_value<W: Write>(writer: &mut W, value: Option<i64>) -> Result<(), PlayFault>
@@ -228,7 +231,7 @@ fn write_value<W: Write>(writer: &mut W, value: Option<i64>) -> Result<(), PlayF
     ensures err { IfErr result (λ fault. fault ≡ PlayFault.Io) }
 {
     match value {
-        None => write_line(writer, "none"),
+        None => write_text(writer, "none\n"),
         Some(value) => write_line(writer, format_args!("some {value}")),
     }
 }

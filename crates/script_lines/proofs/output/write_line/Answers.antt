@@ -13,4 +13,4 @@ returns-in-Ok-clause-ok g c =
     let line = c.writeln.new.self in
     let bytes = IfSome-weaker text (λ bs. WritesInCalls took c.new-line.result bs line) (λ bs. line.bytes ≡ bs)
     (λ bs k. contents_after_writes took (λ s. s.bytes) (λ s xs t e. e) _ bs _ k ∙ ap (λ xs. xs ++ bs) c.new-line.ensures) c.in-Ok.ensures.writes in
-    OnOk-weaker c.write_all.result _ _ (λ sent. IfSome-known text _ line.bytes bytes (subst (Appends _ _) (c.as_bytes.ensures.value ∙ c.deref.ensures.0) sent)) c.write_all.ensures.ok
+    OnOk-weaker c.write_text.result _ _ (λ sent. IfSome-known text _ line.bytes bytes (subst (Appends _ _) c.as_str.ensures.value sent)) c.write_text.ensures.ok
