@@ -84,6 +84,7 @@ impl<V> Scopes<V> {
         ensures absent { OnErr result (bound self.old.innermost (string_bytes name) ≡ None) }
         ensures handed_back { IfErr result (λ refused. refused.0 ≡ (name, value)) }
         ensures unchanged { OnErr result ((other : List ℕ) → lookup self.new other ≡ lookup self.old other) }
+        ensures entries { OnErr result (self.new.innermost.entries ≡ self.old.innermost.entries) }
     {
         self.innermost.insert(name, value)
     }

@@ -3,9 +3,11 @@
 
 ghost use Rattle.std.specs.Hash as fed;
 ghost use Rattle.std.specs.Option.{is_some};
-ghost use Rattle.std.specs.Prelude.{◌≡◌, ◌+◌, ◌++◌, [], ◌∷◌, nat_eq, length, true, None, Some, OnOk, OnErr, if◌then◌else◌};
+ghost use Rattle.std.specs.Prelude.{◌≡◌, ◌+◌, ◌++◌, [], ◌∷◌, nat_eq, length, false, true, None, Some, OnOk, OnErr, if◌then◌else◌};
 ghost use Rattle.std.specs.String.{string_bytes, string_eq};
+ghost use Rattle.starlark_lists.specs.Entries.{without};
 ghost use Rattle.starlark_small.specs.Calling.{get, keys, Updates};
+ghost use Rattle.starlark_small.specs.Map.{own_match};
 
 use starlark_hash::NoRoom;
 use starlark_small::SmallMap;
@@ -19,13 +21,13 @@ pub fn record_visit(visits: &mut Visits, page: u32, time: u32) -> Result<(), NoR
     ensures noted { OnOk result (get nat_eq fed.u32 visits.new page ≡ Some time) }
     ensures updates { OnOk result (Updates nat_eq fed.u32 visits.old visits.new page (Some time)) }
     ensures pages { OnOk result (keys visits.new ≡ (if is_some (get nat_eq fed.u32 visits.old page) then keys visits.old else keys visits.old ++ page ∷ [])) }
-    ensures refused { OnErr result (keys visits.new ≡ keys visits.old) }
+    ensures refused { OnErr result (visits.new.entries ≡ visits.old.entries) }
 {
     visits.insert(page, time)?;
     Ok(())
 }
 
-/// Notes the time of the first visit to a page. It goes last.
+/// Notes the time of the first visit to a page. It goes last. Where memory is refused, no entry changes.
 pub fn record_first_visit(
     visits: &mut Visits,
     page: u32,
@@ -35,7 +37,7 @@ pub fn record_first_visit(
     ensures updates { OnOk result (Updates nat_eq fed.u32 visits.old visits.new page (Some time)) }
     ensures pages { OnOk result (keys visits.new ≡ keys visits.old ++ page ∷ []) }
     ensures one_more { OnOk result (length visits.new.entries ≡ length visits.old.entries + 1) }
-    ensures refused { OnErr result (keys visits.new ≡ keys visits.old) }
+    ensures refused { OnErr result (visits.new.entries ≡ visits.old.entries) }
 {
     visits.insert(page, time)?;
     Ok(())
@@ -46,6 +48,7 @@ pub fn visit_again(visits: &mut Visits, page: u32, time: u32) -> bool
     ensures known { result ≡ is_some (get nat_eq fed.u32 visits.old page) }
     ensures updates { result ≡ true → Updates nat_eq fed.u32 visits.old visits.new page (Some time) }
     ensures pages { keys visits.new ≡ keys visits.old }
+    ensures unchanged { result ≡ false → visits.new ≡ visits.old }
 {
     match visits.get_mut(&page) {
         Some(last) => {
@@ -60,11 +63,12 @@ pub fn visit_again(visits: &mut Visits, page: u32, time: u32) -> bool
 pub fn forget(visits: &mut Visits, page: u32) -> Option<u32>
     ensures last { result ≡ get nat_eq fed.u32 visits.old page }
     ensures updates { Updates nat_eq fed.u32 visits.old visits.new page None }
+    ensures entries { visits.new.entries ≡ without visits.old.entries (own_match nat_eq fed.u32 visits.old.entries page) }
 {
     visits.shift_remove(&page)
 }
 
-/// Notes the time of a visit to a page that is named by a text.
+/// Notes the time of a visit to a page that is named by a text. Where memory is refused, no entry changes.
 pub fn record_named(
     visits: &mut SmallMap<String, u32>,
     name: String,
@@ -72,18 +76,20 @@ pub fn record_named(
 ) -> Result<(), NoRoom<(String, u32)>>
     ensures noted { OnOk result (get string_eq (λ s. fed.str (string_bytes s)) visits.new name ≡ Some time) }
     ensures updates { OnOk result (Updates string_eq (λ s. fed.str (string_bytes s)) visits.old visits.new name (Some time)) }
+    ensures refused { OnErr result (visits.new.entries ≡ visits.old.entries) }
 {
     visits.insert(name, time)?;
     Ok(())
 }
 
-/// Puts a value at a key of any type.
+/// Puts a value at a key of any type. Where memory is refused, no entry changes.
 pub fn put<K: Eq + Hash + Drop, V: Drop>(
     map: &mut SmallMap<K, V>,
     key: K,
     value: V,
 ) -> Result<(), NoRoom<(K, V)>>
-    ensures { OnOk result (Updates K.eq K.hash_input map.old map.new key (Some value)) }
+    ensures updates { OnOk result (Updates K.eq K.hash_input map.old map.new key (Some value)) }
+    ensures refused { OnErr result (map.new.entries ≡ map.old.entries) }
 {
     map.insert(key, value)?;
     Ok(())
