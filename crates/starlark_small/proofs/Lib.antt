@@ -20,6 +20,7 @@ pub mod CallerPositions
 pub mod CallerKeys
 pub mod CallerEntries
 pub mod CallerUpdates
+pub mod CallerRetained
 pub mod CallerOwn
 pub mod CallerCollected
 pub mod CallerPlaces

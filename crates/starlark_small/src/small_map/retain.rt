@@ -1,7 +1,10 @@
 //! `SmallMap::retain`.
 ghost use Rattle.std.specs.Hash.{HashWrites};
-ghost use Rattle.std.specs.Prelude.{◌≡◌, Bool, filter};
+ghost use Rattle.std.specs.Option.{is_some};
+ghost use Rattle.std.specs.Prelude.{◌≡◌, ◌≤◌, Bool, true, filter, length};
+ghost use Rattle.starlark_hash.specs.declared.hash_value.StarlarkHashValue.{StarlarkHashValue};
 ghost use Rattle.starlark_lists.specs.Entries.{Entry};
+ghost use Rattle.starlark_lists.specs.Finding.{found};
 ghost use Rattle.starlark_small.specs.Calling.{AreOwn};
 ghost use Rattle.starlark_small.specs.Map.{KeepsMemory};
 ghost use Rattle.starlark_lists.specs.Retain.{Retains, TakesInTurn, TakesEntry, CalledAtEntry};
@@ -18,6 +21,8 @@ impl<K: Eq + Drop, V: Drop> SmallMap<K, V> {
         ensures entries { Retains (CalledAtEntry F.FnMut) keep self.old.entries self.new.entries }
         ensures filtered { (test : Entry K V → Bool) → ((f : F) (e : Entry K V) (keeps : Bool) (d : Entry K V) (left : F) → CalledAtEntry F.FnMut f e keeps d left → (keeps ≡ test e) × (d ≡ e)) → self.new.entries ≡ filter test self.old.entries }
         ensures tested { (test : Entry K V → Bool) → ((e : Entry K V) (keeps : Bool) (d : Entry K V) (left : F) → CalledAtEntry F.FnMut keep e keeps d left → (keeps ≡ test e) × (d ≡ e) × (left ≡ keep)) → self.new.entries ≡ filter test self.old.entries }
+        ensures fewer { length self.new.entries ≤ length self.old.entries }
+        ensures no_new { (under : StarlarkHashValue) (key : K) → is_some (found (K.eq key) under self.new.entries) ≡ true → is_some (found (K.eq key) under self.old.entries) ≡ true }
         ensures own { (feeds : K → HashWrites) → AreOwn feeds self.old → AreOwn feeds self.new }
         ensures kept { KeepsMemory self.old self.new }
     {

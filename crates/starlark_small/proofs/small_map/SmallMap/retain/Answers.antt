@@ -2,6 +2,7 @@ use Rattle.std.proofs.Common.{arith}
 use Rattle.starlark_small.proofs.Retained.{IsSingle-retained, length-retained}
 use Rattle.std.proofs.Common.{refl, rules}
 use Rattle.starlark_small.proofs.CallerOwn.{own-retained}
+use Rattle.starlark_small.proofs.CallerRetained.{found-retained}
 use Rattle.starlark_small.proofs.Retained.{filtered, tested}
 use Rattle.starlark_small.proofs.small_map.SmallMap.retain.Goals as goal
 
@@ -23,3 +24,9 @@ returns-clause-own g c feeds = own-retained feeds g.F.FnMut c.args.keep _ _ (sea
 
 pub returns-clause-tested : goal.returns-clause-tested
 returns-clause-tested g c test says = tested g.F.FnMut test c.args.keep says c.args.keep refl _ _ (search rules)
+
+pub returns-clause-fewer : goal.returns-clause-fewer
+returns-clause-fewer g c = length-retained g.F.FnMut c.args.keep c.args.self.now.entries c.retain.new.self.entries (search rules)
+
+pub returns-clause-no_new : goal.returns-clause-no_new
+returns-clause-no_new g c under key = found-retained g.F.FnMut (g.K.PartialEq.eq key) under c.args.keep c.args.self.now.entries c.retain.new.self.entries (search rules)
