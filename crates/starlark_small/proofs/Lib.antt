@@ -21,6 +21,7 @@ pub mod CallerKeys
 pub mod CallerEntries
 pub mod CallerUpdates
 pub mod CallerRetained
+pub mod CallerShown
 pub mod CallerOwn
 pub mod CallerCollected
 pub mod CallerPlaces

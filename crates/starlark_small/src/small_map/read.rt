@@ -1,9 +1,10 @@
 //! What a `SmallMap` has: entries by hash and key, by key alone under its own hash, and by place.
-ghost use Rattle.std.specs.Prelude.{◌≡◌, ◌-◌, ◌<◌, ◌≤◌, ◌==◌, slice_get, length, is_some, IfSome, IsPermutation, IsSome, Some};
+ghost use Rattle.std.specs.Prelude.{◌≡◌, ◌-◌, ◌<◌, ◌≤◌, ◌==◌, slice_get, length, is_some, map, IfSome, IsPermutation, IsSome, Some};
+ghost use Rattle.std.specs.List.{IsAmong};
 ghost use Rattle.std.specs.Map.Iter.{deref_pair};
 ghost use Rattle.std.specs.Option.{option_copied, option_map};
 ghost use Rattle.starlark_hash.specs.HashValue.{hash_of, key_of};
-ghost use Rattle.starlark_lists.specs.Entries.{IsSingle, entry_at, value_at, pair_of};
+ghost use Rattle.starlark_lists.specs.Entries.{IsSingle, entry_at, entry_value, value_at, pair_of};
 ghost use Rattle.starlark_lists.specs.Finding.{found};
 ghost use Rattle.starlark_lists.specs.Search.{CanSearch, Searches, keys_under};
 ghost use Rattle.starlark_small.specs.Index.{positions, unindexed};
@@ -114,6 +115,7 @@ impl<K: Eq, V> SmallMap<K, V> {
     pub fn get<Q: Equivalent<K> + Hash>(&self, key: &Q) -> Option<&V>
         ensures value { option_copied result ≡ value_at self.now.entries (own_match Q.equivalent Q.hash_input self.now.entries key.now) }
         ensures found { option_copied result ≡ get Q.equivalent Q.hash_input self.now key.now }
+        ensures member { IfSome result (λ value. IsAmong (map entry_value self.now.entries) value.now) }
     {
         self.get_hashed(under_own_hash(key))
     }
