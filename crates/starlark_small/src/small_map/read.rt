@@ -9,7 +9,7 @@ ghost use Rattle.starlark_lists.specs.Finding.{found};
 ghost use Rattle.starlark_lists.specs.Search.{CanSearch, Searches, keys_under};
 ghost use Rattle.starlark_small.specs.Index.{positions, unindexed};
 ghost use Rattle.starlark_table.specs.Table.{members};
-ghost use Rattle.starlark_small.specs.Calling.{contains, get};
+ghost use Rattle.starlark_small.specs.Calling.{contains, get, get_key};
 ghost use Rattle.starlark_small.specs.Map.{query_match, query_match_by_value, own_match};
 
 use super::SmallMap;
@@ -126,6 +126,8 @@ impl<K: Eq, V> SmallMap<K, V> {
         ensures place { option_map (λ found. found.0) result ≡ own_match Q.equivalent Q.hash_input self.now.entries key.now }
         ensures pair { option_map (λ found. (found.1.now, found.2.now)) result
             ≡ option_map pair_of (entry_at self.now.entries (own_match Q.equivalent Q.hash_input self.now.entries key.now)) }
+        ensures stored { option_map (λ found. found.1.now) result ≡ get_key Q.equivalent Q.hash_input self.now key.now }
+        ensures found { option_map (λ found. found.2.now) result ≡ get Q.equivalent Q.hash_input self.now key.now }
     {
         self.get_full_hashed(under_own_hash(key))
     }
