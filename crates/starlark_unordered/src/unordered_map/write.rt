@@ -1,5 +1,5 @@
 //! Calls that write an `UnorderedMap`.
-ghost use Rattle.std.specs.Prelude.{◌≡◌, ◌+◌, [], Bool, List, filter, length, if◌then◌else◌, None, Some, IfOk, IfErr, OnOk, OnErr, IfSome, IfNone, IsPermutation};
+ghost use Rattle.std.specs.Prelude.{◌≡◌, ◌≤◌, ◌+◌, [], Bool, List, true, filter, length, if◌then◌else◌, None, Some, IfOk, IfErr, OnOk, OnErr, IfSome, IfNone, IsPermutation};
 ghost use Rattle.std.specs.Borrow.{sem};
 ghost use Rattle.std.specs.List.Retain.{RetainsInTurn};
 ghost use Rattle.std.specs.Map.{lookup};
@@ -106,6 +106,8 @@ impl<K: Eq + Hash, V> UnorderedMap<K, V> {
         V: Drop,
         requires { CanAskPairs F.FnMut (pairs_of self.old) keep }
         ensures tested { (test : K × V → Bool) → ((p : K × V) (keeps : Bool) (left : F) (q : K × V) → AsksPair F.FnMut keep p keeps left q → (keeps ≡ test p) × (q ≡ p) × (left ≡ keep)) → IsPermutation (filter test (pairs_of self.old)) (pairs_of self.new) }
+        ensures fewer { length (pairs_of self.new) ≤ length (pairs_of self.old) }
+        ensures no_new { (key : K) → contains K.eq self.new key ≡ true → contains K.eq self.old key ≡ true }
         ensures kept { (kept : List (K × V)) × RetainsInTurn (AsksPair F.FnMut) keep (pairs_of self.old) kept × IsPermutation kept (pairs_of self.new) }
         ensures room { table_len self.new + self.new.room ≡ table_len self.old + self.old.room }
     {
