@@ -22,6 +22,7 @@ pub mod CallerEntries
 pub mod CallerUpdates
 pub mod CallerRetained
 pub mod CallerShown
+pub mod CallerWalked
 pub mod CallerOwn
 pub mod CallerCollected
 pub mod CallerPlaces
