@@ -1,6 +1,6 @@
 //! Copies of small maps, and what a closure keeps of them.
 ghost use Rattle.std.specs.Hash as fed;
-ghost use Rattle.std.specs.Prelude.{◌≡◌, ℕ, nat_eq, nat_lt, not, filter, IfOk};
+ghost use Rattle.std.specs.Prelude.{◌≡◌, ◌≤◌, ℕ, length, nat_eq, nat_lt, not, true, filter, IfOk};
 ghost use Rattle.std.specs.String.{string_bytes};
 ghost use Rattle.std.specs.Str.{bytes_eq};
 ghost use Rattle.starlark_lists.specs.Entries.{entry_key, entry_value};
@@ -74,4 +74,12 @@ pub fn drop_named(map: &mut SmallMap<String, u64>, name: &str)
     ensures { map.new.entries ≡ filter (λ e. not (bytes_eq (string_bytes (entry_key e)) name.now)) map.old.entries }
 {
     map.retain(|k, _value| k.as_str() != name);
+}
+
+/// Keeps the even keys: no more than there were, and none that is new.
+pub fn keep_even(map: &mut SmallMap<u32, u64>)
+    ensures fewer { length map.new.entries ≤ length map.old.entries }
+    ensures no_new { (key : ℕ) → contains nat_eq fed.u32 map.new key ≡ true → contains nat_eq fed.u32 map.old key ≡ true }
+{
+    map.retain(|key, _value| *key % 2 == 0);
 }

@@ -1,7 +1,8 @@
 //! Small maps with room to spare, and with contents that are written out.
 ghost use Rattle.std.specs.Hash as fed;
-ghost use Rattle.std.specs.Prelude.{◌≡◌, ◌+◌, ◌≤◌, ◌<◌, [], ◌∷◌, length, nat_eq, false, true, None, Some, IfOk, OnOk};
+ghost use Rattle.std.specs.Prelude.{◌≡◌, ◌+◌, ◌≤◌, ◌<◌, [], ◌∷◌, length, nat_eq, false, true, None, Some, IfOk, IsOk, OnErr, OnOk};
 ghost use Rattle.starlark_small.specs.Calling.{get, keys};
+ghost use Rattle.starlark_small.specs.Map.{own_hashed};
 
 use starlark_small::{Entry, SmallMap};
 use std::alloc::{AllocError, Global};
@@ -76,4 +77,43 @@ pub fn put_by_pattern(map: &mut SmallMap<u32, u64>, key: u32, value: u64) -> boo
         }
         Entry::Vacant(entry) => matches!(entry.insert(value), Ok(_)),
     }
+}
+
+/// Asks for much more room, and puts a pair in whether it was given or not.
+pub fn ask_and_put(map: &mut SmallMap<u32, u64>, key: u32) -> Result<(), AllocError>
+    requires { 0 < map.old.room }
+    ensures { IsOk result }
+{
+    let _refused = map.reserve(100);
+    map.insert(key, 1)?;
+    Ok(())
+}
+
+/// Makes room and puts a pair in, or leaves the entries.
+pub fn put_or_leave(map: &mut SmallMap<u32, u64>, key: u32) -> Result<(), AllocError>
+    ensures { OnErr result (map.new.entries ≡ map.old.entries) }
+{
+    map.reserve(1)?;
+    map.insert(key, 1)?;
+    Ok(())
+}
+
+/// Takes entries out in three ways, which leaves the room for another one.
+pub fn refill(map: &mut SmallMap<u32, u64>, key: u32) -> bool
+    requires { 0 < map.old.room }
+    ensures { result ≡ true }
+{
+    map.shift_remove(&key);
+    map.retain(|_key, value| *value != 0);
+    map.clear();
+    map.insert(key, 1).is_ok()
+}
+
+/// Enters a pair in a map whose entries are known.
+pub fn enter_known(map: &mut SmallMap<u32, u64>) -> Result<(), AllocError>
+    requires { map.old.entries ≡ (own_hashed fed.u32 1, 10) ∷ (own_hashed fed.u32 3, 30) ∷ [] }
+    ensures { OnOk result (map.new.entries ≡ (own_hashed fed.u32 1, 10) ∷ (own_hashed fed.u32 3, 30) ∷ (own_hashed fed.u32 2, 20) ∷ []) }
+{
+    *map.entry(2).or_insert(0)? = 20;
+    Ok(())
 }

@@ -1,8 +1,9 @@
-//! Walks of small maps that are collected or added up, and the first entry.
+//! Walks of small maps that are collected or added up, the first entry, and what look-ups show of the list.
+ghost use Rattle.std.specs.Hash as fed;
 ghost use Rattle.std.specs.Option.{option_map};
-ghost use Rattle.std.specs.Prelude.{◌≡◌, ◌<◌, drop, length, map, slice_get, sum, IfOk};
+ghost use Rattle.std.specs.Prelude.{◌≡◌, ◌≤◌, ◌<◌, ◌^◌, drop, length, map, nat_eq, slice_get, sum, IfOk};
 ghost use Rattle.starlark_lists.specs.Entries.{entry_value, pair_of};
-ghost use Rattle.starlark_small.specs.Calling.{keys};
+ghost use Rattle.starlark_small.specs.Calling.{get, get_key, keys};
 
 use starlark_small::SmallMap;
 use std::alloc::{AllocError, Global};
@@ -48,4 +49,27 @@ pub fn take_first(entries: &mut SmallMap<u32, u64>) -> Option<(u32, u64)>
     ensures rest { keys entries.new ≡ drop 1 (keys entries.old) }
 {
     entries.shift_remove_index(0)
+}
+
+/// The sum of the values, by the pairs.
+pub fn total_by_pairs(entries: &SmallMap<u32, u32>) -> u64
+    requires { length entries.now.entries < 2 ^ 32 }
+    ensures { result ≡ sum (map entry_value entries.now.entries) }
+{
+    entries.iter().map(|(_key, value)| *value as u64).sum()
+}
+
+/// The value at a key, or 0, which is no more than all together.
+pub fn part_of_total(entries: &SmallMap<u32, u64>, key: u32) -> u64
+    ensures { result ≤ sum (map entry_value entries.now.entries) }
+{
+    entries.get(&key).copied().unwrap_or(0)
+}
+
+/// The stored key and its value, beside their place.
+pub fn stored(entries: &SmallMap<u32, u64>, key: u32) -> Option<(usize, &u32, &u64)>
+    ensures key { option_map (λ found. found.1.now) result ≡ get_key nat_eq fed.u32 entries.now key }
+    ensures value { option_map (λ found. found.2.now) result ≡ get nat_eq fed.u32 entries.now key }
+{
+    entries.get_full(&key)
 }

@@ -1,6 +1,6 @@
 //! Maps that are made of others.
 ghost use Rattle.std.specs.Map.{update_all};
-ghost use Rattle.std.specs.Prelude.{◌≡◌, ◌≤◌, ℕ, length, nat_eq, nat_lt, filter, false, None, Some, IfOk, IsPermutation};
+ghost use Rattle.std.specs.Prelude.{◌≡◌, ◌≤◌, ℕ, length, nat_eq, nat_lt, filter, false, true, None, Some, IfOk, IsPermutation};
 ghost use Rattle.starlark_table.specs.Growth.{most_for};
 ghost use Rattle.starlark_unordered.specs.Calling.{contains, get};
 ghost use Rattle.starlark_unordered.specs.Clone.{IsEqualClone};
@@ -74,4 +74,12 @@ pub fn keep_above<K: Eq + Hash + Drop>(map: &mut UnorderedMap<K, u64>, least: u6
     ensures { IsPermutation (filter (λ p. nat_lt least p.1) (pairs_of map.old)) (pairs_of map.new) }
 {
     map.retain(|_key, value| *value > least);
+}
+
+/// Keeps the even keys: no more than there were, and none that is new.
+pub fn keep_even(map: &mut UnorderedMap<u32, u64>)
+    ensures fewer { length (pairs_of map.new) ≤ length (pairs_of map.old) }
+    ensures no_new { (key : ℕ) → contains nat_eq map.new key ≡ true → contains nat_eq map.old key ≡ true }
+{
+    map.retain(|key, _value| *key % 2 == 0);
 }
