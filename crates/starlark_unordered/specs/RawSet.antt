@@ -6,6 +6,7 @@ use Rattle.std.specs.Borrow.{MutBor}
 use Rattle.std.specs.declared.cmp.PartialEq as eq
 use Rattle.std.specs.declared.hash.Hash as hash
 use Rattle.starlark_table.specs.Table.{item_in}
+use Rattle.starlark_unordered.specs.RawEntry.{with_key, key_still_there}
 use Rattle.starlark_unordered.specs.Set.{Set}
 use Rattle.starlark_unordered.specs.declared.unordered_set.raw_entry.RawEntryMut.{RawEntryMut}
 use Rattle.starlark_unordered.specs.declared.unordered_set.raw_entry.RawOccupiedEntryMut.{RawOccupiedEntryMut}
@@ -24,3 +25,7 @@ module _ {T : Type 0} {g : eq.Ghosts T} {h : hash.Ghosts T} where
   -- the element at an occupied entry's slot
   abbrev pub stored_raw : RawOccupiedEntryMut T g h → Option T
   stored_raw o = option_map (λ p. p.0) (item_in o.map.now o.slot)
+
+  -- the entry, once this is its element
+  abbrev pub with_raw_element : RawOccupiedEntryMut T g h → T → RawOccupiedEntryMut T g h
+  with_raw_element o element = record { map = record o.map { now = with_key o.map.now o.slot element }; slot = o.slot; there = key_still_there o.map.now o.slot element o.there }

@@ -112,7 +112,7 @@ impl<'a, T: Eq + Hash> RawEntryBuilderMut<'a, T> {
 }
 
 impl<T: Eq + Hash> RawOccupiedEntryMut<'_, T> {
-    ghost use Rattle.starlark_unordered.specs.RawSet.{stored_raw};
+    ghost use Rattle.starlark_unordered.specs.RawSet.{stored_raw, with_raw_element};
 
     /// Takes the element out, and answers it. The others stay, and the room comes back.
     #[inline]
@@ -127,12 +127,15 @@ impl<T: Eq + Hash> RawOccupiedEntryMut<'_, T> {
     }
 
     /// Puts this element, which is to be equal, in the place of the one that is there, which is answered. The others
-    /// stay.
+    /// stay, and so does the room.
     #[inline]
     pub fn insert(&mut self, element: T) -> T
         requires { IfSome (stored_raw self.old) (λ there. T.eq element there ≡ true) }
         ensures old { stored_raw self.old ≡ Some result }
+        ensures new { self.new ≡ with_raw_element self.old element }
+        ensures shown { stored_raw self.new ≡ Some element }
         ensures elements { IsInPlace (result, tt) (element, tt) (pairs_of self.old.map.now) (pairs_of self.new.map.now) }
+        ensures room { self.new.map.now.room ≡ self.old.map.now.room }
     {
         let slot = self.slot;
         self.map.replace_key(slot, element)
