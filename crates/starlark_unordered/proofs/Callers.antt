@@ -1,14 +1,15 @@
 -- What the clauses of a map say in the callers' words.
 use Rattle.std.proofs.Common.{◌≡◌, ℕ, zero, suc, ◌≤◌, ◌+◌, Bool, true, false, cond, List, [], ◌∷◌, Option, Some, None, is_some, refl, subst, sym, ap, ◌∙◌, arith, count_by}
 use Rattle.std.specs.Cmp.{IsEquivalence}
-use Rattle.std.specs.List.{Contains}
-use Rattle.std.specs.Map.{keys_of, lookup, set_value, IsKeyTest}
+use Rattle.std.specs.List.{Contains, IsAmong}
+use Rattle.std.specs.Map.{keys_of, lookup, set_value, values_of, IsKeyTest}
 use Rattle.std.specs.Borrow.{MutBor}
 use Rattle.std.specs.Option.{option_copied_mut, option_map, OnSome, IsSome}
 use Rattle.std.specs.Prelude.{IsPermutation, length, if◌then◌else◌, IfSome, IfNone}
 use Rattle.std.proofs.lemmas.Bool.{false≢true}
 use Rattle.std.proofs.lemmas.List.Sorted.{Contains-permutation, IsPermutation-sym, length_permutation, sum_by-IsPermutation}
 use Rattle.std.proofs.lemmas.Map.{length-set_value, lookup-set_value}
+use Rattle.std.proofs.lemmas.Map.Made.{Contains-values_of}
 use Rattle.std.proofs.lemmas.Option.{none-some, same_Some}
 use Rattle.std.proofs.lemmas.List.{length-map}
 use Rattle.starlark_table.specs.Table.{Table, item_in, members, table_len, GrowsAsNeeded}
@@ -28,6 +29,13 @@ module _ {K V : Type 0} (t : K → Bool) where
   at_some : (es : List (K × V)) (v : V) → lookup t es ≡ Some v → (k : K) × (t k ≡ true) × Contains es (k, v)
   at_some [] v h = absurd (none-some v h)
   at_some (e ∷ es) v h = at_step e es v (t e.0) refl (at_some es v) h
+
+  -- and is among the values
+  pub among_found : (es : List (K × V)) (v : V) → lookup t es ≡ Some v → IsAmong (values_of es) v
+  among_found es v h =
+      let r = at_some es v h in
+      let c = Contains-values_of es r.0 v r.2 in
+      (c.0, (c.1, sym c.2))
 
   -- a key that passes is counted, and found
   pub counted : (es : List (K × V)) (k : K) (v : V) → t k ≡ true → Contains es (k, v) → 1 ≤ count_by (λ p. t p.0) es

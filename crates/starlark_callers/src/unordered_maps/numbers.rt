@@ -1,7 +1,10 @@
 //! At numbers.
+ghost use Rattle.std.specs.List.{All};
+ghost use Rattle.std.specs.Map.{values_of};
 ghost use Rattle.std.specs.Option.{unwrap_or};
-ghost use Rattle.std.specs.Prelude.{◌≡◌, ℕ, ◌+◌, ◌-◌, ◌<◌, ◌^◌, min, nat_eq, false, is_some, None, Some, IfOk, IfSome, OnOk, OnErr};
+ghost use Rattle.std.specs.Prelude.{◌≡◌, ℕ, ◌+◌, ◌-◌, ◌≤◌, ◌<◌, ◌^◌, min, nat_eq, sum, false, is_some, None, Some, IfOk, IfSome, OnOk, OnErr};
 ghost use Rattle.starlark_unordered.specs.Calling.{contains, get};
+ghost use Rattle.starlark_unordered.specs.Pairs.{pairs_of};
 
 use starlark_hash::NoRoom;
 use starlark_unordered::UnorderedMap;
@@ -44,6 +47,21 @@ pub fn value_or(map: &UnorderedMap<u32, u64>, key: u32, default: u64) -> u64
         Some(value) => *value,
         None => default,
     }
+}
+
+/// The value at a key, or 0, which no bound on all values is below.
+pub fn value_within(map: &UnorderedMap<u32, u64>, key: u32, most: u64) -> u64
+    requires { All (λ value. value ≤ most) (values_of (pairs_of map.now)) }
+    ensures { result ≤ most }
+{
+    map.get(&key).copied().unwrap_or(0)
+}
+
+/// The value at a key, or 0, which is no more than all together.
+pub fn part_of_total(map: &UnorderedMap<u32, u64>, key: u32) -> u64
+    ensures { result ≤ sum (values_of (pairs_of map.now)) }
+{
+    map.get(&key).copied().unwrap_or(0)
 }
 
 /// Takes a key out.

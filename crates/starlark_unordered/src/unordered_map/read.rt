@@ -1,6 +1,7 @@
 //! Look-ups in an `UnorderedMap`.
-ghost use Rattle.std.specs.Prelude.{◌≡◌, Some, IsSome};
-ghost use Rattle.std.specs.Map.{lookup};
+ghost use Rattle.std.specs.Prelude.{◌≡◌, Some, IfSome, IsSome};
+ghost use Rattle.std.specs.List.{IsAmong};
+ghost use Rattle.std.specs.Map.{lookup, values_of};
 ghost use Rattle.std.specs.Option.{is_some, option_copied};
 ghost use Rattle.starlark_unordered.specs.Pairs.{pairs_of, under_own};
 ghost use Rattle.starlark_hash.specs.HashValue.{hash_of, key_of};
@@ -18,6 +19,7 @@ impl<K: Eq + Hash, V> UnorderedMap<K, V> {
     pub fn get<Q: KeyQuery<K>>(&self, query: &Q) -> Option<&V>
         ensures found { option_copied result ≡ get Q.equivalent self.now query.now }
         ensures value { option_copied result ≡ lookup (Q.equivalent query.now) (pairs_of self.now) }
+        ensures member { IfSome result (λ value. IsAmong (values_of (pairs_of self.now)) value.now) }
     {
         let (_, value) = self.pair_under(StarlarkHashValue::new(query).promote(), query)?;
         Some(value)
