@@ -1,6 +1,6 @@
 -- What the contracts of a map's raw entries cite.
 pub use Rattle.starlark_unordered.specs.declared.raw_entry.RawEntryMut.TheVariants.{Occupied, Vacant}
-use Rattle.std.proofs.Common.{◌∙◌, ap, refl, true, ◌≡◌, ℕ, List, ◌∷◌, ◌++◌, Option, Some, None}
+use Rattle.std.proofs.Common.{◌∙◌, ap, refl, Bool, true, ◌≡◌, ℕ, List, ◌∷◌, ◌++◌, Option, Some, None}
 use Rattle.std.specs.Prelude.{[], slice_set}
 use Rattle.std.specs.Option.{is_some, option_map}
 use Rattle.std.specs.Borrow.{Fml, RattleType, MutBor, follows}
@@ -8,7 +8,8 @@ use Rattle.std.specs.declared.cmp.PartialEq as eq
 use Rattle.std.specs.declared.hash.Hash as hash
 use mir.Syntax.{named}
 use Rattle.starlark_table.specs.Table.{Table, item_in, member_at}
-use Rattle.starlark_unordered.specs.Pairs.{with_value}
+use Rattle.starlark_unordered.specs.Calling.{found, Writes}
+use Rattle.starlark_unordered.specs.Pairs.{pairs_of, with_value}
 use Rattle.starlark_unordered.specs.Written.{set_same, still_there}
 use Rattle.starlark_unordered.specs.contracts.raw_entry.RawOccupiedEntryMut as occupied
 use Rattle.starlark_unordered.specs.declared.raw_entry.RawEntryMut.{RawEntryMut}
@@ -47,6 +48,12 @@ module _ {K V : Type 0} {g : eq.Ghosts K} {h : hash.Ghosts K} where
   -- the pair at an occupied entry's slot
   abbrev pub stored_raw : RawOccupiedEntryMut K V g h → Option (K × V)
   stored_raw o = item_in o.map.now o.slot
+
+  -- what `from_key` answers: the place in m of the key that passes, where a value that is written is the value at that key,
+  -- and no other changes; or the lack of one
+  abbrev pub IsRawPlaceOf : (K → K → Bool) → (K → Bool) → Table (K × V) → RawEntryMut K V g h → Type 0
+  IsRawPlaceOf eq t m (Occupied o) = (o.map.now ≡ m) × (found t (pairs_of m) ≡ option_map (λ p. p.1) (stored_raw o)) × ((w : V) → Writes eq t m (with_value o.map.now o.slot w) (Some w))
+  IsRawPlaceOf eq t m (Vacant v) = (v.map.now ≡ m) × (found t (pairs_of m) ≡ None)
 
   -- the entry, once this is its value
   abbrev pub with_raw_value : RawOccupiedEntryMut K V g h → V → RawOccupiedEntryMut K V g h

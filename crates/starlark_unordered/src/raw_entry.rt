@@ -56,13 +56,15 @@ impl<K: Eq + Hash, V> UnorderedMap<K, V> {
 }
 
 impl<'a, K: Eq + Hash, V> RawEntryBuilderMut<'a, K, V> {
-    ghost use Rattle.starlark_unordered.specs.RawEntry.{map_of_raw, slot_of_raw};
+    ghost use Rattle.starlark_unordered.specs.RawEntry.{map_of_raw, slot_of_raw, IsRawPlaceOf};
 
     /// The pair of the key that the query stands for, or vacant where the map lacks it. The map is as it was.
+    #[tactic(auto, unfolding(crate::specs::Calling::found))]
     #[inline]
     pub fn from_key<Q: KeyQuery<K>>(self, query: &Q) -> RawEntryMut<'a, K, V>
         ensures same_map { (map_of_raw result).ghost_name ≡ self.entry.map.ghost_name }
         ensures map { (map_of_raw result).now ≡ self.entry.map.now }
+        ensures place { IsRawPlaceOf K.eq (Q.equivalent query.now) self.entry.map.now result }
         ensures slot { IsSlotOf (Q.equivalent query.now) self.entry.map.now (slot_of_raw result) }
     {
         let map = self.map;
