@@ -1,13 +1,19 @@
 //! Callers of the places that unordered maps and sets name, which they let go or fill.
 ghost use Rattle.std.specs.Hash as fed;
 ghost use Rattle.std.specs.Map.{lookup};
-ghost use Rattle.std.specs.Prelude.{◌≡◌, nat_eq, not, is_some, None, IfErr, IfOk, OnErr};
+ghost use Rattle.std.specs.Option.{IfNone};
+ghost use Rattle.std.specs.Prelude.{◌≡◌, nat_eq, not, is_some, false, None, Some, IfErr, IfOk, IfSome, OnErr};
 ghost use Rattle.std.specs.Str.{bytes_eq};
-ghost use Rattle.std.specs.String.{string_bytes};
+ghost use Rattle.std.specs.String.{string_bytes, string_eq};
+ghost use Rattle.std.specs.declared.alloc.Global.{Global};
+ghost use Rattle.std.specs.declared.string.String.{String};
+ghost use Rattle.starlark_hash.specs.HashValue.{hash_of, key_of};
 ghost use Rattle.starlark_hash.specs.Hasher.{own_hash};
-ghost use Rattle.starlark_unordered.specs.Pairs.{pairs_of, under_own};
+ghost use Rattle.starlark_unordered.specs.Calling.{get, get_text};
+ghost use Rattle.starlark_unordered.specs.Pairs.{pairs_of, under_own, IsSlotOf};
+ghost use Rattle.starlark_unordered.specs.RawEntry.{map_of_raw, slot_of_raw, IsRawPlaceOf};
 
-use starlark_hash::{Hashed, NoRoom, TextKey};
+use starlark_hash::{Equivalent, Hashed, KeyQuery, NoRoom, TextKey};
 use starlark_unordered::unordered_set::RawEntryMut;
 use starlark_unordered::{Entry, UnorderedMap, UnorderedSet, raw_entry};
 use std::hash::Hash;
@@ -84,9 +90,12 @@ pub fn has_raw<T: Eq + Hash + Drop>(set: &mut UnorderedSet<T>, element: T) -> bo
 
 /// Puts the value of a key that an unordered map has, through a raw entry, and answers the one that was there.
 pub fn put_raw<K: Eq + Hash, V: Drop>(map: &mut UnorderedMap<K, V>, key: &K, value: V) -> Option<V>
-    ensures { result ≡ lookup (K.eq key.now) (pairs_of map.old) }
+    ensures was { result ≡ lookup (K.eq key.now) (pairs_of map.old) }
+    ensures here { IfSome result (λ _. get K.eq map.new key.now ≡ Some value) }
+    ensures others { (other : K) → K.eq key.now other ≡ false → get K.eq map.new other ≡ get K.eq map.old other }
+    ensures lacks { IfNone result (map.new ≡ map.old) }
 {
-    match map.raw_entry_mut().from_key(key) {
+    match raw_place(map, key) {
         raw_entry::RawEntryMut::Occupied(mut entry) => Some(entry.insert(value)),
         raw_entry::RawEntryMut::Vacant(_lacking) => None,
     }
@@ -94,9 +103,12 @@ pub fn put_raw<K: Eq + Hash, V: Drop>(map: &mut UnorderedMap<K, V>, key: &K, val
 
 /// The same of the number of a string, by its text.
 pub fn put_raw_named(map: &mut UnorderedMap<String, u64>, name: &str, value: u64) -> Option<u64>
-    ensures { result ≡ lookup (λ k. bytes_eq name.now (string_bytes k)) (pairs_of map.old) }
+    ensures was { result ≡ lookup (λ k. bytes_eq name.now (string_bytes k)) (pairs_of map.old) }
+    ensures here { IfSome result (λ _. get_text map.new name.now ≡ Some value) }
+    ensures others { (other : String Global) → bytes_eq name.now (string_bytes other) ≡ false → get string_eq map.new other ≡ get string_eq map.old other }
+    ensures lacks { IfNone result (map.new ≡ map.old) }
 {
-    match map.raw_entry_mut().from_key(&TextKey(name)) {
+    match raw_place(map, &TextKey(name)) {
         raw_entry::RawEntryMut::Occupied(mut entry) => Some(entry.insert(value)),
         raw_entry::RawEntryMut::Vacant(_lacking) => None,
     }
@@ -104,11 +116,37 @@ pub fn put_raw_named(map: &mut UnorderedMap<String, u64>, name: &str, value: u64
 
 /// The number of a number, by its hash and a raw entry.
 pub fn look_up_raw(map: &mut UnorderedMap<u32, u64>, key: u32) -> Option<u64>
-    ensures { result ≡ lookup (under_own fed.u32 (own_hash fed.u32 key) (nat_eq key)) (pairs_of map.old) }
+    ensures value { result ≡ lookup (under_own fed.u32 (own_hash fed.u32 key) (nat_eq key)) (pairs_of map.old) }
+    ensures unchanged { map.new ≡ map.old }
 {
     let hashed = Hashed::new(key);
-    match map.raw_entry_mut().from_key_hashed(hashed.as_ref()) {
+    match raw_place_hashed(map, hashed.as_ref()) {
         raw_entry::RawEntryMut::Occupied(entry) => Some(*entry.get()),
         raw_entry::RawEntryMut::Vacant(_lacking) => None,
     }
+}
+
+// The place that a query names, in one step: a proof does not follow the map from the builder into the entry.
+fn raw_place<'a, K: Eq + Hash, V, Q: KeyQuery<K>>(
+    map: &'a mut UnorderedMap<K, V>,
+    query: &Q,
+) -> raw_entry::RawEntryMut<'a, K, V>
+    ensures same_map { (map_of_raw result).ghost_name ≡ map.entry.ghost_name }
+    ensures map { (map_of_raw result).now ≡ map.old }
+    ensures place { IsRawPlaceOf K.eq (Q.equivalent query.now) map.old result }
+    ensures slot { IsSlotOf (Q.equivalent query.now) map.old (slot_of_raw result) }
+{
+    UnorderedMap::raw_entry_mut(map).from_key(query)
+}
+
+// The same under a hash that is brought.
+fn raw_place_hashed<'a, K: Eq + Hash, V, Q: Equivalent<K>>(
+    map: &'a mut UnorderedMap<K, V>,
+    key: Hashed<&Q>,
+) -> raw_entry::RawEntryMut<'a, K, V>
+    ensures same_map { (map_of_raw result).ghost_name ≡ map.entry.ghost_name }
+    ensures map { (map_of_raw result).now ≡ map.old }
+    ensures slot { IsSlotOf (under_own K.hash_input (hash_of key.entry) (Q.equivalent (key_of key.entry).now)) map.old (slot_of_raw result) }
+{
+    UnorderedMap::raw_entry_mut(map).from_key_hashed(key)
 }
