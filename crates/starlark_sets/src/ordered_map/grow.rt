@@ -82,6 +82,7 @@ impl<K: Eq + Hash + Drop, V: Drop> OrderedMap<K, V> {
         ensures found { OnOk result (FindsLast K.eq K.hash_input I.IntoIter.next_gives I.into_iter_gives iter (get K.eq K.hash_input self.old) self.new) }
         ensures entries { Extends K.eq (own_entry K.hash_input) I.IntoIter.next_gives I.into_iter_gives iter self.old.entries self.new.entries result }
         ensures memory { IsExtended ((it : _) → I.into_iter_gives iter it → size (I.IntoIter.remaining it) ≤ self.old.room) self.old self.new result }
+        ensures left { (it : I.IntoIter) × I.into_iter_gives iter it × (self.old.room ≤ self.new.room + size (I.IntoIter.remaining it)) }
         ensures own { AreOwn K.hash_input self.old → AreOwn K.hash_input self.new }
     {
         self.0.extend(iter)
