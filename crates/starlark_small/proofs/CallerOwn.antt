@@ -14,6 +14,7 @@ use Rattle.starlark_lists.specs.Clone.{IsEntryClone}
 use Rattle.starlark_lists.specs.Entries.{Entry, entry_hash, entry_key, match_of, set_value_at, without}
 use Rattle.starlark_lists.specs.Insertion.{insert_entry}
 use Rattle.starlark_lists.specs.Retain.{CalledAtEntry, Retains}
+use Rattle.starlark_vecmap.specs.EntryList.{with_values}
 use Rattle.starlark_small.specs.Calling.{AreOwnEntries}
 use Rattle.starlark_small.specs.Collect.{insert_all, own_entry}
 use Rattle.starlark_small.proofs.Retained.{all_retained}
@@ -58,6 +59,11 @@ module _ {K V : Type 0} (feeds : K → HashWrites) where
   without_own : (es : List (Entry K V)) (place : Option ℕ) → All is_own es → All is_own (without es place)
   without_own es None own = own
   without_own es (Some i) own = remove_own es i own
+
+  written_own : (es ws : List (Entry K V)) → All is_own es → All is_own (with_values es ws)
+  written_own [] ws own = own
+  written_own (e ∷ es) [] own = All-cons is_own e (with_values es []) (All-head is_own e es own) (written_own es [] (All-tail is_own e es own))
+  written_own (e ∷ es) (w ∷ ws) own = All-cons is_own (e.0, w.1) (with_values es ws) (All-head is_own e es own) (written_own es ws (All-tail is_own e es own))
 
   pub own-empty : (es : List (Entry K V)) → es ≡ [] → AreOwnEntries feeds es
   unfolding AreOwnEntries
@@ -108,3 +114,8 @@ module _ {K V : Type 0} (feeds : K → HashWrites) where
   pub own-permuted : (old new : List (Entry K V)) → IsPermutation old new → AreOwnEntries feeds old → AreOwnEntries feeds new
   unfolding AreOwnEntries
   own-permuted old new moves own = All-permutation is_own old new moves own
+
+  -- whatever values are written
+  pub own-with_values : (es ws : List (Entry K V)) → AreOwnEntries feeds es → AreOwnEntries feeds (with_values es ws)
+  unfolding AreOwnEntries
+  own-with_values es ws own = written_own es ws own

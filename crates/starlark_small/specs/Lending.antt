@@ -1,14 +1,16 @@
 -- What a `SmallMap` ends as, once a reference into it has ended.
-use Rattle.std.specs.Prelude.{◌≡◌, ℕ, Bool, Option, Some, IsSome, Result, Ok, Err, OnOk, OnErr}
+use Rattle.std.specs.Prelude.{◌≡◌, ℕ, Bool, List, Option, Some, IsSome, is_some, Result, Ok, Err, OnOk, OnErr, length, map}
 use Rattle.std.specs.Borrow.{Fml, RattleType, Bor, MutBor, GName, Lends, LendsIf, LendsSo, follows, follows_so, name_if_ok}
 use Rattle.std.specs.Hash.{HashWrites}
 use Rattle.std.specs.declared.cmp.PartialEq as eq
 use Rattle.starlark_hash.specs.HashValue.{key_of}
+use Rattle.starlark_hash.specs.declared.hash_value.StarlarkHashValue.{StarlarkHashValue}
 use Rattle.starlark_hash.specs.declared.hashed.Hashed.{Hashed}
 use Rattle.starlark_hash.specs.declared.no_room.NoRoom.{NoRoom}
-use Rattle.starlark_lists.specs.Entries.{set_value_at, with_value}
+use Rattle.starlark_lists.specs.Entries.{Entry, entry_key, set_value_at, with_value}
+use Rattle.starlark_lists.specs.Finding.{found}
 use Rattle.starlark_vecmap.specs.EntryList.{with_values}
-use Rattle.starlark_small.specs.Calling.{get, keys, UpdatesBy}
+use Rattle.starlark_small.specs.Calling.{get, keys, AreOwn, AreOwnEntries, UpdatesBy}
 use Rattle.starlark_small.specs.Inserted.{IsInserted, IsRefused}
 use Rattle.starlark_small.specs.Map.{Map, own_match}
 use Rattle.starlark_small.specs.contracts.small_map.SmallMap.{the_row}
@@ -17,6 +19,23 @@ use Rattle.starlark_small.specs.contracts.small_map.SmallMap.{the_row}
 abbrev pub unhashed : {T K V : Type 0} → Result T (NoRoom (Hashed K × V)) → Result T (NoRoom (K × V))
 unhashed (Ok x) = Ok x
 unhashed (Err e) = Err (record { 0 = (key_of e.0.0, e.0.1) })
+
+module _ {K V : Type 0} where
+  -- whatever values are written, the keys stay, in their order
+  abbrev pub KeepsKeys : Map K V → Type 0
+  KeepsKeys m = (ws : List (Entry K V)) → map entry_key (with_values m.entries ws) ≡ keys m
+
+  -- whatever values are written, the number of entries stays
+  abbrev pub KeepsLength : Map K V → Type 0
+  KeepsLength m = (ws : List (Entry K V)) → length (with_values m.entries ws) ≡ length m.entries
+
+  -- whatever values are written, each key, whatever its hash, is there if it was, and only then
+  abbrev pub KeepsMembers : (K → K → Bool) → Map K V → Type 0
+  KeepsMembers eq m = (ws : List (Entry K V)) (under : StarlarkHashValue) (key : K) → is_some (found (eq key) under (with_values m.entries ws)) ≡ is_some (found (eq key) under m.entries)
+
+  -- whatever values are written, keys under their own hashes stay so
+  abbrev pub KeepsOwnHashes : Map K V → Type 0
+  KeepsOwnHashes m = (ws : List (Entry K V)) (feeds : K → HashWrites) → AreOwn feeds m → AreOwnEntries feeds (with_values m.entries ws)
 
 module _ (K V : RattleType) (g : eq.Ghosts K.Denot) (s : MutBor (Map K.Denot V.Denot)) where
   -- the map ends with what is left behind a reference to the value at the place, and all else stays

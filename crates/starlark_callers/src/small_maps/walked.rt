@@ -73,3 +73,43 @@ pub fn stored(entries: &SmallMap<u32, u64>, key: u32) -> Option<(usize, &u32, &u
 {
     entries.get_full(&key)
 }
+
+/// The sum of the values, by value.
+pub fn total_owned(entries: SmallMap<u32, u32>) -> u64
+    requires { length entries.entries < 2 ^ 32 }
+    ensures { result ≡ sum (map entry_value entries.entries) }
+{
+    entries.into_values().map(|value| value as u64).sum()
+}
+
+/// The sum of the values, by the pairs by value.
+pub fn total_of_owned_pairs(entries: SmallMap<u32, u32>) -> u64
+    requires { length entries.entries < 2 ^ 32 }
+    ensures { result ≡ sum (map entry_value entries.entries) }
+{
+    entries.into_iter().map(|(_key, value)| value as u64).sum()
+}
+
+/// The sum of the keys, by value.
+pub fn sum_of_owned_keys(entries: SmallMap<u32, u64>) -> u64
+    requires { length entries.entries < 2 ^ 32 }
+    ensures { result ≡ sum (keys entries) }
+{
+    entries.into_keys().map(|key| key as u64).sum()
+}
+
+/// The sum of the keys.
+pub fn sum_of_keys(entries: &SmallMap<u32, u64>) -> u64
+    requires { length entries.now.entries < 2 ^ 32 }
+    ensures { result ≡ sum (keys entries.now) }
+{
+    entries.keys().map(|key| *key as u64).sum()
+}
+
+/// The sum of the values, by the values alone.
+pub fn total_by_values(entries: &SmallMap<u32, u32>) -> u64
+    requires { length entries.now.entries < 2 ^ 32 }
+    ensures { result ≡ sum (map entry_value entries.now.entries) }
+{
+    entries.values().map(|value| *value as u64).sum()
+}

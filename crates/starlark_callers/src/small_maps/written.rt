@@ -1,11 +1,11 @@
-//! Small maps written through occupied entries.
+//! Small maps written through occupied entries, and through walks that write their values.
 ghost use Rattle.std.specs.Hash as fed;
 ghost use Rattle.std.specs.Option.{unwrap_or};
-ghost use Rattle.std.specs.Prelude.{◌≡◌, ℕ, ◌+◌, ◌-◌, ◌^◌, min, nat_eq, false, true, None, Some, IfOk, OnOk};
+ghost use Rattle.std.specs.Prelude.{◌≡◌, ℕ, ◌+◌, ◌-◌, ◌^◌, length, min, nat_eq, false, true, None, Some, IfOk, OnOk};
 ghost use Rattle.std.specs.String.{string_bytes, string_eq};
 ghost use Rattle.std.specs.declared.alloc.Global.{Global};
 ghost use Rattle.std.specs.declared.string.String.{String};
-ghost use Rattle.starlark_small.specs.Calling.{get, contains};
+ghost use Rattle.starlark_small.specs.Calling.{get, contains, keys, AreOwn};
 
 use starlark_hash::{Hashed, NoRoom};
 use starlark_small::{Entry, SmallMap};
@@ -96,4 +96,61 @@ pub fn count_named(
             Ok(())
         }
     }
+}
+
+/// Sets all values to 0: the keys stay, and so do the length and the room.
+pub fn zeroed(map: &mut SmallMap<u32, u64>)
+    ensures keys { keys map.new ≡ keys map.old }
+    ensures count { length map.new.entries ≡ length map.old.entries }
+    ensures there { (key : ℕ) → contains nat_eq fed.u32 map.new key ≡ contains nat_eq fed.u32 map.old key }
+    ensures room { map.new.room ≡ map.old.room }
+{
+    for (_key, value) in map.iter_mut() {
+        *value = 0;
+    }
+}
+
+/// The same by the values alone.
+pub fn zeroed_values(map: &mut SmallMap<u32, u64>)
+    ensures keys { keys map.new ≡ keys map.old }
+    ensures there { (key : ℕ) → contains nat_eq fed.u32 map.new key ≡ contains nat_eq fed.u32 map.old key }
+    ensures own { AreOwn fed.u32 map.old → AreOwn fed.u32 map.new }
+{
+    for value in map.values_mut() {
+        *value = 0;
+    }
+}
+
+/// The same of names, and answers how many there are.
+pub fn zeroed_named(map: &mut SmallMap<String, u64>) -> usize
+    ensures keys { keys map.new ≡ keys map.old }
+    ensures count { result ≡ length map.old.entries }
+    ensures there { (name : String Global) → contains string_eq (λ s. fed.str (string_bytes s)) map.new name ≡ contains string_eq (λ s. fed.str (string_bytes s)) map.old name }
+{
+    for (_name, value) in &mut *map {
+        *value = 0;
+    }
+    map.len()
+}
+
+/// The same of keys of any type.
+pub fn zeroed_any<K: Eq + Hash>(map: &mut SmallMap<K, u64>)
+    ensures keys { keys map.new ≡ keys map.old }
+    ensures count { length map.new.entries ≡ length map.old.entries }
+    ensures there { (key : K) → contains K.eq K.hash_input map.new key ≡ contains K.eq K.hash_input map.old key }
+    ensures own { AreOwn K.hash_input map.old → AreOwn K.hash_input map.new }
+{
+    for (_key, value) in map.iter_mut() {
+        *value = 0;
+    }
+}
+
+/// Sets all values of keys of any type to 0, and then asks whether a key is there, which the writes have not changed.
+pub fn zeroed_and_has<K: Eq + Hash>(map: &mut SmallMap<K, u64>, key: &K) -> bool
+    ensures { result ≡ contains K.eq K.hash_input map.old key.now }
+{
+    for value in map.values_mut() {
+        *value = 0;
+    }
+    map.contains_key(key)
 }

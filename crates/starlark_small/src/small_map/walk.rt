@@ -10,9 +10,11 @@ use crate::iter::{IntoIter, IntoIterHashed, IntoKeys, IntoValues, Iter, IterHash
 
 impl<K: Eq, V> SmallMap<K, V> {
     /// The keys in order of insertion.
+    #[tactic(auto, using(crate::proofs::CallerWalked::walked))]
     #[inline]
     pub fn keys(&self) -> Keys<'_, K, V>
         ensures keys { result ≡ map entry_key self.now.entries }
+        ensures count { length result ≡ length self.now.entries }
         ensures fits { length self.now.entries < 2 ^ 64 }
         ensures runs { ShowsInOrder (deref {X = K}) }
         ensures runs_back { ShowsInReverse (deref {X = K}) }
@@ -21,9 +23,11 @@ impl<K: Eq, V> SmallMap<K, V> {
     }
 
     /// The values in order of insertion.
+    #[tactic(auto, using(crate::proofs::CallerWalked::walked))]
     #[inline]
     pub fn values(&self) -> Values<'_, K, V>
         ensures values { result ≡ map entry_value self.now.entries }
+        ensures count { length result ≡ length self.now.entries }
         ensures fits { length self.now.entries < 2 ^ 64 }
         ensures runs { ShowsInOrder (deref {X = V}) }
         ensures runs_back { ShowsInReverse (deref {X = V}) }
@@ -32,6 +36,7 @@ impl<K: Eq, V> SmallMap<K, V> {
     }
 
     /// The keys and values in order of insertion.
+    #[tactic(auto, using(crate::proofs::CallerWalked::walked))]
     #[inline]
     pub fn iter(&self) -> Iter<'_, K, V>
         ensures pairs { result ≡ map pair_of self.now.entries }
@@ -60,9 +65,11 @@ impl<K: Eq, V> SmallMap<K, V> {
 
 impl<K: Eq + Drop, V: Drop> SmallMap<K, V> {
     /// The keys by value, in order of insertion.
+    #[tactic(auto, using(crate::proofs::CallerWalked::walked))]
     #[inline]
     pub fn into_keys(self) -> IntoKeys<K, V>
         ensures keys { result ≡ map entry_key self.entries }
+        ensures count { length result ≡ length self.entries }
         ensures fits { length self.entries < 2 ^ 64 }
         ensures runs { GivesInOrder K }
         ensures runs_back { GivesInReverse K }
@@ -75,9 +82,11 @@ impl<K: Eq + Drop, V: Drop> SmallMap<K, V> {
     }
 
     /// The values by value, in order of insertion.
+    #[tactic(auto, using(crate::proofs::CallerWalked::walked))]
     #[inline]
     pub fn into_values(self) -> IntoValues<K, V>
         ensures values { result ≡ map entry_value self.entries }
+        ensures count { length result ≡ length self.entries }
         ensures fits { length self.entries < 2 ^ 64 }
         ensures runs { GivesInOrder V }
         ensures runs_back { GivesInReverse V }
@@ -114,8 +123,13 @@ impl<K: Eq + Drop, V: Drop> IntoIterator for SmallMap<K, V> {
     ghost into_iter_gives = { λ m rest. (rest ≡ map pair_of m.entries) × (length m.entries < 2 ^ 64) × GivesInOrder (K × V) × GivesInReverse (K × V) };
 
     /// The keys and values by value, in order of insertion.
+    #[tactic(auto, using(crate::proofs::CallerWalked::walked))]
     #[inline]
-    fn into_iter(self) -> IntoIter<K, V> {
+    fn into_iter(self) -> IntoIter<K, V>
+        ensures into_iter_gives { (result ≡ map pair_of self.entries) × (length self.entries < 2 ^ 64) × GivesInOrder (K × V) × GivesInReverse (K × V) }
+        ensures values { values_of result ≡ map entry_value self.entries }
+        ensures count { length result ≡ length self.entries }
+    {
         let SmallMap {
             entries,
             index: _index,
@@ -133,7 +147,11 @@ impl<'a, K: Eq, V> IntoIterator for &'a SmallMap<K, V> {
 
     /// The keys and values in order of insertion.
     #[inline]
-    fn into_iter(self) -> Iter<'a, K, V> {
+    fn into_iter(self) -> Iter<'a, K, V>
+        ensures into_iter_gives { (result ≡ map pair_of self.now.entries) × (length self.now.entries < 2 ^ 64) × ShowsInOrder (deref_pair {K = K} {X = V}) × ShowsInReverse (deref_pair {K = K} {X = V}) }
+        ensures values { values_of result ≡ map entry_value self.now.entries }
+        ensures count { length result ≡ length self.now.entries }
+    {
         self.iter()
     }
 }

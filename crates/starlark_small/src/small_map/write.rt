@@ -6,7 +6,7 @@ ghost use Rattle.std.specs.Option.{option_copied_mut, IfNone};
 ghost use Rattle.starlark_lists.specs.Entries.{entry_value, pair_of, value_at};
 ghost use Rattle.starlark_small.specs.Calling.{get};
 ghost use Rattle.starlark_small.specs.Map.{query_match, own_match};
-ghost use Rattle.starlark_small.specs.Lending.{lends_value, lends_found, lends_get, values_follow};
+ghost use Rattle.starlark_small.specs.Lending.{lends_value, lends_found, lends_get, values_follow, KeepsKeys, KeepsLength, KeepsMembers, KeepsOwnHashes};
 
 use super::SmallMap;
 use crate::iter::{IterMut, ValuesMut};
@@ -59,6 +59,10 @@ impl<K: Eq, V> SmallMap<K, V> {
         ensures* writes_back { sem 𝓛 (values_follow K.row V.row K.PartialEq self.entry result.1) }
         ensures pairs { result.0 ≡ map pair_of self.old.entries }
         ensures fits { length self.old.entries < 2 ^ 64 }
+        ensures keeps { KeepsKeys self.old }
+        ensures keeps_length { KeepsLength self.old }
+        ensures keeps_members { KeepsMembers K.eq self.old }
+        ensures keeps_own { KeepsOwnHashes self.old }
     {
         self.entries.iter_mut()
     }
@@ -71,6 +75,10 @@ impl<K: Eq, V> SmallMap<K, V> {
         ensures* writes_back { sem 𝓛 (values_follow K.row V.row K.PartialEq self.entry result.1) }
         ensures values { values_of result.0 ≡ map entry_value self.old.entries }
         ensures fits { length self.old.entries < 2 ^ 64 }
+        ensures keeps { KeepsKeys self.old }
+        ensures keeps_length { KeepsLength self.old }
+        ensures keeps_members { KeepsMembers K.eq self.old }
+        ensures keeps_own { KeepsOwnHashes self.old }
     {
         ValuesMut::of(self.iter_mut())
     }
@@ -88,6 +96,10 @@ impl<'a, K: Eq, V> IntoIterator for &'a mut SmallMap<K, V> {
     fn into_iter(self) -> IterMut<'a, K, V>
         ensures* writes_back { sem 𝓛 (values_follow K.row V.row K.PartialEq self.entry result.1) }
         ensures into_iter_gives { (result.0 ≡ map pair_of self.old.entries) × (length self.old.entries < 2 ^ 64) }
+        ensures keeps { KeepsKeys self.old }
+        ensures keeps_length { KeepsLength self.old }
+        ensures keeps_members { KeepsMembers K.eq self.old }
+        ensures keeps_own { KeepsOwnHashes self.old }
     {
         self.iter_mut()
     }

@@ -1,11 +1,12 @@
 -- `iter_mut` lends the map inside for good, and hands on what walks that. Assumes `Logic`.
-use Rattle.starlark_columns.proofs.Walking.{◌≡◌, refl, ap, ◌∙◌, ◌<◌, ◌^◌, List, [], ◌∷◌, length, Ura, Fn, Args, Dict, a_type, dcons, dnil, named, inst_fn, Val, vptr, SProp, ent, emp, id⊢, ex_e, snd∗, Lft, GName, Share, ftrue, flft, Memory, Routine, Calls, Loops, WpFn, Logic, sem, ◌⊑◌, Fun, fact, fact_i, tables, FmC, ‵, raw, ◌⊛◌, some, later, ◌$◌, ◌∵◌, !, qed, move, keep, drop, use0, use1, use2, split, split3, join, pick, fsplit, fjoin, rewrite, suffices, frame, await, done, stop, addr, and_then, no_more, returns, enter, alloc_all, pass_all, free_all, look_at, get, through, sets, lands_as, no, follows, follows_then, Is, shows, param, bounded, Laws, param_laws, RattleType, owns, MutBor, MutRef, mut_vals, mut_Tells, plain, types_at, mut_ref_to, named_lft, nothing, heard, peeks, only, calls_at, Clauses, Ended, ensured, lasts, triple_of, Contract, Triple, framed, Stays, stay_dropped, walk_of, ends_at, Goes-spent_ref, proved, map}
+use Rattle.starlark_columns.proofs.Walking.{◌≡◌, refl, ap, ◌∙◌, ◌<◌, ◌^◌, List, [], ◌∷◌, length, Ura, Fn, Args, Dict, a_type, dcons, dnil, named, inst_fn, Val, vptr, SProp, sep, ent, emp, id⊢, ex_e, snd∗, Lft, GName, Share, ftrue, flft, Memory, Routine, Calls, Loops, WpFn, Logic, sem, ◌⊑◌, Fun, fact, fact_i, tables, FmC, ‵, raw, ◌⊛◌, some, later, ◌$◌, ◌∵◌, !, qed, move, keep, drop, use0, use1, use2, split, split3, join, pick, fsplit, fjoin, rewrite, suffices, frame, await, done, stop, addr, and_then, no_more, returns, enter, alloc_all, pass_all, free_all, look_at, get, through, sets, lands_as, no, follows, follows_then, Is, shows, param, bounded, Laws, param_laws, RattleType, owns, MutBor, MutRef, mut_vals, mut_Tells, plain, types_at, mut_ref_to, named_lft, nothing, heard, peeks, only, calls_at, Clauses, Ended, ensured, lasts, triple_of, Contract, Triple, framed, Stays, stay_dropped, walk_of, ends_at, Goes-spent_ref, proved, map}
 use Rattle.std.specs.declared.cmp.Eq as Eq
 use Rattle.std.specs.declared.cmp.PartialEq as PartialEq
 use Rattle.starlark_lists.specs.Entries.{pair_of}
 use Rattle.starlark_vec2.proofs.pairs_mut.PairsMut.TheLaws as walk_laws
 use Rattle.starlark_vec2.specs.contracts.pairs_mut.PairsMut as P
 use Rattle.starlark_vecmap.specs.EntryList.{with_values}
+use Rattle.starlark_small.specs.Lending.{KeepsKeys, KeepsLength, KeepsMembers, KeepsOwnHashes}
 use Rattle.starlark_small.specs.Map.{Map}
 use Rattle.starlark_small.specs.contracts.small_map.SmallMap as S
 use Rattle.starlark_small.specs.contracts.small_map.SmallMap.iter_mut as w
@@ -62,6 +63,10 @@ module _ (K V : RattleType) (E : Eq.Ghosts K.Denot) (dE : Dict) (Q : PartialEq.G
     abbrev Walks : Contract 𝓤
     Walks = triple_of 𝓛 (w.signature K V E dE Q dQ) (w.spec K V E dE Q dQ 𝓛 at_mem run)
 
+    -- what the walk keeps, whatever values are written
+    abbrev Keeps : M → SProp 𝓤
+    Keeps m = sep 𝓤 (fact 𝓤 (KeepsKeys m)) (sep 𝓤 (fact 𝓤 (KeepsLength m)) (sep 𝓤 (fact 𝓤 (KeepsMembers Q.eq m)) (fact 𝓤 (KeepsOwnHashes m))))
+
     module _ (LK : Laws K) (LV : Laws V) (C : Calls 𝓤 𝓛.H) (Λ : Loops 𝓤 𝓛.H) (fm : FmC 𝓤 𝓛.H 𝓛.laws C)
         (lends : Triple 𝓤 (C (#inside args)) Inside) (walked : Triple 𝓤 (C (#walks args)) Walks)
         (κ κK κV : Lft) (q qK qV : Share) (bounds : (κ ⊑ κK) × ((κ ⊑ κV) × Unit {0})) (r : MutBor M) where
@@ -106,8 +111,8 @@ module _ (K V : RattleType) (E : Eq.Ghosts K.Denot) (dE : Dict) (Q : PartialEq.G
           use1 𝓛 (raw (Walks.pre z2)) (id⊢ 𝓤 _) $
           calls_at ! fm Walks walked z2 (and_then ! (get ! refl) (no_more !)) (λ t.
           use1 𝓛 (later (some (λ (y : List (K.Denot × V.Denot) × GName). ((‵ (flft κ q) ⊛ ‵ (flft κK qK) ⊛ ‵ (flft κV qV) ⊛ ‵ ftrue) ⊛ ‵ (It.own_val y (t ∷ []))) ⊛ raw (ensured 𝓛 (w.ended K V E dE Q dQ) (w.clauses K V E dE Q dQ 𝓛 at_mem run) z2.0.0 z2.0.3 tt y)))) (id⊢ 𝓤 _) $ await ! tt $ pick ! (λ y. split ! $ move ! (1 ∷ []) $
-          use1 𝓛 (‵ (follows Inner Inner x.ghost_name y.1 (with x.now)) ⊛ raw (fact 𝓤 (y.0 ≡ map pair_of x.now.entries)) ⊛ raw (fact 𝓤 (length x.now.entries < 2 ^ 64))) (ex_e 𝓤 _ (λ ws. snd∗ 𝓤 (sem 𝓛 (lasts (w.ended K V E dE Q dQ) z2.0.0 z2.0.3 ws)) _)) $ split3 ! $
-          move ! (1 ∷ []) $ heard ! (y.0 ≡ map pair_of x.now.entries) (λ pairs. move ! (1 ∷ []) $ heard ! (length x.now.entries < 2 ^ 64) (λ fits.
+          use1 𝓛 (‵ (follows Inner Inner x.ghost_name y.1 (with x.now)) ⊛ raw (fact 𝓤 (y.0 ≡ map pair_of x.now.entries)) ⊛ raw (fact 𝓤 (length x.now.entries < 2 ^ 64)) ⊛ raw (Keeps x.now)) (ex_e 𝓤 _ (λ ws. snd∗ 𝓤 (sem 𝓛 (lasts (w.ended K V E dE Q dQ) z2.0.0 z2.0.3 ws)) _)) $ split3 ! $
+          move ! (1 ∷ []) $ heard ! (y.0 ≡ map pair_of x.now.entries) (λ pairs. move ! (1 ∷ []) $ split ! $ heard ! (length x.now.entries < 2 ^ 64) (λ fits. drop ! $
           -- [what the map inside follows; the tokens with the walk; what self follows]
           rewrite ! 0 (λ (n : M). ‵ (follows Inner Inner x.ghost_name y.1 (with n))) same refl $
           move ! (2 ∷ 0 ∷ []) $ use2 𝓛 (‵ (follows Outer Inner γ y.1 (with m))) (follows_then 𝓛 Outer Inner Inner (λ n. n) (with m) γ x.ghost_name y.1) $
