@@ -136,6 +136,11 @@ module _ {T : Type 0} {eq : T → T → Bool} {cmp : T → T → Ordering} (tota
       ties (entry_key f) (entry_key (shown h)) ∙ ap is_eq (total.antisymm (entry_key f) (entry_key (shown h)) ∙ ap ordering_reverse tie) in
       sym (ap not (subst (λ l. lacks eq l f ≡ false) (sym behind.1) (holds-at eq f behind.0 (shown h) next.0 (both _ _ under equal))))
 
+-- what is left of a list that ascends ascends
+pub Ascends-left : {T : Type 0} (cmp : T → T → Ordering) (last : Option (Hashed (Bor T))) (es there : Elements T) → Follows last es there → Ascends cmp there → Ascends cmp es
+Ascends-left cmp None es there all up = subst (Ascends cmp) all up
+Ascends-left cmp (Some h) es there all up = Ascends-tail cmp (shown h) es (Ascends-behind-all cmp all.0 (shown h ∷ es) (subst (Ascends cmp) all.1 up))
+
 -- the element that was taken from what is left is the last that was given
 pub Follows-taken : {T : Type 0} (last : Option (Hashed (Bor T))) (h : Hashed (Bor T)) (es fs there : Elements T) → fs ≡ shown h ∷ es → Follows last fs there → Follows (Some h) es there
 Follows-taken None h es fs there is all = ([], all ∙ is)

@@ -1,10 +1,11 @@
 -- What is in either of two lists that ascend, in ascending order: which element comes first, and what is left after it.
-use Rattle.std.proofs.Common.{◌≡◌, suc, ◌+◌, Bool, true, false, cond, not, List, [], ◌∷◌, ◌++◌, map, length, get_or, Some, refl, sym, ap, subst, ◌∙◌, arith, true≢false}
+use Rattle.std.proofs.Common.{◌≡◌, suc, ◌+◌, Bool, true, false, cond, not, List, [], ◌∷◌, ◌++◌, map, length, get_or, Option, Some, None, refl, sym, ap, subst, ◌∙◌, arith, true≢false}
 use Rattle.std.specs.Prelude.{◌&&◌, filter, drop, All}
 use Rattle.std.specs.Borrow.{Bor}
 use Rattle.std.specs.Cmp.{IsEquivalence, IsTotalOrder}
 use Rattle.std.specs.Hash.{HashWrites}
 use Rattle.std.specs.Map.{keys_of}
+use Rattle.std.specs.Map.Iter.{TakesFirst}
 use Rattle.std.specs.declared.cmp.Ordering.{Ordering}
 use Rattle.std.proofs.lemmas.List.{length-append, length-map}
 use Rattle.std.proofs.lemmas.List.Elements.{All-append, All-cons, All-filter, All-head, All-tail, All-weaker}
@@ -18,10 +19,10 @@ use Rattle.starlark_lists.proofs.SortingLemmas.{IsPermutation-sorted_by, key_lt-
 use Rattle.starlark_sets.specs.Difference.{difference, lacks}
 use Rattle.starlark_sets.specs.Set.{Elements}
 use Rattle.starlark_sets.specs.Union.{union}
-use Rattle.starlark_sets.proofs.Differences.{IsSingle-tail}
+use Rattle.starlark_sets.specs.Unit.{deref_hashed}
 use Rattle.starlark_sets.proofs.Unions.{IsSingle-difference, IsSingle-union}
 use Rattle.starlark_sorted.specs.Sorted.{AreOwn}
-use Rattle.starlark_sorted.specs.Union.{RiseSteps, SortedUnion, after, behind, comes_first, elements_under, is_others, is_passed, rise, rise_rest, shown}
+use Rattle.starlark_sorted.specs.Union.{OwnNext, RiseSteps, SortedUnion, after, ahead, behind, comes_first, elements_under, is_others, is_passed, rise, rise_rest, shown}
 
 pub vacuous : {X : Type 0} (P : X → Type 0) → All P []
 vacuous P k d inside = absurd (omega (arith, inside))
@@ -69,12 +70,7 @@ module _ {X : Type 0} (p : X → Bool) where
       ] in
       go refl is
 
-  -- it is a rest of the list
-  behind-keeps : (P : List X → Type 0) → ((x : X) (xs : List X) → P (x ∷ xs) → P xs) → (xs : List X) → P xs → P (behind p xs)
-  behind-keeps P tail [] all = all
-  behind-keeps P tail (x ∷ xs) all = elim (p x) as (λ b. P (cond b (behind p xs) (x ∷ xs))) [ true ↦ behind-keeps P tail xs (tail x xs all) | false ↦ all ]
-
-  -- and has all that a filter keeps which keeps none of those
+  -- and it has all that a filter keeps which keeps none of those
   filter-behind : (q : X → Bool) → ((x : X) → p x ≡ true → q x ≡ false) → (xs : List X) → filter q (behind p xs) ≡ filter q xs
   filter-behind q out [] = refl
   filter-behind q out (x ∷ xs) =
@@ -114,13 +110,6 @@ module _ {T : Type 0} (cmp : T → T → Ordering) where
   Ascends-tail e es up k d low high =
       subst (λ n. key_lt cmp (get_or (e ∷ es) n d) (get_or es k d) ≡ false) {x = suc k + 1} {y = suc (k + 1)} (omega arith) (up (suc k) d (omega arith) (omega (arith, high)))
 
-  -- what is behind the first items ascends, and has no element twice
-  pub Ascends-behind : (p : Entry T (Unit {0}) → Bool) (fs gs : Elements T) → behind p fs ≡ gs → Ascends cmp fs → Ascends cmp gs
-  Ascends-behind p fs gs is up = subst (Ascends cmp) is (behind-keeps p (Ascends cmp) Ascends-tail fs up)
-
-pub IsSingle-behind : {T : Type 0} (eq : T → T → Bool) (p : Entry T (Unit {0}) → Bool) (fs gs : Elements T) → behind p fs ≡ gs → IsSingle eq fs → IsSingle eq gs
-IsSingle-behind eq p fs gs is single = subst (IsSingle eq) is (behind-keeps p (IsSingle eq) (λ e es. IsSingle-tail eq (e ∷ es) e es refl) fs single)
-
 module _ {T : Type 0} (eq : T → T → Bool) {cmp : T → T → Ordering} (total : IsTotalOrder cmp) where
   -- the next element is the other list's
   other-first : (es gs there : Elements T) (f : Entry T (Unit {0})) → Ascends cmp es → Ascends cmp (f ∷ gs) → comes_first cmp es f ≡ true → lacks eq there f ≡ true
@@ -146,16 +135,15 @@ module _ {T : Type 0} (eq : T → T → Bool) {cmp : T → T → Ordering} (tota
   skipped es fs there = filter-behind (is_passed eq cmp es there) (lacks eq there) (λ f passes. lost (comes_first cmp es f) (lacks eq there f) passes) fs
 
   -- a step that gives an element of the other list
-  pub step-other : (es fs there gs : Elements T) (h : Hashed (Bor T)) → Ascends cmp es → Ascends cmp fs
+  pub step-other : (es fs there gs : Elements T) (h : Hashed (Bor T)) → Ascends cmp es → Ascends cmp (shown h ∷ gs)
       → behind (is_passed eq cmp es there) fs ≡ shown h ∷ gs → comes_first cmp es (shown h) ≡ true
       → RiseSteps eq cmp (record { left = es; right = fs; there = there }) (Some h.key) (record { left = es; right = gs; there = there })
   step-other es fs there gs h up over is first =
       let f = shown h in
       let p = is_passed eq cmp es there in
-      let rest_up : Ascends cmp (f ∷ gs) = subst (Ascends cmp) is (behind-keeps p (Ascends cmp) (λ e es. Ascends-tail cmp e es) fs over) in
       let lacking = both_true (comes_first cmp es f) (lacks eq there f) first (behind-head p fs gs f is) in
       let all : sorted_by_key cmp (es ++ difference eq fs there) ≡ f ∷ sorted_by_key cmp (es ++ difference eq gs there) =
-      ap (λ l. sorted_by_key cmp (es ++ l)) (sym (skipped es fs there) ∙ ap (λ l. difference eq l there) is) ∙ other-first es gs there f up rest_up first lacking in (
+      ap (λ l. sorted_by_key cmp (es ++ l)) (sym (skipped es fs there) ∙ ap (λ l. difference eq l there) is) ∙ other-first es gs there f up over first lacking in (
         ap (map entry_key) all,
         sym (ap (λ l. cond (is_others cmp es l) (record { left = es; right = drop 1 l; there = there }) (record { left = drop 1 es; right = l; there = there })) is
             ∙ ap (λ b. cond b (record { left = es; right = gs; there = there }) (record { left = drop 1 es; right = f ∷ gs; there = there })) first),
@@ -167,29 +155,22 @@ module _ {T : Type 0} (eq : T → T → Bool) {cmp : T → T → Ordering} (tota
       ap (λ l. cond (is_others cmp es l) (record { left = es; right = drop 1 l; there = there }) (record { left = drop 1 es; right = l; there = there })) is
       ∙ ap (λ b. cond b (record { left = es; right = drop 1 gs; there = there }) (record { left = drop 1 es; right = gs; there = there })) own
 
-  -- a step that gives an element of this list, or none
-  pub step-own : (es fs there gs : Elements T) (e : Entry T (Unit {0})) (ds : Elements T) → Ascends cmp es → Ascends cmp fs
-      → behind (is_passed eq cmp es there) fs ≡ gs → is_others cmp es gs ≡ false → es ≡ e ∷ ds
-      → (rise_rest eq cmp (record { left = es; right = fs; there = there }) ≡ entry_key e ∷ rise_rest eq cmp (record { left = ds; right = gs; there = there }))
-      × (record { left = ds; right = gs; there = there } ≡ after eq cmp (record { left = es; right = fs; there = there }))
-  step-own es fs there gs e ds up over is own at =
-      let rest_up : Ascends cmp gs = subst (Ascends cmp) is (behind-keeps (is_passed eq cmp es there) (Ascends cmp) (λ e es. Ascends-tail cmp e es) fs over) in (
-        ap (λ l. map entry_key (sorted_by_key cmp (es ++ l))) (sym (skipped es fs there) ∙ ap (λ l. difference eq l there) is)
-            ∙ ap (λ l. map entry_key (sorted_by_key cmp (l ++ difference eq gs there))) at
-            ∙ ap (map entry_key) (own-first e ds gs there (subst (Ascends cmp) at up) rest_up (subst (λ l. is_others cmp l gs ≡ false) at own)),
-        sym (after-own es fs there gs is own ∙ ap (λ l. record { left = drop 1 l; right = gs; there = there }) at),
+  -- the next element is this list's, or there is none
+  pub step-own : (es fs there gs : Elements T) → Ascends cmp es → Ascends cmp gs → behind (is_passed eq cmp es there) fs ≡ gs → is_others cmp es gs ≡ false
+      → OwnNext eq cmp (record { left = es; right = fs; there = there }) (record { left = es; right = gs; there = there })
+  step-own [] fs there gs up over is own =
+      let none : gs ≡ [] = none-left gs own in
+      let last : rise_rest eq cmp (record { left = []; right = gs; there = there }) ≡ [] = ap (λ l. map entry_key (sorted_by_key cmp (difference eq l there))) none in (
+        ap (λ l. map entry_key (sorted_by_key cmp l)) (sym (skipped [] fs there) ∙ ap (λ l. difference eq l there) is) ∙ last,
+        last,
+        sym (after-own [] fs there gs is own),
       )
-
-  pub step-none : (es fs there gs ds : Elements T) → behind (is_passed eq cmp es there) fs ≡ gs → is_others cmp es gs ≡ false → es ≡ [] → ds ≡ []
-      → (rise_rest eq cmp (record { left = es; right = fs; there = there }) ≡ []) × (rise_rest eq cmp (record { left = ds; right = gs; there = there }) ≡ [])
-      × (record { left = ds; right = gs; there = there } ≡ after eq cmp (record { left = es; right = fs; there = there }))
-  step-none es fs there gs ds is own at end =
-      let none : gs ≡ [] = none-left gs (subst (λ l. is_others cmp l gs ≡ false) at own) in
-      let last = λ (l : Elements T) (empty : l ≡ []). ap (λ l. map entry_key (sorted_by_key cmp (l ++ difference eq gs there))) empty ∙ ap (λ l. map entry_key (sorted_by_key cmp (difference eq l there))) none in (
-        ap (λ l. map entry_key (sorted_by_key cmp (es ++ l))) (sym (skipped es fs there) ∙ ap (λ l. difference eq l there) is) ∙ last es at,
-        last ds end,
-        sym (after-own es fs there gs is own ∙ ap (λ l. record { left = l; right = gs; there = there }) (ap (drop 1) at ∙ sym end)),
-      )
+  step-own (e ∷ es) fs there gs up over is own = (
+    ap (λ l. map entry_key (sorted_by_key cmp (e ∷ es ++ l))) (sym (skipped (e ∷ es) fs there) ∙ ap (λ l. difference eq l there) is)
+        ∙ ap (map entry_key) (own-first e es gs there up over own),
+    refl,
+    sym (after-own (e ∷ es) fs there gs is own),
+  )
 
 module _ {T : Type 0} (eq : T → T → Bool) (cmp : T → T → Ordering) where
   -- how many elements are to come
@@ -203,14 +184,22 @@ module _ {T : Type 0} (eq : T → T → Bool) (cmp : T → T → Ordering) where
         length-map (difference eq u.right u.there) entry_key,
       )
 
+-- the element that was taken from a walk, and those that it has left, are what it had
+pub ahead-of : {T : Type 0} (hs ks : List (Hashed T)) (h : Option (Hashed (Bor T))) → TakesFirst deref_hashed hs h ks → ahead h ks ≡ elements_under hs
+ahead-of hs ks None taken = sym (ap elements_under taken.0)
+ahead-of hs ks (Some h) taken = sym (ap elements_under taken)
+
+pub length-ahead : {T : Type 0} (hs ks : List (Hashed T)) (h : Option (Hashed (Bor T))) → TakesFirst deref_hashed hs h ks → length (ahead h ks) ≡ length hs
+length-ahead hs ks h taken = ap length (ahead-of hs ks h taken) ∙ length-map hs (λ h. (h, tt))
+
+-- what is left of a walk whose first element is known, once that was taken
+pub taken-first : {T : Type 0} (es ds : Elements T) (h : Hashed (Bor T)) (r : Option (Hashed (Bor T))) → es ≡ shown h ∷ drop 1 es → TakesFirst shown es r ds → es ≡ shown h ∷ ds
+taken-first es ds h None first taken = cc
+taken-first es ds h (Some x) first taken = first ∙ ap (λ l. shown h ∷ drop 1 l) taken
+
 -- what a walk over two sets begins with
 pub elements-of : {T : Type 0} (es : Elements T) (hs : List (Hashed T)) → hs ≡ keys_of es → elements_under hs ≡ es
 elements-of es hs walk = ap elements_under walk ∙ elements-keys es
-
-pub begun : {T : Type 0} (es fs there : Elements T) (hs ks : List (Hashed T)) (u : SortedUnion T) → hs ≡ keys_of es → ks ≡ keys_of fs
-    → u ≡ record { left = elements_under hs; right = elements_under ks; there = there } → u ≡ record { left = es; right = fs; there = there }
-begun es fs there hs ks u walk other made =
-    made ∙ ap (λ l. record { left = l; right = elements_under ks; there = there }) (elements-of es hs walk) ∙ ap (λ r. record { left = es; right = r; there = there }) (elements-of fs ks other)
 
 module _ {T : Type 0} (eq : T → T → Bool) (cmp : T → T → Ordering) (es fs : Elements T) where
   -- what is in either has no element twice

@@ -33,6 +33,10 @@ module _ {T : Type 0} where
   ahead None hs = []
   ahead (Some h) hs = shown h ∷ elements_under hs
 
+  -- what is left once the first list's first is taken
+  abbrev pub after_own : SortedUnion T → SortedUnion T
+  after_own u = record u { left = drop 1 u.left }
+
   -- whether a list is what another has behind this element, or all of it where no element is given
   abbrev pub Follows : Option (Hashed (Bor T)) → Elements T → Elements T → Type 0
   Follows None es there = there ≡ es
@@ -68,6 +72,15 @@ module _ {T : Type 0} (eq : T → T → Bool) (cmp : T → T → Ordering) where
   abbrev pub rise_rest : SortedUnion T → List T
   rise_rest u = map entry_key (sorted_by_key cmp (u.left ++ difference eq u.right u.there))
 
+  -- the first of these elements, and then what is still to come where the others are the first list: nothing, if there is none
+  abbrev pub own_from : Elements T → SortedUnion T → List T
+  own_from [] u = []
+  own_from (e ∷ es) u = entry_key e ∷ rise_rest (record u { left = es })
+
+  -- the elements that are still to come, where the next is the first list's or there is none
+  abbrev pub own_rest : SortedUnion T → List T
+  own_rest u = own_from u.left u
+
   -- whether an element of the second list is passed over: the first list has it, and it comes before what is left of that
   abbrev pub is_passed : Elements T → Elements T → Entry T (Unit {0}) → Bool
   is_passed es there f = comes_first cmp es f && not (lacks eq there f)
@@ -78,6 +91,10 @@ module _ {T : Type 0} (eq : T → T → Bool) (cmp : T → T → Ordering) where
   after u =
       let fs = behind (is_passed u.left u.there) u.right in
       if is_others cmp u.left fs then record u { right = drop 1 fs } else record u { left = drop 1 u.left; right = fs }
+
+  -- t is s without those that are passed over, and the next element is the first list's or there is none
+  abbrev pub OwnNext : SortedUnion T → SortedUnion T → Type 0
+  OwnNext s t = (rise_rest s ≡ own_rest t) × (rise_rest (after_own t) ≡ drop 1 (own_rest t)) × (after_own t ≡ after s)
 
   -- a step gives the first element to come, and passes over those of the second list that come before it and are not to come
   abbrev pub RiseSteps : SortedUnion T → Option (Bor T) → SortedUnion T → Type 0

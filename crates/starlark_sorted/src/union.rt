@@ -1,5 +1,5 @@
 //! The elements of either of two sets that ascend, in ascending order.
-ghost use Rattle.std.specs.Prelude.{◌≡◌, ◌+◌, ◌-◌, ◌^◌, ◌<◌, [], ◌∷◌, false, true, not, length, min, drop, IfSome, MatchOption};
+ghost use Rattle.std.specs.Prelude.{◌≡◌, ◌+◌, ◌-◌, ◌^◌, ◌<◌, [], ◌∷◌, not, length, min, drop, Some, IfSome, MatchOption};
 ghost use Rattle.std.specs.Iterator.{UpTo, at_most};
 ghost use Rattle.std.specs.Iterator.SizeHint.{IsWithinCount};
 ghost use Rattle.std.specs.Map.Iter.{TakesFirst};
@@ -7,7 +7,7 @@ ghost use Rattle.starlark_lists.specs.Entries.{IsSingle};
 ghost use Rattle.starlark_lists.specs.Sorting.{Ascends};
 ghost use Rattle.starlark_sets.specs.Difference.{lacks};
 ghost use Rattle.starlark_sets.specs.Union.{fits_in};
-ghost use Rattle.starlark_sorted.specs.Union.{ComesNext, Follows, RiseSteps, behind, comes_first, elements_under, is_others, is_passed, rise_rest, shown};
+ghost use Rattle.starlark_sorted.specs.Union.{ComesNext, Follows, OwnNext, RiseSteps, after_own, comes_first, elements_under, own_rest, rise_rest, shown};
 
 use starlark_hash::Hashed;
 use starlark_sets::{IterHashed, OrderedSet};
@@ -29,7 +29,6 @@ pub struct SortedUnion<'a, T: Ord> {
 
 impl<'a, T: Ord> Model for SortedUnion<'a, T> {
     ghost use Rattle.std.specs.Prelude.{};
-    ghost use Rattle.starlark_lists.specs.Entries.{IsSingle};
     ghost use Rattle.starlark_lists.specs.Sorting.{Ascends};
     ghost use Rattle.starlark_sorted.specs.Union.{SortedUnion as Both, Follows};
 
@@ -37,28 +36,33 @@ impl<'a, T: Ord> Model for SortedUnion<'a, T> {
 
     ghost view = { λ u. record { left = u.left; right = u.right; there = u.there.now.entries } };
 
-    ghost invariant = { λ u. Ascends T.cmp u.left × Ascends T.cmp u.right × IsSingle T.eq u.right × Ascends T.cmp u.there.now.entries × Follows u.last u.left u.there.now.entries };
+    ghost invariant = { λ u. Ascends T.cmp u.there.now.entries × Follows u.last u.left u.there.now.entries };
 }
 
 impl<'a, T: Ord> SortedUnion<'a, T> {
-    pub(crate) fn new(
-        left: IterHashed<'a, T>,
-        right: IterHashed<'a, T>,
-        there: &'a OrderedSet<T>,
-    ) -> Self
-        requires left { Ascends T.cmp (elements_under left) }
-        requires right { Ascends T.cmp (elements_under right) }
-        requires single { IsSingle T.eq (elements_under right) }
-        requires all { there.now.entries ≡ elements_under left }
-        requires fits { (length left < 2 ^ 64) × (length right < 2 ^ 64) }
-        ensures { result ≡ record { left = elements_under left.entry; right = elements_under right.entry; there = there.now.entries } }
+    #[inline]
+    pub(crate) fn new(left: Ahead<'a, T>, right: Ahead<'a, T>, there: &'a OrderedSet<T>) -> Self
+        requires ascends { Ascends T.cmp there.now.entries }
+        requires all { there.now.entries ≡ left }
+        ensures { result ≡ record { left = left.entry; right = right.entry; there = there.now.entries } }
     {
         SortedUnion {
-            left: Ahead::new(left),
-            right: Ahead::new(right),
+            left,
+            right,
             last: None,
             there,
         }
+    }
+
+    // The next element of the first set, which is then the last that was given.
+    #[inline]
+    fn take_own(&mut self) -> Option<Hashed<&'a T>>
+        ensures taken { MatchOption result ((own_rest T.eq T.cmp self.old ≡ []) × (drop 1 (own_rest T.eq T.cmp self.old) ≡ [])) (λ h. own_rest T.eq T.cmp self.old ≡ h.key.now ∷ rise_rest T.eq T.cmp self.new) }
+        ensures left { self.new ≡ after_own self.old }
+    {
+        let element = self.left.take()?;
+        self.last = Some(element);
+        Some(element)
     }
 }
 
@@ -73,8 +77,7 @@ impl<'a, T: Ord> Iterator for SortedUnion<'a, T> {
         if let Some(element) = next_before(&mut self.right, &self.left, self.last, self.there) {
             return Some(element.into_key());
         }
-        let element = self.left.take()?;
-        self.last = Some(element);
+        let element = self.take_own()?;
         Some(element.into_key())
     }
 
@@ -103,7 +106,7 @@ fn next_before<'a, T: Ord>(
 ) -> Option<Hashed<&'a T>>
     requires ascends { Ascends T.cmp there.now.entries }
     requires follows { Follows last left.now there.now.entries }
-    ensures steps { MatchOption result ((right.new ≡ behind (is_passed T.eq T.cmp left.now there.now.entries) right.old) × (is_others T.cmp left.now right.new ≡ false)) (λ f. (behind (is_passed T.eq T.cmp left.now there.now.entries) right.old ≡ shown f ∷ right.new) × (comes_first T.cmp left.now (shown f) ≡ true)) }
+    ensures steps { MatchOption result (OwnNext T.eq T.cmp (record { left = left.now; right = right.old; there = there.now.entries }) (record { left = left.now; right = right.new; there = there.now.entries })) (λ f. RiseSteps T.eq T.cmp (record { left = left.now; right = right.old; there = there.now.entries }) (Some f.key) (record { left = left.now; right = right.new; there = there.now.entries })) }
 {
     while let Some(element) = right.first() {
         if !stands_before(element, left) {
@@ -144,15 +147,19 @@ fn stands_before<T: Ord>(element: Hashed<&T>, left: &Ahead<'_, T>) -> bool
     }
 }
 
-// The elements that a walk has left. The first has been taken from it already.
+// The elements that a walk has left: they ascend, and no two have the same hash and are equal. The first has been taken
+// from it already. The union's own invariant does not say so again: a step that is wrong then breaks the clause of
+// `next`, and no invariant.
 #[derive(Drop)]
-struct Ahead<'a, T> {
+pub(crate) struct Ahead<'a, T: Ord> {
     first: Option<Hashed<&'a T>>,
     rest: IterHashed<'a, T>,
 }
 
-impl<'a, T> Model for Ahead<'a, T> {
+impl<'a, T: Ord> Model for Ahead<'a, T> {
     ghost use Rattle.std.specs.Prelude.{◌<◌, ◌^◌, length};
+    ghost use Rattle.starlark_lists.specs.Entries.{IsSingle};
+    ghost use Rattle.starlark_lists.specs.Sorting.{Ascends};
     ghost use Rattle.starlark_sets.specs.Set.{Elements};
     ghost use Rattle.starlark_sorted.specs.Union.{ahead};
 
@@ -160,12 +167,15 @@ impl<'a, T> Model for Ahead<'a, T> {
 
     ghost view = { λ a. ahead a.first a.rest };
 
-    ghost invariant = { λ a. length (ahead a.first a.rest) < 2 ^ 64 };
+    ghost invariant = { λ a. (length (ahead a.first a.rest) < 2 ^ 64) × Ascends T.cmp (ahead a.first a.rest) × IsSingle T.eq (ahead a.first a.rest) };
 }
 
-impl<'a, T> Ahead<'a, T> {
-    fn new(walk: IterHashed<'a, T>) -> Self
-        requires { length walk < 2 ^ 64 }
+impl<'a, T: Ord> Ahead<'a, T> {
+    #[inline]
+    pub(crate) fn new(walk: IterHashed<'a, T>) -> Self
+        requires fits { length walk < 2 ^ 64 }
+        requires ascends { Ascends T.cmp (elements_under walk) }
+        requires single { IsSingle T.eq (elements_under walk) }
         ensures { result ≡ elements_under walk.entry }
     {
         let mut rest = walk;
@@ -175,7 +185,8 @@ impl<'a, T> Ahead<'a, T> {
 
     // The next element, which stays.
     fn first(&self) -> Option<Hashed<&'a T>>
-        ensures { MatchOption result (self.now ≡ []) (λ h. self.now ≡ shown h ∷ drop 1 self.now) }
+        ensures first { MatchOption result (self.now ≡ []) (λ h. self.now ≡ shown h ∷ drop 1 self.now) }
+        ensures ascends { Ascends T.cmp self.now }
     {
         self.first
     }
@@ -189,7 +200,8 @@ impl<'a, T> Ahead<'a, T> {
     }
 
     fn len(&self) -> usize
-        ensures { result ≡ length self.now }
+        ensures number { result ≡ length self.now }
+        ensures single { IsSingle T.eq self.now }
     {
         match self.first {
             None => 0,

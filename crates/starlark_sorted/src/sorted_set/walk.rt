@@ -7,7 +7,7 @@ ghost use Rattle.starlark_sorted.specs.Sorted.{AreOwn, AscendsAlong, AscendsStri
 ghost use Rattle.starlark_sorted.specs.Union.{ShowsRise, rise, rise_rest};
 
 use super::SortedSet;
-use crate::union::SortedUnion;
+use crate::union::{Ahead, SortedUnion};
 use starlark_sets::ordered_set::{IntoIter, Iter};
 use std::hash::Hash;
 
@@ -40,11 +40,18 @@ impl<T: Ord + Hash> SortedSet<T> {
         ensures fits { length (rise_rest T.eq T.cmp result) < 2 ^ 64 }
         ensures runs { ShowsRise T.eq T.cmp }
     {
-        SortedUnion::new(
-            self.inner.iter_hashed(),
-            other.inner.iter_hashed(),
-            &self.inner,
-        )
+        SortedUnion::new(self.ahead(), other.ahead(), &self.inner)
+    }
+
+    // The elements in order, each under its stored hash, with the first taken beforehand.
+    #[inline]
+    fn ahead(&self) -> Ahead<'_, T>
+        ensures elements { result ≡ self.now.entries }
+        ensures ascends { Ascends T.cmp self.now.entries }
+        ensures single { IsSingle T.eq self.now.entries }
+        ensures few { length self.now.entries < 2 ^ 63 }
+    {
+        Ahead::new(self.inner.iter_hashed())
     }
 }
 

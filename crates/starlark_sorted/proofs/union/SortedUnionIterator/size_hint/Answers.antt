@@ -12,11 +12,11 @@ returns-clause-lower g c = λ _.
       arith,
       length-rest eq cmp u,
       ap (λ v. length (rise_rest eq cmp v)) c.self.view_is,
-      length-difference eq g.met.T.Eq.laws s.right s.there.now.entries c.self.invariant.2,
+      length-difference eq g.met.T.Eq.laws s.right s.there.now.entries c.len-right.ensures.single,
       c.saturating_add.ensures,
       c.saturating_sub.ensures,
-      c.len-left.ensures,
-      c.len-right.ensures,
+      c.len-left.ensures.number,
+      c.len-right.ensures.number,
       c.len.ensures,
     )
 
@@ -30,6 +30,6 @@ returns-clause-upper g c =
       ap (λ v. length (rise_rest eq cmp v)) c.self.view_is,
       length-difference-le eq s.right s.there.now.entries,
       c.checked_add.ensures,
-      c.len-left.ensures,
-      c.len-right.ensures,
+      c.len-left.ensures.number,
+      c.len-right.ensures.number,
     )
