@@ -1,5 +1,5 @@
 -- What the clauses of sets and maps say in the callers' words.
-use Rattle.std.proofs.Common.{◌≡◌, ℕ, zero, suc, ◌+◌, ◌<◌, Bool, true, false, List, [], ◌∷◌, ◌++◌, length, get_or, position, Option, Some, None, Result, Ok, Err, OnOk, OnErr, MatchOption, MatchResult, IsOk, is_some, refl, subst, sym, ap, ◌∙◌, arith}
+use Rattle.std.proofs.Common.{◌≡◌, ℕ, zero, suc, ◌<◌, Bool, true, false, List, [], ◌∷◌, ◌++◌, length, get_or, position, Option, Some, None, Result, Ok, Err, OnOk, OnErr, MatchOption, MatchResult, IsOk, is_some, refl, subst, sym, ap, ◌∙◌, arith}
 use Rattle.std.specs.Prelude.{not, IfSome}
 use Rattle.std.specs.Cmp.{IsEquivalence}
 use Rattle.std.specs.Option.{option_map, option_map_or, IsSome}

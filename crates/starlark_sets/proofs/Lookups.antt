@@ -1,5 +1,5 @@
 -- The stored keys that are found, how long a list is after a call, and what is found once an entry was taken out of its place or entries only changed places.
-use Rattle.std.proofs.Common.{◌≡◌, ℕ, zero, suc, ◌+◌, Bool, Bor, true, false, List, [], ◌∷◌, length, get_or, remove, Option, Some, None, Result, Ok, Err, OnOk, OnErr, IsPermutation, is_ok, is_some, slice_get, refl, subst, sym, ap, ◌∙◌}
+use Rattle.std.proofs.Common.{◌≡◌, ℕ, zero, suc, ◌+◌, Bool, Bor, true, List, [], ◌∷◌, length, get_or, remove, Option, Some, None, Result, Ok, Err, OnOk, OnErr, IsPermutation, is_ok, is_some, slice_get, refl, subst, sym, ap, ◌∙◌}
 use Rattle.std.specs.Prelude.{IfSome, if◌then◌else◌, reverse}
 use Rattle.std.specs.Cmp.{IsEquivalence}
 use Rattle.std.specs.Option.{IfNone, option_copied, option_map}
