@@ -243,7 +243,7 @@ def refusable(path):
         call = re.match(r"(pub )?(?:final )?(?:const )?(?:unsafe )?fn (\w+)", text)
         if call and (call.group(1) or indent(line) == 4 and of_trait):
             head_of_call = text
-            while not head_of_call.endswith(("{", ";")) and not re.match(r"requires|ensures|where|//|{", lines[at + 1].strip()):
+            while not head_of_call.endswith(("{", "}", ";")) and not re.match(r"requires|ensures|where|//|{", lines[at + 1].strip()):
                 at += 1
                 head_of_call += " " + lines[at].strip()
             if re.match(r"\s*Result<", head_of_call.split("->")[-1]) and "->" in head_of_call:

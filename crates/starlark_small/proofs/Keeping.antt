@@ -1,21 +1,16 @@
 -- What an index holds once an entry goes last, is written or is taken out.
-use Rattle.std.proofs.Common.{◌≡◌, ℕ, zero, suc, ◌+◌, ◌<◌, ◌≤◌, ◌^◌, Bool, true, false, cond, List, [], ◌∷◌, ◌++◌, length, map, take, Option, Some, None, refl, sym, ap, subst, ◌∙◌, arith, IsPermutation, nat_eq, eq-eqb}
+use Rattle.std.proofs.Common.{◌≡◌, ℕ, zero, suc, ◌+◌, ◌<◌, ◌≤◌, ◌^◌, true, false, cond, List, [], ◌∷◌, ◌++◌, length, map, take, Option, Some, None, refl, sym, ap, subst, ◌∙◌, arith, IsPermutation, nat_eq, eq-eqb}
 use Rattle.std.specs.Prelude.{remove, filter, slice_get}
-use Rattle.std.specs.Borrow.{Bor}
-use Rattle.std.specs.Fn.{Mut}
 use Rattle.std.specs.List.{Contains, All}
-use Rattle.std.proofs.lemmas.Bool.{false≢true, eqb-true}
 use Rattle.std.proofs.lemmas.Option.{get_or_from_slice_get, slice_get_within, none-some, same_Some}
 use Rattle.std.proofs.lemmas.List.Elements.{All-push, All-tail}
 use Rattle.std.proofs.lemmas.List.Sorted.{IsPermutation-sym, IsPermutation-trans, IsPermutation-cons, IsPermutation-remove, IsPermutation-to_front, All-permutation, length_permutation}
 use Rattle.starlark_hash.specs.HashValue.{promoted}
 use Rattle.starlark_lists.specs.Entries.{Entry, set_value_at}
-use Rattle.starlark_lists.specs.Search.{Searches}
 use Rattle.starlark_lists.proofs.EntryLemmas.{length-set_value_at, set_value_at-key}
-use Rattle.starlark_lists.proofs.SearchLemmas.{IsTest, test-accepted, test-refused}
-use Rattle.starlark_table.specs.Table.{Table, members, member_at, table_len, items_under}
+use Rattle.starlark_table.specs.Table.{Table, members, table_len, items_under}
 use Rattle.starlark_table.proofs.PairBags.{IsPermutation-cancel}
-use Rattle.starlark_table.proofs.TableLemmas.{items-items_under, member_at-items_under}
+use Rattle.starlark_table.proofs.TableLemmas.{items-items_under}
 use Rattle.starlark_small.specs.Index.{positions, positions_from, IsIndexOf, IsIndexed}
 use Rattle.starlark_small.proofs.Positions.{position-at}
 
@@ -124,16 +119,3 @@ pub item_there : (hash i : ℕ) (table : Table ℕ) → Contains (members table)
 item_there hash i table there =
     in_map (items_under hash table) i (subst (λ l. Contains l i) (sym (items-items_under hash table))
     (map_in (filter (λ m. nat_eq m.0 hash) (members table)) (hash, i) (kept hash i (members table) there)))
-
-module _ {F : Type 0} (g : Mut F (Bor ℕ × Unit {0}) Bool) (f : F) (place : ℕ) (test : IsTest g (λ x. nat_eq x place) f) (hash : ℕ) (table : Table ℕ) where
-  -- the search for a place names its slot
-  pub named : (slot : ℕ) (last : F) → Searches g (items_under hash table) f (Some slot) last → member_at table slot ≡ Some (hash, place)
-  named slot last search =
-      let it = test-accepted g (λ x. nat_eq x place) f test (items_under hash table) (Some slot) last slot search refl in
-      member_at-items_under hash table (slot, it.0) it.1 ∙ ap (λ i. Some (hash, i)) (eqb-true it.0 place it.2)
-
-  -- and one that is there is found
-  pub not_missed : (answer : Option ℕ) (last : F) → answer ≡ None → Contains (members table) (hash, place) → Searches g (items_under hash table) f answer last → ⊥
-  not_missed answer last none there search =
-      let s = item_there hash place table there in
-      false≢true (sym (test-refused g (λ x. nat_eq x place) f test (items_under hash table) answer last search none s.0 s.1) ∙ eq-eqb s.0.1 place s.2)

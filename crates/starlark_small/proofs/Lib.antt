@@ -4,6 +4,7 @@ mod Unhashed
 pub mod Keeping
 pub mod Moving
 pub mod Renaming
+pub mod Slots
 pub mod Emptying
 pub mod Rooms
 pub mod Inserted

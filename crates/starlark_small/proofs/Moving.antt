@@ -56,7 +56,7 @@ module _ {K V : Type 0} where
       ∙ ap (moved_below es i) {x = suc i} {y = i + 1} (omega arith))
       (without_place es i e old mid at index taken)
 
-  unmoved : (es : List (Entry K V)) (j : ℕ) (e : Entry K V) → slice_get es j ≡ Some e
+  pub unmoved : (es : List (Entry K V)) (j : ℕ) (e : Entry K V) → slice_get es j ≡ Some e
       → positions_from j (drop j es) ≡ (promoted e.0.hash.0, j) ∷ positions_from (j + 1) (drop (j + 1) es)
   unmoved es j e at =
       ap (positions_from j) (drop-more j es e at)

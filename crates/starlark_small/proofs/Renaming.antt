@@ -15,19 +15,26 @@ use Rattle.starlark_table.specs.Walk.{CanReplace, ReplacesEach}
 use Rattle.starlark_vec2.specs.Moves.{Moves}
 use Rattle.starlark_vec2.proofs.Positions.{IsPermutation-from_order}
 use Rattle.starlark_small.specs.Index.{positions, positions_from, IsIndexOf}
+use Rattle.starlark_small.specs.Slots.{renamed, renaming}
 use Rattle.starlark_small.proofs.Keeping.{positions-push}
+
+-- the members once each place has another name
+pub filled-renamed : (name : ℕ → ℕ) (slots : List (Option (ℕ × ℕ))) → filled (renamed name slots) ≡ map (renaming name) (filled slots)
+filled-renamed name [] = refl
+filled-renamed name (None ∷ slots) = filled-renamed name slots
+filled-renamed name (Some m ∷ slots) = ap (λ l. renaming name m ∷ l) (filled-renamed name slots)
 
 module _ {F : Type 0} (g : Mut F (Bor ℕ × Unit {0}) ℕ) where
   -- a pass whose calls answer by a function puts what it gives for the place of each member
   pub replaced-each : (name : ℕ → ℕ) (f end : F) (old new : List (Option (ℕ × ℕ))) → ((x : Bor ℕ) (y : ℕ) (next : F) → Called g f (x, tt) y next → (y ≡ name x.now) × (next ≡ f))
-      → ReplacesEach g f old new end → filled new ≡ map (λ m. (m.0, name m.1)) (filled old)
-  replaced-each name f end [] new says (is, same) = ap filled is
-  replaced-each name f end (None ∷ old) new says (rest, is, others) = ap filled is ∙ replaced-each name f end old rest says others
+      → ReplacesEach g f old new end → new ≡ renamed name old
+  replaced-each name f end [] new says (is, same) = is
+  replaced-each name f end (None ∷ old) new says (rest, is, others) = is ∙ ap (λ l. None ∷ l) (replaced-each name f end old rest says others)
   replaced-each name f end (Some (h, x) ∷ old) new says (y, next, rest, called, is, others) =
       let told = says called.shown y next called.called in
-      ap filled is
-      ∙ ap (λ z. (h, z) ∷ filled rest) (told.0 ∙ ap name called.shows)
-      ∙ ap (λ l. (h, name x) ∷ l) (replaced-each name f end old rest says (subst (λ k. ReplacesEach g k old rest end) told.1 others))
+      is
+      ∙ ap (λ z. Some (h, z) ∷ rest) (told.0 ∙ ap name called.shows)
+      ∙ ap (λ l. Some (h, name x) ∷ l) (replaced-each name f end old rest says (subst (λ k. ReplacesEach g k old rest end) told.1 others))
 
   module _ (f : F) (stays : (x : Bor ℕ) (y : ℕ) (next : F) → Called g f (x, tt) y next → next ≡ f) where
     stays_all : (before : List ℕ) (later : F) → FoldsTo (λ k x next. (y : ℕ) × CalledAt g k x y next) f before later → f ≡ later
@@ -47,7 +54,7 @@ module _ {F : Type 0} (g : Mut F (Bor ℕ × Unit {0}) ℕ) where
     }
 
 module _ {K V : Type 0} where
-  positions-below : (n : ℕ) (es : List (Entry K V)) → All (λ m. m.1 < n + length es) (positions_from n es)
+  pub positions-below : (n : ℕ) (es : List (Entry K V)) → All (λ m. m.1 < n + length es) (positions_from n es)
   positions-below n [] k d lt = absurd (omega arith)
   positions-below n (e ∷ es) zero d lt = omega arith
   positions-below n (e ∷ es) (suc k) d lt = omega (arith, positions-below (n + 1) es k d (omega arith))
@@ -78,18 +85,18 @@ module _ {K V : Type 0} where
         λ j. (hash_of (here j), n) ∷ rest j
 
     -- and the positions of another list, renamed, are what stands at the places that are named
-    renamed : (name : ℕ → ℕ) (n : ℕ) (es : List (Entry K V)) (to : List ℕ) → ((i : ℕ) → i < length es → name (n + i) ≡ get_or to i 0) → map Some es ≡ map look to
+    named_anew : (name : ℕ → ℕ) (n : ℕ) (es : List (Entry K V)) (to : List ℕ) → ((i : ℕ) → i < length es → name (n + i) ≡ get_or to i 0) → map Some es ≡ map look to
         → map (λ m. (m.0, name m.1)) (positions_from n es) ≡ map placed to
     unfolding placed hash_of
-    renamed name n [] [] named is = refl
-    renamed name n [] (k ∷ to) named is = cc
-    renamed name n (e ∷ es) [] named is = cc
-    renamed name n (e ∷ es) (k ∷ to) named is =
+    named_anew name n [] [] named is = refl
+    named_anew name n [] (k ∷ to) named is = cc
+    named_anew name n (e ∷ es) [] named is = cc
+    named_anew name n (e ∷ es) (k ∷ to) named is =
         let zero_last : n ≡ n + 0 = omega arith in
         let first : name n ≡ k = ap name zero_last ∙ named 0 (omega arith) in
         let here : Some e ≡ look k = cc in
         let others : map Some es ≡ map look to = cc in
-        let rest = renamed name (n + 1) es to (λ i lt. ap name {x = n + 1 + i} {y = n + suc i} (omega arith) ∙ named (suc i) (omega arith)) others in
+        let rest = named_anew name (n + 1) es to (λ i lt. ap name {x = n + 1 + i} {y = n + suc i} (omega arith) ∙ named (suc i) (omega arith)) others in
         λ j. (hash_of (here j), first j) ∷ rest j
 
   pub length-moved : (before : List (Entry K V)) (to : List ℕ) (after : List (Entry K V)) → Moves before to after → (length to ≡ length before) × (length after ≡ length before)
@@ -105,7 +112,7 @@ module _ {K V : Type 0} where
       let name : ℕ × ℕ → ℕ × ℕ = λ m. (m.0, slice_index to m.1) in
       let counts = length-moved before to after moves in
       let same : positions after ≡ map (placed (slice_get after)) (range_with_len 0 (length after)) = looked (slice_get after) 0 after (λ i lt. ap (slice_get after) {x = 0 + i} {y = i} (omega arith)) in
-      let went : map name (positions before) ≡ map (placed (slice_get after)) to = renamed (slice_get after) (slice_index to) 0 before to (λ i lt. ap (slice_index to) {x = 0 + i} {y = i} (omega arith)) moves.items in
+      let went : map name (positions before) ≡ map (placed (slice_get after)) to = named_anew (slice_get after) (slice_index to) 0 before to (λ i lt. ap (slice_index to) {x = 0 + i} {y = i} (omega arith)) moves.items in
       let bags : IsPermutation (map (placed (slice_get after)) (range_with_len 0 (length after))) (map (placed (slice_get after)) to) = IsPermutation-map (placed (slice_get after)) (range_with_len 0 (length after)) to moves.once in
       record {
         bag = IsPermutation-trans (positions after) (map name (positions before)) (members new)

@@ -20,10 +20,6 @@ abbrev pub index_room : ℕ → Option (Table ℕ) → ℕ
 index_room len None = unindexed - len
 index_room len (Some table) = table.room
 
--- the hashes under which a table has members
-abbrev pub hashes_in : Table ℕ → List ℕ
-hashes_in table = map (λ m. m.0) (members table)
-
 module _ {K V : Type 0} where
   -- each place, counted from n, under the promoted hash of its entry
   abbrev pub positions_from : ℕ → List (Entry K V) → List (ℕ × ℕ)

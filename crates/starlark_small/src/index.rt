@@ -3,7 +3,7 @@ mod changes;
 mod growth;
 mod place;
 mod place_table;
-mod places;
+mod placed;
 mod search;
 
 pub use place_table::PlaceTable;

@@ -1,14 +1,12 @@
 -- What a change of the slots leaves of a table: its members, its room, and that it is sound.
-use Rattle.std.proofs.Common.{◌≡◌, ℕ, ◌+◌, ◌-◌, ◌*◌, ◌^◌, ◌<◌, ◌≤◌, List, ◌∷◌, ◌++◌, length, Option, Some, None, replicate, arith, sym, ◌∙◌, ap, subst, append-nil, IsPermutation}
-use Rattle.std.proofs.lemmas.List.{length-replicate}
+use Rattle.std.proofs.Common.{◌≡◌, ℕ, ◌+◌, ◌-◌, ◌<◌, ◌≤◌, List, [], ◌∷◌, ◌++◌, length, Option, Some, None, arith, sym, ◌∙◌, ap, subst, subst₂, length-append, append-nil, IsPermutation}
 use Rattle.std.proofs.lemmas.List.Sorted.{length_permutation}
 use Rattle.std.proofs.Math.ListN.{set, length-set}
-use Rattle.starlark_table.specs.Table.{Table, filled, members, table_len}
-use Rattle.starlark_table.specs.Growth.{most_for}
+use Rattle.starlark_table.specs.Table.{Table, filled, members, table_capacity, table_len}
 use Rattle.starlark_table.specs.Layout.{at, InPlace, IsTagged, IsSound}
 use Rattle.starlark_table.specs.Growth.{limit}
 use Rattle.starlark_table.proofs.Bag.{filled-set_some}
-use Rattle.starlark_table.proofs.Load.{filled-replicate, sound-empty_slot}
+use Rattle.starlark_table.proofs.Load.{sound-empty_slot}
 
 module _ {T : Type 0} where
   -- so many members laid out in some slots
@@ -102,48 +100,47 @@ module _ {T : Type 0} (slots : List (Option (ℕ × T))) (tags : List ℕ) (len 
         room = rw sized (omega arith);
       }
 
-  -- ---- the members in more slots
-  module _ (needed count : ℕ) (more : table_len t + t.room < needed) (in_all : needed ≤ limit count) (old mid : List (Option (ℕ × T))) (is : old ≡ slots) (empty : mid ≡ replicate count None) where
-    fits : len ≤ limit count
-    fits = let full = whole in let load = before.load in omega arith
+  -- ---- the members of another table
+  pub record TakenIn (others : List (ℕ × T)) (more : ℕ) (new : List (Option (ℕ × T))) (tags' : List ℕ) : Type 0 where
+    pub sound : IsSound new tags' (len + more)
+    pub added : IsPermutation (others ++ members t) (filled new)
+    pub room : length (filled new) + (limit (length new) - (len + more)) ≡ table_len t + t.room
 
-    pub grows : length (filled mid) + length (filled old) ≤ limit (length mid)
-    grows =
-        let none = ap (λ l. length (filled l)) empty ∙ ap length (filled-replicate count) in
-        let full = ap (λ l. length (filled l)) is ∙ sym before.counted in
-        let places = ap length empty ∙ length-replicate count None in
-        let fit = fits in
-        rw (none, full, places) (omega arith)
+  pub taken_in : (old : List (Option (ℕ × T))) (more : ℕ) (other : Table T) (new : List (Option (ℕ × T))) (tags' : List ℕ) → more ≡ length (filled old) → laid old more ≡ other
+      → table_len other ≤ t.room → length new ≡ length slots → InPlace (length new) new → IsTagged tags' new → IsPermutation (filled old ++ filled slots) (filled new)
+      → TakenIn (members other) more new tags'
+  taken_in old more other new tags' many seen fits sized in_place tagged all =
+      let in_all = length_permutation (filled old ++ filled slots) (filled new) all in
+      let parts = length-append (filled old) (filled slots) in
+      let others = ap table_len seen in
+      let full = whole in
+      let here = before.counted in
+      let count = counted in
+      record {
+        sound = record {
+          counted = omega arith;
+          load = rw sized (omega arith);
+          doubled = rw sized before.doubled;
+          in_place = in_place;
+          tagged = tagged;
+        };
+        added = subst₂ (λ xs ys. IsPermutation (xs ++ ys) (filled new)) (ap members seen) (ap members view) all;
+        room = rw sized (omega arith);
+      }
 
-    pub record Grown (new : List (Option (ℕ × T))) (tags' : List ℕ) : Type 0 where
-      pub sound : IsSound new tags' len
-      pub bag : IsPermutation (members t) (filled new)
-      pub enough : needed ≤ table_len t + (limit (length new) - len)
-      pub most : limit count ≤ most_for needed → length (filled new) + (limit (length new) - len) ≤ most_for needed
-      pub room : t.room ≤ limit (length new) - len
+-- ---- the members of a table, all put into an empty one
+module _ {T : Type 0} where
+  pub record Regrown (needed : ℕ) (old new : Table T) : Type 0 where
+    pub enough : needed ≤ table_len old + new.room
+    pub room : old.room ≤ new.room
+    pub bag : IsPermutation (members old) (members new)
 
-    pub grown : (new : List (Option (ℕ × T))) (tags' : List ℕ) → 0 < count → (k : ℕ) × (count ≡ 8 * 2 ^ k) → length new ≡ length mid → InPlace (length new) new → IsTagged tags' new
-        → IsPermutation (filled old ++ filled mid) (filled new) → Grown new tags'
-    grown new tags' some doubled same in_place tagged all =
-        let sized : length new ≡ count = same ∙ ap length empty ∙ length-replicate count None in
-        let bag : IsPermutation (members t) (filled new) =
-        subst (λ l. IsPermutation l (filled new))
-        (ap (λ l. filled l ++ filled mid) is ∙ ap (λ l. filled slots ++ l) (ap filled empty ∙ filled-replicate count) ∙ append-nil (filled slots) ∙ ap members view) all in
-        let full = whole in
-        let load = before.load in
-        let fit = fits in
-        let number = counted in
-        let same_number = length_permutation (members t) (filled new) bag in
-        record {
-          sound = record {
-            counted = omega arith;
-            load = rw sized fit;
-            doubled = λ places. (doubled.0, sized ∙ doubled.1);
-            in_place = in_place;
-            tagged = tagged;
-          };
-          bag = bag;
-          enough = rw sized (omega arith);
-          most = λ less. rw sized (omega (arith, less));
-          room = rw sized (omega arith);
-        }
+  pub regrown : (needed : ℕ) (old empty taken mid new : Table T) → table_len old + old.room < needed → members empty ≡ [] → needed ≤ empty.room
+      → taken ≡ old → mid ≡ empty → IsPermutation (members taken ++ members mid) (members new) → table_capacity new ≡ table_capacity mid → Regrown needed old new
+  regrown needed old empty taken mid new more none fits is_old is_empty added as_much =
+      let bag : IsPermutation (members old) (members new) =
+      subst (λ l. IsPermutation l (members new)) (ap (λ t. members t ++ members mid) is_old ∙ ap (λ l. members old ++ l) (ap members is_empty ∙ none) ∙ append-nil (members old)) added in
+      let as_many = length_permutation (members old) (members new) bag in
+      let before = ap table_capacity is_empty in
+      let zero_long = ap length none in
+      record { enough = omega arith; room = omega arith; bag = bag }

@@ -83,7 +83,7 @@ module _ {T : Type 0} where
   pub in_place-replicate : (m n : ℕ) → InPlace {T = T} m (replicate n None)
   in_place-replicate m n = record { reached = λ p q h x e q_in nearer. absurd (cc (at-replicate n p)) }
 
-  pub tagged-replicate : (items : List (Option (ℕ × T))) (tags : List ℕ) (count : ℕ) → 0 < count → items ≡ replicate count None
+  tagged-replicate : (items : List (Option (ℕ × T))) (tags : List ℕ) (count : ℕ) → 0 < count → items ≡ replicate count None
       → tags ≡ tags_of_empty count → IsTagged tags items
   tagged-replicate items tags count some e f =
       let places : length items ≡ count = ap length e ∙ length-replicate count None in
@@ -102,7 +102,7 @@ module _ {T : Type 0} where
             ∙ get_or-replicate window (p - count) padding 0 (omega arith);
       }
 
-  pub in_place-all_empty : (items : List (Option (ℕ × T))) (count : ℕ) → items ≡ replicate count None → InPlace (length items) items
+  in_place-all_empty : (items : List (Option (ℕ × T))) (count : ℕ) → items ≡ replicate count None → InPlace (length items) items
   in_place-all_empty items count e = subst (λ l. InPlace (length l) l) (sym e) (in_place-replicate (length (replicate count None)) count)
 
   pub sound-all_empty : (items : List (Option (ℕ × T))) (tags : List ℕ) (count : ℕ) → items ≡ replicate count None

@@ -1,4 +1,5 @@
 pub mod Table
+pub mod Follow
 pub mod Walk
 pub mod Lends
 pub mod Growth

@@ -1,23 +1,33 @@
 //! Removal from the slots: the members behind an emptied place move back, so that none is lost to its search.
-ghost use Rattle.std.specs.Prelude.{◌≡◌, ◌≢◌, ℕ, ◌<◌, ◌≤◌, None, ◌∷◌, length, IfSome, IfNone, IsPermutation};
+ghost use Rattle.std.specs.Prelude.{◌≡◌, ◌≢◌, ℕ, ◌<◌, ◌≤◌, None, ◌∷◌, length, IfSome, IfNone, IsPermutation, slice_set};
 ghost use Rattle.starlark_table.specs.Table.{filled};
 ghost use Rattle.starlark_table.specs.Layout.{at, InPlace, HasGap, IsTagged};
 ghost use Rattle.starlark_table.specs.Growth.{limit};
 
+use crate::follow::Follows;
 use crate::kept::{Kept, KeptHash};
 use crate::places::{distance, home_among, next_place};
 use crate::probe::{Slots, is_full};
 use crate::tags::EMPTY;
 
-// Moves members back, each with its tag, so that no way from a home to its member crosses the empty place `start`.
+// Moves members back, each with its tag, so that no way from a home to its member crosses the empty place `start`. What
+// follows is told of each.
 #[inline]
-pub(crate) fn close_gap<T, H: KeptHash>(slots: &mut Slots<T, H>, tags: &mut [u8], start: usize)
+pub(crate) fn close_gap<T, H: KeptHash, F: Follows<T>>(
+    slots: &mut Slots<T, H>,
+    tags: &mut [u8],
+    start: usize,
+    follower: &mut F,
+)
     requires start { start < length slots.old }
     requires empty { at slots.old start ≡ None }
     requires gap { HasGap (length slots.old) slots.old start }
     requires tagged { IsTagged tags.old slots.old }
     requires free { (q : ℕ) × (q < length slots.old) × (q ≢ start) × (at slots.old q ≡ None) }
+    requires known { F.knows follower.old slots.old }
     ensures in_place { InPlace (length slots.new) slots.new }
+    ensures known { F.knows follower.new slots.new }
+    ensures size { F.size follower.new ≡ F.size follower.old }
     ensures sized { length slots.new ≡ length slots.old }
     ensures bag { IsPermutation (filled slots.old) (filled slots.new) }
     ensures tagged { IsTagged tags.new slots.new }
@@ -29,6 +39,7 @@ pub(crate) fn close_gap<T, H: KeptHash>(slots: &mut Slots<T, H>, tags: &mut [u8]
         let home = home_among(count, &slots.get(next).0);
         if distance(count, home, hole) < distance(count, home, next) {
             let member = slots.take(next);
+            follower.moved(&member.1, hole);
             slots.write(hole, member);
             tags.swap(hole, next);
             hole = next;
@@ -39,15 +50,19 @@ pub(crate) fn close_gap<T, H: KeptHash>(slots: &mut Slots<T, H>, tags: &mut [u8]
 
 // Takes a member out, and puts the others back in place.
 #[inline]
-pub(crate) fn take_out<T, H: KeptHash>(
+pub(crate) fn take_out<T, H: KeptHash, F: Follows<T>>(
     slots: &mut Slots<T, H>,
     tags: &mut [u8],
     slot: usize,
+    follower: &mut F,
 ) -> Option<(Kept<H>, T)>
     requires load { length (filled slots.old) ≤ limit (length slots.old) }
     requires in_place { InPlace (length slots.old) slots.old }
     requires tagged { IsTagged tags.old slots.old }
+    requires known { F.knows follower.old (slice_set slots.old slot None) }
     ensures sized { length slots.new ≡ length slots.old }
+    ensures known { F.knows follower.new slots.new }
+    ensures size { F.size follower.new ≡ F.size follower.old }
     ensures found { result ≡ at slots.old slot }
     ensures rest { IfSome result (λ m. IsPermutation (filled slots.old) (m ∷ filled slots.new)) }
     ensures none { IfNone result (slots.new ≡ slots.old) }
@@ -59,6 +74,6 @@ pub(crate) fn take_out<T, H: KeptHash>(
     }
     let member = slots.take(slot);
     tags[slot] = EMPTY;
-    close_gap(slots, tags, slot);
+    close_gap(slots, tags, slot, follower);
     Some(member)
 }

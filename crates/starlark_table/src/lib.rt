@@ -1,13 +1,13 @@
 //! A hash table that is given ready 64-bit hashes, and asks no hasher of its items.
 #![tactic(auto)]
 
+mod follow;
 mod gap;
 mod growth;
 pub mod iter;
 mod iter_mut;
 pub mod kept;
 mod loan;
-mod near;
 mod pairs_mut;
 mod places;
 mod probe;
@@ -15,6 +15,7 @@ pub mod ready_table;
 mod tags;
 mod walks;
 
+pub use follow::Follows;
 pub use iter::{IntoIter, Iter};
 pub use iter_mut::IterMut;
 pub use kept::KeptHash;

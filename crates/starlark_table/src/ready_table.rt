@@ -1,5 +1,5 @@
 //! A bag of items under ready hashes. It alone sees how the slots are laid out.
-ghost use Rattle.std.specs.Prelude.{◌≡◌, ℕ, ◌+◌, ◌<◌, ◌≤◌, Some, [], ◌∷◌, List, IsOk, IfOk, OnOk, OnErr, IfErr, IfSome, IfNone, IsSome, IsPermutation, Option};
+ghost use Rattle.std.specs.Prelude.{◌≡◌, ℕ, ◌+◌, ◌*◌, ◌<◌, ◌≤◌, Some, None, [], ◌∷◌, ◌++◌, List, length, slice_set, IsOk, IfOk, OnOk, OnErr, IfErr, IfSome, IfNone, IsSome, IsPermutation, Option};
 ghost use Rattle.std.specs.Option.{option_and_then, option_copied, option_copied_mut, option_map};
 ghost use Rattle.std.specs.Borrow.{sem};
 ghost use Rattle.std.specs.List.Retain.{RetainsInTurn};
@@ -11,15 +11,15 @@ ghost use Rattle.starlark_table.specs.Walk.{CanReplace, ReplacesEach, CanRetain,
 mod lends;
 mod pairs;
 
+use crate::follow::Follows;
 use crate::gap::take_out;
 use crate::growth::{clone_members, empty_places, limit, move_all, places_for};
 use crate::iter::{IntoIter, Iter};
 use crate::kept::{Kept, KeptHash};
-use crate::near::find_slot_near;
 use crate::places::mask_of;
 use crate::probe::{Slots, find_slot, item_at, put};
 use crate::tags::{WINDOW, tags_beside, untag};
-use crate::walks::{drop_all, empty_all, replace_items, retain_items};
+use crate::walks::{drop_all, empty_all, next_full, replace_items, retain_items};
 use starlark_columns::{Bytes, Column};
 use starlark_hash::NoRoom;
 use std::alloc::{AllocError, Global};
@@ -97,6 +97,7 @@ impl<T, H: KeptHash> ReadyTable<T, H> {
         ensures empty { IfOk result (λ t. members t ≡ []) }
         ensures room { IfOk result (λ t. capacity ≤ t.room) }
         ensures most { IfOk result (λ t. t.room ≤ most_for capacity) }
+        ensures places { IfOk result (λ t. length t.slots ≤ 2 * most_for capacity) }
         ensures none_for_none { capacity ≡ 0 → IsOk result }
     {
         if capacity == 0 {
@@ -119,6 +120,14 @@ impl<T, H: KeptHash> ReadyTable<T, H> {
         ensures { result ≡ table_len self.now }
     {
         self.len
+    }
+
+    /// How many slots there are, with members and without.
+    #[inline]
+    pub fn places(&self) -> usize
+        ensures { result ≡ length self.now.slots }
+    {
+        self.slots.places()
     }
 
     /// How many insertions surely need no memory.
@@ -148,23 +157,6 @@ impl<T, H: KeptHash> ReadyTable<T, H> {
         Some(slot)
     }
 
-    /// The slot of such an item, if it stands near the place where its search begins. The code looks at 32 slots at
-    /// most, whatever the hashes; no clause says how many. An answer is one that `find` may give; `None` says nothing,
-    /// since an item may stand farther on.
-    #[inline]
-    pub fn find_near<F: FnMut(&T) -> bool>(&self, hash: H, eq: F) -> Option<usize>
-        requires { CanSearch F.FnMut (items_under (H.number hash) self.now) eq }
-        ensures { IfSome result (λ slot. (last : F) × Searches F.FnMut (items_under (H.number hash) self.now) eq (Some slot) last) }
-    {
-        find_slot_near(
-            &self.slots,
-            self.tags.as_slice(tags_beside(&self.slots)),
-            mask_of(&self.slots),
-            Kept::of(hash),
-            eq,
-        )
-    }
-
     /// The item of such a slot, for which `eq` is asked just as by `find`.
     #[inline(always)]
     pub fn find_item<F: FnMut(&T) -> bool>(&self, hash: H, eq: F) -> Option<&T>
@@ -179,6 +171,20 @@ impl<T, H: KeptHash> ReadyTable<T, H> {
             eq,
         )?;
         Some(item)
+    }
+
+    /// The first slot from one on that has a member, if there is one.
+    #[inline]
+    pub fn next_full(&self, from: usize) -> Option<usize>
+        ensures full { IfSome result (λ slot. from ≤ slot × IsSome (member_at self.now slot)) }
+        ensures passed { IfSome result (λ slot. (p : ℕ) → from ≤ p → p < slot → member_at self.now p ≡ None) }
+        ensures none { IfNone result ((p : ℕ) → from ≤ p → member_at self.now p ≡ None) }
+    {
+        next_full(
+            &self.slots,
+            self.tags.as_slice(tags_beside(&self.slots)),
+            from,
+        )
     }
 
     /// The item in a slot, where it has one.
@@ -236,6 +242,9 @@ impl<T, H: KeptHash> ReadyTable<T, H> {
     #[inline]
     pub fn insert_reserved(&mut self, hash: H, item: T) -> usize
         requires { 0 < self.old.room }
+        ensures empty { member_at self.old result ≡ None }
+        ensures within { result < length self.old.slots }
+        ensures slots { self.new.slots ≡ slice_set self.old.slots result (Some (H.number hash, item)) }
         ensures named { member_at self.new result ≡ Some (H.number hash, item) }
         ensures added { IsPermutation ((H.number hash, item) ∷ members self.old) (members self.new) }
         ensures room { table_capacity self.new ≡ table_capacity self.old }
@@ -283,19 +292,24 @@ impl<T, H: KeptHash> ReadyTable<T, H> {
         ensures bag { IsPermutation (members self.old) (members self.new) }
         ensures unchanged { OnErr result (self.new ≡ self.old) }
     {
-        let Some(count) = places_for(needed) else {
-            return Err(AllocError);
-        };
-        let (slots, tags) = empty_places(self.tags.allocator(), count)?;
-        let old = mem::replace(&mut self.slots, slots);
-        let old_tags = mem::replace(&mut self.tags, tags);
-        move_all(
-            old,
-            old_tags,
-            &mut self.slots,
-            self.tags.as_mut_slice(count + WINDOW),
-        );
+        let larger = ReadyTable::keeping(self.tags.allocator(), needed)?;
+        let old = mem::replace(self, larger);
+        self.take_members(old);
         Ok(())
+    }
+
+    /// Takes in the members of another table, for which there is room, and some to spare where it has none.
+    pub fn take_members(&mut self, other: ReadyTable<T, H>)
+        requires room { table_len other ≤ self.old.room }
+        requires some { 0 < self.old.room }
+        ensures added { IsPermutation (members other ++ members self.old) (members self.new) }
+        ensures room { table_capacity self.new ≡ table_capacity self.old }
+        ensures places { length self.new.slots ≡ length self.old.slots }
+    {
+        let count = tags_beside(&self.slots);
+        let ReadyTable { slots, tags, len } = other;
+        move_all(slots, tags, &mut self.slots, self.tags.as_mut_slice(count));
+        self.len += len;
     }
 
     /// Takes the member of a slot out, with its hash. All others stay, though not in their slots, so a search still
@@ -307,8 +321,28 @@ impl<T, H: KeptHash> ReadyTable<T, H> {
         ensures none { IfNone result (self.new ≡ self.old) }
         ensures room { table_capacity self.new ≡ table_capacity self.old }
     {
+        self.remove_followed(slot, &mut ())
+    }
+
+    /// The same, and tells `follower` of each member that moves.
+    #[inline]
+    pub fn remove_followed<F: Follows<T>>(
+        &mut self,
+        slot: usize,
+        follower: &mut F,
+    ) -> Option<(u64, T)>
+        requires { F.knows follower.old (slice_set self.old.slots slot None) }
+        ensures known { F.knows follower.new self.new.slots }
+        ensures size { F.size follower.new ≡ F.size follower.old }
+        ensures places { length self.new.slots ≡ length self.old.slots }
+        ensures found { result ≡ member_at self.old slot }
+        ensures rest { IfSome result (λ m. IsPermutation (members self.old) (m ∷ members self.new)) }
+        ensures none { IfNone result (self.new ≡ self.old) }
+        ensures room { table_capacity self.new ≡ table_capacity self.old }
+    {
         let count = tags_beside(&self.slots);
-        let Some(member) = take_out(&mut self.slots, self.tags.as_mut_slice(count), slot) else {
+        let tags = self.tags.as_mut_slice(count);
+        let Some(member) = take_out(&mut self.slots, tags, slot, follower) else {
             return None;
         };
         self.len -= 1;
@@ -348,6 +382,7 @@ impl<T, H: KeptHash> ReadyTable<T, H> {
         T: Drop,
         ensures empty { members self.new ≡ [] }
         ensures room { self.new.room ≡ table_capacity self.old }
+        ensures places { length self.new.slots ≡ length self.old.slots }
     {
         if self.len == 0 {
             return;

@@ -1,5 +1,5 @@
 //! Walks over all slots, from the first to the last.
-ghost use Rattle.std.specs.Prelude.{◌≡◌, ℕ, ◌<◌, ◌≤◌, ◌⊎◌, None, List, length, IfSome, IsSome, IsPermutation, drop};
+ghost use Rattle.std.specs.Prelude.{◌≡◌, ℕ, ◌<◌, ◌≤◌, ◌⊎◌, None, List, length, IfNone, IfSome, IsSome, IsPermutation, drop};
 ghost use Rattle.std.specs.List.Retain.{RetainsInTurn};
 ghost use Rattle.starlark_table.specs.Table.{filled, items_in};
 ghost use Rattle.starlark_table.specs.Walk.{CanReplace, ReplacesEach, ReplacesWithin, CanRetain, TakesAtMut, AsksMember};
@@ -34,6 +34,29 @@ pub(crate) fn drop_all<T: Drop, H: KeptHash>(mut slots: Slots<T, H>, tags: Bytes
     empty_all(&mut slots, tags.as_slice(count));
     slots.give_back(tags.allocator());
     tags.give_back(count);
+}
+
+// The first slot from one on that has a member, if there is one.
+#[inline]
+pub(crate) fn next_full<T, H: KeptHash>(
+    slots: &Slots<T, H>,
+    tags: &[u8],
+    from: usize,
+) -> Option<usize>
+    requires { IsTagged tags.now slots.now }
+    ensures full { IfSome result (λ slot. from ≤ slot × IsSome (at slots.now slot)) }
+    ensures passed { IfSome result (λ slot. (p : ℕ) → from ≤ p → p < slot → at slots.now p ≡ None) }
+    ensures none { IfNone result ((p : ℕ) → from ≤ p → at slots.now p ≡ None) }
+{
+    let mut start = from;
+    'windows: while start < slots.places() {
+        let (full, end) = full_places(tags, start);
+        if full != 0 {
+            return Some(start + full.trailing_zeros() as usize);
+        }
+        start = end;
+    }
+    None
 }
 
 // Puts what `f` answers in the place of each item.

@@ -122,10 +122,10 @@ fn finds_what_is_left(rt: HostRuntime) -> Result<(), Fail> {
     Ok(())
 }
 
-// Whether an item is found near the home of its hash, and about how many it was asked.
-fn near(table: &ReadyTable<u32>, hash: u64, item: u32) -> (bool, u32) {
+// Whether an item is found, and about how many it was asked.
+fn sought(table: &ReadyTable<u32>, hash: u64, item: u32) -> (bool, u32) {
     let mut calls = 0u32;
-    let found = table.find_near(hash, |other| {
+    let found = table.find(hash, |other| {
         calls = calls.wrapping_add(1);
         *other == item
     });
@@ -133,11 +133,11 @@ fn near(table: &ReadyTable<u32>, hash: u64, item: u32) -> (bool, u32) {
 }
 
 #[test]
-fn looks_near_the_home_alone(rt: HostRuntime) -> Result<(), Fail> {
+fn asks_about_each_item_of_its_hash_alone(rt: HostRuntime) -> Result<(), Fail> {
     let table = thousand(rt.alloc(), 0)?;
-    same(&rt, near(&table, 0, 0), (true, 1));
-    same(&rt, near(&table, 0, 999), (false, 32));
-    same(&rt, near(&table, 6, 0), (false, 0));
+    same(&rt, sought(&table, 0, 0), (true, 1));
+    same(&rt, sought(&table, 0, 1000), (false, 1000));
+    same(&rt, sought(&table, 6, 0), (false, 0));
     Ok(())
 }
 

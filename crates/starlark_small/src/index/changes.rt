@@ -43,8 +43,7 @@ impl Index {
     }
 
     /// Takes every place out: one by one where the list is so short that this takes fewer steps than there are slots,
-    /// whatever the hashes; else all at once. The entries need not stand where the index says: under the hash of each a
-    /// place is taken out, whichever it is.
+    /// whatever the hashes; else all at once. The entries need not stand where the index says.
     pub(crate) fn forget_all<K, V>(&mut self, entries: &VecMap<K, V>)
         requires { (before : List (Entry K V)) × IsIndexed before self.old × IsPermutation before entries.now.entries }
         ensures empty { IsIndexed {K = K} {V = V} [] self.new }
@@ -60,8 +59,7 @@ impl Index {
             return;
         }
         for i in 0..len {
-            let hash = entries.get_unchecked(i).0.hash();
-            table.take_under(hash);
+            table.take_last::<K, V>();
         }
     }
 
@@ -103,7 +101,7 @@ impl Index {
         let Some(table) = self.table.get_mut() else {
             return;
         };
-        table.rename(to);
+        table.rename(entries, to);
     }
 
     /// Turns each place round, as the entries are about to turn. The room stays.
@@ -116,7 +114,7 @@ impl Index {
         let Some(table) = self.table.get_mut() else {
             return;
         };
-        table.turn(entries.len());
+        table.turn(entries);
     }
 
     /// Lets the index go where the list is short enough to do without.

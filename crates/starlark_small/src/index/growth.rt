@@ -96,7 +96,7 @@ impl Index {
         let Some(table) = self.table.get_mut() else {
             return Ok(additional <= UNINDEXED - entries.len());
         };
-        table.reserve(additional)
+        table.reserve(self.alloc, entries, additional)
     }
 
     /// Notes the place of an entry that is to go last.

@@ -1,23 +1,24 @@
 //! The table of an index: places under promoted hashes, in slots of 8 bytes wherever the list is short enough for that.
-ghost use Rattle.std.specs.Prelude.{◌≡◌, ◌<◌, ◌≤◌, ◌∷◌, [], ◌+◌, ◌-◌, ◌^◌, IfOk, OnErr, true, false, IsPermutation, length, map, remove, slice_index};
-ghost use Rattle.std.specs.List.{All, Contains};
+ghost use Rattle.std.specs.Prelude.{◌≡◌, ◌<◌, ◌≤◌, ◌∷◌, [], ◌+◌, ◌-◌, ◌^◌, List, IfOk, OnErr, true, false, IsPermutation, length, remove, reverse};
 ghost use Rattle.starlark_hash.specs.HashValue.{hash_number, promoted};
+ghost use Rattle.starlark_lists.specs.Entries.{Entry};
 ghost use Rattle.starlark_lists.specs.Search.{CanSearch, Searches, keys_under};
-ghost use Rattle.starlark_small.specs.Index.{IsIndexOf, hashes_in, unindexed};
+ghost use Rattle.starlark_small.specs.Index.{IsIndexOf, unindexed};
 ghost use Rattle.starlark_table.specs.Table.{members, table_capacity, table_len};
+ghost use Rattle.starlark_vec2.specs.Moves.{Moves};
 
 use super::UNINDEXED;
-use super::place::Place;
-use super::places::{Placed, remove_place, rename_places, take_under, turn_places};
-use super::search::find_in;
+use super::placed::Placed;
 use starlark_hash::StarlarkHashValue;
-use starlark_table::ReadyTable;
 use starlark_vecmap::VecMap;
 use std::alloc::{AllocError, Global};
 use std::marker::Model;
 
-// The greatest length for which places are made in 32 bits: the room that such a table has is at most twice as much.
-const NARROW: usize = 1 << 31;
+// The greatest length for which places are made in 32 bits: such a table has fewer than 2^32 slots.
+const NARROW: usize = 1 << 30;
+
+// The greatest length that places are made for at all.
+const WIDE: usize = 1 << 60;
 
 // The greatest length up to which a larger table is filled from the list: its hashes are read in order there, and the slots
 // still lie in a processor's cache. A longer one is filled from the old slots, whose order is that of the new ones.
@@ -30,8 +31,9 @@ pub(crate) enum Width {
     Wide(Placed<usize>),
 }
 
-/// The table of an index: the place of each entry under the promoted hash of the entry. It is seen as a `ReadyTable` of
-/// places. A slot takes 8 bytes, and 16 in a table that was made for more than 2^31 places.
+/// The table of an index: the place of each entry under the promoted hash of the entry, and beside it the slot of each
+/// place. It is seen as a `ReadyTable` of places. A slot takes 8 bytes and a place 4, and twice as many in a table that was
+/// made for more than 2^30 places.
 #[derive(Drop)]
 pub struct PlaceTable {
     width: Width,
@@ -40,13 +42,11 @@ pub struct PlaceTable {
 impl Model for PlaceTable {
     ghost use Rattle.std.specs.Prelude.{ℕ};
     ghost use Rattle.starlark_table.specs.Table.{Table};
-    ghost use Rattle.starlark_small.specs.Width.{table_of, HasPlaces};
+    ghost use Rattle.starlark_small.specs.Width.{table_of};
 
     ghost Value = { Table ℕ };
 
     ghost view = { λ t. table_of t.width };
-
-    ghost invariant = { λ t. HasPlaces t.width };
 }
 
 impl PlaceTable {
@@ -55,10 +55,13 @@ impl PlaceTable {
         ensures empty { IfOk result (λ t. members t ≡ []) }
         ensures room { IfOk result (λ t. capacity ≤ t.room) }
     {
+        if capacity > WIDE {
+            return Err(AllocError);
+        }
         let width = if capacity <= NARROW {
-            Width::Narrow(ReadyTable::keeping(alloc, capacity)?)
+            Width::Narrow(Placed::with_capacity(alloc, capacity)?)
         } else {
-            Width::Wide(ReadyTable::keeping(alloc, capacity)?)
+            Width::Wide(Placed::with_capacity(alloc, capacity)?)
         };
         Ok(PlaceTable { width })
     }
@@ -87,7 +90,13 @@ impl PlaceTable {
 
     /// Makes room for so many further places, unless another table is to be filled from the list, since so many want a wider
     /// one or that is quicker: false says so, and that nothing has changed.
-    pub(crate) fn reserve(&mut self, additional: usize) -> Result<bool, AllocError>
+    pub(crate) fn reserve<K, V>(
+        &mut self,
+        alloc: Global,
+        entries: &VecMap<K, V>,
+        additional: usize,
+    ) -> Result<bool, AllocError>
+        requires index { IsIndexOf entries.now.entries self.old }
         ensures made { IfOk result (λ fits. fits ≡ true → additional ≤ self.new.room) }
         ensures other { IfOk result (λ fits. fits ≡ false → self.old.room < additional) }
         ensures many { IfOk result (λ fits. fits ≡ false → unindexed < table_len self.old + additional) }
@@ -98,25 +107,31 @@ impl PlaceTable {
         ensures refused { OnErr result (self.old.room < additional) }
         ensures unchanged { OnErr result (self.new ≡ self.old) }
     {
+        if additional <= self.room() {
+            return Ok(true);
+        }
+        let len = self.len();
+        let needed = len.saturating_add(additional);
+        if needed > WIDE {
+            return Err(AllocError);
+        }
         match &mut self.width {
             Width::Narrow(table) => {
-                let len = table.len();
-                let anew = UNINDEXED < len && len <= FILLED_FROM_LIST;
-                if additional > table.room() && (anew || len.saturating_add(additional) > NARROW) {
+                if UNINDEXED < len && len <= FILLED_FROM_LIST || needed > NARROW {
                     return Ok(false);
                 }
-                table.reserve(additional)?;
+                table.grow(alloc, entries, needed)?;
             }
-            Width::Wide(table) => table.reserve(additional)?,
+            Width::Wide(table) => table.grow(alloc, entries, needed)?,
         }
         Ok(true)
     }
 
-    /// Notes the place of an entry, for which there is room.
+    /// Notes the next place, whose entry has this hash. There is room for it.
     #[inline]
     pub(crate) fn note(&mut self, hash: StarlarkHashValue, place: usize)
         requires room { 0 < self.old.room }
-        requires within { place < table_capacity self.old }
+        requires next { place ≡ table_len self.old }
         ensures fits { hash_number hash < 2 ^ 32 }
         ensures added { IsPermutation ((promoted (hash_number hash), place) ∷ members self.old) (members self.new) }
         ensures room { table_capacity self.new ≡ table_capacity self.old }
@@ -124,12 +139,8 @@ impl PlaceTable {
         // A hash is below 2^32.
         let _number = hash.get();
         match &mut self.width {
-            Width::Narrow(table) => {
-                table.insert_reserved(hash, Place::of(place));
-            }
-            Width::Wide(table) => {
-                table.insert_reserved(hash, Place::of(place));
-            }
+            Width::Narrow(table) => table.note(hash, place),
+            Width::Wide(table) => table.note(hash, place),
         }
     }
 
@@ -141,45 +152,44 @@ impl PlaceTable {
         ensures room { table_capacity self.new ≡ table_capacity self.old }
     {
         match &mut self.width {
-            Width::Narrow(table) => remove_place(table, entries, place),
-            Width::Wide(table) => remove_place(table, entries, place),
+            Width::Narrow(table) => table.remove_place(entries, place),
+            Width::Wide(table) => table.remove_place(entries, place),
         }
     }
 
-    /// Takes one place out from under a hash that has some, whichever it is.
-    pub(crate) fn take_under(&mut self, hash: StarlarkHashValue)
-        requires { Contains (hashes_in self.old) (promoted (hash_number hash)) }
-        ensures rest { IsPermutation (hashes_in self.old) (promoted (hash_number hash) ∷ hashes_in self.new) }
+    /// Takes the last place out.
+    pub(crate) fn take_last<K, V>(&mut self)
+        requires { (es : List (Entry K V)) × IsIndexOf es self.old × (0 < length es) }
+        ensures index { (es : List (Entry K V)) → IsIndexOf es self.old → IsIndexOf (remove es (length es - 1)) self.new }
         ensures room { table_capacity self.new ≡ table_capacity self.old }
     {
         match &mut self.width {
-            Width::Narrow(table) => take_under(table, hash),
-            Width::Wide(table) => take_under(table, hash),
+            Width::Narrow(table) => table.take_last::<K, V>(),
+            Width::Wide(table) => table.take_last::<K, V>(),
         }
     }
 
-    /// Puts for each place the one that `to` names for it.
-    pub(crate) fn rename(&mut self, to: &[u32])
-        requires { All (λ m. m.1 < length to.now) (members self.old) }
-        ensures members { members self.new ≡ map (λ m. (m.0, slice_index to.now m.1)) (members self.old) }
-        ensures room { table_capacity self.new ≡ table_capacity self.old }
+    /// Puts for each place the one that `to` names for it: the entries stand there already.
+    pub(crate) fn rename<K, V>(&mut self, entries: &VecMap<K, V>, to: &[u32])
+        requires { (before : List (Entry K V)) × IsIndexOf before self.old × Moves before to.now entries.now.entries }
+        ensures index { IsIndexOf entries.now.entries self.new }
+        ensures room { self.new.room ≡ self.old.room }
     {
         match &mut self.width {
-            Width::Narrow(table) => rename_places(table, to),
-            Width::Wide(table) => rename_places(table, to),
+            Width::Narrow(table) => table.rename(entries, to),
+            Width::Wide(table) => table.rename(entries, to),
         }
     }
 
-    /// Turns each place round in a list of this length.
-    pub(crate) fn turn(&mut self, len: usize)
-        requires within { All (λ m. m.1 < len) (members self.old) }
-        requires few { len ≤ table_capacity self.old }
-        ensures members { members self.new ≡ map (λ m. (m.0, len - 1 - m.1)) (members self.old) }
-        ensures room { table_capacity self.new ≡ table_capacity self.old }
+    /// Turns each place round, as the entries are about to turn.
+    pub(crate) fn turn<K, V>(&mut self, entries: &VecMap<K, V>)
+        requires { IsIndexOf entries.now.entries self.old }
+        ensures index { IsIndexOf (reverse entries.now.entries) self.new }
+        ensures room { self.new.room ≡ self.old.room }
     {
         match &mut self.width {
-            Width::Narrow(table) => turn_places(table, len),
-            Width::Wide(table) => turn_places(table, len),
+            Width::Narrow(table) => table.turn(entries),
+            Width::Wide(table) => table.turn(entries),
         }
     }
 
@@ -207,7 +217,7 @@ impl PlaceTable {
         ensures { (last : F) × Searches F.FnMut (keys_under hash entries.now.entries) eq result last }
     {
         match &self.width {
-            Width::Narrow(table) => find_in(table, entries, hash, eq),
+            Width::Narrow(table) => table.find(entries, hash, eq),
             Width::Wide(table) => find_wide(table, entries, hash, eq),
         }
     }
@@ -226,5 +236,5 @@ fn find_wide<K, V, F: FnMut(&K) -> bool>(
     requires callable { CanSearch F.FnMut (keys_under hash entries.now.entries) eq }
     ensures { (last : F) × Searches F.FnMut (keys_under hash entries.now.entries) eq result last }
 {
-    find_in(table, entries, hash, eq)
+    table.find(entries, hash, eq)
 }

@@ -7,7 +7,7 @@ ghost use Rattle.starlark_small.specs.Index.{IsIndexOf, IsIndexed, IsSound, inde
 ghost use Rattle.starlark_small.specs.Map.{query_match};
 
 use super::place::{Place, PlaceNumber};
-use super::places::Placed;
+use super::placed::Places;
 use super::{Index, PlaceTable, UNINDEXED};
 use starlark_hash::{Equivalent, Hashed, StarlarkHashValue};
 use starlark_vecmap::VecMap;
@@ -74,7 +74,7 @@ impl Index {
 // A place under the hash whose key `eq` accepts, in a table of places of one width.
 #[inline(always)]
 pub(super) fn find_in<N: PlaceNumber, K, V, F: FnMut(&K) -> bool>(
-    table: &Placed<N>,
+    table: &Places<N>,
     entries: &VecMap<K, V>,
     hash: StarlarkHashValue,
     mut eq: F,

@@ -1,9 +1,9 @@
-use Rattle.std.proofs.Common.{◌≡◌, ◌<◌, ◌≤◌, Some, sym, ◌∙◌, ap, subst}
+use Rattle.std.proofs.Common.{◌≡◌, ◌<◌, ◌≤◌, Some, None, refl, sym, ◌∙◌, ap, subst, subst₂}
 use Rattle.std.specs.List.{swap}
 use Rattle.std.proofs.Math.ListN.{set}
 use Rattle.starlark_table.specs.Layout.{distance, home, HasGap, InPlace}
 use Rattle.starlark_table.proofs.Circle.{distance-below, less-left, home-below, some_below}
-use Rattle.starlark_table.proofs.Closing.{closing-begins, swapped_slots, closing-ends, closing-next_place, closing-member_stays, closing-member_moved}
+use Rattle.starlark_table.proofs.Closing.{closing-begins, swapped_slots, closing-ends, closing-next_place, closing-can_move, closing-member_stays, closing-member_moved}
 use Rattle.std.proofs.lemmas.List.Sorted.{IsPermutation-refl, IsPermutation-trans}
 use Rattle.starlark_table.proofs.Tagged.{tagged-swapped, empty-by_tag}
 use Rattle.starlark_table.proofs.Filling.{filled-by_tag, taken_and_written}
@@ -21,6 +21,8 @@ loop-tags-init g c =
           (subst (λ m. HasGap m c.args.slots.now c.args.start) (sym counted) c.requires.gap) (rw counted q.1) q.2 q.3 c.next_place-next.ensures;
       bag = IsPermutation-refl _;
       tagged = c.requires.tagged;
+      known = c.requires.known;
+      size = refl;
     }
 
 pub get-requires : goal.get-requires
@@ -37,6 +39,16 @@ pub distance-requires-in-loop-tags-clause-from : goal.distance-requires-in-loop-
 distance-requires-in-loop-tags-clause-from g c =
     let k = c.loop-tags.invariant.closing in
     rw c.home_among-home.ensures (home-below _ c.get.result.now.0 (some_below _ _ k.next_in))
+
+pub moved-requires : goal.moved-requires
+moved-requires g c =
+    let k = c.loop-tags.invariant.closing in (
+      c.loop-tags.slots,
+      c.loop-tags.next,
+      c.take-member.result.0,
+      closing-can_move c.places-count.result c.args.start c.loop-tags.slots c.loop-tags.hole c.loop-tags.next _ c.take-member.result.1 k c.take-member.ensures.value,
+      c.loop-tags.invariant.known,
+    )
 
 pub loop-tags-smaller : goal.loop-tags-smaller
 loop-tags-smaller g c =
@@ -58,9 +70,11 @@ loop-tags-preserved g c =
       | then-distance w ↦
           let crosses : distance count (home count member.0) hole < distance count (home count member.0) next =
           rw (← c.home_among-home.ensures, ← c.distance.ensures, ← c.distance-in-loop-tags.ensures) w.if-distance.true in
-          let is : w.write.new.self ≡ swap slots hole next = w.write.ensures
-          ∙ ap (λ l. set l hole (Some w.take-member.result)) w.take-member.ensures.places
+          let written : w.write.new.self ≡ set (set slots next None) hole (Some w.take-member.result) =
+          w.write.ensures ∙ ap (λ l. set l hole (Some w.take-member.result)) w.take-member.ensures.places in
+          let is : w.write.new.self ≡ swap slots hole next = written
           ∙ taken_and_written slots hole next w.take-member.result (rw k.sized k.hole_in) (rw k.sized k.next_in) k.empty w.take-member.ensures.value in
+          let can_move = closing-can_move count c.args.start slots hole next _ w.take-member.result.1 k w.take-member.ensures.value in
           let moved = swapped_slots slots w.write.new.self hole next count member k.sized k.hole_in k.next_in k.empty here is in
           record {
             counted = rw (w.slots-is, moved.0.same_length) (sym k.sized);
@@ -68,6 +82,9 @@ loop-tags-preserved g c =
             bag = rw w.slots-is (IsPermutation-trans _ _ _ c.loop-tags.invariant.bag moved.1);
             tagged = rw (w.slots-is, w.tags-is, is, w.swap.ensures.after)
                 (tagged-swapped c.loop-tags.tags slots hole next (rw k.sized k.hole_in) (rw k.sized k.next_in) c.loop-tags.invariant.tagged);
+            known = subst₂ g.F.Follows.knows (sym w.follower-is) (sym (w.slots-is ∙ written))
+                (w.moved.ensures.known slots next w.take-member.result.0 can_move c.loop-tags.invariant.known);
+            size = rw w.follower-is (w.moved.ensures.size ∙ c.loop-tags.invariant.size);
           }
       | else-distance w ↦ let near : distance count (home count member.0) next ≤ distance count (home count member.0) hole =
           rw (← c.home_among-home.ensures, ← c.distance.ensures, ← c.distance-in-loop-tags.ensures) w.if-distance.false in
@@ -76,6 +93,8 @@ loop-tags-preserved g c =
             closing = rw (w.slots-is, w.hole-is) (closing-member_stays count c.args.start slots hole next _ member.0 member.1 k here c.next_place-next-in-loop-tags.ensures near);
             bag = rw w.slots-is c.loop-tags.invariant.bag;
             tagged = rw (w.slots-is, w.tags-is) c.loop-tags.invariant.tagged;
+            known = rw (w.slots-is, w.follower-is) c.loop-tags.invariant.known;
+            size = rw w.follower-is c.loop-tags.invariant.size;
           }
     ]
 

@@ -10,6 +10,8 @@ invariant-loop-tags g l = record {
   closing : Closing l.count l.start l.slots l.hole l.next;
   bag : IsPermutation (filled l.initial.slots) (filled l.slots);
   tagged : IsTagged l.tags l.slots;
+  known : g.F.Follows.knows l.follower l.slots;
+  size : g.F.Follows.size l.follower ≡ g.F.Follows.size l.initial.follower;
 }
 
 abbrev pub decreases-loop-tags : goal.decreases-loop-tags

@@ -1,14 +1,13 @@
-use Rattle.std.proofs.Common.{◌∷◌, ◌+◌, ◌≤◌, ◌∙◌, subst, sym, ap, length, IsPermutation, arith}
+use Rattle.std.proofs.Common.{◌+◌, ◌-◌, ◌<◌, ◌≤◌, ◌∙◌, subst, sym, ap, length, arith}
 use mathlib.Core.Path.{subst⁻¹}
 use Rattle.std.specs.Option.{option_copied_mut}
-use Rattle.std.specs.List.{Contains}
+use Rattle.std.specs.Prelude.{remove}
+use Rattle.std.proofs.lemmas.List.Edits.{length-remove}
 use Rattle.std.proofs.lemmas.List.Sorted.{length_permutation}
-use Rattle.starlark_hash.specs.HashValue.{promoted}
 use Rattle.starlark_table.specs.Table.{table_len}
-use Rattle.starlark_vecmap.specs.EntryList.{deref_entry}
-use Rattle.starlark_small.specs.Index.{IsIndexed, hashes_in, index_room}
+use Rattle.starlark_small.specs.Index.{IsIndexed, IsIndexOf, index_room}
 use Rattle.starlark_small.proofs.Keeping.{IsIndexOf-len}
-use Rattle.starlark_small.proofs.Emptying.{IsIndexOf-none, left-all, left-there, left-taken, left-none}
+use Rattle.starlark_small.proofs.Emptying.{none_left}
 use Rattle.starlark_small.proofs.index.Index.forget_all.Goals as goal
 
 pub returns-in_default-clause-room : goal.returns-in_default-clause-room
@@ -32,28 +31,31 @@ loop-i-init g c =
     let was = sym c.self.view_is ∙ sym c.get_mut.ensures.value ∙ ap option_copied_mut c.in-Some.is in
     let index = subst (λ o. IsIndexed c.requires.0 o) was c.requires.1 in
     let all = IsIndexOf-len c.requires.0 c.in-Some.table.now index in
+    let same = length_permutation c.requires.0 es c.requires.2 in
     record {
-      left = left-all c.requires.0 es c.in-Some.table.now index c.requires.2;
-      room = subst⁻¹ (λ o. length es + index_room (length es) o ≤ table_len c.in-Some.table.now + c.in-Some.table.now.room) was
-          (omega (arith, all, length_permutation c.requires.0 es c.requires.2));
+      left = (c.requires.0, index, omega (arith, same));
+      room = subst⁻¹ (λ o. length es + index_room (length es) o ≤ table_len c.in-Some.table.now + c.in-Some.table.now.room) was (omega (arith, all, same));
     }
 
-pub take_under-requires : goal.take_under-requires
-take_under-requires g c =
-    subst (λ k. Contains (hashes_in c.loop-i.table) (promoted k.0)) (sym c.hash-hash.ensures)
-    (left-there c.args.entries.now.entries c.loop-i.i (deref_entry c.get_unchecked.result) c.loop-i.table c.get_unchecked.ensures c.loop-i.invariant.left)
+pub take_last-requires : goal.take_last-requires
+take_last-requires g c =
+    let left = c.loop-i.invariant.left in (left.0, left.1, omega (arith, left.2, c.loop-i-test.true, c.len-len.ensures.len))
 
 pub loop-i-preserved : goal.loop-i-preserved
-loop-i-preserved g c = record {
-  left = left-taken c.args.entries.now.entries c.loop-i.i (deref_entry c.get_unchecked.result) c.loop-i.table c.take_under.new.self c.get_unchecked.ensures c.loop-i.invariant.left
-      (subst (λ k. IsPermutation (hashes_in c.loop-i.table) (promoted k.0 ∷ hashes_in c.take_under.new.self)) c.hash-hash.ensures c.take_under.ensures.rest);
-  room = omega (arith, c.take_under.ensures.room, c.loop-i.invariant.room);
-}
+loop-i-preserved g c =
+    let left = c.loop-i.invariant.left in
+    let some : length left.0 - 1 < length left.0 = omega (arith, left.2, c.loop-i-test.true, c.len-len.ensures.len) in
+    record {
+      left = (remove left.0 (length left.0 - 1), c.take_last.ensures.index left.0 left.1, omega (arith, length-remove left.0 (length left.0 - 1) some, left.2));
+      room = omega (arith, c.take_last.ensures.room, c.loop-i.invariant.room);
+    }
 
 pub returns-clause-empty : goal.returns-clause-empty
 returns-clause-empty g c =
-    IsIndexOf-none c.loop-i.table (left-none c.args.entries.now.entries c.loop-i.i c.loop-i.table (omega arith) c.loop-i.invariant.left)
+    let left = c.loop-i.invariant.left in
+    subst (λ es. IsIndexOf es c.loop-i.table) (none_left left.0 (omega (arith, left.2, c.loop-i-test.false, c.len-len.ensures.len))) left.1
 
 pub returns-clause-room : goal.returns-clause-room
 returns-clause-room g c =
-    omega (arith, ap length (left-none c.args.entries.now.entries c.loop-i.i c.loop-i.table (omega arith) c.loop-i.invariant.left), c.loop-i.invariant.room)
+    let left = c.loop-i.invariant.left in
+    omega (arith, IsIndexOf-len left.0 c.loop-i.table left.1, left.2, c.loop-i-test.false, c.len-len.ensures.len, c.loop-i.invariant.room)

@@ -17,12 +17,17 @@ loop-i-init g c =
       room = subst⁻¹ (λ o. index_room 0 o ≤ 0 + c.in-Some.table.now.room) was (omega arith);
     }
 
-pub note-requires-clause-within : goal.note-requires-clause-within
-note-requires-clause-within g c =
+pub note-requires-clause-room : goal.note-requires-clause-room
+note-requires-clause-room g c =
+    let i = c.loop-i.i in
+    omega (arith, c.loop-i.invariant.room, c.requires.room, c.loop-i-test.true, c.len-i-end.ensures.len)
+
+pub note-requires-clause-next : goal.note-requires-clause-next
+note-requires-clause-next g c =
     let es = c.args.entries.now.entries in
     let i = c.loop-i.i in
     let all = IsIndexOf-len (take i es) c.loop-i.table c.loop-i.invariant.index in
-    omega (arith, length-take i es, all, c.loop-i.invariant.room, c.requires.room, c.loop-i-test.true, c.len-i-end.ensures.len)
+    omega (arith, length-take i es, all, c.loop-i-test.true, c.len-i-end.ensures.len)
 
 pub loop-i-preserved : goal.loop-i-preserved
 loop-i-preserved g c =

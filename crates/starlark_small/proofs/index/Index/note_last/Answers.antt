@@ -7,13 +7,11 @@ use Rattle.starlark_small.specs.Index.{IsIndexed, index_room}
 use Rattle.starlark_small.proofs.Keeping.{IsIndexOf-len, IsIndexOf-push, room-push}
 use Rattle.starlark_small.proofs.index.Index.note_last.Goals as goal
 
-pub note-requires-clause-within : goal.note-requires-clause-within
-note-requires-clause-within g c =
+pub note-requires-clause-next : goal.note-requires-clause-next
+note-requires-clause-next g c =
     let es = c.args.entries.now.entries in
     let was = sym c.self.view_is ∙ sym c.get_mut.ensures.value ∙ ap option_copied_mut c.in-Some.is in
-    let all = IsIndexOf-len es c.in-Some.table.now (subst (λ o. IsIndexed es o) was c.requires.indexed) in
-    let room = subst (λ o. 1 ≤ index_room (length es) o) was c.requires.room in
-    omega (arith, all, room, c.len.ensures.len)
+    omega (arith, IsIndexOf-len es c.in-Some.table.now (subst (λ o. IsIndexed es o) was c.requires.indexed), c.len.ensures.len)
 
 pub returns-clause-indexed : goal.returns-clause-indexed
 returns-clause-indexed g c = λ e same.

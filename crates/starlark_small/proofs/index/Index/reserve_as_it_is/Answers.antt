@@ -8,6 +8,10 @@ use Rattle.starlark_small.proofs.index.Index.reserve_as_it_is.Goals as goal
 longer : (n len additional : ℕ) → len ≡ n → unindexed < len + additional → unindexed < n + additional
 longer n len additional all many = omega arith
 
+pub reserve-requires : goal.reserve-requires
+reserve-requires g c =
+    record { index = subst (λ o. IsIndexed c.args.entries.now.entries o) (sym c.self.view_is ∙ sym c.get_mut.ensures.value ∙ ap option_copied_mut c.in-Some.is) c.requires.indexed }
+
 pub returns-clause-indexed : goal.returns-clause-indexed
 returns-clause-indexed g c =
     let es = c.args.entries.now.entries in

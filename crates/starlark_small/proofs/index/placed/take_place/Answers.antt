@@ -1,0 +1,24 @@
+use Rattle.std.proofs.Common.{◌≡◌, None, ◌∷◌, get_or, ap, subst, ◌∙◌, arith, IsPermutation}
+use Rattle.std.specs.Prelude.{IfSome}
+use Rattle.std.proofs.lemmas.List.{length-set}
+use Rattle.starlark_table.specs.Table.{members, member_at}
+use Rattle.starlark_small.proofs.Slots.{sited-without, named-there, any_default}
+use Rattle.starlark_small.proofs.index.placed.take_place.Goals as goal
+
+pub remove_followed-requires : goal.remove_followed-requires
+remove_followed-requires g c =
+    (sited-without c.args.column.now.items c.args.table.now.slots c.get-slot.result c.requires.sited, omega (arith, c.requires.few, length-set c.args.table.now.slots c.get-slot.result None))
+
+pub returns-clause-taken : goal.returns-clause-taken
+returns-clause-taken g c = λ h there.
+    let old = c.args.table.now in
+    let column = c.args.column.now.items in
+    let slot : c.get-slot.result ≡ get_or column c.args.place 0 = c.get-slot.ensures ∙ c.index.ensures ∙ any_default column c.args.place c.index.result.now 0 c.requires.within in
+    let at = ap (member_at old) slot ∙ named-there column old h c.args.place c.requires.sited there in
+    subst (λ o. IfSome o (λ m. IsPermutation (members old) (m ∷ members c.remove_followed.new.self))) (c.remove_followed.ensures.found ∙ at) c.remove_followed.ensures.rest
+
+pub returns-clause-even : goal.returns-clause-even
+returns-clause-even g c = ap (λ s. s.0) c.remove_followed.ensures.size
+
+pub returns-clause-spare : goal.returns-clause-spare
+returns-clause-spare g c = ap (λ s. s.1) c.remove_followed.ensures.size
