@@ -217,7 +217,7 @@ module _ {T : Type 0} where
   none_there None e = refl
   none_there (Some m) e = absurd (cc)
 
-  some_there : (o : Option (ℕ × T)) → is_some o ≡ true → (m : ℕ × T) × (o ≡ Some m)
+  pub some_there : (o : Option (ℕ × T)) → is_some o ≡ true → (m : ℕ × T) × (o ≡ Some m)
   some_there None e = absurd (cc)
   some_there (Some m) e = (m, refl)
 

@@ -30,3 +30,4 @@ pub mod LentInResult
 mod WrittenSlots
 pub mod WalkRenamed
 mod TableOpens
+pub mod Passing

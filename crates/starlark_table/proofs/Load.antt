@@ -81,7 +81,7 @@ module _ {T : Type 0} where
   at-replicate (suc n) (suc p) = at-replicate n p
 
   pub in_place-replicate : (m n : ℕ) → InPlace {T = T} m (replicate n None)
-  in_place-replicate m n = record { reached = λ p q h x e q_in nearer. absurd (cc (at-replicate n p)) }
+  in_place-replicate m n = record { reached = λ p q h x e far q_in nearer. absurd (cc (at-replicate n p)) }
 
   tagged-replicate : (items : List (Option (ℕ × T))) (tags : List ℕ) (count : ℕ) → 0 < count → items ≡ replicate count None
       → tags ≡ tags_of_empty count → IsTagged tags items

@@ -7,9 +7,9 @@ use Rattle.std.proofs.lemmas.List.{set-get_or}
 use Rattle.std.proofs.lemmas.List.Edits.{swap_is}
 use Rattle.std.proofs.lemmas.List.Sorted.{IsPermutation-refl}
 use Rattle.starlark_table.specs.Table.{filled}
-use Rattle.starlark_table.specs.Layout.{at, distance, home, InPlace, ReachesBefore, StandsIn}
-use Rattle.starlark_table.proofs.Circle.{distance-below, distance-self, distance-same, distance-by, home-below}
-use Rattle.starlark_table.proofs.Closing.{full_in_range, full-some, same_hash, full_not_empty, swapped_slots, Moved, moved-origin, apart-by_order}
+use Rattle.starlark_table.specs.Layout.{at, distance, home, InPlace, IsFar, ReachesBefore, StandsIn}
+use Rattle.starlark_table.proofs.Circle.{distance-below, distance-self, distance-same, distance-by, far_behind, home-below}
+use Rattle.starlark_table.proofs.Closing.{full_in_range, full-some, same_hash, full_not_empty, swapped_slots, Moved, Origin, moved-origin, apart-by_order}
 
 -- a way that does not lead over z is behind its end, seen from z
 on_way : (m z b p q : ℕ) → z < m → b < m → p < m → q < m → distance m b p < distance m b z → distance m b q < distance m b p
@@ -38,35 +38,35 @@ not_below_self : (a b : ℕ) → a ≡ b → a < b → ⊥
 not_below_self a b e less = omega arith
 
 module _ {T : Type 0} where
-  -- each member fewer than so many steps behind start has a full way from its home
+  -- each member fewer than so many steps behind start, if it stands behind its first window, has a full way from its home
   pub record Settled (m start : ℕ) (slots : List (Option (ℕ × T))) (step : ℕ) : Type 0 where
-    pub reached : (p q h : ℕ) (x : T) → at slots p ≡ Some (h, x) → distance m start p < step → q < m
+    pub reached : (p q h : ℕ) (x : T) → at slots p ≡ Some (h, x) → IsFar (home m h) p → distance m start p < step → q < m
         → distance m (home m h) q < distance m (home m h) p → IsSome (at slots q)
 
   module _ (m start : ℕ) (start_in : start < m) where
     pub settled_first : (slots : List (Option (ℕ × T))) → ReachesBefore m slots start → length slots ≡ m → Settled m start slots 1
     settled_first slots reaches sized = record {
-      reached = λ p q h x here less q_in nearer.
+      reached = λ p q h x here far less q_in nearer.
           let p_in : p < m = rw (← sized) (full_in_range slots p (h, x) here) in
           let none : distance m start p ≡ distance m start start = rw (distance-self m start) (omega arith) in
           let e = distance-same m start p start start_in p_in start_in none in
-          absurd (not_below_self (distance m (home m h) p) (distance m (home m h) start) (ap (distance m (home m h)) e) (reaches.before p h x here));
+          absurd (not_below_self (distance m (home m h) p) (distance m (home m h) start) (ap (distance m (home m h)) e) (reaches.before p h x here far));
     }
 
     -- one place more
     settled_on : (slots : List (Option (ℕ × T))) (place step : ℕ) → length slots ≡ m → place < m → distance m start place ≡ step
         → Settled m start slots step
-        → ((q h : ℕ) (x : T) → at slots place ≡ Some (h, x) → q < m → distance m (home m h) q < distance m (home m h) place → IsSome (at slots q))
+        → ((q h : ℕ) (x : T) → at slots place ≡ Some (h, x) → IsFar (home m h) place → q < m → distance m (home m h) q < distance m (home m h) place → IsSome (at slots q))
         → Settled m start slots (step + 1)
     settled_on slots place step sized place_in e s here = record {
-      reached = λ p q h x at_p less q_in nearer.
+      reached = λ p q h x at_p far less q_in nearer.
           let p_in : p < m = rw (← sized) (full_in_range slots p (h, x) at_p) in
           elim (cases_order (distance m start p) (distance m start place)) [
             | inl same ↦
                 let same_place = distance-same m start p place start_in p_in place_in same in
-                here q h x (ap (at slots) (sym same_place) ∙ at_p) q_in (subst (λ k. distance m (home m h) q < distance m (home m h) k) same_place nearer)
+                here q h x (ap (at slots) (sym same_place) ∙ at_p) (subst (λ k. IsFar (home m h) k) same_place far) q_in (subst (λ k. distance m (home m h) q < distance m (home m h) k) same_place nearer)
             | inr order ↦ elim order [
-              | inl before ↦ s.reached p q h x at_p (omega arith) q_in nearer
+              | inl before ↦ s.reached p q h x at_p far (omega arith) q_in nearer
               | inr after ↦ absurd (omega arith)
             ]
           ];
@@ -75,35 +75,46 @@ module _ {T : Type 0} where
     pub settled_empty : (slots : List (Option (ℕ × T))) (place step : ℕ) → length slots ≡ m → place < m → distance m start place ≡ step
         → at slots place ≡ None → Settled m start slots step → Settled m start slots (step + 1)
     settled_empty slots place step sized place_in e empty s =
-        settled_on slots place step sized place_in e s (λ q h x full q_in nearer. absurd (cc (full, empty)))
+        settled_on slots place step sized place_in e s (λ q h x full far q_in nearer. absurd (cc (full, empty)))
 
     pub settled_all : (slots : List (Option (ℕ × T))) (step : ℕ) → length slots ≡ m → m ≤ step → ReachesBefore m slots start
         → Settled m start slots step → InPlace m slots
     settled_all slots step sized all reaches s = record {
-      reached = λ p q h x here q_in nearer.
+      reached = λ p q h x here far q_in nearer.
           let p_in : p < m = rw (← sized) (full_in_range slots p (h, x) here) in
           let below = distance-below m start p start_in p_in in
-          s.reached p q h x here (omega arith) q_in nearer;
+          s.reached p q h x here far (omega arith) q_in nearer;
     }
 
     module _ (old new : List (Option (ℕ × T))) (to place step h : ℕ) (x : T) (sized : length old ≡ m) (to_in : to < m) (place_in : place < m)
         (e : distance m start place ≡ step) (here : at old place ≡ Some (h, x)) (reaches : ReachesBefore m old start)
         (s : Settled m start old step) (near : distance m (home m h) to ≤ distance m (home m h) place)
-        (path : (q : ℕ) → q < m → distance m (home m h) q < distance m (home m h) to → IsSome (at old q)) where
+        (path : IsFar (home m h) place → (q : ℕ) → q < m → distance m (home m h) q < distance m (home m h) to → IsSome (at old q)) where
       -- a member that stays where it is
       pub settled_stays : to ≡ place → Settled m start old (step + 1)
       settled_stays same = settled_on old place step sized place_in e s
-          (λ q k y full q_in nearer.
+          (λ q k y full far q_in nearer.
           let hash = same_hash (k, y) (h, x) (sym full ∙ here) in
-          path q q_in (subst (λ p. distance m (home m h) q < distance m (home m h) p) (sym same)
+          path (subst (λ k. IsFar (home m k) place) hash far) q q_in (subst (λ p. distance m (home m h) q < distance m (home m h) p) (sym same)
           (subst (λ k. distance m (home m k) q < distance m (home m k) place) hash nearer)))
 
       module _ (moved : Moved old new to place (h, x)) where
+        -- a member that is still behind its first window was so before it moved
+        was_far : (p k : ℕ) (y : T) (o : Origin old to place p (k, y)) → IsFar (home m k) p → IsFar (home m k) o.from
+        was_far p k y o is_far = elim o.which [
+          | inl same ↦ subst (λ r. IsFar (home m k) r) (sym same) is_far
+          | inr both ↦
+              let hash = same_hash (k, y) (h, x) (sym o.there ∙ ap (at old) both.0 ∙ here) in
+              let near' : distance m (home m k) to ≤ distance m (home m k) place = rw hash near in
+              subst (λ r. IsFar (home m k) r) (sym both.0)
+              (far_behind m (home m k) to place (home-below m k (omega (arith, place_in))) to_in place_in near' (subst (λ r. IsFar (home m k) r) both.1 is_far))
+        ]
+
         pub reaches_moved : ReachesBefore m new start
         reaches_moved = record {
-          before = λ p k y at_p.
+          before = λ p k y at_p is_far.
               let o = moved-origin old new to place p (h, x) (k, y) here moved at_p in
-              let far = reaches.before o.from k y o.there in
+              let far = reaches.before o.from k y o.there (was_far p k y o is_far) in
               elim o.which [
                 | inl same ↦ subst (λ p. distance m (home m k) p < distance m (home m k) start) same far
                 | inr both ↦
@@ -124,7 +135,7 @@ module _ {T : Type 0} where
         -- a member that moves back
         pub settled_moved : length new ≡ m → Settled m start new (step + 1)
         settled_moved sized' = record {
-          reached = λ p q k y at_p less q_in nearer.
+          reached = λ p q k y at_p is_far less q_in nearer.
               let o = moved-origin old new to place p (h, x) (k, y) here moved at_p in
               elim o.which [
                 | inl same ↦
@@ -135,9 +146,9 @@ module _ {T : Type 0} where
                       | inl same ↦ absurd (not_place (distance-same m start p place start_in p_in place_in same))
                       | inr order ↦ elim order [ inl before ↦ omega arith | inr after ↦ absurd (omega arith) ]
                     ] in
-                    let far = on_way m start (home m k) p q start_in (home-below m k (omega arith)) p_in q_in (reaches.before p k y at_old) nearer in
+                    let far = on_way m start (home m k) p q start_in (home-below m k (omega arith)) p_in q_in (reaches.before p k y at_old is_far) nearer in
                     full_still q (λ same_q. let d : distance m start q ≡ distance m start place = ap (distance m start) same_q in absurd (omega arith))
-                    (s.reached p q k y at_old fewer q_in nearer)
+                    (s.reached p q k y at_old is_far fewer q_in nearer)
                 | inr both ↦
                     let hash = same_hash (k, y) (h, x) (sym o.there ∙ ap (at old) both.0 ∙ here) in
                     let nearer_to : distance m (home m h) q < distance m (home m h) to =
@@ -145,7 +156,7 @@ module _ {T : Type 0} where
                     (subst (λ p. distance m (home m k) q < distance m (home m k) p) both.1 nearer) in
                     full_still q (λ same_q. let d : distance m (home m h) q ≡ distance m (home m h) place = ap (distance m (home m h)) same_q in
                     absurd (omega arith))
-                    (path q q_in nearer_to)
+                    (path (subst (λ n. IsFar (home m n) place) hash (subst (λ r. IsFar (home m k) r) both.0 (was_far p k y o is_far))) q q_in nearer_to)
               ];
         }
 
@@ -164,7 +175,7 @@ module _ {T : Type 0} where
   pub steps_on : (m start : ℕ) (old new : List (Option (ℕ × T))) (to place step h : ℕ) (x : T) → start < m → length old ≡ m → to < m → place < m
       → distance m start place ≡ step → at old place ≡ Some (h, x) → ReachesBefore m old start → Settled m start old step
       → distance m (home m h) to ≤ distance m (home m h) place
-      → ((q : ℕ) → q < m → distance m (home m h) q < distance m (home m h) to → IsSome (at old q))
+      → (IsFar (home m h) place → (q : ℕ) → q < m → distance m (home m h) q < distance m (home m h) to → IsSome (at old q))
       → (to ≡ place) ⊎ (at old to ≡ None) → new ≡ swap old to place → Steps m start step old new
   steps_on m start old new to place step h x start_in sized to_in place_in e here reaches s near path (inl same) is =
       let below : place < length old = rw sized place_in in
@@ -200,7 +211,7 @@ module _ {T : Type 0} where
   pub reaches_before : (m start : ℕ) (old new : List (Option (ℕ × T))) → length old ≡ m → start < m → at old start ≡ None → InPlace m old
       → StandsIn old new → ReachesBefore m new start
   reaches_before m start old new sized start_in empty in_place stands = record {
-    before = λ p h y e.
+    before = λ p h y e far.
         let b = stands.stood p h y e in
         let p_in : p < m = rw (← sized) (full_in_range old p (h, b.0) b.1) in
         let home_in = home-below m h (omega arith) in
@@ -211,7 +222,7 @@ module _ {T : Type 0} where
           | inr order ↦ elim order [
             | inl before ↦ before
             | inr after ↦
-                let full = in_place.reached p start h b.0 b.1 start_in after in
+                let full = in_place.reached p start h b.0 b.1 far start_in after in
                 absurd (full_not_empty (at old start) full empty)
           ]
         ];

@@ -92,9 +92,9 @@ module _ {T : Type 0} where
       load = subst (λ n. len ≤ limit n) (sym same_length) sound.load;
       doubled = subst (λ n. 0 < n → (k : ℕ) × (n ≡ 8 * 2 ^ k)) (sym same_length) sound.doubled;
       in_place = subst (λ n. InPlace n new) (sym same_length) (record {
-        reached = λ p q h y e below near.
+        reached = λ p q h y e far below near.
             let back = full_by_hash (at old p) h (sym (same_hash_at p) ∙ ap hash_of e) in
-            full_in_both (at old q) (at new q) (same_hash_at q) (sound.in_place.reached p q h back.0 back.1 below near);
+            full_in_both (at old q) (at new q) (same_hash_at q) (sound.in_place.reached p q h back.0 back.1 far below near);
       });
       tagged = same_tags tags sound.tagged;
     }

@@ -4,8 +4,8 @@ use Rattle.std.proofs.lemmas.Bool.{cases_lt, cases_order}
 use Rattle.std.proofs.Math.Nat.{pow-suc, div-div-eq-div-mul}
 use Rattle.std.specs.Int.Count.{count_trailing_zeros}
 use Rattle.starlark_table.specs.Table.{holders}
-use Rattle.starlark_table.specs.Layout.{at, distance, home, tag, tag_bits, empty_tag, InPlace, IsTagged, BitsUpToEmpty}
-use Rattle.starlark_table.proofs.Circle.{home-below, distance-self, distance-ahead, distance-same, straight_to, round_on, between}
+use Rattle.starlark_table.specs.Layout.{at, distance, home, tag, tag_bits, empty_tag, InPlace, IsFar, IsTagged, BitsUpToEmpty}
+use Rattle.starlark_table.proofs.Circle.{home-below, distance-self, distance-ahead, distance-same, far_on, straight_to, round_on, between}
 use Rattle.starlark_table.proofs.Closing.{full_not_empty}
 use Rattle.starlark_table.proofs.Path.{path_from, path-run, path-over}
 use Rattle.starlark_table.proofs.Tagged.{tag-below, tag-member, empty-by_tag, full-by_tag}
@@ -129,6 +129,8 @@ module _ {T : Type 0} where
     pub its : bits ≡ tag_bits (tag hash) tags place (end - place)
     pub stop : end < start + 16 → get_or tags end 0 ≡ empty_tag
     pub straight : (q : ℕ) → start ≤ q → q ≤ end → q < length slots → way hash slots q ≡ way hash slots start + (q - start)
+    pub first : ((start ≡ home (length slots) hash) × (end ≡ start + 16))
+        ⊎ ((q : ℕ) → q < length slots → way hash slots start ≤ way hash slots q → IsFar (home (length slots) hash) q)
 
 module _ {T : Type 0} (hash : ℕ) (tags : List ℕ) (slots : List (Option (ℕ × T))) (tagged : IsTagged tags slots) (some : 0 < length slots) where
   home_in : home (length slots) hash < length slots
@@ -168,6 +170,7 @@ module _ {T : Type 0} (hash : ℕ) (tags : List ℕ) (slots : List (Option (ℕ 
         its = is ∙ ap (tag_bits (tag hash) tags a) whole;
         stop = λ less. absurd (omega arith);
         straight = λ q low high q_in. omega (arith, here, distance-ahead (length slots) a q low);
+        first = inl (refl, refl);
       }
 
   -- the place of the lowest bit, and the search past it
@@ -220,6 +223,7 @@ module _ {T : Type 0} (hash : ℕ) (tags : List ℕ) (slots : List (Option (ℕ 
               ∙ tag_bits-later (tag hash) tags place (suc k) (w.end - (place + k + 1)) (place + k + 1) n (omega arith) (omega arith);
           stop = w.stop;
           straight = w.straight;
+          first = w.first;
         };
       }
 
@@ -242,7 +246,23 @@ module _ {T : Type 0} (hash : ℕ) (tags : List ℕ) (slots : List (Option (ℕ 
       path-over hash (home (length slots) hash) (way hash slots start + (place - start)) slots home_in
       (λ q x q_in behind here.
       elim (cases_lt (way hash slots e) (way hash slots q)) [
-        | inl past ↦ full_not_empty (at slots e) (in_place.reached q e hash x here e_in past) none
+        | inl past ↦ elim w.first [
+          | inl at_home ↦
+              let a = home (length slots) hash in
+              let zero = distance-self (length slots) a in
+              let begins : way hash slots start ≡ 0 = ap (way hash slots) at_home.0 ∙ zero in
+              let far : IsFar a q → ⊥ = λ far. full_not_empty (at slots e) (in_place.reached q e hash x here far e_in past) none in
+              elim (cases_lt q a) [
+                | inl round ↦ far (inl round)
+                | inr ahead ↦
+                    let straight : way hash slots q ≡ q - a = distance-ahead (length slots) a q ahead in
+                    elim (cases_lt q (a + 16)) [
+                      | inl near ↦ none_left start place w q x (omega (arith, behind, straight, begins, at_home.0, from)) (omega (arith, near, at_home.0, at_home.1)) here
+                      | inr beyond ↦ far (inr beyond)
+                    ]
+              ]
+          | inr far ↦ full_not_empty (at slots e) (in_place.reached q e hash x here (far q q_in (omega (arith, e_way, past))) e_in past) none
+        ]
         | inr not_past ↦
             let j : ℕ = start + (way hash slots q - way hash slots start) in
             let j_to : j ≤ e = omega arith in
@@ -269,9 +289,10 @@ module _ {T : Type 0} (hash : ℕ) (tags : List ℕ) (slots : List (Option (ℕ 
   module _ (free : (q : ℕ) × (q < length slots) × (at slots q ≡ None)) where
     goes_on_to : (start place next bits end : ℕ) → AtWindow hash tags slots start place 0
         → ((p : ℕ) → start ≤ p → p < start + 16 → get_or tags p 0 ≢ empty_tag) → start < end → end ≤ length slots → end ≤ start + 16 → place ≤ end
+        → (end ≡ length slots) ⊎ (end ≡ start + 16)
         → ((end ≡ length slots) × (next ≡ 0)) ⊎ ((end < length slots) × (next ≡ end))
         → BitsUpToEmpty (tag hash) tags next bits → GoesOn start place next bits
-    goes_on_to start place next bits end w full more end_in end_to place_to which b =
+    goes_on_to start place next bits end w full more end_in end_to place_to ends which b =
         let a = home (length slots) hash in
         let full_at : (q : ℕ) → start ≤ q → q < end → IsSome (at slots q) = λ q low high. full-by_tag tags slots q tagged (omega arith) (full q low (omega arith)) in
         let p = passed tags slots tagged a home_in free start next end w.start_in more end_in w.path full_at which in
@@ -296,6 +317,14 @@ module _ {T : Type 0} (hash : ℕ) (tags : List ℕ) (slots : List (Option (ℕ 
             straight = λ q low high q_in.
                 straight_over tags slots tagged a home_in free next q p.in_range q_in low p.path
                 (λ r from' below. full-by_tag tags slots r tagged (omega arith) (b.full r from' (omega arith)));
+            first = inr (λ q q_in late. elim w.first [
+              | inl at_home ↦
+                  let begins : way hash slots start ≡ 0 = ap (way hash slots) at_home.0 ∙ distance-self (length slots) a in
+                  far_on (length slots) a end q home_in q_in
+                  (elim ends [ inl last ↦ inl last | inr whole' ↦ inr (omega (arith, whole', at_home.0)) ])
+                  (omega (arith, way_next, begins, at_home.0, late))
+              | inr far ↦ far q q_in (omega (arith, way_next, late))
+            ]);
           };
           left = path-run hash a place (way hash slots start + (place - start)) (end - place) slots home_in (omega arith)
               (λ q low high. let straight = w.straight q (omega arith) (omega (arith, whole)) (omega arith) in omega arith)
@@ -314,6 +343,6 @@ module _ {T : Type 0} (hash : ℕ) (tags : List ℕ) (slots : List (Option (ℕ 
         let to = w.to in
         let short = w.short in
         elim (cases_lt mask (start + 16)) [
-          | inl last ↦ goes_on_to start place next bits (length slots) w full start_in (omega arith) (omega arith) place_in (inl (refl, round last)) b
-          | inr more ↦ goes_on_to start place next bits (start + 16) w full (omega arith) (omega arith) (omega arith) (omega arith) (inr (omega arith, on more)) b
+          | inl last ↦ goes_on_to start place next bits (length slots) w full start_in (omega arith) (omega arith) place_in (inl refl) (inl (refl, round last)) b
+          | inr more ↦ goes_on_to start place next bits (start + 16) w full (omega arith) (omega arith) (omega arith) (omega arith) (inr refl) (inr (omega arith, on more)) b
         ]

@@ -1,14 +1,26 @@
 //! Removal from the slots: the members behind an emptied place move back, so that none is lost to its search.
-ghost use Rattle.std.specs.Prelude.{◌≡◌, ◌≢◌, ℕ, ◌<◌, ◌≤◌, None, ◌∷◌, length, IfSome, IfNone, IsPermutation, slice_set};
+ghost use Rattle.std.specs.Prelude.{◌≡◌, ◌≢◌, ℕ, ◌<◌, ◌≤◌, None, true, false, ◌∷◌, length, IfSome, IfNone, IsPermutation, slice_set};
 ghost use Rattle.starlark_table.specs.Table.{filled};
-ghost use Rattle.starlark_table.specs.Layout.{at, InPlace, HasGap, IsTagged};
+ghost use Rattle.starlark_table.specs.Layout.{at, distance, InPlace, HasGap, IsFar, IsTagged};
 ghost use Rattle.starlark_table.specs.Growth.{limit};
 
 use crate::follow::Follows;
 use crate::kept::{Kept, KeptHash};
-use crate::places::{distance, home_among, next_place};
+use crate::places::{distance, home_among, is_far, next_place};
 use crate::probe::{Slots, is_full};
-use crate::tags::EMPTY;
+use crate::tags::{EMPTY, is_passed};
+
+// Whether a member stands behind the first window of its search, and has the hole on its way.
+#[inline]
+fn crosses(count: usize, home: usize, hole: usize, place: usize) -> bool
+    requires home { home < count }
+    requires hole { hole < count }
+    requires place { place < count }
+    ensures yes { result ≡ true → IsFar home place × distance count home hole < distance count home place }
+    ensures no { result ≡ false → IsFar home place → distance count home place ≤ distance count home hole }
+{
+    is_far(home, place) && distance(count, home, hole) < distance(count, home, place)
+}
 
 // Moves members back, each with its tag, so that no way from a home to its member crosses the empty place `start`. What
 // follows is told of each.
@@ -37,7 +49,7 @@ pub(crate) fn close_gap<T, H: KeptHash, F: Follows<T>>(
     let mut next = next_place(start, count);
     while tags[next] != EMPTY {
         let home = home_among(count, &slots.get(next).0);
-        if distance(count, home, hole) < distance(count, home, next) {
+        if crosses(count, home, hole, next) {
             let member = slots.take(next);
             follower.moved(&member.1, hole);
             slots.write(hole, member);
@@ -72,8 +84,11 @@ pub(crate) fn take_out<T, H: KeptHash, F: Follows<T>>(
     if !is_full(slots, tags, slot) {
         return None;
     }
+    let passed = is_passed(tags, slot);
     let member = slots.take(slot);
     tags[slot] = EMPTY;
-    close_gap(slots, tags, slot, follower);
+    if passed {
+        close_gap(slots, tags, slot, follower);
+    }
     Some(member)
 }

@@ -1,6 +1,6 @@
 //! Places round a circle: where a hash belongs, which place is next, and how far one is behind another.
-ghost use Rattle.std.specs.Prelude.{◌≡◌, ℕ, ◌+◌, ◌^◌, ◌<◌, ◌≤◌, ◌==◌, if◌then◌else◌};
-ghost use Rattle.starlark_table.specs.Layout.{distance, home, window, IsMask};
+ghost use Rattle.std.specs.Prelude.{◌≡◌, ℕ, ◌+◌, ◌^◌, ◌<◌, ◌≤◌, ◌==◌, if◌then◌else◌, true, false};
+ghost use Rattle.starlark_table.specs.Layout.{distance, home, window, IsFar, IsMask};
 
 use crate::kept::{Kept, KeptHash};
 use crate::probe::Slots;
@@ -51,6 +51,15 @@ pub(crate) fn home_among<H: KeptHash>(count: usize, hash: &Kept<H>) -> usize
     ensures { result ≡ home count hash.now }
 {
     home(hash.number(), count - 1)
+}
+
+// Whether a place stands outside the first window from another one on.
+#[inline]
+pub(crate) fn is_far(from: usize, place: usize) -> bool
+    ensures yes { result ≡ true → IsFar from place }
+    ensures no { result ≡ false → IsFar from place → ⊥ }
+{
+    place < from || place - from >= WINDOW
 }
 
 // How many steps lead from one place to another.

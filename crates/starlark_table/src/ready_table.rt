@@ -29,7 +29,8 @@ use std::mem;
 /// A bag of items, each under a 64-bit hash that was ready when it came in, and that it keeps. Items need not differ,
 /// nor their hashes. It is seen as its slots and its room. Length plus room falls in no call.
 ///
-/// Open addressing: each slot is empty or has a member, and all slots on the way from a member's home to it are full.
+/// Open addressing: each slot is empty or has a member. A member stands among the first sixteen slots from its home on, or all
+/// slots on the way from its home to it are full.
 /// Beside each slot stands a tag, one byte of the hash: by the tags a search mostly sees at once where its hash may be.
 ///
 /// In its slots a table keeps of each hash what `H` keeps: all 64 bits, or a `StarlarkHashValue`, which stands for its

@@ -1,6 +1,6 @@
 //! A tag of one byte for each place: what a search reads to tell where a hash may be, and which places are empty.
-ghost use Rattle.std.specs.Prelude.{◌≡◌, ℕ, ◌+◌, ◌-◌, ◌<◌, ◌≤◌, None, length};
-ghost use Rattle.starlark_table.specs.Layout.{tag, at, window, tag_count, tag_bits, hash_tag_bits, AreDoubled, BitsUpToEmpty, IsTagged, HasTags, IsPadded};
+ghost use Rattle.std.specs.Prelude.{◌≡◌, ℕ, ◌+◌, ◌-◌, ◌<◌, ◌≤◌, ◌≢◌, None, false, length, slice_index_or};
+ghost use Rattle.starlark_table.specs.Layout.{tag, at, window, tag_count, tag_bits, hash_tag_bits, empty_tag, AreDoubled, BitsUpToEmpty, IsBetweenEmpty, IsTagged, HasTags, IsPadded};
 
 use crate::kept::KeptHash;
 use crate::probe::Slots;
@@ -60,6 +60,26 @@ pub(crate) fn places_up_to_empty(tags: &[u8], start: usize, tag: u8) -> u64
         return same;
     }
     same & ((1 << empty.trailing_zeros()) - 1)
+}
+
+// Whether a member behind the first window of its search may have this place, which is full, on its way: there are no
+// empty places on both sides of it, or they are more than sixteen places apart.
+#[inline]
+pub(crate) fn is_passed(tags: &[u8], place: usize) -> bool
+    requires room { place + 1 + window ≤ length tags.now }
+    requires full { slice_index_or tags.now place 0 ≢ empty_tag }
+    ensures { result ≡ false → IsBetweenEmpty tags.now place }
+{
+    let behind = places_with(tags, place + 1, EMPTY);
+    if behind == 0 {
+        return true;
+    }
+    let end = place + 1 + behind.trailing_zeros() as usize;
+    if end <= WINDOW {
+        let before = places_with(tags, 0, EMPTY);
+        return before.trailing_zeros() as usize >= place;
+    }
+    places_with(tags, end - 1 - WINDOW, EMPTY) == 0
 }
 
 // A bit for each place of a window from one on: whether it is full. With the bits the end of that window.

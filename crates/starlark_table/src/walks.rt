@@ -3,11 +3,11 @@ ghost use Rattle.std.specs.Prelude.{◌≡◌, ℕ, ◌<◌, ◌≤◌, ◌⊎�
 ghost use Rattle.std.specs.List.Retain.{RetainsInTurn};
 ghost use Rattle.starlark_table.specs.Table.{filled, items_in};
 ghost use Rattle.starlark_table.specs.Walk.{CanReplace, ReplacesEach, ReplacesWithin, CanRetain, TakesAtMut, AsksMember};
-ghost use Rattle.starlark_table.specs.Layout.{at, distance, AreDoubled, InPlace, IsTagged, IsTaggedFrom, ReachesBefore, StandsIn};
+ghost use Rattle.starlark_table.specs.Layout.{at, distance, AreDoubled, InPlace, IsFar, IsTagged, IsTaggedFrom, ReachesBefore, StandsIn};
 ghost use Rattle.starlark_table.specs.Growth.{limit};
 
 use crate::kept::{Kept, KeptHash};
-use crate::places::{home_among, next_place};
+use crate::places::{home_among, is_far, next_place};
 use crate::probe::{Slots, free_place};
 use crate::tags::{EMPTY, full_places, tags_beside};
 use starlark_columns::Bytes;
@@ -174,7 +174,7 @@ fn settle<T, H: KeptHash>(slots: &mut Slots<T, H>, tags: &mut [u8], start: usize
     for step in 1..count {
         if tags[place] != EMPTY {
             let home = home_among(count, &slots.get(place).0);
-            let to = free_before(slots, tags, home, place);
+            let to = moves_to(slots, tags, home, place);
             if to != place {
                 let member = slots.take(place);
                 slots.write(to, member);
@@ -182,6 +182,23 @@ fn settle<T, H: KeptHash>(slots: &mut Slots<T, H>, tags: &mut [u8], start: usize
             }
         }
         place = next_place(place, count);
+    }
+}
+
+// Where a member moves: to the first empty place on its way, where it stands behind its first window.
+fn moves_to<T, H: KeptHash>(slots: &Slots<T, H>, tags: &[u8], home: usize, place: usize) -> usize
+    requires tagged { IsTagged tags.now slots.now }
+    requires home { home < length slots.now }
+    requires place { place < length slots.now }
+    ensures within { result < length slots.now }
+    ensures near { distance (length slots.now) home result ≤ distance (length slots.now) home place }
+    ensures empty { (result ≡ place) ⊎ (at slots.now result ≡ None) }
+    ensures path { IsFar home place → (q : ℕ) → q < length slots.now → distance (length slots.now) home q < distance (length slots.now) home result → IsSome (at slots.now q) }
+{
+    if is_far(home, place) {
+        free_before(slots, tags, home, place)
+    } else {
+        place
     }
 }
 

@@ -1,14 +1,14 @@
 use Rattle.std.proofs.Common.{◌≡◌, ◌<◌, ◌≤◌, Some, None, refl, sym, ◌∙◌, ap, subst, subst₂}
 use Rattle.std.specs.List.{swap}
 use Rattle.std.proofs.Math.ListN.{set}
-use Rattle.starlark_table.specs.Layout.{distance, home, HasGap, InPlace}
+use Rattle.starlark_table.specs.Layout.{distance, home, HasGap, InPlace, IsFar}
 use Rattle.starlark_table.proofs.Circle.{distance-below, less-left, home-below, some_below}
 use Rattle.starlark_table.proofs.Closing.{closing-begins, swapped_slots, closing-ends, closing-next_place, closing-can_move, closing-member_stays, closing-member_moved}
 use Rattle.std.proofs.lemmas.List.Sorted.{IsPermutation-refl, IsPermutation-trans}
 use Rattle.starlark_table.proofs.Tagged.{tagged-swapped, empty-by_tag}
 use Rattle.starlark_table.proofs.Filling.{filled-by_tag, taken_and_written}
 use Rattle.starlark_table.proofs.gap.close_gap.Goals as goal
-use Rattle.starlark_table.proofs.gap.close_gap.Goals.{then-distance, else-distance}
+use Rattle.starlark_table.proofs.gap.close_gap.Goals.{then-crosses, else-crosses}
 
 pub loop-tags-init : goal.loop-tags-init
 loop-tags-init g c =
@@ -30,13 +30,8 @@ get-requires g c =
     let k = c.loop-tags.invariant.closing in
     filled-by_tag c.loop-tags.tags c.loop-tags.slots c.loop-tags.next c.loop-tags.invariant.tagged (rw k.sized k.next_in) c.loop-tags-test.true
 
-pub distance-requires-clause-from : goal.distance-requires-clause-from
-distance-requires-clause-from g c =
-    let k = c.loop-tags.invariant.closing in
-    rw c.home_among-home.ensures (home-below _ c.get.result.now.0 (some_below _ _ k.next_in))
-
-pub distance-requires-in-loop-tags-clause-from : goal.distance-requires-in-loop-tags-clause-from
-distance-requires-in-loop-tags-clause-from g c =
+pub crosses-requires-clause-home : goal.crosses-requires-clause-home
+crosses-requires-clause-home g c =
     let k = c.loop-tags.invariant.closing in
     rw c.home_among-home.ensures (home-below _ c.get.result.now.0 (some_below _ _ k.next_in))
 
@@ -66,10 +61,10 @@ loop-tags-preserved g c =
     let next = c.loop-tags.next in
     let member = c.get.result.now in
     let here = c.get.ensures in
-    elim c.if-distance.branch [
-      | then-distance w ↦
-          let crosses : distance count (home count member.0) hole < distance count (home count member.0) next =
-          rw (← c.home_among-home.ensures, ← c.distance.ensures, ← c.distance-in-loop-tags.ensures) w.if-distance.true in
+    elim c.if-crosses.branch [
+      | then-crosses w ↦
+          let crosses : IsFar (home count member.0) next × distance count (home count member.0) hole < distance count (home count member.0) next =
+          subst (λ a. IsFar a next × distance count a hole < distance count a next) c.home_among-home.ensures (c.crosses.ensures.yes w.if-crosses.true) in
           let written : w.write.new.self ≡ set (set slots next None) hole (Some w.take-member.result) =
           w.write.ensures ∙ ap (λ l. set l hole (Some w.take-member.result)) w.take-member.ensures.places in
           let is : w.write.new.self ≡ swap slots hole next = written
@@ -78,7 +73,7 @@ loop-tags-preserved g c =
           let moved = swapped_slots slots w.write.new.self hole next count member k.sized k.hole_in k.next_in k.empty here is in
           record {
             counted = rw (w.slots-is, moved.0.same_length) (sym k.sized);
-            closing = rw (w.slots-is, w.hole-is) (closing-member_moved count c.args.start slots w.write.new.self hole next _ member.0 member.1 k here moved.0 c.next_place-next-in-loop-tags.ensures crosses);
+            closing = rw (w.slots-is, w.hole-is) (closing-member_moved count c.args.start slots w.write.new.self hole next _ member.0 member.1 k here moved.0 c.next_place-next-in-loop-tags.ensures crosses.0 crosses.1);
             bag = rw w.slots-is (IsPermutation-trans _ _ _ c.loop-tags.invariant.bag moved.1);
             tagged = rw (w.slots-is, w.tags-is, is, w.swap.ensures.after)
                 (tagged-swapped c.loop-tags.tags slots hole next (rw k.sized k.hole_in) (rw k.sized k.next_in) c.loop-tags.invariant.tagged);
@@ -86,8 +81,9 @@ loop-tags-preserved g c =
                 (w.moved.ensures.known slots next w.take-member.result.0 can_move c.loop-tags.invariant.known);
             size = rw w.follower-is (w.moved.ensures.size ∙ c.loop-tags.invariant.size);
           }
-      | else-distance w ↦ let near : distance count (home count member.0) next ≤ distance count (home count member.0) hole =
-          rw (← c.home_among-home.ensures, ← c.distance.ensures, ← c.distance-in-loop-tags.ensures) w.if-distance.false in
+      | else-crosses w ↦ let near : IsFar (home count member.0) next → distance count (home count member.0) next ≤ distance count (home count member.0) hole = λ far.
+          subst (λ a. distance count a next ≤ distance count a hole) c.home_among-home.ensures
+          (c.crosses.ensures.no w.if-crosses.false (subst (λ a. IsFar a next) (sym c.home_among-home.ensures) far)) in
           record {
             counted = rw w.slots-is (sym k.sized);
             closing = rw (w.slots-is, w.hole-is) (closing-member_stays count c.args.start slots hole next _ member.0 member.1 k here c.next_place-next-in-loop-tags.ensures near);

@@ -1,4 +1,6 @@
-use Rattle.std.proofs.Common.{ℕ, ◌≡◌, false, length, arith, refl, sym, subst}
+use Rattle.std.proofs.Common.{ℕ, ◌≡◌, ◌+◌, ◌<◌, false, length, arith, refl, sym, subst, inl, inr}
+use Rattle.std.proofs.lemmas.Bool.{cases_lt}
+use Rattle.starlark_table.proofs.TagCount.{long_tags}
 use Rattle.std.specs.Fn.{CalledAt}
 use Rattle.std.proofs.lemmas.Fn.{called_at}
 use Rattle.starlark_table.proofs.Searching.{searches_none}
@@ -87,6 +89,17 @@ returns-then-places_with-ne0-2-clause-found g c = (
   looking_ends g.F.FnMut c.args.hash c.args.tags.now c.args.slots.now c.args.eq c.requires.tagged c.windows.start c.windows.place c.windows.same c.windows.eq c.windows.invariant
       c.if-same-eq0.true c.places_with-then-same-eq0.result c.places_with-then-same-eq0.ensures c.requires.in_place c.if-places_with-ne0-2.true,
 )
+
+pub places_up_to_empty-same-requires : goal.places_up_to_empty-same-requires
+places_up_to_empty-same-requires g c =
+    let start_in = c.windows.invariant.window.start_in in
+    let some : 0 < length c.args.slots.now = omega (arith, start_in) in
+    let long = long_tags c.args.tags.now c.args.slots.now c.requires.tagged.sized some in
+    let masked = c.requires.mask some in
+    elim (cases_lt c.args.mask (c.windows.start + 16)) [
+      | inl last ↦ omega (arith, c.window_after-start.ensures.round last, long, masked)
+      | inr more ↦ omega (arith, c.window_after-start.ensures.on more, more, long, masked)
+    ]
 
 pub windows-smaller-then-same-eq0 : goal.windows-smaller-then-same-eq0
 windows-smaller-then-same-eq0 g c =

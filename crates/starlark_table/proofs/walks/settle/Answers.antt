@@ -2,7 +2,7 @@ use Rattle.std.proofs.Common.{ℕ, ◌≡◌, ◌<◌, ◌≤◌, ◌+◌, IsSom
 use Rattle.std.specs.List.{swap}
 use Rattle.std.proofs.Math.ListN.{set}
 use Rattle.std.proofs.lemmas.List.Sorted.{IsPermutation-refl, IsPermutation-trans}
-use Rattle.starlark_table.specs.Layout.{distance, home, at, InPlace, ReachesBefore, IsTagged}
+use Rattle.starlark_table.specs.Layout.{distance, home, at, InPlace, IsFar, ReachesBefore, IsTagged}
 use Rattle.starlark_table.proofs.Circle.{distance-self, next-step, home-below, some_below}
 use Rattle.starlark_table.proofs.Settling.{Steps, settled_first, settled_all, steps_on, steps_over}
 use Rattle.starlark_table.proofs.Tagged.{tagged-swapped, empty-by_tag}
@@ -38,8 +38,8 @@ get-requires g c =
     let placed = k.placed c.loop-step-test.true in
     filled-by_tag c.loop-step.tags c.loop-step.slots c.loop-step.place k.tagged (subst (λ n. c.loop-step.place < n) (sym k.sized) placed.0) c.if-tags-place.true
 
-pub free_before-to-requires-clause-start : goal.free_before-to-requires-clause-start
-free_before-to-requires-clause-start g c =
+pub moves_to-to-requires-clause-home : goal.moves_to-to-requires-clause-home
+moves_to-to-requires-clause-home g c =
     let k = c.loop-step.invariant in
     let placed = k.placed c.loop-step-test.true in
     rw (c.home_among-home.ensures, k.sized) (home-below _ c.get.result.now.0 (some_below _ _ placed.0))
@@ -54,8 +54,8 @@ loop-step-preserved g c =
     let place_in : place < length cur = subst (λ n. place < n) (sym k.sized) placed.0 in
     let both : Steps m c.args.start c.loop-step.step cur c.if-tags-place.slots × IsTagged c.if-tags-place.tags c.if-tags-place.slots = elim c.if-tags-place.branch [
       | then-tags-place+then-to-place w ↦
-          let free = w.free_before-to.ensures in
-          let to = w.free_before-to.result in
+          let free = w.moves_to-to.ensures in
+          let to = w.moves_to-to.result in
           let member = w.get.result.now in
           let there = empty_place cur to place w.if-to-place.true free.empty in
           let is : c.if-tags-place.slots ≡ swap cur to place =
@@ -65,23 +65,23 @@ loop-step-preserved g c =
                 k.start_in k.sized (subst (λ n. to < n) k.sized free.within) placed.0 placed.1 w.get.ensures k.reaches k.settled
                 (subst (λ n. distance n (home m member.0) to ≤ distance n (home m member.0) place) k.sized
                 (subst (λ a. distance (length cur) a to ≤ distance (length cur) a place) w.home_among-home.ensures free.near))
-                (subst (λ n. (q : ℕ) → q < n → distance n (home m member.0) q < distance n (home m member.0) to → IsSome (at cur q)) k.sized
-                (subst (λ a. (q : ℕ) → q < length cur → distance (length cur) a q < distance (length cur) a to → IsSome (at cur q)) w.home_among-home.ensures free.path))
+                (subst (λ n. IsFar (home m member.0) place → (q : ℕ) → q < n → distance n (home m member.0) q < distance n (home m member.0) to → IsSome (at cur q)) k.sized
+                (subst (λ a. IsFar a place → (q : ℕ) → q < length cur → distance (length cur) a q < distance (length cur) a to → IsSome (at cur q)) w.home_among-home.ensures free.path))
                 free.empty is,
             subst (λ l. IsTagged c.if-tags-place.tags l) (sym is)
                 (subst (λ l. IsTagged l (swap cur to place)) (sym (w.tags-is ∙ w.swap.ensures.after))
                 (tagged-swapped c.loop-step.tags cur to place free.within place_in k.tagged)),
           )
       | then-tags-place+else-to-place w ↦
-          let free = w.free_before-to.ensures in
-          let to = w.free_before-to.result in
+          let free = w.moves_to-to.ensures in
+          let to = w.moves_to-to.result in
           let member = w.get.result.now in (
             steps_on m c.args.start cur c.if-tags-place.slots to place c.loop-step.step member.0 member.1
                 k.start_in k.sized (subst (λ n. to < n) k.sized free.within) placed.0 placed.1 w.get.ensures k.reaches k.settled
                 (subst (λ n. distance n (home m member.0) to ≤ distance n (home m member.0) place) k.sized
                 (subst (λ a. distance (length cur) a to ≤ distance (length cur) a place) w.home_among-home.ensures free.near))
-                (subst (λ n. (q : ℕ) → q < n → distance n (home m member.0) q < distance n (home m member.0) to → IsSome (at cur q)) k.sized
-                (subst (λ a. (q : ℕ) → q < length cur → distance (length cur) a q < distance (length cur) a to → IsSome (at cur q)) w.home_among-home.ensures free.path))
+                (subst (λ n. IsFar (home m member.0) place → (q : ℕ) → q < n → distance n (home m member.0) q < distance n (home m member.0) to → IsSome (at cur q)) k.sized
+                (subst (λ a. IsFar a place → (q : ℕ) → q < length cur → distance (length cur) a q < distance (length cur) a to → IsSome (at cur q)) w.home_among-home.ensures free.path))
                 free.empty (w.slots-is ∙ sym (swapped_with_itself cur to place place_in w.if-to-place.false)),
             subst (λ l. IsTagged c.if-tags-place.tags l) (sym w.slots-is) (subst (λ l. IsTagged l cur) (sym w.tags-is) k.tagged),
           )

@@ -1,0 +1,76 @@
+use Rattle.std.proofs.Common.{ℕ, ◌≡◌, ◌≢◌, ◌+◌, ◌-◌, ◌<◌, ◌≤◌, arith, refl, sym, ◌∙◌, ap, subst, inl, inr, eq-eqb, slice_index_or}
+use Rattle.std.proofs.lemmas.Bool.{le-leb}
+use Rattle.std.proofs.lemmas.Bool.{cases_lt, cases_order, false≢true}
+use Rattle.std.specs.Int.Count.{count_trailing_zeros, trailing_of_zero}
+use Rattle.starlark_table.specs.Layout.{tag_bits, empty_tag}
+use Rattle.starlark_table.proofs.TagBits.{first-by_bits}
+use Rattle.starlark_table.proofs.tags.is_passed.Goals as goal
+
+pub returns-then-end-le-WINDOW : goal.returns-then-end-le-WINDOW
+returns-then-end-le-WINDOW c = λ said.
+    let tags = c.args.tags.now in
+    let place = c.args.place in
+    let bits = c.places_with-behind.ensures in
+    let k : ℕ = count_trailing_zeros 64 c.places_with-behind.result in
+    let high = first-by_bits 255 tags (place + 1) 16 c.requires.room k (omega arith) (λ none. c.if-behind-eq0.false (bits ∙ none)) (ap (count_trailing_zeros 64) bits) in
+    let within = high.within in
+    let low_bits = c.places_with-before.ensures in
+    let low : ℕ = count_trailing_zeros 64 c.places_with-before.result in
+    let end = c.if-end-le-WINDOW.true in
+    elim (cases_lt low place) [
+      | inl less ↦
+          let some : tag_bits 255 tags 0 16 ≢ 0 = λ none. let z : low ≡ 64 = ap (count_trailing_zeros 64) (low_bits ∙ none) ∙ trailing_of_zero 64 in omega (arith, z, less, end) in
+          let first = first-by_bits 255 tags 0 16 (omega (arith, c.requires.room)) low (omega arith) some (ap (count_trailing_zeros 64) low_bits) in
+          record {
+            low = 0 + low;
+            high = place + 1 + k;
+            before = omega (arith, less);
+            behind = omega arith;
+            short = omega (arith, end);
+            within = omega (arith, c.requires.room, within);
+            low_empty = first.there;
+            high_empty = high.there;
+          }
+      | inr more ↦ absurd (false≢true (sym said ∙ le-leb place low more))
+    ]
+
+pub places_with-requires : goal.places_with-requires
+places_with-requires c =
+    let bits = c.places_with-behind.ensures in
+    let high = first-by_bits 255 c.args.tags.now (c.args.place + 1) 16 c.requires.room (count_trailing_zeros 64 c.places_with-behind.result) (omega arith) (λ none. c.if-behind-eq0.false (bits ∙ none))
+    (ap (count_trailing_zeros 64) bits) in
+    let within = high.within in
+    omega (arith, c.requires.room, within, c.if-end-le-WINDOW.false)
+
+pub returns : goal.returns
+returns c = λ said.
+    let tags = c.args.tags.now in
+    let place = c.args.place in
+    let bits = c.places_with-behind.ensures in
+    let k : ℕ = count_trailing_zeros 64 c.places_with-behind.result in
+    let high = first-by_bits 255 tags (place + 1) 16 c.requires.room k (omega arith) (λ none. c.if-behind-eq0.false (bits ∙ none)) (ap (count_trailing_zeros 64) bits) in
+    let within = high.within in
+    let end = c.if-end-le-WINDOW.false in
+    let from : ℕ = place + 1 + k - 1 - 16 in
+    let low_bits = c.places_with.ensures in
+    let some : c.places_with.result ≢ 0 = λ none. false≢true (sym said ∙ eq-eqb c.places_with.result 0 none) in
+    let j : ℕ = count_trailing_zeros 64 c.places_with.result in
+    let first = first-by_bits 255 tags from 16 (omega (arith, c.requires.room, within, end)) j (omega arith) (λ none. some (low_bits ∙ none)) (ap (count_trailing_zeros 64) low_bits) in
+    let short = first.within in
+    let below : from + j < place = elim (cases_order (from + j) place) [
+      | inl same ↦ absurd (c.requires.full (subst (λ p. slice_index_or tags p 0 ≡ empty_tag) same first.there))
+      | inr sides ↦ elim sides [
+        | inl less ↦ less
+        | inr more ↦ absurd (high.before (from + j) (omega (arith, more)) (omega (arith, short, end)) first.there)
+      ]
+    ] in
+    record {
+      low = from + j;
+      high = place + 1 + k;
+      before = below;
+      behind = omega arith;
+      short = omega (arith, end);
+      within = omega (arith, c.requires.room, within);
+      low_empty = first.there;
+      high_empty = high.there;
+    }
