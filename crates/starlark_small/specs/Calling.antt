@@ -1,7 +1,7 @@
 -- What a caller of a `SmallMap` says of it: what a query finds under its own hash, and what a call leaves at its query and at
 -- all other keys. Sets, ordered and sorted types share these words: a set is a map to `()`. All of them but `found`,
 -- `found_key` and `AreOwnEntries` unfold by themselves in callers' proofs.
-use Rattle.std.specs.Prelude.{◌≡◌, ℕ, All, Bool, false, List, Option, Some, None, is_some, map}
+use Rattle.std.specs.Prelude.{◌≡◌, ℕ, ◌+◌, length, remove, if◌then◌else◌, All, Bool, false, List, Option, Some, None, is_some, map}
 use Rattle.std.specs.Hash as fed
 use Rattle.std.specs.Hash.{HashWrites}
 use Rattle.std.specs.Str.{bytes_eq}
@@ -9,9 +9,9 @@ use Rattle.std.specs.String.{string_bytes}
 use Rattle.std.specs.declared.string.String.{String}
 use Rattle.starlark_hash.specs.Hasher.{own_hash}
 use Rattle.starlark_hash.specs.declared.hash_value.StarlarkHashValue.{StarlarkHashValue}
-use Rattle.starlark_lists.specs.Entries.{Entry, entry_hash, entry_key}
+use Rattle.starlark_lists.specs.Entries.{Entry, entry_hash, entry_key, without}
 use Rattle.starlark_lists.specs.Finding.{found, found_key, Writes}
-use Rattle.starlark_small.specs.Map.{Map}
+use Rattle.starlark_small.specs.Map.{Map, KeepsMemory}
 
 -- the keys of a map in order
 abbrev pub keys : {K V : Type 0} → Map K V → List K
@@ -60,6 +60,20 @@ module _ {K V : Type 0} where
   AreOwn feeds m = AreOwnEntries feeds m.entries
 
 module _ {K V : Type 0} (eq : K → K → Bool) where
+  -- what a test under a hash names was taken out from its place, if it was there
+  pub record Removes (test : K → Bool) (hash : StarlarkHashValue) (place : Option ℕ) (old new : Map K V) : Type 0 where
+    pub entries : new.entries ≡ without old.entries place
+    pub updates : Writes eq test hash old.entries new.entries None
+    pub count : length old.entries ≡ length new.entries + (if is_some (found test hash old.entries) then 1 else 0)
+    pub own : (feeds : K → HashWrites) → AreOwn feeds old → AreOwn feeds new
+    pub kept : KeepsMemory old new
+
+  -- what stood at a place was taken out, if something stood there
+  pub record RemovesAt (place : ℕ) (old new : Map K V) : Type 0 where
+    pub entries : new.entries ≡ remove old.entries place
+    pub own : (feeds : K → HashWrites) → AreOwn feeds old → AreOwn feeds new
+    pub kept : KeepsMemory old new
+
   -- the entry of this key and value was taken out from its place: each key that it is not equal to has what it had, and where
   -- keys stand under their own hashes the value was at the key, and is gone
   pub record TakesOut (old new : Map K V) (key : K) (value : V) : Type 0 where

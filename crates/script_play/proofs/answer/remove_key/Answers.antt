@@ -14,7 +14,7 @@ returns-in_err-_key-clause-old c =
 pub returns-in_err-_key-clause-entries : goal.returns-in_err-_key-clause-entries
 returns-in_err-_key-clause-entries c =
     removed c.args.map.now.entries c.shift_remove_hashed_entry.new.self.entries (hash_of c.args.key) (key_of c.args.key).0.now
-    (rw (c.as_ref.ensures.hash, c.as_ref.ensures.key) at c.shift_remove_hashed_entry.ensures.entries)
+    (rw (c.as_ref.ensures.hash, c.as_ref.ensures.key) at c.shift_remove_hashed_entry.ensures.removes.entries)
 
 pub returns-clause-old : goal.returns-clause-old
 returns-clause-old c =
@@ -25,4 +25,4 @@ returns-clause-old c =
 pub returns-clause-entries : goal.returns-clause-entries
 returns-clause-entries c =
     removed c.args.map.now.entries c.shift_remove_hashed_entry.new.self.entries (hash_of c.args.key) (key_of c.args.key).0.now
-    (rw (c.as_ref.ensures.hash, c.as_ref.ensures.key) at c.shift_remove_hashed_entry.ensures.entries)
+    (rw (c.as_ref.ensures.hash, c.as_ref.ensures.key) at c.shift_remove_hashed_entry.ensures.removes.entries)

@@ -7,9 +7,9 @@ pub returns-clause-updates : goal.returns-clause-updates
 returns-clause-updates g c =
     rw (← c.self.view_is)
     (writes-removed g.K.PartialEq.eq g.met.K.Eq.laws (g.Q.Equivalent.equivalent c.args.key.now) (λ x y does. g.met.Q.Equivalent.respects_eq c.args.key.now x y does) (own_hash g.Q.Hash.hash_input c.args.key.now)
-    c.self.inside.0.entries c.shift_remove.new.self.entries c.iter_hashed-entries.ensures.single c.shift_remove.ensures.entries)
+    c.self.inside.0.entries c.shift_remove.new.self.entries c.iter_hashed-entries.ensures.single c.shift_remove.ensures.removes.entries)
 
 pub returns-clause-length : goal.returns-clause-length
 returns-clause-length g c =
     rw (← c.self.view_is)
-    (length-removed (g.Q.Equivalent.equivalent c.args.key.now) (own_hash g.Q.Hash.hash_input c.args.key.now) c.self.inside.0.entries c.shift_remove.new.self.entries c.shift_remove.ensures.entries)
+    (length-removed (g.Q.Equivalent.equivalent c.args.key.now) (own_hash g.Q.Hash.hash_input c.args.key.now) c.self.inside.0.entries c.shift_remove.new.self.entries c.shift_remove.ensures.removes.entries)

@@ -15,11 +15,11 @@ pub returns-in_err-element-clause-updates : goal.returns-in_err-element-clause-u
 returns-in_err-element-clause-updates g c =
     rw (← c.self.view_is)
     (writes-removed g.T.PartialEq.eq g.met.T.Eq.laws (g.Q.Equivalent.equivalent c.args.key.now) (λ x y does. g.met.Q.Equivalent.respects_eq c.args.key.now x y does) (own_hash g.Q.Hash.hash_input c.args.key.now)
-    c.self.inside.map.entries c.shift_remove_entry.new.self.entries c.iter_hashed-entries.ensures.single c.shift_remove_entry.ensures.entries)
+    c.self.inside.map.entries c.shift_remove_entry.new.self.entries c.iter_hashed-entries.ensures.single c.shift_remove_entry.ensures.removes.entries)
 
 pub returns-in_err-element-clause-length : goal.returns-in_err-element-clause-length
 returns-in_err-element-clause-length g c =
-    rw (← c.self.view_is) (length-removed (g.Q.Equivalent.equivalent c.args.key.now) (own_hash g.Q.Hash.hash_input c.args.key.now) c.self.inside.map.entries c.shift_remove_entry.new.self.entries c.shift_remove_entry.ensures.entries)
+    rw (← c.self.view_is) (length-removed (g.Q.Equivalent.equivalent c.args.key.now) (own_hash g.Q.Hash.hash_input c.args.key.now) c.self.inside.map.entries c.shift_remove_entry.new.self.entries c.shift_remove_entry.ensures.removes.entries)
 
 pub returns-clause-was : goal.returns-clause-was
 returns-clause-was g c = key_found (g.Q.Equivalent.equivalent c.args.key.now) (own_hash g.Q.Hash.hash_input c.args.key.now) c.args.self.now.entries (Some c.in_ok-element.element) (first_of (search rules, grind (arith, common_steps)))
@@ -34,8 +34,8 @@ pub returns-clause-updates : goal.returns-clause-updates
 returns-clause-updates g c =
     rw (← c.self.view_is)
     (writes-removed g.T.PartialEq.eq g.met.T.Eq.laws (g.Q.Equivalent.equivalent c.args.key.now) (λ x y does. g.met.Q.Equivalent.respects_eq c.args.key.now x y does) (own_hash g.Q.Hash.hash_input c.args.key.now)
-    c.self.inside.map.entries c.shift_remove_entry.new.self.entries c.iter_hashed-entries.ensures.single c.shift_remove_entry.ensures.entries)
+    c.self.inside.map.entries c.shift_remove_entry.new.self.entries c.iter_hashed-entries.ensures.single c.shift_remove_entry.ensures.removes.entries)
 
 pub returns-clause-length : goal.returns-clause-length
 returns-clause-length g c =
-    rw (← c.self.view_is) (length-removed (g.Q.Equivalent.equivalent c.args.key.now) (own_hash g.Q.Hash.hash_input c.args.key.now) c.self.inside.map.entries c.shift_remove_entry.new.self.entries c.shift_remove_entry.ensures.entries)
+    rw (← c.self.view_is) (length-removed (g.Q.Equivalent.equivalent c.args.key.now) (own_hash g.Q.Hash.hash_input c.args.key.now) c.self.inside.map.entries c.shift_remove_entry.new.self.entries c.shift_remove_entry.ensures.removes.entries)

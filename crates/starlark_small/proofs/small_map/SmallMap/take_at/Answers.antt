@@ -1,5 +1,6 @@
 use Rattle.std.proofs.Common.{subst, sym, ap, length, arith, rules}
 use Rattle.std.specs.Prelude.{remove}
+use Rattle.std.proofs.lemmas.Grind.{common_steps}
 use Rattle.starlark_lists.proofs.EntryLemmas.{IsSingle-remove}
 use Rattle.starlark_vecmap.specs.EntryList.{with_entries}
 use Rattle.starlark_small.specs.Index.{IsSound}
@@ -18,5 +19,9 @@ returns-clause-takes g c =
     rw (← c.self.view_is)
     (takes-out g.K.PartialEq.eq g.met.K.Eq.laws _ _ c.args.index c.remove.result c.self.invariant.single (search rules) (ap (λ l. l.entries) c.remove.ensures.list))
 
-pub returns-clause-own : goal.returns-clause-own
-returns-clause-own g c feeds = own-removed feeds c.args.self.now.entries _ c.args.index (search rules)
+pub returns-clause-removes : goal.returns-clause-removes
+returns-clause-removes g c = record {
+  entries = search rules;
+  own = λ feeds. own-removed feeds c.args.self.now.entries _ c.args.index (search rules);
+  kept = first_of (search rules, grind (arith, common_steps));
+}
