@@ -23,8 +23,8 @@ fn crosses(count: usize, home: usize, hole: usize, place: usize) -> bool
 }
 
 // Moves members back, each with its tag, so that no way from a home to its member crosses the empty place `start`. What
-// follows is told of each.
-#[inline]
+// follows is told of each. Few removals want it, so it is a call.
+#[inline(never)]
 pub(crate) fn close_gap<T, H: KeptHash, F: Follows<T>>(
     slots: &mut Slots<T, H>,
     tags: &mut [u8],

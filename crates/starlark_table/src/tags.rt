@@ -74,7 +74,12 @@ pub(crate) fn is_passed(tags: &[u8], place: usize) -> bool
     if behind == 0 {
         return true;
     }
-    let end = place + 1 + behind.trailing_zeros() as usize;
+    let apart = behind.trailing_zeros();
+    if place >= WINDOW {
+        // Where this window lies does not hang on the other, so both are read at once.
+        return places_with(tags, place - WINDOW, EMPTY) >> apart == 0;
+    }
+    let end = place + 1 + apart as usize;
     if end <= WINDOW {
         let before = places_with(tags, 0, EMPTY);
         return before.trailing_zeros() as usize >= place;

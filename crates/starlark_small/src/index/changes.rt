@@ -33,13 +33,13 @@ impl Index {
             ≤ length (remove entries.now.entries (length entries.now.entries - 1)) + index_room (length (remove entries.now.entries (length entries.now.entries - 1))) self.new }
         ensures kept { is_some self.new ≡ is_some self.old }
     {
-        if self.table.get().is_none() {
+        let Some(table) = self.table.get_mut() else {
+            return;
+        };
+        if entries.len() == 0 {
             return;
         }
-        let len = entries.len();
-        if len != 0 {
-            self.forget(entries, len - 1);
-        }
+        table.take_last::<K, V>();
     }
 
     /// Takes every place out: one by one where the list is so short that this takes fewer steps than there are slots,

@@ -1,10 +1,37 @@
-use Rattle.std.proofs.Common.{ℕ, ◌≡◌, ◌≢◌, ◌+◌, ◌-◌, ◌<◌, ◌≤◌, arith, refl, sym, ◌∙◌, ap, subst, inl, inr, eq-eqb, slice_index_or}
+use Rattle.std.proofs.Common.{ℕ, ◌≡◌, ◌≢◌, ◌+◌, ◌-◌, ◌/◌, ◌^◌, ◌<◌, ◌≤◌, arith, refl, sym, ◌∙◌, ap, subst, inl, inr, eq-eqb, slice_index_or}
 use Rattle.std.proofs.lemmas.Bool.{le-leb}
 use Rattle.std.proofs.lemmas.Bool.{cases_lt, cases_order, false≢true}
 use Rattle.std.specs.Int.Count.{count_trailing_zeros, trailing_of_zero}
 use Rattle.starlark_table.specs.Layout.{tag_bits, empty_tag}
-use Rattle.starlark_table.proofs.TagBits.{first-by_bits}
+use Rattle.starlark_table.proofs.TagBits.{first-by_bits, tag_bits-later}
 use Rattle.starlark_table.proofs.tags.is_passed.Goals as goal
+
+pub returns-then-place-ge-WINDOW : goal.returns-then-place-ge-WINDOW
+returns-then-place-ge-WINDOW c = λ said.
+    let tags = c.args.tags.now in
+    let place = c.args.place in
+    let bits = c.places_with-behind.ensures in
+    let k : ℕ = count_trailing_zeros 64 c.places_with-behind.result in
+    let high = first-by_bits 255 tags (place + 1) 16 c.requires.room k (omega arith) (λ none. c.if-behind-eq0.false (bits ∙ none)) (ap (count_trailing_zeros 64) bits) in
+    let near = high.within in
+    let long = c.if-place-ge-WINDOW.true in
+    let from : ℕ = place - 16 + k in
+    let later : c.places_with.result / 2 ^ k ≡ tag_bits 255 tags from (16 - k) =
+    ap (λ b. b / 2 ^ k) c.places_with.ensures ∙ tag_bits-later 255 tags (place - 16) k (16 - k) from 16 (omega (arith, near)) (omega arith) in
+    let some : tag_bits 255 tags from (16 - k) ≢ 0 = λ none. false≢true (sym said ∙ eq-eqb (c.places_with.result / 2 ^ k) 0 (later ∙ none)) in
+    let j : ℕ = count_trailing_zeros 64 (tag_bits 255 tags from (16 - k)) in
+    let first = first-by_bits 255 tags from (16 - k) (omega (arith, c.requires.room, near, long)) j (omega arith) some refl in
+    let short = first.within in
+    record {
+      low = from + j;
+      high = place + 1 + k;
+      before = omega (arith, short, near, long);
+      behind = omega arith;
+      short = omega (arith, long);
+      within = omega (arith, c.requires.room, near);
+      low_empty = first.there;
+      high_empty = high.there;
+    }
 
 pub returns-then-end-le-WINDOW : goal.returns-then-end-le-WINDOW
 returns-then-end-le-WINDOW c = λ said.
@@ -34,8 +61,8 @@ returns-then-end-le-WINDOW c = λ said.
       | inr more ↦ absurd (false≢true (sym said ∙ le-leb place low more))
     ]
 
-pub places_with-requires : goal.places_with-requires
-places_with-requires c =
+pub places_with-requires-2 : goal.places_with-requires-2
+places_with-requires-2 c =
     let bits = c.places_with-behind.ensures in
     let high = first-by_bits 255 c.args.tags.now (c.args.place + 1) 16 c.requires.room (count_trailing_zeros 64 c.places_with-behind.result) (omega arith) (λ none. c.if-behind-eq0.false (bits ∙ none))
     (ap (count_trailing_zeros 64) bits) in
@@ -52,9 +79,9 @@ returns c = λ said.
     let within = high.within in
     let end = c.if-end-le-WINDOW.false in
     let from : ℕ = place + 1 + k - 1 - 16 in
-    let low_bits = c.places_with.ensures in
-    let some : c.places_with.result ≢ 0 = λ none. false≢true (sym said ∙ eq-eqb c.places_with.result 0 none) in
-    let j : ℕ = count_trailing_zeros 64 c.places_with.result in
+    let low_bits = c.places_with-2.ensures in
+    let some : c.places_with-2.result ≢ 0 = λ none. false≢true (sym said ∙ eq-eqb c.places_with-2.result 0 none) in
+    let j : ℕ = count_trailing_zeros 64 c.places_with-2.result in
     let first = first-by_bits 255 tags from 16 (omega (arith, c.requires.room, within, end)) j (omega arith) (λ none. some (low_bits ∙ none)) (ap (count_trailing_zeros 64) low_bits) in
     let short = first.within in
     let below : from + j < place = elim (cases_order (from + j) place) [
