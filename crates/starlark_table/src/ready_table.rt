@@ -299,7 +299,8 @@ impl<T, H: KeptHash> ReadyTable<T, H> {
         Ok(())
     }
 
-    /// Takes in the members of another table, for which there is room, and some to spare where it has none.
+    /// Takes in the members of another table, with their hashes. There is room for all of them, and for one also where it
+    /// has none.
     pub fn take_members(&mut self, other: ReadyTable<T, H>)
         requires room { table_len other ≤ self.old.room }
         requires some { 0 < self.old.room }
