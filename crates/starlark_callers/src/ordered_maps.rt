@@ -1,12 +1,13 @@
 //! Callers of ordered maps.
 ghost use Rattle.std.specs.Hash as fed;
 ghost use Rattle.std.specs.Map.{update_all};
-ghost use Rattle.std.specs.Option.{unwrap_or};
-ghost use Rattle.std.specs.Prelude.{◌≡◌, ℕ, ◌+◌, ◌-◌, ◌^◌, if◌then◌else◌, is_some, length, min, nat_eq, false, Some, None, IfOk, OnOk, OnErr};
+ghost use Rattle.std.specs.Option.{option_map, unwrap_or};
+ghost use Rattle.std.specs.Prelude.{◌≡◌, ℕ, ◌+◌, ◌-◌, ◌≤◌, ◌<◌, ◌^◌, drop, filter, if◌then◌else◌, is_some, length, map, min, nat_eq, nat_lt, slice_get, sum, false, true, Some, None, IfOk, OnOk, OnErr};
 ghost use Rattle.std.specs.String.{string_bytes, string_eq};
 ghost use Rattle.std.specs.declared.alloc.Global.{Global};
 ghost use Rattle.std.specs.declared.string.String.{String};
-ghost use Rattle.starlark_small.specs.Calling.{contains, get, get_text, AreOwn};
+ghost use Rattle.starlark_lists.specs.Entries.{entry_value, pair_of};
+ghost use Rattle.starlark_small.specs.Calling.{contains, get, get_text, keys, AreOwn};
 ghost use Rattle.starlark_small.specs.Clone.{IsEqualClone};
 
 use crate::small_maps::{entries, written};
@@ -212,4 +213,124 @@ pub fn count_named(
     ensures others { OnOk result ((other : String Global) → string_eq word other ≡ false → get string_eq (λ s. fed.str (string_bytes s)) map.new other ≡ get string_eq (λ s. fed.str (string_bytes s)) map.old other) }
 {
     entries::count_named(map.as_mut_small_map(), word)
+}
+
+/// A map in a field, from keys of any type.
+#[derive(Drop)]
+pub struct Index<K: Eq + Hash, V> {
+    by_key: OrderedMap<K, V>,
+}
+
+impl<K: Eq + Hash + Drop, V: Drop> Index<K, V> {
+    /// Puts a value in.
+    pub fn put(&mut self, key: K, value: V) -> Result<(), AllocError>
+        ensures here { OnOk result (get K.eq K.hash_input self.new.by_key key ≡ Some value) }
+        ensures others { OnOk result ((other : K) → K.eq key other ≡ false → get K.eq K.hash_input self.new.by_key other ≡ get K.eq K.hash_input self.old.by_key other) }
+    {
+        self.by_key.insert(key, value)?;
+        Ok(())
+    }
+}
+
+/// Counts a text. Its string is made first.
+pub fn count_text(
+    alloc: Global,
+    map: &mut OrderedMap<String, u64>,
+    word: &str,
+) -> Result<(), AllocError>
+    requires { unwrap_or (get_text map.old word.now) 0 + 1 < 2 ^ 64 }
+    ensures { OnOk result (get_text map.new word.now ≡ Some (unwrap_or (get_text map.old word.now) 0 + 1)) }
+{
+    let next = map.get(&TextKey(word)).copied().unwrap_or(0) + 1;
+    let key = String::from_str(alloc, word)?;
+    map.insert(key, next)?;
+    Ok(())
+}
+
+/// The keys by reference.
+pub fn lent_keys(entries: &OrderedMap<u32, u64>, alloc: Global) -> Result<Vec<&u32>, AllocError>
+    ensures { IfOk result (λ all. map (λ key. key.now) all.items ≡ keys entries.now) }
+{
+    entries.keys().collect(alloc)
+}
+
+/// The pairs by value.
+pub fn owned_pairs<K: Eq + Drop, V: Drop>(
+    entries: OrderedMap<K, V>,
+    alloc: Global,
+) -> Result<Vec<(K, V)>, AllocError>
+    ensures { IfOk result (λ pairs. pairs.items ≡ map pair_of entries.entries) }
+{
+    entries.into_iter().collect(alloc)
+}
+
+/// The sum of the values.
+pub fn total(entries: &OrderedMap<u32, u32>) -> u64
+    requires { length (map entry_value entries.now.entries) < 2 ^ 32 }
+    ensures { result ≡ sum (map entry_value entries.now.entries) }
+{
+    entries.values().map(|value| *value as u64).sum()
+}
+
+/// Takes the first entry out of the map inside: the others keep their order.
+pub fn take_first(entries: &mut OrderedMap<u32, u64>) -> Option<(u32, u64)>
+    ensures first { result ≡ option_map pair_of (slice_get entries.old.entries 0) }
+    ensures rest { keys entries.new ≡ drop 1 (keys entries.old) }
+{
+    entries.as_mut_small_map().shift_remove_index(0)
+}
+
+/// Keeps what is above the least value, in the map inside.
+pub fn keep_above(map: &mut OrderedMap<u32, u64>, least: u64)
+    ensures { map.new.entries ≡ filter (λ e. nat_lt least (entry_value e)) map.old.entries }
+{
+    map.as_mut_small_map().retain(|_key, value| *value > least);
+}
+
+/// Sorts the keys, and finds the place of one, or the end.
+pub fn place_when_sorted(map: &mut OrderedMap<u32, u64>, key: u32) -> Result<usize, AllocError>
+    ensures within { IfOk result (λ place. place ≤ length map.new.entries) }
+    ensures same { get nat_eq fed.u32 map.new key ≡ get nat_eq fed.u32 map.old key }
+{
+    map.sort_keys()?;
+    match map.get_index_of(&key) {
+        Some(place) => Ok(place),
+        None => Ok(map.len()),
+    }
+}
+
+/// Whether two maps are equal: if so, they are of one length.
+pub fn same(map: &OrderedMap<u32, u64>, other: &OrderedMap<u32, u64>) -> bool
+    ensures { result ≡ true → length map.now.entries ≡ length other.now.entries }
+{
+    *map == *other
+}
+
+/// Puts pairs in, and then one more, where there is room for all.
+pub fn add_and_one(
+    map: &mut OrderedMap<u32, u64>,
+    more: Vec<(u32, u64)>,
+    key: u32,
+) -> Result<(), AllocError>
+    requires { length more.items < map.old.room }
+    ensures { OnOk result (get nat_eq fed.u32 map.new key ≡ Some 0) }
+{
+    map.extend(more)?;
+    map.insert(key, 0).unwrap();
+    Ok(())
+}
+
+/// Takes all out: as many fit again without memory.
+pub fn start_over(map: &mut OrderedMap<u32, u64>)
+    ensures { length map.old.entries + map.old.room ≤ map.new.room }
+{
+    map.clear();
+}
+
+/// What a map of two known pairs has.
+pub fn known(alloc: Global) -> Result<u64, AllocError>
+    ensures { IfOk result (λ value. value ≡ 30) }
+{
+    let map = OrderedMap::from_iter(alloc, [(1u32, 10u64), (3, 30)])?;
+    Ok(map.get(&3).copied().unwrap_or(0))
 }

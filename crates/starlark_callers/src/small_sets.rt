@@ -2,6 +2,8 @@
 pub mod any;
 pub mod collected;
 pub mod numbers;
+pub mod roomy;
 pub mod shown;
 pub mod strings;
 pub mod texts;
+pub mod walked;

@@ -4,6 +4,7 @@ ghost use Rattle.std.specs.Option.{option_map};
 ghost use Rattle.std.specs.Prelude.{◌≡◌, ◌≤◌, ◌<◌, ◌^◌, drop, length, map, nat_eq, slice_get, sum, IfOk};
 ghost use Rattle.starlark_lists.specs.Entries.{entry_value, pair_of};
 ghost use Rattle.starlark_small.specs.Calling.{get, get_key, keys};
+ghost use Rattle.starlark_small.specs.Map.{own_match};
 
 use starlark_small::SmallMap;
 use std::alloc::{AllocError, Global};
@@ -72,6 +73,14 @@ pub fn stored(entries: &SmallMap<u32, u64>, key: u32) -> Option<(usize, &u32, &u
     ensures value { option_map (λ found. found.2.now) result ≡ get nat_eq fed.u32 entries.now key }
 {
     entries.get_full(&key)
+}
+
+/// The place of a key.
+pub fn place_of(entries: &SmallMap<u32, u64>, key: u32) -> Option<usize>
+    ensures { result ≡ own_match nat_eq fed.u32 entries.now.entries key }
+{
+    let (place, _key, _value) = entries.get_full(&key)?;
+    Some(place)
 }
 
 /// The sum of the values, by value.

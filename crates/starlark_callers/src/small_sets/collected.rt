@@ -6,7 +6,7 @@ ghost use Rattle.std.specs.String.{string_bytes, string_eq};
 ghost use Rattle.std.specs.declared.alloc.Global.{Global};
 ghost use Rattle.std.specs.declared.string.String.{String};
 ghost use Rattle.starlark_lists.specs.Entries.{entry_key};
-ghost use Rattle.starlark_small.specs.Calling.{contains, AreOwn};
+ghost use Rattle.starlark_small.specs.Calling.{contains, keys, AreOwn};
 ghost use Rattle.starlark_small.specs.Clone.{IsEqualClone};
 ghost use Rattle.starlark_sets.specs.Difference.{difference_rest};
 ghost use Rattle.starlark_sets.specs.Union.{union_rest};
@@ -39,6 +39,25 @@ pub fn of_names(alloc: Global, items: Vec<String>) -> Result<SmallSet<String>, A
 {
     let made = SmallSet::from_iter(alloc, items)?;
     Ok(made)
+}
+
+/// The distinct items of a slice: each is there, and nothing else.
+pub fn distinct<T: Eq + Hash + Copy + Drop>(
+    alloc: Global,
+    items: &[T],
+) -> Result<SmallSet<T>, AllocError>
+    ensures found { IfOk result (λ s. (element : T) → contains T.eq T.hash_input s element ≡ is_member T.eq items.now element) }
+    ensures own { IfOk result (AreOwn T.hash_input) }
+{
+    let made = SmallSet::from_iter(alloc, items.iter().copied())?;
+    Ok(made)
+}
+
+/// Puts the elements of another set in.
+pub fn add_set(set: &mut SmallSet<u32>, other: &SmallSet<u32>) -> Result<(), AllocError>
+    ensures { OnOk result ((n : ℕ) → contains nat_eq fed.u32 set.new n ≡ (contains nat_eq fed.u32 set.old n || is_member nat_eq (keys other.now) n)) }
+{
+    set.extend(other.iter().copied())
 }
 
 /// Puts the elements of a vector in.

@@ -1,0 +1,73 @@
+//! Walks of small sets that are counted, collected or added up, and the first element.
+ghost use Rattle.std.specs.Hash as fed;
+ghost use Rattle.std.specs.Option.{option_map};
+ghost use Rattle.std.specs.Prelude.{◌≡◌, ◌≤◌, ◌<◌, ◌^◌, count_by, drop, length, map, nat_eq, slice_get, sum, false, true, IfOk, IfSome};
+ghost use Rattle.starlark_lists.specs.Entries.{entry_key};
+ghost use Rattle.starlark_small.specs.Calling.{contains, keys};
+
+use starlark_sets::SmallSet;
+use std::alloc::{AllocError, Global};
+
+/// How many elements two sets share.
+pub fn shared(set: &SmallSet<u32>, other: &SmallSet<u32>) -> usize
+    ensures each { result ≡ count_by (contains nat_eq fed.u32 other.now) (keys set.now) }
+    ensures within { result ≤ length set.now.entries }
+{
+    set.iter().filter(|n| other.contains(*n)).count()
+}
+
+/// How many elements either set has, which are no fewer than the first has.
+pub fn in_either(set: &SmallSet<u32>, other: &SmallSet<u32>) -> usize
+    ensures { length set.now.entries ≤ result }
+{
+    set.union(other).count()
+}
+
+/// The elements by reference.
+pub fn lent(set: &SmallSet<u32>, alloc: Global) -> Result<Vec<&u32>, AllocError>
+    ensures { IfOk result (λ all. map (λ element. element.now) all.items ≡ keys set.now) }
+{
+    set.iter().collect(alloc)
+}
+
+/// The elements by value.
+pub fn owned<T: Eq + Drop>(set: SmallSet<T>, alloc: Global) -> Result<Vec<T>, AllocError>
+    ensures { IfOk result (λ all. all.items ≡ keys set) }
+{
+    set.into_iter().collect(alloc)
+}
+
+/// The sum of the elements.
+pub fn total(set: &SmallSet<u32>) -> u64
+    requires { length (keys set.now) < 2 ^ 32 }
+    ensures { result ≡ sum (keys set.now) }
+{
+    set.iter().map(|n| *n as u64).sum()
+}
+
+/// The first number below a bound that a set lacks.
+pub fn first_free(set: &SmallSet<u32>, bound: u32) -> Option<u32>
+    ensures { IfSome result (λ n. (n < bound) × (contains nat_eq fed.u32 set.now n ≡ false)) }
+{
+    for n in 0..bound {
+        if !set.contains(&n) {
+            return Some(n);
+        }
+    }
+    None
+}
+
+/// Takes the first element out: the others keep their order.
+pub fn take_first<T: Eq>(set: &mut SmallSet<T>) -> Option<T>
+    ensures first { result ≡ option_map entry_key (slice_get set.old.entries 0) }
+    ensures rest { keys set.new ≡ drop 1 (keys set.old) }
+{
+    set.shift_remove_index(0)
+}
+
+/// Whether two sets are equal: if so, they have as many elements.
+pub fn same<T: Eq>(set: &SmallSet<T>, other: &SmallSet<T>) -> bool
+    ensures { result ≡ true → length set.now.entries ≡ length other.now.entries }
+{
+    *set == *other
+}
