@@ -2,10 +2,16 @@
 ghost use Rattle.std.specs.Hash as fed;
 ghost use Rattle.std.specs.Map.{update_all};
 ghost use Rattle.std.specs.Option.{unwrap_or};
-ghost use Rattle.std.specs.Prelude.{◌≡◌, ℕ, ◌+◌, ◌-◌, ◌≤◌, ◌^◌, min, nat_eq, false, is_some, None, Some, IfOk, IfSome, OnOk};
-ghost use Rattle.starlark_small.specs.Calling.{get, get_text};
+ghost use Rattle.std.specs.Prelude.{◌≡◌, ℕ, ◌+◌, ◌-◌, ◌≤◌, ◌<◌, ◌^◌, length, map, min, nat_eq, sum, false, true, is_some, None, Some, IfErr, IfOk, IfSome, OnOk};
+ghost use Rattle.std.specs.String.{string_bytes, string_eq};
+ghost use Rattle.std.specs.declared.alloc.Global.{Global};
+ghost use Rattle.std.specs.declared.string.String.{String};
+ghost use Rattle.starlark_lists.specs.Entries.{entry_value, pair_of};
+ghost use Rattle.starlark_small.specs.Calling.{contains, get, get_text, keys};
+ghost use Rattle.starlark_small.specs.Clone.{IsEqualClone};
 
 use starlark_hash::TextKey;
+use starlark_sets::OrderedMap;
 use starlark_sorted::SortedMap;
 use std::alloc::{AllocError, Global};
 use std::hash::Hash;
@@ -86,4 +92,87 @@ pub fn two(alloc: Global, a: (u32, u64), b: (u32, u64)) -> Result<SortedMap<u32,
     ensures second { IfOk result (λ m. get nat_eq fed.u32 m b.0 ≡ Some b.1) }
 {
     SortedMap::from_iter(alloc, [a, b])
+}
+
+/// A map of the named pairs of a vector.
+pub fn of_names(
+    alloc: Global,
+    items: Vec<(String, u64)>,
+) -> Result<SortedMap<String, u64>, AllocError>
+    ensures { IfOk result (λ m. (key : String Global) → get string_eq (λ s. fed.str (string_bytes s)) m key ≡ update_all string_eq (λ _. None) items.items key) }
+{
+    SortedMap::from_iter(alloc, items)
+}
+
+/// Sorts an ordered map, and looks for a key, or hands the map back.
+pub fn look_sorted(map: OrderedMap<u32, u64>, key: u32) -> Result<Option<u64>, OrderedMap<u32, u64>>
+    ensures looked { IfOk result (λ value. value ≡ get nat_eq fed.u32 map key) }
+    ensures back { IfErr result (λ m. m.entries ≡ map.entries) }
+{
+    let sorted = SortedMap::from_ordered_map(map)?;
+    Ok(sorted.get(&key).copied())
+}
+
+/// A copy, which has the same keys.
+pub fn copied<K: Ord + Hash + Clone, V: Clone>(
+    map: &SortedMap<K, V>,
+) -> Result<SortedMap<K, V>, AllocError>
+    requires { IsEqualClone K.eq K.is_clone }
+    ensures { IfOk result (λ copy. (key : K) → contains K.eq K.hash_input copy key ≡ contains K.eq K.hash_input map.now key) }
+{
+    map.clone()
+}
+
+/// Sets the number under a text to 0, and answers whether there is one.
+pub fn reset_text(map: &mut SortedMap<String, u64>, key: &str) -> bool
+    ensures there { result ≡ is_some (get_text map.old key.now) }
+    ensures here { result ≡ true → get_text map.new key.now ≡ Some 0 }
+{
+    match map.get_mut(&TextKey(key)) {
+        Some(count) => {
+            *count = 0;
+            true
+        }
+        None => false,
+    }
+}
+
+/// The keys by reference.
+pub fn lent_keys(entries: &SortedMap<u32, u64>, alloc: Global) -> Result<Vec<&u32>, AllocError>
+    ensures { IfOk result (λ all. map (λ key. key.now) all.items ≡ keys entries.now) }
+{
+    entries.keys().collect(alloc)
+}
+
+/// The pairs by value.
+pub fn owned_pairs<K: Ord + Hash + Drop, V: Drop>(
+    entries: SortedMap<K, V>,
+    alloc: Global,
+) -> Result<Vec<(K, V)>, AllocError>
+    ensures { IfOk result (λ pairs. pairs.items ≡ map pair_of entries.entries) }
+{
+    entries.into_iter().collect(alloc)
+}
+
+/// The sum of the values.
+pub fn total(entries: &SortedMap<u32, u32>) -> u64
+    requires { length (map entry_value entries.now.entries) < 2 ^ 32 }
+    ensures { result ≡ sum (map entry_value entries.now.entries) }
+{
+    entries.values().map(|value| *value as u64).sum()
+}
+
+/// Whether two maps are equal: if so, they are of one length.
+pub fn same(map: &SortedMap<u32, u64>, other: &SortedMap<u32, u64>) -> bool
+    ensures { result ≡ true → length map.now.entries ≡ length other.now.entries }
+{
+    *map == *other
+}
+
+/// What a map of two known pairs has.
+pub fn known(alloc: Global) -> Result<u64, AllocError>
+    ensures { IfOk result (λ value. value ≡ 30) }
+{
+    let map = SortedMap::from_iter(alloc, [(3u32, 30u64), (1, 10)])?;
+    Ok(map.get(&3).copied().unwrap_or(0))
 }

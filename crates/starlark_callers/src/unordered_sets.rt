@@ -1,14 +1,15 @@
 //! Callers of `UnorderedSet`.
-ghost use Rattle.std.specs.Prelude.{◌≡◌, ℕ, ◌+◌, nat_eq, false, true, length, not, IfOk, OnOk, OnErr, if◌then◌else◌};
+ghost use Rattle.std.specs.Prelude.{◌≡◌, ℕ, ◌+◌, ◌≤◌, ◌<◌, [], nat_eq, false, true, is_some, length, not, IfErr, IfOk, IfSome, IsOk, OnOk, OnErr, if◌then◌else◌};
 ghost use Rattle.std.specs.Set.{is_member};
 ghost use Rattle.std.specs.String.{string_eq};
 ghost use Rattle.std.specs.declared.alloc.Global.{Global};
 ghost use Rattle.std.specs.declared.string.String.{String};
-ghost use Rattle.starlark_unordered.specs.Calling.{contains};
+ghost use Rattle.starlark_table.specs.Growth.{most_for};
+ghost use Rattle.starlark_unordered.specs.Calling.{contains, get_text};
 ghost use Rattle.starlark_unordered.specs.Clone.{IsEqualClone};
-ghost use Rattle.starlark_unordered.specs.Pairs.{pairs_of};
+ghost use Rattle.starlark_unordered.specs.Pairs.{pairs_of, HasDistinctKeys};
 
-use starlark_hash::NoRoom;
+use starlark_hash::{NoRoom, TextKey};
 use starlark_unordered::UnorderedSet;
 use std::alloc::{AllocError, Global};
 use std::hash::Hash;
@@ -126,4 +127,135 @@ pub fn of_names(alloc: Global, items: Vec<String>) -> Result<UnorderedSet<String
     ensures { IfOk result (λ s. (name : String Global) → contains string_eq s name ≡ is_member string_eq items.items name) }
 {
     UnorderedSet::from_iter(alloc, items)
+}
+
+/// The distinct items of a slice: each is there once, and nothing else.
+pub fn distinct<T: Eq + Hash + Copy + Drop>(
+    alloc: Global,
+    items: &[T],
+) -> Result<UnorderedSet<T>, AllocError>
+    ensures found { IfOk result (λ s. (element : T) → contains T.eq s element ≡ is_member T.eq items.now element) }
+    ensures apart { IfOk result (λ s. HasDistinctKeys T.eq (pairs_of s)) }
+{
+    let made = UnorderedSet::from_iter(alloc, items.iter().copied())?;
+    let _count = made.len();
+    Ok(made)
+}
+
+/// Puts an element in where it is lacking, and hands back a refused one.
+pub fn add_if_absent<T: Eq + Hash + Drop>(
+    set: &mut UnorderedSet<T>,
+    element: T,
+) -> Result<bool, NoRoom<T>>
+    ensures here { OnOk result (contains T.eq set.new element ≡ true) }
+    ensures was { IfOk result (λ is_new. is_new ≡ not (contains T.eq set.old element)) }
+    ensures back { IfErr result (λ refused. refused.0 ≡ element) }
+{
+    if set.contains(&element) {
+        return Ok(false);
+    }
+    set.insert(element)?;
+    Ok(true)
+}
+
+/// Puts two elements in.
+pub fn add_two<T: Eq + Hash + Drop>(set: &mut UnorderedSet<T>, a: T, b: T) -> Result<(), NoRoom<T>>
+    requires { T.eq a b ≡ false }
+    ensures first { OnOk result (contains T.eq set.new a ≡ true) }
+    ensures second { OnOk result (contains T.eq set.new b ≡ true) }
+{
+    set.insert(a)?;
+    set.insert(b)?;
+    Ok(())
+}
+
+/// Puts an element in, and answers how many there are.
+pub fn add_and_count<T: Eq + Hash + Drop>(
+    set: &mut UnorderedSet<T>,
+    element: T,
+) -> Result<usize, NoRoom<T>>
+    ensures { IfOk result (λ count. count ≡ length (pairs_of set.old) + (if contains T.eq set.old element then 0 else 1)) }
+{
+    set.insert(element)?;
+    Ok(set.len())
+}
+
+/// Puts three numbers in a set, which then has three.
+pub fn three(alloc: Global) -> Result<usize, NoRoom<u32>>
+    ensures { IfOk result (λ count. count ≡ 3) }
+{
+    let mut set = UnorderedSet::new(alloc);
+    set.insert(1u32)?;
+    set.insert(2)?;
+    set.insert(3)?;
+    Ok(set.len())
+}
+
+/// Whether a string is there, by its text.
+pub fn has_text(set: &UnorderedSet<String>, name: &str) -> bool
+    ensures { result ≡ is_some (get_text set.now name.now) }
+{
+    set.contains(&TextKey(name))
+}
+
+/// Puts the string of a text in, where it is lacking.
+pub fn add_text(
+    alloc: Global,
+    set: &mut UnorderedSet<String>,
+    name: &str,
+) -> Result<bool, AllocError>
+    ensures here { OnOk result (is_some (get_text set.new name.now) ≡ true) }
+    ensures was { IfOk result (λ is_new. is_new ≡ not (is_some (get_text set.old name.now))) }
+{
+    if set.contains(&TextKey(name)) {
+        return Ok(false);
+    }
+    set.insert(String::from_str(alloc, name)?)?;
+    Ok(true)
+}
+
+/// The first number below a bound that a set lacks.
+pub fn first_free(set: &UnorderedSet<u32>, bound: u32) -> Option<u32>
+    ensures { IfSome result (λ n. (n < bound) × (contains nat_eq set.now n ≡ false)) }
+{
+    for n in 0..bound {
+        if !set.contains(&n) {
+            return Some(n);
+        }
+    }
+    None
+}
+
+/// Whether a set is empty: if so, it has nothing.
+pub fn is_empty<T: Eq + Hash>(set: &UnorderedSet<T>) -> bool
+    ensures { result ≡ true → pairs_of set.now ≡ [] }
+{
+    set.is_empty()
+}
+
+/// A set with room for so many elements, and not for many more.
+pub fn roomy<T: Eq + Hash>(alloc: Global, capacity: usize) -> Result<UnorderedSet<T>, AllocError>
+    ensures none { IfOk result (λ set. (element : T) → contains T.eq set element ≡ false) }
+    ensures room { IfOk result (λ set. capacity ≤ set.room) }
+    ensures most { IfOk result (λ set. set.room ≤ most_for capacity) }
+{
+    UnorderedSet::with_capacity(alloc, capacity)
+}
+
+/// Puts a number in where there is room.
+pub fn add_fitting(set: &mut UnorderedSet<u32>, n: u32) -> Result<(), NoRoom<u32>>
+    requires { 0 < set.old.room }
+    ensures { IsOk result }
+{
+    set.insert(n)?;
+    Ok(())
+}
+
+/// Takes every element out, which leaves the room for one.
+pub fn refill(set: &mut UnorderedSet<u32>, n: u32) -> bool
+    requires { 0 < set.old.room }
+    ensures { result ≡ true }
+{
+    set.clear();
+    set.insert(n).is_ok()
 }
