@@ -10,7 +10,7 @@ ghost use Rattle.starlark_lists.specs.Entries.{entry_value, pair_of};
 ghost use Rattle.starlark_small.specs.Calling.{contains, get, get_text, keys, AreOwn};
 ghost use Rattle.starlark_small.specs.Clone.{IsEqualClone};
 
-use crate::small_maps::{entries, written};
+use crate::small_maps::{any, entries, written};
 use starlark_hash::{Hashed, NoRoom, TextKey};
 use starlark_sets::OrderedMap;
 use std::alloc::{AllocError, Global};
@@ -333,4 +333,24 @@ pub fn known(alloc: Global) -> Result<u64, AllocError>
 {
     let map = OrderedMap::from_iter(alloc, [(1u32, 10u64), (3, 30)])?;
     Ok(map.get(&3).copied().unwrap_or(0))
+}
+
+/// A map of one key, made of a small one.
+pub fn one<K: Eq + Hash + Drop, V: Drop>(
+    alloc: Global,
+    key: K,
+    value: V,
+) -> Result<OrderedMap<K, V>, NoRoom<(K, V)>>
+    ensures here { IfOk result (λ map. get K.eq K.hash_input map key ≡ Some value) }
+    ensures others { IfOk result (λ map. (other : K) → K.eq key other ≡ false → get K.eq K.hash_input map other ≡ None) }
+{
+    Ok(OrderedMap::from(any::one(alloc, key, value)?))
+}
+
+/// Sets all values to 0, in the map inside: the keys stay.
+pub fn zeroed<K: Eq + Hash>(map: &mut OrderedMap<K, u64>)
+    ensures keys { keys map.new ≡ keys map.old }
+    ensures there { (key : K) → contains K.eq K.hash_input map.new key ≡ contains K.eq K.hash_input map.old key }
+{
+    written::zeroed_any(map.as_mut_small_map());
 }

@@ -4,6 +4,7 @@ pub mod collected;
 pub mod entries;
 pub mod held;
 pub mod kept;
+pub mod nested;
 pub mod numbers;
 pub mod roomy;
 pub mod strings;

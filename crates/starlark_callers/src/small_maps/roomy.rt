@@ -117,3 +117,27 @@ pub fn enter_known(map: &mut SmallMap<u32, u64>) -> Result<(), AllocError>
     *map.entry(2).or_insert(0)? = 20;
     Ok(())
 }
+
+/// Writes the value at a key, or puts it in where there is room, which is then one less at most.
+pub fn put_fitting(map: &mut SmallMap<u32, u64>, key: u32, value: u64)
+    requires { 0 < map.old.room }
+    ensures here { get nat_eq fed.u32 map.new key ≡ Some value }
+    ensures room { map.old.room ≤ map.new.room + 1 }
+{
+    match map.get_mut(&key) {
+        Some(there) => *there = value,
+        None => {
+            map.insert(key, value).unwrap();
+        }
+    }
+}
+
+/// Makes room for two, and puts both by the function above.
+pub fn put_two_fitting(map: &mut SmallMap<u32, u64>, a: u32, b: u32) -> Result<(), AllocError>
+    ensures { OnOk result (get nat_eq fed.u32 map.new b ≡ Some 2) }
+{
+    map.reserve(2)?;
+    put_fitting(map, a, 1);
+    put_fitting(map, b, 2);
+    Ok(())
+}

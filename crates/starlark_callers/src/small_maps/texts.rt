@@ -1,6 +1,6 @@
 //! Small maps from strings, looked up by texts.
 ghost use Rattle.std.specs.Hash as fed;
-ghost use Rattle.std.specs.Prelude.{◌≡◌, false, true, is_some, None, Some};
+ghost use Rattle.std.specs.Prelude.{◌≡◌, false, true, is_some, None, Some, OnOk};
 ghost use Rattle.std.specs.Str.{bytes_eq};
 ghost use Rattle.std.specs.declared.string.String.{String};
 ghost use Rattle.std.specs.declared.alloc.Global.{Global};
@@ -9,6 +9,7 @@ ghost use Rattle.starlark_small.specs.Calling.{get};
 
 use starlark_hash::TextKey;
 use starlark_small::SmallMap;
+use std::alloc::{AllocError, Global};
 
 /// The value at a text.
 pub fn named(map: &SmallMap<String, u64>, name: &str) -> Option<u64>
@@ -45,4 +46,18 @@ pub fn set_named(map: &mut SmallMap<String, u64>, name: &str, value: u64) -> boo
         }
         None => false,
     }
+}
+
+/// Puts a value at the string of a text. Strings with other bytes keep what they had.
+pub fn record_named(
+    alloc: Global,
+    map: &mut SmallMap<String, u64>,
+    name: &str,
+    value: u64,
+) -> Result<(), AllocError>
+    ensures here { OnOk result ((s : String Global) → string_bytes s ≡ name.now → get string_eq (λ s. fed.str (string_bytes s)) map.new s ≡ Some value) }
+    ensures others { OnOk result ((s : String Global) → bytes_eq name.now (string_bytes s) ≡ false → get string_eq (λ s. fed.str (string_bytes s)) map.new s ≡ get string_eq (λ s. fed.str (string_bytes s)) map.old s) }
+{
+    map.insert(String::from_str(alloc, name)?, value)?;
+    Ok(())
 }
