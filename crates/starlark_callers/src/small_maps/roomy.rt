@@ -4,6 +4,7 @@ ghost use Rattle.std.specs.Prelude.{◌≡◌, ◌+◌, ◌≤◌, ◌<◌, [], 
 ghost use Rattle.starlark_small.specs.Calling.{get, keys};
 ghost use Rattle.starlark_small.specs.Map.{own_hashed};
 
+use starlark_hash::{Hashed, NoRoom};
 use starlark_small::{Entry, SmallMap};
 use std::alloc::{AllocError, Global};
 
@@ -140,4 +141,72 @@ pub fn put_two_fitting(map: &mut SmallMap<u32, u64>, a: u32, b: u32) -> Result<(
     put_fitting(map, a, 1);
     put_fitting(map, b, 2);
     Ok(())
+}
+
+/// Writes the value at an entry: it is not refused where there is room, which is then one less at most.
+pub fn enter_fitting(
+    map: &mut SmallMap<u32, u64>,
+    key: u32,
+    value: u64,
+) -> Result<(), NoRoom<(Hashed<u32>, u64)>>
+    ensures done { 0 < map.old.room → IsOk result }
+    ensures here { OnOk result (get nat_eq fed.u32 map.new key ≡ Some value) }
+    ensures room { OnOk result (map.old.room ≤ map.new.room + 1) }
+{
+    *map.entry(key).or_insert(0)? = value;
+    Ok(())
+}
+
+/// Makes room for two entries, and writes both by the function above.
+pub fn enter_two_fitting(map: &mut SmallMap<u32, u64>, a: u32, b: u32) -> Result<(), AllocError>
+    ensures { OnOk result (get nat_eq fed.u32 map.new b ≡ Some 2) }
+{
+    map.reserve(2)?;
+    enter_fitting(map, a, 1).unwrap();
+    enter_fitting(map, b, 2).unwrap();
+    Ok(())
+}
+
+/// Writes the values at two entries in turn, for which there is room.
+pub fn enter_two(map: &mut SmallMap<u32, u64>, a: u32, b: u32) -> Result<(), AllocError>
+    requires { 2 ≤ map.old.room }
+    ensures { IsOk result }
+{
+    *map.entry(a).or_insert(0)? = 1;
+    *map.entry(b).or_insert(0)? = 2;
+    Ok(())
+}
+
+/// Writes the value by the entry's variants, and answers whether it was done: where there is room, it was.
+pub fn enter_by_variants(map: &mut SmallMap<u32, u64>, key: u32, value: u64) -> bool
+    ensures fits { 0 < map.old.room → result ≡ true }
+    ensures here { result ≡ true → get nat_eq fed.u32 map.new key ≡ Some value }
+    ensures room { result ≡ true → map.old.room ≤ map.new.room + 1 }
+{
+    match map.entry(key) {
+        Entry::Occupied(entry) => {
+            *entry.into_mut() = value;
+            true
+        }
+        Entry::Vacant(entry) => match entry.insert(value) {
+            Ok(_there) => true,
+            Err(_refused) => false,
+        },
+    }
+}
+
+/// Writes the value at an entry that is there, or lets the entry go and puts the value in.
+pub fn enter_or_put(map: &mut SmallMap<u32, u64>, key: u32, value: u64)
+    requires { 0 < map.old.room }
+    ensures here { get nat_eq fed.u32 map.new key ≡ Some value }
+    ensures room { map.old.room ≤ map.new.room + 1 }
+{
+    match map.entry(key) {
+        Entry::Occupied(mut entry) => {
+            *entry.get_mut() = value;
+            return;
+        }
+        Entry::Vacant(_entry) => {}
+    }
+    map.insert(key, value).unwrap();
 }
