@@ -1,13 +1,14 @@
 //! Elements of small sets that are shown where they stand, and are put in where they are lacking.
 ghost use Rattle.std.specs.Hash as fed;
 ghost use Rattle.std.specs.Option.{unwrap_or};
-ghost use Rattle.std.specs.Prelude.{◌≡◌, nat_eq, IfErr, IfOk};
+ghost use Rattle.std.specs.Prelude.{◌≡◌, ◌<◌, nat_eq, true, IfErr, IfOk, OnErr};
 ghost use Rattle.starlark_lists.specs.Entries.{match_of};
 ghost use Rattle.starlark_small.specs.Map.{own_hashed};
 ghost use Rattle.starlark_sets.specs.Set.{element_at};
 
-use starlark_hash::NoRoom;
+use starlark_hash::{NoRoom, TextKey};
 use starlark_sets::SmallSet;
+use std::alloc::AllocError;
 use std::hash::Hash;
 
 /// The element that is there, or else this one.
@@ -25,4 +26,20 @@ pub fn stored_number(set: &mut SmallSet<u32>, n: u32) -> Result<u32, NoRoom<u32>
 {
     let there = set.get_or_insert(n)?;
     Ok(*there)
+}
+
+/// Puts the string of a text in where it is lacking: a refusal leaves the elements.
+pub fn add_text(set: &mut SmallSet<String>, text: &str) -> Result<(), AllocError>
+    ensures { OnErr result (set.new.entries ≡ set.old.entries) }
+{
+    set.get_or_insert_owned(&TextKey(text))?;
+    Ok(())
+}
+
+/// Puts a number in where it is lacking, which is not refused where there is room.
+pub fn add_fitting(set: &mut SmallSet<u32>, n: u32) -> bool
+    requires { 0 < set.old.room }
+    ensures { result ≡ true }
+{
+    set.get_or_insert_owned(&n).is_ok()
 }
