@@ -71,8 +71,35 @@ def without_generics(text):
     return out
 
 
+def records():
+    """Each public record of specs/, with its fields and what each says."""
+    found = {}
+    for crate in library():
+        for path in tracked(f"crates/{crate}/specs/*.antt"):
+            fields, inside = None, 0
+            for line in path.read_text().split("\n"):
+                text = line.strip()
+                made, field = re.match(r"pub record (\w+)", text), re.match(r"pub (\w+) : (.*)", text)
+                if made:
+                    fields, inside = found.setdefault(made.group(1), {}), indent(line)
+                elif text and indent(line) <= inside:
+                    fields = None
+                elif fields is not None and field:
+                    fields[field.group(1)] = field.group(2)
+    return found
+
+
+def fields_of(clause, known, seen=()):
+    """The fields of the records that a clause cites, and of those that they cite."""
+    for word in re.findall(r"\w+", clause):
+        if word in known and word not in seen:
+            for field, says in known[word].items():
+                yield field
+                yield from fields_of(says, known, (*seen, word))
+
+
 def calls_of(path):
-    """Each public function: its type, its name, its comment, the names of its clauses."""
+    """Each public function: its type, its name, its comment, its clauses by name and by what they say."""
     rows, note, head, owner, open_call = [], [], "", "", None
     for line in path.read_text().split("\n"):
         text = line.strip()
@@ -94,7 +121,10 @@ def calls_of(path):
             open_call = None
         elif open_call and re.match(r"(requires|ensures)\b", text):
             clause = re.match(r"(requires|ensures)\*?\s+(\w+)?", text)
-            open_call[3].append(clause.group(2) or clause.group(1))
+            open_call[3].append((clause.group(2) or clause.group(1), text[clause.end():]))
+        elif open_call and open_call[3] and text and not text.startswith("//"):
+            name, says = open_call[3].pop()
+            open_call[3].append((name, f"{says} {text}"))
         elif text and not text.startswith("#["):
             note = []
             if re.match(r"(pub\(\w+\) )?(unsafe )?fn \w", text):
@@ -140,7 +170,15 @@ def words_page():
     return "\n".join(out) + "\n"
 
 
+def told(name, says, known):
+    """A clause by its name, and by the record that it is."""
+    word = re.match(r"[ {]*(?:If\w+ result \()?(\w+)", says)
+    record = word.group(1) if word and word.group(1) in known else ""
+    return record if record and name == "ensures" else f"{name} ({record})" if record else name
+
+
 def calls_page():
+    known = records()
     out = ["# The public calls", "", "Written by `make pages` from the comments of `src/` and the names of the clauses."]
     for crate in library():
         tables, types = {}, {}
@@ -154,7 +192,7 @@ def calls_page():
             out += ["", f"## {title}", "", *lead, "| Call | What it does | When it is refused | Clauses | File |", "|---|---|---|---|---|"]
             for call, note, clauses, file in rows:
                 does, refused = parted(note)
-                out.append(f"| `{call}` | {does} | {refused} | {', '.join(clauses)} | `{file}` |")
+                out.append(f"| `{call}` | {does} | {refused} | {', '.join(told(name, says, known) for name, says in clauses)} | `{file}` |")
     return "\n".join(out) + "\n"
 
 
@@ -190,7 +228,7 @@ def faults():
 
 def faults_of_names():
     targets = set(re.findall(r"^([a-z]+):", (TOP / "Makefile").read_text(), re.M))
-    sources, clauses = "", {}
+    sources, clauses, known_records = "", {}, records()
     for path in tracked("."):
         if path.suffix != ".md":
             try:
@@ -201,7 +239,9 @@ def faults_of_names():
     for crate in library():
         for path in tracked(f"crates/{crate}/src/*.rt"):
             for owner, call, _, names in calls_of(path):
-                clauses.setdefault((owner.split("::")[-1], call), set()).update(names)
+                of_call = clauses.setdefault((owner.split("::")[-1], call), set())
+                for clause, says in names:
+                    of_call.update([clause, *fields_of(says, known_records)])
     for page in tracked("*.md"):
         name, text = page.relative_to(TOP).as_posix(), page.read_text()
         # the changelog names what is gone
