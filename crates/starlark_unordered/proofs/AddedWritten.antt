@@ -1,16 +1,19 @@
 -- A pair that was put in, once its value was written.
 use Rattle.std.proofs.Common.{◌≡◌, ℕ, ◌+◌, Bool, true, false, cond, List, [], ◌∷◌, ◌++◌, length, map, Option, Some, None, refl, sym, ap, subst, ◌∙◌, arith, count_by, IsPermutation, length-append}
-use Rattle.std.specs.Prelude.{Result, Ok, Err, IfOk, IfSome, OnOk}
+use Rattle.std.specs.Prelude.{MatchResult, Result, Ok, Err, IfOk, IfSome, OnOk}
+use Rattle.std.specs.Borrow.{MutBor}
 use Rattle.std.specs.Cmp.{IsEquivalence}
 use Rattle.std.specs.Map.{lookup}
 use Rattle.std.proofs.lemmas.List.{length-map}
 use Rattle.std.proofs.lemmas.List.Sorted.{IsPermutation-map, sum_by-IsPermutation}
 use Rattle.std.proofs.lemmas.Option.{none-some}
+use Rattle.starlark_hash.specs.declared.no_room.NoRoom.{NoRoom}
 use Rattle.starlark_table.specs.Table.{Table, item_in, members, table_len, GrowsAsNeeded}
 use Rattle.starlark_table.proofs.TableLemmas.{grows-alike}
+use Rattle.starlark_unordered.specs.Changing.{Adds}
 use Rattle.starlark_unordered.specs.Pairs.{pairs_of, with_value}
 use Rattle.starlark_unordered.specs.RawEntry.{IsInPlace}
-use Rattle.starlark_unordered.specs.RawLending.{IsAdded}
+use Rattle.starlark_unordered.specs.RawLending.{IsAdded, PlacesPair}
 use Rattle.starlark_unordered.proofs.Lists.{count-cons, count-middle, one_if}
 use Rattle.starlark_unordered.proofs.RawWritten.{value_in_place}
 
@@ -104,3 +107,42 @@ module _ {K V : Type 0} (eq : K → K → Bool) (laws : IsEquivalence eq) (old :
       → IfOk r (λ slot. (w : V) → IsAdded old key w (with_value new slot w))
   added_any new (Ok slot) there added room = λ w. added_written new slot w (item_in new slot) refl there (record { pairs = added; room = room })
   added_any new (Err e) there added room = tt
+
+  added_on : {E : Type 0} (new : Table (K × V)) (r : Result ℕ E) → OnOk r (IsPermutation ((key, value) ∷ pairs_of old) (pairs_of new)) → GrowsAsNeeded old new → OnOk r (IsAdded old key value new)
+  added_on new (Ok slot) added room = record { pairs = added; room = room }
+  added_on new (Err e) added room = tt
+
+-- what was added stands in the slot that is answered
+pub places_pair : {K V B : Type 0} (eq : K → K → Bool) (laws : IsEquivalence eq) (lent held : MutBor (Table (K × V))) (key : K) (value : V) (back : B) (r : Result ℕ (NoRoom B))
+    → lookup (eq key) (pairs_of lent.now) ≡ None → held.ghost_name ≡ lent.ghost_name → IfOk r (λ slot. item_in held.now slot ≡ Some (key, value)) → Adds eq lent.now held.now key value back r → PlacesPair lent held key value back r
+places_pair eq laws lent held key value back r absent same there adds = record {
+  same_map = same;
+  placed = there;
+  added = added_on eq laws lent.now key value absent held.now r adds.pairs adds.room;
+  written = added_any eq laws lent.now key value absent held.now r there adds.pairs adds.room;
+  full = adds.full;
+  handed_back = adds.handed_back;
+  unchanged = adds.unchanged;
+}
+
+-- where only the refusal becomes another
+pub places_again : {K V B C : Type 0} (lent held : MutBor (Table (K × V))) (key : K) (value : V) (back : B) (other : C) (r : Result ℕ (NoRoom B)) (s : Result ℕ (NoRoom C))
+    → MatchResult r (λ slot. s ≡ Ok slot) (λ e. (f : NoRoom C) × (s ≡ Err f) × (e.0 ≡ back → f.0 ≡ other)) → PlacesPair lent held key value back r → PlacesPair lent held key value other s
+places_again lent held key value back other (Ok slot) s is put = subst (PlacesPair lent held key value other) (sym is) (record {
+  same_map = put.same_map;
+  placed = put.placed;
+  added = put.added;
+  written = put.written;
+  full = tt;
+  handed_back = tt;
+  unchanged = tt;
+})
+places_again lent held key value back other (Err e) s (f, is, again) put = subst (PlacesPair lent held key value other) (sym is) (record {
+  same_map = put.same_map;
+  placed = tt;
+  added = tt;
+  written = tt;
+  full = put.full;
+  handed_back = again put.handed_back;
+  unchanged = put.unchanged;
+})

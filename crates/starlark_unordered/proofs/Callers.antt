@@ -5,7 +5,7 @@ use Rattle.std.specs.List.{Contains, IsAmong}
 use Rattle.std.specs.Map.{keys_of, lookup, set_value, values_of, IsKeyTest}
 use Rattle.std.specs.Borrow.{MutBor}
 use Rattle.std.specs.Option.{option_copied_mut, option_map, OnSome, IsSome}
-use Rattle.std.specs.Prelude.{IsPermutation, length, if◌then◌else◌, IfSome, IfNone}
+use Rattle.std.specs.Prelude.{IsPermutation, Result, Ok, Err, OnOk, length, if◌then◌else◌, IfSome, IfNone}
 use Rattle.std.proofs.lemmas.Bool.{false≢true}
 use Rattle.std.proofs.lemmas.List.Sorted.{Contains-permutation, IsPermutation-sym, length_permutation, sum_by-IsPermutation}
 use Rattle.std.proofs.lemmas.Map.{length-set_value, lookup-set_value}
@@ -208,6 +208,12 @@ module _ {K V : Type 0} (eq : K → K → Bool) (laws : IsEquivalence eq) where
       let same : with_pair eq key value (pairs_of old) ≡ (key, value) ∷ pairs_of old = ap (λ o. if is_some o then set_value (eq key) (pairs_of old) value else (key, value) ∷ pairs_of old) lacks in
       updates-inserted eq laws old new key value (subst (λ l. IsPermutation l (pairs_of new)) (sym same) moves) distinct
 
+  -- or a refusal
+  pub updates-added : {A E : Type 0} (r : Result A E) (old new : Table (K × V)) (key : K) (value : V) → lookup (eq key) (pairs_of old) ≡ None → OnOk r (IsPermutation ((key, value) ∷ pairs_of old) (pairs_of new)) → HasDistinctKeys eq (pairs_of new)
+      → OnOk r (Updates eq old new key (Some value))
+  updates-added (Ok a) old new key value lacks moves distinct = updates-new old new key value lacks moves distinct
+  updates-added (Err e) old new key value lacks moves distinct = tt
+
 module _ {K V : Type 0} (t : K → Bool) where
   -- a value in the place of another adds none
   pub length-slot : (m : Table (K × V)) (slot : ℕ) → IsPairAt t m slot → (w : V) → length (pairs_of (with_value m slot w)) ≡ length (pairs_of m) + cond (is_some (found t (pairs_of m))) 0 1
@@ -242,6 +248,11 @@ module _ {K V : Type 0} (t : K → Bool) where
 -- a pair more is one more
 pub length-more : {K V : Type 0} (old new : Table (K × V)) (p : K × V) → IsPermutation (p ∷ pairs_of old) (pairs_of new) → length (pairs_of new) ≡ length (pairs_of old) + 1
 length-more old new p moves = let more = length_permutation (p ∷ pairs_of old) (pairs_of new) moves in omega (arith, more)
+
+-- or a refusal
+pub length-added : {K V A E : Type 0} (r : Result A E) (old new : Table (K × V)) (p : K × V) → OnOk r (IsPermutation (p ∷ pairs_of old) (pairs_of new)) → OnOk r (length (pairs_of new) ≡ length (pairs_of old) + 1)
+length-added (Ok a) old new p moves = length-more old new p moves
+length-added (Err e) old new p moves = tt
 
 -- a step that takes no pair out goes on with room
 pub grows-with : {K V : Type 0} (old mid new : Table (K × V)) (there : Bool) → length (pairs_of new) ≡ length (pairs_of mid) + cond there 0 1 → GrowsAsNeeded old mid → GrowsAsNeeded mid new → GrowsAsNeeded old new

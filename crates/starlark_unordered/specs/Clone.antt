@@ -1,5 +1,10 @@
 -- Clones of pairs.
 use Rattle.std.specs.Prelude.{◌≡◌, Bool, IsTrue}
+use Rattle.std.specs.List.{AllZip}
+use Rattle.starlark_table.specs.Table.{Table}
+use Rattle.starlark_unordered.specs.Calling.{contains}
+use Rattle.starlark_unordered.specs.Pairs.{pairs_of}
+use Rattle.starlark_unordered.specs.Set.{Set, elements_of}
 
 -- a clone is equal to its original
 abbrev pub IsEqualClone : {K : Type 0} → (K → K → Bool) → (K → K → Type 0) → Type 0
@@ -12,3 +17,17 @@ IsLawfulClone {T} is_clone = (x y : T) → is_clone x y → y ≡ x
 -- both parts of the second pair are clones of the first's
 abbrev pub IsPairClone : {K V : Type 0} → (K → K → Type 0) → (V → V → Type 0) → K × V → K × V → Type 0
 IsPairClone key value p q = key p.0 q.0 × value p.1 q.1
+
+-- the map has clones of the pairs, and as much room
+pub record IsCloneOf {K V : Type 0} (eq : K → K → Bool) (is_key : K → K → Type 0) (is_value : V → V → Type 0) (old new : Table (K × V)) : Type 0 where
+  pub pairs : AllZip (IsPairClone is_key is_value) (pairs_of old) (pairs_of new)
+  pub same : IsLawfulClone is_key → IsLawfulClone is_value → pairs_of new ≡ pairs_of old
+  pub found : (key : K) → contains eq new key ≡ contains eq old key
+  pub room : new.room ≡ old.room
+
+-- the set has clones of the elements, and as much room
+pub record IsSetCloneOf {T : Type 0} (eq : T → T → Bool) (is_clone : T → T → Type 0) (old new : Set T) : Type 0 where
+  pub elements : AllZip is_clone (elements_of old) (elements_of new)
+  pub same : IsLawfulClone is_clone → pairs_of new ≡ pairs_of old
+  pub found : (element : T) → contains eq new element ≡ contains eq old element
+  pub room : new.room ≡ old.room

@@ -15,3 +15,4 @@ pub mod Unit
 pub mod RawSet
 pub mod SetLending
 pub mod Calling
+pub mod Changing

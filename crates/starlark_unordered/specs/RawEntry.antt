@@ -1,15 +1,19 @@
 -- What the contracts of a map's raw entries cite.
 pub use Rattle.starlark_unordered.specs.declared.raw_entry.RawEntryMut.TheVariants.{Occupied, Vacant}
 use Rattle.std.proofs.Common.{◌∙◌, ap, refl, Bool, true, ◌≡◌, ℕ, List, ◌∷◌, ◌++◌, Option, Some, None}
-use Rattle.std.specs.Prelude.{[], slice_set}
+use Rattle.std.specs.Prelude.{[], slice_set, IfSome}
 use Rattle.std.specs.Option.{is_some, option_map}
-use Rattle.std.specs.Borrow.{Fml, RattleType, MutBor, follows}
+use Rattle.std.specs.Borrow.{Fml, RattleType, Bor, MutBor, follows}
+use Rattle.std.specs.Fn.{Mut}
+use Rattle.std.specs.Hash.{HashWrites}
 use Rattle.std.specs.declared.cmp.PartialEq as eq
 use Rattle.std.specs.declared.hash.Hash as hash
 use mir.Syntax.{named}
+use Rattle.starlark_hash.specs.declared.hash_value.StarlarkHashValue.{StarlarkHashValue}
+use Rattle.starlark_lists.specs.Search.{Searches}
 use Rattle.starlark_table.specs.Table.{Table, item_in, member_at}
 use Rattle.starlark_unordered.specs.Calling.{found, Writes}
-use Rattle.starlark_unordered.specs.Pairs.{pairs_of, with_value}
+use Rattle.starlark_unordered.specs.Pairs.{pairs_of, keys_under, with_value, IsSlotOf}
 use Rattle.starlark_unordered.specs.Written.{set_same, still_there}
 use Rattle.starlark_unordered.specs.contracts.raw_entry.RawOccupiedEntryMut as occupied
 use Rattle.starlark_unordered.specs.declared.raw_entry.RawEntryMut.{RawEntryMut}
@@ -20,6 +24,24 @@ abbrev pub IsInPlace : {X : Type 0} → X → X → List X → List X → Type 0
 IsInPlace {X = X} x y old new = (before : List X) × (after : List X) × (old ≡ before ++ x ∷ after) × (new ≡ before ++ y ∷ after)
 
 module _ {K V : Type 0} where
+  -- an entry holds the lent map, as it was
+  pub record HoldsMap (lent held : MutBor (Table (K × V))) : Type 0 where
+    pub same_map : held.ghost_name ≡ lent.ghost_name
+    pub map : held.now ≡ lent.now
+
+  -- an entry holds the lent map, as it was, with the slot of the key that passes, or none where none passes
+  pub record NamesSlot (t : K → Bool) (lent held : MutBor (Table (K × V))) (found : Option ℕ) : Type 0 where
+    pub same_map : held.ghost_name ≡ lent.ghost_name
+    pub map : held.now ≡ lent.now
+    pub slot : IsSlotOf t lent.now found
+
+  -- an entry holds the lent map, as it was, with the slot of a key of this own hash that the closure accepts, or none where it
+  -- refuses them all
+  pub record NamesAccepted {F : Type 0} (g : Mut F (Bor K × Unit {0}) Bool) (feeds : K → HashWrites) (under : StarlarkHashValue) (f : F) (lent held : MutBor (Table (K × V))) (slot : Option ℕ) : Type 0 where
+    pub same_map : held.ghost_name ≡ lent.ghost_name
+    pub map : held.now ≡ lent.now
+    pub found : (last : F) × Searches g (keys_under feeds under lent.now) f slot last
+
   -- the map with another key in a slot
   abbrev pub with_key : Table (K × V) → ℕ → K → Table (K × V)
   with_key m slot key = record m { slots = slice_set m.slots slot (option_map (λ e. (e.0, (key, e.1.1))) (member_at m slot)) }
@@ -62,6 +84,18 @@ module _ {K V : Type 0} {g : eq.Ghosts K} {h : hash.Ghosts K} where
   -- the entry, once this is its key
   abbrev pub with_raw_key : RawOccupiedEntryMut K V g h → K → RawOccupiedEntryMut K V g h
   with_raw_key o key = record { map = record o.map { now = with_key o.map.now o.slot key }; slot = o.slot; there = key_still_there o.map.now o.slot key o.there }
+
+  -- the value stands in the place of the one that was there, which is answered, and all else is as it was
+  pub record ReplacesValue (value was : V) (before after : RawOccupiedEntryMut K V g h) : Type 0 where
+    pub old : option_map (λ p. p.1) (stored_raw before) ≡ Some was
+    pub new : after ≡ with_raw_value before value
+    pub pairs : IfSome (stored_raw before) (λ p. IsInPlace p (p.0, value) (pairs_of before.map.now) (pairs_of after.map.now))
+
+  -- the same of a key
+  pub record ReplacesKey (key was : K) (before after : RawOccupiedEntryMut K V g h) : Type 0 where
+    pub old : option_map (λ p. p.0) (stored_raw before) ≡ Some was
+    pub new : after ≡ with_raw_key before key
+    pub pairs : IfSome (stored_raw before) (λ p. IsInPlace p (key, p.1) (pairs_of before.map.now) (pairs_of after.map.now))
 
 module _ (K V : RattleType) {g : eq.Ghosts K.Denot} {h : hash.Ghosts K.Denot} where
   -- the entry ends with the value that is left behind the reference

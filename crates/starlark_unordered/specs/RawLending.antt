@@ -1,7 +1,8 @@
 -- What an `UnorderedMap` ends as, once a reference into a pair that was put in has ended.
-use Rattle.std.specs.Prelude.{◌≡◌, ◌∷◌, ℕ, Result, OnOk, OnErr, IfOk, IsPermutation}
+use Rattle.std.specs.Prelude.{◌≡◌, ◌∷◌, ℕ, Some, Result, OnOk, OnErr, IfErr, IfOk, IsPermutation}
 use Rattle.std.specs.Borrow.{Fml, RattleType, Bor, MutBor, follows_so, name_if_ok}
-use Rattle.starlark_table.specs.Table.{Table, GrowsAsNeeded}
+use Rattle.starlark_hash.specs.declared.no_room.NoRoom.{NoRoom}
+use Rattle.starlark_table.specs.Table.{Table, item_in, GrowsAsNeeded}
 use Rattle.starlark_unordered.specs.Lending.{HashMembers, map_row}
 use Rattle.starlark_unordered.specs.Pairs.{pairs_of, with_value}
 
@@ -9,6 +10,24 @@ use Rattle.starlark_unordered.specs.Pairs.{pairs_of, with_value}
 pub record IsAdded {K V : Type 0} (old : Table (K × V)) (key : K) (value : V) (new : Table (K × V)) : Type 0 where
   pub pairs : IsPermutation ((key, value) ∷ pairs_of old) (pairs_of new)
   pub room : GrowsAsNeeded old new
+
+module _ {K V B : Type 0} where
+  -- a pair was put into the slot of the lent map that is answered, where any value may then be written; or it comes
+  -- back for want of room
+  pub record PlacesPair (lent held : MutBor (Table (K × V))) (key : K) (value : V) (back : B) (result : Result ℕ (NoRoom B)) : Type 0 where
+    pub same_map : held.ghost_name ≡ lent.ghost_name
+    pub placed : IfOk result (λ slot. item_in held.now slot ≡ Some (key, value))
+    pub added : OnOk result (IsAdded lent.now key value held.now)
+    pub written : IfOk result (λ slot. (w : V) → IsAdded lent.now key w (with_value held.now slot w))
+    pub full : OnErr result (lent.now.room ≡ 0)
+    pub handed_back : IfErr result (λ refused. refused.0 ≡ back)
+    pub unchanged : OnErr result (held.now ≡ lent.now)
+
+  -- the pair that was put in is lent; or it comes back for want of room
+  pub record LendsPair (old : Table (K × V)) (key : K) (value : V) (back : B) (result : Result (Bor K × MutBor V) (NoRoom B)) : Type 0 where
+    pub pair : IfOk result (λ p. (p.0.now ≡ key) × (p.1.now ≡ value))
+    pub full : OnErr result (old.room ≡ 0)
+    pub handed_back : IfErr result (λ refused. refused.0 ≡ back)
 
 module _ (K V : RattleType) (g : HashMembers K.Denot) (s : MutBor (Table (K.Denot × V.Denot))) {E : Type 0} where
   -- the value in the slot ends as what is left behind the reference, and all else stays

@@ -1,14 +1,15 @@
 //! Places of a map that a query, or a hash and a closure choose.
-ghost use Rattle.std.specs.Prelude.{◌≡◌, ◌∷◌, ◌+◌, true, Some, None, Err, IfOk, IfErr, IfSome, IsOk, OnOk, OnErr, MatchResult, IsPermutation};
+ghost use Rattle.std.specs.Prelude.{◌≡◌, true, Some, None, Err, IfOk, IfSome, IsOk, MatchResult};
 ghost use Rattle.std.specs.Borrow.{sem};
 ghost use Rattle.std.specs.Map.{lookup};
 ghost use Rattle.std.specs.Option.{is_some, option_map};
 ghost use Rattle.starlark_hash.specs.HashValue.{hash_of, key_of};
 ghost use Rattle.starlark_hash.specs.Hasher.{own_hash};
-ghost use Rattle.starlark_lists.specs.Search.{CanSearch, Searches};
-ghost use Rattle.starlark_table.specs.Table.{item_in, table_len};
-ghost use Rattle.starlark_unordered.specs.Pairs.{pairs_of, keys_under, under_own, with_value, IsSlotOf};
-ghost use Rattle.starlark_unordered.specs.RawLending.{lends_placed, IsAdded};
+ghost use Rattle.starlark_lists.specs.Search.{CanSearch};
+ghost use Rattle.starlark_table.specs.Table.{item_in};
+ghost use Rattle.starlark_unordered.specs.Changing.{TakesOut};
+ghost use Rattle.starlark_unordered.specs.Pairs.{pairs_of, keys_under, under_own};
+ghost use Rattle.starlark_unordered.specs.RawLending.{lends_placed};
 
 use crate::unordered_map::UnorderedMap;
 use starlark_hash::{Equivalent, Hashed, KeyQuery, NoRoom, StarlarkHashValue};
@@ -45,27 +46,26 @@ pub struct RawVacantEntryMut<'a, K: Eq + Hash, V> {
 }
 
 impl<K: Eq + Hash, V> UnorderedMap<K, V> {
+    ghost use Rattle.starlark_unordered.specs.RawEntry.{HoldsMap};
+
     /// The map, whose place is to be named by a query, or by a hash and a closure.
     #[inline]
     pub fn raw_entry_mut(&mut self) -> RawEntryBuilderMut<'_, K, V>
-        ensures same_map { result.map.ghost_name ≡ self.entry.ghost_name }
-        ensures map { result.map.now ≡ self.old }
+        ensures holds { HoldsMap self.entry result.map }
     {
         RawEntryBuilderMut { map: self }
     }
 }
 
 impl<'a, K: Eq + Hash, V> RawEntryBuilderMut<'a, K, V> {
-    ghost use Rattle.starlark_unordered.specs.RawEntry.{map_of_raw, slot_of_raw, IsRawPlaceOf};
+    ghost use Rattle.starlark_unordered.specs.RawEntry.{map_of_raw, slot_of_raw, IsRawPlaceOf, NamesAccepted, NamesSlot};
 
     /// The pair of the key that the query stands for, or vacant where the map lacks it. The map is as it was.
     #[tactic(auto, unfolding(crate::specs::Calling::found))]
     #[inline]
     pub fn from_key<Q: KeyQuery<K>>(self, query: &Q) -> RawEntryMut<'a, K, V>
-        ensures same_map { (map_of_raw result).ghost_name ≡ self.entry.map.ghost_name }
-        ensures map { (map_of_raw result).now ≡ self.entry.map.now }
         ensures place { IsRawPlaceOf K.eq (Q.equivalent query.now) self.entry.map.now result }
-        ensures slot { IsSlotOf (Q.equivalent query.now) self.entry.map.now (slot_of_raw result) }
+        ensures names { NamesSlot (Q.equivalent query.now) self.entry.map (map_of_raw result) (slot_of_raw result) }
     {
         let map = self.map;
         match map.slot_under(StarlarkHashValue::new(query).promote(), query) {
@@ -78,9 +78,7 @@ impl<'a, K: Eq + Hash, V> RawEntryBuilderMut<'a, K, V> {
     /// map is as it was.
     #[inline]
     pub fn from_key_hashed<Q: Equivalent<K>>(self, key: Hashed<&Q>) -> RawEntryMut<'a, K, V>
-        ensures same_map { (map_of_raw result).ghost_name ≡ self.entry.map.ghost_name }
-        ensures map { (map_of_raw result).now ≡ self.entry.map.now }
-        ensures slot { IsSlotOf (under_own K.hash_input (hash_of key.entry) (Q.equivalent (key_of key.entry).now)) self.entry.map.now (slot_of_raw result) }
+        ensures names { NamesSlot (under_own K.hash_input (hash_of key.entry) (Q.equivalent (key_of key.entry).now)) self.entry.map (map_of_raw result) (slot_of_raw result) }
     {
         let map = self.map;
         match map.slot_hashed(key.hash(), *key.key()) {
@@ -99,9 +97,7 @@ impl<'a, K: Eq + Hash, V> RawEntryBuilderMut<'a, K, V> {
         is_match: F,
     ) -> RawEntryMut<'a, K, V>
         requires { CanSearch F.FnMut (keys_under K.hash_input hash self.map.now) is_match }
-        ensures same_map { (map_of_raw result).ghost_name ≡ self.entry.map.ghost_name }
-        ensures map { (map_of_raw result).now ≡ self.entry.map.now }
-        ensures found { (last : F) × Searches F.FnMut (keys_under K.hash_input hash self.entry.map.now) is_match (slot_of_raw result) last }
+        ensures names { NamesAccepted F.FnMut K.hash_input hash is_match self.entry.map (map_of_raw result) (slot_of_raw result) }
     {
         let map = self.map;
         match map.slot_accepted(hash, is_match) {
@@ -112,14 +108,12 @@ impl<'a, K: Eq + Hash, V> RawEntryBuilderMut<'a, K, V> {
 }
 
 impl<'a, K: Eq + Hash, V> RawOccupiedEntryMut<'a, K, V> {
-    ghost use Rattle.starlark_unordered.specs.RawEntry.{raw_keeps, stored_raw, with_raw_key, with_raw_value, IsInPlace};
+    ghost use Rattle.starlark_unordered.specs.RawEntry.{raw_keeps, stored_raw, ReplacesKey, ReplacesValue};
 
     /// Puts this value in the place of the one that is there, which is answered. The other pairs stay.
     #[inline]
     pub fn insert(&mut self, value: V) -> V
-        ensures old { option_map (λ p. p.1) (stored_raw self.old) ≡ Some result }
-        ensures new { self.new ≡ with_raw_value self.old value }
-        ensures pairs { IfSome (stored_raw self.old) (λ p. IsInPlace p (p.0, value) (pairs_of self.old.map.now) (pairs_of self.new.map.now)) }
+        ensures replaces { ReplacesValue value result self.old self.new }
     {
         mem::replace(self.get_mut(), value)
     }
@@ -129,9 +123,7 @@ impl<'a, K: Eq + Hash, V> RawOccupiedEntryMut<'a, K, V> {
     #[inline]
     pub fn insert_key(&mut self, key: K) -> K
         requires { IfSome (stored_raw self.old) (λ p. K.eq key p.0 ≡ true) }
-        ensures old { option_map (λ p. p.0) (stored_raw self.old) ≡ Some result }
-        ensures new { self.new ≡ with_raw_key self.old key }
-        ensures pairs { IfSome (stored_raw self.old) (λ p. IsInPlace p (key, p.1) (pairs_of self.old.map.now) (pairs_of self.new.map.now)) }
+        ensures replaces { ReplacesKey key result self.old self.new }
     {
         let slot = self.slot;
         self.map.replace_key(slot, key)
@@ -161,8 +153,7 @@ impl<'a, K: Eq + Hash, V> RawOccupiedEntryMut<'a, K, V> {
     where
         K: Drop,
         ensures pair { option_map (λ p. p.1) (stored_raw self.entry) ≡ Some result }
-        ensures rest { IfSome (stored_raw self.entry) (λ p. IsPermutation (pairs_of self.entry.map.now) (p ∷ pairs_of self.exit.0.now)) }
-        ensures room { table_len self.exit.0.now + self.exit.0.now.room ≡ table_len self.entry.map.now + self.entry.map.now.room }
+        ensures takes { TakesOut (stored_raw self.entry) self.entry.map.now self.exit.0.now }
     {
         let slot = self.slot;
         let (_key, value) = self.map.take_out(slot);
@@ -173,8 +164,7 @@ impl<'a, K: Eq + Hash, V> RawOccupiedEntryMut<'a, K, V> {
     #[inline]
     pub fn remove_entry(self) -> (K, V)
         ensures pair { stored_raw self.entry ≡ Some result }
-        ensures rest { IsPermutation (pairs_of self.entry.map.now) (result ∷ pairs_of self.exit.0.now) }
-        ensures room { table_len self.exit.0.now + self.exit.0.now.room ≡ table_len self.entry.map.now + self.entry.map.now.room }
+        ensures takes { TakesOut (Some result) self.entry.map.now self.exit.0.now }
     {
         let slot = self.slot;
         self.map.take_out(slot)
@@ -182,15 +172,13 @@ impl<'a, K: Eq + Hash, V> RawOccupiedEntryMut<'a, K, V> {
 }
 
 impl<'a, K: Eq + Hash, V> RawVacantEntryMut<'a, K, V> {
-    ghost use Rattle.starlark_unordered.specs.RawLending.{lends_added};
+    ghost use Rattle.starlark_unordered.specs.RawLending.{lends_added, LendsPair, PlacesPair};
 
     /// Puts a key in under its own hash, as `insert_hashed` does under one that is brought.
     pub fn insert(self, key: K, value: V) -> Result<(&'a K, &'a mut V), NoRoom<(K, V)>>
         requires { lookup (K.eq key) (pairs_of self.map.now) ≡ None }
         ensures* writes_back { sem 𝓛 (lends_added K.row V.row K.Hash self.entry.map key result) }
-        ensures pair { IfOk result (λ p. (p.0.now ≡ key) × (p.1.now ≡ value)) }
-        ensures full { OnErr result (self.entry.map.now.room ≡ 0) }
-        ensures handed_back { IfErr result (λ refused. refused.0 ≡ (key, value)) }
+        ensures lends { LendsPair self.entry.map.now key value (key, value) result }
     {
         lend_placed(self.place(key, value))
     }
@@ -207,9 +195,7 @@ impl<'a, K: Eq + Hash, V> RawVacantEntryMut<'a, K, V> {
         requires own { hash_of key ≡ own_hash K.hash_input (key_of key) }
         requires absent { lookup (K.eq (key_of key)) (pairs_of self.map.now) ≡ None }
         ensures* writes_back { sem 𝓛 (lends_added K.row V.row K.Hash self.entry.map (key_of key) result) }
-        ensures pair { IfOk result (λ p. (p.0.now ≡ key_of key) × (p.1.now ≡ value)) }
-        ensures full { OnErr result (self.entry.map.now.room ≡ 0) }
-        ensures handed_back { IfErr result (λ refused. refused.0 ≡ (key, value)) }
+        ensures lends { LendsPair self.entry.map.now (key_of key) value (key, value) result }
     {
         lend_placed(self.place_hashed(key, value))
     }
@@ -217,13 +203,7 @@ impl<'a, K: Eq + Hash, V> RawVacantEntryMut<'a, K, V> {
     // Puts a new key in under its own hash, and answers the map with the slot, or the refusal.
     fn place(self, key: K, value: V) -> (&'a mut UnorderedMap<K, V>, Result<usize, NoRoom<(K, V)>>)
         requires { lookup (K.eq key) (pairs_of self.map.now) ≡ None }
-        ensures same_map { result.0.ghost_name ≡ self.entry.map.ghost_name }
-        ensures placed { IfOk result.1 (λ slot. item_in result.0.now slot ≡ Some (key, value)) }
-        ensures added { OnOk result.1 (IsAdded self.entry.map.now key value result.0.now) }
-        ensures written { IfOk result.1 (λ slot. (w : V) → IsAdded self.entry.map.now key w (with_value result.0.now slot w)) }
-        ensures full { OnErr result.1 (self.entry.map.now.room ≡ 0) }
-        ensures handed_back { IfErr result.1 (λ refused. refused.0 ≡ (key, value)) }
-        ensures unchanged { OnErr result.1 (result.0.now ≡ self.entry.map.now) }
+        ensures { PlacesPair self.entry.map result.0 key value (key, value) result.1 }
     {
         let map = self.map;
         let hash = StarlarkHashValue::new(&key).promote();
@@ -242,13 +222,7 @@ impl<'a, K: Eq + Hash, V> RawVacantEntryMut<'a, K, V> {
     )
         requires own { hash_of key ≡ own_hash K.hash_input (key_of key) }
         requires absent { lookup (K.eq (key_of key)) (pairs_of self.map.now) ≡ None }
-        ensures same_map { result.0.ghost_name ≡ self.entry.map.ghost_name }
-        ensures placed { IfOk result.1 (λ slot. item_in result.0.now slot ≡ Some (key_of key, value)) }
-        ensures added { OnOk result.1 (IsAdded self.entry.map.now (key_of key) value result.0.now) }
-        ensures written { IfOk result.1 (λ slot. (w : V) → IsAdded self.entry.map.now (key_of key) w (with_value result.0.now slot w)) }
-        ensures full { OnErr result.1 (self.entry.map.now.room ≡ 0) }
-        ensures handed_back { IfErr result.1 (λ refused. refused.0 ≡ (key, value)) }
-        ensures unchanged { OnErr result.1 (result.0.now ≡ self.entry.map.now) }
+        ensures { PlacesPair self.entry.map result.0 (key_of key) value (key, value) result.1 }
     {
         let map = self.map;
         let hash = key.hash();

@@ -1,7 +1,6 @@
 //! The map. It alone sees its table.
-ghost use Rattle.std.specs.Prelude.{◌≡◌, ◌≤◌, ◌==◌, [], length, IfOk, IsOk};
-ghost use Rattle.starlark_table.specs.Growth.{most_for};
-ghost use Rattle.starlark_unordered.specs.Calling.{IsEmpty};
+ghost use Rattle.std.specs.Prelude.{◌≡◌, ◌==◌, length, IfOk, IsOk};
+ghost use Rattle.starlark_unordered.specs.Changing.{IsEmptyFor, IsEmptyWith};
 ghost use Rattle.starlark_unordered.specs.Pairs.{pairs_of, HasDistinctKeys};
 
 mod collect;
@@ -43,14 +42,10 @@ impl<K: Eq + Hash, V> Model for UnorderedMap<K, V> {
 }
 
 impl<K: Eq + Hash, V> UnorderedMap<K, V> {
-    ghost use Rattle.starlark_unordered.specs.Lending.{lends_at, lends_value};
-
     /// An empty map without room. It asks for no memory before the first insertion.
     #[tactic(auto, using(crate::proofs::Callers::callers), unfolding(crate::specs::Calling::found))]
     pub fn new(alloc: Global) -> Self
-        ensures found { IsEmpty result }
-        ensures empty { pairs_of result ≡ [] }
-        ensures room { result.room ≡ 0 }
+        ensures made { IsEmptyWith 0 result }
     {
         UnorderedMap {
             table: ReadyTable::new(alloc),
@@ -62,10 +57,7 @@ impl<K: Eq + Hash, V> UnorderedMap<K, V> {
     /// nothing is made; capacity 0 is not refused.
     #[tactic(auto, using(crate::proofs::Callers::callers), unfolding(crate::specs::Calling::found))]
     pub fn with_capacity(alloc: Global, capacity: usize) -> Result<Self, AllocError>
-        ensures found { IfOk result (λ m. IsEmpty m) }
-        ensures empty { IfOk result (λ m. pairs_of m ≡ []) }
-        ensures room { IfOk result (λ m. capacity ≤ m.room) }
-        ensures most { IfOk result (λ m. m.room ≤ most_for capacity) }
+        ensures made { IfOk result (λ m. IsEmptyFor capacity m) }
         ensures none_for_none { capacity ≡ 0 → IsOk result }
     {
         Ok(UnorderedMap {

@@ -1,14 +1,13 @@
 //! The set: an `UnorderedMap` to `()`.
-ghost use Rattle.std.specs.Prelude.{◌≡◌, ◌≤◌, ◌==◌, ◌+◌, [], length, if◌then◌else◌, map, not, false, None, Some, IfOk, IfErr, IsOk, OnOk, OnErr, IsPermutation, IsSortedByKey};
-ghost use Rattle.std.specs.List.{AllZip};
-ghost use Rattle.std.specs.Map.{lookup};
+ghost use Rattle.std.specs.Prelude.{◌≡◌, ◌==◌, ◌+◌, [], length, not, is_some, IfOk, IsOk};
 ghost use Rattle.std.specs.Map.Iter.{deref};
 ghost use Rattle.starlark_hash.specs.HashValue.{hash_of, key_of};
-ghost use Rattle.starlark_table.specs.Table.{table_len, GrowsAsNeeded};
-ghost use Rattle.starlark_table.specs.Growth.{most_for};
-ghost use Rattle.starlark_unordered.specs.Calling.{IsEmpty, Updates, contains};
-ghost use Rattle.starlark_unordered.specs.Clone.{IsEqualClone, IsLawfulClone};
-ghost use Rattle.starlark_unordered.specs.Pairs.{pairs_of, with_pair, under_own, HasDistinctKeys};
+ghost use Rattle.starlark_table.specs.Table.{table_len};
+ghost use Rattle.starlark_unordered.specs.Calling.{contains};
+ghost use Rattle.starlark_unordered.specs.Changing.{Inserts, IsEmptyFor, IsEmptyWith};
+ghost use Rattle.starlark_unordered.specs.Clone.{IsEqualClone, IsSetCloneOf};
+ghost use Rattle.starlark_unordered.specs.Pairs.{pairs_of, under_own, HasDistinctKeys};
+ghost use Rattle.starlark_unordered.specs.Walk.{ShowsSorted};
 
 mod collect;
 mod compare;
@@ -44,9 +43,7 @@ impl<T: Eq + Hash> UnorderedSet<T> {
 
     /// An empty set without room. It asks for no memory before the first insertion.
     pub fn new(alloc: Global) -> Self
-        ensures found { IsEmpty result }
-        ensures empty { elements_of result ≡ [] }
-        ensures room { result.room ≡ 0 }
+        ensures made { IsEmptyWith 0 result }
     {
         UnorderedSet {
             map: UnorderedMap::new(alloc),
@@ -57,10 +54,7 @@ impl<T: Eq + Hash> UnorderedSet<T> {
     /// An empty set with room for so many elements at least, and for twice as many, or 6, at most. Where memory is
     /// refused, nothing is made; capacity 0 is not refused.
     pub fn with_capacity(alloc: Global, capacity: usize) -> Result<Self, AllocError>
-        ensures found { IfOk result (λ s. IsEmpty s) }
-        ensures empty { IfOk result (λ s. elements_of s ≡ []) }
-        ensures room { IfOk result (λ s. capacity ≤ s.room) }
-        ensures most { IfOk result (λ s. s.room ≤ most_for capacity) }
+        ensures made { IfOk result (λ s. IsEmptyFor capacity s) }
         ensures none_for_none { capacity ≡ 0 → IsOk result }
     {
         Ok(UnorderedSet {
@@ -75,18 +69,7 @@ impl<T: Eq + Hash> UnorderedSet<T> {
     pub fn insert(&mut self, element: T) -> Result<bool, NoRoom<T>>
     where
         T: Drop,
-        ensures was { IfOk result (λ is_new. is_new ≡ not (contains T.eq self.old element)) }
-        ensures updates { OnOk result (Updates T.eq self.old self.new element (Some tt)) }
-        ensures length { OnOk result (length (pairs_of self.new) ≡ length (pairs_of self.old) + (if contains T.eq self.old element then 0 else 1)) }
-        ensures lacks { OnErr result (contains T.eq self.old element ≡ false) }
-        ensures is_new { IfOk result (λ is_new. is_new ≡ not (has (T.eq element) self.old)) }
-        ensures elements { OnOk result (IsPermutation (with_pair T.eq element tt (pairs_of self.old)) (pairs_of self.new)) }
-        ensures room { GrowsAsNeeded self.old self.new }
-
-        ensures absent { OnErr result (lookup (T.eq element) (pairs_of self.old) ≡ None) }
-        ensures full { OnErr result (self.old.room ≡ 0) }
-        ensures handed_back { IfErr result (λ refused. refused.0 ≡ element) }
-        ensures unchanged { OnErr result (self.new ≡ self.old) }
+        ensures inserts { Inserts T.eq self.old self.new element tt element (λ was. not (is_some was)) result }
     {
         match self.map.insert(element, ()) {
             Ok(old) => Ok(old.is_none()),
@@ -98,9 +81,7 @@ impl<T: Eq + Hash> UnorderedSet<T> {
     pub fn clear(&mut self)
     where
         T: Drop,
-        ensures found { IsEmpty self.new }
-        ensures empty { elements_of self.new ≡ [] }
-        ensures room { self.new.room ≡ table_len self.old + self.old.room }
+        ensures cleared { IsEmptyWith (table_len self.old + self.old.room) self.new }
     {
         self.map.clear();
     }
@@ -143,8 +124,7 @@ impl<T: Eq + Hash> UnorderedSet<T> {
     pub fn entries_sorted(&self) -> Result<Vec<&T>, AllocError>
     where
         T: Ord,
-        ensures elements { IfOk result (λ entries. IsPermutation (elements_of self.now) (map deref entries.items)) }
-        ensures ascends { IfOk result (λ entries. IsSortedByKey (λ entry. entry.now) T.cmp entries.items) }
+        ensures sorted { IfOk result (λ entries. ShowsSorted deref (λ entry. entry.now) T.cmp (elements_of self.now) entries.items) }
     {
         let mut entries = Vec::from_iter(self.alloc, self.map.keys_unordered())?;
         entries.sort_by(
@@ -157,18 +137,13 @@ impl<T: Eq + Hash> UnorderedSet<T> {
 }
 
 impl<T: Eq + Hash + Clone> UnorderedSet<T> {
-    ghost use Rattle.starlark_unordered.specs.Set.{elements_of};
-
     /// A set of clones of the elements, each in its original's place, with as much room. Where memory is refused, also
     /// to the clone of an element, nothing is made. An empty set without room needs none. Required is that a clone of an
     /// element is equal to it.
     pub fn clone(&self) -> Result<Self, AllocError>
         // A clone of an element is equal to it.
         requires { IsEqualClone T.eq T.is_clone }
-        ensures elements { IfOk result (λ s. AllZip T.is_clone (elements_of self.now) (elements_of s)) }
-        ensures found { IfOk result (λ s. (element : T) → contains T.eq s element ≡ contains T.eq self.now element) }
-        ensures same { IfOk result (λ s. IsLawfulClone T.is_clone → pairs_of s ≡ pairs_of self.now) }
-        ensures room { IfOk result (λ s. s.room ≡ self.now.room) }
+        ensures clone { IfOk result (λ s. IsSetCloneOf T.eq T.is_clone self.now s) }
         ensures none_for_none { pairs_of self.now ≡ [] → self.now.room ≡ 0 → IsOk result }
     {
         Ok(UnorderedSet {

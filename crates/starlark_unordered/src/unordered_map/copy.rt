@@ -1,8 +1,6 @@
 //! `UnorderedMap`s made of clones.
 ghost use Rattle.std.specs.Prelude.{◌≡◌, [], IfOk, IsOk};
-ghost use Rattle.std.specs.List.{AllZip};
-ghost use Rattle.starlark_unordered.specs.Calling.{contains};
-ghost use Rattle.starlark_unordered.specs.Clone.{IsEqualClone, IsLawfulClone, IsPairClone};
+ghost use Rattle.starlark_unordered.specs.Clone.{IsCloneOf, IsEqualClone};
 ghost use Rattle.starlark_unordered.specs.Pairs.{pairs_of};
 
 use super::UnorderedMap;
@@ -15,10 +13,7 @@ impl<K: Eq + Hash + Clone, V: Clone> UnorderedMap<K, V> {
     pub fn clone(&self) -> Result<Self, AllocError>
         // A clone of a key is equal to it.
         requires { IsEqualClone K.eq K.is_clone }
-        ensures pairs { IfOk result (λ map. AllZip (IsPairClone K.is_clone V.is_clone) (pairs_of self.now) (pairs_of map)) }
-        ensures same { IfOk result (λ map. IsLawfulClone K.is_clone → IsLawfulClone V.is_clone → pairs_of map ≡ pairs_of self.now) }
-        ensures found { IfOk result (λ map. (key : K) → contains K.eq map key ≡ contains K.eq self.now key) }
-        ensures room { IfOk result (λ map. map.room ≡ self.now.room) }
+        ensures clone { IfOk result (λ map. IsCloneOf K.eq K.is_clone V.is_clone self.now map) }
         ensures none_for_none { pairs_of self.now ≡ [] → self.now.room ≡ 0 → IsOk result }
     {
         if self.len() == 0 && self.room() == 0 {

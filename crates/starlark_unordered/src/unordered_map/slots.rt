@@ -1,11 +1,12 @@
 //! The pairs of an `UnorderedMap` by their slots, on which the calls and the entries are written.
-ghost use Rattle.std.specs.Prelude.{◌≡◌, ◌∷◌, ◌+◌, true, None, Some, IfOk, IfErr, OnOk, OnErr, IfSome, IsPermutation};
+ghost use Rattle.std.specs.Prelude.{◌≡◌, true, None, Some, IfOk, IfSome};
 ghost use Rattle.std.specs.Borrow.{sem};
 ghost use Rattle.std.specs.Fn.{CalledAt, TakesAt};
 ghost use Rattle.std.specs.Map.{lookup};
 ghost use Rattle.std.specs.Option.{is_some, option_copied, option_map};
 ghost use Rattle.starlark_lists.specs.Search.{CanSearch, Searches};
-ghost use Rattle.starlark_table.specs.Table.{item_in, table_len, GrowsAsNeeded};
+ghost use Rattle.starlark_table.specs.Table.{item_in};
+ghost use Rattle.starlark_unordered.specs.Changing.{Adds, TakesOut};
 ghost use Rattle.starlark_unordered.specs.Pairs.{pairs_of, keys_under, under_own, HasDistinctKeys, IsSlotOf};
 ghost use Rattle.starlark_unordered.specs.Sound.{home_of};
 
@@ -108,13 +109,8 @@ impl<K: Eq + Hash, V> UnorderedMap<K, V> {
         requires own { hash ≡ home_of K.hash_input key }
         requires absent { lookup (K.eq key) (pairs_of self.old) ≡ None }
         ensures placed { IfOk result (λ slot. item_in self.new slot ≡ Some (key, value)) }
-        ensures pairs { OnOk result (IsPermutation ((key, value) ∷ pairs_of self.old) (pairs_of self.new)) }
         ensures distinct { HasDistinctKeys K.eq (pairs_of self.new) }
-        ensures room { GrowsAsNeeded self.old self.new }
-
-        ensures full { OnErr result (self.old.room ≡ 0) }
-        ensures handed_back { IfErr result (λ refused. refused.0 ≡ (key, value)) }
-        ensures unchanged { OnErr result (self.new ≡ self.old) }
+        ensures adds { Adds K.eq self.old self.new key value (key, value) result }
     {
         self.table.insert_unique(hash, (key, value))
     }
@@ -148,9 +144,8 @@ impl<K: Eq + Hash, V> UnorderedMap<K, V> {
     pub(crate) fn take_out(&mut self, slot: usize) -> (K, V)
         requires { is_some (item_in self.old slot) ≡ true }
         ensures pair { item_in self.old slot ≡ Some result }
-        ensures rest { IsPermutation (pairs_of self.old) (result ∷ pairs_of self.new) }
         ensures distinct { HasDistinctKeys K.eq (pairs_of self.old) }
-        ensures room { table_len self.new + self.new.room ≡ table_len self.old + self.old.room }
+        ensures takes { TakesOut (Some result) self.old self.new }
     {
         match self.table.remove(slot) {
             Some((_, pair)) => pair,

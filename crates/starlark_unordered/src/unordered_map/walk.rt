@@ -1,9 +1,9 @@
 //! The walks of an `UnorderedMap`, in an order that nothing promises.
-ghost use Rattle.std.specs.Prelude.{◌≡◌, ◌^◌, ◌<◌, List, [], length, map, IsOk, IfOk, IfErr, OnOk, IsPermutation, IsSortedByKey};
+ghost use Rattle.std.specs.Prelude.{◌≡◌, IfOk, IsPermutation};
 ghost use Rattle.std.specs.Map.{keys_of, values_of};
 ghost use Rattle.std.specs.Map.Iter.{ShowsInOrder, deref, deref_pair};
-ghost use Rattle.starlark_unordered.specs.Pairs.{pairs_of, HasDistinctKeys};
-ghost use Rattle.starlark_unordered.specs.Walk.{CanMapValues, MapsValues};
+ghost use Rattle.starlark_unordered.specs.Pairs.{pairs_of};
+ghost use Rattle.starlark_unordered.specs.Walk.{CanMapValues, MapsEach, ShowsEach, ShowsSorted, WalksPairs};
 
 use super::UnorderedMap;
 use crate::iter::{Entries, KeysUnordered, ValuesUnordered};
@@ -19,9 +19,7 @@ impl<K: Eq + Hash, V> UnorderedMap<K, V> {
     /// The pairs, each once, with exact length and size hint. No two keys are equal.
     #[inline]
     pub fn entries_unordered(&self) -> Entries<'_, K, V>
-        ensures pairs { result ≡ pairs_of self.now }
-        ensures distinct { HasDistinctKeys K.eq (pairs_of self.now) }
-        ensures fits { length (pairs_of self.now) < 2 ^ 64 }
+        ensures walks { WalksPairs K.eq self.now result }
         ensures runs { ShowsInOrder (deref_pair {K = K} {X = V}) }
     {
         // The number of pairs is a `usize`, as `fits` says.
@@ -33,8 +31,7 @@ impl<K: Eq + Hash, V> UnorderedMap<K, V> {
     #[inline]
     pub fn keys_unordered(&self) -> KeysUnordered<'_, K, V>
         ensures keys { result ≡ keys_of (pairs_of self.now) }
-        ensures fits { length (pairs_of self.now) < 2 ^ 64 }
-        ensures runs { ShowsInOrder (deref {X = K}) }
+        ensures runs { ShowsEach self.now (deref {X = K}) }
     {
         KeysUnordered::new(self.entries_unordered())
     }
@@ -43,8 +40,7 @@ impl<K: Eq + Hash, V> UnorderedMap<K, V> {
     #[inline]
     pub fn values_unordered(&self) -> ValuesUnordered<'_, K, V>
         ensures values { result ≡ values_of (pairs_of self.now) }
-        ensures fits { length (pairs_of self.now) < 2 ^ 64 }
-        ensures runs { ShowsInOrder (deref {X = V}) }
+        ensures runs { ShowsEach self.now (deref {X = V}) }
     {
         ValuesUnordered::new(self.entries_unordered())
     }
@@ -53,8 +49,7 @@ impl<K: Eq + Hash, V> UnorderedMap<K, V> {
     pub fn entries_sorted(&self) -> Result<Vec<(&K, &V)>, AllocError>
     where
         K: Ord,
-        ensures pairs { IfOk result (λ entries. IsPermutation (pairs_of self.now) (map deref_pair entries.items)) }
-        ensures ascends { IfOk result (λ entries. IsSortedByKey (λ entry. entry.0.now) K.cmp entries.items) }
+        ensures sorted { IfOk result (λ entries. ShowsSorted deref_pair (λ entry. entry.0.now) K.cmp (pairs_of self.now) entries.items) }
     {
         let mut entries = Vec::from_iter(self.alloc, self.entries_unordered())?;
         entries.sort_by(
@@ -90,9 +85,7 @@ impl<K: Eq + Hash, V> UnorderedMap<K, V> {
         V: Drop,
         W: Drop,
         requires { CanMapValues F.FnMut (pairs_of self) f }
-        ensures mapped { IfOk result (λ m. (last : F) × (mapped : List (K × W)) × MapsValues F.FnMut f (pairs_of self) mapped last × IsPermutation mapped (pairs_of m)) }
-        ensures handed_back { IfErr result (λ m. m ≡ self) }
-        ensures none_for_none { pairs_of self ≡ [] → IsOk result }
+        ensures maps { MapsEach F.FnMut f self result }
     {
         let UnorderedMap { table, alloc } = self;
         let Ok(mut mapped) = ReadyTable::with_capacity(alloc, table.len()) else {

@@ -3,7 +3,8 @@ ghost use Rattle.std.specs.Prelude.{◌≡◌, ◌^◌, ◌<◌, length};
 ghost use Rattle.std.specs.Borrow.{sem};
 ghost use Rattle.std.specs.Map.{values_of};
 ghost use Rattle.starlark_unordered.specs.Lending.{values_follow};
-ghost use Rattle.starlark_unordered.specs.Pairs.{pairs_of, HasDistinctKeys};
+ghost use Rattle.starlark_unordered.specs.Pairs.{pairs_of};
+ghost use Rattle.starlark_unordered.specs.Walk.{WalksPairs};
 
 use super::UnorderedMap;
 use crate::iter_mut::{EntriesMut, ValuesUnorderedMut};
@@ -15,9 +16,7 @@ impl<K: Eq + Hash, V> UnorderedMap<K, V> {
     #[inline]
     pub fn entries_unordered_mut(&mut self) -> EntriesMut<'_, K, V>
         ensures* writes_back { sem 𝓛 (values_follow K.row V.row K.Hash self.entry result.1) }
-        ensures pairs { result.0 ≡ pairs_of self.old }
-        ensures distinct { HasDistinctKeys K.eq (pairs_of self.old) }
-        ensures fits { length (pairs_of self.old) < 2 ^ 64 }
+        ensures walks { WalksPairs K.eq self.old result.0 }
     {
         self.table.pairs_mut()
     }

@@ -1,13 +1,13 @@
 //! Calls that write an `UnorderedMap`.
-ghost use Rattle.std.specs.Prelude.{◌≡◌, ◌≤◌, ◌+◌, [], Bool, List, true, filter, length, if◌then◌else◌, None, Some, IfOk, IfErr, OnOk, OnErr, IfSome, IfNone, IsPermutation};
+ghost use Rattle.std.specs.Prelude.{◌≡◌, ◌+◌, Bool, filter, IsPermutation};
 ghost use Rattle.std.specs.Borrow.{sem};
-ghost use Rattle.std.specs.List.Retain.{RetainsInTurn};
 ghost use Rattle.std.specs.Map.{lookup};
 ghost use Rattle.std.specs.Option.{option_copied_mut};
-ghost use Rattle.starlark_table.specs.Table.{table_len, GrowsAsNeeded};
-ghost use Rattle.starlark_unordered.specs.Calling.{IsEmpty, Updates, Writes, contains, get};
-ghost use Rattle.starlark_unordered.specs.Pairs.{pairs_of, with_pair, IsWithout};
-ghost use Rattle.starlark_unordered.specs.Walk.{CanAskPairs, AsksPair, TakesPair};
+ghost use Rattle.starlark_table.specs.Table.{table_len};
+ghost use Rattle.starlark_unordered.specs.Calling.{get};
+ghost use Rattle.starlark_unordered.specs.Changing.{Inserts, IsEmptyWith, Removes};
+ghost use Rattle.starlark_unordered.specs.Pairs.{pairs_of};
+ghost use Rattle.starlark_unordered.specs.Walk.{AsksPair, CanAskPairs, Retains, TakesPair};
 
 use super::UnorderedMap;
 use starlark_hash::{KeyQuery, NoRoom, StarlarkHashValue};
@@ -38,18 +38,7 @@ impl<K: Eq + Hash, V> UnorderedMap<K, V> {
     pub fn insert(&mut self, key: K, value: V) -> Result<Option<V>, NoRoom<(K, V)>>
     where
         K: Drop,
-        ensures was { IfOk result (λ old. old ≡ get K.eq self.old key) }
-        ensures updates { OnOk result (Updates K.eq self.old self.new key (Some value)) }
-        ensures length { OnOk result (length (pairs_of self.new) ≡ length (pairs_of self.old) + (if contains K.eq self.old key then 0 else 1)) }
-        ensures lacks { OnErr result (get K.eq self.old key ≡ None) }
-        ensures old { IfOk result (λ old. old ≡ lookup (K.eq key) (pairs_of self.old)) }
-        ensures pairs { OnOk result (IsPermutation (with_pair K.eq key value (pairs_of self.old)) (pairs_of self.new)) }
-        ensures room { GrowsAsNeeded self.old self.new }
-
-        ensures absent { OnErr result (lookup (K.eq key) (pairs_of self.old) ≡ None) }
-        ensures full { OnErr result (self.old.room ≡ 0) }
-        ensures handed_back { IfErr result (λ refused. refused.0 ≡ (key, value)) }
-        ensures unchanged { OnErr result (self.new ≡ self.old) }
+        ensures inserts { Inserts K.eq self.old self.new key value (key, value) (λ was. was) result }
     {
         let hash = StarlarkHashValue::new(&key).promote();
         match self.slot_under(hash, &key) {
@@ -67,13 +56,7 @@ impl<K: Eq + Hash, V> UnorderedMap<K, V> {
     pub fn remove<Q: KeyQuery<K>>(&mut self, query: &Q) -> Option<V>
     where
         K: Drop,
-        ensures was { result ≡ get Q.equivalent self.old query.now }
-        ensures updates { Writes K.eq (Q.equivalent query.now) self.old self.new None }
-        ensures length { length (pairs_of self.old) ≡ length (pairs_of self.new) + (if contains Q.equivalent self.old query.now then 1 else 0) }
-        ensures value { result ≡ lookup (Q.equivalent query.now) (pairs_of self.old) }
-        ensures rest { IfSome result (λ value. IsWithout (Q.equivalent query.now) value (pairs_of self.old) (pairs_of self.new)) }
-        ensures none { IfNone result (self.new ≡ self.old) }
-        ensures room { table_len self.new + self.new.room ≡ table_len self.old + self.old.room }
+        ensures removes { Removes K.eq (Q.equivalent query.now) self.old self.new result }
     {
         match self.slot_under(StarlarkHashValue::new(query).promote(), query) {
             Some(slot) => {
@@ -90,9 +73,7 @@ impl<K: Eq + Hash, V> UnorderedMap<K, V> {
     where
         K: Drop,
         V: Drop,
-        ensures found { IsEmpty self.new }
-        ensures empty { pairs_of self.new ≡ [] }
-        ensures room { self.new.room ≡ table_len self.old + self.old.room }
+        ensures cleared { IsEmptyWith (table_len self.old + self.old.room) self.new }
     {
         self.table.clear();
     }
@@ -106,10 +87,7 @@ impl<K: Eq + Hash, V> UnorderedMap<K, V> {
         V: Drop,
         requires { CanAskPairs F.FnMut (pairs_of self.old) keep }
         ensures tested { (test : K × V → Bool) → ((p : K × V) (keeps : Bool) (left : F) (q : K × V) → AsksPair F.FnMut keep p keeps left q → (keeps ≡ test p) × (q ≡ p) × (left ≡ keep)) → IsPermutation (filter test (pairs_of self.old)) (pairs_of self.new) }
-        ensures fewer { length (pairs_of self.new) ≤ length (pairs_of self.old) }
-        ensures no_new { (key : K) → contains K.eq self.new key ≡ true → contains K.eq self.old key ≡ true }
-        ensures kept { (kept : List (K × V)) × RetainsInTurn (AsksPair F.FnMut) keep (pairs_of self.old) kept × IsPermutation kept (pairs_of self.new) }
-        ensures room { table_len self.new + self.new.room ≡ table_len self.old + self.old.room }
+        ensures retains { Retains F.FnMut K.eq keep self.old self.new }
     {
         self.table.retain(
             |pair: &mut (K, V)| -> bool

@@ -1,14 +1,15 @@
 //! Places of a set that a query, or a hash and a closure choose: those of its map.
-ghost use Rattle.std.specs.Prelude.{◌≡◌, ◌∷◌, ◌+◌, true, Some, None, IfErr, IfSome, OnOk, OnErr, IsPermutation};
+ghost use Rattle.std.specs.Prelude.{◌≡◌, true, Some, None, IfSome};
 ghost use Rattle.std.specs.Borrow.{sem};
 ghost use Rattle.std.specs.Map.{lookup};
 ghost use Rattle.std.specs.Option.{is_some};
 ghost use Rattle.starlark_hash.specs.HashValue.{hash_of, key_of};
 ghost use Rattle.starlark_hash.specs.Hasher.{own_hash};
-ghost use Rattle.starlark_lists.specs.Search.{CanSearch, Searches};
-ghost use Rattle.starlark_table.specs.Table.{item_in, table_len, GrowsAsNeeded};
-ghost use Rattle.starlark_unordered.specs.Pairs.{pairs_of, keys_under, under_own, IsSlotOf};
-ghost use Rattle.starlark_unordered.specs.RawEntry.{IsInPlace};
+ghost use Rattle.starlark_lists.specs.Search.{CanSearch};
+ghost use Rattle.starlark_table.specs.Table.{item_in};
+ghost use Rattle.starlark_unordered.specs.Changing.{Adds, TakesOut};
+ghost use Rattle.starlark_unordered.specs.Pairs.{pairs_of, keys_under, under_own};
+ghost use Rattle.starlark_unordered.specs.RawEntry.{NamesAccepted, NamesSlot};
 
 use super::UnorderedSet;
 use crate::unordered_map::UnorderedMap;
@@ -63,9 +64,7 @@ impl<'a, T: Eq + Hash> RawEntryBuilderMut<'a, T> {
     /// The element that the query stands for, or vacant where the set lacks it. The set is as it was.
     #[inline]
     pub fn from_entry<Q: KeyQuery<T>>(self, query: &Q) -> RawEntryMut<'a, T>
-        ensures same_set { (set_of_raw result).ghost_name ≡ self.entry.map.ghost_name }
-        ensures set { (set_of_raw result).now ≡ self.entry.map.now }
-        ensures slot { IsSlotOf (Q.equivalent query.now) self.entry.map.now (slot_of_raw result) }
+        ensures names { NamesSlot (Q.equivalent query.now) self.entry.map (set_of_raw result) (slot_of_raw result) }
     {
         let map = self.map;
         match map.slot_under(StarlarkHashValue::new(query).promote(), query) {
@@ -78,9 +77,7 @@ impl<'a, T: Eq + Hash> RawEntryBuilderMut<'a, T> {
     /// it was.
     #[inline]
     pub fn from_entry_hashed<Q: Equivalent<T>>(self, element: Hashed<&Q>) -> RawEntryMut<'a, T>
-        ensures same_set { (set_of_raw result).ghost_name ≡ self.entry.map.ghost_name }
-        ensures set { (set_of_raw result).now ≡ self.entry.map.now }
-        ensures slot { IsSlotOf (under_own T.hash_input (hash_of element.entry) (Q.equivalent (key_of element.entry).now)) self.entry.map.now (slot_of_raw result) }
+        ensures names { NamesSlot (under_own T.hash_input (hash_of element.entry) (Q.equivalent (key_of element.entry).now)) self.entry.map (set_of_raw result) (slot_of_raw result) }
     {
         let map = self.map;
         match map.slot_hashed(element.hash(), *element.key()) {
@@ -99,9 +96,7 @@ impl<'a, T: Eq + Hash> RawEntryBuilderMut<'a, T> {
         is_match: F,
     ) -> RawEntryMut<'a, T>
         requires { CanSearch F.FnMut (keys_under T.hash_input hash self.map.now) is_match }
-        ensures same_set { (set_of_raw result).ghost_name ≡ self.entry.map.ghost_name }
-        ensures set { (set_of_raw result).now ≡ self.entry.map.now }
-        ensures found { (last : F) × Searches F.FnMut (keys_under T.hash_input hash self.entry.map.now) is_match (slot_of_raw result) last }
+        ensures names { NamesAccepted F.FnMut T.hash_input hash is_match self.entry.map (set_of_raw result) (slot_of_raw result) }
     {
         let map = self.map;
         match map.slot_accepted(hash, is_match) {
@@ -112,14 +107,13 @@ impl<'a, T: Eq + Hash> RawEntryBuilderMut<'a, T> {
 }
 
 impl<T: Eq + Hash> RawOccupiedEntryMut<'_, T> {
-    ghost use Rattle.starlark_unordered.specs.RawSet.{stored_raw, with_raw_element};
+    ghost use Rattle.starlark_unordered.specs.RawSet.{stored_raw, Replaces};
 
     /// Takes the element out, and answers it. The others stay, and the room comes back.
     #[inline]
     pub fn remove(self) -> T
         ensures element { stored_raw self.entry ≡ Some result }
-        ensures rest { IsPermutation (pairs_of self.entry.map.now) ((result, tt) ∷ pairs_of self.exit.0.now) }
-        ensures room { table_len self.exit.0.now + self.exit.0.now.room ≡ table_len self.entry.map.now + self.entry.map.now.room }
+        ensures takes { TakesOut (Some (result, tt)) self.entry.map.now self.exit.0.now }
     {
         let slot = self.slot;
         let (element, _) = self.map.take_out(slot);
@@ -131,11 +125,7 @@ impl<T: Eq + Hash> RawOccupiedEntryMut<'_, T> {
     #[inline]
     pub fn insert(&mut self, element: T) -> T
         requires { IfSome (stored_raw self.old) (λ there. T.eq element there ≡ true) }
-        ensures old { stored_raw self.old ≡ Some result }
-        ensures new { self.new ≡ with_raw_element self.old element }
-        ensures shown { stored_raw self.new ≡ Some element }
-        ensures elements { IsInPlace (result, tt) (element, tt) (pairs_of self.old.map.now) (pairs_of self.new.map.now) }
-        ensures room { self.new.map.now.room ≡ self.old.map.now.room }
+        ensures replaces { Replaces element result self.old self.new }
     {
         let slot = self.slot;
         self.map.replace_key(slot, element)
@@ -147,12 +137,7 @@ impl<T: Eq + Hash> RawVacantEntryMut<'_, T> {
     /// there is no room and no memory is found: then it comes back, and the set is as it was.
     pub fn insert(self, element: T) -> Result<(), NoRoom<T>>
         requires { lookup (T.eq element) (pairs_of self.map.now) ≡ None }
-        ensures elements { OnOk result (IsPermutation ((element, tt) ∷ pairs_of self.entry.map.now) (pairs_of self.exit.0.now)) }
-        ensures room { GrowsAsNeeded self.entry.map.now self.exit.0.now }
-
-        ensures full { OnErr result (self.entry.map.now.room ≡ 0) }
-        ensures handed_back { IfErr result (λ refused. refused.0 ≡ element) }
-        ensures unchanged { OnErr result (self.exit.0.now ≡ self.entry.map.now) }
+        ensures adds { Adds T.eq self.entry.map.now self.exit.0.now element tt element result }
     {
         let hash = StarlarkHashValue::new(&element).promote();
         match self.map.insert_new(hash, element, ()) {
@@ -165,12 +150,7 @@ impl<T: Eq + Hash> RawVacantEntryMut<'_, T> {
     pub fn insert_hashed(self, element: Hashed<T>) -> Result<(), NoRoom<Hashed<T>>>
         requires own { hash_of element ≡ own_hash T.hash_input (key_of element) }
         requires absent { lookup (T.eq (key_of element)) (pairs_of self.map.now) ≡ None }
-        ensures elements { OnOk result (IsPermutation ((key_of element, tt) ∷ pairs_of self.entry.map.now) (pairs_of self.exit.0.now)) }
-        ensures room { GrowsAsNeeded self.entry.map.now self.exit.0.now }
-
-        ensures full { OnErr result (self.entry.map.now.room ≡ 0) }
-        ensures handed_back { IfErr result (λ refused. refused.0 ≡ element) }
-        ensures unchanged { OnErr result (self.exit.0.now ≡ self.entry.map.now) }
+        ensures adds { Adds T.eq self.entry.map.now self.exit.0.now (key_of element) tt element result }
     {
         let hash = element.hash();
         match self.map.insert_new(hash.promote(), element.into_key(), ()) {

@@ -5,10 +5,14 @@ use Rattle.starlark_unordered.specs.RawEntry.{stored_raw, IsInPlace}
 use Rattle.starlark_unordered.proofs.RawWritten.{key_in_place, raw_key_put}
 use Rattle.starlark_unordered.proofs.raw_entry.RawOccupiedEntryMut.insert_key.Goals as goal
 
-pub returns-clause-new : goal.returns-clause-new
-returns-clause-new g c = raw_key_put c.args.self.now c.args.key c.replace_key.new.self c.replace_key.ensures.new _
-
-pub returns-clause-pairs : goal.returns-clause-pairs
-returns-clause-pairs g c =
+pub returns : goal.returns
+returns g c =
     let o = c.args.self.now in
-    subst (λ n. IfSome (stored_raw o) (λ p. IsInPlace p (c.args.key, p.1) (pairs_of o.map.now) (pairs_of n))) (sym c.replace_key.ensures.new) (key_in_place o.map.now o.slot c.args.key)
+    let put = c.replace_key.ensures in
+    record {
+      replaces = record {
+        old = put.old;
+        new = raw_key_put o c.args.key c.replace_key.new.self put.new _;
+        pairs = subst (λ n. IfSome (stored_raw o) (λ p. IsInPlace p (c.args.key, p.1) (pairs_of o.map.now) (pairs_of n))) (sym put.new) (key_in_place o.map.now o.slot c.args.key);
+      };
+    }

@@ -1,5 +1,5 @@
 -- `insert_hashed` meets its contract, at any types, as `insert` does its own: one call takes the entry and puts the pair in, the next lends it. Assumes `Logic`.
-use Rattle.starlark_columns.proofs.Walking.{◌≡◌, refl, sym, subst, ℕ, List, [], ◌∷◌, Ura, Fn, Args, Dict, Ty, a_type, dcons, dnil, named, tcons, tnil, ty_int, ty_struct, w32, inst_fn, Val, SProp, ent, emp, id⊢, ex_e, snd∗, Lft, GName, Share, ftrue, flft, Memory, Routine, Calls, Loops, WpFn, Logic, sem, ◌⊑◌, ⊑_trans, Fun, fact, fact_i, tables, FmC, ‵, raw, ◌⊛◌, some, later, ◌$◌, ◌∵◌, !, qed, move, drop, use0, use1, use2, split, split3, join, pick, fjoin, suffices, frame, await, rewrite, group, done, of_opd, and_then, no_more, returns, enter, alloc_all, pass_all, free_all, look_at, get, sets, lands_as, no, rest, yes, RattleType, owns, follows_so, arg, param, bounded, layout, Laws, arg_laws, param_laws, Bor, MutBor, MutRef, ShrRef, plain, types_at, nothing, heard, peeks, Tuple, tuple_laws, calls_at, Clauses, Ended, Lasts, ensured, lasts, triple_of, Contract, Triple, framed, Stays, stay_dropped, walk_of, ends_at, Goes-blank, Good, proved_at, Result, Err, None, IfOk, IfErr, IsOk, OnOk, OnErr, MatchResult, true, is_some, lookup, name_if_ok, Is, shows, result_laws}
+use Rattle.starlark_columns.proofs.Walking.{◌≡◌, refl, sym, subst, ℕ, List, [], ◌∷◌, Ura, Fn, Args, Dict, Ty, a_type, dcons, dnil, named, tcons, tnil, ty_int, ty_struct, w32, inst_fn, Val, SProp, ent, emp, id⊢, ex_e, snd∗, Lft, GName, Share, ftrue, flft, Memory, Routine, Calls, Loops, WpFn, Logic, sem, ◌⊑◌, ⊑_trans, Fun, fact, fact_i, tables, FmC, ‵, raw, ◌⊛◌, some, later, ◌$◌, ◌∵◌, !, qed, move, drop, use0, use1, use2, split, split3, join, pick, fjoin, suffices, frame, await, rewrite, group, done, of_opd, and_then, no_more, returns, enter, alloc_all, pass_all, free_all, look_at, get, sets, lands_as, no, rest, yes, RattleType, owns, follows_so, arg, param, bounded, layout, Laws, arg_laws, param_laws, Bor, MutBor, MutRef, ShrRef, plain, types_at, nothing, heard, peeks, Tuple, tuple_laws, calls_at, Clauses, Ended, Lasts, ensured, lasts, triple_of, Contract, Triple, framed, Stays, stay_dropped, walk_of, ends_at, Goes-blank, Good, proved_at, Result, Err, None, IfOk, IsOk, OnOk, OnErr, MatchResult, true, is_some, lookup, name_if_ok, Is, shows, result_laws}
 use Rattle.core.specs.contracts.result.Result as RS
 use Rattle.std.specs.Prelude.{Some}
 use Rattle.std.specs.declared.cmp.Eq as Eq
@@ -7,7 +7,7 @@ use Rattle.std.specs.declared.cmp.PartialEq as PartialEq
 use Rattle.std.specs.declared.hash.Hash as Hash
 use Rattle.starlark_table.specs.Table.{Table, item_in}
 use Rattle.starlark_unordered.specs.Pairs.{pairs_of, with_value}
-use Rattle.starlark_unordered.specs.RawLending.{lends_placed, lends_added, IsAdded}
+use Rattle.starlark_unordered.specs.RawLending.{lends_placed, lends_added, IsAdded, LendsPair, PlacesPair}
 use Rattle.starlark_unordered.proofs.LentFacts.{there_is, added_lent, unchanged_lent, handed_lent, full_lent, shown_lent}
 use Rattle.starlark_hash.specs.contracts.no_room.NoRoom as N
 use Rattle.starlark_hash.specs.contracts.hashed.Hashed as H
@@ -143,13 +143,10 @@ module _ (K V : RattleType) (E : Eq.Ghosts K.Denot) (dE : Dict) (P : PartialEq.G
           use0 𝓛 (raw (fact 𝓤 Absent)) (fact_i 𝓤 _ (emp 𝓤) absent) $ use0 𝓛 (raw (fact 𝓤 Own)) (fact_i 𝓤 _ (emp 𝓤) own) $ use0 𝓛 (raw (fact 𝓤 (κV ⊑ V.lives))) (fact_i 𝓤 _ (emp 𝓤) lV) $ use0 𝓛 (raw (fact 𝓤 (κK ⊑ K.lives))) (fact_i 𝓤 _ (emp 𝓤) lK) $
           group ! 4 $ move ! (1 ∷ 0 ∷ []) $ join ! $ use1 𝓛 (raw (Places.pre z)) (id⊢ 𝓤 _) $
           calls_at ! fm Places places z (and_then ! (get ! refl) (and_then ! (get ! refl) (and_then ! (get ! refl) (no_more !)))) (λ u.
-          let Put = λ (h : Result ℕ (NoRoom (Key.Denot × V.Denot))) (n : Map). IfOk h (λ i. (w : V.Denot) → IsAdded m (key_of key) w (with_value n i w)) in
+          let Put = λ (g : MutBor Map × Result ℕ (NoRoom (Key.Denot × V.Denot))). PlacesPair s.map g.0 (key_of key) value (key, value) g.1 in
           use1 𝓛 (later (some (λ (g : MutBor Map × Result ℕ (NoRoom (Key.Denot × V.Denot))). ((‵ (flft κ q) ⊛ ‵ (flft κK qK) ⊛ ‵ (flft κV qV) ⊛ ‵ ftrue) ⊛ ‵ ((Placed κ R Back).own_val g (u ∷ [])))
-          ⊛ some (λ (ws : Lasts Placing z.0.0 z.0.3). ‵ (lasts Placing z.0.0 z.0.3 ws) ⊛ raw (fact 𝓤 (g.0.ghost_name ≡ γ)) ⊛ raw (fact 𝓤 (IfOk g.1 (λ i. item_in g.0.now i ≡ Some (key_of key, value)))) ⊛ raw (fact 𝓤 (OnOk g.1 (IsAdded m (key_of key) value g.0.now)))
-          ⊛ raw (fact 𝓤 (Put g.1 g.0.now)) ⊛ raw (fact 𝓤 (OnErr g.1 (m.room ≡ 0))) ⊛ raw (fact 𝓤 (IfErr g.1 (λ x. x.0 ≡ (key, value)))) ⊛ raw (fact 𝓤 (OnErr g.1 (g.0.now ≡ m))))))) (id⊢ 𝓤 _) $ await ! tt $
-          pick ! (λ g. split ! $ move ! (1 ∷ []) $ pick ! (λ ws. split3 ! $ drop ! $
-          heard ! (g.0.ghost_name ≡ γ) (λ same_map. split3 ! $ heard ! (IfOk g.1 (λ i. item_in g.0.now i ≡ Some (key_of key, value))) (λ placed. heard ! (OnOk g.1 (IsAdded m (key_of key) value g.0.now)) (λ added.
-          split3 ! $ heard ! (Put g.1 g.0.now) (λ put. heard ! (OnErr g.1 (m.room ≡ 0)) (λ none. split ! $ heard ! (IfErr g.1 (λ x. x.0 ≡ (key, value))) (λ back. heard ! (OnErr g.1 (g.0.now ≡ m)) (λ same.
+          ⊛ some (λ (ws : Lasts Placing z.0.0 z.0.3). ‵ (lasts Placing z.0.0 z.0.3 ws) ⊛ raw (fact 𝓤 (Put g)))))) (id⊢ 𝓤 _) $ await ! tt $
+          pick ! (λ g. split ! $ move ! (1 ∷ []) $ pick ! (λ ws. split ! $ drop ! $ heard ! (Put g) (λ put.
           split ! $ move ! (1 ∷ []) $
           -- [the map and the place; the tokens]
           peeks ! (Placed κ R Back) (Is (Placed κ R Back)) (shows 𝓛 (Placed κ R Back)) g (u ∷ []) (λ is_u.
@@ -163,7 +160,7 @@ module _ (K V : RattleType) (E : Eq.Ghosts K.Denot) (dE : Dict) (P : PartialEq.G
           nothing ! $ move ! (6 ∷ 0 ∷ []) $ fjoin ! $
           -- [owned; κV; nothing; the two halves of κ; κK]
           move ! (2 ∷ []) $ move ! (4 ∷ 0 ∷ []) $ join ! $ move ! (2 ∷ 0 ∷ []) $ join ! $ move ! (3 ∷ 0 ∷ []) $ join ! $ move ! (2 ∷ 0 ∷ []) $ join ! $ join ! $
-          use0 𝓛 (raw (fact 𝓤 There)) (fact_i 𝓤 _ (emp 𝓤) (there_is (key_of key) value g.0.now g.1 placed)) $ use0 𝓛 (raw (fact 𝓤 (κ ⊑ Back.lives))) (fact_i 𝓤 _ (emp 𝓤) in_back) $ use0 𝓛 (raw (fact 𝓤 (κV ⊑ V.lives))) (fact_i 𝓤 _ (emp 𝓤) lV) $ use0 𝓛 (raw (fact 𝓤 (κK ⊑ K.lives))) (fact_i 𝓤 _ (emp 𝓤) lK) $
+          use0 𝓛 (raw (fact 𝓤 There)) (fact_i 𝓤 _ (emp 𝓤) (there_is (key_of key) value g.0.now g.1 put.placed)) $ use0 𝓛 (raw (fact 𝓤 (κ ⊑ Back.lives))) (fact_i 𝓤 _ (emp 𝓤) in_back) $ use0 𝓛 (raw (fact 𝓤 (κV ⊑ V.lives))) (fact_i 𝓤 _ (emp 𝓤) lV) $ use0 𝓛 (raw (fact 𝓤 (κK ⊑ K.lives))) (fact_i 𝓤 _ (emp 𝓤) lK) $
           group ! 4 $ move ! (1 ∷ 0 ∷ []) $ join ! $ use1 𝓛 (raw (Lends.pre y)) (id⊢ 𝓤 _) $
           calls_at ! fm Lends lends y (and_then ! (get ! refl) (no_more !)) (λ t.
           use1 𝓛 (later (some (λ (x : Out). ((‵ (flft κ ql) ⊛ ‵ (flft κK qK) ⊛ ‵ (flft κV qV) ⊛ ‵ (flft κ qr) ⊛ ‵ ftrue) ⊛ ‵ ((RS.the_row (Pair κ) Back).own_val x (t ∷ [])))
@@ -179,18 +176,20 @@ module _ (K V : RattleType) (E : Eq.Ghosts K.Denot) (dE : Dict) (P : PartialEq.G
           -- [the tokens of κV, half of κ; nothing; the other half; κK; the result; what the map follows]
           move ! (3 ∷ 1 ∷ []) $ use2 𝓛 (‵ (flft κ q)) (𝓛.lfts.lft_join κ q) $
           -- [κ; κV; nothing; κK; the result; what the map follows]
-          rewrite ! 5 (λ (δ : GName). ‵ (follows_so R V' δ (name_if_ok (λ z. z.1.ghost_name) x) (λ w n. IfOk g.1 (λ i. n ≡ with_value g.0.now i w)) (λ n. OnErr x (n ≡ g.0.now)))) same_map refl $
+          rewrite ! 5 (λ (δ : GName). ‵ (follows_so R V' δ (name_if_ok (λ z. z.1.ghost_name) x) (λ w n. IfOk g.1 (λ i. n ≡ with_value g.0.now i w)) (λ n. OnErr x (n ≡ g.0.now)))) put.same_map refl $
           move ! (5 ∷ []) $ use1 𝓛 (‵ (lends_added K' V' (F.K-Hash-whole K V E dE P dP G dG) s.map (key_of key) x))
           (so_weakens 𝓛 R V' γ (name_if_ok (λ z. z.1.ghost_name) x) (λ w n. IfOk g.1 (λ i. n ≡ with_value g.0.now i w)) (λ w n. OnOk x (IsAdded m (key_of key) w n)) (λ n. OnErr x (n ≡ g.0.now)) (λ n. OnErr x (n ≡ m))
-          (λ w n. added_lent m (key_of key) g.0.now g.1 x refused put w n) (λ n. unchanged_lent m g.0.now g.1 x refused same n)) $
+          (λ w n. added_lent m (key_of key) g.0.now g.1 x refused put.written w n) (λ n. unchanged_lent m g.0.now g.1 x refused put.unchanged n)) $
           suffices ! _ (ends_at 𝓛 ended stayed spec bound t x (rest ((Entry κ).exit no) s, (rest (Key.exit no) key, (rest (V'.exit no) value, tt))) (tt, (tt, (tt, tt)))) $
           move ! (5 ∷ []) $ nothing ! $ nothing ! $ fjoin ! $ nothing ! $ fjoin ! $ nothing ! $ fjoin ! $ join ! $
           -- [the result; what the map follows; κ; κV; nothing; κK]
           move ! (4 ∷ []) $ move ! (4 ∷ 0 ∷ []) $ join ! $ move ! (4 ∷ 0 ∷ []) $ join ! $ move ! (3 ∷ 0 ∷ []) $ join ! $ join ! $ frame ! $
-          use0 𝓛 (raw (fact 𝓤 (IfErr x (λ z. z.0 ≡ (key, value))))) (fact_i 𝓤 _ (emp 𝓤) (handed_lent g.1 x refused (λ z. z.0 ≡ (key, value)) back)) $
-          use0 𝓛 (raw (fact 𝓤 (OnErr x (m.room ≡ 0)))) (fact_i 𝓤 _ (emp 𝓤) (full_lent g.1 x refused (m.room ≡ 0) none)) $
-          use0 𝓛 (raw (fact 𝓤 (IfOk x (λ z. (z.0.now ≡ key_of key) × (z.1.now ≡ value))))) (fact_i 𝓤 _ (emp 𝓤) (shown_lent g.0.now (key_of key) value g.1 x refused placed shown)) $
-          move ! (3 ∷ 0 ∷ 1 ∷ 2 ∷ []) $ done !)))))))))))))))))))))
+          use0 𝓛 (raw (fact 𝓤 (LendsPair m (key_of key) value (key, value) x))) (fact_i 𝓤 _ (emp 𝓤) (record {
+            pair = shown_lent g.0.now (key_of key) value g.1 x refused put.placed shown;
+            full = full_lent g.1 x refused (m.room ≡ 0) put.full;
+            handed_back = handed_lent g.1 x refused (λ z. z.0 ≡ (key, value)) put.handed_back;
+          })) $
+          move ! (1 ∷ 0 ∷ []) $ done !)))))))))))))))
 
 pub insert_hashed_spec : {M : Type 1} → statement M
 insert_hashed_spec 𝓤 𝓛 𝓜 𝓡 wired K V LK LV E dE P dP G dG is_eq is_partial is_hash =

@@ -1,7 +1,8 @@
-use Rattle.starlark_unordered.proofs.AddedWritten.{added_any}
+use Rattle.std.proofs.Common.{refl}
+use Rattle.starlark_unordered.proofs.AddedWritten.{places_pair}
 use Rattle.starlark_unordered.proofs.raw_entry.RawVacantEntryMut.place.Goals as goal
 
-pub returns-clause-written : goal.returns-clause-written
-returns-clause-written g c =
+pub returns : goal.returns
+returns g c =
     let put = c.insert_new-placed.ensures in
-    added_any g.K.PartialEq.eq g.met.K.Eq.laws c.args.self.map.now c.args.key c.args.value c.requires c.insert_new-placed.new.self c.insert_new-placed.result put.placed put.pairs put.room
+    places_pair g.K.PartialEq.eq g.met.K.Eq.laws c.args.self.map _ c.args.key c.args.value (c.args.key, c.args.value) c.insert_new-placed.result c.requires refl put.placed put.adds

@@ -1,21 +1,36 @@
-use Rattle.std.proofs.Common.{◌≡◌, None, ℕ, sym, subst}
-use Rattle.std.specs.Prelude.{IfOk}
+use Rattle.std.proofs.Common.{◌≡◌, ◌∙◌, None, ℕ, MutBor, ap, refl, sym, subst}
+use Rattle.std.specs.Prelude.{MatchResult, Result, Ok, Err}
 use Rattle.std.specs.Map.{lookup}
-use Rattle.starlark_unordered.specs.Pairs.{pairs_of, with_value}
-use Rattle.starlark_unordered.specs.RawLending.{IsAdded}
-use Rattle.starlark_unordered.proofs.AddedWritten.{added_any}
+use Rattle.starlark_hash.specs.HashValue.{hash_of, hashed, key_of}
+use Rattle.starlark_hash.specs.declared.hash_value.StarlarkHashValue.{StarlarkHashValue}
+use Rattle.starlark_hash.specs.declared.hashed.Hashed.{Hashed}
+use Rattle.starlark_hash.specs.declared.no_room.NoRoom.{NoRoom}
+use Rattle.starlark_table.specs.Table.{Table}
+use Rattle.starlark_unordered.specs.Pairs.{pairs_of}
+use Rattle.starlark_unordered.specs.RawLending.{PlacesPair}
+use Rattle.starlark_unordered.proofs.AddedWritten.{places_again, places_pair}
 use Rattle.starlark_unordered.proofs.raw_entry.RawVacantEntryMut.place_hashed.Goals as goal
 use Rattle.starlark_unordered.proofs.raw_entry.RawVacantEntryMut.place_hashed.Goals.{in-Ok, in-Err}
 
-pub returns-clause-written : goal.returns-clause-written
-returns-clause-written g c =
+-- a hash and a key are put together again
+whole : {K : Type 0} (hash : StarlarkHashValue) (from : Hashed K) (key : K) → hash ≡ hash_of from → key ≡ key_of from → (made : Hashed K) → made ≡ hashed hash key → made ≡ from
+whole hash from key same_hash same_key made is = is ∙ (λ i. hashed (same_hash i) (same_key i))
+
+pub returns : goal.returns
+returns g c =
+    let eq = g.K.PartialEq.eq in
+    let lent = c.args.self.map in
+    let held : MutBor (Table (g.row.K.Denot × g.row.V.Denot)) = record lent { now = c.insert_new.new.self } in
     let put = c.insert_new.ensures in
-    let m = c.args.self.map.now in
-    let P : g.row.K.Denot → ℕ → Type 0 = λ key slot. (w : g.row.V.Denot) → IsAdded m key w (with_value c.insert_new.new.self slot w) in
-    let absent = subst (λ key. lookup (g.K.PartialEq.eq key) (pairs_of m) ≡ None) (sym c.into_key.ensures) c.requires.absent in
-    let all = subst (λ key. IfOk c.insert_new.result (P key)) c.into_key.ensures
-    (added_any g.K.PartialEq.eq g.met.K.Eq.laws m c.into_key.result c.args.value absent c.insert_new.new.self c.insert_new.result put.placed put.pairs put.room) in
-    elim c.match-insert_new.branch [
-      | in-Ok w ↦ subst (λ r. IfOk r (P c.args.key.key)) (sym w.placed-is) (subst (λ r. IfOk r (P c.args.key.key)) w.in-Ok.is all)
-      | in-Err w ↦ subst (λ r. IfOk r (P c.args.key.key)) (sym w.placed-is) tt
-    ]
+    let key = c.into_key.result in
+    let value = c.args.value in
+    let absent = subst (λ key. lookup (eq key) (pairs_of lent.now) ≡ None) (sym c.into_key.ensures) c.requires.absent in
+    let Again : Result ℕ (NoRoom (g.row.K.Denot × g.row.V.Denot)) → Type 0
+    = λ r. MatchResult r (λ slot. c.match-insert_new.placed ≡ Ok slot) (λ e. (f : NoRoom (Hashed g.row.K.Denot × g.row.V.Denot)) × (c.match-insert_new.placed ≡ Err f) × (e.0 ≡ (key, value) → f.0 ≡ (c.args.key, value))) in
+    places_again lent held c.args.key.key value (key, value) (c.args.key, value) c.insert_new.result c.match-insert_new.placed
+    (elim c.match-insert_new.branch [
+      | in-Ok w ↦ subst Again (sym w.in-Ok.is) w.placed-is
+      | in-Err w ↦ subst Again (sym w.in-Err.is) (_, w.placed-is, λ back i. (whole c.hash-hash.result c.args.key w.in-Err.field-0.0.0 c.hash-hash.ensures (ap (λ p. p.0) back ∙ c.into_key.ensures) w.new_unchecked.result w.new_unchecked.ensures i, ap (λ p. p.1) back i))
+    ])
+    (subst (λ k. PlacesPair lent held k value (key, value) c.insert_new.result) c.into_key.ensures
+    (places_pair eq g.met.K.Eq.laws lent held key value (key, value) c.insert_new.result absent refl put.placed put.adds))

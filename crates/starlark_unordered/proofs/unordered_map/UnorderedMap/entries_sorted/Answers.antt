@@ -5,15 +5,16 @@ use Rattle.std.proofs.lemmas.List.Sorted.{IsPermutation-map, ranks_by}
 use Rattle.starlark_unordered.proofs.Shows.{drained_shown}
 use Rattle.starlark_unordered.proofs.unordered_map.UnorderedMap.entries_sorted.Goals as goal
 
-pub returns-clause-pairs : goal.returns-clause-pairs
-returns-clause-pairs g c =
+pub returns : goal.returns
+returns g c =
     let (items, shown, begins, runs, made) = c.in_ok-entries.ensures.ran in
     let same = drained_shown deref_pair shown items ((runs.2 tt).0, (runs.0, runs.1, (runs.2 tt).1)) in
-    subst (λ l. IsPermutation l (map deref_pair c.sort_by.new.self.items)) (ap (map deref_pair) made.0 ∙ same ∙ begins ∙ c.entries_unordered.ensures.pairs)
-    (IsPermutation-map deref_pair c.in_ok-entries.entries.items c.sort_by.new.self.items c.sort_by.ensures.permutation)
-
-pub returns-clause-ascends : goal.returns-clause-ascends
-returns-clause-ascends g c =
     let lt : Bor g.row.K.Denot × Bor g.row.V.Denot → Bor g.row.K.Denot × Bor g.row.V.Denot → Bool = λ a b. is_lt (g.K.Ord.cmp a.0.now b.0.now) in
-    c.in_ok-sort_by.ensures.sorted lt (ranks_by g.met.K.Ord.total (λ a. a.0.now))
-    (answers_by _ (λ a r. is_lt r ≡ lt a.0.now a.1.0.now) (λ _. Unit {0}) (λ f a r f' called _. (search (rules, of_calls, called), tt)) _ tt)
+    record {
+      sorted = record {
+        each = subst (λ l. IsPermutation l (map deref_pair c.sort_by.new.self.items)) (ap (map deref_pair) made.0 ∙ same ∙ begins ∙ c.entries_unordered.ensures.walks.pairs)
+            (IsPermutation-map deref_pair c.in_ok-entries.entries.items c.sort_by.new.self.items c.sort_by.ensures.permutation);
+        ascends = c.in_ok-sort_by.ensures.sorted lt (ranks_by g.met.K.Ord.total (λ a. a.0.now))
+            (answers_by _ (λ a r. is_lt r ≡ lt a.0.now a.1.0.now) (λ _. Unit {0}) (λ f a r f' called _. (search (rules, of_calls, called), tt)) _ tt);
+      };
+    }

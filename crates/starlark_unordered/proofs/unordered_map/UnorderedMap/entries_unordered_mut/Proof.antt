@@ -15,6 +15,7 @@ use Rattle.starlark_columns.proofs.NamedClose.{closes_named}
 use Rattle.starlark_columns.proofs.LoneValue.{lone_value}
 use Rattle.starlark_table.proofs.WalkRenamed.{renamed}
 use Rattle.starlark_unordered.specs.Pairs.{pairs_of, HasDistinctKeys}
+use Rattle.starlark_unordered.specs.Walk.{WalksPairs}
 use Rattle.starlark_unordered.specs.contracts.unordered_map.UnorderedMap.entries_unordered_mut as F
 use Rattle.starlark_unordered.specs.contracts.unordered_map.UnorderedMap.entries_unordered_mut.Key.{name as #self}
 use Rattle.starlark_unordered.proofs.Keys.{distinct_pairs}
@@ -141,9 +142,12 @@ module _ (A B : RattleType) (E : Eq.Ghosts A.Denot) (dE : Dict) (P : PartialEq.G
           returns ! (look_at ! 0 refl) $ free_all ! refl $ keep ! (0 ∷ 3 ∷ 4 ∷ 1 ∷ 5 ∷ []) $
           suffices ! _ (ends_at 𝓛 ended stayed spec bound lone.0 new (tt, tt) (tt, tt)) $
           nothing ! $ nothing ! $ fjoin ! $ join ! $ nothing ! $ move ! (4 ∷ 0 ∷ []) $ join ! $ move ! (3 ∷ 0 ∷ []) $ join ! $ move ! (2 ∷ 0 ∷ []) $ join ! $ join ! $ frame ! $
-          use0 𝓛 (raw (fact 𝓤 (length (pairs_of v) < 2 ^ 64))) (fact_i 𝓤 _ (emp 𝓤) (subst (λ m. length (pairs_of m) < 2 ^ 64) d'.1.0 fits)) $
-          use0 𝓛 (raw (fact 𝓤 (HasDistinctKeys P.eq (pairs_of v)))) (fact_i 𝓤 _ (emp 𝓤) (subst (λ m. HasDistinctKeys P.eq (pairs_of m)) d'.1.0 (distinct_pairs P.eq G.hash_input (members xs) d'.1.1))) $
-          use0 𝓛 (raw (fact 𝓤 (new.0 ≡ pairs_of v))) (fact_i 𝓤 _ (emp 𝓤) (pairs ∙ ap pairs_of d'.1.0)) $ move ! (3 ∷ 0 ∷ 1 ∷ 2 ∷ []) $ done !))))))))))))
+          use0 𝓛 (raw (fact 𝓤 (WalksPairs P.eq v new.0))) (fact_i 𝓤 _ (emp 𝓤) (record {
+            pairs = pairs ∙ ap pairs_of d'.1.0;
+            distinct = subst (λ m. HasDistinctKeys P.eq (pairs_of m)) d'.1.0 (distinct_pairs P.eq G.hash_input (members xs) d'.1.1);
+            fits = subst (λ m. length (pairs_of m) < 2 ^ 64) d'.1.0 fits;
+          })) $
+          move ! (1 ∷ 0 ∷ []) $ done !))))))))))))
 
 meets : (A B : RattleType) (E : Eq.Ghosts A.Denot) (dE : Dict) (P : PartialEq.Ghosts A.Denot) (dP : Dict) (G : Hash.Ghosts A.Denot) (dG : Dict) → Laws A → Laws B → {M : Type 1} {𝓤 : Ura M} (𝓛 : Logic 𝓤) (at_mem : Memory → SProp 𝓤) (run : Routine → Fun 𝓤) (𝓣 : Tables 𝓤 𝓛.H)
     → Triple 𝓤 (𝓣.C (#run (lends A B E dE P dP G dG))) (Run A B E dE P dP G dG 𝓛 at_mem run)

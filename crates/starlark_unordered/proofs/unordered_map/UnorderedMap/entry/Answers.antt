@@ -2,11 +2,18 @@ use Rattle.std.proofs.Common.{refl}
 use Rattle.starlark_unordered.proofs.Callers.{value-slot, writes-slot}
 use Rattle.starlark_unordered.proofs.unordered_map.UnorderedMap.entry.Goals as goal
 
-pub returns-in-Some-clause-place : goal.returns-in-Some-clause-place
-returns-in-Some-clause-place g c =
+pub returns-in-Some : goal.returns-in-Some
+returns-in-Some g c =
     let eq = g.K.PartialEq.eq in
-    let m = c.args.self.now in (
-      refl,
-      value-slot eq g.met.K.Eq.laws (eq c.args.key) (λ x y. g.met.K.Eq.laws.congr c.args.key x y) m m c.in-Some.slot refl c.in-Some.ensures,
-      writes-slot eq g.met.K.Eq.laws (eq c.args.key) (λ x y. g.met.K.Eq.laws.congr c.args.key x y) m m c.in-Some.slot refl c.in-Some.ensures,
-    )
+    let m = c.args.self.now in
+    record {
+      names = record {
+        same_map = refl;
+        place = (
+          refl,
+          value-slot eq g.met.K.Eq.laws (eq c.args.key) (λ x y. g.met.K.Eq.laws.congr c.args.key x y) m m c.in-Some.slot refl c.in-Some.ensures,
+          writes-slot eq g.met.K.Eq.laws (eq c.args.key) (λ x y. g.met.K.Eq.laws.congr c.args.key x y) m m c.in-Some.slot refl c.in-Some.ensures,
+        );
+        entry = (refl, c.in-Some.ensures);
+      };
+    }

@@ -9,7 +9,7 @@ use Rattle.starlark_unordered.proofs.unordered_map.UnorderedMap.from_iter.Goals 
 pub returns-clause-map : goal.returns-clause-map
 returns-clause-map g c =
     let put = c.in_ok-insert_items.ensures.pairs in
-    let none : pairs_of c.in_ok-map.map ≡ [] = c.in_ok-map.ensures.empty in (
+    let none : pairs_of c.in_ok-map.map ≡ [] = c.in_ok-map.ensures.made.empty in (
       c.into_iter-items.result,
       c.size_hint.result.0,
       put.0,
@@ -17,13 +17,13 @@ returns-clause-map g c =
       c.size_hint.ensures.lower,
       put.1,
       subst (λ l. InsertsAll g.K.PartialEq.eq l put.0 (pairs_of c.insert_items.new.self)) none put.2,
-      omega (arith, c.insert_items.ensures.room.least, c.in_ok-map.ensures.room),
+      omega (arith, c.insert_items.ensures.room.least, c.in_ok-map.ensures.made.room),
     )
 
 pub returns-clause-found : goal.returns-clause-found
 returns-clause-found g c =
     let put = c.in_ok-insert_items.ensures.pairs in
-    let none : pairs_of c.in_ok-map.map ≡ [] = c.in_ok-map.ensures.empty in
+    let none : pairs_of c.in_ok-map.map ≡ [] = c.in_ok-map.ensures.made.empty in
     let eq = g.K.PartialEq.eq in
     let made = subst (λ l. InsertsAll eq l put.0 (pairs_of c.insert_items.new.self)) none put.2 in (
       c.into_iter-items.result,

@@ -14,21 +14,21 @@ pub loop-pair-preserved : goal.loop-pair-preserved
 loop-pair-preserved g c =
     let inv = c.loop-pair.invariant in
     it.again inv c.in-Some.pair c.in-Some.is (c.next.ensures.steps, c.next.ensures.goes) (
-      inserts_more g.K.PartialEq.eq inv.seen c.in-Some.pair (pairs_of c.args.self.now) (pairs_of c.loop-pair.self) (pairs_of c.insert.new.self) inv.holds.0 c.in-Ok.ensures.pairs,
-      grows-with c.args.self.now c.loop-pair.self c.insert.new.self _ c.in-Ok.ensures.length inv.holds.1 c.insert.ensures.room,
+      inserts_more g.K.PartialEq.eq inv.seen c.in-Some.pair (pairs_of c.args.self.now) (pairs_of c.loop-pair.self) (pairs_of c.insert.new.self) inv.holds.0 c.in-Ok.ensures.inserts.pairs,
+      grows-with c.args.self.now c.loop-pair.self c.insert.new.self _ c.in-Ok.ensures.inserts.count inv.holds.1 c.insert.ensures.inserts.room,
     )
 
 pub loop-pair-preserved-in-Ok : goal.loop-pair-preserved-in-Ok
 loop-pair-preserved-in-Ok g c =
     let inv = c.loop-pair.invariant in
     it.again inv c.in-Some.pair c.in-Some.is (c.next.ensures.steps, c.next.ensures.goes) (
-      inserts_more g.K.PartialEq.eq inv.seen c.in-Some.pair (pairs_of c.args.self.now) (pairs_of c.loop-pair.self) (pairs_of c.insert.new.self) inv.holds.0 c.in-Ok.ensures.pairs,
-      grows-with c.args.self.now c.loop-pair.self c.insert.new.self _ c.in-Ok.ensures.length inv.holds.1 c.insert.ensures.room,
+      inserts_more g.K.PartialEq.eq inv.seen c.in-Some.pair (pairs_of c.args.self.now) (pairs_of c.loop-pair.self) (pairs_of c.insert.new.self) inv.holds.0 c.in-Ok.ensures.inserts.pairs,
+      grows-with c.args.self.now c.loop-pair.self c.insert.new.self _ c.in-Ok.ensures.inserts.count inv.holds.1 c.insert.ensures.inserts.room,
     )
 
 pub returns-in-Err-clause-room : goal.returns-in-Err-clause-room
 returns-in-Err-clause-room g c =
-    grows-on c.args.self.now c.loop-pair.self c.insert.new.self (omega (arith, ap table_len c.in-Err.ensures.unchanged)) c.loop-pair.invariant.holds.1 c.insert.ensures.room
+    grows-on c.args.self.now c.loop-pair.self c.insert.new.self (omega (arith, ap table_len c.in-Err.ensures.inserts.unchanged)) c.loop-pair.invariant.holds.1 c.insert.ensures.inserts.room
 
 pub returns-in-Err-clause-succeeds : goal.returns-in-Err-clause-succeeds
 returns-in-Err-clause-succeeds g c = λ none.

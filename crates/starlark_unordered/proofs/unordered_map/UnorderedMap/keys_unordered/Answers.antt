@@ -3,4 +3,4 @@ use Rattle.starlark_unordered.proofs.Shows.{shows_in_order}
 use Rattle.starlark_unordered.proofs.unordered_map.UnorderedMap.keys_unordered.Goals as goal
 
 pub returns-clause-runs : goal.returns-clause-runs
-returns-clause-runs g c = shows_in_order deref
+returns-clause-runs g c = (c.entries_unordered.ensures.walks.fits, shows_in_order deref)

@@ -1,14 +1,39 @@
-use Rattle.starlark_unordered.proofs.Callers.{length-lacks, length-taken, writes-taken}
+use Rattle.std.proofs.Common.{◌≡◌, arith, refl, rules, sym, None, Some}
+use Rattle.std.proofs.lemmas.Grind.{common_steps}
+use Rattle.std.specs.Map.{lookup}
+use Rattle.starlark_unordered.specs.Pairs.{pairs_of}
+use Rattle.starlark_unordered.proofs.Callers.{found_is, length-lacks, length-taken, writes-taken}
 use Rattle.starlark_unordered.proofs.unordered_map.UnorderedMap.remove.Goals as goal
 
-pub returns-in-Some-clause-updates : goal.returns-in-Some-clause-updates
-returns-in-Some-clause-updates g c =
-    writes-taken g.K.PartialEq.eq g.met.K.Eq.laws (g.Q.Equivalent.equivalent c.args.query.now) (λ x y does. g.met.Q.Equivalent.respects_eq c.args.query.now x y does)
-    c.args.self.now c.take_out-key.new.self c.in-Some.slot c.take_out-key.result c.in-Some.ensures c.take_out-key.ensures.pair c.take_out-key.ensures.rest c.take_out-key.ensures.distinct
+pub returns-in-Some : goal.returns-in-Some
+returns-in-Some g c =
+    let t = g.Q.Equivalent.equivalent c.args.query.now in
+    let takes = c.take_out-key.ensures.takes in
+    let value : Some c.take_out-key.result.1 ≡ lookup t (pairs_of c.args.self.now) = first_of (search rules, grind (arith, common_steps)) in
+    record {
+      removes = record {
+        was = found_is t (pairs_of c.args.self.now) (Some c.take_out-key.result.1) value;
+        value = value;
+        updates = writes-taken g.K.PartialEq.eq g.met.K.Eq.laws t (λ x y does. g.met.Q.Equivalent.respects_eq c.args.query.now x y does)
+            c.args.self.now c.take_out-key.new.self c.in-Some.slot c.take_out-key.result c.in-Some.ensures c.take_out-key.ensures.pair takes.rest c.take_out-key.ensures.distinct;
+        count = length-taken t c.args.self.now c.take_out-key.new.self c.in-Some.slot c.take_out-key.result c.in-Some.ensures takes.rest;
+        rest = first_of (search rules, grind (arith, common_steps));
+        none = tt;
+        room = takes.room;
+      };
+    }
 
-pub returns-in-Some-clause-length : goal.returns-in-Some-clause-length
-returns-in-Some-clause-length g c =
-    length-taken (g.Q.Equivalent.equivalent c.args.query.now) c.args.self.now c.take_out-key.new.self c.in-Some.slot c.take_out-key.result c.in-Some.ensures c.take_out-key.ensures.rest
-
-pub returns-in-None-clause-length : goal.returns-in-None-clause-length
-returns-in-None-clause-length g c = length-lacks (g.Q.Equivalent.equivalent c.args.query.now) c.args.self.now c.in-None.ensures
+pub returns-in-None : goal.returns-in-None
+returns-in-None g c =
+    let t = g.Q.Equivalent.equivalent c.args.query.now in
+    record {
+      removes = record {
+        was = found_is t (pairs_of c.args.self.now) None (sym c.in-None.ensures);
+        value = sym c.in-None.ensures;
+        updates = (sym (found_is t (pairs_of c.args.self.now) None (sym c.in-None.ensures)), λ other not. refl);
+        count = length-lacks t c.args.self.now c.in-None.ensures;
+        rest = tt;
+        none = refl;
+        room = refl;
+      };
+    }
