@@ -36,6 +36,10 @@ pub use Rattle.starlark_small.specs.EqualityLaws
 pub use Rattle.starlark_small.specs.Clone as MapClone
 pub use Rattle.starlark_small.specs.Collect as MapCollect
 pub use Rattle.starlark_small.specs.MapEntry
+pub use Rattle.starlark_small.specs.Changing as MapChanging
+pub use Rattle.starlark_small.specs.Inserting as MapInserting
+pub use Rattle.starlark_small.specs.Making as MapMaking
+pub use Rattle.starlark_small.specs.Walks as MapWalks
 pub use Rattle.starlark_sets.specs.Set
 pub use Rattle.starlark_sets.specs.Unit as SetUnit
 pub use Rattle.starlark_sets.specs.Difference
@@ -44,6 +48,8 @@ pub use Rattle.starlark_sets.specs.Lending as SetLending
 pub use Rattle.starlark_sets.specs.Collect as SetCollect
 pub use Rattle.starlark_sets.specs.Retain as SetRetain
 pub use Rattle.starlark_sets.specs.Others as SetCalling
+pub use Rattle.starlark_sets.specs.Adding as SetAdding
+pub use Rattle.starlark_sets.specs.Taking as SetTaking
 pub use Rattle.starlark_sets.specs.Ordered
 pub use Rattle.starlark_sets.specs.OrderedLaws
 pub use Rattle.starlark_sets.specs.OrderedEnd
@@ -51,6 +57,7 @@ pub use Rattle.starlark_sets.specs.OrderedLending
 pub use Rattle.starlark_sets.specs.OrderedTries
 pub use Rattle.starlark_sorted.specs.Sorted
 pub use Rattle.starlark_sorted.specs.Collect as SortedCollect
+pub use Rattle.starlark_sorted.specs.Making as SortedMaking
 pub use Rattle.starlark_sorted.specs.Lending as SortedLending
 pub use Rattle.starlark_sorted.specs.Union as SortedUnion
 pub use Rattle.starlark_json.specs.Fault as JsonFaults
@@ -58,6 +65,7 @@ pub use Rattle.starlark_json.specs.Texts as JsonTexts
 pub use Rattle.starlark_json.specs.Objects as JsonObjects
 pub use Rattle.starlark_json.specs.Arrays as JsonArrays
 pub use Rattle.starlark_unordered.specs.Calling as UnorderedCalling
+pub use Rattle.starlark_unordered.specs.Changing as UnorderedChanging
 pub use Rattle.starlark_unordered.specs.Pairs
 pub use Rattle.starlark_unordered.specs.Bag
 pub use Rattle.starlark_unordered.specs.BagLaws

@@ -1,5 +1,6 @@
 pub mod OrderedTold
 pub mod Additions
+pub mod Added
 pub mod Shown
 pub mod Differences
 pub mod Unions

@@ -11,14 +11,14 @@ use Rattle.starlark_hash.specs.declared.hashed.Hashed.{Hashed}
 use Rattle.starlark_hash.specs.declared.hash_value.StarlarkHashValue.{StarlarkHashValue}
 use Rattle.starlark_hash.specs.Hasher.{own_hash}
 use Rattle.starlark_hash.specs.HashValue.{hashed}
-use Rattle.starlark_lists.specs.Entries.{Entry, IsSingle, entry_at, entry_key, position_of, without}
+use Rattle.starlark_lists.specs.Entries.{Entry, IsSingle, entry_at, entry_key, position_of}
 use Rattle.starlark_lists.specs.Insertion.{insert_entry}
 use Rattle.starlark_lists.specs.Sorting.{key_lt, sorted_by_key}
 use Rattle.starlark_lists.proofs.EntryLemmas.{IsSingle-permutation}
 use Rattle.starlark_lists.proofs.SortingLemmas.{IsPermutation-sorted_by}
 use Rattle.starlark_small.specs.EqualityLaws.{alike-laws, value_at-lookup}
 use Rattle.starlark_small.specs.Map.{Map}
-use Rattle.starlark_small.proofs.CallerEntries.{length-insert_entry, length-without}
+use Rattle.starlark_small.proofs.CallerEntries.{length-insert_entry}
 use Rattle.starlark_small.proofs.CallerOrder.{lookup_permuted}
 use Rattle.starlark_small.proofs.CallerPlaces.{writes-taken}
 use Rattle.starlark_small.proofs.SameEntries.{distinct}
@@ -51,14 +51,6 @@ module _ {K V : Type 0} (test : K → Bool) (hash : StarlarkHashValue) (es : Lis
   pub shown_passes : (o : Option (Bor K)) → option_copied o ≡ option_map entry_key (entry_at es (position_of hash test es)) → IfSome o (λ p. test p.now ≡ true)
   shown_passes None is = tt
   shown_passes (Some p) is = key_passes (Some p.now) is
-
-  -- a removal leaves one entry less, where there was one
-  pub length-removed : (new : List (Entry K V)) → new ≡ without es (position_of hash test es) → length new + (if is_some (found test hash es) then 1 else 0) ≡ length es
-  unfolding found
-  length-removed new is =
-      ap (λ b. length new + (if b then 1 else 0)) (is_some-value_at hash test es)
-      ∙ ap (λ l. length l + (if is_some (position_of hash test es) then 1 else 0)) is
-      ∙ length-without hash test es
 
 module _ {K V : Type 0} (eq : K → K → Bool) (old : List (Entry K V)) (key : Hashed K) (value : V) where
   -- an insertion makes one entry more, where there was none

@@ -4,6 +4,8 @@ pub mod OrderedEnd
 pub mod OrderedLending
 pub mod OrderedTries
 pub mod Set
+pub mod Taking
+pub mod Adding
 pub mod Unit
 pub mod Lending
 pub mod Difference

@@ -9,7 +9,6 @@ use Rattle.std.specs.declared.cmp.Ordering.TheVariants.{Equal}
 use Rattle.starlark_hash.specs.declared.hashed.Hashed.{Hashed}
 use Rattle.starlark_hash.specs.HashValue.{hashed, hash_of, key_of}
 use Rattle.starlark_lists.specs.Entries.{Entry}
-use Rattle.starlark_lists.specs.Clone.{IsEntryClone}
 use Rattle.starlark_lists.specs.Ordered.{ordered_feed}
 
 -- whether two `()` are equal; any two are
@@ -19,6 +18,10 @@ same_unit x y = true
 -- the order of `()`: neither is less
 abbrev pub unit_cmp : Unit {0} → Unit {0} → Ordering
 unit_cmp x y = Equal
+
+-- a clone of `()` is it
+abbrev pub IsUnitClone : Unit {0} → Unit {0} → Type 0
+IsUnitClone x y = y ≡ x
 
 -- equality of `()` is an equivalence
 pub unit_equiv : IsEquivalence same_unit
@@ -36,10 +39,6 @@ module _ {T : Type 0} where
   -- what a set feeds to a hasher: the hash of each element as one number of 32 bits, and no length
   abbrev pub set_feed : List (Entry T (Unit {0})) → HashWrites
   set_feed es = ordered_feed (λ _. []) es
-
-  -- the second element has the first one's hash, and is a clone of it
-  abbrev pub IsElementClone : (T → T → Type 0) → Entry T (Unit {0}) → Entry T (Unit {0}) → Type 0
-  IsElementClone element d e = IsEntryClone element (λ x y. y ≡ x) d e
 
   -- what a `Hashed<&T>` points to, under its hash
   abbrev pub deref_hashed : Hashed (Bor T) → Hashed T

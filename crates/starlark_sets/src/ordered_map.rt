@@ -1,6 +1,6 @@
 //! A map whose order counts when it is compared. It alone sees the map inside.
-ghost use Rattle.std.specs.Prelude.{◌≡◌, ◌≤◌, [], false, nat_lt, IfOk, IsOk};
-ghost use Rattle.starlark_small.specs.Index.{unindexed};
+ghost use Rattle.std.specs.Prelude.{◌≡◌};
+ghost use Rattle.starlark_small.specs.Making.{IsBare, MakesEmptyFor};
 
 mod compare;
 mod grow;
@@ -30,7 +30,7 @@ impl<K: Eq, V> OrderedMap<K, V> {
     /// An empty map without room, capacity and index. It asks for no memory until the first insertion.
     #[inline]
     pub fn new(alloc: Global) -> Self
-        ensures { result ≡ record { entries = []; room = 0; capacity = 0; indexed = false } }
+        ensures { IsBare result }
     {
         OrderedMap(SmallMap::new(alloc))
     }
@@ -38,11 +38,7 @@ impl<K: Eq, V> OrderedMap<K, V> {
     /// An empty map of this capacity, with room for so many entries, and with an index where so many need one. Where
     /// memory is refused, nothing is made; capacity 0 asks for none.
     pub fn with_capacity(alloc: Global, capacity: usize) -> Result<Self, AllocError>
-        ensures entries { IfOk result (λ map. map.entries ≡ []) }
-        ensures capacity { IfOk result (λ map. map.capacity ≡ capacity) }
-        ensures room { IfOk result (λ map. capacity ≤ map.room) }
-        ensures indexed { IfOk result (λ map. map.indexed ≡ nat_lt unindexed capacity) }
-        ensures succeeds { capacity ≡ 0 → IsOk result }
+        ensures { MakesEmptyFor capacity result }
     {
         Ok(OrderedMap(SmallMap::with_capacity(alloc, capacity)?))
     }

@@ -1,6 +1,6 @@
 //! A set whose order counts when it is compared. It alone sees the set inside.
-ghost use Rattle.std.specs.Prelude.{◌≡◌, ◌≤◌, [], false, nat_lt, IfOk, IsOk};
-ghost use Rattle.starlark_small.specs.Index.{unindexed};
+ghost use Rattle.std.specs.Prelude.{◌≡◌};
+ghost use Rattle.starlark_small.specs.Making.{IsBare, MakesEmptyFor};
 
 mod compare;
 mod grow;
@@ -32,7 +32,7 @@ impl<T: Eq> OrderedSet<T> {
     /// An empty set without room, capacity and index. It asks for no memory until the first insertion.
     #[inline]
     pub fn new(alloc: Global) -> Self
-        ensures { result ≡ record { entries = []; room = 0; capacity = 0; indexed = false } }
+        ensures { IsBare result }
     {
         OrderedSet(SmallSet::new(alloc))
     }
@@ -40,11 +40,7 @@ impl<T: Eq> OrderedSet<T> {
     /// An empty set of this capacity, with room for so many elements, and with an index where so many need one. Where
     /// memory is refused, nothing is made; capacity 0 asks for none.
     pub fn with_capacity(alloc: Global, capacity: usize) -> Result<Self, AllocError>
-        ensures entries { IfOk result (λ set. set.entries ≡ []) }
-        ensures capacity { IfOk result (λ set. set.capacity ≡ capacity) }
-        ensures room { IfOk result (λ set. capacity ≤ set.room) }
-        ensures indexed { IfOk result (λ set. set.indexed ≡ nat_lt unindexed capacity) }
-        ensures succeeds { capacity ≡ 0 → IsOk result }
+        ensures { MakesEmptyFor capacity result }
     {
         Ok(OrderedSet(SmallSet::with_capacity(alloc, capacity)?))
     }

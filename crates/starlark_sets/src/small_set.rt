@@ -1,6 +1,5 @@
 //! The set, a map whose every value is `()`. It alone sees that map.
-ghost use Rattle.std.specs.Prelude.{◌≡◌, ◌≤◌, [], false, nat_lt, IfOk, IsOk};
-ghost use Rattle.starlark_small.specs.Index.{unindexed};
+ghost use Rattle.starlark_small.specs.Making.{IsBare, MakesEmptyFor};
 
 mod collect;
 mod compare;
@@ -44,7 +43,7 @@ impl<T: Eq> SmallSet<T> {
     /// An empty set without room, capacity and index. It asks for no memory until the first insertion.
     #[inline]
     pub fn new(alloc: Global) -> Self
-        ensures { result ≡ record { entries = []; room = 0; capacity = 0; indexed = false } }
+        ensures { IsBare result }
     {
         SmallSet {
             map: SmallMap::new(alloc),
@@ -55,11 +54,7 @@ impl<T: Eq> SmallSet<T> {
     /// An empty set of this capacity, with room for so many elements, and with an index where so many need one. Where
     /// memory is refused, nothing is made; capacity 0 asks for none.
     pub fn with_capacity(alloc: Global, capacity: usize) -> Result<Self, AllocError>
-        ensures entries { IfOk result (λ set. set.entries ≡ []) }
-        ensures capacity { IfOk result (λ set. set.capacity ≡ capacity) }
-        ensures room { IfOk result (λ set. capacity ≤ set.room) }
-        ensures indexed { IfOk result (λ set. set.indexed ≡ nat_lt unindexed capacity) }
-        ensures succeeds { capacity ≡ 0 → IsOk result }
+        ensures { MakesEmptyFor capacity result }
     {
         Ok(SmallSet {
             map: SmallMap::with_capacity(alloc, capacity)?,

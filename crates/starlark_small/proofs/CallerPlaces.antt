@@ -1,12 +1,14 @@
 -- What is found once the entry at a place was taken out.
-use Rattle.std.proofs.Common.{◌≡◌, ℕ, zero, suc, Bool, false, cond, List, [], ◌∷◌, ◌++◌, length, get_or, position, remove, Option, Some, None, slice_get, refl, sym, ap, ◌∙◌, subst, arith}
-use Rattle.std.specs.Prelude.{IfSome}
+use Rattle.std.proofs.Common.{◌≡◌, ℕ, zero, suc, ◌+◌, ◌-◌, Bool, false, cond, List, [], ◌∷◌, ◌++◌, length, get_or, position, remove, Option, Some, None, is_some, slice_get, refl, sym, ap, ◌∙◌, subst, arith}
+use Rattle.std.specs.Prelude.{IfSome, if◌then◌else◌}
 use Rattle.std.specs.Cmp.{IsEquivalence}
 use Rattle.std.specs.Option.{option_map}
 use Rattle.std.specs.Map.Iter.{TakesLast}
+use Rattle.std.proofs.lemmas.List.{length_push}
 use Rattle.std.proofs.lemmas.Option.{get_or_from_slice_get, same_Some, slice_get_within}
+use Rattle.starlark_hash.specs.HashValue.{key_of}
 use Rattle.starlark_hash.specs.Hasher.{own_hash}
-use Rattle.starlark_lists.specs.Entries.{Entry, IsSingle, entry_key, entry_value, match_of, stands_under, value_at, without}
+use Rattle.starlark_lists.specs.Entries.{Entry, IsSingle, entry_key, entry_value, match_of, pair_of, stands_under, value_at, without}
 use Rattle.starlark_lists.specs.Finding.{found, Writes}
 use Rattle.starlark_lists.proofs.PositionLemmas.{position-cons}
 use Rattle.starlark_small.specs.Calling.{AreOwnEntries, TakesOut}
@@ -23,6 +25,13 @@ last_of (y ∷ xs) x = last_of xs x
 before_last : {X : Type 0} (xs : List X) (x : X) → remove (xs ++ x ∷ []) (length xs) ≡ xs
 before_last [] x = refl
 before_last (y ∷ xs) x = ap (λ l. y ∷ l) (before_last xs x)
+
+-- the item that was taken from the end stood at the last place
+pub last-taken : {X : Type 0} (s : List X) (o : Option X) (t : List X) → TakesLast (λ x. x) s o t → o ≡ slice_get s (length s - 1)
+last-taken s None t took = ap (λ l. slice_get l (length l - 1)) (sym took.0)
+last-taken s (Some x) t took =
+    sym (last_of t x) ∙ ap (λ l. slice_get l (length t)) (sym took)
+    ∙ ap (slice_get s) (omega (arith, ap length took, length_push t x))
 
 module _ {K V : Type 0} (eq : K → K → Bool) (laws : IsEquivalence eq) where
   -- an entry stands at the first place that is like it
@@ -72,3 +81,13 @@ module _ {K V : Type 0} (eq : K → K → Bool) (laws : IsEquivalence eq) where
   takes-out_last old new (Some e) single took =
       let n = length new.entries in
       takes-out old new n e single (ap (λ l. slice_get l n) took ∙ last_of new.entries e) (sym (before_last new.entries e) ∙ ap (λ l. remove l n) (sym took))
+
+module _ {K V : Type 0} where
+  -- an entry that was taken out, by its key and value alone
+  pub takes-pair : (eq : K → K → Bool) (old new : Map K V) (r : Option (Entry K V)) → IfSome r (λ p. TakesOut eq old new (key_of p.0) p.1) → IfSome (option_map pair_of r) (λ p. TakesOut eq old new p.0 p.1)
+  takes-pair eq old new None takes = tt
+  takes-pair eq old new (Some e) takes = takes
+
+  pub counts-pair : (n m : ℕ) (r : Option (Entry K V)) → n ≡ m + (if is_some r then 1 else 0) → n ≡ m + (if is_some (option_map pair_of r) then 1 else 0)
+  counts-pair n m None count = count
+  counts-pair n m (Some e) count = count

@@ -1,12 +1,26 @@
 -- What is shown of a list: values of it, and the key and the value that a look-up finds.
-use Rattle.std.proofs.Common.{◌≡◌, ℕ, zero, suc, Bool, List, [], ◌∷◌, Bor, Option, Some, None, map, slice_get, refl, sym, ap, arith}
+use Rattle.std.proofs.Common.{◌≡◌, ℕ, zero, suc, Bool, false, List, [], ◌∷◌, Option, Some, None, is_some, map, slice_get, refl, sym, ap, ◌∙◌, arith}
 use Rattle.std.specs.Prelude.{IfSome}
 use Rattle.std.specs.List.{IsAmong}
-use Rattle.std.specs.Option.{option_copied, option_map}
+use Rattle.std.specs.Option.{IfNone, option_map}
+use Rattle.std.proofs.lemmas.Bool.{false≢true}
 use Rattle.std.proofs.lemmas.Option.{none-some, same_Some}
 use Rattle.starlark_hash.specs.declared.hash_value.StarlarkHashValue.{StarlarkHashValue}
 use Rattle.starlark_lists.specs.Entries.{Entry, entry_at, entry_key, entry_value, pair_of, position_of, value_at}
 use Rattle.starlark_lists.specs.Finding.{found, found_key}
+use Rattle.starlark_small.specs.Calling.{FindsValue, TellsPresence}
+use Rattle.starlark_small.specs.Map.{Map}
+use Rattle.starlark_small.proofs.CallerEntries.{is_some-value_at}
+use Rattle.starlark_small.proofs.CallerUpdates.{found_is, has_found}
+
+no_place : (place : Option ℕ) → is_some place ≡ false → place ≡ None
+no_place None is = refl
+no_place (Some i) is = absurd (false≢true (sym is))
+
+-- nothing is named where no value stands
+nothing-named : {V : Type 0} (place : Option ℕ) (o : Option V) → is_some o ≡ is_some place → IfNone o (place ≡ None)
+nothing-named place None is = no_place place (sym is)
+nothing-named place (Some v) is = tt
 
 module _ {K V : Type 0} where
   among : (es : List (Entry K V)) (i : ℕ) (v : V) → option_map entry_value (slice_get es i) ≡ Some v → IsAmong (map entry_value es) v
@@ -14,10 +28,24 @@ module _ {K V : Type 0} where
   among (e ∷ es) zero v is = (0, (omega arith, sym (same_Some (entry_value e) v is)))
   among (e ∷ es) (suc i) v is = let later = among es i v is in (suc later.0, (omega (arith, later.1.0), later.1.1))
 
-  pub shown-among : (es : List (Entry K V)) (place : Option ℕ) (o : Option (Bor V)) → option_copied o ≡ value_at es place → IfSome o (λ p. IsAmong (map entry_value es) p.now)
-  shown-among es place None is = tt
-  shown-among es None (Some p) is = absurd (none-some p.now (sym is))
-  shown-among es (Some i) (Some p) is = among es i p.now (sym is)
+  value-among : (es : List (Entry K V)) (place : Option ℕ) (o : Option V) → o ≡ value_at es place → IfSome o (λ v. IsAmong (map entry_value es) v)
+  value-among es place None is = tt
+  value-among es None (Some v) is = absurd (none-some v (sym is))
+  value-among es (Some i) (Some v) is = among es i v (sym is)
+
+module _ {K V : Type 0} (test : K → Bool) (hash : StarlarkHashValue) (m : Map K V) where
+  -- what stands at the place that a test names is what is found
+  pub finds-value : (o : Option V) → o ≡ value_at m.entries (position_of hash test m.entries) → FindsValue test hash (position_of hash test m.entries) m o
+  finds-value o is = record {
+    value = is;
+    found = found_is test hash m.entries o is;
+    member = value-among m.entries (position_of hash test m.entries) o is;
+    absent = nothing-named (position_of hash test m.entries) o (ap is_some is ∙ is_some-value_at hash test m.entries);
+  }
+
+  -- there is something where the test names a place
+  pub tells-presence : (b : Bool) → b ≡ is_some (position_of hash test m.entries) → TellsPresence test hash (position_of hash test m.entries) m b
+  tells-presence b is = record { place = is; found = has_found test hash m.entries b is }
 
 module _ {K V T : Type 0} (a : T → K) (b : T → V) where
   parts : (o : Option T) (e : Option (Entry K V)) → option_map (λ x. (a x, b x)) o ≡ option_map pair_of e → (option_map a o ≡ option_map entry_key e) × (option_map b o ≡ option_map entry_value e)

@@ -2,7 +2,7 @@
 use Rattle.std.proofs.Common.{◌≡◌, ℕ, ◌<◌, Bool, List, [], ◌∷◌, ◌++◌, length, slice_get, Some, None, is_some, sym, ap, subst, ◌∙◌, arith, refl}
 use Rattle.std.specs.Prelude.{◌||◌, nat_lt}
 use Rattle.std.specs.Option.{option_map}
-use mathlib.Core.Logic.{inl}
+use mathlib.Core.Logic.{inl, inr}
 use Rattle.std.proofs.lemmas.Bool.{false≢true}
 use Rattle.std.proofs.lemmas.List.{length_push}
 use Rattle.std.proofs.lemmas.Option.{same_Some}
@@ -77,3 +77,15 @@ module _ {K V : Type 0} (eq : K → K → Bool) (old : Map K V) (key : Hashed K)
         grown = λ longer. absurd (omega (arith, longer, as_long));
         indexed = refused.indexed ∙ subst (λ n. old.indexed ≡ (old.indexed || nat_lt unindexed n)) (sym as_long) short;
       }
+
+-- what is left of the memory where a new key went in
+module _ {K V : Type 0} (eq : K → K → Bool) (old : Map K V) (key : Hashed K) where
+  pub LeavesMemory-inserted : (value : V) (new : Map K V) → match_of eq old.entries key ≡ None → IsInserted old key value new → LeavesMemory eq old key new
+  LeavesMemory-inserted value new lacking put = record {
+    replaced = λ there. absurd (false≢true (sym (ap is_some lacking) ∙ there));
+    spare = put.spare;
+    room = put.room;
+    capacity = inr put.capacity;
+    grown = λ longer. put.capacity;
+    indexed = subst (λ n. new.indexed ≡ (old.indexed || nat_lt unindexed n)) (sym (ap length put.entries ∙ length_push old.entries (key, value))) put.indexed;
+  }

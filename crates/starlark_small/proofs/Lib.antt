@@ -25,6 +25,8 @@ pub mod CallerRetained
 pub mod CallerShown
 pub mod CallerWalked
 pub mod CallerOwn
+pub mod KeptInWalks
+pub mod CallerInserts
 pub mod CallerCollected
 pub mod CallerPlaces
 pub mod CallerOrder

@@ -1,7 +1,9 @@
 -- What a caller of a `SmallMap` says of it: what a query finds under its own hash, and what a call leaves at its query and at
 -- all other keys. Sets, ordered and sorted types share these words: a set is a map to `()`. All of them but `found`,
 -- `found_key` and `AreOwnEntries` unfold by themselves in callers' proofs.
-use Rattle.std.specs.Prelude.{◌≡◌, ℕ, ◌+◌, length, remove, if◌then◌else◌, All, Bool, false, List, Option, Some, None, is_some, map}
+use Rattle.std.specs.Prelude.{◌≡◌, ℕ, ◌+◌, ◌<◌, length, remove, slice_get, if◌then◌else◌, All, Bool, false, IfSome, List, Option, Some, None, is_some, map}
+use Rattle.std.specs.List.{IsAmong}
+use Rattle.std.specs.Option.{IfNone, option_map}
 use Rattle.std.specs.Hash as fed
 use Rattle.std.specs.Hash.{HashWrites}
 use Rattle.std.specs.Str.{bytes_eq}
@@ -9,7 +11,7 @@ use Rattle.std.specs.String.{string_bytes}
 use Rattle.std.specs.declared.string.String.{String}
 use Rattle.starlark_hash.specs.Hasher.{own_hash}
 use Rattle.starlark_hash.specs.declared.hash_value.StarlarkHashValue.{StarlarkHashValue}
-use Rattle.starlark_lists.specs.Entries.{Entry, entry_hash, entry_key, without}
+use Rattle.starlark_lists.specs.Entries.{Entry, entry_hash, entry_key, entry_value, pair_of, value_at, without}
 use Rattle.starlark_lists.specs.Finding.{found, found_key, Writes}
 use Rattle.starlark_small.specs.Map.{Map, KeepsMemory}
 
@@ -59,6 +61,25 @@ module _ {K V : Type 0} where
   abbrev pub AreOwn : (K → HashWrites) → Map K V → Type 0
   AreOwn feeds m = AreOwnEntries feeds m.entries
 
+module _ {K V : Type 0} (test : K → Bool) (hash : StarlarkHashValue) (named : Option ℕ) (m : Map K V) where
+  -- the value of what the test names under the hash: it stands at its place, and is one of the map's values; or there is none
+  pub record FindsValue (r : Option V) : Type 0 where
+    pub value : r ≡ value_at m.entries named
+    pub found : r ≡ found test hash m.entries
+    pub member : IfSome r (λ value. IsAmong (map entry_value m.entries) value)
+    pub absent : IfNone r (named ≡ None)
+
+  -- the place of what the test names under the hash, which lies in the list, where there is a value
+  pub record NamesPlace (r : Option ℕ) : Type 0 where
+    pub place : r ≡ named
+    pub found : is_some r ≡ is_some (found test hash m.entries)
+    pub within : IfSome r (λ i. i < length m.entries)
+
+  -- whether there is what the test names under the hash
+  pub record TellsPresence (is_there : Bool) : Type 0 where
+    pub place : is_there ≡ is_some named
+    pub found : is_there ≡ is_some (found test hash m.entries)
+
 module _ {K V : Type 0} (eq : K → K → Bool) where
   -- what a test under a hash names was taken out from its place, if it was there
   pub record Removes (test : K → Bool) (hash : StarlarkHashValue) (place : Option ℕ) (old new : Map K V) : Type 0 where
@@ -80,6 +101,13 @@ module _ {K V : Type 0} (eq : K → K → Bool) where
     pub others : (under : StarlarkHashValue) (other : K) → eq key other ≡ false → found (eq other) under new.entries ≡ found (eq other) under old.entries
     pub was : (feeds : K → HashWrites) → AreOwn feeds old → get eq feeds old key ≡ Some value
     pub gone : (feeds : K → HashWrites) → AreOwn feeds old → Updates eq feeds old new key None
+
+  -- the entry at a place was taken out, and its key and value are answered; or nothing stood there
+  pub record TakesAt (place : ℕ) (old new : Map K V) (r : Option (K × V)) : Type 0 where
+    pub taken : r ≡ option_map pair_of (slice_get old.entries place)
+    pub takes : IfSome r (λ p. TakesOut old new p.0 p.1)
+    pub count : length old.entries ≡ length new.entries + (if is_some r then 1 else 0)
+    pub removes : RemovesAt place old new
 
 module _ {A V : Type 0} where
   -- the value at the string of these bytes, under its own hash, where there is one

@@ -1,5 +1,5 @@
 -- What an index of a list of entries holds, and what list and index make up together.
-use Rattle.std.specs.Prelude.{ℕ, ◌-◌, ◌≤◌, ◌<◌, ◌^◌, ◌++◌, min, nat_le, if◌then◌else◌, List, map, length, take, drop, remove, Option, Some, None, Bool, is_some, IsPermutation}
+use Rattle.std.specs.Prelude.{◌≡◌, ℕ, ◌+◌, ◌-◌, ◌≤◌, ◌<◌, ◌^◌, ◌++◌, min, nat_le, if◌then◌else◌, List, map, length, take, drop, remove, Option, Some, None, Bool, is_some, IsPermutation}
 use Rattle.std.specs.List.{enumerate_from, All}
 use Rattle.starlark_lists.specs.Entries.{Entry, IsSingle, entry_hash}
 use Rattle.starlark_hash.specs.HashValue.{hash_number, promoted}
@@ -60,3 +60,9 @@ module _ {K V : Type 0} where
     capacity = list.capacity;
     indexed = is_some index;
   }
+
+  -- this is an index of the list as the old one was of the old list: there is one if there was, and no room is lost
+  pub record IndexFollows (before : EntryList K V) (old : Option (Table ℕ)) (after : EntryList K V) (new : Option (Table ℕ)) : Type 0 where
+    pub indexed : IsIndexed after.entries new
+    pub room : length before.entries + index_room (length before.entries) old ≤ length after.entries + index_room (length after.entries) new
+    pub kept : is_some new ≡ is_some old

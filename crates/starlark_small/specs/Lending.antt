@@ -20,22 +20,14 @@ abbrev pub unhashed : {T K V : Type 0} → Result T (NoRoom (Hashed K × V)) →
 unhashed (Ok x) = Ok x
 unhashed (Err e) = Err (record { 0 = (key_of e.0.0, e.0.1) })
 
-module _ {K V : Type 0} where
-  -- whatever values are written, the keys stay, in their order
-  abbrev pub KeepsKeys : Map K V → Type 0
-  KeepsKeys m = (ws : List (Entry K V)) → map entry_key (with_values m.entries ws) ≡ keys m
-
-  -- whatever values are written, the number of entries stays
-  abbrev pub KeepsLength : Map K V → Type 0
-  KeepsLength m = (ws : List (Entry K V)) → length (with_values m.entries ws) ≡ length m.entries
-
-  -- whatever values are written, each key, whatever its hash, is there if it was, and only then
-  abbrev pub KeepsMembers : (K → K → Bool) → Map K V → Type 0
-  KeepsMembers eq m = (ws : List (Entry K V)) (under : StarlarkHashValue) (key : K) → is_some (found (eq key) under (with_values m.entries ws)) ≡ is_some (found (eq key) under m.entries)
-
-  -- whatever values are written, keys under their own hashes stay so
-  abbrev pub KeepsOwnHashes : Map K V → Type 0
-  KeepsOwnHashes m = (ws : List (Entry K V)) (feeds : K → HashWrites) → AreOwn feeds m → AreOwnEntries feeds (with_values m.entries ws)
+module _ {K V : Type 0} (eq : K → K → Bool) where
+  -- whatever values are written: the keys stay in their order, and so does how many entries there are; each key, whatever its
+  -- hash, is there if it was, and only then; and keys under their own hashes stay so
+  pub record KeepsAllButValues (m : Map K V) : Type 0 where
+    pub keys : (ws : List (Entry K V)) → map entry_key (with_values m.entries ws) ≡ keys m
+    pub length : (ws : List (Entry K V)) → length (with_values m.entries ws) ≡ length m.entries
+    pub members : (ws : List (Entry K V)) (under : StarlarkHashValue) (key : K) → is_some (found (eq key) under (with_values m.entries ws)) ≡ is_some (found (eq key) under m.entries)
+    pub own : (ws : List (Entry K V)) (feeds : K → HashWrites) → AreOwn feeds m → AreOwnEntries feeds (with_values m.entries ws)
 
 module _ (K V : RattleType) (g : eq.Ghosts K.Denot) (s : MutBor (Map K.Denot V.Denot)) where
   -- the map ends with what is left behind a reference to the value at the place, and all else stays

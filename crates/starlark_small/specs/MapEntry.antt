@@ -1,7 +1,8 @@
 -- What the contracts of a map's `Entry` cite.
 pub use Rattle.starlark_small.specs.declared.entry.Entry.TheVariants.{Occupied, Vacant}
 use Rattle.std.proofs.Common.{subst, sym}
-use Rattle.std.specs.Prelude.{◌≡◌, ℕ, ◌<◌, Bool, Option, Some, None, Result, MatchResult, IsOk, OnOk, OnErr, [], length, slice_get, ⊤}
+use Rattle.std.specs.Prelude.{◌≡◌, ℕ, ◌<◌, Bool, Option, Some, None, Result, MatchResult, IsOk, OnOk, OnErr, [], ◌∷◌, ◌++◌, if◌then◌else◌, is_some, length, slice_get, ⊤}
+use Rattle.std.specs.Hash.{HashWrites}
 use Rattle.std.specs.Borrow.{Fml, RattleType, MutBor, follows, follows_so, name_if_ok}
 use Rattle.std.specs.Fn.{Once, FnOnceTakesAtMut, FnOnceReturnsAtMut}
 use Rattle.std.specs.Option.{option_map}
@@ -10,8 +11,11 @@ use mir.Syntax.{named}
 use Rattle.starlark_hash.specs.declared.hashed.Hashed.{Hashed}
 use Rattle.starlark_hash.specs.declared.no_room.NoRoom.{NoRoom}
 use Rattle.starlark_lists.specs.Entries.{entry_key, entry_value, match_of, set_value_at}
-use Rattle.starlark_hash.specs.HashValue.{key_of}
+use Rattle.starlark_hash.specs.HashValue.{hash_of, key_of}
+use Rattle.starlark_hash.specs.Hasher.{own_hash}
+use Rattle.starlark_lists.specs.Finding.{found, Writes}
 use Rattle.starlark_lists.proofs.EntryLemmas.{length-set_value_at}
+use Rattle.starlark_small.specs.Calling.{keys, AreOwn}
 use Rattle.starlark_small.specs.Inserted.{IsInserted, IsRefused}
 use Rattle.starlark_small.specs.Map.{Map}
 use Rattle.starlark_small.specs.contracts.entry.OccupiedEntry as occupied
@@ -73,6 +77,16 @@ module _ {K V : Type 0} {g : eq.Ghosts K} where
   -- the same as one word, which callers' proofs never unfold
   unfoldable pub Puts : Entry K V g → V → Map K V → Type 0
   Puts e value m = IsPut e value m
+
+  -- the entry that the old map has under the key, or the lack of one, which shows the value that is there; and what the map is by
+  -- key once a value was put under it: the value is there, all other keys have what they had, a new key went last, and keys under
+  -- their own hashes stay so
+  pub record Enters (eq : K → K → Bool) (key : Hashed K) (old : Map K V) (e : Entry K V g) : Type 0 where
+    pub entry : IsEntryOf eq old key e
+    pub value : entry_value_of e ≡ found (eq (key_of key)) (hash_of key) old.entries
+    pub updates : (value : V) (new : Map K V) → Puts e value new → Writes eq (eq (key_of key)) (hash_of key) old.entries new.entries (Some value)
+    pub keys : (value : V) (new : Map K V) → Puts e value new → keys new ≡ (if is_some (found (eq (key_of key)) (hash_of key) old.entries) then keys old else keys old ++ key_of key ∷ [])
+    pub own : (feeds : K → HashWrites) → hash_of key ≡ own_hash feeds (key_of key) → (value : V) (new : Map K V) → Puts e value new → AreOwn feeds old → AreOwn feeds new
 
   -- there is no such entry: none stands under the key
   abbrev pub IsVacant : Entry K V g → Type 0

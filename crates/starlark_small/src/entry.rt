@@ -62,14 +62,8 @@ impl<K: Eq + Drop, V> Drop for VacantEntry<'_, K, V> {
 }
 
 impl<K: Eq, V> SmallMap<K, V> {
-    ghost use Rattle.std.specs.Prelude.{◌++◌, ◌∷◌, [], is_some, if◌then◌else◌};
-    ghost use Rattle.std.specs.Hash.{HashWrites};
-    ghost use Rattle.starlark_hash.specs.Hasher.{own_hash};
-    ghost use Rattle.starlark_hash.specs.HashValue.{hash_of, key_of};
-    ghost use Rattle.starlark_lists.specs.Finding.{found, Writes};
-    ghost use Rattle.starlark_small.specs.Calling.{get, keys, AreOwn, Updates};
-    ghost use Rattle.starlark_small.specs.Map.{Map, own_hashed};
-    ghost use Rattle.starlark_small.specs.MapEntry.{map_of_entry, entry_value_of, IsEntryOf, Puts};
+    ghost use Rattle.starlark_small.specs.Map.{own_hashed};
+    ghost use Rattle.starlark_small.specs.MapEntry.{map_of_entry, Enters};
 
     /// The entry of a key under its own hash, or the lack of one. Where there is one, it keeps its key, and this one is
     /// dropped.
@@ -77,11 +71,7 @@ impl<K: Eq, V> SmallMap<K, V> {
     where
         K: Hash + Drop,
         ensures same_map { (map_of_entry result).ghost_name ≡ self.entry.ghost_name }
-        ensures entry { IsEntryOf K.eq self.old (own_hashed K.hash_input key) result }
-        ensures value { entry_value_of result ≡ get K.eq K.hash_input self.old key }
-        ensures updates { (value : V) (new : Map K V) → Puts result value new → Updates K.eq K.hash_input self.old new key (Some value) }
-        ensures keys { (value : V) (new : Map K V) → Puts result value new → keys new ≡ (if is_some (get K.eq K.hash_input self.old key) then keys self.old else keys self.old ++ key ∷ []) }
-        ensures own { (value : V) (new : Map K V) → Puts result value new → AreOwn K.hash_input self.old → AreOwn K.hash_input new }
+        ensures enters { Enters K.eq (own_hashed K.hash_input key) self.old result }
     {
         self.entry_hashed(Hashed::new(key))
     }
@@ -92,11 +82,7 @@ impl<K: Eq, V> SmallMap<K, V> {
     where
         K: Drop,
         ensures same_map { (map_of_entry result).ghost_name ≡ self.entry.ghost_name }
-        ensures entry { IsEntryOf K.eq self.old key result }
-        ensures value { entry_value_of result ≡ found (K.eq (key_of key)) (hash_of key) self.old.entries }
-        ensures updates { (value : V) (new : Map K V) → Puts result value new → Writes K.eq (K.eq (key_of key)) (hash_of key) self.old.entries new.entries (Some value) }
-        ensures keys { (value : V) (new : Map K V) → Puts result value new → keys new ≡ (if is_some (found (K.eq (key_of key)) (hash_of key) self.old.entries) then keys self.old else keys self.old ++ key_of key ∷ []) }
-        ensures own { (feeds : K → HashWrites) → hash_of key ≡ own_hash feeds (key_of key) → (value : V) (new : Map K V) → Puts result value new → AreOwn feeds self.old → AreOwn feeds new }
+        ensures enters { Enters K.eq key self.old result }
     {
         if let Some(index) = self.get_index_of_hashed(key.as_ref()) {
             return Entry::Occupied(OccupiedEntry { map: self, index });

@@ -1,8 +1,5 @@
 //! The map. It alone sees its list of entries and their index.
-ghost use Rattle.std.specs.Prelude.{◌≡◌, ◌≤◌, [], false, nat_lt, IfOk, IsOk};
-ghost use Rattle.std.specs.Hash.{HashWrites};
-ghost use Rattle.starlark_small.specs.Calling.{AreOwn, IsEmpty};
-ghost use Rattle.starlark_small.specs.Index.{unindexed};
+ghost use Rattle.starlark_small.specs.Making.{IsBare, MakesEmptyFor};
 
 mod collect;
 mod compare;
@@ -49,9 +46,7 @@ impl<K: Eq, V> SmallMap<K, V> {
     /// An empty map without room, capacity and index. It asks for no memory until the first insertion.
     #[inline]
     pub fn new(alloc: Global) -> Self
-        ensures empty { result ≡ record { entries = []; room = 0; capacity = 0; indexed = false } }
-        ensures lacks { IsEmpty result }
-        ensures own { (feeds : K → HashWrites) → AreOwn feeds result }
+        ensures { IsBare result }
     {
         SmallMap {
             entries: VecMap::new(alloc),
@@ -62,13 +57,7 @@ impl<K: Eq, V> SmallMap<K, V> {
     /// An empty map of this capacity, with room for so many entries, and with an index where so many need one. Where
     /// memory is refused, nothing is made; capacity 0 asks for none.
     pub fn with_capacity(alloc: Global, capacity: usize) -> Result<Self, AllocError>
-        ensures entries { IfOk result (λ map. map.entries ≡ []) }
-        ensures lacks { IfOk result IsEmpty }
-        ensures own { IfOk result (λ map. (feeds : K → HashWrites) → AreOwn feeds map) }
-        ensures capacity { IfOk result (λ map. map.capacity ≡ capacity) }
-        ensures room { IfOk result (λ map. capacity ≤ map.room) }
-        ensures indexed { IfOk result (λ map. map.indexed ≡ nat_lt unindexed capacity) }
-        ensures succeeds { capacity ≡ 0 → IsOk result }
+        ensures { MakesEmptyFor capacity result }
     {
         let index = Index::with_capacity::<K, V>(alloc, capacity)?;
         let entries = VecMap::with_capacity(alloc, capacity)?;

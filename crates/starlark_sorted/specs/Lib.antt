@@ -2,3 +2,4 @@ pub mod Collect
 pub mod Sorted
 pub mod Lending
 pub mod Union
+pub mod Making

@@ -1,5 +1,5 @@
 //! A map whose keys ascend. It alone sees the map inside.
-ghost use Rattle.std.specs.Prelude.{◌≡◌, [], false};
+ghost use Rattle.starlark_small.specs.Making.{IsBare};
 
 mod compare;
 mod made;
@@ -34,7 +34,7 @@ impl<K: Ord + Hash, V> SortedMap<K, V> {
     /// An empty map, which asks for no memory.
     #[inline]
     pub fn new(alloc: Global) -> Self
-        ensures { result ≡ record { entries = []; room = 0; capacity = 0; indexed = false } }
+        ensures { IsBare result }
     {
         SortedMap {
             map: OrderedMap::new(alloc),

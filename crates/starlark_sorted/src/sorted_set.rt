@@ -1,5 +1,6 @@
 //! A set whose elements ascend. It alone sees the set inside.
-ghost use Rattle.std.specs.Prelude.{◌≡◌, [], false};
+ghost use Rattle.std.specs.Prelude.{◌≡◌};
+ghost use Rattle.starlark_small.specs.Making.{IsBare};
 ghost use Rattle.starlark_lists.specs.Sorting.{Ascends};
 
 mod compare;
@@ -34,7 +35,7 @@ impl<T: Ord + Hash> SortedSet<T> {
     /// An empty set, which asks for no memory.
     #[inline]
     pub fn new(alloc: Global) -> Self
-        ensures { result ≡ record { entries = []; room = 0; capacity = 0; indexed = false } }
+        ensures { IsBare result }
     {
         SortedSet {
             inner: OrderedSet::new(alloc),

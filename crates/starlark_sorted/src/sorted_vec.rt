@@ -1,10 +1,11 @@
 //! A vector whose items ascend. It alone sees the vector inside.
 ghost use Rattle.starlark_sorted.specs.Collect.{HasEveryItem};
+ghost use Rattle.starlark_sorted.specs.Making.{IsSortedFrom};
 ghost use Rattle.std.specs.Iterator.Adapters.{IterYieldsInOrder, IterYieldsInReverse};
 ghost use Rattle.std.specs.Iterator.Runs.{EveryRun, ItemsAre};
 ghost use Rattle.std.specs.Iterator.{IsFiniteIterable};
 ghost use Rattle.std.specs.List.{AllZip};
-ghost use Rattle.std.specs.List.Sorted.{IsPermutation, IsSorted, IsStable};
+ghost use Rattle.std.specs.List.Sorted.{IsSorted};
 ghost use Rattle.std.specs.Prelude.{◌≡◌, ◌^◌, ◌<◌, ◌≤◌, [], length, IsOk, IfOk, IfErr};
 ghost use Rattle.std.specs.Slice.Iter.{iter_rest};
 ghost use Rattle.std.specs.Vec.Iter.{into_iter_items, into_iter_len, into_iter_steps};
@@ -60,9 +61,7 @@ impl<T: Ord> SortedVec<T> {
     /// Every item of the vector, sorted; equal ones keep their order. Where memory is refused, the vector
     /// is handed back as it was. Up to 20 items need none.
     pub fn from_vec(vec: Vec<T>) -> Result<Self, Vec<T>>
-        ensures every_item { IfOk result (λ sorted. IsPermutation vec.items sorted) }
-        ensures ascends { IfOk result (λ sorted. IsSorted T.cmp sorted) }
-        ensures stable { IfOk result (λ sorted. IsStable T.cmp vec.items sorted) }
+        ensures sorted { IfOk result (IsSortedFrom T.cmp vec.items) }
         ensures handed_back { IfErr result (λ source. source.items ≡ vec.items) }
         ensures succeeds { length vec.items ≤ 20 → IsOk result }
     {

@@ -30,9 +30,10 @@ pub fn declare(
     ensures others { (other : ℕ) → (other ≡ target → ⊥) → built_from targets.new other ≡ built_from targets.old other }
     ensures refused { OnErr result (targets.new.entries ≡ targets.old.entries) }
 {
-    if !targets.contains_key(&target) {
-        targets.insert(target, Vec::new(alloc))?;
+    if targets.contains_key(&target) {
+        return Ok(());
     }
+    targets.insert(target, Vec::new(alloc))?;
     Ok(())
 }
 

@@ -1,10 +1,11 @@
 //! What an `OrderedMap` has: entries by key under its own hash, and by place.
-ghost use Rattle.std.specs.Prelude.{◌≡◌, ◌<◌, ◌==◌, slice_get, length, is_some, IfSome};
+ghost use Rattle.std.specs.Prelude.{◌≡◌, ◌==◌, slice_get, length};
 ghost use Rattle.std.specs.Map.Iter.{deref_pair};
 ghost use Rattle.std.specs.Option.{option_copied, option_map};
-ghost use Rattle.starlark_lists.specs.Entries.{value_at, pair_of};
+ghost use Rattle.starlark_lists.specs.Entries.{pair_of};
 ghost use Rattle.starlark_small.specs.Map.{own_match};
-ghost use Rattle.starlark_small.specs.Calling.{contains, get};
+ghost use Rattle.starlark_hash.specs.Hasher.{own_hash};
+ghost use Rattle.starlark_small.specs.Calling.{FindsValue, NamesPlace, TellsPresence};
 
 use super::OrderedMap;
 use starlark_hash::Equivalent;
@@ -28,11 +29,9 @@ impl<K: Eq, V> OrderedMap<K, V> {
     }
 
     /// The value under the query's own hash whose key the query is equivalent to.
-    #[tactic(auto, using(crate::proofs::Callers::callers))]
     #[inline(always)]
     pub fn get<Q: Equivalent<K> + Hash>(&self, key: &Q) -> Option<&V>
-        ensures value { option_copied result ≡ value_at self.now.entries (own_match Q.equivalent Q.hash_input self.now.entries key.now) }
-        ensures found { option_copied result ≡ get Q.equivalent Q.hash_input self.now key.now }
+        ensures { FindsValue (Q.equivalent key.now) (own_hash Q.hash_input key.now) (own_match Q.equivalent Q.hash_input self.now.entries key.now) self.now (option_copied result) }
     {
         self.0.get(key)
     }
@@ -48,19 +47,15 @@ impl<K: Eq, V> OrderedMap<K, V> {
     /// The place under the query's own hash whose key the query is equivalent to.
     #[inline(always)]
     pub fn get_index_of<Q: Equivalent<K> + Hash>(&self, key: &Q) -> Option<usize>
-        ensures place { result ≡ own_match Q.equivalent Q.hash_input self.now.entries key.now }
-        ensures found { is_some result ≡ contains Q.equivalent Q.hash_input self.now key.now }
-        ensures within { IfSome result (λ i. i < length self.now.entries) }
+        ensures { NamesPlace (Q.equivalent key.now) (own_hash Q.hash_input key.now) (own_match Q.equivalent Q.hash_input self.now.entries key.now) self.now result }
     {
         self.0.get_index_of(key)
     }
 
     /// Whether there is an entry under the query's own hash whose key the query is equivalent to.
-    #[tactic(auto, using(crate::proofs::Callers::callers))]
     #[inline(always)]
     pub fn contains_key<Q: Equivalent<K> + Hash>(&self, key: &Q) -> bool
-        ensures place { result ≡ is_some (own_match Q.equivalent Q.hash_input self.now.entries key.now) }
-        ensures found { result ≡ contains Q.equivalent Q.hash_input self.now key.now }
+        ensures { TellsPresence (Q.equivalent key.now) (own_hash Q.hash_input key.now) (own_match Q.equivalent Q.hash_input self.now.entries key.now) self.now result }
     {
         self.0.contains_key(key)
     }

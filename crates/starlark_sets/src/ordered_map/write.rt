@@ -1,13 +1,14 @@
 //! Values of an `OrderedMap` to be written. Keys and hashes stay.
-ghost use Rattle.std.specs.Prelude.{◌≡◌, ◌^◌, ◌<◌, length, map, None};
+ghost use Rattle.std.specs.Prelude.{◌≡◌, ◌^◌, ◌<◌, length, map};
 ghost use Rattle.std.specs.Borrow.{sem};
 ghost use Rattle.std.specs.Map.{values_of};
-ghost use Rattle.std.specs.Option.{option_copied_mut, IfNone};
-ghost use Rattle.starlark_lists.specs.Entries.{entry_value, pair_of, value_at};
+ghost use Rattle.std.specs.Option.{option_copied_mut};
+ghost use Rattle.starlark_lists.specs.Entries.{entry_value, pair_of};
 ghost use Rattle.starlark_small.specs.Map.{own_hashed, own_match};
-ghost use Rattle.starlark_small.specs.MapEntry.{IsEntryOf};
+ghost use Rattle.starlark_small.specs.MapEntry.{Enters};
 ghost use Rattle.starlark_hash.specs.Hasher.{own_hash};
-ghost use Rattle.starlark_small.specs.Calling.{get};
+ghost use Rattle.starlark_small.specs.Calling.{FindsValue};
+ghost use Rattle.starlark_small.specs.Lending.{KeepsAllButValues};
 ghost use Rattle.starlark_sets.specs.OrderedLending.{follows_entry, lends_get, lends_inside, values_follow};
 
 use super::OrderedMap;
@@ -23,6 +24,7 @@ impl<K: Eq, V> OrderedMap<K, V> {
         ensures* writes_back { sem 𝓛 (values_follow K.row V.row K.PartialEq self.entry result.1) }
         ensures pairs { result.0 ≡ map pair_of self.old.entries }
         ensures fits { length self.old.entries < 2 ^ 64 }
+        ensures keeps { KeepsAllButValues K.eq self.old }
     {
         self.as_mut_small_map().iter_mut()
     }
@@ -35,6 +37,7 @@ impl<K: Eq, V> OrderedMap<K, V> {
         ensures* writes_back { sem 𝓛 (values_follow K.row V.row K.PartialEq self.entry result.1) }
         ensures values { values_of result.0 ≡ map entry_value self.old.entries }
         ensures fits { length self.old.entries < 2 ^ 64 }
+        ensures keeps { KeepsAllButValues K.eq self.old }
     {
         ValuesMut::of(self.iter_mut())
     }
@@ -44,9 +47,7 @@ impl<K: Eq, V> OrderedMap<K, V> {
     #[inline(always)]
     pub fn get_mut<Q: Equivalent<K> + Hash>(&mut self, key: &Q) -> Option<&mut V>
         ensures* writes_back { sem 𝓛 (lends_get K.row V.row K.PartialEq self.entry (Q.equivalent key.now) (own_hash Q.hash_input key.now) result) }
-        ensures found { option_copied_mut result ≡ get Q.equivalent Q.hash_input self.old key.now }
-        ensures value { option_copied_mut result ≡ value_at self.old.entries (own_match Q.equivalent Q.hash_input self.old.entries key.now) }
-        ensures absent { IfNone result (own_match Q.equivalent Q.hash_input self.old.entries key.now ≡ None) }
+        ensures finds { FindsValue (Q.equivalent key.now) (own_hash Q.hash_input key.now) (own_match Q.equivalent Q.hash_input self.old.entries key.now) self.old (option_copied_mut result) }
     {
         self.0.get_mut(key)
     }
@@ -57,7 +58,7 @@ impl<K: Eq, V> OrderedMap<K, V> {
     where
         K: Hash + Drop,
         ensures* writes_back { sem 𝓛 (follows_entry K.row V.row K.PartialEq self.entry result) }
-        ensures entry { IsEntryOf K.eq self.old (own_hashed K.hash_input key) result }
+        ensures enters { Enters K.eq (own_hashed K.hash_input key) self.old result }
     {
         self.as_mut_small_map().entry(key)
     }
@@ -85,6 +86,7 @@ impl<'a, K: Eq, V> IntoIterator for &'a mut OrderedMap<K, V> {
     fn into_iter(self) -> IterMut<'a, K, V>
         ensures* writes_back { sem 𝓛 (values_follow K.row V.row K.PartialEq self.entry result.1) }
         ensures into_iter_gives { (result.0 ≡ map pair_of self.old.entries) × (length self.old.entries < 2 ^ 64) }
+        ensures keeps { KeepsAllButValues K.eq self.old }
     {
         self.iter_mut()
     }

@@ -1,22 +1,16 @@
 //! What puts elements into an `OrderedSet`, and what may ask for memory.
-ghost use Rattle.std.specs.Prelude.{◌≡◌, ◌+◌, ◌≤◌, false, if◌then◌else◌, not, is_some, length, nat_lt, None, Some, IsOk, IsTrue, IfOk, IfErr, OnOk, OnErr};
+ghost use Rattle.std.specs.Prelude.{◌≡◌, None, IsOk, IfOk, OnOk, Some};
 ghost use Rattle.std.specs.Iterator.{IsFiniteIterable, size};
-ghost use Rattle.std.specs.Hash.{HashWrites};
-ghost use Rattle.std.specs.List.{AllZip};
-ghost use Rattle.starlark_hash.specs.declared.hash_value.StarlarkHashValue.{StarlarkHashValue};
-ghost use Rattle.starlark_lists.specs.Finding.{found};
+ghost use Rattle.starlark_small.specs.Calling.{Updates};
 ghost use Rattle.starlark_lists.specs.Entries.{match_of};
-ghost use Rattle.starlark_lists.specs.Sorting.{Ascends, sorted_by_key};
 ghost use Rattle.starlark_small.specs.Clone.{IsEqualClone};
-ghost use Rattle.starlark_small.specs.Collect.{Collects, Extends, IsExtended};
-ghost use Rattle.starlark_small.specs.Index.{unindexed};
-ghost use Rattle.starlark_small.specs.Inserted.{IsInserted, IsRefused};
-ghost use Rattle.starlark_small.specs.Map.{KeepsMemory, own_hashed};
-ghost use Rattle.starlark_vec2.specs.Collect.{IsLawfulClone};
-ghost use Rattle.starlark_small.specs.Calling.{AreOwn, IsSameAt, Updates, contains};
-ghost use Rattle.starlark_sets.specs.Collect.{HasEach, own_element};
-ghost use Rattle.starlark_sets.specs.Set.{Adds};
-ghost use Rattle.starlark_sets.specs.Unit.{IsElementClone};
+ghost use Rattle.starlark_small.specs.Making.{Clones};
+ghost use Rattle.starlark_small.specs.Map.{own_hashed};
+ghost use Rattle.starlark_sets.specs.Collect.{IsSetOf, TakesInEach};
+ghost use Rattle.starlark_sets.specs.Unit.{IsUnitClone};
+ghost use Rattle.starlark_small.specs.Inserting.{PutsLast};
+ghost use Rattle.starlark_sets.specs.Adding.{AddsElement};
+ghost use Rattle.starlark_small.specs.Changing.{SortsByKey};
 
 use super::OrderedSet;
 use crate::small_set::SmallSet;
@@ -32,14 +26,8 @@ impl<T: Eq> OrderedSet<T> {
     pub fn insert(&mut self, element: T) -> Result<bool, NoRoom<T>>
     where
         T: Hash + Drop,
-        ensures is_new { IfOk result (λ is_new. is_new ≡ not (is_some (match_of T.eq self.old.entries (own_hashed T.hash_input element)))) }
-        ensures was { IfOk result (λ is_new. is_new ≡ not (contains T.eq T.hash_input self.old element)) }
         ensures updates { OnOk result (Updates T.eq T.hash_input self.old self.new element (Some tt)) }
-        ensures length { OnOk result (length self.new.entries ≡ length self.old.entries + (if contains T.eq T.hash_input self.old element then 0 else 1)) }
-        ensures absent { OnErr result (contains T.eq T.hash_input self.old element ≡ false) }
-        ensures unchanged { OnErr result (self.new.entries ≡ self.old.entries) }
-        ensures set { Adds T.eq self.old (own_hashed T.hash_input element) result self.new }
-        ensures handed_back { IfErr result (λ refused. refused.0 ≡ element) }
+        ensures adds { AddsElement T.eq (own_hashed T.hash_input element) element self.old self.new result }
     {
         self.0.insert(element)
     }
@@ -50,10 +38,7 @@ impl<T: Eq> OrderedSet<T> {
     where
         T: Hash,
         requires { match_of T.eq self.old.entries (own_hashed T.hash_input element) ≡ None }
-        ensures inserted { OnOk result (IsInserted self.old (own_hashed T.hash_input element) tt self.new) }
-        ensures full { OnErr result (self.old.room ≡ 0) }
-        ensures refused { OnErr result (IsRefused self.old self.new) }
-        ensures handed_back { IfErr result (λ refused. refused.0 ≡ element) }
+        ensures puts_last { PutsLast (own_hashed T.hash_input element) tt element self.old self.new result }
     {
         self.0.insert_unique_unchecked(element)
     }
@@ -63,11 +48,7 @@ impl<T: Eq> OrderedSet<T> {
     pub fn sort(&mut self) -> Result<(), AllocError>
     where
         T: Ord,
-        ensures entries { OnOk result (self.new.entries ≡ sorted_by_key T.cmp self.old.entries) }
-        ensures unchanged { OnErr result (self.new.entries ≡ self.old.entries) }
-        ensures same { IsSameAt T.eq self.old self.new }
-        ensures succeeds { Ascends T.cmp self.old.entries → IsOk result }
-        ensures kept { KeepsMemory self.old self.new }
+        ensures { SortsByKey T.eq T.cmp result self.old self.new }
     {
         self.0.sort()
     }
@@ -80,11 +61,7 @@ impl<T: Eq + Hash + Drop> OrderedSet<T> {
     /// insertions one after the other. The iterator must end.
     pub fn extend<I: IntoIterator<Item = T>>(&mut self, iter: I) -> Result<(), AllocError>
         requires { IsFiniteIterable I.into_iter_gives I.IntoIter.can_next I.IntoIter.remaining iter }
-        ensures found { OnOk result (HasEach T.eq T.hash_input I.IntoIter.next_gives I.into_iter_gives iter (contains T.eq T.hash_input self.old) self.new) }
-        ensures entries { Extends T.eq (own_element T.hash_input) I.IntoIter.next_gives I.into_iter_gives iter self.old.entries self.new.entries result }
-        ensures memory { IsExtended ((it : _) → I.into_iter_gives iter it → size (I.IntoIter.remaining it) ≤ self.old.room) self.old self.new result }
-        ensures left { (it : I.IntoIter) × I.into_iter_gives iter it × (self.old.room ≤ self.new.room + size (I.IntoIter.remaining it)) }
-        ensures own { AreOwn T.hash_input self.old → AreOwn T.hash_input self.new }
+        ensures { TakesInEach T.eq T.hash_input I.IntoIter.next_gives I.into_iter_gives I.IntoIter.remaining iter self.old self.new result }
     {
         self.0.extend(iter)
     }
@@ -94,9 +71,7 @@ impl<T: Eq + Hash + Drop> OrderedSet<T> {
     /// index are as `SmallMap::from_iter` makes them. Without items it is not refused. The iterator must end.
     pub fn from_iter<I: IntoIterator<Item = T>>(alloc: Global, iter: I) -> Result<Self, AllocError>
         requires { IsFiniteIterable I.into_iter_gives I.IntoIter.can_next I.IntoIter.remaining iter }
-        ensures found { IfOk result (HasEach T.eq T.hash_input I.IntoIter.next_gives I.into_iter_gives iter (λ _. false)) }
-        ensures set { IfOk result (Collects T.eq (own_element T.hash_input) I.IntoIter.next_gives I.into_iter_gives I.IntoIter.remaining iter) }
-        ensures own { IfOk result (AreOwn T.hash_input) }
+        ensures made { IfOk result (IsSetOf T.eq T.hash_input I.IntoIter.next_gives I.into_iter_gives I.IntoIter.remaining iter) }
         ensures succeeds { ((it : _) → I.into_iter_gives iter it → size (I.IntoIter.remaining it) ≡ 0) → IsOk result }
     {
         Ok(OrderedSet(SmallSet::from_iter(alloc, iter)?))
@@ -110,13 +85,7 @@ impl<T: Eq + Clone> OrderedSet<T> {
     pub fn clone(&self) -> Result<Self, AllocError>
         // A clone is equal to its element.
         requires { IsEqualClone T.eq T.is_clone }
-        ensures entries { IfOk result (λ set. AllZip (IsElementClone T.is_clone) self.now.entries set.entries) }
-        ensures same { IfOk result (λ set. IsLawfulClone T.is_clone → set.entries ≡ self.now.entries) }
-        ensures found { IfOk result (λ set. (under : StarlarkHashValue) (key : T) → is_some (found (T.eq key) under set.entries) ≡ is_some (found (T.eq key) under self.now.entries)) }
-        ensures own { IfOk result (λ set. (feeds : T → HashWrites) → ((x y : T) → IsTrue (T.eq x y) → feeds x ≡ feeds y) → AreOwn feeds self.now → AreOwn feeds set) }
-        ensures capacity { IfOk result (λ set. set.capacity ≡ length self.now.entries) }
-        ensures indexed { IfOk result (λ set. set.indexed ≡ nat_lt unindexed (length self.now.entries)) }
-        ensures succeeds { length self.now.entries ≡ 0 → IsOk result }
+        ensures { Clones T.eq T.is_clone IsUnitClone self.now result }
     {
         Ok(OrderedSet(self.0.clone()?))
     }

@@ -1,12 +1,13 @@
 //! What an `OrderedSet` has: elements under their own hashes, and by place.
-ghost use Rattle.std.specs.Prelude.{◌≡◌, ◌-◌, ◌<◌, ◌==◌, slice_get, length, is_some, IfSome, IsTrue};
+ghost use Rattle.std.specs.Prelude.{◌≡◌, ◌-◌, ◌==◌, is_some, slice_get, length};
 ghost use Rattle.std.specs.Option.{option_copied, option_map};
 ghost use Rattle.starlark_hash.specs.HashValue.{hash_of, key_of};
 ghost use Rattle.starlark_lists.specs.Entries.{entry_key};
 ghost use Rattle.starlark_small.specs.Map.{own_match, query_match};
+ghost use Rattle.starlark_hash.specs.Hasher.{own_hash};
 ghost use Rattle.starlark_lists.specs.Finding.{found};
-ghost use Rattle.starlark_small.specs.Calling.{contains, get_key};
-ghost use Rattle.starlark_sets.specs.Set.{element_at};
+ghost use Rattle.starlark_small.specs.Calling.{NamesPlace, TellsPresence};
+ghost use Rattle.starlark_sets.specs.Taking.{ShowsElement};
 
 use super::OrderedSet;
 use starlark_hash::{Equivalent, Hashed};
@@ -32,10 +33,7 @@ impl<T: Eq> OrderedSet<T> {
     /// The element under the query's own hash to which the query is equivalent.
     #[inline(always)]
     pub fn get<Q: Equivalent<T> + Hash>(&self, query: &Q) -> Option<&T>
-        ensures element { option_copied result ≡ element_at self.now (own_match Q.equivalent Q.hash_input self.now.entries query.now) }
-        ensures found { option_copied result ≡ get_key Q.equivalent Q.hash_input self.now query.now }
-        ensures is_there { is_some result ≡ contains Q.equivalent Q.hash_input self.now query.now }
-        ensures equivalent { IfSome result (λ element. IsTrue (Q.equivalent query.now element.now)) }
+        ensures { ShowsElement (Q.equivalent query.now) (own_hash Q.hash_input query.now) (own_match Q.equivalent Q.hash_input self.now.entries query.now) self.now result }
     {
         self.0.get(query)
     }
@@ -43,8 +41,7 @@ impl<T: Eq> OrderedSet<T> {
     /// Whether there is an element under the query's own hash to which the query is equivalent.
     #[inline(always)]
     pub fn contains<Q: Equivalent<T> + Hash>(&self, query: &Q) -> bool
-        ensures place { result ≡ is_some (own_match Q.equivalent Q.hash_input self.now.entries query.now) }
-        ensures found { result ≡ contains Q.equivalent Q.hash_input self.now query.now }
+        ensures { TellsPresence (Q.equivalent query.now) (own_hash Q.hash_input query.now) (own_match Q.equivalent Q.hash_input self.now.entries query.now) self.now result }
     {
         self.0.contains(query)
     }
@@ -69,9 +66,7 @@ impl<T: Eq> OrderedSet<T> {
     /// The place of the element under the query's own hash to which the query is equivalent.
     #[inline(always)]
     pub fn get_index_of<Q: Equivalent<T> + Hash>(&self, query: &Q) -> Option<usize>
-        ensures place { result ≡ own_match Q.equivalent Q.hash_input self.now.entries query.now }
-        ensures found { is_some result ≡ contains Q.equivalent Q.hash_input self.now query.now }
-        ensures within { IfSome result (λ i. i < length self.now.entries) }
+        ensures { NamesPlace (Q.equivalent query.now) (own_hash Q.hash_input query.now) (own_match Q.equivalent Q.hash_input self.now.entries query.now) self.now result }
     {
         self.0.get_index_of(query)
     }

@@ -1,10 +1,11 @@
 //! The walks of an `OrderedSet`, which are those of the set inside.
 ghost use Rattle.std.specs.Prelude.{◌≡◌, ◌^◌, ◌<◌, length, map};
 ghost use Rattle.std.specs.Map.{keys_of};
-ghost use Rattle.std.specs.Map.Iter.{ShowsInOrder, ShowsInReverse, GivesInOrder, GivesInReverse, deref};
+ghost use Rattle.std.specs.Map.Iter.{deref};
 ghost use Rattle.starlark_lists.specs.Entries.{IsSingle, entry_key};
 ghost use Rattle.starlark_sets.specs.Union.{ShowsUnion, union, union_rest};
 ghost use Rattle.starlark_sets.specs.Unit.{deref_hashed};
+ghost use Rattle.starlark_small.specs.Walks.{GivesEach, ShowsEach};
 
 use super::OrderedSet;
 use crate::iter::{self, IterHashed};
@@ -21,9 +22,7 @@ impl<T: Eq> OrderedSet<T> {
     #[inline]
     pub fn iter(&self) -> Iter<'_, T>
         ensures elements { result ≡ map entry_key self.now.entries }
-        ensures fits { length self.now.entries < 2 ^ 64 }
-        ensures runs { ShowsInOrder (deref {X = T}) }
-        ensures runs_back { ShowsInReverse (deref {X = T}) }
+        ensures runs { ShowsEach self.now.entries result (deref {X = T}) }
     {
         self.0.iter()
     }
@@ -33,9 +32,7 @@ impl<T: Eq> OrderedSet<T> {
     pub fn iter_hashed(&self) -> IterHashed<'_, T>
         ensures elements { result ≡ keys_of self.now.entries }
         ensures single { IsSingle T.eq self.now.entries }
-        ensures fits { length self.now.entries < 2 ^ 64 }
-        ensures runs { ShowsInOrder (deref_hashed {T = T}) }
-        ensures runs_back { ShowsInReverse (deref_hashed {T = T}) }
+        ensures runs { ShowsEach self.now.entries result (deref_hashed {T = T}) }
         ensures few { length self.now.entries < 2 ^ 63 }
     {
         self.0.iter_hashed()
@@ -58,7 +55,7 @@ impl<T: Eq + Drop> IntoIterator for OrderedSet<T> {
 
     type IntoIter = IntoIter<T>;
 
-    ghost into_iter_gives = { λ s rest. (rest ≡ map entry_key s.entries) × (length s.entries < 2 ^ 64) × GivesInOrder T × GivesInReverse T };
+    ghost into_iter_gives = { λ s rest. (rest ≡ map entry_key s.entries) × GivesEach s.entries rest T };
 
     /// The elements by value, in order.
     #[inline]
@@ -72,7 +69,7 @@ impl<'a, T: Eq> IntoIterator for &'a OrderedSet<T> {
 
     type IntoIter = Iter<'a, T>;
 
-    ghost into_iter_gives = { λ s rest. (rest ≡ map entry_key s.now.entries) × (length s.now.entries < 2 ^ 64) × ShowsInOrder (deref {X = T}) × ShowsInReverse (deref {X = T}) };
+    ghost into_iter_gives = { λ s rest. (rest ≡ map entry_key s.now.entries) × ShowsEach s.now.entries rest (deref {X = T}) };
 
     /// The elements in order.
     #[inline]

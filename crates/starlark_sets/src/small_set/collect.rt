@@ -1,9 +1,8 @@
 //! `SmallSet`s from the items of iterators.
-ghost use Rattle.std.specs.Prelude.{◌≡◌, ◌+◌, ◌≤◌, false, IfOk, IsOk, OnOk};
+ghost use Rattle.std.specs.Prelude.{◌≡◌, IfOk, IsOk};
 ghost use Rattle.std.specs.Iterator.{IsFiniteIterable, size};
-ghost use Rattle.starlark_small.specs.Calling.{AreOwn, contains};
-ghost use Rattle.starlark_small.specs.Collect.{Collects, Extends, IsExtended};
-ghost use Rattle.starlark_sets.specs.Collect.{HasEach, KeepsOwn, element_entry, own_element};
+ghost use Rattle.starlark_small.specs.Collect.{Collects};
+ghost use Rattle.starlark_sets.specs.Collect.{IsSetOf, KeepsOwn, TakesInEach, element_entry};
 
 use super::SmallSet;
 use crate::with_unit::WithUnit;
@@ -19,11 +18,7 @@ impl<T: Eq + Hash + Drop> SmallSet<T> {
     /// insertions one after the other. The iterator must end.
     pub fn extend<I: IntoIterator<Item = T>>(&mut self, iter: I) -> Result<(), AllocError>
         requires { IsFiniteIterable I.into_iter_gives I.IntoIter.can_next I.IntoIter.remaining iter }
-        ensures found { OnOk result (HasEach T.eq T.hash_input I.IntoIter.next_gives I.into_iter_gives iter (contains T.eq T.hash_input self.old) self.new) }
-        ensures entries { Extends T.eq (own_element T.hash_input) I.IntoIter.next_gives I.into_iter_gives iter self.old.entries self.new.entries result }
-        ensures memory { IsExtended ((it : _) → I.into_iter_gives iter it → size (I.IntoIter.remaining it) ≤ self.old.room) self.old self.new result }
-        ensures left { (it : I.IntoIter) × I.into_iter_gives iter it × (self.old.room ≤ self.new.room + size (I.IntoIter.remaining it)) }
-        ensures own { AreOwn T.hash_input self.old → AreOwn T.hash_input self.new }
+        ensures { TakesInEach T.eq T.hash_input I.IntoIter.next_gives I.into_iter_gives I.IntoIter.remaining iter self.old self.new result }
     {
         self.map.extend(WithUnit::new(iter.into_iter()))
     }
@@ -33,9 +28,7 @@ impl<T: Eq + Hash + Drop> SmallSet<T> {
     /// index are as `SmallMap::from_iter` makes them. Without items it is not refused. The iterator must end.
     pub fn from_iter<I: IntoIterator<Item = T>>(alloc: Global, iter: I) -> Result<Self, AllocError>
         requires { IsFiniteIterable I.into_iter_gives I.IntoIter.can_next I.IntoIter.remaining iter }
-        ensures found { IfOk result (HasEach T.eq T.hash_input I.IntoIter.next_gives I.into_iter_gives iter (λ _. false)) }
-        ensures set { IfOk result (Collects T.eq (own_element T.hash_input) I.IntoIter.next_gives I.into_iter_gives I.IntoIter.remaining iter) }
-        ensures own { IfOk result (AreOwn T.hash_input) }
+        ensures made { IfOk result (IsSetOf T.eq T.hash_input I.IntoIter.next_gives I.into_iter_gives I.IntoIter.remaining iter) }
         ensures succeeds { ((it : _) → I.into_iter_gives iter it → size (I.IntoIter.remaining it) ≡ 0) → IsOk result }
     {
         Ok(SmallSet {

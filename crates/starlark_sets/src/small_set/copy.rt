@@ -1,14 +1,7 @@
 //! `SmallSet`s made of clones.
-ghost use Rattle.std.specs.Prelude.{◌≡◌, length, nat_lt, is_some, IfOk, IsOk, IsTrue};
-ghost use Rattle.std.specs.Hash.{HashWrites};
-ghost use Rattle.std.specs.List.{AllZip};
-ghost use Rattle.starlark_hash.specs.declared.hash_value.StarlarkHashValue.{StarlarkHashValue};
-ghost use Rattle.starlark_lists.specs.Finding.{found};
-ghost use Rattle.starlark_small.specs.Calling.{AreOwn};
 ghost use Rattle.starlark_small.specs.Clone.{IsEqualClone};
-ghost use Rattle.starlark_small.specs.Index.{unindexed};
-ghost use Rattle.starlark_vec2.specs.Collect.{IsLawfulClone};
-ghost use Rattle.starlark_sets.specs.Unit.{IsElementClone};
+ghost use Rattle.starlark_small.specs.Making.{Clones};
+ghost use Rattle.starlark_sets.specs.Unit.{IsUnitClone};
 
 use super::SmallSet;
 use std::alloc::AllocError;
@@ -20,13 +13,7 @@ impl<T: Eq + Clone> SmallSet<T> {
     pub fn clone(&self) -> Result<Self, AllocError>
         // A clone of an element is equal to it.
         requires { IsEqualClone T.eq T.is_clone }
-        ensures entries { IfOk result (λ set. AllZip (IsElementClone T.is_clone) self.now.entries set.entries) }
-        ensures same { IfOk result (λ set. IsLawfulClone T.is_clone → set.entries ≡ self.now.entries) }
-        ensures found { IfOk result (λ set. (under : StarlarkHashValue) (key : T) → is_some (found (T.eq key) under set.entries) ≡ is_some (found (T.eq key) under self.now.entries)) }
-        ensures own { IfOk result (λ set. (feeds : T → HashWrites) → ((x y : T) → IsTrue (T.eq x y) → feeds x ≡ feeds y) → AreOwn feeds self.now → AreOwn feeds set) }
-        ensures capacity { IfOk result (λ set. set.capacity ≡ length self.now.entries) }
-        ensures indexed { IfOk result (λ set. set.indexed ≡ nat_lt unindexed (length self.now.entries)) }
-        ensures succeeds { length self.now.entries ≡ 0 → IsOk result }
+        ensures { Clones T.eq T.is_clone IsUnitClone self.now result }
     {
         Ok(SmallSet {
             map: self.map.clone()?,

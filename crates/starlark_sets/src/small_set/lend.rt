@@ -4,8 +4,8 @@ ghost use Rattle.std.specs.Borrow.{sem};
 ghost use Rattle.std.specs.Option.{option_map, unwrap_or};
 ghost use Rattle.starlark_lists.specs.Entries.{entry_key, match_of};
 ghost use Rattle.starlark_hash.specs.Hasher.{own_hash};
-ghost use Rattle.starlark_hash.specs.HashValue.{key_of};
 ghost use Rattle.starlark_small.specs.Map.{own_hashed};
+ghost use Rattle.starlark_sets.specs.Adding.{PlacesElement};
 ghost use Rattle.starlark_sets.specs.Lending.{AddsAt, IsShown, ends_so};
 ghost use Rattle.starlark_sets.specs.Set.{Adds, AddsFor, element_at};
 
@@ -60,10 +60,7 @@ impl<T: Eq> SmallSet<T> {
     fn place_or_push(&mut self, element: Hashed<T>) -> Result<usize, NoRoom<Hashed<T>>>
     where
         T: Drop,
-        ensures set { Adds T.eq self.old element result self.new }
-        ensures element { IfOk result (λ i. option_map entry_key (slice_get self.new.entries i) ≡ Some (unwrap_or (element_at self.old (match_of T.eq self.old.entries element)) (key_of element))) }
-        ensures within { IfOk result (λ i. i < length self.new.entries) }
-        ensures handed_back { IfErr result (λ refused. refused.0 ≡ element) }
+        ensures places { PlacesElement T.eq element element self.old self.new result }
     {
         match self.map.get_index_of_hashed(element.as_ref()) {
             Some(place) => Ok(place),
@@ -78,10 +75,7 @@ impl<T: Eq> SmallSet<T> {
     fn place_or_push_own(&mut self, element: T) -> Result<usize, NoRoom<T>>
     where
         T: Hash + Drop,
-        ensures set { Adds T.eq self.old (own_hashed T.hash_input element) result self.new }
-        ensures element { IfOk result (λ i. option_map entry_key (slice_get self.new.entries i) ≡ Some (unwrap_or (element_at self.old (match_of T.eq self.old.entries (own_hashed T.hash_input element))) element)) }
-        ensures within { IfOk result (λ i. i < length self.new.entries) }
-        ensures handed_back { IfErr result (λ refused. refused.0 ≡ element) }
+        ensures places { PlacesElement T.eq (own_hashed T.hash_input element) element self.old self.new result }
     {
         match self.place_or_push(Hashed::new(element)) {
             Ok(place) => Ok(place),

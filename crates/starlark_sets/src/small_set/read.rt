@@ -1,12 +1,13 @@
 //! What a `SmallSet` has: elements by hash, by equality under their own hash, and by place.
-ghost use Rattle.std.specs.Prelude.{◌≡◌, ◌-◌, ◌<◌, ◌≤◌, ◌==◌, length, slice_get, is_some, IfSome, IsTrue, Some};
+ghost use Rattle.std.specs.Prelude.{◌≡◌, ◌-◌, ◌<◌, ◌≤◌, ◌==◌, length, slice_get, is_some, IfSome, Some};
 ghost use Rattle.std.specs.Option.{option_copied, option_map};
 ghost use Rattle.starlark_hash.specs.HashValue.{hash_of, key_of};
 ghost use Rattle.starlark_lists.specs.Entries.{entry_key};
 ghost use Rattle.starlark_small.specs.Map.{own_match, query_match, query_match_by_value};
-ghost use Rattle.starlark_sets.specs.Set.{element_at};
-ghost use Rattle.starlark_lists.specs.Finding.{found, found_key};
-ghost use Rattle.starlark_small.specs.Calling.{contains, get_key};
+ghost use Rattle.starlark_hash.specs.Hasher.{own_hash};
+ghost use Rattle.starlark_lists.specs.Finding.{found};
+ghost use Rattle.starlark_small.specs.Calling.{NamesPlace, TellsPresence};
+ghost use Rattle.starlark_sets.specs.Taking.{ShowsElement};
 
 use super::SmallSet;
 use starlark_hash::{Equivalent, Hashed};
@@ -18,10 +19,7 @@ impl<T: Eq> SmallSet<T> {
     /// The element under the query's own hash to which the query is equivalent.
     #[inline(always)]
     pub fn get<Q: Equivalent<T> + Hash>(&self, value: &Q) -> Option<&T>
-        ensures element { option_copied result ≡ element_at self.now (own_match Q.equivalent Q.hash_input self.now.entries value.now) }
-        ensures found { option_copied result ≡ get_key Q.equivalent Q.hash_input self.now value.now }
-        ensures is_there { is_some result ≡ contains Q.equivalent Q.hash_input self.now value.now }
-        ensures equivalent { IfSome result (λ element. IsTrue (Q.equivalent value.now element.now)) }
+        ensures { ShowsElement (Q.equivalent value.now) (own_hash Q.hash_input value.now) (own_match Q.equivalent Q.hash_input self.now.entries value.now) self.now result }
     {
         let (_, element, _) = self.map.get_full(value)?;
         Some(element)
@@ -30,10 +28,7 @@ impl<T: Eq> SmallSet<T> {
     /// The element under this hash to which the query is equivalent.
     #[inline(always)]
     pub fn get_hashed<Q: Equivalent<T>>(&self, value: Hashed<&Q>) -> Option<&T>
-        ensures element { option_copied result ≡ element_at self.now (query_match Q.equivalent self.now.entries value.entry) }
-        ensures found { option_copied result ≡ found_key (Q.equivalent (key_of value.entry).now) (hash_of value.entry) self.now.entries }
-        ensures is_there { is_some result ≡ is_some (found (Q.equivalent (key_of value.entry).now) (hash_of value.entry) self.now.entries) }
-        ensures equivalent { IfSome result (λ element. IsTrue (Q.equivalent (key_of value.entry).now element.now)) }
+        ensures { ShowsElement (Q.equivalent (key_of value.entry).now) (hash_of value.entry) (query_match Q.equivalent self.now.entries value.entry) self.now result }
     {
         let (_, element, _) = self.map.get_full_hashed(value)?;
         Some(element)
@@ -42,9 +37,7 @@ impl<T: Eq> SmallSet<T> {
     /// The place of the element under the query's own hash to which the query is equivalent.
     #[inline(always)]
     pub fn get_index_of<Q: Equivalent<T> + Hash>(&self, value: &Q) -> Option<usize>
-        ensures place { result ≡ own_match Q.equivalent Q.hash_input self.now.entries value.now }
-        ensures found { is_some result ≡ contains Q.equivalent Q.hash_input self.now value.now }
-        ensures within { IfSome result (λ i. i < length self.now.entries) }
+        ensures { NamesPlace (Q.equivalent value.now) (own_hash Q.hash_input value.now) (own_match Q.equivalent Q.hash_input self.now.entries value.now) self.now result }
     {
         self.map.get_index_of(value)
     }
@@ -71,17 +64,14 @@ impl<T: Eq> SmallSet<T> {
     }
 
     /// Whether there is an element under the query's own hash to which the query is equivalent.
-    #[tactic(auto, using(crate::proofs::Callers::callers))]
     #[inline(always)]
     pub fn contains<Q: Equivalent<T> + Hash>(&self, key: &Q) -> bool
-        ensures place { result ≡ is_some (own_match Q.equivalent Q.hash_input self.now.entries key.now) }
-        ensures found { result ≡ contains Q.equivalent Q.hash_input self.now key.now }
+        ensures { TellsPresence (Q.equivalent key.now) (own_hash Q.hash_input key.now) (own_match Q.equivalent Q.hash_input self.now.entries key.now) self.now result }
     {
         self.map.contains_key(key)
     }
 
     /// Whether there is an element under this hash to which the query is equivalent.
-    #[tactic(auto, using(crate::proofs::Callers::callers))]
     #[inline(always)]
     pub fn contains_hashed<Q: Equivalent<T>>(&self, key: Hashed<&Q>) -> bool
         ensures place { result ≡ is_some (query_match Q.equivalent self.now.entries key.entry) }

@@ -1,7 +1,7 @@
 //! New elements of a `SmallSet` that no look-up precedes.
-ghost use Rattle.std.specs.Prelude.{◌≡◌, None, IfErr, OnErr, OnOk};
+ghost use Rattle.std.specs.Prelude.{◌≡◌, None};
 ghost use Rattle.starlark_lists.specs.Entries.{match_of};
-ghost use Rattle.starlark_small.specs.Inserted.{IsInserted, IsRefused};
+ghost use Rattle.starlark_small.specs.Inserting.{PutsLast};
 ghost use Rattle.starlark_small.specs.Map.{own_hashed};
 
 use super::SmallSet;
@@ -14,10 +14,7 @@ impl<T: Eq> SmallSet<T> {
     where
         T: Hash,
         requires { match_of T.eq self.old.entries (own_hashed T.hash_input key) ≡ None }
-        ensures inserted { OnOk result (IsInserted self.old (own_hashed T.hash_input key) tt self.new) }
-        ensures full { OnErr result (self.old.room ≡ 0) }
-        ensures refused { OnErr result (IsRefused self.old self.new) }
-        ensures handed_back { IfErr result (λ refused. refused.0 ≡ key) }
+        ensures puts_last { PutsLast (own_hashed T.hash_input key) tt key self.old self.new result }
     {
         match self.map.push_own(key, ()) {
             Ok(_place) => Ok(()),
@@ -32,10 +29,7 @@ impl<T: Eq> SmallSet<T> {
         key: Hashed<T>,
     ) -> Result<(), NoRoom<Hashed<T>>>
         requires { match_of T.eq self.old.entries key ≡ None }
-        ensures inserted { OnOk result (IsInserted self.old key tt self.new) }
-        ensures full { OnErr result (self.old.room ≡ 0) }
-        ensures refused { OnErr result (IsRefused self.old self.new) }
-        ensures handed_back { IfErr result (λ refused. refused.0 ≡ key) }
+        ensures puts_last { PutsLast key tt key self.old self.new result }
     {
         match self.map.push(key, ()) {
             Ok(_place) => Ok(()),

@@ -1,10 +1,11 @@
 //! The walks of a `SmallSet`: the list in order, from both ends.
 ghost use Rattle.std.specs.Prelude.{◌≡◌, ◌^◌, ◌<◌, length, map};
 ghost use Rattle.std.specs.Map.{keys_of};
-ghost use Rattle.std.specs.Map.Iter.{ShowsInOrder, ShowsInReverse, GivesInOrder, GivesInReverse, deref};
+ghost use Rattle.std.specs.Map.Iter.{deref};
 ghost use Rattle.starlark_hash.specs.declared.hashed.Hashed.{Hashed as Under};
 ghost use Rattle.starlark_lists.specs.Entries.{IsSingle, entry_key};
 ghost use Rattle.starlark_sets.specs.Unit.{deref_hashed};
+ghost use Rattle.starlark_small.specs.Walks.{GivesEach, ShowsEach};
 
 use super::SmallSet;
 use crate::iter::{IntoIter, IntoIterHashed, Iter, IterHashed};
@@ -15,9 +16,7 @@ impl<T: Eq> SmallSet<T> {
     #[inline]
     pub fn iter(&self) -> Iter<'_, T>
         ensures elements { result ≡ map entry_key self.now.entries }
-        ensures fits { length self.now.entries < 2 ^ 64 }
-        ensures runs { ShowsInOrder (deref {X = T}) }
-        ensures runs_back { ShowsInReverse (deref {X = T}) }
+        ensures runs { ShowsEach self.now.entries result (deref {X = T}) }
     {
         self.map.keys()
     }
@@ -27,9 +26,7 @@ impl<T: Eq> SmallSet<T> {
     pub fn iter_hashed(&self) -> IterHashed<'_, T>
         ensures elements { result ≡ keys_of self.now.entries }
         ensures single { IsSingle T.eq self.now.entries }
-        ensures fits { length self.now.entries < 2 ^ 64 }
-        ensures runs { ShowsInOrder (deref_hashed {T = T}) }
-        ensures runs_back { ShowsInReverse (deref_hashed {T = T}) }
+        ensures runs { ShowsEach self.now.entries result (deref_hashed {T = T}) }
         ensures few { length self.now.entries < 2 ^ 63 }
     {
         IterHashed::new(self.entries())
@@ -52,9 +49,7 @@ impl<T: Eq + Drop> SmallSet<T> {
     #[inline]
     pub fn into_iter_hashed(self) -> IntoIterHashed<T>
         ensures elements { result ≡ keys_of self.entries }
-        ensures fits { length self.entries < 2 ^ 64 }
-        ensures runs { GivesInOrder (Under T) }
-        ensures runs_back { GivesInReverse (Under T) }
+        ensures runs { GivesEach self.entries result (Under T) }
     {
         let SmallSet { map, alloc: _alloc } = self;
         IntoIterHashed::new(map.into_iter_hashed())
@@ -66,7 +61,7 @@ impl<T: Eq + Drop> IntoIterator for SmallSet<T> {
 
     type IntoIter = IntoIter<T>;
 
-    ghost into_iter_gives = { λ s rest. (rest ≡ map entry_key s.entries) × (length s.entries < 2 ^ 64) × GivesInOrder T × GivesInReverse T };
+    ghost into_iter_gives = { λ s rest. (rest ≡ map entry_key s.entries) × GivesEach s.entries rest T };
 
     /// The elements by value, in order of insertion.
     #[inline]
@@ -81,7 +76,7 @@ impl<'a, T: Eq> IntoIterator for &'a SmallSet<T> {
 
     type IntoIter = Iter<'a, T>;
 
-    ghost into_iter_gives = { λ s rest. (rest ≡ map entry_key s.now.entries) × (length s.now.entries < 2 ^ 64) × ShowsInOrder (deref {X = T}) × ShowsInReverse (deref {X = T}) };
+    ghost into_iter_gives = { λ s rest. (rest ≡ map entry_key s.now.entries) × ShowsEach s.now.entries rest (deref {X = T}) };
 
     /// The elements in order of insertion.
     #[inline]

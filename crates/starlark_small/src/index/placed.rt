@@ -1,5 +1,5 @@
 //! Places in a table, and beside it the slot of each: what is taken out or moved is looked for nowhere.
-ghost use Rattle.std.specs.Prelude.{◌≡◌, ℕ, ◌+◌, ◌-◌, ◌*◌, ◌<◌, ◌≤◌, Some, None, ◌∷◌, [], List, Option, length, map, remove, reverse, slice_set, slice_index, slice_index_or, take, vec_capacity, IfOk, OnOk, OnErr, IsPermutation};
+ghost use Rattle.std.specs.Prelude.{◌≡◌, ℕ, ◌+◌, ◌-◌, ◌*◌, ◌<◌, ◌≤◌, Some, ◌∷◌, [], List, Option, length, remove, reverse, slice_set, slice_index, vec_capacity, IfOk, OnOk, OnErr, IsPermutation};
 ghost use Rattle.std.specs.List.{All, Contains};
 ghost use Rattle.std.specs.Option.{option_map};
 ghost use Rattle.starlark_hash.specs.HashValue.{hash_number, promoted};

@@ -1,11 +1,8 @@
 //! `SmallMap`s from the items of iterators.
-ghost use Rattle.std.specs.Prelude.{◌≡◌, ◌+◌, ◌≤◌, ◌||◌, length, nat_lt, None, IfOk, IsOk, OnOk, OnErr};
+ghost use Rattle.std.specs.Prelude.{◌≡◌, ◌+◌, ◌≤◌, None, IfOk, IsOk};
 ghost use Rattle.std.specs.Iterator.{IsFiniteIterable, IsFinite, size};
-ghost use Rattle.starlark_small.specs.Calling.{AreOwn, get};
-ghost use Rattle.starlark_small.specs.Collect.{Collects, Extends, FindsLast, Inserts, IsExtended, KeepsOwn, own_entry};
-ghost use Rattle.starlark_small.specs.Growth.{GrowsInSteps};
-ghost use Rattle.starlark_small.specs.Index.{unindexed};
-ghost use Rattle.starlark_small.specs.Map.{KeepsRoom};
+ghost use Rattle.starlark_small.specs.Collect.{Collects, FindsLast, Inserts, IsExtended, KeepsOwn, own_entry};
+ghost use Rattle.starlark_small.specs.Making.{IsMadeOf, TakesIn};
 
 use super::SmallMap;
 use crate::index::UNINDEXED;
@@ -20,11 +17,7 @@ impl<K: Eq + Hash + Drop, V: Drop> SmallMap<K, V> {
     /// insertions one after the other. The iterator must end.
     pub fn extend<I: IntoIterator<Item = (K, V)>>(&mut self, iter: I) -> Result<(), AllocError>
         requires { IsFiniteIterable I.into_iter_gives I.IntoIter.can_next I.IntoIter.remaining iter }
-        ensures found { OnOk result (FindsLast K.eq K.hash_input I.IntoIter.next_gives I.into_iter_gives iter (get K.eq K.hash_input self.old) self.new) }
-        ensures entries { Extends K.eq (own_entry K.hash_input) I.IntoIter.next_gives I.into_iter_gives iter self.old.entries self.new.entries result }
-        ensures memory { IsExtended ((it : _) → I.into_iter_gives iter it → size (I.IntoIter.remaining it) ≤ self.old.room) self.old self.new result }
-        ensures left { (it : I.IntoIter) × I.into_iter_gives iter it × (self.old.room ≤ self.new.room + size (I.IntoIter.remaining it)) }
-        ensures own { AreOwn K.hash_input self.old → AreOwn K.hash_input self.new }
+        ensures { TakesIn K.eq K.hash_input I.IntoIter.next_gives I.into_iter_gives I.IntoIter.remaining iter self.old self.new result }
     {
         self.insert_items(iter.into_iter())
     }
@@ -39,8 +32,7 @@ impl<K: Eq + Hash + Drop, V: Drop> SmallMap<K, V> {
     ) -> Result<Self, AllocError>
         requires { IsFiniteIterable I.into_iter_gives I.IntoIter.can_next I.IntoIter.remaining iter }
         ensures found { IfOk result (FindsLast K.eq K.hash_input I.IntoIter.next_gives I.into_iter_gives iter (λ _. None)) }
-        ensures map { IfOk result (Collects K.eq (own_entry K.hash_input) I.IntoIter.next_gives I.into_iter_gives I.IntoIter.remaining iter) }
-        ensures own { IfOk result (AreOwn K.hash_input) }
+        ensures made { IfOk result (IsMadeOf K.eq K.hash_input I.IntoIter.next_gives I.into_iter_gives I.IntoIter.remaining iter) }
         ensures succeeds { ((it : _) → I.into_iter_gives iter it → size (I.IntoIter.remaining it) ≡ 0) → IsOk result }
     {
         let items = iter.into_iter();
@@ -54,13 +46,8 @@ impl<K: Eq + Hash + Drop, V: Drop> SmallMap<K, V> {
         requires can { I.can_next items }
         requires finite { IsFinite (I.remaining items) }
         ensures entries { Inserts K.eq (own_entry K.hash_input) I.next_gives items self.old.entries self.new.entries result }
-        ensures succeeds { size (I.remaining items) ≤ self.old.room → IsOk result }
-        ensures spare { size (I.remaining items) ≤ self.old.room → (self.new.capacity ≡ self.old.capacity) × (self.new.indexed ≡ self.old.indexed) }
+        ensures memory { IsExtended (size (I.remaining items) ≤ self.old.room) self.old self.new result }
         ensures left { self.old.room ≤ self.new.room + size (I.remaining items) }
-        ensures full { OnErr result (length self.old.entries + self.old.room ≤ length self.new.entries) }
-        ensures room { KeepsRoom self.old self.new }
-        ensures capacity { GrowsInSteps self.old self.new result }
-        ensures indexed { self.new.indexed ≡ (self.old.indexed || nat_lt unindexed (length self.new.entries)) }
     {
         prove!(self.index().is_some() || self.len() <= UNINDEXED);
         while let Some(pair) = items.next() {
@@ -99,11 +86,7 @@ impl<K: Eq + Drop, V: Drop> SmallMap<K, V> {
         requires can { I.can_next items }
         requires finite { IsFinite (I.remaining items) }
         ensures entries { Inserts K.eq (λ item. item) I.next_gives items self.old.entries self.new.entries result }
-        ensures succeeds { size (I.remaining items) ≤ self.old.room → IsOk result }
-        ensures full { OnErr result (length self.old.entries + self.old.room ≤ length self.new.entries) }
-        ensures room { KeepsRoom self.old self.new }
-        ensures capacity { GrowsInSteps self.old self.new result }
-        ensures indexed { self.new.indexed ≡ (self.old.indexed || nat_lt unindexed (length self.new.entries)) }
+        ensures memory { IsExtended (size (I.remaining items) ≤ self.old.room) self.old self.new result }
     {
         prove!(self.index().is_some() || self.len() <= UNINDEXED);
         while let Some(entry) = items.next() {

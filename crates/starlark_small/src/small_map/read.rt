@@ -1,15 +1,15 @@
 //! What a `SmallMap` has: entries by hash and key, by key alone under its own hash, and by place.
-ghost use Rattle.std.specs.Prelude.{◌≡◌, ◌-◌, ◌<◌, ◌≤◌, ◌==◌, slice_get, length, is_some, map, IfSome, IsPermutation, IsSome, Some};
-ghost use Rattle.std.specs.List.{IsAmong};
+ghost use Rattle.std.specs.Prelude.{◌≡◌, ◌-◌, ◌<◌, ◌≤◌, ◌==◌, slice_get, length, is_some, IfSome, IsPermutation, IsSome, Some};
 ghost use Rattle.std.specs.Map.Iter.{deref_pair};
 ghost use Rattle.std.specs.Option.{option_copied, option_map};
 ghost use Rattle.starlark_hash.specs.HashValue.{hash_of, key_of};
-ghost use Rattle.starlark_lists.specs.Entries.{IsSingle, entry_at, entry_value, value_at, pair_of};
+ghost use Rattle.starlark_hash.specs.Hasher.{own_hash};
+ghost use Rattle.starlark_lists.specs.Entries.{IsSingle, entry_at, value_at, pair_of};
 ghost use Rattle.starlark_lists.specs.Finding.{found};
 ghost use Rattle.starlark_lists.specs.Search.{CanSearch, Searches, keys_under};
 ghost use Rattle.starlark_small.specs.Index.{positions, unindexed};
 ghost use Rattle.starlark_table.specs.Table.{members};
-ghost use Rattle.starlark_small.specs.Calling.{contains, get, get_key};
+ghost use Rattle.starlark_small.specs.Calling.{FindsValue, NamesPlace, TellsPresence, get, get_key};
 ghost use Rattle.starlark_small.specs.Map.{query_match, query_match_by_value, own_match};
 
 use super::SmallMap;
@@ -24,8 +24,7 @@ impl<K: Eq, V> SmallMap<K, V> {
     /// The value under this hash whose key the query is equivalent to.
     #[inline(always)]
     pub fn get_hashed<Q: Equivalent<K>>(&self, key: Hashed<&Q>) -> Option<&V>
-        ensures value { option_copied result ≡ value_at self.now.entries (query_match Q.equivalent self.now.entries key.entry) }
-        ensures found { option_copied result ≡ found (Q.equivalent (key_of key.entry).now) (hash_of key.entry) self.now.entries }
+        ensures { FindsValue (Q.equivalent (key_of key.entry).now) (hash_of key.entry) (query_match Q.equivalent self.now.entries key.entry) self.now (option_copied result) }
     {
         let index = self.get_index_of_hashed(key)?;
         let (_, value) = self.entries.get_unchecked(index);
@@ -113,9 +112,7 @@ impl<K: Eq, V> SmallMap<K, V> {
     /// The value under the query's own hash whose key the query is equivalent to.
     #[inline(always)]
     pub fn get<Q: Equivalent<K> + Hash>(&self, key: &Q) -> Option<&V>
-        ensures value { option_copied result ≡ value_at self.now.entries (own_match Q.equivalent Q.hash_input self.now.entries key.now) }
-        ensures found { option_copied result ≡ get Q.equivalent Q.hash_input self.now key.now }
-        ensures member { IfSome result (λ value. IsAmong (map entry_value self.now.entries) value.now) }
+        ensures { FindsValue (Q.equivalent key.now) (own_hash Q.hash_input key.now) (own_match Q.equivalent Q.hash_input self.now.entries key.now) self.now (option_copied result) }
     {
         self.get_hashed(under_own_hash(key))
     }
@@ -135,9 +132,7 @@ impl<K: Eq, V> SmallMap<K, V> {
     /// The place under the query's own hash whose key the query is equivalent to.
     #[inline(always)]
     pub fn get_index_of<Q: Equivalent<K> + Hash>(&self, key: &Q) -> Option<usize>
-        ensures place { result ≡ own_match Q.equivalent Q.hash_input self.now.entries key.now }
-        ensures found { is_some result ≡ contains Q.equivalent Q.hash_input self.now key.now }
-        ensures within { IfSome result (λ i. i < length self.now.entries) }
+        ensures { NamesPlace (Q.equivalent key.now) (own_hash Q.hash_input key.now) (own_match Q.equivalent Q.hash_input self.now.entries key.now) self.now result }
     {
         self.get_index_of_hashed(under_own_hash(key))
     }
@@ -145,8 +140,7 @@ impl<K: Eq, V> SmallMap<K, V> {
     /// Whether there is an entry under the query's own hash whose key the query is equivalent to.
     #[inline(always)]
     pub fn contains_key<Q: Equivalent<K> + Hash>(&self, key: &Q) -> bool
-        ensures place { result ≡ is_some (own_match Q.equivalent Q.hash_input self.now.entries key.now) }
-        ensures found { result ≡ contains Q.equivalent Q.hash_input self.now key.now }
+        ensures { TellsPresence (Q.equivalent key.now) (own_hash Q.hash_input key.now) (own_match Q.equivalent Q.hash_input self.now.entries key.now) self.now result }
     {
         self.contains_key_hashed(under_own_hash(key))
     }

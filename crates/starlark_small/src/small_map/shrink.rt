@@ -1,14 +1,14 @@
 //! What takes entries out of a `SmallMap`. None of it asks for memory.
-ghost use Rattle.std.specs.Prelude.{◌≡◌, ◌+◌, ◌-◌, ◌<◌, ◌≤◌, [], false, min, nat_le, remove, slice_get, length, is_some, if◌then◌else◌, Some, None, IfSome};
+ghost use Rattle.std.specs.Prelude.{◌≡◌, ◌+◌, ◌-◌, ◌<◌, ◌≤◌, false, min, nat_le, slice_get, length, if◌then◌else◌, Some};
 ghost use Rattle.std.specs.Option.{option_map};
-ghost use Rattle.starlark_lists.specs.Entries.{entry_at, value_at, pair_of, without};
+ghost use Rattle.starlark_lists.specs.Entries.{entry_at, pair_of};
 ghost use Rattle.starlark_hash.specs.Hasher.{own_hash};
 ghost use Rattle.starlark_lists.specs.Finding.{found};
-ghost use Rattle.std.specs.Hash.{HashWrites};
 ghost use Rattle.starlark_hash.specs.HashValue.{hash_of, key_of};
-ghost use Rattle.starlark_small.specs.Calling.{get, AreOwn, IsEmpty, Removes, RemovesAt, TakesOut};
+ghost use Rattle.starlark_small.specs.Calling.{get, FindsValue, Removes, TakesAt};
+ghost use Rattle.starlark_small.specs.Changing.{Clears};
 ghost use Rattle.starlark_small.specs.Index.{unindexed};
-ghost use Rattle.starlark_small.specs.Map.{KeepsMemory, query_match, own_match};
+ghost use Rattle.starlark_small.specs.Map.{query_match, own_match};
 
 use super::SmallMap;
 use crate::own_hash::under_own_hash;
@@ -23,8 +23,7 @@ impl<K: Eq, V> SmallMap<K, V> {
     pub fn shift_remove_hashed<Q: Equivalent<K>>(&mut self, key: Hashed<&Q>) -> Option<V>
     where
         K: Drop,
-        ensures taken { result ≡ value_at self.old.entries (query_match Q.equivalent self.old.entries key.entry) }
-        ensures was { result ≡ found (Q.equivalent (key_of key.entry).now) (hash_of key.entry) self.old.entries }
+        ensures taken { FindsValue (Q.equivalent (key_of key.entry).now) (hash_of key.entry) (query_match Q.equivalent self.old.entries key.entry) self.old result }
         ensures removes { Removes K.eq (Q.equivalent (key_of key.entry).now) (hash_of key.entry) (query_match Q.equivalent self.old.entries key.entry) self.old self.new }
     {
         let (_, value) = self.shift_remove_hashed_entry(key)?;
@@ -49,8 +48,7 @@ impl<K: Eq, V> SmallMap<K, V> {
     pub fn shift_remove<Q: Equivalent<K> + Hash>(&mut self, key: &Q) -> Option<V>
     where
         K: Drop,
-        ensures taken { result ≡ value_at self.old.entries (own_match Q.equivalent Q.hash_input self.old.entries key.now) }
-        ensures was { result ≡ get Q.equivalent Q.hash_input self.old key.now }
+        ensures taken { FindsValue (Q.equivalent key.now) (own_hash Q.hash_input key.now) (own_match Q.equivalent Q.hash_input self.old.entries key.now) self.old result }
         ensures removes { Removes K.eq (Q.equivalent key.now) (own_hash Q.hash_input key.now) (own_match Q.equivalent Q.hash_input self.old.entries key.now) self.old self.new }
     {
         self.shift_remove_hashed(under_own_hash(key))
@@ -73,10 +71,7 @@ impl<K: Eq, V> SmallMap<K, V> {
 impl<K: Eq, V> SmallMap<K, V> {
     /// Removes the entry at a place, and answers its key and value. Those after it move up. Capacity and index stay.
     pub fn shift_remove_index(&mut self, index: usize) -> Option<(K, V)>
-        ensures taken { result ≡ option_map pair_of (slice_get self.old.entries index) }
-        ensures takes { IfSome result (λ p. TakesOut K.eq self.old self.new p.0 p.1) }
-        ensures count { length self.old.entries ≡ length self.new.entries + (if is_some result then 1 else 0) }
-        ensures removes { RemovesAt K.eq index self.old self.new }
+        ensures { TakesAt K.eq index self.old self.new result }
     {
         let (key, value) = self.shift_remove_index_hashed(index)?;
         Some((key.into_key(), value))
@@ -85,9 +80,7 @@ impl<K: Eq, V> SmallMap<K, V> {
     /// Removes the entry at a place, and answers it. Those after it move up. Capacity and index stay.
     pub fn shift_remove_index_hashed(&mut self, index: usize) -> Option<(Hashed<K>, V)>
         ensures taken { result ≡ slice_get self.old.entries index }
-        ensures takes { IfSome result (λ p. TakesOut K.eq self.old self.new (key_of p.0) p.1) }
-        ensures count { length self.old.entries ≡ length self.new.entries + (if is_some result then 1 else 0) }
-        ensures removes { RemovesAt K.eq index self.old self.new }
+        ensures takes { TakesAt K.eq index self.old self.new (option_map pair_of result) }
     {
         if index < self.len() {
             Some(self.take_at(index))
@@ -98,10 +91,7 @@ impl<K: Eq, V> SmallMap<K, V> {
 
     /// Removes the last entry, and answers its key and value. Capacity and index stay.
     pub fn pop(&mut self) -> Option<(K, V)>
-        ensures taken { result ≡ option_map pair_of (slice_get self.old.entries (length self.old.entries - 1)) }
-        ensures takes { IfSome result (λ p. TakesOut K.eq self.old self.new p.0 p.1) }
-        ensures count { length self.old.entries ≡ length self.new.entries + (if is_some result then 1 else 0) }
-        ensures removes { RemovesAt K.eq (length self.old.entries - 1) self.old self.new }
+        ensures { TakesAt K.eq (length self.old.entries - 1) self.old self.new result }
     {
         let (key, value) = self.take_last()?;
         Some((key.into_key(), value))
@@ -113,10 +103,7 @@ impl<K: Eq, V> SmallMap<K, V> {
     where
         K: Drop,
         V: Drop,
-        ensures entries { self.new.entries ≡ [] }
-        ensures lacks { IsEmpty self.new }
-        ensures own { (feeds : K → HashWrites) → AreOwn feeds self.new }
-        ensures kept { KeepsMemory self.old self.new }
+        ensures { Clears self.old self.new }
     {
         prove!(self.entries.len() <= self.entries.capacity());
         self.index.forget_all(&self.entries);
@@ -140,9 +127,7 @@ impl<K: Eq, V> SmallMap<K, V> {
     fn take_at(&mut self, index: usize) -> (Hashed<K>, V)
         requires { index < length self.old.entries }
         ensures taken { slice_get self.old.entries index ≡ Some result }
-        ensures takes { TakesOut K.eq self.old self.new (key_of result.0) result.1 }
-        ensures count { length self.old.entries ≡ length self.new.entries + 1 }
-        ensures removes { RemovesAt K.eq index self.old self.new }
+        ensures takes { TakesAt K.eq index self.old self.new (Some (pair_of result)) }
     {
         prove!(self.entries.len() <= self.entries.capacity());
         self.index.forget(&self.entries, index);
@@ -153,9 +138,7 @@ impl<K: Eq, V> SmallMap<K, V> {
     #[inline]
     fn take_last(&mut self) -> Option<(Hashed<K>, V)>
         ensures taken { result ≡ slice_get self.old.entries (length self.old.entries - 1) }
-        ensures takes { IfSome result (λ p. TakesOut K.eq self.old self.new (key_of p.0) p.1) }
-        ensures count { length self.old.entries ≡ length self.new.entries + (if is_some result then 1 else 0) }
-        ensures removes { RemovesAt K.eq (length self.old.entries - 1) self.old self.new }
+        ensures takes { TakesAt K.eq (length self.old.entries - 1) self.old self.new (option_map pair_of result) }
     {
         prove!(self.entries.len() <= self.entries.capacity());
         self.index.forget_last(&self.entries);

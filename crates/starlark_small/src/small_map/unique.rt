@@ -1,10 +1,10 @@
 //! New entries of a `SmallMap` that no look-up precedes, and the references to them.
-ghost use Rattle.std.specs.Prelude.{◌≡◌, ◌<◌, length, slice_get, Some, None, IfErr, IfOk, OnErr, OnOk};
+ghost use Rattle.std.specs.Prelude.{◌≡◌, ◌<◌, length, slice_get, Some, None, IfErr, IfOk, OnErr};
 ghost use Rattle.std.specs.Borrow.{sem};
 ghost use Rattle.std.specs.Option.{option_map};
 ghost use Rattle.starlark_lists.specs.Entries.{match_of, pair_of};
 ghost use Rattle.starlark_hash.specs.HashValue.{key_of};
-ghost use Rattle.starlark_small.specs.Inserted.{IsInserted, IsRefused};
+ghost use Rattle.starlark_small.specs.Inserting.{PutsLast};
 ghost use Rattle.starlark_small.specs.Lending.{lends_inserted, lends_value, unhashed};
 ghost use Rattle.starlark_small.specs.Map.{own_hashed};
 
@@ -59,10 +59,7 @@ impl<K: Eq, V> SmallMap<K, V> {
         K: Hash,
         requires { match_of K.eq self.old.entries (own_hashed K.hash_input key) ≡ None }
         ensures place { IfOk result (λ i. i ≡ length self.old.entries) }
-        ensures inserted { OnOk result (IsInserted self.old (own_hashed K.hash_input key) value self.new) }
-        ensures full { OnErr result (self.old.room ≡ 0) }
-        ensures refused { OnErr result (IsRefused self.old self.new) }
-        ensures handed_back { IfErr result (λ refused. refused.0 ≡ (key, value)) }
+        ensures puts_last { PutsLast (own_hashed K.hash_input key) value (key, value) self.old self.new result }
     {
         match self.push(Hashed::new(key), value) {
             Ok(place) => Ok(place),
@@ -74,10 +71,7 @@ impl<K: Eq, V> SmallMap<K, V> {
     pub fn push(&mut self, key: Hashed<K>, value: V) -> Result<usize, NoRoom<(Hashed<K>, V)>>
         requires { match_of K.eq self.old.entries key ≡ None }
         ensures place { IfOk result (λ i. i ≡ length self.old.entries) }
-        ensures inserted { OnOk result (IsInserted self.old key value self.new) }
-        ensures full { OnErr result (self.old.room ≡ 0) }
-        ensures refused { OnErr result (IsRefused self.old self.new) }
-        ensures handed_back { IfErr result (λ refused. refused.0 ≡ (key, value)) }
+        ensures puts_last { PutsLast key value (key, value) self.old self.new result }
     {
         // memory for the list and for the index is had before the entry is stored
         if let Err(_) = self.reserve(1) {

@@ -1,9 +1,10 @@
 //! The walks of a `SmallMap`: the list in order, from both ends.
 ghost use Rattle.std.specs.Prelude.{◌≡◌, ◌^◌, ◌<◌, length, map};
 ghost use Rattle.std.specs.Map.{values_of};
-ghost use Rattle.std.specs.Map.Iter.{ShowsInOrder, ShowsInReverse, GivesInOrder, GivesInReverse, deref, deref_pair};
+ghost use Rattle.std.specs.Map.Iter.{deref, deref_pair};
 ghost use Rattle.starlark_lists.specs.Entries.{Entry, IsSingle, entry_key, entry_value, pair_of};
 ghost use Rattle.starlark_small.specs.Iter.{deref_entry};
+ghost use Rattle.starlark_small.specs.Walks.{GivesEach, ShowsEach};
 
 use super::SmallMap;
 use crate::iter::{IntoIter, IntoIterHashed, IntoKeys, IntoValues, Iter, IterHashed, Keys, Values};
@@ -14,10 +15,7 @@ impl<K: Eq, V> SmallMap<K, V> {
     #[inline]
     pub fn keys(&self) -> Keys<'_, K, V>
         ensures keys { result ≡ map entry_key self.now.entries }
-        ensures count { length result ≡ length self.now.entries }
-        ensures fits { length self.now.entries < 2 ^ 64 }
-        ensures runs { ShowsInOrder (deref {X = K}) }
-        ensures runs_back { ShowsInReverse (deref {X = K}) }
+        ensures runs { ShowsEach self.now.entries result (deref {X = K}) }
     {
         self.entries.keys()
     }
@@ -27,10 +25,7 @@ impl<K: Eq, V> SmallMap<K, V> {
     #[inline]
     pub fn values(&self) -> Values<'_, K, V>
         ensures values { result ≡ map entry_value self.now.entries }
-        ensures count { length result ≡ length self.now.entries }
-        ensures fits { length self.now.entries < 2 ^ 64 }
-        ensures runs { ShowsInOrder (deref {X = V}) }
-        ensures runs_back { ShowsInReverse (deref {X = V}) }
+        ensures runs { ShowsEach self.now.entries result (deref {X = V}) }
     {
         self.entries.values()
     }
@@ -41,10 +36,7 @@ impl<K: Eq, V> SmallMap<K, V> {
     pub fn iter(&self) -> Iter<'_, K, V>
         ensures pairs { result ≡ map pair_of self.now.entries }
         ensures values { values_of result ≡ map entry_value self.now.entries }
-        ensures count { length result ≡ length self.now.entries }
-        ensures fits { length self.now.entries < 2 ^ 64 }
-        ensures runs { ShowsInOrder (deref_pair {K = K} {X = V}) }
-        ensures runs_back { ShowsInReverse (deref_pair {K = K} {X = V}) }
+        ensures runs { ShowsEach self.now.entries result (deref_pair {K = K} {X = V}) }
     {
         self.entries.iter()
     }
@@ -54,9 +46,7 @@ impl<K: Eq, V> SmallMap<K, V> {
     pub fn iter_hashed(&self) -> IterHashed<'_, K, V>
         ensures entries { result ≡ self.now.entries }
         ensures single { IsSingle K.eq self.now.entries }
-        ensures runs { ShowsInOrder (deref_entry {K = K} {V = V}) }
-        ensures runs_back { ShowsInReverse (deref_entry {K = K} {V = V}) }
-        ensures fits { length self.now.entries < 2 ^ 64 }
+        ensures runs { ShowsEach self.now.entries result (deref_entry {K = K} {V = V}) }
         ensures few { length self.now.entries < 2 ^ 63 }
     {
         self.entries.iter_hashed()
@@ -69,10 +59,7 @@ impl<K: Eq + Drop, V: Drop> SmallMap<K, V> {
     #[inline]
     pub fn into_keys(self) -> IntoKeys<K, V>
         ensures keys { result ≡ map entry_key self.entries }
-        ensures count { length result ≡ length self.entries }
-        ensures fits { length self.entries < 2 ^ 64 }
-        ensures runs { GivesInOrder K }
-        ensures runs_back { GivesInReverse K }
+        ensures runs { GivesEach self.entries result K }
     {
         let SmallMap {
             entries,
@@ -86,10 +73,7 @@ impl<K: Eq + Drop, V: Drop> SmallMap<K, V> {
     #[inline]
     pub fn into_values(self) -> IntoValues<K, V>
         ensures values { result ≡ map entry_value self.entries }
-        ensures count { length result ≡ length self.entries }
-        ensures fits { length self.entries < 2 ^ 64 }
-        ensures runs { GivesInOrder V }
-        ensures runs_back { GivesInReverse V }
+        ensures runs { GivesEach self.entries result V }
     {
         let SmallMap {
             entries,
@@ -103,9 +87,7 @@ impl<K: Eq + Drop, V: Drop> SmallMap<K, V> {
     pub fn into_iter_hashed(self) -> IntoIterHashed<K, V>
         ensures entries { result ≡ self.entries }
         ensures single { IsSingle K.eq self.entries }
-        ensures fits { length self.entries < 2 ^ 64 }
-        ensures runs { GivesInOrder (Entry K V) }
-        ensures runs_back { GivesInReverse (Entry K V) }
+        ensures runs { GivesEach self.entries result (Entry K V) }
     {
         let SmallMap {
             entries,
@@ -120,15 +102,14 @@ impl<K: Eq + Drop, V: Drop> IntoIterator for SmallMap<K, V> {
 
     type IntoIter = IntoIter<K, V>;
 
-    ghost into_iter_gives = { λ m rest. (rest ≡ map pair_of m.entries) × (length m.entries < 2 ^ 64) × GivesInOrder (K × V) × GivesInReverse (K × V) };
+    ghost into_iter_gives = { λ m rest. (rest ≡ map pair_of m.entries) × GivesEach m.entries rest (K × V) };
 
     /// The keys and values by value, in order of insertion.
     #[tactic(auto, using(crate::proofs::CallerWalked::walked))]
     #[inline]
     fn into_iter(self) -> IntoIter<K, V>
-        ensures into_iter_gives { (result ≡ map pair_of self.entries) × (length self.entries < 2 ^ 64) × GivesInOrder (K × V) × GivesInReverse (K × V) }
+        ensures into_iter_gives { (result ≡ map pair_of self.entries) × GivesEach self.entries result (K × V) }
         ensures values { values_of result ≡ map entry_value self.entries }
-        ensures count { length result ≡ length self.entries }
     {
         let SmallMap {
             entries,
@@ -143,14 +124,13 @@ impl<'a, K: Eq, V> IntoIterator for &'a SmallMap<K, V> {
 
     type IntoIter = Iter<'a, K, V>;
 
-    ghost into_iter_gives = { λ m rest. (rest ≡ map pair_of m.now.entries) × (length m.now.entries < 2 ^ 64) × ShowsInOrder (deref_pair {K = K} {X = V}) × ShowsInReverse (deref_pair {K = K} {X = V}) };
+    ghost into_iter_gives = { λ m rest. (rest ≡ map pair_of m.now.entries) × ShowsEach m.now.entries rest (deref_pair {K = K} {X = V}) };
 
     /// The keys and values in order of insertion.
     #[inline]
     fn into_iter(self) -> Iter<'a, K, V>
-        ensures into_iter_gives { (result ≡ map pair_of self.now.entries) × (length self.now.entries < 2 ^ 64) × ShowsInOrder (deref_pair {K = K} {X = V}) × ShowsInReverse (deref_pair {K = K} {X = V}) }
+        ensures into_iter_gives { (result ≡ map pair_of self.now.entries) × ShowsEach self.now.entries result (deref_pair {K = K} {X = V}) }
         ensures values { values_of result ≡ map entry_value self.now.entries }
-        ensures count { length result ≡ length self.now.entries }
     {
         self.iter()
     }

@@ -4,9 +4,10 @@ ghost use Rattle.std.specs.Borrow.{sem};
 ghost use Rattle.std.specs.Map.{values_of};
 ghost use Rattle.std.specs.Option.{option_copied_mut, IfNone};
 ghost use Rattle.starlark_lists.specs.Entries.{entry_value, pair_of, value_at};
-ghost use Rattle.starlark_small.specs.Calling.{get};
+ghost use Rattle.starlark_hash.specs.Hasher.{own_hash};
+ghost use Rattle.starlark_small.specs.Calling.{FindsValue};
 ghost use Rattle.starlark_small.specs.Map.{query_match, own_match};
-ghost use Rattle.starlark_small.specs.Lending.{lends_value, lends_found, lends_get, values_follow, KeepsKeys, KeepsLength, KeepsMembers, KeepsOwnHashes};
+ghost use Rattle.starlark_small.specs.Lending.{lends_value, lends_found, lends_get, values_follow, KeepsAllButValues};
 
 use super::SmallMap;
 use crate::iter::{IterMut, ValuesMut};
@@ -34,9 +35,7 @@ impl<K: Eq, V> SmallMap<K, V> {
     #[inline(always)]
     pub fn get_mut<Q: Equivalent<K> + Hash>(&mut self, key: &Q) -> Option<&mut V>
         ensures* writes_back { sem 𝓛 (lends_get K.row V.row K.PartialEq self.entry Q.equivalent Q.hash_input key.now result) }
-        ensures value { option_copied_mut result ≡ value_at self.old.entries (own_match Q.equivalent Q.hash_input self.old.entries key.now) }
-        ensures found { option_copied_mut result ≡ get Q.equivalent Q.hash_input self.old key.now }
-        ensures absent { IfNone result (own_match Q.equivalent Q.hash_input self.old.entries key.now ≡ None) }
+        ensures finds { FindsValue (Q.equivalent key.now) (own_hash Q.hash_input key.now) (own_match Q.equivalent Q.hash_input self.old.entries key.now) self.old (option_copied_mut result) }
     {
         self.get_mut_hashed(under_own_hash(key))
     }
@@ -59,10 +58,7 @@ impl<K: Eq, V> SmallMap<K, V> {
         ensures* writes_back { sem 𝓛 (values_follow K.row V.row K.PartialEq self.entry result.1) }
         ensures pairs { result.0 ≡ map pair_of self.old.entries }
         ensures fits { length self.old.entries < 2 ^ 64 }
-        ensures keeps { KeepsKeys self.old }
-        ensures keeps_length { KeepsLength self.old }
-        ensures keeps_members { KeepsMembers K.eq self.old }
-        ensures keeps_own { KeepsOwnHashes self.old }
+        ensures keeps { KeepsAllButValues K.eq self.old }
     {
         self.entries.iter_mut()
     }
@@ -75,10 +71,7 @@ impl<K: Eq, V> SmallMap<K, V> {
         ensures* writes_back { sem 𝓛 (values_follow K.row V.row K.PartialEq self.entry result.1) }
         ensures values { values_of result.0 ≡ map entry_value self.old.entries }
         ensures fits { length self.old.entries < 2 ^ 64 }
-        ensures keeps { KeepsKeys self.old }
-        ensures keeps_length { KeepsLength self.old }
-        ensures keeps_members { KeepsMembers K.eq self.old }
-        ensures keeps_own { KeepsOwnHashes self.old }
+        ensures keeps { KeepsAllButValues K.eq self.old }
     {
         ValuesMut::of(self.iter_mut())
     }
@@ -96,10 +89,7 @@ impl<'a, K: Eq, V> IntoIterator for &'a mut SmallMap<K, V> {
     fn into_iter(self) -> IterMut<'a, K, V>
         ensures* writes_back { sem 𝓛 (values_follow K.row V.row K.PartialEq self.entry result.1) }
         ensures into_iter_gives { (result.0 ≡ map pair_of self.old.entries) × (length self.old.entries < 2 ^ 64) }
-        ensures keeps { KeepsKeys self.old }
-        ensures keeps_length { KeepsLength self.old }
-        ensures keeps_members { KeepsMembers K.eq self.old }
-        ensures keeps_own { KeepsOwnHashes self.old }
+        ensures keeps { KeepsAllButValues K.eq self.old }
     {
         self.iter_mut()
     }

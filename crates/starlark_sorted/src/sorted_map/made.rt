@@ -1,20 +1,13 @@
 //! `SortedMap`s made of other maps, of an iterator's items, and of clones.
-ghost use Rattle.std.specs.Prelude.{◌≡◌, is_some, length, nat_lt, None, IsOk, IsTrue, IfOk, IfErr};
+ghost use Rattle.std.specs.Prelude.{◌≡◌, None, IsOk, IsTrue, IfOk};
 ghost use Rattle.std.specs.Hash.{HashWrites};
 ghost use Rattle.std.specs.Iterator.{IsFiniteIterable};
-ghost use Rattle.std.specs.List.{AllZip};
-ghost use Rattle.starlark_hash.specs.declared.hash_value.StarlarkHashValue.{StarlarkHashValue};
-ghost use Rattle.starlark_lists.specs.Finding.{found};
-ghost use Rattle.starlark_lists.specs.Sorting.{Ascends};
-ghost use Rattle.starlark_small.specs.Calling.{IsSameAt};
 ghost use Rattle.starlark_small.specs.Clone.{IsEqualClone};
 ghost use Rattle.starlark_small.specs.Collect.{FindsLast, own_entry};
-ghost use Rattle.starlark_small.specs.Index.{unindexed};
-ghost use Rattle.starlark_small.specs.Map.{KeepsMemory};
-ghost use Rattle.starlark_vec2.specs.Collect.{IsLawfulClone};
-ghost use Rattle.starlark_lists.specs.Clone.{IsEntryClone};
+ghost use Rattle.starlark_small.specs.Making.{Clones};
 ghost use Rattle.starlark_sorted.specs.Collect.{GivesNothing};
-ghost use Rattle.starlark_sorted.specs.Sorted.{AreOwn, CollectsSorted, IsSortedOf};
+ghost use Rattle.starlark_sorted.specs.Making.{SortsInto};
+ghost use Rattle.starlark_sorted.specs.Sorted.{AreOwn, CollectsSorted};
 
 use super::SortedMap;
 use starlark_sets::OrderedMap;
@@ -27,11 +20,7 @@ impl<K: Ord + Hash, V> SortedMap<K, V> {
     /// asks for no memory. Where memory is refused, the map is handed back with its entries as they were. Capacity and
     /// index are those of the map, done or refused.
     pub fn from_ordered_map(map: OrderedMap<K, V>) -> Result<Self, OrderedMap<K, V>>
-        ensures sorted { IfOk result (IsSortedOf K.cmp map) }
-        ensures same { IfOk result (IsSameAt K.eq map) }
-        ensures handed_back { IfErr result (λ source. source.entries ≡ map.entries) }
-        ensures kept { IfErr result (KeepsMemory map) }
-        ensures succeeds { Ascends K.cmp map.entries → IsOk result }
+        ensures { SortsInto K.eq K.cmp map result }
     {
         let mut map = map;
         match map.sort_keys() {
@@ -43,11 +32,7 @@ impl<K: Ord + Hash, V> SortedMap<K, V> {
     /// As `from_ordered_map`, of a `SmallMap`.
     #[tactic(auto, using(crate::proofs::Ascending::sorted_ascends))]
     pub fn from_small_map(map: SmallMap<K, V>) -> Result<Self, SmallMap<K, V>>
-        ensures sorted { IfOk result (IsSortedOf K.cmp map) }
-        ensures same { IfOk result (IsSameAt K.eq map) }
-        ensures handed_back { IfErr result (λ source. source.entries ≡ map.entries) }
-        ensures kept { IfErr result (KeepsMemory map) }
-        ensures succeeds { Ascends K.cmp map.entries → IsOk result }
+        ensures { SortsInto K.eq K.cmp map result }
     {
         let mut source = map;
         match source.sort_keys() {
@@ -88,13 +73,8 @@ impl<K: Ord + Hash + Clone, V: Clone> SortedMap<K, V> {
     pub fn clone(&self) -> Result<Self, AllocError>
         // A clone of a key is equal to it.
         requires { IsEqualClone K.eq K.is_clone }
-        ensures entries { IfOk result (λ map. AllZip (IsEntryClone K.is_clone V.is_clone) self.now.entries map.entries) }
-        ensures same { IfOk result (λ map. IsLawfulClone K.is_clone → IsLawfulClone V.is_clone → map.entries ≡ self.now.entries) }
-        ensures found { IfOk result (λ map. (under : StarlarkHashValue) (key : K) → is_some (found (K.eq key) under map.entries) ≡ is_some (found (K.eq key) under self.now.entries)) }
+        ensures clones { Clones K.eq K.is_clone V.is_clone self.now result }
         ensures own { IfOk result (λ map. (feeds : K → HashWrites) → ((x y : K) → IsTrue (K.eq x y) → feeds x ≡ feeds y) → AreOwn feeds self.now.entries → AreOwn feeds map.entries) }
-        ensures capacity { IfOk result (λ map. map.capacity ≡ length self.now.entries) }
-        ensures indexed { IfOk result (λ map. map.indexed ≡ nat_lt unindexed (length self.now.entries)) }
-        ensures succeeds { length self.now.entries ≡ 0 → IsOk result }
     {
         Ok(SortedMap {
             map: self.map.clone()?,

@@ -1,9 +1,9 @@
 //! What a `SortedMap` has: entries by key under its own hash.
-ghost use Rattle.std.specs.Prelude.{◌≡◌, ◌==◌, length, is_some};
+ghost use Rattle.std.specs.Prelude.{◌≡◌, ◌==◌, length};
 ghost use Rattle.std.specs.Option.{option_copied};
-ghost use Rattle.starlark_lists.specs.Entries.{value_at};
 ghost use Rattle.starlark_small.specs.Map.{own_match};
-ghost use Rattle.starlark_small.specs.Calling.{contains, get};
+ghost use Rattle.starlark_hash.specs.Hasher.{own_hash};
+ghost use Rattle.starlark_small.specs.Calling.{FindsValue, TellsPresence};
 
 use super::SortedMap;
 use starlark_hash::Equivalent;
@@ -29,8 +29,7 @@ impl<K: Ord + Hash, V> SortedMap<K, V> {
     /// The value under the query's own hash whose key the query is equivalent to.
     #[inline]
     pub fn get<Q: Equivalent<K> + Hash>(&self, key: &Q) -> Option<&V>
-        ensures value { option_copied result ≡ value_at self.now.entries (own_match Q.equivalent Q.hash_input self.now.entries key.now) }
-        ensures found { option_copied result ≡ get Q.equivalent Q.hash_input self.now key.now }
+        ensures { FindsValue (Q.equivalent key.now) (own_hash Q.hash_input key.now) (own_match Q.equivalent Q.hash_input self.now.entries key.now) self.now (option_copied result) }
     {
         self.map.get(key)
     }
@@ -38,8 +37,7 @@ impl<K: Ord + Hash, V> SortedMap<K, V> {
     /// Whether there is an entry under the query's own hash whose key the query is equivalent to.
     #[inline]
     pub fn contains_key<Q: Equivalent<K> + Hash>(&self, key: &Q) -> bool
-        ensures place { result ≡ is_some (own_match Q.equivalent Q.hash_input self.now.entries key.now) }
-        ensures found { result ≡ contains Q.equivalent Q.hash_input self.now key.now }
+        ensures { TellsPresence (Q.equivalent key.now) (own_hash Q.hash_input key.now) (own_match Q.equivalent Q.hash_input self.now.entries key.now) self.now result }
     {
         self.map.contains_key(key)
     }

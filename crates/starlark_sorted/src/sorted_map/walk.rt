@@ -1,10 +1,11 @@
 //! The walks of a `SortedMap`, in ascending order of the keys.
-ghost use Rattle.std.specs.Prelude.{◌≡◌, ◌^◌, ◌<◌, length, map};
-ghost use Rattle.std.specs.Map.Iter.{ShowsInOrder, ShowsInReverse, GivesInOrder, GivesInReverse, deref, deref_pair};
+ghost use Rattle.std.specs.Prelude.{◌≡◌, map};
+ghost use Rattle.std.specs.Map.Iter.{deref, deref_pair};
 ghost use Rattle.starlark_lists.specs.Entries.{IsSingle, entry_key, entry_value, pair_of};
 ghost use Rattle.starlark_lists.specs.Sorting.{Ascends};
 ghost use Rattle.starlark_small.specs.Iter.{deref_entry};
 ghost use Rattle.starlark_sorted.specs.Sorted.{AreOwn, AscendsAlong, AscendsStrictly};
+ghost use Rattle.starlark_small.specs.Walks.{GivesEach, ShowsEach};
 
 use super::SortedMap;
 use starlark_small::{IntoIter, Iter, IterHashed, Keys, Values};
@@ -16,9 +17,7 @@ impl<K: Ord + Hash, V> SortedMap<K, V> {
     pub fn iter(&self) -> Iter<'_, K, V>
         ensures pairs { result ≡ map pair_of self.now.entries }
         ensures ascends { Ascends K.cmp self.now.entries }
-        ensures fits { length self.now.entries < 2 ^ 64 }
-        ensures runs { ShowsInOrder (deref_pair {K = K} {X = V}) }
-        ensures runs_back { ShowsInReverse (deref_pair {K = K} {X = V}) }
+        ensures runs { ShowsEach self.now.entries result (deref_pair {K = K} {X = V}) }
     {
         self.map.iter()
     }
@@ -29,9 +28,7 @@ impl<K: Ord + Hash, V> SortedMap<K, V> {
         ensures keys { result ≡ map entry_key self.now.entries }
         ensures ascends { Ascends K.cmp self.now.entries }
         ensures along { AscendsAlong K.cmp result }
-        ensures fits { length self.now.entries < 2 ^ 64 }
-        ensures runs { ShowsInOrder (deref {X = K}) }
-        ensures runs_back { ShowsInReverse (deref {X = K}) }
+        ensures runs { ShowsEach self.now.entries result (deref {X = K}) }
     {
         self.map.keys()
     }
@@ -41,9 +38,7 @@ impl<K: Ord + Hash, V> SortedMap<K, V> {
     pub fn values(&self) -> Values<'_, K, V>
         ensures values { result ≡ map entry_value self.now.entries }
         ensures ascends { Ascends K.cmp self.now.entries }
-        ensures fits { length self.now.entries < 2 ^ 64 }
-        ensures runs { ShowsInOrder (deref {X = V}) }
-        ensures runs_back { ShowsInReverse (deref {X = V}) }
+        ensures runs { ShowsEach self.now.entries result (deref {X = V}) }
     {
         self.map.values()
     }
@@ -56,9 +51,7 @@ impl<K: Ord + Hash, V> SortedMap<K, V> {
         ensures single { IsSingle K.eq self.now.entries }
         ensures ascends { Ascends K.cmp self.now.entries }
         ensures strictly { AreOwn K.hash_input self.now.entries → AscendsStrictly K.cmp self.now.entries }
-        ensures fits { length self.now.entries < 2 ^ 64 }
-        ensures runs { ShowsInOrder (deref_entry {K = K} {V = V}) }
-        ensures runs_back { ShowsInReverse (deref_entry {K = K} {V = V}) }
+        ensures runs { ShowsEach self.now.entries result (deref_entry {K = K} {V = V}) }
     {
         self.map.iter_hashed()
     }
@@ -69,7 +62,7 @@ impl<K: Ord + Hash + Drop, V: Drop> IntoIterator for SortedMap<K, V> {
 
     type IntoIter = IntoIter<K, V>;
 
-    ghost into_iter_gives = { λ m rest. (rest ≡ map pair_of m.entries) × Ascends K.cmp m.entries × (length m.entries < 2 ^ 64) × GivesInOrder (K × V) × GivesInReverse (K × V) };
+    ghost into_iter_gives = { λ m rest. (rest ≡ map pair_of m.entries) × Ascends K.cmp m.entries × GivesEach m.entries rest (K × V) };
 
     /// The keys and values by value, in order.
     #[inline]
@@ -83,7 +76,7 @@ impl<'a, K: Ord + Hash, V> IntoIterator for &'a SortedMap<K, V> {
 
     type IntoIter = Iter<'a, K, V>;
 
-    ghost into_iter_gives = { λ m rest. (rest ≡ map pair_of m.now.entries) × Ascends K.cmp m.now.entries × (length m.now.entries < 2 ^ 64) × ShowsInOrder (deref_pair {K = K} {X = V}) × ShowsInReverse (deref_pair {K = K} {X = V}) };
+    ghost into_iter_gives = { λ m rest. (rest ≡ map pair_of m.now.entries) × Ascends K.cmp m.now.entries × ShowsEach m.now.entries rest (deref_pair {K = K} {X = V}) };
 
     /// The keys and values in order.
     #[inline]

@@ -1,12 +1,13 @@
 //! Values of a `SortedMap` to be written. Keys and hashes stay.
-ghost use Rattle.std.specs.Prelude.{◌≡◌, ◌^◌, ◌<◌, length, map, None};
+ghost use Rattle.std.specs.Prelude.{◌≡◌, ◌^◌, ◌<◌, length, map};
 ghost use Rattle.std.specs.Borrow.{sem};
 ghost use Rattle.std.specs.Map.{values_of};
-ghost use Rattle.std.specs.Option.{option_copied_mut, IfNone};
-ghost use Rattle.starlark_lists.specs.Entries.{entry_value, pair_of, value_at};
+ghost use Rattle.std.specs.Option.{option_copied_mut};
+ghost use Rattle.starlark_lists.specs.Entries.{entry_value, pair_of};
 ghost use Rattle.starlark_small.specs.Map.{own_match};
 ghost use Rattle.starlark_hash.specs.Hasher.{own_hash};
-ghost use Rattle.starlark_small.specs.Calling.{get};
+ghost use Rattle.starlark_small.specs.Calling.{FindsValue};
+ghost use Rattle.starlark_small.specs.Lending.{KeepsAllButValues};
 ghost use Rattle.starlark_sorted.specs.Lending.{lends_get, values_follow};
 
 use super::SortedMap;
@@ -22,6 +23,7 @@ impl<K: Ord + Hash, V> SortedMap<K, V> {
         ensures* writes_back { sem 𝓛 (values_follow K.row V.row K.cmp K.eq K.partial_cmp K.hash_input self.entry result.1) }
         ensures pairs { result.0 ≡ map pair_of self.old.entries }
         ensures fits { length self.old.entries < 2 ^ 64 }
+        ensures keeps { KeepsAllButValues K.eq self.old }
     {
         self.map.iter_mut()
     }
@@ -34,6 +36,7 @@ impl<K: Ord + Hash, V> SortedMap<K, V> {
         ensures* writes_back { sem 𝓛 (values_follow K.row V.row K.cmp K.eq K.partial_cmp K.hash_input self.entry result.1) }
         ensures values { values_of result.0 ≡ map entry_value self.old.entries }
         ensures fits { length self.old.entries < 2 ^ 64 }
+        ensures keeps { KeepsAllButValues K.eq self.old }
     {
         ValuesMut::of(self.iter_mut())
     }
@@ -43,9 +46,7 @@ impl<K: Ord + Hash, V> SortedMap<K, V> {
     #[inline]
     pub fn get_mut<Q: Equivalent<K> + Hash>(&mut self, key: &Q) -> Option<&mut V>
         ensures* writes_back { sem 𝓛 (lends_get K.row V.row K.cmp K.eq K.partial_cmp K.hash_input self.entry (Q.equivalent key.now) (own_hash Q.hash_input key.now) result) }
-        ensures found { option_copied_mut result ≡ get Q.equivalent Q.hash_input self.old key.now }
-        ensures value { option_copied_mut result ≡ value_at self.old.entries (own_match Q.equivalent Q.hash_input self.old.entries key.now) }
-        ensures absent { IfNone result (own_match Q.equivalent Q.hash_input self.old.entries key.now ≡ None) }
+        ensures finds { FindsValue (Q.equivalent key.now) (own_hash Q.hash_input key.now) (own_match Q.equivalent Q.hash_input self.old.entries key.now) self.old (option_copied_mut result) }
     {
         self.map.get_mut(key)
     }
@@ -63,6 +64,7 @@ impl<'a, K: Ord + Hash, V> IntoIterator for &'a mut SortedMap<K, V> {
     fn into_iter(self) -> IterMut<'a, K, V>
         ensures* writes_back { sem 𝓛 (values_follow K.row V.row K.cmp K.eq K.partial_cmp K.hash_input self.entry result.1) }
         ensures into_iter_gives { (result.0 ≡ map pair_of self.old.entries) × (length self.old.entries < 2 ^ 64) }
+        ensures keeps { KeepsAllButValues K.eq self.old }
     {
         self.iter_mut()
     }

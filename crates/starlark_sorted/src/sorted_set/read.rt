@@ -1,10 +1,11 @@
 //! What a `SortedSet` has: elements under their own hashes, and by place.
-ghost use Rattle.std.specs.Prelude.{◌≡◌, ◌==◌, slice_get, length, is_some, IfSome, IsTrue};
+ghost use Rattle.std.specs.Prelude.{◌≡◌, ◌==◌, slice_get, length};
 ghost use Rattle.std.specs.Option.{option_copied, option_map};
 ghost use Rattle.starlark_lists.specs.Entries.{entry_key};
 ghost use Rattle.starlark_small.specs.Map.{own_match};
-ghost use Rattle.starlark_small.specs.Calling.{contains, get_key};
-ghost use Rattle.starlark_sets.specs.Set.{element_at};
+ghost use Rattle.starlark_hash.specs.Hasher.{own_hash};
+ghost use Rattle.starlark_small.specs.Calling.{TellsPresence};
+ghost use Rattle.starlark_sets.specs.Taking.{ShowsElement};
 
 use super::SortedSet;
 use starlark_hash::Equivalent;
@@ -30,10 +31,7 @@ impl<T: Ord + Hash> SortedSet<T> {
     /// The element under the query's own hash to which the query is equivalent.
     #[inline]
     pub fn get<Q: Equivalent<T> + Hash>(&self, value: &Q) -> Option<&T>
-        ensures element { option_copied result ≡ element_at self.now (own_match Q.equivalent Q.hash_input self.now.entries value.now) }
-        ensures found { option_copied result ≡ get_key Q.equivalent Q.hash_input self.now value.now }
-        ensures is_there { is_some result ≡ contains Q.equivalent Q.hash_input self.now value.now }
-        ensures equivalent { IfSome result (λ element. IsTrue (Q.equivalent value.now element.now)) }
+        ensures { ShowsElement (Q.equivalent value.now) (own_hash Q.hash_input value.now) (own_match Q.equivalent Q.hash_input self.now.entries value.now) self.now result }
     {
         self.inner.get(value)
     }
@@ -41,8 +39,7 @@ impl<T: Ord + Hash> SortedSet<T> {
     /// Whether there is an element under the query's own hash to which the query is equivalent.
     #[inline]
     pub fn contains<Q: Equivalent<T> + Hash>(&self, value: &Q) -> bool
-        ensures place { result ≡ is_some (own_match Q.equivalent Q.hash_input self.now.entries value.now) }
-        ensures found { result ≡ contains Q.equivalent Q.hash_input self.now value.now }
+        ensures { TellsPresence (Q.equivalent value.now) (own_hash Q.hash_input value.now) (own_match Q.equivalent Q.hash_input self.now.entries value.now) self.now result }
     {
         self.inner.contains(value)
     }

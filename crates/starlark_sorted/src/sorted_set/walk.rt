@@ -1,10 +1,11 @@
 //! The walks of a `SortedSet`, in ascending order.
 ghost use Rattle.std.specs.Prelude.{◌≡◌, ◌^◌, ◌<◌, length, map};
-ghost use Rattle.std.specs.Map.Iter.{ShowsInOrder, ShowsInReverse, GivesInOrder, GivesInReverse, deref};
+ghost use Rattle.std.specs.Map.Iter.{deref};
 ghost use Rattle.starlark_lists.specs.Entries.{IsSingle, entry_key};
 ghost use Rattle.starlark_lists.specs.Sorting.{Ascends};
 ghost use Rattle.starlark_sorted.specs.Sorted.{AreOwn, AscendsAlong, AscendsStrictly};
 ghost use Rattle.starlark_sorted.specs.Union.{ShowsRise, rise, rise_rest};
+ghost use Rattle.starlark_small.specs.Walks.{GivesEach, ShowsEach};
 
 use super::SortedSet;
 use crate::union::{Ahead, SortedUnion};
@@ -19,9 +20,7 @@ impl<T: Ord + Hash> SortedSet<T> {
         ensures elements { result ≡ map entry_key self.now.entries }
         ensures ascends { Ascends T.cmp self.now.entries }
         ensures along { AscendsAlong T.cmp result }
-        ensures fits { length self.now.entries < 2 ^ 64 }
-        ensures runs { ShowsInOrder (deref {X = T}) }
-        ensures runs_back { ShowsInReverse (deref {X = T}) }
+        ensures runs { ShowsEach self.now.entries result (deref {X = T}) }
     {
         self.inner.iter()
     }
@@ -60,7 +59,7 @@ impl<T: Ord + Hash + Drop> IntoIterator for SortedSet<T> {
 
     type IntoIter = IntoIter<T>;
 
-    ghost into_iter_gives = { λ s rest. (rest ≡ map entry_key s.entries) × Ascends T.cmp s.entries × (length s.entries < 2 ^ 64) × GivesInOrder T × GivesInReverse T };
+    ghost into_iter_gives = { λ s rest. (rest ≡ map entry_key s.entries) × Ascends T.cmp s.entries × GivesEach s.entries rest T };
 
     /// The elements by value, in order.
     #[inline]
@@ -74,7 +73,7 @@ impl<'a, T: Ord + Hash> IntoIterator for &'a SortedSet<T> {
 
     type IntoIter = Iter<'a, T>;
 
-    ghost into_iter_gives = { λ s rest. (rest ≡ map entry_key s.now.entries) × Ascends T.cmp s.now.entries × (length s.now.entries < 2 ^ 64) × ShowsInOrder (deref {X = T}) × ShowsInReverse (deref {X = T}) };
+    ghost into_iter_gives = { λ s rest. (rest ≡ map entry_key s.now.entries) × Ascends T.cmp s.now.entries × ShowsEach s.now.entries rest (deref {X = T}) };
 
     /// The elements in order.
     #[inline]

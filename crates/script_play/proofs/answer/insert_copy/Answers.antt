@@ -19,7 +19,7 @@ same_text c = ap (λ k. string_bytes (key_of k)) c.new_unchecked.ensures ∙ c.i
 pub returns-clause-old : goal.returns-clause-old
 returns-clause-old c =
     IfOk-map_err c.insert_hashed.result c.map_err.result _ _ c.map_err.ensures.cases
-    (IfOk-weaker c.insert_hashed.result _ _ (λ old e. e ∙ found c.args.map.now.entries c.new_unchecked.result (shown_key c.args.key) (same_hash c) (same_text c)) c.insert_hashed.ensures.old)
+    (IfOk-weaker c.insert_hashed.result _ _ (λ old e. e ∙ found c.args.map.now.entries c.new_unchecked.result (shown_key c.args.key) (same_hash c) (same_text c)) c.insert_hashed.ensures.inserts.old)
 
 pub returns-clause-entries : goal.returns-clause-entries
 returns-clause-entries c =
@@ -28,4 +28,4 @@ returns-clause-entries c =
     (IfOk-weaker c.insert_hashed.result _ _
     (λ old e. inserted es c.insert_hashed.new.self.entries c.new_unchecked.result (shown_key c.args.key) _ e (same_hash c) (same_text c)
     ∙ ap (λ value. insert_entry bytes_eq (entries_of es) (shown_key c.args.key) value) (to_z-of_z w64 c.args.value (search rules)))
-    c.insert_hashed.ensures.entries)
+    c.insert_hashed.ensures.inserts.entries)

@@ -14,7 +14,7 @@ returns-clause-ok c =
     let n = c.in-Some.value in (
       n,
       sym c.in-Some.ensures,
-      ap text_entries c.in_ok-insert.ensures.entries
+      ap text_entries c.in_ok-insert.ensures.inserts.entries
           ∙ own_inserted es c.in_ok-key.key text _ c.in_ok-key.ensures.cases
           ∙ ap (insert_entry bytes_eq (text_entries es) (own_text text)) (to_z-of_z w64 n (search rules)),
     )

@@ -1,4 +1,5 @@
 use Rattle.std.proofs.Common.{[], ◌∷◌}
+use Rattle.std.proofs.lemmas.Result.{IfOk-weaker}
 use Rattle.starlark_small.specs.Collect.{insert_all, own_entry}
 use Rattle.starlark_laws.proofs.Inserted.{entries-inserted}
 use Rattle.starlark_laws.proofs.collection.written_in_order.Goals as goal
@@ -12,6 +13,6 @@ returns g c =
     let third = own_entry feeds c.args.third in
     entries-inserted eq (insert_all eq [] (first ∷ second ∷ [])) third.0 third.1 _ _
     (entries-inserted eq (insert_all eq [] (first ∷ [])) second.0 second.1 _ _
-    (entries-inserted eq [] first.0 first.1 _ _ c.smallmap-with_capacity.ensures.entries c.smallmap-inserted.ensures.entries)
+    (entries-inserted eq [] first.0 first.1 _ _ (IfOk-weaker c.smallmap-with_capacity.result _ _ (λ m p. p.entries) c.smallmap-with_capacity.ensures.empty) c.smallmap-inserted.ensures.entries)
     c.smallmap-inserted-2.ensures.entries)
     c.smallmap-inserted-3.ensures.entries

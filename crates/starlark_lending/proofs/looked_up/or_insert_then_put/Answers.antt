@@ -9,7 +9,7 @@ returns-in-Ok-clause-written g c =
     let made = c.or_insert_with-slot in
     let entry = c.entry_hashed.result in
     let next = c.args.next in
-    put_there g.K.PartialEq.eq c.args.map.now _ c.args.key next entry c.entry_hashed.ensures.entry
+    put_there g.K.PartialEq.eq c.args.map.now _ c.args.key next entry c.entry_hashed.ensures.enters.entry
     (subst (IsPut entry next) {x = made.follows.lender next} (search rules) (subst (λ r. OnOk r (IsPut entry next (made.follows.lender next))) c.in-Ok.is (made.follows.holds next).0))
 
 pub returns-in-Ok-clause-inserted : goal.returns-in-Ok-clause-inserted
@@ -17,5 +17,5 @@ returns-in-Ok-clause-inserted g c =
     let made = c.or_insert_with-slot in
     let entry = c.entry_hashed.result in
     let next = c.args.next in
-    put_new g.K.PartialEq.eq c.args.map.now _ c.args.key next entry c.entry_hashed.ensures.entry
+    put_new g.K.PartialEq.eq c.args.map.now _ c.args.key next entry c.entry_hashed.ensures.enters.entry
     (subst (IsPut entry next) {x = made.follows.lender next} (search rules) (subst (λ r. OnOk r (IsPut entry next (made.follows.lender next))) c.in-Ok.is (made.follows.holds next).0))

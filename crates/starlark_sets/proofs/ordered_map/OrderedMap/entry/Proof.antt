@@ -1,13 +1,11 @@
 -- `entry` lends the map inside for good, and hands on the entry that it gives. Assumes `Logic`.
-use Rattle.starlark_columns.proofs.Walking.{◌≡◌, refl, sym, subst, ap, List, [], ◌∷◌, Ura, Fn, Args, Dict, a_type, dcons, dnil, named, inst_fn, Val, vptr, SProp, ent, emp, id⊢, ex_e, snd∗, Lft, GName, Share, ftrue, flft, Memory, Routine, Calls, Loops, WpFn, Logic, sem, ◌⊑◌, Fun, fact, fact_i, tables, FmC, ‵, raw, ◌⊛◌, some, later, ◌$◌, ◌∵◌, !, qed, move, keep, drop, use0, use1, split, split3, join, pick, fsplit3, fjoin, rewrite, suffices, frame, await, done, stop, addr, of_opd, and_then, no_more, returns, enter, alloc_all, pass_all, free_all, look_at, get, through, sets, lands_as, no, follows, Is, shows, param, bounded, layout, Laws, param_laws, RattleType, owns, MutBor, MutRef, mut_vals, mut_Tells, plain, types_at, mut_ref_to, named_lft, nothing, heard, peeks, only, calls_at, Clauses, Ended, ensured, lasts, triple_of, Contract, Triple, framed, Stays, stay_dropped, walk_of, ends_at, Goes-spent_ref, Goes-blank, Good, proved_at, Some, ◌++◌, if◌then◌else◌}
+use Rattle.starlark_columns.proofs.Walking.{◌≡◌, refl, sym, subst, ap, List, [], ◌∷◌, Ura, Fn, Args, Dict, a_type, dcons, dnil, named, inst_fn, Val, vptr, SProp, ent, emp, id⊢, ex_e, snd∗, Lft, GName, Share, ftrue, flft, Memory, Routine, Calls, Loops, WpFn, Logic, sem, ◌⊑◌, Fun, fact, fact_i, tables, FmC, ‵, raw, ◌⊛◌, some, later, ◌$◌, ◌∵◌, !, qed, move, keep, drop, use0, use1, split, split3, join, pick, fsplit3, fjoin, rewrite, suffices, frame, await, done, stop, addr, of_opd, and_then, no_more, returns, enter, alloc_all, pass_all, free_all, look_at, get, through, sets, lands_as, no, follows, Is, shows, param, bounded, layout, Laws, param_laws, RattleType, owns, MutBor, MutRef, mut_vals, mut_Tells, plain, types_at, mut_ref_to, named_lft, nothing, heard, peeks, only, calls_at, Clauses, Ended, ensured, lasts, triple_of, Contract, Triple, framed, Stays, stay_dropped, walk_of, ends_at, Goes-spent_ref, Goes-blank, Good, proved_at}
 use Rattle.std.specs.declared.cmp.Eq as Eq
 use Rattle.std.specs.declared.cmp.PartialEq as PartialEq
 use Rattle.std.specs.declared.hash.Hash as Hash
 use Rattle.starlark_small.proofs.entry.Entry.TheLaws as entry_laws
 use Rattle.starlark_small.specs.Map.{Map, own_hashed}
-use Rattle.starlark_small.specs.MapEntry.{map_of_entry, entry_value_of, IsEntryOf, Puts}
-use Rattle.starlark_small.specs.Calling.{get as find, keys, AreOwn, Updates}
-use Rattle.std.proofs.Common.{is_some}
+use Rattle.starlark_small.specs.MapEntry.{map_of_entry, Enters as IsEntered}
 use Rattle.starlark_small.specs.contracts.entry.Entry as R
 use Rattle.starlark_small.specs.declared.entry.Entry.{Entry}
 use Rattle.starlark_small.specs.contracts.small_map.SmallMap as S
@@ -109,8 +107,8 @@ module _ (K V : RattleType) (E : Eq.Ghosts K.Denot) (dE : Dict) (Q : PartialEq.G
           use1 𝓛 (raw (Enters.pre z2)) (id⊢ 𝓤 _) $
           calls_at ! fm Enters gives z2 (and_then ! (get ! refl) (and_then ! (get ! refl) (no_more !))) (λ t.
           use1 𝓛 (later (some (λ (y : Entry K.Denot V.Denot Q). ((‵ (flft κ q) ⊛ ‵ (flft κK qK) ⊛ ‵ (flft κV qV) ⊛ ‵ ftrue) ⊛ ‵ (Out.own_val y (t ∷ []))) ⊛ raw (ensured 𝓛 (e.ended K V E dE Q dQ G dG dD) (e.clauses K V E dE Q dQ G dG dD 𝓛 at_mem run) z2.0.0 z2.0.3 tt y)))) (id⊢ 𝓤 _) $ await ! tt $ pick ! (λ y. split ! $ move ! (1 ∷ []) $
-          use1 𝓛 (raw (fact 𝓤 ((map_of_entry y).ghost_name ≡ x.ghost_name)) ⊛ raw (fact 𝓤 (IsEntryOf Q.eq x.now (own_hashed G.hash_input key) y)) ⊛ raw (fact 𝓤 (entry_value_of y ≡ find Q.eq G.hash_input x.now key)) ⊛ raw (fact 𝓤 ((value : V.Denot) (new : M) → Puts y value new → Updates Q.eq G.hash_input x.now new key (Some value))) ⊛ raw (fact 𝓤 ((value : V.Denot) (new : M) → Puts y value new → keys new ≡ (if is_some (find Q.eq G.hash_input x.now key) then keys x.now else keys x.now ++ key ∷ []))) ⊛ raw (fact 𝓤 ((value : V.Denot) (new : M) → Puts y value new → AreOwn G.hash_input x.now → AreOwn G.hash_input new))) (ex_e 𝓤 _ (λ ws. snd∗ 𝓤 (sem 𝓛 (lasts (e.ended K V E dE Q dQ G dG dD) z2.0.0 z2.0.3 ws)) _)) $ split ! $
-          heard ! ((map_of_entry y).ghost_name ≡ x.ghost_name) (λ name. split ! $ heard ! (IsEntryOf Q.eq x.now (own_hashed G.hash_input key) y) (λ is. drop ! $
+          use1 𝓛 (raw (fact 𝓤 ((map_of_entry y).ghost_name ≡ x.ghost_name)) ⊛ raw (fact 𝓤 (IsEntered Q.eq (own_hashed G.hash_input key) x.now y))) (ex_e 𝓤 _ (λ ws. snd∗ 𝓤 (sem 𝓛 (lasts (e.ended K V E dE Q dQ G dG dD) z2.0.0 z2.0.3 ws)) _)) $ split ! $
+          heard ! ((map_of_entry y).ghost_name ≡ x.ghost_name) (λ name. heard ! (IsEntered Q.eq (own_hashed G.hash_input key) x.now y) (λ is.
           -- [the tokens with the entry; what self follows]
           move ! (1 ∷ []) $ rewrite ! 0 (λ (n : GName). ‵ (follows Outer Inner γ n (λ w. w))) (sym name) refl $
           move ! (1 ∷ []) $ split ! $ split3 ! $ move ! (2 ∷ []) $ split ! $ move ! (1 ∷ []) $ drop ! $
@@ -120,7 +118,7 @@ module _ (K V : RattleType) (E : Eq.Ghosts K.Denot) (dE : Dict) (Q : PartialEq.G
           returns ! (look_at ! 0 refl) $ free_all ! refl $ keep ! (0 ∷ 2 ∷ 3 ∷ 1 ∷ 4 ∷ []) $
           suffices ! _ (ends_at 𝓛 ended stayed spec bound lone.0 y (tt, (tt, tt)) (tt, (tt, tt))) $
           nothing ! $ nothing ! $ fjoin ! $ nothing ! $ fjoin ! $ join ! $ nothing ! $ move ! (4 ∷ 0 ∷ []) $ join ! $ move ! (3 ∷ 0 ∷ []) $ join ! $ move ! (2 ∷ 0 ∷ []) $ join ! $ join ! $ frame ! $
-          use0 𝓛 (raw (fact 𝓤 (IsEntryOf Q.eq m (own_hashed G.hash_input key) y))) (fact_i 𝓤 _ (emp 𝓤) (subst (λ n. IsEntryOf Q.eq n (own_hashed G.hash_input key) y) same is)) $ move ! (1 ∷ 0 ∷ []) $ done !))))))))))))
+          use0 𝓛 (raw (fact 𝓤 (IsEntered Q.eq (own_hashed G.hash_input key) m y))) (fact_i 𝓤 _ (emp 𝓤) (subst (λ n. IsEntered Q.eq (own_hashed G.hash_input key) n y) same is)) $ move ! (1 ∷ 0 ∷ []) $ done !))))))))))))
 
 pub entry_spec : {M : Type 1} → statement M
 entry_spec 𝓤 𝓛 𝓜 𝓡 wired K V LK LV E dE Q dQ G dG dD is_eq is_partial is_hash is_drop =

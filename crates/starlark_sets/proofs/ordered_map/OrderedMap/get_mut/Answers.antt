@@ -1,7 +1,7 @@
 use Rattle.std.proofs.Common.{Some, refl, subst, sym}
 use Rattle.starlark_hash.specs.Hasher.{own_hash}
 use Rattle.starlark_lists.specs.Finding.{Writes}
-use Rattle.starlark_sets.proofs.Callers.{found_is, writes-with_value}
+use Rattle.starlark_sets.proofs.Callers.{writes-with_value}
 use Rattle.starlark_sets.proofs.ordered_map.OrderedMap.get_mut.Goals as goal
 
 pub returns : goal.returns
@@ -20,5 +20,5 @@ returns g c =
         ),
         lent.holds-at-none,
       ),
-      record { writes_back = tt; found = found_is t hash es _ c.get_mut.ensures.value; value = c.get_mut.ensures.value; absent = c.get_mut.ensures.absent },
+      record { writes_back = tt; finds = c.get_mut.ensures.finds },
     )

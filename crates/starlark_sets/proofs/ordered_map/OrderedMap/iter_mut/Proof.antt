@@ -1,12 +1,13 @@
 -- `iter_mut` lends the map inside for good, and hands on what walks that. Assumes `Logic`.
-use Rattle.starlark_columns.proofs.Walking.{◌≡◌, refl, ap, ◌∙◌, ◌<◌, ◌^◌, List, [], ◌∷◌, length, Ura, Fn, Args, Dict, a_type, dcons, dnil, named, inst_fn, Val, vptr, SProp, sep, ent, emp, id⊢, ex_e, snd∗, Lft, GName, Share, ftrue, flft, Memory, Routine, Calls, Loops, WpFn, Logic, sem, ◌⊑◌, Fun, fact, fact_i, tables, FmC, ‵, raw, ◌⊛◌, some, later, ◌$◌, ◌∵◌, !, qed, move, keep, drop, use0, use1, use2, split, split3, join, pick, fsplit, fjoin, rewrite, suffices, frame, await, done, stop, addr, and_then, no_more, returns, enter, alloc_all, pass_all, free_all, look_at, get, through, sets, lands_as, no, follows, follows_then, Is, shows, param, bounded, Laws, param_laws, RattleType, owns, MutBor, MutRef, mut_vals, mut_Tells, plain, types_at, mut_ref_to, named_lft, nothing, heard, peeks, only, calls_at, Clauses, Ended, ensured, lasts, triple_of, Contract, Triple, framed, Stays, stay_dropped, walk_of, ends_at, Goes-spent_ref, proved, map}
+use Rattle.starlark_columns.proofs.Walking.{◌≡◌, refl, ap, ◌∙◌, ◌<◌, ◌^◌, List, [], ◌∷◌, length, Ura, Fn, Args, Dict, a_type, dcons, dnil, named, inst_fn, Val, vptr, SProp, ent, emp, id⊢, ex_e, snd∗, Lft, GName, Share, ftrue, flft, Memory, Routine, Calls, Loops, WpFn, Logic, sem, ◌⊑◌, Fun, fact, fact_i, tables, FmC, ‵, raw, ◌⊛◌, some, later, ◌$◌, ◌∵◌, !, qed, move, keep, drop, use0, use1, use2, split, split3, join, pick, fsplit, fjoin, rewrite, suffices, frame, await, done, stop, addr, and_then, no_more, returns, enter, alloc_all, pass_all, free_all, look_at, get, through, sets, lands_as, no, follows, follows_then, Is, shows, param, bounded, Laws, param_laws, RattleType, owns, MutBor, MutRef, mut_vals, mut_Tells, plain, types_at, mut_ref_to, named_lft, nothing, heard, peeks, only, calls_at, Clauses, Ended, ensured, lasts, triple_of, Contract, Triple, framed, Stays, stay_dropped, walk_of, ends_at, Goes-spent_ref, proved, map}
 use Rattle.std.specs.declared.cmp.Eq as Eq
 use Rattle.std.specs.declared.cmp.PartialEq as PartialEq
 use Rattle.starlark_lists.specs.Entries.{pair_of}
 use Rattle.starlark_vec2.proofs.pairs_mut.PairsMut.TheLaws as walk_laws
 use Rattle.starlark_vec2.specs.contracts.pairs_mut.PairsMut as P
 use Rattle.starlark_vecmap.specs.EntryList.{with_values}
-use Rattle.starlark_small.specs.Lending.{KeepsKeys, KeepsLength, KeepsMembers, KeepsOwnHashes}
+use Rattle.starlark_small.specs.Lending.{KeepsAllButValues}
+use Rattle.starlark_small.proofs.KeptInWalks.{keeps-all_but_values}
 use Rattle.starlark_small.specs.Map.{Map}
 use Rattle.starlark_small.specs.contracts.small_map.SmallMap as S
 use Rattle.starlark_small.specs.contracts.small_map.SmallMap.iter_mut as w
@@ -65,7 +66,7 @@ module _ (K V : RattleType) (E : Eq.Ghosts K.Denot) (dE : Dict) (Q : PartialEq.G
 
     -- what the walk keeps, whatever values are written
     abbrev Keeps : M → SProp 𝓤
-    Keeps m = sep 𝓤 (fact 𝓤 (KeepsKeys m)) (sep 𝓤 (fact 𝓤 (KeepsLength m)) (sep 𝓤 (fact 𝓤 (KeepsMembers Q.eq m)) (fact 𝓤 (KeepsOwnHashes m))))
+    Keeps m = fact 𝓤 (KeepsAllButValues Q.eq m)
 
     module _ (LK : Laws K) (LV : Laws V) (C : Calls 𝓤 𝓛.H) (Λ : Loops 𝓤 𝓛.H) (fm : FmC 𝓤 𝓛.H 𝓛.laws C)
         (lends : Triple 𝓤 (C (#inside args)) Inside) (walked : Triple 𝓤 (C (#walks args)) Walks)
@@ -123,8 +124,9 @@ module _ (K V : RattleType) (E : Eq.Ghosts K.Denot) (dE : Dict) (Q : PartialEq.G
           returns ! (look_at ! 0 refl) $ free_all ! refl $ keep ! (0 ∷ 2 ∷ 3 ∷ 1 ∷ 4 ∷ []) $
           suffices ! _ (ends_at 𝓛 ended stayed spec bound lone.0 y (tt, tt) (tt, tt)) $
           nothing ! $ nothing ! $ fjoin ! $ join ! $ nothing ! $ move ! (4 ∷ 0 ∷ []) $ join ! $ move ! (3 ∷ 0 ∷ []) $ join ! $ move ! (2 ∷ 0 ∷ []) $ join ! $ join ! $ frame ! $
+          use0 𝓛 (raw (Keeps m)) (fact_i 𝓤 _ (emp 𝓤) (keeps-all_but_values Q.eq m)) $
           use0 𝓛 (raw (fact 𝓤 (length m.entries < 2 ^ 64))) (fact_i 𝓤 _ (emp 𝓤) (rw (← same) fits)) $
-          use0 𝓛 (raw (fact 𝓤 (y.0 ≡ map pair_of m.entries))) (fact_i 𝓤 _ (emp 𝓤) (pairs ∙ ap (λ (n : M). map pair_of n.entries) same)) $ move ! (2 ∷ 0 ∷ 1 ∷ []) $ done !))))))))))))
+          use0 𝓛 (raw (fact 𝓤 (y.0 ≡ map pair_of m.entries))) (fact_i 𝓤 _ (emp 𝓤) (pairs ∙ ap (λ (n : M). map pair_of n.entries) same)) $ move ! (3 ∷ 0 ∷ 1 ∷ 2 ∷ []) $ done !))))))))))))
 
 pub iter_mut_spec : {M : Type 1} → statement M
 iter_mut_spec 𝓤 𝓛 𝓜 𝓡 wired K V LK LV E dE Q dQ is_eq is_partial =

@@ -1,4 +1,5 @@
+use Rattle.std.proofs.Common.{refl}
 use Rattle.starlark_sets.proofs.ordered_set.OrderedSet.clone.Goals as goal
 
-pub returns-clause-own : goal.returns-clause-own
-returns-clause-own g c = rw (← c.self.view_is) c.in_ok-clone.ensures.own
+pub returns : goal.returns
+returns g c = rw (← c.self.view_is) (record { clone = c.in_ok-clone.ensures.clone; succeeds = λ _. refl })

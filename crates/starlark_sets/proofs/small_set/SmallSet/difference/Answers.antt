@@ -13,7 +13,7 @@ returns-clause-single g c = rw (← c.self.view_is) (IsSingle-difference g.T.Par
 
 pub returns-clause-fits : goal.returns-clause-fits
 returns-clause-fits g c =
-    omega (arith, length-difference-le g.T.PartialEq.eq c.new.result.left c.new.result.other, ap (λ d. length d.left) c.new.ensures, ap length c.iter_hashed.ensures.entries, c.iter_hashed.ensures.fits)
+    omega (arith, length-difference-le g.T.PartialEq.eq c.new.result.left c.new.result.other, ap (λ d. length d.left) c.new.ensures, ap length c.iter_hashed.ensures.entries, c.iter_hashed.ensures.runs.0)
 
 pub returns-clause-runs : goal.returns-clause-runs
 returns-clause-runs g c =

@@ -1,20 +1,30 @@
-use Rattle.std.proofs.Common.{sym, subst, ◌∙◌}
+use Rattle.std.proofs.Common.{sym, subst}
 use Rattle.starlark_sets.specs.Collect.{own_element}
+use Rattle.starlark_small.specs.Collect.{Extends}
 use Rattle.starlark_sets.proofs.Collecting.{extends_alone, has_extended}
 use Rattle.starlark_sets.proofs.small_set.SmallSet.extend.Goals as goal
 
-pub returns-clause-entries : goal.returns-clause-entries
-returns-clause-entries g c =
-    rw (← c.self.view_is)
-    (extends_alone g.I.IntoIter.Iterator.next_gives g.T.PartialEq.eq (own_element g.T.Hash.hash_input) g.I.IntoIterator.into_iter_gives c.args.iter c.new.result
-    c.self.inside.map.entries c.extend.new.self.entries c.extend.result (subst (g.I.IntoIterator.into_iter_gives c.args.iter) (sym c.new.ensures) c.into_iter.ensures.into_iter_gives) c.extend.ensures.entries)
-
-pub returns-clause-found : goal.returns-clause-found
-returns-clause-found g c =
-    has_extended g.T.PartialEq.eq g.met.T.Eq.laws g.T.Hash.hash_input g.met.T.Hash.respects_eq g.I.IntoIter.Iterator.next_gives g.I.IntoIterator.into_iter_gives c.args.iter
-    c.extend.result c.args.self.now c.extend.new.self (returns-clause-entries g c)
-
-pub returns-clause-left : goal.returns-clause-left
-returns-clause-left g c =
-    let left = c.extend.ensures.left in
-    rw (← c.self.view_is) (left.0, subst (g.I.IntoIterator.into_iter_gives c.args.iter) (sym (left.1 ∙ c.new.ensures)) c.into_iter.ensures.into_iter_gives, left.2)
+pub returns : goal.returns
+returns g c =
+    let takes = c.extend.ensures in
+    let made = subst (g.I.IntoIterator.into_iter_gives c.args.iter) (sym c.new.ensures) c.into_iter.ensures.into_iter_gives in
+    let old = c.self.inside.map in
+    let new = c.extend.new.self in
+    let extends : Extends g.T.PartialEq.eq (own_element g.T.Hash.hash_input) g.I.IntoIter.Iterator.next_gives g.I.IntoIterator.into_iter_gives c.args.iter old.entries new.entries c.extend.result =
+    extends_alone g.I.IntoIter.Iterator.next_gives g.T.PartialEq.eq (own_element g.T.Hash.hash_input) g.I.IntoIterator.into_iter_gives c.args.iter c.new.result
+    old.entries new.entries c.extend.result made takes.entries in
+    rw (← c.self.view_is) (record {
+      found = has_extended g.T.PartialEq.eq g.met.T.Eq.laws g.T.Hash.hash_input g.met.T.Hash.respects_eq g.I.IntoIter.Iterator.next_gives g.I.IntoIterator.into_iter_gives c.args.iter
+          c.extend.result old new extends;
+      entries = extends;
+      memory = record {
+        succeeds = λ fits. takes.memory.succeeds (λ it is. fits it (subst (g.I.IntoIterator.into_iter_gives c.args.iter) (sym is) made));
+        spare = λ fits. takes.memory.spare (λ it is. fits it (subst (g.I.IntoIterator.into_iter_gives c.args.iter) (sym is) made));
+        full = takes.memory.full;
+        room = takes.memory.room;
+        capacity = takes.memory.capacity;
+        indexed = takes.memory.indexed;
+      };
+      left = (takes.left.0, subst (g.I.IntoIterator.into_iter_gives c.args.iter) (sym takes.left.1) made, takes.left.2);
+      own = takes.own;
+    })

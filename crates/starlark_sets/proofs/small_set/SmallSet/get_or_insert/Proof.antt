@@ -1,18 +1,18 @@
 -- `get_or_insert` meets its contract, at any element type: the set is lent to the call that finds or puts the element and comes back, is then written no more, and shows the element. Assumes `Logic`.
-use Rattle.starlark_columns.proofs.Walking.{◌≡◌, refl, sym, ap, subst, ℕ, ◌<◌, List, [], ◌∷◌, none, length, Ura, full_share, common, Fn, Args, Dict, a_type, dcons, dnil, named, inst_fn, Val, vptr, SProp, ent, sep, emp, wand, id⊢, apply∗, ex_e, snd∗, Lft, GName, Share, ftrue, fdead, flft, Memory, Routine, Env, Calls, Loops, WpFn, Logic, sem, lft_new, lft_end, lft-common, ◌⊑◌, ⊑_trans, meet_⊑_left, meet_⊑_right, Fun, fact, fact_i, tables, FmC, ‵, raw, ◌⊛◌, some, later, ◌$◌, ◌∵◌, !, qed, move, keep, drop, use0, use1, use2, use3, split, split3, join, pick, fsplit, fsplit3, fjoin, suffices, frame, await, rewrite, done, stop, addr, of_opd, and_then, no_more, returns, enter, alloc_all, pass_all, free_all, look_at, get, through, sets, lands_as, env, no, RattleType, owns, usize, follows_so, Is, shows, lends_again, comes_back, LentAgain, param, bounded, layout, Laws, param_laws, of_field, copy_shared, Bor, MutBor, MutRef, ShrRef, mut_vals, mut_Tells, shr_vals, shr_Tells, plain, types_at, mut_ref_to, nothing, heard, only, peeks, shr_ref_field, usize-field, shr_ref_laws, shr_ref_copy, usize-laws, usize-copy, calls_at, Clauses, Ended, Lasts, ensured, lasts, triple_of, Contract, Triple, framed, Stays, stay_dropped, walk_of, ends_at, Goes-spent_ref, Goes-blank, Good, result_laws, proved_at, Result, IfOk, IfErr, slice_get, ⊤, option_map, unwrap_or}
+use Rattle.starlark_columns.proofs.Walking.{◌≡◌, refl, sym, ap, subst, ℕ, ◌<◌, List, [], ◌∷◌, none, length, Ura, full_share, common, Fn, Args, Dict, a_type, dcons, dnil, named, inst_fn, Val, vptr, SProp, ent, sep, emp, wand, id⊢, apply∗, ex_e, snd∗, Lft, GName, Share, ftrue, fdead, flft, Memory, Routine, Env, Calls, Loops, WpFn, Logic, sem, lft_new, lft_end, lft-common, ◌⊑◌, ⊑_trans, meet_⊑_left, meet_⊑_right, Fun, fact, fact_i, tables, FmC, ‵, raw, ◌⊛◌, some, later, ◌$◌, ◌∵◌, !, qed, move, keep, drop, use0, use1, use2, use3, split, split3, join, pick, fsplit, fsplit3, fjoin, suffices, frame, await, rewrite, done, stop, addr, of_opd, and_then, no_more, returns, enter, alloc_all, pass_all, free_all, look_at, get, through, sets, lands_as, env, no, RattleType, owns, usize, follows_so, Is, shows, lends_again, comes_back, LentAgain, param, bounded, layout, Laws, param_laws, of_field, copy_shared, Bor, MutBor, MutRef, ShrRef, mut_vals, mut_Tells, shr_vals, shr_Tells, plain, types_at, mut_ref_to, nothing, heard, only, peeks, shr_ref_field, usize-field, shr_ref_laws, shr_ref_copy, usize-laws, usize-copy, calls_at, Clauses, Ended, Lasts, ensured, lasts, triple_of, Contract, Triple, framed, Stays, stay_dropped, walk_of, ends_at, Goes-spent_ref, Goes-blank, Good, result_laws, proved_at, Result, IfOk, IfErr, ⊤, unwrap_or}
 use base.Share
 use Rattle.core.specs.contracts.result.Result as RS
-use Rattle.std.specs.Prelude.{Some}
 use Rattle.std.specs.declared.cmp.Eq as Eq
 use Rattle.std.specs.declared.cmp.PartialEq as PartialEq
 use Rattle.std.specs.declared.hash.Hash as Hash
 use Rattle.starlark_hash.proofs.no_room.NoRoom.TheLaws as room_laws
-use Rattle.starlark_lists.specs.Entries.{entry_key, match_of}
+use Rattle.starlark_lists.specs.Entries.{match_of}
 use Rattle.starlark_hash.specs.contracts.no_room.NoRoom as N
 use Rattle.starlark_hash.specs.declared.hashed.Hashed.{Hashed}
 use Rattle.starlark_hash.specs.declared.no_room.NoRoom.{NoRoom}
 use Rattle.starlark_small.specs.Map.{own_hashed}
 use Rattle.starlark_small.proofs.LentInResult.{lone_value}
+use Rattle.starlark_sets.specs.Adding.{PlacesElement}
 use Rattle.starlark_sets.specs.Set.{Set, Adds, element_at}
 use Rattle.starlark_sets.specs.Lending.{IsShown, ends_so}
 use Rattle.starlark_sets.specs.contracts.small_set.SmallSet as S
@@ -139,12 +139,11 @@ module _ (T : RattleType) (E : Eq.Ghosts T.Denot) (dE : Dict) (P : PartialEq.Gho
           nothing ! $ use0 𝓛 (raw (fact 𝓤 (κT ⊑ T.lives))) (fact_i 𝓤 _ (emp 𝓤) lT) $ join ! $ move ! (1 ∷ 0 ∷ []) $ join ! $ use1 𝓛 (raw (Puts.pre z)) (id⊢ 𝓤 _) $
           calls_at ! fm Puts puts z (and_then ! (get ! refl) (and_then ! (get ! refl) (no_more !))) (λ u.
           use1 𝓛 (later (some (λ (g : Result ℕ (NoRoom T.Denot)). ((‵ (flft ακ qq) ⊛ ‵ (flft κT qT) ⊛ ‵ ftrue) ⊛ ‵ ((Place).own_val g (u ∷ [])))
-          ⊛ some (λ (ws : Lasts Putting (z.0.0) z.0.3). ‵ (lasts Putting z.0.0 z.0.3 ws) ⊛ raw (fact 𝓤 (Adds eq m under g ws.0)) ⊛ raw (fact 𝓤 (IfOk g (λ i. option_map entry_key (slice_get (ws.0).entries i) ≡ Some there))) ⊛ raw (fact 𝓤 (IfOk g (λ i. i < length (ws.0).entries))) ⊛ raw (fact 𝓤 (IfErr g (λ x. x.0 ≡ value)))))))
+          ⊛ some (λ (ws : Lasts Putting (z.0.0) z.0.3). ‵ (lasts Putting z.0.0 z.0.3 ws) ⊛ raw (fact 𝓤 (PlacesElement eq under value m ws.0 g))))))
           (id⊢ 𝓤 _) $ await ! tt $
           pick ! (λ g. split ! $ move ! (1 ∷ []) $ pick ! (λ ws. split ! $ fsplit ! $ fsplit ! $ move ! (3 ∷ []) $
           let mm : Set T.Denot = ws.0 in let self : MutBor (Set T.Denot) = record r { now = mm } in
-          split3 ! $ heard ! (Adds eq m under g mm) (λ adds. heard ! (IfOk g (λ i. option_map entry_key (slice_get mm.entries i) ≡ Some there)) (λ stands. split ! $
-          heard ! (IfOk g (λ i. i < length mm.entries)) (λ within. heard ! (IfErr g (λ x. x.0 ≡ value)) (λ back.
+          heard ! (PlacesElement eq under value m mm g) (λ places.
           move ! (3 ∷ []) $ split ! $ split3 ! $
           -- [the tokens of ακ, κT; nothing; the place; what self ends as; ..; the way back; what the lender keeps]: the loan is over
           move ! (0 ∷ 7 ∷ []) $ use2 𝓛 (‵ (flft (α ∷ []) full_share) ⊛ ‵ (flft κ qr)) (apply∗ 𝓤 (A.lft ακ qq) (sep 𝓤 (A.lft (α ∷ []) full_share) (A.lft κ qr))) $ split ! $
@@ -168,7 +167,7 @@ module _ (T : RattleType) (E : Eq.Ghosts T.Denot) (dE : Dict) (P : PartialEq.Gho
           -- [the reference; the tokens; what self ends as; the place]
           let z3 : Shows.Ghost = (((κ, (κT, tt)), (q, (qT, tt)), bounds, (x, (g, tt)), (shr_vals x, (u ∷ [], tt))), tt) in
           nothing ! $ move ! (4 ∷ 0 ∷ []) $ fjoin ! $ move ! (1 ∷ 0 ∷ []) $ fjoin ! $ move ! (1 ∷ 0 ∷ []) $ join ! $
-          use0 𝓛 (raw (fact 𝓤 (IfOk g (λ i. i < length (x.now).entries)))) (fact_i 𝓤 _ (emp 𝓤) (subst (λ (n : Set T.Denot). IfOk g (λ i. i < length n.entries)) (sym seen) within)) $
+          use0 𝓛 (raw (fact 𝓤 (IfOk g (λ i. i < length (x.now).entries)))) (fact_i 𝓤 _ (emp 𝓤) (subst (λ (n : Set T.Denot). IfOk g (λ i. i < length n.entries)) (sym seen) places.within)) $
           use0 𝓛 (raw (fact 𝓤 (κT ⊑ T.lives))) (fact_i 𝓤 _ (emp 𝓤) lT) $ join ! $ move ! (1 ∷ 0 ∷ []) $ join ! $ use1 𝓛 (raw (Shows.pre z3)) (id⊢ 𝓤 _) $
           calls_at ! fm Shows shows_it z3 (and_then ! (get ! refl) (and_then ! (get ! refl) (no_more !))) (λ v.
           use1 𝓛 (later (some (λ (y : Out). ((‵ (flft κ q) ⊛ ‵ (flft κT qT) ⊛ ‵ ftrue) ⊛ ‵ ((Shown κ).own_val y (v ∷ [])))
@@ -179,12 +178,12 @@ module _ (T : RattleType) (E : Eq.Ghosts T.Denot) (dE : Dict) (P : PartialEq.Gho
           peeks ! (Shown κ) (Is (Shown κ)) (shows 𝓛 (Shown κ)) y (v ∷ []) (λ is_y.
           lands_as ! refl refl ((((shown_laws L κ).lawful 𝓛).typed y (v ∷ []) is_y).0) $ returns ! (look_at ! 0 refl) $ free_all ! refl $
           -- [the result; the tokens; what self ends as]
-          move ! (2 ∷ []) $ use1 𝓛 (‵ (ends_so T' P r (Adds eq m under y))) (ends_weaker 𝓛 R γ (λ n. n ≡ mm) (Adds eq m under y) (λ n is. subst (Adds eq m under y) (sym is) (adds_shown eq m mm under g y told adds))) $
+          move ! (2 ∷ []) $ use1 𝓛 (‵ (ends_so T' P r (Adds eq m under y))) (ends_weaker 𝓛 R γ (λ n. n ≡ mm) (Adds eq m under y) (λ n is. subst (Adds eq m under y) (sym is) (adds_shown eq m mm under g y told places.set))) $
           suffices ! _ (ends_at 𝓛 ended stayed spec bound v y (tt, (tt, tt)) (tt, (tt, tt))) $
           nothing ! $ nothing ! $ fjoin ! $ nothing ! $ fjoin ! $ move ! (0 ∷ 2 ∷ []) $ join ! $ move ! (2 ∷ 0 ∷ []) $ join ! $ frame ! $
-          use0 𝓛 (raw (fact 𝓤 (IfErr y (λ n. n.0 ≡ value)))) (fact_i 𝓤 _ (emp 𝓤) (refusal_shown mm.entries g y value told back)) $
-          use0 𝓛 (raw (fact 𝓤 (IfOk y (λ n. n.now ≡ there)))) (fact_i 𝓤 _ (emp 𝓤) (element_shown mm.entries g y there told stands)) $
-          move ! (2 ∷ 0 ∷ 1 ∷ []) $ done !))))))))))))))))))))
+          use0 𝓛 (raw (fact 𝓤 (IfErr y (λ n. n.0 ≡ value)))) (fact_i 𝓤 _ (emp 𝓤) (refusal_shown mm.entries g y value told places.handed_back)) $
+          use0 𝓛 (raw (fact 𝓤 (IfOk y (λ n. n.now ≡ there)))) (fact_i 𝓤 _ (emp 𝓤) (element_shown mm.entries g y there told places.element)) $
+          move ! (2 ∷ 0 ∷ 1 ∷ []) $ done !)))))))))))))))))
 
 pub get_or_insert_spec : {M : Type 1} → statement M
 get_or_insert_spec 𝓤 𝓛 𝓜 𝓡 wired T L E dE P dP G dG dD is_eq is_partial is_hash drops =

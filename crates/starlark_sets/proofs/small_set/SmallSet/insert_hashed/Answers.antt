@@ -1,22 +1,10 @@
-use Rattle.starlark_lists.specs.Insertion.{insert_entry}
-use Rattle.starlark_sets.proofs.Callers.{updates-inserted}
-use Rattle.starlark_sets.proofs.Lookups.{length-inserted, put_too}
+use Rattle.std.proofs.Common.{subst, sym}
+use Rattle.starlark_sets.specs.Adding.{AddsElement}
+use Rattle.starlark_sets.proofs.Added.{adds-answered}
 use Rattle.starlark_sets.proofs.small_set.SmallSet.insert_hashed.Goals as goal
 
-pub returns-clause-updates : goal.returns-clause-updates
-returns-clause-updates g c =
+pub returns : goal.returns
+returns g c =
     let eq = g.T.PartialEq.eq in
-    let old = c.self.inside.map.entries in
-    let new = c.insert_hashed.new.self.entries in
-    rw (← c.self.view_is)
-    (updates-inserted eq g.met.T.Eq.laws c.answered.result old new c.args.key tt
-    (put_too c.insert_hashed.result c.answered.result c.answered.ensures.same new (insert_entry eq old c.args.key tt) c.insert_hashed.ensures.entries))
-
-pub returns-clause-length : goal.returns-clause-length
-returns-clause-length g c =
-    let eq = g.T.PartialEq.eq in
-    let old = c.self.inside.map.entries in
-    let new = c.insert_hashed.new.self.entries in
-    rw (← c.self.view_is)
-    (length-inserted eq old c.args.key tt c.answered.result new
-    (put_too c.insert_hashed.result c.answered.result c.answered.ensures.same new (insert_entry eq old c.args.key tt) c.insert_hashed.ensures.entries))
+    let added = adds-answered eq c.args.key {back = c.args.key} c.self.inside.map c.insert_hashed.new.self c.insert_hashed.result c.insert_hashed.ensures.inserts in
+    record { adds = rw (← c.self.view_is) (subst (λ r. AddsElement eq c.args.key c.args.key c.self.inside.map c.insert_hashed.new.self r) (sym c.answered.ensures) added) }

@@ -1,8 +1,7 @@
+use Rattle.std.proofs.Common.{arith, rules}
+use Rattle.std.proofs.lemmas.Grind.{common_steps}
 use Rattle.std_collections.proofs.IterRuns.{gives_in_order, gives_in_reverse}
 use Rattle.starlark_sets.proofs.small_set.SmallSet.into_iter_hashed.Goals as goal
 
 pub returns-clause-runs : goal.returns-clause-runs
-returns-clause-runs g c = gives_in_order
-
-pub returns-clause-runs_back : goal.returns-clause-runs_back
-returns-clause-runs_back g c = gives_in_reverse
+returns-clause-runs g c = (search rules, first_of (search rules, grind (arith, common_steps)), gives_in_order, gives_in_reverse)

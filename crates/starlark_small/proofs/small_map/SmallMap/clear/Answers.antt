@@ -1,10 +1,13 @@
-use Rattle.std.proofs.Common.{rules}
+use Rattle.std.proofs.Common.{arith, rules}
+use Rattle.std.proofs.lemmas.Grind.{common_steps}
 use Rattle.starlark_small.proofs.CallerUpdates.{empty-found}
 use Rattle.starlark_small.proofs.CallerOwn.{own-empty}
 use Rattle.starlark_small.proofs.small_map.SmallMap.clear.Goals as goal
 
-pub returns-clause-lacks : goal.returns-clause-lacks
-returns-clause-lacks g c test hash = empty-found _ (search rules) test hash
-
-pub returns-clause-own : goal.returns-clause-own
-returns-clause-own g c feeds = own-empty feeds _ (search rules)
+pub returns : goal.returns
+returns g c = record {
+  entries = search rules;
+  lacks = λ test hash. empty-found _ (search rules) test hash;
+  own = λ feeds. own-empty feeds _ (search rules);
+  kept = first_of (search rules, grind (arith, common_steps));
+}

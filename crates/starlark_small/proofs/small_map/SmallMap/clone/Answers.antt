@@ -1,4 +1,5 @@
-use Rattle.std.proofs.Common.{ap, ◌∙◌}
+use Rattle.std.proofs.Common.{ap, refl, ◌∙◌, rules, arith}
+use Rattle.std.proofs.lemmas.Grind.{common_steps}
 use Rattle.std.specs.Prelude.{nat_lt}
 use Rattle.starlark_small.specs.Index.{unindexed}
 use Rattle.starlark_small.proofs.Cloned.{IsSingle-clones, length-clones}
@@ -13,18 +14,25 @@ invariant_of-result g c = record {
   indexed = c.in_ok-index.ensures.indexed;
 }
 
-pub returns-clause-indexed : goal.returns-clause-indexed
-returns-clause-indexed g c =
-    rw (← c.self.view_is)
-    (c.in_ok-index.ensures.long
-    ∙ ap (nat_lt unindexed) (length-clones g.K.PartialEq.eq g.K.Clone.is_clone g.V.Clone.is_clone c.self.inside.entries.entries c.in_ok-entries.entries.entries c.in_ok-entries.ensures.entries))
+pub returns : goal.returns
+returns g c =
+    let es = c.self.inside.entries.entries in
+    let fs = c.in_ok-entries.entries.entries in
+    let clones = c.in_ok-entries.ensures.entries in
+    rw (← c.self.view_is) (record {
+      clone = record {
+        entries = search rules;
+        same = search rules;
+        found = found-clones g.K.PartialEq.eq g.met.K.Eq.laws g.K.Clone.is_clone g.V.Clone.is_clone c.requires es fs clones;
+        own = λ feeds alike. own-clones feeds g.K.Clone.is_clone g.V.Clone.is_clone (λ x y is. alike x y (c.requires x y is)) es fs clones;
+        capacity = search rules;
+        indexed = c.in_ok-index.ensures.long ∙ ap (nat_lt unindexed) (length-clones g.K.PartialEq.eq g.K.Clone.is_clone g.V.Clone.is_clone es fs clones);
+      };
+      succeeds = λ _. refl;
+    })
 
-pub returns-clause-found : goal.returns-clause-found
-returns-clause-found g c =
-    rw (← c.self.view_is)
-    (found-clones g.K.PartialEq.eq g.met.K.Eq.laws g.K.Clone.is_clone g.V.Clone.is_clone c.requires c.self.inside.entries.entries c.in_ok-entries.entries.entries c.in_ok-entries.ensures.entries)
-
-pub returns-clause-own : goal.returns-clause-own
-returns-clause-own g c =
-    rw (← c.self.view_is)
-    (λ feeds alike. own-clones feeds g.K.Clone.is_clone g.V.Clone.is_clone (λ x y is. alike x y (c.requires x y is)) c.self.inside.entries.entries c.in_ok-entries.entries.entries c.in_ok-entries.ensures.entries)
+pub returns-in_err-index : goal.returns-in_err-index
+returns-in_err-index g c = record {
+  clone = first_of (search rules, grind (arith, common_steps));
+  succeeds = first_of (search rules, grind (arith, common_steps));
+}

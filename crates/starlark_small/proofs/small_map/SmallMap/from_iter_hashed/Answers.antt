@@ -10,7 +10,7 @@ use Rattle.starlark_small.proofs.small_map.SmallMap.from_iter_hashed.Goals as go
 pub returns-clause-map : goal.returns-clause-map
 returns-clause-map g c =
     let put = c.in_ok-insert_entries.ensures.entries in
-    let none : c.in_ok-map.map.entries ≡ [] = c.in_ok-map.ensures.entries in
+    let none : c.in_ok-map.map.entries ≡ [] = c.in_ok-map.ensures.empty.entries in
     record {
       it = c.into_iter-items.result;
       made = c.into_iter-items.ensures.into_iter_gives;
@@ -19,9 +19,9 @@ returns-clause-map g c =
       items = put.items;
       drained = put.ended;
       entries = put.entries ∙ ap (λ l. insert_all g.K.PartialEq.eq l (map (λ (x : Entry g.row.K.Denot g.row.V.Denot). x) put.items)) none;
-      room = omega (arith, c.insert_entries.ensures.room, c.in_ok-map.ensures.room, ap length none);
-      capacity = c.in_ok-insert_entries.ensures.capacity ∙ stepped_from c.in_ok-map.map c.insert_entries.new.self c.size_hint.result.0 none c.in_ok-map.ensures.capacity;
-      indexed = c.in_ok-insert_entries.ensures.indexed ∙ ap (λ had. had || nat_lt unindexed (length c.insert_entries.new.self.entries)) c.in_ok-map.ensures.indexed;
+      room = omega (arith, c.insert_entries.ensures.memory.room, c.in_ok-map.ensures.empty.room, ap length none);
+      capacity = c.in_ok-insert_entries.ensures.memory.capacity ∙ stepped_from c.in_ok-map.map c.insert_entries.new.self c.size_hint.result.0 none c.in_ok-map.ensures.empty.capacity;
+      indexed = c.in_ok-insert_entries.ensures.memory.indexed ∙ ap (λ had. had || nat_lt unindexed (length c.insert_entries.new.self.entries)) c.in_ok-map.ensures.empty.indexed;
     }
 
 pub returns-clause-own : goal.returns-clause-own

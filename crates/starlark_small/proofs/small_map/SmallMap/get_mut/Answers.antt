@@ -1,10 +1,11 @@
-use Rattle.std.proofs.Common.{◌≡◌, rules, refl, ap, ◌∙◌}
+use Rattle.std.proofs.Common.{◌≡◌, refl, ap, ◌∙◌}
 use Rattle.starlark_hash.specs.Hasher.{own_hash}
 use Rattle.starlark_hash.specs.HashValue.{hash_of, key_of}
 use Rattle.starlark_lists.specs.Entries.{position_of, value_at, with_value}
 use Rattle.starlark_small.specs.Map.{query_match, own_match}
 use Rattle.starlark_small.proofs.CallerEntries.{keys-with_value}
-use Rattle.starlark_small.proofs.CallerUpdates.{found_is, writes-with_value}
+use Rattle.starlark_small.proofs.CallerShown.{finds-value}
+use Rattle.starlark_small.proofs.CallerUpdates.{writes-with_value}
 use Rattle.starlark_small.proofs.small_map.SmallMap.get_mut.Goals as goal
 
 pub returns : goal.returns
@@ -26,5 +27,5 @@ returns g c =
         ),
         refl,
       ),
-      record { writes_back = tt; value = value; found = found_is (equivalent query) (own_hash feeds query) old.entries _ value; absent = search rules },
+      record { writes_back = tt; finds = finds-value (equivalent query) (own_hash feeds query) old _ value },
     )

@@ -14,21 +14,21 @@ loop-entry-preserved-in-Ok g c =
     let inv = c.loop-entry.invariant in
     it.again inv c.in-Some.entry c.in-Some.is (c.next.ensures.steps, c.next.ensures.goes)
     (filled_more c.insert_hashed.new.self inv.holds inv.counted (it.on c.in-Some.entry c.in-Some.is c.next.ensures.goes inv.ending).2
-    c.in-Some.entry c.insert_hashed.ensures.memory c.in-Ok.ensures.entries)
+    c.in-Some.entry c.insert_hashed.ensures.inserts.memory c.in-Ok.ensures.inserts.entries)
 
 pub loop-entry-preserved : goal.loop-entry-preserved
 loop-entry-preserved g c =
     let inv = c.loop-entry.invariant in
     it.again inv c.in-Some.entry c.in-Some.is (c.next.ensures.steps, c.next.ensures.goes)
     (filled_more c.insert_hashed.new.self inv.holds inv.counted (it.on c.in-Some.entry c.in-Some.is c.next.ensures.goes inv.ending).2
-    c.in-Some.entry c.insert_hashed.ensures.memory c.in-Ok.ensures.entries)
+    c.in-Some.entry c.insert_hashed.ensures.inserts.memory c.in-Ok.ensures.inserts.entries)
 
 pub returns-in-Err : goal.returns-in-Err
 returns-in-Err g c =
     let inv = c.loop-entry.invariant in
-    let same = c.in-Err.ensures.unchanged.0 in
+    let same = c.in-Err.ensures.inserts.unchanged.0 in
     let still = filled_still c.insert_hashed.new.self inv.holds inv.counted (it.on c.in-Some.entry c.in-Some.is c.next.ensures.goes inv.ending).2
-    c.in-Some.entry c.insert_hashed.ensures.memory same c.in-Err.ensures.full in
+    c.in-Some.entry c.insert_hashed.ensures.inserts.memory same c.in-Err.ensures.inserts.full in
     record {
       entries = record {
         items = inv.seen;
@@ -37,12 +37,15 @@ returns-in-Err g c =
           next = c.in-Some.entry;
           rest = c.next.new.self;
           gave = yields_more g.I.Iterator.next_gives c.args.items c.loop-entry.items c.next.new.self inv.seen c.in-Some.entry inv.gave (it.said g.I.Iterator.next_gives c.in-Some.is c.next.ensures.steps);
-          absent = subst (λ l. match_of g.K.PartialEq.eq l c.in-Some.entry.0 ≡ None) (sym same) c.in-Err.ensures.absent;
+          absent = subst (λ l. match_of g.K.PartialEq.eq l c.in-Some.entry.0 ≡ None) (sym same) c.in-Err.ensures.inserts.absent;
         };
       };
-      succeeds = λ fits. absurd (still.lacked fits);
-      full = still.full;
-      room = still.room;
-      capacity = still.capacity;
-      indexed = still.indexed;
+      memory = record {
+        succeeds = λ fits. absurd (still.lacked fits);
+        spare = still.spare;
+        full = still.full;
+        room = still.room;
+        capacity = still.capacity;
+        indexed = still.indexed;
+      };
     }

@@ -15,6 +15,7 @@ use Rattle.starlark_hash.specs.contracts.no_room.NoRoom as N
 use Rattle.starlark_hash.specs.declared.hashed.Hashed.{Hashed}
 use Rattle.starlark_hash.specs.declared.no_room.NoRoom.{NoRoom}
 use Rattle.starlark_small.specs.Inserted.{IsInserted, IsRefused}
+use Rattle.starlark_small.specs.Inserting.{PutsLast}
 use Rattle.starlark_small.specs.Map.{Map}
 use Rattle.starlark_small.specs.Lending.{lends_inserted}
 use Rattle.starlark_small.specs.contracts.small_map.SmallMap as S
@@ -97,7 +98,7 @@ module _ (K V : RattleType) (E : Eq.Ghosts K.Denot) (dE : Dict) (P : PartialEq.G
       walk : ent 𝓤 ((walk_of 𝓛 ended stayed spec).pre bound) (WpFn 𝓤 𝓛.H C Λ here (vptr r.ref_ptr.0 r.ref_ptr.1 ∷ k ∷ v ∷ []) Post)
       walk =
           let b = r.ref_ptr.0 in let o = r.ref_ptr.1 in let m = r.now in let γ = r.ghost_name in let ql = Share.left q in let qr = Share.right q in
-          let qq : Share = (common full_share qr).0 in let eq = P.eq in
+          let qq : Share = (common full_share qr).0 in let eq = P.eq in let brought : Hashed K.Denot × V.Denot = (key, value) in
           let Ref = λ (κ' : Lft) (x : MutBor (Map K.Denot V.Denot)). (MutRef (named 0) κ' R).own_val x (vptr b o ∷ []) in
           qed 𝓛 (((‵ (flft κ q) ⊛ ‵ (flft κK qK) ⊛ ‵ (flft κV qV) ⊛ ‵ ftrue) ⊛ ‵ (owns (types_at ended.signature.params bound.0.0) bound.0.3 bound.0.4))
           ∷ (raw (fact 𝓤 (κK ⊑ K.lives)) ⊛ raw (fact 𝓤 (κV ⊑ V.lives)) ⊛ raw (fact 𝓤 (match_of eq m.entries key ≡ None))) ∷ []) ∵
@@ -131,9 +132,9 @@ module _ (K V : RattleType) (E : Eq.Ghosts K.Denot) (dE : Dict) (P : PartialEq.G
           group ! 3 $ move ! (1 ∷ 0 ∷ []) $ join ! $ use1 𝓛 (raw (Puts.pre z)) (id⊢ 𝓤 _) $
           calls_at ! fm Puts puts z (and_then ! (get ! refl) (and_then ! (get ! refl) (and_then ! (get ! refl) (no_more !)))) (λ u.
           use1 𝓛 (later (some (λ (g : Result ℕ (NoRoom (Hashed K.Denot × V.Denot))). ((‵ (flft ακ qq) ⊛ ‵ (flft κK qK) ⊛ ‵ (flft κV qV) ⊛ ‵ ftrue) ⊛ ‵ ((RS.the_row usize Back).own_val g (u ∷ [])))
-          ⊛ some (λ (ws : Lasts Putting (z.0.0) z.0.3). ‵ (lasts Putting z.0.0 z.0.3 ws) ⊛ raw (fact 𝓤 (IfOk g (λ i. i ≡ length m.entries))) ⊛ raw (fact 𝓤 (OnOk g (IsInserted m key value ws.0))) ⊛ raw (fact 𝓤 (OnErr g (m.room ≡ 0))) ⊛ raw (fact 𝓤 (OnErr g (IsRefused m ws.0))) ⊛ raw (fact 𝓤 (IfErr g (λ x. x.0 ≡ (key, value)))))))) (id⊢ 𝓤 _) $ await ! tt $
-          pick ! (λ g. split ! $ move ! (1 ∷ []) $ pick ! (λ ws. split ! $ fsplit ! $ fsplit ! $ move ! (3 ∷ []) $ split3 ! $
-          heard ! (IfOk g (λ i. i ≡ length m.entries)) (λ at_end. heard ! (OnOk g (IsInserted m key value ws.0)) (λ put. split3 ! $ heard ! (OnErr g (m.room ≡ 0)) (λ none. heard ! (OnErr g (IsRefused m ws.0)) (λ same. heard ! (IfErr g (λ x. x.0 ≡ (key, value))) (λ back.
+          ⊛ some (λ (ws : Lasts Putting (z.0.0) z.0.3). ‵ (lasts Putting z.0.0 z.0.3 ws) ⊛ raw (fact 𝓤 (IfOk g (λ i. i ≡ length m.entries))) ⊛ raw (fact 𝓤 (PutsLast key value brought m ws.0 g)))))) (id⊢ 𝓤 _) $ await ! tt $
+          pick ! (λ g. split ! $ move ! (1 ∷ []) $ pick ! (λ ws. split ! $ fsplit ! $ fsplit ! $ move ! (3 ∷ []) $ split ! $
+          heard ! (IfOk g (λ i. i ≡ length m.entries)) (λ at_end. heard ! (PutsLast key value brought m ws.0 g) (λ puts.
           let mm : Map K.Denot V.Denot = ws.0 in let self : MutBor (Map K.Denot V.Denot) = record r { now = mm } in
           move ! (3 ∷ []) $ split ! $ split3 ! $ move ! (2 ∷ []) $ split ! $
           -- the loan is over, and self is back
@@ -146,7 +147,7 @@ module _ (K V : RattleType) (E : Eq.Ghosts K.Denot) (dE : Dict) (P : PartialEq.G
             | inl w ↦
                 let i = w.0 in
                 let last : i ≡ length m.entries = subst (λ (h : Result ℕ (NoRoom (Hashed K.Denot × V.Denot))). IfOk h (λ j. j ≡ length m.entries)) w.1 at_end in
-                let new : IsInserted m key value mm = subst (λ (h : Result ℕ (NoRoom (Hashed K.Denot × V.Denot))). OnOk h (IsInserted m key value mm)) w.1 put in
+                let new : IsInserted m key value mm = subst (λ (h : Result ℕ (NoRoom (Hashed K.Denot × V.Denot))). OnOk h (IsInserted m key value mm)) w.1 puts.inserted in
                 let within : i < length mm.entries = within_inserted m mm key value i last new in
                 rewrite ! 0 (λ (h : Result ℕ (NoRoom (Hashed K.Denot × V.Denot))). ‵ ((RS.the_row usize Back).own_val h (u ∷ []))) w.1 refl $
                 use1 𝓛 (given ((u ≡ live 0 (vcons (vint w64 i) vnil)) × Good (layout usize) (vint w64 i)) (‵ (usize.own_val i (vint w64 i ∷ [])))) (in_ok_told 𝓛 usize Back u i (vint w64 i) (λ vs is. (uint_Tells w64 i vs is, (tt, record { fits = is.1 })))) $ learn ! (λ at_u. drop ! $
@@ -183,9 +184,9 @@ module _ (K V : RattleType) (E : Eq.Ghosts K.Denot) (dE : Dict) (P : PartialEq.G
                   ((λ e. absurd (suc-ne-zero 0 (sym e))), tt),
                 ))
             | inr w ↦
-                let same' : IsRefused m mm = subst (λ (h : Result ℕ (NoRoom (Hashed K.Denot × V.Denot))). OnErr h (IsRefused m mm)) w.1 same in
-                let none' : m.room ≡ 0 = subst (λ (h : Result ℕ (NoRoom (Hashed K.Denot × V.Denot))). OnErr h (m.room ≡ 0)) w.1 none in
-                let back' : (w.0).0 ≡ (key, value) = subst (λ (h : Result ℕ (NoRoom (Hashed K.Denot × V.Denot))). IfErr h (λ x. x.0 ≡ (key, value))) w.1 back in
+                let same' : IsRefused m mm = subst (λ (h : Result ℕ (NoRoom (Hashed K.Denot × V.Denot))). OnErr h (IsRefused m mm)) w.1 puts.refused in
+                let none' : m.room ≡ 0 = subst (λ (h : Result ℕ (NoRoom (Hashed K.Denot × V.Denot))). OnErr h (m.room ≡ 0)) w.1 puts.full in
+                let back' : (w.0).0 ≡ (key, value) = subst (λ (h : Result ℕ (NoRoom (Hashed K.Denot × V.Denot))). IfErr h (λ x. x.0 ≡ (key, value))) w.1 puts.handed_back in
                 let out : Out = Err w.0 in
                 rewrite ! 0 (λ (h : Result ℕ (NoRoom (Hashed K.Denot × V.Denot))). ‵ ((RS.the_row usize Back).own_val h (u ∷ []))) w.1 refl $
                 use1 𝓛 (some (λ (ev : Val). given ((u ≡ live 1 (vcons ev vnil)) × Good (layout Back) ev) (‵ (Back.own_val w.0 (ev ∷ []))))) (in_err 𝓛 usize Back u w.0 (lone_value 𝓛 Back (back_laws LK LV) w.0)) $ pick ! (λ ev. learn ! (λ at_u.
@@ -214,7 +215,7 @@ module _ (K V : RattleType) (E : Eq.Ghosts K.Denot) (dE : Dict) (P : PartialEq.G
                     tt,
                   ),
                 )))
-          ]))))))))))))))
+          ])))))))))))
 
 pub insert_hashed_unique_unchecked_spec : {M : Type 1} → statement M
 insert_hashed_unique_unchecked_spec 𝓤 𝓛 𝓜 𝓡 wired K V LK LV E dE P dP is_eq is_partial =

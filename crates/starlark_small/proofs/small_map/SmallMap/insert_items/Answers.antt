@@ -16,21 +16,21 @@ loop-pair-preserved-in-Ok g c =
     let inv = c.loop-pair.invariant in
     it.again inv c.in-Some.pair c.in-Some.is (c.next.ensures.steps, c.next.ensures.goes)
     (filled_more c.insert.new.self inv.holds inv.counted (it.on c.in-Some.pair c.in-Some.is c.next.ensures.goes inv.ending).2
-    c.in-Some.pair c.insert.ensures.memory c.in-Ok.ensures.entries)
+    c.in-Some.pair c.insert.ensures.inserts.memory c.in-Ok.ensures.inserts.entries)
 
 pub loop-pair-preserved : goal.loop-pair-preserved
 loop-pair-preserved g c =
     let inv = c.loop-pair.invariant in
     it.again inv c.in-Some.pair c.in-Some.is (c.next.ensures.steps, c.next.ensures.goes)
     (filled_more c.insert.new.self inv.holds inv.counted (it.on c.in-Some.pair c.in-Some.is c.next.ensures.goes inv.ending).2
-    c.in-Some.pair c.insert.ensures.memory c.in-Ok.ensures.entries)
+    c.in-Some.pair c.insert.ensures.inserts.memory c.in-Ok.ensures.inserts.entries)
 
 pub returns-in-Err : goal.returns-in-Err
 returns-in-Err g c =
     let inv = c.loop-pair.invariant in
-    let same = c.in-Err.ensures.unchanged.0 in
+    let same = c.in-Err.ensures.inserts.unchanged.0 in
     let still = filled_still c.insert.new.self inv.holds inv.counted (it.on c.in-Some.pair c.in-Some.is c.next.ensures.goes inv.ending).2
-    c.in-Some.pair c.insert.ensures.memory same c.in-Err.ensures.full in
+    c.in-Some.pair c.insert.ensures.inserts.memory same c.in-Err.ensures.inserts.full in
     record {
       entries = record {
         items = inv.seen;
@@ -39,16 +39,18 @@ returns-in-Err g c =
           next = c.in-Some.pair;
           rest = c.next.new.self;
           gave = yields_more g.I.Iterator.next_gives c.args.items c.loop-pair.items c.next.new.self inv.seen c.in-Some.pair inv.gave (it.said g.I.Iterator.next_gives c.in-Some.is c.next.ensures.steps);
-          absent = subst (λ l. match_of g.K.PartialEq.eq l (own_entry g.K.Hash.hash_input c.in-Some.pair).0 ≡ None) (sym same) c.in-Err.ensures.absent;
+          absent = subst (λ l. match_of g.K.PartialEq.eq l (own_entry g.K.Hash.hash_input c.in-Some.pair).0 ≡ None) (sym same) c.in-Err.ensures.inserts.absent;
         };
       };
-      succeeds = λ fits. absurd (still.lacked fits);
-      spare = still.spare;
+      memory = record {
+        succeeds = λ fits. absurd (still.lacked fits);
+        spare = still.spare;
+        full = still.full;
+        room = still.room;
+        capacity = still.capacity;
+        indexed = still.indexed;
+      };
       left = still.left;
-      full = still.full;
-      room = still.room;
-      capacity = still.capacity;
-      indexed = still.indexed;
     }
 
 pub returns-clause-left : goal.returns-clause-left

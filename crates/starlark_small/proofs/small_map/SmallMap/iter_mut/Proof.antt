@@ -13,16 +13,15 @@ use Rattle.starlark_vec2.specs.contracts.pairs_mut.PairsMut as P-type
 use Rattle.starlark_vecmap.specs.contracts.vec_map.VecMap.iter_mut as g
 use Rattle.starlark_vecmap.proofs.vec_map.VecMap.iter_mut.Symbol.{name as #run}
 use Rattle.starlark_vecmap.proofs.vec_map.VecMap.iter_mut.Met as walked_entries
-use Rattle.starlark_vecmap.proofs.ValuesWritten.{with_values-again, length-with_values, keys-with_values}
+use Rattle.starlark_vecmap.proofs.ValuesWritten.{with_values-again, length-with_values}
 use Rattle.starlark_vecmap.specs.EntryList.{EntryList, with_entries, with_values}
 use Rattle.starlark_table.specs.Table.{Table}
 use Rattle.starlark_small.specs.Index.{index_room}
-use Rattle.starlark_small.specs.Lending.{KeepsKeys, KeepsLength, KeepsMembers, KeepsOwnHashes}
+use Rattle.starlark_small.specs.Lending.{KeepsAllButValues}
 use Rattle.starlark_small.specs.Map.{Map}
 use Rattle.starlark_small.specs.contracts.small_map.SmallMap.iter_mut as F
 use Rattle.starlark_small.specs.contracts.small_map.SmallMap.iter_mut.Key.{name as #self}
-use Rattle.starlark_small.proofs.CallerOwn.{own-with_values}
-use Rattle.starlark_small.proofs.CallerWalked.{found-with_values}
+use Rattle.starlark_small.proofs.KeptInWalks.{keeps-all_but_values}
 use Rattle.starlark_small.proofs.SmallMapOpen as O
 use Rattle.starlark_small.proofs.ValuesWritten.{IsSound-with_values}
 use Rattle.starlark_small.proofs.small_map.SmallMap.iter_mut.Statement as stated
@@ -167,12 +166,9 @@ module _ (A B : RattleType) (E : Eq.Ghosts A.Denot) (dE : Dict) (P : PartialEq.G
           returns ! (look_at ! 0 refl) $ free_all ! refl $ keep ! (0 ∷ 3 ∷ 4 ∷ 1 ∷ 5 ∷ []) $
           suffices ! _ (ends_at 𝓛 ended stayed spec bound lone.0 new (tt, tt) (tt, tt)) $
           nothing ! $ nothing ! $ fjoin ! $ join ! $ nothing ! $ move ! (4 ∷ 0 ∷ []) $ join ! $ move ! (3 ∷ 0 ∷ []) $ join ! $ move ! (2 ∷ 0 ∷ []) $ join ! $ join ! $ frame ! $
-          use0 𝓛 (raw (fact 𝓤 (KeepsOwnHashes v))) (fact_i 𝓤 _ (emp 𝓤) (λ ws feeds. own-with_values feeds v.entries ws)) $
-          use0 𝓛 (raw (fact 𝓤 (KeepsMembers P.eq v))) (fact_i 𝓤 _ (emp 𝓤) (λ ws under key. found-with_values (P.eq key) under v.entries ws)) $
-          use0 𝓛 (raw (fact 𝓤 (KeepsLength v))) (fact_i 𝓤 _ (emp 𝓤) (length-with_values v.entries)) $
-          use0 𝓛 (raw (fact 𝓤 (KeepsKeys v))) (fact_i 𝓤 _ (emp 𝓤) (keys-with_values v.entries)) $
+          use0 𝓛 (raw (fact 𝓤 (KeepsAllButValues P.eq v))) (fact_i 𝓤 _ (emp 𝓤) (keeps-all_but_values P.eq v)) $
           use0 𝓛 (raw (fact 𝓤 (length v.entries < 2 ^ 64))) (fact_i 𝓤 _ (emp 𝓤) (rw (ap (λ (m : Map A.Denot B.Denot). length m.entries) (sym d'.1.0)) fits)) $
-          use0 𝓛 (raw (fact 𝓤 (new.0 ≡ map pair_of v.entries))) (fact_i 𝓤 _ (emp 𝓤) (rest ∙ ap (λ (m : Map A.Denot B.Denot). map pair_of m.entries) d'.1.0)) $ move ! (6 ∷ 0 ∷ 1 ∷ 2 ∷ 3 ∷ 4 ∷ 5 ∷ []) $ done !))))))))))))
+          use0 𝓛 (raw (fact 𝓤 (new.0 ≡ map pair_of v.entries))) (fact_i 𝓤 _ (emp 𝓤) (rest ∙ ap (λ (m : Map A.Denot B.Denot). map pair_of m.entries) d'.1.0)) $ move ! (3 ∷ 0 ∷ 1 ∷ 2 ∷ []) $ done !))))))))))))
 
 meets : (A B : RattleType) (E : Eq.Ghosts A.Denot) (dE : Dict) (P : PartialEq.Ghosts A.Denot) (dP : Dict) → Laws A → Laws B → {M : Type 1} {𝓤 : Ura M} (𝓛 : Logic 𝓤) (at_mem : Memory → SProp 𝓤) (run : Routine → Fun 𝓤) (𝓣 : Tables 𝓤 𝓛.H)
     → Triple 𝓤 (𝓣.C (#run (lends A B E dE P dP))) (Run A B E dE P dP 𝓛 at_mem run)

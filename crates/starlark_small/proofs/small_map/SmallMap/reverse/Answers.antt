@@ -1,4 +1,5 @@
-use Rattle.std.proofs.Common.{IsPermutation, subst, sym}
+use Rattle.std.proofs.Common.{IsPermutation, arith, rules, subst, sym}
+use Rattle.std.proofs.lemmas.Grind.{common_steps}
 use Rattle.std.specs.Prelude.{reverse}
 use Rattle.std.proofs.lemmas.List.Sorted.{IsPermutation-reverse}
 use Rattle.starlark_lists.specs.Entries.{IsSingle}
@@ -12,18 +13,16 @@ invariant_of-self g c =
     let es = c.self.inside.entries.entries in
     record {
       single = subst (λ l. IsSingle g.K.PartialEq.eq l.entries) (sym c.reverse_indexed.ensures.entries) (IsSingle-permutation g.K.PartialEq.eq g.met.K.Eq.laws es (reverse es) c.self.invariant.single (IsPermutation-reverse es));
-      indexed = c.reverse_indexed.ensures.indexed;
+      indexed = c.reverse_indexed.ensures.follows.indexed;
     }
 
-pub returns-clause-same : goal.returns-clause-same
-returns-clause-same g c under key =
+pub returns : goal.returns
+returns g c =
     let es = c.self.inside.entries.entries in
-    rw (← c.self.view_is)
-    (same-permuted g.K.PartialEq.eq g.met.K.Eq.laws _ _ c.self.invariant.single
-    (subst (λ l. IsPermutation es l.entries) (sym c.reverse_indexed.ensures.entries) (IsPermutation-reverse es)) under key)
-
-pub returns-clause-own : goal.returns-clause-own
-returns-clause-own g c feeds =
-    let es = c.self.inside.entries.entries in
-    rw (← c.self.view_is)
-    (own-permuted feeds _ _ (subst (λ l. IsPermutation es l.entries) (sym c.reverse_indexed.ensures.entries) (IsPermutation-reverse es)))
+    let moved = subst (λ l. IsPermutation es l.entries) (sym c.reverse_indexed.ensures.entries) (IsPermutation-reverse es) in
+    record {
+      entries = first_of (search rules, grind (arith, common_steps));
+      same = λ under key. rw (← c.self.view_is) (same-permuted g.K.PartialEq.eq g.met.K.Eq.laws _ _ c.self.invariant.single moved under key);
+      own = λ feeds. rw (← c.self.view_is) (own-permuted feeds _ _ moved);
+      kept = first_of (search rules, grind (arith, common_steps));
+    }

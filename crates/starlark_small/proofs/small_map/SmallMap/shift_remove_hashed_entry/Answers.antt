@@ -33,6 +33,6 @@ returns-clause-removes g c =
       updates = writes-removed g.K.PartialEq.eq g.met.K.Eq.laws (hash_of c.args.key) (g.Q.Equivalent.equivalent query) (g.met.Q.Equivalent.respects_eq query)
           c.args.self.now.entries c.take_at-key.new.self.entries c.in_ok-index.ensures.single (search rules);
       count = length-removed (g.Q.Equivalent.equivalent query) (hash_of c.args.key) c.args.self.now.entries c.take_at-key.new.self.entries (search rules);
-      own = λ feeds. own-removed feeds c.args.self.now.entries c.take_at-key.new.self.entries _ c.take_at-key.ensures.removes.entries;
+      own = λ feeds. own-removed feeds c.args.self.now.entries c.take_at-key.new.self.entries _ c.take_at-key.ensures.takes.removes.entries;
       kept = search rules;
     }

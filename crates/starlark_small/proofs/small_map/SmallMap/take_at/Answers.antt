@@ -15,13 +15,13 @@ invariant_of-self g c =
     (record { single = IsSingle-remove g.K.PartialEq.eq list.entries c.args.index (omega (arith, c.requires, ap (λ m. length m.entries) c.self.view_is)) c.self.invariant.single; indexed = c.forget.ensures.indexed })
 
 pub returns-clause-takes : goal.returns-clause-takes
-returns-clause-takes g c =
-    rw (← c.self.view_is)
-    (takes-out g.K.PartialEq.eq g.met.K.Eq.laws _ _ c.args.index c.remove.result c.self.invariant.single (search rules) (ap (λ l. l.entries) c.remove.ensures.list))
-
-pub returns-clause-removes : goal.returns-clause-removes
-returns-clause-removes g c = record {
-  entries = search rules;
-  own = λ feeds. own-removed feeds c.args.self.now.entries _ c.args.index (search rules);
-  kept = first_of (search rules, grind (arith, common_steps));
+returns-clause-takes g c = record {
+  taken = search rules;
+  takes = rw (← c.self.view_is) (takes-out g.K.PartialEq.eq g.met.K.Eq.laws _ _ c.args.index c.remove.result c.self.invariant.single (search rules) (ap (λ l. l.entries) c.remove.ensures.list));
+  count = grind (arith, common_steps);
+  removes = record {
+    entries = search rules;
+    own = λ feeds. own-removed feeds c.args.self.now.entries _ c.args.index (search rules);
+    kept = first_of (search rules, grind (arith, common_steps));
+  };
 }

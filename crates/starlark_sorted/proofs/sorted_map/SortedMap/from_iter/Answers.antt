@@ -7,12 +7,12 @@ use Rattle.starlark_sorted.proofs.sorted_map.SortedMap.from_iter.Goals as goal
 
 pub returns-in-Ok-clause-own : goal.returns-in-Ok-clause-own
 returns-in-Ok-clause-own g c =
-    let made = c.in_ok-map.ensures.map in
+    let made = c.in_ok-map.ensures.made.map in
     sorted-own g.K.PartialEq.eq g.K.Hash.hash_input (own_entry g.K.Hash.hash_input) (λ p. refl) g.K.Ord.cmp made.items c.in_ok-map.map.entries c.in-Ok.sorted.entries made.entries c.in-Ok.ensures.sorted.0
 
 pub returns-clause-succeeds : goal.returns-clause-succeeds
 returns-clause-succeeds g c = λ nothing.
-    let made = c.in_ok-map.ensures.map in
+    let made = c.in_ok-map.ensures.made.map in
     let none = ap (λ items. insert_all g.K.PartialEq.eq [] (map (own_entry g.K.Hash.hash_input) items)) ((nothing made.it made.made).1 made.items made.drained) in
     c.in-Err.ensures.succeeds (Ascends-empty g.K.Ord.cmp c.in_ok-map.map.entries (made.entries ∙ none))
 

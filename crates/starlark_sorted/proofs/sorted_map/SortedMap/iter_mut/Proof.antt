@@ -12,6 +12,8 @@ use Rattle.starlark_vec2.specs.contracts.pairs_mut.PairsMut as Walk
 use Rattle.starlark_vecmap.specs.EntryList.{with_values}
 use Rattle.starlark_small.specs.Map.{Map}
 use Rattle.starlark_small.specs.contracts.small_map.SmallMap as Small
+use Rattle.starlark_small.specs.Lending.{KeepsAllButValues}
+use Rattle.starlark_small.proofs.KeptInWalks.{keeps-all_but_values}
 use Rattle.starlark_small.proofs.LentInResult.{lone_value}
 use Rattle.starlark_sets.specs.contracts.ordered_map.OrderedMap.iter_mut as g
 use Rattle.starlark_sets.proofs.ordered_map.OrderedMap.iter_mut.Symbol.{name as #run}
@@ -119,8 +121,8 @@ module _ (A B : RattleType) (N : Ord.Ghosts A.Denot) (dN : Dict) (E : Eq.Ghosts 
           use1 𝓛 (raw (Run.pre z)) (id⊢ 𝓤 _) $
           calls_at ! fm Run gr z (and_then ! (get ! refl) (no_more !)) (λ u.
           use1 𝓛 (later (some (λ (y : List (A.Denot × B.Denot) × GName). ((‵ (flft κ (Share.right q)) ⊛ ‵ (flft κA qA) ⊛ ‵ (flft κB qB) ⊛ ‵ ftrue) ⊛ ‵ (It.own_val y (u ∷ []))) ⊛ raw (ensured 𝓛 (g.ended A B E dE P dP) (g.clauses A B E dE P dP 𝓛 at_mem run) z.0.0 z.0.3 tt y)))) (id⊢ 𝓤 _) $ await ! tt $ pick ! (λ y. split ! $ move ! (1 ∷ []) $
-          use1 𝓛 (‵ (follows CP Inner δ y.1 (with m)) ⊛ raw (fact 𝓤 (y.0 ≡ map pair_of m.entries)) ⊛ raw (fact 𝓤 (length m.entries < 2 ^ 64))) (ex_e 𝓤 _ (λ ws. snd∗ 𝓤 (sem 𝓛 (lasts (g.ended A B E dE P dP) z.0.0 z.0.3 ws)) _)) $
-          split3 ! $ move ! (1 ∷ []) $ heard ! (y.0 ≡ map pair_of m.entries) (λ pairs. move ! (1 ∷ []) $ heard ! (length m.entries < 2 ^ 64) (λ fits.
+          use1 𝓛 (‵ (follows CP Inner δ y.1 (with m)) ⊛ raw (fact 𝓤 (y.0 ≡ map pair_of m.entries)) ⊛ raw (fact 𝓤 (length m.entries < 2 ^ 64)) ⊛ raw (fact 𝓤 (KeepsAllButValues P.eq m))) (ex_e 𝓤 _ (λ ws. snd∗ 𝓤 (sem 𝓛 (lasts (g.ended A B E dE P dP) z.0.0 z.0.3 ws)) _)) $
+          split3 ! $ move ! (1 ∷ []) $ heard ! (y.0 ≡ map pair_of m.entries) (λ pairs. move ! (1 ∷ []) $ split ! $ heard ! (length m.entries < 2 ^ 64) (λ fits. drop ! $
           -- [what the map inside follows; the tokens with the walk; the right; the open borrow; the rest; obs; auth]
           move ! (3 ∷ 5 ∷ 6 ∷ 2 ∷ 0 ∷ 4 ∷ []) $ group ! 6 $
           use1 𝓛 (later (‵ (flft κ (Share.left q)) ⊛ ‵ (follows W Inner γ y.1 (with v))))
@@ -135,8 +137,9 @@ module _ (A B : RattleType) (N : Ord.Ghosts A.Denot) (dN : Dict) (E : Eq.Ghosts 
           returns ! (look_at ! 0 refl) $ free_all ! refl $ keep ! (0 ∷ 3 ∷ 4 ∷ 1 ∷ 5 ∷ []) $
           suffices ! _ (ends_at 𝓛 ended stayed spec bound lone.0 y (tt, tt) (tt, tt)) $
           nothing ! $ nothing ! $ fjoin ! $ join ! $ nothing ! $ move ! (4 ∷ 0 ∷ []) $ join ! $ move ! (3 ∷ 0 ∷ []) $ join ! $ move ! (2 ∷ 0 ∷ []) $ join ! $ join ! $ frame ! $
+          use0 𝓛 (raw (fact 𝓤 (KeepsAllButValues P.eq v))) (fact_i 𝓤 _ (emp 𝓤) (keeps-all_but_values P.eq v)) $
           use0 𝓛 (raw (fact 𝓤 (length v.entries < 2 ^ 64))) (fact_i 𝓤 _ (emp 𝓤) (rw (← d'.1.0) fits)) $
-          use0 𝓛 (raw (fact 𝓤 (y.0 ≡ map pair_of v.entries))) (fact_i 𝓤 _ (emp 𝓤) (pairs ∙ ap (λ (n : M). map pair_of n.entries) d'.1.0)) $ move ! (2 ∷ 0 ∷ 1 ∷ []) $ done !)))))))))))
+          use0 𝓛 (raw (fact 𝓤 (y.0 ≡ map pair_of v.entries))) (fact_i 𝓤 _ (emp 𝓤) (pairs ∙ ap (λ (n : M). map pair_of n.entries) d'.1.0)) $ move ! (3 ∷ 0 ∷ 1 ∷ 2 ∷ []) $ done !)))))))))))
 
 meets : (A B : RattleType) (N : Ord.Ghosts A.Denot) (dN : Dict) (E : Eq.Ghosts A.Denot) (dE : Dict) (P : PartialEq.Ghosts A.Denot) (dP : Dict) (L : PartialOrd.Ghosts A.Denot) (dL : Dict) (G : Hash.Ghosts A.Denot) (dG : Dict) → Laws A → Laws B
     → {U : Type 1} {𝓤 : Ura U} (𝓛 : Logic 𝓤) (at_mem : Memory → SProp 𝓤) (run : Routine → Fun 𝓤) (𝓣 : Tables 𝓤 𝓛.H)
