@@ -1,5 +1,6 @@
 //! The walks of an `OrderedMap`, which are those of the map inside.
 ghost use Rattle.std.specs.Prelude.{◌≡◌, map};
+ghost use Rattle.std.specs.Map.{values_of};
 ghost use Rattle.std.specs.Map.Iter.{deref, deref_pair};
 ghost use Rattle.starlark_lists.specs.Entries.{IsSingle, entry_key, entry_value, pair_of};
 ghost use Rattle.starlark_small.specs.Iter.{deref_entry};
@@ -13,6 +14,7 @@ impl<K: Eq, V> OrderedMap<K, V> {
     #[inline]
     pub fn iter(&self) -> Iter<'_, K, V>
         ensures pairs { result ≡ map pair_of self.now.entries }
+        ensures values { values_of result ≡ map entry_value self.now.entries }
         ensures runs { ShowsEach self.now.entries result (deref_pair {K = K} {X = V}) }
     {
         self.0.iter()
@@ -56,7 +58,10 @@ impl<K: Eq + Drop, V: Drop> IntoIterator for OrderedMap<K, V> {
 
     /// The keys and values by value, in order.
     #[inline]
-    fn into_iter(self) -> IntoIter<K, V> {
+    fn into_iter(self) -> IntoIter<K, V>
+        ensures into_iter_gives { (result ≡ map pair_of self.entries) × GivesEach self.entries result (K × V) }
+        ensures values { values_of result ≡ map entry_value self.entries }
+    {
         self.0.into_iter()
     }
 }
@@ -70,7 +75,10 @@ impl<'a, K: Eq, V> IntoIterator for &'a OrderedMap<K, V> {
 
     /// The keys and values in order.
     #[inline]
-    fn into_iter(self) -> Iter<'a, K, V> {
+    fn into_iter(self) -> Iter<'a, K, V>
+        ensures into_iter_gives { (result ≡ map pair_of self.now.entries) × ShowsEach self.now.entries result (deref_pair {K = K} {X = V}) }
+        ensures values { values_of result ≡ map entry_value self.now.entries }
+    {
         self.iter()
     }
 }

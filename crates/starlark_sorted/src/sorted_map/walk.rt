@@ -1,5 +1,6 @@
 //! The walks of a `SortedMap`, in ascending order of the keys.
 ghost use Rattle.std.specs.Prelude.{◌≡◌, map};
+ghost use Rattle.std.specs.Map.{values_of};
 ghost use Rattle.std.specs.Map.Iter.{deref, deref_pair};
 ghost use Rattle.starlark_lists.specs.Entries.{IsSingle, entry_key, entry_value, pair_of};
 ghost use Rattle.starlark_lists.specs.Sorting.{Ascends};
@@ -16,6 +17,7 @@ impl<K: Ord + Hash, V> SortedMap<K, V> {
     #[inline]
     pub fn iter(&self) -> Iter<'_, K, V>
         ensures pairs { result ≡ map pair_of self.now.entries }
+        ensures values { values_of result ≡ map entry_value self.now.entries }
         ensures ascends { Ascends K.cmp self.now.entries }
         ensures runs { ShowsEach self.now.entries result (deref_pair {K = K} {X = V}) }
     {
@@ -66,7 +68,10 @@ impl<K: Ord + Hash + Drop, V: Drop> IntoIterator for SortedMap<K, V> {
 
     /// The keys and values by value, in order.
     #[inline]
-    fn into_iter(self) -> IntoIter<K, V> {
+    fn into_iter(self) -> IntoIter<K, V>
+        ensures into_iter_gives { (result ≡ map pair_of self.entries) × Ascends K.cmp self.entries × GivesEach self.entries result (K × V) }
+        ensures values { values_of result ≡ map entry_value self.entries }
+    {
         self.map.into_iter()
     }
 }
@@ -80,7 +85,10 @@ impl<'a, K: Ord + Hash, V> IntoIterator for &'a SortedMap<K, V> {
 
     /// The keys and values in order.
     #[inline]
-    fn into_iter(self) -> Iter<'a, K, V> {
+    fn into_iter(self) -> Iter<'a, K, V>
+        ensures into_iter_gives { (result ≡ map pair_of self.now.entries) × Ascends K.cmp self.now.entries × ShowsEach self.now.entries result (deref_pair {K = K} {X = V}) }
+        ensures values { values_of result ≡ map entry_value self.now.entries }
+    {
         self.iter()
     }
 }
