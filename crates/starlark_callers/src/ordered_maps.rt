@@ -2,7 +2,7 @@
 ghost use Rattle.std.specs.Hash as fed;
 ghost use Rattle.std.specs.Map.{update_all};
 ghost use Rattle.std.specs.Option.{option_map, unwrap_or};
-ghost use Rattle.std.specs.Prelude.{◌≡◌, ℕ, ◌+◌, ◌-◌, ◌≤◌, ◌<◌, ◌^◌, drop, filter, if◌then◌else◌, is_some, length, map, min, nat_eq, nat_lt, slice_get, sum, false, true, Some, None, IfOk, OnOk, OnErr};
+ghost use Rattle.std.specs.Prelude.{◌≡◌, ℕ, ◌+◌, ◌-◌, ◌≤◌, ◌<◌, ◌^◌, drop, filter, if◌then◌else◌, is_some, length, map, min, nat_eq, nat_lt, slice_get, sum, false, true, All, Some, None, IfOk, IfSome, OnOk, OnErr};
 ghost use Rattle.std.specs.String.{string_bytes, string_eq};
 ghost use Rattle.std.specs.declared.alloc.Global.{Global};
 ghost use Rattle.std.specs.declared.string.String.{String};
@@ -353,4 +353,130 @@ pub fn zeroed<K: Eq + Hash>(map: &mut OrderedMap<K, u64>)
     ensures there { (key : K) → contains K.eq K.hash_input map.new key ≡ contains K.eq K.hash_input map.old key }
 {
     written::zeroed_any(map.as_mut_small_map());
+}
+
+/// Sets all values to 0 by the map's own walk: the keys stay, and so does how many there are.
+pub fn zeroed_along<K: Eq + Hash>(map: &mut OrderedMap<K, u64>)
+    ensures keys { keys map.new ≡ keys map.old }
+    ensures count { length map.new.entries ≡ length map.old.entries }
+    ensures there { (key : K) → contains K.eq K.hash_input map.new key ≡ contains K.eq K.hash_input map.old key }
+    ensures own { AreOwn K.hash_input map.old → AreOwn K.hash_input map.new }
+{
+    for (_key, value) in map.iter_mut() {
+        *value = 0;
+    }
+}
+
+/// The same by the values alone.
+pub fn zeroed_values(map: &mut OrderedMap<u32, u64>)
+    ensures keys { keys map.new ≡ keys map.old }
+    ensures there { (key : ℕ) → contains nat_eq fed.u32 map.new key ≡ contains nat_eq fed.u32 map.old key }
+    ensures room { map.new.room ≡ map.old.room }
+{
+    for value in map.values_mut() {
+        *value = 0;
+    }
+}
+
+/// The same of names, and answers how many there are.
+pub fn zeroed_named(map: &mut OrderedMap<String, u64>) -> usize
+    ensures keys { keys map.new ≡ keys map.old }
+    ensures count { result ≡ length map.old.entries }
+    ensures there { (name : String Global) → contains string_eq (λ s. fed.str (string_bytes s)) map.new name ≡ contains string_eq (λ s. fed.str (string_bytes s)) map.old name }
+{
+    for (_name, value) in &mut *map {
+        *value = 0;
+    }
+    map.len()
+}
+
+/// Sets all values to 0, and asks whether a key is there.
+pub fn zeroed_and_has<K: Eq + Hash>(map: &mut OrderedMap<K, u64>, key: &K) -> bool
+    ensures { result ≡ contains K.eq K.hash_input map.old key.now }
+{
+    for value in map.values_mut() {
+        *value = 0;
+    }
+    map.contains_key(key)
+}
+
+/// The sum of the values of few pairs.
+pub fn total_of_pairs<K: Eq>(entries: &OrderedMap<K, u32>) -> u64
+    requires { length entries.now.entries < 2 ^ 32 }
+    ensures { result ≡ sum (map entry_value entries.now.entries) }
+{
+    entries.iter().map(|(_key, value)| *value as u64).sum()
+}
+
+/// An empty map, which has nothing at any key.
+pub fn fresh<K: Eq + Hash, V>(alloc: Global) -> OrderedMap<K, V>
+    ensures none { (key : K) → get K.eq K.hash_input result key ≡ None }
+    ensures own { AreOwn K.hash_input result }
+{
+    OrderedMap::new(alloc)
+}
+
+/// Whether an empty map has a key.
+pub fn fresh_has(alloc: Global, key: &String) -> bool
+    ensures { result ≡ false }
+{
+    let map: OrderedMap<String, u64> = OrderedMap::new(alloc);
+    map.contains_key(key)
+}
+
+/// The value at a key, within a bound that each value meets.
+pub fn bounded<K: Eq + Hash>(entries: &OrderedMap<K, u64>, key: &K, most: u64) -> u64
+    requires { All (λ value. value ≤ most) (map entry_value entries.now.entries) }
+    ensures value { result ≡ unwrap_or (get K.eq K.hash_input entries.now key.now) 0 }
+    ensures within { result ≤ most }
+{
+    entries.get(key).copied().unwrap_or(0)
+}
+
+/// The next of a value that each value is below.
+pub fn next_of(entries: &OrderedMap<u32, u8>, key: u32) -> Option<u8>
+    requires { All (λ value. value < 100) (map entry_value entries.now.entries) }
+    ensures { IfSome result (λ n. n ≤ 100) }
+{
+    match entries.get(&key) {
+        Some(value) => Some(*value + 1),
+        None => None,
+    }
+}
+
+/// Adds to the value at an entry of the map inside.
+pub fn add(
+    map: &mut OrderedMap<u32, u64>,
+    number: u32,
+    n: u64,
+) -> Result<(), NoRoom<(Hashed<u32>, u64)>>
+    requires { unwrap_or (get nat_eq fed.u32 map.old number) 0 + n < 2 ^ 64 }
+    ensures here { OnOk result (get nat_eq fed.u32 map.new number ≡ Some (unwrap_or (get nat_eq fed.u32 map.old number) 0 + n)) }
+    ensures others { OnOk result ((other : ℕ) → nat_eq number other ≡ false → get nat_eq fed.u32 map.new other ≡ get nat_eq fed.u32 map.old other) }
+{
+    entries::add(map.as_mut_small_map(), number, n)
+}
+
+/// The value at a key, or 0, which is no more than all together.
+pub fn part_of_total(entries: &OrderedMap<u32, u64>, key: u32) -> u64
+    ensures { result ≤ sum (map entry_value entries.now.entries) }
+{
+    entries.get(&key).copied().unwrap_or(0)
+}
+
+/// How many pairs a walk shows.
+pub fn how_many(map: &OrderedMap<u32, u8>) -> usize
+    ensures { result ≡ length map.now.entries }
+{
+    map.iter().count()
+}
+
+/// Takes a key out, and all others, and puts it in again, for which there is room.
+pub fn refilled(map: &mut OrderedMap<u32, u8>, key: u32) -> bool
+    requires { 0 < map.old.room }
+    ensures { result ≡ true }
+{
+    map.remove(&key);
+    map.clear();
+    map.insert(key, 1).is_ok()
 }

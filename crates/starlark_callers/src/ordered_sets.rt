@@ -220,3 +220,19 @@ pub fn copied(set: &OrderedSet<u32>) -> Result<OrderedSet<u32>, AllocError>
 {
     set.clone()
 }
+
+/// An empty set, which has nothing.
+pub fn fresh<T: Eq + Hash>(alloc: Global) -> OrderedSet<T>
+    ensures none { (element : T) → contains T.eq T.hash_input result element ≡ false }
+    ensures own { AreOwn T.hash_input result }
+{
+    OrderedSet::new(alloc)
+}
+
+/// The sum of few elements.
+pub fn total_of_few(set: &OrderedSet<u32>) -> u64
+    requires { length set.now.entries < 2 ^ 32 }
+    ensures { result ≡ sum (keys set.now) }
+{
+    set.iter().map(|n| *n as u64).sum()
+}

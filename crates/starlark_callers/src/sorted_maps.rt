@@ -2,12 +2,12 @@
 ghost use Rattle.std.specs.Hash as fed;
 ghost use Rattle.std.specs.Map.{update_all};
 ghost use Rattle.std.specs.Option.{unwrap_or};
-ghost use Rattle.std.specs.Prelude.{◌≡◌, ℕ, ◌+◌, ◌-◌, ◌≤◌, ◌<◌, ◌^◌, length, map, min, nat_eq, sum, false, true, is_some, None, Some, IfErr, IfOk, IfSome, OnOk};
+ghost use Rattle.std.specs.Prelude.{◌≡◌, ℕ, ◌+◌, ◌-◌, ◌≤◌, ◌<◌, ◌^◌, length, map, min, nat_eq, sum, false, true, is_some, All, None, Some, IfErr, IfOk, IfSome, OnOk};
 ghost use Rattle.std.specs.String.{string_bytes, string_eq};
 ghost use Rattle.std.specs.declared.alloc.Global.{Global};
 ghost use Rattle.std.specs.declared.string.String.{String};
 ghost use Rattle.starlark_lists.specs.Entries.{entry_value, pair_of};
-ghost use Rattle.starlark_small.specs.Calling.{contains, get, get_text, keys};
+ghost use Rattle.starlark_small.specs.Calling.{contains, get, get_text, keys, AreOwn};
 ghost use Rattle.starlark_small.specs.Clone.{IsEqualClone};
 
 use starlark_hash::TextKey;
@@ -175,4 +175,69 @@ pub fn known(alloc: Global) -> Result<u64, AllocError>
 {
     let map = SortedMap::from_iter(alloc, [(3u32, 30u64), (1, 10)])?;
     Ok(map.get(&3).copied().unwrap_or(0))
+}
+
+/// Sets all values to 0: the keys stay in their order, and so does how many there are.
+pub fn zeroed<K: Ord + Hash>(map: &mut SortedMap<K, u64>)
+    ensures keys { keys map.new ≡ keys map.old }
+    ensures count { length map.new.entries ≡ length map.old.entries }
+    ensures there { (key : K) → contains K.eq K.hash_input map.new key ≡ contains K.eq K.hash_input map.old key }
+{
+    for (_key, value) in map.iter_mut() {
+        *value = 0;
+    }
+}
+
+/// The same by the values alone.
+pub fn zeroed_values(map: &mut SortedMap<u32, u64>)
+    ensures keys { keys map.new ≡ keys map.old }
+    ensures there { (key : ℕ) → contains nat_eq fed.u32 map.new key ≡ contains nat_eq fed.u32 map.old key }
+    ensures own { AreOwn fed.u32 map.old → AreOwn fed.u32 map.new }
+{
+    for value in map.values_mut() {
+        *value = 0;
+    }
+}
+
+/// The same of names, and answers how many there are.
+pub fn zeroed_named(map: &mut SortedMap<String, u64>) -> usize
+    ensures keys { keys map.new ≡ keys map.old }
+    ensures count { result ≡ length map.old.entries }
+    ensures there { (name : String Global) → contains string_eq (λ s. fed.str (string_bytes s)) map.new name ≡ contains string_eq (λ s. fed.str (string_bytes s)) map.old name }
+{
+    for (_name, value) in &mut *map {
+        *value = 0;
+    }
+    map.len()
+}
+
+/// The sum of the values of few pairs.
+pub fn total_of_pairs<K: Ord + Hash>(entries: &SortedMap<K, u32>) -> u64
+    requires { length entries.now.entries < 2 ^ 32 }
+    ensures { result ≡ sum (map entry_value entries.now.entries) }
+{
+    entries.iter().map(|(_key, value)| *value as u64).sum()
+}
+
+/// An empty map, which has nothing at any key.
+pub fn fresh<K: Ord + Hash, V>(alloc: Global) -> SortedMap<K, V>
+    ensures none { (key : K) → get K.eq K.hash_input result key ≡ None }
+    ensures own { AreOwn K.hash_input result }
+{
+    SortedMap::new(alloc)
+}
+
+/// The value at a key, within a bound that each value meets.
+pub fn bounded<K: Ord + Hash>(entries: &SortedMap<K, u64>, key: &K, most: u64) -> u64
+    requires { All (λ value. value ≤ most) (map entry_value entries.now.entries) }
+    ensures { result ≤ most }
+{
+    entries.get(key).copied().unwrap_or(0)
+}
+
+/// The value at a key, or 0, which is no more than all together.
+pub fn part_of_total(entries: &SortedMap<u32, u64>, key: u32) -> u64
+    ensures { result ≤ sum (map entry_value entries.now.entries) }
+{
+    entries.get(&key).copied().unwrap_or(0)
 }

@@ -7,7 +7,7 @@ ghost use Rattle.std.specs.String.{string_bytes, string_eq};
 ghost use Rattle.std.specs.declared.alloc.Global.{Global};
 ghost use Rattle.std.specs.declared.string.String.{String};
 ghost use Rattle.starlark_lists.specs.Entries.{entry_key};
-ghost use Rattle.starlark_small.specs.Calling.{contains, contains_text, keys};
+ghost use Rattle.starlark_small.specs.Calling.{contains, contains_text, keys, AreOwn};
 ghost use Rattle.starlark_small.specs.Clone.{IsEqualClone};
 
 use starlark_hash::TextKey;
@@ -149,4 +149,20 @@ pub fn same(set: &SortedSet<u32>, other: &SortedSet<u32>) -> bool
     ensures { result ≡ true → length set.now.entries ≡ length other.now.entries }
 {
     *set == *other
+}
+
+/// An empty set, which has nothing.
+pub fn fresh<T: Ord + Hash>(alloc: Global) -> SortedSet<T>
+    ensures none { (element : T) → contains T.eq T.hash_input result element ≡ false }
+    ensures own { AreOwn T.hash_input result }
+{
+    SortedSet::new(alloc)
+}
+
+/// The sum of few elements.
+pub fn total_of_few(set: &SortedSet<u32>) -> u64
+    requires { length set.now.entries < 2 ^ 32 }
+    ensures { result ≡ sum (keys set.now) }
+{
+    set.iter().map(|n| *n as u64).sum()
 }

@@ -3,10 +3,11 @@ ghost use Rattle.std.specs.Hash as fed;
 ghost use Rattle.std.specs.Option.{option_map};
 ghost use Rattle.std.specs.Prelude.{◌≡◌, ◌≤◌, ◌<◌, ◌^◌, count_by, drop, length, map, nat_eq, slice_get, sum, false, true, IfOk, IfSome};
 ghost use Rattle.starlark_lists.specs.Entries.{entry_key};
-ghost use Rattle.starlark_small.specs.Calling.{contains, keys};
+ghost use Rattle.starlark_small.specs.Calling.{contains, keys, AreOwn};
 
 use starlark_sets::SmallSet;
 use std::alloc::{AllocError, Global};
+use std::hash::Hash;
 
 /// How many elements two sets share.
 pub fn shared(set: &SmallSet<u32>, other: &SmallSet<u32>) -> usize
@@ -70,4 +71,20 @@ pub fn same<T: Eq>(set: &SmallSet<T>, other: &SmallSet<T>) -> bool
     ensures { result ≡ true → length set.now.entries ≡ length other.now.entries }
 {
     *set == *other
+}
+
+/// The sum of few elements.
+pub fn total_of_few(set: &SmallSet<u32>) -> u64
+    requires { length set.now.entries < 2 ^ 32 }
+    ensures { result ≡ sum (keys set.now) }
+{
+    set.iter().map(|n| *n as u64).sum()
+}
+
+/// An empty set, which has nothing.
+pub fn fresh<T: Eq + Hash>(alloc: Global) -> SmallSet<T>
+    ensures none { (element : T) → contains T.eq T.hash_input result element ≡ false }
+    ensures own { AreOwn T.hash_input result }
+{
+    SmallSet::new(alloc)
 }
