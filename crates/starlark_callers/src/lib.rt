@@ -3,6 +3,7 @@
 
 pub mod ordered_maps;
 pub mod ordered_sets;
+pub mod own_keys;
 pub mod small_maps;
 pub mod small_sets;
 pub mod sorted_maps;

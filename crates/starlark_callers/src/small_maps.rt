@@ -6,6 +6,7 @@ pub mod held;
 pub mod kept;
 pub mod nested;
 pub mod numbers;
+pub mod order;
 pub mod roomy;
 pub mod strings;
 pub mod texts;

@@ -107,6 +107,19 @@ pub fn count_with(map: &mut SmallMap<u32, u64>, word: u32) -> Result<(), NoRoom<
     Ok(())
 }
 
+/// Counts a word, whose first value is the default one.
+pub fn count_by_default(
+    map: &mut SmallMap<u32, u64>,
+    word: u32,
+) -> Result<(), NoRoom<(Hashed<u32>, u64)>>
+    ensures here { OnOk result (get nat_eq fed.u32 map.new word ≡ Some (min (unwrap_or (get nat_eq fed.u32 map.old word) 0 + 1) (2 ^ 64 - 1))) }
+    ensures others { OnOk result ((other : ℕ) → nat_eq word other ≡ false → get nat_eq fed.u32 map.new other ≡ get nat_eq fed.u32 map.old other) }
+{
+    let count = map.entry(word).or_default()?;
+    *count = count.saturating_add(1);
+    Ok(())
+}
+
 /// Counts a word by a closure at its value.
 pub fn count_modified(
     map: &mut SmallMap<u32, u64>,

@@ -2,7 +2,7 @@
 ghost use Rattle.std.specs.List.{All};
 ghost use Rattle.std.specs.Map.{values_of};
 ghost use Rattle.std.specs.Option.{unwrap_or};
-ghost use Rattle.std.specs.Prelude.{◌≡◌, ℕ, ◌+◌, ◌-◌, ◌≤◌, ◌<◌, ◌^◌, min, nat_eq, sum, false, is_some, None, Some, IfOk, IfSome, OnOk, OnErr};
+ghost use Rattle.std.specs.Prelude.{◌≡◌, ℕ, ◌+◌, ◌-◌, ◌≤◌, ◌<◌, ◌^◌, min, nat_eq, sum, false, is_some, None, Some, IfOk, IfSome, IsSome, OnOk, OnErr};
 ghost use Rattle.starlark_unordered.specs.Calling.{contains, get};
 ghost use Rattle.starlark_unordered.specs.Pairs.{pairs_of};
 
@@ -119,4 +119,24 @@ pub fn single(
     let mut map = UnorderedMap::new(alloc);
     map.insert(key, value)?;
     Ok(map)
+}
+
+/// The value at a key that is there.
+pub fn at(map: &UnorderedMap<u32, u64>, key: u32) -> u64
+    requires { IsSome (get nat_eq map.now key) }
+    ensures { get nat_eq map.now key ≡ Some result }
+{
+    map[&key]
+}
+
+/// Puts a value in, and reads it.
+pub fn put_and_at(
+    map: &mut UnorderedMap<u32, u64>,
+    key: u32,
+    value: u64,
+) -> Result<u64, NoRoom<(u32, u64)>>
+    ensures { IfOk result (λ there. there ≡ value) }
+{
+    map.insert(key, value)?;
+    Ok(map[&key])
 }

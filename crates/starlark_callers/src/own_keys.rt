@@ -1,0 +1,55 @@
+//! Small maps and sets of keys of the caller's own, whose equality and hash are derived.
+ghost use Rattle.std.specs.Prelude.{◌≡◌, false, true, Some, None, OnOk};
+ghost use Rattle.starlark_small.specs.Calling.{contains, get};
+ghost use Rattle.starlark_callers.specs.Pages.{page_eq, page_feeds};
+ghost use Rattle.starlark_callers.specs.declared.own_keys.Page.{Page};
+
+use starlark_hash::NoRoom;
+use starlark_sets::SmallSet;
+use starlark_small::SmallMap;
+
+/// A page of a site.
+#[derive(PartialEq, Eq, Hash, Drop)]
+pub struct Page {
+    site: u32,
+    number: u32,
+}
+
+/// Notes when a page was visited last.
+pub fn visit(
+    visits: &mut SmallMap<Page, u64>,
+    page: Page,
+    time: u64,
+) -> Result<(), NoRoom<(Page, u64)>>
+    ensures here { OnOk result (get page_eq page_feeds visits.new page ≡ Some time) }
+    ensures others { OnOk result ((other : Page) → page_eq page other ≡ false → get page_eq page_feeds visits.new other ≡ get page_eq page_feeds visits.old other) }
+{
+    visits.insert(page, time)?;
+    Ok(())
+}
+
+/// When a page was visited last.
+pub fn visited(visits: &SmallMap<Page, u64>, page: &Page) -> Option<u64>
+    ensures { result ≡ get page_eq page_feeds visits.now page.now }
+{
+    match visits.get(page) {
+        Some(time) => Some(*time),
+        None => None,
+    }
+}
+
+/// Forgets a page.
+pub fn forget(visits: &mut SmallMap<Page, u64>, page: &Page)
+    ensures here { get page_eq page_feeds visits.new page.now ≡ None }
+    ensures others { (other : Page) → page_eq page.now other ≡ false → get page_eq page_feeds visits.new other ≡ get page_eq page_feeds visits.old other }
+{
+    visits.shift_remove(page);
+}
+
+/// Marks a page.
+pub fn mark(marked: &mut SmallSet<Page>, page: Page) -> Result<bool, NoRoom<Page>>
+    ensures here { OnOk result (contains page_eq page_feeds marked.new page ≡ true) }
+    ensures others { OnOk result ((other : Page) → page_eq page other ≡ false → contains page_eq page_feeds marked.new other ≡ contains page_eq page_feeds marked.old other) }
+{
+    marked.insert(page)
+}
