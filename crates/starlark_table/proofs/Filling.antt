@@ -67,6 +67,28 @@ module _ {T : Type 0} where
   filled-past_front (None ∷ slots) (suc n) none = filled-past_front slots n (λ p below. none (suc p) (omega arith))
   filled-past_front (Some m ∷ slots) (suc n) none = absurd (let e = none 0 (omega arith) in cc)
 
+  first_of : (slots : List (Option (ℕ × T))) (i : ℕ) (m : ℕ × T) → at slots i ≡ Some m → filled (drop i slots) ≡ m ∷ filled (drop (suc i) slots)
+  first_of [] zero m here = absurd (cc)
+  first_of [] (suc i) m here = absurd (cc)
+  first_of (None ∷ slots) zero m here = absurd (cc)
+  first_of (Some n ∷ slots) zero m here = let same : n ≡ m = cc in ap (λ k. k ∷ filled slots) same
+  first_of (o ∷ slots) (suc i) m here = first_of slots i m here
+
+  -- nor do places behind some others
+  pub filled-past_range : (slots : List (Option (ℕ × T))) (from end : ℕ) → from ≤ end → ((p : ℕ) → from ≤ p → p < end → at slots p ≡ None)
+      → filled (drop from slots) ≡ filled (drop end slots)
+  filled-past_range slots zero end on none = filled-past_front slots end (λ p below. none p (omega arith) below)
+  filled-past_range slots (suc from) zero on none = absurd (omega arith)
+  filled-past_range [] (suc from) (suc end) on none = refl
+  filled-past_range (o ∷ slots) (suc from) (suc end) on none =
+      filled-past_range slots from end (omega arith) (λ p low high. none (suc p) (omega arith) (omega arith))
+
+  -- the first member behind some places
+  pub filled-first_behind : (slots : List (Option (ℕ × T))) (from i : ℕ) (m : ℕ × T) → from ≤ i → ((p : ℕ) → from ≤ p → p < i → at slots p ≡ None)
+      → at slots i ≡ Some m → filled (drop from slots) ≡ m ∷ filled (drop (i + 1) slots)
+  filled-first_behind slots from i m on none here =
+      filled-past_range slots from i on none ∙ first_of slots i m here ∙ ap (λ n. m ∷ filled (drop n slots)) (sym (add-one i))
+
   -- the first member, taken out of its place
   pub filled-first_taken : (slots : List (Option (ℕ × T))) (i : ℕ) (m : ℕ × T) → ((p : ℕ) → p < i → at slots p ≡ None)
       → at slots i ≡ Some m → filled slots ≡ m ∷ filled (set slots i None)

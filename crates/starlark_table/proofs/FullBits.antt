@@ -3,9 +3,9 @@ use Rattle.std.proofs.Common.{◌≡◌, ◌≢◌, ℕ, zero, suc, ◌+◌, ◌
 use Rattle.std.proofs.lemmas.Bool.{cases_lt, lt-ltb, le-ltb, lt-leb, le-leb}
 use Rattle.std.specs.Int.Bits.{and_step, and_self}
 use Rattle.std.specs.Int.Count.{count_trailing_zeros, under}
-use Rattle.std.specs.Prelude.{nat_le, nat_lt}
+use Rattle.std.specs.Prelude.{nat_lt}
 use lib.Lanes.{chunk, mask_l}
-use Rattle.starlark_table.specs.Layout.{at, bits_where, hash_tag_bits, slot_tag, padding, IsTagged, IsTaggedFrom}
+use Rattle.starlark_table.specs.Layout.{at, bits_where, hash_tag_bits, left_from, slot_tag, padding, IsTagged, IsTaggedFrom, LeftInWindow}
 use Rattle.starlark_table.proofs.Tagged.{tag-below, sized-alike}
 
 lowest : (b : Bool) (n : ℕ) → ((cond b 1 0 + 2 * n) % 2 ≡ cond b 1 0) × ((cond b 1 0 + 2 * n) / 2 ≡ n)
@@ -176,9 +176,6 @@ module _ {T : Type 0} where
     padded = λ p behind within. t.padded p (omega arith) within;
   }
 
-  pub left_from : List (Option (ℕ × T)) → ℕ → ℕ → Bool
-  left_from slots next p = nat_le next p && is_some (at slots p)
-
   left_before : (slots : List (Option (ℕ × T))) (next p : ℕ) → p < next → left_from slots next p ≡ false
   unfolding left_from
   left_before slots next p before = ap (λ b. b && is_some (at slots p)) (lt-leb next p before)
@@ -186,13 +183,6 @@ module _ {T : Type 0} where
   left_behind : (slots : List (Option (ℕ × T))) (next p : ℕ) → next ≤ p → left_from slots next p ≡ is_some (at slots p)
   unfolding left_from
   left_behind slots next p behind = ap (λ b. b && is_some (at slots p)) (le-leb next p behind)
-
-  -- a walk over the full places of a window has passed those before `next`, and the others have their bits
-  pub record LeftInWindow (slots : List (Option (ℕ × T))) (start end next bits : ℕ) : Type 0 where
-    pub from : start ≤ next
-    pub to : next ≤ end
-    pub short : end ≤ start + 64
-    pub its : bits ≡ bits_where (left_from slots next) start (end - start)
 
   pub window_opens : (tags : List ℕ) (slots : List (Option (ℕ × T))) (start end bits : ℕ) → IsTaggedFrom start tags slots → start < end
       → end ≤ start + 64 → end ≤ length tags → bits ≡ hash_tag_bits tags start (end - start) → LeftInWindow slots start end start bits
@@ -261,3 +251,21 @@ module _ {T : Type 0} where
       let from = w.from in
       none_there (at slots p)
       (sym (left_behind slots next p low) ∙ none_passing-by_bits (left_from slots next) start (end - start) (sym w.its ∙ none) p (omega arith) (omega arith))
+
+  -- before the first place no window is open
+  pub window_before_all : (slots : List (Option (ℕ × T))) → LeftInWindow slots 0 0 0 0
+  unfolding bits_where
+  window_before_all slots = record { from = omega arith; to = omega arith; short = omega arith; its = refl }
+
+  -- slots that are alike behind the places that are passed have the same bits
+  pub window_alike : (slots new : List (Option (ℕ × T))) (start end next bits : ℕ) → LeftInWindow slots start end next bits
+      → ((p : ℕ) → next ≤ p → at new p ≡ at slots p) → LeftInWindow new start end next bits
+  window_alike slots new start end next bits w alike = record {
+    from = w.from;
+    to = w.to;
+    short = w.short;
+    its = w.its ∙ bits_where-alike _ _ start (end - start) (λ p low high. elim (cases_lt p next) [
+      | inl before ↦ left_before slots next p before ∙ sym (left_before new next p before)
+      | inr behind ↦ left_behind slots next p behind ∙ ap is_some (sym (alike p behind)) ∙ sym (left_behind new next p behind)
+    ]);
+  }

@@ -4,9 +4,9 @@ use Rattle.std.proofs.Math.ListN.{set, length-set}
 use Rattle.std.proofs.lemmas.Bool.{cases_lt}
 use Rattle.std.proofs.lemmas.List.{get_or-set_other, get_or-set_same}
 use Rattle.std.specs.Int.Count.{count_trailing_zeros}
-use Rattle.starlark_table.specs.Layout.{at}
+use Rattle.starlark_table.specs.Layout.{at, LeftInWindow}
 use Rattle.starlark_table.proofs.Closing.{full_in_range}
-use Rattle.starlark_table.proofs.FullBits.{LeftInWindow, window_next, window_done}
+use Rattle.starlark_table.proofs.FullBits.{window_next, window_done}
 
 module _ {T : Type 0} where
   -- the full places of a window in front of those that are left were emptied, and the others stay

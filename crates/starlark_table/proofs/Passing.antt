@@ -1,5 +1,5 @@
 -- An empty place that no way leads over, since empty places stand near on both sides.
-use Rattle.std.proofs.Common.{◌≡◌, ◌≢◌, ℕ, ◌+◌, ◌<◌, ◌≤◌, List, length, Option, Some, None, IsSome, arith, sym, ap, subst, inl, inr}
+use Rattle.std.proofs.Common.{◌≢◌, ℕ, ◌<◌, List, length, Option, Some, None, IsSome, arith, sym, ap, subst, inl, inr}
 use Rattle.std.proofs.Math.ListN.{set}
 use Rattle.std.proofs.lemmas.Bool.{cases_order}
 use Rattle.std.proofs.lemmas.List.{get_or-set_other}

@@ -4,10 +4,10 @@ use Rattle.std.proofs.Common.{None, drop, slice_range, drop-cons}
 use Rattle.std.proofs.Math.ListN.{length-set}
 use Rattle.std.specs.Borrow.{Bor}
 use Rattle.starlark_table.specs.Table.{items_in}
-use Rattle.starlark_table.specs.Layout.{at}
+use Rattle.starlark_table.specs.Layout.{at, LeftInWindow}
 use Rattle.starlark_table.specs.Walk.{CanReplace, ReplacesEach, ReplacesWithin}
 use Rattle.starlark_table.proofs.Closing.{full_in_range}
-use Rattle.starlark_table.proofs.FullBits.{LeftInWindow, NextFull, window_next, window_done}
+use Rattle.starlark_table.proofs.FullBits.{NextFull, window_next, window_done}
 use Rattle.starlark_table.proofs.Lists.{drop_all, take_all, still_untouched}
 use Rattle.starlark_table.proofs.Walking.{walk_on, walk_asks}
 

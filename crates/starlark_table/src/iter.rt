@@ -4,8 +4,9 @@ ghost use Rattle.std.specs.Iterator.{YieldsFirst, YieldsFirstRef, UpTo, at_most,
 ghost use Rattle.std.specs.Iterator.SizeHint.{IsWithinCount};
 ghost use Rattle.starlark_table.specs.Table.{filled, items_in};
 
+use crate::ahead::Ahead;
 use crate::kept::KeptHash;
-use crate::probe::{Slots, full_slot};
+use crate::probe::Slots;
 use crate::tags::{EMPTY, tags_beside};
 use crate::walks::drop_all;
 use starlark_columns::Bytes;
@@ -18,21 +19,21 @@ use std::marker::Model;
 pub struct Iter<'a, T, H: KeptHash = u64> {
     slots: &'a Slots<T, H>,
     tags: &'a [u8],
-    // The first slot that the walk has still to reach, and how many items it has still to give.
-    slot: usize,
+    // Where the walk stands, and how many items it has still to give.
+    ahead: Ahead,
     left: usize,
 }
 
 impl<'a, T, H: KeptHash> Model for Iter<'a, T, H> {
     ghost use Rattle.std.specs.Prelude.{◌≡◌, List, drop, length};
-    ghost use Rattle.starlark_table.specs.Layout.{IsTagged};
+    ghost use Rattle.starlark_table.specs.Layout.{IsTagged, LeftInWindow};
     ghost use Rattle.starlark_table.specs.Table.{filled, items_in};
 
     ghost Value = { List T };
 
-    ghost view = { λ it. items_in (drop it.slot it.slots.now) };
+    ghost view = { λ it. items_in (drop it.ahead.next it.slots.now) };
 
-    ghost invariant = { λ it. IsTagged it.tags.now it.slots.now × (it.left ≡ length (filled (drop it.slot it.slots.now))) };
+    ghost invariant = { λ it. IsTagged it.tags.now it.slots.now × LeftInWindow it.slots.now it.ahead.start it.ahead.end it.ahead.next it.ahead.full × (it.left ≡ length (filled (drop it.ahead.next it.slots.now))) };
 }
 
 impl<'a, T, H: KeptHash> Iter<'a, T, H> {
@@ -40,6 +41,7 @@ impl<'a, T, H: KeptHash> Iter<'a, T, H> {
     ghost use Rattle.starlark_table.specs.Layout.{IsTagged};
 
     #[inline]
+    #[tactic(auto, using(crate::proofs::FullBits::window_before_all))]
     pub(crate) fn new(slots: &'a Slots<T, H>, tags: &'a [u8], left: usize) -> Self
         requires tagged { IsTagged tags.now slots.now }
         requires all { left ≡ length (filled slots.now) }
@@ -48,7 +50,7 @@ impl<'a, T, H: KeptHash> Iter<'a, T, H> {
         Iter {
             slots,
             tags,
-            slot: 0,
+            ahead: Ahead::of_all(),
             left,
         }
     }
@@ -66,8 +68,7 @@ impl<'a, T, H: KeptHash> Iterator for Iter<'a, T, H> {
         if self.left == 0 {
             return None;
         }
-        let slot = full_slot(self.slots, self.tags, self.slot);
-        self.slot = slot + 1;
+        let slot = self.ahead.step(self.slots, self.tags);
         self.left -= 1;
         Some(&self.slots.get(slot).1)
     }
@@ -101,7 +102,7 @@ impl<'a, T, H: KeptHash> Clone for Iter<'a, T, H> {
         Ok(Iter {
             slots: self.slots,
             tags: self.tags,
-            slot: self.slot,
+            ahead: self.ahead,
             left: self.left,
         })
     }
@@ -111,21 +112,21 @@ impl<'a, T, H: KeptHash> Clone for Iter<'a, T, H> {
 pub struct IntoIter<T, H: KeptHash = u64> {
     slots: Slots<T, H>,
     tags: Bytes,
-    slot: usize,
+    ahead: Ahead,
     left: usize,
 }
 
 impl<T, H: KeptHash> Model for IntoIter<T, H> {
     ghost use Rattle.std.specs.Prelude.{◌≡◌, ℕ, ◌<◌, List, length, None};
-    ghost use Rattle.starlark_table.specs.Layout.{at, AreDoubled, IsTagged};
+    ghost use Rattle.starlark_table.specs.Layout.{at, AreDoubled, IsTagged, LeftInWindow};
     ghost use Rattle.starlark_table.specs.Table.{filled};
 
     ghost Value = { List (ℕ × T) };
 
     ghost view = { λ it. filled it.slots };
 
-    // What was given has left its slot, and its tag: so the slots in front of `slot` are empty.
-    ghost invariant = { λ it. IsTagged it.tags it.slots × (it.left ≡ length (filled it.slots)) × ((p : ℕ) → p < it.slot → at it.slots p ≡ None) × AreDoubled it.slots };
+    // What was given has left its slot, and its tag: so the slots in front of the walk are empty.
+    ghost invariant = { λ it. IsTagged it.tags it.slots × (it.left ≡ length (filled it.slots)) × ((p : ℕ) → p < it.ahead.next → at it.slots p ≡ None) × AreDoubled it.slots × LeftInWindow it.slots it.ahead.start it.ahead.end it.ahead.next it.ahead.full };
 }
 
 impl<T, H: KeptHash> IntoIter<T, H> {
@@ -133,6 +134,7 @@ impl<T, H: KeptHash> IntoIter<T, H> {
     ghost use Rattle.starlark_table.specs.Layout.{AreDoubled, IsTagged};
 
     #[inline]
+    #[tactic(auto, using(crate::proofs::FullBits::window_before_all))]
     pub(crate) fn new(slots: Slots<T, H>, tags: Bytes, left: usize) -> Self
         requires tagged { IsTagged tags slots }
         requires doubled { AreDoubled slots }
@@ -142,7 +144,7 @@ impl<T, H: KeptHash> IntoIter<T, H> {
         IntoIter {
             slots,
             tags,
-            slot: 0,
+            ahead: Ahead::of_all(),
             left,
         }
     }
@@ -161,8 +163,7 @@ impl<T: Drop, H: KeptHash> Iterator for IntoIter<T, H> {
             return None;
         }
         let count = tags_beside(&self.slots);
-        let slot = full_slot(&self.slots, self.tags.as_slice(count), self.slot);
-        self.slot = slot + 1;
+        let slot = self.ahead.step(&self.slots, self.tags.as_slice(count));
         self.left -= 1;
         self.tags.as_mut_slice(count)[slot] = EMPTY;
         let (hash, item) = self.slots.take(slot);
@@ -193,7 +194,7 @@ impl<T: Drop, H: KeptHash> Drop for IntoIter<T, H> {
         let IntoIter {
             slots,
             tags,
-            slot: _,
+            ahead: _,
             left: _,
         } = self;
         drop_all(slots, tags);

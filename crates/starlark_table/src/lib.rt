@@ -1,6 +1,7 @@
 //! A hash table that is given ready 64-bit hashes, and asks no hasher of its items.
 #![tactic(auto)]
 
+mod ahead;
 mod follow;
 mod gap;
 mod growth;

@@ -2,7 +2,6 @@
 ghost use Rattle.std.specs.Prelude.{◌≡◌, ℕ, ◌+◌, ◌<◌, ◌≤◌, ◌∷◌, Some, None, drop, length, IfSome, IsSome, is_some, slice_set};
 ghost use Rattle.std.specs.Option.{option_copied, option_map};
 ghost use Rattle.starlark_lists.specs.Search.{Searches, CanSearch};
-ghost use Rattle.starlark_columns.specs.Places.{IsFilled};
 ghost use Rattle.starlark_table.specs.Table.{filled, holders_in};
 ghost use Rattle.starlark_table.specs.Layout.{distance, at, InPlace, IsMask, IsTagged};
 
@@ -138,21 +137,4 @@ pub(crate) fn item_at<'a, T, H: KeptHash>(
     } else {
         None
     }
-}
-
-// The first slot from one on that has a member. There is one.
-#[inline]
-pub(crate) fn full_slot<T, H: KeptHash>(slots: &Slots<T, H>, tags: &[u8], from: usize) -> usize
-    requires tagged { IsTagged tags.now slots.now }
-    requires some { 0 < length (filled (drop from slots.now)) }
-    ensures behind { from ≤ result }
-    ensures passed { (p : ℕ) → from ≤ p → p < result → at slots.now p ≡ None }
-    ensures next { IfSome (at slots.now result) (λ m. filled (drop from slots.now) ≡ m ∷ filled (drop (result + 1) slots.now)) }
-    ensures full { IsFilled slots.now result }
-{
-    let mut slot = from;
-    while tags[slot] == EMPTY {
-        slot += 1;
-    }
-    slot
 }

@@ -1,16 +1,18 @@
-use Rattle.std.proofs.Common.{◌∷◌, length, None, arith, rules, sym, ◌∙◌, ap, subst, refl}
+use Rattle.std.proofs.Common.{◌<◌, ◌∷◌, length, None, arith, rules, sym, ◌∙◌, ap, subst, refl}
 use Rattle.std.proofs.Math.ListN.{set, length-set}
 use Rattle.starlark_table.specs.Table.{filled}
 use Rattle.starlark_table.specs.Layout.{at, IsTagged}
+use Rattle.std.proofs.lemmas.List.{get_or-set_other}
 use Rattle.starlark_table.proofs.Closing.{full_in_range}
+use Rattle.starlark_table.proofs.FullBits.{window_alike}
 use Rattle.starlark_table.proofs.Filling.{filled-past_front, filled-first_taken, empty-joined, empty-after_taken}
 use Rattle.starlark_table.proofs.TagCount.{doubled-alike, refilled}
 use Rattle.starlark_table.proofs.Tagged.{tagged-changed}
 use Rattle.starlark_table.proofs.iter.IntoIterIterator.next.Goals as goal
 
-pub full_slot-slot-requires-clause-some : goal.full_slot-slot-requires-clause-some
-full_slot-slot-requires-clause-some g c =
-    let front = ap length (filled-past_front c.self.inside.slots c.self.inside.slot c.self.invariant.2) in
+pub step-slot-requires-clause-some : goal.step-slot-requires-clause-some
+step-slot-requires-clause-some g c =
+    let front = ap length (filled-past_front c.self.inside.slots c.self.inside.ahead.next c.self.invariant.2) in
     let left = c.self.invariant.1 in
     let some = c.if-self-eq0.false in
     omega (arith, front, left, some)
@@ -18,11 +20,11 @@ full_slot-slot-requires-clause-some g c =
 pub invariant_of-self : goal.invariant_of-self
 invariant_of-self g c =
     let slots = c.self.inside.slots in
-    let i = c.full_slot-slot.result in
+    let i = c.step-slot.result in
     let here = c.take-hash.ensures.value in
     let is = c.take-hash.ensures.places in
     let i_in = full_in_range slots i c.take-hash.result here in
-    let front = empty-joined slots c.self.inside.slot i c.self.invariant.2 c.full_slot-slot.ensures.passed in
+    let front = empty-joined slots c.self.inside.ahead.next i c.self.invariant.2 c.step-slot.ensures.passed in
     let taken = ap length (filled-first_taken slots i c.take-hash.result front here) in
     let left = c.self.invariant.1 in
     let after = ap (λ l. length (filled l)) is in
@@ -33,15 +35,18 @@ invariant_of-self g c =
       subst (λ l. IsTagged l c.take-hash.new.self) (sym written)
           (subst (λ l. IsTagged (set tags i 255) l) (sym is) (tagged-changed tags slots i 255 None i_in c.self.invariant.0 refl)),
       omega (arith, taken, left, after),
-      λ p below. ap (λ l. at l p) is ∙ empty-after_taken slots i i_in front p below,
+      λ p below. ap (λ l. at l p) is ∙ empty-after_taken slots i i_in front p (subst (λ n. p < n) c.step-slot.ensures.next below),
       doubled-alike slots c.take-hash.new.self (ap length is ∙ length-set slots i None) c.self.invariant.3,
+      window_alike slots c.take-hash.new.self c.step-slot.new.self.start c.step-slot.new.self.end c.step-slot.new.self.next c.step-slot.new.self.full
+          c.step-slot.ensures.left
+          (λ p behind. ap (λ l. at l p) is ∙ get_or-set_other slots i p None None (λ same. absurd (omega (arith, behind, same, c.step-slot.ensures.next)))),
     )
 
 pub returns-clause-steps : goal.returns-clause-steps
 returns-clause-steps g c =
     let slots = c.self.inside.slots in
-    let i = c.full_slot-slot.result in
-    let front = empty-joined slots c.self.inside.slot i c.self.invariant.2 c.full_slot-slot.ensures.passed in
+    let i = c.step-slot.result in
+    let front = empty-joined slots c.self.inside.ahead.next i c.self.invariant.2 c.step-slot.ensures.passed in
     sym c.self.view_is ∙ filled-first_taken slots i c.take-hash.result front c.take-hash.ensures.value
     ∙ ap (λ l. c.take-hash.result ∷ filled l) (sym c.take-hash.ensures.places)
     ∙ ap (λ h. (h, c.take-hash.result.1) ∷ filled c.take-hash.new.self) (sym c.number.ensures)
