@@ -1,38 +1,39 @@
 -- What a change of the slots leaves of a table: its members, its room, and that it is sound.
-use Rattle.std.proofs.Common.{◌≡◌, ℕ, ◌+◌, ◌-◌, ◌<◌, ◌≤◌, List, [], ◌∷◌, ◌++◌, length, Option, Some, None, arith, sym, ◌∙◌, ap, subst, subst₂, length-append, append-nil, IsPermutation}
+use Rattle.std.proofs.Common.{◌≡◌, ℕ, ◌+◌, ◌-◌, ◌*◌, ◌%◌, ◌^◌, ◌<◌, ◌≤◌, List, [], ◌∷◌, ◌++◌, length, Option, Some, None, arith, sym, ◌∙◌, ap, subst, subst₂, length-append, append-nil, IsPermutation}
 use Rattle.std.proofs.lemmas.List.Sorted.{length_permutation}
 use Rattle.std.proofs.Math.ListN.{set, length-set}
 use Rattle.starlark_table.specs.Table.{Table, filled, members, table_capacity, table_len}
-use Rattle.starlark_table.specs.Layout.{at, InPlace, IsTagged, IsSound}
+use Rattle.starlark_table.specs.Layout.{at, members_in, tag_count, InPlace, IsNear, IsTagged, IsSound, TellsFar}
 use Rattle.starlark_table.specs.Growth.{limit}
 use Rattle.starlark_table.proofs.Bag.{filled-set_some}
 use Rattle.starlark_table.proofs.Load.{sound-empty_slot}
+use Rattle.starlark_table.proofs.TagCount.{doubled_limit}
 
 module _ {T : Type 0} where
   -- so many members laid out in some slots
   abbrev pub laid : List (Option (ℕ × T)) → ℕ → Table T
   laid slots len = record { slots = slots; room = limit (length slots) - len }
 
-module _ {T : Type 0} (slots : List (Option (ℕ × T))) (tags : List ℕ) (len : ℕ) (before : IsSound slots tags len) (t : Table T) (view : laid slots len ≡ t) where
+module _ {T : Type 0} (slots : List (Option (ℕ × T))) (tags : List ℕ) (fill : ℕ) (before : IsSound slots tags fill) (t : Table T) (view : laid slots (members_in fill) ≡ t) where
   -- members and room together fill the load
   whole : table_len t + t.room ≡ limit (length slots)
   whole = let counted = before.counted in let load = before.load in subst (λ t. table_len t + t.room ≡ limit (length slots)) view (omega arith)
 
-  counted : len ≡ table_len t
+  counted : members_in fill ≡ table_len t
   counted = before.counted ∙ ap table_len view
 
   pub place_for_one : 0 < t.room → (q : ℕ) × (q < length slots) × (at slots q ≡ None)
-  place_for_one some = let full = whole in sound-empty_slot slots tags len before (omega arith)
+  place_for_one some = let full = whole in sound-empty_slot slots tags fill before (omega arith)
 
   -- ---- a member more
-  pub record Inserted (m : ℕ × T) (new : List (Option (ℕ × T))) (tags' : List ℕ) : Type 0 where
-    pub sound : IsSound new tags' (len + 1)
+  pub record Inserted (m : ℕ × T) (new : List (Option (ℕ × T))) (tags' : List ℕ) (fill' : ℕ) : Type 0 where
+    pub sound : IsSound new tags' fill'
     pub added : IsPermutation (m ∷ members t) (filled new)
-    pub room : length (filled new) + (limit (length new) - (len + 1)) ≡ table_len t + t.room
+    pub room : length (filled new) + (limit (length new) - members_in fill') ≡ table_len t + t.room
 
-  pub inserted : (slot : ℕ) (m : ℕ × T) (new : List (Option (ℕ × T))) (tags' : List ℕ) → 0 < t.room → new ≡ set slots slot (Some m) → slot < length slots → at slots slot ≡ None
-      → InPlace (length new) new → IsTagged tags' new → Inserted m new tags'
-  inserted slot m new tags' room is slot_in empty in_place tagged =
+  pub inserted : (slot : ℕ) (m : ℕ × T) (new : List (Option (ℕ × T))) (tags' : List ℕ) (fill' : ℕ) → members_in fill' ≡ members_in fill + 1 → TellsFar fill' new → 0 < t.room → new ≡ set slots slot (Some m) → slot < length slots → at slots slot ≡ None
+      → InPlace (length new) new → IsTagged tags' new → Inserted m new tags' fill'
+  inserted slot m new tags' fill' more told room is slot_in empty in_place tagged =
       let sized : length new ≡ length slots = ap length is ∙ length-set slots slot (Some m) in
       let added : IsPermutation (m ∷ members t) (filled new) = subst (λ l. IsPermutation (m ∷ l) (filled new)) (ap members view)
       (subst (λ l. IsPermutation (m ∷ filled slots) (filled l)) (sym is) (filled-set_some slots slot m slot_in empty)) in
@@ -45,6 +46,7 @@ module _ {T : Type 0} (slots : List (Option (ℕ × T))) (tags : List ℕ) (len 
           load = rw sized (omega arith);
           doubled = rw sized before.doubled;
           in_place = in_place;
+          told = told;
           tagged = tagged;
         };
         added = added;
@@ -53,14 +55,14 @@ module _ {T : Type 0} (slots : List (Option (ℕ × T))) (tags : List ℕ) (len 
 
   -- ---- a member less
   pub record Removed (m : ℕ × T) (new : List (Option (ℕ × T))) (tags' : List ℕ) : Type 0 where
-    pub some : 1 ≤ len
-    pub sound : IsSound new tags' (len - 1)
+    pub some : 2 ≤ fill
+    pub sound : IsSound new tags' (fill - 2)
     pub rest : IsPermutation (members t) (m ∷ filled new)
-    pub room : length (filled new) + (limit (length new) - (len - 1)) ≡ table_len t + t.room
+    pub room : length (filled new) + (limit (length new) - members_in (fill - 2)) ≡ table_len t + t.room
 
   pub removed : (m : ℕ × T) (new : List (Option (ℕ × T))) (tags' : List ℕ) → length new ≡ length slots → InPlace (length new) new → IsTagged tags' new
-      → IsPermutation (filled slots) (m ∷ filled new) → Removed m new tags'
-  removed m new tags' sized in_place tagged rest =
+      → IsPermutation (filled slots) (m ∷ filled new) → (fill % 2 ≡ 0 → IsNear (length new) new) → Removed m new tags'
+  removed m new tags' sized in_place tagged rest near =
       let one_less = length_permutation (filled slots) (m ∷ filled new) rest in
       let full = whole in
       let count = before.counted in
@@ -72,6 +74,7 @@ module _ {T : Type 0} (slots : List (Option (ℕ × T))) (tags : List ℕ) (len 
           load = rw sized (omega arith);
           doubled = rw sized before.doubled;
           in_place = in_place;
+          told = λ even. near (omega arith);
           tagged = tagged;
         };
         rest = subst (λ t. IsPermutation (members t) (m ∷ filled new)) view rest;
@@ -79,9 +82,15 @@ module _ {T : Type 0} (slots : List (Option (ℕ × T))) (tags : List ℕ) (len 
       }
 
   -- ---- some of the members
+  pub kept_fits : (kept count : ℕ) → kept ≤ length (filled slots) → count ≡ tag_count (length slots) → count < 2 ^ 64 → 2 * kept + 1 < 2 ^ 64
+  kept_fits kept count fewer is below =
+      let counted = before.counted in
+      let load = before.load in
+      doubled_limit slots before.doubled (subst (λ n. n < 2 ^ 64) is below) (2 * kept + 1) (omega arith)
+
   pub record Kept (kept : ℕ) (new : List (Option (ℕ × T))) (tags' : List ℕ) : Type 0 where
-    pub sound : IsSound new tags' kept
-    pub room : length (filled new) + (limit (length new) - kept) ≡ table_len t + t.room
+    pub sound : IsSound new tags' (2 * kept + 1)
+    pub room : length (filled new) + (limit (length new) - members_in (2 * kept + 1)) ≡ table_len t + t.room
 
   pub some_kept : (kept : ℕ) (new : List (Option (ℕ × T))) (tags' : List ℕ) → length new ≡ length slots → InPlace (length new) new → IsTagged tags' new
       → kept ≡ length (filled new) → length (filled new) ≤ length (filled slots) → Kept kept new tags'
@@ -91,25 +100,26 @@ module _ {T : Type 0} (slots : List (Option (ℕ × T))) (tags : List ℕ) (len 
       let load = before.load in
       record {
         sound = record {
-          counted = is;
+          counted = omega arith;
           load = rw sized (omega arith);
           doubled = rw sized before.doubled;
           in_place = in_place;
+          told = λ even. absurd (omega (arith, even));
           tagged = tagged;
         };
         room = rw sized (omega arith);
       }
 
   -- ---- the members of another table
-  pub record TakenIn (others : List (ℕ × T)) (more : ℕ) (new : List (Option (ℕ × T))) (tags' : List ℕ) : Type 0 where
-    pub sound : IsSound new tags' (len + more)
+  pub record TakenIn (others : List (ℕ × T)) (new : List (Option (ℕ × T))) (tags' : List ℕ) (fill' : ℕ) : Type 0 where
+    pub sound : IsSound new tags' fill'
     pub added : IsPermutation (others ++ members t) (filled new)
-    pub room : length (filled new) + (limit (length new) - (len + more)) ≡ table_len t + t.room
+    pub room : length (filled new) + (limit (length new) - members_in fill') ≡ table_len t + t.room
 
-  pub taken_in : (old : List (Option (ℕ × T))) (more : ℕ) (other : Table T) (new : List (Option (ℕ × T))) (tags' : List ℕ) → more ≡ length (filled old) → laid old more ≡ other
+  pub taken_in : (old : List (Option (ℕ × T))) (more : ℕ) (other : Table T) (new : List (Option (ℕ × T))) (tags' : List ℕ) (fill' : ℕ) → members_in fill' ≡ members_in fill + more → TellsFar fill' new → more ≡ length (filled old) → laid old more ≡ other
       → table_len other ≤ t.room → length new ≡ length slots → InPlace (length new) new → IsTagged tags' new → IsPermutation (filled old ++ filled slots) (filled new)
-      → TakenIn (members other) more new tags'
-  taken_in old more other new tags' many seen fits sized in_place tagged all =
+      → TakenIn (members other) new tags' fill'
+  taken_in old more other new tags' fill' counts told many seen fits sized in_place tagged all =
       let in_all = length_permutation (filled old ++ filled slots) (filled new) all in
       let parts = length-append (filled old) (filled slots) in
       let others = ap table_len seen in
@@ -122,6 +132,7 @@ module _ {T : Type 0} (slots : List (Option (ℕ × T))) (tags : List ℕ) (len 
           load = rw sized (omega arith);
           doubled = rw sized before.doubled;
           in_place = in_place;
+          told = told;
           tagged = tagged;
         };
         added = subst₂ (λ xs ys. IsPermutation (xs ++ ys) (filled new)) (ap members seen) (ap members view) all;

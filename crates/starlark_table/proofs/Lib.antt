@@ -31,3 +31,4 @@ mod WrittenSlots
 pub mod WalkRenamed
 mod TableOpens
 pub mod Passing
+pub mod Near

@@ -36,9 +36,9 @@ module _ {T : Type 0} where
       (filled-set_none slots slot m full) (IsPermutation-cons m (filled (set slots slot None)) (filled new) moved)
 
   -- a table that has slots has an empty one
-  pub sound-empty_slot : (slots : List (Option (ℕ × T))) (tags : List ℕ) (len : ℕ) → IsSound slots tags len → 0 < length slots
+  pub sound-empty_slot : (slots : List (Option (ℕ × T))) (tags : List ℕ) (fill : ℕ) → IsSound slots tags fill → 0 < length slots
       → (q : ℕ) × (q < length slots) × (at slots q ≡ None)
-  sound-empty_slot slots tags len s some =
+  sound-empty_slot slots tags fill s some =
       let counted = s.counted in
       let load = s.load in
       empty_slot slots (load-below_places (length slots) (length (filled slots)) (omega arith) some)
@@ -115,6 +115,7 @@ module _ {T : Type 0} where
           load = omega arith;
           doubled = λ _. (doubled.0, sized ∙ doubled.1);
           in_place = in_place-all_empty items count e;
+          told = λ even p h x at_p far. absurd (cc (ap (λ l. at l p) e, at-replicate count p));
           tagged = tagged-replicate items tags count some e f;
         },
         none,

@@ -6,7 +6,7 @@ use Rattle.std.specs.Borrow.{Bor}
 use Rattle.std.specs.Fn.{Mut}
 use Rattle.starlark_table.specs.Table.{filled, IsSlotClone}
 use Rattle.starlark_table.specs.Walk.{ReplacesEach}
-use Rattle.starlark_table.specs.Layout.{at, tag, slot_tag, InPlace, IsTagged, IsSound}
+use Rattle.starlark_table.specs.Layout.{at, home, members_in, tag, slot_tag, InPlace, IsFar, IsTagged, IsSound}
 use Rattle.starlark_table.specs.Growth.{limit}
 use Rattle.starlark_table.proofs.Tagged.{sized-alike}
 
@@ -86,16 +86,19 @@ module _ {T : Type 0} where
           t.padded p low' high;
     }
 
-    pub reshaped : (tags : List ℕ) (len : ℕ) → IsSound old tags len → IsSound new tags len
-    reshaped tags len sound = record {
+    pub reshaped : (tags : List ℕ) (fill : ℕ) → IsSound old tags fill → IsSound new tags fill
+    reshaped tags fill sound = record {
       counted = sound.counted ∙ sym same_count;
-      load = subst (λ n. len ≤ limit n) (sym same_length) sound.load;
+      load = subst (λ n. members_in fill ≤ limit n) (sym same_length) sound.load;
       doubled = subst (λ n. 0 < n → (k : ℕ) × (n ≡ 8 * 2 ^ k)) (sym same_length) sound.doubled;
       in_place = subst (λ n. InPlace n new) (sym same_length) (record {
         reached = λ p q h y e far below near.
             let back = full_by_hash (at old p) h (sym (same_hash_at p) ∙ ap hash_of e) in
             full_in_both (at old q) (at new q) (same_hash_at q) (sound.in_place.reached p q h back.0 back.1 far below near);
       });
+      told = λ even p h y e far.
+          let back = full_by_hash (at old p) h (sym (same_hash_at p) ∙ ap hash_of e) in
+          sound.told even p h back.0 back.1 (subst (λ n. IsFar (home n h) p) same_length far);
       tagged = same_tags tags sound.tagged;
     }
 
@@ -116,11 +119,11 @@ module _ {T : Type 0} (is_clone : T → T → Type 0) where
       ap (λ o. shape (o ∷ new)) all.0.2 ∙ ap (λ l. Some h ∷ l) (shape-cloned old new all.1)
 
   -- clones under their own tags lie as well as what they were made of
-  pub sound-cloned : (old new : List (Option (ℕ × T))) (tags tags' : List ℕ) (len : ℕ) → IsSound old tags len
-      → AllZip (IsSlotClone is_clone) old new → IsTagged tags' new → IsSound new tags' len
-  sound-cloned old new tags tags' len sound all tagged =
-      let r = reshaped old new (shape-cloned old new all) tags len sound in
-      record { counted = r.counted; load = r.load; doubled = r.doubled; in_place = r.in_place; tagged = tagged }
+  pub sound-cloned : (old new : List (Option (ℕ × T))) (tags tags' : List ℕ) (fill : ℕ) → IsSound old tags fill
+      → AllZip (IsSlotClone is_clone) old new → IsTagged tags' new → IsSound new tags' fill
+  sound-cloned old new tags tags' fill sound all tagged =
+      let r = reshaped old new (shape-cloned old new all) tags fill sound in
+      record { counted = r.counted; load = r.load; doubled = r.doubled; in_place = r.in_place; told = r.told; tagged = tagged }
 
 module _ {T : Type 0} (w : T) where
   shape-cons : (o : Option (ℕ × T)) (xs ys : List (Option (ℕ × T))) → shape xs ≡ shape ys → shape (o ∷ xs) ≡ shape (o ∷ ys)
@@ -135,6 +138,6 @@ module _ {T : Type 0} (w : T) where
   shape-written (Some n ∷ slots) zero m e = let same : n ≡ m = cc in ap (λ k. Some k.0 ∷ shape slots) (sym same)
   shape-written (o ∷ slots) (suc i) m e = shape-cons o (set slots i (Some (m.0, w))) slots (shape-written slots i m e)
 
-  pub sound-written : (slots : List (Option (ℕ × T))) (i : ℕ) (m : ℕ × T) (tags : List ℕ) (len : ℕ) → at slots i ≡ Some m
-      → IsSound slots tags len → IsSound (set slots i (Some (m.0, w))) tags len
-  sound-written slots i m tags len e = reshaped slots (set slots i (Some (m.0, w))) (shape-written slots i m e) tags len
+  pub sound-written : (slots : List (Option (ℕ × T))) (i : ℕ) (m : ℕ × T) (tags : List ℕ) (fill : ℕ) → at slots i ≡ Some m
+      → IsSound slots tags fill → IsSound (set slots i (Some (m.0, w))) tags fill
+  sound-written slots i m tags fill e = reshaped slots (set slots i (Some (m.0, w))) (shape-written slots i m e) tags fill

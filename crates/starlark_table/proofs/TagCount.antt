@@ -1,9 +1,10 @@
 -- How many tags there are beside the slots.
-use Rattle.std.proofs.Common.{◌≡◌, ℕ, ◌+◌, ◌*◌, ◌^◌, ◌<◌, ◌≤◌, true, false, nat_eq, eqb-true, if◌then◌else◌, List, length, drop, Option, refl, sym, ◌∙◌, subst, arith, inl, inr}
+use Rattle.std.proofs.Common.{◌≡◌, ℕ, ◌+◌, ◌*◌, ◌/◌, ◌^◌, ◌<◌, ◌≤◌, true, false, nat_eq, eqb-true, if◌then◌else◌, List, length, drop, Option, refl, sym, ◌∙◌, subst, arith, inl, inr}
 use Rattle.std.proofs.Math.Nat.{pow-le-pow_right}
 use Rattle.std.proofs.lemmas.Bool.{cases_lt}
 use Rattle.std.specs.List.{refill}
 use Rattle.std.proofs.lemmas.List.{take_at}
+use Rattle.starlark_table.specs.Growth.{limit}
 use Rattle.starlark_table.specs.Layout.{window, tag_count, AreDoubled, HasTags}
 
 pub tag_count-some : (m : ℕ) → 0 < m → tag_count m ≡ m + window
@@ -13,9 +14,9 @@ tag_count-some m some =
       | false ↦ λ test. refl
     ]) refl
 
--- eight, doubled some times, is far from the greatest `usize` where it is below it
-doubled_fits : (n k : ℕ) → n ≡ 8 * 2 ^ k → n < 2 ^ 64 → n + window < 2 ^ 64
-doubled_fits n k is below = elim (cases_lt k 61) [
+-- eight, doubled some times, is at most half of 2 ^ 64 where it is below it
+doubled_half : (n k : ℕ) → n ≡ 8 * 2 ^ k → n < 2 ^ 64 → n ≤ 2 ^ 63
+doubled_half n k is below = elim (cases_lt k 61) [
   | inl few ↦
       let near : k ≤ 60 = omega (arith, few) in
       let most : 2 ^ k ≤ 2 ^ 60 = pow-le-pow_right {n = 2} (omega arith) near in
@@ -25,12 +26,22 @@ doubled_fits n k is below = elim (cases_lt k 61) [
       absurd (omega (arith, is, least, below))
 ]
 
+doubled_fits : (n k : ℕ) → n ≡ 8 * 2 ^ k → n < 2 ^ 64 → n + window < 2 ^ 64
+doubled_fits n k is below = let half = doubled_half n k is below in omega arith
+
 module _ {T : Type 0} where
   pub long_tags : (tags : List ℕ) (slots : List (Option (ℕ × T))) → HasTags tags slots → 0 < length slots → length tags ≡ length slots + window
   long_tags tags slots sized some = sized ∙ tag_count-some (length slots) some
 
   pub tags_fit : (slots : List (Option (ℕ × T))) → AreDoubled slots → 0 < length slots → length slots < 2 ^ 64 → length slots + window < 2 ^ 64
   tags_fit slots doubled some below = let d = doubled some in doubled_fits (length slots) d.0 d.1 below
+
+  -- twice as many members as may stand in some slots, and one, are below 2 ^ 64
+  pub doubled_limit : (slots : List (Option (ℕ × T))) → AreDoubled slots → tag_count (length slots) < 2 ^ 64 → (fill : ℕ) → fill / 2 ≤ limit (length slots) → fill < 2 ^ 64
+  doubled_limit slots doubled below fill load = elim (cases_lt 0 (length slots)) [
+    | inl some ↦ let d = doubled some in let count = tag_count-some (length slots) some in let most = doubled_half (length slots) d.0 d.1 (omega arith) in omega arith
+    | inr none ↦ omega arith
+  ]
 
   pub doubled-alike : (old new : List (Option (ℕ × T))) → length new ≡ length old → AreDoubled old → AreDoubled new
   doubled-alike old new same doubled = subst (λ n. 0 < n → (k : ℕ) × (n ≡ 8 * 2 ^ k)) (sym same) doubled

@@ -92,6 +92,17 @@ module _ {T : Type 0} (tags : List ℕ) (slots : List (Option (ℕ × T))) (tagg
         ]
 
     -- at the first empty place of a window
+    pub near_in_window : (start bits k : ℕ) → start < length slots → bits ≡ tag_bits empty_tag tags start 16 → bits ≢ 0
+        → k ≡ count_trailing_zeros 64 bits → IsFar start (start + k) → ⊥
+    near_in_window start bits k start_in its some is far =
+        let room = room_at start start_in in
+        let first = first-by_bits empty_tag tags start 16 room k (omega arith) (λ none. some (its ∙ none)) (is ∙ ap (count_trailing_zeros 64) its) in
+        let within = first.within in
+        elim far [
+          | inl before ↦ omega arith
+          | inr behind ↦ omega arith
+        ]
+
     pub free_in_window : (start bits k : ℕ) → start < length slots → FullUpTo start → bits ≡ tag_bits empty_tag tags start 16 → bits ≢ 0
         → k ≡ count_trailing_zeros 64 bits → (start + k < length slots) × (at slots (start + k) ≡ None) × FullUpTo (start + k)
     free_in_window start bits k start_in path its some is =

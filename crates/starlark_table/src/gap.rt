@@ -1,7 +1,7 @@
 //! Removal from the slots: the members behind an emptied place move back, so that none is lost to its search.
-ghost use Rattle.std.specs.Prelude.{◌≡◌, ◌≢◌, ℕ, ◌<◌, ◌≤◌, None, true, false, ◌∷◌, length, IfSome, IfNone, IsPermutation, slice_set};
+ghost use Rattle.std.specs.Prelude.{◌≡◌, ◌≢◌, ℕ, ◌+◌, ◌<◌, ◌≤◌, None, true, false, ◌∷◌, length, IfSome, IfNone, IsPermutation, slice_index_or, slice_set};
 ghost use Rattle.starlark_table.specs.Table.{filled};
-ghost use Rattle.starlark_table.specs.Layout.{at, distance, InPlace, HasGap, IsFar, IsTagged};
+ghost use Rattle.starlark_table.specs.Layout.{at, distance, empty_tag, window, InPlace, HasGap, IsBetweenEmpty, IsFar, IsNear, IsTagged};
 ghost use Rattle.starlark_table.specs.Growth.{limit};
 
 use crate::follow::Follows;
@@ -60,17 +60,31 @@ pub(crate) fn close_gap<T, H: KeptHash, F: Follows<T>>(
     }
 }
 
+// Whether a member that leaves this place may leave another one behind a gap: some may stand behind the first windows of
+// their searches, and one of them may have the place on its way.
+#[inline]
+fn leaves_gap(tags: &[u8], place: usize, far: bool) -> bool
+    requires room { place + 1 + window ≤ length tags.now }
+    requires full { slice_index_or tags.now place 0 ≢ empty_tag }
+    ensures near { result ≡ true → far ≡ true }
+    ensures passed { result ≡ false → far ≡ true → IsBetweenEmpty tags.now place }
+{
+    far && is_passed(tags, place)
+}
+
 // Takes a member out, and puts the others back in place.
 #[inline]
 pub(crate) fn take_out<T, H: KeptHash, F: Follows<T>>(
     slots: &mut Slots<T, H>,
     tags: &mut [u8],
+    far: bool,
     slot: usize,
     follower: &mut F,
 ) -> Option<(Kept<H>, T)>
     requires load { length (filled slots.old) ≤ limit (length slots.old) }
     requires in_place { InPlace (length slots.old) slots.old }
     requires tagged { IsTagged tags.old slots.old }
+    requires told { far ≡ false → IsNear (length slots.old) slots.old }
     requires known { F.knows follower.old (slice_set slots.old slot None) }
     ensures sized { length slots.new ≡ length slots.old }
     ensures known { F.knows follower.new slots.new }
@@ -79,12 +93,13 @@ pub(crate) fn take_out<T, H: KeptHash, F: Follows<T>>(
     ensures rest { IfSome result (λ m. IsPermutation (filled slots.old) (m ∷ filled slots.new)) }
     ensures none { IfNone result (slots.new ≡ slots.old) }
     ensures in_place { InPlace (length slots.new) slots.new }
+    ensures told { far ≡ false → IsNear (length slots.new) slots.new }
     ensures tagged { IsTagged tags.new slots.new }
 {
     if !is_full(slots, tags, slot) {
         return None;
     }
-    let passed = is_passed(tags, slot);
+    let passed = leaves_gap(tags, slot, far);
     let member = slots.take(slot);
     tags[slot] = EMPTY;
     if passed {

@@ -2,6 +2,7 @@
 #![tactic(auto)]
 
 mod ahead;
+mod fill;
 mod follow;
 mod gap;
 mod growth;

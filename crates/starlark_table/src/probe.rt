@@ -1,10 +1,11 @@
 //! Reads and writes of the slots along the way of a hash: from its home on, up to the first empty place.
-ghost use Rattle.std.specs.Prelude.{◌≡◌, ℕ, ◌+◌, ◌<◌, ◌≤◌, ◌∷◌, Some, None, drop, length, IfSome, IsSome, is_some, slice_set};
+ghost use Rattle.std.specs.Prelude.{◌≡◌, ℕ, ◌+◌, ◌%◌, ◌<◌, ◌≤◌, ◌∷◌, Some, None, drop, length, IfSome, IsSome, is_some, slice_set};
 ghost use Rattle.std.specs.Option.{option_copied, option_map};
 ghost use Rattle.starlark_lists.specs.Search.{Searches, CanSearch};
 ghost use Rattle.starlark_table.specs.Table.{filled, holders_in};
-ghost use Rattle.starlark_table.specs.Layout.{distance, at, InPlace, IsMask, IsTagged};
+ghost use Rattle.starlark_table.specs.Layout.{distance, at, members_in, InPlace, IsFar, IsMask, IsTagged, TellsFar};
 
+use crate::fill::with_far;
 use crate::kept::{Kept, KeptHash};
 use crate::places::{home, window_after};
 use crate::tags::{EMPTY, places_up_to_empty, places_with, tag};
@@ -90,25 +91,55 @@ pub(crate) fn free_place<T, H: KeptHash>(slots: &Slots<T, H>, tags: &[u8], home:
     start + empty.trailing_zeros() as usize
 }
 
+// The same. The fill tells of it where that is not in the first window.
+#[inline]
+fn place_from<T, H: KeptHash>(
+    slots: &Slots<T, H>,
+    tags: &[u8],
+    fill: &mut usize,
+    home: usize,
+) -> usize
+    requires home { home < length slots.now }
+    requires tagged { IsTagged tags.now slots.now }
+    requires free { (q : ℕ) × (q < length slots.now) × (at slots.now q ≡ None) }
+    ensures in_range { result < length slots.now }
+    ensures empty { at slots.now result ≡ None }
+    ensures path { (q : ℕ) → q < length slots.now → distance (length slots.now) home q < distance (length slots.now) home result → IsSome (at slots.now q) }
+    ensures members { members_in fill.new ≡ members_in fill.old }
+    ensures even { fill.new % 2 ≡ 0 → fill.old % 2 ≡ 0 }
+    ensures near { fill.new % 2 ≡ 0 → IsFar home result → ⊥ }
+{
+    let empty = places_with(tags, home, EMPTY);
+    if empty == 0 {
+        *fill = with_far(*fill);
+        return free_place(slots, tags, home);
+    }
+    home + empty.trailing_zeros() as usize
+}
+
 // Puts a member at the first empty place from its home on, and its tag beside it.
 #[inline]
 pub(crate) fn put<T, H: KeptHash>(
     slots: &mut Slots<T, H>,
     tags: &mut [u8],
+    fill: &mut usize,
     hash: Kept<H>,
     item: T,
 ) -> usize
     requires in_place { InPlace (length slots.old) slots.old }
     requires tagged { IsTagged tags.old slots.old }
+    requires told { TellsFar fill.old slots.old }
     requires free { (q : ℕ) × (q < length slots.old) × (at slots.old q ≡ None) }
     ensures in_range { result < length slots.old }
     ensures empty { at slots.old result ≡ None }
+    ensures members { members_in fill.new ≡ members_in fill.old }
+    ensures told { TellsFar fill.new slots.new }
     ensures set { slots.new ≡ slice_set slots.old result (Some (hash, item)) }
     ensures in_place { InPlace (length slots.new) slots.new }
     ensures tagged { IsTagged tags.new slots.new }
 {
     let number = hash.number();
-    let place = free_place(slots, tags, home(number, slots.places() - 1));
+    let place = place_from(slots, tags, fill, home(number, slots.places() - 1));
     tags[place] = tag(number);
     slots.write(place, (hash, item));
     place

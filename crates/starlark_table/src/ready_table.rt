@@ -11,6 +11,7 @@ ghost use Rattle.starlark_table.specs.Walk.{CanReplace, ReplacesEach, CanRetain,
 mod lends;
 mod pairs;
 
+use crate::fill::{members_in, tells_far};
 use crate::follow::Follows;
 use crate::gap::take_out;
 use crate::growth::{clone_members, empty_places, limit, move_all, places_for};
@@ -39,7 +40,8 @@ pub struct ReadyTable<T, H: KeptHash = u64> {
     slots: Slots<T, H>,
     // Of each slot one byte, which alone tells at run time whether it has a member. How many there are the slots tell.
     tags: Bytes,
-    len: usize,
+    // How many members there are, and whether some may stand far.
+    fill: usize,
 }
 
 impl<T, H: KeptHash> Model for ReadyTable<T, H> {
@@ -50,12 +52,12 @@ impl<T, H: KeptHash> Model for ReadyTable<T, H> {
 
     ghost coded = { table_code T.code };
 
-    ghost use Rattle.starlark_table.specs.Layout.{IsSound};
+    ghost use Rattle.starlark_table.specs.Layout.{IsSound, members_in};
     ghost use Rattle.starlark_table.specs.Growth.{limit};
 
-    ghost view = { λ t. record { slots = t.slots; room = limit (length t.slots) - t.len } };
+    ghost view = { λ t. record { slots = t.slots; room = limit (length t.slots) - members_in t.fill } };
 
-    ghost invariant = { λ t. IsSound t.slots t.tags t.len };
+    ghost invariant = { λ t. IsSound t.slots t.tags t.fill };
 }
 
 impl<T> ReadyTable<T> {
@@ -89,7 +91,7 @@ impl<T, H: KeptHash> ReadyTable<T, H> {
         ReadyTable {
             slots: Column::new(alloc),
             tags: Bytes::none(alloc),
-            len: 0,
+            fill: 0,
         }
     }
 
@@ -111,7 +113,7 @@ impl<T, H: KeptHash> ReadyTable<T, H> {
         Ok(ReadyTable {
             slots,
             tags,
-            len: 0,
+            fill: 0,
         })
     }
 
@@ -120,7 +122,7 @@ impl<T, H: KeptHash> ReadyTable<T, H> {
     pub fn len(&self) -> usize
         ensures { result ≡ table_len self.now }
     {
-        self.len
+        members_in(self.fill)
     }
 
     /// How many slots there are, with members and without.
@@ -136,7 +138,7 @@ impl<T, H: KeptHash> ReadyTable<T, H> {
     pub fn room(&self) -> usize
         ensures { result ≡ self.now.room }
     {
-        limit(self.slots.places()) - self.len
+        limit(self.slots.places()) - self.len()
     }
 
     /// The slot of an item under exactly this hash that `eq` accepts. `eq` is asked about items of this hash alone,
@@ -254,10 +256,11 @@ impl<T, H: KeptHash> ReadyTable<T, H> {
         let slot = put(
             &mut self.slots,
             self.tags.as_mut_slice(count),
+            &mut self.fill,
             Kept::of(hash),
             item,
         );
-        self.len += 1;
+        self.fill += 2;
         slot
     }
 
@@ -278,7 +281,7 @@ impl<T, H: KeptHash> ReadyTable<T, H> {
         if additional <= self.room() {
             return Ok(());
         }
-        let Some(needed) = self.len.checked_add(additional) else {
+        let Some(needed) = self.len().checked_add(additional) else {
             return Err(AllocError);
         };
         self.grow(needed)
@@ -309,9 +312,15 @@ impl<T, H: KeptHash> ReadyTable<T, H> {
         ensures places { length self.new.slots ≡ length self.old.slots }
     {
         let count = tags_beside(&self.slots);
-        let ReadyTable { slots, tags, len } = other;
-        move_all(slots, tags, &mut self.slots, self.tags.as_mut_slice(count));
-        self.len += len;
+        let ReadyTable { slots, tags, fill } = other;
+        move_all(
+            slots,
+            tags,
+            &mut self.slots,
+            self.tags.as_mut_slice(count),
+            &mut self.fill,
+        );
+        self.fill += fill / 2 * 2;
     }
 
     /// Takes the member of a slot out, with its hash. All others stay, though not in their slots, so a search still
@@ -344,10 +353,11 @@ impl<T, H: KeptHash> ReadyTable<T, H> {
     {
         let count = tags_beside(&self.slots);
         let tags = self.tags.as_mut_slice(count);
-        let Some(member) = take_out(&mut self.slots, tags, slot, follower) else {
+        let far = tells_far(self.fill);
+        let Some(member) = take_out(&mut self.slots, tags, far, slot, follower) else {
             return None;
         };
-        self.len -= 1;
+        self.fill -= 2;
         Some((member.0.number(), member.1))
     }
 
@@ -375,7 +385,8 @@ impl<T, H: KeptHash> ReadyTable<T, H> {
         ensures room { table_capacity self.new ≡ table_capacity self.old }
     {
         let count = tags_beside(&self.slots);
-        self.len = retain_items(&mut self.slots, self.tags.as_mut_slice(count), f);
+        let kept = retain_items(&mut self.slots, self.tags.as_mut_slice(count), f);
+        self.fill = 2 * kept + 1;
     }
 
     /// Removes every member. The room that they had comes back.
@@ -386,13 +397,13 @@ impl<T, H: KeptHash> ReadyTable<T, H> {
         ensures room { self.new.room ≡ table_capacity self.old }
         ensures places { length self.new.slots ≡ length self.old.slots }
     {
-        if self.len == 0 {
+        if self.len() == 0 {
             return;
         }
         let count = tags_beside(&self.slots);
         empty_all(&mut self.slots, self.tags.as_slice(count));
         untag(self.tags.as_mut_slice(count), &self.slots);
-        self.len = 0;
+        self.fill = 0;
     }
 
     /// The items along the walk, in no promised order, with exact length and size hint.
@@ -401,7 +412,7 @@ impl<T, H: KeptHash> ReadyTable<T, H> {
         ensures { result ≡ items_of self.now }
     {
         let tags = self.tags.as_slice(tags_beside(&self.slots));
-        Iter::new(&self.slots, tags, self.len)
+        Iter::new(&self.slots, tags, self.len())
     }
 
     /// The members along the walk, each as its hash and its item, by value, with exact length and size hint.
@@ -409,8 +420,8 @@ impl<T, H: KeptHash> ReadyTable<T, H> {
     pub fn into_iter(self) -> IntoIter<T, H>
         ensures { result ≡ members self }
     {
-        let ReadyTable { slots, tags, len } = self;
-        IntoIter::new(slots, tags, len)
+        let ReadyTable { slots, tags, fill } = self;
+        IntoIter::new(slots, tags, members_in(fill))
     }
 }
 
@@ -450,7 +461,7 @@ impl<T: Clone, H: KeptHash> Clone for ReadyTable<T, H> {
             Ok(()) => Ok(ReadyTable {
                 slots,
                 tags,
-                len: self.len,
+                fill: self.fill,
             }),
             Err(refused) => {
                 drop_all(slots, tags);
@@ -465,7 +476,7 @@ impl<T: Drop, H: KeptHash> Drop for ReadyTable<T, H> {
         let ReadyTable {
             slots,
             tags,
-            len: _,
+            fill: _,
         } = self;
         drop_all(slots, tags);
     }

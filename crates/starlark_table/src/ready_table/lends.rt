@@ -87,7 +87,7 @@ impl<T> ReadyTable<T> {
         ensures* writes_back { sem 𝓛 (table_follows T.row self.entry result.1) }
         ensures items { result.0 ≡ items_of self.old }
     {
-        let left = self.len;
+        let left = self.len();
         let end = self.slots.places();
         IterMut::new(self.lend(), end, left)
     }

@@ -30,7 +30,7 @@ impl<K, V> ReadyTable<(K, V)> {
         ensures pairs { result.0 ≡ items_of self.old }
         ensures fits { length (items_of self.old) < 2 ^ 64 }
     {
-        let left = self.len;
+        let left = self.len();
         let end = self.slots.places();
         PairsMut::new(self.lend_pairs(), end, left)
     }

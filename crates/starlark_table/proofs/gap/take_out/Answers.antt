@@ -1,12 +1,13 @@
-use Rattle.std.proofs.Common.{◌≡◌, ◌≢◌, ℕ, ◌<◌, length, None, refl, sym, ◌∙◌, ap, subst, IsPermutation, arith}
+use Rattle.std.proofs.Common.{◌≡◌, ◌≢◌, ℕ, ◌<◌, true, false, length, None, refl, sym, ◌∙◌, ap, subst, subst₂, IsPermutation, arith}
 use Rattle.std.proofs.Math.ListN.{set, length-set}
 use Rattle.starlark_table.specs.Table.{filled}
-use Rattle.starlark_table.specs.Layout.{at, HasGap, InPlace}
+use Rattle.starlark_table.specs.Layout.{at, HasGap, InPlace, IsNear, IsTagged}
 use Rattle.std.proofs.lemmas.List.Sorted.{IsPermutation-refl}
 use Rattle.starlark_table.proofs.FullBits.{some_there}
-use Rattle.starlark_table.proofs.Tagged.{tag-below, tag-member}
+use Rattle.starlark_table.proofs.Tagged.{tag-below, tag-member, tagged-changed}
 use Rattle.starlark_table.proofs.gap.take_out.Goals.{then-passed, else-passed}
 use Rattle.starlark_table.proofs.Closing.{full_in_range, gap_left}
+use Rattle.starlark_table.proofs.Near.{in_place-near, near-taken}
 use Rattle.starlark_table.proofs.Passing.{in_place-not_passed}
 use Rattle.starlark_table.proofs.Filling.{filled-by_some, some-by_test}
 use Rattle.starlark_table.proofs.Load.{another_empty_slot, bag-taken_out}
@@ -30,8 +31,8 @@ close_gap-requires-clause-free g c =
     subst (λ l. (q : ℕ) × (q < length l) × (q ≢ c.args.slot) × (at l q ≡ None)) (sym c.take-member.ensures.places)
     (another_empty_slot c.args.slots.now c.args.slot c.take-member.result slot_in c.requires.load c.take-member.ensures.value)
 
-pub is_passed-passed-requires-clause-full : goal.is_passed-passed-requires-clause-full
-is_passed-passed-requires-clause-full g c =
+pub leaves_gap-passed-requires-clause-full : goal.leaves_gap-passed-requires-clause-full
+leaves_gap-passed-requires-clause-full g c =
     let slots = c.args.slots.now in
     let it = some_there (at slots c.args.slot) (sym c.if-not-is_full.ensures) in
     λ e. omega (arith, tag-below it.0.0, tag-member c.args.tags.now slots c.args.slot it.0.0 it.0.1 c.requires.tagged it.1, e)
@@ -61,7 +62,31 @@ returns-clause-in_place g c =
       | then-passed w ↦ subst (λ l. InPlace (length l) l) (sym w.slots-is) w.close_gap.ensures.in_place
       | else-passed w ↦
           let slot_in = full_in_range old c.args.slot c.take-member.result c.take-member.ensures.value in
-          let kept = in_place-not_passed c.args.tags.now old c.args.slot c.requires.tagged slot_in (c.is_passed-passed.ensures w.if-passed.false) c.requires.in_place in
+          let kept : InPlace (length old) (set old c.args.slot None) = elim (c.args.far) as (λ b. c.args.far ≡ b → InPlace (length old) (set old c.args.slot None)) [
+            | true ↦ λ far. in_place-not_passed c.args.tags.now old c.args.slot c.requires.tagged slot_in (c.leaves_gap-passed.ensures.passed w.if-passed.false far) c.requires.in_place
+            | false ↦ λ far. in_place-near (length old) (set old c.args.slot None)
+                (subst (λ n. IsNear n (set old c.args.slot None)) (length-set old c.args.slot None) (near-taken old c.args.slot slot_in (c.requires.told far)))
+          ] refl in
           subst (λ l. InPlace (length l) l) (sym (w.slots-is ∙ c.take-member.ensures.places))
           (subst (λ n. InPlace n (set old c.args.slot None)) (sym (length-set old c.args.slot None)) kept)
+    ]
+
+pub returns-clause-told : goal.returns-clause-told
+returns-clause-told g c =
+    let old = c.args.slots.now in
+    λ far. elim c.if-passed.branch [
+      | then-passed w ↦ absurd (let yes = c.leaves_gap-passed.ensures.near w.if-passed.true in cc)
+      | else-passed w ↦
+          let slot_in = full_in_range old c.args.slot c.take-member.result c.take-member.ensures.value in
+          subst (λ l. IsNear (length l) l) (sym (w.slots-is ∙ c.take-member.ensures.places)) (near-taken old c.args.slot slot_in (c.requires.told far))
+    ]
+
+pub returns-clause-tagged : goal.returns-clause-tagged
+returns-clause-tagged g c =
+    let old = c.args.slots.now in
+    let slot_in = full_in_range old c.args.slot c.take-member.result c.take-member.ensures.value in
+    elim c.if-passed.branch [
+      | then-passed w ↦ subst₂ IsTagged (sym w.tags-is) (sym w.slots-is) w.close_gap.ensures.tagged
+      | else-passed w ↦ subst₂ IsTagged (sym w.tags-is) (sym (w.slots-is ∙ c.take-member.ensures.places))
+          (tagged-changed c.args.tags.now old c.args.slot 255 None slot_in c.requires.tagged refl)
     ]

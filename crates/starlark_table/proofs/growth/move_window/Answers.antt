@@ -18,6 +18,8 @@ places-init g c =
       sized = refl;
       in_place = c.requires.in_place;
       tagged = c.requires.tagged;
+      members = refl;
+      told = c.requires.told;
       bag = IsPermutation-refl (filled c.args.from.now ++ filled c.args.slots.now);
       window = emptying-begins c.args.from.now c.args.start end full
           (window_opens c.args.from_tags.now c.args.from.now c.args.start end full c.requires.from_tagged made.some made.short made.within made.bits);
@@ -45,6 +47,8 @@ places-preserved g c =
       sized = ap length put.set ∙ length-set c.places.slots c.put.result _ ∙ k.sized;
       in_place = put.in_place;
       tagged = put.tagged;
+      members = put.members ∙ k.members;
+      told = put.told;
       bag = rw (taken.places, put.set)
           (bag-member_moved _ from c.places.slots place c.put.result c.take-hash.result taken.value put.in_range put.empty k.bag);
       window = rw taken.places

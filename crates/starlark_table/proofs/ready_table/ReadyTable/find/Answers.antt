@@ -6,7 +6,7 @@ use Rattle.starlark_table.proofs.ready_table.ReadyTable.find.Goals as goal
 
 pub find_slot-requires-clause-free : goal.find_slot-requires-clause-free
 find_slot-requires-clause-free g c =
-    sound-empty_slot c.self.inside.slots c.self.inside.tags c.self.inside.len c.self.invariant
+    sound-empty_slot c.self.inside.slots c.self.inside.tags c.self.inside.fill c.self.invariant
 
 pub find_slot-requires-clause-callable : goal.find_slot-requires-clause-callable
 find_slot-requires-clause-callable g c =

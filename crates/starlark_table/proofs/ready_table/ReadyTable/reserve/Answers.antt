@@ -1,4 +1,4 @@
-use Rattle.std.proofs.Common.{◌≡◌, ℕ, ◌+◌, ◌≤◌, arith, ◌∙◌, ap}
+use Rattle.std.proofs.Common.{◌≡◌, ℕ, ◌+◌, ◌≤◌, arith}
 use Rattle.std.proofs.lemmas.Result.{on_ok_weaker}
 use Rattle.starlark_table.specs.Table.{table_len}
 use Rattle.starlark_table.proofs.ready_table.ReadyTable.reserve.Goals as goal
@@ -9,5 +9,5 @@ left k len additional needed room e f h = omega arith
 pub returns-clause-ok : goal.returns-clause-ok
 returns-clause-ok g c =
     on_ok_weaker c.grow.result
-    (λ h. left (table_len c.args.self.now) c.self.inside.len c.args.additional c.in-Some.needed c.grow.new.self.room
-    (c.self.invariant.counted ∙ ap table_len c.self.view_is) c.in-Some.ensures.1 h) c.grow.ensures.ok
+    (λ h. left (table_len c.args.self.now) c.len.result c.args.additional c.in-Some.needed c.grow.new.self.room
+    c.len.ensures c.in-Some.ensures.1 h) c.grow.ensures.ok

@@ -11,7 +11,7 @@ use Rattle.starlark_columns.specs.contracts.loan.Loan as loan
 use Rattle.starlark_columns.proofs.loan.Loan.TheLaws as loan_laws
 use Rattle.starlark_table.specs.contracts.kept.U64KeptHash.TheImpl as U64
 use Rattle.starlark_table.proofs.kept.Kept.TheLaws as kept_laws
-use Rattle.starlark_table.specs.Layout.{IsTagged}
+use Rattle.starlark_table.specs.Layout.{members_in, IsTagged}
 use Rattle.starlark_table.specs.Growth.{limit}
 use Rattle.starlark_table.specs.Sharing.{KeptRow, Member, Tags, tags_stay, with_kept}
 use Rattle.starlark_table.proofs.BesideClose.{closes_beside}
@@ -69,16 +69,16 @@ module _ (T P : RattleType) (G : Keeps.Ghosts P.Denot (ℕ × T.Denot)) (dG : Di
   written d w = record d { slots = kept_places G.kept d.slots w }
 
   abbrev seen : D → Places → W.Denot
-  seen d w = record { slots = kept_places G.kept d.slots w; room = limit (length (kept_places G.kept d.slots w)) - d.len }
+  seen d w = record { slots = kept_places G.kept d.slots w; room = limit (length (kept_places G.kept d.slots w)) - members_in d.fill }
 
   module _ (hash : (x w : ℕ × T.Denot) → (G.kept x w).0 ≡ x.0) (again : (x w : ℕ × T.Denot) → G.kept x (G.kept x w) ≡ G.kept x w) where
     written_known : (v : W.Denot) (d : D) (w : Places) → O.Known K v d → O.Known K (seen d w) (written d w)
-    written_known v d w k = (refl, reshaped d.slots (kept_places G.kept d.slots w) (shape-kept_places G.kept hash d.slots w) d.tags d.len k.1)
+    written_known v d w k = (refl, reshaped d.slots (kept_places G.kept d.slots w) (shape-kept_places G.kept hash d.slots w) d.tags d.fill k.1)
 
     same : (v : W.Denot) (d : D) (w : Places) → O.Known K v d → with_kept G.kept v (seen d w) ≡ seen d w
     same v d w k =
         ap (λ z. with_kept G.kept z (seen d w)) (sym k.0)
-        ∙ (λ i. record { slots = again-kept_places G.kept G.itself again d.slots w i; room = limit (sym (length-kept_places G.kept d.slots w) i) - d.len })
+        ∙ (λ i. record { slots = again-kept_places G.kept G.itself again d.slots w i; room = limit (sym (length-kept_places G.kept d.slots w) i) - members_in d.fill })
 
   module _ {M : Type 1} {𝓤 : Ura M} (𝓛 : Logic 𝓤) (at_mem : Memory → SProp 𝓤) (run : Routine → Fun 𝓤) where
     open 𝓛 use {A}
