@@ -140,7 +140,7 @@ impl PlaceTable {
         let _number = hash.get();
         match &mut self.width {
             Width::Narrow(table) => table.note(hash, place),
-            Width::Wide(table) => table.note(hash, place),
+            Width::Wide(table) => note_wide(table, hash, place),
         }
     }
 
@@ -223,7 +223,19 @@ impl PlaceTable {
     }
 }
 
-// The same among places of 64 bits. Few lists are so long: apart, it leaves the code of the others short.
+// Notes the next place among places of 64 bits. Few lists are so long: apart, it leaves the code of the others short.
+#[cold]
+#[inline(never)]
+fn note_wide(table: &mut Placed<usize>, hash: StarlarkHashValue, place: usize)
+    requires room { 0 < table.old.room }
+    requires next { place ≡ table_len table.old }
+    ensures added { IsPermutation ((promoted (hash_number hash), place) ∷ members table.old) (members table.new) }
+    ensures room { table_capacity table.new ≡ table_capacity table.old }
+{
+    table.note(hash, place);
+}
+
+// A place under the hash whose key `eq` accepts, among places of 64 bits.
 #[cold]
 #[inline(never)]
 fn find_wide<K, V, F: FnMut(&K) -> bool>(
