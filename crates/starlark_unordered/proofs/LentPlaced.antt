@@ -1,10 +1,23 @@
--- A `&mut` and a `Result` beside it: laws of both, and the pair opened. Assumes `Logic`.
+-- A `&mut` and a `Result` beside it: laws of both, and the pair opened. Assumes `Logic`. It hands on what the proofs over
+-- it cite: `L.RS` there is `RS` here.
 use Rattle.starlark_columns.proofs.Walking.{◌≡◌, refl, sym, subst, ap, ◌∙◌, List, [], ◌∷◌, ◌++◌, Ura, named, Val, of_list, vptr, vstruct, vcons, vnil, SProp, ent, sep, ex, guard, Lft, GName, Logic, sem, ‵, ◌$◌, ◌∵◌, !, qed, move, drop, fsplit, fsplit3, fpick, fpack, feq_l, rewrite, show, check, done, ◌⊑◌, ⊑_meet, RattleType, lives_all, in_all, usize, Is, shows, follows_so, such_by, follows_by, NamedLft, MutBor, MutRef, ShrRef, mut_vals, mut_Tells, Last, left, no, layout, param, blank, Laws, is_one, of_field, row_shared, copy_shared, mut_ref_shared, peeks, only, usize-field, mut_ref_field, shr_ref_field, usize-laws, usize-copy, mut_ref_laws, shr_ref_laws, shr_ref_copy, Tuple, tuple_laws, Good, result_laws}
 use mathlib.Core.Option.{Option}
 use lib.Dec.{T}
 use Rattle.core.specs.declared.result.Result.TheVariants.{Ok, Err}
-use Rattle.core.specs.contracts.result.Result as RS
-use Rattle.starlark_columns.proofs.LoneValue.{lone_value}
+pub use base.Share
+pub use Rattle.core.specs.contracts.result.Result as RS
+pub use Rattle.std.specs.Prelude.{Some}
+pub use Rattle.std.specs.declared.cmp.Eq as Eq
+pub use Rattle.std.specs.declared.cmp.PartialEq as PartialEq
+pub use Rattle.std.specs.declared.hash.Hash as Hash
+pub use Rattle.starlark_hash.specs.contracts.no_room.NoRoom as N
+pub use Rattle.starlark_hash.specs.declared.no_room.NoRoom.{NoRoom}
+pub use Rattle.starlark_hash.proofs.no_room.NoRoom.TheLaws as room_laws
+pub use Rattle.starlark_columns.proofs.LoneValue.{lone_value}
+pub use Rattle.starlark_table.specs.Table.{Table, item_in}
+pub use Rattle.starlark_unordered.specs.Pairs.{pairs_of, with_value}
+pub use Rattle.starlark_unordered.specs.contracts.unordered_map.UnorderedMap as U
+pub use Rattle.starlark_unordered.proofs.unordered_map.UnorderedMap.TheLaws as the_map_laws
 
 pub place_laws : Laws usize
 place_laws = of_field usize-field usize-laws refl (copy_shared usize-field usize-copy)

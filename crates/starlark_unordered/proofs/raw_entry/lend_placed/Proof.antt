@@ -1,28 +1,19 @@
 -- `lend_placed` meets its contract, at any types: where there is a place, the map is lent for good to the call that shows the pair, and else it is given up. Assumes `Logic`.
 use Rattle.starlark_columns.proofs.Walking.{◌≡◌, refl, sym, subst, ap, ◌∙◌, inl, inr, ℕ, ◌<◌, ◌^◌, suc-ne-zero, List, [], ◌∷◌, lit<, Ura, Fn, Args, Dict, a_type, dcons, dnil, named, w64, inst_fn, Val, vint, vcons, vnil, of_list, SProp, ent, emp, id⊢, ex_e, snd∗, Lft, Share, ftrue, flft, fres, Memory, Routine, Env, Calls, Loops, WpFn, Logic, sem, live, vrt, in_variant, by_variants, ◌⊑◌, Fun, fact, fact_i, tables, FmC, ‵, raw, ◌⊛◌, some, given, later, prop, at_ret, ◌$◌, ◌∵◌, !, qed, move, keep, drop, use0, use1, split, split3, join, pick, learn, fsplit, fjoin, suffices, frame, await, rewrite, regoal, group, done, whole, agg, stop, fld, addr, lit, of_opd, and_then, no_more, first, exec, returns, enter, alloc_all, pass_all, free_all, look_at, get, get_in, get_tag, through, sets, sets_last, lands_as, env, sub, no, rest, RattleType, owns, usize, follows, param, bounded, layout, Laws, param_laws, uint_Makes, uint_Tells, Bor, MutBor, MutRef, ShrRef, mut_vals, plain, types_at, nothing, owned, heard, Tuple, calls_at, Clauses, Ended, ensured, lasts, triple_of, Contract, Triple, framed, Stays, stay_dropped, walk_of, ends_at, Goes-blank, Good, Ok-of, Err-of, and_tt, proved_at, Result, Ok, Err, IfOk, IsOk, OnErr, MatchResult, true, is_some, result_laws}
-use Rattle.core.specs.contracts.result.Result as RS
 use Rattle.std.proofs.VecSteps.Shapes.{after}
-use Rattle.std.specs.Prelude.{Some}
-use Rattle.std.specs.declared.cmp.Eq as Eq
-use Rattle.std.specs.declared.cmp.PartialEq as PartialEq
-use Rattle.std.specs.declared.hash.Hash as Hash
-use Rattle.starlark_table.specs.Table.{Table, item_in}
-use Rattle.starlark_unordered.specs.Pairs.{with_value}
 use Rattle.starlark_unordered.specs.RawLending.{lends_placed}
-use Rattle.starlark_unordered.specs.contracts.unordered_map.UnorderedMap as U
 use Rattle.starlark_unordered.specs.contracts.unordered_map.UnorderedMap.pair_at_mut as e
 use Rattle.starlark_unordered.specs.contracts.raw_entry.lend_placed as F
 use Rattle.starlark_unordered.specs.contracts.raw_entry.lend_placed.Key.{name as #self}
-use Rattle.starlark_columns.proofs.LoneValue.{lone_value}
 use Rattle.starlark_table.proofs.LentInResult.{given_up, so_rests, so_follows, in_ok_told, in_err, entry_val, entry_told, which}
-use Rattle.starlark_unordered.proofs.LentPlaced.{Placed, placed_laws, placed_blank, pair_val, pair_opened, place_laws}
-use Rattle.starlark_unordered.proofs.unordered_map.UnorderedMap.TheLaws as map_laws
+use Rattle.starlark_unordered.proofs.LentPlaced as L
+use Rattle.starlark_unordered.proofs.LentPlaced.{Some, lone_value, Table, item_in, with_value, Placed, placed_laws, placed_blank, pair_val, pair_opened, place_laws}
 use Rattle.starlark_unordered.proofs.unordered_map.UnorderedMap.pair_at_mut.Symbol.{name as #pair}
 use Rattle.starlark_unordered.proofs.unordered_map.UnorderedMap.pair_at_mut.Met as pair
 use Rattle.starlark_unordered.proofs.raw_entry.lend_placed.Statement.{statement}
 use Rattle.starlark_unordered.proofs.raw_entry.lend_placed.Code as code
 
-module _ (K V X : RattleType) (E : Eq.Ghosts K.Denot) (dE : Dict) (P : PartialEq.Ghosts K.Denot) (dP : Dict) (G : Hash.Ghosts K.Denot) (dG : Dict) where
+module _ (K V X : RattleType) (E : L.Eq.Ghosts K.Denot) (dE : Dict) (P : L.PartialEq.Ghosts K.Denot) (dP : Dict) (G : L.Hash.Ghosts K.Denot) (dG : Dict) where
   abbrev args : Args
   args = bounded (a_type ∷ a_type ∷ a_type ∷ []) (K, (V, (X, tt))) (dcons dE (dcons dP (dcons dG dnil)))
 
@@ -45,7 +36,7 @@ module _ (K V X : RattleType) (E : Eq.Ghosts K.Denot) (dE : Dict) (P : PartialEq
   X' = param 2 X
 
   abbrev R : RattleType
-  R = U.the_row K' V' P G
+  R = L.U.the_row K' V' P G
 
   abbrev Map : Type 0
   Map = Table (K.Denot × V.Denot)
@@ -77,14 +68,14 @@ module _ (K V X : RattleType) (E : Eq.Ghosts K.Denot) (dE : Dict) (P : PartialEq
       walk : ent 𝓤 ((walk_of 𝓛 ended stayed spec).pre bound) (WpFn 𝓤 𝓛.H C Λ here (v ∷ []) Post)
       walk =
           let b = r.ref_ptr.0 in let o = r.ref_ptr.1 in let m = r.now in let γ = r.ghost_name in
-          let At = λ (h : Result ℕ X.Denot) (t : Val). (RS.the_row usize X').own_val h (t ∷ []) in
+          let At = λ (h : Result ℕ X.Denot) (t : Val). (L.RS.the_row usize X').own_val h (t ∷ []) in
           qed 𝓛 (((‵ (flft κ q) ⊛ ‵ (flft κK qK) ⊛ ‵ (flft κV qV) ⊛ ‵ (flft κX qX) ⊛ ‵ ftrue) ⊛ ‵ (owns (types_at ended.signature.params bound.0.0) bound.0.3 bound.0.4))
           ∷ (raw (fact 𝓤 (κK ⊑ K.lives)) ⊛ raw (fact 𝓤 (κV ⊑ V.lives)) ⊛ raw (fact 𝓤 (κX ⊑ X.lives)) ⊛ raw (fact 𝓤 (IfOk p (λ i. is_some (item_in m i) ≡ true)))) ∷ []) ∵
           move ! (1 ∷ []) $ split3 ! $ heard ! (κK ⊑ K.lives) (λ lK. heard ! (κV ⊑ V.lives) (λ lV. split ! $ heard ! (κX ⊑ X.lives) (λ lX. heard ! (IfOk p (λ i. is_some (item_in m i) ≡ true)) (λ there.
           split ! $ split3 ! $ move ! (2 ∷ []) $ split3 ! $ move ! (5 ∷ []) $ fsplit ! $ keep ! (0 ∷ 5 ∷ 6 ∷ 2 ∷ 3 ∷ []) $
           -- [the pair; the tokens of κ, κK, κV, κX]
-          use1 𝓛 (some (λ (t : Val). given ((v ≡ pair_val r t) × Good (layout (RS.the_row usize X')) t) (‵ ((MutRef (named 0) κ R).own_val r (mut_vals r)) ⊛ ‵ (At p t))))
-          (pair_opened 𝓛 κ R (RS.the_row usize X') (result_laws usize X' place_laws (param_laws 2 X LX)) r p v) $ pick ! (λ t. learn ! (λ at_v. split ! $ move ! (1 ∷ []) $
+          use1 𝓛 (some (λ (t : Val). given ((v ≡ pair_val r t) × Good (layout (L.RS.the_row usize X')) t) (‵ ((MutRef (named 0) κ R).own_val r (mut_vals r)) ⊛ ‵ (At p t))))
+          (pair_opened 𝓛 κ R (L.RS.the_row usize X') (result_laws usize X' place_laws (param_laws 2 X LX)) r p v) $ pick ! (λ t. learn ! (λ at_v. split ! $ move ! (1 ∷ []) $
           -- [the place; the map; the tokens]
           elim (which p) [
             | inl w ↦
@@ -118,7 +109,7 @@ module _ (K V X : RattleType) (E : Eq.Ghosts K.Denot) (dE : Dict) (P : PartialEq
                       exec ! C Λ En (after 3 (here).body) (at_ret En Post) $ sets ! (of_opd ! (get ! refl)) refl (tt, (record { fits = lit< tt }, ((tt, (tt, tt)), tt))) $
                       returns ! (look_at ! 0 refl) $ free_all ! refl $
                       -- [the result; the tokens of κ, κK, κV; what the map follows; the token of κX]
-                      use1 𝓛 (‵ ((RS.the_row (Pair κ) X').own_val (Ok x) (live 0 (of_list (ev ∷ [])) ∷ []))) (Ok-of 𝓛 (Pair κ) X' x ev) $
+                      use1 𝓛 (‵ ((L.RS.the_row (Pair κ) X').own_val (Ok x) (live 0 (of_list (ev ∷ [])) ∷ []))) (Ok-of 𝓛 (Pair κ) X' x ev) $
                       move ! (2 ∷ []) $ use1 𝓛 (‵ (lends_placed K' V' (F.K-Hash-whole K V X E dE P dP G dG) r p out))
                       (so_follows 𝓛 R V' γ (λ y n. IfOk p (λ j. n ≡ with_value m j y)) (λ n. OnErr out (n ≡ m)) m tt x.1.ghost_name (with_value m i) (λ y. subst (λ (h : Result ℕ X.Denot). IfOk h (λ j. with_value m i y ≡ with_value m j y)) (sym w.1) refl)) $
                       suffices ! _ (ends_at 𝓛 ended stayed spec bound (live 0 (of_list (ev ∷ []))) out (rest ((Placed κ R X').exit no) (r, p), tt) (tt, tt)) $
@@ -134,7 +125,7 @@ module _ (K V X : RattleType) (E : Eq.Ghosts K.Denot) (dE : Dict) (P : PartialEq
                 let out : Out = Err w.0 in
                 rewrite ! 0 (λ (h : Result ℕ X.Denot). ‵ (At h t)) w.1 refl $
                 use1 𝓛 (some (λ (ev : Val). given ((t ≡ live 1 (vcons ev vnil)) × Good (layout X') ev) (‵ (X'.own_val w.0 (ev ∷ []))))) (in_err 𝓛 usize X' t w.0 (lone_value 𝓛 X' (param_laws 2 X LX) w.0)) $ pick ! (λ ev. learn ! (λ at_t.
-                let stored : Good (layout (RS.the_row usize X')) (live 1 (vcons ev vnil)) = (and_tt _ at_t.1.0, (record { fits = lit< tt }, (at_t.1.1, tt))) in
+                let stored : Good (layout (L.RS.the_row usize X')) (live 1 (vcons ev vnil)) = (and_tt _ at_t.1.0, (record { fits = lit< tt }, (at_t.1.1, tt))) in
                 regoal ! (λ (x : Val). prop (WpFn 𝓤 𝓛.H C Λ here (x ∷ []) Post)) (at_v.0 ∙ ap (pair_val r) at_t.0) refl $
                 enter ! C Λ here (pair_val r (live 1 (vcons ev vnil)) ∷ []) _ $ alloc_all ! (λ l. let En : Env 𝓤 𝓛.H = env (here).locals l in
                 pass_all ! refl ((and_tt _ stored.0, (tt, (stored.1, tt))), tt) $
@@ -152,7 +143,7 @@ module _ (K V X : RattleType) (E : Eq.Ghosts K.Denot) (dE : Dict) (P : PartialEq
                         returns ! (look_at ! 0 refl) $ free_all ! refl $
                         use1 𝓛 (‵ (lends_placed K' V' (F.K-Hash-whole K V X E dE P dP G dG) r p out))
                         (so_rests 𝓛 R V' γ (λ y n. IfOk p (λ j. n ≡ with_value m j y)) (λ n. OnErr out (n ≡ m)) m refl (λ y. subst (λ (h : Result ℕ X.Denot). IfOk h (λ j. m ≡ with_value m j y)) (sym w.1) tt)) $
-                        move ! (1 ∷ []) $ use1 𝓛 (‵ ((RS.the_row (Pair κ) X').own_val (Err w.0) (live 1 (of_list (ev ∷ [])) ∷ []))) (Err-of 𝓛 (Pair κ) X' w.0 ev) $
+                        move ! (1 ∷ []) $ use1 𝓛 (‵ ((L.RS.the_row (Pair κ) X').own_val (Err w.0) (live 1 (of_list (ev ∷ [])) ∷ []))) (Err-of 𝓛 (Pair κ) X' w.0 ev) $
                         suffices ! _ (ends_at 𝓛 ended stayed spec bound (live 1 (of_list (ev ∷ []))) out (rest ((Placed κ R X').exit no) (r, p), tt) (tt, tt)) $
                         nothing ! $ nothing ! $ fjoin ! $ join ! $
                         -- [the result; what the map ends as; the tokens of κ, κK, κV, κX]
@@ -173,7 +164,7 @@ lend_placed_spec 𝓤 𝓛 𝓜 𝓡 wired K V X LK LV LX E dE P dP G dG is_eq i
     (#self (args K V X E dE P dP G dG)) (here K V X E dE P dP G dG) (code.unfolded 𝓤 𝓛.H 𝓜 𝓡 wired (K, (V, (X, tt))) dE dP dG) (λ y are.
     let κs = y.0.0 in let qs = y.0.1 in let a = y.0.3 in let vss = y.0.4 in let W = walk_of 𝓛 (ended K V X E dE P dP G dG) (stayed K V X E dE P dP G dG) c in
     let k = lone_value 𝓛 (Placed κs.0 (R K V X E dE P dP G dG) (X' K V X E dE P dP G dG))
-    (placed_laws κs.0 (R K V X E dE P dP G dG) (X' K V X E dE P dP G dG) (map_laws.the_row_laws (param 0 K) (param 1 V) P G (param_laws 0 K LK) (param_laws 1 V LV)) (param_laws 2 X LX)) a.0 vss.0 are.0 in
+    (placed_laws κs.0 (R K V X E dE P dP G dG) (X' K V X E dE P dP G dG) (L.the_map_laws.the_row_laws (param 0 K) (param 1 V) P G (param_laws 0 K LK) (param_laws 1 V LV)) (param_laws 2 X LX)) a.0 vss.0 are.0 in
     subst (λ (us : List Val × Unit {0}). ent 𝓤 (W.pre ((κs, qs, y.0.2, a, us), y.1)) (WpFn 𝓤 𝓛.H 𝓣.C 𝓣.Λ (here K V X E dE P dP G dG) (W.args ((κs, qs, y.0.2, a, us), y.1)) (W.post ((κs, qs, y.0.2, a, us), y.1))))
     (sym (λ j. (k.1 j, tt)))
     (walk K V X E dE P dP G dG 𝓛 𝓜.mem 𝓡.returns LK LV LX 𝓣.C 𝓣.Λ (framed 𝓤 𝓛.H 𝓜 𝓣)

@@ -1,31 +1,18 @@
 -- `insert_hashed` meets its contract, at any types, as `insert` does its own: one call takes the entry and puts the pair in, the next lends it. Assumes `Logic`.
 use Rattle.starlark_columns.proofs.Walking.{◌≡◌, refl, sym, subst, ℕ, List, [], ◌∷◌, Ura, Fn, Args, Dict, Ty, a_type, dcons, dnil, named, tcons, tnil, ty_int, ty_struct, w32, inst_fn, Val, SProp, ent, emp, id⊢, ex_e, snd∗, Lft, GName, Share, ftrue, flft, Memory, Routine, Calls, Loops, WpFn, Logic, sem, ◌⊑◌, ⊑_trans, Fun, fact, fact_i, tables, FmC, ‵, raw, ◌⊛◌, some, later, ◌$◌, ◌∵◌, !, qed, move, drop, use0, use1, use2, split, split3, join, pick, fjoin, suffices, frame, await, rewrite, group, done, of_opd, and_then, no_more, returns, enter, alloc_all, pass_all, free_all, look_at, get, sets, lands_as, no, rest, yes, RattleType, owns, follows_so, arg, param, bounded, layout, Laws, arg_laws, param_laws, Bor, MutBor, MutRef, ShrRef, plain, types_at, nothing, heard, peeks, Tuple, tuple_laws, calls_at, Clauses, Ended, Lasts, ensured, lasts, triple_of, Contract, Triple, framed, Stays, stay_dropped, walk_of, ends_at, Goes-blank, Good, proved_at, Result, Err, None, IfOk, IsOk, OnOk, OnErr, MatchResult, true, is_some, lookup, name_if_ok, Is, shows, result_laws}
-use Rattle.core.specs.contracts.result.Result as RS
-use Rattle.std.specs.Prelude.{Some}
-use Rattle.std.specs.declared.cmp.Eq as Eq
-use Rattle.std.specs.declared.cmp.PartialEq as PartialEq
-use Rattle.std.specs.declared.hash.Hash as Hash
-use Rattle.starlark_table.specs.Table.{Table, item_in}
-use Rattle.starlark_unordered.specs.Pairs.{pairs_of, with_value}
 use Rattle.starlark_unordered.specs.RawLending.{lends_placed, lends_added, IsAdded, LendsPair, PlacesPair}
 use Rattle.starlark_unordered.proofs.LentFacts.{there_is, added_lent, unchanged_lent, handed_lent, full_lent, shown_lent}
-use Rattle.starlark_hash.specs.contracts.no_room.NoRoom as N
 use Rattle.starlark_hash.specs.contracts.hashed.Hashed as H
 use Rattle.starlark_hash.proofs.hashed.Hashed.TheLaws as hashed_laws
 use Rattle.starlark_hash.specs.Hasher.{own_hash}
 use Rattle.starlark_hash.specs.HashValue.{hash_of, key_of}
-use Rattle.starlark_hash.specs.declared.no_room.NoRoom.{NoRoom}
-use Rattle.starlark_hash.proofs.no_room.NoRoom.TheLaws as room_laws
-use base.Share
-use Rattle.starlark_unordered.specs.contracts.unordered_map.UnorderedMap as U
 use Rattle.starlark_unordered.specs.contracts.raw_entry.RawVacantEntryMut as Vacant
 use Rattle.starlark_unordered.specs.contracts.raw_entry.RawVacantEntryMut.place_hashed as p
 use Rattle.starlark_unordered.specs.contracts.raw_entry.lend_placed as e
 use Rattle.starlark_unordered.specs.contracts.raw_entry.RawVacantEntryMut.insert_hashed as F
 use Rattle.starlark_unordered.specs.contracts.raw_entry.RawVacantEntryMut.insert_hashed.Key.{name as #self}
-use Rattle.starlark_columns.proofs.LoneValue.{lone_value}
-use Rattle.starlark_unordered.proofs.LentPlaced.{both_in, Placed, placed_laws, mut_laws, shr_laws, good_value, so_weakens}
-use Rattle.starlark_unordered.proofs.unordered_map.UnorderedMap.TheLaws as the_map_laws
+use Rattle.starlark_unordered.proofs.LentPlaced as L
+use Rattle.starlark_unordered.proofs.LentPlaced.{Some, NoRoom, lone_value, Table, item_in, pairs_of, with_value, both_in, Placed, placed_laws, mut_laws, shr_laws, good_value, so_weakens}
 use Rattle.starlark_unordered.proofs.raw_entry.RawVacantEntryMut.TheLaws as vacant_laws
 use Rattle.starlark_unordered.proofs.raw_entry.RawVacantEntryMut.place_hashed.Symbol.{name as #place}
 use Rattle.starlark_unordered.proofs.raw_entry.RawVacantEntryMut.place_hashed.Met as place
@@ -34,7 +21,7 @@ use Rattle.starlark_unordered.proofs.raw_entry.lend_placed.Met as lend
 use Rattle.starlark_unordered.proofs.raw_entry.RawVacantEntryMut.insert_hashed.Statement.{statement}
 use Rattle.starlark_unordered.proofs.raw_entry.RawVacantEntryMut.insert_hashed.Code as code
 
-module _ (K V : RattleType) (E : Eq.Ghosts K.Denot) (dE : Dict) (P : PartialEq.Ghosts K.Denot) (dP : Dict) (G : Hash.Ghosts K.Denot) (dG : Dict) where
+module _ (K V : RattleType) (E : L.Eq.Ghosts K.Denot) (dE : Dict) (P : L.PartialEq.Ghosts K.Denot) (dP : Dict) (G : L.Hash.Ghosts K.Denot) (dG : Dict) where
   abbrev args : Args
   args = bounded (a_type ∷ a_type ∷ []) (K, (V, tt)) (dcons dE (dcons dP (dcons dG dnil)))
 
@@ -54,7 +41,7 @@ module _ (K V : RattleType) (E : Eq.Ghosts K.Denot) (dE : Dict) (P : PartialEq.G
   Key = H.the_row K'
 
   abbrev R : RattleType
-  R = U.the_row K' V' P G
+  R = L.U.the_row K' V' P G
 
   abbrev Entry : Lft → RattleType
   Entry κ = Vacant.the_row (record { mir = named 0; lft = κ }) K' V' P G
@@ -63,7 +50,7 @@ module _ (K V : RattleType) (E : Eq.Ghosts K.Denot) (dE : Dict) (P : PartialEq.G
   Parts = Tuple (Key ∷ V' ∷ [])
 
   abbrev Back : RattleType
-  Back = N.the_row Parts
+  Back = L.N.the_row Parts
 
   -- the type of what is handed back, as a call passes it: without its names
   abbrev nameless : Ty
@@ -88,15 +75,15 @@ module _ (K V : RattleType) (E : Eq.Ghosts K.Denot) (dE : Dict) (P : PartialEq.G
   key_laws LK = hashed_laws.the_row_laws K' (param_laws 0 K LK)
 
   back_laws : Laws K → Laws V → Laws Back
-  back_laws LK LV = room_laws.the_row_laws Parts (tuple_laws (Key ∷ V' ∷ []) (key_laws LK, (param_laws 1 V LV, tt)))
+  back_laws LK LV = L.room_laws.the_row_laws Parts (tuple_laws (Key ∷ V' ∷ []) (key_laws LK, (param_laws 1 V LV, tt)))
 
   passed_laws : Laws K → Laws V → Laws Passed
   passed_laws LK LV = arg_laws nameless yes Back (back_laws LK LV) refl
 
   map_laws : Laws K → Laws V → Laws R
-  map_laws LK LV = the_map_laws.the_row_laws K' V' P G (param_laws 0 K LK) (param_laws 1 V LV)
+  map_laws LK LV = L.the_map_laws.the_row_laws K' V' P G (param_laws 0 K LK) (param_laws 1 V LV)
 
-  lent_laws : Laws K → Laws V → (κ : Lft) → Laws (RS.the_row (Pair κ) Back)
+  lent_laws : Laws K → Laws V → (κ : Lft) → Laws (L.RS.the_row (Pair κ) Back)
   lent_laws LK LV κ = result_laws (Pair κ) Back (tuple_laws (ShrRef (named 0) κ K' ∷ MutRef (named 0) κ V' ∷ []) (shr_laws κ K' (param_laws 0 K LK), (mut_laws κ V' (param_laws 1 V LV), tt))) (back_laws LK LV)
 
   abbrev stayed : Stays ended.signature.params ended.kept
@@ -129,7 +116,7 @@ module _ (K V : RattleType) (E : Eq.Ghosts K.Denot) (dE : Dict) (P : PartialEq.G
 
       walk : ent 𝓤 ((walk_of 𝓛 ended stayed spec).pre bound) (WpFn 𝓤 𝓛.H C Λ here (v₀ ∷ v₁ ∷ v₂ ∷ []) Post)
       walk =
-          let m = s.map.now in let γ = s.map.ghost_name in let ql = Share.left q in let qr = Share.right q in
+          let m = s.map.now in let γ = s.map.ghost_name in let ql = L.Share.left q in let qr = L.Share.right q in
           let Own = hash_of key ≡ own_hash G.hash_input (key_of key) in let Absent = lookup (P.eq (key_of key)) (pairs_of m) ≡ None in
           qed 𝓛 (((‵ (flft κ q) ⊛ ‵ (flft κK qK) ⊛ ‵ (flft κV qV) ⊛ ‵ ftrue) ⊛ ‵ (owns (types_at ended.signature.params bound.0.0) bound.0.3 bound.0.4))
           ∷ (raw (fact 𝓤 (κK ⊑ K.lives)) ⊛ raw (fact 𝓤 (κV ⊑ V.lives)) ⊛ raw (fact 𝓤 Own) ⊛ raw (fact 𝓤 Absent)) ∷ []) ∵
@@ -154,7 +141,7 @@ module _ (K V : RattleType) (E : Eq.Ghosts K.Denot) (dE : Dict) (P : PartialEq.G
           lands_as ! refl refl u_good $
           move ! (1 ∷ []) $ split3 ! $ use1 𝓛 (‵ (flft κ ql) ⊛ ‵ (flft κ qr)) (𝓛.lfts.lft_split κ q) $ split ! $ move ! (3 ∷ []) $ split ! $
           -- [the token of κV; nothing; the two halves of κ; κK; the map and the place]
-          let in_back : κ ⊑ Back.lives = room_laws.the_within Parts κ (both_in κ Key V' (hashed_laws.the_within K' κ (⊑_trans κ κK K.lives bounds.0 lK)) (⊑_trans κ κV V.lives bounds.1.0 lV)) in
+          let in_back : κ ⊑ Back.lives = L.room_laws.the_within Parts κ (both_in κ Key V' (hashed_laws.the_within K' κ (⊑_trans κ κK K.lives bounds.0 lK)) (⊑_trans κ κV V.lives bounds.1.0 lV)) in
           let There = IfOk g.1 (λ i. is_some (item_in g.0.now i) ≡ true) in
           let y : Lends.Ghost = (((κ, (κK, (κV, (κ, tt)))), (ql, (qK, (qV, (qr, tt)))), bounds, (g, tt), (u ∷ [], tt)), tt) in
           nothing ! $ move ! (6 ∷ 0 ∷ []) $ fjoin ! $
@@ -163,14 +150,14 @@ module _ (K V : RattleType) (E : Eq.Ghosts K.Denot) (dE : Dict) (P : PartialEq.G
           use0 𝓛 (raw (fact 𝓤 There)) (fact_i 𝓤 _ (emp 𝓤) (there_is (key_of key) value g.0.now g.1 put.placed)) $ use0 𝓛 (raw (fact 𝓤 (κ ⊑ Back.lives))) (fact_i 𝓤 _ (emp 𝓤) in_back) $ use0 𝓛 (raw (fact 𝓤 (κV ⊑ V.lives))) (fact_i 𝓤 _ (emp 𝓤) lV) $ use0 𝓛 (raw (fact 𝓤 (κK ⊑ K.lives))) (fact_i 𝓤 _ (emp 𝓤) lK) $
           group ! 4 $ move ! (1 ∷ 0 ∷ []) $ join ! $ use1 𝓛 (raw (Lends.pre y)) (id⊢ 𝓤 _) $
           calls_at ! fm Lends lends y (and_then ! (get ! refl) (no_more !)) (λ t.
-          use1 𝓛 (later (some (λ (x : Out). ((‵ (flft κ ql) ⊛ ‵ (flft κK qK) ⊛ ‵ (flft κV qV) ⊛ ‵ (flft κ qr) ⊛ ‵ ftrue) ⊛ ‵ ((RS.the_row (Pair κ) Back).own_val x (t ∷ [])))
+          use1 𝓛 (later (some (λ (x : Out). ((‵ (flft κ ql) ⊛ ‵ (flft κK qK) ⊛ ‵ (flft κV qV) ⊛ ‵ (flft κ qr) ⊛ ‵ ftrue) ⊛ ‵ ((L.RS.the_row (Pair κ) Back).own_val x (t ∷ [])))
           ⊛ raw (ensured 𝓛 (e.ended K V Passed E dE P dP G dG) (e.clauses K V Passed E dE P dP G dG 𝓛 at_mem run) y.0.0 y.0.3 tt x)))) (id⊢ 𝓤 _) $ await ! tt $ pick ! (λ x. split ! $ move ! (1 ∷ []) $
           let Shown = IfOk g.1 (λ i. IfOk x (λ z. item_in g.0.now i ≡ Some (z.0.now, z.1.now))) in let Refused = MatchResult g.1 (λ _. IsOk x) (λ e. x ≡ Err e) in
           use1 𝓛 (‵ (lends_placed K' V' (F.K-Hash-whole K V E dE P dP G dG) g.0 g.1 x) ⊛ raw (fact 𝓤 Shown) ⊛ raw (fact 𝓤 Refused)) (ex_e 𝓤 _ (λ ws. snd∗ 𝓤 (sem 𝓛 (lasts (e.ended K V Passed E dE P dP G dG) y.0.0 y.0.3 ws)) _)) $ split3 ! $
           move ! (1 ∷ 2 ∷ []) $ heard ! Shown (λ shown. heard ! Refused (λ refused. move ! (1 ∷ []) $ split ! $ move ! (1 ∷ []) $
           -- [the result; the tokens; what the map follows]
-          peeks ! (RS.the_row (Pair κ) Back) (Is (RS.the_row (Pair κ) Back)) (shows 𝓛 (RS.the_row (Pair κ) Back)) x (t ∷ []) (λ is_t.
-          lands_as ! refl refl (good_value 𝓛 (RS.the_row (Pair κ) Back) (lent_laws LK LV κ) x t is_t) $
+          peeks ! (L.RS.the_row (Pair κ) Back) (Is (L.RS.the_row (Pair κ) Back)) (shows 𝓛 (L.RS.the_row (Pair κ) Back)) x (t ∷ []) (λ is_t.
+          lands_as ! refl refl (good_value 𝓛 (L.RS.the_row (Pair κ) Back) (lent_laws LK LV κ) x t is_t) $
           returns ! (look_at ! 0 refl) $ free_all ! refl $
           move ! (1 ∷ []) $ split3 ! $ move ! (2 ∷ []) $ split3 ! $
           -- [the tokens of κV, half of κ; nothing; the other half; κK; the result; what the map follows]
