@@ -10,6 +10,7 @@ use Rattle.starlark_small.specs.Inserted.{IsRefused, LeavesMemory}
 use Rattle.starlark_small.specs.Inserting.{Inserts}
 use Rattle.starlark_small.specs.Map.{Map}
 use Rattle.starlark_small.proofs.CallerOwn.{own-inserted, own-same}
+use Rattle.starlark_small.proofs.CallerTotals.{total-put}
 use Rattle.starlark_small.proofs.CallerUpdates.{entries-pushed, found_is, keys-put, length-put, none_found, writes-inserted}
 
 module _ {K V B : Type 0} (eq : K → K → Bool) (key : Hashed K) (value : V) (back : B) (before after : Map K V) where
@@ -23,6 +24,7 @@ module _ {K V B : Type 0} (eq : K → K → Bool) (key : Hashed K) (value : V) (
     pushed = entries-pushed eq before after key value put;
     keys = keys-put eq before after key value put;
     count = length-put eq before.entries after.entries key value put;
+    total = λ measure. total-put measure eq before.entries after.entries key value put;
     own = λ feeds under. own-inserted feeds eq before.entries after.entries key value put under;
     lacking = tt;
     absent = tt;
@@ -42,6 +44,7 @@ module _ {K V B : Type 0} (eq : K → K → Bool) (key : Hashed K) (value : V) (
     pushed = tt;
     keys = tt;
     count = tt;
+    total = tt;
     own = λ feeds under. own-same feeds before.entries after.entries refused.entries;
     lacking = none_found (eq (key_of key)) (hash_of key) before.entries absent;
     absent = absent;
@@ -62,6 +65,7 @@ module _ {K V B C : Type 0} (eq : K → K → Bool) (key : Hashed K) (value : V)
     pushed = is.pushed;
     keys = is.keys;
     count = is.count;
+    total = is.total;
     own = is.own;
     lacking = tt;
     absent = tt;
@@ -80,6 +84,7 @@ module _ {K V B C : Type 0} (eq : K → K → Bool) (key : Hashed K) (value : V)
     pushed = tt;
     keys = tt;
     count = tt;
+    total = tt;
     own = is.own;
     lacking = is.lacking;
     absent = is.absent;

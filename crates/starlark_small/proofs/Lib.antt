@@ -26,8 +26,12 @@ pub mod CallerShown
 pub mod CallerWalked
 pub mod CallerOwn
 pub mod KeptInWalks
+pub mod CallerTotals
+pub mod CallerEntered
 pub mod CallerInserts
 pub mod CallerCollected
 pub mod CallerPlaces
+pub mod CallerFound
+pub mod CallerItems
 pub mod CallerOrder
 pub mod CallerLemmas

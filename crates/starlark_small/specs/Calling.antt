@@ -2,8 +2,8 @@
 -- all other keys. Sets, ordered and sorted types share these words: a set is a map to `()`. All of them but `found`,
 -- `found_key` and `AreOwnEntries` unfold by themselves in callers' proofs.
 use Rattle.std.specs.Prelude.{◌≡◌, ℕ, ◌+◌, ◌<◌, length, remove, slice_get, if◌then◌else◌, All, Bool, false, IfSome, List, Option, Some, None, is_some, map}
-use Rattle.std.specs.List.{IsAmong}
-use Rattle.std.specs.Option.{IfNone, option_map}
+use Rattle.std.specs.List.{IsAmong, sum_by}
+use Rattle.std.specs.Option.{IfNone, option_map, unwrap_or}
 use Rattle.std.specs.Hash as fed
 use Rattle.std.specs.Hash.{HashWrites}
 use Rattle.std.specs.Str.{bytes_eq}
@@ -48,6 +48,10 @@ module _ {K V : Type 0} (eq : K → K → Bool) where
   abbrev pub IsSameAt : Map K V → Map K V → Type 0
   IsSameAt old new = (under : StarlarkHashValue) (key : K) → found (eq key) under new.entries ≡ found (eq key) under old.entries
 
+-- what a value that may be there weighs, by this measure; nothing where there is none
+abbrev pub weight_of : {V : Type 0} → (V → ℕ) → Option V → ℕ
+weight_of measure value = unwrap_or (option_map measure value) 0
+
 module _ {K V : Type 0} where
   -- no look-up finds a value
   abbrev pub IsEmpty : Map K V → Type 0
@@ -56,6 +60,10 @@ module _ {K V : Type 0} where
   -- each key of the list stands under its own hash; callers' proofs never unfold this word
   unfoldable pub AreOwnEntries : (K → HashWrites) → List (Entry K V) → Type 0
   AreOwnEntries feeds es = All (λ e. entry_hash e ≡ own_hash feeds (entry_key e)) es
+
+  -- what the values of a list weigh together
+  abbrev pub total_of : (V → ℕ) → List (Entry K V) → ℕ
+  total_of measure es = sum_by measure (map entry_value es)
 
   -- each key of the map stands under its own hash
   abbrev pub AreOwn : (K → HashWrites) → Map K V → Type 0

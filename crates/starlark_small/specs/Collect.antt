@@ -1,8 +1,8 @@
 -- Maps of an iterator's items.
-use Rattle.std.specs.Prelude.{◌≡◌, ◌≤◌, ◌+◌, ℕ, List, [], ◌∷◌, ◌++◌, Bool, Option, None, Result, MatchResult, IsOk, OnErr, ◌||◌, nat_lt, length, map}
+use Rattle.std.specs.Prelude.{◌≡◌, ◌≤◌, ◌+◌, ℕ, List, [], ◌∷◌, ◌++◌, Bool, true, IfSome, IsSome, Option, None, Result, MatchResult, IsOk, OnErr, ◌||◌, nat_lt, length, map}
 use Rattle.std.specs.Hash.{HashWrites}
 use Rattle.std.specs.Iterator.{Count, Drains, Yields}
-use Rattle.std.specs.Iterator.Runs.{WholeRun}
+use Rattle.std.specs.Iterator.Runs.{AllItems, AnyItem, WholeRun}
 use Rattle.std.specs.Iterator.SizeHint.{IsWithinCount}
 use Rattle.std.specs.Map.{update_all}
 use Rattle.starlark_lists.specs.Entries.{Entry, match_of}
@@ -75,6 +75,11 @@ module _ {K V T U : Type 0} (eq : K → K → Bool) (feeds : K → HashWrites) (
   -- the kit's clauses on iterators do, so that callers' proofs find the items
   abbrev pub FindsLast : (K → Option V) → Map K V → Type 0
   FindsLast before m = (it : T) × becomes iter it × WholeRun steps it (λ p. (key : K) → get eq feeds m key ≡ update_all eq before p.items key)
+
+  -- what is found came with one of the iterator's items, at an equal key, and each item's key is found
+  abbrev pub HasItems : Map K V → Type 0
+  HasItems m = (it : T) × becomes iter it × WholeRun steps it (λ p. ((key : K) → IfSome (get eq feeds m key) (λ v. AnyItem p (λ x. (eq key x.0 ≡ true) × (x.1 ≡ v))))
+      × AllItems p (λ x. IsSome (get eq feeds m x.0)))
 
 -- if the iterator's items stand under their keys' own hashes, the map's entries do
 abbrev pub KeepsOwn : {K V T U : Type 0} → (T → Option (Entry K V) → T → Type 0) → (U → T → Type 0) → U → Map K V → Type 0

@@ -9,7 +9,7 @@ use Rattle.starlark_hash.specs.declared.no_room.NoRoom.{NoRoom}
 use Rattle.starlark_lists.specs.Entries.{match_of, value_at}
 use Rattle.starlark_lists.specs.Finding.{found, Writes}
 use Rattle.starlark_lists.specs.Insertion.{insert_entry}
-use Rattle.starlark_small.specs.Calling.{AreOwn, keys}
+use Rattle.starlark_small.specs.Calling.{AreOwn, keys, total_of, weight_of}
 use Rattle.starlark_small.specs.Inserted.{IsInserted, IsRefused, IsRefusedFor, IsReserved, LeavesMemory}
 use Rattle.starlark_small.specs.Map.{Map}
 
@@ -27,6 +27,8 @@ module _ {K V B : Type 0} (eq : K → K → Bool) where
     pub pushed : OnOk r (found (eq (key_of key)) (hash_of key) before.entries ≡ None → after.entries ≡ before.entries ++ (key, value) ∷ [])
     pub keys : OnOk r (keys after ≡ (if is_some (found (eq (key_of key)) (hash_of key) before.entries) then keys before else keys before ++ key_of key ∷ []))
     pub count : OnOk r (length after.entries ≡ length before.entries + (if is_some (found (eq (key_of key)) (hash_of key) before.entries) then 0 else 1))
+    -- by any measure, what all values weigh: this value came in the place of the one that was there
+    pub total : OnOk r ((measure : V → ℕ) → total_of measure after.entries + weight_of measure (found (eq (key_of key)) (hash_of key) before.entries) ≡ total_of measure before.entries + measure value)
     -- keys under their own hashes stay so, done or refused, where this one is under its own
     pub own : (feeds : K → HashWrites) → hash_of key ≡ own_hash feeds (key_of key) → AreOwn feeds before → AreOwn feeds after
     -- a refusal comes only of a new key and without room; what was brought comes back, and entries and index stay

@@ -8,7 +8,7 @@ use Rattle.starlark_hash.specs.declared.hash_value.StarlarkHashValue.{StarlarkHa
 use Rattle.starlark_lists.specs.Clone.{IsEntryClone}
 use Rattle.starlark_lists.specs.Finding.{found as value_found}
 use Rattle.starlark_small.specs.Calling.{AreOwn, IsEmpty, get}
-use Rattle.starlark_small.specs.Collect.{Collects, Extends, FindsLast, IsExtended, own_entry}
+use Rattle.starlark_small.specs.Collect.{Collects, Extends, FindsLast, HasItems, IsExtended, own_entry}
 use Rattle.starlark_small.specs.Index.{unindexed}
 use Rattle.starlark_small.specs.Map.{Map}
 use Rattle.starlark_vec2.specs.Collect.{IsLawfulClone}
@@ -52,6 +52,7 @@ module _ {K V T U : Type 0} (eq : K → K → Bool) (feeds : K → HashWrites) (
   -- the map was made of the iterator's items, inserted in their order, each under its key's own hash
   pub record IsMadeOf (m : Map K V) : Type 0 where
     pub map : Collects eq (own_entry feeds) steps becomes remaining iter m
+    pub items : HasItems eq feeds steps becomes iter m
     pub own : AreOwn feeds m
 
   -- the iterator's items went into the old map in their order, each under its key's own hash: all of them, or, after a refusal,

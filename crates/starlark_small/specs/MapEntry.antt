@@ -1,7 +1,7 @@
 -- What the contracts of a map's `Entry` cite.
 pub use Rattle.starlark_small.specs.declared.entry.Entry.TheVariants.{Occupied, Vacant}
 use Rattle.std.proofs.Common.{subst, sym}
-use Rattle.std.specs.Prelude.{◌≡◌, ℕ, ◌<◌, Bool, Option, Some, None, Result, MatchResult, IsOk, OnOk, OnErr, [], ◌∷◌, ◌++◌, if◌then◌else◌, is_some, length, slice_get, ⊤}
+use Rattle.std.specs.Prelude.{◌≡◌, ℕ, ◌+◌, ◌<◌, ◌≤◌, Bool, Option, Some, None, Result, MatchResult, IsOk, OnOk, OnErr, [], ◌∷◌, ◌++◌, if◌then◌else◌, is_some, length, slice_get, ⊤}
 use Rattle.std.specs.Hash.{HashWrites}
 use Rattle.std.specs.Borrow.{Fml, RattleType, MutBor, follows, follows_so, name_if_ok}
 use Rattle.std.specs.Fn.{Once, FnOnceTakesAtMut, FnOnceReturnsAtMut}
@@ -15,7 +15,7 @@ use Rattle.starlark_hash.specs.HashValue.{hash_of, key_of}
 use Rattle.starlark_hash.specs.Hasher.{own_hash}
 use Rattle.starlark_lists.specs.Finding.{found, Writes}
 use Rattle.starlark_lists.proofs.EntryLemmas.{length-set_value_at}
-use Rattle.starlark_small.specs.Calling.{keys, AreOwn}
+use Rattle.starlark_small.specs.Calling.{keys, AreOwn, total_of, weight_of}
 use Rattle.starlark_small.specs.Inserted.{IsInserted, IsRefused}
 use Rattle.starlark_small.specs.Map.{Map}
 use Rattle.starlark_small.specs.contracts.entry.OccupiedEntry as occupied
@@ -87,6 +87,9 @@ module _ {K V : Type 0} {g : eq.Ghosts K} where
     pub updates : (value : V) (new : Map K V) → Puts e value new → Writes eq (eq (key_of key)) (hash_of key) old.entries new.entries (Some value)
     pub keys : (value : V) (new : Map K V) → Puts e value new → keys new ≡ (if is_some (found (eq (key_of key)) (hash_of key) old.entries) then keys old else keys old ++ key_of key ∷ [])
     pub own : (feeds : K → HashWrites) → hash_of key ≡ own_hash feeds (key_of key) → (value : V) (new : Map K V) → Puts e value new → AreOwn feeds old → AreOwn feeds new
+    -- by any measure: the value that is there is a part of what all weigh, and what they weigh once a value was put
+    pub part : (measure : V → ℕ) → weight_of measure (entry_value_of e) ≤ total_of measure old.entries
+    pub total : (measure : V → ℕ) (value : V) (new : Map K V) → Puts e value new → total_of measure new.entries + weight_of measure (entry_value_of e) ≡ total_of measure old.entries + measure value
 
   -- there is no such entry: none stands under the key
   abbrev pub IsVacant : Entry K V g → Type 0

@@ -4,7 +4,7 @@ ghost use Rattle.std.specs.Map.{values_of};
 ghost use Rattle.std.specs.Map.Iter.{deref, deref_pair};
 ghost use Rattle.starlark_lists.specs.Entries.{IsSingle, entry_key, entry_value, pair_of};
 ghost use Rattle.starlark_small.specs.Iter.{deref_entry};
-ghost use Rattle.starlark_small.specs.Walks.{GivesEach, ShowsEach};
+ghost use Rattle.starlark_small.specs.Walks.{GivesEach, ShowsEach, ShowsValues};
 
 use super::OrderedMap;
 use starlark_small::{IntoIter, Iter, IterHashed, Keys, Values};
@@ -33,7 +33,7 @@ impl<K: Eq, V> OrderedMap<K, V> {
     #[inline]
     pub fn values(&self) -> Values<'_, K, V>
         ensures values { result ≡ map entry_value self.now.entries }
-        ensures runs { ShowsEach self.now.entries result (deref {X = V}) }
+        ensures runs { ShowsValues K.eq self.now.entries result }
     {
         self.0.values()
     }

@@ -4,7 +4,7 @@ ghost use Rattle.std.specs.Map.{values_of};
 ghost use Rattle.std.specs.Map.Iter.{deref, deref_pair};
 ghost use Rattle.starlark_lists.specs.Entries.{Entry, IsSingle, entry_key, entry_value, pair_of};
 ghost use Rattle.starlark_small.specs.Iter.{deref_entry};
-ghost use Rattle.starlark_small.specs.Walks.{GivesEach, ShowsEach};
+ghost use Rattle.starlark_small.specs.Walks.{GivesEach, GivesValues, ShowsEach, ShowsValues};
 
 use super::SmallMap;
 use crate::iter::{IntoIter, IntoIterHashed, IntoKeys, IntoValues, Iter, IterHashed, Keys, Values};
@@ -25,7 +25,7 @@ impl<K: Eq, V> SmallMap<K, V> {
     #[inline]
     pub fn values(&self) -> Values<'_, K, V>
         ensures values { result ≡ map entry_value self.now.entries }
-        ensures runs { ShowsEach self.now.entries result (deref {X = V}) }
+        ensures runs { ShowsValues K.eq self.now.entries result }
     {
         self.entries.values()
     }
@@ -73,7 +73,7 @@ impl<K: Eq + Drop, V: Drop> SmallMap<K, V> {
     #[inline]
     pub fn into_values(self) -> IntoValues<K, V>
         ensures values { result ≡ map entry_value self.entries }
-        ensures runs { GivesEach self.entries result V }
+        ensures runs { GivesValues K.eq self.entries result }
     {
         let SmallMap {
             entries,

@@ -6,7 +6,7 @@ ghost use Rattle.starlark_lists.specs.Entries.{IsSingle, entry_key, entry_value,
 ghost use Rattle.starlark_lists.specs.Sorting.{Ascends};
 ghost use Rattle.starlark_small.specs.Iter.{deref_entry};
 ghost use Rattle.starlark_sorted.specs.Sorted.{AreOwn, AscendsAlong, AscendsStrictly};
-ghost use Rattle.starlark_small.specs.Walks.{GivesEach, ShowsEach};
+ghost use Rattle.starlark_small.specs.Walks.{GivesEach, ShowsEach, ShowsValues};
 
 use super::SortedMap;
 use starlark_small::{IntoIter, Iter, IterHashed, Keys, Values};
@@ -40,7 +40,7 @@ impl<K: Ord + Hash, V> SortedMap<K, V> {
     pub fn values(&self) -> Values<'_, K, V>
         ensures values { result ≡ map entry_value self.now.entries }
         ensures ascends { Ascends K.cmp self.now.entries }
-        ensures runs { ShowsEach self.now.entries result (deref {X = V}) }
+        ensures runs { ShowsValues K.eq self.now.entries result }
     {
         self.map.values()
     }

@@ -5,6 +5,7 @@ use Rattle.starlark_small.specs.Collect.{Collects, insert_all, own_entry}
 use Rattle.starlark_small.specs.Index.{unindexed}
 use Rattle.starlark_small.proofs.CallerOwn.{own-inserted_all}
 use Rattle.starlark_small.proofs.CallerCollected.{finds_collected}
+use Rattle.starlark_small.proofs.CallerItems.{has-items}
 use Rattle.starlark_small.proofs.small_map.SmallMap.from_iter.Goals as goal
 
 pub returns-clause-made : goal.returns-clause-made
@@ -28,6 +29,9 @@ returns-clause-made g c =
     } in
     record {
       map = collects;
+      items = has-items g.K.PartialEq.eq g.met.K.Eq.laws g.K.Hash.hash_input g.I.IntoIter.Iterator.next_gives g.I.IntoIterator.into_iter_gives c.args.iter new
+          (finds_collected g.K.PartialEq.eq g.met.K.Eq.laws g.K.Hash.hash_input g.met.K.Hash.respects_eq g.I.IntoIter.Iterator.next_gives g.I.IntoIterator.into_iter_gives c.args.iter
+          g.I.IntoIter.Iterator.remaining new collects);
       own = own-inserted_all g.K.Hash.hash_input g.K.PartialEq.eq c.in_ok-map.map.entries new.entries put.items put.entries (empty.own g.K.Hash.hash_input);
     }
 
