@@ -10,6 +10,8 @@ ghost use Rattle.starlark_lists.specs.Entries.{entry_value, pair_of};
 ghost use Rattle.starlark_small.specs.Calling.{contains, get, get_text, keys, AreOwn};
 ghost use Rattle.starlark_small.specs.Clone.{IsEqualClone};
 
+pub mod found;
+
 use crate::small_maps::{any, entries, written};
 use starlark_hash::{Hashed, NoRoom, TextKey};
 use starlark_sets::OrderedMap;

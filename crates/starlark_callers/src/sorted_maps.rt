@@ -2,7 +2,7 @@
 ghost use Rattle.std.specs.Hash as fed;
 ghost use Rattle.std.specs.Map.{update_all};
 ghost use Rattle.std.specs.Option.{unwrap_or};
-ghost use Rattle.std.specs.Prelude.{◌≡◌, ℕ, ◌+◌, ◌-◌, ◌≤◌, ◌<◌, ◌^◌, length, map, min, nat_eq, sum, false, true, is_some, All, None, Some, IfErr, IfOk, IfSome, OnOk};
+ghost use Rattle.std.specs.Prelude.{◌≡◌, ℕ, ◌+◌, ◌-◌, ◌≤◌, ◌<◌, ◌^◌, length, map, min, nat_eq, sum, false, true, is_some, All, None, Some, IfErr, IfOk, IfSome, IsTrue, OnOk, ◌↔◌};
 ghost use Rattle.std.specs.String.{string_bytes, string_eq};
 ghost use Rattle.std.specs.declared.alloc.Global.{Global};
 ghost use Rattle.std.specs.declared.string.String.{String};
@@ -240,4 +240,12 @@ pub fn part_of_total(entries: &SortedMap<u32, u64>, key: u32) -> u64
     ensures { result ≤ sum (map entry_value entries.now.entries) }
 {
     entries.get(&key).copied().unwrap_or(0)
+}
+
+/// Whether each key's value is below a hundred.
+pub fn all_below<K: Ord + Hash>(entries: &SortedMap<K, u64>) -> bool
+    requires { AreOwn K.hash_input entries.now }
+    ensures { IsTrue result ↔ ((key : K) → IfSome (get K.eq K.hash_input entries.now key) (λ value. value < 100)) }
+{
+    entries.values().all(|value| *value < 100)
 }
