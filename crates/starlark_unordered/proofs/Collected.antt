@@ -1,5 +1,5 @@
 -- Pairs that are put in one after the other.
-use Rattle.std.proofs.Common.{◌≡◌, ℕ, ◌≤◌, Bool, true, false, cond, List, [], ◌∷◌, ◌++◌, Option, Some, None, refl, sym, subst, ap, ◌∙◌, arith, count_by, is_some, IsPermutation}
+use Rattle.std.proofs.Common.{◌≡◌, ℕ, ◌+◌, ◌*◌, ◌≤◌, Bool, max, length, inl, inr, true, false, cond, List, [], ◌∷◌, ◌++◌, Option, Some, None, refl, sym, subst, ap, ◌∙◌, arith, count_by, is_some, IsPermutation}
 use Rattle.std.specs.Cmp.{IsEquivalence}
 use Rattle.std.proofs.iter.SoFar.{exit_by}
 use Rattle.std.specs.Iterator.{Drains}
@@ -7,9 +7,14 @@ use Rattle.std.specs.Iterator.Runs.{WholeRun}
 use Rattle.std.specs.Map.{keys_of, lookup, set_value, update_all}
 use Rattle.std.proofs.lemmas.List.Sorted.{sum_by-IsPermutation}
 use Rattle.std.proofs.lemmas.Map.{keys-set_value}
+use Rattle.std.proofs.Math.Nat.{le_trans, le-max_left, le-max_right, max-le}
+use Rattle.std.proofs.lemmas.Bool.{cases_lt}
+use Rattle.std.proofs.lemmas.List.{length-map}
+use Rattle.starlark_table.specs.Growth.{most_for}
+use Rattle.starlark_table.specs.Table.{Table, members, table_capacity, table_len, GrowsAsNeeded}
 use Rattle.starlark_unordered.specs.Calling.{found}
 use Rattle.starlark_unordered.specs.Collect.{InsertsAll}
-use Rattle.starlark_unordered.specs.Pairs.{with_pair, HasDistinctKeys}
+use Rattle.starlark_unordered.specs.Pairs.{pairs_of, with_pair, HasDistinctKeys}
 use Rattle.starlark_unordered.proofs.AddedWritten.{none_counted}
 use Rattle.starlark_unordered.proofs.Callers.{lookup-inserted}
 use Rattle.starlark_unordered.proofs.Lists.{count-cons, count-map, one_if}
@@ -67,3 +72,21 @@ pub run_of : {T A : Type 0} (steps : T → Option A → T → Type 0) (it : T) (
 run_of steps it xs P drained holds =
     let run = exit_by steps (xs, drained.1.1) drained.0 drained.1.2 in
     (run.0, run.1, run.2, subst P (sym run.3.0) holds)
+
+-- as much as tables make for more members
+most_for-grows : (m n : ℕ) → m ≤ n → most_for m ≤ most_for n
+most_for-grows m n on =
+    let twice : 2 * m ≤ 2 * n = omega (arith, on) in
+    max-le {a = 6} {b = 2 * m} {k = most_for n} (le-max_left 6 (2 * n)) (le_trans twice (le-max_right 6 (2 * n)))
+
+-- a map that began with no pair, and with room for a number of them, has room for no more than that number or its pairs make
+pub most-collected : {K V : Type 0} (made new : Table (K × V)) (first : ℕ) → pairs_of made ≡ [] → made.room ≤ most_for first
+    → GrowsAsNeeded made new → table_len new + new.room ≤ most_for (max first (table_len new))
+most-collected {K} {V} made new first none most grows = elim (cases_lt (table_capacity made) (table_len new)) [
+  | inl more ↦ le_trans (grows.most more) (most_for-grows (table_len new) (max first (table_len new)) (le-max_right first (table_len new)))
+  | inr enough ↦
+      let empty : table_len made ≡ 0 = sym (length-map (members made) (λ m. m.1)) ∙ ap length none in
+      let same = grows.stays enough in
+      let fits : table_len new + new.room ≤ most_for first = omega (arith, same, empty, most) in
+      le_trans fits (most_for-grows first (max first (table_len new)) (le-max_left first (table_len new)))
+]

@@ -1,11 +1,12 @@
 -- Maps of an iterator's items.
-use Rattle.std.specs.Prelude.{◌≡◌, ◌≤◌, ◌+◌, ℕ, Bool, List, [], ◌∷◌, Option, None, IsPermutation}
+use Rattle.std.specs.Prelude.{◌≡◌, ◌≤◌, ◌+◌, ℕ, Bool, List, [], ◌∷◌, Option, None, IsPermutation, max}
 use Rattle.std.specs.Iterator.{Count, Drains}
 use Rattle.std.specs.Iterator.Runs.{WholeRun}
 use Rattle.std.specs.Iterator.SizeHint.{IsWithinCount}
 use Rattle.std.specs.Map.{update_all}
 use Rattle.std.specs.Option.{option_map}
 use Rattle.std.specs.Set.{is_member}
+use Rattle.starlark_table.specs.Growth.{most_for}
 use Rattle.starlark_table.specs.Table.{Table, table_len}
 use Rattle.starlark_unordered.specs.Calling.{contains, get}
 use Rattle.starlark_unordered.specs.Pairs.{pairs_of, with_pair}
@@ -17,10 +18,11 @@ module _ {K V : Type 0} (eq : K → K → Bool) where
   InsertsAll old (p ∷ ps) new = (next : List (K × V)) × IsPermutation (with_pair eq p.0 p.1 old) next × InsertsAll next ps new
 
   module _ {T : Type 0} (steps : T → Option (K × V) → T → Type 0) where
-    -- the map has the iterator's items, put into one that had room for a number of them within what it bounds
+    -- the map has the iterator's items, put into one that had room for a number of them within what it bounds, and has room for no
+    -- more than that number or the pairs make, whichever is greater
     abbrev pub Collects : {U : Type 0} → (U → T → Type 0) → (T → Count) → U → Table (K × V) → Type 0
     Collects becomes remaining iter m = (it : T) × (first : ℕ) × (xs : List (K × V)) × becomes iter it × IsWithinCount first (remaining it)
-        × Drains steps it xs × InsertsAll [] xs (pairs_of m) × (first ≤ table_len m + m.room)
+        × Drains steps it xs × InsertsAll [] xs (pairs_of m) × (first ≤ table_len m + m.room) × (table_len m + m.room ≤ most_for (max first (table_len m)))
 
     -- each key has the last of the values that the iterator's items have for it. It speaks of a run, as the kit's clauses on
     -- iterators do, so that callers' proofs find the items

@@ -3,7 +3,7 @@ use Rattle.std.specs.Map.{update_all}
 use Rattle.starlark_unordered.specs.Calling.{get}
 use Rattle.starlark_unordered.specs.Collect.{InsertsAll}
 use Rattle.starlark_unordered.specs.Pairs.{pairs_of}
-use Rattle.starlark_unordered.proofs.Collected.{found-collected, run_of}
+use Rattle.starlark_unordered.proofs.Collected.{found-collected, most-collected, run_of}
 use Rattle.starlark_unordered.proofs.unordered_map.UnorderedMap.from_iter.Goals as goal
 
 pub returns-clause-map : goal.returns-clause-map
@@ -18,6 +18,7 @@ returns-clause-map g c =
       put.1,
       subst (λ l. InsertsAll g.K.PartialEq.eq l put.0 (pairs_of c.insert_items.new.self)) none put.2,
       omega (arith, c.insert_items.ensures.room.least, c.in_ok-map.ensures.made.room),
+      most-collected c.in_ok-map.map c.insert_items.new.self c.size_hint.result.0 none c.in_ok-map.ensures.made.most c.insert_items.ensures.room,
     )
 
 pub returns-clause-found : goal.returns-clause-found

@@ -9,14 +9,14 @@ use Rattle.starlark_unordered.proofs.unordered_set.UnorderedSet.from_iter.Goals 
 
 pub returns-clause-set : goal.returns-clause-set
 returns-clause-set g c =
-    let (it, first, xs, is, within, drains, put, room) = c.in_ok-from_iter.ensures.map in
-    (it, first, xs, subst (g.I.IntoIterator.into_iter_gives c.args.iter) (sym (is ∙ c.new.ensures)) c.into_iter.ensures.into_iter_gives, within, drains, put, room)
+    let (it, first, xs, is, within, drains, put, room, most) = c.in_ok-from_iter.ensures.map in
+    (it, first, xs, subst (g.I.IntoIterator.into_iter_gives c.args.iter) (sym (is ∙ c.new.ensures)) c.into_iter.ensures.into_iter_gives, within, drains, put, room, most)
 
 pub returns-clause-found : goal.returns-clause-found
 returns-clause-found g c =
     let eq = g.T.PartialEq.eq in
     let set = c.in_ok-from_iter.field-0 in
-    let (it, first, xs, is, within, drains, put, room) = c.in_ok-from_iter.ensures.map in (
+    let (it, first, xs, is, within, drains, put, room, most) = c.in_ok-from_iter.ensures.map in (
       it,
       subst (g.I.IntoIterator.into_iter_gives c.args.iter) (sym (is ∙ c.new.ensures)) c.into_iter.ensures.into_iter_gives,
       run_of g.I.IntoIter.Iterator.next_gives it (keys_of xs) (λ items. (element : g.row.T.Denot) → contains eq set element ≡ is_member eq items element)
