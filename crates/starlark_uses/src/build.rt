@@ -4,7 +4,7 @@
 ghost use Rattle.std.specs.Hash as fed;
 ghost use Rattle.std.specs.List.{enumerate_from, list_all};
 ghost use Rattle.std.specs.Option.{is_some, option_map};
-ghost use Rattle.std.specs.Prelude.{◌≡◌, ◌↔◌, ℕ, ◌++◌, [], ◌∷◌, map, nat_eq, true, None, Some, IsSome, IsTrue, IfOk, OnOk, OnErr, if◌then◌else◌};
+ghost use Rattle.std.specs.Prelude.{◌≡◌, ◌↔◌, ℕ, ◌++◌, [], ◌∷◌, map, nat_eq, true, None, Some, IsSome, IsTrue, IfErr, IfOk, OnOk, OnErr, if◌then◌else◌};
 ghost use Rattle.starlark_lists.specs.Entries.{entry_value};
 ghost use Rattle.starlark_small.specs.Calling.{get, keys};
 ghost use Rattle.starlark_uses.specs.Graph.{IsOrdered, built_from, is_before};
@@ -16,18 +16,25 @@ use std::alloc::{AllocError, Global};
 /// Targets, each with the targets that it is built from.
 pub type Targets = SmallMap<u32, Vec<u32>>;
 
-/// Declares a target. One that was declared keeps its place, and all that it depends on; a new one goes last, and
-/// depends on nothing. All others keep what they depend on.
+/// Declares a target. One that was declared keeps its place, and all that it depends on, and is never refused; a new
+/// one goes last, and depends on nothing. All others keep what they depend on. Where memory is refused, the target
+/// comes back without parts, and no entry changes.
 pub fn declare(
     alloc: Global,
     targets: &mut Targets,
     target: u32,
 ) -> Result<(), NoRoom<(u32, Vec<u32>)>>
+    // The targets afterwards.
     ensures declared { OnOk result (is_some (get nat_eq fed.u32 targets.new target) ≡ true) }
     ensures order { OnOk result (keys targets.new ≡ (if is_some (get nat_eq fed.u32 targets.old target) then keys targets.old else keys targets.old ++ target ∷ [])) }
     ensures again { IsSome (get nat_eq fed.u32 targets.old target) → targets.new ≡ targets.old }
     ensures empty { OnOk result (get nat_eq fed.u32 targets.old target ≡ None → built_from targets.new target ≡ Some []) }
     ensures others { (other : ℕ) → (other ≡ target → ⊥) → built_from targets.new other ≡ built_from targets.old other }
+
+    // A refusal.
+    ensures absent { OnErr result (get nat_eq fed.u32 targets.old target ≡ None) }
+    ensures handed_back { IfErr result (λ refused. refused.0.0 ≡ target) }
+    ensures handed_back_parts { IfErr result (λ refused. refused.0.1.items ≡ []) }
     ensures refused { OnErr result (targets.new.entries ≡ targets.old.entries) }
 {
     if targets.contains_key(&target) {

@@ -1,6 +1,6 @@
 //! Answers that are kept under sets of numbers.
 ghost use Rattle.std.specs.Option.{option_copied};
-ghost use Rattle.std.specs.Prelude.{◌≡◌, [], IfErr, IfOk, OnErr, OnOk};
+ghost use Rattle.std.specs.Prelude.{◌≡◌, [], None, IfErr, IfOk, OnErr, OnOk};
 ghost use Rattle.starlark_unordered.specs.Pairs.{pairs_of};
 ghost use Rattle.starlark_uses.specs.Cache.{Caches, cached};
 
@@ -42,7 +42,8 @@ impl<V> Cache<V> {
     }
 
     /// Keeps the answer for a set, and gives the one that it had. Every equal set hits it then, and all others have
-    /// what they had. Where there is no memory, the set and the answer come back, and nothing changes.
+    /// what they had. A set that has an answer is never refused. Where there is no memory, the set and the answer come
+    /// back, and nothing changes.
     #[tactic(auto, using(crate::proofs::CacheLemmas::caches))]
     pub fn put(
         &mut self,
@@ -53,6 +54,7 @@ impl<V> Cache<V> {
         V: Drop,
         ensures had { IfOk result (λ had. had ≡ cached self.old set) }
         ensures kept { OnOk result (Caches self.old self.new set answer) }
+        ensures absent { OnErr result (cached self.old set ≡ None) }
         ensures handed_back { IfErr result (λ refused. refused.0 ≡ (set, answer)) }
         ensures unchanged { OnErr result (self.new ≡ self.old) }
     {

@@ -3,7 +3,7 @@
 
 ghost use Rattle.std.specs.Hash as fed;
 ghost use Rattle.std.specs.Option.{is_some};
-ghost use Rattle.std.specs.Prelude.{◌≡◌, ◌+◌, ◌++◌, [], ◌∷◌, nat_eq, length, false, true, None, Some, OnOk, OnErr, if◌then◌else◌};
+ghost use Rattle.std.specs.Prelude.{◌≡◌, ◌+◌, ◌++◌, [], ◌∷◌, nat_eq, length, false, true, None, Some, IfErr, OnOk, OnErr, if◌then◌else◌};
 ghost use Rattle.std.specs.String.{string_bytes, string_eq};
 ghost use Rattle.starlark_lists.specs.Entries.{without};
 ghost use Rattle.starlark_small.specs.Calling.{get, keys, Updates};
@@ -16,18 +16,22 @@ use std::hash::Hash;
 /// The time of the last visit to each page.
 pub type Visits = SmallMap<u32, u32>;
 
-/// Notes the time of a visit to a page. A page that is there keeps its place, and a new one goes last.
+/// Notes the time of a visit to a page. A page that is there keeps its place, and is never refused; a new one goes last.
+/// Where memory is refused, page and time come back, and no entry changes.
 pub fn record_visit(visits: &mut Visits, page: u32, time: u32) -> Result<(), NoRoom<(u32, u32)>>
     ensures noted { OnOk result (get nat_eq fed.u32 visits.new page ≡ Some time) }
     ensures updates { OnOk result (Updates nat_eq fed.u32 visits.old visits.new page (Some time)) }
     ensures pages { OnOk result (keys visits.new ≡ (if is_some (get nat_eq fed.u32 visits.old page) then keys visits.old else keys visits.old ++ page ∷ [])) }
+    ensures absent { OnErr result (get nat_eq fed.u32 visits.old page ≡ None) }
+    ensures handed_back { IfErr result (λ refused. refused.0 ≡ (page, time)) }
     ensures refused { OnErr result (visits.new.entries ≡ visits.old.entries) }
 {
     visits.insert(page, time)?;
     Ok(())
 }
 
-/// Notes the time of the first visit to a page. It goes last. Where memory is refused, no entry changes.
+/// Notes the time of the first visit to a page. It goes last. Where memory is refused, page and time come back, and no
+/// entry changes.
 pub fn record_first_visit(
     visits: &mut Visits,
     page: u32,
@@ -37,6 +41,7 @@ pub fn record_first_visit(
     ensures updates { OnOk result (Updates nat_eq fed.u32 visits.old visits.new page (Some time)) }
     ensures pages { OnOk result (keys visits.new ≡ keys visits.old ++ page ∷ []) }
     ensures one_more { OnOk result (length visits.new.entries ≡ length visits.old.entries + 1) }
+    ensures handed_back { IfErr result (λ refused. refused.0 ≡ (page, time)) }
     ensures refused { OnErr result (visits.new.entries ≡ visits.old.entries) }
 {
     visits.insert(page, time)?;
@@ -68,7 +73,8 @@ pub fn forget(visits: &mut Visits, page: u32) -> Option<u32>
     visits.shift_remove(&page)
 }
 
-/// Notes the time of a visit to a page that is named by a text. Where memory is refused, no entry changes.
+/// Notes the time of a visit to a page that is named by a text. A name that is there is never refused. Where memory is
+/// refused, name and time come back, and no entry changes.
 pub fn record_named(
     visits: &mut SmallMap<String, u32>,
     name: String,
@@ -76,19 +82,24 @@ pub fn record_named(
 ) -> Result<(), NoRoom<(String, u32)>>
     ensures noted { OnOk result (get string_eq (λ s. fed.str (string_bytes s)) visits.new name ≡ Some time) }
     ensures updates { OnOk result (Updates string_eq (λ s. fed.str (string_bytes s)) visits.old visits.new name (Some time)) }
+    ensures absent { OnErr result (get string_eq (λ s. fed.str (string_bytes s)) visits.old name ≡ None) }
+    ensures handed_back { IfErr result (λ refused. refused.0 ≡ (name, time)) }
     ensures refused { OnErr result (visits.new.entries ≡ visits.old.entries) }
 {
     visits.insert(name, time)?;
     Ok(())
 }
 
-/// Puts a value at a key of any type. Where memory is refused, no entry changes.
+/// Puts a value at a key of any type. A key that is there is never refused. Where memory is refused, key and value come
+/// back, and no entry changes.
 pub fn put<K: Eq + Hash + Drop, V: Drop>(
     map: &mut SmallMap<K, V>,
     key: K,
     value: V,
 ) -> Result<(), NoRoom<(K, V)>>
     ensures updates { OnOk result (Updates K.eq K.hash_input map.old map.new key (Some value)) }
+    ensures absent { OnErr result (get K.eq K.hash_input map.old key ≡ None) }
+    ensures handed_back { IfErr result (λ refused. refused.0 ≡ (key, value)) }
     ensures refused { OnErr result (map.new.entries ≡ map.old.entries) }
 {
     map.insert(key, value)?;
