@@ -105,6 +105,29 @@ fn reserves_an_index(rt: HostRuntime) -> Result<(), Fail> {
     Ok(())
 }
 
+// Whether there is an index for 100 entries at least, and for twice as many at most, as a table makes room for.
+fn has_index_for_100(map: &Numbers) -> bool {
+    match map.index() {
+        Some(table) => {
+            let places = table.len().wrapping_add(table.room());
+            100 <= places && places <= 200
+        }
+        None => false,
+    }
+}
+
+#[test]
+fn makes_no_larger_index_than_it_needs(rt: HostRuntime) -> Result<(), Fail> {
+    let ready: Numbers = SmallMap::with_capacity(rt.alloc(), 100)?;
+    holds(&rt, has_index_for_100(&ready));
+    let mut reserved: Numbers = SmallMap::new(rt.alloc());
+    holds(&rt, reserved.reserve(100).is_ok());
+    holds(&rt, has_index_for_100(&reserved));
+    let grown = tens(rt.alloc(), 100)?;
+    holds(&rt, has_index_for_100(&grown));
+    Ok(())
+}
+
 // Asks a map about the keys of hashes 5 and 7, where the keys 1 and 3 stand under 5 and begin at a place.
 fn finds_by_hash(map: &Numbers, first: usize) -> bool {
     let mut calls = 0u32;
