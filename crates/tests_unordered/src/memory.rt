@@ -71,15 +71,41 @@ fn reserved(alloc: Global, count: usize) -> Result<usize, AllocError> {
     Ok(map.room())
 }
 
+// Whether room for so many is enough for these, and no more than twice as much, or 6, as a table makes for them.
+fn serves(places: usize, count: usize) -> bool {
+    count <= places && places <= count.wrapping_mul(2).max(6)
+}
+
 // The items are all one pair, so that growth by steps would leave less.
 #[test]
 fn begins_with_room_for_what_the_iterator_promises(rt: HostRuntime) -> Result<(), Fail> {
     let five = UnorderedMap::from_iter(rt.alloc(), [(1u64, 2u64); 5])?;
     same(&rt, five.len(), 1);
     same(&rt, five.room().wrapping_add(1), reserved(rt.alloc(), 5)?);
+    holds(&rt, serves(five.room().wrapping_add(1), 5));
     let forty = UnorderedMap::from_iter(rt.alloc(), [(1u64, 2u64); 40])?;
     same(&rt, forty.len(), 1);
     same(&rt, forty.room().wrapping_add(1), reserved(rt.alloc(), 40)?);
+    holds(&rt, serves(forty.room().wrapping_add(1), 40));
+    Ok(())
+}
+
+// Forty pairs in a map that was made for a thousand.
+fn forty_of_a_thousand(alloc: Global) -> Result<UnorderedMap<u64, u64>, Fail> {
+    let mut map = UnorderedMap::with_capacity(alloc, 1000)?;
+    for key in 0..40u64 {
+        map.insert(key, key)?;
+    }
+    Ok(map)
+}
+
+#[test]
+fn maps_values_into_room_for_as_many(rt: HostRuntime) -> Result<(), Fail> {
+    let map = forty_of_a_thousand(rt.alloc())?;
+    match map.map_values(|value| value.wrapping_add(10)) {
+        Ok(mapped) => holds(&rt, serves(mapped.len().wrapping_add(mapped.room()), 40)),
+        Err(_map) => return Err("refused".into()),
+    }
     Ok(())
 }
 
