@@ -166,8 +166,8 @@ fn drops_and_makes_the_index(rt: HostRuntime) -> Result<(), Fail> {
 }
 
 #[test]
-fn ten_thousand_lines(rt: HostRuntime) -> Result<(), Fail> {
-    check_after_puts(&rt, 10_000, "get 9999 a\nlen\n", "some 9999\n10000\n")
+fn twenty_five_thousand_lines(rt: HostRuntime) -> Result<(), Fail> {
+    check_after_puts(&rt, 25_000, "get 24999 a\nlen\n", "some 24999\n25000\n")
 }
 
 // A line `put 1 KEY 1` with a key of so many bytes.
