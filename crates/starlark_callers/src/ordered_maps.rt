@@ -10,7 +10,9 @@ ghost use Rattle.starlark_lists.specs.Entries.{entry_value, pair_of};
 ghost use Rattle.starlark_small.specs.Calling.{contains, get, get_text, keys, AreOwn};
 ghost use Rattle.starlark_small.specs.Clone.{IsEqualClone};
 
+pub mod emptied;
 pub mod found;
+pub mod gathered;
 
 use crate::small_maps::{any, entries, written};
 use starlark_hash::{Hashed, NoRoom, TextKey};

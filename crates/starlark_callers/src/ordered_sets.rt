@@ -7,6 +7,10 @@ ghost use Rattle.std.specs.String.{string_bytes, string_eq};
 ghost use Rattle.starlark_lists.specs.Entries.{entry_key};
 ghost use Rattle.starlark_small.specs.Calling.{contains, contains_text, keys, AreOwn};
 
+pub mod emptied;
+pub mod lent;
+pub mod rearranged;
+
 use starlark_hash::{NoRoom, TextKey};
 use starlark_sets::{OrderedSet, SmallSet, TryInsertError};
 use std::alloc::{AllocError, Global};

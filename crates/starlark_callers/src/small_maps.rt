@@ -1,6 +1,8 @@
 //! Callers of small maps.
 pub mod any;
 pub mod collected;
+pub mod defaults;
+pub mod emptied;
 pub mod entries;
 pub mod found;
 pub mod held;
@@ -9,6 +11,8 @@ pub mod mapped;
 pub mod nested;
 pub mod numbers;
 pub mod order;
+pub mod read;
+pub mod rearranged;
 pub mod roomy;
 pub mod strings;
 pub mod texts;

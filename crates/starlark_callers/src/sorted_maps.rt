@@ -10,6 +10,8 @@ ghost use Rattle.starlark_lists.specs.Entries.{entry_value, pair_of};
 ghost use Rattle.starlark_small.specs.Calling.{contains, get, get_text, keys, AreOwn};
 ghost use Rattle.starlark_small.specs.Clone.{IsEqualClone};
 
+pub mod read;
+
 use starlark_hash::TextKey;
 use starlark_sets::OrderedMap;
 use starlark_sorted::SortedMap;

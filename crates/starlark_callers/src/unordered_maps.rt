@@ -4,4 +4,6 @@ pub mod built;
 pub mod entries;
 pub mod generic;
 pub mod numbers;
+pub mod read;
 pub mod texts;
+pub mod walked;

@@ -9,6 +9,9 @@ ghost use Rattle.starlark_unordered.specs.Calling.{contains, get_text};
 ghost use Rattle.starlark_unordered.specs.Clone.{IsEqualClone};
 ghost use Rattle.starlark_unordered.specs.Pairs.{pairs_of, HasDistinctKeys};
 
+pub mod emptied;
+pub mod walked;
+
 use starlark_hash::{NoRoom, TextKey};
 use starlark_unordered::UnorderedSet;
 use std::alloc::{AllocError, Global};
