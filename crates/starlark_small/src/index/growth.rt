@@ -9,6 +9,10 @@ use starlark_hash::StarlarkHashValue;
 use starlark_vecmap::VecMap;
 use std::alloc::{AllocError, Global};
 
+// For so many entries an index is made at least where a list grows: it has room for twice as many as there may be without an
+// index, so that it is not made anew a few insertions later.
+const FIRST: usize = 2 * UNINDEXED;
+
 impl Index {
     /// No index, as of a list that is short.
     #[inline]
@@ -69,7 +73,8 @@ impl Index {
             return Ok(());
         }
         prove!(additional <= entries.capacity() - entries.len());
-        let mut index = Index::with_capacity::<K, V>(self.alloc, entries.len() + additional)?;
+        let needed = entries.len() + additional;
+        let mut index = Index::with_capacity::<K, V>(self.alloc, needed.max(FIRST))?;
         index.note_all(entries);
         *self = index;
         Ok(())
