@@ -92,8 +92,8 @@ impl<T> Row<T> {
         self.held.slice_mut(address, from, to)
     }
 
-    /// Moves the items from place `from` up to place `end` down, to the places from `to` on, as one move of memory. The
-    /// places between are empty before, and as many behind the items are afterwards.
+    /// Moves the items from place `from` up to place `end` down, to the places from `to` on, in their order. The places
+    /// between are empty before, and as many behind the items are afterwards.
     #[inline]
     pub fn move_down(
         &mut self,
@@ -114,8 +114,8 @@ impl<T> Row<T> {
         }
     }
 
-    /// Moves the items from place `from` up to place `end` up, to the places from `to` on, as one move of memory. The
-    /// places behind that they need are empty before, and as many in front of them are afterwards.
+    /// Moves the items from place `from` up to place `end` up, to the places from `to` on, in their order. The places
+    /// behind that they need are empty before, and as many in front of them are afterwards.
     #[inline]
     pub fn move_up(&mut self, address: Address<T>, count: usize, from: usize, end: usize, to: usize)
         requires its { (address.at ≡ self.old.at) × (count ≡ length self.old.places) }
@@ -129,8 +129,8 @@ impl<T> Row<T> {
         }
     }
 
-    /// Moves the items from place `from` up to place `end` to the empty places of `other` from `to` on, as one copy of
-    /// memory. The places that they leave are empty afterwards.
+    /// Moves the items from place `from` up to place `end` to the empty places of `other` from `to` on, in their order.
+    /// The places that they leave are empty afterwards.
     #[inline]
     pub fn move_to(
         &mut self,
