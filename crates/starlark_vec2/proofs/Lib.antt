@@ -13,3 +13,4 @@ pub mod Values
 pub mod Vec2Open
 pub mod StepsBack
 pub mod WalkRenamed
+pub mod WalkRuns

@@ -9,4 +9,5 @@ pub mod Lending
 pub mod Collect
 pub mod ColumnLending
 pub mod Frozen
+pub mod Walks
 pub mod formers

@@ -1,10 +1,11 @@
 //! `Vec2`, a list of pairs in two columns, with a capacity of its own. Its children alone see its fields.
 ghost use Rattle.std.specs.Prelude.{◌≡◌, ◌+◌, ◌*◌, ◌-◌, ◌^◌, ◌<◌, ◌≤◌, ◌==◌, [], ◌∷◌, ◌++◌, length, take, remove, reverse, slice_get, is_ok, if◌then◌else◌, IfOk, IfErr, IsOk};
 ghost use Rattle.std.specs.Option.{option_map};
-ghost use Rattle.std.specs.Map.Iter.{TakesLast, ShowsInOrder, ShowsInReverse, deref_pair};
+ghost use Rattle.std.specs.Map.Iter.{TakesLast, deref_pair};
 ghost use Rattle.starlark_vec2.specs.Growth as after;
 ghost use Rattle.starlark_vec2.specs.PairList.{pair_list, firsts_of, seconds_of, with_pairs};
 ghost use Rattle.starlark_vec2.specs.Growth.{reserved_capacity};
+ghost use Rattle.starlark_vec2.specs.Walks.{WalkShows, WalkShowsBack};
 
 mod collect;
 mod growth;
@@ -197,8 +198,8 @@ impl<A, B> Vec2<A, B> {
     pub fn iter(&self) -> Iter<'_, A, B>
         ensures rest { result ≡ self.now.pairs }
         ensures fits { length self.now.pairs < 2 ^ 64 }
-        ensures runs { ShowsInOrder (deref_pair {K = A} {X = B}) }
-        ensures runs_back { ShowsInReverse (deref_pair {K = A} {X = B}) }
+        ensures runs { WalkShows deref_pair result self.now.pairs }
+        ensures runs_back { WalkShowsBack deref_pair result self.now.pairs }
     {
         Iter::new(self.firsts(), self.seconds())
     }

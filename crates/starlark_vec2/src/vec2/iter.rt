@@ -2,7 +2,8 @@
 ghost use Rattle.std.specs.Prelude.{◌≡◌, ◌<◌, ◌^◌, length, zip, ⊤, IfSome, Some};
 ghost use Rattle.std.specs.Iterator.{UpTo, at_most};
 ghost use Rattle.std.specs.Iterator.SizeHint.{IsWithinCount};
-ghost use Rattle.std.specs.Map.Iter.{TakesFirst, TakesLast, ShowsInOrder, ShowsInReverse, deref_pair};
+ghost use Rattle.std.specs.Map.Iter.{TakesFirst, TakesLast, deref_pair};
+ghost use Rattle.starlark_vec2.specs.Walks.{WalkShows, WalkShowsBack};
 
 use super::Vec2;
 use std::alloc::AllocError;
@@ -109,7 +110,7 @@ impl<'a, A, B> IntoIterator for &'a Vec2<A, B> {
 
     type IntoIter = Iter<'a, A, B>;
 
-    ghost into_iter_gives = { λ v rest. (rest ≡ v.now.pairs) × (length v.now.pairs < 2 ^ 64) × ShowsInOrder (deref_pair {K = A} {X = B}) × ShowsInReverse (deref_pair {K = A} {X = B}) };
+    ghost into_iter_gives = { λ v rest. (rest ≡ v.now.pairs) × (length v.now.pairs < 2 ^ 64) × WalkShows deref_pair rest v.now.pairs × WalkShowsBack deref_pair rest v.now.pairs };
 
     #[inline]
     fn into_iter(self) -> Iter<'a, A, B> {

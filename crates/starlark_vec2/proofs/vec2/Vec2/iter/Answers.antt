@@ -1,14 +1,12 @@
-use Rattle.std.proofs.Common.{zip, ◌∙◌}
 use Rattle.std.specs.Map.Iter.{deref_pair}
-use Rattle.starlark_vec2.proofs.Pairs.{zip-parts}
-use Rattle.std_collections.proofs.IterRuns.{shows_in_order, shows_in_reverse}
+use Rattle.starlark_vec2.proofs.WalkRuns.{walk_shows, walk_shows_back, walk_of_columns}
 use Rattle.starlark_vec2.proofs.vec2.Vec2.iter.Goals as goal
 
 pub returns-clause-rest : goal.returns-clause-rest
-returns-clause-rest g c = c.new.ensures ∙ (λ j. zip (c.firsts.ensures j) (c.seconds.ensures j)) ∙ zip-parts c.args.self.now.pairs
+returns-clause-rest g c = walk_of_columns _ c.args.self.now.pairs _ _ c.new.ensures c.firsts.ensures c.seconds.ensures
 
 pub returns-clause-runs : goal.returns-clause-runs
-returns-clause-runs g c = shows_in_order deref_pair
+returns-clause-runs g c = walk_shows deref_pair _ _ (walk_of_columns _ c.args.self.now.pairs _ _ c.new.ensures c.firsts.ensures c.seconds.ensures)
 
 pub returns-clause-runs_back : goal.returns-clause-runs_back
-returns-clause-runs_back g c = shows_in_reverse deref_pair
+returns-clause-runs_back g c = walk_shows_back deref_pair _ _ (walk_of_columns _ c.args.self.now.pairs _ _ c.new.ensures c.firsts.ensures c.seconds.ensures)
