@@ -12,6 +12,8 @@ mod hashes;
 #[cfg(test)]
 mod large;
 #[cfg(test)]
+mod one_request;
+#[cfg(test)]
 mod pair_lists;
 #[cfg(test)]
 mod sizes;
