@@ -16,6 +16,7 @@ pub use Rattle.starlark_vec2.specs.Retain as PairListRetain
 pub use Rattle.starlark_vec2.specs.Sort as PairListSort
 pub use Rattle.starlark_vec2.specs.Collect as PairListCollect
 pub use Rattle.starlark_vec2.specs.Lending as PairListLending
+pub use Rattle.starlark_vec2.specs.Walks as PairListWalks
 pub use Rattle.starlark_vec2.specs.ColumnLending
 pub use Rattle.starlark_vecmap.specs.EntryList
 pub use Rattle.starlark_lists.specs.Ordered as EntryListOrdered
