@@ -1,6 +1,7 @@
 //! Maps made of many entries at once.
-ghost use Rattle.std.specs.Prelude.{◌≡◌, ◌≤◌, [], ◌∷◌, IfOk, IsOk};
+ghost use Rattle.std.specs.Prelude.{◌≡◌, ◌*◌, ◌≤◌, max, nat_lt, length, [], ◌∷◌, IfOk, IsOk};
 ghost use Rattle.starlark_small.specs.Collect.{insert_all, own_entry};
+ghost use Rattle.starlark_small.specs.Index.{unindexed};
 
 use starlark_small::macros::inserted;
 use starlark_small::{SmallMap, smallmap};
@@ -8,12 +9,15 @@ use std::alloc::{AllocError, Global};
 use std::hash::Hash;
 
 /// The entries of a map, taken by `into_iter_hashed` and collected by `from_iter_hashed`, are the same list, where that
-/// is not refused.
+/// is not refused. Capacity and index are those of a map that is made anew: the capacity is at most 4 or twice the
+/// length, and there is an index exactly where the list is longer than the threshold.
 pub fn collected_anew<K: Eq + Drop, V: Drop>(
     alloc: Global,
     map: SmallMap<K, V>,
 ) -> Result<SmallMap<K, V>, AllocError>
-    ensures { IfOk result (λ collected. collected.entries ≡ map.entries) }
+    ensures entries { IfOk result (λ collected. collected.entries ≡ map.entries) }
+    ensures capacity { IfOk result (λ collected. collected.capacity ≤ max 4 (2 * length map.entries)) }
+    ensures indexed { IfOk result (λ collected. collected.indexed ≡ nat_lt unindexed (length map.entries)) }
 {
     SmallMap::from_iter_hashed(alloc, map.into_iter_hashed())
 }
