@@ -26,7 +26,7 @@ module _ {K V : Type 0} (t : K → Bool) where
   at_step e es v true is later h = (e.0, is, (0, omega arith, ap (λ w. (e.0, w)) (same_Some e.1 v h)))
   at_step e es v false is later h = let r = later h in (r.0, r.1, (suc r.2.0, omega (arith, r.2.1), r.2.2))
 
-  at_some : (es : List (K × V)) (v : V) → lookup t es ≡ Some v → (k : K) × (t k ≡ true) × Contains es (k, v)
+  pub at_some : (es : List (K × V)) (v : V) → lookup t es ≡ Some v → (k : K) × (t k ≡ true) × Contains es (k, v)
   at_some [] v h = absurd (none-some v h)
   at_some (e ∷ es) v h = at_step e es v (t e.0) refl (at_some es v) h
 

@@ -2,11 +2,12 @@
 ghost use Rattle.std.specs.Prelude.{◌≡◌, ◌==◌, ◌+◌, [], length, not, is_some, IfOk, IsOk};
 ghost use Rattle.std.specs.Map.Iter.{deref};
 ghost use Rattle.starlark_hash.specs.HashValue.{hash_of, key_of};
+ghost use Rattle.starlark_hash.specs.Hasher.{own_hash};
 ghost use Rattle.starlark_table.specs.Table.{table_len};
-ghost use Rattle.starlark_unordered.specs.Calling.{contains};
+ghost use Rattle.starlark_unordered.specs.Calling.{contains, TellsUnder};
 ghost use Rattle.starlark_unordered.specs.Changing.{Inserts, IsEmptyFor, IsEmptyWith};
 ghost use Rattle.starlark_unordered.specs.Clone.{IsEqualClone, IsSetCloneOf};
-ghost use Rattle.starlark_unordered.specs.Pairs.{pairs_of, under_own, HasDistinctKeys};
+ghost use Rattle.starlark_unordered.specs.Pairs.{pairs_of, HasDistinctKeys};
 ghost use Rattle.starlark_unordered.specs.Walk.{ShowsSorted};
 
 mod collect;
@@ -115,7 +116,8 @@ impl<T: Eq + Hash> UnorderedSet<T> {
     /// Whether the set has the element, and this is its own hash.
     #[inline(always)]
     pub fn contains_hashed<Q: Equivalent<T>>(&self, element: Hashed<&Q>) -> bool
-        ensures { result ≡ has (under_own T.hash_input (hash_of element.entry) (Q.equivalent (key_of element.entry).now)) self.now }
+        ensures tells { TellsUnder T.hash_input (Q.equivalent (key_of element.entry).now) (hash_of element.entry) self.now result }
+        ensures own { (same : T) → hash_of element.entry ≡ own_hash T.hash_input same → Q.equivalent (key_of element.entry).now ≡ T.eq same → contains T.eq self.now same ≡ result }
     {
         self.map.contains_key_hashed(element)
     }

@@ -5,5 +5,6 @@ pub mod entries;
 pub mod generic;
 pub mod numbers;
 pub mod read;
+pub mod ready;
 pub mod texts;
 pub mod walked;

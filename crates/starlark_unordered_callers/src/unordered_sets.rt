@@ -10,6 +10,7 @@ ghost use Rattle.starlark_unordered.specs.Clone.{IsEqualClone};
 ghost use Rattle.starlark_unordered.specs.Pairs.{pairs_of, HasDistinctKeys};
 
 pub mod emptied;
+pub mod ready;
 pub mod walked;
 
 use starlark_hash::{NoRoom, TextKey};

@@ -3,9 +3,10 @@ ghost use Rattle.std.specs.Prelude.{◌≡◌, Some, IfSome, IsSome};
 ghost use Rattle.std.specs.List.{IsAmong};
 ghost use Rattle.std.specs.Map.{lookup, values_of};
 ghost use Rattle.std.specs.Option.{is_some, option_copied};
-ghost use Rattle.starlark_unordered.specs.Pairs.{pairs_of, under_own};
 ghost use Rattle.starlark_hash.specs.HashValue.{hash_of, key_of};
-ghost use Rattle.starlark_unordered.specs.Calling.{contains, get};
+ghost use Rattle.starlark_hash.specs.Hasher.{own_hash};
+ghost use Rattle.starlark_unordered.specs.Pairs.{pairs_of};
+ghost use Rattle.starlark_unordered.specs.Calling.{contains, get, FindsUnder, TellsUnder};
 
 use super::UnorderedMap;
 use starlark_hash::{Equivalent, Hashed, KeyQuery, StarlarkHashValue};
@@ -25,10 +26,11 @@ impl<K: Eq + Hash, V> UnorderedMap<K, V> {
         Some(value)
     }
 
-    /// The value at the key, where this is its own hash: another hash finds nothing.
+    /// The value at the key, as `get` answers it, where this is its own hash: another hash finds nothing.
     #[inline(always)]
     pub fn get_hashed<Q: Equivalent<K>>(&self, key: Hashed<&Q>) -> Option<&V>
-        ensures { option_copied result ≡ lookup (under_own K.hash_input (hash_of key.entry) (Q.equivalent (key_of key.entry).now)) (pairs_of self.now) }
+        ensures finds { FindsUnder K.hash_input (Q.equivalent (key_of key.entry).now) (hash_of key.entry) self.now (option_copied result) }
+        ensures own { (same : K) → hash_of key.entry ≡ own_hash K.hash_input same → Q.equivalent (key_of key.entry).now ≡ K.eq same → get K.eq self.now same ≡ option_copied result }
     {
         let (_, value) = self.pair_hashed(key.hash(), *key.key())?;
         Some(value)
@@ -47,7 +49,8 @@ impl<K: Eq + Hash, V> UnorderedMap<K, V> {
     /// Whether the map has the key, and this is its own hash.
     #[inline(always)]
     pub fn contains_key_hashed<Q: Equivalent<K>>(&self, key: Hashed<&Q>) -> bool
-        ensures { result ≡ is_some (lookup (under_own K.hash_input (hash_of key.entry) (Q.equivalent (key_of key.entry).now)) (pairs_of self.now)) }
+        ensures tells { TellsUnder K.hash_input (Q.equivalent (key_of key.entry).now) (hash_of key.entry) self.now result }
+        ensures own { (same : K) → hash_of key.entry ≡ own_hash K.hash_input same → Q.equivalent (key_of key.entry).now ≡ K.eq same → contains K.eq self.now same ≡ result }
     {
         self.get_hashed(key).is_some()
     }

@@ -1,0 +1,64 @@
+-- What a look-up under a hash that is brought finds, in the callers' words.
+use Rattle.std.proofs.Common.{◌≡◌, Bool, true, false, cond, List, [], ◌∷◌, Option, Some, None, is_some, refl, sym, ap, ◌∙◌, eq-eqb}
+use Rattle.std.specs.Prelude.{◌&&◌, IfSome}
+use Rattle.std.specs.Cmp.{IsEquivalence}
+use Rattle.std.specs.Hash.{HashWrites}
+use Rattle.std.specs.List.{IsAmong}
+use Rattle.std.specs.Map.{lookup, values_of, IsKeyTest}
+use Rattle.std.proofs.lemmas.Bool.{and_parts, false≢true}
+use Rattle.starlark_hash.specs.Hasher.{own_hash}
+use Rattle.starlark_hash.specs.HashValue.{hash_number}
+use Rattle.starlark_hash.specs.declared.hash_value.StarlarkHashValue.{StarlarkHashValue}
+use Rattle.starlark_table.specs.Table.{Table}
+use Rattle.starlark_unordered.specs.Calling.{found, FindsUnder, TellsUnder}
+use Rattle.starlark_unordered.specs.Pairs.{pairs_of, has_own_hash, under_own}
+use Rattle.starlark_unordered.proofs.Callers.{among_found, at_some}
+use Rattle.starlark_unordered.proofs.OwnHash.{none_passes}
+
+module _ {K V : Type 0} (feeds : K → HashWrites) (hash : StarlarkHashValue) (t : K → Bool) where
+  step : (p : K × V) (under all : Option V) (b : Bool) → (b ≡ true → has_own_hash feeds hash p.0 ≡ true) → under ≡ all → cond (has_own_hash feeds hash p.0 && b) (Some p.1) under ≡ cond b (Some p.1) all
+  step p under all true own same = ap (λ c. cond (c && true) (Some p.1) under) (own refl)
+  step p under all false own same = ap (λ c. cond c (Some p.1) under) (none_passes (has_own_hash feeds hash p.0) false refl) ∙ same
+
+  -- where the hash is the own one of each key that passes, it changes nothing
+  lookup-own : ((k : K) → t k ≡ true → has_own_hash feeds hash k ≡ true) → (ps : List (K × V)) → lookup (under_own feeds hash t) ps ≡ lookup t ps
+  lookup-own own [] = refl
+  lookup-own own (p ∷ ps) = step p (lookup (under_own feeds hash t) ps) (lookup t ps) (t p.0) (own p.0) (lookup-own own ps)
+
+  module _ (eq : K → K → Bool) (alike : (x y : K) → eq x y ≡ true → feeds x ≡ feeds y) (one : IsKeyTest eq t) where
+    -- the keys that pass are equal, so one whose own hash it is stands for all
+    lookup-passing : (key : K) → t key ≡ true → has_own_hash feeds hash key ≡ true → (ps : List (K × V)) → lookup (under_own feeds hash t) ps ≡ lookup t ps
+    lookup-passing key does own =
+        lookup-own (λ k passes. ap (λ ws. has_own_hash (λ _. ws) hash k) (sym (alike key k (sym (one key k does) ∙ passes))) ∙ own)
+
+    found-under : (ps : List (K × V)) (v : V) → lookup (under_own feeds hash t) ps ≡ Some v → lookup t ps ≡ Some v
+    found-under ps v at =
+        let r = at_some (under_own feeds hash t) ps v at in
+        let both = and_parts (has_own_hash feeds hash r.0) (t r.0) r.1 in
+        sym (lookup-passing r.0 both.1 both.0 ps) ∙ at
+
+    module _ (laws : IsEquivalence eq) (m : Table (K × V)) where
+      pub own-under : (key : K) → hash ≡ own_hash feeds key → t ≡ eq key → found (eq key) (pairs_of m) ≡ lookup (under_own feeds hash t) (pairs_of m)
+      unfolding found
+      own-under key is same =
+          sym (ap (λ u. lookup u (pairs_of m)) same)
+          ∙ sym (lookup-passing key (ap (λ (u : K → Bool). u key) same ∙ laws.refl key) (eq-eqb (hash_number (own_hash feeds key)) (hash_number hash) (ap hash_number (sym is))) (pairs_of m))
+
+      finds-some : (r : Option V) → r ≡ lookup (under_own feeds hash t) (pairs_of m) → IfSome r (λ value. found t (pairs_of m) ≡ Some value)
+      unfolding found
+      finds-some None is = tt
+      finds-some (Some v) is = found-under (pairs_of m) v (sym is)
+
+      among-under : (r : Option V) → r ≡ lookup (under_own feeds hash t) (pairs_of m) → IfSome r (λ value. IsAmong (values_of (pairs_of m)) value)
+      among-under None is = tt
+      among-under (Some v) is = among_found (under_own feeds hash t) (pairs_of m) v (sym is)
+
+      tells-some : (r : Option V) → r ≡ lookup (under_own feeds hash t) (pairs_of m) → is_some r ≡ true → is_some (found t (pairs_of m)) ≡ true
+      tells-some None is there = absurd (false≢true there)
+      tells-some (Some v) is there = ap is_some (finds-some (Some v) is)
+
+      pub finds-under : (r : Option V) → r ≡ lookup (under_own feeds hash t) (pairs_of m) → FindsUnder feeds t hash m r
+      finds-under r is = record { value = is; found = finds-some r is; member = among-under r is }
+
+      pub tells-under : (r : Option V) → FindsUnder feeds t hash m r → TellsUnder feeds t hash m (is_some r)
+      tells-under r finds = record { value = ap is_some finds.value; found = tells-some r finds.value }
