@@ -4,7 +4,7 @@ use Rattle.std.specs.Map.{keys_of, lookup}
 use Rattle.starlark_hash.specs.declared.no_room.NoRoom.{NoRoom}
 use Rattle.starlark_table.specs.Growth.{most_for}
 use Rattle.starlark_table.specs.Table.{Table, table_len, GrowsAsNeeded}
-use Rattle.starlark_unordered.specs.Calling.{contains, found, get, IsEmpty, Updates, Writes}
+use Rattle.starlark_unordered.specs.Calling.{contains, found, get, total_of, weight_of, IsEmpty, Updates, Writes}
 use Rattle.starlark_unordered.specs.Pairs.{pairs_of, with_pair, IsWithout}
 
 module _ {K V A B : Type 0} (eq : K → K → Bool) where
@@ -15,6 +15,8 @@ module _ {K V A B : Type 0} (eq : K → K → Bool) where
     pub old : IfOk result (λ answer. answer ≡ tells (lookup (eq key) (pairs_of before)))
     pub updates : OnOk result (Updates eq before after key (Some value))
     pub count : OnOk result (length (pairs_of after) ≡ length (pairs_of before) + (if contains eq before key then 0 else 1))
+    -- by any measure, what all values weigh: this value came in the place of the one that was there
+    pub total : OnOk result ((measure : V → ℕ) → total_of measure (pairs_of after) + weight_of measure (get eq before key) ≡ total_of measure (pairs_of before) + measure value)
     pub pairs : OnOk result (IsPermutation (with_pair eq key value (pairs_of before)) (pairs_of after))
     pub room : GrowsAsNeeded before after
     pub lacks : OnErr result (get eq before key ≡ None)
@@ -28,6 +30,7 @@ module _ {K V A B : Type 0} (eq : K → K → Bool) where
   pub record Adds (before after : Table (K × V)) (key : K) (value : V) (back : B) (result : Result A (NoRoom B)) : Type 0 where
     pub updates : OnOk result (Updates eq before after key (Some value))
     pub count : OnOk result (length (pairs_of after) ≡ length (pairs_of before) + 1)
+    pub total : OnOk result ((measure : V → ℕ) → total_of measure (pairs_of after) ≡ total_of measure (pairs_of before) + measure value)
     pub pairs : OnOk result (IsPermutation ((key, value) ∷ pairs_of before) (pairs_of after))
     pub room : GrowsAsNeeded before after
     pub full : OnErr result (before.room ≡ 0)
@@ -41,6 +44,7 @@ module _ {K V : Type 0} where
     pub value : result ≡ lookup test (pairs_of old)
     pub updates : Writes eq test old new None
     pub count : length (pairs_of old) ≡ length (pairs_of new) + (if is_some (found test (pairs_of old)) then 1 else 0)
+    pub total : (measure : V → ℕ) → total_of measure (pairs_of old) ≡ total_of measure (pairs_of new) + weight_of measure (found test (pairs_of old))
     pub rest : IfSome result (λ value. IsWithout test value (pairs_of old) (pairs_of new))
     pub none : IfNone result (new ≡ old)
     pub room : table_len new + new.room ≡ table_len old + old.room

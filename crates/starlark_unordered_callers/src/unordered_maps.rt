@@ -7,4 +7,5 @@ pub mod numbers;
 pub mod read;
 pub mod ready;
 pub mod texts;
+pub mod totals;
 pub mod walked;

@@ -1,7 +1,8 @@
 //! Calls that write an `UnorderedMap`.
-ghost use Rattle.std.specs.Prelude.{◌≡◌, ◌+◌, Bool, filter, IsPermutation};
+ghost use Rattle.std.specs.Prelude.{◌≡◌, ◌+◌, Bool, filter, IfSome, IsPermutation};
 ghost use Rattle.std.specs.Borrow.{sem};
-ghost use Rattle.std.specs.Map.{lookup};
+ghost use Rattle.std.specs.List.{IsAmong};
+ghost use Rattle.std.specs.Map.{lookup, values_of};
 ghost use Rattle.std.specs.Option.{option_copied_mut};
 ghost use Rattle.starlark_table.specs.Table.{table_len};
 ghost use Rattle.starlark_unordered.specs.Calling.{get};
@@ -24,6 +25,7 @@ impl<K: Eq + Hash, V> UnorderedMap<K, V> {
         ensures* writes_back { sem 𝓛 (lends_at K.row V.row K.Hash self.entry (Q.equivalent query.now) result) }
         ensures found { option_copied_mut result ≡ get Q.equivalent self.old query.now }
         ensures value { option_copied_mut result ≡ lookup (Q.equivalent query.now) (pairs_of self.old) }
+        ensures member { IfSome (option_copied_mut result) (λ value. IsAmong (values_of (pairs_of self.old)) value) }
     {
         match self.slot_under(StarlarkHashValue::new(query).promote(), query) {
             Some(slot) => Some(self.value_at_mut(slot)),

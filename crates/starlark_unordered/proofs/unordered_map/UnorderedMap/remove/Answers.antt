@@ -3,6 +3,7 @@ use Rattle.std.proofs.lemmas.Grind.{common_steps}
 use Rattle.std.specs.Map.{lookup}
 use Rattle.starlark_unordered.specs.Pairs.{pairs_of}
 use Rattle.starlark_unordered.proofs.Callers.{found_is, length-lacks, length-taken, writes-taken}
+use Rattle.starlark_unordered.proofs.CallerTotals.{total-lacks, total-taken}
 use Rattle.starlark_unordered.proofs.unordered_map.UnorderedMap.remove.Goals as goal
 
 pub returns-in-Some : goal.returns-in-Some
@@ -17,6 +18,7 @@ returns-in-Some g c =
         updates = writes-taken g.K.PartialEq.eq g.met.K.Eq.laws t (λ x y does. g.met.Q.Equivalent.respects_eq c.args.query.now x y does)
             c.args.self.now c.take_out-key.new.self c.in-Some.slot c.take_out-key.result c.in-Some.ensures c.take_out-key.ensures.pair takes.rest c.take_out-key.ensures.distinct;
         count = length-taken t c.args.self.now c.take_out-key.new.self c.in-Some.slot c.take_out-key.result c.in-Some.ensures takes.rest;
+        total = λ measure. total-taken measure t c.args.self.now c.take_out-key.new.self c.take_out-key.result (sym value) takes.rest;
         rest = first_of (search rules, grind (arith, common_steps));
         none = tt;
         room = takes.room;
@@ -32,6 +34,7 @@ returns-in-None g c =
         value = sym c.in-None.ensures;
         updates = (sym (found_is t (pairs_of c.args.self.now) None (sym c.in-None.ensures)), λ other not. refl);
         count = length-lacks t c.args.self.now c.in-None.ensures;
+        total = λ measure. total-lacks measure t c.args.self.now c.in-None.ensures;
         rest = tt;
         none = refl;
         room = refl;
