@@ -61,7 +61,7 @@ module _ {K V : Type 0} (t : K → Bool) where
   only_step e es v false is once more later = later
 
   -- where one key passes at most, what stands beside it is found
-  only : (es : List (K × V)) (k : K) (v : V) → t k ≡ true → count_by (λ p. t p.0) es ≤ 1 → Contains es (k, v) → lookup t es ≡ Some v
+  pub only : (es : List (K × V)) (k : K) (v : V) → t k ≡ true → count_by (λ p. t p.0) es ≤ 1 → Contains es (k, v) → lookup t es ≡ Some v
   only [] k v does once there = absurd (omega (arith, there.1))
   only (e ∷ es) k v does once (zero, below, is) =
       ap (λ b. cond b (Some e.1) (lookup t es)) (ap (λ (p : K × V). t p.0) is ∙ does) ∙ ap (λ (p : K × V). Some p.1) is

@@ -2,6 +2,7 @@
 
 pub mod built;
 pub mod entries;
+pub mod found;
 pub mod generic;
 pub mod numbers;
 pub mod read;

@@ -3,7 +3,7 @@ ghost use Rattle.std.specs.Prelude.{◌≡◌, IfOk, IsPermutation};
 ghost use Rattle.std.specs.Map.{keys_of, values_of};
 ghost use Rattle.std.specs.Map.Iter.{ShowsInOrder, deref, deref_pair};
 ghost use Rattle.starlark_unordered.specs.Pairs.{pairs_of};
-ghost use Rattle.starlark_unordered.specs.Walk.{CanMapValues, MapsEach, ShowsEach, ShowsSorted, WalksPairs};
+ghost use Rattle.starlark_unordered.specs.Walk.{CanMapValues, MapsEach, ShowsEach, ShowsSorted, ShowsValues, WalksPairs};
 
 use super::UnorderedMap;
 use crate::iter::{Entries, KeysUnordered, ValuesUnordered};
@@ -40,7 +40,7 @@ impl<K: Eq + Hash, V> UnorderedMap<K, V> {
     #[inline]
     pub fn values_unordered(&self) -> ValuesUnordered<'_, K, V>
         ensures values { result ≡ values_of (pairs_of self.now) }
-        ensures runs { ShowsEach self.now (deref {X = V}) }
+        ensures runs { ShowsValues K.eq self.now result }
     {
         ValuesUnordered::new(self.entries_unordered())
     }
