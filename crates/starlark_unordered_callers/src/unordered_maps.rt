@@ -4,6 +4,7 @@ pub mod built;
 pub mod entries;
 pub mod found;
 pub mod generic;
+pub mod mapped;
 pub mod numbers;
 pub mod read;
 pub mod ready;

@@ -85,7 +85,7 @@ impl<K: Eq + Hash, V> UnorderedMap<K, V> {
         V: Drop,
         W: Drop,
         requires { CanMapValues F.FnMut (pairs_of self) f }
-        ensures maps { MapsEach F.FnMut f self result }
+        ensures maps { MapsEach F.FnMut K.eq f self result }
     {
         let UnorderedMap { table, alloc } = self;
         let Ok(mut mapped) = ReadyTable::with_capacity(alloc, table.len()) else {
