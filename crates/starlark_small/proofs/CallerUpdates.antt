@@ -1,5 +1,5 @@
 -- What a call leaves at its query and at all other keys, in the closed words of `starlark_lists/specs/Finding.antt`.
-use Rattle.std.proofs.Common.{◌≡◌, ℕ, zero, suc, ◌+◌, ◌<◌, Bool, true, false, eqb, List, [], ◌∷◌, ◌++◌, get_or, map, remove, Option, Some, None, IsSome, is_some, slice_get, length, Result, Ok, Err, IsOk, OnOk, arith, refl, sym, ap, ◌∙◌}
+use Rattle.std.proofs.Common.{◌≡◌, ℕ, zero, suc, ◌+◌, ◌<◌, Bool, true, false, eqb, List, [], ◌∷◌, ◌++◌, get_or, map, remove, Option, Some, None, IsSome, is_some, slice_get, length, Result, Ok, Err, IsErr, IsOk, OnErr, OnOk, arith, refl, sym, ap, ◌∙◌}
 use Rattle.std.specs.Prelude.{◌&&◌, if◌then◌else◌}
 use Rattle.std.specs.Cmp.{IsEquivalence}
 use Rattle.std.specs.Option.{option_map, option_map_or}
@@ -14,8 +14,8 @@ use Rattle.starlark_lists.specs.Finding.{found, Writes}
 use Rattle.starlark_lists.proofs.PositionLemmas.{position-passes}
 use Rattle.starlark_small.specs.Calling.{keys}
 use Rattle.std.specs.declared.cmp.PartialEq as PartialEq
-use Rattle.starlark_small.specs.MapEntry.{Occupied, Vacant, IsEntryOf, Puts, entry_value_of, lacking_key, occupied_map, occupied_place, vacant_map, stored, written, with_entry_value}
-use Rattle.starlark_small.specs.Inserted.{IsInserted}
+use Rattle.starlark_small.specs.MapEntry.{Occupied, Vacant, IsEntryOf, Puts, Refuses, entry_value_of, lacking_key, occupied_map, occupied_place, vacant_map, stored, written, with_entry_value}
+use Rattle.starlark_small.specs.Inserted.{IsInserted, IsRefused}
 use Rattle.starlark_small.specs.declared.entry.Entry as E
 use Rattle.starlark_small.specs.declared.entry.OccupiedEntry.{OccupiedEntry}
 use Rattle.starlark_small.specs.declared.entry.VacantEntry.{VacantEntry}
@@ -163,6 +163,11 @@ module _ {K V : Type 0} {g : PartialEq.Ghosts K} (eq : K → K → Bool) (m : Ma
       put.entries ∙ ap (λ n. n.entries ++ (lacking_key v, value) ∷ []) is.0 ∙ ap (λ k. m.entries ++ (k, value) ∷ []) is.2
       ∙ sym (ap (λ p. option_map_or (λ i. set_value_at m.entries i value) p (m.entries ++ (key, value) ∷ [])) is.1)
 
+  pub entries-refused : (e : E.Entry K V g) → IsEntryOf eq m key e → (new : Map K V) → Refuses e new → new.entries ≡ m.entries
+  unfolding Refuses
+  entries-refused (Occupied o) is new refused = absurd refused.0
+  entries-refused (Vacant v) is new refused = refused.1.entries ∙ ap (λ n. n.entries) is.0
+
   pub value-entry : (e : E.Entry K V g) → IsEntryOf eq m key e → entry_value_of e ≡ value_at m.entries (match_of eq m.entries key)
   value-entry (Occupied o) is = ap (λ n. option_map entry_value (slice_get n.entries (occupied_place o))) is.0 ∙ sym (ap (value_at m.entries) is.1)
   value-entry (Vacant v) is = sym (ap (value_at m.entries) is.1)
@@ -189,6 +194,16 @@ module _ {K V : Type 0} {g : PartialEq.Ghosts K} where
   unfolding Puts
   puts-inserted v (Ok x) value new put ok = put
   puts-inserted v (Err e) value new put ok = absurd (false≢true ok)
+
+  -- only what is vacant is refused
+  pub refuses-vacant : {A E : Type 0} (v : VacantEntry K V g) (r : Result A E) (new : Map K V) → OnErr r (IsRefused (vacant_map v).now new) → IsErr r → Refuses (Vacant v) new
+  unfolding Refuses
+  refuses-vacant v (Ok x) new refused err = absurd (false≢true err)
+  refuses-vacant v (Err e) new refused err = (tt, refused)
+
+  pub refuses-occupied : (o : OccupiedEntry K V g) (e : E.Entry K V g) (new : Map K V) → Refuses (Occupied o) new → Refuses e new
+  unfolding Refuses
+  refuses-occupied o e new refused = absurd refused.0
 
   -- an entry that was written has that value, and what is put under it is put under the first
   pub value-with_entry_value : (o : OccupiedEntry K V g) (u : V) → option_map entry_value (stored (with_entry_value o u)) ≡ Some u

@@ -1,10 +1,11 @@
 -- What the contracts of a map's `Entry` cite.
 pub use Rattle.starlark_small.specs.declared.entry.Entry.TheVariants.{Occupied, Vacant}
 use Rattle.std.proofs.Common.{subst, sym}
-use Rattle.std.specs.Prelude.{◌≡◌, ℕ, ◌+◌, ◌<◌, ◌≤◌, Bool, Option, Some, None, Result, MatchResult, IsOk, OnOk, OnErr, [], ◌∷◌, ◌++◌, if◌then◌else◌, is_some, length, slice_get, ⊤}
+use Rattle.std.specs.Prelude.{◌≡◌, ℕ, ◌+◌, ◌<◌, ◌≤◌, Bool, Option, Some, None, Result, MatchResult, IfSome, IsSomeAnd, IsErr, IsOk, OnOk, OnErr, [], ◌∷◌, ◌++◌, if◌then◌else◌, is_some, length, slice_get, ⊤}
 use Rattle.std.specs.Hash.{HashWrites}
 use Rattle.std.specs.Borrow.{Fml, RattleType, MutBor, follows, follows_so, name_if_ok}
 use Rattle.std.specs.Fn.{Once, FnOnceTakesAtMut, FnOnceReturnsAtMut}
+use Rattle.std.specs.Map.Calls.{MayWrite}
 use Rattle.std.specs.Option.{option_map}
 use Rattle.std.specs.declared.cmp.PartialEq as eq
 use mir.Syntax.{named}
@@ -14,6 +15,7 @@ use Rattle.starlark_lists.specs.Entries.{entry_key, entry_value, match_of, set_v
 use Rattle.starlark_hash.specs.HashValue.{hash_of, key_of}
 use Rattle.starlark_hash.specs.Hasher.{own_hash}
 use Rattle.starlark_lists.specs.Finding.{found, Writes}
+use Rattle.starlark_lists.specs.Insertion.{insert_entry}
 use Rattle.starlark_lists.proofs.EntryLemmas.{length-set_value_at}
 use Rattle.starlark_small.specs.Calling.{keys, AreOwn, total_of, weight_of}
 use Rattle.starlark_small.specs.Inserted.{IsInserted, IsRefused}
@@ -78,23 +80,30 @@ module _ {K V : Type 0} {g : eq.Ghosts K} where
   unfoldable pub Puts : Entry K V g → V → Map K V → Type 0
   Puts e value m = IsPut e value m
 
-  -- the entry that the old map has under the key, or the lack of one, which shows the value that is there; and what the map is by
-  -- key once a value was put under it: the value is there, all other keys have what they had, a new key went last, and keys under
-  -- their own hashes stay so
-  pub record Enters (eq : K → K → Bool) (key : Hashed K) (old : Map K V) (e : Entry K V g) : Type 0 where
-    pub entry : IsEntryOf eq old key e
-    pub value : entry_value_of e ≡ found (eq (key_of key)) (hash_of key) old.entries
-    pub updates : (value : V) (new : Map K V) → Puts e value new → Writes eq (eq (key_of key)) (hash_of key) old.entries new.entries (Some value)
-    pub keys : (value : V) (new : Map K V) → Puts e value new → keys new ≡ (if is_some (found (eq (key_of key)) (hash_of key) old.entries) then keys old else keys old ++ key_of key ∷ [])
-    pub own : (feeds : K → HashWrites) → hash_of key ≡ own_hash feeds (key_of key) → (value : V) (new : Map K V) → Puts e value new → AreOwn feeds old → AreOwn feeds new
-    -- by any measure: the value that is there is a part of what all weigh, and what they weigh once a value was put
-    pub part : (measure : V → ℕ) → weight_of measure (entry_value_of e) ≤ total_of measure old.entries
-    pub total : (measure : V → ℕ) (value : V) (new : Map K V) → Puts e value new → total_of measure new.entries + weight_of measure (entry_value_of e) ≡ total_of measure old.entries + measure value
-
   -- there is no such entry: none stands under the key
   abbrev pub IsVacant : Entry K V g → Type 0
   IsVacant (Occupied o) = ⊥
   IsVacant (Vacant v) = ⊤
+
+  -- what the map is once an insertion under the entry was refused: the entry was vacant, and the map has the entries that it had;
+  -- callers' proofs never unfold this word
+  unfoldable pub Refuses : Entry K V g → Map K V → Type 0
+  Refuses e m = IsVacant e × IsRefused (map_of_entry e).now m
+
+  -- the entry that the old map has under the key, or the lack of one, which shows the value that is there; and what the map is by
+  -- key once a value was put under it: the value is there, all other keys have what they had, a new key went last, and keys under
+  -- their own hashes stay so; where it was refused, the entries stay
+  pub record Enters (eq : K → K → Bool) (key : Hashed K) (old : Map K V) (e : Entry K V g) : Type 0 where
+    pub entry : IsEntryOf eq old key e
+    pub value : entry_value_of e ≡ found (eq (key_of key)) (hash_of key) old.entries
+    pub entries : (value : V) (new : Map K V) → Puts e value new → new.entries ≡ insert_entry eq old.entries key value
+    pub updates : (value : V) (new : Map K V) → Puts e value new → Writes eq (eq (key_of key)) (hash_of key) old.entries new.entries (Some value)
+    pub keys : (value : V) (new : Map K V) → Puts e value new → keys new ≡ (if is_some (found (eq (key_of key)) (hash_of key) old.entries) then keys old else keys old ++ key_of key ∷ [])
+    pub own : (feeds : K → HashWrites) → hash_of key ≡ own_hash feeds (key_of key) → (value : V) (new : Map K V) → Puts e value new → AreOwn feeds old → AreOwn feeds new
+    pub refused : (new : Map K V) → Refuses e new → new.entries ≡ old.entries
+    -- by any measure: the value that is there is a part of what all weigh, and what they weigh once a value was put
+    pub part : (measure : V → ℕ) → weight_of measure (entry_value_of e) ≤ total_of measure old.entries
+    pub total : (measure : V → ℕ) (value : V) (new : Map K V) → Puts e value new → total_of measure new.entries + weight_of measure (entry_value_of e) ≡ total_of measure old.entries + measure value
 
   -- r shows the value that is there, or one that may be given; an `Err` is of a vacant entry alone, and hands the key back with
   -- such a value
@@ -109,6 +118,11 @@ module _ {K V : Type 0} {g : eq.Ghosts K} where
   -- the entry, once this is its value: all else is as it was
   abbrev pub with_entry_value : OccupiedEntry K V g → V → OccupiedEntry K V g
   with_entry_value o value = record { map = record (occupied_map o) { now = written o value }; index = occupied_place o; within = still_within o value }
+
+module _ {F V : Type 0} (g : Once F (MutBor V × Unit {0}) (⊤ × (MutBor V × Unit {0}))) (f : F) where
+  -- a value that is there now was left by f, at the one that was there
+  abbrev pub IsLeftBy : Option V → Option V → Type 0
+  IsLeftBy old new = IfSome new (λ v. IsSomeAnd old (λ was. MayWrite g f was v))
 
 module _ {F K V : Type 0} {eqs : eq.Ghosts K} (g : Once F (MutBor V × Unit {0}) (⊤ × (MutBor V × Unit {0}))) (f : F) where
   -- f may be called at a `&mut` to the value that is there, if any
@@ -139,8 +153,8 @@ module _ (K V : RattleType) {g : eq.Ghosts K.Denot} where
 
   -- the map has the new entry with the value that is left behind the reference; refused, it has the entries that it had
   abbrev pub vacant_lends : {E : Type 0} → VacantEntry K.Denot V.Denot g → Result (MutBor V.Denot) E → Fml
-  vacant_lends v r = follows_so (the_row K V g) V (vacant_map v).ghost_name (name_if_ok (λ p. p.ghost_name) r) (λ w n. OnOk r (IsInserted (vacant_map v).now (lacking_key v) w n) × (IsOk r → Puts (Vacant v) w n)) (λ n. OnErr r (IsRefused (vacant_map v).now n))
+  vacant_lends v r = follows_so (the_row K V g) V (vacant_map v).ghost_name (name_if_ok (λ p. p.ghost_name) r) (λ w n. OnOk r (IsInserted (vacant_map v).now (lacking_key v) w n) × (IsOk r → Puts (Vacant v) w n)) (λ n. OnErr r (IsRefused (vacant_map v).now n) × (IsErr r → Refuses (Vacant v) n))
 
   -- the map ends with what is left behind the reference put under the entry; refused, it has the entries that it had
   abbrev pub entry_lends : {E : Type 0} → Entry K.Denot V.Denot g → Result (MutBor V.Denot) E → Fml
-  entry_lends e r = follows_so (the_row K V g) V (map_of_entry e).ghost_name (name_if_ok (λ p. p.ghost_name) r) (λ w n. OnOk r (IsPut e w n) × (IsOk r → Puts e w n)) (λ n. OnErr r (IsRefused (map_of_entry e).now n))
+  entry_lends e r = follows_so (the_row K V g) V (map_of_entry e).ghost_name (name_if_ok (λ p. p.ghost_name) r) (λ w n. OnOk r (IsPut e w n) × (IsOk r → Puts e w n)) (λ n. OnErr r (IsRefused (map_of_entry e).now n) × (IsErr r → Refuses e n))

@@ -195,7 +195,7 @@ impl<'a, K: Eq, V> Entry<'a, K, V> {
     ghost use Rattle.std.specs.Map.Calls.{ModifiesValue};
     ghost use Rattle.std.specs.Option.{unwrap_or, UnwrapsOrElse};
     ghost use Rattle.starlark_small.specs.Map.{Map};
-    ghost use Rattle.starlark_small.specs.MapEntry.{entry_lends, entry_value_of, map_of_entry, Puts, IsKeyOf, IsModified, IsVacant, ShowsOrGives, TakesItsValue};
+    ghost use Rattle.starlark_small.specs.MapEntry.{entry_lends, entry_value_of, map_of_entry, Puts, Refuses, IsKeyOf, IsLeftBy, IsModified, IsVacant, ShowsOrGives, TakesItsValue};
 
     /// The stored key, or the one that the map lacks.
     #[inline]
@@ -262,7 +262,9 @@ impl<'a, K: Eq, V> Entry<'a, K, V> {
         ensures same_map { (map_of_entry result).ghost_name ≡ (map_of_entry self.entry).ghost_name }
         ensures modified { IsModified F.FnOnce f self.entry result }
         ensures changed { ModifiesValue F.FnOnce f (entry_value_of self.entry) (entry_value_of result) }
+        ensures left { IsLeftBy F.FnOnce f (entry_value_of self.entry) (entry_value_of result) }
         ensures puts { (value : V) (new : Map K V) → Puts result value new → Puts self.entry value new }
+        ensures refused { (new : Map K V) → Refuses result new → Refuses self.entry new }
     {
         match self {
             Entry::Occupied(mut entry) => {

@@ -1,10 +1,10 @@
 use Rattle.std.proofs.Common.{refl}
-use Rattle.starlark_small.proofs.CallerUpdates.{puts-inserted}
+use Rattle.starlark_small.proofs.CallerUpdates.{puts-inserted, refuses-vacant}
 use Rattle.starlark_small.proofs.entry.VacantEntry.insert.Goals as goal
 
 pub returns : goal.returns
 returns g c =
     let new = c.insert_new.follows in (
-      (refl, λ w. (new.holds w, puts-inserted c.args.self c.insert_new.result w (new.lender w) (new.holds w)), new.holds-at-none),
+      (refl, λ w. (new.holds w, puts-inserted c.args.self c.insert_new.result w (new.lender w) (new.holds w)), (new.holds-at-none, refuses-vacant c.args.self c.insert_new.result _ new.holds-at-none)),
       record { writes_back = tt; value = c.insert_new.ensures.value; full = c.insert_new.ensures.full; handed_back = c.insert_new.ensures.handed_back },
     )
