@@ -14,6 +14,7 @@ pub mod order;
 pub mod read;
 pub mod rearranged;
 pub mod roomy;
+pub mod stock;
 pub mod strings;
 pub mod texts;
 pub mod totals;
