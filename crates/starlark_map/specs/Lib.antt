@@ -48,7 +48,6 @@ pub use Rattle.starlark_sets.specs.Union
 pub use Rattle.starlark_sets.specs.Lending as SetLending
 pub use Rattle.starlark_sets.specs.Collect as SetCollect
 pub use Rattle.starlark_sets.specs.Retain as SetRetain
-pub use Rattle.starlark_sets.specs.Others as SetCalling
 pub use Rattle.starlark_sets.specs.Adding as SetAdding
 pub use Rattle.starlark_sets.specs.Taking as SetTaking
 pub use Rattle.starlark_sets.specs.Ordered

@@ -17,6 +17,7 @@ module _ {T B : Type 0} (eq : T → T → Bool) (element : Hashed T) {back : B} 
     was = ap (λ o. not (is_some o)) is.was;
     updates = is.updates;
     length = is.count;
+    own = is.own;
     absent = tt;
     unchanged = tt;
     handed_back = tt;
@@ -27,6 +28,7 @@ module _ {T B : Type 0} (eq : T → T → Bool) (element : Hashed T) {back : B} 
     was = tt;
     updates = tt;
     length = tt;
+    own = is.own;
     absent = ap is_some is.lacking;
     unchanged = is.unchanged.0;
     handed_back = ap (λ (p : B × Unit {0}). p.0) is.handed_back;
@@ -41,6 +43,7 @@ module _ {T B C : Type 0} (eq : T → T → Bool) (element : Hashed T) {back : B
     was = is.was;
     updates = is.updates;
     length = is.length;
+    own = is.own;
     absent = tt;
     unchanged = tt;
     handed_back = tt;
@@ -53,6 +56,7 @@ module _ {T B C : Type 0} (eq : T → T → Bool) (element : Hashed T) {back : B
     was = tt;
     updates = tt;
     length = tt;
+    own = is.own;
     absent = is.absent;
     unchanged = is.unchanged;
     handed_back = back_is;

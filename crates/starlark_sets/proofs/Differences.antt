@@ -9,6 +9,7 @@ use Rattle.starlark_lists.proofs.PositionLemmas.{position-cons}
 use Rattle.starlark_small.specs.EqualityLaws.{alike, alike-laws}
 use Rattle.starlark_sets.specs.Difference.{lacks, difference, past}
 use Rattle.starlark_sets.specs.Set.{Elements}
+use Rattle.starlark_sets.specs.Union.{CountsEither}
 
 -- how many items pass
 abbrev number : {X : Type 0} → (X → Bool) → List X → ℕ
@@ -98,6 +99,17 @@ module _ {T : Type 0} (eq : T → T → Bool) where
   pub length-union-le : (es fs ds : Elements T) → length (map entry_key (es ++ difference eq fs ds)) ≤ length es + length fs
   length-union-le es fs ds =
       omega (arith, kept_and_lost (lacks eq ds) fs, length_keys (es ++ difference eq fs ds), length-append es (difference eq fs ds))
+
+  -- and at least as many as each of them, where the other is single
+  pub counts-union : IsEquivalence eq → (es fs : Elements T) → IsSingle eq fs → CountsEither (length es) (length fs) (length (map entry_key (es ++ difference eq fs es)))
+  counts-union laws es fs single =
+      let all = length_keys (es ++ difference eq fs es) in
+      let parts = length-append es (difference eq fs es) in
+      record {
+        most = length-union-le es fs es;
+        all_of_first = omega (arith, all, parts);
+        all_of_second = omega (arith, all, parts, length-difference laws fs es single, length_keys (difference eq fs es));
+      }
 
   -- an element that is in the other list is passed over
   pub passed : (first es : Elements T) (e : Entry T (Unit {0})) (fs other : Elements T) → es ≡ e ∷ fs → lacks eq other e ≡ false

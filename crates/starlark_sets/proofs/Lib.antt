@@ -9,3 +9,4 @@ pub mod Retained
 pub mod Callers
 pub mod Lookups
 pub mod Members
+pub mod Put

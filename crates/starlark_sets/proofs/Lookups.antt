@@ -1,15 +1,14 @@
 -- The stored keys that are found, how long a list is after a call, and what is found once an entry was taken out of its place or entries only changed places.
-use Rattle.std.proofs.Common.{◌≡◌, ℕ, zero, suc, ◌+◌, Bool, Bor, true, List, [], ◌∷◌, length, get_or, remove, Option, Some, None, Result, Ok, Err, OnOk, OnErr, IsPermutation, is_ok, is_some, slice_get, refl, subst, sym, ap, ◌∙◌}
+use Rattle.std.proofs.Common.{◌≡◌, ℕ, zero, suc, ◌+◌, Bool, Bor, true, List, [], ◌∷◌, length, remove, Option, Some, None, Result, Ok, Err, OnOk, OnErr, IsPermutation, is_ok, is_some, slice_get, refl, subst, sym, ap, ◌∙◌}
 use Rattle.std.specs.Prelude.{IfSome, if◌then◌else◌, reverse}
 use Rattle.std.specs.Cmp.{IsEquivalence}
 use Rattle.std.specs.Option.{IfNone, option_copied, option_map}
 use Rattle.std.specs.declared.cmp.Ordering.{Ordering}
 use Rattle.std.proofs.lemmas.Bool.{false≢true}
-use Rattle.std.proofs.lemmas.Option.{get_or_from_slice_get, same_Some, slice_get_within}
+use Rattle.std.proofs.lemmas.Option.{same_Some}
 use Rattle.std.proofs.lemmas.List.Sorted.{IsPermutation-reverse}
 use Rattle.starlark_hash.specs.declared.hashed.Hashed.{Hashed}
 use Rattle.starlark_hash.specs.declared.hash_value.StarlarkHashValue.{StarlarkHashValue}
-use Rattle.starlark_hash.specs.Hasher.{own_hash}
 use Rattle.starlark_hash.specs.HashValue.{hashed}
 use Rattle.starlark_lists.specs.Entries.{Entry, IsSingle, entry_at, entry_key, position_of}
 use Rattle.starlark_lists.specs.Insertion.{insert_entry}
@@ -17,14 +16,11 @@ use Rattle.starlark_lists.specs.Sorting.{key_lt, sorted_by_key}
 use Rattle.starlark_lists.proofs.EntryLemmas.{IsSingle-permutation}
 use Rattle.starlark_lists.proofs.SortingLemmas.{IsPermutation-sorted_by}
 use Rattle.starlark_small.specs.EqualityLaws.{alike-laws, value_at-lookup}
-use Rattle.starlark_small.specs.Map.{Map}
 use Rattle.starlark_small.proofs.CallerEntries.{length-insert_entry}
 use Rattle.starlark_small.proofs.CallerOrder.{lookup_permuted}
 use Rattle.starlark_small.proofs.CallerPlaces.{writes-taken}
 use Rattle.starlark_small.proofs.SameEntries.{distinct}
 use Rattle.starlark_lists.specs.Finding.{found, found_key, Writes}
-use Rattle.starlark_small.specs.Calling.{AreOwnEntries}
-use Rattle.starlark_sets.specs.Others.{LacksNow}
 use Rattle.starlark_sets.proofs.Additions.{is_some-value_at}
 use Rattle.starlark_sets.proofs.Callers.{key_stands}
 
@@ -73,20 +69,6 @@ module _ {K V : Type 0} (eq : K → K → Bool) (laws : IsEquivalence eq) where
   writes-key old new i key single at is =
       let e = an_entry (λ e. e.0) key (slice_get old i) at in
       subst (λ (k : Hashed K). Writes eq (eq k.key) k.hash old new None) e.2 (writes-taken eq laws old new i e.0 single e.1 is)
-
-  pub lacks-key : (old new : Map K V) (i : ℕ) (key : K) → IsSingle eq old.entries → Some key ≡ option_map entry_key (slice_get old.entries i) → new.entries ≡ remove old.entries i → LacksNow eq old new key
-  unfolding AreOwnEntries
-  lacks-key old new i key single at is =
-      let e = an_entry entry_key key (slice_get old.entries i) at in
-      let taken : Writes eq (eq key) e.0.0.hash old.entries new.entries None = subst (λ (k : K). Writes eq (eq k) e.0.0.hash old.entries new.entries None) e.2 (writes-taken eq laws old.entries new.entries i e.0 single e.1 is) in
-      record {
-        others = taken.1;
-        gone = λ feeds own.
-            let there : get_or old.entries i e.0 ≡ e.0 = get_or_from_slice_get old.entries i e.0 e.0 e.1 in
-            let hash : e.0.0.hash ≡ own_hash feeds key =
-            ap (λ (x : Entry K V). x.0.hash) (sym there) ∙ own i e.0 (slice_get_within old.entries i e.0 e.1) ∙ ap (λ (x : Entry K V). own_hash feeds (entry_key x)) there ∙ ap (own_hash feeds) e.2 in
-            subst (λ h. Writes eq (eq key) h old.entries new.entries None) hash taken;
-      }
 
   -- entries changed their places
   pub alike-permuted : (old new : List (Entry K V)) → IsSingle eq old → IsPermutation old new → FindsAlike eq old new

@@ -12,4 +12,3 @@ pub mod Difference
 pub mod Union
 pub mod Collect
 pub mod Retain
-pub mod Others

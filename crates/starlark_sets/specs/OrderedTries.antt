@@ -1,10 +1,12 @@
 -- What `try_insert` does and answers.
-use Rattle.std.specs.Prelude.{◌≡◌, ◌<◌, Bool, Option, Some, None, Result, MatchOption, MatchResult, IsErr, ⊤, length, slice_get}
+use Rattle.std.specs.Prelude.{◌≡◌, ◌<◌, Bool, true, false, Option, Some, None, Result, MatchOption, MatchResult, IfErr, OnOk, IsErr, IsTrue, ⊤, is_some, length, slice_get}
 use Rattle.std.specs.Option.{option_map}
+use Rattle.starlark_hash.specs.HashValue.{hash_of, key_of}
 use Rattle.starlark_hash.specs.declared.hashed.Hashed.{Hashed}
 use Rattle.starlark_lists.specs.Entries.{entry_key, match_of}
+use Rattle.starlark_lists.specs.Finding.{found}
 use Rattle.starlark_small.specs.Inserted.{IsInserted, IsRefused}
-use Rattle.starlark_sets.specs.Set.{Elements, Set}
+use Rattle.starlark_sets.specs.Set.{Elements, Set, element_at}
 use Rattle.starlark_sets.specs.declared.ordered_set.tries.TryInsertError.{TryInsertError}
 use Rattle.starlark_sets.specs.declared.ordered_set.tries.TryInsertError.TheVariants.{Occupied, Memory}
 use Rattle.starlark_sets.specs.declared.ordered_set.tries.Refusal.{Refusal}
@@ -23,6 +25,23 @@ module _ {T : Type 0} where
   abbrev pub IsRefusal : Option T → T → TryInsertError T → Type 0
   IsRefusal there value (Occupied e) = (e.value ≡ value) × (there ≡ Some e.occupied.now)
   IsRefusal there value (Memory e) = (e.0 ≡ value) × (there ≡ None)
+
+  -- whether the element was refused for one that is there
+  abbrev pub is_occupied : TryInsertError T → Bool
+  is_occupied (Occupied e) = true
+  is_occupied (Memory e) = false
+
+  -- the element that is there is equal to the refused one
+  abbrev pub ShowsEqual : (T → T → Bool) → T → TryInsertError T → Type 0
+  ShowsEqual eq value (Occupied e) = IsTrue (eq value e.occupied.now)
+  ShowsEqual eq value (Memory e) = ⊤
+
+  -- this element went in, and was lacking; or it was refused, for an equal one that is there or for want of memory
+  pub record AnswersTry (eq : T → T → Bool) (element : Hashed T) (before : Set T) (r : Result (Unit {0}) (TryInsertError T)) : Type 0 where
+    pub lacking : OnOk r (is_some (found (eq (key_of element)) (hash_of element) before.entries) ≡ false)
+    pub there : IfErr r (λ refused. is_some (found (eq (key_of element)) (hash_of element) before.entries) ≡ is_occupied refused)
+    pub equal : IfErr r (ShowsEqual eq (key_of element))
+    pub refused : IfErr r (IsRefusal (element_at before (match_of eq before.entries element)) (key_of element))
 
   -- the refused element, beside the place of the one that is there
   abbrev pub IsPlaced : Elements T → Option T → T → Refusal T → Type 0

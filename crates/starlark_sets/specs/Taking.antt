@@ -1,12 +1,11 @@
 -- What a look-up in a set answers, and a removal from it.
-use Rattle.std.specs.Prelude.{◌≡◌, ℕ, Bool, IfSome, IsTrue, Option, is_some, slice_get}
+use Rattle.std.specs.Prelude.{◌≡◌, ℕ, ◌+◌, Bool, IfSome, IsTrue, Option, if◌then◌else◌, is_some, length, slice_get}
 use Rattle.std.specs.Borrow.{Bor}
 use Rattle.std.specs.Option.{IfNone, option_copied, option_map}
 use Rattle.starlark_hash.specs.declared.hash_value.StarlarkHashValue.{StarlarkHashValue}
 use Rattle.starlark_lists.specs.Entries.{entry_key}
 use Rattle.starlark_lists.specs.Finding.{found, found_key}
-use Rattle.starlark_small.specs.Calling.{Removes, RemovesAt}
-use Rattle.starlark_sets.specs.Others.{LacksNow}
+use Rattle.starlark_small.specs.Calling.{Removes, RemovesAt, TakesOut}
 use Rattle.starlark_sets.specs.Set.{Set, element_at}
 
 module _ {T : Type 0} (test : T → Bool) (hash : StarlarkHashValue) (place : Option ℕ) where
@@ -29,9 +28,11 @@ module _ {T : Type 0} (test : T → Bool) (hash : StarlarkHashValue) (place : Op
     pub removes : Removes eq test hash place old new
 
 module _ {T : Type 0} (eq : T → T → Bool) where
-  -- the element at a place was taken out and is answered, and the set lacks it now; or nothing stood there, and the elements stay
+  -- the element at a place was taken out and is answered: where elements stand under their own hashes it was there, and is gone;
+  -- or nothing stood there, and the elements stay
   pub record TakesElementAt (place : ℕ) (old new : Set T) (r : Option T) : Type 0 where
     pub taken : r ≡ option_map entry_key (slice_get old.entries place)
-    pub lacks : IfSome r (LacksNow eq old new)
+    pub takes : IfSome r (λ element. TakesOut eq old new element tt)
+    pub count : length old.entries ≡ length new.entries + (if is_some r then 1 else 0)
     pub unchanged : IfNone r (new.entries ≡ old.entries)
     pub removes : RemovesAt eq place old new

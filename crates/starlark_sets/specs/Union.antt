@@ -1,5 +1,5 @@
 -- What is in either of two sets.
-use Rattle.std.specs.Prelude.{◌≡◌, ℕ, List, [], ◌∷◌, ◌++◌, Option, Some, None, Bool, nat_lt, ◌^◌, if◌then◌else◌, map}
+use Rattle.std.specs.Prelude.{◌≡◌, ℕ, ◌+◌, ◌≤◌, List, [], ◌∷◌, ◌++◌, Option, Some, None, Bool, nat_lt, ◌^◌, if◌then◌else◌, map}
 use Rattle.std.specs.Borrow.{Bor}
 use Rattle.std.specs.Iterator.{YieldsFirstRef}
 use Rattle.std.specs.Iterator.Runs.{EveryRun, ItemsMapTo}
@@ -34,6 +34,12 @@ module _ {T : Type 0} (eq : T → T → Bool) where
   -- each run of `next` shows the elements that were still to come, in order
   abbrev pub ShowsUnion : Type 0
   ShowsUnion = EveryRun UnionSteps (λ p. ItemsMapTo p deref (union_rest p.from))
+
+-- so many elements are in either of two sets of these lengths: no more than both have together, and no fewer than each has
+pub record CountsEither (first second n : ℕ) : Type 0 where
+  pub most : n ≤ first + second
+  pub all_of_first : first ≤ n
+  pub all_of_second : second ≤ n
 
 -- a number of items, where a `usize` holds it
 abbrev pub fits_in : ℕ → Option ℕ

@@ -9,7 +9,7 @@ ghost use Rattle.starlark_small.specs.Map.{own_hashed};
 ghost use Rattle.starlark_sets.specs.Collect.{IsSetOf, TakesInEach};
 ghost use Rattle.starlark_sets.specs.Unit.{IsUnitClone};
 ghost use Rattle.starlark_small.specs.Inserting.{PutsLast};
-ghost use Rattle.starlark_sets.specs.Adding.{AddsElement};
+ghost use Rattle.starlark_sets.specs.Adding.{AddsElement, AddsNew};
 ghost use Rattle.starlark_small.specs.Changing.{SortsByKey};
 
 use super::OrderedSet;
@@ -39,6 +39,7 @@ impl<T: Eq> OrderedSet<T> {
         T: Hash,
         requires { match_of T.eq self.old.entries (own_hashed T.hash_input element) ≡ None }
         ensures puts_last { PutsLast (own_hashed T.hash_input element) tt element self.old self.new result }
+        ensures adds { AddsNew T.eq (own_hashed T.hash_input element) self.old result self.new }
     {
         self.0.insert_unique_unchecked(element)
     }

@@ -4,7 +4,7 @@ ghost use Rattle.std.specs.Borrow.{sem};
 ghost use Rattle.starlark_lists.specs.Entries.{match_of};
 ghost use Rattle.starlark_small.specs.Map.{own_hashed};
 ghost use Rattle.starlark_sets.specs.OrderedEnd.{ends_so};
-ghost use Rattle.starlark_sets.specs.OrderedTries.{IsPlaced, IsRefusal, IsTold, IsWithin, Tries};
+ghost use Rattle.starlark_sets.specs.OrderedTries.{AnswersTry, IsPlaced, IsTold, IsWithin, Tries};
 ghost use Rattle.starlark_sets.specs.Set.{element_at};
 
 use super::OrderedSet;
@@ -44,7 +44,7 @@ impl<T: Eq> OrderedSet<T> {
     where
         T: Hash,
         ensures* set { sem 𝓛 (ends_so T.row T.PartialEq self.entry (Tries T.eq self.old (own_hashed T.hash_input value) result)) }
-        ensures refused { IfErr result (IsRefusal (element_at self.old (match_of T.eq self.old.entries (own_hashed T.hash_input value))) value) }
+        ensures answers { AnswersTry T.eq (own_hashed T.hash_input value) self.old result }
     {
         let tried = self.insert_new(value);
         told(self.frozen(), tried)

@@ -3,7 +3,7 @@ ghost use Rattle.std.specs.Prelude.{◌≡◌, ◌^◌, ◌<◌, length, map};
 ghost use Rattle.std.specs.Map.{keys_of};
 ghost use Rattle.std.specs.Map.Iter.{deref};
 ghost use Rattle.starlark_lists.specs.Entries.{IsSingle, entry_key};
-ghost use Rattle.starlark_sets.specs.Union.{ShowsUnion, union, union_rest};
+ghost use Rattle.starlark_sets.specs.Union.{CountsEither, ShowsUnion, union, union_rest};
 ghost use Rattle.starlark_sets.specs.Unit.{deref_hashed};
 ghost use Rattle.starlark_small.specs.Walks.{GivesEach, ShowsEach};
 
@@ -44,6 +44,7 @@ impl<T: Eq> OrderedSet<T> {
         ensures left { result ≡ record { first = self.now.entries; second = record { left = other.now.entries; other = self.now.entries } } }
         ensures single { IsSingle T.eq (union T.eq self.now.entries other.now.entries) }
         ensures fits { length (union_rest T.eq result) < 2 ^ 64 }
+        ensures count { CountsEither (length self.now.entries) (length other.now.entries) (length (union_rest T.eq result)) }
         ensures runs { ShowsUnion T.eq }
     {
         self.0.union(&other.0)

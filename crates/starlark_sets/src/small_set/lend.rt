@@ -1,13 +1,13 @@
 //! Elements of a `SmallSet` that are put where they are lacking, and shown.
-ghost use Rattle.std.specs.Prelude.{◌≡◌, ◌<◌, length, slice_get, Some, IfErr, IfOk, IsOk};
+ghost use Rattle.std.specs.Prelude.{◌≡◌, ◌<◌, length, slice_get, Some, IfOk, IsOk};
 ghost use Rattle.std.specs.Borrow.{sem};
-ghost use Rattle.std.specs.Option.{option_map, unwrap_or};
-ghost use Rattle.starlark_lists.specs.Entries.{entry_key, match_of};
+ghost use Rattle.std.specs.Option.{option_map};
+ghost use Rattle.starlark_lists.specs.Entries.{entry_key};
 ghost use Rattle.starlark_hash.specs.Hasher.{own_hash};
 ghost use Rattle.starlark_small.specs.Map.{own_hashed};
-ghost use Rattle.starlark_sets.specs.Adding.{PlacesElement};
+ghost use Rattle.starlark_sets.specs.Adding.{PlacesElement, PutsElementFor, ShowsPut};
 ghost use Rattle.starlark_sets.specs.Lending.{AddsAt, IsShown, ends_so};
-ghost use Rattle.starlark_sets.specs.Set.{Adds, AddsFor, element_at};
+ghost use Rattle.starlark_sets.specs.Set.{Adds};
 
 use super::SmallSet;
 use starlark_hash::key_query::ToOwnedKey;
@@ -24,8 +24,7 @@ impl<T: Eq> SmallSet<T> {
     where
         T: Hash + Drop,
         ensures* set { sem 𝓛 (ends_so T.row T.PartialEq self.entry (Adds T.eq self.old (own_hashed T.hash_input value) result)) }
-        ensures element { IfOk result (λ p. p.now ≡ unwrap_or (element_at self.old (match_of T.eq self.old.entries (own_hashed T.hash_input value))) value) }
-        ensures handed_back { IfErr result (λ refused. refused.0 ≡ value) }
+        ensures shows { ShowsPut T.eq (own_hashed T.hash_input value) value self.old result }
     {
         let place = self.place_or_push_own(value);
         shown(self.frozen(), place)
@@ -41,7 +40,7 @@ impl<T: Eq> SmallSet<T> {
     ) -> Result<&T, AllocError>
     where
         T: Drop,
-        ensures* set { sem 𝓛 (ends_so T.row T.PartialEq self.entry (AddsFor Q.equivalent value.now (own_hash Q.hash_input value.now) self.old result)) }
+        ensures* set { sem 𝓛 (ends_so T.row T.PartialEq self.entry (PutsElementFor T.eq Q.equivalent Q.hash_input value.now self.old result)) }
         ensures succeeds { Q.is_infallible value.now → 0 < self.old.room → IsOk result }
     {
         let place = self.place_or_push_for(value)?;

@@ -5,7 +5,7 @@ ghost use Rattle.starlark_hash.specs.HashValue.{hash_of, key_of};
 ghost use Rattle.starlark_hash.specs.Hasher.{own_hash};
 ghost use Rattle.starlark_small.specs.Map.{own_match, query_match};
 ghost use Rattle.starlark_lists.specs.Finding.{Writes, found};
-ghost use Rattle.starlark_small.specs.Calling.{Removes, RemovesAt, contains};
+ghost use Rattle.starlark_small.specs.Calling.{Removes, contains};
 ghost use Rattle.starlark_small.specs.Changing.{Clears, Turns};
 ghost use Rattle.starlark_sets.specs.Taking.{TakesElement, TakesElementAt};
 
@@ -59,7 +59,6 @@ impl<T: Eq> SmallSet<T> {
     pub fn shift_remove_index(&mut self, i: usize) -> Option<T>
         ensures { TakesElementAt T.eq i self.old self.new result }
     {
-        let _entries = self.map.iter_hashed();
         let (element, ()) = self.map.shift_remove_index(i)?;
         Some(element)
     }
@@ -69,7 +68,7 @@ impl<T: Eq> SmallSet<T> {
         ensures updates { IfSome result (λ element. Writes T.eq (T.eq (key_of element)) (hash_of element) self.old.entries self.new.entries None) }
         ensures unchanged { IfNone result (self.new.entries ≡ self.old.entries) }
         ensures taken { result ≡ option_map (λ e. e.0) (slice_get self.old.entries i) }
-        ensures removes { RemovesAt T.eq i self.old self.new }
+        ensures takes { TakesElementAt T.eq i self.old self.new (option_map key_of result) }
     {
         let _entries = self.map.iter_hashed();
         let (element, ()) = self.map.shift_remove_index_hashed(i)?;
@@ -80,7 +79,6 @@ impl<T: Eq> SmallSet<T> {
     pub fn pop(&mut self) -> Option<T>
         ensures { TakesElementAt T.eq (length self.old.entries - 1) self.old self.new result }
     {
-        let _entries = self.map.iter_hashed();
         let (element, ()) = self.map.pop()?;
         Some(element)
     }

@@ -3,6 +3,7 @@ ghost use Rattle.std.specs.Prelude.{◌≡◌, None};
 ghost use Rattle.starlark_lists.specs.Entries.{match_of};
 ghost use Rattle.starlark_small.specs.Inserting.{PutsLast};
 ghost use Rattle.starlark_small.specs.Map.{own_hashed};
+ghost use Rattle.starlark_sets.specs.Adding.{AddsNew};
 
 use super::SmallSet;
 use starlark_hash::{Hashed, NoRoom};
@@ -15,6 +16,7 @@ impl<T: Eq> SmallSet<T> {
         T: Hash,
         requires { match_of T.eq self.old.entries (own_hashed T.hash_input key) ≡ None }
         ensures puts_last { PutsLast (own_hashed T.hash_input key) tt key self.old self.new result }
+        ensures adds { AddsNew T.eq (own_hashed T.hash_input key) self.old result self.new }
     {
         match self.map.push_own(key, ()) {
             Ok(_place) => Ok(()),
@@ -30,6 +32,7 @@ impl<T: Eq> SmallSet<T> {
     ) -> Result<(), NoRoom<Hashed<T>>>
         requires { match_of T.eq self.old.entries key ≡ None }
         ensures puts_last { PutsLast key tt key self.old self.new result }
+        ensures adds { AddsNew T.eq key self.old result self.new }
     {
         match self.map.push(key, ()) {
             Ok(_place) => Ok(()),

@@ -5,7 +5,7 @@ ghost use Rattle.std.specs.Set.{is_member};
 ghost use Rattle.starlark_lists.specs.Entries.{IsSingle};
 ghost use Rattle.starlark_small.specs.Calling.{AreOwn, contains};
 ghost use Rattle.starlark_sets.specs.Difference.{ShowsDifference, difference, difference_rest};
-ghost use Rattle.starlark_sets.specs.Union.{ShowsUnion, union, union_rest};
+ghost use Rattle.starlark_sets.specs.Union.{CountsEither, ShowsUnion, union, union_rest};
 
 use super::SmallSet;
 use crate::difference::Difference;
@@ -33,6 +33,7 @@ impl<T: Eq> SmallSet<T> {
         ensures left { result ≡ record { first = self.now.entries; second = record { left = other.now.entries; other = self.now.entries } } }
         ensures single { IsSingle T.eq (union T.eq self.now.entries other.now.entries) }
         ensures fits { length (union_rest T.eq result) < 2 ^ 64 }
+        ensures count { CountsEither (length self.now.entries) (length other.now.entries) (length (union_rest T.eq result)) }
         ensures members { (feeds : T → HashWrites) → ((x y : T) → IsTrue (T.eq x y) → feeds x ≡ feeds y) → AreOwn feeds self.now → AreOwn feeds other.now → (element : T) → is_member T.eq (union_rest T.eq result) element ≡ (contains T.eq feeds self.now element || contains T.eq feeds other.now element) }
         ensures runs { ShowsUnion T.eq }
     {

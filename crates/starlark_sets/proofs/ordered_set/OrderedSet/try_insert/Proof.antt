@@ -11,7 +11,7 @@ use Rattle.starlark_hash.specs.declared.hashed.Hashed.{Hashed}
 use Rattle.starlark_small.specs.Map.{own_hashed}
 use Rattle.starlark_small.proofs.LentInResult.{lone_value}
 use Rattle.starlark_sets.specs.OrderedEnd.{ends_so}
-use Rattle.starlark_sets.specs.OrderedTries.{IsPlaced, IsRefusal, IsTold, IsWithin, Tries}
+use Rattle.starlark_sets.specs.OrderedTries.{AnswersTry, IsPlaced, IsTold, IsWithin, Tries}
 use Rattle.starlark_sets.specs.Set.{Set, element_at}
 use Rattle.starlark_sets.specs.declared.ordered_set.tries.Refusal.{Refusal}
 use Rattle.starlark_sets.specs.declared.ordered_set.tries.TryInsertError.{TryInsertError}
@@ -24,6 +24,7 @@ use Rattle.starlark_sets.specs.contracts.ordered_set.tries.told as s
 use Rattle.starlark_sets.specs.contracts.ordered_set.OrderedSet.try_insert as F
 use Rattle.starlark_sets.specs.contracts.ordered_set.OrderedSet.try_insert.Key.{name as #self}
 use Rattle.starlark_sets.proofs.OrderedTold.{refusal_told, tries_told}
+use Rattle.starlark_sets.proofs.Put.{answers-try}
 use Rattle.starlark_sets.proofs.Shown.{ends_weaker}
 use Rattle.starlark_sets.proofs.ordered_set.tries.Refusal.TheLaws as refusal_laws
 use Rattle.starlark_sets.proofs.ordered_set.tries.TryInsertError.TheLaws as error_laws
@@ -185,7 +186,7 @@ module _ (T : RattleType) (E : Eq.Ghosts T.Denot) (dE : Dict) (P : PartialEq.Gho
           move ! (2 ∷ []) $ use1 𝓛 (‵ (ends_so T' P r (Tries eq m under y))) (ends_weaker 𝓛 R γ (λ n. n ≡ mm) (Tries eq m under y) (λ n is. subst (Tries eq m under y) (sym is) (tries_told eq m mm under g y told tries))) $
           suffices ! _ (ends_at 𝓛 ended stayed spec bound v y (tt, (tt, tt)) (tt, (tt, tt))) $
           nothing ! $ nothing ! $ fjoin ! $ nothing ! $ fjoin ! $ move ! (0 ∷ 2 ∷ []) $ join ! $ move ! (2 ∷ 0 ∷ []) $ join ! $ frame ! $
-          use0 𝓛 (raw (fact 𝓤 (IfErr y (IsRefusal there value)))) (fact_i 𝓤 _ (emp 𝓤) (refusal_told mm.entries there value g y told placed)) $
+          use0 𝓛 (raw (fact 𝓤 (AnswersTry eq under m y))) (fact_i 𝓤 _ (emp 𝓤) (answers-try eq under m mm y (tries_told eq m mm under g y told tries) (refusal_told mm.entries there value g y told placed))) $
           move ! (1 ∷ 0 ∷ []) $ done !)))))))))))))))))))
 
 pub try_insert_spec : {M : Type 1} → statement M

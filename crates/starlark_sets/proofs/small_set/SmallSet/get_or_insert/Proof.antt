@@ -1,10 +1,11 @@
 -- `get_or_insert` meets its contract, at any element type: the set is lent to the call that finds or puts the element and comes back, is then written no more, and shows the element. Assumes `Logic`.
-use Rattle.starlark_columns.proofs.Walking.{◌≡◌, refl, sym, ap, subst, ℕ, ◌<◌, List, [], ◌∷◌, none, length, Ura, full_share, common, Fn, Args, Dict, a_type, dcons, dnil, named, inst_fn, Val, vptr, SProp, ent, sep, emp, wand, id⊢, apply∗, ex_e, snd∗, Lft, GName, Share, ftrue, fdead, flft, Memory, Routine, Env, Calls, Loops, WpFn, Logic, sem, lft_new, lft_end, lft-common, ◌⊑◌, ⊑_trans, meet_⊑_left, meet_⊑_right, Fun, fact, fact_i, tables, FmC, ‵, raw, ◌⊛◌, some, later, ◌$◌, ◌∵◌, !, qed, move, keep, drop, use0, use1, use2, use3, split, split3, join, pick, fsplit, fsplit3, fjoin, suffices, frame, await, rewrite, done, stop, addr, of_opd, and_then, no_more, returns, enter, alloc_all, pass_all, free_all, look_at, get, through, sets, lands_as, env, no, RattleType, owns, usize, follows_so, Is, shows, lends_again, comes_back, LentAgain, param, bounded, layout, Laws, param_laws, of_field, copy_shared, Bor, MutBor, MutRef, ShrRef, mut_vals, mut_Tells, shr_vals, shr_Tells, plain, types_at, mut_ref_to, nothing, heard, only, peeks, shr_ref_field, usize-field, shr_ref_laws, shr_ref_copy, usize-laws, usize-copy, calls_at, Clauses, Ended, Lasts, ensured, lasts, triple_of, Contract, Triple, framed, Stays, stay_dropped, walk_of, ends_at, Goes-spent_ref, Goes-blank, Good, result_laws, proved_at, Result, IfOk, IfErr, ⊤, unwrap_or}
+use Rattle.starlark_columns.proofs.Walking.{◌≡◌, refl, sym, ap, subst, ℕ, ◌<◌, List, [], ◌∷◌, none, length, Ura, full_share, common, Fn, Args, Dict, a_type, dcons, dnil, named, inst_fn, Val, vptr, SProp, ent, sep, emp, wand, id⊢, apply∗, ex_e, snd∗, Lft, GName, Share, ftrue, fdead, flft, Memory, Routine, Env, Calls, Loops, WpFn, Logic, sem, lft_new, lft_end, lft-common, ◌⊑◌, ⊑_trans, meet_⊑_left, meet_⊑_right, Fun, fact, fact_i, tables, FmC, ‵, raw, ◌⊛◌, some, later, ◌$◌, ◌∵◌, !, qed, move, keep, drop, use0, use1, use2, use3, split, split3, join, pick, fsplit, fsplit3, fjoin, suffices, frame, await, rewrite, done, stop, addr, of_opd, and_then, no_more, returns, enter, alloc_all, pass_all, free_all, look_at, get, through, sets, lands_as, env, no, RattleType, owns, usize, follows_so, Is, shows, lends_again, comes_back, LentAgain, param, bounded, layout, Laws, param_laws, of_field, copy_shared, Bor, MutBor, MutRef, ShrRef, mut_vals, mut_Tells, shr_vals, shr_Tells, plain, types_at, mut_ref_to, nothing, heard, only, peeks, shr_ref_field, usize-field, shr_ref_laws, shr_ref_copy, usize-laws, usize-copy, calls_at, Clauses, Ended, Lasts, ensured, lasts, triple_of, Contract, Triple, framed, Stays, stay_dropped, walk_of, ends_at, Goes-spent_ref, Goes-blank, Good, result_laws, proved_at, Result, IfOk, ⊤, unwrap_or}
 use base.Share
 use Rattle.core.specs.contracts.result.Result as RS
 use Rattle.std.specs.declared.cmp.Eq as Eq
 use Rattle.std.specs.declared.cmp.PartialEq as PartialEq
 use Rattle.std.specs.declared.hash.Hash as Hash
+use Rattle.std.specs.Cmp.{IsEquivalence}
 use Rattle.starlark_hash.proofs.no_room.NoRoom.TheLaws as room_laws
 use Rattle.starlark_lists.specs.Entries.{match_of}
 use Rattle.starlark_hash.specs.contracts.no_room.NoRoom as N
@@ -12,7 +13,7 @@ use Rattle.starlark_hash.specs.declared.hashed.Hashed.{Hashed}
 use Rattle.starlark_hash.specs.declared.no_room.NoRoom.{NoRoom}
 use Rattle.starlark_small.specs.Map.{own_hashed}
 use Rattle.starlark_small.proofs.LentInResult.{lone_value}
-use Rattle.starlark_sets.specs.Adding.{PlacesElement}
+use Rattle.starlark_sets.specs.Adding.{PlacesElement, ShowsPut}
 use Rattle.starlark_sets.specs.Set.{Set, Adds, element_at}
 use Rattle.starlark_sets.specs.Lending.{IsShown, ends_so}
 use Rattle.starlark_sets.specs.contracts.small_set.SmallSet as S
@@ -21,6 +22,8 @@ use Rattle.starlark_sets.specs.contracts.small_set.SmallSet.frozen as f
 use Rattle.starlark_sets.specs.contracts.small_set.lend.shown as s
 use Rattle.starlark_sets.specs.contracts.small_set.SmallSet.get_or_insert as F
 use Rattle.starlark_sets.specs.contracts.small_set.SmallSet.get_or_insert.Key.{name as #self}
+use Rattle.starlark_sets.proofs.Callers.{absent-added}
+use Rattle.starlark_sets.proofs.Put.{shows-put}
 use Rattle.starlark_sets.proofs.Shown.{adds_shown, element_shown, refusal_shown, ends_weaker}
 use Rattle.starlark_sets.proofs.small_set.SmallSet.place_or_push_own.Symbol.{name as #put}
 use Rattle.starlark_sets.proofs.small_set.SmallSet.place_or_push_own.Met as put
@@ -93,7 +96,7 @@ module _ (T : RattleType) (E : Eq.Ghosts T.Denot) (dE : Dict) (P : PartialEq.Gho
     abbrev Shows : Contract 𝓤
     Shows = triple_of 𝓛 (s.signature T E dE P dP) (s.spec T E dE P dP 𝓛 at_mem run)
 
-    module _ (L : Laws T) (C : Calls 𝓤 𝓛.H) (Λ : Loops 𝓤 𝓛.H) (fm : FmC 𝓤 𝓛.H 𝓛.laws C)
+    module _ (L : Laws T) (laws : IsEquivalence P.eq) (C : Calls 𝓤 𝓛.H) (Λ : Loops 𝓤 𝓛.H) (fm : FmC 𝓤 𝓛.H 𝓛.laws C)
         (puts : Triple 𝓤 (C (#put args)) Puts) (freezes : Triple 𝓤 (C (#freeze seen_args)) Freezes) (shows_it : Triple 𝓤 (C (#show seen_args)) Shows)
         (κ κT : Lft) (q qT : Share) (bounds : (κ ⊑ κT) × Unit {0}) (r : MutBor (Set T.Denot)) (value : T.Denot)
         (k : Val) (k_good : Good (layout T') k) where
@@ -181,9 +184,8 @@ module _ (T : RattleType) (E : Eq.Ghosts T.Denot) (dE : Dict) (P : PartialEq.Gho
           move ! (2 ∷ []) $ use1 𝓛 (‵ (ends_so T' P r (Adds eq m under y))) (ends_weaker 𝓛 R γ (λ n. n ≡ mm) (Adds eq m under y) (λ n is. subst (Adds eq m under y) (sym is) (adds_shown eq m mm under g y told places.set))) $
           suffices ! _ (ends_at 𝓛 ended stayed spec bound v y (tt, (tt, tt)) (tt, (tt, tt))) $
           nothing ! $ nothing ! $ fjoin ! $ nothing ! $ fjoin ! $ move ! (0 ∷ 2 ∷ []) $ join ! $ move ! (2 ∷ 0 ∷ []) $ join ! $ frame ! $
-          use0 𝓛 (raw (fact 𝓤 (IfErr y (λ n. n.0 ≡ value)))) (fact_i 𝓤 _ (emp 𝓤) (refusal_shown mm.entries g y value told places.handed_back)) $
-          use0 𝓛 (raw (fact 𝓤 (IfOk y (λ n. n.now ≡ there)))) (fact_i 𝓤 _ (emp 𝓤) (element_shown mm.entries g y there told places.element)) $
-          move ! (2 ∷ 0 ∷ 1 ∷ []) $ done !)))))))))))))))))
+          use0 𝓛 (raw (fact 𝓤 (ShowsPut eq under value m y))) (fact_i 𝓤 _ (emp 𝓤) (shows-put eq laws under m value y (element_shown mm.entries g y there told places.element) (absent-added eq m mm under y (adds_shown eq m mm under g y told places.set)) (refusal_shown mm.entries g y value told places.handed_back))) $
+          move ! (1 ∷ 0 ∷ []) $ done !)))))))))))))))))
 
 pub get_or_insert_spec : {M : Type 1} → statement M
 get_or_insert_spec 𝓤 𝓛 𝓜 𝓡 wired T L E dE P dP G dG dD is_eq is_partial is_hash drops =
@@ -196,7 +198,7 @@ get_or_insert_spec 𝓤 𝓛 𝓜 𝓡 wired T L E dE P dP G dG dD is_eq is_part
     let k = lone_value 𝓛 (T' T E dE P dP G dG dD) (param_laws 0 T L) a.1.0 vss.1.0 are.1.0 in
     subst (λ (us : List Val × (List Val × Unit {0})). ent 𝓤 (W.pre ((κs, qs, y.0.2, a, us), y.1)) (WpFn 𝓤 𝓛.H 𝓣.C 𝓣.Λ (here T E dE P dP G dG dD) (W.args ((κs, qs, y.0.2, a, us), y.1)) (W.post ((κs, qs, y.0.2, a, us), y.1))))
     (sym (λ j. (self_is j, (k.1 j, tt))))
-    (walk T E dE P dP G dG dD 𝓛 𝓜.mem 𝓡.returns L 𝓣.C 𝓣.Λ (framed 𝓤 𝓛.H 𝓜 𝓣)
+    (walk T E dE P dP G dG dD 𝓛 𝓜.mem 𝓡.returns L is_eq.laws 𝓣.C 𝓣.Λ (framed 𝓤 𝓛.H 𝓜 𝓣)
     (put.met 𝓤 𝓛 𝓜 𝓡 (code.calls-starlark_sets::small_set::SmallSet::place_or_push_own 𝓡.env wired) T L E dE P dP G dG dD is_eq is_partial is_hash drops)
     (freeze.met 𝓤 𝓛 𝓜 𝓡 (code.calls-starlark_sets::small_set::SmallSet::frozen 𝓡.env wired) T L E dE P dP is_eq is_partial)
     (show.met 𝓤 𝓛 𝓜 𝓡 (code.calls-starlark_sets::small_set::lend::shown 𝓡.env wired) T L E dE P dP is_eq is_partial)

@@ -1,13 +1,14 @@
 use Rattle.std.proofs.Common.{arith, rules}
 use Rattle.std.proofs.lemmas.Grind.{common_steps}
 use Rattle.starlark_lists.specs.Entries.{entry_key}
-use Rattle.starlark_sets.proofs.Lookups.{lacks-key, stays-beyond}
+use Rattle.starlark_sets.proofs.Lookups.{stays-beyond}
 use Rattle.starlark_sets.proofs.small_set.SmallSet.shift_remove_index.Goals as goal
 
 pub returns-in_err-element : goal.returns-in_err-element
 returns-in_err-element g c = record {
   taken = first_of (search rules, grind (arith, common_steps));
-  lacks = search rules;
+  takes = search rules;
+  count = first_of (search rules, grind (arith, common_steps));
   unchanged =
       rw (← c.self.view_is)
       (stays-beyond entry_key c.self.inside.map.entries c.shift_remove_index.new.self.entries c.args.i c.from_residual.result (first_of (search rules, grind (arith, common_steps))) c.shift_remove_index.ensures.removes.entries);
@@ -17,9 +18,8 @@ returns-in_err-element g c = record {
 pub returns : goal.returns
 returns g c = record {
   taken = first_of (search rules, grind (arith, common_steps));
-  lacks =
-      rw (← c.self.view_is)
-      (lacks-key g.T.PartialEq.eq g.met.T.Eq.laws c.self.inside.map c.shift_remove_index.new.self c.args.i c.in_ok-element.element c.iter_hashed-entries.ensures.single (first_of (search rules, grind (arith, common_steps))) c.shift_remove_index.ensures.removes.entries);
+  takes = rw (← c.self.view_is) c.in_ok-element.ensures.takes;
+  count = first_of (search rules, grind (arith, common_steps));
   unchanged = search rules;
   removes = first_of (search rules, grind (arith, common_steps));
 }

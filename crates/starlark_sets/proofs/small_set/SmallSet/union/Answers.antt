@@ -1,9 +1,9 @@
-use Rattle.std.proofs.Common.{◌≡◌, length, ap, ◌∙◌, arith, rules}
+use Rattle.std.proofs.Common.{◌≡◌, length, ap, ◌∙◌, subst, sym, arith, rules}
 use Rattle.std.specs.Set.{is_member}
 use Rattle.std.proofs.iter.runs.Sources.{from_front}
 use Rattle.std.specs.Map.Iter.{deref}
-use Rattle.starlark_sets.specs.Union.{UnionSteps, union_rest}
-use Rattle.starlark_sets.proofs.Differences.{length-union-le}
+use Rattle.starlark_sets.specs.Union.{CountsEither, UnionSteps, union_rest}
+use Rattle.starlark_sets.proofs.Differences.{counts-union, length-union-le}
 use Rattle.starlark_sets.proofs.Members.{members-union}
 use Rattle.starlark_sets.proofs.Unions.{IsSingle-difference, IsSingle-union}
 use Rattle.starlark_sets.proofs.small_set.SmallSet.union.Goals as goal
@@ -17,6 +17,14 @@ pub returns-clause-fits : goal.returns-clause-fits
 returns-clause-fits g c =
     rw (c.new-2.ensures, c.new.ensures, c.entries-first.ensures.entries, c.entries.ensures.entries)
     (omega (arith, length-union-le g.T.PartialEq.eq c.args.self.now.entries c.args.other.now.entries c.args.self.now.entries, c.entries-first.ensures.few, c.entries.ensures.few))
+
+pub returns-clause-count : goal.returns-clause-count
+returns-clause-count g c =
+    let eq = g.T.PartialEq.eq in
+    let es = c.args.self.now.entries in
+    let fs = c.args.other.now.entries in
+    let is : c.new-2.result ≡ record { first = es; second = record { left = fs; other = es } } = search rules in
+    subst (λ u. CountsEither (length es) (length fs) (length (union_rest eq u))) (sym is) (counts-union eq g.met.T.Eq.laws es fs (search rules))
 
 pub returns-clause-runs : goal.returns-clause-runs
 returns-clause-runs g c =
