@@ -18,11 +18,13 @@ use Rattle.starlark_lists.proofs.EntryLemmas.{IsSingle-permutation}
 use Rattle.starlark_lists.proofs.SortingLemmas.{IsPermutation-sorted_by, key_lt-order}
 use Rattle.starlark_sets.specs.Difference.{difference, lacks}
 use Rattle.starlark_sets.specs.Set.{Elements}
-use Rattle.starlark_sets.specs.Union.{union}
+use Rattle.starlark_sets.specs.Union.{CountsEither, union}
 use Rattle.starlark_sets.specs.Unit.{deref_hashed}
+use Rattle.starlark_sets.proofs.Differences.{counts-union}
 use Rattle.starlark_sets.proofs.Unions.{IsSingle-difference, IsSingle-union}
 use Rattle.starlark_sorted.specs.Sorted.{AreOwn}
-use Rattle.starlark_sorted.specs.Union.{OwnNext, RiseSteps, SortedUnion, after, ahead, behind, comes_first, elements_under, is_others, is_passed, rise, rise_rest, shown}
+use Rattle.starlark_sorted.proofs.Along.{along_from}
+use Rattle.starlark_sorted.specs.Union.{GivesRise, OwnNext, RiseSteps, SortedUnion, after, ahead, behind, comes_first, elements_under, is_others, is_passed, rise, rise_rest, shown}
 
 pub vacuous : {X : Type 0} (P : X → Type 0) → All P []
 vacuous P k d inside = absurd (omega (arith, inside))
@@ -183,6 +185,19 @@ module _ {T : Type 0} (eq : T → T → Bool) (cmp : T → T → Ordering) where
         length-append u.left (difference eq u.right u.there),
         length-map (difference eq u.right u.there) entry_key,
       )
+
+module _ {T : Type 0} (eq : T → T → Bool) (cmp : T → T → Ordering) where
+  length-rise : (es fs : Elements T) → length (rise_rest eq cmp (record { left = es; right = fs; there = es })) ≡ length (map entry_key (union eq es fs))
+  length-rise es fs = length-map (rise eq cmp es fs) entry_key ∙ length-sorted_by (key_lt cmp) (union eq es fs) ∙ sym (length-map (union eq es fs) entry_key)
+
+module _ {T : Type 0} (eq : T → T → Bool) {cmp : T → T → Ordering} where
+  -- what a union gives
+  pub gives-rise : IsEquivalence eq → IsTotalOrder cmp → (es fs : Elements T) → IsSingle eq fs → Ascends cmp (rise eq cmp es fs)
+      → GivesRise cmp (length es) (length fs) (rise_rest eq cmp (record { left = es; right = fs; there = es }))
+  gives-rise laws total es fs single up = record {
+    count = subst (CountsEither (length es) (length fs)) (sym (length-rise eq cmp es fs)) (counts-union eq laws es fs single);
+    along = along_from total (rise eq cmp es fs) up;
+  }
 
 -- the element that was taken from a walk, and those that it has left, are what it had
 pub ahead-of : {T : Type 0} (hs ks : List (Hashed T)) (h : Option (Hashed (Bor T))) → TakesFirst deref_hashed hs h ks → ahead h ks ≡ elements_under hs

@@ -1,5 +1,5 @@
 -- What is in either of two lists that ascend, in ascending order.
-use Rattle.std.specs.Prelude.{◌≡◌, Bool, true, false, not, ◌&&◌, List, [], ◌∷◌, ◌++◌, Option, Some, None, if◌then◌else◌, drop, map}
+use Rattle.std.specs.Prelude.{◌≡◌, ℕ, Bool, true, false, not, ◌&&◌, List, [], ◌∷◌, ◌++◌, Option, Some, None, if◌then◌else◌, drop, length, map}
 use Rattle.std.specs.Borrow.{Bor}
 use Rattle.std.specs.Iterator.{YieldsFirstRef}
 use Rattle.std.specs.Iterator.Runs.{EveryRun, ItemsMapTo}
@@ -10,8 +10,9 @@ use Rattle.starlark_lists.specs.Entries.{Entry, entry_key}
 use Rattle.starlark_lists.specs.Sorting.{Ascends, key_lt, sorted_by_key}
 use Rattle.starlark_sets.specs.Difference.{difference, lacks}
 use Rattle.starlark_sets.specs.Set.{Elements}
-use Rattle.starlark_sets.specs.Union.{union}
+use Rattle.starlark_sets.specs.Union.{CountsEither, union}
 use Rattle.starlark_sets.specs.Unit.{deref_hashed}
+use Rattle.starlark_sorted.specs.Sorted.{AscendsAlong}
 
 -- what is left of either list, and the first list, in which the second's elements are looked for
 pub record SortedUnion (T : Type 0) : Type 0 where
@@ -41,6 +42,11 @@ module _ {T : Type 0} where
   abbrev pub Follows : Option (Hashed (Bor T)) → Elements T → Elements T → Type 0
   Follows None es there = there ≡ es
   Follows (Some h) es there = (ds : Elements T) × (there ≡ ds ++ shown h ∷ es)
+
+-- a union of lists of these lengths gives these items: as many as are in either, and along them none is greater than one after it
+pub record GivesRise {T : Type 0} (cmp : T → T → Ordering) (first second : ℕ) (items : List T) : Type 0 where
+  pub count : CountsEither first second (length items)
+  pub along : AscendsAlong cmp items
 
 -- the list from the first item on that does not pass
 abbrev pub behind : {X : Type 0} → (X → Bool) → List X → List X

@@ -4,7 +4,7 @@ ghost use Rattle.std.specs.Map.Iter.{deref};
 ghost use Rattle.starlark_lists.specs.Entries.{IsSingle, entry_key};
 ghost use Rattle.starlark_lists.specs.Sorting.{Ascends};
 ghost use Rattle.starlark_sorted.specs.Sorted.{AreOwn, AscendsAlong, AscendsStrictly};
-ghost use Rattle.starlark_sorted.specs.Union.{ShowsRise, rise, rise_rest};
+ghost use Rattle.starlark_sorted.specs.Union.{GivesRise, ShowsRise, rise, rise_rest};
 ghost use Rattle.starlark_small.specs.Walks.{GivesEach, ShowsEach};
 
 use super::SortedSet;
@@ -37,6 +37,7 @@ impl<T: Ord + Hash> SortedSet<T> {
         ensures ascends { Ascends T.cmp (rise T.eq T.cmp self.now.entries other.now.entries) }
         ensures strictly { AreOwn T.hash_input self.now.entries → AreOwn T.hash_input other.now.entries → AscendsStrictly T.cmp (rise T.eq T.cmp self.now.entries other.now.entries) }
         ensures fits { length (rise_rest T.eq T.cmp result) < 2 ^ 64 }
+        ensures gives { GivesRise T.cmp (length self.now.entries) (length other.now.entries) (rise_rest T.eq T.cmp result) }
         ensures runs { ShowsRise T.eq T.cmp }
     {
         SortedUnion::new(self.ahead(), other.ahead(), &self.inner)

@@ -1,11 +1,11 @@
-use Rattle.std.proofs.Common.{length, ap, refl, rules, arith}
+use Rattle.std.proofs.Common.{◌≡◌, length, ap, refl, subst, sym, rules, arith}
 use Rattle.std.proofs.iter.runs.Sources.{from_front}
 use Rattle.std.specs.Map.Iter.{deref}
 use Rattle.starlark_sets.proofs.Differences.{length-difference-le}
 use Rattle.starlark_sets.specs.Union.{union}
-use Rattle.starlark_sorted.specs.Union.{RiseSteps, rise, rise_rest}
+use Rattle.starlark_sorted.specs.Union.{GivesRise, RiseSteps, rise, rise_rest}
 use Rattle.starlark_sorted.proofs.Ascending.{Ascends-strictly, sorted_ascends}
-use Rattle.starlark_sorted.proofs.Rising.{length-rest, rise-own, rise-single}
+use Rattle.starlark_sorted.proofs.Rising.{gives-rise, length-rest, rise-own, rise-single}
 use Rattle.starlark_sorted.proofs.sorted_set.SortedSet.union.Goals as goal
 
 pub returns-clause-single : goal.returns-clause-single
@@ -37,6 +37,14 @@ returns-clause-fits g c =
       c.ahead.ensures.few,
       c.ahead-2.ensures.few,
     ))
+
+pub returns-clause-gives : goal.returns-clause-gives
+returns-clause-gives g c =
+    let eq = g.T.PartialEq.eq in let cmp = g.T.Ord.cmp in
+    let es = c.args.self.now.entries in let fs = c.args.other.now.entries in
+    let is : c.new.result ≡ record { left = es; right = fs; there = es } = search rules in
+    subst (λ u. GivesRise cmp (length es) (length fs) (rise_rest eq cmp u)) (sym is)
+    (gives-rise eq g.met.T.Eq.laws g.met.T.Ord.total es fs (search rules) (returns-clause-ascends g c))
 
 pub returns-clause-runs : goal.returns-clause-runs
 returns-clause-runs g c =
