@@ -8,6 +8,7 @@ ghost use Rattle.starlark_lists.specs.Entries.{entry_key};
 ghost use Rattle.starlark_small.specs.Calling.{contains, contains_text, keys, AreOwn};
 
 pub mod emptied;
+pub mod kept;
 pub mod lent;
 pub mod rearranged;
 
@@ -128,9 +129,11 @@ pub fn shared(set: &OrderedSet<u32>, other: &OrderedSet<u32>) -> usize
     set.iter().filter(|n| other.contains(*n)).count()
 }
 
-/// How many elements either set has, which are no fewer than the first has.
+/// How many elements either set has: no fewer than each has, and no more than both have together.
 pub fn in_either(set: &OrderedSet<u32>, other: &OrderedSet<u32>) -> usize
-    ensures { length set.now.entries ≤ result }
+    ensures first { length set.now.entries ≤ result }
+    ensures second { length other.now.entries ≤ result }
+    ensures most { result ≤ length set.now.entries + length other.now.entries }
 {
     set.union(other).count()
 }

@@ -3,6 +3,7 @@ pub mod any;
 pub mod collected;
 pub mod emptied;
 pub mod joined;
+pub mod kept;
 pub mod lent;
 pub mod numbers;
 pub mod rearranged;

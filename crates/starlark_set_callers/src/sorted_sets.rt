@@ -10,6 +10,7 @@ ghost use Rattle.starlark_lists.specs.Entries.{entry_key};
 ghost use Rattle.starlark_small.specs.Calling.{contains, contains_text, keys, AreOwn};
 ghost use Rattle.starlark_small.specs.Clone.{IsEqualClone};
 
+pub mod joined;
 pub mod read;
 
 use starlark_hash::TextKey;

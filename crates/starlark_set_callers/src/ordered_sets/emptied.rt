@@ -103,16 +103,20 @@ pub fn try_name(set: &mut OrderedSet<String>, name: String) -> Option<String>
     }
 }
 
-/// How many elements either set has, which are no fewer than the first has.
+/// How many elements either set has: no fewer than each has, and no more than both have together.
 pub fn in_either_any<T: Eq + Hash>(set: &OrderedSet<T>, other: &OrderedSet<T>) -> usize
-    ensures { length set.now.entries ≤ result }
+    ensures first { length set.now.entries ≤ result }
+    ensures second { length other.now.entries ≤ result }
+    ensures most { result ≤ length set.now.entries + length other.now.entries }
 {
     set.union(other).count()
 }
 
-/// How many names either set has, which are no fewer than the first has.
+/// How many names either set has: no fewer than each has, and no more than both have together.
 pub fn in_either_named(set: &OrderedSet<String>, other: &OrderedSet<String>) -> usize
-    ensures { length set.now.entries ≤ result }
+    ensures first { length set.now.entries ≤ result }
+    ensures second { length other.now.entries ≤ result }
+    ensures most { result ≤ length set.now.entries + length other.now.entries }
 {
     set.union(other).count()
 }

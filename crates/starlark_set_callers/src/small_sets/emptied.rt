@@ -1,7 +1,7 @@
 //! Small sets whose elements are counted, and taken out by their places.
 ghost use Rattle.std.specs.Hash as fed;
 ghost use Rattle.std.specs.Option.{option_map};
-ghost use Rattle.std.specs.Prelude.{◌≡◌, ◌+◌, ◌-◌, ℕ, length, nat_eq, false, IfOk, IfSome, is_some, if◌then◌else◌, slice_get};
+ghost use Rattle.std.specs.Prelude.{◌≡◌, ◌+◌, ◌-◌, ℕ, length, nat_eq, false, true, IfOk, IfSome, OnOk, is_some, if◌then◌else◌, slice_get};
 ghost use Rattle.std.specs.String.{string_bytes, string_eq};
 ghost use Rattle.std.specs.declared.alloc.Global.{Global};
 ghost use Rattle.std.specs.declared.string.String.{String};
@@ -15,7 +15,9 @@ use std::hash::Hash;
 /// Takes the last element out.
 pub fn take_last_any<T: Eq + Hash + Drop>(set: &mut SmallSet<T>) -> Option<T>
     ensures was { result ≡ option_map entry_key (slice_get set.old.entries (length set.old.entries - 1)) }
+    ensures there { AreOwn T.hash_input set.old → IfSome result (λ n. contains T.eq T.hash_input set.old n ≡ true) }
     ensures gone { AreOwn T.hash_input set.old → IfSome result (λ n. contains T.eq T.hash_input set.new n ≡ false) }
+    ensures own { AreOwn T.hash_input set.old → AreOwn T.hash_input set.new }
     ensures others { IfSome result (λ n. (other : T) → T.eq n other ≡ false → contains T.eq T.hash_input set.new other ≡ contains T.eq T.hash_input set.old other) }
     ensures count { length set.old.entries ≡ length set.new.entries + (if is_some result then 1 else 0) }
 {
@@ -25,9 +27,11 @@ pub fn take_last_any<T: Eq + Hash + Drop>(set: &mut SmallSet<T>) -> Option<T>
 /// Takes the element at a place out.
 pub fn take_at_any<T: Eq + Hash + Drop>(set: &mut SmallSet<T>, place: usize) -> Option<T>
     ensures was { result ≡ option_map entry_key (slice_get set.old.entries place) }
+    ensures there { AreOwn T.hash_input set.old → IfSome result (λ n. contains T.eq T.hash_input set.old n ≡ true) }
     ensures gone { AreOwn T.hash_input set.old → IfSome result (λ n. contains T.eq T.hash_input set.new n ≡ false) }
+    ensures own { AreOwn T.hash_input set.old → AreOwn T.hash_input set.new }
     ensures others { IfSome result (λ n. (other : T) → T.eq n other ≡ false → contains T.eq T.hash_input set.new other ≡ contains T.eq T.hash_input set.old other) }
-    ensures count { IfSome result (λ _. length set.old.entries ≡ length set.new.entries + 1) }
+    ensures count { length set.old.entries ≡ length set.new.entries + (if is_some result then 1 else 0) }
 {
     set.shift_remove_index(place)
 }
@@ -35,7 +39,9 @@ pub fn take_at_any<T: Eq + Hash + Drop>(set: &mut SmallSet<T>, place: usize) -> 
 /// Takes the last element out.
 pub fn take_last_named(set: &mut SmallSet<String>) -> Option<String>
     ensures was { result ≡ option_map entry_key (slice_get set.old.entries (length set.old.entries - 1)) }
+    ensures there { AreOwn (λ s. fed.str (string_bytes s)) set.old → IfSome result (λ n. contains string_eq (λ s. fed.str (string_bytes s)) set.old n ≡ true) }
     ensures gone { AreOwn (λ s. fed.str (string_bytes s)) set.old → IfSome result (λ n. contains string_eq (λ s. fed.str (string_bytes s)) set.new n ≡ false) }
+    ensures own { AreOwn (λ s. fed.str (string_bytes s)) set.old → AreOwn (λ s. fed.str (string_bytes s)) set.new }
     ensures others { IfSome result (λ n. (other : String Global) → string_eq n other ≡ false → contains string_eq (λ s. fed.str (string_bytes s)) set.new other ≡ contains string_eq (λ s. fed.str (string_bytes s)) set.old other) }
     ensures count { length set.old.entries ≡ length set.new.entries + (if is_some result then 1 else 0) }
 {
@@ -45,9 +51,11 @@ pub fn take_last_named(set: &mut SmallSet<String>) -> Option<String>
 /// Takes the element at a place out.
 pub fn take_at_named(set: &mut SmallSet<String>, place: usize) -> Option<String>
     ensures was { result ≡ option_map entry_key (slice_get set.old.entries place) }
+    ensures there { AreOwn (λ s. fed.str (string_bytes s)) set.old → IfSome result (λ n. contains string_eq (λ s. fed.str (string_bytes s)) set.old n ≡ true) }
     ensures gone { AreOwn (λ s. fed.str (string_bytes s)) set.old → IfSome result (λ n. contains string_eq (λ s. fed.str (string_bytes s)) set.new n ≡ false) }
+    ensures own { AreOwn (λ s. fed.str (string_bytes s)) set.old → AreOwn (λ s. fed.str (string_bytes s)) set.new }
     ensures others { IfSome result (λ n. (other : String Global) → string_eq n other ≡ false → contains string_eq (λ s. fed.str (string_bytes s)) set.new other ≡ contains string_eq (λ s. fed.str (string_bytes s)) set.old other) }
-    ensures count { IfSome result (λ _. length set.old.entries ≡ length set.new.entries + 1) }
+    ensures count { length set.old.entries ≡ length set.new.entries + (if is_some result then 1 else 0) }
 {
     set.shift_remove_index(place)
 }
@@ -55,7 +63,9 @@ pub fn take_at_named(set: &mut SmallSet<String>, place: usize) -> Option<String>
 /// Takes the last element out.
 pub fn take_last(set: &mut SmallSet<u32>) -> Option<u32>
     ensures was { result ≡ option_map entry_key (slice_get set.old.entries (length set.old.entries - 1)) }
+    ensures there { AreOwn fed.u32 set.old → IfSome result (λ n. contains nat_eq fed.u32 set.old n ≡ true) }
     ensures gone { AreOwn fed.u32 set.old → IfSome result (λ n. contains nat_eq fed.u32 set.new n ≡ false) }
+    ensures own { AreOwn fed.u32 set.old → AreOwn fed.u32 set.new }
     ensures others { IfSome result (λ n. (other : ℕ) → nat_eq n other ≡ false → contains nat_eq fed.u32 set.new other ≡ contains nat_eq fed.u32 set.old other) }
     ensures count { length set.old.entries ≡ length set.new.entries + (if is_some result then 1 else 0) }
 {
@@ -65,9 +75,11 @@ pub fn take_last(set: &mut SmallSet<u32>) -> Option<u32>
 /// Takes the element at a place out.
 pub fn take_at(set: &mut SmallSet<u32>, place: usize) -> Option<u32>
     ensures was { result ≡ option_map entry_key (slice_get set.old.entries place) }
+    ensures there { AreOwn fed.u32 set.old → IfSome result (λ n. contains nat_eq fed.u32 set.old n ≡ true) }
     ensures gone { AreOwn fed.u32 set.old → IfSome result (λ n. contains nat_eq fed.u32 set.new n ≡ false) }
+    ensures own { AreOwn fed.u32 set.old → AreOwn fed.u32 set.new }
     ensures others { IfSome result (λ n. (other : ℕ) → nat_eq n other ≡ false → contains nat_eq fed.u32 set.new other ≡ contains nat_eq fed.u32 set.old other) }
-    ensures count { IfSome result (λ _. length set.old.entries ≡ length set.new.entries + 1) }
+    ensures count { length set.old.entries ≡ length set.new.entries + (if is_some result then 1 else 0) }
 {
     set.shift_remove_index(place)
 }
@@ -97,4 +109,21 @@ pub fn add_and_count(set: &mut SmallSet<u32>, n: u32) -> Result<usize, NoRoom<u3
 {
     set.insert(n)?;
     Ok(set.len())
+}
+
+/// Takes the last element out, looks for it, and puts it in again: as many are there as before.
+pub fn move_last(set: &mut SmallSet<u32>) -> Result<bool, NoRoom<u32>>
+    requires { AreOwn fed.u32 set.old }
+    ensures looked { IfOk result (λ is. is ≡ false) }
+    ensures count { OnOk result (length set.new.entries ≡ length set.old.entries) }
+    ensures own { AreOwn fed.u32 set.new }
+{
+    match set.pop() {
+        Some(last) => {
+            let is_there = set.contains(&last);
+            set.insert(last)?;
+            Ok(is_there)
+        }
+        None => Ok(false),
+    }
 }

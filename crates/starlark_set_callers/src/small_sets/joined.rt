@@ -1,7 +1,7 @@
 //! Small sets of names and numbers that are filtered, extended, joined and copied.
 ghost use Rattle.std.specs.Hash as fed;
 ghost use Rattle.std.specs.Option.{unwrap_or};
-ghost use Rattle.std.specs.Prelude.{◌≡◌, ◌||◌, ◌&&◌, ℕ, nat_eq, not, filter, IfOk, IfErr, OnOk};
+ghost use Rattle.std.specs.Prelude.{◌≡◌, ◌||◌, ◌&&◌, ℕ, nat_eq, false, true, not, filter, IfOk, IfErr, OnErr, OnOk};
 ghost use Rattle.std.specs.Set.{is_member};
 ghost use Rattle.std.specs.Str.{bytes_eq};
 ghost use Rattle.std.specs.String.{string_bytes, string_eq};
@@ -61,6 +61,8 @@ pub fn either_name<'a>(set: &'a SmallSet<String>, other: &'a SmallSet<String>) -
 /// The name that is there, or else this one.
 pub fn stored_name(set: &mut SmallSet<String>, name: String) -> Result<&String, NoRoom<String>>
     ensures shown { IfOk result (λ there. there.now ≡ unwrap_or (element_at set.old (match_of string_eq set.old.entries (own_hashed (λ s. fed.str (string_bytes s)) name))) name) }
+    ensures equal { IfOk result (λ there. string_eq name there.now ≡ true) }
+    ensures absent { OnErr result (contains string_eq (λ s. fed.str (string_bytes s)) set.old name ≡ false) }
     ensures handed_back { IfErr result (λ refused. refused.0 ≡ name) }
 {
     set.get_or_insert(name)

@@ -1,7 +1,7 @@
 //! Walks of small sets that are counted, collected or added up, and the first element.
 ghost use Rattle.std.specs.Hash as fed;
 ghost use Rattle.std.specs.Option.{option_map};
-ghost use Rattle.std.specs.Prelude.{◌≡◌, ◌≤◌, ◌<◌, ◌^◌, count_by, drop, length, map, nat_eq, slice_get, sum, false, true, IfOk, IfSome};
+ghost use Rattle.std.specs.Prelude.{◌≡◌, ◌+◌, ◌≤◌, ◌<◌, ◌^◌, count_by, drop, length, map, nat_eq, slice_get, sum, false, true, IfOk, IfSome};
 ghost use Rattle.starlark_lists.specs.Entries.{entry_key};
 ghost use Rattle.starlark_small.specs.Calling.{contains, keys, AreOwn};
 
@@ -17,9 +17,11 @@ pub fn shared(set: &SmallSet<u32>, other: &SmallSet<u32>) -> usize
     set.iter().filter(|n| other.contains(*n)).count()
 }
 
-/// How many elements either set has, which are no fewer than the first has.
+/// How many elements either set has: no fewer than each has, and no more than both have together.
 pub fn in_either(set: &SmallSet<u32>, other: &SmallSet<u32>) -> usize
-    ensures { length set.now.entries ≤ result }
+    ensures first { length set.now.entries ≤ result }
+    ensures second { length other.now.entries ≤ result }
+    ensures most { result ≤ length set.now.entries + length other.now.entries }
 {
     set.union(other).count()
 }
