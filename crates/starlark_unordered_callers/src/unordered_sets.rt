@@ -1,5 +1,5 @@
 //! Callers of `UnorderedSet`.
-ghost use Rattle.std.specs.Prelude.{◌≡◌, ℕ, ◌+◌, ◌≤◌, ◌<◌, [], nat_eq, false, true, is_some, length, not, IfErr, IfOk, IfSome, IsOk, OnOk, OnErr, if◌then◌else◌};
+ghost use Rattle.std.specs.Prelude.{◌≡◌, ℕ, ◌+◌, ◌≤◌, ◌<◌, [], nat_eq, false, true, is_some, length, not, IfErr, IfOk, IfSome, IsOk, IsTrue, OnOk, OnErr, if◌then◌else◌, ◌↔◌};
 ghost use Rattle.std.specs.Set.{is_member};
 ghost use Rattle.std.specs.String.{string_eq};
 ghost use Rattle.std.specs.declared.alloc.Global.{Global};
@@ -232,7 +232,7 @@ pub fn first_free(set: &UnorderedSet<u32>, bound: u32) -> Option<u32>
 
 /// Whether a set is empty: if so, it has nothing.
 pub fn is_empty<T: Eq + Hash>(set: &UnorderedSet<T>) -> bool
-    ensures { result ≡ true → pairs_of set.now ≡ [] }
+    ensures { IsTrue result ↔ (pairs_of set.now ≡ []) }
 {
     set.is_empty()
 }
@@ -249,7 +249,8 @@ pub fn roomy<T: Eq + Hash>(alloc: Global, capacity: usize) -> Result<UnorderedSe
 /// Puts a number in where there is room.
 pub fn add_fitting(set: &mut UnorderedSet<u32>, n: u32) -> Result<(), NoRoom<u32>>
     requires { 0 < set.old.room }
-    ensures { IsOk result }
+    ensures succeeds { IsOk result }
+    ensures here { contains nat_eq set.new n ≡ true }
 {
     set.insert(n)?;
     Ok(())
@@ -258,7 +259,8 @@ pub fn add_fitting(set: &mut UnorderedSet<u32>, n: u32) -> Result<(), NoRoom<u32
 /// Takes every element out, which leaves the room for one.
 pub fn refill(set: &mut UnorderedSet<u32>, n: u32) -> bool
     requires { 0 < set.old.room }
-    ensures { result ≡ true }
+    ensures succeeds { result ≡ true }
+    ensures here { contains nat_eq set.new n ≡ true }
 {
     set.clear();
     set.insert(n).is_ok()

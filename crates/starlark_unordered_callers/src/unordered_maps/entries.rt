@@ -1,10 +1,10 @@
 //! Through entries.
-ghost use Rattle.std.specs.Option.{unwrap_or};
-ghost use Rattle.std.specs.Prelude.{◌≡◌, ℕ, ◌+◌, ◌-◌, ◌^◌, min, nat_eq, false, None, Some, IfOk, IfSome, OnOk, OnErr};
+ghost use Rattle.std.specs.Option.{option_map, unwrap_or};
+ghost use Rattle.std.specs.Prelude.{◌≡◌, ℕ, ◌+◌, ◌-◌, ◌^◌, min, if◌then◌else◌, nat_eq, false, None, Some, IfOk, IfSome, OnOk, OnErr};
 ghost use Rattle.std.specs.String.{string_eq};
 ghost use Rattle.std.specs.declared.alloc.Global.{Global};
 ghost use Rattle.std.specs.declared.string.String.{String};
-ghost use Rattle.starlark_unordered.specs.Calling.{get};
+ghost use Rattle.starlark_unordered.specs.Calling.{contains, get};
 
 use starlark_hash::NoRoom;
 use starlark_unordered::UnorderedMap;
@@ -13,6 +13,7 @@ use std::hash::Hash;
 
 /// Writes the value at a key that is there.
 pub fn put_if_there(map: &mut UnorderedMap<u32, u64>, key: u32, value: u64)
+    ensures here { get nat_eq map.new key ≡ option_map (λ _. value) (get nat_eq map.old key) }
     ensures others { (other : ℕ) → nat_eq key other ≡ false → get nat_eq map.new other ≡ get nat_eq map.old other }
 {
     match map.entry(key) {
@@ -83,7 +84,8 @@ pub fn count_named(
 
 /// Lets a vacant entry's key come back: the map stays.
 pub fn key_back<K: Eq + Hash + Drop, V: Drop>(map: &mut UnorderedMap<K, V>, key: K) -> Option<K>
-    ensures { map.new ≡ map.old }
+    ensures stays { map.new ≡ map.old }
+    ensures back { result ≡ (if contains K.eq map.old key then None else Some key) }
 {
     match map.entry(key) {
         Entry::Occupied(_entry) => None,
@@ -93,7 +95,8 @@ pub fn key_back<K: Eq + Hash + Drop, V: Drop>(map: &mut UnorderedMap<K, V>, key:
 
 /// Lets an entry go where it stands: the map stays.
 pub fn has_number(map: &mut UnorderedMap<u32, u64>, key: u32) -> bool
-    ensures { map.new ≡ map.old }
+    ensures stays { map.new ≡ map.old }
+    ensures has { result ≡ contains nat_eq map.old key }
 {
     match map.entry(key) {
         Entry::Occupied(_entry) => true,
@@ -109,6 +112,7 @@ pub fn write_if_there<K: Eq + Hash + Drop, V: Drop>(
 ) -> Option<(K, V)>
     ensures others { (other : K) → K.eq key other ≡ false → get K.eq map.new other ≡ get K.eq map.old other }
     ensures lacks { IfSome result (λ _. map.new ≡ map.old) }
+    ensures back { result ≡ (if contains K.eq map.old key then None else Some (key, value)) }
 {
     match map.entry(key) {
         Entry::Occupied(mut entry) => {

@@ -1,6 +1,6 @@
 //! Unordered maps that become others, and how much room they have.
 ghost use Rattle.std.specs.Option.{option_map};
-ghost use Rattle.std.specs.Prelude.{◌≡◌, ℕ, ◌*◌, ◌<◌, [], length, nat_eq, true, IfErr, IfOk, IsOk, IsPermutation};
+ghost use Rattle.std.specs.Prelude.{◌≡◌, ℕ, ◌*◌, ◌<◌, [], length, nat_eq, Some, IfErr, IfOk, IsOk, IsTrue, IsPermutation, ◌↔◌};
 ghost use Rattle.std.specs.String.{string_eq};
 ghost use Rattle.std.specs.declared.alloc.Global.{Global};
 ghost use Rattle.std.specs.declared.string.String.{String};
@@ -62,7 +62,7 @@ pub fn doubled_any<K: Eq + Hash + Drop>(
 
 /// Whether a map is empty: if so, it has no pair.
 pub fn is_empty<K: Eq + Hash, V>(map: &UnorderedMap<K, V>) -> bool
-    ensures { result ≡ true → pairs_of map.now ≡ [] }
+    ensures { IsTrue result ↔ (pairs_of map.now ≡ []) }
 {
     map.is_empty()
 }
@@ -74,7 +74,8 @@ pub fn put_fitting<K: Eq + Hash + Drop, V: Drop>(
     value: V,
 ) -> Result<(), NoRoom<(K, V)>>
     requires { 0 < map.old.room }
-    ensures { IsOk result }
+    ensures succeeds { IsOk result }
+    ensures here { get K.eq map.new key ≡ Some value }
 {
     map.insert(key, value)?;
     Ok(())

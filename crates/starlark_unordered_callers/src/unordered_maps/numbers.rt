@@ -52,14 +52,16 @@ pub fn value_or(map: &UnorderedMap<u32, u64>, key: u32, default: u64) -> u64
 /// The value at a key, or 0, which no bound on all values is below.
 pub fn value_within(map: &UnorderedMap<u32, u64>, key: u32, most: u64) -> u64
     requires { All (λ value. value ≤ most) (values_of (pairs_of map.now)) }
-    ensures { result ≤ most }
+    ensures value { result ≡ unwrap_or (get nat_eq map.now key) 0 }
+    ensures within { result ≤ most }
 {
     map.get(&key).copied().unwrap_or(0)
 }
 
 /// The value at a key, or 0, which is no more than all together.
 pub fn part_of_total(map: &UnorderedMap<u32, u64>, key: u32) -> u64
-    ensures { result ≤ sum (values_of (pairs_of map.now)) }
+    ensures value { result ≡ unwrap_or (get nat_eq map.now key) 0 }
+    ensures part { result ≤ sum (values_of (pairs_of map.now)) }
 {
     map.get(&key).copied().unwrap_or(0)
 }
@@ -135,7 +137,8 @@ pub fn put_and_at(
     key: u32,
     value: u64,
 ) -> Result<u64, NoRoom<(u32, u64)>>
-    ensures { IfOk result (λ there. there ≡ value) }
+    ensures there { IfOk result (λ there. there ≡ value) }
+    ensures here { OnOk result (get nat_eq map.new key ≡ Some value) }
 {
     map.insert(key, value)?;
     Ok(map[&key])

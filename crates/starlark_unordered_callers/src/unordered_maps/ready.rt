@@ -1,6 +1,6 @@
 //! Unordered maps that are looked up under ready hashes.
 ghost use Rattle.std.specs.Option.{unwrap_or};
-ghost use Rattle.std.specs.Prelude.{◌≡◌, nat_eq, true, None, Some, IfOk, IfSome};
+ghost use Rattle.std.specs.Prelude.{◌≡◌, nat_eq, true, None, Some, IfOk, IfSome, OnOk};
 ghost use Rattle.std.specs.String.{string_eq};
 ghost use Rattle.starlark_hash.specs.HashValue.{hash_of, key_of};
 ghost use Rattle.starlark_hash.specs.Hasher.{own_hash};
@@ -107,7 +107,8 @@ pub fn put_and_look(
     key: u32,
     value: u64,
 ) -> Result<Option<u64>, NoRoom<(u32, u64)>>
-    ensures { IfOk result (λ found. found ≡ Some value) }
+    ensures found { IfOk result (λ found. found ≡ Some value) }
+    ensures here { OnOk result (get nat_eq map.new key ≡ Some value) }
 {
     map.insert(key, value)?;
     Ok(map.get_hashed(Hashed::new(&key)).copied())
@@ -119,7 +120,8 @@ pub fn put_and_has<K: Eq + Hash + Copy + Drop, V: Drop>(
     key: K,
     value: V,
 ) -> Result<bool, NoRoom<(K, V)>>
-    ensures { IfOk result (λ found. found ≡ true) }
+    ensures found { IfOk result (λ found. found ≡ true) }
+    ensures here { OnOk result (get K.eq map.new key ≡ Some value) }
 {
     map.insert(key, value)?;
     Ok(map.contains_key_hashed(Hashed::new(&key)))

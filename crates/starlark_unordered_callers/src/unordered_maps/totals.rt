@@ -1,7 +1,7 @@
 //! What the values of an unordered map add up to, after changes and along walks.
 ghost use Rattle.std.specs.Map.{values_of};
 ghost use Rattle.std.specs.Option.{unwrap_or};
-ghost use Rattle.std.specs.Prelude.{◌≡◌, ◌+◌, ◌<◌, ◌^◌, nat_eq, sum, None, Some, IfOk, IfSome, OnOk};
+ghost use Rattle.std.specs.Prelude.{◌≡◌, ◌+◌, ◌<◌, ◌≤◌, ◌^◌, nat_eq, sum, None, Some, IfOk, IfSome, IsNone, OnOk};
 ghost use Rattle.std.specs.String.{string_eq};
 ghost use Rattle.starlark_unordered.specs.Calling.{get};
 ghost use Rattle.starlark_unordered.specs.Pairs.{pairs_of};
@@ -63,21 +63,24 @@ pub fn set_any<K: Eq + Hash + Drop>(
 
 /// Takes a number out: its value is taken from all together.
 pub fn refunded(sums: &mut UnorderedMap<u32, u64>, key: u32) -> Option<u64>
-    ensures { sum (values_of (pairs_of sums.old)) ≡ sum (values_of (pairs_of sums.new)) + unwrap_or result 0 }
+    ensures was { result ≡ get nat_eq sums.old key }
+    ensures total { sum (values_of (pairs_of sums.old)) ≡ sum (values_of (pairs_of sums.new)) + unwrap_or result 0 }
 {
     sums.remove(&key)
 }
 
 /// The same of a string.
 pub fn refunded_named(sums: &mut UnorderedMap<String, u64>, name: &String) -> Option<u64>
-    ensures { sum (values_of (pairs_of sums.old)) ≡ sum (values_of (pairs_of sums.new)) + unwrap_or result 0 }
+    ensures was { result ≡ get string_eq sums.old name.now }
+    ensures total { sum (values_of (pairs_of sums.old)) ≡ sum (values_of (pairs_of sums.new)) + unwrap_or result 0 }
 {
     sums.remove(name)
 }
 
 /// The same of a key of any type.
 pub fn refunded_any<K: Eq + Hash + Drop>(sums: &mut UnorderedMap<K, u64>, key: &K) -> Option<u64>
-    ensures { sum (values_of (pairs_of sums.old)) ≡ sum (values_of (pairs_of sums.new)) + unwrap_or result 0 }
+    ensures was { result ≡ get K.eq sums.old key.now }
+    ensures total { sum (values_of (pairs_of sums.old)) ≡ sum (values_of (pairs_of sums.new)) + unwrap_or result 0 }
 {
     sums.remove(key)
 }
@@ -171,7 +174,8 @@ pub fn counted_by_entry_any<K: Eq + Hash + Drop>(
 
 /// The sum of the values, or none where it fits no `u64`.
 pub fn checked_total(map: &UnorderedMap<u32, u64>) -> Option<u64>
-    ensures { IfSome result (λ total. total ≡ sum (values_of (pairs_of map.now))) }
+    ensures total { IfSome result (λ total. total ≡ sum (values_of (pairs_of map.now))) }
+    ensures beyond { IsNone result → 2 ^ 64 ≤ sum (values_of (pairs_of map.now)) }
 {
     map.values_unordered()
         .try_fold(0u64, |total, value| total.checked_add(*value))

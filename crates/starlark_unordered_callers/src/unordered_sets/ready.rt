@@ -1,5 +1,5 @@
 //! Unordered sets that are looked into under ready hashes.
-ghost use Rattle.std.specs.Prelude.{◌≡◌, nat_eq, true, IfOk};
+ghost use Rattle.std.specs.Prelude.{◌≡◌, nat_eq, true, IfOk, OnOk};
 ghost use Rattle.std.specs.String.{string_eq};
 ghost use Rattle.starlark_hash.specs.HashValue.{key_of};
 ghost use Rattle.starlark_unordered.specs.Calling.{contains};
@@ -39,7 +39,8 @@ pub fn has_under<T: Eq + Hash>(set: &UnorderedSet<T>, element: Hashed<&T>) -> bo
 
 /// Puts a number in, and looks under a ready hash.
 pub fn add_and_look(set: &mut UnorderedSet<u32>, n: u32) -> Result<bool, NoRoom<u32>>
-    ensures { IfOk result (λ found. found ≡ true) }
+    ensures found { IfOk result (λ found. found ≡ true) }
+    ensures here { OnOk result (contains nat_eq set.new n ≡ true) }
 {
     let hashed = Hashed::new(n);
     set.insert(n)?;
