@@ -1,6 +1,8 @@
 //! What the ordinary adaptors answer over a walk: `count`, `filter`, `map`, `collect` and `for`.
+ghost use Rattle.std.specs.Iterator.{IsFinite, size};
+ghost use Rattle.std.specs.Prelude.{◌<◌, ◌^◌};
 
-use std::alloc::AllocError;
+use std::alloc::{AllocError, Global};
 use std::process::Abort;
 
 /// What is walked: three keys in the order in which they are inserted, each with ten times itself.
@@ -52,22 +54,64 @@ pub(crate) fn are_of_any_order(mut answers: Answers, numbers: &[u32]) -> bool {
     are_of(answers, numbers)
 }
 
+/// How many items a walk gives.
+pub(crate) fn count<I: Iterator<Item = T> + Drop, T: Drop>(walk: I) -> usize
+    requires can { I.can_next walk }
+    requires ends { IsFinite (I.remaining walk) }
+    requires fits { size (I.remaining walk) < 2 ^ 64 }
+{
+    walk.count()
+}
+
+/// How many numbers of a walk are above 2.
+pub(crate) fn above<I: Iterator<Item = T> + Drop, T, F: FnMut(T) -> u32>(
+    walk: I,
+    number: F,
+) -> usize
+    requires can { I.can_next walk }
+    requires ends { IsFinite (I.remaining walk) }
+    requires fits { size (I.remaining walk) < 2 ^ 64 }
+    requires asks { (state : F) (x : _) → F.pre state x }
+{
+    walk.map(number).filter(is_above).count()
+}
+
+/// The sum of the numbers of a walk.
+pub(crate) fn sum<I: Iterator<Item = T> + Drop, T, F: Fn(T) -> u32>(walk: I, number: F) -> u32
+    requires can { I.can_next walk }
+    requires ends { IsFinite (I.remaining walk) }
+    requires asks { (state : F) (x : _) → F.pre state x }
+{
+    let mut sum = 0u32;
+    for item in walk {
+        sum = sum.wrapping_add(number(item));
+    }
+    sum
+}
+
+/// The numbers of a walk.
+pub(crate) fn all<I: Iterator<Item = T> + Drop, T, F: FnMut(T) -> u32>(
+    alloc: Global,
+    walk: I,
+    number: F,
+) -> Result<Vec<u32>, AllocError>
+    requires can { I.can_next walk }
+    requires ends { IsFinite (I.remaining walk) }
+    requires asks { (state : F) (x : _) → F.pre state x }
+{
+    walk.map(number).collect(alloc)
+}
+
 /// What the adaptors answer over a walk, which is made anew for each, with this number for an item.
 macro_rules! answers {
-    ($alloc:expr; $walk:expr, $number:ident) => {{
-        let count = $walk.count();
-        let above = $walk.map($number).filter(is_above).count();
-        let mut sum = 0u32;
-        for item in $walk {
-            sum = sum.wrapping_add($number(item));
-        }
+    ($alloc:expr; $walk:expr, $number:ident) => {
         Answers {
-            count,
-            above,
-            sum,
-            all: $walk.map($number).collect($alloc),
+            count: count($walk),
+            above: above($walk, $number),
+            sum: sum($walk, $number),
+            all: all($alloc, $walk, $number),
         }
-    }};
+    };
 }
 
 /// Whether a number is above 2.

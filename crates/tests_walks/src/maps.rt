@@ -1,8 +1,8 @@
 //! The ordinary adaptors over each walk of a map, a row for each.
 
 use crate::adaptors::{
-    Answers, KEYS, LOW_KEYS, LOW_VALUES, PAIRS, VALUES, answers, are_of, first, first_given, given,
-    hold, is_above, lent, made, second_written, written,
+    Answers, KEYS, LOW_KEYS, LOW_VALUES, PAIRS, VALUES, above, all, answers, are_of, count, first,
+    first_given, given, hold, lent, made, second_written, sum, written,
 };
 use starlark_hash::Hashed;
 use starlark_sets::OrderedMap;
