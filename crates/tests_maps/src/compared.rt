@@ -52,21 +52,25 @@ fn fed(map: &SmallMap<char, u32>) -> u64 {
     hasher.finish()
 }
 
+fn seven_and_one_fed() -> u64 {
+    let mut hasher = StarlarkHasher::new();
+    hasher.write_u32(7);
+    hasher.write_u32(1);
+    hasher.finish()
+}
+
+fn differ(a: &SmallMap<char, u32>, b: &SmallMap<char, u32>) -> bool {
+    *a != *b && !a.eq_ordered(b)
+}
+
 // Neither keys nor a length are fed.
 #[test]
 fn feeds_hashes_and_values(rt: HostRuntime) -> Result<(), Fail> {
     let a = one_under_seven(rt.alloc(), 'a')?;
     let b = one_under_seven(rt.alloc(), 'b')?;
-    let mut by_hand = StarlarkHasher::new();
-    by_hand.write_u32(7);
-    by_hand.write_u32(1);
-    same(
-        &rt,
-        (fed(&a), fed(&b)),
-        (by_hand.finish(), by_hand.finish()),
-    );
-    holds(&rt, a != b);
-    holds(&rt, !a.eq_ordered(&b));
+    same(&rt, fed(&a), seven_and_one_fed());
+    same(&rt, fed(&b), seven_and_one_fed());
+    holds(&rt, differ(&a, &b));
     Ok(())
 }
 

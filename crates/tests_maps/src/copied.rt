@@ -15,16 +15,28 @@ fn letters(alloc: Global) -> Result<SmallMap<u32, char>, Fail> {
     Ok(map)
 }
 
+fn shows_letters(map: &SmallMap<u32, char>) -> bool {
+    map.get_full(&0u32) == Some((25, &0, &'a'))
+        && map.get_full(&25u32) == Some((0, &25, &'z'))
+        && map.get_full(&29u32) == None
+}
+
+fn copy(map: &SmallMap<u32, char>) -> Result<SmallMap<u32, char>, Fail> {
+    Ok(map.clone()?)
+}
+
+fn take(map: &mut SmallMap<u32, char>, key: u32) -> Option<char> {
+    map.shift_remove(&key)
+}
+
 #[test]
 fn clones_stand_alone(rt: HostRuntime) -> Result<(), Fail> {
     let mut map = letters(rt.alloc())?;
-    holds(&rt, map.get_full(&0u32) == Some((25, &0, &'a')));
-    holds(&rt, map.get_full(&25u32) == Some((0, &25, &'z')));
-    holds(&rt, map.get_full(&29u32) == None);
-    let copy = map.clone()?;
+    holds(&rt, shows_letters(&map));
+    let copy = copy(&map)?;
     holds(&rt, copy.eq_ordered(&map));
     same(&rt, copy.capacity(), 26);
-    same(&rt, map.shift_remove(&1u32), Some('b'));
+    same(&rt, take(&mut map, 1), Some('b'));
     holds(&rt, copy != map);
     same(&rt, copy.len(), 26);
     Ok(())

@@ -21,18 +21,26 @@ fn many_texts(alloc: Global) -> Result<SmallMap<String, i64>, Fail> {
     Ok(map)
 }
 
+// How many texts there are, and whether there is an index.
+fn text_size(map: &SmallMap<String, i64>) -> (usize, bool) {
+    (map.len(), map.index().is_some())
+}
+
+fn text_under(map: &SmallMap<String, i64>, hash: u32, text: &str) -> Option<i64> {
+    map.get_hashed(under(hash, &TextKey(text))).copied()
+}
+
 #[test]
 fn stands_under_hash_and_key_after_many(rt: HostRuntime) -> Result<(), Fail> {
     let map = many_texts(rt.alloc())?;
-    same(&rt, (map.len(), map.index().is_some()), (42, true));
+    same(&rt, text_size(&map), (42, true));
     for (hash, key, value) in [
         (1, "a", Some(10)),
         (2, "a", Some(20)),
         (3, "a", None),
         (2, "b", None),
     ] {
-        let found = map.get_hashed(under(hash, &TextKey(key))).copied();
-        same(&rt, found, value);
+        same(&rt, text_under(&map, hash, key), value);
     }
     Ok(())
 }
@@ -93,13 +101,22 @@ fn keeps_the_room_of_what_was_taken_out(rt: HostRuntime) -> Result<(), Fail> {
     Ok(())
 }
 
+fn with_room(alloc: Global, capacity: usize) -> Result<Numbers, Fail> {
+    Ok(SmallMap::with_capacity(alloc, capacity)?)
+}
+
+// Whether it had the memory for so many more.
+fn reserve(map: &mut Numbers, additional: usize) -> bool {
+    map.reserve(additional).is_ok()
+}
+
 #[test]
 fn reserves_an_index(rt: HostRuntime) -> Result<(), Fail> {
-    let mut map: Numbers = SmallMap::with_capacity(rt.alloc(), NO_INDEX_THRESHOLD)?;
+    let mut map = with_room(rt.alloc(), NO_INDEX_THRESHOLD)?;
     same(&rt, size(&map), (0, false));
-    holds(&rt, map.reserve(NO_INDEX_THRESHOLD).is_ok());
+    holds(&rt, reserve(&mut map, NO_INDEX_THRESHOLD));
     same(&rt, size(&map), (0, false));
-    holds(&rt, map.reserve(NO_INDEX_THRESHOLD + 1).is_ok());
+    holds(&rt, reserve(&mut map, NO_INDEX_THRESHOLD + 1));
     same(&rt, size(&map), (0, true));
     holds(&rt, NO_INDEX_THRESHOLD < map.room());
     Ok(())
@@ -118,10 +135,10 @@ fn has_index_for_100(map: &Numbers) -> bool {
 
 #[test]
 fn makes_no_larger_index_than_it_needs(rt: HostRuntime) -> Result<(), Fail> {
-    let ready: Numbers = SmallMap::with_capacity(rt.alloc(), 100)?;
+    let ready = with_room(rt.alloc(), 100)?;
     holds(&rt, has_index_for_100(&ready));
     let mut reserved: Numbers = SmallMap::new(rt.alloc());
-    holds(&rt, reserved.reserve(100).is_ok());
+    holds(&rt, reserve(&mut reserved, 100));
     holds(&rt, has_index_for_100(&reserved));
     let grown = tens(rt.alloc(), 100)?;
     holds(&rt, has_index_for_100(&grown));

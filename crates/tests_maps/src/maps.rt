@@ -72,6 +72,14 @@ fn walks_a_clone(rt: HostRuntime) -> Result<(), Fail> {
     Ok(())
 }
 
+// Whether the keys 2, 1 and 1 stand first, second and last, the last of them under hash 3.
+fn stands_turned(map: &Numbers) -> bool {
+    map.first() == Some((&2, &1))
+        && map.get_index(1) == Some((&1, &3))
+        && map.last() == Some((&1, &2))
+        && map.get_index_of_hashed(under(3, &1)) == Some(2)
+}
+
 #[test]
 fn turns_and_sorts(rt: HostRuntime) -> Result<(), Fail> {
     let mut map = rows(rt.alloc(), &[(9, 2, 1), (3, 1, 2), (8, 1, 3)])?;
@@ -80,10 +88,7 @@ fn turns_and_sorts(rt: HostRuntime) -> Result<(), Fail> {
     holds(&rt, sort(&mut map));
     turn(&mut map);
     holds(&rt, shows(&map, &[(9, 2, 1), (8, 1, 3), (3, 1, 2)]));
-    holds(&rt, map.first() == Some((&2, &1)));
-    holds(&rt, map.get_index(1) == Some((&1, &3)));
-    holds(&rt, map.last() == Some((&1, &2)));
-    same(&rt, map.get_index_of_hashed(under(3, &1)), Some(2));
+    holds(&rt, stands_turned(&map));
     Ok(())
 }
 
@@ -182,20 +187,28 @@ fn inserts_under_own_hashes(rt: HostRuntime) -> Result<(), Fail> {
     Ok(())
 }
 
+fn finds_two(map: &Numbers) -> bool {
+    let own = StarlarkHashValue::new(&2u32);
+    map.get_hashed(Hashed::new_unchecked(own, &2)) == Some(&20)
+        && map.get_hashed_by_value(Hashed::new(2u32)) == Some(&20)
+}
+
+fn lacks_three(map: &Numbers) -> bool {
+    map.get_index_of_hashed_by_value(Hashed::new(3u32)) == None && !map.contains_key(&3)
+}
+
+fn contains_one(map: &Numbers) -> bool {
+    map.contains_key(&1)
+        && map.contains_key_hashed_by_value(Hashed::new(1u32))
+        && !map.contains_key_hashed(under(77, &1))
+}
+
 #[test]
 fn looks_up_by_hashes_and_values(rt: HostRuntime) -> Result<(), Fail> {
     let map = pairs(rt.alloc(), &[(1, 100), (2, 20)])?;
-    let own = StarlarkHashValue::new(&2u32);
-    holds(
-        &rt,
-        map.get_hashed(Hashed::new_unchecked(own, &2)) == Some(&20),
-    );
-    holds(&rt, map.get_hashed_by_value(Hashed::new(2u32)) == Some(&20));
-    let third = map.get_index_of_hashed_by_value(Hashed::new(3u32));
-    same(&rt, third, None);
-    holds(&rt, map.contains_key(&1) && !map.contains_key(&3));
-    holds(&rt, map.contains_key_hashed_by_value(Hashed::new(1u32)));
-    holds(&rt, !map.contains_key_hashed(under(77, &1)));
+    holds(&rt, finds_two(&map));
+    holds(&rt, lacks_three(&map));
+    holds(&rt, contains_one(&map));
     Ok(())
 }
 
