@@ -7,3 +7,8 @@ use std::process::Abort;
 pub(crate) fn holds(rt: &impl Abort, what: bool) {
     assert!(rt; what);
 }
+
+// The same of what a script left, which is shown where it does not hold.
+pub(crate) fn holds_of(rt: &impl Abort, script: &str, what: bool) {
+    assert!(rt; what, "{script}");
+}

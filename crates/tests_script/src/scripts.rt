@@ -1,6 +1,7 @@
 //! Scripts, through `play`: good lines, bad lines, long lines, many entries.
 
 use crate::fakes::{NEVER, bytes_in_pieces};
+use crate::given::holds_of;
 use script_lines::PlayFault;
 use script_play::play::play;
 use starlark_small::UNINDEXED;
@@ -18,18 +19,14 @@ fn check(
 ) -> Result<(), Fail> {
     let mut out = Vec::new(rt.alloc());
     let mut reader = script.as_bytes();
-    assert!(rt;
-        play(rt.alloc(), &mut reader, &mut out) == answer,
-        "{script}"
-    );
-    assert!(rt; out.as_slice() == replies.as_bytes(), "{script}");
+    let played = play(rt.alloc(), &mut reader, &mut out);
+    holds_of(rt, script, played == answer);
+    holds_of(rt, script, out.as_slice() == replies.as_bytes());
     let mut out = Vec::new(rt.alloc());
     let mut reader = bytes_in_pieces(script, 1, NEVER, ErrorKind::Other);
-    assert!(rt;
-        play(rt.alloc(), &mut reader, &mut out) == answer,
-        "{script}"
-    );
-    assert!(rt; out.as_slice() == replies.as_bytes(), "{script}");
+    let played = play(rt.alloc(), &mut reader, &mut out);
+    holds_of(rt, script, played == answer);
+    holds_of(rt, script, out.as_slice() == replies.as_bytes());
     Ok(())
 }
 

@@ -1,7 +1,7 @@
 //! Reads, writes and flushes that fail under `play`, and the text of each fault.
 
 use crate::fakes::{Full, NEVER, asked_reader, bytes_in_pieces, held_writer, narrow_writer};
-use crate::given::holds;
+use crate::given::{holds, holds_of};
 use script_lines::{PlayFault, PromptReader, SharedWriter, texts_are_of_one};
 use script_play::play::play;
 use std::cell::RefCell;
@@ -71,7 +71,7 @@ fn flushes_at_the_end_alone(rt: HostRuntime) -> Result<(), Fail> {
         let mut writer = narrow_writer(rt.alloc(), NEVER, ErrorKind::Other, false);
         let mut reader = script.as_bytes();
         let _ = play(rt.alloc(), &mut reader, &mut writer);
-        assert!(rt; writer.flushes == flushes, "{script}");
+        holds_of(&rt, script, writer.flushes == flushes);
     }
     Ok(())
 }
