@@ -15,6 +15,7 @@ use Rattle.starlark_small.specs.Calling.{get, Updates}
 use Rattle.starlark_small.specs.Map.{Map, own_hashed, own_match}
 use Rattle.starlark_small.proofs.CallerKeys.{keys-set_value_at}
 use Rattle.starlark_small.proofs.CallerEntries.{value-insert_entry, is_some-value_at}
+use Rattle.starlark_small.proofs.CallerMembers.{members}
 use Rattle.starlark_small.proofs.CallerUpdates.{writes-inserted, writes-with_value, writes-removed}
 
 -- The same of the map, under keys' own hashes: one word for the key and all others.
@@ -40,4 +41,4 @@ module _ {V : Type 0} where
   value-insert_text es key value = value-insert_entry string_eq es key value string_eq_equiv
 
 -- what a caller's proof wants
-pub ruleset callers = (value-insert_number, value-insert_text, updates-insert, updates-with_value, updates-without, nat_eq_equiv, int_eq_equiv, string_eq_equiv, length-set_value_at, keys-set_value_at, is_some-value_at, length_push, map-append, length-append, length-take, length-drop)
+pub ruleset callers = (members, value-insert_number, value-insert_text, updates-insert, updates-with_value, updates-without, nat_eq_equiv, int_eq_equiv, string_eq_equiv, length-set_value_at, keys-set_value_at, is_some-value_at, length_push, map-append, length-append, length-take, length-drop)

@@ -34,4 +34,5 @@ pub mod CallerPlaces
 pub mod CallerFound
 pub mod CallerItems
 pub mod CallerOrder
+pub mod CallerMembers
 pub mod CallerLemmas

@@ -5,6 +5,7 @@ pub mod build;
 pub mod cache;
 pub mod interner;
 pub mod scopes;
+pub mod scores;
 pub mod value;
 pub mod visits;
 pub mod words;

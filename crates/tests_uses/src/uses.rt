@@ -3,8 +3,12 @@
 
 use starlark_sets::OrderedSet;
 use starlark_small::SmallMap;
+use starlark_unordered::UnorderedMap;
 use starlark_uses::build::{Targets, declare, depend, is_ordered};
 use starlark_uses::cache::Cache;
+use starlark_uses::scores::{
+    change, forget_first, forget_unordered, note, note_any, note_name, note_unordered,
+};
 use starlark_uses::visits::{
     Visits, forget, put, record_first_visit, record_named, record_visit, visit_again,
 };
@@ -164,5 +168,35 @@ fn equal_sets_hit(rt: HostRuntime) -> Result<(), Fail> {
     let cache = one_answer(rt.alloc())?;
     holds(&rt, answer(&cache, rt.alloc(), 1, 2)? == Some(12));
     holds(&rt, answer(&cache, rt.alloc(), 2, 1)?.is_none());
+    Ok(())
+}
+
+// Whether scores under numbers, names and both are noted, and one is changed and taken out.
+fn scores(alloc: Global) -> Result<bool, Fail> {
+    let mut numbered = SmallMap::new(alloc);
+    note(&mut numbered, 7, 50)?;
+    let mut any = SmallMap::new(alloc);
+    note_any(&mut any, 7u8, 60)?;
+    let mut named = SmallMap::new(alloc);
+    note_name(&mut named, String::from_str(alloc, "a")?, 70)?;
+    change(&mut named, "a", 80);
+    let first = forget_first(&mut named);
+    let mut unordered = UnorderedMap::new(alloc);
+    note_unordered(&mut unordered, 7, 90)?;
+    let kept = numbered.get(&7) == Some(&50) && any.get(&7) == Some(&60);
+    Ok(kept && is_score(&first, 80) && forget_unordered(&mut unordered, 7) == Some(90))
+}
+
+fn is_score(pair: &Option<(String, u64)>, score: u64) -> bool {
+    match pair {
+        Some((_, there)) => *there == score,
+        None => false,
+    }
+}
+
+#[test]
+fn notes_scores(rt: HostRuntime) -> Result<(), Fail> {
+    let noted = scores(rt.alloc())?;
+    holds(&rt, noted);
     Ok(())
 }
