@@ -440,7 +440,8 @@ pub fn bounded<K: Eq + Hash>(entries: &OrderedMap<K, u64>, key: &K, most: u64) -
 /// The next of a value that each value is below.
 pub fn next_of(entries: &OrderedMap<u32, u8>, key: u32) -> Option<u8>
     requires { All (λ value. value < 100) (map entry_value entries.now.entries) }
-    ensures { IfSome result (λ n. n ≤ 100) }
+    ensures most { IfSome result (λ n. n ≤ 100) }
+    ensures value { result ≡ option_map (λ value. value + 1) (get nat_eq fed.u32 entries.now key) }
 {
     match entries.get(&key) {
         Some(value) => Some(*value + 1),
@@ -463,7 +464,8 @@ pub fn add(
 
 /// The value at a key, or 0, which is no more than all together.
 pub fn part_of_total(entries: &OrderedMap<u32, u64>, key: u32) -> u64
-    ensures { result ≤ sum (map entry_value entries.now.entries) }
+    ensures part { result ≤ sum (map entry_value entries.now.entries) }
+    ensures value { result ≡ unwrap_or (get nat_eq fed.u32 entries.now key) 0 }
 {
     entries.get(&key).copied().unwrap_or(0)
 }
@@ -478,7 +480,8 @@ pub fn how_many(map: &OrderedMap<u32, u8>) -> usize
 /// Takes a key out, and all others, and puts it in again, for which there is room.
 pub fn refilled(map: &mut OrderedMap<u32, u8>, key: u32) -> bool
     requires { 0 < map.old.room }
-    ensures { result ≡ true }
+    ensures done { result ≡ true }
+    ensures here { get nat_eq fed.u32 map.new key ≡ Some 1 }
 {
     map.remove(&key);
     map.clear();

@@ -2,7 +2,7 @@
 ghost use Rattle.std.specs.Hash as fed;
 ghost use Rattle.std.specs.Map.{update_all};
 ghost use Rattle.std.specs.Option.{unwrap_or};
-ghost use Rattle.std.specs.Prelude.{◌≡◌, ℕ, ◌+◌, ◌-◌, ◌≤◌, ◌<◌, ◌^◌, length, map, min, nat_eq, sum, false, true, is_some, All, None, Some, IfErr, IfOk, IfSome, IsTrue, OnOk, ◌↔◌};
+ghost use Rattle.std.specs.Prelude.{◌≡◌, ℕ, ◌+◌, ◌-◌, ◌≤◌, ◌<◌, ◌^◌, length, map, min, nat_eq, sum, false, true, is_some, All, None, Some, IfErr, IfOk, IfSome, IsTrue, OnOk, ◌↔◌, slice_get};
 ghost use Rattle.std.specs.String.{string_bytes, string_eq};
 ghost use Rattle.std.specs.declared.alloc.Global.{Global};
 ghost use Rattle.std.specs.declared.string.String.{String};
@@ -69,7 +69,9 @@ pub fn put<K: Ord + Hash, V: Drop>(map: &mut SortedMap<K, V>, key: &K, value: V)
 
 /// The first two keys.
 pub fn first_two(map: &SortedMap<u32, u64>) -> Option<(u32, u32)>
-    ensures { IfSome result (λ p. p.0 ≤ p.1) }
+    ensures ascend { IfSome result (λ p. p.0 ≤ p.1) }
+    ensures first { IfSome result (λ p. slice_get (keys map.now) 0 ≡ Some p.0) }
+    ensures second { IfSome result (λ p. slice_get (keys map.now) 1 ≡ Some p.1) }
 {
     let mut keys = map.keys();
     let a = keys.next()?;
@@ -232,14 +234,16 @@ pub fn fresh<K: Ord + Hash, V>(alloc: Global) -> SortedMap<K, V>
 /// The value at a key, within a bound that each value meets.
 pub fn bounded<K: Ord + Hash>(entries: &SortedMap<K, u64>, key: &K, most: u64) -> u64
     requires { All (λ value. value ≤ most) (map entry_value entries.now.entries) }
-    ensures { result ≤ most }
+    ensures most { result ≤ most }
+    ensures value { result ≡ unwrap_or (get K.eq K.hash_input entries.now key.now) 0 }
 {
     entries.get(key).copied().unwrap_or(0)
 }
 
 /// The value at a key, or 0, which is no more than all together.
 pub fn part_of_total(entries: &SortedMap<u32, u64>, key: u32) -> u64
-    ensures { result ≤ sum (map entry_value entries.now.entries) }
+    ensures part { result ≤ sum (map entry_value entries.now.entries) }
+    ensures value { result ≡ unwrap_or (get nat_eq fed.u32 entries.now key) 0 }
 {
     entries.get(&key).copied().unwrap_or(0)
 }

@@ -1,7 +1,7 @@
 //! Callers of ordered sets.
 ghost use Rattle.std.specs.Hash as fed;
 ghost use Rattle.std.specs.Option.{option_map};
-ghost use Rattle.std.specs.Prelude.{◌≡◌, ℕ, ◌||◌, ◌+◌, ◌-◌, ◌≤◌, ◌<◌, ◌^◌, count_by, if◌then◌else◌, length, nat_eq, slice_get, sum, true, false, not, is_some, Some, None, IfOk, IfSome, OnOk};
+ghost use Rattle.std.specs.Prelude.{◌≡◌, ℕ, ◌||◌, ◌+◌, ◌-◌, ◌≤◌, ◌<◌, ◌^◌, count_by, if◌then◌else◌, length, nat_eq, slice_get, sum, true, false, not, is_some, Some, None, IfOk, IfSome, OnOk, IsSome};
 ghost use Rattle.std.specs.Set.{is_member};
 ghost use Rattle.std.specs.String.{string_bytes, string_eq};
 ghost use Rattle.starlark_lists.specs.Entries.{entry_key};
@@ -82,7 +82,8 @@ pub fn add_vec<T: Eq + Hash + Drop>(
 
 /// Tries an element, which comes back where an equal one is there or there is no room.
 pub fn try_in<T: Eq + Hash + Drop>(set: &mut OrderedSet<T>, element: T) -> Option<T>
-    ensures { IfSome result (λ back. back ≡ element) }
+    ensures back { IfSome result (λ back. back ≡ element) }
+    ensures there { contains T.eq T.hash_input set.old element ≡ true → IsSome result }
 {
     match set.try_insert(element) {
         Ok(()) => None,
@@ -93,7 +94,8 @@ pub fn try_in<T: Eq + Hash + Drop>(set: &mut OrderedSet<T>, element: T) -> Optio
 
 /// The same of a number.
 pub fn try_number(set: &mut OrderedSet<u32>, n: u32) -> Option<u32>
-    ensures { IfSome result (λ back. back ≡ n) }
+    ensures back { IfSome result (λ back. back ≡ n) }
+    ensures there { contains nat_eq fed.u32 set.old n ≡ true → IsSome result }
 {
     match set.try_insert(n) {
         Ok(()) => None,
@@ -155,7 +157,8 @@ pub fn total(set: &OrderedSet<u32>) -> u64
 
 /// The place of a number, which is put in where it is lacking.
 pub fn place_of(set: &mut OrderedSet<u32>, n: u32) -> Result<usize, NoRoom<u32>>
-    ensures { IfOk result (λ place. place < length set.new.entries) }
+    ensures within { IfOk result (λ place. place < length set.new.entries) }
+    ensures here { OnOk result (contains nat_eq fed.u32 set.new n ≡ true) }
 {
     set.insert(n)?;
     match set.get_index_of(&n) {

@@ -1,7 +1,7 @@
 //! Callers of sorted sets.
 ghost use Rattle.std.specs.Hash as fed;
 ghost use Rattle.std.specs.Option.{option_map};
-ghost use Rattle.std.specs.Prelude.{◌≡◌, ℕ, ◌≤◌, ◌<◌, ◌^◌, count_by, length, nat_eq, slice_get, sum, false, true, is_some, IfErr, IfOk, IfSome};
+ghost use Rattle.std.specs.Prelude.{◌≡◌, ℕ, ◌≤◌, ◌<◌, ◌^◌, count_by, length, nat_eq, slice_get, sum, false, true, is_some, IfErr, IfOk, IfSome, Some};
 ghost use Rattle.std.specs.Set.{is_member};
 ghost use Rattle.std.specs.String.{string_bytes, string_eq};
 ghost use Rattle.std.specs.declared.alloc.Global.{Global};
@@ -46,7 +46,9 @@ pub fn stored(set: &SortedSet<u32>, n: u32) -> Option<u32>
 
 /// The first two elements.
 pub fn first_two(set: &SortedSet<u32>) -> Option<(u32, u32)>
-    ensures { IfSome result (λ p. p.0 ≤ p.1) }
+    ensures ascend { IfSome result (λ p. p.0 ≤ p.1) }
+    ensures first { IfSome result (λ p. slice_get (keys set.now) 0 ≡ Some p.0) }
+    ensures second { IfSome result (λ p. slice_get (keys set.now) 1 ≡ Some p.1) }
 {
     let mut elements = set.iter();
     let a = elements.next()?;

@@ -4,10 +4,12 @@
 
 ghost use Rattle.std.specs.List.{Contains};
 ghost use Rattle.std.specs.Map.{values_of};
-ghost use Rattle.std.specs.Prelude.{ℕ, ◌≡◌, ◌≤◌, All, OnOk, length, map};
+ghost use Rattle.std.specs.Option.{option_map};
+ghost use Rattle.std.specs.Prelude.{ℕ, ◌≡◌, ◌≤◌, All, None, OnOk, Some, length, map, nat_eq, remove, slice_get, true};
 ghost use Rattle.std.specs.String.{string_bytes};
 ghost use Rattle.starlark_lists.specs.Entries.{entry_value, pair_of};
-ghost use Rattle.starlark_small.specs.Calling.{keys};
+ghost use Rattle.starlark_small.specs.Calling.{contains_text, get, get_text, keys};
+ghost use Rattle.starlark_unordered.specs.Calling as unordered;
 ghost use Rattle.starlark_unordered.specs.Pairs.{pairs_of};
 
 use starlark_hash::{NoRoom, TextKey};
@@ -45,6 +47,7 @@ pub fn note_name(
     requires is_named { 1 ≤ length (string_bytes player) }
     ensures bounded { All (λ score. score ≤ 100) (map entry_value scores.new.entries) }
     ensures named { All (λ name. 1 ≤ length (string_bytes name)) (keys scores.new) }
+    ensures score { OnOk result (Contains (map entry_value scores.new.entries) score) }
 {
     scores.insert(player, score)?;
     Ok(())
@@ -70,6 +73,8 @@ pub fn forget<K: Eq + Hash + Drop>(scores: &mut SmallMap<K, u64>, player: &K) ->
     requires bounded { All (λ score. score ≤ 100) (map entry_value scores.old.entries) }
     ensures bounded { All (λ score. score ≤ 100) (map entry_value scores.new.entries) }
     ensures players { (other : K) → Contains (keys scores.new) other → Contains (keys scores.old) other }
+    ensures was { result ≡ get K.eq K.hash_input scores.old player.now }
+    ensures gone { get K.eq K.hash_input scores.new player.now ≡ None }
 {
     scores.shift_remove(player)
 }
@@ -78,6 +83,8 @@ pub fn forget<K: Eq + Hash + Drop>(scores: &mut SmallMap<K, u64>, player: &K) ->
 pub fn forget_first(scores: &mut SmallMap<String, u64>) -> Option<(String, u64)>
     requires bounded { All (λ score. score ≤ 100) (map entry_value scores.old.entries) }
     ensures bounded { All (λ score. score ≤ 100) (map entry_value scores.new.entries) }
+    ensures first { result ≡ option_map pair_of (slice_get scores.old.entries 0) }
+    ensures others { scores.new.entries ≡ remove scores.old.entries 0 }
 {
     scores.shift_remove_index(0)
 }
@@ -89,6 +96,7 @@ pub fn change(scores: &mut SmallMap<String, u64>, player: &str, score: u64)
     ensures bounded { All (λ score. score ≤ 100) (map entry_value scores.new.entries) }
     ensures players { keys scores.new ≡ keys scores.old }
     ensures count { length scores.new.entries ≡ length scores.old.entries }
+    ensures score { contains_text scores.old player.now ≡ true → get_text scores.new player.now ≡ Some score }
 {
     if let Some(there) = scores.get_mut(&TextKey(player)) {
         *there = score;
@@ -105,6 +113,7 @@ pub fn note_unordered(
     requires fits { score ≤ 100 }
     ensures bounded { All (λ score. score ≤ 100) (values_of (pairs_of scores.new)) }
     ensures score { OnOk result (Contains (values_of (pairs_of scores.new)) score) }
+    ensures here { OnOk result (unordered.get nat_eq scores.new player ≡ Some score) }
 {
     scores.insert(player, score)?;
     Ok(())
@@ -114,6 +123,8 @@ pub fn note_unordered(
 pub fn forget_unordered(scores: &mut UnorderedMap<u32, u64>, player: u32) -> Option<u64>
     requires bounded { All (λ score. score ≤ 100) (values_of (pairs_of scores.old)) }
     ensures bounded { All (λ score. score ≤ 100) (values_of (pairs_of scores.new)) }
+    ensures was { result ≡ unordered.get nat_eq scores.old player }
+    ensures gone { unordered.get nat_eq scores.new player ≡ None }
 {
     scores.remove(&player)
 }

@@ -1,8 +1,8 @@
 //! What holds of every value of an ordered map, what its values add up to, and what a walk through a closure makes.
 ghost use Rattle.std.specs.Hash as fed;
-ghost use Rattle.std.specs.Prelude.{◌≡◌, ℕ, ◌+◌, ◌<◌, ◌≤◌, ◌↔◌, map, nat_eq, sum, Contains, IfOk, IfSome, IsSome, IsTrue, None, OnOk, Some};
+ghost use Rattle.std.specs.Prelude.{◌≡◌, ℕ, ◌+◌, ◌<◌, ◌≤◌, ◌↔◌, map, nat_eq, sum, Contains, IfOk, IfSome, IsSome, IsTrue, None, OnOk, Some, true};
 ghost use Rattle.starlark_lists.specs.Entries.{entry_value};
-ghost use Rattle.starlark_small.specs.Calling.{get, AreOwn};
+ghost use Rattle.starlark_small.specs.Calling.{get, AreOwn, contains};
 
 use crate::small_maps::totals;
 use starlark_hash::{Hashed, NoRoom};
@@ -47,7 +47,8 @@ pub fn counted(
     key: u32,
 ) -> Result<(), NoRoom<(Hashed<u32>, u32)>>
     requires { sum (map entry_value counts.old.entries) < 1000 }
-    ensures { OnOk result (sum (map entry_value counts.new.entries) ≡ sum (map entry_value counts.old.entries) + 1) }
+    ensures total { OnOk result (sum (map entry_value counts.new.entries) ≡ sum (map entry_value counts.old.entries) + 1) }
+    ensures there { OnOk result (contains nat_eq fed.u32 counts.new key ≡ true) }
 {
     totals::counted(counts.as_mut_small_map(), key)
 }

@@ -1,5 +1,7 @@
 //! Small maps from keys of any type.
-ghost use Rattle.std.specs.Prelude.{◌≡◌, ◌+◌, false, true, length, None, Some, IfOk, IfSome, is_some, OnOk, OnErr, if◌then◌else◌};
+ghost use Rattle.starlark_lists.specs.Entries.{pair_of};
+ghost use Rattle.std.specs.Option.{option_map, unwrap_or};
+ghost use Rattle.std.specs.Prelude.{◌≡◌, ◌+◌, false, true, length, None, Some, IfOk, IfSome, is_some, OnOk, OnErr, if◌then◌else◌, ◌-◌, slice_get, remove};
 ghost use Rattle.starlark_small.specs.Calling.{get, contains, AreOwn};
 
 use starlark_hash::{Hashed, NoRoom};
@@ -155,6 +157,8 @@ pub fn take_last<K: Eq + Hash + Drop, V: Drop>(map: &mut SmallMap<K, V>) -> Opti
     ensures others { IfSome result (λ p. (other : K) → K.eq p.0 other ≡ false → get K.eq K.hash_input map.new other ≡ get K.eq K.hash_input map.old other) }
     ensures own { AreOwn K.hash_input map.old → AreOwn K.hash_input map.new }
     ensures count { length map.old.entries ≡ length map.new.entries + (if is_some result then 1 else 0) }
+    ensures taken { result ≡ option_map pair_of (slice_get map.old.entries (length map.old.entries - 1)) }
+    ensures left { map.new.entries ≡ remove map.old.entries (length map.old.entries - 1) }
 {
     map.pop()
 }
@@ -169,6 +173,8 @@ pub fn take_at<K: Eq + Hash + Drop, V: Drop>(
     ensures others { IfSome result (λ p. (other : K) → K.eq p.0 other ≡ false → get K.eq K.hash_input map.new other ≡ get K.eq K.hash_input map.old other) }
     ensures own { AreOwn K.hash_input map.old → AreOwn K.hash_input map.new }
     ensures count { length map.old.entries ≡ length map.new.entries + (if is_some result then 1 else 0) }
+    ensures taken { result ≡ option_map pair_of (slice_get map.old.entries place) }
+    ensures left { map.new.entries ≡ remove map.old.entries place }
 {
     map.shift_remove_index(place)
 }
@@ -180,6 +186,7 @@ pub fn put_own<K: Eq + Hash + Drop, V: Drop>(
     value: V,
 ) -> Result<(), NoRoom<(Hashed<K>, V)>>
     ensures own { OnOk result (AreOwn K.hash_input map.old → AreOwn K.hash_input map.new) }
+    ensures here { OnOk result (get K.eq K.hash_input map.new key ≡ Some (unwrap_or (get K.eq K.hash_input map.old key) value)) }
 {
     map.entry(key).or_insert(value)?;
     Ok(())

@@ -103,6 +103,7 @@ pub fn add_two_fitting(
     requires { 2 ≤ map.old.room }
     ensures done { IsOk result }
     ensures left { map.old.room ≤ map.new.room + 2 }
+    ensures second { OnOk result (get nat_eq fed.u32 map.new b.0 ≡ Some b.1) }
 {
     map.extend([a, b])
 }

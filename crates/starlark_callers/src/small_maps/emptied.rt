@@ -1,7 +1,7 @@
 //! Small maps whose entries are taken out, by their places and all at once.
 ghost use Rattle.std.specs.Hash as fed;
 ghost use Rattle.std.specs.Option.{option_map};
-ghost use Rattle.std.specs.Prelude.{◌≡◌, ◌+◌, length, false, None, Some, IfSome, is_some, if◌then◌else◌, slice_get, drop};
+ghost use Rattle.std.specs.Prelude.{◌≡◌, ◌+◌, length, false, None, Some, IfSome, is_some, if◌then◌else◌, slice_get, drop, ◌-◌, remove};
 ghost use Rattle.std.specs.String.{string_bytes, string_eq};
 ghost use Rattle.std.specs.declared.alloc.Global.{Global};
 ghost use Rattle.std.specs.declared.string.String.{String};
@@ -44,6 +44,8 @@ pub fn take_at_named(map: &mut SmallMap<String, u64>, place: usize) -> Option<(S
     ensures others { IfSome result (λ p. (other : String Global) → string_eq p.0 other ≡ false → get string_eq (λ s. fed.str (string_bytes s)) map.new other ≡ get string_eq (λ s. fed.str (string_bytes s)) map.old other) }
     ensures own { AreOwn (λ s. fed.str (string_bytes s)) map.old → AreOwn (λ s. fed.str (string_bytes s)) map.new }
     ensures count { length map.old.entries ≡ length map.new.entries + (if is_some result then 1 else 0) }
+    ensures taken { result ≡ option_map pair_of (slice_get map.old.entries place) }
+    ensures left { map.new.entries ≡ remove map.old.entries place }
 {
     map.shift_remove_index(place)
 }

@@ -40,6 +40,7 @@ pub fn count_by_entry(
 /// The same, and answers whether there was room.
 pub fn count_by_match(map: &mut SmallMap<u32, u64>, word: u32) -> bool
     ensures here { result ≡ true → get nat_eq fed.u32 map.new word ≡ Some (min (unwrap_or (get nat_eq fed.u32 map.old word) 0 + 1) (2 ^ 64 - 1)) }
+    ensures lacking { result ≡ false → get nat_eq fed.u32 map.old word ≡ None }
 {
     match map.entry(word).or_insert(0) {
         Ok(count) => {
@@ -54,6 +55,7 @@ pub fn count_by_match(map: &mut SmallMap<u32, u64>, word: u32) -> bool
 pub fn put_by_variants(map: &mut SmallMap<u32, u64>, word: u32, value: u64) -> bool
     ensures here { result ≡ true → get nat_eq fed.u32 map.new word ≡ Some value }
     ensures others { result ≡ true → (other : ℕ) → nat_eq word other ≡ false → get nat_eq fed.u32 map.new other ≡ get nat_eq fed.u32 map.old other }
+    ensures lacking { result ≡ false → get nat_eq fed.u32 map.old word ≡ None }
 {
     match map.entry(word) {
         Entry::Occupied(entry) => {

@@ -1,7 +1,7 @@
 //! A small map in a field.
 ghost use Rattle.std.specs.Hash as fed;
 ghost use Rattle.std.specs.Option.{unwrap_or};
-ghost use Rattle.std.specs.Prelude.{◌≡◌, ◌≢◌, ℕ, ◌+◌, ◌<◌, ◌^◌, nat_eq, true, Some, None, OnOk, OnErr};
+ghost use Rattle.std.specs.Prelude.{◌≡◌, ◌≢◌, ℕ, ◌+◌, ◌<◌, ◌^◌, nat_eq, true, Some, None, OnOk, OnErr, false};
 ghost use Rattle.starlark_small.specs.Calling.{get};
 
 use starlark_small::SmallMap;
@@ -34,7 +34,8 @@ impl Stock {
 
     /// Sets the count of an item, and answers whether there was room.
     pub fn set(&mut self, item: u32, n: u32) -> bool
-        ensures { result ≡ true → get nat_eq fed.u32 self.new.counts item ≡ Some n }
+        ensures here { result ≡ true → get nat_eq fed.u32 self.new.counts item ≡ Some n }
+        ensures lacking { result ≡ false → get nat_eq fed.u32 self.old.counts item ≡ None }
     {
         self.counts.insert(item, n).is_ok()
     }

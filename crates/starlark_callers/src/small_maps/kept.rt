@@ -1,6 +1,6 @@
 //! Copies of small maps, and what a closure keeps of them.
 ghost use Rattle.std.specs.Hash as fed;
-ghost use Rattle.std.specs.Prelude.{◌≡◌, ◌≤◌, ℕ, length, nat_eq, nat_lt, not, true, filter, IfOk};
+ghost use Rattle.std.specs.Prelude.{◌≡◌, ◌≤◌, ℕ, length, nat_eq, nat_lt, not, true, filter, IfOk, ◌%◌};
 ghost use Rattle.std.specs.String.{string_bytes};
 ghost use Rattle.std.specs.Str.{bytes_eq};
 ghost use Rattle.starlark_lists.specs.Entries.{entry_key, entry_value};
@@ -80,6 +80,7 @@ pub fn drop_named(map: &mut SmallMap<String, u64>, name: &str)
 pub fn keep_even(map: &mut SmallMap<u32, u64>)
     ensures fewer { length map.new.entries ≤ length map.old.entries }
     ensures no_new { (key : ℕ) → contains nat_eq fed.u32 map.new key ≡ true → contains nat_eq fed.u32 map.old key ≡ true }
+    ensures kept { map.new.entries ≡ filter (λ e. nat_eq (entry_key e % 2) 0) map.old.entries }
 {
     map.retain(|key, _value| *key % 2 == 0);
 }

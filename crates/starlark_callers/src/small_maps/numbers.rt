@@ -1,6 +1,8 @@
 //! Small maps from numbers.
+ghost use Rattle.starlark_lists.specs.Entries.{pair_of, entry_value};
+ghost use Rattle.std.specs.Option.{option_map, unwrap_or};
 ghost use Rattle.std.specs.Hash as fed;
-ghost use Rattle.std.specs.Prelude.{◌≡◌, ◌+◌, ℕ, nat_eq, false, true, length, None, Some, IfOk, IfSome, is_some, OnOk, OnErr, if◌then◌else◌};
+ghost use Rattle.std.specs.Prelude.{◌≡◌, ◌+◌, ℕ, nat_eq, false, true, length, None, Some, IfOk, IfSome, is_some, OnOk, OnErr, if◌then◌else◌, ◌-◌, slice_get, remove};
 ghost use Rattle.starlark_small.specs.Calling.{get, contains, AreOwn};
 
 use starlark_hash::{Hashed, NoRoom};
@@ -143,6 +145,8 @@ pub fn take_last(map: &mut SmallMap<u32, u64>) -> Option<(u32, u64)>
     ensures others { IfSome result (λ p. (other : ℕ) → nat_eq p.0 other ≡ false → get nat_eq fed.u32 map.new other ≡ get nat_eq fed.u32 map.old other) }
     ensures own { AreOwn fed.u32 map.old → AreOwn fed.u32 map.new }
     ensures count { length map.old.entries ≡ length map.new.entries + (if is_some result then 1 else 0) }
+    ensures taken { result ≡ option_map pair_of (slice_get map.old.entries (length map.old.entries - 1)) }
+    ensures left { map.new.entries ≡ remove map.old.entries (length map.old.entries - 1) }
 {
     map.pop()
 }
@@ -151,6 +155,7 @@ pub fn take_last(map: &mut SmallMap<u32, u64>) -> Option<(u32, u64)>
 pub fn take_last_value(map: &mut SmallMap<u32, u64>) -> u64
     ensures shorter { length map.old.entries ≡ 0 → result ≡ 0 }
     ensures own { AreOwn fed.u32 map.old → AreOwn fed.u32 map.new }
+    ensures value { result ≡ unwrap_or (option_map entry_value (slice_get map.old.entries (length map.old.entries - 1))) 0 }
 {
     match map.pop() {
         Some((_key, value)) => value,

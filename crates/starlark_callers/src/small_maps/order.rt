@@ -1,6 +1,6 @@
 //! Small maps that are sorted and turned round.
 ghost use Rattle.std.specs.Hash as fed;
-ghost use Rattle.std.specs.Prelude.{◌≡◌, ℕ, nat_eq, IsSorted, IfOk, OnOk};
+ghost use Rattle.std.specs.Prelude.{◌≡◌, ℕ, nat_eq, IsSorted, IfOk, OnOk, reverse};
 ghost use Rattle.starlark_small.specs.Calling.{contains, get, keys};
 
 use starlark_small::SmallMap;
@@ -26,7 +26,8 @@ pub fn sorted_and_has(map: &mut SmallMap<u32, u64>, key: u32) -> Result<bool, Al
 
 /// Turns the entries round; each key has what it had.
 pub fn turned<K: Eq + Hash, V>(map: &mut SmallMap<K, V>)
-    ensures { (key : K) → get K.eq K.hash_input map.new key ≡ get K.eq K.hash_input map.old key }
+    ensures same { (key : K) → get K.eq K.hash_input map.new key ≡ get K.eq K.hash_input map.old key }
+    ensures turned { map.new.entries ≡ reverse map.old.entries }
 {
     map.reverse();
 }

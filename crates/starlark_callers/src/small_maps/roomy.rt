@@ -69,7 +69,8 @@ pub fn known_order(alloc: Global) -> Result<SmallMap<u32, u64>, AllocError>
 
 /// Writes a value by the entry's variants, and answers by a pattern whether there was room.
 pub fn put_by_pattern(map: &mut SmallMap<u32, u64>, key: u32, value: u64) -> bool
-    ensures { result ≡ true → get nat_eq fed.u32 map.new key ≡ Some value }
+    ensures here { result ≡ true → get nat_eq fed.u32 map.new key ≡ Some value }
+    ensures lacking { result ≡ false → get nat_eq fed.u32 map.old key ≡ None }
 {
     match map.entry(key) {
         Entry::Occupied(entry) => {
@@ -83,7 +84,8 @@ pub fn put_by_pattern(map: &mut SmallMap<u32, u64>, key: u32, value: u64) -> boo
 /// Asks for much more room, and puts a pair in whether it was given or not.
 pub fn ask_and_put(map: &mut SmallMap<u32, u64>, key: u32) -> Result<(), AllocError>
     requires { 0 < map.old.room }
-    ensures { IsOk result }
+    ensures done { IsOk result }
+    ensures here { OnOk result (get nat_eq fed.u32 map.new key ≡ Some 1) }
 {
     let _refused = map.reserve(100);
     map.insert(key, 1)?;
@@ -92,7 +94,8 @@ pub fn ask_and_put(map: &mut SmallMap<u32, u64>, key: u32) -> Result<(), AllocEr
 
 /// Makes room and puts a pair in, or leaves the entries.
 pub fn put_or_leave(map: &mut SmallMap<u32, u64>, key: u32) -> Result<(), AllocError>
-    ensures { OnErr result (map.new.entries ≡ map.old.entries) }
+    ensures unchanged { OnErr result (map.new.entries ≡ map.old.entries) }
+    ensures here { OnOk result (get nat_eq fed.u32 map.new key ≡ Some 1) }
 {
     map.reserve(1)?;
     map.insert(key, 1)?;
@@ -102,7 +105,8 @@ pub fn put_or_leave(map: &mut SmallMap<u32, u64>, key: u32) -> Result<(), AllocE
 /// Takes entries out in three ways, which leaves the room for another one.
 pub fn refill(map: &mut SmallMap<u32, u64>, key: u32) -> bool
     requires { 0 < map.old.room }
-    ensures { result ≡ true }
+    ensures done { result ≡ true }
+    ensures here { get nat_eq fed.u32 map.new key ≡ Some 1 }
 {
     map.shift_remove(&key);
     map.retain(|_key, value| *value != 0);
@@ -170,7 +174,8 @@ pub fn enter_two_fitting(map: &mut SmallMap<u32, u64>, a: u32, b: u32) -> Result
 /// Writes the values at two entries in turn, for which there is room.
 pub fn enter_two(map: &mut SmallMap<u32, u64>, a: u32, b: u32) -> Result<(), AllocError>
     requires { 2 ≤ map.old.room }
-    ensures { IsOk result }
+    ensures done { IsOk result }
+    ensures second { OnOk result (get nat_eq fed.u32 map.new b ≡ Some 2) }
 {
     *map.entry(a).or_insert(0)? = 1;
     *map.entry(b).or_insert(0)? = 2;

@@ -1,6 +1,8 @@
 //! Small maps from strings.
+ghost use Rattle.starlark_lists.specs.Entries.{pair_of};
+ghost use Rattle.std.specs.Option.{option_map};
 ghost use Rattle.std.specs.Hash as fed;
-ghost use Rattle.std.specs.Prelude.{◌≡◌, ◌+◌, false, true, length, None, Some, IfOk, IfSome, is_some, OnOk, OnErr, if◌then◌else◌};
+ghost use Rattle.std.specs.Prelude.{◌≡◌, ◌+◌, false, true, length, None, Some, IfOk, IfSome, is_some, OnOk, OnErr, if◌then◌else◌, ◌-◌, slice_get, remove};
 ghost use Rattle.std.specs.String.{string_bytes, string_eq};
 ghost use Rattle.std.specs.declared.alloc.Global.{Global};
 ghost use Rattle.std.specs.declared.string.String.{String};
@@ -157,6 +159,8 @@ pub fn take_last(map: &mut SmallMap<String, u64>) -> Option<(String, u64)>
     ensures others { IfSome result (λ p. (other : String Global) → string_eq p.0 other ≡ false → get string_eq (λ s. fed.str (string_bytes s)) map.new other ≡ get string_eq (λ s. fed.str (string_bytes s)) map.old other) }
     ensures own { AreOwn (λ s. fed.str (string_bytes s)) map.old → AreOwn (λ s. fed.str (string_bytes s)) map.new }
     ensures count { length map.old.entries ≡ length map.new.entries + (if is_some result then 1 else 0) }
+    ensures taken { result ≡ option_map pair_of (slice_get map.old.entries (length map.old.entries - 1)) }
+    ensures left { map.new.entries ≡ remove map.old.entries (length map.old.entries - 1) }
 {
     map.pop()
 }

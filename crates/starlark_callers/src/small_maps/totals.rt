@@ -1,9 +1,9 @@
 //! What the values of a small map add up to, after insertions.
 ghost use Rattle.std.specs.Hash as fed;
-ghost use Rattle.std.specs.Prelude.{◌≡◌, ◌+◌, ◌<◌, map, nat_eq, sum, None, OnOk};
+ghost use Rattle.std.specs.Prelude.{◌≡◌, ◌+◌, ◌<◌, map, nat_eq, sum, None, OnOk, true};
 ghost use Rattle.std.specs.String.{string_bytes, string_eq};
 ghost use Rattle.starlark_lists.specs.Entries.{entry_value};
-ghost use Rattle.starlark_small.specs.Calling.{get};
+ghost use Rattle.starlark_small.specs.Calling.{get, contains};
 
 use starlark_hash::{Hashed, NoRoom};
 use starlark_small::SmallMap;
@@ -12,7 +12,8 @@ use std::hash::Hash;
 /// Counts a number at its entry: all counts together are one more.
 pub fn counted(counts: &mut SmallMap<u32, u32>, key: u32) -> Result<(), NoRoom<(Hashed<u32>, u32)>>
     requires { sum (map entry_value counts.old.entries) < 1000 }
-    ensures { OnOk result (sum (map entry_value counts.new.entries) ≡ sum (map entry_value counts.old.entries) + 1) }
+    ensures total { OnOk result (sum (map entry_value counts.new.entries) ≡ sum (map entry_value counts.old.entries) + 1) }
+    ensures there { OnOk result (contains nat_eq fed.u32 counts.new key ≡ true) }
 {
     *counts.entry(key).or_insert(0)? += 1;
     Ok(())

@@ -1,6 +1,6 @@
 //! Walks of small maps that are collected or added up, the first entry, and what look-ups show of the list.
 ghost use Rattle.std.specs.Hash as fed;
-ghost use Rattle.std.specs.Option.{option_map};
+ghost use Rattle.std.specs.Option.{option_map, unwrap_or};
 ghost use Rattle.std.specs.Prelude.{◌≡◌, ◌≤◌, ◌<◌, ◌^◌, drop, length, map, nat_eq, slice_get, sum, IfOk};
 ghost use Rattle.starlark_lists.specs.Entries.{entry_value, pair_of};
 ghost use Rattle.starlark_small.specs.Calling.{get, get_key, keys};
@@ -62,7 +62,8 @@ pub fn total_by_pairs(entries: &SmallMap<u32, u32>) -> u64
 
 /// The value at a key, or 0, which is no more than all together.
 pub fn part_of_total(entries: &SmallMap<u32, u64>, key: u32) -> u64
-    ensures { result ≤ sum (map entry_value entries.now.entries) }
+    ensures part { result ≤ sum (map entry_value entries.now.entries) }
+    ensures value { result ≡ unwrap_or (get nat_eq fed.u32 entries.now key) 0 }
 {
     entries.get(&key).copied().unwrap_or(0)
 }

@@ -1,7 +1,7 @@
 //! Small maps written through occupied entries, and through walks that write their values.
 ghost use Rattle.std.specs.Hash as fed;
 ghost use Rattle.std.specs.Option.{unwrap_or};
-ghost use Rattle.std.specs.Prelude.{◌≡◌, ℕ, ◌+◌, ◌-◌, ◌^◌, length, min, nat_eq, false, true, None, Some, IfOk, OnOk};
+ghost use Rattle.std.specs.Prelude.{◌≡◌, ℕ, ◌+◌, ◌-◌, ◌^◌, length, min, nat_eq, false, true, None, Some, IfOk, OnOk, IsNone, IsSome, IfSome};
 ghost use Rattle.std.specs.String.{string_bytes, string_eq};
 ghost use Rattle.std.specs.declared.alloc.Global.{Global};
 ghost use Rattle.std.specs.declared.string.String.{String};
@@ -68,6 +68,9 @@ pub fn write_if_there_any<K: Eq + Hash + Drop, V: Drop>(
     value: V,
 ) -> Option<V>
     ensures others { (other : K) → K.eq key other ≡ false → get K.eq K.hash_input map.new other ≡ get K.eq K.hash_input map.old other }
+    ensures here { IsNone result → get K.eq K.hash_input map.new key ≡ Some value }
+    ensures lacking { IsSome result → get K.eq K.hash_input map.old key ≡ None }
+    ensures back { IfSome result (λ back. back ≡ value) }
 {
     match map.entry(key) {
         Entry::Occupied(mut entry) => {

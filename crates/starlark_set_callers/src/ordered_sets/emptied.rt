@@ -1,6 +1,6 @@
 //! Ordered sets that are emptied, counted, extended and copied.
 ghost use Rattle.std.specs.Hash as fed;
-ghost use Rattle.std.specs.Prelude.{◌≡◌, ◌+◌, ◌≤◌, ◌||◌, ℕ, length, nat_eq, false, true, IfOk, OnOk, if◌then◌else◌, IfSome};
+ghost use Rattle.std.specs.Prelude.{◌≡◌, ◌+◌, ◌≤◌, ◌||◌, ℕ, length, nat_eq, false, true, IfOk, OnOk, if◌then◌else◌, IfSome, IsSome};
 ghost use Rattle.std.specs.Set.{is_member};
 ghost use Rattle.std.specs.String.{string_bytes, string_eq};
 ghost use Rattle.std.specs.declared.alloc.Global.{Global};
@@ -94,7 +94,8 @@ pub fn add_names(set: &mut OrderedSet<String>, items: Vec<String>) -> Result<(),
 
 /// Tries a name, which comes back where it is there or there is no room.
 pub fn try_name(set: &mut OrderedSet<String>, name: String) -> Option<String>
-    ensures { IfSome result (λ back. back ≡ name) }
+    ensures back { IfSome result (λ back. back ≡ name) }
+    ensures there { contains string_eq (λ s. fed.str (string_bytes s)) set.old name ≡ true → IsSome result }
 {
     match set.try_insert(name) {
         Ok(()) => None,

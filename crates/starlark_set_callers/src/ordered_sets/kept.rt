@@ -1,7 +1,7 @@
 //! Ordered sets whose elements stand under their own hashes, and what is there after an element was tried.
 ghost use Rattle.std.specs.Hash as fed;
 ghost use Rattle.std.specs.Option.{IfNone};
-ghost use Rattle.std.specs.Prelude.{◌≡◌, ◌+◌, ℕ, None, length, nat_eq, false, true, not, IfSome, OnOk};
+ghost use Rattle.std.specs.Prelude.{◌≡◌, ◌+◌, ℕ, None, length, nat_eq, false, true, not, IfSome, OnOk, IfOk};
 ghost use Rattle.std.specs.String.{string_bytes, string_eq};
 ghost use Rattle.std.specs.declared.alloc.Global.{Global};
 ghost use Rattle.std.specs.declared.string.String.{String};
@@ -16,6 +16,8 @@ use std::hash::Hash;
 /// Puts an element in: elements under their own hashes stay so.
 pub fn add_any<T: Eq + Hash + Drop>(set: &mut OrderedSet<T>, n: T) -> Result<bool, NoRoom<T>>
     ensures own { AreOwn T.hash_input set.old → AreOwn T.hash_input set.new }
+    ensures here { OnOk result (contains T.eq T.hash_input set.new n ≡ true) }
+    ensures is_new { IfOk result (λ is_new. is_new ≡ not (contains T.eq T.hash_input set.old n)) }
 {
     set.insert(n)
 }
@@ -46,6 +48,8 @@ pub fn tried_any<T: Eq + Hash + Drop>(set: &mut OrderedSet<T>, n: T) -> Option<b
 /// Puts an element in: elements under their own hashes stay so.
 pub fn add_named(set: &mut OrderedSet<String>, n: String) -> Result<bool, NoRoom<String>>
     ensures own { AreOwn (λ s. fed.str (string_bytes s)) set.old → AreOwn (λ s. fed.str (string_bytes s)) set.new }
+    ensures here { OnOk result (contains string_eq (λ s. fed.str (string_bytes s)) set.new n ≡ true) }
+    ensures is_new { IfOk result (λ is_new. is_new ≡ not (contains string_eq (λ s. fed.str (string_bytes s)) set.old n)) }
 {
     set.insert(n)
 }
@@ -76,6 +80,8 @@ pub fn tried_named(set: &mut OrderedSet<String>, n: String) -> Option<bool>
 /// Puts an element in: elements under their own hashes stay so.
 pub fn add(set: &mut OrderedSet<u32>, n: u32) -> Result<bool, NoRoom<u32>>
     ensures own { AreOwn fed.u32 set.old → AreOwn fed.u32 set.new }
+    ensures here { OnOk result (contains nat_eq fed.u32 set.new n ≡ true) }
+    ensures is_new { IfOk result (λ is_new. is_new ≡ not (contains nat_eq fed.u32 set.old n)) }
 {
     set.insert(n)
 }

@@ -1,6 +1,6 @@
 //! Small sets whose elements stand under their own hashes, and what is there once an element was put in.
 ghost use Rattle.std.specs.Hash as fed;
-ghost use Rattle.std.specs.Prelude.{◌≡◌, ◌+◌, ℕ, None, length, nat_eq, false, true, IfOk, OnErr, OnOk, if◌then◌else◌};
+ghost use Rattle.std.specs.Prelude.{◌≡◌, ◌+◌, ℕ, None, length, nat_eq, false, true, IfOk, OnErr, OnOk, if◌then◌else◌, not};
 ghost use Rattle.std.specs.String.{string_bytes, string_eq};
 ghost use Rattle.std.specs.declared.alloc.Global.{Global};
 ghost use Rattle.std.specs.declared.string.String.{String};
@@ -16,6 +16,8 @@ use std::hash::Hash;
 /// Puts an element in: elements under their own hashes stay so.
 pub fn add_any<T: Eq + Hash + Drop>(set: &mut SmallSet<T>, n: T) -> Result<bool, NoRoom<T>>
     ensures own { AreOwn T.hash_input set.old → AreOwn T.hash_input set.new }
+    ensures here { OnOk result (contains T.eq T.hash_input set.new n ≡ true) }
+    ensures is_new { IfOk result (λ is_new. is_new ≡ not (contains T.eq T.hash_input set.old n)) }
 {
     set.insert(n)
 }
@@ -26,6 +28,8 @@ pub fn add_hashed_any<T: Eq + Hash + Drop>(
     n: T,
 ) -> Result<bool, NoRoom<Hashed<T>>>
     ensures own { AreOwn T.hash_input set.old → AreOwn T.hash_input set.new }
+    ensures here { OnOk result (contains T.eq T.hash_input set.new n ≡ true) }
+    ensures is_new { IfOk result (λ is_new. is_new ≡ not (contains T.eq T.hash_input set.old n)) }
 {
     set.insert_hashed(Hashed::new(n))
 }
@@ -46,6 +50,7 @@ pub fn add_unseen_any<T: Eq + Hash + Drop>(set: &mut SmallSet<T>, n: T) -> Resul
 /// A set of two elements, each under its own hash.
 pub fn pair_of_any<T: Eq + Hash + Drop>(alloc: Global, a: T, b: T) -> Result<SmallSet<T>, NoRoom<T>>
     ensures own { IfOk result (AreOwn T.hash_input) }
+    ensures second { IfOk result (λ set. contains T.eq T.hash_input set b ≡ true) }
 {
     let mut set = SmallSet::new(alloc);
     set.insert(a)?;
@@ -56,6 +61,8 @@ pub fn pair_of_any<T: Eq + Hash + Drop>(alloc: Global, a: T, b: T) -> Result<Sma
 /// Puts an element in: elements under their own hashes stay so.
 pub fn add_named(set: &mut SmallSet<String>, n: String) -> Result<bool, NoRoom<String>>
     ensures own { AreOwn (λ s. fed.str (string_bytes s)) set.old → AreOwn (λ s. fed.str (string_bytes s)) set.new }
+    ensures here { OnOk result (contains string_eq (λ s. fed.str (string_bytes s)) set.new n ≡ true) }
+    ensures is_new { IfOk result (λ is_new. is_new ≡ not (contains string_eq (λ s. fed.str (string_bytes s)) set.old n)) }
 {
     set.insert(n)
 }
@@ -66,6 +73,8 @@ pub fn add_hashed_named(
     n: String,
 ) -> Result<bool, NoRoom<Hashed<String>>>
     ensures own { AreOwn (λ s. fed.str (string_bytes s)) set.old → AreOwn (λ s. fed.str (string_bytes s)) set.new }
+    ensures here { OnOk result (contains string_eq (λ s. fed.str (string_bytes s)) set.new n ≡ true) }
+    ensures is_new { IfOk result (λ is_new. is_new ≡ not (contains string_eq (λ s. fed.str (string_bytes s)) set.old n)) }
 {
     set.insert_hashed(Hashed::new(n))
 }
@@ -90,6 +99,7 @@ pub fn pair_of_named(
     b: String,
 ) -> Result<SmallSet<String>, NoRoom<String>>
     ensures own { IfOk result (AreOwn (λ s. fed.str (string_bytes s))) }
+    ensures second { IfOk result (λ set. contains string_eq (λ s. fed.str (string_bytes s)) set b ≡ true) }
 {
     let mut set = SmallSet::new(alloc);
     set.insert(a)?;
@@ -100,6 +110,8 @@ pub fn pair_of_named(
 /// Puts an element in: elements under their own hashes stay so.
 pub fn add(set: &mut SmallSet<u32>, n: u32) -> Result<bool, NoRoom<u32>>
     ensures own { AreOwn fed.u32 set.old → AreOwn fed.u32 set.new }
+    ensures here { OnOk result (contains nat_eq fed.u32 set.new n ≡ true) }
+    ensures is_new { IfOk result (λ is_new. is_new ≡ not (contains nat_eq fed.u32 set.old n)) }
 {
     set.insert(n)
 }
@@ -107,6 +119,8 @@ pub fn add(set: &mut SmallSet<u32>, n: u32) -> Result<bool, NoRoom<u32>>
 /// The same under a ready hash.
 pub fn add_hashed(set: &mut SmallSet<u32>, n: u32) -> Result<bool, NoRoom<Hashed<u32>>>
     ensures own { AreOwn fed.u32 set.old → AreOwn fed.u32 set.new }
+    ensures here { OnOk result (contains nat_eq fed.u32 set.new n ≡ true) }
+    ensures is_new { IfOk result (λ is_new. is_new ≡ not (contains nat_eq fed.u32 set.old n)) }
 {
     set.insert_hashed(Hashed::new(n))
 }
@@ -127,6 +141,7 @@ pub fn add_unseen(set: &mut SmallSet<u32>, n: u32) -> Result<(), NoRoom<u32>>
 /// A set of two elements, each under its own hash.
 pub fn pair_of(alloc: Global, a: u32, b: u32) -> Result<SmallSet<u32>, NoRoom<u32>>
     ensures own { IfOk result (AreOwn fed.u32) }
+    ensures second { IfOk result (λ set. contains nat_eq fed.u32 set b ≡ true) }
 {
     let mut set = SmallSet::new(alloc);
     set.insert(a)?;

@@ -92,7 +92,8 @@ pub fn has_hashed(set: &SmallSet<u32>, n: u32) -> bool
 
 /// Puts an element in, and looks under a ready hash.
 pub fn add_and_look_hashed(set: &mut SmallSet<u32>, n: u32) -> Result<bool, NoRoom<u32>>
-    ensures { IfOk result (λ found. found ≡ true) }
+    ensures found { IfOk result (λ found. found ≡ true) }
+    ensures here { OnOk result (contains nat_eq fed.u32 set.new n ≡ true) }
 {
     let hashed = Hashed::new(n);
     set.insert(n)?;
@@ -102,6 +103,7 @@ pub fn add_and_look_hashed(set: &mut SmallSet<u32>, n: u32) -> Result<bool, NoRo
 /// A set of two numbers, each under its own hash.
 pub fn two_of(alloc: Global, a: u32, b: u32) -> Result<SmallSet<u32>, AllocError>
     ensures own { IfOk result (AreOwn fed.u32) }
+    ensures second { IfOk result (λ set. contains nat_eq fed.u32 set b ≡ true) }
 {
     SmallSet::from_iter(alloc, [a, b])
 }
@@ -109,13 +111,15 @@ pub fn two_of(alloc: Global, a: u32, b: u32) -> Result<SmallSet<u32>, AllocError
 /// Puts two numbers in, each under its own hash.
 pub fn add_both(set: &mut SmallSet<u32>, a: u32, b: u32) -> Result<(), AllocError>
     ensures own { AreOwn fed.u32 set.old → AreOwn fed.u32 set.new }
+    ensures second { OnOk result (contains nat_eq fed.u32 set.new b ≡ true) }
 {
     set.extend([a, b])
 }
 
 /// The place of a number, which is put in where it is lacking.
 pub fn place_of(set: &mut SmallSet<u32>, n: u32) -> Result<usize, NoRoom<u32>>
-    ensures { IfOk result (λ place. place < length set.new.entries) }
+    ensures within { IfOk result (λ place. place < length set.new.entries) }
+    ensures here { OnOk result (contains nat_eq fed.u32 set.new n ≡ true) }
 {
     set.insert(n)?;
     match set.get_index_of(&n) {

@@ -30,7 +30,8 @@ pub fn add_and_one(set: &mut SmallSet<u32>, more: Vec<u32>, n: u32) -> Result<()
 /// Asks for much more room, and puts an element in whether it was given or not.
 pub fn ask_and_add(set: &mut SmallSet<u32>, n: u32) -> Result<(), AllocError>
     requires { 0 < set.old.room }
-    ensures { IsOk result }
+    ensures done { IsOk result }
+    ensures here { OnOk result (contains nat_eq fed.u32 set.new n ≡ true) }
 {
     let _refused = set.reserve(100);
     set.insert(n)?;
@@ -39,7 +40,8 @@ pub fn ask_and_add(set: &mut SmallSet<u32>, n: u32) -> Result<(), AllocError>
 
 /// Makes room and puts an element in, or leaves the elements.
 pub fn add_or_leave(set: &mut SmallSet<u32>, n: u32) -> Result<(), AllocError>
-    ensures { OnErr result (set.new.entries ≡ set.old.entries) }
+    ensures unchanged { OnErr result (set.new.entries ≡ set.old.entries) }
+    ensures here { OnOk result (contains nat_eq fed.u32 set.new n ≡ true) }
 {
     set.reserve(1)?;
     set.insert(n)?;
@@ -49,7 +51,8 @@ pub fn add_or_leave(set: &mut SmallSet<u32>, n: u32) -> Result<(), AllocError>
 /// Takes elements out in three ways, which leaves the room for another one.
 pub fn refill(set: &mut SmallSet<u32>, n: u32) -> bool
     requires { 0 < set.old.room }
-    ensures { result ≡ true }
+    ensures done { result ≡ true }
+    ensures here { contains nat_eq fed.u32 set.new n ≡ true }
 {
     set.shift_remove(&n);
     set.retain(|element| *element != 0);

@@ -1,9 +1,9 @@
 //! Elements of small sets that are shown where they stand, and are put in where they are lacking.
 ghost use Rattle.std.specs.Hash as fed;
 ghost use Rattle.std.specs.Option.{unwrap_or};
-ghost use Rattle.std.specs.Prelude.{◌≡◌, ◌<◌, nat_eq, false, true, IfErr, IfOk, OnErr};
+ghost use Rattle.std.specs.Prelude.{◌≡◌, ◌<◌, nat_eq, false, true, IfErr, IfOk, OnErr, OnOk};
 ghost use Rattle.starlark_lists.specs.Entries.{match_of};
-ghost use Rattle.starlark_small.specs.Calling.{contains};
+ghost use Rattle.starlark_small.specs.Calling.{contains, contains_text};
 ghost use Rattle.starlark_small.specs.Map.{own_hashed};
 ghost use Rattle.starlark_sets.specs.Set.{element_at};
 
@@ -35,7 +35,8 @@ pub fn stored_number(set: &mut SmallSet<u32>, n: u32) -> Result<u32, NoRoom<u32>
 
 /// Puts the string of a text in where it is lacking: a refusal leaves the elements.
 pub fn add_text(set: &mut SmallSet<String>, text: &str) -> Result<(), AllocError>
-    ensures { OnErr result (set.new.entries ≡ set.old.entries) }
+    ensures unchanged { OnErr result (set.new.entries ≡ set.old.entries) }
+    ensures here { OnOk result (contains_text set.new text.now ≡ true) }
 {
     set.get_or_insert_owned(&TextKey(text))?;
     Ok(())
@@ -44,7 +45,8 @@ pub fn add_text(set: &mut SmallSet<String>, text: &str) -> Result<(), AllocError
 /// Puts a number in where it is lacking, which is not refused where there is room.
 pub fn add_fitting(set: &mut SmallSet<u32>, n: u32) -> bool
     requires { 0 < set.old.room }
-    ensures { result ≡ true }
+    ensures done { result ≡ true }
+    ensures here { contains nat_eq fed.u32 set.new n ≡ true }
 {
     set.get_or_insert_owned(&n).is_ok()
 }

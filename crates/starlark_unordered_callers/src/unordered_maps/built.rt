@@ -1,6 +1,6 @@
 //! Maps that are made of others.
 ghost use Rattle.std.specs.Map.{update_all};
-ghost use Rattle.std.specs.Prelude.{◌≡◌, ◌≤◌, ℕ, length, nat_eq, nat_lt, filter, false, true, None, Some, IfOk, IsPermutation};
+ghost use Rattle.std.specs.Prelude.{◌≡◌, ◌≤◌, ℕ, length, nat_eq, nat_lt, filter, false, true, None, Some, IfOk, IsPermutation, ◌%◌};
 ghost use Rattle.starlark_table.specs.Growth.{most_for};
 ghost use Rattle.starlark_unordered.specs.Calling.{contains, get};
 ghost use Rattle.starlark_unordered.specs.Clone.{IsEqualClone};
@@ -80,6 +80,7 @@ pub fn keep_above<K: Eq + Hash + Drop>(map: &mut UnorderedMap<K, u64>, least: u6
 pub fn keep_even(map: &mut UnorderedMap<u32, u64>)
     ensures fewer { length (pairs_of map.new) ≤ length (pairs_of map.old) }
     ensures no_new { (key : ℕ) → contains nat_eq map.new key ≡ true → contains nat_eq map.old key ≡ true }
+    ensures kept { IsPermutation (filter (λ p. nat_eq (p.0 % 2) 0) (pairs_of map.old)) (pairs_of map.new) }
 {
     map.retain(|key, _value| *key % 2 == 0);
 }

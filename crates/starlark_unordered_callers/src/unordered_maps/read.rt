@@ -1,7 +1,7 @@
 //! Unordered maps that are looked up, counted, emptied and copied.
 ghost use Rattle.std.specs.Map.{update_all};
 ghost use Rattle.std.specs.Option.{unwrap_or};
-ghost use Rattle.std.specs.Prelude.{◌≡◌, ◌+◌, ◌≤◌, length, nat_eq, nat_lt, filter, false, true, None, Some, IfOk, if◌then◌else◌, IsPermutation};
+ghost use Rattle.std.specs.Prelude.{◌≡◌, ◌+◌, ◌≤◌, length, nat_eq, nat_lt, filter, false, true, None, Some, IfOk, OnOk, if◌then◌else◌, IsPermutation};
 ghost use Rattle.std.specs.String.{string_eq};
 ghost use Rattle.std.specs.declared.alloc.Global.{Global};
 ghost use Rattle.std.specs.declared.string.String.{String};
@@ -87,7 +87,8 @@ pub fn record_and_count_named(
     name: String,
     value: u64,
 ) -> Result<usize, NoRoom<(String, u64)>>
-    ensures { IfOk result (λ n. n ≡ length (pairs_of map.old) + (if contains string_eq map.old name then 0 else 1)) }
+    ensures count { IfOk result (λ n. n ≡ length (pairs_of map.old) + (if contains string_eq map.old name then 0 else 1)) }
+    ensures here { OnOk result (get string_eq map.new name ≡ Some value) }
 {
     map.insert(name, value)?;
     Ok(map.len())

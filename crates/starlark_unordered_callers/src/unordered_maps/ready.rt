@@ -74,7 +74,8 @@ pub fn value_of_hashed<K: Eq + Hash>(map: &UnorderedMap<K, u64>, key: &Hashed<K>
 
 /// What is found under whatever hash is the key's value.
 pub fn value_under<K: Eq + Hash>(map: &UnorderedMap<K, u64>, key: Hashed<&K>) -> Option<u64>
-    ensures { IfSome result (λ value. get K.eq map.now (key_of key.entry).now ≡ Some value) }
+    ensures under { IfSome result (λ value. get K.eq map.now (key_of key.entry).now ≡ Some value) }
+    ensures own { hash_of key.entry ≡ own_hash K.hash_input (key_of key.entry).now → result ≡ get K.eq map.now (key_of key.entry).now }
 {
     map.get_hashed(key).copied()
 }

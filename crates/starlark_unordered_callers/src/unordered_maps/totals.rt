@@ -1,9 +1,9 @@
 //! What the values of an unordered map add up to, after changes and along walks.
 ghost use Rattle.std.specs.Map.{values_of};
 ghost use Rattle.std.specs.Option.{unwrap_or};
-ghost use Rattle.std.specs.Prelude.{◌≡◌, ◌+◌, ◌<◌, ◌≤◌, ◌^◌, nat_eq, sum, None, Some, IfOk, IfSome, IsNone, OnOk};
+ghost use Rattle.std.specs.Prelude.{◌≡◌, ◌+◌, ◌<◌, ◌≤◌, ◌^◌, nat_eq, sum, true, None, Some, IfOk, IfSome, IsNone, OnOk};
 ghost use Rattle.std.specs.String.{string_eq};
-ghost use Rattle.starlark_unordered.specs.Calling.{get};
+ghost use Rattle.starlark_unordered.specs.Calling.{contains, get};
 ghost use Rattle.starlark_unordered.specs.Pairs.{pairs_of};
 
 use starlark_hash::NoRoom;
@@ -95,7 +95,8 @@ pub fn emptied<K: Eq + Hash + Drop>(sums: &mut UnorderedMap<K, u64>)
 /// Counts a number: all counts together are one more.
 pub fn counted(counts: &mut UnorderedMap<u32, u32>, key: u32) -> Result<(), NoRoom<(u32, u32)>>
     requires { sum (values_of (pairs_of counts.old)) < 1000 }
-    ensures { OnOk result (sum (values_of (pairs_of counts.new)) ≡ sum (values_of (pairs_of counts.old)) + 1) }
+    ensures total { OnOk result (sum (values_of (pairs_of counts.new)) ≡ sum (values_of (pairs_of counts.old)) + 1) }
+    ensures there { OnOk result (contains nat_eq counts.new key ≡ true) }
 {
     match counts.get_mut(&key) {
         Some(count) => *count += 1,
@@ -144,7 +145,8 @@ pub fn counted_by_entry(
     key: u32,
 ) -> Result<(), NoRoom<(u32, u32)>>
     requires { sum (values_of (pairs_of counts.old)) < 1000 }
-    ensures { OnOk result (sum (values_of (pairs_of counts.new)) ≡ sum (values_of (pairs_of counts.old)) + 1) }
+    ensures total { OnOk result (sum (values_of (pairs_of counts.new)) ≡ sum (values_of (pairs_of counts.old)) + 1) }
+    ensures there { OnOk result (contains nat_eq counts.new key ≡ true) }
 {
     match counts.entry(key) {
         Entry::Occupied(mut entry) => {

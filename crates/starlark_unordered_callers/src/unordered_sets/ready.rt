@@ -1,7 +1,8 @@
 //! Unordered sets that are looked into under ready hashes.
 ghost use Rattle.std.specs.Prelude.{◌≡◌, nat_eq, true, IfOk, OnOk};
 ghost use Rattle.std.specs.String.{string_eq};
-ghost use Rattle.starlark_hash.specs.HashValue.{key_of};
+ghost use Rattle.starlark_hash.specs.HashValue.{hash_of, key_of};
+ghost use Rattle.starlark_hash.specs.Hasher.{own_hash};
 ghost use Rattle.starlark_unordered.specs.Calling.{contains};
 
 use starlark_hash::{Hashed, NoRoom};
@@ -32,7 +33,8 @@ pub fn has_any<T: Eq + Hash>(set: &UnorderedSet<T>, element: &T) -> bool
 
 /// What is there under whatever hash is an element of the set.
 pub fn has_under<T: Eq + Hash>(set: &UnorderedSet<T>, element: Hashed<&T>) -> bool
-    ensures { result ≡ true → contains T.eq set.now (key_of element.entry).now ≡ true }
+    ensures under { result ≡ true → contains T.eq set.now (key_of element.entry).now ≡ true }
+    ensures own { hash_of element.entry ≡ own_hash T.hash_input (key_of element.entry).now → result ≡ contains T.eq set.now (key_of element.entry).now }
 {
     set.contains_hashed(element)
 }

@@ -6,3 +6,6 @@ returns-clause-bounded c = search (callers, c.in_ok-insert.ensures, c.requires)
 
 pub returns-clause-named : goal.returns-clause-named
 returns-clause-named c = search (callers, c.in_ok-insert.ensures, c.requires)
+
+pub returns-clause-score : goal.returns-clause-score
+returns-clause-score c = search (callers, c.in_ok-insert.ensures)
