@@ -206,7 +206,7 @@ impl Workload {
         }
     }
 
-    /// One pass on a map.
+    /// One turn on a map: its quickest pass, where it has more than one.
     pub fn pass<K: Key>(
         self,
         rt: &HostRuntime,

@@ -1,4 +1,5 @@
-//! The workloads. Each does one pass on any map that can be asked for what it does.
+//! The workloads, on any map that can be asked for what they do. Each does one pass, and those that leave their map as it
+//! is do a few in a row and answer the quickest, since the first finds little of it in the caches.
 
 use crate::fault::Fault;
 use crate::keys::{Key, places};
@@ -9,6 +10,9 @@ use std::time::Instant;
 
 /// How many operations a pass does, where nothing else is said.
 pub const MILLION: usize = 1_000_000;
+
+/// How many passes are done in a row on a map that stays as it is.
+pub const PASSES: usize = 4;
 
 // The map of these keys, each with its number in the stream as its value.
 #[inline]
@@ -21,8 +25,16 @@ fn fill<K: Key, M: Asked<K>>(map: &mut M, block: &[K], first: u64) -> Result<(),
     Ok(())
 }
 
-// Maps of `n` keys each, the first of the first `n` keys, and so on.
-fn prepared<K: Key, M: Asked<K>>(
+// A map of the first `n` keys.
+fn filled<K: Key, M: Asked<K>>(alloc: Global, keys: &[K], n: usize) -> Result<M, Fault> {
+    let mut map = M::empty(alloc);
+    fill(&mut map, keys.get(..n).unwrap_or(keys), 0)?;
+    Ok(map)
+}
+
+// Maps of `n` keys each, the first of the first `n` keys, and so on. Each begins with room for them, so that it lies in
+// memory as a clone does.
+fn prepared<K: Key, M: Roomy<K>>(
     alloc: Global,
     keys: &[K],
     n: usize,
@@ -31,7 +43,7 @@ fn prepared<K: Key, M: Asked<K>>(
     let mut maps = Vec::with_capacity(alloc, count)?;
     let mut first = 0_u64;
     for block in keys.chunks(n.max(1)).take(count) {
-        let mut map = M::empty(alloc);
+        let mut map = M::with_room(alloc, n)?;
         fill(&mut map, block, first)?;
         maps.push(map)?;
         first = first.wrapping_add(n as u64);
@@ -132,72 +144,87 @@ pub fn insert<K: Key, M: Walked<K>>(rt: &HostRuntime, keys: &[K], n: usize) -> R
     Pass::since(rt, start, checksum)
 }
 
-// The sum of the values under these keys.
-fn found<K: Key, M: Asked<K>>(map: &M, queries: &[M::Query]) -> u64 {
+// Adds up the values under these keys.
+fn found<K: Key, M: Asked<K>>(
+    rt: &HostRuntime,
+    map: &M,
+    queries: &[M::Query],
+) -> Result<Pass, Fault> {
+    let start = Instant::now(rt)?;
     let mut sum = 0_u64;
     for query in queries {
         if let Some(value) = map.at(query) {
             sum = sum.wrapping_add(value.number());
         }
     }
-    sum
+    Pass::since(rt, start, sum)
 }
 
 /// Looks up a million keys that are there, in a map of `n` keys.
 pub fn hit<K: Key, M: Asked<K>>(rt: &HostRuntime, keys: &[K], n: usize) -> Result<Pass, Fault> {
-    let mut map = M::empty(rt.alloc());
-    fill(&mut map, keys.get(..n).unwrap_or(keys), 0)?;
+    let map = filled::<K, M>(rt.alloc(), keys, n)?;
     let mut queries = Vec::with_capacity(rt.alloc(), MILLION)?;
     for place in places(rt.alloc(), n, MILLION)? {
         if let Some(key) = keys.get(place) {
             queries.push(M::query(*key))?;
         }
     }
-    let start = Instant::now(rt)?;
-    let checksum = found(&map, &queries);
-    Pass::since(rt, start, checksum)
+    let mut best = found(rt, &map, &queries)?;
+    for _ in 1..PASSES {
+        best = best.or(found(rt, &map, &queries)?)?;
+    }
+    Ok(best)
 }
 
-// How many of the keys are not there.
-fn lacking<K: Key, M: Asked<K>>(map: &M, queries: &[M::Query]) -> u64 {
+// Counts the keys that are not there.
+fn lacking<K: Key, M: Asked<K>>(
+    rt: &HostRuntime,
+    map: &M,
+    queries: &[M::Query],
+) -> Result<Pass, Fault> {
+    let start = Instant::now(rt)?;
     let mut count = 0_u64;
     for query in queries {
         if map.at(query).is_none() {
             count = count.wrapping_add(1);
         }
     }
-    count
+    Pass::since(rt, start, count)
 }
 
 /// Looks up a million keys that are not there, in a map of `n` keys.
 pub fn miss<K: Key, M: Asked<K>>(rt: &HostRuntime, keys: &[K], n: usize) -> Result<Pass, Fault> {
-    let mut map = M::empty(rt.alloc());
-    fill(&mut map, keys.get(..n).unwrap_or(keys), 0)?;
+    let map = filled::<K, M>(rt.alloc(), keys, n)?;
     let mut queries = Vec::with_capacity(rt.alloc(), MILLION)?;
     for key in keys.iter().skip(MILLION).take(MILLION) {
         queries.push(M::query(*key))?;
     }
-    let start = Instant::now(rt)?;
-    let checksum = lacking(&map, &queries);
-    Pass::since(rt, start, checksum)
+    let mut best = lacking(rt, &map, &queries)?;
+    for _ in 1..PASSES {
+        best = best.or(lacking(rt, &map, &queries)?)?;
+    }
+    Ok(best)
 }
 
-// The sum of all keys and values, so many times over.
-fn sums<K: Key, M: Walked<K>>(map: &M, count: usize) -> u64 {
+// Adds up all keys and values, so many times over.
+fn sums<K: Key, M: Walked<K>>(rt: &HostRuntime, map: &M, count: usize) -> Result<Pass, Fault> {
+    let start = Instant::now(rt)?;
     let mut total = 0_u64;
     for _ in 0..count {
         total = total.wrapping_add(map.sum());
     }
-    total
+    Pass::since(rt, start, total)
 }
 
 /// Walks a map of `n` keys, four million entries in all.
 pub fn walk<K: Key, M: Walked<K>>(rt: &HostRuntime, keys: &[K], n: usize) -> Result<Pass, Fault> {
-    let mut map = M::empty(rt.alloc());
-    fill(&mut map, keys.get(..n).unwrap_or(keys), 0)?;
-    let start = Instant::now(rt)?;
-    let checksum = sums(&map, 4 * MILLION / n.max(1));
-    Pass::since(rt, start, checksum)
+    let map = filled::<K, M>(rt.alloc(), keys, n)?;
+    let count = 4 * MILLION / n.max(1);
+    let mut best = sums(rt, &map, count)?;
+    for _ in 1..PASSES {
+        best = best.or(sums(rt, &map, count)?)?;
+    }
+    Ok(best)
 }
 
 /// Which entry `cycle` removes.
@@ -245,7 +272,7 @@ pub fn cycle<K: Key, M: Listed<K>>(
     keys: &[K],
     n: usize,
 ) -> Result<Pass, Fault> {
-    let mut map = M::empty(rt.alloc());
+    let mut map = M::with_room(rt.alloc(), n)?;
     fill(&mut map, keys.get(..n).unwrap_or(keys), 0)?;
     let places = removed.places(rt.alloc(), n, turns(n))?;
     let start = Instant::now(rt)?;
@@ -279,8 +306,7 @@ pub fn cycle_keys<K: Key, M: Walked<K>>(
     keys: &[K],
     n: usize,
 ) -> Result<Pass, Fault> {
-    let mut map = M::empty(rt.alloc());
-    fill(&mut map, keys.get(..n).unwrap_or(keys), 0)?;
+    let mut map = filled::<K, M>(rt.alloc(), keys, n)?;
     let middles = middles(rt.alloc(), keys, n)?;
     let start = Instant::now(rt)?;
     let mut checksum = 0;
