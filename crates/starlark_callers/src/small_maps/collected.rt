@@ -28,22 +28,6 @@ pub fn later(alloc: Global, key: u32, a: u64, b: u64) -> Result<SmallMap<u32, u6
     SmallMap::from_iter(alloc, [(key, a), (key, b)])
 }
 
-/// A map of two pairs of any type.
-pub fn two_any<K: Eq + Hash + Drop, V: Drop>(
-    alloc: Global,
-    a: (K, V),
-    b: (K, V),
-) -> Result<SmallMap<K, V>, AllocError>
-    requires { K.eq a.0 b.0 ≡ false }
-    ensures first { IfOk result (λ m. get K.eq K.hash_input m a.0 ≡ Some a.1) }
-    ensures second { IfOk result (λ m. get K.eq K.hash_input m b.0 ≡ Some b.1) }
-{
-    let mut items = Vec::new(alloc);
-    items.push(a)?;
-    items.push(b)?;
-    SmallMap::from_iter(alloc, items)
-}
-
 /// A map of the pairs of a vector: each key has its last value.
 pub fn of_vec<K: Eq + Hash + Drop, V: Drop>(
     alloc: Global,
