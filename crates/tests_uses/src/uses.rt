@@ -89,57 +89,63 @@ fn dependencies(targets: &Targets, target: u32) -> Option<usize> {
     Some(found.len())
 }
 
-// Two targets, of which the first is declared twice and has one dependency.
-fn builds(alloc: Global) -> Result<Targets, Fail> {
-    let mut targets = SmallMap::new(alloc);
-    declare(alloc, &mut targets, 5)?;
-    declare(alloc, &mut targets, 2)?;
-    depend(&mut targets, 5, 2)?;
-    declare(alloc, &mut targets, 5)?;
-    Ok(targets)
+// Declares these targets.
+fn declares(alloc: Global, targets: &mut Targets, declared: &[u32]) -> Result<(), Fail> {
+    for target in declared {
+        declare(alloc, targets, *target)?;
+    }
+    Ok(())
+}
+
+// Lets a target depend on another.
+fn depends(targets: &mut Targets, target: u32, on: u32) -> Result<(), Fail> {
+    depend(targets, target, on)?;
+    Ok(())
+}
+
+// Declares two targets, the first of them again after it has a dependency.
+fn build(alloc: Global, targets: &mut Targets) -> Result<(), Fail> {
+    declares(alloc, targets, &[5, 2])?;
+    depends(targets, 5, 2)?;
+    declares(alloc, targets, &[5])
 }
 
 #[test]
 fn a_target_keeps_its_place_and_dependencies(rt: HostRuntime) -> Result<(), Fail> {
-    let targets = builds(rt.alloc())?;
+    let mut targets = SmallMap::new(rt.alloc());
+    build(rt.alloc(), &mut targets)?;
     holds(&rt, dependencies(&targets, 5) == Some(1));
     holds(&rt, dependencies(&targets, 2) == Some(0));
     holds(&rt, dependencies(&targets, 9).is_none());
     Ok(())
 }
 
-// Whether the targets are ordered, and whether they are once a target depends on another.
-fn ordered(targets: &mut Targets, target: u32, on: u32) -> Result<(bool, bool), Fail> {
+// Whether three targets, of which the last depends on the first, are ordered, and whether they are once a target depends
+// on another.
+fn ordered(
+    alloc: Global,
+    targets: &mut Targets,
+    target: u32,
+    on: u32,
+) -> Result<(bool, bool), Fail> {
+    declares(alloc, targets, &[5, 2, 7])?;
+    depends(targets, 7, 5)?;
     let before = is_ordered(targets);
-    depend(targets, target, on)?;
+    depends(targets, target, on)?;
     Ok((before, is_ordered(targets)))
 }
 
-// Three targets, of which the last depends on the first.
-fn three(alloc: Global) -> Result<Targets, Fail> {
+// The same of targets of their own.
+fn ordered_anew(alloc: Global, target: u32, on: u32) -> Result<(bool, bool), Fail> {
     let mut targets = SmallMap::new(alloc);
-    declare(alloc, &mut targets, 5)?;
-    declare(alloc, &mut targets, 2)?;
-    declare(alloc, &mut targets, 7)?;
-    depend(&mut targets, 7, 5)?;
-    Ok(targets)
+    ordered(alloc, &mut targets, target, on)
 }
 
 #[test]
 fn targets_are_ordered_where_all_they_depend_on_comes_before(rt: HostRuntime) -> Result<(), Fail> {
-    holds(&rt, ordered(&mut three(rt.alloc())?, 7, 2)? == (true, true));
-    holds(
-        &rt,
-        ordered(&mut three(rt.alloc())?, 5, 2)? == (true, false),
-    );
-    holds(
-        &rt,
-        ordered(&mut three(rt.alloc())?, 2, 2)? == (true, false),
-    );
-    holds(
-        &rt,
-        ordered(&mut three(rt.alloc())?, 2, 9)? == (true, false),
-    );
+    for (target, on, after) in [(7, 2, true), (5, 2, false), (2, 2, false), (2, 9, false)] {
+        holds(&rt, ordered_anew(rt.alloc(), target, on)? == (true, after));
+    }
     Ok(())
 }
 
@@ -171,20 +177,33 @@ fn equal_sets_hit(rt: HostRuntime) -> Result<(), Fail> {
     Ok(())
 }
 
-// Whether scores under numbers, names and both are noted, and one is changed and taken out.
-fn scores(alloc: Global) -> Result<bool, Fail> {
-    let mut numbered = SmallMap::new(alloc);
-    note(&mut numbered, 7, 50)?;
-    let mut any = SmallMap::new(alloc);
-    note_any(&mut any, 7u8, 60)?;
-    let mut named = SmallMap::new(alloc);
-    note_name(&mut named, String::from_str(alloc, "a")?, 70)?;
-    change(&mut named, "a", 80);
-    let first = forget_first(&mut named);
-    let mut unordered = UnorderedMap::new(alloc);
-    note_unordered(&mut unordered, 7, 90)?;
-    let kept = numbered.get(&7) == Some(&50) && any.get(&7) == Some(&60);
-    Ok(kept && is_score(&first, 80) && forget_unordered(&mut unordered, 7) == Some(90))
+// Whether a score under a number is noted.
+fn notes_number(alloc: Global) -> Result<bool, Fail> {
+    let mut scores = SmallMap::new(alloc);
+    note(&mut scores, 7, 50)?;
+    Ok(scores.get(&7) == Some(&50))
+}
+
+// Whether one under a key of any type is.
+fn notes_any(alloc: Global) -> Result<bool, Fail> {
+    let mut scores = SmallMap::new(alloc);
+    note_any(&mut scores, 7u8, 60)?;
+    Ok(scores.get(&7) == Some(&60))
+}
+
+// Whether one under a name is, is changed, and is taken out.
+fn notes_named(alloc: Global) -> Result<bool, Fail> {
+    let mut scores = SmallMap::new(alloc);
+    note_name(&mut scores, String::from_str(alloc, "a")?, 70)?;
+    change(&mut scores, "a", 80);
+    Ok(is_score(&forget_first(&mut scores), 80))
+}
+
+// Whether one in a map that keeps no order is, and is taken out.
+fn notes_out_of_order(alloc: Global) -> Result<bool, Fail> {
+    let mut scores = UnorderedMap::new(alloc);
+    note_unordered(&mut scores, 7, 90)?;
+    Ok(forget_unordered(&mut scores, 7) == Some(90))
 }
 
 fn is_score(pair: &Option<(String, u64)>, score: u64) -> bool {
@@ -196,7 +215,9 @@ fn is_score(pair: &Option<(String, u64)>, score: u64) -> bool {
 
 #[test]
 fn notes_scores(rt: HostRuntime) -> Result<(), Fail> {
-    let noted = scores(rt.alloc())?;
-    holds(&rt, noted);
+    holds(&rt, notes_number(rt.alloc())?);
+    holds(&rt, notes_any(rt.alloc())?);
+    holds(&rt, notes_named(rt.alloc())?);
+    holds(&rt, notes_out_of_order(rt.alloc())?);
     Ok(())
 }
