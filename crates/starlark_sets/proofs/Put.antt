@@ -103,6 +103,7 @@ module _ {Q T : Type 0} (eq : T → T → Bool) (laws : IsEquivalence eq) (equiv
   puts_at None at (Ok p) adds h =
       let put = put_for p.now h.0 at h.1.entries in
       record {
+        equal = h.0;
         updates = written_for p.now h.0 put;
         count = count_more (is_some (found test hash old.entries)) (length new.entries) (length old.entries) (ap is_some (lacking_for at)) (omega (arith, ap length h.1.entries, length_push old.entries (hashed hash p.now, tt)));
         own = λ stored alike own. own-inserted stored eq old.entries new.entries (hashed hash p.now) tt put (λ j. own_hash (λ (_ : T). alike p.now h.0 j) p.now) own;
@@ -111,6 +112,7 @@ module _ {Q T : Type 0} (eq : T → T → Bool) (laws : IsEquivalence eq) (equiv
         set = adds;
       }
   puts_at None at (Err e) adds h = record {
+    equal = tt;
     updates = tt;
     count = tt;
     own = λ stored alike own. own-same stored old.entries new.entries h.entries own;
@@ -121,6 +123,7 @@ module _ {Q T : Type 0} (eq : T → T → Bool) (laws : IsEquivalence eq) (equiv
   puts_at (Some i) at (Ok p) adds h =
       let same : new.entries ≡ old.entries = ap (λ (m : Set T). m.entries) h.1 in
       record {
+        equal = (key_stands test hash old.entries (Some p.now) (sym h.0)).2;
         updates = (ap (found test hash) same ∙ unit_there (found test hash old.entries) (there_for i at), λ under other apart. ap (found (eq other) under) same);
         count = count_same (is_some (found test hash old.entries)) (length new.entries) (length old.entries) (there_for i at) (ap length same);
         own = λ stored alike own. own-same stored old.entries new.entries same own;
