@@ -87,7 +87,9 @@ pub fn add_two_fitting(
     requires { 2 ≤ map.old.room }
     ensures done { IsOk result }
     ensures left { map.old.room ≤ map.new.room + 2 }
+    ensures first { nat_eq a.0 b.0 ≡ false → OnOk result (get nat_eq fed.u32 map.new a.0 ≡ Some a.1) }
     ensures second { OnOk result (get nat_eq fed.u32 map.new b.0 ≡ Some b.1) }
+    ensures others { OnOk result ((other : ℕ) → nat_eq a.0 other ≡ false → nat_eq b.0 other ≡ false → get nat_eq fed.u32 map.new other ≡ get nat_eq fed.u32 map.old other) }
 {
     map.extend([a, b])
 }

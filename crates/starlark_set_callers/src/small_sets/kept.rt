@@ -141,7 +141,9 @@ pub fn add_unseen(set: &mut SmallSet<u32>, n: u32) -> Result<(), NoRoom<u32>>
 /// A set of two elements, each under its own hash.
 pub fn pair_of(alloc: Global, a: u32, b: u32) -> Result<SmallSet<u32>, NoRoom<u32>>
     ensures own { IfOk result (AreOwn fed.u32) }
+    ensures first { nat_eq b a ≡ false → IfOk result (λ set. contains nat_eq fed.u32 set a ≡ true) }
     ensures second { IfOk result (λ set. contains nat_eq fed.u32 set b ≡ true) }
+    ensures others { IfOk result (λ set. (n : ℕ) → nat_eq a n ≡ false → nat_eq b n ≡ false → contains nat_eq fed.u32 set n ≡ false) }
 {
     let mut set = SmallSet::new(alloc);
     set.insert(a)?;
@@ -162,6 +164,7 @@ pub fn keep_text(set: &mut SmallSet<String>, text: &str) -> Result<(), AllocErro
 
 /// Puts a copy of a number in where it is lacking, and tells what is there then.
 pub fn keep_copy(set: &mut SmallSet<u32>, n: &u32) -> Result<u32, AllocError>
+    ensures there { IfOk result (λ there. nat_eq n.now there ≡ true) }
     ensures here { OnOk result (contains nat_eq fed.u32 set.new n.now ≡ true) }
     ensures others { OnOk result ((other : ℕ) → nat_eq n.now other ≡ false → contains nat_eq fed.u32 set.new other ≡ contains nat_eq fed.u32 set.old other) }
     ensures own { AreOwn fed.u32 set.old → AreOwn fed.u32 set.new }

@@ -1,6 +1,7 @@
 //! Small sets of numbers.
 ghost use Rattle.std.specs.Hash as fed;
-ghost use Rattle.std.specs.Prelude.{◌≡◌, ◌<◌, ℕ, length, nat_eq, true, false, not, Some, None, IfOk, IfErr, OnOk, OnErr};
+ghost use Rattle.std.specs.Prelude.{◌≡◌, ◌<◌, ◌||◌, ◌∷◌, [], ℕ, length, nat_eq, true, false, not, Some, None, IfOk, IfErr, OnOk, OnErr};
+ghost use Rattle.std.specs.Set.{is_member};
 ghost use Rattle.starlark_small.specs.Calling.{get, contains, AreOwn};
 
 use starlark_hash::{Hashed, NoRoom};
@@ -103,7 +104,7 @@ pub fn add_and_look_hashed(set: &mut SmallSet<u32>, n: u32) -> Result<bool, NoRo
 /// A set of two numbers, each under its own hash.
 pub fn two_of(alloc: Global, a: u32, b: u32) -> Result<SmallSet<u32>, AllocError>
     ensures own { IfOk result (AreOwn fed.u32) }
-    ensures second { IfOk result (λ set. contains nat_eq fed.u32 set b ≡ true) }
+    ensures each { IfOk result (λ set. (n : ℕ) → contains nat_eq fed.u32 set n ≡ is_member nat_eq (a ∷ b ∷ []) n) }
 {
     SmallSet::from_iter(alloc, [a, b])
 }
@@ -111,7 +112,7 @@ pub fn two_of(alloc: Global, a: u32, b: u32) -> Result<SmallSet<u32>, AllocError
 /// Puts two numbers in, each under its own hash.
 pub fn add_both(set: &mut SmallSet<u32>, a: u32, b: u32) -> Result<(), AllocError>
     ensures own { AreOwn fed.u32 set.old → AreOwn fed.u32 set.new }
-    ensures second { OnOk result (contains nat_eq fed.u32 set.new b ≡ true) }
+    ensures each { OnOk result ((n : ℕ) → contains nat_eq fed.u32 set.new n ≡ (contains nat_eq fed.u32 set.old n || is_member nat_eq (a ∷ b ∷ []) n)) }
 {
     set.extend([a, b])
 }
