@@ -17,39 +17,31 @@ pub(crate) const LOW_KEYS: [u32; 3] = [1, 2, 3];
 /// The values as they ascend.
 pub(crate) const LOW_VALUES: [u32; 3] = [10, 20, 30];
 
-/// How many items there are, how many are above 2, their sum, and all of them.
+/// How many items there are, their sum, and those that are above 1.
 pub(crate) struct Answers {
     pub count: usize,
-    pub above: usize,
     pub sum: u32,
-    pub all: Result<Vec<u32>, AllocError>,
+    pub above: Result<Vec<u32>, AllocError>,
 }
 
 /// Whether these are the answers over these numbers.
 pub(crate) fn are_of(answers: Answers, numbers: &[u32]) -> bool {
-    let Answers {
-        count,
-        above,
-        sum,
-        all,
-    } = answers;
-    let Ok(all) = all else {
+    let Answers { count, sum, above } = answers;
+    let Ok(above) = above else {
         return false;
     };
     let mut total = 0u32;
     for number in numbers {
         total = total.wrapping_add(*number);
     }
-    count == numbers.len()
-        && above == numbers.iter().filter(|number| **number > 2).count()
-        && sum == total
-        && all.as_slice() == numbers
+    let wanted = numbers.iter().filter(|number| **number > 1);
+    count == numbers.len() && sum == total && above.iter().eq(wanted)
 }
 
 /// The same, whatever order the numbers came in.
 pub(crate) fn are_of_any_order(mut answers: Answers, numbers: &[u32]) -> bool {
-    if let Ok(all) = &mut answers.all {
-        all.sort_unstable();
+    if let Ok(above) = &mut answers.above {
+        above.sort_unstable();
     }
     are_of(answers, numbers)
 }
@@ -61,19 +53,6 @@ pub(crate) fn count<I: Iterator<Item = T> + Drop, T: Drop>(walk: I) -> usize
     requires fits { size (I.remaining walk) < 2 ^ 64 }
 {
     walk.count()
-}
-
-/// How many numbers of a walk are above 2.
-pub(crate) fn above<I: Iterator<Item = T> + Drop, T, F: FnMut(T) -> u32>(
-    walk: I,
-    number: F,
-) -> usize
-    requires can { I.can_next walk }
-    requires ends { IsFinite (I.remaining walk) }
-    requires fits { size (I.remaining walk) < 2 ^ 64 }
-    requires asks { (state : F) (x : _) → F.pre state x }
-{
-    walk.map(number).filter(is_above).count()
 }
 
 /// The sum of the numbers of a walk.
@@ -89,8 +68,8 @@ pub(crate) fn sum<I: Iterator<Item = T> + Drop, T, F: Fn(T) -> u32>(walk: I, num
     sum
 }
 
-/// The numbers of a walk.
-pub(crate) fn all<I: Iterator<Item = T> + Drop, T, F: FnMut(T) -> u32>(
+/// The numbers of a walk that are above 1.
+pub(crate) fn above<I: Iterator<Item = T> + Drop, T, F: FnMut(T) -> u32>(
     alloc: Global,
     walk: I,
     number: F,
@@ -99,7 +78,7 @@ pub(crate) fn all<I: Iterator<Item = T> + Drop, T, F: FnMut(T) -> u32>(
     requires ends { IsFinite (I.remaining walk) }
     requires asks { (state : F) (x : _) → F.pre state x }
 {
-    walk.map(number).collect(alloc)
+    walk.map(number).filter(is_above).collect(alloc)
 }
 
 /// What the adaptors answer over a walk, which is made anew for each, with this number for an item.
@@ -107,16 +86,15 @@ macro_rules! answers {
     ($alloc:expr; $walk:expr, $number:ident) => {
         Answers {
             count: count($walk),
-            above: above($walk, $number),
             sum: sum($walk, $number),
-            all: all($alloc, $walk, $number),
+            above: above($alloc, $walk, $number),
         }
     };
 }
 
-/// Whether a number is above 2.
+/// Whether a number is above 1.
 pub(crate) fn is_above(number: &u32) -> bool {
-    *number > 2
+    *number > 1
 }
 
 /// The number of an item that is lent.

@@ -1,7 +1,7 @@
 //! The ordinary adaptors over each walk of a map, a row for each.
 
 use crate::adaptors::{
-    Answers, KEYS, LOW_KEYS, LOW_VALUES, PAIRS, VALUES, above, all, answers, are_of, count, first,
+    Answers, KEYS, LOW_KEYS, LOW_VALUES, PAIRS, VALUES, above, answers, are_of, count, first,
     first_given, given, hold, lent, made, second_written, sum, written,
 };
 use starlark_hash::Hashed;

@@ -1,7 +1,7 @@
 //! The ordinary adaptors over each walk of a set, a row for each.
 
 use crate::adaptors::{
-    Answers, KEYS, LOW_KEYS, above, all, answers, are_of, count, given, hold, lent, made, sum,
+    Answers, KEYS, LOW_KEYS, above, answers, are_of, count, given, hold, lent, made, sum,
 };
 use starlark_hash::Hashed;
 use starlark_sets::{OrderedSet, SmallSet};

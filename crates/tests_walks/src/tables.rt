@@ -1,9 +1,8 @@
 //! The ordinary adaptors over each walk of a list of pairs, a table or an unordered map, a row for each.
 
 use crate::adaptors::{
-    Answers, KEYS, LOW_KEYS, LOW_VALUES, PAIRS, VALUES, above, all, answers, are_of,
-    are_of_any_order, count, first, first_given, hold, lent, made, second, second_written, sum,
-    written,
+    Answers, KEYS, LOW_KEYS, LOW_VALUES, PAIRS, VALUES, above, answers, are_of, are_of_any_order,
+    count, first, first_given, hold, lent, made, second, second_written, sum, written,
 };
 use starlark_table::ReadyTable;
 use starlark_unordered::UnorderedMap;
