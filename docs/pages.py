@@ -299,7 +299,7 @@ def faults_of_refusals():
             crate = line if line[0] != "#" else crate
         elif line and line[0] != "#":
             listed.append((crate, call))
-            made = re.fullmatch(r"(\w+)/(\w+) (\w+)(?: by (\w+))?", tried)
+            made = re.fullmatch(r"(\w+)/([\w/]+) (\w+)(?: by (\w+))?", tried)
             if made:
                 path = TOP / f"crates/{made.group(1)}/src/{made.group(2)}.rt"
                 text = path.read_text() if path.exists() else ""

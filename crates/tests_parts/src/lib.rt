@@ -1,6 +1,8 @@
-//! Tests of hashes, lists of pairs, tables and vector maps, by their public calls.
+//! Tests of hashes, columns, lists of pairs, tables and vector maps, by their public calls.
 #![tactic(auto)]
 
+#[cfg(test)]
+mod columns;
 #[cfg(test)]
 mod counted_clones;
 #[cfg(test)]

@@ -1,7 +1,7 @@
 //! Runs of commands: replies from outside, runs that succeed, and what a refused request leaves.
 
-use crate::given::{Numbers, holds, pop_last, same, shows, size, tens, under};
-use crate::replies::{Replies, found, is_done, old, shown, taken};
+use crate::runs::given::{Numbers, holds, pop_last, same, shows, size, tens, under};
+use crate::runs::replies::{Replies, found, is_done, old, shown, taken};
 use starlark_hash::Hashed;
 use starlark_map::{Command, Reply, run};
 use starlark_runs::replies_agree;

@@ -1,14 +1,8 @@
 //! Rows whose items stand at the front: what comes out of them, with and without bytes.
 
+use crate::given::holds;
 use starlark_columns::pair::{give_back, with_rows};
-use std::process::Abort;
 use std::test::Fail;
-
-// Ends the process where this does not hold. A test that calls it learns nothing by it, as it does by an assertion, and
-// is proved in a part of the time.
-fn holds(rt: &impl Abort, what: bool) {
-    assert!(rt; what);
-}
 
 #[test]
 fn items_come_out_as_they_went_in(rt: HostRuntime) -> Result<(), Fail> {

@@ -1,7 +1,7 @@
 //! Each conversion with a request for memory refused: it gives the right answer, or says that memory was refused. These
 //! hold whichever request is refused: what a test begins with is made at the second attempt where one is refused.
 
-use crate::given::{Numbers, Texts, fault, holds, shows, shows_texts};
+use crate::json::given::{Numbers, Texts, fault, holds, shows, shows_texts};
 use serde_json::Value;
 use starlark_map::json::{JsonFault, map_from_value, map_to_value, set_from_value, set_to_value};
 use starlark_map::small_map::SmallMap;

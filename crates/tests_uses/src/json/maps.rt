@@ -1,6 +1,6 @@
 //! Maps as objects, and objects as maps.
 
-use crate::given::{Numbers, fault, holds, map, map_under, prints, shows, value};
+use crate::json::given::{Numbers, fault, holds, map, map_under, prints, shows, value};
 use starlark_map::json::{JsonFault, map_from_value, map_to_value};
 use std::alloc::Global;
 use std::test::Fail;

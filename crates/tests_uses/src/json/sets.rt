@@ -1,6 +1,6 @@
 //! Sets as arrays, and arrays as sets.
 
-use crate::given::{Texts, fault, holds, prints, set, shows_texts, value};
+use crate::json::given::{Texts, fault, holds, prints, set, shows_texts, value};
 use starlark_map::json::{JsonFault, set_from_value, set_to_value};
 use std::alloc::Global;
 use std::test::Fail;

@@ -1,6 +1,6 @@
 //! Each caller that writes through a lent reference: what is there afterwards, and what comes back.
 
-use crate::given::{Numbers, holds, rows, same, shows, under};
+use crate::runs::given::{Numbers, holds, rows, same, shows, under};
 use starlark_hash::NoRoom;
 use starlark_lending::entries::put_value;
 use starlark_lending::looked_up::{

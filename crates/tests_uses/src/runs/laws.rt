@@ -1,6 +1,6 @@
 //! Each law's calls, made once at small maps.
 
-use crate::given::{Numbers, holds, same, shows};
+use crate::runs::given::{Numbers, holds, same, shows};
 use starlark_hash::{Hashed, StarlarkHasher};
 use starlark_laws::{collection, equality, insertion, keys, lists, order};
 use starlark_small::{SmallMap, smallmap};

@@ -1,5 +1,0 @@
-//! Tests of columns, by public calls.
-#![tactic(auto)]
-
-#[cfg(test)]
-mod columns;
