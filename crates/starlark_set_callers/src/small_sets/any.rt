@@ -1,5 +1,5 @@
 //! Small sets of any elements.
-ghost use Rattle.std.specs.Prelude.{◌≡◌, true, false, not, Some, None, IfOk, IfErr, OnOk, OnErr, is_some};
+ghost use Rattle.std.specs.Prelude.{◌≡◌, true, false, not, Some, None, IfOk, IfErr, OnOk, OnErr, is_some, IfSome};
 ghost use Rattle.std.specs.Fn.{CalledAt};
 ghost use Rattle.std.specs.Prelude.{Bool, filter};
 ghost use Rattle.starlark_lists.specs.Entries.{entry_key};
@@ -83,6 +83,7 @@ pub fn take_out<T: Eq + Hash + Drop>(set: &mut SmallSet<T>, n: T) -> Option<T>
     ensures here { contains T.eq T.hash_input set.new n ≡ false }
     ensures others { (other : T) → T.eq n other ≡ false → contains T.eq T.hash_input set.new other ≡ contains T.eq T.hash_input set.old other }
     ensures was { is_some result ≡ contains T.eq T.hash_input set.old n }
+    ensures taken { IfSome result (λ taken. T.eq n taken ≡ true) }
 {
     set.take(&n)
 }

@@ -1,6 +1,6 @@
 //! Small sets of numbers.
 ghost use Rattle.std.specs.Hash as fed;
-ghost use Rattle.std.specs.Prelude.{◌≡◌, ◌<◌, ◌||◌, ◌∷◌, [], ℕ, length, nat_eq, true, false, not, Some, None, IfOk, IfErr, OnOk, OnErr};
+ghost use Rattle.std.specs.Prelude.{◌≡◌, ◌<◌, ◌||◌, ◌∷◌, [], ℕ, length, nat_eq, true, false, not, is_some, Some, None, IfSome, IfOk, IfErr, OnOk, OnErr};
 ghost use Rattle.std.specs.Set.{is_member};
 ghost use Rattle.starlark_small.specs.Calling.{get, contains, AreOwn};
 
@@ -77,6 +77,8 @@ pub fn empty(set: &mut SmallSet<u32>, n: u32) -> bool
 
 /// Takes an element out, and answers it.
 pub fn take_out(set: &mut SmallSet<u32>, n: u32) -> Option<u32>
+    ensures was { is_some result ≡ contains nat_eq fed.u32 set.old n }
+    ensures taken { IfSome result (λ taken. nat_eq n taken ≡ true) }
     ensures here { contains nat_eq fed.u32 set.new n ≡ false }
     ensures others { (other : ℕ) → nat_eq n other ≡ false → contains nat_eq fed.u32 set.new other ≡ contains nat_eq fed.u32 set.old other }
 {

@@ -1,6 +1,6 @@
 //! Small sets of strings.
 ghost use Rattle.std.specs.Hash as fed;
-ghost use Rattle.std.specs.Prelude.{◌≡◌, true, false, not, Some, None, IfOk, IfErr, OnOk, OnErr};
+ghost use Rattle.std.specs.Prelude.{◌≡◌, true, false, not, Some, None, is_some, IfSome, IfOk, IfErr, OnOk, OnErr};
 ghost use Rattle.std.specs.String.{string_bytes, string_eq};
 ghost use Rattle.std.specs.declared.alloc.Global.{Global};
 ghost use Rattle.std.specs.declared.string.String.{String};
@@ -78,6 +78,8 @@ pub fn empty(set: &mut SmallSet<String>, n: String) -> bool
 
 /// Takes an element out, and answers it.
 pub fn take_out(set: &mut SmallSet<String>, n: String) -> Option<String>
+    ensures was { is_some result ≡ contains string_eq (λ s. fed.str (string_bytes s)) set.old n }
+    ensures taken { IfSome result (λ taken. string_eq n taken ≡ true) }
     ensures here { contains string_eq (λ s. fed.str (string_bytes s)) set.new n ≡ false }
     ensures others { (other : String Global) → string_eq n other ≡ false → contains string_eq (λ s. fed.str (string_bytes s)) set.new other ≡ contains string_eq (λ s. fed.str (string_bytes s)) set.old other }
 {
