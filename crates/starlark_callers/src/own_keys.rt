@@ -1,5 +1,5 @@
 //! Small maps and sets of keys of the caller's own, whose equality and hash are derived.
-ghost use Rattle.std.specs.Prelude.{◌≡◌, false, true, Some, None, OnOk};
+ghost use Rattle.std.specs.Prelude.{◌≡◌, false, true, not, Some, None, IfOk, OnOk};
 ghost use Rattle.starlark_small.specs.Calling.{contains, get};
 ghost use Rattle.starlark_callers.specs.Pages.{page_eq, page_feeds};
 ghost use Rattle.starlark_callers.specs.declared.own_keys.Page.{Page};
@@ -46,8 +46,9 @@ pub fn forget(visits: &mut SmallMap<Page, u64>, page: &Page)
     visits.shift_remove(page);
 }
 
-/// Marks a page.
+/// Marks a page, and answers whether it was not marked.
 pub fn mark(marked: &mut SmallSet<Page>, page: Page) -> Result<bool, NoRoom<Page>>
+    ensures is_new { IfOk result (λ is_new. is_new ≡ not (contains page_eq page_feeds marked.old page)) }
     ensures here { OnOk result (contains page_eq page_feeds marked.new page ≡ true) }
     ensures others { OnOk result ((other : Page) → page_eq page other ≡ false → contains page_eq page_feeds marked.new other ≡ contains page_eq page_feeds marked.old other) }
 {
