@@ -44,6 +44,7 @@ pub fn exchange<K: Eq + Hash + Drop, V: Drop>(
     value: V,
 ) -> Result<Option<V>, NoRoom<(K, V)>>
     ensures was { IfOk result (λ was. was ≡ get K.eq K.hash_input map.old key) }
+    ensures here { OnOk result (get K.eq K.hash_input map.new key ≡ Some value) }
 {
     map.insert(key, value)
 }
@@ -55,6 +56,7 @@ pub fn record_and_count<K: Eq + Hash + Drop, V: Drop>(
     value: V,
 ) -> Result<usize, NoRoom<(K, V)>>
     ensures count { IfOk result (λ n. n ≡ length map.old.entries + (if contains K.eq K.hash_input map.old key then 0 else 1)) }
+    ensures here { OnOk result (get K.eq K.hash_input map.new key ≡ Some value) }
 {
     map.insert(key, value)?;
     Ok(map.len())

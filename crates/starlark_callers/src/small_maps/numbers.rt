@@ -40,6 +40,7 @@ pub fn exchange(
     value: u64,
 ) -> Result<Option<u64>, NoRoom<(u32, u64)>>
     ensures was { IfOk result (λ was. was ≡ get nat_eq fed.u32 map.old key) }
+    ensures here { OnOk result (get nat_eq fed.u32 map.new key ≡ Some value) }
 {
     map.insert(key, value)
 }
@@ -51,6 +52,7 @@ pub fn record_and_count(
     value: u64,
 ) -> Result<usize, NoRoom<(u32, u64)>>
     ensures count { IfOk result (λ n. n ≡ length map.old.entries + (if contains nat_eq fed.u32 map.old key then 0 else 1)) }
+    ensures here { OnOk result (get nat_eq fed.u32 map.new key ≡ Some value) }
 {
     map.insert(key, value)?;
     Ok(map.len())

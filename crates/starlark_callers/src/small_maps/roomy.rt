@@ -1,6 +1,6 @@
 //! Small maps with room to spare, and with contents that are written out.
 ghost use Rattle.std.specs.Hash as fed;
-ghost use Rattle.std.specs.Prelude.{◌≡◌, ◌+◌, ◌≤◌, ◌<◌, [], ◌∷◌, length, nat_eq, false, true, None, Some, IfOk, IsOk, OnErr, OnOk};
+ghost use Rattle.std.specs.Prelude.{◌≡◌, ◌+◌, ◌≤◌, ◌<◌, ℕ, [], ◌∷◌, length, nat_eq, false, true, None, Some, IfOk, IsOk, OnErr, OnOk};
 ghost use Rattle.starlark_small.specs.Calling.{get, keys};
 ghost use Rattle.starlark_small.specs.Map.{own_hashed};
 
@@ -127,6 +127,7 @@ pub fn enter_known(map: &mut SmallMap<u32, u64>) -> Result<(), AllocError>
 pub fn put_fitting(map: &mut SmallMap<u32, u64>, key: u32, value: u64)
     requires { 0 < map.old.room }
     ensures here { get nat_eq fed.u32 map.new key ≡ Some value }
+    ensures others { (other : ℕ) → nat_eq key other ≡ false → get nat_eq fed.u32 map.new other ≡ get nat_eq fed.u32 map.old other }
     ensures room { map.old.room ≤ map.new.room + 1 }
 {
     match map.get_mut(&key) {
@@ -139,7 +140,8 @@ pub fn put_fitting(map: &mut SmallMap<u32, u64>, key: u32, value: u64)
 
 /// Makes room for two, and puts both by the function above.
 pub fn put_two_fitting(map: &mut SmallMap<u32, u64>, a: u32, b: u32) -> Result<(), AllocError>
-    ensures { OnOk result (get nat_eq fed.u32 map.new b ≡ Some 2) }
+    ensures first { nat_eq b a ≡ false → OnOk result (get nat_eq fed.u32 map.new a ≡ Some 1) }
+    ensures second { OnOk result (get nat_eq fed.u32 map.new b ≡ Some 2) }
 {
     map.reserve(2)?;
     put_fitting(map, a, 1);
@@ -155,6 +157,7 @@ pub fn enter_fitting(
 ) -> Result<(), NoRoom<(Hashed<u32>, u64)>>
     ensures done { 0 < map.old.room → IsOk result }
     ensures here { OnOk result (get nat_eq fed.u32 map.new key ≡ Some value) }
+    ensures others { OnOk result ((other : ℕ) → nat_eq key other ≡ false → get nat_eq fed.u32 map.new other ≡ get nat_eq fed.u32 map.old other) }
     ensures room { OnOk result (map.old.room ≤ map.new.room + 1) }
 {
     *map.entry(key).or_insert(0)? = value;
@@ -163,7 +166,8 @@ pub fn enter_fitting(
 
 /// Makes room for two entries, and writes both by the function above.
 pub fn enter_two_fitting(map: &mut SmallMap<u32, u64>, a: u32, b: u32) -> Result<(), AllocError>
-    ensures { OnOk result (get nat_eq fed.u32 map.new b ≡ Some 2) }
+    ensures first { nat_eq b a ≡ false → OnOk result (get nat_eq fed.u32 map.new a ≡ Some 1) }
+    ensures second { OnOk result (get nat_eq fed.u32 map.new b ≡ Some 2) }
 {
     map.reserve(2)?;
     enter_fitting(map, a, 1).unwrap();
@@ -175,6 +179,7 @@ pub fn enter_two_fitting(map: &mut SmallMap<u32, u64>, a: u32, b: u32) -> Result
 pub fn enter_two(map: &mut SmallMap<u32, u64>, a: u32, b: u32) -> Result<(), AllocError>
     requires { 2 ≤ map.old.room }
     ensures done { IsOk result }
+    ensures first { nat_eq b a ≡ false → OnOk result (get nat_eq fed.u32 map.new a ≡ Some 1) }
     ensures second { OnOk result (get nat_eq fed.u32 map.new b ≡ Some 2) }
 {
     *map.entry(a).or_insert(0)? = 1;

@@ -46,6 +46,7 @@ pub fn exchange(
     value: u64,
 ) -> Result<Option<u64>, NoRoom<(String, u64)>>
     ensures was { IfOk result (λ was. was ≡ get string_eq (λ s. fed.str (string_bytes s)) map.old key) }
+    ensures here { OnOk result (get string_eq (λ s. fed.str (string_bytes s)) map.new key ≡ Some value) }
 {
     map.insert(key, value)
 }
@@ -57,6 +58,7 @@ pub fn record_and_count(
     value: u64,
 ) -> Result<usize, NoRoom<(String, u64)>>
     ensures count { IfOk result (λ n. n ≡ length map.old.entries + (if contains string_eq (λ s. fed.str (string_bytes s)) map.old key then 0 else 1)) }
+    ensures here { OnOk result (get string_eq (λ s. fed.str (string_bytes s)) map.new key ≡ Some value) }
 {
     map.insert(key, value)?;
     Ok(map.len())
