@@ -3,8 +3,8 @@
 usage: compare.py OURS BASELINE [WHAT]
 
 A line is `WORKLOAD.WHAT.KEYTYPE N NS_PER_OP CHECKSUM`. Each line of OURS that is of our maps is set beside the line of
-BASELINE with the same workload, key type and length, and this WHAT (without one: upstream). Ends with status 1 where
-two checksums differ.
+BASELINE with the same workload, key type and length, and this WHAT (without one: upstream); look-ups by key are set
+beside those of WHAT-hashing, where there are any. Ends with status 1 where two checksums differ.
 """
 
 import sys
@@ -31,7 +31,9 @@ def main():
     differ = False
     print(f"{'workload':<14}{'ours':<8}{'keys':<6}{'n':>9}{'ns':>10}{what:>12}{'ratio':>8}")
     for (workload, own, key, n), time, checksum in lines_of(sys.argv[1]):
-        name = (workload, what, key, n)
+        name = (workload, f"{what}-hashing" if own == "by_key" else what, key, n)
+        if name not in baseline:
+            name = (workload, what, key, n)
         if own not in OURS or name not in baseline:
             continue
         base, expected = baseline[name]
