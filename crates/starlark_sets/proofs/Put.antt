@@ -171,15 +171,22 @@ module _ {T : Type 0} (eq : T → T → Bool) (element : Hashed T) (old new : Se
   told_there there is passes (Occupied e) told = (sym is ∙ ap is_some told.1, subst (λ o. IfSome o (λ k. eq (key_of element) k ≡ true)) told.1 passes)
   told_there there is passes (Memory e) told = (sym is ∙ ap is_some told.1, tt)
 
+  full_at : (X : Type 0) (place : Option ℕ) → match_of eq old.entries element ≡ place → (e : TryInsertError T)
+      → MatchOption place (IsRefused old new × (old.room ≡ 0)) (λ _. X × (new ≡ old))
+      → is_some (found (eq (key_of element)) (hash_of element) old.entries) ≡ is_occupied e → is_occupied e ≡ false → old.room ≡ 0
+  unfolding found
+  full_at X None at e h is free = h.1
+  full_at X (Some i) at e h is free = absurd (false≢true (sym free ∙ sym is ∙ is_some-value_at (hash_of element) (eq (key_of element)) old.entries ∙ ap is_some at))
+
   -- what a try answers
   pub answers-try : (r : Result (Unit {0}) (TryInsertError T)) → Tries eq old element r new → IfErr r (IsRefusal (element_at old (match_of eq old.entries element)) (key_of element))
       → AnswersTry eq element old r
-  answers-try (Ok a) tries told = record { lacking = lacking_at (match_of eq old.entries element) refl {E = TryInsertError T} (Ok a) tries; there = tt; equal = tt; refused = tt }
+  answers-try (Ok a) tries told = record { lacking = lacking_at (match_of eq old.entries element) refl {E = TryInsertError T} (Ok a) tries; there = tt; equal = tt; refused = tt; full = tt }
   answers-try (Err e) tries told =
       let there = element_at old (match_of eq old.entries element) in
       let stands = key_stands (eq (key_of element)) (hash_of element) old.entries there refl in
       let both = told_there there stands.1 stands.2 e told in
-      record { lacking = tt; there = both.0; equal = both.1; refused = told }
+      record { lacking = tt; there = both.0; equal = both.1; refused = told; full = full_at _ (match_of eq old.entries element) refl e tries both.0 }
 
 last_of : {X : Type 0} (xs : List X) (x : X) → slice_get (xs ++ x ∷ []) (length xs) ≡ Some x
 last_of [] x = refl

@@ -36,12 +36,13 @@ module _ {T : Type 0} where
   ShowsEqual eq value (Occupied e) = IsTrue (eq value e.occupied.now)
   ShowsEqual eq value (Memory e) = ⊤
 
-  -- this element went in, and was lacking; or it was refused, for an equal one that is there or for want of memory
+  -- this element went in, and was lacking; or it was refused, for an equal one that is there or, at room 0 alone, for want of memory
   pub record AnswersTry (eq : T → T → Bool) (element : Hashed T) (before : Set T) (r : Result (Unit {0}) (TryInsertError T)) : Type 0 where
     pub lacking : OnOk r (is_some (found (eq (key_of element)) (hash_of element) before.entries) ≡ false)
     pub there : IfErr r (λ refused. is_some (found (eq (key_of element)) (hash_of element) before.entries) ≡ is_occupied refused)
     pub equal : IfErr r (ShowsEqual eq (key_of element))
     pub refused : IfErr r (IsRefusal (element_at before (match_of eq before.entries element)) (key_of element))
+    pub full : IfErr r (λ refused. is_occupied refused ≡ false → before.room ≡ 0)
 
   -- the refused element, beside the place of the one that is there
   abbrev pub IsPlaced : Elements T → Option T → T → Refusal T → Type 0
