@@ -1,7 +1,7 @@
 //! Room in the index, which is made where the list grows too long to do without.
-ghost use Rattle.std.specs.Prelude.{◌≡◌, ◌+◌, ◌<◌, ◌≤◌, ◌∷◌, [], ◌++◌, ◌||◌, length, is_some, nat_lt, true, false, IfOk, IsOk, None, OnOk, OnErr};
-ghost use Rattle.starlark_lists.specs.Entries.{Entry, entry_hash};
-ghost use Rattle.starlark_small.specs.Index.{IsIndexed, index_room, unindexed};
+ghost use Rattle.std.specs.Prelude.{◌≡◌, ◌+◌, ◌≤◌, length, None};
+ghost use Rattle.starlark_small.specs.Index.{IsIndexed, index_room};
+ghost use Rattle.starlark_small.specs.Indexing.{MakesIndexFor, MakesIndexOf, NotesLast, ReservesAsItIs, ReservesIndex};
 
 use super::{Index, PlaceTable, UNINDEXED};
 use starlark_columns::Perhaps;
@@ -27,10 +27,7 @@ impl Index {
 
     /// An index of an empty list, with room for so many entries, where so many need one.
     pub(crate) fn with_capacity<K, V>(alloc: Global, capacity: usize) -> Result<Self, AllocError>
-        ensures indexed { IfOk result (λ index. IsIndexed {K = K} {V = V} [] index) }
-        ensures made { IfOk result (λ index. is_some index ≡ nat_lt unindexed capacity) }
-        ensures room { IfOk result (λ index. capacity ≤ index_room 0 index) }
-        ensures succeeds { capacity ≤ unindexed → IsOk result }
+        ensures { MakesIndexFor K V capacity result }
     {
         if capacity <= UNINDEXED {
             return Ok(Index::none(alloc));
@@ -41,9 +38,7 @@ impl Index {
 
     /// An index of another list, with room for all that the list has room for, where it is too long to do without.
     pub(crate) fn of_other<K, V>(&self, entries: &VecMap<K, V>) -> Result<Self, AllocError>
-        ensures indexed { IfOk result (λ index. IsIndexed entries.now.entries index) }
-        ensures long { IfOk result (λ index. is_some index ≡ nat_lt unindexed (length entries.now.entries)) }
-        ensures succeeds { length entries.now.entries ≤ unindexed → IsOk result }
+        ensures { MakesIndexOf entries.now.entries result }
     {
         if entries.len() <= UNINDEXED {
             return Ok(Index::none(self.alloc));
@@ -61,13 +56,7 @@ impl Index {
     ) -> Result<(), AllocError>
         requires indexed { IsIndexed entries.now.entries self.old }
         requires spare { length entries.now.entries + additional ≤ entries.now.capacity }
-        ensures indexed { IsIndexed entries.now.entries self.new }
-        ensures room { OnOk result (additional ≤ index_room (length entries.now.entries) self.new) }
-        ensures grows { index_room (length entries.now.entries) self.old ≤ index_room (length entries.now.entries) self.new }
-        ensures enough { additional ≤ index_room (length entries.now.entries) self.old → self.new ≡ self.old }
-        ensures made { OnOk result (is_some self.new ≡ (is_some self.old || nat_lt unindexed (length entries.now.entries + additional))) }
-        ensures refused { OnErr result (index_room (length entries.now.entries) self.old < additional) }
-        ensures unchanged { OnErr result (self.new ≡ self.old) }
+        ensures { ReservesIndex entries.now.entries additional self.old self.new result }
     {
         if self.reserve_as_it_is(entries, additional)? {
             return Ok(());
@@ -87,16 +76,7 @@ impl Index {
         additional: usize,
     ) -> Result<bool, AllocError>
         requires indexed { IsIndexed entries.now.entries self.old }
-        ensures indexed { IsIndexed entries.now.entries self.new }
-        ensures room { IfOk result (λ fits. fits ≡ true → additional ≤ index_room (length entries.now.entries) self.new) }
-        ensures grows { index_room (length entries.now.entries) self.old ≤ index_room (length entries.now.entries) self.new }
-        ensures enough { additional ≤ index_room (length entries.now.entries) self.old → self.new ≡ self.old }
-        ensures made { IfOk result (λ fits. fits ≡ true → is_some self.new ≡ (is_some self.old || nat_lt unindexed (length entries.now.entries + additional))) }
-        ensures other { IfOk result (λ fits. fits ≡ false → index_room (length entries.now.entries) self.old < additional) }
-        ensures long { IfOk result (λ fits. fits ≡ false → unindexed < length entries.now.entries + additional) }
-        ensures kept { IfOk result (λ fits. fits ≡ false → self.new ≡ self.old) }
-        ensures refused { OnErr result (index_room (length entries.now.entries) self.old < additional) }
-        ensures unchanged { OnErr result (self.new ≡ self.old) }
+        ensures { ReservesAsItIs entries.now.entries additional self.old self.new result }
     {
         let Some(table) = self.table.get_mut() else {
             return Ok(additional <= UNINDEXED - entries.len());
@@ -108,9 +88,7 @@ impl Index {
     pub(crate) fn note_last<K, V>(&mut self, entries: &VecMap<K, V>, hash: StarlarkHashValue)
         requires indexed { IsIndexed entries.now.entries self.old }
         requires room { 1 ≤ index_room (length entries.now.entries) self.old }
-        ensures indexed { (e : Entry K V) → entry_hash e ≡ hash → IsIndexed (entries.now.entries ++ e ∷ []) self.new }
-        ensures room { index_room (length entries.now.entries) self.old ≤ 1 + index_room (length entries.now.entries + 1) self.new }
-        ensures kept { is_some self.new ≡ is_some self.old }
+        ensures { NotesLast entries.now.entries hash self.old self.new }
     {
         let Some(table) = self.table.get_mut() else {
             return;

@@ -1,10 +1,11 @@
 //! The table of an index: places under promoted hashes, in slots of 8 bytes wherever the list is short enough for that.
-ghost use Rattle.std.specs.Prelude.{◌≡◌, ◌<◌, ◌≤◌, ◌∷◌, [], ◌+◌, ◌-◌, ◌^◌, List, IfOk, OnErr, true, false, IsPermutation, length, remove, reverse};
-ghost use Rattle.starlark_hash.specs.HashValue.{hash_number, promoted};
+ghost use Rattle.std.specs.Prelude.{◌≡◌, ◌<◌, ◌^◌, List, IfOk, length, reverse};
+ghost use Rattle.starlark_hash.specs.HashValue.{hash_number};
 ghost use Rattle.starlark_lists.specs.Entries.{Entry};
 ghost use Rattle.starlark_lists.specs.Search.{CanSearch, Searches, keys_under};
-ghost use Rattle.starlark_small.specs.Index.{IsIndexOf, unindexed};
-ghost use Rattle.starlark_table.specs.Table.{members, table_capacity, table_len};
+ghost use Rattle.starlark_small.specs.Index.{IsIndexOf};
+ghost use Rattle.starlark_small.specs.Placing.{ClearsPlaces, IsTableFor, MovesPlaces, NotesPlace, RemovesPlace, ReservesPlaces, TakesLastPlace};
+ghost use Rattle.starlark_table.specs.Table.{table_len};
 ghost use Rattle.starlark_vec2.specs.Moves.{Moves};
 
 use super::UNINDEXED;
@@ -52,8 +53,7 @@ impl Model for PlaceTable {
 impl PlaceTable {
     /// An empty table with room for so many places.
     pub(crate) fn with_capacity(alloc: Global, capacity: usize) -> Result<Self, AllocError>
-        ensures empty { IfOk result (λ t. members t ≡ []) }
-        ensures room { IfOk result (λ t. capacity ≤ t.room) }
+        ensures { IfOk result (IsTableFor capacity) }
     {
         if capacity > WIDE {
             return Err(AllocError);
@@ -97,15 +97,7 @@ impl PlaceTable {
         additional: usize,
     ) -> Result<bool, AllocError>
         requires index { IsIndexOf entries.now.entries self.old }
-        ensures made { IfOk result (λ fits. fits ≡ true → additional ≤ self.new.room) }
-        ensures other { IfOk result (λ fits. fits ≡ false → self.old.room < additional) }
-        ensures many { IfOk result (λ fits. fits ≡ false → unindexed < table_len self.old + additional) }
-        ensures kept { IfOk result (λ fits. fits ≡ false → self.new ≡ self.old) }
-        ensures bag { IsPermutation (members self.old) (members self.new) }
-        ensures room { self.old.room ≤ self.new.room }
-        ensures enough { additional ≤ self.old.room → self.new ≡ self.old }
-        ensures refused { OnErr result (self.old.room < additional) }
-        ensures unchanged { OnErr result (self.new ≡ self.old) }
+        ensures { ReservesPlaces additional self.old self.new result }
     {
         if additional <= self.room() {
             return Ok(true);
@@ -133,8 +125,7 @@ impl PlaceTable {
         requires room { 0 < self.old.room }
         requires next { place ≡ table_len self.old }
         ensures fits { hash_number hash < 2 ^ 32 }
-        ensures added { IsPermutation ((promoted (hash_number hash), place) ∷ members self.old) (members self.new) }
-        ensures room { table_capacity self.new ≡ table_capacity self.old }
+        ensures noted { NotesPlace hash place self.old self.new }
     {
         // A hash is below 2^32.
         let _number = hash.get();
@@ -148,8 +139,7 @@ impl PlaceTable {
     pub(crate) fn remove_place<K, V>(&mut self, entries: &VecMap<K, V>, place: usize)
         requires index { IsIndexOf entries.now.entries self.old }
         requires within { place < length entries.now.entries }
-        ensures index { IsIndexOf (remove entries.now.entries place) self.new }
-        ensures room { table_capacity self.new ≡ table_capacity self.old }
+        ensures { RemovesPlace entries.now.entries place self.old self.new }
     {
         match &mut self.width {
             Width::Narrow(table) => table.remove_place(entries, place),
@@ -160,8 +150,7 @@ impl PlaceTable {
     /// Takes the last place out.
     pub(crate) fn take_last<K, V>(&mut self)
         requires { (es : List (Entry K V)) × IsIndexOf es self.old × (0 < length es) }
-        ensures index { (es : List (Entry K V)) → IsIndexOf es self.old → IsIndexOf (remove es (length es - 1)) self.new }
-        ensures room { table_capacity self.new ≡ table_capacity self.old }
+        ensures { TakesLastPlace K V self.old self.new }
     {
         match &mut self.width {
             Width::Narrow(table) => table.take_last::<K, V>(),
@@ -172,8 +161,7 @@ impl PlaceTable {
     /// Puts for each place the one that `to` names for it: the entries stand there already.
     pub(crate) fn rename<K, V>(&mut self, entries: &VecMap<K, V>, to: &[u32])
         requires { (before : List (Entry K V)) × IsIndexOf before self.old × Moves before to.now entries.now.entries }
-        ensures index { IsIndexOf entries.now.entries self.new }
-        ensures room { self.new.room ≡ self.old.room }
+        ensures { MovesPlaces entries.now.entries self.old self.new }
     {
         match &mut self.width {
             Width::Narrow(table) => table.rename(entries, to),
@@ -184,8 +172,7 @@ impl PlaceTable {
     /// Turns each place round, as the entries are about to turn.
     pub(crate) fn turn<K, V>(&mut self, entries: &VecMap<K, V>)
         requires { IsIndexOf entries.now.entries self.old }
-        ensures index { IsIndexOf (reverse entries.now.entries) self.new }
-        ensures room { self.new.room ≡ self.old.room }
+        ensures { MovesPlaces (reverse entries.now.entries) self.old self.new }
     {
         match &mut self.width {
             Width::Narrow(table) => table.turn(entries),
@@ -195,8 +182,7 @@ impl PlaceTable {
 
     /// Takes all places out.
     pub(crate) fn clear(&mut self)
-        ensures empty { members self.new ≡ [] }
-        ensures room { self.new.room ≡ table_capacity self.old }
+        ensures { ClearsPlaces self.old self.new }
     {
         match &mut self.width {
             Width::Narrow(table) => table.clear(),
@@ -229,8 +215,7 @@ impl PlaceTable {
 fn note_wide(table: &mut Placed<usize>, hash: StarlarkHashValue, place: usize)
     requires room { 0 < table.old.room }
     requires next { place ≡ table_len table.old }
-    ensures added { IsPermutation ((promoted (hash_number hash), place) ∷ members table.old) (members table.new) }
-    ensures room { table_capacity table.new ≡ table_capacity table.old }
+    ensures { NotesPlace hash place table.old table.new }
 {
     table.note(hash, place);
 }

@@ -1,14 +1,13 @@
 //! Places in a table, and beside it the slot of each: what is taken out or moved is looked for nowhere.
-ghost use Rattle.std.specs.Prelude.{◌≡◌, ℕ, ◌+◌, ◌-◌, ◌*◌, ◌<◌, ◌≤◌, Some, ◌∷◌, [], List, Option, length, remove, reverse, slice_set, slice_index, vec_capacity, IfOk, OnOk, OnErr, IsPermutation};
-ghost use Rattle.std.specs.List.{All, Contains};
-ghost use Rattle.std.specs.Option.{option_map};
-ghost use Rattle.starlark_hash.specs.HashValue.{hash_number, promoted};
+ghost use Rattle.std.specs.Prelude.{◌≡◌, ℕ, ◌+◌, ◌-◌, ◌*◌, ◌<◌, ◌≤◌, List, length, remove, reverse, slice_index, vec_capacity, IfOk, IsPermutation};
+ghost use Rattle.std.specs.List.{All};
 ghost use Rattle.starlark_lists.specs.Entries.{Entry};
 ghost use Rattle.starlark_lists.specs.Search.{CanSearch, Searches, keys_under};
 ghost use Rattle.starlark_small.specs.Index.{IsIndexOf, lowered, moved_below};
-ghost use Rattle.starlark_small.specs.Slots.{IsSited, StandsOnce, renamed, renaming};
+ghost use Rattle.starlark_small.specs.Placing.{ClearsPlaces, GrowsFor, IsLowered, IsTableFor, LowersSlot, MovesPlaces, NamesSlots, NotesPlace, RemovesPlace, RenamesEach, TakesLastPlace, TakesPlace};
+ghost use Rattle.starlark_small.specs.Slots.{IsSited, StandsOnce};
 ghost use Rattle.starlark_table.specs.Growth.{most_for};
-ghost use Rattle.starlark_table.specs.Table.{Table, members, member_at, table_capacity, table_len};
+ghost use Rattle.starlark_table.specs.Table.{Table, members, table_capacity, table_len};
 ghost use Rattle.starlark_vec2.specs.Moves.{Moves};
 
 use super::place::{Place, PlaceNumber};
@@ -62,8 +61,7 @@ impl<N: PlaceNumber> Placed<N> {
     /// No place, and room for so many.
     pub(super) fn with_capacity(alloc: Global, capacity: usize) -> Result<Self, AllocError>
         requires { 2 * most_for capacity ≤ N.bound }
-        ensures empty { IfOk result (λ t. members t ≡ []) }
-        ensures room { IfOk result (λ t. capacity ≤ t.room) }
+        ensures { IfOk result (IsTableFor capacity) }
     {
         let table = ReadyTable::keeping(alloc, capacity)?;
         let column = Vec::with_capacity(alloc, table.room())?;
@@ -96,9 +94,7 @@ impl<N: PlaceNumber> Placed<N> {
         requires index { IsIndexOf entries.now.entries self.old }
         requires more { table_capacity self.old < needed }
         requires few { 2 * most_for needed ≤ N.bound }
-        ensures made { OnOk result (needed ≤ table_len self.old + self.new.room) }
-        ensures bag { IsPermutation (members self.old) (members self.new) }
-        ensures unchanged { OnErr result (self.new ≡ self.old) }
+        ensures { GrowsFor needed self.old self.new result }
     {
         let mut old: Places<N> = ReadyTable::keeping(alloc, needed)?;
         self.column.reserve_exact(old.room() - self.column.len())?;
@@ -113,8 +109,7 @@ impl<N: PlaceNumber> Placed<N> {
     pub(super) fn note(&mut self, hash: StarlarkHashValue, place: usize)
         requires room { 0 < self.old.room }
         requires next { place ≡ table_len self.old }
-        ensures added { IsPermutation ((promoted (hash_number hash), place) ∷ members self.old) (members self.new) }
-        ensures room { table_capacity self.new ≡ table_capacity self.old }
+        ensures { NotesPlace hash place self.old self.new }
     {
         let slot = self.table.insert_reserved(hash, Place::of(place));
         self.column.push_reserved(Place::of(slot));
@@ -125,8 +120,7 @@ impl<N: PlaceNumber> Placed<N> {
     pub(super) fn remove_place<K, V>(&mut self, entries: &VecMap<K, V>, place: usize)
         requires index { IsIndexOf entries.now.entries self.old }
         requires within { place < length entries.now.entries }
-        ensures index { IsIndexOf (remove entries.now.entries place) self.new }
-        ensures room { table_capacity self.new ≡ table_capacity self.old }
+        ensures { RemovesPlace entries.now.entries place self.old self.new }
     {
         take_place(&mut self.table, &mut self.column, place);
         lower_above(&mut self.table, &self.column, entries, place);
@@ -136,8 +130,7 @@ impl<N: PlaceNumber> Placed<N> {
     /// Takes the last place out.
     pub(super) fn take_last<K, V>(&mut self)
         requires { (es : List (Entry K V)) × IsIndexOf es self.old × (0 < length es) }
-        ensures index { (es : List (Entry K V)) → IsIndexOf es self.old → IsIndexOf (remove es (length es - 1)) self.new }
-        ensures room { table_capacity self.new ≡ table_capacity self.old }
+        ensures { TakesLastPlace K V self.old self.new }
     {
         let last = self.column.len() - 1;
         take_place(&mut self.table, &mut self.column, last);
@@ -148,8 +141,7 @@ impl<N: PlaceNumber> Placed<N> {
     #[inline(never)]
     pub(super) fn rename<K, V>(&mut self, entries: &VecMap<K, V>, to: &[u32])
         requires { (before : List (Entry K V)) × IsIndexOf before self.old × Moves before to.now entries.now.entries }
-        ensures index { IsIndexOf entries.now.entries self.new }
-        ensures room { self.new.room ≡ self.old.room }
+        ensures { MovesPlaces entries.now.entries self.old self.new }
     {
         rename_places(&mut self.table, to);
         name_slots(&self.table, &mut self.column);
@@ -159,8 +151,7 @@ impl<N: PlaceNumber> Placed<N> {
     #[inline(never)]
     pub(super) fn turn<K, V>(&mut self, entries: &VecMap<K, V>)
         requires { IsIndexOf entries.now.entries self.old }
-        ensures index { IsIndexOf (reverse entries.now.entries) self.new }
-        ensures room { self.new.room ≡ self.old.room }
+        ensures { MovesPlaces (reverse entries.now.entries) self.old self.new }
     {
         turn_places(&mut self.table, entries.len());
         name_slots(&self.table, &mut self.column);
@@ -168,8 +159,7 @@ impl<N: PlaceNumber> Placed<N> {
 
     /// Takes all places out.
     pub(super) fn clear(&mut self)
-        ensures empty { members self.new ≡ [] }
-        ensures room { self.new.room ≡ table_capacity self.old }
+        ensures { ClearsPlaces self.old self.new }
     {
         self.table.clear();
         self.column.clear();
@@ -197,12 +187,8 @@ fn take_place<N: PlaceNumber>(table: &mut Places<N>, column: &mut Vec<Place<N>>,
     requires within { place < length column.old.items }
     requires sited { IsSited column.old.items table.old.slots }
     requires few { length table.old.slots ≤ N.bound }
-    ensures taken { (h : ℕ) → Contains (members table.old) (h, place) → IsPermutation (members table.old) ((h, place) ∷ members table.new) }
-    ensures sited { IsSited column.new.items table.new.slots }
-    ensures even { length column.new.items ≡ length column.old.items }
-    ensures spare { vec_capacity column.new ≡ vec_capacity column.old }
-    ensures places { length table.new.slots ≡ length table.old.slots }
-    ensures room { table_capacity table.new ≡ table_capacity table.old }
+    ensures place { TakesPlace place table.old table.new }
+    ensures column { NamesSlots table.new.slots column.old column.new }
 {
     let slot = column[place].get();
     table.remove_followed(slot, column);
@@ -221,9 +207,7 @@ fn lower_above<N: PlaceNumber, K, V>(
     requires even { length column.now.items ≡ length entries.now.entries }
     requires sited { IsSited column.now.items table.old.slots }
     ensures index { IsIndexOf (remove entries.now.entries place) table.new }
-    ensures sited { IsSited (remove column.now.items place) table.new.slots }
-    ensures places { length table.new.slots ≡ length table.old.slots }
-    ensures room { table_capacity table.new ≡ table_capacity table.old }
+    ensures lowered { IsLowered column.now.items place table.old table.new }
 {
     let slots = table.places();
     if slots <= NEAR || entries.len() - place < slots / 4 {
@@ -236,9 +220,7 @@ fn lower_above<N: PlaceNumber, K, V>(
 // Moves the place in a slot one down.
 #[inline]
 fn lower_slot<N: PlaceNumber>(table: &mut Places<N>, slot: usize)
-    ensures moved { (h x : ℕ) → member_at table.old slot ≡ Some (h, x) → IsPermutation ((h, x - 1) ∷ members table.old) ((h, x) ∷ members table.new) }
-    ensures slots { table.new.slots ≡ slice_set table.old.slots slot (option_map (renaming (λ place. place - 1)) (member_at table.old slot)) }
-    ensures room { table.new.room ≡ table.old.room }
+    ensures { LowersSlot slot table.old table.new }
 {
     if let Some(item) = table.get_mut(slot) {
         *item = item.down();
@@ -257,9 +239,7 @@ fn lower_each<N: PlaceNumber, K, V>(
     requires even { length column.now.items ≡ length entries.now.entries }
     requires sited { IsSited column.now.items table.old.slots }
     ensures moved { IsPermutation (moved_below entries.now.entries place (length entries.now.entries)) (members table.new) }
-    ensures sited { IsSited (remove column.now.items place) table.new.slots }
-    ensures places { length table.new.slots ≡ length table.old.slots }
-    ensures room { table_capacity table.new ≡ table_capacity table.old }
+    ensures lowered { IsLowered column.now.items place table.old table.new }
 {
     for j in place + 1..entries.len() {
         lower_slot(table, column[j].get());
@@ -268,8 +248,7 @@ fn lower_each<N: PlaceNumber, K, V>(
 
 // Moves each place one down that is above the last one that stays, in one pass over the slots.
 fn lower_all<N: PlaceNumber>(table: &mut Places<N>, last: usize)
-    ensures slots { table.new.slots ≡ renamed (lowered last) table.old.slots }
-    ensures room { table.new.room ≡ table.old.room }
+    ensures { RenamesEach (lowered last) table.old table.new }
 {
     table.replace_each(
         |i: &Place<N>| -> Place<N>
@@ -281,8 +260,7 @@ fn lower_all<N: PlaceNumber>(table: &mut Places<N>, last: usize)
 // Puts for each place the one that `to` names for it, in one pass over the slots.
 fn rename_places<N: PlaceNumber>(table: &mut Places<N>, to: &[u32])
     requires { All (λ m. m.1 < length to.now) (members table.old) }
-    ensures slots { table.new.slots ≡ renamed (slice_index to.now) table.old.slots }
-    ensures room { table.new.room ≡ table.old.room }
+    ensures { RenamesEach (slice_index to.now) table.old table.new }
 {
     table.replace_each(
         |i: &Place<N>| -> Place<N>
@@ -296,8 +274,7 @@ fn rename_places<N: PlaceNumber>(table: &mut Places<N>, to: &[u32])
 fn turn_places<N: PlaceNumber>(table: &mut Places<N>, len: usize)
     requires within { All (λ m. m.1 < len) (members table.old) }
     requires few { len ≤ N.bound }
-    ensures slots { table.new.slots ≡ renamed (λ place. len - 1 - place) table.old.slots }
-    ensures room { table.new.room ≡ table.old.room }
+    ensures { RenamesEach (λ place. len - 1 - place) table.old table.new }
 {
     table.replace_each(
         |i: &Place<N>| -> Place<N>
@@ -313,9 +290,7 @@ fn name_slots<N: PlaceNumber>(table: &Places<N>, column: &mut Vec<Place<N>>)
     requires below { All (λ m. m.1 < length column.old.items) (members table.now) }
     requires once { StandsOnce table.now.slots }
     requires few { length table.now.slots ≤ N.bound }
-    ensures sited { IsSited column.new.items table.now.slots }
-    ensures even { length column.new.items ≡ length column.old.items }
-    ensures spare { vec_capacity column.new ≡ vec_capacity column.old }
+    ensures { NamesSlots table.now.slots column.old column.new }
 {
     let mut from = 0;
     'slots: while let Some(slot) = table.next_full(from) {

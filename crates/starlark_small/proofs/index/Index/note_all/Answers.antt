@@ -37,8 +37,8 @@ loop-i-preserved g c =
     let old = c.loop-i.invariant.index in
     let h = c.hash-hash.ensures in
     let size : i ≡ length (take i es) = omega (arith, length-take i es) in
-    let added = subst (λ k. IsPermutation ((promoted k.0, i) ∷ members c.loop-i.table) (members c.note.new.self)) h c.note.ensures.added in
-    let room = room-push (take i es) c.loop-i.table c.note.new.self (promoted e.0.hash.0, i) old added c.note.ensures.room in
+    let added = subst (λ k. IsPermutation ((promoted k.0, i) ∷ members c.loop-i.table) (members c.note.new.self)) h c.note.ensures.noted.added in
+    let room = room-push (take i es) c.loop-i.table c.note.new.self (promoted e.0.hash.0, i) old added c.note.ensures.noted.room in
     record {
       index = subst (λ l. IsIndexOf l c.note.new.self) (sym (take-more i es e c.get_unchecked.ensures))
           (IsIndexOf-push (take i es) e i c.loop-i.table c.note.new.self size old (subst (λ k. k.0 < 2 ^ 32) h c.note.ensures.fits) added);

@@ -1,4 +1,4 @@
-use Rattle.std.proofs.Common.{◌<◌, arith, ◌≤◌, ◌^◌, ◌+◌, ◌∷◌, ◌∙◌, ap, subst, sym, IsPermutation, length}
+use Rattle.std.proofs.Common.{◌<◌, arith, ◌≤◌, ◌^◌, ◌+◌, ◌∷◌, ◌∙◌, ap, subst, sym, IsPermutation, is_some, length}
 use mathlib.Core.Path.{subst⁻¹}
 use Rattle.std.specs.Option.{option_copied_mut}
 use Rattle.starlark_hash.specs.HashValue.{promoted}
@@ -13,20 +13,18 @@ note-requires-clause-next g c =
     let was = sym c.self.view_is ∙ sym c.get_mut.ensures.value ∙ ap option_copied_mut c.in-Some.is in
     omega (arith, IsIndexOf-len es c.in-Some.table.now (subst (λ o. IsIndexed es o) was c.requires.indexed), c.len.ensures.len)
 
-pub returns-clause-indexed : goal.returns-clause-indexed
-returns-clause-indexed g c = λ e same.
-    let es = c.args.entries.now.entries in
-    let old = c.in-Some.table.now in
-    let new = c.note.new.self in
-    IsIndexOf-push es e c.len.result old new c.len.ensures.len (subst (λ o. IsIndexed es o) (sym c.self.view_is ∙ sym c.get_mut.ensures.value ∙ ap option_copied_mut c.in-Some.is) c.requires.indexed)
-    (subst (λ k. k.0 < 2 ^ 32) (sym same) c.note.ensures.fits)
-    (subst (λ k. IsPermutation ((promoted k.0, c.len.result) ∷ members old) (members new)) (sym same) c.note.ensures.added)
-
-pub returns-clause-room : goal.returns-clause-room
-returns-clause-room g c =
+pub returns : goal.returns
+returns g c =
     let es = c.args.entries.now.entries in
     let old = c.in-Some.table.now in
     let new = c.note.new.self in
     let was = sym c.self.view_is ∙ sym c.get_mut.ensures.value ∙ ap option_copied_mut c.in-Some.is in
-    subst⁻¹ (λ o. index_room (length es) o ≤ 1 + new.room) was
-    (room-push es old new _ (subst (λ o. IsIndexed es o) was c.requires.indexed) c.note.ensures.added c.note.ensures.room)
+    let index = subst (λ o. IsIndexed es o) was c.requires.indexed in
+    record {
+      indexed = λ e same.
+          IsIndexOf-push es e c.len.result old new c.len.ensures.len index
+          (subst (λ k. k.0 < 2 ^ 32) (sym same) c.note.ensures.fits)
+          (subst (λ k. IsPermutation ((promoted k.0, c.len.result) ∷ members old) (members new)) (sym same) c.note.ensures.noted.added);
+      room = subst⁻¹ (λ o. index_room (length es) o ≤ 1 + new.room) was (room-push es old new _ index c.note.ensures.noted.added c.note.ensures.noted.room);
+      kept = sym (ap is_some was);
+    }

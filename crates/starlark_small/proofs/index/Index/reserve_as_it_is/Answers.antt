@@ -1,4 +1,4 @@
-use Rattle.std.proofs.Common.{◌≡◌, ℕ, ◌+◌, ◌<◌, ◌∙◌, ap, sym, subst, arith}
+use Rattle.std.proofs.Common.{◌≡◌, ℕ, ◌+◌, ◌<◌, ◌∙◌, ap, sym, subst, arith, rules}
 use Rattle.std.specs.Option.{option_copied_mut}
 use Rattle.std.proofs.lemmas.Result.{IfOk-weaker}
 use Rattle.starlark_small.specs.Index.{IsIndexed, unindexed}
@@ -12,15 +12,21 @@ pub reserve-requires : goal.reserve-requires
 reserve-requires g c =
     record { index = subst (λ o. IsIndexed c.args.entries.now.entries o) (sym c.self.view_is ∙ sym c.get_mut.ensures.value ∙ ap option_copied_mut c.in-Some.is) c.requires.indexed }
 
-pub returns-clause-indexed : goal.returns-clause-indexed
-returns-clause-indexed g c =
+pub returns : goal.returns
+returns g c =
     let es = c.args.entries.now.entries in
     let was = sym c.self.view_is ∙ sym c.get_mut.ensures.value ∙ ap option_copied_mut c.in-Some.is in
-    IsIndexOf-grown es c.in-Some.table.now c.reserve.new.self (subst (λ o. IsIndexed es o) was c.requires.indexed) c.reserve.ensures.bag
-
-pub returns-clause-long : goal.returns-clause-long
-returns-clause-long g c =
-    let es = c.args.entries.now.entries in
-    let was = sym c.self.view_is ∙ sym c.get_mut.ensures.value ∙ ap option_copied_mut c.in-Some.is in
-    let all = IsIndexOf-len es c.in-Some.table.now (subst (λ o. IsIndexed es o) was c.requires.indexed) in
-    IfOk-weaker c.reserve.result _ _ (λ fits many other. longer _ _ _ all (many other)) c.reserve.ensures.many
+    let index = subst (λ o. IsIndexed es o) was c.requires.indexed in
+    let all = IsIndexOf-len es c.in-Some.table.now index in
+    record {
+      indexed = IsIndexOf-grown es c.in-Some.table.now c.reserve.new.self index c.reserve.ensures.bag;
+      room = search rules;
+      grows = search rules;
+      enough = search rules;
+      made = search rules;
+      other = search rules;
+      long = IfOk-weaker c.reserve.result _ _ (λ fits many other. longer _ _ _ all (many other)) c.reserve.ensures.many;
+      kept = search rules;
+      refused = search rules;
+      unchanged = search rules;
+    }

@@ -1,4 +1,4 @@
-use Rattle.std.proofs.Common.{◌≡◌, ◌≢◌, ℕ, ◌+◌, ◌-◌, Some, length, map, sym, ap, subst, ◌∙◌, arith}
+use Rattle.std.proofs.Common.{◌≡◌, ◌≢◌, ℕ, ◌+◌, ◌-◌, Some, option_map, length, map, sym, ap, subst, ◌∙◌, arith}
 use Rattle.std.specs.Prelude.{remove}
 use Rattle.std.proofs.lemmas.List.{length-map}
 use Rattle.starlark_table.specs.Table.{members, member_at}
@@ -25,17 +25,16 @@ returns-else-len-place-clause-index g c =
     let is = ap filled c.lower_all.ensures.slots ∙ filled-renamed (lowered i) old.slots ∙ ap (λ k. map (λ m. (m.0, lowered k m.1)) (members old)) {x = i} {y = i + 1 - 1} (omega arith) in
     moved_below-lowered es i (i + 1) it.0 c.requires.was.0 old c.lower_all.new.table (omega arith) (omega (arith, c.requires.within)) it.1 c.requires.was.1 c.requires.taken is
 
-pub returns-else-len-place-clause-sited : goal.returns-else-len-place-clause-sited
-returns-else-len-place-clause-sited g c =
+pub returns-else-len-place-clause-lowered : goal.returns-else-len-place-clause-lowered
+returns-else-len-place-clause-lowered g c =
     let es = c.args.entries.now.entries in
     let i = c.args.place in
     let old = c.args.table.now in
     let none : (s h x : ℕ) → member_at old s ≡ Some (h, x) → x ≢ i = λ s h x is same.
     none_below es i (i + 1) old (omega arith) (omega (arith, c.requires.within)) c.requires.taken s h x is (same ∙ omega arith) in
-    subst (IsSited (remove c.args.column.now.items i)) (sym c.lower_all.ensures.slots)
-    (sited-lowered i c.args.column.now.items old.slots (omega (arith, c.requires.within, c.requires.even)) none c.requires.sited)
-
-pub returns-else-len-place-clause-room : goal.returns-else-len-place-clause-room
-returns-else-len-place-clause-room g c =
-    let old = c.args.table.now in
-    omega (arith, c.lower_all.ensures.room, ap length (ap filled c.lower_all.ensures.slots ∙ filled-renamed (lowered c.args.place) old.slots) ∙ length-map (members old) (renaming (lowered c.args.place)))
+    record {
+      sited = subst (IsSited (remove c.args.column.now.items i)) (sym c.lower_all.ensures.slots)
+          (sited-lowered i c.args.column.now.items old.slots (omega (arith, c.requires.within, c.requires.even)) none c.requires.sited);
+      places = ap length c.lower_all.ensures.slots ∙ length-map old.slots (option_map (renaming (lowered i)));
+      room = omega (arith, c.lower_all.ensures.room, ap length (ap filled c.lower_all.ensures.slots ∙ filled-renamed (lowered i) old.slots) ∙ length-map (members old) (renaming (lowered i)));
+    }

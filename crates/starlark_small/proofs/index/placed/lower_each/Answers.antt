@@ -46,16 +46,14 @@ returns-clause-moved g c =
     let all : c.loop-j.j ≡ length c.args.entries.now.entries = omega (arith, c.loop-j-test.false, c.loop-j.auto.j-end, c.len-j-end.ensures.len, c.requires.within) in
     subst (λ j. IsPermutation (moved_below c.args.entries.now.entries c.args.place j) (members c.loop-j.table)) all c.loop-j.invariant.moved
 
-pub returns-clause-sited : goal.returns-clause-sited
-returns-clause-sited g c =
+pub returns-clause-lowered : goal.returns-clause-lowered
+returns-clause-lowered g c =
     let es = c.args.entries.now.entries in
     let all : c.loop-j.j ≡ length es = omega (arith, c.loop-j-test.false, c.loop-j.auto.j-end, c.len-j-end.ensures.len, c.requires.within) in
-    lowered-all c.args.place (length es) c.args.column.now.items c.loop-j.table c.requires.within c.requires.even
-    (lowered-below es c.args.place c.loop-j.table c.requires.within (returns-clause-moved g c))
-    (subst (λ j. AreLowered c.args.place j c.args.column.now.items c.loop-j.table.slots) all c.loop-j.invariant.low)
-
-pub returns-clause-places : goal.returns-clause-places
-returns-clause-places g c = c.loop-j.invariant.places
-
-pub returns-clause-room : goal.returns-clause-room
-returns-clause-room g c = c.loop-j.invariant.room
+    record {
+      sited = lowered-all c.args.place (length es) c.args.column.now.items c.loop-j.table c.requires.within c.requires.even
+          (lowered-below es c.args.place c.loop-j.table c.requires.within (returns-clause-moved g c))
+          (subst (λ j. AreLowered c.args.place j c.args.column.now.items c.loop-j.table.slots) all c.loop-j.invariant.low);
+      places = c.loop-j.invariant.places;
+      room = c.loop-j.invariant.room;
+    }

@@ -54,10 +54,14 @@ slots-preserved g c =
       }
     ]
 
-pub returns-clause-sited : goal.returns-clause-sited
-returns-clause-sited g c =
+pub returns : goal.returns
+returns g c =
     let slots = c.args.table.now.slots in
     let column = c.slots.column.items in
-    sited-named (c.slots.from + length slots) column c.args.table.now (omega arith)
-    (subst (λ n. All (λ m. m.1 < n) (members c.args.table.now)) (sym c.slots.invariant.even) c.requires.below)
-    (named-on c.slots.from (c.slots.from + length slots) column slots (λ p low high. c.in_default.ensures.none p low) c.slots.invariant.named)
+    record {
+      sited = sited-named (c.slots.from + length slots) column c.args.table.now (omega arith)
+          (subst (λ n. All (λ m. m.1 < n) (members c.args.table.now)) (sym c.slots.invariant.even) c.requires.below)
+          (named-on c.slots.from (c.slots.from + length slots) column slots (λ p low high. c.in_default.ensures.none p low) c.slots.invariant.named);
+      even = c.slots.invariant.even;
+      spare = c.slots.invariant.spare;
+    }

@@ -10,6 +10,8 @@ replace_each-requires g c =
     can_replace _ _ (λ x y next called. search (rules, of_calls, called)) (length c.args.to.now) _ (λ x below. below)
     (All-map (λ x. x < length c.args.to.now) (λ m. m.1) (members c.args.table.now) c.requires)
 
-pub returns-clause-slots : goal.returns-clause-slots
-returns-clause-slots g c =
-    replaced-each _ (slice_index c.args.to.now) _ c.replace_each.ensures.replaced.0 _ _ (λ x y next called. (search (rules, of_calls, called), search (rules, of_calls, called))) c.replace_each.ensures.replaced.1
+pub returns : goal.returns
+returns g c = record {
+  slots = replaced-each _ (slice_index c.args.to.now) _ c.replace_each.ensures.replaced.0 _ _ (λ x y next called. (search (rules, of_calls, called), search (rules, of_calls, called))) c.replace_each.ensures.replaced.1;
+  room = c.replace_each.ensures.room;
+}

@@ -1,6 +1,6 @@
-use Rattle.std.proofs.Common.{◌≡◌, ◌<◌, ◌++◌, length, sym, ap, subst, ◌∙◌, arith, IsPermutation}
+use Rattle.std.proofs.Common.{◌≡◌, ◌<◌, ◌++◌, length, sym, ap, subst, ◌∙◌, arith, rules, IsPermutation}
 use Rattle.std.specs.List.{All}
-use Rattle.std.proofs.lemmas.List.Sorted.{length_permutation}
+use Rattle.std.proofs.lemmas.List.Sorted.{IsPermutation-refl, length_permutation}
 use Rattle.starlark_table.specs.Table.{members, table_capacity, table_len}
 use Rattle.starlark_small.specs.Index.{IsIndexOf}
 use Rattle.std.proofs.Common.{append-nil}
@@ -53,12 +53,24 @@ invariant_of-self-2 g c =
       narrow = omega (arith, room, none, c.in_ok-old.ensures.most, c.requires.few);
     }
 
-pub returns-clause-made : goal.returns-clause-made
-returns-clause-made g c =
+pub returns : goal.returns
+returns g c =
     let old = c.self.inside.table in
     let new = c.take_members.new.self in
     let all = ap (λ t. members t ++ members c.swap.new.x) c.swap.ensures.y_after
     ∙ ap (λ l. members old ++ l) (ap members c.swap.ensures.x_after ∙ c.in_ok-old.ensures.empty) ∙ append-nil (members old) in
-    let count = length_permutation (members old) (members new) (subst (λ l. IsPermutation l (members new)) all c.take_members.ensures.added) in
+    let bag = subst (λ l. IsPermutation l (members new)) all c.take_members.ensures.added in
+    let count = length_permutation (members old) (members new) bag in
     let room : table_capacity new ≡ table_capacity c.in_ok-old.old = c.take_members.ensures.room ∙ ap table_capacity c.swap.ensures.x_after in
-    omega (arith, room, ap length c.in_ok-old.ensures.empty, count, c.in_ok-old.ensures.room, ap table_len c.self.view_is)
+    record {
+      made = omega (arith, room, ap length c.in_ok-old.ensures.empty, count, c.in_ok-old.ensures.room, ap table_len c.self.view_is);
+      bag = subst (λ t. IsPermutation (members t) (members new)) c.self.view_is bag;
+      unchanged = search rules;
+    }
+
+pub returns-in_err-reserve_exact : goal.returns-in_err-reserve_exact
+returns-in_err-reserve_exact g c = record {
+  made = search rules;
+  bag = subst (λ t. IsPermutation (members t) (members c.self.inside.table)) c.self.view_is (IsPermutation-refl (members c.self.inside.table));
+  unchanged = search rules;
+}

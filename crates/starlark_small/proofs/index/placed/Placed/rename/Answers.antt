@@ -53,10 +53,13 @@ invariant_of-self g c =
       narrow = omega (arith, count, c.rename_places.ensures.room, k.narrow);
     }
 
-pub returns-clause-index : goal.returns-clause-index
-returns-clause-index g c =
+pub returns : goal.returns
+returns g c =
     let es = c.args.entries.now.entries in
     let old = c.self.inside.table in
     let new = c.rename_places.new.table in
     let index = subst (IsIndexOf c.requires.0) (sym c.self.view_is) c.requires.1 in
-    IsIndexOf-renamed c.requires.0 c.args.to.now es old new c.requires.2 index (ap filled c.rename_places.ensures.slots ∙ filled-renamed (slice_index c.args.to.now) old.slots)
+    record {
+      index = IsIndexOf-renamed c.requires.0 c.args.to.now es old new c.requires.2 index (ap filled c.rename_places.ensures.slots ∙ filled-renamed (slice_index c.args.to.now) old.slots);
+      room = c.rename_places.ensures.room ∙ ap (λ t. t.room) c.self.view_is;
+    }

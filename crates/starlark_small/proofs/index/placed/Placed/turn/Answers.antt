@@ -62,11 +62,14 @@ invariant_of-self g c =
       narrow = omega (arith, count, c.turn_places.ensures.room, k.narrow);
     }
 
-pub returns-clause-index : goal.returns-clause-index
-returns-clause-index g c =
+pub returns : goal.returns
+returns g c =
     let es = c.args.entries.now.entries in
     let old = c.self.inside.table in
     let new = c.turn_places.new.table in
     let index = subst (IsIndexOf es) (sym c.self.view_is) c.requires in
-    IsIndexOf-turned es old new index (ap filled c.turn_places.ensures.slots ∙ filled-renamed (λ place. c.len.result - 1 - place) old.slots
-    ∙ ap (λ n. map (λ m. (m.0, n - 1 - m.1)) (members old)) c.len.ensures.len)
+    record {
+      index = IsIndexOf-turned es old new index (ap filled c.turn_places.ensures.slots ∙ filled-renamed (λ place. c.len.result - 1 - place) old.slots
+          ∙ ap (λ n. map (λ m. (m.0, n - 1 - m.1)) (members old)) c.len.ensures.len);
+      room = c.turn_places.ensures.room ∙ ap (λ t. t.room) c.self.view_is;
+    }
