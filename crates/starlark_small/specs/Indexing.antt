@@ -20,30 +20,30 @@ module _ {K V : Type 0} where
     pub long : IfOk r (λ index. is_some index ≡ nat_lt unindexed (length es))
     pub succeeds : length es ≤ unindexed → IsOk r
 
-  -- room was made for so many new entries where it was missing, and there is an index if there was one or if so many more need one;
-  -- or it was refused, only where room was missing, and nothing has changed. The list stays indexed, and no room is lost
-  pub record ReservesIndex {A E : Type 0} (es : List (Entry K V)) (additional : ℕ) (old new : Option (Table ℕ)) (r : Result A E) : Type 0 where
+  -- whatever a reservation for so many new entries answers: the list stays indexed, no room is lost, and nothing changes where there
+  -- was room; or it was refused, only where room was missing, and nothing has changed
+  pub record GrowsIndex {A E : Type 0} (es : List (Entry K V)) (additional : ℕ) (old new : Option (Table ℕ)) (r : Result A E) : Type 0 where
     pub indexed : IsIndexed es new
-    pub room : OnOk r (additional ≤ index_room (length es) new)
     pub grows : index_room (length es) old ≤ index_room (length es) new
     pub enough : additional ≤ index_room (length es) old → new ≡ old
-    pub made : OnOk r (is_some new ≡ (is_some old || nat_lt unindexed (length es + additional)))
     pub refused : OnErr r (index_room (length es) old < additional)
     pub unchanged : OnErr r (new ≡ old)
+
+  -- the index has room for so many new entries, and there is one if there was or if so many more need it; or it was refused
+  pub record ReservesIndex {A E : Type 0} (es : List (Entry K V)) (additional : ℕ) (old new : Option (Table ℕ)) (r : Result A E) : Type 0 where
+    pub room : OnOk r (additional ≤ index_room (length es) new)
+    pub made : OnOk r (is_some new ≡ (is_some old || nat_lt unindexed (length es + additional)))
+    pub grown : GrowsIndex es additional old new r
 
   -- the same where the answer is true; false says that another index is wanted, only where room was missing and so many more need
   -- one, and that nothing has changed
   pub record ReservesAsItIs {E : Type 0} (es : List (Entry K V)) (additional : ℕ) (old new : Option (Table ℕ)) (r : Result Bool E) : Type 0 where
-    pub indexed : IsIndexed es new
     pub room : IfOk r (λ fits. fits ≡ true → additional ≤ index_room (length es) new)
-    pub grows : index_room (length es) old ≤ index_room (length es) new
-    pub enough : additional ≤ index_room (length es) old → new ≡ old
     pub made : IfOk r (λ fits. fits ≡ true → is_some new ≡ (is_some old || nat_lt unindexed (length es + additional)))
     pub other : IfOk r (λ fits. fits ≡ false → index_room (length es) old < additional)
     pub long : IfOk r (λ fits. fits ≡ false → unindexed < length es + additional)
     pub kept : IfOk r (λ fits. fits ≡ false → new ≡ old)
-    pub refused : OnErr r (index_room (length es) old < additional)
-    pub unchanged : OnErr r (new ≡ old)
+    pub grown : GrowsIndex es additional old new r
 
   -- the place of an entry with this hash, which is to go last, came in and took the room of one; there is an index if there was
   pub record NotesLast (es : List (Entry K V)) (hash : StarlarkHashValue) (old new : Option (Table ℕ)) : Type 0 where

@@ -19,14 +19,16 @@ returns g c =
     let index = subst (λ o. IsIndexed es o) was c.requires.indexed in
     let all = IsIndexOf-len es c.in-Some.table.now index in
     record {
-      indexed = IsIndexOf-grown es c.in-Some.table.now c.reserve.new.self index c.reserve.ensures.bag;
       room = search rules;
-      grows = search rules;
-      enough = search rules;
       made = search rules;
       other = search rules;
       long = IfOk-weaker c.reserve.result _ _ (λ fits many other. longer _ _ _ all (many other)) c.reserve.ensures.many;
       kept = search rules;
-      refused = search rules;
-      unchanged = search rules;
+      grown = record {
+        indexed = IsIndexOf-grown es c.in-Some.table.now c.reserve.new.self index c.reserve.ensures.bag;
+        grows = search rules;
+        enough = search rules;
+        refused = search rules;
+        unchanged = search rules;
+      };
     }
