@@ -20,8 +20,8 @@ module _ {K V : Type 0} where
     pub long : IfOk r (λ index. is_some index ≡ nat_lt unindexed (length es))
     pub succeeds : length es ≤ unindexed → IsOk r
 
-  -- whatever a reservation for so many new entries answers: the list stays indexed, no room is lost, and nothing changes where there
-  -- was room; or it was refused, only where room was missing, and nothing has changed
+  -- whatever a reservation for so many new entries answers, the list stays indexed and no room is lost. Nothing changes where there
+  -- was room, nor at a refusal, which comes only where it was missing
   pub record GrowsIndex {A E : Type 0} (es : List (Entry K V)) (additional : ℕ) (old new : Option (Table ℕ)) (r : Result A E) : Type 0 where
     pub indexed : IsIndexed es new
     pub grows : index_room (length es) old ≤ index_room (length es) new

@@ -60,17 +60,19 @@ module _ {K V : Type 0} where
     pub index : IsIndexOf es new
     pub room : new.room ≡ old.room
 
--- a place was taken out, under whatever hash it stood: slots and capacity stay
-pub record TakesPlace (place : ℕ) (old new : Table ℕ) : Type 0 where
-  pub taken : (h : ℕ) → Contains (members old) (h, place) → IsPermutation (members old) ((h, place) ∷ members new)
-  pub places : length new.slots ≡ length old.slots
-  pub room : table_capacity new ≡ table_capacity old
-
 -- the column names the slot of each place, and is as long as it was, in as much memory
 pub record NamesSlots (slots : List (Option (ℕ × ℕ))) (old new : Vec ℕ) : Type 0 where
   pub sited : IsSited new.items slots
   pub even : length new.items ≡ length old.items
   pub spare : vec_capacity new ≡ vec_capacity old
+
+-- a place was taken out, under whatever hash it stood: slots and capacity stay, and the column names the slots of those that are
+-- left
+pub record TakesPlace (place : ℕ) (old new : Table ℕ) (before after : Vec ℕ) : Type 0 where
+  pub taken : (h : ℕ) → Contains (members old) (h, place) → IsPermutation (members old) ((h, place) ∷ members new)
+  pub places : length new.slots ≡ length old.slots
+  pub room : table_capacity new ≡ table_capacity old
+  pub column : NamesSlots new.slots before after
 
 -- each place stands where the column says without the item of the place that was taken out; slots and capacity stay
 pub record IsLowered (column : List ℕ) (place : ℕ) (old new : Table ℕ) : Type 0 where

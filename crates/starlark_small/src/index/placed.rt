@@ -187,8 +187,7 @@ fn take_place<N: PlaceNumber>(table: &mut Places<N>, column: &mut Vec<Place<N>>,
     requires within { place < length column.old.items }
     requires sited { IsSited column.old.items table.old.slots }
     requires few { length table.old.slots ≤ N.bound }
-    ensures place { TakesPlace place table.old table.new }
-    ensures column { NamesSlots table.new.slots column.old column.new }
+    ensures { TakesPlace place table.old table.new column.old column.new }
 {
     let slot = column[place].get();
     table.remove_followed(slot, column);

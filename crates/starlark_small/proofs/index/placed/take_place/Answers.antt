@@ -1,4 +1,4 @@
-use Rattle.std.proofs.Common.{◌≡◌, None, ◌∷◌, get_or, ap, subst, ◌∙◌, arith, rules, IsPermutation}
+use Rattle.std.proofs.Common.{◌≡◌, None, ◌∷◌, get_or, ap, subst, ◌∙◌, arith, IsPermutation}
 use Rattle.std.specs.Prelude.{IfSome}
 use Rattle.std.proofs.lemmas.List.{length-set}
 use Rattle.starlark_table.specs.Table.{members, member_at}
@@ -9,8 +9,8 @@ pub remove_followed-requires : goal.remove_followed-requires
 remove_followed-requires g c =
     (sited-without c.args.column.now.items c.args.table.now.slots c.get-slot.result c.requires.sited, omega (arith, c.requires.few, length-set c.args.table.now.slots c.get-slot.result None))
 
-pub returns-clause-place : goal.returns-clause-place
-returns-clause-place g c =
+pub returns : goal.returns
+returns g c =
     let old = c.args.table.now in
     let column = c.args.column.now.items in
     let slot : c.get-slot.result ≡ get_or column c.args.place 0 = c.get-slot.ensures ∙ c.index.ensures ∙ any_default column c.args.place c.index.result.now 0 c.requires.within in
@@ -20,11 +20,9 @@ returns-clause-place g c =
           subst (λ o. IfSome o (λ m. IsPermutation (members old) (m ∷ members c.remove_followed.new.self))) (c.remove_followed.ensures.found ∙ at) c.remove_followed.ensures.rest;
       places = c.remove_followed.ensures.places;
       room = c.remove_followed.ensures.room;
+      column = record {
+        sited = c.remove_followed.ensures.known.0;
+        even = ap (λ s. s.0) c.remove_followed.ensures.size;
+        spare = ap (λ s. s.1) c.remove_followed.ensures.size;
+      };
     }
-
-pub returns-clause-column : goal.returns-clause-column
-returns-clause-column g c = record {
-  sited = search rules;
-  even = ap (λ s. s.0) c.remove_followed.ensures.size;
-  spare = ap (λ s. s.1) c.remove_followed.ensures.size;
-}

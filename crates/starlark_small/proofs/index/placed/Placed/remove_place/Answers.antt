@@ -23,7 +23,7 @@ lower_above-requires-clause-taken g c =
     let old = c.self.inside.table in
     let index = subst (IsIndexOf es) (sym c.self.view_is) c.requires.index in
     let it = some_at es i c.requires.within in
-    moved_below-first es i it.0 old c.take_place.new.table it.1 index (c.take_place.ensures.place.taken (promoted it.0.0.hash.0) (at-place es old i it.0 it.1 index))
+    moved_below-first es i it.0 old c.take_place.new.table it.1 index (c.take_place.ensures.taken (promoted it.0.0.hash.0) (at-place es old i it.0 it.1 index))
 
 pub lower_above-requires-clause-even : goal.lower_above-requires-clause-even
 lower_above-requires-clause-even g c =
@@ -51,7 +51,7 @@ invariant_of-self g c =
     record {
       sited = subst (λ l. IsSited l new.slots) (sym c.remove.ensures.items) c.lower_above.ensures.lowered.sited;
       even = omega (arith, ap length c.remove.ensures.items, length-remove column i inside, length-remove es i c.requires.within, before, after, c.take_place.ensures.column.even, k.even);
-      spare = omega (arith, c.lower_above.ensures.lowered.room, c.take_place.ensures.place.room, k.spare, c.take_place.ensures.column.spare, c.remove.ensures.capacity);
-      few = omega (arith, c.lower_above.ensures.lowered.places, c.take_place.ensures.place.places, k.few);
-      narrow = omega (arith, c.lower_above.ensures.lowered.room, c.take_place.ensures.place.room, k.narrow);
+      spare = omega (arith, c.lower_above.ensures.lowered.room, c.take_place.ensures.room, k.spare, c.take_place.ensures.column.spare, c.remove.ensures.capacity);
+      few = omega (arith, c.lower_above.ensures.lowered.places, c.take_place.ensures.places, k.few);
+      narrow = omega (arith, c.lower_above.ensures.lowered.room, c.take_place.ensures.room, k.narrow);
     }

@@ -32,7 +32,7 @@ invariant_of-self g c =
     let index = subst (IsIndexOf es) (sym c.self.view_is) c.requires.1 in
     let before = IsIndexOf-len es old index in
     let end : last + 1 ≡ length es = omega (arith, c.len-last.ensures, k.even, before, c.requires.2, c.self.inside.column.ok.0) in
-    let now = last-taken es last old new end index c.take_place.ensures.place.taken in
+    let now = last-taken es last old new end index c.take_place.ensures.taken in
     let after = IsIndexOf-len (remove es last) new now in
     let shorter = length-remove es last (omega (arith, end)) in
     let few = vec_len column - 1 in
@@ -42,9 +42,9 @@ invariant_of-self g c =
       sited = subst (λ l. IsSited l new.slots) (sym c.pop.ensures.rest)
           (sited-last column.items new few (omega (arith, column.ok.0)) (subst (λ n. All (λ m. m.1 < n) (members new)) (sym left) (members-below (remove es last) new now)) c.take_place.ensures.column.sited);
       even = ap length c.pop.ensures.rest ∙ count ∙ sym after;
-      spare = omega (arith, c.take_place.ensures.place.room, k.spare, c.take_place.ensures.column.spare, c.pop.ensures.capacity);
-      few = omega (arith, c.take_place.ensures.place.places, k.few);
-      narrow = omega (arith, c.take_place.ensures.place.room, k.narrow);
+      spare = omega (arith, c.take_place.ensures.room, k.spare, c.take_place.ensures.column.spare, c.pop.ensures.capacity);
+      few = omega (arith, c.take_place.ensures.places, k.few);
+      narrow = omega (arith, c.take_place.ensures.room, k.narrow);
     }
 
 pub returns : goal.returns
@@ -57,6 +57,6 @@ returns g c =
       index = λ es held.
           let index = subst (IsIndexOf es) (sym c.self.view_is) held in
           let end : last + 1 ≡ length es = omega (arith, c.len-last.ensures, c.self.invariant.even, IsIndexOf-len es old index, some, c.requires.2, c.self.inside.column.ok.0) in
-          subst (λ n. IsIndexOf (remove es n) new) {x = last} {y = length es - 1} (omega (arith, end)) (last-taken es last old new end index c.take_place.ensures.place.taken);
-      room = c.take_place.ensures.place.room ∙ ap table_capacity c.self.view_is;
+          subst (λ n. IsIndexOf (remove es n) new) {x = last} {y = length es - 1} (omega (arith, end)) (last-taken es last old new end index c.take_place.ensures.taken);
+      room = c.take_place.ensures.room ∙ ap table_capacity c.self.view_is;
     }
