@@ -57,8 +57,8 @@ module _ {K V : Type 0} (feeds : K → HashWrites) (hash : StarlarkHashValue) (t
       tells-some None is there = absurd (false≢true there)
       tells-some (Some v) is there = ap is_some (finds-some (Some v) is)
 
-      pub finds-under : (r : Option V) → r ≡ lookup (under_own feeds hash t) (pairs_of m) → FindsUnder feeds t hash m r
-      finds-under r is = record { value = is; found = finds-some r is; member = among-under r is }
+      pub finds-under : (r : Option V) → r ≡ lookup (under_own feeds hash t) (pairs_of m) → FindsUnder eq feeds t hash m r
+      finds-under r is = record { value = is; found = finds-some r is; member = among-under r is; own = λ same own passes. own-under same own passes ∙ sym is }
 
-      pub tells-under : (r : Option V) → FindsUnder feeds t hash m r → TellsUnder feeds t hash m (is_some r)
-      tells-under r finds = record { value = ap is_some finds.value; found = tells-some r finds.value }
+      pub tells-under : (r : Option V) → FindsUnder eq feeds t hash m r → TellsUnder eq feeds t hash m (is_some r)
+      tells-under r finds = record { value = ap is_some finds.value; found = tells-some r finds.value; own = λ same own passes. ap is_some (finds.own same own passes) }

@@ -1,11 +1,11 @@
 -- What a call makes of an `UnorderedMap` and of an `UnorderedSet`, each in one word. A set is a map to `()`.
-use Rattle.std.specs.Prelude.{◌≡◌, ◌≤◌, ◌+◌, [], ◌∷◌, ℕ, Bool, false, Option, None, Some, is_some, Result, length, if◌then◌else◌, IfErr, IfOk, IfSome, IfNone, OnOk, OnErr, IsPermutation}
+use Rattle.std.specs.Prelude.{◌≡◌, ◌≤◌, ◌+◌, [], ◌∷◌, ℕ, Bool, false, Option, None, Some, is_some, Result, length, if◌then◌else◌, IfErr, IfOk, IfSome, IfNone, IsOk, OnOk, OnErr, IsPermutation}
 use Rattle.std.specs.Map.{keys_of, lookup}
 use Rattle.starlark_hash.specs.declared.no_room.NoRoom.{NoRoom}
 use Rattle.starlark_table.specs.Growth.{most_for}
-use Rattle.starlark_table.specs.Table.{Table, table_len, GrowsAsNeeded}
+use Rattle.starlark_table.specs.Table.{Table, item_in, table_len, GrowsAsNeeded}
 use Rattle.starlark_unordered.specs.Calling.{contains, found, get, total_of, weight_of, IsEmpty, Updates, Writes}
-use Rattle.starlark_unordered.specs.Pairs.{pairs_of, with_pair, IsWithout}
+use Rattle.starlark_unordered.specs.Pairs.{pairs_of, with_pair, HasDistinctKeys, IsWithout}
 
 module _ {K V A B : Type 0} (eq : K → K → Bool) where
   -- the value was put at the key, whatever was there, and the answer tells of what was; or key and value, whose key the map
@@ -38,6 +38,12 @@ module _ {K V A B : Type 0} (eq : K → K → Bool) where
     pub unchanged : OnErr result (after ≡ before)
 
 module _ {K V : Type 0} where
+  -- such a pair was put into the slot that is answered, and no two keys are equal; or it comes back
+  pub record AddsAt (eq : K → K → Bool) (before after : Table (K × V)) (key : K) (value : V) (result : Result ℕ (NoRoom (K × V))) : Type 0 where
+    pub placed : IfOk result (λ slot. item_in after slot ≡ Some (key, value))
+    pub distinct : HasDistinctKeys eq (pairs_of after)
+    pub adds : Adds eq before after key value (key, value) result
+
   -- the pair of the key that passes was taken out, if it was there, its value is answered, and its room came back
   pub record Removes (eq : K → K → Bool) (test : K → Bool) (old new : Table (K × V)) (result : Option V) : Type 0 where
     pub was : result ≡ found test (pairs_of old)
@@ -49,9 +55,17 @@ module _ {K V : Type 0} where
     pub none : IfNone result (new ≡ old)
     pub room : table_len new + new.room ≡ table_len old + old.room
 
-  -- the pair that was stored was taken out, and its room came back
-  pub record TakesOut (stored : Option (K × V)) (old new : Table (K × V)) : Type 0 where
-    pub rest : IfSome stored (λ p. IsPermutation (pairs_of old) (p ∷ pairs_of new))
+  -- what was stored is answered; its pair was taken out, and its room came back
+  pub record TakesOut {A : Type 0} (stored : Option A) (answer : A) (taken : Option (K × V)) (old new : Table (K × V)) : Type 0 where
+    pub pair : stored ≡ Some answer
+    pub rest : IfSome taken (λ p. IsPermutation (pairs_of old) (p ∷ pairs_of new))
+    pub room : table_len new + new.room ≡ table_len old + old.room
+
+  -- the pair in a slot of a map without two equal keys was taken out, and its room came back
+  pub record TakesSlot (eq : K → K → Bool) (slot : ℕ) (taken : K × V) (old new : Table (K × V)) : Type 0 where
+    pub pair : item_in old slot ≡ Some taken
+    pub distinct : HasDistinctKeys eq (pairs_of old)
+    pub rest : IsPermutation (pairs_of old) (taken ∷ pairs_of new)
     pub room : table_len new + new.room ≡ table_len old + old.room
 
   -- there is no pair, and room for so many
@@ -68,3 +82,8 @@ module _ {K V : Type 0} where
     pub keys : keys_of (pairs_of m) ≡ []
     pub room : capacity ≤ m.room
     pub most : m.room ≤ most_for capacity
+
+  -- such an empty map was made; or it was refused, which never happens where it is to be for no pair
+  pub record MakesEmptyFor {E : Type 0} (capacity : ℕ) (result : Result (Table (K × V)) E) : Type 0 where
+    pub made : IfOk result (λ m. IsEmptyFor capacity m)
+    pub none_for_none : capacity ≡ 0 → IsOk result

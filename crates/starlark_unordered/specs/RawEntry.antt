@@ -42,9 +42,19 @@ module _ {K V : Type 0} where
     pub map : held.now ≡ lent.now
     pub found : (last : F) × Searches g (keys_under feeds under lent.now) f slot last
 
+  -- a slot that has a pair, with a key of this own hash that the closure accepts; or none where it refuses them all
+  pub record Accepts {F : Type 0} (g : Mut F (Bor K × Unit {0}) Bool) (feeds : K → HashWrites) (under : StarlarkHashValue) (f : F) (m : Table (K × V)) (slot : Option ℕ) : Type 0 where
+    pub found : (last : F) × Searches g (keys_under feeds under m) f slot last
+    pub there : IfSome slot (λ slot. is_some (item_in m slot) ≡ true)
+
   -- the map with another key in a slot
   abbrev pub with_key : Table (K × V) → ℕ → K → Table (K × V)
   with_key m slot key = record m { slots = slice_set m.slots slot (option_map (λ e. (e.0, (key, e.1.1))) (member_at m slot)) }
+
+  -- the key stands in the slot in the place of the one that was there, which is answered
+  pub record PutsKey (slot : ℕ) (key was : K) (before after : Table (K × V)) : Type 0 where
+    pub old : option_map (λ p. p.0) (item_in before slot) ≡ Some was
+    pub new : after ≡ with_key before slot key
 
   still_some : (key : K) (o : Option (ℕ × (K × V))) → is_some (option_map (λ m. m.1) o) ≡ true
       → is_some (option_map {T = ℕ × (K × V)} (λ m. m.1) (option_map {T = ℕ × (K × V)} (λ e. (e.0, (key, e.1.1))) o)) ≡ true

@@ -1,5 +1,5 @@
 -- What an `UnorderedMap` ends as, once a reference into a pair that was put in has ended.
-use Rattle.std.specs.Prelude.{◌≡◌, ◌∷◌, ℕ, Some, Result, OnOk, OnErr, IfErr, IfOk, IsPermutation}
+use Rattle.std.specs.Prelude.{◌≡◌, ◌∷◌, ℕ, Some, Result, Err, IsOk, OnOk, OnErr, IfErr, IfOk, IsPermutation, MatchResult}
 use Rattle.std.specs.Borrow.{Fml, RattleType, Bor, MutBor, follows_so, name_if_ok}
 use Rattle.starlark_hash.specs.declared.no_room.NoRoom.{NoRoom}
 use Rattle.starlark_table.specs.Table.{Table, item_in, GrowsAsNeeded}
@@ -10,6 +10,11 @@ use Rattle.starlark_unordered.specs.Pairs.{pairs_of, with_value}
 pub record IsAdded {K V : Type 0} (old : Table (K × V)) (key : K) (value : V) (new : Table (K × V)) : Type 0 where
   pub pairs : IsPermutation ((key, value) ∷ pairs_of old) (pairs_of new)
   pub room : GrowsAsNeeded old new
+
+-- the pair in the slot that is answered is lent; or the refusal is handed on
+pub record LendsSlot {K V E : Type 0} (m : Table (K × V)) (placed : Result ℕ E) (result : Result (Bor K × MutBor V) E) : Type 0 where
+  pub shown : IfOk placed (λ slot. IfOk result (λ p. item_in m slot ≡ Some (p.0.now, p.1.now)))
+  pub refusal : MatchResult placed (λ _. IsOk result) (λ e. result ≡ Err e)
 
 module _ {K V B : Type 0} where
   -- a pair was put into the slot of the lent map that is answered, where any value may then be written; or it comes

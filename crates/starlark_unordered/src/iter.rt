@@ -1,9 +1,9 @@
 //! The iterators of an `UnorderedMap`. Each goes along the walk, and is seen as the list of what it has left.
-ghost use Rattle.std.specs.Prelude.{◌≡◌, length, IfSome, Some};
-ghost use Rattle.std.specs.Iterator.{UpTo, at_most};
-ghost use Rattle.std.specs.Iterator.SizeHint.{IsWithinCount};
+ghost use Rattle.std.specs.Prelude.{◌≡◌, length};
+ghost use Rattle.std.specs.Iterator.{at_most};
 ghost use Rattle.std.specs.Map.{keys_of, values_of};
 ghost use Rattle.std.specs.Map.Iter.{TakesFirst, deref, deref_pair};
+ghost use Rattle.starlark_unordered.specs.Walk.{HintsExactly};
 
 use starlark_table::Iter;
 use std::iter::FusedIterator;
@@ -47,9 +47,7 @@ impl<'a, K, V> Iterator for Entries<'a, K, V> {
 
     #[inline]
     fn size_hint(&self) -> (usize, Option<usize>)
-        ensures lower { IsWithinCount result.0 (at_most (length self.now)) }
-        ensures upper { IfSome result.1 (UpTo (at_most (length self.now))) }
-        ensures exact { result ≡ (length self.now, Some (length self.now)) }
+        ensures hints { HintsExactly (length self.now) result }
     {
         let len = self.len();
         (len, Some(len))
@@ -104,9 +102,7 @@ impl<'a, K, V> Iterator for KeysUnordered<'a, K, V> {
 
     #[inline]
     fn size_hint(&self) -> (usize, Option<usize>)
-        ensures lower { IsWithinCount result.0 (at_most (length self.now)) }
-        ensures upper { IfSome result.1 (UpTo (at_most (length self.now))) }
-        ensures exact { result ≡ (length self.now, Some (length self.now)) }
+        ensures hints { HintsExactly (length self.now) result }
     {
         let len = self.len();
         (len, Some(len))
@@ -161,9 +157,7 @@ impl<'a, K, V> Iterator for ValuesUnordered<'a, K, V> {
 
     #[inline]
     fn size_hint(&self) -> (usize, Option<usize>)
-        ensures lower { IsWithinCount result.0 (at_most (length self.now)) }
-        ensures upper { IfSome result.1 (UpTo (at_most (length self.now))) }
-        ensures exact { result ≡ (length self.now, Some (length self.now)) }
+        ensures hints { HintsExactly (length self.now) result }
     {
         let len = self.len();
         (len, Some(len))

@@ -1,11 +1,11 @@
 //! The iterators that lend the values of an `UnorderedMap` for writing. Each is seen as the pairs that are left, and the
 //! name of its loan.
-ghost use Rattle.std.specs.Prelude.{◌≡◌, length, IfSome, Some};
-ghost use Rattle.std.specs.Iterator.{UpTo, at_most};
-ghost use Rattle.std.specs.Iterator.SizeHint.{IsWithinCount};
+ghost use Rattle.std.specs.Prelude.{◌≡◌, length};
+ghost use Rattle.std.specs.Iterator.{at_most};
 ghost use Rattle.std.specs.Map.{values_of};
 ghost use Rattle.std.specs.Map.Iter.{TakesFirst};
 ghost use Rattle.starlark_table.specs.Lends.{written_through};
+ghost use Rattle.starlark_unordered.specs.Walk.{HintsExactly};
 
 pub use starlark_table::PairsMut as EntriesMut;
 use std::iter::FusedIterator;
@@ -52,9 +52,7 @@ impl<'a, K, V> Iterator for ValuesUnorderedMut<'a, K, V> {
 
     #[inline]
     fn size_hint(&self) -> (usize, Option<usize>)
-        ensures lower { IsWithinCount result.0 (at_most (length (values_of self.now.0))) }
-        ensures upper { IfSome result.1 (UpTo (at_most (length (values_of self.now.0)))) }
-        ensures exact { result ≡ (length (values_of self.now.0), Some (length (values_of self.now.0))) }
+        ensures hints { HintsExactly (length (values_of self.now.0)) result }
     {
         let len = self.len();
         (len, Some(len))

@@ -1,5 +1,5 @@
 //! Places of a map that a query, or a hash and a closure choose.
-ghost use Rattle.std.specs.Prelude.{◌≡◌, true, Some, None, Err, IfOk, IfSome, IsOk, MatchResult};
+ghost use Rattle.std.specs.Prelude.{◌≡◌, true, Some, None, IfOk, IfSome};
 ghost use Rattle.std.specs.Borrow.{sem};
 ghost use Rattle.std.specs.Map.{lookup};
 ghost use Rattle.std.specs.Option.{is_some, option_map};
@@ -9,7 +9,7 @@ ghost use Rattle.starlark_lists.specs.Search.{CanSearch};
 ghost use Rattle.starlark_table.specs.Table.{item_in};
 ghost use Rattle.starlark_unordered.specs.Changing.{TakesOut};
 ghost use Rattle.starlark_unordered.specs.Pairs.{pairs_of, keys_under, under_own};
-ghost use Rattle.starlark_unordered.specs.RawLending.{lends_placed};
+ghost use Rattle.starlark_unordered.specs.RawLending.{lends_placed, LendsSlot};
 
 use crate::unordered_map::UnorderedMap;
 use starlark_hash::{Equivalent, Hashed, KeyQuery, NoRoom, StarlarkHashValue};
@@ -152,8 +152,7 @@ impl<'a, K: Eq + Hash, V> RawOccupiedEntryMut<'a, K, V> {
     pub fn remove(self) -> V
     where
         K: Drop,
-        ensures pair { option_map (λ p. p.1) (stored_raw self.entry) ≡ Some result }
-        ensures takes { TakesOut (stored_raw self.entry) self.entry.map.now self.exit.0.now }
+        ensures takes { TakesOut (option_map (λ p. p.1) (stored_raw self.entry)) result (stored_raw self.entry) self.entry.map.now self.exit.0.now }
     {
         let slot = self.slot;
         let (_key, value) = self.map.take_out(slot);
@@ -163,8 +162,7 @@ impl<'a, K: Eq + Hash, V> RawOccupiedEntryMut<'a, K, V> {
     /// Takes the pair out, and answers it. The other pairs stay, and the room comes back.
     #[inline]
     pub fn remove_entry(self) -> (K, V)
-        ensures pair { stored_raw self.entry ≡ Some result }
-        ensures takes { TakesOut (Some result) self.entry.map.now self.exit.0.now }
+        ensures takes { TakesOut (stored_raw self.entry) result (Some result) self.entry.map.now self.exit.0.now }
     {
         let slot = self.slot;
         self.map.take_out(slot)
@@ -240,8 +238,7 @@ fn lend_placed<'a, K: Eq + Hash, V, E>(
 ) -> Result<(&'a K, &'a mut V), E>
     requires { IfOk placed.1 (λ slot. is_some (item_in placed.0.now slot) ≡ true) }
     ensures* writes_back { sem 𝓛 (lends_placed K.row V.row K.Hash placed.entry.0 placed.entry.1 result) }
-    ensures shown { IfOk placed.entry.1 (λ slot. IfOk result (λ p. item_in placed.entry.0.now slot ≡ Some (p.0.now, p.1.now))) }
-    ensures refusal { MatchResult placed.entry.1 (λ _. IsOk result) (λ e. result ≡ Err e) }
+    ensures lends { LendsSlot placed.entry.0.now placed.entry.1 result }
 {
     let (map, placed) = placed;
     match placed {

@@ -1,7 +1,8 @@
 //! The map. It alone sees its table.
-ghost use Rattle.std.specs.Prelude.{◌≡◌, ◌==◌, length, IfOk, IsOk};
-ghost use Rattle.starlark_unordered.specs.Changing.{IsEmptyFor, IsEmptyWith};
-ghost use Rattle.starlark_unordered.specs.Pairs.{pairs_of, HasDistinctKeys};
+ghost use Rattle.std.specs.Prelude.{◌≡◌, ◌==◌, length};
+ghost use Rattle.starlark_unordered.specs.Calling.{Counts};
+ghost use Rattle.starlark_unordered.specs.Changing.{IsEmptyWith, MakesEmptyFor};
+ghost use Rattle.starlark_unordered.specs.Pairs.{pairs_of};
 
 mod collect;
 mod compare;
@@ -57,8 +58,7 @@ impl<K: Eq + Hash, V> UnorderedMap<K, V> {
     /// nothing is made; capacity 0 is not refused.
     #[tactic(auto, using(crate::proofs::Callers::callers), unfolding(crate::specs::Calling::found))]
     pub fn with_capacity(alloc: Global, capacity: usize) -> Result<Self, AllocError>
-        ensures made { IfOk result (λ m. IsEmptyFor capacity m) }
-        ensures none_for_none { capacity ≡ 0 → IsOk result }
+        ensures makes { MakesEmptyFor capacity result }
     {
         Ok(UnorderedMap {
             table: ReadyTable::with_capacity(alloc, capacity)?,
@@ -69,8 +69,7 @@ impl<K: Eq + Hash, V> UnorderedMap<K, V> {
     /// How many pairs there are.
     #[inline]
     pub fn len(&self) -> usize
-        ensures len { result ≡ length (pairs_of self.now) }
-        ensures distinct { HasDistinctKeys K.eq (pairs_of self.now) }
+        ensures counts { Counts K.eq self.now result }
     {
         self.table.len()
     }

@@ -1,13 +1,12 @@
 //! The set: an `UnorderedMap` to `()`.
-ghost use Rattle.std.specs.Prelude.{◌≡◌, ◌==◌, ◌+◌, [], length, not, is_some, IfOk, IsOk};
+ghost use Rattle.std.specs.Prelude.{◌≡◌, ◌==◌, ◌+◌, length, not, is_some, IfOk};
 ghost use Rattle.std.specs.Map.Iter.{deref};
 ghost use Rattle.starlark_hash.specs.HashValue.{hash_of, key_of};
-ghost use Rattle.starlark_hash.specs.Hasher.{own_hash};
 ghost use Rattle.starlark_table.specs.Table.{table_len};
-ghost use Rattle.starlark_unordered.specs.Calling.{contains, TellsUnder};
-ghost use Rattle.starlark_unordered.specs.Changing.{Inserts, IsEmptyFor, IsEmptyWith};
-ghost use Rattle.starlark_unordered.specs.Clone.{IsEqualClone, IsSetCloneOf};
-ghost use Rattle.starlark_unordered.specs.Pairs.{pairs_of, HasDistinctKeys};
+ghost use Rattle.starlark_unordered.specs.Calling.{Counts, Tells, TellsUnder};
+ghost use Rattle.starlark_unordered.specs.Changing.{Inserts, IsEmptyWith, MakesEmptyFor};
+ghost use Rattle.starlark_unordered.specs.Clone.{ClonesSet, IsEqualClone};
+ghost use Rattle.starlark_unordered.specs.Pairs.{pairs_of};
 ghost use Rattle.starlark_unordered.specs.Walk.{ShowsSorted};
 
 mod collect;
@@ -40,7 +39,7 @@ impl<T: Eq + Hash> Model for UnorderedSet<T> {
 }
 
 impl<T: Eq + Hash> UnorderedSet<T> {
-    ghost use Rattle.starlark_unordered.specs.Set.{elements_of, has};
+    ghost use Rattle.starlark_unordered.specs.Set.{elements_of};
 
     /// An empty set without room. It asks for no memory before the first insertion.
     pub fn new(alloc: Global) -> Self
@@ -55,8 +54,7 @@ impl<T: Eq + Hash> UnorderedSet<T> {
     /// An empty set with room for so many elements at least, and for twice as many, or 6, at most. Where memory is
     /// refused, nothing is made; capacity 0 is not refused.
     pub fn with_capacity(alloc: Global, capacity: usize) -> Result<Self, AllocError>
-        ensures made { IfOk result (λ s. IsEmptyFor capacity s) }
-        ensures none_for_none { capacity ≡ 0 → IsOk result }
+        ensures makes { MakesEmptyFor capacity result }
     {
         Ok(UnorderedSet {
             map: UnorderedMap::with_capacity(alloc, capacity)?,
@@ -98,8 +96,7 @@ impl<T: Eq + Hash> UnorderedSet<T> {
     /// How many elements there are.
     #[inline]
     pub fn len(&self) -> usize
-        ensures len { result ≡ length (pairs_of self.now) }
-        ensures distinct { HasDistinctKeys T.eq (pairs_of self.now) }
+        ensures counts { Counts T.eq self.now result }
     {
         self.map.len()
     }
@@ -107,8 +104,7 @@ impl<T: Eq + Hash> UnorderedSet<T> {
     /// Whether the set has the element that the query stands for.
     #[inline(always)]
     pub fn contains<Q: KeyQuery<T>>(&self, query: &Q) -> bool
-        ensures found { result ≡ contains Q.equivalent self.now query.now }
-        ensures has { result ≡ has (Q.equivalent query.now) self.now }
+        ensures tells { Tells (Q.equivalent query.now) self.now result }
     {
         self.map.contains_key(query)
     }
@@ -116,8 +112,7 @@ impl<T: Eq + Hash> UnorderedSet<T> {
     /// Whether the set has the element, and this is its own hash.
     #[inline(always)]
     pub fn contains_hashed<Q: Equivalent<T>>(&self, element: Hashed<&Q>) -> bool
-        ensures tells { TellsUnder T.hash_input (Q.equivalent (key_of element.entry).now) (hash_of element.entry) self.now result }
-        ensures own { (same : T) → hash_of element.entry ≡ own_hash T.hash_input same → Q.equivalent (key_of element.entry).now ≡ T.eq same → contains T.eq self.now same ≡ result }
+        ensures tells { TellsUnder T.eq T.hash_input (Q.equivalent (key_of element.entry).now) (hash_of element.entry) self.now result }
     {
         self.map.contains_key_hashed(element)
     }
@@ -145,8 +140,7 @@ impl<T: Eq + Hash + Clone> UnorderedSet<T> {
     pub fn clone(&self) -> Result<Self, AllocError>
         // A clone of an element is equal to it.
         requires { IsEqualClone T.eq T.is_clone }
-        ensures clone { IfOk result (λ s. IsSetCloneOf T.eq T.is_clone self.now s) }
-        ensures none_for_none { pairs_of self.now ≡ [] → self.now.room ≡ 0 → IsOk result }
+        ensures clones { ClonesSet T.eq T.is_clone self.now result }
     {
         Ok(UnorderedSet {
             map: self.map.clone()?,

@@ -1,9 +1,6 @@
 //! `UnorderedMap`s from the items of iterators.
-ghost use Rattle.std.specs.Prelude.{◌≡◌, List, IfOk, IsOk, OnOk};
-ghost use Rattle.std.specs.Iterator.{Drains, IsFiniteIterable, IsFinite, size};
-ghost use Rattle.starlark_table.specs.Table.{GrowsAsNeeded};
-ghost use Rattle.starlark_unordered.specs.Collect.{Collects, HasLast, InsertsAll};
-ghost use Rattle.starlark_unordered.specs.Pairs.{pairs_of};
+ghost use Rattle.std.specs.Iterator.{IsFiniteIterable, IsFinite};
+ghost use Rattle.starlark_unordered.specs.Collect.{MakesMap, TakesIn};
 
 use super::UnorderedMap;
 use std::alloc::{AllocError, Global};
@@ -18,9 +15,7 @@ impl<K: Eq + Hash + Drop, V: Drop> UnorderedMap<K, V> {
         iter: I,
     ) -> Result<Self, AllocError>
         requires { IsFiniteIterable I.into_iter_gives I.IntoIter.can_next I.IntoIter.remaining iter }
-        ensures found { IfOk result (HasLast K.eq I.IntoIter.next_gives I.into_iter_gives iter) }
-        ensures map { IfOk result (Collects K.eq I.IntoIter.next_gives I.into_iter_gives I.IntoIter.remaining iter) }
-        ensures succeeds { ((it : _) → I.into_iter_gives iter it → size (I.IntoIter.remaining it) ≡ 0) → IsOk result }
+        ensures makes { MakesMap K.eq I.IntoIter.next_gives I.into_iter_gives I.IntoIter.remaining iter result }
     {
         let items = iter.into_iter();
         let mut map = UnorderedMap::with_capacity(alloc, items.size_hint().0)?;
@@ -32,9 +27,7 @@ impl<K: Eq + Hash + Drop, V: Drop> UnorderedMap<K, V> {
     fn insert_items<I: Iterator<Item = (K, V)>>(&mut self, mut items: I) -> Result<(), AllocError>
         requires can { I.can_next items }
         requires finite { IsFinite (I.remaining items) }
-        ensures pairs { OnOk result ((xs : List (K × V)) × Drains I.next_gives items xs × InsertsAll K.eq (pairs_of self.old) xs (pairs_of self.new)) }
-        ensures succeeds { size (I.remaining items) ≡ 0 → IsOk result }
-        ensures room { GrowsAsNeeded self.old self.new }
+        ensures takes { TakesIn K.eq I.next_gives I.remaining items self.old self.new result }
     {
         while let Some(pair) = items.next() {
             let (key, value) = pair;

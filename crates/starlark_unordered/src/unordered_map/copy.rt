@@ -1,7 +1,5 @@
 //! `UnorderedMap`s made of clones.
-ghost use Rattle.std.specs.Prelude.{◌≡◌, [], IfOk, IsOk};
-ghost use Rattle.starlark_unordered.specs.Clone.{IsCloneOf, IsEqualClone};
-ghost use Rattle.starlark_unordered.specs.Pairs.{pairs_of};
+ghost use Rattle.starlark_unordered.specs.Clone.{Clones, IsEqualClone};
 
 use super::UnorderedMap;
 use std::alloc::AllocError;
@@ -13,8 +11,7 @@ impl<K: Eq + Hash + Clone, V: Clone> UnorderedMap<K, V> {
     pub fn clone(&self) -> Result<Self, AllocError>
         // A clone of a key is equal to it.
         requires { IsEqualClone K.eq K.is_clone }
-        ensures clone { IfOk result (λ map. IsCloneOf K.eq K.is_clone V.is_clone self.now map) }
-        ensures none_for_none { pairs_of self.now ≡ [] → self.now.room ≡ 0 → IsOk result }
+        ensures clones { Clones K.eq K.is_clone V.is_clone self.now result }
     {
         if self.len() == 0 && self.room() == 0 {
             return Ok(UnorderedMap::new(self.alloc));

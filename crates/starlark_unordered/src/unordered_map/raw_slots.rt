@@ -1,9 +1,9 @@
 //! What raw entries do to a slot of an `UnorderedMap`.
 ghost use Rattle.std.specs.Prelude.{◌≡◌, true, Some, IfSome};
 ghost use Rattle.std.specs.Borrow.{sem};
-ghost use Rattle.std.specs.Option.{is_some, option_map};
+ghost use Rattle.std.specs.Option.{is_some};
 ghost use Rattle.starlark_table.specs.Table.{item_in};
-ghost use Rattle.starlark_unordered.specs.RawEntry.{with_key};
+ghost use Rattle.starlark_unordered.specs.RawEntry.{PutsKey};
 
 use super::UnorderedMap;
 use std::hash::Hash;
@@ -30,8 +30,7 @@ impl<K: Eq + Hash, V> UnorderedMap<K, V> {
     pub(crate) fn replace_key(&mut self, slot: usize, key: K) -> K
         requires there { is_some (item_in self.old slot) ≡ true }
         requires equal { IfSome (item_in self.old slot) (λ p. K.eq key p.0 ≡ true) }
-        ensures old { option_map (λ p. p.0) (item_in self.old slot) ≡ Some result }
-        ensures new { self.new ≡ with_key self.old slot key }
+        ensures puts { PutsKey slot key result self.old self.new }
     {
         match self.table.get_mut(slot) {
             Some(pair) => mem::replace(&mut pair.0, key),

@@ -1,13 +1,14 @@
 //! The pairs of an `UnorderedMap` by their slots, on which the calls and the entries are written.
-ghost use Rattle.std.specs.Prelude.{◌≡◌, true, None, Some, IfOk, IfSome};
+ghost use Rattle.std.specs.Prelude.{◌≡◌, true, None, Some};
 ghost use Rattle.std.specs.Borrow.{sem};
 ghost use Rattle.std.specs.Fn.{CalledAt, TakesAt};
 ghost use Rattle.std.specs.Map.{lookup};
 ghost use Rattle.std.specs.Option.{is_some, option_copied, option_map};
-ghost use Rattle.starlark_lists.specs.Search.{CanSearch, Searches};
+ghost use Rattle.starlark_lists.specs.Search.{CanSearch};
 ghost use Rattle.starlark_table.specs.Table.{item_in};
-ghost use Rattle.starlark_unordered.specs.Changing.{Adds, TakesOut};
-ghost use Rattle.starlark_unordered.specs.Pairs.{pairs_of, keys_under, under_own, HasDistinctKeys, IsSlotOf};
+ghost use Rattle.starlark_unordered.specs.Changing.{AddsAt, TakesSlot};
+ghost use Rattle.starlark_unordered.specs.Pairs.{pairs_of, keys_under, under_own, IsSlotOf};
+ghost use Rattle.starlark_unordered.specs.RawEntry.{Accepts};
 ghost use Rattle.starlark_unordered.specs.Sound.{home_of};
 
 use super::UnorderedMap;
@@ -87,8 +88,7 @@ impl<K: Eq + Hash, V> UnorderedMap<K, V> {
         mut is_match: F,
     ) -> Option<usize>
         requires { CanSearch F.FnMut (keys_under K.hash_input hash self.now) is_match }
-        ensures found { (last : F) × Searches F.FnMut (keys_under K.hash_input hash self.now) is_match result last }
-        ensures there { IfSome result (λ slot. is_some (item_in self.now slot) ≡ true) }
+        ensures accepts { Accepts F.FnMut K.hash_input hash is_match self.now result }
     {
         self.table.find(
             hash.promote(),
@@ -108,9 +108,7 @@ impl<K: Eq + Hash, V> UnorderedMap<K, V> {
     ) -> Result<usize, NoRoom<(K, V)>>
         requires own { hash ≡ home_of K.hash_input key }
         requires absent { lookup (K.eq key) (pairs_of self.old) ≡ None }
-        ensures placed { IfOk result (λ slot. item_in self.new slot ≡ Some (key, value)) }
-        ensures distinct { HasDistinctKeys K.eq (pairs_of self.new) }
-        ensures adds { Adds K.eq self.old self.new key value (key, value) result }
+        ensures puts { AddsAt K.eq self.old self.new key value result }
     {
         self.table.insert_unique(hash, (key, value))
     }
@@ -143,9 +141,7 @@ impl<K: Eq + Hash, V> UnorderedMap<K, V> {
     // Takes the pair of a slot out.
     pub(crate) fn take_out(&mut self, slot: usize) -> (K, V)
         requires { is_some (item_in self.old slot) ≡ true }
-        ensures pair { item_in self.old slot ≡ Some result }
-        ensures distinct { HasDistinctKeys K.eq (pairs_of self.old) }
-        ensures takes { TakesOut (Some result) self.old self.new }
+        ensures takes { TakesSlot K.eq slot result self.old self.new }
     {
         match self.table.remove(slot) {
             Some((_, pair)) => pair,

@@ -1,9 +1,8 @@
 //! The walks of an `UnorderedMap`, in an order that nothing promises.
 ghost use Rattle.std.specs.Prelude.{◌≡◌, IfOk, IsPermutation};
-ghost use Rattle.std.specs.Map.{keys_of, values_of};
-ghost use Rattle.std.specs.Map.Iter.{ShowsInOrder, deref, deref_pair};
+ghost use Rattle.std.specs.Map.Iter.{deref_pair};
 ghost use Rattle.starlark_unordered.specs.Pairs.{pairs_of};
-ghost use Rattle.starlark_unordered.specs.Walk.{CanMapValues, MapsEach, ShowsEach, ShowsSorted, ShowsValues, WalksPairs};
+ghost use Rattle.starlark_unordered.specs.Walk.{CanMapValues, MapsEach, ShowsKeys, ShowsPairs, ShowsSorted, ShowsValues};
 
 use super::UnorderedMap;
 use crate::iter::{Entries, KeysUnordered, ValuesUnordered};
@@ -19,8 +18,7 @@ impl<K: Eq + Hash, V> UnorderedMap<K, V> {
     /// The pairs, each once, with exact length and size hint. No two keys are equal.
     #[inline]
     pub fn entries_unordered(&self) -> Entries<'_, K, V>
-        ensures walks { WalksPairs K.eq self.now result }
-        ensures runs { ShowsInOrder (deref_pair {K = K} {X = V}) }
+        ensures shows { ShowsPairs K.eq self.now result }
     {
         // The number of pairs is a `usize`, as `fits` says.
         prove!(self.table.len() <= usize::MAX);
@@ -30,8 +28,7 @@ impl<K: Eq + Hash, V> UnorderedMap<K, V> {
     /// The keys, each once, with exact length and size hint.
     #[inline]
     pub fn keys_unordered(&self) -> KeysUnordered<'_, K, V>
-        ensures keys { result ≡ keys_of (pairs_of self.now) }
-        ensures runs { ShowsEach self.now (deref {X = K}) }
+        ensures shows { ShowsKeys self.now result }
     {
         KeysUnordered::new(self.entries_unordered())
     }
@@ -39,8 +36,7 @@ impl<K: Eq + Hash, V> UnorderedMap<K, V> {
     /// The values, each once for its key, with exact length and size hint.
     #[inline]
     pub fn values_unordered(&self) -> ValuesUnordered<'_, K, V>
-        ensures values { result ≡ values_of (pairs_of self.now) }
-        ensures runs { ShowsValues K.eq self.now result }
+        ensures shows { ShowsValues K.eq self.now result }
     {
         ValuesUnordered::new(self.entries_unordered())
     }

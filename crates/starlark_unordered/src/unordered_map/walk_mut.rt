@@ -1,10 +1,7 @@
 //! The walks that write the values of an `UnorderedMap`, in an order that nothing promises. Keys and hashes stay.
-ghost use Rattle.std.specs.Prelude.{◌≡◌, ◌^◌, ◌<◌, length};
 ghost use Rattle.std.specs.Borrow.{sem};
-ghost use Rattle.std.specs.Map.{values_of};
 ghost use Rattle.starlark_unordered.specs.Lending.{values_follow};
-ghost use Rattle.starlark_unordered.specs.Pairs.{pairs_of};
-ghost use Rattle.starlark_unordered.specs.Walk.{WalksPairs};
+ghost use Rattle.starlark_unordered.specs.Walk.{WalksPairs, WalksValues};
 
 use super::UnorderedMap;
 use crate::iter_mut::{EntriesMut, ValuesUnorderedMut};
@@ -26,8 +23,7 @@ impl<K: Eq + Hash, V> UnorderedMap<K, V> {
     #[inline]
     pub fn values_unordered_mut(&mut self) -> ValuesUnorderedMut<'_, K, V>
         ensures* writes_back { sem 𝓛 (values_follow K.row V.row K.Hash self.entry result.1) }
-        ensures values { values_of result.0 ≡ values_of (pairs_of self.old) }
-        ensures fits { length (pairs_of self.old) < 2 ^ 64 }
+        ensures walks { WalksValues self.old result.0 }
     {
         ValuesUnorderedMut::new(self.entries_unordered_mut())
     }

@@ -1,11 +1,9 @@
 //! Calls that write an `UnorderedMap`.
-ghost use Rattle.std.specs.Prelude.{◌≡◌, ◌+◌, Bool, filter, IfSome, IsPermutation};
+ghost use Rattle.std.specs.Prelude.{◌+◌};
 ghost use Rattle.std.specs.Borrow.{sem};
-ghost use Rattle.std.specs.List.{IsAmong};
-ghost use Rattle.std.specs.Map.{lookup, values_of};
 ghost use Rattle.std.specs.Option.{option_copied_mut};
 ghost use Rattle.starlark_table.specs.Table.{table_len};
-ghost use Rattle.starlark_unordered.specs.Calling.{get};
+ghost use Rattle.starlark_unordered.specs.Calling.{Finds};
 ghost use Rattle.starlark_unordered.specs.Changing.{Inserts, IsEmptyWith, Removes};
 ghost use Rattle.starlark_unordered.specs.Pairs.{pairs_of};
 ghost use Rattle.starlark_unordered.specs.Walk.{AsksPair, CanAskPairs, Retains, TakesPair};
@@ -23,9 +21,7 @@ impl<K: Eq + Hash, V> UnorderedMap<K, V> {
     #[inline(always)]
     pub fn get_mut<Q: KeyQuery<K>>(&mut self, query: &Q) -> Option<&mut V>
         ensures* writes_back { sem 𝓛 (lends_at K.row V.row K.Hash self.entry (Q.equivalent query.now) result) }
-        ensures found { option_copied_mut result ≡ get Q.equivalent self.old query.now }
-        ensures value { option_copied_mut result ≡ lookup (Q.equivalent query.now) (pairs_of self.old) }
-        ensures member { IfSome (option_copied_mut result) (λ value. IsAmong (values_of (pairs_of self.old)) value) }
+        ensures finds { Finds (Q.equivalent query.now) self.old (option_copied_mut result) }
     {
         match self.slot_under(StarlarkHashValue::new(query).promote(), query) {
             Some(slot) => Some(self.value_at_mut(slot)),
@@ -88,7 +84,6 @@ impl<K: Eq + Hash, V> UnorderedMap<K, V> {
         K: Drop,
         V: Drop,
         requires { CanAskPairs F.FnMut (pairs_of self.old) keep }
-        ensures tested { (test : K × V → Bool) → ((p : K × V) (keeps : Bool) (left : F) (q : K × V) → AsksPair F.FnMut keep p keeps left q → (keeps ≡ test p) × (q ≡ p) × (left ≡ keep)) → IsPermutation (filter test (pairs_of self.old)) (pairs_of self.new) }
         ensures retains { Retains F.FnMut K.eq keep self.old self.new }
     {
         self.table.retain(

@@ -1,7 +1,6 @@
 //! `UnorderedSet`s from the items of iterators.
-ghost use Rattle.std.specs.Prelude.{◌≡◌, IfOk, IsOk};
-ghost use Rattle.std.specs.Iterator.{IsFiniteIterable, size};
-ghost use Rattle.starlark_unordered.specs.Collect.{Collects, HasEach, StepsBeside};
+ghost use Rattle.std.specs.Iterator.{IsFiniteIterable};
+ghost use Rattle.starlark_unordered.specs.Collect.{MakesSet};
 
 use super::UnorderedSet;
 use crate::unordered_map::UnorderedMap;
@@ -15,9 +14,7 @@ impl<T: Eq + Hash + Drop> UnorderedSet<T> {
     /// dropped. Without items it is not refused. The iterator must end.
     pub fn from_iter<I: IntoIterator<Item = T>>(alloc: Global, iter: I) -> Result<Self, AllocError>
         requires { IsFiniteIterable I.into_iter_gives I.IntoIter.can_next I.IntoIter.remaining iter }
-        ensures found { IfOk result (HasEach T.eq I.IntoIter.next_gives I.into_iter_gives iter) }
-        ensures set { IfOk result (Collects T.eq (StepsBeside I.IntoIter.next_gives) I.into_iter_gives I.IntoIter.remaining iter) }
-        ensures succeeds { ((it : _) → I.into_iter_gives iter it → size (I.IntoIter.remaining it) ≡ 0) → IsOk result }
+        ensures makes { MakesSet T.eq I.IntoIter.next_gives I.into_iter_gives I.IntoIter.remaining iter result }
     {
         Ok(UnorderedSet {
             map: UnorderedMap::from_iter(alloc, WithUnit::new(iter.into_iter()))?,

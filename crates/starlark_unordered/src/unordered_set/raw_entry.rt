@@ -112,8 +112,7 @@ impl<T: Eq + Hash> RawOccupiedEntryMut<'_, T> {
     /// Takes the element out, and answers it. The others stay, and the room comes back.
     #[inline]
     pub fn remove(self) -> T
-        ensures element { stored_raw self.entry ≡ Some result }
-        ensures takes { TakesOut (Some (result, tt)) self.entry.map.now self.exit.0.now }
+        ensures takes { TakesOut (stored_raw self.entry) result (Some (result, tt)) self.entry.map.now self.exit.0.now }
     {
         let slot = self.slot;
         let (element, _) = self.map.take_out(slot);

@@ -1,7 +1,7 @@
 -- `lend_placed` meets its contract, at any types: where there is a place, the map is lent for good to the call that shows the pair, and else it is given up. Assumes `Logic`.
-use Rattle.starlark_columns.proofs.Walking.{◌≡◌, refl, sym, subst, ap, ◌∙◌, inl, inr, ℕ, ◌<◌, ◌^◌, suc-ne-zero, List, [], ◌∷◌, lit<, Ura, Fn, Args, Dict, a_type, dcons, dnil, named, w64, inst_fn, Val, vint, vcons, vnil, of_list, SProp, ent, emp, id⊢, ex_e, snd∗, Lft, Share, ftrue, flft, fres, Memory, Routine, Env, Calls, Loops, WpFn, Logic, sem, live, vrt, in_variant, by_variants, ◌⊑◌, Fun, fact, fact_i, tables, FmC, ‵, raw, ◌⊛◌, some, given, later, prop, at_ret, ◌$◌, ◌∵◌, !, qed, move, keep, drop, use0, use1, split, split3, join, pick, learn, fsplit, fjoin, suffices, frame, await, rewrite, regoal, group, done, whole, agg, stop, fld, addr, lit, of_opd, and_then, no_more, first, exec, returns, enter, alloc_all, pass_all, free_all, look_at, get, get_in, get_tag, through, sets, sets_last, lands_as, env, sub, no, rest, RattleType, owns, usize, follows, param, bounded, layout, Laws, param_laws, uint_Makes, uint_Tells, Bor, MutBor, MutRef, ShrRef, mut_vals, plain, types_at, nothing, owned, heard, Tuple, calls_at, Clauses, Ended, ensured, lasts, triple_of, Contract, Triple, framed, Stays, stay_dropped, walk_of, ends_at, Goes-blank, Good, Ok-of, Err-of, and_tt, proved_at, Result, Ok, Err, IfOk, IsOk, OnErr, MatchResult, true, is_some, result_laws}
+use Rattle.starlark_columns.proofs.Walking.{◌≡◌, refl, sym, subst, ap, ◌∙◌, inl, inr, ℕ, ◌<◌, ◌^◌, suc-ne-zero, List, [], ◌∷◌, lit<, Ura, Fn, Args, Dict, a_type, dcons, dnil, named, w64, inst_fn, Val, vint, vcons, vnil, of_list, SProp, ent, emp, id⊢, ex_e, snd∗, Lft, Share, ftrue, flft, fres, Memory, Routine, Env, Calls, Loops, WpFn, Logic, sem, live, vrt, in_variant, by_variants, ◌⊑◌, Fun, fact, fact_i, tables, FmC, ‵, raw, ◌⊛◌, some, given, later, prop, at_ret, ◌$◌, ◌∵◌, !, qed, move, keep, drop, use0, use1, split, split3, join, pick, learn, fsplit, fjoin, suffices, frame, await, rewrite, regoal, group, done, whole, agg, stop, fld, addr, lit, of_opd, and_then, no_more, first, exec, returns, enter, alloc_all, pass_all, free_all, look_at, get, get_in, get_tag, through, sets, sets_last, lands_as, env, sub, no, rest, RattleType, owns, usize, follows, param, bounded, layout, Laws, param_laws, uint_Makes, uint_Tells, Bor, MutBor, MutRef, ShrRef, mut_vals, plain, types_at, nothing, owned, heard, Tuple, calls_at, Clauses, Ended, ensured, lasts, triple_of, Contract, Triple, framed, Stays, stay_dropped, walk_of, ends_at, Goes-blank, Good, Ok-of, Err-of, and_tt, proved_at, Result, Ok, Err, IfOk, OnErr, true, is_some, result_laws}
 use Rattle.std.proofs.VecSteps.Shapes.{after}
-use Rattle.starlark_unordered.specs.RawLending.{lends_placed}
+use Rattle.starlark_unordered.specs.RawLending.{lends_placed, LendsSlot}
 use Rattle.starlark_unordered.specs.contracts.unordered_map.UnorderedMap.pair_at_mut as e
 use Rattle.starlark_unordered.specs.contracts.raw_entry.lend_placed as F
 use Rattle.starlark_unordered.specs.contracts.raw_entry.lend_placed.Key.{name as #self}
@@ -116,9 +116,8 @@ module _ (K V X : RattleType) (E : L.Eq.Ghosts K.Denot) (dE : Dict) (P : L.Parti
                       move ! (1 ∷ []) $ nothing ! $ nothing ! $ fjoin ! $ join ! $
                       -- [the result; what the map follows; the tokens of κ, κK, κV; the token of κX]
                       move ! (2 ∷ []) $ split3 ! $ move ! (2 ∷ []) $ split ! $ move ! (6 ∷ 1 ∷ []) $ join ! $ move ! (1 ∷ 0 ∷ []) $ join ! $ move ! (2 ∷ 0 ∷ []) $ join ! $ move ! (1 ∷ 0 ∷ []) $ join ! $ join ! $ frame ! $
-                      use0 𝓛 (raw (fact 𝓤 (MatchResult p (λ _. IsOk out) (λ e. out ≡ Err e)))) (fact_i 𝓤 _ (emp 𝓤) (subst (λ (h : Result ℕ X.Denot). MatchResult h (λ _. IsOk out) (λ e. out ≡ Err e)) (sym w.1) refl)) $
-                      use0 𝓛 (raw (fact 𝓤 (IfOk p (λ j. IfOk out (λ s. item_in m j ≡ Some (s.0.now, s.1.now)))))) (fact_i 𝓤 _ (emp 𝓤) (subst (λ (h : Result ℕ X.Denot). IfOk h (λ j. IfOk out (λ s. item_in m j ≡ Some (s.0.now, s.1.now)))) (sym w.1) read)) $
-                      move ! (2 ∷ 0 ∷ 1 ∷ []) $ done !))))),
+                      use0 𝓛 (raw (fact 𝓤 (LendsSlot m p out))) (fact_i 𝓤 _ (emp 𝓤) (subst (λ (h : Result ℕ X.Denot). LendsSlot m h out) (sym w.1) (record { shown = read; refusal = refl }))) $
+                      move ! (1 ∷ 0 ∷ []) $ done !))))),
                   ((λ e. absurd (suc-ne-zero 0 (sym e))), tt),
                 )))
             | inr w ↦
@@ -148,9 +147,8 @@ module _ (K V X : RattleType) (E : L.Eq.Ghosts K.Denot) (dE : Dict) (P : L.Parti
                         nothing ! $ nothing ! $ fjoin ! $ join ! $
                         -- [the result; what the map ends as; the tokens of κ, κK, κV, κX]
                         nothing ! $ move ! (6 ∷ 0 ∷ []) $ join ! $ move ! (5 ∷ 0 ∷ []) $ join ! $ move ! (4 ∷ 0 ∷ []) $ join ! $ move ! (3 ∷ 0 ∷ []) $ join ! $ join ! $ frame ! $
-                        use0 𝓛 (raw (fact 𝓤 (MatchResult p (λ _. IsOk out) (λ e. out ≡ Err e)))) (fact_i 𝓤 _ (emp 𝓤) (subst (λ (h : Result ℕ X.Denot). MatchResult h (λ _. IsOk out) (λ e. out ≡ Err e)) (sym w.1) refl)) $
-                        use0 𝓛 (raw (fact 𝓤 (IfOk p (λ j. IfOk out (λ s. item_in m j ≡ Some (s.0.now, s.1.now)))))) (fact_i 𝓤 _ (emp 𝓤) (subst (λ (h : Result ℕ X.Denot). IfOk h (λ j. IfOk out (λ s. item_in m j ≡ Some (s.0.now, s.1.now)))) (sym w.1) tt)) $
-                        move ! (2 ∷ 0 ∷ 1 ∷ []) $ done !),
+                        use0 𝓛 (raw (fact 𝓤 (LendsSlot m p out))) (fact_i 𝓤 _ (emp 𝓤) (subst (λ (h : Result ℕ X.Denot). LendsSlot m h out) (sym w.1) (record { shown = tt; refusal = refl }))) $
+                        move ! (1 ∷ 0 ∷ []) $ done !),
                     tt,
                   ),
                 ))))

@@ -8,7 +8,7 @@ use Rattle.starlark_unordered.proofs.raw_entry.RawOccupiedEntryMut.insert_key.Go
 pub returns : goal.returns
 returns g c =
     let o = c.args.self.now in
-    let put = c.replace_key.ensures in
+    let put = c.replace_key.ensures.puts in
     record {
       replaces = record {
         old = put.old;

@@ -1,6 +1,6 @@
 -- `insert_hashed` meets its contract, at any types, as `insert` does its own: one call takes the entry and puts the pair in, the next lends it. Assumes `Logic`.
-use Rattle.starlark_columns.proofs.Walking.{◌≡◌, refl, sym, subst, ℕ, List, [], ◌∷◌, Ura, Fn, Args, Dict, Ty, a_type, dcons, dnil, named, tcons, tnil, ty_int, ty_struct, w32, inst_fn, Val, SProp, ent, emp, id⊢, ex_e, snd∗, Lft, GName, Share, ftrue, flft, Memory, Routine, Calls, Loops, WpFn, Logic, sem, ◌⊑◌, ⊑_trans, Fun, fact, fact_i, tables, FmC, ‵, raw, ◌⊛◌, some, later, ◌$◌, ◌∵◌, !, qed, move, drop, use0, use1, use2, split, split3, join, pick, fjoin, suffices, frame, await, rewrite, group, done, of_opd, and_then, no_more, returns, enter, alloc_all, pass_all, free_all, look_at, get, sets, lands_as, no, rest, yes, RattleType, owns, follows_so, arg, param, bounded, layout, Laws, arg_laws, param_laws, Bor, MutBor, MutRef, ShrRef, plain, types_at, nothing, heard, peeks, Tuple, tuple_laws, calls_at, Clauses, Ended, Lasts, ensured, lasts, triple_of, Contract, Triple, framed, Stays, stay_dropped, walk_of, ends_at, Goes-blank, Good, proved_at, Result, Err, None, IfOk, IsOk, OnOk, OnErr, MatchResult, true, is_some, lookup, name_if_ok, Is, shows, result_laws}
-use Rattle.starlark_unordered.specs.RawLending.{lends_placed, lends_added, IsAdded, LendsPair, PlacesPair}
+use Rattle.starlark_columns.proofs.Walking.{◌≡◌, refl, sym, subst, ℕ, List, [], ◌∷◌, Ura, Fn, Args, Dict, Ty, a_type, dcons, dnil, named, tcons, tnil, ty_int, ty_struct, w32, inst_fn, Val, SProp, ent, emp, id⊢, ex_e, snd∗, Lft, GName, Share, ftrue, flft, Memory, Routine, Calls, Loops, WpFn, Logic, sem, ◌⊑◌, ⊑_trans, Fun, fact, fact_i, tables, FmC, ‵, raw, ◌⊛◌, some, later, ◌$◌, ◌∵◌, !, qed, move, drop, use0, use1, use2, split, split3, join, pick, fjoin, suffices, frame, await, rewrite, group, done, of_opd, and_then, no_more, returns, enter, alloc_all, pass_all, free_all, look_at, get, sets, lands_as, no, rest, yes, RattleType, owns, follows_so, arg, param, bounded, layout, Laws, arg_laws, param_laws, Bor, MutBor, MutRef, ShrRef, plain, types_at, nothing, heard, peeks, Tuple, tuple_laws, calls_at, Clauses, Ended, Lasts, ensured, lasts, triple_of, Contract, Triple, framed, Stays, stay_dropped, walk_of, ends_at, Goes-blank, Good, proved_at, Result, None, IfOk, OnOk, OnErr, true, is_some, lookup, name_if_ok, Is, shows, result_laws}
+use Rattle.starlark_unordered.specs.RawLending.{lends_placed, lends_added, IsAdded, LendsPair, LendsSlot, PlacesPair}
 use Rattle.starlark_unordered.proofs.LentFacts.{there_is, added_lent, unchanged_lent, handed_lent, full_lent, shown_lent}
 use Rattle.starlark_hash.specs.contracts.hashed.Hashed as H
 use Rattle.starlark_hash.proofs.hashed.Hashed.TheLaws as hashed_laws
@@ -152,9 +152,9 @@ module _ (K V : RattleType) (E : L.Eq.Ghosts K.Denot) (dE : Dict) (P : L.Partial
           calls_at ! fm Lends lends y (and_then ! (get ! refl) (no_more !)) (λ t.
           use1 𝓛 (later (some (λ (x : Out). ((‵ (flft κ ql) ⊛ ‵ (flft κK qK) ⊛ ‵ (flft κV qV) ⊛ ‵ (flft κ qr) ⊛ ‵ ftrue) ⊛ ‵ ((L.RS.the_row (Pair κ) Back).own_val x (t ∷ [])))
           ⊛ raw (ensured 𝓛 (e.ended K V Passed E dE P dP G dG) (e.clauses K V Passed E dE P dP G dG 𝓛 at_mem run) y.0.0 y.0.3 tt x)))) (id⊢ 𝓤 _) $ await ! tt $ pick ! (λ x. split ! $ move ! (1 ∷ []) $
-          let Shown = IfOk g.1 (λ i. IfOk x (λ z. item_in g.0.now i ≡ Some (z.0.now, z.1.now))) in let Refused = MatchResult g.1 (λ _. IsOk x) (λ e. x ≡ Err e) in
-          use1 𝓛 (‵ (lends_placed K' V' (F.K-Hash-whole K V E dE P dP G dG) g.0 g.1 x) ⊛ raw (fact 𝓤 Shown) ⊛ raw (fact 𝓤 Refused)) (ex_e 𝓤 _ (λ ws. snd∗ 𝓤 (sem 𝓛 (lasts (e.ended K V Passed E dE P dP G dG) y.0.0 y.0.3 ws)) _)) $ split3 ! $
-          move ! (1 ∷ 2 ∷ []) $ heard ! Shown (λ shown. heard ! Refused (λ refused. move ! (1 ∷ []) $ split ! $ move ! (1 ∷ []) $
+          let Lent = LendsSlot g.0.now g.1 x in
+          use1 𝓛 (‵ (lends_placed K' V' (F.K-Hash-whole K V E dE P dP G dG) g.0 g.1 x) ⊛ raw (fact 𝓤 Lent)) (ex_e 𝓤 _ (λ ws. snd∗ 𝓤 (sem 𝓛 (lasts (e.ended K V Passed E dE P dP G dG) y.0.0 y.0.3 ws)) _)) $ split ! $
+          move ! (1 ∷ []) $ heard ! Lent (λ lent. let shown = lent.shown in let refused = lent.refusal in move ! (1 ∷ []) $ split ! $ move ! (1 ∷ []) $
           -- [the result; the tokens; what the map follows]
           peeks ! (L.RS.the_row (Pair κ) Back) (Is (L.RS.the_row (Pair κ) Back)) (shows 𝓛 (L.RS.the_row (Pair κ) Back)) x (t ∷ []) (λ is_t.
           lands_as ! refl refl (good_value 𝓛 (L.RS.the_row (Pair κ) Back) (lent_laws LK LV κ) x t is_t) $
@@ -176,7 +176,7 @@ module _ (K V : RattleType) (E : L.Eq.Ghosts K.Denot) (dE : Dict) (P : L.Partial
             full = full_lent g.1 x refused (m.room ≡ 0) put.full;
             handed_back = handed_lent g.1 x refused (λ z. z.0 ≡ (key, value)) put.handed_back;
           })) $
-          move ! (1 ∷ 0 ∷ []) $ done !)))))))))))))))
+          move ! (1 ∷ 0 ∷ []) $ done !))))))))))))))
 
 pub insert_hashed_spec : {M : Type 1} → statement M
 insert_hashed_spec 𝓤 𝓛 𝓜 𝓡 wired K V LK LV E dE P dP G dG is_eq is_partial is_hash =

@@ -4,5 +4,5 @@ use Rattle.starlark_unordered.proofs.raw_entry.RawVacantEntryMut.place.Goals as 
 
 pub returns : goal.returns
 returns g c =
-    let put = c.insert_new-placed.ensures in
+    let put = c.insert_new-placed.ensures.puts in
     places_pair g.K.PartialEq.eq g.met.K.Eq.laws c.args.self.map _ c.args.key c.args.value (c.args.key, c.args.value) c.insert_new-placed.result c.requires refl put.placed put.adds

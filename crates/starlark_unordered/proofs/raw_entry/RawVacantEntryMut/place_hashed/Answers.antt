@@ -21,7 +21,7 @@ returns g c =
     let eq = g.K.PartialEq.eq in
     let lent = c.args.self.map in
     let held : MutBor (Table (g.row.K.Denot × g.row.V.Denot)) = record lent { now = c.insert_new.new.self } in
-    let put = c.insert_new.ensures in
+    let put = c.insert_new.ensures.puts in
     let key = c.into_key.result in
     let value = c.args.value in
     let absent = subst (λ key. lookup (eq key) (pairs_of lent.now) ≡ None) (sym c.into_key.ensures) c.requires.absent in

@@ -1,4 +1,4 @@
-use Rattle.std.proofs.Common.{arith, rules, subst}
+use Rattle.std.proofs.Common.{arith, refl, rules, subst}
 use Rattle.std.proofs.lemmas.Grind.{common_steps}
 use Rattle.std.specs.List.{AllZip}
 use Rattle.starlark_table.specs.Table.{members}
@@ -15,8 +15,8 @@ invariant_of-result g c =
     keyed-cloned g.K.Clone.is_clone g.V.Clone.is_clone g.K.PartialEq.eq g.met.K.Eq.laws g.K.Hash.hash_input g.met.K.Hash.respects_eq c.requires (members old) (members new)
     (members-cloned g.K.Clone.is_clone g.V.Clone.is_clone old.slots new.slots c.in_ok-clone.ensures.cases.slots) c.self.invariant
 
-pub returns-clause-clone : goal.returns-clause-clone
-returns-clause-clone g c =
+pub returns : goal.returns
+returns g c =
     let key = g.K.Clone.is_clone in
     let value = g.V.Clone.is_clone in
     let old = c.self.inside.table in
@@ -25,8 +25,13 @@ returns-clause-clone g c =
     = subst (λ m. AllZip (IsPairClone key value) (pairs_of m) (pairs_of new)) c.self.view_is
     (pairs-cloned key value (members old) (members new) (members-cloned key value old.slots new.slots c.in_ok-clone.ensures.cases.slots)) in
     record {
-      pairs = pairs;
-      same = λ keys values. same-cloned key value keys values (pairs_of c.args.self.now) (pairs_of new) pairs;
-      found = found-cloned g.K.PartialEq.eq g.met.K.Eq.laws key value c.requires (pairs_of c.args.self.now) (pairs_of new) pairs;
-      room = first_of (search rules, grind (arith, common_steps));
+      clones = record {
+        clone = record {
+          pairs = pairs;
+          same = λ keys values. same-cloned key value keys values (pairs_of c.args.self.now) (pairs_of new) pairs;
+          found = found-cloned g.K.PartialEq.eq g.met.K.Eq.laws key value c.requires (pairs_of c.args.self.now) (pairs_of new) pairs;
+          room = first_of (search rules, grind (arith, common_steps));
+        };
+        none_for_none = λ none spare. refl;
+      };
     }

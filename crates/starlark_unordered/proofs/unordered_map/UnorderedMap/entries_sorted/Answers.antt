@@ -12,7 +12,7 @@ returns g c =
     let lt : Bor g.row.K.Denot × Bor g.row.V.Denot → Bor g.row.K.Denot × Bor g.row.V.Denot → Bool = λ a b. is_lt (g.K.Ord.cmp a.0.now b.0.now) in
     record {
       sorted = record {
-        each = subst (λ l. IsPermutation l (map deref_pair c.sort_by.new.self.items)) (ap (map deref_pair) made.0 ∙ same ∙ begins ∙ c.entries_unordered.ensures.walks.pairs)
+        each = subst (λ l. IsPermutation l (map deref_pair c.sort_by.new.self.items)) (ap (map deref_pair) made.0 ∙ same ∙ begins ∙ c.entries_unordered.ensures.shows.walks.pairs)
             (IsPermutation-map deref_pair c.in_ok-entries.entries.items c.sort_by.new.self.items c.sort_by.ensures.permutation);
         ascends = c.in_ok-sort_by.ensures.sorted lt (ranks_by g.met.K.Ord.total (λ a. a.0.now))
             (answers_by _ (λ a r. is_lt r ≡ lt a.0.now a.1.0.now) (λ _. Unit {0}) (λ f a r f' called _. (search (rules, of_calls, called), tt)) _ tt);

@@ -7,12 +7,14 @@ use Rattle.starlark_unordered.proofs.Keys.{distinct_pairs}
 use Rattle.starlark_unordered.proofs.Shows.{shows_in_order}
 use Rattle.starlark_unordered.proofs.unordered_map.UnorderedMap.entries_unordered.Goals as goal
 
-pub returns-clause-walks : goal.returns-clause-walks
-returns-clause-walks g c = record {
-  pairs = first_of (search rules, grind (arith, common_steps));
-  distinct = subst (λ m. HasDistinctKeys g.K.PartialEq.eq (pairs_of m)) c.self.view_is (distinct_pairs g.K.PartialEq.eq g.K.Hash.hash_input (members c.self.inside.table) c.self.invariant);
-  fits = first_of (search rules, grind (arith, common_steps));
+pub returns : goal.returns
+returns g c = record {
+  shows = record {
+    walks = record {
+      pairs = first_of (search rules, grind (arith, common_steps));
+      distinct = subst (λ m. HasDistinctKeys g.K.PartialEq.eq (pairs_of m)) c.self.view_is (distinct_pairs g.K.PartialEq.eq g.K.Hash.hash_input (members c.self.inside.table) c.self.invariant);
+      fits = first_of (search rules, grind (arith, common_steps));
+    };
+    runs = shows_in_order deref_pair;
+  };
 }
-
-pub returns-clause-runs : goal.returns-clause-runs
-returns-clause-runs g c = shows_in_order deref_pair

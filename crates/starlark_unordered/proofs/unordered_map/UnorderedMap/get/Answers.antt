@@ -1,9 +1,14 @@
-use Rattle.std.proofs.Common.{arith, rules}
+use Rattle.std.proofs.Common.{◌≡◌, Some, arith, rules, sym}
 use Rattle.std.proofs.lemmas.Grind.{common_steps}
+use Rattle.std.specs.Map.{lookup}
 use Rattle.starlark_unordered.specs.Pairs.{pairs_of}
-use Rattle.starlark_unordered.proofs.Callers.{among_found}
+use Rattle.starlark_unordered.proofs.Callers.{among_found, found_is}
 use Rattle.starlark_unordered.proofs.unordered_map.UnorderedMap.get.Goals as goal
 
-pub returns-clause-member : goal.returns-clause-member
-returns-clause-member g c =
-    among_found (g.Q.Equivalent.equivalent c.args.query.now) (pairs_of c.args.self.now) c.in_ok-value.field-0.now.1 (first_of (search rules, grind (arith, common_steps)))
+pub returns : goal.returns
+returns g c =
+    let t = g.Q.Equivalent.equivalent c.args.query.now in
+    let ps = pairs_of c.args.self.now in
+    let there = c.in_ok-value.field-0.now.1 in
+    let value : Some there ≡ lookup t ps = first_of (search rules, grind (arith, common_steps)) in
+    record { finds = record { found = found_is t ps (Some there) value; value = value; member = among_found t ps there (sym value) } }

@@ -12,11 +12,11 @@ returns-in-Some g c =
     let at = c.in-Some.ensures in
     let value = sym c.value_at_mut.ensures.value ∙ ap (option_map (λ p. p.1)) at.at ∙ sym at.found in (
       (refl, λ w. (record { pairs = at.writes w; room = refl }, λ there. writes-slot g.K.PartialEq.eq g.met.K.Eq.laws t (λ x y does. g.met.Q.Equivalent.respects_eq c.args.query.now x y does) m m c.in-Some.slot refl at w, λ there measure. total-slot measure t m c.in-Some.slot at w), tt),
-      record { writes_back = tt; found = found_is _ _ _ value; value = value; member = among_found t (pairs_of m) _ (sym value) },
+      record { writes_back = tt; finds = record { found = found_is _ _ _ value; value = value; member = among_found t (pairs_of m) _ (sym value) } },
     )
 
 pub returns-in-None : goal.returns-in-None
 returns-in-None g c =
     let t = g.Q.Equivalent.equivalent c.args.query.now in
     let lacks = c.in-None.ensures in
-    ((refl, λ w. (tt, λ there. absurd (not_there t _ lacks there), λ there. absurd (not_there t _ lacks there)), refl), record { writes_back = tt; found = found_is _ _ _ (sym lacks); value = sym lacks; member = tt })
+    ((refl, λ w. (tt, λ there. absurd (not_there t _ lacks there), λ there. absurd (not_there t _ lacks there)), refl), record { writes_back = tt; finds = record { found = found_is _ _ _ (sym lacks); value = sym lacks; member = tt } })

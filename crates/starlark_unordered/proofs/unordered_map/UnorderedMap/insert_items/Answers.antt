@@ -26,13 +26,16 @@ loop-pair-preserved-in-Ok g c =
       grows-with c.args.self.now c.loop-pair.self c.insert.new.self _ c.in-Ok.ensures.inserts.count inv.holds.1 c.insert.ensures.inserts.room,
     )
 
-pub returns-in-Err-clause-room : goal.returns-in-Err-clause-room
-returns-in-Err-clause-room g c =
-    grows-on c.args.self.now c.loop-pair.self c.insert.new.self (omega (arith, ap table_len c.in-Err.ensures.inserts.unchanged)) c.loop-pair.invariant.holds.1 c.insert.ensures.inserts.room
-
-pub returns-in-Err-clause-succeeds : goal.returns-in-Err-clause-succeeds
-returns-in-Err-clause-succeeds g c = λ none.
+pub returns-in-Err : goal.returns-in-Err
+returns-in-Err g c =
     let inv = c.loop-pair.invariant in
-    let less = (it.on c.in-Some.pair c.in-Some.is c.next.ensures.goes inv.ending).2 in
-    let counted = inv.counted in
-    absurd (omega (arith, none, less, counted))
+    record {
+      takes = record {
+        pairs = tt;
+        succeeds = λ none.
+            let less = (it.on c.in-Some.pair c.in-Some.is c.next.ensures.goes inv.ending).2 in
+            let counted = inv.counted in
+            absurd (omega (arith, none, less, counted));
+        room = grows-on c.args.self.now c.loop-pair.self c.insert.new.self (omega (arith, ap table_len c.in-Err.ensures.inserts.unchanged)) inv.holds.1 c.insert.ensures.inserts.room;
+      };
+    }

@@ -1,6 +1,13 @@
+use Rattle.std.proofs.Common.{rules}
 use Rattle.std.specs.Map.Iter.{deref}
 use Rattle.starlark_unordered.proofs.Shows.{shows_in_order}
 use Rattle.starlark_unordered.proofs.unordered_map.UnorderedMap.keys_unordered.Goals as goal
 
-pub returns-clause-runs : goal.returns-clause-runs
-returns-clause-runs g c = (c.entries_unordered.ensures.walks.fits, shows_in_order deref)
+pub returns : goal.returns
+returns g c = record {
+  shows = record {
+    keys = search rules;
+    fits = c.entries_unordered.ensures.shows.walks.fits;
+    runs = shows_in_order deref;
+  };
+}

@@ -16,7 +16,7 @@ returns-in-Some g c =
         was = found_is t (pairs_of c.args.self.now) (Some c.take_out-key.result.1) value;
         value = value;
         updates = writes-taken g.K.PartialEq.eq g.met.K.Eq.laws t (λ x y does. g.met.Q.Equivalent.respects_eq c.args.query.now x y does)
-            c.args.self.now c.take_out-key.new.self c.in-Some.slot c.take_out-key.result c.in-Some.ensures c.take_out-key.ensures.pair takes.rest c.take_out-key.ensures.distinct;
+            c.args.self.now c.take_out-key.new.self c.in-Some.slot c.take_out-key.result c.in-Some.ensures takes.pair takes.rest takes.distinct;
         count = length-taken t c.args.self.now c.take_out-key.new.self c.in-Some.slot c.take_out-key.result c.in-Some.ensures takes.rest;
         total = λ measure. total-taken measure t c.args.self.now c.take_out-key.new.self c.take_out-key.result (sym value) takes.rest;
         rest = first_of (search rules, grind (arith, common_steps));

@@ -14,7 +14,7 @@ returns g c =
     let lt : Bor g.row.T.Denot → Bor g.row.T.Denot → Bool = λ a b. is_lt (g.T.Ord.cmp a.now b.now) in
     record {
       sorted = record {
-        each = subst (λ l. IsPermutation l (map deref c.sort_by.new.self.items)) (ap (map deref) made.0 ∙ same ∙ begins ∙ c.keys_unordered.ensures.keys ∙ ap (λ m. keys_of (pairs_of m)) c.self.view_is)
+        each = subst (λ l. IsPermutation l (map deref c.sort_by.new.self.items)) (ap (map deref) made.0 ∙ same ∙ begins ∙ c.keys_unordered.ensures.shows.keys ∙ ap (λ m. keys_of (pairs_of m)) c.self.view_is)
             (IsPermutation-map deref c.in_ok-entries.entries.items c.sort_by.new.self.items c.sort_by.ensures.permutation);
         ascends = c.in_ok-sort_by.ensures.sorted lt (ranks_by g.met.T.Ord.total (λ a. a.now))
             (answers_by _ (λ a r. is_lt r ≡ lt a.0.now a.1.0.now) (λ _. Unit {0}) (λ f a r f' called _. (search (rules, of_calls, called), tt)) _ tt);

@@ -1,6 +1,6 @@
 use Rattle.std.proofs.Common.{subst}
-use Rattle.starlark_unordered.specs.Pairs.{pairs_of, HasDistinctKeys}
+use Rattle.starlark_unordered.specs.Calling.{Counts}
 use Rattle.starlark_unordered.proofs.unordered_set.UnorderedSet.len.Goals as goal
 
-pub returns-clause-distinct : goal.returns-clause-distinct
-returns-clause-distinct g c = subst (λ m. HasDistinctKeys g.T.PartialEq.eq (pairs_of m)) c.self.view_is c.len.ensures.distinct
+pub returns : goal.returns
+returns g c = record { counts = subst (λ m. Counts g.T.PartialEq.eq m c.len.result) c.self.view_is c.len.ensures.counts }

@@ -6,7 +6,7 @@ use Rattle.starlark_unordered.proofs.unordered_set.raw_entry.RawOccupiedEntryMut
 pub returns : goal.returns
 returns g c =
     let entry = c.args.self.now in
-    let put = c.replace_key.ensures in
+    let put = c.replace_key.ensures.puts in
     record {
       replaces = record {
         old = put.old;
