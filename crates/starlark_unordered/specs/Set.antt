@@ -16,7 +16,7 @@ module _ {T : Type 0} where
   abbrev pub elements_of : Set T → List T
   elements_of s = keys_of (pairs_of s)
 
--- whether two sets have equal elements: if they are the same, each of them has what the other has
+-- whether two sets have equal elements: if so, each of them has what the other has
 pub record ComparesSets {T : Type 0} (eq : T → T → Bool) (s t : Set T) (are_same : Bool) : Type 0 where
   pub same : are_same ≡ same_bag (pair_eq eq same_unit) (pairs_of s) (pairs_of t)
   pub agrees : are_same ≡ true → (element : T) → contains eq s element ≡ contains eq t element

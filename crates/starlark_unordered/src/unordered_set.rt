@@ -17,7 +17,6 @@ use crate::unordered_map::UnorderedMap;
 pub use raw_entry::{RawEntryBuilderMut, RawEntryMut, RawOccupiedEntryMut, RawVacantEntryMut};
 use starlark_hash::{Equivalent, Hashed, KeyQuery, NoRoom};
 use std::alloc::{AllocError, Global};
-use std::cmp::Ordering;
 use std::hash::Hash;
 use std::marker::Model;
 
@@ -124,11 +123,7 @@ impl<T: Eq + Hash> UnorderedSet<T> {
         ensures sorted { IfOk result (λ entries. ShowsSorted deref (λ entry. entry.now) T.cmp (elements_of self.now) entries.items) }
     {
         let mut entries = Vec::from_iter(self.alloc, self.map.keys_unordered())?;
-        entries.sort_by(
-            |a: &&T, b: &&T| -> Ordering
-                ensures { result ≡ T.cmp a.entry.now.now b.entry.now.now }
-            { (*a).cmp(*b) },
-        )?;
+        entries.sort_by(|a, b| (*a).cmp(*b))?;
         Ok(entries)
     }
 }

@@ -24,12 +24,7 @@ impl<K: Eq + Hash, V> UnorderedMap<K, V> {
         requires { hash ≡ home_of Q.hash_input query.now }
         ensures { IsSlotOf (Q.equivalent query.now) self.now result }
     {
-        self.table.find(
-            hash,
-            |p: &(K, V)| -> bool
-                ensures { result ≡ Q.equivalent query.entry.now p.now.0 }
-            { query.equivalent(&p.0) },
-        )
+        self.table.find(hash, |p: &(K, V)| query.equivalent(&p.0))
     }
 
     // The slot of the key that the query stands for, where this is the key's own hash.
@@ -41,12 +36,8 @@ impl<K: Eq + Hash, V> UnorderedMap<K, V> {
     ) -> Option<usize>
         ensures { IsSlotOf (under_own K.hash_input hash (Q.equivalent query.now)) self.now result }
     {
-        self.table.find(
-            hash.promote(),
-            |p: &(K, V)| -> bool
-                ensures { result ≡ Q.equivalent query.entry.now p.now.0 }
-            { query.equivalent(&p.0) },
-        )
+        self.table
+            .find(hash.promote(), |p: &(K, V)| query.equivalent(&p.0))
     }
 
     // The pair of the key, under the query's own hash.
@@ -55,12 +46,8 @@ impl<K: Eq + Hash, V> UnorderedMap<K, V> {
         requires { hash ≡ home_of Q.hash_input query.now }
         ensures { option_map (λ p. p.1) (option_copied result) ≡ lookup (Q.equivalent query.now) (pairs_of self.now) }
     {
-        self.table.find_item(
-            hash,
-            |p: &(K, V)| -> bool
-                ensures { result ≡ Q.equivalent query.entry.now p.now.0 }
-            { query.equivalent(&p.0) },
-        )
+        self.table
+            .find_item(hash, |p: &(K, V)| query.equivalent(&p.0))
     }
 
     // The pair of the key that the query stands for, where this is the key's own hash.
@@ -72,12 +59,8 @@ impl<K: Eq + Hash, V> UnorderedMap<K, V> {
     ) -> Option<&(K, V)>
         ensures { option_map (λ p. p.1) (option_copied result) ≡ lookup (under_own K.hash_input hash (Q.equivalent query.now)) (pairs_of self.now) }
     {
-        self.table.find_item(
-            hash.promote(),
-            |p: &(K, V)| -> bool
-                ensures { result ≡ Q.equivalent query.entry.now p.now.0 }
-            { query.equivalent(&p.0) },
-        )
+        self.table
+            .find_item(hash.promote(), |p: &(K, V)| query.equivalent(&p.0))
     }
 
     // A slot under this hash whose key `is_match` accepts.

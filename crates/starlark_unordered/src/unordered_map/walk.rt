@@ -10,7 +10,6 @@ use crate::mapped::map_members;
 use crate::moved::move_pairs;
 use starlark_table::ReadyTable;
 use std::alloc::AllocError;
-use std::cmp::Ordering;
 use std::collections::HashMap;
 use std::hash::Hash;
 
@@ -48,11 +47,7 @@ impl<K: Eq + Hash, V> UnorderedMap<K, V> {
         ensures sorted { IfOk result (λ entries. ShowsSorted deref_pair (λ entry. entry.0.now) K.cmp (pairs_of self.now) entries.items) }
     {
         let mut entries = Vec::from_iter(self.alloc, self.entries_unordered())?;
-        entries.sort_by(
-            |a: &(&K, &V), b: &(&K, &V)| -> Ordering
-                ensures { result ≡ K.cmp a.entry.now.0.now b.entry.now.0.now }
-            { a.0.cmp(b.0) },
-        )?;
+        entries.sort_by(|a, b| a.0.cmp(b.0))?;
         Ok(entries)
     }
 
