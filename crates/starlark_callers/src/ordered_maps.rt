@@ -2,15 +2,19 @@
 ghost use Rattle.std.specs.Hash as fed;
 ghost use Rattle.std.specs.Map.{update_all};
 ghost use Rattle.std.specs.Option.{option_map, unwrap_or};
-ghost use Rattle.std.specs.Prelude.{◌≡◌, ℕ, ◌+◌, ◌-◌, ◌≤◌, ◌<◌, ◌^◌, drop, filter, if◌then◌else◌, is_some, length, map, min, nat_eq, nat_lt, slice_get, sum, false, true, All, Some, None, IfOk, IfSome, OnOk, OnErr};
+ghost use Rattle.std.specs.Ordering.{nat_cmp};
+ghost use Rattle.std.specs.Prelude.{◌≡◌, ℕ, ◌+◌, ◌-◌, ◌≤◌, ◌<◌, ◌^◌, drop, filter, if◌then◌else◌, is_some, length, map, min, nat_eq, nat_lt, slice_get, sum, false, true, All, Some, None, IfOk, IfSome, OnOk, OnErr, IsSorted};
 ghost use Rattle.std.specs.String.{string_bytes, string_eq};
 ghost use Rattle.std.specs.declared.alloc.Global.{Global};
 ghost use Rattle.std.specs.declared.string.String.{String};
 ghost use Rattle.starlark_lists.specs.Entries.{entry_value, pair_of};
+ghost use Rattle.starlark_lists.specs.Ordered.{same_ordered};
 ghost use Rattle.starlark_small.specs.Calling.{contains, get, get_text, keys, AreOwn};
 ghost use Rattle.starlark_small.specs.Clone.{IsEqualClone};
+ghost use Rattle.starlark_small.specs.Map.{own_match};
 
 pub mod emptied;
+pub mod entered;
 pub mod found;
 pub mod gathered;
 
@@ -294,7 +298,9 @@ pub fn keep_above(map: &mut OrderedMap<u32, u64>, least: u64)
 /// Sorts the keys, and finds the place of one, or the end.
 pub fn place_when_sorted(map: &mut OrderedMap<u32, u64>, key: u32) -> Result<usize, AllocError>
     ensures within { IfOk result (λ place. place ≤ length map.new.entries) }
-    ensures same { get nat_eq fed.u32 map.new key ≡ get nat_eq fed.u32 map.old key }
+    ensures place { IfOk result (λ place. place ≡ unwrap_or (own_match nat_eq fed.u32 map.new.entries key) (length map.new.entries)) }
+    ensures ascend { OnOk result (IsSorted nat_cmp (keys map.new)) }
+    ensures same { (other : ℕ) → get nat_eq fed.u32 map.new other ≡ get nat_eq fed.u32 map.old other }
 {
     map.sort_keys()?;
     match map.get_index_of(&key) {
@@ -303,9 +309,10 @@ pub fn place_when_sorted(map: &mut OrderedMap<u32, u64>, key: u32) -> Result<usi
     }
 }
 
-/// Whether two maps are equal: if so, they are of one length.
+/// Whether two maps have equal entries in one order: if so, they are of one length.
 pub fn same(map: &OrderedMap<u32, u64>, other: &OrderedMap<u32, u64>) -> bool
-    ensures { result ≡ true → length map.now.entries ≡ length other.now.entries }
+    ensures each { result ≡ same_ordered nat_eq nat_eq map.now.entries other.now.entries }
+    ensures count { result ≡ true → length map.now.entries ≡ length other.now.entries }
 {
     *map == *other
 }

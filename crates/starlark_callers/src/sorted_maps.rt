@@ -2,11 +2,12 @@
 ghost use Rattle.std.specs.Hash as fed;
 ghost use Rattle.std.specs.Map.{update_all};
 ghost use Rattle.std.specs.Option.{unwrap_or};
-ghost use Rattle.std.specs.Prelude.{◌≡◌, ℕ, ◌+◌, ◌-◌, ◌≤◌, ◌<◌, ◌^◌, length, map, min, nat_eq, sum, false, true, is_some, All, None, Some, IfErr, IfOk, IfSome, IsTrue, OnOk, ◌↔◌, slice_get};
+ghost use Rattle.std.specs.Prelude.{◌≡◌, ℕ, ◌+◌, ◌-◌, ◌≤◌, ◌<◌, ◌^◌, length, map, min, nat_eq, nat_lt, sum, false, true, is_some, All, None, Some, IfErr, IfOk, IfSome, IsTrue, OnOk, ◌↔◌, slice_get};
 ghost use Rattle.std.specs.String.{string_bytes, string_eq};
 ghost use Rattle.std.specs.declared.alloc.Global.{Global};
 ghost use Rattle.std.specs.declared.string.String.{String};
 ghost use Rattle.starlark_lists.specs.Entries.{entry_value, pair_of};
+ghost use Rattle.starlark_lists.specs.Ordered.{same_ordered};
 ghost use Rattle.starlark_small.specs.Calling.{contains, get, get_text, keys, AreOwn};
 ghost use Rattle.starlark_small.specs.Clone.{IsEqualClone};
 
@@ -69,6 +70,7 @@ pub fn put<K: Ord + Hash, V: Drop>(map: &mut SortedMap<K, V>, key: &K, value: V)
 
 /// The first two keys.
 pub fn first_two(map: &SortedMap<u32, u64>) -> Option<(u32, u32)>
+    ensures are { is_some result ≡ nat_lt 1 (length map.now.entries) }
     ensures ascend { IfSome result (λ p. p.0 ≤ p.1) }
     ensures first { IfSome result (λ p. slice_get (keys map.now) 0 ≡ Some p.0) }
     ensures second { IfSome result (λ p. slice_get (keys map.now) 1 ≡ Some p.1) }
@@ -166,9 +168,10 @@ pub fn total(entries: &SortedMap<u32, u32>) -> u64
     entries.values().map(|value| *value as u64).sum()
 }
 
-/// Whether two maps are equal: if so, they are of one length.
+/// Whether two maps have equal entries: if so, they are of one length.
 pub fn same(map: &SortedMap<u32, u64>, other: &SortedMap<u32, u64>) -> bool
-    ensures { result ≡ true → length map.now.entries ≡ length other.now.entries }
+    ensures each { result ≡ same_ordered nat_eq nat_eq map.now.entries other.now.entries }
+    ensures count { result ≡ true → length map.now.entries ≡ length other.now.entries }
 {
     *map == *other
 }

@@ -1,7 +1,9 @@
 //! Callers of ordered sets.
+ghost use Rattle.starlark_lists.specs.Ordered.{same_ordered};
+ghost use Rattle.starlark_sets.specs.Unit.{same_unit};
 ghost use Rattle.std.specs.Hash as fed;
 ghost use Rattle.std.specs.Option.{option_map};
-ghost use Rattle.std.specs.Prelude.{◌≡◌, ℕ, ◌||◌, ◌+◌, ◌-◌, ◌≤◌, ◌<◌, ◌^◌, count_by, if◌then◌else◌, length, nat_eq, slice_get, sum, true, false, not, is_some, Some, None, IfOk, IfSome, OnOk, IsSome};
+ghost use Rattle.std.specs.Prelude.{◌≡◌, ℕ, ◌||◌, ◌+◌, ◌-◌, ◌≤◌, ◌<◌, ◌^◌, count_by, if◌then◌else◌, length, nat_eq, slice_get, sum, true, false, not, is_some, Some, None, IfOk, IfSome, OnOk, IsSome, IsNone};
 ghost use Rattle.std.specs.Set.{is_member};
 ghost use Rattle.std.specs.String.{string_bytes, string_eq};
 ghost use Rattle.starlark_lists.specs.Entries.{entry_key};
@@ -84,6 +86,8 @@ pub fn add_vec<T: Eq + Hash + Drop>(
 pub fn try_in<T: Eq + Hash + Drop>(set: &mut OrderedSet<T>, element: T) -> Option<T>
     ensures back { IfSome result (λ back. back ≡ element) }
     ensures there { contains T.eq T.hash_input set.old element ≡ true → IsSome result }
+    ensures lacking { 0 < set.old.room → contains T.eq T.hash_input set.old element ≡ false → result ≡ None }
+    ensures absent { IsNone result → contains T.eq T.hash_input set.old element ≡ false }
 {
     match set.try_insert(element) {
         Ok(()) => None,
@@ -96,6 +100,8 @@ pub fn try_in<T: Eq + Hash + Drop>(set: &mut OrderedSet<T>, element: T) -> Optio
 pub fn try_number(set: &mut OrderedSet<u32>, n: u32) -> Option<u32>
     ensures back { IfSome result (λ back. back ≡ n) }
     ensures there { contains nat_eq fed.u32 set.old n ≡ true → IsSome result }
+    ensures lacking { 0 < set.old.room → contains nat_eq fed.u32 set.old n ≡ false → result ≡ None }
+    ensures absent { IsNone result → contains nat_eq fed.u32 set.old n ≡ false }
 {
     match set.try_insert(n) {
         Ok(()) => None,
@@ -192,9 +198,10 @@ pub fn both_ends(set: &OrderedSet<u32>) -> (Option<u32>, Option<u32>)
     (set.first().copied(), set.last().copied())
 }
 
-/// Whether two sets are equal: if so, they have as many elements.
+/// Whether two sets have equal elements in one order: if so, they have as many.
 pub fn same<T: Eq>(set: &OrderedSet<T>, other: &OrderedSet<T>) -> bool
-    ensures { result ≡ true → length set.now.entries ≡ length other.now.entries }
+    ensures each { result ≡ same_ordered T.eq same_unit set.now.entries other.now.entries }
+    ensures count { result ≡ true → length set.now.entries ≡ length other.now.entries }
 {
     *set == *other
 }

@@ -1,7 +1,9 @@
 //! Callers of sorted sets.
+ghost use Rattle.starlark_lists.specs.Ordered.{same_ordered};
+ghost use Rattle.starlark_sets.specs.Unit.{same_unit};
 ghost use Rattle.std.specs.Hash as fed;
 ghost use Rattle.std.specs.Option.{option_map};
-ghost use Rattle.std.specs.Prelude.{◌≡◌, ℕ, ◌≤◌, ◌<◌, ◌^◌, count_by, length, nat_eq, slice_get, sum, false, true, is_some, IfErr, IfOk, IfSome, Some};
+ghost use Rattle.std.specs.Prelude.{◌≡◌, ℕ, ◌≤◌, ◌<◌, ◌^◌, count_by, length, nat_eq, slice_get, sum, false, true, is_some, IfErr, IfOk, IfSome, Some, nat_lt};
 ghost use Rattle.std.specs.Set.{is_member};
 ghost use Rattle.std.specs.String.{string_bytes, string_eq};
 ghost use Rattle.std.specs.declared.alloc.Global.{Global};
@@ -46,6 +48,7 @@ pub fn stored(set: &SortedSet<u32>, n: u32) -> Option<u32>
 
 /// The first two elements.
 pub fn first_two(set: &SortedSet<u32>) -> Option<(u32, u32)>
+    ensures are { is_some result ≡ nat_lt 1 (length set.now.entries) }
     ensures ascend { IfSome result (λ p. p.0 ≤ p.1) }
     ensures first { IfSome result (λ p. slice_get (keys set.now) 0 ≡ Some p.0) }
     ensures second { IfSome result (λ p. slice_get (keys set.now) 1 ≡ Some p.1) }
@@ -118,7 +121,11 @@ pub fn shared(set: &SortedSet<u32>, other: &SortedSet<u32>) -> usize
 
 /// The first three elements.
 pub fn first_three(set: &SortedSet<u32>) -> Option<(u32, u32, u32)>
-    ensures { IfSome result (λ p. (p.0 ≤ p.1) × (p.1 ≤ p.2)) }
+    ensures are { is_some result ≡ nat_lt 2 (length set.now.entries) }
+    ensures ascend { IfSome result (λ p. (p.0 ≤ p.1) × (p.1 ≤ p.2)) }
+    ensures first { IfSome result (λ p. slice_get (keys set.now) 0 ≡ Some p.0) }
+    ensures second { IfSome result (λ p. slice_get (keys set.now) 1 ≡ Some p.1) }
+    ensures third { IfSome result (λ p. slice_get (keys set.now) 2 ≡ Some p.2) }
 {
     let mut elements = set.iter();
     let a = elements.next()?;
@@ -149,9 +156,10 @@ pub fn least(set: &SortedSet<u32>) -> Option<u32>
     set.get_index(0).copied()
 }
 
-/// Whether two sets are equal: if so, they have as many elements.
+/// Whether two sets have equal elements: if so, they have as many.
 pub fn same(set: &SortedSet<u32>, other: &SortedSet<u32>) -> bool
-    ensures { result ≡ true → length set.now.entries ≡ length other.now.entries }
+    ensures each { result ≡ same_ordered nat_eq same_unit set.now.entries other.now.entries }
+    ensures count { result ≡ true → length set.now.entries ≡ length other.now.entries }
 {
     *set == *other
 }

@@ -5,9 +5,11 @@ ghost use Rattle.std.specs.String.{string_eq};
 ghost use Rattle.std.specs.declared.alloc.Global.{Global};
 ghost use Rattle.std.specs.declared.string.String.{String};
 ghost use Rattle.starlark_table.specs.Growth.{most_for};
+ghost use Rattle.starlark_unordered.specs.Bag.{same_bag};
 ghost use Rattle.starlark_unordered.specs.Calling.{contains, get_text};
 ghost use Rattle.starlark_unordered.specs.Clone.{IsEqualClone};
-ghost use Rattle.starlark_unordered.specs.Pairs.{pairs_of, HasDistinctKeys};
+ghost use Rattle.starlark_unordered.specs.Pairs.{pair_eq, pairs_of, HasDistinctKeys};
+ghost use Rattle.starlark_unordered.specs.Unit.{same_unit};
 
 pub mod emptied;
 pub mod ready;
@@ -93,16 +95,18 @@ pub fn copied_any<T: Eq + Hash + Clone>(
     set.clone()
 }
 
-/// Whether two sets of numbers are equal: if so, what the one has the other has.
+/// Whether two sets have equal elements: if so, what the one has the other has.
 pub fn same(set: &UnorderedSet<u32>, other: &UnorderedSet<u32>) -> bool
-    ensures { result ≡ true → (n : ℕ) → contains nat_eq set.now n ≡ contains nat_eq other.now n }
+    ensures each { result ≡ same_bag (pair_eq nat_eq same_unit) (pairs_of set.now) (pairs_of other.now) }
+    ensures found { result ≡ true → (n : ℕ) → contains nat_eq set.now n ≡ contains nat_eq other.now n }
 {
     *set == *other
 }
 
 /// The same of sets of any type.
 pub fn same_any<T: Eq + Hash>(set: &UnorderedSet<T>, other: &UnorderedSet<T>) -> bool
-    ensures { result ≡ true → (element : T) → contains T.eq set.now element ≡ contains T.eq other.now element }
+    ensures each { result ≡ same_bag (pair_eq T.eq same_unit) (pairs_of set.now) (pairs_of other.now) }
+    ensures found { result ≡ true → (element : T) → contains T.eq set.now element ≡ contains T.eq other.now element }
 {
     *set == *other
 }
@@ -251,6 +255,7 @@ pub fn add_fitting(set: &mut UnorderedSet<u32>, n: u32) -> Result<(), NoRoom<u32
     requires { 0 < set.old.room }
     ensures succeeds { IsOk result }
     ensures here { contains nat_eq set.new n ≡ true }
+    ensures others { (other : ℕ) → nat_eq n other ≡ false → contains nat_eq set.new other ≡ contains nat_eq set.old other }
 {
     set.insert(n)?;
     Ok(())

@@ -1,6 +1,6 @@
 //! What holds of every value of an ordered map, what its values add up to, and what a walk through a closure makes.
 ghost use Rattle.std.specs.Hash as fed;
-ghost use Rattle.std.specs.Prelude.{◌≡◌, ℕ, ◌+◌, ◌<◌, ◌≤◌, ◌↔◌, map, nat_eq, sum, Contains, IfOk, IfSome, IsSome, IsTrue, None, OnOk, Some, true};
+ghost use Rattle.std.specs.Prelude.{◌≡◌, ℕ, ◌+◌, ◌<◌, ◌≤◌, ◌↔◌, [], map, nat_eq, sum, Contains, IfOk, IfSome, IsNone, IsSome, IsTrue, None, OnOk, Some, true};
 ghost use Rattle.starlark_lists.specs.Entries.{entry_value};
 ghost use Rattle.starlark_small.specs.Calling.{get, AreOwn, contains};
 
@@ -28,7 +28,9 @@ pub fn any_at(entries: &OrderedMap<u32, u64>, sought: u64) -> bool
 
 /// The greatest value, which none that is found exceeds.
 pub fn greatest_found(entries: &OrderedMap<u32, u64>) -> Option<u64>
-    ensures { IfSome result (λ most. (key : ℕ) → IfSome (get nat_eq fed.u32 entries.now key) (λ value. value ≤ most)) }
+    ensures there { IfSome result (λ most. Contains (map entry_value entries.now.entries) most) }
+    ensures none { IsNone result → map entry_value entries.now.entries ≡ [] }
+    ensures found { IfSome result (λ most. (key : ℕ) → IfSome (get nat_eq fed.u32 entries.now key) (λ value. value ≤ most)) }
 {
     entries.values().copied().max()
 }

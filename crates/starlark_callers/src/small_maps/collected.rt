@@ -73,7 +73,8 @@ pub fn two_named(
 /// Puts pairs in for which there is room.
 pub fn add_fitting(map: &mut SmallMap<u32, u64>, items: Vec<(u32, u64)>) -> Result<(), AllocError>
     requires { length items.items ≤ map.old.room }
-    ensures { IsOk result }
+    ensures done { IsOk result }
+    ensures each { (key : ℕ) → get nat_eq fed.u32 map.new key ≡ update_all nat_eq (get nat_eq fed.u32 map.old) items.items key }
 {
     map.extend(items)
 }
@@ -100,6 +101,8 @@ pub fn add_leaving<K: Eq + Hash + Drop, V: Drop>(
     items: Vec<(K, V)>,
 ) -> Result<(), AllocError>
     ensures left { map.old.room ≤ map.new.room + length items.items }
+    ensures each { OnOk result ((key : K) → get K.eq K.hash_input map.new key ≡ update_all K.eq (get K.eq K.hash_input map.old) items.items key) }
 {
-    map.extend(items)
+    map.extend(items)?;
+    Ok(())
 }

@@ -1,6 +1,6 @@
 //! Small maps by their entries, with counts of words.
 ghost use Rattle.std.specs.Hash as fed;
-ghost use Rattle.std.specs.Prelude.{◌≡◌, ℕ, ◌+◌, ◌-◌, ◌<◌, ◌^◌, min, nat_eq, false, true, Some, None, OnOk};
+ghost use Rattle.std.specs.Prelude.{◌≡◌, ℕ, ◌+◌, ◌-◌, ◌<◌, ◌^◌, min, nat_eq, false, true, Some, None, IfOk, OnOk};
 ghost use Rattle.std.specs.Option.{option_copied, unwrap_or};
 ghost use Rattle.std.specs.String.{string_bytes, string_eq};
 ghost use Rattle.std.specs.declared.alloc.Global.{Global};
@@ -168,13 +168,16 @@ pub fn lookup_ready_or(map: &SmallMap<u32, u64>, key: u32, default: u64) -> u64
 }
 
 /// Looks for what was put there.
-pub fn put_and_look(map: &mut SmallMap<u32, u64>, word: u32, value: u64) -> Option<u64>
-    ensures { result ≡ Some value }
+pub fn put_and_look(
+    map: &mut SmallMap<u32, u64>,
+    word: u32,
+    value: u64,
+) -> Result<Option<u64>, NoRoom<(u32, u64)>>
+    ensures looked { IfOk result (λ found. found ≡ Some value) }
+    ensures here { OnOk result (get nat_eq fed.u32 map.new word ≡ Some value) }
 {
-    match map.insert(word, value) {
-        Ok(_was) => map.get(&word).copied(),
-        Err(_refused) => Some(value),
-    }
+    map.insert(word, value)?;
+    Ok(map.get(&word).copied())
 }
 
 /// Counts a string.

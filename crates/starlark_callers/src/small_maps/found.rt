@@ -1,12 +1,12 @@
 //! What holds of every value of a small map, by its walk and by look-ups.
 ghost use Rattle.std.specs.Hash as fed;
-ghost use Rattle.std.specs.Prelude.{◌≡◌, ℕ, ◌<◌, ◌≤◌, ◌↔◌, max, map, nat_eq, IfSome, IsTrue, Some};
+ghost use Rattle.std.specs.Prelude.{◌≡◌, ℕ, ◌<◌, ◌≤◌, ◌↔◌, max, map, nat_eq, All, Contains, IfSome, IsNone, IsTrue, Some, []};
 ghost use Rattle.std.specs.List.{reduce};
 ghost use Rattle.std.specs.Map.{values_of};
 ghost use Rattle.std.specs.String.{string_bytes, string_eq};
 ghost use Rattle.std.specs.declared.alloc.Global.{Global};
 ghost use Rattle.std.specs.declared.string.String.{String};
-ghost use Rattle.starlark_lists.specs.Entries.{pair_of};
+ghost use Rattle.starlark_lists.specs.Entries.{entry_value, pair_of};
 ghost use Rattle.starlark_small.specs.Calling.{get, AreOwn};
 
 use starlark_small::SmallMap;
@@ -38,7 +38,8 @@ pub fn all_below_any<K: Eq + Hash>(entries: &SmallMap<K, u64>) -> bool
 
 /// Where all values are below a hundred, each that is found is, under whatever hash keys stand.
 pub fn below_if_all<K: Eq + Hash>(entries: &SmallMap<K, u64>) -> bool
-    ensures { IsTrue result → (key : K) → IfSome (get K.eq K.hash_input entries.now key) (λ value. value < 100) }
+    ensures all { IsTrue result ↔ All (λ value. value < 100) (map entry_value entries.now.entries) }
+    ensures found { IsTrue result → (key : K) → IfSome (get K.eq K.hash_input entries.now key) (λ value. value < 100) }
 {
     entries.values().all(|value| *value < 100)
 }
@@ -53,7 +54,9 @@ pub fn any_at(entries: &SmallMap<u32, u64>, sought: u64) -> bool
 
 /// The greatest value, which none that is found exceeds.
 pub fn greatest_found<K: Eq + Hash>(entries: &SmallMap<K, u64>) -> Option<u64>
-    ensures { IfSome result (λ most. (key : K) → IfSome (get K.eq K.hash_input entries.now key) (λ value. value ≤ most)) }
+    ensures there { IfSome result (λ most. Contains (map entry_value entries.now.entries) most) }
+    ensures none { IsNone result → map entry_value entries.now.entries ≡ [] }
+    ensures found { IfSome result (λ most. (key : K) → IfSome (get K.eq K.hash_input entries.now key) (λ value. value ≤ most)) }
 {
     entries.values().copied().max()
 }

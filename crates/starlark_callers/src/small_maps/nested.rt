@@ -1,4 +1,8 @@
 //! Small maps whose values hold small maps, by recursion.
+ghost use Rattle.std.specs.Prelude.{◌≡◌, IsTrue, true};
+ghost use Rattle.starlark_callers.specs.Words.{has_word};
+ghost use Rattle.starlark_callers.specs.declared.small_maps.nested.Words.{out-Words};
+
 use starlark_small::SmallMap;
 
 /// A set of words: each byte leads to what may follow it.
@@ -8,8 +12,10 @@ pub struct Words {
     after: SmallMap<u8, Words>,
 }
 
-/// Whether some word is there.
-pub fn has_any(words: &Words) -> bool {
+/// Whether some word is there, as where the empty one is.
+pub fn has_any(words: &Words) -> bool
+    ensures { (out-Words words.now).ends ≡ true → IsTrue result }
+{
     for next in words.after.values() {
         if has_any(next) {
             return true;
@@ -18,8 +24,11 @@ pub fn has_any(words: &Words) -> bool {
     words.ends
 }
 
-/// Whether some word is there of no more than so many bytes.
-pub fn has_short(words: &Words, most: u32) -> bool {
+/// Whether some word is there of no more than so many bytes, as where the empty one is.
+pub fn has_short(words: &Words, most: u32) -> bool
+    ensures none { most ≡ 0 → result ≡ (out-Words words.now).ends }
+    ensures empty { (out-Words words.now).ends ≡ true → IsTrue result }
+{
     if most == 0 {
         return words.ends;
     }
@@ -32,7 +41,9 @@ pub fn has_short(words: &Words, most: u32) -> bool {
 }
 
 /// Whether a word is there.
-pub fn has(words: &Words, word: &[u8]) -> bool {
+pub fn has(words: &Words, word: &[u8]) -> bool
+    ensures { result ≡ has_word words.now word.now }
+{
     match word {
         [] => words.ends,
         [first, rest @ ..] => match words.after.get(first) {

@@ -1,6 +1,6 @@
 //! Ordered sets that are emptied, counted, extended and copied.
 ghost use Rattle.std.specs.Hash as fed;
-ghost use Rattle.std.specs.Prelude.{◌≡◌, ◌+◌, ◌≤◌, ◌||◌, ℕ, length, nat_eq, false, true, IfOk, OnOk, if◌then◌else◌, IfSome, IsSome};
+ghost use Rattle.std.specs.Prelude.{◌≡◌, ◌+◌, ◌≤◌, ◌||◌, ℕ, length, nat_eq, false, true, IfOk, OnOk, if◌then◌else◌, IfSome, IsSome, None, IsNone, ◌<◌};
 ghost use Rattle.std.specs.Set.{is_member};
 ghost use Rattle.std.specs.String.{string_bytes, string_eq};
 ghost use Rattle.std.specs.declared.alloc.Global.{Global};
@@ -96,6 +96,8 @@ pub fn add_names(set: &mut OrderedSet<String>, items: Vec<String>) -> Result<(),
 pub fn try_name(set: &mut OrderedSet<String>, name: String) -> Option<String>
     ensures back { IfSome result (λ back. back ≡ name) }
     ensures there { contains string_eq (λ s. fed.str (string_bytes s)) set.old name ≡ true → IsSome result }
+    ensures lacking { 0 < set.old.room → contains string_eq (λ s. fed.str (string_bytes s)) set.old name ≡ false → result ≡ None }
+    ensures absent { IsNone result → contains string_eq (λ s. fed.str (string_bytes s)) set.old name ≡ false }
 {
     match set.try_insert(name) {
         Ok(()) => None,

@@ -116,6 +116,7 @@ pub fn move_last(set: &mut SmallSet<u32>) -> Result<bool, NoRoom<u32>>
     requires { AreOwn fed.u32 set.old }
     ensures looked { IfOk result (λ is. is ≡ false) }
     ensures count { OnOk result (length set.new.entries ≡ length set.old.entries) }
+    ensures same { OnOk result ((other : ℕ) → contains nat_eq fed.u32 set.new other ≡ contains nat_eq fed.u32 set.old other) }
     ensures own { AreOwn fed.u32 set.new }
 {
     match set.pop() {

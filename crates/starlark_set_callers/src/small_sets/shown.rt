@@ -1,7 +1,7 @@
 //! Elements of small sets that are shown where they stand, and are put in where they are lacking.
 ghost use Rattle.std.specs.Hash as fed;
 ghost use Rattle.std.specs.Option.{unwrap_or};
-ghost use Rattle.std.specs.Prelude.{◌≡◌, ◌<◌, nat_eq, false, true, IfErr, IfOk, OnErr, OnOk};
+ghost use Rattle.std.specs.Prelude.{◌≡◌, ◌<◌, nat_eq, false, true, IfErr, IfOk, OnErr, OnOk, ℕ};
 ghost use Rattle.starlark_lists.specs.Entries.{match_of};
 ghost use Rattle.starlark_small.specs.Calling.{contains, contains_text};
 ghost use Rattle.starlark_small.specs.Map.{own_hashed};
@@ -47,6 +47,7 @@ pub fn add_fitting(set: &mut SmallSet<u32>, n: u32) -> bool
     requires { 0 < set.old.room }
     ensures done { result ≡ true }
     ensures here { contains nat_eq fed.u32 set.new n ≡ true }
+    ensures others { (other : ℕ) → nat_eq n other ≡ false → contains nat_eq fed.u32 set.new other ≡ contains nat_eq fed.u32 set.old other }
 {
     set.get_or_insert_owned(&n).is_ok()
 }

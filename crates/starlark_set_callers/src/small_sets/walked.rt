@@ -1,4 +1,6 @@
 //! Walks of small sets that are counted, collected or added up, and the first element.
+ghost use Rattle.starlark_sets.specs.Unit.{same_unit};
+ghost use Rattle.starlark_small.specs.Compare.{same_entries};
 ghost use Rattle.std.specs.Hash as fed;
 ghost use Rattle.std.specs.Option.{option_map};
 ghost use Rattle.std.specs.Prelude.{◌≡◌, ◌+◌, ◌≤◌, ◌<◌, ◌^◌, count_by, drop, length, map, nat_eq, slice_get, sum, false, true, IfOk, IfSome};
@@ -68,9 +70,10 @@ pub fn take_first<T: Eq>(set: &mut SmallSet<T>) -> Option<T>
     set.shift_remove_index(0)
 }
 
-/// Whether two sets are equal: if so, they have as many elements.
+/// Whether two sets have equal elements, in whatever order: if so, they have as many.
 pub fn same<T: Eq>(set: &SmallSet<T>, other: &SmallSet<T>) -> bool
-    ensures { result ≡ true → length set.now.entries ≡ length other.now.entries }
+    ensures each { result ≡ same_entries T.eq same_unit set.now.entries other.now.entries }
+    ensures count { result ≡ true → length set.now.entries ≡ length other.now.entries }
 {
     *set == *other
 }

@@ -38,7 +38,8 @@ pub fn any_at(map: &UnorderedMap<u32, u64>, sought: u64) -> bool
 
 /// The greatest value, which none that is found exceeds.
 pub fn greatest_found<K: Eq + Hash>(map: &UnorderedMap<K, u64>) -> Option<u64>
-    ensures { IfSome result (λ most. (key : K) → IfSome (get K.eq map.now key) (λ value. value ≤ most)) }
+    ensures there { IfSome result (λ most. (key : K) × (get K.eq map.now key ≡ Some most)) }
+    ensures found { IfSome result (λ most. (key : K) → IfSome (get K.eq map.now key) (λ value. value ≤ most)) }
 {
     map.values_unordered().copied().max()
 }

@@ -1,6 +1,6 @@
 //! Unordered maps that are looked up under ready hashes.
 ghost use Rattle.std.specs.Option.{unwrap_or};
-ghost use Rattle.std.specs.Prelude.{◌≡◌, nat_eq, true, None, Some, IfOk, IfSome, OnOk};
+ghost use Rattle.std.specs.Prelude.{◌≡◌, nat_eq, true, None, Some, IfOk, IfSome, OnOk, ℕ, false};
 ghost use Rattle.std.specs.String.{string_eq};
 ghost use Rattle.starlark_hash.specs.HashValue.{hash_of, key_of};
 ghost use Rattle.starlark_hash.specs.Hasher.{own_hash};
@@ -110,6 +110,7 @@ pub fn put_and_look(
 ) -> Result<Option<u64>, NoRoom<(u32, u64)>>
     ensures found { IfOk result (λ found. found ≡ Some value) }
     ensures here { OnOk result (get nat_eq map.new key ≡ Some value) }
+    ensures others { OnOk result ((other : ℕ) → nat_eq key other ≡ false → get nat_eq map.new other ≡ get nat_eq map.old other) }
 {
     map.insert(key, value)?;
     Ok(map.get_hashed(Hashed::new(&key)).copied())
