@@ -52,6 +52,8 @@ fn written(alloc: Global) -> Result<SmallMap<u32, char>, AllocError> {
 fn writes_entries_out(rt: HostRuntime) -> Result<(), Fail> {
     let map = written(rt.alloc())?;
     holds(&rt, shows(map.iter(), &[(1, 'a'), (2, 'b')]));
+    // growing step by step would leave room for 4
+    holds(&rt, map.capacity() == 2);
     Ok(())
 }
 

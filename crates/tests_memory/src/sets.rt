@@ -284,6 +284,11 @@ fn collects_elements_under_hashes(rt: HostRuntime) -> Result<(), Fail> {
 #[test]
 fn writes_elements_out(rt: HostRuntime) -> Result<(), Fail> {
     holds(&rt, makes(rt.alloc(), Making::Written, &[1, 2])?);
+    // growing step by step would leave room for 4
+    holds(
+        &rt,
+        made_at_last(rt.alloc(), Making::Written)?.capacity() == 2,
+    );
     Ok(())
 }
 
