@@ -14,6 +14,8 @@ mod hashes;
 #[cfg(test)]
 mod large;
 #[cfg(test)]
+mod no_second_request;
+#[cfg(test)]
 mod one_request;
 #[cfg(test)]
 mod pair_lists;
