@@ -1,5 +1,6 @@
 //! Callers of `UnorderedSet`.
-ghost use Rattle.std.specs.Prelude.{◌≡◌, ℕ, ◌+◌, ◌≤◌, ◌<◌, [], nat_eq, false, true, is_some, length, not, IfErr, IfOk, IfSome, IsOk, IsTrue, OnOk, OnErr, if◌then◌else◌, ◌↔◌};
+ghost use Rattle.std.specs.Prelude.{◌≡◌, ℕ, ◌+◌, ◌≤◌, ◌<◌, [], nat_eq, false, true, filter, is_some, length, not, IfErr, IfOk, IsOk, IsTrue, OnOk, OnErr, if◌then◌else◌, ◌↔◌};
+ghost use Rattle.std.specs.List.{range_with_len};
 ghost use Rattle.std.specs.Set.{is_member};
 ghost use Rattle.std.specs.String.{string_eq};
 ghost use Rattle.std.specs.declared.alloc.Global.{Global};
@@ -222,16 +223,11 @@ pub fn add_text(
     Ok(true)
 }
 
-/// The first number below a bound that a set lacks.
-pub fn first_free(set: &UnorderedSet<u32>, bound: u32) -> Option<u32>
-    ensures { IfSome result (λ n. (n < bound) × (contains nat_eq set.now n ≡ false)) }
+/// How many numbers below a bound a set lacks.
+pub fn lacking_below(set: &UnorderedSet<u32>, bound: u32) -> usize
+    ensures { result ≡ length (filter (λ n. not (contains nat_eq set.now n)) (range_with_len 0 bound)) }
 {
-    for n in 0..bound {
-        if !set.contains(&n) {
-            return Some(n);
-        }
-    }
-    None
+    (0..bound).filter(|n| !set.contains(n)).count()
 }
 
 /// Whether a set is empty: if so, it has nothing.

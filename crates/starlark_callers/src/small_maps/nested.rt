@@ -1,5 +1,5 @@
 //! Small maps whose values hold small maps, by recursion.
-ghost use Rattle.std.specs.Prelude.{◌≡◌, IsTrue, true};
+ghost use Rattle.std.specs.Prelude.{◌≡◌, [], IsTrue, true};
 ghost use Rattle.starlark_callers.specs.Words.{has_word};
 ghost use Rattle.starlark_callers.specs.declared.small_maps.nested.Words.{out-Words};
 
@@ -12,9 +12,10 @@ pub struct Words {
     after: SmallMap<u8, Words>,
 }
 
-/// Whether some word is there, as where the empty one is.
+/// Whether some word is there: the empty one, or one behind a byte.
 pub fn has_any(words: &Words) -> bool
-    ensures { (out-Words words.now).ends ≡ true → IsTrue result }
+    ensures empty { (out-Words words.now).ends ≡ true → IsTrue result }
+    ensures alone { (out-Words words.now).after.entries ≡ [] → result ≡ (out-Words words.now).ends }
 {
     for next in words.after.values() {
         if has_any(next) {
@@ -24,10 +25,11 @@ pub fn has_any(words: &Words) -> bool
     words.ends
 }
 
-/// Whether some word is there of no more than so many bytes, as where the empty one is.
+/// Whether some word is there of no more than so many bytes: the empty one, or one behind a byte.
 pub fn has_short(words: &Words, most: u32) -> bool
     ensures none { most ≡ 0 → result ≡ (out-Words words.now).ends }
     ensures empty { (out-Words words.now).ends ≡ true → IsTrue result }
+    ensures alone { (out-Words words.now).after.entries ≡ [] → result ≡ (out-Words words.now).ends }
 {
     if most == 0 {
         return words.ends;

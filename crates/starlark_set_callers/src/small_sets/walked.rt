@@ -3,7 +3,8 @@ ghost use Rattle.starlark_sets.specs.Unit.{same_unit};
 ghost use Rattle.starlark_small.specs.Compare.{same_entries};
 ghost use Rattle.std.specs.Hash as fed;
 ghost use Rattle.std.specs.Option.{option_map};
-ghost use Rattle.std.specs.Prelude.{◌≡◌, ◌+◌, ◌≤◌, ◌<◌, ◌^◌, count_by, drop, length, map, nat_eq, slice_get, sum, false, true, IfOk, IfSome};
+ghost use Rattle.std.specs.Prelude.{◌≡◌, ◌+◌, ◌≤◌, ◌<◌, ◌^◌, count_by, drop, filter, length, map, nat_eq, not, slice_get, sum, false, true, IfOk};
+ghost use Rattle.std.specs.List.{range_with_len};
 ghost use Rattle.starlark_lists.specs.Entries.{entry_key};
 ghost use Rattle.starlark_small.specs.Calling.{contains, keys, AreOwn};
 
@@ -50,16 +51,11 @@ pub fn total(set: &SmallSet<u32>) -> u64
     set.iter().map(|n| *n as u64).sum()
 }
 
-/// The first number below a bound that a set lacks.
-pub fn first_free(set: &SmallSet<u32>, bound: u32) -> Option<u32>
-    ensures { IfSome result (λ n. (n < bound) × (contains nat_eq fed.u32 set.now n ≡ false)) }
+/// How many numbers below a bound a set lacks.
+pub fn lacking_below(set: &SmallSet<u32>, bound: u32) -> usize
+    ensures { result ≡ length (filter (λ n. not (contains nat_eq fed.u32 set.now n)) (range_with_len 0 bound)) }
 {
-    for n in 0..bound {
-        if !set.contains(&n) {
-            return Some(n);
-        }
-    }
-    None
+    (0..bound).filter(|n| !set.contains(n)).count()
 }
 
 /// Takes the first element out: the others keep their order.

@@ -1,6 +1,6 @@
 //! Unions of sorted sets that are counted, collected and looked at from the front.
 ghost use Rattle.std.specs.Ordering.{nat_cmp};
-ghost use Rattle.std.specs.Prelude.{◌≡◌, ◌+◌, ◌≤◌, length, map, IfOk, IfSome};
+ghost use Rattle.std.specs.Prelude.{◌≡◌, ◌+◌, ◌≤◌, length, map, IfOk, IfSome, IsNone};
 ghost use Rattle.starlark_sorted.specs.Sorted.{AscendsAlong};
 
 use starlark_sorted::SortedSet;
@@ -62,9 +62,11 @@ pub fn either(
     set.union(other).copied().collect(alloc)
 }
 
-/// The first two numbers that either set has.
+/// The first two numbers that either set has, in ascending order. Without two there is no more than one in each set.
 pub fn first_two(set: &SortedSet<u32>, other: &SortedSet<u32>) -> Option<(u32, u32)>
-    ensures { IfSome result (λ p. p.0 ≤ p.1) }
+    ensures ascend { IfSome result (λ p. p.0 ≤ p.1) }
+    ensures first { IsNone result → length set.now.entries ≤ 1 }
+    ensures second { IsNone result → length other.now.entries ≤ 1 }
 {
     let mut elements = set.union(other);
     let a = elements.next()?;
