@@ -16,7 +16,7 @@ use Rattle.starlark_small.specs.Collect.{Collects, Extends, Inserts, insert_all,
 use Rattle.starlark_small.proofs.CallerCollected.{looked_all, run_of}
 use Rattle.starlark_small.proofs.CallerOwn.{own-inserted_entries}
 use Rattle.starlark_small.proofs.CallerUpdates.{empty-found as none_found}
-use Rattle.starlark_sets.specs.Collect.{HasEach, KeepsOwn, StepsBeside, element_entry, own_element}
+use Rattle.starlark_sets.specs.Collect.{HasEach, InsertsEach, KeepsOwn, StepsBeside, element_entry, own_element}
 use Rattle.starlark_sets.specs.Set.{Elements, Set}
 
 module _ {S A : Type 0} (steps : S → Option A → S → Type 0) where
@@ -112,6 +112,15 @@ module _ {T : Type 0} (eq : T → T → Bool) (laws : IsEquivalence eq) (feeds :
           (λ element. ap (λ l. is_some (found (eq element) (own_hash feeds element) l)) has.entries ∙ has_all has.items [] element
           ∙ ap (λ o. is_some o || is_member eq has.items element) (none_found {K = T} {V = Unit {0}} [] refl (eq element) (own_hash feeds element))),
     )
+
+-- the list is that of the elements, inserted in their order
+pub each_collected : {T S U : Type 0} (eq : T → T → Bool) (steps : S → Option (Hashed T) → S → Type 0) (becomes : U → S → Type 0) (iter : U) (remaining : S → Count) (set : Set T)
+    → Collects eq element_entry steps becomes remaining iter set → InsertsEach eq steps becomes iter set
+each_collected eq steps becomes iter remaining set has = (
+  has.it,
+  has.made,
+  run_of steps has.it has.items (λ xs. set.entries ≡ insert_all eq [] (map element_entry xs)) has.drained has.entries,
+)
 
 -- elements that were given under their own hashes stay so
 pub own_collected : {T S U : Type 0} (eq : T → T → Bool) (steps : S → Option (Hashed T) → S → Type 0) (becomes : U → S → Type 0) (iter : U) (remaining : S → Count) (set : Set T)

@@ -1,5 +1,5 @@
 -- Sets of an iterator's items.
-use Rattle.std.specs.Prelude.{◌≡◌, ◌||◌, ◌+◌, ◌≤◌, Bool, false, OnOk, Option, Result, map}
+use Rattle.std.specs.Prelude.{◌≡◌, ◌||◌, ◌+◌, ◌≤◌, [], Bool, false, OnOk, Option, Result, map}
 use Rattle.std.specs.Hash.{HashWrites}
 use Rattle.std.specs.Iterator.{Count, size}
 use Rattle.std.specs.Iterator.Runs.{WholeRun}
@@ -8,7 +8,7 @@ use Rattle.std.specs.Set.{is_member}
 use Rattle.starlark_hash.specs.declared.hashed.Hashed.{Hashed}
 use Rattle.starlark_lists.specs.Entries.{Entry}
 use Rattle.starlark_small.specs.Calling.{AreOwn, AreOwnEntries, contains}
-use Rattle.starlark_small.specs.Collect.{Collects, Extends, IsExtended}
+use Rattle.starlark_small.specs.Collect.{Collects, Extends, IsExtended, insert_all}
 use Rattle.starlark_small.specs.Map.{own_hashed}
 use Rattle.starlark_sets.specs.Set.{Set}
 
@@ -46,6 +46,10 @@ module _ {T S U : Type 0} (eq : T → T → Bool) (feeds : T → HashWrites) (st
     pub memory : IsExtended ((it : S) → becomes iter it → size (remaining it) ≤ old.room) old new r
     pub left : (it : S) × becomes iter it × (old.room ≤ new.room + size (remaining it))
     pub own : AreOwn feeds old → AreOwn feeds new
+
+-- the set has the iterator's elements, inserted in their order
+abbrev pub InsertsEach : {T S U : Type 0} → (T → T → Bool) → (S → Option (Hashed T) → S → Type 0) → (U → S → Type 0) → U → Set T → Type 0
+InsertsEach {T} {S} {U} eq steps becomes iter s = (it : S) × becomes iter it × WholeRun steps it (λ p. s.entries ≡ insert_all eq [] (map element_entry p.items))
 
 -- if the iterator's elements stand under their own hashes, the set's do
 abbrev pub KeepsOwn : {T S U : Type 0} → (S → Option (Hashed T) → S → Type 0) → (U → S → Type 0) → U → Set T → Type 0

@@ -18,7 +18,7 @@ use Rattle.starlark_lists.specs.Finding.{found}
 use Rattle.starlark_lists.specs.Insertion.{insert_entry}
 use Rattle.starlark_lists.proofs.PositionLemmas.{position-cons}
 use Rattle.starlark_small.specs.Calling.{AreOwn, AreOwnEntries}
-use Rattle.starlark_small.specs.Collect.{Collects, Extends, FindsLast, KeepsOwn, insert_all, own_entry}
+use Rattle.starlark_small.specs.Collect.{Collects, Extends, FindsLast, InsertsEach, KeepsOwn, insert_all, own_entry}
 use Rattle.starlark_small.specs.Map.{Map, own_hashed}
 use Rattle.starlark_small.proofs.CallerOwn.{own-inserted_entries}
 use Rattle.starlark_small.proofs.CallerUpdates.{empty-found, is_some-found, writes-inserted}
@@ -77,6 +77,14 @@ module _ {K V T U : Type 0} (eq : K → K → Bool) (steps : T → Option (Entry
     has.made,
     run_of steps has.it has.items (λ xs. (feeds : K → HashWrites) → AreOwnEntries feeds xs → AreOwn feeds m) has.drained
         (λ feeds own. own-inserted_entries feeds eq m.entries has.items (has.entries ∙ ap (insert_all eq []) (map-id has.items)) own),
+  )
+
+  -- the list is that of the items, inserted in their order
+  pub each_collected : (remaining : T → Count) (m : Map K V) → Collects eq (λ item. item) steps becomes remaining iter m → InsertsEach eq steps becomes iter m
+  each_collected remaining m has = (
+    has.it,
+    has.made,
+    run_of steps has.it has.items (λ xs. m.entries ≡ insert_all eq [] xs) has.drained (has.entries ∙ ap (insert_all eq []) (map-id has.items)),
   )
 
 module _ {K V : Type 0} (eq : K → K → Bool) (laws : IsEquivalence eq) (key : K → K → Type 0) (value : V → V → Type 0) (equal : (x y : K) → key x y → eq x y ≡ true) where

@@ -84,3 +84,7 @@ module _ {K V T U : Type 0} (eq : K → K → Bool) (feeds : K → HashWrites) (
 -- if the iterator's items stand under their keys' own hashes, the map's entries do
 abbrev pub KeepsOwn : {K V T U : Type 0} → (T → Option (Entry K V) → T → Type 0) → (U → T → Type 0) → U → Map K V → Type 0
 KeepsOwn {K} {V} {T} {U} steps becomes iter m = (it : T) × becomes iter it × WholeRun steps it (λ p. (feeds : K → HashWrites) → AreOwnEntries feeds p.items → AreOwn feeds m)
+
+-- the map has the iterator's items, inserted in their order
+abbrev pub InsertsEach : {K V T U : Type 0} → (K → K → Bool) → (T → Option (Entry K V) → T → Type 0) → (U → T → Type 0) → U → Map K V → Type 0
+InsertsEach {K} {V} {T} {U} eq steps becomes iter m = (it : T) × becomes iter it × WholeRun steps it (λ p. m.entries ≡ insert_all eq [] p.items)

@@ -1,11 +1,12 @@
 //! Copies of small maps, and what a closure keeps of them.
 ghost use Rattle.std.specs.Hash as fed;
-ghost use Rattle.std.specs.Prelude.{◌≡◌, ◌≤◌, ℕ, length, nat_eq, nat_lt, not, true, filter, IfOk, ◌%◌};
+ghost use Rattle.std.specs.Prelude.{◌≡◌, ◌≤◌, ℕ, [], length, nat_eq, nat_lt, not, true, filter, IfOk, ◌%◌};
 ghost use Rattle.std.specs.String.{string_bytes};
 ghost use Rattle.std.specs.Str.{bytes_eq};
 ghost use Rattle.starlark_lists.specs.Entries.{entry_key, entry_value};
 ghost use Rattle.starlark_small.specs.Calling.{get, contains, AreOwn, AreOwnEntries};
 ghost use Rattle.starlark_small.specs.Clone.{IsEqualClone};
+ghost use Rattle.starlark_small.specs.Collect.{insert_all};
 
 use starlark_hash::Hashed;
 use starlark_small::SmallMap;
@@ -38,14 +39,25 @@ pub fn copied_named(map: &SmallMap<String, u64>) -> Result<SmallMap<String, u64>
     map.clone()
 }
 
-/// A map of entries, each under its key's own hash.
+/// A map of entries, each under its hash, inserted in their order.
 pub fn of_entries<K: Eq + Hash + Drop, V: Drop>(
     alloc: Global,
     entries: Vec<(Hashed<K>, V)>,
 ) -> Result<SmallMap<K, V>, AllocError>
+    ensures each { IfOk result (λ map. map.entries ≡ insert_all K.eq [] entries.items) }
     ensures own { AreOwnEntries K.hash_input entries.items → IfOk result (AreOwn K.hash_input) }
 {
     SmallMap::from_iter_hashed(alloc, entries)
+}
+
+/// A map of the entries of another, inserted in their order.
+pub fn of_map<K: Eq + Drop, V: Drop>(
+    alloc: Global,
+    map: SmallMap<K, V>,
+) -> Result<SmallMap<K, V>, AllocError>
+    ensures { IfOk result (λ new. new.entries ≡ insert_all K.eq [] map.entries) }
+{
+    SmallMap::from_iter_hashed(alloc, map.into_iter_hashed())
 }
 
 /// Keeps what is above the least value.

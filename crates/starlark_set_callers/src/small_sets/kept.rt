@@ -1,17 +1,29 @@
 //! Small sets whose elements stand under their own hashes, and what is there once an element was put in.
 ghost use Rattle.std.specs.Hash as fed;
-ghost use Rattle.std.specs.Prelude.{◌≡◌, ◌+◌, ℕ, None, length, nat_eq, false, true, IfOk, OnErr, OnOk, if◌then◌else◌, not};
+ghost use Rattle.std.specs.Prelude.{◌≡◌, ◌+◌, ℕ, None, [], length, map, nat_eq, false, true, IfOk, OnErr, OnOk, if◌then◌else◌, not};
 ghost use Rattle.std.specs.String.{string_bytes, string_eq};
 ghost use Rattle.std.specs.declared.alloc.Global.{Global};
 ghost use Rattle.std.specs.declared.string.String.{String};
 ghost use Rattle.starlark_lists.specs.Entries.{match_of};
 ghost use Rattle.starlark_small.specs.Calling.{contains, contains_text, AreOwn};
+ghost use Rattle.starlark_sets.specs.Collect.{element_entry};
+ghost use Rattle.starlark_small.specs.Collect.{insert_all};
 ghost use Rattle.starlark_small.specs.Map.{own_hashed};
 
 use starlark_hash::{Hashed, NoRoom, TextKey};
 use starlark_sets::SmallSet;
 use std::alloc::{AllocError, Global};
 use std::hash::Hash;
+
+/// A set of elements, each under its hash, inserted in their order.
+pub fn of_hashed<T: Eq + Drop>(
+    alloc: Global,
+    elements: Vec<Hashed<T>>,
+) -> Result<SmallSet<T>, AllocError>
+    ensures { IfOk result (λ set. set.entries ≡ insert_all T.eq [] (map element_entry elements.items)) }
+{
+    SmallSet::from_iter_hashed(alloc, elements)
+}
 
 /// Puts an element in: elements under their own hashes stay so.
 pub fn add_any<T: Eq + Hash + Drop>(set: &mut SmallSet<T>, n: T) -> Result<bool, NoRoom<T>>

@@ -2,7 +2,7 @@
 ghost use Rattle.std.specs.Prelude.{◌≡◌, IfOk, IsOk};
 ghost use Rattle.std.specs.Iterator.{IsFiniteIterable, size};
 ghost use Rattle.starlark_small.specs.Collect.{Collects};
-ghost use Rattle.starlark_sets.specs.Collect.{IsSetOf, KeepsOwn, TakesInEach, element_entry};
+ghost use Rattle.starlark_sets.specs.Collect.{InsertsEach, IsSetOf, KeepsOwn, TakesInEach, element_entry};
 
 use super::SmallSet;
 use crate::with_unit::WithUnit;
@@ -46,6 +46,7 @@ impl<T: Eq + Drop> SmallSet<T> {
     ) -> Result<Self, AllocError>
         requires { IsFiniteIterable I.into_iter_gives I.IntoIter.can_next I.IntoIter.remaining iter }
         ensures set { IfOk result (Collects T.eq element_entry I.IntoIter.next_gives I.into_iter_gives I.IntoIter.remaining iter) }
+        ensures each { IfOk result (InsertsEach T.eq I.IntoIter.next_gives I.into_iter_gives iter) }
         ensures own { IfOk result (KeepsOwn I.IntoIter.next_gives I.into_iter_gives iter) }
         ensures succeeds { ((it : _) → I.into_iter_gives iter it → size (I.IntoIter.remaining it) ≡ 0) → IsOk result }
     {

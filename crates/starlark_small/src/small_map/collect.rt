@@ -1,7 +1,7 @@
 //! `SmallMap`s from the items of iterators.
 ghost use Rattle.std.specs.Prelude.{◌≡◌, ◌+◌, ◌≤◌, None, IfOk, IsOk};
 ghost use Rattle.std.specs.Iterator.{IsFiniteIterable, IsFinite, size};
-ghost use Rattle.starlark_small.specs.Collect.{Collects, FindsLast, Inserts, IsExtended, KeepsOwn, own_entry};
+ghost use Rattle.starlark_small.specs.Collect.{Collects, FindsLast, Inserts, InsertsEach, IsExtended, KeepsOwn, own_entry};
 ghost use Rattle.starlark_small.specs.Making.{IsMadeOf, TakesIn};
 
 use super::SmallMap;
@@ -69,6 +69,7 @@ impl<K: Eq + Drop, V: Drop> SmallMap<K, V> {
     ) -> Result<Self, AllocError>
         requires { IsFiniteIterable I.into_iter_gives I.IntoIter.can_next I.IntoIter.remaining iter }
         ensures map { IfOk result (Collects K.eq (λ item. item) I.IntoIter.next_gives I.into_iter_gives I.IntoIter.remaining iter) }
+        ensures each { IfOk result (InsertsEach K.eq I.IntoIter.next_gives I.into_iter_gives iter) }
         ensures own { IfOk result (KeepsOwn I.IntoIter.next_gives I.into_iter_gives iter) }
         ensures succeeds { ((it : _) → I.into_iter_gives iter it → size (I.IntoIter.remaining it) ≡ 0) → IsOk result }
     {

@@ -1,6 +1,6 @@
 use Rattle.std.proofs.Common.{sym, subst}
 use Rattle.starlark_sets.specs.Collect.{element_entry}
-use Rattle.starlark_sets.proofs.Collecting.{collects_alone, own_collected}
+use Rattle.starlark_sets.proofs.Collecting.{collects_alone, each_collected, own_collected}
 use Rattle.starlark_sets.proofs.small_set.SmallSet.from_iter_hashed.Goals as goal
 
 pub returns-clause-set : goal.returns-clause-set
@@ -11,3 +11,7 @@ returns-clause-set g c =
 pub returns-clause-own : goal.returns-clause-own
 returns-clause-own g c =
     own_collected g.T.PartialEq.eq g.I.IntoIter.Iterator.next_gives g.I.IntoIterator.into_iter_gives c.args.iter g.I.IntoIter.Iterator.remaining _ (returns-clause-set g c)
+
+pub returns-clause-each : goal.returns-clause-each
+returns-clause-each g c =
+    each_collected g.T.PartialEq.eq g.I.IntoIter.Iterator.next_gives g.I.IntoIterator.into_iter_gives c.args.iter g.I.IntoIter.Iterator.remaining _ (returns-clause-set g c)

@@ -4,7 +4,7 @@ use Rattle.starlark_lists.specs.Entries.{Entry}
 use Rattle.starlark_small.proofs.Growing.{stepped_from}
 use Rattle.starlark_small.specs.Collect.{insert_all}
 use Rattle.starlark_small.specs.Index.{unindexed}
-use Rattle.starlark_small.proofs.CallerCollected.{own_collected}
+use Rattle.starlark_small.proofs.CallerCollected.{each_collected, own_collected}
 use Rattle.starlark_small.proofs.small_map.SmallMap.from_iter_hashed.Goals as goal
 
 pub returns-clause-map : goal.returns-clause-map
@@ -27,4 +27,9 @@ returns-clause-map g c =
 pub returns-clause-own : goal.returns-clause-own
 returns-clause-own g c =
     own_collected g.K.PartialEq.eq g.I.IntoIter.Iterator.next_gives g.I.IntoIterator.into_iter_gives c.args.iter
+    g.I.IntoIter.Iterator.remaining _ (returns-clause-map g c)
+
+pub returns-clause-each : goal.returns-clause-each
+returns-clause-each g c =
+    each_collected g.K.PartialEq.eq g.I.IntoIter.Iterator.next_gives g.I.IntoIterator.into_iter_gives c.args.iter
     g.I.IntoIter.Iterator.remaining _ (returns-clause-map g c)
