@@ -14,6 +14,8 @@ mod raw_entries;
 #[cfg(test)]
 mod sets;
 #[cfg(test)]
+mod succeeds;
+#[cfg(test)]
 mod walks;
 #[cfg(test)]
 mod words;
