@@ -32,3 +32,4 @@ pub mod WalkRenamed
 mod TableOpens
 pub mod Passing
 pub mod Near
+pub mod Vacant

@@ -7,3 +7,4 @@ pub mod Layout
 pub mod Written
 pub mod Lent
 pub mod Sharing
+pub mod Vacancy

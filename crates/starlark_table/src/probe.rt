@@ -1,9 +1,10 @@
 //! Reads and writes of the slots along the way of a hash: from its home on, up to the first empty place.
-ghost use Rattle.std.specs.Prelude.{◌≡◌, ℕ, ◌+◌, ◌%◌, ◌<◌, ◌≤◌, ◌∷◌, Some, None, drop, length, IfSome, IsSome, is_some, slice_set};
+ghost use Rattle.std.specs.Prelude.{◌≡◌, ℕ, ◌+◌, ◌%◌, ◌<◌, ◌≤◌, [], ◌∷◌, Some, None, drop, length, IfSome, IsSome, is_some, slice_set};
 ghost use Rattle.std.specs.Option.{option_copied, option_map};
 ghost use Rattle.starlark_lists.specs.Search.{Searches, CanSearch};
 ghost use Rattle.starlark_table.specs.Table.{filled, holders_in};
-ghost use Rattle.starlark_table.specs.Layout.{distance, at, members_in, InPlace, IsFar, IsMask, IsTagged, TellsFar};
+ghost use Rattle.starlark_table.specs.Layout.{distance, at, members_in, InPlace, IsFar, IsMask, IsNear, IsTagged, TellsFar};
+ghost use Rattle.starlark_table.specs.Vacancy.{IsVacancy};
 
 use crate::fill::with_far;
 use crate::kept::{Kept, KeptHash};
@@ -69,6 +70,33 @@ pub(crate) fn find_slot<'a, T, H: KeptHash, F: FnMut(&T) -> bool>(
             place += 1;
         }
     }
+}
+
+// The first empty place of the home's window, where no tag there is that of the hash: then no member has the hash.
+#[inline(always)]
+pub(crate) fn vacancy<T, H: KeptHash>(
+    slots: &Slots<T, H>,
+    tags: &[u8],
+    mask: usize,
+    hash: Kept<H>,
+) -> Option<usize>
+    requires mask { IsMask mask slots.now }
+    requires in_place { InPlace (length slots.now) slots.now }
+    requires tagged { IsTagged tags.now slots.now }
+    ensures none { IfSome result (λ _. holders_in hash slots.now ≡ []) }
+    ensures vacant { IfSome result (λ place. IsVacancy hash slots.now place) }
+{
+    if slots.places() == 0 {
+        return None;
+    }
+    let number = hash.number();
+    let start = home(number, mask);
+    let same = places_with(tags, start, tag(number));
+    let empty = places_with(tags, start, EMPTY);
+    if same != 0 || empty == 0 {
+        return None;
+    }
+    Some(start + empty.trailing_zeros() as usize)
 }
 
 // The first empty place from one on.
@@ -143,6 +171,27 @@ pub(crate) fn put<T, H: KeptHash>(
     tags[place] = tag(number);
     slots.write(place, (hash, item));
     place
+}
+
+// Puts a member into a place that `vacancy` answered for its hash, and its tag beside it.
+#[inline(always)]
+pub(crate) fn put_at<T, H: KeptHash>(
+    slots: &mut Slots<T, H>,
+    tags: &mut [u8],
+    place: usize,
+    hash: Kept<H>,
+    item: T,
+)
+    requires in_place { InPlace (length slots.old) slots.old }
+    requires tagged { IsTagged tags.old slots.old }
+    requires vacant { IsVacancy hash slots.old place }
+    ensures set { slots.new ≡ slice_set slots.old place (Some (hash, item)) }
+    ensures in_place { InPlace (length slots.new) slots.new }
+    ensures tagged { IsTagged tags.new slots.new }
+    ensures near { IsNear (length slots.old) slots.old → IsNear (length slots.new) slots.new }
+{
+    tags[place] = tag(hash.number());
+    slots.write(place, (hash, item));
 }
 
 // Whether a member stands in a slot.

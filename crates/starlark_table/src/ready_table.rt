@@ -6,6 +6,7 @@ ghost use Rattle.std.specs.List.Retain.{RetainsInTurn};
 ghost use Rattle.starlark_lists.specs.Search.{Searches, CanSearch};
 ghost use Rattle.starlark_table.specs.Table.{members, table_capacity, table_len, member_at, item_in, items_of, items_under, GrowsAsNeeded, IsTableClone, NeedsNoMemory};
 ghost use Rattle.starlark_table.specs.Growth.{most_for};
+ghost use Rattle.starlark_table.specs.Vacancy.{IsVacancy};
 ghost use Rattle.starlark_table.specs.Walk.{CanReplace, ReplacesEach, CanRetain, AsksMember};
 
 mod lends;
@@ -18,7 +19,7 @@ use crate::growth::{clone_members, empty_places, limit, move_all, places_for};
 use crate::iter::{IntoIter, Iter};
 use crate::kept::{Kept, KeptHash};
 use crate::places::mask_of;
-use crate::probe::{Slots, find_slot, item_at, put};
+use crate::probe::{Slots, find_slot, item_at, put, put_at, vacancy};
 use crate::tags::{WINDOW, tags_beside, untag};
 use crate::walks::{drop_all, empty_all, next_full, replace_items, retain_items};
 use starlark_columns::{Bytes, Column};
@@ -176,6 +177,21 @@ impl<T, H: KeptHash> ReadyTable<T, H> {
         Some(item)
     }
 
+    /// An empty slot for a new item under this hash, where one look at the slots shows it, and that no item is under the
+    /// hash; mostly it does where none is. The slot is good until the next change.
+    #[inline(always)]
+    pub fn vacancy(&self, hash: H) -> Option<usize>
+        ensures none { IfSome result (λ _. items_under (H.number hash) self.now ≡ []) }
+        ensures vacant { IfSome result (λ slot. IsVacancy (H.number hash) self.now.slots slot) }
+    {
+        vacancy(
+            &self.slots,
+            self.tags.as_slice(tags_beside(&self.slots)),
+            mask_of(&self.slots),
+            Kept::of(hash),
+        )
+    }
+
     /// The first slot from one on that has a member, if there is one.
     #[inline]
     pub fn next_full(&self, from: usize) -> Option<usize>
@@ -262,6 +278,29 @@ impl<T, H: KeptHash> ReadyTable<T, H> {
         );
         self.fill += 2;
         slot
+    }
+
+    /// The same at a slot that `vacancy` answered for this hash, with no change since: no slot is looked for.
+    #[inline(always)]
+    pub fn insert_at(&mut self, hash: H, item: T, slot: usize)
+        requires room { 0 < self.old.room }
+        requires vacant { IsVacancy (H.number hash) self.old.slots slot }
+        ensures empty { member_at self.old slot ≡ None }
+        ensures within { slot < length self.old.slots }
+        ensures slots { self.new.slots ≡ slice_set self.old.slots slot (Some (H.number hash, item)) }
+        ensures named { member_at self.new slot ≡ Some (H.number hash, item) }
+        ensures added { IsPermutation ((H.number hash, item) ∷ members self.old) (members self.new) }
+        ensures room { table_capacity self.new ≡ table_capacity self.old }
+    {
+        let count = tags_beside(&self.slots);
+        put_at(
+            &mut self.slots,
+            self.tags.as_mut_slice(count),
+            slot,
+            Kept::of(hash),
+            item,
+        );
+        self.fill += 2;
     }
 
     /// Makes room for so many insertions at least. It asks for no memory, and changes nothing, where the room is there;
