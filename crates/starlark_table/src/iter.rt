@@ -1,6 +1,6 @@
 //! The iterators of a `ReadyTable`. Each goes along the walk, and is seen as the list of the items that are left.
 ghost use Rattle.std.specs.Prelude.{◌≡◌, length, ⊤, IfSome, Some};
-ghost use Rattle.std.specs.Iterator.{YieldsFirst, YieldsFirstRef, UpTo, at_most, item_count};
+ghost use Rattle.std.specs.Iterator.{YieldsFirst, YieldsFirstBy, YieldsFirstRef, UpTo, at_most, item_count};
 ghost use Rattle.std.specs.Iterator.SizeHint.{IsWithinCount};
 ghost use Rattle.starlark_table.specs.Table.{filled, items_in};
 
@@ -148,6 +148,22 @@ impl<T, H: KeptHash> IntoIter<T, H> {
             left,
         }
     }
+
+    /// The member that `next` would give, under its hash as the table kept it, so that another table can take it in.
+    #[inline]
+    pub fn next_kept(&mut self) -> Option<(H, T)>
+        ensures { YieldsFirstBy (λ m. (H.number m.0, m.1)) (λ rest. rest) self.old result self.new }
+    {
+        if self.left == 0 {
+            return None;
+        }
+        let count = tags_beside(&self.slots);
+        let slot = self.ahead.step(&self.slots, self.tags.as_slice(count));
+        self.left -= 1;
+        self.tags.as_mut_slice(count)[slot] = EMPTY;
+        let (hash, item) = self.slots.take(slot);
+        Some((hash.into_inner(), item))
+    }
 }
 
 impl<T: Drop, H: KeptHash> Iterator for IntoIter<T, H> {
@@ -159,14 +175,7 @@ impl<T: Drop, H: KeptHash> Iterator for IntoIter<T, H> {
 
     #[inline]
     fn next(&mut self) -> Option<(u64, T)> {
-        if self.left == 0 {
-            return None;
-        }
-        let count = tags_beside(&self.slots);
-        let slot = self.ahead.step(&self.slots, self.tags.as_slice(count));
-        self.left -= 1;
-        self.tags.as_mut_slice(count)[slot] = EMPTY;
-        let (hash, item) = self.slots.take(slot);
+        let (hash, item) = self.next_kept()?;
         Some((hash.number(), item))
     }
 

@@ -6,20 +6,21 @@ ghost use Rattle.std.specs.Map.Iter.{TakesFirst};
 ghost use Rattle.starlark_table.specs.Table.{items_in};
 ghost use Rattle.starlark_table.specs.Lends.{written_through};
 
+use crate::kept::KeptHash;
 use crate::loan::Loan;
 use std::iter::FusedIterator;
 use std::marker::Model;
 
 /// The items of a table, each by `&mut`. It is seen as the items that are left, and the name of its loan.
 #[derive(Drop)]
-pub struct IterMut<'a, T> {
-    loan: Loan<'a, T>,
+pub struct IterMut<'a, T, H: KeptHash = u64> {
+    loan: Loan<'a, T, H>,
     slot: usize,
     end: usize,
     left: usize,
 }
 
-impl<'a, T> Model for IterMut<'a, T> {
+impl<'a, T, H: KeptHash> Model for IterMut<'a, T, H> {
     ghost use Rattle.std.specs.Prelude.{◌≡◌, ◌+◌, List, length};
     ghost use Rattle.std.specs.Borrow.{GName};
     ghost use Rattle.starlark_table.specs.Table.{filled, items_in};
@@ -31,12 +32,12 @@ impl<'a, T> Model for IterMut<'a, T> {
     ghost invariant = { λ it. (it.slot ≡ it.loan.from) × (it.end ≡ it.loan.from + length it.loan.rest) × (it.left ≡ length (filled it.loan.rest)) };
 }
 
-impl<'a, T> IterMut<'a, T> {
+impl<'a, T, H: KeptHash> IterMut<'a, T, H> {
     ghost use Rattle.std.specs.Prelude.{length};
     ghost use Rattle.starlark_table.specs.Table.{filled};
 
     #[inline]
-    pub(crate) fn new(loan: Loan<'a, T>, end: usize, left: usize) -> Self
+    pub(crate) fn new(loan: Loan<'a, T, H>, end: usize, left: usize) -> Self
         requires { (loan.from ≡ 0) × (end ≡ length loan.rest) × (left ≡ length (filled loan.rest)) }
         ensures { (result.0 ≡ items_in loan.entry.rest) × (result.1 ≡ loan.entry.tie) }
     {
@@ -49,7 +50,7 @@ impl<'a, T> IterMut<'a, T> {
     }
 }
 
-impl<'a, T> Iterator for IterMut<'a, T> {
+impl<'a, T, H: KeptHash> Iterator for IterMut<'a, T, H> {
     type Item = &'a mut T;
 
     ghost next_gives = { λ s r t. TakesFirst written_through s.0 r t.0 };
@@ -80,11 +81,11 @@ impl<'a, T> Iterator for IterMut<'a, T> {
     }
 }
 
-impl<'a, T> ExactSizeIterator for IterMut<'a, T> {
+impl<'a, T, H: KeptHash> ExactSizeIterator for IterMut<'a, T, H> {
     #[inline]
     fn len(&self) -> usize {
         self.left
     }
 }
 
-impl<'a, T> FusedIterator for IterMut<'a, T> {}
+impl<'a, T, H: KeptHash> FusedIterator for IterMut<'a, T, H> {}

@@ -84,6 +84,13 @@ impl<H: KeptHash> Kept<H> {
     }
 
     #[inline]
+    pub(crate) fn into_inner(self) -> H
+        ensures { H.number result ≡ self }
+    {
+        self.0
+    }
+
+    #[inline]
     pub(crate) fn copied(&self) -> Self
         ensures { result ≡ self.now }
     {

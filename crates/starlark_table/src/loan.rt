@@ -4,7 +4,7 @@ ghost use Rattle.std.specs.Map.Iter.{deref_pair_mut};
 ghost use Rattle.std.specs.Option.{option_copied_mut, option_map};
 ghost use Rattle.starlark_table.specs.Lent.{AreMarked};
 
-use crate::kept::Kept;
+use crate::kept::{Kept, KeptHash};
 use crate::tags::EMPTY;
 use starlark_columns::loan::{AllButLast, First};
 use std::marker::Model;
@@ -12,13 +12,13 @@ use std::marker::Model;
 // The right to the slots that are still to be taken, `rest`, which begin with the `from`-th. Their hashes are frozen.
 // `tie` is the loan of all, which the table follows.
 #[derive(Drop)]
-pub(crate) struct Loan<'a, T> {
-    places: starlark_columns::Loan<'a, (Kept<u64>, T), First>,
+pub(crate) struct Loan<'a, T, H: KeptHash> {
+    places: starlark_columns::Loan<'a, (Kept<H>, T), First>,
     // They alone tell at run time which slots are full.
     tags: &'a [u8],
 }
 
-impl<'a, T> Model for Loan<'a, T> {
+impl<'a, T, H: KeptHash> Model for Loan<'a, T, H> {
     ghost use Rattle.starlark_table.specs.Lent.{AreMarked, Lent, lent_code};
 
     ghost Value = { Lent T };
@@ -30,10 +30,10 @@ impl<'a, T> Model for Loan<'a, T> {
     ghost invariant = { λ l. AreMarked l.tags.now l.places.from l.places.rest };
 }
 
-impl<'a, T> Loan<'a, T> {
+impl<'a, T, H: KeptHash> Loan<'a, T, H> {
     #[inline]
     pub(crate) fn new(
-        places: starlark_columns::Loan<'a, (Kept<u64>, T), First>,
+        places: starlark_columns::Loan<'a, (Kept<H>, T), First>,
         tags: &'a [u8],
     ) -> Self
         requires { AreMarked tags.now places.from places.rest }
@@ -61,12 +61,12 @@ impl<'a, T> Loan<'a, T> {
 
 // The same of slots with pairs, of which hashes and keys are frozen.
 #[derive(Drop)]
-pub(crate) struct PairLoan<'a, K, V> {
-    places: starlark_columns::Loan<'a, (Kept<u64>, (K, V)), AllButLast>,
+pub(crate) struct PairLoan<'a, K, V, H: KeptHash> {
+    places: starlark_columns::Loan<'a, (Kept<H>, (K, V)), AllButLast>,
     tags: &'a [u8],
 }
 
-impl<'a, K, V> Model for PairLoan<'a, K, V> {
+impl<'a, K, V, H: KeptHash> Model for PairLoan<'a, K, V, H> {
     ghost use Rattle.std.specs.Coded.{coded×};
     ghost use Rattle.starlark_table.specs.Lent.{AreMarked, Lent, lent_code};
 
@@ -79,10 +79,10 @@ impl<'a, K, V> Model for PairLoan<'a, K, V> {
     ghost invariant = { λ l. AreMarked l.tags.now l.places.from l.places.rest };
 }
 
-impl<'a, K, V> PairLoan<'a, K, V> {
+impl<'a, K, V, H: KeptHash> PairLoan<'a, K, V, H> {
     #[inline]
     pub(crate) fn new(
-        places: starlark_columns::Loan<'a, (Kept<u64>, (K, V)), AllButLast>,
+        places: starlark_columns::Loan<'a, (Kept<H>, (K, V)), AllButLast>,
         tags: &'a [u8],
     ) -> Self
         requires { AreMarked tags.now places.from places.rest }

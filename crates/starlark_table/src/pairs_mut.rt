@@ -5,20 +5,21 @@ ghost use Rattle.std.specs.Iterator.SizeHint.{IsWithinCount};
 ghost use Rattle.std.specs.Map.Iter.{TakesFirst, deref_pair_mut};
 ghost use Rattle.starlark_table.specs.Table.{items_in};
 
+use crate::kept::KeptHash;
 use crate::loan::PairLoan;
 use std::iter::FusedIterator;
 use std::marker::Model;
 
 /// The pairs of a table, each as `(&K, &mut V)`. It is seen as the pairs that are left, and the name of its loan.
 #[derive(Drop)]
-pub struct PairsMut<'a, K, V> {
-    loan: PairLoan<'a, K, V>,
+pub struct PairsMut<'a, K, V, H: KeptHash = u64> {
+    loan: PairLoan<'a, K, V, H>,
     slot: usize,
     end: usize,
     left: usize,
 }
 
-impl<'a, K, V> Model for PairsMut<'a, K, V> {
+impl<'a, K, V, H: KeptHash> Model for PairsMut<'a, K, V, H> {
     ghost use Rattle.std.specs.Prelude.{◌≡◌, ◌+◌, List, length};
     ghost use Rattle.std.specs.Borrow.{GName};
     ghost use Rattle.starlark_table.specs.Table.{filled, items_in};
@@ -30,12 +31,12 @@ impl<'a, K, V> Model for PairsMut<'a, K, V> {
     ghost invariant = { λ it. (it.slot ≡ it.loan.from) × (it.end ≡ it.loan.from + length it.loan.rest) × (it.left ≡ length (filled it.loan.rest)) };
 }
 
-impl<'a, K, V> PairsMut<'a, K, V> {
+impl<'a, K, V, H: KeptHash> PairsMut<'a, K, V, H> {
     ghost use Rattle.std.specs.Prelude.{length};
     ghost use Rattle.starlark_table.specs.Table.{filled};
 
     #[inline]
-    pub(crate) fn new(loan: PairLoan<'a, K, V>, end: usize, left: usize) -> Self
+    pub(crate) fn new(loan: PairLoan<'a, K, V, H>, end: usize, left: usize) -> Self
         requires { (loan.from ≡ 0) × (end ≡ length loan.rest) × (left ≡ length (filled loan.rest)) }
         ensures { (result.0 ≡ items_in loan.entry.rest) × (result.1 ≡ loan.entry.tie) }
     {
@@ -48,7 +49,7 @@ impl<'a, K, V> PairsMut<'a, K, V> {
     }
 }
 
-impl<'a, K, V> Iterator for PairsMut<'a, K, V> {
+impl<'a, K, V, H: KeptHash> Iterator for PairsMut<'a, K, V, H> {
     type Item = (&'a K, &'a mut V);
 
     ghost next_gives = { λ s r t. TakesFirst deref_pair_mut s.0 r t.0 };
@@ -79,11 +80,11 @@ impl<'a, K, V> Iterator for PairsMut<'a, K, V> {
     }
 }
 
-impl<'a, K, V> ExactSizeIterator for PairsMut<'a, K, V> {
+impl<'a, K, V, H: KeptHash> ExactSizeIterator for PairsMut<'a, K, V, H> {
     #[inline]
     fn len(&self) -> usize {
         self.left
     }
 }
 
-impl<'a, K, V> FusedIterator for PairsMut<'a, K, V> {}
+impl<'a, K, V, H: KeptHash> FusedIterator for PairsMut<'a, K, V, H> {}

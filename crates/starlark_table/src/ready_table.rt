@@ -85,7 +85,9 @@ impl<T> ReadyTable<T> {
 impl<T, H: KeptHash> ReadyTable<T, H> {
     ghost use Rattle.starlark_table.specs.Lends.{lends_item, lends_get};
 
-    fn without_slots(alloc: Global) -> ReadyTable<T, H>
+    /// As `new`, in the form in which `H` keeps hashes.
+    pub fn without_slots(alloc: Global) -> ReadyTable<T, H>
+        ensures empty { members result ≡ [] }
         ensures slots { result.slots ≡ [] }
         ensures room { result.room ≡ 0 }
     {

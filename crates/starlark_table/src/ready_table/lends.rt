@@ -8,7 +8,7 @@ ghost use Rattle.starlark_table.specs.Table.{items_of};
 
 use super::ReadyTable;
 use crate::iter_mut::IterMut;
-use crate::kept::Kept;
+use crate::kept::{Kept, KeptHash};
 use crate::loan::Loan;
 use crate::probe::Slots;
 use crate::tags::tags_beside;
@@ -17,10 +17,10 @@ use starlark_columns::loan::{First, Keeps};
 
 // The members of slots, to be written but for what `P` keeps.
 #[inline]
-fn lend_members<T, P: Keeps<(Kept<u64>, T)>>(
-    slots: &mut Slots<T, u64>,
-) -> starlark_columns::Loan<'_, (Kept<u64>, T), P>
-    ensures* writes_back { sem 𝓛 (places_follow (Member T.row) P.kept slots.entry result.tie) }
+fn lend_members<T, H: KeptHash, P: Keeps<(Kept<H>, T)>>(
+    slots: &mut Slots<T, H>,
+) -> starlark_columns::Loan<'_, (Kept<H>, T), P>
+    ensures* writes_back { sem 𝓛 (places_follow (Member T.row H.row ⟦<H as KeptHash>⟧) P.kept slots.entry result.tie) }
     ensures untouched { result.from ≡ 0 }
     ensures rest { result.rest ≡ slots.old }
 {
@@ -38,11 +38,11 @@ fn shown(tags: &mut Bytes) -> &Bytes
 
 // Both at once.
 #[inline]
-fn lend_fields<'a, T, P: Keeps<(Kept<u64>, T)>>(
-    slots: &'a mut Slots<T, u64>,
+fn lend_fields<'a, T, H: KeptHash, P: Keeps<(Kept<H>, T)>>(
+    slots: &'a mut Slots<T, H>,
     tags: &'a mut Bytes,
-) -> (starlark_columns::Loan<'a, (Kept<u64>, T), P>, &'a Bytes)
-    ensures* slots { sem 𝓛 (places_follow (Member T.row) P.kept slots.entry result.0.tie) }
+) -> (starlark_columns::Loan<'a, (Kept<H>, T), P>, &'a Bytes)
+    ensures* slots { sem 𝓛 (places_follow (Member T.row H.row ⟦<H as KeptHash>⟧) P.kept slots.entry result.0.tie) }
     ensures* tags { sem 𝓛 (tags_stay tags.entry) }
     ensures untouched { result.0.from ≡ 0 }
     ensures rest { result.0.rest ≡ slots.old }
@@ -51,18 +51,18 @@ fn lend_fields<'a, T, P: Keeps<(Kept<u64>, T)>>(
     (lend_members(slots), shown(tags))
 }
 
-impl<T> ReadyTable<T> {
+impl<T, H: KeptHash> ReadyTable<T, H> {
     ghost use Rattle.starlark_table.specs.Lends.{table_follows};
     ghost use Rattle.starlark_table.specs.Sharing.{table_keeps};
 
     // The members, to be written but for what `P` keeps of them, and the tags, to be read.
     #[inline]
-    pub(super) fn lend_kept<P: Keeps<(Kept<u64>, T)>>(
+    pub(super) fn lend_kept<P: Keeps<(Kept<H>, T)>>(
         &mut self,
-    ) -> (starlark_columns::Loan<'_, (Kept<u64>, T), P>, &Bytes)
+    ) -> (starlark_columns::Loan<'_, (Kept<H>, T), P>, &Bytes)
         requires hash { (x w : ℕ × T) → (P.kept x w).0 ≡ x.0 }
         requires again { (x w : ℕ × T) → P.kept x (P.kept x w) ≡ P.kept x w }
-        ensures* writes_back { sem 𝓛 (table_keeps T.row P.kept self.entry result.0.tie) }
+        ensures* writes_back { sem 𝓛 (table_keeps T.row H.row ⟦<H as KeptHash>⟧ P.kept self.entry result.0.tie) }
         ensures untouched { result.0.from ≡ 0 }
         ensures rest { result.0.rest ≡ self.old.slots }
         ensures tagged { IsTagged result.1.now self.old.slots }
@@ -71,8 +71,8 @@ impl<T> ReadyTable<T> {
     }
 
     #[inline]
-    pub(crate) fn lend(&mut self) -> Loan<'_, T>
-        ensures* writes_back { sem 𝓛 (table_follows T.row self.entry result.tie) }
+    pub(crate) fn lend(&mut self) -> Loan<'_, T, H>
+        ensures* writes_back { sem 𝓛 (table_follows T.row H.row ⟦<H as KeptHash>⟧ self.entry result.tie) }
         ensures rest { (result.from ≡ 0) × (result.rest ≡ self.old.slots) }
     {
         let count = tags_beside(&self.slots);
@@ -83,8 +83,8 @@ impl<T> ReadyTable<T> {
     /// The items along the walk, each for writing, with exact length and size hint. The table ends with the items that
     /// are left in its slots; hashes and room stay, and so does all else.
     #[inline]
-    pub fn iter_mut(&mut self) -> IterMut<'_, T>
-        ensures* writes_back { sem 𝓛 (table_follows T.row self.entry result.1) }
+    pub fn iter_mut(&mut self) -> IterMut<'_, T, H>
+        ensures* writes_back { sem 𝓛 (table_follows T.row H.row ⟦<H as KeptHash>⟧ self.entry result.1) }
         ensures items { result.0 ≡ items_of self.old }
     {
         let left = self.len();

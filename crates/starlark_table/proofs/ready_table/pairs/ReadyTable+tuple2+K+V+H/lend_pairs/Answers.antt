@@ -2,7 +2,7 @@ use Rattle.std.proofs.Common.{subst, sym}
 use Rattle.starlark_table.specs.Layout.{IsTagged}
 use Rattle.starlark_table.specs.Lent.{AreMarked}
 use Rattle.starlark_table.proofs.Marked.{marked-all}
-use Rattle.starlark_table.proofs.ready_table.lends.ReadyTable+T.lend.Goals as goal
+use Rattle.starlark_table.proofs.ready_table.pairs.ReadyTable+tuple2+K+V+H.lend_pairs.Goals as goal
 
 pub new-requires : goal.new-requires
 new-requires g c =

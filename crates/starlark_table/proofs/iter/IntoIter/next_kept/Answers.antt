@@ -1,4 +1,4 @@
-use Rattle.std.proofs.Common.{◌<◌, ◌∷◌, length, None, arith, rules, sym, ◌∙◌, ap, subst, refl}
+use Rattle.std.proofs.Common.{◌<◌, ◌∷◌, length, None, arith, sym, ◌∙◌, ap, subst, refl}
 use Rattle.std.proofs.Math.ListN.{set, length-set}
 use Rattle.starlark_table.specs.Table.{filled}
 use Rattle.starlark_table.specs.Layout.{at, IsTagged}
@@ -8,7 +8,7 @@ use Rattle.starlark_table.proofs.FullBits.{window_alike}
 use Rattle.starlark_table.proofs.Filling.{filled-past_front, filled-first_taken, empty-joined, empty-after_taken}
 use Rattle.starlark_table.proofs.TagCount.{doubled-alike, refilled}
 use Rattle.starlark_table.proofs.Tagged.{tagged-changed}
-use Rattle.starlark_table.proofs.iter.IntoIterIterator.next.Goals as goal
+use Rattle.starlark_table.proofs.iter.IntoIter.next_kept.Goals as goal
 
 pub step-slot-requires-clause-some : goal.step-slot-requires-clause-some
 step-slot-requires-clause-some g c =
@@ -42,16 +42,11 @@ invariant_of-self g c =
           (λ p behind. ap (λ l. at l p) is ∙ get_or-set_other slots i p None None (λ same. absurd (omega (arith, behind, same, c.step-slot.ensures.next)))),
     )
 
-pub returns-clause-steps : goal.returns-clause-steps
-returns-clause-steps g c =
+pub returns : goal.returns
+returns g c =
     let slots = c.self.inside.slots in
     let i = c.step-slot.result in
     let front = empty-joined slots c.self.inside.ahead.next i c.self.invariant.2 c.step-slot.ensures.passed in
     sym c.self.view_is ∙ filled-first_taken slots i c.take-hash.result front c.take-hash.ensures.value
     ∙ ap (λ l. c.take-hash.result ∷ filled l) (sym c.take-hash.ensures.places)
-    ∙ ap (λ h. (h, c.take-hash.result.1) ∷ filled c.take-hash.new.self) (sym c.number.ensures)
-
-pub returns-clause-goes : goal.returns-clause-goes
-returns-clause-goes g c =
-    let steps = returns-clause-steps g c in
-    search rules
+    ∙ ap (λ h. (h, c.take-hash.result.1) ∷ filled c.take-hash.new.self) (sym c.into_inner.ensures)
