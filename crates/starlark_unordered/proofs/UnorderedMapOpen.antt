@@ -4,7 +4,9 @@ use Rattle.starlark_columns.proofs.Walking.{◌≡◌, ℕ, zero, ◌+◌, List,
 use Rattle.std.specs.contracts.alloc.Global as Global
 use Rattle.std.specs.declared.cmp.PartialEq as PartialEq
 use Rattle.std.specs.declared.hash.Hash as Hash
-use Rattle.starlark_table.specs.Lends.{table_row}
+use Rattle.starlark_hash.specs.contracts.hash_value.StarlarkHashValue.{the_row as hash_row}
+use Rattle.starlark_table.specs.contracts.kept.StarlarkHashValueKeptHash.TheImpl.{ghosts}
+use Rattle.starlark_table.specs.contracts.ready_table.ReadyTable.{the_row as table_row}
 use Rattle.starlark_unordered.specs.declared.unordered_map.UnorderedMap.TheInside.{Inside}
 pub use Rattle.starlark_unordered.specs.contracts.unordered_map.UnorderedMap as C
 use Rattle.starlark_unordered.specs.contracts.unordered_map.UnorderedMap.TheInside as I
@@ -25,7 +27,7 @@ module _ (K V : RattleType) (g : PartialEq.Ghosts K.Denot) (h : Hash.Ghosts K.De
   member R = record { row = R; ty = lone R.mir }
 
   abbrev pub CP : RattleType
-  CP = table_row (Tuple (K ∷ V ∷ []))
+  CP = table_row (Tuple (K ∷ V ∷ [])) hash_row ghosts
 
   abbrev left : List Member
   left = member Global.the_field.row ∷ []

@@ -5,6 +5,7 @@ ghost use Rattle.std.specs.Map.{keys_of, values_of};
 ghost use Rattle.std.specs.Map.Iter.{TakesFirst, deref, deref_pair};
 ghost use Rattle.starlark_unordered.specs.Walk.{HintsExactly};
 
+use starlark_hash::StarlarkHashValue;
 use starlark_table::Iter;
 use std::iter::FusedIterator;
 use std::marker::Model;
@@ -12,7 +13,7 @@ use std::marker::Model;
 /// The pairs of a map, each as `(&K, &V)`.
 #[derive(Drop)]
 pub struct Entries<'a, K, V> {
-    inner: Iter<'a, (K, V)>,
+    inner: Iter<'a, (K, V), StarlarkHashValue>,
 }
 
 impl<'a, K, V> Model for Entries<'a, K, V> {
@@ -25,7 +26,7 @@ impl<'a, K, V> Model for Entries<'a, K, V> {
 
 impl<'a, K, V> Entries<'a, K, V> {
     #[inline]
-    pub(crate) fn new(inner: Iter<'a, (K, V)>) -> Self
+    pub(crate) fn new(inner: Iter<'a, (K, V), StarlarkHashValue>) -> Self
         ensures { result ≡ inner.entry }
     {
         Entries { inner }

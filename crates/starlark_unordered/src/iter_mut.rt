@@ -7,9 +7,13 @@ ghost use Rattle.std.specs.Map.Iter.{TakesFirst};
 ghost use Rattle.starlark_table.specs.Lends.{written_through};
 ghost use Rattle.starlark_unordered.specs.Walk.{HintsExactly};
 
-pub use starlark_table::PairsMut as EntriesMut;
+use starlark_hash::StarlarkHashValue;
+use starlark_table::PairsMut;
 use std::iter::FusedIterator;
 use std::marker::Model;
+
+/// The pairs of a map, each as `(&K, &mut V)`.
+pub type EntriesMut<'a, K, V> = PairsMut<'a, K, V, StarlarkHashValue>;
 
 /// The values of a map, each by `&mut`.
 #[derive(Drop)]

@@ -2,6 +2,7 @@
 ghost use Rattle.std.specs.Prelude.{◌++◌, map, OnOk, IsPermutation};
 ghost use Rattle.starlark_unordered.specs.Pairs.{HasDistinctKeys};
 
+use starlark_hash::StarlarkHashValue;
 use starlark_table::IntoIter;
 use std::alloc::AllocError;
 use std::collections::HashMap;
@@ -9,7 +10,7 @@ use std::hash::Hash;
 
 // Puts each pair of the walk in, under keys that are all new.
 pub(crate) fn move_pairs<K: Eq + Hash + Drop, V: Drop>(
-    mut walk: IntoIter<(K, V)>,
+    mut walk: IntoIter<(K, V), StarlarkHashValue>,
     moved: &mut HashMap<K, V>,
 ) -> Result<(), AllocError>
     requires { HasDistinctKeys K.eq (map (λ m. m.1) walk ++ moved.old.entries) }

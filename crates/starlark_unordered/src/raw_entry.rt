@@ -68,7 +68,7 @@ impl<'a, K: Eq + Hash, V> RawEntryBuilderMut<'a, K, V> {
         ensures names { NamesSlot (Q.equivalent query.now) self.entry.map (map_of_raw result) (slot_of_raw result) }
     {
         let map = self.map;
-        match map.slot_under(StarlarkHashValue::new(query).promote(), query) {
+        match map.slot_under(StarlarkHashValue::new(query), query) {
             Some(slot) => RawEntryMut::Occupied(RawOccupiedEntryMut { map, slot }),
             None => RawEntryMut::Vacant(RawVacantEntryMut { map }),
         }
@@ -204,7 +204,7 @@ impl<'a, K: Eq + Hash, V> RawVacantEntryMut<'a, K, V> {
         ensures { PlacesPair self.entry.map result.0 key value (key, value) result.1 }
     {
         let map = self.map;
-        let hash = StarlarkHashValue::new(&key).promote();
+        let hash = StarlarkHashValue::new(&key);
         let placed = map.insert_new(hash, key, value);
         (map, placed)
     }
@@ -224,7 +224,7 @@ impl<'a, K: Eq + Hash, V> RawVacantEntryMut<'a, K, V> {
     {
         let map = self.map;
         let hash = key.hash();
-        let placed = match map.insert_new(hash.promote(), key.into_key(), value) {
+        let placed = match map.insert_new(hash, key.into_key(), value) {
             Ok(slot) => Ok(slot),
             Err(NoRoom((key, value))) => Err(NoRoom((Hashed::new_unchecked(hash, key), value))),
         };

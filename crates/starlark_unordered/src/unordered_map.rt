@@ -14,6 +14,7 @@ mod walk;
 mod walk_mut;
 mod write;
 
+use starlark_hash::StarlarkHashValue;
 use starlark_table::ReadyTable;
 use std::alloc::{AllocError, Global};
 use std::hash::Hash;
@@ -26,7 +27,8 @@ use std::marker::Model;
 /// hashes in 64 bits.
 #[derive(Drop)]
 pub struct UnorderedMap<K: Eq + Hash, V> {
-    table: ReadyTable<(K, V)>,
+    // It keeps of each hash the 32 bits that are promoted.
+    table: ReadyTable<(K, V), StarlarkHashValue>,
     // Where `map_values` gets its memory.
     alloc: Global,
 }
@@ -49,7 +51,7 @@ impl<K: Eq + Hash, V> UnorderedMap<K, V> {
         ensures made { IsEmptyWith 0 result }
     {
         UnorderedMap {
-            table: ReadyTable::new(alloc),
+            table: ReadyTable::without_slots(alloc),
             alloc,
         }
     }
@@ -61,7 +63,7 @@ impl<K: Eq + Hash, V> UnorderedMap<K, V> {
         ensures makes { MakesEmptyFor capacity result }
     {
         Ok(UnorderedMap {
-            table: ReadyTable::with_capacity(alloc, capacity)?,
+            table: ReadyTable::keeping(alloc, capacity)?,
             alloc,
         })
     }

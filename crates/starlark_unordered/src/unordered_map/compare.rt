@@ -9,13 +9,13 @@ ghost use Rattle.starlark_unordered.specs.Calling.{Compares};
 ghost use Rattle.starlark_unordered.specs.Pairs.{pairs_of, pair_eq, has_equal, hash_sum, feed_pairs};
 
 use super::UnorderedMap;
-use starlark_hash::StarlarkHasher;
+use starlark_hash::{StarlarkHashValue, StarlarkHasher};
 use starlark_table::Iter;
 use std::fmt;
 use std::hash::{Hash, Hasher};
 
 // The sum in 64 bits of what a new hasher finishes with after each pair.
-fn sum_of<K: Hash, V: Hash>(mut pairs: Iter<'_, (K, V)>) -> u64
+fn sum_of<K: Hash, V: Hash>(mut pairs: Iter<'_, (K, V), StarlarkHashValue>) -> u64
     ensures { result ≡ hash_sum K.hash_input V.hash_input pairs.entry % 2 ^ 64 }
 {
     let mut sum = 0u64;
@@ -52,7 +52,10 @@ impl<K: Eq + Hash, V: Eq> PartialEq for UnorderedMap<K, V> {
 }
 
 // Whether the map has each of the pairs.
-fn found_in<K: Eq + Hash, V: Eq>(mut pairs: Iter<'_, (K, V)>, map: &UnorderedMap<K, V>) -> bool
+fn found_in<K: Eq + Hash, V: Eq>(
+    mut pairs: Iter<'_, (K, V), StarlarkHashValue>,
+    map: &UnorderedMap<K, V>,
+) -> bool
     ensures { result ≡ list_all (has_equal K.eq V.eq (pairs_of map.now)) pairs.entry }
 {
     while let Some((key, value)) = pairs.next() {

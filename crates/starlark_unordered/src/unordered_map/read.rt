@@ -16,7 +16,7 @@ impl<K: Eq + Hash, V> UnorderedMap<K, V> {
     pub fn get<Q: KeyQuery<K>>(&self, query: &Q) -> Option<&V>
         ensures finds { Finds (Q.equivalent query.now) self.now (option_copied result) }
     {
-        let (_, value) = self.pair_under(StarlarkHashValue::new(query).promote(), query)?;
+        let (_, value) = self.pair_under(StarlarkHashValue::new(query), query)?;
         Some(value)
     }
 

@@ -4,12 +4,12 @@ ghost use Rattle.std.specs.Borrow.{sem};
 ghost use Rattle.std.specs.Fn.{CalledAt, TakesAt};
 ghost use Rattle.std.specs.Map.{lookup};
 ghost use Rattle.std.specs.Option.{is_some, option_copied, option_map};
+ghost use Rattle.starlark_hash.specs.Hasher.{own_hash};
 ghost use Rattle.starlark_lists.specs.Search.{CanSearch};
 ghost use Rattle.starlark_table.specs.Table.{item_in};
 ghost use Rattle.starlark_unordered.specs.Changing.{AddsAt, TakesSlot};
 ghost use Rattle.starlark_unordered.specs.Pairs.{pairs_of, keys_under, under_own, IsSlotOf};
 ghost use Rattle.starlark_unordered.specs.RawEntry.{Accepts};
-ghost use Rattle.starlark_unordered.specs.Sound.{home_of};
 
 use super::UnorderedMap;
 use starlark_hash::{Equivalent, KeyQuery, NoRoom, StarlarkHashValue};
@@ -20,8 +20,12 @@ impl<K: Eq + Hash, V> UnorderedMap<K, V> {
 
     // The slot of the key, under the query's own hash.
     #[inline(always)]
-    pub(crate) fn slot_under<Q: KeyQuery<K>>(&self, hash: u64, query: &Q) -> Option<usize>
-        requires { hash ≡ home_of Q.hash_input query.now }
+    pub(crate) fn slot_under<Q: KeyQuery<K>>(
+        &self,
+        hash: StarlarkHashValue,
+        query: &Q,
+    ) -> Option<usize>
+        requires { hash ≡ own_hash Q.hash_input query.now }
         ensures { IsSlotOf (Q.equivalent query.now) self.now result }
     {
         self.table.find(hash, |p: &(K, V)| query.equivalent(&p.0))
@@ -36,14 +40,19 @@ impl<K: Eq + Hash, V> UnorderedMap<K, V> {
     ) -> Option<usize>
         ensures { IsSlotOf (under_own K.hash_input hash (Q.equivalent query.now)) self.now result }
     {
-        self.table
-            .find(hash.promote(), |p: &(K, V)| query.equivalent(&p.0))
+        // A hash value has 32 bits, so no other one is promoted alike.
+        prove!(hash.get() <= u32::MAX);
+        self.table.find(hash, |p: &(K, V)| query.equivalent(&p.0))
     }
 
     // The pair of the key, under the query's own hash.
     #[inline(always)]
-    pub(super) fn pair_under<Q: KeyQuery<K>>(&self, hash: u64, query: &Q) -> Option<&(K, V)>
-        requires { hash ≡ home_of Q.hash_input query.now }
+    pub(super) fn pair_under<Q: KeyQuery<K>>(
+        &self,
+        hash: StarlarkHashValue,
+        query: &Q,
+    ) -> Option<&(K, V)>
+        requires { hash ≡ own_hash Q.hash_input query.now }
         ensures { option_map (λ p. p.1) (option_copied result) ≡ lookup (Q.equivalent query.now) (pairs_of self.now) }
     {
         self.table
@@ -59,8 +68,10 @@ impl<K: Eq + Hash, V> UnorderedMap<K, V> {
     ) -> Option<&(K, V)>
         ensures { option_map (λ p. p.1) (option_copied result) ≡ lookup (under_own K.hash_input hash (Q.equivalent query.now)) (pairs_of self.now) }
     {
+        // As in `slot_hashed`.
+        prove!(hash.get() <= u32::MAX);
         self.table
-            .find_item(hash.promote(), |p: &(K, V)| query.equivalent(&p.0))
+            .find_item(hash, |p: &(K, V)| query.equivalent(&p.0))
     }
 
     // A slot under this hash whose key `is_match` accepts.
@@ -73,8 +84,10 @@ impl<K: Eq + Hash, V> UnorderedMap<K, V> {
         requires { CanSearch F.FnMut (keys_under K.hash_input hash self.now) is_match }
         ensures accepts { Accepts F.FnMut K.hash_input hash is_match self.now result }
     {
+        // As in `slot_hashed`.
+        prove!(hash.get() <= u32::MAX);
         self.table.find(
-            hash.promote(),
+            hash,
             |pair: &(K, V)| -> bool
                 requires { TakesAt F.FnMut is_match pair.now.0 }
                 ensures { CalledAt F.FnMut is_match.entry pair.now.0 result is_match.exit }
@@ -85,11 +98,11 @@ impl<K: Eq + Hash, V> UnorderedMap<K, V> {
     // Puts a new key in under its own hash, and answers its slot.
     pub(crate) fn insert_new(
         &mut self,
-        hash: u64,
+        hash: StarlarkHashValue,
         key: K,
         value: V,
     ) -> Result<usize, NoRoom<(K, V)>>
-        requires own { hash ≡ home_of K.hash_input key }
+        requires own { hash ≡ own_hash K.hash_input key }
         requires absent { lookup (K.eq key) (pairs_of self.old) ≡ None }
         ensures puts { AddsAt K.eq self.old self.new key value result }
     {

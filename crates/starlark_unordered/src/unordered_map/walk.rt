@@ -79,7 +79,7 @@ impl<K: Eq + Hash, V> UnorderedMap<K, V> {
         ensures maps { MapsEach F.FnMut K.eq f self result }
     {
         let UnorderedMap { table, alloc } = self;
-        let Ok(mut mapped) = ReadyTable::with_capacity(alloc, table.len()) else {
+        let Ok(mut mapped) = ReadyTable::keeping(alloc, table.len()) else {
             return Err(UnorderedMap { table, alloc });
         };
         map_members(table.into_iter(), &mut mapped, f);

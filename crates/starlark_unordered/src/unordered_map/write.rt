@@ -23,7 +23,7 @@ impl<K: Eq + Hash, V> UnorderedMap<K, V> {
         ensures* writes_back { sem 𝓛 (lends_at K.row V.row K.Hash self.entry (Q.equivalent query.now) result) }
         ensures finds { Finds (Q.equivalent query.now) self.old (option_copied_mut result) }
     {
-        match self.slot_under(StarlarkHashValue::new(query).promote(), query) {
+        match self.slot_under(StarlarkHashValue::new(query), query) {
             Some(slot) => Some(self.value_at_mut(slot)),
             None => None,
         }
@@ -38,7 +38,7 @@ impl<K: Eq + Hash, V> UnorderedMap<K, V> {
         K: Drop,
         ensures inserts { Inserts K.eq self.old self.new key value (key, value) (λ was. was) result }
     {
-        let hash = StarlarkHashValue::new(&key).promote();
+        let hash = StarlarkHashValue::new(&key);
         match self.slot_under(hash, &key) {
             Some(slot) => Ok(Some(mem::replace(self.value_at_mut(slot), value))),
             None => match self.insert_new(hash, key, value) {
@@ -56,7 +56,7 @@ impl<K: Eq + Hash, V> UnorderedMap<K, V> {
         K: Drop,
         ensures removes { Removes K.eq (Q.equivalent query.now) self.old self.new result }
     {
-        match self.slot_under(StarlarkHashValue::new(query).promote(), query) {
+        match self.slot_under(StarlarkHashValue::new(query), query) {
             Some(slot) => {
                 let (_key, value) = self.take_out(slot);
                 Some(value)

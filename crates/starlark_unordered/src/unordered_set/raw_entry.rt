@@ -67,7 +67,7 @@ impl<'a, T: Eq + Hash> RawEntryBuilderMut<'a, T> {
         ensures names { NamesSlot (Q.equivalent query.now) self.entry.map (set_of_raw result) (slot_of_raw result) }
     {
         let map = self.map;
-        match map.slot_under(StarlarkHashValue::new(query).promote(), query) {
+        match map.slot_under(StarlarkHashValue::new(query), query) {
             Some(slot) => RawEntryMut::Occupied(RawOccupiedEntryMut { map, slot }),
             None => RawEntryMut::Vacant(RawVacantEntryMut { map }),
         }
@@ -138,7 +138,7 @@ impl<T: Eq + Hash> RawVacantEntryMut<'_, T> {
         requires { lookup (T.eq element) (pairs_of self.map.now) ≡ None }
         ensures adds { Adds T.eq self.entry.map.now self.exit.0.now element tt element result }
     {
-        let hash = StarlarkHashValue::new(&element).promote();
+        let hash = StarlarkHashValue::new(&element);
         match self.map.insert_new(hash, element, ()) {
             Ok(_) => Ok(()),
             Err(NoRoom((element, _))) => Err(NoRoom(element)),
@@ -152,7 +152,7 @@ impl<T: Eq + Hash> RawVacantEntryMut<'_, T> {
         ensures adds { Adds T.eq self.entry.map.now self.exit.0.now (key_of element) tt element result }
     {
         let hash = element.hash();
-        match self.map.insert_new(hash.promote(), element.into_key(), ()) {
+        match self.map.insert_new(hash, element.into_key(), ()) {
             Ok(_) => Ok(()),
             Err(NoRoom((element, _))) => Err(NoRoom(Hashed::new_unchecked(hash, element))),
         }

@@ -1,7 +1,8 @@
-use Rattle.std.proofs.Common.{◌≡◌, ap, ◌∙◌, rules, of_calls, subst}
+use Rattle.std.proofs.Common.{◌≡◌, ◌<◌, ◌^◌, ap, ◌∙◌, rules, of_calls, refl, subst}
 use Rattle.std.specs.Map.{lookup}
 use Rattle.std.specs.Option.{option_copied, option_map}
 use Rattle.starlark_lists.proofs.SearchLemmas.{is_test}
+use Rattle.starlark_hash.specs.HashValue.{hash_number, promoted}
 use Rattle.starlark_unordered.specs.Pairs.{pairs_of, under_own}
 use Rattle.starlark_unordered.proofs.QuerySearch.{slot_by_hashed, value_of-slot}
 use Rattle.starlark_unordered.proofs.unordered_map.UnorderedMap.pair_hashed.Goals as goal
@@ -14,5 +15,5 @@ returns g c =
     subst (λ m. option_map (λ p. p.1) (option_copied c.find_item.result) ≡ lookup own (pairs_of m)) c.self.view_is
     (ap (option_map (λ p. p.1)) found.3 ∙ value_of-slot own c.self.inside.table found.0
     (slot_by_hashed _ g.K.PartialEq.eq g.K.Hash.hash_input g.met.K.Eq.laws t (g.met.Q.Equivalent.respects_eq c.args.query.now) c.self.inside.table c.self.invariant _ _
-    (is_test _ (λ p. t p.0) _ (λ x accepts next called. (search (rules, of_calls, called), search (rules, of_calls, called)))) c.promote.result found.0 found.2
-    g.met.K.Hash.respects_eq c.args.hash c.promote.ensures.fits c.promote.ensures.promoted))
+    (is_test _ (λ p. t p.0) _ (λ x accepts next called. (search (rules, of_calls, called), search (rules, of_calls, called)))) (promoted (hash_number c.args.hash)) found.0 found.2
+    g.met.K.Hash.respects_eq c.args.hash (subst (λ n. n < 2 ^ 32) c.get.ensures.number c.get.ensures.fits) refl))

@@ -15,5 +15,5 @@ returns g c =
     subst (λ m. option_map (λ p. p.1) (option_copied c.find_item.result) ≡ lookup t (pairs_of m)) c.self.view_is
     (ap (option_map (λ p. p.1)) found.3 ∙ value_of-slot t c.self.inside.table found.0
     (slot_by_query _ g.K.PartialEq.eq g.K.Hash.hash_input g.met.K.Eq.laws t (g.met.Q.Equivalent.respects_eq c.args.query.now) c.self.inside.table c.self.invariant _ _
-    (is_test _ (λ p. t p.0) _ (λ x accepts next called. (search (rules, of_calls, called), search (rules, of_calls, called)))) c.args.hash found.0 found.2
-    (λ k does. ap (λ ws. promoted (hash_number (finish_small (after_writes ws)))) (sym (g.met.Q.KeyQuery.feeds_alike c.args.query.now k does)) ∙ sym c.requires)))
+    (is_test _ (λ p. t p.0) _ (λ x accepts next called. (search (rules, of_calls, called), search (rules, of_calls, called)))) (promoted (hash_number c.args.hash)) found.0 found.2
+    (λ k does. ap (λ ws. promoted (hash_number (finish_small (after_writes ws)))) (sym (g.met.Q.KeyQuery.feeds_alike c.args.query.now k does)) ∙ ap (λ h. promoted (hash_number h)) (sym c.requires))))

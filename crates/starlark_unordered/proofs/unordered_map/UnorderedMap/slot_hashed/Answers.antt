@@ -1,5 +1,6 @@
-use Rattle.std.proofs.Common.{rules, of_calls, subst}
+use Rattle.std.proofs.Common.{◌<◌, ◌^◌, rules, of_calls, refl, subst}
 use Rattle.starlark_lists.proofs.SearchLemmas.{is_test}
+use Rattle.starlark_hash.specs.HashValue.{hash_number, promoted}
 use Rattle.starlark_unordered.specs.Pairs.{IsSlotOf, under_own}
 use Rattle.starlark_unordered.proofs.QuerySearch.{slot_by_hashed}
 use Rattle.starlark_unordered.proofs.unordered_map.UnorderedMap.slot_hashed.Goals as goal
@@ -9,5 +10,5 @@ returns g c =
     let t = g.Q.Equivalent.equivalent c.args.query.now in
     subst (λ m. IsSlotOf (under_own g.K.Hash.hash_input c.args.hash t) m c.find.result) c.self.view_is
     (slot_by_hashed _ g.K.PartialEq.eq g.K.Hash.hash_input g.met.K.Eq.laws t (g.met.Q.Equivalent.respects_eq c.args.query.now) c.self.inside.table c.self.invariant _ _
-    (is_test _ (λ p. t p.0) _ (λ x accepts next called. (search (rules, of_calls, called), search (rules, of_calls, called)))) c.promote.result c.find.result c.find.ensures.1
-    g.met.K.Hash.respects_eq c.args.hash c.promote.ensures.fits c.promote.ensures.promoted)
+    (is_test _ (λ p. t p.0) _ (λ x accepts next called. (search (rules, of_calls, called), search (rules, of_calls, called)))) (promoted (hash_number c.args.hash)) c.find.result c.find.ensures.1
+    g.met.K.Hash.respects_eq c.args.hash (subst (λ n. n < 2 ^ 32) c.get.ensures.number c.get.ensures.fits) refl)
