@@ -1,3 +1,4 @@
 pub mod Walks
 pub mod Steps
 mod LookedUp
+mod OrderedLent

@@ -12,7 +12,7 @@ use denote.Struct.Laws.{mut_ref_laws}
 use Rattle.starlark_vec2.proofs.LentInOption.{PairOf}
 
 -- a `&mut` has laws
-mut_laws : (κ : Lft) (R : RattleType) → Laws R → Laws (MutRef (named 0) κ R)
+pub mut_laws : (κ : Lft) (R : RattleType) → Laws R → Laws (MutRef (named 0) κ R)
 mut_laws κ R L = let a : NamedLft = record { mir = named 0; lft = κ } in let one = is_one R L in of_field (mut_ref_field a R one) (mut_ref_laws a R one) refl (mut_ref_shared a R one (row_shared R L))
 
 -- two truths, as a tuple of two types asks for them

@@ -27,7 +27,7 @@ pub use contract.BorrowLft.{◌⊑◌, ⊑_trans, meet_⊑_left, meet_⊑_right}
 pub use contract.Monad.{Fun, fact, fact_i}
 pub use contract.Running.{tables}
 pub use sound.WpLaws.{FmC}
-pub use types.Kit.{by, ‵, raw, ◌⊛◌, some, given, later, at_ret, ◌$◌, ◌∵◌, !, qed, move, keep, drop, use0, use1, use2, use3, split, split3, join, pick, learn, fsplit, fsplit3, fjoin, fpick, feq_l, suffices, frame, await, updating, now, show, check, rewrite, group, done}
+pub use types.Kit.{by, ‵, raw, ◌⊛◌, some, given, later, at_ret, ◌$◌, ◌∵◌, !, qed, move, keep, drop, use0, use1, use2, use3, split, split3, join, pick, learn, fsplit, fsplit3, fjoin, fpick, fpack, feq_l, suffices, frame, await, updating, now, show, check, rewrite, group, done}
 pub use types.Part.{whole, sub, agg}
 pub use types.Run.{stop, fld, hop, from, addr, lit, of_opd, and_then, no_more, first as begins, exec, returns, enter}
 pub use types.ByLocal.{alloc_all, pass_all, free_all, look_at, look_in_at, get, get_in, get_tag, through, sets, sets_last, lands_as, env}

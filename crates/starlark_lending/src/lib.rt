@@ -5,6 +5,7 @@ pub mod entries;
 pub mod looked_up;
 pub mod maps;
 pub mod occupied;
+pub mod ordered;
 pub mod pairs;
 mod put;
 pub mod unordered;
