@@ -17,6 +17,7 @@ pub mod Retained
 pub mod Growing
 pub mod Inserting
 pub mod EntryWritten
+pub mod Vacant
 pub mod CallerPositions
 pub mod CallerKeys
 pub mod CallerEntries

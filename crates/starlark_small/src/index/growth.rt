@@ -2,6 +2,7 @@
 ghost use Rattle.std.specs.Prelude.{◌≡◌, ◌+◌, ◌≤◌, length, None};
 ghost use Rattle.starlark_small.specs.Index.{IsIndexed, index_room};
 ghost use Rattle.starlark_small.specs.Indexing.{MakesIndexFor, MakesIndexOf, NotesLast, ReservesAsItIs, ReservesIndex};
+ghost use Rattle.starlark_small.specs.Vacant.{IsVacantIn};
 
 use super::{Index, PlaceTable, UNINDEXED};
 use starlark_columns::Perhaps;
@@ -94,5 +95,24 @@ impl Index {
             return;
         };
         table.note(hash, entries.len());
+    }
+
+    /// The same in a slot that `vacancy` answered for this hash.
+    #[inline(always)]
+    pub(crate) fn note_last_at<K, V>(
+        &mut self,
+        entries: &VecMap<K, V>,
+        hash: StarlarkHashValue,
+        slot: usize,
+    )
+        requires indexed { IsIndexed entries.now.entries self.old }
+        requires room { 1 ≤ index_room (length entries.now.entries) self.old }
+        requires vacant { IsVacantIn hash self.old slot }
+        ensures { NotesLast entries.now.entries hash self.old self.new }
+    {
+        let Some(table) = self.table.get_mut() else {
+            return;
+        };
+        table.note_at(hash, entries.len(), slot);
     }
 }

@@ -1,10 +1,11 @@
 //! The table of an index: places under promoted hashes, in slots of 8 bytes wherever the list is short enough for that.
-ghost use Rattle.std.specs.Prelude.{◌≡◌, ◌<◌, ◌^◌, List, IfOk, length, reverse};
+ghost use Rattle.std.specs.Prelude.{◌≡◌, ◌<◌, ◌^◌, List, IfOk, IfSome, length, reverse};
 ghost use Rattle.starlark_hash.specs.HashValue.{hash_number};
 ghost use Rattle.starlark_lists.specs.Entries.{Entry};
 ghost use Rattle.starlark_lists.specs.Search.{CanSearch, Searches, keys_under};
 ghost use Rattle.starlark_small.specs.Index.{IsIndexOf};
 ghost use Rattle.starlark_small.specs.Placing.{ClearsPlaces, IsTableFor, MovesPlaces, NotesPlace, RemovesPlace, ReservesPlaces, TakesLastPlace};
+ghost use Rattle.starlark_small.specs.Vacant.{IsVacantFor};
 ghost use Rattle.starlark_table.specs.Table.{table_len};
 ghost use Rattle.starlark_vec2.specs.Moves.{Moves};
 
@@ -135,6 +136,23 @@ impl PlaceTable {
         }
     }
 
+    /// The same in a slot that `vacancy` answered for this hash.
+    #[inline(always)]
+    pub(crate) fn note_at(&mut self, hash: StarlarkHashValue, place: usize, slot: usize)
+        requires room { 0 < self.old.room }
+        requires next { place ≡ table_len self.old }
+        requires vacant { IsVacantFor hash self.old slot }
+        ensures fits { hash_number hash < 2 ^ 32 }
+        ensures noted { NotesPlace hash place self.old self.new }
+    {
+        // A hash is below 2^32.
+        let _number = hash.get();
+        match &mut self.width {
+            Width::Narrow(table) => table.note_at(hash, place, slot),
+            Width::Wide(table) => note_wide(table, hash, place),
+        }
+    }
+
     /// Takes out a place of the list, whose entry is still there.
     pub(crate) fn remove_place<K, V>(&mut self, entries: &VecMap<K, V>, place: usize)
         requires index { IsIndexOf entries.now.entries self.old }
@@ -205,6 +223,18 @@ impl PlaceTable {
         match &self.width {
             Width::Narrow(table) => table.find(entries, hash, eq),
             Width::Wide(table) => find_wide(table, entries, hash, eq),
+        }
+    }
+
+    /// A slot for a new place under this hash, where one look shows it, and that no place is under the hash. Among places
+    /// of 64 bits none is looked for.
+    #[inline(always)]
+    pub(crate) fn vacancy(&self, hash: StarlarkHashValue) -> Option<usize>
+        ensures { IfSome result (λ slot. IsVacantFor hash self.now slot) }
+    {
+        match &self.width {
+            Width::Narrow(table) => table.vacancy(hash),
+            Width::Wide(_) => None,
         }
     }
 }

@@ -1,11 +1,12 @@
 //! Places in a table, and beside it the slot of each: what is taken out or moved is looked for nowhere.
-ghost use Rattle.std.specs.Prelude.{◌≡◌, ℕ, ◌+◌, ◌-◌, ◌*◌, ◌<◌, ◌≤◌, List, length, remove, reverse, slice_index, vec_capacity, IfOk, IsPermutation};
+ghost use Rattle.std.specs.Prelude.{◌≡◌, ℕ, ◌+◌, ◌-◌, ◌*◌, ◌<◌, ◌≤◌, List, length, remove, reverse, slice_index, vec_capacity, IfOk, IfSome, IsPermutation};
 ghost use Rattle.std.specs.List.{All};
 ghost use Rattle.starlark_lists.specs.Entries.{Entry};
 ghost use Rattle.starlark_lists.specs.Search.{CanSearch, Searches, keys_under};
 ghost use Rattle.starlark_small.specs.Index.{IsIndexOf, lowered, moved_below};
 ghost use Rattle.starlark_small.specs.Placing.{ClearsPlaces, GrowsFor, IsLowered, IsTableFor, LowersSlot, MovesPlaces, NamesSlots, NotesPlace, RemovesPlace, RenamesEach, TakesLastPlace, TakesPlace};
 ghost use Rattle.starlark_small.specs.Slots.{IsSited, StandsOnce};
+ghost use Rattle.starlark_small.specs.Vacant.{IsVacantFor};
 ghost use Rattle.starlark_table.specs.Growth.{most_for};
 ghost use Rattle.starlark_table.specs.Table.{Table, members, table_capacity, table_len};
 ghost use Rattle.starlark_vec2.specs.Moves.{Moves};
@@ -115,6 +116,18 @@ impl<N: PlaceNumber> Placed<N> {
         self.column.push_reserved(Place::of(slot));
     }
 
+    /// The same in a slot that `vacancy` answered for this hash.
+    #[inline(always)]
+    pub(super) fn note_at(&mut self, hash: StarlarkHashValue, place: usize, slot: usize)
+        requires room { 0 < self.old.room }
+        requires next { place ≡ table_len self.old }
+        requires vacant { IsVacantFor hash self.old slot }
+        ensures { NotesPlace hash place self.old self.new }
+    {
+        self.table.insert_at(hash, Place::of(place), slot);
+        self.column.push_reserved(Place::of(slot));
+    }
+
     /// Takes out a place of the list, whose entry is still there. Those above it move down.
     #[inline(never)]
     pub(super) fn remove_place<K, V>(&mut self, entries: &VecMap<K, V>, place: usize)
@@ -178,6 +191,14 @@ impl<N: PlaceNumber> Placed<N> {
         ensures { (last : F) × Searches F.FnMut (keys_under hash entries.now.entries) eq result last }
     {
         find_in(&self.table, entries, hash, eq)
+    }
+
+    /// A slot for a new place under this hash, where one look shows it, and that no place is under the hash.
+    #[inline(always)]
+    pub(super) fn vacancy(&self, hash: StarlarkHashValue) -> Option<usize>
+        ensures { IfSome result (λ slot. IsVacantFor hash self.now slot) }
+    {
+        self.table.vacancy(hash)
     }
 }
 

@@ -1,10 +1,11 @@
 //! Searches through the index.
-ghost use Rattle.std.specs.Prelude.{◌≡◌, ◌<◌, length, slice_get, Some};
+ghost use Rattle.std.specs.Prelude.{◌≡◌, ◌<◌, length, slice_get, IfSome, Some};
 ghost use Rattle.std.specs.Fn.{CalledAt, TakesAt};
 ghost use Rattle.starlark_lists.specs.Search.{CanSearch, Searches, keys_under};
 ghost use Rattle.std.specs.Option.{option_copied};
 ghost use Rattle.starlark_small.specs.Index.{IsIndexOf, IsIndexed, IsSound, index_room};
 ghost use Rattle.starlark_small.specs.Map.{query_match};
+ghost use Rattle.starlark_small.specs.Vacant.{IsVacantIn};
 
 use super::place::{Place, PlaceNumber};
 use super::placed::Places;
@@ -47,6 +48,17 @@ impl Index {
                 self.find(entries, key.hash(), |k: &K| query.equivalent(k))
             }
             None => entries.get_index_of_hashed_among_few(key),
+        }
+    }
+
+    /// A slot of the index for a new entry under this hash, where one look shows it, and that no entry is under the hash.
+    #[inline(always)]
+    pub(crate) fn vacancy(&self, hash: StarlarkHashValue) -> Option<usize>
+        ensures { IfSome result (λ slot. IsVacantIn hash self.now slot) }
+    {
+        match self.table.get() {
+            Some(table) => table.vacancy(hash),
+            None => None,
         }
     }
 

@@ -40,6 +40,14 @@ impl<K: Eq, V> SmallMap<K, V> {
         ensures inserts { Inserts K.eq key value (key, value) self.old self.new result }
     {
         prove!(self.index().is_some() || self.len() <= UNINDEXED);
+        // A look that sees at once that the key is new and where its place goes is mostly the only one.
+        if let Some(slot) = self.index.vacancy(key.hash()) {
+            if self.room() > 0 {
+                self.index.note_last_at(&self.entries, key.hash(), slot);
+                self.entries.push_reserved(key, value);
+                return Ok(None);
+            }
+        }
         match self.get_index_of_hashed(key.as_ref()) {
             Some(i) => Ok(Some(mem::replace(self.value_at_mut(i), value))),
             None => match self.push(key, value) {

@@ -1,16 +1,18 @@
-use Rattle.std.proofs.Common.{None, length, rules, sym}
+use Rattle.std.proofs.Common.{◌<◌, ◌∙◌, None, ap, length, rules, subst, sym}
+use Rattle.starlark_small.specs.Vacant.{IsVacantIn}
 use Rattle.starlark_small.proofs.CallerInserts.{inserts-done, inserts-refused}
 use Rattle.starlark_small.proofs.Inserted.{LeavesMemory-inserted, LeavesMemory-refused, LeavesMemory-written}
 use Rattle.starlark_small.proofs.Inserting.{long_is_indexed}
+use Rattle.starlark_small.proofs.Vacant.{inserts_at_vacancy, sound_at_vacancy}
 use Rattle.starlark_small.proofs.small_map.SmallMap.insert_hashed.Goals as goal
 
-pub returns-in-Some : goal.returns-in-Some
-returns-in-Some g c =
+pub returns-in-Some-get_index_of_hashed : goal.returns-in-Some-get_index_of_hashed
+returns-in-Some-get_index_of_hashed g c =
     let old = c.args.self.now in
     let short = long_is_indexed c.index.result old.indexed (length old.entries) c.index.ensures.indexed c.index.ensures.long in
     record {
       inserts = inserts-done g.K.PartialEq.eq c.args.key c.args.value (c.args.key, c.args.value) old _ g.met.K.Eq.laws _ (search rules) (search rules)
-          (LeavesMemory-written g.K.PartialEq.eq old c.args.key short c.in-Some.i c.replace.new.dest);
+          (LeavesMemory-written g.K.PartialEq.eq old c.args.key short c.in-Some-get_index_of_hashed.i c.replace.new.dest);
     }
 
 pub returns-in-Ok : goal.returns-in-Ok
@@ -31,3 +33,17 @@ returns-in-Err g c =
       inserts = inserts-refused g.K.PartialEq.eq c.args.key c.args.value (c.args.key, c.args.value) old c.push.new.self _ absent put.full put.handed_back put.refused
           (LeavesMemory-refused g.K.PartialEq.eq old c.args.key short c.push.new.self absent put.full put.refused);
     }
+
+pub invariant_of-self : goal.invariant_of-self
+invariant_of-self g c =
+    sound_at_vacancy g.K.PartialEq.eq g.met.K.Eq.laws c.self.inside.entries c.push_reserved.new.self c.self.inside.index c.note_last_at.new.self c.args.key c.args.value c.in-Some.slot c.self.invariant
+    (subst (λ h. IsVacantIn h c.self.inside.index c.in-Some.slot) c.hash.ensures c.in-Some.ensures)
+    (c.note_last_at.ensures.indexed (c.args.key, c.args.value) (sym c.hash-then-room-gt0.ensures)) c.push_reserved.ensures
+
+pub returns-then-room-gt0 : goal.returns-then-room-gt0
+returns-then-room-gt0 g c = record {
+  inserts = inserts_at_vacancy g.K.PartialEq.eq g.met.K.Eq.laws c.self.inside.entries c.push_reserved.new.self c.self.inside.index c.note_last_at.new.self c.args.key c.args.value c.in-Some.slot c.self.invariant
+      (subst (λ h. IsVacantIn h c.self.inside.index c.in-Some.slot) c.hash.ensures c.in-Some.ensures)
+      (c.note_last_at.ensures.indexed (c.args.key, c.args.value) (sym c.hash-then-room-gt0.ensures)) c.push_reserved.ensures
+      c.note_last_at.ensures.room c.note_last_at.ensures.kept (subst (λ n. 0 < n) (c.room.ensures ∙ ap (λ m. m.room) (sym c.self.view_is)) c.if-room-gt0.true) c.args.self.now c.self.view_is;
+}
