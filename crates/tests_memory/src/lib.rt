@@ -14,6 +14,8 @@ mod laws;
 #[cfg(test)]
 mod lending;
 #[cfg(test)]
+mod lending_in_order;
+#[cfg(test)]
 mod lists;
 #[cfg(test)]
 mod made_maps;
