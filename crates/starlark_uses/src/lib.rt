@@ -3,6 +3,7 @@
 
 pub mod build;
 pub mod cache;
+pub mod free;
 pub mod interner;
 pub mod scopes;
 pub mod scores;
