@@ -92,8 +92,11 @@ pub(crate) fn vacancy<T, H: KeptHash>(
     let number = hash.number();
     let start = home(number, mask);
     let same = places_with(tags, start, tag(number));
+    if same != 0 {
+        return None;
+    }
     let empty = places_with(tags, start, EMPTY);
-    if same != 0 || empty == 0 {
+    if empty == 0 {
         return None;
     }
     Some(start + empty.trailing_zeros() as usize)
