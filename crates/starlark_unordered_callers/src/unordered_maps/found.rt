@@ -1,5 +1,5 @@
 //! What holds of every value of an unordered map, by its walk and by look-ups.
-ghost use Rattle.std.specs.Prelude.{◌≡◌, ℕ, ◌<◌, ◌≤◌, ◌↔◌, nat_eq, IfSome, IsTrue, Some};
+ghost use Rattle.std.specs.Prelude.{◌≡◌, ℕ, ◌<◌, ◌≤◌, ◌↔◌, nat_eq, IfNone, IfSome, IsTrue, None, Some};
 ghost use Rattle.std.specs.String.{string_eq};
 ghost use Rattle.std.specs.declared.alloc.Global.{Global};
 ghost use Rattle.std.specs.declared.string.String.{String};
@@ -39,6 +39,7 @@ pub fn any_at(map: &UnorderedMap<u32, u64>, sought: u64) -> bool
 /// The greatest value, which none that is found exceeds.
 pub fn greatest_found<K: Eq + Hash>(map: &UnorderedMap<K, u64>) -> Option<u64>
     ensures there { IfSome result (λ most. (key : K) × (get K.eq map.now key ≡ Some most)) }
+    ensures none { IfNone result ((key : K) → get K.eq map.now key ≡ None) }
     ensures found { IfSome result (λ most. (key : K) → IfSome (get K.eq map.now key) (λ value. value ≤ most)) }
 {
     map.values_unordered().copied().max()
