@@ -37,6 +37,16 @@ fn removes_one_of_a_hash(rt: HostRuntime) -> Result<(), Fail> {
     Ok(())
 }
 
+// A slot is answered where a look shows one, which no clause promises: under a tag that no item has. None is under a hash that
+// an item has.
+#[test]
+fn shows_a_vacant_slot(rt: HostRuntime) -> Result<(), Fail> {
+    let table = letters(rt.alloc(), &[(7, 'a'), (8, 'b')])?;
+    same(&rt, table.vacancy(7), None);
+    holds(&rt, table.vacancy(33554432).is_some());
+    Ok(())
+}
+
 // How often a search asks that finds nothing.
 fn asks(table: &ReadyTable<char>, hash: u64) -> Option<u32> {
     let mut calls = 0u32;
