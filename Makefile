@@ -44,7 +44,7 @@ tests: ## runs the tests of CRATE with no proof, in about a minute
 	@./examples/crate "$$CRATE"
 	@cd "crates/$$CRATE" && rt try --test
 
-test: ## the merge gate, every proof, test and program: about an hour on four cores, and 4.6 GB in out/, see clean
+test: ## the merge gate, every proof, test and program: an hour or two on four cores, and 4.6 GB in out/, see clean
 	$(says)
 	@./examples/as-in-readme
 	@./docs/pages.py check
