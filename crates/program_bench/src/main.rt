@@ -9,6 +9,7 @@ mod peer;
 mod report;
 mod script;
 mod sorted;
+mod sorts;
 mod workload;
 mod workloads;
 

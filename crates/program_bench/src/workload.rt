@@ -6,9 +6,10 @@ use crate::maps::{SmallByHash, UnorderedByHash};
 use crate::pass::Pass;
 use crate::peer::{Asked, Listed, Roomy, Walked};
 use crate::sorted;
+use crate::sorts::{sort, sort_again};
 use crate::workloads::{
     MILLION, Removed, Room, build, build_roomy, cycle, cycle_keys, drain, hit, hold, insert, miss,
-    pop, sort, turns, walk,
+    pop, turns, walk,
 };
 use indexmap::IndexMap;
 use starlark_hash::StarlarkHasherBuilder;
@@ -65,6 +66,7 @@ pub enum Workload {
     Drain,
     Pop,
     Sort,
+    SortAgain,
     UnorderedInsert,
     UnorderedHit,
     UnorderedMiss,
@@ -74,7 +76,7 @@ pub enum Workload {
 }
 
 /// The workloads in the order of their lines.
-pub const ALL: [Workload; 20] = [
+pub const ALL: [Workload; 21] = [
     Workload::Build,
     Workload::BuildRoomy(Room::Capacity),
     Workload::BuildRoomy(Room::Reserve),
@@ -89,6 +91,7 @@ pub const ALL: [Workload; 20] = [
     Workload::Drain,
     Workload::Pop,
     Workload::Sort,
+    Workload::SortAgain,
     Workload::UnorderedInsert,
     Workload::UnorderedHit,
     Workload::UnorderedMiss,
@@ -115,6 +118,7 @@ impl Workload {
             Workload::Drain => "d_drain",
             Workload::Pop => "d_pop",
             Workload::Sort => "g_sort",
+            Workload::SortAgain => "g_again",
             Workload::UnorderedInsert => "f_insert",
             Workload::UnorderedHit => "f_hit",
             Workload::UnorderedMiss => "f_miss",
@@ -136,7 +140,7 @@ impl Workload {
             Workload::Cycle(Removed::Middle) | Workload::Drain => &[8, 17, 24, 32, 1000, 10_000],
             Workload::Cycle(_) => &[1000, 10_000, 100_000],
             Workload::Pop => &[8, 17, 24, 32, 1000, 10_000, 1_000_000],
-            Workload::Sort => &[8, 32, 1000, 100_000, 1_000_000],
+            Workload::Sort | Workload::SortAgain => &[8, 32, 1000, 100_000, 1_000_000],
             Workload::UnorderedInsert
             | Workload::UnorderedHit
             | Workload::UnorderedMiss
@@ -150,9 +154,8 @@ impl Workload {
     pub fn operations(self, n: usize) -> usize {
         let n = n.max(1);
         match self {
-            Workload::Build | Workload::BuildRoomy(_) | Workload::Pop | Workload::Sort => {
-                MILLION / n * n
-            }
+            Workload::Build | Workload::BuildRoomy(_) | Workload::Pop => MILLION / n * n,
+            Workload::Sort | Workload::SortAgain => MILLION / n * n,
             Workload::UnorderedInsert | Workload::Union => MILLION / n * n,
             Workload::Hit | Workload::Miss | Workload::Hold => MILLION,
             Workload::UnorderedHit | Workload::UnorderedMiss => MILLION,
@@ -189,9 +192,11 @@ impl Workload {
                 Map::HashFx,
                 Map::BTree,
             ],
-            Workload::Cycle(_) | Workload::Drain | Workload::Pop | Workload::Sort => {
-                &[Map::Proved, Map::Index, Map::IndexFx]
-            }
+            Workload::Cycle(_)
+            | Workload::Drain
+            | Workload::Pop
+            | Workload::Sort
+            | Workload::SortAgain => &[Map::Proved, Map::Index, Map::IndexFx],
             Workload::UnorderedInsert | Workload::UnorderedWalk | Workload::UnorderedCycle => {
                 &[Map::Proved, Map::Hash, Map::HashFx, Map::BTree]
             }
@@ -301,6 +306,7 @@ impl Workload {
             Workload::Drain => drain::<K, M>(rt, keys, n),
             Workload::Pop => pop::<K, M>(rt, keys, n),
             Workload::Sort => sort::<K, M>(rt, keys, n),
+            Workload::SortAgain => sort_again::<K, M>(rt, keys, n),
             _ => self.roomy::<K, M>(rt, keys, n),
         }
     }

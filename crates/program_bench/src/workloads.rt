@@ -32,9 +32,9 @@ fn filled<K: Key, M: Asked<K>>(alloc: Global, keys: &[K], n: usize) -> Result<M,
     Ok(map)
 }
 
-// Maps of `n` keys each, the first of the first `n` keys, and so on. Each begins with room for them, so that it lies in
-// memory as a clone does.
-fn prepared<K: Key, M: Roomy<K>>(
+/// Maps of `n` keys each, the first of the first `n` keys, and so on. Each begins with room for them, so that it lies in
+/// memory as a clone does.
+pub fn prepared<K: Key, M: Roomy<K>>(
     alloc: Global,
     keys: &[K],
     n: usize,
@@ -364,19 +364,4 @@ pub fn pop<K: Key, M: Listed<K>>(rt: &HostRuntime, keys: &[K], n: usize) -> Resu
         checksum = pop_one(map, checksum);
     }
     Pass::since(rt, start, checksum)
-}
-
-/// Sorts maps of `n` keys, a million keys in all.
-pub fn sort<K: Key, M: Listed<K>>(rt: &HostRuntime, keys: &[K], n: usize) -> Result<Pass, Fault> {
-    let mut maps = prepared::<K, M>(rt.alloc(), keys, n, MILLION / n.max(1))?;
-    let start = Instant::now(rt)?;
-    for map in &mut maps {
-        map.sort()?;
-    }
-    let pass = Pass::since(rt, start, 0)?;
-    let mut checksum = 0;
-    for map in &maps {
-        checksum = map.mixed(checksum);
-    }
-    Ok(Pass { checksum, ..pass })
 }

@@ -1,7 +1,7 @@
 -- The words of the logic and of std that walks cite, handed on under one roof, so that each walk names them in one line.
 pub use Rattle.core.proofs.alloc.Calls.{Al, Answer-typed, Answered, Gives, Gives-Gives, Gives-goes, Goes-blank, Takes, Takes-gives, Takes-goes, answers, at_gives, at_takes, token}
 pub use Rattle.core.proofs.cell.Inside.{Good}
-pub use Rattle.core.proofs.mem.Param.{El, el_x, elτ}
+pub use Rattle.core.proofs.mem.Param.{El, el_x, elτ, R}
 pub use Rattle.core.proofs.option.Made.{Some-of, none_of}
 pub use Rattle.core.proofs.ptr.Rows.{add_times, times_below}
 pub use Rattle.core.proofs.result.Made.{Err-of, Ok-of}
@@ -16,7 +16,7 @@ pub use Rattle.core.specs.Mem.Slots.{slots_counts, slots_filled, slots_items, sl
 pub use Rattle.core.specs.Mem.Slots.Ownership.{slots}
 pub use Rattle.core.specs.Option.{ghost_name_of, option_copied_mut}
 pub use Rattle.core.specs.declared.alloc.Allocator.{Ghosts}
-pub use Rattle.std.proofs.Common.{Bool, Err, IfErr, IfOk, IfSome, List, Ok, Option, Result, Some, [], add-one, ap, append-nil, append_assoc, arith, bit_and, false, get_or, inl, inr, length, lit<, map, refl, rules, slice_get, slice_set, subst, suc, sym, take, true, w64, zero, ℕ, ◌%◌, ◌*◌, ◌++◌, ◌+◌, ◌-◌, ◌<◌, ◌^◌, ◌∙◌, ◌∷◌, ◌≡◌, ◌≢◌, ◌≤◌, ◌⊎◌}
+pub use Rattle.std.proofs.Common.{Bool, Err, IfErr, IfOk, IfSome, List, Ok, Option, Result, Some, [], add-one, ap, append-nil, append_assoc, arith, bit_and, false, get_or, inl, inr, length, lit<, map, refl, rules, slice_get, slice_set, subst, suc, sym, take, true, w64, zero, ℕ, ◌%◌, ◌*◌, ◌++◌, ◌+◌, ◌-◌, ◌<◌, ◌^◌, ◌∙◌, ◌∷◌, ◌≡◌, ◌≢◌, ◌≤◌, ◌⊎◌, T}
 pub use Rattle.std.proofs.Math.ListN.{set}
 pub use Rattle.std.proofs.Math.Seq.{take-add}
 pub use Rattle.std.proofs.lemmas.Bool.{cases_lt}
@@ -34,20 +34,21 @@ pub use Rattle.std.specs.List.Retain.{RetainsInTurn}
 pub use Rattle.std.specs.Map.{lookup}
 pub use Rattle.std.specs.Mem.{type_size}
 pub use Rattle.std.specs.Option.{is_some, option_map, unwrap_or}
-pub use Rattle.std.specs.Prelude.{IsOk, MatchResult, None, OnErr, OnOk, if◌then◌else◌, min, zip, ⊤}
+pub use Rattle.std.specs.Prelude.{IsOk, MatchResult, None, OnErr, OnOk, if◌then◌else◌, min, zip, ⊤, IsErr}
 pub use Rattle.std.specs.Vec.Ownership.{FitsInBlock}
 pub use Rattle.std.specs.contracts.impls.GlobalAllocator.TheImpl.{ghosts}
 pub use Rattle.std_alloc.proofs.ResultValues.{and_tt, err_of, ok_of}
+pub use Rattle.starlark_columns.specs.Places.{AreFilled, IsFilled, empties, items_of, with_range}
 pub use base.Fml.{Fml, GName, Incl, Incl-refl, Incl-trans, Lft, Share, fat, fauth, fbor, fdead, fex, flent, flft, fobor, fobs, fres, froom, fsep, ftrue, fupd, fwand}
 unfoldable pub use base.Fml.{fseps}
 pub use base.Fraction.{full_share}
 pub use base.FractionLaws.{common}
-pub use base.Logic.{SProp, all, all_e, apply∗, emp, ent, ex, ex_e, fst∗, guard, id⊢, mono_r, never, sep, snd∗, upd_i, via, wand, wand_i}
+pub use base.Logic.{SProp, all, all_e, apply∗, emp, ent, ex, ex_e, fst∗, guard, id⊢, mono_r, never, sep, snd∗, upd_i, via, wand, wand_i, guard_i}
 pub use base.Stored.{Gv, coded_list}
 pub use borrow.Table.Elements.{at, at_mul, cut_app, join_app}
 pub use contract.BorrowLft.{meet_⊑_left, meet_⊑_right, ⊑_meet, ⊑_refl, ⊑_trans, ◌⊑◌}
 pub use contract.Lifetimes.{AllOutlive, Lfts}
-pub use contract.Monad.{Fun, fact, fact_i}
+pub use contract.Monad.{Fun, fact, fact_i, fact_use}
 pub use contract.Running.{tables}
 unfoldable pub use contract.Running.{tables_of}
 pub use denote.Array.{Array}
@@ -62,14 +63,14 @@ pub use denote.Memory.{cell_at, lone, mem, part_at}
 unfoldable pub use denote.Memory.{part_of}
 pub use denote.Model.Fields.{Plain-in, plain_out, view_made}
 pub use denote.Opens.{hide, unhide}
-pub use denote.Param.{arg, bounded, layout, layouts, param}
-pub use denote.Param.Laws.{Laws, arg_laws, is_one, of_field, param_laws, row_shared}
+pub use denote.Param.{arg, bounded, layout, layouts, param, copied}
+pub use denote.Param.Laws.{Laws, arg_laws, is_one, of_field, param_laws, row_shared, copied_laws, IsCopy, arg_copy}
 pub use denote.Param.Lives.{in_all}
 pub use denote.Param.Mute.{blank}
 pub use denote.Param.Shared.{copy_shared, mut_ref_shared}
 pub use denote.Plain.{uint_Makes, uint_Tells, uint_vals}
 pub use denote.RattleType.{Denots, RattleType, Valss, lives_all, owns}
-pub use denote.RawPtr.{Ptr, RawPtr, block_ptr, in_a_block, in_block, null_ptr, ptr_val}
+pub use denote.RawPtr.{Ptr, RawPtr, block_ptr, in_a_block, in_block, null_ptr, ptr_val, Testable}
 pub use denote.Ref.{Bor, MutBor, MutRef, NamedLft, ShrRef, mut_Tells, mut_vals, shr_Tells, shr_vals}
 pub use denote.Shadow.{makes_shadow, pure_i, pure_l}
 pub use denote.SharingLaws.{nothing_shr_laws}

@@ -1,14 +1,13 @@
 -- What calls make of a table of places. A `PlaceTable` and the tables of either width below it cite the same words.
-use Rattle.std.specs.Prelude.{◌≡◌, ℕ, ◌+◌, ◌-◌, ◌<◌, ◌≤◌, [], ◌∷◌, Bool, true, false, List, Option, Some, Result, IfOk, OnErr, OnOk, IsPermutation, length, remove, slice_set, vec_capacity}
+use Rattle.std.specs.Prelude.{◌≡◌, ℕ, ◌+◌, ◌-◌, ◌<◌, ◌≤◌, [], ◌∷◌, Bool, true, false, List, Option, Result, IfOk, OnErr, OnOk, IsPermutation, length, remove, vec_capacity}
 use Rattle.std.specs.Global.{Vec}
 use Rattle.std.specs.List.{Contains}
-use Rattle.std.specs.Option.{option_map}
 use Rattle.starlark_hash.specs.declared.hash_value.StarlarkHashValue.{StarlarkHashValue}
 use Rattle.starlark_hash.specs.HashValue.{hash_number, promoted}
 use Rattle.starlark_lists.specs.Entries.{Entry}
 use Rattle.starlark_small.specs.Index.{IsIndexOf, unindexed}
-use Rattle.starlark_small.specs.Slots.{IsSited, renamed, renaming}
-use Rattle.starlark_table.specs.Table.{Table, member_at, members, table_capacity, table_len}
+use Rattle.starlark_small.specs.Slots.{IsSited, renamed}
+use Rattle.starlark_table.specs.Table.{Table, members, table_capacity, table_len}
 
 -- no place is there, and there is room for so many
 pub record IsTableFor (many : ℕ) (table : Table ℕ) : Type 0 where
@@ -79,12 +78,6 @@ pub record IsLowered (column : List ℕ) (place : ℕ) (old new : Table ℕ) : T
   pub sited : IsSited (remove column place) new.slots
   pub places : length new.slots ≡ length old.slots
   pub room : table_capacity new ≡ table_capacity old
-
--- the place in a slot moved one down, if one was there
-pub record LowersSlot (slot : ℕ) (old new : Table ℕ) : Type 0 where
-  pub moved : (h x : ℕ) → member_at old slot ≡ Some (h, x) → IsPermutation ((h, x - 1) ∷ members old) ((h, x) ∷ members new)
-  pub slots : new.slots ≡ slice_set old.slots slot (option_map (renaming (λ place. place - 1)) (member_at old slot))
-  pub room : new.room ≡ old.room
 
 -- each place has the name that is given for it, in the slot where it stood
 pub record RenamesEach (name : ℕ → ℕ) (old new : Table ℕ) : Type 0 where

@@ -225,14 +225,15 @@ impl<T, H: KeptHash> ReadyTable<T, H> {
         ensures value { option_copied_mut result ≡ option_map (λ m. m.1) (member_at self.old slot) }
     {
         if self.get(slot).is_some() {
-            Some(self.item_mut(slot))
+            Some(self.get_unchecked_mut(slot))
         } else {
             None
         }
     }
 
+    /// The same of a slot that has an item.
     #[inline]
-    fn item_mut(&mut self, slot: usize) -> &mut T
+    pub fn get_unchecked_mut(&mut self, slot: usize) -> &mut T
         requires { IsSome (member_at self.old slot) }
         ensures* writes_back { sem 𝓛 (lends_item T.row H.row ⟦<H as KeptHash>⟧ self.entry slot result) }
         ensures value { option_map (λ m. m.1) (member_at self.old slot) ≡ Some result.now }

@@ -104,14 +104,6 @@ impl<N: PlaceNumber> Place<N> {
         self.get() == place
     }
 
-    /// The place one down.
-    #[inline]
-    pub(crate) fn down(&self) -> Self
-        ensures { result ≡ self.now - 1 }
-    {
-        Place(N::of(self.0.get().saturating_sub(1)))
-    }
-
     /// The place one down, if it is above `last`. There is no branch: which places stand above could not be foreseen.
     #[inline]
     pub(crate) fn lowered(&self, last: usize) -> Self

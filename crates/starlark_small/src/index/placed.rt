@@ -1,14 +1,14 @@
 //! Places in a table, and beside it the slot of each: what is taken out or moved is looked for nowhere.
-ghost use Rattle.std.specs.Prelude.{◌≡◌, ℕ, ◌+◌, ◌-◌, ◌*◌, ◌<◌, ◌≤◌, List, length, remove, reverse, slice_index, vec_capacity, IfOk, IfSome, IsPermutation};
+ghost use Rattle.std.specs.Prelude.{◌≡◌, ℕ, ◌+◌, ◌-◌, ◌*◌, ◌<◌, ◌≤◌, List, length, remove, reverse, slice_index, vec_capacity, IfOk, IfSome, IsSome, IsPermutation};
 ghost use Rattle.std.specs.List.{All};
 ghost use Rattle.starlark_lists.specs.Entries.{Entry};
 ghost use Rattle.starlark_lists.specs.Search.{CanSearch, Searches, keys_under};
 ghost use Rattle.starlark_small.specs.Index.{IsIndexOf, lowered, moved_below};
-ghost use Rattle.starlark_small.specs.Placing.{ClearsPlaces, GrowsFor, IsLowered, IsTableFor, LowersSlot, MovesPlaces, NamesSlots, NotesPlace, RemovesPlace, RenamesEach, TakesLastPlace, TakesPlace};
+ghost use Rattle.starlark_small.specs.Placing.{ClearsPlaces, GrowsFor, IsLowered, IsTableFor, MovesPlaces, NamesSlots, NotesPlace, RemovesPlace, RenamesEach, TakesLastPlace, TakesPlace};
 ghost use Rattle.starlark_small.specs.Slots.{IsSited, StandsOnce};
 ghost use Rattle.starlark_small.specs.Vacant.{IsVacantFor};
 ghost use Rattle.starlark_table.specs.Growth.{most_for};
-ghost use Rattle.starlark_table.specs.Table.{Table, members, table_capacity, table_len};
+ghost use Rattle.starlark_table.specs.Table.{Table, member_at, members, table_capacity, table_len, with_item};
 ghost use Rattle.starlark_vec2.specs.Moves.{Moves};
 
 use super::place::{Place, PlaceNumber};
@@ -23,8 +23,8 @@ use std::mem;
 /// Places under hashes of 32 bits, which stand for their promoted ones.
 pub(super) type Places<N> = ReadyTable<Place<N>, StarlarkHashValue>;
 
-// Up to so many slots the table lies in a processor's first caches, and places are lowered slot by slot.
-const NEAR: usize = 1 << 12;
+// Up to so many slots, of 2 MB, the table lies in a processor's caches, and places are lowered slot by slot.
+const NEAR: usize = 1 << 18;
 
 /// For each place its slot.
 impl<N: PlaceNumber> Follows<Place<N>> for Vec<Place<N>> {
@@ -226,6 +226,7 @@ fn lower_above<N: PlaceNumber, K, V>(
     requires within { place < length entries.now.entries }
     requires even { length column.now.items ≡ length entries.now.entries }
     requires sited { IsSited column.now.items table.old.slots }
+    requires few { length entries.now.entries ≤ N.bound }
     ensures index { IsIndexOf (remove entries.now.entries place) table.new }
     ensures lowered { IsLowered column.now.items place table.old table.new }
 {
@@ -237,14 +238,14 @@ fn lower_above<N: PlaceNumber, K, V>(
     }
 }
 
-// Moves the place in a slot one down.
+// Puts another place into a slot that has one, which is not read.
 #[inline]
-fn lower_slot<N: PlaceNumber>(table: &mut Places<N>, slot: usize)
-    ensures { LowersSlot slot table.old table.new }
+fn write_place<N: PlaceNumber>(table: &mut Places<N>, slot: usize, place: usize)
+    requires full { IsSome (member_at table.old slot) }
+    requires few { place < N.bound }
+    ensures { table.new ≡ with_item table.old slot place }
 {
-    if let Some(item) = table.get_mut(slot) {
-        *item = item.down();
-    }
+    *table.get_unchecked_mut(slot) = Place::of(place);
 }
 
 // Moves each place above one that was taken out one down, slot by slot.
@@ -258,11 +259,12 @@ fn lower_each<N: PlaceNumber, K, V>(
     requires within { place < length entries.now.entries }
     requires even { length column.now.items ≡ length entries.now.entries }
     requires sited { IsSited column.now.items table.old.slots }
+    requires few { length entries.now.entries ≤ N.bound }
     ensures moved { IsPermutation (moved_below entries.now.entries place (length entries.now.entries)) (members table.new) }
     ensures lowered { IsLowered column.now.items place table.old table.new }
 {
     for j in place + 1..entries.len() {
-        lower_slot(table, column[j].get());
+        write_place(table, column[j].get(), j - 1);
     }
 }
 

@@ -1,13 +1,10 @@
 -- `allocate` asks for an array's block, and keeps its bare places apart from the right to give it back. Assumes `Logic`.
-use Rattle.starlark_columns.proofs.Walking.{◌≡◌, ℕ, ◌*◌, ◌<◌, ◌^◌, Option, Bool, true, false, List, [], ◌∷◌, length, refl, sym, ap, subst, arith, lit<, w64, IfOk, Ok, Err, Fml, ftrue, fsep, froom, flft, Incl-trans, SProp, emp, ◌⊑◌, fact, fact_i, tables, eqb, length-replicate, cond, inst_fn, Ty, named, ty_array, Val, vint, vptr, vstruct, vcons, vnil, WT, capped_fits, align, capped, Wp, after_seq, at_return, alloc_all, pass_all, free_all, look_at, get, get_in, get_tag, is, sets, sets_last, lands_as, env, After, any_q, ‵, raw, ◌⊛◌, later, at_ret, ◌$◌, ◌∵◌, !, qed, by, move, keep, use0, use1, use2, use3, split, join, rewrite, fsplit, fjoin, fjoin3, flt_i, await, live, vrt, in_variant, whole, agg, stop, fld, lit, size_word, align_word, no_more, and_then, of_opd, bin, first, switches_on, exec, returns, enter, RefOf, usize, yes, Is, param, uint_vals, uint_Tells, RattleType, owns, Ptr, block_ptr, shr_vals, shr_Tells, plain, types_at, heard, nothing, owned, Struct, Struct-Makes, Tuple, calls_at, framed, Stays, stay_dropped, walk_of, Goes-dropped, Al, token, Answer-typed, Takes, at_takes, Answered, Takes-goes, Takes-gives, answers, El, elτ, after, head, arm_body, uncapped, block_ty, block_size, block_align, args, proved, leaves, type_size, FitsInBlock, ok_of, err_of}
-use Rattle.std.proofs.Common.{None}
+use Rattle.starlark_columns.proofs.Walking.{◌≡◌, ℕ, ◌*◌, ◌<◌, ◌^◌, Option, Bool, true, false, List, [], ◌∷◌, length, refl, sym, ap, subst, arith, lit<, w64, IfOk, Ok, Err, Fml, ftrue, fsep, froom, flft, Incl-trans, SProp, emp, ◌⊑◌, fact, fact_i, tables, eqb, length-replicate, cond, inst_fn, Ty, named, ty_array, Val, vint, vptr, vstruct, vcons, vnil, WT, capped_fits, align, capped, Wp, after_seq, at_return, alloc_all, pass_all, free_all, look_at, get, get_in, get_tag, is, sets, sets_last, lands_as, env, After, any_q, ‵, raw, ◌⊛◌, later, at_ret, ◌$◌, ◌∵◌, !, qed, by, move, keep, use0, use1, use2, use3, split, join, rewrite, fsplit, fjoin, fjoin3, flt_i, await, live, vrt, in_variant, whole, agg, stop, fld, lit, size_word, align_word, no_more, and_then, of_opd, bin, first, switches_on, exec, returns, enter, RefOf, usize, yes, Is, param, uint_vals, uint_Tells, RattleType, owns, Ptr, block_ptr, shr_vals, shr_Tells, plain, types_at, heard, nothing, owned, Struct, Struct-Makes, Tuple, calls_at, framed, Stays, stay_dropped, walk_of, Goes-dropped, Al, token, Answer-typed, Takes, at_takes, Answered, Takes-goes, Takes-gives, answers, El, elτ, after, head, arm_body, uncapped, block_ty, block_size, block_align, args, proved, leaves, type_size, FitsInBlock, ok_of, err_of, None, R, empties}
 use denote.RawPtr.{InBlock}
 use mir.Syntax.{Body}
 use denote.Struct.Declared as Declared
-use Rattle.core.proofs.mem.Param.{R}
 use Rattle.core.specs.contracts.alloc.AllocError as refusal
 use Rattle.core.specs.contracts.result.Result as outcome
-use Rattle.starlark_columns.specs.Places.{empties}
 use Rattle.starlark_columns.proofs.Fields.{word, mark, three, address_made, HeldData, held_made, ClaimData, claim_made}
 use Rattle.starlark_columns.proofs.Memory.{Row, of_room}
 use Rattle.starlark_columns.proofs.PairRooms.{some_weight}

@@ -1,12 +1,9 @@
 -- `allocate_pair` asks for a block of two arrays, and cuts it into the places of both and the right to give it back. Assumes `Logic`.
-use Rattle.starlark_columns.proofs.Walking.{◌≡◌, ℕ, ◌+◌, ◌*◌, ◌<◌, ◌^◌, Option, Bool, true, false, List, [], ◌∷◌, length, refl, sym, ap, subst, ◌∙◌, lit<, w64, IfOk, Ok, Err, Fml, ftrue, fsep, froom, flft, Incl-trans, SProp, emp, ◌⊑◌, fact, fact_i, tables, eqb, length-replicate, cond, inst_fn, bare, Ty, named, ty_array, a_type, dcons, dnil, Val, vint, vptr, vstruct, vcons, vnil, WT, capped, size-raw, align-raw, Wp, after_seq, at_return, alloc_all, pass_all, free_all, look_at, get, get_in, get_tag, sets, sets_last, lands_as, env, After, any_q, ‵, raw, ◌⊛◌, later, at_ret, ◌$◌, ◌∵◌, !, qed, by, move, keep, use0, use1, use2, split, split3, join, group, rewrite, fsplit, fjoin, feq_i, flt_i, await, live, vrt, in_variant, whole, agg, stop, fld, lit, no_more, and_then, of_opd, first, switches_on, exec, returns, enter, RefOf, usize, yes, Is, param, bounded, uint_vals, uint_Tells, RattleType, owns, Ptr, block_ptr, shr_vals, shr_Tells, plain, types_at, heard, nothing, owned, Struct, Struct-Makes, Tuple, calls_at, framed, Stays, stay_dropped, walk_of, Goes-dropped, Al, token, Answer-typed, Takes, at_takes, Answered, Takes-goes, Takes-gives, answers, El, elτ, HasLayout, after, head, arm_body, proved, leaves, type_size, ok_of, err_of}
-use Rattle.std.proofs.Common.{None}
+use Rattle.starlark_columns.proofs.Walking.{◌≡◌, ℕ, ◌+◌, ◌*◌, ◌<◌, ◌^◌, Option, Bool, true, false, List, [], ◌∷◌, length, refl, sym, ap, subst, ◌∙◌, lit<, w64, IfOk, Ok, Err, Fml, ftrue, fsep, froom, flft, Incl-trans, SProp, emp, ◌⊑◌, fact, fact_i, tables, eqb, length-replicate, cond, inst_fn, bare, Ty, named, ty_array, a_type, dcons, dnil, Val, vint, vptr, vstruct, vcons, vnil, WT, capped, size-raw, align-raw, Wp, after_seq, at_return, alloc_all, pass_all, free_all, look_at, get, get_in, get_tag, sets, sets_last, lands_as, env, After, any_q, ‵, raw, ◌⊛◌, later, at_ret, ◌$◌, ◌∵◌, !, qed, by, move, keep, use0, use1, use2, split, split3, join, group, rewrite, fsplit, fjoin, feq_i, flt_i, await, live, vrt, in_variant, whole, agg, stop, fld, lit, no_more, and_then, of_opd, first, switches_on, exec, returns, enter, RefOf, usize, yes, Is, param, bounded, uint_vals, uint_Tells, RattleType, owns, Ptr, block_ptr, shr_vals, shr_Tells, plain, types_at, heard, nothing, owned, Struct, Struct-Makes, Tuple, calls_at, framed, Stays, stay_dropped, walk_of, Goes-dropped, Al, token, Answer-typed, Takes, at_takes, Answered, Takes-goes, Takes-gives, answers, El, elτ, HasLayout, after, head, arm_body, proved, leaves, type_size, ok_of, err_of, None, R, empties}
 use mir.Syntax.{Body}
 use denote.Struct.Declared as Declared
-use Rattle.core.proofs.mem.Param.{R}
 use Rattle.core.specs.contracts.alloc.AllocError as refusal
 use Rattle.core.specs.contracts.result.Result as outcome
-use Rattle.starlark_columns.specs.Places.{empties}
 use Rattle.starlark_columns.specs.Paired.{two_arrays, pair_ty, second_offset, skipped, rooms_rejoin}
 use Rattle.starlark_columns.proofs.PairRooms.{cut_in_two, some_weight, both_within}
 use Rattle.starlark_columns.proofs.Fields.{word, mark, four, address_made, HeldData, held_made, PairClaimData, pair_claim_made}

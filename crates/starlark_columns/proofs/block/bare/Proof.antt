@@ -1,8 +1,5 @@
 -- `bare` makes places of no bytes out of nothing. Assumes `Logic`.
-use Rattle.starlark_columns.proofs.Walking.{◌≡◌, Option, ℕ, ◌*◌, ◌<◌, ◌^◌, List, [], ◌∷◌, length, refl, sym, subst, lit<, w64, ftrue, flft, emp, ◌⊑◌, fact, fact_i, length-replicate, inst_fn, a_type, Val, vint, vstruct, vcons, vnil, alloc_all, pass_all, free_all, look_at, get, sets, ‵, raw, ◌⊛◌, ◌$◌, ◌∵◌, !, qed, by, move, keep, use0, use2, split, fjoin, flt_i, agg, stop, from, addr, and_then, no_more, returns, enter, usize, yes, layouts, uint_vals, uint_Tells, owns, Ptr, block_ptr, plain, types_at, heard, nothing, Tuple, Stays, stay_dropped, walk_of, Goes-dropped, El, proved, leaves, type_size}
-use Rattle.std.proofs.Common.{None}
-use Rattle.core.proofs.mem.Param.{R}
-use Rattle.starlark_columns.specs.Places.{empties}
+use Rattle.starlark_columns.proofs.Walking.{◌≡◌, Option, ℕ, ◌*◌, ◌<◌, ◌^◌, List, [], ◌∷◌, length, refl, sym, subst, lit<, w64, ftrue, flft, emp, ◌⊑◌, fact, fact_i, length-replicate, inst_fn, a_type, Val, vint, vstruct, vcons, vnil, alloc_all, pass_all, free_all, look_at, get, sets, ‵, raw, ◌⊛◌, ◌$◌, ◌∵◌, !, qed, by, move, keep, use0, use2, split, fjoin, flt_i, agg, stop, from, addr, and_then, no_more, returns, enter, usize, yes, layouts, uint_vals, uint_Tells, owns, Ptr, block_ptr, plain, types_at, heard, nothing, Tuple, Stays, stay_dropped, walk_of, Goes-dropped, El, proved, leaves, type_size, None, R, empties}
 use Rattle.starlark_columns.proofs.Fields.{word, mark, both, address_made, HeldData, held_made}
 use Rattle.starlark_columns.proofs.Memory.{Row, weightless}
 use Rattle.starlark_columns.specs.contracts.block.Address as address

@@ -1,31 +1,8 @@
 -- `known` tells that the block of a right begins where the right is to. Assumes `Logic`.
-use Rattle.std.proofs.Common.{◌≡◌, ℕ, ◌*◌, ◌<◌, Bool, false, [], ◌∷◌, refl, sym}
-use base.Fml.{Fml, ftrue, flft}
-use base.Logic.{emp, guard_i}
-use contract.BorrowLft.{◌⊑◌}
-use contract.Monad.{fact, fact_i, fact_use}
-use lib.Dec.{eqb}
-use mathlib.Core.Bool.{cond}
-use mir.MapTy.{inst_fn}
+use Rattle.starlark_columns.proofs.Walking.{◌≡◌, ℕ, ◌*◌, ◌<◌, Bool, false, [], ◌∷◌, refl, sym, Fml, ftrue, flft, emp, guard_i, ◌⊑◌, fact, fact_i, fact_use, eqb, cond, inst_fn, Ty, ty_array, a_type, alloc_all, pass_all, free_all, look_at, get, sets, ‵, raw, ◌⊛◌, given, ◌$◌, ◌∵◌, !, qed, by, move, keep, use0, use1, split, learn, rewrite, fsplit, fjoin, sem, of_opd, returns, enter, no, layouts, owns, Ptr, Testable, plain, types_at, heard, nothing, Stays, stay_dropped, walk_of, Goes-dropped, El, R, elτ, proved, leaves, type_size, ghosts}
 use mir.Raw.{raw as bare}
-use mir.Syntax.{Ty, ty_array, a_type}
-use types.ByLocal.{alloc_all, pass_all, free_all, look_at, get, sets}
-use types.Kit.{‵, raw, ◌⊛◌, given, ◌$◌, ◌∵◌, !, qed, by, move, keep, use0, use1, split, learn, rewrite, fsplit, fjoin}
-use types.Logic.{sem}
-use types.Run.{of_opd, returns, enter}
-use denote.Exit.{no}
-use denote.Param.{layouts}
-use denote.RattleType.{owns}
-use denote.RawPtr.{Ptr, Testable}
-use denote.Signature.{plain, types_at}
-use denote.Steps.{heard, nothing}
-use denote.Triple.Walked.{Stays, stay_dropped, walk_of, Goes-dropped}
-use Rattle.core.proofs.mem.Param.{El, R, elτ}
 use Rattle.std.proofs.GlobalToken.{dealloc_token-Testable}
-use Rattle.std.proofs.raw_atomic.Walks.{proved, leaves}
-use Rattle.std.specs.Mem.{type_size}
 use Rattle.std.specs.contracts.alloc.Global as heap
-use Rattle.std.specs.contracts.impls.GlobalAllocator.TheImpl.{ghosts}
 use Rattle.starlark_columns.proofs.Fields.{mark, claim_told}
 use Rattle.starlark_columns.proofs.PairRooms.{some_weight}
 use Rattle.starlark_columns.specs.contracts.block.Claim as claim

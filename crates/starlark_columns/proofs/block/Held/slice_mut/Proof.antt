@@ -1,10 +1,7 @@
 -- `slice_mut` lends a run of items, and the places follow it. Assumes `Logic`.
-use Rattle.starlark_columns.proofs.Walking.{◌≡◌, ◌≤◌, ◌+◌, ◌-◌, Some, ℕ, ◌*◌, ◌<◌, ◌^◌, Option, List, [], ◌∷◌, ◌++◌, map, length, refl, sym, ap, subst, ◌∙◌, arith, w64, Ura, length-append, length-take, length-drop, take, front_of, Fml, GName, Lft, Share, ftrue, fsep, fat, flft, full_share, SProp, ent, sep, emp, never, id⊢, ◌⊑◌, fact, fact_i, tables, inst_fn, a_type, named, ty_ptr, Val, vint, vptr, has_ty, WT, alloc_all, pass_all, free_all, look_at, take_at, give_at, get, get_in, is, sets, sets_last, env, done, ‵, raw, ◌⊛◌, some, later, at_ret, ◌$◌, ◌∵◌, !, qed, by, move, keep, use0, use1, use2, split, split3, join, pick, rewrite, fsplit, fsplit3, group, fpack, fjoin, fjoin3, flt_i, flt_l, await, Logic, sem, cells, whole, sub, agg, stop, bin, size_word, fld, no_more, and_then, of_opd, first, blocks, exec, returns, enter, usize, yes, no, mem, cell_at, part_of, layout, layouts, uint_vals, uint_Tells, RattleType, owns, Ptr, block_ptr, in_block, in_a_block, Array, follows, Elements, lends_Elements, MutBor, mut_vals, mut_Tells, MutSlice, slice_ty, slice_val, plain, mut_ref_to, types_at, heard, nothing, opens, Stays, stay_dropped, walk_of, Goes-dropped, Goes-spent_ref, El, el_x, times_below, uncapped, after, length-map, proved, leaves, type_size, refill, slice_range}
-use Rattle.std.proofs.Common.{T}
+use Rattle.starlark_columns.proofs.Walking.{◌≡◌, ◌≤◌, ◌+◌, ◌-◌, Some, ℕ, ◌*◌, ◌<◌, ◌^◌, Option, List, [], ◌∷◌, ◌++◌, map, length, refl, sym, ap, subst, ◌∙◌, arith, w64, Ura, length-append, length-take, length-drop, take, front_of, Fml, GName, Lft, Share, ftrue, fsep, fat, flft, full_share, SProp, ent, sep, emp, never, id⊢, ◌⊑◌, fact, fact_i, tables, inst_fn, a_type, named, ty_ptr, Val, vint, vptr, has_ty, WT, alloc_all, pass_all, free_all, look_at, take_at, give_at, get, get_in, is, sets, sets_last, env, done, ‵, raw, ◌⊛◌, some, later, at_ret, ◌$◌, ◌∵◌, !, qed, by, move, keep, use0, use1, use2, split, split3, join, pick, rewrite, fsplit, fsplit3, group, fpack, fjoin, fjoin3, flt_i, flt_l, await, Logic, sem, cells, whole, sub, agg, stop, bin, size_word, fld, no_more, and_then, of_opd, first, blocks, exec, returns, enter, usize, yes, no, mem, cell_at, part_of, layout, layouts, uint_vals, uint_Tells, RattleType, owns, Ptr, block_ptr, in_block, in_a_block, Array, follows, Elements, lends_Elements, MutBor, mut_vals, mut_Tells, MutSlice, slice_ty, slice_val, plain, mut_ref_to, types_at, heard, nothing, opens, Stays, stay_dropped, walk_of, Goes-dropped, Goes-spent_ref, El, el_x, times_below, uncapped, after, length-map, proved, leaves, type_size, refill, slice_range, T, R, AreFilled, items_of, with_range}
 use lib.ListN.{drop}
-use Rattle.core.proofs.mem.Param.{R}
 use Rattle.starlark_columns.specs.Owned.{places_owned, row_owned}
-use Rattle.starlark_columns.specs.Places.{AreFilled, items_of, with_range}
 use Rattle.starlark_columns.specs.Lends.{rewritten, with_places}
 use Rattle.starlark_columns.proofs.Fields.{word, word_good, address_told, HeldData}
 use Rattle.starlark_columns.proofs.Memory.{Row, Around, run_long, run_out, run_in, to_items, of_items}

@@ -1,8 +1,7 @@
 -- `told` reads where the rows lie from what a `&` to the right says. Assumes `Logic`.
-use Rattle.starlark_columns.proofs.Walking.{◌≡◌, ℕ, List, [], ◌∷◌, refl, sym, ap, subst, Fml, ftrue, fsep, flft, emp, ◌⊑◌, fact, fact_i, inst_fn, a_type, named, Val, vunit, vptr, alloc_all, pass_all, free_all, look_at, sets, ‵, raw, ◌⊛◌, ◌$◌, ◌∵◌, !, qed, by, move, keep, use0, split, fsplit, fjoin, feq_i, feq_l, unit_lit, of_opd, returns, enter, RefOf, yes, param, layouts, RattleType, owns, Ptr, unhide, Bor, shr_vals, shr_Tells, plain, types_at, nothing, Stays, stay_dropped, walk_of, Goes-dropped, proved, leaves}
+use Rattle.starlark_columns.proofs.Walking.{◌≡◌, ℕ, List, [], ◌∷◌, refl, sym, ap, subst, Fml, ftrue, fsep, flft, emp, ◌⊑◌, fact, fact_i, inst_fn, a_type, named, Val, vunit, vptr, alloc_all, pass_all, free_all, look_at, sets, ‵, raw, ◌⊛◌, ◌$◌, ◌∵◌, !, qed, by, move, keep, use0, split, fsplit, fjoin, feq_i, feq_l, unit_lit, of_opd, returns, enter, RefOf, yes, param, layouts, RattleType, owns, Ptr, unhide, Bor, shr_vals, shr_Tells, plain, types_at, nothing, Stays, stay_dropped, walk_of, Goes-dropped, proved, leaves, ghosts}
 use denote.RawPtr.{InBlock}
 use Rattle.std.specs.contracts.alloc.Global as heap
-use Rattle.std.specs.contracts.impls.GlobalAllocator.TheImpl.{ghosts}
 use Rattle.starlark_columns.specs.Paired.{behind}
 use Rattle.starlark_columns.specs.contracts.block.PairClaim as claim
 use Rattle.starlark_columns.specs.contracts.block.PairClaim+T+U+Global.told.{ended, clauses}

@@ -1,8 +1,7 @@
 -- `try_insert` meets its contract, at any element type: the set is lent to the call that inserts the element or refuses it and comes back, is then written no more, and shows the element that is there. Assumes `Logic`.
-use Rattle.starlark_columns.proofs.Walking.{◌≡◌, refl, sym, ap, subst, List, [], ◌∷◌, none, Ura, full_share, common, Fn, Args, Dict, a_type, dcons, dnil, named, inst_fn, Val, vptr, SProp, ent, sep, emp, wand, id⊢, apply∗, ex_e, snd∗, Lft, GName, Share, ftrue, fdead, flft, Memory, Routine, Env, Calls, Loops, WpFn, Logic, sem, lft_new, lft_end, lft-common, ◌⊑◌, ⊑_trans, meet_⊑_left, meet_⊑_right, Fun, fact, fact_i, tables, FmC, ‵, raw, ◌⊛◌, some, later, ◌$◌, ◌∵◌, !, qed, move, keep, drop, use0, use1, use2, use3, split, split3, join, pick, fsplit, fsplit3, fjoin, suffices, frame, await, rewrite, done, stop, addr, of_opd, and_then, no_more, returns, enter, alloc_all, pass_all, free_all, look_at, get, through, sets, lands_as, env, no, RattleType, owns, unit, follows_so, Is, shows, lends_again, comes_back, LentAgain, param, bounded, layout, Laws, param_laws, of_field, copy_shared, Bor, MutBor, MutRef, ShrRef, mut_vals, mut_Tells, shr_vals, shr_Tells, plain, types_at, mut_ref_to, named_lft, nothing, heard, only, peeks, unit-field, unit-laws, unit-copy, calls_at, Clauses, Ended, Lasts, ensured, lasts, triple_of, Contract, Triple, framed, Stays, stay_dropped, walk_of, ends_at, Goes-spent_ref, Goes-blank, Good, result_laws, proved_at, Result, IfErr, ⊤}
+use Rattle.starlark_columns.proofs.Walking.{◌≡◌, refl, sym, ap, subst, List, [], ◌∷◌, none, Ura, full_share, common, Fn, Args, Dict, a_type, dcons, dnil, named, inst_fn, Val, vptr, SProp, ent, sep, emp, wand, id⊢, apply∗, ex_e, snd∗, Lft, GName, Share, ftrue, fdead, flft, Memory, Routine, Env, Calls, Loops, WpFn, Logic, sem, lft_new, lft_end, lft-common, ◌⊑◌, ⊑_trans, meet_⊑_left, meet_⊑_right, Fun, fact, fact_i, tables, FmC, ‵, raw, ◌⊛◌, some, later, ◌$◌, ◌∵◌, !, qed, move, keep, drop, use0, use1, use2, use3, split, split3, join, pick, fsplit, fsplit3, fjoin, suffices, frame, await, rewrite, done, stop, addr, of_opd, and_then, no_more, returns, enter, alloc_all, pass_all, free_all, look_at, get, through, sets, lands_as, env, no, RattleType, owns, unit, follows_so, Is, shows, lends_again, comes_back, LentAgain, param, bounded, layout, Laws, param_laws, of_field, copy_shared, Bor, MutBor, MutRef, ShrRef, mut_vals, mut_Tells, shr_vals, shr_Tells, plain, types_at, mut_ref_to, named_lft, nothing, heard, only, peeks, unit-field, unit-laws, unit-copy, calls_at, Clauses, Ended, Lasts, ensured, lasts, triple_of, Contract, Triple, framed, Stays, stay_dropped, walk_of, ends_at, Goes-spent_ref, Goes-blank, Good, result_laws, proved_at, Result, IfErr, ⊤, Option}
 use base.Share
 use Rattle.core.specs.contracts.result.Result as RS
-use Rattle.std.specs.Prelude.{Option}
 use Rattle.std.specs.declared.cmp.Eq as Eq
 use Rattle.std.specs.declared.cmp.PartialEq as PartialEq
 use Rattle.std.specs.declared.hash.Hash as Hash

@@ -1,11 +1,8 @@
 -- `lend_kept` lends the slots and the tags, and the whole table, open over the call, is closed by what they end as. Assumes
 -- `Logic`.
-use Rattle.starlark_columns.proofs.Walking.{◌≡◌, refl, sym, ap, subst, ◌∙◌, Bool, true, false, ◌&&◌, ℕ, ◌+◌, List, [], ◌∷◌, ◌++◌, length, Ura, full_share, Fn, Args, Dict, a_type, dcons, dnil, named, inst_fn, Val, vptr, vstruct, vcons, vnil, of_list, SProp, ent, emp, id⊢, ex_e, snd∗, Lft, GName, Share, ftrue, fsep, fauth, fres, flft, Memory, Routine, Calls, Loops, WpFn, ages, bor_new_deep, Logic, sem, open_ref, name_new, ◌⊑◌, Fun, fact, fact_i, tables, FmC, ‵, raw, ◌⊛◌, some, later, ◌$◌, ◌∵◌, !, qed, move, keep, drop, use0, use1, use2, split, split3, join, pick, fsplit, fsplit3, fjoin, fjoin3, fpack, fpick, feq_i, feq_l, rewrite, suffices, frame, group, await, done, stop, fld, addr, and_then, no_more, returns, enter, alloc_all, pass_all, free_all, look_at, get, through, sets, lands_as, no, follows, such_by, follows_by, Is, shows, mem, part_at, param, bounded, Laws, param_laws, RattleType, owns, Bor, MutBor, ShrRef, mut_vals, mut_Tells, shr_Tells, plain, types_at, mut_ref_to, named_lft, nothing, heard, peeks, only, Tuple, tuple_laws, calls_at, Clauses, Ended, ensured, lasts, triple_of, Contract, Triple, framed, Stays, stay_dropped, walk_of, ends_at, Goes-spent_ref, proved, ◌-◌}
+use Rattle.starlark_columns.proofs.Walking.{◌≡◌, refl, sym, ap, subst, ◌∙◌, Bool, true, false, ◌&&◌, ℕ, ◌+◌, List, [], ◌∷◌, ◌++◌, length, Ura, full_share, Fn, Args, Dict, a_type, dcons, dnil, named, inst_fn, Val, vptr, vstruct, vcons, vnil, of_list, SProp, ent, emp, id⊢, ex_e, snd∗, Lft, GName, Share, ftrue, fsep, fauth, fres, flft, Memory, Routine, Calls, Loops, WpFn, ages, bor_new_deep, Logic, sem, open_ref, name_new, ◌⊑◌, Fun, fact, fact_i, tables, FmC, ‵, raw, ◌⊛◌, some, later, ◌$◌, ◌∵◌, !, qed, move, keep, drop, use0, use1, use2, split, split3, join, pick, fsplit, fsplit3, fjoin, fjoin3, fpack, fpick, feq_i, feq_l, rewrite, suffices, frame, group, await, done, stop, fld, addr, and_then, no_more, returns, enter, alloc_all, pass_all, free_all, look_at, get, through, sets, lands_as, no, follows, such_by, follows_by, Is, shows, mem, part_at, param, bounded, Laws, param_laws, RattleType, owns, Bor, MutBor, ShrRef, mut_vals, mut_Tells, shr_Tells, plain, types_at, mut_ref_to, named_lft, nothing, heard, peeks, only, Tuple, tuple_laws, calls_at, Clauses, Ended, ensured, lasts, triple_of, Contract, Triple, framed, Stays, stay_dropped, walk_of, ends_at, Goes-spent_ref, proved, ◌-◌, copied, copied_laws, Option}
 use lib.Dec as Dec
 use base.Share
-use denote.Param.{copied}
-use denote.Param.Laws.{copied_laws}
-use Rattle.std.specs.Prelude.{Option}
 use Rattle.std.specs.declared.clone.Clone as Clone
 use Rattle.starlark_columns.specs.declared.loan.Keeps as Keeps
 use Rattle.starlark_columns.specs.declared.loan.Loan.{Loan}

@@ -1,14 +1,13 @@
 -- `get_mut` meets its contract, at any two item types: the struct stays open while its columns are lent, each to a
 -- call, and what they follow closes it; where the first has no item, both are given up and it closes unchanged. Assumes
 -- `Logic`.
-use Rattle.starlark_columns.proofs.Walking.{◌≡◌, refl, sym, ap, subst, ◌∙◌, arith, ℕ, ◌+◌, ◌<◌, ◌^◌, List, [], ◌∷◌, length, Ura, full_share, Fn, Args, a_type, named, w64, inst_fn, Val, vint, vptr, vcons, vnil, of_list, SProp, ent, sep, emp, id⊢, ex_e, snd∗, Lft, Share, ftrue, fsep, flft, fauth, fres, Memory, Routine, Calls, Loops, WpFn, Tables, ages, bor_new_deep, Logic, sem, open_ref, name_new, ◌⊑◌, Fun, fact, fact_i, tables, tables_of, FmC, fm_of, WpFn-mono, whole, agg, learn, given, at_ret, rewrite, ‵, raw, ◌⊛◌, some, later, ◌$◌, ◌∵◌, !, qed, by, move, keep, use0, use1, use2, drop, split, split3, join, pick, fsplit3, fjoin, fjoin3, fpack, feq_i, feq_l, suffices, frame, await, group, done, stop, fld, look, load, addr, lit, of_opd, and_then, no_more, first, exec, returns, enter, alloc_all, pass_all, free_all, look_at, get, get_in, get_tag, through, sets, sets_last, lands_as, env, yes, no, RattleType, owns, usize, follows, follows_if, follows_both, both_by, mem, part_at, param, layout, layouts, Laws, param_laws, uint_vals, uint_Tells, uint_Makes, MutBor, MutRef, mut_vals, mut_Tells, plain, types_at, mut_ref_to, nothing, owned, heard, only, calls_at, Clauses, Ended, closing, ensured, lasts, Meets, triple_of, Contract, Triple, entered, says, Stays, stay_dropped, walk_of, ends_at, walked, walk_Meets, Goes-dropped, Goes-spent_ref, get_or, slice_get, slice_set, slice_get_within, length-set, Good, Some-of, none_of, ghost_name_of, option_copied_mut, inl, inr, suc-ne-zero, lit<, Env, live, vrt, in_variant, by_variants}
+use Rattle.starlark_columns.proofs.Walking.{◌≡◌, refl, sym, ap, subst, ◌∙◌, arith, ℕ, ◌+◌, ◌<◌, ◌^◌, List, [], ◌∷◌, length, Ura, full_share, Fn, Args, a_type, named, w64, inst_fn, Val, vint, vptr, vcons, vnil, of_list, SProp, ent, sep, emp, id⊢, ex_e, snd∗, Lft, Share, ftrue, fsep, flft, fauth, fres, Memory, Routine, Calls, Loops, WpFn, Tables, ages, bor_new_deep, Logic, sem, open_ref, name_new, ◌⊑◌, Fun, fact, fact_i, tables, tables_of, FmC, fm_of, WpFn-mono, whole, agg, learn, given, at_ret, rewrite, ‵, raw, ◌⊛◌, some, later, ◌$◌, ◌∵◌, !, qed, by, move, keep, use0, use1, use2, drop, split, split3, join, pick, fsplit3, fjoin, fjoin3, fpack, feq_i, feq_l, suffices, frame, await, group, done, stop, fld, look, load, addr, lit, of_opd, and_then, no_more, first, exec, returns, enter, alloc_all, pass_all, free_all, look_at, get, get_in, get_tag, through, sets, sets_last, lands_as, env, yes, no, RattleType, owns, usize, follows, follows_if, follows_both, both_by, mem, part_at, param, layout, layouts, Laws, param_laws, uint_vals, uint_Tells, uint_Makes, MutBor, MutRef, mut_vals, mut_Tells, plain, types_at, mut_ref_to, nothing, owned, heard, only, calls_at, Clauses, Ended, closing, ensured, lasts, Meets, triple_of, Contract, Triple, entered, says, Stays, stay_dropped, walk_of, ends_at, walked, walk_Meets, Goes-dropped, Goes-spent_ref, get_or, slice_get, slice_set, slice_get_within, length-set, Good, Some-of, none_of, ghost_name_of, option_copied_mut, inl, inr, suc-ne-zero, lit<, Env, live, vrt, in_variant, by_variants, items_of, IsFilled}
 use base.Share
 use Rattle.std.specs.declared.option.Option.TheVariants.{Some, None}
 use Rattle.starlark_columns.specs.Block.{IsBehind}
 use Rattle.starlark_columns.specs.Laid.{relaid}
 use Rattle.starlark_columns.specs.contracts.block.Spot as spot
 use Rattle.starlark_columns.proofs.Addresses.{words, words_good, spot_made}
-use Rattle.starlark_columns.specs.Places.{items_of, IsFilled}
 use Rattle.starlark_columns.specs.Front.{IsFront}
 use Rattle.starlark_columns.proofs.Fronts.{front_filled, front_taken}
 use Rattle.starlark_vec2.specs.ColumnLending.{column}

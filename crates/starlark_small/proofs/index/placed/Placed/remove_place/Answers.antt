@@ -31,6 +31,12 @@ lower_above-requires-clause-even g c =
     let index = subst (IsIndexOf es) (sym c.self.view_is) c.requires.index in
     c.take_place.ensures.column.even ∙ c.self.invariant.even ∙ IsIndexOf-len es c.self.inside.table index
 
+pub lower_above-requires-clause-few : goal.lower_above-requires-clause-few
+lower_above-requires-clause-few g c =
+    let es = c.args.entries.now.entries in
+    let index = subst (IsIndexOf es) (sym c.self.view_is) c.requires.index in
+    omega (arith, c.self.invariant.narrow, IsIndexOf-len es c.self.inside.table index)
+
 pub remove-requires : goal.remove-requires
 remove-requires g c =
     let es = c.args.entries.now.entries in

@@ -1,12 +1,11 @@
 -- `lend_firsts` lends the first column, and the whole list, open over the call, is closed by what that follows. Assumes
 -- `Logic`.
-use Rattle.starlark_columns.proofs.Walking.{◌≡◌, refl, sym, ap, ◌∙◌, ℕ, ◌+◌, List, [], ◌∷◌, length, Ura, full_share, Fn, Args, a_type, named, w64, inst_fn, Val, vint, vptr, vstruct, vcons, vnil, SProp, ent, sep, emp, id⊢, ex_e, snd∗, Lft, GName, Share, ftrue, fsep, flft, fauth, Memory, Routine, Calls, Loops, WpFn, Tables, Logic, sem, ◌⊑◌, Fun, fact, fact_i, tables, tables_of, FmC, fm_of, WpFn-mono, ages, bor_new_deep, open_ref, name_new, ‵, raw, ◌⊛◌, some, later, ◌$◌, ◌∵◌, !, qed, move, keep, drop, use0, use1, use2, split, split3, join, pick, fsplit, fsplit3, fjoin, fjoin3, fpack, feq_i, rewrite, suffices, frame, await, group, done, stop, fld, look, load, of_opd, addr, and_then, no_more, returns, enter, alloc_all, pass_all, free_all, look_at, get, through, sets, lands_as, usize, no, uint_Makes, follows, RattleType, owns, mem, param, layouts, Laws, MutBor, mut_vals, mut_Tells, plain, types_at, mut_ref_to, named_lft, nothing, owned, heard, only, calls_at, Clauses, Ended, closing, ensured, lasts, Meets, triple_of, Contract, Triple, entered, Stays, stay_dropped, walk_of, ends_at, walked, walk_Meets, Goes-spent_ref, zip, shows, part_at, param_laws, tuple_laws, Ptr, in_a_block, peeks}
+use Rattle.starlark_columns.proofs.Walking.{◌≡◌, refl, sym, ap, ◌∙◌, ℕ, ◌+◌, List, [], ◌∷◌, length, Ura, full_share, Fn, Args, a_type, named, w64, inst_fn, Val, vint, vptr, vstruct, vcons, vnil, SProp, ent, sep, emp, id⊢, ex_e, snd∗, Lft, GName, Share, ftrue, fsep, flft, fauth, Memory, Routine, Calls, Loops, WpFn, Tables, Logic, sem, ◌⊑◌, Fun, fact, fact_i, tables, tables_of, FmC, fm_of, WpFn-mono, ages, bor_new_deep, open_ref, name_new, ‵, raw, ◌⊛◌, some, later, ◌$◌, ◌∵◌, !, qed, move, keep, drop, use0, use1, use2, split, split3, join, pick, fsplit, fsplit3, fjoin, fjoin3, fpack, feq_i, rewrite, suffices, frame, await, group, done, stop, fld, look, load, of_opd, addr, and_then, no_more, returns, enter, alloc_all, pass_all, free_all, look_at, get, through, sets, lands_as, usize, no, uint_Makes, follows, RattleType, owns, mem, param, layouts, Laws, MutBor, mut_vals, mut_Tells, plain, types_at, mut_ref_to, named_lft, nothing, owned, heard, only, calls_at, Clauses, Ended, closing, ensured, lasts, Meets, triple_of, Contract, Triple, entered, Stays, stay_dropped, walk_of, ends_at, walked, walk_Meets, Goes-spent_ref, zip, shows, part_at, param_laws, tuple_laws, Ptr, in_a_block, peeks, items_of}
 use base.Share
 use Rattle.starlark_columns.specs.Block.{IsBehind}
 use Rattle.starlark_columns.specs.Laid.{Laid, relaid}
 use Rattle.starlark_columns.specs.contracts.block.Spot as spot
 use Rattle.starlark_columns.proofs.Addresses.{words, words_good, spot_made}
-use Rattle.starlark_columns.specs.Places.{items_of}
 use Rattle.starlark_columns.specs.Front.{IsFront, with_items}
 use Rattle.starlark_columns.proofs.Fronts.{all_written, written_places}
 use Rattle.starlark_vec2.specs.ColumnLending.{column}

@@ -3,7 +3,7 @@ use Rattle.starlark_table.specs.Table.{member_at}
 use Rattle.starlark_table.specs.Layout.{at}
 use Rattle.starlark_table.proofs.Filling.{filled-by_some}
 use Rattle.starlark_table.proofs.Shape.{sound-written}
-use Rattle.starlark_table.proofs.ready_table.ReadyTable.item_mut.Goals as goal
+use Rattle.starlark_table.proofs.ready_table.ReadyTable.get_unchecked_mut.Goals as goal
 
 pub get_mut-requires : goal.get_mut-requires
 get_mut-requires g c =
