@@ -8,4 +8,5 @@ pub mod occupied;
 pub mod ordered;
 pub mod pairs;
 mod put;
+pub mod sets;
 pub mod unordered;

@@ -3,7 +3,7 @@ ghost use Rattle.starlark_lists.specs.Ordered.{same_ordered};
 ghost use Rattle.starlark_sets.specs.Unit.{same_unit};
 ghost use Rattle.std.specs.Hash as fed;
 ghost use Rattle.std.specs.Option.{option_map};
-ghost use Rattle.std.specs.Prelude.{◌≡◌, ℕ, ◌||◌, ◌+◌, ◌-◌, ◌≤◌, ◌<◌, ◌^◌, count_by, if◌then◌else◌, length, nat_eq, slice_get, sum, true, false, not, is_some, Some, None, IfOk, IfSome, OnOk, IsSome, IsNone};
+ghost use Rattle.std.specs.Prelude.{◌≡◌, ℕ, ◌||◌, ◌+◌, ◌-◌, ◌≤◌, ◌<◌, ◌^◌, count_by, if◌then◌else◌, length, nat_eq, slice_get, sum, true, false, not, is_some, Some, None, IfOk, IfSome, OnOk};
 ghost use Rattle.std.specs.Set.{is_member};
 ghost use Rattle.std.specs.String.{string_bytes, string_eq};
 ghost use Rattle.starlark_lists.specs.Entries.{entry_key};
@@ -15,7 +15,7 @@ pub mod lent;
 pub mod rearranged;
 
 use starlark_hash::{NoRoom, TextKey};
-use starlark_sets::{OrderedSet, SmallSet, TryInsertError};
+use starlark_sets::{OrderedSet, SmallSet};
 use std::alloc::{AllocError, Global};
 use std::hash::Hash;
 
@@ -80,34 +80,6 @@ pub fn add_vec<T: Eq + Hash + Drop>(
 {
     set.extend(items)?;
     Ok(())
-}
-
-/// Tries an element, which comes back where an equal one is there or there is no room.
-pub fn try_in<T: Eq + Hash + Drop>(set: &mut OrderedSet<T>, element: T) -> Option<T>
-    ensures back { IfSome result (λ back. back ≡ element) }
-    ensures there { contains T.eq T.hash_input set.old element ≡ true → IsSome result }
-    ensures lacking { 0 < set.old.room → contains T.eq T.hash_input set.old element ≡ false → result ≡ None }
-    ensures absent { IsNone result → contains T.eq T.hash_input set.old element ≡ false }
-{
-    match set.try_insert(element) {
-        Ok(()) => None,
-        Err(TryInsertError::Occupied(refused)) => Some(refused.value),
-        Err(TryInsertError::Memory(NoRoom(back))) => Some(back),
-    }
-}
-
-/// The same of a number.
-pub fn try_number(set: &mut OrderedSet<u32>, n: u32) -> Option<u32>
-    ensures back { IfSome result (λ back. back ≡ n) }
-    ensures there { contains nat_eq fed.u32 set.old n ≡ true → IsSome result }
-    ensures lacking { 0 < set.old.room → contains nat_eq fed.u32 set.old n ≡ false → result ≡ None }
-    ensures absent { IsNone result → contains nat_eq fed.u32 set.old n ≡ false }
-{
-    match set.try_insert(n) {
-        Ok(()) => None,
-        Err(TryInsertError::Occupied(refused)) => Some(refused.value),
-        Err(TryInsertError::Memory(NoRoom(back))) => Some(back),
-    }
 }
 
 /// The distinct items of a slice: each is there, and nothing else.

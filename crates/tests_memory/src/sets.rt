@@ -4,6 +4,7 @@
 
 use crate::given::{THRESHOLD, handed_back, holds, shows_elements, under};
 use starlark_hash::{Hashed, TextKey};
+use starlark_lending::sets::{stored, stored_number};
 use starlark_sets::{SmallSet, smallset};
 use starlark_small::UNINDEXED;
 use std::alloc::{AllocError, Global};
@@ -46,6 +47,8 @@ enum Call {
     InsertHashed,
     GetOrInsert,
     GetOrInsertOwned,
+    Stored,
+    StoredNumber,
     InsertUnique,
     InsertHashedUnique,
 }
@@ -56,6 +59,8 @@ fn put(set: &mut Numbers, call: Call) -> Refused {
         Call::Insert => handed_back(set.insert(100)).map(Hashed::new),
         Call::InsertHashed => handed_back(set.insert_hashed(Hashed::new(100))),
         Call::GetOrInsert => handed_back(set.get_or_insert(100)).map(Hashed::new),
+        Call::Stored => handed_back(stored(set, 100)).map(Hashed::new),
+        Call::StoredNumber => handed_back(stored_number(set, 100)).map(Hashed::new),
         Call::GetOrInsertOwned => match set.get_or_insert_owned(&100u32) {
             Ok(_) => None,
             Err(_) => Some(Hashed::new(100)),
@@ -134,6 +139,13 @@ fn takes_an_element_under_a_hash_without_a_look_up(rt: HostRuntime) -> Result<()
 #[test]
 fn shows_a_new_element_or_hands_it_back(rt: HostRuntime) -> Result<(), Fail> {
     holds(&rt, fills(rt.alloc(), Call::GetOrInsert)?);
+    Ok(())
+}
+
+#[test]
+fn shows_a_new_element_through_a_caller(rt: HostRuntime) -> Result<(), Fail> {
+    holds(&rt, fills(rt.alloc(), Call::Stored)?);
+    holds(&rt, fills(rt.alloc(), Call::StoredNumber)?);
     Ok(())
 }
 
