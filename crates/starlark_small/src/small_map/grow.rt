@@ -12,7 +12,7 @@ use std::mem;
 
 impl<K: Eq, V> SmallMap<K, V> {
     /// Inserts under the key's own hash, as `insert_hashed` does under one that is brought.
-    #[inline]
+    #[inline(always)]
     pub fn insert(&mut self, key: K, value: V) -> Result<Option<V>, NoRoom<(K, V)>>
     where
         K: Hash + Drop,
@@ -30,6 +30,7 @@ impl<K: Eq, V> SmallMap<K, V> {
     /// the capacity grows as that of a `Vec2` does, and may have grown where the key is refused: a second refusal grows
     /// it no further. There is an index afterwards exactly where there was one, or where the list is now longer than
     /// `UNINDEXED`. Length plus room never falls.
+    #[inline(always)]
     pub fn insert_hashed(
         &mut self,
         key: Hashed<K>,
@@ -39,7 +40,6 @@ impl<K: Eq, V> SmallMap<K, V> {
         K: Drop,
         ensures inserts { Inserts K.eq key value (key, value) self.old self.new result }
     {
-        prove!(self.index().is_some() || self.len() <= UNINDEXED);
         // A look that sees at once that the key is new and where its place goes is mostly the only one.
         if let Some(slot) = self.index.vacancy(key.hash()) {
             if self.room() > 0 {
@@ -48,6 +48,21 @@ impl<K: Eq, V> SmallMap<K, V> {
                 return Ok(None);
             }
         }
+        self.insert_by_search(key, value)
+    }
+
+    // The same by a search. It is a call, so that what is inlined is the look alone.
+    #[inline(never)]
+    fn insert_by_search(
+        &mut self,
+        key: Hashed<K>,
+        value: V,
+    ) -> Result<Option<V>, NoRoom<(Hashed<K>, V)>>
+    where
+        K: Drop,
+        ensures inserts { Inserts K.eq key value (key, value) self.old self.new result }
+    {
+        prove!(self.index().is_some() || self.len() <= UNINDEXED);
         match self.get_index_of_hashed(key.as_ref()) {
             Some(i) => Ok(Some(mem::replace(self.value_at_mut(i), value))),
             None => match self.push(key, value) {

@@ -33,6 +33,7 @@ impl<K: Eq + Hash, V> UnorderedMap<K, V> {
     /// is one pair more. Only a new key is refused, where there is no room and no memory is found: then key and value
     /// come back, and the map is as it was. It grows only at room 0, to room for twice its pairs, or for 6, at most.
     #[tactic(auto, using(crate::proofs::Keys::table_len_written, crate::proofs::Callers::callers), unfolding(crate::specs::Calling::found))]
+    #[inline(always)]
     pub fn insert(&mut self, key: K, value: V) -> Result<Option<V>, NoRoom<(K, V)>>
     where
         K: Drop,
