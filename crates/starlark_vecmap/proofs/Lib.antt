@@ -4,6 +4,7 @@ pub mod Searching
 pub mod Views
 pub mod FirstAccepted
 pub mod Ordering
+pub mod Ascending
 pub mod OneValueWritten
 pub mod MappedRetention
 pub mod ValuesWritten

@@ -1,3 +1,4 @@
+pub mod Ascent
 pub mod EntryList
 pub mod Lending
 pub mod formers

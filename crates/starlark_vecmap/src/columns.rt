@@ -1,6 +1,7 @@
 //! What a vector map does to its two columns: pairs of a key and a value, and the hash of each.
-ghost use Rattle.std.specs.Prelude.{◌≡◌, ◌≤◌, length, fold, MatchBool, IsSortedByKey};
+ghost use Rattle.std.specs.Prelude.{◌≡◌, ◌+◌, ◌<◌, ◌≤◌, length, fold, MatchBool, IsSortedByKey};
 ghost use Rattle.starlark_lists.specs.Search.{Asks, CanSearch, keys_under};
+ghost use Rattle.starlark_vecmap.specs.Ascent.{TellsAscent};
 ghost use Rattle.starlark_vecmap.specs.EntryList.{entries_in};
 ghost use Rattle.starlark_lists.specs.Ordered.{ordered_feed};
 
@@ -76,16 +77,56 @@ fn search_long<K, V, F: FnMut(&K) -> bool>(
     None
 }
 
-// Whether the keys ascend.
+// How many keys are compared before a jump, where many ascend.
+const AT_ONCE: usize = 8;
+
+// Whether the keys ascend. The first few are looked at one by one, since a list in no order mostly shows it there.
 pub(crate) fn keys_ascend<K: Ord, V>(pairs: &[(K, V)]) -> bool
     ensures { MatchBool result (IsSortedByKey (λ p. p.0) K.cmp pairs.now) (IsSortedByKey (λ p. p.0) K.cmp pairs.now → ⊥) }
 {
-    for i in 1..pairs.len() {
+    let len = pairs.len();
+    if len == 0 {
+        return true;
+    }
+    let mut last = len.min(AT_ONCE) - 1;
+    if !ascend_one_by_one(pairs, 0, last + 1) {
+        return false;
+    }
+    while len - last > AT_ONCE {
+        if !ascend_at_once(pairs, last) {
+            return false;
+        }
+        last += AT_ONCE;
+    }
+    ascend_one_by_one(pairs, last, len)
+}
+
+// Whether the keys ascend from the place `low` up to `high`.
+#[inline]
+fn ascend_one_by_one<K: Ord, V>(pairs: &[(K, V)], low: usize, high: usize) -> bool
+    requires some { low < high }
+    requires within { high ≤ length pairs.now }
+    ensures { TellsAscent K.cmp pairs.now low high result }
+{
+    for i in low + 1..high {
         if pairs[i].0.cmp(&pairs[i - 1].0) == Ordering::Less {
             return false;
         }
     }
     true
+}
+
+// Whether the key at the place `low` and the `AT_ONCE` keys behind it ascend. No jump lies between them.
+#[inline]
+fn ascend_at_once<K: Ord, V>(pairs: &[(K, V)], low: usize) -> bool
+    requires { low + AT_ONCE < length pairs.now }
+    ensures { TellsAscent K.cmp pairs.now low (low + AT_ONCE + 1) result }
+{
+    let mut falls = false;
+    for i in 0..AT_ONCE {
+        falls |= pairs[low + i + 1].0.cmp(&pairs[low + i].0) == Ordering::Less;
+    }
+    !falls
 }
 
 // Writes each hash, and then what its value writes.

@@ -1,7 +1,14 @@
-use Rattle.std.proofs.Common.{◌≡◌, ℕ, ◌+◌, ◌<◌, false, slice_index_or}
+use Rattle.std.proofs.Common.{◌<◌, ◌+◌, ◌-◌, length}
+use Rattle.std.specs.List.Sorted.{IsSortedWithin}
 use Rattle.std.specs.Ordering.{is_lt}
 use Rattle.starlark_vecmap.proofs.columns.keys_ascend.Given as goal
 
-abbrev pub invariant-loop-i : goal.invariant-loop-i
-invariant-loop-i g l =
-    (k : ℕ) (d : g.row.K.Denot × g.row.V.Denot) → k + 1 < l.i → is_lt (g.K.Ord.cmp (slice_index_or l.pairs (k + 1) d).0 (slice_index_or l.pairs k d).0) ≡ false
+abbrev pub invariant-loop-last : goal.invariant-loop-last
+invariant-loop-last g l =
+    record {
+      within : l.last < length l.pairs;
+      ascend : IsSortedWithin (λ p q. is_lt (g.K.Ord.cmp p.0 q.0)) l.pairs 0 (l.last + 1);
+    }
+
+abbrev pub decreases-loop-last : goal.decreases-loop-last
+decreases-loop-last g l = length l.pairs - l.last

@@ -1,0 +1,67 @@
+-- Lists that ascend between two places.
+use Rattle.std.proofs.Common.{◌≡◌, ℕ, ◌+◌, ◌<◌, ◌≤◌, Bool, true, false, List, length, get_or, refl, sym, ◌∙◌, ap, inl, inr, arith}
+use Rattle.std.proofs.lemmas.Bool.{cases_lt, false≢true}
+use Rattle.std.proofs.lemmas.List.{get_or_default}
+use Rattle.std.specs.Prelude.{MatchBool, ◌||◌, ◌==◌, not}
+use Rattle.std.specs.List.Sorted.{IsSortedWithin}
+use Rattle.std.specs.Ordering.{is_lt, ordering_index}
+use Rattle.std.specs.declared.cmp.Ordering.{Ordering}
+use Rattle.std.specs.declared.cmp.Ordering.TheVariants.{Less, Equal, Greater}
+
+-- the test that an order is `Less`, as code writes it
+is_lt-index : (o : Ordering) → (ordering_index o == 0) ≡ is_lt o
+is_lt-index Less = refl
+is_lt-index Equal = refl
+is_lt-index Greater = refl
+
+-- what it tells of two keys, where they are known by other names
+pub is_lt-told : {K : Type 0} (cmp : K → K → Ordering) (a b c d : K) (told : Bool) (o : Ordering)
+    → told ≡ (ordering_index o == 0) → o ≡ cmp a b → a ≡ c → b ≡ d → told ≡ is_lt (cmp c d)
+is_lt-told cmp a b c d told o test order one other = test ∙ is_lt-index o ∙ ap is_lt order ∙ (λ j. is_lt (cmp (one j) (other j)))
+
+module _ {X : Type 0} (lt : X → X → Bool) (xs : List X) where
+  -- what ascends does so in each part
+  pub ascends-part : (low high from to : ℕ) → low ≤ from → to ≤ high → IsSortedWithin lt xs low high → IsSortedWithin lt xs from to
+  ascends-part low high from to later earlier all k d above below = all k d (omega arith) (omega arith)
+
+  -- two parts that share an element ascend together
+  pub ascends-joined : (low at high : ℕ) → IsSortedWithin lt xs low (at + 1) → IsSortedWithin lt xs at high → IsSortedWithin lt xs low high
+  ascends-joined low at high front back k d above below =
+      elim (cases_lt k at) [ inl h ↦ front k d above (omega arith) | inr h ↦ back k d h below ]
+
+  -- whether the last part ascends is whether all does, where the front does
+  pub ascends-whole : (low at high : ℕ) (told : Bool) → low ≤ at → IsSortedWithin lt xs low (at + 1)
+      → MatchBool told (IsSortedWithin lt xs at high) (IsSortedWithin lt xs at high → ⊥)
+      → MatchBool told (IsSortedWithin lt xs low high) (IsSortedWithin lt xs low high → ⊥)
+  ascends-whole low at high true above front back = ascends-joined low at high front back
+  ascends-whole low at high false above front back = λ all. back (ascends-part low high at high above (omega arith) all)
+
+  -- where no element was noted to fall, all ascend
+  pub ascends-told : (low from to : ℕ) (falls : Bool) → from ≡ to
+      → MatchBool falls (IsSortedWithin lt xs low from → ⊥) (IsSortedWithin lt xs low from)
+      → MatchBool (not falls) (IsSortedWithin lt xs low to) (IsSortedWithin lt xs low to → ⊥)
+  ascends-told low from to true same told = λ all. told (ascends-part low to low from (omega arith) (omega arith) all)
+  ascends-told low from to false same told = ascends-part low from low to (omega arith) (omega arith) told
+
+  -- the element x stands at a place of the list and y behind it
+  module _ (low at : ℕ) (x y : X) (within : at + 1 < length xs) (first : x ≡ get_or xs at x) (second : y ≡ get_or xs (at + 1) y) where
+    shown : (k : ℕ) (d : X) → k ≡ at → lt (get_or xs (k + 1) d) (get_or xs k d) ≡ lt y x
+    shown k d is =
+        let one = ap (λ n. get_or xs (n + 1) d) is ∙ get_or_default xs (at + 1) d y within ∙ sym second in
+        let other = ap (λ n. get_or xs n d) is ∙ get_or_default xs at d x (omega arith) ∙ sym first in
+        λ j. lt (one j) (other j)
+
+    further : (to : ℕ) → to ≡ at + 2 → lt y x ≡ false → IsSortedWithin lt xs low (at + 1) → IsSortedWithin lt xs low to
+    further to end rises all k d above below =
+        elim (cases_lt k at) [ inl h ↦ all k d above (omega arith) | inr h ↦ shown k d (omega arith) ∙ rises ]
+
+    falling : (to : ℕ) → to ≡ at + 2 → low ≤ at → lt y x ≡ true → IsSortedWithin lt xs low to → ⊥
+    falling to end above falls all = false≢true (sym (all at x above (omega arith)) ∙ shown at x refl ∙ falls)
+
+    -- that an element falls is noted beside what was seen up to it
+    pub ascends-noted : (from to : ℕ) (falls next : Bool) → from ≡ at + 1 → to ≡ at + 2 → low ≤ at → next ≡ lt y x
+        → MatchBool falls (IsSortedWithin lt xs low from → ⊥) (IsSortedWithin lt xs low from)
+        → MatchBool (falls || next) (IsSortedWithin lt xs low to → ⊥) (IsSortedWithin lt xs low to)
+    ascends-noted from to true next start end above is told = λ all. told (ascends-part low to low from (omega arith) (omega arith) all)
+    ascends-noted from to false true start end above is told = falling to end above (sym is)
+    ascends-noted from to false false start end above is told = further to end (sym is) (ascends-part low from low (at + 1) (omega arith) (omega arith) told)

@@ -1,0 +1,11 @@
+use Rattle.std.proofs.Common.{◌+◌}
+use Rattle.std.specs.Prelude.{MatchBool}
+use Rattle.std.specs.List.Sorted.{IsSortedWithin}
+use Rattle.std.specs.Ordering.{is_lt}
+use Rattle.starlark_vecmap.proofs.columns.ascend_at_once.Given as goal
+
+abbrev pub invariant-loop-i : goal.invariant-loop-i
+invariant-loop-i g l =
+    MatchBool l.falls
+    (IsSortedWithin (λ p q. is_lt (g.K.Ord.cmp p.0 q.0)) l.pairs l.fn.low (l.fn.low + l.i + 1) → ⊥)
+    (IsSortedWithin (λ p q. is_lt (g.K.Ord.cmp p.0 q.0)) l.pairs l.fn.low (l.fn.low + l.i + 1))

@@ -1,0 +1,6 @@
+use Rattle.std.specs.List.Sorted.{IsSortedWithin}
+use Rattle.std.specs.Ordering.{is_lt}
+use Rattle.starlark_vecmap.proofs.columns.ascend_one_by_one.Given as goal
+
+abbrev pub invariant-loop-i : goal.invariant-loop-i
+invariant-loop-i g l = IsSortedWithin (λ p q. is_lt (g.K.Ord.cmp p.0 q.0)) l.pairs l.fn.low l.i
