@@ -5,12 +5,12 @@ use Rattle.std.proofs.Math.ListN.{set, length-set}
 use Rattle.std.proofs.lemmas.Bool.{cases_order}
 use Rattle.std.proofs.lemmas.List.{get_or-set_other, get_or-set_same, set-get_or}
 use Rattle.std.proofs.lemmas.List.Edits.{swapped_from_swap, length-swap}
-use Rattle.starlark_table.specs.Layout.{at, tag, slot_tag, empty_tag, tag_count, HasTags, IsTagged}
+use Rattle.starlark_table.specs.Layout.{at, tag, slot_tag, empty_tag, padding, tag_count, HasTags, IsTagged}
 use Rattle.starlark_table.proofs.Closing.{apart-by_order, full_in_range}
 use Rattle.starlark_table.proofs.TagCount.{long_tags}
 
 -- the tag of a hash is below the padding, and below the empty one
-pub tag-below : (hash : ℕ) → tag hash < 128
+pub tag-below : (hash : ℕ) → tag hash < padding
 unfolding tag
 tag-below hash = omega arith
 

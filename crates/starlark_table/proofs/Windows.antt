@@ -4,7 +4,7 @@ use Rattle.std.proofs.lemmas.Bool.{cases_lt, cases_order}
 use Rattle.std.proofs.Math.Nat.{pow-suc, div-div-eq-div-mul}
 use Rattle.std.specs.Int.Count.{count_trailing_zeros}
 use Rattle.starlark_table.specs.Table.{holders}
-use Rattle.starlark_table.specs.Layout.{at, distance, home, tag, tag_bits, empty_tag, InPlace, IsFar, IsTagged, BitsUpToEmpty}
+use Rattle.starlark_table.specs.Layout.{at, distance, home, tag, tag_bits, empty_tag, padding, InPlace, IsFar, IsTagged, BitsUpToEmpty}
 use Rattle.starlark_table.proofs.Circle.{home-below, distance-self, distance-ahead, distance-same, far_on, straight_to, round_on, between}
 use Rattle.starlark_table.proofs.Closing.{full_not_empty}
 use Rattle.starlark_table.proofs.Path.{path_from, path-run, path-over}
@@ -14,7 +14,7 @@ use Rattle.starlark_table.proofs.TagCount.{long_tags}
 
 module _ {T : Type 0} (tags : List ℕ) (slots : List (Option (ℕ × T))) (tagged : IsTagged tags slots) where
   -- a tag that is not the padding is that of a place
-  pub not_padding : (q t : ℕ) → q < length tags → get_or tags q 0 ≡ t → t ≢ 128 → q < length slots
+  pub not_padding : (q t : ℕ) → q < length tags → get_or tags q 0 ≡ t → t ≢ padding → q < length slots
   not_padding q t q_in e differ =
       elim (cases_lt q (length slots)) [
         | inl below ↦ below

@@ -14,18 +14,22 @@ pub(crate) const WINDOW: usize = 16;
 // over the full ones ends: once for so many tags is better than four times.
 const WIDE_WINDOW: usize = 64;
 
+// How many tags a hash may have.
+const TAGS: u64 = 254;
+
 // The tag of an empty place.
 pub(crate) const EMPTY: u8 = 255;
 
 // What stands behind the tags of the places: neither the tag of a hash nor that of an empty place.
-pub(crate) const PADDING: u8 = 128;
+pub(crate) const PADDING: u8 = 254;
 
+// The tag of a number: the more there are, the fewer other hashes a search looks at.
 #[inline]
 #[tactic(auto, unfolding(crate::specs::Layout::tag))]
 pub(crate) fn tag(number: u64) -> u8
     ensures { result ≡ tag number }
 {
-    ((number >> 25) & 127) as u8
+    ((((number >> 16) & 0xffff) * TAGS) >> 16) as u8
 }
 
 // How many tags there are beside these slots.
