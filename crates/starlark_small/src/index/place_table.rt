@@ -166,13 +166,14 @@ impl PlaceTable {
     }
 
     /// Takes the last place out.
+    #[inline(always)]
     pub(crate) fn take_last<K, V>(&mut self)
         requires { (es : List (Entry K V)) × IsIndexOf es self.old × (0 < length es) }
         ensures { TakesLastPlace K V self.old self.new }
     {
         match &mut self.width {
             Width::Narrow(table) => table.take_last::<K, V>(),
-            Width::Wide(table) => table.take_last::<K, V>(),
+            Width::Wide(table) => take_last_wide::<K, V>(table),
         }
     }
 
@@ -237,6 +238,16 @@ impl PlaceTable {
             Width::Wide(_) => None,
         }
     }
+}
+
+// Takes the last place out, among places of 64 bits.
+#[cold]
+#[inline(never)]
+fn take_last_wide<K, V>(table: &mut Placed<usize>)
+    requires { (es : List (Entry K V)) × IsIndexOf es table.old × (0 < length es) }
+    ensures { TakesLastPlace K V table.old table.new }
+{
+    table.take_last::<K, V>();
 }
 
 // Notes the next place among places of 64 bits. Few lists are so long: apart, it leaves the code of the others short.

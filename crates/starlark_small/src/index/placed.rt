@@ -141,6 +141,7 @@ impl<N: PlaceNumber> Placed<N> {
     }
 
     /// Takes the last place out.
+    #[inline(always)]
     pub(super) fn take_last<K, V>(&mut self)
         requires { (es : List (Entry K V)) × IsIndexOf es self.old × (0 < length es) }
         ensures { TakesLastPlace K V self.old self.new }
