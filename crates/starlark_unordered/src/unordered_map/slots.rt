@@ -1,12 +1,14 @@
 //! The pairs of an `UnorderedMap` by their slots, on which the calls and the entries are written.
-ghost use Rattle.std.specs.Prelude.{◌≡◌, true, None, Some};
+ghost use Rattle.std.specs.Prelude.{◌≡◌, ◌<◌, true, None, Some, Ok, IfSome};
 ghost use Rattle.std.specs.Borrow.{sem};
 ghost use Rattle.std.specs.Fn.{CalledAt, TakesAt};
 ghost use Rattle.std.specs.Map.{lookup};
 ghost use Rattle.std.specs.Option.{is_some, option_copied, option_map};
 ghost use Rattle.starlark_hash.specs.Hasher.{own_hash};
+ghost use Rattle.starlark_hash.specs.HashValue.{hash_number, promoted};
 ghost use Rattle.starlark_lists.specs.Search.{CanSearch};
 ghost use Rattle.starlark_table.specs.Table.{item_in};
+ghost use Rattle.starlark_table.specs.Vacancy.{IsVacancy};
 ghost use Rattle.starlark_unordered.specs.Changing.{AddsAt, TakesSlot};
 ghost use Rattle.starlark_unordered.specs.Pairs.{pairs_of, keys_under, under_own, IsSlotOf};
 ghost use Rattle.starlark_unordered.specs.RawEntry.{Accepts};
@@ -93,6 +95,37 @@ impl<K: Eq + Hash, V> UnorderedMap<K, V> {
                 ensures { CalledAt F.FnMut is_match.entry pair.now.0 result is_match.exit }
             { is_match(&pair.0) },
         )
+    }
+
+    // An empty slot for a new key under its own hash, where there is room, and one look at the table shows that no key is
+    // the query's. It is good until the next change.
+    #[inline(always)]
+    pub(crate) fn slot_for_new<Q: KeyQuery<K>>(
+        &self,
+        hash: StarlarkHashValue,
+        query: &Q,
+    ) -> Option<usize>
+        requires { hash ≡ own_hash Q.hash_input query.now }
+        ensures room { IfSome result (λ _. 0 < self.now.room) }
+        ensures vacant { IfSome result (λ slot. IsVacancy (promoted (hash_number hash)) self.now.slots slot) }
+        ensures absent { IfSome result (λ _. lookup (Q.equivalent query.now) (pairs_of self.now) ≡ None) }
+    {
+        if self.table.room() == 0 {
+            return None;
+        }
+        self.table.vacancy(hash)
+    }
+
+    // Puts a new key under its own hash into such a slot.
+    #[inline(always)]
+    pub(crate) fn insert_at(&mut self, hash: StarlarkHashValue, key: K, value: V, slot: usize)
+        requires own { hash ≡ own_hash K.hash_input key }
+        requires room { 0 < self.old.room }
+        requires vacant { IsVacancy (promoted (hash_number hash)) self.old.slots slot }
+        requires absent { lookup (K.eq key) (pairs_of self.old) ≡ None }
+        ensures puts { AddsAt K.eq self.old self.new key value (Ok slot) }
+    {
+        self.table.insert_at(hash, (key, value), slot);
     }
 
     // Puts a new key in under its own hash, and answers its slot.

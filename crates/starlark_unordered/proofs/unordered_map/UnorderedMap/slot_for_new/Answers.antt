@@ -1,0 +1,15 @@
+use Rattle.std.proofs.Common.{sym, ap, ◌∙◌, ◌≡◌, None, IfSome, subst}
+use Rattle.std.specs.Map.{lookup}
+use Rattle.starlark_hash.specs.Hasher.{finish_small, after_writes}
+use Rattle.starlark_hash.specs.HashValue.{hash_number, promoted}
+use Rattle.starlark_unordered.specs.Pairs.{pairs_of}
+use Rattle.starlark_unordered.proofs.Keys.{none_under}
+use Rattle.starlark_unordered.proofs.unordered_map.UnorderedMap.slot_for_new.Goals as goal
+
+pub returns-clause-absent : goal.returns-clause-absent
+returns-clause-absent g c =
+    let t = g.Q.Equivalent.equivalent c.args.query.now in
+    subst (λ m. IfSome c.vacancy.result (λ x. lookup t (pairs_of m) ≡ None)) c.self.view_is
+    (none_under g.K.PartialEq.eq g.K.Hash.hash_input g.met.K.Eq.laws t (g.met.Q.Equivalent.respects_eq c.args.query.now) c.vacancy.result (promoted (hash_number c.args.hash)) c.self.inside.table c.self.invariant
+    (λ k does. ap (λ ws. promoted (hash_number (finish_small (after_writes ws)))) (sym (g.met.Q.KeyQuery.feeds_alike c.args.query.now k does)) ∙ ap (λ h. promoted (hash_number h)) (sym c.requires))
+    c.vacancy.ensures.none)
