@@ -137,9 +137,11 @@ impl Workload {
             | Workload::Miss
             | Workload::Walk => &[4, 8, 16, 17, 24, 32, 64, 1000, 10_000, 100_000, 1_000_000],
             Workload::Hold => &[0, 1, 4, 8],
-            Workload::Cycle(Removed::Middle) | Workload::Drain => &[8, 17, 24, 32, 1000, 10_000],
+            Workload::Cycle(Removed::Middle) | Workload::Drain => {
+                &[8, 17, 24, 32, 64, 1000, 10_000]
+            }
             Workload::Cycle(_) => &[1000, 10_000, 100_000],
-            Workload::Pop => &[8, 17, 24, 32, 1000, 10_000, 1_000_000],
+            Workload::Pop => &[8, 17, 24, 32, 64, 1000, 10_000, 1_000_000],
             Workload::Sort | Workload::SortAgain => &[8, 32, 1000, 100_000, 1_000_000],
             Workload::UnorderedInsert
             | Workload::UnorderedHit
