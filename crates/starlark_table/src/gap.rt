@@ -1,29 +1,84 @@
 //! Removal from the slots: the members behind an emptied place move back, so that none is lost to its search.
 ghost use Rattle.std.specs.Prelude.{◌≡◌, ◌≢◌, ℕ, ◌+◌, ◌<◌, ◌≤◌, None, true, false, ◌∷◌, length, IfSome, IfNone, IsPermutation, slice_index_or, slice_set};
+ghost use Rattle.std.specs.List.{swap};
+ghost use Rattle.starlark_columns.specs.Places.{IsFilled};
 ghost use Rattle.starlark_table.specs.Table.{filled};
-ghost use Rattle.starlark_table.specs.Layout.{at, distance, empty_tag, window, InPlace, HasGap, IsBetweenEmpty, IsFar, IsNear, IsTagged};
+ghost use Rattle.starlark_table.specs.Layout.{at, empty_tag, window, Crosses, InPlace, HasGap, IsBetweenEmpty, IsNear, IsTagged};
 ghost use Rattle.starlark_table.specs.Growth.{limit};
 
 use crate::follow::Follows;
 use crate::kept::{Kept, KeptHash};
-use crate::places::{distance, home_among, is_far, next_place};
+use crate::places::{distance, home_among, is_far, next_place, window_behind};
 use crate::probe::{Slots, is_full};
 use crate::tags::{EMPTY, is_passed};
 
-// Whether a member stands behind the first window of its search, and has the hole on its way.
+// Whether the member of a place stands behind the first window of its search, and has the hole on its way.
 #[inline]
-fn crosses(count: usize, home: usize, hole: usize, place: usize) -> bool
-    requires home { home < count }
-    requires hole { hole < count }
-    requires place { place < count }
-    ensures yes { result ≡ true → IsFar home place × distance count home hole < distance count home place }
-    ensures no { result ≡ false → IsFar home place → distance count home place ≤ distance count home hole }
+fn crosses<T, H: KeptHash>(slots: &Slots<T, H>, hole: usize, place: usize) -> bool
+    requires hole { hole < length slots.now }
+    requires full { IsFilled slots.now place }
+    ensures yes { result ≡ true → Crosses (length slots.now) slots.now hole place }
+    ensures no { result ≡ false → Crosses (length slots.now) slots.now hole place → ⊥ }
 {
+    let count = slots.places();
+    let home = home_among(count, &slots.get(place).0);
     is_far(home, place) && distance(count, home, hole) < distance(count, home, place)
 }
 
-// Moves members back, each with its tag, so that no way from a home to its member crosses the empty place `start`. What
-// follows is told of each. Few removals want it, so it is a call.
+// A member that crosses the hole: the one a window behind it, else the first one behind it. Of many that share a home so
+// one in sixteen moves, and those of a window stay side by side.
+#[inline]
+fn next_across<T, H: KeptHash>(slots: &Slots<T, H>, tags: &[u8], hole: usize) -> Option<usize>
+    requires hole { hole < length slots.now }
+    requires empty { at slots.now hole ≡ None }
+    requires gap { HasGap (length slots.now) slots.now hole }
+    requires tagged { IsTagged tags.now slots.now }
+    requires free { (q : ℕ) × (q < length slots.now) × (q ≢ hole) × (at slots.now q ≡ None) }
+    ensures found { IfSome result (λ place. Crosses (length slots.now) slots.now hole place) }
+    ensures none { IfNone result (InPlace (length slots.now) slots.now) }
+{
+    let count = slots.places();
+    let beyond = window_behind(hole, count);
+    if tags[beyond] != EMPTY && crosses(slots, hole, beyond) {
+        return Some(beyond);
+    }
+    let mut next = next_place(hole, count);
+    while tags[next] != EMPTY {
+        if crosses(slots, hole, next) {
+            return Some(next);
+        }
+        next = next_place(next, count);
+    }
+    None
+}
+
+// Moves a member into an empty place, with its tag. What follows is told of it.
+#[inline]
+fn move_into<T, H: KeptHash, F: Follows<T>>(
+    slots: &mut Slots<T, H>,
+    tags: &mut [u8],
+    hole: usize,
+    place: usize,
+    follower: &mut F,
+)
+    requires hole { hole < length slots.old }
+    requires empty { at slots.old hole ≡ None }
+    requires full { IsFilled slots.old place }
+    requires tagged { IsTagged tags.old slots.old }
+    requires known { F.knows follower.old slots.old }
+    ensures moved { slots.new ≡ swap slots.old hole place }
+    ensures tagged { IsTagged tags.new slots.new }
+    ensures known { F.knows follower.new slots.new }
+    ensures size { F.size follower.new ≡ F.size follower.old }
+{
+    let member = slots.take(place);
+    follower.moved(&member.1, hole);
+    slots.write(hole, member);
+    tags.swap(hole, place);
+}
+
+// Moves members back, so that no way from a home to its member crosses the empty place `start`. Few removals want it, so it
+// is a call.
 #[inline(never)]
 pub(crate) fn close_gap<T, H: KeptHash, F: Follows<T>>(
     slots: &mut Slots<T, H>,
@@ -44,19 +99,10 @@ pub(crate) fn close_gap<T, H: KeptHash, F: Follows<T>>(
     ensures bag { IsPermutation (filled slots.old) (filled slots.new) }
     ensures tagged { IsTagged tags.new slots.new }
 {
-    let count = slots.places();
     let mut hole = start;
-    let mut next = next_place(start, count);
-    while tags[next] != EMPTY {
-        let home = home_among(count, &slots.get(next).0);
-        if crosses(count, home, hole, next) {
-            let member = slots.take(next);
-            follower.moved(&member.1, hole);
-            slots.write(hole, member);
-            tags.swap(hole, next);
-            hole = next;
-        }
-        next = next_place(next, count);
+    while let Some(place) = next_across(slots, tags, hole) {
+        move_into(slots, tags, hole, place, follower);
+        hole = place;
     }
 }
 

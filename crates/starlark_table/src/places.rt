@@ -28,6 +28,15 @@ pub(crate) fn window_after(start: usize, mask: usize) -> usize
     }
 }
 
+// The place a window behind another one, round a circle of a power of two of places. No proof rests on which it is.
+#[inline]
+pub(crate) fn window_behind(place: usize, count: usize) -> usize
+    requires { 0 < count }
+    ensures { result < count }
+{
+    place.wrapping_add(WINDOW) & (count - 1)
+}
+
 // The mask of these slots. Without slots none is asked for, and no test is made here.
 #[inline]
 pub(crate) fn mask_of<T, H: KeptHash>(slots: &Slots<T, H>) -> usize

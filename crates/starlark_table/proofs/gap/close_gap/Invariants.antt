@@ -4,15 +4,14 @@ use Rattle.starlark_table.specs.Layout.{distance, IsTagged}
 use Rattle.starlark_table.proofs.Closing.{Closing}
 use Rattle.starlark_table.proofs.gap.close_gap.Given as goal
 
-abbrev pub invariant-loop-tags : goal.invariant-loop-tags
-invariant-loop-tags g l = record {
-  counted : l.count ≡ length l.slots;
-  closing : Closing l.count l.start l.slots l.hole l.next;
+abbrev pub invariant-loop-place : goal.invariant-loop-place
+invariant-loop-place g l = record {
+  closing : Closing (length l.initial.slots) l.start l.slots l.hole;
   bag : IsPermutation (filled l.initial.slots) (filled l.slots);
   tagged : IsTagged l.tags l.slots;
   known : g.F.Follows.knows l.follower l.slots;
   size : g.F.Follows.size l.follower ≡ g.F.Follows.size l.initial.follower;
 }
 
-abbrev pub decreases-loop-tags : goal.decreases-loop-tags
-decreases-loop-tags g l = l.count - distance l.count l.start l.next
+abbrev pub decreases-loop-place : goal.decreases-loop-place
+decreases-loop-place g l = length l.initial.slots - distance (length l.initial.slots) l.start l.hole
