@@ -4,7 +4,7 @@
     docs/pages.py write    writes docs/words.md, from the comments of specs/, and docs/calls.md, from those of src/
     docs/pages.py check    says where a page is not what the sources say: a written page that is out of date; a public word
                            of specs/ or a public function with no comment; a name, a clause, a file, a target of make or a
-                           link that is not there; a page longer than it may be; a changelog that does not begin with VERSION;
+                           link that is not there; a changelog that does not begin with VERSION;
                            where crates/tests_memory/calls.txt is not the list of the calls that may be refused
 """
 import re
@@ -15,8 +15,6 @@ from pathlib import Path
 TOP = Path(__file__).resolve().parent.parent
 # Names of Rust's crates and of std that pages speak of, and that no source of this repository has.
 ELSEWHERE = set((TOP / "docs/elsewhere.txt").read_text().split())
-# The most words that a page may have.
-LONGEST = {"README.md": 1000, "CONTRIBUTING.md": 700, "docs/PROVED.md": 2500, "docs/DECISIONS.md": 7000, "docs/ARCHITECTURE.md": 1500, "crates/starlark_map/CALLING.md": 1500}
 
 
 def tracked(pattern):
@@ -215,10 +213,6 @@ def faults():
             for owner, call, note, _ in calls_of(path):
                 if not note:
                     yield f"{path.relative_to(TOP)}: the public function {owner + '::' if owner else ''}{call} has no comment"
-    for name, most in LONGEST.items():
-        words = len((TOP / name).read_text().split())
-        if words > most:
-            yield f"{name} has {words} words, and may have {most}"
     version, newest = (TOP / "VERSION").read_text().strip(), re.search(r"^## (\S+),", (TOP / "CHANGELOG.md").read_text(), re.M)
     if not newest or newest.group(1) != version:
         yield f"CHANGELOG.md does not begin with {version}, as VERSION has it"
