@@ -3,7 +3,7 @@
 
 # a script of map calls, by its path
 SCRIPT ?= examples/first.script
-# a crate, by its name; of `wrong`, none: all
+# a crate, by its name; of `wrong`, none: all; of `vendor`, the crate of the other repository that is to use the library
 CRATE ?=
 # the lines of a benchmark run of Rust's, to be set beside ours; none: ours alone
 RUST ?=
@@ -63,9 +63,9 @@ chart: ## draws the picture of speed from its table, at once
 	$(says)
 	@python3 bench/chart.py docs/SPEED.md > docs/speed.svg
 
-vendor: ## copies starlark_map and the crates below it INTO another repository, in seconds; with PROOFS=yes also their proofs, 4.5 GB
+vendor: ## copies starlark_map and the crates below it INTO another repository, whose CRATE is to use them, in seconds; with PROOFS=yes also their proofs, 4.5 GB
 	$(says)
-	@./vendor/copy "$$INTO" $(if $(PROOFS),--proofs)
+	@./vendor/copy "$$INTO" $(if $(CRATE),"$$CRATE") $(if $(PROOFS),--proofs)
 
 wrong: ## tries the wrong bodies that stand beside the gate, of CRATE or of all: minutes for each crate
 	$(says)
