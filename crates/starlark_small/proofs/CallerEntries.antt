@@ -1,7 +1,7 @@
 -- What stands in a list of entries after an insertion, a write and a removal: the key, all other keys, the length.
 use Rattle.std.proofs.Common.{◌≡◌, ℕ, zero, suc, ◌+◌, ◌<◌, Bool, true, false, cond, eqb, List, [], ◌∷◌, ◌++◌, length, map, get_or, position, remove, Option, Some, None, is_some, refl, sym, ap, ◌∙◌, arith}
 use Rattle.std.specs.Prelude.{◌&&◌, if◌then◌else◌}
-use Rattle.std.specs.Option.{option_map, option_map_or, unwrap_or}
+use Rattle.std.specs.Option.{option_map, option_map_or}
 use Rattle.std.specs.Cmp.{IsEquivalence}
 use Rattle.std.proofs.lemmas.Bool.{false≢true}
 use Rattle.std.proofs.lemmas.Bool.Decides.{nat_tests}
@@ -14,8 +14,8 @@ use Rattle.starlark_lists.specs.Entries.{Entry, IsSingle, entry_key, set_value_a
 use Rattle.starlark_lists.specs.Insertion.{insert_entry}
 use Rattle.starlark_lists.proofs.PositionLemmas.{position-cons, position-within}
 use Rattle.starlark_lists.proofs.EntryLemmas.{length-set_value_at}
-use Rattle.starlark_small.proofs.CallerPositions.{later, not_first, here, pushed_first, pushed_other, none_among}
-use Rattle.starlark_small.proofs.CallerKeys.{alike, place-set_value_at, written_here, written_there, removed_there, pushed_there, pushed_here, both, under, apart, same_key, keys-set_value_at}
+use Rattle.starlark_small.proofs.CallerPositions.{later, not_first, here, none_among}
+use Rattle.starlark_small.proofs.CallerKeys.{alike, written_here, written_there, removed_there, pushed_there, pushed_here, both, under, apart, same_key, keys-set_value_at}
 
 module _ {K V : Type 0} (eq : K → K → Bool) (es : List (Entry K V)) (key : Hashed K) (value : V) where
   -- a new key makes the list one longer, and stands last
@@ -40,13 +40,6 @@ module _ {K V : Type 0} (eq : K → K → Bool) (es : List (Entry K V)) (key : H
           | Some i ↦ λ at. written_here (alike eq key) es i value at
         ] refl
 
-    pub place-insert_entry : match_of eq (insert_entry eq es key value) key ≡ Some (unwrap_or (match_of eq es key) (length es))
-    place-insert_entry = elim (match_of eq es key) as (λ o. match_of eq es key ≡ o
-        → match_of eq (option_map_or (λ i. set_value_at es i value) o (es ++ (key, value) ∷ [])) key ≡ Some (unwrap_or o (length es))) [
-          | None ↦ λ at. pushed_first (λ e. alike eq key e.0) es (key, value) at (same_key eq laws key)
-          | Some i ↦ λ at. place-set_value_at (alike eq key) es i value ∙ at
-        ] refl
-
     -- every other key is found as before
     pub value-insert_other : (hash : StarlarkHashValue) (passes : K → Bool) → ((x y : K) → passes x ≡ true → passes y ≡ eq x y) → under hash passes key ≡ false
         → value_at (insert_entry eq es key value) (position_of hash passes (insert_entry eq es key value)) ≡ value_at es (position_of hash passes es)
@@ -55,13 +48,6 @@ module _ {K V : Type 0} (eq : K → K → Bool) (es : List (Entry K V)) (key : H
           | None ↦ λ at. pushed_there (under hash passes) es (key, value) not
           | Some i ↦ λ at. written_there (under hash passes) (alike eq key) (apart eq laws key hash passes one not) es i value at
         ] refl
-
-    pub place-insert_other : (hash : StarlarkHashValue) (passes : K → Bool) → ((x y : K) → passes x ≡ true → passes y ≡ eq x y) → under hash passes key ≡ false
-        → position_of hash passes (insert_entry eq es key value) ≡ position_of hash passes es
-    place-insert_other hash passes one not = elim (match_of eq es key) as (λ o. position_of hash passes (option_map_or (λ i. set_value_at es i value) o (es ++ (key, value) ∷ [])) ≡ position_of hash passes es) [
-      | None ↦ pushed_other (λ e. under hash passes e.0) es (key, value) not
-      | Some i ↦ place-set_value_at (under hash passes) es i value
-    ]
 
 -- a query that passes a key under its hash finds what the key finds
 pub position_of-match : {K V : Type 0} (eq : K → K → Bool) (passes : K → Bool) → ((x y : K) → passes x ≡ true → passes y ≡ eq x y) → (key : Hashed K) → passes (key_of key) ≡ true

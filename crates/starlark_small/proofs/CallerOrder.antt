@@ -45,10 +45,6 @@ same-permuted eq laws old new single moves under key =
     ∙ lookup_permuted (alike-laws eq laws) old new moves (distinct eq new (IsSingle-permutation eq laws old new single moves)) (hashed under key)
     ∙ sym (value_at-lookup eq old (hashed under key))
 
--- and where they stay
-pub same-entries : {K V : Type 0} (eq : K → K → Bool) (old new : List (Entry K V)) → new ≡ old → (under : StarlarkHashValue) (key : K) → found (eq key) under new ≡ found (eq key) under old
-same-entries eq old new same under key = ap (found (eq key) under) same
-
 -- the keys of sorted entries ascend
 pub keys-sorted : {K V : Type 0} {cmp : K → K → Ordering} → IsTotalOrder cmp → (es : List (Entry K V)) → IsSorted cmp (map entry_key (sorted_by_key cmp es))
 keys-sorted {K} {V} {cmp} total es k d low high =

@@ -38,10 +38,6 @@ pushed_steps v (p ∷ ps) =
     let longer : length (push v p).pairs ≡ length v.pairs + 1 = omega (arith, length_push v.pairs p) in
     pushed_steps (push v p) ps ∙ ap (λ l. steps l (made 1 (length v.pairs) v.capacity) (length ps)) longer ∙ steps_on (length v.pairs) v.capacity (length ps)
 
--- room once made is there
-made_twice : (n len capacity : ℕ) → made n len (made n len capacity) ≡ made n len capacity
-made_twice n len capacity = grind (arith, nat_tests)
-
 -- no capacity is lost, and it is at most twice the length
 made_bounds : (len capacity : ℕ) → (capacity ≤ made 1 len capacity) × (made 1 len capacity ≤ max capacity (max 4 (2 * (len + 1))))
 made_bounds len capacity = (grind (arith, nat_tests), grind (arith, nat_tests))
@@ -57,13 +53,6 @@ module _ {K V : Type 0} where
   stepped_steps : (old new : Map K V) → stepped_capacity old new ≡ steps (length old.entries) old.capacity (length new.entries - length old.entries)
   stepped_steps old new =
       pushed_steps (pair_list old.entries old.capacity) (drop (length old.entries) new.entries) ∙ ap (steps (length old.entries) old.capacity) (length-drop (length old.entries) new.entries)
-
-  -- a second refusal of the same reservation grows the capacity no further
-  pub StaysOrGrows-twice : (n : ℕ) (old mid new : Map K V) → mid.entries ≡ old.entries → StaysOrGrows n old mid → StaysOrGrows n mid new → StaysOrGrows n old new
-  StaysOrGrows-twice n old mid new same (inl a) (inl b) = inl (b ∙ a)
-  StaysOrGrows-twice n old mid new same (inr a) (inl b) = inr (b ∙ a)
-  StaysOrGrows-twice n old mid new same (inl a) (inr b) = inr (b ∙ (λ j. made n (length (same j)) (a j)))
-  StaysOrGrows-twice n old mid new same (inr a) (inr b) = inr (b ∙ (λ j. made n (length (same j)) (a j)) ∙ made_twice n (length old.entries) old.capacity)
 
   -- how far such a capacity is from the old one
   pub stepped_bounds : (old new : Map K V) → length old.entries ≤ length new.entries → (old.capacity ≤ stepped_capacity old new) × (stepped_capacity old new ≤ max old.capacity (max 4 (2 * length new.entries)))
