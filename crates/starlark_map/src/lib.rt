@@ -22,5 +22,4 @@ pub use starlark_hash::{
 pub use starlark_json::JsonFault;
 pub use starlark_runs::{Command, Reply, run};
 pub use starlark_sets::TryInsertError;
-pub use starlark_small::PlaceTable;
 pub use starlark_table::ReadyTable;

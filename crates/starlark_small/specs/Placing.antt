@@ -1,4 +1,4 @@
--- What calls make of a table of places. A `PlaceTable` and the tables of either width below it cite the same words.
+-- What calls make of a table of places.
 use Rattle.std.specs.Prelude.{◌≡◌, ℕ, ◌+◌, ◌-◌, ◌<◌, ◌≤◌, [], ◌∷◌, Bool, true, false, List, Option, Result, IfOk, OnErr, OnOk, IsPermutation, length, remove, vec_capacity}
 use Rattle.std.specs.Global.{Vec}
 use Rattle.std.specs.List.{Contains}

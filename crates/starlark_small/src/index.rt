@@ -1,12 +1,10 @@
 //! The index of a list of entries: it alone sees the table of places. The list stands beside it, and is brought to each call.
 mod changes;
 mod growth;
-mod place;
-mod place_table;
 mod placed;
 mod search;
 
-pub use place_table::PlaceTable;
+use placed::Placed;
 use starlark_columns::Perhaps;
 use std::alloc::Global;
 use std::marker::Model;
@@ -18,7 +16,7 @@ pub const UNINDEXED: usize = 16;
 /// stands in a block of its own, so that a map takes no more room for it than a pointer.
 #[derive(Drop)]
 pub(crate) struct Index {
-    table: Perhaps<PlaceTable>,
+    table: Perhaps<Placed>,
     // Where the table and its block get their memory.
     alloc: Global,
 }

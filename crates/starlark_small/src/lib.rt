@@ -9,7 +9,7 @@ mod own_hash;
 pub mod small_map;
 
 pub use entry::{Entry, OccupiedEntry, VacantEntry};
-pub use index::{PlaceTable, UNINDEXED};
+pub use index::UNINDEXED;
 pub use iter::{
     IntoIter, IntoIterHashed, IntoKeys, IntoValues, Iter, IterHashed, IterMut, Keys, Values,
     ValuesMut,

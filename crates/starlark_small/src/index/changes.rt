@@ -76,7 +76,7 @@ impl Index {
         };
         for i in 0..entries.len() {
             let hash = entries.get_unchecked(i).0.hash();
-            table.note(hash, i);
+            table.note(hash);
         }
     }
 

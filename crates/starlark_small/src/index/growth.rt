@@ -4,7 +4,8 @@ ghost use Rattle.starlark_small.specs.Index.{IsIndexed, index_room};
 ghost use Rattle.starlark_small.specs.Indexing.{MakesIndexFor, MakesIndexOf, NotesLast, ReservesAsItIs, ReservesIndex};
 ghost use Rattle.starlark_small.specs.Vacant.{IsVacantIn};
 
-use super::{Index, PlaceTable, UNINDEXED};
+use super::placed::Placed;
+use super::{Index, UNINDEXED};
 use starlark_columns::Perhaps;
 use starlark_hash::StarlarkHashValue;
 use starlark_vecmap::VecMap;
@@ -33,7 +34,7 @@ impl Index {
         if capacity <= UNINDEXED {
             return Ok(Index::none(alloc));
         }
-        let table = Perhaps::of(alloc, PlaceTable::with_capacity(alloc, capacity)?)?;
+        let table = Perhaps::of(alloc, Placed::with_capacity(alloc, capacity)?)?;
         Ok(Index { table, alloc })
     }
 
@@ -94,7 +95,7 @@ impl Index {
         let Some(table) = self.table.get_mut() else {
             return;
         };
-        table.note(hash, entries.len());
+        table.note(hash);
     }
 
     /// The same in a slot that `vacancy` answered for this hash.
@@ -113,6 +114,6 @@ impl Index {
         let Some(table) = self.table.get_mut() else {
             return;
         };
-        table.note_at(hash, entries.len(), slot);
+        table.note_at(hash, slot);
     }
 }

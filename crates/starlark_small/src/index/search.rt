@@ -1,16 +1,14 @@
 //! Searches through the index.
-ghost use Rattle.std.specs.Prelude.{◌≡◌, ◌<◌, length, slice_get, IfSome, Some};
-ghost use Rattle.std.specs.Fn.{CalledAt, TakesAt};
+ghost use Rattle.std.specs.Prelude.{◌≡◌, length, IfSome};
 ghost use Rattle.starlark_lists.specs.Search.{CanSearch, Searches, keys_under};
 ghost use Rattle.std.specs.Option.{option_copied};
-ghost use Rattle.starlark_small.specs.Index.{IsIndexOf, IsIndexed, IsSound, index_room};
+ghost use Rattle.starlark_small.specs.Index.{IsIndexed, IsSound, index_room};
 ghost use Rattle.starlark_small.specs.Map.{query_match};
 ghost use Rattle.starlark_small.specs.Vacant.{IsVacantIn};
 
-use super::place::{Place, PlaceNumber};
-use super::placed::Places;
-use super::{Index, PlaceTable, UNINDEXED};
+use super::{Index, UNINDEXED};
 use starlark_hash::{Equivalent, Hashed, StarlarkHashValue};
+use starlark_table::ReadyTable;
 use starlark_vecmap::VecMap;
 
 impl Index {
@@ -76,36 +74,12 @@ impl Index {
 
     /// The table of the places, where there is one.
     #[inline]
-    pub(crate) fn table(&self) -> Option<&PlaceTable>
+    pub(crate) fn table(&self) -> Option<&ReadyTable<u32, StarlarkHashValue>>
         ensures { option_copied result ≡ self.now }
     {
-        self.table.get()
+        match self.table.get() {
+            Some(placed) => Some(placed.table()),
+            None => None,
+        }
     }
-}
-
-// A place under the hash whose key `eq` accepts, in a table of places of one width.
-#[inline(always)]
-pub(super) fn find_in<N: PlaceNumber, K, V, F: FnMut(&K) -> bool>(
-    table: &Places<N>,
-    entries: &VecMap<K, V>,
-    hash: StarlarkHashValue,
-    mut eq: F,
-) -> Option<usize>
-    requires index { IsIndexOf entries.now.entries table.now }
-    requires callable { CanSearch F.FnMut (keys_under hash entries.now.entries) eq }
-    ensures { (last : F) × Searches F.FnMut (keys_under hash entries.now.entries) eq result last }
-{
-    // A hash is below 2^32, so no two have one promotion.
-    let _number = hash.get();
-    // Where the pairs lie is reckoned once, before the search.
-    let pairs = entries.pairs();
-    let place = table.find_item(
-        hash,
-        |i: &Place<N>| -> bool
-            requires within { i.now < length pairs.now }
-            requires takes { (p : K × V) → slice_get pairs.now i.now ≡ Some p → TakesAt F.FnMut eq p.0 }
-            ensures { (p : K × V) → slice_get pairs.entry.now i.now ≡ Some p → CalledAt F.FnMut eq.entry p.0 result eq.exit }
-        { eq(&pairs[i.get()].0) },
-    )?;
-    Some(place.get())
 }

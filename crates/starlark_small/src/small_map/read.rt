@@ -13,9 +13,9 @@ ghost use Rattle.starlark_small.specs.Calling.{FindsValue, NamesPlace, TellsPres
 ghost use Rattle.starlark_small.specs.Map.{query_match, query_match_by_value, own_match};
 
 use super::SmallMap;
-use crate::index::PlaceTable;
 use crate::own_hash::under_own_hash;
 use starlark_hash::{Equivalent, Hashed, StarlarkHashValue};
+use starlark_table::ReadyTable;
 use std::hash::Hash;
 
 // Under a hash that is brought
@@ -217,10 +217,10 @@ impl<K: Eq, V> SmallMap<K, V> {
         spare.min(self.index.room(&self.entries))
     }
 
-    /// The index, where there is one: each place under the promoted hash of its entry, and no other member. There is
-    /// one wherever the list is longer than `UNINDEXED`.
+    /// The index, where there is one: a table of the place of each entry, under the promoted hash of the entry, and of no
+    /// other member. There is one wherever the list is longer than `UNINDEXED`.
     #[inline]
-    pub fn index(&self) -> Option<&PlaceTable>
+    pub fn index(&self) -> Option<&ReadyTable<u32, StarlarkHashValue>>
         ensures places { IfSome result (λ table. IsPermutation (positions self.now.entries) (members table.now)) }
         ensures indexed { is_some result ≡ self.now.indexed }
         ensures long { unindexed < length self.now.entries → IsSome result }

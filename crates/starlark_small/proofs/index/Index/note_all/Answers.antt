@@ -1,9 +1,8 @@
-use Rattle.std.proofs.Common.{◌≡◌, ◌∷◌, ◌+◌, ◌<◌, ◌≤◌, ◌^◌, [], length, sym, ◌∙◌, ap, subst, IsPermutation, arith, take}
+use Rattle.std.proofs.Common.{◌∷◌, ◌+◌, ◌<◌, ◌≤◌, ◌^◌, [], sym, ◌∙◌, ap, subst, IsPermutation, arith, take}
 use mathlib.Core.Path.{subst⁻¹}
 use Rattle.std.specs.Option.{option_copied_mut}
-use Rattle.std.proofs.lemmas.List.{length-take}
 use Rattle.starlark_hash.specs.HashValue.{promoted}
-use Rattle.starlark_table.specs.Table.{members}
+use Rattle.starlark_table.specs.Table.{members, table_len}
 use Rattle.starlark_vecmap.specs.EntryList.{deref_entry}
 use Rattle.starlark_small.specs.Index.{IsIndexOf, IsIndexed, index_room}
 use Rattle.starlark_small.proofs.Keeping.{IsIndexOf-len, IsIndexOf-push, room-push, take-more}
@@ -17,17 +16,10 @@ loop-i-init g c =
       room = subst⁻¹ (λ o. index_room 0 o ≤ 0 + c.in-Some.table.now.room) was (omega arith);
     }
 
-pub note-requires-clause-room : goal.note-requires-clause-room
-note-requires-clause-room g c =
+pub note-requires : goal.note-requires
+note-requires g c =
     let i = c.loop-i.i in
     omega (arith, c.loop-i.invariant.room, c.requires.room, c.loop-i-test.true, c.len-i-end.ensures.len)
-
-pub note-requires-clause-next : goal.note-requires-clause-next
-note-requires-clause-next g c =
-    let es = c.args.entries.now.entries in
-    let i = c.loop-i.i in
-    let all = IsIndexOf-len (take i es) c.loop-i.table c.loop-i.invariant.index in
-    omega (arith, length-take i es, all, c.loop-i-test.true, c.len-i-end.ensures.len)
 
 pub loop-i-preserved : goal.loop-i-preserved
 loop-i-preserved g c =
@@ -36,11 +28,11 @@ loop-i-preserved g c =
     let e = deref_entry c.get_unchecked.result in
     let old = c.loop-i.invariant.index in
     let h = c.hash-hash.ensures in
-    let size : i ≡ length (take i es) = omega (arith, length-take i es) in
-    let added = subst (λ k. IsPermutation ((promoted k.0, i) ∷ members c.loop-i.table) (members c.note.new.self)) h c.note.ensures.noted.added in
-    let room = room-push (take i es) c.loop-i.table c.note.new.self (promoted e.0.hash.0, i) old added c.note.ensures.noted.room in
+    let n = table_len c.loop-i.table in
+    let added = subst (λ k. IsPermutation ((promoted k.0, n) ∷ members c.loop-i.table) (members c.note.new.self)) h c.note.ensures.noted.added in
+    let room = room-push (take i es) c.loop-i.table c.note.new.self (promoted e.0.hash.0, n) old added c.note.ensures.noted.room in
     record {
       index = subst (λ l. IsIndexOf l c.note.new.self) (sym (take-more i es e c.get_unchecked.ensures))
-          (IsIndexOf-push (take i es) e i c.loop-i.table c.note.new.self size old (subst (λ k. k.0 < 2 ^ 32) h c.note.ensures.fits) added);
+          (IsIndexOf-push (take i es) e n c.loop-i.table c.note.new.self (IsIndexOf-len (take i es) c.loop-i.table old) old (subst (λ k. k.0 < 2 ^ 32) h c.note.ensures.fits) added);
       room = omega (arith, room, c.loop-i.invariant.room);
     }

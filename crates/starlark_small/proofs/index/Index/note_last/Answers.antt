@@ -1,17 +1,11 @@
-use Rattle.std.proofs.Common.{◌<◌, arith, ◌≤◌, ◌^◌, ◌+◌, ◌∷◌, ◌∙◌, ap, subst, sym, IsPermutation, is_some, length}
+use Rattle.std.proofs.Common.{◌<◌, ◌≤◌, ◌^◌, ◌+◌, ◌∷◌, ◌∙◌, ap, subst, sym, IsPermutation, is_some, length}
 use mathlib.Core.Path.{subst⁻¹}
 use Rattle.std.specs.Option.{option_copied_mut}
 use Rattle.starlark_hash.specs.HashValue.{promoted}
-use Rattle.starlark_table.specs.Table.{members}
+use Rattle.starlark_table.specs.Table.{members, table_len}
 use Rattle.starlark_small.specs.Index.{IsIndexed, index_room}
 use Rattle.starlark_small.proofs.Keeping.{IsIndexOf-len, IsIndexOf-push, room-push}
 use Rattle.starlark_small.proofs.index.Index.note_last.Goals as goal
-
-pub note-requires-clause-next : goal.note-requires-clause-next
-note-requires-clause-next g c =
-    let es = c.args.entries.now.entries in
-    let was = sym c.self.view_is ∙ sym c.get_mut.ensures.value ∙ ap option_copied_mut c.in-Some.is in
-    omega (arith, IsIndexOf-len es c.in-Some.table.now (subst (λ o. IsIndexed es o) was c.requires.indexed), c.len.ensures.len)
 
 pub returns : goal.returns
 returns g c =
@@ -22,9 +16,9 @@ returns g c =
     let index = subst (λ o. IsIndexed es o) was c.requires.indexed in
     record {
       indexed = λ e same.
-          IsIndexOf-push es e c.len.result old new c.len.ensures.len index
+          IsIndexOf-push es e (table_len old) old new (IsIndexOf-len es old index) index
           (subst (λ k. k.0 < 2 ^ 32) (sym same) c.note.ensures.fits)
-          (subst (λ k. IsPermutation ((promoted k.0, c.len.result) ∷ members old) (members new)) (sym same) c.note.ensures.noted.added);
+          (subst (λ k. IsPermutation ((promoted k.0, table_len old) ∷ members old) (members new)) (sym same) c.note.ensures.noted.added);
       room = subst⁻¹ (λ o. index_room (length es) o ≤ 1 + new.room) was (room-push es old new _ index c.note.ensures.noted.added c.note.ensures.noted.room);
       kept = sym (ap is_some was);
     }

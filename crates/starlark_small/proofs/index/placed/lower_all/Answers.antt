@@ -4,7 +4,7 @@ use Rattle.starlark_small.proofs.Renaming.{replaced-each}
 use Rattle.starlark_small.proofs.index.placed.lower_all.Goals as goal
 
 pub returns : goal.returns
-returns g c = record {
+returns c = record {
   slots = replaced-each _ (lowered c.args.last) _ c.replace_each.ensures.replaced.0 _ _ (λ x y next called. (search (rules, of_calls, called), search (rules, of_calls, called))) c.replace_each.ensures.replaced.1;
   room = c.replace_each.ensures.room;
 }

@@ -26,7 +26,7 @@ write_place-requires-clause-full g c =
     let old = c.loop-j.table in
     let column = c.args.column.now.items in
     let it = some_at es j (omega (arith, c.loop-j-test.true, c.len-j-end.ensures.len)) in
-    let slot : c.get.result ≡ get_or column j 0 = c.get.ensures ∙ c.index.ensures ∙ any_default column j c.index.result.now 0 (omega (arith, c.requires.even, c.loop-j-test.true, c.len-j-end.ensures.len)) in
+    let slot : c.index.result.now ≡ get_or column j 0 = c.index.ensures ∙ any_default column j c.index.result.now 0 (omega (arith, c.requires.even, c.loop-j-test.true, c.len-j-end.ensures.len)) in
     subst IsSome (sym (ap (member_at old) slot ∙ lowered_there i j column old (promoted it.0.0.hash.0) c.loop-j.invariant.low (next_there es i j it.0 old it.1 c.loop-j.invariant.moved))) refl
 
 pub loop-j-preserved : goal.loop-j-preserved
@@ -39,7 +39,7 @@ loop-j-preserved g c =
     let column = c.args.column.now.items in
     let it = some_at es j (omega (arith, c.loop-j-test.true, c.len-j-end.ensures.len)) in
     let h = promoted it.0.0.hash.0 in
-    let slot : c.get.result ≡ get_or column j 0 = c.get.ensures ∙ c.index.ensures ∙ any_default column j c.index.result.now 0 (omega (arith, c.requires.even, c.loop-j-test.true, c.len-j-end.ensures.len)) in
+    let slot : c.index.result.now ≡ get_or column j 0 = c.index.ensures ∙ any_default column j c.index.result.now 0 (omega (arith, c.requires.even, c.loop-j-test.true, c.len-j-end.ensures.len)) in
     let at = lowered_there i j column old h c.loop-j.invariant.low (next_there es i j it.0 old it.1 c.loop-j.invariant.moved) in
     let is : new ≡ with_item old (get_or column j 0) (j - 1) = c.write_place.ensures ∙ ap (λ s. with_item old s (j - 1)) slot in
     let moved : IsPermutation ((h, j - 1) ∷ members old) ((h, j) ∷ members new) =

@@ -12,23 +12,23 @@ use Rattle.starlark_small.proofs.index.placed.name_slots.Goals as goal
 use Rattle.starlark_small.proofs.index.placed.name_slots.Goals.{in-Some-get, in_default-get}
 
 pub slots-init : goal.slots-init
-slots-init g c = record { named = named-none c.args.column.now.items c.args.table.now.slots; even = refl; spare = refl }
+slots-init c = record { named = named-none c.args.column.now.items c.args.table.now.slots; even = refl; spare = refl }
 
 pub index_mut-requires : goal.index_mut-requires
-index_mut-requires g c =
+index_mut-requires c =
     let slots = c.args.table.now.slots in
     let it = item-of (get_or slots c.in-Some.slot None) c.in-Some-get.place.now (sym c.in-Some-get.ensures) in
     let below = All-contains (λ m. m.1 < length c.args.column.now.items) (members c.args.table.now) (it.0, c.in-Some-get.place.now) c.requires.below
     (members-member_at c.args.table.now c.in-Some.slot (it.0, c.in-Some-get.place.now) it.1) in
-    omega (arith, c.get-in-Some-get.ensures, below, c.slots.invariant.even, c.slots.column.ok.0)
+    omega (arith, below, c.slots.invariant.even, c.slots.column.ok.0)
 
 pub prove-unreachable-requires : goal.prove-unreachable-requires
-prove-unreachable-requires g c =
+prove-unreachable-requires c =
     let slots = c.args.table.now.slots in
     full_not_empty (get_or slots c.in-Some.slot None) c.in-Some.ensures.full.1 (get_or_past slots c.in-Some.slot None (omega (arith, c.if-prove.true, c.places.ensures)))
 
 pub slots-preserved : goal.slots-preserved
-slots-preserved g c =
+slots-preserved c =
     let slots = c.args.table.now.slots in
     let i = c.in-Some.slot in
     let k = c.slots.invariant in
@@ -40,8 +40,7 @@ slots-preserved g c =
           (members-member_at c.args.table.now i (it.0, w.in-Some-get.place.now) it.1) in
           let old = c.slots.column.items in
           let x = w.in-Some-get.place.now in
-          let items : c.match-get.column.items ≡ set old x i =
-          ap (λ v. v.items) w.column-is ∙ ap (λ p. set old p w.of.result) w.get-in-Some-get.ensures ∙ ap (λ s. set old x s) w.of.ensures in
+          let items : c.match-get.column.items ≡ set old x i = ap (λ v. v.items) w.column-is in
           record {
             named = subst (λ l. AreNamed (i + 1) l slots) (sym items) (named-next i old slots it.0 x c.requires.once (omega (arith, below, k.even)) it.1 passed);
             even = ap length items ∙ length-set old x i ∙ k.even;
@@ -55,7 +54,7 @@ slots-preserved g c =
     ]
 
 pub returns : goal.returns
-returns g c =
+returns c =
     let slots = c.args.table.now.slots in
     let column = c.slots.column.items in
     record {

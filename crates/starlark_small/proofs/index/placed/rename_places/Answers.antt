@@ -6,12 +6,12 @@ use Rattle.starlark_small.proofs.Renaming.{can_replace, replaced-each}
 use Rattle.starlark_small.proofs.index.placed.rename_places.Goals as goal
 
 pub replace_each-requires : goal.replace_each-requires
-replace_each-requires g c =
+replace_each-requires c =
     can_replace _ _ (λ x y next called. search (rules, of_calls, called)) (length c.args.to.now) _ (λ x below. below)
     (All-map (λ x. x < length c.args.to.now) (λ m. m.1) (members c.args.table.now) c.requires)
 
 pub returns : goal.returns
-returns g c = record {
+returns c = record {
   slots = replaced-each _ (slice_index c.args.to.now) _ c.replace_each.ensures.replaced.0 _ _ (λ x y next called. (search (rules, of_calls, called), search (rules, of_calls, called))) c.replace_each.ensures.replaced.1;
   room = c.replace_each.ensures.room;
 }

@@ -6,14 +6,14 @@ use Rattle.starlark_small.proofs.Slots.{sited-without, named-there, any_default}
 use Rattle.starlark_small.proofs.index.placed.take_place.Goals as goal
 
 pub remove_followed-requires : goal.remove_followed-requires
-remove_followed-requires g c =
-    (sited-without c.args.column.now.items c.args.table.now.slots c.get-slot.result c.requires.sited, omega (arith, c.requires.few, length-set c.args.table.now.slots c.get-slot.result None))
+remove_followed-requires c =
+    (sited-without c.args.column.now.0.items c.args.table.now.slots c.index.result.now c.requires.sited, omega (arith, c.requires.few, length-set c.args.table.now.slots c.index.result.now None))
 
 pub returns : goal.returns
-returns g c =
+returns c =
     let old = c.args.table.now in
-    let column = c.args.column.now.items in
-    let slot : c.get-slot.result ≡ get_or column c.args.place 0 = c.get-slot.ensures ∙ c.index.ensures ∙ any_default column c.args.place c.index.result.now 0 c.requires.within in
+    let column = c.args.column.now.0.items in
+    let slot : c.index.result.now ≡ get_or column c.args.place 0 = c.index.ensures ∙ any_default column c.args.place c.index.result.now 0 c.requires.within in
     record {
       taken = λ h there.
           let at = ap (member_at old) slot ∙ named-there column old h c.args.place c.requires.sited there in

@@ -5,12 +5,12 @@ use Rattle.starlark_small.proofs.Renaming.{can_replace, replaced-each}
 use Rattle.starlark_small.proofs.index.placed.turn_places.Goals as goal
 
 pub replace_each-requires : goal.replace_each-requires
-replace_each-requires g c =
+replace_each-requires c =
     can_replace _ _ (λ x y next called. search (rules, of_calls, called)) c.args.len _ (λ x below. (below, c.requires.few))
     (All-map (λ x. x < c.args.len) (λ m. m.1) (members c.args.table.now) c.requires.within)
 
 pub returns : goal.returns
-returns g c = record {
+returns c = record {
   slots = replaced-each _ (λ place. c.args.len - 1 - place) _ c.replace_each.ensures.replaced.0 _ _ (λ x y next called. (search (rules, of_calls, called), search (rules, of_calls, called))) c.replace_each.ensures.replaced.1;
   room = c.replace_each.ensures.room;
 }

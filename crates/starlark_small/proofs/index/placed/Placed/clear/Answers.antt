@@ -4,7 +4,7 @@ use Rattle.starlark_small.proofs.Slots.{sited-none}
 use Rattle.starlark_small.proofs.index.placed.Placed.clear.Goals as goal
 
 pub invariant_of-self : goal.invariant_of-self
-invariant_of-self g c =
+invariant_of-self c =
     let k = c.self.invariant in
     record {
       sited = subst (λ l. IsSited l c.clear.new.self.slots) (sym c.clear-2.ensures.items) (sited-none c.clear.new.self c.clear.ensures.empty);

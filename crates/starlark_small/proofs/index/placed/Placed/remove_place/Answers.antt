@@ -41,7 +41,7 @@ pub remove-requires : goal.remove-requires
 remove-requires g c =
     let es = c.args.entries.now.entries in
     let index = subst (IsIndexOf es) (sym c.self.view_is) c.requires.index in
-    omega (arith, c.take_place.ensures.column.even, c.self.invariant.even, IsIndexOf-len es c.self.inside.table index, c.requires.within, c.take_place.new.column.ok.0)
+    omega (arith, c.take_place.ensures.column.even, c.self.invariant.even, IsIndexOf-len es c.self.inside.table index, c.requires.within, c.take_place.new.column.0.ok.0)
 
 pub invariant_of-self : goal.invariant_of-self
 invariant_of-self g c =
@@ -49,7 +49,7 @@ invariant_of-self g c =
     let es = c.args.entries.now.entries in
     let i = c.args.place in
     let new = c.lower_above.new.table in
-    let column = c.take_place.new.column.items in
+    let column = c.take_place.new.column.0.items in
     let index = subst (IsIndexOf es) (sym c.self.view_is) c.requires.index in
     let before = IsIndexOf-len es c.self.inside.table index in
     let after = IsIndexOf-len (remove es i) new c.lower_above.ensures.index in

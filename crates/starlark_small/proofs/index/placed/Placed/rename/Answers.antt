@@ -26,7 +26,7 @@ name_slots-requires-clause-below g c =
     let index = subst (IsIndexOf c.requires.0) (sym c.self.view_is) c.requires.1 in
     let counts = length-moved c.requires.0 c.args.to.now es c.requires.2 in
     let now = IsIndexOf-renamed c.requires.0 c.args.to.now es old new c.requires.2 index (ap filled c.rename_places.ensures.slots ∙ filled-renamed (slice_index c.args.to.now) old.slots) in
-    let long : length es ≡ length c.self.inside.column.items = counts.1 ∙ sym (IsIndexOf-len c.requires.0 old index) ∙ sym c.self.invariant.even in
+    let long : length es ≡ length c.self.inside.column.0.items = counts.1 ∙ sym (IsIndexOf-len c.requires.0 old index) ∙ sym c.self.invariant.even in
     subst (λ n. All (λ m. m.1 < n) (members new)) long (members-below es new now)
 
 pub name_slots-requires-clause-once : goal.name_slots-requires-clause-once

@@ -14,12 +14,12 @@ use Rattle.starlark_small.proofs.index.placed.Placed.take_last.Goals as goal
 pub overflow_sub-last : goal.overflow_sub-last
 overflow_sub-last g c =
     let index = subst (IsIndexOf c.requires.0) (sym c.self.view_is) c.requires.1 in
-    omega (arith, c.len-last.ensures, c.self.invariant.even, IsIndexOf-len c.requires.0 c.self.inside.table index, c.requires.2, c.self.inside.column.ok.0)
+    omega (arith, c.len-last.ensures, c.self.invariant.even, IsIndexOf-len c.requires.0 c.self.inside.table index, c.requires.2, c.self.inside.column.0.ok.0)
 
 pub take_place-requires-clause-within : goal.take_place-requires-clause-within
 take_place-requires-clause-within g c =
     let index = subst (IsIndexOf c.requires.0) (sym c.self.view_is) c.requires.1 in
-    omega (arith, c.len-last.ensures, c.self.invariant.even, IsIndexOf-len c.requires.0 c.self.inside.table index, c.requires.2, c.self.inside.column.ok.0)
+    omega (arith, c.len-last.ensures, c.self.invariant.even, IsIndexOf-len c.requires.0 c.self.inside.table index, c.requires.2, c.self.inside.column.0.ok.0)
 
 pub invariant_of-self : goal.invariant_of-self
 invariant_of-self g c =
@@ -27,11 +27,11 @@ invariant_of-self g c =
     let es = c.requires.0 in
     let old = c.self.inside.table in
     let new = c.take_place.new.table in
-    let column = c.take_place.new.column in
+    let column = c.take_place.new.column.0 in
     let last = c.len-last.result - 1 in
     let index = subst (IsIndexOf es) (sym c.self.view_is) c.requires.1 in
     let before = IsIndexOf-len es old index in
-    let end : last + 1 ≡ length es = omega (arith, c.len-last.ensures, k.even, before, c.requires.2, c.self.inside.column.ok.0) in
+    let end : last + 1 ≡ length es = omega (arith, c.len-last.ensures, k.even, before, c.requires.2, c.self.inside.column.0.ok.0) in
     let now = last-taken es last old new end index c.take_place.ensures.taken in
     let after = IsIndexOf-len (remove es last) new now in
     let shorter = length-remove es last (omega (arith, end)) in
@@ -56,7 +56,7 @@ returns g c =
     record {
       index = λ es held.
           let index = subst (IsIndexOf es) (sym c.self.view_is) held in
-          let end : last + 1 ≡ length es = omega (arith, c.len-last.ensures, c.self.invariant.even, IsIndexOf-len es old index, some, c.requires.2, c.self.inside.column.ok.0) in
+          let end : last + 1 ≡ length es = omega (arith, c.len-last.ensures, c.self.invariant.even, IsIndexOf-len es old index, some, c.requires.2, c.self.inside.column.0.ok.0) in
           subst (λ n. IsIndexOf (remove es n) new) {x = last} {y = length es - 1} (omega (arith, end)) (last-taken es last old new end index c.take_place.ensures.taken);
       room = c.take_place.ensures.room ∙ ap table_capacity c.self.view_is;
     }

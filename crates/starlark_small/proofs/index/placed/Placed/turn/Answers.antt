@@ -33,7 +33,7 @@ name_slots-requires-clause-below g c =
     let index = subst (IsIndexOf es) (sym c.self.view_is) c.requires in
     let now = IsIndexOf-turned es old new index (ap filled c.turn_places.ensures.slots ∙ filled-renamed (λ place. c.len.result - 1 - place) old.slots
     ∙ ap (λ n. map (λ m. (m.0, n - 1 - m.1)) (members old)) c.len.ensures.len) in
-    let long : length (reverse es) ≡ length c.self.inside.column.items = length-reverse es ∙ sym (IsIndexOf-len es old index) ∙ sym c.self.invariant.even in
+    let long : length (reverse es) ≡ length c.self.inside.column.0.items = length-reverse es ∙ sym (IsIndexOf-len es old index) ∙ sym c.self.invariant.even in
     subst (λ n. All (λ m. m.1 < n) (members new)) long (members-below (reverse es) new now)
 
 pub name_slots-requires-clause-once : goal.name_slots-requires-clause-once

@@ -1,10 +1,10 @@
-use Rattle.std.proofs.Common.{◌≡◌, ◌<◌, ◌^◌, sym, ◌∙◌, ap, subst, refl, Some}
+use Rattle.std.proofs.Common.{◌≡◌, ◌<◌, ◌^◌, sym, ◌∙◌, ap, subst, refl}
 use Rattle.std.specs.Prelude.{map}
 use Rattle.starlark_lists.specs.Entries.{pair_of}
 use Rattle.starlark_hash.specs.HashValue.{promoted}
 use Rattle.starlark_lists.specs.Search.{Searches, keys_under}
 use Rattle.starlark_small.proofs.Transport.{can_search-slots, pair_there, searches-slots, taken}
-use Rattle.starlark_small.proofs.index.search.find_in.Goals as goal
+use Rattle.starlark_small.proofs.index.placed.find_in.Goals as goal
 
 pub find_item-requires : goal.find_item-requires
 find_item-requires g c =
@@ -29,7 +29,7 @@ returns g c =
       λ e is. m.1 (pair_of e) (pair_there es s.1.now i called.shown.now e sees called.shows is),
     ))
     _ c.pairs-pairs.ensures found.1 found.0 found.2 in
-    (found.1.0.now, subst (λ o. Searches g.F.FnMut (keys_under c.args.hash es) c.args.eq o found.1.0.now) (sym found.3 ∙ ap Some (sym c.get.ensures)) among)
+    (found.1.0.now, subst (λ o. Searches g.F.FnMut (keys_under c.args.hash es) c.args.eq o found.1.0.now) (sym found.3) among)
 
 pub returns-in_err-place : goal.returns-in_err-place
 returns-in_err-place g c =
