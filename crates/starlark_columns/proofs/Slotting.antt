@@ -1,15 +1,13 @@
 -- What a step on slots is on places.
 use Rattle.std.proofs.Common.{◌≡◌, ℕ, zero, suc, ◌+◌, ◌-◌, ◌<◌, ◌≤◌, min, max, Bool, true, false, List, [], ◌∷◌, ◌++◌, map, length, take, drop, get_or, Option, Some, None, refl, sym, ap, subst, ◌∙◌, arith}
 use lib.ListN.{set, take-append-drop, get_or-replicate, length-take, length-drop, length-replicate, length-append}
-use lib.Seq.{drop-cons, set-get_or}
-use mathlib.Core.List.{append-nil}
+use lib.Seq.{drop-cons}
 use mathlib.Core.Logic.{◌⊎◌, inl, inr, ⊎_elim}
 use Rattle.std.proofs.lemmas.List.{ext_get_or, get_or-take, get_or-drop, get_or_append_left, get_or-append_right, length-map}
 use Rattle.std.proofs.lemmas.Bool.{cases_lt}
 use Rattle.std.proofs.lemmas.List.Folds.{drop_split}
-use Rattle.std.specs.List.{slice_range, refill, length_refill}
-use Rattle.starlark_columns.specs.Places.{items_of, empties, IsFilled, AreFilled, AreEmpty, with_range, moved_down, moved_up, exchanged}
-use Rattle.starlark_columns.specs.Lends.{rewritten}
+use Rattle.std.specs.List.{slice_range}
+use Rattle.starlark_columns.specs.Places.{items_of, empties, IsFilled, AreFilled, AreEmpty, with_range, moved_down}
 use Rattle.starlark_columns.specs.Slotted.{place_of, places_of, emptied}
 use Rattle.starlark_columns.proofs.Memory.{places_count, emptied_count}
 
@@ -150,25 +148,6 @@ module _ {X : Type 0} where
         (λ h. in_emptied (to + n) end (places_of ys gs) (to + j) (omega (arith, h)) (omega (arith, lt))
         ∙ sym (get_or-append_right run (empties (from - to)) n j None long h ∙ get_or-replicate (from - to) (j - n) None None (omega (arith, lt, h, le, full.0)))) (cases_lt j n))
 
-    pub up : (from end to : ℕ) → AreFilled cs from end → (from ≤ to) × AreEmpty cs end (end + (to - from)) → ((k : ℕ) → k < end - from → get_or ys (to + k) d ≡ get_or xs (from + k) d)
-        → ((k : ℕ) → (k < to) ⊎ (to + (end - from) ≤ k) → get_or ys k d ≡ get_or xs k d) → ((k : ℕ) → to ≤ k → k < to + (end - from) → get_or gs k false ≡ true)
-        → ((k : ℕ) → (k < min from to) ⊎ (max from to + (end - from) ≤ k) → get_or gs k false ≡ get_or fs k false) → emptied from to (places_of ys gs) ≡ moved_up cs from end to
-    up from end to full gap moved items there flags =
-        let n = end - from in let m = to - from in let run = slice_range cs from end in let es = emptied from to (places_of ys gs) in let long = range_long cs from end full.0 full.1 in let le = gap.0 in
-        let high = end + m in let none : length (empties {X = X} m) ≡ m = length-replicate {A = Option X} m None in
-        let all : length (empties m ++ run) ≡ high - from = omega (arith, length-append (empties m) run, long, none, le, full.0) in
-        ranged es cs (empties m ++ run) from high (omega (arith, full.0)) gap.1.1 all (after_count from to)
-        (λ k lt out. kept from to k (omega (arith, lt, after_count from to)) (⊎_elim (λ h. inl h) (λ h. inr (omega (arith, h, le, full.0))) out) (items k (⊎_elim (λ h. inl (omega (arith, h, le))) (λ h. inr (omega (arith, h, le, full.0))) out))
-        (flags k (⊎_elim (λ h. inl (omega (arith, h, le))) (λ h. inr (omega (arith, h, le, full.0))) out)))
-        (λ j lt. ⊎_elim (λ h. in_emptied from to (places_of ys gs) (from + j) (omega arith) (omega (arith, h))
-        ∙ sym (get_or_append_left (empties m) run None j (omega (arith, none, h)) ∙ get_or-replicate m j None None h))
-        (λ h. let there_at : to + (j - m) ≡ from + j = omega (arith, h, le) in
-        subst (λ (k : ℕ). get_or es k None ≡ get_or cs (from + (j - m)) None) there_at
-        (come from to (to + (j - m)) (from + (j - m)) (omega (arith, lt, gap.1.1, h, le, full.0)) (inr (omega arith)) (in_filled cs from end (from + (j - m)) full (omega arith) (omega (arith, lt, h, le, full.0)))
-        (moved (j - m) (omega (arith, lt, h, le, full.0))) (there (to + (j - m)) (omega arith) (omega (arith, lt, h, le, full.0))))
-        ∙ sym (get_or-append_right (empties m) run m j None none h ∙ at_range cs from end (j - m) (omega (arith, lt, h, le, full.0)))) (cases_lt j m))
-
-    -- the items from `from` up to `end` are gone
     pub gone : (from end : ℕ) → AreFilled cs from end → ys ≡ xs → ((k : ℕ) → (k < from) ⊎ (end ≤ k) → get_or gs k false ≡ get_or fs k false)
         → emptied from end (places_of ys gs) ≡ with_range cs from end (empties (end - from))
     gone from end full same flags = ranged (emptied from end (places_of ys gs)) cs (empties (end - from)) from end full.0 full.1 (length-replicate {A = Option X} (end - from) None) (after_count from end)
@@ -204,22 +183,6 @@ module _ {X : Type 0} where
             at_range cs from end j near ∙ f.1 ∙ ap Some (sym (at.2 d)) ∙ sym (some_at run j d (omega (arith, near, long)) ∙ ap Some (get_or-take (end - from) (drop from xs) j d near ∙ get_or-drop from xs j d))),
       )
 
-  set_again : (cs : List (Option X)) (i : ℕ) (c d : Option X) → set (set cs i c) i d ≡ set cs i d
-  set_again [] i c d = refl
-  set_again (e ∷ cs) zero c d = refl
-  set_again (e ∷ cs) (suc i) c d = ap (λ l. e ∷ l) (set_again cs i c d)
-
-  set_past : (cs : List (Option X)) (j i : ℕ) (c d : Option X) → ¬ (j ≡ i) → set (set cs j c) i d ≡ set (set cs i d) j c
-  set_past [] j i c d apart = refl
-  set_past (e ∷ cs) zero zero c d apart = absurd (apart refl)
-  set_past (e ∷ cs) zero (suc i) c d apart = refl
-  set_past (e ∷ cs) (suc j) zero c d apart = refl
-  set_past (e ∷ cs) (suc j) (suc i) c d apart = ap (λ l. e ∷ l) (set_past cs j i c d (λ h. apart (ap suc h)))
-
-  -- the items of one place, exchanged with itself
-  pub alone : (cs : List (Option X)) (i j : ℕ) → j ≡ i → cs ≡ exchanged cs i j
-  alone cs i j e = sym (set-get_or cs i None) ∙ sym (set_again cs i (get_or cs i None) (get_or cs i None)) ∙ (λ k. set (set cs i (get_or cs (sym e k) None)) (sym e k) (get_or cs i None))
-
   -- a row is itself with any of its ranges
   pub whole : (cs : List (Option X)) (from to : ℕ) → from ≤ to → cs ≡ with_range cs from to (slice_range cs from to)
   whole cs from to le = sym (take-append-drop from cs) ∙ ap (λ l. take from cs ++ l) (drop_split cs from to le)
@@ -230,23 +193,6 @@ module _ {X : Type 0} where
   pub stays_down : (cs : List (Option X)) (from end to : ℕ) → from ≡ end → AreEmpty cs to from → cs ≡ moved_down cs from end to
   stays_down cs from end to e gap = whole cs to from gap.0 ∙ (λ i. with_range cs to (e i) (gap.2 i)) ∙ ap (λ l. with_range cs to end (l ++ empties (from - to))) (sym (none_taken (drop from cs) (end - from) (omega (arith, e))))
 
-  pub stays_up : (cs : List (Option X)) (from end to : ℕ) → from ≡ end → AreEmpty cs end (end + (to - from)) → cs ≡ moved_up cs from end to
-  stays_up cs from end to e gap = let high = end + (to - from) in let same : high - end ≡ to - from = omega arith in
-      whole cs end high gap.0 ∙ (λ i. with_range cs (sym e i) high ((gap.2 ∙ ap (λ (k : ℕ). empties {X = X} k) same ∙ sym (append-nil (empties (to - from)))) i))
-      ∙ ap (λ l. with_range cs from high (empties (to - from) ++ l)) (sym (none_taken (drop from cs) (end - from) (omega (arith, e))))
-
   pub one_filled : (cs : List (Option X)) (i : ℕ) → IsFilled cs i → AreFilled cs i (i + 1)
   one_filled cs i f = let lt = filled_within cs i f in let one : i + 1 - i ≡ 1 = omega arith in let up : suc i ≡ i + 1 = omega arith in
       (omega arith, omega (arith, lt), (f.0 ∷ [], ap (λ (k : ℕ). take k (drop i cs)) one ∙ ap (λ l. take 1 l) (drop-cons cs i None lt ∙ ap (λ c. c ∷ drop (suc i) cs) f.1)))
-
-  pub rewritten_count : (cs : List (Option X)) (from to : ℕ) (ws : List X) → AreFilled cs from to → length (rewritten cs from to ws) ≡ length cs
-  rewritten_count cs from to ws full =
-      let xs = full.2.0 in let old = items_of (slice_range cs from to) in let is : old ≡ xs = ap items_of full.2.1 ∙ items_back xs in
-      let long : length xs ≡ to - from = omega (arith, ap length full.2.1, length-map xs Some, range_long cs from to full.0 full.1) in
-      let new = refill (to - from) old ws in let count : length new ≡ to - from = sym (length_refill (to - from) old ws (sym (ap length is ∙ long))) in
-      omega (arith, count, full.0, full.1, length-append (take from cs) (map Some new ++ drop to cs), length-append (map Some new) (drop to cs), length-map new Some, length-take from cs, length-drop to cs)
-
-  module _ (cs : List (Option X)) (i j : ℕ) (x y : X) (at_i : get_or cs i None ≡ Some x) (at_j : get_or cs j None ≡ Some y) (apart : ¬ (j ≡ i)) where
-    pub both_set : set (set (set (set cs i None) j None) i (Some y)) j (Some x) ≡ exchanged cs i j
-    both_set = ap (λ l. set l j (Some x)) (set_past (set cs i None) j i None (Some y) apart ∙ ap (λ l. set l j None) (set_again cs i None (Some y))) ∙ set_again (set cs i (Some y)) j None (Some x)
-        ∙ (λ k. set (set cs i (sym at_j k)) j (sym at_i k))

@@ -1,5 +1,5 @@
 -- The words on a row of places: each is empty, or holds an item.
-use Rattle.std.specs.Prelude.{◌≡◌, ℕ, ◌+◌, ◌-◌, ◌≤◌, List, [], ◌∷◌, ◌++◌, map, length, take, drop, replicate, get_or, slice_set, slice_range, Option, Some, None}
+use Rattle.std.specs.Prelude.{◌≡◌, ℕ, ◌-◌, ◌≤◌, List, [], ◌∷◌, ◌++◌, map, length, take, drop, replicate, get_or, slice_range, Option, Some, None}
 
 module _ {X : Type 0} where
   -- a row of n empty places
@@ -31,11 +31,3 @@ module _ {X : Type 0} where
   -- the places from `from` up to `end` stand `from - to` places lower, from `to` on, and leave as many empty
   abbrev pub moved_down : List (Option X) → ℕ → ℕ → ℕ → List (Option X)
   moved_down cs from end to = with_range cs to end (slice_range cs from end ++ empties (from - to))
-
-  -- the places from `from` up to `end` stand `to - from` places higher, from `to` on, and leave as many empty
-  abbrev pub moved_up : List (Option X) → ℕ → ℕ → ℕ → List (Option X)
-  moved_up cs from end to = with_range cs from (end + (to - from)) (empties (to - from) ++ slice_range cs from end)
-
-  -- the row with the items of two places in each other's
-  abbrev pub exchanged : List (Option X) → ℕ → ℕ → List (Option X)
-  exchanged cs i j = slice_set (slice_set cs i (get_or cs j None)) j (get_or cs i None)

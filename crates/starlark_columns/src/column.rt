@@ -2,7 +2,7 @@
 ghost use Rattle.std.specs.Prelude.{◌≡◌, ◌+◌, ◌-◌, ◌*◌, ◌^◌, ◌<◌, ◌≤◌, [], ◌++◌, Some, None, map, length, take, drop, get_or, slice_set, slice_range, IfOk, IsOk};
 ghost use Rattle.std.specs.Borrow.{sem};
 ghost use Rattle.std.specs.Mem.{type_size};
-ghost use Rattle.starlark_columns.specs.Places.{empties, IsFilled, AreFilled, AreEmpty, with_range, moved_down, moved_up, exchanged};
+ghost use Rattle.starlark_columns.specs.Places.{empties, IsFilled};
 ghost use Rattle.starlark_columns.specs.Front.{IsFront};
 
 use crate::block::{
@@ -155,20 +155,6 @@ impl<T> Column<T> {
         ensures value { get_or self.old index None ≡ Some result.now }
     {
         self.held.get_mut(self.address, index)
-    }
-
-    /// Exchanges the items of two full places.
-    #[inline]
-    pub fn swap(&mut self, one: usize, other: usize)
-        requires { IsFilled self.old one × IsFilled self.old other }
-        ensures { self.new ≡ exchanged self.old one other }
-    {
-        if other != one {
-            let first = self.take(one);
-            let second = self.take(other);
-            self.write(one, second);
-            self.write(other, first);
-        }
     }
 }
 

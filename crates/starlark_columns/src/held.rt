@@ -1,6 +1,6 @@
 //! Items go in, out and along, over the kit's slots, which know no place without a value.
 ghost use Rattle.std.specs.Prelude.{◌≡◌, ◌+◌, ◌-◌, ◌<◌, ◌≤◌, Some, None, length, get_or, slice_set, slice_range};
-ghost use Rattle.starlark_columns.specs.Places.{empties, IsFilled, AreFilled, AreEmpty, with_range, moved_down, moved_up, exchanged};
+ghost use Rattle.starlark_columns.specs.Places.{empties, IsFilled, AreFilled, AreEmpty, with_range, moved_down};
 
 use crate::block::{Address, Held};
 
@@ -50,27 +50,6 @@ impl<T> Held<T> {
         let mut row = self.open(address, count);
         row.move_within(from, to, end - from);
         self.close(row, to + (end - from), end);
-    }
-
-    #[inline]
-    pub(crate) fn move_up(
-        &mut self,
-        address: Address<T>,
-        count: usize,
-        from: usize,
-        end: usize,
-        to: usize,
-    )
-        requires its { (address.at ≡ self.old.at) × (count ≡ length self.old.places) }
-        requires items { AreFilled self.old.places from end }
-        requires gap { (from ≤ to) × AreEmpty self.old.places end (end + (to - from)) }
-        requires some { from < end }
-        ensures places { self.new.places ≡ moved_up self.old.places from end to }
-        ensures at { self.new.at ≡ self.old.at }
-    {
-        let mut row = self.open(address, count);
-        row.move_within(from, to, end - from);
-        self.close(row, from, to);
     }
 
     #[inline]

@@ -16,15 +16,6 @@ pub trait Keeps<T> {
     ghost itself: { (x : T) → kept x x ≡ x };
 }
 
-/// Nothing stays: all of the item may be written.
-pub struct Nothing;
-
-impl<T> Keeps<T> for Nothing {
-    ghost kept = { λ x w. w };
-
-    ghost itself = { λ x. refl };
-}
-
 /// The first part of a pair stays.
 pub struct First;
 
@@ -69,20 +60,6 @@ impl<'a, T, P: Keeps<T>> Loan<'a, T, P> {
         ensures from { self.new.from ≡ self.old.from + 1 }
         ensures tie { self.new.tie ≡ self.old.tie }
     {}
-}
-
-impl<'a, T> Loan<'a, T, Nothing> {
-    /// The item of the next place, to be written. The place is full.
-    #[inline]
-    pub fn take(&mut self, index: usize) -> &'a mut T
-        requires next { index ≡ self.old.from }
-        requires full { IsFilled self.old.rest 0 }
-        ensures rest { self.old.rest ≡ Some result.now ∷ self.new.rest }
-        ensures from { self.new.from ≡ self.old.from + 1 }
-        ensures tie { self.new.tie ≡ self.old.tie }
-    {
-        unsafe { &mut *self.start.add(index) }
-    }
 }
 
 impl<'a, A, B> Loan<'a, (A, B), First> {

@@ -1,7 +1,7 @@
 //! `Row`, a row of places without the right to give their block back: another row may lie in the same block.
 ghost use Rattle.std.specs.Prelude.{◌≡◌, ◌+◌, ◌-◌, ◌^◌, ◌<◌, ◌≤◌, Some, None, map, length, get_or, slice_set, slice_range};
 ghost use Rattle.std.specs.Borrow.{sem};
-ghost use Rattle.starlark_columns.specs.Places.{empties, IsFilled, AreFilled, AreEmpty, with_range, moved_down, moved_up};
+ghost use Rattle.starlark_columns.specs.Places.{empties, IsFilled, AreFilled, AreEmpty, with_range, moved_down};
 
 use crate::block::{Address, Held};
 use std::marker::Model;
@@ -111,21 +111,6 @@ impl<T> Row<T> {
     {
         if from != end {
             self.held.move_down(address, count, from, end, to);
-        }
-    }
-
-    /// Moves the items from place `from` up to place `end` up, to the places from `to` on, in their order. The places
-    /// behind that they need are empty before, and as many in front of them are afterwards.
-    #[inline]
-    pub fn move_up(&mut self, address: Address<T>, count: usize, from: usize, end: usize, to: usize)
-        requires its { (address.at ≡ self.old.at) × (count ≡ length self.old.places) }
-        requires items { AreFilled self.old.places from end }
-        requires gap { (from ≤ to) × AreEmpty self.old.places end (end + (to - from)) }
-        ensures places { self.new.places ≡ moved_up self.old.places from end to }
-        ensures at { self.new.at ≡ self.old.at }
-    {
-        if from != end {
-            self.held.move_up(address, count, from, end, to);
         }
     }
 
