@@ -1,2 +1,3 @@
 pub mod Promote
 pub mod HasherLemmas
+pub mod SameText

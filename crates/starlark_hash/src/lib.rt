@@ -8,6 +8,7 @@ mod hashed_impls;
 pub mod hasher;
 pub mod key_query;
 pub mod no_room;
+mod same_text;
 pub mod text_key;
 
 pub use equivalent::Equivalent;

@@ -9,6 +9,7 @@ ghost use Rattle.std.specs.String.{string_bytes};
 
 use crate::equivalent::Equivalent;
 use crate::key_query::{KeyQuery, ToOwnedKey};
+use crate::same_text::same_text;
 use std::alloc::{AllocError, Global};
 use std::hash::{Hash, Hasher};
 
@@ -49,7 +50,7 @@ impl<'a> Equivalent<String> for TextKey<'a> {
 
     #[inline]
     fn equivalent(&self, key: &String) -> bool {
-        self.0 == key.as_str()
+        same_text(self.0, key.as_str())
     }
 }
 
