@@ -1,5 +1,5 @@
 //! The hasher: 64 bits of state, fed one word at a time.
-ghost use Rattle.std.specs.Prelude.{◌≡◌, ℕ, List, [], ◌+◌, ◌≤◌, ◌/◌, ◌%◌, ◌^◌, length, take, drop, fold};
+ghost use Rattle.std.specs.Prelude.{◌≡◌, ℕ, List, [], ◌+◌, ◌*◌, ◌≤◌, ◌<◌, ◌/◌, ◌%◌, ◌^◌, length, take, drop, fold};
 ghost use Rattle.std.specs.Hash as fed;
 ghost use Rattle.starlark_hash.specs.Hasher as starlark;
 
@@ -35,51 +35,134 @@ impl StarlarkHasher {
     }
 
     #[inline]
-    #[tactic(auto, unfolding(crate::specs::Hasher::add_word))]
     fn add_word(&mut self, word: u64)
         ensures { self.new ≡ starlark.with_word self.old word }
     {
-        self.state = (self.state.rotate_left(5) ^ word).wrapping_mul(0x517cc1b727220a95);
+        self.state = after_word(self.state, word);
     }
 
-    // Adds a word of 4 bytes where so many are left, and answers where the rest begins.
+    // Adds `word` where its `size` bytes are left.
     #[inline]
-    fn add_4(&mut self, bytes: &[u8], at: usize) -> usize
-        requires { at ≤ length bytes.now }
-        ensures within { result ≤ length bytes.now }
-        ensures added { (rest : List ℕ → List ℕ) → fold starlark.with_word self.new (rest (drop result bytes.now)) ≡ fold starlark.with_word self.old (starlark.group 4 rest (drop at bytes.now)) }
+    fn add_if_left(&mut self, word: u64, size: usize, left: usize)
+        ensures whole { size ≤ left → self.new ≡ starlark.with_word self.old word }
+        ensures short { left < size → self.new ≡ self.old }
     {
-        if bytes.len() - at < 4 {
-            return at;
-        }
-        self.add_word(read_4(bytes, at));
-        at + 4
+        self.state = after_word_if_left(self.state, word, size, left);
     }
 
-    // The same with 2 bytes.
+    // Adds the words of 8 bytes, those of fewer than 24 bytes without a loop.
     #[inline]
-    fn add_2(&mut self, bytes: &[u8], at: usize) -> usize
-        requires { at ≤ length bytes.now }
-        ensures within { result ≤ length bytes.now }
-        ensures added { (rest : List ℕ → List ℕ) → fold starlark.with_word self.new (rest (drop result bytes.now)) ≡ fold starlark.with_word self.old (starlark.group 2 rest (drop at bytes.now)) }
+    fn add_words(&mut self, bytes: &[u8])
+        ensures { fold starlark.with_word self.new (starlark.groups 0 (drop (8 * (length bytes.now / 8)) bytes.now)) ≡ fold starlark.with_word self.old (starlark.groups (length bytes.now / 8) bytes.now) }
     {
-        if bytes.len() - at < 2 {
-            return at;
+        if bytes.len() < 4 {
+            return;
         }
-        self.add_word(read_2(bytes, at));
-        at + 2
+        if bytes.len() < 24 {
+            self.add_8(bytes, 0);
+            self.add_8(bytes, 8);
+            return;
+        }
+        self.add_each_8(bytes);
     }
 
-    // Adds the last byte, where one is left.
+    // Adds the words of 8 bytes in a loop, whose end is mispredicted where lengths vary.
     #[inline]
-    fn add_1(&mut self, bytes: &[u8], at: usize)
-        requires { at ≤ length bytes.now }
-        ensures { self.new ≡ fold starlark.with_word self.old (starlark.group 1 (λ _. []) (drop at bytes.now)) }
+    fn add_each_8(&mut self, bytes: &[u8])
+        ensures { fold starlark.with_word self.new (starlark.groups 0 (drop (8 * (length bytes.now / 8)) bytes.now)) ≡ fold starlark.with_word self.old (starlark.groups (length bytes.now / 8) bytes.now) }
     {
-        if at < bytes.len() {
-            self.add_word(bytes[at] as u64);
+        let whole = bytes.len() / 8;
+        for i in 0..whole {
+            self.add_word(read_8(bytes, 8 * i));
         }
     }
+
+    // Adds the 8 bytes from `at` on, where they are there. Each half is read by itself, from the last 4 bytes at most, so
+    // that nothing is read past the end where they are not.
+    #[inline]
+    fn add_8(&mut self, bytes: &[u8], at: usize)
+        requires some { 4 ≤ length bytes.now }
+        requires near { at ≤ 8 }
+        ensures whole { at + 8 ≤ length bytes.now → self.new ≡ starlark.with_word self.old (starlark.number (take 8 (drop at bytes.now))) }
+        ensures short { length bytes.now < at + 8 → self.new ≡ self.old }
+    {
+        let last = bytes.len() - 4;
+        let low = read_4(bytes, at_most(at, last));
+        let high = read_4(bytes, at_most(at + 4, last));
+        self.add_if_left(
+            low as u64 + high as u64 * 0x1_0000_0000,
+            at + 8,
+            bytes.len(),
+        );
+    }
+
+    // Adds a word of 4 bytes, where they are left after the words of 8.
+    #[inline]
+    fn add_4(&mut self, bytes: &[u8])
+        ensures { (rest : List ℕ → List ℕ) → fold starlark.with_word self.new (rest (drop (4 * (length bytes.now / 4)) bytes.now)) ≡ fold starlark.with_word self.old (starlark.group 4 rest (drop (8 * (length bytes.now / 8)) bytes.now)) }
+    {
+        if bytes.len() < 4 {
+            return;
+        }
+        let at = 8 * (bytes.len() / 8);
+        let word = read_4(bytes, at_most(at, bytes.len() - 4));
+        self.add_if_left(word as u64, 4, bytes.len() - at);
+    }
+
+    // Adds a word of 2 bytes, where they are left after those of 8 and 4.
+    #[inline]
+    fn add_2(&mut self, bytes: &[u8])
+        ensures { (rest : List ℕ → List ℕ) → fold starlark.with_word self.new (rest (drop (2 * (length bytes.now / 2)) bytes.now)) ≡ fold starlark.with_word self.old (starlark.group 2 rest (drop (4 * (length bytes.now / 4)) bytes.now)) }
+    {
+        if bytes.len() < 2 {
+            return;
+        }
+        let at = 4 * (bytes.len() / 4);
+        let word = read_2(bytes, at_most(at, bytes.len() - 2));
+        self.add_if_left(word, 2, bytes.len() - at);
+    }
+
+    // Adds the last byte, where one is left after the words of 8, 4 and 2.
+    #[inline]
+    fn add_1(&mut self, bytes: &[u8])
+        ensures { self.new ≡ fold starlark.with_word self.old (starlark.group 1 (λ _. []) (drop (2 * (length bytes.now / 2)) bytes.now)) }
+    {
+        if bytes.len() < 1 {
+            return;
+        }
+        let at = 2 * (bytes.len() / 2);
+        let word = read_1(bytes, bytes.len() - 1);
+        self.add_if_left(word, 1, bytes.len() - at);
+    }
+}
+
+// The state after one word.
+#[inline]
+#[tactic(auto, unfolding(crate::specs::Hasher::add_word))]
+fn after_word(state: u64, word: u64) -> u64
+    ensures { result ≡ starlark.add_word state word }
+{
+    (state.rotate_left(5) ^ word).wrapping_mul(0x517cc1b727220a95)
+}
+
+// The state after `word` where its `size` bytes are left, else `state`. Both are computed before one is taken: this is
+// branch-free, since the comparison would be mispredicted where lengths vary.
+#[inline]
+fn after_word_if_left(state: u64, word: u64, size: usize, left: usize) -> u64
+    ensures whole { size ≤ left → result ≡ starlark.add_word state word }
+    ensures short { left < size → result ≡ state }
+{
+    let after = after_word(state, word);
+    if size <= left { after } else { state }
+}
+
+// `at`, and `greatest` at most.
+#[inline]
+fn at_most(at: usize, greatest: usize) -> usize
+    ensures within { result ≤ greatest }
+    ensures same { at ≤ greatest → result ≡ at }
+{
+    if at < greatest { at } else { greatest }
 }
 
 #[inline]
@@ -100,11 +183,11 @@ fn read_8(bytes: &[u8], at: usize) -> u64
 }
 
 #[inline]
-fn read_4(bytes: &[u8], at: usize) -> u64
+fn read_4(bytes: &[u8], at: usize) -> u32
     requires { at + 4 ≤ length bytes.now }
     ensures { result ≡ starlark.number (take 4 (drop at bytes.now)) }
 {
-    u32::from_le_bytes([bytes[at], bytes[at + 1], bytes[at + 2], bytes[at + 3]]) as u64
+    u32::from_le_bytes([bytes[at], bytes[at + 1], bytes[at + 2], bytes[at + 3]])
 }
 
 #[inline]
@@ -113,6 +196,14 @@ fn read_2(bytes: &[u8], at: usize) -> u64
     ensures { result ≡ starlark.number (take 2 (drop at bytes.now)) }
 {
     u16::from_le_bytes([bytes[at], bytes[at + 1]]) as u64
+}
+
+#[inline]
+fn read_1(bytes: &[u8], at: usize) -> u64
+    requires { at < length bytes.now }
+    ensures { result ≡ starlark.number (take 1 (drop at bytes.now)) }
+{
+    bytes[at] as u64
 }
 
 #[tactic(auto, using(crate::proofs::HasherLemmas::number_words))]
@@ -127,13 +218,10 @@ impl Hasher for StarlarkHasher {
     }
 
     fn write(&mut self, bytes: &[u8]) {
-        let whole = bytes.len() / 8;
-        for i in 0..whole {
-            self.add_word(read_8(bytes, 8 * i));
-        }
-        let at = self.add_4(bytes, 8 * whole);
-        let at = self.add_2(bytes, at);
-        self.add_1(bytes, at);
+        self.add_words(bytes);
+        self.add_4(bytes);
+        self.add_2(bytes);
+        self.add_1(bytes);
     }
 
     #[inline]
