@@ -28,8 +28,8 @@ impl StarlarkHasher {
 
     /// The low 32 bits of the state.
     #[inline]
-    pub fn finish_small(self) -> StarlarkHashValue
-        ensures { result ≡ starlark.finish_small self }
+    pub fn finish_small(&self) -> StarlarkHashValue
+        ensures { result ≡ starlark.finish_small self.now }
     {
         StarlarkHashValue::new_unchecked((self.state & 0xffff_ffff) as u32)
     }
