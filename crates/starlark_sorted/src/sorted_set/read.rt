@@ -1,7 +1,9 @@
 //! What a `SortedSet` has: elements under their own hashes, and by place.
 ghost use Rattle.std.specs.Prelude.{◌≡◌, ◌==◌, slice_get, length};
 ghost use Rattle.std.specs.Option.{option_copied, option_map};
-ghost use Rattle.starlark_lists.specs.Entries.{entry_key};
+ghost use Rattle.starlark_lists.specs.Entries.{IsSingle, entry_key};
+ghost use Rattle.starlark_lists.specs.Sorting.{Ascends};
+ghost use Rattle.starlark_sorted.specs.Sorted.{AreOwn, AscendsStrictly};
 ghost use Rattle.starlark_small.specs.Map.{own_match};
 ghost use Rattle.starlark_hash.specs.Hasher.{own_hash};
 ghost use Rattle.starlark_small.specs.Calling.{TellsPresence};
@@ -44,11 +46,16 @@ impl<T: Ord + Hash> SortedSet<T> {
         self.inner.contains(value)
     }
 
-    /// The element at a place; `None` past the end.
+    /// The element at an index; `None` past the end. The elements ascend, and no two have the same hash and are equal;
+    /// where each stands under its own hash, they ascend strictly.
     #[inline]
     pub fn get_index(&self, index: usize) -> Option<&T>
-        ensures { option_copied result ≡ option_map entry_key (slice_get self.now.entries index) }
+        ensures element { option_copied result ≡ option_map entry_key (slice_get self.now.entries index) }
+        ensures single { IsSingle T.eq self.now.entries }
+        ensures ascends { Ascends T.cmp self.now.entries }
+        ensures strictly { AreOwn T.hash_input self.now.entries → AscendsStrictly T.cmp self.now.entries }
     {
+        prove!(self.inner.iter_hashed().len() == self.inner.len());
         self.inner.get_index(index)
     }
 }

@@ -13,15 +13,19 @@ use starlark_sets::ordered_set::{IntoIter, Iter};
 use std::hash::Hash;
 
 impl<T: Ord + Hash> SortedSet<T> {
-    /// The elements in order.
+    /// The elements in order. No two have the same hash and are equal; where each stands under its own hash, they ascend
+    /// strictly.
     #[tactic(auto, using(crate::proofs::Along::along))]
     #[inline]
     pub fn iter(&self) -> Iter<'_, T>
         ensures elements { result ≡ map entry_key self.now.entries }
+        ensures single { IsSingle T.eq self.now.entries }
         ensures ascends { Ascends T.cmp self.now.entries }
         ensures along { AscendsAlong T.cmp result }
+        ensures strictly { AreOwn T.hash_input self.now.entries → AscendsStrictly T.cmp self.now.entries }
         ensures runs { ShowsEach self.now.entries result (deref {X = T}) }
     {
+        prove!(self.inner.iter_hashed().len() == self.inner.len());
         self.inner.iter()
     }
 
@@ -62,9 +66,15 @@ impl<T: Ord + Hash + Drop> IntoIterator for SortedSet<T> {
 
     ghost into_iter_gives = { λ s rest. (rest ≡ map entry_key s.entries) × Ascends T.cmp s.entries × GivesEach s.entries rest T };
 
-    /// The elements by value, in order.
+    /// The elements by value, in order. No two have the same hash and are equal; where each stands under its own hash,
+    /// they ascend strictly.
     #[inline]
-    fn into_iter(self) -> IntoIter<T> {
+    fn into_iter(self) -> IntoIter<T>
+        ensures into_iter_gives { (result ≡ map entry_key self.entries) × Ascends T.cmp self.entries × GivesEach self.entries result T }
+        ensures single { IsSingle T.eq self.entries }
+        ensures strictly { AreOwn T.hash_input self.entries → AscendsStrictly T.cmp self.entries }
+    {
+        prove!(self.inner.iter_hashed().len() == self.inner.len());
         self.inner.into_iter()
     }
 }
@@ -76,9 +86,13 @@ impl<'a, T: Ord + Hash> IntoIterator for &'a SortedSet<T> {
 
     ghost into_iter_gives = { λ s rest. (rest ≡ map entry_key s.now.entries) × Ascends T.cmp s.now.entries × ShowsEach s.now.entries rest (deref {X = T}) };
 
-    /// The elements in order.
+    /// The elements in order, as `iter` shows them.
     #[inline]
-    fn into_iter(self) -> Iter<'a, T> {
+    fn into_iter(self) -> Iter<'a, T>
+        ensures into_iter_gives { (result ≡ map entry_key self.now.entries) × Ascends T.cmp self.now.entries × ShowsEach self.now.entries result (deref {X = T}) }
+        ensures single { IsSingle T.eq self.now.entries }
+        ensures strictly { AreOwn T.hash_input self.now.entries → AscendsStrictly T.cmp self.now.entries }
+    {
         self.iter()
     }
 }
