@@ -1,2 +1,4 @@
+pub mod Lending
+pub mod OrderedLending
 pub mod Pages
 pub mod Words

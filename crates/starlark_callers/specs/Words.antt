@@ -3,7 +3,7 @@ use Rattle.std.specs.Prelude.{◌∷◌, Bool, List, [], false, nat_eq, ℕ}
 use Rattle.std.specs.Hash as fed
 use Rattle.std.specs.Option.{option_map, unwrap_or}
 use Rattle.starlark_small.specs.Calling.{get}
-use Rattle.starlark_callers.specs.declared.small_maps.nested.Words.{Words, out-Words}
+use Rattle.starlark_callers.specs.declared.nested.Words.{Words, out-Words}
 
 -- whether a word is there: each byte leads on, and where the bytes end, a word ends
 abbrev pub has_word : Words → List ℕ → Bool

@@ -35,7 +35,7 @@ pub fn note(
     Ok(())
 }
 
-/// The same for players by name.
+/// Notes the score of a player, who has a name. Scores of at most 100 stay so, and no name is empty.
 pub fn note_name(
     scores: &mut SmallMap<String, u64>,
     player: String,
@@ -53,7 +53,7 @@ pub fn note_name(
     Ok(())
 }
 
-/// The same for players of any type: of all pairs that stand there holds what held.
+/// Notes the score of a player of any type. Pairs whose scores are at most 100 stay so.
 pub fn note_any<K: Eq + Hash + Drop>(
     scores: &mut SmallMap<K, u64>,
     player: K,

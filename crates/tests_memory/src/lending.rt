@@ -2,11 +2,11 @@
 //! room is found. One request of a run is refused at most, so of two equal maps one takes the entry at the first call.
 
 use crate::given::{Numbers, handed_back, holds, is_tens, tens};
-use starlark_hash::{Hashed, NoRoom};
-use starlark_lending::looked_up::{insert_if_lacking, or_insert_then_put};
-use starlark_lending::maps::{
+use starlark_callers::lent::looked_up::{insert_if_lacking, or_insert_then_put};
+use starlark_callers::lent::maps::{
     insert_own_then_put, insert_then_put, lend_new_value, lend_own_new_value,
 };
+use starlark_hash::{Hashed, NoRoom};
 use std::alloc::Global;
 use std::test::Fail;
 

@@ -3,10 +3,10 @@
 //! call.
 
 use crate::given::{handed_back, holds};
-use starlark_hash::{Hashed, TextKey, ToOwnedKey};
-use starlark_lending::ordered::{
+use starlark_callers::lent::ordered::{
     count_in_order, count_word_in_order, lend_at, or_insert_then_put_in_order,
 };
+use starlark_hash::{Hashed, TextKey, ToOwnedKey};
 use starlark_sets::OrderedMap;
 use std::alloc::{AllocError, Global};
 use std::test::Fail;

@@ -3,8 +3,8 @@
 //! changed at the first call.
 
 use crate::given::{THRESHOLD, handed_back, holds, shows_elements, under};
+use starlark_callers::lent::sets::{stored, stored_number};
 use starlark_hash::{Hashed, TextKey};
-use starlark_lending::sets::{stored, stored_number};
 use starlark_sets::{SmallSet, smallset};
 use starlark_small::UNINDEXED;
 use std::alloc::{AllocError, Global};

@@ -1,8 +1,8 @@
 //! Unordered sets that grow, and what comes back where no room is found.
 
 use crate::given::{handed_back, holds};
+use starlark_callers::lent::unordered::{add_raw, add_raw_number};
 use starlark_hash::Hashed;
-use starlark_lending::unordered::{add_raw, add_raw_number};
 use starlark_unordered::UnorderedSet;
 use starlark_unordered::unordered_set::RawEntryMut;
 use std::alloc::{AllocError, Global};

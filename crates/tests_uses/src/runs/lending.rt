@@ -1,15 +1,15 @@
 //! Each caller that writes through a lent reference: what is there afterwards, and what comes back.
 
 use crate::runs::given::{Numbers, holds, rows, same, shows, under};
-use starlark_hash::NoRoom;
-use starlark_lending::entries::put_value;
-use starlark_lending::looked_up::{
+use starlark_callers::lent::entries::put_value;
+use starlark_callers::lent::looked_up::{
     change_if_there, insert_if_lacking, is_there, or_insert_then_put,
 };
-use starlark_lending::maps::{insert_own_then_put, insert_then_put};
-use starlark_lending::occupied::{put_if_there, put_in_entry};
-use starlark_lending::pairs::{put_both, put_both_if};
-use starlark_lending::unordered::{has_key, has_number};
+use starlark_callers::lent::maps::{insert_own_then_put, insert_then_put};
+use starlark_callers::lent::occupied::{put_if_there, put_in_entry};
+use starlark_callers::lent::pairs::{put_both, put_both_if};
+use starlark_callers::lent::unordered::{has_key, has_number};
+use starlark_hash::NoRoom;
 use starlark_map::unordered_map::UnorderedMap;
 use starlark_small::{Entry, SmallMap};
 use starlark_vec2::Vec2;

@@ -1,0 +1,11 @@
+use Rattle.std.specs.Prelude.{OnOk}
+use Rattle.std.proofs.Common.{rules, subst}
+use Rattle.starlark_small.specs.Inserted.{IsInserted}
+use Rattle.starlark_small.specs.Map.{own_hashed}
+use Rattle.starlark_callers.proofs.lent.maps.insert_own_then_put.Goals as goal
+
+pub returns-in-Ok-clause-inserted : goal.returns-in-Ok-clause-inserted
+returns-in-Ok-clause-inserted g c =
+    let lent = c.lend_own_new_value in
+    let Inserted = IsInserted c.args.map.now (own_hashed g.K.Hash.hash_input c.args.key) c.args.next in
+    subst Inserted {x = lent.follows.lender c.args.next} (search rules) (subst (λ r. OnOk r (Inserted (lent.follows.lender c.args.next))) c.in-Ok.is (lent.follows.holds c.args.next))

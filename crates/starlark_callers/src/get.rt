@@ -1,0 +1,96 @@
+//! Callers that look up.
+ghost use Rattle.std.specs.Hash as fed;
+ghost use Rattle.std.specs.Option.{option_map, unwrap_or};
+ghost use Rattle.std.specs.Prelude.{◌≡◌, ◌≤◌, All, IfSome, is_some, map, nat_eq, sum, true};
+ghost use Rattle.std.specs.String.{string_bytes, string_eq};
+ghost use Rattle.std.specs.declared.alloc.Global.{Global};
+ghost use Rattle.std.specs.declared.string.String.{String};
+ghost use Rattle.starlark_lists.specs.Entries.{entry_value};
+ghost use Rattle.starlark_small.specs.Calling.{contains, get, get_key, get_text};
+
+use starlark_hash::{Hashed, TextKey};
+use starlark_sets::{OrderedMap, SmallSet};
+use starlark_small::SmallMap;
+use starlark_sorted::SortedSet;
+use std::hash::Hash;
+
+/// The value under a key, or another.
+pub fn lookup_or<K: Eq + Hash>(map: &SmallMap<K, u64>, key: &K, default: u64) -> u64
+    ensures { result ≡ unwrap_or (get K.eq K.hash_input map.now key.now) default }
+{
+    match map.get(key) {
+        Some(value) => *value,
+        None => default,
+    }
+}
+
+/// The value under a key whose hash is computed before, or another.
+pub fn lookup_ready_or<K: Eq + Hash + Drop>(map: &SmallMap<K, u64>, key: K, default: u64) -> u64
+    ensures { result ≡ unwrap_or (get K.eq K.hash_input map.now key) default }
+{
+    let hashed = Hashed::new(key);
+    match map.get_hashed(hashed.as_ref()) {
+        Some(value) => *value,
+        None => default,
+    }
+}
+
+/// The stored key and its value, beside their place.
+pub fn stored(entries: &SmallMap<u32, u64>, key: u32) -> Option<(usize, &u32, &u64)>
+    ensures key { option_map (λ found. found.1.now) result ≡ get_key nat_eq fed.u32 entries.now key }
+    ensures value { option_map (λ found. found.2.now) result ≡ get nat_eq fed.u32 entries.now key }
+{
+    entries.get_full(&key)
+}
+
+/// The value at a key, or 0, which is no more than all together.
+pub fn part_of_total(entries: &SmallMap<u32, u64>, key: u32) -> u64
+    ensures part { result ≤ sum (map entry_value entries.now.entries) }
+    ensures value { result ≡ unwrap_or (get nat_eq fed.u32 entries.now key) 0 }
+{
+    entries.get(&key).copied().unwrap_or(0)
+}
+
+/// The value at a text.
+pub fn named(map: &SmallMap<String, u64>, name: &str) -> Option<u64>
+    ensures { (s : String Global) → string_bytes s ≡ name.now → result ≡ get string_eq (λ s. fed.str (string_bytes s)) map.now s }
+{
+    map.get(&TextKey(name)).copied()
+}
+
+/// The value at a key, within a bound that each value meets.
+pub fn bounded<K: Eq + Hash>(entries: &OrderedMap<K, u64>, key: &K, most: u64) -> u64
+    requires { All (λ value. value ≤ most) (map entry_value entries.now.entries) }
+    ensures value { result ≡ unwrap_or (get K.eq K.hash_input entries.now key.now) 0 }
+    ensures within { result ≤ most }
+{
+    entries.get(key).copied().unwrap_or(0)
+}
+
+/// The number under a text, or 0.
+pub fn lookup_text(map: &OrderedMap<String, u64>, key: &str) -> u64
+    ensures { result ≡ unwrap_or (get_text map.now key.now) 0 }
+{
+    match map.get(&TextKey(key)) {
+        Some(value) => *value,
+        None => 0,
+    }
+}
+
+/// The stored element that is equal to this one.
+pub fn stored_element<T: Eq + Hash + Copy>(set: &SmallSet<T>, n: &T) -> Option<T>
+    ensures there { is_some result ≡ contains T.eq T.hash_input set.now n.now }
+    ensures equal { IfSome result (λ m. T.eq n.now m ≡ true) }
+{
+    match set.get(n) {
+        Some(there) => Some(*there),
+        None => None,
+    }
+}
+
+/// Whether a sorted set has an element.
+pub fn has_sorted<T: Ord + Hash>(set: &SortedSet<T>, n: &T) -> bool
+    ensures { result ≡ contains T.eq T.hash_input set.now n.now }
+{
+    set.contains(n)
+}

@@ -1,0 +1,163 @@
+//! Callers that insert into maps, or write what is there.
+ghost use Rattle.std.specs.Hash as fed;
+ghost use Rattle.std.specs.Prelude.{◌+◌, ◌≡◌, IfOk, None, OnErr, OnOk, Some, false, if◌then◌else◌, is_some, length, nat_eq, true, ℕ};
+ghost use Rattle.std.specs.Str.{bytes_eq};
+ghost use Rattle.std.specs.String.{string_bytes, string_eq};
+ghost use Rattle.std.specs.declared.alloc.Global.{Global};
+ghost use Rattle.std.specs.declared.string.String.{String};
+ghost use Rattle.starlark_small.specs.Calling.{AreOwn, contains, get};
+
+use starlark_hash::{Hashed, NoRoom, TextKey};
+use starlark_sets::OrderedMap;
+use starlark_small::SmallMap;
+use std::alloc::{AllocError, Global};
+use std::hash::Hash;
+
+/// Puts a value at a key.
+pub fn record<K: Eq + Hash + Drop, V: Drop>(
+    map: &mut SmallMap<K, V>,
+    key: K,
+    value: V,
+) -> Result<(), NoRoom<(K, V)>>
+    ensures here { OnOk result (get K.eq K.hash_input map.new key ≡ Some value) }
+    ensures others { OnOk result ((other : K) → K.eq key other ≡ false → get K.eq K.hash_input map.new other ≡ get K.eq K.hash_input map.old other) }
+    ensures lacking { OnErr result (get K.eq K.hash_input map.old key ≡ None) }
+    ensures unchanged { OnErr result ((other : K) → get K.eq K.hash_input map.new other ≡ get K.eq K.hash_input map.old other) }
+{
+    map.insert(key, value)?;
+    Ok(())
+}
+
+/// Puts a value at a key, and answers what was there.
+pub fn exchange<K: Eq + Hash + Drop, V: Drop>(
+    map: &mut SmallMap<K, V>,
+    key: K,
+    value: V,
+) -> Result<Option<V>, NoRoom<(K, V)>>
+    ensures was { IfOk result (λ was. was ≡ get K.eq K.hash_input map.old key) }
+    ensures here { OnOk result (get K.eq K.hash_input map.new key ≡ Some value) }
+{
+    map.insert(key, value)
+}
+
+/// Puts a value at a key, and answers how many keys there are.
+pub fn record_and_count<K: Eq + Hash + Drop, V: Drop>(
+    map: &mut SmallMap<K, V>,
+    key: K,
+    value: V,
+) -> Result<usize, NoRoom<(K, V)>>
+    ensures count { IfOk result (λ n. n ≡ length map.old.entries + (if contains K.eq K.hash_input map.old key then 0 else 1)) }
+    ensures here { OnOk result (get K.eq K.hash_input map.new key ≡ Some value) }
+{
+    map.insert(key, value)?;
+    Ok(map.len())
+}
+
+/// Puts a value at a key whose hash is computed before.
+pub fn record_ready<K: Eq + Hash + Drop, V: Drop>(
+    map: &mut SmallMap<K, V>,
+    key: K,
+    value: V,
+) -> Result<(), NoRoom<(Hashed<K>, V)>>
+    ensures here { OnOk result (get K.eq K.hash_input map.new key ≡ Some value) }
+    ensures others { OnOk result ((other : K) → K.eq key other ≡ false → get K.eq K.hash_input map.new other ≡ get K.eq K.hash_input map.old other) }
+{
+    map.insert_hashed(Hashed::new(key), value)?;
+    Ok(())
+}
+
+/// A map of one key.
+pub fn one<K: Eq + Hash + Drop, V: Drop>(
+    alloc: Global,
+    key: K,
+    value: V,
+) -> Result<SmallMap<K, V>, NoRoom<(K, V)>>
+    ensures here { IfOk result (λ map. get K.eq K.hash_input map key ≡ Some value) }
+    ensures others { IfOk result (λ map. (other : K) → K.eq key other ≡ false → get K.eq K.hash_input map other ≡ None) }
+    ensures one { IfOk result (λ map. length map.entries ≡ 1) }
+    ensures own { IfOk result (AreOwn K.hash_input) }
+{
+    let mut map = SmallMap::new(alloc);
+    map.insert(key, value)?;
+    Ok(map)
+}
+
+/// Writes the value at a key, or puts it there.
+pub fn put<K: Eq + Hash + Drop, V: Drop>(
+    map: &mut SmallMap<K, V>,
+    key: K,
+    value: V,
+) -> Result<(), NoRoom<(K, V)>>
+    ensures here { OnOk result (get K.eq K.hash_input map.new key ≡ Some value) }
+    ensures others { OnOk result ((other : K) → K.eq key other ≡ false → get K.eq K.hash_input map.new other ≡ get K.eq K.hash_input map.old other) }
+{
+    match map.get_mut(&key) {
+        Some(there) => *there = value,
+        None => {
+            map.insert(key, value)?;
+        }
+    }
+    Ok(())
+}
+
+/// Puts a value at the string of a text. Strings with other bytes keep what they had.
+pub fn record_named(
+    alloc: Global,
+    map: &mut SmallMap<String, u64>,
+    name: &str,
+    value: u64,
+) -> Result<(), AllocError>
+    ensures here { OnOk result ((s : String Global) → string_bytes s ≡ name.now → get string_eq (λ s. fed.str (string_bytes s)) map.new s ≡ Some value) }
+    ensures others { OnOk result ((s : String Global) → bytes_eq name.now (string_bytes s) ≡ false → get string_eq (λ s. fed.str (string_bytes s)) map.new s ≡ get string_eq (λ s. fed.str (string_bytes s)) map.old s) }
+{
+    map.insert(String::from_str(alloc, name)?, value)?;
+    Ok(())
+}
+
+/// Writes the value at a text, where there is one, and answers whether there is.
+pub fn set_named(map: &mut SmallMap<String, u64>, name: &str, value: u64) -> bool
+    ensures known { (s : String Global) → string_bytes s ≡ name.now → result ≡ is_some (get string_eq (λ s. fed.str (string_bytes s)) map.old s) }
+    ensures here { result ≡ true → (s : String Global) → string_bytes s ≡ name.now → get string_eq (λ s. fed.str (string_bytes s)) map.new s ≡ Some value }
+{
+    match map.get_mut(&TextKey(name)) {
+        Some(there) => {
+            *there = value;
+            true
+        }
+        None => false,
+    }
+}
+
+/// A map of known numbers, one put twice and another taken out.
+pub fn numbers(alloc: Global) -> Result<SmallMap<u32, u8>, NoRoom<(u32, u8)>>
+    ensures one { IfOk result (λ m. get nat_eq fed.u32 m 1 ≡ Some 10) }
+    ensures two { IfOk result (λ m. get nat_eq fed.u32 m 2 ≡ None) }
+    ensures three { IfOk result (λ m. get nat_eq fed.u32 m 3 ≡ Some 31) }
+    ensures others { IfOk result (λ m. (key : ℕ) → nat_eq 1 key ≡ false → nat_eq 2 key ≡ false → nat_eq 3 key ≡ false → get nat_eq fed.u32 m key ≡ None) }
+{
+    let mut m = SmallMap::new(alloc);
+    m.insert(3u32, 30u8)?;
+    m.insert(1, 10)?;
+    m.insert(2, 20)?;
+    m.shift_remove(&2);
+    m.insert(3, 31)?;
+    Ok(m)
+}
+
+/// Writes the value at a key of an ordered map, or puts it there.
+pub fn put_in_order<K: Eq + Hash + Drop, V: Drop>(
+    map: &mut OrderedMap<K, V>,
+    key: K,
+    value: V,
+) -> Result<(), NoRoom<(K, V)>>
+    ensures here { OnOk result (get K.eq K.hash_input map.new key ≡ Some value) }
+    ensures others { OnOk result ((other : K) → K.eq key other ≡ false → get K.eq K.hash_input map.new other ≡ get K.eq K.hash_input map.old other) }
+{
+    match map.get_mut(&key) {
+        Some(there) => *there = value,
+        None => {
+            map.insert(key, value)?;
+        }
+    }
+    Ok(())
+}

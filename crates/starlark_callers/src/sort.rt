@@ -1,0 +1,87 @@
+//! Callers that sort or turn round, and of what ascends.
+ghost use Rattle.std.specs.Hash as fed;
+ghost use Rattle.std.specs.Option.{unwrap_or};
+ghost use Rattle.std.specs.Ordering.{nat_cmp};
+ghost use Rattle.std.specs.Prelude.{◌≡◌, ◌≤◌, IfErr, IfOk, IfSome, IsSorted, OnOk, Some, is_some, length, map, nat_eq, nat_lt, reverse, slice_get, ℕ};
+ghost use Rattle.std.specs.String.{string_bytes, string_cmp, string_eq};
+ghost use Rattle.std.specs.declared.alloc.Global.{Global};
+ghost use Rattle.std.specs.declared.string.String.{String};
+ghost use Rattle.starlark_small.specs.Calling.{contains, get, keys};
+ghost use Rattle.starlark_small.specs.Map.{own_match};
+
+use starlark_sets::{OrderedMap, OrderedSet};
+use starlark_small::SmallMap;
+use starlark_sorted::SortedMap;
+use std::alloc::AllocError;
+use std::hash::Hash;
+
+/// Sorts the keys, which ascend then; each key has what it had.
+pub fn sorted<K: Ord + Hash, V>(map: &mut SmallMap<K, V>) -> Result<(), AllocError>
+    ensures ascend { OnOk result (IsSorted K.cmp (keys map.new)) }
+    ensures same { (key : K) → get K.eq K.hash_input map.new key ≡ get K.eq K.hash_input map.old key }
+{
+    map.sort_keys()
+}
+
+/// Turns the entries round; each key has what it had.
+pub fn turned<K: Eq + Hash, V>(map: &mut SmallMap<K, V>)
+    ensures same { (key : K) → get K.eq K.hash_input map.new key ≡ get K.eq K.hash_input map.old key }
+    ensures turned { map.new.entries ≡ reverse map.old.entries }
+{
+    map.reverse();
+}
+
+/// Sorts names, which ascend then, and looks for one.
+pub fn sorted_named(map: &mut SmallMap<String, u64>, name: &String) -> Result<bool, AllocError>
+    ensures ascend { OnOk result (IsSorted string_cmp (keys map.new)) }
+    ensures same { (other : String Global) → get string_eq (λ s. fed.str (string_bytes s)) map.new other ≡ get string_eq (λ s. fed.str (string_bytes s)) map.old other }
+    ensures looked { IfOk result (λ is. is ≡ contains string_eq (λ s. fed.str (string_bytes s)) map.old name.now) }
+{
+    map.sort_keys()?;
+    Ok(map.contains_key(name))
+}
+
+/// Sorts an ordered set, which finds what it found, and looks for an element.
+pub fn sorted_in_order<T: Ord + Hash>(set: &mut OrderedSet<T>, n: &T) -> Result<bool, AllocError>
+    ensures same { (other : T) → contains T.eq T.hash_input set.new other ≡ contains T.eq T.hash_input set.old other }
+    ensures looked { IfOk result (λ is. is ≡ contains T.eq T.hash_input set.old n.now) }
+{
+    set.sort()?;
+    Ok(set.contains(n))
+}
+
+/// Sorts the keys of an ordered map, and answers the place of one, or the length.
+pub fn place_when_sorted(map: &mut OrderedMap<u32, u64>, key: u32) -> Result<usize, AllocError>
+    ensures within { IfOk result (λ place. place ≤ length map.new.entries) }
+    ensures place { IfOk result (λ place. place ≡ unwrap_or (own_match nat_eq fed.u32 map.new.entries key) (length map.new.entries)) }
+    ensures ascend { OnOk result (IsSorted nat_cmp (keys map.new)) }
+    ensures same { (other : ℕ) → get nat_eq fed.u32 map.new other ≡ get nat_eq fed.u32 map.old other }
+{
+    map.sort_keys()?;
+    match map.get_index_of(&key) {
+        Some(place) => Ok(place),
+        None => Ok(map.len()),
+    }
+}
+
+/// Sorts an ordered map, and looks for a key, or hands the map back.
+pub fn look_sorted(map: OrderedMap<u32, u64>, key: u32) -> Result<Option<u64>, OrderedMap<u32, u64>>
+    ensures looked { IfOk result (λ value. value ≡ get nat_eq fed.u32 map key) }
+    ensures back { IfErr result (λ m. m.entries ≡ map.entries) }
+{
+    let sorted = SortedMap::from_ordered_map(map)?;
+    Ok(sorted.get(&key).copied())
+}
+
+/// The first two keys.
+pub fn first_two(map: &SortedMap<u32, u64>) -> Option<(u32, u32)>
+    ensures are { is_some result ≡ nat_lt 1 (length map.now.entries) }
+    ensures ascend { IfSome result (λ p. p.0 ≤ p.1) }
+    ensures first { IfSome result (λ p. slice_get (keys map.now) 0 ≡ Some p.0) }
+    ensures second { IfSome result (λ p. slice_get (keys map.now) 1 ≡ Some p.1) }
+{
+    let mut keys = map.keys();
+    let a = keys.next()?;
+    let b = keys.next()?;
+    Some((*a, *b))
+}

@@ -1,7 +1,0 @@
-use Rattle.std.proofs.Common.{◌≡◌, ℕ, ◌<◌, true}
-use Rattle.std.specs.Prelude.{nat_eq}
-use Rattle.starlark_unordered.specs.Calling.{contains}
-use Rattle.starlark_uses.proofs.free.first_free_unordered.Given as goal
-
-abbrev pub invariant-loop-n : goal.invariant-loop-n
-invariant-loop-n l = (m : ℕ) → m < l.n-counter → contains nat_eq l.used m ≡ true
