@@ -5,11 +5,11 @@ use Rattle.starlark_columns.specs.Owned.{row_owned}
 use Rattle.starlark_columns.specs.Lends.{with_places}
 use Rattle.starlark_columns.specs.contracts.block.Address as address
 use Rattle.starlark_columns.specs.contracts.block.Claim as claim
-use Rattle.starlark_columns.specs.contracts.block.Held as held
+use Rattle.starlark_columns.specs.contracts.row.Row as row
 use Rattle.starlark_columns.specs.declared.column.Column.TheInside.{Inside}
 use Rattle.starlark_columns.specs.contracts.column.Column as C
 use Rattle.starlark_columns.specs.contracts.column.Column.TheInside as I
-use Rattle.starlark_columns.proofs.Fields.{word, address_told, address_made, HeldData}
+use Rattle.starlark_columns.proofs.Fields.{word, address_told, address_made, RowMark}
 use Rattle.starlark_columns.proofs.column.Column.TheLaws as T
 use Rattle.starlark_columns.proofs.column.Column.TheInside.TheLaws as IL
 
@@ -30,7 +30,7 @@ module _ (K : RattleType) where
   CA = (address.the_field K).row
 
   abbrev CH : RattleType
-  CH = held.the_row K
+  CH = row.the_row K
 
   abbrev behind : List Member
   behind = member (claim.the_row K heap.the_row ghosts) ∷ []
@@ -53,14 +53,14 @@ module _ (K : RattleType) where
 
   -- the fields with these places
   abbrev placed : D → W.Denot → D
-  placed d ds = record d { held = with_places d.held ds }
+  placed d ds = record d { row = with_places d.row ds }
 
   module _ {M : Type 1} {𝓤 : Ura M} (𝓛 : Logic 𝓤) (b o : ℕ) where
     abbrev pub Word : Ptr → Fml
     Word p = cell_at full_share CA.mir (word p ∷ []) b (o + eA)
 
     abbrev Mark : List Val → Fml
-    Mark vs = fsep ((HeldData K).own_val (tt, tt) vs) (cell_at full_share CH.mir vs b (o + eH))
+    Mark vs = fsep ((RowMark K).own_val (tt, tt) vs) (cell_at full_share CH.mir vs b (o + eH))
 
     abbrev Back : SProp 𝓤
     Back = PartsBack 𝓛 full_share (I.the_type K).name ms b o
@@ -70,7 +70,7 @@ module _ (K : RattleType) where
     Shell d vs = sep 𝓤 (sem 𝓛 (part_at usize full_share d.count b (o + eN))) (sep 𝓤 (sem 𝓛 (Mark vs)) (sep 𝓤 (sem 𝓛 (parts_at full_share behind (eH + size (lone CH.mir)) (to d).1.1.1 b o)) Back))
 
     abbrev pub Cuts : (v : W.Denot) → ((d : D) × Known v d) × List Val → SProp 𝓤
-    Cuts v d = sep 𝓤 (sem 𝓛 (Word d.0.0.address.at)) (sep 𝓤 (sem 𝓛 (row_owned K d.0.0.held.at d.0.0.held.places)) (Shell d.0.0 d.1))
+    Cuts v d = sep 𝓤 (sem 𝓛 (Word d.0.0.address.at)) (sep 𝓤 (sem 𝓛 (row_owned K d.0.0.row.at d.0.0.row.places)) (Shell d.0.0 d.1))
 
     pub cut : Laws K → (v : W.Denot) → ent 𝓤 (sem 𝓛 (part_at W full_share v b o)) (ex 𝓤 (Cuts v))
     unfolding part_of
@@ -84,16 +84,16 @@ module _ (K : RattleType) where
         show ! (Cuts v) (d, vs) $ keep ! (3 ∷ 1 ∷ 4 ∷ 0 ∷ 2 ∷ 5 ∷ []) $ done !))))
 
     pub shut : (v : W.Denot) (d : D) (vs : List Val) → Known v d → (ds : W.Denot) → length ds ≡ length v
-        → ent 𝓤 (sep 𝓤 (sem 𝓛 (row_owned K d.held.at ds)) (sep 𝓤 (sem 𝓛 (Word d.address.at)) (Shell d vs))) (sem 𝓛 (part_at W full_share ds b o))
+        → ent 𝓤 (sep 𝓤 (sem 𝓛 (row_owned K d.row.at ds)) (sep 𝓤 (sem 𝓛 (Word d.address.at)) (Shell d vs))) (sem 𝓛 (part_at W full_share ds b o))
     unfolding part_of
     shut v d vs k ds long =
         let d' : D = placed d ds in let known : Known ds d' = (refl, (k.1.0, long ∙ ap length (sym k.0) ∙ k.1.1, k.1.2)) in
-        qed 𝓛 (‵ (row_owned K d.held.at ds) ∷ ‵ (Word d.address.at) ∷ (‵ (part_at usize full_share d.count b (o + eN)) ⊛ ‵ (Mark vs) ⊛ ‵ (parts_at full_share behind (eH + size (lone CH.mir)) (to d).1.1.1 b o) ⊛ raw Back) ∷ []) ∵
+        qed 𝓛 (‵ (row_owned K d.row.at ds) ∷ ‵ (Word d.address.at) ∷ (‵ (part_at usize full_share d.count b (o + eN)) ⊛ ‵ (Mark vs) ⊛ ‵ (parts_at full_share behind (eH + size (lone CH.mir)) (to d).1.1.1 b o) ⊛ raw Back) ∷ []) ∵
         use0 𝓛 (‵ (CA.own_val (d.address.at, tt) (word d.address.at ∷ []))) (address_made K 𝓛 d.address.at) $ move ! (2 ∷ 0 ∷ []) $ fjoin ! $
         fpack ! (List Val) (λ us. fsep (cell_at full_share CA.mir us b (o + eA)) (CA.own_val (d.address.at, tt) us)) (word d.address.at ∷ []) $
         move ! (2 ∷ []) $ split3 ! $ move ! (2 ∷ []) $ split ! $
         -- [what is behind; the way back; the count; the mark; the address; the places]
-        move ! (3 ∷ []) $ fsplit ! $ move ! (0 ∷ 6 ∷ []) $ fjoin ! $ move ! (1 ∷ 0 ∷ []) $ fjoin ! $ fpack ! (List Val) (λ us. fsep (cell_at full_share CH.mir us b (o + eH)) (CH.own_val d'.held us)) vs $
+        move ! (3 ∷ []) $ fsplit ! $ move ! (0 ∷ 6 ∷ []) $ fjoin ! $ move ! (1 ∷ 0 ∷ []) $ fjoin ! $ fpack ! (List Val) (λ us. fsep (cell_at full_share CH.mir us b (o + eH)) (CH.own_val d'.row us)) vs $
         move ! (0 ∷ 1 ∷ []) $ fjoin ! $ move ! (2 ∷ 0 ∷ []) $ fjoin ! $ move ! (2 ∷ 0 ∷ []) $ fjoin ! $ move ! (1 ∷ []) $
         use1 𝓛 (raw (wand 𝓤 (sem 𝓛 (parts_at full_share ms zero (to d') b o)) (sem 𝓛 (part_at (Struct (shape_of (I.the_type K).name ms)) full_share (to d') b o))))
         (all_e 𝓤 (λ (a' : Denots (rows_of ms)). wand 𝓤 (sem 𝓛 (parts_at full_share ms zero a' b o)) (sem 𝓛 (part_at (Struct (shape_of (I.the_type K).name ms)) full_share a' b o))) (to d')) $

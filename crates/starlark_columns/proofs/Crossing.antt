@@ -18,7 +18,7 @@ use Rattle.core.specs.declared.alloc.Allocator.{Ghosts}
 use Rattle.std_alloc.proofs.SendSync.{FreesAnywhere, quiet}
 use Rattle.starlark_columns.specs.Owned.{places_owned, places_lent, within_lent}
 use Rattle.starlark_columns.specs.contracts.block.Claim as claim
-use Rattle.starlark_columns.specs.contracts.block.Held as held
+use Rattle.starlark_columns.specs.contracts.row.Row as row
 use Rattle.starlark_columns.specs.contracts.block.PairClaim as pair_claim
 use Rattle.starlark_columns.specs.Paired.{rooms_rejoin}
 
@@ -49,13 +49,13 @@ module _ (R : RattleType) where
   within_common y null_ptr cs κ = tt
   within_common y (block_ptr b o) cs κ = lent_common y (block_ptr b o) cs κ
 
-  pub held_send : IsSend R → IsSend (held.the_row R)
-  held_send s =
-      let T = held.the_type R in let marks : AllSend (fields T) = (search sendable, tt) in
+  pub row_send : IsSend R → IsSend (row.the_row R)
+  row_send s =
+      let T = row.the_type R in let marks : AllSend (fields T) = (search sendable, tt) in
       owning_send T marks (λ h. (tt, row_keyless s h.at h.places)) (λ k. quiet (to T) (exits_of k (fields T)) ((struct_send (shape T) marks).leaving k))
 
-  pub held_sync : IsSync R → IsSync (held.the_row R)
-  held_sync y = let T = held.the_type R in record { shared = λ h b o κ. ((struct_sync (shape T) (search sendable, tt)).shared (to T h) b o κ, (tt, within_common y h.at h.places κ)) }
+  pub row_sync : IsSync R → IsSync (row.the_row R)
+  row_sync y = let T = row.the_type R in record { shared = λ h b o κ. ((struct_sync (shape T) (search sendable, tt)).shared (to T h) b o κ, (tt, within_common y h.at h.places κ)) }
 
   module _ (A : RattleType) (g : Ghosts A.Denot) where
     pub claim_send : FreesAnywhere A.Denot g → IsSend (claim.the_row R A g)

@@ -3,10 +3,10 @@ use Rattle.starlark_columns.proofs.Walking.{◌≡◌, List, [], ◌∷◌, ◌+
 use denote.Struct.Declared as Declared
 pub use Rattle.starlark_columns.proofs.Addresses.{word, word_good, address_made, address_told}
 use Rattle.starlark_columns.specs.contracts.block.Claim as claim
-use Rattle.starlark_columns.specs.contracts.block.Held as held
+use Rattle.starlark_columns.specs.contracts.row.Row as row
 use Rattle.starlark_columns.specs.contracts.block.PairClaim as pair_claim
 
--- a `Held`, a `Claim` or a `PairClaim`
+-- a `Row`, a `Claim` or a `PairClaim`
 abbrev pub mark : Val
 mark = vstruct (vcons (vstruct vnil) vnil)
 
@@ -32,14 +32,14 @@ module _ {M : Type 1} {𝓤 : Ura M} (𝓛 : Logic 𝓤) (R S : RattleType) (x :
           feq_i ! (List Val) all all refl $ fjoin ! $ fpack ! (Valss Rs) (within (Declared.shape (tuple_type Rs)) (x, (y, (z, (m, tt)))) all) (u ∷ [], (v ∷ [], (w ∷ [], (s ∷ [], tt)))) $ done !
 
 module _ (R : RattleType) where
-  abbrev pub HeldData : RattleType
-  HeldData = Struct (shape (held.the_type R))
+  abbrev pub RowMark : RattleType
+  RowMark = Struct (shape (row.the_type R))
 
-  pub held_told : (vs : List Val) → Is HeldData (tt, tt) vs → vs ≡ mark ∷ []
-  held_told vs is = is.1.0 ∙ ap (λ (ws : List Val). vstruct (of_list (ws ++ [])) ∷ []) is.1.1.0.1.0
+  pub row_mark_told : (vs : List Val) → Is RowMark (tt, tt) vs → vs ≡ mark ∷ []
+  row_mark_told vs is = is.1.0 ∙ ap (λ (ws : List Val). vstruct (of_list (ws ++ [])) ∷ []) is.1.1.0.1.0
 
-  pub held_made : {M : Type 1} {𝓤 : Ura M} (𝓛 : Logic 𝓤) → ent 𝓤 (emp 𝓤) (sem 𝓛 (HeldData.own_val (tt, tt) (mark ∷ [])))
-  held_made 𝓛 = makes_shadow 𝓛 (HeldData.own_val (tt, tt) (mark ∷ [])) (λ vss. (tt, ((λ uss. (tt, tt)), tt))) ((vstruct vnil ∷ [], tt), (refl, ((tt, (refl, tt)), tt)))
+  pub row_mark_made : {M : Type 1} {𝓤 : Ura M} (𝓛 : Logic 𝓤) → ent 𝓤 (emp 𝓤) (sem 𝓛 (RowMark.own_val (tt, tt) (mark ∷ [])))
+  row_mark_made 𝓛 = makes_shadow 𝓛 (RowMark.own_val (tt, tt) (mark ∷ [])) (λ vss. (tt, ((λ uss. (tt, tt)), tt))) ((vstruct vnil ∷ [], tt), (refl, ((tt, (refl, tt)), tt)))
 
   module _ (A : RattleType) (g : Ghosts A.Denot) where
     abbrev pub ClaimData : RattleType

@@ -117,8 +117,8 @@ module _ {X : Type 0} where
   pub none_at_front : (cs : List (Option X)) → IsFront cs 0 → cs ≡ empties (length cs)
   none_at_front cs front = counted cs (length cs - 0) (none_is cs (length cs - 0) front.form)
 
-  pub none_left : (cs ds : List (Option X)) (n : ℕ) → ds ≡ cs → IsFront cs 0 → n ≡ length cs → ds ≡ empties n
-  none_left cs ds n same front long = same ∙ none_at_front cs front ∙ ap empties (sym long)
+  pub none_left : (cs : List (Option X)) (n : ℕ) → IsFront cs 0 → n ≡ length cs → cs ≡ empties n
+  none_left cs n front long = none_at_front cs front ∙ ap empties (sym long)
 
   module _ (cs : List (Option X)) (n : ℕ) (front : IsFront cs n) where
     -- the places behind the items

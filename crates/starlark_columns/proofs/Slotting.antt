@@ -121,7 +121,7 @@ module _ {X : Type 0} where
     count : length cs ≡ length xs
     count = ap length (sym is) ∙ places_count xs fs long_fs
 
-    after_count : (u v : ℕ) → length (emptied u v (places_of ys gs)) ≡ length cs
+    pub after_count : (u v : ℕ) → length (emptied u v (places_of ys gs)) ≡ length cs
     after_count u v = emptied_count u v (places_of ys gs) ∙ places_count ys gs (long_gs ∙ sym long_ys) ∙ long_ys ∙ sym count
 
     -- a place that no step has touched

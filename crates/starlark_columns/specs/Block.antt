@@ -1,16 +1,21 @@
--- When two rows lie in the block that a claim is to.
+-- Where a row lies, and when two rows lie in the block that a claim is to.
 use Rattle.std.specs.Prelude.{◌≡◌, length}
 use Rattle.std.specs.declared.alloc.Global.{Global}
 use denote.RattleType.{RattleType}
 use denote.RawPtr.{Ptr, InBlock}
-use Rattle.starlark_columns.specs.Laid.{Laid}
+use Rattle.starlark_columns.specs.declared.row.Row.{Row}
 use Rattle.starlark_columns.specs.Paired.{behind}
 use Rattle.starlark_columns.specs.declared.block.PairClaim.{PairClaim}
 use Rattle.starlark_columns.specs.declared.block.Spot.{Spot}
 
+module _ {X : Type 0} where
+  -- the row begins here, and has so many places
+  abbrev pub LiesAt : Spot X → Row X → Type 0
+  LiesAt spot r = (spot.address.at ≡ r.at) × (spot.count ≡ length r.places)
+
 module _ {A B : Type 0} where
   -- the claim, which is the right to give a block back, is to the block of these two rows, which have as many places
-  abbrev pub IsBlockOf : PairClaim A B Global → Laid A → Laid B → Type 0
+  abbrev pub IsBlockOf : PairClaim A B Global → Row A → Row B → Type 0
   IsBlockOf block r s = (block.firsts ≡ r.at) × (block.seconds ≡ s.at) × (block.count ≡ length r.places) × (block.count ≡ length s.places)
 
   -- the block begins here, and its rows have so many places each

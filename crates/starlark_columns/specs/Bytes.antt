@@ -3,10 +3,10 @@ use Rattle.std.specs.Prelude.{◌≡◌, ℕ, length}
 use Rattle.std.specs.declared.alloc.Global.{Global}
 use Rattle.starlark_columns.specs.Claims.{IsClaimTo}
 use Rattle.starlark_columns.specs.Front.{IsFront}
-use Rattle.starlark_columns.specs.Laid.{Laid}
+use Rattle.starlark_columns.specs.declared.row.Row.{Row}
 use Rattle.starlark_columns.specs.declared.block.Address.{Address}
 use Rattle.starlark_columns.specs.declared.block.Claim.{Claim}
 
 -- the row stands at the address, each of its places has a byte, and the claim is to them
-abbrev pub IsBytes : Address ℕ → Laid ℕ → Claim ℕ Global → Type 0
+abbrev pub IsBytes : Address ℕ → Row ℕ → Claim ℕ Global → Type 0
 IsBytes address row claim = (row.at ≡ address.at) × IsFront row.places (length row.places) × IsClaimTo address.at (length row.places) claim

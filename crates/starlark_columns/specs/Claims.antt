@@ -4,7 +4,7 @@ use Rattle.std.specs.declared.alloc.Global.{Global}
 use denote.RawPtr.{Ptr}
 use Rattle.starlark_columns.specs.declared.block.Address.{Address}
 use Rattle.starlark_columns.specs.declared.block.Claim.{Claim}
-use Rattle.starlark_columns.specs.declared.block.Held.{Held}
+use Rattle.starlark_columns.specs.declared.row.Row.{Row}
 
 module _ {X : Type 0} where
   -- the claim is to the n places at p
@@ -12,5 +12,5 @@ module _ {X : Type 0} where
   IsClaimTo p n c = (c.at ≡ p) × (c.count ≡ n)
 
   -- the row of n places stands at the address, and the claim is to them
-  abbrev pub IsColumn : Address X → ℕ → Held X → Claim X Global → Type 0
-  IsColumn address n held claim = (held.at ≡ address.at) × (length held.places ≡ n) × IsClaimTo address.at n claim
+  abbrev pub IsColumn : Address X → ℕ → Row X → Claim X Global → Type 0
+  IsColumn address n row claim = (row.at ≡ address.at) × (length row.places ≡ n) × IsClaimTo address.at n claim

@@ -1,24 +1,29 @@
--- What the places end as, once a `&mut` into them has ended.
+-- What a `Row` ends as, once a `&mut` into it has ended.
 use Rattle.std.specs.Prelude.{ℕ, ◌-◌, List, map, slice_range, slice_set, Option, Some}
 use Rattle.std.specs.Borrow.{Fml, RattleType, MutBor, Array, Lends}
 use Rattle.std.specs.List.{refill}
 use Rattle.starlark_columns.specs.Places.{with_range, items_of}
-use Rattle.starlark_columns.specs.declared.block.Held.{Held}
-use Rattle.starlark_columns.specs.contracts.block.Held.{the_row}
+use Rattle.starlark_columns.specs.Front.{with_items}
+use Rattle.starlark_columns.specs.declared.row.Row.{Row}
+use Rattle.starlark_columns.specs.contracts.row.Row.{the_row}
 
 module _ {X : Type 0} where
+  -- the same row with these places
+  abbrev pub with_places : Row X → List (Option X) → Row X
+  with_places r cs = record { mark = r.mark; at = r.at; places = cs }
+
   -- the places from `from` up to `to` hold ws, of which as many count as they held before
   abbrev pub rewritten : List (Option X) → ℕ → ℕ → List X → List (Option X)
   rewritten cs from to ws = with_range cs from to (map Some (refill (to - from) (items_of (slice_range cs from to)) ws))
 
-  -- the same row with these places
-  abbrev pub with_places : Held X → List (Option X) → Held X
-  with_places h cs = record { mark = h.mark; at = h.at; places = cs }
-
 -- the row ends as `rewritten` with what was left behind a `&mut` to the items of the places from `from` up to `to`
-abbrev pub lends_range : (R : RattleType) → MutBor (Held R.Denot) → ℕ → ℕ → MutBor (List R.Denot) → Fml
-lends_range R h from to r = Lends (the_row R) (Array R 0) h r (λ ws. with_places h.now (rewritten h.now.places from to ws))
+abbrev pub lends_items : (R : RattleType) → MutBor (Row R.Denot) → ℕ → ℕ → MutBor (List R.Denot) → Fml
+lends_items R s from to r = Lends (the_row R) (Array R 0) s r (λ ws. with_places s.now (rewritten s.now.places from to ws))
 
 -- the row ends with what was left behind a `&mut` to the item of one place
-abbrev pub lends_place : (R : RattleType) → MutBor (Held R.Denot) → ℕ → MutBor R.Denot → Fml
-lends_place R h i r = Lends (the_row R) R h r (λ w. with_places h.now (slice_set h.now.places i (Some w)))
+abbrev pub lends_item : (R : RattleType) → MutBor (Row R.Denot) → ℕ → MutBor R.Denot → Fml
+lends_item R s i r = Lends (the_row R) R s r (λ w. with_places s.now (slice_set s.now.places i (Some w)))
+
+-- the row ends as `with_items` with what was left behind a `&mut` to the items at its front
+abbrev pub lends_front : (R : RattleType) → MutBor (Row R.Denot) → MutBor (List R.Denot) → Fml
+lends_front R s r = Lends (the_row R) (Array R 0) s r (λ ws. with_places s.now (with_items s.now.places ws))

@@ -4,9 +4,7 @@ pub mod Paired
 pub mod Slotted
 pub mod Lends
 pub mod Claims
-pub mod Laid
 pub mod Block
-pub mod RowLends
 pub mod Front
 pub mod Between
 pub mod ColumnLends

@@ -4,7 +4,7 @@ use Rattle.std.specs.declared.alloc.Global.{Global}
 use denote.RawPtr.{Ptr, null_ptr, InBlock, Testable}
 use Rattle.starlark_columns.specs.declared.block.Address.{Address}
 use Rattle.starlark_columns.specs.declared.block.Claim.{Claim}
-use Rattle.starlark_columns.specs.declared.block.Held.{Held}
+use Rattle.starlark_columns.specs.declared.row.Row.{Row}
 use Rattle.starlark_columns.specs.Claims.{IsClaimTo}
 
 module _ {X : Type 0} where
@@ -16,5 +16,5 @@ module _ {X : Type 0} where
   IsItemAt p q claim (Some x ∷ (c ∷ cs)) = ⊥
 
   -- one item in a block of its own, or none and a null address; either way the address may be compared with null
-  abbrev pub IsPerhaps : Address X → Held X → Claim X Global → Type 0
-  IsPerhaps address held claim = Testable address.at × IsItemAt address.at held.at claim held.places
+  abbrev pub IsPerhaps : Address X → Row X → Claim X Global → Type 0
+  IsPerhaps address row claim = Testable address.at × IsItemAt address.at row.at claim row.places

@@ -1,23 +1,18 @@
 //! Rows whose items stand between two places, as a walk leaves them that takes from either end.
 ghost use Rattle.std.specs.Prelude.{◌≡◌, ◌+◌, ◌<◌, [], ◌∷◌, ◌++◌, length};
 ghost use Rattle.starlark_columns.specs.Places.{items_of};
+ghost use Rattle.starlark_columns.specs.Block.{LiesAt};
 ghost use Rattle.starlark_columns.specs.Front.{IsFront};
 ghost use Rattle.starlark_columns.specs.Between.{IsBetween};
 
-use crate::block::Address;
+use crate::block::Spot;
 use crate::row::Row;
 
 impl<T> Row<T> {
     /// The items stand at the places from `from` up to `to`. Takes the first one out.
     #[inline]
-    pub fn take_first_between(
-        &mut self,
-        address: Address<T>,
-        count: usize,
-        from: usize,
-        to: usize,
-    ) -> T
-        requires its { (address.at ≡ self.old.at) × (count ≡ length self.old.places) }
+    pub fn take_first_between(&mut self, spot: Spot<T>, from: usize, to: usize) -> T
+        requires spot { LiesAt spot self.old }
         requires between { IsBetween self.old.places from to }
         requires some { from < to }
         ensures between { IsBetween self.new.places (from + 1) to }
@@ -25,19 +20,13 @@ impl<T> Row<T> {
         ensures places { length self.new.places ≡ length self.old.places }
         ensures at { self.new.at ≡ self.old.at }
     {
-        self.take(address, count, from)
+        self.take(spot, from)
     }
 
     /// The items stand at the places from `from` to `last`. Takes the last one out.
     #[inline]
-    pub fn take_last_between(
-        &mut self,
-        address: Address<T>,
-        count: usize,
-        from: usize,
-        last: usize,
-    ) -> T
-        requires its { (address.at ≡ self.old.at) × (count ≡ length self.old.places) }
+    pub fn take_last_between(&mut self, spot: Spot<T>, from: usize, last: usize) -> T
+        requires spot { LiesAt spot self.old }
         requires between { IsBetween self.old.places from (last + 1) }
         requires some { from < last + 1 }
         ensures between { IsBetween self.new.places from last }
@@ -45,14 +34,14 @@ impl<T> Row<T> {
         ensures places { length self.new.places ≡ length self.old.places }
         ensures at { self.new.at ≡ self.old.at }
     {
-        self.take(address, count, last)
+        self.take(spot, last)
     }
 }
 
 impl<T: Drop> Row<T> {
     /// The items stand at the places from `from` up to `to`. Drops them all.
-    pub fn drop_between(&mut self, address: Address<T>, count: usize, from: usize, to: usize)
-        requires its { (address.at ≡ self.old.at) × (count ≡ length self.old.places) }
+    pub fn drop_between(&mut self, spot: Spot<T>, from: usize, to: usize)
+        requires spot { LiesAt spot self.old }
         requires between { IsBetween self.old.places from to }
         ensures empty { IsFront self.new.places 0 }
         ensures places { length self.new.places ≡ length self.old.places }
@@ -60,7 +49,7 @@ impl<T: Drop> Row<T> {
     {
         let mut first = from;
         while first < to {
-            let _item = self.take_first_between(address, count, first, to);
+            let _item = self.take_first_between(spot, first, to);
             first += 1;
         }
     }

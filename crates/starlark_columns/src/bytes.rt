@@ -3,7 +3,7 @@ ghost use Rattle.std.specs.Prelude.{◌≡◌, ◌<◌, [], length, replicate, I
 ghost use Rattle.std.specs.Borrow.{sem};
 ghost use Rattle.starlark_columns.specs.Places.{empties};
 
-use crate::block::{Address, Claim, Held, allocate, bare, bare_claim, deallocate, let_go};
+use crate::block::{Address, Claim, Spot, allocate, bare, bare_claim, deallocate, let_go};
 use crate::row::Row;
 use std::alloc::{AllocError, Global};
 use std::marker::Model;
@@ -39,11 +39,11 @@ impl Bytes {
     pub fn none(alloc: Global) -> Bytes
         ensures { result ≡ [] }
     {
-        let (address, held) = bare(0);
+        let (address, row) = bare(0);
         let claim = bare_claim(&alloc, address, 0);
         Bytes {
             address,
-            row: Row { held },
+            row,
             claim,
             alloc,
         }
@@ -57,10 +57,10 @@ impl Bytes {
         if !may_hold::<u8>(count) {
             return Err(AllocError);
         }
-        let (address, held, claim) = allocate(&alloc, count)?;
-        let mut row = Row { held };
+        let (address, mut row, claim) = allocate(&alloc, count)?;
+        let spot = Spot { address, count };
         for made in 0..count {
-            row.push_last(address, count, made, byte);
+            row.push_last(spot, made, byte);
         }
         Ok(Bytes {
             address,
@@ -106,23 +106,22 @@ impl Bytes {
             claim,
             alloc,
         } = self;
-        let held = emptied(row, address, count);
+        let row = emptied(row, address, count);
         if count == 0 {
-            let_go(held, claim);
+            let_go(row, claim);
         } else {
-            deallocate(&alloc, address, count, held, claim);
+            deallocate(&alloc, address, count, row, claim);
         }
     }
 }
 
 // The places without their bytes.
 #[inline]
-fn emptied(row: Row<u8>, address: Address<u8>, count: usize) -> Held<u8>
+fn emptied(mut row: Row<u8>, address: Address<u8>, count: usize) -> Row<u8>
     requires { (address.at ≡ row.at) × (count ≡ length row.places) }
     ensures { (result.at ≡ row.at) × (result.places ≡ empties count) }
 {
-    let Row { mut held } = row;
-    let places = held.open(address, count);
-    held.close(places, 0, count);
-    held
+    let places = row.open(address, count);
+    row.close(places, 0, count);
+    row
 }

@@ -6,9 +6,10 @@ ghost use Rattle.starlark_columns.specs.Places.{empties, IsFilled};
 ghost use Rattle.starlark_columns.specs.Front.{IsFront};
 
 use crate::block::{
-    Address, Claim, Held, allocate, bare, bare_claim, deallocate, item_size, let_go,
+    Address, Claim, Spot, allocate, bare, bare_claim, deallocate, item_size, let_go,
 };
 use crate::loan::{Keeps, Loan};
+use crate::row::Row;
 use std::alloc::{AllocError, Global};
 use std::marker::{Model, PhantomData};
 use std_alloc::room::may_hold;
@@ -19,7 +20,7 @@ use std_alloc::room::may_hold;
 pub struct Column<T> {
     address: Address<T>,
     count: usize,
-    held: Held<T>,
+    row: Row<T>,
     claim: Claim<T, Global>,
 }
 
@@ -29,9 +30,9 @@ impl<T> Model for Column<T> {
 
     ghost Value = { List (Option T) };
 
-    ghost view = { λ c. c.held.places };
+    ghost view = { λ c. c.row.places };
 
-    ghost invariant = { λ c. IsColumn c.address c.count c.held c.claim };
+    ghost invariant = { λ c. IsColumn c.address c.count c.row c.claim };
 }
 
 // Making, and giving back
@@ -52,12 +53,12 @@ impl<T> Column<T> {
         requires { count * type_size T.row ≡ 0 }
         ensures { result ≡ empties count }
     {
-        let (address, held) = bare(count);
+        let (address, row) = bare(count);
         let claim = bare_claim(&alloc, address, count);
         Column {
             address,
             count,
-            held,
+            row,
             claim,
         }
     }
@@ -75,11 +76,11 @@ impl<T> Column<T> {
         if !may_hold::<T>(count) {
             return Err(AllocError);
         }
-        let (address, held, claim) = allocate(&alloc, count)?;
+        let (address, row, claim) = allocate(&alloc, count)?;
         Ok(Column {
             address,
             count,
-            held,
+            row,
             claim,
         })
     }
@@ -92,13 +93,13 @@ impl<T> Column<T> {
         let Column {
             address,
             count,
-            held,
+            row,
             claim,
         } = self;
         if count == 0 || item_size::<T>() == 0 {
-            let_go(held, claim);
+            let_go(row, claim);
         } else {
-            deallocate(&alloc, address, count, held, claim);
+            deallocate(&alloc, address, count, row, claim);
         }
     }
 
@@ -123,7 +124,11 @@ impl<T> Column<T> {
         requires { (index < length self.old) × (get_or self.old index None ≡ None) }
         ensures { self.new ≡ slice_set self.old index (Some item) }
     {
-        self.held.write(self.address, self.count, index, item);
+        let spot = Spot {
+            address: self.address,
+            count: self.count,
+        };
+        self.row.write(spot, index, item);
     }
 
     /// Moves the item out of a full place, which is then empty.
@@ -133,7 +138,11 @@ impl<T> Column<T> {
         ensures value { get_or self.old index None ≡ Some result }
         ensures places { self.new ≡ slice_set self.old index None }
     {
-        self.held.take(self.address, self.count, index)
+        let spot = Spot {
+            address: self.address,
+            count: self.count,
+        };
+        self.row.take(spot, index)
     }
 
     /// The item of a full place.
@@ -144,7 +153,7 @@ impl<T> Column<T> {
     {
         let count = self.count;
         prove!(index < count);
-        &self.held.slice(self.address, index, index + 1)[0]
+        self.row.get(self.address, count, index)
     }
 
     /// The item of a full place, to be written. The place ends with what is left in it, and all else stays.
@@ -154,7 +163,7 @@ impl<T> Column<T> {
         ensures* writes_back { sem 𝓛 (lends_item T.row self.entry index result) }
         ensures value { get_or self.old index None ≡ Some result.now }
     {
-        self.held.get_mut(self.address, index)
+        self.row.get_mut(self.address, index)
     }
 }
 

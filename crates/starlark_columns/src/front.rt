@@ -1,17 +1,17 @@
-//! Rows whose items stand at the front. Each call is told how many there are, so that two rows share one length. `address`
-//! is where the places lie, and `count` their number.
+//! Rows whose items stand at the front. Each call is told how many there are, so that two rows share one length.
 ghost use Rattle.std.specs.Prelude.{◌≡◌, ◌+◌, ◌-◌, ◌<◌, ◌≤◌, [], ◌∷◌, ◌++◌, Some, length, take, reverse, slice_get, IsOk, OnOk, OnErr};
 ghost use Rattle.std.specs.Borrow.{sem};
 ghost use Rattle.std.specs.List.{remove, AllZip};
 ghost use Rattle.starlark_columns.specs.Places.{items_of};
+ghost use Rattle.starlark_columns.specs.Block.{LiesAt};
 ghost use Rattle.starlark_columns.specs.Front.{IsFront};
 
-use crate::block::Address;
+use crate::block::{Address, Spot};
 use crate::row::Row;
 use std::alloc::AllocError;
 
 impl<T> Row<T> {
-    ghost use Rattle.starlark_columns.specs.RowLends.{lends_front, lends_item};
+    ghost use Rattle.starlark_columns.specs.Lends.{lends_front, lends_item};
 
     /// The first `len` places, which hold all the items.
     #[inline]
@@ -59,8 +59,8 @@ impl<T> Row<T> {
 
     /// Puts an item behind the `len` that are there. A place is to be left.
     #[inline]
-    pub fn push_last(&mut self, address: Address<T>, count: usize, len: usize, item: T)
-        requires its { (address.at ≡ self.old.at) × (count ≡ length self.old.places) }
+    pub fn push_last(&mut self, spot: Spot<T>, len: usize, item: T)
+        requires spot { LiesAt spot self.old }
         requires front { IsFront self.old.places len }
         requires room { len < length self.old.places }
         ensures front { IsFront self.new.places (len + 1) }
@@ -68,26 +68,26 @@ impl<T> Row<T> {
         ensures places { length self.new.places ≡ length self.old.places }
         ensures at { self.new.at ≡ self.old.at }
     {
-        self.write(address, count, len, item);
+        self.write(spot, len, item);
     }
 
     /// Takes the last item out, which has `last` in front of it.
     #[inline]
-    pub fn take_last(&mut self, address: Address<T>, count: usize, last: usize) -> T
-        requires its { (address.at ≡ self.old.at) × (count ≡ length self.old.places) }
+    pub fn take_last(&mut self, spot: Spot<T>, last: usize) -> T
+        requires spot { LiesAt spot self.old }
         requires front { IsFront self.old.places (last + 1) }
         ensures front { IsFront self.new.places last }
         ensures items { items_of self.old.places ≡ items_of self.new.places ++ result ∷ [] }
         ensures places { length self.new.places ≡ length self.old.places }
         ensures at { self.new.at ≡ self.old.at }
     {
-        self.take(address, count, last)
+        self.take(spot, last)
     }
 
     /// Takes the item at `index` out. Those behind it move up by one place.
     #[inline]
-    pub fn remove_at(&mut self, address: Address<T>, count: usize, len: usize, index: usize) -> T
-        requires its { (address.at ≡ self.old.at) × (count ≡ length self.old.places) }
+    pub fn remove_at(&mut self, spot: Spot<T>, len: usize, index: usize) -> T
+        requires spot { LiesAt spot self.old }
         requires front { IsFront self.old.places len }
         requires within { index < len }
         ensures taken { slice_get (items_of self.old.places) index ≡ Some result }
@@ -96,24 +96,16 @@ impl<T> Row<T> {
         ensures places { length self.new.places ≡ length self.old.places }
         ensures at { self.new.at ≡ self.old.at }
     {
-        let item = self.take(address, count, index);
-        self.move_down(address, count, index + 1, len, index);
+        let item = self.take(spot, index);
+        self.move_down(spot, index + 1, len, index);
         item
     }
 
     /// Moves all `len` items to the places of `to`, which are empty, and enough. None is left here.
     #[inline]
-    pub fn move_all(
-        &mut self,
-        address: Address<T>,
-        count: usize,
-        len: usize,
-        to: &mut Row<T>,
-        to_address: Address<T>,
-        to_count: usize,
-    )
-        requires its { (address.at ≡ self.old.at) × (count ≡ length self.old.places) }
-        requires others { (to_address.at ≡ to.old.at) × (to_count ≡ length to.old.places) }
+    pub fn move_all(&mut self, spot: Spot<T>, len: usize, to: &mut Row<T>, to_spot: Spot<T>)
+        requires spot { LiesAt spot self.old }
+        requires other { LiesAt to_spot to.old }
         requires front { IsFront self.old.places len }
         requires empty { IsFront to.old.places 0 }
         requires room { len ≤ length to.old.places }
@@ -123,7 +115,13 @@ impl<T> Row<T> {
         ensures places { (length self.new.places ≡ length self.old.places) × (length to.new.places ≡ length to.old.places) }
         ensures at { (self.new.at ≡ self.old.at) × (to.new.at ≡ to.old.at) }
     {
-        self.move_to(address, count, 0, len, to, to_address, to_count, 0);
+        if len != 0 {
+            let mut slots = self.open(spot.address, spot.count);
+            let mut others = to.open(to_spot.address, to_spot.count);
+            slots.move_run(0, &mut others, 0, len);
+            self.close(slots, 0, len);
+            to.close(others, 0, 0);
+        }
     }
 
     /// Turns the items round.
@@ -142,8 +140,8 @@ impl<T> Row<T> {
 
 impl<T: Drop> Row<T> {
     /// Drops the items from `to` on, the last first.
-    pub fn truncate(&mut self, address: Address<T>, count: usize, len: usize, to: usize)
-        requires its { (address.at ≡ self.old.at) × (count ≡ length self.old.places) }
+    pub fn truncate(&mut self, spot: Spot<T>, len: usize, to: usize)
+        requires spot { LiesAt spot self.old }
         requires front { IsFront self.old.places len }
         requires within { to ≤ len }
         ensures front { IsFront self.new.places to }
@@ -154,7 +152,7 @@ impl<T: Drop> Row<T> {
         let mut left = len;
         while to < left {
             left -= 1;
-            let _item = self.take_last(address, count, left);
+            let _item = self.take_last(spot, left);
         }
     }
 }
@@ -167,11 +165,10 @@ impl<T: Clone + Drop> Row<T> {
         address: Address<T>,
         len: usize,
         to: &mut Row<T>,
-        to_address: Address<T>,
-        to_count: usize,
+        to_spot: Spot<T>,
     ) -> Result<(), AllocError>
         requires at { address.at ≡ self.now.at }
-        requires others { (to_address.at ≡ to.old.at) × (to_count ≡ length to.old.places) }
+        requires other { LiesAt to_spot to.old }
         requires front { IsFront self.now.places len }
         requires empty { IsFront to.old.places 0 }
         requires room { len ≤ length to.old.places }
@@ -185,9 +182,9 @@ impl<T: Clone + Drop> Row<T> {
         let items = self.items(address, len);
         for made in 0..len {
             match items[made].clone() {
-                Ok(item) => to.push_last(to_address, to_count, made, item),
+                Ok(item) => to.push_last(to_spot, made, item),
                 Err(refused) => {
-                    to.truncate(to_address, to_count, made, 0);
+                    to.truncate(to_spot, made, 0);
                     return Err(refused);
                 }
             }

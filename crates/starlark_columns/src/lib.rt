@@ -7,7 +7,6 @@ mod block;
 pub mod bytes;
 pub mod column;
 pub mod front;
-mod held;
 mod layout;
 pub mod loan;
 pub mod pair;

@@ -7,11 +7,10 @@ ghost use Rattle.starlark_columns.specs.Front.{IsFront};
 ghost use denote.RawPtr.{InBlock};
 ghost use Rattle.starlark_columns.specs.Paired.{behind};
 ghost use Rattle.starlark_columns.specs.Block.{IsBlockOf, IsSpotOf};
-ghost use Rattle.starlark_columns.specs.Laid.{laid};
 
 use crate::block::{
-    Address, Held, PairClaim, Spot, allocate_pair, bare_pair, deallocate_pair, item_size,
-    let_go_pair, moved,
+    Address, PairClaim, Spot, allocate_pair, bare_pair, deallocate_pair, item_size, let_go_pair,
+    moved,
 };
 use crate::layout::{laid_out, skip};
 use crate::row::Row;
@@ -21,18 +20,22 @@ use std::alloc::{AllocError, Global};
 pub type Block<A, B> = PairClaim<A, B, Global>;
 
 impl<A, B> PairClaim<A, B, Global> {
-    /// Where the second row lies, from where the block does.
+    /// Where the second row lies, from where the block does, and how many places it has: as many as the first.
     #[inline]
-    pub fn second(&self, spot: Spot<A>) -> Address<B>
+    pub fn second(&self, spot: Spot<A>) -> Spot<B>
         requires { IsSpotOf spot self.now }
-        ensures { result.at ≡ self.now.seconds }
+        ensures at { result.address.at ≡ self.now.seconds }
+        ensures count { result.count ≡ spot.count }
     {
         self.told();
-        second_at(spot)
+        Spot {
+            address: second_at(spot),
+            count: spot.count,
+        }
     }
 }
 
-/// The same without the right, where it is known that the spot is in a block.
+/// Where the second row lies, without the right, where it is known that the spot is in a block.
 #[inline]
 pub fn second_at<A, B>(spot: Spot<A>) -> Address<B>
     requires { InBlock spot.address.at }
@@ -68,12 +71,7 @@ pub fn with_rows<A, B>(
         layout.size,
         layout.align,
     )?;
-    Ok((
-        Spot { address, count },
-        row_of(firsts),
-        row_of(seconds),
-        block,
-    ))
+    Ok((Spot { address, count }, firsts, seconds, block))
 }
 
 /// Two rows of no places, without memory.
@@ -100,10 +98,8 @@ pub fn give_back<A, B>(
     requires empty { IsFront firsts.places 0 × IsFront seconds.places 0 }
     requires block { IsBlockOf block firsts seconds }
 {
-    let Row { held } = firsts;
-    let Row { held: other } = seconds;
     if weightless::<A, B>(spot.count) {
-        let_go_pair(held, other, block);
+        let_go_pair(firsts, seconds, block);
     } else {
         let layout = laid_out::<A, B>(spot.count);
         deallocate_pair(
@@ -111,8 +107,8 @@ pub fn give_back<A, B>(
             spot.address,
             layout.size,
             layout.align,
-            held,
-            other,
+            firsts,
+            seconds,
             block,
         );
     }
@@ -135,18 +131,5 @@ fn bare_rows<A, B>(alloc: Global, count: usize) -> (Spot<A>, Row<A>, Row<B>, Blo
     ensures spot { IsSpotOf result.0 result.3 }
 {
     let (address, firsts, seconds, block) = bare_pair(&alloc, count);
-    (
-        Spot { address, count },
-        row_of(firsts),
-        row_of(seconds),
-        block,
-    )
-}
-
-// The row of these places.
-#[inline]
-fn row_of<T>(held: Held<T>) -> Row<T>
-    ensures places { result ≡ laid held.at held.places }
-{
-    Row { held }
+    (Spot { address, count }, firsts, seconds, block)
 }

@@ -4,9 +4,10 @@ ghost use Rattle.std.specs.Borrow.{sem};
 ghost use Rattle.std.specs.Option.{option_copied, option_copied_mut};
 
 use crate::block::{
-    Address, Claim, Held, allocate, bare, bare_claim, deallocate, is_nowhere, item_size, known,
+    Address, Claim, Spot, allocate, bare, bare_claim, deallocate, is_nowhere, item_size, known,
     let_go, nowhere,
 };
+use crate::row::Row;
 use std::alloc::{AllocError, Global};
 use std::marker::Model;
 use std_alloc::room::may_hold;
@@ -15,7 +16,7 @@ use std_alloc::room::may_hold;
 /// as the item, where there is one. Dropped, it drops the item and gives the block back.
 pub struct Perhaps<T> {
     address: Address<T>,
-    held: Held<T>,
+    row: Row<T>,
     claim: Claim<T, Global>,
     // Where the block comes from.
     alloc: Global,
@@ -27,9 +28,9 @@ impl<T> Model for Perhaps<T> {
 
     ghost Value = { Option T };
 
-    ghost view = { λ p. get_or p.held.places 0 None };
+    ghost view = { λ p. get_or p.row.places 0 None };
 
-    ghost invariant = { λ p. IsPerhaps p.address p.held p.claim };
+    ghost invariant = { λ p. IsPerhaps p.address p.row p.claim };
 }
 
 impl<T> Perhaps<T> {
@@ -40,11 +41,11 @@ impl<T> Perhaps<T> {
     pub fn none(alloc: Global) -> Perhaps<T>
         ensures { result ≡ None }
     {
-        let (address, held) = bare(0);
+        let (address, row) = bare(0);
         let claim = bare_claim(&alloc, address, 0);
         Perhaps {
             address: nowhere(),
-            held,
+            row,
             claim,
             alloc,
         }
@@ -58,7 +59,7 @@ impl<T> Perhaps<T> {
         if is_nowhere(self.address) {
             return None;
         }
-        Some(&self.held.slice(self.address, 0, 1)[0])
+        Some(self.row.get(self.address, 1, 0))
     }
 
     /// The item, where there is one, to be written.
@@ -80,7 +81,7 @@ impl<T> Perhaps<T> {
         ensures* writes_back { sem 𝓛 (lends_there T.row self.entry result) }
         ensures value { self.old ≡ Some result.now }
     {
-        self.held.get_mut(self.address, 0)
+        self.row.get_mut(self.address, 0)
     }
 
     // The item, taken out of its block, which is given back.
@@ -89,19 +90,19 @@ impl<T> Perhaps<T> {
     {
         let Perhaps {
             address,
-            mut held,
+            mut row,
             claim,
             alloc,
         } = self;
         if is_nowhere(address) {
-            let_go(held, claim);
+            let_go(row, claim);
             return None;
         }
-        let item = held.take(address, 1, 0);
+        let item = row.take(Spot { address, count: 1 }, 0);
         if item_size::<T>() == 0 {
-            let_go(held, claim);
+            let_go(row, claim);
         } else {
-            deallocate(&alloc, address, 1, held, claim);
+            deallocate(&alloc, address, 1, row, claim);
         }
         Some(item)
     }
@@ -115,11 +116,11 @@ impl<T: Drop> Perhaps<T> {
         if item_size::<T>() == 0 || !may_hold::<T>(1) {
             return Err(AllocError);
         }
-        let (address, mut held, claim) = allocate(&alloc, 1)?;
-        held.write(address, 1, 0, item);
+        let (address, mut row, claim) = allocate(&alloc, 1)?;
+        row.write(Spot { address, count: 1 }, 0, item);
         Ok(Perhaps {
             address,
-            held,
+            row,
             claim: known(claim),
             alloc,
         })

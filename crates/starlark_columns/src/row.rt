@@ -1,51 +1,90 @@
-//! `Row`, a row of places without the right to give their block back: another row may lie in the same block.
-ghost use Rattle.std.specs.Prelude.{◌≡◌, ◌+◌, ◌-◌, ◌^◌, ◌<◌, ◌≤◌, Some, None, map, length, get_or, slice_set, slice_range};
+//! `Row`, a row of places without the right to give their block back: another row may lie in the same block. Items go in,
+//! out and along over the kit's slots, which know no place without a value.
+ghost use Rattle.std.specs.Prelude.{◌≡◌, ◌+◌, ◌-◌, ◌<◌, ◌≤◌, List, [], Option, Some, None, map, length, get_or, slice_set, slice_range};
 ghost use Rattle.std.specs.Borrow.{sem};
-ghost use Rattle.starlark_columns.specs.Places.{empties, IsFilled, AreFilled, AreEmpty, with_range, moved_down};
+ghost use denote.RawPtr.{Ptr};
+ghost use Rattle.core.specs.Mem.Slots.{slots_items, slots_filled, slots_len, slots_ptr};
+ghost use Rattle.starlark_columns.specs.Owned.{row_owned, row_lent};
+ghost use Rattle.starlark_columns.specs.Places.{IsFilled, AreFilled, AreEmpty, moved_down};
 
-use crate::block::{Address, Held};
-use std::marker::Model;
+use crate::block::{Address, Spot};
+use core::slots::Slots;
+use std::marker::{Model, PhantomData, Send, Sync};
+use std::slice;
 
 /// A row of places, each empty or with an item. Nothing at run time says which: the type above knows. It is seen as its
 /// places and where they lie, so that `pair::give_back` takes rows of one block alone. No call changes where they lie.
-/// It takes no bytes: each call is told where it lies, and one that moves an item how many places there are, so that two
-/// rows of a block share one address and one count.
+/// It takes no bytes: a call that moves items is told the row's spot, and one that shows or lends them its address, so
+/// that two rows of a block share one address and one count.
 pub struct Row<T> {
-    pub(crate) held: Held<T>,
+    pub(crate) mark: PhantomData<*const T>,
+    pub ghost at: { Ptr },
+    pub ghost places: { List (Option T) },
 }
 
 impl<T> Model for Row<T> {
-    ghost use Rattle.starlark_columns.specs.Laid.{Laid, laid};
+    ghost also_owns = { λ r. row_owned T.row r.at r.places };
 
-    ghost Value = { Laid T };
+    ghost also_shares = { λ r _ κ. row_lent T.row r.at r.places κ };
+}
 
-    ghost view = { λ r. laid r.held.at r.held.places };
+unsafe impl<T: Send> Send for Row<T> {}
+
+unsafe impl<T: Sync> Sync for Row<T> {}
+
+impl<T> Row<T> {
+    ghost use Rattle.starlark_columns.specs.Slotted.{places_of, emptied};
+
+    // The places as the kit's slots. The row is left with none.
+    pub(crate) fn open(&mut self, address: Address<T>, count: usize) -> Slots<T>
+        requires any { T }
+        requires places { (address.at ≡ self.old.at) × (count ≡ length self.old.places) }
+        ensures places { places_of (slots_items result) (slots_filled result) ≡ self.old.places }
+        ensures slots { (slots_ptr result ≡ self.old.at) × (slots_len result ≡ count) }
+        ensures left { (self.new.at ≡ self.old.at) × (self.new.places ≡ []) }
+    {
+        unsafe { Slots::from_raw_parts(address.at.cast_mut(), count) }
+    }
+
+    // The way back. What the places from `from` up to `to` hold is forgotten.
+    pub(crate) fn close(&mut self, slots: Slots<T>, from: usize, to: usize)
+        requires { (slots_ptr slots ≡ self.old.at) × (self.old.places ≡ []) }
+        ensures { (self.new.at ≡ self.old.at) × (self.new.places ≡ emptied from to (places_of (slots_items slots) (slots_filled slots))) }
+    {
+        let _parts = unsafe { slots.into_raw_parts() };
+    }
 }
 
 impl<T> Row<T> {
-    ghost use Rattle.starlark_columns.specs.RowLends.{lends_item, lends_items};
+    ghost use Rattle.starlark_columns.specs.Block.{LiesAt};
+    ghost use Rattle.starlark_columns.specs.Lends.{lends_item, lends_items};
 
     /// Puts an item in an empty place.
     #[inline]
-    pub fn write(&mut self, address: Address<T>, count: usize, index: usize, item: T)
-        requires its { (address.at ≡ self.old.at) × (count ≡ length self.old.places) }
+    pub fn write(&mut self, spot: Spot<T>, index: usize, item: T)
+        requires spot { LiesAt spot self.old }
         requires empty { (index < length self.old.places) × (get_or self.old.places index None ≡ None) }
         ensures places { self.new.places ≡ slice_set self.old.places index (Some item) }
         ensures at { self.new.at ≡ self.old.at }
     {
-        self.held.write(address, count, index, item);
+        let mut slots = self.open(spot.address, spot.count);
+        slots.put(index, item);
+        self.close(slots, 0, 0);
     }
 
     /// Moves the item out of a full place, which is then empty.
     #[inline]
-    pub fn take(&mut self, address: Address<T>, count: usize, index: usize) -> T
-        requires its { (address.at ≡ self.old.at) × (count ≡ length self.old.places) }
+    pub fn take(&mut self, spot: Spot<T>, index: usize) -> T
+        requires spot { LiesAt spot self.old }
         requires filled { IsFilled self.old.places index }
         ensures value { get_or self.old.places index None ≡ Some result }
         ensures places { self.new.places ≡ slice_set self.old.places index None }
         ensures at { self.new.at ≡ self.old.at }
     {
-        self.held.take(address, count, index)
+        let mut slots = self.open(spot.address, spot.count);
+        let item = slots.take(index);
+        self.close(slots, 0, 0);
+        item
     }
 
     /// The item of a full place, which is below `end`.
@@ -56,7 +95,7 @@ impl<T> Row<T> {
         requires filled { IsFilled self.now.places index }
         ensures { get_or self.now.places index None ≡ Some result.now }
     {
-        &self.held.slice(address, index, index + 1)[0]
+        &self.slice(address, index, index + 1)[0]
     }
 
     /// The item of a full place, to be written. The place ends with what is left in it, and all else stays.
@@ -67,7 +106,7 @@ impl<T> Row<T> {
         ensures* writes_back { sem 𝓛 (lends_item T.row self.entry index result) }
         ensures value { get_or self.old.places index None ≡ Some result.now }
     {
-        self.held.get_mut(address, index)
+        unsafe { &mut *address.at.cast_mut().add(index) }
     }
 
     /// The items from place `from` up to place `to`, which are all there.
@@ -77,7 +116,7 @@ impl<T> Row<T> {
         requires filled { AreFilled self.now.places from to }
         ensures { slice_range self.now.places from to ≡ map Some result.now }
     {
-        self.held.slice(address, from, to)
+        unsafe { slice::from_raw_parts(address.at.add(from), to - from) }
     }
 
     /// The items from place `from` up to place `to`, which are all there, to be written. The places end with what is
@@ -89,64 +128,23 @@ impl<T> Row<T> {
         ensures* writes_back { sem 𝓛 (lends_items T.row self.entry from to result) }
         ensures value { slice_range self.old.places from to ≡ map Some result.now }
     {
-        self.held.slice_mut(address, from, to)
+        unsafe { slice::from_raw_parts_mut(address.at.cast_mut().add(from), to - from) }
     }
 
     /// Moves the items from place `from` up to place `end` down, to the places from `to` on, in their order. The places
     /// between are empty before, and as many behind the items are afterwards.
     #[inline]
-    pub fn move_down(
-        &mut self,
-        address: Address<T>,
-        count: usize,
-        from: usize,
-        end: usize,
-        to: usize,
-    )
-        requires its { (address.at ≡ self.old.at) × (count ≡ length self.old.places) }
+    pub fn move_down(&mut self, spot: Spot<T>, from: usize, end: usize, to: usize)
+        requires spot { LiesAt spot self.old }
         requires items { AreFilled self.old.places from end }
         requires gap { AreEmpty self.old.places to from }
         ensures places { self.new.places ≡ moved_down self.old.places from end to }
         ensures at { self.new.at ≡ self.old.at }
     {
         if from != end {
-            self.held.move_down(address, count, from, end, to);
-        }
-    }
-
-    /// Moves the items from place `from` up to place `end` to the empty places of `other` from `to` on, in their order.
-    /// The places that they leave are empty afterwards.
-    #[inline]
-    pub fn move_to(
-        &mut self,
-        address: Address<T>,
-        count: usize,
-        from: usize,
-        end: usize,
-        other: &mut Row<T>,
-        other_address: Address<T>,
-        other_count: usize,
-        to: usize,
-    )
-        requires its { (address.at ≡ self.old.at) × (count ≡ length self.old.places) }
-        requires others { (other_address.at ≡ other.old.at) × (other_count ≡ length other.old.places) }
-        requires items { AreFilled self.old.places from end }
-        requires room { AreEmpty other.old.places to (to + (end - from)) }
-        ensures left { self.new.places ≡ with_range self.old.places from end (empties (end - from)) }
-        ensures moved { other.new.places ≡ with_range other.old.places to (to + (end - from)) (slice_range self.old.places from end) }
-        ensures at { (self.new.at ≡ self.old.at) × (other.new.at ≡ other.old.at) }
-    {
-        if from != end {
-            self.held.move_to(
-                address,
-                count,
-                from,
-                end,
-                &mut other.held,
-                other_address,
-                other_count,
-                to,
-            );
+            let mut slots = self.open(spot.address, spot.count);
+            slots.move_within(from, to, end - from);
+            self.close(slots, to + (end - from), end);
         }
     }
 }

@@ -4,7 +4,7 @@ use lib.ListN.{length-set}
 use Rattle.std.specs.List.{refill}
 use Rattle.std.specs.declared.alloc.Global.{Global}
 use Rattle.starlark_columns.specs.Block.{IsBlockOf}
-use Rattle.starlark_columns.specs.Laid.{Laid}
+use Rattle.starlark_columns.specs.declared.row.Row.{Row}
 use Rattle.starlark_columns.specs.Places.{items_of}
 use Rattle.starlark_columns.specs.declared.block.PairClaim.{PairClaim}
 use Rattle.starlark_columns.specs.Front.{with_items}
@@ -17,7 +17,7 @@ use Rattle.starlark_vec2.proofs.Pairs.{length-zip, firsts_of-zip, seconds_of-zip
 
 module _ {A B : Type 0} where
   -- rows that lie where two of a block lay, with as many places
-  pub same_block : (block : PairClaim B A Global) (r r' : Laid A) (s s' : Laid B) → IsBlockOf block s r → r'.at ≡ r.at → s'.at ≡ s.at → length r'.places ≡ length r.places → length s'.places ≡ length s.places → IsBlockOf block s' r'
+  pub same_block : (block : PairClaim B A Global) (r r' : Row A) (s s' : Row B) → IsBlockOf block s r → r'.at ≡ r.at → s'.at ≡ s.at → length r'.places ≡ length r.places → length s'.places ≡ length s.places → IsBlockOf block s' r'
   same_block block r r' s s' is at at' long long' = (is.0 ∙ sym at', is.1 ∙ sym at, is.2 ∙ sym long', is.3 ∙ sym long)
 
   -- the pair at a place of both columns

@@ -1,9 +1,10 @@
 -- Pairs that lie side by side, whose first parts are frozen while their second parts are lent.
 use Rattle.std.specs.Prelude.{◌≡◌, ◌<◌, ◌⊎◌, ℕ, ◌+◌, ◌*◌, List, [], ◌∷◌, ◌++◌, length}
-use Rattle.std.specs.Borrow.{Fml, RattleType, MutBor, GName, Array, Lends, follows}
+use Rattle.std.specs.Borrow.{Fml, RattleType, MutBor, GName, follows}
 use Rattle.starlark_columns.specs.Places.{items_of}
 use Rattle.starlark_columns.specs.Front.{with_items}
-use Rattle.starlark_columns.specs.Laid.{Laid, relaid}
+use Rattle.starlark_columns.specs.declared.row.Row.{Row}
+use Rattle.starlark_columns.specs.Lends.{with_places}
 use Rattle.starlark_vec2.specs.ColumnLending.{column}
 use base.Fml.{Lft, ffalse, fsep, feq, fobs, fbor}
 use base.Stored.{coded_list}
@@ -46,13 +47,9 @@ frozen κ K V (block_ptr b o) i γ ps = fsep (room (Pair K V) (i + length ps)) (
 frozen κ K V null_ptr i γ ps = ffalse
 
 module _ (K V : RattleType) where
-  -- a column ends with the pairs that are left behind the slice, in the places of its own
-  abbrev pub lends_run : MutBor (Laid (K.Denot × V.Denot)) → MutBor (List (K.Denot × V.Denot)) → Fml
-  lends_run s r = Lends (column (Pair K V)) (Array (Pair K V) 0) s r (λ ws. relaid s.now (with_items s.now.places ws))
-
   -- a column ends with the second parts that the loan ends with, and its own first parts
-  abbrev pub pairs_follow : MutBor (Laid (K.Denot × V.Denot)) → GName → Fml
-  pairs_follow s γ = follows (column (Pair K V)) (column (Pair K V)) s.ghost_name γ (λ w. relaid s.now (with_items s.now.places (with_seconds (items_of s.now.places) (items_of w.places))))
+  abbrev pub pairs_follow : MutBor (Row (K.Denot × V.Denot)) → GName → Fml
+  pairs_follow s γ = follows (column (Pair K V)) (column (Pair K V)) s.ghost_name γ (λ w. with_places s.now (with_items s.now.places (with_seconds (items_of s.now.places) (items_of w.places))))
 
 module _ {T : Type 0} (from : ℕ) (rest : List T) (index : ℕ) where
   -- of those that are left, from the from-th of all on, the index-th of all is the first or the last

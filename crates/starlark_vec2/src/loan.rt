@@ -5,8 +5,9 @@ ghost use Rattle.starlark_columns.specs.Block.{IsBehind};
 ghost use Rattle.std.specs.Borrow.{GName, sem};
 ghost use Rattle.std.specs.Map.Iter.{deref_pair_mut};
 ghost use Rattle.starlark_columns.specs.Front.{IsFront};
+ghost use Rattle.starlark_columns.specs.Lends.{lends_front};
 ghost use Rattle.starlark_columns.specs.Places.{items_of};
-ghost use Rattle.starlark_vec2.specs.Frozen.{pairs_follow, lends_run, frozen, IsEnd, TakesEnd};
+ghost use Rattle.starlark_vec2.specs.Frozen.{pairs_follow, frozen, IsEnd, TakesEnd};
 
 use starlark_columns::pair::second_at;
 use starlark_columns::{Address, Row, Spot};
@@ -33,7 +34,7 @@ impl<'a, K, V> Model for Loan<'a, K, V> {
 fn run_mut<K, V>(pairs: &mut Row<(K, V)>, address: Address<(K, V)>, len: usize) -> &mut [(K, V)]
     requires at { address.at ≡ pairs.old.at }
     requires front { IsFront pairs.old.places len }
-    ensures* writes_back { sem 𝓛 (lends_run K.row V.row pairs.entry result) }
+    ensures* writes_back { sem 𝓛 (lends_front (Tuple (K.row ∷ V.row ∷ [])) pairs.entry result) }
     ensures value { result.now ≡ items_of pairs.old.places }
 {
     pairs.items_mut(address, len)

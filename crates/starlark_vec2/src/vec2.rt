@@ -135,7 +135,8 @@ impl<A, B> Vec2<A, B> {
     pub fn firsts(&self) -> &[A]
         ensures { result.now ≡ firsts_of self.now.pairs }
     {
-        self.firsts.items(self.block.second(self.spot), self.len)
+        let address = self.block.second(self.spot).address;
+        self.firsts.items(address, self.len)
     }
 
     /// The second parts of the pairs, in their order.
@@ -169,7 +170,8 @@ impl<A, B> Vec2<A, B> {
     {
         let (spot, len) = (self.spot, self.len);
         (
-            self.firsts.item(self.block.second(spot), len, index),
+            self.firsts
+                .item(self.block.second(spot).address, len, index),
             self.seconds.item(spot.address, len, index),
         )
     }
@@ -247,22 +249,9 @@ impl<A, B> Vec2<A, B> {
     {
         let (spot, mut seconds, mut firsts, mut block) = with_rows(self.alloc, capacity)?;
         let old = self.spot;
-        self.firsts.move_all(
-            self.block.second(old),
-            old.count,
-            self.len,
-            &mut firsts,
-            block.second(spot),
-            capacity,
-        );
-        self.seconds.move_all(
-            old.address,
-            old.count,
-            self.len,
-            &mut seconds,
-            spot.address,
-            capacity,
-        );
+        let (behind, ahead) = (self.block.second(old), block.second(spot));
+        self.firsts.move_all(behind, self.len, &mut firsts, ahead);
+        self.seconds.move_all(old, self.len, &mut seconds, spot);
         mem::swap(&mut self.firsts, &mut firsts);
         mem::swap(&mut self.seconds, &mut seconds);
         mem::swap(&mut self.block, &mut block);
@@ -296,9 +285,8 @@ impl<A, B> Vec2<A, B> {
     {
         let (spot, len) = (self.spot, self.len);
         prove!(len < spot.count);
-        self.firsts
-            .push_last(self.block.second(spot), spot.count, len, a);
-        self.seconds.push_last(spot.address, spot.count, len, b);
+        self.firsts.push_last(self.block.second(spot), len, a);
+        self.seconds.push_last(spot, len, b);
         self.len = len + 1;
     }
 }
@@ -317,9 +305,8 @@ impl<A, B> Vec2<A, B> {
         let (spot, len) = (self.spot, self.len);
         self.len = len - 1;
         (
-            self.firsts
-                .remove_at(self.block.second(spot), spot.count, len, index),
-            self.seconds.remove_at(spot.address, spot.count, len, index),
+            self.firsts.remove_at(self.block.second(spot), len, index),
+            self.seconds.remove_at(spot, len, index),
         )
     }
 
@@ -336,9 +323,8 @@ impl<A, B> Vec2<A, B> {
         let spot = self.spot;
         self.len -= 1;
         Some((
-            self.firsts
-                .take_last(self.block.second(spot), spot.count, self.len),
-            self.seconds.take_last(spot.address, spot.count, self.len),
+            self.firsts.take_last(self.block.second(spot), self.len),
+            self.seconds.take_last(spot, self.len),
         ))
     }
 
@@ -362,8 +348,8 @@ impl<A, B> Vec2<A, B> {
     pub fn reverse(&mut self)
         ensures { self.new ≡ with_pairs self.old (reverse self.old.pairs) }
     {
-        self.firsts
-            .turn_round(self.block.second(self.spot), self.len);
+        let address = self.block.second(self.spot).address;
+        self.firsts.turn_round(address, self.len);
         self.seconds.turn_round(self.spot.address, self.len);
     }
 }
@@ -386,10 +372,8 @@ impl<A: Drop, B: Drop> Vec2<A, B> {
     {
         if len < self.len() {
             let spot = self.spot;
-            self.firsts
-                .truncate(self.block.second(spot), spot.count, self.len, len);
-            self.seconds
-                .truncate(spot.address, spot.count, self.len, len);
+            self.firsts.truncate(self.block.second(spot), self.len, len);
+            self.seconds.truncate(spot, self.len, len);
             self.len = len;
         }
     }
@@ -405,8 +389,8 @@ impl<A: Drop, B: Drop> Drop for Vec2<A, B> {
             alloc,
             block,
         } = self;
-        firsts.truncate(block.second(spot), spot.count, len, 0);
-        seconds.truncate(spot.address, spot.count, len, 0);
+        firsts.truncate(block.second(spot), len, 0);
+        seconds.truncate(spot, len, 0);
         give_back(alloc, spot, seconds, firsts, block);
     }
 }

@@ -12,15 +12,18 @@ fn copies_a_row(rt: HostRuntime) -> Result<(), Fail> {
         Ok(rows) => rows,
         Err(_) => with_rows(rt.alloc(), 2)?,
     };
-    let (first, second) = (spot.address, block.second(spot));
-    items.push_last(first, 2, 0, 1u32);
-    items.push_last(first, 2, 1, 2);
-    if items.clone_items(first, 2, &mut clones, second, 2).is_ok() {
-        holds(&rt, clones.items(second, 2) == [1u32, 2].as_slice());
-        clones.truncate(second, 2, 2, 0);
+    let second = block.second(spot);
+    items.push_last(spot, 0, 1u32);
+    items.push_last(spot, 1, 2);
+    if items
+        .clone_items(spot.address, 2, &mut clones, second)
+        .is_ok()
+    {
+        holds(&rt, clones.items(second.address, 2) == [1u32, 2].as_slice());
+        clones.truncate(second, 2, 0);
     }
-    holds(&rt, items.items(first, 2) == [1u32, 2].as_slice());
-    items.truncate(first, 2, 2, 0);
+    holds(&rt, items.items(spot.address, 2) == [1u32, 2].as_slice());
+    items.truncate(spot, 2, 0);
     give_back(rt.alloc(), spot, items, clones, block);
     Ok(())
 }

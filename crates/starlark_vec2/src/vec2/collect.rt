@@ -74,14 +74,14 @@ impl<A: Clone, B: Clone> Vec2<A, B> {
         let len = self.len;
         let old = self.spot;
         let (spot, mut seconds, mut firsts, block) = with_rows(self.alloc, len)?;
-        let (front, behind) = (spot.address, block.second(spot));
+        let behind = block.second(spot);
         match self
             .firsts
-            .clone_items(self.block.second(old), len, &mut firsts, behind, len)
+            .clone_items(self.block.second(old).address, len, &mut firsts, behind)
         {
             Ok(()) => match self
                 .seconds
-                .clone_items(old.address, len, &mut seconds, front, len)
+                .clone_items(old.address, len, &mut seconds, spot)
             {
                 Ok(()) => Ok(Vec2 {
                     firsts,
@@ -92,7 +92,7 @@ impl<A: Clone, B: Clone> Vec2<A, B> {
                     block,
                 }),
                 Err(refused) => {
-                    firsts.truncate(behind, len, len, 0);
+                    firsts.truncate(behind, len, 0);
                     give_back(self.alloc, spot, seconds, firsts, block);
                     Err(refused)
                 }

@@ -54,9 +54,8 @@ impl<A: Drop, B: Drop> Iterator for IntoIter<A, B> {
         self.from = from + 1;
         Some((
             self.firsts
-                .take_first_between(self.block.second(spot), spot.count, from, to),
-            self.seconds
-                .take_first_between(spot.address, spot.count, from, to),
+                .take_first_between(self.block.second(spot), from, to),
+            self.seconds.take_first_between(spot, from, to),
         ))
     }
 
@@ -85,9 +84,8 @@ impl<A: Drop, B: Drop> DoubleEndedIterator for IntoIter<A, B> {
         self.to = last;
         Some((
             self.firsts
-                .take_last_between(self.block.second(spot), spot.count, from, last),
-            self.seconds
-                .take_last_between(spot.address, spot.count, from, last),
+                .take_last_between(self.block.second(spot), from, last),
+            self.seconds.take_last_between(spot, from, last),
         ))
     }
 }
@@ -142,8 +140,8 @@ impl<A: Drop, B: Drop> Drop for IntoIter<A, B> {
             alloc,
             block,
         } = self;
-        firsts.drop_between(block.second(spot), spot.count, from, to);
-        seconds.drop_between(spot.address, spot.count, from, to);
+        firsts.drop_between(block.second(spot), from, to);
+        seconds.drop_between(spot, from, to);
         give_back(alloc, spot, seconds, firsts, block);
     }
 }

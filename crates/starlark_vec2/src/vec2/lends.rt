@@ -7,7 +7,8 @@ ghost use Rattle.starlark_columns.specs.Block.{IsBehind};
 ghost use Rattle.starlark_columns.specs.Front.{IsFront};
 ghost use Rattle.starlark_vec2.specs.PairList.{firsts_of};
 ghost use Rattle.starlark_vec2.specs.Lending.{deref_both_mut, lends_first, lends_firsts, lends_both, lends_both_if, firsts_follow};
-ghost use Rattle.starlark_vec2.specs.ColumnLending.{lends_place, lends_place_if, lends_places};
+ghost use Rattle.starlark_columns.specs.Lends.{lends_item};
+ghost use Rattle.starlark_vec2.specs.ColumnLending.{lends_place_if, lends_places};
 
 use super::Vec2;
 use crate::loan::Loan;
@@ -23,7 +24,7 @@ impl<A, B> Vec2<A, B> {
         ensures* writes_back { sem 𝓛 (lends_firsts A.row B.row self.entry result) }
         ensures value { result.now ≡ firsts_of self.old.pairs }
     {
-        let address = self.block.second(self.spot);
+        let address = self.block.second(self.spot).address;
         self.firsts.items_mut(address, self.len)
     }
 
@@ -35,7 +36,7 @@ impl<A, B> Vec2<A, B> {
         ensures* writes_back { sem 𝓛 (lends_first A.row B.row self.entry index result) }
         ensures value { slice_get (firsts_of self.old.pairs) index ≡ Some result.now }
     {
-        let address = self.block.second(self.spot);
+        let address = self.block.second(self.spot).address;
         self.firsts.item_mut(address, self.len, index)
     }
 
@@ -99,7 +100,7 @@ impl<K, V, B> Vec2<(K, V), B> {
 fn lend_front<T>(column: &mut Row<T>, spot: Spot<T>, index: usize) -> &mut T
     requires at { spot.address.at ≡ column.old.at }
     requires filled { IsFilled column.old.places index }
-    ensures* writes_back { sem 𝓛 (lends_place T.row column.entry index result) }
+    ensures* writes_back { sem 𝓛 (lends_item T.row column.entry index result) }
     ensures value { get_or column.old.places index None ≡ Some result.now }
 {
     column.get_mut(spot.address, index)
@@ -110,7 +111,7 @@ fn lend_front<T>(column: &mut Row<T>, spot: Spot<T>, index: usize) -> &mut T
 fn lend_behind<T, B>(column: &mut Row<T>, spot: Spot<B>, index: usize) -> &mut T
     requires at { IsBehind B.row T.row spot column.old.at }
     requires filled { IsFilled column.old.places index }
-    ensures* writes_back { sem 𝓛 (lends_place T.row column.entry index result) }
+    ensures* writes_back { sem 𝓛 (lends_item T.row column.entry index result) }
     ensures value { get_or column.old.places index None ≡ Some result.now }
 {
     column.get_mut(second_at(spot), index)

@@ -16,7 +16,7 @@ impl<A: Drop, B: Drop> Vec2<A, B> {
     {
         let (spot, len) = (self.spot, self.len);
         let kept = sieve(
-            self.firsts.items_mut(self.block.second(spot), len),
+            self.firsts.items_mut(self.block.second(spot).address, len),
             self.seconds.items_mut(spot.address, len),
             keep,
         );

@@ -30,7 +30,7 @@ impl<A, B> Vec2<A, B> {
         let order = self.sorted_positions(compare)?;
         let (spot, len) = (self.spot, self.len);
         put_in_order(
-            self.firsts.items_mut(self.block.second(spot), len),
+            self.firsts.items_mut(self.block.second(spot).address, len),
             self.seconds.items_mut(spot.address, len),
             order,
         );

@@ -5,12 +5,12 @@ use mir.Syntax.{Body}
 use denote.Struct.Declared as Declared
 use Rattle.core.specs.contracts.alloc.AllocError as refusal
 use Rattle.core.specs.contracts.result.Result as outcome
-use Rattle.starlark_columns.proofs.Fields.{word, mark, three, address_made, HeldData, held_made, ClaimData, claim_made}
+use Rattle.starlark_columns.proofs.Fields.{word, mark, three, address_made, RowMark, row_mark_made, ClaimData, claim_made}
 use Rattle.starlark_columns.proofs.Memory.{Row, of_room}
 use Rattle.starlark_columns.proofs.PairRooms.{some_weight}
 use Rattle.starlark_columns.specs.contracts.block.Address as address
 use Rattle.starlark_columns.specs.contracts.block.Claim as claim
-use Rattle.starlark_columns.specs.contracts.block.Held as held
+use Rattle.starlark_columns.specs.contracts.row.Row as row
 use Rattle.starlark_columns.specs.contracts.block.allocate.{ended, clauses}
 use Rattle.starlark_columns.specs.contracts.block.allocate.Key as key
 use Rattle.starlark_columns.proofs.block.allocate.Statement.{statement}
@@ -22,7 +22,7 @@ allocate_spec 𝓤 𝓛 𝓜 𝓡 wired X U L LU g d dd met _ =
     let Z : Al = record { row = U; laws = LU; g = g; d = d; drops = dd } in let E : El = record { row = X; laws = L } in
     let fn = inst_fn (args E Z) code.function in
     let W : RattleType = param 1 U in let heap = RefOf (0 ∷ []) tt (plain (λ _. W)) (λ _. tt) in let c = clauses X U g d dd 𝓛 𝓜.mem 𝓡.returns in
-    let At = address.the_row (R E) in let Own = held.the_row (R E) in let Right = claim.the_row (R E) W g in
+    let At = address.the_row (R E) in let Own = row.the_row (R E) in let Right = claim.the_row (R E) W g in
     let Three : RattleType = Tuple (At ∷ Own ∷ Right ∷ []) in let Out : RattleType = outcome.the_row Three refusal.the_row in
     let hs : Stays En.signature.params En.kept = (stay_dropped heap yes, (stay_dropped (plain (λ _. usize)) yes, tt)) in
     proved 𝓛 En hs c 𝓜 𝓡 (Goes-dropped 𝓛 3 heap yes (λ κs x f. refl), (Goes-dropped 𝓛 3 (plain (λ _. usize)) yes (λ κs x f. refl), tt)) (key.name (args E Z)) fn (code.unfolded 𝓤 H 𝓜 𝓡 wired (X, (U, tt)) d dd)
@@ -59,7 +59,7 @@ allocate_spec 𝓤 𝓛 𝓜 𝓡 wired X U L LU g d dd met _ =
     -- [the room; the right; the tokens]
     use1 𝓛 (‵ (froom (ty_array (elτ E) many) b o)) (𝓛.laws.raw-room (ty_array (elτ E) many) b o) $ use1 𝓛 (‵ (Row E 𝓛 b o cs)) (of_room E 𝓛 b many o) $
     flt_i ! (length cs * each) (2 ^ 63) (subst (λ k. k * each < 2 ^ 63) (sym (length-replicate many None)) below) $ fjoin ! $
-    use0 𝓛 (‵ ((HeldData (R E)).own_val (tt, tt) (mark ∷ []))) (held_made (R E) 𝓛) $ fjoin ! $ move ! (1 ∷ []) $
+    use0 𝓛 (‵ ((RowMark (R E)).own_val (tt, tt) (mark ∷ []))) (row_mark_made (R E) 𝓛) $ fjoin ! $ move ! (1 ∷ []) $
     rewrite ! 0 (λ (z : Bool). ‵ (cond z ftrue (token Z giver τ p))) {x = eqb (many * each) 0} {y = false} (sym (some_weight (many * each) some)) refl $
     use0 𝓛 (‵ ((ClaimData (R E) W g).own_val (tt, tt) (mark ∷ []))) (claim_made (R E) W g 𝓛) $ fjoin ! $ move ! (1 ∷ 0 ∷ []) $
     use0 𝓛 (‵ (At.own_val x.0 (word p ∷ []))) (address_made (R E) 𝓛 p) $

@@ -6,11 +6,11 @@ use Rattle.core.specs.contracts.alloc.AllocError as refusal
 use Rattle.core.specs.contracts.result.Result as outcome
 use Rattle.starlark_columns.specs.Paired.{two_arrays, pair_ty, second_offset, skipped, rooms_rejoin}
 use Rattle.starlark_columns.proofs.PairRooms.{cut_in_two, some_weight, both_within}
-use Rattle.starlark_columns.proofs.Fields.{word, mark, four, address_made, HeldData, held_made, PairClaimData, pair_claim_made}
+use Rattle.starlark_columns.proofs.Fields.{word, mark, four, address_made, RowMark, row_mark_made, PairClaimData, pair_claim_made}
 use Rattle.starlark_columns.proofs.Memory.{Row, of_room}
 use Rattle.starlark_columns.specs.contracts.block.Address as address
 use Rattle.starlark_columns.specs.contracts.block.PairClaim as claim
-use Rattle.starlark_columns.specs.contracts.block.Held as held
+use Rattle.starlark_columns.specs.contracts.row.Row as row
 use Rattle.starlark_columns.specs.contracts.block.allocate_pair.{ended, clauses}
 use Rattle.starlark_columns.specs.contracts.block.allocate_pair.Key as key
 use Rattle.starlark_columns.proofs.block.allocate_pair.Statement.{statement}
@@ -22,7 +22,7 @@ allocate_pair_spec 𝓤 𝓛 𝓜 𝓡 wired X Y U L LY LU g d dd met _ =
     let E : El = record { row = X; laws = L } in let F : El = record { row = Y; laws = LY } in let Z : Al = record { row = U; laws = LU; g = g; d = d; drops = dd } in
     let inst = bounded (a_type ∷ a_type ∷ a_type ∷ []) (X, (Y, (U, tt))) (dcons d (dcons dd dnil)) in let fn = inst_fn inst code.function in
     let S : RattleType = param 1 Y in let W : RattleType = param 2 U in let heap = RefOf (0 ∷ []) tt (plain (λ _. W)) (λ _. tt) in let num = plain (λ _. usize) in let c = clauses X Y U g d dd 𝓛 𝓜.mem 𝓡.returns in
-    let At = address.the_row (R E) in let Own = held.the_row (R E) in let Bwn = held.the_row S in let Right = claim.the_row (R E) S W g in
+    let At = address.the_row (R E) in let Own = row.the_row (R E) in let Bwn = row.the_row S in let Right = claim.the_row (R E) S W g in
     let Four : RattleType = Tuple (At ∷ Own ∷ Bwn ∷ Right ∷ []) in let Out : RattleType = outcome.the_row Four refusal.the_row in
     let hs : Stays En.signature.params En.kept = (stay_dropped heap yes, (stay_dropped num yes, (stay_dropped num yes, (stay_dropped num yes, tt)))) in
     let one = Goes-dropped 𝓛 4 num yes (λ κs x f. refl) in
@@ -66,9 +66,9 @@ allocate_pair_spec 𝓤 𝓛 𝓜 𝓡 wired X Y U L LY LU g d dd met _ =
     use1 𝓛 (‵ (froom ω b o)) (𝓛.laws.raw-room ω b o) $
     use1 𝓛 (‵ (froom (ty_array (elτ E) n) b o) ⊛ ‵ (froom (ty_array (elτ F) n) b (o + far)) ⊛ ‵ (rooms_rejoin (elτ E) (elτ F) p r n)) (cut_in_two (elτ E) (elτ F) n 𝓛 b o far at) $ split3 ! $
     use1 𝓛 (‵ (Row E 𝓛 b o cs)) (of_room E 𝓛 b n o) $ flt_i ! (length cs * s) (2 ^ 63) (subst (λ k. k * s < 2 ^ 63) (sym (length-replicate n None)) less.0) $ fjoin ! $
-    use0 𝓛 (‵ ((HeldData (R E)).own_val (tt, tt) (mark ∷ []))) (held_made (R E) 𝓛) $ fjoin ! $ move ! (1 ∷ []) $
+    use0 𝓛 (‵ ((RowMark (R E)).own_val (tt, tt) (mark ∷ []))) (row_mark_made (R E) 𝓛) $ fjoin ! $ move ! (1 ∷ []) $
     use1 𝓛 (‵ (Row F 𝓛 b (o + far) es)) (of_room F 𝓛 b n (o + far)) $ flt_i ! (length es * t) (2 ^ 63) (subst (λ k. k * t < 2 ^ 63) (sym (length-replicate n None)) less.1) $ fjoin ! $
-    use0 𝓛 (‵ ((HeldData S).own_val (tt, tt) (mark ∷ []))) (held_made S 𝓛) $ fjoin ! $ move ! (3 ∷ 2 ∷ []) $ fjoin ! $
+    use0 𝓛 (‵ ((RowMark S).own_val (tt, tt) (mark ∷ []))) (row_mark_made S 𝓛) $ fjoin ! $ move ! (3 ∷ 2 ∷ []) $ fjoin ! $
     -- [the right with the way back; the second places; the first; the tokens]
     rewrite ! 0 (λ (z : Bool). ‵ (cond z ftrue (fsep (token Z h τ p) (rooms_rejoin (elτ E) (elτ F) p r n)))) {x = eqb (n * (s + t)) 0} {y = false} (sym (some_weight (n * (s + t)) some)) refl $
     feq_i ! (Ptr × Ptr) (p, r) (p, r) refl $ fjoin ! $ use0 𝓛 (‵ ((PairClaimData (R E) S W g).own_val (tt, tt) (mark ∷ []))) (pair_claim_made (R E) S W g 𝓛) $ fjoin ! $

@@ -1,10 +1,10 @@
 -- `bare_pair` makes places of no bytes out of nothing, and a right to nothing. Assumes `Logic`.
 use Rattle.starlark_columns.proofs.Walking.{◌≡◌, ℕ, ◌+◌, ◌*◌, ◌<◌, ◌^◌, Option, List, [], ◌∷◌, length, Bool, true, refl, sym, ap, subst, arith, lit<, w64, eqb, cond, length-replicate, Fml, ftrue, fsep, flft, emp, ◌⊑◌, fact, fact_i, inst_fn, bare, a_type, named, dcons, dnil, Val, vint, vptr, vstruct, vcons, vnil, alloc_all, pass_all, free_all, look_at, get, sets, ‵, raw, ◌⊛◌, ◌$◌, ◌∵◌, !, qed, by, move, keep, use0, use1, split, group, fjoin, feq_i, flt_i, rewrite, agg, stop, from, addr, and_then, no_more, returns, enter, RefOf, usize, yes, lone, param, bounded, uint_vals, uint_Tells, RattleType, owns, Ptr, block_ptr, shr_vals, shr_Tells, plain, types_at, heard, nothing, Tuple, Stays, stay_dropped, walk_of, Goes-dropped, El, proved, leaves, type_size, None, R, empties}
 use Rattle.starlark_columns.specs.Paired.{two_arrays, rooms_rejoin, skipped}
-use Rattle.starlark_columns.proofs.Fields.{word, mark, four, address_made, HeldData, held_made, PairClaimData, pair_claim_made}
+use Rattle.starlark_columns.proofs.Fields.{word, mark, four, address_made, RowMark, row_mark_made, PairClaimData, pair_claim_made}
 use Rattle.starlark_columns.proofs.Memory.{Row, weightless}
 use Rattle.starlark_columns.specs.contracts.block.Address as address
-use Rattle.starlark_columns.specs.contracts.block.Held as held
+use Rattle.starlark_columns.specs.contracts.row.Row as row
 use Rattle.starlark_columns.specs.contracts.block.PairClaim as claim
 use Rattle.starlark_columns.specs.contracts.block.bare_pair.{ended, clauses}
 use Rattle.starlark_columns.specs.contracts.block.bare_pair.Key as key
@@ -16,7 +16,7 @@ bare_pair_spec 𝓤 𝓛 𝓜 𝓡 wired X Y U L LY LU g d dd met _ =
     let E : El = record { row = X; laws = L } in let F : El = record { row = Y; laws = LY } in
     let inst = bounded (a_type ∷ a_type ∷ a_type ∷ []) (X, (Y, (U, tt))) (dcons d (dcons dd dnil)) in let En = ended X Y U g d dd in let c = clauses X Y U g d dd 𝓛 𝓜.mem 𝓡.returns in
     let S : RattleType = param 1 Y in let W : RattleType = param 2 U in let heap = RefOf (0 ∷ []) tt (plain (λ _. W)) (λ _. tt) in
-    let At = address.the_row (R E) in let Own = held.the_row (R E) in let Bwn = held.the_row S in let Right = claim.the_row (R E) S W g in let Four : RattleType = Tuple (At ∷ Own ∷ Bwn ∷ Right ∷ []) in
+    let At = address.the_row (R E) in let Own = row.the_row (R E) in let Bwn = row.the_row S in let Right = claim.the_row (R E) S W g in let Four : RattleType = Tuple (At ∷ Own ∷ Bwn ∷ Right ∷ []) in
     let hs : Stays En.signature.params En.kept = (stay_dropped heap yes, (stay_dropped (plain (λ _. usize)) yes, tt)) in
     proved 𝓛 En hs c 𝓜 𝓡 (Goes-dropped 𝓛 4 heap yes (λ κs x f. refl), (Goes-dropped 𝓛 4 (plain (λ _. usize)) yes (λ κs x f. refl), tt)) (key.name inst) (inst_fn inst code.function) (code.unfolded 𝓤 𝓛.H 𝓜 𝓡 wired (X, (Y, (U, tt))) d dd)
     (λ κs. (shr_vals, (uint_vals w64, tt))) (λ κs. (shr_Tells (named 0) κs.0 W, (uint_Tells w64, tt))) (λ κs qs bounds a gh are.
@@ -42,9 +42,9 @@ bare_pair_spec 𝓤 𝓛 𝓜 𝓡 wired X Y U L LY LU g d dd met _ =
     nothing ! $ rewrite ! 0 (λ (z : Bool). ‵ (cond z ftrue owed)) {x = eqb weight 0} {y = true} (sym (ap (λ (k : ℕ). eqb k 0) light)) refl $
     feq_i ! (Ptr × Ptr) (p, r) (p, r) refl $ fjoin ! $ use0 𝓛 (‵ ((PairClaimData (R E) S W g).own_val (tt, tt) (mark ∷ []))) (pair_claim_made (R E) S W g 𝓛) $ fjoin ! $
     use0 𝓛 (‵ (Row F 𝓛 (l 3) (0 + far) es)) (weightless F 𝓛 (l 3) n (0 + far) second) $ flt_i ! (length es * t) (2 ^ 63) fewer $ fjoin ! $
-    use0 𝓛 (‵ ((HeldData S).own_val (tt, tt) (mark ∷ []))) (held_made S 𝓛) $ fjoin ! $
+    use0 𝓛 (‵ ((RowMark S).own_val (tt, tt) (mark ∷ []))) (row_mark_made S 𝓛) $ fjoin ! $
     use0 𝓛 (‵ (Row E 𝓛 (l 3) 0 cs)) (weightless E 𝓛 (l 3) n 0 first) $ flt_i ! (length cs * s) (2 ^ 63) few $ fjoin ! $
-    use0 𝓛 (‵ ((HeldData (R E)).own_val (tt, tt) (mark ∷ []))) (held_made (R E) 𝓛) $ fjoin ! $
+    use0 𝓛 (‵ ((RowMark (R E)).own_val (tt, tt) (mark ∷ []))) (row_mark_made (R E) 𝓛) $ fjoin ! $
     use0 𝓛 (‵ (At.own_val x.0 (word p ∷ []))) (address_made (R E) 𝓛 p) $ group ! 4 $
     use1 𝓛 (‵ (Four.own_val x (v ∷ []))) (four 𝓛 At Own x.0 x.1 (word p) mark Bwn x.2 mark Right x.3 mark) $
     use0 𝓛 (raw (fact 𝓤 Told)) (fact_i 𝓤 Told (emp 𝓤) (refl, refl, refl, refl, refl, refl)) $ nothing ! $ nothing ! $ fjoin ! $ nothing ! $ fjoin ! $

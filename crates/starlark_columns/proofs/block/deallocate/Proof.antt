@@ -1,12 +1,12 @@
 -- `deallocate` makes one room of the bare places, and hands it back with the right to do so. Assumes `Logic`.
 use Rattle.starlark_columns.proofs.Walking.{◌≡◌, ℕ, ◌*◌, ◌<◌, ◌^◌, Option, Bool, false, List, [], ◌∷◌, refl, sym, ap, subst, ◌∙◌, arith, w64, Fml, ftrue, fsep, froom, flft, Incl-trans, SProp, never, id⊢, ◌⊑◌, fact, tables, eqb, length-replicate, cond, inst_fn, Ty, named, ty_unit, ty_array, Val, vunit, vint, vptr, has_ty, WT, capped_fits, align, capped, alloc_all, pass_all, free_all, look_at, get, get_in, is, sets, lands_last, env, ‵, raw, ◌⊛◌, given, later, at_ret, ◌$◌, ◌∵◌, !, qed, by, move, keep, use1, group, split, join, learn, rewrite, fsplit, fjoin, feq_i, flt_l, await, whole, sub, stop, fld, unit_lit, size_word, align_word, no_more, and_then, of_opd, bin, first, blocks, exec, returns, enter, RefOf, usize, yes, no, param, uint_vals, uint_Tells, RattleType, owns, Ptr, block_ptr, ptr_val, in_block, in_a_block, shr_vals, shr_Tells, plain, types_at, heard, nothing, calls_at_last, framed, Stays, stay_dropped, walk_of, Goes-dropped, Al, token, Gives, at_gives, Gives-goes, Gives-Gives, El, elτ, after, uncapped, block_ty, block_size, block_align, args, proved, leaves, type_size, None, T, R, empties}
 use Rattle.starlark_columns.specs.Owned.{places_owned, row_owned}
-use Rattle.starlark_columns.proofs.Fields.{word, word_good, mark, address_told, held_told, claim_told}
+use Rattle.starlark_columns.proofs.Fields.{word, word_good, mark, address_told, row_mark_told, claim_told}
 use Rattle.starlark_columns.proofs.Memory.{to_room}
 use Rattle.starlark_columns.proofs.PairRooms.{some_weight}
 use Rattle.starlark_columns.specs.contracts.block.Address as address
 use Rattle.starlark_columns.specs.contracts.block.Claim as claim
-use Rattle.starlark_columns.specs.contracts.block.Held as held
+use Rattle.starlark_columns.specs.contracts.row.Row as row
 use Rattle.starlark_columns.specs.contracts.block.deallocate.{ended, clauses}
 use Rattle.starlark_columns.specs.contracts.block.deallocate.Key as key
 use Rattle.starlark_columns.proofs.block.deallocate.Statement.{statement}
@@ -17,7 +17,7 @@ deallocate_spec 𝓤 𝓛 𝓜 𝓡 wired X U L LU g d dd met _ =
     let H = 𝓛.H in let 𝓣 = tables 𝓤 H 𝓜 𝓡 𝓡.env in let En = ended X U g d dd in
     let E : El = record { row = X; laws = L } in let Z : Al = record { row = U; laws = LU; g = g; d = d; drops = dd } in let fn = inst_fn (args E Z) code.function in
     let W : RattleType = param 1 U in let heap = RefOf (0 ∷ []) tt (plain (λ _. W)) (λ _. tt) in let c = clauses X U g d dd 𝓛 𝓜.mem 𝓡.returns in
-    let At = address.the_row (R E) in let Own = held.the_row (R E) in let Right = claim.the_row (R E) W g in
+    let At = address.the_row (R E) in let Own = row.the_row (R E) in let Right = claim.the_row (R E) W g in
     let hs : Stays En.signature.params En.kept = (stay_dropped heap yes, (stay_dropped (plain (λ _. At)) no, (stay_dropped (plain (λ _. usize)) yes, (stay_dropped (plain (λ _. Own)) no, (stay_dropped (plain (λ _. Right)) no, tt))))) in
     proved 𝓛 En hs c 𝓜 𝓡 (
       Goes-dropped 𝓛 3 heap yes (λ κs x f. refl),
@@ -30,7 +30,7 @@ deallocate_spec 𝓤 𝓛 𝓜 𝓡 wired X U L LU g d dd met _ =
       ),
     ) (key.name (args E Z)) fn (code.unfolded 𝓤 H 𝓜 𝓡 wired (X, (U, tt)) d dd)
     (λ κs. (shr_vals, ((λ x. word x.at ∷ []), (uint_vals w64, ((λ _. mark ∷ []), ((λ _. mark ∷ []), tt))))))
-    (λ κs. (shr_Tells (named 0) κs.0 W, (address_told (R E), (uint_Tells w64, ((λ x vs is. held_told (R E) vs is.0), ((λ x vs is. claim_told (R E) W g vs is.0), tt)))))) (λ κs qs bounds a gh are.
+    (λ κs. (shr_Tells (named 0) κs.0 W, (address_told (R E), (uint_Tells w64, ((λ x vs is. row_mark_told (R E) vs is.0), ((λ x vs is. claim_told (R E) W g vs is.0), tt)))))) (λ κs qs bounds a gh are.
     let κ = κs.0 in let q = qs.0 in let hp : ℕ × ℕ = a.0.ref_ptr in let h : U.Denot = a.0.now in let p : Ptr = a.1.0.at in let n : ℕ = a.1.1.0 in let own : Own.Denot = a.1.1.1.0 in let right : Right.Denot = a.1.1.1.1.0 in
     let s : ℕ = type_size (R E) in let al : ℕ = capped (align (elτ E)) in let τ : Ty = block_ty E n in let cs : List (Option X.Denot) = empties n in
     let y : (walk_of 𝓛 En hs c).Ghost = ((κs, qs, bounds, a, (vptr hp.0 hp.1 ∷ [], (word p ∷ [], (vint w64 n ∷ [], (mark ∷ [], (mark ∷ [], tt)))))), gh) in let Post : Val → SProp 𝓤 = (walk_of 𝓛 En hs c).post y in

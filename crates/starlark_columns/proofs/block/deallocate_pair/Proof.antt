@@ -3,11 +3,11 @@ use Rattle.starlark_columns.proofs.Walking.{◌≡◌, ℕ, ◌+◌, ◌*◌, �
 use Rattle.starlark_columns.specs.Owned.{places_owned, row_owned}
 use Rattle.starlark_columns.specs.Paired.{two_arrays, pair_ty, rooms_rejoin}
 use Rattle.starlark_columns.proofs.PairRooms.{some_weight}
-use Rattle.starlark_columns.proofs.Fields.{word, word_good, mark, address_told, held_told, pair_claim_told}
+use Rattle.starlark_columns.proofs.Fields.{word, word_good, mark, address_told, row_mark_told, pair_claim_told}
 use Rattle.starlark_columns.proofs.Memory.{to_room}
 use Rattle.starlark_columns.specs.contracts.block.Address as address
 use Rattle.starlark_columns.specs.contracts.block.PairClaim as claim
-use Rattle.starlark_columns.specs.contracts.block.Held as held
+use Rattle.starlark_columns.specs.contracts.row.Row as row
 use Rattle.starlark_columns.specs.contracts.block.deallocate_pair.{ended, clauses}
 use Rattle.starlark_columns.specs.contracts.block.deallocate_pair.Key as key
 use Rattle.starlark_columns.proofs.block.deallocate_pair.Statement.{statement}
@@ -19,7 +19,7 @@ deallocate_pair_spec 𝓤 𝓛 𝓜 𝓡 wired X Y U L LY LU g d dd met _ =
     let E : El = record { row = X; laws = L } in let F : El = record { row = Y; laws = LY } in let Z : Al = record { row = U; laws = LU; g = g; d = d; drops = dd } in
     let inst = bounded (a_type ∷ a_type ∷ a_type ∷ []) (X, (Y, (U, tt))) (dcons d (dcons dd dnil)) in let fn = inst_fn inst code.function in
     let S : RattleType = param 1 Y in let W : RattleType = param 2 U in let heap = RefOf (0 ∷ []) tt (plain (λ _. W)) (λ _. tt) in let num = plain (λ _. usize) in let c = clauses X Y U g d dd 𝓛 𝓜.mem 𝓡.returns in
-    let At = address.the_row (R E) in let Own = held.the_row (R E) in let Bwn = held.the_row S in let Right = claim.the_row (R E) S W g in
+    let At = address.the_row (R E) in let Own = row.the_row (R E) in let Bwn = row.the_row S in let Right = claim.the_row (R E) S W g in
     let hs : Stays En.signature.params En.kept =
     (stay_dropped heap yes, (stay_dropped (plain (λ _. At)) no, (stay_dropped num yes, (stay_dropped num yes, (stay_dropped (plain (λ _. Own)) no, (stay_dropped (plain (λ _. Bwn)) no, (stay_dropped (plain (λ _. Right)) no, tt))))))) in
     let one = Goes-dropped 𝓛 4 num yes (λ κs x f. refl) in
@@ -33,7 +33,7 @@ deallocate_pair_spec 𝓤 𝓛 𝓜 𝓡 wired X Y U L LY LU g d dd met _ =
     (λ κs. (shr_vals, ((λ x. word x.at ∷ []), (uint_vals w64, (uint_vals w64, ((λ _. mark ∷ []), ((λ _. mark ∷ []), ((λ _. mark ∷ []), tt))))))))
     (λ κs. (
       shr_Tells (named 0) κs.0 W,
-      (address_told (R E), (uint_Tells w64, (uint_Tells w64, ((λ x vs is. held_told (R E) vs is.0), ((λ x vs is. held_told S vs is.0), ((λ x vs is. pair_claim_told (R E) S W g vs is.0), tt)))))),
+      (address_told (R E), (uint_Tells w64, (uint_Tells w64, ((λ x vs is. row_mark_told (R E) vs is.0), ((λ x vs is. row_mark_told S vs is.0), ((λ x vs is. pair_claim_told (R E) S W g vs is.0), tt)))))),
     )) (λ κs qs bounds a gh are.
     let κ = κs.0 in let q = qs.0 in let hp : ℕ × ℕ = a.0.ref_ptr in let h : U.Denot = a.0.now in let p : Ptr = a.1.0.at in let z : ℕ = a.1.1.0 in let al : ℕ = a.1.1.1.0 in
     let own : Own.Denot = a.1.1.1.1.0 in let bwn : Bwn.Denot = a.1.1.1.1.1.0 in let right : Right.Denot = a.1.1.1.1.1.1.0 in

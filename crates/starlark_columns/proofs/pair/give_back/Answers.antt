@@ -1,17 +1,17 @@
-use Rattle.std.proofs.Common.{sym, ap, ◌∙◌}
+use Rattle.std.proofs.Common.{sym}
 use Rattle.starlark_columns.proofs.Fronts.{none_left}
 use Rattle.starlark_columns.proofs.pair.give_back.Goals as goal
 
 pub let_go_pair-requires-clause-empty : goal.let_go_pair-requires-clause-empty
 let_go_pair-requires-clause-empty g c = let block = c.requires.block in (
-  none_left c.args.firsts.places c.firsts.inside.held.places c.args.block.count (ap (λ r. r.places) c.firsts.view_is) c.requires.empty.0 block.2,
-  none_left c.args.seconds.places c.seconds.inside.held.places c.args.block.count (ap (λ r. r.places) c.seconds.view_is) c.requires.empty.1 block.3,
+  none_left c.args.firsts.places c.args.block.count c.requires.empty.0 block.2,
+  none_left c.args.seconds.places c.args.block.count c.requires.empty.1 block.3,
 )
 
 pub deallocate_pair-requires-clause-empty : goal.deallocate_pair-requires-clause-empty
 deallocate_pair-requires-clause-empty g c = let block = c.requires.block in (
-  ap (λ r. r.at) c.firsts.view_is ∙ sym block.0,
-  none_left c.args.firsts.places c.firsts.inside.held.places c.args.block.count (ap (λ r. r.places) c.firsts.view_is) c.requires.empty.0 block.2,
-  ap (λ r. r.at) c.seconds.view_is ∙ sym block.1,
-  none_left c.args.seconds.places c.seconds.inside.held.places c.args.block.count (ap (λ r. r.places) c.seconds.view_is) c.requires.empty.1 block.3,
+  sym block.0,
+  none_left c.args.firsts.places c.args.block.count c.requires.empty.0 block.2,
+  sym block.1,
+  none_left c.args.seconds.places c.args.block.count c.requires.empty.1 block.3,
 )

@@ -25,8 +25,8 @@ use Rattle.starlark_columns.specs.contracts.column.Column as column
 use Rattle.starlark_columns.specs.contracts.column.Column.TheInside as inside
 use Rattle.starlark_columns.specs.Claims.{IsClaimTo}
 use Rattle.starlark_columns.specs.formers.block.Claim as claim_is
-use Rattle.starlark_columns.specs.formers.block.Held as held_is
-use Rattle.starlark_columns.specs.formers.block.Held.{place, weighed_place, mapped_place, place_cases, place_recoded}
+use Rattle.starlark_columns.specs.formers.row.Row as row_is
+use Rattle.starlark_columns.specs.formers.row.Row.{place, weighed_place, mapped_place, place_cases, place_recoded}
 
 abbrev pub the_former : Former {0} → Former {0}
 the_former g = list (place g)
@@ -45,8 +45,8 @@ abbrev pub claim_at : (X Y : Type 0) → Claim X Global → Claim Y Global
 claim_at X Y d = record { mark = d.mark; at = d.at; count = d.count; alloc = d.alloc }
 
 abbrev pub fields : Former {0}
-fields = via (pair (held_is.the_former this) (const (Address ⊥ × ℕ × Claim ⊥ Global))) Inside (λ X a. (a.held, (address_at X ⊥ a.address, a.count, claim_at X ⊥ a.claim)))
-    (λ X v. record { address = address_at ⊥ X v.1.0; count = v.1.1; held = v.0; claim = claim_at ⊥ X v.1.2 }) (λ X a. refl) (λ X v. refl)
+fields = via (pair (row_is.the_former this) (const (Address ⊥ × ℕ × Claim ⊥ Global))) Inside (λ X a. (a.row, (address_at X ⊥ a.address, a.count, claim_at X ⊥ a.claim)))
+    (λ X v. record { address = address_at ⊥ X v.1.0; count = v.1.1; row = v.0; claim = claim_at ⊥ X v.1.2 }) (λ X a. refl) (λ X v. refl)
 
 IsClaimTo-prop : {X : Type 0} (p : Ptr) (n : ℕ) (d : Claim X Global) → IsProp (IsClaimTo p n d)
 IsClaimTo-prop p n d = ×_prop (Coded-set coded_ptr _ _) (ℕ_set _ _)
@@ -59,11 +59,11 @@ module _ (R R' : RattleType) (h : R.Denot → R'.Denot) where
       view_places fields (the_former this) view (λ X Y k u. refl) (λ X u. refl) R.Denot R'.Denot h (column.the_row R).coded (column.the_row R').coded
       (invariant R.Denot) (invariant R'.Denot)
       (λ u. ×₃_prop (Coded-set coded_ptr _ _) (ℕ_set _ _) (IsClaimTo-prop _ _ u.claim)) (λ u. ×₃_prop (Coded-set coded_ptr _ _) (ℕ_set _ _) (IsClaimTo-prop _ _ u.claim))
-      (λ u s. (s.0, length-map u.held.places (mapped_place h) ∙ s.1, s.2))
-      (λ u s. (s.0, sym (length-map u.held.places (mapped_place h)) ∙ s.1, s.2))
+      (λ u s. (s.0, length-map u.row.places (mapped_place h) ∙ s.1, s.2))
+      (λ u s. (s.0, sym (length-map u.row.places (mapped_place h)) ∙ s.1, s.2))
       (over (inside.the_row R)) (over (inside.the_row R'))
-      (struct_places (inside.the_type R) (inside.the_type R') (address_at R.Denot R'.Denot, (λ n. n, ((held_is.the_former this).map R.Denot R'.Denot h, (claim_at R.Denot R'.Denot, tt)))) _ (λ d. refl) refl
-      (laid _ _ _ at, ((refl, (λ n. refl, λ n. refl)), (laid _ _ _ (held_is.the_places R R' h a), (laid _ _ _ right, tt)))))
+      (struct_places (inside.the_type R) (inside.the_type R') (address_at R.Denot R'.Denot, (λ n. n, ((row_is.the_former this).map R.Denot R'.Denot h, (claim_at R.Denot R'.Denot, tt)))) _ (λ d. refl) refl
+      (laid _ _ _ at, ((refl, (λ n. refl, λ n. refl)), (laid _ _ _ (row_is.the_places R R' h a), (laid _ _ _ right, tt)))))
 
   pub the_codes_placed : Recodes R R' h → Recodes (column.the_row R) (column.the_row R') ((the_former this).map R.Denot R'.Denot h)
   the_codes_placed e d = sym (code_map (λ c. (coded⊎ coded_unit R.coded).code (place_cases c)) (λ c. (coded⊎ coded_unit R'.coded).code (place_cases c)) (mapped_place h) (place_recoded R R' h e) d)

@@ -1,41 +1,118 @@
 -- `Row` as a type that may hold the type that holds it, by its places.
-use Rattle.std.specs.Prelude.{[]}
-use mathlib.Core.Path.{refl, sym, ap}
-use mathlib.Core.Former.{Former, this, const, pair, list, via}
-use base.Stored.{code_map, coded⊎, coded_unit, gcons}
+use Rattle.std.specs.Prelude.{◌≡◌, ◌*◌, ◌^◌, List, [], ◌∷◌, length, Option, Some, None}
+use Rattle.std.specs.Mem.{type_size}
+use mathlib.Core.Path.{refl, sym, ap, ◌∙◌}
+use mathlib.Core.Logic.{◌⊎◌, inl, inr}
+use mathlib.Core.Former.{Former, this, const, pair, or, list, via}
+use lib.ListN.{length-map}
+use base.Fraction.{full_share}
+use base.Fml.{ftrue, fsep, flt, froom}
+use base.Stored.{code_map, coded⊎, coded_unit, gcons, gnil, gnum}
+use mir.Raw.{raw}
+use prog.Memory.{size}
 use denote.RattleType.{RattleType}
-use denote.RawPtr.{Ptr, null_ptr, coded_ptr}
+use denote.RawPtr.{Ptr, block_ptr, null_ptr, coded_ptr, in_block, block_of, count_of, ◌+ₚ◌}
+use denote.Memory.{lone, part_of, raw_all}
+use denote.Sharing.{said, beside}
+use denote.Struct.Struct.{Struct}
+use denote.Struct.Owning.{shape, to}
 use denote.HoleLaws.{Alike}
-use denote.HolePlaces.{Recodes, struct_places, laid as set_out}
-use denote.Hole.Fix.{over}
-use denote.Param.Weighed.{Weighed, w_const, w_pair, w_list, w_via}
-use denote.Model.Placed.{view_places}
-use Rattle.starlark_columns.specs.declared.row.Row.TheInside.{Inside}
-use Rattle.starlark_columns.specs.declared.row.Row.TheView.{view, invariant}
+use denote.HolePlaces.{Recodes}
+use denote.Param.Weighed.{Weighed, w_const, w_pair, w_or, w_via, w_list}
+use Rattle.std.specs.declared.marker.PhantomData.{PhantomData}
+use Rattle.starlark_columns.specs.declared.row.Row.{Row}
 use Rattle.starlark_columns.specs.contracts.row.Row as row
-use Rattle.starlark_columns.specs.contracts.row.Row.TheInside as inside
-use Rattle.starlark_columns.specs.Laid.{Laid, laid}
-use Rattle.starlark_columns.specs.formers.block.Held as held_is
-use Rattle.starlark_columns.specs.formers.block.Held.{place, weighed_place, mapped_place, place_cases, place_recoded}
+use Rattle.starlark_columns.specs.Owned.{place_owned, places_owned, row_owned, place_lent, places_lent, within_lent, row_lent}
 
+-- ---- a place, which is empty or holds an item
+module _ {X : Type 0} where
+  abbrev pub place_cases : Option X → Unit {0} ⊎ X
+  place_cases None = inl tt
+  place_cases (Some x) = inr x
+
+  abbrev pub of_cases : Unit {0} ⊎ X → Option X
+  of_cases (inl u) = None
+  of_cases (inr x) = Some x
+
+  pub of_cases-place_cases : (c : Option X) → of_cases (place_cases c) ≡ c
+  of_cases-place_cases None = refl
+  of_cases-place_cases (Some x) = refl
+
+  pub place_cases-of_cases : (c : Unit {0} ⊎ X) → place_cases (of_cases c) ≡ c
+  place_cases-of_cases (inl u) = refl
+  place_cases-of_cases (inr x) = refl
+
+abbrev pub place : Former {0} → Former {0}
+place g = via (or (const (Unit {0})) g) (λ X. Option (g.Of X)) (λ X. place_cases) (λ X. of_cases) (λ X. of_cases-place_cases) (λ X. place_cases-of_cases)
+
+abbrev pub weighed_place : {g : Former {0}} → Weighed g → Weighed (place g)
+weighed_place {g} w = w_via (w_or (w_const (Unit {0})) w) (λ X. Option (g.Of X)) (λ X. place_cases) (λ X. of_cases) (λ X. of_cases-place_cases) (λ X. place_cases-of_cases)
+
+-- ---- the places
 abbrev pub the_former : Former {0} → Former {0}
-the_former g = via (pair (const Ptr) (list (place g))) (λ X. Laid (g.Of X)) (λ X r. (r.at, r.places)) (λ X v. laid v.0 v.1) (λ X r. refl) (λ X v. refl)
+the_former g = via (pair (const (PhantomData Ptr × Ptr)) (list (place g))) (λ X. Row (g.Of X)) (λ X d. ((d.mark, d.at), d.places)) (λ X v. record { mark = v.0.0; at = v.0.1; places = v.1 }) (λ X d. refl) (λ X v. refl)
 
 abbrev pub the_weighed : {g : Former {0}} → Weighed g → Weighed (the_former g)
-the_weighed {g} w = w_via (w_pair (w_const Ptr) (w_list (weighed_place w))) (λ X. Laid (g.Of X)) (λ X r. (r.at, r.places)) (λ X v. laid v.0 v.1) (λ X r. refl) (λ X v. refl)
+the_weighed {g} w =
+    w_via (w_pair (w_const (PhantomData Ptr × Ptr)) (w_list (weighed_place w))) (λ X. Row (g.Of X)) (λ X d. ((d.mark, d.at), d.places)) (λ X v. record { mark = v.0.0; at = v.0.1; places = v.1 }) (λ X d. refl) (λ X v. refl)
 
-pub the_empty : Laid ⊥
-the_empty = laid null_ptr []
+pub the_empty : Row ⊥
+the_empty = record { mark = record {}; at = null_ptr; places = [] }
 
-abbrev pub fields : Former {0}
-fields = via (held_is.the_former this) Inside (λ X a. a.held) (λ X v. record { held = v }) (λ X a. refl) (λ X v. refl)
+abbrev pub mapped_place : {X Y : Type 0} → (X → Y) → Option X → Option Y
+mapped_place {X} {Y} h = (place this).map X Y h
+
+abbrev pub mapped : {X Y : Type 0} → (X → Y) → List (Option X) → List (Option Y)
+mapped {X} {Y} h = (list (place this)).map X Y h
 
 module _ (R R' : RattleType) (h : R.Denot → R'.Denot) where
+  module _ (a : Alike R R' h) where
+    sizes : type_size R' ≡ type_size R
+    sizes = λ i. size (lone (a.mir_same i))
+
+    place_placed : (p : Ptr) (c : Option R.Denot) → place_owned R' p (mapped_place h c) ≡ place_owned R p c
+    unfolding part_of
+    place_placed null_ptr None = refl
+    place_placed null_ptr (Some x) = refl
+    place_placed (block_ptr b o) None = λ i. froom (raw (lone (a.mir_same i))) b o
+    place_placed (block_ptr b o) (Some x) = λ i. part_of (raw_all (a.mir_same i)) (λ (_ : Unit {0}). a.own_same x i) full_share tt b o
+
+    places_placed : (p : Ptr) (cs : List (Option R.Denot)) → places_owned R' p (mapped h cs) ≡ places_owned R p cs
+    places_placed p [] = refl
+    places_placed p (c ∷ cs) = (λ i. fsep (place_placed p c i) (places_placed (p +ₚ type_size R') cs i)) ∙ (λ i. fsep (place_owned R p c) (places_owned R (p +ₚ sizes i) cs))
+
+    bound_placed : (cs : List (Option R.Denot)) → flt (length (mapped h cs) * type_size R') (2 ^ 63) ≡ flt (length cs * type_size R) (2 ^ 63)
+    bound_placed cs = λ i. flt (length-map cs (mapped_place h) i * sizes i) (2 ^ 63)
+
+    row_placed : (p : Ptr) (cs : List (Option R.Denot)) → row_owned R' p (mapped h cs) ≡ row_owned R p cs
+    row_placed p cs = λ i. fsep (bound_placed cs i) (in_block p (places_placed p cs i))
+
+    place_lent_placed : (p : Ptr) (c : Option R.Denot) → place_lent R' p (mapped_place h c) ≡ place_lent R p c
+    place_lent_placed p None = refl
+    place_lent_placed p (Some x) = λ i. beside (said (in_block p ftrue)) (a.shr_same x i (block_of p) (count_of p))
+
+    places_lent_placed : (p : Ptr) (cs : List (Option R.Denot)) → places_lent R' p (mapped h cs) ≡ places_lent R p cs
+    places_lent_placed p [] = refl
+    places_lent_placed p (c ∷ cs) = (λ i. beside (place_lent_placed p c i) (places_lent_placed (p +ₚ type_size R') cs i)) ∙ (λ i. beside (place_lent R p c) (places_lent R (p +ₚ sizes i) cs))
+
+    within_placed : (p : Ptr) (cs : List (Option R.Denot)) → within_lent R' p (mapped h cs) ≡ within_lent R p cs
+    within_placed null_ptr cs = refl
+    within_placed (block_ptr b o) cs = places_lent_placed (block_ptr b o) cs
+
+    row_lent_placed : (p : Ptr) (cs : List (Option R.Denot)) → row_lent R' p (mapped h cs) ≡ row_lent R p cs
+    row_lent_placed p cs = λ i. beside (said (bound_placed cs i)) (within_placed p cs i)
+
   pub the_places : Alike R R' h → Alike (row.the_row R) (row.the_row R') ((the_former this).map R.Denot R'.Denot h)
-  the_places a = view_places fields (the_former this) view (λ X Y k u. refl) (λ X u. refl) R.Denot R'.Denot h (row.the_row R).coded (row.the_row R').coded
-      (invariant R.Denot) (invariant R'.Denot) (λ u p q. refl) (λ u p q. refl) (λ u s. s) (λ u s. s)
-      (over (inside.the_row R)) (over (inside.the_row R'))
-      (struct_places (inside.the_type R) (inside.the_type R') ((held_is.the_former this).map R.Denot R'.Denot h, tt) _ (λ d. refl) refl (set_out _ _ _ (held_is.the_places R R' h a), tt))
+  the_places a = record {
+    mir_same = refl;
+    own_same = λ d i vs. fsep ((Struct (shape (row.the_type R))).own_val (to (row.the_type R) d) vs) (row_placed a d.at d.places i);
+    shr_same = λ d i b o. beside ((Struct (shape (row.the_type R))).shr_at (to (row.the_type R) d) b o) (row_lent_placed a d.at d.places i);
+  }
+
+  pub place_recoded : Recodes R R' h → (c : Option R.Denot) → (coded⊎ coded_unit R.coded).code (place_cases c) ≡ (coded⊎ coded_unit R'.coded).code (place_cases (mapped_place h c))
+  place_recoded e None = refl
+  place_recoded e (Some x) = ap (gcons (gnum 1)) (sym (e x))
 
   pub the_codes_placed : Recodes R R' h → Recodes (row.the_row R) (row.the_row R') ((the_former this).map R.Denot R'.Denot h)
-  the_codes_placed e r = ap (λ x. gcons (coded_ptr.code r.at) x) (sym (code_map (λ c. (coded⊎ coded_unit R.coded).code (place_cases c)) (λ c. (coded⊎ coded_unit R'.coded).code (place_cases c)) (mapped_place h) (place_recoded R R' h e) r.places))
+  the_codes_placed e d = ap (λ x. gcons (gcons gnil gnil) (gcons (coded_ptr.code d.at) (gcons x gnil)))
+      (sym (code_map (λ c. (coded⊎ coded_unit R.coded).code (place_cases c)) (λ c. (coded⊎ coded_unit R'.coded).code (place_cases c)) (mapped_place h) (place_recoded e) d.places))

@@ -22,9 +22,9 @@ use Rattle.std.specs.contracts.alloc.Global as heap
 use Rattle.std.specs.contracts.impls.GlobalAllocator.TheImpl.{ghosts}
 use Rattle.starlark_columns.specs.Places.{items_of}
 use Rattle.starlark_columns.specs.Front.{IsFront}
-use Rattle.starlark_columns.specs.formers.block.Held.{place, mapped_place, mapped}
+use Rattle.starlark_columns.specs.formers.row.Row.{place, mapped_place, mapped}
 use Rattle.starlark_columns.specs.Block.{IsBlockOf, IsSpotOf}
-use Rattle.starlark_columns.specs.Laid.{Laid}
+use Rattle.starlark_columns.specs.declared.row.Row.{Row as Places}
 use Rattle.starlark_columns.specs.declared.block.PairClaim.{PairClaim}
 use Rattle.starlark_columns.specs.declared.block.Spot.{Spot}
 use Rattle.starlark_columns.specs.formers.block.PairClaim as claim_is
@@ -72,7 +72,7 @@ pub the_items_listed : (B X : Type 0) (v : PairList X B) → listed _ (children 
 the_items_listed B X v = firsts_listed B X v.pairs
 
 abbrev pub fields : Type 0 → Former {0}
-fields B = via (pair (row_is.the_former this) (const (Laid B × ℕ × Spot B × Global × claim_is.Parts Global))) (λ X. Inside X B) (λ X a. (a.firsts, (a.seconds, a.len, a.spot, a.alloc, claim_is.parts_of B X Global a.block)))
+fields B = via (pair (row_is.the_former this) (const (Places B × ℕ × Spot B × Global × claim_is.Parts Global))) (λ X. Inside X B) (λ X a. (a.firsts, (a.seconds, a.len, a.spot, a.alloc, claim_is.parts_of B X Global a.block)))
     (λ X v. record { firsts = v.0; seconds = v.1.0; len = v.1.1; spot = v.1.2; alloc = v.1.3; block = claim_is.of_parts B X Global v.1.4 }) (λ X a. refl) (λ X v. refl)
 
 pub zip-map : {X Y B : Type 0} (h : X → Y) (xs : List X) (bs : List B) → zip (map h xs) bs ≡ map (on_first h) (zip xs bs)
@@ -141,7 +141,7 @@ AreColumns-prop cs bs n p q = λ i. record {
   even = ℕ_set _ _ p.even q.even i;
 }
 
-IsBlockOf-prop : {X B : Type 0} (block : PairClaim B X Global) (r : Laid X) (s : Laid B) → IsProp (IsBlockOf block s r)
+IsBlockOf-prop : {X B : Type 0} (block : PairClaim B X Global) (r : Places X) (s : Places B) → IsProp (IsBlockOf block s r)
 IsBlockOf-prop block r s p q = λ i. (Coded-set coded_ptr _ _ p.0 q.0 i, Coded-set coded_ptr _ _ p.1 q.1 i, ℕ_set _ _ p.2 q.2 i, ℕ_set _ _ p.3 q.3 i)
 
 IsSpotOf-prop : {X B : Type 0} (spot : Spot B) (block : PairClaim B X Global) → IsProp (IsSpotOf spot block)

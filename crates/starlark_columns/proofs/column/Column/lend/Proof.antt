@@ -19,7 +19,7 @@ module _ (K : RattleType) (kept : K.Denot → K.Denot → K.Denot) {M : Type 1} 
   Rest = sep 𝓤 (sem 𝓛 (O.Word K 𝓛 b o d.address.at)) (O.Shell K 𝓛 b o d vs)
 
   -- the places come back with what was written
-  back : d.held.at ≡ block_ptr ab ao → length v * s < 2 ^ 63 → (ws : (O.W K).Denot)
+  back : d.row.at ≡ block_ptr ab ao → length v * s < 2 ^ 63 → (ws : (O.W K).Denot)
       → ent 𝓤 (sep 𝓤 (sem 𝓛 ((KeptPlaces K kept v).own_at ws ab ao)) Rest) (sem 𝓛 ((mem (O.W K)).own_at (kept_places kept v ws) b o))
   back at small ws =
       let ds = kept_places kept v ws in let long : length ds ≡ length v = length-kept_places kept v ws in
@@ -42,8 +42,8 @@ lend_spec 𝓤 𝓛 𝓜 𝓡 wired X P L LP g dict _ =
     enter ! 𝓣.C 𝓣.Λ fn (vptr b o ∷ []) Post $ alloc_all ! (λ l. pass_all ! refl ((tt, tt), tt) $ open_ref ! tt (mem W) {b = b} {o = o} $
     use1 𝓛 (some (λ (z : ((d : O.D K) × O.Known K v d) × List Val). raw (O.Cuts K 𝓛 b o v z))) (O.cut K 𝓛 b o (param_laws 0 X L) v) $ pick ! (λ z.
     let d : O.D K = z.0.0 in let known = z.0.1 in let vs : List Val = z.1 in
-    use1 𝓛 (‵ (O.Word K 𝓛 b o d.address.at) ⊛ ‵ (row_owned K d.held.at d.held.places) ⊛ raw (O.Shell K 𝓛 b o d vs)) (id⊢ 𝓤 _) $ split3 ! $ move ! (1 ∷ []) $ fsplit ! $ flt_l ! (λ small.
-    in_a_block ! d.held.at (λ p. in_block p (places_owned K p d.held.places)) (id⊢ 𝓤 (never 𝓤)) (λ ab ao at.
+    use1 𝓛 (‵ (O.Word K 𝓛 b o d.address.at) ⊛ ‵ (row_owned K d.row.at d.row.places) ⊛ raw (O.Shell K 𝓛 b o d vs)) (id⊢ 𝓤 _) $ split3 ! $ move ! (1 ∷ []) $ fsplit ! $ flt_l ! (λ small.
+    in_a_block ! d.row.at (λ p. in_block p (places_owned K p d.row.places)) (id⊢ 𝓤 (never 𝓤)) (λ ab ao at.
     -- [the places; the address; the shell; the open borrow and its names; the others]
     let few : length v * s < 2 ^ 63 = subst (λ (l : W.Denot). length l * s < 2 ^ 63) known.0 small in let here : d.address.at ≡ block_ptr ab ao = sym known.1.0 ∙ at in
     rewrite ! 1 (λ (p : Ptr). ‵ (O.Word K 𝓛 b o p)) here refl $

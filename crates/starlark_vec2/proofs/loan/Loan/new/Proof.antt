@@ -2,7 +2,8 @@
 -- items. Assumes `Logic`.
 use Rattle.starlark_columns.proofs.Walking.{◌≡◌, refl, sym, ap, subst, ◌∙◌, ℕ, ◌+◌, ◌*◌, ◌<◌, ◌^◌, zero-add, zero-mul, List, [], ◌∷◌, length, Ura, Fn, Args, a_type, named, w64, inst_fn, Val, vint, vptr, vstruct, vcons, vnil, SProp, ent, emp, id⊢, ex_e, fst∗, snd∗, Lft, GName, Share, ftrue, fsep, flft, fauth, Memory, Routine, Calls, Loops, WpFn, Tables, Logic, sem, ◌⊑◌, Fun, fact, fact_i, tables, tables_of, FmC, fm_of, WpFn-mono, ages, bor_new_deep, open_ref, name_new, ‵, raw, ◌⊛◌, some, later, ◌$◌, ◌∵◌, !, qed, move, keep, drop, use0, use1, use2, split, split3, join, pick, fsplit, fsplit3, fjoin, fjoin3, fpack, feq_i, feq_l, rewrite, suffices, frame, await, group, done, whole, sub, agg, stop, fld, hop, from, addr, and_then, no_more, returns, enter, alloc_all, pass_all, free_all, look_at, look_in_at, get, through, sets, lands_as, Array, usize, yes, no, follows, follows_then, RattleType, owns, mem, param, layouts, block_ptr, MutBor, mut_vals, mut_Tells, makes_shadow, pure_l, pure_i, plain, types_at, mut_ref_to, named_lft, MutSlice, Room, room, mut_slice_at, mut_slice_vals, uint_vals, uint_Tells, uint_Makes, nothing, owned, heard, only, shape, Struct, calls_at, Clauses, Ended, closing, ensured, lasts, Meets, triple_of, Contract, Triple, entered, says, Stays, stay_dropped, walk_of, ends_at, walked, walk_Meets, Goes-dropped, Goes-spent_ref, items_of}
 use base.Share
-use Rattle.starlark_columns.specs.Laid.{Laid, relaid}
+use Rattle.starlark_columns.specs.declared.row.Row.{Row}
+use Rattle.starlark_columns.specs.Lends.{with_places}
 use Rattle.starlark_columns.specs.contracts.block.Address as address
 use Rattle.starlark_columns.specs.declared.block.Address.{Address}
 use Rattle.starlark_columns.proofs.Addresses.{word, word_good, address_made, address_told}
@@ -46,10 +47,10 @@ module _ (A B : RattleType) where
   abbrev stayed : Stays ended.signature.params ended.kept
   stayed = (stay_dropped (mut_ref_to (0 ∷ []) tt (plain (λ _. W))) no, (stay_dropped (plain (λ _. At)) no, (stay_dropped (plain (λ _. usize)) yes, tt)))
 
-  abbrev put : Laid One → List One → Laid One
-  put v ws = relaid v (with_items v.places ws)
+  abbrev put : Row One → List One → Row One
+  put v ws = with_places v (with_items v.places ws)
 
-  abbrev kept : Laid One → List One → Laid One
+  abbrev kept : Row One → List One → Row One
   kept v ws = put v (with_seconds (items_of v.places) ws)
 
   module _ {M : Type 1} {𝓤 : Ura M} (𝓛 : Logic 𝓤) (at_mem : Memory → SProp 𝓤) (run : Routine → Fun 𝓤) where
@@ -62,7 +63,7 @@ module _ (A B : RattleType) where
     Run = triple_of 𝓛 (g.signature A B) (g.spec A B 𝓛 at_mem run)
 
     module _ (C : Calls 𝓤 H) (Λ : Loops 𝓤 H) (fm : FmC 𝓤 H 𝓛.laws C) (gr : Triple 𝓤 (C (#run args)) Run)
-        (κ κA κB : Lft) (q qA qB : Share) (bounds : (κ ⊑ κA) × ((κ ⊑ κB) × Unit {0})) (r : MutBor (Laid One)) (place : Address One) (len : ℕ) (fits : len < 2 ^ 64) where
+        (κ κA κB : Lft) (q qA qB : Share) (bounds : (κ ⊑ κA) × ((κ ⊑ κB) × Unit {0})) (r : MutBor (Row One)) (place : Address One) (len : ℕ) (fits : len < 2 ^ 64) where
       abbrev bound : (walk_of 𝓛 ended stayed spec).Ghost
       bound = (((κ, (κA, (κB, tt))), (q, (qA, (qB, tt))), bounds, (r, (place, (len, tt))), (mut_vals r, (word place.at ∷ [], (vint w64 len ∷ [], tt)))), tt)
 
@@ -88,7 +89,7 @@ module _ (A B : RattleType) where
           name_new ! tt (W.coded.code v) (λ δ. move ! (2 ∷ 1 ∷ []) $ fjoin ! $ fpack ! W.Denot (λ z. fsep ((mem W).own_at z b o) (fauth δ (W.coded.code z))) v $
           move ! (2 ∷ []) $ ages ! (λ n. move ! (1 ∷ []) $ bor_new_deep ! tt n κ $
           -- [the borrow and its right; the open borrow; obs δ; obs; auth; the other half; the tokens of κA, κB]
-          let lent : MutBor (Laid One) = record { ref_ptr = (b, o); ghost_name = δ; now = v } in
+          let lent : MutBor (Row One) = record { ref_ptr = (b, o); ghost_name = δ; now = v } in
           move ! (3 ∷ 0 ∷ []) $ feq_i ! (List Val) (mut_vals lent) (mut_vals lent) refl $ fjoin3 ! $ nothing ! $ owned ! usize _ (uint_Makes 𝓛 w64) len _ (refl, fits) $ fjoin ! $ use0 𝓛 (‵ (At.own_val place (word place.at ∷ []))) (address_made P 𝓛 place.at) $ fjoin ! $ move ! (1 ∷ 0 ∷ []) $ fjoin ! $
           nothing ! $ move ! (8 ∷ 0 ∷ []) $ join ! $ move ! (7 ∷ 0 ∷ []) $ join ! $ move ! (6 ∷ 0 ∷ []) $ join ! $ join ! $
           use0 𝓛 (raw (fact 𝓤 (IsFront v.places len))) (fact_i 𝓤 _ (emp 𝓤) front) $ use0 𝓛 (raw (fact 𝓤 (place.at ≡ v.at))) (fact_i 𝓤 _ (emp 𝓤) at) $ use0 𝓛 (raw (fact 𝓤 (κB ⊑ B.lives))) (fact_i 𝓤 _ (emp 𝓤) lb) $ use0 𝓛 (raw (fact 𝓤 (κA ⊑ A.lives))) (fact_i 𝓤 _ (emp 𝓤) la) $ group ! 4 $ move ! (1 ∷ 0 ∷ []) $ join ! $
@@ -111,7 +112,7 @@ module _ (A B : RattleType) where
           move ! (5 ∷ 2 ∷ []) $ use2 𝓛 (‵ (follows W (Array P 0) δ δ' (kept v))) (follows_then 𝓛 W (Array P 0) (Array P 0) (put v) (with_seconds (items_of v.places)) δ x.ghost_name δ') $
           nothing ! $ move ! (7 ∷ 8 ∷ 9 ∷ 6 ∷ 1 ∷ 0 ∷ []) $ group ! 6 $
           use1 𝓛 (later (some (λ (tie : GName). ‵ (flft κ (Share.left q)) ⊛ ‵ (follows W W γ tie (λ w. kept v (items_of w.places))))))
-          (closes_named 𝓛 (mem W) (mem W) (mem (Array P 0)) (kept v) (kept v) (λ w. kept v (items_of w.places)) (λ w. ap (relaid v) (kept_items v.places len front w)) κ (Share.left q) b o b o γ δ δ' (emp 𝓤) (λ w. fst∗ 𝓤 (sem 𝓛 ((mem W).own_at (kept v w) b o)) (emp 𝓤)) n (W.coded.code v) (W.coded.code v) v) $ await ! tt $ pick ! (λ tie. split ! $
+          (closes_named 𝓛 (mem W) (mem W) (mem (Array P 0)) (kept v) (kept v) (λ w. kept v (items_of w.places)) (λ w. ap (with_places v) (kept_items v.places len front w)) κ (Share.left q) b o b o γ δ δ' (emp 𝓤) (λ w. fst∗ 𝓤 (sem 𝓛 ((mem W).own_at (kept v w) b o)) (emp 𝓤)) n (W.coded.code v) (W.coded.code v) v) $ await ! tt $ pick ! (λ tie. split ! $
           -- [half of κ's token; what the column follows; the run; the other half; the tokens of κA, κB]
           move ! (0 ∷ 3 ∷ []) $ use2 𝓛 (‵ (flft κ q)) (𝓛.lfts.lft_join κ q) $ move ! (4 ∷ []) $ split ! $ move ! (4 ∷ []) $
           let start : 0 * (mem P).size + ox ≡ ox = ap (λ (k : ℕ). k + ox) (zero-mul (mem P).size) ∙ zero-add ox in

@@ -1,6 +1,6 @@
 use Rattle.std.proofs.Common.{slice_set, Some, refl}
 use lib.ListN.{length-set}
-use Rattle.starlark_columns.specs.Laid.{relaid}
+use Rattle.starlark_columns.specs.Lends.{with_places}
 use Rattle.starlark_vec2.proofs.TwoColumns.{same_block, in_columns, first_set, first_end, first_is}
 use Rattle.starlark_vec2.proofs.vec2.Vec2.first_at_mut.Goals as goal
 
@@ -10,7 +10,7 @@ item_mut-requires-clause-within g c = in_columns c.self.inside.firsts.places c.s
 pub invariant_of-self-lent : goal.invariant_of-self-lent
 invariant_of-self-lent g c = λ w. let cs = slice_set c.self.inside.firsts.places c.args.index (Some w) in (
   first_set c.self.inside.firsts.places c.self.inside.seconds.places c.self.inside.len c.self.invariant.0 c.args.self.now c.self.view_is c.args.index c.requires w,
-  same_block c.self.inside.block c.self.inside.firsts (relaid c.self.inside.firsts cs) c.self.inside.seconds c.self.inside.seconds c.self.invariant.1 refl refl (length-set c.self.inside.firsts.places c.args.index (Some w)) refl,
+  same_block c.self.inside.block c.self.inside.firsts (with_places c.self.inside.firsts cs) c.self.inside.seconds c.self.inside.seconds c.self.invariant.1 refl refl (length-set c.self.inside.firsts.places c.args.index (Some w)) refl,
   c.self.invariant.2,
 )
 

@@ -1,6 +1,6 @@
 use Rattle.std.proofs.Common.{refl}
 use Rattle.starlark_columns.specs.Front.{with_items}
-use Rattle.starlark_columns.specs.Laid.{relaid}
+use Rattle.starlark_columns.specs.Lends.{with_places}
 use Rattle.starlark_columns.proofs.Fronts.{written_places}
 use Rattle.starlark_vec2.proofs.TwoColumns.{same_block, firsts_written, firsts_end, firsts_are}
 use Rattle.starlark_vec2.proofs.vec2.Vec2.firsts_mut.Goals as goal
@@ -8,7 +8,7 @@ use Rattle.starlark_vec2.proofs.vec2.Vec2.firsts_mut.Goals as goal
 pub invariant_of-self-lent : goal.invariant_of-self-lent
 invariant_of-self-lent g c = λ ws. (
   firsts_written c.self.inside.firsts.places c.self.inside.seconds.places c.self.inside.len c.self.invariant.0 ws,
-  same_block c.self.inside.block c.self.inside.firsts (relaid c.self.inside.firsts (with_items c.self.inside.firsts.places ws)) c.self.inside.seconds c.self.inside.seconds c.self.invariant.1 refl refl (written_places c.self.inside.firsts.places c.self.inside.len c.self.invariant.0.firsts_front ws) refl,
+  same_block c.self.inside.block c.self.inside.firsts (with_places c.self.inside.firsts (with_items c.self.inside.firsts.places ws)) c.self.inside.seconds c.self.inside.seconds c.self.invariant.1 refl refl (written_places c.self.inside.firsts.places c.self.inside.len c.self.invariant.0.firsts_front ws) refl,
   c.self.invariant.2,
 )
 

@@ -5,7 +5,7 @@ use Rattle.starlark_columns.proofs.Walking.{◌≡◌, refl, sym, ap, subst, ◌
 use base.Share
 use Rattle.std.specs.declared.option.Option.TheVariants.{Some, None}
 use Rattle.starlark_columns.specs.Block.{IsBehind}
-use Rattle.starlark_columns.specs.Laid.{relaid}
+use Rattle.starlark_columns.specs.Lends.{with_places}
 use Rattle.starlark_columns.specs.contracts.block.Spot as spot
 use Rattle.starlark_columns.proofs.Addresses.{words, words_good, spot_made}
 use Rattle.starlark_columns.specs.Front.{IsFront}
@@ -59,7 +59,7 @@ module _ (A B : RattleType) where
 
   -- the struct with both items written
   abbrev written : D A' B' → ℕ → A.Denot → B.Denot → D A' B'
-  written d i x y = record d { firsts = relaid d.firsts (slice_set d.firsts.places i (Some x)); seconds = relaid d.seconds (slice_set d.seconds.places i (Some y)) }
+  written d i x y = record d { firsts = with_places d.firsts (slice_set d.firsts.places i (Some x)); seconds = with_places d.seconds (slice_set d.seconds.places i (Some y)) }
 
   written_known : (v : W.Denot) (d : D A' B') (i : ℕ) (x : A.Denot) (y : B.Denot) → i < length v.pairs → Known A' B' v d → Known A' B' (with_pair v i (x, y)) (written d i x y)
   written_known v d i x y lt k = let cs = d.firsts.places in let ds = d.seconds.places in let d' = written d i x y in (
@@ -152,7 +152,7 @@ module _ (A B : RattleType) where
           use1 𝓛 (raw (Looks.pre z1)) (id⊢ 𝓤 _) $
           calls_at ! fm Looks looks z1 (and_then ! (get ! refl) (and_then ! (get ! refl) (and_then ! (get ! refl) (and_then ! (get ! refl) (no_more !))))) (λ u.
           use1 𝓛 (later (some (λ (s : Option (MutBor A.Denot)). ((‵ (flft κ (Share.right q)) ⊛ ‵ (flft κA qA) ⊛ ‵ (flft κB qB) ⊛ ‵ ftrue) ⊛ ‵ (Seen.own_val s (u ∷ []))) ⊛ raw (ensured 𝓛 (h.ended A B) (h.clauses A B 𝓛 at_mem run) z1.0.0 z1.0.3 tt s)))) (id⊢ 𝓤 _) $ await ! tt $ pick ! (λ s. split ! $ move ! (1 ∷ []) $
-          use1 𝓛 (‵ (follows_if CA A' δ (ghost_name_of s) (λ z. relaid rx (slice_set xs i (Some z))) rx) ⊛ raw (fact 𝓤 (slice_get (items_of xs) i ≡ option_copied_mut s))) (ex_e 𝓤 _ (λ ws. snd∗ 𝓤 (sem 𝓛 (lasts (h.ended A B) z1.0.0 z1.0.3 ws)) _)) $ split ! $
+          use1 𝓛 (‵ (follows_if CA A' δ (ghost_name_of s) (λ z. with_places rx (slice_set xs i (Some z))) rx) ⊛ raw (fact 𝓤 (slice_get (items_of xs) i ≡ option_copied_mut s))) (ex_e 𝓤 _ (λ ws. snd∗ 𝓤 (sem 𝓛 (lasts (h.ended A B) z1.0.0 z1.0.3 ws)) _)) $ split ! $
           move ! (1 ∷ []) $ heard ! (slice_get (items_of xs) i ≡ option_copied_mut s) (λ found. move ! (1 ∷ []) $ split ! $ split3 ! $ move ! (2 ∷ []) $ split ! $ move ! (1 ∷ []) $ drop ! $ move ! (3 ∷ 1 ∷ 2 ∷ 4 ∷ 5 ∷ 6 ∷ 7 ∷ 8 ∷ 9 ∷ 10 ∷ 11 ∷ []) $
           -- [what the call gave; half of κ's token; that of κA; what the first column follows; the second; the two
           -- rights; the open borrow; the rest; obs; auth; the token of κB]
@@ -163,10 +163,10 @@ module _ (A B : RattleType) where
                 let in_row : i < d.len = omega (arith, slice_get_within (items_of xs) i x.now at_x, d'.1.1.0.firsts_front.count) in
                 let filled : IsFilled ys i = front_filled ys d.len d'.1.1.0.seconds_front i in_row in
                 let lt : i < length v.pairs = omega (arith, in_row, len_is xs ys d.len d'.1.1.0 v d'.1.0) in
-                rewrite ! 0 (λ (t : Option (MutBor A.Denot)). ‵ (Seen.own_val t (u ∷ []))) w.1 refl $ rewrite ! 3 (λ (t : Option (MutBor A.Denot)). ‵ (follows_if CA A' δ (ghost_name_of t) (λ z. relaid rx (slice_set xs i (Some z))) rx)) w.1 refl $
+                rewrite ! 0 (λ (t : Option (MutBor A.Denot)). ‵ (Seen.own_val t (u ∷ []))) w.1 refl $ rewrite ! 3 (λ (t : Option (MutBor A.Denot)). ‵ (follows_if CA A' δ (ghost_name_of t) (λ z. with_places rx (slice_set xs i (Some z))) rx)) w.1 refl $
                 use1 𝓛 (given ((u ≡ live 1 (vcons (vptr x.ref_ptr.0 x.ref_ptr.1) vnil)) × Good (layout (MutRef (named 0) κ A')) (vptr x.ref_ptr.0 x.ref_ptr.1)) (‵ ((MutRef (named 0) κ A').own_val x (mut_vals x))))
                 (in_some_told 𝓛 (MutRef (named 0) κ A') u x (vptr x.ref_ptr.0 x.ref_ptr.1) (λ vs is. (mut_Tells (named 0) κ A' x vs is, (tt, tt)))) $ learn ! (λ at_u.
-                move ! (3 ∷ []) $ use1 𝓛 (‵ (follows CA A' δ x.ghost_name (λ z. relaid rx (slice_set xs i (Some z))))) (left_one 𝓛 CA A' A' δ (λ z. relaid rx (slice_set xs i (Some z))) rx x.ghost_name) $ move ! (1 ∷ 2 ∷ 3 ∷ 0 ∷ []) $
+                move ! (3 ∷ []) $ use1 𝓛 (‵ (follows CA A' δ x.ghost_name (λ z. with_places rx (slice_set xs i (Some z))))) (left_one 𝓛 CA A' A' δ (λ z. with_places rx (slice_set xs i (Some z))) rx x.ghost_name) $ move ! (1 ∷ 2 ∷ 3 ∷ 0 ∷ []) $
                 lands_as ! at_u.0 refl (tt, (record { fits = lit< tt }, (tt, tt))) $
                 first ! $ by_variants ! 24 (whole !) (get_tag ! (vrt ! refl (fld ! refl (stop !))) (whole !)) tt (
                   (λ _. sets ! (of_opd ! (get_in ! (vrt ! refl (fld ! refl (stop !))) (in_variant ! 1 0 refl refl (whole !)))) refl (tt, tt) $
@@ -178,7 +178,7 @@ module _ (A B : RattleType) where
                       use1 𝓛 (raw (Lends.pre z2)) (id⊢ 𝓤 _) $
                       calls_at ! fm Lends lends z2 (and_then ! (get ! refl) (and_then ! (get ! refl) (and_then ! (get ! refl) (no_more !)))) (λ t.
                       use1 𝓛 (later (some (λ (y : MutBor B.Denot). ((‵ (flft κ (Share.right q)) ⊛ ‵ (flft κB qB) ⊛ ‵ ftrue) ⊛ ‵ ((MutRef (named 0) κ B').own_val y (t ∷ []))) ⊛ raw (ensured 𝓛 (g.ended B) (g.clauses B 𝓛 at_mem run) z2.0.0 z2.0.3 tt y)))) (id⊢ 𝓤 _) $ await ! tt $ pick ! (λ y. split ! $ move ! (1 ∷ []) $
-                      use1 𝓛 (‵ (follows CB B' δ' y.ghost_name (λ z. relaid ry (slice_set ys i (Some z)))) ⊛ raw (fact 𝓤 (get_or ys i None ≡ Some y.now))) (ex_e 𝓤 _ (λ ws. snd∗ 𝓤 (sem 𝓛 (lasts (g.ended B) z2.0.0 z2.0.3 ws)) _)) $ split ! $
+                      use1 𝓛 (‵ (follows CB B' δ' y.ghost_name (λ z. with_places ry (slice_set ys i (Some z)))) ⊛ raw (fact 𝓤 (get_or ys i None ≡ Some y.now))) (ex_e 𝓤 _ (λ ws. snd∗ 𝓤 (sem 𝓛 (lasts (g.ended B) z2.0.0 z2.0.3 ws)) _)) $ split ! $
                       move ! (1 ∷ []) $ heard ! (get_or ys i None ≡ Some y.now) (λ yval. move ! (1 ∷ []) $ split ! $ split3 ! $ move ! (3 ∷ []) $
                       fsplit3 ! $ feq_l ! (λ at_t. lands_as ! (ap only at_t) refl (tt, tt) $ feq_i ! (List Val) (mut_vals y) (mut_vals y) refl $ fjoin3 ! $
                       sets ! (agg ! (and_then ! (get ! refl) (and_then ! (get ! refl) (no_more !)))) refl (tt, (tt, (tt, tt))) $
@@ -189,7 +189,7 @@ module _ (A B : RattleType) where
                       -- the rest; obs; auth]
                       move ! (10 ∷ 12 ∷ 13 ∷ 8 ∷ 9 ∷ 7 ∷ 4 ∷ 11 ∷ []) $ group ! 8 $
                       use1 𝓛 (later (‵ (flft κ (Share.left q)) ⊛ ‵ (follows_both W A' B' γ x.ghost_name y.ghost_name (λ a a'. with_pair v i (a, a')))))
-                      (closes_both 𝓛 (mem W) (mem CA) (mem CB) (mem A') (mem B') (λ z. relaid rx (slice_set xs i (Some z))) (λ z. relaid ry (slice_set ys i (Some z))) (λ a a'. with_pair v i (a, a')) κ (Share.left q) b o b (o + eA A' B') b (o + eB A' B') γ δ δ' x.ghost_name y.ghost_name
+                      (closes_both 𝓛 (mem W) (mem CA) (mem CB) (mem A') (mem B') (λ z. with_places rx (slice_set xs i (Some z))) (λ z. with_places ry (slice_set ys i (Some z))) (λ a a'. with_pair v i (a, a')) κ (Share.left q) b o b (o + eA A' B') b (o + eB A' B') γ δ δ' x.ghost_name y.ghost_name
                       (Rest A' B' 𝓛 b o d) (λ a a'. shut A' B' 𝓛 b o (with_pair v i (a, a')) (written d i a a') (written_known v d i a a' lt d'.1)) n (W.coded.code v) (W.coded.code v)) $ await ! tt $ split ! $
                       move ! (0 ∷ 3 ∷ []) $ use2 𝓛 (‵ (flft κ q)) (𝓛.lfts.lft_join κ q) $
                       sets ! (of_opd ! (get ! refl)) refl (tt, (record { fits = lit< tt }, ((tt, (tt, tt)), tt))) $
@@ -198,9 +198,9 @@ module _ (A B : RattleType) where
                   ((λ e. absurd (suc-ne-zero 0 e)), tt),
                 ))
             | inr w ↦
-                rewrite ! 0 (λ (t : Option (MutBor A.Denot)). ‵ (Seen.own_val t (u ∷ []))) w refl $ rewrite ! 3 (λ (t : Option (MutBor A.Denot)). ‵ (follows_if CA A' δ (ghost_name_of t) (λ z. relaid rx (slice_set xs i (Some z))) rx)) w refl $
+                rewrite ! 0 (λ (t : Option (MutBor A.Denot)). ‵ (Seen.own_val t (u ∷ []))) w refl $ rewrite ! 3 (λ (t : Option (MutBor A.Denot)). ‵ (follows_if CA A' δ (ghost_name_of t) (λ z. with_places rx (slice_set xs i (Some z))) rx)) w refl $
                 use1 𝓛 (raw (fact 𝓤 (u ≡ live 0 vnil))) (in_none 𝓛 (MutRef (named 0) κ A') u) $ heard ! (u ≡ live 0 vnil) (λ at_u.
-                move ! (2 ∷ []) $ use1 𝓛 (‵ (fres δ (CA.coded.code rx))) (left_none 𝓛 CA A' A' δ (λ z. relaid rx (slice_set xs i (Some z))) rx) $
+                move ! (2 ∷ []) $ use1 𝓛 (‵ (fres δ (CA.coded.code rx))) (left_none 𝓛 CA A' A' δ (λ z. with_places rx (slice_set xs i (Some z))) rx) $
                 move ! (3 ∷ []) $ use1 𝓛 (later (‵ (fres δ' (CB.coded.code ry)))) (given_up 𝓛 CB (named 0) κ yr) $ await ! tt $
                 -- [what the second column ends as; what the first does; half of κ's token; that of κA; the two rights;
                 -- the open borrow; the rest; obs; auth; the token of κB]

@@ -3,7 +3,7 @@ use Rattle.starlark_columns.proofs.Walking.{◌≡◌, refl, ap, ◌∙◌, ℕ,
 use base.Share
 use Rattle.std.specs.declared.option.Option.TheVariants.{Some}
 use Rattle.starlark_columns.specs.Block.{IsBehind}
-use Rattle.starlark_columns.specs.Laid.{relaid}
+use Rattle.starlark_columns.specs.Lends.{with_places}
 use Rattle.starlark_columns.specs.contracts.block.Spot as spot
 use Rattle.starlark_columns.proofs.Addresses.{words, words_good, spot_made}
 use Rattle.starlark_columns.proofs.Fronts.{front_filled, front_taken}
@@ -49,7 +49,7 @@ module _ (A B : RattleType) where
 
   -- the struct with both items written
   abbrev written : D A' B' → ℕ → A.Denot → B.Denot → D A' B'
-  written d i x y = record d { firsts = relaid d.firsts (slice_set d.firsts.places i (Some x)); seconds = relaid d.seconds (slice_set d.seconds.places i (Some y)) }
+  written d i x y = record d { firsts = with_places d.firsts (slice_set d.firsts.places i (Some x)); seconds = with_places d.seconds (slice_set d.seconds.places i (Some y)) }
 
   written_known : (v : W.Denot) (d : D A' B') (i : ℕ) (x : A.Denot) (y : B.Denot) → i < length v.pairs → Known A' B' v d → Known A' B' (with_pair v i (x, y)) (written d i x y)
   written_known v d i x y lt k = let cs = d.firsts.places in let ds = d.seconds.places in let d' = written d i x y in (
@@ -116,12 +116,12 @@ module _ (A B : RattleType) where
           use1 𝓛 (raw (Lend.pre z)) (id⊢ 𝓤 _) $
           calls_at ! fm Lend gl z (and_then ! (get ! refl) (and_then ! (get ! refl) (and_then ! (get ! refl) (and_then ! (get ! refl) (no_more !))))) (λ u.
           use1 𝓛 (later (some (λ (x : MutBor A.Denot × MutBor B.Denot). ((‵ (flft κ (Share.right q)) ⊛ ‵ (flft κA qA) ⊛ ‵ (flft κB qB) ⊛ ‵ ftrue) ⊛ ‵ ((PairAt κ).own_val x (u ∷ []))) ⊛ raw (ensured 𝓛 (g.ended A B) (g.clauses A B 𝓛 at_mem run) z.0.0 z.0.3 tt x)))) (id⊢ 𝓤 _) $ await ! tt $ pick ! (λ x. split ! $ move ! (1 ∷ []) $
-          use1 𝓛 (‵ (fsep (follows CA A' δ x.0.ghost_name (λ w. relaid rx (slice_set xs i (Some w)))) (follows CB B' δ' x.1.ghost_name (λ w. relaid ry (slice_set ys i (Some w))))) ⊛ raw (fact 𝓤 ((get_or xs i None ≡ Some x.0.now) × (get_or ys i None ≡ Some x.1.now))))
+          use1 𝓛 (‵ (fsep (follows CA A' δ x.0.ghost_name (λ w. with_places rx (slice_set xs i (Some w)))) (follows CB B' δ' x.1.ghost_name (λ w. with_places ry (slice_set ys i (Some w))))) ⊛ raw (fact 𝓤 ((get_or xs i None ≡ Some x.0.now) × (get_or ys i None ≡ Some x.1.now))))
           (ex_e 𝓤 _ (λ ws. snd∗ 𝓤 (sem 𝓛 (lasts (g.ended A B) z.0.0 z.0.3 ws)) _)) $ split ! $ move ! (1 ∷ []) $ heard ! ((get_or xs i None ≡ Some x.0.now) × (get_or ys i None ≡ Some x.1.now)) (λ vals. fsplit ! $
           -- [what the columns follow; the tokens with the result; the two rights; the open borrow; the rest; obs; auth]
           move ! (5 ∷ 7 ∷ 8 ∷ 3 ∷ 4 ∷ 0 ∷ 1 ∷ 6 ∷ []) $ group ! 8 $
           use1 𝓛 (later (‵ (flft κ (Share.left q)) ⊛ ‵ (follows_both W A' B' γ x.0.ghost_name x.1.ghost_name (λ y y'. with_pair v i (y, y')))))
-          (closes_both 𝓛 (mem W) (mem CA) (mem CB) (mem A') (mem B') (λ w. relaid rx (slice_set xs i (Some w))) (λ w. relaid ry (slice_set ys i (Some w))) (λ y y'. with_pair v i (y, y')) κ (Share.left q) b o b (o + eA A' B') b (o + eB A' B') γ δ δ' x.0.ghost_name x.1.ghost_name
+          (closes_both 𝓛 (mem W) (mem CA) (mem CB) (mem A') (mem B') (λ w. with_places rx (slice_set xs i (Some w))) (λ w. with_places ry (slice_set ys i (Some w))) (λ y y'. with_pair v i (y, y')) κ (Share.left q) b o b (o + eA A' B') b (o + eB A' B') γ δ δ' x.0.ghost_name x.1.ghost_name
           (Rest A' B' 𝓛 b o d) (λ y y'. shut A' B' 𝓛 b o (with_pair v i (y, y')) (written d i y y') (written_known v d i y y' lt d'.1)) n (W.coded.code v) (W.coded.code v)) $ await ! tt $ split ! $
           -- [half of κ's token; what self follows; the tokens with the result]
           move ! (2 ∷ []) $ split ! $ split ! $ move ! (3 ∷ 0 ∷ []) $ use2 𝓛 (‵ (flft κ q)) (𝓛.lfts.lft_join κ q) $ move ! (2 ∷ []) $

@@ -4,7 +4,7 @@ use Rattle.starlark_lists.specs.Retain.{Retains}
 use Rattle.starlark_vec2.specs.Retain.{CalledAtBoth}
 use Rattle.starlark_vec2.proofs.Pairs.{zip-take}
 use Rattle.starlark_columns.specs.Front.{with_items}
-use Rattle.starlark_columns.specs.Laid.{relaid}
+use Rattle.starlark_columns.specs.Lends.{with_places}
 use Rattle.starlark_columns.proofs.Fronts.{written_places}
 use Rattle.starlark_vec2.proofs.TwoColumns.{same_block, both_written, both_seen}
 use Rattle.starlark_vec2.proofs.vec2.Vec2.retain.Goals as goal
@@ -12,7 +12,7 @@ use Rattle.starlark_vec2.proofs.vec2.Vec2.retain.Goals as goal
 pub invariant_of-self : goal.invariant_of-self
 invariant_of-self g c = let cs = c.self.inside.firsts.places in let ds = c.self.inside.seconds.places in let xs = c.sieve-kept.new.firsts in let ys = c.sieve-kept.new.seconds in (
   both_written c.self.inside.firsts.places c.self.inside.seconds.places c.self.inside.len c.self.invariant.0 xs ys,
-  same_block c.self.inside.block c.self.inside.firsts (relaid c.self.inside.firsts (with_items cs xs)) c.self.inside.seconds (relaid c.self.inside.seconds (with_items ds ys)) c.self.invariant.1 refl refl
+  same_block c.self.inside.block c.self.inside.firsts (with_places c.self.inside.firsts (with_items cs xs)) c.self.inside.seconds (with_places c.self.inside.seconds (with_items ds ys)) c.self.invariant.1 refl refl
       (written_places cs c.self.inside.len c.self.invariant.0.firsts_front xs) (written_places ds c.self.inside.len c.self.invariant.0.seconds_front ys),
   c.self.invariant.2,
 )

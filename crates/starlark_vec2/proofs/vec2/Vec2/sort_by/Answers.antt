@@ -4,7 +4,7 @@ use Rattle.std.specs.List.Sorted.{IsPermutation}
 use Rattle.starlark_vec2.specs.Positions.{PutsInOrder}
 use Rattle.starlark_vec2.proofs.Positions.{sorted_by-short, sorted_by-from_order, IsPermutation-from_order}
 use Rattle.starlark_columns.specs.Front.{with_items}
-use Rattle.starlark_columns.specs.Laid.{relaid}
+use Rattle.starlark_columns.specs.Lends.{with_places}
 use Rattle.starlark_columns.proofs.Fronts.{written_places}
 use Rattle.starlark_vec2.proofs.TwoColumns.{same_block, both_written, both_seen, len_is}
 use Rattle.starlark_vec2.proofs.vec2.Vec2.sort_by.Goals as goal
@@ -21,7 +21,7 @@ put_in_order-requires-clause-positions g c =
 pub invariant_of-self : goal.invariant_of-self
 invariant_of-self g c = let cs = c.self.inside.firsts.places in let ds = c.self.inside.seconds.places in let xs = c.put_in_order.new.firsts in let ys = c.put_in_order.new.seconds in (
   both_written c.self.inside.firsts.places c.self.inside.seconds.places c.self.inside.len c.self.invariant.0 xs ys,
-  same_block c.self.inside.block c.self.inside.firsts (relaid c.self.inside.firsts (with_items cs xs)) c.self.inside.seconds (relaid c.self.inside.seconds (with_items ds ys)) c.self.invariant.1 refl refl
+  same_block c.self.inside.block c.self.inside.firsts (with_places c.self.inside.firsts (with_items cs xs)) c.self.inside.seconds (with_places c.self.inside.seconds (with_items ds ys)) c.self.invariant.1 refl refl
       (written_places cs c.self.inside.len c.self.invariant.0.firsts_front xs) (written_places ds c.self.inside.len c.self.invariant.0.seconds_front ys),
   c.self.invariant.2,
 )

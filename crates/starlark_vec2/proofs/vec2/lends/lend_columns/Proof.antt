@@ -1,7 +1,8 @@
 -- `lend_columns` meets its contract, at any two item types: two calls, each of which says what its column follows. Assumes `Logic`.
 use Rattle.starlark_columns.proofs.Walking.{◌≡◌, refl, ap, ℕ, ◌<◌, ◌^◌, List, [], ◌∷◌, Ura, Fn, Args, a_type, named, w64, inst_fn, Val, vint, vptr, vstruct, vcons, vnil, SProp, ent, emp, id⊢, ex_e, snd∗, Lft, Share, ftrue, flft, Memory, Routine, Calls, Loops, WpFn, Tables, Logic, sem, ◌⊑◌, Fun, fact, fact_i, tables, tables_of, FmC, fm_of, WpFn-mono, ‵, raw, ◌⊛◌, some, later, ◌$◌, ◌∵◌, !, qed, move, keep, use0, use1, use2, split, split3, join, pick, fsplit3, fjoin, fjoin3, feq_i, feq_l, suffices, frame, await, done, group, agg, stop, addr, and_then, no_more, returns, enter, alloc_all, pass_all, free_all, look_at, get, through, sets, lands_as, yes, no, RattleType, owns, usize, follows, param, layouts, uint_vals, uint_Tells, uint_Makes, MutBor, MutRef, mut_vals, mut_Tells, plain, types_at, mut_ref_to, nothing, owned, heard, only, Tuple, calls_at, Clauses, Ended, closing, ensured, lasts, Meets, triple_of, Contract, Triple, entered, says, Stays, stay_dropped, walk_of, ends_at, walked, walk_Meets, Goes-dropped, Goes-spent_ref, get_or, slice_set, None, Some, IsFilled}
 use Rattle.starlark_columns.specs.Block.{IsBehind}
-use Rattle.starlark_columns.specs.Laid.{Laid, relaid}
+use Rattle.starlark_columns.specs.declared.row.Row.{Row}
+use Rattle.starlark_columns.specs.Lends.{with_places}
 use Rattle.starlark_columns.specs.contracts.block.Spot as spot
 use Rattle.starlark_columns.specs.declared.block.Spot.{Spot}
 use Rattle.starlark_columns.proofs.Addresses.{words, words_good, spot_made, spot_told}
@@ -48,7 +49,7 @@ module _ (A B : RattleType) where
 
     module _ (C : Calls 𝓤 H) (Λ : Loops 𝓤 H) (fm : FmC 𝓤 H 𝓛.laws C)
         (ga : Triple 𝓤 (C (#behind args)) Behind) (gb : Triple 𝓤 (C (#front (layouts (a_type ∷ []) (B, tt)))) Front)
-        (κ κA κB : Lft) (q qA qB : Share) (bounds : (κ ⊑ κA) × ((κ ⊑ κB) × Unit {0})) (r : MutBor (Laid A.Denot)) (s : MutBor (Laid B.Denot)) (t : Spot B.Denot) (i : ℕ)
+        (κ κA κB : Lft) (q qA qB : Share) (bounds : (κ ⊑ κA) × ((κ ⊑ κB) × Unit {0})) (r : MutBor (Row A.Denot)) (s : MutBor (Row B.Denot)) (t : Spot B.Denot) (i : ℕ)
         (ft : t.count < 2 ^ 64) (fi : i < 2 ^ 64) where
       abbrev place : Val
       place = words t.address.at t.count
@@ -83,7 +84,7 @@ module _ (A B : RattleType) where
           use1 𝓛 (raw (Behind.pre za)) (id⊢ 𝓤 _) $
           calls_at ! fm Behind ga za (and_then ! (get ! refl) (and_then ! (get ! refl) (and_then ! (get ! refl) (no_more !)))) (λ u.
           use1 𝓛 (later (some (λ (x : MutBor A.Denot). ((‵ (flft κ q) ⊛ ‵ (flft κA qA) ⊛ ‵ (flft κB qB) ⊛ ‵ ftrue) ⊛ ‵ ((MutRef (named 0) κ (param 0 A)).own_val x (u ∷ []))) ⊛ raw (ensured 𝓛 (g.ended A B) (g.clauses A B 𝓛 at_mem run) (κ, (κA, (κB, tt))) (r, (t, (i, tt))) tt x)))) (id⊢ 𝓤 _) $ await ! tt $ pick ! (λ x. split ! $ move ! (1 ∷ []) $
-          use1 𝓛 (‵ (follows (column (param 0 A)) (param 0 A) r.ghost_name x.ghost_name (λ w. relaid r.now (slice_set r.now.places i (Some w)))) ⊛ raw (fact 𝓤 (get_or r.now.places i None ≡ Some x.now))) (ex_e 𝓤 _ (λ ws. snd∗ 𝓤 (sem 𝓛 (lasts (g.ended A B) (κ, (κA, (κB, tt))) (r, (t, (i, tt))) ws)) _)) $ split ! $
+          use1 𝓛 (‵ (follows (column (param 0 A)) (param 0 A) r.ghost_name x.ghost_name (λ w. with_places r.now (slice_set r.now.places i (Some w)))) ⊛ raw (fact 𝓤 (get_or r.now.places i None ≡ Some x.now))) (ex_e 𝓤 _ (λ ws. snd∗ 𝓤 (sem 𝓛 (lasts (g.ended A B) (κ, (κA, (κB, tt))) (r, (t, (i, tt))) ws)) _)) $ split ! $
           move ! (1 ∷ []) $ heard ! (get_or r.now.places i None ≡ Some x.now) (λ ea. move ! (1 ∷ []) $ split ! $ move ! (1 ∷ []) $ fsplit3 ! $ feq_l ! (λ at_x. lands_as ! (ap only at_x) refl (tt, tt) $
           feq_i ! (List Val) (vptr x.ref_ptr.0 x.ref_ptr.1 ∷ []) (vptr x.ref_ptr.0 x.ref_ptr.1 ∷ []) refl $ fjoin3 ! $ move ! (1 ∷ []) $ split3 ! $ move ! (2 ∷ []) $ split ! $ move ! (2 ∷ 3 ∷ 1 ∷ 4 ∷ 5 ∷ 0 ∷ []) $
           -- [the tokens of κ, κA; nothing; x; what firsts follows; the token of κB; seconds]
@@ -96,7 +97,7 @@ module _ (A B : RattleType) where
           -- [what the call asks; the token of κA; nothing; x; what firsts follows]
           calls_at ! fm Front gb zb (and_then ! (get ! refl) (and_then ! (get ! refl) (and_then ! (get ! refl) (no_more !)))) (λ v.
           use1 𝓛 (later (some (λ (y : MutBor B.Denot). ((‵ (flft κ q) ⊛ ‵ (flft κB qB) ⊛ ‵ ftrue) ⊛ ‵ ((MutRef (named 0) κ (param 1 B)).own_val y (v ∷ []))) ⊛ raw (ensured 𝓛 (h.ended B) (h.clauses B 𝓛 at_mem run) (κ, (κB, tt)) (s, (t, (i, tt))) tt y)))) (id⊢ 𝓤 _) $ await ! tt $ pick ! (λ y. split ! $ move ! (1 ∷ []) $
-          use1 𝓛 (‵ (follows (column (param 1 B)) (param 1 B) s.ghost_name y.ghost_name (λ w. relaid s.now (slice_set s.now.places i (Some w)))) ⊛ raw (fact 𝓤 (get_or s.now.places i None ≡ Some y.now))) (ex_e 𝓤 _ (λ ws. snd∗ 𝓤 (sem 𝓛 (lasts (h.ended B) (κ, (κB, tt)) (s, (t, (i, tt))) ws)) _)) $ split ! $
+          use1 𝓛 (‵ (follows (column (param 1 B)) (param 1 B) s.ghost_name y.ghost_name (λ w. with_places s.now (slice_set s.now.places i (Some w)))) ⊛ raw (fact 𝓤 (get_or s.now.places i None ≡ Some y.now))) (ex_e 𝓤 _ (λ ws. snd∗ 𝓤 (sem 𝓛 (lasts (h.ended B) (κ, (κB, tt)) (s, (t, (i, tt))) ws)) _)) $ split ! $
           move ! (1 ∷ []) $ heard ! (get_or s.now.places i None ≡ Some y.now) (λ eb. move ! (1 ∷ []) $ split ! $ move ! (1 ∷ []) $ fsplit3 ! $ feq_l ! (λ at_y. lands_as ! (ap only at_y) refl (tt, tt) $
           feq_i ! (List Val) (vptr y.ref_ptr.0 y.ref_ptr.1 ∷ []) (vptr y.ref_ptr.0 y.ref_ptr.1 ∷ []) refl $ fjoin3 ! $ move ! (1 ∷ []) $ split3 ! $
           -- [the tokens of κ, κB; nothing; y; what seconds follows; the token of κA; nothing; x; what firsts follows]

@@ -3,7 +3,8 @@
 use Rattle.starlark_columns.proofs.Walking.{◌≡◌, refl, sym, ap, ◌∙◌, ℕ, ◌+◌, List, [], ◌∷◌, length, Ura, full_share, Fn, Args, a_type, named, w64, inst_fn, Val, vint, vptr, vstruct, vcons, vnil, SProp, ent, sep, emp, id⊢, ex_e, snd∗, Lft, GName, Share, ftrue, fsep, flft, fauth, Memory, Routine, Calls, Loops, WpFn, Tables, Logic, sem, ◌⊑◌, Fun, fact, fact_i, tables, tables_of, FmC, fm_of, WpFn-mono, ages, bor_new_deep, open_ref, name_new, ‵, raw, ◌⊛◌, some, later, ◌$◌, ◌∵◌, !, qed, move, keep, drop, use0, use1, use2, split, split3, join, pick, fsplit, fsplit3, fjoin, fjoin3, fpack, feq_i, rewrite, suffices, frame, await, group, done, stop, fld, look, load, of_opd, addr, and_then, no_more, returns, enter, alloc_all, pass_all, free_all, look_at, get, through, sets, lands_as, usize, no, uint_Makes, follows, RattleType, owns, mem, param, layouts, Laws, MutBor, mut_vals, mut_Tells, plain, types_at, mut_ref_to, named_lft, nothing, owned, heard, only, calls_at, Clauses, Ended, closing, ensured, lasts, Meets, triple_of, Contract, Triple, entered, Stays, stay_dropped, walk_of, ends_at, walked, walk_Meets, Goes-spent_ref, zip, shows, part_at, param_laws, tuple_laws, Ptr, in_a_block, peeks, items_of}
 use base.Share
 use Rattle.starlark_columns.specs.Block.{IsBehind}
-use Rattle.starlark_columns.specs.Laid.{Laid, relaid}
+use Rattle.starlark_columns.specs.declared.row.Row.{Row}
+use Rattle.starlark_columns.specs.Lends.{with_places}
 use Rattle.starlark_columns.specs.contracts.block.Spot as spot
 use Rattle.starlark_columns.proofs.Addresses.{words, words_good, spot_made}
 use Rattle.starlark_columns.specs.Front.{IsFront, with_items}
@@ -69,23 +70,20 @@ module _ (A B E : RattleType) where
   abbrev stayed : Stays ended.signature.params ended.kept
   stayed = (stay_dropped (mut_ref_to (0 ∷ []) tt (plain (λ _. W))) no, tt)
 
-  abbrev Row : Type 0
-  Row = Laid One
-
-  abbrev kept : Row → Row → Row
-  kept v w = relaid v (with_items v.places (with_seconds (items_of v.places) (items_of w.places)))
+  abbrev kept : Row One → Row One → Row One
+  kept v w = with_places v (with_items v.places (with_seconds (items_of v.places) (items_of w.places)))
 
   -- the fields and the list with the values of w
-  abbrev written : D → Row → D
+  abbrev written : D → Row One → D
   written d w = record d { firsts = kept d.firsts w }
 
-  abbrev seen : D → Row → W.Denot
+  abbrev seen : D → Row One → W.Denot
   seen d w = pair_list (zip (with_seconds (items_of d.firsts.places) (items_of w.places)) (items_of d.seconds.places)) (length d.firsts.places)
 
   abbrev keeps : W.Denot → W.Denot → W.Denot
   keeps v w = with_pairs v (with_values v.pairs w.pairs)
 
-  written_known : (v : W.Denot) (d : D) (w : Row) → O.Known P S v d → O.Known P S (seen d w) (written d w)
+  written_known : (v : W.Denot) (d : D) (w : Row One) → O.Known P S v d → O.Known P S (seen d w) (written d w)
   written_known v d w k =
       let cs = d.firsts.places in let ds = d.seconds.places in let ws = with_seconds (items_of cs) (items_of w.places) in
       let items = all_written cs d.len k.1.0.firsts_front ws (length-with_seconds (items_of cs) (items_of w.places)) in (
@@ -93,7 +91,7 @@ module _ (A B E : RattleType) where
         (firsts_written cs ds d.len k.1.0 ws, same_block d.block d.firsts (kept d.firsts w) d.seconds d.seconds k.1.1 refl refl (written_places cs d.len k.1.0.firsts_front ws) refl, k.1.2),
       )
 
-  same : (v : W.Denot) (d : D) (w : Row) → O.Known P S v d → keeps v (seen d w) ≡ seen d w
+  same : (v : W.Denot) (d : D) (w : Row One) → O.Known P S v d → keeps v (seen d w) ≡ seen d w
   same v d w k = ap (λ z. keeps z (seen d w)) (sym k.0) ∙ ap (λ l. pair_list l (length d.firsts.places)) (with_values-zip (items_of d.firsts.places) (items_of w.places) (items_of d.seconds.places))
 
   module _ {M : Type 1} {𝓤 : Ura M} (𝓛 : Logic 𝓤) (at_mem : Memory → SProp 𝓤) (run : Routine → Fun 𝓤) where
@@ -146,7 +144,7 @@ module _ (A B E : RattleType) where
           move ! (3 ∷ []) $ ages ! (λ n. move ! (1 ∷ []) $ bor_new_deep ! tt n κ $
           -- [the borrow and its right; the open borrow; obs δ; the rest; obs; auth; the other half; the tokens of κA,
           -- κB, κE]
-          let lent : MutBor Row = record { ref_ptr = (b, place); ghost_name = δ; now = xs } in
+          let lent : MutBor (Row One) = record { ref_ptr = (b, place); ghost_name = δ; now = xs } in
           move ! (3 ∷ 0 ∷ []) $ feq_i ! (List Val) (mut_vals lent) (mut_vals lent) refl $ fjoin3 ! $ nothing ! $ owned ! usize _ (uint_Makes 𝓛 w64) d.len _ (refl, told.0) $ fjoin ! $ use0 𝓛 (‵ (At.own_val at (words_at ∷ []))) (spot_made S 𝓛 at told.1) $ fjoin ! $ move ! (1 ∷ 0 ∷ []) $ fjoin ! $
           -- [the argument; the right; the open borrow; the rest; obs; auth; the other half; the tokens of κA, κB, κE]
           nothing ! $ move ! (10 ∷ 0 ∷ []) $ join ! $ move ! (9 ∷ 0 ∷ []) $ join ! $ move ! (8 ∷ 0 ∷ []) $ join ! $ move ! (7 ∷ 0 ∷ []) $ join ! $ join ! $

@@ -7,16 +7,16 @@ use Rattle.starlark_columns.proofs.Fields.{word, word_good, address_told}
 use Rattle.starlark_columns.proofs.Memory.{item_or, holds, to_slots, places_back}
 use Rattle.starlark_columns.proofs.RowCalls.{Makes, at_makes, IsMade, makes_asks, makes_gives, row_typed}
 use Rattle.starlark_columns.specs.contracts.block.Address as address
-use Rattle.starlark_columns.specs.contracts.block.Held as held
-use Rattle.starlark_columns.specs.contracts.block.Held.open.{ended, clauses}
-use Rattle.starlark_columns.specs.contracts.block.Held.open.Key as key
-use Rattle.starlark_columns.proofs.block.Held.open.Statement.{statement}
-use Rattle.starlark_columns.proofs.block.Held.open.Code as code
+use Rattle.starlark_columns.specs.contracts.row.Row as row
+use Rattle.starlark_columns.specs.contracts.row.Row.open.{ended, clauses}
+use Rattle.starlark_columns.specs.contracts.row.Row.open.Key as key
+use Rattle.starlark_columns.proofs.row.Row.open.Statement.{statement}
+use Rattle.starlark_columns.proofs.row.Row.open.Code as code
 
 pub open_spec : {M : Type 1} → statement M
 open_spec 𝓤 𝓛 𝓜 𝓡 wired X L =
     let H = 𝓛.H in let 𝓣 = tables 𝓤 H 𝓜 𝓡 𝓡.env in let En = ended X in let E : El = record { row = X; laws = L } in let inst = layouts (a_type ∷ []) (X, tt) in let fn = inst_fn inst code.function in
-    let c = clauses X 𝓛 𝓜.mem 𝓡.returns in let At = address.the_row (R E) in let Own = held.the_row (R E) in
+    let c = clauses X 𝓛 𝓜.mem 𝓡.returns in let At = address.the_row (R E) in let Own = row.the_row (R E) in
     let met = callee.met 𝓤 𝓛 𝓜 𝓡 (code.calls-core::slots::Slots::from_raw_parts 𝓡.env wired) X L in
     let hs : Stays En.signature.params En.kept = (stay_ref (0 ∷ []) tt (plain (λ _. Own)), (stay_dropped (plain (λ _. At)) no, (stay_dropped (plain (λ _. usize)) yes, tt))) in
     proved 𝓛 En hs c 𝓜 𝓡 (Goes-ref 𝓛 2 0 tt (plain (λ _. Own)), (Goes-dropped 𝓛 2 (plain (λ _. At)) no (λ κs x f. refl), (Goes-dropped 𝓛 2 (plain (λ _. usize)) yes (λ κs x f. refl), tt)))

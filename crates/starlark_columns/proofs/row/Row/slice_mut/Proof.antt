@@ -3,18 +3,18 @@ use Rattle.starlark_columns.proofs.Walking.{◌≡◌, ◌≤◌, ◌+◌, ◌-�
 use lib.ListN.{drop}
 use Rattle.starlark_columns.specs.Owned.{places_owned, row_owned}
 use Rattle.starlark_columns.specs.Lends.{rewritten, with_places}
-use Rattle.starlark_columns.proofs.Fields.{word, word_good, address_told, HeldData}
+use Rattle.starlark_columns.proofs.Fields.{word, word_good, address_told, RowMark}
 use Rattle.starlark_columns.proofs.Memory.{Row, Around, run_long, run_out, run_in, to_items, of_items}
 use Rattle.starlark_columns.specs.contracts.block.Address as address
-use Rattle.starlark_columns.specs.contracts.block.Held as held
-use Rattle.starlark_columns.specs.contracts.block.Held.slice_mut.{ended, clauses}
-use Rattle.starlark_columns.specs.contracts.block.Held.slice_mut.Key as key
-use Rattle.starlark_columns.proofs.block.Held.slice_mut.Statement.{statement}
-use Rattle.starlark_columns.proofs.block.Held.slice_mut.Code as code
+use Rattle.starlark_columns.specs.contracts.row.Row as row
+use Rattle.starlark_columns.specs.contracts.row.Row.slice_mut.{ended, clauses}
+use Rattle.starlark_columns.specs.contracts.row.Row.slice_mut.Key as key
+use Rattle.starlark_columns.proofs.row.Row.slice_mut.Statement.{statement}
+use Rattle.starlark_columns.proofs.row.Row.slice_mut.Code as code
 
-module _ (E : El) {M : Type 1} {𝓤 : Ura M} (𝓛 : Logic 𝓤) (h : (held.the_row (R E)).Denot) (from to rb ro : ℕ) (vs : List Val) (b o : ℕ) (xs : List (el_x E)) where
+module _ (E : El) {M : Type 1} {𝓤 : Ura M} (𝓛 : Logic 𝓤) (h : (row.the_row (R E)).Denot) (from to rb ro : ℕ) (vs : List Val) (b o : ℕ) (xs : List (el_x E)) where
   abbrev Own : RattleType
-  Own = held.the_row (R E)
+  Own = row.the_row (R E)
 
   abbrev s : ℕ
   s = type_size (R E)
@@ -27,7 +27,7 @@ module _ (E : El) {M : Type 1} {𝓤 : Ura M} (𝓛 : Logic 𝓤) (h : (held.the
 
   -- all that is kept while the run is lent
   abbrev Rest : from ≤ to → to ≤ length cs → Fml
-  Rest ordered within = fsep (Around E 𝓛 b cs from to o ordered within) (fsep ((HeldData (R E)).own_val (tt, tt) vs) (cell_at full_share Own.mir vs rb ro))
+  Rest ordered within = fsep (Around E 𝓛 b cs from to o ordered within) (fsep ((RowMark (R E)).own_val (tt, tt) vs) (cell_at full_share Own.mir vs rb ro))
 
   -- the run comes back with what was written
   back : (ordered : from ≤ to) (within : to ≤ length cs) → h.at ≡ block_ptr b o → length cs * s < 2 ^ 63 → length xs ≡ to - from → (ws : List (el_x E)) → length ws ≡ length xs
@@ -47,7 +47,7 @@ module _ (E : El) {M : Type 1} {𝓤 : Ura M} (𝓛 : Logic 𝓤) (h : (held.the
 pub slice_mut_spec : {M : Type 1} → statement M
 slice_mut_spec 𝓤 𝓛 𝓜 𝓡 wired X L =
     let H = 𝓛.H in let 𝓣 = tables 𝓤 H 𝓜 𝓡 𝓡.env in let En = ended X in let E : El = record { row = X; laws = L } in let inst = layouts (a_type ∷ []) (X, tt) in let fn = inst_fn inst code.function in
-    let c = clauses X 𝓛 𝓜.mem 𝓡.returns in let At = address.the_row (R E) in let Own = held.the_row (R E) in
+    let c = clauses X 𝓛 𝓜.mem 𝓡.returns in let At = address.the_row (R E) in let Own = row.the_row (R E) in
     let hs : Stays En.signature.params En.kept = (stay_dropped (mut_ref_to (0 ∷ []) tt (plain (λ _. Own))) no, (stay_dropped (plain (λ _. At)) no, (stay_dropped (plain (λ _. usize)) yes, (stay_dropped (plain (λ _. usize)) yes, tt)))) in
     proved 𝓛 En hs c 𝓜 𝓡 (Goes-spent_ref 𝓛 2 (0 ∷ []) tt (plain (λ _. Own)), (Goes-dropped 𝓛 2 (plain (λ _. At)) no (λ κs x f. refl), (Goes-dropped 𝓛 2 (plain (λ _. usize)) yes (λ κs x f. refl), (Goes-dropped 𝓛 2 (plain (λ _. usize)) yes (λ κs x f. refl), tt))))
     (key.name inst) fn (code.unfolded 𝓤 H 𝓜 𝓡 wired (X, tt))
@@ -56,10 +56,10 @@ slice_mut_spec 𝓤 𝓛 𝓜 𝓡 wired X L =
     let self : MutBor Own.Denot = a.0 in let γ : GName = self.ghost_name in let rb : ℕ = self.ref_ptr.0 in let ro : ℕ = self.ref_ptr.1 in let h : Own.Denot = self.now in let p : Ptr = a.1.0.at in let from : ℕ = a.1.1.0 in let to : ℕ = a.1.1.1.0 in
     let cs : List (Option X.Denot) = h.places in let s : ℕ = type_size (R E) in let Out : RattleType = MutSlice (named 0) κ (R E) in
     let y : (walk_of 𝓛 En hs c).Ghost = ((κs, qs, bounds, a, (vptr rb ro ∷ [], (word p ∷ [], (vint w64 from ∷ [], (vint w64 to ∷ [], tt))))), gh) in let Post : Val → SProp 𝓤 = (walk_of 𝓛 En hs c).post y in
-    let Full : Type 0 = (p ≡ h.at) × AreFilled cs from to in
-    qed 𝓛 (((‵ (flft κ q) ⊛ ‵ (flft ι w) ⊛ ‵ ftrue) ⊛ ‵ (owns (types_at En.signature.params κs) a y.0.4)) ∷ raw (fact 𝓤 (ι ⊑ X.lives)) ∷ raw (fact 𝓤 Full) ∷ []) ∵
-    move ! (2 ∷ []) $ heard ! Full (λ full. split ! $ split3 ! $ move ! (3 ∷ []) $ fsplit ! $ fsplit3 ! $ keep ! (1 ∷ 2 ∷ 4 ∷ 5 ∷ []) $
-    let ordered = full.1.0 in let within = full.1.1 in let xs : List X.Denot = full.1.2.0 in let filled = full.1.2.1 in
+    let Its : Type 0 = p ≡ h.at in let Full : Type 0 = AreFilled cs from to in
+    qed 𝓛 (((‵ (flft κ q) ⊛ ‵ (flft ι w) ⊛ ‵ ftrue) ⊛ ‵ (owns (types_at En.signature.params κs) a y.0.4)) ∷ raw (fact 𝓤 (ι ⊑ X.lives)) ∷ raw (fact 𝓤 Its) ∷ raw (fact 𝓤 Full) ∷ []) ∵
+    move ! (2 ∷ 3 ∷ []) $ heard ! Its (λ its. heard ! Full (λ full. split ! $ split3 ! $ move ! (3 ∷ []) $ fsplit ! $ fsplit3 ! $ keep ! (1 ∷ 2 ∷ 4 ∷ 5 ∷ []) $
+    let ordered = full.0 in let within = full.1 in let xs : List X.Denot = full.2.0 in let filled = full.2.1 in
     let long : length xs ≡ to - from = omega (arith, ap length filled, length-map xs Some, run_long E 𝓛 0 cs from to 0 ordered within) in let at_first = Own.coded.code h in
     enter ! 𝓣.C 𝓣.Λ fn (vptr rb ro ∷ word p ∷ vint w64 from ∷ vint w64 to ∷ []) Post $
     alloc_all ! (λ l. pass_all ! refl ((tt, tt), (word_good p, ((tt, record { fits = are.1.1.0.1 }), ((tt, record { fits = are.1.1.1.0.1 }), tt)))) $ let Ev = env fn.locals l in
@@ -67,7 +67,7 @@ slice_mut_spec 𝓤 𝓛 𝓜 𝓡 wired X L =
     -- [the places; the mark; the cell, the open borrow and its names; the item's token]
     let far : from * s < 2 ^ 64 = omega (arith, times_below from (length cs) s (2 ^ 63) (omega (arith, ordered, within)) small) in let here : ℕ × ℕ = (b, from * s + o) in
     let count : to - from < 2 ^ 64 = omega (arith, are.1.1.1.0.1) in let good : T (has_ty (slice_ty ty_ptr) (slice_val here (to - from))) × WT (slice_val here (to - from)) = (tt, (tt, (record { fits = count }, tt))) in
-    take_at ! 2 $ rewrite ! 0 (λ (z : Ptr). ‵ (fat full_share (layout At) (l 2) 0 (word z))) (full.0 ∙ at) refl $ give_at ! 2 $ first ! $ blocks ! $
+    take_at ! 2 $ rewrite ! 0 (λ (z : Ptr). ‵ (fat full_share (layout At) (l 2) 0 (word z))) (its ∙ at) refl $ give_at ! 2 $ first ! $ blocks ! $
     sets ! (is ! (bin ! (get ! refl) (size_word !) (record { fits = subst (λ (k : ℕ). k < 2 ^ 64) (sym (uncapped from s far)) far })) (ap (vint w64) (uncapped from s far))) refl (tt, record { fits = far }) $
     sets ! (bin ! (get_in ! (fld ! refl (stop !)) (sub ! 0 refl (whole !))) (get ! refl) tt) refl (tt, tt) $ sets ! (bin ! (get ! refl) (get ! refl) ordered) refl (tt, record { fits = count }) $
     sets_last ! (agg ! (and_then ! (get ! refl) (and_then ! (get ! refl) (no_more !)))) refl good $ exec ! 𝓣.C 𝓣.Λ Ev (after 1 fn.body) (at_ret Ev Post) $ sets ! (of_opd ! (get ! refl)) refl good $
@@ -84,4 +84,4 @@ slice_mut_spec 𝓤 𝓛 𝓜 𝓡 wired X L =
     -- [the slice; its token; what follows it; the item's token]
     nothing ! $ move ! (4 ∷ 0 ∷ []) $ join ! $ move ! (2 ∷ 0 ∷ []) $ join ! $ move ! (2 ∷ []) $ use0 𝓛 (raw (fact 𝓤 Told)) (fact_i 𝓤 Told (emp 𝓤) filled) $ move ! (1 ∷ 0 ∷ []) $ join ! $
     nothing ! $ nothing ! $ fjoin ! $ nothing ! $ fjoin ! $ nothing ! $ fjoin ! $ nothing ! $ fjoin ! $
-    move ! (2 ∷ 0 ∷ 3 ∷ 1 ∷ []) $ by ! (leaves 𝓛 En hs c y v r (tt, (tt, (tt, (tt, tt)))) (tt, (tt, (tt, (tt, tt))))))))))))
+    move ! (2 ∷ 0 ∷ 3 ∷ 1 ∷ []) $ by ! (leaves 𝓛 En hs c y v r (tt, (tt, (tt, (tt, tt)))) (tt, (tt, (tt, (tt, tt)))))))))))))

@@ -3,15 +3,15 @@ use Rattle.starlark_columns.proofs.Walking.{◌≡◌, ◌≤◌, ◌+◌, ◌-�
 use lib.ListN.{drop}
 use Rattle.starlark_columns.specs.Owned.{places_owned, row_owned}
 use Rattle.starlark_columns.specs.Lends.{with_places}
-use Rattle.starlark_columns.proofs.Fields.{word, word_good, address_told, HeldData}
+use Rattle.starlark_columns.proofs.Fields.{word, word_good, address_told, RowMark}
 use Rattle.starlark_columns.proofs.Memory.{Row, Around, run_out, run_in}
 use Rattle.starlark_columns.proofs.Slotting.{filled_within}
 use Rattle.starlark_columns.specs.contracts.block.Address as address
-use Rattle.starlark_columns.specs.contracts.block.Held as held
-use Rattle.starlark_columns.specs.contracts.block.Held.get_mut.{ended, clauses}
-use Rattle.starlark_columns.specs.contracts.block.Held.get_mut.Key as key
-use Rattle.starlark_columns.proofs.block.Held.get_mut.Statement.{statement}
-use Rattle.starlark_columns.proofs.block.Held.get_mut.Code as code
+use Rattle.starlark_columns.specs.contracts.row.Row as row
+use Rattle.starlark_columns.specs.contracts.row.Row.get_mut.{ended, clauses}
+use Rattle.starlark_columns.specs.contracts.row.Row.get_mut.Key as key
+use Rattle.starlark_columns.proofs.row.Row.get_mut.Statement.{statement}
+use Rattle.starlark_columns.proofs.row.Row.get_mut.Code as code
 
 module _ {X : Type 0} where
   -- one place of a row as a range
@@ -26,9 +26,9 @@ module _ {X : Type 0} where
   one_in : (cs : List (Option X)) (i : ℕ) (c : Option X) → i < length cs → with_range cs i (i + 1) (c ∷ []) ≡ slice_set cs i c
   one_in cs i c lt = ap (λ (k : ℕ). take i cs ++ (c ∷ drop k cs)) (add-one i) ∙ set_in cs i c lt
 
-module _ (E : El) {M : Type 1} {𝓤 : Ura M} (𝓛 : Logic 𝓤) (h : (held.the_row (R E)).Denot) (i rb ro : ℕ) (vs : List Val) (b o : ℕ) where
+module _ (E : El) {M : Type 1} {𝓤 : Ura M} (𝓛 : Logic 𝓤) (h : (row.the_row (R E)).Denot) (i rb ro : ℕ) (vs : List Val) (b o : ℕ) where
   abbrev Own : RattleType
-  Own = held.the_row (R E)
+  Own = row.the_row (R E)
 
   abbrev s : ℕ
   s = type_size (R E)
@@ -41,7 +41,7 @@ module _ (E : El) {M : Type 1} {𝓤 : Ura M} (𝓛 : Logic 𝓤) (h : (held.the
 
   -- all that is kept while the item is lent
   abbrev Rest : i ≤ i + 1 → i + 1 ≤ length cs → Fml
-  Rest ordered within = fsep (Around E 𝓛 b cs i (i + 1) o ordered within) (fsep ((HeldData (R E)).own_val (tt, tt) vs) (cell_at full_share Own.mir vs rb ro))
+  Rest ordered within = fsep (Around E 𝓛 b cs i (i + 1) o ordered within) (fsep ((RowMark (R E)).own_val (tt, tt) vs) (cell_at full_share Own.mir vs rb ro))
 
   -- the item comes back as it was left
   back : (ordered : i ≤ i + 1) (within : i + 1 ≤ length cs) → h.at ≡ block_ptr b o → length cs * s < 2 ^ 63 → (w : el_x E)
@@ -58,7 +58,7 @@ module _ (E : El) {M : Type 1} {𝓤 : Ura M} (𝓛 : Logic 𝓤) (h : (held.the
 pub get_mut_spec : {M : Type 1} → statement M
 get_mut_spec 𝓤 𝓛 𝓜 𝓡 wired X L =
     let H = 𝓛.H in let 𝓣 = tables 𝓤 H 𝓜 𝓡 𝓡.env in let En = ended X in let E : El = record { row = X; laws = L } in let inst = layouts (a_type ∷ []) (X, tt) in let fn = inst_fn inst code.function in
-    let c = clauses X 𝓛 𝓜.mem 𝓡.returns in let At = address.the_row (R E) in let Own = held.the_row (R E) in
+    let c = clauses X 𝓛 𝓜.mem 𝓡.returns in let At = address.the_row (R E) in let Own = row.the_row (R E) in
     let hs : Stays En.signature.params En.kept = (stay_dropped (mut_ref_to (0 ∷ []) tt (plain (λ _. Own))) no, (stay_dropped (plain (λ _. At)) no, (stay_dropped (plain (λ _. usize)) yes, tt))) in
     proved 𝓛 En hs c 𝓜 𝓡 (Goes-spent_ref 𝓛 2 (0 ∷ []) tt (plain (λ _. Own)), (Goes-dropped 𝓛 2 (plain (λ _. At)) no (λ κs x f. refl), (Goes-dropped 𝓛 2 (plain (λ _. usize)) yes (λ κs x f. refl), tt)))
     (key.name inst) fn (code.unfolded 𝓤 H 𝓜 𝓡 wired (X, tt))
@@ -67,16 +67,16 @@ get_mut_spec 𝓤 𝓛 𝓜 𝓡 wired X L =
     let self : MutBor Own.Denot = a.0 in let γ : GName = self.ghost_name in let rb : ℕ = self.ref_ptr.0 in let ro : ℕ = self.ref_ptr.1 in let h : Own.Denot = self.now in let p : Ptr = a.1.0.at in let i : ℕ = a.1.1.0 in
     let cs : List (Option X.Denot) = h.places in let s : ℕ = type_size (R E) in let Out : RattleType = MutRef (named 0) κ (R E) in
     let y : (walk_of 𝓛 En hs c).Ghost = ((κs, qs, bounds, a, (vptr rb ro ∷ [], (word p ∷ [], (vint w64 i ∷ [], tt)))), gh) in let Post : Val → SProp 𝓤 = (walk_of 𝓛 En hs c).post y in
-    let Full : Type 0 = (p ≡ h.at) × IsFilled cs i in
-    qed 𝓛 (((‵ (flft κ q) ⊛ ‵ (flft ι w) ⊛ ‵ ftrue) ⊛ ‵ (owns (types_at En.signature.params κs) a y.0.4)) ∷ raw (fact 𝓤 (ι ⊑ X.lives)) ∷ raw (fact 𝓤 Full) ∷ []) ∵
-    move ! (2 ∷ []) $ heard ! Full (λ full. split ! $ split3 ! $ move ! (3 ∷ []) $ fsplit ! $ fsplit3 ! $ keep ! (1 ∷ 2 ∷ 4 ∷ 5 ∷ []) $
-    let x : X.Denot = full.1.0 in let there = full.1.1 in let lt : i < length cs = filled_within cs i full.1 in let ordered : i ≤ i + 1 = omega arith in let within : i + 1 ≤ length cs = omega (arith, lt) in let at_first = Own.coded.code h in
+    let Its : Type 0 = p ≡ h.at in let Full : Type 0 = IsFilled cs i in
+    qed 𝓛 (((‵ (flft κ q) ⊛ ‵ (flft ι w) ⊛ ‵ ftrue) ⊛ ‵ (owns (types_at En.signature.params κs) a y.0.4)) ∷ raw (fact 𝓤 (ι ⊑ X.lives)) ∷ raw (fact 𝓤 Its) ∷ raw (fact 𝓤 Full) ∷ []) ∵
+    move ! (2 ∷ 3 ∷ []) $ heard ! Its (λ its. heard ! Full (λ full. split ! $ split3 ! $ move ! (3 ∷ []) $ fsplit ! $ fsplit3 ! $ keep ! (1 ∷ 2 ∷ 4 ∷ 5 ∷ []) $
+    let x : X.Denot = full.0 in let there = full.1 in let lt : i < length cs = filled_within cs i full in let ordered : i ≤ i + 1 = omega arith in let within : i + 1 ≤ length cs = omega (arith, lt) in let at_first = Own.coded.code h in
     enter ! 𝓣.C 𝓣.Λ fn (vptr rb ro ∷ word p ∷ vint w64 i ∷ []) Post $
     alloc_all ! (λ l. pass_all ! refl ((tt, tt), (word_good p, ((tt, record { fits = are.1.1.0.1 }), tt))) $ let Ev = env fn.locals l in
     opens ! tt Own {h = h} rb ro (λ vs. move ! (1 ∷ []) $ fsplit ! $ move ! (1 ∷ []) $ fsplit ! $ flt_l ! (λ small. in_a_block ! h.at (λ z. in_block z (places_owned (R E) z cs)) (id⊢ 𝓤 (never 𝓤)) (λ b o at.
     -- [the places; the mark; the cell, the open borrow and its names; the item's token]
     let far : i * s < 2 ^ 64 = omega (arith, times_below i (length cs) s (2 ^ 63) (omega (arith, lt)) small) in let here : ℕ × ℕ = (b, i * s + o) in
-    take_at ! 2 $ rewrite ! 0 (λ (z : Ptr). ‵ (fat full_share (layout At) (l 2) 0 (word z))) (full.0 ∙ at) refl $ give_at ! 2 $ first ! $ blocks ! $
+    take_at ! 2 $ rewrite ! 0 (λ (z : Ptr). ‵ (fat full_share (layout At) (l 2) 0 (word z))) (its ∙ at) refl $ give_at ! 2 $ first ! $ blocks ! $
     sets ! (is ! (bin ! (get ! refl) (size_word !) (record { fits = subst (λ (k : ℕ). k < 2 ^ 64) (sym (uncapped i s far)) far })) (ap (vint w64) (uncapped i s far))) refl (tt, record { fits = far }) $
     sets ! (bin ! (get_in ! (fld ! refl (stop !)) (sub ! 0 refl (whole !))) (get ! refl) tt) refl (tt, tt) $
     sets_last ! (addr ! (through ! refl (stop !))) refl (tt, tt) $ exec ! 𝓣.C 𝓣.Λ Ev (after 1 fn.body) (at_ret Ev Post) $ sets ! (of_opd ! (get ! refl)) refl (tt, tt) $
@@ -91,4 +91,4 @@ get_mut_spec 𝓤 𝓛 𝓜 𝓡 wired X L =
     -- [the reference; its token; what follows it; the item's token]
     nothing ! $ move ! (4 ∷ 0 ∷ []) $ join ! $ move ! (2 ∷ 0 ∷ []) $ join ! $ move ! (2 ∷ []) $ use0 𝓛 (raw (fact 𝓤 Told)) (fact_i 𝓤 Told (emp 𝓤) there) $ move ! (1 ∷ 0 ∷ []) $ join ! $
     nothing ! $ nothing ! $ fjoin ! $ nothing ! $ fjoin ! $ nothing ! $ fjoin ! $
-    move ! (2 ∷ 0 ∷ 3 ∷ 1 ∷ []) $ by ! (leaves 𝓛 En hs c y v r (tt, (tt, (tt, tt))) (tt, (tt, (tt, tt)))))))))))
+    move ! (2 ∷ 0 ∷ 3 ∷ 1 ∷ []) $ by ! (leaves 𝓛 En hs c y v r (tt, (tt, (tt, tt))) (tt, (tt, (tt, tt))))))))))))

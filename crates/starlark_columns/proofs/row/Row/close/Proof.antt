@@ -5,16 +5,16 @@ use Rattle.starlark_columns.specs.Owned.{row_owned}
 use Rattle.starlark_columns.specs.Slotted.{places_of, emptied}
 use Rattle.starlark_columns.proofs.Memory.{Row, of_slots, empties_run, places_count, emptied_count}
 use Rattle.starlark_columns.proofs.RowCalls.{Breaks, at_breaks, breaks_asks, breaks_gives, row_told, row_good, parts_typed}
-use Rattle.starlark_columns.specs.contracts.block.Held as held
-use Rattle.starlark_columns.specs.contracts.block.Held.close.{ended, clauses}
-use Rattle.starlark_columns.specs.contracts.block.Held.close.Key as key
-use Rattle.starlark_columns.proofs.block.Held.close.Statement.{statement}
-use Rattle.starlark_columns.proofs.block.Held.close.Code as code
+use Rattle.starlark_columns.specs.contracts.row.Row as row
+use Rattle.starlark_columns.specs.contracts.row.Row.close.{ended, clauses}
+use Rattle.starlark_columns.specs.contracts.row.Row.close.Key as key
+use Rattle.starlark_columns.proofs.row.Row.close.Statement.{statement}
+use Rattle.starlark_columns.proofs.row.Row.close.Code as code
 
 pub close_spec : {M : Type 1} → statement M
 close_spec 𝓤 𝓛 𝓜 𝓡 wired X L =
     let H = 𝓛.H in let 𝓣 = tables 𝓤 H 𝓜 𝓡 𝓡.env in let En = ended X in let E : El = record { row = X; laws = L } in let inst = layouts (a_type ∷ []) (X, tt) in let fn = inst_fn inst code.function in
-    let c = clauses X 𝓛 𝓜.mem 𝓡.returns in let Own = held.the_row (R E) in let Slot : RattleType = Sr E in
+    let c = clauses X 𝓛 𝓜.mem 𝓡.returns in let Own = row.the_row (R E) in let Slot : RattleType = Sr E in
     let met = callee.met 𝓤 𝓛 𝓜 𝓡 (code.calls-core::slots::Slots::into_raw_parts 𝓡.env wired) X L in
     let hs : Stays En.signature.params En.kept = (stay_ref (0 ∷ []) tt (plain (λ _. Own)), (stay_dropped (plain (λ _. Slot)) no, (stay_dropped (plain (λ _. usize)) yes, (stay_dropped (plain (λ _. usize)) yes, tt)))) in
     proved 𝓛 En hs c 𝓜 𝓡 (Goes-ref 𝓛 2 0 tt (plain (λ _. Own)), (Goes-dropped 𝓛 2 (plain (λ _. Slot)) no (λ κs x f. refl), (Goes-dropped 𝓛 2 (plain (λ _. usize)) yes (λ κs x f. refl), (Goes-dropped 𝓛 2 (plain (λ _. usize)) yes (λ κs x f. refl), tt))))

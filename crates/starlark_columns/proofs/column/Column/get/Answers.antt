@@ -1,7 +1,0 @@
-use Rattle.std.proofs.Common.{subst, sym}
-use Rattle.starlark_columns.specs.Places.{IsFilled}
-use Rattle.starlark_columns.proofs.Slotting.{one_filled}
-use Rattle.starlark_columns.proofs.column.Column.get.Goals as goal
-
-pub slice-requires : goal.slice-requires
-slice-requires g c = (sym c.self.invariant.0, one_filled c.self.inside.held.places c.args.index (subst (λ v. IsFilled v c.args.index) (sym c.self.view_is) c.requires))
