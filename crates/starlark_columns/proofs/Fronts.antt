@@ -125,7 +125,7 @@ module _ {X : Type 0} where
     abbrev left : ℕ
     left = length cs - n
 
-    row_is : cs ≡ row (items_of cs) left
+    pub row_is : cs ≡ row (items_of cs) left
     row_is = let r = shape_is cs n left front.form in r.1 ∙ ap (λ l. row l left) (sym (ap items_of r.1 ∙ items_row r.0 left))
 
     long : length (map Some (items_of cs)) ≡ n
@@ -154,11 +154,6 @@ module _ {X : Type 0} where
 
     refilled : (ws : List X) → length (refill (length (items_of cs)) (items_of cs) ws) ≡ n
     refilled ws = sym (length_refill (length (items_of cs)) (items_of cs) ws refl) ∙ front.count
-
-    pub front_written : (ws : List X) → map Some (refill (n - 0) (items_of (slice_range cs 0 n)) ws) ++ drop n cs ≡ with_items cs ws
-    front_written ws = let same : n - 0 ≡ length (items_of cs) = omega (arith, front.count) in let old : items_of (slice_range cs 0 n) ≡ items_of cs = ap items_of front_range ∙ items_back (items_of cs) in
-        let places : left ≡ length cs - length (refill (length (items_of cs)) (items_of cs) ws) = omega (arith, refilled ws) in
-        (λ j. map Some (refill (same j) (old j) ws) ++ (front_rest ∙ ap (λ (k : ℕ). empties {X = X} k) places) j)
 
     -- after a `&mut` to all items has ended
     pub written_front : (ws : List X) → IsFront (with_items cs ws) n

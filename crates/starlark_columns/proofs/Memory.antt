@@ -108,12 +108,12 @@ module _ (E : El) {M : Type 1} {𝓤 : Ura M} (𝓛 : Logic 𝓤) (b : ℕ) wher
     run_seen cs from to o xs ordered within e = let at = from * s + o in qed 𝓛 (‵ (Seen o cs) ∷ []) ∵ use1 𝓛 (‵ (Seen at (drop from cs))) (past from o at cs (omega (arith, ordered, within)) refl) $
         rewrite ! 0 (λ (l : List (Option (el_x E))). ‵ (Seen at l)) (drop_split cs from to ordered ∙ ap (λ l. l ++ drop to cs) e) refl $ by ! (front xs (drop to cs) at)
 
-  cut : (cs ds : List (Option (el_x E))) (o at : ℕ) → at ≡ length cs * s + o → ent 𝓤 (sem 𝓛 (Row o (cs ++ ds))) (sep 𝓤 (sem 𝓛 (Row o cs)) (sem 𝓛 (Row at ds)))
+  pub cut : (cs ds : List (Option (el_x E))) (o at : ℕ) → at ≡ length cs * s + o → ent 𝓤 (sem 𝓛 (Row o (cs ++ ds))) (sep 𝓤 (sem 𝓛 (Row o cs)) (sem 𝓛 (Row at ds)))
   cut [] ds o at e = qed 𝓛 (‵ (Row o ds) ∷ []) ∵ rewrite ! 0 (λ (k : ℕ). ‵ (Row k ds)) {x = at} (let same : o ≡ at = omega (arith, e, zero-mul s) in same) refl $ nothing ! $ done !
   cut (c ∷ cs) ds o at e = let more : at ≡ suc (length cs) * s + o = e in qed 𝓛 (‵ (Row o (c ∷ (cs ++ ds))) ∷ []) ∵ fsplit ! $ move ! (1 ∷ []) $
       use1 𝓛 (‵ (Row (o + s) cs) ⊛ ‵ (Row at ds)) (cut cs ds (o + s) at (omega (arith, more, suc-mul (length cs) s))) $ split ! $ move ! (2 ∷ 0 ∷ []) $ fjoin ! $ done !
 
-  glue : (cs ds : List (Option (el_x E))) (o at : ℕ) → at ≡ length cs * s + o → ent 𝓤 (sep 𝓤 (sem 𝓛 (Row o cs)) (sem 𝓛 (Row at ds))) (sem 𝓛 (Row o (cs ++ ds)))
+  pub glue : (cs ds : List (Option (el_x E))) (o at : ℕ) → at ≡ length cs * s + o → ent 𝓤 (sep 𝓤 (sem 𝓛 (Row o cs)) (sem 𝓛 (Row at ds))) (sem 𝓛 (Row o (cs ++ ds)))
   glue [] ds o at e = qed 𝓛 (‵ ftrue ∷ ‵ (Row at ds) ∷ []) ∵ keep ! (1 ∷ []) $ rewrite ! 0 (λ (k : ℕ). ‵ (Row k ds)) {x = o} (let same : at ≡ o = omega (arith, e, zero-mul s) in same) refl $ done !
   glue (c ∷ cs) ds o at e = let more : at ≡ suc (length cs) * s + o = e in qed 𝓛 (‵ (Row o (c ∷ cs)) ∷ ‵ (Row at ds) ∷ []) ∵ fsplit ! $ move ! (1 ∷ 2 ∷ []) $
       use2 𝓛 (‵ (Row (o + s) (cs ++ ds))) (glue cs ds (o + s) at (omega (arith, more, suc-mul (length cs) s))) $ move ! (1 ∷ 0 ∷ []) $ fjoin ! $ done !

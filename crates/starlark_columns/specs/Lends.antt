@@ -1,8 +1,6 @@
 -- What a `Row` ends as, once a `&mut` into it has ended.
-use Rattle.std.specs.Prelude.{ℕ, ◌-◌, List, map, slice_range, slice_set, Option, Some}
+use Rattle.std.specs.Prelude.{ℕ, List, slice_set, Option, Some}
 use Rattle.std.specs.Borrow.{Fml, RattleType, MutBor, Array, Lends}
-use Rattle.std.specs.List.{refill}
-use Rattle.starlark_columns.specs.Places.{with_range, items_of}
 use Rattle.starlark_columns.specs.Front.{with_items}
 use Rattle.starlark_columns.specs.declared.row.Row.{Row}
 use Rattle.starlark_columns.specs.contracts.row.Row.{the_row}
@@ -11,14 +9,6 @@ module _ {X : Type 0} where
   -- the same row with these places
   abbrev pub with_places : Row X → List (Option X) → Row X
   with_places r cs = record { mark = r.mark; at = r.at; places = cs }
-
-  -- the places from `from` up to `to` hold ws, of which as many count as they held before
-  abbrev pub rewritten : List (Option X) → ℕ → ℕ → List X → List (Option X)
-  rewritten cs from to ws = with_range cs from to (map Some (refill (to - from) (items_of (slice_range cs from to)) ws))
-
--- the row ends as `rewritten` with what was left behind a `&mut` to the items of the places from `from` up to `to`
-abbrev pub lends_items : (R : RattleType) → MutBor (Row R.Denot) → ℕ → ℕ → MutBor (List R.Denot) → Fml
-lends_items R s from to r = Lends (the_row R) (Array R 0) s r (λ ws. with_places s.now (rewritten s.now.places from to ws))
 
 -- the row ends with what was left behind a `&mut` to the item of one place
 abbrev pub lends_item : (R : RattleType) → MutBor (Row R.Denot) → ℕ → MutBor R.Denot → Fml

@@ -9,6 +9,7 @@ ghost use Rattle.starlark_columns.specs.Front.{IsFront};
 use crate::block::{Address, Spot};
 use crate::row::Row;
 use std::alloc::AllocError;
+use std::slice;
 
 impl<T> Row<T> {
     ghost use Rattle.starlark_columns.specs.Lends.{lends_front, lends_item};
@@ -31,7 +32,7 @@ impl<T> Row<T> {
         ensures* writes_back { sem 𝓛 (lends_front T.row self.entry result) }
         ensures value { result.now ≡ items_of self.old.places }
     {
-        self.slice_mut(address, 0, len)
+        unsafe { slice::from_raw_parts_mut(address.at.cast_mut(), len) }
     }
 
     /// The item at this index.

@@ -57,7 +57,7 @@ impl<T> Row<T> {
 
 impl<T> Row<T> {
     ghost use Rattle.starlark_columns.specs.Block.{LiesAt};
-    ghost use Rattle.starlark_columns.specs.Lends.{lends_item, lends_items};
+    ghost use Rattle.starlark_columns.specs.Lends.{lends_item};
 
     /// Puts an item in an empty place.
     #[inline]
@@ -117,18 +117,6 @@ impl<T> Row<T> {
         ensures { slice_range self.now.places from to ≡ map Some result.now }
     {
         unsafe { slice::from_raw_parts(address.at.add(from), to - from) }
-    }
-
-    /// The items from place `from` up to place `to`, which are all there, to be written. The places end with what is
-    /// left in them, and all else stays.
-    #[inline]
-    pub fn slice_mut(&mut self, address: Address<T>, from: usize, to: usize) -> &mut [T]
-        requires at { address.at ≡ self.old.at }
-        requires filled { AreFilled self.old.places from to }
-        ensures* writes_back { sem 𝓛 (lends_items T.row self.entry from to result) }
-        ensures value { slice_range self.old.places from to ≡ map Some result.now }
-    {
-        unsafe { slice::from_raw_parts_mut(address.at.cast_mut().add(from), to - from) }
     }
 
     /// Moves the items from place `from` up to place `end` down, to the places from `to` on, in their order. The places
