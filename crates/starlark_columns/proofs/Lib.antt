@@ -9,7 +9,6 @@ mod Slotting
 mod LentPlaces
 mod ColumnOpens
 mod PairParts
-mod PerhapsThere
 mod EntryOut
 mod ByteRows
 pub mod Fronts

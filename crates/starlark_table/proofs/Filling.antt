@@ -39,25 +39,6 @@ module _ {T : Type 0} where
   more_left (o ∷ slots) zero some = omega arith
   more_left (o ∷ slots) (suc p) some = let rest = more_left slots p some in omega arith
 
-  past_empty : (slots : List (Option (ℕ × T))) (p : ℕ) → at slots p ≡ None → filled (drop p slots) ≡ filled (drop (suc p) slots)
-  past_empty [] zero none = refl
-  past_empty [] (suc p) none = refl
-  past_empty (None ∷ slots) zero none = refl
-  past_empty (Some m ∷ slots) zero none = absurd (cc)
-  past_empty (o ∷ slots) (suc p) none = past_empty slots p none
-
-  -- an empty place adds no member
-  pub filled-past_empty : (slots : List (Option (ℕ × T))) (p : ℕ) → at slots p ≡ None → filled (drop p slots) ≡ filled (drop (p + 1) slots)
-  filled-past_empty slots p none = past_empty slots p none ∙ ap (λ n. filled (drop n slots)) (sym (add-one p))
-
-  -- one more place that is empty
-  pub empty-one_more : (slots : List (Option (ℕ × T))) (from end : ℕ) → ((p : ℕ) → from ≤ p → p < end → at slots p ≡ None)
-      → at slots end ≡ None → (p : ℕ) → from ≤ p → p < end + 1 → at slots p ≡ None
-  empty-one_more slots from end before here p low high = elim (cases_order p end) [
-    | inl is ↦ ap (at slots) is ∙ here
-    | inr apart ↦ before p low (let ne = apart-by_order p end apart in omega (arith, ne))
-  ]
-
   -- places in front that are empty add no member
   pub filled-past_front : (slots : List (Option (ℕ × T))) (n : ℕ) → ((p : ℕ) → p < n → at slots p ≡ None)
       → filled slots ≡ filled (drop n slots)
