@@ -70,7 +70,7 @@ impl<T: Eq> SmallSet<T> {
         ensures taken { result ≡ option_map (λ e. e.0) (slice_get self.old.entries i) }
         ensures takes { TakesElementAt T.eq i self.old self.new (option_map key_of result) }
     {
-        let _entries = self.map.iter_hashed();
+        prove!(self.map.iter_hashed().len() == self.map.len());
         let (element, ()) = self.map.shift_remove_index_hashed(i)?;
         Some(element)
     }

@@ -45,10 +45,11 @@ impl<T: Eq> SmallSet<T> {
 }
 
 impl<T: Eq + Drop> SmallSet<T> {
-    /// The elements by value, in order of insertion, each under its hash.
+    /// The elements by value, in order of insertion, each under its hash. No two have the same hash and are equal.
     #[inline]
     pub fn into_iter_hashed(self) -> IntoIterHashed<T>
         ensures elements { result ≡ keys_of self.entries }
+        ensures single { IsSingle T.eq self.entries }
         ensures runs { GivesEach self.entries result (Under T) }
     {
         let SmallSet { map, alloc: _alloc } = self;

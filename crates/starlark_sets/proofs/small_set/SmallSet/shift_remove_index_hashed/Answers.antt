@@ -11,4 +11,4 @@ returns-in_err-element-clause-unchanged g c =
 pub returns-clause-updates : goal.returns-clause-updates
 returns-clause-updates g c =
     rw (← c.self.view_is)
-    (writes-key g.T.PartialEq.eq g.met.T.Eq.laws c.self.inside.map.entries c.shift_remove_index_hashed.new.self.entries c.args.i c.in_ok-element.element c.iter_hashed-entries.ensures.single (first_of (search rules, grind (arith, common_steps))) c.shift_remove_index_hashed.ensures.takes.removes.entries)
+    (writes-key g.T.PartialEq.eq g.met.T.Eq.laws c.self.inside.map.entries c.shift_remove_index_hashed.new.self.entries c.args.i c.in_ok-element.element c.iter_hashed.ensures.single (first_of (search rules, grind (arith, common_steps))) c.shift_remove_index_hashed.ensures.takes.removes.entries)
