@@ -5,12 +5,10 @@ pub mod fault;
 pub mod in_turn;
 pub mod line;
 pub mod output;
-pub mod puts_out;
 pub mod window;
 
 pub use fault::PlayFault;
 pub use in_turn::{PromptReader, SharedWriter};
 pub use line::{Line, read_line, texts_are_of_one};
 pub use output::{write_line, write_text};
-pub use puts_out::PutsOut;
 pub use window::{Found, Window};

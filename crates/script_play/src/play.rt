@@ -4,10 +4,10 @@ ghost use Rattle.std.specs.Io.KnownBytes.{Keeps, IsAtEnd};
 ghost use Rattle.script_play.specs.Script.{IsPlayed, StopsAtBadLine, StopsForMemory};
 
 use crate::answer::answer;
-use script_lines::{Found, PlayFault, PutsOut, Window, read_line};
+use script_lines::{Found, PlayFault, Window, read_line};
 use starlark_small::SmallMap;
 use std::alloc::Global;
-use std::io::Read;
+use std::io::{Read, Write};
 
 /// Plays the script that the reader holds, on a map that begins empty: does what each line asks for, and writes its
 /// reply before the next line is taken. The writer is flushed at the end of the script, behind the last reply, and only
@@ -17,14 +17,13 @@ use std::io::Read;
 /// others. `BadLine` has the number of the line, counted from 1. Memory is refused only to a new key, to a sort of keys
 /// that do not ascend, and to a reservation of more than 0; whether a line is bad is settled before memory is asked
 /// for. What was written before a read, a write or the flush failed is not said.
-pub fn play<R: Read, W: PutsOut>(
+pub fn play<R: Read, W: Write>(
     alloc: Global,
     reader: &mut R,
     writer: &mut W,
 ) -> Result<(), PlayFault>
     ensures ok { OnOk result (IfSome (R.remaining reader.old) (IsPlayed (W.contents writer.old) (W.contents writer.new))) }
     ensures end { OnOk result (IsAtEnd (R.remaining reader.new)) }
-    ensures flushed { OnOk result (Keeps (W.out writer.new) (W.contents writer.new)) }
     ensures bad_line { (n : ℕ) → result ≡ Err (PlayFault.BadLine n) → IfSome (R.remaining reader.old) (StopsAtBadLine (W.contents writer.old) (W.contents writer.new) n) }
     ensures memory { result ≡ Err PlayFault.Memory → IfSome (R.remaining reader.old) (StopsForMemory (W.contents writer.old) (W.contents writer.new)) }
 {
@@ -46,12 +45,11 @@ pub fn play<R: Read, W: PutsOut>(
     Err(PlayFault::Io)
 }
 
-fn finish<W: PutsOut>(writer: &mut W) -> Result<(), PlayFault>
+fn finish<W: Write>(writer: &mut W) -> Result<(), PlayFault>
     ensures ok { OnOk result (Keeps (W.contents writer.old) (W.contents writer.new)) }
-    ensures flushed { OnOk result (Keeps (W.out writer.new) (W.contents writer.new)) }
     ensures err { IfErr result (λ fault. fault ≡ PlayFault.Io) }
 {
-    match writer.put_out() {
+    match writer.flush() {
         Ok(()) => Ok(()),
         Err(_) => Err(PlayFault::Io),
     }

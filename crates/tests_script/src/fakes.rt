@@ -1,14 +1,16 @@
-//! Readers and writers that take or give little a call, and fail at one call.
+//! Readers and writers that take or give little a call, and fail at one call. The calls after it go on, so that a call
+//! that is made again after a failure shows.
 
 use std::alloc::Global;
 use std::cell::RefCell;
 use std::io;
 use std::io::{ErrorKind, Read, Write};
 
-/// Gives at most so many bytes a call, and fails at one call.
+/// Gives at most so many bytes a call. One call fails, and takes nothing.
 #[derive(Drop)]
 pub struct Pieces<'a> {
-    rest: &'a [u8],
+    /// The bytes that no call has taken.
+    pub rest: &'a [u8],
     most: usize,
     fails_after: usize,
     kind: ErrorKind,
@@ -17,6 +19,7 @@ pub struct Pieces<'a> {
 impl Read for Pieces<'_> {
     fn read(&mut self, buf: &mut [u8]) -> io::Result<usize> {
         if self.fails_after == 0 {
+            self.fails_after = NEVER;
             return Err(io::Error::from(self.kind));
         }
         self.fails_after -= 1;
@@ -27,7 +30,7 @@ impl Read for Pieces<'_> {
     }
 }
 
-/// Takes one byte a call, fails at one call, and counts the flushes.
+/// Takes one byte a call, and counts the flushes. One write fails, and one flush where `flush_fails`.
 #[derive(Drop)]
 pub struct Narrow {
     /// The bytes taken.
@@ -42,6 +45,7 @@ pub struct Narrow {
 impl Write for Narrow {
     fn write(&mut self, buf: &[u8]) -> io::Result<usize> {
         if self.fails_after == 0 {
+            self.fails_after = NEVER;
             return Err(io::Error::from(self.kind));
         }
         self.fails_after -= 1;
@@ -53,6 +57,7 @@ impl Write for Narrow {
     fn flush(&mut self) -> io::Result<()> {
         self.flushes = self.flushes.saturating_add(1);
         if self.flush_fails {
+            self.flush_fails = false;
             return Err(io::Error::from(self.kind));
         }
         Ok(())
@@ -113,7 +118,7 @@ impl Read for Asked<'_> {
 /// A failure that no script reaches.
 pub const NEVER: usize = usize::MAX;
 
-/// A reader of the script, so many bytes a call, that fails after so many calls.
+/// A reader of the script, `most` bytes a call at most, whose call after `fails_after` calls fails.
 pub fn bytes_in_pieces(
     script: &str,
     most: usize,
@@ -128,7 +133,7 @@ pub fn bytes_in_pieces(
     }
 }
 
-/// A writer that fails after so many calls, and at a flush where `flush_fails`.
+/// A writer whose write after `fails_after` writes fails, and its first flush where `flush_fails`.
 pub fn narrow_writer(
     alloc: Global,
     fails_after: usize,

@@ -10,7 +10,8 @@ use std::test::Fail;
 
 const KINDS: [ErrorKind; 2] = [ErrorKind::Other, ErrorKind::Interrupted];
 
-// Each reply goes out before the next line is read, whatever fails then.
+// Each reply is written before the next line is read. A read that fails ends the script: nothing is read or written
+// after it.
 #[test]
 fn failing_reads(rt: HostRuntime) -> Result<(), Fail> {
     let script = "len\nlen\nlen\nlen\n";
@@ -26,6 +27,10 @@ fn failing_reads(rt: HostRuntime) -> Result<(), Fail> {
                 &rt,
                 out.as_slice() == "0\n0\n0\n0\n".as_bytes().get(..2 * calls).unwrap_or(&[]),
             );
+            holds(
+                &rt,
+                reader.rest == script.as_bytes().get(4 * calls..).unwrap_or(&[]),
+            );
         }
         let mut out = Vec::new(rt.alloc());
         let mut reader = bytes_in_pieces(script, 4, 5, kind);
@@ -34,6 +39,7 @@ fn failing_reads(rt: HostRuntime) -> Result<(), Fail> {
     Ok(())
 }
 
+// A write or a flush that fails ends the script: nothing is written or flushed after it.
 #[test]
 fn failing_writes(rt: HostRuntime) -> Result<(), Fail> {
     let script = "put 1 a 10\nget 1 a\nlen\nwalk\n";
@@ -56,6 +62,7 @@ fn failing_writes(rt: HostRuntime) -> Result<(), Fail> {
             play(rt.alloc(), &mut reader, &mut writer) == Err(PlayFault::Io),
         );
         holds(&rt, writer.taken.as_slice() == replies.as_bytes());
+        holds(&rt, writer.flushes == 1);
     }
     let mut reader = script.as_bytes();
     holds(
@@ -67,7 +74,14 @@ fn failing_writes(rt: HostRuntime) -> Result<(), Fail> {
 
 #[test]
 fn flushes_at_the_end_alone(rt: HostRuntime) -> Result<(), Fail> {
-    for (script, flushes) in [("len\nlen\n", 1), ("", 1), ("len\nx\n", 0)] {
+    let scripts = [
+        ("", 1),
+        ("put 1 a 1\nput 1 a 2\nget 1 a\nat 0\nlen\nwalk\n", 1),
+        ("rev\nsort\nreserve 1\nslim\nclear\n", 1),
+        ("put 1 a 1\nput 2 b 2\nrev\nsort\npop\ndel 1 a\n", 1),
+        ("rev\nlen\nx\n", 0),
+    ];
+    for (script, flushes) in scripts {
         let mut writer = narrow_writer(rt.alloc(), NEVER, ErrorKind::Other, false);
         let mut reader = script.as_bytes();
         let _ = play(rt.alloc(), &mut reader, &mut writer);
