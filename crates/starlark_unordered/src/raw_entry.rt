@@ -16,8 +16,7 @@ use starlark_hash::{Equivalent, Hashed, KeyQuery, NoRoom, StarlarkHashValue};
 use std::hash::Hash;
 use std::mem;
 
-/// A map whose place is still to be named.
-#[derive(Drop)]
+/// A map whose place is still to be named. Let go, it leaves the map as it was.
 pub struct RawEntryBuilderMut<'a, K: Eq + Hash, V> {
     map: &'a mut UnorderedMap<K, V>,
 }
@@ -39,10 +38,27 @@ pub struct RawOccupiedEntryMut<'a, K: Eq + Hash, V> {
     ghost there: { is_some (item_in map.now slot) ≡ true },
 }
 
-/// A map in which no pair was found.
-#[derive(Drop)]
+/// A map in which no pair was found. Let go, it leaves the map as it was.
 pub struct RawVacantEntryMut<'a, K: Eq + Hash, V> {
     map: &'a mut UnorderedMap<K, V>,
+}
+
+impl<K: Eq + Hash, V> Drop for RawEntryBuilderMut<'_, K, V> {
+    // The map ends as it was.
+    fn drop(self)
+        ensures { self.exit.0.now ≡ self.entry.map.now }
+    {
+        let RawEntryBuilderMut { map: _map } = self;
+    }
+}
+
+impl<K: Eq + Hash, V> Drop for RawVacantEntryMut<'_, K, V> {
+    // The map ends as it was.
+    fn drop(self)
+        ensures { self.exit.0.now ≡ self.entry.map.now }
+    {
+        let RawVacantEntryMut { map: _map } = self;
+    }
 }
 
 impl<K: Eq + Hash, V> UnorderedMap<K, V> {
@@ -67,7 +83,7 @@ impl<'a, K: Eq + Hash, V> RawEntryBuilderMut<'a, K, V> {
         ensures place { IsRawPlaceOf K.eq (Q.equivalent query.now) self.entry.map.now result }
         ensures names { NamesSlot (Q.equivalent query.now) self.entry.map (map_of_raw result) (slot_of_raw result) }
     {
-        let map = self.map;
+        let RawEntryBuilderMut { map } = self;
         match map.slot_under(StarlarkHashValue::new(query), query) {
             Some(slot) => RawEntryMut::Occupied(RawOccupiedEntryMut { map, slot }),
             None => RawEntryMut::Vacant(RawVacantEntryMut { map }),
@@ -80,7 +96,7 @@ impl<'a, K: Eq + Hash, V> RawEntryBuilderMut<'a, K, V> {
     pub fn from_key_hashed<Q: Equivalent<K>>(self, key: Hashed<&Q>) -> RawEntryMut<'a, K, V>
         ensures names { NamesSlot (under_own K.hash_input (hash_of key.entry) (Q.equivalent (key_of key.entry).now)) self.entry.map (map_of_raw result) (slot_of_raw result) }
     {
-        let map = self.map;
+        let RawEntryBuilderMut { map } = self;
         match map.slot_hashed(key.hash(), *key.key()) {
             Some(slot) => RawEntryMut::Occupied(RawOccupiedEntryMut { map, slot }),
             None => RawEntryMut::Vacant(RawVacantEntryMut { map }),
@@ -99,7 +115,7 @@ impl<'a, K: Eq + Hash, V> RawEntryBuilderMut<'a, K, V> {
         requires { CanSearch F.FnMut (keys_under K.hash_input hash self.map.now) is_match }
         ensures names { NamesAccepted F.FnMut K.hash_input hash is_match self.entry.map (map_of_raw result) (slot_of_raw result) }
     {
-        let map = self.map;
+        let RawEntryBuilderMut { map } = self;
         match map.slot_accepted(hash, is_match) {
             Some(slot) => RawEntryMut::Occupied(RawOccupiedEntryMut { map, slot }),
             None => RawEntryMut::Vacant(RawVacantEntryMut { map }),
@@ -203,7 +219,7 @@ impl<'a, K: Eq + Hash, V> RawVacantEntryMut<'a, K, V> {
         requires { lookup (K.eq key) (pairs_of self.map.now) ≡ None }
         ensures { PlacesPair self.entry.map result.0 key value (key, value) result.1 }
     {
-        let map = self.map;
+        let RawVacantEntryMut { map } = self;
         let hash = StarlarkHashValue::new(&key);
         let placed = map.insert_new(hash, key, value);
         (map, placed)
@@ -222,7 +238,7 @@ impl<'a, K: Eq + Hash, V> RawVacantEntryMut<'a, K, V> {
         requires absent { lookup (K.eq (key_of key)) (pairs_of self.map.now) ≡ None }
         ensures { PlacesPair self.entry.map result.0 (key_of key) value (key, value) result.1 }
     {
-        let map = self.map;
+        let RawVacantEntryMut { map } = self;
         let hash = key.hash();
         let placed = match map.insert_new(hash, key.into_key(), value) {
             Ok(slot) => Ok(slot),

@@ -16,8 +16,7 @@ use crate::unordered_map::UnorderedMap;
 use starlark_hash::{Equivalent, Hashed, KeyQuery, NoRoom, StarlarkHashValue};
 use std::hash::Hash;
 
-/// A set whose place is still to be named.
-#[derive(Drop)]
+/// A set whose place is still to be named. Let go, it leaves the set as it was.
 pub struct RawEntryBuilderMut<'a, T: Eq + Hash> {
     map: &'a mut UnorderedMap<T, ()>,
 }
@@ -39,10 +38,27 @@ pub struct RawOccupiedEntryMut<'a, T: Eq + Hash> {
     ghost there: { is_some (item_in map.now slot) ≡ true },
 }
 
-/// A set in which no element was found.
-#[derive(Drop)]
+/// A set in which no element was found. Let go, it leaves the set as it was.
 pub struct RawVacantEntryMut<'a, T: Eq + Hash> {
     map: &'a mut UnorderedMap<T, ()>,
+}
+
+impl<T: Eq + Hash> Drop for RawEntryBuilderMut<'_, T> {
+    // The set ends as it was.
+    fn drop(self)
+        ensures { self.exit.0.now ≡ self.entry.map.now }
+    {
+        let RawEntryBuilderMut { map: _map } = self;
+    }
+}
+
+impl<T: Eq + Hash> Drop for RawVacantEntryMut<'_, T> {
+    // The set ends as it was.
+    fn drop(self)
+        ensures { self.exit.0.now ≡ self.entry.map.now }
+    {
+        let RawVacantEntryMut { map: _map } = self;
+    }
 }
 
 impl<T: Eq + Hash> UnorderedSet<T> {
@@ -66,7 +82,7 @@ impl<'a, T: Eq + Hash> RawEntryBuilderMut<'a, T> {
     pub fn from_entry<Q: KeyQuery<T>>(self, query: &Q) -> RawEntryMut<'a, T>
         ensures names { NamesSlot (Q.equivalent query.now) self.entry.map (set_of_raw result) (slot_of_raw result) }
     {
-        let map = self.map;
+        let RawEntryBuilderMut { map } = self;
         match map.slot_under(StarlarkHashValue::new(query), query) {
             Some(slot) => RawEntryMut::Occupied(RawOccupiedEntryMut { map, slot }),
             None => RawEntryMut::Vacant(RawVacantEntryMut { map }),
@@ -79,7 +95,7 @@ impl<'a, T: Eq + Hash> RawEntryBuilderMut<'a, T> {
     pub fn from_entry_hashed<Q: Equivalent<T>>(self, element: Hashed<&Q>) -> RawEntryMut<'a, T>
         ensures names { NamesSlot (under_own T.hash_input (hash_of element.entry) (Q.equivalent (key_of element.entry).now)) self.entry.map (set_of_raw result) (slot_of_raw result) }
     {
-        let map = self.map;
+        let RawEntryBuilderMut { map } = self;
         match map.slot_hashed(element.hash(), *element.key()) {
             Some(slot) => RawEntryMut::Occupied(RawOccupiedEntryMut { map, slot }),
             None => RawEntryMut::Vacant(RawVacantEntryMut { map }),
@@ -98,7 +114,7 @@ impl<'a, T: Eq + Hash> RawEntryBuilderMut<'a, T> {
         requires { CanSearch F.FnMut (keys_under T.hash_input hash self.map.now) is_match }
         ensures names { NamesAccepted F.FnMut T.hash_input hash is_match self.entry.map (set_of_raw result) (slot_of_raw result) }
     {
-        let map = self.map;
+        let RawEntryBuilderMut { map } = self;
         match map.slot_accepted(hash, is_match) {
             Some(slot) => RawEntryMut::Occupied(RawOccupiedEntryMut { map, slot }),
             None => RawEntryMut::Vacant(RawVacantEntryMut { map }),
@@ -138,8 +154,9 @@ impl<T: Eq + Hash> RawVacantEntryMut<'_, T> {
         requires { lookup (T.eq element) (pairs_of self.map.now) ≡ None }
         ensures adds { Adds T.eq self.entry.map.now self.exit.0.now element tt element result }
     {
+        let RawVacantEntryMut { map } = self;
         let hash = StarlarkHashValue::new(&element);
-        match self.map.insert_new(hash, element, ()) {
+        match map.insert_new(hash, element, ()) {
             Ok(_) => Ok(()),
             Err(NoRoom((element, _))) => Err(NoRoom(element)),
         }
@@ -151,8 +168,9 @@ impl<T: Eq + Hash> RawVacantEntryMut<'_, T> {
         requires absent { lookup (T.eq (key_of element)) (pairs_of self.map.now) ≡ None }
         ensures adds { Adds T.eq self.entry.map.now self.exit.0.now (key_of element) tt element result }
     {
+        let RawVacantEntryMut { map } = self;
         let hash = element.hash();
-        match self.map.insert_new(hash, element.into_key(), ()) {
+        match map.insert_new(hash, element.into_key(), ()) {
             Ok(_) => Ok(()),
             Err(NoRoom((element, _))) => Err(NoRoom(Hashed::new_unchecked(hash, element))),
         }
