@@ -1,11 +1,11 @@
-pub mod Positions
-pub mod Transport
-mod Unhashed
-pub mod Keeping
-pub mod Moving
-pub mod Renaming
+pub mod Numbered
 pub mod Slots
-pub mod Emptying
+pub mod Kept
+pub mod Passes
+pub mod Transport
+pub mod KeySearch
+mod Unhashed
+pub mod Indexed
 pub mod Rooms
 pub mod Inserted
 pub mod LentInResult
@@ -17,7 +17,7 @@ pub mod Retained
 pub mod Growing
 pub mod Inserting
 pub mod EntryWritten
-pub mod Vacant
+pub mod NotedAtOnce
 pub mod CallerPositions
 pub mod CallerKeys
 pub mod CallerEntries

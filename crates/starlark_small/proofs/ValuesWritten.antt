@@ -1,13 +1,13 @@
 -- A map whose values were written keeps its keys, hashes and index.
-use Rattle.std.proofs.Common.{zero, suc, eqb, get_or, ◌≡◌, ℕ, ◌+◌, ◌<◌, ◌^◌, Bool, List, [], ◌∷◌, length, Option, Some, None, refl, sym, ap, subst, ◌∙◌, arith, IsPermutation}
+use Rattle.std.proofs.Common.{zero, suc, eqb, get_or, ◌≡◌, ℕ, ◌<◌, ◌^◌, Bool, List, [], ◌∷◌, length, Option, Some, None, refl, sym, ap, subst, ◌∙◌, arith}
 use Rattle.std.specs.Prelude.{◌&&◌}
 use Rattle.starlark_hash.specs.declared.hashed.Hashed.{Hashed}
 use Rattle.starlark_lists.specs.Entries.{Entry, IsSingle}
 use Rattle.starlark_hash.specs.HashValue.{promoted}
-use Rattle.starlark_table.specs.Table.{Table, members}
+use Rattle.starlark_small.specs.Hashes.{Hashes}
 use Rattle.starlark_vecmap.specs.EntryList.{with_values}
 use Rattle.starlark_vecmap.proofs.ValuesWritten.{length-with_values}
-use Rattle.starlark_small.specs.Index.{IsIndexOf, IsIndexed, IsSound, positions_from}
+use Rattle.starlark_small.specs.Index.{IsIndexOf, IsIndexed, IsSound, hashes_of}
 
 -- whether two keys are alike under their hashes
 abbrev clash : {K : Type 0} → (K → K → Bool) → Hashed K → Hashed K → Bool
@@ -26,20 +26,20 @@ module _ {K V : Type 0} where
       let there : j < length es = omega (arith, inside, length-with_values es ws) in
       ap (λ a. clash eq a (get_or (with_values es ws) j d).0) (with_values-key es ws i d) ∙ ap (λ a. clash eq (get_or es i d).0 a) (with_values-key es ws j d) ∙ single i j d below there
 
-  positions-with_values : (n : ℕ) (es ws : List (Entry K V)) → positions_from n (with_values es ws) ≡ positions_from n es
-  positions-with_values n [] ws = refl
-  positions-with_values n (e ∷ es) [] = ap (λ l. (promoted e.0.hash.0, n) ∷ l) (positions-with_values (n + 1) es [])
-  positions-with_values n (e ∷ es) (w ∷ ws) = ap (λ l. (promoted e.0.hash.0, n) ∷ l) (positions-with_values (n + 1) es ws)
+  hashes-with_values : (es ws : List (Entry K V)) → hashes_of (with_values es ws) ≡ hashes_of es
+  hashes-with_values [] ws = refl
+  hashes-with_values (e ∷ es) [] = ap (λ l. promoted e.0.hash.0 ∷ l) (hashes-with_values es [])
+  hashes-with_values (e ∷ es) (w ∷ ws) = ap (λ l. promoted e.0.hash.0 ∷ l) (hashes-with_values es ws)
 
-  IsIndexOf-with_values : (es ws : List (Entry K V)) (table : Table ℕ) → IsIndexOf es table → IsIndexOf (with_values es ws) table
-  IsIndexOf-with_values es ws table index = record {
-    bag = subst (λ l. IsPermutation l (members table)) (sym (positions-with_values 0 es ws)) index.bag;
+  IsIndexOf-with_values : (es ws : List (Entry K V)) (h : Hashes) → IsIndexOf es h → IsIndexOf (with_values es ws) h
+  IsIndexOf-with_values es ws h index = record {
+    list = index.list ∙ sym (hashes-with_values es ws);
     fits = λ k d below. subst (λ h. h.hash.0 < 2 ^ 32) (sym (with_values-key es ws k d)) (index.fits k d (omega (arith, length-with_values es ws)));
   }
 
-  IsIndexed-with_values : (es ws : List (Entry K V)) (index : Option (Table ℕ)) → IsIndexed es index → IsIndexed (with_values es ws) index
+  IsIndexed-with_values : (es ws : List (Entry K V)) (index : Option Hashes) → IsIndexed es index → IsIndexed (with_values es ws) index
   IsIndexed-with_values es ws None short = omega (arith, length-with_values es ws)
-  IsIndexed-with_values es ws (Some table) index = IsIndexOf-with_values es ws table index
+  IsIndexed-with_values es ws (Some h) index = IsIndexOf-with_values es ws h index
 
-  pub IsSound-with_values : (eq : K → K → Bool) (es ws : List (Entry K V)) (index : Option (Table ℕ)) → IsSound eq es index → IsSound eq (with_values es ws) index
+  pub IsSound-with_values : (eq : K → K → Bool) (es ws : List (Entry K V)) (index : Option Hashes) → IsSound eq es index → IsSound eq (with_values es ws) index
   IsSound-with_values eq es ws index sound = record { single = IsSingle-with_values eq es ws sound.single; indexed = IsIndexed-with_values es ws index sound.indexed }

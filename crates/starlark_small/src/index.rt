@@ -1,31 +1,250 @@
-//! The index of a list of entries: it alone sees the table of places. The list stands beside it, and is brought to each call.
-mod changes;
-mod growth;
-mod placed;
+//! The index of a list of entries: the hashes of the list, where it is too long to do without. The list stands beside it.
+ghost use Rattle.std.specs.Prelude.{◌≡◌, ℕ, ◌+◌, ◌-◌, ◌^◌, ◌<◌, ◌≤◌, [], List, None, IfSome, true, false, if◌then◌else◌, length, nat_le};
+ghost use Rattle.std.specs.Option.{option_map};
+ghost use Rattle.starlark_hash.specs.HashValue.{hash_number};
+ghost use Rattle.starlark_small.specs.Hashes.{cleared, forgotten, noted, reversed};
+ghost use Rattle.starlark_small.specs.Index.{IsIndexed, IsIndexedAt, index_room, unindexed};
+ghost use Rattle.starlark_small.specs.Indexing.{IsFilled, IsNotedIn, IsRenamed, MakesIndexFor, MakesIndexOf, ReservesAsItIs, ReservesIndex, ShowsTable};
+ghost use Rattle.starlark_vec2.specs.Moves.{Moves};
+
+mod hash_table;
 mod search;
 
-use placed::Placed;
+use hash_table::HashTable;
 use starlark_columns::Perhaps;
-use std::alloc::Global;
+use starlark_hash::StarlarkHashValue;
+use starlark_table::ReadyTable;
+use starlark_vecmap::VecMap;
+use std::alloc::{AllocError, Global};
 use std::marker::Model;
 
 /// The greatest length that a list may have without an index; a longer one always has one.
 pub const UNINDEXED: usize = 16;
 
-/// Where each entry of a list stands, by its hash; or nothing, where the list is short enough to do without. The table
-/// stands in a block of its own, so that a map takes no more room for it than a pointer.
+// Least capacity of an index that is made where a list grows: twice the threshold, so that the next few insertions do not make
+// it anew.
+const FIRST: usize = 2 * UNINDEXED;
+
+/// The hashes of a list's entries, each found by its index; or nothing, where the list is short enough to do without. The
+/// table stands in a block of its own, so that a map takes no more room for it than a pointer.
 #[derive(Drop)]
 pub(crate) struct Index {
-    table: Perhaps<Placed>,
+    table: Perhaps<HashTable>,
     // Where the table and its block get their memory.
     alloc: Global,
 }
 
 impl Model for Index {
-    ghost use Rattle.std.specs.Prelude.{Option, ℕ};
-    ghost use Rattle.starlark_table.specs.Table.{Table};
+    ghost use Rattle.std.specs.Prelude.{Option};
+    ghost use Rattle.starlark_small.specs.Hashes.{Hashes};
 
-    ghost Value = { Option (Table ℕ) };
+    ghost Value = { Option Hashes };
 
     ghost view = { λ i. i.table };
+}
+
+// Making it
+
+impl Index {
+    /// No index, as of a list that is short.
+    #[inline]
+    pub(crate) fn none(alloc: Global) -> Self
+        ensures { result ≡ None }
+    {
+        Index {
+            table: Perhaps::none(alloc),
+            alloc,
+        }
+    }
+
+    /// An index of an empty list, with room for this many entries, if a list of so many needs one.
+    pub(crate) fn with_capacity(alloc: Global, capacity: usize) -> Result<Self, AllocError>
+        ensures { MakesIndexFor capacity result }
+    {
+        if capacity <= UNINDEXED {
+            return Ok(Index::none(alloc));
+        }
+        let table = Perhaps::of(alloc, HashTable::with_capacity(alloc, capacity)?)?;
+        Ok(Index { table, alloc })
+    }
+
+    /// An index of another list, with room for all that the list has room for, if it is too long to do without.
+    pub(crate) fn of_other<K, V>(&self, entries: &VecMap<K, V>) -> Result<Self, AllocError>
+        ensures { MakesIndexOf entries.now.entries result }
+    {
+        if entries.len() <= UNINDEXED {
+            return Ok(Index::none(self.alloc));
+        }
+        let mut index = Index::with_capacity(self.alloc, entries.capacity())?;
+        index.note_all(entries);
+        Ok(index)
+    }
+
+    /// Makes room for this many new entries, for which the list has room.
+    pub(crate) fn reserve<K, V>(
+        &mut self,
+        entries: &VecMap<K, V>,
+        additional: usize,
+    ) -> Result<(), AllocError>
+        requires indexed { IsIndexed entries.now.entries self.old }
+        requires spare { length entries.now.entries + additional ≤ entries.now.capacity }
+        ensures { ReservesIndex entries.now.entries additional self.old self.new result }
+    {
+        let len = entries.len();
+        if self.reserve_as_it_is(len, additional)? {
+            return Ok(());
+        }
+        prove!(additional <= entries.capacity() - len);
+        let mut index = Index::with_capacity(self.alloc, (len + additional).max(FIRST))?;
+        index.note_all(entries);
+        *self = index;
+        Ok(())
+    }
+
+    // Makes that room unless it wants another index: false says so, and that nothing has changed.
+    fn reserve_as_it_is(&mut self, len: usize, additional: usize) -> Result<bool, AllocError>
+        requires { IsIndexedAt len self.old }
+        ensures { ReservesAsItIs len additional self.old self.new result }
+    {
+        match self.table.get_mut() {
+            Some(table) => table.reserve(self.alloc, additional),
+            None => Ok(additional <= UNINDEXED - len),
+        }
+    }
+
+    /// Lets the index go if the list is short enough to do without.
+    pub(crate) fn drop_if_short(&mut self, len: usize)
+        ensures { self.new ≡ (if nat_le len unindexed then None else self.old) }
+    {
+        if len <= UNINDEXED {
+            self.table = Perhaps::none(self.alloc);
+        }
+    }
+}
+
+// As the list changes
+
+impl Index {
+    /// Puts the hash of an entry that is to go last.
+    pub(crate) fn note(&mut self, hash: StarlarkHashValue)
+        requires { IfSome self.old (λ h. 0 < h.room) }
+        ensures fits { IfSome self.old (λ _. hash_number hash < 2 ^ 32) }
+        ensures noted { self.new ≡ option_map (noted hash) self.old }
+    {
+        if let Some(table) = self.table.get_mut() {
+            table.note(hash);
+        }
+    }
+
+    /// Puts the hash of an entry that is to go last, if the first look at the index shows that it is new, and both index and
+    /// list have room for it; else nothing changes. `spare` is the room of the list.
+    #[inline(always)]
+    pub(crate) fn note_new(&mut self, hash: StarlarkHashValue, spare: usize) -> bool
+        ensures noted { result ≡ true → IsNotedIn hash spare self.old self.new }
+        ensures unchanged { result ≡ false → self.new ≡ self.old }
+    {
+        match self.table.get_mut() {
+            Some(table) => spare > 0 && table.note_new(hash),
+            None => false,
+        }
+    }
+
+    /// Puts the hash of each entry of the list into an empty index that has room for them.
+    pub(crate) fn note_all<K, V>(&mut self, entries: &VecMap<K, V>)
+        requires { IfSome self.old (λ h. (h.list ≡ []) × (length entries.now.entries ≤ h.room)) }
+        ensures { IsFilled entries.now.entries self.old self.new }
+    {
+        let Some(table) = self.table.get_mut() else {
+            return;
+        };
+        for i in 0..entries.len() {
+            let hash = entries.get_unchecked(i).0.hash();
+            table.note(hash);
+        }
+    }
+
+    /// Takes out the hash of the entry at this index.
+    #[inline]
+    pub(crate) fn forget(&mut self, index: usize)
+        requires { IfSome self.old (λ h. index < length h.list) }
+        ensures { self.new ≡ option_map (forgotten index) self.old }
+    {
+        if let Some(table) = self.table.get_mut() {
+            table.forget(index);
+        }
+    }
+
+    /// Takes out the hash of the last entry.
+    #[inline]
+    pub(crate) fn forget_last(&mut self)
+        requires { IfSome self.old (λ h. 0 < length h.list) }
+        ensures { self.new ≡ option_map (λ h. forgotten (length h.list - 1) h) self.old }
+    {
+        if let Some(table) = self.table.get_mut() {
+            table.forget_last();
+        }
+    }
+
+    /// Takes every hash out.
+    pub(crate) fn clear(&mut self)
+        ensures { self.new ≡ option_map cleared self.old }
+    {
+        if let Some(table) = self.table.get_mut() {
+            table.clear();
+        }
+    }
+
+    /// Whether one pass over the slots costs less than taking each hash out and in again: there are only a few slots for each.
+    pub(crate) fn is_dense(&self) -> bool {
+        match self.table.get() {
+            Some(table) => table.room() / 8 <= table.len(),
+            None => false,
+        }
+    }
+
+    /// Puts each hash where `to` says that its entry goes.
+    pub(crate) fn rename(&mut self, to: &[u32])
+        requires { IfSome self.old (λ h. (list : List ℕ) × Moves h.list to.now list) }
+        ensures { IsRenamed to.now self.old self.new }
+    {
+        if let Some(table) = self.table.get_mut() {
+            table.rename(to);
+        }
+    }
+
+    /// Puts the hashes into reverse order.
+    pub(crate) fn reverse(&mut self)
+        ensures { self.new ≡ option_map reversed self.old }
+    {
+        if let Some(table) = self.table.get_mut() {
+            table.reverse();
+        }
+    }
+}
+
+// Reading it
+
+impl Index {
+    /// How many new entries surely need no memory for the index of a list of this length.
+    #[inline]
+    pub(crate) fn room(&self, len: usize) -> usize
+        requires { IsIndexedAt len self.now }
+        ensures { result ≡ index_room len self.now }
+    {
+        match self.table.get() {
+            Some(table) => table.room(),
+            None => UNINDEXED - len,
+        }
+    }
+
+    /// The table of the indices, where there is one.
+    #[inline]
+    pub(crate) fn table(&self) -> Option<&ReadyTable<u32, StarlarkHashValue>>
+        ensures { ShowsTable self.now result }
+    {
+        match self.table.get() {
+            Some(table) => Some(table.table()),
+            None => None,
+        }
+    }
 }

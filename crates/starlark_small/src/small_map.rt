@@ -59,7 +59,7 @@ impl<K: Eq, V> SmallMap<K, V> {
     pub fn with_capacity(alloc: Global, capacity: usize) -> Result<Self, AllocError>
         ensures { MakesEmptyFor capacity result }
     {
-        let index = Index::with_capacity::<K, V>(alloc, capacity)?;
+        let index = Index::with_capacity(alloc, capacity)?;
         let entries = VecMap::with_capacity(alloc, capacity)?;
         Ok(SmallMap { entries, index })
     }

@@ -1,18 +1,17 @@
-//! Searches through the index.
-ghost use Rattle.std.specs.Prelude.{◌≡◌, length, IfSome};
+//! Searches of a list through its index.
+ghost use Rattle.std.specs.Prelude.{◌≡◌, ◌<◌, Some, length, slice_get};
+ghost use Rattle.std.specs.Fn.{CalledAt, TakesAt};
 ghost use Rattle.starlark_lists.specs.Search.{CanSearch, Searches, keys_under};
-ghost use Rattle.std.specs.Option.{option_copied};
-ghost use Rattle.starlark_small.specs.Index.{IsIndexed, IsSound, index_room};
+ghost use Rattle.starlark_small.specs.Index.{IsIndexOf, IsIndexed, IsSound};
 ghost use Rattle.starlark_small.specs.Map.{query_match};
-ghost use Rattle.starlark_small.specs.Vacant.{IsVacantIn};
 
-use super::{Index, UNINDEXED};
+use super::Index;
+use super::hash_table::HashTable;
 use starlark_hash::{Equivalent, Hashed, StarlarkHashValue};
-use starlark_table::ReadyTable;
 use starlark_vecmap::VecMap;
 
 impl Index {
-    /// A place under the hash whose key `eq` accepts.
+    /// An index under the hash whose key `eq` accepts.
     #[inline(always)]
     pub(crate) fn find<K, V, F: FnMut(&K) -> bool>(
         &self,
@@ -25,12 +24,12 @@ impl Index {
         ensures { (last : F) × Searches F.FnMut (keys_under hash entries.now.entries) eq result last }
     {
         match self.table.get() {
-            Some(table) => table.find(entries, hash, eq),
+            Some(table) => find_in(table, entries, hash, eq),
             None => entries.get_index_of_hashed_raw(hash, eq),
         }
     }
 
-    /// The place of a single list under the query's hash whose key the query is equivalent to.
+    /// The index of a single list under the query's hash whose key the query is equivalent to.
     #[inline(always)]
     pub(crate) fn position_of<K: Eq, V, Q: Equivalent<K>>(
         &self,
@@ -41,45 +40,37 @@ impl Index {
         ensures { result ≡ query_match Q.equivalent entries.now.entries key.entry }
     {
         match self.table.get() {
-            Some(_) => {
+            Some(table) => {
                 let query = *key.key();
-                self.find(entries, key.hash(), |k: &K| query.equivalent(k))
+                find_in(table, entries, key.hash(), |k: &K| query.equivalent(k))
             }
             None => entries.get_index_of_hashed_among_few(key),
         }
     }
+}
 
-    /// A slot of the index for a new entry under this hash, where one look shows it, and that no entry is under the hash.
-    #[inline(always)]
-    pub(crate) fn vacancy(&self, hash: StarlarkHashValue) -> Option<usize>
-        ensures { IfSome result (λ slot. IsVacantIn hash self.now slot) }
-    {
-        match self.table.get() {
-            Some(table) => table.vacancy(hash),
-            None => None,
-        }
-    }
-
-    /// How many new entries surely need no memory for the index.
-    #[inline]
-    pub(crate) fn room<K, V>(&self, entries: &VecMap<K, V>) -> usize
-        requires { IsIndexed entries.now.entries self.now }
-        ensures { result ≡ index_room (length entries.now.entries) self.now }
-    {
-        match self.table.get() {
-            Some(table) => table.room(),
-            None => UNINDEXED - entries.len(),
-        }
-    }
-
-    /// The table of the places, where there is one.
-    #[inline]
-    pub(crate) fn table(&self) -> Option<&ReadyTable<u32, StarlarkHashValue>>
-        ensures { option_copied result ≡ self.now }
-    {
-        match self.table.get() {
-            Some(placed) => Some(placed.table()),
-            None => None,
-        }
-    }
+// An index under the hash whose key `eq` accepts.
+#[inline(always)]
+fn find_in<K, V, F: FnMut(&K) -> bool>(
+    table: &HashTable,
+    entries: &VecMap<K, V>,
+    hash: StarlarkHashValue,
+    mut eq: F,
+) -> Option<usize>
+    requires index { IsIndexOf entries.now.entries table.now }
+    requires callable { CanSearch F.FnMut (keys_under hash entries.now.entries) eq }
+    ensures { (last : F) × Searches F.FnMut (keys_under hash entries.now.entries) eq result last }
+{
+    // A hash is below 2^32, so no two have one promotion.
+    let _number = hash.get();
+    // Where the pairs lie is reckoned once, before the search.
+    let pairs = entries.pairs();
+    table.find(
+        hash,
+        |i: &u32| -> bool
+            requires within { i.now < length pairs.now }
+            requires takes { (p : K × V) → slice_get pairs.now i.now ≡ Some p → TakesAt F.FnMut eq p.0 }
+            ensures { (p : K × V) → slice_get pairs.entry.now i.now ≡ Some p → CalledAt F.FnMut eq.entry p.0 result eq.exit }
+        { eq(&pairs[*i as usize].0) },
+    )
 }

@@ -40,13 +40,11 @@ impl<K: Eq, V> SmallMap<K, V> {
         K: Drop,
         ensures inserts { Inserts K.eq key value (key, value) self.old self.new result }
     {
-        // A look that sees at once that the key is new and where its place goes is mostly the only one.
-        if let Some(slot) = self.index.vacancy(key.hash()) {
-            if self.room() > 0 {
-                self.index.note_last_at(&self.entries, key.hash(), slot);
-                self.entries.push_reserved(key, value);
-                return Ok(None);
-            }
+        // Mostly one look at the index shows that the key is new, and the only one.
+        let spare = self.entries.capacity() - self.entries.len();
+        if self.index.note_new(key.hash(), spare) {
+            self.entries.push_reserved(key, value);
+            return Ok(None);
         }
         self.insert_by_search(key, value)
     }

@@ -214,7 +214,7 @@ impl<K: Eq, V> SmallMap<K, V> {
         ensures { result ≡ self.now.room }
     {
         let spare = self.entries.capacity() - self.entries.len();
-        spare.min(self.index.room(&self.entries))
+        spare.min(self.index.room(self.entries.len()))
     }
 
     /// The index, where there is one: a table of the place of each entry, under the promoted hash of the entry, and of no

@@ -15,7 +15,7 @@ impl<K: Eq + Drop, V: Drop> SmallMap<K, V> {
     /// Keeps the entries at which the closure answers true, with the value that it leaves, in their order. It is called
     /// once an entry, from the front, its state carried on; one that answers by a test of the entry and leaves the
     /// value filters the list. No memory is asked for. Capacity and index stay.
-    #[tactic(auto, using(crate::proofs::Emptying::in_its_order))]
+
     pub fn retain<F: FnMut(&K, &mut V) -> bool>(&mut self, keep: F)
         requires { TakesInTurn (CalledAtEntry F.FnMut) (TakesEntry F.FnMut) keep self.old.entries }
         ensures entries { Retains (CalledAtEntry F.FnMut) keep self.old.entries self.new.entries }
@@ -27,7 +27,7 @@ impl<K: Eq + Drop, V: Drop> SmallMap<K, V> {
         ensures kept { KeepsMemory self.old self.new }
     {
         prove!(self.entries.len() <= self.entries.capacity());
-        self.index.forget_all(&self.entries);
+        self.index.clear();
         self.entries.retain(keep);
         self.index.note_all(&self.entries);
     }

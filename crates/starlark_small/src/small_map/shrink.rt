@@ -98,7 +98,7 @@ impl<K: Eq, V> SmallMap<K, V> {
     }
 
     /// Removes each entry. Capacity and index stay for those to come.
-    #[tactic(auto, using(crate::proofs::Emptying::in_its_order))]
+
     pub fn clear(&mut self)
     where
         K: Drop,
@@ -106,7 +106,7 @@ impl<K: Eq, V> SmallMap<K, V> {
         ensures { Clears self.old self.new }
     {
         prove!(self.entries.len() <= self.entries.capacity());
-        self.index.forget_all(&self.entries);
+        self.index.clear();
         self.entries.clear();
     }
 
@@ -130,7 +130,7 @@ impl<K: Eq, V> SmallMap<K, V> {
         ensures takes { TakesAt K.eq index self.old self.new (Some (pair_of result)) }
     {
         prove!(self.entries.len() <= self.entries.capacity());
-        self.index.forget(&self.entries, index);
+        self.index.forget(index);
         self.entries.remove(index)
     }
 
@@ -141,7 +141,10 @@ impl<K: Eq, V> SmallMap<K, V> {
         ensures takes { TakesAt K.eq (length self.old.entries - 1) self.old self.new (option_map pair_of result) }
     {
         prove!(self.entries.len() <= self.entries.capacity());
-        self.index.forget_last(&self.entries);
+        if self.entries.is_empty() {
+            return None;
+        }
+        self.index.forget_last();
         self.entries.pop()
     }
 }

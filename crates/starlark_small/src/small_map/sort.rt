@@ -43,9 +43,8 @@ fn sort_indexed<K: Ord, V>(entries: &mut VecMap<K, V>, index: &mut Index) -> Res
     if sort_and_rename(entries, index) {
         return Ok(());
     }
-    // a refusal leaves the index as it was, so its places go out after the sort: the hashes are still the same
     entries.sort_keys()?;
-    index.forget_all(entries);
+    index.clear();
     index.note_all(entries);
     Ok(())
 }
@@ -64,7 +63,7 @@ fn sort_and_rename<K: Ord, V>(entries: &mut VecMap<K, V>, index: &mut Index) -> 
     let Ok(to) = entries.sort_keys_with_moves() else {
         return false;
     };
-    index.rename(entries, to.as_slice());
+    index.rename(to.as_slice());
     true
 }
 
@@ -75,11 +74,11 @@ fn reverse_indexed<K, V>(entries: &mut VecMap<K, V>, index: &mut Index)
     ensures follows { IndexFollows entries.old index.old entries.new index.new }
 {
     if index.is_dense() {
-        index.turn(entries);
+        index.reverse();
         entries.reverse();
         return;
     }
-    index.forget_all(entries);
+    index.clear();
     entries.reverse();
     index.note_all(entries);
 }

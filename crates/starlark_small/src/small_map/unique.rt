@@ -78,7 +78,7 @@ impl<K: Eq, V> SmallMap<K, V> {
             return Err(NoRoom((key, value)));
         }
         let place = self.entries.len();
-        self.index.note_last(&self.entries, key.hash());
+        self.index.note(key.hash());
         self.entries.push_reserved(key, value);
         Ok(place)
     }

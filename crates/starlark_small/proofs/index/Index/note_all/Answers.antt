@@ -1,38 +1,54 @@
-use Rattle.std.proofs.Common.{◌∷◌, ◌+◌, ◌<◌, ◌≤◌, ◌^◌, [], sym, ◌∙◌, ap, subst, IsPermutation, arith, take}
+use Rattle.std.proofs.Common.{◌≡◌, ◌++◌, ◌∷◌, [], ◌-◌, ◌<◌, ◌≤◌, ◌^◌, ◌∙◌, ap, arith, length, subst, sym, take}
 use mathlib.Core.Path.{subst⁻¹}
-use Rattle.std.specs.Option.{option_copied_mut}
-use Rattle.starlark_hash.specs.HashValue.{promoted}
-use Rattle.starlark_table.specs.Table.{members, table_len}
+use Rattle.std.specs.Prelude.{IfSome, Some}
+use Rattle.std.specs.List.{All}
+use Rattle.std.specs.Option.{option_copied_mut, option_map}
+use Rattle.std.proofs.lemmas.List.{take_all}
+use Rattle.std.proofs.lemmas.List.Elements.{All-push}
 use Rattle.starlark_vecmap.specs.EntryList.{deref_entry}
-use Rattle.starlark_small.specs.Index.{IsIndexOf, IsIndexed, index_room}
-use Rattle.starlark_small.proofs.Keeping.{IsIndexOf-len, IsIndexOf-push, room-push, take-more}
+use Rattle.starlark_small.specs.Hashes.{hash_under}
+use Rattle.starlark_small.specs.Index.{hashes_of}
+use Rattle.starlark_small.proofs.Indexed.{hashes-push}
+use Rattle.starlark_small.proofs.Numbered.{take-more}
 use Rattle.starlark_small.proofs.index.Index.note_all.Goals as goal
 
 pub loop-i-init : goal.loop-i-init
 loop-i-init g c =
     let was = sym c.self.view_is ∙ sym c.get_mut.ensures.value ∙ ap option_copied_mut c.in-Some.is in
-    record {
-      index = subst (λ o. IsIndexed {K = g.row.K.Denot} {V = g.row.V.Denot} [] o) was c.requires.empty;
-      room = subst⁻¹ (λ o. index_room 0 o ≤ 0 + c.in-Some.table.now.room) was (omega arith);
-    }
+    let req = subst (λ o. IfSome o (λ h. (h.list ≡ []) × (length c.args.entries.now.entries ≤ h.room))) was c.requires in
+    record { list = req.0; room = omega arith; fits = λ k d lt. absurd (omega (arith, lt)) }
 
 pub note-requires : goal.note-requires
 note-requires g c =
-    let i = c.loop-i.i in
-    omega (arith, c.loop-i.invariant.room, c.requires.room, c.loop-i-test.true, c.len-i-end.ensures.len)
+    let was = sym c.self.view_is ∙ sym c.get_mut.ensures.value ∙ ap option_copied_mut c.in-Some.is in
+    let req = subst (λ o. IfSome o (λ h. (h.list ≡ []) × (length c.args.entries.now.entries ≤ h.room))) was c.requires in
+    omega (arith, c.loop-i.invariant.room, req.1, c.loop-i-test.true, c.len-i-end.ensures.len)
 
 pub loop-i-preserved : goal.loop-i-preserved
 loop-i-preserved g c =
+    let was = sym c.self.view_is ∙ sym c.get_mut.ensures.value ∙ ap option_copied_mut c.in-Some.is in
+    let req = subst (λ o. IfSome o (λ h. (h.list ≡ []) × (length c.args.entries.now.entries ≤ h.room))) was c.requires in
     let es = c.args.entries.now.entries in
     let i = c.loop-i.i in
     let e = deref_entry c.get_unchecked.result in
-    let old = c.loop-i.invariant.index in
-    let h = c.hash-hash.ensures in
-    let n = table_len c.loop-i.table in
-    let added = subst (λ k. IsPermutation ((promoted k.0, n) ∷ members c.loop-i.table) (members c.note.new.self)) h c.note.ensures.noted.added in
-    let room = room-push (take i es) c.loop-i.table c.note.new.self (promoted e.0.hash.0, n) old added c.note.ensures.noted.room in
+    let k = c.loop-i.invariant in
+    let more = take-more i es e c.get_unchecked.ensures in
     record {
-      index = subst (λ l. IsIndexOf l c.note.new.self) (sym (take-more i es e c.get_unchecked.ensures))
-          (IsIndexOf-push (take i es) e n c.loop-i.table c.note.new.self (IsIndexOf-len (take i es) c.loop-i.table old) old (subst (λ k. k.0 < 2 ^ 32) h c.note.ensures.fits) added);
-      room = omega (arith, room, c.loop-i.invariant.room);
+      list = ap (λ h. h.list) c.note.ensures.noted ∙ (λ j. k.list j ++ hash_under (c.hash-hash.ensures j) ∷ []) ∙ sym (hashes-push (take i es) e) ∙ sym (ap hashes_of more);
+      room = omega (arith, ap (λ h. h.room) c.note.ensures.noted, k.room, req.1, c.loop-i-test.true, c.len-i-end.ensures.len);
+      fits = subst (λ l. All (λ e. e.0.hash.0 < 2 ^ 32) l) (sym more) (All-push (λ e. e.0.hash.0 < 2 ^ 32) (take i es) e k.fits (subst (λ h. h.0 < 2 ^ 32) c.hash-hash.ensures c.note.ensures.fits));
+    }
+
+pub returns : goal.returns
+returns g c =
+    let was = sym c.self.view_is ∙ sym c.get_mut.ensures.value ∙ ap option_copied_mut c.in-Some.is in
+    let es = c.args.entries.now.entries in
+    let k = c.loop-i.invariant in
+    let whole = take_all c.loop-i.i es (omega (arith, c.loop-i-test.false, c.len-i-end.ensures.len)) in
+    let all : c.loop-i.i ≡ length es = omega (arith, c.loop-i-test.false, c.loop-i.auto.i-end, c.len-i-end.ensures.len) in
+    let list = k.list ∙ ap hashes_of whole in
+    let room : c.loop-i.table.room ≡ c.in-Some.table.now.room - length es = omega (arith, k.room, all) in
+    record {
+      hashes = subst⁻¹ (λ o. Some c.loop-i.table ≡ option_map (λ h. record { list = hashes_of es; room = h.room - length es }) o) was (λ j. Some (record { list = list j; room = room j }));
+      fits = subst⁻¹ (λ o. IfSome o (λ _. All (λ e. e.0.hash.0 < 2 ^ 32) es)) was (subst (λ l. All (λ e. e.0.hash.0 < 2 ^ 32) l) whole k.fits);
     }

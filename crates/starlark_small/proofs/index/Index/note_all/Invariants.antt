@@ -1,9 +1,11 @@
-use Rattle.std.proofs.Common.{◌+◌, ◌≤◌, take}
-use Rattle.starlark_small.specs.Index.{IsIndexOf, index_room}
+use Rattle.std.proofs.Common.{◌≡◌, ◌+◌, ◌<◌, ◌^◌, take}
+use Rattle.std.specs.List.{All}
+use Rattle.starlark_small.specs.Index.{hashes_of}
 use Rattle.starlark_small.proofs.index.Index.note_all.Given as goal
 
 abbrev pub invariant-loop-i : goal.invariant-loop-i
 invariant-loop-i g l = record {
-  index : IsIndexOf (take l.i l.entries.entries) l.table;
-  room : index_room 0 l.fn.self ≤ l.i + l.table.room;
+  list : l.table.list ≡ hashes_of (take l.i l.entries.entries);
+  room : l.table.room + l.i ≡ l.initial.table.room;
+  fits : All (λ e. e.0.hash.0 < 2 ^ 32) (take l.i l.entries.entries);
 }

@@ -4,13 +4,13 @@ use Rattle.starlark_lists.specs.Entries.{position_of}
 use Rattle.starlark_lists.proofs.SearchLemmas.{can_search, is_test, search-position_of}
 use Rattle.starlark_small.proofs.index.Index.position_of.Goals as goal
 
-pub find-requires-clause-callable : goal.find-requires-clause-callable
-find-requires-clause-callable g c = can_search _ _ _ (search (rules, of_calls))
+pub find_in-requires-clause-callable : goal.find_in-requires-clause-callable
+find_in-requires-clause-callable g c = can_search _ _ _ (search (rules, of_calls))
 
 pub returns-in-Some : goal.returns-in-Some
 returns-in-Some g c =
     let es = c.args.entries.now.entries in
     let t = g.Q.Equivalent.equivalent (key_of c.args.key).now in
     search-position_of g.K.PartialEq.eq t (λ x y tx ty. sym (g.met.Q.Equivalent.respects_eq (key_of c.args.key).now x y tx) ∙ ty) c.hash.result es c.requires.sound.single _ _
-    (is_test _ t _ (λ x accepts next called. (search (rules, of_calls, called), search (rules, of_calls, called)))) c.find.result _ c.find.ensures.1
+    (is_test _ t _ (λ x accepts next called. (search (rules, of_calls, called), search (rules, of_calls, called)))) c.find_in.result _ c.find_in.ensures.1
     ∙ ap (λ h. position_of h t es) c.hash.ensures

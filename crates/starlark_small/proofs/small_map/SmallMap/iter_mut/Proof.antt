@@ -14,7 +14,7 @@ use Rattle.starlark_vecmap.proofs.vec_map.VecMap.iter_mut.Symbol.{name as #run}
 use Rattle.starlark_vecmap.proofs.vec_map.VecMap.iter_mut.Met as walked_entries
 use Rattle.starlark_vecmap.proofs.ValuesWritten.{with_values-again, length-with_values}
 use Rattle.starlark_vecmap.specs.EntryList.{EntryList, with_entries, with_values}
-use Rattle.starlark_table.specs.Table.{Table}
+use Rattle.starlark_small.specs.Hashes.{Hashes}
 use Rattle.starlark_small.specs.Index.{index_room}
 use Rattle.starlark_small.specs.Lending.{KeepsAllButValues}
 use Rattle.starlark_small.specs.Map.{Map}
@@ -77,7 +77,7 @@ module _ (A B : RattleType) (E : Eq.Ghosts A.Denot) (dE : Dict) (P : PartialEq.G
   keeps v w = record v { entries = with_values v.entries w.entries }
 
   -- the room of so many entries
-  abbrev room_of_length : ℕ → ℕ → Option (Table ℕ) → ℕ
+  abbrev room_of_length : ℕ → ℕ → Option Hashes → ℕ
   room_of_length capacity len index = min (capacity - len) (index_room len index)
 
   same : (v : W.Denot) (d : D) (w : Es) → O.Known K V P v d → keeps v (seen d w) ≡ seen d w

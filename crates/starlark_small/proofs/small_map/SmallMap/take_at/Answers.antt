@@ -3,7 +3,9 @@ use Rattle.std.specs.Prelude.{remove}
 use Rattle.std.proofs.lemmas.Grind.{common_steps}
 use Rattle.starlark_lists.proofs.EntryLemmas.{IsSingle-remove}
 use Rattle.starlark_vecmap.specs.EntryList.{with_entries}
-use Rattle.starlark_small.specs.Index.{IsSound}
+use Rattle.starlark_small.specs.Index.{IsIndexed, IsSound}
+use Rattle.starlark_small.proofs.Indexed.{IsIndexed-forgotten, index-within}
+use Rattle.starlark_small.proofs.Rooms.{KeepsMemory-removed}
 use Rattle.starlark_small.proofs.CallerOwn.{own-removed}
 use Rattle.starlark_small.proofs.CallerPlaces.{takes-out}
 use Rattle.starlark_small.proofs.small_map.SmallMap.take_at.Goals as goal
@@ -12,7 +14,7 @@ pub invariant_of-self : goal.invariant_of-self
 invariant_of-self g c =
     let list = c.self.inside.entries in
     subst (λ l. IsSound g.K.PartialEq.eq l.entries c.forget.new.self) {x = with_entries list (remove list.entries c.args.index)} {y = c.remove.new.self} (sym c.remove.ensures.list)
-    (record { single = IsSingle-remove g.K.PartialEq.eq list.entries c.args.index (omega (arith, c.requires, ap (λ m. length m.entries) c.self.view_is)) c.self.invariant.single; indexed = c.forget.ensures.indexed })
+    (record { single = IsSingle-remove g.K.PartialEq.eq list.entries c.args.index (omega (arith, c.requires, ap (λ m. length m.entries) c.self.view_is)) c.self.invariant.single; indexed = subst (IsIndexed (remove list.entries c.args.index)) (sym c.forget.ensures) (IsIndexed-forgotten list.entries c.args.index c.self.inside.index (omega (arith, c.requires, ap (λ m. length m.entries) c.self.view_is)) c.self.invariant.indexed) })
 
 pub returns-clause-takes : goal.returns-clause-takes
 returns-clause-takes g c = record {
@@ -22,6 +24,12 @@ returns-clause-takes g c = record {
   removes = record {
     entries = search rules;
     own = λ feeds. own-removed feeds c.args.self.now.entries _ c.args.index (search rules);
-    kept = first_of (search rules, grind (arith, common_steps));
+    kept =
+        rw (← c.self.view_is)
+        (KeepsMemory-removed c.self.inside.entries c.remove.new.self c.args.index c.self.inside.index c.forget.new.self (ap (λ l. l.entries) c.remove.ensures.list) (ap (λ l. l.capacity) c.remove.ensures.list) (omega (arith, c.requires, ap (λ m. length m.entries) c.self.view_is))
+        (search rules) c.self.invariant.indexed c.forget.ensures);
   };
 }
+
+pub forget-requires : goal.forget-requires
+forget-requires g c = index-within c.self.inside.entries.entries c.args.index c.self.inside.index (omega (arith, c.requires, ap (λ m. length m.entries) c.self.view_is)) c.self.invariant.indexed

@@ -1,4 +1,8 @@
-use Rattle.std.proofs.Common.{length, ◌-◌, ap, arith, rules}
+use Rattle.std.proofs.Common.{length, ◌≡◌, ◌∙◌, ◌-◌, ◌<◌, ap, arith, rules, subst, sym}
+use Rattle.std.specs.Prelude.{remove}
+use Rattle.starlark_lists.proofs.EntryLemmas.{IsSingle-remove}
+use Rattle.starlark_small.specs.Index.{IsIndexed, IsSound}
+use Rattle.starlark_small.proofs.Indexed.{IsIndexed-forgotten, last-forgotten}
 use Rattle.std.proofs.lemmas.Grind.{common_steps}
 use Rattle.std.specs.Option.{option_map}
 use Rattle.starlark_lists.specs.Entries.{pair_of}
@@ -19,3 +23,17 @@ returns-clause-takes g c = record {
     kept = first_of (search rules, grind (arith, common_steps));
   };
 }
+
+pub invariant_of-self : goal.invariant_of-self
+invariant_of-self g c =
+    let es = c.self.inside.entries.entries in
+    let last = length es - 1 in
+    let some : last < length es = grind (arith, common_steps, c.is_empty.ensures, c.if-is_empty.false) in
+    let is : c.pop.new.self.entries ≡ remove es last = first_of (search rules, grind (arith, common_steps)) in
+    subst (λ l. IsSound g.K.PartialEq.eq l c.forget_last.new.self) (sym is) (record {
+      single = IsSingle-remove g.K.PartialEq.eq es last some c.self.invariant.single;
+      indexed = subst (IsIndexed (remove es last)) (sym (c.forget_last.ensures ∙ last-forgotten es c.self.inside.index c.self.invariant.indexed)) (IsIndexed-forgotten es last c.self.inside.index some c.self.invariant.indexed);
+    })
+
+pub returns-clause-taken : goal.returns-clause-taken
+returns-clause-taken g c = rw (← c.self.view_is) (last-taken c.self.inside.entries.entries c.pop.result c.pop.new.self.entries c.pop.ensures.taken)

@@ -1,5 +1,32 @@
-use Rattle.starlark_small.proofs.Emptying.{in_its_order}
+use Rattle.std.proofs.Common.{◌≡◌, ◌∙◌, ap, arith, is_some, length, subst, sym}
+use Rattle.std.specs.Prelude.{reverse}
+use Rattle.std.proofs.lemmas.List.{length-reverse}
+use Rattle.starlark_small.specs.Hashes.{reversed}
+use Rattle.starlark_small.specs.Index.{IsIndexed, index_room}
+use Rattle.starlark_small.proofs.Indexed.{IsIndexed-reversed, cleared-room, follows-refilled, is_some-map, room-reversed}
 use Rattle.starlark_small.proofs.small_map.sort.reverse_indexed.Goals as goal
 
-pub forget_all-requires : goal.forget_all-requires
-forget_all-requires g c = in_its_order c.args.entries.now.entries c.args.index.now c.requires
+pub returns-then-is_dense-clause-follows : goal.returns-then-is_dense-clause-follows
+returns-then-is_dense-clause-follows g c =
+    let es = c.args.entries.now.entries in
+    let new = c.reverse-then-is_dense.new.self in
+    let size : length new.entries ≡ length es = ap (λ l. length l.entries) c.reverse-then-is_dense.ensures ∙ length-reverse es in
+    let room = subst (λ o. index_room (length new.entries) o ≡ index_room (length es) c.args.index.now) (sym c.reverse.ensures) (room-reversed (length es) (length new.entries) c.args.index.now size) in
+    record {
+      indexed = subst (λ l. IsIndexed l.entries c.reverse.new.self) (sym c.reverse-then-is_dense.ensures) (subst (IsIndexed (reverse es)) (sym c.reverse.ensures) (IsIndexed-reversed es c.args.index.now c.requires));
+      room = omega (arith, size, room);
+      kept = ap is_some c.reverse.ensures ∙ is_some-map reversed c.args.index.now;
+    }
+
+pub returns-clause-follows : goal.returns-clause-follows
+returns-clause-follows g c =
+    let es = c.args.entries.now.entries in
+    let size : length c.reverse-2.new.self.entries ≡ length es = ap (λ l. length l.entries) c.reverse-2.ensures ∙ length-reverse es in
+    let now = follows-refilled c.args.entries.now c.reverse-2.new.self c.args.index.now c.clear.new.self c.note_all.new.self (omega (arith, size)) c.requires c.clear.ensures c.note_all.ensures in
+    record { indexed = now.0; room = now.1; kept = now.2 }
+
+pub note_all-requires : goal.note_all-requires
+note_all-requires g c =
+    let es = c.args.entries.now.entries in
+    let size : length c.reverse-2.new.self.entries ≡ length es = ap (λ l. length l.entries) c.reverse-2.ensures ∙ length-reverse es in
+    cleared-room es (length c.reverse-2.new.self.entries) c.args.index.now c.clear.new.self (omega (arith, size)) c.requires c.clear.ensures

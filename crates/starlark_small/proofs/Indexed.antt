@@ -1,0 +1,172 @@
+-- What an index says of a list, and how much room it has, as the list changes.
+use Rattle.std.proofs.Common.{◌≡◌, ℕ, zero, suc, ◌+◌, ◌-◌, ◌<◌, ◌≤◌, ◌^◌, List, [], ◌∷◌, ◌++◌, length, map, Option, Some, None, is_some, refl, sym, ap, subst, ◌∙◌, arith, get_or, IsPermutation}
+use Rattle.std.specs.Prelude.{IfSome, remove, reverse, slice_get}
+use Rattle.std.specs.List.{range_with_len}
+use Rattle.std.specs.Option.{option_map}
+use Rattle.std.proofs.lemmas.List.{length-map, length-reverse, length_push, map-append, reverse-append}
+use Rattle.std.proofs.lemmas.List.Edits.{length-remove}
+use Rattle.std.proofs.lemmas.List.Elements.{All-push, All-tail}
+use Rattle.std.proofs.lemmas.List.Sorted.{IsPermutation-remove, IsPermutation-reverse, IsPermutation-sym, All-permutation, length_permutation}
+use Rattle.std.proofs.lemmas.Simd.{map-map}
+use Rattle.std.proofs.lemmas.Option.{get_or_from_slice_get, none-some, same_Some, slice_get-get_or, slice_get-map}
+use Rattle.starlark_hash.specs.HashValue.{hash_number}
+use Rattle.starlark_hash.specs.declared.hash_value.StarlarkHashValue.{StarlarkHashValue}
+use Rattle.starlark_lists.specs.Entries.{Entry, entry_hash, set_value_at}
+use Rattle.starlark_lists.proofs.EntryLemmas.{length-set_value_at, set_value_at-key}
+use Rattle.starlark_small.specs.Hashes.{Hashes, cleared, forgotten, hash_under, noted, reversed}
+use Rattle.starlark_small.specs.Index.{IsIndexed, IsIndexedAt, hashes_of, index_room, unindexed}
+use Rattle.starlark_small.specs.Indexing.{IsFilled, IsRenamed}
+use Rattle.starlark_vec2.specs.Moves.{Moves}
+use Rattle.starlark_vec2.proofs.Positions.{IsPermutation-from_order}
+use Rattle.starlark_vecmap.specs.EntryList.{EntryList}
+
+pub is_some-map : (f : Hashes → Hashes) (o : Option Hashes) → is_some (option_map f o) ≡ is_some o
+is_some-map f None = refl
+is_some-map f (Some h) = refl
+
+module _ {K V : Type 0} where
+  -- an index has as many hashes as the list has entries
+  pub indexed-at : (es : List (Entry K V)) (index : Option Hashes) → IsIndexed es index → IsIndexedAt (length es) index
+  indexed-at es None short = short
+  indexed-at es (Some h) index = ap length index.list ∙ length-map es (λ e. hash_under (entry_hash e))
+
+  pub index-within : (es : List (Entry K V)) (i : ℕ) (index : Option Hashes) → i < length es → IsIndexed es index → IfSome index (λ h. i < length h.list)
+  index-within es i None below short = tt
+  index-within es i (Some h) below index = omega (arith, below, indexed-at es (Some h) index)
+
+  -- a value is written
+  hashes-set_value_at : (es : List (Entry K V)) (i : ℕ) (value : V) → hashes_of (set_value_at es i value) ≡ hashes_of es
+  hashes-set_value_at [] i value = refl
+  hashes-set_value_at (e ∷ es) zero value = refl
+  hashes-set_value_at (e ∷ es) (suc i) value = ap (λ l. hash_under (entry_hash e) ∷ l) (hashes-set_value_at es i value)
+
+  pub IsIndexed-set_value_at : (es : List (Entry K V)) (i : ℕ) (value : V) (index : Option Hashes) → IsIndexed es index → IsIndexed (set_value_at es i value) index
+  IsIndexed-set_value_at es i value None short = omega (arith, length-set_value_at es i value, short)
+  IsIndexed-set_value_at es i value (Some h) index = record {
+    list = index.list ∙ sym (hashes-set_value_at es i value);
+    fits = λ k d below. subst (λ h. h.hash.0 < 2 ^ 32) (sym (set_value_at-key es i value k d)) (index.fits k d (omega (arith, below, length-set_value_at es i value)));
+  }
+
+  -- an entry goes last
+  pub hashes-push : (es : List (Entry K V)) (e : Entry K V) → hashes_of (es ++ e ∷ []) ≡ hashes_of es ++ hash_under (entry_hash e) ∷ []
+  hashes-push es e = map-append (λ d. hash_under (entry_hash d)) es (e ∷ [])
+
+  pub IsIndexed-noted : (es : List (Entry K V)) (e : Entry K V) (hash : StarlarkHashValue) (index : Option Hashes) → entry_hash e ≡ hash → 1 ≤ index_room (length es) index → IfSome index (λ _. hash_number hash < 2 ^ 32)
+      → IsIndexed es index → IsIndexed (es ++ e ∷ []) (option_map (noted hash) index)
+  IsIndexed-noted es e hash None under room fits short = omega (arith, length_push es e, room, short)
+  IsIndexed-noted es e hash (Some h) under room fits index = record {
+    list = (λ j. index.list j ++ hash_under (sym under j) ∷ []) ∙ sym (hashes-push es e);
+    fits = All-push (λ d. d.0.hash.0 < 2 ^ 32) es e index.fits (subst (λ k. k.0 < 2 ^ 32) (sym under) fits);
+  }
+
+  -- an entry is taken out
+  hashes-remove : (es : List (Entry K V)) (i : ℕ) → hashes_of (remove es i) ≡ remove (hashes_of es) i
+  hashes-remove [] zero = refl
+  hashes-remove [] (suc i) = refl
+  hashes-remove (e ∷ es) zero = refl
+  hashes-remove (e ∷ es) (suc i) = ap (λ l. hash_under (entry_hash e) ∷ l) (hashes-remove es i)
+
+  pub IsIndexed-forgotten : (es : List (Entry K V)) (i : ℕ) (index : Option Hashes) → i < length es → IsIndexed es index → IsIndexed (remove es i) (option_map (forgotten i) index)
+  IsIndexed-forgotten es i None below short = omega (arith, length-remove es i below, short)
+  IsIndexed-forgotten [] i (Some h) below index = absurd (omega (arith, below))
+  IsIndexed-forgotten (e ∷ es) i (Some h) below index =
+      let d : Entry K V = get_or (e ∷ es) i e in
+      record {
+        list = ap (λ l. remove l i) index.list ∙ sym (hashes-remove (e ∷ es) i);
+        fits = All-tail (λ d. d.0.hash.0 < 2 ^ 32) d (remove (e ∷ es) i) (All-permutation (λ d. d.0.hash.0 < 2 ^ 32) (e ∷ es) (d ∷ remove (e ∷ es) i) (removed (e ∷ es) i e below) index.fits);
+      }
+    where
+      removed : (es : List (Entry K V)) (i : ℕ) (e : Entry K V) → i < length es → IsPermutation es (get_or es i e ∷ remove es i)
+      removed es i e below = IsPermutation-remove es i (get_or es i e) below (sym (get_or_from_slice_get es i (get_or es i e) (get_or es i e) (slice_get-get_or es i e below)))
+
+  -- the order is turned round
+  hashes-reverse : (es : List (Entry K V)) → hashes_of (reverse es) ≡ reverse (hashes_of es)
+  hashes-reverse [] = refl
+  hashes-reverse (e ∷ es) =
+      ap hashes_of (reverse-append (e ∷ []) es) ∙ hashes-push (reverse es) e ∙ ap (λ l. l ++ hash_under (entry_hash e) ∷ []) (hashes-reverse es) ∙ sym (reverse-append (hash_under (entry_hash e) ∷ []) (hashes_of es))
+
+  pub IsIndexed-reversed : (es : List (Entry K V)) (index : Option Hashes) → IsIndexed es index → IsIndexed (reverse es) (option_map reversed index)
+  IsIndexed-reversed es None short = omega (arith, length-reverse es, short)
+  IsIndexed-reversed es (Some h) index = record {
+    list = ap reverse index.list ∙ sym (hashes-reverse es);
+    fits = All-permutation (λ e. e.0.hash.0 < 2 ^ 32) es (reverse es) (IsPermutation-reverse es) index.fits;
+  }
+
+  -- every hash goes out, and those of another list come in
+  pub IsIndexed-filled : (es : List (Entry K V)) (old new : Option Hashes) → length es ≤ index_room 0 old → IsFilled es old new → IsIndexed es new
+  IsIndexed-filled es None new short filled = subst (IsIndexed es) (sym filled.hashes) short
+  IsIndexed-filled es (Some h) new short filled = subst (IsIndexed es) (sym filled.hashes) (record { list = refl; fits = filled.fits })
+
+  pub room-filled : (es : List (Entry K V)) (old new : Option Hashes) → length es ≤ index_room 0 old → IsFilled es old new → index_room 0 old ≤ length es + index_room (length es) new
+  room-filled es None new short filled = subst (λ o. unindexed ≤ length es + index_room (length es) o) (sym filled.hashes) (omega (arith, short))
+  room-filled es (Some h) new short filled = subst (λ o. h.room ≤ length es + index_room (length es) o) (sym filled.hashes) (omega (arith, short))
+
+pub room-cleared : (len : ℕ) (index : Option Hashes) → IsIndexedAt len index → len + index_room len index ≤ index_room 0 (option_map cleared index)
+room-cleared len None short = omega (arith, short)
+room-cleared len (Some h) long = omega (arith, long)
+
+module _ {K V : Type 0} where
+  -- a list refills the index of another one that is as long
+  pub follows-refilled : (before after : EntryList K V) (old mid new : Option Hashes) → length after.entries ≤ length before.entries → IsIndexed before.entries old → mid ≡ option_map cleared old → IsFilled after.entries mid new
+      → IsIndexed after.entries new × (length before.entries + index_room (length before.entries) old ≤ length after.entries + index_room (length after.entries) new) × (is_some new ≡ is_some old)
+  follows-refilled before after old mid new shorter indexed emptied filled =
+      let out = subst (λ o. length before.entries + index_room (length before.entries) old ≤ index_room 0 o) (sym emptied) (room-cleared (length before.entries) old (indexed-at before.entries old indexed)) in
+      let short : length after.entries ≤ index_room 0 mid = omega (arith, shorter, out) in
+      (IsIndexed-filled after.entries mid new short filled, omega (arith, out, room-filled after.entries mid new short filled), ap is_some filled.hashes ∙ is_some-map _ mid ∙ ap is_some emptied ∙ is_some-map cleared old)
+
+  -- where the entries went, their hashes went
+  pub moves-hashes : (es : List (Entry K V)) (to : List ℕ) (after : List (Entry K V)) → Moves es to after → Moves (hashes_of es) to (hashes_of after)
+  moves-hashes es to after moves =
+      let f : Entry K V → ℕ = λ e. hash_under (entry_hash e) in
+      let there : map (λ k. option_map f (slice_get after k)) to ≡ map (slice_get (hashes_of after)) to = λ j. map (λ k. sym (slice_get-map f after k) j) to in
+      record {
+        once = subst (λ n. IsPermutation (range_with_len 0 n) to) (sym (length-map after f)) moves.once;
+        items = map-map Some f es ∙ sym (map-map (option_map f) Some es) ∙ ap (map (option_map f)) moves.items ∙ map-map (option_map f) (slice_get after) to ∙ there;
+      }
+
+  pub moves-index : (es : List (Entry K V)) (to : List ℕ) (after : List (Entry K V)) (index : Option Hashes) → Moves es to after → IsIndexed es index → IfSome index (λ h. (list : List ℕ) × Moves h.list to list)
+  moves-index es to after None moves short = tt
+  moves-index es to after (Some h) moves index = (hashes_of after, subst (λ l. Moves l to (hashes_of after)) (sym index.list) (moves-hashes es to after moves))
+
+  pub IsIndexed-renamed : (es : List (Entry K V)) (to : List ℕ) (after : List (Entry K V)) (old new : Option Hashes) → Moves es to after → IsIndexed es old → IsRenamed to old new → IsIndexed after new
+  IsIndexed-renamed es to after None None moves short renamed = omega (arith, length_permutation es after (IsPermutation-sym after es (IsPermutation-from_order after to es moves.once moves.items)), short)
+  IsIndexed-renamed es to after None (Some k) moves short renamed = absurd (none-some k.room (sym renamed.room))
+  IsIndexed-renamed es to after (Some h) None moves index renamed = absurd (none-some h.room renamed.room)
+  IsIndexed-renamed es to after (Some h) (Some k) moves index renamed = record {
+    list = same_Some k.list (hashes_of after) (renamed.list (hashes_of after) (subst (λ l. Moves l to (hashes_of after)) (sym index.list) (moves-hashes es to after moves)));
+    fits = All-permutation (λ e. e.0.hash.0 < 2 ^ 32) es after (IsPermutation-sym after es (IsPermutation-from_order after to es moves.once moves.items)) index.fits;
+  }
+
+  -- so there is room for a list that is no longer
+  pub cleared-room : (es : List (Entry K V)) (n : ℕ) (old mid : Option Hashes) → n ≤ length es → IsIndexed es old → mid ≡ option_map cleared old → IfSome mid (λ h. (h.list ≡ []) × (n ≤ h.room))
+  cleared-room es n None mid shorter indexed is = subst (λ o. IfSome o (λ h. (h.list ≡ []) × (n ≤ h.room))) (sym is) tt
+  cleared-room es n (Some h) mid shorter indexed is = subst (λ o. IfSome o (λ h. (h.list ≡ []) × (n ≤ h.room))) (sym is) (refl, omega (arith, shorter, indexed-at es (Some h) indexed))
+
+pub renamed-is_some : (to : List ℕ) (old new : Option Hashes) → IsRenamed to old new → is_some new ≡ is_some old
+renamed-is_some to None None renamed = refl
+renamed-is_some to None (Some k) renamed = absurd (none-some k.room (sym renamed.room))
+renamed-is_some to (Some h) None renamed = absurd (none-some h.room renamed.room)
+renamed-is_some to (Some h) (Some k) renamed = refl
+
+pub renamed-room : (len len' : ℕ) (to : List ℕ) (old new : Option Hashes) → len' ≡ len → IsRenamed to old new → index_room len' new ≡ index_room len old
+renamed-room len len' to None None same renamed = omega (arith, same)
+renamed-room len len' to None (Some k) same renamed = absurd (none-some k.room (sym renamed.room))
+renamed-room len len' to (Some h) None same renamed = absurd (none-some h.room renamed.room)
+renamed-room len len' to (Some h) (Some k) same renamed = same_Some k.room h.room renamed.room
+
+pub room-noted : (len : ℕ) (hash : StarlarkHashValue) (index : Option Hashes) → index_room len index ≤ 1 + index_room (len + 1) (option_map (noted hash) index)
+room-noted len hash None = omega arith
+room-noted len hash (Some h) = omega arith
+
+pub room-forgotten : (len i : ℕ) (index : Option Hashes) → IsIndexedAt len index → 0 < len → 1 + index_room len index ≤ index_room (len - 1) (option_map (forgotten i) index)
+room-forgotten len i None short some = omega (arith, short, some)
+room-forgotten len i (Some h) long some = omega arith
+
+pub room-reversed : (len len' : ℕ) (index : Option Hashes) → len' ≡ len → index_room len' (option_map reversed index) ≡ index_room len index
+room-reversed len len' None same = omega (arith, same)
+room-reversed len len' (Some h) same = refl
+
+-- the last hash is that of the last entry
+pub last-forgotten : {K V : Type 0} (es : List (Entry K V)) (index : Option Hashes) → IsIndexed es index → option_map (λ h. forgotten (length h.list - 1) h) index ≡ option_map (forgotten (length es - 1)) index
+last-forgotten es None short = refl
+last-forgotten es (Some h) index = ap (λ n. Some (forgotten (n - 1) h)) (indexed-at es (Some h) index)

@@ -1,0 +1,174 @@
+-- The table and the cells of an index: what they keep, and as which hashes they are seen, after each call.
+use Rattle.std.proofs.Common.{◌≡◌, ℕ, ◌+◌, ◌-◌, ◌<◌, ◌≤◌, ◌^◌, List, [], ◌∷◌, ◌++◌, length, map, get_or, take, Option, Some, None, option_map, refl, sym, ap, subst, ◌∙◌, arith, Bool, nat_eq, IsPermutation}
+use Rattle.std.specs.Prelude.{filter, remove, reverse, slice_index}
+use Rattle.std.specs.List.{All, Contains}
+use Rattle.std.proofs.Math.ListN.{set}
+use Rattle.std.proofs.lemmas.List.{length-append, length-map, length-reverse, length-set, length-take}
+use Rattle.std.proofs.lemmas.List.Edits.{length-remove}
+use Rattle.std.proofs.lemmas.List.Sorted.{IsPermutation-map, IsPermutation-refl, IsPermutation-trans, length_permutation}
+use Rattle.std.proofs.lemmas.Simd.{map-map}
+use Rattle.starlark_table.proofs.PairBags.{IsPermutation-filter}
+use Rattle.starlark_table.proofs.TableLemmas.{items-items_under}
+use Rattle.starlark_table.specs.Table.{Table, filled, items_under, members, table_capacity, table_len}
+use Rattle.starlark_vec2.specs.Moves.{Moves}
+use Rattle.starlark_small.specs.Hashes.{Hashes, indices_under, numbered}
+use Rattle.starlark_small.specs.Slots.{IsSited, KeepsIndices, RenamesEach, StandsBut, StandsOnce, hash_in, hashes_in, lowered, renaming}
+use Rattle.starlark_small.proofs.Numbered.{bag-noted, bag-renamed, filled-renamed, hashes-back, held, left-bag, left-none, left-there, length-moved, members-below, members-count, stands-once, numbered-moved, numbered-remove, numbered-remove_last, numbered-reverse}
+use Rattle.starlark_small.proofs.Slots.{sited-last, sited-lowered, sited-none, sited-put, sited-reversed}
+
+pub length-hashes_in : (slots : List (Option (ℕ × ℕ))) (cells : List ℕ) → length (hashes_in slots cells) ≡ length cells
+length-hashes_in slots cells = length-map cells (λ s. hash_in (get_or slots s None))
+
+-- the indices of a hash, as a table has them
+pub indices-moved : (hs : List ℕ) (t : Table ℕ) (hash : ℕ) → IsPermutation (numbered hs) (members t) → IsPermutation (indices_under hash hs) (map (λ p. (p.1, p.1)) (items_under hash t))
+indices-moved hs t hash bag =
+    let q : ℕ × ℕ → Bool = λ m. nat_eq m.0 hash in
+    let own : ℕ → ℕ × ℕ = λ i. (i, i) in
+    let is : map (λ p. (p.1, p.1)) (items_under hash t) ≡ map (λ m. (m.1, m.1)) (filter q (members t)) =
+    sym (map-map own (λ s. s.1) (items_under hash t)) ∙ ap (map own) (items-items_under hash t) ∙ map-map own (λ m. m.1) (filter q (members t)) in
+    subst (IsPermutation (indices_under hash hs)) (sym is) (IsPermutation-map (λ m. (m.1, m.1)) (filter q (numbered hs)) (filter q (members t)) (IsPermutation-filter q (numbered hs) (members t) bag))
+
+-- table and cells that keep these hashes, with this room
+pub record Keeps (hs : List ℕ) (free : ℕ) (t : Table ℕ) (cells : List ℕ) (memory : ℕ) : Type 0 where
+  pub keeps : KeepsIndices t cells memory
+  pub list : hashes_in t.slots cells ≡ hs
+  pub room : t.room ≡ free
+
+keeps_by : (hs : List ℕ) (room : ℕ) (t : Table ℕ) (cells : List ℕ) (memory : ℕ) → IsPermutation (numbered hs) (members t) → IsSited cells t.slots → length cells ≡ length hs → table_capacity t ≤ memory → length t.slots ≤ 2 ^ 32 → table_capacity t ≤ 2 ^ 32 → t.room ≡ room
+    → Keeps hs room t cells memory
+keeps_by hs room t cells memory bag sited long spare few narrow free =
+    let back = hashes-back hs t bag cells long sited in
+    record { keeps = record { bag = subst (λ l. IsPermutation (numbered l) (members t)) (sym back) bag; sited = sited; even = long ∙ sym (members-count hs t bag); spare = spare; few = few; narrow = narrow }; list = back; room = free }
+
+-- what they are seen as
+abbrev pub view_of : Table ℕ → List ℕ → Hashes
+view_of t cells = record { list = hashes_in t.slots cells; room = t.room }
+
+abbrev hashes : List ℕ → ℕ → Hashes
+hashes list room = record { list = list; room = room }
+
+pub seen : (hs : List ℕ) (room : ℕ) (t : Table ℕ) (cells : List ℕ) (memory : ℕ) → Keeps hs room t cells memory → view_of t cells ≡ hashes hs room
+seen hs room t cells memory k = λ j. record { list = k.list j; room = k.room j }
+
+-- no index
+pub keeps-none : (t : Table ℕ) (cells : List ℕ) (memory : ℕ) → members t ≡ [] → cells ≡ [] → t.room ≤ memory → length t.slots ≤ 2 ^ 32 → t.room ≤ 2 ^ 32 → Keeps [] t.room t cells memory
+keeps-none t cells memory none is spare few narrow =
+    let empty = ap length none in
+    keeps_by [] t.room t cells memory (subst (IsPermutation []) (sym none) (IsPermutation-refl [])) (subst (λ l. IsSited l t.slots) (sym is) (sited-none t none)) (ap length is) (omega (arith, empty, spare)) few (omega (arith, empty, narrow)) refl
+
+module _ (old : Table ℕ) (cells : List ℕ) (memory : ℕ) (k : KeepsIndices old cells memory) where
+  abbrev hs : List ℕ
+  hs = hashes_in old.slots cells
+
+  pub indices-below : All (λ m. m.1 < length cells) (members old)
+  indices-below = subst (λ n. All (λ m. m.1 < n) (members old)) (length-hashes_in old.slots cells) (members-below hs old k.bag)
+
+  -- an index went last
+  pub keeps-noted : (new : Table ℕ) (after : List ℕ) (h x slot space : ℕ) → after ≡ cells ++ slot ∷ [] → memory ≤ space → x ≡ length cells → slot < length old.slots → new.slots ≡ set old.slots slot (Some (h, x)) → IsPermutation ((h, x) ∷ members old) (members new) → table_capacity new ≡ table_capacity old
+      → 0 < old.room → Keeps (hs ++ h ∷ []) (old.room - 1) new after space
+  keeps-noted new after h x slot space put more last within is added room some =
+      let longer = length_permutation ((h, x) ∷ members old) (members new) added in
+      let long = length-hashes_in old.slots cells in
+      keeps_by (hs ++ h ∷ []) (old.room - 1) new after space (bag-noted hs h x old new (omega (arith, last, long)) k.bag added)
+      (subst (λ l. IsSited l new.slots) (sym put) (subst (IsSited (cells ++ slot ∷ [])) (sym is) (sited-put cells old.slots slot h x last within k.sited)))
+      (omega (arith, ap length put, length-append cells (slot ∷ []), length-append hs (h ∷ []), long)) (omega (arith, room, k.spare, more)) (omega (arith, ap length is, length-set old.slots slot (Some (h, x)), k.few)) (omega (arith, room, k.narrow)) (omega (arith, room, longer, some))
+
+  -- each index is another, and the cells are named anew
+  module _ (name : ℕ → ℕ) (ks : List ℕ) (new : Table ℕ) (renames : RenamesEach name old new) (same : IsPermutation (numbered ks) (map (renaming name) (numbered hs))) (long : length ks ≡ length cells) where
+    pub renamed-bag : IsPermutation (numbered ks) (members new)
+    renamed-bag = bag-renamed name (numbered hs) ks old new k.bag same renames.slots
+
+    pub keeps-renamed : (after : List ℕ) (space : ℕ) → IsSited after new.slots → length after ≡ length cells → memory ≤ space → Keeps ks old.room new after space
+    keeps-renamed after space sited even more =
+        let count = members-count ks new renamed-bag in
+        let was = k.even in
+        keeps_by ks old.room new after space renamed-bag sited (even ∙ sym long) (omega (arith, count, was, long, renames.room, k.spare, more))
+        (omega (arith, ap length renames.slots, length-map old.slots (option_map (renaming name)), k.few)) (omega (arith, count, was, long, renames.room, k.narrow)) renames.room
+
+  -- each hash went where a list says
+  module _ (to ks : List ℕ) (moves : Moves hs to ks) where
+    pub moved-to : length to ≡ length cells
+    moved-to = (length-moved hs to ks moves).0 ∙ length-hashes_in old.slots cells
+
+    moved-long : length ks ≡ length cells
+    moved-long = (length-moved hs to ks moves).1 ∙ length-hashes_in old.slots cells
+
+    module _ (new : Table ℕ) (renames : RenamesEach (slice_index to) old new) where
+      moved-bag : IsPermutation (numbered ks) (members new)
+      moved-bag = renamed-bag (slice_index to) ks new renames (numbered-moved hs to ks moves) moved-long
+
+      pub moved-below : All (λ m. m.1 < length cells) (members new)
+      moved-below = subst (λ n. All (λ m. m.1 < n) (members new)) moved-long (members-below ks new moved-bag)
+
+      pub moved-once : StandsOnce new.slots
+      moved-once = stands-once ks new moved-bag
+
+      pub keeps-moved : (after : List ℕ) (space : ℕ) → IsSited after new.slots → length after ≡ length cells → memory ≤ space → Keeps ks old.room new after space
+      keeps-moved after space sited even more = keeps-renamed (slice_index to) ks new renames (numbered-moved hs to ks moves) moved-long after space sited even more
+
+  -- another table has the same members
+  module _ (new : Table ℕ) (same : IsPermutation (members old) (members new)) where
+    grown-bag : IsPermutation (numbered hs) (members new)
+    grown-bag = IsPermutation-trans (numbered hs) (members old) (members new) k.bag same
+
+    pub grown-below : All (λ m. m.1 < length cells) (members new)
+    grown-below = subst (λ n. All (λ m. m.1 < n) (members new)) (length-hashes_in old.slots cells) (members-below hs new grown-bag)
+
+    pub grown-once : StandsOnce new.slots
+    grown-once = stands-once hs new grown-bag
+
+    pub keeps-grown : (after : List ℕ) (space : ℕ) → IsSited after new.slots → length after ≡ length cells → table_capacity new ≤ space → length new.slots ≤ 2 ^ 32 → table_capacity new ≤ 2 ^ 32 → Keeps hs new.room new after space
+    keeps-grown after space sited even spare few narrow = keeps_by hs new.room new after space grown-bag sited (even ∙ sym (length-hashes_in old.slots cells)) spare few narrow refl
+
+  -- the order is turned round
+  pub keeps-reversed : (n : ℕ) (new : Table ℕ) (space : ℕ) → n ≡ length cells → RenamesEach (λ i. n - 1 - i) old new → memory ≤ space → Keeps (reverse hs) old.room new (reverse cells) space
+  keeps-reversed n new space is renames more =
+      let long = length-hashes_in old.slots cells in
+      let turns : RenamesEach (λ i. length cells - 1 - i) old new = subst (λ m. RenamesEach (λ i. m - 1 - i) old new) is renames in
+      let bag = subst (λ m. IsPermutation (numbered (reverse hs)) (map (renaming (λ i. m - 1 - i)) (numbered hs))) long (numbered-reverse hs) in
+      keeps-renamed (λ i. length cells - 1 - i) (reverse hs) new turns bag (length-reverse hs ∙ long) (reverse cells) space
+      (subst (IsSited (reverse cells)) (sym turns.slots) (sited-reversed cells old.slots k.sited)) (length-reverse cells) more
+
+  -- an index was taken out, and those above it have not gone down
+  module _ (i : ℕ) (inside : i < length cells) (mid : Table ℕ) (after : List ℕ) (even : length after ≡ length cells) (sited : IsSited after mid.slots) (taken : (h : ℕ) → Contains (members old) (h, i) → IsPermutation (members old) ((h, i) ∷ members mid))
+      (places : length mid.slots ≡ length old.slots) (room : table_capacity mid ≡ table_capacity old) where
+    within : i < length hs
+    within = omega (arith, inside, length-hashes_in old.slots cells)
+
+    apart : IsPermutation (members old) ((get_or hs i 0, i) ∷ members mid)
+    apart = taken (get_or hs i 0) (held hs old k.bag i within)
+
+    bag : IsPermutation (remove (numbered hs) i) (members mid)
+    bag = left-bag hs old k.bag i within mid apart
+
+    gone : table_len old ≡ 1 + table_len mid
+    gone = omega (arith, length_permutation (members old) ((get_or hs i 0, i) ∷ members mid) apart)
+
+    pub stands-but : StandsBut i after mid.slots
+    stands-but = record {
+      there = λ j lt other. (get_or hs j 0, left-there hs old k.bag i within mid apart after sited j (omega (arith, lt, even, length-hashes_in old.slots cells)) other);
+    }
+
+    -- they have
+    pub keeps-forgotten : (new : Table ℕ) (space : ℕ) → RenamesEach (lowered i) mid new → memory ≤ space → Keeps (remove hs i) (old.room + 1) new (remove after i) space
+    keeps-forgotten new space renames more =
+        let ks = remove hs i in
+        let same : IsPermutation (numbered ks) (map (renaming (lowered i)) (remove (numbered hs) i)) = subst (IsPermutation (numbered ks)) (sym (numbered-remove hs i within)) (IsPermutation-refl (numbered ks)) in
+        let now = bag-renamed (lowered i) (remove (numbered hs) i) ks mid new bag same renames.slots in
+        let count : table_len new ≡ table_len mid = ap length (ap filled renames.slots ∙ filled-renamed (lowered i) mid.slots) ∙ length-map (members mid) (renaming (lowered i)) in
+        let here : i < length after = omega (arith, inside, even) in
+        keeps_by ks (old.room + 1) new (remove after i) space now
+        (subst (IsSited (remove after i)) (sym renames.slots) (sited-lowered i after mid.slots here (left-none hs old k.bag i within mid apart) sited))
+        (omega (arith, length-remove after i here, length-remove hs i within, even, length-hashes_in old.slots cells)) (omega (arith, count, renames.room, room, k.spare, more))
+        (omega (arith, ap length renames.slots, length-map mid.slots (option_map (renaming (lowered i))), places, k.few)) (omega (arith, count, renames.room, room, k.narrow)) (omega (arith, renames.room, room, gone))
+
+    -- there was none above it
+    pub keeps-forgotten_last : (space : ℕ) → i + 1 ≡ length cells → memory ≤ space → Keeps (remove hs i) (old.room + 1) mid (take i after) space
+    keeps-forgotten_last space end more =
+        let ks = remove hs i in
+        let long = length-hashes_in old.slots cells in
+        let now : IsPermutation (numbered ks) (members mid) = subst (λ l. IsPermutation l (members mid)) (numbered-remove_last hs i (omega (arith, end, long))) bag in
+        let left : length ks ≡ i = omega (arith, length-remove hs i within, end, long) in
+        keeps_by ks (old.room + 1) mid (take i after) space now
+        (sited-last after mid i (omega (arith, end, even)) (subst (λ n. All (λ m. m.1 < n) (members mid)) left (members-below ks mid now)) sited)
+        (omega (arith, length-take i after, end, even, left)) (omega (arith, room, k.spare, more)) (omega (arith, places, k.few)) (omega (arith, room, k.narrow)) (omega (arith, room, gone))

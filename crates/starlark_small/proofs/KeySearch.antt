@@ -1,0 +1,137 @@
+-- The indices of a hash, as the keys that stand under it.
+use Rattle.std.proofs.Common.{◌≡◌, ℕ, suc, ◌+◌, ◌<◌, ◌^◌, Bool, true, false, cond, List, [], ◌∷◌, ◌++◌, length, get_or, map, Option, Some, refl, sym, ap, subst, ◌∙◌, arith, IsPermutation, nat_eq, eq-eqb, inl, inr}
+use Rattle.std.specs.Prelude.{filter, slice_get}
+use Rattle.std.specs.Borrow.{Bor}
+use Rattle.std.specs.Fn.{Mut, CalledAt, TakesAt}
+use Rattle.std.specs.List.{All, Contains, enumerate_from}
+use Rattle.std.specs.Option.{option_map}
+use Rattle.std.proofs.lemmas.Bool.{eqb-true, cases_order, false≢true}
+use Rattle.std.proofs.lemmas.Bool.Decides.{nat_tests}
+use Rattle.std.proofs.lemmas.List.{length-map}
+use Rattle.std.proofs.lemmas.List.Elements.{All-contains, All-filter, All-map, Contains-append_right}
+use Rattle.std.proofs.lemmas.List.Sorted.{IsPermutation-refl, length_permutation}
+use Rattle.std.proofs.lemmas.Option.{get_or_from_slice_get, slice_get-map, slice_get-get_or, slice_get_within, same_Some}
+use Rattle.starlark_hash.specs.HashValue.{promoted}
+use Rattle.starlark_hash.specs.declared.hash_value.StarlarkHashValue.{StarlarkHashValue}
+use Rattle.starlark_hash.proofs.Promote.{promoted-injective}
+use Rattle.starlark_lists.specs.Entries.{Entry, entry_key, is_under, pair_of}
+use Rattle.starlark_lists.specs.Search.{Asks, CanSearch, Searches, keys_under}
+use Rattle.starlark_small.specs.Hashes.{indices_under, numbered, numbered_from}
+use Rattle.starlark_small.specs.Index.{hashes_of}
+use Rattle.starlark_small.proofs.Numbered.{below-all}
+use Rattle.starlark_small.proofs.Transport.{can_transport, transported}
+
+unequal : (a b h k : ℕ) → (a ≡ b → h ≡ k) → nat_eq h k ≡ false → nat_eq a b ≡ false
+unequal a b h k inj e = elim (cases_order a b) [
+  | inl same ↦ absurd (false≢true (sym e ∙ eq-eqb h k (inj same)))
+  | inr sides ↦ elim sides [ inl less ↦ grind (arith, nat_tests) | inr more ↦ grind (arith, nat_tests) ]
+]
+
+-- hashes agree where their promotions do
+same_test : (h k : ℕ) → h < 2 ^ 32 → k < 2 ^ 32 → nat_eq (promoted h) (promoted k) ≡ nat_eq h k
+same_test h k h_fits k_fits =
+    (elim (nat_eq h k) as (λ b. nat_eq h k ≡ b → nat_eq (promoted h) (promoted k) ≡ b) [
+      | true ↦ λ e. eq-eqb (promoted h) (promoted k) (ap promoted (eqb-true h k e))
+      | false ↦ λ e. unequal (promoted h) (promoted k) h k (promoted-injective h k h_fits k_fits) e
+    ]) refl
+
+-- the indices of a hash are within the list
+pub indices-within : (hash : ℕ) (hs : List ℕ) (p : ℕ × ℕ) → Contains (indices_under hash hs) p → p.1 < length hs
+indices-within hash hs p there =
+    let own : ℕ × ℕ → ℕ × ℕ = λ m. (m.1, m.1) in
+    let q : ℕ × ℕ → Bool = λ m. nat_eq m.0 hash in
+    All-contains (λ p. p.1 < length hs) (indices_under hash hs) p
+    (All-map (λ p. p.1 < length hs) own (filter q (numbered hs)) (All-filter q (λ m. m.1 < length hs) (numbered hs) (below-all hs))) there
+
+module _ {K V : Type 0} where
+  -- an index named, with the key of the entry that `look` gives for it
+  abbrev keyed : (ℕ → Entry K V) → ℕ × ℕ → ℕ × K
+  keyed look p = (p.0, entry_key (look p.1))
+
+  keys-numbered : (hash : StarlarkHashValue) (look : ℕ → Entry K V) (n : ℕ) (es : List (Entry K V)) → All (λ e. e.0.hash.0 < 2 ^ 32) es → hash.0 < 2 ^ 32 → ((k : ℕ) (e : Entry K V) → slice_get es k ≡ Some e → look (n + k) ≡ e)
+      → map (λ p. (p.0, entry_key p.1)) (filter (λ p. is_under hash p.1) (enumerate_from n es)) ≡ map (keyed look) (map (λ m. (m.1, m.1)) (filter (λ m. nat_eq m.0 (promoted hash.0)) (numbered_from n (hashes_of es))))
+  keys-numbered hash look n [] fits h_fits known = refl
+  keys-numbered hash look n (e ∷ es) fits h_fits known =
+      let H = promoted hash.0 in
+      let h = promoted e.0.hash.0 in
+      let keys = filter (λ p. is_under hash p.1) (enumerate_from (n + 1) es) in
+      let rest = filter (λ m. nat_eq m.0 H) (numbered_from (n + 1) (hashes_of es)) in
+      let others : map (λ p. (p.0, entry_key p.1)) keys ≡ map (keyed look) (map (λ m. (m.1, m.1)) rest) = keys-numbered hash look (n + 1) es (λ k d lt. fits (suc k) d (omega (arith, lt))) h_fits
+      (λ k d is. ap look {x = n + 1 + k} {y = n + suc k} (omega arith) ∙ known (suc k) d is) in
+      let head : e ≡ look n = sym (ap look {x = n} {y = n + 0} (omega arith) ∙ known 0 e refl) in
+      (elim (nat_eq e.0.hash.0 hash.0) as (λ b. map (λ p. (p.0, entry_key p.1)) (cond b ((n, e) ∷ keys) keys) ≡ map (keyed look) (map (λ m. (m.1, m.1)) (cond b ((h, n) ∷ rest) rest))) [
+        | true ↦ λ j. (n, entry_key (head j)) ∷ others j
+        | false ↦ others
+      ])
+      ∙ ap (λ b. map (keyed look) (map (λ m. (m.1, m.1)) (cond b ((h, n) ∷ rest) rest))) (sym (same_test e.0.hash.0 hash.0 (fits 0 e (omega arith)) h_fits))
+
+-- w, asked about an index, asks g about the key there; inner is g's state in w's, and Sees says that w looks at the list
+module _ {C F K V : Type 0} (g : Mut F (Bor K × Unit {0}) Bool) (w : Mut C (Bor ℕ × Unit {0}) Bool) (inner : C → F) (Sees : C → Type 0) (es : List (Entry K V)) (hs : List ℕ) (same : hs ≡ hashes_of es) (hash : StarlarkHashValue)
+    (small : All (λ e. e.0.hash.0 < 2 ^ 32) es) (fits : hash.0 < 2 ^ 32)
+    (relate : (s : C) (i : ℕ) (b : Bool) (t : C) → Sees s → CalledAt w s i b t → Sees t × ((e : Entry K V) → slice_get es i ≡ Some e → CalledAt g (inner s) (entry_key e) b (inner t))) (s : C) (sees : Sees s) where
+  abbrev items : List (ℕ × ℕ)
+  items = indices_under (promoted hash.0) (hashes_of es)
+
+  module _ (d : Entry K V) where
+    look : ℕ → Entry K V
+    look i = get_or es i d
+
+    there : (p : ℕ × ℕ) → Contains items p → slice_get es p.1 ≡ Some (look p.1)
+    unfolding look
+    there p among = slice_get-get_or es p.1 d (omega (arith, indices-within (promoted hash.0) (hashes_of es) p among, length-map es (λ e. promoted e.0.hash.0)))
+
+    keys-are : keys_under hash es ≡ map (keyed look) items
+    unfolding look
+    keys-are = keys-numbered hash (λ i. get_or es i d) 0 es small fits (λ k e at. ap (λ i. get_or es i d) {x = 0 + k} {y = k} (omega arith) ∙ get_or_from_slice_get es k e d at)
+
+    can_by : ((s : C) (i : ℕ) → Sees s → (e : Entry K V) → slice_get es i ≡ Some e → TakesAt g (inner s) (entry_key e) → TakesAt w s i) → CanSearch g (keys_under hash es) (inner s) → CanSearch w items s
+    can_by pass may =
+        can_transport w g inner Sees (keyed look) items (λ p among s b t sees called. let r = relate s p.1 b t sees called in (r.0, r.1 (look p.1) (there p among))) (keys_under hash es) s
+        (subst (IsPermutation (keys_under hash es)) keys-are (IsPermutation-refl (keys_under hash es))) (λ p among s sees takes. pass s p.1 sees (look p.1) (there p among) takes) sees may
+
+    found_by : (last : C) (answer : Option ℕ) → Searches w items s answer last → Searches g (keys_under hash es) (inner s) answer (inner last)
+    found_by last answer search =
+        transported w g inner Sees (keyed look) items (λ p among s b t sees called. let r = relate s p.1 b t sees called in (r.0, r.1 (look p.1) (there p among))) (λ o. o) refl (λ p among. refl) (keys_under hash es) s last answer
+        (subst (IsPermutation (keys_under hash es)) keys-are (IsPermutation-refl (keys_under hash es))) sees search
+
+  can_in : (fs : List (Entry K V)) → fs ≡ es → ((s : C) (i : ℕ) → Sees s → (e : Entry K V) → slice_get es i ≡ Some e → TakesAt g (inner s) (entry_key e) → TakesAt w s i) → CanSearch g (keys_under hash es) (inner s) → CanSearch w items s
+  can_in [] is pass may = record {
+    at = λ before p after later moves refused.
+        let none : length items ≡ 0 = ap (λ l. length (indices_under (promoted hash.0) (hashes_of l))) (sym is) in
+        let some = Contains-append_right before (p ∷ after) p (0, omega arith, refl) in
+        absurd (omega (arith, length_permutation items (before ++ p ∷ after) moves, none, some.1));
+  }
+  can_in (d ∷ fs) is pass may = can_by d pass may
+
+  found_none : (order : List (ℕ × ℕ)) → length order ≡ 0 → keys_under hash es ≡ [] → (last : C) (answer : Option ℕ) → Asks w s order answer last → Searches g (keys_under hash es) (inner s) answer (inner last)
+  found_none [] none is last answer asked = subst (λ l. Searches g l (inner s) answer (inner last)) (sym is) (record { order = []; rearranged = IsPermutation-refl []; asks = (asked.0, ap inner asked.1) })
+  found_none (p ∷ order) none is last answer asked = absurd (omega (arith, none))
+
+  found_in : (fs : List (Entry K V)) → fs ≡ es → (last : C) (answer : Option ℕ) → Searches w items s answer last → Searches g (keys_under hash es) (inner s) answer (inner last)
+  found_in [] is last answer search =
+      let none : length items ≡ 0 = ap (λ l. length (indices_under (promoted hash.0) (hashes_of l))) (sym is) in
+      found_none search.order (length_permutation items search.order search.rearranged ∙ none) (ap (keys_under hash) (sym is)) last answer search.asks
+  found_in (d ∷ fs) is last answer search = found_by d last answer search
+
+  -- so where the keys may be searched the indices may
+  pub can_search-indices : ((s : C) (i : ℕ) → Sees s → (e : Entry K V) → slice_get es i ≡ Some e → TakesAt g (inner s) (entry_key e) → TakesAt w s i) → CanSearch g (keys_under hash es) (inner s)
+      → CanSearch w (indices_under (promoted hash.0) hs) s
+  can_search-indices pass may = subst (λ l. CanSearch w (indices_under (promoted hash.0) l) s) (sym same) (can_in es refl pass may)
+
+  -- and what is found among the indices is found among the keys
+  pub searches-indices : (last : C) (answer : Option ℕ) → Searches w (indices_under (promoted hash.0) hs) s answer last → Searches g (keys_under hash es) (inner s) answer (inner last)
+  searches-indices last answer search = found_in es refl last answer (subst (λ l. Searches w (indices_under (promoted hash.0) l) s answer last) same search)
+
+-- the pair of an entry stands where the entry does
+pub pair_there : {K V : Type 0} (es : List (Entry K V)) (pairs : List (K × V)) (x i : ℕ) (e : Entry K V) → pairs ≡ map pair_of es → i ≡ x
+    → slice_get es x ≡ Some e → slice_get pairs i ≡ Some (pair_of e)
+pair_there es pairs x i e sees shows at =
+    ap (λ l. slice_get l i) sees ∙ slice_get-map pair_of es i ∙ ap (option_map pair_of) (ap (slice_get es) shows ∙ at)
+
+-- where the closure shows an index that is there, it may be called
+pub taken : {F K V : Type 0} (g : Mut F (Bor K × Unit {0}) Bool) (es : List (Entry K V)) (pairs : List (K × V)) (x i : ℕ) (f : F) → pairs ≡ map pair_of es → i ≡ x
+    → (e : Entry K V) → slice_get es x ≡ Some e → TakesAt g f (entry_key e)
+    → (i < length pairs) × ((p : K × V) → slice_get pairs i ≡ Some p → TakesAt g f p.0)
+taken g es pairs x i f sees shows e at takes =
+    let here = pair_there es pairs x i e sees shows at in
+    (slice_get_within pairs i (pair_of e) here, λ p is. subst (λ z. TakesAt g f z.0) (same_Some (pair_of e) p (sym here ∙ is)) takes)

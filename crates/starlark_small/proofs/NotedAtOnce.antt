@@ -1,0 +1,111 @@
+-- A hash that a look at the index shows to be new: no entry is under it, and one goes last without growth.
+use Rattle.std.proofs.Common.{◌≡◌, ◌≢◌, ℕ, zero, suc, ◌+◌, ◌-◌, ◌<◌, ◌≤◌, Bool, true, List, [], ◌∷◌, ◌++◌, get_or, length, min, Option, Some, None, Ok, refl, sym, ap, subst, ◌∙◌, arith, eqb-true}
+use Rattle.std.specs.Prelude.{slice_get, is_some, ◌||◌, nat_lt, if◌then◌else◌}
+use Rattle.std.specs.Cmp.{IsEquivalence}
+use Rattle.std.specs.Option.{option_map_or}
+use Rattle.std.proofs.lemmas.Bool.{and_parts}
+use Rattle.std.proofs.lemmas.Bool.Decides.{nat_tests}
+use Rattle.std.proofs.lemmas.List.{get_or-map, length-map, length_push}
+use Rattle.std.specs.List.{All}
+use Rattle.std.proofs.lemmas.Option.{get_or_from_slice_get}
+use Rattle.starlark_hash.specs.HashValue.{hash_of, key_of, promoted}
+use Rattle.starlark_hash.specs.declared.hash_value.StarlarkHashValue.{StarlarkHashValue}
+use Rattle.starlark_hash.specs.declared.hashed.Hashed.{Hashed}
+use Rattle.starlark_lists.specs.Entries.{Entry, entry_hash, entry_key, is_under, match_of, position_of, set_value_at, stands_under, value_at}
+use Rattle.starlark_lists.proofs.EntryLemmas.{IsSingle-push}
+use Rattle.starlark_lists.proofs.PositionLemmas.{position-within, position-passes}
+use Rattle.starlark_small.specs.Hashes.{Hashes, hash_under, noted}
+use Rattle.starlark_small.specs.Indexing.{IsNotedIn}
+use Rattle.starlark_small.specs.Index.{IsIndexed, hashes_of, IsSound, index_room, map_of, unindexed}
+use Rattle.starlark_small.specs.Inserted.{IsInserted}
+use Rattle.starlark_small.specs.Inserting.{Inserts}
+use Rattle.starlark_small.specs.Map.{Map}
+use Rattle.starlark_small.proofs.CallerInserts.{inserts-done}
+use Rattle.starlark_small.proofs.Inserted.{LeavesMemory-inserted}
+use Rattle.starlark_small.proofs.Indexed.{IsIndexed-noted, room-noted}
+use Rattle.starlark_vecmap.specs.EntryList.{EntryList, with_entries}
+
+there : {X : Type 0} (xs : List X) (j : ℕ) → j < length xs → (x : X) × (slice_get xs j ≡ Some x)
+there [] j below = absurd (omega arith)
+there (x ∷ xs) zero below = (x, refl)
+there (x ∷ xs) (suc j) below = there xs j (omega arith)
+
+room_stays : (len len' capacity room room' : ℕ) → len' ≡ len + 1 → room ≤ 1 + room' → len + min (capacity - len) room ≤ len' + min (capacity - len') room'
+room_stays len len' capacity room room' longer less = omega arith
+
+capacity_stays : (len capacity grown : ℕ) → 1 ≤ capacity - len → capacity ≡ (if nat_lt (capacity - len) 1 then grown else capacity)
+capacity_stays len capacity grown room = grind (arith, nat_tests)
+
+module _ {K V : Type 0} where
+  nobody : (es : List (Entry K V)) (hash : StarlarkHashValue) → All (λ h. h ≢ hash_under hash) (hashes_of es) → (j : ℕ) (d : Entry K V) → j < length es → slice_get es j ≡ Some d → is_under hash d ≡ true → ⊥
+  nobody es hash lacked j d below at under =
+      let here : get_or es j d ≡ d = get_or_from_slice_get es j d d at in
+      let H : Entry K V → ℕ = λ e. hash_under (entry_hash e) in
+      lacked j (H d) (omega (arith, below, length-map es H)) (get_or-map H es j d (H d) below ∙ ap H here ∙ ap promoted (eqb-true d.0.hash.0 hash.0 under))
+
+  nowhere : (es : List (Entry K V)) (hash : StarlarkHashValue) (t : K → Bool)
+      → ((j : ℕ) (d : Entry K V) → j < length es → slice_get es j ≡ Some d → is_under hash d ≡ true → ⊥) → position_of hash t es ≡ None
+  nowhere es hash t never = at_place (position_of hash t es) refl where
+    at_place : (place : Option ℕ) → position_of hash t es ≡ place → place ≡ None
+    at_place None _ = refl
+    at_place (Some j) is =
+        let below = position-within (stands_under hash t) es j is in
+        let d = there es j below in
+        let both = and_parts (is_under hash d.0) (t (entry_key d.0))
+        (subst (λ z. stands_under hash t z ≡ true) (get_or_from_slice_get es j d.0 d.0 d.1) (position-passes (stands_under hash t) es j d.0 is)) in
+        absurd (never j d.0 below d.1 both.0)
+
+  -- an entry that goes last where nothing has to grow
+  inserted_with_room : (list : EntryList K V) (before after : Option Hashes) (key : Hashed K) (value : V)
+      → 0 < (map_of list before).room → is_some before ≡ true → is_some after ≡ is_some before
+      → index_room (length list.entries) before ≤ 1 + index_room (length list.entries + 1) after
+      → IsInserted (map_of list before) key value (map_of (with_entries list (list.entries ++ (key, value) ∷ [])) after)
+  inserted_with_room list before after key value room had kept less =
+      let len : ℕ = length list.entries in
+      let longer = length_push list.entries (key, value) in
+      record {
+        entries = refl;
+        spare = λ _. (refl, kept);
+        room = room_stays len (length (list.entries ++ (key, value) ∷ [])) list.capacity (index_room len before) (index_room (length (list.entries ++ (key, value) ∷ [])) after) longer
+            (subst (λ n. index_room len before ≤ 1 + index_room n after) (sym longer) less);
+        capacity = capacity_stays len list.capacity _ (omega (arith, room));
+        indexed = kept ∙ had ∙ ap (λ b. b || nat_lt unindexed (len + 1)) (sym had);
+      }
+
+-- a new key whose hash was noted at once, with room in the list
+module _ {K V : Type 0} (eq : K → K → Bool) (laws : IsEquivalence eq) (list new : EntryList K V) (before after : Option Hashes) (key : Hashed K) (value : V) (sound : IsSound eq list.entries before) (noting : IsNotedIn (hash_of key) (list.capacity - length list.entries) before after)
+    (is : new ≡ with_entries list (list.entries ++ (key, value) ∷ [])) where
+  index : IsIndexed list.entries (Some noting.hashes)
+  index = subst (IsIndexed list.entries) noting.there sound.indexed
+
+  absent : match_of eq list.entries key ≡ None
+  absent = nowhere list.entries (hash_of key) (eq (key_of key)) (nobody list.entries (hash_of key) (subst (All (λ h. h ≢ hash_under (hash_of key))) index.list noting.lacked))
+
+  indexed : IsIndexed (list.entries ++ (key, value) ∷ []) after
+  indexed = subst (IsIndexed (list.entries ++ (key, value) ∷ [])) (sym noting.noted) (IsIndexed-noted list.entries (key, value) (hash_of key) (Some noting.hashes) refl (omega (arith, noting.room)) noting.fits index)
+
+  pub sound_at_once : IsSound eq new.entries after
+  sound_at_once = subst (λ l. IsSound eq l.entries after) (sym is) (record {
+    single = IsSingle-push eq laws list.entries key value sound.single absent;
+    indexed = indexed;
+  })
+
+  abbrev brought : Hashed K × V
+  brought = (key, value)
+
+  pub inserts_at_once : (old : Map K V) → map_of list before ≡ old → Inserts eq key value brought old (map_of new after) (Ok None)
+  inserts_at_once old view =
+      let had : is_some before ≡ true = ap is_some noting.there in
+      let kept : is_some after ≡ is_some before = ap is_some noting.noted ∙ sym had in
+      let less = subst (λ o. index_room (length list.entries) before ≤ 1 + index_room (length list.entries + 1) o) (sym noting.noted)
+      (subst (λ o. index_room (length list.entries) o ≤ 1 + index_room (length list.entries + 1) (Some (noted (hash_of key) noting.hashes))) (sym noting.there) (room-noted (length list.entries) (hash_of key) (Some noting.hashes))) in
+      let free : 0 < index_room (length list.entries) before = subst (λ o. 0 < index_room (length list.entries) o) (sym noting.there) noting.room in
+      let room : 0 < (map_of list before).room = omega (arith, free, noting.spare) in
+      let put : IsInserted (map_of list before) key value (map_of new after) =
+      subst (λ l. IsInserted (map_of list before) key value (map_of l after)) (sym is)
+      (inserted_with_room list before after key value room had kept less) in
+      subst (λ m. Inserts eq key value brought m (map_of new after) (Ok None)) view
+      (inserts-done eq key value brought (map_of list before) (map_of new after) laws None
+      (sym (ap (value_at list.entries) absent))
+      (put.entries ∙ sym (ap (λ o. option_map_or (λ i. set_value_at list.entries i value) o (list.entries ++ (key, value) ∷ [])) absent))
+      (LeavesMemory-inserted eq (map_of list before) key value (map_of new after) absent put))

@@ -1,0 +1,313 @@
+-- The numbered hashes of a list, and what a table says that has them as its members.
+use Rattle.std.proofs.Common.{◌≡◌, ◌≢◌, ℕ, zero, suc, ◌+◌, ◌-◌, ◌<◌, ◌≤◌, ◌⊎◌, inl, inr, Bool, true, false, cond, nat_eq, eq-eqb, List, [], ◌∷◌, ◌++◌, length, map, get_or, take, Option, Some, None, refl, sym, ap, subst, ◌∙◌, arith, IsPermutation}
+use Rattle.std.specs.Prelude.{filter, remove, reverse, slice_get, slice_index}
+use Rattle.std.specs.List.{All, Contains, range_with_len}
+use Rattle.std.proofs.lemmas.Bool.{cases_order, false≢true}
+use Rattle.std.proofs.lemmas.Bool.Decides.{nat_tests}
+use Rattle.std.proofs.lemmas.List.{ext_get_or, get_or-map, length-map, length-reverse, reverse-append}
+use Rattle.std.proofs.lemmas.List.FromFn.{length-range_with_len}
+use Rattle.std.proofs.lemmas.List.Elements.{All-cons}
+use Rattle.std.proofs.lemmas.List.Sorted.{IsPermutation-sym, IsPermutation-trans, IsPermutation-cons, IsPermutation-to_front, IsPermutation-map, IsPermutation-remove, IsPermutation-reverse, All-permutation, Contains-permutation, length_permutation}
+use Rattle.std.proofs.lemmas.Option.{none-some, same_Some}
+use Rattle.starlark_table.specs.Table.{Table, filled, items_under, members, member_at, table_len}
+use Rattle.starlark_table.proofs.PairBags.{IsPermutation-cancel, IsPermutation-filter}
+use Rattle.starlark_table.proofs.TableLemmas.{items-items_under}
+use Rattle.starlark_vec2.specs.Moves.{Moves}
+use Rattle.starlark_small.specs.Hashes.{numbered, numbered_from}
+use Rattle.starlark_small.specs.Slots.{IsSited, StandsOnce, hash_in, hashes_in, lowered, renamed, renaming}
+
+pub same_or : (a b : ℕ) → (a ≡ b) ⊎ (a ≢ b)
+same_or a b = elim (cases_order a b) [
+  | inl same ↦ inl same
+  | inr sides ↦ elim sides [ inl less ↦ inr (λ same. omega (arith, less, same)) | inr more ↦ inr (λ same. omega (arith, more, same)) ]
+]
+
+-- ---- the numbered hashes
+pub numbered-append : (n : ℕ) (hs ks : List ℕ) → numbered_from n (hs ++ ks) ≡ numbered_from n hs ++ numbered_from (n + length hs) ks
+numbered-append n [] ks = ap (λ i. numbered_from i ks) {x = n} {y = n + 0} (omega arith)
+numbered-append n (h ∷ hs) ks =
+    ap (λ l. (h, n) ∷ l) (numbered-append (n + 1) hs ks)
+    ∙ ap (λ i. (h, n) ∷ numbered_from (n + 1) hs ++ numbered_from i ks) {x = n + 1 + length hs} {y = n + suc (length hs)} (omega arith)
+
+length-numbered : (n : ℕ) (hs : List ℕ) → length (numbered_from n hs) ≡ length hs
+length-numbered n [] = refl
+length-numbered n (h ∷ hs) = ap suc (length-numbered (n + 1) hs)
+
+get_or-numbered : (n k : ℕ) (hs : List ℕ) (d : ℕ × ℕ) → k < length hs → get_or (numbered_from n hs) k d ≡ (get_or hs k 0, n + k)
+get_or-numbered n k [] d below = absurd (omega arith)
+get_or-numbered n zero (h ∷ hs) d below = ap (λ i. (h, i)) {x = n} {y = n + 0} (omega arith)
+get_or-numbered n (suc k) (h ∷ hs) d below =
+    get_or-numbered (n + 1) k hs d (omega arith) ∙ ap (λ i. (get_or hs k 0, i)) {x = n + 1 + k} {y = n + suc k} (omega arith)
+
+numbered-below : (n : ℕ) (hs : List ℕ) → All (λ m. m.1 < n + length hs) (numbered_from n hs)
+numbered-below n [] k d lt = absurd (omega arith)
+numbered-below n (h ∷ hs) zero d lt = omega arith
+numbered-below n (h ∷ hs) (suc k) d lt = omega (arith, numbered-below (n + 1) hs k d (omega arith))
+
+pub below-all : (hs : List ℕ) → All (λ m. m.1 < length hs) (numbered hs)
+below-all hs = λ k d lt. omega (arith, numbered-below 0 hs k d lt)
+
+pub at-numbered : (hs : List ℕ) (k : ℕ) (d : ℕ × ℕ) → k < length hs → get_or (numbered hs) k d ≡ (get_or hs k 0, k)
+at-numbered hs k d below = get_or-numbered 0 k hs d below ∙ ap (λ i. (get_or hs k 0, i)) {x = 0 + k} {y = k} (omega arith)
+
+-- all behind an index go down
+sunk : (last n : ℕ) (hs : List ℕ) → last ≤ n → map (renaming (lowered last)) (numbered_from (n + 1) hs) ≡ numbered_from n hs
+sunk last n [] le = refl
+sunk last n (h ∷ hs) le =
+    let sinks : lowered last (n + 1) ≡ n = grind (arith, nat_tests) in
+    ap (λ i. (h, i) ∷ map (renaming (lowered last)) (numbered_from (n + 1 + 1) hs)) sinks ∙ ap (λ l. (h, n) ∷ l) (sunk last (n + 1) hs (omega arith))
+
+lowered_from : (n k : ℕ) (hs : List ℕ) → k < length hs → map (renaming (lowered (n + k))) (remove (numbered_from n hs) k) ≡ numbered_from n (remove hs k)
+lowered_from n k [] below = absurd (omega arith)
+lowered_from n zero (h ∷ hs) below = sunk (n + 0) n hs (omega arith)
+lowered_from n (suc k) (h ∷ hs) below =
+    let stays : lowered (n + suc k) n ≡ n = grind (arith, nat_tests) in
+    let next : n + suc k ≡ n + 1 + k = omega arith in
+    ap (λ i. (h, i) ∷ map (renaming (lowered (n + suc k))) (remove (numbered_from (n + 1) hs) k)) stays
+    ∙ ap (λ i. (h, n) ∷ map (renaming (lowered i)) (remove (numbered_from (n + 1) hs) k)) next
+    ∙ ap (λ l. (h, n) ∷ l) (lowered_from (n + 1) k hs (omega arith))
+
+pub numbered-remove : (hs : List ℕ) (k : ℕ) → k < length hs → map (renaming (lowered k)) (remove (numbered hs) k) ≡ numbered (remove hs k)
+numbered-remove hs k below = ap (λ i. map (renaming (lowered i)) (remove (numbered hs) k)) {x = k} {y = 0 + k} (omega arith) ∙ lowered_from 0 k hs below
+
+numbered_from-remove_last : (n k : ℕ) (hs : List ℕ) → k + 1 ≡ length hs → remove (numbered_from n hs) k ≡ numbered_from n (remove hs k)
+numbered_from-remove_last n k [] end = absurd (omega (arith, end))
+numbered_from-remove_last n zero (h ∷ []) end = refl
+numbered_from-remove_last n zero (h ∷ k ∷ hs) end = absurd (omega (arith, end))
+numbered_from-remove_last n (suc k) (h ∷ hs) end = ap (λ l. (h, n) ∷ l) (numbered_from-remove_last (n + 1) k hs (omega (arith, end)))
+
+pub numbered-remove_last : (hs : List ℕ) (k : ℕ) → k + 1 ≡ length hs → remove (numbered hs) k ≡ numbered (remove hs k)
+numbered-remove_last hs k end = numbered_from-remove_last 0 k hs end
+
+reversed_from : (n len : ℕ) (hs : List ℕ) → len ≡ n + length hs → map (renaming (λ i. len - 1 - i)) (numbered_from n hs) ≡ reverse (numbered (reverse hs))
+reversed_from n len [] is = refl
+reversed_from n len (h ∷ hs) is =
+    let last : len - 1 - n ≡ 0 + length (reverse hs) = omega (arith, length-reverse hs, is) in
+    ap (λ i. (h, i) ∷ map (renaming (λ i. len - 1 - i)) (numbered_from (n + 1) hs)) last
+    ∙ ap (λ l. (h, 0 + length (reverse hs)) ∷ l) (reversed_from (n + 1) len hs (omega (arith, is)))
+    ∙ sym (reverse-append (numbered (reverse hs)) ((h, 0 + length (reverse hs)) ∷ []))
+    ∙ ap reverse (sym (numbered-append 0 (reverse hs) (h ∷ [])) ∙ ap numbered (sym (reverse-append (h ∷ []) hs)))
+
+pub numbered-reverse : (hs : List ℕ) → IsPermutation (numbered (reverse hs)) (map (renaming (λ i. length hs - 1 - i)) (numbered hs))
+numbered-reverse hs = subst (IsPermutation (numbered (reverse hs))) (sym (reversed_from 0 (length hs) hs (omega arith))) (IsPermutation-reverse (numbered (reverse hs)))
+
+-- ---- each hash goes where a list says
+hash_or : Option ℕ → ℕ
+hash_or (Some h) = h
+hash_or None = 0
+
+module _ (look : ℕ → Option ℕ) where
+  at_index : ℕ → ℕ × ℕ
+  at_index k = (hash_or (look k), k)
+
+  looked : (n : ℕ) (hs : List ℕ) → ((i : ℕ) → i < length hs → look (n + i) ≡ slice_get hs i) → numbered_from n hs ≡ map at_index (range_with_len n (length hs))
+  unfolding at_index hash_or
+  looked n [] at = refl
+  looked n (h ∷ hs) at =
+      let first = at 0 (omega arith) in
+      let zero_last : n + 0 ≡ n = omega arith in
+      let here : Some h ≡ look n = sym first ∙ ap look zero_last in
+      let rest = looked (n + 1) hs (λ i lt. ap look {x = n + 1 + i} {y = n + suc i} (omega arith) ∙ at (suc i) (omega arith)) in
+      λ j. (hash_or (here j), n) ∷ rest j
+
+  named_anew : (name : ℕ → ℕ) (n : ℕ) (hs : List ℕ) (to : List ℕ) → ((i : ℕ) → i < length hs → name (n + i) ≡ get_or to i 0) → map Some hs ≡ map look to
+      → map (renaming name) (numbered_from n hs) ≡ map at_index to
+  unfolding at_index hash_or
+  named_anew name n [] [] named is = refl
+  named_anew name n [] (k ∷ to) named is = cc
+  named_anew name n (h ∷ hs) [] named is = cc
+  named_anew name n (h ∷ hs) (k ∷ to) named is =
+      let zero_last : n ≡ n + 0 = omega arith in
+      let first : name n ≡ k = ap name zero_last ∙ named 0 (omega arith) in
+      let here : Some h ≡ look k = cc in
+      let others : map Some hs ≡ map look to = cc in
+      let rest = named_anew name (n + 1) hs to (λ i lt. ap name {x = n + 1 + i} {y = n + suc i} (omega arith) ∙ named (suc i) (omega arith)) others in
+      λ j. (hash_or (here j), first j) ∷ rest j
+
+pub length-moved : (before : List ℕ) (to : List ℕ) (after : List ℕ) → Moves before to after → (length to ≡ length before) × (length after ≡ length before)
+length-moved before to after moves =
+    let names : length to ≡ length before = sym (length-map to (slice_get after)) ∙ sym (ap length moves.items) ∙ length-map before Some in
+    let count : length to ≡ length after = length_permutation (range_with_len 0 (length after)) to moves.once ∙ length-range_with_len 0 (length after) in
+    (names, sym count ∙ names)
+
+pub numbered-moved : (before to after : List ℕ) → Moves before to after → IsPermutation (numbered after) (map (renaming (slice_index to)) (numbered before))
+numbered-moved before to after moves =
+    let look : ℕ → Option ℕ = slice_get after in
+    let same : numbered after ≡ map (at_index look) (range_with_len 0 (length after)) = looked look 0 after (λ i lt. ap look {x = 0 + i} {y = i} (omega arith)) in
+    let went : map (renaming (slice_index to)) (numbered before) ≡ map (at_index look) to = named_anew look (slice_index to) 0 before to (λ i lt. ap (slice_index to) {x = 0 + i} {y = i} (omega arith)) moves.items in
+    subst (λ l. IsPermutation l (map (renaming (slice_index to)) (numbered before))) (sym same)
+    (subst (IsPermutation (map (at_index look) (range_with_len 0 (length after)))) (sym went) (IsPermutation-map (at_index look) (range_with_len 0 (length after)) to moves.once))
+
+-- ---- no index stands twice
+standing : ℕ → List (ℕ × ℕ) → ℕ
+standing x ms = length (filter (λ m. nat_eq m.1 x) ms)
+
+more : (x : ℕ) (m : ℕ × ℕ) (ms : List (ℕ × ℕ)) → standing x ms ≤ standing x (m ∷ ms)
+unfolding standing
+more x m ms = elim (nat_eq m.1 x) as (λ b. length (filter (λ m. nat_eq m.1 x) ms) ≤ length (cond b (m ∷ filter (λ m. nat_eq m.1 x) ms) (filter (λ m. nat_eq m.1 x) ms))) [
+  | true ↦ omega arith
+  | false ↦ omega arith
+]
+
+one_more : (x : ℕ) (m : ℕ × ℕ) (ms : List (ℕ × ℕ)) → m.1 ≡ x → standing x (m ∷ ms) ≡ suc (standing x ms)
+unfolding standing
+one_more x m ms is = ap (λ b. length (cond b (m ∷ filter (λ m. nat_eq m.1 x) ms) (filter (λ m. nat_eq m.1 x) ms))) (eq-eqb m.1 x is)
+
+other : (x : ℕ) (m : ℕ × ℕ) (ms : List (ℕ × ℕ)) → m.1 ≢ x → standing x (m ∷ ms) ≡ standing x ms
+unfolding standing
+other x m ms not =
+    let b : nat_eq m.1 x ≡ false = elim (cases_order m.1 x) [ inl same ↦ absurd (not same) | inr sides ↦ elim sides [ inl less ↦ grind (arith, nat_tests) | inr more ↦ grind (arith, nat_tests) ] ] in
+    ap (λ b. length (cond b (m ∷ filter (λ m. nat_eq m.1 x) ms) (filter (λ m. nat_eq m.1 x) ms))) b
+
+one : (slots : List (Option (ℕ × ℕ))) (s h x : ℕ) → get_or slots s None ≡ Some (h, x) → 1 ≤ standing x (filled slots)
+one [] s h x is = absurd (none-some (h, x) is)
+one (None ∷ slots) zero h x is = absurd (none-some (h, x) is)
+one (Some m ∷ slots) zero h x is = omega (arith, one_more x m (filled slots) (ap (λ k. k.1) (same_Some m (h, x) is)))
+one (None ∷ slots) (suc s) h x is = one slots s h x is
+one (Some m ∷ slots) (suc s) h x is = omega (arith, more x m (filled slots), one slots s h x is)
+
+two : (slots : List (Option (ℕ × ℕ))) (s u h k x : ℕ) → s < u → get_or slots s None ≡ Some (h, x) → get_or slots u None ≡ Some (k, x) → 2 ≤ standing x (filled slots)
+two [] s u h k x below is also = absurd (none-some (h, x) is)
+two (o ∷ slots) s zero h k x below is also = absurd (omega arith)
+two (None ∷ slots) zero (suc u) h k x below is also = absurd (none-some (h, x) is)
+two (Some m ∷ slots) zero (suc u) h k x below is also =
+    omega (arith, one_more x m (filled slots) (ap (λ k. k.1) (same_Some m (h, x) is)), one slots u k x also)
+two (None ∷ slots) (suc s) (suc u) h k x below is also = two slots s u h k x (omega arith) is also
+two (Some m ∷ slots) (suc s) (suc u) h k x below is also =
+    omega (arith, more x m (filled slots), two slots s u h k x (omega arith) is also)
+
+later_none : (n : ℕ) (hs : List ℕ) (x : ℕ) → x < n → standing x (numbered_from n hs) ≡ 0
+unfolding standing
+later_none n [] x below = refl
+later_none n (h ∷ hs) x below = other x (h, n) (numbered_from (n + 1) hs) (λ same. omega (arith, same, below)) ∙ later_none (n + 1) hs x (omega arith)
+
+at_most_one : (n : ℕ) (hs : List ℕ) (x : ℕ) → standing x (numbered_from n hs) ≤ 1
+unfolding standing
+at_most_one n [] x = omega arith
+at_most_one n (h ∷ hs) x = elim (same_or n x) [
+  | inl same ↦ omega (arith, one_more x (h, n) (numbered_from (n + 1) hs) same, later_none (n + 1) hs x (omega (arith, same)))
+  | inr apart ↦ omega (arith, other x (h, n) (numbered_from (n + 1) hs) apart, at_most_one (n + 1) hs x)
+]
+
+-- ---- a table whose members they are
+in_slots : (slots : List (Option (ℕ × ℕ))) (m : ℕ × ℕ) → Contains (filled slots) m → (s : ℕ) × (get_or slots s None ≡ Some m)
+in_slots [] m there = absurd (omega (arith, there.1))
+in_slots (None ∷ slots) m there = let r = in_slots slots m there in (suc r.0, r.1)
+in_slots (Some x ∷ slots) m (zero, below, is) = (0, ap Some is)
+in_slots (Some x ∷ slots) m (suc k, below, is) = let r = in_slots slots m (k, omega arith, is) in (suc r.0, r.1)
+
+-- what stands in the slot that the cell of an index names
+pub named-there : (cells : List ℕ) (t : Table ℕ) (h x : ℕ) → IsSited cells t.slots → Contains (members t) (h, x) → member_at t (get_or cells x 0) ≡ Some (h, x)
+named-there cells t h x sited there =
+    let it = in_slots t.slots (h, x) there in ap (member_at t) (sited.named it.0 h x it.1) ∙ it.1
+
+-- no hash of the list is one under which nothing stands
+none-among : (hash n : ℕ) (hs : List ℕ) → length (filter (λ m. nat_eq m.0 hash) (numbered_from n hs)) ≡ 0 → All (λ h. h ≢ hash) hs
+none-among hash n [] none = λ k d lt same. omega (arith, lt)
+none-among hash n (h ∷ hs) none =
+    let rest = filter (λ m. nat_eq m.0 hash) (numbered_from (n + 1) hs) in
+    (elim (nat_eq h hash) as (λ b. nat_eq h hash ≡ b → length (cond b ((h, n) ∷ rest) rest) ≡ 0 → All (λ h. h ≢ hash) (h ∷ hs)) [
+      | true ↦ λ is some. absurd (omega (arith, some))
+      | false ↦ λ is some. All-cons (λ h. h ≢ hash) h hs (λ same. false≢true (sym is ∙ eq-eqb h hash same)) (none-among hash (n + 1) hs some)
+    ]) refl none
+
+module _ (hs : List ℕ) (t : Table ℕ) (bag : IsPermutation (numbered hs) (members t)) where
+  pub members-count : table_len t ≡ length hs
+  members-count = length_permutation (numbered hs) (members t) bag ∙ length-numbered 0 hs
+
+  pub members-below : All (λ m. m.1 < length hs) (members t)
+  members-below = All-permutation (λ m. m.1 < length hs) (numbered hs) (members t) bag (below-all hs)
+
+  pub held : (i : ℕ) → i < length hs → Contains (members t) (get_or hs i 0, i)
+  held i below =
+      let m : ℕ × ℕ = (get_or hs i 0, i) in
+      Contains-permutation (numbered hs) (members t) m bag (i, omega (arith, below, length-numbered 0 hs), at-numbered hs i m below)
+
+  single_standing : (x : ℕ) → standing x (members t) ≤ 1
+  unfolding standing
+  single_standing x =
+      let q : ℕ × ℕ → Bool = λ m. nat_eq m.1 x in
+      omega (arith, at_most_one 0 hs x, length_permutation (filter q (numbered hs)) (filter q (members t)) (IsPermutation-filter q (numbered hs) (members t) bag))
+
+  pub stands-once : StandsOnce t.slots
+  stands-once = record {
+    once = λ s u h k x is also. elim (cases_order s u) [
+      | inl same ↦ same
+      | inr sides ↦ elim sides [
+        | inl less ↦ absurd (omega (arith, two t.slots s u h k x less is also, single_standing x))
+        | inr less ↦ absurd (omega (arith, two t.slots u s k h x less also is, single_standing x))
+      ]
+    ];
+  }
+
+  -- the hashes that the cells name are these
+  pub hashes-back : (cells : List ℕ) → length cells ≡ length hs → IsSited cells t.slots → hashes_in t.slots cells ≡ hs
+  hashes-back cells long sited =
+      let count = length-map cells (λ s. hash_in (get_or t.slots s None)) in
+      let same : (i : ℕ) → i < length (hashes_in t.slots cells) → get_or (hashes_in t.slots cells) i 0 ≡ get_or hs i 0 = λ i lt.
+      let inside : i < length cells = omega (arith, lt, count) in
+      get_or-map (λ s. hash_in (get_or t.slots s None)) cells i 0 0 inside ∙ ap hash_in (named-there cells t (get_or hs i 0) i sited (held i (omega (arith, inside, long)))) in
+      ext_get_or 0 (hashes_in t.slots cells) hs (count ∙ long) same
+
+  -- what is left once an index was taken out
+  module _ (k : ℕ) (below : k < length hs) (mid : Table ℕ) (taken : IsPermutation (members t) ((get_or hs k 0, k) ∷ members mid)) where
+    pub left-bag : IsPermutation (remove (numbered hs) k) (members mid)
+    left-bag =
+        let x : ℕ × ℕ = (get_or hs k 0, k) in
+        let apart = IsPermutation-remove (numbered hs) k x (omega (arith, below, length-numbered 0 hs)) (sym (at-numbered hs k x below)) in
+        IsPermutation-cancel x (remove (numbered hs) k) (members mid)
+        (IsPermutation-trans (x ∷ remove (numbered hs) k) (members t) (x ∷ members mid)
+        (IsPermutation-trans (x ∷ remove (numbered hs) k) (numbered hs) (members t) (IsPermutation-sym (numbered hs) (x ∷ remove (numbered hs) k) apart) bag) taken)
+
+    pub left-none : (s h x : ℕ) → member_at mid s ≡ Some (h, x) → x ≢ k
+    unfolding standing
+    left-none s h x is same =
+        let q : ℕ × ℕ → Bool = λ m. nat_eq m.1 x in
+        let m : ℕ × ℕ = (get_or hs k 0, k) in
+        let both = length_permutation (filter q (members t)) (filter q (m ∷ members mid)) (IsPermutation-filter q (members t) (m ∷ members mid) taken) in
+        omega (arith, one mid.slots s h x is, one_more x m (members mid) (sym same), single_standing x, both)
+
+    pub left-there : (cells : List ℕ) → IsSited cells mid.slots → (i : ℕ) → i < length hs → i ≢ k → member_at mid (get_or cells i 0) ≡ Some (get_or hs i 0, i)
+    left-there cells sited i inside apart =
+        let m : ℕ × ℕ = (get_or hs i 0, i) in
+        named-there cells mid (get_or hs i 0) i sited (behind (Contains-permutation (members t) ((get_or hs k 0, k) ∷ members mid) m taken (held i inside)))
+      where
+        behind : Contains ((get_or hs k 0, k) ∷ members mid) (get_or hs i 0, i) → Contains (members mid) (get_or hs i 0, i)
+        behind (zero, lt, is) = absurd (apart (sym (ap (λ m. m.1) is)))
+        behind (suc j, lt, is) = (j, omega (arith, lt), is)
+
+  pub none-under : (hash : ℕ) → items_under hash t ≡ [] → All (λ h. h ≢ hash) hs
+  none-under hash none =
+      let q : ℕ × ℕ → Bool = λ m. nat_eq m.0 hash in
+      let nothing : length (filter q (members t)) ≡ 0 = sym (length-map (filter q (members t)) (λ m. m.1)) ∙ ap length (sym (items-items_under hash t)) ∙ length-map (items_under hash t) (λ s. s.1) ∙ ap length none in
+      none-among hash 0 hs (sym (length_permutation (filter q (numbered hs)) (filter q (members t)) (IsPermutation-filter q (numbered hs) (members t) bag)) ∙ nothing)
+
+-- the members once each index is another
+pub filled-renamed : (name : ℕ → ℕ) (slots : List (Option (ℕ × ℕ))) → filled (renamed name slots) ≡ map (renaming name) (filled slots)
+filled-renamed name [] = refl
+filled-renamed name (None ∷ slots) = filled-renamed name slots
+filled-renamed name (Some m ∷ slots) = ap (λ l. renaming name m ∷ l) (filled-renamed name slots)
+
+pub bag-renamed : (name : ℕ → ℕ) (hs : List (ℕ × ℕ)) (ks : List ℕ) (old new : Table ℕ) → IsPermutation hs (members old) → IsPermutation (numbered ks) (map (renaming name) hs) → new.slots ≡ renamed name old.slots
+    → IsPermutation (numbered ks) (members new)
+bag-renamed name hs ks old new bag same is =
+    subst (IsPermutation (numbered ks)) (sym (ap filled is ∙ filled-renamed name old.slots))
+    (IsPermutation-trans (numbered ks) (map (renaming name) hs) (map (renaming name) (members old)) same (IsPermutation-map (renaming name) hs (members old) bag))
+
+-- one hash more
+pub bag-noted : (hs : List ℕ) (h x : ℕ) (old new : Table ℕ) → x ≡ length hs → IsPermutation (numbered hs) (members old) → IsPermutation ((h, x) ∷ members old) (members new) → IsPermutation (numbered (hs ++ h ∷ [])) (members new)
+bag-noted hs h x old new last bag added =
+    let m : ℕ × ℕ = (h, x) in
+    let is : numbered (hs ++ h ∷ []) ≡ numbered hs ++ m ∷ [] = numbered-append 0 hs (h ∷ []) ∙ ap (λ i. numbered hs ++ (h, i) ∷ []) {x = 0 + length hs} {y = x} (omega (arith, last)) in
+    subst (λ l. IsPermutation l (members new)) (sym is)
+    (IsPermutation-trans (numbered hs ++ m ∷ []) (m ∷ members old) (members new)
+    (IsPermutation-trans (numbered hs ++ m ∷ []) (m ∷ numbered hs) (m ∷ members old) (IsPermutation-to_front (numbered hs) m) (IsPermutation-cons m (numbered hs) (members old) bag)) added)
+
+take_suc : {X : Type 0} (i : ℕ) (xs : List X) (x : X) → slice_get xs i ≡ Some x → take (suc i) xs ≡ take i xs ++ x ∷ []
+take_suc i [] x at = absurd (none-some x at)
+take_suc zero (y ∷ xs) x at = ap (λ z. z ∷ []) (same_Some y x at)
+take_suc (suc i) (y ∷ xs) x at = ap (λ l. y ∷ l) (take_suc i xs x at)
+
+-- one item more
+pub take-more : {X : Type 0} (i : ℕ) (xs : List X) (x : X) → slice_get xs i ≡ Some x → take (i + 1) xs ≡ take i xs ++ x ∷ []
+take-more i xs x at = ap (λ n. take n xs) {x = i + 1} {y = suc i} (omega arith) ∙ take_suc i xs x at

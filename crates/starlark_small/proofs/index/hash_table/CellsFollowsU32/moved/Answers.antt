@@ -1,0 +1,19 @@
+use Rattle.std.proofs.Common.{Some, None, ap, arith}
+use Rattle.std.proofs.Math.ListN.{set}
+use Rattle.std.proofs.lemmas.List.{length-set}
+use Rattle.starlark_small.proofs.Slots.{moved-within, sited-moved}
+use Rattle.starlark_small.proofs.index.hash_table.CellsFollowsU32.moved.Goals as goal
+
+pub index_mut-requires : goal.index_mut-requires
+index_mut-requires c =
+    let k = c.requires in
+    omega (arith, moved-within c.args.self.now.0.items k.0 k.1 c.args.slot k.2 c.args.item.now k.3 k.4.0, c.args.self.now.0.ok.0)
+
+pub returns-clause-known : goal.returns-clause-known
+returns-clause-known c = λ slots from h can known. (
+  sited-moved c.args.self.now.0.items slots from c.args.slot h c.args.item.now can known.0,
+  omega (arith, length-set (set slots from None) c.args.slot (Some (h, c.args.item.now)), length-set slots from None, known.1),
+)
+
+pub returns-clause-size : goal.returns-clause-size
+returns-clause-size c = ap (λ n. (n, c.args.self.now.0.cap)) (length-set c.args.self.now.0.items c.args.item.now c.args.slot)

@@ -1,0 +1,32 @@
+use Rattle.std.proofs.Common.{◌+◌, ◌<◌, ◌∙◌, ap, arith, length, subst, sym, vec_capacity}
+use Rattle.std.specs.Prelude.{remove}
+use Rattle.starlark_small.specs.Hashes.{forgotten}
+use Rattle.starlark_small.specs.Slots.{hashes_in}
+use Rattle.starlark_small.proofs.Kept.{Keeps, keeps-forgotten, length-hashes_in, seen, stands-but}
+use Rattle.starlark_small.proofs.index.hash_table.HashTable.forget.Goals as goal
+
+pub take_index-requires-clause-within : goal.take_index-requires-clause-within
+take_index-requires-clause-within c = omega (arith, c.requires, ap (λ h. length h.list) c.self.view_is, length-hashes_in c.self.inside.table.slots c.self.inside.cells.0.items)
+
+pub lower_above-requires-clause-stands : goal.lower_above-requires-clause-stands
+lower_above-requires-clause-stands c =
+    let cells = c.self.inside.cells.0 in
+    let took = c.take_index.ensures in
+    let inside : c.args.index < length cells.items = omega (arith, c.requires, ap (λ h. length h.list) c.self.view_is, length-hashes_in c.self.inside.table.slots cells.items) in
+    stands-but c.self.inside.table cells.items (vec_capacity cells) c.self.invariant c.args.index inside c.take_index.new.table c.take_index.new.cells.0.items took.cells.even took.cells.sited took.taken took.places took.room
+
+kept : (c : goal.After-remove) → Keeps (remove (hashes_in c.self.inside.table.slots c.self.inside.cells.0.items) c.args.index) (c.self.inside.table.room + 1) c.lower_above.new.table c.remove.new.self.items (vec_capacity c.remove.new.self)
+kept c =
+    let cells = c.self.inside.cells.0 in
+    let took = c.take_index.ensures in
+    let space = vec_capacity c.remove.new.self in
+    let inside : c.args.index < length cells.items = omega (arith, c.requires, ap (λ h. length h.list) c.self.view_is, length-hashes_in c.self.inside.table.slots cells.items) in
+    subst (λ l. Keeps (remove (hashes_in c.self.inside.table.slots cells.items) c.args.index) (c.self.inside.table.room + 1) c.lower_above.new.table l space) (sym c.remove.ensures.items)
+    (keeps-forgotten c.self.inside.table cells.items (vec_capacity cells) c.self.invariant c.args.index inside c.take_index.new.table c.take_index.new.cells.0.items took.cells.even took.cells.sited took.taken took.places took.room
+    c.lower_above.new.table space c.lower_above.ensures (omega (arith, took.cells.spare, c.remove.ensures.capacity)))
+
+pub invariant_of-self : goal.invariant_of-self
+invariant_of-self c = (kept c).keeps
+
+pub returns : goal.returns
+returns c = seen _ _ _ _ _ (kept c) ∙ ap (forgotten c.args.index) c.self.view_is

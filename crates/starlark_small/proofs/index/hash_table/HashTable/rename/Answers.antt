@@ -1,0 +1,41 @@
+use Rattle.std.proofs.Common.{◌<◌, arith, subst, sym, vec_capacity}
+use Rattle.std.specs.List.{All}
+use Rattle.starlark_table.specs.Table.{members}
+use Rattle.starlark_vec2.specs.Moves.{Moves}
+use Rattle.starlark_small.proofs.Kept.{indices-below, keeps-moved, moved-below, moved-once, moved-to}
+use Rattle.starlark_small.proofs.index.hash_table.HashTable.rename.Goals as goal
+
+pub rename_each-requires : goal.rename_each-requires
+rename_each-requires c =
+    let cells = c.self.inside.cells.0 in
+    let moves = subst (λ h. Moves h.list c.args.to.now c.requires.0) (sym c.self.view_is) c.requires.1 in
+    subst (λ n. All (λ m. m.1 < n) (members c.self.inside.table)) (sym (moved-to c.self.inside.table cells.items (vec_capacity cells) c.self.invariant c.args.to.now c.requires.0 moves))
+    (indices-below c.self.inside.table cells.items (vec_capacity cells) c.self.invariant)
+
+pub name_slots-requires-clause-below : goal.name_slots-requires-clause-below
+name_slots-requires-clause-below c =
+    let cells = c.self.inside.cells.0 in
+    let moves = subst (λ h. Moves h.list c.args.to.now c.requires.0) (sym c.self.view_is) c.requires.1 in
+    moved-below c.self.inside.table cells.items (vec_capacity cells) c.self.invariant c.args.to.now c.requires.0 moves c.rename_each.new.table c.rename_each.ensures
+
+pub name_slots-requires-clause-once : goal.name_slots-requires-clause-once
+name_slots-requires-clause-once c =
+    let cells = c.self.inside.cells.0 in
+    let moves = subst (λ h. Moves h.list c.args.to.now c.requires.0) (sym c.self.view_is) c.requires.1 in
+    moved-once c.self.inside.table cells.items (vec_capacity cells) c.self.invariant c.args.to.now c.requires.0 moves c.rename_each.new.table c.rename_each.ensures
+
+pub invariant_of-self : goal.invariant_of-self
+invariant_of-self c =
+    let cells = c.self.inside.cells.0 in
+    let moves = subst (λ h. Moves h.list c.args.to.now c.requires.0) (sym c.self.view_is) c.requires.1 in
+    let named = c.name_slots.ensures in
+    (keeps-moved c.self.inside.table cells.items (vec_capacity cells) c.self.invariant c.args.to.now c.requires.0 moves c.rename_each.new.table c.rename_each.ensures c.name_slots.new.cells.items (vec_capacity c.name_slots.new.cells)
+    named.sited named.even (omega (arith, named.spare))).keeps
+
+pub returns-clause-list : goal.returns-clause-list
+returns-clause-list c list moved =
+    let cells = c.self.inside.cells.0 in
+    let moves = subst (λ h. Moves h.list c.args.to.now list) (sym c.self.view_is) moved in
+    let named = c.name_slots.ensures in
+    (keeps-moved c.self.inside.table cells.items (vec_capacity cells) c.self.invariant c.args.to.now list moves c.rename_each.new.table c.rename_each.ensures c.name_slots.new.cells.items (vec_capacity c.name_slots.new.cells)
+    named.sited named.even (omega (arith, named.spare))).list

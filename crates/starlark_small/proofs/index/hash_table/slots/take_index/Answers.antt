@@ -1,0 +1,30 @@
+use Rattle.std.proofs.Common.{◌≡◌, None, ◌∷◌, get_or, ap, subst, ◌∙◌, arith, IsPermutation}
+use Rattle.std.specs.Prelude.{IfSome}
+use Rattle.std.proofs.lemmas.Grind.{get_or_default_zero}
+use Rattle.std.proofs.lemmas.List.{length-set}
+use Rattle.starlark_table.specs.Table.{members, member_at}
+use Rattle.starlark_small.proofs.Numbered.{named-there}
+use Rattle.starlark_small.proofs.Slots.{sited-without}
+use Rattle.starlark_small.proofs.index.hash_table.slots.take_index.Goals as goal
+
+pub remove_followed-requires : goal.remove_followed-requires
+remove_followed-requires c =
+    (sited-without c.args.cells.now.0.items c.args.table.now.slots c.index.result.now c.requires.sited, omega (arith, c.requires.few, length-set c.args.table.now.slots c.index.result.now None))
+
+pub returns : goal.returns
+returns c =
+    let old = c.args.table.now in
+    let cells = c.args.cells.now.0.items in
+    let slot : c.index.result.now ≡ get_or cells c.args.index 0 = c.index.ensures ∙ get_or_default_zero cells c.args.index c.index.result.now c.requires.within in
+    record {
+      taken = λ h there.
+          let at = ap (member_at old) slot ∙ named-there cells old h c.args.index c.requires.sited there in
+          subst (λ o. IfSome o (λ m. IsPermutation (members old) (m ∷ members c.remove_followed.new.self))) (c.remove_followed.ensures.found ∙ at) c.remove_followed.ensures.rest;
+      places = c.remove_followed.ensures.places;
+      room = c.remove_followed.ensures.room;
+      cells = record {
+        sited = c.remove_followed.ensures.known.0;
+        even = ap (λ s. s.0) c.remove_followed.ensures.size;
+        spare = ap (λ s. s.1) c.remove_followed.ensures.size;
+      };
+    }
