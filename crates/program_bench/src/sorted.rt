@@ -4,7 +4,7 @@ use crate::fault::Fault;
 use crate::keys::Key;
 use crate::pass::{Pass, mix};
 use crate::workloads::MILLION;
-use starlark_sorted::SortedSet;
+use starlark_map::sorted_set::SortedSet;
 use std::alloc::Global;
 use std::time::Instant;
 

@@ -1,8 +1,8 @@
 //! Plays a script of map calls: reads standard input, and writes the reply to each line.
 #![tactic(auto)]
 
-use script_lines::{PlayFault, PromptReader, SharedWriter};
-use script_play::play::play;
+use starlark_script::play::play;
+use starlark_script::{PlayFault, PromptReader, SharedWriter};
 use std::cell::RefCell;
 use std::io::{BufWriter, Write};
 use std::process::ExitCode;

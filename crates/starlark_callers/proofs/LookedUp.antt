@@ -4,7 +4,7 @@ use Rattle.std.proofs.lemmas.Bool.{false≢true}
 use Rattle.std.specs.Prelude.{IsSome, is_some}
 use Rattle.std.specs.declared.cmp.PartialEq as eq
 use Rattle.starlark_hash.specs.declared.hashed.Hashed.{Hashed}
-use Rattle.starlark_lists.specs.Entries.{match_of, set_value_at, with_value}
+use Rattle.starlark_hash.specs.Entries.{match_of, set_value_at, with_value}
 use Rattle.starlark_callers.specs.Lending.{with_value_under}
 use Rattle.starlark_small.specs.Inserted.{IsInserted}
 use Rattle.starlark_small.specs.Map.{Map}

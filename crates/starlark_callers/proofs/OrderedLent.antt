@@ -5,7 +5,7 @@ use mathlib.Core.Option.{Option, none, some}
 use Rattle.std.proofs.lemmas.Bool.{false≢true}
 use Rattle.std.specs.Prelude.{IsOk, IsErr}
 use Rattle.std.specs.declared.cmp.PartialEq as eq
-use Rattle.starlark_lists.specs.Entries.{match_of}
+use Rattle.starlark_hash.specs.Entries.{match_of}
 use Rattle.starlark_callers.proofs.LookedUp.{put_there, put_new}
 use Rattle.starlark_callers.specs.OrderedLending.{IsPutUnder}
 use Rattle.starlark_small.specs.Inserted.{IsRefused}

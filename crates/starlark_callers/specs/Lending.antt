@@ -1,7 +1,7 @@
 -- What the callers' contracts cite.
 use Rattle.std.specs.Prelude.{Bool}
 use Rattle.starlark_hash.specs.declared.hashed.Hashed.{Hashed}
-use Rattle.starlark_lists.specs.Entries.{match_of, with_value}
+use Rattle.starlark_hash.specs.Entries.{match_of, with_value}
 use Rattle.starlark_small.specs.Map.{Map}
 
 -- the map with this value under a key, where it has one; else the map

@@ -4,9 +4,9 @@ use Rattle.std.specs.Borrow.{Fml, RattleType, MutBor, LendsSoOk}
 use Rattle.std.specs.declared.cmp.PartialEq as eq
 use Rattle.starlark_hash.specs.HashValue.{hash_of, key_of}
 use Rattle.starlark_hash.specs.declared.hashed.Hashed.{Hashed}
-use Rattle.starlark_lists.specs.Entries.{match_of}
-use Rattle.starlark_lists.specs.Finding.{Writes}
-use Rattle.starlark_lists.specs.Insertion.{insert_entry}
+use Rattle.starlark_hash.specs.Entries.{match_of}
+use Rattle.starlark_hash.specs.Finding.{Writes}
+use Rattle.starlark_hash.specs.Insertion.{insert_entry}
 use Rattle.starlark_callers.specs.Lending.{with_value_under}
 use Rattle.starlark_small.specs.Inserted.{IsInserted, IsRefused}
 use Rattle.starlark_small.specs.Map.{Map}

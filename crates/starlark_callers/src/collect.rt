@@ -3,18 +3,19 @@ ghost use Rattle.std.specs.Hash as fed;
 ghost use Rattle.std.specs.Map.{update_all};
 ghost use Rattle.std.specs.Prelude.{[], ◌&&◌, ◌+◌, ◌||◌, ◌↔◌, ◌∷◌, ◌≡◌, ◌≤◌, All, Contains, IfOk, IfSome, IsSome, None, OnOk, Some, false, length, map, nat_eq, not, ℕ};
 ghost use Rattle.std.specs.Set.{is_member};
-ghost use Rattle.starlark_lists.specs.Entries.{pair_of};
+ghost use Rattle.starlark_hash.specs.Entries.{pair_of};
 ghost use Rattle.starlark_sets.specs.Difference.{difference_rest};
 ghost use Rattle.starlark_sets.specs.Union.{union_rest};
 ghost use Rattle.starlark_small.specs.Calling.{AreOwn, AreOwnEntries, contains, get};
 ghost use Rattle.starlark_small.specs.Clone.{IsEqualClone};
 ghost use Rattle.starlark_small.specs.Collect.{insert_all};
-ghost use Rattle.starlark_sorted.specs.Sorted.{AscendsAlong};
+ghost use Rattle.starlark_map.specs.Sorted.{AscendsAlong};
 
 use starlark_hash::Hashed;
+use starlark_map::sorted_map::SortedMap;
+use starlark_map::sorted_set::SortedSet;
 use starlark_sets::{Difference, SmallSet, Union};
 use starlark_small::SmallMap;
-use starlark_sorted::{SortedMap, SortedSet};
 use std::alloc::{AllocError, Global};
 use std::hash::Hash;
 

@@ -5,13 +5,13 @@ ghost use Rattle.std.specs.Prelude.{◌≡◌, ◌≤◌, All, IfSome, is_some, 
 ghost use Rattle.std.specs.String.{string_bytes, string_eq};
 ghost use Rattle.std.specs.declared.alloc.Global.{Global};
 ghost use Rattle.std.specs.declared.string.String.{String};
-ghost use Rattle.starlark_lists.specs.Entries.{entry_value};
+ghost use Rattle.starlark_hash.specs.Entries.{entry_value};
 ghost use Rattle.starlark_small.specs.Calling.{contains, get, get_key, get_text};
 
 use starlark_hash::{Hashed, TextKey};
+use starlark_map::sorted_set::SortedSet;
 use starlark_sets::{OrderedMap, SmallSet};
 use starlark_small::SmallMap;
-use starlark_sorted::SortedSet;
 use std::hash::Hash;
 
 /// The value under a key, or another.

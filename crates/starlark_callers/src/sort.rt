@@ -9,9 +9,9 @@ ghost use Rattle.std.specs.declared.string.String.{String};
 ghost use Rattle.starlark_small.specs.Calling.{contains, get, keys};
 ghost use Rattle.starlark_small.specs.Map.{own_match};
 
+use starlark_map::sorted_map::SortedMap;
 use starlark_sets::{OrderedMap, OrderedSet};
 use starlark_small::SmallMap;
-use starlark_sorted::SortedMap;
 use std::alloc::AllocError;
 use std::hash::Hash;
 

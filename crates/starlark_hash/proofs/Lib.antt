@@ -1,3 +1,7 @@
 pub mod Promote
 pub mod HasherLemmas
 pub mod SameText
+pub mod PositionLemmas
+pub mod EntryLemmas
+pub mod SearchLemmas
+pub mod SortingLemmas

@@ -2,3 +2,11 @@ pub mod HashValue
 pub mod Hasher
 pub mod HashedOrder
 pub mod Lending
+pub mod Entries
+pub mod Insertion
+pub mod Finding
+pub mod Search
+pub mod Sorting
+pub mod Retain
+pub mod Clone
+pub mod Ordered

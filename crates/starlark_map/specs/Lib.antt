@@ -1,11 +1,11 @@
 pub use Rattle.starlark_hash.specs.HashValue
 pub use Rattle.starlark_hash.specs.Hasher
 pub use Rattle.starlark_hash.specs.HashedOrder
-pub use Rattle.starlark_lists.specs.Entries
-pub use Rattle.starlark_lists.specs.Insertion
-pub use Rattle.starlark_lists.specs.Finding
-pub use Rattle.starlark_lists.specs.Search
-pub use Rattle.starlark_lists.specs.Sorting
+pub use Rattle.starlark_hash.specs.Entries
+pub use Rattle.starlark_hash.specs.Insertion
+pub use Rattle.starlark_hash.specs.Finding
+pub use Rattle.starlark_hash.specs.Search
+pub use Rattle.starlark_hash.specs.Sorting
 pub use Rattle.starlark_hash.specs.Lending as HashedLending
 pub use Rattle.starlark_vec2.specs.PairList
 pub use Rattle.starlark_vec2.specs.Growth as PairListGrowth
@@ -19,9 +19,9 @@ pub use Rattle.starlark_vec2.specs.Lending as PairListLending
 pub use Rattle.starlark_vec2.specs.Walks as PairListWalks
 pub use Rattle.starlark_vec2.specs.ColumnLending
 pub use Rattle.starlark_vecmap.specs.EntryList
-pub use Rattle.starlark_lists.specs.Ordered as EntryListOrdered
-pub use Rattle.starlark_lists.specs.Retain as EntryListRetain
-pub use Rattle.starlark_lists.specs.Clone as EntryListClone
+pub use Rattle.starlark_hash.specs.Ordered as EntryListOrdered
+pub use Rattle.starlark_hash.specs.Retain as EntryListRetain
+pub use Rattle.starlark_hash.specs.Clone as EntryListClone
 pub use Rattle.starlark_vecmap.specs.Lending as EntryListLending
 pub use Rattle.starlark_table.specs.Table
 pub use Rattle.starlark_table.specs.Growth as TableGrowth
@@ -55,15 +55,15 @@ pub use Rattle.starlark_sets.specs.OrderedLaws
 pub use Rattle.starlark_sets.specs.OrderedEnd
 pub use Rattle.starlark_sets.specs.OrderedLending
 pub use Rattle.starlark_sets.specs.OrderedTries
-pub use Rattle.starlark_sorted.specs.Sorted
-pub use Rattle.starlark_sorted.specs.Collect as SortedCollect
-pub use Rattle.starlark_sorted.specs.Making as SortedMaking
-pub use Rattle.starlark_sorted.specs.Lending as SortedLending
-pub use Rattle.starlark_sorted.specs.Union as SortedUnion
-pub use Rattle.starlark_json.specs.Fault as JsonFaults
-pub use Rattle.starlark_json.specs.Texts as JsonTexts
-pub use Rattle.starlark_json.specs.Objects as JsonObjects
-pub use Rattle.starlark_json.specs.Arrays as JsonArrays
+pub mod Sorted
+pub mod SortedCollect
+pub mod SortedMaking
+pub mod SortedLending
+pub mod SortedUnion
+pub mod JsonFaults
+pub mod JsonTexts
+pub mod JsonObjects
+pub mod JsonArrays
 pub use Rattle.starlark_unordered.specs.Calling as UnorderedCalling
 pub use Rattle.starlark_unordered.specs.Changing as UnorderedChanging
 pub use Rattle.starlark_unordered.specs.Pairs
@@ -86,3 +86,4 @@ pub use Rattle.starlark_runs.specs.Run
 pub use Rattle.starlark_runs.specs.Memory
 pub use Rattle.starlark_runs.specs.Room
 pub use Rattle.starlark_runs.specs.OneList
+pub use Rattle.starlark_runs.specs.Matches

@@ -11,15 +11,16 @@ pub mod small_set;
 pub mod sorted_map;
 pub mod sorted_set;
 pub mod sorted_vec;
+pub mod union;
 pub mod unordered_map;
 pub mod unordered_set;
 pub mod vec2;
 
+pub use json::JsonFault;
 pub use starlark_hash::{
     Equivalent, Hashed, KeyQuery, NoRoom, StarlarkHashValue, StarlarkHasher, StarlarkHasherBuilder,
     TextKey, ToOwnedKey,
 };
-pub use starlark_json::JsonFault;
 pub use starlark_runs::{Command, Reply, run};
 pub use starlark_sets::TryInsertError;
 pub use starlark_table::ReadyTable;

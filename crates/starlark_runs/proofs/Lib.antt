@@ -3,3 +3,9 @@ pub mod Determined
 pub mod MemoryLemmas
 pub mod RoomLemmas
 pub mod OneListLemmas
+pub mod Ordered
+pub mod Collected
+pub mod Anew
+pub mod Sorted
+pub mod Inserted
+pub mod Matching

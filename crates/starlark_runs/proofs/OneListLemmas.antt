@@ -3,7 +3,7 @@ use Rattle.std.proofs.Common.{◌≡◌, Bool, List, [], ◌∷◌, refl, sym, s
 use Rattle.std.proofs.lemmas.List.Elements.{All-head, All-tail}
 use Rattle.std.specs.List.{All}
 use Rattle.std.specs.declared.cmp.Ordering.{Ordering}
-use Rattle.starlark_lists.specs.Entries.{Entry}
+use Rattle.starlark_hash.specs.Entries.{Entry}
 use Rattle.starlark_runs.proofs.Determined.{Run-determined}
 use Rattle.starlark_runs.specs.OneList.{AgreeWhere, HaveSameRuns, IsGranted, IsShownOnce, NoneRefused, SameRefused}
 use Rattle.starlark_runs.specs.Run.{Run, is_refusal, refusals}

@@ -6,7 +6,7 @@ use Rattle.std.specs.Option.{option_map}
 use Rattle.std.specs.Prelude.{Bool}
 use Rattle.std.specs.declared.cmp.Ordering.{Ordering}
 use Rattle.std.proofs.lemmas.Option.{none-some, some_pair_parts}
-use Rattle.starlark_lists.specs.Entries.{Entry, entry_key, entry_value, pair_of}
+use Rattle.starlark_hash.specs.Entries.{Entry, entry_key, entry_value, pair_of}
 use Rattle.starlark_runs.specs.declared.command.Command.{Command}
 use Rattle.starlark_runs.specs.declared.command.Reply.{Reply}
 use Rattle.starlark_runs.specs.Run.{IsShown, Step, Shows, TakesEntry, CanShow, entry_shown}

@@ -1,7 +1,7 @@
 -- What a run takes without a refusal: as many entries as there have been before, or as were reserved.
 use Rattle.std.specs.Prelude.{◌≡◌, ◌+◌, ◌<◌, ℕ, suc, Bool, List, ◌∷◌, ◌++◌, length, ⊤}
 use Rattle.std.specs.declared.cmp.Ordering.{Ordering}
-use Rattle.starlark_lists.specs.Entries.{Entry}
+use Rattle.starlark_hash.specs.Entries.{Entry}
 use Rattle.starlark_runs.specs.Run.{Run, Step}
 use Rattle.starlark_runs.specs.declared.command.Command.{Command}
 use Rattle.starlark_runs.specs.declared.command.Command.TheVariants.{DropIndex, Insert, Reserve}

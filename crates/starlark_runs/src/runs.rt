@@ -1,7 +1,7 @@
 //! Runs of commands, over the map's public calls.
 ghost use Rattle.std.specs.Prelude.{◌≡◌, ◌+◌, ◌*◌, ◌≤◌, ℕ, [], length, max, slice_get, vec_capacity, IfOk, IsOk, OnErr, Some};
 ghost use Rattle.std.specs.Option.{option_map};
-ghost use Rattle.starlark_lists.specs.Entries.{Entry, entry_at, match_of, value_at, with_value};
+ghost use Rattle.starlark_hash.specs.Entries.{Entry, entry_at, match_of, value_at, with_value};
 ghost use Rattle.starlark_small.specs.Map.{KeepsMemory};
 ghost use Rattle.starlark_runs.specs.Memory.{EndsWith, HasMemory, IsPastCeiling, Memory, MemoryRun, RefusesPastCeiling, ceiling_after, indexed_after, length_asked, memory_of};
 ghost use Rattle.starlark_runs.specs.Run.{CanShow, IsDetermined, IsShown, Run, Shows, Step, TakesEntry, entry_shown};

@@ -9,9 +9,9 @@ use Rattle.std.proofs.lemmas.Option.{none-some}
 use Rattle.starlark_hash.specs.declared.hashed.Hashed.{Hashed}
 use Rattle.starlark_hash.specs.declared.hash_value.StarlarkHashValue.{StarlarkHashValue}
 use Rattle.starlark_hash.specs.HashValue.{hashed, hash_of, key_of}
-use Rattle.starlark_lists.specs.Entries.{Entry, IsSingle, entry_at, entry_key, match_of, position_of, set_value_at, stands_under, value_at, with_value, without}
-use Rattle.starlark_lists.specs.Insertion.{insert_entry}
-use Rattle.starlark_lists.proofs.PositionLemmas.{position-cons}
+use Rattle.starlark_hash.specs.Entries.{Entry, IsSingle, entry_at, entry_key, match_of, position_of, set_value_at, stands_under, value_at, with_value, without}
+use Rattle.starlark_hash.specs.Insertion.{insert_entry}
+use Rattle.starlark_hash.proofs.PositionLemmas.{position-cons}
 use Rattle.starlark_small.specs.Inserted.{IsInserted, IsRefused}
 use Rattle.starlark_small.specs.Map.{Map}
 use Rattle.starlark_small.proofs.CallerEntries.{place-without, position_of-match, value-insert_entry, value-insert_other, value-with_value, value-with_value_other, value-without_other}
@@ -19,7 +19,7 @@ use Rattle.starlark_small.proofs.CallerKeys.{and_false, both, under}
 use Rattle.starlark_small.proofs.CallerPositions.{here, later}
 use Rattle.starlark_sets.specs.Set.{Adds, Set}
 use Rattle.starlark_sets.proofs.Additions.{is_some-value_at, set_unit_at}
-use Rattle.starlark_lists.specs.Finding.{found, found_key, Writes}
+use Rattle.starlark_hash.specs.Finding.{found, found_key, Writes}
 use Rattle.starlark_small.specs.Calling.{IsEmpty}
 
 module _ {K V : Type 0} (test : K → Bool) (hash : StarlarkHashValue) (es : List (Entry K V)) where

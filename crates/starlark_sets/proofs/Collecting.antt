@@ -9,8 +9,8 @@ use Rattle.std.specs.Set.{is_member}
 use Rattle.std.proofs.lemmas.Map.Made.{is_some-update_all}
 use Rattle.starlark_hash.specs.Hasher.{own_hash}
 use Rattle.starlark_hash.specs.declared.hashed.Hashed.{Hashed}
-use Rattle.starlark_lists.specs.Entries.{Entry}
-use Rattle.starlark_lists.specs.Finding.{found}
+use Rattle.starlark_hash.specs.Entries.{Entry}
+use Rattle.starlark_hash.specs.Finding.{found}
 use Rattle.starlark_small.specs.Calling.{AreOwn, AreOwnEntries, contains}
 use Rattle.starlark_small.specs.Collect.{Collects, Extends, Inserts, insert_all, own_entry}
 use Rattle.starlark_small.proofs.CallerCollected.{looked_all, run_of}

@@ -4,8 +4,8 @@ use Rattle.std.specs.Prelude.{filter}
 use Rattle.std.specs.Option.{option_map}
 use Rattle.std.specs.Cmp.{IsEquivalence}
 use Rattle.starlark_hash.specs.declared.hashed.Hashed.{Hashed}
-use Rattle.starlark_lists.specs.Entries.{Entry, IsSingle, entry_key, match_of, stands_under}
-use Rattle.starlark_lists.proofs.PositionLemmas.{position-cons}
+use Rattle.starlark_hash.specs.Entries.{Entry, IsSingle, entry_key, match_of, stands_under}
+use Rattle.starlark_hash.proofs.PositionLemmas.{position-cons}
 use Rattle.starlark_small.specs.EqualityLaws.{alike, alike-laws}
 use Rattle.starlark_sets.specs.Difference.{lacks, difference, past}
 use Rattle.starlark_sets.specs.Set.{Elements}

@@ -10,17 +10,17 @@ use Rattle.std.proofs.lemmas.List.Sorted.{IsPermutation-reverse}
 use Rattle.starlark_hash.specs.declared.hashed.Hashed.{Hashed}
 use Rattle.starlark_hash.specs.declared.hash_value.StarlarkHashValue.{StarlarkHashValue}
 use Rattle.starlark_hash.specs.HashValue.{hashed}
-use Rattle.starlark_lists.specs.Entries.{Entry, IsSingle, entry_at, entry_key, position_of}
-use Rattle.starlark_lists.specs.Insertion.{insert_entry}
-use Rattle.starlark_lists.specs.Sorting.{key_lt, sorted_by_key}
-use Rattle.starlark_lists.proofs.EntryLemmas.{IsSingle-permutation}
-use Rattle.starlark_lists.proofs.SortingLemmas.{IsPermutation-sorted_by}
+use Rattle.starlark_hash.specs.Entries.{Entry, IsSingle, entry_at, entry_key, position_of}
+use Rattle.starlark_hash.specs.Insertion.{insert_entry}
+use Rattle.starlark_hash.specs.Sorting.{key_lt, sorted_by_key}
+use Rattle.starlark_hash.proofs.EntryLemmas.{IsSingle-permutation}
+use Rattle.starlark_hash.proofs.SortingLemmas.{IsPermutation-sorted_by}
 use Rattle.starlark_small.specs.EqualityLaws.{alike-laws, value_at-lookup}
 use Rattle.starlark_small.proofs.CallerEntries.{length-insert_entry}
 use Rattle.starlark_small.proofs.CallerOrder.{lookup_permuted}
 use Rattle.starlark_small.proofs.CallerPlaces.{writes-taken}
 use Rattle.starlark_small.proofs.SameEntries.{distinct}
-use Rattle.starlark_lists.specs.Finding.{found, found_key, Writes}
+use Rattle.starlark_hash.specs.Finding.{found, found_key, Writes}
 use Rattle.starlark_sets.proofs.Additions.{is_some-value_at}
 use Rattle.starlark_sets.proofs.Callers.{key_stands}
 

@@ -11,9 +11,9 @@ use Rattle.std.proofs.lemmas.List.Elements.{All-head, All-tail}
 use Rattle.std.proofs.lemmas.List.Folds.{list_any-append}
 use Rattle.starlark_hash.specs.Hasher.{own_hash}
 use Rattle.starlark_hash.specs.HashValue.{hash_number}
-use Rattle.starlark_lists.specs.Entries.{Entry, entry_hash, entry_key, position_of, stands_under}
-use Rattle.starlark_lists.specs.Finding.{found}
-use Rattle.starlark_lists.proofs.PositionLemmas.{position-cons}
+use Rattle.starlark_hash.specs.Entries.{Entry, entry_hash, entry_key, position_of, stands_under}
+use Rattle.starlark_hash.specs.Finding.{found}
+use Rattle.starlark_hash.proofs.PositionLemmas.{position-cons}
 use Rattle.starlark_small.specs.Calling.{AreOwnEntries}
 use Rattle.starlark_small.proofs.CallerPositions.{refl_number}
 use Rattle.starlark_small.proofs.CallerUpdates.{is_some-found}

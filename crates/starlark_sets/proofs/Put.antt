@@ -13,9 +13,9 @@ use Rattle.starlark_hash.specs.declared.no_room.NoRoom.{NoRoom}
 use Rattle.starlark_hash.specs.declared.hash_value.StarlarkHashValue.{StarlarkHashValue}
 use Rattle.starlark_hash.specs.Hasher.{own_hash}
 use Rattle.starlark_hash.specs.HashValue.{hashed, hash_of, key_of}
-use Rattle.starlark_lists.specs.Entries.{entry_key, match_of, position_of, set_value_at, value_at}
-use Rattle.starlark_lists.specs.Finding.{found, Writes}
-use Rattle.starlark_lists.specs.Insertion.{insert_entry}
+use Rattle.starlark_hash.specs.Entries.{entry_key, match_of, position_of, set_value_at, value_at}
+use Rattle.starlark_hash.specs.Finding.{found, Writes}
+use Rattle.starlark_hash.specs.Insertion.{insert_entry}
 use Rattle.starlark_small.specs.Inserted.{IsInserted, IsRefused}
 use Rattle.starlark_small.specs.Inserting.{PutsLast}
 use Rattle.starlark_small.proofs.CallerEntries.{position_of-match}

@@ -2,7 +2,7 @@
 use Rattle.std.proofs.Common.{◌≡◌, Bool, List, [], ◌∷◌, ap, subst, ◌∙◌}
 use Rattle.std.specs.Prelude.{filter, if◌then◌else◌}
 use Rattle.std.specs.List.{FoldsTo}
-use Rattle.starlark_lists.specs.Retain.{Retains, TakesInTurn, MayLeave}
+use Rattle.starlark_hash.specs.Retain.{Retains, TakesInTurn, MayLeave}
 
 module _ {F G X : Type 0} (calls : F → X → Bool → X → F → Type 0) (seen : G → X → Bool → X → G → Type 0) (st : F → G) where
   -- what calls may do, seen may do in the state that is inside

@@ -3,7 +3,7 @@ use Rattle.starlark_columns.proofs.Walking.{◌≡◌, ℕ, Bool, Some, Result, 
 use Rattle.std.proofs.Common.{Bor}
 use Rattle.starlark_hash.specs.declared.hashed.Hashed.{Hashed}
 use Rattle.starlark_hash.specs.declared.no_room.NoRoom.{NoRoom}
-use Rattle.starlark_lists.specs.Entries.{entry_key}
+use Rattle.starlark_hash.specs.Entries.{entry_key}
 use Rattle.starlark_sets.specs.Lending.{IsShown}
 use Rattle.starlark_sets.specs.Set.{Set, Elements, Adds}
 

@@ -7,8 +7,8 @@ use Rattle.starlark_hash.specs.Hasher.{own_hash}
 use Rattle.starlark_hash.specs.HashValue.{hash_of, key_of}
 use Rattle.starlark_hash.specs.declared.hashed.Hashed.{Hashed}
 use Rattle.starlark_hash.specs.declared.no_room.NoRoom.{NoRoom}
-use Rattle.starlark_lists.specs.Entries.{entry_key, match_of}
-use Rattle.starlark_lists.specs.Finding.{found, found_key, Writes}
+use Rattle.starlark_hash.specs.Entries.{entry_key, match_of}
+use Rattle.starlark_hash.specs.Finding.{found, found_key, Writes}
 use Rattle.starlark_small.specs.Calling.{AreOwn, UpdatesBy, contains}
 use Rattle.starlark_sets.specs.Set.{Adds, AddsFor, Set, element_at}
 

@@ -6,7 +6,7 @@ use Rattle.std.specs.Iterator.Runs.{WholeRun}
 use Rattle.std.specs.Option.{option_map}
 use Rattle.std.specs.Set.{is_member}
 use Rattle.starlark_hash.specs.declared.hashed.Hashed.{Hashed}
-use Rattle.starlark_lists.specs.Entries.{Entry}
+use Rattle.starlark_hash.specs.Entries.{Entry}
 use Rattle.starlark_small.specs.Calling.{AreOwn, AreOwnEntries, contains}
 use Rattle.starlark_small.specs.Collect.{Collects, Extends, IsExtended, insert_all}
 use Rattle.starlark_small.specs.Map.{own_hashed}

@@ -4,7 +4,7 @@ use Rattle.std.specs.Borrow.{Bor}
 use Rattle.std.specs.Iterator.{YieldsFirstRef}
 use Rattle.std.specs.Iterator.Runs.{EveryRun, ItemsMapTo}
 use Rattle.std.specs.Map.Iter.{deref}
-use Rattle.starlark_lists.specs.Entries.{Entry, entry_key, match_of}
+use Rattle.starlark_hash.specs.Entries.{Entry, entry_key, match_of}
 use Rattle.starlark_sets.specs.Set.{Elements}
 
 -- what a difference has left to look at, and the list in which it looks each element up

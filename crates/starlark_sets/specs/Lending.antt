@@ -5,7 +5,7 @@ use Rattle.std.specs.Option.{option_map}
 use mathlib.Core.Option.{none}
 use Rattle.std.specs.declared.cmp.PartialEq as eq
 use Rattle.starlark_hash.specs.declared.hash_value.StarlarkHashValue.{StarlarkHashValue}
-use Rattle.starlark_lists.specs.Entries.{entry_key, position_of}
+use Rattle.starlark_hash.specs.Entries.{entry_key, position_of}
 use Rattle.starlark_hash.specs.HashValue.{hashed}
 use Rattle.starlark_small.specs.Inserted.{IsInserted, IsRefused}
 use Rattle.starlark_sets.specs.Set.{Elements, Set}

@@ -3,13 +3,13 @@ use Rattle.std.specs.Prelude.{◌≡◌, Bool, Option, Some, IsSome}
 use Rattle.std.specs.Borrow.{Fml, RattleType, MutBor, GName, Lends, LendsSo, follows}
 use Rattle.std.specs.declared.cmp.PartialEq as eq
 use Rattle.starlark_hash.specs.declared.hash_value.StarlarkHashValue.{StarlarkHashValue}
-use Rattle.starlark_lists.specs.Entries.{position_of, with_value}
+use Rattle.starlark_hash.specs.Entries.{position_of, with_value}
 use Rattle.starlark_vecmap.specs.EntryList.{with_values}
 use Rattle.starlark_small.specs.Map.{Map}
 use Rattle.starlark_small.specs.MapEntry.{map_of_entry}
 use Rattle.starlark_small.specs.declared.entry.Entry.{Entry}
 use Rattle.starlark_small.specs.contracts.small_map.SmallMap as small
-use Rattle.starlark_lists.specs.Finding.{Writes, found}
+use Rattle.starlark_hash.specs.Finding.{Writes, found}
 use Rattle.starlark_sets.specs.contracts.ordered_map.OrderedMap.{the_row}
 
 module _ (K V : RattleType) (g : eq.Ghosts K.Denot) (s : MutBor (Map K.Denot V.Denot)) where

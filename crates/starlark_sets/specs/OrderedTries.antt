@@ -3,8 +3,8 @@ use Rattle.std.specs.Prelude.{◌≡◌, ◌<◌, Bool, true, false, Option, Som
 use Rattle.std.specs.Option.{option_map}
 use Rattle.starlark_hash.specs.HashValue.{hash_of, key_of}
 use Rattle.starlark_hash.specs.declared.hashed.Hashed.{Hashed}
-use Rattle.starlark_lists.specs.Entries.{entry_key, match_of}
-use Rattle.starlark_lists.specs.Finding.{found}
+use Rattle.starlark_hash.specs.Entries.{entry_key, match_of}
+use Rattle.starlark_hash.specs.Finding.{found}
 use Rattle.starlark_small.specs.Inserted.{IsInserted, IsRefused}
 use Rattle.starlark_sets.specs.Set.{Elements, Set, element_at}
 use Rattle.starlark_sets.specs.declared.ordered_set.tries.TryInsertError.{TryInsertError}

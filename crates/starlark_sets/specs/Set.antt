@@ -3,7 +3,7 @@ use Rattle.std.specs.Prelude.{◌≡◌, ℕ, Bool, List, Option, Result, MatchO
 use Rattle.std.specs.Borrow.{Bor}
 use Rattle.std.specs.Option.{option_map}
 use Rattle.starlark_hash.specs.declared.hashed.Hashed.{Hashed}
-use Rattle.starlark_lists.specs.Entries.{Entry, entry_at, entry_key, match_of, position_of}
+use Rattle.starlark_hash.specs.Entries.{Entry, entry_at, entry_key, match_of, position_of}
 use Rattle.starlark_hash.specs.HashValue.{hashed}
 use Rattle.starlark_hash.specs.declared.hash_value.StarlarkHashValue.{StarlarkHashValue}
 use Rattle.starlark_small.specs.Inserted.{IsInserted, IsRefused}

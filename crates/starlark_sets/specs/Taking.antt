@@ -3,8 +3,8 @@ use Rattle.std.specs.Prelude.{◌≡◌, ℕ, ◌+◌, Bool, IfSome, IsTrue, Opt
 use Rattle.std.specs.Borrow.{Bor}
 use Rattle.std.specs.Option.{IfNone, option_copied, option_map}
 use Rattle.starlark_hash.specs.declared.hash_value.StarlarkHashValue.{StarlarkHashValue}
-use Rattle.starlark_lists.specs.Entries.{entry_key}
-use Rattle.starlark_lists.specs.Finding.{found, found_key}
+use Rattle.starlark_hash.specs.Entries.{entry_key}
+use Rattle.starlark_hash.specs.Finding.{found, found_key}
 use Rattle.starlark_small.specs.Calling.{Removes, RemovesAt, TakesOut}
 use Rattle.starlark_sets.specs.Set.{Set, element_at}
 

@@ -4,7 +4,7 @@ use Rattle.std.specs.Borrow.{Bor}
 use Rattle.std.specs.Iterator.{YieldsFirstRef}
 use Rattle.std.specs.Iterator.Runs.{EveryRun, ItemsMapTo}
 use Rattle.std.specs.Map.Iter.{deref}
-use Rattle.starlark_lists.specs.Entries.{entry_key}
+use Rattle.starlark_hash.specs.Entries.{entry_key}
 use Rattle.starlark_sets.specs.Difference.{Difference, DifferenceSteps, difference}
 use Rattle.starlark_sets.specs.Set.{Elements}
 

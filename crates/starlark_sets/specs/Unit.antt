@@ -8,8 +8,8 @@ use Rattle.std.specs.declared.cmp.Ordering.{Ordering}
 use Rattle.std.specs.declared.cmp.Ordering.TheVariants.{Equal}
 use Rattle.starlark_hash.specs.declared.hashed.Hashed.{Hashed}
 use Rattle.starlark_hash.specs.HashValue.{hashed, hash_of, key_of}
-use Rattle.starlark_lists.specs.Entries.{Entry}
-use Rattle.starlark_lists.specs.Ordered.{ordered_feed}
+use Rattle.starlark_hash.specs.Entries.{Entry}
+use Rattle.starlark_hash.specs.Ordered.{ordered_feed}
 
 -- whether two `()` are equal; any two are
 abbrev pub same_unit : Unit {0} → Unit {0} → Bool

@@ -2,7 +2,7 @@
 ghost use Rattle.std.specs.Prelude.{◌≡◌, ◌-◌, length, Some, IfSome};
 ghost use Rattle.std.specs.Iterator.{UpTo, at_most};
 ghost use Rattle.std.specs.Iterator.SizeHint.{IsWithinCount};
-ghost use Rattle.starlark_lists.specs.Entries.{IsSingle};
+ghost use Rattle.starlark_hash.specs.Entries.{IsSingle};
 ghost use Rattle.starlark_sets.specs.Difference.{DifferenceSteps, difference_rest};
 
 use crate::small_set::SmallSet;
@@ -18,7 +18,7 @@ pub struct Difference<'a, T: Eq> {
 }
 
 impl<'a, T: Eq> Model for Difference<'a, T> {
-    ghost use Rattle.starlark_lists.specs.Entries.{IsSingle};
+    ghost use Rattle.starlark_hash.specs.Entries.{IsSingle};
     ghost use Rattle.starlark_sets.specs.Difference.{Difference as Left};
 
     ghost Value = { Left T };

@@ -12,11 +12,11 @@ use Rattle.std.specs.Option.{option_map}
 use Rattle.std.proofs.lemmas.List.{map-id}
 use Rattle.starlark_hash.specs.Hasher.{own_hash}
 use Rattle.starlark_hash.specs.declared.hash_value.StarlarkHashValue.{StarlarkHashValue}
-use Rattle.starlark_lists.specs.Clone.{IsEntryClone}
-use Rattle.starlark_lists.specs.Entries.{Entry, entry_key, is_under, stands_under}
-use Rattle.starlark_lists.specs.Finding.{found}
-use Rattle.starlark_lists.specs.Insertion.{insert_entry}
-use Rattle.starlark_lists.proofs.PositionLemmas.{position-cons}
+use Rattle.starlark_hash.specs.Clone.{IsEntryClone}
+use Rattle.starlark_hash.specs.Entries.{Entry, entry_key, is_under, stands_under}
+use Rattle.starlark_hash.specs.Finding.{found}
+use Rattle.starlark_hash.specs.Insertion.{insert_entry}
+use Rattle.starlark_hash.proofs.PositionLemmas.{position-cons}
 use Rattle.starlark_small.specs.Calling.{AreOwn, AreOwnEntries}
 use Rattle.starlark_small.specs.Collect.{Collects, Extends, FindsLast, InsertsEach, KeepsOwn, insert_all, own_entry}
 use Rattle.starlark_small.specs.Map.{Map, own_hashed}

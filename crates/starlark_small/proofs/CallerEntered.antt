@@ -11,7 +11,7 @@ use Rattle.starlark_small.specs.declared.entry.Entry as E
 use Rattle.starlark_small.proofs.CallerOwn.{own-inserted}
 use Rattle.starlark_small.proofs.CallerTotals.{part-at, total-inserted}
 use Rattle.starlark_small.proofs.CallerUpdates.{entries-refused, found_is, inserted-puts, keys-put, value-entry, writes-inserted}
-use Rattle.starlark_lists.specs.Entries.{match_of}
+use Rattle.starlark_hash.specs.Entries.{match_of}
 
 pub enters-entry : {K V : Type 0} {g : PartialEq.Ghosts K} (eq : K → K → Bool) → IsEquivalence eq → (key : Hashed K) (m : Map K V) (e : E.Entry K V g) → IsEntryOf eq m key e → Enters eq key m e
 enters-entry eq laws key m e is =

@@ -10,10 +10,10 @@ use Rattle.std.proofs.lemmas.Option.{none-some}
 use Rattle.starlark_hash.specs.declared.hashed.Hashed.{Hashed}
 use Rattle.starlark_hash.specs.declared.hash_value.StarlarkHashValue.{StarlarkHashValue}
 use Rattle.starlark_hash.specs.HashValue.{hash_of, key_of}
-use Rattle.starlark_lists.specs.Entries.{Entry, IsSingle, entry_key, set_value_at, match_of, value_at, with_value, without, position_of}
-use Rattle.starlark_lists.specs.Insertion.{insert_entry}
-use Rattle.starlark_lists.proofs.PositionLemmas.{position-cons, position-within}
-use Rattle.starlark_lists.proofs.EntryLemmas.{length-set_value_at}
+use Rattle.starlark_hash.specs.Entries.{Entry, IsSingle, entry_key, set_value_at, match_of, value_at, with_value, without, position_of}
+use Rattle.starlark_hash.specs.Insertion.{insert_entry}
+use Rattle.starlark_hash.proofs.PositionLemmas.{position-cons, position-within}
+use Rattle.starlark_hash.proofs.EntryLemmas.{length-set_value_at}
 use Rattle.starlark_small.proofs.CallerPositions.{later, not_first, here, none_among}
 use Rattle.starlark_small.proofs.CallerKeys.{alike, written_here, written_there, removed_there, pushed_there, pushed_here, both, under, apart, same_key, keys-set_value_at}
 

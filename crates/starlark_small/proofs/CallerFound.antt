@@ -6,8 +6,8 @@ use Rattle.std.specs.Option.{option_map}
 use Rattle.std.proofs.lemmas.Option.{get_or_from_slice_get, none-some, slice_get_within}
 use Rattle.starlark_hash.specs.Hasher.{own_hash}
 use Rattle.starlark_hash.specs.declared.hash_value.StarlarkHashValue.{StarlarkHashValue}
-use Rattle.starlark_lists.specs.Entries.{Entry, IsSingle, entry_hash, entry_key, entry_value, position_of, value_at}
-use Rattle.starlark_lists.specs.Finding.{found}
+use Rattle.starlark_hash.specs.Entries.{Entry, IsSingle, entry_hash, entry_key, entry_value, position_of, value_at}
+use Rattle.starlark_hash.specs.Finding.{found}
 use Rattle.starlark_small.specs.Calling.{AreOwnEntries}
 use Rattle.starlark_small.specs.Walks.{AreFound, IsOwnOf}
 use Rattle.starlark_small.proofs.CallerPlaces.{found-placed}

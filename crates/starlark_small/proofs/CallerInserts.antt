@@ -4,8 +4,8 @@ use Rattle.std.specs.Cmp.{IsEquivalence}
 use Rattle.starlark_hash.specs.declared.hashed.Hashed.{Hashed}
 use Rattle.starlark_hash.specs.declared.no_room.NoRoom.{NoRoom}
 use Rattle.starlark_hash.specs.HashValue.{hash_of, key_of}
-use Rattle.starlark_lists.specs.Entries.{match_of, value_at}
-use Rattle.starlark_lists.specs.Insertion.{insert_entry}
+use Rattle.starlark_hash.specs.Entries.{match_of, value_at}
+use Rattle.starlark_hash.specs.Insertion.{insert_entry}
 use Rattle.starlark_small.specs.Inserted.{IsRefused, LeavesMemory}
 use Rattle.starlark_small.specs.Inserting.{Inserts}
 use Rattle.starlark_small.specs.Map.{Map}

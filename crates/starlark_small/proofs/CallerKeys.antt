@@ -9,8 +9,8 @@ use Rattle.std.proofs.lemmas.Option.{none-some, same_Some}
 use Rattle.starlark_hash.specs.declared.hashed.Hashed.{Hashed}
 use Rattle.starlark_hash.specs.declared.hash_value.StarlarkHashValue.{StarlarkHashValue}
 use Rattle.starlark_hash.specs.HashValue.{hash_of, key_of}
-use Rattle.starlark_lists.specs.Entries.{Entry, entry_key, set_value_at, value_at}
-use Rattle.starlark_lists.proofs.PositionLemmas.{position-cons, position-within}
+use Rattle.starlark_hash.specs.Entries.{Entry, entry_key, set_value_at, value_at}
+use Rattle.starlark_hash.proofs.PositionLemmas.{position-cons, position-within}
 use Rattle.starlark_small.proofs.CallerPositions.{later, here, pushed_first, pushed_other, refl_number}
 
 -- whether a key stands under this one's hash and is equal to it

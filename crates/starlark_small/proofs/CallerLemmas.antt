@@ -8,9 +8,9 @@ use Rattle.std.specs.declared.string.String.{String}
 use Rattle.std.proofs.lemmas.List.{length_push, length-append, length-drop, length-take, map-append}
 use Rattle.starlark_hash.specs.Hasher.{own_hash}
 use Rattle.starlark_hash.specs.declared.hashed.Hashed.{Hashed}
-use Rattle.starlark_lists.specs.Entries.{Entry, IsSingle, match_of, value_at, with_value, without}
-use Rattle.starlark_lists.specs.Insertion.{insert_entry}
-use Rattle.starlark_lists.proofs.EntryLemmas.{length-set_value_at}
+use Rattle.starlark_hash.specs.Entries.{Entry, IsSingle, match_of, value_at, with_value, without}
+use Rattle.starlark_hash.specs.Insertion.{insert_entry}
+use Rattle.starlark_hash.proofs.EntryLemmas.{length-set_value_at}
 use Rattle.starlark_small.specs.Calling.{get, Updates}
 use Rattle.starlark_small.specs.Map.{Map, own_hashed, own_match}
 use Rattle.starlark_small.proofs.CallerKeys.{keys-set_value_at}

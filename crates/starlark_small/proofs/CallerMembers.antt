@@ -10,9 +10,9 @@ use Rattle.std.proofs.lemmas.List.Elements.{All-cons, All-head, All-push, All-ta
 use Rattle.starlark_hash.specs.declared.hashed.Hashed.{Hashed}
 use Rattle.starlark_hash.specs.declared.hash_value.StarlarkHashValue.{StarlarkHashValue}
 use Rattle.starlark_hash.specs.HashValue.{hash_of, key_of}
-use Rattle.starlark_lists.specs.Entries.{Entry, entry_key, entry_value, pair_of, match_of, set_value_at, with_value}
-use Rattle.starlark_lists.proofs.EntryLemmas.{length-set_value_at}
-use Rattle.starlark_lists.proofs.PositionLemmas.{position-passes, position-within}
+use Rattle.starlark_hash.specs.Entries.{Entry, entry_key, entry_value, pair_of, match_of, set_value_at, with_value}
+use Rattle.starlark_hash.proofs.EntryLemmas.{length-set_value_at}
+use Rattle.starlark_hash.proofs.PositionLemmas.{position-passes, position-within}
 use Rattle.starlark_small.specs.Calling.{keys, Removes, RemovesAt}
 use Rattle.starlark_small.specs.Inserting.{Inserts}
 use Rattle.starlark_small.specs.Map.{Map}

@@ -16,11 +16,11 @@ use Rattle.std.proofs.lemmas.Option.{slice_get-get_or, slice_get_within, get_or_
 use Rattle.std_collections.proofs.Entries.{lookup-none, lookup_class}
 use Rattle.starlark_hash.specs.declared.hash_value.StarlarkHashValue.{StarlarkHashValue}
 use Rattle.starlark_hash.specs.HashValue.{hashed}
-use Rattle.starlark_lists.specs.Entries.{Entry, IsSingle, entry_key}
-use Rattle.starlark_lists.specs.Finding.{found}
-use Rattle.starlark_lists.specs.Sorting.{key_lt, sorted_by_key}
-use Rattle.starlark_lists.proofs.SortingLemmas.{sorted_by-sorted, key_lt-order}
-use Rattle.starlark_lists.proofs.EntryLemmas.{IsSingle-permutation}
+use Rattle.starlark_hash.specs.Entries.{Entry, IsSingle, entry_key}
+use Rattle.starlark_hash.specs.Finding.{found}
+use Rattle.starlark_hash.specs.Sorting.{key_lt, sorted_by_key}
+use Rattle.starlark_hash.proofs.SortingLemmas.{sorted_by-sorted, key_lt-order}
+use Rattle.starlark_hash.proofs.EntryLemmas.{IsSingle-permutation}
 use Rattle.starlark_small.specs.EqualityLaws.{alike-laws, value_at-lookup}
 use Rattle.starlark_small.proofs.SameEntries.{distinct}
 

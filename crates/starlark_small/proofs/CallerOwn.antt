@@ -10,10 +10,10 @@ use Rattle.std.proofs.lemmas.List.Sorted.{All-permutation}
 use Rattle.starlark_hash.specs.declared.hashed.Hashed.{Hashed}
 use Rattle.starlark_hash.specs.Hasher.{own_hash}
 use Rattle.starlark_hash.specs.HashValue.{hash_of, key_of}
-use Rattle.starlark_lists.specs.Clone.{IsEntryClone}
-use Rattle.starlark_lists.specs.Entries.{Entry, entry_hash, entry_key, match_of, set_value_at, without}
-use Rattle.starlark_lists.specs.Insertion.{insert_entry}
-use Rattle.starlark_lists.specs.Retain.{CalledAtEntry, Retains}
+use Rattle.starlark_hash.specs.Clone.{IsEntryClone}
+use Rattle.starlark_hash.specs.Entries.{Entry, entry_hash, entry_key, match_of, set_value_at, without}
+use Rattle.starlark_hash.specs.Insertion.{insert_entry}
+use Rattle.starlark_hash.specs.Retain.{CalledAtEntry, Retains}
 use Rattle.starlark_vecmap.specs.EntryList.{with_values}
 use Rattle.starlark_small.specs.Calling.{AreOwnEntries}
 use Rattle.starlark_small.specs.Collect.{insert_all, own_entry}

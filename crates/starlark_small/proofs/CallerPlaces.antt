@@ -8,9 +8,9 @@ use Rattle.std.proofs.lemmas.List.{length_push}
 use Rattle.std.proofs.lemmas.Option.{get_or_from_slice_get, same_Some, slice_get_within}
 use Rattle.starlark_hash.specs.HashValue.{key_of}
 use Rattle.starlark_hash.specs.Hasher.{own_hash}
-use Rattle.starlark_lists.specs.Entries.{Entry, IsSingle, entry_key, entry_value, match_of, pair_of, stands_under, value_at, without}
-use Rattle.starlark_lists.specs.Finding.{found, Writes}
-use Rattle.starlark_lists.proofs.PositionLemmas.{position-cons}
+use Rattle.starlark_hash.specs.Entries.{Entry, IsSingle, entry_key, entry_value, match_of, pair_of, stands_under, value_at, without}
+use Rattle.starlark_hash.specs.Finding.{found, Writes}
+use Rattle.starlark_hash.proofs.PositionLemmas.{position-cons}
 use Rattle.starlark_small.specs.Calling.{AreOwnEntries, TakesOut}
 use Rattle.starlark_small.specs.EqualityLaws.{alike, alike-laws}
 use Rattle.starlark_small.specs.Map.{Map}

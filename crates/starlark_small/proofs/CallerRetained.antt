@@ -6,10 +6,10 @@ use Rattle.std.specs.Fn.{Mut}
 use Rattle.std.proofs.lemmas.Bool.{false≢true}
 use Rattle.starlark_hash.specs.declared.hash_value.StarlarkHashValue.{StarlarkHashValue}
 use Rattle.starlark_hash.specs.HashValue.{hash_number, hash_of, key_of}
-use Rattle.starlark_lists.specs.Entries.{Entry, position_of, stands_under}
-use Rattle.starlark_lists.specs.Finding.{found}
-use Rattle.starlark_lists.specs.Retain.{Retains, CalledAtEntry}
-use Rattle.starlark_lists.proofs.PositionLemmas.{position-None}
+use Rattle.starlark_hash.specs.Entries.{Entry, position_of, stands_under}
+use Rattle.starlark_hash.specs.Finding.{found}
+use Rattle.starlark_hash.specs.Retain.{Retains, CalledAtEntry}
+use Rattle.starlark_hash.proofs.PositionLemmas.{position-None}
 use Rattle.starlark_small.proofs.CallerPositions.{none_among}
 use Rattle.starlark_small.proofs.CallerUpdates.{is_some-found, none_found}
 use Rattle.starlark_small.proofs.Retained.{all_retained}

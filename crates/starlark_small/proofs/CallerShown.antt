@@ -6,8 +6,8 @@ use Rattle.std.specs.Option.{IfNone, option_map}
 use Rattle.std.proofs.lemmas.Bool.{false≢true}
 use Rattle.std.proofs.lemmas.Option.{none-some, same_Some}
 use Rattle.starlark_hash.specs.declared.hash_value.StarlarkHashValue.{StarlarkHashValue}
-use Rattle.starlark_lists.specs.Entries.{Entry, entry_at, entry_key, entry_value, pair_of, position_of, value_at}
-use Rattle.starlark_lists.specs.Finding.{found, found_key}
+use Rattle.starlark_hash.specs.Entries.{Entry, entry_at, entry_key, entry_value, pair_of, position_of, value_at}
+use Rattle.starlark_hash.specs.Finding.{found, found_key}
 use Rattle.starlark_small.specs.Calling.{FindsValue, TellsPresence}
 use Rattle.starlark_small.specs.Map.{Map}
 use Rattle.starlark_small.proofs.CallerEntries.{is_some-value_at}

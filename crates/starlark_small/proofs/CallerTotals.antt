@@ -6,10 +6,10 @@ use Rattle.std.proofs.lemmas.List.{map-append}
 use Rattle.std.proofs.lemmas.List.Sums.{sum_by-cons, sum_by_push}
 use Rattle.starlark_hash.specs.declared.hashed.Hashed.{Hashed}
 use Rattle.starlark_hash.specs.HashValue.{hash_of, key_of}
-use Rattle.starlark_lists.specs.Entries.{Entry, entry_value, match_of, set_value_at, value_at}
-use Rattle.starlark_lists.specs.Finding.{found}
-use Rattle.starlark_lists.specs.Insertion.{insert_entry}
-use Rattle.starlark_lists.proofs.PositionLemmas.{position-within}
+use Rattle.starlark_hash.specs.Entries.{Entry, entry_value, match_of, set_value_at, value_at}
+use Rattle.starlark_hash.specs.Finding.{found}
+use Rattle.starlark_hash.specs.Insertion.{insert_entry}
+use Rattle.starlark_hash.proofs.PositionLemmas.{position-within}
 use Rattle.starlark_small.specs.Calling.{total_of, weight_of}
 use Rattle.starlark_small.proofs.CallerKeys.{alike}
 

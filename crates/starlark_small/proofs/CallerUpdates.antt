@@ -1,4 +1,4 @@
--- What a call leaves at its query and at all other keys, in the closed words of `starlark_lists/specs/Finding.antt`.
+-- What a call leaves at its query and at all other keys, in the closed words of `starlark_hash/specs/Finding.antt`.
 use Rattle.std.proofs.Common.{◌≡◌, ℕ, zero, suc, ◌+◌, ◌<◌, Bool, true, false, eqb, List, [], ◌∷◌, ◌++◌, get_or, map, remove, Option, Some, None, IsSome, is_some, slice_get, length, Result, Ok, Err, IsErr, IsOk, OnErr, OnOk, arith, refl, sym, ap, ◌∙◌}
 use Rattle.std.specs.Prelude.{◌&&◌, if◌then◌else◌}
 use Rattle.std.specs.Cmp.{IsEquivalence}
@@ -8,10 +8,10 @@ use Rattle.std.proofs.lemmas.Option.{none-some}
 use Rattle.starlark_hash.specs.declared.hashed.Hashed.{Hashed}
 use Rattle.starlark_hash.specs.declared.hash_value.StarlarkHashValue.{StarlarkHashValue}
 use Rattle.starlark_hash.specs.HashValue.{hashed, hash_of, key_of}
-use Rattle.starlark_lists.specs.Entries.{Entry, IsSingle, entry_at, entry_key, entry_value, pair_of, match_of, set_value_at, value_at, with_value, without, position_of}
-use Rattle.starlark_lists.specs.Insertion.{insert_entry}
-use Rattle.starlark_lists.specs.Finding.{found, Writes}
-use Rattle.starlark_lists.proofs.PositionLemmas.{position-passes}
+use Rattle.starlark_hash.specs.Entries.{Entry, IsSingle, entry_at, entry_key, entry_value, pair_of, match_of, set_value_at, value_at, with_value, without, position_of}
+use Rattle.starlark_hash.specs.Insertion.{insert_entry}
+use Rattle.starlark_hash.specs.Finding.{found, Writes}
+use Rattle.starlark_hash.proofs.PositionLemmas.{position-passes}
 use Rattle.starlark_small.specs.Calling.{keys}
 use Rattle.std.specs.declared.cmp.PartialEq as PartialEq
 use Rattle.starlark_small.specs.MapEntry.{Occupied, Vacant, IsEntryOf, Puts, Refuses, entry_value_of, lacking_key, occupied_map, occupied_place, vacant_map, stored, written, with_entry_value}

@@ -4,9 +4,9 @@ use Rattle.std.specs.Map.{values_of}
 use Rattle.std.specs.Option.{option_map}
 use Rattle.std.proofs.lemmas.List.{length-map}
 use Rattle.starlark_hash.specs.declared.hash_value.StarlarkHashValue.{StarlarkHashValue}
-use Rattle.starlark_lists.specs.Entries.{Entry, entry_key, entry_value, pair_of, position_of, stands_under}
-use Rattle.starlark_lists.specs.Finding.{found}
-use Rattle.starlark_lists.proofs.PositionLemmas.{position-cons}
+use Rattle.starlark_hash.specs.Entries.{Entry, entry_key, entry_value, pair_of, position_of, stands_under}
+use Rattle.starlark_hash.specs.Finding.{found}
+use Rattle.starlark_hash.proofs.PositionLemmas.{position-cons}
 use Rattle.starlark_vecmap.specs.EntryList.{with_values}
 use Rattle.starlark_small.proofs.CallerUpdates.{is_some-found}
 

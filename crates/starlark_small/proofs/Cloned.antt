@@ -2,8 +2,8 @@
 use Rattle.std.proofs.Common.{◌≡◌, ℕ, zero, suc, ◌<◌, Bool, true, ◌&&◌, List, [], ◌∷◌, length, get_or, refl, sym, ap, ◌∙◌, arith, nat_eq}
 use Rattle.std.specs.List.{AllZip}
 use Rattle.core.specs.Cmp.{IsEquivalence}
-use Rattle.starlark_lists.specs.Entries.{Entry, IsSingle}
-use Rattle.starlark_lists.specs.Clone.{IsEntryClone}
+use Rattle.starlark_hash.specs.Entries.{Entry, IsSingle}
+use Rattle.starlark_hash.specs.Clone.{IsEntryClone}
 
 module _ {K V : Type 0} (eq : K → K → Bool) (key : K → K → Type 0) (value : V → V → Type 0) where
   pub length-clones : (es fs : List (Entry K V)) → AllZip (IsEntryClone key value) es fs → length fs ≡ length es

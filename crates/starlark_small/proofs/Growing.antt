@@ -6,9 +6,9 @@ use Rattle.std.proofs.lemmas.Bool.Decides.{nat_tests}
 use Rattle.std.proofs.lemmas.List.{length-drop, length_push}
 use mathlib.Core.Logic.{inl, inr}
 use Rattle.starlark_hash.specs.declared.hashed.Hashed.{Hashed}
-use Rattle.starlark_lists.specs.Entries.{match_of, set_value_at}
-use Rattle.starlark_lists.specs.Insertion.{insert_entry}
-use Rattle.starlark_lists.proofs.EntryLemmas.{length-set_value_at}
+use Rattle.starlark_hash.specs.Entries.{match_of, set_value_at}
+use Rattle.starlark_hash.specs.Insertion.{insert_entry}
+use Rattle.starlark_hash.proofs.EntryLemmas.{length-set_value_at}
 use Rattle.starlark_small.specs.Growth.{StaysOrGrows, reserved_capacity, stepped_capacity}
 use Rattle.starlark_small.specs.Inserted.{LeavesMemory}
 use Rattle.starlark_small.specs.Map.{Map}

@@ -11,8 +11,8 @@ use Rattle.std.proofs.lemmas.Simd.{map-map}
 use Rattle.std.proofs.lemmas.Option.{get_or_from_slice_get, none-some, same_Some, slice_get-get_or, slice_get-map}
 use Rattle.starlark_hash.specs.HashValue.{hash_number}
 use Rattle.starlark_hash.specs.declared.hash_value.StarlarkHashValue.{StarlarkHashValue}
-use Rattle.starlark_lists.specs.Entries.{Entry, entry_hash, set_value_at}
-use Rattle.starlark_lists.proofs.EntryLemmas.{length-set_value_at, set_value_at-key}
+use Rattle.starlark_hash.specs.Entries.{Entry, entry_hash, set_value_at}
+use Rattle.starlark_hash.proofs.EntryLemmas.{length-set_value_at, set_value_at-key}
 use Rattle.starlark_small.specs.Hashes.{Hashes, cleared, forgotten, hash_under, noted, reversed}
 use Rattle.starlark_small.specs.Index.{IsIndexed, IsIndexedAt, hashes_of, index_room, unindexed}
 use Rattle.starlark_small.specs.Indexing.{IsFilled, IsRenamed}

@@ -8,8 +8,8 @@ use Rattle.std.proofs.lemmas.List.{length_push}
 use Rattle.std.proofs.lemmas.Option.{same_Some}
 use Rattle.starlark_hash.specs.declared.hashed.Hashed.{Hashed}
 use Rattle.starlark_hash.specs.HashValue.{key_of}
-use Rattle.starlark_lists.specs.Entries.{Entry, entry_value, match_of, pair_of, set_value_at, value_at}
-use Rattle.starlark_lists.proofs.EntryLemmas.{length-set_value_at}
+use Rattle.starlark_hash.specs.Entries.{Entry, entry_value, match_of, pair_of, set_value_at, value_at}
+use Rattle.starlark_hash.proofs.EntryLemmas.{length-set_value_at}
 use Rattle.starlark_small.specs.Index.{unindexed}
 use Rattle.starlark_small.specs.Inserted.{IsInserted, IsRefused, LeavesMemory}
 use Rattle.starlark_small.specs.Map.{Map}

@@ -14,8 +14,8 @@ use Rattle.std.proofs.lemmas.Option.{get_or_from_slice_get, slice_get-map, slice
 use Rattle.starlark_hash.specs.HashValue.{promoted}
 use Rattle.starlark_hash.specs.declared.hash_value.StarlarkHashValue.{StarlarkHashValue}
 use Rattle.starlark_hash.proofs.Promote.{promoted-injective}
-use Rattle.starlark_lists.specs.Entries.{Entry, entry_key, is_under, pair_of}
-use Rattle.starlark_lists.specs.Search.{Asks, CanSearch, Searches, keys_under}
+use Rattle.starlark_hash.specs.Entries.{Entry, entry_key, is_under, pair_of}
+use Rattle.starlark_hash.specs.Search.{Asks, CanSearch, Searches, keys_under}
 use Rattle.starlark_small.specs.Hashes.{indices_under, numbered, numbered_from}
 use Rattle.starlark_small.specs.Index.{hashes_of}
 use Rattle.starlark_small.proofs.Numbered.{below-all}

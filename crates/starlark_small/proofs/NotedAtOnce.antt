@@ -11,9 +11,9 @@ use Rattle.std.proofs.lemmas.Option.{get_or_from_slice_get}
 use Rattle.starlark_hash.specs.HashValue.{hash_of, key_of, promoted}
 use Rattle.starlark_hash.specs.declared.hash_value.StarlarkHashValue.{StarlarkHashValue}
 use Rattle.starlark_hash.specs.declared.hashed.Hashed.{Hashed}
-use Rattle.starlark_lists.specs.Entries.{Entry, entry_hash, entry_key, is_under, match_of, position_of, set_value_at, stands_under, value_at}
-use Rattle.starlark_lists.proofs.EntryLemmas.{IsSingle-push}
-use Rattle.starlark_lists.proofs.PositionLemmas.{position-within, position-passes}
+use Rattle.starlark_hash.specs.Entries.{Entry, entry_hash, entry_key, is_under, match_of, position_of, set_value_at, stands_under, value_at}
+use Rattle.starlark_hash.proofs.EntryLemmas.{IsSingle-push}
+use Rattle.starlark_hash.proofs.PositionLemmas.{position-within, position-passes}
 use Rattle.starlark_small.specs.Hashes.{Hashes, hash_under, noted}
 use Rattle.starlark_small.specs.Indexing.{IsNotedIn}
 use Rattle.starlark_small.specs.Index.{IsIndexed, hashes_of, IsSound, index_room, map_of, unindexed}

@@ -7,8 +7,8 @@ use Rattle.std.specs.Fn.{Mut}
 use Rattle.std.proofs.lemmas.List.Elements.{All-cons, All-head, All-tail}
 use Rattle.std.proofs.lemmas.List.Kept.{AllPairs-cons}
 use Rattle.starlark_hash.specs.declared.hashed.Hashed.{Hashed}
-use Rattle.starlark_lists.specs.Entries.{Entry, IsSingle, stands_under}
-use Rattle.starlark_lists.specs.Retain.{Retains, CalledAtEntry}
+use Rattle.starlark_hash.specs.Entries.{Entry, IsSingle, stands_under}
+use Rattle.starlark_hash.specs.Retain.{Retains, CalledAtEntry}
 
 module _ {F K V : Type 0} (g : Mut F (Bor K × (MutBor V × Unit {0})) (Bool × (MutBor V × Unit {0}))) where
   pub length-retained : (f : F) (es kept : List (Entry K V)) → Retains (CalledAtEntry g) f es kept → length kept ≤ length es

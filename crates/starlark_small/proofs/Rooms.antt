@@ -2,8 +2,8 @@
 use Rattle.std.proofs.Common.{◌≡◌, ℕ, Bool, ◌+◌, ◌-◌, ◌<◌, ◌≤◌, ◌∙◌, List, Option, Some, None, option_map, refl, arith, min, length, sym, ap, subst}
 use Rattle.std.specs.Prelude.{is_some, remove}
 use Rattle.std.proofs.lemmas.List.Edits.{length-remove}
-use Rattle.starlark_lists.specs.Entries.{Entry, set_value_at}
-use Rattle.starlark_lists.proofs.EntryLemmas.{length-set_value_at, IsSingle-set_value_at}
+use Rattle.starlark_hash.specs.Entries.{Entry, set_value_at}
+use Rattle.starlark_hash.proofs.EntryLemmas.{length-set_value_at, IsSingle-set_value_at}
 use Rattle.starlark_small.specs.Hashes.{Hashes, forgotten}
 use Rattle.starlark_small.specs.Index.{IsIndexed, IsSound, index_room, map_of}
 use Rattle.starlark_small.specs.Map.{Map, KeepsMemory}

@@ -6,7 +6,7 @@ use Rattle.std.specs.List.{Contains}
 use Rattle.std.proofs.lemmas.List.{map-append}
 use Rattle.std.proofs.lemmas.List.Elements.{Contains-append_left, Contains-append_right}
 use Rattle.std.proofs.lemmas.List.Sorted.{IsPermutation-sym, IsPermutation-trans, IsPermutation-map, Contains-permutation}
-use Rattle.starlark_lists.specs.Search.{Asks, Searches, Refuses, CanSearch}
+use Rattle.starlark_hash.specs.Search.{Asks, Searches, Refuses, CanSearch}
 
 first_of_all : {X : Type 0} (x : X) (xs : List X) → Contains (x ∷ xs) x
 first_of_all x xs = (0, omega arith, refl)

@@ -2,7 +2,7 @@
 use Rattle.std.proofs.Common.{zero, suc, eqb, get_or, ◌≡◌, ℕ, ◌<◌, ◌^◌, Bool, List, [], ◌∷◌, length, Option, Some, None, refl, sym, ap, subst, ◌∙◌, arith}
 use Rattle.std.specs.Prelude.{◌&&◌}
 use Rattle.starlark_hash.specs.declared.hashed.Hashed.{Hashed}
-use Rattle.starlark_lists.specs.Entries.{Entry, IsSingle}
+use Rattle.starlark_hash.specs.Entries.{Entry, IsSingle}
 use Rattle.starlark_hash.specs.HashValue.{promoted}
 use Rattle.starlark_small.specs.Hashes.{Hashes}
 use Rattle.starlark_vecmap.specs.EntryList.{with_values}

@@ -11,8 +11,8 @@ use Rattle.std.specs.String.{string_bytes}
 use Rattle.std.specs.declared.string.String.{String}
 use Rattle.starlark_hash.specs.Hasher.{own_hash}
 use Rattle.starlark_hash.specs.declared.hash_value.StarlarkHashValue.{StarlarkHashValue}
-use Rattle.starlark_lists.specs.Entries.{Entry, entry_hash, entry_key, entry_value, pair_of, value_at, without}
-use Rattle.starlark_lists.specs.Finding.{found, found_key, Writes}
+use Rattle.starlark_hash.specs.Entries.{Entry, entry_hash, entry_key, entry_value, pair_of, value_at, without}
+use Rattle.starlark_hash.specs.Finding.{found, found_key, Writes}
 use Rattle.starlark_small.specs.Map.{Map, KeepsMemory}
 
 -- the keys of a map in order

@@ -2,7 +2,7 @@
 use Rattle.std.specs.Prelude.{◌≡◌, [], reverse, Bool, Result, IsOk, IsSorted, OnErr, OnOk}
 use Rattle.std.specs.Hash.{HashWrites}
 use Rattle.std.specs.declared.cmp.Ordering.{Ordering}
-use Rattle.starlark_lists.specs.Sorting.{Ascends, sorted_by_key}
+use Rattle.starlark_hash.specs.Sorting.{Ascends, sorted_by_key}
 use Rattle.starlark_small.specs.Calling.{keys, AreOwn, IsEmpty, IsSameAt}
 use Rattle.starlark_small.specs.Map.{Map, KeepsMemory}
 

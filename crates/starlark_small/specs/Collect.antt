@@ -5,8 +5,8 @@ use Rattle.std.specs.Iterator.{Count, Drains, Yields}
 use Rattle.std.specs.Iterator.Runs.{AllItems, AnyItem, WholeRun}
 use Rattle.std.specs.Iterator.SizeHint.{IsWithinCount}
 use Rattle.std.specs.Map.{update_all}
-use Rattle.starlark_lists.specs.Entries.{Entry, match_of}
-use Rattle.starlark_lists.specs.Insertion.{insert_entry}
+use Rattle.starlark_hash.specs.Entries.{Entry, match_of}
+use Rattle.starlark_hash.specs.Insertion.{insert_entry}
 use Rattle.starlark_small.specs.Calling.{AreOwn, AreOwnEntries, get}
 use Rattle.starlark_small.specs.Growth.{GrowsInSteps}
 use Rattle.starlark_small.specs.Index.{unindexed}

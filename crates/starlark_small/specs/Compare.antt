@@ -3,7 +3,7 @@ use Rattle.std.specs.Prelude.{Bool, ◌&&◌, ◌==◌, List, length}
 use Rattle.std.specs.List.{list_all}
 use Rattle.std.specs.Option.{option_eq}
 use Rattle.starlark_hash.specs.declared.hashed.Hashed.{Hashed}
-use Rattle.starlark_lists.specs.Entries.{Entry, value_at, match_of}
+use Rattle.starlark_hash.specs.Entries.{Entry, value_at, match_of}
 
 module _ {K V : Type 0} (key_eq : K → K → Bool) (value_eq : V → V → Bool) where
   -- whether both lists have an entry with this hash and an equal key, and equal values there, or neither has one

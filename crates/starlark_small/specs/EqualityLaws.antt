@@ -9,8 +9,8 @@ use Rattle.std_collections.specs.HashMap.{entries_eq, hash_map_eq}
 use Rattle.std_collections.specs.HashMap.Eq.{hash_map_eq_symm, hash_map_eq_trans, hash_map_eq_refl}
 use Rattle.starlark_hash.specs.declared.hashed.Hashed.{Hashed}
 use Rattle.starlark_hash.specs.HashValue.{hash_number, hash_of, key_of}
-use Rattle.starlark_lists.specs.Entries.{Entry, entry_at, value_at, match_of, stands_under}
-use Rattle.starlark_lists.proofs.PositionLemmas.{position-cons}
+use Rattle.starlark_hash.specs.Entries.{Entry, entry_at, value_at, match_of, stands_under}
+use Rattle.starlark_hash.proofs.PositionLemmas.{position-cons}
 use Rattle.starlark_small.specs.Compare.{agree_at, same_entries}
 use Rattle.starlark_small.specs.Map.{Map}
 

@@ -1,7 +1,7 @@
 -- What an index of a list of entries holds, and what list and index make up together.
 use Rattle.std.specs.Prelude.{◌≡◌, ℕ, ◌+◌, ◌-◌, ◌≤◌, ◌<◌, ◌^◌, min, List, map, length, Option, Some, None, Bool, is_some}
 use Rattle.std.specs.List.{All}
-use Rattle.starlark_lists.specs.Entries.{Entry, IsSingle, entry_hash}
+use Rattle.starlark_hash.specs.Entries.{Entry, IsSingle, entry_hash}
 use Rattle.starlark_hash.specs.HashValue.{hash_number}
 use Rattle.starlark_small.specs.Hashes.{Hashes, hash_under, numbered}
 use Rattle.starlark_small.specs.Map.{Map}

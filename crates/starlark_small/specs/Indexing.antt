@@ -5,7 +5,7 @@ use Rattle.std.specs.List.{All}
 use Rattle.std.specs.Option.{option_map}
 use Rattle.starlark_hash.specs.HashValue.{hash_number}
 use Rattle.starlark_hash.specs.declared.hash_value.StarlarkHashValue.{StarlarkHashValue}
-use Rattle.starlark_lists.specs.Entries.{Entry, entry_hash}
+use Rattle.starlark_hash.specs.Entries.{Entry, entry_hash}
 use Rattle.starlark_small.specs.Hashes.{Hashes, hash_under, noted, numbered}
 use Rattle.starlark_small.specs.Index.{IsIndexed, hashes_of, index_room, unindexed}
 use Rattle.starlark_table.specs.Table.{Table, members}

@@ -1,8 +1,8 @@
 -- What a `SmallMap` is after an insertion or a reservation. What any insertion makes of a list is `insert_entry`, in
--- `starlark_lists/specs/Insertion.antt`.
+-- `starlark_hash/specs/Insertion.antt`.
 use Rattle.std.specs.Prelude.{◌≡◌, ℕ, ◌+◌, ◌<◌, ◌≤◌, ◌||◌, Bool, IsSome, [], ◌∷◌, ◌++◌, length, nat_lt}
 use Rattle.starlark_hash.specs.declared.hashed.Hashed.{Hashed}
-use Rattle.starlark_lists.specs.Entries.{match_of}
+use Rattle.starlark_hash.specs.Entries.{match_of}
 use Rattle.starlark_small.specs.Growth.{StaysOrGrows, reserved_capacity}
 use Rattle.starlark_small.specs.Index.{unindexed}
 use Rattle.starlark_small.specs.Map.{Map, KeepsRoom}

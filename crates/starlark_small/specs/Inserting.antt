@@ -6,9 +6,9 @@ use Rattle.starlark_hash.specs.Hasher.{own_hash}
 use Rattle.starlark_hash.specs.HashValue.{hash_of, key_of}
 use Rattle.starlark_hash.specs.declared.hashed.Hashed.{Hashed}
 use Rattle.starlark_hash.specs.declared.no_room.NoRoom.{NoRoom}
-use Rattle.starlark_lists.specs.Entries.{match_of, value_at}
-use Rattle.starlark_lists.specs.Finding.{found, Writes}
-use Rattle.starlark_lists.specs.Insertion.{insert_entry}
+use Rattle.starlark_hash.specs.Entries.{match_of, value_at}
+use Rattle.starlark_hash.specs.Finding.{found, Writes}
+use Rattle.starlark_hash.specs.Insertion.{insert_entry}
 use Rattle.starlark_small.specs.Calling.{AreOwn, keys, total_of, weight_of}
 use Rattle.starlark_small.specs.Inserted.{IsInserted, IsRefused, IsRefusedFor, IsReserved, LeavesMemory}
 use Rattle.starlark_small.specs.Map.{Map}

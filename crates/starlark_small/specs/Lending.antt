@@ -7,8 +7,8 @@ use Rattle.starlark_hash.specs.HashValue.{key_of}
 use Rattle.starlark_hash.specs.declared.hash_value.StarlarkHashValue.{StarlarkHashValue}
 use Rattle.starlark_hash.specs.declared.hashed.Hashed.{Hashed}
 use Rattle.starlark_hash.specs.declared.no_room.NoRoom.{NoRoom}
-use Rattle.starlark_lists.specs.Entries.{Entry, entry_key, set_value_at, with_value}
-use Rattle.starlark_lists.specs.Finding.{found}
+use Rattle.starlark_hash.specs.Entries.{Entry, entry_key, set_value_at, with_value}
+use Rattle.starlark_hash.specs.Finding.{found}
 use Rattle.starlark_vecmap.specs.EntryList.{with_values}
 use Rattle.starlark_small.specs.Calling.{get, keys, AreOwn, AreOwnEntries, UpdatesBy}
 use Rattle.starlark_small.specs.Inserted.{IsInserted, IsRefused}

@@ -5,8 +5,8 @@ use Rattle.std.specs.Hash.{HashWrites}
 use Rattle.std.specs.Iterator.{Count, size}
 use Rattle.std.specs.List.{AllZip}
 use Rattle.starlark_hash.specs.declared.hash_value.StarlarkHashValue.{StarlarkHashValue}
-use Rattle.starlark_lists.specs.Clone.{IsEntryClone}
-use Rattle.starlark_lists.specs.Finding.{found as value_found}
+use Rattle.starlark_hash.specs.Clone.{IsEntryClone}
+use Rattle.starlark_hash.specs.Finding.{found as value_found}
 use Rattle.starlark_small.specs.Calling.{AreOwn, IsEmpty, get}
 use Rattle.starlark_small.specs.Collect.{Collects, Extends, FindsLast, HasItems, IsExtended, own_entry}
 use Rattle.starlark_small.specs.Index.{unindexed}

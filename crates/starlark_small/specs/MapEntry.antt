@@ -11,12 +11,12 @@ use Rattle.std.specs.declared.cmp.PartialEq as eq
 use mir.Syntax.{named}
 use Rattle.starlark_hash.specs.declared.hashed.Hashed.{Hashed}
 use Rattle.starlark_hash.specs.declared.no_room.NoRoom.{NoRoom}
-use Rattle.starlark_lists.specs.Entries.{entry_key, entry_value, match_of, set_value_at}
+use Rattle.starlark_hash.specs.Entries.{entry_key, entry_value, match_of, set_value_at}
 use Rattle.starlark_hash.specs.HashValue.{hash_of, key_of}
 use Rattle.starlark_hash.specs.Hasher.{own_hash}
-use Rattle.starlark_lists.specs.Finding.{found, Writes}
-use Rattle.starlark_lists.specs.Insertion.{insert_entry}
-use Rattle.starlark_lists.proofs.EntryLemmas.{length-set_value_at}
+use Rattle.starlark_hash.specs.Finding.{found, Writes}
+use Rattle.starlark_hash.specs.Insertion.{insert_entry}
+use Rattle.starlark_hash.proofs.EntryLemmas.{length-set_value_at}
 use Rattle.starlark_small.specs.Calling.{keys, AreOwn, total_of, weight_of}
 use Rattle.starlark_small.specs.Inserted.{IsInserted, IsRefused}
 use Rattle.starlark_small.specs.Map.{Map}

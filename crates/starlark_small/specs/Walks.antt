@@ -5,8 +5,8 @@ use Rattle.std.specs.Hash.{HashWrites}
 use Rattle.std.specs.Map.Iter.{deref, ShowsInOrder, ShowsInReverse, GivesInOrder, GivesInReverse}
 use Rattle.starlark_hash.specs.Hasher.{own_hash}
 use Rattle.starlark_hash.specs.declared.hash_value.StarlarkHashValue.{StarlarkHashValue}
-use Rattle.starlark_lists.specs.Entries.{Entry}
-use Rattle.starlark_lists.specs.Finding.{found}
+use Rattle.starlark_hash.specs.Entries.{Entry}
+use Rattle.starlark_hash.specs.Finding.{found}
 use Rattle.starlark_small.specs.Calling.{AreOwnEntries}
 
 -- a walk that lends each thing of the list, as these

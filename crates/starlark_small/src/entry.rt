@@ -2,7 +2,7 @@
 ghost use Rattle.std.specs.Prelude.{◌≡◌, ◌<◌, length, Some, None, IfErr, IfOk, OnErr};
 ghost use Rattle.std.specs.Borrow.{sem};
 ghost use Rattle.std.specs.Option.{option_map};
-ghost use Rattle.starlark_lists.specs.Entries.{entry_key, entry_value, match_of, pair_of};
+ghost use Rattle.starlark_hash.specs.Entries.{entry_key, entry_value, match_of, pair_of};
 
 use crate::small_map::SmallMap;
 use starlark_hash::{Hashed, NoRoom};

@@ -1,7 +1,7 @@
 //! `smallmap!`.
 ghost use Rattle.std.specs.Prelude.{◌≡◌, ◌<◌, IfOk, IsErr, IsOk, IsSome, MatchResult};
-ghost use Rattle.starlark_lists.specs.Entries.{match_of};
-ghost use Rattle.starlark_lists.specs.Insertion.{insert_entry};
+ghost use Rattle.starlark_hash.specs.Entries.{match_of};
+ghost use Rattle.starlark_hash.specs.Insertion.{insert_entry};
 ghost use Rattle.starlark_small.specs.Inserted.{LeavesMemory};
 ghost use Rattle.starlark_small.specs.Map.{own_hashed};
 

@@ -4,7 +4,7 @@ use Rattle.std.specs.Fn.{CalledAt, TakesAt, Mut}
 use Rattle.std.specs.Borrow.{Bor}
 use Rattle.std.proofs.lemmas.Fn.{FoldsTo-push}
 use Rattle.std.proofs.lemmas.List.Sorted.{IsPermutation-refl}
-use Rattle.starlark_lists.specs.Search.{Asks, Refuses, Searches, CanSearch}
+use Rattle.starlark_hash.specs.Search.{Asks, Refuses, Searches, CanSearch}
 use Rattle.starlark_table.specs.Table.{holders, holders_in}
 use Rattle.starlark_table.specs.Layout.{distance, at}
 use Rattle.starlark_table.proofs.Path.{path_from, path-taken, path-skipped}

@@ -1,7 +1,7 @@
 //! Reads and writes of the slots along the way of a hash: from its home on, up to the first empty place.
 ghost use Rattle.std.specs.Prelude.{◌≡◌, ℕ, ◌+◌, ◌%◌, ◌<◌, ◌≤◌, [], ◌∷◌, Some, None, drop, length, IfSome, IsSome, is_some, slice_set};
 ghost use Rattle.std.specs.Option.{option_copied, option_map};
-ghost use Rattle.starlark_lists.specs.Search.{Searches, CanSearch};
+ghost use Rattle.starlark_hash.specs.Search.{Searches, CanSearch};
 ghost use Rattle.starlark_table.specs.Table.{filled, holders_in};
 ghost use Rattle.starlark_table.specs.Layout.{distance, at, members_in, InPlace, IsFar, IsMask, IsNear, IsTagged, TellsFar};
 ghost use Rattle.starlark_table.specs.Vacancy.{IsVacancy};

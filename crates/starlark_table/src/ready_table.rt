@@ -3,7 +3,7 @@ ghost use Rattle.std.specs.Prelude.{◌≡◌, ℕ, ◌+◌, ◌*◌, ◌<◌, �
 ghost use Rattle.std.specs.Option.{option_and_then, option_copied, option_copied_mut, option_map};
 ghost use Rattle.std.specs.Borrow.{sem};
 ghost use Rattle.std.specs.List.Retain.{RetainsInTurn};
-ghost use Rattle.starlark_lists.specs.Search.{Searches, CanSearch};
+ghost use Rattle.starlark_hash.specs.Search.{Searches, CanSearch};
 ghost use Rattle.starlark_table.specs.Table.{members, table_capacity, table_len, member_at, item_in, items_of, items_under, GrowsAsNeeded, IsTableClone, NeedsNoMemory};
 ghost use Rattle.starlark_table.specs.Growth.{most_for};
 ghost use Rattle.starlark_table.specs.Vacancy.{IsVacancy};

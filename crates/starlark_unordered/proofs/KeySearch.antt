@@ -14,7 +14,7 @@ use Rattle.starlark_unordered.specs.Pairs.{has_own_hash, keys_from, keys_under}
 use Rattle.starlark_unordered.specs.Sound.{IsKeyed, keyed, home_of}
 use Rattle.std.proofs.lemmas.List.Sorted.{IsPermutation-map, IsPermutation-sym, Contains-permutation}
 use Rattle.std.proofs.lemmas.Option.{none-some, same_Some}
-use Rattle.starlark_lists.specs.Search.{Asks, Searches, Refuses, CanSearch}
+use Rattle.starlark_hash.specs.Search.{Asks, Searches, Refuses, CanSearch}
 use Rattle.std.specs.Prelude.{IfSome}
 use Rattle.std.specs.Option.{is_some, option_map}
 use Rattle.starlark_table.specs.Table.{Table, members, filled, holders, items_under, item_in}

@@ -9,8 +9,8 @@ use Rattle.std.specs.Map.{lookup, IsKeyTest}
 use Rattle.std.specs.Option.{option_and_then, option_map}
 use Rattle.starlark_hash.specs.HashValue.{hash_number, promoted}
 use Rattle.starlark_hash.specs.declared.hash_value.StarlarkHashValue.{StarlarkHashValue}
-use Rattle.starlark_lists.specs.Search.{Searches}
-use Rattle.starlark_lists.proofs.SearchLemmas.{IsTest, test-refused, test-accepted}
+use Rattle.starlark_hash.specs.Search.{Searches}
+use Rattle.starlark_hash.proofs.SearchLemmas.{IsTest, test-refused, test-accepted}
 use Rattle.starlark_table.specs.Table.{Table, members, items_under, item_in}
 use Rattle.starlark_unordered.specs.Pairs.{pairs_of, has_own_hash, under_own, IsSlotOf}
 use Rattle.starlark_unordered.specs.Sound.{IsKeyed, keyed, home_of}

@@ -10,7 +10,7 @@ use Rattle.std.specs.declared.cmp.PartialEq as eq
 use Rattle.std.specs.declared.hash.Hash as hash
 use mir.Syntax.{named}
 use Rattle.starlark_hash.specs.declared.hash_value.StarlarkHashValue.{StarlarkHashValue}
-use Rattle.starlark_lists.specs.Search.{Searches}
+use Rattle.starlark_hash.specs.Search.{Searches}
 use Rattle.starlark_table.specs.Table.{Table, item_in, member_at}
 use Rattle.starlark_unordered.specs.Calling.{found, Writes}
 use Rattle.starlark_unordered.specs.Pairs.{pairs_of, keys_under, with_value, IsSlotOf}

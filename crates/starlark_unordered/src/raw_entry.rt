@@ -5,7 +5,7 @@ ghost use Rattle.std.specs.Map.{lookup};
 ghost use Rattle.std.specs.Option.{is_some, option_map};
 ghost use Rattle.starlark_hash.specs.HashValue.{hash_of, key_of};
 ghost use Rattle.starlark_hash.specs.Hasher.{own_hash};
-ghost use Rattle.starlark_lists.specs.Search.{CanSearch};
+ghost use Rattle.starlark_hash.specs.Search.{CanSearch};
 ghost use Rattle.starlark_table.specs.Table.{item_in};
 ghost use Rattle.starlark_unordered.specs.Changing.{TakesOut};
 ghost use Rattle.starlark_unordered.specs.Pairs.{pairs_of, keys_under, under_own};

@@ -4,8 +4,8 @@ use Rattle.std.specs.Prelude.{position, remove}
 use Rattle.std.specs.Option.{option_map, option_map_or}
 use Rattle.std.proofs.lemmas.Bool.{true≢false}
 use Rattle.starlark_hash.specs.declared.hashed.Hashed.{Hashed}
-use Rattle.starlark_lists.specs.Entries.{Entry, value_at, set_value_at}
-use Rattle.starlark_lists.proofs.PositionLemmas.{position-cons}
+use Rattle.starlark_hash.specs.Entries.{Entry, value_at, set_value_at}
+use Rattle.starlark_hash.proofs.PositionLemmas.{position-cons}
 
 module _ {K V : Type 0} where
   abbrev pub first_value : (Hashed K → Bool) → List (Entry K V) → Option V

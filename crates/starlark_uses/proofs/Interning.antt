@@ -15,10 +15,10 @@ use Rattle.std.proofs.lemmas.List.Quantifiers.{position-Some}
 use Rattle.std.proofs.lemmas.Option.{MatchOption-at_none, get_or_from_slice_get, slice_get-get_or, slice_get-map, slice_get_within}
 use Rattle.std.proofs.lemmas.Result.{MatchResult-at_ok}
 use Rattle.std.proofs.lemmas.Slice.Eq.{bytes_eq-Decides}
-use Rattle.starlark_lists.specs.Entries.{Entry, entry_hash, entry_key, position_of}
+use Rattle.starlark_hash.specs.Entries.{Entry, entry_hash, entry_key, position_of}
 use Rattle.starlark_hash.specs.Hasher.{own_hash}
 use Rattle.starlark_hash.specs.HashValue.{hash_number, hashed}
-use Rattle.starlark_lists.proofs.PositionLemmas.{position-cons}
+use Rattle.starlark_hash.proofs.PositionLemmas.{position-cons}
 use Rattle.starlark_sets.specs.Set.{AddsFor, Elements, Set}
 use Rattle.starlark_small.proofs.CallerPositions.{found_before, pushed_first, pushed_other}
 use Rattle.starlark_small.proofs.CallerKeys.{and_false}

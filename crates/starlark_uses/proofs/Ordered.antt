@@ -5,7 +5,7 @@ use Rattle.std.specs.Global.{Vec}
 use Rattle.std.specs.List.{enumerate_from, list_all}
 use Rattle.std.proofs.lemmas.Bool.{and_from, and_parts}
 use Rattle.std.proofs.lemmas.List.Sums.{AllPass-from_list_all, list_all-from_AllPass}
-use Rattle.starlark_lists.specs.Entries.{entry_value}
+use Rattle.starlark_hash.specs.Entries.{entry_value}
 use Rattle.starlark_uses.specs.Graph.{Graph, IsOrdered, is_before}
 
 abbrev lists : List (Vec ℕ) → List (List ℕ)

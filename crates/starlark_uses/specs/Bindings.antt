@@ -6,7 +6,7 @@ use Rattle.std.specs.Str.{bytes_eq}
 use Rattle.std.specs.String.{string_bytes}
 use Rattle.std.specs.declared.alloc.Global.{Global}
 use Rattle.std.specs.declared.string.String.{String}
-use Rattle.starlark_lists.specs.Entries.{position_of, value_at}
+use Rattle.starlark_hash.specs.Entries.{position_of, value_at}
 use Rattle.starlark_hash.specs.Hasher.{own_hash}
 use Rattle.starlark_small.specs.Map.{Map}
 

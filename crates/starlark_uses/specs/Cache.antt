@@ -6,7 +6,7 @@ use Rattle.starlark_sets.specs.Set.{Set}
 use Rattle.starlark_sets.specs.Unit.{same_unit}
 use Rattle.starlark_table.specs.Table.{Table}
 use Rattle.starlark_unordered.specs.Pairs.{pairs_of}
-use Rattle.starlark_lists.specs.Ordered.{same_ordered}
+use Rattle.starlark_hash.specs.Ordered.{same_ordered}
 
 -- the table of a cache: sets, each with its answer
 abbrev pub Answers : Type 0 → Type 0

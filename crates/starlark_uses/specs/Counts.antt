@@ -1,6 +1,6 @@
 -- How many values a value is made of.
 use Rattle.std.specs.Prelude.{ℕ, ◌+◌, List, [], ◌∷◌, map}
-use Rattle.starlark_lists.specs.Entries.{entry_value}
+use Rattle.starlark_hash.specs.Entries.{entry_value}
 use Rattle.starlark_uses.specs.declared.value.Value.{Value}
 use Rattle.starlark_uses.specs.declared.value.Value.TheOpen.{Value-F}
 use Rattle.starlark_uses.specs.declared.value.Value.TheFolds.{fold-Value}

@@ -3,7 +3,7 @@ use Rattle.std.specs.Prelude.{ℕ, ◌<◌, Bool, false, List, [], Option, All, 
 use Rattle.std.specs.Global.{Vec}
 use Rattle.std.specs.Hash as fed
 use Rattle.std.specs.Option.{option_map, option_map_or}
-use Rattle.starlark_lists.specs.Entries.{entry_value}
+use Rattle.starlark_hash.specs.Entries.{entry_value}
 use Rattle.starlark_small.specs.Calling.{get}
 use Rattle.starlark_small.specs.Map.{Map, own_match}
 

@@ -5,7 +5,7 @@ use Rattle.std.specs.Str.{bytes_eq}
 use Rattle.std.specs.String.{string_bytes}
 use Rattle.std.specs.declared.alloc.Global.{Global}
 use Rattle.std.specs.declared.string.String.{String}
-use Rattle.starlark_lists.specs.Entries.{entry_hash, entry_key}
+use Rattle.starlark_hash.specs.Entries.{entry_hash, entry_key}
 use Rattle.starlark_hash.specs.Hasher.{own_hash}
 use Rattle.starlark_hash.specs.HashValue.{hash_number}
 use Rattle.starlark_sets.specs.Set.{Elements}

@@ -2,7 +2,7 @@
 ghost use Rattle.std.specs.Prelude.{◌≡◌, ℕ, List, [], ◌∷◌, ◌++◌, length, false, None, Some, IfErr, IfOk, IsTrue, OnErr, OnOk};
 ghost use Rattle.std.specs.Option.{option_copied};
 ghost use Rattle.std.specs.String.{string_bytes, string_eq};
-ghost use Rattle.starlark_lists.specs.Entries.{IsSingle};
+ghost use Rattle.starlark_hash.specs.Entries.{IsSingle};
 ghost use Rattle.starlark_uses.specs.Bindings.{IsInnermost, bound, found, lookup, scopes_of};
 
 use starlark_hash::{NoRoom, TextKey};

@@ -2,7 +2,7 @@
 use Rattle.std.proofs.Common.{◌≡◌, ℕ, zero, suc, ◌+◌, ◌<◌, ◌≤◌, Bool, true, false, List, [], ◌∷◌, ◌++◌, length, take, drop, zip, set, get_or, refl, sym, ap, subst, ◌∙◌, arith, append_assoc, append-nil, add-one, length-take, length-drop}
 use Rattle.std.proofs.Math.Seq.{drop-cons, drop-set-lt, get_or-set_same, take-set-le}
 use Rattle.std.specs.List.{swap}
-use Rattle.starlark_lists.specs.Retain.{Retains, TakesInTurn}
+use Rattle.starlark_hash.specs.Retain.{Retains, TakesInTurn}
 use Rattle.starlark_vec2.proofs.Pairs.{zip_push}
 
 module _ {F X : Type 0} (calls : F → X → Bool → X → F → Type 0) (takes : F → X → Type 0) where

@@ -7,7 +7,7 @@ use Rattle.std.specs.Cmp.{IsStrictWeakOrder}
 use Rattle.std.specs.Ordering.{is_lt}
 use Rattle.std.specs.Map.Iter.{deref_pair}
 use Rattle.std.specs.declared.cmp.Ordering.{Ordering}
-use Rattle.starlark_lists.specs.Sorting.{sorted_by}
+use Rattle.starlark_hash.specs.Sorting.{sorted_by}
 
 -- references to both parts of a pair
 abbrev pub PairRef : Type 0 → Type 0 → Type 0

@@ -6,10 +6,10 @@ use Rattle.std.specs.Option.{option_map}
 use Rattle.std.specs.Borrow.{Bor}
 use Rattle.std.specs.Fn.{Mut}
 use Rattle.starlark_hash.specs.declared.hash_value.StarlarkHashValue.{StarlarkHashValue}
-use Rattle.starlark_lists.specs.Entries.{Entry, entry_key, is_under, stands_under, position_of}
-use Rattle.starlark_lists.specs.Search.{Asks, keys_under}
-use Rattle.starlark_lists.proofs.PositionLemmas.{position-cons, position-within}
-use Rattle.starlark_lists.proofs.SearchLemmas.{IsTest}
+use Rattle.starlark_hash.specs.Entries.{Entry, entry_key, is_under, stands_under, position_of}
+use Rattle.starlark_hash.specs.Search.{Asks, keys_under}
+use Rattle.starlark_hash.proofs.PositionLemmas.{position-cons, position-within}
+use Rattle.starlark_hash.proofs.SearchLemmas.{IsTest}
 
 -- a place counted from n + 1, and the one behind it counted from n
 counted : (n : ℕ) (o : Option ℕ) → option_map (λ i. n + 1 + i) o ≡ option_map (λ i. n + i) (option_map suc o)

@@ -1,6 +1,6 @@
 -- A write of the value at a place, in the words of the columns.
 use Rattle.std.proofs.Common.{◌≡◌, ℕ, zero, suc, List, [], ◌∷◌, map, slice_get, Some, refl, ap}
-use Rattle.starlark_lists.specs.Entries.{set_value_at}
+use Rattle.starlark_hash.specs.Entries.{set_value_at}
 use Rattle.starlark_vec2.specs.PairList.{firsts_of, seconds_of}
 use Rattle.starlark_vec2.specs.Lending.{set_first_at}
 use Rattle.starlark_vecmap.specs.EntryList.{entry_of}

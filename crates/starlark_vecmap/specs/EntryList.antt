@@ -2,7 +2,7 @@
 use Rattle.std.specs.Prelude.{ℕ, List, [], ◌∷◌, ◌++◌, map, zip}
 use Rattle.std.specs.Borrow.{Bor, MutBor}
 use Rattle.starlark_hash.specs.declared.hashed.Hashed.{Hashed}
-use Rattle.starlark_lists.specs.Entries.{Entry}
+use Rattle.starlark_hash.specs.Entries.{Entry}
 use Rattle.starlark_hash.specs.HashValue.{hash_value, hashed, hash_of, key_of}
 use Rattle.starlark_vec2.specs.PairList.{PairList, pair_list}
 use Rattle.starlark_vec2.specs.Growth.{reserved_capacity}

@@ -1,7 +1,7 @@
 -- What a `VecMap` ends as, once a reference into it has ended.
 use Rattle.std.specs.Prelude.{ℕ}
 use Rattle.std.specs.Borrow.{Fml, RattleType, MutBor, GName, Lends, follows}
-use Rattle.starlark_lists.specs.Entries.{set_value_at}
+use Rattle.starlark_hash.specs.Entries.{set_value_at}
 use Rattle.starlark_vecmap.specs.EntryList.{EntryList, with_entries, with_values}
 use Rattle.starlark_vecmap.specs.contracts.vec_map.VecMap.{the_row}
 

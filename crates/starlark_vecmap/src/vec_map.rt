@@ -2,9 +2,9 @@
 ghost use Rattle.std.specs.Prelude.{◌≡◌, ◌-◌, ◌^◌, ◌<◌, ◌≤◌, ◌==◌, [], ◌∷◌, ◌++◌, length, map, remove, reverse, slice_get, is_ok, None, if◌then◌else◌, IfOk, IfErr, IfSome, IsOk};
 ghost use Rattle.std.specs.Option.{option_map};
 ghost use Rattle.std.specs.Map.Iter.{TakesLast, ShowsInOrder, ShowsInReverse, GivesInOrder, GivesInReverse, deref, deref_pair};
-ghost use Rattle.starlark_lists.specs.Entries.{Entry, entry_key, entry_value, pair_of, position_of, entry_at, without};
+ghost use Rattle.starlark_hash.specs.Entries.{Entry, entry_key, entry_value, pair_of, position_of, entry_at, without};
 ghost use Rattle.starlark_hash.specs.HashValue.{hash_of, key_of};
-ghost use Rattle.starlark_lists.specs.Search.{Asks, CanSearch, keys_under};
+ghost use Rattle.starlark_hash.specs.Search.{Asks, CanSearch, keys_under};
 ghost use Rattle.starlark_vecmap.specs.EntryList as list;
 ghost use Rattle.starlark_vecmap.specs.EntryList.{entry_list, with_entries, deref_entry};
 

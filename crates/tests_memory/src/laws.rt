@@ -2,7 +2,7 @@
 
 use crate::given::{Numbers, handed_back, holds, is_tens, shows, shows_numbers, tens};
 use starlark_hash::Hashed;
-use starlark_laws::{collection, insertion, order};
+use starlark_runs::{collection, insertion, order};
 use starlark_small::SmallMap;
 use std::alloc::{AllocError, Global};
 use std::test::Fail;

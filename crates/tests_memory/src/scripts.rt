@@ -1,8 +1,8 @@
 //! Scripts: what was replied where memory is refused.
 
 use crate::given::holds;
-use script_lines::PlayFault;
-use script_play::play::play;
+use starlark_script::PlayFault;
+use starlark_script::play::play;
 use std::process::Abort;
 use std::test::Fail;
 

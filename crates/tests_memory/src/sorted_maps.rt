@@ -1,9 +1,9 @@
 //! Maps that ascend: made of other maps, of an iterator's items and of clones, and what comes back where memory is refused.
 
 use crate::given::{Numbers, holds, is_tens, tens};
+use starlark_map::sorted_map::SortedMap;
 use starlark_sets::OrderedMap;
 use starlark_small::Iter;
-use starlark_sorted::SortedMap;
 use std::alloc::{AllocError, Global};
 use std::test::Fail;
 

@@ -2,8 +2,9 @@
 //! is refused; their unions.
 
 use crate::given::{holds, shows_elements, under};
+use starlark_map::sorted_set::SortedSet;
+use starlark_map::sorted_vec::SortedVec;
 use starlark_sets::{OrderedSet, SmallSet};
-use starlark_sorted::{SortedSet, SortedVec};
 use std::alloc::{AllocError, Global};
 use std::test::Fail;
 

@@ -1,7 +1,7 @@
 //! Vectors that ascend: made of a vector, of an iterator's items or of clones, and what comes back where memory is refused.
 
 use crate::given::holds;
-use starlark_sorted::SortedVec;
+use starlark_map::sorted_vec::SortedVec;
 use std::alloc::{AllocError, Global};
 use std::test::Fail;
 

@@ -2,8 +2,8 @@
 
 use crate::fakes::{NEVER, bytes_in_pieces};
 use crate::given::holds_of;
-use script_lines::PlayFault;
-use script_play::play::play;
+use starlark_script::PlayFault;
+use starlark_script::play::play;
 use starlark_small::UNINDEXED;
 use std::alloc::Global;
 use std::io::ErrorKind;

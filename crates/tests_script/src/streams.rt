@@ -2,8 +2,8 @@
 
 use crate::fakes::{Full, NEVER, asked_reader, bytes_in_pieces, held_writer, narrow_writer};
 use crate::given::{holds, holds_of};
-use script_lines::{PlayFault, PromptReader, SharedWriter, texts_are_of_one};
-use script_play::play::play;
+use starlark_script::play::play;
+use starlark_script::{PlayFault, PromptReader, SharedWriter, texts_are_of_one};
 use std::cell::RefCell;
 use std::io::ErrorKind;
 use std::test::Fail;

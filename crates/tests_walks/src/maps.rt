@@ -5,9 +5,9 @@ use crate::adaptors::{
     first_given, given, hold, lent, made, second_written, sum, written,
 };
 use starlark_hash::Hashed;
+use starlark_map::sorted_map::SortedMap;
 use starlark_sets::OrderedMap;
 use starlark_small::SmallMap;
-use starlark_sorted::SortedMap;
 use std::alloc::{AllocError, Global};
 use std::test::Fail;
 

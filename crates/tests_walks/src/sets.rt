@@ -4,8 +4,9 @@ use crate::adaptors::{
     Answers, KEYS, LOW_KEYS, above, answers, are_of, count, given, hold, lent, made, sum,
 };
 use starlark_hash::Hashed;
+use starlark_map::sorted_set::SortedSet;
+use starlark_map::sorted_vec::SortedVec;
 use starlark_sets::{OrderedSet, SmallSet};
-use starlark_sorted::{SortedSet, SortedVec};
 use std::alloc::{AllocError, Global};
 use std::test::Fail;
 

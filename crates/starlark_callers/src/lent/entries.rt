@@ -1,7 +1,7 @@
 //! Callers of the entries that a `VecMap` lends.
 ghost use Rattle.std.specs.Prelude.{◌≡◌, ◌<◌, length, slice_get, Some};
 ghost use Rattle.std.specs.Option.{option_map};
-ghost use Rattle.starlark_lists.specs.Entries.{entry_value, set_value_at};
+ghost use Rattle.starlark_hash.specs.Entries.{entry_value, set_value_at};
 
 use crate::lent::put::put;
 use starlark_vecmap::VecMap;

@@ -1,7 +1,7 @@
 //! Callers of the entries of a `SmallMap`.
 ghost use Rattle.std.specs.Prelude.{◌≡◌, Some, None, IfErr, IfOk, OnErr};
 ghost use Rattle.std.specs.Option.{option_map};
-ghost use Rattle.starlark_lists.specs.Entries.{entry_value, match_of, value_at};
+ghost use Rattle.starlark_hash.specs.Entries.{entry_value, match_of, value_at};
 ghost use Rattle.starlark_small.specs.MapEntry.{stored, with_entry_value};
 ghost use Rattle.starlark_callers.specs.Lending.{with_value_under};
 

@@ -1,7 +1,7 @@
 //! What puts entries into an `OrderedMap`, and what may ask for memory.
 ghost use Rattle.std.specs.Prelude.{◌≡◌, None, IsOk, IfOk};
 ghost use Rattle.std.specs.Iterator.{IsFiniteIterable, size};
-ghost use Rattle.starlark_lists.specs.Finding.{found};
+ghost use Rattle.starlark_hash.specs.Finding.{found};
 ghost use Rattle.starlark_small.specs.Clone.{IsEqualClone};
 ghost use Rattle.starlark_small.specs.Collect.{FindsLast};
 ghost use Rattle.starlark_small.specs.Making.{Clones, IsMadeOf, TakesIn};

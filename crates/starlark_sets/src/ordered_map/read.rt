@@ -2,7 +2,7 @@
 ghost use Rattle.std.specs.Prelude.{◌≡◌, ◌==◌, slice_get, length};
 ghost use Rattle.std.specs.Map.Iter.{deref_pair};
 ghost use Rattle.std.specs.Option.{option_copied, option_map};
-ghost use Rattle.starlark_lists.specs.Entries.{pair_of};
+ghost use Rattle.starlark_hash.specs.Entries.{pair_of};
 ghost use Rattle.starlark_small.specs.Map.{own_match};
 ghost use Rattle.starlark_hash.specs.Hasher.{own_hash};
 ghost use Rattle.starlark_small.specs.Calling.{FindsValue, NamesPlace, TellsPresence};

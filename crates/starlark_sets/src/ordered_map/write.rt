@@ -3,7 +3,7 @@ ghost use Rattle.std.specs.Prelude.{◌≡◌, ◌^◌, ◌<◌, length, map};
 ghost use Rattle.std.specs.Borrow.{sem};
 ghost use Rattle.std.specs.Map.{values_of};
 ghost use Rattle.std.specs.Option.{option_copied_mut};
-ghost use Rattle.starlark_lists.specs.Entries.{entry_value, pair_of};
+ghost use Rattle.starlark_hash.specs.Entries.{entry_value, pair_of};
 ghost use Rattle.starlark_small.specs.Map.{own_hashed, own_match};
 ghost use Rattle.starlark_small.specs.MapEntry.{Enters};
 ghost use Rattle.starlark_hash.specs.Hasher.{own_hash};

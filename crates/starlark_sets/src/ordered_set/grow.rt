@@ -2,7 +2,7 @@
 ghost use Rattle.std.specs.Prelude.{◌≡◌, None, IsOk, IfOk, OnOk, Some};
 ghost use Rattle.std.specs.Iterator.{IsFiniteIterable, size};
 ghost use Rattle.starlark_small.specs.Calling.{Updates};
-ghost use Rattle.starlark_lists.specs.Entries.{match_of};
+ghost use Rattle.starlark_hash.specs.Entries.{match_of};
 ghost use Rattle.starlark_small.specs.Clone.{IsEqualClone};
 ghost use Rattle.starlark_small.specs.Making.{Clones};
 ghost use Rattle.starlark_small.specs.Map.{own_hashed};

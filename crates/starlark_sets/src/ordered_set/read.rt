@@ -2,10 +2,10 @@
 ghost use Rattle.std.specs.Prelude.{◌≡◌, ◌-◌, ◌==◌, is_some, slice_get, length};
 ghost use Rattle.std.specs.Option.{option_copied, option_map};
 ghost use Rattle.starlark_hash.specs.HashValue.{hash_of, key_of};
-ghost use Rattle.starlark_lists.specs.Entries.{entry_key};
+ghost use Rattle.starlark_hash.specs.Entries.{entry_key};
 ghost use Rattle.starlark_small.specs.Map.{own_match, query_match};
 ghost use Rattle.starlark_hash.specs.Hasher.{own_hash};
-ghost use Rattle.starlark_lists.specs.Finding.{found};
+ghost use Rattle.starlark_hash.specs.Finding.{found};
 ghost use Rattle.starlark_small.specs.Calling.{NamesPlace, TellsPresence};
 ghost use Rattle.starlark_sets.specs.Taking.{ShowsElement};
 

@@ -1,7 +1,7 @@
 //! `OrderedSet::try_insert`, and why it refuses.
 ghost use Rattle.std.specs.Prelude.{◌≡◌, IfErr};
 ghost use Rattle.std.specs.Borrow.{sem};
-ghost use Rattle.starlark_lists.specs.Entries.{match_of};
+ghost use Rattle.starlark_hash.specs.Entries.{match_of};
 ghost use Rattle.starlark_small.specs.Map.{own_hashed};
 ghost use Rattle.starlark_sets.specs.OrderedEnd.{ends_so};
 ghost use Rattle.starlark_sets.specs.OrderedTries.{AnswersTry, IsPlaced, IsTold, IsWithin, Tries};

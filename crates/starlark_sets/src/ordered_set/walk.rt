@@ -2,7 +2,7 @@
 ghost use Rattle.std.specs.Prelude.{◌≡◌, ◌^◌, ◌<◌, length, map};
 ghost use Rattle.std.specs.Map.{keys_of};
 ghost use Rattle.std.specs.Map.Iter.{deref};
-ghost use Rattle.starlark_lists.specs.Entries.{IsSingle, entry_key};
+ghost use Rattle.starlark_hash.specs.Entries.{IsSingle, entry_key};
 ghost use Rattle.starlark_sets.specs.Union.{CountsEither, ShowsUnion, union, union_rest};
 ghost use Rattle.starlark_sets.specs.Unit.{deref_hashed};
 ghost use Rattle.starlark_small.specs.Walks.{GivesEach, ShowsEach};

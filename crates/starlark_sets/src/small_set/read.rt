@@ -2,10 +2,10 @@
 ghost use Rattle.std.specs.Prelude.{◌≡◌, ◌-◌, ◌<◌, ◌≤◌, ◌==◌, length, slice_get, is_some, IfSome, Some};
 ghost use Rattle.std.specs.Option.{option_copied, option_map};
 ghost use Rattle.starlark_hash.specs.HashValue.{hash_of, key_of};
-ghost use Rattle.starlark_lists.specs.Entries.{entry_key};
+ghost use Rattle.starlark_hash.specs.Entries.{entry_key};
 ghost use Rattle.starlark_small.specs.Map.{own_match, query_match, query_match_by_value};
 ghost use Rattle.starlark_hash.specs.Hasher.{own_hash};
-ghost use Rattle.starlark_lists.specs.Finding.{found};
+ghost use Rattle.starlark_hash.specs.Finding.{found};
 ghost use Rattle.starlark_small.specs.Calling.{NamesPlace, TellsPresence};
 ghost use Rattle.starlark_sets.specs.Taking.{ShowsElement};
 

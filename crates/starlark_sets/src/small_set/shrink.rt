@@ -4,7 +4,7 @@ ghost use Rattle.std.specs.Option.{IfNone, option_map};
 ghost use Rattle.starlark_hash.specs.HashValue.{hash_of, key_of};
 ghost use Rattle.starlark_hash.specs.Hasher.{own_hash};
 ghost use Rattle.starlark_small.specs.Map.{own_match, query_match};
-ghost use Rattle.starlark_lists.specs.Finding.{Writes, found};
+ghost use Rattle.starlark_hash.specs.Finding.{Writes, found};
 ghost use Rattle.starlark_small.specs.Calling.{Removes, contains};
 ghost use Rattle.starlark_small.specs.Changing.{Clears, Turns};
 ghost use Rattle.starlark_sets.specs.Taking.{TakesElement, TakesElementAt};

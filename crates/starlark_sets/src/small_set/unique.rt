@@ -1,6 +1,6 @@
 //! New elements of a `SmallSet` that no look-up precedes.
 ghost use Rattle.std.specs.Prelude.{◌≡◌, None};
-ghost use Rattle.starlark_lists.specs.Entries.{match_of};
+ghost use Rattle.starlark_hash.specs.Entries.{match_of};
 ghost use Rattle.starlark_small.specs.Inserting.{PutsLast};
 ghost use Rattle.starlark_small.specs.Map.{own_hashed};
 ghost use Rattle.starlark_sets.specs.Adding.{AddsNew};

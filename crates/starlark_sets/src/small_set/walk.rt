@@ -3,7 +3,7 @@ ghost use Rattle.std.specs.Prelude.{◌≡◌, ◌^◌, ◌<◌, length, map};
 ghost use Rattle.std.specs.Map.{keys_of};
 ghost use Rattle.std.specs.Map.Iter.{deref};
 ghost use Rattle.starlark_hash.specs.declared.hashed.Hashed.{Hashed as Under};
-ghost use Rattle.starlark_lists.specs.Entries.{IsSingle, entry_key};
+ghost use Rattle.starlark_hash.specs.Entries.{IsSingle, entry_key};
 ghost use Rattle.starlark_sets.specs.Unit.{deref_hashed};
 ghost use Rattle.starlark_small.specs.Walks.{GivesEach, ShowsEach};
 

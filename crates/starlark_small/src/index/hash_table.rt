@@ -2,7 +2,7 @@
 //! nowhere. It sees no key.
 ghost use Rattle.std.specs.Prelude.{◌≡◌, ℕ, ◌+◌, ◌-◌, ◌^◌, ◌<◌, ◌≤◌, [], List, length, vec_capacity, IfOk, IsPermutation};
 ghost use Rattle.starlark_hash.specs.HashValue.{hash_number};
-ghost use Rattle.starlark_lists.specs.Search.{CanSearch, Searches};
+ghost use Rattle.starlark_hash.specs.Search.{CanSearch, Searches};
 ghost use Rattle.starlark_small.specs.Hashes.{NotesNew, cleared, forgotten, hash_under, indices_under, noted, numbered, reversed};
 ghost use Rattle.starlark_small.specs.Indexing.{GrowsHashes, ReservesHashes};
 ghost use Rattle.starlark_small.specs.Slots.{IsSited};

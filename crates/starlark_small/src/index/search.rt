@@ -1,7 +1,7 @@
 //! Searches of a list through its index.
 ghost use Rattle.std.specs.Prelude.{◌≡◌, ◌<◌, Some, length, slice_get};
 ghost use Rattle.std.specs.Fn.{CalledAt, TakesAt};
-ghost use Rattle.starlark_lists.specs.Search.{CanSearch, Searches, keys_under};
+ghost use Rattle.starlark_hash.specs.Search.{CanSearch, Searches, keys_under};
 ghost use Rattle.starlark_small.specs.Index.{IsIndexOf, IsIndexed, IsSound};
 ghost use Rattle.starlark_small.specs.Map.{query_match};
 

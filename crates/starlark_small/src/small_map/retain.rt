@@ -3,11 +3,11 @@ ghost use Rattle.std.specs.Hash.{HashWrites};
 ghost use Rattle.std.specs.Option.{is_some};
 ghost use Rattle.std.specs.Prelude.{◌≡◌, ◌≤◌, Bool, true, filter, length};
 ghost use Rattle.starlark_hash.specs.declared.hash_value.StarlarkHashValue.{StarlarkHashValue};
-ghost use Rattle.starlark_lists.specs.Entries.{Entry};
-ghost use Rattle.starlark_lists.specs.Finding.{found};
+ghost use Rattle.starlark_hash.specs.Entries.{Entry};
+ghost use Rattle.starlark_hash.specs.Finding.{found};
 ghost use Rattle.starlark_small.specs.Calling.{AreOwn};
 ghost use Rattle.starlark_small.specs.Map.{KeepsMemory};
-ghost use Rattle.starlark_lists.specs.Retain.{Retains, TakesInTurn, TakesEntry, CalledAtEntry};
+ghost use Rattle.starlark_hash.specs.Retain.{Retains, TakesInTurn, TakesEntry, CalledAtEntry};
 
 use super::SmallMap;
 

@@ -1,9 +1,9 @@
 //! What takes entries out of a `SmallMap`. None of it asks for memory.
 ghost use Rattle.std.specs.Prelude.{◌≡◌, ◌+◌, ◌-◌, ◌<◌, ◌≤◌, false, min, nat_le, slice_get, length, if◌then◌else◌, Some};
 ghost use Rattle.std.specs.Option.{option_map};
-ghost use Rattle.starlark_lists.specs.Entries.{entry_at, pair_of};
+ghost use Rattle.starlark_hash.specs.Entries.{entry_at, pair_of};
 ghost use Rattle.starlark_hash.specs.Hasher.{own_hash};
-ghost use Rattle.starlark_lists.specs.Finding.{found};
+ghost use Rattle.starlark_hash.specs.Finding.{found};
 ghost use Rattle.starlark_hash.specs.HashValue.{hash_of, key_of};
 ghost use Rattle.starlark_small.specs.Calling.{get, FindsValue, Removes, TakesAt};
 ghost use Rattle.starlark_small.specs.Changing.{Clears};

@@ -1,6 +1,6 @@
 //! The order of a `SmallMap`'s entries.
 ghost use Rattle.std.specs.Prelude.{◌≡◌, reverse, true, false, OnErr, OnOk};
-ghost use Rattle.starlark_lists.specs.Sorting.{sorted_by_key};
+ghost use Rattle.starlark_hash.specs.Sorting.{sorted_by_key};
 ghost use Rattle.starlark_small.specs.Changing.{SortsByKey, Turns};
 ghost use Rattle.starlark_small.specs.Index.{IndexFollows, IsIndexed};
 ghost use Rattle.starlark_vecmap.specs.EntryList.{with_entries};

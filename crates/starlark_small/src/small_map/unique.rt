@@ -2,7 +2,7 @@
 ghost use Rattle.std.specs.Prelude.{◌≡◌, ◌<◌, length, slice_get, Some, None, IfErr, IfOk, OnErr};
 ghost use Rattle.std.specs.Borrow.{sem};
 ghost use Rattle.std.specs.Option.{option_map};
-ghost use Rattle.starlark_lists.specs.Entries.{match_of, pair_of};
+ghost use Rattle.starlark_hash.specs.Entries.{match_of, pair_of};
 ghost use Rattle.starlark_hash.specs.HashValue.{key_of};
 ghost use Rattle.starlark_small.specs.Inserting.{PutsLast};
 ghost use Rattle.starlark_small.specs.Lending.{lends_inserted, lends_value, unhashed};

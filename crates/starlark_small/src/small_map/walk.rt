@@ -2,7 +2,7 @@
 ghost use Rattle.std.specs.Prelude.{◌≡◌, ◌^◌, ◌<◌, length, map};
 ghost use Rattle.std.specs.Map.{values_of};
 ghost use Rattle.std.specs.Map.Iter.{deref, deref_pair};
-ghost use Rattle.starlark_lists.specs.Entries.{Entry, IsSingle, entry_key, entry_value, pair_of};
+ghost use Rattle.starlark_hash.specs.Entries.{Entry, IsSingle, entry_key, entry_value, pair_of};
 ghost use Rattle.starlark_small.specs.Iter.{deref_entry};
 ghost use Rattle.starlark_small.specs.Walks.{GivesEach, GivesValues, ShowsEach, ShowsValues};
 

@@ -3,7 +3,7 @@ ghost use Rattle.std.specs.Prelude.{◌≡◌, ◌^◌, ◌<◌, length, map, So
 ghost use Rattle.std.specs.Borrow.{sem};
 ghost use Rattle.std.specs.Map.{values_of};
 ghost use Rattle.std.specs.Option.{option_copied_mut, IfNone};
-ghost use Rattle.starlark_lists.specs.Entries.{entry_value, pair_of, value_at};
+ghost use Rattle.starlark_hash.specs.Entries.{entry_value, pair_of, value_at};
 ghost use Rattle.starlark_hash.specs.Hasher.{own_hash};
 ghost use Rattle.starlark_small.specs.Calling.{FindsValue};
 ghost use Rattle.starlark_small.specs.Map.{query_match, own_match};

@@ -6,7 +6,7 @@ ghost use Rattle.std.specs.Map.{lookup};
 ghost use Rattle.std.specs.Option.{is_some, option_copied, option_map};
 ghost use Rattle.starlark_hash.specs.Hasher.{own_hash};
 ghost use Rattle.starlark_hash.specs.HashValue.{hash_number, promoted};
-ghost use Rattle.starlark_lists.specs.Search.{CanSearch};
+ghost use Rattle.starlark_hash.specs.Search.{CanSearch};
 ghost use Rattle.starlark_table.specs.Table.{item_in};
 ghost use Rattle.starlark_table.specs.Vacancy.{IsVacancy};
 ghost use Rattle.starlark_unordered.specs.Changing.{AddsAt, TakesSlot};

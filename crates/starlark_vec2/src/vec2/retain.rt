@@ -1,6 +1,6 @@
 //! `Vec2::retain`.
 ghost use Rattle.std.specs.Prelude.{◌≡◌, ◌≤◌, length, take, zip};
-ghost use Rattle.starlark_lists.specs.Retain.{Retains, TakesInTurn};
+ghost use Rattle.starlark_hash.specs.Retain.{Retains, TakesInTurn};
 ghost use Rattle.starlark_vec2.specs.Retain.{TakesBoth, CalledAtBoth};
 
 use super::Vec2;

@@ -3,7 +3,7 @@ ghost use Rattle.std.specs.Prelude.{◌≡◌, length, IfOk, IsOk};
 ghost use Rattle.std.specs.List.{AllZip};
 ghost use Rattle.starlark_vec2.specs.Collect.{IsLawfulClone};
 ghost use Rattle.starlark_vecmap.specs.EntryList.{entry_list};
-ghost use Rattle.starlark_lists.specs.Clone.{IsEntryClone};
+ghost use Rattle.starlark_hash.specs.Clone.{IsEntryClone};
 
 use super::VecMap;
 use std::alloc::AllocError;

@@ -4,7 +4,7 @@ ghost use Rattle.std.specs.Iterator.{UpTo, at_most};
 ghost use Rattle.std.specs.Iterator.SizeHint.{IsWithinCount};
 ghost use Rattle.std.specs.Map.{keys_of, values_of};
 ghost use Rattle.std.specs.Map.Iter.{TakesFirst, TakesLast};
-ghost use Rattle.starlark_lists.specs.Entries.{pair_of};
+ghost use Rattle.starlark_hash.specs.Entries.{pair_of};
 ghost use Rattle.starlark_vecmap.specs.EntryList.{entry_of};
 
 use starlark_hash::{Hashed, StarlarkHashValue};
@@ -20,7 +20,7 @@ pub struct IntoIterHashed<K, V> {
 
 impl<K, V> Model for IntoIterHashed<K, V> {
     ghost use Rattle.std.specs.Prelude.{List, map};
-    ghost use Rattle.starlark_lists.specs.Entries.{Entry};
+    ghost use Rattle.starlark_hash.specs.Entries.{Entry};
     ghost use Rattle.starlark_vecmap.specs.EntryList.{entry_of};
 
     ghost Value = { List (Entry K V) };
@@ -90,7 +90,7 @@ pub struct IntoIter<K, V> {
 
 impl<K, V> Model for IntoIter<K, V> {
     ghost use Rattle.std.specs.Prelude.{List, map};
-    ghost use Rattle.starlark_lists.specs.Entries.{pair_of};
+    ghost use Rattle.starlark_hash.specs.Entries.{pair_of};
 
     ghost Value = { List (K × V) };
 

@@ -103,7 +103,7 @@ pub struct IterHashed<'a, K, V> {
 
 impl<'a, K, V> Model for IterHashed<'a, K, V> {
     ghost use Rattle.std.specs.Prelude.{List, map};
-    ghost use Rattle.starlark_lists.specs.Entries.{Entry};
+    ghost use Rattle.starlark_hash.specs.Entries.{Entry};
     ghost use Rattle.starlark_vecmap.specs.EntryList.{entry_of};
 
     ghost Value = { List (Entry K V) };

@@ -2,7 +2,7 @@
 ghost use Rattle.std.specs.Prelude.{◌≡◌, ◌<◌, ◌^◌, length, map, slice_get, Some};
 ghost use Rattle.std.specs.Borrow.{sem};
 ghost use Rattle.std.specs.Map.{values_of};
-ghost use Rattle.starlark_lists.specs.Entries.{entry_value, pair_of};
+ghost use Rattle.starlark_hash.specs.Entries.{entry_value, pair_of};
 ghost use Rattle.starlark_vecmap.specs.EntryList.{deref_entry_mut};
 ghost use Rattle.starlark_vecmap.specs.Lending.{lends_value, values_follow};
 

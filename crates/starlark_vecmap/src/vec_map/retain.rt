@@ -1,6 +1,6 @@
 //! `VecMap::retain`.
 ghost use Rattle.std.specs.Prelude.{◌≡◌};
-ghost use Rattle.starlark_lists.specs.Retain.{Retains, TakesInTurn, TakesEntry, CalledAtEntry};
+ghost use Rattle.starlark_hash.specs.Retain.{Retains, TakesInTurn, TakesEntry, CalledAtEntry};
 ghost use Rattle.starlark_vecmap.specs.EntryList.{entry_of};
 
 use super::VecMap;

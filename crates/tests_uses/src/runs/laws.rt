@@ -2,7 +2,7 @@
 
 use crate::runs::given::{Numbers, holds, same, shows};
 use starlark_hash::{Hashed, StarlarkHasher};
-use starlark_laws::{collection, equality, insertion, keys, lists, order};
+use starlark_runs::{collection, equality, insertion, keys, lists, order};
 use starlark_small::{SmallMap, smallmap};
 use std::alloc::{AllocError, Global};
 use std::hash::Hasher;

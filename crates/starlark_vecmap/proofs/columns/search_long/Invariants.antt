@@ -1,5 +1,5 @@
 use Rattle.std.proofs.Common.{◌≡◌, length, drop, ◌-◌, ◌≤◌}
-use Rattle.starlark_lists.specs.Search.{keys_under}
+use Rattle.starlark_hash.specs.Search.{keys_under}
 use Rattle.starlark_vecmap.specs.EntryList.{entries_in}
 use Rattle.starlark_vecmap.proofs.Searching.{Searching, keys_from}
 use Rattle.starlark_vecmap.proofs.columns.search_long.Given as goal

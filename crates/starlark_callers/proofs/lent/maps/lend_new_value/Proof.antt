@@ -9,7 +9,7 @@ use Rattle.starlark_hash.specs.HashValue.{key_of}
 use Rattle.starlark_hash.specs.contracts.hashed.Hashed as H
 use Rattle.starlark_hash.proofs.no_room.NoRoom.TheLaws as room_laws
 use Rattle.starlark_hash.specs.contracts.no_room.NoRoom as N
-use Rattle.starlark_lists.specs.Entries.{match_of}
+use Rattle.starlark_hash.specs.Entries.{match_of}
 use Rattle.starlark_small.specs.Map.{Map}
 use Rattle.starlark_small.specs.Lending.{lends_inserted}
 use Rattle.starlark_small.specs.contracts.small_map.SmallMap as S

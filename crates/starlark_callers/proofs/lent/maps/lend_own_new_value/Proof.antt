@@ -6,7 +6,7 @@ use Rattle.std.specs.declared.hash.Hash as Hash
 use Rattle.starlark_callers.proofs.Walks.{◌≡◌, refl, sym, subst, inl, inr, List, [], ◌∷◌, suc-ne-zero, lit<, Ura, Fn, Args, Dict, a_type, dcons, dnil, named, inst_fn, Val, vptr, vcons, vnil, of_list, SProp, ent, emp, id⊢, ex_e, snd∗, Lft, Share, ftrue, flft, Memory, Routine, Env, Calls, Loops, WpFn, Logic, sem, live, vrt, in_variant, by_variants, ◌⊑◌, Fun, fact, fact_i, tables, FmC, ‵, raw, ◌⊛◌, some, given, later, at_ret, ◌$◌, ◌∵◌, !, qed, move, keep, use0, use1, split, split3, join, pick, learn, fsplit, fsplit3, fjoin, suffices, frame, await, rewrite, group, done, whole, sub, agg, stop, fld, hop, from, addr, lit, of_opd, and_then, no_more, begins, exec, returns, enter, alloc_all, pass_all, free_all, look_at, look_in_at, get, get_in, get_tag, through, sets, sets_last, lands_as, env, no, RattleType, owns, param, bounded, layout, Laws, param_laws, Bor, MutBor, MutRef, ShrRef, mut_vals, mut_Tells, plain, types_at, mut_ref_to, nothing, heard, Tuple, tuple_laws, calls_at, Clauses, Ended, ensured, lasts, triple_of, Contract, Triple, framed, Stays, stay_dropped, walk_of, ends_at, Goes-spent_ref, Goes-blank, Good, Ok-of, Err-of, and_tt, after, proved_at, None, Result, Ok, Err, IfOk, IfErr, OnErr, Hashed, NoRoom, lone_value, in_err, entry_val, which}
 use Rattle.starlark_hash.proofs.no_room.NoRoom.TheLaws as room_laws
 use Rattle.starlark_hash.specs.contracts.no_room.NoRoom as N
-use Rattle.starlark_lists.specs.Entries.{match_of}
+use Rattle.starlark_hash.specs.Entries.{match_of}
 use Rattle.starlark_small.specs.Map.{Map, own_hashed}
 use Rattle.starlark_small.specs.Lending.{lends_inserted}
 use Rattle.starlark_small.specs.contracts.small_map.SmallMap as S

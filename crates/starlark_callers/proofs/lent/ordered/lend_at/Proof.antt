@@ -10,7 +10,7 @@ use Rattle.starlark_hash.proofs.hashed.Hashed.TheLaws as hashed_laws
 use Rattle.starlark_hash.proofs.no_room.NoRoom.TheLaws as room_laws
 use Rattle.starlark_hash.specs.contracts.hashed.Hashed as H
 use Rattle.starlark_hash.specs.contracts.no_room.NoRoom as N
-use Rattle.starlark_lists.specs.Entries.{match_of}
+use Rattle.starlark_hash.specs.Entries.{match_of}
 use Rattle.starlark_small.proofs.entry.Entry.TheLaws as entry_laws
 use Rattle.starlark_small.proofs.entry.Entry.or_insert.Symbol.{name as #puts}
 use Rattle.starlark_small.proofs.entry.Entry.or_insert.Met as puts

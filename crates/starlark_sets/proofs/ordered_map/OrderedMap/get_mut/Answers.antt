@@ -1,6 +1,6 @@
 use Rattle.std.proofs.Common.{Some, refl, subst, sym}
 use Rattle.starlark_hash.specs.Hasher.{own_hash}
-use Rattle.starlark_lists.specs.Finding.{Writes}
+use Rattle.starlark_hash.specs.Finding.{Writes}
 use Rattle.starlark_sets.proofs.Callers.{writes-with_value}
 use Rattle.starlark_sets.proofs.ordered_map.OrderedMap.get_mut.Goals as goal
 

@@ -2,7 +2,7 @@
 use Rattle.starlark_columns.proofs.Walking.{◌≡◌, refl, ap, ◌∙◌, ◌<◌, ◌^◌, List, [], ◌∷◌, length, Ura, Fn, Args, Dict, a_type, dcons, dnil, named, inst_fn, Val, vptr, SProp, ent, emp, id⊢, ex_e, snd∗, Lft, GName, Share, ftrue, flft, Memory, Routine, Calls, Loops, WpFn, Logic, sem, ◌⊑◌, Fun, fact, fact_i, tables, FmC, ‵, raw, ◌⊛◌, some, later, ◌$◌, ◌∵◌, !, qed, move, keep, drop, use0, use1, use2, split, split3, join, pick, fsplit, fjoin, rewrite, suffices, frame, await, done, stop, addr, and_then, no_more, returns, enter, alloc_all, pass_all, free_all, look_at, get, through, sets, lands_as, no, follows, follows_then, Is, shows, param, bounded, Laws, param_laws, RattleType, owns, MutBor, MutRef, mut_vals, mut_Tells, plain, types_at, mut_ref_to, named_lft, nothing, heard, peeks, only, calls_at, Clauses, Ended, ensured, lasts, triple_of, Contract, Triple, framed, Stays, stay_dropped, walk_of, ends_at, Goes-spent_ref, proved, map}
 use Rattle.std.specs.declared.cmp.Eq as Eq
 use Rattle.std.specs.declared.cmp.PartialEq as PartialEq
-use Rattle.starlark_lists.specs.Entries.{pair_of}
+use Rattle.starlark_hash.specs.Entries.{pair_of}
 use Rattle.starlark_vec2.proofs.pairs_mut.PairsMut.TheLaws as walk_laws
 use Rattle.starlark_vec2.specs.contracts.pairs_mut.PairsMut as P
 use Rattle.starlark_vecmap.specs.EntryList.{with_values}

@@ -5,7 +5,7 @@ use Rattle.core.specs.contracts.result.Result as RS
 use Rattle.std.specs.declared.cmp.Eq as Eq
 use Rattle.std.specs.declared.cmp.PartialEq as PartialEq
 use Rattle.std.specs.declared.hash.Hash as Hash
-use Rattle.starlark_lists.specs.Entries.{match_of}
+use Rattle.starlark_hash.specs.Entries.{match_of}
 use Rattle.starlark_hash.specs.declared.hashed.Hashed.{Hashed}
 use Rattle.starlark_small.specs.Map.{own_hashed}
 use Rattle.starlark_small.proofs.LentInResult.{lone_value}

@@ -7,7 +7,7 @@ use Rattle.std.specs.declared.cmp.PartialEq as PartialEq
 use Rattle.std.specs.declared.hash.Hash as Hash
 use Rattle.std.specs.Cmp.{IsEquivalence}
 use Rattle.starlark_hash.proofs.no_room.NoRoom.TheLaws as room_laws
-use Rattle.starlark_lists.specs.Entries.{match_of}
+use Rattle.starlark_hash.specs.Entries.{match_of}
 use Rattle.starlark_hash.specs.contracts.no_room.NoRoom as N
 use Rattle.starlark_hash.specs.declared.hashed.Hashed.{Hashed}
 use Rattle.starlark_hash.specs.declared.no_room.NoRoom.{NoRoom}

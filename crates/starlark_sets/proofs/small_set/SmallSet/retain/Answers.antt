@@ -1,7 +1,7 @@
 use Rattle.std.proofs.Common.{◌∙◌, refl, sym, subst, rules, of_calls}
 use Rattle.std.specs.Fn.{CalledAt}
-use Rattle.starlark_lists.specs.Entries.{entry_hash, entry_key}
-use Rattle.starlark_lists.specs.Retain.{Retains, TakesInTurn}
+use Rattle.starlark_hash.specs.Entries.{entry_hash, entry_key}
+use Rattle.starlark_hash.specs.Retain.{Retains, TakesInTurn}
 use Rattle.starlark_sets.specs.Retain.{CalledAtElement, TakesElement}
 use Rattle.starlark_sets.proofs.Retained.{filtered_by, takes_alone, tested_by, retains_alone}
 use Rattle.starlark_sets.proofs.small_set.SmallSet.retain.Goals as goal

@@ -1,6 +1,6 @@
 use Rattle.std.proofs.Common.{arith, rules}
 use Rattle.std.proofs.lemmas.Grind.{common_steps}
-use Rattle.starlark_lists.specs.Entries.{entry_key}
+use Rattle.starlark_hash.specs.Entries.{entry_key}
 use Rattle.starlark_sets.proofs.Lookups.{stays-beyond}
 use Rattle.starlark_sets.proofs.small_set.SmallSet.shift_remove_index.Goals as goal
 

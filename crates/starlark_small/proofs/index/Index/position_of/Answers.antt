@@ -1,7 +1,7 @@
 use Rattle.std.proofs.Common.{sym, ◌∙◌, ap, rules, of_calls}
 use Rattle.starlark_hash.specs.HashValue.{key_of}
-use Rattle.starlark_lists.specs.Entries.{position_of}
-use Rattle.starlark_lists.proofs.SearchLemmas.{can_search, is_test, search-position_of}
+use Rattle.starlark_hash.specs.Entries.{position_of}
+use Rattle.starlark_hash.proofs.SearchLemmas.{can_search, is_test, search-position_of}
 use Rattle.starlark_small.proofs.index.Index.position_of.Goals as goal
 
 pub find_in-requires-clause-callable : goal.find_in-requires-clause-callable

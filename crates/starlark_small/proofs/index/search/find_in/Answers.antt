@@ -1,6 +1,6 @@
 use Rattle.std.proofs.Common.{◌≡◌, ◌<◌, ◌^◌, ◌∙◌, ap, subst}
 use Rattle.std.specs.Prelude.{map}
-use Rattle.starlark_lists.specs.Entries.{pair_of}
+use Rattle.starlark_hash.specs.Entries.{pair_of}
 use Rattle.starlark_small.proofs.KeySearch.{can_search-indices, pair_there, searches-indices, taken}
 use Rattle.starlark_small.proofs.index.search.find_in.Goals as goal
 

@@ -1,5 +1,5 @@
 use Rattle.std.proofs.Common.{◌≡◌, Some, None, rules, sym}
-use Rattle.starlark_lists.specs.Entries.{match_of}
+use Rattle.starlark_hash.specs.Entries.{match_of}
 use Rattle.starlark_small.proofs.CallerEntered.{enters-entry}
 use Rattle.starlark_small.proofs.small_map.SmallMap.entry_hashed.Goals as goal
 

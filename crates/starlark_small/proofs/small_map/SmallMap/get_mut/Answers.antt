@@ -1,7 +1,7 @@
 use Rattle.std.proofs.Common.{◌≡◌, refl, ap, ◌∙◌}
 use Rattle.starlark_hash.specs.Hasher.{own_hash}
 use Rattle.starlark_hash.specs.HashValue.{hash_of, key_of}
-use Rattle.starlark_lists.specs.Entries.{position_of, value_at, with_value}
+use Rattle.starlark_hash.specs.Entries.{position_of, value_at, with_value}
 use Rattle.starlark_small.specs.Map.{query_match, own_match}
 use Rattle.starlark_small.proofs.CallerEntries.{keys-with_value}
 use Rattle.starlark_small.proofs.CallerShown.{finds-value}

@@ -13,7 +13,7 @@ use Rattle.starlark_hash.specs.contracts.hashed.Hashed.new as n
 use Rattle.starlark_hash.specs.contracts.no_room.NoRoom as N
 use Rattle.starlark_hash.specs.declared.hashed.Hashed.{Hashed}
 use Rattle.starlark_hash.specs.declared.no_room.NoRoom.{NoRoom}
-use Rattle.starlark_lists.specs.Entries.{match_of}
+use Rattle.starlark_hash.specs.Entries.{match_of}
 use Rattle.starlark_small.specs.Map.{Map, own_hashed}
 use Rattle.starlark_small.specs.Lending.{lends_inserted, unhashed}
 use Rattle.starlark_small.specs.contracts.small_map.SmallMap as S

@@ -1,5 +1,5 @@
 use Rattle.std.proofs.Common.{◌≡◌, ap, map, rules, subst}
-use Rattle.starlark_lists.specs.Entries.{IsSingle, entry_value}
+use Rattle.starlark_hash.specs.Entries.{IsSingle, entry_value}
 use Rattle.starlark_small.specs.Map.{Map}
 use Rattle.starlark_small.proofs.CallerFound.{values-found}
 use Rattle.starlark_small.proofs.CallerWalked.{length-values}

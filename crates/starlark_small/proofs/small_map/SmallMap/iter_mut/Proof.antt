@@ -3,7 +3,7 @@ use Rattle.starlark_columns.proofs.Walking.{◌≡◌, refl, sym, ap, ◌∙◌,
 use base.Share
 use Rattle.std.specs.declared.cmp.Eq as Eq
 use Rattle.std.specs.declared.cmp.PartialEq as PartialEq
-use Rattle.starlark_lists.specs.Entries.{pair_of}
+use Rattle.starlark_hash.specs.Entries.{pair_of}
 use Rattle.starlark_columns.proofs.NamedClose.{closes_named}
 use Rattle.starlark_columns.proofs.LoneValue.{lone_value}
 use Rattle.starlark_vec2.proofs.WalkRenamed.{renamed}

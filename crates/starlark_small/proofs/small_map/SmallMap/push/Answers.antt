@@ -1,7 +1,7 @@
 use mathlib.Core.Path.{subst⁻¹}
 use Rattle.std.proofs.Common.{rules, ◌≡◌, None, subst, sym, ap, ◌∙◌, ◌∷◌, [], ◌++◌}
-use Rattle.starlark_lists.specs.Entries.{match_of}
-use Rattle.starlark_lists.proofs.EntryLemmas.{IsSingle-push}
+use Rattle.starlark_hash.specs.Entries.{match_of}
+use Rattle.starlark_hash.proofs.EntryLemmas.{IsSingle-push}
 use Rattle.starlark_vecmap.specs.EntryList.{with_entries}
 use Rattle.starlark_small.specs.Index.{IsIndexed, IsSound}
 use Rattle.starlark_small.proofs.Indexed.{IsIndexed-noted}

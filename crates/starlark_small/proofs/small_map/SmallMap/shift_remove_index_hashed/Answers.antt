@@ -2,7 +2,7 @@ use Rattle.std.proofs.Common.{sym, ap, arith, rules}
 use Rattle.std.proofs.lemmas.Grind.{common_steps}
 use Rattle.std.proofs.lemmas.Option.{slice_get_past}
 use Rattle.std.specs.Option.{option_map}
-use Rattle.starlark_lists.specs.Entries.{pair_of}
+use Rattle.starlark_hash.specs.Entries.{pair_of}
 use Rattle.starlark_small.proofs.small_map.SmallMap.shift_remove_index_hashed.Goals as goal
 
 pub returns-else-index-len-clause-takes : goal.returns-else-index-len-clause-takes

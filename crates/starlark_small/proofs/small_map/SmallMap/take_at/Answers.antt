@@ -1,7 +1,7 @@
 use Rattle.std.proofs.Common.{subst, sym, ap, length, arith, rules}
 use Rattle.std.specs.Prelude.{remove}
 use Rattle.std.proofs.lemmas.Grind.{common_steps}
-use Rattle.starlark_lists.proofs.EntryLemmas.{IsSingle-remove}
+use Rattle.starlark_hash.proofs.EntryLemmas.{IsSingle-remove}
 use Rattle.starlark_vecmap.specs.EntryList.{with_entries}
 use Rattle.starlark_small.specs.Index.{IsIndexed, IsSound}
 use Rattle.starlark_small.proofs.Indexed.{IsIndexed-forgotten, index-within}

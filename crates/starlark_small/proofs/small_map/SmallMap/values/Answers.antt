@@ -1,5 +1,5 @@
 use Rattle.std.proofs.Common.{◌≡◌, map, rules}
-use Rattle.starlark_lists.specs.Entries.{IsSingle, entry_value}
+use Rattle.starlark_hash.specs.Entries.{IsSingle, entry_value}
 use Rattle.starlark_small.proofs.CallerFound.{values-found}
 use Rattle.starlark_small.proofs.CallerWalked.{length-values}
 use Rattle.starlark_small.proofs.small_map.SmallMap.values.Goals as goal

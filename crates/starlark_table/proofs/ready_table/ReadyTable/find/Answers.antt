@@ -1,5 +1,5 @@
 use Rattle.std.proofs.Common.{Some, sym, subst, ap}
-use Rattle.starlark_lists.specs.Search.{Searches, CanSearch}
+use Rattle.starlark_hash.specs.Search.{Searches, CanSearch}
 use Rattle.starlark_table.specs.Table.{holders_in, items_under}
 use Rattle.starlark_table.proofs.Load.{sound-empty_slot}
 use Rattle.starlark_table.proofs.ready_table.ReadyTable.find.Goals as goal

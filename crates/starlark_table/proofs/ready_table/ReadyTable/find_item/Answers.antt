@@ -1,6 +1,6 @@
 use Rattle.std.proofs.Common.{◌≡◌, Some, sym, subst, ap}
 use Rattle.std.specs.Option.{option_map}
-use Rattle.starlark_lists.specs.Search.{Searches, CanSearch}
+use Rattle.starlark_hash.specs.Search.{Searches, CanSearch}
 use Rattle.starlark_table.specs.Layout.{at}
 use Rattle.starlark_table.specs.Table.{holders_in, items_under}
 use Rattle.starlark_table.proofs.Load.{sound-empty_slot}

@@ -1,7 +1,7 @@
 use Rattle.std.proofs.Common.{◌≡◌, ◌<◌, ◌^◌, ap, ◌∙◌, rules, of_calls, refl, subst}
 use Rattle.std.specs.Map.{lookup}
 use Rattle.std.specs.Option.{option_copied, option_map}
-use Rattle.starlark_lists.proofs.SearchLemmas.{is_test}
+use Rattle.starlark_hash.proofs.SearchLemmas.{is_test}
 use Rattle.starlark_hash.specs.HashValue.{hash_number, promoted}
 use Rattle.starlark_unordered.specs.Pairs.{pairs_of, under_own}
 use Rattle.starlark_unordered.proofs.QuerySearch.{slot_by_hashed, value_of-slot}

@@ -1,5 +1,5 @@
 use Rattle.std.proofs.Common.{◌<◌, ◌^◌, rules, of_calls, refl, subst}
-use Rattle.starlark_lists.proofs.SearchLemmas.{is_test}
+use Rattle.starlark_hash.proofs.SearchLemmas.{is_test}
 use Rattle.starlark_hash.specs.HashValue.{hash_number, promoted}
 use Rattle.starlark_unordered.specs.Pairs.{IsSlotOf, under_own}
 use Rattle.starlark_unordered.proofs.QuerySearch.{slot_by_hashed}

@@ -1,6 +1,6 @@
 use Rattle.std.proofs.Common.{refl, length, take, zip, ap, sym, subst, ◌∙◌}
 use Rattle.starlark_vec2.specs.PairList.{with_pairs}
-use Rattle.starlark_lists.specs.Retain.{Retains}
+use Rattle.starlark_hash.specs.Retain.{Retains}
 use Rattle.starlark_vec2.specs.Retain.{CalledAtBoth}
 use Rattle.starlark_vec2.proofs.Pairs.{zip-take}
 use Rattle.starlark_columns.specs.Front.{with_items}

@@ -2,7 +2,7 @@ use Rattle.std.proofs.Common.{map, length, sym, ap, subst, ◌∙◌}
 use Rattle.std.specs.List.{AllZip}
 use Rattle.std.proofs.lemmas.List.{length-map}
 use Rattle.starlark_vecmap.specs.EntryList.{entry_list, entry_of}
-use Rattle.starlark_lists.specs.Clone.{IsEntryClone}
+use Rattle.starlark_hash.specs.Clone.{IsEntryClone}
 use Rattle.starlark_vecmap.proofs.Ordering.{clones-columns}
 use Rattle.starlark_vecmap.proofs.vec_map.VecMap.clone.Goals as goal
 

@@ -1,7 +1,7 @@
 use Rattle.std.proofs.Common.{ap, ◌∙◌, arith, rules, of_calls}
 use Rattle.starlark_hash.specs.HashValue.{hash_of, key_of}
-use Rattle.starlark_lists.specs.Entries.{stands_under, position_of}
-use Rattle.starlark_lists.proofs.SearchLemmas.{is_test}
+use Rattle.starlark_hash.specs.Entries.{stands_under, position_of}
+use Rattle.starlark_hash.proofs.SearchLemmas.{is_test}
 use Rattle.starlark_vecmap.proofs.FirstAccepted.{asks-position_of, found_within}
 use Rattle.starlark_vecmap.proofs.vec_map.VecMap.get_index_of_hashed_among_few.Goals as goal
 

@@ -12,7 +12,7 @@ use Rattle.starlark_vec2.proofs.vec2.lends.Vec2+tuple2+K+V+B.iter_firsts_mut.Met
 use Rattle.starlark_vec2.proofs.pairs_mut.PairsMut.TheLaws as P-laws
 use Rattle.starlark_vec2.proofs.WalkRenamed.{renamed}
 use Rattle.starlark_columns.proofs.LoneValue.{lone_value}
-use Rattle.starlark_lists.specs.Entries.{pair_of}
+use Rattle.starlark_hash.specs.Entries.{pair_of}
 use Rattle.starlark_vec2.specs.PairList.{PairList, with_pairs, firsts_of}
 use Rattle.starlark_vec2.specs.Lending as pairs
 use Rattle.starlark_vecmap.specs.EntryList.{EntryList, entry_list, entry_of, with_entries, with_values}

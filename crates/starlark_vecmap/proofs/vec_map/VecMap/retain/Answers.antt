@@ -2,7 +2,7 @@ use Rattle.std.proofs.Common.{◌≡◌, sym, ap, subst, ◌∙◌, rules, of_ca
 use Rattle.std.proofs.Common.{ℕ, Bool}
 use Rattle.std.specs.Borrow.{Bor, MutBor}
 use Rattle.std.specs.Fn.{Mut}
-use Rattle.starlark_lists.specs.Retain.{Retains, TakesInTurn, TakesEntry, CalledAtEntry}
+use Rattle.starlark_hash.specs.Retain.{Retains, TakesInTurn, TakesEntry, CalledAtEntry}
 use Rattle.starlark_vecmap.specs.EntryList.{entry_of}
 use Rattle.starlark_vecmap.proofs.MappedRetention.{takes_carried, retains_carried}
 use Rattle.starlark_vecmap.proofs.vec_map.VecMap.retain.Goals as goal

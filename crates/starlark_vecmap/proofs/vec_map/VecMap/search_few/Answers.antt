@@ -1,5 +1,5 @@
 use Rattle.std.proofs.Common.{sym, ap, subst, ◌∙◌}
-use Rattle.starlark_lists.specs.Search.{Asks, CanSearch, keys_under}
+use Rattle.starlark_hash.specs.Search.{Asks, CanSearch, keys_under}
 use Rattle.starlark_vecmap.specs.EntryList.{entries_in}
 use Rattle.starlark_vecmap.proofs.Views.{entries_in-columns}
 use Rattle.starlark_vecmap.proofs.vec_map.VecMap.search_few.Goals as goal

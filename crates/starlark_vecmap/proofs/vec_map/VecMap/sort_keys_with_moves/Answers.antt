@@ -3,7 +3,7 @@ use Rattle.std.specs.Prelude.{OnOk, IfOk}
 use Rattle.std.specs.Ordering.{is_lt}
 use Rattle.std.proofs.lemmas.List.MinMax.{ranks_by}
 use Rattle.std.proofs.lemmas.List.Sorted.{answers_always}
-use Rattle.starlark_lists.specs.Sorting.{key_lt, sorted_by_key}
+use Rattle.starlark_hash.specs.Sorting.{key_lt, sorted_by_key}
 use Rattle.starlark_vecmap.specs.EntryList.{entry_list, entry_of}
 use Rattle.starlark_vec2.specs.Moves.{Moves}
 use Rattle.starlark_vec2.proofs.OneSortedList.{sorted_by-map}

@@ -2,7 +2,7 @@ use Rattle.std.proofs.Common.{◌≡◌, ◌<◌, true, false, length, get_or, s
 use Rattle.std_collections.specs.Map.{keys_of}
 use borrow.Author.Count.{below_more}
 use Rattle.starlark_hash.specs.declared.hashed.Hashed.{Hashed}
-use Rattle.starlark_lists.specs.Entries.{IsSingle}
+use Rattle.starlark_hash.specs.Entries.{IsSingle}
 use Rattle.starlark_vecmap.specs.EntryList.{deref_entry}
 use Rattle.starlark_small.specs.Compare.{agree_at}
 use Rattle.starlark_small.proofs.SameEntries.{agree-found, own_key, unequal_at, equal_by_keys_of}

@@ -1,6 +1,0 @@
-pub mod Breaks
-pub mod Windows
-pub mod Numbers
-pub mod FieldFacts
-pub mod OneReading
-pub mod Writes

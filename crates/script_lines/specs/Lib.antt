@@ -1,5 +1,0 @@
-pub mod Numbers
-pub mod Line
-pub mod Fault
-pub mod Found
-pub mod Shown

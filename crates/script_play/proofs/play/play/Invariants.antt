@@ -1,7 +1,0 @@
-use Rattle.std.specs.Io.KnownBytes.{prepend_known}
-use Rattle.script_play.specs.ShownEntries.{entries_of}
-use Rattle.script_play.proofs.Going.{Going}
-use Rattle.script_play.proofs.play.play.Given as goal
-
-abbrev pub invariant-loop-i : goal.invariant-loop-i
-invariant-loop-i g l = Going (g.R.Read.remaining l.fn.reader) (prepend_known l.window (g.R.Read.remaining l.reader)) (g.W.Write.contents l.fn.writer) (g.W.Write.contents l.writer) (entries_of l.map.entries) l.i

@@ -1,3 +1,0 @@
-mod Images
-mod InOrder
-mod Writing

@@ -1,4 +1,0 @@
-pub mod Fault
-pub mod Texts
-pub mod Objects
-pub mod Arrays

@@ -1,6 +1,0 @@
-pub mod Ordered
-pub mod Collected
-pub mod Anew
-pub mod Sorted
-pub mod Inserted
-pub mod Matching

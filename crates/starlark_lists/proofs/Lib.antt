@@ -1,4 +1,0 @@
-pub mod PositionLemmas
-pub mod EntryLemmas
-pub mod SearchLemmas
-pub mod SortingLemmas

@@ -1,0 +1,120 @@
+-- Lists that ascend: what is sorted, what keeps the order, and where it is strict.
+use Rattle.std.proofs.Common.{◌≡◌, ℕ, zero, suc, ◌+◌, ◌<◌, Bool, true, false, List, [], ◌∷◌, ◌++◌, length, get_or, Option, Some, None, refl, sym, ap, subst, ◌∙◌, arith}
+use Rattle.std.specs.Prelude.{◌&&◌}
+use Rattle.std.specs.Cmp.{IsTotalOrder, Equal-is, alike_right}
+use Rattle.std.specs.Hash.{HashWrites}
+use Rattle.std.specs.List.{AllZip}
+use Rattle.std.specs.List.Sorted.{IsSortedByKey}
+use Rattle.std.specs.Ordering.{eq_by_cmp, is_eq, is_lt, ordering_reverse}
+use Rattle.std.specs.declared.cmp.Ordering.{Ordering}
+use Rattle.std.specs.declared.cmp.Ordering.TheVariants.{Less, Equal, Greater}
+use Rattle.std.proofs.lemmas.Bool.{eq-eqb, false≢true}
+use Rattle.std.proofs.lemmas.List.{get_or_append_left, length-append}
+use Rattle.std.proofs.lemmas.List.Elements.{AllZip-get_or, length_all_zip}
+use Rattle.std.proofs.lemmas.List.Sorted.{sorted_far}
+use Rattle.starlark_hash.specs.Entries.{Entry, IsSingle, entry_hash, entry_key, set_value_at, stands_under, with_value}
+use Rattle.starlark_hash.specs.Hasher.{own_hash}
+use Rattle.starlark_hash.specs.HashValue.{hash_number}
+use Rattle.starlark_hash.specs.Sorting.{Ascends, key_lt, sorted_by_key}
+use Rattle.starlark_hash.proofs.EntryLemmas.{length-set_value_at, set_value_at-key}
+use Rattle.starlark_hash.proofs.SortingLemmas.{key_lt-order, sorted_by-sorted}
+use Rattle.starlark_small.specs.Clone.{IsEqualClone}
+use Rattle.starlark_hash.specs.Clone.{IsEntryClone}
+use Rattle.starlark_vecmap.specs.EntryList.{with_values}
+use Rattle.starlark_vecmap.proofs.ValuesWritten.{length-with_values}
+use Rattle.starlark_map.specs.Sorted.{AreOwn, AscendsStrictly}
+
+-- what is not greater and not equal is less
+pub less : (r s : Ordering) → r ≡ ordering_reverse s → is_lt s ≡ false → (r ≡ Equal → ⊥) → r ≡ Less
+less Less s turned low apart = refl
+less Equal s turned low apart = absurd (apart refl)
+less Greater Less turned low apart = absurd (false≢true (sym low))
+less Greater Equal turned low apart = absurd (false≢true (ap is_eq turned))
+less Greater Greater turned low apart = absurd (false≢true (ap is_lt turned))
+
+module _ {X K : Type 0} (f : X → K) {cmp : K → K → Ordering} (total : IsTotalOrder cmp) (R : X → X → Type 0) (alike : (x y : X) → R x y → cmp (f x) (f y) ≡ Equal) where
+  -- items that tie, one by one, with those of a list that ascends, ascend
+  pub IsSortedByKey-zip : (xs ys : List X) → AllZip R xs ys → IsSortedByKey f cmp xs → IsSortedByKey f cmp ys
+  IsSortedByKey-zip xs ys zip up k d low high =
+      let long = length_all_zip R xs ys zip in
+      let inside : k + 1 < length xs = omega (arith, long, high) in
+      let here = alike (get_or xs k d) (get_or ys k d) (AllZip-get_or R xs ys k d d zip (omega (arith, inside))) in
+      let next = alike (get_or xs (k + 1) d) (get_or ys (k + 1) d) (AllZip-get_or R xs ys (k + 1) d d zip inside) in
+      ap is_lt (sym (total.congr (f (get_or xs (k + 1) d)) (f (get_or ys (k + 1) d)) (f (get_or ys k d)) next))
+      ∙ ap is_lt (sym (alike_right total (f (get_or xs k d)) (f (get_or ys k d)) (f (get_or xs (k + 1) d)) here))
+      ∙ up k d low inside
+
+module _ {K : Type 0} {cmp : K → K → Ordering} {eq : K → K → Bool} (total : IsTotalOrder cmp) (ties : (x y : K) → eq x y ≡ eq_by_cmp cmp x y) where
+  clone_ties : {is_clone : K → K → Type 0} → IsEqualClone eq is_clone → (x y : K) → is_clone x y → cmp x y ≡ Equal
+  clone_ties equal x y cloned = (Equal-is (cmp x y)).0 (sym (ties x y) ∙ equal x y cloned)
+
+  -- clones of items that ascend ascend
+  pub IsSorted-clones : (is_clone : K → K → Type 0) → IsEqualClone eq is_clone → (xs ys : List K) → AllZip is_clone xs ys → IsSortedByKey (λ x. x) cmp xs → IsSortedByKey (λ x. x) cmp ys
+  IsSorted-clones is_clone equal xs ys = IsSortedByKey-zip (λ x. x) total is_clone (clone_ties equal) xs ys
+
+  -- and so do clones of entries
+  pub Ascends-clones : {V : Type 0} (key : K → K → Type 0) (value : V → V → Type 0) → IsEqualClone eq key → (es fs : List (Entry K V)) → AllZip (IsEntryClone key value) es fs → Ascends cmp es → Ascends cmp fs
+  Ascends-clones key value equal es fs = IsSortedByKey-zip entry_key total (IsEntryClone key value) (λ d e cloned. clone_ties equal (entry_key d) (entry_key e) cloned.1) es fs
+
+  module _ {V : Type 0} {feeds : K → HashWrites} (respects : (x y : K) → eq x y ≡ true → feeds x ≡ feeds y) where
+    -- where no two entries have one hash and equal keys, and each hash is the key's own, keys that ascend do so strictly
+    pub Ascends-strictly : (es : List (Entry K V)) → IsSingle eq es → Ascends cmp es → AreOwn feeds es → AscendsStrictly cmp es
+    Ascends-strictly es single up own i j d below inside =
+        let e = get_or es i d in let f = get_or es j d in
+        let x = entry_key e in let y = entry_key f in
+        less (cmp x y) (cmp y x) (total.antisymm x y) (sorted_far (key_lt cmp) (key_lt-order total) es up i j d (omega (arith, below)) inside)
+        (λ level.
+        let same : eq x y ≡ true = ties x y ∙ (Equal-is (cmp x y)).1 level in
+        let hashes = own j d inside ∙ ap (own_hash (λ (writes : HashWrites). writes)) (sym (respects x y same)) ∙ sym (own i d (omega (arith, below, inside))) in
+        let under = eq-eqb (hash_number (entry_hash f)) (hash_number (entry_hash e)) (ap hash_number hashes) in
+        false≢true (sym (single i j d below inside) ∙ ap (λ b. b && eq x y) under ∙ same))
+
+module _ {K V : Type 0} where
+  -- writing values keeps each key under its hash
+  with_values-key : (es ws : List (Entry K V)) (k : ℕ) (d : Entry K V) → (get_or (with_values es ws) k d).0 ≡ (get_or es k d).0
+  with_values-key [] ws k d = refl
+  with_values-key (e ∷ es) [] zero d = refl
+  with_values-key (e ∷ es) [] (suc k) d = with_values-key es [] k d
+  with_values-key (e ∷ es) (w ∷ ws) zero d = refl
+  with_values-key (e ∷ es) (w ∷ ws) (suc k) d = with_values-key es ws k d
+
+module _ {K V : Type 0} (cmp : K → K → Ordering) where
+  -- what is sorted ascends
+  pub sorted_ascends : IsTotalOrder cmp → (es fs : List (Entry K V)) → fs ≡ sorted_by_key cmp es → Ascends cmp fs
+  sorted_ascends total es fs same = subst (Ascends cmp) (sym same) (sorted_by-sorted (key_lt cmp) (key_lt-order total) es)
+
+  -- and what has no entries
+  pub Ascends-empty : (es : List (Entry K V)) → es ≡ [] → Ascends cmp es
+  Ascends-empty es none = subst (Ascends cmp) (sym none) (λ k d low high. absurd (omega arith))
+
+  -- keys that ascend do so when a value is written
+  pub Ascends-set_value_at : (es : List (Entry K V)) (i : ℕ) (value : V) → Ascends cmp es → Ascends cmp (set_value_at es i value)
+  Ascends-set_value_at es i value up k d low high =
+      let inside : k + 1 < length es = omega (arith, high, length-set_value_at es i value) in
+      ap (λ key. is_lt (cmp key.key (entry_key (get_or (set_value_at es i value) k d)))) (set_value_at-key es i value (k + 1) d)
+      ∙ ap (λ key. is_lt (cmp (entry_key (get_or es (k + 1) d)) key.key)) (set_value_at-key es i value k d)
+      ∙ up k d low inside
+
+  pub Ascends-with_value : (es : List (Entry K V)) (place : Option ℕ) (value : V) → Ascends cmp es → Ascends cmp (with_value es place value)
+  Ascends-with_value es None value up = up
+  Ascends-with_value es (Some i) value up = Ascends-set_value_at es i value up
+
+  -- and when each value is written
+  pub Ascends-with_values : (es ws : List (Entry K V)) → Ascends cmp es → Ascends cmp (with_values es ws)
+  Ascends-with_values es ws up k d low high =
+      let inside : k + 1 < length es = omega (arith, high, length-with_values es ws) in
+      ap (λ key. is_lt (cmp key.key (entry_key (get_or (with_values es ws) k d)))) (with_values-key es ws (k + 1) d)
+      ∙ ap (λ key. is_lt (cmp (entry_key (get_or es (k + 1) d)) key.key)) (with_values-key es ws k d)
+      ∙ up k d low inside
+
+  -- what ascends strictly ascends
+  pub Ascends-from_strictly : IsTotalOrder cmp → (es : List (Entry K V)) → AscendsStrictly cmp es → Ascends cmp es
+  Ascends-from_strictly total es strict k d low high =
+      ap is_lt (total.antisymm (entry_key (get_or es (k + 1) d)) (entry_key (get_or es k d)) ∙ ap ordering_reverse (strict k (k + 1) d (omega arith) high))
+
+-- what stands before other entries in a list without clashes has none itself
+pub IsSingle-before : {K V : Type 0} (eq : K → K → Bool) (es fs : List (Entry K V)) → IsSingle eq (es ++ fs) → IsSingle eq es
+IsSingle-before eq es fs single i j d below inside =
+    ap (λ e. stands_under (entry_hash e) (eq (entry_key e)) (get_or es j d)) (sym (get_or_append_left es fs d i (omega (arith, below, inside))))
+    ∙ ap (λ f. stands_under (entry_hash (get_or (es ++ fs) i d)) (eq (entry_key (get_or (es ++ fs) i d))) f) (sym (get_or_append_left es fs d j inside))
+    ∙ single i j d below (omega (arith, inside, length-append es fs))

@@ -1,0 +1,15 @@
+use Rattle.std.proofs.Common.{◌≡◌, refl}
+use Rattle.starlark_map.proofs.Ascending.{Ascends-clones}
+use Rattle.starlark_map.proofs.OwnHashes.{opened, shut}
+use Rattle.starlark_map.proofs.sorted_set.SortedSet.clone.Goals as goal
+
+pub invariant_of-result : goal.invariant_of-result
+invariant_of-result g c =
+    Ascends-clones g.met.T.Ord.total g.met.T.Ord.matches_eq g.T.Clone.is_clone (λ x y. y ≡ x) c.requires
+    c.self.inside.inner.entries c.in_ok-clone.field-0.entries c.in_ok-clone.ensures.clone.entries c.self.invariant
+
+pub returns-clause-own : goal.returns-clause-own
+returns-clause-own g c = rw (← c.self.view_is) (λ feeds alike own. opened feeds c.in_ok-clone.field-0.entries (c.in_ok-clone.ensures.clone.own feeds alike (shut feeds c.self.inside.inner.entries own)))
+
+pub returns-clause-clones : goal.returns-clause-clones
+returns-clause-clones g c = rw (← c.self.view_is) (record { clone = c.in_ok-clone.ensures.clone; succeeds = λ _. refl })

@@ -1,0 +1,52 @@
+-- Maps to integers as objects. `Data`, `Members`, `put`, `as_object` and their kin are the words of `serde_json` for its
+-- `Value`.
+use Rattle.std.specs.Prelude.{◌≡◌, ℤ, List, [], ◌∷◌, ◌⊎◌, Option, Some, None, MatchOption, option_and_then, if◌then◌else◌}
+use Rattle.std.specs.Option.{option_map, option_or}
+use Rattle.std.specs.Str.{bytes_eq}
+use Rattle.serde_json.specs.Data.{Data, object, number, Members, no_members, member, put}
+use Rattle.serde_json.specs.Find.{as_i64, as_number, as_object, of_integer}
+use Rattle.starlark_hash.specs.Entries.{Entry}
+use Rattle.starlark_map.specs.JsonTexts.{Text, own_text}
+use Rattle.starlark_map.specs.declared.json.fault.JsonFault.{JsonFault}
+use Rattle.starlark_map.specs.declared.json.fault.JsonFault.TheVariants.{NotObject, NotInteger, Memory}
+
+-- the entries of a map to integers, their keys as texts
+abbrev pub Entries : Type 0
+Entries = List (Entry Text ℤ)
+
+-- the members once these keys and values were put in, one after the other: a key that comes again takes the later value
+abbrev pub put_all : Members → List (Text × ℤ) → Members
+put_all ms [] = ms
+put_all ms (p ∷ ps) = put_all (put p.0 (number (of_integer p.1)) ms) ps
+
+-- the object of these keys and values
+abbrev pub object_of : List (Text × ℤ) → Data
+object_of ps = object (put_all no_members ps)
+
+-- the value at the last place of a key
+abbrev pub last_value : List (Text × ℤ) → Text → Option ℤ
+last_value [] key = None
+last_value (p ∷ ps) key = option_or (last_value ps key) (if bytes_eq key p.0 then Some p.1 else None)
+
+-- the integer from -2^63 to 2^63 - 1 that a value is; none of a float
+abbrev pub integer_of : Data → Option ℤ
+integer_of d = option_and_then as_i64 (as_number d)
+
+-- the members in order, each key under its own hash with its integer; none where a value is no integer
+abbrev pub entries_of : Members → Option Entries
+entries_of no_members = Some []
+entries_of (member key d ms) = option_and_then (λ n. option_map (λ es. (own_text key, n) ∷ es) (entries_of ms)) (integer_of d)
+
+-- the entries of the map that a value is: those of an object's members, in order
+abbrev pub map_entries : Data → Option Entries
+map_entries d = option_and_then entries_of (as_object d)
+
+-- how reading these members may fail: the first value that is no integer is at fault, and memory may be refused at one
+-- before it
+abbrev pub IsMemberFault : Members → JsonFault → Type 0
+IsMemberFault no_members fault = ⊥
+IsMemberFault (member key d ms) fault = MatchOption (integer_of d) (fault ≡ NotInteger) (λ n. (fault ≡ Memory) ⊎ IsMemberFault ms fault)
+
+-- how reading this value as a map may fail: it is no object, or reading its members fails
+abbrev pub IsMapFault : Data → JsonFault → Type 0
+IsMapFault d fault = MatchOption (as_object d) (fault ≡ NotObject) (λ ms. IsMemberFault ms fault)

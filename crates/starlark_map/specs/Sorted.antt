@@ -1,0 +1,35 @@
+-- Lists of entries that ascend by their keys, and the maps that have them.
+use Rattle.std.specs.Prelude.{◌≡◌, Bool, false, List, [], ◌∷◌, Option, All, AllPairs, ⊤}
+use Rattle.std.specs.Hash.{HashWrites}
+use Rattle.std.specs.Iterator.{Count}
+use Rattle.std.specs.Ordering.{is_gt}
+use Rattle.std.specs.declared.cmp.Ordering.{Ordering}
+use Rattle.std.specs.declared.cmp.Ordering.TheVariants.{Less}
+use Rattle.starlark_hash.specs.Entries.{Entry, entry_hash, entry_key}
+use Rattle.starlark_hash.specs.Hasher.{own_hash}
+use Rattle.starlark_hash.specs.Sorting.{sorted_by_key}
+use Rattle.starlark_small.specs.Collect.{Collects}
+use Rattle.starlark_small.specs.Map.{KeepsMemory, Map}
+
+-- along the list no item is greater than one after it
+abbrev pub AscendsAlong : {X : Type 0} → (X → X → Ordering) → List X → Type 0
+AscendsAlong cmp [] = ⊤
+AscendsAlong cmp (x ∷ xs) = All (λ y. is_gt (cmp x y) ≡ false) xs × AscendsAlong cmp xs
+
+module _ {K V : Type 0} where
+  -- each entry stands under its key's own hash, where `feeds` tells what a key feeds
+  abbrev pub AreOwn : (K → HashWrites) → List (Entry K V) → Type 0
+  AreOwn feeds es = All (λ e. entry_hash e ≡ own_hash feeds (entry_key e)) es
+
+  -- each key is less than every key after it
+  abbrev pub AscendsStrictly : (K → K → Ordering) → List (Entry K V) → Type 0
+  AscendsStrictly cmp es = AllPairs (λ d e. cmp (entry_key d) (entry_key e) ≡ Less) es
+
+  -- the map m has the entries of `source`, sorted by key; no room is lost, and capacity and index are those of `source`
+  abbrev pub IsSortedOf : (K → K → Ordering) → Map K V → Map K V → Type 0
+  IsSortedOf cmp source m = (m.entries ≡ sorted_by_key cmp source.entries) × KeepsMemory source m
+
+module _ {K V T A : Type 0} (eq : K → K → Bool) (cmp : K → K → Ordering) (item : A → Entry K V) (steps : T → Option A → T → Type 0) where
+  -- the map has, sorted by key, the entries of one that `Collects` the iterator's items
+  abbrev pub CollectsSorted : {U : Type 0} → (U → T → Type 0) → (T → Count) → U → Map K V → Type 0
+  CollectsSorted becomes remaining iter m = (source : Map K V) × Collects eq item steps becomes remaining iter source × IsSortedOf cmp source m

@@ -1,0 +1,24 @@
+-- The memory of a map that is made of a list's entries, with room for no more of them at first than there are.
+use Rattle.std.proofs.Common.{◌≡◌, ℕ, ◌*◌, ◌≤◌, max, ◌||◌, List, [], length, ap, ◌∙◌, arith}
+use Rattle.std.specs.Prelude.{nat_lt}
+use Rattle.std.proofs.lemmas.Bool.Decides.{nat_tests}
+use Rattle.starlark_hash.specs.Entries.{Entry}
+use Rattle.starlark_small.specs.Growth.{stepped_capacity}
+use Rattle.starlark_small.specs.Index.{unindexed}
+use Rattle.starlark_small.specs.Map.{Map}
+use Rattle.starlark_small.proofs.Growing.{stepped_bounds}
+
+or_longer : (bound first len : ℕ) → first ≤ len → (nat_lt bound first || nat_lt bound len) ≡ nat_lt bound len
+or_longer bound first len below = grind (arith, nat_tests)
+
+module _ {K V : Type 0} where
+  -- no entry, and room for so many
+  abbrev pub emptied : Map K V → ℕ → Map K V
+  emptied m first = record m { entries = []; capacity = first }
+
+  module _ (m : Map K V) (es : List (Entry K V)) (first : ℕ) (same : m.entries ≡ es) (below : first ≤ length es) where
+    pub capacity_anew : m.capacity ≡ stepped_capacity (emptied m first) m → m.capacity ≤ max 4 (2 * length es)
+    capacity_anew is = omega (arith, below, ap length same, is, (stepped_bounds (emptied m first) m (omega arith)).1)
+
+    pub indexed_anew : m.indexed ≡ (nat_lt unindexed first || nat_lt unindexed (length m.entries)) → m.indexed ≡ nat_lt unindexed (length es)
+    indexed_anew is = is ∙ ap (λ l. nat_lt unindexed first || nat_lt unindexed (length l)) same ∙ or_longer unindexed first (length es) below

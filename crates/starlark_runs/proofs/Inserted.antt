@@ -1,0 +1,52 @@
+-- Keys and room after an insertion.
+use Rattle.std.proofs.Common.{◌≡◌, ℕ, zero, suc, ◌+◌, ◌≤◌, ◌<◌, Bool, List, [], ◌∷◌, ◌++◌, length, Option, None, Some, IsSome, is_some, Result, Ok, Err, IfOk, IsOk, IsErr, OnOk, OnErr, MatchResult, refl, sym, ap, subst, ◌∙◌, arith}
+use Rattle.std.specs.Map.{keys_of}
+use Rattle.std.specs.Option.{option_map_or}
+use Rattle.std.proofs.lemmas.Bool.{false≢true}
+use Rattle.starlark_hash.specs.declared.hashed.Hashed.{Hashed}
+use Rattle.starlark_hash.specs.Entries.{Entry, set_value_at}
+use Rattle.starlark_hash.specs.Insertion.{insert_entry}
+use Rattle.starlark_small.specs.Inserted.{LeavesMemory}
+use Rattle.starlark_small.specs.Map.{Map}
+use Rattle.starlark_small.proofs.Inserting.{length_insert_le}
+
+module _ {K V : Type 0} where
+  keys_of-set_value_at : (es : List (Entry K V)) (i : ℕ) (value : V) → keys_of (set_value_at es i value) ≡ keys_of es
+  keys_of-set_value_at [] i value = refl
+  keys_of-set_value_at (e ∷ es) zero value = refl
+  keys_of-set_value_at (e ∷ es) (suc i) value = ap (λ keys. e.0 ∷ keys) (keys_of-set_value_at es i value)
+
+  -- what replaces a value at some place keeps the keys
+  pub keys_of-placed : (es : List (Entry K V)) (key : Hashed K) (value : V) (place : Option ℕ) → IsSome place
+      → keys_of (option_map_or (λ i. set_value_at es i value) place (es ++ (key, value) ∷ [])) ≡ keys_of es
+  keys_of-placed es key value None there = absurd (false≢true there)
+  keys_of-placed es key value (Some i) there = keys_of-set_value_at es i value
+
+  -- and so does a call that does so, or is refused where there is no place
+  pub keys_of-inserted : {T E : Type 0} (es fs : List (Entry K V)) (key : Hashed K) (value : V) (place : Option ℕ) (r : Result T E)
+      → OnOk r (fs ≡ option_map_or (λ i. set_value_at es i value) place (es ++ (key, value) ∷ [])) → OnErr r (place ≡ None) → IsSome place → keys_of fs ≡ keys_of es
+  keys_of-inserted es fs key value place (Ok t) put absent there = ap keys_of put ∙ keys_of-placed es key value place there
+  keys_of-inserted es fs key value place (Err e) put absent there = absurd (false≢true (sym (ap is_some absent) ∙ there))
+
+  -- the map was made, and has room for so many new entries
+  abbrev pub HasRoom : {E : Type 0} → ℕ → Result (Map K V) E → Type 0
+  HasRoom n r = MatchResult r (λ m. n ≤ m.room) (λ _. ⊥)
+
+  -- an insertion into a map with room is not refused, and takes at most one place of it
+  pub HasRoom-inserted : {E : Type 0} (eq : K → K → Bool) (key : Hashed K) (value : V) (n : ℕ) (r s : Result (Map K V) E) → HasRoom (n + 1) r
+      → MatchResult r (λ old. IfOk s (λ new. new.entries ≡ insert_entry eq old.entries key value)) (λ _. IsErr s)
+      → IfOk r (λ old. 0 < old.room → IsOk s) → IfOk r (λ old. IfOk s (LeavesMemory eq old key)) → HasRoom n s
+  HasRoom-inserted eq key value n (Err e) s room put done kept = absurd room
+  HasRoom-inserted eq key value n (Ok old) (Err e) room put done kept = absurd (false≢true (done (omega (arith, room))))
+  HasRoom-inserted eq key value n (Ok old) (Ok new) room put done kept = omega (arith, room, kept.room, ap length put, length_insert_le eq old.entries key value)
+
+  -- the entries of a map that was made of these by an insertion, if both were done
+  pub entries-inserted : {E : Type 0} (eq : K → K → Bool) (es : List (Entry K V)) (key : Hashed K) (value : V) (r s : Result (Map K V) E) → IfOk r (λ m. m.entries ≡ es)
+      → MatchResult r (λ old. IfOk s (λ new. new.entries ≡ insert_entry eq old.entries key value)) (λ _. IsErr s) → IfOk s (λ m. m.entries ≡ insert_entry eq es key value)
+  entries-inserted eq es key value r (Err e) were put = tt
+  entries-inserted eq es key value (Ok old) (Ok new) were put = subst (λ (ds : List (Entry K V)). new.entries ≡ insert_entry eq ds key value) were put
+  entries-inserted eq es key value (Err e) (Ok new) were put = absurd (false≢true put)
+
+  pub IsOk-HasRoom : {E : Type 0} (n : ℕ) (r : Result (Map K V) E) → HasRoom n r → IsOk r
+  IsOk-HasRoom n (Ok m) room = refl
+  IsOk-HasRoom n (Err e) room = absurd room

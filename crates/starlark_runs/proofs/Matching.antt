@@ -1,0 +1,50 @@
+-- The equality of lists of entries, and the matches of each entry.
+use Rattle.std.proofs.Common.{◌≡◌, ◌↔◌, Bool, true, false, List, length, get_or, Option, Some, None, refl, sym, subst, ◌∙◌, inl, inr, arith}
+use Rattle.std.specs.Prelude.{IsSomeAnd, IsTrue}
+use Rattle.std.specs.Option.{option_eq}
+use Rattle.std.proofs.lemmas.Bool.{eqb-true, false≢true}
+use Rattle.std.proofs.lemmas.Option.{slice_get-get_or, slice_get_cases}
+use Rattle.core.specs.Cmp.{IsEquivalence}
+use Rattle.starlark_hash.specs.Entries.{Entry, IsSingle, match_of, value_at}
+use Rattle.starlark_small.specs.Compare.{agree_at, same_entries}
+use Rattle.starlark_small.specs.EqualityLaws.{as_long}
+use Rattle.starlark_small.proofs.SameEntries.{own_match, own_key, unequal_at, equal_by_keys_of}
+use Rattle.starlark_runs.specs.Matches.{HasMatch, HasMatches}
+
+module _ {V : Type 0} (E : V → V → Bool) (x : V) where
+  shown_equal : (o : Option V) → option_eq E (Some x) o ≡ true → IsSomeAnd o (λ value. IsTrue (E x value))
+  shown_equal None same = absurd (false≢true same)
+  shown_equal (Some value) same = same
+
+  equal_shown : (o : Option V) → IsSomeAnd o (λ value. IsTrue (E x value)) → option_eq E (Some x) o ≡ true
+  equal_shown None shown = absurd shown
+  equal_shown (Some value) shown = shown
+
+not_false : (b : Bool) → (b ≡ false → ⊥) → b ≡ true
+not_false true f = refl
+not_false false f = absurd (f refl)
+
+module _ {K V : Type 0} (eq : K → K → Bool) (E : V → V → Bool) (o : IsEquivalence eq) (ds es : List (Entry K V)) (left : IsSingle eq ds) (right : IsSingle eq es) where
+  matches_of_equal : same_entries eq E ds es ≡ true → HasMatches eq E ds es
+  matches_of_equal same = (
+    eqb-true (length ds) (length es) (as_long eq E ds es same),
+    λ k d below.
+        let e : Entry K V = get_or ds k d in
+        let mine = own_match eq o ds k e (slice_get-get_or ds k d below) left below in
+        let agree : agree_at eq E ds es e.0 ≡ true = not_false _ (λ differ. false≢true (unequal_at eq E o ds es e.0 differ ∙ same)) in
+        shown_equal E e.1 (value_at es (match_of eq es e.0)) (subst (λ v. option_eq E v (value_at es (match_of eq es e.0)) ≡ true) mine agree),
+  )
+
+  equal_of_matches : HasMatches eq E ds es → same_entries eq E ds es ≡ true
+  equal_of_matches found =
+      sym (equal_by_keys_of eq E o ds es left right found.0 (λ k below d. elim (slice_get_cases ds k).1 [
+        | inl there ↦
+            let e = there.0 in
+            subst (λ q. agree_at eq E ds es q ≡ true) (sym (own_key eq o ds k e there.2 d))
+            (subst (λ v. option_eq E v (value_at es (match_of eq es e.0)) ≡ true) (sym (own_match eq o ds k e there.2 left below))
+            (equal_shown E e.1 (value_at es (match_of eq es e.0)) (subst (λ x. HasMatch eq E es x) there.3 (found.1 k e below))))
+        | inr past ↦ absurd (omega (arith, past.0, below))
+      ]))
+
+  pub equal_iff_matches : IsTrue (same_entries eq E ds es) ↔ HasMatches eq E ds es
+  equal_iff_matches = (matches_of_equal, equal_of_matches)

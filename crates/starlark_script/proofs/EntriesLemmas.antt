@@ -1,0 +1,132 @@
+-- Entries whose keys are seen as bytes: the words on entries say the same of them.
+use Rattle.std.proofs.Common.{◌≡◌, ℕ, zero, suc, ◌-◌, Bool, ℤ, List, [], ◌∷◌, ◌++◌, length, Option, Some, None, refl, sym, ap, ◌∙◌}
+use Rattle.std.specs.Prelude.{remove, reverse, slice_get, string_bytes}
+use Rattle.std.specs.Option.{option_map, option_map_or}
+use Rattle.std.specs.Str.{bytes_eq}
+use Rattle.std.specs.String.{string_cmp}
+use Rattle.std.specs.declared.string.String.{String}
+use Rattle.std.specs.declared.alloc.Global.{Global}
+use Rattle.std.proofs.lemmas.List.{length-map}
+use Rattle.std.proofs.lemmas.Option.{slice_get-map, none-some}
+use Rattle.starlark_hash.specs.declared.hashed.Hashed.{Hashed}
+use Rattle.starlark_hash.specs.declared.hash_value.StarlarkHashValue.{StarlarkHashValue}
+use Rattle.starlark_hash.specs.Entries.{Entry, entry_value, pair_of, entry_at, position_of, value_at, set_value_at, match_of, with_value, without}
+use Rattle.starlark_hash.specs.Insertion.{insert_entry}
+use Rattle.starlark_hash.specs.HashValue.{hashed, hash_of, key_of}
+use Rattle.starlark_hash.specs.Sorting.{Ascends, key_lt, sorted_by_key}
+use Rattle.starlark_script.specs.Line.{Key}
+use Rattle.starlark_script.specs.Replies.{bytes_cmp}
+use Rattle.starlark_script.specs.ShownEntries.{shown_entry, entries_of}
+use Rattle.starlark_script.proofs.Images.{position-map, remove-map, reverse-map, sorted_by-map, ascends-map}
+
+-- a search by bytes finds the same place
+pub position_of-entries_of : (es : List (Entry (String Global) ℤ)) (hash : StarlarkHashValue) (passes : List ℕ → Bool)
+    → position_of hash passes (entries_of es) ≡ position_of hash (λ key. passes (string_bytes key)) es
+position_of-entries_of es hash passes = position-map shown_entry _ es
+
+-- and the same value there
+pub value_at-entries_of : (es : List (Entry (String Global) ℤ)) (place : Option ℕ) → value_at (entries_of es) place ≡ value_at es place
+value_at-entries_of es None = refl
+value_at-entries_of es (Some i) = ap (option_map entry_value) (slice_get-map shown_entry es i) ∙ same (slice_get es i)
+  where
+    same : (o : Option (Entry (String Global) ℤ)) → option_map entry_value (option_map shown_entry o) ≡ option_map entry_value o
+    same None = refl
+    same (Some e) = refl
+
+-- the value under a string is the one under its bytes
+pub value-entries_of : (es : List (Entry (String Global) ℤ)) (hash : StarlarkHashValue) (bytes : List ℕ)
+    → value_at es (position_of hash (λ key. bytes_eq bytes (string_bytes key)) es) ≡ value_at (entries_of es) (position_of hash (bytes_eq bytes) (entries_of es))
+value-entries_of es hash bytes =
+    sym (ap (value_at (entries_of es)) (position_of-entries_of es hash (bytes_eq bytes)) ∙ value_at-entries_of es (position_of hash (λ key. bytes_eq bytes (string_bytes key)) es))
+
+set_value_at-entries_of : (es : List (Entry (String Global) ℤ)) (i : ℕ) (value : ℤ) → set_value_at (entries_of es) i value ≡ entries_of (set_value_at es i value)
+set_value_at-entries_of [] i value = refl
+set_value_at-entries_of (e ∷ es) zero value = refl
+set_value_at-entries_of (e ∷ es) (suc i) value = ap (λ more. shown_entry e ∷ more) (set_value_at-entries_of es i value)
+
+entries_of-push : (es : List (Entry (String Global) ℤ)) (e : Entry (String Global) ℤ) → entries_of (es ++ e ∷ []) ≡ entries_of es ++ shown_entry e ∷ []
+entries_of-push [] e = refl
+entries_of-push (d ∷ es) e = ap (λ more. shown_entry d ∷ more) (entries_of-push es e)
+
+-- an insertion by bytes is an insertion of the string with these bytes
+pub insert_entry-entries_of : (es : List (Entry (String Global) ℤ)) (key : Hashed (String Global)) (value : ℤ)
+    → insert_entry bytes_eq (entries_of es) (hashed (hash_of key) (string_bytes (key_of key))) value ≡ entries_of (insert_entry (λ a b. bytes_eq (string_bytes a) (string_bytes b)) es key value)
+insert_entry-entries_of es key value =
+    ap (λ place. option_map_or (λ i. set_value_at (entries_of es) i value) place (entries_of es ++ shown_entry (key, value) ∷ [])) (position_of-entries_of es (hash_of key) (bytes_eq (string_bytes (key_of key))))
+    ∙ by (match_of (λ a b. bytes_eq (string_bytes a) (string_bytes b)) es key)
+  where
+    by : (place : Option ℕ)
+        → option_map_or (λ i. set_value_at (entries_of es) i value) place (entries_of es ++ shown_entry (key, value) ∷ [])
+        ≡ entries_of (option_map_or (λ i. set_value_at es i value) place (es ++ (key, value) ∷ []))
+    by None = sym (entries_of-push es (key, value))
+    by (Some i) = set_value_at-entries_of es i value
+
+-- the same of a key that is shown so
+pub inserted : (es new : List (Entry (String Global) ℤ)) (key : Hashed (String Global)) (shown : Key) (value : ℤ)
+    → new ≡ insert_entry (λ a b. bytes_eq (string_bytes a) (string_bytes b)) es key value → hash_of key ≡ hash_of shown → string_bytes (key_of key) ≡ key_of shown
+    → entries_of new ≡ insert_entry bytes_eq (entries_of es) shown value
+inserted es new key shown value e h k =
+    ap entries_of e ∙ sym (insert_entry-entries_of es key value)
+    ∙ ap (λ hash. insert_entry bytes_eq (entries_of es) (hashed hash (string_bytes (key_of key))) value) h
+    ∙ ap (λ text. insert_entry bytes_eq (entries_of es) (hashed (hash_of shown) text) value) k
+
+pub found : (es : List (Entry (String Global) ℤ)) (key : Hashed (String Global)) (shown : Key) → hash_of key ≡ hash_of shown → string_bytes (key_of key) ≡ key_of shown
+    → value_at es (match_of (λ a b. bytes_eq (string_bytes a) (string_bytes b)) es key) ≡ value_at (entries_of es) (match_of bytes_eq (entries_of es) shown)
+found es key shown h k =
+    value-entries_of es (hash_of key) (string_bytes (key_of key))
+    ∙ ap (λ hash. value_at (entries_of es) (position_of hash (bytes_eq (string_bytes (key_of key))) (entries_of es))) h
+    ∙ ap (λ text. value_at (entries_of es) (position_of (hash_of shown) (bytes_eq text) (entries_of es))) k
+
+-- a value is written by bytes under the string with these bytes, where there is one
+pub written : (es : List (Entry (String Global) ℤ)) (hash : StarlarkHashValue) (bytes : List ℕ) (old value : ℤ)
+    → Some old ≡ value_at es (position_of hash (λ key. bytes_eq bytes (string_bytes key)) es)
+    → entries_of (with_value es (position_of hash (λ key. bytes_eq bytes (string_bytes key)) es) value) ≡ insert_entry bytes_eq (entries_of es) (hashed hash bytes) value
+written es hash bytes old value h =
+    by (position_of hash (λ key. bytes_eq bytes (string_bytes key)) es) h
+    ∙ sym (ap (λ place. option_map_or (λ i. set_value_at (entries_of es) i value) place (entries_of es ++ (hashed hash bytes, value) ∷ [])) (position_of-entries_of es hash (bytes_eq bytes)))
+  where
+    by : (place : Option ℕ) → Some old ≡ value_at es place
+        → entries_of (with_value es place value) ≡ option_map_or (λ i. set_value_at (entries_of es) i value) place (entries_of es ++ (hashed hash bytes, value) ∷ [])
+    by None e = absurd (none-some old (sym e))
+    by (Some i) e = sym (set_value_at-entries_of es i value)
+
+-- no string with these bytes, no such bytes
+pub lacking : (es : List (Entry (String Global) ℤ)) (hash : StarlarkHashValue) (bytes : List ℕ)
+    → position_of hash (λ key. bytes_eq bytes (string_bytes key)) es ≡ None → position_of hash (bytes_eq bytes) (entries_of es) ≡ None
+lacking es hash bytes h = position_of-entries_of es hash (bytes_eq bytes) ∙ h
+
+-- a removal by bytes removes the string with these bytes
+pub removed : (es new : List (Entry (String Global) ℤ)) (hash : StarlarkHashValue) (bytes : List ℕ)
+    → new ≡ without es (position_of hash (λ key. bytes_eq bytes (string_bytes key)) es)
+    → entries_of new ≡ without (entries_of es) (position_of hash (bytes_eq bytes) (entries_of es))
+removed es new hash bytes e =
+    ap entries_of e ∙ sym (ap (without (entries_of es)) (position_of-entries_of es hash (bytes_eq bytes)) ∙ by (position_of hash (λ key. bytes_eq bytes (string_bytes key)) es))
+  where
+    by : (place : Option ℕ) → without (entries_of es) place ≡ entries_of (without es place)
+    by None = refl
+    by (Some i) = remove-map shown_entry es i
+
+-- and takes the value under these bytes
+pub taken_value : (es : List (Entry (String Global) ℤ)) (hash : StarlarkHashValue) (bytes : List ℕ) (taken : Option (String Global × ℤ))
+    → taken ≡ option_map pair_of (entry_at es (position_of hash (λ key. bytes_eq bytes (string_bytes key)) es))
+    → option_map (λ p. p.1) taken ≡ value_at (entries_of es) (position_of hash (bytes_eq bytes) (entries_of es))
+taken_value es hash bytes taken h =
+    ap (option_map (λ p. p.1)) h ∙ by (entry_at es (position_of hash (λ key. bytes_eq bytes (string_bytes key)) es)) ∙ value-entries_of es hash bytes
+  where
+    by : (e : Option (Entry (String Global) ℤ)) → option_map (λ p. p.1) (option_map pair_of e) ≡ option_map entry_value e
+    by None = refl
+    by (Some e) = refl
+
+-- without the last entry
+pub popped : (es new : List (Entry (String Global) ℤ)) → new ≡ remove es (length es - 1) → entries_of new ≡ remove (entries_of es) (length (entries_of es) - 1)
+popped es new e = ap entries_of e ∙ sym (remove-map shown_entry es (length es - 1)) ∙ ap (λ n. remove (entries_of es) (n - 1)) (sym (length-map es shown_entry))
+
+pub reversed : (es new : List (Entry (String Global) ℤ)) → new ≡ reverse es → entries_of new ≡ reverse (entries_of es)
+reversed es new e = ap entries_of e ∙ sym (reverse-map shown_entry es)
+
+-- a sort by bytes is a sort of the strings
+pub sorted : (es new : List (Entry (String Global) ℤ)) → new ≡ sorted_by_key string_cmp es → entries_of new ≡ sorted_by_key bytes_cmp (entries_of es)
+sorted es new e = ap entries_of e ∙ sym (sorted_by-map shown_entry (key_lt bytes_cmp) es)
+
+pub ascends : (es : List (Entry (String Global) ℤ)) → Ascends bytes_cmp (entries_of es) → Ascends string_cmp es
+ascends es h = ascends-map shown_entry (key_lt bytes_cmp) es h

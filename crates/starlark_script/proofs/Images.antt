@@ -1,0 +1,51 @@
+-- Lists of images: an edit of the images is the image of the edit.
+use Rattle.std.proofs.Common.{◌≡◌, ℕ, suc, ◌+◌, ◌<◌, Bool, true, false, cond, List, [], ◌∷◌, ◌++◌, length, take, drop, Some, None, refl, sym, ap, ◌∙◌}
+use Rattle.std.specs.Prelude.{position, map, remove, reverse, nat_lt, not}
+use Rattle.std.specs.List.{position_or_len}
+use Rattle.std.specs.List.Sorted.{IsSortedBy}
+use mathlib.Core.List.{reverse_aux}
+use Rattle.std.proofs.Math.ListN.{get_or-map}
+use Rattle.std.proofs.lemmas.List.{length-map, take-map, drop-map, map-append}
+use Rattle.starlark_hash.specs.Sorting.{insert_sorted, sorted_by}
+
+module _ {A B : Type 0} (f : A → B) where
+  position_or_len-map : (p : B → Bool) (xs : List A) → position_or_len p (map f xs) ≡ position_or_len (λ x. p (f x)) xs
+  position_or_len-map p [] = refl
+  position_or_len-map p (x ∷ xs) = ap (λ n. cond (not (p (f x))) (1 + n) 0) (position_or_len-map p xs)
+
+  pub position-map : (p : B → Bool) (xs : List A) → position p (map f xs) ≡ position (λ x. p (f x)) xs
+  position-map p xs =
+      ap (λ n. cond (nat_lt n (length (map f xs))) (Some n) None) (position_or_len-map p xs)
+      ∙ ap (λ n. cond (nat_lt (position_or_len (λ x. p (f x)) xs) n) (Some (position_or_len (λ x. p (f x)) xs)) None) (length-map xs f)
+
+  pub remove-map : (xs : List A) (i : ℕ) → remove (map f xs) i ≡ map f (remove xs i)
+  remove-map xs i =
+      ap (λ ys. ys ++ drop (suc i) (map f xs)) (take-map f i xs) ∙ ap (λ ys. map f (take i xs) ++ ys) (drop-map f (suc i) xs)
+      ∙ sym (map-append f (take i xs) (drop (suc i) xs))
+
+  reverse_aux-map : (xs acc : List A) → reverse_aux (map f xs) (map f acc) ≡ map f (reverse_aux xs acc)
+  reverse_aux-map [] acc = refl
+  reverse_aux-map (x ∷ xs) acc = reverse_aux-map xs (x ∷ acc)
+
+  pub reverse-map : (xs : List A) → reverse (map f xs) ≡ map f (reverse xs)
+  reverse-map xs = reverse_aux-map xs []
+
+  cond-map : (b : Bool) (xs ys : List A) → cond b (map f xs) (map f ys) ≡ map f (cond b xs ys)
+  cond-map true xs ys = refl
+  cond-map false xs ys = refl
+
+  insert_sorted-map : (lt : B → B → Bool) (x : A) (ys : List A) → insert_sorted lt (f x) (map f ys) ≡ map f (insert_sorted (λ a b. lt (f a) (f b)) x ys)
+  insert_sorted-map lt x [] = refl
+  insert_sorted-map lt x (y ∷ ys) =
+      ap (λ zs. cond (lt (f y) (f x)) (f y ∷ zs) (f x ∷ f y ∷ map f ys)) (insert_sorted-map lt x ys)
+      ∙ cond-map (lt (f y) (f x)) (y ∷ insert_sorted (λ a b. lt (f a) (f b)) x ys) (x ∷ y ∷ ys)
+
+  pub sorted_by-map : (lt : B → B → Bool) (xs : List A) → sorted_by lt (map f xs) ≡ map f (sorted_by (λ a b. lt (f a) (f b)) xs)
+  sorted_by-map lt [] = refl
+  sorted_by-map lt (x ∷ xs) = ap (insert_sorted lt (f x)) (sorted_by-map lt xs) ∙ insert_sorted-map lt x (sorted_by (λ a b. lt (f a) (f b)) xs)
+
+  -- the images ascend only where the items do
+  pub ascends-map : (lt : B → B → Bool) (xs : List A) → IsSortedBy lt (map f xs) → IsSortedBy (λ a b. lt (f a) (f b)) xs
+  ascends-map lt xs h = λ k d low high.
+      let within : k + 1 < length (map f xs) = rw (length-map xs f) high in
+      rw (get_or-map f xs (k + 1) d, get_or-map f xs k d) at (h k (f d) low within)

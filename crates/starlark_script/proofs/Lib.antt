@@ -1,0 +1,11 @@
+pub mod Breaks
+pub mod Windows
+pub mod Numbers
+pub mod FieldFacts
+pub mod OneReading
+pub mod Writes
+pub mod LineFacts
+pub mod Going
+pub mod Images
+pub mod EntriesLemmas
+pub mod Results

@@ -1,0 +1,5 @@
+use Rattle.starlark_script.proofs.OneReading.{one-reading}
+use Rattle.starlark_script.proofs.line.texts_are_of_one.Goals as goal
+
+pub returns : goal.returns
+returns c = one-reading

@@ -1,0 +1,10 @@
+pub mod Numbers
+pub mod Line
+pub mod Fault
+pub mod Found
+pub mod Shown
+pub mod Lines
+pub mod Memory
+pub mod Replies
+pub mod Script
+pub mod ShownEntries
