@@ -4,8 +4,9 @@
     docs/pages.py write    writes docs/words.md, from the comments of specs/, and docs/calls.md, from those of src/
     docs/pages.py check    says where a page is not what the sources say: a written page that is out of date; a public word
                            of specs/ or a public function with no comment; a name, a clause, a file, a target of make or a
-                           link that is not there; a changelog that does not begin with VERSION;
-                           where crates/tests_memory/calls.txt is not the list of the calls that may be refused
+                           link that is not there; lines that are quoted from a file where they do not stand; a changelog
+                           that does not begin with VERSION; where crates/tests_memory/calls.txt is not the list of the
+                           calls that may be refused
 """
 import re
 import subprocess
@@ -217,7 +218,22 @@ def faults():
     if not newest or newest.group(1) != version:
         yield f"CHANGELOG.md does not begin with {version}, as VERSION has it"
     yield from faults_of_names()
+    yield from faults_of_quotes()
     yield from faults_of_refusals()
+
+
+def faults_of_quotes():
+    """Quotes are code blocks that name a file beside their language. Their lines stand there one below the other, at whatever depth."""
+    def cut(lines):
+        depth = min((indent(line) for line in lines if line.strip()), default=0)
+        return [line[depth:].rstrip() for line in lines]
+
+    for page in tracked("*.md"):
+        for name, text in re.findall(r"^```\w+ (\S+)\n(.*?)^```$", page.read_text(), re.M | re.S):
+            quoted, path = cut(text.splitlines()), TOP / name
+            source = path.read_text().splitlines() if path.is_file() else []
+            if not any(cut(source[i : i + len(quoted)]) == quoted for i in range(len(source))):
+                yield f"{page.relative_to(TOP)}: {name} has no such lines: {quoted[0]}"
 
 
 def faults_of_names():
