@@ -59,9 +59,9 @@ fn gives_the_key_back(rt: HostRuntime) -> Result<(), Fail> {
 #[test]
 fn leaves_the_map_when_let_go(rt: HostRuntime) -> Result<(), Fail> {
     let mut map = map_of(rt.alloc(), [(1, 2)])?;
-    let _occupied = map.entry(1);
-    let _vacant = map.entry(7);
-    let _raw = map.raw_entry_mut().from_key(&1u64);
+    drop(map.entry(1));
+    drop(map.entry(7));
+    drop(map.raw_entry_mut().from_key(&1u64));
     holds(&rt, shows(&map, &[(1, 2)]));
     Ok(())
 }

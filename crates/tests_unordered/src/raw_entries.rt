@@ -9,14 +9,14 @@ use std::test::Fail;
 fn finds_by_hash_and_closure(rt: HostRuntime) -> Result<(), Fail> {
     let mut map = map_of(rt.alloc(), [(1, 2), (3, 4)])?;
     let mut calls = 0u32;
-    let found = map
+    match map
         .raw_entry_mut()
         .from_hash(StarlarkHashValue::new(&3u64), |key| {
             calls = calls.wrapping_add(1);
             *key == 3
-        });
-    if let RawEntryMut::Occupied(entry) = found {
-        same(&rt, entry.remove_entry(), (3, 4));
+        }) {
+        RawEntryMut::Occupied(entry) => same(&rt, entry.remove_entry(), (3, 4)),
+        RawEntryMut::Vacant(_entry) => return Err("lost".into()),
     }
     same(&rt, calls, 1);
     holds(&rt, shows(&map, &[(1, 2)]));
