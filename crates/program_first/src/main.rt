@@ -1,22 +1,25 @@
-//! A map that walks in the order of insertion, asked under a hash that was computed before.
+//! Counts names, in the order in which they first come.
 #![tactic(auto)]
 
+use starlark_map::Hashed;
 use starlark_map::small_map::SmallMap;
-use starlark_map::{Hashed, NoRoom};
 use std::io;
 
 fn main(rt: HostRuntime) -> io::Result<()> {
-    let mut slots = SmallMap::new(rt.alloc());
-    for (name, slot) in [("print", 7), ("len", 8), ("print", 9)] {
-        match slots.insert(name, slot) {
-            Ok(old) => println!(rt; "{name} was {old:?}")?,
-            Err(NoRoom((name, slot))) => println!(rt; "no memory to note {name} at {slot}")?,
+    let alloc = rt.alloc();
+    let mut counts: SmallMap<String, u32> = SmallMap::new(alloc);
+    for name in ["print", "len", "print"] {
+        match counts.get_mut(name) {
+            Some(count) => *count = count.saturating_add(1),
+            None => {
+                counts.insert(String::from_str(alloc, name)?, 1)?;
+            }
         }
     }
-    let len = Hashed::new("len"); // its hash is computed here, and nowhere below
-    println!(rt; "len is {:?}", slots.get_hashed(len.as_ref()))?;
-    for (name, slot) in &slots {
-        println!(rt; "{name}: {slot}")?;
+    for (name, count) in &counts {
+        println!(rt; "{name}: {count}")?;
     }
+    let print = Hashed::new("print"); // its hash is computed here, and in no look-up below
+    println!(rt; "{:?}", counts.get_hashed(print))?;
     Ok(())
 }

@@ -1,4 +1,3 @@
 pub mod Lending
 pub mod OrderedLending
 pub mod Pages
-pub mod Words

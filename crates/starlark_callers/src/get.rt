@@ -2,11 +2,12 @@
 ghost use Rattle.std.specs.Hash as fed;
 ghost use Rattle.std.specs.Option.{option_map, unwrap_or};
 ghost use Rattle.std.specs.Prelude.{◌≡◌, ◌≤◌, All, IfSome, is_some, map, nat_eq, sum, true};
+ghost use Rattle.std.specs.Str.{bytes_eq};
 ghost use Rattle.std.specs.String.{string_bytes, string_eq};
 ghost use Rattle.std.specs.declared.alloc.Global.{Global};
 ghost use Rattle.std.specs.declared.string.String.{String};
 ghost use Rattle.starlark_hash.specs.Entries.{entry_value};
-ghost use Rattle.starlark_small.specs.Calling.{contains, get, get_key, get_text};
+ghost use Rattle.starlark_small.specs.Calling.{contains, contains_text, get, get_key, get_text};
 
 use starlark_hash::{Hashed, TextKey};
 use starlark_map::sorted_set::SortedSet;
@@ -55,7 +56,23 @@ pub fn part_of_total(entries: &SmallMap<u32, u64>, key: u32) -> u64
 pub fn named(map: &SmallMap<String, u64>, name: &str) -> Option<u64>
     ensures { (s : String Global) → string_bytes s ≡ name.now → result ≡ get string_eq (λ s. fed.str (string_bytes s)) map.now s }
 {
-    map.get(&TextKey(name)).copied()
+    map.get(name).copied()
+}
+
+/// The values at a text in a map of strings and in one of borrowed texts. The text is hashed once.
+pub fn named_in_both(
+    owned: &SmallMap<String, u64>,
+    borrowed: &SmallMap<&str, u64>,
+    name: &str,
+) -> (Option<u64>, Option<u64>)
+    ensures owned { result.0 ≡ get_text owned.now name.now }
+    ensures borrowed { result.1 ≡ get (λ q k. bytes_eq q k.now) fed.str borrowed.now name.now }
+{
+    let query = Hashed::new(name);
+    (
+        owned.get_hashed(query).copied(),
+        borrowed.get_hashed(query).copied(),
+    )
 }
 
 /// The value at a key, within a bound that each value meets.
@@ -71,7 +88,7 @@ pub fn bounded<K: Eq + Hash>(entries: &OrderedMap<K, u64>, key: &K, most: u64) -
 pub fn lookup_text(map: &OrderedMap<String, u64>, key: &str) -> u64
     ensures { result ≡ unwrap_or (get_text map.now key.now) 0 }
 {
-    match map.get(&TextKey(key)) {
+    match map.get(key) {
         Some(value) => *value,
         None => 0,
     }
@@ -86,6 +103,13 @@ pub fn stored_element<T: Eq + Hash + Copy>(set: &SmallSet<T>, n: &T) -> Option<T
         Some(there) => Some(*there),
         None => None,
     }
+}
+
+/// Whether a set of strings has a text, by a `TextKey`.
+pub fn has_text(set: &SmallSet<String>, text: &str) -> bool
+    ensures { result ≡ contains_text set.now text.now }
+{
+    set.contains(&TextKey(text))
 }
 
 /// Whether a sorted set has an element.

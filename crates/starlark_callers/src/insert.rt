@@ -7,7 +7,7 @@ ghost use Rattle.std.specs.declared.alloc.Global.{Global};
 ghost use Rattle.std.specs.declared.string.String.{String};
 ghost use Rattle.starlark_small.specs.Calling.{AreOwn, contains, get};
 
-use starlark_hash::{Hashed, NoRoom, TextKey};
+use starlark_hash::{Hashed, NoRoom};
 use starlark_sets::OrderedMap;
 use starlark_small::SmallMap;
 use std::alloc::{AllocError, Global};
@@ -119,7 +119,7 @@ pub fn set_named(map: &mut SmallMap<String, u64>, name: &str, value: u64) -> boo
     ensures known { (s : String Global) → string_bytes s ≡ name.now → result ≡ is_some (get string_eq (λ s. fed.str (string_bytes s)) map.old s) }
     ensures here { result ≡ true → (s : String Global) → string_bytes s ≡ name.now → get string_eq (λ s. fed.str (string_bytes s)) map.new s ≡ Some value }
 {
-    match map.get_mut(&TextKey(name)) {
+    match map.get_mut(name) {
         Some(there) => {
             *there = value;
             true

@@ -1,6 +1,5 @@
 //! Small maps whose values hold small maps, by recursion.
 ghost use Rattle.std.specs.Prelude.{◌≡◌, [], IsTrue, true};
-ghost use Rattle.starlark_callers.specs.Words.{has_word};
 ghost use Rattle.starlark_callers.specs.declared.nested.Words.{out-Words};
 
 use starlark_small::SmallMap;
@@ -23,17 +22,4 @@ pub fn has_any(words: &Words) -> bool
         }
     }
     words.ends
-}
-
-/// Whether a word is there.
-pub fn has(words: &Words, word: &[u8]) -> bool
-    ensures { result ≡ has_word words.now word.now }
-{
-    match word {
-        [] => words.ends,
-        [first, rest @ ..] => match words.after.get(first) {
-            Some(next) => has(next, rest),
-            None => false,
-        },
-    }
 }

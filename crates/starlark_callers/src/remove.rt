@@ -9,7 +9,6 @@ ghost use Rattle.std.specs.declared.string.String.{String};
 ghost use Rattle.starlark_hash.specs.Entries.{entry_key, entry_value, pair_of};
 ghost use Rattle.starlark_small.specs.Calling.{AreOwn, contains, get};
 
-use starlark_hash::TextKey;
 use starlark_sets::OrderedMap;
 use starlark_small::SmallMap;
 use std::hash::Hash;
@@ -37,7 +36,7 @@ pub fn forget_named(map: &mut SmallMap<String, u64>, name: &str) -> Option<u64>
     ensures here { (s : String Global) → string_bytes s ≡ name.now → get string_eq (λ s. fed.str (string_bytes s)) map.new s ≡ None }
     ensures others { (s : String Global) → bytes_eq name.now (string_bytes s) ≡ false → get string_eq (λ s. fed.str (string_bytes s)) map.new s ≡ get string_eq (λ s. fed.str (string_bytes s)) map.old s }
 {
-    map.shift_remove(&TextKey(name))
+    map.shift_remove(name)
 }
 
 /// Takes the last entry out, and answers it.

@@ -10,7 +10,7 @@ ghost use Rattle.starlark_sets.specs.Retain.{CalledAtElement, TakesElement};
 ghost use Rattle.starlark_small.specs.Calling.{AreOwn, contains, contains_text};
 ghost use Rattle.starlark_small.specs.Map.{own_hashed};
 
-use starlark_hash::{NoRoom, TextKey};
+use starlark_hash::NoRoom;
 use starlark_sets::{OrderedSet, SmallSet};
 use std::alloc::{AllocError, Global};
 use std::hash::Hash;
@@ -54,7 +54,7 @@ pub fn keep_text(set: &mut SmallSet<String>, text: &str) -> Result<(), AllocErro
     ensures own { AreOwn (λ s. fed.str (string_bytes s)) set.old → AreOwn (λ s. fed.str (string_bytes s)) set.new }
     ensures absent { OnErr result (contains_text set.old text.now ≡ false) }
 {
-    set.get_or_insert_owned(&TextKey(text))?;
+    set.get_or_insert_owned(text)?;
     Ok(())
 }
 

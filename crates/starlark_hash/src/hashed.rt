@@ -6,7 +6,7 @@ ghost use Rattle.starlark_hash.specs.Hasher.{own_hash};
 ghost use Rattle.starlark_hash.specs.Lending.{lends_key};
 
 use crate::hash_value::StarlarkHashValue;
-use crate::key_query::ToOwnedKey;
+use crate::query::OwnedQuery;
 use std::alloc::{AllocError, Global};
 use std::hash::Hash;
 
@@ -82,6 +82,18 @@ impl<K> Hashed<K> {
     {
         Hashed::new_unchecked(self.hash, &self.key)
     }
+
+    /// A key that the query makes, under the same hash. It is refused only where `to_owned_key` is.
+    #[inline]
+    pub fn owned<T: Eq>(self, alloc: Global) -> Result<Hashed<T>, AllocError>
+    where
+        K: OwnedQuery<T>,
+        ensures hash { IfOk result (λ h. hash_of h ≡ hash_of self) }
+        ensures key { IfOk result (λ h. IsTrue (K.stands_for (key_of self) (key_of h))) }
+        ensures succeeds { K.OwnedQuery.is_infallible (key_of self) → IsOk result }
+    {
+        Ok(Hashed::new_unchecked(self.hash, self.key.to_owned_key(alloc)?))
+    }
 }
 
 impl<'a, K> Hashed<&'a K> {
@@ -105,17 +117,5 @@ impl<'a, K> Hashed<&'a K> {
         ensures succeeds { K.is_infallible (key_of self.entry).now → IsOk result }
     {
         Ok(Hashed::new_unchecked(self.hash, self.key.clone()?))
-    }
-
-    /// A key that the query makes, under the same hash. It is refused only where `to_owned_key` is.
-    #[inline]
-    pub fn owned<T: Eq>(self, alloc: Global) -> Result<Hashed<T>, AllocError>
-    where
-        K: ToOwnedKey<T>,
-        ensures hash { IfOk result (λ h. hash_of h ≡ hash_of self.entry) }
-        ensures key { IfOk result (λ h. IsTrue (K.equivalent (key_of self.entry).now (key_of h))) }
-        ensures succeeds { K.is_infallible (key_of self.entry).now → IsOk result }
-    {
-        Ok(Hashed::new_unchecked(self.hash, self.key.to_owned_key(alloc)?))
     }
 }

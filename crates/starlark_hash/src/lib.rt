@@ -8,6 +8,7 @@ mod hashed_impls;
 pub mod hasher;
 pub mod key_query;
 pub mod no_room;
+pub mod query;
 mod same_text;
 pub mod text_key;
 
@@ -17,4 +18,5 @@ pub use hashed::Hashed;
 pub use hasher::{StarlarkHasher, StarlarkHasherBuilder};
 pub use key_query::{KeyQuery, ToOwnedKey};
 pub use no_room::NoRoom;
+pub use query::{HashQuery, OwnedQuery, Query};
 pub use text_key::TextKey;

@@ -18,8 +18,8 @@ pub mod vec2;
 
 pub use json::JsonFault;
 pub use starlark_hash::{
-    Equivalent, Hashed, KeyQuery, NoRoom, StarlarkHashValue, StarlarkHasher, StarlarkHasherBuilder,
-    TextKey, ToOwnedKey,
+    Equivalent, HashQuery, Hashed, KeyQuery, NoRoom, OwnedQuery, Query, StarlarkHashValue,
+    StarlarkHasher, StarlarkHasherBuilder, TextKey, ToOwnedKey,
 };
 pub use starlark_runs::{Command, Reply, run};
 pub use starlark_sets::TryInsertError;

@@ -1,7 +1,9 @@
 //! Turns and sorts, made twice.
 ghost use Rattle.std.specs.Prelude.{◌≡◌, reverse, IsOk, OnOk, OnErr};
+ghost use Rattle.starlark_hash.specs.Entries.{position_of};
+ghost use Rattle.starlark_hash.specs.HashValue.{hash_of, key_of};
 ghost use Rattle.starlark_hash.specs.Sorting.{Ascends, sorted_by_key};
-ghost use Rattle.starlark_small.specs.Map.{KeepsMemory, query_match};
+ghost use Rattle.starlark_small.specs.Map.{KeepsMemory};
 
 use starlark_hash::Hashed;
 use starlark_small::SmallMap;
@@ -10,7 +12,7 @@ use std::alloc::AllocError;
 /// A list that is turned round twice is the list. Capacity and index stay, and no room is lost. It answers the place of a
 /// key between, in the list that is turned round once.
 pub fn reverse_twice<K: Eq, V>(map: &mut SmallMap<K, V>, key: Hashed<&K>) -> Option<usize>
-    ensures between { result ≡ query_match K.eq (reverse map.old.entries) key.entry }
+    ensures between { result ≡ position_of (hash_of key.entry) (K.eq (key_of key.entry).now) (reverse map.old.entries) }
     ensures entries { map.new.entries ≡ map.old.entries }
     ensures kept { KeepsMemory map.old map.new }
 {

@@ -1,6 +1,6 @@
 -- The stored keys that are found, how long a list is after a call, and what is found once an entry was taken out of its place or entries only changed places.
-use Rattle.std.proofs.Common.{◌≡◌, ℕ, zero, suc, ◌+◌, Bool, Bor, true, List, [], ◌∷◌, length, remove, Option, Some, None, Result, Ok, Err, OnOk, OnErr, IsPermutation, is_ok, is_some, slice_get, refl, subst, sym, ap, ◌∙◌}
-use Rattle.std.specs.Prelude.{IfSome, if◌then◌else◌, reverse}
+use Rattle.std.proofs.Common.{◌≡◌, ℕ, zero, suc, ◌+◌, Bool, Bor, List, [], ◌∷◌, length, remove, Option, Some, None, Result, Ok, Err, OnOk, OnErr, IsPermutation, is_ok, is_some, slice_get, refl, subst, sym, ap, ◌∙◌}
+use Rattle.std.specs.Prelude.{if◌then◌else◌, reverse}
 use Rattle.std.specs.Cmp.{IsEquivalence}
 use Rattle.std.specs.Option.{IfNone, option_copied, option_map}
 use Rattle.std.specs.declared.cmp.Ordering.{Ordering}
@@ -10,7 +10,7 @@ use Rattle.std.proofs.lemmas.List.Sorted.{IsPermutation-reverse}
 use Rattle.starlark_hash.specs.declared.hashed.Hashed.{Hashed}
 use Rattle.starlark_hash.specs.declared.hash_value.StarlarkHashValue.{StarlarkHashValue}
 use Rattle.starlark_hash.specs.HashValue.{hashed}
-use Rattle.starlark_hash.specs.Entries.{Entry, IsSingle, entry_at, entry_key, position_of}
+use Rattle.starlark_hash.specs.Entries.{Entry, IsSingle, position_of}
 use Rattle.starlark_hash.specs.Insertion.{insert_entry}
 use Rattle.starlark_hash.specs.Sorting.{key_lt, sorted_by_key}
 use Rattle.starlark_hash.proofs.EntryLemmas.{IsSingle-permutation}
@@ -20,7 +20,10 @@ use Rattle.starlark_small.proofs.CallerEntries.{length-insert_entry}
 use Rattle.starlark_small.proofs.CallerOrder.{lookup_permuted}
 use Rattle.starlark_small.proofs.CallerPlaces.{writes-taken}
 use Rattle.starlark_small.proofs.SameEntries.{distinct}
-use Rattle.starlark_hash.specs.Finding.{found, found_key, Writes}
+use Rattle.starlark_hash.specs.Finding.{found, Writes}
+use Rattle.starlark_small.specs.Calling.{Removes}
+use Rattle.starlark_sets.specs.Set.{Set, element_at}
+use Rattle.starlark_sets.specs.Taking.{ShowsElement, TakesElement}
 use Rattle.starlark_sets.proofs.Additions.{is_some-value_at}
 use Rattle.starlark_sets.proofs.Callers.{key_stands}
 
@@ -28,25 +31,21 @@ use Rattle.starlark_sets.proofs.Callers.{key_stands}
 abbrev pub FindsAlike : {K V : Type 0} → (K → K → Bool) → List (Entry K V) → List (Entry K V) → Type 0
 FindsAlike {K = K} eq old new = (under : StarlarkHashValue) (key : K) → found (eq key) under new ≡ found (eq key) under old
 
-module _ {K V : Type 0} (test : K → Bool) (hash : StarlarkHashValue) (es : List (Entry K V)) where
-  -- the stored key that is found: it is there where a value is, and passes
-  pub key_found : (o : Option K) → o ≡ option_map entry_key (entry_at es (position_of hash test es)) → o ≡ found_key test hash es
-  key_found o is = (key_stands test hash es o is).0
+module _ {T : Type 0} (test : T → Bool) (hash : StarlarkHashValue) (s : Set T) where
+  -- what stands at the place that a test names is what is shown
+  pub shows-element : (o : Option (Bor T)) → option_copied o ≡ element_at s (position_of hash test s.entries) → ShowsElement test hash s o
+  shows-element None is =
+      let stands = key_stands test hash s.entries None is in
+      record { element = is; is_there = stands.1; found = stands.0; equivalent = tt }
+  shows-element (Some p) is =
+      let stands = key_stands test hash s.entries (Some p.now) is in
+      record { element = is; is_there = stands.1; found = stands.0; equivalent = stands.2 }
 
-  pub key_there : (o : Option K) → o ≡ option_map entry_key (entry_at es (position_of hash test es)) → is_some o ≡ is_some (found test hash es)
-  key_there o is = (key_stands test hash es o is).1
-
-  pub key_passes : (o : Option K) → o ≡ option_map entry_key (entry_at es (position_of hash test es)) → IfSome o (λ k. test k ≡ true)
-  key_passes o is = (key_stands test hash es o is).2
-
-  -- the same behind a reference
-  pub shown_there : (o : Option (Bor K)) → option_copied o ≡ option_map entry_key (entry_at es (position_of hash test es)) → is_some o ≡ is_some (found test hash es)
-  shown_there None is = key_there None is
-  shown_there (Some p) is = key_there (Some p.now) is
-
-  pub shown_passes : (o : Option (Bor K)) → option_copied o ≡ option_map entry_key (entry_at es (position_of hash test es)) → IfSome o (λ p. test p.now ≡ true)
-  shown_passes None is = tt
-  shown_passes (Some p) is = key_passes (Some p.now) is
+  -- or is taken out
+  pub takes-element : (eq : T → T → Bool) (new : Set T) (o : Option T) → o ≡ element_at s (position_of hash test s.entries) → Removes eq test hash s new → TakesElement eq test hash s new o
+  takes-element eq new o is removes =
+      let stands = key_stands test hash s.entries o is in
+      record { taken = is; was = stands.0; is_there = stands.1; equivalent = stands.2; removes = removes }
 
 module _ {K V : Type 0} (eq : K → K → Bool) (old : List (Entry K V)) (key : Hashed K) (value : V) where
   -- an insertion makes one entry more, where there was none

@@ -20,6 +20,7 @@ use Rattle.starlark_small.specs.Inserted.{IsInserted, IsRefused}
 use Rattle.starlark_small.specs.Inserting.{PutsLast}
 use Rattle.starlark_small.proofs.CallerEntries.{position_of-match}
 use Rattle.starlark_small.proofs.CallerOwn.{own-inserted, own-same}
+use Rattle.starlark_small.proofs.CallerUpdates.{writes-inserted}
 use Rattle.starlark_sets.specs.Adding.{AddsNew, PutsElementFor, ShowsPut}
 use Rattle.starlark_sets.specs.Lending.{AddsAt}
 use Rattle.starlark_sets.specs.OrderedTries.{AnswersTry, IsRefusal, ShowsEqual, Tries, is_occupied}
@@ -27,7 +28,7 @@ use Rattle.starlark_sets.specs.Set.{AddsFor, Set, element_at}
 use Rattle.starlark_sets.specs.declared.ordered_set.tries.TryInsertError.{TryInsertError}
 use Rattle.starlark_sets.specs.declared.ordered_set.tries.TryInsertError.TheVariants.{Occupied, Memory}
 use Rattle.starlark_sets.proofs.Additions.{is_some-value_at}
-use Rattle.starlark_sets.proofs.Callers.{key_stands, writes-inserted}
+use Rattle.starlark_sets.proofs.Callers.{key_stands}
 
 pub lacking_found : {T : Type 0} (eq : T → T → Bool) (old : Set T) (element : Hashed T) → match_of eq old.entries element ≡ None → is_some (found (eq (key_of element)) (hash_of element) old.entries) ≡ false
 unfolding found

@@ -65,11 +65,11 @@ module _ {T : Type 0} (eq : T → T → Bool) where
   -- the element for this query was put last under the query's own hash where it was lacking, and else nothing changes; only one
   -- that is lacking is refused
   pub record PutsElementFor {Q E : Type 0} (equivalent : Q → T → Bool) (feeds : Q → HashWrites) (query : Q) (before : Set T) (r : Result (Bor T) E) (after : Set T) : Type 0 where
-    -- the query is equivalent to what is shown
+    -- the query stands for what is shown
     pub equal : IfOk r (λ p. IsTrue (equivalent query p.now))
     pub updates : OnOk r (UpdatesBy eq equivalent feeds before after query (Some tt))
     pub count : OnOk r (length after.entries ≡ length before.entries + (if contains equivalent feeds before query then 0 else 1))
-    -- elements under their own hashes stay so, where the query feeds a hasher what each element does to which it is equivalent
+    -- elements under their own hashes stay so, where the query feeds a hasher what each element does that it stands for
     pub own : (stored : T → HashWrites) → ((element : T) → IsTrue (equivalent query element) → feeds query ≡ stored element) → AreOwn stored before → AreOwn stored after
     pub unchanged : OnErr r (after.entries ≡ before.entries)
     pub absent : OnErr r (contains equivalent feeds before query ≡ false)

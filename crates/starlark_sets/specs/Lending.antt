@@ -24,7 +24,7 @@ IsShown es place r =
     (λ e. MatchResult r (λ _. ⊥) (λ f. f ≡ e))
 
 -- new is old after an element was wanted for this query under this hash, and r tells where it is: one that is there
--- changes nothing; where it is lacking, one to which the query is equivalent goes last, or is refused
+-- changes nothing; where it is lacking, one that the query stands for goes last, or is refused
 abbrev pub AddsAt : {Q T E : Type 0} → (Q → T → Bool) → Q → StarlarkHashValue → Set T → Result ℕ E → Set T → Type 0
 AddsAt {T = T} equivalent query hash old r new =
     MatchOption (position_of hash (equivalent query) old.entries)

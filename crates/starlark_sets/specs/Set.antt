@@ -31,7 +31,7 @@ module _ {T : Type 0} where
       (λ _. IsOk r × (new ≡ old))
 
   -- new is old after an element was wanted for this query under this hash, and r shows it: one that is there, and nothing
-  -- changes; or else one to which the query is equivalent, now last under this hash; or it was refused
+  -- changes; or else one that the query stands for, now last under this hash; or it was refused
   abbrev pub AddsFor : {Q E : Type 0} → (Q → T → Bool) → Q → StarlarkHashValue → Set T → Result (Bor T) E → Set T → Type 0
   AddsFor equivalent query hash old r new =
       let place = position_of hash (equivalent query) old.entries in

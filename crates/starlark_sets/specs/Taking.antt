@@ -3,29 +3,29 @@ use Rattle.std.specs.Prelude.{◌≡◌, ℕ, ◌+◌, Bool, IfSome, IsTrue, Opt
 use Rattle.std.specs.Borrow.{Bor}
 use Rattle.std.specs.Option.{IfNone, option_copied, option_map}
 use Rattle.starlark_hash.specs.declared.hash_value.StarlarkHashValue.{StarlarkHashValue}
-use Rattle.starlark_hash.specs.Entries.{entry_key}
+use Rattle.starlark_hash.specs.Entries.{entry_key, position_of}
 use Rattle.starlark_hash.specs.Finding.{found, found_key}
 use Rattle.starlark_small.specs.Calling.{Removes, RemovesAt, TakesOut}
 use Rattle.starlark_sets.specs.Set.{Set, element_at}
 
-module _ {T : Type 0} (test : T → Bool) (hash : StarlarkHashValue) (place : Option ℕ) where
+module _ {T : Type 0} where
   -- the element that a test under a hash names is shown, where there is one
-  pub record ShowsElement (s : Set T) (r : Option (Bor T)) : Type 0 where
+  pub record ShowsElement (test : T → Bool) (hash : StarlarkHashValue) (s : Set T) (r : Option (Bor T)) : Type 0 where
     -- what stands at its place; whether there is one; the same by what is found; and it passes the test
-    pub element : option_copied r ≡ element_at s place
+    pub element : option_copied r ≡ element_at s (position_of hash test s.entries)
     pub is_there : is_some r ≡ is_some (found test hash s.entries)
     pub found : option_copied r ≡ found_key test hash s.entries
     pub equivalent : IfSome r (λ element. IsTrue (test element.now))
 
   -- the element that a test under a hash names was taken out and is answered, if it was there
-  pub record TakesElement (eq : T → T → Bool) (old new : Set T) (r : Option T) : Type 0 where
+  pub record TakesElement (eq : T → T → Bool) (test : T → Bool) (hash : StarlarkHashValue) (old new : Set T) (r : Option T) : Type 0 where
     -- what stood at its place, and the same by what was found; whether there was one; and it passes the test
-    pub taken : r ≡ element_at old place
+    pub taken : r ≡ element_at old (position_of hash test old.entries)
     pub was : r ≡ found_key test hash old.entries
     pub is_there : is_some r ≡ is_some (found test hash old.entries)
     pub equivalent : IfSome r (λ element. IsTrue (test element))
     -- the set now
-    pub removes : Removes eq test hash place old new
+    pub removes : Removes eq test hash old new
 
 module _ {T : Type 0} (eq : T → T → Bool) where
   -- the element at a place was taken out and is answered: where elements stand under their own hashes it was there, and is gone;

@@ -10,7 +10,7 @@ use Rattle.std.proofs.lemmas.List.Elements.{All-cons, All-head, All-push, All-ta
 use Rattle.starlark_hash.specs.declared.hashed.Hashed.{Hashed}
 use Rattle.starlark_hash.specs.declared.hash_value.StarlarkHashValue.{StarlarkHashValue}
 use Rattle.starlark_hash.specs.HashValue.{hash_of, key_of}
-use Rattle.starlark_hash.specs.Entries.{Entry, entry_key, entry_value, pair_of, match_of, set_value_at, with_value}
+use Rattle.starlark_hash.specs.Entries.{Entry, entry_key, entry_value, pair_of, match_of, position_of, set_value_at, with_value}
 use Rattle.starlark_hash.proofs.EntryLemmas.{length-set_value_at}
 use Rattle.starlark_hash.proofs.PositionLemmas.{position-passes, position-within}
 use Rattle.starlark_small.specs.Calling.{keys, Removes, RemovesAt}
@@ -172,12 +172,12 @@ module _ {K V B : Type 0} {eq : K → K → Bool} {key : Hashed K} {value : V} {
 
 -- A removal brings nothing new, whatever is read of each entry: `entry_key`, `entry_value` or `pair_of`.
 module _ {K V X : Type 0} (f : Entry K V → X) {eq : K → K → Bool} {old new : Map K V} where
-  module _ {test : K → Bool} {hash : StarlarkHashValue} {place : Option ℕ} (removes : Removes eq test hash place old new) where
+  module _ {test : K → Bool} {hash : StarlarkHashValue} (removes : Removes eq test hash old new) where
     pub All-removes : (P : X → Type 0) → All P (map f old.entries) → All P (map f new.entries)
-    All-removes P all = subst (λ es. All P (map f es)) (sym removes.entries) (all-without f P old.entries place all)
+    All-removes P all = subst (λ es. All P (map f es)) (sym removes.entries) (all-without f P old.entries (position_of hash test old.entries) all)
 
     pub Contains-removes : (x : X) → Contains (map f new.entries) x → Contains (map f old.entries) x
-    Contains-removes x at = one-without f old.entries place x (subst (λ es. Contains (map f es) x) removes.entries at)
+    Contains-removes x at = one-without f old.entries (position_of hash test old.entries) x (subst (λ es. Contains (map f es) x) removes.entries at)
 
   module _ {place : ℕ} (removes : RemovesAt eq place old new) where
     pub All-removes_at : (P : X → Type 0) → All P (map f old.entries) → All P (map f new.entries)

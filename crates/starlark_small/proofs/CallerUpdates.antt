@@ -8,7 +8,7 @@ use Rattle.std.proofs.lemmas.Option.{none-some}
 use Rattle.starlark_hash.specs.declared.hashed.Hashed.{Hashed}
 use Rattle.starlark_hash.specs.declared.hash_value.StarlarkHashValue.{StarlarkHashValue}
 use Rattle.starlark_hash.specs.HashValue.{hashed, hash_of, key_of}
-use Rattle.starlark_hash.specs.Entries.{Entry, IsSingle, entry_at, entry_key, entry_value, pair_of, match_of, set_value_at, value_at, with_value, without, position_of}
+use Rattle.starlark_hash.specs.Entries.{Entry, IsSingle, entry_key, entry_value, match_of, set_value_at, value_at, with_value, without, position_of}
 use Rattle.starlark_hash.specs.Insertion.{insert_entry}
 use Rattle.starlark_hash.specs.Finding.{found, Writes}
 use Rattle.starlark_hash.proofs.PositionLemmas.{position-passes}
@@ -68,14 +68,6 @@ module _ {K V : Type 0} (test : K → Bool) (hash : StarlarkHashValue) (es : Lis
   pub found_is : (o : Option V) → o ≡ value_at es (position_of hash test es) → o ≡ found test hash es
   unfolding found
   found_is o is = is
-
-  pub pair_found : (o : Option (K × V)) → o ≡ option_map pair_of (entry_at es (position_of hash test es)) → option_map (λ (p : K × V). p.1) o ≡ found test hash es
-  unfolding found
-  pair_found o is = ap (option_map (λ (p : K × V). p.1)) is ∙ second (entry_at es (position_of hash test es))
-    where
-      second : (e : Option (Entry K V)) → option_map (λ (p : K × V). p.1) (option_map pair_of e) ≡ option_map entry_value e
-      second None = refl
-      second (Some e) = refl
 
   -- there is a value where there is a place
   pub is_some-found : is_some (position_of hash test es) ≡ is_some (found test hash es)

@@ -1,6 +1,7 @@
 -- What a caller of a `SmallMap` says of it: what a query finds under its own hash, and what a call leaves at its query and at
 -- all other keys. Sets, ordered and sorted types share these words: a set is a map to `()`. All of them but `found`,
 -- `found_key` and `AreOwnEntries` unfold by themselves in callers' proofs.
+use Rattle.std.specs.Borrow.{Bor}
 use Rattle.std.specs.Prelude.{◌≡◌, ℕ, ◌+◌, ◌<◌, length, remove, slice_get, if◌then◌else◌, All, Bool, false, IfSome, List, Option, Some, None, is_some, map}
 use Rattle.std.specs.List.{IsAmong, sum_by}
 use Rattle.std.specs.Option.{IfNone, option_map, unwrap_or}
@@ -11,7 +12,7 @@ use Rattle.std.specs.String.{string_bytes}
 use Rattle.std.specs.declared.string.String.{String}
 use Rattle.starlark_hash.specs.Hasher.{own_hash}
 use Rattle.starlark_hash.specs.declared.hash_value.StarlarkHashValue.{StarlarkHashValue}
-use Rattle.starlark_hash.specs.Entries.{Entry, entry_hash, entry_key, entry_value, pair_of, value_at, without}
+use Rattle.starlark_hash.specs.Entries.{Entry, entry_at, entry_hash, entry_key, entry_value, pair_of, position_of, value_at, without}
 use Rattle.starlark_hash.specs.Finding.{found, found_key, Writes}
 use Rattle.starlark_small.specs.Map.{Map, KeepsMemory}
 
@@ -69,29 +70,42 @@ module _ {K V : Type 0} where
   abbrev pub AreOwn : (K → HashWrites) → Map K V → Type 0
   AreOwn feeds m = AreOwnEntries feeds m.entries
 
-module _ {K V : Type 0} (test : K → Bool) (hash : StarlarkHashValue) (named : Option ℕ) (m : Map K V) where
-  -- the value of what the test names under the hash: it stands at its place, and is one of the map's values; or there is none
-  pub record FindsValue (r : Option V) : Type 0 where
-    pub value : r ≡ value_at m.entries named
-    pub found : r ≡ found test hash m.entries
-    pub member : IfSome r (λ value. IsAmong (map entry_value m.entries) value)
-    pub absent : IfNone r (named ≡ None)
-
+module _ {K V : Type 0} (test : K → Bool) (hash : StarlarkHashValue) (m : Map K V) where
   -- the place of what the test names under the hash, which lies in the list, where there is a value
   pub record NamesPlace (r : Option ℕ) : Type 0 where
-    pub place : r ≡ named
+    pub place : r ≡ position_of hash test m.entries
     pub found : is_some r ≡ is_some (found test hash m.entries)
     pub within : IfSome r (λ i. i < length m.entries)
 
   -- whether there is what the test names under the hash
   pub record TellsPresence (is_there : Bool) : Type 0 where
-    pub place : is_there ≡ is_some named
+    pub place : is_there ≡ is_some (position_of hash test m.entries)
     pub found : is_there ≡ is_some (found test hash m.entries)
+
+  -- the value of what the test names under the hash: it stands at its place, and is one of the map's values; or there is none
+  pub record FindsValue (r : Option V) : Type 0 where
+    pub value : r ≡ value_at m.entries (position_of hash test m.entries)
+    pub found : r ≡ found test hash m.entries
+    pub member : IfSome r (λ value. IsAmong (map entry_value m.entries) value)
+    pub absent : IfNone r (position_of hash test m.entries ≡ None)
+
+  -- the stored key and the value of what the test names under the hash
+  pub record FindsPair (r : Option (K × V)) : Type 0 where
+    pub pair : r ≡ option_map pair_of (entry_at m.entries (position_of hash test m.entries))
+    pub stored : option_map (λ p. p.0) r ≡ found_key test hash m.entries
+    pub found : option_map (λ p. p.1) r ≡ found test hash m.entries
+
+  -- its place, with the stored key and the value there
+  pub record FindsEntry (r : Option (ℕ × Bor K × Bor V)) : Type 0 where
+    pub place : option_map (λ e. e.0) r ≡ position_of hash test m.entries
+    pub pair : option_map (λ e. (e.1.now, e.2.now)) r ≡ option_map pair_of (entry_at m.entries (position_of hash test m.entries))
+    pub stored : option_map (λ e. e.1.now) r ≡ found_key test hash m.entries
+    pub found : option_map (λ e. e.2.now) r ≡ found test hash m.entries
 
 module _ {K V : Type 0} (eq : K → K → Bool) where
   -- what a test under a hash names was taken out from its place, if it was there
-  pub record Removes (test : K → Bool) (hash : StarlarkHashValue) (place : Option ℕ) (old new : Map K V) : Type 0 where
-    pub entries : new.entries ≡ without old.entries place
+  pub record Removes (test : K → Bool) (hash : StarlarkHashValue) (old new : Map K V) : Type 0 where
+    pub entries : new.entries ≡ without old.entries (position_of hash test old.entries)
     pub updates : Writes eq test hash old.entries new.entries None
     pub count : length old.entries ≡ length new.entries + (if is_some (found test hash old.entries) then 1 else 0)
     pub own : (feeds : K → HashWrites) → AreOwn feeds old → AreOwn feeds new

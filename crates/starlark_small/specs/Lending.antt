@@ -1,18 +1,18 @@
 -- What a `SmallMap` ends as, once a reference into it has ended.
 use Rattle.std.specs.Prelude.{◌≡◌, ℕ, Bool, List, Option, Some, IsSome, is_some, Result, Ok, Err, OnOk, OnErr, length, map}
-use Rattle.std.specs.Borrow.{Fml, RattleType, Bor, MutBor, GName, Lends, LendsIf, LendsSo, follows, follows_so, name_if_ok}
+use Rattle.std.specs.Borrow.{Fml, RattleType, Bor, MutBor, GName, Lends, LendsSo, follows, follows_so, name_if_ok}
 use Rattle.std.specs.Hash.{HashWrites}
 use Rattle.std.specs.declared.cmp.PartialEq as eq
 use Rattle.starlark_hash.specs.HashValue.{key_of}
 use Rattle.starlark_hash.specs.declared.hash_value.StarlarkHashValue.{StarlarkHashValue}
 use Rattle.starlark_hash.specs.declared.hashed.Hashed.{Hashed}
 use Rattle.starlark_hash.specs.declared.no_room.NoRoom.{NoRoom}
-use Rattle.starlark_hash.specs.Entries.{Entry, entry_key, set_value_at, with_value}
-use Rattle.starlark_hash.specs.Finding.{found}
+use Rattle.starlark_hash.specs.Entries.{Entry, entry_key, position_of, set_value_at, with_value}
+use Rattle.starlark_hash.specs.Finding.{found, Writes}
 use Rattle.starlark_vecmap.specs.EntryList.{with_values}
-use Rattle.starlark_small.specs.Calling.{get, keys, AreOwn, AreOwnEntries, UpdatesBy}
+use Rattle.starlark_small.specs.Calling.{keys, AreOwn, AreOwnEntries}
 use Rattle.starlark_small.specs.Inserted.{IsInserted, IsRefused}
-use Rattle.starlark_small.specs.Map.{Map, own_match}
+use Rattle.starlark_small.specs.Map.{Map}
 use Rattle.starlark_small.specs.contracts.small_map.SmallMap.{the_row}
 
 -- the answer of an insertion, where a refused key comes back without its hash
@@ -34,15 +34,11 @@ module _ (K V : RattleType) (g : eq.Ghosts K.Denot) (s : MutBor (Map K.Denot V.D
   abbrev pub lends_value : ℕ → MutBor V.Denot → Fml
   lends_value i r = Lends (the_row K V g) V s r (λ w. record s.now { entries = set_value_at s.now.entries i w })
 
-  -- the same of the value at the place that was found; where none was found, the map stays
-  abbrev pub lends_found : Option ℕ → Option (MutBor V.Denot) → Fml
-  lends_found place r = LendsIf (the_row K V g) V s r (λ w. record s.now { entries = with_value s.now.entries place w }) s.now
-
-  -- the value at the query ends as what is left behind the reference, and all else stays, which is said by look-ups too; where
-  -- there is none, the map stays
-  abbrev pub lends_get : {Q : Type 0} → (Q → K.Denot → Bool) → (Q → HashWrites) → Q → Option (MutBor V.Denot) → Fml
-  lends_get equivalent feeds query r = LendsSo (the_row K V g) V s r
-      (λ n w. (n ≡ record s.now { entries = with_value s.now.entries (own_match equivalent feeds s.now.entries query) w }) × (keys n ≡ keys s.now) × (IsSome (get equivalent feeds s.now query) → UpdatesBy g.eq equivalent feeds s.now n query (Some w)))
+  -- the value that a test finds under a hash ends as what is left behind the reference, and all else stays, which is said by
+  -- look-ups too; where there is none, the map stays
+  abbrev pub lends_get : (K.Denot → Bool) → StarlarkHashValue → Option (MutBor V.Denot) → Fml
+  lends_get test hash r = LendsSo (the_row K V g) V s r
+      (λ n w. (n ≡ record s.now { entries = with_value s.now.entries (position_of hash test s.now.entries) w }) × (keys n ≡ keys s.now) × (IsSome (found test hash s.now.entries) → Writes g.eq test hash s.now.entries n.entries (Some w)))
       (λ n. n ≡ s.now)
 
   -- the map ends with the values that the loan of this name ends with, each in its place; hashes, keys, order, room, capacity

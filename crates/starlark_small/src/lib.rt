@@ -5,7 +5,6 @@ pub mod entry;
 mod index;
 pub mod iter;
 pub mod macros;
-mod own_hash;
 pub mod small_map;
 
 pub use entry::{Entry, OccupiedEntry, VacantEntry};

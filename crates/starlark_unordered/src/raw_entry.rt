@@ -12,7 +12,7 @@ ghost use Rattle.starlark_unordered.specs.Pairs.{pairs_of, keys_under, under_own
 ghost use Rattle.starlark_unordered.specs.RawLending.{lends_placed, LendsSlot};
 
 use crate::unordered_map::UnorderedMap;
-use starlark_hash::{Equivalent, Hashed, KeyQuery, NoRoom, StarlarkHashValue};
+use starlark_hash::{HashQuery, Hashed, NoRoom, Query, StarlarkHashValue};
 use std::hash::Hash;
 use std::mem;
 
@@ -79,12 +79,12 @@ impl<'a, K: Eq + Hash, V> RawEntryBuilderMut<'a, K, V> {
     /// The pair of the key that the query stands for, or vacant where the map lacks it. The map is as it was.
     #[tactic(auto, unfolding(crate::specs::Calling::found))]
     #[inline]
-    pub fn from_key<Q: KeyQuery<K>>(self, query: &Q) -> RawEntryMut<'a, K, V>
-        ensures place { IsRawPlaceOf K.eq (Q.equivalent query.now) self.entry.map.now result }
-        ensures names { NamesSlot (Q.equivalent query.now) self.entry.map (map_of_raw result) (slot_of_raw result) }
+    pub fn from_key<Q: HashQuery<K>>(self, query: Q) -> RawEntryMut<'a, K, V>
+        ensures place { IsRawPlaceOf K.eq (Q.stands_for query) self.entry.map.now result }
+        ensures names { NamesSlot (Q.stands_for query) self.entry.map (map_of_raw result) (slot_of_raw result) }
     {
         let RawEntryBuilderMut { map } = self;
-        match map.slot_under(StarlarkHashValue::new(query), query) {
+        match map.slot_under(StarlarkHashValue::new(&query), query) {
             Some(slot) => RawEntryMut::Occupied(RawOccupiedEntryMut { map, slot }),
             None => RawEntryMut::Vacant(RawVacantEntryMut { map }),
         }
@@ -93,11 +93,11 @@ impl<'a, K: Eq + Hash, V> RawEntryBuilderMut<'a, K, V> {
     /// The pair of the key that the query stands for, where the hash that is brought is its own, or else vacant. The
     /// map is as it was.
     #[inline]
-    pub fn from_key_hashed<Q: Equivalent<K>>(self, key: Hashed<&Q>) -> RawEntryMut<'a, K, V>
-        ensures names { NamesSlot (under_own K.hash_input (hash_of key.entry) (Q.equivalent (key_of key.entry).now)) self.entry.map (map_of_raw result) (slot_of_raw result) }
+    pub fn from_key_hashed<Q: Query<K>>(self, key: Hashed<Q>) -> RawEntryMut<'a, K, V>
+        ensures names { NamesSlot (under_own K.hash_input (hash_of key) (Q.stands_for (key_of key))) self.entry.map (map_of_raw result) (slot_of_raw result) }
     {
         let RawEntryBuilderMut { map } = self;
-        match map.slot_hashed(key.hash(), *key.key()) {
+        match map.slot_hashed(key.hash(), key.into_key()) {
             Some(slot) => RawEntryMut::Occupied(RawOccupiedEntryMut { map, slot }),
             None => RawEntryMut::Vacant(RawVacantEntryMut { map }),
         }

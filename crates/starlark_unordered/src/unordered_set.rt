@@ -15,7 +15,7 @@ mod raw_entry;
 
 use crate::unordered_map::UnorderedMap;
 pub use raw_entry::{RawEntryBuilderMut, RawEntryMut, RawOccupiedEntryMut, RawVacantEntryMut};
-use starlark_hash::{Equivalent, Hashed, KeyQuery, NoRoom};
+use starlark_hash::{HashQuery, Hashed, NoRoom, Query};
 use std::alloc::{AllocError, Global};
 use std::hash::Hash;
 use std::marker::Model;
@@ -102,16 +102,16 @@ impl<T: Eq + Hash> UnorderedSet<T> {
 
     /// Whether the set has the element that the query stands for.
     #[inline(always)]
-    pub fn contains<Q: KeyQuery<T>>(&self, query: &Q) -> bool
-        ensures tells { Tells (Q.equivalent query.now) self.now result }
+    pub fn contains<Q: HashQuery<T>>(&self, query: Q) -> bool
+        ensures tells { Tells (Q.stands_for query) self.now result }
     {
         self.map.contains_key(query)
     }
 
     /// Whether the set has the element, and this is its own hash.
     #[inline(always)]
-    pub fn contains_hashed<Q: Equivalent<T>>(&self, element: Hashed<&Q>) -> bool
-        ensures tells { TellsUnder T.eq T.hash_input (Q.equivalent (key_of element.entry).now) (hash_of element.entry) self.now result }
+    pub fn contains_hashed<Q: Query<T>>(&self, element: Hashed<Q>) -> bool
+        ensures tells { TellsUnder T.eq T.hash_input (Q.stands_for (key_of element)) (hash_of element) self.now result }
     {
         self.map.contains_key_hashed(element)
     }

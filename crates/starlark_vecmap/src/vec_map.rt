@@ -20,7 +20,7 @@ use crate::columns::{search_columns, search_few};
 use crate::hash_search::BLOCK;
 pub use into_iter::{IntoIter, IntoIterHashed, IntoKeys, IntoValues};
 pub use iter::{Iter, IterHashed, Keys, Values};
-use starlark_hash::{Equivalent, Hashed, NoRoom, StarlarkHashValue};
+use starlark_hash::{Hashed, NoRoom, Query, StarlarkHashValue};
 use starlark_vec2::Vec2;
 pub use starlark_vec2::{PairsMut as IterMut, ValuesMut};
 use std::alloc::{AllocError, Global};
@@ -115,33 +115,35 @@ impl<K, V> VecMap<K, V> {
         search_columns(self.columns.firsts(), self.columns.seconds(), hash, accepts)
     }
 
-    /// The first place under the query's hash whose key the query is equivalent to.
+    /// The first place under the query's hash whose key the query stands for.
     #[inline]
-    pub fn get_index_of_hashed<Q: Equivalent<K>>(&self, key: Hashed<&Q>) -> Option<usize>
+    pub fn get_index_of_hashed<Q: Query<K>>(&self, key: Hashed<Q>) -> Option<usize>
     where
         K: Eq,
-        ensures place { result ≡ position_of (hash_of key.entry) (Q.equivalent (key_of key.entry).now) self.now.entries }
+        ensures place { result ≡ position_of (hash_of key) (Q.stands_for (key_of key)) self.now.entries }
         ensures within { IfSome result (λ i. i < length self.now.entries) }
     {
-        let query = *key.key();
-        self.get_index_of_hashed_raw(key.hash(), |k| query.equivalent(k))
+        let hash = key.hash();
+        let query = key.into_key();
+        self.get_index_of_hashed_raw(hash, move |k: &K| query.stands_for(k))
     }
 
     /// As `get_index_of_hashed`, where there are up to 32 entries; None where there are more. The code is short, since
     /// it has one way to search. Rust has no such call.
     #[inline]
-    pub fn get_index_of_hashed_among_few<Q: Equivalent<K>>(&self, key: Hashed<&Q>) -> Option<usize>
+    pub fn get_index_of_hashed_among_few<Q: Query<K>>(&self, key: Hashed<Q>) -> Option<usize>
     where
         K: Eq,
-        ensures place { length self.now.entries ≤ 32 → result ≡ position_of (hash_of key.entry) (Q.equivalent (key_of key.entry).now) self.now.entries }
+        ensures place { length self.now.entries ≤ 32 → result ≡ position_of (hash_of key) (Q.stands_for (key_of key)) self.now.entries }
         ensures many { 32 < length self.now.entries → result ≡ None }
         ensures within { IfSome result (λ i. i < length self.now.entries) }
     {
         if self.len() > BLOCK {
             return None;
         }
-        let query = *key.key();
-        self.search_few(key.hash(), |k: &K| query.equivalent(k))
+        let hash = key.hash();
+        let query = key.into_key();
+        self.search_few(hash, move |k: &K| query.stands_for(k))
     }
 
     // The first place under the hash whose key `accepts` answers true for.
@@ -376,11 +378,11 @@ impl<K, V> VecMap<K, V> {
 }
 
 impl<K: Eq, V> VecMap<K, V> {
-    /// Takes the first entry out that stands under the query's hash and whose key the query is equivalent to, where
-    /// there is one. Those after it move up. The capacity stays.
-    pub fn remove_hashed_entry<Q: Equivalent<K>>(&mut self, key: Hashed<&Q>) -> Option<(K, V)>
-        ensures taken { result ≡ option_map pair_of (entry_at self.old.entries (position_of (hash_of key.entry) (Q.equivalent (key_of key.entry).now) self.old.entries)) }
-        ensures list { self.new ≡ with_entries self.old (without self.old.entries (position_of (hash_of key.entry) (Q.equivalent (key_of key.entry).now) self.old.entries)) }
+    /// Takes the first entry out that stands under the query's hash and whose key the query stands for, where there is
+    /// one. Those after it move up. The capacity stays.
+    pub fn remove_hashed_entry<Q: Query<K>>(&mut self, key: Hashed<Q>) -> Option<(K, V)>
+        ensures taken { result ≡ option_map pair_of (entry_at self.old.entries (position_of (hash_of key) (Q.stands_for (key_of key)) self.old.entries)) }
+        ensures list { self.new ≡ with_entries self.old (without self.old.entries (position_of (hash_of key) (Q.stands_for (key_of key)) self.old.entries)) }
     {
         let index = self.get_index_of_hashed(key)?;
         let (key, value) = self.remove(index);

@@ -2,7 +2,7 @@
 
 use crate::given::{Numbers, ends, holds, put, removed, same, set, under};
 use starlark_map::small_set::SmallSet;
-use starlark_map::{NoRoom, TextKey};
+use starlark_map::NoRoom;
 use std::alloc::Global;
 use std::test::Fail;
 
@@ -57,7 +57,7 @@ fn shows_what_is_there_or_new(rt: HostRuntime) -> Result<(), Fail> {
 
 // Whether the element that is made of a text is that text.
 fn makes(words: &mut SmallSet<String>, text: &str) -> bool {
-    match words.get_or_insert_owned(&TextKey(text)) {
+    match words.get_or_insert_owned(text) {
         Ok(word) => word.as_str() == text,
         Err(_) => false,
     }
@@ -67,7 +67,7 @@ fn makes(words: &mut SmallSet<String>, text: &str) -> bool {
 fn makes_the_element_of_a_query(rt: HostRuntime) -> Result<(), Fail> {
     let mut words: SmallSet<String> = SmallSet::new(rt.alloc());
     holds(&rt, makes(&mut words, "a"));
-    holds(&rt, words.contains(&TextKey("a")));
+    holds(&rt, words.contains("a"));
     Ok(())
 }
 

@@ -1,7 +1,6 @@
 //! Maps: values from outside.
 
 use crate::given::{alike, holds, map_of, put, removed, same, shows};
-use starlark_map::TextKey;
 use starlark_map::unordered_map::UnorderedMap;
 use std::alloc::Global;
 use std::test::Fail;
@@ -84,8 +83,7 @@ fn retain_ending(map: &mut Texts, letter: char, end: char) -> usize {
 
 // Whether the value at the key is this one, by its index.
 fn has_at(map: &Texts, key: &str, value: &str) -> bool {
-    let query = TextKey(key);
-    map.contains_key(&query) && map[&query].as_str() == value
+    map.contains_key(key) && map[key].as_str() == value
 }
 
 // Whether the map has the changed value at each tenth key, and no other key.
@@ -95,7 +93,7 @@ fn has_tenths(alloc: Global, map: &Texts, count: u32) -> Result<bool, Fail> {
         let value = format!(in alloc; "value{i}x")?;
         let wanted = i % 10 == 0;
         if has_at(map, key.as_str(), value.as_str()) != wanted
-            || map.contains_key(&TextKey(key.as_str())) != wanted
+            || map.contains_key(key.as_str()) != wanted
         {
             return Ok(false);
         }

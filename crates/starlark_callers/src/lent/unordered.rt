@@ -13,7 +13,7 @@ ghost use Rattle.starlark_unordered.specs.Calling.{get, get_text};
 ghost use Rattle.starlark_unordered.specs.Pairs.{pairs_of, under_own, IsSlotOf};
 ghost use Rattle.starlark_unordered.specs.RawEntry.{map_of_raw, slot_of_raw, IsRawPlaceOf};
 
-use starlark_hash::{Equivalent, Hashed, KeyQuery, NoRoom, TextKey};
+use starlark_hash::{HashQuery, Hashed, NoRoom, Query};
 use starlark_unordered::unordered_set::RawEntryMut;
 use starlark_unordered::{Entry, UnorderedMap, UnorderedSet, raw_entry};
 use std::hash::Hash;
@@ -108,7 +108,7 @@ pub fn put_raw_named(map: &mut UnorderedMap<String, u64>, name: &str, value: u64
     ensures others { (other : String Global) → bytes_eq name.now (string_bytes other) ≡ false → get string_eq map.new other ≡ get string_eq map.old other }
     ensures lacks { IfNone result (map.new ≡ map.old) }
 {
-    match raw_place(map, &TextKey(name)) {
+    match raw_place(map, name) {
         raw_entry::RawEntryMut::Occupied(mut entry) => Some(entry.insert(value)),
         raw_entry::RawEntryMut::Vacant(_lacking) => None,
     }
@@ -127,26 +127,26 @@ pub fn look_up_raw(map: &mut UnorderedMap<u32, u64>, key: u32) -> Option<u64>
 }
 
 // The place that a query names, in one step: a proof does not follow the map from the builder into the entry.
-fn raw_place<'a, K: Eq + Hash, V, Q: KeyQuery<K>>(
+fn raw_place<'a, K: Eq + Hash, V, Q: HashQuery<K>>(
     map: &'a mut UnorderedMap<K, V>,
-    query: &Q,
+    query: Q,
 ) -> raw_entry::RawEntryMut<'a, K, V>
     ensures same_map { (map_of_raw result).ghost_name ≡ map.entry.ghost_name }
     ensures map { (map_of_raw result).now ≡ map.old }
-    ensures place { IsRawPlaceOf K.eq (Q.equivalent query.now) map.old result }
-    ensures slot { IsSlotOf (Q.equivalent query.now) map.old (slot_of_raw result) }
+    ensures place { IsRawPlaceOf K.eq (Q.stands_for query) map.old result }
+    ensures slot { IsSlotOf (Q.stands_for query) map.old (slot_of_raw result) }
 {
     UnorderedMap::raw_entry_mut(map).from_key(query)
 }
 
 // The place that a query names under a hash that is brought, in one step.
-fn raw_place_hashed<'a, K: Eq + Hash, V, Q: Equivalent<K>>(
+fn raw_place_hashed<'a, K: Eq + Hash, V, Q: Query<K>>(
     map: &'a mut UnorderedMap<K, V>,
-    key: Hashed<&Q>,
+    key: Hashed<Q>,
 ) -> raw_entry::RawEntryMut<'a, K, V>
     ensures same_map { (map_of_raw result).ghost_name ≡ map.entry.ghost_name }
     ensures map { (map_of_raw result).now ≡ map.old }
-    ensures slot { IsSlotOf (under_own K.hash_input (hash_of key.entry) (Q.equivalent (key_of key.entry).now)) map.old (slot_of_raw result) }
+    ensures slot { IsSlotOf (under_own K.hash_input (hash_of key) (Q.stands_for (key_of key))) map.old (slot_of_raw result) }
 {
     UnorderedMap::raw_entry_mut(map).from_key_hashed(key)
 }

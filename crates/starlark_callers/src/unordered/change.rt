@@ -5,7 +5,7 @@ ghost use Rattle.std.specs.Prelude.{◌+◌, ◌-◌, ◌<◌, ◌^◌, ◌≡�
 ghost use Rattle.starlark_unordered.specs.Calling.{contains, get, get_text};
 ghost use Rattle.starlark_unordered.specs.Pairs.{pairs_of};
 
-use starlark_hash::{NoRoom, TextKey};
+use starlark_hash::NoRoom;
 use starlark_unordered::entry::Entry;
 use starlark_unordered::{UnorderedMap, UnorderedSet};
 use std::alloc::{AllocError, Global};
@@ -59,7 +59,7 @@ pub fn count_text(
 ) -> Result<(), AllocError>
     ensures here { OnOk result (get_text map.new text.now ≡ Some (min (unwrap_or (get_text map.old text.now) 0 + 1) (2 ^ 64 - 1))) }
 {
-    match map.get_mut(&TextKey(text)) {
+    match map.get_mut(text) {
         Some(count) => *count = count.saturating_add(1),
         None => {
             if let Err(_refused) = map.insert(String::from_str(alloc, text)?, 1) {

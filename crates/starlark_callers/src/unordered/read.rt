@@ -1,11 +1,11 @@
 //! Callers that look up in unordered maps and sets, walk them, or compare.
 ghost use Rattle.std.specs.Map.{values_of};
 ghost use Rattle.std.specs.Option.{unwrap_or};
-ghost use Rattle.std.specs.Prelude.{◌<◌, ◌^◌, ◌↔◌, ◌≡◌, ◌≤◌, IfNone, IfOk, IfSome, IsNone, IsPermutation, IsSortedByKey, IsTrue, None, Some, map, sum, true};
+ghost use Rattle.std.specs.Prelude.{◌<◌, ◌^◌, ◌↔◌, ◌≡◌, ◌≤◌, IfNone, IfOk, IfSome, IsNone, IsPermutation, IsSortedByKey, IsTrue, None, Some, is_some, map, sum, true};
 ghost use Rattle.starlark_hash.specs.HashValue.{hash_of, key_of};
 ghost use Rattle.starlark_hash.specs.Hasher.{own_hash};
 ghost use Rattle.starlark_unordered.specs.Bag.{same_bag};
-ghost use Rattle.starlark_unordered.specs.Calling.{contains, get};
+ghost use Rattle.starlark_unordered.specs.Calling.{contains, get, get_text};
 ghost use Rattle.starlark_unordered.specs.Pairs.{pair_eq, pairs_of};
 ghost use Rattle.starlark_unordered.specs.Unit.{same_unit};
 
@@ -30,6 +30,21 @@ pub fn value_of<'a, K: Eq + Hash, V>(map: &'a UnorderedMap<K, V>, key: &K) -> &'
     ensures { get K.eq map.now key.now ≡ Some result.now }
 {
     &map[key]
+}
+
+/// The number of a text that is there.
+pub fn number_of(numbers: &UnorderedMap<String, u64>, text: &str) -> u64
+    requires { is_some (get_text numbers.now text.now) ≡ true }
+    ensures { get_text numbers.now text.now ≡ Some result }
+{
+    numbers[text]
+}
+
+/// Whether a set of strings has a text.
+pub fn has_text(texts: &UnorderedSet<String>, text: &str) -> bool
+    ensures { result ≡ is_some (get_text texts.now text.now) }
+{
+    texts.contains(text)
 }
 
 /// What is found under whatever hash is the key's value.

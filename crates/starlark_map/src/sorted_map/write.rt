@@ -4,14 +4,13 @@ ghost use Rattle.std.specs.Borrow.{sem};
 ghost use Rattle.std.specs.Map.{values_of};
 ghost use Rattle.std.specs.Option.{option_copied_mut};
 ghost use Rattle.starlark_hash.specs.Entries.{entry_value, pair_of};
-ghost use Rattle.starlark_small.specs.Map.{own_match};
 ghost use Rattle.starlark_hash.specs.Hasher.{own_hash};
 ghost use Rattle.starlark_small.specs.Calling.{FindsValue};
 ghost use Rattle.starlark_small.specs.Lending.{KeepsAllButValues};
 ghost use Rattle.starlark_map.specs.SortedLending.{lends_get, values_follow};
 
 use super::SortedMap;
-use starlark_hash::Equivalent;
+use starlark_hash::Query;
 use starlark_small::{IterMut, ValuesMut};
 use std::hash::Hash;
 
@@ -41,12 +40,12 @@ impl<K: Ord + Hash, V> SortedMap<K, V> {
         ValuesMut::of(self.iter_mut())
     }
 
-    /// The value under the query's own hash whose key the query is equivalent to, to be written. The map ends with what
-    /// is left in it, and all else stays. `None` where there is no such entry, and then the map is as it was.
+    /// The value under the query's own hash whose key the query stands for, to be written. The map ends with what is
+    /// left in it, and all else stays. `None` where there is no such entry, and then the map is as it was.
     #[inline]
-    pub fn get_mut<Q: Equivalent<K> + Hash>(&mut self, key: &Q) -> Option<&mut V>
-        ensures* writes_back { sem 𝓛 (lends_get K.row V.row K.cmp K.eq K.partial_cmp K.hash_input self.entry (Q.equivalent key.now) (own_hash Q.hash_input key.now) result) }
-        ensures finds { FindsValue (Q.equivalent key.now) (own_hash Q.hash_input key.now) (own_match Q.equivalent Q.hash_input self.old.entries key.now) self.old (option_copied_mut result) }
+    pub fn get_mut<Q: Query<K> + Hash>(&mut self, key: Q) -> Option<&mut V>
+        ensures* writes_back { sem 𝓛 (lends_get K.row V.row K.cmp K.eq K.partial_cmp K.hash_input self.entry (Q.stands_for key) (own_hash Q.hash_input key) result) }
+        ensures finds { FindsValue (Q.stands_for key) (own_hash Q.hash_input key) self.old (option_copied_mut result) }
     {
         self.map.get_mut(key)
     }

@@ -4,13 +4,12 @@ ghost use Rattle.std.specs.Option.{option_copied, option_map};
 ghost use Rattle.starlark_hash.specs.Entries.{IsSingle, entry_key};
 ghost use Rattle.starlark_hash.specs.Sorting.{Ascends};
 ghost use Rattle.starlark_map.specs.Sorted.{AreOwn, AscendsStrictly};
-ghost use Rattle.starlark_small.specs.Map.{own_match};
 ghost use Rattle.starlark_hash.specs.Hasher.{own_hash};
 ghost use Rattle.starlark_small.specs.Calling.{TellsPresence};
 ghost use Rattle.starlark_sets.specs.Taking.{ShowsElement};
 
 use super::SortedSet;
-use starlark_hash::Equivalent;
+use starlark_hash::Query;
 use std::hash::Hash;
 
 impl<T: Ord + Hash> SortedSet<T> {
@@ -30,18 +29,18 @@ impl<T: Ord + Hash> SortedSet<T> {
         self.inner.is_empty()
     }
 
-    /// The element under the query's own hash to which the query is equivalent.
+    /// The element under the query's own hash that the query stands for.
     #[inline]
-    pub fn get<Q: Equivalent<T> + Hash>(&self, value: &Q) -> Option<&T>
-        ensures { ShowsElement (Q.equivalent value.now) (own_hash Q.hash_input value.now) (own_match Q.equivalent Q.hash_input self.now.entries value.now) self.now result }
+    pub fn get<Q: Query<T> + Hash>(&self, value: Q) -> Option<&T>
+        ensures { ShowsElement (Q.stands_for value) (own_hash Q.hash_input value) self.now result }
     {
         self.inner.get(value)
     }
 
-    /// Whether there is an element under the query's own hash to which the query is equivalent.
+    /// Whether there is an element under the query's own hash that the query stands for.
     #[inline]
-    pub fn contains<Q: Equivalent<T> + Hash>(&self, value: &Q) -> bool
-        ensures { TellsPresence (Q.equivalent value.now) (own_hash Q.hash_input value.now) (own_match Q.equivalent Q.hash_input self.now.entries value.now) self.now result }
+    pub fn contains<Q: Query<T> + Hash>(&self, value: Q) -> bool
+        ensures { TellsPresence (Q.stands_for value) (own_hash Q.hash_input value) self.now result }
     {
         self.inner.contains(value)
     }

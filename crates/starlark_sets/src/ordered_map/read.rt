@@ -3,12 +3,11 @@ ghost use Rattle.std.specs.Prelude.{◌≡◌, ◌==◌, slice_get, length};
 ghost use Rattle.std.specs.Map.Iter.{deref_pair};
 ghost use Rattle.std.specs.Option.{option_copied, option_map};
 ghost use Rattle.starlark_hash.specs.Entries.{pair_of};
-ghost use Rattle.starlark_small.specs.Map.{own_match};
 ghost use Rattle.starlark_hash.specs.Hasher.{own_hash};
 ghost use Rattle.starlark_small.specs.Calling.{FindsValue, NamesPlace, TellsPresence};
 
 use super::OrderedMap;
-use starlark_hash::Equivalent;
+use starlark_hash::Query;
 use std::hash::Hash;
 
 impl<K: Eq, V> OrderedMap<K, V> {
@@ -28,10 +27,10 @@ impl<K: Eq, V> OrderedMap<K, V> {
         self.0.is_empty()
     }
 
-    /// The value under the query's own hash whose key the query is equivalent to.
+    /// The value under the query's own hash whose key the query stands for.
     #[inline(always)]
-    pub fn get<Q: Equivalent<K> + Hash>(&self, key: &Q) -> Option<&V>
-        ensures { FindsValue (Q.equivalent key.now) (own_hash Q.hash_input key.now) (own_match Q.equivalent Q.hash_input self.now.entries key.now) self.now (option_copied result) }
+    pub fn get<Q: Query<K> + Hash>(&self, key: Q) -> Option<&V>
+        ensures { FindsValue (Q.stands_for key) (own_hash Q.hash_input key) self.now (option_copied result) }
     {
         self.0.get(key)
     }
@@ -44,18 +43,18 @@ impl<K: Eq, V> OrderedMap<K, V> {
         self.0.get_index(index)
     }
 
-    /// The place under the query's own hash whose key the query is equivalent to.
+    /// The place under the query's own hash whose key the query stands for.
     #[inline(always)]
-    pub fn get_index_of<Q: Equivalent<K> + Hash>(&self, key: &Q) -> Option<usize>
-        ensures { NamesPlace (Q.equivalent key.now) (own_hash Q.hash_input key.now) (own_match Q.equivalent Q.hash_input self.now.entries key.now) self.now result }
+    pub fn get_index_of<Q: Query<K> + Hash>(&self, key: Q) -> Option<usize>
+        ensures { NamesPlace (Q.stands_for key) (own_hash Q.hash_input key) self.now result }
     {
         self.0.get_index_of(key)
     }
 
-    /// Whether there is an entry under the query's own hash whose key the query is equivalent to.
+    /// Whether there is an entry under the query's own hash whose key the query stands for.
     #[inline(always)]
-    pub fn contains_key<Q: Equivalent<K> + Hash>(&self, key: &Q) -> bool
-        ensures { TellsPresence (Q.equivalent key.now) (own_hash Q.hash_input key.now) (own_match Q.equivalent Q.hash_input self.now.entries key.now) self.now result }
+    pub fn contains_key<Q: Query<K> + Hash>(&self, key: Q) -> bool
+        ensures { TellsPresence (Q.stands_for key) (own_hash Q.hash_input key) self.now result }
     {
         self.0.contains_key(key)
     }

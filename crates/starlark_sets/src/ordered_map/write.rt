@@ -4,7 +4,7 @@ ghost use Rattle.std.specs.Borrow.{sem};
 ghost use Rattle.std.specs.Map.{values_of};
 ghost use Rattle.std.specs.Option.{option_copied_mut};
 ghost use Rattle.starlark_hash.specs.Entries.{entry_value, pair_of};
-ghost use Rattle.starlark_small.specs.Map.{own_hashed, own_match};
+ghost use Rattle.starlark_small.specs.Map.{own_hashed};
 ghost use Rattle.starlark_small.specs.MapEntry.{Enters};
 ghost use Rattle.starlark_hash.specs.Hasher.{own_hash};
 ghost use Rattle.starlark_small.specs.Calling.{FindsValue};
@@ -12,7 +12,7 @@ ghost use Rattle.starlark_small.specs.Lending.{KeepsAllButValues};
 ghost use Rattle.starlark_sets.specs.OrderedLending.{follows_entry, lends_get, lends_inside, values_follow};
 
 use super::OrderedMap;
-use starlark_hash::Equivalent;
+use starlark_hash::Query;
 use starlark_small::{Entry, IterMut, SmallMap, ValuesMut};
 use std::hash::Hash;
 
@@ -42,12 +42,12 @@ impl<K: Eq, V> OrderedMap<K, V> {
         ValuesMut::of(self.iter_mut())
     }
 
-    /// The value under the query's own hash whose key the query is equivalent to, to be written. The map ends with what
-    /// is left in it, and all else stays. `None` where there is no such entry, and then the map is as it was.
+    /// The value under the query's own hash whose key the query stands for, to be written. The map ends with what is
+    /// left in it, and all else stays. `None` where there is no such entry, and then the map is as it was.
     #[inline(always)]
-    pub fn get_mut<Q: Equivalent<K> + Hash>(&mut self, key: &Q) -> Option<&mut V>
-        ensures* writes_back { sem 𝓛 (lends_get K.row V.row K.PartialEq self.entry (Q.equivalent key.now) (own_hash Q.hash_input key.now) result) }
-        ensures finds { FindsValue (Q.equivalent key.now) (own_hash Q.hash_input key.now) (own_match Q.equivalent Q.hash_input self.old.entries key.now) self.old (option_copied_mut result) }
+    pub fn get_mut<Q: Query<K> + Hash>(&mut self, key: Q) -> Option<&mut V>
+        ensures* writes_back { sem 𝓛 (lends_get K.row V.row K.PartialEq self.entry (Q.stands_for key) (own_hash Q.hash_input key) result) }
+        ensures finds { FindsValue (Q.stands_for key) (own_hash Q.hash_input key) self.old (option_copied_mut result) }
     {
         self.0.get_mut(key)
     }

@@ -2,15 +2,14 @@
 ghost use Rattle.std.specs.Prelude.{◌≡◌, ◌-◌, ◌==◌, is_some, slice_get, length};
 ghost use Rattle.std.specs.Option.{option_copied, option_map};
 ghost use Rattle.starlark_hash.specs.HashValue.{hash_of, key_of};
-ghost use Rattle.starlark_hash.specs.Entries.{entry_key};
-ghost use Rattle.starlark_small.specs.Map.{own_match, query_match};
+ghost use Rattle.starlark_hash.specs.Entries.{entry_key, position_of};
 ghost use Rattle.starlark_hash.specs.Hasher.{own_hash};
 ghost use Rattle.starlark_hash.specs.Finding.{found};
 ghost use Rattle.starlark_small.specs.Calling.{NamesPlace, TellsPresence};
 ghost use Rattle.starlark_sets.specs.Taking.{ShowsElement};
 
 use super::OrderedSet;
-use starlark_hash::{Equivalent, Hashed};
+use starlark_hash::{Hashed, Query};
 use std::hash::Hash;
 
 impl<T: Eq> OrderedSet<T> {
@@ -30,27 +29,27 @@ impl<T: Eq> OrderedSet<T> {
         self.0.is_empty()
     }
 
-    /// The element under the query's own hash to which the query is equivalent.
+    /// The element under the query's own hash that the query stands for.
     #[inline(always)]
-    pub fn get<Q: Equivalent<T> + Hash>(&self, query: &Q) -> Option<&T>
-        ensures { ShowsElement (Q.equivalent query.now) (own_hash Q.hash_input query.now) (own_match Q.equivalent Q.hash_input self.now.entries query.now) self.now result }
+    pub fn get<Q: Query<T> + Hash>(&self, query: Q) -> Option<&T>
+        ensures { ShowsElement (Q.stands_for query) (own_hash Q.hash_input query) self.now result }
     {
         self.0.get(query)
     }
 
-    /// Whether there is an element under the query's own hash to which the query is equivalent.
+    /// Whether there is an element under the query's own hash that the query stands for.
     #[inline(always)]
-    pub fn contains<Q: Equivalent<T> + Hash>(&self, query: &Q) -> bool
-        ensures { TellsPresence (Q.equivalent query.now) (own_hash Q.hash_input query.now) (own_match Q.equivalent Q.hash_input self.now.entries query.now) self.now result }
+    pub fn contains<Q: Query<T> + Hash>(&self, query: Q) -> bool
+        ensures { TellsPresence (Q.stands_for query) (own_hash Q.hash_input query) self.now result }
     {
         self.0.contains(query)
     }
 
-    /// Whether there is an element under this hash to which the query is equivalent.
+    /// Whether there is an element under this hash that the query stands for.
     #[inline(always)]
-    pub fn contains_hashed<Q: Equivalent<T>>(&self, query: Hashed<&Q>) -> bool
-        ensures place { result ≡ is_some (query_match Q.equivalent self.now.entries query.entry) }
-        ensures found { result ≡ is_some (found (Q.equivalent (key_of query.entry).now) (hash_of query.entry) self.now.entries) }
+    pub fn contains_hashed<Q: Query<T>>(&self, query: Hashed<Q>) -> bool
+        ensures place { result ≡ is_some (position_of (hash_of query) (Q.stands_for (key_of query)) self.now.entries) }
+        ensures found { result ≡ is_some (found (Q.stands_for (key_of query)) (hash_of query) self.now.entries) }
     {
         self.0.contains_hashed(query)
     }
@@ -63,10 +62,10 @@ impl<T: Eq> OrderedSet<T> {
         self.0.get_index(index)
     }
 
-    /// The place of the element under the query's own hash to which the query is equivalent.
+    /// The place of the element under the query's own hash that the query stands for.
     #[inline(always)]
-    pub fn get_index_of<Q: Equivalent<T> + Hash>(&self, query: &Q) -> Option<usize>
-        ensures { NamesPlace (Q.equivalent query.now) (own_hash Q.hash_input query.now) (own_match Q.equivalent Q.hash_input self.now.entries query.now) self.now result }
+    pub fn get_index_of<Q: Query<T> + Hash>(&self, query: Q) -> Option<usize>
+        ensures { NamesPlace (Q.stands_for query) (own_hash Q.hash_input query) self.now result }
     {
         self.0.get_index_of(query)
     }

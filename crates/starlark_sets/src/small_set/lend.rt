@@ -10,8 +10,7 @@ ghost use Rattle.starlark_sets.specs.Lending.{AddsAt, IsShown, ends_so};
 ghost use Rattle.starlark_sets.specs.Set.{Adds};
 
 use super::SmallSet;
-use starlark_hash::key_query::ToOwnedKey;
-use starlark_hash::{Hashed, NoRoom, StarlarkHashValue};
+use starlark_hash::{Hashed, NoRoom, OwnedQuery};
 use starlark_small::SmallMap;
 use std::alloc::AllocError;
 use std::hash::Hash;
@@ -30,18 +29,18 @@ impl<T: Eq> SmallSet<T> {
         shown(self.frozen(), place)
     }
 
-    /// The element that is there under the query's own hash and to which the query is equivalent, and then nothing
-    /// changes; or else the one that the query makes, put last under that hash. It is refused where the query's element
-    /// is lacking, and `to_owned_key` is refused or there is no room and no memory is found: then elements and index
-    /// stay. Where there is room, and the query's `to_owned_key` can't be refused, it is not.
-    pub fn get_or_insert_owned<Q: ToOwnedKey<T> + Hash>(
+    /// The element that is there under the query's own hash and that the query stands for, and then nothing changes; or
+    /// else the one that the query makes, put last under that hash. It is refused where the query's element is lacking,
+    /// and `to_owned_key` is refused or there is no room and no memory is found: then elements and index stay. Where
+    /// there is room, and the query's `to_owned_key` can't be refused, it is not.
+    pub fn get_or_insert_owned<Q: OwnedQuery<T> + Hash>(
         &mut self,
-        value: &Q,
+        value: Q,
     ) -> Result<&T, AllocError>
     where
         T: Drop,
-        ensures* set { sem 𝓛 (ends_so T.row T.PartialEq self.entry (PutsElementFor T.eq Q.equivalent Q.hash_input value.now self.old result)) }
-        ensures succeeds { Q.is_infallible value.now → 0 < self.old.room → IsOk result }
+        ensures* set { sem 𝓛 (ends_so T.row T.PartialEq self.entry (PutsElementFor T.eq Q.stands_for Q.hash_input value self.old result)) }
+        ensures succeeds { Q.OwnedQuery.is_infallible value → 0 < self.old.room → IsOk result }
     {
         let place = self.place_or_push_for(value)?;
         Ok(element_in(&self.map, place))
@@ -85,14 +84,14 @@ impl<T: Eq> SmallSet<T> {
 
 impl<T: Eq> SmallSet<T> {
     // The place of the element for a query under its own hash, which is made and put last where it is lacking.
-    fn place_or_push_for<Q: ToOwnedKey<T> + Hash>(&mut self, query: &Q) -> Result<usize, AllocError>
+    fn place_or_push_for<Q: OwnedQuery<T> + Hash>(&mut self, query: Q) -> Result<usize, AllocError>
     where
         T: Drop,
-        ensures set { AddsAt Q.equivalent query.now (own_hash Q.hash_input query.now) self.old result self.new }
+        ensures set { AddsAt Q.stands_for query (own_hash Q.hash_input query) self.old result self.new }
         ensures within { IfOk result (λ i. i < length self.new.entries) }
-        ensures succeeds { Q.is_infallible query.now → 0 < self.old.room → IsOk result }
+        ensures succeeds { Q.OwnedQuery.is_infallible query → 0 < self.old.room → IsOk result }
     {
-        let query = Hashed::new_unchecked(StarlarkHashValue::new(query), query);
+        let query = Hashed::new(query);
         match self.map.get_index_of_hashed(query) {
             Some(place) => Ok(place),
             None => {

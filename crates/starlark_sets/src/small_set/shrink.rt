@@ -1,51 +1,49 @@
 //! What takes elements out of a `SmallSet`, and what turns it round. None of it asks for memory.
-ghost use Rattle.std.specs.Prelude.{◌≡◌, ◌-◌, None, is_some, length, slice_get, IfSome};
+ghost use Rattle.std.specs.Prelude.{◌≡◌, ◌-◌, None, length, slice_get, IfSome};
 ghost use Rattle.std.specs.Option.{IfNone, option_map};
 ghost use Rattle.starlark_hash.specs.HashValue.{hash_of, key_of};
 ghost use Rattle.starlark_hash.specs.Hasher.{own_hash};
-ghost use Rattle.starlark_small.specs.Map.{own_match, query_match};
-ghost use Rattle.starlark_hash.specs.Finding.{Writes, found};
-ghost use Rattle.starlark_small.specs.Calling.{Removes, contains};
+ghost use Rattle.starlark_hash.specs.Finding.{Writes};
+ghost use Rattle.starlark_small.specs.Calling.{Removes, TellsPresence};
 ghost use Rattle.starlark_small.specs.Changing.{Clears, Turns};
 ghost use Rattle.starlark_sets.specs.Taking.{TakesElement, TakesElementAt};
 
 use super::SmallSet;
-use starlark_hash::{Equivalent, Hashed};
+use starlark_hash::{Hashed, Query};
 use std::hash::Hash;
 
 // Removals of an element
 
 impl<T: Eq> SmallSet<T> {
-    /// Removes the element under the query's own hash to which the query is equivalent, and answers whether it was
-    /// there. Those after it move up. Capacity and index stay.
+    /// Removes the element under the query's own hash that the query stands for, and answers whether it was there. Those
+    /// after it move up. Capacity and index stay.
     #[inline]
-    pub fn shift_remove<Q: Equivalent<T> + Hash>(&mut self, key: &Q) -> bool
+    pub fn shift_remove<Q: Query<T> + Hash>(&mut self, key: Q) -> bool
     where
         T: Drop,
-        ensures was { result ≡ contains Q.equivalent Q.hash_input self.old key.now }
-        ensures taken { result ≡ is_some (own_match Q.equivalent Q.hash_input self.old.entries key.now) }
-        ensures removes { Removes T.eq (Q.equivalent key.now) (own_hash Q.hash_input key.now) (own_match Q.equivalent Q.hash_input self.old.entries key.now) self.old self.new }
+        ensures was { TellsPresence (Q.stands_for key) (own_hash Q.hash_input key) self.old result }
+        ensures removes { Removes T.eq (Q.stands_for key) (own_hash Q.hash_input key) self.old self.new }
     {
-        self.map.shift_remove(key).is_some()
+        self.shift_remove_hashed(Hashed::new(key))
     }
 
-    /// Removes the element under this hash to which the query is equivalent, and answers whether it was there. Those
-    /// after it move up. Capacity and index stay.
-    pub fn shift_remove_hashed<Q: Equivalent<T>>(&mut self, key: Hashed<&Q>) -> bool
+    /// Removes the element under this hash that the query stands for, and answers whether it was there. Those after it
+    /// move up. Capacity and index stay.
+    #[inline]
+    pub fn shift_remove_hashed<Q: Query<T>>(&mut self, key: Hashed<Q>) -> bool
     where
         T: Drop,
-        ensures was { result ≡ is_some (found (Q.equivalent (key_of key.entry).now) (hash_of key.entry) self.old.entries) }
-        ensures taken { result ≡ is_some (query_match Q.equivalent self.old.entries key.entry) }
-        ensures removes { Removes T.eq (Q.equivalent (key_of key.entry).now) (hash_of key.entry) (query_match Q.equivalent self.old.entries key.entry) self.old self.new }
+        ensures was { TellsPresence (Q.stands_for (key_of key)) (hash_of key) self.old result }
+        ensures removes { Removes T.eq (Q.stands_for (key_of key)) (hash_of key) self.old self.new }
     {
         self.map.shift_remove_hashed(key).is_some()
     }
 
-    /// Removes the element under the query's own hash to which the query is equivalent, and answers it. Those after it
-    /// move up. Capacity and index stay.
+    /// Removes the element under the query's own hash that the query stands for, and answers it. Those after it move up.
+    /// Capacity and index stay.
     #[inline]
-    pub fn take<Q: Equivalent<T> + Hash>(&mut self, key: &Q) -> Option<T>
-        ensures { TakesElement (Q.equivalent key.now) (own_hash Q.hash_input key.now) (own_match Q.equivalent Q.hash_input self.old.entries key.now) T.eq self.old self.new result }
+    pub fn take<Q: Query<T> + Hash>(&mut self, key: Q) -> Option<T>
+        ensures { TakesElement T.eq (Q.stands_for key) (own_hash Q.hash_input key) self.old self.new result }
     {
         let (element, ()) = self.map.shift_remove_entry(key)?;
         Some(element)

@@ -1,13 +1,14 @@
 //! Searches of a list through its index.
 ghost use Rattle.std.specs.Prelude.{◌≡◌, ◌<◌, Some, length, slice_get};
 ghost use Rattle.std.specs.Fn.{CalledAt, TakesAt};
+ghost use Rattle.starlark_hash.specs.Entries.{position_of};
+ghost use Rattle.starlark_hash.specs.HashValue.{hash_of, key_of};
 ghost use Rattle.starlark_hash.specs.Search.{CanSearch, Searches, keys_under};
 ghost use Rattle.starlark_small.specs.Index.{IsIndexOf, IsIndexed, IsSound};
-ghost use Rattle.starlark_small.specs.Map.{query_match};
 
 use super::Index;
 use super::hash_table::HashTable;
-use starlark_hash::{Equivalent, Hashed, StarlarkHashValue};
+use starlark_hash::{Hashed, Query, StarlarkHashValue};
 use starlark_vecmap::VecMap;
 
 impl Index {
@@ -29,20 +30,21 @@ impl Index {
         }
     }
 
-    /// The index of a single list under the query's hash whose key the query is equivalent to.
+    /// The index of a single list under the query's hash whose key the query stands for.
     #[inline(always)]
-    pub(crate) fn position_of<K: Eq, V, Q: Equivalent<K>>(
+    pub(crate) fn position_of<K: Eq, V, Q: Query<K>>(
         &self,
         entries: &VecMap<K, V>,
-        key: Hashed<&Q>,
+        key: Hashed<Q>,
     ) -> Option<usize>
         requires sound { IsSound K.eq entries.now.entries self.now }
-        ensures { result ≡ query_match Q.equivalent entries.now.entries key.entry }
+        ensures { result ≡ position_of (hash_of key) (Q.stands_for (key_of key)) entries.now.entries }
     {
         match self.table.get() {
             Some(table) => {
-                let query = *key.key();
-                find_in(table, entries, key.hash(), |k: &K| query.equivalent(k))
+                let hash = key.hash();
+                let query = key.into_key();
+                find_in(table, entries, hash, move |k: &K| query.stands_for(k))
             }
             None => entries.get_index_of_hashed_among_few(key),
         }

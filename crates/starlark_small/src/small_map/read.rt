@@ -4,58 +4,52 @@ ghost use Rattle.std.specs.Map.Iter.{deref_pair};
 ghost use Rattle.std.specs.Option.{option_copied, option_map};
 ghost use Rattle.starlark_hash.specs.HashValue.{hash_of, key_of};
 ghost use Rattle.starlark_hash.specs.Hasher.{own_hash};
-ghost use Rattle.starlark_hash.specs.Entries.{IsSingle, entry_at, value_at, pair_of};
-ghost use Rattle.starlark_hash.specs.Finding.{found};
+ghost use Rattle.starlark_hash.specs.Entries.{IsSingle, pair_of};
 ghost use Rattle.starlark_hash.specs.Search.{CanSearch, Searches, keys_under};
 ghost use Rattle.starlark_small.specs.Index.{positions, unindexed};
 ghost use Rattle.starlark_table.specs.Table.{members};
-ghost use Rattle.starlark_small.specs.Calling.{FindsValue, NamesPlace, TellsPresence, get, get_key};
-ghost use Rattle.starlark_small.specs.Map.{query_match, query_match_by_value, own_match};
+ghost use Rattle.starlark_small.specs.Calling.{FindsEntry, FindsValue, NamesPlace, TellsPresence};
 
 use super::SmallMap;
-use crate::own_hash::under_own_hash;
-use starlark_hash::{Equivalent, Hashed, StarlarkHashValue};
+use starlark_hash::{Equivalent, Hashed, Query, StarlarkHashValue};
 use starlark_table::ReadyTable;
 use std::hash::Hash;
 
 // Under a hash that is brought
 
 impl<K: Eq, V> SmallMap<K, V> {
-    /// The value under this hash whose key the query is equivalent to.
+    /// The value under this hash whose key the query stands for.
     #[inline(always)]
-    pub fn get_hashed<Q: Equivalent<K>>(&self, key: Hashed<&Q>) -> Option<&V>
-        ensures { FindsValue (Q.equivalent (key_of key.entry).now) (hash_of key.entry) (query_match Q.equivalent self.now.entries key.entry) self.now (option_copied result) }
+    pub fn get_hashed<Q: Query<K>>(&self, key: Hashed<Q>) -> Option<&V>
+        ensures { FindsValue (Q.stands_for (key_of key)) (hash_of key) self.now (option_copied result) }
     {
         let index = self.get_index_of_hashed(key)?;
         let (_, value) = self.entries.get_unchecked(index);
         Some(value)
     }
 
-    /// As `get_hashed`, by a query that is handed over and dropped.
+    /// As `get_hashed`, by an `Equivalent` that is handed over and dropped.
     #[inline]
     pub fn get_hashed_by_value<Q: Equivalent<K> + Drop>(&self, key: Hashed<Q>) -> Option<&V>
-        ensures { option_copied result ≡ value_at self.now.entries (query_match_by_value Q.equivalent self.now.entries key) }
+        ensures { FindsValue (Q.equivalent (key_of key)) (hash_of key) self.now (option_copied result) }
     {
         self.get_hashed(key.as_ref())
     }
 
-    /// The place under this hash whose key the query is equivalent to, with the key and the value there.
+    /// The place under this hash whose key the query stands for, with the key and the value there.
     #[inline(always)]
-    pub fn get_full_hashed<Q: Equivalent<K>>(&self, key: Hashed<&Q>) -> Option<(usize, &K, &V)>
-        ensures place { option_map (λ found. found.0) result ≡ query_match Q.equivalent self.now.entries key.entry }
-        ensures pair { option_map (λ found. (found.1.now, found.2.now)) result
-            ≡ option_map pair_of (entry_at self.now.entries (query_match Q.equivalent self.now.entries key.entry)) }
+    pub fn get_full_hashed<Q: Query<K>>(&self, key: Hashed<Q>) -> Option<(usize, &K, &V)>
+        ensures { FindsEntry (Q.stands_for (key_of key)) (hash_of key) self.now result }
     {
         let index = self.get_index_of_hashed(key)?;
         let (key, value) = self.entries.get_unchecked(index);
         Some((index, key.into_key(), value))
     }
 
-    /// The place under this hash whose key the query is equivalent to.
+    /// The place under this hash whose key the query stands for.
     #[inline(always)]
-    pub fn get_index_of_hashed<Q: Equivalent<K>>(&self, key: Hashed<&Q>) -> Option<usize>
-        ensures place { result ≡ query_match Q.equivalent self.now.entries key.entry }
-        ensures within { IfSome result (λ i. i < length self.now.entries) }
+    pub fn get_index_of_hashed<Q: Query<K>>(&self, key: Hashed<Q>) -> Option<usize>
+        ensures names { NamesPlace (Q.stands_for (key_of key)) (hash_of key) self.now result }
         ensures single { IsSingle K.eq self.now.entries }
     {
         self.index.position_of(&self.entries, key)
@@ -76,31 +70,29 @@ impl<K: Eq, V> SmallMap<K, V> {
         self.index.find(&self.entries, hash, eq)
     }
 
-    /// As `get_index_of_hashed`, by a query that is handed over and dropped.
+    /// As `get_index_of_hashed`, by an `Equivalent` that is handed over and dropped.
     #[inline]
     pub fn get_index_of_hashed_by_value<Q: Equivalent<K> + Drop>(
         &self,
         key: Hashed<Q>,
     ) -> Option<usize>
-        ensures place { result ≡ query_match_by_value Q.equivalent self.now.entries key }
-        ensures within { IfSome result (λ i. i < length self.now.entries) }
+        ensures { NamesPlace (Q.equivalent (key_of key)) (hash_of key) self.now result }
     {
         self.get_index_of_hashed(key.as_ref())
     }
 
-    /// Whether there is an entry under this hash whose key the query is equivalent to.
+    /// Whether there is an entry under this hash whose key the query stands for.
     #[inline(always)]
-    pub fn contains_key_hashed<Q: Equivalent<K>>(&self, key: Hashed<&Q>) -> bool
-        ensures place { result ≡ is_some (query_match Q.equivalent self.now.entries key.entry) }
-        ensures found { result ≡ is_some (found (Q.equivalent (key_of key.entry).now) (hash_of key.entry) self.now.entries) }
+    pub fn contains_key_hashed<Q: Query<K>>(&self, key: Hashed<Q>) -> bool
+        ensures { TellsPresence (Q.stands_for (key_of key)) (hash_of key) self.now result }
     {
         self.get_index_of_hashed(key).is_some()
     }
 
-    /// As `contains_key_hashed`, by a query that is handed over and dropped.
+    /// As `contains_key_hashed`, by an `Equivalent` that is handed over and dropped.
     #[inline]
     pub fn contains_key_hashed_by_value<Q: Equivalent<K> + Drop>(&self, key: Hashed<Q>) -> bool
-        ensures { result ≡ is_some (query_match_by_value Q.equivalent self.now.entries key) }
+        ensures { TellsPresence (Q.equivalent (key_of key)) (hash_of key) self.now result }
     {
         self.contains_key_hashed(key.as_ref())
     }
@@ -109,40 +101,36 @@ impl<K: Eq, V> SmallMap<K, V> {
 // Under the query's own hash
 
 impl<K: Eq, V> SmallMap<K, V> {
-    /// The value under the query's own hash whose key the query is equivalent to.
+    /// The value under the query's own hash whose key the query stands for.
     #[inline(always)]
-    pub fn get<Q: Equivalent<K> + Hash>(&self, key: &Q) -> Option<&V>
-        ensures { FindsValue (Q.equivalent key.now) (own_hash Q.hash_input key.now) (own_match Q.equivalent Q.hash_input self.now.entries key.now) self.now (option_copied result) }
+    pub fn get<Q: Query<K> + Hash>(&self, key: Q) -> Option<&V>
+        ensures { FindsValue (Q.stands_for key) (own_hash Q.hash_input key) self.now (option_copied result) }
     {
-        self.get_hashed(under_own_hash(key))
+        self.get_hashed(Hashed::new(key))
     }
 
-    /// The place under the query's own hash whose key the query is equivalent to, with the key and the value there.
+    /// The place under the query's own hash whose key the query stands for, with the key and the value there.
     #[inline(always)]
-    pub fn get_full<Q: Equivalent<K> + Hash>(&self, key: &Q) -> Option<(usize, &K, &V)>
-        ensures place { option_map (λ found. found.0) result ≡ own_match Q.equivalent Q.hash_input self.now.entries key.now }
-        ensures pair { option_map (λ found. (found.1.now, found.2.now)) result
-            ≡ option_map pair_of (entry_at self.now.entries (own_match Q.equivalent Q.hash_input self.now.entries key.now)) }
-        ensures stored { option_map (λ found. found.1.now) result ≡ get_key Q.equivalent Q.hash_input self.now key.now }
-        ensures found { option_map (λ found. found.2.now) result ≡ get Q.equivalent Q.hash_input self.now key.now }
+    pub fn get_full<Q: Query<K> + Hash>(&self, key: Q) -> Option<(usize, &K, &V)>
+        ensures { FindsEntry (Q.stands_for key) (own_hash Q.hash_input key) self.now result }
     {
-        self.get_full_hashed(under_own_hash(key))
+        self.get_full_hashed(Hashed::new(key))
     }
 
-    /// The place under the query's own hash whose key the query is equivalent to.
+    /// The place under the query's own hash whose key the query stands for.
     #[inline(always)]
-    pub fn get_index_of<Q: Equivalent<K> + Hash>(&self, key: &Q) -> Option<usize>
-        ensures { NamesPlace (Q.equivalent key.now) (own_hash Q.hash_input key.now) (own_match Q.equivalent Q.hash_input self.now.entries key.now) self.now result }
+    pub fn get_index_of<Q: Query<K> + Hash>(&self, key: Q) -> Option<usize>
+        ensures { NamesPlace (Q.stands_for key) (own_hash Q.hash_input key) self.now result }
     {
-        self.get_index_of_hashed(under_own_hash(key))
+        self.get_index_of_hashed(Hashed::new(key))
     }
 
-    /// Whether there is an entry under the query's own hash whose key the query is equivalent to.
+    /// Whether there is an entry under the query's own hash whose key the query stands for.
     #[inline(always)]
-    pub fn contains_key<Q: Equivalent<K> + Hash>(&self, key: &Q) -> bool
-        ensures { TellsPresence (Q.equivalent key.now) (own_hash Q.hash_input key.now) (own_match Q.equivalent Q.hash_input self.now.entries key.now) self.now result }
+    pub fn contains_key<Q: Query<K> + Hash>(&self, key: Q) -> bool
+        ensures { TellsPresence (Q.stands_for key) (own_hash Q.hash_input key) self.now result }
     {
-        self.contains_key_hashed(under_own_hash(key))
+        self.contains_key_hashed(Hashed::new(key))
     }
 }
 

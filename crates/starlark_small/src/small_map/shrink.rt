@@ -1,68 +1,63 @@
 //! What takes entries out of a `SmallMap`. None of it asks for memory.
 ghost use Rattle.std.specs.Prelude.{◌≡◌, ◌+◌, ◌-◌, ◌<◌, ◌≤◌, false, min, nat_le, slice_get, length, if◌then◌else◌, Some};
 ghost use Rattle.std.specs.Option.{option_map};
-ghost use Rattle.starlark_hash.specs.Entries.{entry_at, pair_of};
+ghost use Rattle.starlark_hash.specs.Entries.{pair_of};
 ghost use Rattle.starlark_hash.specs.Hasher.{own_hash};
-ghost use Rattle.starlark_hash.specs.Finding.{found};
 ghost use Rattle.starlark_hash.specs.HashValue.{hash_of, key_of};
-ghost use Rattle.starlark_small.specs.Calling.{get, FindsValue, Removes, TakesAt};
+ghost use Rattle.starlark_small.specs.Calling.{FindsPair, FindsValue, Removes, TakesAt};
 ghost use Rattle.starlark_small.specs.Changing.{Clears};
 ghost use Rattle.starlark_small.specs.Index.{unindexed};
-ghost use Rattle.starlark_small.specs.Map.{query_match, own_match};
 
 use super::SmallMap;
-use crate::own_hash::under_own_hash;
-use starlark_hash::{Equivalent, Hashed};
+use starlark_hash::{Hashed, Query};
 use std::hash::Hash;
 
 // Removals by key
 
 impl<K: Eq, V> SmallMap<K, V> {
-    /// Removes the entry under this hash whose key the query is equivalent to, drops its key and answers its value.
-    /// Those after it move up. Capacity and index stay.
-    pub fn shift_remove_hashed<Q: Equivalent<K>>(&mut self, key: Hashed<&Q>) -> Option<V>
+    /// Removes the entry under this hash whose key the query stands for, drops its key and answers its value. Those
+    /// after it move up. Capacity and index stay.
+    pub fn shift_remove_hashed<Q: Query<K>>(&mut self, key: Hashed<Q>) -> Option<V>
     where
         K: Drop,
-        ensures taken { FindsValue (Q.equivalent (key_of key.entry).now) (hash_of key.entry) (query_match Q.equivalent self.old.entries key.entry) self.old result }
-        ensures removes { Removes K.eq (Q.equivalent (key_of key.entry).now) (hash_of key.entry) (query_match Q.equivalent self.old.entries key.entry) self.old self.new }
+        ensures taken { FindsValue (Q.stands_for (key_of key)) (hash_of key) self.old result }
+        ensures removes { Removes K.eq (Q.stands_for (key_of key)) (hash_of key) self.old self.new }
     {
         let (_, value) = self.shift_remove_hashed_entry(key)?;
         Some(value)
     }
 
-    /// Removes the entry under this hash whose key the query is equivalent to, and answers its key and value. Those
-    /// after it move up. Capacity and index stay.
-    pub fn shift_remove_hashed_entry<Q: Equivalent<K>>(&mut self, key: Hashed<&Q>) -> Option<(K, V)>
-        ensures taken { result ≡ option_map pair_of (entry_at self.old.entries (query_match Q.equivalent self.old.entries key.entry)) }
-        ensures was { option_map (λ pair. pair.1) result ≡ found (Q.equivalent (key_of key.entry).now) (hash_of key.entry) self.old.entries }
-        ensures removes { Removes K.eq (Q.equivalent (key_of key.entry).now) (hash_of key.entry) (query_match Q.equivalent self.old.entries key.entry) self.old self.new }
+    /// Removes the entry under this hash whose key the query stands for, and answers its key and value. Those after it
+    /// move up. Capacity and index stay.
+    pub fn shift_remove_hashed_entry<Q: Query<K>>(&mut self, key: Hashed<Q>) -> Option<(K, V)>
+        ensures taken { FindsPair (Q.stands_for (key_of key)) (hash_of key) self.old result }
+        ensures removes { Removes K.eq (Q.stands_for (key_of key)) (hash_of key) self.old self.new }
     {
         let index = self.get_index_of_hashed(key)?;
         let (key, value) = self.take_at(index);
         Some((key.into_key(), value))
     }
 
-    /// Removes the entry under the query's own hash whose key the query is equivalent to, drops its key and answers its
+    /// Removes the entry under the query's own hash whose key the query stands for, drops its key and answers its
     /// value. Those after it move up. Capacity and index stay.
     #[inline]
-    pub fn shift_remove<Q: Equivalent<K> + Hash>(&mut self, key: &Q) -> Option<V>
+    pub fn shift_remove<Q: Query<K> + Hash>(&mut self, key: Q) -> Option<V>
     where
         K: Drop,
-        ensures taken { FindsValue (Q.equivalent key.now) (own_hash Q.hash_input key.now) (own_match Q.equivalent Q.hash_input self.old.entries key.now) self.old result }
-        ensures removes { Removes K.eq (Q.equivalent key.now) (own_hash Q.hash_input key.now) (own_match Q.equivalent Q.hash_input self.old.entries key.now) self.old self.new }
+        ensures taken { FindsValue (Q.stands_for key) (own_hash Q.hash_input key) self.old result }
+        ensures removes { Removes K.eq (Q.stands_for key) (own_hash Q.hash_input key) self.old self.new }
     {
-        self.shift_remove_hashed(under_own_hash(key))
+        self.shift_remove_hashed(Hashed::new(key))
     }
 
-    /// Removes the entry under the query's own hash whose key the query is equivalent to, and answers its key and
-    /// value. Those after it move up. Capacity and index stay.
+    /// Removes the entry under the query's own hash whose key the query stands for, and answers its key and value.
+    /// Those after it move up. Capacity and index stay.
     #[inline]
-    pub fn shift_remove_entry<Q: Equivalent<K> + Hash>(&mut self, key: &Q) -> Option<(K, V)>
-        ensures taken { result ≡ option_map pair_of (entry_at self.old.entries (own_match Q.equivalent Q.hash_input self.old.entries key.now)) }
-        ensures was { option_map (λ pair. pair.1) result ≡ get Q.equivalent Q.hash_input self.old key.now }
-        ensures removes { Removes K.eq (Q.equivalent key.now) (own_hash Q.hash_input key.now) (own_match Q.equivalent Q.hash_input self.old.entries key.now) self.old self.new }
+    pub fn shift_remove_entry<Q: Query<K> + Hash>(&mut self, key: Q) -> Option<(K, V)>
+        ensures taken { FindsPair (Q.stands_for key) (own_hash Q.hash_input key) self.old result }
+        ensures removes { Removes K.eq (Q.stands_for key) (own_hash Q.hash_input key) self.old self.new }
     {
-        self.shift_remove_hashed_entry(under_own_hash(key))
+        self.shift_remove_hashed_entry(Hashed::new(key))
     }
 }
 

@@ -1,28 +1,26 @@
 //! Values of a `SmallMap` to be written. Keys and hashes stay.
-ghost use Rattle.std.specs.Prelude.{◌≡◌, ◌^◌, ◌<◌, length, map, Some, None};
+ghost use Rattle.std.specs.Prelude.{◌≡◌, ◌^◌, ◌<◌, length, map, Some};
 ghost use Rattle.std.specs.Borrow.{sem};
 ghost use Rattle.std.specs.Map.{values_of};
-ghost use Rattle.std.specs.Option.{option_copied_mut, IfNone};
+ghost use Rattle.std.specs.Option.{option_copied_mut};
 ghost use Rattle.starlark_hash.specs.Entries.{entry_value, pair_of, value_at};
+ghost use Rattle.starlark_hash.specs.HashValue.{hash_of, key_of};
 ghost use Rattle.starlark_hash.specs.Hasher.{own_hash};
 ghost use Rattle.starlark_small.specs.Calling.{FindsValue};
-ghost use Rattle.starlark_small.specs.Map.{query_match, own_match};
-ghost use Rattle.starlark_small.specs.Lending.{lends_value, lends_found, lends_get, values_follow, KeepsAllButValues};
+ghost use Rattle.starlark_small.specs.Lending.{lends_value, lends_get, values_follow, KeepsAllButValues};
 
 use super::SmallMap;
 use crate::iter::{IterMut, ValuesMut};
-use crate::own_hash::under_own_hash;
-use starlark_hash::{Equivalent, Hashed};
+use starlark_hash::{Hashed, Query};
 use std::hash::Hash;
 
 impl<K: Eq, V> SmallMap<K, V> {
-    /// The value under this hash whose key the query is equivalent to, to be written. The map ends with what is left in
-    /// it, and all else stays. `None` where there is no such entry, and then the map is as it was.
+    /// The value under this hash whose key the query stands for, to be written. The map ends with what is left in it,
+    /// and all else stays. `None` where there is no such entry, and then the map is as it was.
     #[inline(always)]
-    pub fn get_mut_hashed<Q: Equivalent<K>>(&mut self, key: Hashed<&Q>) -> Option<&mut V>
-        ensures* writes_back { sem 𝓛 (lends_found K.row V.row K.PartialEq self.entry (query_match Q.equivalent self.old.entries key.entry) result) }
-        ensures value { option_copied_mut result ≡ value_at self.old.entries (query_match Q.equivalent self.old.entries key.entry) }
-        ensures absent { IfNone result (query_match Q.equivalent self.old.entries key.entry ≡ None) }
+    pub fn get_mut_hashed<Q: Query<K>>(&mut self, key: Hashed<Q>) -> Option<&mut V>
+        ensures* writes_back { sem 𝓛 (lends_get K.row V.row K.PartialEq self.entry (Q.stands_for (key_of key)) (hash_of key) result) }
+        ensures finds { FindsValue (Q.stands_for (key_of key)) (hash_of key) self.old (option_copied_mut result) }
     {
         match self.get_index_of_hashed(key) {
             Some(index) => Some(self.value_at_mut(index)),
@@ -30,14 +28,14 @@ impl<K: Eq, V> SmallMap<K, V> {
         }
     }
 
-    /// The value under the query's own hash whose key the query is equivalent to, to be written. The map ends with what
-    /// is left in it, and all else stays. `None` where there is no such entry, and then the map is as it was.
+    /// The value under the query's own hash whose key the query stands for, to be written. The map ends with what is
+    /// left in it, and all else stays. `None` where there is no such entry, and then the map is as it was.
     #[inline(always)]
-    pub fn get_mut<Q: Equivalent<K> + Hash>(&mut self, key: &Q) -> Option<&mut V>
-        ensures* writes_back { sem 𝓛 (lends_get K.row V.row K.PartialEq self.entry Q.equivalent Q.hash_input key.now result) }
-        ensures finds { FindsValue (Q.equivalent key.now) (own_hash Q.hash_input key.now) (own_match Q.equivalent Q.hash_input self.old.entries key.now) self.old (option_copied_mut result) }
+    pub fn get_mut<Q: Query<K> + Hash>(&mut self, key: Q) -> Option<&mut V>
+        ensures* writes_back { sem 𝓛 (lends_get K.row V.row K.PartialEq self.entry (Q.stands_for key) (own_hash Q.hash_input key) result) }
+        ensures finds { FindsValue (Q.stands_for key) (own_hash Q.hash_input key) self.old (option_copied_mut result) }
     {
-        self.get_mut_hashed(under_own_hash(key))
+        self.get_mut_hashed(Hashed::new(key))
     }
 
     // The value at a place, to be written.

@@ -14,7 +14,7 @@ ghost use Rattle.starlark_unordered.specs.Pairs.{pairs_of, keys_under, under_own
 ghost use Rattle.starlark_unordered.specs.RawEntry.{Accepts};
 
 use super::UnorderedMap;
-use starlark_hash::{Equivalent, KeyQuery, NoRoom, StarlarkHashValue};
+use starlark_hash::{HashQuery, NoRoom, Query, StarlarkHashValue};
 use std::hash::Hash;
 
 impl<K: Eq + Hash, V> UnorderedMap<K, V> {
@@ -22,58 +22,60 @@ impl<K: Eq + Hash, V> UnorderedMap<K, V> {
 
     // The slot of the key, under the query's own hash.
     #[inline(always)]
-    pub(crate) fn slot_under<Q: KeyQuery<K>>(
+    pub(crate) fn slot_under<Q: HashQuery<K>>(
         &self,
         hash: StarlarkHashValue,
-        query: &Q,
+        query: Q,
     ) -> Option<usize>
-        requires { hash ≡ own_hash Q.hash_input query.now }
-        ensures { IsSlotOf (Q.equivalent query.now) self.now result }
+        requires { hash ≡ own_hash Q.hash_input query }
+        ensures { IsSlotOf (Q.stands_for query) self.now result }
     {
-        self.table.find(hash, |p: &(K, V)| query.equivalent(&p.0))
+        self.table
+            .find(hash, move |p: &(K, V)| query.stands_for(&p.0))
     }
 
     // The slot of the key that the query stands for, where this is the key's own hash.
     #[inline(always)]
-    pub(crate) fn slot_hashed<Q: Equivalent<K>>(
+    pub(crate) fn slot_hashed<Q: Query<K>>(
         &self,
         hash: StarlarkHashValue,
-        query: &Q,
+        query: Q,
     ) -> Option<usize>
-        ensures { IsSlotOf (under_own K.hash_input hash (Q.equivalent query.now)) self.now result }
+        ensures { IsSlotOf (under_own K.hash_input hash (Q.stands_for query)) self.now result }
     {
         // A hash value has 32 bits, so no other one is promoted alike.
         prove!(hash.get() <= u32::MAX);
-        self.table.find(hash, |p: &(K, V)| query.equivalent(&p.0))
+        self.table
+            .find(hash, move |p: &(K, V)| query.stands_for(&p.0))
     }
 
     // The pair of the key, under the query's own hash.
     #[inline(always)]
-    pub(super) fn pair_under<Q: KeyQuery<K>>(
+    pub(super) fn pair_under<Q: HashQuery<K>>(
         &self,
         hash: StarlarkHashValue,
-        query: &Q,
+        query: Q,
     ) -> Option<&(K, V)>
-        requires { hash ≡ own_hash Q.hash_input query.now }
-        ensures { option_map (λ p. p.1) (option_copied result) ≡ lookup (Q.equivalent query.now) (pairs_of self.now) }
+        requires { hash ≡ own_hash Q.hash_input query }
+        ensures { option_map (λ p. p.1) (option_copied result) ≡ lookup (Q.stands_for query) (pairs_of self.now) }
     {
         self.table
-            .find_item(hash, |p: &(K, V)| query.equivalent(&p.0))
+            .find_item(hash, move |p: &(K, V)| query.stands_for(&p.0))
     }
 
     // The pair of the key that the query stands for, where this is the key's own hash.
     #[inline(always)]
-    pub(super) fn pair_hashed<Q: Equivalent<K>>(
+    pub(super) fn pair_hashed<Q: Query<K>>(
         &self,
         hash: StarlarkHashValue,
-        query: &Q,
+        query: Q,
     ) -> Option<&(K, V)>
-        ensures { option_map (λ p. p.1) (option_copied result) ≡ lookup (under_own K.hash_input hash (Q.equivalent query.now)) (pairs_of self.now) }
+        ensures { option_map (λ p. p.1) (option_copied result) ≡ lookup (under_own K.hash_input hash (Q.stands_for query)) (pairs_of self.now) }
     {
         // As in `slot_hashed`.
         prove!(hash.get() <= u32::MAX);
         self.table
-            .find_item(hash, |p: &(K, V)| query.equivalent(&p.0))
+            .find_item(hash, move |p: &(K, V)| query.stands_for(&p.0))
     }
 
     // A slot under this hash whose key `is_match` accepts.
@@ -100,15 +102,15 @@ impl<K: Eq + Hash, V> UnorderedMap<K, V> {
     // An empty slot for a new key under its own hash, where there is room, and one look at the table shows that no key is
     // the query's. It is good until the next change.
     #[inline(always)]
-    pub(crate) fn slot_for_new<Q: KeyQuery<K>>(
+    pub(crate) fn slot_for_new<Q: HashQuery<K>>(
         &self,
         hash: StarlarkHashValue,
-        query: &Q,
+        query: Q,
     ) -> Option<usize>
-        requires { hash ≡ own_hash Q.hash_input query.now }
+        requires { hash ≡ own_hash Q.hash_input query }
         ensures room { IfSome result (λ _. 0 < self.now.room) }
         ensures vacant { IfSome result (λ slot. IsVacancy (promoted (hash_number hash)) self.now.slots slot) }
-        ensures absent { IfSome result (λ _. lookup (Q.equivalent query.now) (pairs_of self.now) ≡ None) }
+        ensures absent { IfSome result (λ _. lookup (Q.stands_for query) (pairs_of self.now) ≡ None) }
     {
         if self.table.room() == 0 {
             return None;

@@ -10,7 +10,7 @@ ghost use Rattle.starlark_unordered.specs.Pairs.{pairs_of};
 ghost use Rattle.starlark_unordered.specs.Walk.{AsksPair, CanAskPairs, Retains, TakesPair};
 
 use super::UnorderedMap;
-use starlark_hash::{KeyQuery, NoRoom, StarlarkHashValue};
+use starlark_hash::{HashQuery, NoRoom, StarlarkHashValue};
 use std::hash::Hash;
 use std::mem;
 
@@ -20,11 +20,11 @@ impl<K: Eq + Hash, V> UnorderedMap<K, V> {
     /// The value at the key that the query stands for, to be written. The map ends with what is left in it, and all
     /// else stays. `None` where there is no such key, and then the map is as it was.
     #[inline(always)]
-    pub fn get_mut<Q: KeyQuery<K>>(&mut self, query: &Q) -> Option<&mut V>
-        ensures* writes_back { sem 𝓛 (lends_at K.row V.row K.Hash self.entry (Q.equivalent query.now) result) }
-        ensures finds { Finds (Q.equivalent query.now) self.old (option_copied_mut result) }
+    pub fn get_mut<Q: HashQuery<K>>(&mut self, query: Q) -> Option<&mut V>
+        ensures* writes_back { sem 𝓛 (lends_at K.row V.row K.Hash self.entry (Q.stands_for query) result) }
+        ensures finds { Finds (Q.stands_for query) self.old (option_copied_mut result) }
     {
-        match self.slot_under(StarlarkHashValue::new(query), query) {
+        match self.slot_under(StarlarkHashValue::new(&query), query) {
             Some(slot) => Some(self.value_at_mut(slot)),
             None => None,
         }
@@ -74,12 +74,12 @@ impl<K: Eq + Hash, V> UnorderedMap<K, V> {
     /// Takes the pair of the key out, and answers its value. The other pairs stay, and the room comes back. Where the
     /// map lacks the key, nothing changes.
     #[tactic(auto, using(crate::proofs::Callers::callers), unfolding(crate::specs::Calling::found))]
-    pub fn remove<Q: KeyQuery<K>>(&mut self, query: &Q) -> Option<V>
+    pub fn remove<Q: HashQuery<K>>(&mut self, query: Q) -> Option<V>
     where
         K: Drop,
-        ensures removes { Removes K.eq (Q.equivalent query.now) self.old self.new result }
+        ensures removes { Removes K.eq (Q.stands_for query) self.old self.new result }
     {
-        match self.slot_under(StarlarkHashValue::new(query), query) {
+        match self.slot_under(StarlarkHashValue::new(&query), query) {
             Some(slot) => {
                 let (_key, value) = self.take_out(slot);
                 Some(value)

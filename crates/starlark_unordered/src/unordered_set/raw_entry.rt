@@ -13,7 +13,7 @@ ghost use Rattle.starlark_unordered.specs.RawEntry.{NamesAccepted, NamesSlot};
 
 use super::UnorderedSet;
 use crate::unordered_map::UnorderedMap;
-use starlark_hash::{Equivalent, Hashed, KeyQuery, NoRoom, StarlarkHashValue};
+use starlark_hash::{HashQuery, Hashed, NoRoom, Query, StarlarkHashValue};
 use std::hash::Hash;
 
 /// A set whose place is still to be named. Let go, it leaves the set as it was.
@@ -79,11 +79,11 @@ impl<'a, T: Eq + Hash> RawEntryBuilderMut<'a, T> {
 
     /// The element that the query stands for, or vacant where the set lacks it. The set is as it was.
     #[inline]
-    pub fn from_entry<Q: KeyQuery<T>>(self, query: &Q) -> RawEntryMut<'a, T>
-        ensures names { NamesSlot (Q.equivalent query.now) self.entry.map (set_of_raw result) (slot_of_raw result) }
+    pub fn from_entry<Q: HashQuery<T>>(self, query: Q) -> RawEntryMut<'a, T>
+        ensures names { NamesSlot (Q.stands_for query) self.entry.map (set_of_raw result) (slot_of_raw result) }
     {
         let RawEntryBuilderMut { map } = self;
-        match map.slot_under(StarlarkHashValue::new(query), query) {
+        match map.slot_under(StarlarkHashValue::new(&query), query) {
             Some(slot) => RawEntryMut::Occupied(RawOccupiedEntryMut { map, slot }),
             None => RawEntryMut::Vacant(RawVacantEntryMut { map }),
         }
@@ -92,11 +92,11 @@ impl<'a, T: Eq + Hash> RawEntryBuilderMut<'a, T> {
     /// The element that the query stands for, where the hash that is brought is its own, or else vacant. The set is as
     /// it was.
     #[inline]
-    pub fn from_entry_hashed<Q: Equivalent<T>>(self, element: Hashed<&Q>) -> RawEntryMut<'a, T>
-        ensures names { NamesSlot (under_own T.hash_input (hash_of element.entry) (Q.equivalent (key_of element.entry).now)) self.entry.map (set_of_raw result) (slot_of_raw result) }
+    pub fn from_entry_hashed<Q: Query<T>>(self, element: Hashed<Q>) -> RawEntryMut<'a, T>
+        ensures names { NamesSlot (under_own T.hash_input (hash_of element) (Q.stands_for (key_of element))) self.entry.map (set_of_raw result) (slot_of_raw result) }
     {
         let RawEntryBuilderMut { map } = self;
-        match map.slot_hashed(element.hash(), *element.key()) {
+        match map.slot_hashed(element.hash(), element.into_key()) {
             Some(slot) => RawEntryMut::Occupied(RawOccupiedEntryMut { map, slot }),
             None => RawEntryMut::Vacant(RawVacantEntryMut { map }),
         }

@@ -9,7 +9,7 @@ pub returns-in_err-_key-clause-old : goal.returns-in_err-_key-clause-old
 returns-in_err-_key-clause-old c =
     c.from_residual.ensures
     ∙ taken_value c.args.map.now.entries (hash_of c.args.key) (key_of c.args.key).0.now None
-    (rw (c.as_ref.ensures.hash, c.as_ref.ensures.key) at c.in_err-_key.ensures.taken)
+    (rw (c.as_ref.ensures.hash, c.as_ref.ensures.key) at c.in_err-_key.ensures.taken.pair)
 
 pub returns-in_err-_key-clause-entries : goal.returns-in_err-_key-clause-entries
 returns-in_err-_key-clause-entries c =
@@ -20,7 +20,7 @@ pub returns-clause-old : goal.returns-clause-old
 returns-clause-old c =
     ap Some (to_z-of_z w64 c.in_ok-_key.value (search rules))
     ∙ taken_value c.args.map.now.entries (hash_of c.args.key) (key_of c.args.key).0.now (Some (c.in_ok-_key._key, c.in_ok-_key.value))
-    (rw (c.as_ref.ensures.hash, c.as_ref.ensures.key) at c.in_ok-_key.ensures.taken)
+    (rw (c.as_ref.ensures.hash, c.as_ref.ensures.key) at c.in_ok-_key.ensures.taken.pair)
 
 pub returns-clause-entries : goal.returns-clause-entries
 returns-clause-entries c =

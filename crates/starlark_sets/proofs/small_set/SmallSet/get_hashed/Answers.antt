@@ -1,21 +1,11 @@
-use Rattle.std.proofs.Common.{arith, rules, Some}
+use Rattle.std.proofs.Common.{arith, rules}
 use Rattle.std.proofs.lemmas.Grind.{common_steps}
 use Rattle.starlark_hash.specs.HashValue.{hash_of, key_of}
-use Rattle.starlark_sets.proofs.Lookups.{key_found, shown_passes, shown_there}
+use Rattle.starlark_sets.proofs.Lookups.{shows-element}
 use Rattle.starlark_sets.proofs.small_set.SmallSet.get_hashed.Goals as goal
 
 pub returns-in_err-element : goal.returns-in_err-element
-returns-in_err-element g c = record {
-  element = first_of (search rules, grind (arith, common_steps));
-  found = key_found (g.Q.Equivalent.equivalent (key_of c.args.value).now) (hash_of c.args.value) c.args.self.now.entries _ (first_of (search rules, grind (arith, common_steps)));
-  is_there = shown_there (g.Q.Equivalent.equivalent (key_of c.args.value).now) (hash_of c.args.value) c.args.self.now.entries c.from_residual.result (first_of (search rules, grind (arith, common_steps)));
-  equivalent = shown_passes (g.Q.Equivalent.equivalent (key_of c.args.value).now) (hash_of c.args.value) c.args.self.now.entries c.from_residual.result (first_of (search rules, grind (arith, common_steps)));
-}
+returns-in_err-element g c = shows-element (g.Q.Query.stands_for (key_of c.args.value)) (hash_of c.args.value) c.args.self.now _ (first_of (search rules, grind (arith, common_steps)))
 
 pub returns : goal.returns
-returns g c = record {
-  element = first_of (search rules, grind (arith, common_steps));
-  found = key_found (g.Q.Equivalent.equivalent (key_of c.args.value).now) (hash_of c.args.value) c.args.self.now.entries (Some c.in_ok-element.element.now) (first_of (search rules, grind (arith, common_steps)));
-  is_there = shown_there (g.Q.Equivalent.equivalent (key_of c.args.value).now) (hash_of c.args.value) c.args.self.now.entries (Some c.in_ok-element.element) (first_of (search rules, grind (arith, common_steps)));
-  equivalent = shown_passes (g.Q.Equivalent.equivalent (key_of c.args.value).now) (hash_of c.args.value) c.args.self.now.entries (Some c.in_ok-element.element) (first_of (search rules, grind (arith, common_steps)));
-}
+returns g c = shows-element (g.Q.Query.stands_for (key_of c.args.value)) (hash_of c.args.value) c.args.self.now _ (first_of (search rules, grind (arith, common_steps)))

@@ -5,8 +5,8 @@ use Rattle.starlark_unordered.proofs.raw_entry.RawEntryBuilderMut.from_key.Goals
 pub returns-in-Some-clause-place : goal.returns-in-Some-clause-place
 returns-in-Some-clause-place g c =
     let eq = g.K.PartialEq.eq in
-    let t = g.Q.Equivalent.equivalent c.args.query.now in
-    let one = g.met.Q.Equivalent.respects_eq c.args.query.now in
+    let t = g.Q.Query.stands_for c.args.query in
+    let one = g.met.Q.Query.respects_eq c.args.query in
     let m = c.args.self.map.now in (
       refl,
       value-slot eq g.met.K.Eq.laws t one m m c.in-Some.slot refl c.in-Some.ensures,

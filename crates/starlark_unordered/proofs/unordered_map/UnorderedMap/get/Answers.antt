@@ -7,7 +7,7 @@ use Rattle.starlark_unordered.proofs.unordered_map.UnorderedMap.get.Goals as goa
 
 pub returns : goal.returns
 returns g c =
-    let t = g.Q.Equivalent.equivalent c.args.query.now in
+    let t = g.Q.Query.stands_for c.args.query in
     let ps = pairs_of c.args.self.now in
     let there = c.in_ok-value.field-0.now.1 in
     let value : Some there ≡ lookup t ps = first_of (search rules, grind (arith, common_steps)) in

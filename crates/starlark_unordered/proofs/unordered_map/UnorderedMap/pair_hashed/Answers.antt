@@ -9,11 +9,11 @@ use Rattle.starlark_unordered.proofs.unordered_map.UnorderedMap.pair_hashed.Goal
 
 pub returns : goal.returns
 returns g c =
-    let t = g.Q.Equivalent.equivalent c.args.query.now in
+    let t = g.Q.Query.stands_for c.args.query in
     let own = under_own g.K.Hash.hash_input c.args.hash t in
     let found = c.find_item.ensures in
     subst (λ m. option_map (λ p. p.1) (option_copied c.find_item.result) ≡ lookup own (pairs_of m)) c.self.view_is
     (ap (option_map (λ p. p.1)) found.3 ∙ value_of-slot own c.self.inside.table found.0
-    (slot_by_hashed _ g.K.PartialEq.eq g.K.Hash.hash_input g.met.K.Eq.laws t (g.met.Q.Equivalent.respects_eq c.args.query.now) c.self.inside.table c.self.invariant _ _
+    (slot_by_hashed _ g.K.PartialEq.eq g.K.Hash.hash_input g.met.K.Eq.laws t (g.met.Q.Query.respects_eq c.args.query) c.self.inside.table c.self.invariant _ _
     (is_test _ (λ p. t p.0) _ (λ x accepts next called. (search (rules, of_calls, called), search (rules, of_calls, called)))) (promoted (hash_number c.args.hash)) found.0 found.2
     g.met.K.Hash.respects_eq c.args.hash (subst (λ n. n < 2 ^ 32) c.get.ensures.number c.get.ensures.fits) refl))

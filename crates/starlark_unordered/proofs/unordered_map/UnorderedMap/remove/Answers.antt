@@ -8,14 +8,14 @@ use Rattle.starlark_unordered.proofs.unordered_map.UnorderedMap.remove.Goals as 
 
 pub returns-in-Some : goal.returns-in-Some
 returns-in-Some g c =
-    let t = g.Q.Equivalent.equivalent c.args.query.now in
+    let t = g.Q.Query.stands_for c.args.query in
     let takes = c.take_out-key.ensures.takes in
     let value : Some c.take_out-key.result.1 ≡ lookup t (pairs_of c.args.self.now) = first_of (search rules, grind (arith, common_steps)) in
     record {
       removes = record {
         was = found_is t (pairs_of c.args.self.now) (Some c.take_out-key.result.1) value;
         value = value;
-        updates = writes-taken g.K.PartialEq.eq g.met.K.Eq.laws t (λ x y does. g.met.Q.Equivalent.respects_eq c.args.query.now x y does)
+        updates = writes-taken g.K.PartialEq.eq g.met.K.Eq.laws t (λ x y does. g.met.Q.Query.respects_eq c.args.query x y does)
             c.args.self.now c.take_out-key.new.self c.in-Some.slot c.take_out-key.result c.in-Some.ensures takes.pair takes.rest takes.distinct;
         count = length-taken t c.args.self.now c.take_out-key.new.self c.in-Some.slot c.take_out-key.result c.in-Some.ensures takes.rest;
         total = λ measure. total-taken measure t c.args.self.now c.take_out-key.new.self c.take_out-key.result (sym value) takes.rest;
@@ -27,7 +27,7 @@ returns-in-Some g c =
 
 pub returns-in-None : goal.returns-in-None
 returns-in-None g c =
-    let t = g.Q.Equivalent.equivalent c.args.query.now in
+    let t = g.Q.Query.stands_for c.args.query in
     record {
       removes = record {
         was = found_is t (pairs_of c.args.self.now) None (sym c.in-None.ensures);

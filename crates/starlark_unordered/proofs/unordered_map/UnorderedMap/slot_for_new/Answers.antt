@@ -8,8 +8,8 @@ use Rattle.starlark_unordered.proofs.unordered_map.UnorderedMap.slot_for_new.Goa
 
 pub returns-clause-absent : goal.returns-clause-absent
 returns-clause-absent g c =
-    let t = g.Q.Equivalent.equivalent c.args.query.now in
+    let t = g.Q.Query.stands_for c.args.query in
     subst (λ m. IfSome c.vacancy.result (λ x. lookup t (pairs_of m) ≡ None)) c.self.view_is
-    (none_under g.K.PartialEq.eq g.K.Hash.hash_input g.met.K.Eq.laws t (g.met.Q.Equivalent.respects_eq c.args.query.now) c.vacancy.result (promoted (hash_number c.args.hash)) c.self.inside.table c.self.invariant
-    (λ k does. ap (λ ws. promoted (hash_number (finish_small (after_writes ws)))) (sym (g.met.Q.KeyQuery.feeds_alike c.args.query.now k does)) ∙ ap (λ h. promoted (hash_number h)) (sym c.requires))
+    (none_under g.K.PartialEq.eq g.K.Hash.hash_input g.met.K.Eq.laws t (g.met.Q.Query.respects_eq c.args.query) c.vacancy.result (promoted (hash_number c.args.hash)) c.self.inside.table c.self.invariant
+    (λ k does. ap (λ ws. promoted (hash_number (finish_small (after_writes ws)))) (sym (g.met.Q.HashQuery.feeds_alike c.args.query k does)) ∙ ap (λ h. promoted (hash_number h)) (sym c.requires))
     c.vacancy.ensures.none)

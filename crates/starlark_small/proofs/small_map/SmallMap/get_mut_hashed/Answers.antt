@@ -1,0 +1,26 @@
+use Rattle.std.proofs.Common.{◌≡◌, Some, refl, ap, ◌∙◌, rules}
+use Rattle.starlark_hash.specs.HashValue.{hash_of, key_of}
+use Rattle.starlark_hash.specs.Entries.{position_of, with_value}
+use Rattle.starlark_small.specs.Calling.{keys}
+use Rattle.starlark_small.proofs.CallerEntries.{keys-with_value}
+use Rattle.starlark_small.proofs.CallerShown.{finds-value}
+use Rattle.starlark_small.proofs.CallerUpdates.{writes-with_value}
+use Rattle.starlark_small.proofs.small_map.SmallMap.get_mut_hashed.Goals as goal
+
+pub returns-in-Some : goal.returns-in-Some
+returns-in-Some g c =
+    let test = g.Q.Query.stands_for (key_of c.args.key) in
+    let hash = hash_of c.args.key in
+    let old = c.args.self.now in
+    let at : Some c.in-Some.index ≡ position_of hash test old.entries = search rules in (
+      (
+        refl,
+        λ w. (
+          ap (λ p. record old { entries = with_value old.entries p w }) at,
+          ap (λ p. keys (record old { entries = with_value old.entries p w })) at ∙ keys-with_value hash test old.entries w,
+          λ there. writes-with_value g.K.PartialEq.eq g.met.K.Eq.laws hash test (g.met.Q.Query.respects_eq (key_of c.args.key)) old.entries _ w there (ap (λ p. with_value old.entries p w) at),
+        ),
+        refl,
+      ),
+      record { writes_back = tt; finds = finds-value test hash old _ (search rules) },
+    )
