@@ -3,7 +3,6 @@ ghost use Rattle.std.specs.Prelude.{◌≡◌, ℕ, ◌++◌, List, [], ◌∷�
 ghost use Rattle.std.specs.Option.{option_copied};
 ghost use Rattle.starlark_uses.specs.Interned.{interned, number_of, text_of};
 
-use starlark_hash::TextKey;
 use starlark_sets::SmallSet;
 use std::alloc::{AllocError, Global};
 use std::marker::Model;
@@ -46,7 +45,7 @@ impl Interner {
         ensures number { result ≡ number_of self.now text.now }
         ensures text { IfSome result (λ number. text_of self.now number ≡ Some text.now) }
     {
-        self.texts.get_index_of(&TextKey(text))
+        self.texts.get_index_of(text)
     }
 
     /// The text of a number, where there is one.
@@ -93,7 +92,7 @@ impl Interner {
         ensures unchanged { OnErr result (self.new ≡ self.old) }
     {
         let number = self.texts.len();
-        self.texts.get_or_insert_owned(&TextKey(text))?;
+        self.texts.get_or_insert_owned(text)?;
         Ok(number)
     }
 }

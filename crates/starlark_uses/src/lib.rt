@@ -1,6 +1,7 @@
 //! Parts of programs that stand on the maps and sets, each with what its user relies on.
 #![tactic(auto)]
 
+pub mod attributes;
 pub mod build;
 pub mod cache;
 pub mod free;

@@ -5,7 +5,7 @@ ghost use Rattle.std.specs.String.{string_bytes, string_eq};
 ghost use Rattle.starlark_hash.specs.Entries.{IsSingle};
 ghost use Rattle.starlark_uses.specs.Bindings.{IsInnermost, bound, found, lookup, scopes_of};
 
-use starlark_hash::{NoRoom, TextKey};
+use starlark_hash::NoRoom;
 use starlark_small::SmallMap;
 use std::alloc::{AllocError, Global};
 use std::marker::Model;
@@ -48,10 +48,9 @@ impl<V> Scopes<V> {
         ensures value { option_copied result ≡ lookup self.now name.now }
         ensures innermost { IsInnermost (scopes_of self.now) name.now (option_copied result) }
     {
-        let key = TextKey(name);
-        match self.innermost.get(&key) {
+        match self.innermost.get(name) {
             Some(value) => Some(value),
-            None => find(&self.enclosing, &key),
+            None => find(&self.enclosing, name),
         }
     }
 
@@ -98,7 +97,7 @@ impl<V> Scopes<V> {
         ensures enclosing { self.new.enclosing ≡ self.old.enclosing }
     {
         binds_once(&self.innermost);
-        self.innermost.shift_remove(&TextKey(name))
+        self.innermost.shift_remove(name)
     }
 }
 
@@ -134,11 +133,11 @@ impl<V: Drop> Scopes<V> {
 }
 
 // From the last of these scopes to the first.
-fn find<'a, V>(scopes: &'a [SmallMap<String, V>], key: &TextKey) -> Option<&'a V>
-    ensures { option_copied result ≡ found scopes.now key.now.0.now }
+fn find<'a, V>(scopes: &'a [SmallMap<String, V>], name: &str) -> Option<&'a V>
+    ensures { option_copied result ≡ found scopes.now name.now }
 {
     for i in (0..scopes.len()).rev() {
-        if let Some(value) = scopes[i].get(key) {
+        if let Some(value) = scopes[i].get(name) {
             return Some(value);
         }
     }

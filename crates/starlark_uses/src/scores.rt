@@ -12,7 +12,7 @@ ghost use Rattle.starlark_small.specs.Calling.{contains_text, get, get_text, key
 ghost use Rattle.starlark_unordered.specs.Calling as unordered;
 ghost use Rattle.starlark_unordered.specs.Pairs.{pairs_of};
 
-use starlark_hash::{NoRoom, TextKey};
+use starlark_hash::NoRoom;
 use starlark_small::SmallMap;
 use starlark_unordered::UnorderedMap;
 use std::hash::Hash;
@@ -98,7 +98,7 @@ pub fn change(scores: &mut SmallMap<String, u64>, player: &str, score: u64)
     ensures count { length scores.new.entries ≡ length scores.old.entries }
     ensures score { contains_text scores.old player.now ≡ true → get_text scores.new player.now ≡ Some score }
 {
-    if let Some(there) = scores.get_mut(&TextKey(player)) {
+    if let Some(there) = scores.get_mut(player) {
         *there = score;
     }
 }

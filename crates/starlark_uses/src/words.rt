@@ -2,7 +2,6 @@
 ghost use Rattle.std.specs.Prelude.{◌≡◌, ℕ, ◌+◌, ◌^◌, ◌<◌, List, IfOk, OnOk};
 ghost use Rattle.starlark_uses.specs.Words.{CountsOneMore, HasNoZero, HasWords, IsTallyOf, count_of};
 
-use starlark_hash::TextKey;
 use starlark_small::SmallMap;
 use std::alloc::{AllocError, Global};
 
@@ -13,7 +12,7 @@ pub type Tally = SmallMap<String, u64>;
 pub fn count_of(tally: &Tally, word: &str) -> u64
     ensures { result ≡ count_of tally.now word.now }
 {
-    tally.get(&TextKey(word)).copied().unwrap_or(0)
+    tally.get(word).copied().unwrap_or(0)
 }
 
 /// Counts a word once more. Where memory is refused, nothing is said of the tally.

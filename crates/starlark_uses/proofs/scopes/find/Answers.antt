@@ -6,7 +6,7 @@ use Rattle.starlark_uses.proofs.scopes.find.Goals as goal
 pub returns-in-Some : goal.returns-in-Some
 returns-in-Some g c =
     let scopes = c.args.scopes.now in
-    let name = c.args.key.now.0.now in
+    let name = c.args.name.now in
     let i = c.loop-i.i - 1 in
     let scope = c.index-scopes-i.result in
     let within : i < length scopes = omega (arith, c.loop-i.auto.i, c.loop-i-test.true) in
@@ -17,7 +17,7 @@ returns-in-Some g c =
 pub loop-i-preserved : goal.loop-i-preserved
 loop-i-preserved g c =
     let scopes = c.args.scopes.now in
-    let name = c.args.key.now.0.now in
+    let name = c.args.name.now in
     let i = c.loop-i.i - 1 in
     let scope = c.index-scopes-i.result in
     let within : i < length scopes = omega (arith, c.loop-i.auto.i, c.loop-i-test.true) in
