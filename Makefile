@@ -13,7 +13,7 @@ INTO ?=
 PROOFS ?=
 export SCRIPT CRATE RUST INTO
 
-.PHONY: help try run demo check tests test pages bench chart vendor wrong refused hostile attack clean
+.PHONY: help try run demo check tests test minutes pages bench chart vendor wrong refused hostile attack clean
 
 define says
 @awk -F ' *## ' '/^$@:/ { print "make $@: " $$2 }' Makefile >&2
@@ -26,7 +26,7 @@ try: ## plays SCRIPT (examples/first.script) with no proof, in about a minute
 	$(says)
 	@./examples/play try "$$SCRIPT"
 
-run: ## proves the program and plays SCRIPT: some ten minutes the first time, then seconds
+run: ## proves the program and plays SCRIPT: some twenty-five minutes the first time, then seconds
 	$(says)
 	@./examples/play run "$$SCRIPT"
 
@@ -50,7 +50,11 @@ test: ## the merge gate, every proof, test and program: an hour or two on four c
 	@./docs/pages.py check
 	@rt ci
 
-pages: ## writes docs/words.md and docs/calls.md from the comments of the sources, at once
+minutes: ## the gate from nothing, and a table of what each crate took of a processor, into CONTRIBUTING.md
+	$(says)
+	@./docs/minutes.py --anew
+
+pages: ## writes docs/reference from the comments and contracts of the sources, at once
 	$(says)
 	@./docs/pages.py write
 

@@ -4,7 +4,8 @@ usage: chart.py OURS RUST [WHAT]
        chart.py PAGE.md
 
 OURS and RUST are the lines of two benchmark runs, as compare.py reads them. Of a page, as docs/SPEED.md, the first
-table is drawn: a row for each kind of work, a column for each length, ratios as `1.4` or `0.6 to 0.7` in the cells.
+table is drawn: a row for each kind of work, a column for each length, ratios as `1.4` or `0.6 to 0.7` in the cells. Rows
+of unordered maps are left out, so that the picture is no wider than a page.
 
 A bar begins at Rust's time, 1.0: upwards ours takes longer, downwards less. Where several figures stand for one bar, as
 those of two types of keys, it is full up to the nearest of them, and pale from there to the farthest.
@@ -60,7 +61,7 @@ def ratios_of_page(path):
         sys.exit(f"{path} has no table")
     (_, *lengths), _, *rows = [[cell.strip() for cell in line.strip().strip("|").split("|")] for line in table]
     found = {}
-    for work, *cells in rows:
+    for work, *cells in [row for row in rows if not row[0].startswith("unordered")]:
         figures = [[float(figure) for figure in re.findall(r"\d+\.\d+", cell)] for cell in cells]
         found[work.replace("`", "")] = {
             length: (min(some), max(some)) for length, some in zip(lengths, figures) if some

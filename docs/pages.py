@@ -1,61 +1,63 @@
 #!/usr/bin/env python3
-"""The two pages that are written from the sources, and what a page may not say.
+"""The pages of docs/reference, which are written from the sources, and what a page may not say.
 
-    docs/pages.py write    writes docs/words.md, from the comments of specs/, and docs/calls.md, from those of src/
-    docs/pages.py check    says where a page is not what the sources say: a written page that is out of date; a public word
-                           of specs/ or a public function with no comment; a name, a clause, a file, a target of make or a
-                           link that is not there; lines that are quoted from a file where they do not stand; a changelog
-                           that does not begin with VERSION; where crates/tests_memory/calls.txt is not the list of the
-                           calls that may be refused
+    docs/pages.py write    writes docs/reference, of starlark_map and each crate below it: the public calls with their comments and
+                           contracts, a page a type, and the words of these contracts with their comments
+    docs/pages.py check    says where a page is not what the sources say: a written page that is out of date; a public word of
+                           specs/ or a public function with no comment; a name, a clause, a file, a target of make, a link or
+                           a heading that is not there; lines that are quoted from a file where they do not stand; a name in
+                           elsewhere.txt that no page needs; a changelog that does not begin with VERSION; where
+                           crates/tests_memory/calls.txt is not the list of the calls that may be refused
 """
 import re
 import subprocess
 import sys
+from collections import Counter, namedtuple
+from functools import cache
 from pathlib import Path
 
 TOP = Path(__file__).resolve().parent.parent
-# Names of Rust's crates and of std that pages speak of, and that no source of this repository has.
-ELSEWHERE = set((TOP / "docs/elsewhere.txt").read_text().split())
+REFERENCE = "docs/reference"
+NAME = re.compile(r"[A-Za-z_][A-Za-z0-9_]*")
 
 
+@cache
 def tracked(pattern):
     files = subprocess.run(["git", "ls-files", "-co", "--exclude-standard", "--", pattern], cwd=TOP, capture_output=True, text=True, check=True)
     return sorted({TOP / f for f in files.stdout.split("\n") if f and (TOP / f).is_file()})
 
 
-def library():
-    """The crates that a user may name, in the order of crates.txt."""
-    names = [line.split(":")[0].strip() for line in (TOP / "crates.txt").read_text().split("\n") if ":" in line and not line.startswith("#")]
-    return [n for n in names if n.startswith(("starlark_", "script_")) and n != "script_program"]
+def named(path):
+    return path.relative_to(TOP).as_posix()
 
 
 def indent(line):
     return len(line) - len(line.lstrip())
 
 
-WORD = re.compile(r"(?:unfoldable )?(?:abbrev )?pub (?:abbrev )?(record |data )?([^\s:({]+)")
+def crates():
+    """What each crate stands on, in the order of crates.txt."""
+    lines = [line.split(":") for line in (TOP / "crates.txt").read_text().split("\n") if ":" in line and line[0] != "#"]
+    return {name.strip(): deps.split() for name, deps in lines}
 
 
-def words_of(path):
-    """What the page is about, and each public word with its comment."""
-    lead, rows, note, inside = "", [], [], None
-    for line in path.read_text().split("\n"):
-        text = line.strip()
-        if text.startswith("--"):
-            note.append(text[2:].strip())
-            continue
-        if text:
-            if inside is not None and indent(line) <= inside:
-                inside = None
-            word = WORD.match(text)
-            if not lead and not rows and text.startswith(("use ", "pub use ", "unfoldable pub use ")):
-                lead = " ".join(note)
-            elif inside is None and word and word.group(2) not in ("use", "mod") and "-" not in word.group(2):
-                rows.append((word.group(2), " ".join(note)))
-                if word.group(1):
-                    inside = indent(line)
-        note = []
-    return lead, rows
+def library():
+    return [crate for crate in crates() if crate.startswith("starlark_")]
+
+
+def copied():
+    """starlark_map and the crates below it, each before those that it stands on."""
+    needed = {"starlark_map"}
+    for crate, deps in reversed(crates().items()):
+        needed.update(deps if crate in needed else [])
+    return [crate for crate in reversed(crates()) if crate in needed]
+
+
+# What the sources say. A call is public by itself ("pub"), by a public trait that asks for it ("trait"), or as that of an impl
+# of a trait ("impl"); its head is its signature and its clauses. The fields of a word are those of a record, with what they say.
+
+Call = namedtuple("Call", "owner name note head kind")
+Word = namedtuple("Word", "name note fields")
 
 
 def without_generics(text):
@@ -70,156 +72,247 @@ def without_generics(text):
     return out
 
 
-def records():
-    """Each public record of specs/, with its fields and what each says."""
-    found = {}
-    for crate in library():
-        for path in tracked(f"crates/{crate}/specs/*.antt"):
-            fields, inside = None, 0
-            for line in path.read_text().split("\n"):
-                text = line.strip()
-                made, field = re.match(r"pub record (\w+)", text), re.match(r"pub (\w+) : (.*)", text)
-                if made:
-                    fields, inside = found.setdefault(made.group(1), {}), indent(line)
-                elif text and indent(line) <= inside:
-                    fields = None
-                elif fields is not None and field:
-                    fields[field.group(1)] = field.group(2)
-    return found
-
-
-def fields_of(clause, known, seen=()):
-    """The fields of the records that a clause cites, and of those that they cite."""
-    for word in re.findall(r"\w+", clause):
-        if word in known and word not in seen:
-            for field, says in known[word].items():
-                yield field
-                yield from fields_of(says, known, (*seen, word))
-
-
-def calls_of(path):
-    """Each public function: its type, its name, its comment, its clauses by name and by what they say."""
-    rows, note, head, owner, open_call = [], [], "", "", None
+@cache
+def parsed(path):
+    """The comments of a file's public types and traits, by their names, and the calls."""
+    types, calls, note, block, head = {}, [], [], "", []
+    owner, kind = "", ""
     for line in path.read_text().split("\n"):
         text = line.strip()
-        if head or re.match(r"(?:unsafe )?impl\b", line):
-            head += " " + text
+        made = re.match(r"pub (?:struct|enum|trait) (\w+)", line)
+        call = re.match(r"(pub )?(?:final )?(?:const )?(?:unsafe )?fn (\w+)", text)
+        if made:
+            types[made.group(1)] = " ".join(note)
+        if head and text not in ("{", "{}"):
+            head.append(line)
+        elif block or re.match(r"(unsafe )?impl\b|pub trait ", line):
+            block += " " + text
             if "{" in text:
-                plain = without_generics(head.split("{")[0].split(" where ")[0]).replace("unsafe ", "").strip()
-                owner = "" if " for " in plain else re.sub(r"^impl\s+", "", plain).strip().lstrip("&'a ").strip()
-                head = ""
-            continue
-        call = re.match(r"pub (?:final )?(?:const )?(?:unsafe )?fn (\w+)", text)
-        if text.startswith("///"):
+                plain = without_generics(block.split("{")[0].split(" where ")[0])
+                kind = "trait" if "pub trait" in plain else "impl" if " for " in plain else ""
+                owner, block = NAME.findall(plain.split(":")[0] if kind == "trait" else plain)[-1], ""
+        elif call and not head:
+            head, found = [line], call
+        if head and re.search(r"(^\s*| )\{\}?$|;$", line):
+            head[-1] = re.sub(r" \{\}?$|;$", "", head[-1])
+            depth = indent(head[0])
+            own = "pub" if found.group(1) else kind if depth else ""
+            calls.append(Call(owner if depth else "", found.group(2), " ".join(note), [it[depth:].rstrip() for it in head], own))
+            head, note = [], []
+        elif text.startswith("///"):
             note.append(text[3:].strip())
-        elif call:
-            where = owner if indent(line) else ""
-            rows.append((where, call.group(1), " ".join(note), []))
-            open_call, note = None if text.endswith("{") else rows[-1], []
-        elif text == "{":
-            open_call = None
-        elif open_call and re.match(r"(requires|ensures)\b", text):
-            clause = re.match(r"(requires|ensures)\*?\s+(\w+)?", text)
-            open_call[3].append((clause.group(2) or clause.group(1), text[clause.end():]))
-        elif open_call and open_call[3] and text and not text.startswith("//"):
-            name, says = open_call[3].pop()
-            open_call[3].append((name, f"{says} {text}"))
-        elif text and not text.startswith("#["):
+        elif text and not head and not text.startswith("#["):
             note = []
-            if re.match(r"(pub\(\w+\) )?(unsafe )?fn \w", text):
-                open_call = None
-    return rows
+    return types, calls
 
 
-def types_of(path):
-    """What the comments of a file's public types say."""
-    note, found = [], {}
-    for line in path.read_text().split("\n"):
-        made = re.match(r"pub (?:struct|enum) (\w+)", line)
-        if line.startswith("///"):
-            note.append(line[3:].strip())
-        elif made:
-            found[made.group(1)], note = " ".join(note), []
-        elif line and not line.startswith("#["):
-            note = []
+def public_calls(path):
+    return [call for call in parsed(path)[1] if call.kind in ("pub", "trait")]
+
+
+def clauses_of(call):
+    """The clauses of a call, by their names, and what each says."""
+    found = []
+    for line in call.head[1:]:
+        made = re.match(r"\s*(requires|ensures)\*?\s*(\w+)?(.*)", line)
+        if made:
+            found.append((made.group(2) or made.group(1), made.group(3)))
+        elif found:
+            found[-1] = (found[-1][0], f"{found[-1][1]} {line.strip()}")
     return found
 
 
-def parted(note):
-    """What a comment says of a call, and what of its refusals."""
-    sentences = re.split(r"(?<=\.) (?=[A-Z`])", note)
+def word_files(crate):
+    return [path for path in tracked(f"crates/{crate}/specs/*.antt") if path.name not in ("Lib.antt", "formers.antt") and "formers" not in path.parts]
+
+
+@cache
+def words_of(path):
+    """What a file of specs/ is about, and its public words."""
+    lead, words, note, record = "", [], [], None
+    for line in path.read_text().split("\n"):
+        text = line.strip()
+        if text.startswith("--"):
+            note.append(text[2:].strip())
+            continue
+        if text and record is not None and indent(line) <= record:
+            record = None
+        made = re.match(r"(?:unfoldable )?(?:abbrev )?pub (?:abbrev )?(record |data )?([^\s:({]+)(.*)", text)
+        if not lead and not words and re.match("(unfoldable )?(pub )?use ", text):
+            lead = " ".join(note)
+        elif made and record is not None:
+            words[-1].fields[made.group(2)] = made.group(3)
+        elif made and made.group(2) not in ("use", "mod") and "-" not in made.group(2):
+            words.append(Word(made.group(2), " ".join(note), {}))
+            record = indent(line) if made.group(1) else None
+        note = []
+    return lead, words
+
+
+# The pages of docs/reference
+
+def link(text, target):
+    return f"[{text}]({target})"
+
+
+def source(path):
+    return link("Source", f"../../../{named(path)}")
+
+
+def of_crate(crate):
+    return f"Of {link(f'`{crate}`', f'../README.md#{crate}')}."
+
+
+def words_page(crate):
+    out = [f"# The words of `{crate}`", "", f"{of_crate(crate)} What its contracts say, a heading for each file of `specs/`. A list is written from the front, and an index counts from 0. A loan has a name, which stands for what it ends as."]
+    for path in word_files(crate):
+        lead, words = words_of(path)
+        if words:
+            out += ["", f"## {path.stem}", "", f"{lead} {source(path)}", "", "| Word | What it means |", "|---|---|"]
+        for word in words:
+            fields = f". Its fields: {', '.join(f'`{field}`' for field in word.fields)}" if word.fields else ""
+            out.append(f"| `{word.name}` | {word.note}{fields} |".replace("||", "\\|\\|"))
+    return out
+
+
+def call_entry(call, path, pages_of_words):
+    """A heading with what the call does, when it is refused, its contract, and where the words of that are explained."""
+    sentences = re.split(r"(?<=\.) (?=[A-Z`])", call.note)
     refused = [s for s in sentences if re.search(r"refus|\bErr\b|handed back|hands .* back|comes back", s)]
-    return " ".join(s for s in sentences if s not in refused), " ".join(refused)
+    does = " ".join(s for s in sentences if s not in refused)
+    imported = {}
+    for crate, file, names in re.findall(r"ghost use Rattle\.(\w+)\.specs\.(\w+)\.\{([^}]*)\}", path.read_text()):
+        imported.update({name: f"../{crate}/words.md#{file.lower()}" for name in names.split(", ") if name in pages_of_words.get((crate, file), [])})
+    cited = dict.fromkeys(name for _, says in clauses_of(call) for name in NAME.findall(says) if name in imported)
+    parts = [f"## `{call.name}`", does, refused and f"**Refusals.** {' '.join(refused)}", "\n".join(["```rust", *call.head, "```"])]
+    return "\n\n".join(["", *filter(None, parts), " · ".join([source(path), *(link(f"`{name}`", imported[name]) for name in cited)])])
 
 
-def named(path, crate):
-    return path.relative_to(TOP / "crates" / crate).as_posix()
+def type_pages(crate, pages_of_words):
+    """The pages of a crate's types and of its functions: of each the name, where the type stands, its comment, and the lines."""
+    entries, notes, homes, files = {}, {}, {}, tracked(f"crates/{crate}/src/*.rt")
+    times = Counter(name for path in files for name in parsed(path)[0])
+    for path in files:
+        # a type that another module has too goes by its module, as a caller names it
+        full = lambda name: f"{path.parent.name}::{name}" if times[name] > 1 and path.parent.name != "src" else name
+        for name, note in parsed(path)[0].items():
+            notes[full(name)], homes[full(name)] = note, path
+        for call in public_calls(path):
+            entries.setdefault(full(call.owner) or "functions", []).append(call_entry(call, path, pages_of_words))
+    for name in sorted({*entries, *filter(notes.get, notes)}, key=lambda name: (name == "functions", name not in entries, name)):
+        note = notes.get(name, f"What `{crate}` has beside its types.")
+        page = [f"# `{name}`" if name in notes else "# Functions", "", f"{of_crate(crate)} {note}".replace("  ", "\n\n"), *entries.get(name, [])]
+        yield name, homes.get(name), note, page if name in entries else None
 
 
-def words_page():
-    out = ["# The words that contracts cite", "", "Written by `make pages` from the comments of `specs/`, a table a file. A list is written from the front; places count from 0. A loan has a name, which stands for what it ends as."]
-    for crate in library():
-        for path in tracked(f"crates/{crate}/specs/*.antt"):
-            if path.name in ("Lib.antt", "formers.antt") or "formers" in path.parts:
-                continue
-            lead, rows = words_of(path)
-            if rows:
-                out += ["", f"## `{crate}/{named(path, crate)}`", "", lead, "", "| Word | What it means |", "|---|---|"]
-                out += [f"| `{word}` | {note} |".replace("||", "\\|\\|") for word, note in rows]
-    return "\n".join(out) + "\n"
+def reference():
+    """Each page, by its path."""
+    out = ["# The reference", "", "Written by `make pages` from the comments and the contracts of the sources: the public calls of the crates that a user copies, a page a type, and the words of their contracts. [The guide](../GUIDE.md#how-to-read-a-contract) says how one is read."]
+    found, pages_of_words = {}, {(crate, path.stem): {it.name for it in words_of(path)[1]} for crate in copied() for path in word_files(crate)}
+    for crate in copied():
+        about = re.match(r"//! (.*?)\n(?!//!)", (TOP / f"crates/{crate}/src/lib.rt").read_text(), re.S).group(1).replace("\n//!", "")
+        out += ["", f"## `{crate}`", "", about, "", "| Page | What it is about |", "|---|---|"]
+        for name, home, note, page in [*type_pages(crate, pages_of_words), ("words", None, "What the words of its contracts mean.", words_page(crate))]:
+            file = f"{crate}/{name.replace('::', '-')}.md" if page else f"../../{named(home)}"
+            if page:
+                found[f"{REFERENCE}/{file}"] = page
+            out.append(f"| {link(name if name in ('functions', 'words') else f'`{name}`', file)} | {re.sub('[.:]( .*)?$', '.', note)} |")
+    found[f"{REFERENCE}/README.md"] = out
+    return {name: "\n".join(lines) + "\n" for name, lines in found.items()}
 
 
-def told(name, says, known):
-    """A clause by its name, and by the record that it is."""
-    word = re.match(r"[ {]*(?:If\w+ result \()?(\w+)", says)
-    record = word.group(1) if word and word.group(1) in known else ""
-    return record if record and name == "ensures" else f"{name} ({record})" if record else name
+# What a page may not say
 
-
-def calls_page():
-    known = records()
-    out = ["# The public calls", "", "Written by `make pages` from the comments of `src/` and the names of the clauses."]
-    for crate in library():
-        tables, types = {}, {}
-        for path in tracked(f"crates/{crate}/src/*.rt"):
-            types.update(types_of(path))
-            for owner, call, note, clauses in calls_of(path):
-                tables.setdefault(owner, []).append((call, note, clauses, named(path, crate)))
-        for owner, rows in tables.items():
-            title = f"`{crate}`: `{owner}`" if owner else f"`{crate}`: functions"
-            lead = [types[owner], ""] if types.get(owner) else []
-            out += ["", f"## {title}", "", *lead, "| Call | What it does | When it is refused | Clauses | File |", "|---|---|---|---|---|"]
-            for call, note, clauses, file in rows:
-                does, refused = parted(note)
-                out.append(f"| `{call}` | {does} | {refused} | {', '.join(told(name, says, known) for name, says in clauses)} | `{file}` |")
-    return "\n".join(out) + "\n"
-
-
-PAGES = {"docs/words.md": words_page, "docs/calls.md": calls_page}
+def pages():
+    """The pages that are written by hand, each with its text, that outside of blocks of code, and what stands in backticks there."""
+    for page in tracked("*.md"):
+        if not named(page).startswith(REFERENCE):
+            text = page.read_text()
+            plain = re.sub(r"^```.*?^```$", "", text, flags=re.M | re.S)
+            # the changelog names what is gone
+            yield page, text, plain, [] if page.name == "CHANGELOG.md" else re.findall(r"`([^`\n]+)`", plain)
 
 
 def faults():
-    for name, page in PAGES.items():
-        path = TOP / name
-        if not path.exists() or path.read_text() != page():
+    written = reference()
+    for name in sorted({*written, *map(named, tracked(REFERENCE))}):
+        if not (TOP / name).exists() or (TOP / name).read_text() != written.get(name):
             yield f"{name} is not what the sources say: make pages"
     for crate in library():
-        for path in tracked(f"crates/{crate}/specs/*.antt"):
-            if path.name == "Lib.antt" or "formers" in path.as_posix():
-                continue
-            for word, note in words_of(path)[1]:
-                if not note:
-                    yield f"{path.relative_to(TOP)}: the public word {word} has no comment"
+        for path in word_files(crate):
+            yield from (f"{named(path)}: the public word {it.name} has no comment" for it in words_of(path)[1] if not it.note)
         for path in tracked(f"crates/{crate}/src/*.rt"):
-            for owner, call, note, _ in calls_of(path):
-                if not note:
-                    yield f"{path.relative_to(TOP)}: the public function {owner + '::' if owner else ''}{call} has no comment"
+            yield from (f"{named(path)}: the public function {it.owner and it.owner + '::'}{it.name} has no comment" for it in public_calls(path) if not it.note)
     version, newest = (TOP / "VERSION").read_text().strip(), re.search(r"^## (\S+),", (TOP / "CHANGELOG.md").read_text(), re.M)
     if not newest or newest.group(1) != version:
         yield f"CHANGELOG.md does not begin with {version}, as VERSION has it"
     yield from faults_of_names()
+    yield from faults_of_clauses()
+    yield from faults_of_links()
     yield from faults_of_quotes()
     yield from faults_of_refusals()
+
+
+def faults_of_names():
+    sources = set()
+    for path in tracked("."):
+        if path.suffix != ".md" and path.name != "elsewhere.txt" and path.parent.name != "results":
+            sources.update(NAME.findall(path.read_bytes().decode(errors="ignore") + " " + named(path)))
+    sources.update(page.stem for page, *_ in pages())
+    # names of Rust's crates and of std that pages speak of, and that no source of this repository has
+    elsewhere, needed = set((TOP / "docs/elsewhere.txt").read_text().split()), set()
+    for page, _, _, quotes in pages():
+        for quoted in quotes:
+            for word in NAME.findall(quoted):
+                if word not in sources and not word.isupper():
+                    needed.add(word)
+                    if word not in elsewhere:
+                        yield f"{named(page)}: there is no {word} (`{quoted}`)"
+            if re.fullmatch(r"[\w.-]+(/[\w.-]+)+", quoted) and not re.search(r"NAME|CRATE|PATH|FUNCTION|\.\.", quoted):
+                if not any(True for place in ("", "crates/", "crates/*/") for _ in TOP.glob(place + quoted)):
+                    yield f"{named(page)}: there is no file {quoted}"
+    yield from (f"docs/elsewhere.txt: no page needs {word}" for word in sorted(elsewhere - needed))
+
+
+def fields_of(says, records, seen=()):
+    """The fields of the records that a clause cites, and of those that they cite."""
+    for word in NAME.findall(says):
+        if word in records and word not in seen:
+            for field, deeper in records[word].items():
+                yield field
+                yield from fields_of(deeper, records, (*seen, word))
+
+
+def faults_of_clauses():
+    """Clauses are cited behind their call, as `Type::call`: `clause`, `clause`. On the page of guarantees functions are calls too,
+    a bar of a table may stand for the colon, and of several calls each has each of the clauses."""
+    records, clauses = {}, {}
+    for word in [it for crate in library() for path in word_files(crate) for it in words_of(path)[1]]:
+        records.setdefault(word.name, {}).update(word.fields)
+    for path in [path for crate in library() for path in tracked(f"crates/{crate}/src/*.rt")]:
+        for call in public_calls(path):
+            for name, says in clauses_of(call):
+                clauses.setdefault((call.owner, call.name), set()).update([name, *fields_of(says, records)])
+    for page, _, plain, quotes in pages():
+        cited = r"((?:`(?:\w+::)?\w+`(?:, )?)+)(?:: | \| )" if page.name == "GUARANTEES.md" else r"(`\w+::\w+`): "
+        for calls, names in re.findall(cited + r"((?:`\w+`(?:, )?)+)", plain if quotes else ""):
+            for owner, call in re.findall(r"`(?:(\w+)::)?(\w+)`", calls):
+                here = [of_call for (o, c), of_call in clauses.items() if c == call and owner in ("", o)]
+                if not here and owner in {o for o, _ in clauses if o}:
+                    yield f"{named(page)}: there is no call {owner}::{call}"
+                yield from (f"{named(page)}: {owner and owner + '::'}{call} has no clause {it}" for it in NAME.findall(names) if here and not any(it in of_call for of_call in here))
+
+
+def faults_of_links():
+    targets = re.findall(r"^([a-z]+):", (TOP / "Makefile").read_text(), re.M)
+    for page, text, plain, _ in pages():
+        yield from (f"{named(page)}: there is no make {it}" for it in re.findall(r"(?:`|^    |^)make ([a-z]+)", text, re.M) if it not in targets)
+        for path, _, heading in [it.partition("#") for it in re.findall(r"\]\(([^):]+)\)", plain)]:
+            there = (page.parent / path).resolve() if path else page
+            if not there.exists():
+                yield f"{named(page)}: there is no {path}"
+            elif heading and heading not in [re.sub(r"[^\w\- ]", "", it.lower()).replace(" ", "-") for it in re.findall("^#+ (.*)$", there.read_text(), re.M)]:
+                yield f"{named(page)}: {named(there)} has no heading {heading}"
 
 
 def faults_of_quotes():
@@ -228,81 +321,22 @@ def faults_of_quotes():
         depth = min((indent(line) for line in lines if line.strip()), default=0)
         return [line[depth:].rstrip() for line in lines]
 
-    for page in tracked("*.md"):
-        for name, text in re.findall(r"^```\w+ (\S+)\n(.*?)^```$", page.read_text(), re.M | re.S):
-            quoted, path = cut(text.splitlines()), TOP / name
-            source = path.read_text().splitlines() if path.is_file() else []
-            if not any(cut(source[i : i + len(quoted)]) == quoted for i in range(len(source))):
-                yield f"{page.relative_to(TOP)}: {name} has no such lines: {quoted[0]}"
-
-
-def faults_of_names():
-    targets = set(re.findall(r"^([a-z]+):", (TOP / "Makefile").read_text(), re.M))
-    sources, clauses, known_records = "", {}, records()
-    for path in tracked("."):
-        if path.suffix != ".md":
-            try:
-                sources += path.read_text() + "\n" + path.relative_to(TOP).as_posix() + "\n"
-            except UnicodeDecodeError:
-                pass
-    known = set(re.findall(r"[A-Za-z_][A-Za-z0-9_]*", sources)) | {p.stem for p in tracked("*.md")} | ELSEWHERE
-    for crate in library():
-        for path in tracked(f"crates/{crate}/src/*.rt"):
-            for owner, call, _, names in calls_of(path):
-                of_call = clauses.setdefault((owner.split("::")[-1], call), set())
-                for clause, says in names:
-                    of_call.update([clause, *fields_of(says, known_records)])
-    for page in tracked("*.md"):
-        name, text = page.relative_to(TOP).as_posix(), page.read_text()
-        # the changelog names what is gone
-        plain = "" if name == "CHANGELOG.md" else re.sub(r"```.*?```", "", text, flags=re.S)
-        for target in re.findall(r"(?:`|^    |^)make ([a-z]+)", text, re.M):
-            if target not in targets:
-                yield f"{name}: there is no make {target}"
-        for quoted in re.findall(r"`([^`\n]+)`", plain):
-            for word in re.findall(r"[A-Za-z_][A-Za-z0-9_]*", quoted):
-                if word not in known and not word.isupper():
-                    yield f"{name}: there is no {word} (`{quoted}`)"
-            if re.fullmatch(r"[\w.-]+(/[\w.-]+)+", quoted) and not re.search("NAME|CRATE|PATH|FUNCTION|\\.\\.", quoted) and not file_there(quoted):
-                yield f"{name}: there is no file {quoted}"
-        for owner, call, cited in re.findall(r"`(?:(\w+)::)?(\w+)`: ((?:`\w+`(?:, )?)+)", plain):
-            if not owner and name != "docs/PROVED.md":
-                continue
-            here = [cs for (o, c), cs in clauses.items() if c == call and owner in ("", o)]
-            if not here and owner in {o for o, _ in clauses if o}:
-                yield f"{name}: there is no call {owner}::{call}"
-            for clause in re.findall(r"`(\w+)`", cited):
-                if here and not any(clause in cs for cs in here):
-                    yield f"{name}: {owner + '::' if owner else ''}{call} has no clause {clause}"
-        for link in re.findall(r"\]\(([^)#:]+)[^)]*\)", text):
-            if not (page.parent / link).exists():
-                yield f"{name}: there is no {link}"
-
-
-def refusable(path):
-    """Each public function, and each method of a trait, that answers a Result."""
-    owner, of_trait, head, lines = "", False, "", path.read_text().split("\n")
-    for at, line in enumerate(lines):
-        text = line.strip()
-        if head or re.match(r"(unsafe )?impl\b|pub trait ", line):
-            head += " " + text
-            if "{" in text:
-                plain = without_generics(head.split("{")[0].split(" where ")[0])
-                owner, of_trait, head = re.findall(r"\w+", plain)[-1], " for " in plain, ""
-            continue
-        call = re.match(r"(pub )?(?:final )?(?:const )?(?:unsafe )?fn (\w+)", text)
-        if call and (call.group(1) or indent(line) == 4 and of_trait):
-            head_of_call = text
-            while not head_of_call.endswith(("{", "}", ";")) and not re.match(r"requires|ensures|where|//|{", lines[at + 1].strip()):
-                at += 1
-                head_of_call += " " + lines[at].strip()
-            if re.match(r"\s*Result<", head_of_call.split("->")[-1]) and "->" in head_of_call:
-                yield f"{owner if indent(line) else path.stem}::{call.group(2)}"
+    for page, text, _, _ in pages():
+        for name, code in re.findall(r"^```\w+ (\S+)\n(.*?)^```$", text, re.M | re.S):
+            quoted, path = cut(code.splitlines()), TOP / name
+            lines = path.read_text().splitlines() if path.is_file() else []
+            if not any(cut(lines[i : i + len(quoted)]) == quoted for i in range(len(lines))):
+                yield f"{named(page)}: {name} has no such lines: {quoted[0]}"
 
 
 def faults_of_refusals():
-    name = "crates/tests_memory/calls.txt"
-    listed, crate = [], ""
+    name, there, listed, crate = "crates/tests_memory/calls.txt", [], [], ""
+    for of in library():
+        for path in tracked(f"crates/{of}/src/*.rt") if of != "starlark_callers" else []:
+            for call in parsed(path)[1]:
+                signature = re.split(r" (?:where|requires|ensures)\b", " ".join(it.strip() for it in call.head))[0]
+                if call.kind in ("pub", "impl") and re.match(r"\s*Result<", signature.rpartition("->")[2]):
+                    there.append((of, f"{call.owner or path.stem}::{call.name}"))
     for line in (TOP / name).read_text().split("\n"):
         call, _, tried = line.partition(": ")
         if line and not tried:
@@ -310,29 +344,26 @@ def faults_of_refusals():
         elif line and line[0] != "#":
             listed.append((crate, call))
             made = re.fullmatch(r"(\w+)/([\w/]+) (\w+)(?: by (\w+))?", tried)
-            if made:
-                path = TOP / f"crates/{made.group(1)}/src/{made.group(2)}.rt"
-                text = path.read_text() if path.exists() else ""
-                if not re.search(rf"#\[test\]\nfn {made.group(3)}\(", text):
-                    yield f"{name}: {call}: there is no test {tried}"
-                elif not re.search(rf"\b{made.group(4) or call.split('::')[-1]}\b", text):
-                    yield f"{name}: {call}: the file of {tried} does not name it"
-            elif "no memory" not in tried:
+            path = made and TOP / f"crates/{made.group(1)}/src/{made.group(2)}.rt"
+            text = path.read_text() if made and path.exists() else ""
+            if made and not re.search(rf"#\[test\]\nfn {made.group(3)}\(", text):
+                yield f"{name}: {call}: there is no test {tried}"
+            elif made and not re.search(rf"\b{made.group(4) or call.split('::')[-1]}\b", text):
+                yield f"{name}: {call}: the file of {tried} does not name it"
+            elif not made and "no memory" not in tried:
                 yield f"{name}: {call}: neither a test nor a reason: {tried}"
-    there = [(crate, call) for crate in library() if not crate.endswith("callers") for path in tracked(f"crates/{crate}/src/*.rt") for call in refusable(path)]
-    for crate, call in sorted({*listed, *there}):
-        if listed.count((crate, call)) != there.count((crate, call)):
-            yield f"{name}: {crate} has {call} {there.count((crate, call))} times, the list {listed.count((crate, call))} times"
-
-
-def file_there(quoted):
-    return (TOP / quoted).exists() or (TOP / "crates" / quoted).exists() or any(True for _ in (TOP / "crates").glob(f"*/{quoted}"))
+    for of, call in sorted({*listed, *there}):
+        if listed.count((of, call)) != there.count((of, call)):
+            yield f"{name}: {of} has {call} {there.count((of, call))} times, the list {listed.count((of, call))} times"
 
 
 def main():
     if sys.argv[1:] == ["write"]:
-        for name, page in PAGES.items():
-            (TOP / name).write_text(page())
+        for path in tracked(REFERENCE):
+            path.unlink()
+        for name, text in reference().items():
+            (TOP / name).parent.mkdir(parents=True, exist_ok=True)
+            (TOP / name).write_text(text)
     elif sys.argv[1:] == ["check"]:
         found = list(faults())
         for fault in found:
