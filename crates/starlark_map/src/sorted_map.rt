@@ -1,14 +1,26 @@
 //! A map whose keys ascend. It alone sees the map inside.
-ghost use Rattle.starlark_small.specs.Making.{IsBare};
+ghost use Rattle.starlark_small.specs.Making.{IsBare, Clones};
+ghost use Rattle.std.specs.Prelude.{◌≡◌, None, IsOk, IsTrue, IfOk, ◌==◌, length, ◌<◌, map};
+ghost use Rattle.std.specs.Hash.{HashWrites};
+ghost use Rattle.std.specs.Iterator.{IsFiniteIterable};
+ghost use Rattle.starlark_small.specs.Clone.{IsEqualClone};
+ghost use Rattle.starlark_small.specs.Collect.{FindsLast, own_entry};
+ghost use Rattle.starlark_map.specs.SortedCollect.{GivesNothing};
+ghost use Rattle.starlark_map.specs.SortedMaking.{SortsInto};
+ghost use Rattle.starlark_map.specs.Sorted.{AreOwn, CollectsSorted};
+ghost use Rattle.std.specs.Option.{option_copied, option_copied_mut};
+ghost use Rattle.starlark_hash.specs.Hasher.{own_hash};
+ghost use Rattle.starlark_small.specs.Calling.{FindsValue, TellsPresence};
+ghost use Rattle.std.specs.Borrow.{sem};
+ghost use Rattle.starlark_map.specs.SortedLending.{lends_get};
 
 mod compare;
-mod made;
-mod read;
-mod walk;
-mod write;
+mod iter;
 
+use starlark_hash::Query;
 use starlark_sets::OrderedMap;
-use std::alloc::Global;
+use starlark_small::SmallMap;
+use std::alloc::{AllocError, Global};
 use std::hash::Hash;
 use std::marker::Model;
 
@@ -39,5 +51,112 @@ impl<K: Ord + Hash, V> SortedMap<K, V> {
         SortedMap {
             map: OrderedMap::new(alloc),
         }
+    }
+
+    /// The entries of the map, sorted by key; those with equal keys keep their order. Where the keys ascend already it
+    /// asks for no memory. Where memory is refused, the map is handed back with its entries as they were. Capacity and
+    /// index are those of the map, done or refused.
+    pub fn from_ordered_map(map: OrderedMap<K, V>) -> Result<Self, OrderedMap<K, V>>
+        ensures { SortsInto K.eq K.cmp map result }
+    {
+        let mut map = map;
+        match map.sort_keys() {
+            Ok(()) => Ok(SortedMap { map }),
+            Err(_) => Err(map),
+        }
+    }
+
+    /// As `from_ordered_map`, of a `SmallMap`.
+    #[tactic(auto, using(crate::proofs::Ascending::sorted_ascends))]
+    pub fn from_small_map(map: SmallMap<K, V>) -> Result<Self, SmallMap<K, V>>
+        ensures { SortsInto K.eq K.cmp map result }
+    {
+        let mut source = map;
+        match source.sort_keys() {
+            Ok(()) => Ok(SortedMap {
+                map: OrderedMap::from(source),
+            }),
+            Err(_) => Err(source),
+        }
+    }
+
+    /// How many entries there are.
+    #[inline]
+    pub fn len(&self) -> usize
+        ensures { result ≡ length self.now.entries }
+    {
+        self.map.len()
+    }
+
+    /// Whether there are no entries.
+    #[inline]
+    pub fn is_empty(&self) -> bool
+        ensures { result ≡ (length self.now.entries == 0) }
+    {
+        self.map.is_empty()
+    }
+
+    /// The value under the query's own hash whose key the query stands for.
+    #[inline]
+    pub fn get<Q: Query<K> + Hash>(&self, key: Q) -> Option<&V>
+        ensures { FindsValue (Q.stands_for key) (own_hash Q.hash_input key) self.now (option_copied result) }
+    {
+        self.map.get(key)
+    }
+
+    /// Whether there is an entry under the query's own hash whose key the query stands for.
+    #[inline]
+    pub fn contains_key<Q: Query<K> + Hash>(&self, key: Q) -> bool
+        ensures { TellsPresence (Q.stands_for key) (own_hash Q.hash_input key) self.now result }
+    {
+        self.map.contains_key(key)
+    }
+
+    /// The value under the query's own hash whose key the query stands for, to be written. The map ends with what is
+    /// left in it, and all else stays. `None` where there is no such entry, and then the map is as it was.
+    #[inline]
+    pub fn get_mut<Q: Query<K> + Hash>(&mut self, key: Q) -> Option<&mut V>
+        ensures* writes_back { sem 𝓛 (lends_get K.row V.row K.cmp K.eq K.partial_cmp K.hash_input self.entry (Q.stands_for key) (own_hash Q.hash_input key) result) }
+        ensures finds { FindsValue (Q.stands_for key) (own_hash Q.hash_input key) self.old (option_copied_mut result) }
+    {
+        self.map.get_mut(key)
+    }
+}
+
+impl<K: Ord + Hash + Drop, V: Drop> SortedMap<K, V> {
+    /// The items, inserted into an empty map in their order, each under its key's own hash, and then sorted by key.
+    /// Where memory is refused, nothing is made and the items are dropped; without items no memory is needed. The
+    /// iterator must end.
+    pub fn from_iter<I: IntoIterator<Item = (K, V)>>(
+        alloc: Global,
+        iter: I,
+    ) -> Result<Self, AllocError>
+        requires { IsFiniteIterable I.into_iter_gives I.IntoIter.can_next I.IntoIter.remaining iter }
+        ensures found { IfOk result (FindsLast K.eq K.hash_input I.IntoIter.next_gives I.into_iter_gives iter (λ _. None)) }
+        ensures map { IfOk result (CollectsSorted K.eq K.cmp (own_entry K.hash_input) I.IntoIter.next_gives I.into_iter_gives I.IntoIter.remaining iter) }
+        ensures own { IfOk result (λ map. AreOwn K.hash_input map.entries) }
+        ensures succeeds { GivesNothing I.into_iter_gives I.IntoIter.next_gives I.IntoIter.remaining iter → IsOk result }
+    {
+        let map = OrderedMap::from_iter(alloc, iter)?;
+        match SortedMap::from_ordered_map(map) {
+            Ok(sorted) => Ok(sorted),
+            Err(_) => Err(AllocError),
+        }
+    }
+}
+
+impl<K: Ord + Hash + Clone, V: Clone> SortedMap<K, V> {
+    /// A map of clones of the entries under the same hashes, in their order, whose capacity is their number. It has an
+    /// index only where the list is too long to do without. Where memory is refused, also to the clone of a key or a
+    /// value, nothing is made. Without entries no memory is needed. Required is that a clone of a key is equal to it.
+    pub fn clone(&self) -> Result<Self, AllocError>
+        // A clone of a key is equal to it.
+        requires { IsEqualClone K.eq K.is_clone }
+        ensures clones { Clones K.eq K.is_clone V.is_clone self.now result }
+        ensures own { IfOk result (λ map. (feeds : K → HashWrites) → ((x y : K) → IsTrue (K.eq x y) → feeds x ≡ feeds y) → AreOwn feeds self.now.entries → AreOwn feeds map.entries) }
+    {
+        Ok(SortedMap {
+            map: self.map.clone()?,
+        })
     }
 }

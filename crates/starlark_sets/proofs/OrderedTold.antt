@@ -3,10 +3,10 @@ use Rattle.std.proofs.Common.{◌∙◌, Bool, Option, Result, Ok, Err, IfErr, a
 use Rattle.starlark_hash.specs.declared.hashed.Hashed.{Hashed}
 use Rattle.starlark_sets.specs.OrderedTries.{IsPlaced, IsRefusal, IsTold, ShowsPlaced, Tries}
 use Rattle.starlark_sets.specs.Set.{Elements, Set}
-use Rattle.starlark_sets.specs.declared.ordered_set.tries.TryInsertError.{TryInsertError}
-use Rattle.starlark_sets.specs.declared.ordered_set.tries.TryInsertError.TheVariants.{Occupied, Memory}
-use Rattle.starlark_sets.specs.declared.ordered_set.tries.Refusal.{Refusal}
-use Rattle.starlark_sets.specs.declared.ordered_set.tries.Refusal.TheVariants.{Placed, Full}
+use Rattle.starlark_sets.specs.declared.ordered_set.try_insert.TryInsertError.{TryInsertError}
+use Rattle.starlark_sets.specs.declared.ordered_set.try_insert.TryInsertError.TheVariants.{Occupied, Memory}
+use Rattle.starlark_sets.specs.declared.ordered_set.try_insert.Refusal.{Refusal}
+use Rattle.starlark_sets.specs.declared.ordered_set.try_insert.Refusal.TheVariants.{Placed, Full}
 
 module _ {T : Type 0} where
   pub tries_told : (eq : T → T → Bool) (old new : Set T) (element : Hashed T) (tried : Result (Unit {0}) (Refusal T)) (r : Result (Unit {0}) (TryInsertError T))

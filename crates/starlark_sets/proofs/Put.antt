@@ -25,8 +25,8 @@ use Rattle.starlark_sets.specs.Adding.{AddsNew, PutsElementFor, ShowsPut}
 use Rattle.starlark_sets.specs.Lending.{AddsAt}
 use Rattle.starlark_sets.specs.OrderedTries.{AnswersTry, IsRefusal, ShowsEqual, Tries, is_occupied}
 use Rattle.starlark_sets.specs.Set.{AddsFor, Set, element_at}
-use Rattle.starlark_sets.specs.declared.ordered_set.tries.TryInsertError.{TryInsertError}
-use Rattle.starlark_sets.specs.declared.ordered_set.tries.TryInsertError.TheVariants.{Occupied, Memory}
+use Rattle.starlark_sets.specs.declared.ordered_set.try_insert.TryInsertError.{TryInsertError}
+use Rattle.starlark_sets.specs.declared.ordered_set.try_insert.TryInsertError.TheVariants.{Occupied, Memory}
 use Rattle.starlark_sets.proofs.Additions.{is_some-value_at}
 use Rattle.starlark_sets.proofs.Callers.{key_stands}
 

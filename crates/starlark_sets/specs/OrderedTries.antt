@@ -7,10 +7,10 @@ use Rattle.starlark_hash.specs.Entries.{entry_key, match_of}
 use Rattle.starlark_hash.specs.Finding.{found}
 use Rattle.starlark_small.specs.Inserted.{IsInserted, IsRefused}
 use Rattle.starlark_sets.specs.Set.{Elements, Set, element_at}
-use Rattle.starlark_sets.specs.declared.ordered_set.tries.TryInsertError.{TryInsertError}
-use Rattle.starlark_sets.specs.declared.ordered_set.tries.TryInsertError.TheVariants.{Occupied, Memory}
-use Rattle.starlark_sets.specs.declared.ordered_set.tries.Refusal.{Refusal}
-use Rattle.starlark_sets.specs.declared.ordered_set.tries.Refusal.TheVariants.{Placed, Full}
+use Rattle.starlark_sets.specs.declared.ordered_set.try_insert.TryInsertError.{TryInsertError}
+use Rattle.starlark_sets.specs.declared.ordered_set.try_insert.TryInsertError.TheVariants.{Occupied, Memory}
+use Rattle.starlark_sets.specs.declared.ordered_set.try_insert.Refusal.{Refusal}
+use Rattle.starlark_sets.specs.declared.ordered_set.try_insert.Refusal.TheVariants.{Placed, Full}
 
 module _ {T : Type 0} where
   -- new is old after this element was tried: where an equal one stands under its hash it is refused and nothing changes; a new

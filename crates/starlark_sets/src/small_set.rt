@@ -1,17 +1,19 @@
 //! The set, a map whose every value is `()`. It alone sees that map.
 ghost use Rattle.starlark_small.specs.Making.{IsBare, MakesEmptyFor};
+ghost use Rattle.std.specs.Prelude.{◌≡◌, ◌-◌, ◌≤◌, ◌==◌, length};
+ghost use Rattle.starlark_small.specs.Inserting.{Reserves};
 
+mod clone;
 mod collect;
 mod compare;
-mod copy;
-mod grow;
-mod lend;
-mod read;
+mod get;
+mod get_or_insert;
+mod insert;
+mod iter;
+mod remove;
 mod retain;
-mod shrink;
-mod unique;
-mod walk;
-mod with_other;
+mod sort;
+mod union;
 
 use starlark_small::SmallMap;
 use std::alloc::{AllocError, Global};
@@ -60,5 +62,38 @@ impl<T: Eq> SmallSet<T> {
             map: SmallMap::with_capacity(alloc, capacity)?,
             alloc,
         })
+    }
+
+    /// How many elements there are.
+    #[inline]
+    pub fn len(&self) -> usize
+        ensures { result ≡ length self.now.entries }
+    {
+        self.map.len()
+    }
+
+    /// Whether there are no elements.
+    #[inline]
+    pub fn is_empty(&self) -> bool
+        ensures { result ≡ (length self.now.entries == 0) }
+    {
+        self.map.is_empty()
+    }
+
+    /// How many elements there may be before the list grows.
+    #[inline]
+    pub fn capacity(&self) -> usize
+        ensures capacity { result ≡ self.now.capacity }
+        ensures within { length self.now.entries ≤ result }
+    {
+        self.map.capacity()
+    }
+
+    /// Makes room for so many new elements, and the index where so many need one, as `SmallMap::reserve` does. Where
+    /// the room is there it asks for no memory and changes nothing. A refusal leaves elements and index.
+    pub fn reserve(&mut self, additional: usize) -> Result<(), AllocError>
+        ensures reserves { Reserves additional self.old self.new result }
+    {
+        self.map.reserve(additional)
     }
 }

@@ -7,8 +7,8 @@ ghost use Rattle.starlark_small.specs.Index.{IsIndexed, IsIndexedAt, index_room,
 ghost use Rattle.starlark_small.specs.Indexing.{IsFilled, IsNotedIn, IsRenamed, MakesIndexFor, MakesIndexOf, ReservesAsItIs, ReservesIndex, ShowsTable};
 ghost use Rattle.starlark_vec2.specs.Moves.{Moves};
 
+mod find;
 mod hash_table;
-mod search;
 
 use hash_table::HashTable;
 use starlark_columns::Perhaps;

@@ -1,19 +1,24 @@
 //! The map. It alone sees its list of entries and their index.
 ghost use Rattle.starlark_small.specs.Making.{IsBare, MakesEmptyFor};
+ghost use Rattle.std.specs.Prelude.{◌≡◌, ◌-◌, ◌<◌, ◌≤◌, ◌==◌, length, is_some, IfSome, IsPermutation, IsSome};
+ghost use Rattle.starlark_small.specs.Index.{positions, unindexed};
+ghost use Rattle.starlark_table.specs.Table.{members};
 
+mod clone;
 mod collect;
 mod compare;
-mod copy;
-mod grow;
-mod read;
+mod get;
+mod get_mut;
+mod insert;
+mod iter;
+mod remove;
+mod reserve;
 mod retain;
-mod shrink;
 mod sort;
-mod unique;
-mod walk;
-mod write;
 
 use crate::index::Index;
+use starlark_hash::StarlarkHashValue;
+use starlark_table::ReadyTable;
 use starlark_vecmap::VecMap;
 use std::alloc::{AllocError, Global};
 use std::marker::Model;
@@ -62,5 +67,50 @@ impl<K: Eq, V> SmallMap<K, V> {
         let index = Index::with_capacity(alloc, capacity)?;
         let entries = VecMap::with_capacity(alloc, capacity)?;
         Ok(SmallMap { entries, index })
+    }
+
+    /// How many entries there are.
+    #[inline]
+    pub fn len(&self) -> usize
+        ensures { result ≡ length self.now.entries }
+    {
+        self.entries.len()
+    }
+
+    /// Whether there are no entries.
+    #[inline]
+    pub fn is_empty(&self) -> bool
+        ensures { result ≡ (length self.now.entries == 0) }
+    {
+        self.entries.is_empty()
+    }
+
+    /// How many entries there may be before the list grows.
+    #[inline]
+    pub fn capacity(&self) -> usize
+        ensures capacity { result ≡ self.now.capacity }
+        ensures within { length self.now.entries ≤ result }
+    {
+        self.entries.capacity()
+    }
+
+    /// How many new entries surely need no memory, neither for the list nor for the index.
+    #[inline]
+    pub fn room(&self) -> usize
+        ensures { result ≡ self.now.room }
+    {
+        let spare = self.entries.capacity() - self.entries.len();
+        spare.min(self.index.room(self.entries.len()))
+    }
+
+    /// The index, where there is one: a table of the place of each entry, under the promoted hash of the entry, and of no
+    /// other member. There is one wherever the list is longer than `UNINDEXED`.
+    #[inline]
+    pub fn index(&self) -> Option<&ReadyTable<u32, StarlarkHashValue>>
+        ensures places { IfSome result (λ table. IsPermutation (positions self.now.entries) (members table.now)) }
+        ensures indexed { is_some result ≡ self.now.indexed }
+        ensures long { unindexed < length self.now.entries → IsSome result }
+    {
+        self.index.table()
     }
 }

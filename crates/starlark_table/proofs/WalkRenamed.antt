@@ -1,7 +1,7 @@
 -- The walk that writes the values of a table, under another name for its loan. Assumes `Logic`.
 use Rattle.starlark_columns.proofs.Walking.{◌≡◌, ap, List, [], ◌∷◌, Ura, Val, ent, GName, ftrue, fsep, Logic, sem, ‵, ◌$◌, ◌∵◌, !, qed, use1, move, fsplit, fjoin, fpick, fpack, done, RattleType, Valss, NamedLft, fields, within}
 use denote.Struct.Declared.{shape}
-use Rattle.starlark_table.specs.declared.kept.KeptHash as KeptHash
+use Rattle.starlark_table.specs.declared.kept_hash.KeptHash as KeptHash
 use Rattle.starlark_table.specs.contracts.loan.PairLoan as L
 use Rattle.starlark_table.specs.contracts.loan.PairLoan.TheInside as LI
 use Rattle.starlark_table.specs.declared.loan.PairLoan.{PairLoan}

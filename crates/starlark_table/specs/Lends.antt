@@ -4,7 +4,7 @@ use Rattle.std.specs.Borrow.{Lends, LendsIf, follows, GName, Fml, RattleType, Mu
 use denote.Struct.Tuple.{Tuple}
 use Rattle.starlark_table.specs.Table.{Table, with_item}
 use Rattle.starlark_table.specs.Written.{with_written, with_values}
-use Rattle.starlark_table.specs.declared.kept.KeptHash as KeptHash
+use Rattle.starlark_table.specs.declared.kept_hash.KeptHash as KeptHash
 use Rattle.starlark_table.specs.contracts.ready_table.ReadyTable.{the_row}
 
 module _ (T H : RattleType) (G : KeptHash.Ghosts H.Denot) where

@@ -7,8 +7,8 @@ use denote.Struct.Tuple.{Tuple}
 use Rattle.starlark_columns.specs.Lent.{kept_places}
 use Rattle.starlark_columns.specs.contracts.bytes.Bytes.{the_row as bytes_row}
 use Rattle.starlark_table.specs.Table.{Table}
-use Rattle.starlark_table.specs.declared.kept.KeptHash as KeptHash
-use Rattle.starlark_table.specs.contracts.kept.Kept.{the_row as kept_row}
+use Rattle.starlark_table.specs.declared.kept_hash.KeptHash as KeptHash
+use Rattle.starlark_table.specs.contracts.kept_hash.Kept.{the_row as kept_row}
 use Rattle.starlark_table.specs.contracts.ready_table.ReadyTable.{the_row as table_row}
 
 -- the type of a member under its hash

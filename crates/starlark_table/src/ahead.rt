@@ -4,7 +4,7 @@ ghost use Rattle.starlark_columns.specs.Places.{IsFilled};
 ghost use Rattle.starlark_table.specs.Layout.{at, IsTagged, LeftInWindow};
 ghost use Rattle.starlark_table.specs.Table.{filled};
 
-use crate::kept::KeptHash;
+use crate::kept_hash::KeptHash;
 use crate::probe::Slots;
 use crate::tags::full_places;
 

@@ -7,7 +7,7 @@ ghost use Rattle.starlark_table.specs.Table.{filled, IsSlotClone};
 ghost use Rattle.starlark_table.specs.Layout.{at, members_in, tags_of_empty, window, AreDoubled, InPlace, IsTagged, IsTaggedFrom, TellsFar};
 ghost use Rattle.starlark_table.specs.Growth.{limit, most_for};
 
-use crate::kept::KeptHash;
+use crate::kept_hash::KeptHash;
 use crate::probe::{Slots, put};
 use crate::tags::{EMPTY, PADDING, WINDOW, full_places, tags_beside};
 use starlark_columns::{Bytes, Column};

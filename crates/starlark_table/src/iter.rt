@@ -5,10 +5,10 @@ ghost use Rattle.std.specs.Iterator.SizeHint.{IsWithinCount};
 ghost use Rattle.starlark_table.specs.Table.{filled, items_in};
 
 use crate::ahead::Ahead;
-use crate::kept::KeptHash;
+use crate::clear::drop_all;
+use crate::kept_hash::KeptHash;
 use crate::probe::Slots;
 use crate::tags::{EMPTY, tags_beside};
-use crate::walks::drop_all;
 use starlark_columns::Bytes;
 use std::alloc::AllocError;
 use std::iter::FusedIterator;

@@ -6,7 +6,7 @@ ghost use Rattle.std.specs.Map.Iter.{TakesFirst};
 ghost use Rattle.starlark_table.specs.Table.{items_in};
 ghost use Rattle.starlark_table.specs.Lends.{written_through};
 
-use crate::kept::KeptHash;
+use crate::kept_hash::KeptHash;
 use crate::loan::Loan;
 use std::iter::FusedIterator;
 use std::marker::Model;

@@ -2,24 +2,26 @@
 #![tactic(auto)]
 
 mod ahead;
+mod clear;
 mod fill;
 mod follow;
-mod gap;
 mod growth;
+mod home;
 pub mod iter;
 mod iter_mut;
-pub mod kept;
+mod kept_hash;
 mod loan;
 mod pairs_mut;
-mod places;
 mod probe;
 pub mod ready_table;
+mod remove;
+mod replace;
+mod retain;
 mod tags;
-mod walks;
 
 pub use follow::Follows;
 pub use iter::{IntoIter, Iter};
 pub use iter_mut::IterMut;
-pub use kept::KeptHash;
+pub use kept_hash::KeptHash;
 pub use pairs_mut::PairsMut;
 pub use ready_table::ReadyTable;

@@ -4,7 +4,7 @@ ghost use Rattle.std.specs.Map.Iter.{deref_pair_mut};
 ghost use Rattle.std.specs.Option.{option_copied_mut, option_map};
 ghost use Rattle.starlark_table.specs.Lent.{AreMarked};
 
-use crate::kept::{Kept, KeptHash};
+use crate::kept_hash::{Kept, KeptHash};
 use crate::tags::EMPTY;
 use starlark_columns::loan::{AllButLast, First};
 use std::marker::Model;

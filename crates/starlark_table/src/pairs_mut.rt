@@ -5,7 +5,7 @@ ghost use Rattle.std.specs.Iterator.SizeHint.{IsWithinCount};
 ghost use Rattle.std.specs.Map.Iter.{TakesFirst, deref_pair_mut};
 ghost use Rattle.starlark_table.specs.Table.{items_in};
 
-use crate::kept::KeptHash;
+use crate::kept_hash::KeptHash;
 use crate::loan::PairLoan;
 use std::iter::FusedIterator;
 use std::marker::Model;

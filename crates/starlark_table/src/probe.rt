@@ -7,8 +7,8 @@ ghost use Rattle.starlark_table.specs.Layout.{distance, at, members_in, InPlace,
 ghost use Rattle.starlark_table.specs.Vacancy.{IsVacancy};
 
 use crate::fill::with_far;
-use crate::kept::{Kept, KeptHash};
-use crate::places::{home, window_after};
+use crate::home::{home, window_after};
+use crate::kept_hash::{Kept, KeptHash};
 use crate::tags::{EMPTY, places_up_to_empty, places_with, tag};
 use starlark_columns::Column;
 

@@ -9,19 +9,21 @@ ghost use Rattle.starlark_table.specs.Growth.{most_for};
 ghost use Rattle.starlark_table.specs.Vacancy.{IsVacancy};
 ghost use Rattle.starlark_table.specs.Walk.{CanReplace, ReplacesEach, CanRetain, AsksMember};
 
-mod lends;
-mod pairs;
+mod iter_mut;
+mod pairs_mut;
 
+use crate::clear::{drop_all, empty_all, next_full};
 use crate::fill::{members_in, tells_far};
 use crate::follow::Follows;
-use crate::gap::take_out;
 use crate::growth::{clone_members, empty_places, limit, move_all, places_for};
+use crate::home::mask_of;
 use crate::iter::{IntoIter, Iter};
-use crate::kept::{Kept, KeptHash};
-use crate::places::mask_of;
+use crate::kept_hash::{Kept, KeptHash};
 use crate::probe::{Slots, find_slot, item_at, put, put_at, vacancy};
+use crate::remove::take_out;
+use crate::replace::replace_items;
+use crate::retain::retain_items;
 use crate::tags::{WINDOW, tags_beside, untag};
-use crate::walks::{drop_all, empty_all, next_full, replace_items, retain_items};
 use starlark_columns::{Bytes, Column};
 use starlark_hash::NoRoom;
 use std::alloc::{AllocError, Global};

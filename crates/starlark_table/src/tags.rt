@@ -2,7 +2,7 @@
 ghost use Rattle.std.specs.Prelude.{◌≡◌, ℕ, ◌+◌, ◌-◌, ◌<◌, ◌≤◌, ◌≢◌, None, false, length, slice_index_or};
 ghost use Rattle.starlark_table.specs.Layout.{tag, at, window, tag_count, tag_bits, hash_tag_bits, empty_tag, AreDoubled, BitsUpToEmpty, IsBetweenEmpty, IsTagged, HasTags, IsPadded};
 
-use crate::kept::KeptHash;
+use crate::kept_hash::KeptHash;
 use crate::probe::Slots;
 use std::simd::prelude::*;
 

@@ -5,7 +5,7 @@ use Rattle.std.specs.contracts.alloc.Global as Global
 use Rattle.std.specs.declared.cmp.PartialEq as PartialEq
 use Rattle.std.specs.declared.hash.Hash as Hash
 use Rattle.starlark_hash.specs.contracts.hash_value.StarlarkHashValue.{the_row as hash_row}
-use Rattle.starlark_table.specs.contracts.kept.StarlarkHashValueKeptHash.TheImpl.{ghosts}
+use Rattle.starlark_table.specs.contracts.kept_hash.StarlarkHashValueKeptHash.TheImpl.{ghosts}
 use Rattle.starlark_table.specs.contracts.ready_table.ReadyTable.{the_row as table_row}
 use Rattle.starlark_unordered.specs.declared.unordered_map.UnorderedMap.TheInside.{Inside}
 pub use Rattle.starlark_unordered.specs.contracts.unordered_map.UnorderedMap as C

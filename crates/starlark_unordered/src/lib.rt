@@ -2,11 +2,11 @@
 #![tactic(auto)]
 
 pub mod entry;
+mod into_hash_map;
 pub mod iter;
 pub mod iter_mut;
 pub mod laws;
-mod mapped;
-mod moved;
+mod map_values;
 pub mod raw_entry;
 pub mod unordered_map;
 pub mod unordered_set;

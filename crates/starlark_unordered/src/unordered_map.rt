@@ -4,15 +4,15 @@ ghost use Rattle.starlark_unordered.specs.Calling.{Counts};
 ghost use Rattle.starlark_unordered.specs.Changing.{IsEmptyWith, MakesEmptyFor};
 ghost use Rattle.starlark_unordered.specs.Pairs.{pairs_of};
 
+mod clone;
 mod collect;
 mod compare;
-mod copy;
-mod raw_slots;
-mod read;
+mod get;
+mod insert;
+mod iter;
+mod remove;
+mod retain;
 mod slots;
-mod walk;
-mod walk_mut;
-mod write;
 
 use starlark_hash::StarlarkHashValue;
 use starlark_table::ReadyTable;

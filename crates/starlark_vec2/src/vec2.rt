@@ -8,15 +8,15 @@ ghost use Rattle.starlark_vec2.specs.Growth.{reserved_capacity};
 ghost use Rattle.starlark_vec2.specs.Walks.{WalkShows, WalkShowsBack};
 
 mod collect;
+mod compare;
+mod get_mut;
 mod growth;
 mod into_iter;
 mod iter;
-mod lends;
 mod retain;
 mod sort;
 mod sort_moves;
 mod sort_pairs;
-mod traits;
 
 use growth::grown;
 pub use into_iter::IntoIter;

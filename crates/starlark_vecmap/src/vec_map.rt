@@ -8,11 +8,11 @@ ghost use Rattle.starlark_hash.specs.Search.{Asks, CanSearch, keys_under};
 ghost use Rattle.starlark_vecmap.specs.EntryList as list;
 ghost use Rattle.starlark_vecmap.specs.EntryList.{entry_list, with_entries, deref_entry};
 
+mod clone;
 mod compare;
-mod copy;
 mod into_iter;
 mod iter;
-mod lends;
+mod iter_mut;
 mod retain;
 mod sort;
 

@@ -12,27 +12,27 @@ use Rattle.starlark_small.proofs.LentInResult.{lone_value}
 use Rattle.starlark_sets.specs.OrderedEnd.{ends_so}
 use Rattle.starlark_sets.specs.OrderedTries.{AnswersTry, IsPlaced, IsTold, IsWithin, Tries}
 use Rattle.starlark_sets.specs.Set.{Set, element_at}
-use Rattle.starlark_sets.specs.declared.ordered_set.tries.Refusal.{Refusal}
-use Rattle.starlark_sets.specs.declared.ordered_set.tries.TryInsertError.{TryInsertError}
-use Rattle.starlark_sets.specs.contracts.ordered_set.tries.Refusal as N
-use Rattle.starlark_sets.specs.contracts.ordered_set.tries.TryInsertError as X
+use Rattle.starlark_sets.specs.declared.ordered_set.try_insert.Refusal.{Refusal}
+use Rattle.starlark_sets.specs.declared.ordered_set.try_insert.TryInsertError.{TryInsertError}
+use Rattle.starlark_sets.specs.contracts.ordered_set.try_insert.Refusal as N
+use Rattle.starlark_sets.specs.contracts.ordered_set.try_insert.TryInsertError as X
 use Rattle.starlark_sets.specs.contracts.ordered_set.OrderedSet as S
 use Rattle.starlark_sets.specs.contracts.ordered_set.OrderedSet.insert_new as p
 use Rattle.starlark_sets.specs.contracts.ordered_set.OrderedSet.frozen as f
-use Rattle.starlark_sets.specs.contracts.ordered_set.tries.told as s
+use Rattle.starlark_sets.specs.contracts.ordered_set.try_insert.told as s
 use Rattle.starlark_sets.specs.contracts.ordered_set.OrderedSet.try_insert as F
 use Rattle.starlark_sets.specs.contracts.ordered_set.OrderedSet.try_insert.Key.{name as #self}
 use Rattle.starlark_sets.proofs.OrderedTold.{refusal_told, tries_told}
 use Rattle.starlark_sets.proofs.Put.{answers-try}
 use Rattle.starlark_sets.proofs.Shown.{ends_weaker}
-use Rattle.starlark_sets.proofs.ordered_set.tries.Refusal.TheLaws as refusal_laws
-use Rattle.starlark_sets.proofs.ordered_set.tries.TryInsertError.TheLaws as error_laws
+use Rattle.starlark_sets.proofs.ordered_set.try_insert.Refusal.TheLaws as refusal_laws
+use Rattle.starlark_sets.proofs.ordered_set.try_insert.TryInsertError.TheLaws as error_laws
 use Rattle.starlark_sets.proofs.ordered_set.OrderedSet.insert_new.Symbol.{name as #put}
 use Rattle.starlark_sets.proofs.ordered_set.OrderedSet.insert_new.Met as put
 use Rattle.starlark_sets.proofs.ordered_set.OrderedSet.frozen.Symbol.{name as #freeze}
 use Rattle.starlark_sets.proofs.ordered_set.OrderedSet.frozen.Met as freeze
-use Rattle.starlark_sets.proofs.ordered_set.tries.told.Symbol.{name as #show}
-use Rattle.starlark_sets.proofs.ordered_set.tries.told.Met as show
+use Rattle.starlark_sets.proofs.ordered_set.try_insert.told.Symbol.{name as #show}
+use Rattle.starlark_sets.proofs.ordered_set.try_insert.told.Met as show
 use Rattle.starlark_sets.proofs.ordered_set.OrderedSet.try_insert.Statement.{statement}
 use Rattle.starlark_sets.proofs.ordered_set.OrderedSet.try_insert.Code as code
 
@@ -202,5 +202,5 @@ try_insert_spec 𝓤 𝓛 𝓜 𝓡 wired T L E dE P dP G dG is_eq is_partial is
     (walk T E dE P dP G dG 𝓛 𝓜.mem 𝓡.returns L 𝓣.C 𝓣.Λ (framed 𝓤 𝓛.H 𝓜 𝓣)
     (put.met 𝓤 𝓛 𝓜 𝓡 (code.calls-starlark_sets::ordered_set::OrderedSet::insert_new 𝓡.env wired) T L E dE P dP G dG is_eq is_partial is_hash)
     (freeze.met 𝓤 𝓛 𝓜 𝓡 (code.calls-starlark_sets::ordered_set::OrderedSet::frozen 𝓡.env wired) T L E dE P dP is_eq is_partial)
-    (show.met 𝓤 𝓛 𝓜 𝓡 (code.calls-starlark_sets::ordered_set::tries::told 𝓡.env wired) T L E dE P dP is_eq is_partial)
+    (show.met 𝓤 𝓛 𝓜 𝓡 (code.calls-starlark_sets::ordered_set::try_insert::told 𝓡.env wired) T L E dE P dP is_eq is_partial)
     κs.0 κs.1.0 qs.0 qs.1.0 y.0.2 a.0 a.1.0 k.0 k.2))

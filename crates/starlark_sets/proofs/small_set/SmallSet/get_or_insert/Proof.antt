@@ -19,7 +19,7 @@ use Rattle.starlark_sets.specs.Lending.{IsShown, ends_so}
 use Rattle.starlark_sets.specs.contracts.small_set.SmallSet as S
 use Rattle.starlark_sets.specs.contracts.small_set.SmallSet.place_or_push_own as p
 use Rattle.starlark_sets.specs.contracts.small_set.SmallSet.frozen as f
-use Rattle.starlark_sets.specs.contracts.small_set.lend.shown as s
+use Rattle.starlark_sets.specs.contracts.small_set.get_or_insert.shown as s
 use Rattle.starlark_sets.specs.contracts.small_set.SmallSet.get_or_insert as F
 use Rattle.starlark_sets.specs.contracts.small_set.SmallSet.get_or_insert.Key.{name as #self}
 use Rattle.starlark_sets.proofs.Callers.{absent-added}
@@ -29,8 +29,8 @@ use Rattle.starlark_sets.proofs.small_set.SmallSet.place_or_push_own.Symbol.{nam
 use Rattle.starlark_sets.proofs.small_set.SmallSet.place_or_push_own.Met as put
 use Rattle.starlark_sets.proofs.small_set.SmallSet.frozen.Symbol.{name as #freeze}
 use Rattle.starlark_sets.proofs.small_set.SmallSet.frozen.Met as freeze
-use Rattle.starlark_sets.proofs.small_set.lend.shown.Symbol.{name as #show}
-use Rattle.starlark_sets.proofs.small_set.lend.shown.Met as show
+use Rattle.starlark_sets.proofs.small_set.get_or_insert.shown.Symbol.{name as #show}
+use Rattle.starlark_sets.proofs.small_set.get_or_insert.shown.Met as show
 use Rattle.starlark_sets.proofs.small_set.SmallSet.get_or_insert.Statement.{statement}
 use Rattle.starlark_sets.proofs.small_set.SmallSet.get_or_insert.Code as code
 
@@ -201,5 +201,5 @@ get_or_insert_spec 𝓤 𝓛 𝓜 𝓡 wired T L E dE P dP G dG dD is_eq is_part
     (walk T E dE P dP G dG dD 𝓛 𝓜.mem 𝓡.returns L is_eq.laws 𝓣.C 𝓣.Λ (framed 𝓤 𝓛.H 𝓜 𝓣)
     (put.met 𝓤 𝓛 𝓜 𝓡 (code.calls-starlark_sets::small_set::SmallSet::place_or_push_own 𝓡.env wired) T L E dE P dP G dG dD is_eq is_partial is_hash drops)
     (freeze.met 𝓤 𝓛 𝓜 𝓡 (code.calls-starlark_sets::small_set::SmallSet::frozen 𝓡.env wired) T L E dE P dP is_eq is_partial)
-    (show.met 𝓤 𝓛 𝓜 𝓡 (code.calls-starlark_sets::small_set::lend::shown 𝓡.env wired) T L E dE P dP is_eq is_partial)
+    (show.met 𝓤 𝓛 𝓜 𝓡 (code.calls-starlark_sets::small_set::get_or_insert::shown 𝓡.env wired) T L E dE P dP is_eq is_partial)
     κs.0 κs.1.0 qs.0 qs.1.0 y.0.2 a.0 a.1.0 k.0 k.2))

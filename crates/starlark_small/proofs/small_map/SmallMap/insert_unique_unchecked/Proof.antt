@@ -18,15 +18,15 @@ use Rattle.starlark_small.specs.Map.{Map, own_hashed}
 use Rattle.starlark_small.specs.Lending.{lends_inserted, unhashed}
 use Rattle.starlark_small.specs.contracts.small_map.SmallMap as S
 use Rattle.starlark_small.specs.contracts.small_map.SmallMap.insert_hashed_unique_unchecked as p
-use Rattle.starlark_small.specs.contracts.small_map.unique.without_hash as w
+use Rattle.starlark_small.specs.contracts.small_map.insert.without_hash as w
 use Rattle.starlark_small.specs.contracts.small_map.SmallMap.insert_unique_unchecked as F
 use Rattle.starlark_small.specs.contracts.small_map.SmallMap.insert_unique_unchecked.Key.{name as #self}
 use Rattle.starlark_columns.proofs.LoneValue.{lone_value}
 use Rattle.starlark_small.proofs.Unhashed.{ok_unhashed, full_unhashed, back_unhashed, lent_unhashed}
 use Rattle.starlark_small.proofs.small_map.SmallMap.insert_hashed_unique_unchecked.Symbol.{name as #insert}
 use Rattle.starlark_small.proofs.small_map.SmallMap.insert_hashed_unique_unchecked.Met as insert
-use Rattle.starlark_small.proofs.small_map.unique.without_hash.Symbol.{name as #without}
-use Rattle.starlark_small.proofs.small_map.unique.without_hash.Met as without
+use Rattle.starlark_small.proofs.small_map.insert.without_hash.Symbol.{name as #without}
+use Rattle.starlark_small.proofs.small_map.insert.without_hash.Met as without
 use Rattle.starlark_small.proofs.small_map.SmallMap.insert_unique_unchecked.Statement.{statement}
 use Rattle.starlark_small.proofs.small_map.SmallMap.insert_unique_unchecked.Code as code
 
@@ -205,5 +205,5 @@ insert_unique_unchecked_spec 𝓤 𝓛 𝓜 𝓡 wired K V LK LV E dE P dP G dG 
     (walk K V E dE P dP G dG 𝓛 𝓜.mem 𝓡.returns LK LV 𝓣.C 𝓣.Λ (framed 𝓤 𝓛.H 𝓜 𝓣) κs.0 κs.1.0 κs.1.1.0
     (hash.met 𝓤 𝓛 𝓜 𝓡 (code.calls-starlark_hash::hashed::Hashed::new 𝓡.env wired) K LK G dG E dE P dP is_hash is_eq is_partial)
     (insert.met 𝓤 𝓛 𝓜 𝓡 (code.calls-starlark_small::small_map::SmallMap::insert_hashed_unique_unchecked 𝓡.env wired) K V LK LV E dE P dP is_eq is_partial)
-    (without.met 𝓤 𝓛 𝓜 𝓡 (code.calls-starlark_small::small_map::unique::without_hash 𝓡.env wired) (Passed K V E dE P dP G dG κs.0) K V (arg_laws (nameless K V E dE P dP G dG) yes (Pair K V E dE P dP G dG κs.0) (pair_laws K V E dE P dP G dG LK LV κs.0) refl) LK LV)
+    (without.met 𝓤 𝓛 𝓜 𝓡 (code.calls-starlark_small::small_map::insert::without_hash 𝓡.env wired) (Passed K V E dE P dP G dG κs.0) K V (arg_laws (nameless K V E dE P dP G dG) yes (Pair K V E dE P dP G dG κs.0) (pair_laws K V E dE P dP G dG LK LV κs.0) refl) LK LV)
     qs.0 qs.1.0 qs.1.1.0 y.0.2 a.0 a.1.0 a.1.1.0 k.0 k.2 v.0 v.2))

@@ -9,9 +9,9 @@ use Rattle.starlark_columns.specs.declared.loan.Loan.{Loan}
 use Rattle.starlark_columns.specs.Lent.{kept_places}
 use Rattle.starlark_columns.specs.contracts.loan.Loan as loan
 use Rattle.starlark_columns.proofs.loan.Loan.TheLaws as loan_laws
-use Rattle.starlark_table.specs.declared.kept.KeptHash as KeptHash
-use Rattle.starlark_table.specs.contracts.kept.Kept.{the_row as kept_row}
-use Rattle.starlark_table.proofs.kept.Kept.TheLaws as kept_laws
+use Rattle.starlark_table.specs.declared.kept_hash.KeptHash as KeptHash
+use Rattle.starlark_table.specs.contracts.kept_hash.Kept.{the_row as kept_row}
+use Rattle.starlark_table.proofs.kept_hash.Kept.TheLaws as kept_laws
 use Rattle.starlark_table.specs.Layout.{members_in, IsTagged}
 use Rattle.starlark_table.specs.Growth.{limit}
 use Rattle.starlark_table.specs.Sharing.{Member, Tags, tags_stay, with_kept}
@@ -23,9 +23,9 @@ use Rattle.starlark_table.proofs.TableOpens as O
 use Rattle.starlark_table.proofs.WrittenSlots.{again-kept_places, length-kept_places, shape-kept_places}
 use Rattle.starlark_table.specs.contracts.ready_table.ReadyTable.lend_kept as F
 use Rattle.starlark_table.specs.contracts.ready_table.ReadyTable.lend_kept.Key.{name as #self}
-use Rattle.starlark_table.specs.contracts.ready_table.lends.lend_fields as g
-use Rattle.starlark_table.proofs.ready_table.lends.lend_fields.Symbol.{name as #lend}
-use Rattle.starlark_table.proofs.ready_table.lends.lend_fields.Met as lend
+use Rattle.starlark_table.specs.contracts.ready_table.iter_mut.lend_fields as g
+use Rattle.starlark_table.proofs.ready_table.iter_mut.lend_fields.Symbol.{name as #lend}
+use Rattle.starlark_table.proofs.ready_table.iter_mut.lend_fields.Met as lend
 use Rattle.starlark_table.proofs.ready_table.ReadyTable.lend_kept.Statement.{statement}
 use Rattle.starlark_table.proofs.ready_table.ReadyTable.lend_kept.Code as code
 
@@ -186,5 +186,5 @@ lend_kept_spec 𝓤 𝓛 𝓜 𝓡 wired T H P LT LH LP CH B dB N dN G dG is_has
     (#self (args T H P B dB N dN G dG)) (here T H P B dB N dN G dG) (code.unfolded 𝓤 𝓛.H 𝓜 𝓡 wired (T, (H, (P, tt))) dB dN dG)
     (λ κs. (mut_vals, tt)) (λ κs. (mut_Tells (named 0) κs.0 (W T H P B dB N dN G dG), tt)) (λ κs qs bounds a gh are.
     walk T H P B dB N dN G dG 𝓛 𝓜.mem 𝓡.returns LT LH LP 𝓣.C 𝓣.Λ (framed 𝓤 𝓛.H 𝓜 𝓣)
-    (lend.met 𝓤 𝓛 𝓜 𝓡 (code.calls-starlark_table::ready_table::lends::lend_fields 𝓡.env wired) T H P LT LH LP CH B dB N dN G dG is_hash is_clone is_kept)
+    (lend.met 𝓤 𝓛 𝓜 𝓡 (code.calls-starlark_table::ready_table::iter_mut::lend_fields 𝓡.env wired) T H P LT LH LP CH B dB N dN G dG is_hash is_clone is_kept)
     κs.0 κs.1.0 κs.1.1.0 κs.1.1.1.0 qs.0 qs.1.0 qs.1.1.0 qs.1.1.1.0 bounds a.0)

@@ -8,14 +8,14 @@ use Rattle.core.specs.contracts.clone.Clone+copy.TheImpl as copies
 use Rattle.core.proofs.clone.Clone+copy.TheImpl.Met as copies_met
 use Rattle.starlark_hash.specs.contracts.hash_value.StarlarkHashValue.{the_row as hash_row}
 use Rattle.starlark_hash.proofs.hash_value.StarlarkHashValue.TheLaws as hash_laws
-use Rattle.starlark_table.specs.contracts.kept.StarlarkHashValueKeptHash.TheImpl as kept
-use Rattle.starlark_table.proofs.kept.StarlarkHashValueKeptHash.TheImpl.Met as kept_met
+use Rattle.starlark_table.specs.contracts.kept_hash.StarlarkHashValueKeptHash.TheImpl as kept
+use Rattle.starlark_table.proofs.kept_hash.StarlarkHashValueKeptHash.TheImpl.Met as kept_met
 use Rattle.starlark_table.specs.Table.{Table, items_of, members}
 use Rattle.starlark_table.specs.Written.{with_values}
 use Rattle.starlark_table.specs.contracts.pairs_mut.PairsMut as walk-type
-use Rattle.starlark_table.specs.contracts.ready_table.pairs.ReadyTable+tuple2+K+V+H.pairs_mut as g
-use Rattle.starlark_table.proofs.ready_table.pairs.ReadyTable+tuple2+K+V+H.pairs_mut.Symbol.{name as #run}
-use Rattle.starlark_table.proofs.ready_table.pairs.ReadyTable+tuple2+K+V+H.pairs_mut.Met as walks
+use Rattle.starlark_table.specs.contracts.ready_table.pairs_mut.ReadyTable+tuple2+K+V+H.pairs_mut as g
+use Rattle.starlark_table.proofs.ready_table.pairs_mut.ReadyTable+tuple2+K+V+H.pairs_mut.Symbol.{name as #run}
+use Rattle.starlark_table.proofs.ready_table.pairs_mut.ReadyTable+tuple2+K+V+H.pairs_mut.Met as walks
 use Rattle.starlark_table.proofs.pairs_mut.PairsMut.TheLaws as walk-laws
 use Rattle.starlark_columns.proofs.NamedClose.{closes_named}
 use Rattle.starlark_columns.proofs.LoneValue.{lone_value}
@@ -184,8 +184,8 @@ pub entries_unordered_mut_spec : {M : Type 1} → stated.statement M
 unfolding tables_of
 entries_unordered_mut_spec {M} 𝓤 𝓛 𝓜 𝓡 wired A B LA LB E dE P dP G dG is_eq is_partial is_hash =
     let 𝓣 : Tables 𝓤 𝓛.H = tables_of 𝓤 𝓛.H 𝓜 (tables 𝓤 𝓛.H 𝓜 𝓡 𝓡.env) in
-    let is_kept = kept_met.bound 𝓡.env (code.calls-starlark_table::kept::StarlarkHashValueKeptHash::number 𝓡.env wired) (code.calls-starlark_table::kept::StarlarkHashValueKeptHash::is_same 𝓡.env wired) M 𝓤 𝓛 𝓜 𝓡 in
+    let is_kept = kept_met.bound 𝓡.env (code.calls-starlark_table::kept_hash::StarlarkHashValueKeptHash::number 𝓡.env wired) (code.calls-starlark_table::kept_hash::StarlarkHashValueKeptHash::is_same 𝓡.env wired) M 𝓤 𝓛 𝓜 𝓡 in
     let is_copied = copies_met.bound 𝓡.env (code.calls-core::clone::Clone+copy::clone 𝓡.env wired) Passed passed_laws passed_copy M 𝓤 𝓛 𝓜 𝓡 in
     entered 𝓤 𝓛.H (triple_of 𝓛 (F.signature A B E dE P dP G dG) (F.spec A B E dE P dP G dG 𝓛 𝓜.mem 𝓡.returns)) 𝓣.C 𝓣.Λ (#self (args A B E dE P dP G dG)) (here A B E dE P dP G dG) (code.unfolded 𝓤 𝓛.H 𝓜 𝓡 wired (A, (B, tt)) dE dP dG)
-    (meets A B E dE P dP G dG LA LB 𝓛 𝓜.mem 𝓡.returns 𝓣 (walks.met 𝓤 𝓛 𝓜 𝓡 (code.calls-starlark_table::ready_table::pairs::ReadyTable+tuple2+K+V+H::pairs_mut 𝓡.env wired) A B Passed LA LB passed_laws passed_copy
+    (meets A B E dE P dP G dG LA LB 𝓛 𝓜.mem 𝓡.returns 𝓣 (walks.met 𝓤 𝓛 𝓜 𝓡 (code.calls-starlark_table::ready_table::pairs_mut::ReadyTable+tuple2+K+V+H::pairs_mut 𝓡.env wired) A B Passed LA LB passed_laws passed_copy
     kept.ghosts kept.dict (copies.ghosts Passed) (copies.dict Passed) (record { number = is_kept.number; is_same = is_kept.is_same }) (record { clone = is_copied.clone })))

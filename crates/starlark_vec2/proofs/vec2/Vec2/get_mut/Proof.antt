@@ -19,12 +19,12 @@ use Rattle.starlark_vec2.proofs.TwoColumns.{same_block, len_is, both_set, both_e
 use Rattle.starlark_vec2.proofs.Vec2Open.{V, D, Known, Told, Rest, Cuts, Len, Place, Less, eA, eB, cut, shut, fields_out, fields_in, at_behind, at_front}
 use Rattle.starlark_vec2.specs.contracts.vec2.Vec2.get_mut as F
 use Rattle.starlark_vec2.specs.contracts.vec2.Vec2.get_mut.Key.{name as #self}
-use Rattle.starlark_vec2.specs.contracts.vec2.lends.lend_front as g
-use Rattle.starlark_vec2.proofs.vec2.lends.lend_front.Symbol.{name as #front}
-use Rattle.starlark_vec2.proofs.vec2.lends.lend_front.Met as front
-use Rattle.starlark_vec2.specs.contracts.vec2.lends.lend_behind_if as h
-use Rattle.starlark_vec2.proofs.vec2.lends.lend_behind_if.Symbol.{name as #behind_if}
-use Rattle.starlark_vec2.proofs.vec2.lends.lend_behind_if.Met as behind_if
+use Rattle.starlark_vec2.specs.contracts.vec2.get_mut.lend_front as g
+use Rattle.starlark_vec2.proofs.vec2.get_mut.lend_front.Symbol.{name as #front}
+use Rattle.starlark_vec2.proofs.vec2.get_mut.lend_front.Met as front
+use Rattle.starlark_vec2.specs.contracts.vec2.get_mut.lend_behind_if as h
+use Rattle.starlark_vec2.proofs.vec2.get_mut.lend_behind_if.Symbol.{name as #behind_if}
+use Rattle.starlark_vec2.proofs.vec2.get_mut.lend_behind_if.Met as behind_if
 use Rattle.starlark_vec2.proofs.LentInOption.{either, left_one, left_none, leaves_two, leaves_none, in_some_told, in_none, given_up, as_tuple, PairOf, pair_val}
 use Rattle.core.specs.contracts.option.Option as OP
 use Rattle.std.proofs.VecSteps.Shapes.{after}
@@ -237,4 +237,4 @@ unfolding tables_of
 get_mut_spec 𝓤 𝓛 𝓜 𝓡 wired A B LA LB =
     let 𝓣 : Tables 𝓤 𝓛.H = tables_of 𝓤 𝓛.H 𝓜 (tables 𝓤 𝓛.H 𝓜 𝓡 𝓡.env) in
     entered 𝓤 𝓛.H (triple_of 𝓛 (F.signature A B) (F.spec A B 𝓛 𝓜.mem 𝓡.returns)) 𝓣.C 𝓣.Λ (#self (args A B)) (here A B) (code.unfolded 𝓤 𝓛.H 𝓜 𝓡 wired (A, (B, tt)))
-    (meets A B LA LB 𝓛 𝓜.mem 𝓡.returns 𝓣 (behind_if.met 𝓤 𝓛 𝓜 𝓡 (code.calls-starlark_vec2::vec2::lends::lend_behind_if 𝓡.env wired) A B LA LB) (front.met 𝓤 𝓛 𝓜 𝓡 (code.calls-starlark_vec2::vec2::lends::lend_front 𝓡.env wired) B LB))
+    (meets A B LA LB 𝓛 𝓜.mem 𝓡.returns 𝓣 (behind_if.met 𝓤 𝓛 𝓜 𝓡 (code.calls-starlark_vec2::vec2::get_mut::lend_behind_if 𝓡.env wired) A B LA LB) (front.met 𝓤 𝓛 𝓜 𝓡 (code.calls-starlark_vec2::vec2::get_mut::lend_front 𝓡.env wired) B LB))

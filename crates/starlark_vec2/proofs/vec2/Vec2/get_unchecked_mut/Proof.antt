@@ -16,9 +16,9 @@ use Rattle.starlark_vec2.proofs.TwoColumns.{same_block, in_columns, both_set, bo
 use Rattle.starlark_vec2.proofs.Vec2Open.{V, D, Known, Told, Rest, Cuts, Len, Place, Less, eA, eB, cut, shut, fields_out, fields_in, at_behind, at_front}
 use Rattle.starlark_vec2.specs.contracts.vec2.Vec2.get_unchecked_mut as F
 use Rattle.starlark_vec2.specs.contracts.vec2.Vec2.get_unchecked_mut.Key.{name as #self}
-use Rattle.starlark_vec2.specs.contracts.vec2.lends.lend_columns as g
-use Rattle.starlark_vec2.proofs.vec2.lends.lend_columns.Symbol.{name as #lend}
-use Rattle.starlark_vec2.proofs.vec2.lends.lend_columns.Met as lend
+use Rattle.starlark_vec2.specs.contracts.vec2.get_mut.lend_columns as g
+use Rattle.starlark_vec2.proofs.vec2.get_mut.lend_columns.Symbol.{name as #lend}
+use Rattle.starlark_vec2.proofs.vec2.get_mut.lend_columns.Met as lend
 use Rattle.starlark_vec2.proofs.vec2.Vec2.get_unchecked_mut.Statement as stated
 use Rattle.starlark_vec2.proofs.vec2.Vec2.get_unchecked_mut.Code as code
 
@@ -149,4 +149,4 @@ unfolding tables_of
 get_unchecked_mut_spec 𝓤 𝓛 𝓜 𝓡 wired A B LA LB =
     let 𝓣 : Tables 𝓤 𝓛.H = tables_of 𝓤 𝓛.H 𝓜 (tables 𝓤 𝓛.H 𝓜 𝓡 𝓡.env) in
     entered 𝓤 𝓛.H (triple_of 𝓛 (F.signature A B) (F.spec A B 𝓛 𝓜.mem 𝓡.returns)) 𝓣.C 𝓣.Λ (#self (args A B)) (here A B) (code.unfolded 𝓤 𝓛.H 𝓜 𝓡 wired (A, (B, tt)))
-    (meets A B LA LB 𝓛 𝓜.mem 𝓡.returns 𝓣 (lend.met 𝓤 𝓛 𝓜 𝓡 (code.calls-starlark_vec2::vec2::lends::lend_columns 𝓡.env wired) A B LA LB))
+    (meets A B LA LB 𝓛 𝓜.mem 𝓡.returns 𝓣 (lend.met 𝓤 𝓛 𝓜 𝓡 (code.calls-starlark_vec2::vec2::get_mut::lend_columns 𝓡.env wired) A B LA LB))

@@ -6,9 +6,9 @@ use Rattle.starlark_columns.proofs.NamedClose.{closes_named}
 use Rattle.starlark_vec2.specs.contracts.pairs_mut.PairsMut as P-type
 use Rattle.starlark_vecmap.specs.contracts.vec_map.VecMap.iter_mut as F
 use Rattle.starlark_vecmap.specs.contracts.vec_map.VecMap.iter_mut.Key.{name as #self}
-use Rattle.starlark_vec2.specs.contracts.vec2.lends.Vec2+tuple2+K+V+B.iter_firsts_mut as g
-use Rattle.starlark_vec2.proofs.vec2.lends.Vec2+tuple2+K+V+B.iter_firsts_mut.Symbol.{name as #run}
-use Rattle.starlark_vec2.proofs.vec2.lends.Vec2+tuple2+K+V+B.iter_firsts_mut.Met as walked_firsts
+use Rattle.starlark_vec2.specs.contracts.vec2.get_mut.Vec2+tuple2+K+V+B.iter_firsts_mut as g
+use Rattle.starlark_vec2.proofs.vec2.get_mut.Vec2+tuple2+K+V+B.iter_firsts_mut.Symbol.{name as #run}
+use Rattle.starlark_vec2.proofs.vec2.get_mut.Vec2+tuple2+K+V+B.iter_firsts_mut.Met as walked_firsts
 use Rattle.starlark_vec2.proofs.pairs_mut.PairsMut.TheLaws as P-laws
 use Rattle.starlark_vec2.proofs.WalkRenamed.{renamed}
 use Rattle.starlark_columns.proofs.LoneValue.{lone_value}
@@ -178,4 +178,4 @@ unfolding tables_of
 iter_mut_spec 𝓤 𝓛 𝓜 𝓡 wired A B LA LB =
     let 𝓣 : Tables 𝓤 𝓛.H = tables_of 𝓤 𝓛.H 𝓜 (tables 𝓤 𝓛.H 𝓜 𝓡 𝓡.env) in
     entered 𝓤 𝓛.H (triple_of 𝓛 (F.signature A B) (F.spec A B 𝓛 𝓜.mem 𝓡.returns)) 𝓣.C 𝓣.Λ (#self (args A B)) (here A B) (code.unfolded 𝓤 𝓛.H 𝓜 𝓡 wired (A, (B, tt)))
-    (meets A B LA LB 𝓛 𝓜.mem 𝓡.returns 𝓣 (walked_firsts.met 𝓤 𝓛 𝓜 𝓡 (code.calls-starlark_vec2::vec2::lends::Vec2+tuple2+K+V+B::iter_firsts_mut 𝓡.env wired) A B u32 LA LB hash_laws))
+    (meets A B LA LB 𝓛 𝓜.mem 𝓡.returns 𝓣 (walked_firsts.met 𝓤 𝓛 𝓜 𝓡 (code.calls-starlark_vec2::vec2::get_mut::Vec2+tuple2+K+V+B::iter_firsts_mut 𝓡.env wired) A B u32 LA LB hash_laws))

@@ -1,0 +1,103 @@
+//! What a `SmallSet` has: elements by hash, by equality under their own hash, and by place.
+ghost use Rattle.std.specs.Prelude.{◌≡◌, ◌-◌, length, slice_get, is_some};
+ghost use Rattle.std.specs.Option.{option_copied, option_map};
+ghost use Rattle.starlark_hash.specs.HashValue.{hash_of, key_of};
+ghost use Rattle.starlark_hash.specs.Entries.{entry_key, position_of};
+ghost use Rattle.starlark_hash.specs.Hasher.{own_hash};
+ghost use Rattle.starlark_hash.specs.Finding.{found};
+ghost use Rattle.starlark_small.specs.Calling.{NamesPlace, TellsPresence};
+ghost use Rattle.starlark_sets.specs.Taking.{ShowsElement};
+
+use super::SmallSet;
+use starlark_hash::{Equivalent, Hashed, Query};
+use std::hash::Hash;
+
+impl<T: Eq> SmallSet<T> {
+    /// The element under the query's own hash that the query stands for.
+    #[inline(always)]
+    pub fn get<Q: Query<T> + Hash>(&self, value: Q) -> Option<&T>
+        ensures { ShowsElement (Q.stands_for value) (own_hash Q.hash_input value) self.now result }
+    {
+        self.get_hashed(Hashed::new(value))
+    }
+
+    /// The element under this hash that the query stands for.
+    #[inline(always)]
+    pub fn get_hashed<Q: Query<T>>(&self, value: Hashed<Q>) -> Option<&T>
+        ensures { ShowsElement (Q.stands_for (key_of value)) (hash_of value) self.now result }
+    {
+        let (_, element, _) = self.map.get_full_hashed(value)?;
+        Some(element)
+    }
+
+    /// The place of the element under the query's own hash that the query stands for.
+    #[inline(always)]
+    pub fn get_index_of<Q: Query<T> + Hash>(&self, value: Q) -> Option<usize>
+        ensures { NamesPlace (Q.stands_for value) (own_hash Q.hash_input value) self.now result }
+    {
+        self.map.get_index_of(value)
+    }
+
+    /// The place of the element under this hash that the query stands for.
+    #[inline(always)]
+    pub fn get_index_of_hashed<Q: Query<T>>(&self, value: Hashed<Q>) -> Option<usize>
+        ensures { NamesPlace (Q.stands_for (key_of value)) (hash_of value) self.now result }
+    {
+        self.map.get_index_of_hashed(value)
+    }
+
+    /// As `get_index_of_hashed`, by an `Equivalent` that is handed over and dropped.
+    #[inline]
+    pub fn get_index_of_hashed_by_value<Q: Equivalent<T> + Drop>(
+        &self,
+        value: Hashed<Q>,
+    ) -> Option<usize>
+        ensures { NamesPlace (Q.equivalent (key_of value)) (hash_of value) self.now result }
+    {
+        self.map.get_index_of_hashed_by_value(value)
+    }
+
+    /// Whether there is an element under the query's own hash that the query stands for.
+    #[inline(always)]
+    pub fn contains<Q: Query<T> + Hash>(&self, key: Q) -> bool
+        ensures { TellsPresence (Q.stands_for key) (own_hash Q.hash_input key) self.now result }
+    {
+        self.map.contains_key(key)
+    }
+
+    /// Whether there is an element under this hash that the query stands for.
+    #[inline(always)]
+    pub fn contains_hashed<Q: Query<T>>(&self, key: Hashed<Q>) -> bool
+        ensures place { result ≡ is_some (position_of (hash_of key) (Q.stands_for (key_of key)) self.now.entries) }
+        ensures found { result ≡ is_some (found (Q.stands_for (key_of key)) (hash_of key) self.now.entries) }
+    {
+        self.map.contains_key_hashed(key)
+    }
+
+    /// The element at a place; `None` past the end.
+    #[inline]
+    pub fn get_index(&self, index: usize) -> Option<&T>
+        ensures { option_copied result ≡ option_map entry_key (slice_get self.now.entries index) }
+    {
+        let (element, _) = self.map.get_index(index)?;
+        Some(element)
+    }
+
+    /// The first element, if there is one.
+    #[inline]
+    pub fn first(&self) -> Option<&T>
+        ensures { option_copied result ≡ option_map entry_key (slice_get self.now.entries 0) }
+    {
+        let (element, _) = self.map.first()?;
+        Some(element)
+    }
+
+    /// The last element, if there is one.
+    #[inline]
+    pub fn last(&self) -> Option<&T>
+        ensures { option_copied result ≡ option_map entry_key (slice_get self.now.entries (length self.now.entries - 1)) }
+    {
+        let (element, _) = self.map.last()?;
+        Some(element)
+    }
+}

@@ -1,0 +1,25 @@
+//! What changes the order of a `SmallSet`.
+ghost use Rattle.starlark_small.specs.Changing.{SortsByKey, Turns};
+ghost use Rattle.std.specs.Prelude.{◌-◌};
+
+use super::SmallSet;
+use std::alloc::AllocError;
+
+impl<T: Eq> SmallSet<T> {
+    /// Sorts the elements; equal ones keep their order. Where they ascend already it asks for no memory. A refusal
+    /// leaves the elements as they were. Capacity and index stay.
+    pub fn sort(&mut self) -> Result<(), AllocError>
+    where
+        T: Ord,
+        ensures { SortsByKey T.eq T.cmp result self.old self.new }
+    {
+        self.map.sort_keys()
+    }
+
+    /// Turns the order of the elements round. Capacity and index stay.
+    pub fn reverse(&mut self)
+        ensures { Turns T.eq self.old self.new }
+    {
+        self.map.reverse();
+    }
+}

@@ -1,0 +1,160 @@
+//! What a `SmallMap` has: entries by hash and key, by key alone under its own hash, and by place.
+ghost use Rattle.std.specs.Prelude.{◌≡◌, ◌-◌, ◌<◌, slice_get, length, is_some, Some};
+ghost use Rattle.std.specs.Map.Iter.{deref_pair};
+ghost use Rattle.std.specs.Option.{option_copied, option_map};
+ghost use Rattle.starlark_hash.specs.HashValue.{hash_of, key_of};
+ghost use Rattle.starlark_hash.specs.Hasher.{own_hash};
+ghost use Rattle.starlark_hash.specs.Entries.{IsSingle, pair_of};
+ghost use Rattle.starlark_hash.specs.Search.{CanSearch, Searches, keys_under};
+ghost use Rattle.starlark_small.specs.Calling.{FindsEntry, FindsValue, NamesPlace, TellsPresence};
+
+use super::SmallMap;
+use starlark_hash::{Equivalent, Hashed, Query, StarlarkHashValue};
+use std::hash::Hash;
+
+impl<K: Eq, V> SmallMap<K, V> {
+    /// The value under this hash whose key the query stands for.
+    #[inline(always)]
+    pub fn get_hashed<Q: Query<K>>(&self, key: Hashed<Q>) -> Option<&V>
+        ensures { FindsValue (Q.stands_for (key_of key)) (hash_of key) self.now (option_copied result) }
+    {
+        let index = self.get_index_of_hashed(key)?;
+        let (_, value) = self.entries.get_unchecked(index);
+        Some(value)
+    }
+
+    /// As `get_hashed`, by an `Equivalent` that is handed over and dropped.
+    #[inline]
+    pub fn get_hashed_by_value<Q: Equivalent<K> + Drop>(&self, key: Hashed<Q>) -> Option<&V>
+        ensures { FindsValue (Q.equivalent (key_of key)) (hash_of key) self.now (option_copied result) }
+    {
+        self.get_hashed(key.as_ref())
+    }
+
+    /// The place under this hash whose key the query stands for, with the key and the value there.
+    #[inline(always)]
+    pub fn get_full_hashed<Q: Query<K>>(&self, key: Hashed<Q>) -> Option<(usize, &K, &V)>
+        ensures { FindsEntry (Q.stands_for (key_of key)) (hash_of key) self.now result }
+    {
+        let index = self.get_index_of_hashed(key)?;
+        let (key, value) = self.entries.get_unchecked(index);
+        Some((index, key.into_key(), value))
+    }
+
+    /// The place under this hash whose key the query stands for.
+    #[inline(always)]
+    pub fn get_index_of_hashed<Q: Query<K>>(&self, key: Hashed<Q>) -> Option<usize>
+        ensures names { NamesPlace (Q.stands_for (key_of key)) (hash_of key) self.now result }
+        ensures single { IsSingle K.eq self.now.entries }
+    {
+        self.index.position_of(&self.entries, key)
+    }
+
+    /// A place under this hash whose key `eq` accepts. It is asked about the keys under this hash alone, about each at
+    /// most once and in no promised order, its state carried on, until it accepts one; `None` says that it refused them
+    /// all. Required is no more than that it may be called on those keys, in the states that its refusals leave.
+    #[inline]
+    pub fn find_by_hash<F: FnMut(&K) -> bool>(
+        &self,
+        hash: StarlarkHashValue,
+        eq: F,
+    ) -> Option<usize>
+        requires { CanSearch F.FnMut (keys_under hash self.now.entries) eq }
+        ensures { (last : F) × Searches F.FnMut (keys_under hash self.now.entries) eq result last }
+    {
+        self.index.find(&self.entries, hash, eq)
+    }
+
+    /// As `get_index_of_hashed`, by an `Equivalent` that is handed over and dropped.
+    #[inline]
+    pub fn get_index_of_hashed_by_value<Q: Equivalent<K> + Drop>(
+        &self,
+        key: Hashed<Q>,
+    ) -> Option<usize>
+        ensures { NamesPlace (Q.equivalent (key_of key)) (hash_of key) self.now result }
+    {
+        self.get_index_of_hashed(key.as_ref())
+    }
+
+    /// Whether there is an entry under this hash whose key the query stands for.
+    #[inline(always)]
+    pub fn contains_key_hashed<Q: Query<K>>(&self, key: Hashed<Q>) -> bool
+        ensures { TellsPresence (Q.stands_for (key_of key)) (hash_of key) self.now result }
+    {
+        self.get_index_of_hashed(key).is_some()
+    }
+
+    /// As `contains_key_hashed`, by an `Equivalent` that is handed over and dropped.
+    #[inline]
+    pub fn contains_key_hashed_by_value<Q: Equivalent<K> + Drop>(&self, key: Hashed<Q>) -> bool
+        ensures { TellsPresence (Q.equivalent (key_of key)) (hash_of key) self.now result }
+    {
+        self.contains_key_hashed(key.as_ref())
+    }
+
+    /// The value under the query's own hash whose key the query stands for.
+    #[inline(always)]
+    pub fn get<Q: Query<K> + Hash>(&self, key: Q) -> Option<&V>
+        ensures { FindsValue (Q.stands_for key) (own_hash Q.hash_input key) self.now (option_copied result) }
+    {
+        self.get_hashed(Hashed::new(key))
+    }
+
+    /// The place under the query's own hash whose key the query stands for, with the key and the value there.
+    #[inline(always)]
+    pub fn get_full<Q: Query<K> + Hash>(&self, key: Q) -> Option<(usize, &K, &V)>
+        ensures { FindsEntry (Q.stands_for key) (own_hash Q.hash_input key) self.now result }
+    {
+        self.get_full_hashed(Hashed::new(key))
+    }
+
+    /// The place under the query's own hash whose key the query stands for.
+    #[inline(always)]
+    pub fn get_index_of<Q: Query<K> + Hash>(&self, key: Q) -> Option<usize>
+        ensures { NamesPlace (Q.stands_for key) (own_hash Q.hash_input key) self.now result }
+    {
+        self.get_index_of_hashed(Hashed::new(key))
+    }
+
+    /// Whether there is an entry under the query's own hash whose key the query stands for.
+    #[inline(always)]
+    pub fn contains_key<Q: Query<K> + Hash>(&self, key: Q) -> bool
+        ensures { TellsPresence (Q.stands_for key) (own_hash Q.hash_input key) self.now result }
+    {
+        self.contains_key_hashed(Hashed::new(key))
+    }
+
+    /// The key and the value at a place; `None` past the end.
+    #[inline]
+    pub fn get_index(&self, index: usize) -> Option<(&K, &V)>
+        ensures { option_map deref_pair result ≡ option_map pair_of (slice_get self.now.entries index) }
+    {
+        self.entries.get_index(index)
+    }
+
+    /// The key and the value of the first entry, if there is one.
+    #[inline]
+    pub fn first(&self) -> Option<(&K, &V)>
+        ensures { option_map deref_pair result ≡ option_map pair_of (slice_get self.now.entries 0) }
+    {
+        self.entries.get_index(0)
+    }
+
+    /// The key and the value of the last entry, if there is one.
+    #[inline]
+    pub fn last(&self) -> Option<(&K, &V)>
+        ensures { option_map deref_pair result ≡ option_map pair_of (slice_get self.now.entries (length self.now.entries - 1)) }
+    {
+        self.entries.get_index(self.len().saturating_sub(1))
+    }
+
+    // The key and the value at a place.
+    #[inline]
+    pub(crate) fn pair_at(&self, index: usize) -> (&K, &V)
+        requires { index < length self.now.entries }
+        ensures { option_map pair_of (slice_get self.now.entries index) ≡ Some (deref_pair result) }
+    {
+        let (key, value) = self.entries.get_unchecked(index);
+        (key.into_key(), value)
+    }
+}

@@ -1,0 +1,49 @@
+//! A value of a `SmallMap` to be written. Its key and its hash stay.
+ghost use Rattle.std.specs.Prelude.{◌≡◌, ◌<◌, length, map, Some};
+ghost use Rattle.std.specs.Borrow.{sem};
+ghost use Rattle.std.specs.Option.{option_copied_mut};
+ghost use Rattle.starlark_hash.specs.Entries.{value_at};
+ghost use Rattle.starlark_hash.specs.HashValue.{hash_of, key_of};
+ghost use Rattle.starlark_hash.specs.Hasher.{own_hash};
+ghost use Rattle.starlark_small.specs.Calling.{FindsValue};
+ghost use Rattle.starlark_small.specs.Lending.{lends_value, lends_get};
+
+use super::SmallMap;
+use starlark_hash::{Hashed, Query};
+use std::hash::Hash;
+
+impl<K: Eq, V> SmallMap<K, V> {
+    /// The value under this hash whose key the query stands for, to be written. The map ends with what is left in it,
+    /// and all else stays. `None` where there is no such entry, and then the map is as it was.
+    #[inline(always)]
+    pub fn get_mut_hashed<Q: Query<K>>(&mut self, key: Hashed<Q>) -> Option<&mut V>
+        ensures* writes_back { sem 𝓛 (lends_get K.row V.row K.PartialEq self.entry (Q.stands_for (key_of key)) (hash_of key) result) }
+        ensures finds { FindsValue (Q.stands_for (key_of key)) (hash_of key) self.old (option_copied_mut result) }
+    {
+        match self.get_index_of_hashed(key) {
+            Some(index) => Some(self.value_at_mut(index)),
+            None => None,
+        }
+    }
+
+    /// The value under the query's own hash whose key the query stands for, to be written. The map ends with what is
+    /// left in it, and all else stays. `None` where there is no such entry, and then the map is as it was.
+    #[inline(always)]
+    pub fn get_mut<Q: Query<K> + Hash>(&mut self, key: Q) -> Option<&mut V>
+        ensures* writes_back { sem 𝓛 (lends_get K.row V.row K.PartialEq self.entry (Q.stands_for key) (own_hash Q.hash_input key) result) }
+        ensures finds { FindsValue (Q.stands_for key) (own_hash Q.hash_input key) self.old (option_copied_mut result) }
+    {
+        self.get_mut_hashed(Hashed::new(key))
+    }
+
+    // The value at a place, to be written.
+    #[inline]
+    pub(crate) fn value_at_mut(&mut self, index: usize) -> &mut V
+        requires { index < length self.old.entries }
+        ensures* writes_back { sem 𝓛 (lends_value K.row V.row K.PartialEq self.entry index result) }
+        ensures value { value_at self.old.entries (Some index) ≡ Some result.now }
+    {
+        let (_, value) = self.entries.get_unchecked_mut(index);
+        value
+    }
+}

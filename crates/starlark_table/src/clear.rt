@@ -1,0 +1,55 @@
+//! What empties all slots, and finds the next full one.
+ghost use Rattle.std.specs.Prelude.{◌≡◌, ℕ, ◌<◌, ◌≤◌, None, length, IfNone, IfSome, IsSome};
+ghost use Rattle.starlark_table.specs.Layout.{at, AreDoubled, IsTagged};
+
+use crate::kept_hash::KeptHash;
+use crate::probe::Slots;
+use crate::tags::{EMPTY, full_places, tags_beside};
+use starlark_columns::Bytes;
+
+// Drops every member. The tags stay.
+pub(crate) fn empty_all<T: Drop, H: KeptHash>(slots: &mut Slots<T, H>, tags: &[u8])
+    requires { IsTagged tags.now slots.old }
+    ensures sized { length slots.new ≡ length slots.old }
+    ensures empty { (k : ℕ) → at slots.new k ≡ None }
+{
+    for place in 0..slots.places() {
+        if tags[place] != EMPTY {
+            let _member = slots.take(place);
+        }
+    }
+}
+
+// Drops every member, and gives the memory back.
+pub(crate) fn drop_all<T: Drop, H: KeptHash>(mut slots: Slots<T, H>, tags: Bytes)
+    requires tagged { IsTagged tags slots }
+    requires doubled { AreDoubled slots }
+{
+    let count = tags_beside(&slots);
+    empty_all(&mut slots, tags.as_slice(count));
+    slots.give_back(tags.allocator());
+    tags.give_back(count);
+}
+
+// The first slot from one on that has a member, if there is one.
+#[inline]
+pub(crate) fn next_full<T, H: KeptHash>(
+    slots: &Slots<T, H>,
+    tags: &[u8],
+    from: usize,
+) -> Option<usize>
+    requires { IsTagged tags.now slots.now }
+    ensures full { IfSome result (λ slot. from ≤ slot × IsSome (at slots.now slot)) }
+    ensures passed { IfSome result (λ slot. (p : ℕ) → from ≤ p → p < slot → at slots.now p ≡ None) }
+    ensures none { IfNone result ((p : ℕ) → from ≤ p → at slots.now p ≡ None) }
+{
+    let mut start = from;
+    'windows: while start < slots.places() {
+        let (full, end) = full_places(tags, start);
+        if full != 0 {
+            return Some(start + full.trailing_zeros() as usize);
+        }
+        start = end;
+    }
+    None
+}

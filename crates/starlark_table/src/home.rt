@@ -1,0 +1,87 @@
+//! Places round a circle: where a hash belongs, which place is next, and how far one is behind another.
+ghost use Rattle.std.specs.Prelude.{◌≡◌, ℕ, ◌+◌, ◌^◌, ◌<◌, ◌≤◌, ◌==◌, if◌then◌else◌, true, false};
+ghost use Rattle.starlark_table.specs.Layout.{distance, home, window, IsFar, IsMask};
+
+use crate::kept_hash::{Kept, KeptHash};
+use crate::probe::Slots;
+use crate::tags::WINDOW;
+
+#[inline]
+pub(crate) fn next_place(place: usize, count: usize) -> usize
+    requires { place < count }
+    ensures { result ≡ (if place + 1 == count then 0 else place + 1) }
+{
+    if place + 1 == count { 0 } else { place + 1 }
+}
+
+// Where the window after the one from `start` on begins: at the first place again where it would begin behind the last.
+#[inline]
+pub(crate) fn window_after(start: usize, mask: usize) -> usize
+    requires { start ≤ mask }
+    ensures on { start + window ≤ mask → result ≡ start + window }
+    ensures round { mask < start + window → result ≡ 0 }
+{
+    if mask - start < WINDOW {
+        0
+    } else {
+        start + WINDOW
+    }
+}
+
+// The place a window behind another one, round a circle of a power of two of places. No proof rests on which it is.
+#[inline]
+pub(crate) fn window_behind(place: usize, count: usize) -> usize
+    requires { 0 < count }
+    ensures { result < count }
+{
+    place.wrapping_add(WINDOW) & (count - 1)
+}
+
+// The mask of these slots. Without slots none is asked for, and no test is made here.
+#[inline]
+pub(crate) fn mask_of<T, H: KeptHash>(slots: &Slots<T, H>) -> usize
+    ensures { IsMask result slots.now }
+{
+    slots.places().wrapping_sub(1)
+}
+
+// The home of a number. A search asks for the number once, for it and for the tag.
+#[inline]
+#[tactic(auto, unfolding(crate::specs::Layout::home))]
+pub(crate) fn home(number: u64, mask: usize) -> usize
+    ensures { result ≡ home (mask + 1) number }
+{
+    ((number >> 32) ^ number) as usize & mask
+}
+
+#[inline]
+pub(crate) fn home_among<H: KeptHash>(count: usize, hash: &Kept<H>) -> usize
+    requires { 0 < count }
+    ensures { result ≡ home count hash.now }
+{
+    home(hash.number(), count - 1)
+}
+
+// Whether a place stands outside the first window from another one on.
+#[inline]
+pub(crate) fn is_far(from: usize, place: usize) -> bool
+    ensures yes { result ≡ true → IsFar from place }
+    ensures no { result ≡ false → IsFar from place → ⊥ }
+{
+    place < from || place - from >= WINDOW
+}
+
+// How many steps lead from one place to another.
+#[inline]
+#[tactic(auto, unfolding(crate::specs::Layout::distance))]
+pub(crate) fn distance(count: usize, from: usize, to: usize) -> usize
+    requires from { from < count }
+    requires to { to < count }
+    ensures { result ≡ distance count from to }
+{
+    if from <= to {
+        to - from
+    } else {
+        count - (from - to)
+    }
+}

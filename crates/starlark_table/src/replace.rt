@@ -1,0 +1,49 @@
+//! The walk that puts a new item in the place of each.
+ghost use Rattle.std.specs.Prelude.{◌≡◌, ◌<◌, length, drop};
+ghost use Rattle.starlark_table.specs.Table.{items_in};
+ghost use Rattle.starlark_table.specs.Walk.{CanReplace, ReplacesEach, ReplacesWithin};
+ghost use Rattle.starlark_table.specs.Layout.{IsTagged, IsTaggedFrom};
+
+use crate::kept_hash::KeptHash;
+use crate::probe::Slots;
+use crate::tags::full_places;
+
+// Puts what `f` answers in the place of each item.
+pub(crate) fn replace_items<T: Drop, H: KeptHash, F: FnMut(&T) -> T>(
+    slots: &mut Slots<T, H>,
+    tags: &[u8],
+    mut f: F,
+)
+    requires tagged { IsTagged tags.now slots.old }
+    requires callable { CanReplace F.FnMut (items_in slots.old) f }
+    ensures { (last : F) × ReplacesEach F.FnMut f slots.old slots.new last }
+{
+    let mut start = 0;
+    'windows: while start < slots.places() {
+        start = replace_window(slots, tags, start, &mut f);
+    }
+}
+
+// The same in a window of places. The answer is where it ends.
+fn replace_window<T: Drop, H: KeptHash, F: FnMut(&T) -> T>(
+    slots: &mut Slots<T, H>,
+    tags: &[u8],
+    start: usize,
+    f: &mut F,
+) -> usize
+    requires start { start < length slots.old }
+    requires tagged { IsTaggedFrom start tags.now slots.old }
+    requires callable { CanReplace F.FnMut (items_in (drop start slots.old)) f.old }
+    ensures some { start < result }
+    ensures sized { length slots.new ≡ length slots.old }
+    ensures replaced { ReplacesWithin F.FnMut f.old slots.old slots.new f.new start result }
+{
+    let (mut full, end) = full_places(tags, start);
+    'places: while full != 0 {
+        let place = start + full.trailing_zeros() as usize;
+        let (_, item) = slots.get_mut(place);
+        *item = f(item);
+        full &= full - 1;
+    }
+    end
+}

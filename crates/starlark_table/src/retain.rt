@@ -1,0 +1,132 @@
+//! The walk that asks about each member whether it is to be kept, and moves those behind a hole back.
+ghost use Rattle.std.specs.Prelude.{◌≡◌, ℕ, ◌<◌, ◌≤◌, ◌⊎◌, None, List, length, IsSome, IsPermutation};
+ghost use Rattle.std.specs.List.Retain.{RetainsInTurn};
+ghost use Rattle.starlark_table.specs.Table.{filled, items_in};
+ghost use Rattle.starlark_table.specs.Walk.{CanRetain, TakesAtMut, AsksMember};
+ghost use Rattle.starlark_table.specs.Layout.{at, distance, InPlace, IsFar, IsTagged, ReachesBefore, StandsIn};
+ghost use Rattle.starlark_table.specs.Growth.{limit};
+
+use crate::home::{home_among, is_far, next_place};
+use crate::kept_hash::{Kept, KeptHash};
+use crate::probe::{Slots, free_place};
+use crate::tags::EMPTY;
+
+// Takes out the members that `f` does not keep, and puts the others back in place. The answer is how many are left.
+pub(crate) fn retain_items<T: Drop, H: KeptHash, F: FnMut(&mut T) -> bool>(
+    slots: &mut Slots<T, H>,
+    tags: &mut [u8],
+    f: F,
+) -> usize
+    requires load { length (filled slots.old) ≤ limit (length slots.old) }
+    requires in_place { InPlace (length slots.old) slots.old }
+    requires tagged { IsTagged tags.old slots.old }
+    requires callable { CanRetain F.FnMut (items_in slots.old) f }
+    ensures kept { (kept : List (ℕ × T)) × RetainsInTurn (AsksMember F.FnMut) f (filled slots.old) kept × IsPermutation kept (filled slots.new) }
+    ensures counted { result ≡ length (filled slots.new) }
+    ensures sized { length slots.new ≡ length slots.old }
+    ensures in_place { InPlace (length slots.new) slots.new }
+    ensures tagged { IsTagged tags.new slots.new }
+{
+    if slots.places() == 0 {
+        return 0;
+    }
+    let start = free_place(slots, tags, 0);
+    let kept = keep_items(slots, tags, f);
+    settle(slots, tags, start);
+    kept
+}
+
+// Empties the slots of the members that `f` does not keep. The answer is how many are left.
+fn keep_items<T: Drop, H: KeptHash, F: FnMut(&mut T) -> bool>(
+    slots: &mut Slots<T, H>,
+    tags: &mut [u8],
+    mut f: F,
+) -> usize
+    requires tagged { IsTagged tags.old slots.old }
+    requires callable { CanRetain F.FnMut (items_in slots.old) f }
+    ensures kept { RetainsInTurn (AsksMember F.FnMut) f (filled slots.old) (filled slots.new) }
+    ensures counted { result ≡ length (filled slots.new) }
+    ensures stand { StandsIn slots.old slots.new }
+    ensures tagged { IsTagged tags.new slots.new }
+{
+    let mut kept = 0;
+    for place in 0..slots.places() {
+        if tags[place] != EMPTY {
+            if ask(slots.get_mut(place), &mut f) {
+                kept += 1;
+            } else {
+                tags[place] = EMPTY;
+                let _member = slots.take(place);
+            }
+        }
+    }
+    kept
+}
+
+// Whether a member is kept, once `f` was asked about it.
+fn ask<T, H: KeptHash, F: FnMut(&mut T) -> bool>(member: &mut (Kept<H>, T), f: &mut F) -> bool
+    requires { TakesAtMut F.FnMut f.old member.old.1 }
+    ensures { AsksMember F.FnMut f.old member.old result f.new member.new }
+{
+    f(&mut member.1)
+}
+
+// Moves members back towards their homes, so that no empty place is left on their ways. No way leads over `start`.
+fn settle<T, H: KeptHash>(slots: &mut Slots<T, H>, tags: &mut [u8], start: usize)
+    requires start { start < length slots.old }
+    requires tagged { IsTagged tags.old slots.old }
+    requires reaches { ReachesBefore (length slots.old) slots.old start }
+    ensures bag { IsPermutation (filled slots.old) (filled slots.new) }
+    ensures sized { length slots.new ≡ length slots.old }
+    ensures in_place { InPlace (length slots.new) slots.new }
+    ensures tagged { IsTagged tags.new slots.new }
+{
+    let count = slots.places();
+    let mut place = next_place(start, count);
+    for step in 1..count {
+        if tags[place] != EMPTY {
+            let home = home_among(count, &slots.get(place).0);
+            let to = moves_to(slots, tags, home, place);
+            if to != place {
+                let member = slots.take(place);
+                slots.write(to, member);
+                tags.swap(to, place);
+            }
+        }
+        place = next_place(place, count);
+    }
+}
+
+// Where a member moves: to the first empty place on its way, where it stands behind its first window.
+fn moves_to<T, H: KeptHash>(slots: &Slots<T, H>, tags: &[u8], home: usize, place: usize) -> usize
+    requires tagged { IsTagged tags.now slots.now }
+    requires home { home < length slots.now }
+    requires place { place < length slots.now }
+    ensures within { result < length slots.now }
+    ensures near { distance (length slots.now) home result ≤ distance (length slots.now) home place }
+    ensures empty { (result ≡ place) ⊎ (at slots.now result ≡ None) }
+    ensures path { IsFar home place → (q : ℕ) → q < length slots.now → distance (length slots.now) home q < distance (length slots.now) home result → IsSome (at slots.now q) }
+{
+    if is_far(home, place) {
+        free_before(slots, tags, home, place)
+    } else {
+        place
+    }
+}
+
+// The first empty place from one on, or `end` where none comes before it.
+fn free_before<T, H: KeptHash>(slots: &Slots<T, H>, tags: &[u8], start: usize, end: usize) -> usize
+    requires tagged { IsTagged tags.now slots.now }
+    requires start { start < length slots.now }
+    requires end { end < length slots.now }
+    ensures within { result < length slots.now }
+    ensures near { distance (length slots.now) start result ≤ distance (length slots.now) start end }
+    ensures empty { (result ≡ end) ⊎ (at slots.now result ≡ None) }
+    ensures path { (q : ℕ) → q < length slots.now → distance (length slots.now) start q < distance (length slots.now) start result → IsSome (at slots.now q) }
+{
+    let mut place = start;
+    while place != end && tags[place] != EMPTY {
+        place = next_place(place, slots.places());
+    }
+    place
+}
