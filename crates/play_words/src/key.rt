@@ -1,6 +1,6 @@
 //! The kinds of keys: texts and numbers; those of `crowd.rt` and `loose.rt` beside them.
 ghost use Rattle.std.proofs.Common.{rules};
-ghost use Rattle.starlark_map.specs.MapClone.{IsEqualClone};
+ghost use Rattle.starlark_map.specs.EntriesClone.{IsEqualClone};
 
 use crate::answers::Out;
 use crate::fault::Fault;

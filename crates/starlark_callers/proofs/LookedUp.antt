@@ -5,8 +5,8 @@ use Rattle.std.specs.Prelude.{IsSome, is_some}
 use Rattle.std.specs.declared.cmp.PartialEq as eq
 use Rattle.starlark_hash.specs.declared.hashed.Hashed.{Hashed}
 use Rattle.starlark_hash.specs.Entries.{match_of, set_value_at, with_value}
-use Rattle.starlark_callers.specs.Lending.{with_value_under}
-use Rattle.starlark_small.specs.Inserted.{IsInserted}
+use Rattle.starlark_callers.specs.Lend.{with_value_under}
+use Rattle.starlark_small.specs.Insert.{IsInserted}
 use Rattle.starlark_small.specs.Map.{Map}
 use Rattle.starlark_small.specs.MapEntry.{IsEntryOf, IsPut}
 use Rattle.starlark_small.specs.declared.entry.Entry.{Entry}

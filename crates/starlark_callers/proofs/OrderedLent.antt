@@ -7,8 +7,8 @@ use Rattle.std.specs.Prelude.{IsOk, IsErr}
 use Rattle.std.specs.declared.cmp.PartialEq as eq
 use Rattle.starlark_hash.specs.Entries.{match_of}
 use Rattle.starlark_callers.proofs.LookedUp.{put_there, put_new}
-use Rattle.starlark_callers.specs.OrderedLending.{IsPutUnder}
-use Rattle.starlark_small.specs.Inserted.{IsRefused}
+use Rattle.starlark_callers.specs.Lend.{IsPutUnder}
+use Rattle.starlark_small.specs.Insert.{IsRefused}
 use Rattle.starlark_small.specs.Map.{Map}
 use Rattle.starlark_small.specs.MapEntry.{map_of_entry, Enters, IsEntryOf, IsPut, Puts, Refuses, ShowsOrGives}
 use Rattle.starlark_small.specs.declared.entry.Entry.{Entry}

@@ -1,3 +1,2 @@
-pub mod Lending
-pub mod OrderedLending
+pub mod Lend
 pub mod Pages

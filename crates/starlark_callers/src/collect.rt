@@ -6,8 +6,8 @@ ghost use Rattle.std.specs.Set.{is_member};
 ghost use Rattle.starlark_hash.specs.Entries.{pair_of};
 ghost use Rattle.starlark_sets.specs.Difference.{difference_rest};
 ghost use Rattle.starlark_sets.specs.Union.{union_rest};
-ghost use Rattle.starlark_small.specs.Calling.{AreOwn, AreOwnEntries, contains, get};
-ghost use Rattle.starlark_small.specs.Clone.{IsEqualClone};
+ghost use Rattle.starlark_small.specs.Lookup.{AreOwn, AreOwnEntries, contains, get};
+ghost use Rattle.starlark_hash.specs.Clone.{IsEqualClone};
 ghost use Rattle.starlark_small.specs.Collect.{insert_all};
 ghost use Rattle.starlark_map.specs.Sorted.{AscendsAlong};
 

@@ -1,7 +1,7 @@
 //! Callers that compare.
 ghost use Rattle.std.specs.Prelude.{◌≡◌, length, nat_eq, true};
-ghost use Rattle.starlark_hash.specs.Ordered.{same_ordered};
-ghost use Rattle.starlark_sets.specs.Unit.{same_unit};
+ghost use Rattle.starlark_hash.specs.Compare.{same_ordered};
+ghost use Rattle.starlark_hash.specs.Unit.{same_unit};
 ghost use Rattle.starlark_small.specs.Compare.{same_entries};
 
 use starlark_sets::{OrderedMap, SmallSet};

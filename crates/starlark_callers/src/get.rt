@@ -7,7 +7,7 @@ ghost use Rattle.std.specs.String.{string_bytes, string_eq};
 ghost use Rattle.std.specs.declared.alloc.Global.{Global};
 ghost use Rattle.std.specs.declared.string.String.{String};
 ghost use Rattle.starlark_hash.specs.Entries.{entry_value};
-ghost use Rattle.starlark_small.specs.Calling.{contains, contains_text, get, get_key, get_text};
+ghost use Rattle.starlark_small.specs.Lookup.{contains, contains_text, get, get_key, get_text};
 
 use starlark_hash::{Hashed, TextKey};
 use starlark_map::sorted_set::SortedSet;

@@ -2,7 +2,7 @@
 ghost use Rattle.std.specs.Hash as fed;
 ghost use Rattle.std.specs.Option.{unwrap_or};
 ghost use Rattle.std.specs.Prelude.{◌≡◌, ◌≢◌, ℕ, ◌+◌, ◌<◌, ◌^◌, nat_eq, true, Some, None, OnOk, OnErr, false};
-ghost use Rattle.starlark_small.specs.Calling.{get};
+ghost use Rattle.starlark_small.specs.Lookup.{get};
 
 use starlark_small::SmallMap;
 use std::alloc::AllocError;

@@ -5,7 +5,7 @@ ghost use Rattle.std.specs.Str.{bytes_eq};
 ghost use Rattle.std.specs.String.{string_bytes, string_eq};
 ghost use Rattle.std.specs.declared.alloc.Global.{Global};
 ghost use Rattle.std.specs.declared.string.String.{String};
-ghost use Rattle.starlark_small.specs.Calling.{AreOwn, contains, get};
+ghost use Rattle.starlark_small.specs.Lookup.{AreOwn, contains, get};
 
 use starlark_hash::{Hashed, NoRoom};
 use starlark_sets::OrderedMap;

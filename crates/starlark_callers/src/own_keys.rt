@@ -1,6 +1,6 @@
 //! Small maps and sets of keys of the caller's own, whose equality and hash are derived.
 ghost use Rattle.std.specs.Prelude.{◌≡◌, false, true, not, Some, None, IfOk, OnOk};
-ghost use Rattle.starlark_small.specs.Calling.{contains, get};
+ghost use Rattle.starlark_small.specs.Lookup.{contains, get};
 ghost use Rattle.starlark_callers.specs.Pages.{page_eq, page_feeds};
 ghost use Rattle.starlark_callers.specs.declared.own_keys.Page.{Page};
 

@@ -2,7 +2,7 @@
 ghost use Rattle.std.specs.Hash as fed;
 ghost use Rattle.std.specs.Map.{update_all};
 ghost use Rattle.std.specs.Prelude.{◌+◌, ◌<◌, ◌≡◌, ◌≤◌, IsOk, OnErr, OnOk, Some, false, length, nat_eq, true, ℕ};
-ghost use Rattle.starlark_small.specs.Calling.{get};
+ghost use Rattle.starlark_small.specs.Lookup.{get};
 
 use starlark_small::SmallMap;
 use std::alloc::AllocError;

@@ -7,7 +7,7 @@ ghost use Rattle.std.specs.String.{string_bytes};
 ghost use Rattle.starlark_hash.specs.Entries.{entry_key, match_of};
 ghost use Rattle.starlark_hash.specs.Retain.{TakesInTurn};
 ghost use Rattle.starlark_sets.specs.Retain.{CalledAtElement, TakesElement};
-ghost use Rattle.starlark_small.specs.Calling.{AreOwn, contains, contains_text};
+ghost use Rattle.starlark_small.specs.Lookup.{AreOwn, contains, contains_text};
 ghost use Rattle.starlark_small.specs.Map.{own_hashed};
 
 use starlark_hash::NoRoom;

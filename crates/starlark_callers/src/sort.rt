@@ -6,7 +6,7 @@ ghost use Rattle.std.specs.Prelude.{◌≡◌, ◌≤◌, IfErr, IfOk, IfSome, I
 ghost use Rattle.std.specs.String.{string_bytes, string_cmp, string_eq};
 ghost use Rattle.std.specs.declared.alloc.Global.{Global};
 ghost use Rattle.std.specs.declared.string.String.{String};
-ghost use Rattle.starlark_small.specs.Calling.{contains, get, keys};
+ghost use Rattle.starlark_small.specs.Lookup.{contains, get, keys};
 ghost use Rattle.starlark_small.specs.Map.{own_match};
 
 use starlark_map::sorted_map::SortedMap;

@@ -6,7 +6,7 @@ ghost use Rattle.std.specs.String.{string_bytes, string_eq};
 ghost use Rattle.std.specs.declared.alloc.Global.{Global};
 ghost use Rattle.std.specs.declared.string.String.{String};
 ghost use Rattle.starlark_hash.specs.Entries.{entry_value, pair_of};
-ghost use Rattle.starlark_small.specs.Calling.{AreOwn, contains, get, keys};
+ghost use Rattle.starlark_small.specs.Lookup.{AreOwn, contains, get, keys};
 
 use starlark_hash::{Hashed, NoRoom};
 use starlark_sets::SmallSet;

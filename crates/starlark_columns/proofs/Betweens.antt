@@ -2,7 +2,7 @@
 use Rattle.std.proofs.Common.{◌≡◌, ℕ, zero, suc, ◌+◌, ◌-◌, ◌<◌, ◌≤◌, true, false, List, [], ◌∷◌, ◌++◌, map, length, take, drop, replicate, get_or, slice_set, Option, Some, None, refl, sym, ap, ◌∙◌, arith}
 use Rattle.std.proofs.lemmas.List.{length-append, length-take, length-drop, length-replicate, nil_from_length, replicate-append-replicate}
 use Rattle.std.specs.Option.{is_some}
-use Rattle.starlark_columns.specs.Places.{empties, items_of, IsFilled}
+use Rattle.starlark_columns.specs.Cells.{empties, items_of, IsFilled}
 use Rattle.starlark_columns.specs.Front.{IsFront}
 use Rattle.starlark_columns.specs.Between.{IsBetween}
 use Rattle.starlark_columns.proofs.Fronts.{row, items_row, row_count, shape_row, shape_is, split, counted}

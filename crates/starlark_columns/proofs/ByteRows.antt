@@ -1,8 +1,8 @@
 -- Rows of which each place has a byte.
 use Rattle.std.proofs.Common.{◌≡◌, ℕ, zero, suc, List, [], ◌∷◌, length, Option, None, refl, sym, ap, subst, arith}
-use Rattle.starlark_columns.specs.Places.{empties}
+use Rattle.starlark_columns.specs.Cells.{empties}
 use Rattle.starlark_columns.specs.Front.{IsFront, with_items}
-use Rattle.starlark_columns.specs.Slotted.{emptied}
+use Rattle.starlark_columns.specs.Slots.{emptied}
 use Rattle.starlark_columns.proofs.Fronts.{written_front, written_places}
 
 module _ {X : Type 0} where

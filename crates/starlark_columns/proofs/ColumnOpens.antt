@@ -1,8 +1,8 @@
 -- A `Column` in memory is its address, its places and the rest, and back, at any places as many. Assumes `Logic`.
 use Rattle.starlark_columns.proofs.Walking.{◌≡◌, refl, sym, ap, ◌∙◌, ℕ, zero, ◌+◌, List, [], ◌∷◌, length, Ura, Val, full_share, Fml, fsep, SProp, ent, sep, wand, ex, all_e, apply∗, size, align, up, ‵, raw, ◌⊛◌, some, ◌$◌, ◌∵◌, !, qed, by, move, keep, use0, use1, use2, split, split3, pick, show, fsplit, fsplit3, fjoin, fpick, fpack, rewrite, done, Logic, sem, usize, shows, RattleType, Denots, Ptr, part_at, part_of, cell_at, lone, plain_out, Plain-in, view_made, Laws, facts, lawfuls, Member, rows_of, parts_at, shape_of, PartsBack, Struct-parts, Struct, ghosts}
 use Rattle.std.specs.contracts.alloc.Global as heap
-use Rattle.starlark_columns.specs.Owned.{row_owned}
-use Rattle.starlark_columns.specs.Lends.{with_places}
+use Rattle.starlark_columns.specs.Ownership.{row_owned}
+use Rattle.starlark_columns.specs.Lend.{with_places}
 use Rattle.starlark_columns.specs.contracts.block.Address as address
 use Rattle.starlark_columns.specs.contracts.block.Claim as claim
 use Rattle.starlark_columns.specs.contracts.row.Row as row

@@ -16,11 +16,11 @@ use denote.Struct.Owning.{shape, fields, to}
 use denote.Struct.Struct.{exits_of}
 use Rattle.core.specs.declared.alloc.Allocator.{Ghosts}
 use Rattle.std_alloc.proofs.SendSync.{FreesAnywhere, quiet}
-use Rattle.starlark_columns.specs.Owned.{places_owned, places_lent, within_lent}
+use Rattle.starlark_columns.specs.Ownership.{places_owned, places_lent, within_lent}
 use Rattle.starlark_columns.specs.contracts.block.Claim as claim
 use Rattle.starlark_columns.specs.contracts.row.Row as row
 use Rattle.starlark_columns.specs.contracts.block.PairClaim as pair_claim
-use Rattle.starlark_columns.specs.Paired.{rooms_rejoin}
+use Rattle.starlark_columns.specs.Pair.{rooms_rejoin}
 
 either_keyless : (x : Bool) (F : Fml) → Keyless F → Keyless (cond x ftrue F)
 either_keyless true F k = tt

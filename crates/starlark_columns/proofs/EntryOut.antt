@@ -1,7 +1,7 @@
 -- A lent pair of which the first part stays is parted, and so is a lent entry of which all but the value stays: a `&` to
 -- the key and a `&mut` to the value. Assumes `Logic`.
 use Rattle.starlark_columns.proofs.Walking.{ℕ, [], ◌∷◌, Ura, Lifetime, SProp, ent, sep, Lft, GName, Share, Incl, flft, Item, ‵, raw, ◌⊛◌, some, later, mean, ◌$◌, ◌∵◌, !, qed, by, move, use1, use3, split3, fsplit, group, await, updating, now, done, Logic, sem, open_ref, mem, part_at, Laws, RattleType, tuple_laws, full_share, Member, row_of}
-use Rattle.starlark_columns.specs.Lent.{KeptItem, lent_item}
+use Rattle.starlark_columns.specs.Loan.{KeptItem, lent_item}
 use Rattle.starlark_columns.proofs.PairParts.{part, Pair, first_at, second_at, Back, First, Second, apart, together, Parted, parts_leave}
 
 module _ (k v : Member) (LK : Laws (row_of k)) (LV : Laws (row_of v)) {M : Type 1} {𝓤 : Ura M} (𝓛 : Logic 𝓤) (κ : Lft) (q : Share) (b o : ℕ) (γ : GName) (ℓ : Lifetime) (long : Incl κ (row_of k).lives) (p : (row_of k).Denot × (row_of v).Denot) where

@@ -6,7 +6,7 @@ use lib.ListN.{length-set}
 use Rattle.std.specs.List.{slice_range, slice_get, remove, refill, length_refill, AllZip}
 use Rattle.std.proofs.lemmas.List.Elements.{AllZip-push}
 use Rattle.std.specs.Option.{is_some}
-use Rattle.starlark_columns.specs.Places.{empties, items_of, IsFilled, AreFilled, AreEmpty, with_range, moved_down}
+use Rattle.starlark_columns.specs.Cells.{empties, items_of, IsFilled, AreFilled, AreEmpty, with_range, moved_down}
 use Rattle.starlark_columns.specs.Front.{IsFront, with_items}
 
 module _ {X : Type 0} where

@@ -10,7 +10,7 @@ use prog.Align.{align_w, align-bytes, align_pos}
 use prog.Capped.{capped_is, capped_small}
 use prog.Memory.{size, align, pad, up, capped}
 use Rattle.core.specs.Allocator.{HasLayout}
-use Rattle.starlark_columns.specs.Paired.{two_arrays, arrays_skipped}
+use Rattle.starlark_columns.specs.Pair.{two_arrays, arrays_skipped}
 use Rattle.starlark_columns.proofs.PairRooms.{starts_flush, both_within}
 
 abbrev Greatest : ℕ

@@ -11,7 +11,7 @@ use denote.Shares.{Shares-less}
 use denote.Sharing.{ShrLaws, said}
 use denote.SharingLaws.{nothing_shr_laws, said_shr_laws, beside_shr_laws}
 use denote.Struct.Lending.{lent_at_shr_laws, Lends, Lends-both, Lends-false, Lends-lies, Lends-nothing, Lends-said}
-use Rattle.starlark_columns.specs.Owned.{place_owned, places_owned, row_owned, place_lent, places_lent, within_lent, row_lent}
+use Rattle.starlark_columns.specs.Ownership.{place_owned, places_owned, row_owned, place_lent, places_lent, within_lent, row_lent}
 
 module _ (R : RattleType) where
   -- the bound on the bytes of all places

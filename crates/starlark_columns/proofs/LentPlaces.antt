@@ -4,11 +4,11 @@
 use Rattle.starlark_columns.proofs.Walking.{◌≡◌, refl, sym, ap, ℕ, suc, ◌+◌, ◌<◌, arith, List, [], ◌∷◌, length, Ura, ent, sep, emp, Lft, GName, Share, flft, fobs, fbor, Item, ‵, raw, ◌⊛◌, some, later, mean, ◌$◌, ◌∵◌, !, qed, move, keep, use1, split, split3, pick, fsplit, fjoin, rewrite, group, await, updating, now, show, done, Logic, sem, Body, open_ref, after₂, takes_part, takes_two, RattleType, block_ptr, nothing, None, type_size}
 use types.Follow.{after}
 use Rattle.std.specs.Prelude.{Option, Some}
-use Rattle.starlark_columns.specs.Owned.{place_owned}
-use Rattle.starlark_columns.specs.Places.{IsFilled}
+use Rattle.starlark_columns.specs.Ownership.{place_owned}
+use Rattle.starlark_columns.specs.Cells.{IsFilled}
 use Rattle.starlark_columns.specs.contracts.column.Column.{the_row}
 use Rattle.starlark_columns.proofs.Slotting.{filled_within}
-use Rattle.starlark_columns.specs.Lent.{kept_place, kept_places, KeptItem, KeptPlaces, lent_item, lent_places}
+use Rattle.starlark_columns.specs.Loan.{kept_place, kept_places, KeptItem, KeptPlaces, lent_item, lent_places}
 
 -- a list that is not empty, cut behind its first item
 pub parted : {X : Type 0} (xs : List X) → 0 < length xs → (y : X) × (ys : List X) × (xs ≡ y ∷ ys)

@@ -2,9 +2,9 @@
 use Rattle.starlark_columns.proofs.Walking.{◌≡◌, ℕ, zero, suc, ◌+◌, ◌-◌, ◌*◌, ◌≤◌, Bool, true, false, List, [], ◌∷◌, ◌++◌, map, length, take, Option, Some, refl, sym, ap, subst, ◌∙◌, arith, length-take, length-drop, take-append-drop, zero-mul, suc-mul, Ura, Fml, Lft, ftrue, fsep, fat, froom, full_share, ent, sep, emp, wand, via, id⊢, snd∗, mono_r, ty_array, Val, dv_self, align, ‵, raw, ◌⊛◌, some, given, ◌$◌, ◌∵◌, !, qed, by, move, keep, use0, use1, use2, split, pick, learn, rewrite, fsplit, fjoin, done, Logic, sem, cells, mem, part_at, block_ptr, elements_shared, nothing, El, el_x, elτ, el_out, slots, drop_split, slice_range, type_size}
 use Rattle.std.proofs.Common.{drop, None}
 use Rattle.core.proofs.mem.Param.{R, Good}
-use Rattle.starlark_columns.specs.Owned.{place_owned, places_owned, place_lent, places_lent}
-use Rattle.starlark_columns.specs.Places.{empties, with_range}
-use Rattle.starlark_columns.specs.Slotted.{places_of, emptied}
+use Rattle.starlark_columns.specs.Ownership.{place_owned, places_owned, place_lent, places_lent}
+use Rattle.starlark_columns.specs.Cells.{empties, with_range}
+use Rattle.starlark_columns.specs.Slots.{places_of, emptied}
 
 module _ {X : Type 0} where
   -- an item for each place, the default where there is none

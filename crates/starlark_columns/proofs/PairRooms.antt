@@ -1,7 +1,7 @@
 -- Room for two arrays is cut into the rooms of both, with the way back. Assumes `Logic`.
 use Rattle.starlark_columns.proofs.Walking.{◌≡◌, ℕ, zero, ◌+◌, ◌-◌, ◌*◌, ◌%◌, ◌<◌, ◌^◌, Bool, true, false, [], ◌∷◌, refl, sym, ap, subst, ◌∙◌, arith, mod_self, sub-zero, zero-add, add-zero, eqb, eqb→eq, Ura, ftrue, froom, SProp, ent, sep, wand, id⊢, apply∗, bare, Ty, Tys, tcons, tnil, ty_array, Dv, dv_zero, capped_small, size, align, pad, up, capped, rooms_at, ‵, raw, ◌⊛◌, ◌$◌, ◌∵◌, !, qed, by, move, keep, use1, use2, split, split3, group, rewrite, assume, done, Logic, sem, block_ptr, nothing}
 use lib.Dec.{T}
-use Rattle.starlark_columns.specs.Paired.{two_arrays, rooms_rejoin}
+use Rattle.starlark_columns.specs.Pair.{two_arrays, rooms_rejoin}
 
 weighs : (x : Bool) (k : ℕ) → eqb k 0 ≡ x → 0 < k → eqb k 0 ≡ false
 weighs true k e h = absurd (omega (arith, eqb→eq k 0 (subst T (sym e) tt), h))

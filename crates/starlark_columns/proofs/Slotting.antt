@@ -7,8 +7,8 @@ use Rattle.std.proofs.lemmas.List.{ext_get_or, get_or-take, get_or-drop, get_or_
 use Rattle.std.proofs.lemmas.Bool.{cases_lt}
 use Rattle.std.proofs.lemmas.List.Folds.{drop_split}
 use Rattle.std.specs.List.{slice_range}
-use Rattle.starlark_columns.specs.Places.{items_of, empties, IsFilled, AreFilled, AreEmpty, with_range, moved_down}
-use Rattle.starlark_columns.specs.Slotted.{place_of, places_of, emptied}
+use Rattle.starlark_columns.specs.Cells.{items_of, empties, IsFilled, AreFilled, AreEmpty, with_range, moved_down}
+use Rattle.starlark_columns.specs.Slots.{place_of, places_of, emptied}
 use Rattle.starlark_columns.proofs.Memory.{places_count, emptied_count}
 
 module _ {X : Type 0} where

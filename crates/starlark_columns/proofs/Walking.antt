@@ -38,7 +38,7 @@ pub use Rattle.std.specs.Prelude.{IsOk, MatchResult, None, OnErr, OnOk, if◌the
 pub use Rattle.std.specs.Vec.Ownership.{FitsInBlock}
 pub use Rattle.std.specs.contracts.impls.GlobalAllocator.TheImpl.{ghosts}
 pub use Rattle.std_alloc.proofs.ResultValues.{and_tt, err_of, ok_of}
-pub use Rattle.starlark_columns.specs.Places.{AreFilled, IsFilled, empties, items_of, with_range}
+pub use Rattle.starlark_columns.specs.Cells.{AreFilled, IsFilled, empties, items_of, with_range}
 pub use base.Fml.{Fml, GName, Incl, Incl-refl, Incl-trans, Lft, Share, fat, fauth, fbor, fdead, fex, flent, flft, fobor, fobs, fres, froom, fsep, ftrue, fupd, fwand}
 unfoldable pub use base.Fml.{fseps}
 pub use base.Fraction.{full_share}

@@ -1,6 +1,6 @@
 -- Columns whose items stand between two places.
 use Rattle.std.specs.Prelude.{◌≡◌, ℕ, ◌-◌, ◌≤◌, true, false, List, ◌++◌, map, length, replicate, Option, is_some}
-use Rattle.starlark_columns.specs.Places.{items_of}
+use Rattle.starlark_columns.specs.Cells.{items_of}
 
 module _ {X : Type 0} where
   -- each place from `from` up to `to` holds an item, and all others are empty

@@ -1,12 +1,14 @@
--- Where a row lies, and when two rows lie in the block that a claim is to.
-use Rattle.std.specs.Prelude.{◌≡◌, length}
+-- Where a row lies, what a claim to a block is to, and the column that is made of its parts.
+use Rattle.std.specs.Prelude.{◌≡◌, length, ℕ}
 use Rattle.std.specs.declared.alloc.Global.{Global}
 use denote.RattleType.{RattleType}
 use denote.RawPtr.{Ptr, InBlock}
 use Rattle.starlark_columns.specs.declared.row.Row.{Row}
-use Rattle.starlark_columns.specs.Paired.{behind}
+use Rattle.starlark_columns.specs.Pair.{behind}
 use Rattle.starlark_columns.specs.declared.block.PairClaim.{PairClaim}
 use Rattle.starlark_columns.specs.declared.block.Spot.{Spot}
+use Rattle.starlark_columns.specs.declared.block.Address.{Address}
+use Rattle.starlark_columns.specs.declared.block.Claim.{Claim}
 
 module _ {X : Type 0} where
   -- the row begins here, and has so many places
@@ -26,3 +28,12 @@ module _ (R S : RattleType) where
   -- the spot is in a block, and p is where the second row begins there
   abbrev pub IsBehind : Spot R.Denot → Ptr → Type 0
   IsBehind spot p = InBlock spot.address.at × (p ≡ behind R S spot.count spot.address.at)
+
+module _ {X : Type 0} where
+  -- the claim is to the n places at p
+  abbrev pub IsClaimTo : Ptr → ℕ → Claim X Global → Type 0
+  IsClaimTo p n c = (c.at ≡ p) × (c.count ≡ n)
+
+  -- the row of n places stands at the address, and the claim is to them
+  abbrev pub IsColumn : Address X → ℕ → Row X → Claim X Global → Type 0
+  IsColumn address n row claim = (row.at ≡ address.at) × (length row.places ≡ n) × IsClaimTo address.at n claim

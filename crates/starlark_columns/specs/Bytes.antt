@@ -1,7 +1,7 @@
 -- What makes a `Bytes` of its parts. No public clause cites this module.
 use Rattle.std.specs.Prelude.{◌≡◌, ℕ, length}
 use Rattle.std.specs.declared.alloc.Global.{Global}
-use Rattle.starlark_columns.specs.Claims.{IsClaimTo}
+use Rattle.starlark_columns.specs.Block.{IsClaimTo}
 use Rattle.starlark_columns.specs.Front.{IsFront}
 use Rattle.starlark_columns.specs.declared.row.Row.{Row}
 use Rattle.starlark_columns.specs.declared.block.Address.{Address}

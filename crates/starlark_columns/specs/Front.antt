@@ -1,7 +1,7 @@
 -- Columns whose items stand at the front.
 use Rattle.std.specs.Prelude.{◌≡◌, ℕ, ◌-◌, ◌≤◌, true, false, List, ◌++◌, map, length, replicate, Option, Some, is_some}
 use Rattle.std.specs.List.{refill}
-use Rattle.starlark_columns.specs.Places.{empties, items_of}
+use Rattle.starlark_columns.specs.Cells.{empties, items_of}
 
 module _ {X : Type 0} where
   -- a row of n places, of which the first hold xs and the others are empty

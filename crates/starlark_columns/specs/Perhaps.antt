@@ -5,7 +5,7 @@ use denote.RawPtr.{Ptr, null_ptr, InBlock, Testable}
 use Rattle.starlark_columns.specs.declared.block.Address.{Address}
 use Rattle.starlark_columns.specs.declared.block.Claim.{Claim}
 use Rattle.starlark_columns.specs.declared.row.Row.{Row}
-use Rattle.starlark_columns.specs.Claims.{IsClaimTo}
+use Rattle.starlark_columns.specs.Block.{IsClaimTo}
 
 module _ {X : Type 0} where
   -- the address and the claim are those of places at q, which are one item; or there are none, and the address is null

@@ -1,6 +1,6 @@
 //! Rows whose items stand between two places, as a walk leaves them that takes from either end.
 ghost use Rattle.std.specs.Prelude.{◌≡◌, ◌+◌, ◌<◌, [], ◌∷◌, ◌++◌, length};
-ghost use Rattle.starlark_columns.specs.Places.{items_of};
+ghost use Rattle.starlark_columns.specs.Cells.{items_of};
 ghost use Rattle.starlark_columns.specs.Block.{LiesAt};
 ghost use Rattle.starlark_columns.specs.Front.{IsFront};
 ghost use Rattle.starlark_columns.specs.Between.{IsBetween};

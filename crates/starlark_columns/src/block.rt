@@ -7,9 +7,9 @@ ghost use denote.Sharing.{said, nothing, beside};
 ghost use denote.RawPtr.{Ptr, InBlock, Testable, null_ptr, ◌+ₚ◌};
 ghost use prog.Memory.{capped};
 ghost use Rattle.core.specs.Allocator.{HasLayout};
-ghost use Rattle.starlark_columns.specs.Owned.{claim_owned};
-ghost use Rattle.starlark_columns.specs.Paired.{type_align, pair_ty, second_offset, skipped, behind, apart, pair_claimed};
-ghost use Rattle.starlark_columns.specs.Places.{empties};
+ghost use Rattle.starlark_columns.specs.Ownership.{claim_owned};
+ghost use Rattle.starlark_columns.specs.Pair.{type_align, pair_ty, second_offset, skipped, behind, apart, pair_claimed};
+ghost use Rattle.starlark_columns.specs.Cells.{empties};
 
 use crate::row::Row;
 use std::alloc::{AllocError, Allocator, Global};

@@ -1,7 +1,7 @@
 //! `Bytes`, bytes in a block of their own, of which no more is kept than the address.
 ghost use Rattle.std.specs.Prelude.{◌≡◌, ◌<◌, [], length, replicate, IfOk};
 ghost use Rattle.std.specs.Borrow.{sem};
-ghost use Rattle.starlark_columns.specs.Places.{empties};
+ghost use Rattle.starlark_columns.specs.Cells.{empties};
 
 use crate::block::{Address, Claim, Spot, allocate, bare, bare_claim, deallocate, let_go};
 use crate::row::Row;
@@ -22,7 +22,7 @@ pub struct Bytes {
 impl Model for Bytes {
     ghost use Rattle.std.specs.Prelude.{ℕ, List};
     ghost use Rattle.starlark_columns.specs.Bytes.{IsBytes};
-    ghost use Rattle.starlark_columns.specs.Places.{items_of};
+    ghost use Rattle.starlark_columns.specs.Cells.{items_of};
 
     ghost Value = { List ℕ };
 
@@ -32,7 +32,7 @@ impl Model for Bytes {
 }
 
 impl Bytes {
-    ghost use Rattle.starlark_columns.specs.BytesLends.{lends_bytes};
+    ghost use Rattle.starlark_columns.specs.Lend.{lends_bytes};
 
     /// No bytes, without memory.
     #[inline]

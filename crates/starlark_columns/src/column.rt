@@ -2,7 +2,7 @@
 ghost use Rattle.std.specs.Prelude.{◌≡◌, ◌+◌, ◌-◌, ◌*◌, ◌^◌, ◌<◌, ◌≤◌, [], ◌++◌, Some, None, map, length, take, drop, get_or, slice_set, slice_range, IfOk, IsOk};
 ghost use Rattle.std.specs.Borrow.{sem};
 ghost use Rattle.std.specs.Mem.{type_size};
-ghost use Rattle.starlark_columns.specs.Places.{empties, IsFilled};
+ghost use Rattle.starlark_columns.specs.Cells.{empties, IsFilled};
 ghost use Rattle.starlark_columns.specs.Front.{IsFront};
 
 use crate::block::{
@@ -26,7 +26,7 @@ pub struct Column<T> {
 
 impl<T> Model for Column<T> {
     ghost use Rattle.std.specs.Prelude.{◌≡◌, List, Option, length};
-    ghost use Rattle.starlark_columns.specs.Claims.{IsColumn};
+    ghost use Rattle.starlark_columns.specs.Block.{IsColumn};
 
     ghost Value = { List (Option T) };
 
@@ -116,7 +116,7 @@ impl<T> Column<T> {
 // One place
 
 impl<T> Column<T> {
-    ghost use Rattle.starlark_columns.specs.ColumnLends.{lends_item};
+    ghost use Rattle.starlark_columns.specs.Lend.{lends_column_item};
 
     /// Puts an item in an empty place.
     #[inline]
@@ -160,7 +160,7 @@ impl<T> Column<T> {
     #[inline]
     pub fn get_mut(&mut self, index: usize) -> &mut T
         requires { IsFilled self.old index }
-        ensures* writes_back { sem 𝓛 (lends_item T.row self.entry index result) }
+        ensures* writes_back { sem 𝓛 (lends_column_item T.row self.entry index result) }
         ensures value { get_or self.old index None ≡ Some result.now }
     {
         self.row.get_mut(self.address, index)
@@ -170,7 +170,7 @@ impl<T> Column<T> {
 // Many places
 
 impl<T> Column<T> {
-    ghost use Rattle.starlark_columns.specs.Lent.{places_follow};
+    ghost use Rattle.starlark_columns.specs.Loan.{places_follow};
 
     /// The right to write the items, which a walk takes one by one. Each full place ends with what is left there, with
     /// what `P` keeps of its item; empty places stay empty.

@@ -2,7 +2,7 @@
 ghost use Rattle.std.specs.Prelude.{◌≡◌, ◌+◌, ◌-◌, ◌<◌, ◌≤◌, [], ◌∷◌, ◌++◌, Some, length, take, reverse, slice_get, IsOk, OnOk, OnErr};
 ghost use Rattle.std.specs.Borrow.{sem};
 ghost use Rattle.std.specs.List.{remove, AllZip};
-ghost use Rattle.starlark_columns.specs.Places.{items_of};
+ghost use Rattle.starlark_columns.specs.Cells.{items_of};
 ghost use Rattle.starlark_columns.specs.Block.{LiesAt};
 ghost use Rattle.starlark_columns.specs.Front.{IsFront};
 
@@ -12,7 +12,7 @@ use std::alloc::AllocError;
 use std::slice;
 
 impl<T> Row<T> {
-    ghost use Rattle.starlark_columns.specs.Lends.{lends_front, lends_item};
+    ghost use Rattle.starlark_columns.specs.Lend.{lends_front, lends_item};
 
     /// The first `len` places, which hold all the items.
     #[inline]

@@ -2,7 +2,7 @@
 ghost use Rattle.std.specs.Prelude.{◌≡◌, ◌+◌, ◌-◌, ◌*◌, ◌%◌, ◌^◌, ◌<◌, min};
 ghost use Rattle.core.specs.Allocator.{HasLayout};
 ghost use prog.Memory.{pad};
-ghost use Rattle.starlark_columns.specs.Paired.{pair_ty, skipped};
+ghost use Rattle.starlark_columns.specs.Pair.{pair_ty, skipped};
 
 use crate::block::{item_align, item_size};
 

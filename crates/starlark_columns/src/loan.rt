@@ -3,8 +3,8 @@ ghost use Rattle.std.specs.Prelude.{◌≡◌, ℕ, ◌+◌, ◌<◌, List, ◌�
 ghost use Rattle.std.specs.Option.{option_map};
 ghost use Rattle.std.specs.Borrow.{GName};
 ghost use Rattle.std.specs.Map.Iter.{deref_pair_mut};
-ghost use Rattle.starlark_columns.specs.Places.{IsFilled};
-ghost use Rattle.starlark_columns.specs.Lent.{lent_from};
+ghost use Rattle.starlark_columns.specs.Cells.{IsFilled};
+ghost use Rattle.starlark_columns.specs.Loan.{lent_from};
 
 use std::marker::{Model, PhantomData};
 

@@ -2,10 +2,10 @@
 //! The first row begins where the block does. Where the second begins is reckoned, so that one address does for both.
 ghost use Rattle.std.specs.Prelude.{◌≡◌, ◌↔◌, ◌+◌, ◌*◌, ◌^◌, ◌<◌, [], length, IfOk, IsOk, IsTrue};
 ghost use Rattle.std.specs.Mem.{type_size};
-ghost use Rattle.starlark_columns.specs.Places.{empties, items_of};
+ghost use Rattle.starlark_columns.specs.Cells.{empties, items_of};
 ghost use Rattle.starlark_columns.specs.Front.{IsFront};
 ghost use denote.RawPtr.{InBlock};
-ghost use Rattle.starlark_columns.specs.Paired.{behind};
+ghost use Rattle.starlark_columns.specs.Pair.{behind};
 ghost use Rattle.starlark_columns.specs.Block.{IsBlockOf, IsSpotOf};
 
 use crate::block::{

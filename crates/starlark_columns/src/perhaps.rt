@@ -34,7 +34,7 @@ impl<T> Model for Perhaps<T> {
 }
 
 impl<T> Perhaps<T> {
-    ghost use Rattle.starlark_columns.specs.PerhapsLends.{lends_some, lends_there};
+    ghost use Rattle.starlark_columns.specs.Lend.{lends_some, lends_there};
 
     /// No item, and no block: it asks for no memory.
     #[inline]

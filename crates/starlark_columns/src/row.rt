@@ -4,8 +4,8 @@ ghost use Rattle.std.specs.Prelude.{◌≡◌, ◌+◌, ◌-◌, ◌<◌, ◌≤
 ghost use Rattle.std.specs.Borrow.{sem};
 ghost use denote.RawPtr.{Ptr};
 ghost use Rattle.core.specs.Mem.Slots.{slots_items, slots_filled, slots_len, slots_ptr};
-ghost use Rattle.starlark_columns.specs.Owned.{row_owned, row_lent};
-ghost use Rattle.starlark_columns.specs.Places.{IsFilled, AreFilled, AreEmpty, moved_down};
+ghost use Rattle.starlark_columns.specs.Ownership.{row_owned, row_lent};
+ghost use Rattle.starlark_columns.specs.Cells.{IsFilled, AreFilled, AreEmpty, moved_down};
 
 use crate::block::{Address, Spot};
 use core::slots::Slots;
@@ -33,7 +33,7 @@ unsafe impl<T: Send> Send for Row<T> {}
 unsafe impl<T: Sync> Sync for Row<T> {}
 
 impl<T> Row<T> {
-    ghost use Rattle.starlark_columns.specs.Slotted.{places_of, emptied};
+    ghost use Rattle.starlark_columns.specs.Slots.{places_of, emptied};
 
     // The places as the kit's slots. The row is left with none.
     pub(crate) fn open(&mut self, address: Address<T>, count: usize) -> Slots<T>
@@ -57,7 +57,7 @@ impl<T> Row<T> {
 
 impl<T> Row<T> {
     ghost use Rattle.starlark_columns.specs.Block.{LiesAt};
-    ghost use Rattle.starlark_columns.specs.Lends.{lends_item};
+    ghost use Rattle.starlark_columns.specs.Lend.{lends_item};
 
     /// Puts an item in an empty place.
     #[inline]

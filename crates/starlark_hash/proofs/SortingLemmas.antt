@@ -8,7 +8,7 @@ use Rattle.std.proofs.lemmas.Bool.{false≢true}
 use Rattle.std.proofs.lemmas.List.Elements.{All-cons, All-head, All-tail, All-weaker}
 use Rattle.std.proofs.lemmas.List.Sorted.{sorted_far, ranks_by, IsPermutation-refl, IsPermutation-cons, IsPermutation-trans, IsPermutation-middle}
 use Rattle.starlark_hash.specs.Entries.{entry_key}
-use Rattle.starlark_hash.specs.Sorting.{insert_sorted, sorted_by, key_lt}
+use Rattle.starlark_hash.specs.Sort.{insert_sorted, sorted_by, key_lt}
 
 filter-none : {X : Type 0} (p : X → Bool) (xs : List X) → All (λ x. p x ≡ false) xs → filter p xs ≡ []
 filter-none p [] never = refl

@@ -3,7 +3,7 @@ ghost use Rattle.std.specs.Prelude.{◌≡◌, IsTrue, IsOk, IfOk};
 ghost use Rattle.std.specs.Borrow.{sem};
 ghost use Rattle.starlark_hash.specs.HashValue.{hashed, hash_of, key_of};
 ghost use Rattle.starlark_hash.specs.Hasher.{own_hash};
-ghost use Rattle.starlark_hash.specs.Lending.{lends_key};
+ghost use Rattle.starlark_hash.specs.Lend.{lends_key};
 
 use crate::hash_value::StarlarkHashValue;
 use crate::query::OwnedQuery;

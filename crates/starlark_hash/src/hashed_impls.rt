@@ -6,7 +6,7 @@ ghost use Rattle.std.specs.Cmp.Rules.{comparing, hashing};
 ghost use Rattle.std.specs.Ordering.{as_partial_cmp};
 ghost use Rattle.std.specs.Hash as fed;
 ghost use Rattle.starlark_hash.specs.HashValue.{hash_number, hash_of, key_of};
-ghost use Rattle.starlark_hash.specs.HashedOrder.{hashed_eq, hashed_cmp};
+ghost use Rattle.starlark_hash.specs.Compare.{hashed_eq, hashed_cmp};
 
 use crate::hashed::Hashed;
 use std::cmp::Ordering;

@@ -7,7 +7,7 @@ use Rattle.std.specs.declared.cmp.Ordering.TheVariants.{Less, Equal, Greater}
 use Rattle.std.proofs.lemmas.List.{get_or-map, length-map}
 use Rattle.std.proofs.lemmas.List.Sorted.{sorted_far}
 use Rattle.starlark_hash.specs.Entries.{Entry, entry_key}
-use Rattle.starlark_hash.specs.Sorting.{Ascends, key_lt}
+use Rattle.starlark_hash.specs.Sort.{Ascends, key_lt}
 use Rattle.starlark_hash.proofs.SortingLemmas.{key_lt-order}
 use Rattle.starlark_map.specs.Sorted.{AscendsAlong}
 

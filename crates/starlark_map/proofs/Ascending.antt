@@ -15,11 +15,10 @@ use Rattle.std.proofs.lemmas.List.Sorted.{sorted_far}
 use Rattle.starlark_hash.specs.Entries.{Entry, IsSingle, entry_hash, entry_key, set_value_at, stands_under, with_value}
 use Rattle.starlark_hash.specs.Hasher.{own_hash}
 use Rattle.starlark_hash.specs.HashValue.{hash_number}
-use Rattle.starlark_hash.specs.Sorting.{Ascends, key_lt, sorted_by_key}
+use Rattle.starlark_hash.specs.Sort.{Ascends, key_lt, sorted_by_key}
 use Rattle.starlark_hash.proofs.EntryLemmas.{length-set_value_at, set_value_at-key}
 use Rattle.starlark_hash.proofs.SortingLemmas.{key_lt-order, sorted_by-sorted}
-use Rattle.starlark_small.specs.Clone.{IsEqualClone}
-use Rattle.starlark_hash.specs.Clone.{IsEntryClone}
+use Rattle.starlark_hash.specs.Clone.{IsEqualClone, IsEntryClone}
 use Rattle.starlark_vecmap.specs.EntryList.{with_values}
 use Rattle.starlark_vecmap.proofs.ValuesWritten.{length-with_values}
 use Rattle.starlark_map.specs.Sorted.{AreOwn, AscendsStrictly}

@@ -12,7 +12,7 @@ use Rattle.std.proofs.lemmas.List.Elements.{All-append, All-cons, All-head, All-
 use Rattle.starlark_hash.specs.declared.hashed.Hashed.{Hashed}
 use Rattle.starlark_hash.specs.HashValue.{hash_of, key_of}
 use Rattle.starlark_hash.specs.Entries.{Entry, entry_key, is_under, stands_under}
-use Rattle.starlark_hash.specs.Sorting.{Ascends, key_lt}
+use Rattle.starlark_hash.specs.Sort.{Ascends, key_lt}
 use Rattle.starlark_hash.proofs.PositionLemmas.{position-cons}
 use Rattle.starlark_hash.proofs.SortingLemmas.{key_lt-order}
 use Rattle.starlark_sets.specs.Difference.{lacks}

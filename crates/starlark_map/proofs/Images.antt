@@ -8,11 +8,11 @@ use Rattle.std.specs.declared.alloc.Global.{Global}
 use Rattle.std.specs.declared.string.String.{String}
 use Rattle.starlark_hash.specs.declared.hashed.Hashed.{Hashed}
 use Rattle.starlark_hash.specs.Entries.{Entry, stands_under, set_value_at, match_of}
-use Rattle.starlark_hash.specs.Insertion.{insert_entry}
+use Rattle.starlark_hash.specs.Insert.{insert_entry}
 use Rattle.starlark_hash.specs.HashValue.{hash_of, key_of}
 use Rattle.starlark_hash.proofs.PositionLemmas.{position-cons}
 use Rattle.starlark_sets.specs.Set.{Set}
-use Rattle.starlark_small.specs.Inserted.{IsInserted}
+use Rattle.starlark_small.specs.Insert.{IsInserted}
 use Rattle.starlark_small.specs.Map.{own_hashed}
 use Rattle.starlark_map.specs.JsonTexts.{Text, own_text, text_entry, text_entries}
 

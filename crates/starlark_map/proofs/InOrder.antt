@@ -16,7 +16,7 @@ use Rattle.starlark_hash.specs.Entries.{Entry, entry_key, is_under, match_of, se
 use Rattle.starlark_hash.specs.HashValue.{hash_of, key_of}
 use Rattle.starlark_hash.specs.declared.hashed.Hashed.{Hashed}
 use Rattle.starlark_hash.proofs.PositionLemmas.{position-cons}
-use Rattle.starlark_small.proofs.CallerKeys.{and_false}
+use Rattle.starlark_small.proofs.CallerLookup.{and_false}
 use Rattle.starlark_small.specs.Collect.{insert_all}
 use Rattle.starlark_map.specs.JsonObjects.{Entries, entries_of, integer_of}
 use Rattle.starlark_map.specs.JsonTexts.{Text, own_text, text_cmp, text_entries, texts_of}

@@ -7,10 +7,10 @@ use Rattle.std.proofs.lemmas.List.Elements.{All-push}
 use Rattle.std.proofs.lemmas.List.Sorted.{All-permutation}
 use Rattle.starlark_hash.specs.Entries.{Entry, entry_hash, entry_key, match_of, set_value_at}
 use Rattle.starlark_hash.specs.Hasher.{own_hash}
-use Rattle.starlark_hash.specs.Sorting.{key_lt, sorted_by_key}
+use Rattle.starlark_hash.specs.Sort.{key_lt, sorted_by_key}
 use Rattle.starlark_hash.proofs.EntryLemmas.{length-set_value_at, set_value_at-key}
 use Rattle.starlark_hash.proofs.SortingLemmas.{IsPermutation-sorted_by}
-use Rattle.starlark_small.specs.Calling.{AreOwnEntries}
+use Rattle.starlark_small.specs.Lookup.{AreOwnEntries}
 use Rattle.starlark_small.specs.Collect.{insert_all}
 use Rattle.starlark_map.specs.Sorted.{AreOwn}
 

@@ -13,13 +13,13 @@ use Rattle.std.proofs.lemmas.List.Sorted.{All-permutation, length_permutation, s
 use Rattle.starlark_hash.specs.declared.hashed.Hashed.{Hashed}
 use Rattle.starlark_hash.specs.Hasher.{own_hash}
 use Rattle.starlark_hash.specs.Entries.{Entry, IsSingle, entry_hash, entry_key}
-use Rattle.starlark_hash.specs.Sorting.{Ascends, insert_sorted, key_lt, sorted_by, sorted_by_key}
+use Rattle.starlark_hash.specs.Sort.{Ascends, insert_sorted, key_lt, sorted_by, sorted_by_key}
 use Rattle.starlark_hash.proofs.EntryLemmas.{IsSingle-permutation}
 use Rattle.starlark_hash.proofs.SortingLemmas.{IsPermutation-sorted_by, key_lt-order}
 use Rattle.starlark_sets.specs.Difference.{difference, lacks}
 use Rattle.starlark_sets.specs.Set.{Elements}
 use Rattle.starlark_sets.specs.Union.{CountsEither, union}
-use Rattle.starlark_sets.specs.Unit.{deref_hashed}
+use Rattle.starlark_hash.specs.Unit.{deref_hashed}
 use Rattle.starlark_sets.proofs.Differences.{counts-union}
 use Rattle.starlark_sets.proofs.Unions.{IsSingle-difference, IsSingle-union}
 use Rattle.starlark_map.specs.Sorted.{AreOwn}

@@ -7,7 +7,7 @@ use Rattle.std.specs.declared.cmp.Ordering.{Ordering}
 use Rattle.std.specs.declared.cmp.Ordering.TheVariants.{Less}
 use Rattle.starlark_hash.specs.Entries.{Entry, entry_hash, entry_key}
 use Rattle.starlark_hash.specs.Hasher.{own_hash}
-use Rattle.starlark_hash.specs.Sorting.{sorted_by_key}
+use Rattle.starlark_hash.specs.Sort.{sorted_by_key}
 use Rattle.starlark_small.specs.Collect.{Collects}
 use Rattle.starlark_small.specs.Map.{KeepsMemory, Map}
 

@@ -7,11 +7,11 @@ use Rattle.std.specs.Map.Iter.{deref}
 use Rattle.std.specs.declared.cmp.Ordering.{Ordering}
 use Rattle.starlark_hash.specs.declared.hashed.Hashed.{Hashed}
 use Rattle.starlark_hash.specs.Entries.{Entry, entry_key}
-use Rattle.starlark_hash.specs.Sorting.{Ascends, key_lt, sorted_by_key}
+use Rattle.starlark_hash.specs.Sort.{Ascends, key_lt, sorted_by_key}
 use Rattle.starlark_sets.specs.Difference.{difference, lacks}
 use Rattle.starlark_sets.specs.Set.{Elements}
 use Rattle.starlark_sets.specs.Union.{CountsEither, union}
-use Rattle.starlark_sets.specs.Unit.{deref_hashed}
+use Rattle.starlark_hash.specs.Unit.{deref_hashed}
 use Rattle.starlark_map.specs.Sorted.{AscendsAlong}
 
 -- what is left of either list, and the first list, in which the second's elements are looked for

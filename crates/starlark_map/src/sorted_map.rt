@@ -1,18 +1,18 @@
 //! A map whose keys ascend. It alone sees the map inside.
-ghost use Rattle.starlark_small.specs.Making.{IsBare, Clones};
+ghost use Rattle.starlark_small.specs.New.{IsBare};
+ghost use Rattle.starlark_small.specs.Clone.{Clones};
 ghost use Rattle.std.specs.Prelude.{◌≡◌, None, IsOk, IsTrue, IfOk, ◌==◌, length, ◌<◌, map};
 ghost use Rattle.std.specs.Hash.{HashWrites};
 ghost use Rattle.std.specs.Iterator.{IsFiniteIterable};
-ghost use Rattle.starlark_small.specs.Clone.{IsEqualClone};
+ghost use Rattle.starlark_hash.specs.Clone.{IsEqualClone};
 ghost use Rattle.starlark_small.specs.Collect.{FindsLast, own_entry};
-ghost use Rattle.starlark_map.specs.SortedCollect.{GivesNothing};
-ghost use Rattle.starlark_map.specs.SortedMaking.{SortsInto};
+ghost use Rattle.starlark_map.specs.SortedCollect.{GivesNothing, SortsInto};
 ghost use Rattle.starlark_map.specs.Sorted.{AreOwn, CollectsSorted};
 ghost use Rattle.std.specs.Option.{option_copied, option_copied_mut};
 ghost use Rattle.starlark_hash.specs.Hasher.{own_hash};
-ghost use Rattle.starlark_small.specs.Calling.{FindsValue, TellsPresence};
+ghost use Rattle.starlark_small.specs.Lookup.{FindsValue, TellsPresence};
 ghost use Rattle.std.specs.Borrow.{sem};
-ghost use Rattle.starlark_map.specs.SortedLending.{lends_get};
+ghost use Rattle.starlark_map.specs.SortedLend.{lends_get};
 
 mod compare;
 mod iter;
@@ -32,7 +32,7 @@ pub struct SortedMap<K: Ord + Hash, V> {
 }
 
 impl<K: Ord + Hash, V> Model for SortedMap<K, V> {
-    ghost use Rattle.starlark_hash.specs.Sorting.{Ascends};
+    ghost use Rattle.starlark_hash.specs.Sort.{Ascends};
     ghost use Rattle.starlark_small.specs.Map.{Map};
 
     ghost Value = { Map K V };

@@ -1,19 +1,19 @@
 //! A set whose elements ascend. It alone sees the set inside.
 ghost use Rattle.std.specs.Prelude.{◌≡◌, length, IsOk, IsTrue, IfOk, IfErr, ◌==◌, slice_get};
-ghost use Rattle.starlark_small.specs.Making.{IsBare, Clones};
-ghost use Rattle.starlark_hash.specs.Sorting.{Ascends};
+ghost use Rattle.starlark_small.specs.New.{IsBare};
+ghost use Rattle.starlark_small.specs.Clone.{Clones};
+ghost use Rattle.starlark_hash.specs.Sort.{Ascends};
 ghost use Rattle.std.specs.Hash.{HashWrites};
 ghost use Rattle.std.specs.Iterator.{IsFiniteIterable};
-ghost use Rattle.starlark_small.specs.Clone.{IsEqualClone};
-ghost use Rattle.starlark_sets.specs.Unit.{IsUnitClone};
-ghost use Rattle.starlark_map.specs.SortedCollect.{GivesNothing};
-ghost use Rattle.starlark_map.specs.SortedMaking.{HasOnce, IsSortedSetOf, SortsInto};
+ghost use Rattle.starlark_hash.specs.Clone.{IsEqualClone};
+ghost use Rattle.starlark_hash.specs.Unit.{IsUnitClone};
+ghost use Rattle.starlark_map.specs.SortedCollect.{GivesNothing, HasOnce, IsSortedSetOf, SortsInto};
 ghost use Rattle.starlark_map.specs.Sorted.{AreOwn, AscendsStrictly};
 ghost use Rattle.std.specs.Option.{option_copied, option_map};
 ghost use Rattle.starlark_hash.specs.Entries.{IsSingle, entry_key};
 ghost use Rattle.starlark_hash.specs.Hasher.{own_hash};
-ghost use Rattle.starlark_small.specs.Calling.{TellsPresence};
-ghost use Rattle.starlark_sets.specs.Taking.{ShowsElement};
+ghost use Rattle.starlark_small.specs.Lookup.{TellsPresence};
+ghost use Rattle.starlark_sets.specs.Lookup.{ShowsElement};
 
 mod compare;
 mod iter;
@@ -33,7 +33,7 @@ pub struct SortedSet<T: Ord + Hash> {
 }
 
 impl<T: Ord + Hash> Model for SortedSet<T> {
-    ghost use Rattle.starlark_hash.specs.Sorting.{Ascends};
+    ghost use Rattle.starlark_hash.specs.Sort.{Ascends};
     ghost use Rattle.starlark_sets.specs.Set.{Set};
 
     ghost Value = { Set T };

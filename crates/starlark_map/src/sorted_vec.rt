@@ -1,6 +1,5 @@
 //! A vector whose items ascend. It alone sees the vector inside.
-ghost use Rattle.starlark_map.specs.SortedCollect.{HasEveryItem};
-ghost use Rattle.starlark_map.specs.SortedMaking.{IsSortedFrom};
+ghost use Rattle.starlark_map.specs.SortedCollect.{HasEveryItem, IsSortedFrom};
 ghost use Rattle.std.specs.Iterator.Adapters.{IterYieldsInOrder, IterYieldsInReverse};
 ghost use Rattle.std.specs.Iterator.Runs.{EveryRun, ItemsAre};
 ghost use Rattle.std.specs.Iterator.{IsFiniteIterable};
@@ -10,8 +9,7 @@ ghost use Rattle.std.specs.Prelude.{◌≡◌, ◌^◌, ◌<◌, ◌≤◌, [], 
 ghost use Rattle.std.specs.Slice.Iter.{iter_rest};
 ghost use Rattle.std.specs.Vec.Iter.{into_iter_items, into_iter_len, into_iter_steps};
 ghost use Rattle.std.specs.declared.alloc.Global.{Global};
-ghost use Rattle.starlark_small.specs.Clone.{IsEqualClone};
-ghost use Rattle.starlark_vec2.specs.Collect.{IsLawfulClone};
+ghost use Rattle.starlark_hash.specs.Clone.{IsEqualClone, IsLawfulClone};
 
 use std::alloc::{AllocError, Global};
 use std::marker::Model;

@@ -4,7 +4,7 @@ ghost use Rattle.std.specs.Iterator.{UpTo, at_most};
 ghost use Rattle.std.specs.Iterator.SizeHint.{IsWithinCount};
 ghost use Rattle.std.specs.Map.Iter.{TakesFirst};
 ghost use Rattle.starlark_hash.specs.Entries.{IsSingle};
-ghost use Rattle.starlark_hash.specs.Sorting.{Ascends};
+ghost use Rattle.starlark_hash.specs.Sort.{Ascends};
 ghost use Rattle.starlark_sets.specs.Difference.{lacks};
 ghost use Rattle.starlark_sets.specs.Union.{fits_in};
 ghost use Rattle.starlark_map.specs.SortedUnion.{ComesNext, Follows, OwnNext, RiseSteps, after_own, comes_first, elements_under, own_rest, rise_rest, shown};
@@ -29,7 +29,7 @@ pub struct SortedUnion<'a, T: Ord> {
 
 impl<'a, T: Ord> Model for SortedUnion<'a, T> {
     ghost use Rattle.std.specs.Prelude.{};
-    ghost use Rattle.starlark_hash.specs.Sorting.{Ascends};
+    ghost use Rattle.starlark_hash.specs.Sort.{Ascends};
     ghost use Rattle.starlark_map.specs.SortedUnion.{SortedUnion as Both, Follows};
 
     ghost Value = { Both T };
@@ -159,7 +159,7 @@ pub(crate) struct Ahead<'a, T: Ord> {
 impl<'a, T: Ord> Model for Ahead<'a, T> {
     ghost use Rattle.std.specs.Prelude.{◌<◌, ◌^◌, length};
     ghost use Rattle.starlark_hash.specs.Entries.{IsSingle};
-    ghost use Rattle.starlark_hash.specs.Sorting.{Ascends};
+    ghost use Rattle.starlark_hash.specs.Sort.{Ascends};
     ghost use Rattle.starlark_sets.specs.Set.{Elements};
     ghost use Rattle.starlark_map.specs.SortedUnion.{ahead};
 

@@ -3,7 +3,7 @@ use Rattle.std.proofs.Common.{◌≡◌, ℕ, ◌*◌, ◌≤◌, max, ◌||◌,
 use Rattle.std.specs.Prelude.{nat_lt}
 use Rattle.std.proofs.lemmas.Bool.Decides.{nat_tests}
 use Rattle.starlark_hash.specs.Entries.{Entry}
-use Rattle.starlark_small.specs.Growth.{stepped_capacity}
+use Rattle.starlark_small.specs.Memory.{stepped_capacity}
 use Rattle.starlark_small.specs.Index.{unindexed}
 use Rattle.starlark_small.specs.Map.{Map}
 use Rattle.starlark_small.proofs.Growing.{stepped_bounds}

@@ -5,10 +5,10 @@ use Rattle.std.specs.Option.{option_map, option_map_or}
 use Rattle.core.specs.Cmp.{IsEquivalence}
 use Rattle.std.proofs.lemmas.List.{append-nil, append_assoc, get_or_append_left, get_or-append-add, length-append}
 use Rattle.starlark_hash.specs.Entries.{Entry, stands_under, set_value_at, match_of, IsSingle}
-use Rattle.starlark_hash.specs.Insertion.{insert_entry}
+use Rattle.starlark_hash.specs.Insert.{insert_entry}
 use Rattle.starlark_hash.proofs.PositionLemmas.{position-cons}
 use Rattle.starlark_small.specs.Collect.{insert_all}
-use Rattle.starlark_small.specs.EqualityLaws.{alike, alike-laws}
+use Rattle.starlark_small.specs.CompareLaws.{alike, alike-laws}
 
 -- where no item passes there is no first one
 position-never : {X : Type 0} (p : X → Bool) (xs : List X) → ((k : ℕ) (d : X) → k < length xs → p (get_or xs k d) ≡ false) → position p xs ≡ None

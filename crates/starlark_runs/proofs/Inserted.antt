@@ -5,8 +5,8 @@ use Rattle.std.specs.Option.{option_map_or}
 use Rattle.std.proofs.lemmas.Bool.{false≢true}
 use Rattle.starlark_hash.specs.declared.hashed.Hashed.{Hashed}
 use Rattle.starlark_hash.specs.Entries.{Entry, set_value_at}
-use Rattle.starlark_hash.specs.Insertion.{insert_entry}
-use Rattle.starlark_small.specs.Inserted.{LeavesMemory}
+use Rattle.starlark_hash.specs.Insert.{insert_entry}
+use Rattle.starlark_small.specs.Insert.{LeavesMemory}
 use Rattle.starlark_small.specs.Map.{Map}
 use Rattle.starlark_small.proofs.Inserting.{length_insert_le}
 

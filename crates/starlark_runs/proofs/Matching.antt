@@ -7,7 +7,7 @@ use Rattle.std.proofs.lemmas.Option.{slice_get-get_or, slice_get_cases}
 use Rattle.core.specs.Cmp.{IsEquivalence}
 use Rattle.starlark_hash.specs.Entries.{Entry, IsSingle, match_of, value_at}
 use Rattle.starlark_small.specs.Compare.{agree_at, same_entries}
-use Rattle.starlark_small.specs.EqualityLaws.{as_long}
+use Rattle.starlark_small.specs.CompareLaws.{as_long}
 use Rattle.starlark_small.proofs.SameEntries.{own_match, own_key, unequal_at, equal_by_keys_of}
 use Rattle.starlark_runs.specs.Matches.{HasMatch, HasMatches}
 

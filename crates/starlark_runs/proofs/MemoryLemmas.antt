@@ -5,7 +5,7 @@ use Rattle.std.specs.Option.{option_map_or}
 use Rattle.std.specs.declared.cmp.Ordering.{Ordering}
 use Rattle.starlark_hash.proofs.EntryLemmas.{length-set_value_at}
 use Rattle.starlark_hash.specs.Entries.{Entry, match_of, set_value_at, with_value}
-use Rattle.starlark_hash.specs.Insertion.{insert_entry}
+use Rattle.starlark_hash.specs.Insert.{insert_entry}
 use Rattle.starlark_hash.specs.declared.hashed.Hashed.{Hashed}
 use Rattle.starlark_small.specs.Map.{Map}
 use Rattle.starlark_runs.specs.Memory.{EndsWith, HasMemory, Memory, MemoryRun, ceiling_after, indexed_after, length_asked, memory_after, memory_of}

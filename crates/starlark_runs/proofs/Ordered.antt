@@ -9,8 +9,8 @@ use Rattle.std_collections.specs.Map.{lookup}
 use Rattle.starlark_hash.specs.declared.hashed.Hashed.{Hashed}
 use Rattle.starlark_hash.specs.Entries.{Entry}
 use Rattle.starlark_small.specs.Compare.{agree_at, same_entries}
-use Rattle.starlark_small.specs.EqualityLaws.{alike, value_at-lookup}
-use Rattle.starlark_hash.specs.Ordered.{same_entry, same_ordered, ordered_feed}
+use Rattle.starlark_small.specs.CompareLaws.{alike, value_at-lookup}
+use Rattle.starlark_hash.specs.Compare.{same_entry, same_ordered, ordered_feed}
 
 both : (s t : Bool) → s ≡ true → t ≡ true → (s && t) ≡ true
 both s t p q = ap (λ b. b && t) p ∙ q

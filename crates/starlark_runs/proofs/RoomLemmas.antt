@@ -7,7 +7,7 @@ use Rattle.std.proofs.lemmas.List.{length-reverse}
 use Rattle.std.proofs.lemmas.List.Sorted.{length_permutation}
 use Rattle.starlark_hash.proofs.SortingLemmas.{IsPermutation-sorted_by}
 use Rattle.starlark_hash.specs.Entries.{Entry, match_of, without}
-use Rattle.starlark_hash.specs.Sorting.{key_lt, sorted_by_key}
+use Rattle.starlark_hash.specs.Sort.{key_lt, sorted_by_key}
 use Rattle.starlark_small.specs.Index.{unindexed}
 use Rattle.starlark_small.specs.Map.{Map}
 use Rattle.starlark_runs.proofs.MemoryLemmas.{Step-entries, length-inserted, length-with_value}

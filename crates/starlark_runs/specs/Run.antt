@@ -5,8 +5,8 @@ use Rattle.std.specs.Fn.{Shared}
 use Rattle.std.specs.Option.{option_map}
 use Rattle.std.specs.declared.cmp.Ordering.{Ordering}
 use Rattle.starlark_hash.specs.Entries.{Entry, entry_key, entry_value, entry_at, pair_of, value_at, with_value, without, match_of}
-use Rattle.starlark_hash.specs.Insertion.{insert_entry}
-use Rattle.starlark_hash.specs.Sorting.{Ascends, sorted_by_key}
+use Rattle.starlark_hash.specs.Insert.{insert_entry}
+use Rattle.starlark_hash.specs.Sort.{Ascends, sorted_by_key}
 use Rattle.starlark_runs.specs.declared.command.Command.{Command}
 use Rattle.starlark_runs.specs.declared.command.Command.TheVariants.{Look, At, First, Last, Len, Insert, Change, Remove, RemoveAt, Pop, Clear, Reverse, Reserve, DropIndex, Sort}
 use Rattle.starlark_runs.specs.declared.command.Reply.{Reply}

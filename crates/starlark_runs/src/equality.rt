@@ -1,7 +1,7 @@
 //! What follows from equality in order.
 ghost use Rattle.std.specs.Prelude.{◌≡◌, fold, IsTrue};
 ghost use Rattle.starlark_small.specs.Compare.{same_entries};
-ghost use Rattle.starlark_hash.specs.Ordered.{same_ordered, ordered_feed};
+ghost use Rattle.starlark_hash.specs.Compare.{same_ordered, ordered_feed};
 
 use starlark_small::SmallMap;
 use std::hash::{Hash, Hasher};

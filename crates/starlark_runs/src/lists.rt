@@ -4,13 +4,13 @@ ghost use Rattle.std.specs.List.Sorted.{IsStableByKey};
 ghost use Rattle.std.specs.Map.{keys_of};
 ghost use Rattle.starlark_hash.specs.declared.hashed.Hashed.{Hashed};
 ghost use Rattle.starlark_hash.specs.Entries.{Entry, IsSingle, entry_hash, entry_key, match_of};
-ghost use Rattle.starlark_hash.specs.Insertion.{insert_entry};
+ghost use Rattle.starlark_hash.specs.Insert.{insert_entry};
 ghost use Rattle.starlark_hash.specs.Hasher.{own_hash};
-ghost use Rattle.starlark_hash.specs.Sorting.{Ascends, sorted_by_key};
+ghost use Rattle.starlark_hash.specs.Sort.{Ascends, sorted_by_key};
 ghost use Rattle.starlark_runs.specs.Matches.{HasMatches};
 ghost use Rattle.starlark_small.specs.Collect.{insert_all};
 ghost use Rattle.starlark_small.specs.Compare.{same_entries};
-ghost use Rattle.starlark_hash.specs.Ordered.{same_ordered, ordered_feed};
+ghost use Rattle.starlark_hash.specs.Compare.{same_ordered, ordered_feed};
 
 use std::hash::Hash;
 

@@ -2,7 +2,7 @@
 ghost use Rattle.std.specs.Prelude.{◌≡◌, reverse, IsOk, OnOk, OnErr};
 ghost use Rattle.starlark_hash.specs.Entries.{position_of};
 ghost use Rattle.starlark_hash.specs.HashValue.{hash_of, key_of};
-ghost use Rattle.starlark_hash.specs.Sorting.{Ascends, sorted_by_key};
+ghost use Rattle.starlark_hash.specs.Sort.{Ascends, sorted_by_key};
 ghost use Rattle.starlark_small.specs.Map.{KeepsMemory};
 
 use starlark_hash::Hashed;

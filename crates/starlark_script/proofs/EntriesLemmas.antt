@@ -11,9 +11,9 @@ use Rattle.std.proofs.lemmas.Option.{slice_get-map, none-some}
 use Rattle.starlark_hash.specs.declared.hashed.Hashed.{Hashed}
 use Rattle.starlark_hash.specs.declared.hash_value.StarlarkHashValue.{StarlarkHashValue}
 use Rattle.starlark_hash.specs.Entries.{Entry, entry_value, pair_of, entry_at, position_of, value_at, set_value_at, match_of, with_value, without}
-use Rattle.starlark_hash.specs.Insertion.{insert_entry}
+use Rattle.starlark_hash.specs.Insert.{insert_entry}
 use Rattle.starlark_hash.specs.HashValue.{hashed, hash_of, key_of}
-use Rattle.starlark_hash.specs.Sorting.{Ascends, key_lt, sorted_by_key}
+use Rattle.starlark_hash.specs.Sort.{Ascends, key_lt, sorted_by_key}
 use Rattle.starlark_script.specs.Line.{Key}
 use Rattle.starlark_script.specs.Replies.{bytes_cmp}
 use Rattle.starlark_script.specs.ShownEntries.{shown_entry, entries_of}

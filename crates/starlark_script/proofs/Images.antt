@@ -6,7 +6,7 @@ use Rattle.std.specs.List.Sorted.{IsSortedBy}
 use mathlib.Core.List.{reverse_aux}
 use Rattle.std.proofs.Math.ListN.{get_or-map}
 use Rattle.std.proofs.lemmas.List.{length-map, take-map, drop-map, map-append}
-use Rattle.starlark_hash.specs.Sorting.{insert_sorted, sorted_by}
+use Rattle.starlark_hash.specs.Sort.{insert_sorted, sorted_by}
 
 module _ {A B : Type 0} (f : A → B) where
   position_or_len-map : (p : B → Bool) (xs : List A) → position_or_len p (map f xs) ≡ position_or_len (λ x. p (f x)) xs

@@ -7,8 +7,8 @@ use Rattle.std.specs.Ordering.{nat_cmp}
 use Rattle.std.specs.Str.{bytes_eq}
 use Rattle.std.specs.declared.cmp.Ordering.{Ordering}
 use Rattle.starlark_hash.specs.Entries.{Entry, entry_key, entry_value, pair_of, value_at, match_of, without}
-use Rattle.starlark_hash.specs.Insertion.{insert_entry}
-use Rattle.starlark_hash.specs.Sorting.{Ascends, sorted_by_key}
+use Rattle.starlark_hash.specs.Insert.{insert_entry}
+use Rattle.starlark_hash.specs.Sort.{Ascends, sorted_by_key}
 use Rattle.starlark_script.specs.Line.{Line, Put, Get, Del, At, Pop, Rev, Sort, Clear, Reserve, Slim, Len, Walk, hash_text}
 
 -- the entries of a script's map in order: hash, bytes of the key, and value. The words on lists of entries are used on them as

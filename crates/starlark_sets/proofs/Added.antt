@@ -4,8 +4,8 @@ use Rattle.std.specs.Prelude.{not}
 use Rattle.starlark_hash.specs.declared.hashed.Hashed.{Hashed}
 use Rattle.starlark_hash.specs.declared.no_room.NoRoom.{NoRoom}
 use Rattle.starlark_hash.specs.HashValue.{hash_of, key_of}
-use Rattle.starlark_small.specs.Inserting.{Inserts}
-use Rattle.starlark_sets.specs.Adding.{AddsElement, new_or_back}
+use Rattle.starlark_small.specs.Insert.{Inserts}
+use Rattle.starlark_sets.specs.Insert.{AddsElement, new_or_back}
 use Rattle.starlark_sets.specs.Set.{Set}
 use Rattle.starlark_sets.proofs.Additions.{adds, is_some-value_at}
 

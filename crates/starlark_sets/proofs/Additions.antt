@@ -7,11 +7,12 @@ use Rattle.std.proofs.lemmas.List.{length_push}
 use Rattle.starlark_hash.specs.declared.hashed.Hashed.{Hashed}
 use Rattle.starlark_hash.specs.declared.hash_value.StarlarkHashValue.{StarlarkHashValue}
 use Rattle.starlark_hash.specs.Entries.{Entry, match_of, set_value_at, position_of, stands_under, value_at}
-use Rattle.starlark_hash.specs.Insertion.{insert_entry}
+use Rattle.starlark_hash.specs.Insert.{insert_entry}
 use Rattle.starlark_hash.proofs.PositionLemmas.{position-within}
 use Rattle.starlark_small.specs.Index.{unindexed}
-use Rattle.starlark_small.specs.Inserted.{IsInserted, IsRefused, LeavesMemory}
-use Rattle.starlark_sets.specs.Set.{Set, Elements, Adds}
+use Rattle.starlark_small.specs.Insert.{IsInserted, IsRefused, LeavesMemory}
+use Rattle.starlark_sets.specs.Set.{Set, Elements}
+use Rattle.starlark_sets.specs.Insert.{Adds}
 
 module _ {K V : Type 0} where
   -- what was found stands there

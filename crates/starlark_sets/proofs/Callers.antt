@@ -9,12 +9,12 @@ use Rattle.starlark_hash.specs.declared.hash_value.StarlarkHashValue.{StarlarkHa
 use Rattle.starlark_hash.specs.HashValue.{hash_of, key_of}
 use Rattle.starlark_hash.specs.Entries.{Entry, entry_at, entry_key, match_of, position_of, stands_under, value_at}
 use Rattle.starlark_hash.proofs.PositionLemmas.{position-cons}
-use Rattle.starlark_small.specs.Inserted.{IsInserted, IsRefused}
-use Rattle.starlark_small.proofs.CallerKeys.{both}
-use Rattle.starlark_small.proofs.CallerPositions.{here, later}
-use Rattle.starlark_sets.specs.Set.{Adds, Set}
+use Rattle.starlark_small.specs.Insert.{IsInserted, IsRefused}
+use Rattle.starlark_small.proofs.CallerLookup.{both, here, later}
+use Rattle.starlark_sets.specs.Insert.{Adds}
+use Rattle.starlark_sets.specs.Set.{Set}
 use Rattle.starlark_sets.proofs.Additions.{is_some-value_at}
-use Rattle.starlark_hash.specs.Finding.{found, found_key}
+use Rattle.starlark_hash.specs.Lookup.{found, found_key}
 
 module _ {T A E : Type 0} (eq : T → T → Bool) (old new : Set T) (element : Hashed T) where
   lacks_at : (place : Option ℕ) (r : Result A E) → MatchOption place (MatchResult r (λ _. IsInserted old element tt new) (λ _. IsRefused old new × (old.room ≡ 0))) (λ _. IsOk r × (new ≡ old)) → OnErr r (is_some place ≡ false)

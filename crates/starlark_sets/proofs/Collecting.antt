@@ -10,13 +10,14 @@ use Rattle.std.proofs.lemmas.Map.Made.{is_some-update_all}
 use Rattle.starlark_hash.specs.Hasher.{own_hash}
 use Rattle.starlark_hash.specs.declared.hashed.Hashed.{Hashed}
 use Rattle.starlark_hash.specs.Entries.{Entry}
-use Rattle.starlark_hash.specs.Finding.{found}
-use Rattle.starlark_small.specs.Calling.{AreOwn, AreOwnEntries, contains}
-use Rattle.starlark_small.specs.Collect.{Collects, Extends, Inserts, insert_all, own_entry}
-use Rattle.starlark_small.proofs.CallerCollected.{looked_all, run_of}
+use Rattle.starlark_hash.specs.Lookup.{found}
+use Rattle.starlark_small.specs.Lookup.{AreOwn, AreOwnEntries, contains}
+use Rattle.starlark_small.specs.Collect.{Collects, Extends, InsertsItems, insert_all, own_entry}
+use Rattle.starlark_small.proofs.CallerCollect.{looked_all, run_of}
 use Rattle.starlark_small.proofs.CallerOwn.{own-inserted_entries}
-use Rattle.starlark_small.proofs.CallerUpdates.{empty-found as none_found}
-use Rattle.starlark_sets.specs.Collect.{HasEach, InsertsEach, KeepsOwn, StepsBeside, element_entry, own_element}
+use Rattle.starlark_small.proofs.CallerLookup.{empty-found as none_found}
+use Rattle.starlark_sets.specs.Collect.{HasEach, InsertsEach, KeepsOwn, element_entry, own_element}
+use Rattle.starlark_hash.specs.Unit.{StepsBeside}
 use Rattle.starlark_sets.specs.Set.{Elements, Set}
 
 module _ {S A : Type 0} (steps : S → Option A → S → Type 0) where
@@ -44,7 +45,7 @@ module _ {S A : Type 0} (steps : S → Option A → S → Type 0) where
     entries_alone (x ∷ xs) = ap (λ es. entry x.0 ∷ es) (entries_alone xs)
 
     pub inserts_alone : {E : Type 0} (it : S) (old new : Elements T) (r : Result (Unit {0}) E)
-        → Inserts eq beside (StepsBeside steps) it old new r → Inserts eq entry steps it old new r
+        → InsertsItems eq beside (StepsBeside steps) it old new r → InsertsItems eq entry steps it old new r
     inserts_alone it old new (Ok a) put = record { items = alone put.items; entries = put.entries ∙ ap (insert_all eq old) (entries_alone put.items); ended = drains_alone it put.items put.ended }
     inserts_alone it old new (Err e) put = record {
       items = alone put.items;

@@ -11,19 +11,20 @@ use Rattle.starlark_hash.specs.declared.hashed.Hashed.{Hashed}
 use Rattle.starlark_hash.specs.declared.hash_value.StarlarkHashValue.{StarlarkHashValue}
 use Rattle.starlark_hash.specs.HashValue.{hashed}
 use Rattle.starlark_hash.specs.Entries.{Entry, IsSingle, position_of}
-use Rattle.starlark_hash.specs.Insertion.{insert_entry}
-use Rattle.starlark_hash.specs.Sorting.{key_lt, sorted_by_key}
+use Rattle.starlark_hash.specs.Insert.{insert_entry}
+use Rattle.starlark_hash.specs.Sort.{key_lt, sorted_by_key}
 use Rattle.starlark_hash.proofs.EntryLemmas.{IsSingle-permutation}
 use Rattle.starlark_hash.proofs.SortingLemmas.{IsPermutation-sorted_by}
-use Rattle.starlark_small.specs.EqualityLaws.{alike-laws, value_at-lookup}
-use Rattle.starlark_small.proofs.CallerEntries.{length-insert_entry}
-use Rattle.starlark_small.proofs.CallerOrder.{lookup_permuted}
-use Rattle.starlark_small.proofs.CallerPlaces.{writes-taken}
+use Rattle.starlark_small.specs.CompareLaws.{alike-laws, value_at-lookup}
+use Rattle.starlark_small.proofs.CallerInsert.{length-insert_entry}
+use Rattle.starlark_small.proofs.CallerSort.{lookup_permuted}
+use Rattle.starlark_small.proofs.CallerRemove.{writes-taken}
 use Rattle.starlark_small.proofs.SameEntries.{distinct}
-use Rattle.starlark_hash.specs.Finding.{found, Writes}
-use Rattle.starlark_small.specs.Calling.{Removes}
+use Rattle.starlark_hash.specs.Lookup.{found, Writes}
+use Rattle.starlark_small.specs.Remove.{Removes}
 use Rattle.starlark_sets.specs.Set.{Set, element_at}
-use Rattle.starlark_sets.specs.Taking.{ShowsElement, TakesElement}
+use Rattle.starlark_sets.specs.Lookup.{ShowsElement}
+use Rattle.starlark_sets.specs.Remove.{RemovesElement}
 use Rattle.starlark_sets.proofs.Additions.{is_some-value_at}
 use Rattle.starlark_sets.proofs.Callers.{key_stands}
 
@@ -42,7 +43,7 @@ module _ {T : Type 0} (test : T → Bool) (hash : StarlarkHashValue) (s : Set T)
       record { element = is; is_there = stands.1; found = stands.0; equivalent = stands.2 }
 
   -- or is taken out
-  pub takes-element : (eq : T → T → Bool) (new : Set T) (o : Option T) → o ≡ element_at s (position_of hash test s.entries) → Removes eq test hash s new → TakesElement eq test hash s new o
+  pub takes-element : (eq : T → T → Bool) (new : Set T) (o : Option T) → o ≡ element_at s (position_of hash test s.entries) → Removes eq test hash s new → RemovesElement eq test hash s new o
   takes-element eq new o is removes =
       let stands = key_stands test hash s.entries o is in
       record { taken = is; was = stands.0; is_there = stands.1; equivalent = stands.2; removes = removes }

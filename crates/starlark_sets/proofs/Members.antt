@@ -12,11 +12,10 @@ use Rattle.std.proofs.lemmas.List.Folds.{list_any-append}
 use Rattle.starlark_hash.specs.Hasher.{own_hash}
 use Rattle.starlark_hash.specs.HashValue.{hash_number}
 use Rattle.starlark_hash.specs.Entries.{Entry, entry_hash, entry_key, position_of, stands_under}
-use Rattle.starlark_hash.specs.Finding.{found}
+use Rattle.starlark_hash.specs.Lookup.{found}
 use Rattle.starlark_hash.proofs.PositionLemmas.{position-cons}
-use Rattle.starlark_small.specs.Calling.{AreOwnEntries}
-use Rattle.starlark_small.proofs.CallerPositions.{refl_number}
-use Rattle.starlark_small.proofs.CallerUpdates.{is_some-found}
+use Rattle.starlark_small.specs.Lookup.{AreOwnEntries}
+use Rattle.starlark_small.proofs.CallerLookup.{refl_number, is_some-found}
 use Rattle.starlark_sets.specs.Difference.{difference, lacks}
 use Rattle.starlark_sets.specs.Set.{Elements}
 use Rattle.starlark_sets.specs.Union.{union}

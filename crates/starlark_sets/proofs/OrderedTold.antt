@@ -1,7 +1,7 @@
 -- What is said of a refusal's place holds of the element that is shown there.
 use Rattle.std.proofs.Common.{◌∙◌, Bool, Option, Result, Ok, Err, IfErr, ap}
 use Rattle.starlark_hash.specs.declared.hashed.Hashed.{Hashed}
-use Rattle.starlark_sets.specs.OrderedTries.{IsPlaced, IsRefusal, IsTold, ShowsPlaced, Tries}
+use Rattle.starlark_sets.specs.TryInsert.{IsPlaced, IsRefusal, IsTold, ShowsPlaced, Tries}
 use Rattle.starlark_sets.specs.Set.{Elements, Set}
 use Rattle.starlark_sets.specs.declared.ordered_set.try_insert.TryInsertError.{TryInsertError}
 use Rattle.starlark_sets.specs.declared.ordered_set.try_insert.TryInsertError.TheVariants.{Occupied, Memory}

@@ -14,17 +14,15 @@ use Rattle.starlark_hash.specs.declared.hash_value.StarlarkHashValue.{StarlarkHa
 use Rattle.starlark_hash.specs.Hasher.{own_hash}
 use Rattle.starlark_hash.specs.HashValue.{hashed, hash_of, key_of}
 use Rattle.starlark_hash.specs.Entries.{entry_key, match_of, position_of, set_value_at, value_at}
-use Rattle.starlark_hash.specs.Finding.{found, Writes}
-use Rattle.starlark_hash.specs.Insertion.{insert_entry}
-use Rattle.starlark_small.specs.Inserted.{IsInserted, IsRefused}
-use Rattle.starlark_small.specs.Inserting.{PutsLast}
-use Rattle.starlark_small.proofs.CallerEntries.{position_of-match}
+use Rattle.starlark_hash.specs.Lookup.{found, Writes}
+use Rattle.starlark_hash.specs.Insert.{insert_entry}
+use Rattle.starlark_small.specs.Insert.{IsInserted, IsRefused, PutsLast}
+use Rattle.starlark_small.proofs.CallerLookup.{position_of-match}
 use Rattle.starlark_small.proofs.CallerOwn.{own-inserted, own-same}
-use Rattle.starlark_small.proofs.CallerUpdates.{writes-inserted}
-use Rattle.starlark_sets.specs.Adding.{AddsNew, PutsElementFor, ShowsPut}
-use Rattle.starlark_sets.specs.Lending.{AddsAt}
-use Rattle.starlark_sets.specs.OrderedTries.{AnswersTry, IsRefusal, ShowsEqual, Tries, is_occupied}
-use Rattle.starlark_sets.specs.Set.{AddsFor, Set, element_at}
+use Rattle.starlark_small.proofs.CallerInsert.{writes-inserted}
+use Rattle.starlark_sets.specs.Insert.{AddsNew, PutsElementFor, ShowsPut, AddsAt, AddsFor}
+use Rattle.starlark_sets.specs.TryInsert.{AnswersTry, IsRefusal, ShowsEqual, Tries, is_occupied}
+use Rattle.starlark_sets.specs.Set.{Set, element_at}
 use Rattle.starlark_sets.specs.declared.ordered_set.try_insert.TryInsertError.{TryInsertError}
 use Rattle.starlark_sets.specs.declared.ordered_set.try_insert.TryInsertError.TheVariants.{Occupied, Memory}
 use Rattle.starlark_sets.proofs.Additions.{is_some-value_at}

@@ -4,8 +4,8 @@ use Rattle.std.proofs.Common.{Bor}
 use Rattle.starlark_hash.specs.declared.hashed.Hashed.{Hashed}
 use Rattle.starlark_hash.specs.declared.no_room.NoRoom.{NoRoom}
 use Rattle.starlark_hash.specs.Entries.{entry_key}
-use Rattle.starlark_sets.specs.Lending.{IsShown}
-use Rattle.starlark_sets.specs.Set.{Set, Elements, Adds}
+use Rattle.starlark_sets.specs.Insert.{IsShown, Adds}
+use Rattle.starlark_sets.specs.Set.{Set, Elements}
 
 module _ {T E : Type 0} where
   pub adds_shown : (eq : T → T → Bool) (old new : Set T) (element : Hashed T) (place : Result ℕ E) (r : Result (Bor T) E)

@@ -5,7 +5,7 @@ use Rattle.std.specs.Option.{option_map}
 use Rattle.std.specs.Cmp.{IsEquivalence}
 use Rattle.starlark_hash.specs.Entries.{Entry, IsSingle, match_of, stands_under}
 use Rattle.starlark_hash.proofs.PositionLemmas.{position-cons}
-use Rattle.starlark_small.specs.EqualityLaws.{alike, alike-laws}
+use Rattle.starlark_small.specs.CompareLaws.{alike, alike-laws}
 use Rattle.starlark_sets.specs.Difference.{lacks, difference}
 use Rattle.starlark_sets.specs.Set.{Elements}
 use Rattle.starlark_sets.specs.Union.{union}

@@ -3,11 +3,10 @@ use Rattle.std.specs.Prelude.{◌≡◌, ◌||◌, ◌+◌, ◌≤◌, [], Bool,
 use Rattle.std.specs.Hash.{HashWrites}
 use Rattle.std.specs.Iterator.{Count, size}
 use Rattle.std.specs.Iterator.Runs.{WholeRun}
-use Rattle.std.specs.Option.{option_map}
 use Rattle.std.specs.Set.{is_member}
 use Rattle.starlark_hash.specs.declared.hashed.Hashed.{Hashed}
 use Rattle.starlark_hash.specs.Entries.{Entry}
-use Rattle.starlark_small.specs.Calling.{AreOwn, AreOwnEntries, contains}
+use Rattle.starlark_small.specs.Lookup.{AreOwn, AreOwnEntries, contains}
 use Rattle.starlark_small.specs.Collect.{Collects, Extends, IsExtended, insert_all}
 use Rattle.starlark_small.specs.Map.{own_hashed}
 use Rattle.starlark_sets.specs.Set.{Set}
@@ -20,10 +19,6 @@ module _ {T : Type 0} where
   -- an element under its own hash, as a set's entry
   abbrev pub own_element : (T → HashWrites) → T → Entry T (Unit {0})
   own_element feeds element = element_entry (own_hashed feeds element)
-
--- a step of an iterator that gives each item beside `()`, as a set puts it in
-abbrev pub StepsBeside : {S A : Type 0} → (S → Option A → S → Type 0) → S → Option (A × Unit {0}) → S → Type 0
-StepsBeside steps s r t = steps s (option_map (λ p. p.0) r) t
 
 module _ {T S U : Type 0} (eq : T → T → Bool) (feeds : T → HashWrites) (steps : S → Option T → S → Type 0) (becomes : U → S → Type 0) (iter : U) where
   -- the set has each of the iterator's items, and of all others what it had before. It speaks of a run, as the kit's clauses on

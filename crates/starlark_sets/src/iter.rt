@@ -4,7 +4,7 @@ ghost use Rattle.std.specs.Iterator.{UpTo, at_most};
 ghost use Rattle.std.specs.Iterator.SizeHint.{IsWithinCount};
 ghost use Rattle.std.specs.Map.{keys_of};
 ghost use Rattle.std.specs.Map.Iter.{TakesFirst, TakesLast};
-ghost use Rattle.starlark_sets.specs.Unit.{deref_hashed};
+ghost use Rattle.starlark_hash.specs.Unit.{deref_hashed};
 
 use starlark_hash::Hashed;
 use starlark_small as map;

@@ -1,7 +1,7 @@
 //! `smallset!`.
 ghost use Rattle.std.specs.Prelude.{◌<◌, IfOk, IsErr, IsOk, MatchResult};
 ghost use Rattle.starlark_small.specs.Map.{KeepsRoom, own_hashed};
-ghost use Rattle.starlark_sets.specs.Set.{Adds};
+ghost use Rattle.starlark_sets.specs.Insert.{Adds};
 
 use crate::SmallSet;
 use std::alloc::AllocError;

@@ -2,7 +2,7 @@
 ghost use Rattle.std.specs.Prelude.{◌≡◌};
 ghost use Rattle.std.specs.Cmp.Lexicographic.{slice_cmp};
 ghost use Rattle.std.specs.Ordering.{nat_cmp, on};
-ghost use Rattle.starlark_sets.specs.Ordered.{number_of, pair_cmp};
+ghost use Rattle.starlark_sets.specs.Compare.{number_of, pair_cmp};
 
 use starlark_small::IterHashed;
 use std::cmp::Ordering;

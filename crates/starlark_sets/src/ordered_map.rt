@@ -1,21 +1,23 @@
 //! A map whose order counts when it is compared. It alone sees the map inside.
 ghost use Rattle.std.specs.Prelude.{◌≡◌, ◌==◌, slice_get, length, ◌<◌, map, None, IsOk, IfOk};
-ghost use Rattle.starlark_small.specs.Making.{IsBare, MakesEmptyFor, Clones, IsMadeOf, TakesIn};
+ghost use Rattle.starlark_small.specs.New.{IsBare, MakesEmptyFor};
+ghost use Rattle.starlark_small.specs.Clone.{Clones};
+ghost use Rattle.starlark_small.specs.Collect.{IsMadeOf, TakesIn, FindsLast};
 ghost use Rattle.std.specs.Map.Iter.{deref_pair};
 ghost use Rattle.std.specs.Option.{option_copied, option_map, option_copied_mut};
 ghost use Rattle.starlark_hash.specs.Entries.{pair_of};
 ghost use Rattle.starlark_hash.specs.Hasher.{own_hash};
-ghost use Rattle.starlark_small.specs.Calling.{FindsValue, NamesPlace, TellsPresence, Removes};
+ghost use Rattle.starlark_small.specs.Lookup.{FindsValue, NamesPlace, TellsPresence};
+ghost use Rattle.starlark_small.specs.Remove.{Removes, Clears};
 ghost use Rattle.std.specs.Borrow.{sem};
 ghost use Rattle.starlark_small.specs.Map.{own_hashed};
 ghost use Rattle.starlark_small.specs.MapEntry.{Enters};
-ghost use Rattle.starlark_sets.specs.OrderedLending.{follows_entry, lends_get, lends_inside};
+ghost use Rattle.starlark_sets.specs.Lend.{follows_entry, lends_get, lends_inside};
 ghost use Rattle.std.specs.Iterator.{IsFiniteIterable, size};
-ghost use Rattle.starlark_hash.specs.Finding.{found};
-ghost use Rattle.starlark_small.specs.Clone.{IsEqualClone};
-ghost use Rattle.starlark_small.specs.Collect.{FindsLast};
-ghost use Rattle.starlark_small.specs.Inserting.{Inserts};
-ghost use Rattle.starlark_small.specs.Changing.{SortsByKey, Clears};
+ghost use Rattle.starlark_hash.specs.Lookup.{found};
+ghost use Rattle.starlark_hash.specs.Clone.{IsEqualClone};
+ghost use Rattle.starlark_small.specs.Insert.{Inserts};
+ghost use Rattle.starlark_small.specs.Sort.{SortsByKey};
 
 mod compare;
 mod iter;

@@ -1,21 +1,24 @@
 //! A set whose order counts when it is compared. It alone sees the set inside.
 ghost use Rattle.std.specs.Prelude.{◌≡◌, ◌-◌, ◌==◌, is_some, slice_get, length, None, IsOk, IfOk, OnOk, Some};
-ghost use Rattle.starlark_small.specs.Making.{IsBare, MakesEmptyFor, Clones};
+ghost use Rattle.starlark_small.specs.New.{IsBare, MakesEmptyFor};
+ghost use Rattle.starlark_small.specs.Clone.{Clones};
 ghost use Rattle.std.specs.Option.{option_copied, option_map};
 ghost use Rattle.starlark_hash.specs.HashValue.{hash_of, key_of};
 ghost use Rattle.starlark_hash.specs.Entries.{entry_key, position_of, match_of};
 ghost use Rattle.starlark_hash.specs.Hasher.{own_hash};
-ghost use Rattle.starlark_hash.specs.Finding.{found};
-ghost use Rattle.starlark_small.specs.Calling.{NamesPlace, TellsPresence, Updates};
-ghost use Rattle.starlark_sets.specs.Taking.{ShowsElement, TakesElement};
+ghost use Rattle.starlark_hash.specs.Lookup.{found};
+ghost use Rattle.starlark_small.specs.Lookup.{NamesPlace, TellsPresence, Updates};
+ghost use Rattle.starlark_sets.specs.Lookup.{ShowsElement};
+ghost use Rattle.starlark_sets.specs.Remove.{RemovesElement};
 ghost use Rattle.std.specs.Iterator.{IsFiniteIterable, size};
-ghost use Rattle.starlark_small.specs.Clone.{IsEqualClone};
+ghost use Rattle.starlark_hash.specs.Clone.{IsEqualClone};
 ghost use Rattle.starlark_small.specs.Map.{own_hashed};
 ghost use Rattle.starlark_sets.specs.Collect.{IsSetOf, TakesInEach};
-ghost use Rattle.starlark_sets.specs.Unit.{IsUnitClone};
-ghost use Rattle.starlark_small.specs.Inserting.{PutsLast};
-ghost use Rattle.starlark_sets.specs.Adding.{AddsElement, AddsNew};
-ghost use Rattle.starlark_small.specs.Changing.{SortsByKey, Clears, Turns};
+ghost use Rattle.starlark_hash.specs.Unit.{IsUnitClone};
+ghost use Rattle.starlark_small.specs.Insert.{PutsLast};
+ghost use Rattle.starlark_sets.specs.Insert.{AddsElement, AddsNew};
+ghost use Rattle.starlark_small.specs.Sort.{SortsByKey, Turns};
+ghost use Rattle.starlark_small.specs.Remove.{Clears};
 
 mod compare;
 mod iter;
@@ -171,7 +174,7 @@ impl<T: Eq> OrderedSet<T> {
     /// Capacity and index stay.
     #[inline]
     pub fn take<Q: Query<T> + Hash>(&mut self, query: Q) -> Option<T>
-        ensures { TakesElement T.eq (Q.stands_for query) (own_hash Q.hash_input query) self.old self.new result }
+        ensures { RemovesElement T.eq (Q.stands_for query) (own_hash Q.hash_input query) self.old self.new result }
     {
         self.0.take(query)
     }

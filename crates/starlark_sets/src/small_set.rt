@@ -1,7 +1,7 @@
 //! The set, a map whose every value is `()`. It alone sees that map.
-ghost use Rattle.starlark_small.specs.Making.{IsBare, MakesEmptyFor};
+ghost use Rattle.starlark_small.specs.New.{IsBare, MakesEmptyFor};
 ghost use Rattle.std.specs.Prelude.{◌≡◌, ◌-◌, ◌≤◌, ◌==◌, length};
-ghost use Rattle.starlark_small.specs.Inserting.{Reserves};
+ghost use Rattle.starlark_small.specs.Memory.{Reserves};
 
 mod clone;
 mod collect;

@@ -9,14 +9,15 @@ use Rattle.std.proofs.lemmas.List.{length_push, length-append, length-drop, leng
 use Rattle.starlark_hash.specs.Hasher.{own_hash}
 use Rattle.starlark_hash.specs.declared.hashed.Hashed.{Hashed}
 use Rattle.starlark_hash.specs.Entries.{Entry, IsSingle, match_of, value_at, with_value, without}
-use Rattle.starlark_hash.specs.Insertion.{insert_entry}
+use Rattle.starlark_hash.specs.Insert.{insert_entry}
 use Rattle.starlark_hash.proofs.EntryLemmas.{length-set_value_at}
-use Rattle.starlark_small.specs.Calling.{get, Updates}
+use Rattle.starlark_small.specs.Lookup.{get, Updates}
 use Rattle.starlark_small.specs.Map.{Map, own_hashed, own_match}
-use Rattle.starlark_small.proofs.CallerKeys.{keys-set_value_at}
-use Rattle.starlark_small.proofs.CallerEntries.{value-insert_entry, is_some-value_at}
+use Rattle.starlark_small.proofs.CallerLookup.{keys-set_value_at, is_some-value_at}
+use Rattle.starlark_small.proofs.CallerInsert.{value-insert_entry, writes-inserted}
 use Rattle.starlark_small.proofs.CallerMembers.{members}
-use Rattle.starlark_small.proofs.CallerUpdates.{writes-inserted, writes-with_value, writes-removed}
+use Rattle.starlark_small.proofs.CallerEntry.{writes-with_value}
+use Rattle.starlark_small.proofs.CallerRemove.{writes-removed}
 
 -- The same of the map, under keys' own hashes: one word for the key and all others.
 module _ {K V : Type 0} (eq : K → K → Bool) (feeds : K → HashWrites) (old new : Map K V) (key : K) where

@@ -13,10 +13,11 @@ use Rattle.starlark_hash.specs.HashValue.{hash_of, key_of}
 use Rattle.starlark_hash.specs.Entries.{Entry, entry_key, entry_value, pair_of, match_of, position_of, set_value_at, with_value}
 use Rattle.starlark_hash.proofs.EntryLemmas.{length-set_value_at}
 use Rattle.starlark_hash.proofs.PositionLemmas.{position-passes, position-within}
-use Rattle.starlark_small.specs.Calling.{keys, Removes, RemovesAt}
-use Rattle.starlark_small.specs.Inserting.{Inserts}
+use Rattle.starlark_small.specs.Lookup.{keys}
+use Rattle.starlark_small.specs.Remove.{Removes, RemovesAt}
+use Rattle.starlark_small.specs.Insert.{Inserts}
 use Rattle.starlark_small.specs.Map.{Map}
-use Rattle.starlark_small.proofs.CallerKeys.{alike, both, keys-set_value_at}
+use Rattle.starlark_small.proofs.CallerLookup.{alike, both, keys-set_value_at}
 
 -- an element after a first one
 later : {X : Type 0} (x : X) (xs : List X) (y : X) → Contains xs y → Contains (x ∷ xs) y

@@ -12,10 +12,10 @@ use Rattle.starlark_hash.specs.Hasher.{own_hash}
 use Rattle.starlark_hash.specs.HashValue.{hash_of, key_of}
 use Rattle.starlark_hash.specs.Clone.{IsEntryClone}
 use Rattle.starlark_hash.specs.Entries.{Entry, entry_hash, entry_key, match_of, set_value_at, without}
-use Rattle.starlark_hash.specs.Insertion.{insert_entry}
+use Rattle.starlark_hash.specs.Insert.{insert_entry}
 use Rattle.starlark_hash.specs.Retain.{CalledAtEntry, Retains}
 use Rattle.starlark_vecmap.specs.EntryList.{with_values}
-use Rattle.starlark_small.specs.Calling.{AreOwnEntries}
+use Rattle.starlark_small.specs.Lookup.{AreOwnEntries}
 use Rattle.starlark_small.specs.Collect.{insert_all, own_entry}
 use Rattle.starlark_small.proofs.Retained.{all_retained}
 

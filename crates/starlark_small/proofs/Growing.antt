@@ -7,10 +7,10 @@ use Rattle.std.proofs.lemmas.List.{length-drop, length_push}
 use mathlib.Core.Logic.{inl, inr}
 use Rattle.starlark_hash.specs.declared.hashed.Hashed.{Hashed}
 use Rattle.starlark_hash.specs.Entries.{match_of, set_value_at}
-use Rattle.starlark_hash.specs.Insertion.{insert_entry}
+use Rattle.starlark_hash.specs.Insert.{insert_entry}
 use Rattle.starlark_hash.proofs.EntryLemmas.{length-set_value_at}
-use Rattle.starlark_small.specs.Growth.{StaysOrGrows, reserved_capacity, stepped_capacity}
-use Rattle.starlark_small.specs.Inserted.{LeavesMemory}
+use Rattle.starlark_small.specs.Memory.{StaysOrGrows, reserved_capacity, stepped_capacity}
+use Rattle.starlark_small.specs.Insert.{LeavesMemory}
 use Rattle.starlark_small.specs.Map.{Map}
 use Rattle.starlark_vec2.specs.PairList.{PairList, pair_list}
 use Rattle.starlark_vec2.specs.Growth.{push, push_all}

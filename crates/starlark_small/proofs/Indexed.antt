@@ -15,8 +15,8 @@ use Rattle.starlark_hash.specs.Entries.{Entry, entry_hash, set_value_at}
 use Rattle.starlark_hash.proofs.EntryLemmas.{length-set_value_at, set_value_at-key}
 use Rattle.starlark_small.specs.Hashes.{Hashes, cleared, forgotten, hash_under, noted, reversed}
 use Rattle.starlark_small.specs.Index.{IsIndexed, IsIndexedAt, hashes_of, index_room, unindexed}
-use Rattle.starlark_small.specs.Indexing.{IsFilled, IsRenamed}
-use Rattle.starlark_vec2.specs.Moves.{Moves}
+use Rattle.starlark_small.specs.IndexCalls.{IsFilled, IsRenamed}
+use Rattle.starlark_vec2.specs.Sort.{Moves}
 use Rattle.starlark_vec2.proofs.Positions.{IsPermutation-from_order}
 use Rattle.starlark_vecmap.specs.EntryList.{EntryList}
 

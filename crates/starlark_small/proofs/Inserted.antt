@@ -11,7 +11,7 @@ use Rattle.starlark_hash.specs.HashValue.{key_of}
 use Rattle.starlark_hash.specs.Entries.{Entry, entry_value, match_of, pair_of, set_value_at, value_at}
 use Rattle.starlark_hash.proofs.EntryLemmas.{length-set_value_at}
 use Rattle.starlark_small.specs.Index.{unindexed}
-use Rattle.starlark_small.specs.Inserted.{IsInserted, IsRefused, LeavesMemory}
+use Rattle.starlark_small.specs.Insert.{IsInserted, IsRefused, LeavesMemory}
 use Rattle.starlark_small.specs.Map.{Map}
 
 module _ {K V : Type 0} where

@@ -7,12 +7,12 @@ use Rattle.std.specs.Option.{option_map_or}
 use Rattle.std.proofs.lemmas.List.{length_push}
 use Rattle.starlark_hash.specs.declared.hashed.Hashed.{Hashed}
 use Rattle.starlark_hash.specs.Entries.{Entry, match_of, set_value_at}
-use Rattle.starlark_hash.specs.Insertion.{insert_entry}
+use Rattle.starlark_hash.specs.Insert.{insert_entry}
 use Rattle.starlark_hash.proofs.EntryLemmas.{length-set_value_at}
 use Rattle.starlark_small.specs.Collect.{insert_all}
-use Rattle.starlark_small.specs.Growth.{StaysOrGrows, stepped_capacity}
+use Rattle.starlark_small.specs.Memory.{StaysOrGrows, stepped_capacity}
 use Rattle.starlark_small.specs.Index.{unindexed}
-use Rattle.starlark_small.specs.Inserted.{LeavesMemory}
+use Rattle.starlark_small.specs.Insert.{LeavesMemory}
 use Rattle.starlark_small.specs.Map.{Map, KeepsRoom}
 use Rattle.starlark_small.proofs.Growing.{stepped_none, stepped_inserted, stepped_refused}
 

@@ -10,7 +10,7 @@ use Rattle.std.proofs.lemmas.Simd.{map-map}
 use Rattle.starlark_table.proofs.PairBags.{IsPermutation-filter}
 use Rattle.starlark_table.proofs.TableLemmas.{items-items_under}
 use Rattle.starlark_table.specs.Table.{Table, filled, items_under, members, table_capacity, table_len}
-use Rattle.starlark_vec2.specs.Moves.{Moves}
+use Rattle.starlark_vec2.specs.Sort.{Moves}
 use Rattle.starlark_small.specs.Hashes.{Hashes, indices_under, numbered}
 use Rattle.starlark_small.specs.Slots.{IsSited, KeepsIndices, RenamesEach, StandsBut, StandsOnce, hash_in, hashes_in, lowered, renaming}
 use Rattle.starlark_small.proofs.Numbered.{bag-noted, bag-renamed, filled-renamed, hashes-back, held, left-bag, left-none, left-there, length-moved, members-below, members-count, stands-once, numbered-moved, numbered-remove, numbered-remove_last, numbered-reverse}

@@ -1,10 +1,10 @@
 -- What a walk that writes the values of a map keeps.
 use Rattle.std.proofs.Common.{Bool}
 use Rattle.starlark_vecmap.proofs.ValuesWritten.{keys-with_values, length-with_values}
-use Rattle.starlark_small.specs.Lending.{KeepsAllButValues}
+use Rattle.starlark_small.specs.Lend.{KeepsAllButValues}
 use Rattle.starlark_small.specs.Map.{Map}
 use Rattle.starlark_small.proofs.CallerOwn.{own-with_values}
-use Rattle.starlark_small.proofs.CallerWalked.{found-with_values}
+use Rattle.starlark_small.proofs.CallerIter.{found-with_values}
 
 pub keeps-all_but_values : {K V : Type 0} (eq : K → K → Bool) (m : Map K V) → KeepsAllButValues eq m
 keeps-all_but_values eq m = record {

@@ -15,12 +15,11 @@ use Rattle.starlark_hash.specs.Entries.{Entry, entry_hash, entry_key, is_under, 
 use Rattle.starlark_hash.proofs.EntryLemmas.{IsSingle-push}
 use Rattle.starlark_hash.proofs.PositionLemmas.{position-within, position-passes}
 use Rattle.starlark_small.specs.Hashes.{Hashes, hash_under, noted}
-use Rattle.starlark_small.specs.Indexing.{IsNotedIn}
+use Rattle.starlark_small.specs.IndexCalls.{IsNotedIn}
 use Rattle.starlark_small.specs.Index.{IsIndexed, hashes_of, IsSound, index_room, map_of, unindexed}
-use Rattle.starlark_small.specs.Inserted.{IsInserted}
-use Rattle.starlark_small.specs.Inserting.{Inserts}
+use Rattle.starlark_small.specs.Insert.{IsInserted, Inserts}
 use Rattle.starlark_small.specs.Map.{Map}
-use Rattle.starlark_small.proofs.CallerInserts.{inserts-done}
+use Rattle.starlark_small.proofs.CallerInsert.{inserts-done}
 use Rattle.starlark_small.proofs.Inserted.{LeavesMemory-inserted}
 use Rattle.starlark_small.proofs.Indexed.{IsIndexed-noted, room-noted}
 use Rattle.starlark_vecmap.specs.EntryList.{EntryList, with_entries}

@@ -12,7 +12,7 @@ use Rattle.std.proofs.lemmas.Option.{none-some, same_Some}
 use Rattle.starlark_table.specs.Table.{Table, filled, items_under, members, member_at, table_len}
 use Rattle.starlark_table.proofs.PairBags.{IsPermutation-cancel, IsPermutation-filter}
 use Rattle.starlark_table.proofs.TableLemmas.{items-items_under}
-use Rattle.starlark_vec2.specs.Moves.{Moves}
+use Rattle.starlark_vec2.specs.Sort.{Moves}
 use Rattle.starlark_small.specs.Hashes.{numbered, numbered_from}
 use Rattle.starlark_small.specs.Slots.{IsSited, StandsOnce, hash_in, hashes_in, lowered, renamed, renaming}
 

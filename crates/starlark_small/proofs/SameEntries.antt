@@ -11,7 +11,7 @@ use Rattle.std_collections.proofs.HashMapEq.{key_at, own_value, equal_by_keys}
 use Rattle.starlark_hash.specs.declared.hashed.Hashed.{Hashed}
 use Rattle.starlark_hash.specs.Entries.{Entry, IsSingle, value_at, match_of, stands_under}
 use Rattle.starlark_small.specs.Compare.{agree_at, same_entries}
-use Rattle.starlark_small.specs.EqualityLaws.{alike, alike-laws, value_at-lookup, as_map, as_maps, both}
+use Rattle.starlark_small.specs.CompareLaws.{alike, alike-laws, value_at-lookup, as_map, as_maps, both}
 
 -- what cannot be true is false
 refuted : (b : Bool) → (b ≡ true → ⊥) → false ≡ b

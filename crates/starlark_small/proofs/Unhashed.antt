@@ -6,7 +6,7 @@ use Rattle.std.specs.declared.cmp.PartialEq as eq
 use Rattle.starlark_hash.specs.HashValue.{key_of}
 use Rattle.starlark_hash.specs.declared.hashed.Hashed.{Hashed}
 use Rattle.starlark_hash.specs.declared.no_room.NoRoom.{NoRoom}
-use Rattle.starlark_small.specs.Lending.{lends_inserted, unhashed}
+use Rattle.starlark_small.specs.Lend.{lends_inserted, unhashed}
 use Rattle.starlark_small.specs.Map.{Map}
 
 module _ {T K V : Type 0} where

@@ -1,14 +1,14 @@
--- Maps of an iterator's items.
-use Rattle.std.specs.Prelude.{◌≡◌, ◌≤◌, ◌+◌, ℕ, List, [], ◌∷◌, ◌++◌, Bool, true, IfSome, IsSome, Option, None, Result, MatchResult, IsOk, OnErr, ◌||◌, nat_lt, length, map}
+-- Maps of an iterator's items, and maps that such items went into. Sets, ordered and sorted types share these words.
+use Rattle.std.specs.Prelude.{◌≡◌, ◌≤◌, ◌+◌, ℕ, List, [], ◌∷◌, ◌++◌, Bool, true, IfSome, IsSome, Option, None, Result, MatchResult, IsOk, OnErr, ◌||◌, nat_lt, length, map, OnOk}
 use Rattle.std.specs.Hash.{HashWrites}
-use Rattle.std.specs.Iterator.{Count, Drains, Yields}
+use Rattle.std.specs.Iterator.{Count, Drains, Yields, size}
 use Rattle.std.specs.Iterator.Runs.{AllItems, AnyItem, WholeRun}
 use Rattle.std.specs.Iterator.SizeHint.{IsWithinCount}
 use Rattle.std.specs.Map.{update_all}
 use Rattle.starlark_hash.specs.Entries.{Entry, match_of}
-use Rattle.starlark_hash.specs.Insertion.{insert_entry}
-use Rattle.starlark_small.specs.Calling.{AreOwn, AreOwnEntries, get}
-use Rattle.starlark_small.specs.Growth.{GrowsInSteps}
+use Rattle.starlark_hash.specs.Insert.{insert_entry}
+use Rattle.starlark_small.specs.Lookup.{AreOwn, AreOwnEntries, get}
+use Rattle.starlark_small.specs.Memory.{GrowsInSteps}
 use Rattle.starlark_small.specs.Index.{unindexed}
 use Rattle.starlark_small.specs.Map.{Map, KeepsRoom, own_hashed}
 use Rattle.starlark_vec2.specs.PairList.{pair_list}
@@ -33,7 +33,7 @@ module _ {K V : Type 0} (eq : K → K → Bool) where
       pub absent : match_of eq es (item next).0 ≡ None
 
     -- the iterator's items were inserted: all of them, or, after a refusal, those before an item that has no match
-    pub record Inserts {E : Type 0} (it : T) (old new : List (Entry K V)) (r : Result (Unit {0}) E) : Type 0 where
+    pub record InsertsItems {E : Type 0} (it : T) (old new : List (Entry K V)) (r : Result (Unit {0}) E) : Type 0 where
       pub items : List A
       pub entries : new ≡ insert_all old (map item items)
       pub ended : MatchResult r (λ _. Drains steps it items) (λ _. StopsAt it items new)
@@ -42,7 +42,7 @@ module _ {K V : Type 0} (eq : K → K → Bool) where
     pub record Extends {U E : Type 0} (becomes : U → T → Type 0) (iter : U) (old new : List (Entry K V)) (r : Result (Unit {0}) E) : Type 0 where
       pub it : T
       pub made : becomes iter it
-      pub inserts : Inserts it old new r
+      pub inserts : InsertsItems it old new r
 
     -- the map has all of the iterator's items, inserted into one that had room for a number of them within what the iterator
     -- bounds; the capacity is what that number became while the entries came one after the other; and there is an index if that
@@ -88,3 +88,19 @@ KeepsOwn {K} {V} {T} {U} steps becomes iter m = (it : T) × becomes iter it × W
 -- the map has the iterator's items, inserted in their order
 abbrev pub InsertsEach : {K V T U : Type 0} → (K → K → Bool) → (T → Option (Entry K V) → T → Type 0) → (U → T → Type 0) → U → Map K V → Type 0
 InsertsEach {K} {V} {T} {U} eq steps becomes iter m = (it : T) × becomes iter it × WholeRun steps it (λ p. m.entries ≡ insert_all eq [] p.items)
+
+module _ {K V T U : Type 0} (eq : K → K → Bool) (feeds : K → HashWrites) (steps : T → Option (K × V) → T → Type 0) (becomes : U → T → Type 0) (remaining : T → Count) (iter : U) where
+  -- the map was made of the iterator's items, inserted in their order, each under its key's own hash
+  pub record IsMadeOf (m : Map K V) : Type 0 where
+    pub map : Collects eq (own_entry feeds) steps becomes remaining iter m
+    pub items : HasItems eq feeds steps becomes iter m
+    pub own : AreOwn feeds m
+
+  -- the iterator's items went into the old map in their order, each under its key's own hash: all of them, or, after a refusal,
+  -- those before a new key
+  pub record TakesIn {E : Type 0} (old new : Map K V) (r : Result (Unit {0}) E) : Type 0 where
+    pub found : OnOk r (FindsLast eq feeds steps becomes iter (get eq feeds old) new)
+    pub entries : Extends eq (own_entry feeds) steps becomes iter old.entries new.entries r
+    pub memory : IsExtended ((it : T) → becomes iter it → size (remaining it) ≤ old.room) old new r
+    pub left : (it : T) × becomes iter it × (old.room ≤ new.room + size (remaining it))
+    pub own : AreOwn feeds old → AreOwn feeds new

@@ -1,2 +1,37 @@
--- What the walks of a `SmallMap` hand out.
+-- What the walks of a `SmallMap` hand out, and what every walk of a list of entries promises: the list's length fits a `usize`, that
+-- many are walked, and it runs in order from either end.
 pub use Rattle.starlark_vecmap.specs.EntryList.{deref_entry}
+use Rattle.std.specs.Prelude.{◌≡◌, ℕ, ◌<◌, ◌^◌, Bool, IfSome, List, Some, length, slice_get}
+use Rattle.std.specs.Hash.{HashWrites}
+use Rattle.std.specs.Map.Iter.{deref, ShowsInOrder, ShowsInReverse, GivesInOrder, GivesInReverse}
+use Rattle.starlark_hash.specs.Hasher.{own_hash}
+use Rattle.starlark_hash.specs.declared.hash_value.StarlarkHashValue.{StarlarkHashValue}
+use Rattle.starlark_hash.specs.Entries.{Entry}
+use Rattle.starlark_hash.specs.Lookup.{found}
+use Rattle.starlark_small.specs.Lookup.{AreOwnEntries}
+
+-- a walk that lends each thing of the list, as these
+abbrev pub ShowsEach : {A B C X : Type 0} → List A → List C → (B → X) → Type 0
+ShowsEach list shown shows = (length list < 2 ^ 64) × (length shown ≡ length list) × ShowsInOrder shows × ShowsInReverse shows
+
+-- a walk that gives each thing of the list away, as these
+abbrev pub GivesEach : {A C : Type 0} → List A → List C → Type 0 → Type 0
+GivesEach list given X = (length list < 2 ^ 64) × (length given ≡ length list) × GivesInOrder X × GivesInReverse X
+
+module _ {K V : Type 0} (eq : K → K → Bool) (es : List (Entry K V)) where
+  -- where the list has each key under its own hash, this is the key's
+  abbrev pub IsOwnOf : K → StarlarkHashValue → Type 0
+  IsOwnOf key under = (feeds : K → HashWrites) → AreOwnEntries feeds es → under ≡ own_hash feeds key
+
+  -- what a look-up finds is one of these values, and each of them is found: at some key, under some hash
+  abbrev pub AreFound : List V → Type 0
+  AreFound values = ((under : StarlarkHashValue) (key : K) → IfSome (found (eq key) under es) (λ v. (place : ℕ) × (place < length values) × (slice_get values place ≡ Some v)))
+      × ((place : ℕ) → IfSome (slice_get values place) (λ v. (under : StarlarkHashValue) × (key : K) × (found (eq key) under es ≡ Some v) × IsOwnOf key under))
+
+  -- a walk that lends each value of the list, as these, which are those that look-ups find
+  abbrev pub ShowsValues : List V → Type 0
+  ShowsValues values = (length es < 2 ^ 64) × (length values ≡ length es) × ShowsInOrder (deref {X = V}) × ShowsInReverse (deref {X = V}) × AreFound values
+
+  -- a walk that gives each value of the list away
+  abbrev pub GivesValues : List V → Type 0
+  GivesValues values = (length es < 2 ^ 64) × (length values ≡ length es) × GivesInOrder V × GivesInReverse V × AreFound values

@@ -14,11 +14,11 @@ use Rattle.starlark_hash.specs.declared.no_room.NoRoom.{NoRoom}
 use Rattle.starlark_hash.specs.Entries.{entry_key, entry_value, match_of, set_value_at}
 use Rattle.starlark_hash.specs.HashValue.{hash_of, key_of}
 use Rattle.starlark_hash.specs.Hasher.{own_hash}
-use Rattle.starlark_hash.specs.Finding.{found, Writes}
-use Rattle.starlark_hash.specs.Insertion.{insert_entry}
+use Rattle.starlark_hash.specs.Lookup.{found, Writes, weight_of}
+use Rattle.starlark_hash.specs.Insert.{insert_entry}
 use Rattle.starlark_hash.proofs.EntryLemmas.{length-set_value_at}
-use Rattle.starlark_small.specs.Calling.{keys, AreOwn, total_of, weight_of}
-use Rattle.starlark_small.specs.Inserted.{IsInserted, IsRefused}
+use Rattle.starlark_small.specs.Lookup.{keys, AreOwn, total_of}
+use Rattle.starlark_small.specs.Insert.{IsInserted, IsRefused}
 use Rattle.starlark_small.specs.Map.{Map}
 use Rattle.starlark_small.specs.contracts.entry.OccupiedEntry as occupied
 use Rattle.starlark_small.specs.contracts.small_map.SmallMap.{the_row}

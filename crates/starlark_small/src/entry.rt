@@ -92,7 +92,7 @@ impl<K: Eq, V> SmallMap<K, V> {
 }
 
 impl<K: Eq, V> SmallMap<K, V> {
-    ghost use Rattle.starlark_small.specs.Lending.{lends_new};
+    ghost use Rattle.starlark_small.specs.Lend.{lends_new};
 
     // Puts a new key last under this hash, and lends its value.
     fn insert_new(&mut self, key: Hashed<K>, value: V) -> Result<&mut V, NoRoom<(Hashed<K>, V)>>

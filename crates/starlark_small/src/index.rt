@@ -4,8 +4,8 @@ ghost use Rattle.std.specs.Option.{option_map};
 ghost use Rattle.starlark_hash.specs.HashValue.{hash_number};
 ghost use Rattle.starlark_small.specs.Hashes.{cleared, forgotten, noted, reversed};
 ghost use Rattle.starlark_small.specs.Index.{IsIndexed, IsIndexedAt, index_room, unindexed};
-ghost use Rattle.starlark_small.specs.Indexing.{IsFilled, IsNotedIn, IsRenamed, MakesIndexFor, MakesIndexOf, ReservesAsItIs, ReservesIndex, ShowsTable};
-ghost use Rattle.starlark_vec2.specs.Moves.{Moves};
+ghost use Rattle.starlark_small.specs.IndexCalls.{IsFilled, IsNotedIn, IsRenamed, MakesIndexFor, MakesIndexOf, ReservesAsItIs, ReservesIndex, ShowsTable};
+ghost use Rattle.starlark_vec2.specs.Sort.{Moves};
 
 mod find;
 mod hash_table;

@@ -1,8 +1,8 @@
 //! `smallmap!`.
 ghost use Rattle.std.specs.Prelude.{◌≡◌, ◌<◌, IfOk, IsErr, IsOk, IsSome, MatchResult};
 ghost use Rattle.starlark_hash.specs.Entries.{match_of};
-ghost use Rattle.starlark_hash.specs.Insertion.{insert_entry};
-ghost use Rattle.starlark_small.specs.Inserted.{LeavesMemory};
+ghost use Rattle.starlark_hash.specs.Insert.{insert_entry};
+ghost use Rattle.starlark_small.specs.Insert.{LeavesMemory};
 ghost use Rattle.starlark_small.specs.Map.{own_hashed};
 
 use crate::SmallMap;

@@ -1,5 +1,5 @@
 //! The map. It alone sees its list of entries and their index.
-ghost use Rattle.starlark_small.specs.Making.{IsBare, MakesEmptyFor};
+ghost use Rattle.starlark_small.specs.New.{IsBare, MakesEmptyFor};
 ghost use Rattle.std.specs.Prelude.{◌≡◌, ◌-◌, ◌<◌, ◌≤◌, ◌==◌, length, is_some, IfSome, IsPermutation, IsSome};
 ghost use Rattle.starlark_small.specs.Index.{positions, unindexed};
 ghost use Rattle.starlark_table.specs.Table.{members};

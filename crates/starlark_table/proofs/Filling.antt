@@ -6,7 +6,7 @@ use Rattle.std.proofs.lemmas.List.Edits.{swap_is}
 use Rattle.std.proofs.Math.ListN.{set}
 use Rattle.std.specs.List.{swap}
 use mathlib.Core.Bool.{not}
-use Rattle.starlark_columns.specs.Places.{IsFilled, empties}
+use Rattle.starlark_columns.specs.Cells.{IsFilled, empties}
 use Rattle.starlark_table.specs.Table.{filled}
 use Rattle.starlark_table.specs.Layout.{at, slot_tag, empty_tag, IsTagged}
 use Rattle.starlark_table.proofs.Closing.{apart-by_order}

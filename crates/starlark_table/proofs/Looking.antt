@@ -5,7 +5,7 @@ use Rattle.std.specs.Fn.{CalledAt, TakesAt, Mut}
 use Rattle.std.specs.Int.Count.{count_trailing_zeros}
 use Rattle.std.proofs.lemmas.Bool.{eqb-true, false≢true}
 use Rattle.starlark_hash.specs.Search.{Searches, CanSearch}
-use Rattle.starlark_columns.specs.Places.{IsFilled}
+use Rattle.starlark_columns.specs.Cells.{IsFilled}
 use Rattle.starlark_table.specs.Table.{holders, holders_in}
 use Rattle.starlark_table.specs.Layout.{at, home, tag, tag_bits, empty_tag, InPlace, IsTagged, IsMask, BitsUpToEmpty}
 use Rattle.starlark_table.proofs.Circle.{home-below, distance-self, distance-below}

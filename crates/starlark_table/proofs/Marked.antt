@@ -1,8 +1,8 @@
 -- Slots that a walk has still to take, and the tags that tell which of them are full.
 use Rattle.std.proofs.Common.{◌≡◌, ℕ, suc, ◌+◌, ◌<◌, List, [], ◌∷◌, length, drop, Option, slice_index_or, sym, ap, ◌∙◌, subst, arith}
-use Rattle.starlark_columns.specs.Places.{IsFilled}
+use Rattle.starlark_columns.specs.Cells.{IsFilled}
 use Rattle.starlark_table.specs.Layout.{empty_tag, IsTagged}
-use Rattle.starlark_table.specs.Lent.{AreMarked, Lent}
+use Rattle.starlark_table.specs.Loan.{AreMarked, Lent}
 use Rattle.starlark_table.proofs.Filling.{filled-by_some}
 use Rattle.starlark_table.proofs.TagCount.{long_tags}
 use Rattle.starlark_table.proofs.Tagged.{full-by_tag, empty-by_tag}

@@ -9,7 +9,7 @@ use Rattle.std.proofs.lemmas.Bool.{cases_lt}
 use Rattle.std.proofs.lemmas.Option.{none-some}
 use Rattle.starlark_table.specs.Table.{Table, filled, holders, members, member_at, items_under, table_capacity, table_len, with_item, GrowsAsNeeded}
 use Rattle.starlark_table.specs.Growth.{most_for}
-use Rattle.starlark_table.specs.Written.{with_items_of}
+use Rattle.starlark_table.specs.Lend.{with_items_of}
 use Rattle.starlark_table.proofs.Path.{in_filled}
 
 module _ {T : Type 0} where

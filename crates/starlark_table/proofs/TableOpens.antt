@@ -2,7 +2,7 @@
 -- `Logic`.
 use Rattle.starlark_columns.proofs.Walking.{◌≡◌, ℕ, zero, ◌+◌, List, [], ◌∷◌, Ura, full_share, SProp, ent, sep, wand, ex, all_e, apply∗, size, align, up, ‵, raw, ◌⊛◌, some, ◌$◌, ◌∵◌, !, qed, by, move, use1, use2, split, pick, show, fsplit3, fjoin, done, Logic, sem, usize, RattleType, Denots, part_at, part_of, lone, plain_out, Plain-in, view_made, Laws, lawfuls, Member, rows_of, parts_at, shape_of, PartsBack, Struct-parts, Struct}
 use Rattle.starlark_columns.specs.contracts.column.Column.{the_row as column_row}
-use Rattle.starlark_table.specs.Sharing.{Member as MemberRow, Tags}
+use Rattle.starlark_table.specs.Lend.{Member as MemberRow, Tags}
 use Rattle.starlark_table.specs.declared.kept_hash.KeptHash as KeptHash
 use Rattle.starlark_table.specs.declared.ready_table.ReadyTable.TheInside.{Inside}
 use Rattle.starlark_table.specs.contracts.ready_table.ReadyTable as C

@@ -3,8 +3,7 @@ use Rattle.std.proofs.Common.{◌≡◌, ◌≢◌, ℕ, ◌+◌, ◌-◌, ◌<�
 use Rattle.std.proofs.lemmas.List.Sorted.{length_permutation}
 use Rattle.std.specs.Int.Count.{count_trailing_zeros}
 use Rattle.starlark_table.specs.Table.{holders, holders_in}
-use Rattle.starlark_table.specs.Layout.{home, tag, tag_bits, empty_tag, InPlace, IsFar, IsMask, IsTagged}
-use Rattle.starlark_table.specs.Vacancy.{IsVacancy}
+use Rattle.starlark_table.specs.Layout.{home, tag, tag_bits, empty_tag, InPlace, IsFar, IsMask, IsTagged, IsVacancy}
 use Rattle.starlark_table.proofs.Circle.{home-below, distance-self}
 use Rattle.starlark_table.proofs.Path.{path_from, listed}
 use Rattle.starlark_table.proofs.Tagged.{empty-by_tag}

@@ -1,6 +1,6 @@
 -- Slots whose members were written stay as they were but for these: empty, or full under their hashes.
 use Rattle.std.proofs.Common.{◌≡◌, ℕ, suc, List, [], ◌∷◌, length, Option, Some, None, refl, ap}
-use Rattle.starlark_columns.specs.Lent.{kept_places}
+use Rattle.starlark_columns.specs.Loan.{kept_places}
 use Rattle.starlark_table.proofs.Shape.{shape}
 
 module _ {T : Type 0} where

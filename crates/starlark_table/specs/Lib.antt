@@ -1,10 +1,7 @@
 pub mod Table
 pub mod Follow
 pub mod Walk
-pub mod Lends
 pub mod Growth
 pub mod Layout
-pub mod Written
-pub mod Lent
-pub mod Sharing
-pub mod Vacancy
+pub mod Lend
+pub mod Loan

@@ -1,6 +1,6 @@
 //! Where a walk over all slots stands: the full places of a window of tags that it has still to reach.
 ghost use Rattle.std.specs.Prelude.{◌≡◌, ◌≢◌, ℕ, ◌+◌, ◌<◌, ◌≤◌, ◌∷◌, None, IfSome, drop, length};
-ghost use Rattle.starlark_columns.specs.Places.{IsFilled};
+ghost use Rattle.starlark_columns.specs.Cells.{IsFilled};
 ghost use Rattle.starlark_table.specs.Layout.{at, IsTagged, LeftInWindow};
 ghost use Rattle.starlark_table.specs.Table.{filled};
 

@@ -2,7 +2,7 @@
 //! that it keeps.
 ghost use Rattle.std.specs.Prelude.{◌≡◌, ℕ, ◌+◌, ◌^◌, ◌*◌, ◌<◌, ◌≤◌, ◌++◌, None, length, IfOk, OnOk, IsPermutation, IfSome};
 ghost use Rattle.std.specs.List.{AllZip};
-ghost use Rattle.starlark_columns.specs.Places.{empties};
+ghost use Rattle.starlark_columns.specs.Cells.{empties};
 ghost use Rattle.starlark_table.specs.Table.{filled, IsSlotClone};
 ghost use Rattle.starlark_table.specs.Layout.{at, members_in, tags_of_empty, window, AreDoubled, InPlace, IsTagged, IsTaggedFrom, TellsFar};
 ghost use Rattle.starlark_table.specs.Growth.{limit, most_for};

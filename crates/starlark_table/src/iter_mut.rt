@@ -4,7 +4,7 @@ ghost use Rattle.std.specs.Iterator.{UpTo, at_most};
 ghost use Rattle.std.specs.Iterator.SizeHint.{IsWithinCount};
 ghost use Rattle.std.specs.Map.Iter.{TakesFirst};
 ghost use Rattle.starlark_table.specs.Table.{items_in};
-ghost use Rattle.starlark_table.specs.Lends.{written_through};
+ghost use Rattle.starlark_table.specs.Lend.{written_through};
 
 use crate::kept_hash::KeptHash;
 use crate::loan::Loan;

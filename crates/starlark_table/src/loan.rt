@@ -2,7 +2,7 @@
 ghost use Rattle.std.specs.Prelude.{◌≡◌, ℕ, ◌+◌, ◌<◌, ◌∷◌, length, Option};
 ghost use Rattle.std.specs.Map.Iter.{deref_pair_mut};
 ghost use Rattle.std.specs.Option.{option_copied_mut, option_map};
-ghost use Rattle.starlark_table.specs.Lent.{AreMarked};
+ghost use Rattle.starlark_table.specs.Loan.{AreMarked};
 
 use crate::kept_hash::{Kept, KeptHash};
 use crate::tags::EMPTY;
@@ -19,7 +19,7 @@ pub(crate) struct Loan<'a, T, H: KeptHash> {
 }
 
 impl<'a, T, H: KeptHash> Model for Loan<'a, T, H> {
-    ghost use Rattle.starlark_table.specs.Lent.{AreMarked, Lent, lent_code};
+    ghost use Rattle.starlark_table.specs.Loan.{AreMarked, Lent, lent_code};
 
     ghost Value = { Lent T };
 
@@ -68,7 +68,7 @@ pub(crate) struct PairLoan<'a, K, V, H: KeptHash> {
 
 impl<'a, K, V, H: KeptHash> Model for PairLoan<'a, K, V, H> {
     ghost use Rattle.std.specs.Coded.{coded×};
-    ghost use Rattle.starlark_table.specs.Lent.{AreMarked, Lent, lent_code};
+    ghost use Rattle.starlark_table.specs.Loan.{AreMarked, Lent, lent_code};
 
     ghost Value = { Lent (K × V) };
 

@@ -3,8 +3,7 @@ ghost use Rattle.std.specs.Prelude.{◌≡◌, ℕ, ◌+◌, ◌%◌, ◌<◌, �
 ghost use Rattle.std.specs.Option.{option_copied, option_map};
 ghost use Rattle.starlark_hash.specs.Search.{Searches, CanSearch};
 ghost use Rattle.starlark_table.specs.Table.{filled, holders_in};
-ghost use Rattle.starlark_table.specs.Layout.{distance, at, members_in, InPlace, IsFar, IsMask, IsNear, IsTagged, TellsFar};
-ghost use Rattle.starlark_table.specs.Vacancy.{IsVacancy};
+ghost use Rattle.starlark_table.specs.Layout.{distance, at, members_in, InPlace, IsFar, IsMask, IsNear, IsTagged, TellsFar, IsVacancy};
 
 use crate::fill::with_far;
 use crate::home::{home, window_after};

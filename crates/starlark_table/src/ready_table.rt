@@ -6,7 +6,7 @@ ghost use Rattle.std.specs.List.Retain.{RetainsInTurn};
 ghost use Rattle.starlark_hash.specs.Search.{Searches, CanSearch};
 ghost use Rattle.starlark_table.specs.Table.{members, table_capacity, table_len, member_at, item_in, items_of, items_under, GrowsAsNeeded, IsTableClone, NeedsNoMemory};
 ghost use Rattle.starlark_table.specs.Growth.{most_for};
-ghost use Rattle.starlark_table.specs.Vacancy.{IsVacancy};
+ghost use Rattle.starlark_table.specs.Layout.{IsVacancy};
 ghost use Rattle.starlark_table.specs.Walk.{CanReplace, ReplacesEach, CanRetain, AsksMember};
 
 mod iter_mut;
@@ -85,7 +85,7 @@ impl<T> ReadyTable<T> {
 }
 
 impl<T, H: KeptHash> ReadyTable<T, H> {
-    ghost use Rattle.starlark_table.specs.Lends.{lends_item, lends_get};
+    ghost use Rattle.starlark_table.specs.Lend.{lends_item, lends_get};
 
     /// As `new`, in the form in which `H` keeps hashes.
     pub fn without_slots(alloc: Global) -> ReadyTable<T, H>

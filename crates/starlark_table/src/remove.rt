@@ -1,7 +1,7 @@
 //! Removal from the slots: the members behind an emptied place move back, so that none is lost to its search.
 ghost use Rattle.std.specs.Prelude.{◌≡◌, ◌≢◌, ℕ, ◌+◌, ◌<◌, ◌≤◌, None, true, false, ◌∷◌, length, IfSome, IfNone, IsPermutation, slice_index_or, slice_set};
 ghost use Rattle.std.specs.List.{swap};
-ghost use Rattle.starlark_columns.specs.Places.{IsFilled};
+ghost use Rattle.starlark_columns.specs.Cells.{IsFilled};
 ghost use Rattle.starlark_table.specs.Table.{filled};
 ghost use Rattle.starlark_table.specs.Layout.{at, empty_tag, window, Crosses, InPlace, HasGap, IsBetweenEmpty, IsNear, IsTagged};
 ghost use Rattle.starlark_table.specs.Growth.{limit};

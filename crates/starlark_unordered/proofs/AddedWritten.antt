@@ -10,10 +10,10 @@ use Rattle.std.proofs.lemmas.Option.{none-some}
 use Rattle.starlark_hash.specs.declared.no_room.NoRoom.{NoRoom}
 use Rattle.starlark_table.specs.Table.{Table, item_in, members, table_len, GrowsAsNeeded}
 use Rattle.starlark_table.proofs.TableLemmas.{grows-alike}
-use Rattle.starlark_unordered.specs.Changing.{Adds}
+use Rattle.starlark_unordered.specs.Insert.{Adds}
 use Rattle.starlark_unordered.specs.Pairs.{pairs_of, with_value}
 use Rattle.starlark_unordered.specs.RawEntry.{IsInPlace}
-use Rattle.starlark_unordered.specs.RawLending.{IsAdded, PlacesPair}
+use Rattle.starlark_unordered.specs.Lend.{IsAdded, PlacesPair}
 use Rattle.starlark_unordered.proofs.Lists.{count-cons, count-middle, one_if}
 use Rattle.starlark_unordered.proofs.RawWritten.{value_in_place}
 

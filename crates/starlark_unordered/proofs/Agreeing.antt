@@ -9,11 +9,10 @@ use Rattle.std.specs.Iterator.{Drains, Yields}
 use Rattle.std.specs.Prelude.{◌&&◌}
 use Rattle.starlark_unordered.specs.Bag.{same_bag}
 use Rattle.starlark_unordered.specs.BagLaws.{counts_from_bag, pair_equiv}
-use Rattle.starlark_unordered.specs.Calling.{found}
-use Rattle.starlark_unordered.specs.Clone.{IsEqualClone, IsPairClone}
-use Rattle.starlark_unordered.specs.Collect.{StepsBeside}
+use Rattle.starlark_unordered.specs.Lookup.{found}
+use Rattle.starlark_hash.specs.Clone.{IsEqualClone, IsPairClone}
+use Rattle.starlark_hash.specs.Unit.{StepsBeside, same_unit, unit_equiv}
 use Rattle.starlark_unordered.specs.Pairs.{pair_eq}
-use Rattle.starlark_unordered.specs.Unit.{same_unit, unit_equiv}
 use Rattle.starlark_unordered.proofs.AddedWritten.{none_counted}
 use Rattle.starlark_unordered.proofs.Callers.{counted_found}
 use Rattle.starlark_unordered.proofs.Lists.{count-cons}

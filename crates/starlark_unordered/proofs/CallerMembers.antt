@@ -9,7 +9,8 @@ use Rattle.std.proofs.lemmas.List.Elements.{All-cons, All-tail}
 use Rattle.std.proofs.lemmas.List.Sorted.{Contains-permutation, IsPermutation-map, IsPermutation-sym}
 use Rattle.std.proofs.lemmas.Map.Views.{All-map-IsPermutation, All-values-set_value}
 use Rattle.starlark_table.specs.Table.{Table}
-use Rattle.starlark_unordered.specs.Changing.{Inserts, Removes}
+use Rattle.starlark_unordered.specs.Insert.{Inserts}
+use Rattle.starlark_unordered.specs.Remove.{Removes}
 use Rattle.starlark_unordered.specs.Pairs.{IsWithout, IsWritten, pairs_of, with_pair}
 
 -- an element after a first one

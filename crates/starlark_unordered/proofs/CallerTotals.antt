@@ -6,7 +6,8 @@ use Rattle.std.proofs.lemmas.Bool.{false≢true}
 use Rattle.std.proofs.lemmas.List.Sorted.{sum_by-IsPermutation, IsPermutation-map}
 use Rattle.std.proofs.lemmas.List.Sums.{sum_by-cons}
 use Rattle.starlark_table.specs.Table.{Table}
-use Rattle.starlark_unordered.specs.Calling.{found, total_of, weight_of}
+use Rattle.starlark_unordered.specs.Lookup.{found, total_of}
+use Rattle.starlark_hash.specs.Lookup.{weight_of}
 use Rattle.starlark_unordered.specs.Pairs.{pairs_of, with_value, IsPairAt}
 
 module _ {K V : Type 0} (measure : V → ℕ) where

@@ -17,7 +17,7 @@ use Rattle.starlark_table.proofs.TableLemmas.{grows-alike, grows-not, grows-on}
 use Rattle.starlark_unordered.specs.Pairs.{pairs_of, with_pair, with_value, HasDistinctKeys, IsPairAt, IsWithout, IsWritten}
 use Rattle.starlark_unordered.proofs.Keys.{table_len_written}
 use Rattle.starlark_unordered.proofs.Lists.{count-cons, one_if}
-use Rattle.starlark_unordered.specs.Calling.{found, Writes, Updates}
+use Rattle.starlark_unordered.specs.Lookup.{found, Writes, Updates}
 
 module _ {K V : Type 0} (t : K → Bool) where
   -- a value that is found stands beside a key that passes

@@ -5,7 +5,7 @@ use Rattle.std.specs.Cmp.{IsEquivalence}
 use Rattle.std.specs.Hash.{HashWrites}
 use Rattle.std.proofs.lemmas.List.Elements.{All-cons, All-tail, All-contains}
 use Rattle.starlark_table.specs.Table.{filled, IsSlotClone}
-use Rattle.starlark_unordered.specs.Clone.{IsEqualClone, IsLawfulClone, IsPairClone}
+use Rattle.starlark_hash.specs.Clone.{IsEqualClone, IsLawfulClone, IsPairClone}
 use Rattle.starlark_unordered.specs.Sound.{IsKeyed, keyed, home_of}
 use Rattle.starlark_unordered.proofs.Lists.{count-cons}
 

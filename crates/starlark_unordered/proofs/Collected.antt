@@ -12,7 +12,7 @@ use Rattle.std.proofs.lemmas.Bool.{cases_lt}
 use Rattle.std.proofs.lemmas.List.{length-map}
 use Rattle.starlark_table.specs.Growth.{most_for}
 use Rattle.starlark_table.specs.Table.{Table, members, table_capacity, table_len, GrowsAsNeeded}
-use Rattle.starlark_unordered.specs.Calling.{found}
+use Rattle.starlark_unordered.specs.Lookup.{found}
 use Rattle.starlark_unordered.specs.Collect.{InsertsAll}
 use Rattle.starlark_unordered.specs.Pairs.{pairs_of, with_pair, HasDistinctKeys}
 use Rattle.starlark_unordered.proofs.AddedWritten.{none_counted}

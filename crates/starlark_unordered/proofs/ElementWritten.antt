@@ -7,9 +7,9 @@ use Rattle.std.specs.declared.cmp.PartialEq as eq
 use Rattle.std.specs.declared.hash.Hash as hash
 use Rattle.starlark_table.specs.Table.{Table, item_in, member_at}
 use Rattle.starlark_unordered.specs.RawEntry.{with_key}
-use Rattle.starlark_unordered.specs.RawSet.{with_raw_element}
+use Rattle.starlark_unordered.specs.SetRawEntry.{with_raw_element}
 use Rattle.starlark_unordered.specs.Set.{Set}
-use Rattle.starlark_unordered.specs.Written.{set_same}
+use Rattle.starlark_unordered.specs.Slots.{set_same}
 use Rattle.starlark_unordered.specs.declared.unordered_set.raw_entry.RawOccupiedEntryMut.{RawOccupiedEntryMut}
 
 module _ {T : Type 0} {g : eq.Ghosts T} {h : hash.Ghosts T} (o : RawOccupiedEntryMut T g h) (element : T) where

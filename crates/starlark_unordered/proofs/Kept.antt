@@ -6,8 +6,8 @@ use Rattle.std.specs.List.Retain.{RetainsInTurn}
 use Rattle.std.specs.Map.{lookup}
 use Rattle.std.proofs.lemmas.Bool.{false≢true}
 use Rattle.std.proofs.lemmas.List.Sorted.{length_permutation, sum_by-IsPermutation}
-use Rattle.starlark_unordered.specs.Calling.{found}
-use Rattle.starlark_unordered.specs.Walk.{AsksPair}
+use Rattle.starlark_unordered.specs.Lookup.{found}
+use Rattle.starlark_unordered.specs.Retain.{AsksPair}
 use Rattle.starlark_unordered.proofs.AddedWritten.{none_counted}
 use Rattle.starlark_unordered.proofs.Callers.{counted_found}
 use Rattle.starlark_unordered.proofs.Lists.{count-cons}

@@ -6,7 +6,7 @@ use Rattle.std.specs.Borrow.{Bor, MutBor}
 use Rattle.std.proofs.lemmas.Option.{same_Some}
 use Rattle.starlark_table.specs.Table.{Table, item_in}
 use Rattle.starlark_unordered.specs.Pairs.{with_value}
-use Rattle.starlark_unordered.specs.RawLending.{IsAdded}
+use Rattle.starlark_unordered.specs.Lend.{IsAdded}
 
 -- `lent` answers where there is a place, or hands the refusal on
 abbrev pub HandsOn : {A E : Type 0} → Result ℕ E → Result A E → Type 0

@@ -3,7 +3,7 @@ use Rattle.std.proofs.Common.{◌≡◌, ℕ, List, [], ◌∷◌, Option, Some,
 use Rattle.std.specs.Hash.{HashWrites}
 use Rattle.std.specs.Prelude.{Bool}
 use Rattle.starlark_table.specs.Table.{filled}
-use Rattle.starlark_table.specs.Written.{with_values_of}
+use Rattle.starlark_table.specs.Lend.{with_values_of}
 use Rattle.starlark_unordered.specs.Sound.{IsKeyed, keyed}
 
 module _ {K V : Type 0} where

@@ -4,16 +4,12 @@ use Rattle.std.specs.Iterator.{Count, Drains, size}
 use Rattle.std.specs.Iterator.Runs.{WholeRun}
 use Rattle.std.specs.Iterator.SizeHint.{IsWithinCount}
 use Rattle.std.specs.Map.{update_all}
-use Rattle.std.specs.Option.{option_map}
 use Rattle.std.specs.Set.{is_member}
 use Rattle.starlark_table.specs.Growth.{most_for}
 use Rattle.starlark_table.specs.Table.{Table, table_len, GrowsAsNeeded}
-use Rattle.starlark_unordered.specs.Calling.{contains, get}
+use Rattle.starlark_unordered.specs.Lookup.{contains, get}
 use Rattle.starlark_unordered.specs.Pairs.{pairs_of, with_pair}
-
--- a step of an iterator that gives each item beside `()`, as a set puts it in
-abbrev pub StepsBeside : {S A : Type 0} → (S → Option A → S → Type 0) → S → Option (A × Unit {0}) → S → Type 0
-StepsBeside steps s r t = steps s (option_map (λ p. p.0) r) t
+use Rattle.starlark_hash.specs.Unit.{StepsBeside}
 
 module _ {K V : Type 0} (eq : K → K → Bool) where
   -- new is what these pairs, put in one after the other, make of old, where no order counts

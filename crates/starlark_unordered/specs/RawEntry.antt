@@ -12,9 +12,9 @@ use mir.Syntax.{named}
 use Rattle.starlark_hash.specs.declared.hash_value.StarlarkHashValue.{StarlarkHashValue}
 use Rattle.starlark_hash.specs.Search.{Searches}
 use Rattle.starlark_table.specs.Table.{Table, item_in, member_at}
-use Rattle.starlark_unordered.specs.Calling.{found, Writes}
+use Rattle.starlark_unordered.specs.Lookup.{found, Writes}
 use Rattle.starlark_unordered.specs.Pairs.{pairs_of, keys_under, with_value, IsSlotOf}
-use Rattle.starlark_unordered.specs.Written.{set_same, still_there}
+use Rattle.starlark_unordered.specs.Slots.{set_same, still_there}
 use Rattle.starlark_unordered.specs.contracts.raw_entry.RawOccupiedEntryMut as occupied
 use Rattle.starlark_unordered.specs.declared.raw_entry.RawEntryMut.{RawEntryMut}
 use Rattle.starlark_unordered.specs.declared.raw_entry.RawOccupiedEntryMut.{RawOccupiedEntryMut}
@@ -96,13 +96,13 @@ module _ {K V : Type 0} {g : eq.Ghosts K} {h : hash.Ghosts K} where
   with_raw_key o key = record { map = record o.map { now = with_key o.map.now o.slot key }; slot = o.slot; there = key_still_there o.map.now o.slot key o.there }
 
   -- the value stands in the place of the one that was there, which is answered, and all else is as it was
-  pub record ReplacesValue (value was : V) (before after : RawOccupiedEntryMut K V g h) : Type 0 where
+  pub record ReplacesRawValue (value was : V) (before after : RawOccupiedEntryMut K V g h) : Type 0 where
     pub old : option_map (λ p. p.1) (stored_raw before) ≡ Some was
     pub new : after ≡ with_raw_value before value
     pub pairs : IfSome (stored_raw before) (λ p. IsInPlace p (p.0, value) (pairs_of before.map.now) (pairs_of after.map.now))
 
   -- the same of a key
-  pub record ReplacesKey (key was : K) (before after : RawOccupiedEntryMut K V g h) : Type 0 where
+  pub record ReplacesRawKey (key was : K) (before after : RawOccupiedEntryMut K V g h) : Type 0 where
     pub old : option_map (λ p. p.0) (stored_raw before) ≡ Some was
     pub new : after ≡ with_raw_key before key
     pub pairs : IfSome (stored_raw before) (λ p. IsInPlace p (key, p.1) (pairs_of before.map.now) (pairs_of after.map.now))

@@ -3,7 +3,7 @@ ghost use Rattle.std.specs.Prelude.{◌≡◌, length};
 ghost use Rattle.std.specs.Iterator.{at_most};
 ghost use Rattle.std.specs.Map.{keys_of, values_of};
 ghost use Rattle.std.specs.Map.Iter.{TakesFirst, deref, deref_pair};
-ghost use Rattle.starlark_unordered.specs.Walk.{HintsExactly};
+ghost use Rattle.starlark_unordered.specs.Iter.{HintsExactly};
 
 use starlark_hash::StarlarkHashValue;
 use starlark_table::Iter;

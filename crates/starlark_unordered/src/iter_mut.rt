@@ -4,8 +4,8 @@ ghost use Rattle.std.specs.Prelude.{◌≡◌, length};
 ghost use Rattle.std.specs.Iterator.{at_most};
 ghost use Rattle.std.specs.Map.{values_of};
 ghost use Rattle.std.specs.Map.Iter.{TakesFirst};
-ghost use Rattle.starlark_table.specs.Lends.{written_through};
-ghost use Rattle.starlark_unordered.specs.Walk.{HintsExactly};
+ghost use Rattle.starlark_table.specs.Lend.{written_through};
+ghost use Rattle.starlark_unordered.specs.Iter.{HintsExactly};
 
 use starlark_hash::StarlarkHashValue;
 use starlark_table::PairsMut;

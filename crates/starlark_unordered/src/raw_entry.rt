@@ -7,9 +7,9 @@ ghost use Rattle.starlark_hash.specs.HashValue.{hash_of, key_of};
 ghost use Rattle.starlark_hash.specs.Hasher.{own_hash};
 ghost use Rattle.starlark_hash.specs.Search.{CanSearch};
 ghost use Rattle.starlark_table.specs.Table.{item_in};
-ghost use Rattle.starlark_unordered.specs.Changing.{TakesOut};
+ghost use Rattle.starlark_unordered.specs.Remove.{TakesOut};
 ghost use Rattle.starlark_unordered.specs.Pairs.{pairs_of, keys_under, under_own};
-ghost use Rattle.starlark_unordered.specs.RawLending.{lends_placed, LendsSlot};
+ghost use Rattle.starlark_unordered.specs.Lend.{lends_placed, LendsSlot};
 
 use crate::unordered_map::UnorderedMap;
 use starlark_hash::{HashQuery, Hashed, NoRoom, Query, StarlarkHashValue};
@@ -77,7 +77,7 @@ impl<'a, K: Eq + Hash, V> RawEntryBuilderMut<'a, K, V> {
     ghost use Rattle.starlark_unordered.specs.RawEntry.{map_of_raw, slot_of_raw, IsRawPlaceOf, NamesAccepted, NamesSlot};
 
     /// The pair of the key that the query stands for, or vacant where the map lacks it. The map is as it was.
-    #[tactic(auto, unfolding(crate::specs::Calling::found))]
+    #[tactic(auto, unfolding(crate::specs::Lookup::found))]
     #[inline]
     pub fn from_key<Q: HashQuery<K>>(self, query: Q) -> RawEntryMut<'a, K, V>
         ensures place { IsRawPlaceOf K.eq (Q.stands_for query) self.entry.map.now result }
@@ -124,12 +124,12 @@ impl<'a, K: Eq + Hash, V> RawEntryBuilderMut<'a, K, V> {
 }
 
 impl<'a, K: Eq + Hash, V> RawOccupiedEntryMut<'a, K, V> {
-    ghost use Rattle.starlark_unordered.specs.RawEntry.{raw_keeps, stored_raw, ReplacesKey, ReplacesValue};
+    ghost use Rattle.starlark_unordered.specs.RawEntry.{raw_keeps, stored_raw, ReplacesRawKey, ReplacesRawValue};
 
     /// Puts this value in the place of the one that is there, which is answered. The other pairs stay.
     #[inline]
     pub fn insert(&mut self, value: V) -> V
-        ensures replaces { ReplacesValue value result self.old self.new }
+        ensures replaces { ReplacesRawValue value result self.old self.new }
     {
         mem::replace(self.get_mut(), value)
     }
@@ -139,7 +139,7 @@ impl<'a, K: Eq + Hash, V> RawOccupiedEntryMut<'a, K, V> {
     #[inline]
     pub fn insert_key(&mut self, key: K) -> K
         requires { IfSome (stored_raw self.old) (λ p. K.eq key p.0 ≡ true) }
-        ensures replaces { ReplacesKey key result self.old self.new }
+        ensures replaces { ReplacesRawKey key result self.old self.new }
     {
         let slot = self.slot;
         self.map.replace_key(slot, key)
@@ -186,7 +186,7 @@ impl<'a, K: Eq + Hash, V> RawOccupiedEntryMut<'a, K, V> {
 }
 
 impl<'a, K: Eq + Hash, V> RawVacantEntryMut<'a, K, V> {
-    ghost use Rattle.starlark_unordered.specs.RawLending.{lends_added, LendsPair, PlacesPair};
+    ghost use Rattle.starlark_unordered.specs.Lend.{lends_added, LendsPair, PlacesPair};
 
     /// Puts a key in under its own hash, as `insert_hashed` does under one that is brought.
     pub fn insert(self, key: K, value: V) -> Result<(&'a K, &'a mut V), NoRoom<(K, V)>>

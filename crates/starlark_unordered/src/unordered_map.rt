@@ -1,7 +1,7 @@
 //! The map. It alone sees its table.
 ghost use Rattle.std.specs.Prelude.{◌≡◌, ◌==◌, length};
-ghost use Rattle.starlark_unordered.specs.Calling.{Counts};
-ghost use Rattle.starlark_unordered.specs.Changing.{IsEmptyWith, MakesEmptyFor};
+ghost use Rattle.starlark_unordered.specs.Lookup.{Counts};
+ghost use Rattle.starlark_unordered.specs.New.{IsEmptyWith, MakesEmptyFor};
 ghost use Rattle.starlark_unordered.specs.Pairs.{pairs_of};
 
 mod clone;
@@ -46,7 +46,7 @@ impl<K: Eq + Hash, V> Model for UnorderedMap<K, V> {
 
 impl<K: Eq + Hash, V> UnorderedMap<K, V> {
     /// An empty map without room. It asks for no memory before the first insertion.
-    #[tactic(auto, using(crate::proofs::Callers::callers), unfolding(crate::specs::Calling::found))]
+    #[tactic(auto, using(crate::proofs::Callers::callers), unfolding(crate::specs::Lookup::found))]
     pub fn new(alloc: Global) -> Self
         ensures made { IsEmptyWith 0 result }
     {
@@ -58,7 +58,7 @@ impl<K: Eq + Hash, V> UnorderedMap<K, V> {
 
     /// An empty map with room for so many pairs at least, and for twice as many, or 6, at most. Where memory is refused,
     /// nothing is made; capacity 0 is not refused.
-    #[tactic(auto, using(crate::proofs::Callers::callers), unfolding(crate::specs::Calling::found))]
+    #[tactic(auto, using(crate::proofs::Callers::callers), unfolding(crate::specs::Lookup::found))]
     pub fn with_capacity(alloc: Global, capacity: usize) -> Result<Self, AllocError>
         ensures makes { MakesEmptyFor capacity result }
     {

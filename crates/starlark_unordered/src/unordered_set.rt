@@ -3,11 +3,13 @@ ghost use Rattle.std.specs.Prelude.{◌≡◌, ◌==◌, ◌+◌, length, not, i
 ghost use Rattle.std.specs.Map.Iter.{deref};
 ghost use Rattle.starlark_hash.specs.HashValue.{hash_of, key_of};
 ghost use Rattle.starlark_table.specs.Table.{table_len};
-ghost use Rattle.starlark_unordered.specs.Calling.{Counts, Tells, TellsUnder};
-ghost use Rattle.starlark_unordered.specs.Changing.{Inserts, IsEmptyWith, MakesEmptyFor};
-ghost use Rattle.starlark_unordered.specs.Clone.{ClonesSet, IsEqualClone};
+ghost use Rattle.starlark_unordered.specs.Lookup.{Counts, Tells, TellsUnder};
+ghost use Rattle.starlark_unordered.specs.Insert.{Inserts};
+ghost use Rattle.starlark_unordered.specs.New.{IsEmptyWith, MakesEmptyFor};
+ghost use Rattle.starlark_unordered.specs.Clone.{ClonesSet};
+ghost use Rattle.starlark_hash.specs.Clone.{IsEqualClone};
 ghost use Rattle.starlark_unordered.specs.Pairs.{pairs_of};
-ghost use Rattle.starlark_unordered.specs.Walk.{ShowsSorted};
+ghost use Rattle.starlark_unordered.specs.Iter.{ShowsSorted};
 
 mod collect;
 mod compare;

@@ -1,6 +1,6 @@
 //! An iterator's items, each beside `()`, as a map takes them whose keys are a set's elements.
 ghost use Rattle.std.specs.Prelude.{◌≡◌};
-ghost use Rattle.starlark_unordered.specs.Collect.{StepsBeside};
+ghost use Rattle.starlark_hash.specs.Unit.{StepsBeside};
 
 use std::marker::Model;
 

@@ -2,9 +2,9 @@
 use Rattle.std.proofs.Common.{ℕ}
 use Rattle.std.specs.Cmp.{IsEquivalence, nat_eq_equiv, on_equiv}
 use Rattle.std.specs.Prelude.{IsPermutation}
-use Rattle.starlark_sets.specs.OrderedLaws.{same_order_equiv}
+use Rattle.starlark_sets.specs.CompareLaws.{same_order_equiv}
 use Rattle.starlark_sets.specs.Set.{Set}
-use Rattle.starlark_sets.specs.Unit.{unit_equiv}
+use Rattle.starlark_hash.specs.Unit.{unit_equiv}
 use Rattle.starlark_unordered.specs.Pairs.{pairs_of, with_pair, HasDistinctKeys}
 use Rattle.starlark_unordered.proofs.Callers.{lookup-inserted}
 use Rattle.starlark_uses.specs.Cache.{Answers, Caches, set_eq}

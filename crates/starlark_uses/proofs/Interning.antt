@@ -19,9 +19,9 @@ use Rattle.starlark_hash.specs.Entries.{Entry, entry_hash, entry_key, position_o
 use Rattle.starlark_hash.specs.Hasher.{own_hash}
 use Rattle.starlark_hash.specs.HashValue.{hash_number, hashed}
 use Rattle.starlark_hash.proofs.PositionLemmas.{position-cons}
-use Rattle.starlark_sets.specs.Set.{AddsFor, Elements, Set}
-use Rattle.starlark_small.proofs.CallerPositions.{found_before, pushed_first, pushed_other}
-use Rattle.starlark_small.proofs.CallerKeys.{and_false}
+use Rattle.starlark_sets.specs.Insert.{AddsFor}
+use Rattle.starlark_sets.specs.Set.{Elements, Set}
+use Rattle.starlark_small.proofs.CallerLookup.{found_before, pushed_first, pushed_other, and_false}
 use Rattle.starlark_uses.specs.Interned.{HasNumbers, Texts, number_of, text_of, texts_in}
 
 abbrev pub Strings : Type 0

@@ -11,9 +11,9 @@ use Rattle.std.proofs.lemmas.Bool.{false≢true}
 use Rattle.std.proofs.lemmas.List.{length_push}
 use Rattle.std.proofs.lemmas.List.Sums.{sum_by_push}
 use Rattle.starlark_hash.specs.Hasher.{own_hash}
-use Rattle.starlark_hash.specs.Finding.{found}
-use Rattle.starlark_hash.specs.Insertion.{insert_entry}
-use Rattle.starlark_small.specs.Calling.{IsEmpty, get_text}
+use Rattle.starlark_hash.specs.Lookup.{found}
+use Rattle.starlark_hash.specs.Insert.{insert_entry}
+use Rattle.starlark_small.specs.Lookup.{IsEmpty, get_text}
 use Rattle.starlark_small.specs.Map.{own_hashed}
 use Rattle.starlark_uses.specs.Bindings.{bound}
 use Rattle.starlark_uses.proofs.Bound.{bound-assigned, bound-assigned_other}

@@ -3,10 +3,10 @@ use Rattle.std.specs.Map.{lookup}
 use Rattle.std.specs.Ordering.{on}
 use Rattle.std.specs.Prelude.{◌≡◌, ℕ, Bool, Option, Some, nat_eq, if◌then◌else◌}
 use Rattle.starlark_sets.specs.Set.{Set}
-use Rattle.starlark_sets.specs.Unit.{same_unit}
+use Rattle.starlark_hash.specs.Unit.{same_unit}
 use Rattle.starlark_table.specs.Table.{Table}
 use Rattle.starlark_unordered.specs.Pairs.{pairs_of}
-use Rattle.starlark_hash.specs.Ordered.{same_ordered}
+use Rattle.starlark_hash.specs.Compare.{same_ordered}
 
 -- the table of a cache: sets, each with its answer
 abbrev pub Answers : Type 0 → Type 0

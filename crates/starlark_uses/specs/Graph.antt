@@ -4,7 +4,7 @@ use Rattle.std.specs.Global.{Vec}
 use Rattle.std.specs.Hash as fed
 use Rattle.std.specs.Option.{option_map, option_map_or}
 use Rattle.starlark_hash.specs.Entries.{entry_value}
-use Rattle.starlark_small.specs.Calling.{get}
+use Rattle.starlark_small.specs.Lookup.{get}
 use Rattle.starlark_small.specs.Map.{Map, own_match}
 
 -- each target with those that it is built from, in the order of their declarations

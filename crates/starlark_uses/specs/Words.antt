@@ -5,7 +5,7 @@ use Rattle.std.specs.Option.{unwrap_or}
 use Rattle.std.specs.Str.{bytes_eq, NoCharPasses, EmptyOrStartsWithPassing}
 use Rattle.std.specs.declared.alloc.Global.{Global}
 use Rattle.std.specs.declared.string.String.{String}
-use Rattle.starlark_small.specs.Calling.{get_text}
+use Rattle.starlark_small.specs.Lookup.{get_text}
 use Rattle.starlark_small.specs.Map.{Map}
 
 -- a number under each string

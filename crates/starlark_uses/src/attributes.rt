@@ -6,7 +6,7 @@ ghost use Rattle.std.specs.Str.{bytes_eq};
 ghost use Rattle.std.specs.Hash as fed;
 ghost use Rattle.std.specs.declared.alloc.Global.{Global};
 ghost use Rattle.std.specs.declared.string.String.{String};
-ghost use Rattle.starlark_small.specs.Calling.{contains_text, get, get_text, keys};
+ghost use Rattle.starlark_small.specs.Lookup.{contains_text, get, get_text, keys};
 
 use starlark_small::SmallMap;
 

@@ -6,7 +6,7 @@ ghost use Rattle.std.specs.List.{enumerate_from, list_all};
 ghost use Rattle.std.specs.Option.{is_some, option_map};
 ghost use Rattle.std.specs.Prelude.{◌≡◌, ◌↔◌, ℕ, ◌++◌, [], ◌∷◌, map, nat_eq, true, None, Some, IsSome, IsTrue, IfErr, IfOk, OnOk, OnErr, if◌then◌else◌};
 ghost use Rattle.starlark_hash.specs.Entries.{entry_value};
-ghost use Rattle.starlark_small.specs.Calling.{get, keys};
+ghost use Rattle.starlark_small.specs.Lookup.{get, keys};
 ghost use Rattle.starlark_uses.specs.Graph.{IsOrdered, built_from, is_before};
 
 use starlark_hash::NoRoom;

@@ -1,7 +1,7 @@
 //! The least number that is free: sets of those in use, as of slots and of registers.
 ghost use Rattle.std.specs.Hash as fed;
 ghost use Rattle.std.specs.Prelude.{◌≡◌, ℕ, ◌<◌, nat_eq, false, true, IfNone, IfSome};
-ghost use Rattle.starlark_small.specs.Calling.{contains};
+ghost use Rattle.starlark_small.specs.Lookup.{contains};
 
 use starlark_sets::SmallSet;
 

@@ -8,8 +8,8 @@ ghost use Rattle.std.specs.Option.{option_map};
 ghost use Rattle.std.specs.Prelude.{ℕ, ◌≡◌, ◌≤◌, All, None, OnOk, Some, length, map, nat_eq, remove, slice_get, true};
 ghost use Rattle.std.specs.String.{string_bytes};
 ghost use Rattle.starlark_hash.specs.Entries.{entry_value, pair_of};
-ghost use Rattle.starlark_small.specs.Calling.{contains_text, get, get_text, keys};
-ghost use Rattle.starlark_unordered.specs.Calling as unordered;
+ghost use Rattle.starlark_small.specs.Lookup.{contains_text, get, get_text, keys};
+ghost use Rattle.starlark_unordered.specs.Lookup as unordered;
 ghost use Rattle.starlark_unordered.specs.Pairs.{pairs_of};
 
 use starlark_hash::NoRoom;

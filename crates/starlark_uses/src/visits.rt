@@ -6,7 +6,7 @@ ghost use Rattle.std.specs.Option.{is_some};
 ghost use Rattle.std.specs.Prelude.{◌≡◌, ◌+◌, ◌++◌, [], ◌∷◌, nat_eq, length, false, true, None, Some, IfErr, OnOk, OnErr, if◌then◌else◌};
 ghost use Rattle.std.specs.String.{string_bytes, string_eq};
 ghost use Rattle.starlark_hash.specs.Entries.{without};
-ghost use Rattle.starlark_small.specs.Calling.{get, keys, Updates};
+ghost use Rattle.starlark_small.specs.Lookup.{get, keys, Updates};
 ghost use Rattle.starlark_small.specs.Map.{own_match};
 
 use starlark_hash::NoRoom;

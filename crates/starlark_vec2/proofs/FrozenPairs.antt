@@ -7,10 +7,10 @@ use Rattle.starlark_columns.proofs.Walking.{◌≡◌, refl, sym, ap, subst, ◌
 use types.Follow.{after}
 use denote.Struct.Declared.{shape}
 use Rattle.std.specs.Prelude.{Option}
-use Rattle.starlark_columns.specs.Places.{items_of}
+use Rattle.starlark_columns.specs.Cells.{items_of}
 use Rattle.starlark_columns.specs.Front.{IsFront, with_items}
 use Rattle.starlark_columns.proofs.Fronts.{all_written}
-use Rattle.starlark_vec2.specs.Frozen.{with_seconds, Pair, Kept, KeptRun, lent_one, lent_run, IsEnd, TakesEnd}
+use Rattle.starlark_vec2.specs.Loan.{with_seconds, Pair, Kept, KeptRun, lent_one, lent_run, IsEnd, TakesEnd}
 
 -- a list that is not empty, cut behind its first item, and before its last
 parted : {T : Type 0} (xs : List T) → 0 < length xs → (y : T) × (ys : List T) × (xs ≡ y ∷ ys)

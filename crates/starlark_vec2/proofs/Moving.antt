@@ -9,9 +9,8 @@ use Rattle.std.proofs.lemmas.List.FromFn.{get_or-range_with_len, length-range_wi
 use Rattle.std.proofs.lemmas.List.Sorted.{IsPermutation-map, IsPermutation-sym, length_permutation, Contains-permutation}
 use Rattle.std.specs.Option.{option_map}
 use Rattle.std.proofs.lemmas.Option.{get_or_from_slice_get, slice_get-map}
-use Rattle.starlark_hash.specs.Sorting.{sorted_by}
-use Rattle.starlark_vec2.specs.Moves.{Moves}
-use Rattle.starlark_vec2.specs.Positions.{PutsInOrder}
+use Rattle.starlark_hash.specs.Sort.{sorted_by}
+use Rattle.starlark_vec2.specs.Sort.{Moves, PutsInOrder}
 use Rattle.starlark_vec2.proofs.OneSortedList.{sorted_by-unique, sorted_by-map}
 use Rattle.starlark_vec2.proofs.Placing.{Spread}
 use Rattle.starlark_vec2.proofs.Positions.{PutsInOrder-from_places, IsPermutation-from_order}

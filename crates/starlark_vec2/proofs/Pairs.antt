@@ -4,8 +4,8 @@ use Rattle.std.proofs.lemmas.List.{reverse-append, length-reverse}
 use Rattle.std.specs.List.{AllZip}
 use Rattle.std.specs.Cmp.Lexicographic.{pointwise}
 use Rattle.starlark_vec2.specs.PairList.{firsts_of, seconds_of}
-use Rattle.starlark_vec2.specs.Collect.{IsPairClone}
-use Rattle.starlark_vec2.specs.Lending.{set_first_at}
+use Rattle.starlark_hash.specs.Clone.{IsPairClone}
+use Rattle.starlark_vec2.specs.Lend.{set_first_at}
 
 module _ {A B : Type 0} where
   pub length-zip : (xs : List A) (ys : List B) → length xs ≡ length ys → length (zip xs ys) ≡ length xs

@@ -8,7 +8,7 @@ use Rattle.std.proofs.lemmas.List.{length-set}
 use Rattle.std.proofs.lemmas.List.Edits.{Swapped, swapped_from_swap, swap_is, length-swap}
 use Rattle.std.proofs.lemmas.List.FromFn.{get_or-range_with_len, length-range_with_len}
 use Rattle.std.proofs.lemmas.List.Sorted.{IsPermutation-keeps}
-use Rattle.starlark_vec2.specs.Positions.{PutsInOrder}
+use Rattle.starlark_vec2.specs.Sort.{PutsInOrder}
 use Rattle.starlark_vec2.proofs.Pairs.{zip-set}
 use Rattle.starlark_vec2.proofs.Positions.{PutsInOrder-from_places}
 

@@ -12,9 +12,8 @@ use Rattle.std.proofs.lemmas.List.{map-id}
 use Rattle.std.proofs.lemmas.List.FromFn.{get_or-range_with_len, length-range_with_len, map-range_with_len_more}
 use Rattle.std.proofs.lemmas.List.Sorted.{IsPermutation-map, IsPermutation-refl, length_permutation}
 use Rattle.std.proofs.lemmas.Option.{slice_get-get_or, slice_get_within, get_or_from_slice_get}
-use Rattle.starlark_hash.specs.Sorting.{sorted_by}
-use Rattle.starlark_vec2.specs.Sort.{PairRef, ComparesPairs, CanCompare, ComparesPairsAs}
-use Rattle.starlark_vec2.specs.Positions.{option_lt, lt_at, PutsInOrder, ComparesOptions, ComparesAt}
+use Rattle.starlark_hash.specs.Sort.{sorted_by}
+use Rattle.starlark_vec2.specs.Sort.{PairRef, ComparesPairs, CanCompare, ComparesPairsAs, option_lt, lt_at, PutsInOrder, ComparesOptions, ComparesAt}
 use Rattle.starlark_vec2.proofs.OneSortedList.{sorted_by-unique, sorted_by-map}
 
 module _ {X : Type 0} where

@@ -5,14 +5,14 @@ use Rattle.std.specs.List.{refill}
 use Rattle.std.specs.declared.alloc.Global.{Global}
 use Rattle.starlark_columns.specs.Block.{IsBlockOf}
 use Rattle.starlark_columns.specs.declared.row.Row.{Row}
-use Rattle.starlark_columns.specs.Places.{items_of}
+use Rattle.starlark_columns.specs.Cells.{items_of}
 use Rattle.starlark_columns.specs.declared.block.PairClaim.{PairClaim}
 use Rattle.starlark_columns.specs.Front.{with_items}
 use Rattle.starlark_columns.specs.Between.{IsBetween}
 use Rattle.starlark_columns.proofs.Fronts.{written_front, written_items, written_places, set_front, all_written}
 use Rattle.starlark_vec2.specs.Columns.{AreColumns}
 use Rattle.starlark_vec2.specs.PairList.{PairList, pair_list, with_pairs, firsts_of}
-use Rattle.starlark_vec2.specs.Lending.{with_pair, set_firsts, set_first_at}
+use Rattle.starlark_vec2.specs.Lend.{with_pair, set_firsts, set_first_at}
 use Rattle.starlark_vec2.proofs.Pairs.{length-zip, firsts_of-zip, seconds_of-zip, zip-set_first, zip-set}
 
 module _ {A B : Type 0} where

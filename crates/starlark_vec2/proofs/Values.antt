@@ -1,8 +1,8 @@
 -- Pairs of which the values were written: the keys, and what stands beside each pair, are their own.
 use Rattle.std.proofs.Common.{◌≡◌, suc, List, [], ◌∷◌, ◌++◌, length, zip, refl, ap}
 use Rattle.std.specs.Map.{values_of}
-use Rattle.starlark_vec2.specs.Frozen.{with_seconds}
-use Rattle.starlark_vec2.specs.Lending.{with_values}
+use Rattle.starlark_vec2.specs.Loan.{with_seconds}
+use Rattle.starlark_vec2.specs.Lend.{with_values}
 use Rattle.starlark_vec2.specs.PairList.{firsts_of}
 
 module _ {K V B : Type 0} where

@@ -3,11 +3,11 @@ use Rattle.starlark_columns.proofs.Walking.{◌≡◌, refl, ℕ, zero, ◌+◌,
 use Rattle.std.specs.contracts.alloc.Global as heap
 use denote.RawPtr.{InBlock, block_ptr, block_of, count_of}
 use Rattle.starlark_columns.specs.Block.{IsBehind}
-use Rattle.starlark_columns.specs.Paired.{behind as starts}
+use Rattle.starlark_columns.specs.Pair.{behind as starts}
 use Rattle.starlark_columns.specs.contracts.block.PairClaim as claim
 use Rattle.starlark_columns.specs.contracts.block.Spot as spot
 use Rattle.starlark_columns.proofs.Addresses.{words, spot_made, spot_told}
-use Rattle.starlark_vec2.specs.ColumnLending.{column}
+use Rattle.starlark_vec2.specs.Columns.{column}
 use Rattle.starlark_vec2.specs.declared.vec2.Vec2.TheInside.{Inside}
 use Rattle.starlark_vec2.specs.contracts.vec2.Vec2 as C
 use Rattle.starlark_vec2.specs.contracts.vec2.Vec2.TheInside as I

@@ -3,7 +3,7 @@ use Rattle.std.proofs.Common.{◌≡◌, List, zip, subst, ◌∙◌}
 use Rattle.std.specs.Iterator.Runs.{ItemsMapTo, ItemsMapToReversed}
 use Rattle.std_collections.proofs.IterRuns.{shows_in_order, shows_in_reverse}
 use Rattle.starlark_vec2.specs.PairList.{firsts_of, seconds_of}
-use Rattle.starlark_vec2.specs.Walks.{WalkShows, WalkShowsBack}
+use Rattle.starlark_vec2.specs.Iter.{WalkShows, WalkShowsBack}
 use Rattle.starlark_vec2.proofs.Pairs.{zip-parts}
 
 module _ {A X : Type 0} (shows : A → X) (walk list : List X) (left : walk ≡ list) where

@@ -1,4 +1,4 @@
--- Lists of pairs made of an iterator's items, and of clones.
+-- Lists of pairs made of an iterator's items.
 use Rattle.std.specs.Prelude.{◌≡◌, ◌<◌, ◌-◌, ℕ, List, length, [], Option, MatchResult, Result}
 use Rattle.std.specs.Iterator.{Count, Drains, Yields, size}
 use Rattle.std.specs.Iterator.SizeHint.{IsWithinCount}
@@ -25,12 +25,3 @@ module _ {U T A B : Type 0} (becomes : U → T → Type 0) (remaining : T → Co
   -- the iterator may give more items than find room without growth
   abbrev pub MayExceedRoom : PairList A B → Type 0
   MayExceedRoom v = (it : T) × becomes iter it × (v.capacity - length v.pairs < size (remaining it))
-
-module _ {A B : Type 0} where
-  -- both parts of the second pair are clones of the first's
-  abbrev pub IsPairClone : (A → A → Type 0) → (B → B → Type 0) → A × B → A × B → Type 0
-  IsPairClone first second p q = first p.0 q.0 × second p.1 q.1
-
--- a clone is its original's value in all parts
-abbrev pub IsLawfulClone : {T : Type 0} → (T → T → Type 0) → Type 0
-IsLawfulClone {T} is_clone = (x y : T) → is_clone x y → y ≡ x

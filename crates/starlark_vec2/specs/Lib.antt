@@ -3,11 +3,8 @@ pub mod Growth
 pub mod Columns
 pub mod Retain
 pub mod Sort
-pub mod Positions
-pub mod Moves
-pub mod Lending
+pub mod Lend
 pub mod Collect
-pub mod ColumnLending
-pub mod Frozen
-pub mod Walks
+pub mod Loan
+pub mod Iter
 pub mod formers

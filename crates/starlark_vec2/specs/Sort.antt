@@ -1,13 +1,22 @@
--- Comparators of pairs, and what a sort by one leaves.
-use Rattle.std.specs.Prelude.{◌≡◌, ℕ, Bool, List, Contains}
+-- Comparators of pairs, what a sort by one leaves, and where the items went. `Moves`, `Sorts` and what they stand on are public;
+-- what is said of positions is for the sort by them alone.
+use Rattle.std.specs.Prelude.{◌≡◌, ℕ, List, Some, map, length, slice_get, IsPermutation, Bool, Contains, true, false, Option, None}
+use Rattle.std.specs.List.{range_with_len, FoldsTo}
 use Rattle.std.specs.Borrow.{Bor}
-use Rattle.std.specs.List.{FoldsTo}
 use Rattle.std.specs.Fn.{Mut, Takes, Called, AlwaysReturns, ComparesAs}
 use Rattle.std.specs.Cmp.{IsStrictWeakOrder}
 use Rattle.std.specs.Ordering.{is_lt}
 use Rattle.std.specs.Map.Iter.{deref_pair}
 use Rattle.std.specs.declared.cmp.Ordering.{Ordering}
-use Rattle.starlark_hash.specs.Sorting.{sorted_by}
+use Rattle.starlark_hash.specs.Sort.{sorted_by}
+use Rattle.std.specs.List.Sorted.{IsSortedBy, IsStableBy}
+use Rattle.std.specs.declared.cmp.Ordering.TheVariants.{Less, Equal}
+
+module _ {X : Type 0} where
+  -- `to` names for each place of xs the place of ys where its item stands, and each place of ys once
+  pub record Moves (xs : List X) (to : List ℕ) (ys : List X) : Type 0 where
+    pub once : IsPermutation (range_with_len 0 (length ys)) to
+    pub items : map Some xs ≡ map (slice_get ys) to
 
 -- references to both parts of a pair
 abbrev pub PairRef : Type 0 → Type 0 → Type 0
@@ -54,3 +63,33 @@ module _ {F X : Type 0} (g : Mut F (Bor (ℕ × X) × (Bor (ℕ × X) × Unit {0
   -- where f answers by one strict weak order of all items, whatever numbers stand before them, ys is `sorted_by` it
   abbrev pub SortsNumbered : F → List X → List X → Type 0
   SortsNumbered f xs ys = (lt : X → X → Bool) → IsStrictWeakOrder lt → ComparesAs g (λ d e. lt d.1 e.1) f → ys ≡ sorted_by lt xs
+
+-- the order lt, where what is not there comes last
+abbrev pub option_lt : {X : Type 0} → (X → X → Bool) → Option X → Option X → Bool
+option_lt lt (Some x) (Some y) = lt x y
+option_lt lt (Some x) None = true
+option_lt lt None o = false
+
+-- the order lt of what stands at two positions
+abbrev pub lt_at : {X : Type 0} → (X → X → Bool) → List X → ℕ → ℕ → Bool
+lt_at lt xs i j = option_lt lt (slice_get xs i) (slice_get xs j)
+
+-- ys has at each place the item of xs whose position stands there in the order
+abbrev pub PutsInOrder : {X : Type 0} → List X → List ℕ → List X → Type 0
+PutsInOrder xs order ys = map Some ys ≡ map (slice_get xs) order
+
+module _ {F A B : Type 0} (g : Mut F (PairRef A B × (PairRef A B × Unit {0})) Ordering) where
+  -- where both are there a call of f compares them; what is not there comes last
+  abbrev pub ComparesOptions : F → Option (A × B) → Option (A × B) → Ordering → F → Type 0
+  ComparesOptions f (Some x) (Some y) r f2 = ComparesPairs g f x y r f2
+  ComparesOptions f (Some x) None r f2 = (r ≡ Less) × (f2 ≡ f)
+  ComparesOptions f None o r f2 = (r ≡ Equal) × (f2 ≡ f)
+
+  -- a call of f compares what stands at two places
+  abbrev pub ComparesAt : List (A × B) → F → ℕ → ℕ → Ordering → F → Type 0
+  ComparesAt ps f i j r f2 = ComparesOptions f (slice_get ps i) (slice_get ps j) r f2
+
+  -- the positions of ps stand in ascending order of what is there, ties in theirs, where f answers by one order of all pairs
+  abbrev pub SortsPositions : F → List (A × B) → List ℕ → Type 0
+  SortsPositions f ps order = (lt : A × B → A × B → Bool) → IsStrictWeakOrder lt → ComparesPairsAs g lt f
+      → IsSortedBy (lt_at lt ps) order × IsStableBy (lt_at lt ps) (range_with_len 0 (length ps)) order

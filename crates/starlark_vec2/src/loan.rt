@@ -5,9 +5,9 @@ ghost use Rattle.starlark_columns.specs.Block.{IsBehind};
 ghost use Rattle.std.specs.Borrow.{GName, sem};
 ghost use Rattle.std.specs.Map.Iter.{deref_pair_mut};
 ghost use Rattle.starlark_columns.specs.Front.{IsFront};
-ghost use Rattle.starlark_columns.specs.Lends.{lends_front};
-ghost use Rattle.starlark_columns.specs.Places.{items_of};
-ghost use Rattle.starlark_vec2.specs.Frozen.{pairs_follow, frozen, IsEnd, TakesEnd};
+ghost use Rattle.starlark_columns.specs.Lend.{lends_front};
+ghost use Rattle.starlark_columns.specs.Cells.{items_of};
+ghost use Rattle.starlark_vec2.specs.Loan.{pairs_follow, frozen, IsEnd, TakesEnd};
 
 use starlark_columns::pair::second_at;
 use starlark_columns::{Address, Row, Spot};

@@ -4,7 +4,7 @@ ghost use Rattle.std.specs.Iterator.{UpTo, at_most};
 ghost use Rattle.std.specs.Iterator.SizeHint.{IsWithinCount};
 ghost use Rattle.std.specs.Map.{values_of};
 ghost use Rattle.std.specs.Map.Iter.{TakesFirst, TakesLast};
-ghost use Rattle.starlark_vec2.specs.Frozen.{deref_mut};
+ghost use Rattle.starlark_vec2.specs.Loan.{deref_mut};
 
 use crate::pairs_mut::PairsMut;
 use std::iter::FusedIterator;

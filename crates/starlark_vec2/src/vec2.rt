@@ -5,7 +5,7 @@ ghost use Rattle.std.specs.Map.Iter.{TakesLast, deref_pair};
 ghost use Rattle.starlark_vec2.specs.Growth as after;
 ghost use Rattle.starlark_vec2.specs.PairList.{pair_list, firsts_of, seconds_of, with_pairs};
 ghost use Rattle.starlark_vec2.specs.Growth.{reserved_capacity};
-ghost use Rattle.starlark_vec2.specs.Walks.{WalkShows, WalkShowsBack};
+ghost use Rattle.starlark_vec2.specs.Iter.{WalkShows, WalkShowsBack};
 
 mod collect;
 mod compare;
@@ -46,7 +46,7 @@ pub struct Vec2<A, B> {
 impl<A, B> Model for Vec2<A, B> {
     ghost use Rattle.std.specs.Prelude.{length, zip};
     ghost use Rattle.starlark_columns.specs.Block.{IsBlockOf, IsSpotOf};
-    ghost use Rattle.starlark_columns.specs.Places.{items_of};
+    ghost use Rattle.starlark_columns.specs.Cells.{items_of};
     ghost use Rattle.starlark_vec2.specs.PairList.{PairList, pair_list};
     ghost use Rattle.starlark_vec2.specs.Columns.{AreColumns};
 

@@ -2,7 +2,7 @@
 use Rattle.std.proofs.Common.{◌≡◌, ℕ, zero, suc, List, [], ◌∷◌, map, slice_get, Some, refl, ap}
 use Rattle.starlark_hash.specs.Entries.{set_value_at}
 use Rattle.starlark_vec2.specs.PairList.{firsts_of, seconds_of}
-use Rattle.starlark_vec2.specs.Lending.{set_first_at}
+use Rattle.starlark_vec2.specs.Lend.{set_first_at}
 use Rattle.starlark_vecmap.specs.EntryList.{entry_of}
 
 module _ {K V : Type 0} where

@@ -8,12 +8,11 @@ use Rattle.std.specs.Cmp.Lexicographic.{pointwise}
 use Rattle.std.proofs.lemmas.List.{get_or-map, length-map}
 use Rattle.starlark_hash.specs.HashValue.{hash_value}
 use Rattle.starlark_hash.specs.Entries.{Entry, entry_key, pair_of}
-use Rattle.starlark_hash.specs.Sorting.{Ascends}
+use Rattle.starlark_hash.specs.Sort.{Ascends}
 use Rattle.starlark_vec2.specs.PairList.{firsts_of, seconds_of}
-use Rattle.starlark_vec2.specs.Collect.{IsPairClone}
+use Rattle.starlark_hash.specs.Clone.{IsPairClone, IsEntryClone}
 use Rattle.starlark_vecmap.specs.EntryList.{entry_of}
-use Rattle.starlark_hash.specs.Ordered.{same_ordered}
-use Rattle.starlark_hash.specs.Clone.{IsEntryClone}
+use Rattle.starlark_hash.specs.Compare.{same_ordered}
 
 -- an answer that stands for a fact stands for what is equivalent to it
 MatchBool-both : {P Q : Type 0} → (b : Bool) → (P → Q) → (Q → P) → MatchBool b P (P → ⊥) → MatchBool b Q (Q → ⊥)

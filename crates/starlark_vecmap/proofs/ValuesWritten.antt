@@ -2,7 +2,7 @@
 use Rattle.std.proofs.Common.{◌≡◌, ℕ, suc, List, [], ◌∷◌, map, length, refl, ap}
 use Rattle.std.proofs.lemmas.List.{length-map}
 use Rattle.starlark_hash.specs.Entries.{Entry, entry_hash, entry_key, pair_of}
-use Rattle.starlark_vec2.specs.Lending as pairs
+use Rattle.starlark_vec2.specs.Lend as pairs
 use Rattle.starlark_vecmap.specs.EntryList.{entry_of, with_values}
 use Rattle.starlark_vecmap.proofs.Views.{values_of-pair_of}
 

@@ -1,6 +1,6 @@
 -- A `VecMap` in memory is its columns and the rest, and back, at any columns. Assumes `Logic`.
 use Rattle.starlark_columns.proofs.Walking.{◌≡◌, ℕ, zero, ◌+◌, List, [], ◌∷◌, Ura, full_share, SProp, ent, sep, wand, ex, all_e, apply∗, size, align, up, ‵, raw, ◌⊛◌, some, ◌$◌, ◌∵◌, !, qed, by, move, use1, use2, split, pick, show, fsplit, fjoin, done, Logic, sem, u32, RattleType, Denots, part_at, part_of, lone, plain_out, Plain-in, view_made, Laws, lawfuls, Member, rows_of, parts_at, shape_of, PartsBack, Struct-parts, Struct}
-use Rattle.starlark_vec2.specs.Frozen.{Pair}
+use Rattle.starlark_vec2.specs.Loan.{Pair}
 use Rattle.starlark_vec2.specs.contracts.vec2.Vec2 as part
 use Rattle.starlark_vecmap.specs.declared.vec_map.VecMap.TheInside.{Inside}
 use Rattle.starlark_vecmap.specs.contracts.vec_map.VecMap as C

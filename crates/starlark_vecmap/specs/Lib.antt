@@ -1,4 +1,4 @@
-pub mod Ascent
+pub mod Sort
 pub mod EntryList
-pub mod Lending
+pub mod Lend
 pub mod formers

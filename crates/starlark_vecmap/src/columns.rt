@@ -1,9 +1,9 @@
 //! What a vector map does to its two columns: pairs of a key and a value, and the hash of each.
 ghost use Rattle.std.specs.Prelude.{◌≡◌, ◌+◌, ◌<◌, ◌≤◌, length, fold, MatchBool, IsSortedByKey};
 ghost use Rattle.starlark_hash.specs.Search.{Asks, CanSearch, keys_under};
-ghost use Rattle.starlark_vecmap.specs.Ascent.{TellsAscent};
+ghost use Rattle.starlark_vecmap.specs.Sort.{TellsAscent};
 ghost use Rattle.starlark_vecmap.specs.EntryList.{entries_in};
-ghost use Rattle.starlark_hash.specs.Ordered.{ordered_feed};
+ghost use Rattle.starlark_hash.specs.Compare.{ordered_feed};
 
 use crate::hash_search::{BLOCK, find_hash_from, places_of};
 use starlark_hash::StarlarkHashValue;

@@ -1,8 +1,8 @@
 //! Callers that look the entry of a `SmallMap` up under a key, which it may have or lack, and let it go.
 ghost use Rattle.std.specs.Prelude.{◌≡◌, ◌↔◌, is_some, Some, None, IfErr, IfOk, IsSome, IsTrue, OnErr, OnOk};
 ghost use Rattle.starlark_hash.specs.Entries.{match_of, value_at};
-ghost use Rattle.starlark_callers.specs.Lending.{with_value_under};
-ghost use Rattle.starlark_small.specs.Inserted.{IsInserted, IsRefused};
+ghost use Rattle.starlark_callers.specs.Lend.{with_value_under};
+ghost use Rattle.starlark_small.specs.Insert.{IsInserted, IsRefused};
 ghost use Rattle.starlark_small.specs.Map.{own_hashed};
 
 use crate::lent::put::put;

@@ -2,8 +2,8 @@
 ghost use Rattle.std.specs.Prelude.{◌≡◌, None, IfOk, IfErr, OnOk, OnErr};
 ghost use Rattle.std.specs.Borrow.{sem};
 ghost use Rattle.starlark_hash.specs.Entries.{match_of};
-ghost use Rattle.starlark_small.specs.Inserted.{IsInserted, IsRefused};
-ghost use Rattle.starlark_small.specs.Lending.{lends_new};
+ghost use Rattle.starlark_small.specs.Insert.{IsInserted, IsRefused};
+ghost use Rattle.starlark_small.specs.Lend.{lends_new};
 ghost use Rattle.starlark_small.specs.Map.{own_hashed};
 
 use crate::lent::put::put;

@@ -3,7 +3,7 @@ ghost use Rattle.std.specs.Prelude.{◌≡◌, Some, None, IfErr, IfOk, OnErr};
 ghost use Rattle.std.specs.Option.{option_map};
 ghost use Rattle.starlark_hash.specs.Entries.{entry_value, match_of, value_at};
 ghost use Rattle.starlark_small.specs.MapEntry.{stored, with_entry_value};
-ghost use Rattle.starlark_callers.specs.Lending.{with_value_under};
+ghost use Rattle.starlark_callers.specs.Lend.{with_value_under};
 
 use crate::lent::put::put;
 use starlark_hash::Hashed;

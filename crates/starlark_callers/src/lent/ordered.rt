@@ -7,12 +7,11 @@ ghost use Rattle.std.specs.String.{string_bytes, string_eq};
 ghost use Rattle.std.specs.declared.alloc.Global.{Global};
 ghost use Rattle.std.specs.declared.string.String.{String};
 ghost use Rattle.starlark_hash.specs.Entries.{match_of};
-ghost use Rattle.starlark_hash.specs.Insertion.{insert_entry};
-ghost use Rattle.starlark_small.specs.Calling.{get};
-ghost use Rattle.starlark_small.specs.Inserted.{IsInserted, IsRefused};
+ghost use Rattle.starlark_hash.specs.Insert.{insert_entry};
+ghost use Rattle.starlark_small.specs.Lookup.{get};
+ghost use Rattle.starlark_small.specs.Insert.{IsInserted, IsRefused};
 ghost use Rattle.starlark_small.specs.Map.{own_hashed};
-ghost use Rattle.starlark_callers.specs.Lending.{with_value_under};
-ghost use Rattle.starlark_callers.specs.OrderedLending.{lends_at};
+ghost use Rattle.starlark_callers.specs.Lend.{with_value_under, lends_at};
 
 use crate::lent::put::put;
 use starlark_hash::{Hashed, NoRoom};

@@ -3,7 +3,7 @@ ghost use Rattle.std.specs.Hash as fed;
 ghost use Rattle.std.specs.Option.{unwrap_or};
 ghost use Rattle.std.specs.Prelude.{◌≡◌, ◌<◌, nat_eq, false, true, None, IfErr, IfOk, IfSome, IsNone, IsSome, OnErr};
 ghost use Rattle.starlark_hash.specs.Entries.{match_of};
-ghost use Rattle.starlark_small.specs.Calling.{contains};
+ghost use Rattle.starlark_small.specs.Lookup.{contains};
 ghost use Rattle.starlark_small.specs.Map.{own_hashed};
 ghost use Rattle.starlark_sets.specs.Set.{element_at};
 

@@ -9,7 +9,7 @@ ghost use Rattle.std.specs.declared.alloc.Global.{Global};
 ghost use Rattle.std.specs.declared.string.String.{String};
 ghost use Rattle.starlark_hash.specs.HashValue.{hash_of, key_of};
 ghost use Rattle.starlark_hash.specs.Hasher.{own_hash};
-ghost use Rattle.starlark_unordered.specs.Calling.{get, get_text};
+ghost use Rattle.starlark_unordered.specs.Lookup.{get, get_text};
 ghost use Rattle.starlark_unordered.specs.Pairs.{pairs_of, under_own, IsSlotOf};
 ghost use Rattle.starlark_unordered.specs.RawEntry.{map_of_raw, slot_of_raw, IsRawPlaceOf};
 

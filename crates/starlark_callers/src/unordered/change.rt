@@ -2,7 +2,7 @@
 ghost use Rattle.std.specs.Map.{values_of};
 ghost use Rattle.std.specs.Option.{unwrap_or};
 ghost use Rattle.std.specs.Prelude.{◌+◌, ◌-◌, ◌<◌, ◌^◌, ◌≡◌, IfOk, IfSome, IsOk, None, OnErr, OnOk, Some, false, if◌then◌else◌, is_some, length, min, nat_eq, not, sum, true, ℕ};
-ghost use Rattle.starlark_unordered.specs.Calling.{contains, get, get_text};
+ghost use Rattle.starlark_unordered.specs.Lookup.{contains, get, get_text};
 ghost use Rattle.starlark_unordered.specs.Pairs.{pairs_of};
 
 use starlark_hash::NoRoom;

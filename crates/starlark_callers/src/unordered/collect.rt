@@ -4,8 +4,8 @@ ghost use Rattle.std.specs.Option.{option_map};
 ghost use Rattle.std.specs.Prelude.{◌*◌, ◌≡◌, ◌≤◌, IfErr, IfOk, IsPermutation, None, filter, length, nat_eq, nat_lt, ℕ};
 ghost use Rattle.std.specs.Set.{is_member};
 ghost use Rattle.starlark_table.specs.Growth.{most_for};
-ghost use Rattle.starlark_unordered.specs.Calling.{contains, get};
-ghost use Rattle.starlark_unordered.specs.Clone.{IsEqualClone};
+ghost use Rattle.starlark_unordered.specs.Lookup.{contains, get};
+ghost use Rattle.starlark_hash.specs.Clone.{IsEqualClone};
 ghost use Rattle.starlark_unordered.specs.Pairs.{HasDistinctKeys, pairs_of};
 
 use starlark_unordered::{UnorderedMap, UnorderedSet};

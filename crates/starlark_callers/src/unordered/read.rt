@@ -5,9 +5,9 @@ ghost use Rattle.std.specs.Prelude.{◌<◌, ◌^◌, ◌↔◌, ◌≡◌, ◌�
 ghost use Rattle.starlark_hash.specs.HashValue.{hash_of, key_of};
 ghost use Rattle.starlark_hash.specs.Hasher.{own_hash};
 ghost use Rattle.starlark_unordered.specs.Bag.{same_bag};
-ghost use Rattle.starlark_unordered.specs.Calling.{contains, get, get_text};
+ghost use Rattle.starlark_unordered.specs.Lookup.{contains, get, get_text};
 ghost use Rattle.starlark_unordered.specs.Pairs.{pair_eq, pairs_of};
-ghost use Rattle.starlark_unordered.specs.Unit.{same_unit};
+ghost use Rattle.starlark_hash.specs.Unit.{same_unit};
 
 use starlark_hash::Hashed;
 use starlark_unordered::{UnorderedMap, UnorderedSet};

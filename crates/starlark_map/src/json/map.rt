@@ -4,7 +4,7 @@ ghost use Rattle.std.specs.Prelude.{◌≡◌, ℕ, ℤ, List, [], Some, None, I
 ghost use Rattle.serde_json.specs.Data.{number, put as with_member};
 ghost use Rattle.serde_json.specs.Find.{get, of_integer};
 ghost use Rattle.serde_json.specs.View.{view, members_view};
-ghost use Rattle.starlark_hash.specs.Insertion.{insert_entry};
+ghost use Rattle.starlark_hash.specs.Insert.{insert_entry};
 ghost use Rattle.std.specs.List.Sorted.{IsStrictlySortedBy};
 ghost use Rattle.std.specs.Option.{option_map};
 ghost use Rattle.std.specs.Str.{bytes_eq};

@@ -2,7 +2,7 @@
 ghost use Rattle.std.specs.Prelude.{◌≡◌, ℕ, List, [], Some, IfOk, IfErr, IsOk, OnOk, MatchOption};
 ghost use Rattle.serde_json.specs.Find.{as_str};
 ghost use Rattle.serde_json.specs.View.{view};
-ghost use Rattle.starlark_hash.specs.Insertion.{insert_entry};
+ghost use Rattle.starlark_hash.specs.Insert.{insert_entry};
 ghost use Rattle.std.specs.Str.{bytes_eq};
 ghost use Rattle.starlark_map.specs.JsonArrays.{array_of, set_entries, IsSetFault};
 ghost use Rattle.starlark_map.specs.JsonTexts.{own_text, text_entries, texts_of};

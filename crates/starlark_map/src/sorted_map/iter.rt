@@ -3,13 +3,12 @@ ghost use Rattle.std.specs.Prelude.{◌≡◌, map, ◌^◌, ◌<◌, length};
 ghost use Rattle.std.specs.Map.{values_of};
 ghost use Rattle.std.specs.Map.Iter.{deref, deref_pair};
 ghost use Rattle.starlark_hash.specs.Entries.{IsSingle, entry_key, entry_value, pair_of};
-ghost use Rattle.starlark_hash.specs.Sorting.{Ascends};
-ghost use Rattle.starlark_small.specs.Iter.{deref_entry};
+ghost use Rattle.starlark_hash.specs.Sort.{Ascends};
+ghost use Rattle.starlark_small.specs.Iter.{deref_entry, GivesEach, ShowsEach, ShowsValues};
 ghost use Rattle.starlark_map.specs.Sorted.{AreOwn, AscendsAlong, AscendsStrictly};
-ghost use Rattle.starlark_small.specs.Walks.{GivesEach, ShowsEach, ShowsValues};
 ghost use Rattle.std.specs.Borrow.{sem};
-ghost use Rattle.starlark_small.specs.Lending.{KeepsAllButValues};
-ghost use Rattle.starlark_map.specs.SortedLending.{values_follow};
+ghost use Rattle.starlark_small.specs.Lend.{KeepsAllButValues};
+ghost use Rattle.starlark_map.specs.SortedLend.{values_follow};
 
 use super::SortedMap;
 use starlark_small::{IntoIter, Iter, IterHashed, IterMut, Keys, Values, ValuesMut};

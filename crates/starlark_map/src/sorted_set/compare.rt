@@ -3,10 +3,10 @@ ghost use Rattle.std.specs.Prelude.{[]};
 ghost use Rattle.std.proofs.Common.{refl};
 ghost use Rattle.std.specs.Cmp.{on_equiv, on_per, on_total, partial_order_from_agreeing_total};
 ghost use Rattle.std.specs.Ordering.{as_partial_cmp, on};
-ghost use Rattle.starlark_hash.specs.Ordered.{same_ordered};
-ghost use Rattle.starlark_sets.specs.Ordered.{entries_cmp};
-ghost use Rattle.starlark_sets.specs.OrderedLaws.{entries_ties, entries_total, feed_alike, same_order_equiv, same_order_per};
-ghost use Rattle.starlark_sets.specs.Unit.{same_unit, set_feed, unit_cmp, unit_equiv, unit_per, unit_total};
+ghost use Rattle.starlark_hash.specs.Compare.{same_ordered};
+ghost use Rattle.starlark_sets.specs.Compare.{entries_cmp};
+ghost use Rattle.starlark_sets.specs.CompareLaws.{entries_ties, entries_total, feed_alike, same_order_equiv, same_order_per};
+ghost use Rattle.starlark_hash.specs.Unit.{same_unit, set_feed, unit_cmp, unit_equiv, unit_per, unit_total};
 
 use super::SortedSet;
 use std::cmp::Ordering;

@@ -2,10 +2,10 @@
 ghost use Rattle.std.specs.Prelude.{◌≡◌, ◌^◌, ◌<◌, length, map};
 ghost use Rattle.std.specs.Map.Iter.{deref};
 ghost use Rattle.starlark_hash.specs.Entries.{IsSingle, entry_key};
-ghost use Rattle.starlark_hash.specs.Sorting.{Ascends};
+ghost use Rattle.starlark_hash.specs.Sort.{Ascends};
 ghost use Rattle.starlark_map.specs.Sorted.{AreOwn, AscendsAlong, AscendsStrictly};
 ghost use Rattle.starlark_map.specs.SortedUnion.{GivesRise, ShowsRise, rise, rise_rest};
-ghost use Rattle.starlark_small.specs.Walks.{GivesEach, ShowsEach};
+ghost use Rattle.starlark_small.specs.Iter.{GivesEach, ShowsEach};
 
 use super::SortedSet;
 use crate::union::{Ahead, SortedUnion};

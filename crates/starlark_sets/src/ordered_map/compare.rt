@@ -2,9 +2,9 @@
 ghost use Rattle.std.proofs.Common.{refl};
 ghost use Rattle.std.specs.Cmp.{on_per, on_equiv, on_total, partial_order_from_agreeing_total};
 ghost use Rattle.std.specs.Ordering.{as_partial_cmp, on};
-ghost use Rattle.starlark_hash.specs.Ordered.{ordered_feed, same_ordered};
-ghost use Rattle.starlark_sets.specs.Ordered.{entries_cmp};
-ghost use Rattle.starlark_sets.specs.OrderedLaws.{entries_ties, entries_total, feed_alike, same_order_equiv, same_order_per};
+ghost use Rattle.starlark_hash.specs.Compare.{ordered_feed, same_ordered};
+ghost use Rattle.starlark_sets.specs.Compare.{entries_cmp};
+ghost use Rattle.starlark_sets.specs.CompareLaws.{entries_ties, entries_total, feed_alike, same_order_equiv, same_order_per};
 
 use super::OrderedMap;
 use crate::ordered::{cmp_hashes, cmp_pairs};

@@ -3,11 +3,10 @@ ghost use Rattle.std.specs.Prelude.{◌≡◌, map, ◌^◌, ◌<◌, length};
 ghost use Rattle.std.specs.Map.{values_of};
 ghost use Rattle.std.specs.Map.Iter.{deref, deref_pair};
 ghost use Rattle.starlark_hash.specs.Entries.{IsSingle, entry_key, entry_value, pair_of};
-ghost use Rattle.starlark_small.specs.Iter.{deref_entry};
-ghost use Rattle.starlark_small.specs.Walks.{GivesEach, ShowsEach, ShowsValues};
+ghost use Rattle.starlark_small.specs.Iter.{deref_entry, GivesEach, ShowsEach, ShowsValues};
 ghost use Rattle.std.specs.Borrow.{sem};
-ghost use Rattle.starlark_small.specs.Lending.{KeepsAllButValues};
-ghost use Rattle.starlark_sets.specs.OrderedLending.{values_follow};
+ghost use Rattle.starlark_small.specs.Lend.{KeepsAllButValues};
+ghost use Rattle.starlark_sets.specs.Lend.{values_follow};
 
 use super::OrderedMap;
 use starlark_small::{IntoIter, Iter, IterHashed, IterMut, Keys, Values, ValuesMut};

@@ -4,8 +4,8 @@ ghost use Rattle.std.specs.Map.{keys_of};
 ghost use Rattle.std.specs.Map.Iter.{deref};
 ghost use Rattle.starlark_hash.specs.Entries.{IsSingle, entry_key};
 ghost use Rattle.starlark_sets.specs.Union.{CountsEither, ShowsUnion, union, union_rest};
-ghost use Rattle.starlark_sets.specs.Unit.{deref_hashed};
-ghost use Rattle.starlark_small.specs.Walks.{GivesEach, ShowsEach};
+ghost use Rattle.starlark_hash.specs.Unit.{deref_hashed};
+ghost use Rattle.starlark_small.specs.Iter.{GivesEach, ShowsEach};
 
 use super::OrderedSet;
 use crate::iter::{self, IterHashed};

@@ -3,8 +3,8 @@ ghost use Rattle.std.specs.Prelude.{◌≡◌, IfErr};
 ghost use Rattle.std.specs.Borrow.{sem};
 ghost use Rattle.starlark_hash.specs.Entries.{match_of};
 ghost use Rattle.starlark_small.specs.Map.{own_hashed};
-ghost use Rattle.starlark_sets.specs.OrderedEnd.{ends_so};
-ghost use Rattle.starlark_sets.specs.OrderedTries.{AnswersTry, IsPlaced, IsTold, IsWithin, Tries};
+ghost use Rattle.starlark_sets.specs.Lend.{ordered_ends_so};
+ghost use Rattle.starlark_sets.specs.TryInsert.{AnswersTry, IsPlaced, IsTold, IsWithin, Tries};
 ghost use Rattle.starlark_sets.specs.Set.{element_at};
 
 use super::OrderedSet;
@@ -43,7 +43,7 @@ impl<T: Eq> OrderedSet<T> {
     pub fn try_insert(&mut self, value: T) -> Result<(), TryInsertError<'_, T>>
     where
         T: Hash,
-        ensures* set { sem 𝓛 (ends_so T.row T.PartialEq self.entry (Tries T.eq self.old (own_hashed T.hash_input value) result)) }
+        ensures* set { sem 𝓛 (ordered_ends_so T.row T.PartialEq self.entry (Tries T.eq self.old (own_hashed T.hash_input value) result)) }
         ensures answers { AnswersTry T.eq (own_hashed T.hash_input value) self.old result }
     {
         let tried = self.insert_new(value);
@@ -52,7 +52,7 @@ impl<T: Eq> OrderedSet<T> {
 
     // The set, which is no longer written.
     fn frozen(&mut self) -> &Self
-        ensures* set { sem 𝓛 (ends_so T.row T.PartialEq self.entry (λ new. new ≡ self.old)) }
+        ensures* set { sem 𝓛 (ordered_ends_so T.row T.PartialEq self.entry (λ new. new ≡ self.old)) }
         ensures now { result.now ≡ self.old }
     {
         self

@@ -1,7 +1,7 @@
 //! `SmallSet`s made of clones.
-ghost use Rattle.starlark_small.specs.Clone.{IsEqualClone};
-ghost use Rattle.starlark_small.specs.Making.{Clones};
-ghost use Rattle.starlark_sets.specs.Unit.{IsUnitClone};
+ghost use Rattle.starlark_hash.specs.Clone.{IsEqualClone};
+ghost use Rattle.starlark_small.specs.Clone.{Clones};
+ghost use Rattle.starlark_hash.specs.Unit.{IsUnitClone};
 
 use super::SmallSet;
 use std::alloc::AllocError;

@@ -3,9 +3,9 @@ ghost use Rattle.std.specs.Prelude.{◌≡◌, fold};
 ghost use Rattle.starlark_hash.specs.Hasher.{after_writes, finish_small};
 ghost use Rattle.starlark_hash.specs.HashValue.{hashed};
 ghost use Rattle.starlark_small.specs.Compare.{same_entries};
-ghost use Rattle.starlark_small.specs.EqualityLaws.{same_entries_laws, same_entries_equivalence};
-ghost use Rattle.starlark_hash.specs.Ordered.{same_ordered};
-ghost use Rattle.starlark_sets.specs.Unit.{same_unit, set_feed, unit_per, unit_equiv};
+ghost use Rattle.starlark_small.specs.CompareLaws.{same_entries_laws, same_entries_equivalence};
+ghost use Rattle.starlark_hash.specs.Compare.{same_ordered};
+ghost use Rattle.starlark_hash.specs.Unit.{same_unit, set_feed, unit_per, unit_equiv};
 
 use super::SmallSet;
 use starlark_hash::{Hashed, StarlarkHasher};

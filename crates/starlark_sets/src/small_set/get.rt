@@ -4,9 +4,9 @@ ghost use Rattle.std.specs.Option.{option_copied, option_map};
 ghost use Rattle.starlark_hash.specs.HashValue.{hash_of, key_of};
 ghost use Rattle.starlark_hash.specs.Entries.{entry_key, position_of};
 ghost use Rattle.starlark_hash.specs.Hasher.{own_hash};
-ghost use Rattle.starlark_hash.specs.Finding.{found};
-ghost use Rattle.starlark_small.specs.Calling.{NamesPlace, TellsPresence};
-ghost use Rattle.starlark_sets.specs.Taking.{ShowsElement};
+ghost use Rattle.starlark_hash.specs.Lookup.{found};
+ghost use Rattle.starlark_small.specs.Lookup.{NamesPlace, TellsPresence};
+ghost use Rattle.starlark_sets.specs.Lookup.{ShowsElement};
 
 use super::SmallSet;
 use starlark_hash::{Equivalent, Hashed, Query};

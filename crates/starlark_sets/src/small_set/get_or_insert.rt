@@ -5,9 +5,8 @@ ghost use Rattle.std.specs.Option.{option_map};
 ghost use Rattle.starlark_hash.specs.Entries.{entry_key};
 ghost use Rattle.starlark_hash.specs.Hasher.{own_hash};
 ghost use Rattle.starlark_small.specs.Map.{own_hashed};
-ghost use Rattle.starlark_sets.specs.Adding.{PlacesElement, PutsElementFor, ShowsPut};
-ghost use Rattle.starlark_sets.specs.Lending.{AddsAt, IsShown, ends_so};
-ghost use Rattle.starlark_sets.specs.Set.{Adds};
+ghost use Rattle.starlark_sets.specs.Insert.{PlacesElement, PutsElementFor, ShowsPut, AddsAt, IsShown, Adds};
+ghost use Rattle.starlark_sets.specs.Lend.{ends_so};
 
 use super::SmallSet;
 use starlark_hash::{Hashed, NoRoom, OwnedQuery};

@@ -1,10 +1,10 @@
 //! What puts elements into a `SmallSet`.
 ghost use Rattle.std.specs.Prelude.{◌≡◌, OnOk, Some, None};
 ghost use Rattle.starlark_small.specs.Map.{own_hashed};
-ghost use Rattle.starlark_sets.specs.Adding.{AddsElement, new_or_back, AddsNew};
-ghost use Rattle.starlark_small.specs.Calling.{Updates};
+ghost use Rattle.starlark_sets.specs.Insert.{AddsElement, new_or_back, AddsNew};
+ghost use Rattle.starlark_small.specs.Lookup.{Updates};
 ghost use Rattle.starlark_hash.specs.Entries.{match_of};
-ghost use Rattle.starlark_small.specs.Inserting.{PutsLast};
+ghost use Rattle.starlark_small.specs.Insert.{PutsLast};
 
 use super::SmallSet;
 use starlark_hash::{Hashed, NoRoom};

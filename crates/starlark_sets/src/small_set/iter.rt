@@ -4,8 +4,8 @@ ghost use Rattle.std.specs.Map.{keys_of};
 ghost use Rattle.std.specs.Map.Iter.{deref};
 ghost use Rattle.starlark_hash.specs.declared.hashed.Hashed.{Hashed as Under};
 ghost use Rattle.starlark_hash.specs.Entries.{IsSingle, entry_key};
-ghost use Rattle.starlark_sets.specs.Unit.{deref_hashed};
-ghost use Rattle.starlark_small.specs.Walks.{GivesEach, ShowsEach};
+ghost use Rattle.starlark_hash.specs.Unit.{deref_hashed};
+ghost use Rattle.starlark_small.specs.Iter.{GivesEach, ShowsEach};
 
 use super::SmallSet;
 use crate::iter::{IntoIter, IntoIterHashed, Iter, IterHashed};

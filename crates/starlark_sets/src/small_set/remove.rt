@@ -3,10 +3,10 @@ ghost use Rattle.std.specs.Prelude.{◌≡◌, ◌-◌, None, length, slice_get,
 ghost use Rattle.std.specs.Option.{IfNone, option_map};
 ghost use Rattle.starlark_hash.specs.HashValue.{hash_of, key_of};
 ghost use Rattle.starlark_hash.specs.Hasher.{own_hash};
-ghost use Rattle.starlark_hash.specs.Finding.{Writes};
-ghost use Rattle.starlark_small.specs.Calling.{Removes, TellsPresence};
-ghost use Rattle.starlark_small.specs.Changing.{Clears};
-ghost use Rattle.starlark_sets.specs.Taking.{TakesElement, TakesElementAt};
+ghost use Rattle.starlark_hash.specs.Lookup.{Writes};
+ghost use Rattle.starlark_small.specs.Remove.{Removes, Clears};
+ghost use Rattle.starlark_small.specs.Lookup.{TellsPresence};
+ghost use Rattle.starlark_sets.specs.Remove.{RemovesElement, RemovesElementAt};
 
 use super::SmallSet;
 use starlark_hash::{Hashed, Query};
@@ -41,7 +41,7 @@ impl<T: Eq> SmallSet<T> {
     /// Capacity and index stay.
     #[inline]
     pub fn take<Q: Query<T> + Hash>(&mut self, key: Q) -> Option<T>
-        ensures { TakesElement T.eq (Q.stands_for key) (own_hash Q.hash_input key) self.old self.new result }
+        ensures { RemovesElement T.eq (Q.stands_for key) (own_hash Q.hash_input key) self.old self.new result }
     {
         let (element, ()) = self.map.shift_remove_entry(key)?;
         Some(element)
@@ -49,7 +49,7 @@ impl<T: Eq> SmallSet<T> {
 
     /// Removes the element at a place, and answers it. Those after it move up. Capacity and index stay.
     pub fn shift_remove_index(&mut self, i: usize) -> Option<T>
-        ensures { TakesElementAt T.eq i self.old self.new result }
+        ensures { RemovesElementAt T.eq i self.old self.new result }
     {
         let (element, ()) = self.map.shift_remove_index(i)?;
         Some(element)
@@ -60,7 +60,7 @@ impl<T: Eq> SmallSet<T> {
         ensures updates { IfSome result (λ element. Writes T.eq (T.eq (key_of element)) (hash_of element) self.old.entries self.new.entries None) }
         ensures unchanged { IfNone result (self.new.entries ≡ self.old.entries) }
         ensures taken { result ≡ option_map (λ e. e.0) (slice_get self.old.entries i) }
-        ensures takes { TakesElementAt T.eq i self.old self.new (option_map key_of result) }
+        ensures takes { RemovesElementAt T.eq i self.old self.new (option_map key_of result) }
     {
         prove!(self.map.iter_hashed().len() == self.map.len());
         let (element, ()) = self.map.shift_remove_index_hashed(i)?;
@@ -69,7 +69,7 @@ impl<T: Eq> SmallSet<T> {
 
     /// Removes the last element, and answers it. Capacity and index stay.
     pub fn pop(&mut self) -> Option<T>
-        ensures { TakesElementAt T.eq (length self.old.entries - 1) self.old self.new result }
+        ensures { RemovesElementAt T.eq (length self.old.entries - 1) self.old self.new result }
     {
         let (element, ()) = self.map.pop()?;
         Some(element)

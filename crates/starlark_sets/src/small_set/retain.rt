@@ -5,7 +5,7 @@ ghost use Rattle.std.specs.Prelude.{◌≡◌, Bool, filter};
 ghost use Rattle.starlark_hash.specs.HashValue.{hashed};
 ghost use Rattle.starlark_hash.specs.declared.hash_value.StarlarkHashValue.{StarlarkHashValue};
 ghost use Rattle.starlark_hash.specs.Entries.{Entry, entry_key};
-ghost use Rattle.starlark_small.specs.Calling.{AreOwn};
+ghost use Rattle.starlark_small.specs.Lookup.{AreOwn};
 ghost use Rattle.starlark_small.specs.Map.{KeepsMemory};
 ghost use Rattle.starlark_hash.specs.Retain.{Retains, TakesInTurn};
 ghost use Rattle.starlark_sets.specs.Retain.{CalledAtElement, TakesElement};

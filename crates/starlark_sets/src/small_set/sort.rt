@@ -1,5 +1,5 @@
 //! What changes the order of a `SmallSet`.
-ghost use Rattle.starlark_small.specs.Changing.{SortsByKey, Turns};
+ghost use Rattle.starlark_small.specs.Sort.{SortsByKey, Turns};
 ghost use Rattle.std.specs.Prelude.{◌-◌};
 
 use super::SmallSet;

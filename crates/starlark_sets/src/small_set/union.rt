@@ -3,7 +3,7 @@ ghost use Rattle.std.specs.Hash.{HashWrites};
 ghost use Rattle.std.specs.Prelude.{◌≡◌, ◌^◌, ◌<◌, ◌&&◌, ◌||◌, length, not, IsTrue};
 ghost use Rattle.std.specs.Set.{is_member};
 ghost use Rattle.starlark_hash.specs.Entries.{IsSingle};
-ghost use Rattle.starlark_small.specs.Calling.{AreOwn, contains};
+ghost use Rattle.starlark_small.specs.Lookup.{AreOwn, contains};
 ghost use Rattle.starlark_sets.specs.Difference.{ShowsDifference, difference, difference_rest};
 ghost use Rattle.starlark_sets.specs.Union.{CountsEither, ShowsUnion, union, union_rest};
 

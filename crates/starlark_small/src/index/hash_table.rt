@@ -4,10 +4,10 @@ ghost use Rattle.std.specs.Prelude.{◌≡◌, ℕ, ◌+◌, ◌-◌, ◌^◌, �
 ghost use Rattle.starlark_hash.specs.HashValue.{hash_number};
 ghost use Rattle.starlark_hash.specs.Search.{CanSearch, Searches};
 ghost use Rattle.starlark_small.specs.Hashes.{NotesNew, cleared, forgotten, hash_under, indices_under, noted, numbered, reversed};
-ghost use Rattle.starlark_small.specs.Indexing.{GrowsHashes, ReservesHashes};
+ghost use Rattle.starlark_small.specs.IndexCalls.{GrowsHashes, ReservesHashes};
 ghost use Rattle.starlark_small.specs.Slots.{IsSited};
 ghost use Rattle.starlark_table.specs.Table.{members};
-ghost use Rattle.starlark_vec2.specs.Moves.{Moves};
+ghost use Rattle.starlark_vec2.specs.Sort.{Moves};
 
 mod slots;
 

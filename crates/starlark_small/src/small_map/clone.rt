@@ -1,6 +1,6 @@
 //! `SmallMap`s made of clones.
-ghost use Rattle.starlark_small.specs.Clone.{IsEqualClone};
-ghost use Rattle.starlark_small.specs.Making.{Clones};
+ghost use Rattle.starlark_hash.specs.Clone.{IsEqualClone};
+ghost use Rattle.starlark_small.specs.Clone.{Clones};
 
 use super::SmallMap;
 use crate::index::Index;

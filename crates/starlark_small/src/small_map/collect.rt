@@ -1,8 +1,7 @@
 //! `SmallMap`s from the items of iterators.
 ghost use Rattle.std.specs.Prelude.{◌≡◌, ◌+◌, ◌≤◌, None, IfOk, IsOk};
 ghost use Rattle.std.specs.Iterator.{IsFiniteIterable, IsFinite, size};
-ghost use Rattle.starlark_small.specs.Collect.{Collects, FindsLast, Inserts, InsertsEach, IsExtended, KeepsOwn, own_entry};
-ghost use Rattle.starlark_small.specs.Making.{IsMadeOf, TakesIn};
+ghost use Rattle.starlark_small.specs.Collect.{Collects, FindsLast, InsertsItems, InsertsEach, IsExtended, KeepsOwn, own_entry, IsMadeOf, TakesIn};
 
 use super::SmallMap;
 use crate::index::UNINDEXED;
@@ -11,7 +10,7 @@ use std::alloc::{AllocError, Global};
 use std::hash::Hash;
 
 impl<K: Eq + Hash + Drop, V: Drop> SmallMap<K, V> {
-    /// Inserts the items in their order, each under its key's own hash, as `insert` does. It reserves nothing, and
+    /// InsertsItems the items in their order, each under its key's own hash, as `insert` does. It reserves nothing, and
     /// where there is room for all of them, capacity and index stay. Where a new key is refused, the items that came
     /// before are there and have used up the room, and it and the others are dropped. The capacity grows as by
     /// insertions one after the other. The iterator must end.
@@ -41,11 +40,11 @@ impl<K: Eq + Hash + Drop, V: Drop> SmallMap<K, V> {
         Ok(map)
     }
 
-    // Inserts the items of an iterator.
+    // InsertsItems the items of an iterator.
     fn insert_items<I: Iterator<Item = (K, V)>>(&mut self, mut items: I) -> Result<(), AllocError>
         requires can { I.can_next items }
         requires finite { IsFinite (I.remaining items) }
-        ensures entries { Inserts K.eq (own_entry K.hash_input) I.next_gives items self.old.entries self.new.entries result }
+        ensures entries { InsertsItems K.eq (own_entry K.hash_input) I.next_gives items self.old.entries self.new.entries result }
         ensures memory { IsExtended (size (I.remaining items) ≤ self.old.room) self.old self.new result }
         ensures left { self.old.room ≤ self.new.room + size (I.remaining items) }
     {
@@ -79,14 +78,14 @@ impl<K: Eq + Drop, V: Drop> SmallMap<K, V> {
         Ok(map)
     }
 
-    // Inserts the entries of an iterator.
+    // InsertsItems the entries of an iterator.
     fn insert_entries<I: Iterator<Item = (Hashed<K>, V)>>(
         &mut self,
         mut items: I,
     ) -> Result<(), AllocError>
         requires can { I.can_next items }
         requires finite { IsFinite (I.remaining items) }
-        ensures entries { Inserts K.eq (λ item. item) I.next_gives items self.old.entries self.new.entries result }
+        ensures entries { InsertsItems K.eq (λ item. item) I.next_gives items self.old.entries self.new.entries result }
         ensures memory { IsExtended (size (I.remaining items) ≤ self.old.room) self.old self.new result }
     {
         prove!(self.index().is_some() || self.len() <= UNINDEXED);

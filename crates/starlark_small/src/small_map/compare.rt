@@ -1,8 +1,8 @@
 //! How `SmallMap`s compare, what they feed to a hasher, and how they print.
 ghost use Rattle.std.specs.Prelude.{◌≡◌, fold};
 ghost use Rattle.starlark_small.specs.Compare.{same_entries};
-ghost use Rattle.starlark_small.specs.EqualityLaws.{same_entries_laws, same_entries_equivalence};
-ghost use Rattle.starlark_hash.specs.Ordered.{same_ordered, ordered_feed};
+ghost use Rattle.starlark_small.specs.CompareLaws.{same_entries_laws, same_entries_equivalence};
+ghost use Rattle.starlark_hash.specs.Compare.{same_ordered, ordered_feed};
 
 use super::SmallMap;
 use std::fmt;

@@ -6,7 +6,7 @@ ghost use Rattle.starlark_hash.specs.HashValue.{hash_of, key_of};
 ghost use Rattle.starlark_hash.specs.Hasher.{own_hash};
 ghost use Rattle.starlark_hash.specs.Entries.{IsSingle, pair_of};
 ghost use Rattle.starlark_hash.specs.Search.{CanSearch, Searches, keys_under};
-ghost use Rattle.starlark_small.specs.Calling.{FindsEntry, FindsValue, NamesPlace, TellsPresence};
+ghost use Rattle.starlark_small.specs.Lookup.{FindsEntry, FindsValue, NamesPlace, TellsPresence};
 
 use super::SmallMap;
 use starlark_hash::{Equivalent, Hashed, Query, StarlarkHashValue};

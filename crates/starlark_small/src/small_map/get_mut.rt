@@ -5,8 +5,8 @@ ghost use Rattle.std.specs.Option.{option_copied_mut};
 ghost use Rattle.starlark_hash.specs.Entries.{value_at};
 ghost use Rattle.starlark_hash.specs.HashValue.{hash_of, key_of};
 ghost use Rattle.starlark_hash.specs.Hasher.{own_hash};
-ghost use Rattle.starlark_small.specs.Calling.{FindsValue};
-ghost use Rattle.starlark_small.specs.Lending.{lends_value, lends_get};
+ghost use Rattle.starlark_small.specs.Lookup.{FindsValue};
+ghost use Rattle.starlark_small.specs.Lend.{lends_value, lends_get};
 
 use super::SmallMap;
 use starlark_hash::{Hashed, Query};

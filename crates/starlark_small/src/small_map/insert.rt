@@ -1,12 +1,12 @@
 //! What puts entries into a `SmallMap`.
 ghost use Rattle.std.specs.Prelude.{◌<◌, ◌≡◌, length, slice_get, Some, None, IfErr, IfOk, OnErr};
-ghost use Rattle.starlark_small.specs.Inserting.{Inserts, PutsLast};
+ghost use Rattle.starlark_small.specs.Insert.{Inserts, PutsLast};
 ghost use Rattle.starlark_small.specs.Map.{own_hashed};
 ghost use Rattle.std.specs.Borrow.{sem};
 ghost use Rattle.std.specs.Option.{option_map};
 ghost use Rattle.starlark_hash.specs.Entries.{match_of, pair_of};
 ghost use Rattle.starlark_hash.specs.HashValue.{key_of};
-ghost use Rattle.starlark_small.specs.Lending.{lends_inserted, lends_value, unhashed};
+ghost use Rattle.starlark_small.specs.Lend.{lends_inserted, lends_value, unhashed};
 
 use super::SmallMap;
 use crate::index::UNINDEXED;

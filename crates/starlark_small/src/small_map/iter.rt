@@ -3,10 +3,9 @@ ghost use Rattle.std.specs.Prelude.{◌≡◌, ◌^◌, ◌<◌, length, map};
 ghost use Rattle.std.specs.Map.{values_of};
 ghost use Rattle.std.specs.Map.Iter.{deref, deref_pair};
 ghost use Rattle.starlark_hash.specs.Entries.{Entry, IsSingle, entry_key, entry_value, pair_of};
-ghost use Rattle.starlark_small.specs.Iter.{deref_entry};
-ghost use Rattle.starlark_small.specs.Walks.{GivesEach, GivesValues, ShowsEach, ShowsValues};
+ghost use Rattle.starlark_small.specs.Iter.{deref_entry, GivesEach, GivesValues, ShowsEach, ShowsValues};
 ghost use Rattle.std.specs.Borrow.{sem};
-ghost use Rattle.starlark_small.specs.Lending.{values_follow, KeepsAllButValues};
+ghost use Rattle.starlark_small.specs.Lend.{values_follow, KeepsAllButValues};
 
 use super::SmallMap;
 use crate::iter::{
@@ -16,7 +15,7 @@ use crate::iter::{
 
 impl<K: Eq, V> SmallMap<K, V> {
     /// The keys in order of insertion.
-    #[tactic(auto, using(crate::proofs::CallerWalked::walked))]
+    #[tactic(auto, using(crate::proofs::CallerIter::walked))]
     #[inline]
     pub fn keys(&self) -> Keys<'_, K, V>
         ensures keys { result ≡ map entry_key self.now.entries }
@@ -26,7 +25,7 @@ impl<K: Eq, V> SmallMap<K, V> {
     }
 
     /// The values in order of insertion.
-    #[tactic(auto, using(crate::proofs::CallerWalked::walked))]
+    #[tactic(auto, using(crate::proofs::CallerIter::walked))]
     #[inline]
     pub fn values(&self) -> Values<'_, K, V>
         ensures values { result ≡ map entry_value self.now.entries }
@@ -36,7 +35,7 @@ impl<K: Eq, V> SmallMap<K, V> {
     }
 
     /// The keys and values in order of insertion.
-    #[tactic(auto, using(crate::proofs::CallerWalked::walked))]
+    #[tactic(auto, using(crate::proofs::CallerIter::walked))]
     #[inline]
     pub fn iter(&self) -> Iter<'_, K, V>
         ensures pairs { result ≡ map pair_of self.now.entries }
@@ -85,7 +84,7 @@ impl<K: Eq, V> SmallMap<K, V> {
 
 impl<K: Eq + Drop, V: Drop> SmallMap<K, V> {
     /// The keys by value, in order of insertion.
-    #[tactic(auto, using(crate::proofs::CallerWalked::walked))]
+    #[tactic(auto, using(crate::proofs::CallerIter::walked))]
     #[inline]
     pub fn into_keys(self) -> IntoKeys<K, V>
         ensures keys { result ≡ map entry_key self.entries }
@@ -99,7 +98,7 @@ impl<K: Eq + Drop, V: Drop> SmallMap<K, V> {
     }
 
     /// The values by value, in order of insertion.
-    #[tactic(auto, using(crate::proofs::CallerWalked::walked))]
+    #[tactic(auto, using(crate::proofs::CallerIter::walked))]
     #[inline]
     pub fn into_values(self) -> IntoValues<K, V>
         ensures values { result ≡ map entry_value self.entries }
@@ -135,7 +134,7 @@ impl<K: Eq + Drop, V: Drop> IntoIterator for SmallMap<K, V> {
     ghost into_iter_gives = { λ m rest. (rest ≡ map pair_of m.entries) × GivesEach m.entries rest (K × V) };
 
     /// The keys and values by value, in order of insertion.
-    #[tactic(auto, using(crate::proofs::CallerWalked::walked))]
+    #[tactic(auto, using(crate::proofs::CallerIter::walked))]
     #[inline]
     fn into_iter(self) -> IntoIter<K, V>
         ensures into_iter_gives { (result ≡ map pair_of self.entries) × GivesEach self.entries result (K × V) }

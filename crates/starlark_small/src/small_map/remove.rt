@@ -4,8 +4,8 @@ ghost use Rattle.std.specs.Option.{option_map};
 ghost use Rattle.starlark_hash.specs.Entries.{pair_of};
 ghost use Rattle.starlark_hash.specs.Hasher.{own_hash};
 ghost use Rattle.starlark_hash.specs.HashValue.{hash_of, key_of};
-ghost use Rattle.starlark_small.specs.Calling.{FindsPair, FindsValue, Removes, TakesAt};
-ghost use Rattle.starlark_small.specs.Changing.{Clears};
+ghost use Rattle.starlark_small.specs.Lookup.{FindsPair, FindsValue};
+ghost use Rattle.starlark_small.specs.Remove.{Removes, TakesAt, Clears};
 
 use super::SmallMap;
 use starlark_hash::{Hashed, Query};

@@ -1,6 +1,6 @@
 //! What makes room in a `SmallMap`, and what drops its index.
 ghost use Rattle.std.specs.Prelude.{◌<◌, ◌≡◌, ◌+◌, ◌-◌, ◌≤◌, false, min, nat_le, length, if◌then◌else◌};
-ghost use Rattle.starlark_small.specs.Inserting.{Reserves};
+ghost use Rattle.starlark_small.specs.Memory.{Reserves};
 ghost use Rattle.starlark_small.specs.Index.{unindexed};
 
 use super::SmallMap;

@@ -4,8 +4,8 @@ ghost use Rattle.std.specs.Option.{is_some};
 ghost use Rattle.std.specs.Prelude.{◌≡◌, ◌≤◌, Bool, true, filter, length};
 ghost use Rattle.starlark_hash.specs.declared.hash_value.StarlarkHashValue.{StarlarkHashValue};
 ghost use Rattle.starlark_hash.specs.Entries.{Entry};
-ghost use Rattle.starlark_hash.specs.Finding.{found};
-ghost use Rattle.starlark_small.specs.Calling.{AreOwn};
+ghost use Rattle.starlark_hash.specs.Lookup.{found};
+ghost use Rattle.starlark_small.specs.Lookup.{AreOwn};
 ghost use Rattle.starlark_small.specs.Map.{KeepsMemory};
 ghost use Rattle.starlark_hash.specs.Retain.{Retains, TakesInTurn, TakesEntry, CalledAtEntry};
 

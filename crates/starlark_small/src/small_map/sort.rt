@@ -1,7 +1,7 @@
 //! The order of a `SmallMap`'s entries.
 ghost use Rattle.std.specs.Prelude.{◌≡◌, reverse, true, false, OnErr, OnOk};
-ghost use Rattle.starlark_hash.specs.Sorting.{sorted_by_key};
-ghost use Rattle.starlark_small.specs.Changing.{SortsByKey, Turns};
+ghost use Rattle.starlark_hash.specs.Sort.{sorted_by_key};
+ghost use Rattle.starlark_small.specs.Sort.{SortsByKey, Turns};
 ghost use Rattle.starlark_small.specs.Index.{IndexFollows, IsIndexed};
 ghost use Rattle.starlark_vecmap.specs.EntryList.{with_entries};
 

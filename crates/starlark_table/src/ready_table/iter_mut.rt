@@ -1,9 +1,9 @@
 //! The items of a `ReadyTable`, to be written along the walk.
 ghost use Rattle.std.specs.Prelude.{◌≡◌, ℕ};
 ghost use Rattle.std.specs.Borrow.{sem};
-ghost use Rattle.starlark_columns.specs.Lent.{places_follow};
+ghost use Rattle.starlark_columns.specs.Loan.{places_follow};
 ghost use Rattle.starlark_table.specs.Layout.{IsTagged};
-ghost use Rattle.starlark_table.specs.Sharing.{Member, tags_stay};
+ghost use Rattle.starlark_table.specs.Lend.{Member, tags_stay};
 ghost use Rattle.starlark_table.specs.Table.{items_of};
 
 use super::ReadyTable;
@@ -52,8 +52,8 @@ fn lend_fields<'a, T, H: KeptHash, P: Keeps<(Kept<H>, T)>>(
 }
 
 impl<T, H: KeptHash> ReadyTable<T, H> {
-    ghost use Rattle.starlark_table.specs.Lends.{table_follows};
-    ghost use Rattle.starlark_table.specs.Sharing.{table_keeps};
+    ghost use Rattle.starlark_table.specs.Lend.{table_follows};
+    ghost use Rattle.starlark_table.specs.Lend.{table_keeps};
 
     // The members, to be written but for what `P` keeps of them, and the tags, to be read.
     #[inline]

@@ -2,7 +2,7 @@
 ghost use Rattle.std.specs.Prelude.{◌≡◌, ◌^◌, ◌<◌, length};
 ghost use Rattle.std.specs.Borrow.{sem};
 ghost use Rattle.starlark_table.specs.Table.{items_of};
-ghost use Rattle.starlark_table.specs.Lends.{values_follow};
+ghost use Rattle.starlark_table.specs.Lend.{values_follow};
 
 use super::ReadyTable;
 use crate::kept_hash::KeptHash;

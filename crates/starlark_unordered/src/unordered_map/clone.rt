@@ -1,5 +1,6 @@
 //! `UnorderedMap`s made of clones.
-ghost use Rattle.starlark_unordered.specs.Clone.{Clones, IsEqualClone};
+ghost use Rattle.starlark_unordered.specs.Clone.{Clones};
+ghost use Rattle.starlark_hash.specs.Clone.{IsEqualClone};
 
 use super::UnorderedMap;
 use std::alloc::AllocError;

@@ -5,7 +5,7 @@ ghost use Rattle.std.specs.List.{list_all};
 ghost use Rattle.std.specs.Ordering.{on};
 ghost use Rattle.starlark_unordered.specs.Bag.{same_bag};
 ghost use Rattle.starlark_unordered.specs.BagLaws.{pair_equiv, same_bag_equiv, pairs_alike};
-ghost use Rattle.starlark_unordered.specs.Calling.{Compares};
+ghost use Rattle.starlark_unordered.specs.Compare.{Compares};
 ghost use Rattle.starlark_unordered.specs.Pairs.{pairs_of, pair_eq, has_equal, hash_sum, feed_pairs};
 
 use super::UnorderedMap;

@@ -2,7 +2,7 @@
 ghost use Rattle.std.specs.Prelude.{◌≡◌, Some, IsSome, ◌+◌};
 ghost use Rattle.std.specs.Option.{option_copied, option_copied_mut};
 ghost use Rattle.starlark_hash.specs.HashValue.{hash_of, key_of};
-ghost use Rattle.starlark_unordered.specs.Calling.{get, Finds, FindsUnder, Tells, TellsUnder};
+ghost use Rattle.starlark_unordered.specs.Lookup.{get, Finds, FindsUnder, Tells, TellsUnder};
 ghost use Rattle.std.specs.Borrow.{sem};
 
 use super::UnorderedMap;
@@ -11,10 +11,10 @@ use std::hash::Hash;
 use std::ops::Index;
 
 impl<K: Eq + Hash, V> UnorderedMap<K, V> {
-    ghost use Rattle.starlark_unordered.specs.Lending.{lends_at};
+    ghost use Rattle.starlark_unordered.specs.Lend.{lends_at};
 
     /// The value at the key that the query stands for.
-    #[tactic(auto, using(crate::proofs::Callers::callers), unfolding(crate::specs::Calling::found))]
+    #[tactic(auto, using(crate::proofs::Callers::callers), unfolding(crate::specs::Lookup::found))]
     #[inline(always)]
     pub fn get<Q: HashQuery<K>>(&self, query: Q) -> Option<&V>
         ensures finds { Finds (Q.stands_for query) self.now (option_copied result) }
@@ -33,7 +33,7 @@ impl<K: Eq + Hash, V> UnorderedMap<K, V> {
     }
 
     /// Whether the map has the key that the query stands for.
-    #[tactic(auto, using(crate::proofs::Callers::callers), unfolding(crate::specs::Calling::found))]
+    #[tactic(auto, using(crate::proofs::Callers::callers), unfolding(crate::specs::Lookup::found))]
     #[inline(always)]
     pub fn contains_key<Q: HashQuery<K>>(&self, query: Q) -> bool
         ensures tells { Tells (Q.stands_for query) self.now result }

@@ -1,7 +1,7 @@
 //! What puts a pair into an `UnorderedMap`.
 ghost use Rattle.std.specs.Prelude.{◌≡◌, ◌+◌};
 ghost use Rattle.starlark_hash.specs.Hasher.{own_hash};
-ghost use Rattle.starlark_unordered.specs.Changing.{Inserts};
+ghost use Rattle.starlark_unordered.specs.Insert.{Inserts};
 
 use super::UnorderedMap;
 use starlark_hash::{NoRoom, StarlarkHashValue};
@@ -28,7 +28,7 @@ impl<K: Eq + Hash, V> UnorderedMap<K, V> {
     }
 
     // The same by a search under its own hash. It is a call, so that what is inlined is the look alone.
-    #[tactic(auto, using(crate::proofs::Keys::table_len_written, crate::proofs::Callers::callers), unfolding(crate::specs::Calling::found))]
+    #[tactic(auto, using(crate::proofs::Keys::table_len_written, crate::proofs::Callers::callers), unfolding(crate::specs::Lookup::found))]
     #[inline(never)]
     fn insert_by_search(
         &mut self,

@@ -2,9 +2,10 @@
 ghost use Rattle.std.specs.Prelude.{◌≡◌, IfOk, IsPermutation};
 ghost use Rattle.std.specs.Map.Iter.{deref_pair};
 ghost use Rattle.starlark_unordered.specs.Pairs.{pairs_of};
-ghost use Rattle.starlark_unordered.specs.Walk.{CanMapValues, MapsEach, ShowsKeys, ShowsPairs, ShowsSorted, ShowsValues, WalksPairs, WalksValues};
+ghost use Rattle.starlark_unordered.specs.MapValues.{CanMapValues, MapsEach};
+ghost use Rattle.starlark_unordered.specs.Iter.{ShowsKeys, ShowsPairs, ShowsSorted, ShowsValues, WalksPairs, WalksValues};
 ghost use Rattle.std.specs.Borrow.{sem};
-ghost use Rattle.starlark_unordered.specs.Lending.{values_follow};
+ghost use Rattle.starlark_unordered.specs.Lend.{values_follow};
 
 use super::UnorderedMap;
 use crate::into_hash_map::move_pairs;

@@ -1,7 +1,8 @@
 //! What takes pairs out of an `UnorderedMap`.
 ghost use Rattle.std.specs.Prelude.{◌+◌};
 ghost use Rattle.starlark_table.specs.Table.{table_len};
-ghost use Rattle.starlark_unordered.specs.Changing.{IsEmptyWith, Removes};
+ghost use Rattle.starlark_unordered.specs.New.{IsEmptyWith};
+ghost use Rattle.starlark_unordered.specs.Remove.{Removes};
 
 use super::UnorderedMap;
 use starlark_hash::{HashQuery, StarlarkHashValue};
@@ -10,7 +11,7 @@ use std::hash::Hash;
 impl<K: Eq + Hash, V> UnorderedMap<K, V> {
     /// Takes the pair of the key out, and answers its value. The other pairs stay, and the room comes back. Where the
     /// map lacks the key, nothing changes.
-    #[tactic(auto, using(crate::proofs::Callers::callers), unfolding(crate::specs::Calling::found))]
+    #[tactic(auto, using(crate::proofs::Callers::callers), unfolding(crate::specs::Lookup::found))]
     pub fn remove<Q: HashQuery<K>>(&mut self, query: Q) -> Option<V>
     where
         K: Drop,
@@ -26,7 +27,7 @@ impl<K: Eq + Hash, V> UnorderedMap<K, V> {
     }
 
     /// Takes every pair out. The room comes back.
-    #[tactic(auto, using(crate::proofs::Callers::callers), unfolding(crate::specs::Calling::found))]
+    #[tactic(auto, using(crate::proofs::Callers::callers), unfolding(crate::specs::Lookup::found))]
     pub fn clear(&mut self)
     where
         K: Drop,

@@ -1,7 +1,7 @@
 //! `UnorderedMap::retain`.
 ghost use Rattle.std.specs.Prelude.{◌+◌};
 ghost use Rattle.starlark_unordered.specs.Pairs.{pairs_of};
-ghost use Rattle.starlark_unordered.specs.Walk.{AsksPair, CanAskPairs, Retains, TakesPair};
+ghost use Rattle.starlark_unordered.specs.Retain.{AsksPair, CanAskPairs, Retains, TakesPair};
 
 use super::UnorderedMap;
 use std::hash::Hash;

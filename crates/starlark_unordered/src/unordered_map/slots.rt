@@ -8,8 +8,9 @@ ghost use Rattle.starlark_hash.specs.Hasher.{own_hash};
 ghost use Rattle.starlark_hash.specs.HashValue.{hash_number, promoted};
 ghost use Rattle.starlark_hash.specs.Search.{CanSearch};
 ghost use Rattle.starlark_table.specs.Table.{item_in};
-ghost use Rattle.starlark_table.specs.Vacancy.{IsVacancy};
-ghost use Rattle.starlark_unordered.specs.Changing.{AddsAt, TakesSlot};
+ghost use Rattle.starlark_table.specs.Layout.{IsVacancy};
+ghost use Rattle.starlark_unordered.specs.Insert.{AddsAt};
+ghost use Rattle.starlark_unordered.specs.Remove.{TakesSlot};
 ghost use Rattle.starlark_unordered.specs.Pairs.{pairs_of, keys_under, under_own, IsSlotOf};
 ghost use Rattle.starlark_unordered.specs.RawEntry.{Accepts, PutsKey};
 
@@ -19,7 +20,7 @@ use std::hash::Hash;
 use std::mem;
 
 impl<K: Eq + Hash, V> UnorderedMap<K, V> {
-    ghost use Rattle.starlark_unordered.specs.Lending.{lends_value};
+    ghost use Rattle.starlark_unordered.specs.Lend.{lends_value};
 
     // The slot of the key, under the query's own hash.
     #[inline(always)]

@@ -4,8 +4,8 @@ ghost use Rattle.std.specs.Cmp.{on_equiv, on_per, partial_equiv_from_equiv};
 ghost use Rattle.starlark_unordered.specs.Bag.{same_bag};
 ghost use Rattle.starlark_unordered.specs.BagLaws.{pair_equiv, same_bag_equiv};
 ghost use Rattle.starlark_unordered.specs.Pairs.{pairs_of, pair_eq};
-ghost use Rattle.starlark_unordered.specs.Set.{ComparesSets};
-ghost use Rattle.starlark_unordered.specs.Unit.{same_unit, unit_equiv};
+ghost use Rattle.starlark_unordered.specs.Compare.{ComparesSets};
+ghost use Rattle.starlark_hash.specs.Unit.{same_unit, unit_equiv};
 
 use super::UnorderedSet;
 use std::fmt;

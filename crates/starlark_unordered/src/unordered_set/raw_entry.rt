@@ -7,7 +7,8 @@ ghost use Rattle.starlark_hash.specs.HashValue.{hash_of, key_of};
 ghost use Rattle.starlark_hash.specs.Hasher.{own_hash};
 ghost use Rattle.starlark_hash.specs.Search.{CanSearch};
 ghost use Rattle.starlark_table.specs.Table.{item_in};
-ghost use Rattle.starlark_unordered.specs.Changing.{Adds, TakesOut};
+ghost use Rattle.starlark_unordered.specs.Insert.{Adds};
+ghost use Rattle.starlark_unordered.specs.Remove.{TakesOut};
 ghost use Rattle.starlark_unordered.specs.Pairs.{pairs_of, keys_under, under_own};
 ghost use Rattle.starlark_unordered.specs.RawEntry.{NamesAccepted, NamesSlot};
 
@@ -62,7 +63,7 @@ impl<T: Eq + Hash> Drop for RawVacantEntryMut<'_, T> {
 }
 
 impl<T: Eq + Hash> UnorderedSet<T> {
-    ghost use Rattle.starlark_unordered.specs.SetLending.{lends_entry};
+    ghost use Rattle.starlark_unordered.specs.SetLend.{lends_entry};
 
     /// The set, whose place is to be named by a query, or by a hash and a closure.
     #[inline]
@@ -75,12 +76,12 @@ impl<T: Eq + Hash> UnorderedSet<T> {
 }
 
 impl<'a, T: Eq + Hash> RawEntryBuilderMut<'a, T> {
-    ghost use Rattle.starlark_unordered.specs.RawSet.{set_of_raw, slot_of_raw};
+    ghost use Rattle.starlark_unordered.specs.SetRawEntry.{set_of_raw, slot_of_entry};
 
     /// The element that the query stands for, or vacant where the set lacks it. The set is as it was.
     #[inline]
     pub fn from_entry<Q: HashQuery<T>>(self, query: Q) -> RawEntryMut<'a, T>
-        ensures names { NamesSlot (Q.stands_for query) self.entry.map (set_of_raw result) (slot_of_raw result) }
+        ensures names { NamesSlot (Q.stands_for query) self.entry.map (set_of_raw result) (slot_of_entry result) }
     {
         let RawEntryBuilderMut { map } = self;
         match map.slot_under(StarlarkHashValue::new(&query), query) {
@@ -93,7 +94,7 @@ impl<'a, T: Eq + Hash> RawEntryBuilderMut<'a, T> {
     /// it was.
     #[inline]
     pub fn from_entry_hashed<Q: Query<T>>(self, element: Hashed<Q>) -> RawEntryMut<'a, T>
-        ensures names { NamesSlot (under_own T.hash_input (hash_of element) (Q.stands_for (key_of element))) self.entry.map (set_of_raw result) (slot_of_raw result) }
+        ensures names { NamesSlot (under_own T.hash_input (hash_of element) (Q.stands_for (key_of element))) self.entry.map (set_of_raw result) (slot_of_entry result) }
     {
         let RawEntryBuilderMut { map } = self;
         match map.slot_hashed(element.hash(), element.into_key()) {
@@ -112,7 +113,7 @@ impl<'a, T: Eq + Hash> RawEntryBuilderMut<'a, T> {
         is_match: F,
     ) -> RawEntryMut<'a, T>
         requires { CanSearch F.FnMut (keys_under T.hash_input hash self.map.now) is_match }
-        ensures names { NamesAccepted F.FnMut T.hash_input hash is_match self.entry.map (set_of_raw result) (slot_of_raw result) }
+        ensures names { NamesAccepted F.FnMut T.hash_input hash is_match self.entry.map (set_of_raw result) (slot_of_entry result) }
     {
         let RawEntryBuilderMut { map } = self;
         match map.slot_accepted(hash, is_match) {
@@ -123,12 +124,12 @@ impl<'a, T: Eq + Hash> RawEntryBuilderMut<'a, T> {
 }
 
 impl<T: Eq + Hash> RawOccupiedEntryMut<'_, T> {
-    ghost use Rattle.starlark_unordered.specs.RawSet.{stored_raw, Replaces};
+    ghost use Rattle.starlark_unordered.specs.SetRawEntry.{stored_element, Replaces};
 
     /// Takes the element out, and answers it. The others stay, and the room comes back.
     #[inline]
     pub fn remove(self) -> T
-        ensures takes { TakesOut (stored_raw self.entry) result (Some (result, tt)) self.entry.map.now self.exit.0.now }
+        ensures takes { TakesOut (stored_element self.entry) result (Some (result, tt)) self.entry.map.now self.exit.0.now }
     {
         let slot = self.slot;
         let (element, _) = self.map.take_out(slot);
@@ -139,7 +140,7 @@ impl<T: Eq + Hash> RawOccupiedEntryMut<'_, T> {
     /// stay, and so does the room.
     #[inline]
     pub fn insert(&mut self, element: T) -> T
-        requires { IfSome (stored_raw self.old) (λ there. T.eq element there ≡ true) }
+        requires { IfSome (stored_element self.old) (λ there. T.eq element there ≡ true) }
         ensures replaces { Replaces element result self.old self.new }
     {
         let slot = self.slot;

@@ -3,7 +3,8 @@ ghost use Rattle.std.specs.Prelude.{◌≡◌, ◌-◌, ◌≤◌, length, IfOk,
 ghost use Rattle.std.specs.List.{AllZip};
 ghost use Rattle.std.specs.Iterator.{IsFiniteIterable, IsFinite, size};
 ghost use Rattle.starlark_vec2.specs.PairList.{pair_list, IsFull, StaysOrIsFull};
-ghost use Rattle.starlark_vec2.specs.Collect.{Pushes, Extends, MayExceedRoom, Collects, IsPairClone, IsLawfulClone};
+ghost use Rattle.starlark_vec2.specs.Collect.{Pushes, Extends, MayExceedRoom, Collects};
+ghost use Rattle.starlark_hash.specs.Clone.{IsPairClone, IsLawfulClone};
 
 use super::Vec2;
 use starlark_columns::pair::{give_back, with_rows};

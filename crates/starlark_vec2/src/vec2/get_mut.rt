@@ -2,13 +2,13 @@
 ghost use Rattle.std.specs.Prelude.{◌≡◌, ◌<◌, ◌^◌, length, slice_get, get_or, Some, None};
 ghost use Rattle.std.specs.Option.{option_map, option_copied_mut};
 ghost use Rattle.std.specs.Borrow.{sem};
-ghost use Rattle.starlark_columns.specs.Places.{items_of, IsFilled};
+ghost use Rattle.starlark_columns.specs.Cells.{items_of, IsFilled};
 ghost use Rattle.starlark_columns.specs.Block.{IsBehind};
 ghost use Rattle.starlark_columns.specs.Front.{IsFront};
 ghost use Rattle.starlark_vec2.specs.PairList.{firsts_of};
-ghost use Rattle.starlark_vec2.specs.Lending.{deref_both_mut, lends_first, lends_firsts, lends_both, lends_both_if, firsts_follow};
-ghost use Rattle.starlark_columns.specs.Lends.{lends_item};
-ghost use Rattle.starlark_vec2.specs.ColumnLending.{lends_place_if, lends_places};
+ghost use Rattle.starlark_vec2.specs.Lend.{deref_both_mut, lends_first, lends_firsts, lends_both, lends_both_if, firsts_follow};
+ghost use Rattle.starlark_columns.specs.Lend.{lends_item};
+ghost use Rattle.starlark_vec2.specs.Columns.{lends_place_if, lends_places};
 
 use super::Vec2;
 use crate::loan::Loan;

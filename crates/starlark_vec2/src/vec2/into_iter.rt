@@ -27,7 +27,7 @@ pub struct IntoIter<A, B> {
 impl<A, B> Model for IntoIter<A, B> {
     ghost use Rattle.std.specs.Prelude.{List, zip};
     ghost use Rattle.starlark_columns.specs.Block.{IsBlockOf, IsSpotOf};
-    ghost use Rattle.starlark_columns.specs.Places.{items_of};
+    ghost use Rattle.starlark_columns.specs.Cells.{items_of};
     ghost use Rattle.starlark_columns.specs.Between.{IsBetween};
 
     ghost Value = { List (A × B) };

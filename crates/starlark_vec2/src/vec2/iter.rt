@@ -3,7 +3,7 @@ ghost use Rattle.std.specs.Prelude.{◌≡◌, ◌<◌, ◌^◌, length, zip, �
 ghost use Rattle.std.specs.Iterator.{UpTo, at_most};
 ghost use Rattle.std.specs.Iterator.SizeHint.{IsWithinCount};
 ghost use Rattle.std.specs.Map.Iter.{TakesFirst, TakesLast, deref_pair};
-ghost use Rattle.starlark_vec2.specs.Walks.{WalkShows, WalkShowsBack};
+ghost use Rattle.starlark_vec2.specs.Iter.{WalkShows, WalkShowsBack};
 
 use super::Vec2;
 use std::alloc::AllocError;

@@ -1,8 +1,7 @@
 //! `Vec2::sort_by`: positions are sorted, and then the pairs are moved in place.
 ghost use Rattle.std.specs.Prelude.{◌≡◌, ◌≤◌, length, zip, IfOk, IsOk, OnOk, OnErr, IsPermutation};
 ghost use Rattle.std.specs.List.{range_with_len};
-ghost use Rattle.starlark_vec2.specs.Sort.{CanCompare, Sorts};
-ghost use Rattle.starlark_vec2.specs.Positions.{ComparesAt, SortsPositions, PutsInOrder};
+ghost use Rattle.starlark_vec2.specs.Sort.{CanCompare, Sorts, ComparesAt, SortsPositions, PutsInOrder};
 
 use super::Vec2;
 use std::alloc::{AllocError, Global};

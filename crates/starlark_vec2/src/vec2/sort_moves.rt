@@ -1,10 +1,8 @@
 //! `Vec2::sort_pairs_with_moves_by`: the pairs are sorted behind their places, which then tell where they went.
 ghost use Rattle.std.specs.Prelude.{◌≡◌, ◌≤◌, ◌^◌, [], length, map, IfOk, OnOk, OnErr, IsPermutation};
 ghost use Rattle.std.specs.List.{enumerate_from, range_with_len};
-ghost use Rattle.starlark_vec2.specs.Moves.{Moves};
+ghost use Rattle.starlark_vec2.specs.Sort.{Moves, PutsInOrder, SortsNumbered};
 ghost use Rattle.starlark_vec2.specs.PairList.{with_pairs};
-ghost use Rattle.starlark_vec2.specs.Positions.{PutsInOrder};
-ghost use Rattle.starlark_vec2.specs.Sort.{SortsNumbered};
 
 use super::Vec2;
 use std::alloc::AllocError;

@@ -1,9 +1,8 @@
 //! `VecMap::clone`.
 ghost use Rattle.std.specs.Prelude.{◌≡◌, length, IfOk, IsOk};
 ghost use Rattle.std.specs.List.{AllZip};
-ghost use Rattle.starlark_vec2.specs.Collect.{IsLawfulClone};
+ghost use Rattle.starlark_hash.specs.Clone.{IsLawfulClone, IsEntryClone};
 ghost use Rattle.starlark_vecmap.specs.EntryList.{entry_list};
-ghost use Rattle.starlark_hash.specs.Clone.{IsEntryClone};
 
 use super::VecMap;
 use std::alloc::AllocError;

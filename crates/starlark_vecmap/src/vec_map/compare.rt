@@ -1,6 +1,6 @@
 //! A `VecMap`'s entries compared and hashed, place by place.
 ghost use Rattle.std.specs.Prelude.{◌≡◌, fold};
-ghost use Rattle.starlark_hash.specs.Ordered.{same_ordered, ordered_feed};
+ghost use Rattle.starlark_hash.specs.Compare.{same_ordered, ordered_feed};
 
 use super::VecMap;
 use crate::columns::hash_columns;

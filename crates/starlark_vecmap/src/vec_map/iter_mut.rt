@@ -4,7 +4,7 @@ ghost use Rattle.std.specs.Borrow.{sem};
 ghost use Rattle.std.specs.Map.{values_of};
 ghost use Rattle.starlark_hash.specs.Entries.{entry_value, pair_of};
 ghost use Rattle.starlark_vecmap.specs.EntryList.{deref_entry_mut};
-ghost use Rattle.starlark_vecmap.specs.Lending.{lends_value, values_follow};
+ghost use Rattle.starlark_vecmap.specs.Lend.{lends_value, values_follow};
 
 use super::{IterMut, ValuesMut, VecMap};
 use starlark_hash::{Hashed, StarlarkHashValue};

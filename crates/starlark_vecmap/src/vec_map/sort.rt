@@ -1,7 +1,7 @@
 //! Sorting a `VecMap` by its keys.
 ghost use Rattle.std.specs.Prelude.{◌≡◌, IfOk, IsOk, OnOk, OnErr, MatchBool};
-ghost use Rattle.starlark_hash.specs.Sorting.{Ascends, sorted_by_key};
-ghost use Rattle.starlark_vec2.specs.Moves.{Moves};
+ghost use Rattle.starlark_hash.specs.Sort.{Ascends, sorted_by_key};
+ghost use Rattle.starlark_vec2.specs.Sort.{Moves};
 ghost use Rattle.starlark_vecmap.specs.EntryList.{with_entries};
 
 use super::VecMap;

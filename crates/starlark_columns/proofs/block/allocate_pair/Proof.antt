@@ -4,7 +4,7 @@ use mir.Syntax.{Body}
 use denote.Struct.Declared as Declared
 use Rattle.core.specs.contracts.alloc.AllocError as refusal
 use Rattle.core.specs.contracts.result.Result as outcome
-use Rattle.starlark_columns.specs.Paired.{two_arrays, pair_ty, second_offset, skipped, rooms_rejoin}
+use Rattle.starlark_columns.specs.Pair.{two_arrays, pair_ty, second_offset, skipped, rooms_rejoin}
 use Rattle.starlark_columns.proofs.PairRooms.{cut_in_two, some_weight, both_within}
 use Rattle.starlark_columns.proofs.Fields.{word, mark, four, address_made, RowMark, row_mark_made, PairClaimData, pair_claim_made}
 use Rattle.starlark_columns.proofs.Memory.{Row, of_room}

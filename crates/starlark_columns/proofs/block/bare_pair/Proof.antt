@@ -1,6 +1,6 @@
 -- `bare_pair` makes places of no bytes out of nothing, and a right to nothing. Assumes `Logic`.
 use Rattle.starlark_columns.proofs.Walking.{◌≡◌, ℕ, ◌+◌, ◌*◌, ◌<◌, ◌^◌, Option, List, [], ◌∷◌, length, Bool, true, refl, sym, ap, subst, arith, lit<, w64, eqb, cond, length-replicate, Fml, ftrue, fsep, flft, emp, ◌⊑◌, fact, fact_i, inst_fn, bare, a_type, named, dcons, dnil, Val, vint, vptr, vstruct, vcons, vnil, alloc_all, pass_all, free_all, look_at, get, sets, ‵, raw, ◌⊛◌, ◌$◌, ◌∵◌, !, qed, by, move, keep, use0, use1, split, group, fjoin, feq_i, flt_i, rewrite, agg, stop, from, addr, and_then, no_more, returns, enter, RefOf, usize, yes, lone, param, bounded, uint_vals, uint_Tells, RattleType, owns, Ptr, block_ptr, shr_vals, shr_Tells, plain, types_at, heard, nothing, Tuple, Stays, stay_dropped, walk_of, Goes-dropped, El, proved, leaves, type_size, None, R, empties}
-use Rattle.starlark_columns.specs.Paired.{two_arrays, rooms_rejoin, skipped}
+use Rattle.starlark_columns.specs.Pair.{two_arrays, rooms_rejoin, skipped}
 use Rattle.starlark_columns.proofs.Fields.{word, mark, four, address_made, RowMark, row_mark_made, PairClaimData, pair_claim_made}
 use Rattle.starlark_columns.proofs.Memory.{Row, weightless}
 use Rattle.starlark_columns.specs.contracts.block.Address as address

@@ -1,6 +1,6 @@
 -- `deallocate` makes one room of the bare places, and hands it back with the right to do so. Assumes `Logic`.
 use Rattle.starlark_columns.proofs.Walking.{◌≡◌, ℕ, ◌*◌, ◌<◌, ◌^◌, Option, Bool, false, List, [], ◌∷◌, refl, sym, ap, subst, ◌∙◌, arith, w64, Fml, ftrue, fsep, froom, flft, Incl-trans, SProp, never, id⊢, ◌⊑◌, fact, tables, eqb, length-replicate, cond, inst_fn, Ty, named, ty_unit, ty_array, Val, vunit, vint, vptr, has_ty, WT, capped_fits, align, capped, alloc_all, pass_all, free_all, look_at, get, get_in, is, sets, lands_last, env, ‵, raw, ◌⊛◌, given, later, at_ret, ◌$◌, ◌∵◌, !, qed, by, move, keep, use1, group, split, join, learn, rewrite, fsplit, fjoin, feq_i, flt_l, await, whole, sub, stop, fld, unit_lit, size_word, align_word, no_more, and_then, of_opd, bin, first, blocks, exec, returns, enter, RefOf, usize, yes, no, param, uint_vals, uint_Tells, RattleType, owns, Ptr, block_ptr, ptr_val, in_block, in_a_block, shr_vals, shr_Tells, plain, types_at, heard, nothing, calls_at_last, framed, Stays, stay_dropped, walk_of, Goes-dropped, Al, token, Gives, at_gives, Gives-goes, Gives-Gives, El, elτ, after, uncapped, block_ty, block_size, block_align, args, proved, leaves, type_size, None, T, R, empties}
-use Rattle.starlark_columns.specs.Owned.{places_owned, row_owned}
+use Rattle.starlark_columns.specs.Ownership.{places_owned, row_owned}
 use Rattle.starlark_columns.proofs.Fields.{word, word_good, mark, address_told, row_mark_told, claim_told}
 use Rattle.starlark_columns.proofs.Memory.{to_room}
 use Rattle.starlark_columns.proofs.PairRooms.{some_weight}

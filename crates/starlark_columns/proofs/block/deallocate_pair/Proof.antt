@@ -1,7 +1,7 @@
 -- `deallocate_pair` makes the block's room of the bare places of both rows, and hands it back with the right to do so. Assumes `Logic`.
 use Rattle.starlark_columns.proofs.Walking.{◌≡◌, ℕ, ◌+◌, ◌*◌, ◌<◌, Option, Bool, false, List, [], ◌∷◌, refl, sym, ap, subst, ◌∙◌, w64, Fml, ftrue, fsep, froom, flft, Incl-trans, SProp, never, id⊢, apply∗, ◌⊑◌, fact, tables, eqb, cond, inst_fn, bare, Ty, named, ty_unit, ty_array, a_type, dcons, dnil, Val, vunit, vint, vptr, has_ty, WT, capped, size-raw, align-raw, alloc_all, pass_all, free_all, look_at, get, get_in, is, sets, lands_last, env, sem, ‵, raw, ◌⊛◌, given, later, at_ret, ◌$◌, ◌∵◌, !, qed, by, move, keep, use1, use2, group, split, join, learn, rewrite, fsplit, fjoin, feq_i, flt_l, await, whole, sub, stop, fld, unit_lit, no_more, and_then, of_opd, first, blocks, exec, returns, enter, RefOf, usize, yes, no, param, bounded, uint_vals, uint_Tells, RattleType, owns, Ptr, block_ptr, ptr_val, in_block, in_a_block, shr_vals, shr_Tells, plain, types_at, heard, nothing, calls_at_last, framed, Stays, stay_dropped, walk_of, Goes-dropped, Al, token, Gives, at_gives, Gives-goes, Gives-Gives, El, elτ, after, HasLayout, proved, leaves, type_size, T, R, empties}
-use Rattle.starlark_columns.specs.Owned.{places_owned, row_owned}
-use Rattle.starlark_columns.specs.Paired.{two_arrays, pair_ty, rooms_rejoin}
+use Rattle.starlark_columns.specs.Ownership.{places_owned, row_owned}
+use Rattle.starlark_columns.specs.Pair.{two_arrays, pair_ty, rooms_rejoin}
 use Rattle.starlark_columns.proofs.PairRooms.{some_weight}
 use Rattle.starlark_columns.proofs.Fields.{word, word_good, mark, address_told, row_mark_told, pair_claim_told}
 use Rattle.starlark_columns.proofs.Memory.{to_room}

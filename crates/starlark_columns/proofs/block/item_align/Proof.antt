@@ -1,6 +1,6 @@
 -- `item_align` is the machine's own number. Assumes `Logic`.
 use Rattle.starlark_columns.proofs.Walking.{ℕ, ◌≡◌, ◌^◌, List, [], ◌∷◌, refl, w64, ftrue, flft, emp, fact, fact_i, inst_fn, a_type, Val, vint, capped_fits, capped, alloc_all, pass_all, free_all, look_at, sets, ‵, raw, ◌⊛◌, ◌$◌, ◌∵◌, !, qed, by, move, keep, use0, fjoin, feq_i, flt_i, split, align_word, of_opd, returns, enter, param, layouts, nothing, walk_of, proved, leaves}
-use Rattle.starlark_columns.specs.Paired.{type_align}
+use Rattle.starlark_columns.specs.Pair.{type_align}
 use Rattle.starlark_columns.specs.contracts.block.item_align.{ended, clauses}
 use Rattle.starlark_columns.specs.contracts.block.item_align.Key as key
 use Rattle.starlark_columns.proofs.block.item_align.Statement.{statement}

@@ -1,5 +1,5 @@
 use Rattle.std.proofs.Common.{ap, ◌∙◌}
-use Rattle.starlark_columns.specs.Slotted.{emptied}
+use Rattle.starlark_columns.specs.Slots.{emptied}
 use Rattle.starlark_columns.proofs.ByteRows.{all_emptied}
 use Rattle.starlark_columns.proofs.bytes.emptied.Goals as goal
 

@@ -14,7 +14,7 @@ use denote.HolePlaces.{Recodes}
 use denote.Param.Weighed.{Weighed, w_const, w_via}
 use Rattle.std.specs.declared.alloc.Allocator.{Ghosts}
 use Rattle.std.specs.declared.marker.PhantomData.{PhantomData}
-use Rattle.starlark_columns.specs.Paired.{arrays_apart, arrays_claimed}
+use Rattle.starlark_columns.specs.Pair.{arrays_apart, arrays_claimed}
 use Rattle.starlark_columns.specs.declared.block.PairClaim.{PairClaim}
 use Rattle.starlark_columns.specs.contracts.block.PairClaim as claim
 

@@ -23,7 +23,7 @@ use Rattle.starlark_columns.specs.declared.column.Column.TheInside.{Inside}
 use Rattle.starlark_columns.specs.declared.column.Column.TheView.{view, invariant}
 use Rattle.starlark_columns.specs.contracts.column.Column as column
 use Rattle.starlark_columns.specs.contracts.column.Column.TheInside as inside
-use Rattle.starlark_columns.specs.Claims.{IsClaimTo}
+use Rattle.starlark_columns.specs.Block.{IsClaimTo}
 use Rattle.starlark_columns.specs.formers.block.Claim as claim_is
 use Rattle.starlark_columns.specs.formers.row.Row as row_is
 use Rattle.starlark_columns.specs.formers.row.Row.{place, weighed_place, mapped_place, place_cases, place_recoded}

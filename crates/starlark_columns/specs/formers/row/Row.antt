@@ -22,7 +22,7 @@ use denote.Param.Weighed.{Weighed, w_const, w_pair, w_or, w_via, w_list}
 use Rattle.std.specs.declared.marker.PhantomData.{PhantomData}
 use Rattle.starlark_columns.specs.declared.row.Row.{Row}
 use Rattle.starlark_columns.specs.contracts.row.Row as row
-use Rattle.starlark_columns.specs.Owned.{place_owned, places_owned, row_owned, place_lent, places_lent, within_lent, row_lent}
+use Rattle.starlark_columns.specs.Ownership.{place_owned, places_owned, row_owned, place_lent, places_lent, within_lent, row_lent}
 
 -- ---- a place, which is empty or holds an item
 module _ {X : Type 0} where

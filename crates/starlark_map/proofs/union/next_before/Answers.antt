@@ -1,6 +1,6 @@
 use Rattle.std.proofs.Common.{◌≡◌, ◌∷◌, true, false, subst, rules, arith}
 use Rattle.std.proofs.lemmas.Grind.{common_steps}
-use Rattle.starlark_hash.specs.Sorting.{Ascends}
+use Rattle.starlark_hash.specs.Sort.{Ascends}
 use Rattle.starlark_map.specs.SortedUnion.{behind, comes_first, is_others, is_passed, shown}
 use Rattle.starlark_map.proofs.Given.{Ascends-left}
 use Rattle.starlark_map.proofs.Rising.{step-other, step-own, taken-first}

@@ -1,4 +1,4 @@
-use Rattle.starlark_hash.specs.Sorting.{key_lt}
+use Rattle.starlark_hash.specs.Sort.{key_lt}
 use Rattle.starlark_hash.proofs.SortingLemmas.{IsPermutation-sorted_by, sorted_by-sorted, sorted_by-stable, sorted_by-unique, key_lt-order}
 use Rattle.starlark_runs.proofs.lists.sorted_stably.Goals as goal
 

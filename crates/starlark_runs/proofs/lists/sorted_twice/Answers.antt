@@ -1,4 +1,4 @@
-use Rattle.starlark_hash.specs.Sorting.{key_lt}
+use Rattle.starlark_hash.specs.Sort.{key_lt}
 use Rattle.starlark_hash.proofs.SortingLemmas.{sorted_by-twice, key_lt-order}
 use Rattle.starlark_runs.proofs.lists.sorted_twice.Goals as goal
 

@@ -1,4 +1,4 @@
-use Rattle.starlark_hash.specs.Sorting.{key_lt, sorted_by_key}
+use Rattle.starlark_hash.specs.Sort.{key_lt, sorted_by_key}
 use Rattle.starlark_hash.proofs.SortingLemmas.{sorted_by-fixed, key_lt-order}
 use Rattle.starlark_runs.proofs.Sorted.{left_either_way}
 use Rattle.starlark_runs.proofs.order.sort_of_a_sorted_list.Goals as goal

@@ -2,7 +2,7 @@ use Rattle.std.proofs.Common.{◌≡◌, ap, ◌∙◌, rules, string_bytes}
 use Rattle.std.specs.Int.{w64}
 use Rattle.std.specs.Str.{bytes_eq}
 use Rattle.std.proofs.lemmas.Int.{to_z-of_z}
-use Rattle.starlark_hash.specs.Insertion.{insert_entry}
+use Rattle.starlark_hash.specs.Insert.{insert_entry}
 use Rattle.starlark_hash.specs.HashValue.{hash_of, key_of}
 use Rattle.starlark_script.specs.Shown.{shown_key}
 use Rattle.starlark_script.specs.ShownEntries.{entries_of}

@@ -1,7 +1,7 @@
 use Rattle.std.proofs.Common.{◌≡◌, length}
 use Rattle.std.specs.Cmp.Lexicographic.{slice_cmp}
 use Rattle.std.specs.Ordering.{on, nat_cmp}
-use Rattle.starlark_sets.specs.Ordered.{number_of}
+use Rattle.starlark_sets.specs.Compare.{number_of}
 use Rattle.starlark_sets.proofs.ordered.cmp_hashes.Given as goal
 
 abbrev pub invariant-loop-key : goal.invariant-loop-key

@@ -1,6 +1,6 @@
 use Rattle.std.proofs.Common.{◌≡◌, length}
 use Rattle.std.specs.Cmp.Lexicographic.{slice_cmp}
-use Rattle.starlark_sets.specs.Ordered.{pair_cmp}
+use Rattle.starlark_sets.specs.Compare.{pair_cmp}
 use Rattle.starlark_sets.proofs.ordered.cmp_pairs.Given as goal
 
 abbrev pub invariant-loop-key : goal.invariant-loop-key

@@ -1,6 +1,5 @@
 use Rattle.std.proofs.Common.{◌≡◌, ℕ, suc, ◌*◌, ◌^◌, ◌<◌, ◌≤◌, arith}
-use Rattle.starlark_table.specs.Growth.{limit}
-use Rattle.starlark_table.specs.Growth.{most_for}
+use Rattle.starlark_table.specs.Growth.{limit, most_for}
 use Rattle.starlark_table.proofs.growth.places_for.Goals as goal
 
 -- where so many places hold too few, twice as many do not hold too many

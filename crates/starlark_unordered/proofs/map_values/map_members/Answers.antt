@@ -3,7 +3,7 @@ use Rattle.std.specs.Fn.{Takes}
 use Rattle.starlark_hash.specs.HashValue.{hash_number, promoted}
 use Rattle.starlark_table.specs.Table.{members}
 use Rattle.starlark_table.proofs.Walking.{walk_asks, walk_on}
-use Rattle.starlark_unordered.specs.Walk.{CanMapValues}
+use Rattle.starlark_unordered.specs.MapValues.{CanMapValues}
 use Rattle.starlark_unordered.proofs.Mapping.{Goes, goes_on, goes_to_end}
 use Rattle.starlark_unordered.proofs.map_values.map_members.Goals as goal
 

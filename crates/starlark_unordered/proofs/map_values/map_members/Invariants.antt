@@ -1,6 +1,6 @@
 use Rattle.std.proofs.Common.{◌≡◌, ◌≤◌, length, map}
 use Rattle.starlark_table.specs.Table.{members, table_capacity}
-use Rattle.starlark_unordered.specs.Walk.{CanMapValues}
+use Rattle.starlark_unordered.specs.MapValues.{CanMapValues}
 use Rattle.starlark_unordered.proofs.Mapping.{Goes}
 use Rattle.starlark_unordered.proofs.map_values.map_members.Given as goal
 

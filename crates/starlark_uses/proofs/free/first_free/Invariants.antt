@@ -1,7 +1,7 @@
 use Rattle.std.proofs.Common.{◌≡◌, ℕ, ◌<◌, true}
 use Rattle.std.specs.Hash as fed
 use Rattle.std.specs.Prelude.{nat_eq}
-use Rattle.starlark_small.specs.Calling.{contains}
+use Rattle.starlark_small.specs.Lookup.{contains}
 use Rattle.starlark_uses.proofs.free.first_free.Given as goal
 
 abbrev pub invariant-loop-n : goal.invariant-loop-n

@@ -20,7 +20,7 @@ use denote.Model.Placed.{held, view_places_where}
 use Rattle.std.specs.declared.alloc.Global.{Global}
 use Rattle.std.specs.contracts.alloc.Global as heap
 use Rattle.std.specs.contracts.impls.GlobalAllocator.TheImpl.{ghosts}
-use Rattle.starlark_columns.specs.Places.{items_of}
+use Rattle.starlark_columns.specs.Cells.{items_of}
 use Rattle.starlark_columns.specs.Front.{IsFront}
 use Rattle.starlark_columns.specs.formers.row.Row.{place, mapped_place, mapped}
 use Rattle.starlark_columns.specs.Block.{IsBlockOf, IsSpotOf}

@@ -1,7 +1,7 @@
 use Rattle.std.proofs.Common.{◌≡◌, drop}
 use Rattle.std.specs.Prelude.{fold}
 use Rattle.starlark_vecmap.specs.EntryList.{entries_in}
-use Rattle.starlark_hash.specs.Ordered.{ordered_feed}
+use Rattle.starlark_hash.specs.Compare.{ordered_feed}
 use Rattle.starlark_vecmap.proofs.columns.hash_columns.Given as goal
 
 abbrev pub invariant-loop-i : goal.invariant-loop-i

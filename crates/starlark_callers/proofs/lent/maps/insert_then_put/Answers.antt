@@ -1,6 +1,6 @@
 use Rattle.std.specs.Prelude.{OnOk}
 use Rattle.std.proofs.Common.{rules, subst}
-use Rattle.starlark_small.specs.Inserted.{IsInserted}
+use Rattle.starlark_small.specs.Insert.{IsInserted}
 use Rattle.starlark_callers.proofs.lent.maps.insert_then_put.Goals as goal
 
 pub returns-in-Ok-clause-inserted : goal.returns-in-Ok-clause-inserted

@@ -8,7 +8,7 @@ use Rattle.starlark_hash.proofs.no_room.NoRoom.TheLaws as room_laws
 use Rattle.starlark_hash.specs.contracts.no_room.NoRoom as N
 use Rattle.starlark_hash.specs.Entries.{match_of}
 use Rattle.starlark_small.specs.Map.{Map, own_hashed}
-use Rattle.starlark_small.specs.Lending.{lends_inserted}
+use Rattle.starlark_small.specs.Lend.{lends_inserted}
 use Rattle.starlark_small.specs.contracts.small_map.SmallMap as S
 use Rattle.starlark_small.specs.contracts.small_map.SmallMap.insert_unique_unchecked as g
 use Rattle.starlark_small.proofs.small_map.SmallMap.insert_unique_unchecked.Symbol.{name as #insert}

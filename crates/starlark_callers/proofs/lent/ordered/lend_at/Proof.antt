@@ -14,8 +14,8 @@ use Rattle.starlark_hash.specs.Entries.{match_of}
 use Rattle.starlark_small.proofs.entry.Entry.TheLaws as entry_laws
 use Rattle.starlark_small.proofs.entry.Entry.or_insert.Symbol.{name as #puts}
 use Rattle.starlark_small.proofs.entry.Entry.or_insert.Met as puts
-use Rattle.starlark_small.specs.Calling.{get as found_in}
-use Rattle.starlark_small.specs.Inserted.{IsRefused}
+use Rattle.starlark_small.specs.Lookup.{get as found_in}
+use Rattle.starlark_small.specs.Insert.{IsRefused}
 use Rattle.starlark_small.specs.Map.{Map, own_hashed}
 use Rattle.starlark_small.specs.MapEntry.{entry_lends, entry_value_of, map_of_entry, Enters as IsEntered, IsPut, Puts as HasPut, Refuses, ShowsOrGives}
 use Rattle.starlark_small.specs.contracts.entry.Entry as R
@@ -24,12 +24,12 @@ use Rattle.starlark_small.specs.contracts.small_map.SmallMap as S
 use Rattle.starlark_small.specs.declared.entry.Entry.{Entry}
 use Rattle.starlark_sets.proofs.ordered_map.OrderedMap.entry.Symbol.{name as #enters}
 use Rattle.starlark_sets.proofs.ordered_map.OrderedMap.entry.Met as enters
-use Rattle.starlark_sets.specs.OrderedLending.{follows_entry}
+use Rattle.starlark_sets.specs.Lend.{follows_entry}
 use Rattle.starlark_sets.specs.contracts.ordered_map.OrderedMap as O
 use Rattle.starlark_sets.specs.contracts.ordered_map.OrderedMap.entry as e
 use Rattle.starlark_callers.proofs.Steps.{good_value, mut_laws}
 use Rattle.starlark_callers.proofs.OrderedLent.{held, put_at, refused_at, absent_at, handed_back_at, so_then}
-use Rattle.starlark_callers.specs.OrderedLending.{lends_at, IsPutUnder}
+use Rattle.starlark_callers.specs.Lend.{lends_at, IsPutUnder}
 use Rattle.starlark_callers.specs.contracts.lent.ordered.lend_at as F
 use Rattle.starlark_callers.specs.contracts.lent.ordered.lend_at.Key.{name as #self}
 use Rattle.starlark_callers.proofs.lent.ordered.lend_at.Statement.{statement}

@@ -1,7 +1,7 @@
 -- `put_both` meets its contract, at any two item types: the list is lent to the call, what that gives is written by
 -- another, and what both references end as gives the list back. Assumes `Logic`.
 use Rattle.starlark_callers.proofs.Walks.{◌≡◌, refl, sym, ap, subst, ◌∙◌, List, [], ◌∷◌, ℕ, ◌<◌, ◌^◌, length, Ura, Fn, Args, a_type, named, w64, inst_fn, Val, vint, vptr, SProp, ent, sep, emp, id⊢, ex_e, snd∗, Lft, GName, Share, ftrue, flft, fres, Memory, Routine, Calls, Loops, WpFn, Logic, sem, ◌⊑◌, ⊑_trans, meet_⊑_right, Fun, fact, fact_i, tables, FmC, by, ‵, raw, ◌⊛◌, some, later, ◌$◌, ◌∵◌, !, qed, move, keep, use0, use1, use2, use3, split, split3, join, pick, fsplit, fsplit3, fjoin, suffices, frame, await, rewrite, group, done, stop, addr, of_opd, and_then, no_more, returns, enter, alloc_all, pass_all, free_all, look_at, get, through, sets, lands_as, no, yes, RattleType, owns, Is, shows, usize, follows_both, param, layouts, layout, Laws, param_laws, uint_Makes, uint_Tells, MutBor, MutRef, mut_vals, mut_Tells, plain, types_at, nothing, owned, heard, peeks, Tuple, tuple_laws, calls_at, Clauses, Ended, Lasts, ensured, lasts, triple_of, Contract, Triple, framed, Stays, stay_dropped, stay_ref, walk_of, ends_at, Goes-ref, Goes-dropped, Goes-blank, Good, proved_at, Some, slice_get, slice_set, lone_value}
-use Rattle.starlark_vec2.specs.Lending.{with_pair}
+use Rattle.starlark_vec2.specs.Lend.{with_pair}
 use Rattle.starlark_vec2.specs.PairList.{PairList}
 use Rattle.starlark_vec2.specs.contracts.vec2.Vec2 as V
 use Rattle.starlark_vec2.specs.contracts.vec2.Vec2.get_unchecked_mut as g

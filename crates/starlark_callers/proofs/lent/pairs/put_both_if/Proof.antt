@@ -3,7 +3,7 @@
 use Rattle.core.specs.contracts.option.Option as OP
 use Rattle.core.specs.contracts.result.Result as RS
 use Rattle.starlark_callers.proofs.Walks.{◌≡◌, refl, sym, ap, subst, ◌∙◌, inl, inr, List, [], ◌∷◌, ℕ, ◌<◌, ◌^◌, suc-ne-zero, lit<, Ura, Fn, Args, a_type, named, w64, inst_fn, Val, vint, vptr, vstruct, vcons, vnil, of_list, SProp, ent, sep, emp, id⊢, ex_e, snd∗, Lft, GName, Share, ftrue, flft, fres, Memory, Routine, Env, Calls, Loops, WpFn, Logic, sem, live, vrt, in_variant, by_variants, ◌⊑◌, ⊑_trans, meet_⊑_right, Fun, fact, fact_i, tables, FmC, by, ‵, raw, ◌⊛◌, some, given, later, at_ret, ◌$◌, ◌∵◌, !, qed, move, keep, drop, use0, use1, use2, use3, split, split3, join, pick, learn, fsplit, fsplit3, fjoin, suffices, frame, await, rewrite, group, done, whole, agg, stop, fld, addr, lit, of_opd, and_then, no_more, begins, exec, returns, enter, alloc_all, pass_all, free_all, look_at, get, get_in, get_tag, through, sets, sets_last, lands_as, env, no, yes, RattleType, owns, Is, shows, usize, follows_both, param, layouts, layout, Laws, param_laws, uint_Makes, uint_Tells, MutBor, MutRef, mut_vals, mut_Tells, plain, types_at, nothing, owned, heard, peeks, Tuple, tuple_laws, calls_at, Clauses, Ended, Lasts, ensured, lasts, triple_of, Contract, Triple, framed, Stays, stay_dropped, stay_ref, walk_of, ends_at, Goes-ref, Goes-dropped, Goes-blank, Good, Ok-of, Err-of, and_tt, after, proved_at, Option, Some, None, Result, Ok, Err, IfOk, IfErr, OnOk, OnErr, slice_get, slice_set, lone_value, as_tuple}
-use Rattle.starlark_vec2.specs.Lending.{with_pair, deref_both_mut, lends_both_if}
+use Rattle.starlark_vec2.specs.Lend.{with_pair, deref_both_mut, lends_both_if}
 use Rattle.starlark_vec2.specs.PairList.{PairList}
 use Rattle.starlark_vec2.specs.contracts.vec2.Vec2 as V
 use Rattle.starlark_vec2.specs.contracts.vec2.Vec2.get_mut as g

@@ -2,7 +2,7 @@
 use Rattle.starlark_columns.proofs.Walking.{◌≡◌, ℕ, List, [], ◌∷◌, refl, sym, ap, subst, Fml, ftrue, fsep, flft, emp, ◌⊑◌, fact, fact_i, inst_fn, a_type, named, Val, vunit, vptr, alloc_all, pass_all, free_all, look_at, sets, ‵, raw, ◌⊛◌, ◌$◌, ◌∵◌, !, qed, by, move, keep, use0, split, fsplit, fjoin, feq_i, feq_l, unit_lit, of_opd, returns, enter, RefOf, yes, param, layouts, RattleType, owns, Ptr, unhide, Bor, shr_vals, shr_Tells, plain, types_at, nothing, Stays, stay_dropped, walk_of, Goes-dropped, proved, leaves, ghosts}
 use denote.RawPtr.{InBlock}
 use Rattle.std.specs.contracts.alloc.Global as heap
-use Rattle.starlark_columns.specs.Paired.{behind}
+use Rattle.starlark_columns.specs.Pair.{behind}
 use Rattle.starlark_columns.specs.contracts.block.PairClaim as claim
 use Rattle.starlark_columns.specs.contracts.block.PairClaim+T+U+Global.told.{ended, clauses}
 use Rattle.starlark_columns.specs.contracts.block.PairClaim+T+U+Global.told.Key as key

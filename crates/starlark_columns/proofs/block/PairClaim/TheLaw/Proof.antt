@@ -5,7 +5,7 @@ use denote.SharingLaws.{said_shr_laws, beside_shr_laws}
 use denote.Struct.Lending.{Lends-both, Lends-said}
 use Rattle.core.specs.contracts.marker.PhantomData as mark
 use Rattle.starlark_columns.proofs.block.PairClaim.TheLaw.Statement.{statement}
-use Rattle.starlark_columns.specs.Paired.{apart}
+use Rattle.starlark_columns.specs.Pair.{apart}
 use Rattle.starlark_columns.specs.contracts.block.PairClaim as claim
 
 pub shares : (R U A : RattleType) (g : Ghosts A.Denot) (L : Laws R) (LU : Laws U) (LA : Laws A) → statement R U A g L LU LA

@@ -1,7 +1,7 @@
 -- `lend` lends the places, and the column, open for good, is closed by what they follow. Assumes `Logic`.
 use Rattle.starlark_columns.proofs.Walking.{◌≡◌, ℕ, ◌+◌, ◌*◌, ◌<◌, ◌^◌, List, [], ◌∷◌, length, refl, sym, ap, subst, ◌∙◌, zero-add, zero-mul, Ura, Fml, GName, Lft, Share, ftrue, fsep, flft, fobs, fbor, SProp, ent, sep, emp, never, id⊢, ◌⊑◌, fact, fact_i, tables, inst_fn, a_type, named, dcons, dnil, Val, vptr, vstruct, vcons, vnil, alloc_all, pass_all, free_all, look_at, get, through, sets, ‵, raw, ◌⊛◌, some, later, ◌$◌, ◌∵◌, !, qed, by, move, keep, use0, use1, split, split3, join, pick, rewrite, fsplit, fsplit3, fjoin, flt_i, flt_l, group, await, Logic, sem, open_ref, takes_part, Body, whole, sub, agg, look_in, stop, fld, load, of_opd, no_more, and_then, returns, enter, no, follows, mem, param, bounded, param_laws, RattleType, owns, Ptr, block_ptr, in_block, in_a_block, MutBor, mut_vals, mut_Tells, makes_shadow, plain, mut_ref_to, named_lft, types_at, nothing, shape, Struct, Stays, stay_dropped, walk_of, Goes-spent_ref, proved, leaves, type_size}
-use Rattle.starlark_columns.specs.Owned.{places_owned, row_owned}
-use Rattle.starlark_columns.specs.Lent.{kept_places, KeptPlaces, lent_places}
+use Rattle.starlark_columns.specs.Ownership.{places_owned, row_owned}
+use Rattle.starlark_columns.specs.Loan.{kept_places, KeptPlaces, lent_places}
 use Rattle.starlark_columns.proofs.ColumnOpens as O
 use Rattle.starlark_columns.proofs.LentPlaces.{length-kept_places, places_itself}
 use Rattle.starlark_columns.specs.contracts.loan.Loan as loan

@@ -1,7 +1,7 @@
 -- `take_value` hands out the key and the value of the next place, of which the value alone is written. Assumes `Logic`.
 use Rattle.starlark_columns.proofs.Walking.{◌≡◌, ℕ, suc, ◌+◌, ◌*◌, ◌<◌, ◌^◌, Option, Some, get_or, List, [], ◌∷◌, ◌++◌, length, refl, sym, ap, subst, ◌∙◌, arith, w64, suc-mul, Fml, GName, Lft, Share, Incl-trans, ftrue, fsep, flft, full_share, SProp, emp, never, id⊢, ◌⊑◌, Lfts, fact, fact_i, tables, inst_fn, a_type, named, Val, vint, vptr, vstruct, vcons, vnil, of_list, alloc_all, pass_all, free_all, look_at, get, through, is, sets, sets_last, env, Item, ‵, raw, ◌⊛◌, some, later, at_ret, ◌$◌, ◌∵◌, !, qed, by, move, keep, use0, use2, split, split3, join, pick, rewrite, fsplit, fsplit3, fjoin, fjoin3, feq_i, flt_i, flt_l, await, whole, sub, look_in, agg, and_then, no_more, stop, fld, load, bin, addr, size_word, of_opd, first, blocks, exec, returns, enter, usize, yes, shows, cell_at, param, layouts, param_laws, uint_vals, uint_Tells, RattleType, owns, Ptr, ptr_val, in_a_block, Bor, MutBor, MutRef, ShrRef, mut_vals, mut_Tells, plain, named_lft, types_at, heard, nothing, peeks, opens, closes, Tuple, Stays, stay_ref, stay_dropped, walk_of, Goes-ref, Goes-dropped, times_below, after, uncapped, proved, leaves, type_size, option_map, IsFilled}
 use Rattle.std.proofs.Common.{None, drop}
-use Rattle.starlark_columns.specs.Lent.{lent_from, lent_places}
+use Rattle.starlark_columns.specs.Loan.{lent_from, lent_places}
 use Rattle.starlark_columns.proofs.Fields.{both}
 use Rattle.starlark_columns.proofs.PairParts.{part, first_at, second_at}
 use Rattle.starlark_columns.proofs.EntryOut.{Value, value_out}

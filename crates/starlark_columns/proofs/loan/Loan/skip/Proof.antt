@@ -1,7 +1,7 @@
 -- `skip` passes over a place, which stays as it is. Assumes `Logic`.
 use Rattle.starlark_columns.proofs.Walking.{◌≡◌, ℕ, suc, ◌+◌, ◌*◌, ◌<◌, ◌^◌, Option, List, [], ◌∷◌, length, refl, sym, ap, subst, arith, suc-mul, Fml, GName, Lft, Share, ftrue, fsep, flft, SProp, emp, never, id⊢, ◌⊑◌, Lfts, fact, fact_i, tables, inst_fn, a_type, named, dcons, dnil, Val, vptr, vunit, alloc_all, pass_all, free_all, look_at, sets, ‵, raw, ◌⊛◌, some, later, ◌$◌, ◌∵◌, !, qed, by, move, keep, use0, use2, split, split3, join, pick, rewrite, fsplit, fsplit3, fjoin, fjoin3, feq_i, flt_i, flt_l, await, unit_lit, of_opd, returns, enter, param, bounded, RattleType, owns, Ptr, in_a_block, MutBor, mut_vals, mut_Tells, plain, named_lft, types_at, heard, nothing, opens, closes, Stays, stay_ref, walk_of, Goes-ref, proved, leaves, type_size}
 use Rattle.std.proofs.Common.{drop}
-use Rattle.starlark_columns.specs.Lent.{lent_from, lent_places}
+use Rattle.starlark_columns.specs.Loan.{lent_from, lent_places}
 use Rattle.starlark_columns.proofs.LentPlaces.{parted, Left, place_off}
 use Rattle.starlark_columns.specs.contracts.loan.Loan as loan
 use Rattle.starlark_columns.specs.contracts.loan.Loan.skip.{ended, clauses}

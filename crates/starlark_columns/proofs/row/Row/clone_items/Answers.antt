@@ -1,6 +1,6 @@
 use Rattle.std.proofs.Common.{[], length, get_or, sym, ap, subst, refl, ◌∙◌, arith}
 use Rattle.std.specs.List.{AllZip}
-use Rattle.starlark_columns.specs.Places.{items_of}
+use Rattle.starlark_columns.specs.Cells.{items_of}
 use Rattle.starlark_columns.proofs.Fronts.{cloned_more, none_at_front, front_empties}
 use Rattle.starlark_columns.proofs.row.Row.clone_items.Goals as goal
 

@@ -1,8 +1,8 @@
 -- `get_mut` lends one item, and its place follows it. Assumes `Logic`.
 use Rattle.starlark_columns.proofs.Walking.{◌≡◌, ◌≤◌, ◌+◌, ◌-◌, Some, get_or, slice_set, zero, suc, add-one, ℕ, ◌*◌, ◌<◌, ◌^◌, Option, List, [], ◌∷◌, ◌++◌, length, refl, sym, ap, subst, ◌∙◌, arith, w64, Ura, length-set, take, drop-cons, Fml, GName, Lft, Share, ftrue, fsep, fat, flft, full_share, SProp, ent, sep, emp, never, id⊢, fst∗, ◌⊑◌, fact, fact_i, tables, inst_fn, a_type, named, Val, vint, vptr, alloc_all, pass_all, free_all, look_at, take_at, give_at, get, get_in, through, is, sets, sets_last, env, done, ‵, raw, ◌⊛◌, some, later, at_ret, ◌$◌, ◌∵◌, !, qed, by, move, keep, use0, use1, use2, split, split3, join, pick, rewrite, fsplit, fsplit3, group, fpack, fjoin, fjoin3, flt_i, flt_l, await, Logic, sem, whole, sub, stop, bin, addr, size_word, fld, of_opd, first, blocks, exec, returns, enter, usize, yes, no, mem, cell_at, part_of, layout, layouts, uint_vals, uint_Tells, RattleType, owns, Ptr, block_ptr, in_block, in_a_block, follows, Part, lends_Part, MutBor, MutRef, mut_vals, mut_Tells, plain, mut_ref_to, types_at, heard, nothing, opens, Stays, stay_dropped, walk_of, Goes-dropped, Goes-spent_ref, El, el_x, times_below, uncapped, after, proved, leaves, type_size, slice_range, None, R, IsFilled, with_range}
 use lib.ListN.{drop}
-use Rattle.starlark_columns.specs.Owned.{places_owned, row_owned}
-use Rattle.starlark_columns.specs.Lends.{with_places}
+use Rattle.starlark_columns.specs.Ownership.{places_owned, row_owned}
+use Rattle.starlark_columns.specs.Lend.{with_places}
 use Rattle.starlark_columns.proofs.Fields.{word, word_good, address_told, RowMark}
 use Rattle.starlark_columns.proofs.Memory.{Row, Around, run_out, run_in}
 use Rattle.starlark_columns.proofs.Slotting.{filled_within}

@@ -1,9 +1,9 @@
 -- `items_mut` lends the items at the front, and the places follow them. Assumes `Logic`.
 use Rattle.starlark_columns.proofs.Walking.{◌≡◌, ◌+◌, ◌-◌, Some, ℕ, ◌*◌, ◌<◌, ◌^◌, Option, List, [], ◌∷◌, ◌++◌, map, length, refl, sym, ap, subst, ◌∙◌, arith, w64, Ura, front_of, Fml, GName, Lft, Share, ftrue, fsep, fat, flft, full_share, SProp, ent, sep, emp, never, id⊢, ◌⊑◌, fact, fact_i, tables, inst_fn, a_type, named, ty_ptr, Val, vint, vptr, has_ty, WT, alloc_all, pass_all, free_all, look_at, take_at, give_at, get, get_in, sets, sets_last, env, done, ‵, raw, ◌⊛◌, some, later, at_ret, ◌$◌, ◌∵◌, !, qed, by, move, keep, use0, use1, use2, split, split3, join, pick, rewrite, fsplit, fsplit3, group, fpack, fjoin, fjoin3, flt_i, flt_l, await, Logic, sem, cells, whole, sub, agg, stop, fld, no_more, and_then, of_opd, first, blocks, exec, returns, enter, usize, yes, no, mem, cell_at, part_of, layout, layouts, uint_vals, uint_Tells, RattleType, owns, Ptr, block_ptr, in_block, in_a_block, Array, follows, Elements, lends_Elements, MutBor, mut_vals, mut_Tells, MutSlice, slice_ty, slice_val, plain, mut_ref_to, types_at, heard, nothing, opens, Stays, stay_dropped, walk_of, Goes-dropped, Goes-spent_ref, El, el_x, times_below, after, length-map, proved, leaves, type_size, refill, T, R, items_of, empties}
 use lib.ListN.{drop}
-use Rattle.starlark_columns.specs.Owned.{places_owned, row_owned}
+use Rattle.starlark_columns.specs.Ownership.{places_owned, row_owned}
 use Rattle.starlark_columns.specs.Front.{IsFront, with_items}
-use Rattle.starlark_columns.specs.Lends.{with_places}
+use Rattle.starlark_columns.specs.Lend.{with_places}
 use Rattle.starlark_columns.proofs.Fronts.{row_is, written_places}
 use Rattle.starlark_columns.proofs.Fields.{word, word_good, address_told, RowMark}
 use Rattle.starlark_columns.proofs.Memory.{Row, cut, glue, to_items, of_items}

@@ -1,6 +1,6 @@
 use Rattle.std.proofs.Common.{◌≡◌, ◌+◌, ◌-◌, ◌++◌, ℕ, take, drop, slice_range, length, sym, ap, ◌∙◌, arith}
 use mathlib.Core.Logic.{inl, inr, ⊎_elim}
-use Rattle.starlark_columns.specs.Places.{with_range}
+use Rattle.starlark_columns.specs.Cells.{with_range}
 use Rattle.starlark_columns.proofs.Slotting.{in_filled, at_item, gone, filled_in, run_items, after_count}
 use Rattle.starlark_columns.proofs.Fronts.{front_full, front_filled, front_gone, front_come, front_empties, none_at_front}
 use Rattle.starlark_columns.proofs.row.Row.move_all.Goals as goal

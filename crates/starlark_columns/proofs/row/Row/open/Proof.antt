@@ -1,8 +1,8 @@
 -- `open` hands the places over to slots, with the default for an item where there is none. Assumes `Logic`.
 use Rattle.starlark_columns.proofs.Walking.{◌≡◌, ℕ, ◌*◌, ◌<◌, ◌^◌, Option, Bool, List, [], ◌∷◌, map, length, refl, sym, subst, ◌∙◌, lit<, w64, zero-mul, Lft, Share, ftrue, fat, flft, full_share, SProp, emp, never, id⊢, ◌⊑◌, fact, fact_i, tables, inst_fn, a_type, named, Val, vint, vptr, WT, alloc_all, pass_all, free_all, look_at, take_at, give_at, get, get_in, is, sets, lands_last, env, ‵, raw, ◌⊛◌, some, given, later, at_ret, ◌$◌, ◌∵◌, !, qed, by, move, keep, use0, use1, use2, split, split3, join, pick, learn, rewrite, fsplit, fsplit3, fjoin, fjoin3, feq_i, flt_i, flt_l, await, whole, sub, stop, fld, no_more, and_then, of_opd, first, blocks, exec, returns, enter, usize, yes, no, layout, layouts, uint_vals, uint_Tells, RattleType, owns, Ptr, block_ptr, in_block, in_a_block, MutBor, mut_vals, mut_Tells, plain, types_at, heard, nothing, opens, closes, calls_at_last, framed, Stays, stay_dropped, stay_ref, walk_of, Goes-dropped, Goes-ref, El, after, Sr, row_val, slots, slots_items, slots_filled, slots_ptr, slots_len, length-map, proved, leaves, type_size, R}
 use Rattle.core.proofs.slots.Slots.from_raw_parts.Met as callee
-use Rattle.starlark_columns.specs.Owned.{places_owned, row_owned}
-use Rattle.starlark_columns.specs.Slotted.{places_of}
+use Rattle.starlark_columns.specs.Ownership.{places_owned, row_owned}
+use Rattle.starlark_columns.specs.Slots.{places_of}
 use Rattle.starlark_columns.proofs.Fields.{word, word_good, address_told}
 use Rattle.starlark_columns.proofs.Memory.{item_or, holds, to_slots, places_back}
 use Rattle.starlark_columns.proofs.RowCalls.{Makes, at_makes, IsMade, makes_asks, makes_gives, row_typed}

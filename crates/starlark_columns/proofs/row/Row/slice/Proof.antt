@@ -1,6 +1,6 @@
 -- `slice` shows a run of items that the places lend. Assumes `Logic`.
 use Rattle.starlark_columns.proofs.Walking.{◌≡◌, ◌+◌, ◌-◌, Some, ℕ, ◌*◌, ◌<◌, ◌^◌, Option, List, [], ◌∷◌, map, length, refl, sym, ap, subst, ◌∙◌, arith, w64, Lft, Share, ftrue, fat, flft, full_share, SProp, emp, never, id⊢, ◌⊑◌, fact, fact_i, tables, inst_fn, a_type, named, ty_ptr, Val, vint, vptr, has_ty, WT, alloc_all, pass_all, free_all, look_at, take_at, give_at, get, get_in, is, sets, sets_last, env, ‵, raw, ◌⊛◌, at_ret, ◌$◌, ◌∵◌, !, qed, by, move, keep, use0, use1, split, rewrite, fsplit, fjoin, feq_i, flt_i, flt_l, whole, sub, agg, stop, bin, size_word, fld, no_more, and_then, of_opd, first, blocks, exec, returns, enter, RefOf, usize, yes, no, layout, layouts, uint_vals, uint_Tells, RattleType, owns, Ptr, in_a_block, hide, unhide, Bor, shr_vals, shr_Tells, ShrSlice, slice_ty, slice_val, elements_shared, plain, types_at, heard, nothing, Stays, stay_dropped, walk_of, Goes-dropped, El, times_below, uncapped, after, length-map, proved, leaves, type_size, slice_range, T, R, AreFilled}
-use Rattle.starlark_columns.specs.Owned.{within_lent}
+use Rattle.starlark_columns.specs.Ownership.{within_lent}
 use Rattle.starlark_columns.proofs.Fields.{word, word_good, address_told}
 use Rattle.starlark_columns.proofs.Memory.{run_long, run_seen}
 use Rattle.starlark_columns.specs.contracts.block.Address as address

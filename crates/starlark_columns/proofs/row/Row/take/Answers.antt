@@ -1,5 +1,5 @@
 use Rattle.std.proofs.Common.{Some, None, slice_set, sym, ap, ◌∙◌, arith}
-use Rattle.starlark_columns.specs.Slotted.{places_of}
+use Rattle.starlark_columns.specs.Slots.{places_of}
 use Rattle.starlark_columns.proofs.Slotting.{clear_row, none_emptied, at_item}
 use Rattle.starlark_columns.proofs.row.Row.take.Goals as goal
 

@@ -1,5 +1,5 @@
 use Rattle.std.proofs.Common.{sym, ◌∙◌, arith}
-use Rattle.starlark_columns.specs.Places.{items_of}
+use Rattle.starlark_columns.specs.Cells.{items_of}
 use Rattle.starlark_columns.proofs.Fronts.{one_fewer}
 use Rattle.starlark_columns.proofs.row.Row.truncate.Goals as goal
 

@@ -1,5 +1,5 @@
 use Rattle.std.proofs.Common.{true, Some, slice_set, sym, ap, ◌∙◌}
-use Rattle.starlark_columns.specs.Slotted.{places_of}
+use Rattle.starlark_columns.specs.Slots.{places_of}
 use Rattle.starlark_columns.proofs.Slotting.{set_row, none_emptied}
 use Rattle.starlark_columns.proofs.row.Row.write.Goals as goal
 

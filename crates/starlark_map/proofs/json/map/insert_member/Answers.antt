@@ -2,7 +2,7 @@ use Rattle.std.proofs.Common.{string_bytes, sym, ap, ◌∙◌, rules}
 use Rattle.std.proofs.lemmas.Int.{to_z-of_z}
 use Rattle.std.specs.Int.{w64}
 use Rattle.std.specs.Str.{bytes_eq}
-use Rattle.starlark_hash.specs.Insertion.{insert_entry}
+use Rattle.starlark_hash.specs.Insert.{insert_entry}
 use Rattle.starlark_map.specs.JsonTexts.{own_text, text_entries}
 use Rattle.starlark_map.proofs.Images.{own_inserted}
 use Rattle.starlark_map.proofs.json.map.insert_member.Goals as goal

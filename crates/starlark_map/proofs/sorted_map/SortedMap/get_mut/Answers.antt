@@ -1,5 +1,5 @@
 use Rattle.std.proofs.Common.{subst, sym}
-use Rattle.starlark_hash.specs.Sorting.{Ascends}
+use Rattle.starlark_hash.specs.Sort.{Ascends}
 use Rattle.starlark_small.specs.Map.{own_match}
 use Rattle.starlark_map.proofs.Ascending.{Ascends-with_value}
 use Rattle.starlark_map.proofs.sorted_map.SortedMap.get_mut.Goals as goal

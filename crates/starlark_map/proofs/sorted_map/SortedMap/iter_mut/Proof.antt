@@ -12,7 +12,7 @@ use Rattle.starlark_vec2.specs.contracts.pairs_mut.PairsMut as Walk
 use Rattle.starlark_vecmap.specs.EntryList.{with_values}
 use Rattle.starlark_small.specs.Map.{Map}
 use Rattle.starlark_small.specs.contracts.small_map.SmallMap as Small
-use Rattle.starlark_small.specs.Lending.{KeepsAllButValues}
+use Rattle.starlark_small.specs.Lend.{KeepsAllButValues}
 use Rattle.starlark_small.proofs.KeptInWalks.{keeps-all_but_values}
 use Rattle.starlark_small.proofs.LentInResult.{lone_value}
 use Rattle.starlark_sets.specs.contracts.ordered_map.OrderedMap.iter_mut as g

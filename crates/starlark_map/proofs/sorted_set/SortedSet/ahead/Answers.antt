@@ -1,6 +1,6 @@
 use Rattle.std.proofs.Common.{ap, sym, subst, ◌∙◌}
 use Rattle.starlark_hash.specs.Entries.{IsSingle}
-use Rattle.starlark_hash.specs.Sorting.{Ascends}
+use Rattle.starlark_hash.specs.Sort.{Ascends}
 use Rattle.starlark_map.proofs.Rising.{elements-of}
 use Rattle.starlark_map.proofs.sorted_set.SortedSet.ahead.Goals as goal
 

@@ -1,6 +1,6 @@
 use Rattle.std.proofs.Common.{sym, subst, arith}
 use Rattle.starlark_hash.specs.Entries.{IsSingle}
-use Rattle.starlark_hash.specs.Sorting.{Ascends}
+use Rattle.starlark_hash.specs.Sort.{Ascends}
 use Rattle.starlark_map.proofs.Rising.{ahead-of, length-ahead}
 use Rattle.starlark_map.proofs.union.Ahead.new.Goals as goal
 

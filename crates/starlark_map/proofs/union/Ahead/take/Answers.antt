@@ -1,6 +1,6 @@
 use Rattle.std.proofs.Common.{◌≡◌, ◌∷◌, length, ap, sym, subst, arith}
 use Rattle.starlark_hash.specs.Entries.{IsSingle}
-use Rattle.starlark_hash.specs.Sorting.{Ascends}
+use Rattle.starlark_hash.specs.Sort.{Ascends}
 use Rattle.starlark_sets.proofs.Differences.{IsSingle-tail}
 use Rattle.starlark_map.specs.SortedUnion.{ahead, elements_under, shown}
 use Rattle.starlark_map.proofs.Rising.{Ascends-tail, ahead-of}

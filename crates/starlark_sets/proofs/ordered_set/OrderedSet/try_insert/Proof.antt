@@ -9,8 +9,8 @@ use Rattle.starlark_hash.specs.Entries.{match_of}
 use Rattle.starlark_hash.specs.declared.hashed.Hashed.{Hashed}
 use Rattle.starlark_small.specs.Map.{own_hashed}
 use Rattle.starlark_small.proofs.LentInResult.{lone_value}
-use Rattle.starlark_sets.specs.OrderedEnd.{ends_so}
-use Rattle.starlark_sets.specs.OrderedTries.{AnswersTry, IsPlaced, IsTold, IsWithin, Tries}
+use Rattle.starlark_sets.specs.Lend.{ordered_ends_so}
+use Rattle.starlark_sets.specs.TryInsert.{AnswersTry, IsPlaced, IsTold, IsWithin, Tries}
 use Rattle.starlark_sets.specs.Set.{Set, element_at}
 use Rattle.starlark_sets.specs.declared.ordered_set.try_insert.Refusal.{Refusal}
 use Rattle.starlark_sets.specs.declared.ordered_set.try_insert.TryInsertError.{TryInsertError}
@@ -182,7 +182,7 @@ module _ (T : RattleType) (E : Eq.Ghosts T.Denot) (dE : Dict) (P : PartialEq.Gho
           peeks ! (Answer κ κT) (Is (Answer κ κT)) (shows 𝓛 (Answer κ κT)) y (v ∷ []) (λ is_y.
           lands_as ! refl refl ((((answer_laws L κ κT).lawful 𝓛).typed y (v ∷ []) is_y).0) $ returns ! (look_at ! 0 refl) $ free_all ! refl $
           -- [the result; the tokens; what self ends as]
-          move ! (2 ∷ []) $ use1 𝓛 (‵ (ends_so T' P r (Tries eq m under y))) (ends_weaker 𝓛 R γ (λ n. n ≡ mm) (Tries eq m under y) (λ n is. subst (Tries eq m under y) (sym is) (tries_told eq m mm under g y told tries))) $
+          move ! (2 ∷ []) $ use1 𝓛 (‵ (ordered_ends_so T' P r (Tries eq m under y))) (ends_weaker 𝓛 R γ (λ n. n ≡ mm) (Tries eq m under y) (λ n is. subst (Tries eq m under y) (sym is) (tries_told eq m mm under g y told tries))) $
           suffices ! _ (ends_at 𝓛 ended stayed spec bound v y (tt, (tt, tt)) (tt, (tt, tt))) $
           nothing ! $ nothing ! $ fjoin ! $ nothing ! $ fjoin ! $ move ! (0 ∷ 2 ∷ []) $ join ! $ move ! (2 ∷ 0 ∷ []) $ join ! $ frame ! $
           use0 𝓛 (raw (fact 𝓤 (AnswersTry eq under m y))) (fact_i 𝓤 _ (emp 𝓤) (answers-try eq under m mm y (tries_told eq m mm under g y told tries) (refusal_told mm.entries there value g y told placed))) $

@@ -13,9 +13,9 @@ use Rattle.starlark_hash.specs.declared.hashed.Hashed.{Hashed}
 use Rattle.starlark_hash.specs.declared.no_room.NoRoom.{NoRoom}
 use Rattle.starlark_small.specs.Map.{own_hashed}
 use Rattle.starlark_small.proofs.LentInResult.{lone_value}
-use Rattle.starlark_sets.specs.Adding.{PlacesElement, ShowsPut}
-use Rattle.starlark_sets.specs.Set.{Set, Adds, element_at}
-use Rattle.starlark_sets.specs.Lending.{IsShown, ends_so}
+use Rattle.starlark_sets.specs.Insert.{PlacesElement, ShowsPut, Adds, IsShown}
+use Rattle.starlark_sets.specs.Set.{Set, element_at}
+use Rattle.starlark_sets.specs.Lend.{ends_so}
 use Rattle.starlark_sets.specs.contracts.small_set.SmallSet as S
 use Rattle.starlark_sets.specs.contracts.small_set.SmallSet.place_or_push_own as p
 use Rattle.starlark_sets.specs.contracts.small_set.SmallSet.frozen as f

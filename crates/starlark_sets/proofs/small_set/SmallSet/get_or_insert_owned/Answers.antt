@@ -2,8 +2,7 @@ use Rattle.std.proofs.Common.{Ok, arith, refl, rules}
 use Rattle.std.proofs.lemmas.Grind.{common_steps}
 use Rattle.std.specs.declared.alloc.AllocError.{AllocError}
 use Rattle.starlark_hash.specs.Hasher.{own_hash}
-use Rattle.starlark_sets.specs.Lending.{AddsAt}
-use Rattle.starlark_sets.specs.Set.{AddsFor}
+use Rattle.starlark_sets.specs.Insert.{AddsAt, AddsFor}
 use Rattle.starlark_sets.proofs.Put.{puts-for, shown-for}
 use Rattle.starlark_sets.proofs.small_set.SmallSet.get_or_insert_owned.Goals as goal
 

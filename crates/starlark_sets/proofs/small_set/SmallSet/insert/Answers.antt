@@ -1,6 +1,6 @@
 use Rattle.std.proofs.Common.{Ok, Err, rules, subst}
 use Rattle.starlark_hash.specs.declared.no_room.NoRoom.{NoRoom}
-use Rattle.starlark_sets.specs.Adding.{AddsElement}
+use Rattle.starlark_sets.specs.Insert.{AddsElement}
 use Rattle.starlark_sets.proofs.Added.{adds-ok, adds-err}
 use Rattle.starlark_sets.proofs.small_set.SmallSet.insert.Goals as goal
 

@@ -1,5 +1,5 @@
 use Rattle.std.proofs.Common.{subst, sym}
-use Rattle.starlark_sets.specs.Adding.{AddsElement}
+use Rattle.starlark_sets.specs.Insert.{AddsElement}
 use Rattle.starlark_sets.proofs.Added.{adds-answered}
 use Rattle.starlark_sets.proofs.small_set.SmallSet.insert_hashed.Goals as goal
 

@@ -1,7 +1,7 @@
 use Rattle.std.proofs.Common.{arith, rules}
 use Rattle.std.proofs.lemmas.Grind.{common_steps}
 use Rattle.std_collections.proofs.IterRuns.{shows_in_order, shows_in_reverse}
-use Rattle.starlark_sets.specs.Unit.{deref_hashed}
+use Rattle.starlark_hash.specs.Unit.{deref_hashed}
 use Rattle.starlark_sets.proofs.small_set.SmallSet.iter_hashed.Goals as goal
 
 pub returns-clause-runs : goal.returns-clause-runs

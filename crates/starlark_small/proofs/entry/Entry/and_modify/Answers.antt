@@ -1,7 +1,7 @@
 use Rattle.std.proofs.Common.{◌≡◌, Option, Some, refl, sym, ap, subst, ◌∙◌}
 use Rattle.std.specs.Map.Calls.{ModifiesValue}
 use Rattle.starlark_small.specs.MapEntry.{with_entry_value, entry_value_of, Puts, ChangesItsValue, IsLeftBy, IsModified, Occupied}
-use Rattle.starlark_small.proofs.CallerUpdates.{value-with_entry_value, puts-with_entry_value, refuses-occupied}
+use Rattle.starlark_small.proofs.CallerEntry.{value-with_entry_value, puts-with_entry_value, refuses-occupied}
 use Rattle.starlark_small.proofs.entry.Entry.and_modify.Goals as goal
 
 pub returns-in-Occupied-clause-modified : goal.returns-in-Occupied-clause-modified

@@ -1,6 +1,6 @@
 use Rattle.std.proofs.Common.{refl}
 use Rattle.starlark_small.specs.MapEntry.{still_within}
-use Rattle.starlark_small.proofs.CallerUpdates.{puts-written}
+use Rattle.starlark_small.proofs.CallerEntry.{puts-written}
 use Rattle.starlark_small.proofs.EntryWritten.{occupied_written}
 use Rattle.starlark_small.proofs.entry.OccupiedEntry.as_key_and_mut_value.Goals as goal
 

@@ -1,5 +1,5 @@
 use Rattle.std.proofs.Common.{refl}
-use Rattle.starlark_small.proofs.CallerUpdates.{puts-written}
+use Rattle.starlark_small.proofs.CallerEntry.{puts-written}
 use Rattle.starlark_small.proofs.entry.OccupiedEntry.into_mut.Goals as goal
 
 pub returns : goal.returns

@@ -1,5 +1,5 @@
 use Rattle.std.proofs.Common.{refl}
-use Rattle.starlark_small.proofs.CallerUpdates.{puts-inserted, refuses-vacant}
+use Rattle.starlark_small.proofs.CallerEntry.{puts-inserted, refuses-vacant}
 use Rattle.starlark_small.proofs.entry.VacantEntry.insert.Goals as goal
 
 pub returns : goal.returns

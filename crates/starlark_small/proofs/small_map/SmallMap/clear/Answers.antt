@@ -1,6 +1,6 @@
 use Rattle.std.proofs.Common.{arith, rules}
 use Rattle.std.proofs.lemmas.Grind.{common_steps}
-use Rattle.starlark_small.proofs.CallerUpdates.{empty-found}
+use Rattle.starlark_small.proofs.CallerLookup.{empty-found}
 use Rattle.starlark_small.proofs.CallerOwn.{own-empty}
 use Rattle.starlark_small.proofs.small_map.SmallMap.clear.Goals as goal
 

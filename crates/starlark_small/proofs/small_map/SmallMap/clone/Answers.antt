@@ -3,7 +3,7 @@ use Rattle.std.proofs.lemmas.Grind.{common_steps}
 use Rattle.std.specs.Prelude.{nat_lt}
 use Rattle.starlark_small.specs.Index.{unindexed}
 use Rattle.starlark_small.proofs.Cloned.{IsSingle-clones, length-clones}
-use Rattle.starlark_small.proofs.CallerCollected.{found-clones}
+use Rattle.starlark_small.proofs.CallerCollect.{found-clones}
 use Rattle.starlark_small.proofs.CallerOwn.{own-clones}
 use Rattle.starlark_small.proofs.small_map.SmallMap.clone.Goals as goal
 

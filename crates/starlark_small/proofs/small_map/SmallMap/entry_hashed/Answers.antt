@@ -1,6 +1,6 @@
 use Rattle.std.proofs.Common.{◌≡◌, Some, None, rules, sym}
 use Rattle.starlark_hash.specs.Entries.{match_of}
-use Rattle.starlark_small.proofs.CallerEntered.{enters-entry}
+use Rattle.starlark_small.proofs.CallerEntry.{enters-entry}
 use Rattle.starlark_small.proofs.small_map.SmallMap.entry_hashed.Goals as goal
 
 pub returns-in-Some-clause-enters : goal.returns-in-Some-clause-enters

@@ -1,6 +1,6 @@
 use Rattle.starlark_small.specs.Collect.{Extends, own_entry}
 use Rattle.starlark_small.proofs.CallerOwn.{own-inserted_all}
-use Rattle.starlark_small.proofs.CallerCollected.{finds_extended}
+use Rattle.starlark_small.proofs.CallerCollect.{finds_extended}
 use Rattle.starlark_small.proofs.small_map.SmallMap.extend.Goals as goal
 
 pub returns : goal.returns

@@ -4,8 +4,7 @@ use Rattle.starlark_small.proofs.Growing.{stepped_from}
 use Rattle.starlark_small.specs.Collect.{Collects, insert_all, own_entry}
 use Rattle.starlark_small.specs.Index.{unindexed}
 use Rattle.starlark_small.proofs.CallerOwn.{own-inserted_all}
-use Rattle.starlark_small.proofs.CallerCollected.{finds_collected}
-use Rattle.starlark_small.proofs.CallerItems.{has-items}
+use Rattle.starlark_small.proofs.CallerCollect.{finds_collected, has-items}
 use Rattle.starlark_small.proofs.small_map.SmallMap.from_iter.Goals as goal
 
 pub returns-clause-made : goal.returns-clause-made

@@ -4,7 +4,7 @@ use Rattle.starlark_hash.specs.Entries.{Entry}
 use Rattle.starlark_small.proofs.Growing.{stepped_from}
 use Rattle.starlark_small.specs.Collect.{insert_all}
 use Rattle.starlark_small.specs.Index.{unindexed}
-use Rattle.starlark_small.proofs.CallerCollected.{each_collected, own_collected}
+use Rattle.starlark_small.proofs.CallerCollect.{each_collected, own_collected}
 use Rattle.starlark_small.proofs.small_map.SmallMap.from_iter_hashed.Goals as goal
 
 pub returns-clause-map : goal.returns-clause-map

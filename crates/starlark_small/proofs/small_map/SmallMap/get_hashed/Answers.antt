@@ -1,6 +1,6 @@
 use Rattle.std.proofs.Common.{rules}
 use Rattle.starlark_hash.specs.HashValue.{hash_of, key_of}
-use Rattle.starlark_small.proofs.CallerShown.{finds-value}
+use Rattle.starlark_small.proofs.CallerLookup.{finds-value}
 use Rattle.starlark_small.proofs.small_map.SmallMap.get_hashed.Goals as goal
 
 pub returns-in_err-index : goal.returns-in_err-index

@@ -1,6 +1,6 @@
 use Rattle.std.proofs.Common.{rules}
 use Rattle.starlark_hash.specs.HashValue.{hash_of, key_of}
-use Rattle.starlark_small.proofs.CallerShown.{names-place}
+use Rattle.starlark_small.proofs.CallerLookup.{names-place}
 use Rattle.starlark_small.proofs.small_map.SmallMap.get_index_of_hashed.Goals as goal
 
 pub returns-clause-names : goal.returns-clause-names

@@ -1,10 +1,9 @@
 use Rattle.std.proofs.Common.{◌≡◌, Some, refl, ap, ◌∙◌, rules}
 use Rattle.starlark_hash.specs.HashValue.{hash_of, key_of}
 use Rattle.starlark_hash.specs.Entries.{position_of, with_value}
-use Rattle.starlark_small.specs.Calling.{keys}
-use Rattle.starlark_small.proofs.CallerEntries.{keys-with_value}
-use Rattle.starlark_small.proofs.CallerShown.{finds-value}
-use Rattle.starlark_small.proofs.CallerUpdates.{writes-with_value}
+use Rattle.starlark_small.specs.Lookup.{keys}
+use Rattle.starlark_small.proofs.CallerEntry.{keys-with_value, writes-with_value}
+use Rattle.starlark_small.proofs.CallerLookup.{finds-value}
 use Rattle.starlark_small.proofs.small_map.SmallMap.get_mut_hashed.Goals as goal
 
 pub returns-in-Some : goal.returns-in-Some

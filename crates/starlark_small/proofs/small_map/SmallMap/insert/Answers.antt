@@ -1,7 +1,7 @@
 use Rattle.std.proofs.Common.{Ok, Err, rules, subst}
 use Rattle.starlark_hash.specs.declared.no_room.NoRoom.{NoRoom}
-use Rattle.starlark_small.specs.Inserting.{Inserts}
-use Rattle.starlark_small.proofs.CallerInserts.{inserts-ok, inserts-err}
+use Rattle.starlark_small.specs.Insert.{Inserts}
+use Rattle.starlark_small.proofs.CallerInsert.{inserts-ok, inserts-err}
 use Rattle.starlark_small.proofs.small_map.SmallMap.insert.Goals as goal
 
 pub returns-in-Ok : goal.returns-in-Ok

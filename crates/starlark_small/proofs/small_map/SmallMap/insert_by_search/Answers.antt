@@ -1,5 +1,5 @@
 use Rattle.std.proofs.Common.{None, length, rules, sym}
-use Rattle.starlark_small.proofs.CallerInserts.{inserts-done, inserts-refused}
+use Rattle.starlark_small.proofs.CallerInsert.{inserts-done, inserts-refused}
 use Rattle.starlark_small.proofs.Inserted.{LeavesMemory-inserted, LeavesMemory-refused, LeavesMemory-written}
 use Rattle.starlark_small.proofs.Inserting.{long_is_indexed}
 use Rattle.starlark_small.proofs.small_map.SmallMap.insert_by_search.Goals as goal

@@ -1,5 +1,5 @@
 use Rattle.std.proofs.Common.{◌≡◌, ◌-◌, arith, length, subst}
-use Rattle.starlark_small.specs.Indexing.{IsNotedIn}
+use Rattle.starlark_small.specs.IndexCalls.{IsNotedIn}
 use Rattle.starlark_small.proofs.NotedAtOnce.{inserts_at_once, sound_at_once}
 use Rattle.starlark_small.proofs.small_map.SmallMap.insert_hashed.Goals as goal
 

@@ -13,10 +13,9 @@ use Rattle.starlark_hash.specs.contracts.hashed.Hashed as H
 use Rattle.starlark_hash.specs.contracts.no_room.NoRoom as N
 use Rattle.starlark_hash.specs.declared.hashed.Hashed.{Hashed}
 use Rattle.starlark_hash.specs.declared.no_room.NoRoom.{NoRoom}
-use Rattle.starlark_small.specs.Inserted.{IsInserted, IsRefused}
-use Rattle.starlark_small.specs.Inserting.{PutsLast}
+use Rattle.starlark_small.specs.Insert.{IsInserted, IsRefused, PutsLast}
 use Rattle.starlark_small.specs.Map.{Map}
-use Rattle.starlark_small.specs.Lending.{lends_inserted}
+use Rattle.starlark_small.specs.Lend.{lends_inserted}
 use Rattle.starlark_small.specs.contracts.small_map.SmallMap as S
 use Rattle.starlark_small.specs.contracts.small_map.SmallMap.push as p
 use Rattle.starlark_small.specs.contracts.small_map.SmallMap.entry_mut as e

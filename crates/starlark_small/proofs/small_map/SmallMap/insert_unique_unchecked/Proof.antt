@@ -15,7 +15,7 @@ use Rattle.starlark_hash.specs.declared.hashed.Hashed.{Hashed}
 use Rattle.starlark_hash.specs.declared.no_room.NoRoom.{NoRoom}
 use Rattle.starlark_hash.specs.Entries.{match_of}
 use Rattle.starlark_small.specs.Map.{Map, own_hashed}
-use Rattle.starlark_small.specs.Lending.{lends_inserted, unhashed}
+use Rattle.starlark_small.specs.Lend.{lends_inserted, unhashed}
 use Rattle.starlark_small.specs.contracts.small_map.SmallMap as S
 use Rattle.starlark_small.specs.contracts.small_map.SmallMap.insert_hashed_unique_unchecked as p
 use Rattle.starlark_small.specs.contracts.small_map.insert.without_hash as w

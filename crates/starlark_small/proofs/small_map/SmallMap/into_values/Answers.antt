@@ -1,8 +1,7 @@
 use Rattle.std.proofs.Common.{◌≡◌, ap, map, rules, subst}
 use Rattle.starlark_hash.specs.Entries.{IsSingle, entry_value}
 use Rattle.starlark_small.specs.Map.{Map}
-use Rattle.starlark_small.proofs.CallerFound.{values-found}
-use Rattle.starlark_small.proofs.CallerWalked.{length-values}
+use Rattle.starlark_small.proofs.CallerIter.{values-found, length-values}
 use Rattle.starlark_small.proofs.small_map.SmallMap.into_values.Goals as goal
 
 pub returns-clause-runs : goal.returns-clause-runs

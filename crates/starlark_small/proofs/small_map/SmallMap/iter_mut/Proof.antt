@@ -16,7 +16,7 @@ use Rattle.starlark_vecmap.proofs.ValuesWritten.{with_values-again, length-with_
 use Rattle.starlark_vecmap.specs.EntryList.{EntryList, with_entries, with_values}
 use Rattle.starlark_small.specs.Hashes.{Hashes}
 use Rattle.starlark_small.specs.Index.{index_room}
-use Rattle.starlark_small.specs.Lending.{KeepsAllButValues}
+use Rattle.starlark_small.specs.Lend.{KeepsAllButValues}
 use Rattle.starlark_small.specs.Map.{Map}
 use Rattle.starlark_small.specs.contracts.small_map.SmallMap.iter_mut as F
 use Rattle.starlark_small.specs.contracts.small_map.SmallMap.iter_mut.Key.{name as #self}

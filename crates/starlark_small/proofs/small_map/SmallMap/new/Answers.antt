@@ -1,5 +1,5 @@
 use Rattle.std.proofs.Common.{rules}
-use Rattle.starlark_small.proofs.CallerUpdates.{empty-found}
+use Rattle.starlark_small.proofs.CallerLookup.{empty-found}
 use Rattle.starlark_small.proofs.CallerOwn.{own-empty}
 use Rattle.starlark_small.proofs.small_map.SmallMap.new.Goals as goal
 

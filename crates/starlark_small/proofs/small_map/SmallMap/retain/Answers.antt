@@ -1,8 +1,7 @@
-use Rattle.starlark_small.proofs.Retained.{IsSingle-retained, length-retained}
+use Rattle.starlark_small.proofs.Retained.{IsSingle-retained, length-retained, filtered, tested}
 use Rattle.std.proofs.Common.{refl, rules}
 use Rattle.starlark_small.proofs.CallerOwn.{own-retained}
-use Rattle.starlark_small.proofs.CallerRetained.{found-retained}
-use Rattle.starlark_small.proofs.Retained.{filtered, tested}
+use Rattle.starlark_small.proofs.CallerRemove.{found-retained}
 use Rattle.starlark_small.proofs.Indexed.{cleared-room, follows-refilled}
 use Rattle.starlark_small.proofs.Rooms.{KeepsMemory-fewer}
 use Rattle.starlark_small.proofs.small_map.SmallMap.retain.Goals as goal

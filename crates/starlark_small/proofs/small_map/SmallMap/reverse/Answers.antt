@@ -4,7 +4,7 @@ use Rattle.std.specs.Prelude.{reverse}
 use Rattle.std.proofs.lemmas.List.Sorted.{IsPermutation-reverse}
 use Rattle.starlark_hash.specs.Entries.{IsSingle}
 use Rattle.starlark_hash.proofs.EntryLemmas.{IsSingle-permutation}
-use Rattle.starlark_small.proofs.CallerOrder.{same-permuted}
+use Rattle.starlark_small.proofs.CallerSort.{same-permuted}
 use Rattle.starlark_small.proofs.CallerOwn.{own-permuted}
 use Rattle.starlark_small.proofs.small_map.SmallMap.reverse.Goals as goal
 

@@ -1,7 +1,7 @@
 use Rattle.std.proofs.Common.{rules, arith}
 use Rattle.std.proofs.lemmas.Grind.{common_steps}
 use Rattle.starlark_hash.specs.HashValue.{hash_of, key_of}
-use Rattle.starlark_small.proofs.CallerShown.{finds-value}
+use Rattle.starlark_small.proofs.CallerLookup.{finds-value}
 use Rattle.starlark_small.proofs.small_map.SmallMap.shift_remove_hashed.Goals as goal
 
 pub returns-in_err-value-clause-taken : goal.returns-in_err-value-clause-taken

@@ -1,7 +1,7 @@
 use Rattle.std.proofs.Common.{rules}
 use Rattle.starlark_hash.specs.HashValue.{hash_of, key_of}
-use Rattle.starlark_small.proofs.CallerShown.{finds-pair}
-use Rattle.starlark_small.proofs.CallerUpdates.{length-removed, writes-removed}
+use Rattle.starlark_small.proofs.CallerLookup.{finds-pair}
+use Rattle.starlark_small.proofs.CallerRemove.{length-removed, writes-removed}
 use Rattle.starlark_small.proofs.CallerOwn.{own-removed}
 use Rattle.starlark_small.proofs.small_map.SmallMap.shift_remove_hashed_entry.Goals as goal
 

@@ -4,11 +4,11 @@ use Rattle.std.proofs.lemmas.List.Sorted.{IsPermutation-refl, length_permutation
 use Rattle.std.specs.List.Sorted.{IsSorted}
 use Rattle.std.specs.Prelude.{MatchBool, OnOk, OnErr}
 use Rattle.starlark_hash.specs.Entries.{Entry, entry_key}
-use Rattle.starlark_hash.specs.Sorting.{Ascends, key_lt, sorted_by_key}
+use Rattle.starlark_hash.specs.Sort.{Ascends, key_lt, sorted_by_key}
 use Rattle.starlark_hash.proofs.EntryLemmas.{IsSingle-permutation}
 use Rattle.starlark_hash.proofs.SortingLemmas.{IsPermutation-sorted_by, sorted_by-fixed, key_lt-order}
 use Rattle.starlark_vecmap.specs.EntryList.{EntryList, with_entries}
-use Rattle.starlark_small.proofs.CallerOrder.{keys-sorted, same-permuted}
+use Rattle.starlark_small.proofs.CallerSort.{keys-sorted, same-permuted}
 use Rattle.starlark_small.proofs.Rooms.{KeepsMemory-turned}
 use Rattle.starlark_small.proofs.CallerOwn.{own-permuted}
 use Rattle.starlark_small.proofs.small_map.SmallMap.sort_keys.Goals as goal

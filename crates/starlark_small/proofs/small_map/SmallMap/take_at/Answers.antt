@@ -7,7 +7,7 @@ use Rattle.starlark_small.specs.Index.{IsIndexed, IsSound}
 use Rattle.starlark_small.proofs.Indexed.{IsIndexed-forgotten, index-within}
 use Rattle.starlark_small.proofs.Rooms.{KeepsMemory-removed}
 use Rattle.starlark_small.proofs.CallerOwn.{own-removed}
-use Rattle.starlark_small.proofs.CallerPlaces.{takes-out}
+use Rattle.starlark_small.proofs.CallerRemove.{takes-out}
 use Rattle.starlark_small.proofs.small_map.SmallMap.take_at.Goals as goal
 
 pub invariant_of-self : goal.invariant_of-self

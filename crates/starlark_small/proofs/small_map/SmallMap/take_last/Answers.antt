@@ -7,7 +7,7 @@ use Rattle.std.proofs.lemmas.Grind.{common_steps}
 use Rattle.std.specs.Option.{option_map}
 use Rattle.starlark_hash.specs.Entries.{pair_of}
 use Rattle.starlark_small.proofs.CallerOwn.{own-removed}
-use Rattle.starlark_small.proofs.CallerPlaces.{counts-pair, last-taken, takes-out_last, takes-pair}
+use Rattle.starlark_small.proofs.CallerRemove.{counts-pair, last-taken, takes-out_last, takes-pair}
 use Rattle.starlark_small.proofs.small_map.SmallMap.take_last.Goals as goal
 
 pub returns-clause-takes : goal.returns-clause-takes

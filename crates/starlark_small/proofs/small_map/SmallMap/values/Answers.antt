@@ -1,7 +1,6 @@
 use Rattle.std.proofs.Common.{◌≡◌, map, rules}
 use Rattle.starlark_hash.specs.Entries.{IsSingle, entry_value}
-use Rattle.starlark_small.proofs.CallerFound.{values-found}
-use Rattle.starlark_small.proofs.CallerWalked.{length-values}
+use Rattle.starlark_small.proofs.CallerIter.{values-found, length-values}
 use Rattle.starlark_small.proofs.small_map.SmallMap.values.Goals as goal
 
 pub returns-clause-runs : goal.returns-clause-runs

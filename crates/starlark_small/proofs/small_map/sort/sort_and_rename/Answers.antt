@@ -1,8 +1,8 @@
 use Rattle.std.proofs.Common.{ap, subst, sym, ◌∙◌, length, arith}
 use Rattle.std.proofs.lemmas.List.Sorted.{length_permutation}
-use Rattle.starlark_hash.specs.Sorting.{key_lt, sorted_by_key}
+use Rattle.starlark_hash.specs.Sort.{key_lt, sorted_by_key}
 use Rattle.starlark_hash.proofs.SortingLemmas.{IsPermutation-sorted_by}
-use Rattle.starlark_vec2.specs.Moves.{Moves}
+use Rattle.starlark_vec2.specs.Sort.{Moves}
 use Rattle.starlark_small.proofs.Indexed.{IsIndexed-renamed, moves-index, renamed-is_some, renamed-room}
 use Rattle.starlark_small.proofs.small_map.sort.sort_and_rename.Goals as goal
 

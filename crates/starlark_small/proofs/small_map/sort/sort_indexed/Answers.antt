@@ -1,6 +1,6 @@
 use Rattle.std.proofs.Common.{ap, ◌∙◌, length, arith}
 use Rattle.std.proofs.lemmas.List.Sorted.{length_permutation}
-use Rattle.starlark_hash.specs.Sorting.{key_lt, sorted_by_key}
+use Rattle.starlark_hash.specs.Sort.{key_lt, sorted_by_key}
 use Rattle.starlark_hash.proofs.SortingLemmas.{IsPermutation-sorted_by}
 use Rattle.starlark_small.proofs.Indexed.{cleared-room, follows-refilled}
 use Rattle.starlark_small.proofs.small_map.sort.sort_indexed.Goals as goal

@@ -1,7 +1,6 @@
 use Rattle.std.proofs.Common.{◌≡◌, ℕ, ap, arith, length, ◌+◌, ◌%◌, ◌∷◌, refl, sym, ◌∙◌, subst, IsPermutation}
 use Rattle.starlark_table.specs.Table.{filled, members}
-use Rattle.starlark_table.specs.Layout.{members_in}
-use Rattle.starlark_table.specs.Vacancy.{IsVacancy}
+use Rattle.starlark_table.specs.Layout.{members_in, IsVacancy}
 use Rattle.starlark_table.proofs.Changing.{inserted}
 use Rattle.starlark_table.proofs.Sound.{sound-as}
 use Rattle.starlark_table.proofs.TagCount.{refilled}

@@ -6,7 +6,7 @@ use base.Share
 use Rattle.std.specs.declared.clone.Clone as Clone
 use Rattle.starlark_columns.specs.declared.loan.Keeps as Keeps
 use Rattle.starlark_columns.specs.declared.loan.Loan.{Loan}
-use Rattle.starlark_columns.specs.Lent.{kept_places}
+use Rattle.starlark_columns.specs.Loan.{kept_places}
 use Rattle.starlark_columns.specs.contracts.loan.Loan as loan
 use Rattle.starlark_columns.proofs.loan.Loan.TheLaws as loan_laws
 use Rattle.starlark_table.specs.declared.kept_hash.KeptHash as KeptHash
@@ -14,7 +14,7 @@ use Rattle.starlark_table.specs.contracts.kept_hash.Kept.{the_row as kept_row}
 use Rattle.starlark_table.proofs.kept_hash.Kept.TheLaws as kept_laws
 use Rattle.starlark_table.specs.Layout.{members_in, IsTagged}
 use Rattle.starlark_table.specs.Growth.{limit}
-use Rattle.starlark_table.specs.Sharing.{Member, Tags, tags_stay, with_kept}
+use Rattle.starlark_table.specs.Lend.{Member, Tags, tags_stay, with_kept}
 use Rattle.starlark_table.proofs.BesideClose.{closes_beside}
 use Rattle.starlark_columns.proofs.LoneValue.{lone_value}
 use Rattle.starlark_table.proofs.LentInResult.{as_tuple}

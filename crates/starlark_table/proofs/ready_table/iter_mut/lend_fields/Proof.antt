@@ -4,14 +4,14 @@ use lib.Dec as Dec
 use Rattle.std.specs.declared.clone.Clone as Clone
 use Rattle.starlark_columns.specs.declared.loan.Keeps as Keeps
 use Rattle.starlark_columns.specs.declared.loan.Loan.{Loan}
-use Rattle.starlark_columns.specs.Lent.{places_follow}
+use Rattle.starlark_columns.specs.Loan.{places_follow}
 use Rattle.starlark_columns.specs.contracts.loan.Loan as loan
 use Rattle.starlark_columns.specs.contracts.column.Column.{the_row as column_row}
 use Rattle.starlark_columns.proofs.loan.Loan.TheLaws as loan_laws
 use Rattle.starlark_table.specs.declared.kept_hash.KeptHash as KeptHash
 use Rattle.starlark_table.specs.contracts.kept_hash.Kept.{the_row as kept_row}
 use Rattle.starlark_table.proofs.kept_hash.Kept.TheLaws as kept_laws
-use Rattle.starlark_table.specs.Sharing.{Member, Tags, tags_stay}
+use Rattle.starlark_table.specs.Lend.{Member, Tags, tags_stay}
 use Rattle.starlark_table.proofs.LentInResult.{as_tuple}
 use Rattle.starlark_table.specs.contracts.ready_table.iter_mut.lend_fields as F
 use Rattle.starlark_table.specs.contracts.ready_table.iter_mut.lend_fields.Key.{name as #self}

@@ -7,7 +7,7 @@ use Rattle.starlark_hash.specs.declared.hashed.Hashed.{Hashed}
 use Rattle.starlark_hash.specs.declared.no_room.NoRoom.{NoRoom}
 use Rattle.starlark_table.specs.Table.{Table}
 use Rattle.starlark_unordered.specs.Pairs.{pairs_of}
-use Rattle.starlark_unordered.specs.RawLending.{PlacesPair}
+use Rattle.starlark_unordered.specs.Lend.{PlacesPair}
 use Rattle.starlark_unordered.proofs.AddedWritten.{places_again, places_pair}
 use Rattle.starlark_unordered.proofs.raw_entry.RawVacantEntryMut.place_hashed.Goals as goal
 use Rattle.starlark_unordered.proofs.raw_entry.RawVacantEntryMut.place_hashed.Goals.{in-Ok, in-Err}

@@ -2,7 +2,7 @@ use Rattle.std.proofs.Common.{arith, refl, rules, subst}
 use Rattle.std.proofs.lemmas.Grind.{common_steps}
 use Rattle.std.specs.List.{AllZip}
 use Rattle.starlark_table.specs.Table.{members}
-use Rattle.starlark_unordered.specs.Clone.{IsPairClone}
+use Rattle.starlark_hash.specs.Clone.{IsPairClone}
 use Rattle.starlark_unordered.specs.Pairs.{pairs_of}
 use Rattle.starlark_unordered.proofs.Agreeing.{found-cloned}
 use Rattle.starlark_unordered.proofs.Cloned.{members-cloned, pairs-cloned, same-cloned, keyed-cloned}

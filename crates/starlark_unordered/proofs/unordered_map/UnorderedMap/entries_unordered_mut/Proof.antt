@@ -11,7 +11,7 @@ use Rattle.starlark_hash.proofs.hash_value.StarlarkHashValue.TheLaws as hash_law
 use Rattle.starlark_table.specs.contracts.kept_hash.StarlarkHashValueKeptHash.TheImpl as kept
 use Rattle.starlark_table.proofs.kept_hash.StarlarkHashValueKeptHash.TheImpl.Met as kept_met
 use Rattle.starlark_table.specs.Table.{Table, items_of, members}
-use Rattle.starlark_table.specs.Written.{with_values}
+use Rattle.starlark_table.specs.Lend.{with_values}
 use Rattle.starlark_table.specs.contracts.pairs_mut.PairsMut as walk-type
 use Rattle.starlark_table.specs.contracts.ready_table.pairs_mut.ReadyTable+tuple2+K+V+H.pairs_mut as g
 use Rattle.starlark_table.proofs.ready_table.pairs_mut.ReadyTable+tuple2+K+V+H.pairs_mut.Symbol.{name as #run}
@@ -21,7 +21,7 @@ use Rattle.starlark_columns.proofs.NamedClose.{closes_named}
 use Rattle.starlark_columns.proofs.LoneValue.{lone_value}
 use Rattle.starlark_table.proofs.WalkRenamed.{renamed}
 use Rattle.starlark_unordered.specs.Pairs.{pairs_of, HasDistinctKeys}
-use Rattle.starlark_unordered.specs.Walk.{WalksPairs}
+use Rattle.starlark_unordered.specs.Iter.{WalksPairs}
 use Rattle.starlark_unordered.specs.contracts.unordered_map.UnorderedMap.entries_unordered_mut as F
 use Rattle.starlark_unordered.specs.contracts.unordered_map.UnorderedMap.entries_unordered_mut.Key.{name as #self}
 use Rattle.starlark_unordered.proofs.Keys.{distinct_pairs}

@@ -1,6 +1,6 @@
 use Rattle.std.proofs.Common.{arith, ◌≡◌, refl, subst, [], None}
 use Rattle.std.specs.Map.{update_all}
-use Rattle.starlark_unordered.specs.Calling.{get}
+use Rattle.starlark_unordered.specs.Lookup.{get}
 use Rattle.starlark_unordered.specs.Collect.{InsertsAll}
 use Rattle.starlark_unordered.specs.Pairs.{pairs_of}
 use Rattle.starlark_unordered.proofs.Collected.{found-collected, most-collected, run_of}

@@ -4,7 +4,7 @@ use Rattle.std.specs.Map.{lookup}
 use Rattle.std.specs.Option.{option_copied}
 use Rattle.starlark_hash.specs.HashValue.{hash_of, key_of}
 use Rattle.starlark_unordered.specs.Pairs.{pairs_of, under_own}
-use Rattle.starlark_unordered.proofs.CallerHashed.{finds-under}
+use Rattle.starlark_unordered.proofs.CallerLookup.{finds-under}
 use Rattle.starlark_unordered.proofs.unordered_map.UnorderedMap.get_hashed.Goals as goal
 
 pub returns-in_err-value : goal.returns-in_err-value

@@ -2,7 +2,8 @@ use Rattle.std.proofs.Common.{◌≡◌, ◌+◌, ℕ, Some, None, ap, arith, co
 use Rattle.std.proofs.lemmas.Grind.{common_steps}
 use Rattle.std.specs.Map.{lookup}
 use Rattle.starlark_table.specs.Table.{GrowsAsNeeded}
-use Rattle.starlark_unordered.specs.Calling.{Writes, contains, get, total_of, weight_of}
+use Rattle.starlark_unordered.specs.Lookup.{Writes, contains, get, total_of}
+use Rattle.starlark_hash.specs.Lookup.{weight_of}
 use Rattle.starlark_unordered.specs.Pairs.{pairs_of, with_value}
 use Rattle.starlark_unordered.proofs.Callers.{found_is, grows-slot, length-new, length-slot, writes-slot}
 use Rattle.starlark_unordered.proofs.CallerTotals.{total-new, total-slot}

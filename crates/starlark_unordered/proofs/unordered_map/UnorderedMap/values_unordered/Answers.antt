@@ -2,7 +2,7 @@ use Rattle.std.proofs.Common.{◌≡◌, rules}
 use Rattle.std.specs.Map.{values_of}
 use Rattle.std.specs.Map.Iter.{deref}
 use Rattle.starlark_unordered.specs.Pairs.{pairs_of}
-use Rattle.starlark_unordered.proofs.CallerFound.{values-found}
+use Rattle.starlark_unordered.proofs.CallerLookup.{values-found}
 use Rattle.starlark_unordered.proofs.Shows.{shows_in_order}
 use Rattle.starlark_unordered.proofs.unordered_map.UnorderedMap.values_unordered.Goals as goal
 

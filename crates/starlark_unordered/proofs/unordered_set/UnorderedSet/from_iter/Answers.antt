@@ -1,7 +1,7 @@
 use Rattle.std.proofs.Common.{◌≡◌, refl, sym, subst, ◌∙◌}
 use Rattle.std.specs.Map.{keys_of}
 use Rattle.std.specs.Set.{is_member}
-use Rattle.starlark_unordered.specs.Calling.{contains}
+use Rattle.starlark_unordered.specs.Lookup.{contains}
 use Rattle.starlark_unordered.specs.Pairs.{pairs_of}
 use Rattle.starlark_unordered.proofs.Agreeing.{drains-beside, found-each}
 use Rattle.starlark_unordered.proofs.Collected.{found-collected, run_of}

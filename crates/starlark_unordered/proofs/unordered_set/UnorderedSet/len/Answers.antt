@@ -1,5 +1,5 @@
 use Rattle.std.proofs.Common.{subst}
-use Rattle.starlark_unordered.specs.Calling.{Counts}
+use Rattle.starlark_unordered.specs.Lookup.{Counts}
 use Rattle.starlark_unordered.proofs.unordered_set.UnorderedSet.len.Goals as goal
 
 pub returns : goal.returns

@@ -3,13 +3,13 @@
 use Rattle.starlark_columns.proofs.Walking.{◌≡◌, refl, sym, ap, subst, ◌∙◌, ℕ, ◌+◌, ◌*◌, ◌<◌, ◌^◌, zero-add, zero-mul, List, [], ◌∷◌, length, Ura, Fn, Args, a_type, named, w64, inst_fn, Val, vint, vptr, vstruct, vcons, vnil, SProp, ent, emp, id⊢, ex_e, fst∗, snd∗, Lft, GName, Share, ftrue, fsep, flft, fauth, Memory, Routine, Calls, Loops, WpFn, Tables, Logic, sem, ◌⊑◌, Fun, fact, fact_i, tables, tables_of, FmC, fm_of, WpFn-mono, ages, bor_new_deep, open_ref, name_new, ‵, raw, ◌⊛◌, some, later, ◌$◌, ◌∵◌, !, qed, move, keep, drop, use0, use1, use2, split, split3, join, pick, fsplit, fsplit3, fjoin, fjoin3, fpack, feq_i, feq_l, rewrite, suffices, frame, await, group, done, whole, sub, agg, stop, fld, hop, from, addr, and_then, no_more, returns, enter, alloc_all, pass_all, free_all, look_at, look_in_at, get, through, sets, lands_as, Array, usize, yes, no, follows, follows_then, RattleType, owns, mem, param, layouts, block_ptr, MutBor, mut_vals, mut_Tells, makes_shadow, pure_l, pure_i, plain, types_at, mut_ref_to, named_lft, MutSlice, Room, room, mut_slice_at, mut_slice_vals, uint_vals, uint_Tells, uint_Makes, nothing, owned, heard, only, shape, Struct, calls_at, Clauses, Ended, closing, ensured, lasts, Meets, triple_of, Contract, Triple, entered, says, Stays, stay_dropped, walk_of, ends_at, walked, walk_Meets, Goes-dropped, Goes-spent_ref, items_of}
 use base.Share
 use Rattle.starlark_columns.specs.declared.row.Row.{Row}
-use Rattle.starlark_columns.specs.Lends.{with_places}
+use Rattle.starlark_columns.specs.Lend.{with_places}
 use Rattle.starlark_columns.specs.contracts.block.Address as address
 use Rattle.starlark_columns.specs.declared.block.Address.{Address}
 use Rattle.starlark_columns.proofs.Addresses.{word, word_good, address_made, address_told}
 use Rattle.starlark_columns.specs.Front.{IsFront, with_items}
-use Rattle.starlark_vec2.specs.ColumnLending.{column}
-use Rattle.starlark_vec2.specs.Frozen.{Pair, with_seconds, lent_run}
+use Rattle.starlark_vec2.specs.Columns.{column}
+use Rattle.starlark_vec2.specs.Loan.{Pair, with_seconds, lent_run}
 use Rattle.starlark_columns.proofs.NamedClose.{closes_named}
 use Rattle.starlark_vec2.proofs.FrozenPairs.{Made, run_made, kept_items}
 use Rattle.starlark_vec2.specs.declared.loan.Loan.{Loan}

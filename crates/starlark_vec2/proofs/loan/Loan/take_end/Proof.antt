@@ -1,7 +1,7 @@
 -- `take_end` takes the pair at either end. Assumes `Logic`.
 use Rattle.starlark_columns.proofs.Walking.{refl, sym, ap, subst, ◌∙◌, ℕ, ◌+◌, ◌*◌, ◌<◌, ◌^◌, arith, List, [], ◌∷◌, length, Ura, full_share, Fn, Args, a_type, named, w64, inst_fn, Val, vint, vptr, vstruct, vcons, vnil, SProp, ent, id⊢, Lft, GName, Share, Incl-trans, ftrue, flft, fobs, fauth, fobor, Memory, Routine, Env, Calls, Loops, WpFn, Tables, Logic, Body, ◌⊑◌, Lfts, AllOutlive, Fun, fact, tables, tables_of, WpFn-mono, Item, ‵, raw, ◌⊛◌, some, later, at_ret, ◌$◌, ◌∵◌, !, qed, move, keep, drop, use2, split, split3, join, pick, fsplit, fsplit3, fjoin, fjoin3, feq_i, rewrite, suffices, frame, await, done, whole, sub, look_in, agg, size_word, stop, fld, load, of_opd, bin, addr, and_then, no_more, first, blocks, exec, returns, enter, alloc_all, pass_all, free_all, look_at, get, through, sets, sets_last, is, env, holding, usize, yes, shows, mem, cell_at, param, layouts, Laws, param_laws, uint_vals, uint_Tells, RattleType, owns, Ptr, in_a_block, Bor, MutBor, MutRef, ShrRef, mut_vals, mut_Tells, pure_l, pure_i, plain, types_at, named_lft, Room, room, nothing, heard, peeks, opens, closes, shape, Struct, Tuple, Clauses, Ended, closing, Meets, triple_of, entered, says, Stays, stay_ref, stay_dropped, walk_of, ends_at, walked, walk_Meets, Goes-ref, Goes-dropped, times_below, uncapped}
 use Rattle.std_alloc.proofs.VecSteps.Shapes.{after}
-use Rattle.starlark_vec2.specs.Frozen.{Pair, frozen, IsEnd}
+use Rattle.starlark_vec2.specs.Loan.{Pair, frozen, IsEnd}
 use Rattle.starlark_vec2.proofs.FrozenPairs.{Off, Parted, first_at, second_at, end_of, end_within, fewer_left, end_out, pair_out, pair_made}
 use Rattle.starlark_vec2.specs.declared.loan.Loan.{Loan}
 use Rattle.starlark_vec2.specs.contracts.loan.Loan as L-type

@@ -1,8 +1,8 @@
 use Rattle.std.proofs.Common.{length, zip, ap, sym, subst, ◌∙◌}
 use Rattle.std.proofs.lemmas.List.Elements.{same_from_all_zip}
 use Rattle.std.specs.List.{AllZip}
-use Rattle.starlark_columns.specs.Places.{items_of}
-use Rattle.starlark_vec2.specs.Collect.{IsPairClone}
+use Rattle.starlark_columns.specs.Cells.{items_of}
+use Rattle.starlark_hash.specs.Clone.{IsPairClone}
 use Rattle.starlark_vec2.specs.PairList.{pair_list}
 use Rattle.starlark_vec2.proofs.Pairs.{AllZip-zip}
 use Rattle.starlark_vec2.proofs.TwoColumns.{len_is}

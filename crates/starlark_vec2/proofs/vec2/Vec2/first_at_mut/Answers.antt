@@ -1,6 +1,6 @@
 use Rattle.std.proofs.Common.{slice_set, Some, refl}
 use lib.ListN.{length-set}
-use Rattle.starlark_columns.specs.Lends.{with_places}
+use Rattle.starlark_columns.specs.Lend.{with_places}
 use Rattle.starlark_vec2.proofs.TwoColumns.{same_block, in_columns, first_set, first_end, first_is}
 use Rattle.starlark_vec2.proofs.vec2.Vec2.first_at_mut.Goals as goal
 

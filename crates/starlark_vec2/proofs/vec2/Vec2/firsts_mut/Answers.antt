@@ -1,6 +1,6 @@
 use Rattle.std.proofs.Common.{refl}
 use Rattle.starlark_columns.specs.Front.{with_items}
-use Rattle.starlark_columns.specs.Lends.{with_places}
+use Rattle.starlark_columns.specs.Lend.{with_places}
 use Rattle.starlark_columns.proofs.Fronts.{written_places}
 use Rattle.starlark_vec2.proofs.TwoColumns.{same_block, firsts_written, firsts_end, firsts_are}
 use Rattle.starlark_vec2.proofs.vec2.Vec2.firsts_mut.Goals as goal

@@ -3,12 +3,12 @@ use Rattle.starlark_columns.proofs.Walking.{◌≡◌, refl, ap, ◌∙◌, ℕ,
 use base.Share
 use Rattle.std.specs.declared.option.Option.TheVariants.{Some}
 use Rattle.starlark_columns.specs.Block.{IsBehind}
-use Rattle.starlark_columns.specs.Lends.{with_places}
+use Rattle.starlark_columns.specs.Lend.{with_places}
 use Rattle.starlark_columns.specs.contracts.block.Spot as spot
 use Rattle.starlark_columns.proofs.Addresses.{words, words_good, spot_made}
 use Rattle.starlark_columns.proofs.Fronts.{front_filled, front_taken}
-use Rattle.starlark_vec2.specs.ColumnLending.{column}
-use Rattle.starlark_vec2.specs.Lending.{with_pair}
+use Rattle.starlark_vec2.specs.Columns.{column}
+use Rattle.starlark_vec2.specs.Lend.{with_pair}
 use Rattle.starlark_vec2.specs.PairList.{PairList}
 use Rattle.starlark_vec2.proofs.BothClose.{closes_both}
 use Rattle.starlark_vec2.proofs.FrozenPairs.{pair_made}

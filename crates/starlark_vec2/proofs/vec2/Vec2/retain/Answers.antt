@@ -4,7 +4,7 @@ use Rattle.starlark_hash.specs.Retain.{Retains}
 use Rattle.starlark_vec2.specs.Retain.{CalledAtBoth}
 use Rattle.starlark_vec2.proofs.Pairs.{zip-take}
 use Rattle.starlark_columns.specs.Front.{with_items}
-use Rattle.starlark_columns.specs.Lends.{with_places}
+use Rattle.starlark_columns.specs.Lend.{with_places}
 use Rattle.starlark_columns.proofs.Fronts.{written_places}
 use Rattle.starlark_vec2.proofs.TwoColumns.{same_block, both_written, both_seen}
 use Rattle.starlark_vec2.proofs.vec2.Vec2.retain.Goals as goal

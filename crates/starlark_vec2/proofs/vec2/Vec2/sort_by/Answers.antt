@@ -1,10 +1,10 @@
 use Rattle.std.proofs.Common.{refl, length, zip, sym, ap, subst, ◌∙◌, arith}
 use Rattle.std.specs.List.{range_with_len}
 use Rattle.std.specs.List.Sorted.{IsPermutation}
-use Rattle.starlark_vec2.specs.Positions.{PutsInOrder}
+use Rattle.starlark_vec2.specs.Sort.{PutsInOrder}
 use Rattle.starlark_vec2.proofs.Positions.{sorted_by-short, sorted_by-from_order, IsPermutation-from_order}
 use Rattle.starlark_columns.specs.Front.{with_items}
-use Rattle.starlark_columns.specs.Lends.{with_places}
+use Rattle.starlark_columns.specs.Lend.{with_places}
 use Rattle.starlark_columns.proofs.Fronts.{written_places}
 use Rattle.starlark_vec2.proofs.TwoColumns.{same_block, both_written, both_seen, len_is}
 use Rattle.starlark_vec2.proofs.vec2.Vec2.sort_by.Goals as goal

@@ -1,6 +1,6 @@
 use Rattle.std.proofs.Common.{Result, Ok, Err, ap, ◌∙◌}
 use Rattle.std.specs.Prelude.{OnOk}
-use Rattle.starlark_hash.specs.Sorting.{sorted_by}
+use Rattle.starlark_hash.specs.Sort.{sorted_by}
 use Rattle.starlark_vec2.proofs.OneSortedList.{sorted_by-unique}
 use Rattle.starlark_vec2.proofs.vec2.Vec2.sort_pairs_by.Goals as goal
 

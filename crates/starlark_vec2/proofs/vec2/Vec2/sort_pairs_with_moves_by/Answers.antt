@@ -5,8 +5,7 @@ use Rattle.std.specs.List.Sorted.{IsPermutation, IsStableBy}
 use Rattle.std.proofs.Math.ListN.{drop_of_length-le}
 use Rattle.std.proofs.lemmas.List.{take_all}
 use Rattle.std.proofs.lemmas.List.FromFn.{length-enumerate_from}
-use Rattle.starlark_vec2.specs.Moves.{Moves}
-use Rattle.starlark_vec2.specs.Positions.{PutsInOrder}
+use Rattle.starlark_vec2.specs.Sort.{Moves, PutsInOrder}
 use Rattle.starlark_vec2.proofs.Moving.{numbered_lt, numbered_lt-weak, sorted_by-numbered, items-numbered, places-rearranged, Moves-noted}
 use Rattle.starlark_vec2.proofs.vec2.Vec2.sort_pairs_with_moves_by.Goals as goal
 

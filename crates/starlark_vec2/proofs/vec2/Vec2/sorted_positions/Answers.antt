@@ -2,8 +2,7 @@ use Rattle.std.proofs.Common.{◌≡◌, sym, ap, subst, ◌∙◌, refl, rules,
 use Rattle.std.specs.List.{range_with_len}
 use Rattle.std.specs.List.Sorted.{IsStableBy}
 use denote.Param.Always.{mut_by}
-use Rattle.starlark_vec2.specs.Positions.{lt_at, ComparesAt}
-use Rattle.starlark_vec2.specs.Sort.{CanCompare}
+use Rattle.starlark_vec2.specs.Sort.{lt_at, ComparesAt, CanCompare}
 use Rattle.starlark_vec2.proofs.Positions.{CanCompare-next, compares_positions, lt_at-weak}
 use Rattle.starlark_vec2.proofs.vec2.Vec2.sorted_positions.Goals as goal
 

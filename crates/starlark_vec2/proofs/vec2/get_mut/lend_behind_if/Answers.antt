@@ -1,6 +1,6 @@
 use Rattle.std.proofs.Common.{refl, arith}
 use Rattle.std.proofs.lemmas.Option.{slice_get_past}
-use Rattle.starlark_columns.specs.Places.{items_of}
+use Rattle.starlark_columns.specs.Cells.{items_of}
 use Rattle.starlark_columns.proofs.Fronts.{front_filled, front_taken}
 use Rattle.starlark_vec2.proofs.vec2.get_mut.lend_behind_if.Goals as goal
 

@@ -2,11 +2,11 @@
 use Rattle.starlark_columns.proofs.Walking.{◌≡◌, refl, ap, ℕ, ◌<◌, ◌^◌, List, [], ◌∷◌, Ura, Fn, Args, a_type, named, w64, inst_fn, Val, vint, vptr, vstruct, vcons, vnil, SProp, ent, emp, id⊢, ex_e, snd∗, Lft, Share, ftrue, flft, Memory, Routine, Calls, Loops, WpFn, Tables, Logic, sem, ◌⊑◌, Fun, fact, fact_i, tables, tables_of, FmC, fm_of, WpFn-mono, ‵, raw, ◌⊛◌, some, later, ◌$◌, ◌∵◌, !, qed, move, keep, use0, use1, use2, split, split3, join, pick, fsplit3, fjoin, fjoin3, feq_i, feq_l, suffices, frame, await, done, group, agg, stop, addr, and_then, no_more, returns, enter, alloc_all, pass_all, free_all, look_at, get, through, sets, lands_as, yes, no, RattleType, owns, usize, follows, param, layouts, uint_vals, uint_Tells, uint_Makes, MutBor, MutRef, mut_vals, mut_Tells, plain, types_at, mut_ref_to, nothing, owned, heard, only, Tuple, calls_at, Clauses, Ended, closing, ensured, lasts, Meets, triple_of, Contract, Triple, entered, says, Stays, stay_dropped, walk_of, ends_at, walked, walk_Meets, Goes-dropped, Goes-spent_ref, get_or, slice_set, None, Some, IsFilled}
 use Rattle.starlark_columns.specs.Block.{IsBehind}
 use Rattle.starlark_columns.specs.declared.row.Row.{Row}
-use Rattle.starlark_columns.specs.Lends.{with_places}
+use Rattle.starlark_columns.specs.Lend.{with_places}
 use Rattle.starlark_columns.specs.contracts.block.Spot as spot
 use Rattle.starlark_columns.specs.declared.block.Spot.{Spot}
 use Rattle.starlark_columns.proofs.Addresses.{words, words_good, spot_made, spot_told}
-use Rattle.starlark_vec2.specs.ColumnLending.{column}
+use Rattle.starlark_vec2.specs.Columns.{column}
 use Rattle.starlark_vec2.proofs.FrozenPairs.{pair_made}
 use Rattle.starlark_vec2.specs.contracts.vec2.get_mut.lend_columns as F
 use Rattle.starlark_vec2.specs.contracts.vec2.get_mut.lend_columns.Key.{name as #self}

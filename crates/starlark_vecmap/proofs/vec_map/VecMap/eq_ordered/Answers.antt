@@ -2,7 +2,7 @@ use Rattle.std.proofs.Common.{◌&&◌, sym, ap, ◌∙◌}
 use Rattle.std.specs.Prelude.{nat_eq}
 use Rattle.std.specs.Cmp.Lexicographic.{pointwise}
 use Rattle.starlark_vec2.specs.PairList.{firsts_of}
-use Rattle.starlark_hash.specs.Ordered.{same_ordered}
+use Rattle.starlark_hash.specs.Compare.{same_ordered}
 use Rattle.starlark_vecmap.proofs.Ordering.{same_ordered-columns}
 use Rattle.starlark_vecmap.proofs.vec_map.VecMap.eq_ordered.Goals as goal
 

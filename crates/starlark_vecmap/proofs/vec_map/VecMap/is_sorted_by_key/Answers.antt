@@ -1,6 +1,6 @@
 use Rattle.std.proofs.Common.{subst}
 use Rattle.std.specs.Prelude.{MatchBool, IsSortedByKey}
-use Rattle.starlark_hash.specs.Sorting.{Ascends}
+use Rattle.starlark_hash.specs.Sort.{Ascends}
 use Rattle.starlark_vecmap.proofs.Ordering.{ascends-columns}
 use Rattle.starlark_vecmap.proofs.vec_map.VecMap.is_sorted_by_key.Goals as goal
 

@@ -14,7 +14,7 @@ use Rattle.starlark_vec2.proofs.WalkRenamed.{renamed}
 use Rattle.starlark_columns.proofs.LoneValue.{lone_value}
 use Rattle.starlark_hash.specs.Entries.{pair_of}
 use Rattle.starlark_vec2.specs.PairList.{PairList, with_pairs, firsts_of}
-use Rattle.starlark_vec2.specs.Lending as pairs
+use Rattle.starlark_vec2.specs.Lend as pairs
 use Rattle.starlark_vecmap.specs.EntryList.{EntryList, entry_list, entry_of, with_entries, with_values}
 use Rattle.starlark_vecmap.proofs.Views.{pair_of-entry_of}
 use Rattle.starlark_vecmap.proofs.ValuesWritten.{with_values-entry_of}

@@ -2,7 +2,7 @@ use Rattle.std.proofs.Common.{◌≡◌, ℕ, map, Result, Ok, Err, sym, ap, ◌
 use Rattle.std.specs.Prelude.{OnOk}
 use Rattle.std.specs.Ordering.{is_lt}
 use Rattle.std.proofs.lemmas.List.Sorted.{ranks_by, answers_always}
-use Rattle.starlark_hash.specs.Sorting.{key_lt, sorted_by_key}
+use Rattle.starlark_hash.specs.Sort.{key_lt, sorted_by_key}
 use Rattle.starlark_vecmap.specs.EntryList.{entry_list, entry_of}
 use Rattle.starlark_vec2.proofs.OneSortedList.{sorted_by-map}
 use Rattle.starlark_vecmap.proofs.vec_map.VecMap.sort_columns.Goals as goal

@@ -1,6 +1,6 @@
 use Rattle.std.proofs.Common.{sym, ap, subst}
 use Rattle.std.specs.Prelude.{MatchBool}
-use Rattle.starlark_hash.specs.Sorting.{Ascends, key_lt}
+use Rattle.starlark_hash.specs.Sort.{Ascends, key_lt}
 use Rattle.starlark_hash.proofs.SortingLemmas.{sorted_by-fixed, key_lt-order}
 use Rattle.starlark_vecmap.specs.EntryList.{with_entries}
 use Rattle.starlark_vecmap.proofs.vec_map.VecMap.sort_keys.Goals as goal

@@ -3,9 +3,9 @@ use Rattle.std.specs.Prelude.{OnOk, IfOk}
 use Rattle.std.specs.Ordering.{is_lt}
 use Rattle.std.proofs.lemmas.List.MinMax.{ranks_by}
 use Rattle.std.proofs.lemmas.List.Sorted.{answers_always}
-use Rattle.starlark_hash.specs.Sorting.{key_lt, sorted_by_key}
+use Rattle.starlark_hash.specs.Sort.{key_lt, sorted_by_key}
 use Rattle.starlark_vecmap.specs.EntryList.{entry_list, entry_of}
-use Rattle.starlark_vec2.specs.Moves.{Moves}
+use Rattle.starlark_vec2.specs.Sort.{Moves}
 use Rattle.starlark_vec2.proofs.OneSortedList.{sorted_by-map}
 use Rattle.starlark_vec2.proofs.Moving.{Moves-map}
 use Rattle.starlark_vecmap.proofs.vec_map.VecMap.sort_keys_with_moves.Goals as goal

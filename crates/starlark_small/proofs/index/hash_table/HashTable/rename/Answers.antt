@@ -1,7 +1,7 @@
 use Rattle.std.proofs.Common.{◌<◌, arith, subst, sym, vec_capacity}
 use Rattle.std.specs.List.{All}
 use Rattle.starlark_table.specs.Table.{members}
-use Rattle.starlark_vec2.specs.Moves.{Moves}
+use Rattle.starlark_vec2.specs.Sort.{Moves}
 use Rattle.starlark_small.proofs.Kept.{indices-below, keeps-moved, moved-below, moved-once, moved-to}
 use Rattle.starlark_small.proofs.index.hash_table.HashTable.rename.Goals as goal
 

@@ -1,6 +1,6 @@
 use Rattle.std.proofs.Common.{subst, sym}
 use Rattle.starlark_table.specs.Layout.{IsTagged}
-use Rattle.starlark_table.specs.Lent.{AreMarked}
+use Rattle.starlark_table.specs.Loan.{AreMarked}
 use Rattle.starlark_table.proofs.Marked.{marked-all}
 use Rattle.starlark_table.proofs.ready_table.pairs_mut.ReadyTable+tuple2+K+V+H.lend_pairs.Goals as goal
 

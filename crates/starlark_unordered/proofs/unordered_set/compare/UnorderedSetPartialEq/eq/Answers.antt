@@ -1,6 +1,6 @@
 use Rattle.std.proofs.Common.{◌≡◌, ◌∙◌, arith, rules, sym, subst}
 use Rattle.std.proofs.lemmas.Grind.{common_steps}
-use Rattle.starlark_unordered.specs.Calling.{contains}
+use Rattle.starlark_unordered.specs.Lookup.{contains}
 use Rattle.starlark_unordered.specs.Pairs.{pairs_of}
 use Rattle.starlark_unordered.proofs.Agreeing.{found-equal}
 use Rattle.starlark_unordered.proofs.unordered_set.compare.UnorderedSetPartialEq.eq.Goals as goal

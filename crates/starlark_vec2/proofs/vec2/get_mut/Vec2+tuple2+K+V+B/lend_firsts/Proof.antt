@@ -4,13 +4,13 @@ use Rattle.starlark_columns.proofs.Walking.{◌≡◌, refl, sym, ap, ◌∙◌,
 use base.Share
 use Rattle.starlark_columns.specs.Block.{IsBehind}
 use Rattle.starlark_columns.specs.declared.row.Row.{Row}
-use Rattle.starlark_columns.specs.Lends.{with_places}
+use Rattle.starlark_columns.specs.Lend.{with_places}
 use Rattle.starlark_columns.specs.contracts.block.Spot as spot
 use Rattle.starlark_columns.proofs.Addresses.{words, words_good, spot_made}
 use Rattle.starlark_columns.specs.Front.{IsFront, with_items}
 use Rattle.starlark_columns.proofs.Fronts.{all_written, written_places}
-use Rattle.starlark_vec2.specs.ColumnLending.{column}
-use Rattle.starlark_vec2.specs.Frozen.{Pair, with_seconds}
+use Rattle.starlark_vec2.specs.Columns.{column}
+use Rattle.starlark_vec2.specs.Loan.{Pair, with_seconds, frozen}
 use Rattle.starlark_columns.proofs.NamedClose.{closes_named}
 use Rattle.starlark_vec2.specs.declared.loan.Loan.{Loan}
 use Rattle.starlark_vec2.specs.contracts.loan.Loan as L-type
@@ -20,13 +20,12 @@ use Rattle.starlark_vec2.specs.contracts.loan.Loan.behind as g
 use Rattle.starlark_vec2.proofs.loan.Loan.behind.Symbol.{name as #run}
 use Rattle.starlark_vec2.proofs.loan.Loan.behind.Met as loan
 use Rattle.starlark_vec2.proofs.loan.Loan.TheLaws as L-laws
-use Rattle.starlark_vec2.specs.Lending.{with_values}
+use Rattle.starlark_vec2.specs.Lend.{with_values}
 use Rattle.starlark_vec2.specs.PairList.{pair_list, with_pairs, firsts_of}
 use Rattle.starlark_vec2.proofs.TwoColumns.{same_block, firsts_written, firsts_are}
 use Rattle.starlark_vec2.proofs.Values.{with_values-zip}
 use Rattle.starlark_vec2.proofs.Vec2Open as O
 use Rattle.starlark_vec2.proofs.FrozenPairs.{length-with_seconds}
-use Rattle.starlark_vec2.specs.Frozen.{frozen}
 use Rattle.starlark_vec2.proofs.vec2.get_mut.Vec2+tuple2+K+V+B.lend_firsts.Statement as stated
 use Rattle.starlark_vec2.proofs.vec2.get_mut.Vec2+tuple2+K+V+B.lend_firsts.Code as code
 

@@ -1,0 +1,30 @@
+-- What a `SortedMap` ends as, once a reference into it has ended.
+use Rattle.std.specs.Prelude.{◌≡◌, Bool, Option, Some, IsSome}
+use Rattle.std.specs.Borrow.{Fml, RattleType, MutBor, GName, LendsSo, follows}
+use Rattle.std.specs.Hash.{HashWrites}
+use Rattle.std.specs.declared.cmp.Ordering.{Ordering}
+use Rattle.starlark_hash.specs.declared.hash_value.StarlarkHashValue.{StarlarkHashValue}
+use Rattle.starlark_hash.specs.Entries.{position_of, with_value}
+use Rattle.starlark_vecmap.specs.EntryList.{with_values}
+use Rattle.starlark_small.specs.Map.{Map}
+use Rattle.starlark_small.specs.contracts.small_map.SmallMap as small
+use Rattle.starlark_hash.specs.Lookup.{Writes, found}
+use Rattle.starlark_map.specs.contracts.sorted_map.SortedMap as sorted
+
+module _ (K V : RattleType) (cmp : K.Denot → K.Denot → Ordering) (eq : K.Denot → K.Denot → Bool) (partial_cmp : K.Denot → K.Denot → Option Ordering) (feeds : K.Denot → HashWrites) where
+  -- sorted maps whose keys compare and feed a hasher so
+  abbrev the_row : RattleType
+  the_row = sorted.the_row K V (record { cmp = cmp }) (record { eq = eq }) (record { partial_cmp = partial_cmp }) (record { hash_input = feeds })
+
+  module _ (s : MutBor (Map K.Denot V.Denot)) where
+    -- the value at the place that was found ends as what is left behind the reference, a look-up then finds it, and all else
+    -- stays; where none was found, the map stays
+    abbrev pub lends_get : (K.Denot → Bool) → StarlarkHashValue → Option (MutBor V.Denot) → Fml
+    lends_get test hash r = LendsSo the_row V s r
+        (λ n w. (n ≡ record s.now { entries = with_value s.now.entries (position_of hash test s.now.entries) w })
+        × (IsSome (found test hash s.now.entries) → Writes eq test hash s.now.entries n.entries (Some w)))
+        (λ n. n ≡ s.now)
+
+    -- the map ends with the values that the loan of this name ends with, and all else stays
+    abbrev pub values_follow : GName → Fml
+    values_follow γ = follows the_row (small.the_row K V (record { eq = eq })) s.ghost_name γ (λ w. record s.now { entries = with_values s.now.entries w.entries })

@@ -1,0 +1,66 @@
+-- What `try_insert` does and answers.
+use Rattle.std.specs.Prelude.{◌≡◌, ◌<◌, Bool, true, false, Option, Some, None, Result, MatchOption, MatchResult, IfErr, OnOk, IsErr, IsTrue, ⊤, is_some, length, slice_get}
+use Rattle.std.specs.Option.{option_map}
+use Rattle.starlark_hash.specs.HashValue.{hash_of, key_of}
+use Rattle.starlark_hash.specs.declared.hashed.Hashed.{Hashed}
+use Rattle.starlark_hash.specs.Entries.{entry_key, match_of}
+use Rattle.starlark_hash.specs.Lookup.{found}
+use Rattle.starlark_small.specs.Insert.{IsInserted, IsRefused}
+use Rattle.starlark_sets.specs.Set.{Elements, Set, element_at}
+use Rattle.starlark_sets.specs.declared.ordered_set.try_insert.TryInsertError.{TryInsertError}
+use Rattle.starlark_sets.specs.declared.ordered_set.try_insert.TryInsertError.TheVariants.{Occupied, Memory}
+use Rattle.starlark_sets.specs.declared.ordered_set.try_insert.Refusal.{Refusal}
+use Rattle.starlark_sets.specs.declared.ordered_set.try_insert.Refusal.TheVariants.{Placed, Full}
+
+module _ {T : Type 0} where
+  -- new is old after this element was tried: where an equal one stands under its hash it is refused and nothing changes; a new
+  -- one goes last, or is refused, which happens at room 0 alone
+  abbrev pub Tries : {A E : Type 0} → (T → T → Bool) → Set T → Hashed T → Result A E → Set T → Type 0
+  Tries eq old element r new =
+      MatchOption (match_of eq old.entries element)
+      (MatchResult r (λ _. IsInserted old element tt new) (λ _. IsRefused old new × (old.room ≡ 0)))
+      (λ _. IsErr r × (new ≡ old))
+
+  -- the refused element, beside the one that is there; or alone, where none is there
+  abbrev pub IsRefusal : Option T → T → TryInsertError T → Type 0
+  IsRefusal there value (Occupied e) = (e.value ≡ value) × (there ≡ Some e.occupied.now)
+  IsRefusal there value (Memory e) = (e.0 ≡ value) × (there ≡ None)
+
+  -- whether the element was refused for one that is there
+  abbrev pub is_occupied : TryInsertError T → Bool
+  is_occupied (Occupied e) = true
+  is_occupied (Memory e) = false
+
+  -- the element that is there is equal to the refused one
+  abbrev pub ShowsEqual : (T → T → Bool) → T → TryInsertError T → Type 0
+  ShowsEqual eq value (Occupied e) = IsTrue (eq value e.occupied.now)
+  ShowsEqual eq value (Memory e) = ⊤
+
+  -- this element went in, and was lacking; or it was refused, for an equal one that is there or, at room 0 alone, for want of memory
+  pub record AnswersTry (eq : T → T → Bool) (element : Hashed T) (before : Set T) (r : Result (Unit {0}) (TryInsertError T)) : Type 0 where
+    pub lacking : OnOk r (is_some (found (eq (key_of element)) (hash_of element) before.entries) ≡ false)
+    pub there : IfErr r (λ refused. is_some (found (eq (key_of element)) (hash_of element) before.entries) ≡ is_occupied refused)
+    pub equal : IfErr r (ShowsEqual eq (key_of element))
+    pub refused : IfErr r (IsRefusal (element_at before (match_of eq before.entries element)) (key_of element))
+    pub full : IfErr r (λ refused. is_occupied refused ≡ false → before.room ≡ 0)
+
+  -- the refused element, beside the place of the one that is there
+  abbrev pub IsPlaced : Elements T → Option T → T → Refusal T → Type 0
+  IsPlaced es there value (Placed place refused) = (refused ≡ value) × (there ≡ option_map entry_key (slice_get es place))
+  IsPlaced es there value (Full e) = (e.0 ≡ value) × (there ≡ None)
+
+  -- the place that the refusal names is within the list
+  abbrev pub IsWithin : Elements T → Refusal T → Type 0
+  IsWithin es (Placed place refused) = place < length es
+  IsWithin es (Full e) = ⊤
+
+  -- the error shows the element at the refusal's place
+  abbrev pub ShowsPlaced : Elements T → Refusal T → TryInsertError T → Type 0
+  ShowsPlaced es (Placed place refused) (Occupied e) = (e.value ≡ refused) × (option_map entry_key (slice_get es place) ≡ Some e.occupied.now)
+  ShowsPlaced es (Placed place refused) (Memory e) = ⊥
+  ShowsPlaced es (Full n) (Occupied e) = ⊥
+  ShowsPlaced es (Full n) (Memory e) = e ≡ n
+
+  -- r is Ok where tried is, and else shows what its refusal places
+  abbrev pub IsTold : Elements T → Result (Unit {0}) (Refusal T) → Result (Unit {0}) (TryInsertError T) → Type 0
+  IsTold es tried r = MatchResult tried (λ _. MatchResult r (λ _. ⊤) (λ _. ⊥)) (λ x. MatchResult r (λ _. ⊥) (ShowsPlaced es x))

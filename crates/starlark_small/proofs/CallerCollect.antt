@@ -1,0 +1,154 @@
+-- What look-ups find once an iterator's items went in, and in a list of clones.
+use Rattle.std.proofs.Common.{◌≡◌, Bool, true, false, List, [], ◌∷◌, map, position, cond, Option, Some, None, is_some, Result, Ok, Err, OnOk, refl, sym, ap, ◌∙◌, subst, suc, ℕ, zero, ◌<◌, get_or, length, IsSome, slice_get, arith}
+use Rattle.std.specs.Prelude.{◌&&◌, ◌||◌, IfSome, IsSomeAnd}
+use Rattle.std.proofs.iter.SoFar.{exit_by}
+use Rattle.std.specs.Cmp.{IsEquivalence}
+use Rattle.std.specs.Hash.{HashWrites}
+use Rattle.std.specs.Iterator.{Count, Drains}
+use Rattle.std.specs.Iterator.Runs.{WholeRun, AnyItem, Run, YieldsRun}
+use Rattle.std.specs.List.{AllZip}
+use Rattle.std.specs.Map.{update, update_all, keys_of}
+use Rattle.std.specs.Option.{option_map}
+use Rattle.std.proofs.lemmas.List.{map-id}
+use Rattle.starlark_hash.specs.Hasher.{own_hash}
+use Rattle.starlark_hash.specs.declared.hash_value.StarlarkHashValue.{StarlarkHashValue}
+use Rattle.starlark_hash.specs.Clone.{IsEntryClone}
+use Rattle.starlark_hash.specs.Entries.{Entry, entry_key, is_under, stands_under}
+use Rattle.starlark_hash.specs.Lookup.{found}
+use Rattle.starlark_hash.specs.Insert.{insert_entry}
+use Rattle.starlark_hash.proofs.PositionLemmas.{position-cons}
+use Rattle.starlark_small.specs.Lookup.{AreOwn, AreOwnEntries, get}
+use Rattle.starlark_small.specs.Collect.{Collects, Extends, FindsLast, InsertsEach, KeepsOwn, insert_all, own_entry, HasItems}
+use Rattle.starlark_small.specs.Map.{Map, own_hashed}
+use Rattle.starlark_small.proofs.CallerOwn.{own-inserted_entries}
+use Rattle.starlark_small.proofs.CallerLookup.{empty-found, is_some-found}
+use Rattle.starlark_small.proofs.CallerInsert.{writes-inserted}
+use Rattle.std.specs.Set.{is_member}
+use Rattle.std.proofs.lemmas.Map.Made.{IfSome-update_all, is_some-update_all}
+use Rattle.std.proofs.lemmas.Option.{none-some, same_Some}
+
+-- the run of an iterator that gave these items and ended
+pub run_of : {T A : Type 0} (steps : T → Option A → T → Type 0) (it : T) (xs : List A) (P : List A → Type 0) → Drains steps it xs → P xs → WholeRun steps it (λ p. P p.items)
+run_of steps it xs P drained holds =
+    let run = exit_by steps (xs, drained.1.1) drained.0 drained.1.2 in
+    (run.0, run.1, run.2, subst P (sym run.3.0) holds)
+
+module _ {K V : Type 0} (eq : K → K → Bool) (laws : IsEquivalence eq) (feeds : K → HashWrites) (alike : (x y : K) → eq x y ≡ true → feeds x ≡ feeds y) where
+  -- a look-up of each key under its own hash
+  abbrev look : List (Entry K V) → K → Option V
+  look es key = found (eq key) (own_hash feeds key) es
+
+  -- one item more
+  looked_after : (es : List (Entry K V)) (p : K × V) (key : K) → look (insert_entry eq es (own_hashed feeds p.0) p.1) key ≡ update eq (look es) p.0 (Some p.1) key
+  looked_after es p key =
+      let new = insert_entry eq es (own_hashed feeds p.0) p.1 in
+      let wrote = writes-inserted eq laws es new (own_hashed feeds p.0) p.1 refl in
+      elim (eq p.0 key) as (λ b. eq p.0 key ≡ b → look new key ≡ cond b (Some p.1) (look es key)) [
+        | true ↦ λ same. (λ i. found (λ k. sym (laws.congr p.0 key k same) i) (own_hash (λ _. sym (alike p.0 key same) i) key) new) ∙ wrote.0
+        | false ↦ λ not. wrote.1 (own_hash feeds key) key not
+      ] refl
+
+  pub looked_all : (xs : List (K × V)) (es : List (Entry K V)) (key : K) → look (insert_all eq es (map (own_entry feeds) xs)) key ≡ update_all eq (look es) xs key
+  looked_all [] es key = refl
+  looked_all (x ∷ xs) es key =
+      looked_all xs (insert_entry eq es (own_hashed feeds x.0) x.1) key ∙ (λ i. update_all eq (λ k. looked_after es x k i) xs key)
+
+  module _ {T U : Type 0} (steps : T → Option (K × V) → T → Type 0) (becomes : U → T → Type 0) (iter : U) where
+    pub finds_extended : {E : Type 0} (r : Result (Unit {0}) E) (old new : Map K V) → Extends eq (own_entry feeds) steps becomes iter old.entries new.entries r
+        → OnOk r (FindsLast eq feeds steps becomes iter (look old.entries) new)
+    finds_extended (Ok a) old new went =
+        let in_all = went.inserts in (
+          went.it,
+          went.made,
+          run_of steps went.it in_all.items (λ xs. (key : K) → look new.entries key ≡ update_all eq (look old.entries) xs key) in_all.ended
+              (λ key. ap (λ l. look l key) in_all.entries ∙ looked_all in_all.items old.entries key),
+        )
+    finds_extended (Err e) old new went = tt
+
+    pub finds_collected : (remaining : T → Count) (m : Map K V) → Collects eq (own_entry feeds) steps becomes remaining iter m → FindsLast eq feeds steps becomes iter (λ _. None) m
+    finds_collected remaining m has = (
+      has.it,
+      has.made,
+      run_of steps has.it has.items (λ xs. (key : K) → look m.entries key ≡ update_all eq (λ _. None) xs key) has.drained
+          (λ key. ap (λ l. look l key) has.entries ∙ looked_all has.items [] key ∙ (λ i. update_all eq (λ k. empty-found {K = K} {V = V} [] refl (eq k) (own_hash feeds k) i) has.items key)),
+    )
+
+module _ {K V T U : Type 0} (eq : K → K → Bool) (steps : T → Option (Entry K V) → T → Type 0) (becomes : U → T → Type 0) (iter : U) where
+  -- entries under own hashes stay so
+  pub own_collected : (remaining : T → Count) (m : Map K V) → Collects eq (λ item. item) steps becomes remaining iter m → KeepsOwn steps becomes iter m
+  own_collected remaining m has = (
+    has.it,
+    has.made,
+    run_of steps has.it has.items (λ xs. (feeds : K → HashWrites) → AreOwnEntries feeds xs → AreOwn feeds m) has.drained
+        (λ feeds own. own-inserted_entries feeds eq m.entries has.items (has.entries ∙ ap (insert_all eq []) (map-id has.items)) own),
+  )
+
+  -- the list is that of the items, inserted in their order
+  pub each_collected : (remaining : T → Count) (m : Map K V) → Collects eq (λ item. item) steps becomes remaining iter m → InsertsEach eq steps becomes iter m
+  each_collected remaining m has = (
+    has.it,
+    has.made,
+    run_of steps has.it has.items (λ xs. m.entries ≡ insert_all eq [] xs) has.drained (has.entries ∙ ap (insert_all eq []) (map-id has.items)),
+  )
+
+module _ {K V : Type 0} (eq : K → K → Bool) (laws : IsEquivalence eq) (key : K → K → Type 0) (value : V → V → Type 0) (equal : (x y : K) → key x y → eq x y ≡ true) where
+  -- a clone passes where its original does
+  alike_clone : (q : K) (hash : StarlarkHashValue) (d e : Entry K V) → IsEntryClone key value d e → stands_under hash (eq q) e ≡ stands_under hash (eq q) d
+  alike_clone q hash d e is =
+      let same : eq q (entry_key e) ≡ eq q (entry_key d) = laws.symm q (entry_key e) ∙ sym (laws.congr (entry_key d) (entry_key e) q (equal (entry_key d) (entry_key e) is.1)) ∙ laws.symm (entry_key d) q in
+      λ i. is_under hash (record { 0 = record (e.0) { hash = is.0 i }; 1 = e.1 }) && same i
+
+  position-clones : (q : K) (hash : StarlarkHashValue) (es fs : List (Entry K V)) → AllZip (IsEntryClone key value) es fs → position (stands_under hash (eq q)) fs ≡ position (stands_under hash (eq q)) es
+  position-clones q hash [] [] all = refl
+  position-clones q hash [] (f ∷ fs) all = absurd all
+  position-clones q hash (e ∷ es) [] all = absurd all
+  position-clones q hash (e ∷ es) (f ∷ fs) all =
+      position-cons (stands_under hash (eq q)) f fs
+      ∙ (λ i. cond (alike_clone q hash e f all.0 i) (Some 0) (option_map suc (position-clones q hash es fs all.1 i)))
+      ∙ sym (position-cons (stands_under hash (eq q)) e es)
+
+  -- clones are found where their originals are
+  pub found-clones : (es fs : List (Entry K V)) → AllZip (IsEntryClone key value) es fs → (hash : StarlarkHashValue) (q : K) → is_some (found (eq q) hash fs) ≡ is_some (found (eq q) hash es)
+  found-clones es fs all hash q = sym (is_some-found (eq q) hash fs) ∙ ap is_some (position-clones q hash es fs all) ∙ is_some-found (eq q) hash es
+
+placed : {A : Type 0} (xs : List A) (k : ℕ) (d : A) → k < length xs → slice_get xs k ≡ Some (get_or xs k d)
+placed [] k d below = absurd (omega (arith, below))
+placed (x ∷ xs) zero d below = refl
+placed (x ∷ xs) (suc k) d below = placed xs k d (omega (arith, below))
+
+or_true : (b : Bool) → (b || true) ≡ true
+or_true true = refl
+or_true false = refl
+
+module _ {K V T : Type 0} {steps : T → Option (K × V) → T → Type 0} (p : Run steps) where
+  item-at : (k : ℕ) → p.at k ≡ slice_get p.items k
+  unfolding YieldsRun
+  item-at k = p.gave.1 k
+
+  -- an item at a place below the length, of which this holds
+  any-item : (P : K × V → Type 0) (k : ℕ) (d : K × V) → k < length p.items → P (get_or p.items k d) → AnyItem p P
+  any-item P k d below holds = (k, omega (arith, below, p.long), subst (λ o. IsSomeAnd o P) (sym (item-at k ∙ placed p.items k d below)) holds)
+
+module _ {K V : Type 0} (eq : K → K → Bool) (laws : IsEquivalence eq) where
+  member-at : (xs : List (K × V)) (k : ℕ) (o : Option (K × V)) → slice_get xs k ≡ o → IfSome o (λ x. is_member eq (keys_of xs) x.0 ≡ true)
+  member-at xs k None at = tt
+  member-at [] k (Some x) at = absurd (none-some x at)
+  member-at (y ∷ xs) zero (Some x) at = ap (λ b. b || is_member eq (keys_of xs) x.0) (ap (λ (z : K × V). eq x.0 z.0) (same_Some y x at) ∙ laws.refl x.0)
+  member-at (y ∷ xs) (suc k) (Some x) at = ap (λ b. eq x.0 y.0 || b) (member-at xs k (Some x) at) ∙ or_true (eq x.0 y.0)
+
+  module _ {T U : Type 0} (feeds : K → HashWrites) (steps : T → Option (K × V) → T → Type 0) (becomes : U → T → Type 0) (iter : U) (m : Map K V) where
+    found-came : (p : Run steps) (key : K) → get eq feeds m key ≡ update_all eq (λ _. None) p.items key → IfSome (get eq feeds m key) (λ v. AnyItem p (λ x. (eq key x.0 ≡ true) × (x.1 ≡ v)))
+    found-came p key is = subst (λ o. IfSome o (λ v. AnyItem p (λ x. (eq key x.0 ≡ true) × (x.1 ≡ v)))) (sym is)
+        (IfSome-update_all eq (λ v. AnyItem p (λ x. (eq key x.0 ≡ true) × (x.1 ≡ v))) key (λ _. None) p.items tt
+        (λ k d below same. any-item p (λ x. (eq key x.0 ≡ true) × (x.1 ≡ (get_or p.items k d).1)) k d below (laws.symm key (get_or p.items k d).0 ∙ same, refl)))
+
+    item-found : (p : Run steps) → ((key : K) → get eq feeds m key ≡ update_all eq (λ _. None) p.items key) → (k : ℕ) (o : Option (K × V)) → p.at k ≡ o → IfSome o (λ x. IsSome (get eq feeds m x.0))
+    item-found p is k None at = tt
+    item-found p is k (Some x) at =
+        ap is_some (is x.0) ∙ is_some-update_all laws x.0 (λ _. None) p.items ∙ member-at p.items k (Some x) (sym (item-at p k) ∙ at)
+
+    pub has-items : FindsLast eq feeds steps becomes iter (λ _. None) m → HasItems eq feeds steps becomes iter m
+    has-items last =
+        let p = last.2.0 in
+        let is = last.2.3 in
+        (last.0, last.1, (p, last.2.1, last.2.2, ((λ key. found-came p key (is key)), (λ k. item-found p is k (p.at k) refl))))

@@ -1,0 +1,162 @@
+-- What a write leaves, of a value where one stands and through an entry.
+use Rattle.std.proofs.Common.{◌≡◌, ℕ, zero, suc, ◌<◌, Bool, true, false, List, [], ◌∷◌, length, map, Option, Some, None, is_some, refl, sym, ap, ◌∙◌, arith, ◌+◌, ◌++◌, IsSome, slice_get, Result, Ok, Err, IsErr, IsOk, OnErr, OnOk, ◌≤◌, subst}
+use Rattle.std.specs.Option.{option_map, option_map_or}
+use Rattle.std.specs.Cmp.{IsEquivalence}
+use Rattle.std.proofs.lemmas.Bool.{false≢true}
+use Rattle.starlark_hash.specs.declared.hashed.Hashed.{Hashed}
+use Rattle.starlark_hash.specs.declared.hash_value.StarlarkHashValue.{StarlarkHashValue}
+use Rattle.starlark_hash.specs.Entries.{Entry, entry_key, set_value_at, match_of, value_at, with_value, position_of, entry_value}
+use Rattle.starlark_hash.proofs.PositionLemmas.{position-within}
+use Rattle.starlark_hash.proofs.EntryLemmas.{length-set_value_at}
+use Rattle.starlark_small.proofs.CallerLookup.{alike, written_here, written_there, under, apart, keys-set_value_at, apart_other, found_is}
+use Rattle.starlark_hash.specs.HashValue.{hashed, key_of, hash_of}
+use Rattle.starlark_hash.specs.Insert.{insert_entry}
+use Rattle.starlark_hash.specs.Lookup.{found, Writes, weight_of}
+use Rattle.std.specs.declared.cmp.PartialEq as PartialEq
+use Rattle.starlark_small.specs.MapEntry.{Occupied, Vacant, IsEntryOf, Puts, Refuses, entry_value_of, lacking_key, occupied_map, occupied_place, vacant_map, stored, written, with_entry_value, Enters}
+use Rattle.starlark_small.specs.Insert.{IsInserted, IsRefused}
+use Rattle.starlark_small.specs.declared.entry.Entry as E
+use Rattle.starlark_small.specs.declared.entry.OccupiedEntry.{OccupiedEntry}
+use Rattle.starlark_small.specs.declared.entry.VacantEntry.{VacantEntry}
+use Rattle.starlark_small.specs.Map.{Map}
+use Rattle.starlark_small.specs.Lookup.{total_of}
+use Rattle.starlark_small.proofs.CallerOwn.{own-inserted}
+use Rattle.starlark_small.proofs.CallerInsert.{part-at, total-inserted, keys-put, writes-inserted}
+
+module _ {K V : Type 0} (hash : StarlarkHashValue) (passes : K → Bool) (es : List (Entry K V)) where
+  -- a value that is written stands at its key
+  pub value-with_value : (w : V) → value_at (with_value es (position_of hash passes es) w) (position_of hash passes (with_value es (position_of hash passes es) w)) ≡ option_map (λ _. w) (value_at es (position_of hash passes es))
+  value-with_value w = elim (position_of hash passes es) as (λ o. position_of hash passes es ≡ o
+      → value_at (option_map_or (λ i. set_value_at es i w) o es) (position_of hash passes (option_map_or (λ i. set_value_at es i w) o es)) ≡ option_map (λ _. w) (value_at es o)) [
+        | None ↦ λ at. ap (value_at es) at
+        | Some i ↦ λ at. written_here (under hash passes) es i w at ∙ sym (there es i (position-within (λ e. under hash passes e.0) es i at))
+      ] refl
+    where
+      there : (es : List (Entry K V)) (i : ℕ) → i < length es → option_map (λ _. w) (value_at es (Some i)) ≡ Some w
+      there [] i below = absurd (omega (arith, below))
+      there (e ∷ es) zero below = refl
+      there (e ∷ es) (suc i) below = there es i (omega (arith, below))
+
+  pub length-with_value : (w : V) → length (with_value es (position_of hash passes es) w) ≡ length es
+  length-with_value w = elim (position_of hash passes es) as (λ o. length (option_map_or (λ i. set_value_at es i w) o es) ≡ length es) [
+    | None ↦ refl
+    | Some i ↦ length-set_value_at es i w
+  ]
+
+  pub keys-with_value : (w : V) → map entry_key (with_value es (position_of hash passes es) w) ≡ map entry_key es
+  keys-with_value w = elim (position_of hash passes es) as (λ o. map entry_key (option_map_or (λ i. set_value_at es i w) o es) ≡ map entry_key es) [
+    | None ↦ refl
+    | Some i ↦ keys-set_value_at es i w
+  ]
+
+module _ {K V : Type 0} (eq : K → K → Bool) (laws : IsEquivalence eq) (es : List (Entry K V)) (key : Hashed K) (hash : StarlarkHashValue) (passes : K → Bool)
+    (one : (x y : K) → passes x ≡ true → passes y ≡ eq x y) (not : under hash passes key ≡ false) where
+  -- other keys are found as before, once a value was written or an entry removed
+  pub value-with_value_other : (w : V) → value_at (with_value es (match_of eq es key) w) (position_of hash passes (with_value es (match_of eq es key) w)) ≡ value_at es (position_of hash passes es)
+  value-with_value_other w = elim (match_of eq es key) as (λ o. match_of eq es key ≡ o
+      → value_at (option_map_or (λ i. set_value_at es i w) o es) (position_of hash passes (option_map_or (λ i. set_value_at es i w) o es)) ≡ value_at es (position_of hash passes es)) [
+        | None ↦ λ at. refl
+        | Some i ↦ λ at. written_there (under hash passes) (alike eq key) (apart eq laws key hash passes one not) es i w at
+      ] refl
+
+-- a value that is written where there was one
+pub rewritten : {V : Type 0} (w : V) (o : Option V) → is_some o ≡ true → option_map (λ _. w) o ≡ Some w
+rewritten w None e = absurd (false≢true e)
+rewritten w (Some x) e = refl
+
+module _ {K V : Type 0} (eq : K → K → Bool) (laws : IsEquivalence eq) (hash : StarlarkHashValue) (passes : K → Bool) (one : (x y : K) → passes x ≡ true → passes y ≡ eq x y) where
+  written_other : (es : List (Entry K V)) (other : Hashed K) → passes (key_of other) ≡ false → (w : V)
+      → value_at (with_value es (position_of hash passes es) w) (match_of eq (with_value es (position_of hash passes es) w) other) ≡ value_at es (match_of eq es other)
+  written_other es other not w = elim (position_of hash passes es) as (λ o. position_of hash passes es ≡ o
+      → value_at (option_map_or (λ i. set_value_at es i w) o es) (match_of eq (option_map_or (λ i. set_value_at es i w) o es) other) ≡ value_at es (match_of eq es other)) [
+        | None ↦ λ at. refl
+        | Some i ↦ λ at. written_there (alike eq other) (under hash passes) (apart_other eq laws hash passes one other not) es i w at
+      ] refl
+
+module _ {K V : Type 0} (eq : K → K → Bool) (laws : IsEquivalence eq) where
+  module _ (hash : StarlarkHashValue) (passes : K → Bool) (one : (x y : K) → passes x ≡ true → passes y ≡ eq x y) where
+    -- a value that is written where one stands
+    pub writes-with_value : (old new : List (Entry K V)) (w : V) → IsSome (found passes hash old) → new ≡ with_value old (position_of hash passes old) w → Writes eq passes hash old new (Some w)
+    unfolding found
+    writes-with_value old new w there put = (
+      ap (λ l. value_at l (position_of hash passes l)) put ∙ value-with_value hash passes old w ∙ rewritten w (value_at old (position_of hash passes old)) there,
+      λ h other not. ap (λ l. value_at l (position_of h (eq other) l)) put ∙ written_other eq laws hash passes one old (hashed h other) not w,
+    )
+
+-- what is put under an entry goes into the map under its key
+module _ {K V : Type 0} {g : PartialEq.Ghosts K} (eq : K → K → Bool) (m : Map K V) (key : Hashed K) where
+  pub inserted-puts : (e : E.Entry K V g) → IsEntryOf eq m key e → (value : V) (new : Map K V) → Puts e value new → new.entries ≡ insert_entry eq m.entries key value
+  unfolding Puts
+  inserted-puts (Occupied o) is value new put =
+      ap (λ n. n.entries) put ∙ ap (λ n. set_value_at n.entries (occupied_place o) value) is.0
+      ∙ sym (ap (λ p. option_map_or (λ i. set_value_at m.entries i value) p (m.entries ++ (key, value) ∷ [])) is.1)
+  inserted-puts (Vacant v) is value new put =
+      put.entries ∙ ap (λ n. n.entries ++ (lacking_key v, value) ∷ []) is.0 ∙ ap (λ k. m.entries ++ (k, value) ∷ []) is.2
+      ∙ sym (ap (λ p. option_map_or (λ i. set_value_at m.entries i value) p (m.entries ++ (key, value) ∷ [])) is.1)
+
+  pub entries-refused : (e : E.Entry K V g) → IsEntryOf eq m key e → (new : Map K V) → Refuses e new → new.entries ≡ m.entries
+  unfolding Refuses
+  entries-refused (Occupied o) is new refused = absurd refused.0
+  entries-refused (Vacant v) is new refused = refused.1.entries ∙ ap (λ n. n.entries) is.0
+
+  pub value-entry : (e : E.Entry K V g) → IsEntryOf eq m key e → entry_value_of e ≡ value_at m.entries (match_of eq m.entries key)
+  value-entry (Occupied o) is = ap (λ n. option_map entry_value (slice_get n.entries (occupied_place o))) is.0 ∙ sym (ap (value_at m.entries) is.1)
+  value-entry (Vacant v) is = sym (ap (value_at m.entries) is.1)
+
+module _ {K V : Type 0} where
+  -- a value that is written twice, and one that is written and read
+  set_twice : (es : List (Entry K V)) (i : ℕ) (u w : V) → set_value_at (set_value_at es i u) i w ≡ set_value_at es i w
+  set_twice [] i u w = refl
+  set_twice (e ∷ es) zero u w = refl
+  set_twice (e ∷ es) (suc i) u w = ap (λ l. e ∷ l) (set_twice es i u w)
+
+  value_set : (es : List (Entry K V)) (i : ℕ) (w : V) → i < length es → option_map entry_value (slice_get (set_value_at es i w) i) ≡ Some w
+  value_set [] i w below = absurd (omega (arith, below))
+  value_set (e ∷ es) zero w below = refl
+  value_set (e ∷ es) (suc i) w below = value_set es i w (omega (arith, below))
+
+module _ {K V : Type 0} {g : PartialEq.Ghosts K} where
+  -- what is written, or inserted, is put
+  pub puts-written : (o : OccupiedEntry K V g) (value : V) → Puts (Occupied o) value (written o value)
+  unfolding Puts
+  puts-written o value = refl
+
+  pub puts-inserted : {A E : Type 0} (v : VacantEntry K V g) (r : Result A E) (value : V) (new : Map K V) → OnOk r (IsInserted (vacant_map v).now (lacking_key v) value new) → IsOk r → Puts (Vacant v) value new
+  unfolding Puts
+  puts-inserted v (Ok x) value new put ok = put
+  puts-inserted v (Err e) value new put ok = absurd (false≢true ok)
+
+  -- only what is vacant is refused
+  pub refuses-vacant : {A E : Type 0} (v : VacantEntry K V g) (r : Result A E) (new : Map K V) → OnErr r (IsRefused (vacant_map v).now new) → IsErr r → Refuses (Vacant v) new
+  unfolding Refuses
+  refuses-vacant v (Ok x) new refused err = absurd (false≢true err)
+  refuses-vacant v (Err e) new refused err = (tt, refused)
+
+  pub refuses-occupied : (o : OccupiedEntry K V g) (e : E.Entry K V g) (new : Map K V) → Refuses (Occupied o) new → Refuses e new
+  unfolding Refuses
+  refuses-occupied o e new refused = absurd refused.0
+
+  -- an entry that was written has that value, and what is put under it is put under the first
+  pub value-with_entry_value : (o : OccupiedEntry K V g) (u : V) → option_map entry_value (stored (with_entry_value o u)) ≡ Some u
+  value-with_entry_value o u = value_set (occupied_map o).now.entries (occupied_place o) u o.within
+
+  pub puts-with_entry_value : (o : OccupiedEntry K V g) (u value : V) (new : Map K V) → Puts (Occupied (with_entry_value o u)) value new → Puts (Occupied o) value new
+  unfolding Puts
+  puts-with_entry_value o u value new put =
+      put ∙ ap (λ es. record (occupied_map o).now { entries = es }) (set_twice (occupied_map o).now.entries (occupied_place o) u value)
+
+pub enters-entry : {K V : Type 0} {g : PartialEq.Ghosts K} (eq : K → K → Bool) → IsEquivalence eq → (key : Hashed K) (m : Map K V) (e : E.Entry K V g) → IsEntryOf eq m key e → Enters eq key m e
+enters-entry eq laws key m e is =
+    let there = value-entry eq m key e is in
+    let put = inserted-puts eq m key e is in
+    record {
+      entry = is;
+      value = found_is (eq (key_of key)) (hash_of key) m.entries (entry_value_of e) there;
+      entries = put;
+      updates = λ value new puts. writes-inserted eq laws m.entries new.entries key value (put value new puts);
+      keys = λ value new puts. keys-put eq m new key value (put value new puts);
+      own = λ feeds under value new puts. own-inserted feeds eq m.entries new.entries key value (put value new puts) under;
+      refused = entries-refused eq m key e is;
+      part = λ measure. subst (λ o. weight_of measure o ≤ total_of measure m.entries) (sym there) (part-at measure m.entries (match_of eq m.entries key));
+      total = λ measure value new puts. subst (λ o. total_of measure new.entries + weight_of measure o ≡ total_of measure m.entries + measure value) (sym there) (total-inserted measure eq m.entries new.entries key value (put value new puts));
+    }

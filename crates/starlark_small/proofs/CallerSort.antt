@@ -1,0 +1,58 @@
+-- What is found under a key where entries only change their places.
+use Rattle.std.proofs.Common.{◌≡◌, ℕ, ◌+◌, ◌<◌, false, List, [], ◌∷◌, length, map, get_or, Option, Some, None, Contains, IsPermutation, Bool, refl, sym, ap, ◌∙◌, arith}
+use lib.ListN.{length-map}
+use Rattle.std.specs.Cmp.{IsEquivalence, IsTotalOrder}
+use Rattle.std.specs.List.Sorted.{IsSorted, IsSortedBy}
+use Rattle.std.specs.Ordering.{is_lt}
+use Rattle.std.specs.declared.cmp.Ordering.{Ordering}
+use Rattle.std.proofs.lemmas.List.{get_or-map}
+use Rattle.std.specs.List.{IsDistinct}
+use Rattle.std.specs.Map.{keys_of, lookup}
+use Rattle.std.proofs.lemmas.List.Elements.{All-from_recursion, recursion_from_All}
+use Rattle.std.proofs.lemmas.List.Sorted.{All-permutation, Contains-permutation}
+use Rattle.std.proofs.lemmas.Map.{none_passes_from_lookup}
+use Rattle.std.proofs.lemmas.Map.Entries.{place_from_lookup, lookup_from_place}
+use Rattle.std.proofs.lemmas.Option.{slice_get-get_or, slice_get_within, get_or_from_slice_get}
+use Rattle.std_collections.proofs.Entries.{lookup-none, lookup_class}
+use Rattle.starlark_hash.specs.declared.hash_value.StarlarkHashValue.{StarlarkHashValue}
+use Rattle.starlark_hash.specs.HashValue.{hashed}
+use Rattle.starlark_hash.specs.Entries.{Entry, IsSingle, entry_key}
+use Rattle.starlark_hash.specs.Lookup.{found}
+use Rattle.starlark_hash.specs.Sort.{key_lt, sorted_by_key}
+use Rattle.starlark_hash.proofs.SortingLemmas.{sorted_by-sorted, key_lt-order}
+use Rattle.starlark_hash.proofs.EntryLemmas.{IsSingle-permutation}
+use Rattle.starlark_small.specs.CompareLaws.{alike-laws, value_at-lookup}
+use Rattle.starlark_small.proofs.SameEntries.{distinct}
+
+module _ {K X : Type 0} {R : K → K → Bool} (o : IsEquivalence R) (es fs : List (K × X)) (moves : IsPermutation es fs) (apart : IsDistinct R (keys_of fs)) (q : K) where
+  found_then : (r : Option X) → lookup (R q) es ≡ r → lookup (R q) fs ≡ r
+  found_then None e = lookup-none (R q) fs (recursion_from_All (λ p. R q p.0 ≡ false) fs (All-permutation (λ p. R q p.0 ≡ false) es fs moves (All-from_recursion (λ p. R q p.0 ≡ false) es (none_passes_from_lookup (R q) es e))))
+  found_then (Some v) e =
+      let p = place_from_lookup (R q) es v e in
+      let here : Contains es (p.1, v) = (p.0, slice_get_within es p.0 (p.1, v) p.2, get_or_from_slice_get es p.0 (p.1, v) (p.1, v) p.2) in
+      let c = Contains-permutation es fs (p.1, v) moves here in
+      sym (lookup_class o (R q) (o.congr q) p.1 p.3 fs) ∙ lookup_from_place o fs c.0 p.1 v apart (slice_get-get_or fs c.0 (p.1, v) c.1 ∙ ap Some c.2)
+
+  pub lookup_permuted : lookup (R q) fs ≡ lookup (R q) es
+  lookup_permuted = found_then (lookup (R q) es) refl
+
+-- each key has what it had
+pub same-permuted : {K V : Type 0} (eq : K → K → Bool) → IsEquivalence eq → (old new : List (Entry K V)) → IsSingle eq old → IsPermutation old new
+    → (under : StarlarkHashValue) (key : K) → found (eq key) under new ≡ found (eq key) under old
+unfolding found
+same-permuted eq laws old new single moves under key =
+    value_at-lookup eq new (hashed under key)
+    ∙ lookup_permuted (alike-laws eq laws) old new moves (distinct eq new (IsSingle-permutation eq laws old new single moves)) (hashed under key)
+    ∙ sym (value_at-lookup eq old (hashed under key))
+
+-- the keys of sorted entries ascend
+pub keys-sorted : {K V : Type 0} {cmp : K → K → Ordering} → IsTotalOrder cmp → (es : List (Entry K V)) → IsSorted cmp (map entry_key (sorted_by_key cmp es))
+keys-sorted {K} {V} {cmp} total es k d low high =
+    let sorted = sorted_by_key cmp es in
+    let within : k + 1 < length sorted = omega (arith, length-map sorted entry_key) in
+    by sorted k d within (sorted_by-sorted (key_lt cmp) (key_lt-order total) es)
+  where
+    by : (l : List (Entry K V)) (k : ℕ) (d : K) → k + 1 < length l → IsSortedBy (key_lt cmp) l → is_lt (cmp (get_or (map entry_key l) (k + 1) d) (get_or (map entry_key l) k d)) ≡ false
+    by [] k d within up = absurd (omega (arith, within))
+    by (e ∷ l) k d within up =
+        (λ j. is_lt (cmp (get_or-map entry_key (e ∷ l) (k + 1) e d within j) (get_or-map entry_key (e ∷ l) k e d (omega (arith, within)) j))) ∙ up k e (omega arith) within

@@ -1,0 +1,102 @@
+-- What calls say of an index that is made, filled and grown. What an index holds is in `Index.antt`.
+use Rattle.std.specs.Prelude.{◌≡◌, ◌≢◌, ℕ, ◌+◌, ◌-◌, ◌<◌, ◌≤◌, ◌^◌, ◌||◌, [], Bool, true, false, List, Option, Some, Result, IfOk, IfSome, IsOk, OnErr, OnOk, IsPermutation, is_some, length, nat_lt}
+use Rattle.std.specs.Borrow.{Bor}
+use Rattle.std.specs.List.{All}
+use Rattle.std.specs.Option.{option_map}
+use Rattle.starlark_hash.specs.HashValue.{hash_number}
+use Rattle.starlark_hash.specs.declared.hash_value.StarlarkHashValue.{StarlarkHashValue}
+use Rattle.starlark_hash.specs.Entries.{Entry, entry_hash}
+use Rattle.starlark_small.specs.Hashes.{Hashes, hash_under, noted, numbered}
+use Rattle.starlark_small.specs.Index.{IsIndexed, hashes_of, index_room, unindexed}
+use Rattle.starlark_table.specs.Table.{Table, members}
+use Rattle.starlark_vec2.specs.Sort.{Moves}
+
+-- room was made for this many hashes in all, and the hashes stay; or it was refused, and nothing has changed
+pub record GrowsHashes {A E : Type 0} (needed : ℕ) (old new : Hashes) (r : Result A E) : Type 0 where
+  pub made : OnOk r (needed ≤ length old.list + new.room)
+  pub list : new.list ≡ old.list
+  pub unchanged : OnErr r (new ≡ old)
+
+-- room was made for this many further hashes where it was missing: the hashes stay, and no room is lost. Or false says that
+-- another table is wanted, which is so only above the threshold, or memory was refused: then room was missing, and nothing has
+-- changed
+pub record ReservesHashes {E : Type 0} (additional : ℕ) (old new : Hashes) (r : Result Bool E) : Type 0 where
+  pub made : IfOk r (λ fits. fits ≡ true → additional ≤ new.room)
+  pub other : IfOk r (λ fits. fits ≡ false → old.room < additional)
+  pub many : IfOk r (λ fits. fits ≡ false → unindexed < length old.list + additional)
+  pub kept : IfOk r (λ fits. fits ≡ false → new ≡ old)
+  pub list : new.list ≡ old.list
+  pub room : old.room ≤ new.room
+  pub enough : additional ≤ old.room → new ≡ old
+  pub refused : OnErr r (old.room < additional)
+  pub unchanged : OnErr r (new ≡ old)
+
+-- an index of an empty list was made, with room for this many entries, if so many need one; or it was refused, which never happens
+-- where they need none
+pub record MakesIndexFor {E : Type 0} (many : ℕ) (r : Result (Option Hashes) E) : Type 0 where
+  pub empty : IfOk r (λ index. IfSome index (λ h. h.list ≡ []))
+  pub made : IfOk r (λ index. is_some index ≡ nat_lt unindexed many)
+  pub room : IfOk r (λ index. many ≤ index_room 0 index)
+  pub succeeds : many ≤ unindexed → IsOk r
+
+-- the index has room for this many new entries of a list of this length, and there is one if there was or if so many more need it;
+-- false says that another index is wanted, only where room was missing and so many more need one. Whatever is answered, the hashes
+-- stay and no room is lost. Nothing changes at false, where there was room, nor at a refusal, which comes only where it was missing
+pub record ReservesAsItIs {E : Type 0} (len additional : ℕ) (old new : Option Hashes) (r : Result Bool E) : Type 0 where
+  pub room : IfOk r (λ fits. fits ≡ true → additional ≤ index_room len new)
+  pub made : IfOk r (λ fits. fits ≡ true → is_some new ≡ (is_some old || nat_lt unindexed (len + additional)))
+  pub other : IfOk r (λ fits. fits ≡ false → index_room len old < additional)
+  pub long : IfOk r (λ fits. fits ≡ false → unindexed < len + additional)
+  pub kept : IfOk r (λ fits. fits ≡ false → new ≡ old)
+  pub list : option_map (λ h. h.list) new ≡ option_map (λ h. h.list) old
+  pub grows : index_room len old ≤ index_room len new
+  pub enough : additional ≤ index_room len old → new ≡ old
+  pub refused : OnErr r (index_room len old < additional)
+  pub unchanged : OnErr r (new ≡ old)
+
+-- there is an index, and a hash that was not in it went last; the list has room for its entry
+pub record IsNotedIn (hash : StarlarkHashValue) (free : ℕ) (old new : Option Hashes) : Type 0 where
+  pub hashes : Hashes
+  pub there : old ≡ Some hashes
+  pub spare : 0 < free
+  pub room : 0 < hashes.room
+  pub lacked : All (λ h. h ≢ hash_under hash) hashes.list
+  pub noted : new ≡ Some (noted hash hashes)
+  pub fits : hash_number hash < 2 ^ 32
+
+-- the hashes went where `to` says, and the room stays
+pub record IsRenamed (to : List ℕ) (old new : Option Hashes) : Type 0 where
+  pub list : (list : List ℕ) → IfSome old (λ h. Moves h.list to list) → option_map (λ h. h.list) new ≡ option_map (λ _. list) old
+  pub room : option_map (λ h. h.room) new ≡ option_map (λ h. h.room) old
+
+-- the table that is shown, where there is an index, has each index under its hash
+pub record ShowsTable (index : Option Hashes) (shown : Option (Bor (Table ℕ))) : Type 0 where
+  pub there : is_some shown ≡ is_some index
+  pub members : IfSome shown (λ table. IfSome index (λ h. IsPermutation (numbered h.list) (members table.now)))
+
+module _ {K V : Type 0} where
+  -- an empty index has the hash of each entry of the list, where there is one, and took the room of each
+  pub record IsFilled (es : List (Entry K V)) (old new : Option Hashes) : Type 0 where
+    pub hashes : new ≡ option_map (λ h. record { list = hashes_of es; room = h.room - length es }) old
+    pub fits : IfSome old (λ _. All (λ e. hash_number (entry_hash e) < 2 ^ 32) es)
+
+  -- an index of the list was made, if it is too long to do without; or it was refused, which never happens to a short one
+  pub record MakesIndexOf {E : Type 0} (es : List (Entry K V)) (r : Result (Option Hashes) E) : Type 0 where
+    pub indexed : IfOk r (λ index. IsIndexed es index)
+    pub long : IfOk r (λ index. is_some index ≡ nat_lt unindexed (length es))
+    pub succeeds : length es ≤ unindexed → IsOk r
+
+  -- whatever a reservation for this many new entries answers, the list stays indexed and no room is lost. Nothing changes where there
+  -- was room, nor at a refusal, which comes only where it was missing
+  pub record GrowsIndex {A E : Type 0} (es : List (Entry K V)) (additional : ℕ) (old new : Option Hashes) (r : Result A E) : Type 0 where
+    pub indexed : IsIndexed es new
+    pub grows : index_room (length es) old ≤ index_room (length es) new
+    pub enough : additional ≤ index_room (length es) old → new ≡ old
+    pub refused : OnErr r (index_room (length es) old < additional)
+    pub unchanged : OnErr r (new ≡ old)
+
+  -- the index has room for this many new entries, and there is one if there was or if so many more need it; or it was refused
+  pub record ReservesIndex {A E : Type 0} (es : List (Entry K V)) (additional : ℕ) (old new : Option Hashes) (r : Result A E) : Type 0 where
+    pub room : OnOk r (additional ≤ index_room (length es) new)
+    pub made : OnOk r (is_some new ≡ (is_some old || nat_lt unindexed (length es + additional)))
+    pub grown : GrowsIndex es additional old new r

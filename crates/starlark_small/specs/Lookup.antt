@@ -1,0 +1,108 @@
+-- What a caller of a `SmallMap` says of it: what a query finds under its own hash, and what a call leaves at its query and at
+-- all other keys. Sets, ordered and sorted types share these words: a set is a map to `()`. All of them but `found`,
+-- `found_key` and `AreOwnEntries` unfold by themselves in callers' proofs.
+use Rattle.std.specs.Borrow.{Bor}
+use Rattle.std.specs.Prelude.{◌≡◌, ℕ, ◌<◌, length, All, Bool, IfSome, List, Option, None, is_some, map}
+use Rattle.std.specs.List.{IsAmong, sum_by}
+use Rattle.std.specs.Option.{IfNone, option_map}
+use Rattle.std.specs.Hash as fed
+use Rattle.std.specs.Hash.{HashWrites}
+use Rattle.std.specs.Str.{bytes_eq}
+use Rattle.std.specs.String.{string_bytes}
+use Rattle.std.specs.declared.string.String.{String}
+use Rattle.starlark_hash.specs.Hasher.{own_hash}
+use Rattle.starlark_hash.specs.declared.hash_value.StarlarkHashValue.{StarlarkHashValue}
+use Rattle.starlark_hash.specs.Entries.{Entry, entry_at, entry_hash, entry_key, entry_value, pair_of, position_of, value_at}
+use Rattle.starlark_hash.specs.Lookup.{found, found_key, Writes}
+use Rattle.starlark_small.specs.Map.{Map}
+
+-- the keys of a map in order
+abbrev pub keys : {K V : Type 0} → Map K V → List K
+keys m = map entry_key m.entries
+
+module _ {Q K V : Type 0} (equivalent : Q → K → Bool) (feeds : Q → HashWrites) where
+  -- the value at what the query is equivalent to, under the query's own hash, where there is one
+  abbrev pub get : Map K V → Q → Option V
+  get m query = found (equivalent query) (own_hash feeds query) m.entries
+
+  -- the stored key there, where there is one
+  abbrev pub get_key : Map K V → Q → Option K
+  get_key m query = found_key (equivalent query) (own_hash feeds query) m.entries
+
+  -- whether the map has a value at the query
+  abbrev pub contains : Map K V → Q → Bool
+  contains m query = is_some (get m query)
+
+module _ {Q K V : Type 0} (eq : K → K → Bool) (equivalent : Q → K → Bool) (feeds : Q → HashWrites) where
+  -- `Writes` of two maps at a query under its own hash: the new map has this value, or none, at the query; at each key that the
+  -- query is not equivalent to, whatever the key's hash, it has what the old one had
+  abbrev pub UpdatesBy : Map K V → Map K V → Q → Option V → Type 0
+  UpdatesBy old new query value = Writes eq (equivalent query) (own_hash feeds query) old.entries new.entries value
+
+module _ {K V : Type 0} (eq : K → K → Bool) (feeds : K → HashWrites) where
+  -- the same at a key under its own hash
+  abbrev pub Updates : Map K V → Map K V → K → Option V → Type 0
+  Updates old new key value = UpdatesBy eq eq feeds old new key value
+
+module _ {K V : Type 0} (eq : K → K → Bool) where
+  -- each key, whatever its hash, has what it had
+  abbrev pub IsSameAt : Map K V → Map K V → Type 0
+  IsSameAt old new = (under : StarlarkHashValue) (key : K) → found (eq key) under new.entries ≡ found (eq key) under old.entries
+
+module _ {K V : Type 0} where
+  -- no look-up finds a value
+  abbrev pub IsEmpty : Map K V → Type 0
+  IsEmpty m = (test : K → Bool) (hash : StarlarkHashValue) → found test hash m.entries ≡ None
+
+  -- each key of the list stands under its own hash; callers' proofs never unfold this word
+  unfoldable pub AreOwnEntries : (K → HashWrites) → List (Entry K V) → Type 0
+  AreOwnEntries feeds es = All (λ e. entry_hash e ≡ own_hash feeds (entry_key e)) es
+
+  -- what the values of a list weigh together
+  abbrev pub total_of : (V → ℕ) → List (Entry K V) → ℕ
+  total_of measure es = sum_by measure (map entry_value es)
+
+  -- each key of the map stands under its own hash
+  abbrev pub AreOwn : (K → HashWrites) → Map K V → Type 0
+  AreOwn feeds m = AreOwnEntries feeds m.entries
+
+module _ {K V : Type 0} (test : K → Bool) (hash : StarlarkHashValue) (m : Map K V) where
+  -- the place of what the test names under the hash, which lies in the list, where there is a value
+  pub record NamesPlace (r : Option ℕ) : Type 0 where
+    pub place : r ≡ position_of hash test m.entries
+    pub found : is_some r ≡ is_some (found test hash m.entries)
+    pub within : IfSome r (λ i. i < length m.entries)
+
+  -- whether there is what the test names under the hash
+  pub record TellsPresence (is_there : Bool) : Type 0 where
+    pub place : is_there ≡ is_some (position_of hash test m.entries)
+    pub found : is_there ≡ is_some (found test hash m.entries)
+
+  -- the value of what the test names under the hash: it stands at its place, and is one of the map's values; or there is none
+  pub record FindsValue (r : Option V) : Type 0 where
+    pub value : r ≡ value_at m.entries (position_of hash test m.entries)
+    pub found : r ≡ found test hash m.entries
+    pub member : IfSome r (λ value. IsAmong (map entry_value m.entries) value)
+    pub absent : IfNone r (position_of hash test m.entries ≡ None)
+
+  -- the stored key and the value of what the test names under the hash
+  pub record FindsPair (r : Option (K × V)) : Type 0 where
+    pub pair : r ≡ option_map pair_of (entry_at m.entries (position_of hash test m.entries))
+    pub stored : option_map (λ p. p.0) r ≡ found_key test hash m.entries
+    pub found : option_map (λ p. p.1) r ≡ found test hash m.entries
+
+  -- its place, with the stored key and the value there
+  pub record FindsEntry (r : Option (ℕ × Bor K × Bor V)) : Type 0 where
+    pub place : option_map (λ e. e.0) r ≡ position_of hash test m.entries
+    pub pair : option_map (λ e. (e.1.now, e.2.now)) r ≡ option_map pair_of (entry_at m.entries (position_of hash test m.entries))
+    pub stored : option_map (λ e. e.1.now) r ≡ found_key test hash m.entries
+    pub found : option_map (λ e. e.2.now) r ≡ found test hash m.entries
+
+module _ {A V : Type 0} where
+  -- the value at the string of these bytes, under its own hash, where there is one
+  abbrev pub get_text : Map (String A) V → List ℕ → Option V
+  get_text m text = get (λ q k. bytes_eq q (string_bytes k)) fed.str m text
+
+  -- whether there is a value at the string of these bytes
+  abbrev pub contains_text : Map (String A) V → List ℕ → Bool
+  contains_text m text = is_some (get_text m text)
