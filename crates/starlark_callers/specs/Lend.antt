@@ -16,7 +16,7 @@ abbrev pub with_value_under : {K V : Type 0} → (K → K → Bool) → Map K V 
 with_value_under eq m key value = record m { entries = with_value m.entries (match_of eq m.entries key) value }
 
 module _ {K V : Type 0} (eq : K → K → Bool) where
-  -- new is old with this value under the key: where the key is there, at its place, and all else stays; else the new entry went
+  -- new is old with this value under the key: where the key is there, at its index, and all else stays; else the new entry went
   -- last. So a look-up finds the value at the key, and at all other keys what it found
   pub record IsPutUnder (old : Map K V) (key : Hashed K) (value : V) (new : Map K V) : Type 0 where
     pub written : IsSome (match_of eq old.entries key) → new ≡ with_value_under eq old key value

@@ -36,7 +36,7 @@ pub fn lookup_ready_or<K: Eq + Hash + Drop>(map: &SmallMap<K, u64>, key: K, defa
     }
 }
 
-/// The stored key and its value, beside their place.
+/// The stored key and its value, beside their index.
 pub fn stored(entries: &SmallMap<u32, u64>, key: u32) -> Option<(usize, &u32, &u64)>
     ensures key { option_map (λ found. found.1.now) result ≡ get_key nat_eq fed.u32 entries.now key }
     ensures value { option_map (λ found. found.2.now) result ≡ get nat_eq fed.u32 entries.now key }

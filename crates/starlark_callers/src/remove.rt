@@ -52,20 +52,20 @@ pub fn take_last<K: Eq + Hash + Drop, V: Drop>(map: &mut SmallMap<K, V>) -> Opti
     map.pop()
 }
 
-/// Takes the entry at a place out, and answers it.
+/// Takes the entry at an index out, and answers it.
 pub fn take_at<K: Eq + Hash + Drop, V: Drop>(
     map: &mut SmallMap<K, V>,
-    place: usize,
+    index: usize,
 ) -> Option<(K, V)>
     ensures was { AreOwn K.hash_input map.old → IfSome result (λ p. get K.eq K.hash_input map.old p.0 ≡ Some p.1) }
     ensures gone { AreOwn K.hash_input map.old → IfSome result (λ p. get K.eq K.hash_input map.new p.0 ≡ None) }
     ensures others { IfSome result (λ p. (other : K) → K.eq p.0 other ≡ false → get K.eq K.hash_input map.new other ≡ get K.eq K.hash_input map.old other) }
     ensures own { AreOwn K.hash_input map.old → AreOwn K.hash_input map.new }
     ensures count { length map.old.entries ≡ length map.new.entries + (if is_some result then 1 else 0) }
-    ensures taken { result ≡ option_map pair_of (slice_get map.old.entries place) }
-    ensures left { map.new.entries ≡ remove map.old.entries place }
+    ensures taken { result ≡ option_map pair_of (slice_get map.old.entries index) }
+    ensures left { map.new.entries ≡ remove map.old.entries index }
 {
-    map.shift_remove_index(place)
+    map.shift_remove_index(index)
 }
 
 /// Takes all out, and looks for one.

@@ -50,16 +50,16 @@ pub fn sorted_in_order<T: Ord + Hash>(set: &mut OrderedSet<T>, n: &T) -> Result<
     Ok(set.contains(n))
 }
 
-/// Sorts the keys of an ordered map, and answers the place of one, or the length.
-pub fn place_when_sorted(map: &mut OrderedMap<u32, u64>, key: u32) -> Result<usize, AllocError>
-    ensures within { IfOk result (λ place. place ≤ length map.new.entries) }
-    ensures place { IfOk result (λ place. place ≡ unwrap_or (own_match nat_eq fed.u32 map.new.entries key) (length map.new.entries)) }
+/// Sorts the keys of an ordered map, and answers the index of one, or the length.
+pub fn index_when_sorted(map: &mut OrderedMap<u32, u64>, key: u32) -> Result<usize, AllocError>
+    ensures within { IfOk result (λ index. index ≤ length map.new.entries) }
+    ensures index { IfOk result (λ index. index ≡ unwrap_or (own_match nat_eq fed.u32 map.new.entries key) (length map.new.entries)) }
     ensures ascend { OnOk result (IsSorted nat_cmp (keys map.new)) }
     ensures same { (other : ℕ) → get nat_eq fed.u32 map.new other ≡ get nat_eq fed.u32 map.old other }
 {
     map.sort_keys()?;
     match map.get_index_of(&key) {
-        Some(place) => Ok(place),
+        Some(index) => Ok(index),
         None => Ok(map.len()),
     }
 }

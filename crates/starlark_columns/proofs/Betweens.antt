@@ -1,4 +1,4 @@
--- Columns whose items stand between two places, before an item is taken and after it.
+-- Columns whose items stand between two cells, before an item is taken and after it.
 use Rattle.std.proofs.Common.{◌≡◌, ℕ, zero, suc, ◌+◌, ◌-◌, ◌<◌, ◌≤◌, true, false, List, [], ◌∷◌, ◌++◌, map, length, take, drop, replicate, get_or, slice_set, Option, Some, None, refl, sym, ap, ◌∙◌, arith}
 use Rattle.std.proofs.lemmas.List.{length-append, length-take, length-drop, length-replicate, nil_from_length, replicate-append-replicate}
 use Rattle.std.specs.Option.{is_some}
@@ -8,7 +8,7 @@ use Rattle.starlark_columns.specs.Between.{IsBetween}
 use Rattle.starlark_columns.proofs.Fronts.{row, items_row, row_count, shape_row, shape_is, split, counted}
 
 module _ {X : Type 0} where
-  -- a empty places, xs, and m empty places behind them
+  -- a empty cells, xs, and m empty cells behind them
   abbrev gap : ℕ → List X → ℕ → List (Option X)
   gap a xs m = empties a ++ row xs m
 
@@ -71,11 +71,11 @@ module _ {X : Type 0} where
   last_out : (a : ℕ) (xs : List X) (x : X) (m : ℕ) → slice_set (gap a (xs ++ x ∷ []) m) (a + length xs) None ≡ gap a xs (suc m)
   last_out a xs x m = set_past a (length xs) (row (xs ++ x ∷ []) m) None ∙ ap (λ l. empties a ++ l) (last_out_of_row xs x m)
 
-  -- items at the front stand between the first place and their number
+  -- items at the front stand between the first cell and their number
   pub between_front : (cs : List (Option X)) (n : ℕ) → IsFront cs n → IsBetween cs 0 n
   between_front cs n front = let r = shape_is cs n (length cs - n) front.form in (is_gap cs 0 r.0 (length cs - n) n r.1 (omega (arith, r.2))).0
 
-  -- without items every place is empty
+  -- without items every cell is empty
   pub none_between : (cs : List (Option X)) (from to : ℕ) → IsBetween cs from to → to ≤ from → cs ≡ empties (length cs)
   none_between cs from to at le = let r = gap_is cs from (to - from) (length cs - to) at.form in
       let none : r.0 ≡ [] = nil_from_length r.0 (omega (arith, r.2, le)) in

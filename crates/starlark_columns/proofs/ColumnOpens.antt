@@ -1,8 +1,8 @@
--- A `Column` in memory is its address, its places and the rest, and back, at any places as many. Assumes `Logic`.
+-- A `Column` in memory is its address, its cells and the rest, and back, at any cells as many. Assumes `Logic`.
 use Rattle.starlark_columns.proofs.Walking.{◌≡◌, refl, sym, ap, ◌∙◌, ℕ, zero, ◌+◌, List, [], ◌∷◌, length, Ura, Val, full_share, Fml, fsep, SProp, ent, sep, wand, ex, all_e, apply∗, size, align, up, ‵, raw, ◌⊛◌, some, ◌$◌, ◌∵◌, !, qed, by, move, keep, use0, use1, use2, split, split3, pick, show, fsplit, fsplit3, fjoin, fpick, fpack, rewrite, done, Logic, sem, usize, shows, RattleType, Denots, Ptr, part_at, part_of, cell_at, lone, plain_out, Plain-in, view_made, Laws, facts, lawfuls, Member, rows_of, parts_at, shape_of, PartsBack, Struct-parts, Struct, ghosts}
 use Rattle.std.specs.contracts.alloc.Global as heap
 use Rattle.starlark_columns.specs.Ownership.{row_owned}
-use Rattle.starlark_columns.specs.Lend.{with_places}
+use Rattle.starlark_columns.specs.Lend.{with_cells}
 use Rattle.starlark_columns.specs.contracts.block.Address as address
 use Rattle.starlark_columns.specs.contracts.block.Claim as claim
 use Rattle.starlark_columns.specs.contracts.row.Row as row
@@ -51,9 +51,9 @@ module _ (K : RattleType) where
   abbrev to : D → Denots (rows_of ms)
   to d = (I.the_type K).to d
 
-  -- the fields with these places
+  -- the fields with these cells
   abbrev placed : D → W.Denot → D
-  placed d ds = record d { row = with_places d.row ds }
+  placed d ds = record d { row = with_cells d.row ds }
 
   module _ {M : Type 1} {𝓤 : Ura M} (𝓛 : Logic 𝓤) (b o : ℕ) where
     abbrev pub Word : Ptr → Fml
@@ -65,12 +65,12 @@ module _ (K : RattleType) where
     abbrev Back : SProp 𝓤
     Back = PartsBack 𝓛 full_share (I.the_type K).name ms b o
 
-    -- all but the address and the places
+    -- all but the address and the cells
     abbrev pub Shell : D → List Val → SProp 𝓤
     Shell d vs = sep 𝓤 (sem 𝓛 (part_at usize full_share d.count b (o + eN))) (sep 𝓤 (sem 𝓛 (Mark vs)) (sep 𝓤 (sem 𝓛 (parts_at full_share behind (eH + size (lone CH.mir)) (to d).1.1.1 b o)) Back))
 
     abbrev pub Cuts : (v : W.Denot) → ((d : D) × Known v d) × List Val → SProp 𝓤
-    Cuts v d = sep 𝓤 (sem 𝓛 (Word d.0.0.address.at)) (sep 𝓤 (sem 𝓛 (row_owned K d.0.0.row.at d.0.0.row.places)) (Shell d.0.0 d.1))
+    Cuts v d = sep 𝓤 (sem 𝓛 (Word d.0.0.address.at)) (sep 𝓤 (sem 𝓛 (row_owned K d.0.0.row.at d.0.0.row.cells)) (Shell d.0.0 d.1))
 
     pub cut : Laws K → (v : W.Denot) → ent 𝓤 (sem 𝓛 (part_at W full_share v b o)) (ex 𝓤 (Cuts v))
     unfolding part_of
@@ -80,7 +80,7 @@ module _ (K : RattleType) where
         -- [the address; the count; the others; the way back]
         fsplit3 ! $ fpick ! (λ ws. fsplit ! $ move ! (1 ∷ []) $ facts ! CA _ (shows 𝓛 CA) (d.0.address.at, tt) ws (λ is. rewrite ! 0 (λ (us : List Val). ‵ (cell_at full_share CA.mir us b (o + eA))) (address_told K d.0.address ws is) refl $
         move ! (2 ∷ []) $ fsplit ! $ fpick ! (λ vs. fsplit ! $ move ! (1 ∷ []) $ fsplit ! $ move ! (0 ∷ 2 ∷ []) $ fjoin ! $
-        -- [the mark; the places; what is behind; the address; the count; the way back]
+        -- [the mark; the cells; what is behind; the address; the count; the way back]
         show ! (Cuts v) (d, vs) $ keep ! (3 ∷ 1 ∷ 4 ∷ 0 ∷ 2 ∷ 5 ∷ []) $ done !))))
 
     pub shut : (v : W.Denot) (d : D) (vs : List Val) → Known v d → (ds : W.Denot) → length ds ≡ length v
@@ -92,7 +92,7 @@ module _ (K : RattleType) where
         use0 𝓛 (‵ (CA.own_val (d.address.at, tt) (word d.address.at ∷ []))) (address_made K 𝓛 d.address.at) $ move ! (2 ∷ 0 ∷ []) $ fjoin ! $
         fpack ! (List Val) (λ us. fsep (cell_at full_share CA.mir us b (o + eA)) (CA.own_val (d.address.at, tt) us)) (word d.address.at ∷ []) $
         move ! (2 ∷ []) $ split3 ! $ move ! (2 ∷ []) $ split ! $
-        -- [what is behind; the way back; the count; the mark; the address; the places]
+        -- [what is behind; the way back; the count; the mark; the address; the cells]
         move ! (3 ∷ []) $ fsplit ! $ move ! (0 ∷ 6 ∷ []) $ fjoin ! $ move ! (1 ∷ 0 ∷ []) $ fjoin ! $ fpack ! (List Val) (λ us. fsep (cell_at full_share CH.mir us b (o + eH)) (CH.own_val d'.row us)) vs $
         move ! (0 ∷ 1 ∷ []) $ fjoin ! $ move ! (2 ∷ 0 ∷ []) $ fjoin ! $ move ! (2 ∷ 0 ∷ []) $ fjoin ! $ move ! (1 ∷ []) $
         use1 𝓛 (raw (wand 𝓤 (sem 𝓛 (parts_at full_share ms zero (to d') b o)) (sem 𝓛 (part_at (Struct (shape_of (I.the_type K).name ms)) full_share (to d') b o))))

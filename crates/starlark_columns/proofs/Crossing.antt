@@ -1,4 +1,4 @@
--- Places cross threads as their items do, and the right to a block as its allocator does.
+-- Cells cross threads as their items do, and the right to a block as its allocator does.
 use Rattle.std.specs.Prelude.{ℕ, ◌+◌, ◌*◌, List, [], ◌∷◌, Option, Some, None}
 use Rattle.std.specs.Mem.{type_size}
 use mathlib.Core.Bool.{Bool, true, false, cond}
@@ -16,7 +16,7 @@ use denote.Struct.Owning.{shape, fields, to}
 use denote.Struct.Struct.{exits_of}
 use Rattle.core.specs.declared.alloc.Allocator.{Ghosts}
 use Rattle.std_alloc.proofs.SendSync.{FreesAnywhere, quiet}
-use Rattle.starlark_columns.specs.Ownership.{places_owned, places_lent, within_lent}
+use Rattle.starlark_columns.specs.Ownership.{cells_owned, cells_lent, within_lent}
 use Rattle.starlark_columns.specs.contracts.block.Claim as claim
 use Rattle.starlark_columns.specs.contracts.row.Row as row
 use Rattle.starlark_columns.specs.contracts.block.PairClaim as pair_claim
@@ -31,16 +31,16 @@ within_keyless null_ptr = tt
 within_keyless (block_ptr b o) = tt
 
 module _ (R : RattleType) where
-  owned_keyless : IsSend R → (b o : ℕ) (cs : List (Option R.Denot)) → Keyless (places_owned R (block_ptr b o) cs)
+  owned_keyless : IsSend R → (b o : ℕ) (cs : List (Option R.Denot)) → Keyless (cells_owned R (block_ptr b o) cs)
   owned_keyless s b o [] = tt
   owned_keyless s b o (None ∷ cs) = (tt, owned_keyless s b (o + type_size R) cs)
   owned_keyless s b o (Some x ∷ cs) = (part_keyless R s full_share x b o, owned_keyless s b (o + type_size R) cs)
 
-  row_keyless : IsSend R → (p : Ptr) (cs : List (Option R.Denot)) → Keyless (in_block p (places_owned R p cs))
+  row_keyless : IsSend R → (p : Ptr) (cs : List (Option R.Denot)) → Keyless (in_block p (cells_owned R p cs))
   row_keyless s null_ptr cs = tt
   row_keyless s (block_ptr b o) cs = owned_keyless s b o cs
 
-  lent_common : IsSync R → (p : Ptr) (cs : List (Option R.Denot)) → Common (places_lent R p cs)
+  lent_common : IsSync R → (p : Ptr) (cs : List (Option R.Denot)) → Common (cells_lent R p cs)
   lent_common y p [] κ = tt
   lent_common y p (None ∷ cs) κ = (tt, lent_common y (p +ₚ type_size R) cs κ)
   lent_common y p (Some x ∷ cs) κ = ((within_keyless p, y.shared x (block_of p) (count_of p) κ), lent_common y (p +ₚ type_size R) cs κ)
@@ -52,10 +52,10 @@ module _ (R : RattleType) where
   pub row_send : IsSend R → IsSend (row.the_row R)
   row_send s =
       let T = row.the_type R in let marks : AllSend (fields T) = (search sendable, tt) in
-      owning_send T marks (λ h. (tt, row_keyless s h.at h.places)) (λ k. quiet (to T) (exits_of k (fields T)) ((struct_send (shape T) marks).leaving k))
+      owning_send T marks (λ h. (tt, row_keyless s h.at h.cells)) (λ k. quiet (to T) (exits_of k (fields T)) ((struct_send (shape T) marks).leaving k))
 
   pub row_sync : IsSync R → IsSync (row.the_row R)
-  row_sync y = let T = row.the_type R in record { shared = λ h b o κ. ((struct_sync (shape T) (search sendable, tt)).shared (to T h) b o κ, (tt, within_common y h.at h.places κ)) }
+  row_sync y = let T = row.the_type R in record { shared = λ h b o κ. ((struct_sync (shape T) (search sendable, tt)).shared (to T h) b o κ, (tt, within_common y h.at h.cells κ)) }
 
   module _ (A : RattleType) (g : Ghosts A.Denot) where
     pub claim_send : FreesAnywhere A.Denot g → IsSend (claim.the_row R A g)

@@ -10,7 +10,7 @@ use Rattle.starlark_columns.specs.Cells.{empties, items_of, IsFilled, AreFilled,
 use Rattle.starlark_columns.specs.Front.{IsFront, with_items}
 
 module _ {X : Type 0} where
-  -- xs, and m empty places behind them
+  -- xs, and m empty cells behind them
   abbrev pub row : List X → ℕ → List (Option X)
   row xs m = map Some xs ++ empties m
 
@@ -81,7 +81,7 @@ module _ {X : Type 0} where
   split (x ∷ xs) zero lt = (x, refl, refl)
   split (x ∷ xs) (suc i) lt = let r = split xs i (omega (arith, lt)) in (r.0, ap (λ l. x ∷ l) r.1, r.2)
 
-  -- the parts of a row with one place marked
+  -- the parts of a row with one cell marked
   module _ (ps : List (Option X)) (c : Option X) (qs es : List (Option X)) (i n : ℕ) (long : length ps ≡ i) (all : i + suc (length qs) ≡ n) where
     part_at : get_or (ps ++ c ∷ (qs ++ es)) i None ≡ c
     part_at = ap (λ (k : ℕ). get_or (ps ++ c ∷ (qs ++ es)) k None) (sym long) ∙ get_or-append_seam ps c (qs ++ es) None
@@ -104,7 +104,7 @@ module _ {X : Type 0} where
     part_rest : drop n (ps ++ c ∷ (qs ++ es)) ≡ es
     part_rest = let whole : length ps + suc (length qs) ≡ n = omega (arith, long, all) in ap (λ (k : ℕ). drop k (ps ++ c ∷ (qs ++ es))) (sym whole) ∙ drop-append-add ps (c ∷ (qs ++ es)) (suc (length qs)) ∙ drop-append_seam qs es
 
-  -- empty places
+  -- empty cells
   emptied_range : (cs : List (Option X)) (m from to : ℕ) → cs ≡ empties m → from ≤ to → to ≤ m → slice_range cs from to ≡ empties (to - from)
   emptied_range cs m from to e le in_row = ap (λ l. slice_range l from to) e ∙ ap (λ l. take (to - from) l) (drop-replicate from m None) ∙ take-replicate (to - from) (m - from) None (omega (arith, le, in_row))
 
@@ -121,7 +121,7 @@ module _ {X : Type 0} where
   none_left cs n front long = none_at_front cs front ∙ ap empties (sym long)
 
   module _ (cs : List (Option X)) (n : ℕ) (front : IsFront cs n) where
-    -- the places behind the items
+    -- the cells behind the items
     abbrev left : ℕ
     left = length cs - n
 
@@ -166,8 +166,8 @@ module _ {X : Type 0} where
     pub all_written : (ws : List X) → length ws ≡ length (items_of cs) → items_of (with_items cs ws) ≡ ws
     all_written ws e = written_items ws ∙ take_at ws (drop (length ws) (items_of cs)) (length (items_of cs)) e
 
-    pub written_places : (ws : List X) → length (with_items cs ws) ≡ length cs
-    written_places ws = let new = refill (length (items_of cs)) (items_of cs) ws in omega (arith, row_count new (length cs - length new), refilled ws, front.within)
+    pub written_cells : (ws : List X) → length (with_items cs ws) ≡ length cs
+    written_cells ws = let new = refill (length (items_of cs)) (items_of cs) ws in omega (arith, row_count new (length cs - length new), refilled ws, front.within)
 
     -- all items have left
     pub front_gone : (ds : List (Option X)) → ds ≡ with_range cs 0 n (empties (n - 0)) → ds ≡ empties (length ds)

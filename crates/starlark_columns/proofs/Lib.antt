@@ -6,7 +6,7 @@ mod RowCalls
 mod PairRooms
 mod Layouts
 mod Slotting
-mod LentPlaces
+mod LentCells
 mod ColumnOpens
 mod PairParts
 mod EntryOut

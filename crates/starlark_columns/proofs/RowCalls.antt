@@ -1,4 +1,4 @@
--- The two calls between places that a walk holds and the kit's slots: what each asks for, and what it gives. Assumes `Logic`.
+-- The two calls between cells that a walk holds and the kit's slots: what each asks for, and what it gives. Assumes `Logic`.
 use Rattle.starlark_columns.proofs.Walking.{◌≡◌, ℕ, ◌*◌, ◌<◌, ◌^◌, Bool, List, [], ◌∷◌, ◌++◌, length, refl, sym, ap, subst, ◌∙◌, lit<, w64, Ura, Fml, Lft, Share, ftrue, fsep, flft, SProp, ent, sep, ex, guard, emp, id⊢, ◌⊑◌, Fun, fact, fact_i, ty_ptr, ty_int, ty_struct, tcons, tnil, Val, vint, vptr, vstruct, of_list, has_ty, WT, Memory, Routine, ‵, raw, ◌⊛◌, some, later, ◌$◌, ◌∵◌, !, qed, move, keep, drop, use0, use1, split, join, pick, rewrite, fsplit, fsplit3, fjoin, fjoin3, fpick, feq_i, feq_l, flt_i, check, show, await, updating, now, done, Logic, sem, usize, Is, layout, RattleType, Ptr, RawPtr, block_ptr, null_ptr, ptr_val, in_block, heard, nothing, only, Tuple, triple_of, Contract, El, el_x, Sr, words_val, row_val, row_had, row_made, sz, slots, slots_items, slots_filled, slots_ptr, slots_len}
 use Rattle.std.proofs.Common.{T}
 use Rattle.core.proofs.mem.Param.{R}

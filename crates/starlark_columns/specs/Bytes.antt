@@ -7,6 +7,6 @@ use Rattle.starlark_columns.specs.declared.row.Row.{Row}
 use Rattle.starlark_columns.specs.declared.block.Address.{Address}
 use Rattle.starlark_columns.specs.declared.block.Claim.{Claim}
 
--- the row stands at the address, each of its places has a byte, and the claim is to them
+-- the row stands at the address, each of its cells has a byte, and the claim is to them
 abbrev pub IsBytes : Address ℕ → Row ℕ → Claim ℕ Global → Type 0
-IsBytes address row claim = (row.at ≡ address.at) × IsFront row.places (length row.places) × IsClaimTo address.at (length row.places) claim
+IsBytes address row claim = (row.at ≡ address.at) × IsFront row.cells (length row.cells) × IsClaimTo address.at (length row.cells) claim

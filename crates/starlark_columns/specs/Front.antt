@@ -4,14 +4,14 @@ use Rattle.std.specs.List.{refill}
 use Rattle.starlark_columns.specs.Cells.{empties, items_of}
 
 module _ {X : Type 0} where
-  -- a row of n places, of which the first hold xs and the others are empty
+  -- a row of n cells, of which the first hold xs and the others are empty
   abbrev pub fronted : List X → ℕ → List (Option X)
   fronted xs n = map Some xs ++ empties (n - length xs)
 
-  -- the first n places hold items, and the others are empty
+  -- the first n cells hold items, and the others are empty
   pub record IsFront (cs : List (Option X)) (n : ℕ) : Type 0 where
     pub count : length (items_of cs) ≡ n
-    -- by which places are full, and no equation of rows, so that it goes along a map of the items
+    -- by which cells are full, and no equation of rows, so that it goes along a map of the items
     pub form : map is_some cs ≡ replicate n true ++ replicate (length cs - n) false
     pub within : n ≤ length cs
 

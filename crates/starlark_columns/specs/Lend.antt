@@ -10,19 +10,19 @@ use Rattle.starlark_columns.specs.contracts.bytes.Bytes.{the_row as bytes_type}
 use Rattle.starlark_columns.specs.contracts.perhaps.Perhaps.{the_row as perhaps_type}
 
 module _ {X : Type 0} where
-  -- the same row with these places
-  abbrev pub with_places : Row X → List (Option X) → Row X
-  with_places r cs = record { mark = r.mark; at = r.at; places = cs }
+  -- the same row with these cells
+  abbrev pub with_cells : Row X → List (Option X) → Row X
+  with_cells r cs = record { mark = r.mark; at = r.at; cells = cs }
 
--- the row ends with what was left behind a `&mut` to the item of one place
+-- the row ends with what was left behind a `&mut` to the item of one cell
 abbrev pub lends_item : (R : RattleType) → MutBor (Row R.Denot) → ℕ → MutBor R.Denot → Fml
-lends_item R s i r = Lends (row_type R) R s r (λ w. with_places s.now (slice_set s.now.places i (Some w)))
+lends_item R s i r = Lends (row_type R) R s r (λ w. with_cells s.now (slice_set s.now.cells i (Some w)))
 
 -- the row ends as `with_items` with what was left behind a `&mut` to the items at its front
 abbrev pub lends_front : (R : RattleType) → MutBor (Row R.Denot) → MutBor (List R.Denot) → Fml
-lends_front R s r = Lends (row_type R) (Array R 0) s r (λ ws. with_places s.now (with_items s.now.places ws))
+lends_front R s r = Lends (row_type R) (Array R 0) s r (λ ws. with_cells s.now (with_items s.now.cells ws))
 
--- the column ends with what was left behind a `&mut` to the item of one place
+-- the column ends with what was left behind a `&mut` to the item of one cell
 abbrev pub lends_column_item : (R : RattleType) → MutBor (List (Option R.Denot)) → ℕ → MutBor R.Denot → Fml
 lends_column_item R c i r = Lends (column_type R) R c r (λ w. slice_set c.now i (Some w))
 

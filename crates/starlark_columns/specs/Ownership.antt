@@ -1,4 +1,4 @@
--- What a row of places owns and lends, at items of the row R: the item or the bare room at each place, and the bound on their
+-- What a row of cells owns and lends, at items of the row R: the item or the bare room at each cell, and the bound on their
 -- bytes; and the right to the block, where there is one. No public clause cites this module.
 use Rattle.std.specs.Prelude.{ℕ, ◌*◌, ◌^◌, List, [], ◌∷◌, length, Option, Some, None}
 use Rattle.std.specs.Mem.{type_size}
@@ -16,38 +16,38 @@ use denote.Struct.Lending.{lent_at}
 
 module _ (R : RattleType) where
   -- the item at p, or the bare room for one
-  abbrev pub place_owned : Ptr → Option R.Denot → Fml
-  place_owned p None = room_for (raw (lone R.mir)) p
-  place_owned p (Some x) = lies_at R full_share p x
+  abbrev pub cell_owned : Ptr → Option R.Denot → Fml
+  cell_owned p None = room_for (raw (lone R.mir)) p
+  cell_owned p (Some x) = lies_at R full_share p x
 
-  -- the places from p on, one behind the other
-  abbrev pub places_owned : Ptr → List (Option R.Denot) → Fml
-  places_owned p [] = ftrue
-  places_owned p (c ∷ cs) = fsep (place_owned p c) (places_owned (p +ₚ type_size R) cs)
+  -- the cells from p on, one behind the other
+  abbrev pub cells_owned : Ptr → List (Option R.Denot) → Fml
+  cells_owned p [] = ftrue
+  cells_owned p (c ∷ cs) = fsep (cell_owned p c) (cells_owned (p +ₚ type_size R) cs)
 
-  -- all places, which take fewer than 2 ^ 63 bytes
+  -- all cells, which take fewer than 2 ^ 63 bytes
   abbrev pub row_owned : Ptr → List (Option R.Denot) → Fml
-  row_owned p cs = fsep (flt (length cs * type_size R) (2 ^ 63)) (in_block p (places_owned p cs))
+  row_owned p cs = fsep (flt (length cs * type_size R) (2 ^ 63)) (in_block p (cells_owned p cs))
 
-  -- the item at p, lent; nothing of an empty place
-  abbrev pub place_lent : Ptr → Option R.Denot → Lft → Fml
-  place_lent p None = nothing
-  place_lent p (Some x) = lent_at R p x
+  -- the item at p, lent; nothing of an empty cell
+  abbrev pub cell_lent : Ptr → Option R.Denot → Lft → Fml
+  cell_lent p None = nothing
+  cell_lent p (Some x) = lent_at R p x
 
-  -- the places from p on, lent
-  abbrev pub places_lent : Ptr → List (Option R.Denot) → Lft → Fml
-  places_lent p [] = nothing
-  places_lent p (c ∷ cs) = beside (place_lent p c) (places_lent (p +ₚ type_size R) cs)
+  -- the cells from p on, lent
+  abbrev pub cells_lent : Ptr → List (Option R.Denot) → Lft → Fml
+  cells_lent p [] = nothing
+  cells_lent p (c ∷ cs) = beside (cell_lent p c) (cells_lent (p +ₚ type_size R) cs)
 
-  -- the places from p on, lent, where p is not null
+  -- the cells from p on, lent, where p is not null
   abbrev pub within_lent : Ptr → List (Option R.Denot) → Lft → Fml
   within_lent null_ptr cs = said ffalse
-  within_lent (block_ptr b o) cs = places_lent (block_ptr b o) cs
+  within_lent (block_ptr b o) cs = cells_lent (block_ptr b o) cs
 
-  -- all places, lent, which take fewer than 2 ^ 63 bytes
+  -- all cells, lent, which take fewer than 2 ^ 63 bytes
   abbrev pub row_lent : Ptr → List (Option R.Denot) → Lft → Fml
   row_lent p cs = beside (said (flt (length cs * type_size R) (2 ^ 63))) (within_lent p cs)
 
-  -- what `deallocate` asks for, to take the block of n places at p back; nothing of no bytes
+  -- what `deallocate` asks for, to take the block of n cells at p back; nothing of no bytes
   abbrev pub claim_owned : (Ty → Ptr → Fml) → Ptr → ℕ → Fml
   claim_owned token p n = cond (eqb (n * type_size R) 0) ftrue (token (raw (ty_array (lone R.mir) n)) p)

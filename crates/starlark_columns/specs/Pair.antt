@@ -41,7 +41,7 @@ module _ (R S : RattleType) where
   abbrev pub pair_ty : ℕ → Ty
   pair_ty = two_arrays (lone R.mir) (lone S.mir)
 
-  -- where the second places begin in the block
+  -- where the second cells begin in the block
   abbrev pub second_offset : ℕ → ℕ
   second_offset n = up (type_align S) (n * size (lone R.mir))
 
@@ -49,11 +49,11 @@ module _ (R S : RattleType) where
   abbrev pub skipped : ℕ → ℕ
   skipped = arrays_skipped (lone R.mir) (lone S.mir)
 
-  -- where the second places begin, where the first begin at p
+  -- where the second cells begin, where the first begin at p
   abbrev pub behind : ℕ → Ptr → Ptr
   behind n p = p +ₚ skipped n
 
-  -- p is an address in a block, and q is where the second places begin
+  -- p is an address in a block, and q is where the second cells begin
   abbrev pub apart : Ptr → Ptr → ℕ → Fml
   apart = arrays_apart (lone R.mir) (lone S.mir)
 

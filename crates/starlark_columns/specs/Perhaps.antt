@@ -8,7 +8,7 @@ use Rattle.starlark_columns.specs.declared.row.Row.{Row}
 use Rattle.starlark_columns.specs.Block.{IsClaimTo}
 
 module _ {X : Type 0} where
-  -- the address and the claim are those of places at q, which are one item; or there are none, and the address is null
+  -- the address and the claim are those of cells at q, which are one item; or there are none, and the address is null
   abbrev pub IsItemAt : Ptr → Ptr → Claim X Global → List (Option X) → Type 0
   IsItemAt p q claim [] = (p ≡ null_ptr) × (claim.count ≡ 0)
   IsItemAt p q claim (None ∷ cs) = ⊥
@@ -17,4 +17,4 @@ module _ {X : Type 0} where
 
   -- one item in a block of its own, or none and a null address; either way the address may be compared with null
   abbrev pub IsPerhaps : Address X → Row X → Claim X Global → Type 0
-  IsPerhaps address row claim = Testable address.at × IsItemAt address.at row.at claim row.places
+  IsPerhaps address row claim = Testable address.at × IsItemAt address.at row.at claim row.cells

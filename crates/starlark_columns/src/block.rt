@@ -1,4 +1,4 @@
-//! Pointers to blocks: where rows of places lie, how their blocks are asked for, and the right to give one back.
+//! Pointers to blocks: where rows of cells lie, how their blocks are asked for, and the right to give one back.
 ghost use Rattle.std.specs.Prelude.{◌≡◌, ℕ, ◌+◌, ◌*◌, ◌^◌, ◌<◌, IfOk, MatchBool};
 ghost use Rattle.std.specs.Mem.{type_size};
 ghost use Rattle.std.specs.Vec.Ownership.{FitsInBlock};
@@ -17,7 +17,7 @@ use std::marker::{Model, PhantomData, Send, Sync};
 use std::mem::{align_of, size_of};
 use std::ptr::{NonNull, null};
 
-/// Where the first place of a row lies. It owns nothing.
+/// Where the first cell of a row lies. It owns nothing.
 pub struct Address<T> {
     pub(crate) at: *const T,
 }
@@ -38,7 +38,7 @@ unsafe impl<T> Send for Address<T> {}
 
 unsafe impl<T> Sync for Address<T> {}
 
-/// Where the block of two rows begins, at the first place of one, and how many places each has. It owns nothing.
+/// Where the block of two rows begins, at the first cell of one, and how many cells each has. It owns nothing.
 pub struct Spot<T> {
     pub address: Address<T>,
     pub count: usize,
@@ -60,7 +60,7 @@ unsafe impl<T> Send for Spot<T> {}
 
 unsafe impl<T> Sync for Spot<T> {}
 
-// The right to give the block of `count` places back. Where the places take no bytes, it is a right to nothing. It takes
+// The right to give the block of `count` cells back. Where the cells take no bytes, it is a right to nothing. It takes
 // no bytes.
 pub struct Claim<T, A: Allocator> {
     mark: PhantomData<*const (T, A)>,
@@ -80,8 +80,8 @@ unsafe impl<T, A: Allocator + Send> Send for Claim<T, A> {}
 // A `&` to it lends nothing.
 unsafe impl<T, A: Allocator> Sync for Claim<T, A> {}
 
-// The right to give back the one block with `count` places at `firsts` and as many at `seconds`, which lie as far apart
-// as the count says. Where the places take no bytes, it is a right to nothing. It takes no bytes.
+// The right to give back the one block with `count` cells at `firsts` and as many at `seconds`, which lie as far apart
+// as the count says. Where the cells take no bytes, it is a right to nothing. It takes no bytes.
 pub struct PairClaim<T, U, A: Allocator> {
     mark: PhantomData<*const (T, U, A)>,
     pub ghost firsts: { Ptr },
@@ -132,7 +132,7 @@ pub(crate) fn item_align<T>() -> usize
     align_of::<T>()
 }
 
-// The address of no place.
+// The address of no cell.
 #[inline]
 pub(crate) fn nowhere<T>() -> Address<T>
     ensures { result.at ≡ null_ptr }
@@ -140,7 +140,7 @@ pub(crate) fn nowhere<T>() -> Address<T>
     Address { at: null() }
 }
 
-// Whether it is the address of no place.
+// Whether it is the address of no cell.
 #[inline]
 pub(crate) fn is_nowhere<T>(address: Address<T>) -> bool
     requires { Testable address.at }
@@ -149,17 +149,17 @@ pub(crate) fn is_nowhere<T>(address: Address<T>) -> bool
     NonNull::new(address.at.cast_mut()).is_none()
 }
 
-// Places that take no bytes lie anywhere: here where an array of no items does, so that their address is aligned.
+// Cells that take no bytes lie anywhere: here where an array of no items does, so that their address is aligned.
 pub(crate) fn bare<T>(count: usize) -> (Address<T>, Row<T>)
     requires { count * type_size T.row ≡ 0 }
-    ensures { (result.1.at ≡ result.0.at) × (result.1.places ≡ empties count) }
+    ensures { (result.1.at ≡ result.0.at) × (result.1.cells ≡ empties count) }
 {
     let nowhere: [T; 0] = [];
     let at = &raw const nowhere as *const T;
     (Address { at }, Row { mark: PhantomData })
 }
 
-// The claim of places that take no bytes.
+// The claim of cells that take no bytes.
 pub(crate) fn bare_claim<T, A: Allocator>(
     _alloc: &A,
     address: Address<T>,
@@ -172,7 +172,7 @@ pub(crate) fn bare_claim<T, A: Allocator>(
 }
 
 pub(crate) fn let_go<T>(row: Row<T>, claim: Claim<T, Global>)
-    requires empty { row.places ≡ empties claim.count }
+    requires empty { row.cells ≡ empties claim.count }
     requires light { claim.count * type_size T.row ≡ 0 }
 {
     let Row { mark: _ } = row;
@@ -194,7 +194,7 @@ pub(crate) fn allocate<T, A: Allocator>(
 ) -> Result<(Address<T>, Row<T>, Claim<T, A>), AllocError>
     requires fits { FitsInBlock T.row count }
     requires bytes { 0 < count * type_size T.row }
-    ensures { IfOk result (λ r. (r.1.at ≡ r.0.at) × (r.1.places ≡ empties count) × (r.2.at ≡ r.0.at) × (r.2.count ≡ count) × (r.2.alloc ≡ alloc.now) × InBlock r.0.at) }
+    ensures { IfOk result (λ r. (r.1.at ≡ r.0.at) × (r.1.cells ≡ empties count) × (r.2.at ≡ r.0.at) × (r.2.count ≡ count) × (r.2.alloc ≡ alloc.now) × InBlock r.0.at) }
 {
     match alloc.allocate(count * size_of::<T>(), align_of::<T>()) {
         Ok(block) => {
@@ -216,7 +216,7 @@ pub(crate) fn deallocate<T, A: Allocator>(
     row: Row<T>,
     claim: Claim<T, A>,
 )
-    requires empty { (row.at ≡ address.at) × (row.places ≡ empties count) }
+    requires empty { (row.at ≡ address.at) × (row.cells ≡ empties count) }
     requires claim { (claim.at ≡ address.at) × (claim.count ≡ count) × (claim.alloc ≡ alloc.now) }
     requires bytes { 0 < count * type_size T.row }
 {
@@ -231,14 +231,14 @@ pub(crate) fn deallocate<T, A: Allocator>(
     }
 }
 
-// Two rows of places that take no bytes, and a right to nothing. They lie where an array of no pairs does, so that the
+// Two rows of cells that take no bytes, and a right to nothing. They lie where an array of no pairs does, so that the
 // addresses of both are aligned.
 pub(crate) fn bare_pair<T, U, A: Allocator>(
     _alloc: &A,
     count: usize,
 ) -> (Address<T>, Row<T>, Row<U>, PairClaim<T, U, A>)
     requires { count * (type_size T.row + type_size U.row) ≡ 0 }
-    ensures { (result.1.at ≡ result.0.at) × (result.1.places ≡ empties count) × (result.2.places ≡ empties count) × (result.3.firsts ≡ result.0.at) × (result.3.seconds ≡ result.2.at) × (result.3.count ≡ count) }
+    ensures { (result.1.at ≡ result.0.at) × (result.1.cells ≡ empties count) × (result.2.cells ≡ empties count) × (result.3.firsts ≡ result.0.at) × (result.3.seconds ≡ result.2.at) × (result.3.count ≡ count) }
 {
     let nowhere: [(T, U); 0] = [];
     let at = &raw const nowhere as *const T;
@@ -251,7 +251,7 @@ pub(crate) fn bare_pair<T, U, A: Allocator>(
 }
 
 pub(crate) fn let_go_pair<T, U>(firsts: Row<T>, seconds: Row<U>, claim: PairClaim<T, U, Global>)
-    requires empty { (firsts.places ≡ empties claim.count) × (seconds.places ≡ empties claim.count) }
+    requires empty { (firsts.cells ≡ empties claim.count) × (seconds.cells ≡ empties claim.count) }
     requires light { claim.count * (type_size T.row + type_size U.row) ≡ 0 }
 {
     let Row { mark: _ } = firsts;
@@ -270,7 +270,7 @@ pub(crate) fn allocate_pair<T, U, A: Allocator>(
     requires offset { skipped T.row U.row count ≡ second_offset T.row U.row count }
     requires fits { size < 2 ^ 63 }
     requires bytes { 0 < count * (type_size T.row + type_size U.row) }
-    ensures { IfOk result (λ r. (r.1.at ≡ r.0.at) × (r.1.places ≡ empties count) × (r.2.places ≡ empties count) × (r.3.firsts ≡ r.0.at) × (r.3.seconds ≡ r.2.at) × (r.3.count ≡ count) × (r.3.alloc ≡ alloc.now)) }
+    ensures { IfOk result (λ r. (r.1.at ≡ r.0.at) × (r.1.cells ≡ empties count) × (r.2.cells ≡ empties count) × (r.3.firsts ≡ r.0.at) × (r.3.seconds ≡ r.2.at) × (r.3.count ≡ count) × (r.3.alloc ≡ alloc.now)) }
 {
     match alloc.allocate(size, align) {
         Ok(block) => {
@@ -297,7 +297,7 @@ pub(crate) fn deallocate_pair<T, U, A: Allocator>(
 )
     requires layout { HasLayout (pair_ty T.row U.row claim.count) size align }
     requires bytes { 0 < claim.count * (type_size T.row + type_size U.row) }
-    requires empty { (firsts.at ≡ claim.firsts) × (firsts.places ≡ empties claim.count) × (seconds.at ≡ claim.seconds) × (seconds.places ≡ empties claim.count) }
+    requires empty { (firsts.at ≡ claim.firsts) × (firsts.cells ≡ empties claim.count) × (seconds.at ≡ claim.seconds) × (seconds.cells ≡ empties claim.count) }
     requires claim { (first.at ≡ claim.firsts) × (claim.alloc ≡ alloc.now) }
 {
     let Row { mark: _ } = firsts;

@@ -26,7 +26,7 @@ impl Model for Bytes {
 
     ghost Value = { List ℕ };
 
-    ghost view = { λ b. items_of b.row.places };
+    ghost view = { λ b. items_of b.row.cells };
 
     ghost invariant = { λ b. IsBytes b.address b.row b.claim };
 }
@@ -115,13 +115,13 @@ impl Bytes {
     }
 }
 
-// The places without their bytes.
+// The cells without their bytes.
 #[inline]
 fn emptied(mut row: Row<u8>, address: Address<u8>, count: usize) -> Row<u8>
-    requires { (address.at ≡ row.at) × (count ≡ length row.places) }
-    ensures { (result.at ≡ row.at) × (result.places ≡ empties count) }
+    requires { (address.at ≡ row.at) × (count ≡ length row.cells) }
+    ensures { (result.at ≡ row.at) × (result.cells ≡ empties count) }
 {
-    let places = row.open(address, count);
-    row.close(places, 0, count);
+    let cells = row.open(address, count);
+    row.close(cells, 0, count);
     row
 }

@@ -1,4 +1,4 @@
-//! `Column`, a row of places in one block of memory, or in none where they take no bytes.
+//! `Column`, a row of cells in one block of memory, or in none where they take no bytes.
 ghost use Rattle.std.specs.Prelude.{◌≡◌, ◌+◌, ◌-◌, ◌*◌, ◌^◌, ◌<◌, ◌≤◌, [], ◌++◌, Some, None, map, length, take, drop, get_or, slice_set, slice_range, IfOk, IsOk};
 ghost use Rattle.std.specs.Borrow.{sem};
 ghost use Rattle.std.specs.Mem.{type_size};
@@ -14,8 +14,8 @@ use std::alloc::{AllocError, Global};
 use std::marker::{Model, PhantomData};
 use std_alloc::room::may_hold;
 
-/// A row of places, each empty or with an item. Nothing at run time says which: the type above knows. A column is given
-/// back, with every place empty, by `give_back`. It is seen as the list of its places, and each call says the whole row
+/// A row of cells, each empty or with an item. Nothing at run time says which: the type above knows. A column is given
+/// back, with every cell empty, by `give_back`. It is seen as the list of its cells, and each call says the whole row
 /// afterwards.
 pub struct Column<T> {
     address: Address<T>,
@@ -30,7 +30,7 @@ impl<T> Model for Column<T> {
 
     ghost Value = { List (Option T) };
 
-    ghost view = { λ c. c.row.places };
+    ghost view = { λ c. c.row.cells };
 
     ghost invariant = { λ c. IsColumn c.address c.count c.row c.claim };
 }
@@ -38,16 +38,16 @@ impl<T> Model for Column<T> {
 // Making, and giving back
 
 impl<T> Column<T> {
-    /// A column of no places, without memory.
+    /// A column of no cells, without memory.
     #[inline]
     pub fn new(alloc: Global) -> Column<T>
-        ensures places { result ≡ [] }
+        ensures cells { result ≡ [] }
         ensures front { IsFront result 0 }
     {
         Column::without_block(alloc, 0)
     }
 
-    // A column of places that take no bytes, for which no block was asked.
+    // A column of cells that take no bytes, for which no block was asked.
     #[inline]
     fn without_block(alloc: Global, count: usize) -> Column<T>
         requires { count * type_size T.row ≡ 0 }
@@ -63,9 +63,9 @@ impl<T> Column<T> {
         }
     }
 
-    /// A column of `count` empty places. It is refused where there is no memory, or where that many items cannot be
-    /// addressed; places that take no bytes never are, and ask for no memory.
-    pub fn with_places(alloc: Global, count: usize) -> Result<Column<T>, AllocError>
+    /// A column of `count` empty cells. It is refused where there is no memory, or where that many items cannot be
+    /// addressed; cells that take no bytes never are, and ask for no memory.
+    pub fn with_cells(alloc: Global, count: usize) -> Result<Column<T>, AllocError>
         ensures made { IfOk result (λ c. c ≡ empties count) }
         ensures fits { IfOk result (λ _. count * type_size T.row < 2 ^ 63) }
         ensures succeeds { count * type_size T.row ≡ 0 → IsOk result }
@@ -85,7 +85,7 @@ impl<T> Column<T> {
         })
     }
 
-    /// Gives the memory back. Every place is to be empty, so that no item is forgotten.
+    /// Gives the memory back. Every cell is to be empty, so that no item is forgotten.
     #[inline]
     pub fn give_back(self, alloc: Global)
         requires { self ≡ empties (length self) }
@@ -103,22 +103,22 @@ impl<T> Column<T> {
         }
     }
 
-    /// How many places there are.
+    /// How many cells there are.
     #[inline]
-    pub fn places(&self) -> usize
-        ensures places { result ≡ length self.now }
+    pub fn cells(&self) -> usize
+        ensures cells { result ≡ length self.now }
         ensures fits { length self.now < 2 ^ 64 }
     {
         self.count
     }
 }
 
-// One place
+// One cell
 
 impl<T> Column<T> {
     ghost use Rattle.starlark_columns.specs.Lend.{lends_column_item};
 
-    /// Puts an item in an empty place.
+    /// Puts an item in an empty cell.
     #[inline]
     pub fn write(&mut self, index: usize, item: T)
         requires { (index < length self.old) × (get_or self.old index None ≡ None) }
@@ -131,12 +131,12 @@ impl<T> Column<T> {
         self.row.write(spot, index, item);
     }
 
-    /// Moves the item out of a full place, which is then empty.
+    /// Moves the item out of a full cell, which is then empty.
     #[inline]
     pub fn take(&mut self, index: usize) -> T
         requires { IsFilled self.old index }
         ensures value { get_or self.old index None ≡ Some result }
-        ensures places { self.new ≡ slice_set self.old index None }
+        ensures cells { self.new ≡ slice_set self.old index None }
     {
         let spot = Spot {
             address: self.address,
@@ -145,7 +145,7 @@ impl<T> Column<T> {
         self.row.take(spot, index)
     }
 
-    /// The item of a full place.
+    /// The item of a full cell.
     #[inline]
     pub fn get(&self, index: usize) -> &T
         requires { IsFilled self.now index }
@@ -156,7 +156,7 @@ impl<T> Column<T> {
         self.row.get(self.address, count, index)
     }
 
-    /// The item of a full place, to be written. The place ends with what is left in it, and all else stays.
+    /// The item of a full cell, to be written. The cell ends with what is left in it, and all else stays.
     #[inline]
     pub fn get_mut(&mut self, index: usize) -> &mut T
         requires { IsFilled self.old index }
@@ -167,16 +167,16 @@ impl<T> Column<T> {
     }
 }
 
-// Many places
+// Many cells
 
 impl<T> Column<T> {
-    ghost use Rattle.starlark_columns.specs.Loan.{places_follow};
+    ghost use Rattle.starlark_columns.specs.Loan.{cells_follow};
 
-    /// The right to write the items, which a walk takes one by one. Each full place ends with what is left there, with
-    /// what `P` keeps of its item; empty places stay empty.
+    /// The right to write the items, which a walk takes one by one. Each full cell ends with what is left there, with
+    /// what `P` keeps of its item; empty cells stay empty.
     #[inline]
     pub fn lend<P: Keeps<T>>(&mut self) -> Loan<'_, T, P>
-        ensures* writes_back { sem 𝓛 (places_follow T.row P.kept self.entry result.tie) }
+        ensures* writes_back { sem 𝓛 (cells_follow T.row P.kept self.entry result.tie) }
         ensures untouched { result.from ≡ 0 }
         ensures rest { result.rest ≡ self.old }
     {

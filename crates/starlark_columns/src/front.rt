@@ -14,23 +14,23 @@ use std::slice;
 impl<T> Row<T> {
     ghost use Rattle.starlark_columns.specs.Lend.{lends_front, lends_item};
 
-    /// The first `len` places, which hold all the items.
+    /// The first `len` cells, which hold all the items.
     #[inline]
     pub fn items(&self, address: Address<T>, len: usize) -> &[T]
         requires at { address.at ≡ self.now.at }
-        requires front { IsFront self.now.places len }
-        ensures { result.now ≡ items_of self.now.places }
+        requires front { IsFront self.now.cells len }
+        ensures { result.now ≡ items_of self.now.cells }
     {
         self.slice(address, 0, len)
     }
 
-    /// The first `len` places, which hold all the items, to be written. They end with what is left in them.
+    /// The first `len` cells, which hold all the items, to be written. They end with what is left in them.
     #[inline]
     pub fn items_mut(&mut self, address: Address<T>, len: usize) -> &mut [T]
         requires at { address.at ≡ self.old.at }
-        requires front { IsFront self.old.places len }
+        requires front { IsFront self.old.cells len }
         ensures* writes_back { sem 𝓛 (lends_front T.row self.entry result) }
-        ensures value { result.now ≡ items_of self.old.places }
+        ensures value { result.now ≡ items_of self.old.cells }
     {
         unsafe { slice::from_raw_parts_mut(address.at.cast_mut(), len) }
     }
@@ -39,9 +39,9 @@ impl<T> Row<T> {
     #[inline]
     pub fn item(&self, address: Address<T>, len: usize, index: usize) -> &T
         requires at { address.at ≡ self.now.at }
-        requires front { IsFront self.now.places len }
+        requires front { IsFront self.now.cells len }
         requires within { index < len }
-        ensures { slice_get (items_of self.now.places) index ≡ Some result.now }
+        ensures { slice_get (items_of self.now.cells) index ≡ Some result.now }
     {
         self.get(address, len, index)
     }
@@ -50,23 +50,23 @@ impl<T> Row<T> {
     #[inline]
     pub fn item_mut(&mut self, address: Address<T>, len: usize, index: usize) -> &mut T
         requires at { address.at ≡ self.old.at }
-        requires front { IsFront self.old.places len }
+        requires front { IsFront self.old.cells len }
         requires within { index < len }
         ensures* writes_back { sem 𝓛 (lends_item T.row self.entry index result) }
-        ensures value { slice_get (items_of self.old.places) index ≡ Some result.now }
+        ensures value { slice_get (items_of self.old.cells) index ≡ Some result.now }
     {
         self.get_mut(address, index)
     }
 
-    /// Puts an item behind the `len` that are there. A place is to be left.
+    /// Puts an item behind the `len` that are there. A cell is to be left.
     #[inline]
     pub fn push_last(&mut self, spot: Spot<T>, len: usize, item: T)
         requires spot { LiesAt spot self.old }
-        requires front { IsFront self.old.places len }
-        requires room { len < length self.old.places }
-        ensures front { IsFront self.new.places (len + 1) }
-        ensures items { items_of self.new.places ≡ items_of self.old.places ++ item ∷ [] }
-        ensures places { length self.new.places ≡ length self.old.places }
+        requires front { IsFront self.old.cells len }
+        requires room { len < length self.old.cells }
+        ensures front { IsFront self.new.cells (len + 1) }
+        ensures items { items_of self.new.cells ≡ items_of self.old.cells ++ item ∷ [] }
+        ensures cells { length self.new.cells ≡ length self.old.cells }
         ensures at { self.new.at ≡ self.old.at }
     {
         self.write(spot, len, item);
@@ -76,25 +76,25 @@ impl<T> Row<T> {
     #[inline]
     pub fn take_last(&mut self, spot: Spot<T>, last: usize) -> T
         requires spot { LiesAt spot self.old }
-        requires front { IsFront self.old.places (last + 1) }
-        ensures front { IsFront self.new.places last }
-        ensures items { items_of self.old.places ≡ items_of self.new.places ++ result ∷ [] }
-        ensures places { length self.new.places ≡ length self.old.places }
+        requires front { IsFront self.old.cells (last + 1) }
+        ensures front { IsFront self.new.cells last }
+        ensures items { items_of self.old.cells ≡ items_of self.new.cells ++ result ∷ [] }
+        ensures cells { length self.new.cells ≡ length self.old.cells }
         ensures at { self.new.at ≡ self.old.at }
     {
         self.take(spot, last)
     }
 
-    /// Takes the item at `index` out. Those behind it move up by one place.
+    /// Takes the item at `index` out. Those behind it move up by one cell.
     #[inline]
     pub fn remove_at(&mut self, spot: Spot<T>, len: usize, index: usize) -> T
         requires spot { LiesAt spot self.old }
-        requires front { IsFront self.old.places len }
+        requires front { IsFront self.old.cells len }
         requires within { index < len }
-        ensures taken { slice_get (items_of self.old.places) index ≡ Some result }
-        ensures front { IsFront self.new.places (len - 1) }
-        ensures items { items_of self.new.places ≡ remove (items_of self.old.places) index }
-        ensures places { length self.new.places ≡ length self.old.places }
+        ensures taken { slice_get (items_of self.old.cells) index ≡ Some result }
+        ensures front { IsFront self.new.cells (len - 1) }
+        ensures items { items_of self.new.cells ≡ remove (items_of self.old.cells) index }
+        ensures cells { length self.new.cells ≡ length self.old.cells }
         ensures at { self.new.at ≡ self.old.at }
     {
         let item = self.take(spot, index);
@@ -102,18 +102,18 @@ impl<T> Row<T> {
         item
     }
 
-    /// Moves all `len` items to the places of `to`, which are empty, and enough. None is left here.
+    /// Moves all `len` items to the cells of `to`, which are empty, and enough. None is left here.
     #[inline]
     pub fn move_all(&mut self, spot: Spot<T>, len: usize, to: &mut Row<T>, to_spot: Spot<T>)
         requires spot { LiesAt spot self.old }
         requires other { LiesAt to_spot to.old }
-        requires front { IsFront self.old.places len }
-        requires empty { IsFront to.old.places 0 }
-        requires room { len ≤ length to.old.places }
-        ensures left { IsFront self.new.places 0 }
-        ensures front { IsFront to.new.places len }
-        ensures items { items_of to.new.places ≡ items_of self.old.places }
-        ensures places { (length self.new.places ≡ length self.old.places) × (length to.new.places ≡ length to.old.places) }
+        requires front { IsFront self.old.cells len }
+        requires empty { IsFront to.old.cells 0 }
+        requires room { len ≤ length to.old.cells }
+        ensures left { IsFront self.new.cells 0 }
+        ensures front { IsFront to.new.cells len }
+        ensures items { items_of to.new.cells ≡ items_of self.old.cells }
+        ensures cells { (length self.new.cells ≡ length self.old.cells) × (length to.new.cells ≡ length to.old.cells) }
         ensures at { (self.new.at ≡ self.old.at) × (to.new.at ≡ to.old.at) }
     {
         if len != 0 {
@@ -129,10 +129,10 @@ impl<T> Row<T> {
     #[inline]
     pub fn turn_round(&mut self, address: Address<T>, len: usize)
         requires at { address.at ≡ self.old.at }
-        requires front { IsFront self.old.places len }
-        ensures front { IsFront self.new.places len }
-        ensures items { items_of self.new.places ≡ reverse (items_of self.old.places) }
-        ensures places { length self.new.places ≡ length self.old.places }
+        requires front { IsFront self.old.cells len }
+        ensures front { IsFront self.new.cells len }
+        ensures items { items_of self.new.cells ≡ reverse (items_of self.old.cells) }
+        ensures cells { length self.new.cells ≡ length self.old.cells }
         ensures at { self.new.at ≡ self.old.at }
     {
         self.items_mut(address, len).reverse();
@@ -143,11 +143,11 @@ impl<T: Drop> Row<T> {
     /// Drops the items from `to` on, the last first.
     pub fn truncate(&mut self, spot: Spot<T>, len: usize, to: usize)
         requires spot { LiesAt spot self.old }
-        requires front { IsFront self.old.places len }
+        requires front { IsFront self.old.cells len }
         requires within { to ≤ len }
-        ensures front { IsFront self.new.places to }
-        ensures items { items_of self.new.places ≡ take to (items_of self.old.places) }
-        ensures places { length self.new.places ≡ length self.old.places }
+        ensures front { IsFront self.new.cells to }
+        ensures items { items_of self.new.cells ≡ take to (items_of self.old.cells) }
+        ensures cells { length self.new.cells ≡ length self.old.cells }
         ensures at { self.new.at ≡ self.old.at }
     {
         let mut left = len;
@@ -170,13 +170,13 @@ impl<T: Clone + Drop> Row<T> {
     ) -> Result<(), AllocError>
         requires at { address.at ≡ self.now.at }
         requires other { LiesAt to_spot to.old }
-        requires front { IsFront self.now.places len }
-        requires empty { IsFront to.old.places 0 }
-        requires room { len ≤ length to.old.places }
-        ensures refused { OnErr result (IsFront to.new.places 0) }
-        ensures front { OnOk result (IsFront to.new.places len) }
-        ensures items { OnOk result (AllZip T.is_clone (items_of self.now.places) (items_of to.new.places)) }
-        ensures places { length to.new.places ≡ length to.old.places }
+        requires front { IsFront self.now.cells len }
+        requires empty { IsFront to.old.cells 0 }
+        requires room { len ≤ length to.old.cells }
+        ensures refused { OnErr result (IsFront to.new.cells 0) }
+        ensures front { OnOk result (IsFront to.new.cells len) }
+        ensures items { OnOk result (AllZip T.is_clone (items_of self.now.cells) (items_of to.new.cells)) }
+        ensures cells { length to.new.cells ≡ length to.old.cells }
         ensures at { to.new.at ≡ to.old.at }
         ensures succeeds { len ≡ 0 → IsOk result }
     {

@@ -6,7 +6,7 @@ ghost use Rattle.starlark_columns.specs.Pair.{pair_ty, skipped};
 
 use crate::block::{item_align, item_size};
 
-// The block of two rows of so many places. Numbers past the greatest `usize` are cut there.
+// The block of two rows of so many cells. Numbers past the greatest `usize` are cut there.
 #[derive(Drop)]
 pub(crate) struct Layout {
     pub size: usize,

@@ -1,4 +1,4 @@
-//! Raw memory: rows of places, each empty or with an item, rows of bytes, and a pointer that may be to nothing. All raw
+//! Raw memory: rows of cells, each empty or with an item, rows of bytes, and a pointer that may be to nothing. All raw
 //! memory of the library is here.
 #![tactic(auto)]
 

@@ -1,4 +1,4 @@
-//! The right to write the items of places that a walk has still to reach. Any of the places may be empty.
+//! The right to write the items of cells that a walk has still to reach. Any of the cells may be empty.
 ghost use Rattle.std.specs.Prelude.{◌≡◌, ℕ, ◌+◌, ◌<◌, List, ◌∷◌, length, drop, get_or, Option, Some, None, refl};
 ghost use Rattle.std.specs.Option.{option_map};
 ghost use Rattle.std.specs.Borrow.{GName};
@@ -34,7 +34,7 @@ impl<A, K, V> Keeps<(A, (K, V))> for AllButLast {
     ghost itself = { λ x. refl };
 }
 
-/// The right to the places at `start` that are still to be taken: those from the `from`-th on, `rest`. Which of them
+/// The right to the cells at `start` that are still to be taken: those from the `from`-th on, `rest`. Which of them
 /// are full is frozen, and so is what `P` keeps of each item. `name` is the loan of these, and `tie` the loan of all,
 /// which the column follows.
 #[derive(Drop)]
@@ -52,7 +52,7 @@ impl<'a, T, P: Keeps<T>> Model for Loan<'a, T, P> {
 }
 
 impl<'a, T, P: Keeps<T>> Loan<'a, T, P> {
-    /// Passes over the next place, which stays as it is.
+    /// Passes over the next cell, which stays as it is.
     #[inline]
     pub fn skip(&mut self)
         requires { 0 < length self.old.rest }
@@ -63,7 +63,7 @@ impl<'a, T, P: Keeps<T>> Loan<'a, T, P> {
 }
 
 impl<'a, A, B> Loan<'a, (A, B), First> {
-    /// The pair of the next place, its second part to be written. The place is full.
+    /// The pair of the next cell, its second part to be written. The cell is full.
     #[inline]
     pub fn take_pair(&mut self, index: usize) -> (&'a A, &'a mut B)
         requires next { index ≡ self.old.from }
@@ -80,7 +80,7 @@ impl<'a, A, B> Loan<'a, (A, B), First> {
 }
 
 impl<'a, A, K, V> Loan<'a, (A, (K, V)), AllButLast> {
-    /// The key and the value of the entry in the next place, the value to be written. The place is full.
+    /// The key and the value of the entry in the next cell, the value to be written. The cell is full.
     #[inline]
     pub fn take_value(&mut self, index: usize) -> (&'a K, &'a mut V)
         requires next { index ≡ self.old.from }

@@ -1,4 +1,4 @@
-//! Two rows of as many places in one block of memory, so that they are had, and given back, by one call of the allocator.
+//! Two rows of as many cells in one block of memory, so that they are had, and given back, by one call of the allocator.
 //! The first row begins where the block does. Where the second begins is reckoned, so that one address does for both.
 ghost use Rattle.std.specs.Prelude.{◌≡◌, ◌↔◌, ◌+◌, ◌*◌, ◌^◌, ◌<◌, [], length, IfOk, IsOk, IsTrue};
 ghost use Rattle.std.specs.Mem.{type_size};
@@ -20,7 +20,7 @@ use std::alloc::{AllocError, Global};
 pub type Block<A, B> = PairClaim<A, B, Global>;
 
 impl<A, B> PairClaim<A, B, Global> {
-    /// Where the second row lies, from where the block does, and how many places it has: as many as the first.
+    /// Where the second row lies, from where the block does, and how many cells it has: as many as the first.
     #[inline]
     pub fn second(&self, spot: Spot<A>) -> Spot<B>
         requires { IsSpotOf spot self.now }
@@ -44,16 +44,16 @@ pub fn second_at<A, B>(spot: Spot<A>) -> Address<B>
     moved(spot.address, skip::<A, B>(spot.count))
 }
 
-/// Two rows of `count` empty places each in one block of memory, where it begins, and the right to give it back. They are
-/// refused where there is no memory, or where that many items cannot be addressed; places that take no bytes never are,
+/// Two rows of `count` empty cells each in one block of memory, where it begins, and the right to give it back. They are
+/// refused where there is no memory, or where that many items cannot be addressed; cells that take no bytes never are,
 /// and ask for no memory.
 pub fn with_rows<A, B>(
     alloc: Global,
     count: usize,
 ) -> Result<(Spot<A>, Row<A>, Row<B>, Block<A, B>), AllocError>
-    ensures fronts { IfOk result (λ r. IsFront r.1.places 0 × IsFront r.2.places 0) }
-    ensures items { IfOk result (λ r. (items_of r.1.places ≡ []) × (items_of r.2.places ≡ [])) }
-    ensures places { IfOk result (λ r. (length r.1.places ≡ count) × (length r.2.places ≡ count)) }
+    ensures fronts { IfOk result (λ r. IsFront r.1.cells 0 × IsFront r.2.cells 0) }
+    ensures items { IfOk result (λ r. (items_of r.1.cells ≡ []) × (items_of r.2.cells ≡ [])) }
+    ensures cells { IfOk result (λ r. (length r.1.cells ≡ count) × (length r.2.cells ≡ count)) }
     ensures block { IfOk result (λ r. IsBlockOf r.3 r.1 r.2) }
     ensures spot { IfOk result (λ r. IsSpotOf r.0 r.3) }
     ensures succeeds { count * type_size A.row ≡ 0 → count * type_size B.row ≡ 0 → IsOk result }
@@ -74,11 +74,11 @@ pub fn with_rows<A, B>(
     Ok((Spot { address, count }, firsts, seconds, block))
 }
 
-/// Two rows of no places, without memory.
+/// Two rows of no cells, without memory.
 #[inline]
 pub fn no_rows<A, B>(alloc: Global) -> (Spot<A>, Row<A>, Row<B>, Block<A, B>)
-    ensures fronts { IsFront result.1.places 0 × IsFront result.2.places 0 }
-    ensures places { (length result.1.places ≡ 0) × (length result.2.places ≡ 0) }
+    ensures fronts { IsFront result.1.cells 0 × IsFront result.2.cells 0 }
+    ensures cells { (length result.1.cells ≡ 0) × (length result.2.cells ≡ 0) }
     ensures block { IsBlockOf result.3 result.1 result.2 }
     ensures spot { IsSpotOf result.0 result.3 }
 {
@@ -95,7 +95,7 @@ pub fn give_back<A, B>(
     block: Block<A, B>,
 )
     requires spot { IsSpotOf spot block }
-    requires empty { IsFront firsts.places 0 × IsFront seconds.places 0 }
+    requires empty { IsFront firsts.cells 0 × IsFront seconds.cells 0 }
     requires block { IsBlockOf block firsts seconds }
 {
     if weightless::<A, B>(spot.count) {
@@ -114,19 +114,19 @@ pub fn give_back<A, B>(
     }
 }
 
-// Whether so many places of both rows take no bytes.
+// Whether so many cells of both rows take no bytes.
 fn weightless<A, B>(count: usize) -> bool
     ensures { IsTrue result ↔ (count * (type_size A.row + type_size B.row) ≡ 0) }
 {
     count == 0 || (item_size::<A>() == 0 && item_size::<B>() == 0)
 }
 
-// Rows of places that take no bytes.
+// Rows of cells that take no bytes.
 fn bare_rows<A, B>(alloc: Global, count: usize) -> (Spot<A>, Row<A>, Row<B>, Block<A, B>)
     requires { count * (type_size A.row + type_size B.row) ≡ 0 }
-    ensures fronts { IsFront result.1.places 0 × IsFront result.2.places 0 }
-    ensures items { (items_of result.1.places ≡ []) × (items_of result.2.places ≡ []) }
-    ensures places { (length result.1.places ≡ count) × (length result.2.places ≡ count) }
+    ensures fronts { IsFront result.1.cells 0 × IsFront result.2.cells 0 }
+    ensures items { (items_of result.1.cells ≡ []) × (items_of result.2.cells ≡ []) }
+    ensures cells { (length result.1.cells ≡ count) × (length result.2.cells ≡ count) }
     ensures block { IsBlockOf result.3 result.1 result.2 }
     ensures spot { IsSpotOf result.0 result.3 }
 {

@@ -28,7 +28,7 @@ impl<T> Model for Perhaps<T> {
 
     ghost Value = { Option T };
 
-    ghost view = { λ p. get_or p.row.places 0 None };
+    ghost view = { λ p. get_or p.row.cells 0 None };
 
     ghost invariant = { λ p. IsPerhaps p.address p.row p.claim };
 }

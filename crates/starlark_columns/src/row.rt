@@ -1,5 +1,5 @@
-//! `Row`, a row of places without the right to give their block back: another row may lie in the same block. Items go in,
-//! out and along over the kit's slots, which know no place without a value.
+//! `Row`, a row of cells without the right to give their block back: another row may lie in the same block. Items go in,
+//! out and along over the kit's slots, which know no cell without a value.
 ghost use Rattle.std.specs.Prelude.{◌≡◌, ◌+◌, ◌-◌, ◌<◌, ◌≤◌, List, [], Option, Some, None, map, length, get_or, slice_set, slice_range};
 ghost use Rattle.std.specs.Borrow.{sem};
 ghost use denote.RawPtr.{Ptr};
@@ -12,20 +12,20 @@ use core::slots::Slots;
 use std::marker::{Model, PhantomData, Send, Sync};
 use std::slice;
 
-/// A row of places, each empty or with an item. Nothing at run time says which: the type above knows. It is seen as its
-/// places and where they lie, so that `pair::give_back` takes rows of one block alone. No call changes where they lie.
+/// A row of cells, each empty or with an item. Nothing at run time says which: the type above knows. It is seen as its
+/// cells and where they lie, so that `pair::give_back` takes rows of one block alone. No call changes where they lie.
 /// It takes no bytes: a call that moves items is told the row's spot, and one that shows or lends them its address, so
 /// that two rows of a block share one address and one count.
 pub struct Row<T> {
     pub(crate) mark: PhantomData<*const T>,
     pub ghost at: { Ptr },
-    pub ghost places: { List (Option T) },
+    pub ghost cells: { List (Option T) },
 }
 
 impl<T> Model for Row<T> {
-    ghost also_owns = { λ r. row_owned T.row r.at r.places };
+    ghost also_owns = { λ r. row_owned T.row r.at r.cells };
 
-    ghost also_shares = { λ r _ κ. row_lent T.row r.at r.places κ };
+    ghost also_shares = { λ r _ κ. row_lent T.row r.at r.cells κ };
 }
 
 unsafe impl<T: Send> Send for Row<T> {}
@@ -33,23 +33,23 @@ unsafe impl<T: Send> Send for Row<T> {}
 unsafe impl<T: Sync> Sync for Row<T> {}
 
 impl<T> Row<T> {
-    ghost use Rattle.starlark_columns.specs.Slots.{places_of, emptied};
+    ghost use Rattle.starlark_columns.specs.Slots.{cells_of, emptied};
 
-    // The places as the kit's slots. The row is left with none.
+    // The cells as the kit's slots. The row is left with none.
     pub(crate) fn open(&mut self, address: Address<T>, count: usize) -> Slots<T>
         requires any { T }
-        requires places { (address.at ≡ self.old.at) × (count ≡ length self.old.places) }
-        ensures places { places_of (slots_items result) (slots_filled result) ≡ self.old.places }
+        requires cells { (address.at ≡ self.old.at) × (count ≡ length self.old.cells) }
+        ensures cells { cells_of (slots_items result) (slots_filled result) ≡ self.old.cells }
         ensures slots { (slots_ptr result ≡ self.old.at) × (slots_len result ≡ count) }
-        ensures left { (self.new.at ≡ self.old.at) × (self.new.places ≡ []) }
+        ensures left { (self.new.at ≡ self.old.at) × (self.new.cells ≡ []) }
     {
         unsafe { Slots::from_raw_parts(address.at.cast_mut(), count) }
     }
 
-    // The way back. What the places from `from` up to `to` hold is forgotten.
+    // The way back. What the cells from `from` up to `to` hold is forgotten.
     pub(crate) fn close(&mut self, slots: Slots<T>, from: usize, to: usize)
-        requires { (slots_ptr slots ≡ self.old.at) × (self.old.places ≡ []) }
-        ensures { (self.new.at ≡ self.old.at) × (self.new.places ≡ emptied from to (places_of (slots_items slots) (slots_filled slots))) }
+        requires { (slots_ptr slots ≡ self.old.at) × (self.old.cells ≡ []) }
+        ensures { (self.new.at ≡ self.old.at) × (self.new.cells ≡ emptied from to (cells_of (slots_items slots) (slots_filled slots))) }
     {
         let _parts = unsafe { slots.into_raw_parts() };
     }
@@ -59,12 +59,12 @@ impl<T> Row<T> {
     ghost use Rattle.starlark_columns.specs.Block.{LiesAt};
     ghost use Rattle.starlark_columns.specs.Lend.{lends_item};
 
-    /// Puts an item in an empty place.
+    /// Puts an item in an empty cell.
     #[inline]
     pub fn write(&mut self, spot: Spot<T>, index: usize, item: T)
         requires spot { LiesAt spot self.old }
-        requires empty { (index < length self.old.places) × (get_or self.old.places index None ≡ None) }
-        ensures places { self.new.places ≡ slice_set self.old.places index (Some item) }
+        requires empty { (index < length self.old.cells) × (get_or self.old.cells index None ≡ None) }
+        ensures cells { self.new.cells ≡ slice_set self.old.cells index (Some item) }
         ensures at { self.new.at ≡ self.old.at }
     {
         let mut slots = self.open(spot.address, spot.count);
@@ -72,13 +72,13 @@ impl<T> Row<T> {
         self.close(slots, 0, 0);
     }
 
-    /// Moves the item out of a full place, which is then empty.
+    /// Moves the item out of a full cell, which is then empty.
     #[inline]
     pub fn take(&mut self, spot: Spot<T>, index: usize) -> T
         requires spot { LiesAt spot self.old }
-        requires filled { IsFilled self.old.places index }
-        ensures value { get_or self.old.places index None ≡ Some result }
-        ensures places { self.new.places ≡ slice_set self.old.places index None }
+        requires filled { IsFilled self.old.cells index }
+        ensures value { get_or self.old.cells index None ≡ Some result }
+        ensures cells { self.new.cells ≡ slice_set self.old.cells index None }
         ensures at { self.new.at ≡ self.old.at }
     {
         let mut slots = self.open(spot.address, spot.count);
@@ -87,46 +87,46 @@ impl<T> Row<T> {
         item
     }
 
-    /// The item of a full place, which is below `end`.
+    /// The item of a full cell, which is below `end`.
     #[inline]
     pub fn get(&self, address: Address<T>, end: usize, index: usize) -> &T
         requires at { address.at ≡ self.now.at }
         requires below { index < end }
-        requires filled { IsFilled self.now.places index }
-        ensures { get_or self.now.places index None ≡ Some result.now }
+        requires filled { IsFilled self.now.cells index }
+        ensures { get_or self.now.cells index None ≡ Some result.now }
     {
         &self.slice(address, index, index + 1)[0]
     }
 
-    /// The item of a full place, to be written. The place ends with what is left in it, and all else stays.
+    /// The item of a full cell, to be written. The cell ends with what is left in it, and all else stays.
     #[inline]
     pub fn get_mut(&mut self, address: Address<T>, index: usize) -> &mut T
         requires at { address.at ≡ self.old.at }
-        requires filled { IsFilled self.old.places index }
+        requires filled { IsFilled self.old.cells index }
         ensures* writes_back { sem 𝓛 (lends_item T.row self.entry index result) }
-        ensures value { get_or self.old.places index None ≡ Some result.now }
+        ensures value { get_or self.old.cells index None ≡ Some result.now }
     {
         unsafe { &mut *address.at.cast_mut().add(index) }
     }
 
-    /// The items from place `from` up to place `to`, which are all there.
+    /// The items from cell `from` up to cell `to`, which are all there.
     #[inline]
     pub fn slice(&self, address: Address<T>, from: usize, to: usize) -> &[T]
         requires at { address.at ≡ self.now.at }
-        requires filled { AreFilled self.now.places from to }
-        ensures { slice_range self.now.places from to ≡ map Some result.now }
+        requires filled { AreFilled self.now.cells from to }
+        ensures { slice_range self.now.cells from to ≡ map Some result.now }
     {
         unsafe { slice::from_raw_parts(address.at.add(from), to - from) }
     }
 
-    /// Moves the items from place `from` up to place `end` down, to the places from `to` on, in their order. The places
+    /// Moves the items from cell `from` up to cell `end` down, to the cells from `to` on, in their order. The cells
     /// between are empty before, and as many behind the items are afterwards.
     #[inline]
     pub fn move_down(&mut self, spot: Spot<T>, from: usize, end: usize, to: usize)
         requires spot { LiesAt spot self.old }
-        requires items { AreFilled self.old.places from end }
-        requires gap { AreEmpty self.old.places to from }
-        ensures places { self.new.places ≡ moved_down self.old.places from end to }
+        requires items { AreFilled self.old.cells from end }
+        requires gap { AreEmpty self.old.cells to from }
+        ensures cells { self.new.cells ≡ moved_down self.old.cells from end to }
         ensures at { self.new.at ≡ self.old.at }
     {
         if from != end {

@@ -56,7 +56,7 @@ module _ {K V : Type 0} (eq : K → K → Bool) where
   pub IsSingle-remove : (es : List (Entry K V)) (i : ℕ) → i < length es → IsSingle eq es → IsSingle eq (remove es i)
   IsSingle-remove es i below single = all_pairs_remove (λ d e. stands_under d.0.hash (eq d.0.key) e ≡ false) es i below single
 
--- where i stood before the items at a and b changed places
+-- where i stood before the items at a and b changed indices
 abbrev exchange : ℕ → ℕ → ℕ → ℕ
 exchange a b i = cond (eqb i b) a (cond (eqb i a) b i)
 

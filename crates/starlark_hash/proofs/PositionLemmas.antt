@@ -1,4 +1,4 @@
--- The first place at which a test passes.
+-- The first index at which a test passes.
 use Rattle.std.proofs.Common.{◌≡◌, ℕ, zero, suc, ◌+◌, ◌<◌, Bool, true, false, cond, not, ltb, List, [], ◌∷◌, length, get_or, Option, Some, None, refl, sym, ap, ◌∙◌, arith}
 use Rattle.std.specs.Prelude.{position}
 use Rattle.std.specs.List.{position_or_len}
@@ -22,7 +22,7 @@ position-cons p x xs =
       | false ↦ shifted (position_or_len p xs) (length xs)
     ]
 
--- the first place is a place
+-- the first index is an index
 pub position-within : {X : Type 0} (p : X → Bool) (xs : List X) (i : ℕ) → position p xs ≡ Some i → i < length xs
 position-within p [] i e = absurd (none-some i e)
 position-within p (x ∷ xs) i e = (position-Some p (x ∷ xs) i x e).0

@@ -101,11 +101,11 @@ module _ {K V : Type 0} (hash : StarlarkHashValue) where
   abbrev under_from : ℕ → List (Entry K V) → List (ℕ × Entry K V)
   under_from n es = filter (λ p. is_under hash p.1) (enumerate_from n es)
 
-  -- the keys under the hash, where the first place of the list is n
+  -- the keys under the hash, where the first index of the list is n
   abbrev pub keys_from : ℕ → List (Entry K V) → List (ℕ × K)
   keys_from n es = keys_of (under_from n es)
 
-  -- a place of the list, under the hash, with this key
+  -- an index of the list, under the hash, with this key
   abbrev IsAt : ℕ → List (Entry K V) → ℕ × K → Type 0
   IsAt n es p = (k : ℕ) × (e : Entry K V) × (p.0 ≡ n + k) × (slice_get es k ≡ Some e) × (is_under hash e ≡ true) × (p.1 ≡ entry_key e)
 
@@ -139,7 +139,7 @@ module _ {K V : Type 0} (hash : StarlarkHashValue) where
         | false ↦ rest
       ]
 
-  -- a name among the keys under a hash is the place of an entry under it, with that key
+  -- a name among the keys under a hash is the index of an entry under it, with that key
   pub keys_under-at : (es : List (Entry K V)) (i : ℕ) (key : K) → Contains (keys_under hash es) (i, key) → (e : Entry K V) × (slice_get es i ≡ Some e) × (is_under hash e ≡ true) × (key ≡ entry_key e)
   keys_under-at es i key there =
       let at = keys-at 0 es (i, key) there in
@@ -173,9 +173,9 @@ module _ {K V : Type 0} (eq : K → K → Bool) (t : K → Bool) (alike : (x y :
       (subst (λ z. stands_under (entry_hash z) (eq (entry_key z)) (get_or es j d) ≡ false) (get_or_from_slice_get es i d d at_i) (single i j d below (slice_get_within es j e at_j))) in
       false≢true (sym apart ∙ ap (λ b. b && eq (entry_key d) (entry_key e)) (same_hash d e does_d.0 does_e.0) ∙ alike (entry_key d) (entry_key e) does_d.1 does_e.1)
 
-  -- a single list has one place at most whose entry passes
-  same_place : (i j : ℕ) (d e : Entry K V) → slice_get es i ≡ Some d → slice_get es j ≡ Some e → Passes d → Passes e → i ≡ j
-  same_place i j d e at_i at_j does_d does_e = elim (cases_order i j) [
+  -- a single list has one index at most whose entry passes
+  same_index : (i j : ℕ) (d e : Entry K V) → slice_get es i ≡ Some d → slice_get es j ≡ Some e → Passes d → Passes e → i ≡ j
+  same_index i j d e at_i at_j does_d does_e = elim (cases_order i j) [
     | inl same ↦ same
     | inr sides ↦ elim sides [
       | inl less ↦ absurd (clash i j d e less at_i at_j does_d does_e)
@@ -185,21 +185,21 @@ module _ {K V : Type 0} (eq : K → K → Bool) (t : K → Bool) (alike : (x y :
 
   -- and it is the position
   pub position_of-only : (i : ℕ) (e : Entry K V) → slice_get es i ≡ Some e → is_under hash e ≡ true → t (entry_key e) ≡ true → position_of hash t es ≡ Some i
-  position_of-only i e at under does = at_place (position_of hash t es) refl where
-    at_place : (place : Option ℕ) → position_of hash t es ≡ place → place ≡ Some i
-    at_place None is = absurd (false≢true (
+  position_of-only i e at under does = at_index (position_of hash t es) refl where
+    at_index : (index : Option ℕ) → position_of hash t es ≡ index → index ≡ Some i
+    at_index None is = absurd (false≢true (
         sym (subst (λ z. stands_under hash t z ≡ false) (get_or_from_slice_get es i e e at) (position-None (stands_under hash t) es is i e (slice_get_within es i e at)))
         ∙ passes e (under, does)))
-    at_place (Some j) is =
+    at_index (Some j) is =
         let d = there es j (position-within (stands_under hash t) es j is) in
         let both = and_parts (is_under hash d.0) (t (entry_key d.0))
         (subst (λ z. stands_under hash t z ≡ true) (get_or_from_slice_get es j d.0 d.0 d.1) (position-passes (stands_under hash t) es j d.0 is)) in
-        ap (λ k. Some k) (same_place j i d.0 e d.1 at both (under, does))
+        ap (λ k. Some k) (same_index j i d.0 e d.1 at both (under, does))
 
   module _ {F : Type 0} (g : Mut F (Bor K × Unit {0}) Bool) (f : F) (test : IsTest g t f) where
-    answered : (answer : Option ℕ) (last : F) → Searches g (keys_under hash es) f answer last → (place : Option ℕ) → answer ≡ place → place ≡ position_of hash t es
+    answered : (answer : Option ℕ) (last : F) → Searches g (keys_under hash es) f answer last → (index : Option ℕ) → answer ≡ index → index ≡ position_of hash t es
     answered answer last search None is = none (position_of hash t es) refl where
-      none : (place : Option ℕ) → position_of hash t es ≡ place → None ≡ place
+      none : (index : Option ℕ) → position_of hash t es ≡ index → None ≡ index
       none None _ = refl
       none (Some j) at =
           let d = there es j (position-within (stands_under hash t) es j at) in

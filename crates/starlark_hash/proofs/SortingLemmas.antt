@@ -125,7 +125,7 @@ module _ {X : Type 0} (lt : X → X → Bool) where
     Rises-sorted_by [] = tt
     Rises-sorted_by (x ∷ xs) = Rises-insert_sorted x (sorted_by lt xs) (Rises-sorted_by xs)
 
-    -- two that do not tie with one item may change places
+    -- two that do not tie with one item may change indices
     exchanged : (a b : Bool) (x y : X) (xs : List X) → (a ≡ true → b ≡ true → ⊥) → cond b (y ∷ cond a (x ∷ xs) xs) (cond a (x ∷ xs) xs) ≡ cond a (x ∷ cond b (y ∷ xs) xs) (cond b (y ∷ xs) xs)
     exchanged true true x y xs apart = absurd (apart refl refl)
     exchanged true false x y xs apart = refl

@@ -23,7 +23,7 @@ module _ {K V : Type 0} where
   abbrev pub same_entry : (K → K → Bool) → (V → V → Bool) → Entry K V → Entry K V → Bool
   same_entry key_eq value_eq d e = (hash_number (entry_hash d) == hash_number (entry_hash e)) && (key_eq (entry_key d) (entry_key e) && value_eq (entry_value d) (entry_value e))
 
-  -- whether two lists are as long and have the same entries, place by place
+  -- whether two lists are as long and have the same entries, item by item
   abbrev pub same_ordered : (K → K → Bool) → (V → V → Bool) → List (Entry K V) → List (Entry K V) → Bool
   same_ordered key_eq value_eq = pointwise (same_entry key_eq value_eq)
 

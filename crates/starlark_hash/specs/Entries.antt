@@ -1,4 +1,4 @@
--- Lists of entries: what look-ups, insertions and removals are to them. A list is written from the front; places count from 0.
+-- Lists of entries: what look-ups, insertions and removals are to them. A list is written from the front; indices count from 0.
 use Rattle.std.specs.Prelude.{◌≡◌, ℕ, zero, suc, Bool, false, ◌&&◌, ◌==◌, List, [], ◌∷◌, Option, AllPairs, position, remove, slice_get}
 use Rattle.std.specs.Option.{option_map, option_map_or, option_and_then}
 use Rattle.starlark_hash.specs.declared.hash_value.StarlarkHashValue.{StarlarkHashValue}
@@ -34,37 +34,37 @@ module _ {K V : Type 0} where
   abbrev pub stands_under : StarlarkHashValue → (K → Bool) → Entry K V → Bool
   stands_under hash passes e = is_under hash e && passes (entry_key e)
 
-  -- the first place under this hash whose key passes
+  -- the first index under this hash whose key passes
   abbrev pub position_of : StarlarkHashValue → (K → Bool) → List (Entry K V) → Option ℕ
   position_of hash passes es = position (stands_under hash passes) es
 
-  -- the entry at a place that may be none
+  -- the entry at an index that may be none
   abbrev pub entry_at : List (Entry K V) → Option ℕ → Option (Entry K V)
-  entry_at es place = option_and_then (slice_get es) place
+  entry_at es index = option_and_then (slice_get es) index
 
-  -- the value at a place that may be none
+  -- the value at an index that may be none
   abbrev pub value_at : List (Entry K V) → Option ℕ → Option V
-  value_at es place = option_map entry_value (entry_at es place)
+  value_at es index = option_map entry_value (entry_at es index)
 
-  -- the list with this value at a place
+  -- the list with this value at an index
   abbrev pub set_value_at : List (Entry K V) → ℕ → V → List (Entry K V)
   set_value_at [] i value = []
   set_value_at (e ∷ es) zero value = (e.0, value) ∷ es
   set_value_at (e ∷ es) (suc i) value = e ∷ set_value_at es i value
 
-  -- the list with this value at a place; where there is no place, the list itself
+  -- the list with this value at an index; where there is no index, the list itself
   abbrev pub with_value : List (Entry K V) → Option ℕ → V → List (Entry K V)
-  with_value es place value = option_map_or (λ i. set_value_at es i value) place es
+  with_value es index value = option_map_or (λ i. set_value_at es i value) index es
 
-  -- the list without the entry at the place; where there is no place, the list itself
+  -- the list without the entry at the index; where there is no index, the list itself
   abbrev pub without : List (Entry K V) → Option ℕ → List (Entry K V)
-  without es place = option_map_or (remove es) place es
+  without es index = option_map_or (remove es) index es
 
 module _ {K V : Type 0} (eq : K → K → Bool) where
-  -- the first place with this hash and an equal key
+  -- the first index with this hash and an equal key
   abbrev pub match_of : List (Entry K V) → Hashed K → Option ℕ
   match_of es key = position_of (hash_of key) (eq (key_of key)) es
 
-  -- no two places have the same hash and equal keys
+  -- no two indices have the same hash and equal keys
   abbrev pub IsSingle : List (Entry K V) → Type 0
   IsSingle es = AllPairs (λ d e. stands_under (entry_hash d) (eq (entry_key d)) e ≡ false) es

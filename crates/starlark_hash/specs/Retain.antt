@@ -5,7 +5,7 @@ use Rattle.std.specs.Borrow.{Bor, MutBor}
 use Rattle.std.specs.Fn.{Mut, Takes, Called}
 use Rattle.starlark_hash.specs.Entries.{Entry, entry_key, entry_value}
 
--- `calls f x keeps y g`: a call of f at the item x may answer `keeps`, and leave y in the item's place and g as the closure
+-- `calls f x keeps y g`: a call of f at the item x may answer `keeps`, and leave y for the item and g as the closure
 module _ {F X : Type 0} (calls : F → X → Bool → X → F → Type 0) where
   -- a call at this item may leave the closure so
   abbrev pub MayLeave : F → X → F → Type 0

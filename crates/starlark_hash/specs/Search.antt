@@ -30,6 +30,6 @@ module _ {F N X : Type 0} (g : Mut F (Bor X × Unit {0}) Bool) where
     pub at : (before : List (N × X)) (p : N × X) (after : List (N × X)) (later : F)
         → IsPermutation items (before ++ p ∷ after) → Refuses f before later → TakesAt g later p.1
 
--- the places under a hash, each with its key
+-- the indices under a hash, each with its key
 abbrev pub keys_under : {K V : Type 0} → StarlarkHashValue → List (Entry K V) → List (ℕ × K)
 keys_under hash es = map (λ p. (p.0, entry_key p.1)) (filter (λ p. is_under hash p.1) (enumerate_from 0 es))

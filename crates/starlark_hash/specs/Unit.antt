@@ -45,6 +45,6 @@ module _ {T : Type 0} where
   abbrev pub deref_hashed : Hashed (Bor T) → Hashed T
   deref_hashed h = hashed (hash_of h) (key_of h).now
 
--- a step of an iterator that gives each item beside `()`, as a set puts it in
+-- a step of an iterator that gives each item beside `()`, as a set puts it into its map
 abbrev pub StepsBeside : {S A : Type 0} → (S → Option A → S → Type 0) → S → Option (A × Unit {0}) → S → Type 0
 StepsBeside steps s r t = steps s (option_map (λ p. p.0) r) t

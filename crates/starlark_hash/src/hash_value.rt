@@ -51,7 +51,7 @@ impl StarlarkHashValue {
         self.0
     }
 
-    /// A 64-bit hash from this one, for tables that take their places from the upper bits. Different hashes
+    /// A 64-bit hash from this one, for tables that take their slots from the upper bits. Different hashes
     /// have different ones.
     #[inline]
     pub fn promote(self) -> u64

@@ -94,7 +94,7 @@ module _ {K V : Type 0} (cmp : K → K → Ordering) where
       ∙ ap (λ key. is_lt (cmp (entry_key (get_or es (k + 1) d)) key.key)) (set_value_at-key es i value k d)
       ∙ up k d low inside
 
-  pub Ascends-with_value : (es : List (Entry K V)) (place : Option ℕ) (value : V) → Ascends cmp es → Ascends cmp (with_value es place value)
+  pub Ascends-with_value : (es : List (Entry K V)) (index : Option ℕ) (value : V) → Ascends cmp es → Ascends cmp (with_value es index value)
   Ascends-with_value es None value up = up
   Ascends-with_value es (Some i) value up = Ascends-set_value_at es i value up
 

@@ -24,7 +24,7 @@ position-map : {A B : Type 0} (f : A → B) (p : B → Bool) (xs : List A) → p
 position-map f p [] = refl
 position-map f p (x ∷ xs) =
     position-cons p (f x) (map f xs)
-    ∙ ap (λ place. cond (p (f x)) (Some 0) (option_map suc place)) (position-map f p xs)
+    ∙ ap (λ index. cond (p (f x)) (Some 0) (option_map suc index)) (position-map f p xs)
     ∙ sym (position-cons (λ y. p (f y)) x xs)
 
 module _ {V : Type 0} where
@@ -37,9 +37,9 @@ module _ {V : Type 0} where
   text_entries-push [] e = refl
   text_entries-push (d ∷ es) e = ap (λ more. text_entry d ∷ more) (text_entries-push es e)
 
-  placed : (es : List (Entry (String Global) V)) (key : Hashed (String Global)) (value : V) (place : Option ℕ)
-      → text_entries (option_map_or (λ i. set_value_at es i value) place (es ++ (key, value) ∷ []))
-      ≡ option_map_or (λ i. set_value_at (text_entries es) i value) place (text_entries es ++ text_entry (key, value) ∷ [])
+  placed : (es : List (Entry (String Global) V)) (key : Hashed (String Global)) (value : V) (index : Option ℕ)
+      → text_entries (option_map_or (λ i. set_value_at es i value) index (es ++ (key, value) ∷ []))
+      ≡ option_map_or (λ i. set_value_at (text_entries es) i value) index (text_entries es ++ text_entry (key, value) ∷ [])
   placed es key value None = text_entries-push es (key, value)
   placed es key value (Some i) = sym (set_value_at-text_entries es i value)
 
@@ -48,7 +48,7 @@ module _ {V : Type 0} where
       → text_entries (insert_entry string_eq es key value) ≡ insert_entry bytes_eq (text_entries es) (text_entry (key, value)).0 value
   text_entries-insert_entry es key value =
       placed es key value (match_of string_eq es key)
-      ∙ ap (λ place. option_map_or (λ i. set_value_at (text_entries es) i value) place (text_entries es ++ text_entry (key, value) ∷ []))
+      ∙ ap (λ index. option_map_or (λ i. set_value_at (text_entries es) i value) index (text_entries es ++ text_entry (key, value) ∷ []))
       (sym (position-map text_entry (stands_under (hash_of key) (bytes_eq (string_bytes (key_of key)))) es))
 
   -- the same of a string under its own hash, of which the text is known
@@ -64,8 +64,8 @@ set_unit_at (e ∷ es) zero = refl
 set_unit_at (e ∷ es) (suc i) = ap (λ more. e ∷ more) (set_unit_at es i)
 
 -- what an insertion into a set leaves
-pub element_inserted : (old new : Set (String Global)) (element : Hashed (String Global)) (place : Option ℕ)
-    → MatchOption place (IsInserted old element tt new) (λ i. (true ≡ true) × (new ≡ old))
-    → new.entries ≡ option_map_or (λ i. set_value_at old.entries i tt) place (old.entries ++ (element, tt) ∷ [])
+pub element_inserted : (old new : Set (String Global)) (element : Hashed (String Global)) (index : Option ℕ)
+    → MatchOption index (IsInserted old element tt new) (λ i. (true ≡ true) × (new ≡ old))
+    → new.entries ≡ option_map_or (λ i. set_value_at old.entries i tt) index (old.entries ++ (element, tt) ∷ [])
 element_inserted old new element None added = added.entries
 element_inserted old new element (Some i) same = ap (λ s. s.entries) same.1 ∙ sym (set_unit_at old.entries i)

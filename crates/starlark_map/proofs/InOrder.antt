@@ -54,7 +54,7 @@ inserted_after es [] up = sym (append-nil es)
 inserted_after es (x ∷ xs) up =
     let again : es ++ x ∷ [] ++ xs ≡ es ++ (x ∷ [] ++ xs) = append_assoc es (x ∷ []) xs in
     let new = match_of-above es x.0 (above (keys es) (entry_key x) (keys xs) (subst Ascend (map-append entry_key es (x ∷ xs)) up)) in
-    ap (λ place. insert_all bytes_eq (option_map_or (λ i. set_value_at es i x.1) place (es ++ x ∷ [])) xs) new
+    ap (λ index. insert_all bytes_eq (option_map_or (λ i. set_value_at es i x.1) index (es ++ x ∷ [])) xs) new
     ∙ inserted_after (es ++ x ∷ []) xs (subst (λ l. Ascend (keys l)) (sym again) up)
     ∙ again
 

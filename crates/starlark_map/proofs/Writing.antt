@@ -38,7 +38,7 @@ or_none : (o : Option Data) → option_or o None ≡ o
 or_none None = refl
 or_none (Some d) = refl
 
--- each key has the value of its last place
+-- each key has the value of its last index
 pub get_member-put_all : (q : Text) (ps : List (Text × ℤ)) → get_member q (put_all no_members ps) ≡ option_map integer (last_value ps q)
 get_member-put_all q ps = found_in q no_members ps ∙ or_none (option_map integer (last_value ps q))
 

@@ -24,7 +24,7 @@ abbrev pub elements_of : Items → Option Elements
 elements_of no_items = Some []
 elements_of (item d ds) = option_and_then (λ text. option_map (λ es. (own_text text, tt) ∷ es) (elements_of ds)) (as_str d)
 
--- the elements of the set that a value is: an array's items, inserted one after the other, so that a text keeps its first place
+-- the elements of the set that a value is: an array's items, inserted one after the other, so that a text keeps its first index
 abbrev pub set_entries : Data → Option Elements
 set_entries d = option_map (insert_all bytes_eq []) (option_and_then elements_of (as_array d))
 

@@ -23,7 +23,7 @@ put_all ms (p ∷ ps) = put_all (put p.0 (number (of_integer p.1)) ms) ps
 abbrev pub object_of : List (Text × ℤ) → Data
 object_of ps = object (put_all no_members ps)
 
--- the value at the last place of a key
+-- the value at the last index of a key
 abbrev pub last_value : List (Text × ℤ) → Text → Option ℤ
 last_value [] key = None
 last_value (p ∷ ps) key = option_or (last_value ps key) (if bytes_eq key p.0 then Some p.1 else None)

@@ -17,7 +17,7 @@ module _ (K V : RattleType) (cmp : K.Denot → K.Denot → Ordering) (eq : K.Den
   the_row = sorted.the_row K V (record { cmp = cmp }) (record { eq = eq }) (record { partial_cmp = partial_cmp }) (record { hash_input = feeds })
 
   module _ (s : MutBor (Map K.Denot V.Denot)) where
-    -- the value at the place that was found ends as what is left behind the reference, a look-up then finds it, and all else
+    -- the value at the index that was found ends as what is left behind the reference, a look-up then finds it, and all else
     -- stays; where none was found, the map stays
     abbrev pub lends_get : (K.Denot → Bool) → StarlarkHashValue → Option (MutBor V.Denot) → Fml
     lends_get test hash r = LendsSo the_row V s r

@@ -16,23 +16,23 @@ module _ {K V : Type 0} where
   keys_of-set_value_at (e ∷ es) zero value = refl
   keys_of-set_value_at (e ∷ es) (suc i) value = ap (λ keys. e.0 ∷ keys) (keys_of-set_value_at es i value)
 
-  -- what replaces a value at some place keeps the keys
-  pub keys_of-placed : (es : List (Entry K V)) (key : Hashed K) (value : V) (place : Option ℕ) → IsSome place
-      → keys_of (option_map_or (λ i. set_value_at es i value) place (es ++ (key, value) ∷ [])) ≡ keys_of es
+  -- what replaces a value at some index keeps the keys
+  pub keys_of-placed : (es : List (Entry K V)) (key : Hashed K) (value : V) (index : Option ℕ) → IsSome index
+      → keys_of (option_map_or (λ i. set_value_at es i value) index (es ++ (key, value) ∷ [])) ≡ keys_of es
   keys_of-placed es key value None there = absurd (false≢true there)
   keys_of-placed es key value (Some i) there = keys_of-set_value_at es i value
 
-  -- and so does a call that does so, or is refused where there is no place
-  pub keys_of-inserted : {T E : Type 0} (es fs : List (Entry K V)) (key : Hashed K) (value : V) (place : Option ℕ) (r : Result T E)
-      → OnOk r (fs ≡ option_map_or (λ i. set_value_at es i value) place (es ++ (key, value) ∷ [])) → OnErr r (place ≡ None) → IsSome place → keys_of fs ≡ keys_of es
-  keys_of-inserted es fs key value place (Ok t) put absent there = ap keys_of put ∙ keys_of-placed es key value place there
-  keys_of-inserted es fs key value place (Err e) put absent there = absurd (false≢true (sym (ap is_some absent) ∙ there))
+  -- and so does a call that does so, or is refused where there is no index
+  pub keys_of-inserted : {T E : Type 0} (es fs : List (Entry K V)) (key : Hashed K) (value : V) (index : Option ℕ) (r : Result T E)
+      → OnOk r (fs ≡ option_map_or (λ i. set_value_at es i value) index (es ++ (key, value) ∷ [])) → OnErr r (index ≡ None) → IsSome index → keys_of fs ≡ keys_of es
+  keys_of-inserted es fs key value index (Ok t) put absent there = ap keys_of put ∙ keys_of-placed es key value index there
+  keys_of-inserted es fs key value index (Err e) put absent there = absurd (false≢true (sym (ap is_some absent) ∙ there))
 
   -- the map was made, and has room for so many new entries
   abbrev pub HasRoom : {E : Type 0} → ℕ → Result (Map K V) E → Type 0
   HasRoom n r = MatchResult r (λ m. n ≤ m.room) (λ _. ⊥)
 
-  -- an insertion into a map with room is not refused, and takes at most one place of it
+  -- an insertion into a map with room is not refused, and takes at most one index of it
   pub HasRoom-inserted : {E : Type 0} (eq : K → K → Bool) (key : Hashed K) (value : V) (n : ℕ) (r s : Result (Map K V) E) → HasRoom (n + 1) r
       → MatchResult r (λ old. IfOk s (λ new. new.entries ≡ insert_entry eq old.entries key value)) (λ _. IsErr s)
       → IfOk r (λ old. 0 < old.room → IsOk s) → IfOk r (λ old. IfOk s (LeavesMemory eq old key)) → HasRoom n s

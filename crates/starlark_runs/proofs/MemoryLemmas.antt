@@ -16,12 +16,12 @@ use Rattle.starlark_runs.specs.declared.command.Reply.{Reply}
 use Rattle.starlark_runs.specs.declared.command.Reply.TheVariants.{Found, Shown, Count, Old, Refused, Taken, TakenHashed, Done, NoMemory}
 
 module _ {K V : Type 0} where
-  pub length-with_value : (es : List (Entry K V)) (place : Option ℕ) (value : V) → length (with_value es place value) ≡ length es
+  pub length-with_value : (es : List (Entry K V)) (index : Option ℕ) (value : V) → length (with_value es index value) ≡ length es
   length-with_value es None value = refl
   length-with_value es (Some i) value = length-set_value_at es i value
 
-  length-inserted_at : (es : List (Entry K V)) (place : Option ℕ) (e : Entry K V) (value : V)
-      → length (option_map_or (λ i. set_value_at es i value) place (es ++ e ∷ [])) ≡ cond (is_none place) (length es + 1) (length es)
+  length-inserted_at : (es : List (Entry K V)) (index : Option ℕ) (e : Entry K V) (value : V)
+      → length (option_map_or (λ i. set_value_at es i value) index (es ++ e ∷ [])) ≡ cond (is_none index) (length es + 1) (length es)
   length-inserted_at es None e value = length-append es (e ∷ [])
   length-inserted_at es (Some i) e value = length-set_value_at es i value
 

@@ -1,4 +1,4 @@
--- Lists of entries that are equal place by place.
+-- Lists of entries that are equal item by item.
 use Rattle.std.proofs.Common.{◌≡◌, ℕ, suc, Bool, true, false, cond, ◌&&◌, ◌++◌, List, [], ◌∷◌, length, Option, Some, refl, ap, ◌∙◌, nat_eq, eq-eqb}
 use Rattle.std.specs.List.{list_all}
 use Rattle.std.specs.Hash as fed
@@ -72,7 +72,7 @@ module _ {K V : Type 0} (eq : K → K → Bool) (E : V → V → Bool) where
   agree : IsEquivalence eq → (ds es : List (Entry K V)) → same_ordered eq E ds es ≡ true → (q : Hashed K) → agree_at eq E ds es q ≡ true
   agree o ds es same q = (λ i. option_eq E (value_at-lookup eq ds q i) (value_at-lookup eq es q i)) ∙ lookups_agree o ds es same q
 
-  -- lists that are equal place by place have the same entries
+  -- lists that are equal item by item have the same entries
   pub same_entries-same_ordered : IsEquivalence eq → (ds es : List (Entry K V)) → same_ordered eq E ds es ≡ true → same_entries eq E ds es ≡ true
   same_entries-same_ordered o ds es same =
       let each = agree o ds es same in

@@ -48,7 +48,7 @@ raised true c now = omega arith
 raised false c now = omega arith
 
 module _ {K V : Type 0} where
-  length-without : (es : List (Entry K V)) (place : Option ℕ) → length (without es place) ≤ length es
+  length-without : (es : List (Entry K V)) (index : Option ℕ) → length (without es index) ≤ length es
   length-without es None = omega arith
   length-without es (Some i) = length-remove_at_most es i
 

@@ -7,7 +7,7 @@ use starlark_hash::Hashed;
 pub enum Command<K, V> {
     /// Looks up a hash and key. The reply is `Found`.
     Look(Hashed<K>),
-    /// Asks for the entry at a place. The reply is `Shown`.
+    /// Asks for the entry at an index. The reply is `Shown`.
     At(usize),
     /// Asks for the first entry. The reply is `Shown`.
     First,
@@ -22,7 +22,7 @@ pub enum Command<K, V> {
     Change(Hashed<K>, V),
     /// Removes the entry under this hash and key. The reply is `Taken`.
     Remove(Hashed<K>),
-    /// Removes the entry at a place. The reply is `TakenHashed`.
+    /// Removes the entry at an index. The reply is `TakenHashed`.
     RemoveAt(usize),
     /// Removes the last entry. The reply is `Taken`.
     Pop,
@@ -42,7 +42,7 @@ pub enum Command<K, V> {
 /// The reply to a command.
 #[derive(Debug, Drop)]
 pub enum Reply<K, V, R> {
-    /// The place of the entry, and what `look` shows of it, if there is one.
+    /// The index of the entry, and what `look` shows of it, if there is one.
     Found(Option<(usize, R)>),
     /// What `look` shows of the entry, if there is one.
     Shown(Option<R>),

@@ -6,7 +6,7 @@ ghost use Rattle.starlark_hash.specs.Entries.{match_of, value_at, with_value};
 use starlark_hash::{Hashed, NoRoom};
 use starlark_small::SmallMap;
 
-/// An insertion of a key that is there is never refused and hands the old value back. All keys keep their places and
+/// An insertion of a key that is there is never refused and hands the old value back. All keys keep their indices and
 /// their hashes, the stored key among them; what changes is the one value. Room, capacity and index stay.
 pub fn insertion_of_a_present_key<K: Eq + Drop, V>(
     map: &mut SmallMap<K, V>,

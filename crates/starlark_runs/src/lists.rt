@@ -14,7 +14,7 @@ ghost use Rattle.starlark_hash.specs.Compare.{same_ordered, ordered_feed};
 
 use std::hash::Hash;
 
-/// An insertion of a key that is there keeps each place and each stored key under its hash.
+/// An insertion of a key that is there keeps each index and each stored key under its hash.
 pub fn insertion_keeps_keys<K: Eq, V>()
     ensures { (es : List (Entry K V)) (key : Hashed K) (value : V) → IsSome (match_of K.eq es key) → keys_of (insert_entry K.eq es key value) ≡ keys_of es }
 {}

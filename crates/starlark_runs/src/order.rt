@@ -9,7 +9,7 @@ use starlark_hash::Hashed;
 use starlark_small::SmallMap;
 use std::alloc::AllocError;
 
-/// A list that is turned round twice is the list. Capacity and index stay, and no room is lost. It answers the place of a
+/// A list that is turned round twice is the list. Capacity and index stay, and no room is lost. It answers the index of a
 /// key between, in the list that is turned round once.
 pub fn reverse_twice<K: Eq, V>(map: &mut SmallMap<K, V>, key: Hashed<&K>) -> Option<usize>
     ensures between { result ≡ position_of (hash_of key.entry) (K.eq (key_of key.entry).now) (reverse map.old.entries) }
@@ -18,9 +18,9 @@ pub fn reverse_twice<K: Eq, V>(map: &mut SmallMap<K, V>, key: Hashed<&K>) -> Opt
 {
     map.reverse();
     let turned = map;
-    let place = turned.get_index_of_hashed(key);
+    let index = turned.get_index_of_hashed(key);
     turned.reverse();
-    place
+    index
 }
 
 /// To sort twice is the same as once: only the first sort may be refused, and the second changes nothing.

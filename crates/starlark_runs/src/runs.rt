@@ -12,14 +12,14 @@ use starlark_small::SmallMap;
 use std::alloc::{AllocError, Global};
 use std::mem;
 
-// The place of a key, and what `look` shows of the entry there.
+// The index of a key, and what `look` shows of the entry there.
 fn found_under<K: Eq, V, R, F: Fn(&K, &V) -> R>(
     map: &SmallMap<K, V>,
     key: &Hashed<K>,
     look: &F,
 ) -> Option<(usize, R)>
     requires { (e : Entry K V) → entry_at map.now.entries (match_of K.eq map.now.entries key.now) ≡ Some e → TakesEntry F.Fn look.now e }
-    ensures place { option_map (λ found. found.0) result ≡ match_of K.eq map.now.entries key.now }
+    ensures index { option_map (λ found. found.0) result ≡ match_of K.eq map.now.entries key.now }
     ensures shown { IsShown (Shows F.Fn look.now) (entry_at map.now.entries (match_of K.eq map.now.entries key.now)) (option_map (λ found. found.1) result) }
 {
     match map.get_full_hashed(key.as_ref()) {
@@ -28,7 +28,7 @@ fn found_under<K: Eq, V, R, F: Fn(&K, &V) -> R>(
     }
 }
 
-// What `look` shows of the entry at a place.
+// What `look` shows of the entry at an index.
 fn shown_at<K: Eq, V, R, F: Fn(&K, &V) -> R>(map: &SmallMap<K, V>, i: usize, look: &F) -> Option<R>
     requires { (e : Entry K V) → slice_get map.now.entries i ≡ Some e → TakesEntry F.Fn look.now e }
     ensures { IsShown (Shows F.Fn look.now) (slice_get map.now.entries i) result }

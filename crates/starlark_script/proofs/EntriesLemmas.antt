@@ -19,13 +19,13 @@ use Rattle.starlark_script.specs.Replies.{bytes_cmp}
 use Rattle.starlark_script.specs.ShownEntries.{shown_entry, entries_of}
 use Rattle.starlark_script.proofs.Images.{position-map, remove-map, reverse-map, sorted_by-map, ascends-map}
 
--- a search by bytes finds the same place
+-- a search by bytes finds the same index
 pub position_of-entries_of : (es : List (Entry (String Global) ℤ)) (hash : StarlarkHashValue) (passes : List ℕ → Bool)
     → position_of hash passes (entries_of es) ≡ position_of hash (λ key. passes (string_bytes key)) es
 position_of-entries_of es hash passes = position-map shown_entry _ es
 
 -- and the same value there
-pub value_at-entries_of : (es : List (Entry (String Global) ℤ)) (place : Option ℕ) → value_at (entries_of es) place ≡ value_at es place
+pub value_at-entries_of : (es : List (Entry (String Global) ℤ)) (index : Option ℕ) → value_at (entries_of es) index ≡ value_at es index
 value_at-entries_of es None = refl
 value_at-entries_of es (Some i) = ap (option_map entry_value) (slice_get-map shown_entry es i) ∙ same (slice_get es i)
   where
@@ -52,12 +52,12 @@ entries_of-push (d ∷ es) e = ap (λ more. shown_entry d ∷ more) (entries_of-
 pub insert_entry-entries_of : (es : List (Entry (String Global) ℤ)) (key : Hashed (String Global)) (value : ℤ)
     → insert_entry bytes_eq (entries_of es) (hashed (hash_of key) (string_bytes (key_of key))) value ≡ entries_of (insert_entry (λ a b. bytes_eq (string_bytes a) (string_bytes b)) es key value)
 insert_entry-entries_of es key value =
-    ap (λ place. option_map_or (λ i. set_value_at (entries_of es) i value) place (entries_of es ++ shown_entry (key, value) ∷ [])) (position_of-entries_of es (hash_of key) (bytes_eq (string_bytes (key_of key))))
+    ap (λ index. option_map_or (λ i. set_value_at (entries_of es) i value) index (entries_of es ++ shown_entry (key, value) ∷ [])) (position_of-entries_of es (hash_of key) (bytes_eq (string_bytes (key_of key))))
     ∙ by (match_of (λ a b. bytes_eq (string_bytes a) (string_bytes b)) es key)
   where
-    by : (place : Option ℕ)
-        → option_map_or (λ i. set_value_at (entries_of es) i value) place (entries_of es ++ shown_entry (key, value) ∷ [])
-        ≡ entries_of (option_map_or (λ i. set_value_at es i value) place (es ++ (key, value) ∷ []))
+    by : (index : Option ℕ)
+        → option_map_or (λ i. set_value_at (entries_of es) i value) index (entries_of es ++ shown_entry (key, value) ∷ [])
+        ≡ entries_of (option_map_or (λ i. set_value_at es i value) index (es ++ (key, value) ∷ []))
     by None = sym (entries_of-push es (key, value))
     by (Some i) = set_value_at-entries_of es i value
 
@@ -83,10 +83,10 @@ pub written : (es : List (Entry (String Global) ℤ)) (hash : StarlarkHashValue)
     → entries_of (with_value es (position_of hash (λ key. bytes_eq bytes (string_bytes key)) es) value) ≡ insert_entry bytes_eq (entries_of es) (hashed hash bytes) value
 written es hash bytes old value h =
     by (position_of hash (λ key. bytes_eq bytes (string_bytes key)) es) h
-    ∙ sym (ap (λ place. option_map_or (λ i. set_value_at (entries_of es) i value) place (entries_of es ++ (hashed hash bytes, value) ∷ [])) (position_of-entries_of es hash (bytes_eq bytes)))
+    ∙ sym (ap (λ index. option_map_or (λ i. set_value_at (entries_of es) i value) index (entries_of es ++ (hashed hash bytes, value) ∷ [])) (position_of-entries_of es hash (bytes_eq bytes)))
   where
-    by : (place : Option ℕ) → Some old ≡ value_at es place
-        → entries_of (with_value es place value) ≡ option_map_or (λ i. set_value_at (entries_of es) i value) place (entries_of es ++ (hashed hash bytes, value) ∷ [])
+    by : (index : Option ℕ) → Some old ≡ value_at es index
+        → entries_of (with_value es index value) ≡ option_map_or (λ i. set_value_at (entries_of es) i value) index (entries_of es ++ (hashed hash bytes, value) ∷ [])
     by None e = absurd (none-some old (sym e))
     by (Some i) e = sym (set_value_at-entries_of es i value)
 
@@ -102,7 +102,7 @@ pub removed : (es new : List (Entry (String Global) ℤ)) (hash : StarlarkHashVa
 removed es new hash bytes e =
     ap entries_of e ∙ sym (ap (without (entries_of es)) (position_of-entries_of es hash (bytes_eq bytes)) ∙ by (position_of hash (λ key. bytes_eq bytes (string_bytes key)) es))
   where
-    by : (place : Option ℕ) → without (entries_of es) place ≡ entries_of (without es place)
+    by : (index : Option ℕ) → without (entries_of es) index ≡ entries_of (without es index)
     by None = refl
     by (Some i) = remove-map shown_entry es i
 

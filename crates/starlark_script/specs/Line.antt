@@ -15,7 +15,7 @@ pub data Line : Type 0 where
   Put : (key : Key) (value : ℤ) → Line
   Get : (key : Key) → Line
   Del : (key : Key) → Line
-  At : (place : ℕ) → Line
+  At : (index : ℕ) → Line
   Pop : Line
   Rev : Line
   Sort : Line
@@ -33,13 +33,13 @@ fields_of text = slice_split (λ b. b == 32) text
 abbrev pub hash_text : Key → List ℕ
 hash_text key = decimal (hash_number (hash_of key))
 
--- how a line is written, one field each: its word; then the number of the hash, the key, and the value; or a place; or how
+-- how a line is written, one field each: its word; then the number of the hash, the key, and the value; or an index; or how
 -- much room. Numbers are as Rust prints them
 abbrev pub fields : Line → List (List ℕ)
 fields (Put key value) = codes "put" ∷ hash_text key ∷ key_of key ∷ signed_decimal value ∷ []
 fields (Get key) = codes "get" ∷ hash_text key ∷ key_of key ∷ []
 fields (Del key) = codes "del" ∷ hash_text key ∷ key_of key ∷ []
-fields (At place) = codes "at" ∷ decimal place ∷ []
+fields (At index) = codes "at" ∷ decimal index ∷ []
 fields Pop = codes "pop" ∷ []
 fields Rev = codes "rev" ∷ []
 fields Sort = codes "sort" ∷ []
@@ -55,13 +55,13 @@ pub record IsKey (key : Key) : Type 0 where
   pub some : 0 < length (key_of key)
   pub visible : All (λ b. (33 ≤ b) × (b ≤ 126)) (key_of key)
 
--- the line's parts are such as a script may have: its key `IsKey`; its value has 64 bits; its place, or its room, is at most
+-- the line's parts are such as a script may have: its key `IsKey`; its value has 64 bits; its index, or its room, is at most
 -- 1000000
 abbrev pub IsLawful : Line → Type 0
 IsLawful (Put key value) = IsKey key × FitsSigned w64 value
 IsLawful (Get key) = IsKey key
 IsLawful (Del key) = IsKey key
-IsLawful (At place) = place ≤ 1000000
+IsLawful (At index) = index ≤ 1000000
 IsLawful Pop = Unit {0}
 IsLawful Rev = Unit {0}
 IsLawful Sort = Unit {0}

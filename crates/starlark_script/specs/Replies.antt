@@ -43,7 +43,7 @@ abbrev pub reply : Entries → Line → List ℕ
 reply es (Put key value) = value_text (value_at es (match_of bytes_eq es key))
 reply es (Get key) = value_text (value_at es (match_of bytes_eq es key))
 reply es (Del key) = value_text (value_at es (match_of bytes_eq es key))
-reply es (At place) = pair_text (option_map pair_of (slice_get es place))
+reply es (At index) = pair_text (option_map pair_of (slice_get es index))
 reply es Pop = pair_text (option_map pair_of (slice_get es (length es - 1)))
 reply es Rev = ended (codes "ok")
 reply es Sort = ended (codes "ok")
@@ -58,7 +58,7 @@ abbrev pub after : Entries → Line → Entries
 after es (Put key value) = insert_entry bytes_eq es key value
 after es (Get key) = es
 after es (Del key) = without es (match_of bytes_eq es key)
-after es (At place) = es
+after es (At index) = es
 after es Pop = remove es (length es - 1)
 after es Rev = reverse es
 after es Sort = sorted_by_key bytes_cmp es

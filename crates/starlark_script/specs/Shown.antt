@@ -18,7 +18,7 @@ abbrev pub shown : Line → script.Line
 shown (Put key value) = script.Put (shown_key key) value
 shown (Get key) = script.Get (shown_key key)
 shown (Del key) = script.Del (shown_key key)
-shown (At place) = script.At place
+shown (At index) = script.At index
 shown Pop = script.Pop
 shown Rev = script.Rev
 shown Sort = script.Sort

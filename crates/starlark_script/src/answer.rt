@@ -48,7 +48,7 @@ pub fn answer<W: Write>(
             let old = remove_key(map, key);
             write_value(writer, old)
         }
-        Line::At(place) => write_at(writer, map, place),
+        Line::At(index) => write_at(writer, map, index),
         Line::Pop => write_popped(writer, map),
         Line::Rev => {
             turn(map);
@@ -176,16 +176,16 @@ fn slim(map: &mut SmallMap<String, i64>)
     map.maybe_drop_index();
 }
 
-// Writes the key and the value at a place.
+// Writes the key and the value at an index.
 fn write_at<W: Write>(
     writer: &mut W,
     map: &SmallMap<String, i64>,
-    place: usize,
+    index: usize,
 ) -> Result<(), PlayFault>
-    ensures ok { OnOk result (Appends (W.contents writer.old) (W.contents writer.new) (pair_text (option_map pair_of (slice_get (entries_of map.now.entries) place)))) }
+    ensures ok { OnOk result (Appends (W.contents writer.old) (W.contents writer.new) (pair_text (option_map pair_of (slice_get (entries_of map.now.entries) index)))) }
     ensures err { IfErr result (λ fault. fault ≡ PlayFault.Io) }
 {
-    match map.get_index(place) {
+    match map.get_index(index) {
         None => write_text(writer, "none\n"),
         Some((key, value)) => write_pair(writer, key.as_str(), *value),
     }

@@ -10,7 +10,7 @@ use starlark_hash::text_key::TextKey;
 use starlark_hash::{Hashed, StarlarkHashValue};
 use std::str;
 
-// The largest place, and the most room, that a line names.
+// The largest index, and the most room, that a line names.
 const MOST: usize = 1_000_000;
 
 /// A line of a script: what it asks for.
@@ -22,7 +22,7 @@ pub enum Line<'a> {
     Get(Hashed<TextKey<'a>>),
     /// Remove the entry under this hash and key.
     Del(Hashed<TextKey<'a>>),
-    /// Show the entry at this place, counted from 0.
+    /// Show the entry at this index, counted from 0.
     At(usize),
     /// Remove the last entry.
     Pop,
@@ -80,7 +80,7 @@ fn line_of(text: &str) -> Option<Line<'_>>
         Fields::One("slim") => Some(Line::Slim),
         Fields::One("len") => Some(Line::Len),
         Fields::One("walk") => Some(Line::Walk),
-        Fields::Two("at", place) => Some(Line::At(count_in(place)?)),
+        Fields::Two("at", index) => Some(Line::At(count_in(index)?)),
         Fields::Two("reserve", additional) => Some(Line::Reserve(count_in(additional)?)),
         Fields::Three("get", hash, key) => Some(Line::Get(key_under(hash, key)?)),
         Fields::Three("del", hash, key) => Some(Line::Del(key_under(hash, key)?)),

@@ -16,7 +16,7 @@ use Rattle.starlark_sets.specs.Insert.{Adds}
 
 module _ {K V : Type 0} where
   -- what was found stands there
-  stands_there : (p : Entry K V → Bool) (es : List (Entry K V)) (place : Option ℕ) → position p es ≡ place → is_some (value_at es place) ≡ is_some place
+  stands_there : (p : Entry K V → Bool) (es : List (Entry K V)) (index : Option ℕ) → position p es ≡ index → is_some (value_at es index) ≡ is_some index
   stands_there p es None is = refl
   stands_there p es (Some i) is = there es i (position-within p es i is)
     where
@@ -36,12 +36,12 @@ module _ {T : Type 0} where
   set_unit_at (e ∷ es) (suc i) = ap (λ tail. e ∷ tail) (set_unit_at es i)
 
   module _ {A E : Type 0} (eq : T → T → Bool) (old new : Set T) (element : Hashed T) where
-    added : (place : Option ℕ) (r : Result A E)
-        → OnOk r (new.entries ≡ option_map_or (λ i. set_value_at old.entries i tt) place (old.entries ++ (element, tt) ∷ []))
-        → OnErr r (place ≡ None) → OnErr r (old.room ≡ 0)
+    added : (index : Option ℕ) (r : Result A E)
+        → OnOk r (new.entries ≡ option_map_or (λ i. set_value_at old.entries i tt) index (old.entries ++ (element, tt) ∷ []))
+        → OnErr r (index ≡ None) → OnErr r (old.room ≡ 0)
         → OnErr r ((new.entries ≡ old.entries) × (new.indexed ≡ old.indexed))
-        → match_of eq old.entries element ≡ place → LeavesMemory eq old element new
-        → MatchOption place (MatchResult r (λ _. IsInserted old element tt new) (λ _. IsRefused old new × (old.room ≡ 0))) (λ _. IsOk r × (new ≡ old))
+        → match_of eq old.entries element ≡ index → LeavesMemory eq old element new
+        → MatchOption index (MatchResult r (λ _. IsInserted old element tt new) (λ _. IsRefused old new × (old.room ≡ 0))) (λ _. IsOk r × (new ≡ old))
     added None (Ok a) put absent full same found left =
         let longer = ap length put ∙ length_push old.entries (element, tt) in
         record {

@@ -17,7 +17,7 @@ use Rattle.starlark_sets.proofs.Additions.{is_some-value_at}
 use Rattle.starlark_hash.specs.Lookup.{found, found_key}
 
 module _ {T A E : Type 0} (eq : T → T → Bool) (old new : Set T) (element : Hashed T) where
-  lacks_at : (place : Option ℕ) (r : Result A E) → MatchOption place (MatchResult r (λ _. IsInserted old element tt new) (λ _. IsRefused old new × (old.room ≡ 0))) (λ _. IsOk r × (new ≡ old)) → OnErr r (is_some place ≡ false)
+  lacks_at : (index : Option ℕ) (r : Result A E) → MatchOption index (MatchResult r (λ _. IsInserted old element tt new) (λ _. IsRefused old new × (old.room ≡ 0))) (λ _. IsOk r × (new ≡ old)) → OnErr r (is_some index ≡ false)
   lacks_at None (Ok a) h = tt
   lacks_at None (Err e) h = refl
   lacks_at (Some i) (Ok a) h = tt

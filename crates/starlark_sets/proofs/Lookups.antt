@@ -1,4 +1,4 @@
--- The stored keys that are found, how long a list is after a call, and what is found once an entry was taken out of its place or entries only changed places.
+-- The stored keys that are found, how long a list is after a call, and what is found once an entry was taken out of its index or entries only changed indices.
 use Rattle.std.proofs.Common.{◌≡◌, ℕ, zero, suc, ◌+◌, Bool, Bor, List, [], ◌∷◌, length, remove, Option, Some, None, Result, Ok, Err, OnOk, OnErr, IsPermutation, is_ok, is_some, slice_get, refl, subst, sym, ap, ◌∙◌}
 use Rattle.std.specs.Prelude.{if◌then◌else◌, reverse}
 use Rattle.std.specs.Cmp.{IsEquivalence}
@@ -33,7 +33,7 @@ abbrev pub FindsAlike : {K V : Type 0} → (K → K → Bool) → List (Entry K 
 FindsAlike {K = K} eq old new = (under : StarlarkHashValue) (key : K) → found (eq key) under new ≡ found (eq key) under old
 
 module _ {T : Type 0} (test : T → Bool) (hash : StarlarkHashValue) (s : Set T) where
-  -- what stands at the place that a test names is what is shown
+  -- what stands at the index that a test names is what is shown
   pub shows-element : (o : Option (Bor T)) → option_copied o ≡ element_at s (position_of hash test s.entries) → ShowsElement test hash s o
   shows-element None is =
       let stands = key_stands test hash s.entries None is in
@@ -63,14 +63,14 @@ module _ {K V : Type 0} (eq : K → K → Bool) (laws : IsEquivalence eq) where
   an_entry f y None at = cc
   an_entry f y (Some e) at = (e, refl, same_Some (f e) y (sym at))
 
-  -- the key at a place, with its hash or alone
+  -- the key at an index, with its hash or alone
   pub writes-key : (old new : List (Entry K V)) (i : ℕ) (key : Hashed K) → IsSingle eq old → Some key ≡ option_map (λ e. e.0) (slice_get old i) → new ≡ remove old i
       → Writes eq (eq key.key) key.hash old new None
   writes-key old new i key single at is =
       let e = an_entry (λ e. e.0) key (slice_get old i) at in
       subst (λ (k : Hashed K). Writes eq (eq k.key) k.hash old new None) e.2 (writes-taken eq laws old new i e.0 single e.1 is)
 
-  -- entries changed their places
+  -- entries changed their indices
   pub alike-permuted : (old new : List (Entry K V)) → IsSingle eq old → IsPermutation old new → FindsAlike eq old new
   unfolding found
   alike-permuted old new single moves under key =

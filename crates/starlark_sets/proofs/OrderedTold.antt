@@ -1,4 +1,4 @@
--- What is said of a refusal's place holds of the element that is shown there.
+-- What is said of a refusal's index holds of the element that is shown there.
 use Rattle.std.proofs.Common.{◌∙◌, Bool, Option, Result, Ok, Err, IfErr, ap}
 use Rattle.starlark_hash.specs.declared.hashed.Hashed.{Hashed}
 use Rattle.starlark_sets.specs.TryInsert.{IsPlaced, IsRefusal, IsTold, ShowsPlaced, Tries}

@@ -34,8 +34,8 @@ lacking_found eq old element none = ap (λ o. is_some (value_at old.entries o)) 
 
 module _ {T : Type 0} (eq : T → T → Bool) (laws : IsEquivalence eq) (old new : Set T) (element : Hashed T) where
   -- an element that is lacking went last
-  put_last : (place : Option ℕ) → place ≡ None → new.entries ≡ old.entries ++ (element, tt) ∷ [] → new.entries ≡ option_map_or (λ i. set_value_at old.entries i tt) place (old.entries ++ (element, tt) ∷ [])
-  put_last place none is = is ∙ sym (ap (λ o. option_map_or (λ i. set_value_at old.entries i tt) o (old.entries ++ (element, tt) ∷ [])) none)
+  put_last : (index : Option ℕ) → index ≡ None → new.entries ≡ old.entries ++ (element, tt) ∷ [] → new.entries ≡ option_map_or (λ i. set_value_at old.entries i tt) index (old.entries ++ (element, tt) ∷ [])
+  put_last index none is = is ∙ sym (ap (λ o. option_map_or (λ i. set_value_at old.entries i tt) o (old.entries ++ (element, tt) ∷ [])) none)
 
   -- an element that no look-up precedes
   pub adds-last : {A B : Type 0} {back : B} (r : Result A (NoRoom B)) → match_of eq old.entries element ≡ None → PutsLast element tt back old new r → AddsNew eq element old r new
@@ -94,8 +94,8 @@ module _ {Q T : Type 0} (eq : T → T → Bool) (laws : IsEquivalence eq) (equiv
   unfolding found
   lacking_for none = ap (value_at old.entries) none
 
-  puts_at : (place : Option ℕ) → position_of hash test old.entries ≡ place → {E : Type 0} (r : Result (Bor T) E) → AddsFor equivalent query hash old r new
-      → MatchOption place
+  puts_at : (index : Option ℕ) → position_of hash test old.entries ≡ index → {E : Type 0} (r : Result (Bor T) E) → AddsFor equivalent query hash old r new
+      → MatchOption index
       (MatchResult r (λ p. IsTrue (equivalent query p.now) × IsInserted old (hashed hash p.now) tt new) (λ _. IsRefused old new))
       (λ i. MatchResult r (λ p. (element_at old (position_of hash test old.entries) ≡ Some p.now) × (new ≡ old)) (λ _. ⊥))
       → PutsElementFor eq equivalent feeds query old r new
@@ -156,8 +156,8 @@ module _ {T B : Type 0} (eq : T → T → Bool) (laws : IsEquivalence eq) (eleme
   shows-put (Err e) is lacking handed = record { element = tt; stored = tt; equal = tt; absent = lacking; handed_back = handed }
 
 module _ {T : Type 0} (eq : T → T → Bool) (element : Hashed T) (old new : Set T) where
-  lacking_at : (place : Option ℕ) → match_of eq old.entries element ≡ place → {E : Type 0} (r : Result (Unit {0}) E)
-      → MatchOption place (MatchResult r (λ _. IsInserted old element tt new) (λ _. IsRefused old new × (old.room ≡ 0))) (λ _. IsErr r × (new ≡ old))
+  lacking_at : (index : Option ℕ) → match_of eq old.entries element ≡ index → {E : Type 0} (r : Result (Unit {0}) E)
+      → MatchOption index (MatchResult r (λ _. IsInserted old element tt new) (λ _. IsRefused old new × (old.room ≡ 0))) (λ _. IsErr r × (new ≡ old))
       → OnOk r (is_some (found (eq (key_of element)) (hash_of element) old.entries) ≡ false)
   lacking_at None at (Ok a) h = lacking_found eq old element at
   lacking_at (Some i) at (Ok a) h = absurd (false≢true h.0)
@@ -170,8 +170,8 @@ module _ {T : Type 0} (eq : T → T → Bool) (element : Hashed T) (old new : Se
   told_there there is passes (Occupied e) told = (sym is ∙ ap is_some told.1, subst (λ o. IfSome o (λ k. eq (key_of element) k ≡ true)) told.1 passes)
   told_there there is passes (Memory e) told = (sym is ∙ ap is_some told.1, tt)
 
-  full_at : (X : Type 0) (place : Option ℕ) → match_of eq old.entries element ≡ place → (e : TryInsertError T)
-      → MatchOption place (IsRefused old new × (old.room ≡ 0)) (λ _. X × (new ≡ old))
+  full_at : (X : Type 0) (index : Option ℕ) → match_of eq old.entries element ≡ index → (e : TryInsertError T)
+      → MatchOption index (IsRefused old new × (old.room ≡ 0)) (λ _. X × (new ≡ old))
       → is_some (found (eq (key_of element)) (hash_of element) old.entries) ≡ is_occupied e → is_occupied e ≡ false → old.room ≡ 0
   unfolding found
   full_at X None at e h is free = h.1
@@ -192,10 +192,10 @@ last_of [] x = refl
 last_of (y ∷ xs) x = last_of xs x
 
 module _ {Q T : Type 0} (equivalent : Q → T → Bool) (query : Q) (hash : StarlarkHashValue) (old new : Set T) (i : ℕ) (p : Bor T) where
-  shown_at : (place : Option ℕ) → position_of hash (equivalent query) old.entries ≡ place
-      → MatchOption place ((i ≡ length old.entries) × ((element : T) × IsTrue (equivalent query element) × IsInserted old (hashed hash element) tt new)) (λ j. (i ≡ j) × (new ≡ old))
+  shown_at : (index : Option ℕ) → position_of hash (equivalent query) old.entries ≡ index
+      → MatchOption index ((i ≡ length old.entries) × ((element : T) × IsTrue (equivalent query element) × IsInserted old (hashed hash element) tt new)) (λ j. (i ≡ j) × (new ≡ old))
       → option_map entry_key (slice_get new.entries i) ≡ Some p.now
-      → MatchOption place (IsTrue (equivalent query p.now) × IsInserted old (hashed hash p.now) tt new) (λ j. (element_at old (position_of hash (equivalent query) old.entries) ≡ Some p.now) × (new ≡ old))
+      → MatchOption index (IsTrue (equivalent query p.now) × IsInserted old (hashed hash p.now) tt new) (λ j. (element_at old (position_of hash (equivalent query) old.entries) ≡ Some p.now) × (new ≡ old))
   shown_at None at h is =
       let e = h.1.0 in
       let put : new.entries ≡ old.entries ++ (hashed hash e, tt) ∷ [] = h.1.2.entries in
@@ -207,6 +207,6 @@ module _ {Q T : Type 0} (equivalent : Q → T → Bool) (query : Q) (hash : Star
     h.1,
   )
 
-  -- what is said of a place holds of the element that is shown there
+  -- what is said of an index holds of the element that is shown there
   pub shown-for : (E : Type 0) → AddsAt {E = E} equivalent query hash old (Ok i) new → option_map entry_key (slice_get new.entries i) ≡ Some p.now → AddsFor {E = E} equivalent query hash old (Ok p) new
   shown-for E adds is = shown_at (position_of hash (equivalent query) old.entries) refl adds is

@@ -1,4 +1,4 @@
--- What is said of a place holds of the element that is shown there, and a set that is no longer written ends as it is. Assumes `Logic`.
+-- What is said of an index holds of the element that is shown there, and a set that is no longer written ends as it is. Assumes `Logic`.
 use Rattle.starlark_columns.proofs.Walking.{◌≡◌, ℕ, Bool, Some, Result, Ok, Err, IfOk, IfErr, slice_get, sym, ap, ◌∙◌, ⊤, option_map, unwrap_or, [], ◌∷◌, none, Ura, ent, GName, Logic, sem, ‵, ◌$◌, ◌∵◌, !, qed, fpick, fpack, done, RattleType, follows_so, such_by, follows_by}
 use Rattle.std.proofs.Common.{Bor}
 use Rattle.starlark_hash.specs.declared.hashed.Hashed.{Hashed}
@@ -8,22 +8,22 @@ use Rattle.starlark_sets.specs.Insert.{IsShown, Adds}
 use Rattle.starlark_sets.specs.Set.{Set, Elements}
 
 module _ {T E : Type 0} where
-  pub adds_shown : (eq : T → T → Bool) (old new : Set T) (element : Hashed T) (place : Result ℕ E) (r : Result (Bor T) E)
-      → IsShown new.entries place r → Adds eq old element place new → Adds eq old element r new
+  pub adds_shown : (eq : T → T → Bool) (old new : Set T) (element : Hashed T) (index : Result ℕ E) (r : Result (Bor T) E)
+      → IsShown new.entries index r → Adds eq old element index new → Adds eq old element r new
   adds_shown eq old new element (Ok i) (Ok p) shown adds = adds
   adds_shown eq old new element (Err e) (Err f) shown adds = adds
   adds_shown eq old new element (Ok i) (Err f) shown adds = absurd shown
   adds_shown eq old new element (Err e) (Ok p) shown adds = absurd shown
 
-  pub element_shown : (es : Elements T) (place : Result ℕ E) (r : Result (Bor T) E) (x : T)
-      → IsShown es place r → IfOk place (λ i. option_map entry_key (slice_get es i) ≡ Some x) → IfOk r (λ p. p.now ≡ x)
+  pub element_shown : (es : Elements T) (index : Result ℕ E) (r : Result (Bor T) E) (x : T)
+      → IsShown es index r → IfOk index (λ i. option_map entry_key (slice_get es i) ≡ Some x) → IfOk r (λ p. p.now ≡ x)
   element_shown es (Ok i) (Ok p) x shown is = ap (λ o. unwrap_or o x) (sym shown ∙ is)
   element_shown es (Err e) (Err f) x shown is = tt
   element_shown es (Ok i) (Err f) x shown is = absurd shown
   element_shown es (Err e) (Ok p) x shown is = absurd shown
 
-pub refusal_shown : {T : Type 0} (es : Elements T) (place : Result ℕ (NoRoom T)) (r : Result (Bor T) (NoRoom T)) (x : T)
-    → IsShown es place r → IfErr place (λ e. e.0 ≡ x) → IfErr r (λ e. e.0 ≡ x)
+pub refusal_shown : {T : Type 0} (es : Elements T) (index : Result ℕ (NoRoom T)) (r : Result (Bor T) (NoRoom T)) (x : T)
+    → IsShown es index r → IfErr index (λ e. e.0 ≡ x) → IfErr r (λ e. e.0 ≡ x)
 refusal_shown es (Ok i) (Ok p) x shown is = tt
 refusal_shown es (Err e) (Err f) x shown is = ap (λ n. n.0) shown ∙ is
 refusal_shown es (Ok i) (Err f) x shown is = absurd shown

@@ -11,7 +11,7 @@ use Rattle.starlark_hash.specs.Compare.{same_entry, same_ordered, ordered_feed}
 use Rattle.starlark_sets.specs.Compare.{number_of, pair_cmp, entries_cmp}
 
 module _ {K V : Type 0} {key_eq : K → K → Bool} {value_eq : V → V → Bool} where
-  -- equality place by place is an equivalence where those of keys and values are
+  -- equality item by item is an equivalence where those of keys and values are
   pub same_order_equiv : IsEquivalence key_eq → IsEquivalence value_eq → IsEquivalence (same_ordered key_eq value_eq)
   same_order_equiv a b = lists_equiv (and_equiv (on_equiv number_of nat_eq_equiv) (and_equiv (on_equiv entry_key a) (on_equiv entry_value b)))
 
@@ -19,7 +19,7 @@ module _ {K V : Type 0} {key_eq : K → K → Bool} {value_eq : V → V → Bool
   pub same_order_per : IsEquivalence key_eq → IsPartialEquivalence value_eq → IsPartialEquivalence (same_ordered key_eq value_eq)
   same_order_per a b = lists_per (and_per (on_per number_of (partial_equiv_from_equiv nat_eq_equiv)) (and_per (on_per entry_key (partial_equiv_from_equiv a)) (on_per entry_value b)))
 
--- both tests place by place are the test of both
+-- both tests item by item are the test of both
 pointwise-both : {X : Type 0} (E F : X → X → Bool) (xs ys : List X) → pointwise (eq_of_both E F) xs ys ≡ (pointwise E xs ys && pointwise F xs ys)
 pointwise-both E F [] [] = refl
 pointwise-both E F [] (y ∷ ys) = refl

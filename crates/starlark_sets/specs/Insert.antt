@@ -27,10 +27,10 @@ module _ {T : Type 0} where
   -- changes; or else one that the query stands for, now last under this hash; or it was refused
   abbrev pub AddsFor : {Q E : Type 0} → (Q → T → Bool) → Q → StarlarkHashValue → Set T → Result (Bor T) E → Set T → Type 0
   AddsFor equivalent query hash old r new =
-      let place = position_of hash (equivalent query) old.entries in
-      MatchOption place
+      let index = position_of hash (equivalent query) old.entries in
+      MatchOption index
       (MatchResult r (λ p. IsTrue (equivalent query p.now) × IsInserted old (hashed hash p.now) tt new) (λ _. IsRefused old new))
-      (λ i. MatchResult r (λ p. (element_at old place ≡ Some p.now) × (new ≡ old)) (λ _. ⊥))
+      (λ i. MatchResult r (λ p. (element_at old index ≡ Some p.now) × (new ≡ old)) (λ _. ⊥))
 
 -- what a set answers where its map answered this: whether the element was new, or the element alone
 abbrev pub new_or_back : {B : Type 0} → Result (Option (Unit {0})) (NoRoom (B × Unit {0})) → Result Bool (NoRoom B)
@@ -41,7 +41,7 @@ module _ {T B : Type 0} (eq : T → T → Bool) where
   -- this element was inserted, and whether it was new is answered; or it was new and without room, so that it comes back and all
   -- elements stay
   pub record AddsElement (element : Hashed T) (back : B) (before after : Set T) (r : Result Bool (NoRoom B)) : Type 0 where
-    -- whether it was new, by its place and by what was found; what is found now; and how many elements there are
+    -- whether it was new, by its index and by what was found; what is found now; and how many elements there are
     pub is_new : IfOk r (λ is_new. is_new ≡ not (is_some (match_of eq before.entries element)))
     pub was : IfOk r (λ is_new. is_new ≡ not (is_some (found (eq (key_of element)) (hash_of element) before.entries)))
     pub updates : OnOk r (Writes eq (eq (key_of element)) (hash_of element) before.entries after.entries (Some tt))
@@ -57,15 +57,15 @@ module _ {T B : Type 0} (eq : T → T → Bool) where
 
   -- the element that was there is shown, or else this one; only one that was lacking is refused, and what was brought comes back
   pub record ShowsPut (key : Hashed T) (back : B) (before : Set T) (r : Result (Bor T) (NoRoom B)) : Type 0 where
-    -- by its place, by what was found, and that it is equal to this one
+    -- by its index, by what was found, and that it is equal to this one
     pub element : IfOk r (λ p. p.now ≡ unwrap_or (element_at before (match_of eq before.entries key)) (key_of key))
     pub stored : IfOk r (λ p. p.now ≡ unwrap_or (found_key (eq (key_of key)) (hash_of key) before.entries) (key_of key))
     pub equal : IfOk r (λ p. IsTrue (eq (key_of key) p.now))
     pub absent : OnErr r (is_some (found (eq (key_of key)) (hash_of key) before.entries) ≡ false)
     pub handed_back : IfErr r (λ refused. refused.0 ≡ back)
 
-  -- the place of this element is answered, which was put last where it was lacking; or it was without room, and comes back
-  pub record PlacesElement (key : Hashed T) (back : B) (before after : Set T) (r : Result ℕ (NoRoom B)) : Type 0 where
+  -- the index of this element is answered, which was put last where it was lacking; or it was without room, and comes back
+  pub record AnswersIndex (key : Hashed T) (back : B) (before after : Set T) (r : Result ℕ (NoRoom B)) : Type 0 where
     pub set : Adds eq before key r after
     pub element : IfOk r (λ i. option_map entry_key (slice_get after.entries i) ≡ Some (unwrap_or (element_at before (match_of eq before.entries key)) (key_of key)))
     pub within : IfOk r (λ i. i < length after.entries)
@@ -96,10 +96,10 @@ module _ {T : Type 0} (eq : T → T → Bool) where
     -- the whole set, done or refused
     pub set : AddsFor equivalent query (own_hash feeds query) before r after
 
--- r shows the element at the place, or hands the refusal on
+-- r shows the element at the index, or hands the refusal on
 abbrev pub IsShown : {T E : Type 0} → Elements T → Result ℕ E → Result (Bor T) E → Type 0
-IsShown es place r =
-    MatchResult place
+IsShown es index r =
+    MatchResult index
     (λ i. MatchResult r (λ p. option_map entry_key (slice_get es i) ≡ Some p.now) (λ _. ⊥))
     (λ e. MatchResult r (λ _. ⊥) (λ f. f ≡ e))
 
@@ -109,4 +109,4 @@ abbrev pub AddsAt : {Q T E : Type 0} → (Q → T → Bool) → Q → StarlarkHa
 AddsAt {T = T} equivalent query hash old r new =
     MatchOption (position_of hash (equivalent query) old.entries)
     (MatchResult r (λ i. (i ≡ length old.entries) × ((element : T) × IsTrue (equivalent query element) × IsInserted old (hashed hash element) tt new)) (λ _. IsRefused old new))
-    (λ place. MatchResult r (λ i. (i ≡ place) × (new ≡ old)) (λ _. ⊥))
+    (λ index. MatchResult r (λ i. (i ≡ index) × (new ≡ old)) (λ _. ⊥))

@@ -28,7 +28,7 @@ module _ (T : RattleType) (g : eq.Ghosts T.Denot) (s : MutBor (Set T.Denot)) whe
   ordered_ends_so P = follows_so (ordered_set_type T g) (ordered_set_type T g) s.ghost_name none (λ _ _. ⊤) P
 
 module _ (K V : RattleType) (g : eq.Ghosts K.Denot) (s : MutBor (Map K.Denot V.Denot)) where
-  -- the value at the place that was found ends as what is left behind the reference, a look-up then finds it, and all else
+  -- the value at the index that was found ends as what is left behind the reference, a look-up then finds it, and all else
   -- stays; where none was found, the map stays
   abbrev pub lends_get : (K.Denot → Bool) → StarlarkHashValue → Option (MutBor V.Denot) → Fml
   lends_get test hash r = LendsSo (the_row K V g) V s r

@@ -13,6 +13,6 @@ abbrev pub Elements : Type 0 → Type 0
 Elements T = List (Entry T (Unit {0}))
 
 module _ {T : Type 0} where
-  -- the element at a place that may be none
+  -- the element at an index that may be none
   abbrev pub element_at : Set T → Option ℕ → Option T
-  element_at s place = option_map entry_key (entry_at s.entries place)
+  element_at s index = option_map entry_key (entry_at s.entries index)

@@ -44,23 +44,23 @@ module _ {T : Type 0} where
     pub refused : IfErr r (IsRefusal (element_at before (match_of eq before.entries element)) (key_of element))
     pub full : IfErr r (λ refused. is_occupied refused ≡ false → before.room ≡ 0)
 
-  -- the refused element, beside the place of the one that is there
+  -- the refused element, beside the index of the one that is there
   abbrev pub IsPlaced : Elements T → Option T → T → Refusal T → Type 0
-  IsPlaced es there value (Placed place refused) = (refused ≡ value) × (there ≡ option_map entry_key (slice_get es place))
+  IsPlaced es there value (Placed index refused) = (refused ≡ value) × (there ≡ option_map entry_key (slice_get es index))
   IsPlaced es there value (Full e) = (e.0 ≡ value) × (there ≡ None)
 
-  -- the place that the refusal names is within the list
+  -- the index that the refusal names is within the list
   abbrev pub IsWithin : Elements T → Refusal T → Type 0
-  IsWithin es (Placed place refused) = place < length es
+  IsWithin es (Placed index refused) = index < length es
   IsWithin es (Full e) = ⊤
 
-  -- the error shows the element at the refusal's place
+  -- the error shows the element at the refusal's index
   abbrev pub ShowsPlaced : Elements T → Refusal T → TryInsertError T → Type 0
-  ShowsPlaced es (Placed place refused) (Occupied e) = (e.value ≡ refused) × (option_map entry_key (slice_get es place) ≡ Some e.occupied.now)
-  ShowsPlaced es (Placed place refused) (Memory e) = ⊥
+  ShowsPlaced es (Placed index refused) (Occupied e) = (e.value ≡ refused) × (option_map entry_key (slice_get es index) ≡ Some e.occupied.now)
+  ShowsPlaced es (Placed index refused) (Memory e) = ⊥
   ShowsPlaced es (Full n) (Occupied e) = ⊥
   ShowsPlaced es (Full n) (Memory e) = e ≡ n
 
-  -- r is Ok where tried is, and else shows what its refusal places
+  -- r is Ok where tried is, and else shows what its refusal names
   abbrev pub IsTold : Elements T → Result (Unit {0}) (Refusal T) → Result (Unit {0}) (TryInsertError T) → Type 0
   IsTold es tried r = MatchResult tried (λ _. MatchResult r (λ _. ⊤) (λ _. ⊥)) (λ x. MatchResult r (λ _. ⊥) (ShowsPlaced es x))

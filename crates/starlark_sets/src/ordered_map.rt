@@ -7,7 +7,7 @@ ghost use Rattle.std.specs.Map.Iter.{deref_pair};
 ghost use Rattle.std.specs.Option.{option_copied, option_map, option_copied_mut};
 ghost use Rattle.starlark_hash.specs.Entries.{pair_of};
 ghost use Rattle.starlark_hash.specs.Hasher.{own_hash};
-ghost use Rattle.starlark_small.specs.Lookup.{FindsValue, NamesPlace, TellsPresence};
+ghost use Rattle.starlark_small.specs.Lookup.{FindsValue, NamesIndex, TellsPresence};
 ghost use Rattle.starlark_small.specs.Remove.{Removes, Clears};
 ghost use Rattle.std.specs.Borrow.{sem};
 ghost use Rattle.starlark_small.specs.Map.{own_hashed};
@@ -82,7 +82,7 @@ impl<K: Eq, V> OrderedMap<K, V> {
         self.0.get(key)
     }
 
-    /// The key and the value at a place; `None` past the end.
+    /// The key and the value at an index; `None` past the end.
     #[inline]
     pub fn get_index(&self, index: usize) -> Option<(&K, &V)>
         ensures { option_map deref_pair result ≡ option_map pair_of (slice_get self.now.entries index) }
@@ -90,10 +90,10 @@ impl<K: Eq, V> OrderedMap<K, V> {
         self.0.get_index(index)
     }
 
-    /// The place under the query's own hash whose key the query stands for.
+    /// The index under the query's own hash whose key the query stands for.
     #[inline(always)]
     pub fn get_index_of<Q: Query<K> + Hash>(&self, key: Q) -> Option<usize>
-        ensures { NamesPlace (Q.stands_for key) (own_hash Q.hash_input key) self.now result }
+        ensures { NamesIndex (Q.stands_for key) (own_hash Q.hash_input key) self.now result }
     {
         self.0.get_index_of(key)
     }
@@ -137,7 +137,7 @@ impl<K: Eq, V> OrderedMap<K, V> {
         &mut self.0
     }
 
-    /// Inserts under the key's own hash. A key that is there keeps its place and its stored key and takes the value,
+    /// Inserts under the key's own hash. A key that is there keeps its index and its stored key and takes the value,
     /// whose old one is answered; a new key goes last. Only a new key is refused, where there is no room and no memory
     /// is found: it comes back with its value, and entries and index stay. Capacity, room and index are left as
     /// `SmallMap::insert_hashed` leaves them.

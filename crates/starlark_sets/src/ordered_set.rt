@@ -7,7 +7,7 @@ ghost use Rattle.starlark_hash.specs.HashValue.{hash_of, key_of};
 ghost use Rattle.starlark_hash.specs.Entries.{entry_key, position_of, match_of};
 ghost use Rattle.starlark_hash.specs.Hasher.{own_hash};
 ghost use Rattle.starlark_hash.specs.Lookup.{found};
-ghost use Rattle.starlark_small.specs.Lookup.{NamesPlace, TellsPresence, Updates};
+ghost use Rattle.starlark_small.specs.Lookup.{NamesIndex, TellsPresence, Updates};
 ghost use Rattle.starlark_sets.specs.Lookup.{ShowsElement};
 ghost use Rattle.starlark_sets.specs.Remove.{RemovesElement};
 ghost use Rattle.std.specs.Iterator.{IsFiniteIterable, size};
@@ -97,13 +97,13 @@ impl<T: Eq> OrderedSet<T> {
     /// Whether there is an element under this hash that the query stands for.
     #[inline(always)]
     pub fn contains_hashed<Q: Query<T>>(&self, query: Hashed<Q>) -> bool
-        ensures place { result ≡ is_some (position_of (hash_of query) (Q.stands_for (key_of query)) self.now.entries) }
+        ensures index { result ≡ is_some (position_of (hash_of query) (Q.stands_for (key_of query)) self.now.entries) }
         ensures found { result ≡ is_some (found (Q.stands_for (key_of query)) (hash_of query) self.now.entries) }
     {
         self.0.contains_hashed(query)
     }
 
-    /// The element at a place; `None` past the end.
+    /// The element at an index; `None` past the end.
     #[inline]
     pub fn get_index(&self, index: usize) -> Option<&T>
         ensures { option_copied result ≡ option_map entry_key (slice_get self.now.entries index) }
@@ -111,10 +111,10 @@ impl<T: Eq> OrderedSet<T> {
         self.0.get_index(index)
     }
 
-    /// The place of the element under the query's own hash that the query stands for.
+    /// The index of the element under the query's own hash that the query stands for.
     #[inline(always)]
     pub fn get_index_of<Q: Query<T> + Hash>(&self, query: Q) -> Option<usize>
-        ensures { NamesPlace (Q.stands_for query) (own_hash Q.hash_input query) self.now result }
+        ensures { NamesIndex (Q.stands_for query) (own_hash Q.hash_input query) self.now result }
     {
         self.0.get_index_of(query)
     }

@@ -24,7 +24,7 @@ use std::marker::Model;
 ///
 /// An element stands under a hash that its caller brings, which need not be its own: a look-up finds the element of
 /// that hash that is equal. No two elements have the same hash and are equal. A list that has grown longer than
-/// `UNINDEXED` has an index of its places, which changes no answer. The walks go from both ends, with exact length and
+/// `UNINDEXED` has an index, which changes no answer. The walks go from both ends, with exact length and
 /// size hint.
 #[derive(Drop)]
 pub struct SmallSet<T: Eq> {

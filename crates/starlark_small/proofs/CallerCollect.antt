@@ -125,7 +125,7 @@ module _ {K V T : Type 0} {steps : T → Option (K × V) → T → Type 0} (p : 
   unfolding YieldsRun
   item-at k = p.gave.1 k
 
-  -- an item at a place below the length, of which this holds
+  -- an item at an index below the length, of which this holds
   any-item : (P : K × V → Type 0) (k : ℕ) (d : K × V) → k < length p.items → P (get_or p.items k d) → AnyItem p P
   any-item P k d below holds = (k, omega (arith, below, p.long), subst (λ o. IsSomeAnd o P) (sym (item-at k ∙ placed p.items k d below)) holds)
 

@@ -13,7 +13,7 @@ use Rattle.starlark_hash.specs.HashValue.{hashed, key_of, hash_of}
 use Rattle.starlark_hash.specs.Insert.{insert_entry}
 use Rattle.starlark_hash.specs.Lookup.{found, Writes, weight_of}
 use Rattle.std.specs.declared.cmp.PartialEq as PartialEq
-use Rattle.starlark_small.specs.MapEntry.{Occupied, Vacant, IsEntryOf, Puts, Refuses, entry_value_of, lacking_key, occupied_map, occupied_place, vacant_map, stored, written, with_entry_value, Enters}
+use Rattle.starlark_small.specs.MapEntry.{Occupied, Vacant, IsEntryOf, Puts, Refuses, entry_value_of, lacking_key, occupied_map, occupied_index, vacant_map, stored, written, with_entry_value, Enters}
 use Rattle.starlark_small.specs.Insert.{IsInserted, IsRefused}
 use Rattle.starlark_small.specs.declared.entry.Entry as E
 use Rattle.starlark_small.specs.declared.entry.OccupiedEntry.{OccupiedEntry}
@@ -88,7 +88,7 @@ module _ {K V : Type 0} {g : PartialEq.Ghosts K} (eq : K → K → Bool) (m : Ma
   pub inserted-puts : (e : E.Entry K V g) → IsEntryOf eq m key e → (value : V) (new : Map K V) → Puts e value new → new.entries ≡ insert_entry eq m.entries key value
   unfolding Puts
   inserted-puts (Occupied o) is value new put =
-      ap (λ n. n.entries) put ∙ ap (λ n. set_value_at n.entries (occupied_place o) value) is.0
+      ap (λ n. n.entries) put ∙ ap (λ n. set_value_at n.entries (occupied_index o) value) is.0
       ∙ sym (ap (λ p. option_map_or (λ i. set_value_at m.entries i value) p (m.entries ++ (key, value) ∷ [])) is.1)
   inserted-puts (Vacant v) is value new put =
       put.entries ∙ ap (λ n. n.entries ++ (lacking_key v, value) ∷ []) is.0 ∙ ap (λ k. m.entries ++ (k, value) ∷ []) is.2
@@ -100,7 +100,7 @@ module _ {K V : Type 0} {g : PartialEq.Ghosts K} (eq : K → K → Bool) (m : Ma
   entries-refused (Vacant v) is new refused = refused.1.entries ∙ ap (λ n. n.entries) is.0
 
   pub value-entry : (e : E.Entry K V g) → IsEntryOf eq m key e → entry_value_of e ≡ value_at m.entries (match_of eq m.entries key)
-  value-entry (Occupied o) is = ap (λ n. option_map entry_value (slice_get n.entries (occupied_place o))) is.0 ∙ sym (ap (value_at m.entries) is.1)
+  value-entry (Occupied o) is = ap (λ n. option_map entry_value (slice_get n.entries (occupied_index o))) is.0 ∙ sym (ap (value_at m.entries) is.1)
   value-entry (Vacant v) is = sym (ap (value_at m.entries) is.1)
 
 module _ {K V : Type 0} where
@@ -138,12 +138,12 @@ module _ {K V : Type 0} {g : PartialEq.Ghosts K} where
 
   -- an entry that was written has that value, and what is put under it is put under the first
   pub value-with_entry_value : (o : OccupiedEntry K V g) (u : V) → option_map entry_value (stored (with_entry_value o u)) ≡ Some u
-  value-with_entry_value o u = value_set (occupied_map o).now.entries (occupied_place o) u o.within
+  value-with_entry_value o u = value_set (occupied_map o).now.entries (occupied_index o) u o.within
 
   pub puts-with_entry_value : (o : OccupiedEntry K V g) (u value : V) (new : Map K V) → Puts (Occupied (with_entry_value o u)) value new → Puts (Occupied o) value new
   unfolding Puts
   puts-with_entry_value o u value new put =
-      put ∙ ap (λ es. record (occupied_map o).now { entries = es }) (set_twice (occupied_map o).now.entries (occupied_place o) u value)
+      put ∙ ap (λ es. record (occupied_map o).now { entries = es }) (set_twice (occupied_map o).now.entries (occupied_index o) u value)
 
 pub enters-entry : {K V : Type 0} {g : PartialEq.Ghosts K} (eq : K → K → Bool) → IsEquivalence eq → (key : Hashed K) (m : Map K V) (e : E.Entry K V g) → IsEntryOf eq m key e → Enters eq key m e
 enters-entry eq laws key m e is =

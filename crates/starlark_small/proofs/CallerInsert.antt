@@ -109,8 +109,8 @@ module _ {K V : Type 0} (measure : V → ℕ) where
   part-of (e ∷ es) zero = omega (arith, total-cons e es)
   part-of (e ∷ es) (suc i) = omega (arith, total-cons e es, part-of es i)
 
-  -- a value that stands at a place is a part of what all weigh
-  pub part-at : (es : List (Entry K V)) (place : Option ℕ) → weight_of measure (value_at es place) ≤ total_of measure es
+  -- a value that stands at an index is a part of what all weigh
+  pub part-at : (es : List (Entry K V)) (index : Option ℕ) → weight_of measure (value_at es index) ≤ total_of measure es
   part-at es None = omega arith
   part-at es (Some i) = part-of es i
 

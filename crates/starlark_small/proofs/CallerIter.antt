@@ -23,8 +23,8 @@ module _ {K V : Type 0} where
   value-placed (e ∷ es) zero = refl
   value-placed (e ∷ es) (suc i) = value-placed es i
 
-  one-of : (es : List (Entry K V)) (place : Option ℕ) (o : Option V) → o ≡ value_at es place → IfSome o (λ v. (i : ℕ) × (i < length (map entry_value es)) × (slice_get (map entry_value es) i ≡ Some v))
-  one-of es place None is = tt
+  one-of : (es : List (Entry K V)) (index : Option ℕ) (o : Option V) → o ≡ value_at es index → IfSome o (λ v. (i : ℕ) × (i < length (map entry_value es)) × (slice_get (map entry_value es) i ≡ Some v))
+  one-of es index None is = tt
   one-of es None (Some v) is = absurd (none-some v (sym is))
   one-of es (Some i) (Some v) is =
       let at : slice_get (map entry_value es) i ≡ Some v = value-placed es i ∙ sym is in

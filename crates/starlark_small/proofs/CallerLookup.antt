@@ -15,10 +15,10 @@ use Rattle.starlark_hash.specs.Entries.{Entry, entry_key, set_value_at, value_at
 use Rattle.starlark_hash.specs.Lookup.{found, found_key}
 use Rattle.std.specs.Borrow.{Bor}
 use Rattle.std.specs.List.{IsAmong}
-use Rattle.starlark_small.specs.Lookup.{FindsEntry, FindsPair, FindsValue, NamesPlace, TellsPresence}
+use Rattle.starlark_small.specs.Lookup.{FindsEntry, FindsPair, FindsValue, NamesIndex, TellsPresence}
 use Rattle.starlark_small.specs.Map.{Map}
 
--- the first place in a list after its first item
+-- the first index in a list after its first item
 pub later : (b : Bool) (o : Option ℕ) (n : ℕ) → cond b (Some 0) (option_map suc o) ≡ Some (suc n) → o ≡ Some n
 later true o n e = absurd (omega (arith, same_Some 0 (suc n) e))
 later false None n e = absurd (none-some (suc n) e)
@@ -104,11 +104,11 @@ module _ {K V : Type 0} (q : Hashed K → Bool) where
   tests e = q e.0
 
   -- a value that is written moves no key
-  pub place-set_value_at : (es : List (Entry K V)) (i : ℕ) (value : V) → position tests (set_value_at es i value) ≡ position tests es
-  place-set_value_at [] i value = refl
-  place-set_value_at (e ∷ es) zero value = position-cons tests (e.0, value) es ∙ sym (position-cons tests e es)
-  place-set_value_at (e ∷ es) (suc i) value =
-      position-cons tests e (set_value_at es i value) ∙ ap (λ o. cond (q e.0) (Some 0) (option_map suc o)) (place-set_value_at es i value) ∙ sym (position-cons tests e es)
+  pub index-set_value_at : (es : List (Entry K V)) (i : ℕ) (value : V) → position tests (set_value_at es i value) ≡ position tests es
+  index-set_value_at [] i value = refl
+  index-set_value_at (e ∷ es) zero value = position-cons tests (e.0, value) es ∙ sym (position-cons tests e es)
+  index-set_value_at (e ∷ es) (suc i) value =
+      position-cons tests e (set_value_at es i value) ∙ ap (λ o. cond (q e.0) (Some 0) (option_map suc o)) (index-set_value_at es i value) ∙ sym (position-cons tests e es)
 
   -- the value after a first entry that is passed over
   value-later : (e : Entry K V) (es : List (Entry K V)) (o : Option ℕ) → value_at (e ∷ es) (option_map suc o) ≡ value_at es o
@@ -124,7 +124,7 @@ module _ {K V : Type 0} (q : Hashed K → Bool) where
   -- written where the key stands
   pub written_here : (es : List (Entry K V)) (i : ℕ) (w : V) → position tests es ≡ Some i → value_at (set_value_at es i w) (position tests (set_value_at es i w)) ≡ Some w
   written_here es i w at =
-      ap (value_at (set_value_at es i w)) (place-set_value_at es i w ∙ at) ∙ stands es i w (position-within tests es i at)
+      ap (value_at (set_value_at es i w)) (index-set_value_at es i w ∙ at) ∙ stands es i w (position-within tests es i at)
     where
       stands : (es : List (Entry K V)) (i : ℕ) (w : V) → i < length es → value_at (set_value_at es i w) (Some i) ≡ Some w
       stands [] i w below = absurd (omega (arith, below))
@@ -214,7 +214,7 @@ pub position_of-match : {K V : Type 0} (eq : K → K → Bool) (passes : K → B
 position_of-match eq passes one key does es = λ i. position (λ e. eqb (hash_of e.0).0 (hash_of key).0 && one (key_of key) (key_of e.0) does i) es
 
 module _ {K V : Type 0} (hash : StarlarkHashValue) (passes : K → Bool) (es : List (Entry K V)) where
-  -- there is a value where there is a place
+  -- there is a value where there is an index
   pub is_some-value_at : is_some (value_at es (position_of hash passes es)) ≡ is_some (position_of hash passes es)
   is_some-value_at = elim (position_of hash passes es) as (λ o. position_of hash passes es ≡ o → is_some (value_at es o) ≡ is_some o) [
     | None ↦ λ at. refl
@@ -240,7 +240,7 @@ module _ {K V : Type 0} (test : K → Bool) (hash : StarlarkHashValue) (es : Lis
   unfolding found
   found_is o is = is
 
-  -- there is a value where there is a place
+  -- there is a value where there is an index
   pub is_some-found : is_some (position_of hash test es) ≡ is_some (found test hash es)
   unfolding found
   is_some-found = sym (is_some-value_at hash test es)
@@ -257,14 +257,14 @@ pub empty-found : {K V : Type 0} (es : List (Entry K V)) → es ≡ [] → (test
 unfolding found
 empty-found es none test hash = ap (λ l. value_at l (position_of hash test l)) none
 
-no_place : (place : Option ℕ) → is_some place ≡ false → place ≡ None
-no_place None is = refl
-no_place (Some i) is = absurd (false≢true (sym is))
+no_index : (index : Option ℕ) → is_some index ≡ false → index ≡ None
+no_index None is = refl
+no_index (Some i) is = absurd (false≢true (sym is))
 
 -- nothing is named where no value stands
-nothing-named : {V : Type 0} (place : Option ℕ) (o : Option V) → is_some o ≡ is_some place → IfNone o (place ≡ None)
-nothing-named place None is = no_place place (sym is)
-nothing-named place (Some v) is = tt
+nothing-named : {V : Type 0} (index : Option ℕ) (o : Option V) → is_some o ≡ is_some index → IfNone o (index ≡ None)
+nothing-named index None is = no_index index (sym is)
+nothing-named index (Some v) is = tt
 
 module _ {K V : Type 0} where
   among : (es : List (Entry K V)) (i : ℕ) (v : V) → option_map entry_value (slice_get es i) ≡ Some v → IsAmong (map entry_value es) v
@@ -272,8 +272,8 @@ module _ {K V : Type 0} where
   among (e ∷ es) zero v is = (0, (omega arith, sym (same_Some (entry_value e) v is)))
   among (e ∷ es) (suc i) v is = let later = among es i v is in (suc later.0, (omega (arith, later.1.0), later.1.1))
 
-  value-among : (es : List (Entry K V)) (place : Option ℕ) (o : Option V) → o ≡ value_at es place → IfSome o (λ v. IsAmong (map entry_value es) v)
-  value-among es place None is = tt
+  value-among : (es : List (Entry K V)) (index : Option ℕ) (o : Option V) → o ≡ value_at es index → IfSome o (λ v. IsAmong (map entry_value es) v)
+  value-among es index None is = tt
   value-among es None (Some v) is = absurd (none-some v (sym is))
   value-among es (Some i) (Some v) is = among es i v (sym is)
 
@@ -301,15 +301,15 @@ module _ {K V : Type 0} (test : K → Bool) (hash : StarlarkHashValue) (m : Map 
   named-within None is = tt
   named-within (Some i) is = position-within (stands_under hash test) m.entries i (sym is)
 
-  -- the place that a test names is where a value is found
-  pub names-place : (o : Option ℕ) → o ≡ there → NamesPlace test hash m o
-  names-place o is = record { place = is; found = has_found test hash m.entries (is_some o) (ap is_some is); within = named-within o is }
+  -- the index that a test names is where a value is found
+  pub names-index : (o : Option ℕ) → o ≡ there → NamesIndex test hash m o
+  names-index o is = record { index = is; found = has_found test hash m.entries (is_some o) (ap is_some is); within = named-within o is }
 
-  -- there is something where the test names a place
+  -- there is something where the test names an index
   pub tells-presence : (b : Bool) → b ≡ is_some there → TellsPresence test hash m b
-  tells-presence b is = record { place = is; found = has_found test hash m.entries b is }
+  tells-presence b is = record { index = is; found = has_found test hash m.entries b is }
 
-  -- what stands at the place that a test names is what is found
+  -- what stands at the index that a test names is what is found
   pub finds-value : (o : Option V) → o ≡ value_at m.entries there → FindsValue test hash m o
   finds-value o is = record {
     value = is;
@@ -326,4 +326,4 @@ module _ {K V : Type 0} (test : K → Bool) (hash : StarlarkHashValue) (m : Map 
   pub finds-entry : (o : Option (ℕ × Bor K × Bor V)) → option_map (λ e. e.0) o ≡ there → option_map (λ e. (e.1.now, e.2.now)) o ≡ option_map pair_of (entry_at m.entries there) → FindsEntry test hash m o
   finds-entry o at is =
       let parts = pair-found (λ (e : ℕ × Bor K × Bor V). e.1.now) (λ e. e.2.now) test hash m.entries o is in
-      record { place = at; pair = is; stored = parts.0; found = parts.1 }
+      record { index = at; pair = is; stored = parts.0; found = parts.1 }

@@ -1,4 +1,4 @@
--- What holds of all keys, values and pairs of a map, and what is among them, after an insertion, a removal and a write by place.
+-- What holds of all keys, values and pairs of a map, and what is among them, after an insertion, a removal and a write by index.
 -- Each takes the record that is the call's clause.
 use mathlib.Core.Logic.{◌⊎◌, inl, inr, ⊎_elim}
 use Rattle.std.proofs.Common.{◌≡◌, ℕ, zero, suc, ◌<◌, Bool, true, eqb, List, [], ◌∷◌, ◌++◌, length, map, get_or, remove, Ok, Option, Some, None, refl, sym, ap, subst, ◌∙◌, arith}
@@ -44,11 +44,11 @@ module _ {E X : Type 0} (f : E → X) where
       (λ at. later (f e) (map f es) x (one-left es i x at))
       (first-or-later (f e) (map f (remove es i)) x at)
 
-  all-without : (P : X → Type 0) (es : List E) (place : Option ℕ) → All P (map f es) → All P (map f (option_map_or (remove es) place es))
+  all-without : (P : X → Type 0) (es : List E) (index : Option ℕ) → All P (map f es) → All P (map f (option_map_or (remove es) index es))
   all-without P es None all = all
   all-without P es (Some i) all = all-left P es i all
 
-  one-without : (es : List E) (place : Option ℕ) (x : X) → Contains (map f (option_map_or (remove es) place es)) x → Contains (map f es) x
+  one-without : (es : List E) (index : Option ℕ) (x : X) → Contains (map f (option_map_or (remove es) index es)) x → Contains (map f es) x
   one-without es None x at = at
   one-without es (Some i) x at = one-left es i x at
 
@@ -103,14 +103,14 @@ module _ {K V : Type 0} where
       (λ at. later (entry_key e) (map entry_key es) p.0 (of-pair es p at))
       (first-or-later (pair_of e) (map pair_of es) p at)
 
-  same-keys : (es : List (Entry K V)) (place : Option ℕ) (w : V) → map entry_key (with_value es place w) ≡ map entry_key es
+  same-keys : (es : List (Entry K V)) (index : Option ℕ) (w : V) → map entry_key (with_value es index w) ≡ map entry_key es
   same-keys es None w = refl
   same-keys es (Some i) w = keys-set_value_at es i w
 
 -- An insertion puts in a new key last, or the value at a key that stays.
 module _ {K V B : Type 0} {eq : K → K → Bool} {key : Hashed K} {value : V} {back : B} {before after : Map K V} {was : Option V} (inserts : Inserts eq key value back before after (Ok was)) where
-  by-place : (F : List (Entry K V) → Type 0) → F (before.entries ++ (key, value) ∷ []) → ((i : ℕ) → match_of eq before.entries key ≡ Some i → F (set_value_at before.entries i value)) → F after.entries
-  by-place F last there = subst F (sym inserts.entries)
+  by-index : (F : List (Entry K V) → Type 0) → F (before.entries ++ (key, value) ∷ []) → ((i : ℕ) → match_of eq before.entries key ≡ Some i → F (set_value_at before.entries i value)) → F after.entries
+  by-index F last there = subst F (sym inserts.entries)
       ((elim (match_of eq before.entries key) as (λ o. match_of eq before.entries key ≡ o → F (option_map_or (λ i. set_value_at before.entries i value) o (before.entries ++ (key, value) ∷ []))) [
         | None ↦ λ none. last
         | Some i ↦ there i
@@ -124,46 +124,46 @@ module _ {K V B : Type 0} {eq : K → K → Bool} {key : Hashed K} {value : V} {
   equal-at i d at = (both (eqb (hash_of (get_or before.entries i d).0).0 (hash_of key).0) (eq (key_of key) (entry_key (get_or before.entries i d))) (position-passes (λ e. alike eq key e.0) before.entries i d at)).1
 
   pub All-keys-inserts : (P : K → Type 0) → All P (keys before) → P (key_of key) → All P (keys after)
-  All-keys-inserts P all p = by-place (λ es. All P (map entry_key es))
+  All-keys-inserts P all p = by-index (λ es. All P (map entry_key es))
       (all-pushed entry_key P before.entries (key, value) all p)
       (λ i at. subst (All P) (sym (keys-set_value_at before.entries i value)) all)
 
   pub All-values-inserts : (P : V → Type 0) → All P (map entry_value before.entries) → P value → All P (map entry_value after.entries)
-  All-values-inserts P all p = by-place (λ es. All P (map entry_value es))
+  All-values-inserts P all p = by-index (λ es. All P (map entry_value es))
       (all-pushed entry_value P before.entries (key, value) all p)
       (λ i at. all-written P before.entries i value all p)
 
   -- the stored key is the one that was there, if an equal one was
   pub All-pairs-inserts : IsEquivalence eq → (P : K × V → Type 0) → All P (map pair_of before.entries) → ((k : K) → eq (key_of key) k ≡ true → P (k, value)) → All P (map pair_of after.entries)
-  All-pairs-inserts laws P all p = by-place (λ es. All P (map pair_of es))
+  All-pairs-inserts laws P all p = by-index (λ es. All P (map pair_of es))
       (all-pushed pair_of P before.entries (key, value) all (p (key_of key) (laws.refl (key_of key))))
       (λ i at. all-pairs-written P before.entries i value all (λ d below. p (entry_key (get_or before.entries i d)) (equal-at i d at)))
 
   pub Contains-values-inserts : Contains (map entry_value after.entries) value
-  Contains-values-inserts = by-place (λ es. Contains (map entry_value es) value)
+  Contains-values-inserts = by-index (λ es. Contains (map entry_value es) value)
       (one-pushed entry_value before.entries (key, value))
       (λ i at. one-written before.entries i value (within i at))
 
   pub Contains-values-inserts_cases : (v : V) → Contains (map entry_value after.entries) v → Contains (map entry_value before.entries) v ⊎ (value ≡ v)
-  Contains-values-inserts_cases v = by-place (λ es. Contains (map entry_value es) v → Contains (map entry_value before.entries) v ⊎ (value ≡ v))
+  Contains-values-inserts_cases v = by-index (λ es. Contains (map entry_value es) v → Contains (map entry_value before.entries) v ⊎ (value ≡ v))
       (pushed-cases entry_value before.entries (key, value) v)
       (λ i at. written-cases before.entries i value v)
 
   -- keys that were there stay, and no other comes than the one that was brought
   pub Contains-keys-inserts_other : (k : K) → Contains (keys before) k → Contains (keys after) k
-  Contains-keys-inserts_other k there = by-place (λ es. Contains (map entry_key es) k)
+  Contains-keys-inserts_other k there = by-index (λ es. Contains (map entry_key es) k)
       (others-pushed entry_key before.entries (key, value) k there)
       (λ i at. subst (λ ks. Contains ks k) (sym (keys-set_value_at before.entries i value)) there)
 
   pub Contains-keys-inserts_cases : (k : K) → Contains (keys after) k → Contains (keys before) k ⊎ (key_of key ≡ k)
-  Contains-keys-inserts_cases k = by-place (λ es. Contains (map entry_key es) k → Contains (keys before) k ⊎ (key_of key ≡ k))
+  Contains-keys-inserts_cases k = by-index (λ es. Contains (map entry_key es) k → Contains (keys before) k ⊎ (key_of key ≡ k))
       (pushed-cases entry_key before.entries (key, value) k)
       (λ i at there. inl (subst (λ ks. Contains ks k) (keys-set_value_at before.entries i value) there))
 
   -- where equal keys are the same, as numbers, the key and its pair are among the new ones
   module _ (exact : (x y : K) → eq x y ≡ true → x ≡ y) where
     pub Contains-pairs-inserts : Contains (map pair_of after.entries) (key_of key, value)
-    Contains-pairs-inserts = by-place (λ es. Contains (map pair_of es) (key_of key, value))
+    Contains-pairs-inserts = by-index (λ es. Contains (map pair_of es) (key_of key, value))
         (one-pushed pair_of before.entries (key, value))
         (λ i at. subst (λ k. Contains (map pair_of (set_value_at before.entries i value)) (k, value)) (sym (exact (key_of key) (entry_key (get_or before.entries i (key, value))) (equal-at i (key, value) at)))
         (pair-written before.entries i value (key, value) (within i at)))
@@ -180,40 +180,40 @@ module _ {K V X : Type 0} (f : Entry K V → X) {eq : K → K → Bool} {old new
     pub Contains-removes : (x : X) → Contains (map f new.entries) x → Contains (map f old.entries) x
     Contains-removes x at = one-without f old.entries (position_of hash test old.entries) x (subst (λ es. Contains (map f es) x) removes.entries at)
 
-  module _ {place : ℕ} (removes : RemovesAt eq place old new) where
+  module _ {index : ℕ} (removes : RemovesAt eq index old new) where
     pub All-removes_at : (P : X → Type 0) → All P (map f old.entries) → All P (map f new.entries)
-    All-removes_at P all = subst (λ es. All P (map f es)) (sym removes.entries) (all-left f P old.entries place all)
+    All-removes_at P all = subst (λ es. All P (map f es)) (sym removes.entries) (all-left f P old.entries index all)
 
     pub Contains-removes_at : (x : X) → Contains (map f new.entries) x → Contains (map f old.entries) x
-    Contains-removes_at x at = one-left f old.entries place x (subst (λ es. Contains (map f es) x) removes.entries at)
+    Contains-removes_at x at = one-left f old.entries index x (subst (λ es. Contains (map f es) x) removes.entries at)
 
--- A value that is written at a place, as a loan of `get_mut` leaves it, moves no key.
-module _ {K V : Type 0} (old new : Map K V) (place : Option ℕ) (w : V) (is : new ≡ record old { entries = with_value old.entries place w }) where
-  writes : new.entries ≡ with_value old.entries place w
+-- A value that is written at an index, as a loan of `get_mut` leaves it, moves no key.
+module _ {K V : Type 0} (old new : Map K V) (index : Option ℕ) (w : V) (is : new ≡ record old { entries = with_value old.entries index w }) where
+  writes : new.entries ≡ with_value old.entries index w
   writes = ap (λ (m : Map K V). m.entries) is
 
   pub All-keys-writes : (P : K → Type 0) → All P (keys old) → All P (keys new)
-  All-keys-writes P all = subst (All P) (sym (ap (map entry_key) writes ∙ same-keys old.entries place w)) all
+  All-keys-writes P all = subst (All P) (sym (ap (map entry_key) writes ∙ same-keys old.entries index w)) all
 
   pub All-values-writes : (P : V → Type 0) → All P (map entry_value old.entries) → P w → All P (map entry_value new.entries)
-  All-values-writes P all p = subst (λ es. All P (map entry_value es)) (sym writes) (with place)
+  All-values-writes P all p = subst (λ es. All P (map entry_value es)) (sym writes) (with index)
     where
       with : (o : Option ℕ) → All P (map entry_value (with_value old.entries o w))
       with None = all
       with (Some i) = all-written P old.entries i w all p
 
   pub Contains-keys-writes : (k : K) → Contains (keys old) k → Contains (keys new) k
-  Contains-keys-writes k at = subst (λ ks. Contains ks k) (sym (ap (map entry_key) writes ∙ same-keys old.entries place w)) at
+  Contains-keys-writes k at = subst (λ ks. Contains ks k) (sym (ap (map entry_key) writes ∙ same-keys old.entries index w)) at
 
   pub Contains-values-writes_cases : (v : V) → Contains (map entry_value new.entries) v → Contains (map entry_value old.entries) v ⊎ (w ≡ v)
-  Contains-values-writes_cases v at = cases place (subst (λ es. Contains (map entry_value es) v) writes at)
+  Contains-values-writes_cases v at = cases index (subst (λ es. Contains (map entry_value es) v) writes at)
     where
       cases : (o : Option ℕ) → Contains (map entry_value (with_value old.entries o w)) v → Contains (map entry_value old.entries) v ⊎ (w ≡ v)
       cases None at = inl at
       cases (Some i) at = written-cases old.entries i w v at
 
   pub length-writes : length new.entries ≡ length old.entries
-  length-writes = ap length writes ∙ long place
+  length-writes = ap length writes ∙ long index
     where
       long : (o : Option ℕ) → length (with_value old.entries o w) ≡ length old.entries
       long None = refl

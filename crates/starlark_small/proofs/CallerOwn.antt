@@ -56,7 +56,7 @@ module _ {K V : Type 0} (feeds : K → HashWrites) where
   insert_entries_own eq (x ∷ xs) es all own =
       insert_entries_own eq xs (insert_entry eq es x.0 x.1) (All-tail is_own x xs all) (insert_own eq es x.0 x.1 (All-head is_own x xs all) own)
 
-  without_own : (es : List (Entry K V)) (place : Option ℕ) → All is_own es → All is_own (without es place)
+  without_own : (es : List (Entry K V)) (index : Option ℕ) → All is_own es → All is_own (without es index)
   without_own es None own = own
   without_own es (Some i) own = remove_own es i own
 
@@ -100,9 +100,9 @@ module _ {K V : Type 0} (feeds : K → HashWrites) where
   unfolding AreOwnEntries
   own-clones key value alike es fs all own = clones_own key value alike es fs all own
 
-  pub own-without : (old new : List (Entry K V)) (place : Option ℕ) → new ≡ without old place → AreOwnEntries feeds old → AreOwnEntries feeds new
+  pub own-without : (old new : List (Entry K V)) (index : Option ℕ) → new ≡ without old index → AreOwnEntries feeds old → AreOwnEntries feeds new
   unfolding AreOwnEntries
-  own-without old new place put own = subst (All is_own) (sym put) (without_own old place own)
+  own-without old new index put own = subst (All is_own) (sym put) (without_own old index own)
 
   pub own-removed : (old new : List (Entry K V)) (i : ℕ) → new ≡ remove old i → AreOwnEntries feeds old → AreOwnEntries feeds new
   own-removed old new i put = own-without old new (Some i) put

@@ -73,8 +73,8 @@ module _ {K V : Type 0} (eq : K → K → Bool) (laws : IsEquivalence eq) (key :
       ∙ ap (option_map suc) (gone es i (tail_single e es single) (later (alike eq key e.0) (position (λ e. alike eq key e.0) es) i rest))
 
   -- a key that was removed is gone
-  pub place-without : (es : List (Entry K V)) → IsSingle eq es → match_of eq (without es (match_of eq es key)) key ≡ None
-  place-without es single = elim (match_of eq es key) as (λ o. match_of eq es key ≡ o → match_of eq (option_map_or (remove es) o es) key ≡ None) [
+  pub index-without : (es : List (Entry K V)) → IsSingle eq es → match_of eq (without es (match_of eq es key)) key ≡ None
+  index-without es single = elim (match_of eq es key) as (λ o. match_of eq es key ≡ o → match_of eq (option_map_or (remove es) o es) key ≡ None) [
     | None ↦ λ at. at
     | Some i ↦ λ at. gone es i single at
   ] refl
@@ -128,7 +128,7 @@ before_last : {X : Type 0} (xs : List X) (x : X) → remove (xs ++ x ∷ []) (le
 before_last [] x = refl
 before_last (y ∷ xs) x = ap (λ l. y ∷ l) (before_last xs x)
 
--- the item that was taken from the end stood at the last place
+-- the item that was taken from the end stood at the last index
 pub last-taken : {X : Type 0} (s : List X) (o : Option X) (t : List X) → TakesLast (λ x. x) s o t → o ≡ slice_get s (length s - 1)
 last-taken s None t took = ap (λ l. slice_get l (length l - 1)) (sym took.0)
 last-taken s (Some x) t took =
@@ -136,31 +136,31 @@ last-taken s (Some x) t took =
     ∙ ap (slice_get s) (omega (arith, ap length took, length_push t x))
 
 module _ {K V : Type 0} (eq : K → K → Bool) (laws : IsEquivalence eq) where
-  -- an entry stands at the first place that is like it
-  pub place-single : (es : List (Entry K V)) (i : ℕ) (e : Entry K V) → IsSingle eq es → slice_get es i ≡ Some e → match_of eq es e.0 ≡ Some i
-  place-single [] i e single at = absurd (omega (arith, slice_get_within [] i e at))
-  place-single (d ∷ es) zero e single at =
+  -- an entry stands at the first index that is like it
+  pub index-single : (es : List (Entry K V)) (i : ℕ) (e : Entry K V) → IsSingle eq es → slice_get es i ≡ Some e → match_of eq es e.0 ≡ Some i
+  index-single [] i e single at = absurd (omega (arith, slice_get_within [] i e at))
+  index-single (d ∷ es) zero e single at =
       let is : d ≡ e = same_Some d e at in
       position-cons (stands_under e.0.hash (eq e.0.key)) d es
       ∙ ap (λ b. cond b (Some 0) (option_map suc (position (stands_under e.0.hash (eq e.0.key)) es))) (ap (λ (x : Entry K V). stands_under e.0.hash (eq e.0.key) x) is ∙ same_key eq laws e.0)
-  place-single (d ∷ es) (suc i) e single at =
+  index-single (d ∷ es) (suc i) e single at =
       let inside = slice_get_within es i e at in
       let there : get_or es i d ≡ e = get_or_from_slice_get es i e d at in
       let not : alike_keys eq e.0 d.0 ≡ false = (alike-laws eq laws).symm e.0 d.0 ∙ ap (λ (x : Entry K V). alike_keys eq d.0 x.0) (sym there) ∙ single 0 (suc i) d (omega arith) (omega (arith, inside)) in
       position-cons (stands_under e.0.hash (eq e.0.key)) d es
       ∙ ap (λ b. cond b (Some 0) (option_map suc (position (stands_under e.0.hash (eq e.0.key)) es))) not
-      ∙ ap (option_map suc) (place-single es i e (λ j k x below within. single (suc j) (suc k) x (omega (arith, below)) (omega (arith, within))) at)
+      ∙ ap (option_map suc) (index-single es i e (λ j k x below within. single (suc j) (suc k) x (omega (arith, below)) (omega (arith, within))) at)
 
-  -- the entry at a place was taken out
+  -- the entry at an index was taken out
   pub writes-taken : (old new : List (Entry K V)) (i : ℕ) (e : Entry K V) → IsSingle eq old → slice_get old i ≡ Some e → new ≡ remove old i
       → Writes eq (eq e.0.key) e.0.hash old new None
   writes-taken old new i e single at is =
       writes-removed eq laws e.0.hash (eq e.0.key) (laws.congr e.0.key) old new single
-      (is ∙ ap (without old) (sym (place-single old i e single at)))
+      (is ∙ ap (without old) (sym (index-single old i e single at)))
 
   pub found-placed : (es : List (Entry K V)) (i : ℕ) (e : Entry K V) → IsSingle eq es → slice_get es i ≡ Some e → found (eq e.0.key) e.0.hash es ≡ Some e.1
   unfolding found
-  found-placed es i e single at = ap (value_at es) (place-single es i e single at) ∙ ap (option_map entry_value) at
+  found-placed es i e single at = ap (value_at es) (index-single es i e single at) ∙ ap (option_map entry_value) at
 
   pub takes-out : (old new : Map K V) (i : ℕ) (e : Entry K V) → IsSingle eq old.entries → slice_get old.entries i ≡ Some e → new.entries ≡ remove old.entries i → TakesOut eq old new e.0.key e.1
   unfolding AreOwnEntries

@@ -1,4 +1,4 @@
--- What is found under a key where entries only change their places.
+-- What is found under a key where entries only change their indices.
 use Rattle.std.proofs.Common.{◌≡◌, ℕ, ◌+◌, ◌<◌, false, List, [], ◌∷◌, length, map, get_or, Option, Some, None, Contains, IsPermutation, Bool, refl, sym, ap, ◌∙◌, arith}
 use lib.ListN.{length-map}
 use Rattle.std.specs.Cmp.{IsEquivalence, IsTotalOrder}

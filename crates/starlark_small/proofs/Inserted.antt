@@ -1,4 +1,4 @@
--- A map after an insertion, written at the new place and read there.
+-- A map after an insertion, written at the new index and read there.
 use Rattle.std.proofs.Common.{◌≡◌, ℕ, ◌<◌, Bool, List, [], ◌∷◌, ◌++◌, length, slice_get, Some, None, is_some, sym, ap, subst, ◌∙◌, arith, refl}
 use Rattle.std.specs.Prelude.{◌||◌, nat_lt}
 use Rattle.std.specs.Option.{option_map}
@@ -15,7 +15,7 @@ use Rattle.starlark_small.specs.Insert.{IsInserted, IsRefused, LeavesMemory}
 use Rattle.starlark_small.specs.Map.{Map}
 
 module _ {K V : Type 0} where
-  -- the map with this value at the place
+  -- the map with this value at the index
   abbrev pub with_value_at : Map K V → ℕ → V → Map K V
   with_value_at m i value = record m { entries = set_value_at m.entries i value }
 

@@ -131,7 +131,7 @@ module _ (old : Table ℕ) (cells : List ℕ) (memory : ℕ) (k : KeepsIndices o
 
   -- an index was taken out, and those above it have not gone down
   module _ (i : ℕ) (inside : i < length cells) (mid : Table ℕ) (after : List ℕ) (even : length after ≡ length cells) (sited : IsSited after mid.slots) (taken : (h : ℕ) → Contains (members old) (h, i) → IsPermutation (members old) ((h, i) ∷ members mid))
-      (places : length mid.slots ≡ length old.slots) (room : table_capacity mid ≡ table_capacity old) where
+      (slots : length mid.slots ≡ length old.slots) (room : table_capacity mid ≡ table_capacity old) where
     within : i < length hs
     within = omega (arith, inside, length-hashes_in old.slots cells)
 
@@ -160,7 +160,7 @@ module _ (old : Table ℕ) (cells : List ℕ) (memory : ℕ) (k : KeepsIndices o
         keeps_by ks (old.room + 1) new (remove after i) space now
         (subst (IsSited (remove after i)) (sym renames.slots) (sited-lowered i after mid.slots here (left-none hs old k.bag i within mid apart) sited))
         (omega (arith, length-remove after i here, length-remove hs i within, even, length-hashes_in old.slots cells)) (omega (arith, count, renames.room, room, k.spare, more))
-        (omega (arith, ap length renames.slots, length-map mid.slots (option_map (renaming (lowered i))), places, k.few)) (omega (arith, count, renames.room, room, k.narrow)) (omega (arith, renames.room, room, gone))
+        (omega (arith, ap length renames.slots, length-map mid.slots (option_map (renaming (lowered i))), slots, k.few)) (omega (arith, count, renames.room, room, k.narrow)) (omega (arith, renames.room, room, gone))
 
     -- there was none above it
     pub keeps-forgotten_last : (space : ℕ) → i + 1 ≡ length cells → memory ≤ space → Keeps (remove hs i) (old.room + 1) mid (take i after) space
@@ -171,4 +171,4 @@ module _ (old : Table ℕ) (cells : List ℕ) (memory : ℕ) (k : KeepsIndices o
         let left : length ks ≡ i = omega (arith, length-remove hs i within, end, long) in
         keeps_by ks (old.room + 1) mid (take i after) space now
         (sited-last after mid i (omega (arith, end, even)) (subst (λ n. All (λ m. m.1 < n) (members mid)) left (members-below ks mid now)) sited)
-        (omega (arith, length-take i after, end, even, left)) (omega (arith, room, k.spare, more)) (omega (arith, places, k.few)) (omega (arith, room, k.narrow)) (omega (arith, room, gone))
+        (omega (arith, length-take i after, end, even, left)) (omega (arith, room, k.spare, more)) (omega (arith, slots, k.few)) (omega (arith, room, k.narrow)) (omega (arith, room, gone))

@@ -44,10 +44,10 @@ module _ {K V : Type 0} where
 
   nowhere : (es : List (Entry K V)) (hash : StarlarkHashValue) (t : K → Bool)
       → ((j : ℕ) (d : Entry K V) → j < length es → slice_get es j ≡ Some d → is_under hash d ≡ true → ⊥) → position_of hash t es ≡ None
-  nowhere es hash t never = at_place (position_of hash t es) refl where
-    at_place : (place : Option ℕ) → position_of hash t es ≡ place → place ≡ None
-    at_place None _ = refl
-    at_place (Some j) is =
+  nowhere es hash t never = at_index (position_of hash t es) refl where
+    at_index : (index : Option ℕ) → position_of hash t es ≡ index → index ≡ None
+    at_index None _ = refl
+    at_index (Some j) is =
         let below = position-within (stands_under hash t) es j is in
         let d = there es j below in
         let both = and_parts (is_under hash d.0) (t (entry_key d.0))

@@ -32,7 +32,7 @@ module _ {K V : Type 0} (eq : K → K → Bool) where
     distinct es (λ i j x before below. single (suc i) (suc j) x (omega arith) (omega arith)),
   )
 
-  -- the place of an entry is where its own key is found
+  -- the index of an entry is where its own key is found
   pub own_match : IsEquivalence eq → (es : List (Entry K V)) (i : ℕ) (e : Entry K V) → slice_get es i ≡ Some e → IsSingle eq es → i < length es
       → value_at es (match_of eq es e.0) ≡ Some e.1
   own_match o es i e at single below = value_at-lookup eq es e.0 ∙ own_value (alike eq) (alike-laws eq o) es i e.0 e.1 at (distinct es single) below

@@ -64,8 +64,8 @@ module _ (cells : List ℕ) (slots : Slots) (from to h x : ℕ) (can : CanMove s
   before : (t g y : ℕ) → t ≢ to → get_or (after_move slots from to h x) t None ≡ Some (g, y) → get_or (set slots from None) t None ≡ Some (g, y)
   before t g y other is = sym (get_or-set_other (set slots from None) to t (Some (h, x)) None other) ∙ is
 
-  other_place : (t g y : ℕ) → t ≢ to → get_or (after_move slots from to h x) t None ≡ Some (g, y) → y ≢ x
-  other_place t g y other is = λ same.
+  other_index : (t g y : ℕ) → t ≢ to → get_or (after_move slots from to h x) t None ≡ Some (g, y) → y ≢ x
+  other_index t g y other is = λ same.
       let was = before t g y other is in
       let named = sited.named t g y (left slots from t (g, y) was) in
       let there = sited.named from h x can.there in
@@ -80,7 +80,7 @@ module _ (cells : List ℕ) (slots : Slots) (from to h x : ℕ) (can : CanMove s
     ];
     named = λ t g y is. elim (same_or t to) [
       | inl same ↦ ap (λ k. get_or (set cells x to) k 0) (sym (here t g y same is)) ∙ get_or-set_same cells x to 0 moved-within ∙ sym same
-      | inr other ↦ get_or-set_other cells x y to 0 (other_place t g y other is) ∙ sited.named t g y (left slots from t (g, y) (before t g y other is))
+      | inr other ↦ get_or-set_other cells x y to 0 (other_index t g y other is) ∙ sited.named t g y (left slots from t (g, y) (before t g y other is))
     ];
   }
 

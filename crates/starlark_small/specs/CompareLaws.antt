@@ -23,7 +23,7 @@ module _ {K : Type 0} (eq : K → K → Bool) where
   alike-laws o = and_equiv (back_equiv (on_equiv (λ h. hash_number (hash_of h)) nat_eq_equiv)) (on_equiv key_of o)
 
 module _ {K V : Type 0} (eq : K → K → Bool) where
-  entry_later : (e : Entry K V) (es : List (Entry K V)) (place : Option ℕ) → entry_at (e ∷ es) (option_map suc place) ≡ entry_at es place
+  entry_later : (e : Entry K V) (es : List (Entry K V)) (index : Option ℕ) → entry_at (e ∷ es) (option_map suc index) ≡ entry_at es index
   entry_later e es None = refl
   entry_later e es (Some i) = refl
 

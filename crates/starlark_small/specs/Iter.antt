@@ -25,8 +25,8 @@ module _ {K V : Type 0} (eq : K → K → Bool) (es : List (Entry K V)) where
 
   -- what a look-up finds is one of these values, and each of them is found: at some key, under some hash
   abbrev pub AreFound : List V → Type 0
-  AreFound values = ((under : StarlarkHashValue) (key : K) → IfSome (found (eq key) under es) (λ v. (place : ℕ) × (place < length values) × (slice_get values place ≡ Some v)))
-      × ((place : ℕ) → IfSome (slice_get values place) (λ v. (under : StarlarkHashValue) × (key : K) × (found (eq key) under es ≡ Some v) × IsOwnOf key under))
+  AreFound values = ((under : StarlarkHashValue) (key : K) → IfSome (found (eq key) under es) (λ v. (index : ℕ) × (index < length values) × (slice_get values index ≡ Some v)))
+      × ((index : ℕ) → IfSome (slice_get values index) (λ v. (under : StarlarkHashValue) × (key : K) × (found (eq key) under es ≡ Some v) × IsOwnOf key under))
 
   -- a walk that lends each value of the list, as these, which are those that look-ups find
   abbrev pub ShowsValues : List V → Type 0

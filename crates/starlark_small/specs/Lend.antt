@@ -30,7 +30,7 @@ module _ {K V : Type 0} (eq : K → K → Bool) where
     pub own : (ws : List (Entry K V)) (feeds : K → HashWrites) → AreOwn feeds m → AreOwnEntries feeds (with_values m.entries ws)
 
 module _ (K V : RattleType) (g : eq.Ghosts K.Denot) (s : MutBor (Map K.Denot V.Denot)) where
-  -- the map ends with what is left behind a reference to the value at the place, and all else stays
+  -- the map ends with what is left behind a reference to the value at the index, and all else stays
   abbrev pub lends_value : ℕ → MutBor V.Denot → Fml
   lends_value i r = Lends (the_row K V g) V s r (λ w. record s.now { entries = set_value_at s.now.entries i w })
 

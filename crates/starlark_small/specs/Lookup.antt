@@ -67,18 +67,18 @@ module _ {K V : Type 0} where
   AreOwn feeds m = AreOwnEntries feeds m.entries
 
 module _ {K V : Type 0} (test : K → Bool) (hash : StarlarkHashValue) (m : Map K V) where
-  -- the place of what the test names under the hash, which lies in the list, where there is a value
-  pub record NamesPlace (r : Option ℕ) : Type 0 where
-    pub place : r ≡ position_of hash test m.entries
+  -- the index of what the test names under the hash, which lies in the list, where there is a value
+  pub record NamesIndex (r : Option ℕ) : Type 0 where
+    pub index : r ≡ position_of hash test m.entries
     pub found : is_some r ≡ is_some (found test hash m.entries)
     pub within : IfSome r (λ i. i < length m.entries)
 
   -- whether there is what the test names under the hash
   pub record TellsPresence (is_there : Bool) : Type 0 where
-    pub place : is_there ≡ is_some (position_of hash test m.entries)
+    pub index : is_there ≡ is_some (position_of hash test m.entries)
     pub found : is_there ≡ is_some (found test hash m.entries)
 
-  -- the value of what the test names under the hash: it stands at its place, and is one of the map's values; or there is none
+  -- the value of what the test names under the hash: it stands at its index, and is one of the map's values; or there is none
   pub record FindsValue (r : Option V) : Type 0 where
     pub value : r ≡ value_at m.entries (position_of hash test m.entries)
     pub found : r ≡ found test hash m.entries
@@ -91,9 +91,9 @@ module _ {K V : Type 0} (test : K → Bool) (hash : StarlarkHashValue) (m : Map 
     pub stored : option_map (λ p. p.0) r ≡ found_key test hash m.entries
     pub found : option_map (λ p. p.1) r ≡ found test hash m.entries
 
-  -- its place, with the stored key and the value there
+  -- its index, with the stored key and the value there
   pub record FindsEntry (r : Option (ℕ × Bor K × Bor V)) : Type 0 where
-    pub place : option_map (λ e. e.0) r ≡ position_of hash test m.entries
+    pub index : option_map (λ e. e.0) r ≡ position_of hash test m.entries
     pub pair : option_map (λ e. (e.1.now, e.2.now)) r ≡ option_map pair_of (entry_at m.entries (position_of hash test m.entries))
     pub stored : option_map (λ e. e.1.now) r ≡ found_key test hash m.entries
     pub found : option_map (λ e. e.2.now) r ≡ found test hash m.entries

@@ -31,9 +31,9 @@ module _ {K V : Type 0} {g : eq.Ghosts K} where
   abbrev pub occupied_map : OccupiedEntry K V g → MutBor (Map K V)
   occupied_map o = o.map
 
-  -- the place of an occupied entry in that map
-  abbrev pub occupied_place : OccupiedEntry K V g → ℕ
-  occupied_place o = o.index
+  -- the index of an occupied entry in that map
+  abbrev pub occupied_index : OccupiedEntry K V g → ℕ
+  occupied_index o = o.index
 
   -- the lent map that a vacant entry holds
   abbrev pub vacant_map : VacantEntry K V g → MutBor (Map K V)
@@ -50,12 +50,12 @@ module _ {K V : Type 0} {g : eq.Ghosts K} where
 
   -- the entry that m has under the key, or the lack of one
   abbrev pub IsEntryOf : (K → K → Bool) → Map K V → Hashed K → Entry K V g → Type 0
-  IsEntryOf eq m key (Occupied o) = ((occupied_map o).now ≡ m) × (match_of eq m.entries key ≡ Some (occupied_place o))
+  IsEntryOf eq m key (Occupied o) = ((occupied_map o).now ≡ m) × (match_of eq m.entries key ≡ Some (occupied_index o))
   IsEntryOf eq m key (Vacant v) = ((vacant_map v).now ≡ m) × (match_of eq m.entries key ≡ None) × (lacking_key v ≡ key)
 
-  -- what stands at an occupied entry's place
+  -- what stands at an occupied entry's index
   abbrev pub stored : OccupiedEntry K V g → Option (Hashed K × V)
-  stored o = slice_get (occupied_map o).now.entries (occupied_place o)
+  stored o = slice_get (occupied_map o).now.entries (occupied_index o)
 
   -- the value that is there, if any
   abbrev pub entry_value_of : Entry K V g → Option V
@@ -69,7 +69,7 @@ module _ {K V : Type 0} {g : eq.Ghosts K} where
 
   -- the map, once this is the entry's value: all else is as it was
   abbrev pub written : OccupiedEntry K V g → V → Map K V
-  written o value = record (occupied_map o).now { entries = set_value_at (occupied_map o).now.entries (occupied_place o) value }
+  written o value = record (occupied_map o).now { entries = set_value_at (occupied_map o).now.entries (occupied_index o) value }
 
   -- what the map is once this value was put under the entry: `written` where it was occupied, inserted where it was vacant
   abbrev pub IsPut : Entry K V g → V → Map K V → Type 0
@@ -111,13 +111,13 @@ module _ {K V : Type 0} {g : eq.Ghosts K} where
   ShowsOrGives gives (Occupied o) r = MatchResult r (λ p. option_map entry_value (stored o) ≡ Some p.now) (λ _. ⊥)
   ShowsOrGives gives (Vacant v) r = MatchResult r (λ p. gives p.now) (λ back. (back.0.0 ≡ lacking_key v) × gives back.0.1)
 
-  -- the place of an entry stays within the list, whatever value stands there
-  pub still_within : (o : OccupiedEntry K V g) (value : V) → occupied_place o < length (written o value).entries
-  still_within o value = subst (λ n. occupied_place o < n) (sym (length-set_value_at (occupied_map o).now.entries (occupied_place o) value)) o.within
+  -- the index of an entry stays within the list, whatever value stands there
+  pub still_within : (o : OccupiedEntry K V g) (value : V) → occupied_index o < length (written o value).entries
+  still_within o value = subst (λ n. occupied_index o < n) (sym (length-set_value_at (occupied_map o).now.entries (occupied_index o) value)) o.within
 
   -- the entry, once this is its value: all else is as it was
   abbrev pub with_entry_value : OccupiedEntry K V g → V → OccupiedEntry K V g
-  with_entry_value o value = record { map = record (occupied_map o) { now = written o value }; index = occupied_place o; within = still_within o value }
+  with_entry_value o value = record { map = record (occupied_map o) { now = written o value }; index = occupied_index o; within = still_within o value }
 
 module _ {F V : Type 0} (g : Once F (MutBor V × Unit {0}) (⊤ × (MutBor V × Unit {0}))) (f : F) where
   -- a value that is there now was left by f, at the one that was there

@@ -64,6 +64,6 @@ pub record NamesSlots (slots : List (Option (ℕ × ℕ))) (old new : Vec ℕ) :
 -- an index was taken out, under whatever hash it stood; slots and capacity stay, and the cells name the slots of those that are left
 pub record TakesIndex (index : ℕ) (old new : Table ℕ) (before after : Vec ℕ) : Type 0 where
   pub taken : (h : ℕ) → Contains (members old) (h, index) → IsPermutation (members old) ((h, index) ∷ members new)
-  pub places : length new.slots ≡ length old.slots
+  pub slots : length new.slots ≡ length old.slots
   pub room : table_capacity new ≡ table_capacity old
   pub cells : NamesSlots new.slots before after

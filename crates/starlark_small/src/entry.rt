@@ -1,4 +1,4 @@
-//! A key's place in a map, which has an entry there or lacks one.
+//! The entry of a key in a map, or the lack of one.
 ghost use Rattle.std.specs.Prelude.{◌≡◌, ◌<◌, length, Some, None, IfErr, IfOk, OnErr};
 ghost use Rattle.std.specs.Borrow.{sem};
 ghost use Rattle.std.specs.Option.{option_map};
@@ -8,9 +8,9 @@ use crate::small_map::SmallMap;
 use starlark_hash::{Hashed, NoRoom};
 use std::hash::Hash;
 
-/// The place of a key under a hash, where the map has an entry or lacks one. That the entry is there, or is lacking, is
+/// The entry of a key under a hash, or the lack of one. That the entry is there, or is lacking, is
 /// a fact of the type: no call requires anything but that its closure may be called. What is written through an entry
-/// is the value at its place, and all else of the map stays. Let go, it leaves the map as it is.
+/// is the value at its index, and all else of the map stays. Let go, it leaves the map as it is.
 #[derive(Drop)]
 pub enum Entry<'a, K: Eq, V> {
     /// There is an entry of this hash with an equal key.
@@ -19,7 +19,7 @@ pub enum Entry<'a, K: Eq, V> {
     Vacant(VacantEntry<'a, K, V>),
 }
 
-/// An entry that the map has: the lent map, and a place within its list.
+/// An entry that the map has: the lent map, and an index within its list.
 pub struct OccupiedEntry<'a, K: Eq, V> {
     map: &'a mut SmallMap<K, V>,
     index: usize,

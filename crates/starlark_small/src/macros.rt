@@ -11,7 +11,7 @@ use std::hash::Hash;
 
 /// A `SmallMap` of these keys and values, as `smallmap![alloc; 1 => "a", 2 => "b"]?`. It begins with room for as many
 /// entries as are written, and inserts them in their order, each under its key's own hash: a key that is written again
-/// keeps its place and takes the later value. The room at the beginning alone may be refused; then nothing is made.
+/// keeps its index and takes the later value. The room at the beginning alone may be refused; then nothing is made.
 #[macro_export]
 macro_rules! smallmap {
     (@one $key:expr) => {

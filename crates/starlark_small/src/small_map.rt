@@ -28,7 +28,7 @@ use std::marker::Model;
 ///
 /// An entry stands under a hash that its caller brings, which need not be the key's own: a look-up finds the entry of
 /// that hash and an equal key. No two entries have the same hash and equal keys. One key may stand under two hashes,
-/// and each is found under its own alone. A list that has grown longer than `UNINDEXED` has an index of its places,
+/// and each is found under its own alone. A list that has grown longer than `UNINDEXED` has an index,
 /// which changes no answer. The walks go from both ends, with exact length and size hint.
 #[derive(Drop)]
 pub struct SmallMap<K: Eq, V> {
@@ -103,11 +103,11 @@ impl<K: Eq, V> SmallMap<K, V> {
         spare.min(self.index.room(self.entries.len()))
     }
 
-    /// The index, where there is one: a table of the place of each entry, under the promoted hash of the entry, and of no
+    /// The index, where there is one: a table of the indices of the list, each under the promoted hash of its entry, and of no
     /// other member. There is one wherever the list is longer than `UNINDEXED`.
     #[inline]
     pub fn index(&self) -> Option<&ReadyTable<u32, StarlarkHashValue>>
-        ensures places { IfSome result (λ table. IsPermutation (positions self.now.entries) (members table.now)) }
+        ensures indices { IfSome result (λ table. IsPermutation (positions self.now.entries) (members table.now)) }
         ensures indexed { is_some result ≡ self.now.indexed }
         ensures long { unindexed < length self.now.entries → IsSome result }
     {

@@ -22,8 +22,8 @@ module _ {T : Type 0} (slots : List (Option (ℕ × T))) (tags : List ℕ) (fill
   counted : members_in fill ≡ table_len t
   counted = before.counted ∙ ap table_len view
 
-  pub place_for_one : 0 < t.room → (q : ℕ) × (q < length slots) × (at slots q ≡ None)
-  place_for_one some = let full = whole in sound-empty_slot slots tags fill before (omega arith)
+  pub slot_for_one : 0 < t.room → (q : ℕ) × (q < length slots) × (at slots q ≡ None)
+  slot_for_one some = let full = whole in sound-empty_slot slots tags fill before (omega arith)
 
   -- ---- a member more
   pub record Inserted (m : ℕ × T) (new : List (Option (ℕ × T))) (tags' : List ℕ) (fill' : ℕ) : Type 0 where

@@ -1,4 +1,4 @@
--- A walk that empties one place after another, and slots of which one is moved.
+-- A walk that empties one slot after another, and slots of which one is moved.
 use Rattle.std.proofs.Common.{◌≡◌, ℕ, ◌+◌, ◌<◌, ◌≤◌, ◌⊎◌, List, length, Option, Some, None, sym, ◌∙◌, ap, arith, inl, inr}
 use Rattle.std.specs.List.{swap}
 use Rattle.std.proofs.Math.ListN.{set, length-set}
@@ -9,11 +9,11 @@ use Rattle.starlark_table.specs.Layout.{at}
 use Rattle.starlark_table.proofs.Closing.{apart-by_order}
 
 module _ {T : Type 0} where
-  -- an empty place that is emptied once more
+  -- an empty slot that is emptied once more
   pub emptied_again : (cur new : List (Option (ℕ × T))) (i : ℕ) → at cur i ≡ None → new ≡ cur → new ≡ set cur i None
   emptied_again cur new i none is = is ∙ sym (ap (set cur i) (sym none) ∙ set-get_or cur i None)
 
-  -- so many places in front are empty, and the others are as they were
+  -- so many slots in front are empty, and the others are as they were
   pub record Emptied (initial cur : List (Option (ℕ × T))) (i : ℕ) : Type 0 where
     pub sized : length cur ≡ length initial
     pub empty : (k : ℕ) → k < i → at cur k ≡ None
@@ -32,20 +32,20 @@ module _ {T : Type 0} where
         ∙ k.untouched p (omega (arith, more));
   }
 
-  -- a member that is taken out and put into an empty place
-  pub moved_is_swapped : (cur : List (Option (ℕ × T))) (to place : ℕ) (m : ℕ × T) → to < length cur → place < length cur → (to ≡ place → ⊥)
-      → at cur to ≡ None → at cur place ≡ Some m → set (set cur place None) to (Some m) ≡ swap cur to place
-  moved_is_swapped cur to place m to_in place_in apart empty here =
-      set_comm cur place to None (Some m) (λ e. apart (sym e))
-      ∙ ap (λ o. set (set cur to o) place None) (sym here)
-      ∙ ap (λ o. set (set cur to (at cur place)) place o) (sym empty)
-      ∙ swap_is cur to place None to_in place_in
+  -- a member that is taken out and put into an empty slot
+  pub moved_is_swapped : (cur : List (Option (ℕ × T))) (to slot : ℕ) (m : ℕ × T) → to < length cur → slot < length cur → (to ≡ slot → ⊥)
+      → at cur to ≡ None → at cur slot ≡ Some m → set (set cur slot None) to (Some m) ≡ swap cur to slot
+  moved_is_swapped cur to slot m to_in slot_in apart empty here =
+      set_comm cur slot to None (Some m) (λ e. apart (sym e))
+      ∙ ap (λ o. set (set cur to o) slot None) (sym here)
+      ∙ ap (λ o. set (set cur to (at cur slot)) slot o) (sym empty)
+      ∙ swap_is cur to slot None to_in slot_in
 
-  pub swapped_with_itself : (cur : List (Option (ℕ × T))) (to place : ℕ) → place < length cur → to ≡ place → swap cur to place ≡ cur
-  swapped_with_itself cur to place below same =
-      ap (λ k. swap cur k place) same ∙ sym (swap_is cur place place None below below)
-      ∙ ap (λ l. set l place (at cur place)) (set-get_or cur place None) ∙ set-get_or cur place None
+  pub swapped_with_itself : (cur : List (Option (ℕ × T))) (to slot : ℕ) → slot < length cur → to ≡ slot → swap cur to slot ≡ cur
+  swapped_with_itself cur to slot below same =
+      ap (λ k. swap cur k slot) same ∙ sym (swap_is cur slot slot None below below)
+      ∙ ap (λ l. set l slot (at cur slot)) (set-get_or cur slot None) ∙ set-get_or cur slot None
 
-  pub empty_place : (cur : List (Option (ℕ × T))) (to place : ℕ) → (to ≡ place → ⊥) → (to ≡ place) ⊎ (at cur to ≡ None) → at cur to ≡ None
-  empty_place cur to place apart (inl same) = absurd (apart same)
-  empty_place cur to place apart (inr empty) = empty
+  pub empty_slot : (cur : List (Option (ℕ × T))) (to slot : ℕ) → (to ≡ slot → ⊥) → (to ≡ slot) ⊎ (at cur to ≡ None) → at cur to ≡ None
+  empty_slot cur to slot apart (inl same) = absurd (apart same)
+  empty_slot cur to slot apart (inr empty) = empty

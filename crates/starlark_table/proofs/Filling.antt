@@ -1,4 +1,4 @@
--- What the tag of a place says of it, in the words of a column.
+-- What the tag of a slot says of it, in the words of a column.
 use Rattle.std.proofs.Common.{◌≡◌, ℕ, zero, suc, add-one, ◌+◌, ◌<◌, ◌≤◌, List, [], ◌∷◌, length, drop, Option, Some, None, IsSome, is_some, true, nat_eq, get_or, arith, refl, sym, ◌∙◌, ap, inl, inr, eq-eqb}
 use Rattle.std.proofs.lemmas.Bool.{ne_eqb, cases_lt, cases_order}
 use Rattle.std.proofs.lemmas.List.{get_or-set_other, get_or-set_same, set_comm}
@@ -21,7 +21,7 @@ module _ {T : Type 0} where
   some-by_test None e = absurd (cc)
   some-by_test (Some m) e = refl
 
-  -- a place with another tag than the empty one holds a member
+  -- a slot with another tag than the empty one holds a member
   pub filled-by_tag : (tags : List ℕ) (slots : List (Option (ℕ × T))) (p : ℕ) → IsTagged tags slots → p < length slots
       → (get_or tags p 0 ≡ empty_tag → ⊥) → IsFilled slots p
   filled-by_tag tags slots p t p_in full = filled-by_some (at slots p) (full-by_tag tags slots p t p_in full)
@@ -32,14 +32,14 @@ module _ {T : Type 0} where
       let low = tag-below m.0 in
       ap not (ne_eqb t empty_tag (λ same. absurd (omega arith)))
 
-  -- from a place on there are members, so the place is one of the slots
+  -- from a slot on there are members, so the slot is one of the slots
   pub more_left : (slots : List (Option (ℕ × T))) (p : ℕ) → 0 < length (filled (drop p slots)) → p < length slots
   more_left [] zero some = absurd (omega arith)
   more_left [] (suc p) some = absurd (omega arith)
   more_left (o ∷ slots) zero some = omega arith
   more_left (o ∷ slots) (suc p) some = let rest = more_left slots p some in omega arith
 
-  -- places in front that are empty add no member
+  -- slots in front that are empty add no member
   pub filled-past_front : (slots : List (Option (ℕ × T))) (n : ℕ) → ((p : ℕ) → p < n → at slots p ≡ None)
       → filled slots ≡ filled (drop n slots)
   filled-past_front [] zero none = refl
@@ -55,7 +55,7 @@ module _ {T : Type 0} where
   first_of (Some n ∷ slots) zero m here = let same : n ≡ m = cc in ap (λ k. k ∷ filled slots) same
   first_of (o ∷ slots) (suc i) m here = first_of slots i m here
 
-  -- nor do places behind some others
+  -- nor do slots behind some others
   pub filled-past_range : (slots : List (Option (ℕ × T))) (from end : ℕ) → from ≤ end → ((p : ℕ) → from ≤ p → p < end → at slots p ≡ None)
       → filled (drop from slots) ≡ filled (drop end slots)
   filled-past_range slots zero end on none = filled-past_front slots end (λ p below. none p (omega arith) below)
@@ -64,13 +64,13 @@ module _ {T : Type 0} where
   filled-past_range (o ∷ slots) (suc from) (suc end) on none =
       filled-past_range slots from end (omega arith) (λ p low high. none (suc p) (omega arith) (omega arith))
 
-  -- the first member behind some places
+  -- the first member behind some slots
   pub filled-first_behind : (slots : List (Option (ℕ × T))) (from i : ℕ) (m : ℕ × T) → from ≤ i → ((p : ℕ) → from ≤ p → p < i → at slots p ≡ None)
       → at slots i ≡ Some m → filled (drop from slots) ≡ m ∷ filled (drop (i + 1) slots)
   filled-first_behind slots from i m on none here =
       filled-past_range slots from i on none ∙ first_of slots i m here ∙ ap (λ n. m ∷ filled (drop n slots)) (sym (add-one i))
 
-  -- the first member, taken out of its place
+  -- the first member, taken out of its slot
   pub filled-first_taken : (slots : List (Option (ℕ × T))) (i : ℕ) (m : ℕ × T) → ((p : ℕ) → p < i → at slots p ≡ None)
       → at slots i ≡ Some m → filled slots ≡ m ∷ filled (set slots i None)
   filled-first_taken [] zero m none here = absurd (cc)
@@ -81,7 +81,7 @@ module _ {T : Type 0} where
       filled-first_taken slots i m (λ p below. none (suc p) (omega arith)) here
   filled-first_taken (Some n ∷ slots) (suc i) m none here = absurd (let e = none 0 (omega arith) in cc)
 
-  -- places that are empty on both sides of one
+  -- slots that are empty on both sides of one
   pub empty-joined : (slots : List (Option (ℕ × T))) (from end : ℕ) → ((p : ℕ) → p < from → at slots p ≡ None)
       → ((p : ℕ) → from ≤ p → p < end → at slots p ≡ None) → (p : ℕ) → p < end → at slots p ≡ None
   empty-joined slots from end front rest p below = elim (cases_lt p from) [ inl low ↦ front p low | inr high ↦ rest p high below ]
@@ -101,7 +101,7 @@ module _ {T : Type 0} where
   all_empty (None ∷ xs) none = ap (λ l. None ∷ l) (all_empty xs (λ p below. none (suc p) (omega arith)))
   all_empty (Some m ∷ xs) none = absurd (let e = none 0 (omega arith) in cc)
 
-  -- a member taken and written to an empty place: the two places are swapped
+  -- a member taken and written to an empty slot: the two slots are swapped
   pub taken_and_written : (old : List (Option (ℕ × T))) (hole next : ℕ) (n : ℕ × T) → hole < length old → next < length old
       → at old hole ≡ None → at old next ≡ Some n → set (set old next None) hole (Some n) ≡ swap old hole next
   taken_and_written old hole next n hole_in next_in empty here =

@@ -1,4 +1,4 @@
--- Bits that tell which of some places pass a test, and the walk over those that are full.
+-- Bits that tell which of some slots pass a test, and the walk over those that are full.
 use Rattle.std.proofs.Common.{◌≡◌, ◌≢◌, ℕ, zero, suc, ◌+◌, ◌-◌, ◌*◌, ◌/◌, ◌%◌, ◌<◌, ◌≤◌, List, [], ◌∷◌, Bool, true, false, cond, ◌&&◌, min, length, map, take, Option, Some, None, is_some, arith, get_or, ap, sym, refl, ◌∙◌, subst, inl, inr, drop-cons, bit_and}
 use Rattle.std.proofs.lemmas.Bool.{cases_lt, lt-ltb, le-ltb, lt-leb, le-leb}
 use Rattle.std.specs.Int.Bits.{and_step, and_self}
@@ -30,7 +30,7 @@ clear_unset m some =
     let high : bit_and ((0 + 2 * m) / 2) ((0 + 2 * m - 1) / 2) ≡ bit_and m (m - 1) = λ i. bit_and (half i) (half' i) in
     omega arith
 
--- the same places pass
+-- the same slots pass
 bits_where-alike : (t u : ℕ → Bool) (from n : ℕ) → ((p : ℕ) → from ≤ p → p < from + n → t p ≡ u p) → bits_where t from n ≡ bits_where u from n
 unfolding bits_where
 bits_where-alike t u from zero alike = refl
@@ -55,7 +55,7 @@ bits_where-some t from (suc n) (suc k) within here =
     let rest = bits_where-some t (suc from) n k (omega arith) (ap t same ∙ here) in
     omega arith
 
--- the first place that passes, so many places on
+-- the first slot that passes, so many slots on
 record FirstPassing (t : ℕ → Bool) (from n k : ℕ) : Type 0 where
   pub within : k < n
   pub there : t (from + k) ≡ true
@@ -84,7 +84,7 @@ first_by_lowest : (t : ℕ → Bool) (from n m c : ℕ) (b : Bool) → t from �
 first_by_lowest t from n m c true here some rest = first_here t from n 0 here refl
 first_by_lowest t from n m c false here some rest = first_later t from n (suc c) c here (rest (λ e. some (omega arith))) refl
 
--- where a bit is set, the lowest is that of the first place that passes
+-- where a bit is set, the lowest is that of the first slot that passes
 first_passing-by_bits : (t : ℕ → Bool) (from n w : ℕ) → n ≤ w → bits_where t from n ≢ 0 → FirstPassing t from n (count_trailing_zeros w (bits_where t from n))
 unfolding bits_where count_trailing_zeros
 first_passing-by_bits t from zero w few some = absurd (some refl)
@@ -99,7 +99,7 @@ none_at : (b : Bool) → (b ≡ true → ⊥) → b ≡ false
 none_at true none = absurd (none refl)
 none_at false none = refl
 
--- where no bit is set, no place passes
+-- where no bit is set, no slot passes
 none_passing-by_bits : (t : ℕ → Bool) (from n : ℕ) → bits_where t from n ≡ 0 → (p : ℕ) → from ≤ p → p < from + n → t p ≡ false
 none_passing-by_bits t from n none p low high =
     none_at (t p) (λ here.
@@ -149,16 +149,16 @@ module _ {T : Type 0} where
   none_outside (o ∷ slots) zero out = absurd (omega arith)
   none_outside (o ∷ slots) (suc p) out = none_outside slots p (omega arith)
 
-  -- a bit for each of n places from one on: whether a member stands there
+  -- a bit for each of n slots from one on: whether a member stands there
   abbrev full_bits : List (Option (ℕ × T)) → ℕ → ℕ → ℕ
   full_bits slots = bits_where (λ p. is_some (at slots p))
 
-  -- the tags tell which places are full
+  -- the tags tell which slots are full
   full_bits-by_tags : (start n : ℕ) (tags : List ℕ) (slots : List (Option (ℕ × T))) → IsTaggedFrom start tags slots → start + n ≤ length tags
       → hash_tag_bits tags start n ≡ full_bits slots start n
   full_bits-by_tags start n tags slots t room =
       bits_where-alike _ _ start n (λ p low high. elim (cases_lt p (length slots)) [
-        | inl place ↦ tells_full (at slots p) (get_or tags p 0) (t.tagged p low place)
+        | inl slot ↦ tells_full (at slots p) (get_or tags p 0) (t.tagged p low slot)
         | inr behind ↦
             let pad = t.padded p behind (omega arith) in
             le-ltb (get_or tags p 0) padding (omega arith) ∙ sym (none_outside slots p behind)
@@ -194,7 +194,7 @@ module _ {T : Type 0} where
         ∙ bits_where-alike _ _ start (end - start) (λ p low high. sym (left_behind slots start p low));
   }
 
-  -- the place of the lowest bit, and the walk past it
+  -- the slot of the lowest bit, and the walk past it
   pub record NextFull (slots : List (Option (ℕ × T))) (start end next bits k : ℕ) : Type 0 where
     pub ahead : next ≤ start + k
     pub within : start + k < end
@@ -244,7 +244,7 @@ module _ {T : Type 0} where
         };
       }
 
-  -- where no bit is left, no place that is left is full
+  -- where no bit is left, no slot that is left is full
   pub window_done : (slots : List (Option (ℕ × T))) (start end next bits : ℕ) → LeftInWindow slots start end next bits → bits ≡ 0
       → (p : ℕ) → next ≤ p → p < end → at slots p ≡ None
   window_done slots start end next bits w none p low high =
@@ -252,12 +252,12 @@ module _ {T : Type 0} where
       none_there (at slots p)
       (sym (left_behind slots next p low) ∙ none_passing-by_bits (left_from slots next) start (end - start) (sym w.its ∙ none) p (omega arith) (omega arith))
 
-  -- before the first place no window is open
+  -- before the first slot no window is open
   pub window_before_all : (slots : List (Option (ℕ × T))) → LeftInWindow slots 0 0 0 0
   unfolding bits_where
   window_before_all slots = record { from = omega arith; to = omega arith; short = omega arith; its = refl }
 
-  -- slots that are alike behind the places that are passed have the same bits
+  -- slots that are alike behind the slots that are passed have the same bits
   pub window_alike : (slots new : List (Option (ℕ × T))) (start end next bits : ℕ) → LeftInWindow slots start end next bits
       → ((p : ℕ) → next ≤ p → at new p ≡ at slots p) → LeftInWindow new start end next bits
   window_alike slots new start end next bits w alike = record {

@@ -1,4 +1,4 @@
--- Lists that a loop goes along, one place after another.
+-- Lists that a loop goes along, one slot after another.
 use Rattle.std.proofs.Common.{◌≡◌, ℕ, zero, suc, ◌+◌, ◌<◌, ◌≤◌, ◌++◌, ◌∷◌, [], List, take, drop, arith, refl, sym, ◌∙◌, ap, length, get_or, drop-cons, add-one, append_assoc}
 use Rattle.std.proofs.Math.ListN.{set}
 use Rattle.std.proofs.lemmas.Grind.{drop_more_same, take-set_at}

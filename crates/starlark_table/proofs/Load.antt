@@ -9,8 +9,8 @@ use Rattle.starlark_table.specs.Growth.{limit}
 use Rattle.starlark_table.proofs.Bag.{filled-set_none, filled-set_some}
 use Rattle.starlark_table.proofs.TagCount.{tag_count-some}
 
-pub load-below_places : (m n : ℕ) → n ≤ limit m → 0 < m → n < m
-load-below_places m n load some = omega arith
+pub load-below_slots : (m n : ℕ) → n ≤ limit m → 0 < m → n < m
+load-below_slots m n load some = omega arith
 
 module _ {T : Type 0} where
   -- fewer members than slots leave an empty slot
@@ -25,7 +25,7 @@ module _ {T : Type 0} where
       → length (filled slots) ≤ limit (length slots) → at slots slot ≡ Some m
       → (q : ℕ) × (q < length (set slots slot None)) × (q ≢ slot) × (at (set slots slot None) q ≡ None)
   another_empty_slot slots slot m slot_in load full =
-      let q = empty_slot slots (load-below_places (length slots) (length (filled slots)) load (omega arith)) in
+      let q = empty_slot slots (load-below_slots (length slots) (length (filled slots)) load (omega arith)) in
       let apart : q.0 ≢ slot = λ same. cc (ap (at slots) same, q.2) in
       (q.0, rw length-set q.1, apart, get_or-set_other slots slot q.0 None None apart ∙ q.2)
 
@@ -41,7 +41,7 @@ module _ {T : Type 0} where
   sound-empty_slot slots tags fill s some =
       let counted = s.counted in
       let load = s.load in
-      empty_slot slots (load-below_places (length slots) (length (filled slots)) (omega arith) some)
+      empty_slot slots (load-below_slots (length slots) (length (filled slots)) (omega arith) some)
 
 module _ {T : Type 0} where
   pub filled-append : (xs ys : List (Option (ℕ × T))) → filled (xs ++ ys) ≡ filled xs ++ filled ys
@@ -53,19 +53,19 @@ module _ {T : Type 0} where
   filled-replicate zero = refl
   filled-replicate (suc n) = filled-replicate n
 
-  -- a member that leaves one place for another, of the new slots
-  pub bag-member_moved : (all : List (ℕ × T)) (old slots : List (Option (ℕ × T))) (from place : ℕ) (m : ℕ × T)
-      → at old from ≡ Some m → place < length slots → at slots place ≡ None
+  -- a member that leaves one slot for another, of the new slots
+  pub bag-member_moved : (all : List (ℕ × T)) (old slots : List (Option (ℕ × T))) (from slot : ℕ) (m : ℕ × T)
+      → at old from ≡ Some m → slot < length slots → at slots slot ≡ None
       → IsPermutation all (filled old ++ filled slots)
-      → IsPermutation all (filled (set old from None) ++ filled (set slots place (Some m)))
-  bag-member_moved all old slots from place m here place_in empty bag =
+      → IsPermutation all (filled (set old from None) ++ filled (set slots slot (Some m)))
+  bag-member_moved all old slots from slot m here slot_in empty bag =
       let left = set old from None in
-      IsPermutation-trans all (filled old ++ filled slots) (filled left ++ filled (set slots place (Some m))) bag
-      (IsPermutation-trans (filled old ++ filled slots) ((m ∷ filled left) ++ filled slots) (filled left ++ filled (set slots place (Some m)))
+      IsPermutation-trans all (filled old ++ filled slots) (filled left ++ filled (set slots slot (Some m))) bag
+      (IsPermutation-trans (filled old ++ filled slots) ((m ∷ filled left) ++ filled slots) (filled left ++ filled (set slots slot (Some m)))
       (IsPermutation-append_left (filled slots) (filled old) (m ∷ filled left) (filled-set_none old from m here))
-      (IsPermutation-trans ((m ∷ filled left) ++ filled slots) (filled left ++ m ∷ filled slots) (filled left ++ filled (set slots place (Some m)))
+      (IsPermutation-trans ((m ∷ filled left) ++ filled slots) (filled left ++ m ∷ filled slots) (filled left ++ filled (set slots slot (Some m)))
       (IsPermutation-sym (filled left ++ m ∷ filled slots) ((m ∷ filled left) ++ filled slots) (IsPermutation-middle (filled left) m (filled slots)))
-      (IsPermutation-append_right (filled left) (m ∷ filled slots) (filled (set slots place (Some m))) (filled-set_some slots place m place_in empty))))
+      (IsPermutation-append_right (filled left) (m ∷ filled slots) (filled (set slots slot (Some m))) (filled-set_some slots slot m slot_in empty))))
 
   pub empty_slot-while_moving : (all : List (ℕ × T)) (old slots : List (Option (ℕ × T))) → 0 < length slots
       → length all ≤ limit (length slots)
@@ -73,7 +73,7 @@ module _ {T : Type 0} where
   empty_slot-while_moving all old slots some room bag =
       let count = length_permutation all (filled old ++ filled slots) bag ∙ sym refl in
       let parts = length-append (filled old) (filled slots) in
-      empty_slot slots (load-below_places (length slots) (length (filled slots)) (omega arith) some)
+      empty_slot slots (load-below_slots (length slots) (length (filled slots)) (omega arith) some)
 
   at-replicate : (n p : ℕ) → at {T = T} (replicate n None) p ≡ None
   at-replicate zero p = refl
@@ -86,12 +86,12 @@ module _ {T : Type 0} where
   tagged-replicate : (items : List (Option (ℕ × T))) (tags : List ℕ) (count : ℕ) → 0 < count → items ≡ replicate count None
       → tags ≡ tags_of_empty count → IsTagged tags items
   tagged-replicate items tags count some e f =
-      let places : length items ≡ count = ap length e ∙ length-replicate count None in
+      let slots : length items ≡ count = ap length e ∙ length-replicate count None in
       let first : length (replicate count empty_tag) ≡ count = length-replicate count empty_tag in
       let sized : length tags ≡ count + window = ap length f ∙ length-append (replicate count empty_tag) (replicate window padding) ∙ ap (λ n. n + window) first in
       let none : (k : ℕ) → at items k ≡ None = λ k. ap (λ l. at l k) e ∙ at-replicate count k in
       record {
-        sized = sized ∙ sym (ap tag_count places ∙ tag_count-some count some);
+        sized = sized ∙ sym (ap tag_count slots ∙ tag_count-some count some);
         tagged = λ p below.
             ap (λ l. get_or l p 0) f
             ∙ get_or_append_left (replicate count empty_tag) (replicate window padding) 0 p (omega arith)

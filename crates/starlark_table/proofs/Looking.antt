@@ -31,15 +31,15 @@ tag_at t number hash is same = is ∙ ap tag same
 pub other-by_test : {b : Bool} (h hash : ℕ) → b ≡ nat_eq h hash → b ≡ false → h ≡ hash → ⊥
 other-by_test h hash is said same = false≢true (sym said ∙ is ∙ eq-eqb h hash same)
 
-nearer : (n start place k : ℕ) → place + k < start + 16 → n + (start + 16 - (place + k + 1)) < n + (start + 16 - place)
-nearer n start place k near = omega arith
+nearer : (n start slot k : ℕ) → slot + k < start + 16 → n + (start + 16 - (slot + k + 1)) < n + (start + 16 - slot)
+nearer n start slot k near = omega arith
 
-farther : (m d d' next start place : ℕ) → d < d' → d' < m → (m - d') * 32 + (next + 16 - next) < (m - d) * 32 + (start + 16 - place)
-farther m d d' next start place more below = omega arith
+farther : (m d d' next start slot : ℕ) → d < d' → d' < m → (m - d') * 32 + (next + 16 - next) < (m - d) * 32 + (start + 16 - slot)
+farther m d d' next start slot more below = omega arith
 
 -- what is left of the way round, and of the window
 abbrev pub left_to_look : {T : Type 0} → ℕ → List (Option (ℕ × T)) → ℕ → ℕ → ℕ
-left_to_look hash slots start place = (length slots - way hash slots start) * 32 + (start + 16 - place)
+left_to_look hash slots start slot = (length slots - way hash slots start) * 32 + (start + 16 - slot)
 
 module _ {F T : Type 0} (g : Mut F (Bor T × Unit {0}) Bool) (hash : ℕ) (tags : List ℕ) (slots : List (Option (ℕ × T))) (first : F) where
   abbrev a : ℕ
@@ -49,20 +49,20 @@ module _ {F T : Type 0} (g : Mut F (Bor T × Unit {0}) Bool) (hash : ℕ) (tags 
   abbrev behind : ℕ → List (ℕ × T)
   behind i = holders hash (path_from a slots i)
 
-  -- the search is at a place of the window from `start` on, and `first` is now f
-  pub record Looking (start place same : ℕ) (f : F) : Type 0 where
-    pub window : AtWindow hash tags slots start place same
-    pub search : Searching g (behind 0) first f (behind (way hash slots start + (place - start)))
+  -- the search is at a slot of the window from `start` on, and `first` is now f
+  pub record Looking (start slot same : ℕ) (f : F) : Type 0 where
+    pub window : AtWindow hash tags slots start slot same
+    pub search : Searching g (behind 0) first f (behind (way hash slots start + (slot - start)))
 
   -- the same, told by other names
-  pub looking_told : (start place place' same same' : ℕ) (f f' : F) → place' ≡ place → same' ≡ same → f' ≡ f → Looking start place same f → Looking start place' same' f'
-  looking_told start place place' same same' f f' at_place at_bits at_state l =
-      subst (λ s. Looking start place' same' s) (sym at_state) (subst (λ b. Looking start place' b f) (sym at_bits) (subst (λ p. Looking start p same f) (sym at_place) l))
+  pub looking_told : (start slot slot' same same' : ℕ) (f f' : F) → slot' ≡ slot → same' ≡ same → f' ≡ f → Looking start slot same f → Looking start slot' same' f'
+  looking_told start slot slot' same same' f f' at_slot at_bits at_state l =
+      subst (λ s. Looking start slot' same' s) (sym at_state) (subst (λ b. Looking start slot' b f) (sym at_bits) (subst (λ p. Looking start p same f) (sym at_slot) l))
 
   module _ (tagged : IsTagged tags slots) where
     module _ (count mask start : ℕ) (counted : count ≡ length slots) (some : count ≢ 0) (masked : IsMask mask slots) (is : start ≡ home (mask + 1) hash) where
       at_home : (0 < length slots) × (start ≡ a)
-      at_home = let places : 0 < length slots = omega arith in (places, is ∙ ap (λ n. home n hash) (masked places))
+      at_home = let some : 0 < length slots = omega arith in (some, is ∙ ap (λ n. home n hash) (masked some))
 
       pub home_room : start + 16 ≤ length tags
       home_room = omega (arith, at_home.1, home-below (length slots) hash at_home.0, long_tags tags slots tagged.sized at_home.0)
@@ -75,48 +75,48 @@ module _ {F T : Type 0} (g : Mut F (Bor T × Unit {0}) Bool) (hash : ℕ) (tags 
             search = path_moved g (behind 0) first first hash a 0 (way hash slots a + (a - a)) slots (omega (arith, here)) (searching_begins g (behind 0) first);
           })
 
-    module _ (start place same : ℕ) (f : F) (l : Looking start place same f) where
+    module _ (start slot same : ℕ) (f : F) (l : Looking start slot same f) where
       some : 0 < length slots
       some = let start_in = l.window.start_in in omega arith
 
       -- where no bit is left
       module _ (none : same ≡ 0) (empties : ℕ) (its : empties ≡ tag_bits empty_tag tags start 16) where
-        over : AtWindow hash tags slots start place 0
-        over = subst (λ b. AtWindow hash tags slots start place b) none l.window
+        over : AtWindow hash tags slots start slot 0
+        over = subst (λ b. AtWindow hash tags slots start slot b) none l.window
 
         room : start + 16 ≤ length tags
         room = let start_in = l.window.start_in in omega (arith, long_tags tags slots tagged.sized some)
 
-        -- the search ends at a window with an empty place
+        -- the search ends at a window with an empty slot
         pub looking_ends : InPlace (length slots) slots → empties ≢ 0 → Searches g (holders_in hash slots) first None f
         looking_ends in_place empty =
             let n : ℕ = count_trailing_zeros 64 (tag_bits empty_tag tags start 16) in
             let there = first-by_bits empty_tag tags start 16 room n (omega arith) (λ z. empty (its ∙ z)) refl in
             let within = there.within in
-            searching_ends g (holders_in hash slots) (behind 0) (behind (way hash slots start + (place - start))) first f (listed hash a slots)
-            (window_ends hash tags slots tagged some start place (start + n) over in_place (omega arith) (omega arith) there.there there.before) l.search
+            searching_ends g (holders_in hash slots) (behind 0) (behind (way hash slots start + (slot - start))) first f (listed hash a slots)
+            (window_ends hash tags slots tagged some start slot (start + n) over in_place (omega arith) (omega arith) there.there there.before) l.search
 
         -- or goes on to the next
         pub looking_goes_on : (mask sought next bits : ℕ) → (0 < length slots → (q : ℕ) × (q < length slots) × (at slots q ≡ None)) → IsMask mask slots → sought ≡ tag hash → empties ≡ 0
             → (start + 16 ≤ mask → next ≡ start + 16) → (mask < start + 16 → next ≡ 0) → BitsUpToEmpty sought tags next bits
-            → Looking next next bits f × (left_to_look hash slots next next < left_to_look hash slots start place)
+            → Looking next next bits f × (left_to_look hash slots next next < left_to_look hash slots start slot)
         looking_goes_on mask sought next bits free masked seeks full on round b =
-            let goes = window_goes_on hash tags slots tagged some (free some) mask start place next bits (masked some) over
+            let goes = window_goes_on hash tags slots tagged some (free some) mask start slot next bits (masked some) over
             (none-by_bits empty_tag tags start 16 room (sym its ∙ full)) on round (subst (λ t. BitsUpToEmpty t tags next bits) seeks b) in (
               record { window = goes.on; search = searching_on g (behind 0) _ _ first f goes.left l.search },
-              farther (length slots) _ _ next start place goes.farther (distance-below (length slots) a next (home-below (length slots) hash some) goes.on.start_in),
+              farther (length slots) _ _ next start slot goes.farther (distance-below (length slots) a next (home-below (length slots) hash some) goes.on.start_in),
             )
 
-      -- at the place of the lowest bit
+      -- at the slot of the lowest bit
       module _ (bit : same ≢ 0) where
         abbrev steps : ℕ
         steps = count_trailing_zeros 64 same
 
         abbrev here : ℕ
-        here = place + steps
+        here = slot + steps
 
-        found : Matched hash tags slots tagged some start place same steps
-        found = window_matches hash tags slots tagged some start place same steps l.window bit refl
+        found : Matched hash tags slots tagged some start slot same steps
+        found = window_matches hash tags slots tagged some start slot same steps l.window bit refl
 
         pub looking_within : here < length slots
         looking_within = found.in_range
@@ -124,8 +124,8 @@ module _ {F T : Type 0} (g : Mut F (Bor T × Unit {0}) Bool) (hash : ℕ) (tags 
         pub looking_full : IsFilled slots here
         looking_full = filled-by_some (at slots here) found.full
 
-        pub looking_nearer : left_to_look hash slots start (here + 1) < left_to_look hash slots start place
-        looking_nearer = nearer _ start place steps found.near
+        pub looking_nearer : left_to_look hash slots start (here + 1) < left_to_look hash slots start slot
+        looking_nearer = nearer _ start slot steps found.near
 
         module _ (h : ℕ) (item : T) (is : at slots here ≡ Some (h, item)) where
           asked : Searching g (behind 0) first f (behind (way hash slots here))

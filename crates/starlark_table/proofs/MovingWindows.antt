@@ -9,7 +9,7 @@ use Rattle.starlark_table.proofs.Closing.{full_in_range}
 use Rattle.starlark_table.proofs.FullBits.{window_next, window_done}
 
 module _ {T : Type 0} where
-  -- the full places of a window in front of those that are left were emptied, and the others stay
+  -- the full slots of a window in front of those that are left were emptied, and the others stay
   pub record EmptyingWindow (initial cur : List (Option (ℕ × T))) (start end bits : ℕ) : Type 0 where
     pub next : ℕ
     pub left : LeftInWindow initial start end next bits
@@ -31,7 +31,7 @@ module _ {T : Type 0} where
 
   module _ (initial cur : List (Option (ℕ × T))) (start end bits k : ℕ) (w : EmptyingWindow initial cur start end bits)
       (some : bits ≢ 0) (lowest : k ≡ count_trailing_zeros 64 bits) where
-    -- the place of the lowest bit is full
+    -- the slot of the lowest bit is full
     pub emptying-finds : (m : ℕ × T) × (at cur (start + k) ≡ Some m)
     emptying-finds =
         let r = window_next initial start end w.next bits k w.left some lowest in
@@ -42,17 +42,17 @@ module _ {T : Type 0} where
         let r = window_next initial start end w.next bits k w.left some lowest in
         let ahead = r.ahead in
         let from = w.left.from in
-        let place : ℕ = start + k in
-        let place_in = full_in_range cur place r.member (w.after place ahead ∙ r.here) in
-        let other : (p : ℕ) → p ≢ place → at (set cur place None) p ≡ at cur p = λ p apart. get_or-set_other cur place p None None apart in
+        let slot : ℕ = start + k in
+        let slot_in = full_in_range cur slot r.member (w.after slot ahead ∙ r.here) in
+        let other : (p : ℕ) → p ≢ slot → at (set cur slot None) p ≡ at cur p = λ p apart. get_or-set_other cur slot p None None apart in
         record {
-          next = place + 1;
+          next = slot + 1;
           left = r.on;
-          sized = length-set cur place None ∙ w.sized;
-          emptied = λ p low high. elim (cases_lt p place) [
+          sized = length-set cur slot None ∙ w.sized;
+          emptied = λ p low high. elim (cases_lt p slot) [
             | inr last ↦
-                let same : p ≡ place = omega arith in
-                ap (at (set cur place None)) same ∙ get_or-set_same cur place None None place_in
+                let same : p ≡ slot = omega arith in
+                ap (at (set cur slot None)) same ∙ get_or-set_same cur slot None None slot_in
             | inl earlier ↦ other p (λ e. absurd (omega arith)) ∙ elim (cases_lt p w.next) [
               | inl taken ↦ w.emptied p low taken
               | inr passed ↦ w.after p passed ∙ r.passed p passed earlier

@@ -1,4 +1,4 @@
--- An empty place that no way leads over, since empty places stand near on both sides.
+-- An empty slot that no way leads over, since empty slots stand near on both sides.
 use Rattle.std.proofs.Common.{◌≢◌, ℕ, ◌<◌, List, length, Option, Some, None, IsSome, arith, sym, ap, subst, inl, inr}
 use Rattle.std.proofs.Math.ListN.{set}
 use Rattle.std.proofs.lemmas.Bool.{cases_order}

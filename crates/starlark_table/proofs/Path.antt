@@ -67,16 +67,16 @@ module _ {T : Type 0} where
   read_there a q i k slots d o a_in q_in e read =
       sym (ap (λ s. s.1) (get_or-drop i (turn a (enumerate_from 0 slots)) k d ∙ on_path a q (i + k) slots d a_in q_in e)) ∙ read
 
-  pub path-step : (a place i : ℕ) (slots : List (Option (ℕ × T))) → a < length slots → place < length slots
-      → distance (length slots) a place ≡ i
-      → path_from a slots i ≡ (place, at slots place) ∷ path_from a slots (i + 1)
-  path-step a place i slots a_in place_in e =
+  pub path-step : (a slot i : ℕ) (slots : List (Option (ℕ × T))) → a < length slots → slot < length slots
+      → distance (length slots) a slot ≡ i
+      → path_from a slots i ≡ (slot, at slots slot) ∷ path_from a slots (i + 1)
+  path-step a slot i slots a_in slot_in e =
       let below : i < length (turn a (enumerate_from 0 slots)) =
-      rw (length-path a slots, ← e) (distance-below (length slots) a place a_in place_in) in
-      drop-cons (turn a (enumerate_from 0 slots)) i (place, None) below
-      ∙ rw (on_path a place i slots (place, None) a_in place_in e, add-one) refl
+      rw (length-path a slots, ← e) (distance-below (length slots) a slot a_in slot_in) in
+      drop-cons (turn a (enumerate_from 0 slots)) i (slot, None) below
+      ∙ rw (on_path a slot i slots (slot, None) a_in slot_in e, add-one) refl
 
-  -- what is left of the path from so many steps on does not hold the hash, where no place that far does
+  -- what is left of the path from so many steps on does not hold the hash, where no slot that far does
   pub path-over : (hash a i : ℕ) (slots : List (Option (ℕ × T))) → a < length slots
       → ((q : ℕ) (x : T) → q < length slots → i ≤ distance (length slots) a q → at slots q ≡ Some (hash, x) → ⊥)
       → holders hash (path_from a slots i) ≡ []
@@ -93,44 +93,44 @@ module _ {T : Type 0} where
   holders-skip hash p None rest lacks = refl
   holders-skip hash p (Some (h, x)) rest lacks = skipped hash p h x rest (λ e. lacks x (ap (λ k. Some (k, x)) e))
 
-  -- the path, past k places side by side that do not hold the hash
-  pub path-run : (hash a place i k : ℕ) (slots : List (Option (ℕ × T))) → a < length slots → place + k ≤ length slots
-      → ((q : ℕ) → place ≤ q → q < place + k → distance (length slots) a q ≡ i + (q - place))
-      → ((q : ℕ) (x : T) → place ≤ q → q < place + k → at slots q ≡ Some (hash, x) → ⊥)
+  -- the path, past k slots side by side that do not hold the hash
+  pub path-run : (hash a slot i k : ℕ) (slots : List (Option (ℕ × T))) → a < length slots → slot + k ≤ length slots
+      → ((q : ℕ) → slot ≤ q → q < slot + k → distance (length slots) a q ≡ i + (q - slot))
+      → ((q : ℕ) (x : T) → slot ≤ q → q < slot + k → at slots q ≡ Some (hash, x) → ⊥)
       → (j : ℕ) → j ≡ i + k → holders hash (path_from a slots i) ≡ holders hash (path_from a slots j)
-  path-run hash a place i zero slots a_in fits steps lacks j is =
+  path-run hash a slot i zero slots a_in fits steps lacks j is =
       let same : i ≡ j = omega arith in ap (λ n. holders hash (path_from a slots n)) same
-  path-run hash a place i (suc k) slots a_in fits steps lacks j is =
-      let first : distance (length slots) a place ≡ i = omega (arith, steps place (omega arith) (omega arith)) in
-      ap (holders hash) (path-step a place i slots a_in (omega arith) first)
-      ∙ holders-skip hash place (at slots place) (path_from a slots (i + 1)) (λ x. lacks place x (omega arith) (omega arith))
-      ∙ path-run hash a (place + 1) (i + 1) k slots a_in (omega arith)
+  path-run hash a slot i (suc k) slots a_in fits steps lacks j is =
+      let first : distance (length slots) a slot ≡ i = omega (arith, steps slot (omega arith) (omega arith)) in
+      ap (holders hash) (path-step a slot i slots a_in (omega arith) first)
+      ∙ holders-skip hash slot (at slots slot) (path_from a slots (i + 1)) (λ x. lacks slot x (omega arith) (omega arith))
+      ∙ path-run hash a (slot + 1) (i + 1) k slots a_in (omega arith)
       (λ q low high. omega (arith, steps q (omega arith) (omega arith)))
       (λ q x low high. lacks q x (omega arith) (omega arith)) j (omega arith)
 
-  pub read_at : (slots : List (Option (ℕ × T))) (place : ℕ) (r : Option (ℕ × T)) → place < length slots
-      → r ≡ get_or slots place r → at slots place ≡ r
-  read_at slots place r place_in e = get_or_default slots place None r place_in ∙ sym e
+  pub read_at : (slots : List (Option (ℕ × T))) (slot : ℕ) (r : Option (ℕ × T)) → slot < length slots
+      → r ≡ get_or slots slot r → at slots slot ≡ r
+  read_at slots slot r slot_in e = get_or_default slots slot None r slot_in ∙ sym e
 
-  -- the path, from a place that holds the hash
-  pub path-taken : (hash a place i : ℕ) (item : T) (slots : List (Option (ℕ × T)))
-      → a < length slots → place < length slots
-      → distance (length slots) a place ≡ i → at slots place ≡ Some (hash, item)
-      → holders hash (path_from a slots i) ≡ (place, item) ∷ holders hash (path_from a slots (i + 1))
-  path-taken hash a place i item slots a_in place_in e here =
-      ap (holders hash) (path-step a place i slots a_in place_in e)
-      ∙ ap (λ o. holders hash ((place, o) ∷ path_from a slots (i + 1))) here
-      ∙ taken hash place item (path_from a slots (i + 1))
+  -- the path, from a slot that holds the hash
+  pub path-taken : (hash a slot i : ℕ) (item : T) (slots : List (Option (ℕ × T)))
+      → a < length slots → slot < length slots
+      → distance (length slots) a slot ≡ i → at slots slot ≡ Some (hash, item)
+      → holders hash (path_from a slots i) ≡ (slot, item) ∷ holders hash (path_from a slots (i + 1))
+  path-taken hash a slot i item slots a_in slot_in e here =
+      ap (holders hash) (path-step a slot i slots a_in slot_in e)
+      ∙ ap (λ o. holders hash ((slot, o) ∷ path_from a slots (i + 1))) here
+      ∙ taken hash slot item (path_from a slots (i + 1))
 
-  -- the path, from a place that holds another hash
-  pub path-skipped : (hash a place i h : ℕ) (item : T) (slots : List (Option (ℕ × T)))
-      → a < length slots → place < length slots
-      → distance (length slots) a place ≡ i → at slots place ≡ Some (h, item) → (h ≡ hash → ⊥)
+  -- the path, from a slot that holds another hash
+  pub path-skipped : (hash a slot i h : ℕ) (item : T) (slots : List (Option (ℕ × T)))
+      → a < length slots → slot < length slots
+      → distance (length slots) a slot ≡ i → at slots slot ≡ Some (h, item) → (h ≡ hash → ⊥)
       → holders hash (path_from a slots i) ≡ holders hash (path_from a slots (i + 1))
-  path-skipped hash a place i h item slots a_in place_in e here other =
-      ap (holders hash) (path-step a place i slots a_in place_in e)
-      ∙ ap (λ o. holders hash ((place, o) ∷ path_from a slots (i + 1))) here
-      ∙ skipped hash place h item (path_from a slots (i + 1)) other
+  path-skipped hash a slot i h item slots a_in slot_in e here other =
+      ap (holders hash) (path-step a slot i slots a_in slot_in e)
+      ∙ ap (λ o. holders hash ((slot, o) ∷ path_from a slots (i + 1))) here
+      ∙ skipped hash slot h item (path_from a slots (i + 1)) other
 
   -- the path holds each slot of the hash once
   pub listed : (hash a : ℕ) (slots : List (Option (ℕ × T)))
@@ -141,11 +141,11 @@ module _ {T : Type 0} where
       subst (λ l. IsPermutation (holders hash l) (holders hash (drop a es ++ take a es))) (take-append-drop a es)
       (rw (holders-append hash (take a es) (drop a es), holders-append hash (drop a es) (take a es)) swapped)
 
-  pub in_filled : (slots : List (Option (ℕ × T))) (place : ℕ) (m : ℕ × T) → at slots place ≡ Some m
+  pub in_filled : (slots : List (Option (ℕ × T))) (slot : ℕ) (m : ℕ × T) → at slots slot ≡ Some m
       → Contains (filled slots) m
-  in_filled [] place m e = absurd (cc)
+  in_filled [] slot m e = absurd (cc)
   in_filled (None ∷ slots) zero m e = absurd (cc)
-  in_filled (None ∷ slots) (suc place) m e = in_filled slots place m e
+  in_filled (None ∷ slots) (suc slot) m e = in_filled slots slot m e
   in_filled (Some n ∷ slots) zero m e = (0, omega arith, cc)
-  in_filled (Some n ∷ slots) (suc place) m e =
-      let rest = in_filled slots place m e in (rest.0 + 1, omega (arith, rest.1), rw add-one rest.2)
+  in_filled (Some n ∷ slots) (suc slot) m e =
+      let rest = in_filled slots slot m e in (rest.0 + 1, omega (arith, rest.1), rw add-one rest.2)

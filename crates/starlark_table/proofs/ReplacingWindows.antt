@@ -103,7 +103,7 @@ module _ {F T : Type 0} (g : Mut F (Bor T × Unit {0}) T) where
   within-empty f xs i none = record {
     before = refl;
     items = elim (cases_lt i (length xs)) [
-      | inl place ↦ subst (λ l. ReplacesEach g f l l f) (sym (slice_one xs i None place ∙ ap (λ o. o ∷ []) none)) ([], refl, (refl, refl))
+      | inl slot ↦ subst (λ l. ReplacesEach g f l l f) (sym (slice_one xs i None slot ∙ ap (λ o. o ∷ []) none)) ([], refl, (refl, refl))
       | inr out ↦ subst (λ l. ReplacesEach g f l l f) (sym (slice_out xs i (i + 1) out)) (refl, refl)
     ];
     after = refl;
@@ -145,7 +145,7 @@ module _ {F T : Type 0} (g : Mut F (Bor T × Unit {0}) T) where
       (can_replace-past f f' (slice_range old i j) (drop j old) (slice_range new i j) w.items
       (subst (λ l. CanReplace g (items_in l) f) (drop_split old i j on) can))
 
-  -- a walk over a window has replaced the items in front of the full places that are left
+  -- a walk over a window has replaced the items in front of the full slots that are left
   pub record ReplacingWindow (first : F) (initial cur : List (Option (ℕ × T))) (f : F) (start end bits : ℕ) : Type 0 where
     pub next : ℕ
     pub left : LeftInWindow initial start end next bits
@@ -161,16 +161,16 @@ module _ {F T : Type 0} (g : Mut F (Bor T × Unit {0}) T) where
     found : NextFull initial start end w.next bits k
     found = window_next initial start end w.next bits k w.left some lowest
 
-    -- the place of the lowest bit is full
+    -- the slot of the lowest bit is full
     pub replacing-finds : (m : ℕ × T) × (at cur (start + k) ≡ Some m)
     unfolding found
     replacing-finds =
         let r = found in
         (r.member, alike_behind cur initial w.next (start + k) None w.replaced.after r.ahead ∙ r.here)
 
-    up_to_place : ReplacesWithin g first initial cur f start (start + k)
+    up_to_slot : ReplacesWithin g first initial cur f start (start + k)
     unfolding found
-    up_to_place =
+    up_to_slot =
         let r = found in
         let from = w.left.from in
         let ahead = r.ahead in
@@ -183,24 +183,24 @@ module _ {F T : Type 0} (g : Mut F (Bor T × Unit {0}) T) where
     module _ (m : ℕ × T) (here : at cur (start + k) ≡ Some m) where
       -- f may be shown its item
       pub replacing-asks : CanReplace g (items_in (drop start initial)) first → TakesAt g f m.1
-      unfolding up_to_place
+      unfolding up_to_slot
       replacing-asks can =
-          let place_in = full_in_range cur (start + k) m here in
+          let slot_in = full_in_range cur (start + k) m here in
           let left : drop (start + k) cur ≡ Some m ∷ drop (suc (start + k)) cur =
-          drop-cons cur (start + k) None place_in ∙ ap (λ o. o ∷ drop (suc (start + k)) cur) here in
+          drop-cons cur (start + k) None slot_in ∙ ap (λ o. o ∷ drop (suc (start + k)) cur) here in
           walk_asks (TakesAt g) _ m.1 (items_in (drop (suc (start + k)) cur)) f
           (subst (λ l. CanReplace g (items_in l) f) left
-          (can_replace-after first f initial cur start (start + k) (omega arith) up_to_place can))
+          (can_replace-after first f initial cur start (start + k) (omega arith) up_to_slot can))
 
       pub replacing-goes_on : (y : T) (f' : F) → CalledAt g f m.1 y f'
           → ReplacingWindow first initial (set cur (start + k) (Some (m.0, y))) f' start end (bit_and bits (bits - 1))
-      unfolding found up_to_place
+      unfolding found up_to_slot
       replacing-goes_on y f' called = record {
         next = start + k + 1;
         left = found.on;
         sized = length-set cur (start + k) (Some (m.0, y)) ∙ w.sized;
         replaced = within-join first f f' initial cur (set cur (start + k) (Some (m.0, y))) start (start + k) (start + k + 1) (omega arith) (omega arith)
-            up_to_place (within-member f f' cur (start + k) m.0 m.1 y (full_in_range cur (start + k) m here) here called);
+            up_to_slot (within-member f f' cur (start + k) m.0 m.1 y (full_in_range cur (start + k) m here) here called);
       }
 
   -- where no bit is left, the window is done

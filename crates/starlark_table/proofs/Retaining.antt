@@ -19,7 +19,7 @@ AsksSlot g f None kept f' new = (kept ≡ false) × (f' ≡ f) × (new ≡ None)
 AsksSlot {F} {T} g f (Some m) kept f' new = (y : T) × CalledAtMut g f m.1 kept f' y × (new ≡ (if kept then Some (m.0, y) else None))
 
 module _ {F T : Type 0} (g : Mut F (MutBor T × Unit {0}) (Bool × (MutBor T × Unit {0}))) where
-  -- what the walk does at one place
+  -- what the walk does at one slot
   pub record Turn (cur new : List (Option (ℕ × T))) (tags : List ℕ) (i count count' : ℕ) (f f' : F) : Type 0 where
     pub keeps : Bool
     pub slot : Option (ℕ × T)

@@ -62,22 +62,22 @@ module _ {F T : Type 0} (g : Mut F (Bor T × Unit {0}) Bool) where
   searches_none hash [] f none = record { order = []; rearranged = IsPermutation-refl []; asks = (refl, refl) }
   searches_none hash (o ∷ slots) f none = absurd (omega arith)
 
-  module _ (items : List (ℕ × T)) (first f : F) (hash a place h : ℕ) (item : T) (slots : List (Option (ℕ × T))) where
+  module _ (items : List (ℕ × T)) (first f : F) (hash a slot h : ℕ) (item : T) (slots : List (Option (ℕ × T))) where
     -- the next slot of the path holds the hash
-    pub path_taken : a < length slots → place < length slots → at slots place ≡ Some (h, item) → h ≡ hash
-        → Searching items first f (holders hash (path_from a slots (distance (length slots) a place)))
-        → Searching items first f ((place, item) ∷ holders hash (path_from a slots (distance (length slots) a place + 1)))
-    path_taken a_in place_in here same s =
+    pub path_taken : a < length slots → slot < length slots → at slots slot ≡ Some (h, item) → h ≡ hash
+        → Searching items first f (holders hash (path_from a slots (distance (length slots) a slot)))
+        → Searching items first f ((slot, item) ∷ holders hash (path_from a slots (distance (length slots) a slot + 1)))
+    path_taken a_in slot_in here same s =
         subst (λ l. Searching items first f l)
-        (path-taken hash a place (distance (length slots) a place) item slots a_in place_in refl (here ∙ ap (λ k. Some (k, item)) same)) s
+        (path-taken hash a slot (distance (length slots) a slot) item slots a_in slot_in refl (here ∙ ap (λ k. Some (k, item)) same)) s
 
     -- the next slot of the path holds another hash
-    pub path_skipped : a < length slots → place < length slots → at slots place ≡ Some (h, item) → (h ≡ hash → ⊥)
-        → Searching items first f (holders hash (path_from a slots (distance (length slots) a place)))
-        → Searching items first f (holders hash (path_from a slots (distance (length slots) a place + 1)))
-    path_skipped a_in place_in here other s =
+    pub path_skipped : a < length slots → slot < length slots → at slots slot ≡ Some (h, item) → (h ≡ hash → ⊥)
+        → Searching items first f (holders hash (path_from a slots (distance (length slots) a slot)))
+        → Searching items first f (holders hash (path_from a slots (distance (length slots) a slot + 1)))
+    path_skipped a_in slot_in here other s =
         subst (λ l. Searching items first f l)
-        (path-skipped hash a place (distance (length slots) a place) h item slots a_in place_in refl here other) s
+        (path-skipped hash a slot (distance (length slots) a slot) h item slots a_in slot_in refl here other) s
 
   pub path_moved : (items : List (ℕ × T)) (first f : F) (hash a i j : ℕ) (slots : List (Option (ℕ × T))) → j ≡ i
       → Searching items first f (holders hash (path_from a slots i)) → Searching items first f (holders hash (path_from a slots j))

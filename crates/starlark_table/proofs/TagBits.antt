@@ -1,4 +1,4 @@
--- Bits that tell at which of some places a tag stands.
+-- Bits that tell at which of some slots a tag stands.
 use Rattle.std.proofs.Common.{◌≡◌, ◌≢◌, ℕ, zero, suc, ◌+◌, ◌*◌, ◌/◌, ◌%◌, ◌^◌, ◌<◌, ◌≤◌, List, [], ◌∷◌, Bool, true, false, cond, not, length, get_or, map, take, arith, ap, sym, refl, ◌∙◌, eqb-true, drop-cons}
 use Rattle.std.proofs.lemmas.Bool.{eqb-false}
 use Rattle.std.proofs.lemmas.Simd.{length-chunk, trailing_mask_l, run_in_chunk_fails, run_in_chunk_stops, none_from_empty_mask}
@@ -37,7 +37,7 @@ module _ (sought : ℕ) (tags : List ℕ) where
       ap (λ r. cond (nat_eq (get_or tags from 0) sought) 1 0 + 2 * r) (tag_bits-chunk (suc from) n (omega arith))
       ∙ sym (ap (λ l. mask_l (map (λ t. nat_eq t sought) (take (suc n) l))) (drop-cons tags from 0 below))
 
-  -- without the lowest k bits, those of the places from k further on
+  -- without the lowest k bits, those of the slots from k further on
   pub tag_bits-later : (from k n to all : ℕ) → all ≡ k + n → to ≡ from + k → tag_bits sought tags from all / 2 ^ k ≡ tag_bits sought tags to n
   unfolding tag_bits
   tag_bits-later from zero n to all e f =
@@ -52,7 +52,7 @@ module _ (sought : ℕ) (tags : List ℕ) where
       ∙ ap (λ r. r / 2 ^ k) (lowest (nat_eq (get_or tags from 0) sought) (tag_bits sought tags (suc from) all)).1
       ∙ tag_bits-later (suc from) k n to all (omega arith) (omega arith)
 
-  -- the lowest k bits are those of the first k places
+  -- the lowest k bits are those of the first k slots
   pub tag_bits-front : (from k n all : ℕ) → all ≡ k + n → tag_bits sought tags from all % 2 ^ k ≡ tag_bits sought tags from k
   unfolding tag_bits
   tag_bits-front from zero n all e = ap (λ d. tag_bits sought tags from all % d) (pow-zero 2) ∙ mod-one (tag_bits sought tags from all)
@@ -66,18 +66,18 @@ module _ (sought : ℕ) (tags : List ℕ) where
       ∙ turned (cond (nat_eq (get_or tags from 0) sought) 1 0) (tag_bits sought tags (suc from) k)
 
   module _ (from n : ℕ) (room : from + n ≤ length tags) where
-    -- where no bit is set, no place has the tag
+    -- where no bit is set, no slot has the tag
     pub none-by_bits : tag_bits sought tags from n ≡ 0 → (p : ℕ) → from ≤ p → p < from + n → get_or tags p 0 ≢ sought
     none-by_bits none p low high =
         eqb-false _ sought (none_from_empty_mask (λ t. nat_eq t sought) tags from n 0 room (sym (tag_bits-chunk from n room) ∙ none) p low high)
 
-    -- the first place with the tag, so many places on
+    -- the first slot with the tag, so many slots on
     pub record FirstTagged (k : ℕ) : Type 0 where
       pub within : k < n
       pub there : get_or tags (from + k) 0 ≡ sought
       pub before : (p : ℕ) → from ≤ p → p < from + k → get_or tags p 0 ≢ sought
 
-    -- where a bit is set, the lowest is that of the first place that has the tag
+    -- where a bit is set, the lowest is that of the first slot that has the tag
     pub first-by_bits : (k : ℕ) → n ≤ 64 → tag_bits sought tags from n ≢ 0 → k ≡ count_trailing_zeros 64 (tag_bits sought tags from n) → FirstTagged k
     first-by_bits k few some is =
         let bits = tag_bits-chunk from n room in

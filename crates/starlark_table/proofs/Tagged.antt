@@ -15,7 +15,7 @@ unfolding tag
 tag-below hash = omega arith
 
 module _ {T : Type 0} where
-  -- each place has a tag
+  -- each slot has a tag
   pub tag-in_range : (tags : List ℕ) (slots : List (Option (ℕ × T))) (i : ℕ) → HasTags tags slots → i < length slots
       → i < length tags
   tag-in_range tags slots i sized i_in =
@@ -40,7 +40,7 @@ module _ {T : Type 0} where
   some_by_tag None t e full = absurd (full (sym e))
   some_by_tag (Some m) t e full = refl
 
-  -- a place with the empty tag is empty, and one with another tag is full
+  -- a slot with the empty tag is empty, and one with another tag is full
   pub empty-by_tag : (tags : List ℕ) (slots : List (Option (ℕ × T))) (p : ℕ) → IsTagged tags slots → p < length slots
       → get_or tags p 0 ≡ empty_tag → at slots p ≡ None
   empty-by_tag tags slots p t p_in e = none_by_tag (at slots p) (sym (t.tagged p p_in) ∙ e)

@@ -1,4 +1,4 @@
--- An empty place in the home's window of a hash: where no tag there is that of the hash no member has it, and one may go there.
+-- An empty slot in the home's window of a hash: where no tag there is that of the hash no member has it, and one may go there.
 use Rattle.std.proofs.Common.{◌≡◌, ◌≢◌, ℕ, ◌+◌, ◌-◌, ◌<◌, ◌≤◌, List, [], ◌∷◌, length, Option, arith, refl, sym, ◌∙◌, ap, subst, inl, inr}
 use Rattle.std.proofs.lemmas.List.Sorted.{length_permutation}
 use Rattle.std.specs.Int.Count.{count_trailing_zeros}

@@ -26,7 +26,7 @@ module _ (a : NamedLft) (K V H : RattleType) (G : KeptHash.Ghosts H.Denot) where
   BehindWalk x = (w : WD.Inside K.Denot V.Denot H.Denot) × ((W.the_view a K V H G w ≡ x) × W.the_invariant a K V H G w)
 
   under-loan : (x : Loan) (tie : GName) → BehindLoan x → BehindLoan (record x { tie = tie })
-  under-loan x tie l = (record l.0 { places = record l.0.places { tie = tie } }, (ap (λ (y : Loan). record y { tie = tie }) l.1.0, l.1.1))
+  under-loan x tie l = (record l.0 { slots = record l.0.slots { tie = tie } }, (ap (λ (y : Loan). record y { tie = tie }) l.1.0, l.1.1))
 
   under-walk : (x : Walk) (tie : GName) → BehindWalk x → BehindWalk (x.0, tie)
   under-walk x tie w = (record w.0 { loan = record w.0.loan { tie = tie } }, (ap (λ (y : Walk). (y.0, tie)) w.1.0, w.1.1))

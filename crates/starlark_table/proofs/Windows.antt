@@ -13,7 +13,7 @@ use Rattle.starlark_table.proofs.TagBits.{none-by_bits, first-by_bits, tag_bits-
 use Rattle.starlark_table.proofs.TagCount.{long_tags}
 
 module _ {T : Type 0} (tags : List ℕ) (slots : List (Option (ℕ × T))) (tagged : IsTagged tags slots) where
-  -- a tag that is not the padding is that of a place
+  -- a tag that is not the padding is that of a slot
   pub not_padding : (q t : ℕ) → q < length tags → get_or tags q 0 ≡ t → t ≢ padding → q < length slots
   not_padding q t q_in e differ =
       elim (cases_lt q (length slots)) [
@@ -21,7 +21,7 @@ module _ {T : Type 0} (tags : List ℕ) (slots : List (Option (ℕ × T))) (tagg
         | inr above ↦ absurd (differ (sym e ∙ tagged.padded q above q_in))
       ]
 
-  -- the way from a place leads over full places up to another, and one place is empty
+  -- the way from a slot leads over full slots up to another, and one slot is empty
   module _ (a : ℕ) (a_in : a < length slots) (free : (q : ℕ) × (q < length slots) × (at slots q ≡ None)) where
     abbrev pub FullUpTo : ℕ → Type 0
     FullUpTo start = (q : ℕ) → q < length slots → distance (length slots) a q < distance (length slots) a start → IsSome (at slots q)
@@ -43,7 +43,7 @@ module _ {T : Type 0} (tags : List ℕ) (slots : List (Option (ℕ × T))) (tagg
           ]
         ]
 
-    -- over full places the way does not come round to where it began
+    -- over full slots the way does not come round to where it began
     pub straight_over : (start q : ℕ) → start < length slots → q < length slots → start ≤ q → FullUpTo start
         → ((p : ℕ) → start ≤ p → p < q → IsSome (at slots p)) → distance (length slots) a q ≡ distance (length slots) a start + (q - start)
     straight_over start q start_in q_in low path full =
@@ -54,7 +54,7 @@ module _ {T : Type 0} (tags : List ℕ) (slots : List (Option (ℕ × T))) (tagg
       pub steps : distance (length slots) a next ≡ distance (length slots) a start + (end - start)
       pub path : FullUpTo next
 
-    -- past full places up to the end of a window, or up to the last place and round to the first
+    -- past full slots up to the end of a window, or up to the last slot and round to the first
     pub passed : (start next end : ℕ) → start < length slots → start < end → end ≤ length slots → FullUpTo start
         → ((q : ℕ) → start ≤ q → q < end → IsSome (at slots q))
         → ((end ≡ length slots) × (next ≡ 0)) ⊎ ((end < length slots) × (next ≡ end)) → Passed start next end
@@ -74,7 +74,7 @@ module _ {T : Type 0} (tags : List ℕ) (slots : List (Option (ℕ × T))) (tagg
     room_at : (start : ℕ) → start < length slots → start + 16 ≤ length tags
     room_at start start_in = let long : length tags ≡ length slots + 16 = long_tags tags slots tagged.sized (omega arith) in omega arith
 
-    -- past a window with no empty place
+    -- past a window with no empty slot
     pub passes_window : (mask start next : ℕ) → mask + 1 ≡ length slots → start < length slots → FullUpTo start → 0 ≡ tag_bits empty_tag tags start 16
         → (start + 16 ≤ mask → next ≡ start + 16) → (mask < start + 16 → next ≡ 0)
         → (next < length slots) × FullUpTo next × (distance (length slots) a start < distance (length slots) a next)
@@ -91,7 +91,7 @@ module _ {T : Type 0} (tags : List ℕ) (slots : List (Option (ℕ × T))) (tagg
               (p.in_range, p.path, omega (arith, p.steps))
         ]
 
-    -- at the first empty place of a window
+    -- at the first empty slot of a window
     pub near_in_window : (start bits k : ℕ) → start < length slots → bits ≡ tag_bits empty_tag tags start 16 → bits ≢ 0
         → k ≡ count_trailing_zeros 64 bits → IsFar start (start + k) → ⊥
     near_in_window start bits k start_in its some is far =
@@ -124,20 +124,20 @@ module _ {T : Type 0} (tags : List ℕ) (slots : List (Option (ℕ × T))) (tagg
         )
 
 module _ {T : Type 0} where
-  -- how many steps lead from the home of a hash to a place
+  -- how many steps lead from the home of a hash to a slot
   abbrev pub way : ℕ → List (Option (ℕ × T)) → ℕ → ℕ
   way hash slots q = distance (length slots) (home (length slots) hash) q
 
-  -- a search is at the window from `start` on, and its bits are those of the places from `place` up to the end
-  pub record AtWindow (hash : ℕ) (tags : List ℕ) (slots : List (Option (ℕ × T))) (start place bits : ℕ) : Type 0 where
+  -- a search is at the window from `start` on, and its bits are those of the slots from `slot` up to the end
+  pub record AtWindow (hash : ℕ) (tags : List ℕ) (slots : List (Option (ℕ × T))) (start slot bits : ℕ) : Type 0 where
     pub start_in : start < length slots
     pub path : (q : ℕ) → q < length slots → way hash slots q < way hash slots start → IsSome (at slots q)
     pub end : ℕ
-    pub from : start ≤ place
-    pub to : place ≤ end
-    pub place_in : place ≤ length slots
+    pub from : start ≤ slot
+    pub to : slot ≤ end
+    pub slot_in : slot ≤ length slots
     pub short : end ≤ start + 16
-    pub its : bits ≡ tag_bits (tag hash) tags place (end - place)
+    pub its : bits ≡ tag_bits (tag hash) tags slot (end - slot)
     pub stop : end < start + 16 → get_or tags end 0 ≡ empty_tag
     pub straight : (q : ℕ) → start ≤ q → q ≤ end → q < length slots → way hash slots q ≡ way hash slots start + (q - start)
     pub first : ((start ≡ home (length slots) hash) × (end ≡ start + 16))
@@ -150,19 +150,19 @@ module _ {T : Type 0} (hash : ℕ) (tags : List ℕ) (slots : List (Option (ℕ 
   lacks : (q : ℕ) (x : T) → get_or tags q 0 ≢ tag hash → at slots q ≡ Some (hash, x) → ⊥
   lacks q x other here = other (tag-member tags slots q hash x tagged here)
 
-  room : (start place bits : ℕ) (w : AtWindow hash tags slots start place bits) → place + (w.end - place) ≤ length tags
-  room start place bits w =
+  room : (start slot bits : ℕ) (w : AtWindow hash tags slots start slot bits) → slot + (w.end - slot) ≤ length tags
+  room start slot bits w =
       let long : length tags ≡ length slots + 16 = long_tags tags slots tagged.sized some in
       let start_in = w.start_in in
       let to = w.to in
       let short = w.short in
       omega arith
 
-  -- where no bit is left, no place that is left holds the hash
-  none_left : (start place : ℕ) (w : AtWindow hash tags slots start place 0) → (q : ℕ) (x : T) → place ≤ q → q < w.end → at slots q ≡ Some (hash, x) → ⊥
-  none_left start place w q x low high =
+  -- where no bit is left, no slot that is left holds the hash
+  none_left : (start slot : ℕ) (w : AtWindow hash tags slots start slot 0) → (q : ℕ) (x : T) → slot ≤ q → q < w.end → at slots q ≡ Some (hash, x) → ⊥
+  none_left start slot w q x low high =
       let to = w.to in
-      lacks q x (none-by_bits (tag hash) tags place (w.end - place) (room start place 0 w) (sym w.its) q low (omega arith))
+      lacks q x (none-by_bits (tag hash) tags slot (w.end - slot) (room start slot 0 w) (sym w.its) q low (omega arith))
 
   pub window_begins : (bits : ℕ) → bits ≡ tag_bits (tag hash) tags (home (length slots) hash) 16
       → AtWindow hash tags slots (home (length slots) hash) (home (length slots) hash) bits
@@ -176,7 +176,7 @@ module _ {T : Type 0} (hash : ℕ) (tags : List ℕ) (slots : List (Option (ℕ 
         end = a + 16;
         from = omega arith;
         to = omega arith;
-        place_in = omega (arith, home_in);
+        slot_in = omega (arith, home_in);
         short = omega arith;
         its = is ∙ ap (tag_bits (tag hash) tags a) whole;
         stop = λ less. absurd (omega arith);
@@ -184,40 +184,40 @@ module _ {T : Type 0} (hash : ℕ) (tags : List ℕ) (slots : List (Option (ℕ 
         first = inl (refl, refl);
       }
 
-  -- the place of the lowest bit, and the search past it
-  pub record Matched (start place bits k : ℕ) : Type 0 where
-    pub in_range : place + k < length slots
-    pub full : IsSome (at slots (place + k))
-    pub left : holders hash (path_from (home (length slots) hash) slots (way hash slots start + (place - start)))
-        ≡ holders hash (path_from (home (length slots) hash) slots (way hash slots (place + k)))
-    pub after : way hash slots start + (place + k + 1 - start) ≡ way hash slots (place + k) + 1
+  -- the slot of the lowest bit, and the search past it
+  pub record Matched (start slot bits k : ℕ) : Type 0 where
+    pub in_range : slot + k < length slots
+    pub full : IsSome (at slots (slot + k))
+    pub left : holders hash (path_from (home (length slots) hash) slots (way hash slots start + (slot - start)))
+        ≡ holders hash (path_from (home (length slots) hash) slots (way hash slots (slot + k)))
+    pub after : way hash slots start + (slot + k + 1 - start) ≡ way hash slots (slot + k) + 1
     pub few : k < 16
-    pub near : place + k < start + 16
-    pub on : AtWindow hash tags slots start (place + k + 1) (bits / 2 ^ k / 2)
+    pub near : slot + k < start + 16
+    pub on : AtWindow hash tags slots start (slot + k + 1) (bits / 2 ^ k / 2)
 
-  pub window_matches : (start place bits k : ℕ) → AtWindow hash tags slots start place bits → bits ≢ 0 → k ≡ count_trailing_zeros 64 bits
-      → Matched start place bits k
-  window_matches start place bits k w some_bit is =
-      let n : ℕ = w.end - place in
+  pub window_matches : (start slot bits k : ℕ) → AtWindow hash tags slots start slot bits → bits ≢ 0 → k ≡ count_trailing_zeros 64 bits
+      → Matched start slot bits k
+  window_matches start slot bits k w some_bit is =
+      let n : ℕ = w.end - slot in
       let to = w.to in
       let short = w.short in
       let from = w.from in
       let long : length tags ≡ length slots + 16 = long_tags tags slots tagged.sized some in
       let start_in = w.start_in in
       let few : n ≤ 16 = omega arith in
-      let set : tag_bits (tag hash) tags place n ≢ 0 = λ none. some_bit (w.its ∙ none) in
-      let first = first-by_bits (tag hash) tags place n (room start place bits w) k (omega arith) set (is ∙ ap (count_trailing_zeros 64) w.its) in
+      let set : tag_bits (tag hash) tags slot n ≢ 0 = λ none. some_bit (w.its ∙ none) in
+      let first = first-by_bits (tag hash) tags slot n (room start slot bits w) k (omega arith) set (is ∙ ap (count_trailing_zeros 64) w.its) in
       let within = first.within in
       let low = tag-below hash in
-      let in_range : place + k < length slots = not_padding tags slots tagged (place + k) (tag hash) (omega arith) first.there (λ e. absurd (omega arith)) in
-      let steps = w.straight (place + k) (omega arith) (omega arith) in_range in
+      let in_range : slot + k < length slots = not_padding tags slots tagged (slot + k) (tag hash) (omega arith) first.there (λ e. absurd (omega arith)) in
+      let steps = w.straight (slot + k) (omega arith) (omega arith) in_range in
       record {
         in_range = in_range;
-        full = full-by_tag tags slots (place + k) tagged in_range (λ e. absurd (omega (arith, first.there)));
-        left = path-run hash (home (length slots) hash) place (way hash slots start + (place - start)) k slots home_in (omega arith)
+        full = full-by_tag tags slots (slot + k) tagged in_range (λ e. absurd (omega (arith, first.there)));
+        left = path-run hash (home (length slots) hash) slot (way hash slots start + (slot - start)) k slots home_in (omega arith)
             (λ q low high. let straight = w.straight q (omega arith) (omega arith) (omega arith) in omega arith)
             (λ q x low high. lacks q x (first.before q low high))
-            (way hash slots (place + k)) (omega arith);
+            (way hash slots (slot + k)) (omega arith);
         after = omega arith;
         few = omega arith;
         near = omega arith;
@@ -227,22 +227,22 @@ module _ {T : Type 0} (hash : ℕ) (tags : List ℕ) (slots : List (Option (ℕ 
           end = w.end;
           from = omega arith;
           to = omega arith;
-          place_in = omega arith;
+          slot_in = omega arith;
           short = w.short;
-          its = ap (λ b. b / 2 ^ k / 2) w.its ∙ div-div-eq-div-mul (tag_bits (tag hash) tags place n) (2 ^ k) 2
-              ∙ ap (λ d. tag_bits (tag hash) tags place n / d) (sym (pow-suc 2 k))
-              ∙ tag_bits-later (tag hash) tags place (suc k) (w.end - (place + k + 1)) (place + k + 1) n (omega arith) (omega arith);
+          its = ap (λ b. b / 2 ^ k / 2) w.its ∙ div-div-eq-div-mul (tag_bits (tag hash) tags slot n) (2 ^ k) 2
+              ∙ ap (λ d. tag_bits (tag hash) tags slot n / d) (sym (pow-suc 2 k))
+              ∙ tag_bits-later (tag hash) tags slot (suc k) (w.end - (slot + k + 1)) (slot + k + 1) n (omega arith) (omega arith);
           stop = w.stop;
           straight = w.straight;
           first = w.first;
         };
       }
 
-  -- where no bit is left, and the window has an empty place, no place that is left on the way holds the hash
-  pub window_ends : (start place e : ℕ) → AtWindow hash tags slots start place 0 → InPlace (length slots) slots
+  -- where no bit is left, and the window has an empty slot, no slot that is left on the way holds the hash
+  pub window_ends : (start slot e : ℕ) → AtWindow hash tags slots start slot 0 → InPlace (length slots) slots
       → start ≤ e → e < start + 16 → get_or tags e 0 ≡ empty_tag → ((p : ℕ) → start ≤ p → p < e → get_or tags p 0 ≢ empty_tag)
-      → holders hash (path_from (home (length slots) hash) slots (way hash slots start + (place - start))) ≡ []
-  window_ends start place e w in_place low high empty first =
+      → holders hash (path_from (home (length slots) hash) slots (way hash slots start + (slot - start))) ≡ []
+  window_ends start slot e w in_place low high empty first =
       let long : length tags ≡ length slots + 16 = long_tags tags slots tagged.sized some in
       let start_in = w.start_in in
       let from = w.from in
@@ -254,7 +254,7 @@ module _ {T : Type 0} (hash : ℕ) (tags : List ℕ) (slots : List (Option (ℕ 
         | inr within ↦ within
       ] in
       let e_way = w.straight e low e_to e_in in
-      path-over hash (home (length slots) hash) (way hash slots start + (place - start)) slots home_in
+      path-over hash (home (length slots) hash) (way hash slots start + (slot - start)) slots home_in
       (λ q x q_in behind here.
       elim (cases_lt (way hash slots e) (way hash slots q)) [
         | inl past ↦ elim w.first [
@@ -268,7 +268,7 @@ module _ {T : Type 0} (hash : ℕ) (tags : List ℕ) (slots : List (Option (ℕ 
                 | inr ahead ↦
                     let straight : way hash slots q ≡ q - a = distance-ahead (length slots) a q ahead in
                     elim (cases_lt q (a + 16)) [
-                      | inl near ↦ none_left start place w q x (omega (arith, behind, straight, begins, at_home.0, from)) (omega (arith, near, at_home.0, at_home.1)) here
+                      | inl near ↦ none_left start slot w q x (omega (arith, behind, straight, begins, at_home.0, from)) (omega (arith, near, at_home.0, at_home.1)) here
                       | inr beyond ↦ far (inr beyond)
                     ]
               ]
@@ -283,27 +283,27 @@ module _ {T : Type 0} (hash : ℕ) (tags : List ℕ) (slots : List (Option (ℕ 
             elim (cases_order q e) [
               | inl at_e ↦ absurd (cc (ap (at slots) at_e, none, here))
               | inr order ↦ elim order [
-                | inl below ↦ none_left start place w q x (omega arith) (omega arith) here
+                | inl below ↦ none_left start slot w q x (omega arith) (omega arith) here
                 | inr above ↦ absurd (omega arith)
               ]
             ]
       ])
 
   -- the search at the next window
-  pub record GoesOn (start place next bits : ℕ) : Type 0 where
+  pub record GoesOn (start slot next bits : ℕ) : Type 0 where
     pub on : AtWindow hash tags slots next next bits
-    pub left : holders hash (path_from (home (length slots) hash) slots (way hash slots start + (place - start)))
+    pub left : holders hash (path_from (home (length slots) hash) slots (way hash slots start + (slot - start)))
         ≡ holders hash (path_from (home (length slots) hash) slots (way hash slots next + (next - next)))
     pub farther : way hash slots start < way hash slots next
 
-  -- where no bit is left, and no place of the window is empty
+  -- where no bit is left, and no slot of the window is empty
   module _ (free : (q : ℕ) × (q < length slots) × (at slots q ≡ None)) where
-    goes_on_to : (start place next bits end : ℕ) → AtWindow hash tags slots start place 0
-        → ((p : ℕ) → start ≤ p → p < start + 16 → get_or tags p 0 ≢ empty_tag) → start < end → end ≤ length slots → end ≤ start + 16 → place ≤ end
+    goes_on_to : (start slot next bits end : ℕ) → AtWindow hash tags slots start slot 0
+        → ((p : ℕ) → start ≤ p → p < start + 16 → get_or tags p 0 ≢ empty_tag) → start < end → end ≤ length slots → end ≤ start + 16 → slot ≤ end
         → (end ≡ length slots) ⊎ (end ≡ start + 16)
         → ((end ≡ length slots) × (next ≡ 0)) ⊎ ((end < length slots) × (next ≡ end))
-        → BitsUpToEmpty (tag hash) tags next bits → GoesOn start place next bits
-    goes_on_to start place next bits end w full more end_in end_to place_to ends which b =
+        → BitsUpToEmpty (tag hash) tags next bits → GoesOn start slot next bits
+    goes_on_to start slot next bits end w full more end_in end_to slot_to ends which b =
         let a = home (length slots) hash in
         let full_at : (q : ℕ) → start ≤ q → q < end → IsSome (at slots q) = λ q low high. full-by_tag tags slots q tagged (omega arith) (full q low (omega arith)) in
         let p = passed tags slots tagged a home_in free start next end w.start_in more end_in w.path full_at which in
@@ -321,7 +321,7 @@ module _ {T : Type 0} (hash : ℕ) (tags : List ℕ) (slots : List (Option (ℕ 
             end = b.end;
             from = omega arith;
             to = b.from;
-            place_in = omega arith;
+            slot_in = omega arith;
             short = b.short;
             its = b.its;
             stop = b.stop;
@@ -337,23 +337,23 @@ module _ {T : Type 0} (hash : ℕ) (tags : List ℕ) (slots : List (Option (ℕ 
               | inr far ↦ far q q_in (omega (arith, way_next, late))
             ]);
           };
-          left = path-run hash a place (way hash slots start + (place - start)) (end - place) slots home_in (omega arith)
+          left = path-run hash a slot (way hash slots start + (slot - start)) (end - slot) slots home_in (omega arith)
               (λ q low high. let straight = w.straight q (omega arith) (omega (arith, whole)) (omega arith) in omega arith)
-              (λ q x low high. none_left start place w q x low (omega (arith, whole)))
+              (λ q x low high. none_left start slot w q x low (omega (arith, whole)))
               (way hash slots next + (next - next)) (omega arith);
           farther = omega arith;
         }
 
-    pub window_goes_on : (mask start place next bits : ℕ) → mask + 1 ≡ length slots → AtWindow hash tags slots start place 0
+    pub window_goes_on : (mask start slot next bits : ℕ) → mask + 1 ≡ length slots → AtWindow hash tags slots start slot 0
         → ((p : ℕ) → start ≤ p → p < start + 16 → get_or tags p 0 ≢ empty_tag)
         → (start + 16 ≤ mask → next ≡ start + 16) → (mask < start + 16 → next ≡ 0)
-        → BitsUpToEmpty (tag hash) tags next bits → GoesOn start place next bits
-    window_goes_on mask start place next bits masked w full on round b =
+        → BitsUpToEmpty (tag hash) tags next bits → GoesOn start slot next bits
+    window_goes_on mask start slot next bits masked w full on round b =
         let start_in = w.start_in in
-        let place_in = w.place_in in
+        let slot_in = w.slot_in in
         let to = w.to in
         let short = w.short in
         elim (cases_lt mask (start + 16)) [
-          | inl last ↦ goes_on_to start place next bits (length slots) w full start_in (omega arith) (omega arith) place_in (inl refl) (inl (refl, round last)) b
-          | inr more ↦ goes_on_to start place next bits (start + 16) w full (omega arith) (omega arith) (omega arith) (omega arith) (inr refl) (inr (omega arith, on more)) b
+          | inl last ↦ goes_on_to start slot next bits (length slots) w full start_in (omega arith) (omega arith) slot_in (inl refl) (inl (refl, round last)) b
+          | inr more ↦ goes_on_to start slot next bits (start + 16) w full (omega arith) (omega arith) (omega arith) (omega arith) (inr refl) (inr (omega arith, on more)) b
         ]

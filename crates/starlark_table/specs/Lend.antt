@@ -6,7 +6,7 @@ use denote.Struct.Tuple.{Tuple}
 use Rattle.starlark_table.specs.declared.kept_hash.KeptHash as KeptHash
 use Rattle.starlark_table.specs.contracts.ready_table.ReadyTable.{the_row}
 use mathlib.Core.Option.{none}
-use Rattle.starlark_columns.specs.Loan.{kept_places}
+use Rattle.starlark_columns.specs.Loan.{kept_cells}
 use Rattle.starlark_columns.specs.contracts.bytes.Bytes.{the_row as bytes_row}
 use Rattle.starlark_table.specs.contracts.kept_hash.Kept.{the_row as kept_row}
 
@@ -83,7 +83,7 @@ tags_stay s = follows_so Tags Tags s.ghost_name none (λ _ _. ⊤) (λ n. n ≡ 
 
 -- a table with what another has in its full slots, but for what stays
 abbrev pub with_kept : {T : Type 0} → (ℕ × T → ℕ × T → ℕ × T) → Table T → Table T → Table T
-with_kept kept t written = record t { slots = kept_places kept t.slots written.slots }
+with_kept kept t written = record t { slots = kept_cells kept t.slots written.slots }
 
 module _ (T H : RattleType) (G : KeptHash.Ghosts H.Denot) (kept : ℕ × T.Denot → ℕ × T.Denot → ℕ × T.Denot) where
   -- once a loan of the members ends, the table has in each full slot what was left there, but for what stays

@@ -13,7 +13,7 @@ module _ {F T : Type 0} (g : Mut F (Bor T × Unit {0}) T) where
   abbrev pub CanReplace : List T → F → Type 0
   CanReplace = CanWalk (TakesAt g) (λ f x f'. (y : T) × CalledAt g f x y f')
 
-  -- f is shown the item of each member in turn, its state carried on, and each answer stands in the item's place: slots and
+  -- f is shown the item of each member in turn, its state carried on, and each answer stands in its slot: slots and
   -- hashes stay
   abbrev pub ReplacesEach : F → List (Option (ℕ × T)) → List (Option (ℕ × T)) → F → Type 0
   ReplacesEach f [] new last = (new ≡ []) × (last ≡ f)

@@ -1,4 +1,4 @@
-//! Where a walk over all slots stands: the full places of a window of tags that it has still to reach.
+//! Where a walk over all slots stands: the full slots of a window of tags that it has still to reach.
 ghost use Rattle.std.specs.Prelude.{◌≡◌, ◌≢◌, ℕ, ◌+◌, ◌<◌, ◌≤◌, ◌∷◌, None, IfSome, drop, length};
 ghost use Rattle.starlark_columns.specs.Cells.{IsFilled};
 ghost use Rattle.starlark_table.specs.Layout.{at, IsTagged, LeftInWindow};
@@ -6,9 +6,9 @@ ghost use Rattle.starlark_table.specs.Table.{filled};
 
 use crate::kept_hash::KeptHash;
 use crate::probe::Slots;
-use crate::tags::full_places;
+use crate::tags::full_slots;
 
-// A window of places, of which those before `next` are passed: each other one that is full has its bit.
+// A window of slots, of which those before `next` are passed: each other one that is full has its bit.
 #[derive(Clone, Copy)]
 pub(crate) struct Ahead {
     pub(crate) start: usize,
@@ -18,7 +18,7 @@ pub(crate) struct Ahead {
 }
 
 impl Ahead {
-    // Before the first place.
+    // Before the first slot.
     #[inline]
     pub(crate) fn of_all() -> Self
         ensures { result ≡ record { start = 0; end = 0; next = 0; full = 0 } }
@@ -31,7 +31,7 @@ impl Ahead {
         }
     }
 
-    // Goes on to the next full place. There is one.
+    // Goes on to the next full slot. There is one.
     #[inline]
     pub(crate) fn step<T, H: KeptHash>(&mut self, slots: &Slots<T, H>, tags: &[u8]) -> usize
         requires tagged { IsTagged tags.now slots.now }
@@ -45,13 +45,13 @@ impl Ahead {
         ensures left { LeftInWindow slots.now self.new.start self.new.end self.new.next self.new.full }
     {
         self.open(slots, tags);
-        let place = self.start + self.full.trailing_zeros() as usize;
+        let slot = self.start + self.full.trailing_zeros() as usize;
         self.full &= self.full - 1;
-        self.next = place + 1;
-        place
+        self.next = slot + 1;
+        slot
     }
 
-    // Opens the next window with a full place, where this one has none left. There is one.
+    // Opens the next window with a full slot, where this one has none left. There is one.
     #[inline]
     fn open<T, H: KeptHash>(&mut self, slots: &Slots<T, H>, tags: &[u8])
         requires tagged { IsTagged tags.now slots.now }
@@ -68,7 +68,7 @@ impl Ahead {
     }
 }
 
-// The first window from a place on that has a full place. There is one.
+// The first window from a slot on that has a full slot. There is one.
 fn first_full<T, H: KeptHash>(slots: &Slots<T, H>, tags: &[u8], from: usize) -> Ahead
     requires tagged { IsTagged tags.now slots.now }
     requires some { 0 < length (filled (drop from slots.now)) }
@@ -79,7 +79,7 @@ fn first_full<T, H: KeptHash>(slots: &Slots<T, H>, tags: &[u8], from: usize) -> 
 {
     let mut start = from;
     'windows: loop {
-        let (full, end) = full_places(tags, start);
+        let (full, end) = full_slots(tags, start);
         if full != 0 {
             return Ahead {
                 start,

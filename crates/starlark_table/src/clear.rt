@@ -4,7 +4,7 @@ ghost use Rattle.starlark_table.specs.Layout.{at, AreDoubled, IsTagged};
 
 use crate::kept_hash::KeptHash;
 use crate::probe::Slots;
-use crate::tags::{EMPTY, full_places, tags_beside};
+use crate::tags::{EMPTY, full_slots, tags_beside};
 use starlark_columns::Bytes;
 
 // Drops every member. The tags stay.
@@ -13,9 +13,9 @@ pub(crate) fn empty_all<T: Drop, H: KeptHash>(slots: &mut Slots<T, H>, tags: &[u
     ensures sized { length slots.new ≡ length slots.old }
     ensures empty { (k : ℕ) → at slots.new k ≡ None }
 {
-    for place in 0..slots.places() {
-        if tags[place] != EMPTY {
-            let _member = slots.take(place);
+    for slot in 0..slots.cells() {
+        if tags[slot] != EMPTY {
+            let _member = slots.take(slot);
         }
     }
 }
@@ -44,8 +44,8 @@ pub(crate) fn next_full<T, H: KeptHash>(
     ensures none { IfNone result ((p : ℕ) → from ≤ p → at slots.now p ≡ None) }
 {
     let mut start = from;
-    'windows: while start < slots.places() {
-        let (full, end) = full_places(tags, start);
+    'windows: while start < slots.cells() {
+        let (full, end) = full_slots(tags, start);
         if full != 0 {
             return Some(start + full.trailing_zeros() as usize);
         }

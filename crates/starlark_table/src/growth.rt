@@ -1,4 +1,4 @@
-//! Growth: how many places so many members want; new slots, all empty; and the move of every member into them under the hash
+//! Growth: how many slots so many members want; new slots, all empty; and the move of every member into them under the hash
 //! that it keeps.
 ghost use Rattle.std.specs.Prelude.{◌≡◌, ℕ, ◌+◌, ◌^◌, ◌*◌, ◌<◌, ◌≤◌, ◌++◌, None, length, IfOk, OnOk, IsPermutation, IfSome};
 ghost use Rattle.std.specs.List.{AllZip};
@@ -9,11 +9,11 @@ ghost use Rattle.starlark_table.specs.Growth.{limit, most_for};
 
 use crate::kept_hash::KeptHash;
 use crate::probe::{Slots, put};
-use crate::tags::{EMPTY, PADDING, WINDOW, full_places, tags_beside};
+use crate::tags::{EMPTY, PADDING, WINDOW, full_slots, tags_beside};
 use starlark_columns::{Bytes, Column};
 use std::alloc::{AllocError, Global};
 
-// How many members so many places may hold.
+// How many members so many slots may hold.
 #[inline]
 pub(crate) fn limit(count: usize) -> usize
     ensures { result ≡ limit count }
@@ -21,9 +21,9 @@ pub(crate) fn limit(count: usize) -> usize
     count / 8 * 6 + count / 16
 }
 
-// The least number of places that may hold so many members, and at least eight: a power of two, so that each bit of its
+// The least number of slots that may hold so many members, and at least eight: a power of two, so that each bit of its
 // mask is set.
-pub(crate) fn places_for(needed: usize) -> Option<usize>
+pub(crate) fn slots_for(needed: usize) -> Option<usize>
     ensures some { IfSome result (λ count. 0 < count) }
     ensures fits { IfSome result (λ count. count ≤ 2 ^ 62) }
     ensures enough { IfSome result (λ count. needed ≤ limit count) }
@@ -40,8 +40,8 @@ pub(crate) fn places_for(needed: usize) -> Option<usize>
     Some(count)
 }
 
-// So many empty places, and their tags.
-pub(crate) fn empty_places<T, H: KeptHash>(
+// So many empty slots, and their tags.
+pub(crate) fn empty_slots<T, H: KeptHash>(
     alloc: Global,
     count: usize,
 ) -> Result<(Slots<T, H>, Bytes), AllocError>
@@ -49,7 +49,7 @@ pub(crate) fn empty_places<T, H: KeptHash>(
     ensures slots { IfOk result (λ r. r.0 ≡ empties count) }
     ensures tags { IfOk result (λ r. r.1 ≡ tags_of_empty count) }
 {
-    let slots = Column::with_places(alloc, count)?;
+    let slots = Column::with_cells(alloc, count)?;
     match empty_tags(alloc, count) {
         Ok(tags) => Ok((slots, tags)),
         Err(refused) => {
@@ -59,7 +59,7 @@ pub(crate) fn empty_places<T, H: KeptHash>(
     }
 }
 
-// The tags of so many empty places, and the window behind them.
+// The tags of so many empty slots, and the window behind them.
 fn empty_tags(alloc: Global, count: usize) -> Result<Bytes, AllocError>
     requires { count + window < 2 ^ 64 }
     ensures { IfOk result (λ tags. tags ≡ tags_of_empty count) }
@@ -79,7 +79,7 @@ pub(crate) fn move_all<T, H: KeptHash>(
 )
     requires old_tagged { IsTagged old_tags old }
     requires old_doubled { AreDoubled old }
-    requires places { 0 < length slots.old }
+    requires some { 0 < length slots.old }
     requires in_place { InPlace (length slots.old) slots.old }
     requires tagged { IsTagged tags.old slots.old }
     requires told { TellsFar fill.old slots.old }
@@ -93,14 +93,14 @@ pub(crate) fn move_all<T, H: KeptHash>(
 {
     let count = tags_beside(&old);
     let mut start = 0;
-    'windows: while start < old.places() {
+    'windows: while start < old.cells() {
         start = move_window(&mut old, old_tags.as_slice(count), start, slots, tags, fill);
     }
     old.give_back(old_tags.allocator());
     old_tags.give_back(count);
 }
 
-// Moves the members of a window of places. The answer is where it ends.
+// Moves the members of a window of slots. The answer is where it ends.
 fn move_window<T, H: KeptHash>(
     from: &mut Slots<T, H>,
     from_tags: &[u8],
@@ -111,7 +111,7 @@ fn move_window<T, H: KeptHash>(
 ) -> usize
     requires start { start < length from.old }
     requires from_tagged { IsTaggedFrom start from_tags.now from.old }
-    requires places { 0 < length slots.old }
+    requires some { 0 < length slots.old }
     requires in_place { InPlace (length slots.old) slots.old }
     requires tagged { IsTagged tags.old slots.old }
     requires told { TellsFar fill.old slots.old }
@@ -128,17 +128,17 @@ fn move_window<T, H: KeptHash>(
     ensures before { (p : ℕ) → p < start → at from.new p ≡ at from.old p }
     ensures after { (p : ℕ) → result ≤ p → at from.new p ≡ at from.old p }
 {
-    let (mut full, end) = full_places(from_tags, start);
-    'places: while full != 0 {
-        let place = start + full.trailing_zeros() as usize;
-        let (hash, item) = from.take(place);
+    let (mut full, end) = full_slots(from_tags, start);
+    'members: while full != 0 {
+        let slot = start + full.trailing_zeros() as usize;
+        let (hash, item) = from.take(slot);
         put(slots, tags, fill, hash, item);
         full &= full - 1;
     }
     end
 }
 
-// Puts a clone of each member into the slot of the same place, which is empty. Where one is refused, those that were
+// Puts a clone of each member into the same slot, which is empty. Where one is refused, those that were
 // made stand there.
 pub(crate) fn clone_members<T: Clone, H: KeptHash>(
     slots: &Slots<T, H>,
@@ -153,12 +153,12 @@ pub(crate) fn clone_members<T: Clone, H: KeptHash>(
     ensures tagged { IsTagged copy_tags.new copy.new }
     ensures sized { length copy.new ≡ length slots.now }
 {
-    for place in 0..slots.places() {
-        if tags[place] != EMPTY {
-            let (hash, item) = slots.get(place);
+    for slot in 0..slots.cells() {
+        if tags[slot] != EMPTY {
+            let (hash, item) = slots.get(slot);
             let item = item.clone()?;
-            copy_tags[place] = tags[place];
-            copy.write(place, (hash.copied(), item));
+            copy_tags[slot] = tags[slot];
+            copy.write(slot, (hash.copied(), item));
         }
     }
     Ok(())

@@ -1,4 +1,4 @@
-//! Places round a circle: where a hash belongs, which place is next, and how far one is behind another.
+//! Slots round a circle: where a hash belongs, which slot is next, and how far one is behind another.
 ghost use Rattle.std.specs.Prelude.{◌≡◌, ℕ, ◌+◌, ◌^◌, ◌<◌, ◌≤◌, ◌==◌, if◌then◌else◌, true, false};
 ghost use Rattle.starlark_table.specs.Layout.{distance, home, window, IsFar, IsMask};
 
@@ -7,14 +7,14 @@ use crate::probe::Slots;
 use crate::tags::WINDOW;
 
 #[inline]
-pub(crate) fn next_place(place: usize, count: usize) -> usize
-    requires { place < count }
-    ensures { result ≡ (if place + 1 == count then 0 else place + 1) }
+pub(crate) fn next_slot(slot: usize, count: usize) -> usize
+    requires { slot < count }
+    ensures { result ≡ (if slot + 1 == count then 0 else slot + 1) }
 {
-    if place + 1 == count { 0 } else { place + 1 }
+    if slot + 1 == count { 0 } else { slot + 1 }
 }
 
-// Where the window after the one from `start` on begins: at the first place again where it would begin behind the last.
+// Where the window after the one from `start` on begins: at the first slot again where it would begin behind the last.
 #[inline]
 pub(crate) fn window_after(start: usize, mask: usize) -> usize
     requires { start ≤ mask }
@@ -28,13 +28,13 @@ pub(crate) fn window_after(start: usize, mask: usize) -> usize
     }
 }
 
-// The place a window behind another one, round a circle of a power of two of places. No proof rests on which it is.
+// The slot a window behind another one, round a circle of a power of two of slots. No proof rests on which it is.
 #[inline]
-pub(crate) fn window_behind(place: usize, count: usize) -> usize
+pub(crate) fn window_behind(slot: usize, count: usize) -> usize
     requires { 0 < count }
     ensures { result < count }
 {
-    place.wrapping_add(WINDOW) & (count - 1)
+    slot.wrapping_add(WINDOW) & (count - 1)
 }
 
 // The mask of these slots. Without slots none is asked for, and no test is made here.
@@ -42,7 +42,7 @@ pub(crate) fn window_behind(place: usize, count: usize) -> usize
 pub(crate) fn mask_of<T, H: KeptHash>(slots: &Slots<T, H>) -> usize
     ensures { IsMask result slots.now }
 {
-    slots.places().wrapping_sub(1)
+    slots.cells().wrapping_sub(1)
 }
 
 // The home of a number. A search asks for the number once, for it and for the tag.
@@ -62,16 +62,16 @@ pub(crate) fn home_among<H: KeptHash>(count: usize, hash: &Kept<H>) -> usize
     home(hash.number(), count - 1)
 }
 
-// Whether a place stands outside the first window from another one on.
+// Whether a slot stands outside the first window from another one on.
 #[inline]
-pub(crate) fn is_far(from: usize, place: usize) -> bool
-    ensures yes { result ≡ true → IsFar from place }
-    ensures no { result ≡ false → IsFar from place → ⊥ }
+pub(crate) fn is_far(from: usize, slot: usize) -> bool
+    ensures yes { result ≡ true → IsFar from slot }
+    ensures no { result ≡ false → IsFar from slot → ⊥ }
 {
-    place < from || place - from >= WINDOW
+    slot < from || slot - from >= WINDOW
 }
 
-// How many steps lead from one place to another.
+// How many steps lead from one slot to another.
 #[inline]
 #[tactic(auto, unfolding(crate::specs::Layout::distance))]
 pub(crate) fn distance(count: usize, from: usize, to: usize) -> usize

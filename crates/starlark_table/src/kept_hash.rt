@@ -5,7 +5,7 @@ ghost use Rattle.starlark_hash.specs.HashValue.{hash_number, promoted};
 use starlark_hash::StarlarkHashValue;
 use std::marker::Model;
 
-/// A hash in the form that a table keeps it in. It stands for a number of 64 bits, by which the table finds its place.
+/// A hash in the form that a table keeps it in. It stands for a number of 64 bits, by which the table finds its slot.
 pub trait KeptHash: Copy {
     // the number
     ghost number: { Self → ℕ };

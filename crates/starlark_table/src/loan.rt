@@ -13,7 +13,7 @@ use std::marker::Model;
 // `tie` is the loan of all, which the table follows.
 #[derive(Drop)]
 pub(crate) struct Loan<'a, T, H: KeptHash> {
-    places: starlark_columns::Loan<'a, (Kept<H>, T), First>,
+    slots: starlark_columns::Loan<'a, (Kept<H>, T), First>,
     // They alone tell at run time which slots are full.
     tags: &'a [u8],
 }
@@ -25,23 +25,23 @@ impl<'a, T, H: KeptHash> Model for Loan<'a, T, H> {
 
     ghost coded = { lent_code T.code };
 
-    ghost view = { λ l. record { from = l.places.from; rest = l.places.rest; tie = l.places.tie } };
+    ghost view = { λ l. record { from = l.slots.from; rest = l.slots.rest; tie = l.slots.tie } };
 
-    ghost invariant = { λ l. AreMarked l.tags.now l.places.from l.places.rest };
+    ghost invariant = { λ l. AreMarked l.tags.now l.slots.from l.slots.rest };
 }
 
 impl<'a, T, H: KeptHash> Loan<'a, T, H> {
     #[inline]
     pub(crate) fn new(
-        places: starlark_columns::Loan<'a, (Kept<H>, T), First>,
+        slots: starlark_columns::Loan<'a, (Kept<H>, T), First>,
         tags: &'a [u8],
     ) -> Self
-        requires { AreMarked tags.now places.from places.rest }
-        ensures from { result.from ≡ places.entry.from }
-        ensures rest { result.rest ≡ places.entry.rest }
-        ensures tie { result.tie ≡ places.entry.tie }
+        requires { AreMarked tags.now slots.from slots.rest }
+        ensures from { result.from ≡ slots.entry.from }
+        ensures rest { result.rest ≡ slots.entry.rest }
+        ensures tie { result.tie ≡ slots.entry.tie }
     {
-        Loan { places, tags }
+        Loan { slots, tags }
     }
 
     // Takes the next slot, and answers its item if it has one.
@@ -51,10 +51,10 @@ impl<'a, T, H: KeptHash> Loan<'a, T, H> {
         ensures { (slot : Option (ℕ × T)) × (self.old.rest ≡ slot ∷ self.new.rest) × (option_copied_mut result ≡ option_map (λ m. m.1) slot) × (self.new.from ≡ self.old.from + 1) × (self.new.tie ≡ self.old.tie) }
     {
         if self.tags[index] == EMPTY {
-            self.places.skip();
+            self.slots.skip();
             return None;
         }
-        let (_, item) = self.places.take_pair(index);
+        let (_, item) = self.slots.take_pair(index);
         Some(item)
     }
 }
@@ -62,7 +62,7 @@ impl<'a, T, H: KeptHash> Loan<'a, T, H> {
 // The same of slots with pairs, of which hashes and keys are frozen.
 #[derive(Drop)]
 pub(crate) struct PairLoan<'a, K, V, H: KeptHash> {
-    places: starlark_columns::Loan<'a, (Kept<H>, (K, V)), AllButLast>,
+    slots: starlark_columns::Loan<'a, (Kept<H>, (K, V)), AllButLast>,
     tags: &'a [u8],
 }
 
@@ -74,23 +74,23 @@ impl<'a, K, V, H: KeptHash> Model for PairLoan<'a, K, V, H> {
 
     ghost coded = { lent_code (coded× K.code V.code) };
 
-    ghost view = { λ l. record { from = l.places.from; rest = l.places.rest; tie = l.places.tie } };
+    ghost view = { λ l. record { from = l.slots.from; rest = l.slots.rest; tie = l.slots.tie } };
 
-    ghost invariant = { λ l. AreMarked l.tags.now l.places.from l.places.rest };
+    ghost invariant = { λ l. AreMarked l.tags.now l.slots.from l.slots.rest };
 }
 
 impl<'a, K, V, H: KeptHash> PairLoan<'a, K, V, H> {
     #[inline]
     pub(crate) fn new(
-        places: starlark_columns::Loan<'a, (Kept<H>, (K, V)), AllButLast>,
+        slots: starlark_columns::Loan<'a, (Kept<H>, (K, V)), AllButLast>,
         tags: &'a [u8],
     ) -> Self
-        requires { AreMarked tags.now places.from places.rest }
-        ensures from { result.from ≡ places.entry.from }
-        ensures rest { result.rest ≡ places.entry.rest }
-        ensures tie { result.tie ≡ places.entry.tie }
+        requires { AreMarked tags.now slots.from slots.rest }
+        ensures from { result.from ≡ slots.entry.from }
+        ensures rest { result.rest ≡ slots.entry.rest }
+        ensures tie { result.tie ≡ slots.entry.tie }
     {
-        PairLoan { places, tags }
+        PairLoan { slots, tags }
     }
 
     // Takes the next slot, and answers its pair if it has one.
@@ -100,9 +100,9 @@ impl<'a, K, V, H: KeptHash> PairLoan<'a, K, V, H> {
         ensures { (slot : Option (ℕ × (K × V))) × (self.old.rest ≡ slot ∷ self.new.rest) × (option_map deref_pair_mut result ≡ option_map (λ m. m.1) slot) × (self.new.from ≡ self.old.from + 1) × (self.new.tie ≡ self.old.tie) }
     {
         if self.tags[index] == EMPTY {
-            self.places.skip();
+            self.slots.skip();
             return None;
         }
-        Some(self.places.take_value(index))
+        Some(self.slots.take_value(index))
     }
 }

@@ -1,4 +1,4 @@
-//! Reads and writes of the slots along the way of a hash: from its home on, up to the first empty place.
+//! Reads and writes of the slots along the way of a hash: from its home on, up to the first empty slot.
 ghost use Rattle.std.specs.Prelude.{◌≡◌, ℕ, ◌+◌, ◌%◌, ◌<◌, ◌≤◌, [], ◌∷◌, Some, None, drop, length, IfSome, IsSome, is_some, slice_set};
 ghost use Rattle.std.specs.Option.{option_copied, option_map};
 ghost use Rattle.starlark_hash.specs.Search.{Searches, CanSearch};
@@ -8,10 +8,10 @@ ghost use Rattle.starlark_table.specs.Layout.{distance, at, members_in, InPlace,
 use crate::fill::with_far;
 use crate::home::{home, window_after};
 use crate::kept_hash::{Kept, KeptHash};
-use crate::tags::{EMPTY, places_up_to_empty, places_with, tag};
+use crate::tags::{EMPTY, slots_up_to_empty, slots_with, tag};
 use starlark_columns::Column;
 
-/// A place for a member each: its hash, and its item.
+/// A slot for a member each: its hash, and its item.
 pub(crate) type Slots<T, H> = Column<(Kept<H>, T)>;
 
 // A slot, with the item in it.
@@ -31,47 +31,47 @@ pub(crate) fn find_slot<'a, T, H: KeptHash, F: FnMut(&T) -> bool>(
     ensures found { (last : F) × Searches F.FnMut (holders_in hash slots.now) eq (option_map (λ p. p.0) result) last }
     ensures item { IfSome result (λ p. at slots.now p.0 ≡ Some (hash, p.1.now)) }
 {
-    if slots.places() == 0 {
+    if slots.cells() == 0 {
         return None;
     }
     let number = hash.number();
     let sought = tag(number);
     let mut start = home(number, mask);
-    let mut place = start;
-    let mut same = places_with(tags, start, sought);
-    // The first place with the tag is mostly the one that is sought: before the loop, no jump leads there.
+    let mut slot = start;
+    let mut same = slots_with(tags, start, sought);
+    // The first slot with the tag is mostly the one that is sought: before the loop, no jump leads there.
     if same != 0 {
-        place += same.trailing_zeros() as usize;
-        let (stored, item) = slots.get(place);
+        slot += same.trailing_zeros() as usize;
+        let (stored, item) = slots.get(slot);
         if stored.is(&hash) && eq(item) {
-            return Some((place, item));
+            return Some((slot, item));
         }
         same = same >> same.trailing_zeros() >> 1;
-        place += 1;
-    } else if places_with(tags, start, EMPTY) != 0 {
+        slot += 1;
+    } else if slots_with(tags, start, EMPTY) != 0 {
         return None;
     }
     'windows: loop {
         if same == 0 {
-            if places_with(tags, start, EMPTY) != 0 {
+            if slots_with(tags, start, EMPTY) != 0 {
                 return None;
             }
             start = window_after(start, mask);
-            place = start;
-            same = places_up_to_empty(tags, start, sought);
+            slot = start;
+            same = slots_up_to_empty(tags, start, sought);
         } else {
-            place += same.trailing_zeros() as usize;
-            let (stored, item) = slots.get(place);
+            slot += same.trailing_zeros() as usize;
+            let (stored, item) = slots.get(slot);
             if stored.is(&hash) && eq(item) {
-                return Some((place, item));
+                return Some((slot, item));
             }
             same = same >> same.trailing_zeros() >> 1;
-            place += 1;
+            slot += 1;
         }
     }
 }
 
-// The first empty place of the home's window, where no tag there is that of the hash: then no member has the hash.
+// The first empty slot of the home's window, where no tag there is that of the hash: then no member has the hash.
 #[inline(always)]
 pub(crate) fn vacancy<T, H: KeptHash>(
     slots: &Slots<T, H>,
@@ -83,27 +83,27 @@ pub(crate) fn vacancy<T, H: KeptHash>(
     requires in_place { InPlace (length slots.now) slots.now }
     requires tagged { IsTagged tags.now slots.now }
     ensures none { IfSome result (λ _. holders_in hash slots.now ≡ []) }
-    ensures vacant { IfSome result (λ place. IsVacancy hash slots.now place) }
+    ensures vacant { IfSome result (λ slot. IsVacancy hash slots.now slot) }
 {
-    if slots.places() == 0 {
+    if slots.cells() == 0 {
         return None;
     }
     let number = hash.number();
     let start = home(number, mask);
-    let same = places_with(tags, start, tag(number));
+    let same = slots_with(tags, start, tag(number));
     if same != 0 {
         return None;
     }
-    let empty = places_with(tags, start, EMPTY);
+    let empty = slots_with(tags, start, EMPTY);
     if empty == 0 {
         return None;
     }
     Some(start + empty.trailing_zeros() as usize)
 }
 
-// The first empty place from one on.
+// The first empty slot from one on.
 #[inline]
-pub(crate) fn free_place<T, H: KeptHash>(slots: &Slots<T, H>, tags: &[u8], home: usize) -> usize
+pub(crate) fn free_slot<T, H: KeptHash>(slots: &Slots<T, H>, tags: &[u8], home: usize) -> usize
     requires home { home < length slots.now }
     requires tagged { IsTagged tags.now slots.now }
     requires free { (q : ℕ) × (q < length slots.now) × (at slots.now q ≡ None) }
@@ -111,19 +111,19 @@ pub(crate) fn free_place<T, H: KeptHash>(slots: &Slots<T, H>, tags: &[u8], home:
     ensures empty { at slots.now result ≡ None }
     ensures path { (q : ℕ) → q < length slots.now → distance (length slots.now) home q < distance (length slots.now) home result → IsSome (at slots.now q) }
 {
-    let mask = slots.places() - 1;
+    let mask = slots.cells() - 1;
     let mut start = home;
-    let mut empty = places_with(tags, start, EMPTY);
+    let mut empty = slots_with(tags, start, EMPTY);
     'windows: while empty == 0 {
         start = window_after(start, mask);
-        empty = places_with(tags, start, EMPTY);
+        empty = slots_with(tags, start, EMPTY);
     }
     start + empty.trailing_zeros() as usize
 }
 
 // The same. The fill tells of it where that is not in the first window.
 #[inline]
-fn place_from<T, H: KeptHash>(
+fn slot_from<T, H: KeptHash>(
     slots: &Slots<T, H>,
     tags: &[u8],
     fill: &mut usize,
@@ -139,15 +139,15 @@ fn place_from<T, H: KeptHash>(
     ensures even { fill.new % 2 ≡ 0 → fill.old % 2 ≡ 0 }
     ensures near { fill.new % 2 ≡ 0 → IsFar home result → ⊥ }
 {
-    let empty = places_with(tags, home, EMPTY);
+    let empty = slots_with(tags, home, EMPTY);
     if empty == 0 {
         *fill = with_far(*fill);
-        return free_place(slots, tags, home);
+        return free_slot(slots, tags, home);
     }
     home + empty.trailing_zeros() as usize
 }
 
-// Puts a member at the first empty place from its home on, and its tag beside it.
+// Puts a member at the first empty slot from its home on, and its tag beside it.
 #[inline]
 pub(crate) fn put<T, H: KeptHash>(
     slots: &mut Slots<T, H>,
@@ -169,31 +169,31 @@ pub(crate) fn put<T, H: KeptHash>(
     ensures tagged { IsTagged tags.new slots.new }
 {
     let number = hash.number();
-    let place = place_from(slots, tags, fill, home(number, slots.places() - 1));
-    tags[place] = tag(number);
-    slots.write(place, (hash, item));
-    place
+    let slot = slot_from(slots, tags, fill, home(number, slots.cells() - 1));
+    tags[slot] = tag(number);
+    slots.write(slot, (hash, item));
+    slot
 }
 
-// Puts a member into a place that `vacancy` answered for its hash, and its tag beside it.
+// Puts a member into a slot that `vacancy` answered for its hash, and its tag beside it.
 #[inline(always)]
 pub(crate) fn put_at<T, H: KeptHash>(
     slots: &mut Slots<T, H>,
     tags: &mut [u8],
-    place: usize,
+    slot: usize,
     hash: Kept<H>,
     item: T,
 )
     requires in_place { InPlace (length slots.old) slots.old }
     requires tagged { IsTagged tags.old slots.old }
-    requires vacant { IsVacancy hash slots.old place }
-    ensures set { slots.new ≡ slice_set slots.old place (Some (hash, item)) }
+    requires vacant { IsVacancy hash slots.old slot }
+    ensures set { slots.new ≡ slice_set slots.old slot (Some (hash, item)) }
     ensures in_place { InPlace (length slots.new) slots.new }
     ensures tagged { IsTagged tags.new slots.new }
     ensures near { IsNear (length slots.old) slots.old → IsNear (length slots.new) slots.new }
 {
-    tags[place] = tag(hash.number());
-    slots.write(place, (hash, item));
+    tags[slot] = tag(hash.number());
+    slots.write(slot, (hash, item));
 }
 
 // Whether a member stands in a slot.
@@ -202,7 +202,7 @@ pub(crate) fn is_full<T, H: KeptHash>(slots: &Slots<T, H>, tags: &[u8], slot: us
     requires { IsTagged tags.now slots.now }
     ensures { result ≡ is_some (at slots.now slot) }
 {
-    slot < slots.places() && tags[slot] != EMPTY
+    slot < slots.cells() && tags[slot] != EMPTY
 }
 
 #[inline]

@@ -15,7 +15,7 @@ mod pairs_mut;
 use crate::clear::{drop_all, empty_all, next_full};
 use crate::fill::{members_in, tells_far};
 use crate::follow::Follows;
-use crate::growth::{clone_members, empty_places, limit, move_all, places_for};
+use crate::growth::{clone_members, empty_slots, limit, move_all, slots_for};
 use crate::home::mask_of;
 use crate::iter::{IntoIter, Iter};
 use crate::kept_hash::{Kept, KeptHash};
@@ -105,16 +105,16 @@ impl<T, H: KeptHash> ReadyTable<T, H> {
         ensures empty { IfOk result (λ t. members t ≡ []) }
         ensures room { IfOk result (λ t. capacity ≤ t.room) }
         ensures most { IfOk result (λ t. t.room ≤ most_for capacity) }
-        ensures places { IfOk result (λ t. length t.slots ≤ 2 * most_for capacity) }
+        ensures slots { IfOk result (λ t. length t.slots ≤ 2 * most_for capacity) }
         ensures none_for_none { capacity ≡ 0 → IsOk result }
     {
         if capacity == 0 {
             return Ok(ReadyTable::without_slots(alloc));
         }
-        let Some(count) = places_for(capacity) else {
+        let Some(count) = slots_for(capacity) else {
             return Err(AllocError);
         };
-        let (slots, tags) = empty_places(alloc, count)?;
+        let (slots, tags) = empty_slots(alloc, count)?;
         Ok(ReadyTable {
             slots,
             tags,
@@ -132,10 +132,10 @@ impl<T, H: KeptHash> ReadyTable<T, H> {
 
     /// How many slots there are, with members and without.
     #[inline]
-    pub fn places(&self) -> usize
+    pub fn slots(&self) -> usize
         ensures { result ≡ length self.now.slots }
     {
-        self.slots.places()
+        self.slots.cells()
     }
 
     /// How many insertions surely need no memory.
@@ -143,7 +143,7 @@ impl<T, H: KeptHash> ReadyTable<T, H> {
     pub fn room(&self) -> usize
         ensures { result ≡ self.now.room }
     {
-        limit(self.slots.places()) - self.len()
+        limit(self.slots.cells()) - self.len()
     }
 
     /// The slot of an item under exactly this hash that `eq` accepts. `eq` is asked about items of this hash alone,
@@ -353,7 +353,7 @@ impl<T, H: KeptHash> ReadyTable<T, H> {
         requires some { 0 < self.old.room }
         ensures added { IsPermutation (members other ++ members self.old) (members self.new) }
         ensures room { table_capacity self.new ≡ table_capacity self.old }
-        ensures places { length self.new.slots ≡ length self.old.slots }
+        ensures slots { length self.new.slots ≡ length self.old.slots }
     {
         let count = tags_beside(&self.slots);
         let ReadyTable { slots, tags, fill } = other;
@@ -389,7 +389,7 @@ impl<T, H: KeptHash> ReadyTable<T, H> {
         requires { F.knows follower.old (slice_set self.old.slots slot None) }
         ensures known { F.knows follower.new self.new.slots }
         ensures size { F.size follower.new ≡ F.size follower.old }
-        ensures places { length self.new.slots ≡ length self.old.slots }
+        ensures slots { length self.new.slots ≡ length self.old.slots }
         ensures found { result ≡ member_at self.old slot }
         ensures rest { IfSome result (λ m. IsPermutation (members self.old) (m ∷ members self.new)) }
         ensures none { IfNone result (self.new ≡ self.old) }
@@ -439,7 +439,7 @@ impl<T, H: KeptHash> ReadyTable<T, H> {
         T: Drop,
         ensures empty { members self.new ≡ [] }
         ensures room { self.new.room ≡ table_capacity self.old }
-        ensures places { length self.new.slots ≡ length self.old.slots }
+        ensures slots { length self.new.slots ≡ length self.old.slots }
     {
         if self.len() == 0 {
             return;
@@ -490,11 +490,11 @@ impl<T: Clone, H: KeptHash> Clone for ReadyTable<T, H> {
     /// A table of clones, slot by slot. One without members and room asks for no memory, and is not refused.
     fn clone(&self) -> Result<Self, AllocError> {
         let alloc = self.tags.allocator();
-        let count = self.slots.places();
+        let count = self.slots.cells();
         if count == 0 {
             return Ok(ReadyTable::without_slots(alloc));
         }
-        let (mut slots, mut tags) = empty_places(alloc, count)?;
+        let (mut slots, mut tags) = empty_slots(alloc, count)?;
         let cloned = clone_members(
             &self.slots,
             self.tags.as_slice(count + WINDOW),

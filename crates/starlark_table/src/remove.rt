@@ -1,4 +1,4 @@
-//! Removal from the slots: the members behind an emptied place move back, so that none is lost to its search.
+//! Removal from the slots: the members behind an emptied slot move back, so that none is lost to its search.
 ghost use Rattle.std.specs.Prelude.{◌≡◌, ◌≢◌, ℕ, ◌+◌, ◌<◌, ◌≤◌, None, true, false, ◌∷◌, length, IfSome, IfNone, IsPermutation, slice_index_or, slice_set};
 ghost use Rattle.std.specs.List.{swap};
 ghost use Rattle.starlark_columns.specs.Cells.{IsFilled};
@@ -7,22 +7,22 @@ ghost use Rattle.starlark_table.specs.Layout.{at, empty_tag, window, Crosses, In
 ghost use Rattle.starlark_table.specs.Growth.{limit};
 
 use crate::follow::Follows;
-use crate::home::{distance, home_among, is_far, next_place, window_behind};
+use crate::home::{distance, home_among, is_far, next_slot, window_behind};
 use crate::kept_hash::{Kept, KeptHash};
 use crate::probe::{Slots, is_full};
 use crate::tags::{EMPTY, is_passed};
 
-// Whether the member of a place stands behind the first window of its search, and has the hole on its way.
+// Whether the member of a slot stands behind the first window of its search, and has the hole on its way.
 #[inline]
-fn crosses<T, H: KeptHash>(slots: &Slots<T, H>, hole: usize, place: usize) -> bool
+fn crosses<T, H: KeptHash>(slots: &Slots<T, H>, hole: usize, slot: usize) -> bool
     requires hole { hole < length slots.now }
-    requires full { IsFilled slots.now place }
-    ensures yes { result ≡ true → Crosses (length slots.now) slots.now hole place }
-    ensures no { result ≡ false → Crosses (length slots.now) slots.now hole place → ⊥ }
+    requires full { IsFilled slots.now slot }
+    ensures yes { result ≡ true → Crosses (length slots.now) slots.now hole slot }
+    ensures no { result ≡ false → Crosses (length slots.now) slots.now hole slot → ⊥ }
 {
-    let count = slots.places();
-    let home = home_among(count, &slots.get(place).0);
-    is_far(home, place) && distance(count, home, hole) < distance(count, home, place)
+    let count = slots.cells();
+    let home = home_among(count, &slots.get(slot).0);
+    is_far(home, slot) && distance(count, home, hole) < distance(count, home, slot)
 }
 
 // A member that crosses the hole: the one a window behind it, else the first one behind it. Of many that share a home so
@@ -34,50 +34,50 @@ fn next_across<T, H: KeptHash>(slots: &Slots<T, H>, tags: &[u8], hole: usize) ->
     requires gap { HasGap (length slots.now) slots.now hole }
     requires tagged { IsTagged tags.now slots.now }
     requires free { (q : ℕ) × (q < length slots.now) × (q ≢ hole) × (at slots.now q ≡ None) }
-    ensures found { IfSome result (λ place. Crosses (length slots.now) slots.now hole place) }
+    ensures found { IfSome result (λ slot. Crosses (length slots.now) slots.now hole slot) }
     ensures none { IfNone result (InPlace (length slots.now) slots.now) }
 {
-    let count = slots.places();
+    let count = slots.cells();
     let beyond = window_behind(hole, count);
     if tags[beyond] != EMPTY && crosses(slots, hole, beyond) {
         return Some(beyond);
     }
-    let mut next = next_place(hole, count);
+    let mut next = next_slot(hole, count);
     while tags[next] != EMPTY {
         if crosses(slots, hole, next) {
             return Some(next);
         }
-        next = next_place(next, count);
+        next = next_slot(next, count);
     }
     None
 }
 
-// Moves a member into an empty place, with its tag. What follows is told of it.
+// Moves a member into an empty slot, with its tag. What follows is told of it.
 #[inline]
 fn move_into<T, H: KeptHash, F: Follows<T>>(
     slots: &mut Slots<T, H>,
     tags: &mut [u8],
     hole: usize,
-    place: usize,
+    slot: usize,
     follower: &mut F,
 )
     requires hole { hole < length slots.old }
     requires empty { at slots.old hole ≡ None }
-    requires full { IsFilled slots.old place }
+    requires full { IsFilled slots.old slot }
     requires tagged { IsTagged tags.old slots.old }
     requires known { F.knows follower.old slots.old }
-    ensures moved { slots.new ≡ swap slots.old hole place }
+    ensures moved { slots.new ≡ swap slots.old hole slot }
     ensures tagged { IsTagged tags.new slots.new }
     ensures known { F.knows follower.new slots.new }
     ensures size { F.size follower.new ≡ F.size follower.old }
 {
-    let member = slots.take(place);
+    let member = slots.take(slot);
     follower.moved(&member.1, hole);
     slots.write(hole, member);
-    tags.swap(hole, place);
+    tags.swap(hole, slot);
 }
 
-// Moves members back, so that no way from a home to its member crosses the empty place `start`. Few removals want it, so it
+// Moves members back, so that no way from a home to its member crosses the empty slot `start`. Few removals want it, so it
 // is a call.
 #[inline(never)]
 pub(crate) fn close_gap<T, H: KeptHash, F: Follows<T>>(
@@ -100,22 +100,22 @@ pub(crate) fn close_gap<T, H: KeptHash, F: Follows<T>>(
     ensures tagged { IsTagged tags.new slots.new }
 {
     let mut hole = start;
-    while let Some(place) = next_across(slots, tags, hole) {
-        move_into(slots, tags, hole, place, follower);
-        hole = place;
+    while let Some(slot) = next_across(slots, tags, hole) {
+        move_into(slots, tags, hole, slot, follower);
+        hole = slot;
     }
 }
 
-// Whether a member that leaves this place may leave another one behind a gap: some may stand behind the first windows of
-// their searches, and one of them may have the place on its way.
+// Whether a member that leaves this slot may leave another one behind a gap: some may stand behind the first windows of
+// their searches, and one of them may have the slot on its way.
 #[inline]
-fn leaves_gap(tags: &[u8], place: usize, far: bool) -> bool
-    requires room { place + 1 + window ≤ length tags.now }
-    requires full { slice_index_or tags.now place 0 ≢ empty_tag }
+fn leaves_gap(tags: &[u8], slot: usize, far: bool) -> bool
+    requires room { slot + 1 + window ≤ length tags.now }
+    requires full { slice_index_or tags.now slot 0 ≢ empty_tag }
     ensures near { result ≡ true → far ≡ true }
-    ensures passed { result ≡ false → far ≡ true → IsBetweenEmpty tags.now place }
+    ensures passed { result ≡ false → far ≡ true → IsBetweenEmpty tags.now slot }
 {
-    far && is_passed(tags, place)
+    far && is_passed(tags, slot)
 }
 
 // Takes a member out, and puts the others back in place.

@@ -6,7 +6,7 @@ ghost use Rattle.starlark_table.specs.Layout.{IsTagged, IsTaggedFrom};
 
 use crate::kept_hash::KeptHash;
 use crate::probe::Slots;
-use crate::tags::full_places;
+use crate::tags::full_slots;
 
 // Puts what `f` answers in the place of each item.
 pub(crate) fn replace_items<T: Drop, H: KeptHash, F: FnMut(&T) -> T>(
@@ -19,12 +19,12 @@ pub(crate) fn replace_items<T: Drop, H: KeptHash, F: FnMut(&T) -> T>(
     ensures { (last : F) × ReplacesEach F.FnMut f slots.old slots.new last }
 {
     let mut start = 0;
-    'windows: while start < slots.places() {
+    'windows: while start < slots.cells() {
         start = replace_window(slots, tags, start, &mut f);
     }
 }
 
-// The same in a window of places. The answer is where it ends.
+// The same in a window of slots. The answer is where it ends.
 fn replace_window<T: Drop, H: KeptHash, F: FnMut(&T) -> T>(
     slots: &mut Slots<T, H>,
     tags: &[u8],
@@ -38,10 +38,10 @@ fn replace_window<T: Drop, H: KeptHash, F: FnMut(&T) -> T>(
     ensures sized { length slots.new ≡ length slots.old }
     ensures replaced { ReplacesWithin F.FnMut f.old slots.old slots.new f.new start result }
 {
-    let (mut full, end) = full_places(tags, start);
-    'places: while full != 0 {
-        let place = start + full.trailing_zeros() as usize;
-        let (_, item) = slots.get_mut(place);
+    let (mut full, end) = full_slots(tags, start);
+    'members: while full != 0 {
+        let slot = start + full.trailing_zeros() as usize;
+        let (_, item) = slots.get_mut(slot);
         *item = f(item);
         full &= full - 1;
     }

@@ -6,9 +6,9 @@ ghost use Rattle.starlark_table.specs.Walk.{CanRetain, TakesAtMut, AsksMember};
 ghost use Rattle.starlark_table.specs.Layout.{at, distance, InPlace, IsFar, IsTagged, ReachesBefore, StandsIn};
 ghost use Rattle.starlark_table.specs.Growth.{limit};
 
-use crate::home::{home_among, is_far, next_place};
+use crate::home::{home_among, is_far, next_slot};
 use crate::kept_hash::{Kept, KeptHash};
-use crate::probe::{Slots, free_place};
+use crate::probe::{Slots, free_slot};
 use crate::tags::EMPTY;
 
 // Takes out the members that `f` does not keep, and puts the others back in place. The answer is how many are left.
@@ -27,10 +27,10 @@ pub(crate) fn retain_items<T: Drop, H: KeptHash, F: FnMut(&mut T) -> bool>(
     ensures in_place { InPlace (length slots.new) slots.new }
     ensures tagged { IsTagged tags.new slots.new }
 {
-    if slots.places() == 0 {
+    if slots.cells() == 0 {
         return 0;
     }
-    let start = free_place(slots, tags, 0);
+    let start = free_slot(slots, tags, 0);
     let kept = keep_items(slots, tags, f);
     settle(slots, tags, start);
     kept
@@ -50,13 +50,13 @@ fn keep_items<T: Drop, H: KeptHash, F: FnMut(&mut T) -> bool>(
     ensures tagged { IsTagged tags.new slots.new }
 {
     let mut kept = 0;
-    for place in 0..slots.places() {
-        if tags[place] != EMPTY {
-            if ask(slots.get_mut(place), &mut f) {
+    for slot in 0..slots.cells() {
+        if tags[slot] != EMPTY {
+            if ask(slots.get_mut(slot), &mut f) {
                 kept += 1;
             } else {
-                tags[place] = EMPTY;
-                let _member = slots.take(place);
+                tags[slot] = EMPTY;
+                let _member = slots.take(slot);
             }
         }
     }
@@ -71,7 +71,7 @@ fn ask<T, H: KeptHash, F: FnMut(&mut T) -> bool>(member: &mut (Kept<H>, T), f: &
     f(&mut member.1)
 }
 
-// Moves members back towards their homes, so that no empty place is left on their ways. No way leads over `start`.
+// Moves members back towards their homes, so that no empty slot is left on their ways. No way leads over `start`.
 fn settle<T, H: KeptHash>(slots: &mut Slots<T, H>, tags: &mut [u8], start: usize)
     requires start { start < length slots.old }
     requires tagged { IsTagged tags.old slots.old }
@@ -81,40 +81,40 @@ fn settle<T, H: KeptHash>(slots: &mut Slots<T, H>, tags: &mut [u8], start: usize
     ensures in_place { InPlace (length slots.new) slots.new }
     ensures tagged { IsTagged tags.new slots.new }
 {
-    let count = slots.places();
-    let mut place = next_place(start, count);
+    let count = slots.cells();
+    let mut slot = next_slot(start, count);
     for step in 1..count {
-        if tags[place] != EMPTY {
-            let home = home_among(count, &slots.get(place).0);
-            let to = moves_to(slots, tags, home, place);
-            if to != place {
-                let member = slots.take(place);
+        if tags[slot] != EMPTY {
+            let home = home_among(count, &slots.get(slot).0);
+            let to = moves_to(slots, tags, home, slot);
+            if to != slot {
+                let member = slots.take(slot);
                 slots.write(to, member);
-                tags.swap(to, place);
+                tags.swap(to, slot);
             }
         }
-        place = next_place(place, count);
+        slot = next_slot(slot, count);
     }
 }
 
-// Where a member moves: to the first empty place on its way, where it stands behind its first window.
-fn moves_to<T, H: KeptHash>(slots: &Slots<T, H>, tags: &[u8], home: usize, place: usize) -> usize
+// Where a member moves: to the first empty slot on its way, where it stands behind its first window.
+fn moves_to<T, H: KeptHash>(slots: &Slots<T, H>, tags: &[u8], home: usize, slot: usize) -> usize
     requires tagged { IsTagged tags.now slots.now }
     requires home { home < length slots.now }
-    requires place { place < length slots.now }
+    requires slot { slot < length slots.now }
     ensures within { result < length slots.now }
-    ensures near { distance (length slots.now) home result ≤ distance (length slots.now) home place }
-    ensures empty { (result ≡ place) ⊎ (at slots.now result ≡ None) }
-    ensures path { IsFar home place → (q : ℕ) → q < length slots.now → distance (length slots.now) home q < distance (length slots.now) home result → IsSome (at slots.now q) }
+    ensures near { distance (length slots.now) home result ≤ distance (length slots.now) home slot }
+    ensures empty { (result ≡ slot) ⊎ (at slots.now result ≡ None) }
+    ensures path { IsFar home slot → (q : ℕ) → q < length slots.now → distance (length slots.now) home q < distance (length slots.now) home result → IsSome (at slots.now q) }
 {
-    if is_far(home, place) {
-        free_before(slots, tags, home, place)
+    if is_far(home, slot) {
+        free_before(slots, tags, home, slot)
     } else {
-        place
+        slot
     }
 }
 
-// The first empty place from one on, or `end` where none comes before it.
+// The first empty slot from one on, or `end` where none comes before it.
 fn free_before<T, H: KeptHash>(slots: &Slots<T, H>, tags: &[u8], start: usize, end: usize) -> usize
     requires tagged { IsTagged tags.now slots.now }
     requires start { start < length slots.now }
@@ -124,9 +124,9 @@ fn free_before<T, H: KeptHash>(slots: &Slots<T, H>, tags: &[u8], start: usize, e
     ensures empty { (result ≡ end) ⊎ (at slots.now result ≡ None) }
     ensures path { (q : ℕ) → q < length slots.now → distance (length slots.now) start q < distance (length slots.now) start result → IsSome (at slots.now q) }
 {
-    let mut place = start;
-    while place != end && tags[place] != EMPTY {
-        place = next_place(place, slots.places());
+    let mut slot = start;
+    while slot != end && tags[slot] != EMPTY {
+        slot = next_slot(slot, slots.cells());
     }
-    place
+    slot
 }

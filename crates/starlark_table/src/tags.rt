@@ -1,4 +1,4 @@
-//! A tag of one byte for each place: what a search reads to tell where a hash may be, and which places are empty.
+//! A tag of one byte for each slot: what a search reads to tell where a hash may be, and which slots are empty.
 ghost use Rattle.std.specs.Prelude.{◌≡◌, ℕ, ◌+◌, ◌-◌, ◌<◌, ◌≤◌, ◌≢◌, None, false, length, slice_index_or};
 ghost use Rattle.starlark_table.specs.Layout.{tag, at, window, tag_count, tag_bits, hash_tag_bits, empty_tag, AreDoubled, BitsUpToEmpty, IsBetweenEmpty, IsTagged, HasTags, IsPadded};
 
@@ -6,21 +6,21 @@ use crate::kept_hash::KeptHash;
 use crate::probe::Slots;
 use std::simd::prelude::*;
 
-// How many tags a step of a search looks at. There are so many more tags than places, so that it may look from each
-// place on.
+// How many tags a step of a search looks at. There are so many more tags than slots, so that it may look from each
+// slot on.
 pub(crate) const WINDOW: usize = 16;
 
-// How many tags a walk over all places looks at, where so many are left. The processor foresees badly where the loop
+// How many tags a walk over all slots looks at, where so many are left. The processor foresees badly where the loop
 // over the full ones ends: once for so many tags is better than four times.
 const WIDE_WINDOW: usize = 64;
 
 // How many tags a hash may have.
 const TAGS: u64 = 254;
 
-// The tag of an empty place.
+// The tag of an empty slot.
 pub(crate) const EMPTY: u8 = 255;
 
-// What stands behind the tags of the places: neither the tag of a hash nor that of an empty place.
+// What stands behind the tags of the slots: neither the tag of a hash nor that of an empty slot.
 pub(crate) const PADDING: u8 = 254;
 
 // The tag of a number: the more there are, the fewer other hashes a search looks at.
@@ -38,13 +38,13 @@ pub(crate) fn tags_beside<T, H: KeptHash>(slots: &Slots<T, H>) -> usize
     requires { AreDoubled slots.now }
     ensures { result ≡ tag_count (length slots.now) }
 {
-    let places = slots.places();
-    if places == 0 { 0 } else { places + WINDOW }
+    let count = slots.cells();
+    if count == 0 { 0 } else { count + WINDOW }
 }
 
-// A bit for each place of the window from one on: whether it has this tag.
+// A bit for each slot of the window from one on: whether it has this tag.
 #[inline]
-pub(crate) fn places_with(tags: &[u8], start: usize, tag: u8) -> u64
+pub(crate) fn slots_with(tags: &[u8], start: usize, tag: u8) -> u64
     requires { start + window ≤ length tags.now }
     ensures { result ≡ tag_bits tag tags.now start window }
 {
@@ -52,48 +52,48 @@ pub(crate) fn places_with(tags: &[u8], start: usize, tag: u8) -> u64
     lanes.simd_eq(u8x16::splat(tag)).to_bitmask()
 }
 
-// The same, up to the first place with the empty tag.
+// The same, up to the first slot with the empty tag.
 #[inline]
-pub(crate) fn places_up_to_empty(tags: &[u8], start: usize, tag: u8) -> u64
+pub(crate) fn slots_up_to_empty(tags: &[u8], start: usize, tag: u8) -> u64
     requires { start + window ≤ length tags.now }
     ensures { BitsUpToEmpty tag tags.now start result }
 {
-    let same = places_with(tags, start, tag);
-    let empty = places_with(tags, start, EMPTY);
+    let same = slots_with(tags, start, tag);
+    let empty = slots_with(tags, start, EMPTY);
     if empty == 0 {
         return same;
     }
     same & ((1 << empty.trailing_zeros()) - 1)
 }
 
-// Whether a member behind the first window of its search may have this place, which is full, on its way: there are no
-// empty places on both sides of it, or they are more than sixteen places apart.
+// Whether a member behind the first window of its search may have this slot, which is full, on its way: there are no
+// empty slots on both sides of it, or they are more than sixteen slots apart.
 #[inline]
-pub(crate) fn is_passed(tags: &[u8], place: usize) -> bool
-    requires room { place + 1 + window ≤ length tags.now }
-    requires full { slice_index_or tags.now place 0 ≢ empty_tag }
-    ensures { result ≡ false → IsBetweenEmpty tags.now place }
+pub(crate) fn is_passed(tags: &[u8], slot: usize) -> bool
+    requires room { slot + 1 + window ≤ length tags.now }
+    requires full { slice_index_or tags.now slot 0 ≢ empty_tag }
+    ensures { result ≡ false → IsBetweenEmpty tags.now slot }
 {
-    let behind = places_with(tags, place + 1, EMPTY);
+    let behind = slots_with(tags, slot + 1, EMPTY);
     if behind == 0 {
         return true;
     }
     let apart = behind.trailing_zeros();
-    if place >= WINDOW {
+    if slot >= WINDOW {
         // Where this window lies does not hang on the other, so both are read at once.
-        return places_with(tags, place - WINDOW, EMPTY) >> apart == 0;
+        return slots_with(tags, slot - WINDOW, EMPTY) >> apart == 0;
     }
-    let end = place + 1 + apart as usize;
+    let end = slot + 1 + apart as usize;
     if end <= WINDOW {
-        let before = places_with(tags, 0, EMPTY);
-        return before.trailing_zeros() as usize >= place;
+        let before = slots_with(tags, 0, EMPTY);
+        return before.trailing_zeros() as usize >= slot;
     }
-    places_with(tags, end - 1 - WINDOW, EMPTY) == 0
+    slots_with(tags, end - 1 - WINDOW, EMPTY) == 0
 }
 
-// A bit for each place of a window from one on: whether it is full. With the bits the end of that window.
+// A bit for each slot of a window from one on: whether it is full. With the bits the end of that window.
 #[inline]
-pub(crate) fn full_places(tags: &[u8], start: usize) -> (u64, usize)
+pub(crate) fn full_slots(tags: &[u8], start: usize) -> (u64, usize)
     requires { start + window ≤ length tags.now }
     ensures some { start < result.1 }
     ensures short { result.1 ≤ start + 64 }
@@ -111,12 +111,12 @@ pub(crate) fn full_places(tags: &[u8], start: usize) -> (u64, usize)
     }
 }
 
-// Writes the tag of each place, where all are empty.
+// Writes the tag of each slot, where all are empty.
 pub(crate) fn untag<T, H: KeptHash>(tags: &mut [u8], slots: &Slots<T, H>)
     requires sized { HasTags tags.old slots.now }
     requires padded { IsPadded tags.old slots.now }
     requires empty { (k : ℕ) → at slots.now k ≡ None }
     ensures { IsTagged tags.new slots.now }
 {
-    tags[..slots.places()].fill(EMPTY);
+    tags[..slots.cells()].fill(EMPTY);
 }

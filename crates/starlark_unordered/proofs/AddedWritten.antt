@@ -13,7 +13,7 @@ use Rattle.starlark_table.proofs.TableLemmas.{grows-alike}
 use Rattle.starlark_unordered.specs.Insert.{Adds}
 use Rattle.starlark_unordered.specs.Pairs.{pairs_of, with_value}
 use Rattle.starlark_unordered.specs.RawEntry.{IsInPlace}
-use Rattle.starlark_unordered.specs.Lend.{IsAdded, PlacesPair}
+use Rattle.starlark_unordered.specs.Lend.{IsAdded, PutsPair}
 use Rattle.starlark_unordered.proofs.Lists.{count-cons, count-middle, one_if}
 use Rattle.starlark_unordered.proofs.RawWritten.{value_in_place}
 
@@ -113,9 +113,9 @@ module _ {K V : Type 0} (eq : K → K → Bool) (laws : IsEquivalence eq) (old :
   added_on new (Err e) added room = tt
 
 -- what was added stands in the slot that is answered
-pub places_pair : {K V B : Type 0} (eq : K → K → Bool) (laws : IsEquivalence eq) (lent held : MutBor (Table (K × V))) (key : K) (value : V) (back : B) (r : Result ℕ (NoRoom B))
-    → lookup (eq key) (pairs_of lent.now) ≡ None → held.ghost_name ≡ lent.ghost_name → IfOk r (λ slot. item_in held.now slot ≡ Some (key, value)) → Adds eq lent.now held.now key value back r → PlacesPair lent held key value back r
-places_pair eq laws lent held key value back r absent same there adds = record {
+pub puts_pair : {K V B : Type 0} (eq : K → K → Bool) (laws : IsEquivalence eq) (lent held : MutBor (Table (K × V))) (key : K) (value : V) (back : B) (r : Result ℕ (NoRoom B))
+    → lookup (eq key) (pairs_of lent.now) ≡ None → held.ghost_name ≡ lent.ghost_name → IfOk r (λ slot. item_in held.now slot ≡ Some (key, value)) → Adds eq lent.now held.now key value back r → PutsPair lent held key value back r
+puts_pair eq laws lent held key value back r absent same there adds = record {
   same_map = same;
   placed = there;
   added = added_on eq laws lent.now key value absent held.now r adds.pairs adds.room;
@@ -126,9 +126,9 @@ places_pair eq laws lent held key value back r absent same there adds = record {
 }
 
 -- where only the refusal becomes another
-pub places_again : {K V B C : Type 0} (lent held : MutBor (Table (K × V))) (key : K) (value : V) (back : B) (other : C) (r : Result ℕ (NoRoom B)) (s : Result ℕ (NoRoom C))
-    → MatchResult r (λ slot. s ≡ Ok slot) (λ e. (f : NoRoom C) × (s ≡ Err f) × (e.0 ≡ back → f.0 ≡ other)) → PlacesPair lent held key value back r → PlacesPair lent held key value other s
-places_again lent held key value back other (Ok slot) s is put = subst (PlacesPair lent held key value other) (sym is) (record {
+pub puts_again : {K V B C : Type 0} (lent held : MutBor (Table (K × V))) (key : K) (value : V) (back : B) (other : C) (r : Result ℕ (NoRoom B)) (s : Result ℕ (NoRoom C))
+    → MatchResult r (λ slot. s ≡ Ok slot) (λ e. (f : NoRoom C) × (s ≡ Err f) × (e.0 ≡ back → f.0 ≡ other)) → PutsPair lent held key value back r → PutsPair lent held key value other s
+puts_again lent held key value back other (Ok slot) s is put = subst (PutsPair lent held key value other) (sym is) (record {
   same_map = put.same_map;
   placed = put.placed;
   added = put.added;
@@ -137,7 +137,7 @@ places_again lent held key value back other (Ok slot) s is put = subst (PlacesPa
   handed_back = tt;
   unchanged = tt;
 })
-places_again lent held key value back other (Err e) s (f, is, again) put = subst (PlacesPair lent held key value other) (sym is) (record {
+puts_again lent held key value back other (Err e) s (f, is, again) put = subst (PutsPair lent held key value other) (sym is) (record {
   same_map = put.same_map;
   placed = tt;
   added = tt;

@@ -65,9 +65,9 @@ module _ {K V : Type 0} (feeds : K → HashWrites) (hash : StarlarkHashValue) (t
       pub tells-under : (r : Option V) → FindsUnder eq feeds t hash m r → TellsUnder eq feeds t hash m (is_some r)
       tells-under r finds = record { value = ap is_some finds.value; found = tells-some r finds.value; own = λ same own passes. ap is_some (finds.own same own passes) }
 
--- the value stands at some place
+-- the value stands at some index
 abbrev IsPlaced : {V : Type 0} → List V → V → Type 0
-IsPlaced values v = (place : ℕ) × (place < length values) × (slice_get values place ≡ Some v)
+IsPlaced values v = (index : ℕ) × (index < length values) × (slice_get values index ≡ Some v)
 
 module _ {K V : Type 0} where
   placed_step : (p : K × V) (ps : List (K × V)) (v : V) (o : Option V) (b : Bool) → (o ≡ Some v → IsPlaced (values_of ps) v) → cond b (Some p.1) o ≡ Some v → IsPlaced (values_of (p ∷ ps)) v

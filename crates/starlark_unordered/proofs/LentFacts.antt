@@ -8,7 +8,7 @@ use Rattle.starlark_table.specs.Table.{Table, item_in}
 use Rattle.starlark_unordered.specs.Pairs.{with_value}
 use Rattle.starlark_unordered.specs.Lend.{IsAdded}
 
--- `lent` answers where there is a place, or hands the refusal on
+-- `lent` answers where there is a slot, or hands the refusal on
 abbrev pub HandsOn : {A E : Type 0} → Result ℕ E → Result A E → Type 0
 HandsOn placed lent = MatchResult placed (λ _. IsOk lent) (λ e. lent ≡ Err e)
 

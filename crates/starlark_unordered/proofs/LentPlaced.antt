@@ -25,7 +25,7 @@ place_laws = of_field usize-field usize-laws refl (copy_shared usize-field usize
 pub mut_laws : (κ : Lft) (R : RattleType) → Laws R → Laws (MutRef (named 0) κ R)
 mut_laws κ R L = let a : NamedLft = record { mir = named 0; lft = κ } in let one = is_one R L in of_field (mut_ref_field a R one) (mut_ref_laws a R one) refl (mut_ref_shared a R one (row_shared R L))
 
--- a reference and a place in a `Result`
+-- a reference and a slot in a `Result`
 abbrev pub Placed : Lft → (R X : RattleType) → RattleType
 Placed κ R X = Tuple (MutRef (named 0) κ R ∷ RS.the_row usize X ∷ [])
 

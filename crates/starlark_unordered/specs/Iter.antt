@@ -29,8 +29,8 @@ module _ {K V : Type 0} where
 
   -- what a look-up finds is one of these values, and each of them is found at some key
   abbrev pub AreFound : (K → K → Bool) → List (K × V) → List V → Type 0
-  AreFound eq ps values = ((key : K) → IfSome (found (eq key) ps) (λ v. (place : ℕ) × (place < length values) × (slice_get values place ≡ Some v)))
-      × ((place : ℕ) → IfSome (slice_get values place) (λ v. (key : K) × (found (eq key) ps ≡ Some v)))
+  AreFound eq ps values = ((key : K) → IfSome (found (eq key) ps) (λ v. (index : ℕ) × (index < length values) × (slice_get values index ≡ Some v)))
+      × ((index : ℕ) → IfSome (slice_get values index) (λ v. (key : K) × (found (eq key) ps ≡ Some v)))
 
   -- a walk that has all of the values left, which look-ups find, and lends each in turn: their number fits a `usize`
   pub record ShowsValues (eq : K → K → Bool) (m : Table (K × V)) (left : List V) : Type 0 where

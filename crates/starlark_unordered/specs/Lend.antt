@@ -19,7 +19,7 @@ abbrev pub map_row : (K V : RattleType) → HashMembers K.Denot → RattleType
 map_row K V g = the_row K V (record { eq = g.eq }) (record { hash_input = g.hash_input })
 
 -- what `get_mut` leaves: new is old with this value at the key that passes, where there is one, and by any measure it weighs in
--- the place of the one that was there
+-- the slot of the one that was there
 abbrev pub WritesThrough : {K V : Type 0} → (K → K → Bool) → (K → Bool) → Table (K × V) → Option (MutBor V) → V → Table (K × V) → Type 0
 WritesThrough {V = V} eq t old r value new = OnSome r (IsWritten t old value new) × (IsSome (found t (pairs_of old)) → Writes eq t old new (Some value))
     × (IsSome (found t (pairs_of old)) → (measure : V → ℕ) → total_of measure (pairs_of new) + weight_of measure (found t (pairs_of old)) ≡ total_of measure (pairs_of old) + measure value)
@@ -50,7 +50,7 @@ pub record LendsSlot {K V E : Type 0} (m : Table (K × V)) (placed : Result ℕ 
 module _ {K V B : Type 0} where
   -- a pair was put into the slot of the lent map that is answered, where any value may then be written; or it comes
   -- back for want of room
-  pub record PlacesPair (lent held : MutBor (Table (K × V))) (key : K) (value : V) (back : B) (result : Result ℕ (NoRoom B)) : Type 0 where
+  pub record PutsPair (lent held : MutBor (Table (K × V))) (key : K) (value : V) (back : B) (result : Result ℕ (NoRoom B)) : Type 0 where
     pub same_map : held.ghost_name ≡ lent.ghost_name
     pub placed : IfOk result (λ slot. item_in held.now slot ≡ Some (key, value))
     pub added : OnOk result (IsAdded lent.now key value held.now)

@@ -81,11 +81,11 @@ module _ {K V : Type 0} {g : eq.Ghosts K} {h : hash.Ghosts K} where
   abbrev pub stored_raw : RawOccupiedEntryMut K V g h → Option (K × V)
   stored_raw o = item_in o.map.now o.slot
 
-  -- what `from_key` answers: the place in m of the key that passes, where a value that is written is the value at that key,
+  -- what `from_key` answers: the slot in m of the key that passes, where a value that is written is the value at that key,
   -- and no other changes; or the lack of one
-  abbrev pub IsRawPlaceOf : (K → K → Bool) → (K → Bool) → Table (K × V) → RawEntryMut K V g h → Type 0
-  IsRawPlaceOf eq t m (Occupied o) = (o.map.now ≡ m) × (found t (pairs_of m) ≡ option_map (λ p. p.1) (stored_raw o)) × ((w : V) → Writes eq t m (with_value o.map.now o.slot w) (Some w))
-  IsRawPlaceOf eq t m (Vacant v) = (v.map.now ≡ m) × (found t (pairs_of m) ≡ None)
+  abbrev pub IsRawEntryAt : (K → K → Bool) → (K → Bool) → Table (K × V) → RawEntryMut K V g h → Type 0
+  IsRawEntryAt eq t m (Occupied o) = (o.map.now ≡ m) × (found t (pairs_of m) ≡ option_map (λ p. p.1) (stored_raw o)) × ((w : V) → Writes eq t m (with_value o.map.now o.slot w) (Some w))
+  IsRawEntryAt eq t m (Vacant v) = (v.map.now ≡ m) × (found t (pairs_of m) ≡ None)
 
   -- the entry, once this is its value
   abbrev pub with_raw_value : RawOccupiedEntryMut K V g h → V → RawOccupiedEntryMut K V g h

@@ -1,4 +1,4 @@
-//! Places of a map that a query, or a hash and a closure choose.
+//! Slots of a map that a query, or a hash and a closure choose.
 ghost use Rattle.std.specs.Prelude.{◌≡◌, true, Some, None, IfOk, IfSome};
 ghost use Rattle.std.specs.Borrow.{sem};
 ghost use Rattle.std.specs.Map.{lookup};
@@ -16,12 +16,12 @@ use starlark_hash::{HashQuery, Hashed, NoRoom, Query, StarlarkHashValue};
 use std::hash::Hash;
 use std::mem;
 
-/// A map whose place is still to be named. Let go, it leaves the map as it was.
+/// A map whose slot is still to be named. Let go, it leaves the map as it was.
 pub struct RawEntryBuilderMut<'a, K: Eq + Hash, V> {
     map: &'a mut UnorderedMap<K, V>,
 }
 
-/// The place that was chosen, which has a pair or lacks one.
+/// The slot that was chosen, which has a pair or lacks one.
 #[derive(Drop)]
 pub enum RawEntryMut<'a, K: Eq + Hash, V> {
     /// A pair was found.
@@ -64,7 +64,7 @@ impl<K: Eq + Hash, V> Drop for RawVacantEntryMut<'_, K, V> {
 impl<K: Eq + Hash, V> UnorderedMap<K, V> {
     ghost use Rattle.starlark_unordered.specs.RawEntry.{HoldsMap};
 
-    /// The map, whose place is to be named by a query, or by a hash and a closure.
+    /// The map, whose slot is to be named by a query, or by a hash and a closure.
     #[inline]
     pub fn raw_entry_mut(&mut self) -> RawEntryBuilderMut<'_, K, V>
         ensures holds { HoldsMap self.entry result.map }
@@ -74,13 +74,13 @@ impl<K: Eq + Hash, V> UnorderedMap<K, V> {
 }
 
 impl<'a, K: Eq + Hash, V> RawEntryBuilderMut<'a, K, V> {
-    ghost use Rattle.starlark_unordered.specs.RawEntry.{map_of_raw, slot_of_raw, IsRawPlaceOf, NamesAccepted, NamesSlot};
+    ghost use Rattle.starlark_unordered.specs.RawEntry.{map_of_raw, slot_of_raw, IsRawEntryAt, NamesAccepted, NamesSlot};
 
     /// The pair of the key that the query stands for, or vacant where the map lacks it. The map is as it was.
     #[tactic(auto, unfolding(crate::specs::Lookup::found))]
     #[inline]
     pub fn from_key<Q: HashQuery<K>>(self, query: Q) -> RawEntryMut<'a, K, V>
-        ensures place { IsRawPlaceOf K.eq (Q.stands_for query) self.entry.map.now result }
+        ensures entry { IsRawEntryAt K.eq (Q.stands_for query) self.entry.map.now result }
         ensures names { NamesSlot (Q.stands_for query) self.entry.map (map_of_raw result) (slot_of_raw result) }
     {
         let RawEntryBuilderMut { map } = self;
@@ -186,7 +186,7 @@ impl<'a, K: Eq + Hash, V> RawOccupiedEntryMut<'a, K, V> {
 }
 
 impl<'a, K: Eq + Hash, V> RawVacantEntryMut<'a, K, V> {
-    ghost use Rattle.starlark_unordered.specs.Lend.{lends_added, LendsPair, PlacesPair};
+    ghost use Rattle.starlark_unordered.specs.Lend.{lends_added, LendsPair, PutsPair};
 
     /// Puts a key in under its own hash, as `insert_hashed` does under one that is brought.
     pub fn insert(self, key: K, value: V) -> Result<(&'a K, &'a mut V), NoRoom<(K, V)>>
@@ -217,7 +217,7 @@ impl<'a, K: Eq + Hash, V> RawVacantEntryMut<'a, K, V> {
     // Puts a new key in under its own hash, and answers the map with the slot, or the refusal.
     fn place(self, key: K, value: V) -> (&'a mut UnorderedMap<K, V>, Result<usize, NoRoom<(K, V)>>)
         requires { lookup (K.eq key) (pairs_of self.map.now) ≡ None }
-        ensures { PlacesPair self.entry.map result.0 key value (key, value) result.1 }
+        ensures { PutsPair self.entry.map result.0 key value (key, value) result.1 }
     {
         let RawVacantEntryMut { map } = self;
         let hash = StarlarkHashValue::new(&key);
@@ -236,7 +236,7 @@ impl<'a, K: Eq + Hash, V> RawVacantEntryMut<'a, K, V> {
     )
         requires own { hash_of key ≡ own_hash K.hash_input (key_of key) }
         requires absent { lookup (K.eq (key_of key)) (pairs_of self.map.now) ≡ None }
-        ensures { PlacesPair self.entry.map result.0 (key_of key) value (key, value) result.1 }
+        ensures { PutsPair self.entry.map result.0 (key_of key) value (key, value) result.1 }
     {
         let RawVacantEntryMut { map } = self;
         let hash = key.hash();

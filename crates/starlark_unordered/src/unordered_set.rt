@@ -131,7 +131,7 @@ impl<T: Eq + Hash> UnorderedSet<T> {
 }
 
 impl<T: Eq + Hash + Clone> UnorderedSet<T> {
-    /// A set of clones of the elements, each in its original's place, with as much room. Where memory is refused, also
+    /// A set of clones of the elements, each in its original's slot, with as much room. Where memory is refused, also
     /// to the clone of an element, nothing is made. An empty set without room needs none. Required is that a clone of an
     /// element is equal to it.
     pub fn clone(&self) -> Result<Self, AllocError>

@@ -43,8 +43,8 @@ names-own key =
     (λ i. (eq-eqb n n refl i) && (bytes_eq-Decides text text).1 refl i)
 
 module _ {V : Type 0} where
-  abbrev place : List ℕ → List (Entry (String Global) V) → Option ℕ
-  place name es = position (λ e. names name e.0) es
+  abbrev index : List ℕ → List (Entry (String Global) V) → Option ℕ
+  index name es = position (λ e. names name e.0) es
 
   -- what a scope with these entries binds a name to
   abbrev pub bound_in : List (Entry (String Global) V) → List ℕ → Option V
@@ -54,14 +54,14 @@ module _ {V : Type 0} where
   bound-entries scope name = value_at-position (names name) scope.entries
 
   pub bound-assigned : (old new : Scope V) (key : String Global) (value : V)
-      → new.entries ≡ written (hashed (own_hash fed.str (string_bytes key)) key) value old.entries (place (string_bytes key) old.entries) → bound new (string_bytes key) ≡ Some value
+      → new.entries ≡ written (hashed (own_hash fed.str (string_bytes key)) key) value old.entries (index (string_bytes key) old.entries) → bound new (string_bytes key) ≡ Some value
   bound-assigned old new key value put =
       let name = string_bytes key in
       bound-entries new name ∙ ap (λ es. bound_in es name) put
       ∙ first_value-written (names name) (hashed (own_hash fed.str name) key) value (names-own key) old.entries
 
   pub bound-assigned_other : (old new : Scope V) (key : String Global) (value : V) (other : List ℕ) → (other ≡ string_bytes key → ⊥)
-      → new.entries ≡ written (hashed (own_hash fed.str (string_bytes key)) key) value old.entries (place (string_bytes key) old.entries) → bound new other ≡ bound old other
+      → new.entries ≡ written (hashed (own_hash fed.str (string_bytes key)) key) value old.entries (index (string_bytes key) old.entries) → bound new other ≡ bound old other
   bound-assigned_other old new key value other differ put =
       let name = string_bytes key in
       let own = hashed (own_hash fed.str name) key in
@@ -78,11 +78,11 @@ module _ {V : Type 0} where
       let this : name ≡ text = (bytes_eq-Decides name text).0 (second_so _ _ has) in
       (λ t. (hash_number (hash_of next) == sym number t) && bytes_eq (this t) (string_bytes (key_of next))) ∙ single i j d before within
 
-  pub bound-deleted : (old new : Scope V) (name : List ℕ) → IsSingle string_eq old.entries → new.entries ≡ cut old.entries (place name old.entries) → bound new name ≡ None
+  pub bound-deleted : (old new : Scope V) (name : List ℕ) → IsSingle string_eq old.entries → new.entries ≡ cut old.entries (index name old.entries) → bound new name ≡ None
   bound-deleted old new name single gone =
       bound-entries new name ∙ ap (λ es. bound_in es name) gone ∙ first_value-cut (names name) old.entries (names_once old.entries name single)
 
-  pub bound-deleted_other : (old new : Scope V) (name other : List ℕ) → (other ≡ name → ⊥) → new.entries ≡ cut old.entries (place name old.entries) → bound new other ≡ bound old other
+  pub bound-deleted_other : (old new : Scope V) (name other : List ℕ) → (other ≡ name → ⊥) → new.entries ≡ cut old.entries (index name old.entries) → bound new other ≡ bound old other
   bound-deleted_other old new name other differ gone =
       bound-entries new other ∙ ap (λ es. bound_in es other) gone
       ∙ first_value-cut_apart (names name) (names other) (names-apart name other differ) old.entries
@@ -135,15 +135,15 @@ module _ {V : Type 0} where
       ap (λ o. option_or o (found new.enclosing name)) (bound-entries new.innermost name ∙ ap (λ es. bound_in es name) bare)
       ∙ ap (λ scopes. found scopes name) around ∙ found_last old.enclosing old.innermost name
 
-  pub lookup_deleted : (old new : Scope V) (around : List (Scope V)) (name : List ℕ) → IsSingle string_eq old.entries → new.entries ≡ cut old.entries (place name old.entries) → lookup (bindings new around) name ≡ found around name
+  pub lookup_deleted : (old new : Scope V) (around : List (Scope V)) (name : List ℕ) → IsSingle string_eq old.entries → new.entries ≡ cut old.entries (index name old.entries) → lookup (bindings new around) name ≡ found around name
   lookup_deleted old new around name single gone = ap (λ o. option_or o (found around name)) (bound-deleted old new name single gone)
 
-  pub lookup_deleted_other : (old new : Scope V) (around : List (Scope V)) (name other : List ℕ) → (other ≡ name → ⊥) → new.entries ≡ cut old.entries (place name old.entries) → lookup (bindings new around) other ≡ lookup (bindings old around) other
+  pub lookup_deleted_other : (old new : Scope V) (around : List (Scope V)) (name other : List ℕ) → (other ≡ name → ⊥) → new.entries ≡ cut old.entries (index name old.entries) → lookup (bindings new around) other ≡ lookup (bindings old around) other
   lookup_deleted_other old new around name other differ gone = ap (λ o. option_or o (found around other)) (bound-deleted_other old new name other differ gone)
 
   -- what an insertion into the innermost scope says of the look-ups
   module _ {T E : Type 0} (r : Result T E) (old new : Scope V) (around : List (Scope V)) (key : String Global) (value : V)
-      (put : OnOk r (new.entries ≡ written (hashed (own_hash fed.str (string_bytes key)) key) value old.entries (place (string_bytes key) old.entries)))
+      (put : OnOk r (new.entries ≡ written (hashed (own_hash fed.str (string_bytes key)) key) value old.entries (index (string_bytes key) old.entries)))
       (refused : OnErr r ((new.entries ≡ old.entries) × (new.indexed ≡ old.indexed))) where
     abbrev Stays : List ℕ → Type 0
     Stays other = lookup (bindings new around) other ≡ lookup (bindings old around) other
@@ -152,14 +152,14 @@ module _ {V : Type 0} where
     same_entries_same same other = ap (λ o. option_or o (found around other)) (bound-entries new other ∙ ap (λ es. bound_in es other) same ∙ sym (bound-entries old other))
 
     pub lookup_assigned : OnOk r (lookup (bindings new around) (string_bytes key) ≡ Some value)
-    lookup_assigned = elim r as (λ r. OnOk r (new.entries ≡ written (hashed (own_hash fed.str (string_bytes key)) key) value old.entries (place (string_bytes key) old.entries)) → OnOk r (lookup (bindings new around) (string_bytes key) ≡ Some value)) [
+    lookup_assigned = elim r as (λ r. OnOk r (new.entries ≡ written (hashed (own_hash fed.str (string_bytes key)) key) value old.entries (index (string_bytes key) old.entries)) → OnOk r (lookup (bindings new around) (string_bytes key) ≡ Some value)) [
       | Ok t ↦ λ done. ap (λ o. option_or o (found around (string_bytes key))) (bound-assigned old new key value done)
       | Err e ↦ λ done. done
     ] put
 
     pub lookup_assigned_other : (other : List ℕ) → (other ≡ string_bytes key → ⊥) → Stays other
     lookup_assigned_other other differ =
-        elim r as (λ r. OnOk r (new.entries ≡ written (hashed (own_hash fed.str (string_bytes key)) key) value old.entries (place (string_bytes key) old.entries)) → OnErr r ((new.entries ≡ old.entries) × (new.indexed ≡ old.indexed)) → Stays other) [
+        elim r as (λ r. OnOk r (new.entries ≡ written (hashed (own_hash fed.str (string_bytes key)) key) value old.entries (index (string_bytes key) old.entries)) → OnErr r ((new.entries ≡ old.entries) × (new.indexed ≡ old.indexed)) → Stays other) [
           | Ok t ↦ λ done kept. ap (λ o. option_or o (found around other)) (bound-assigned_other old new key value other differ done)
           | Err e ↦ λ done kept. same_entries_same kept.0 other
         ] put refused

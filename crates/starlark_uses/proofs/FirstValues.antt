@@ -16,7 +16,7 @@ module _ {K V : Type 0} where
   first_value-cond p true xs ys = refl
   first_value-cond p false xs ys = refl
 
-  later : (e : Entry K V) (es : List (Entry K V)) (place : Option ℕ) → value_at (e ∷ es) (option_map suc place) ≡ value_at es place
+  later : (e : Entry K V) (es : List (Entry K V)) (index : Option ℕ) → value_at (e ∷ es) (option_map suc index) ≡ value_at es index
   later e es None = refl
   later e es (Some i) = refl
 
@@ -30,46 +30,46 @@ module _ {K V : Type 0} where
         | false ↦ later e es rest ∙ value_at-position p es
       ]
 
-  -- the list after a value is written at a place, or put last where there is none
+  -- the list after a value is written at an index, or put last where there is none
   abbrev pub written : Hashed K → V → List (Entry K V) → Option ℕ → List (Entry K V)
-  written key value es place = option_map_or (λ i. set_value_at es i value) place (es ++ (key, value) ∷ [])
+  written key value es index = option_map_or (λ i. set_value_at es i value) index (es ++ (key, value) ∷ [])
 
-  written_later : (key : Hashed K) (value : V) (e : Entry K V) (es : List (Entry K V)) (b : Bool) (place : Option ℕ)
-      → written key value (e ∷ es) (cond b (Some 0) (option_map suc place)) ≡ cond b ((e.0, value) ∷ es) (e ∷ written key value es place)
-  written_later key value e es true place = refl
+  written_later : (key : Hashed K) (value : V) (e : Entry K V) (es : List (Entry K V)) (b : Bool) (index : Option ℕ)
+      → written key value (e ∷ es) (cond b (Some 0) (option_map suc index)) ≡ cond b ((e.0, value) ∷ es) (e ∷ written key value es index)
+  written_later key value e es true index = refl
   written_later key value e es false None = refl
   written_later key value e es false (Some i) = refl
 
-  -- and the list without that place
+  -- and the list without that index
   abbrev pub cut : List (Entry K V) → Option ℕ → List (Entry K V)
-  cut es place = option_map_or (remove es) place es
+  cut es index = option_map_or (remove es) index es
 
-  cut_later : (e : Entry K V) (es : List (Entry K V)) (b : Bool) (place : Option ℕ) → cut (e ∷ es) (cond b (Some 0) (option_map suc place)) ≡ cond b es (e ∷ cut es place)
-  cut_later e es true place = refl
+  cut_later : (e : Entry K V) (es : List (Entry K V)) (b : Bool) (index : Option ℕ) → cut (e ∷ es) (cond b (Some 0) (option_map suc index)) ≡ cond b es (e ∷ cut es index)
+  cut_later e es true index = refl
   cut_later e es false None = refl
   cut_later e es false (Some i) = refl
 
   module _ (p : Hashed K → Bool) where
-    abbrev first_place : List (Entry K V) → Option ℕ
-    first_place es = position (λ e. p e.0) es
+    abbrev first_index : List (Entry K V) → Option ℕ
+    first_index es = position (λ e. p e.0) es
 
     written-cons : (key : Hashed K) (value : V) (e : Entry K V) (es : List (Entry K V))
-        → written key value (e ∷ es) (first_place (e ∷ es)) ≡ cond (p e.0) ((e.0, value) ∷ es) (e ∷ written key value es (first_place es))
-    written-cons key value e es = ap (written key value (e ∷ es)) (position-cons (λ d. p d.0) e es) ∙ written_later key value e es (p e.0) (first_place es)
+        → written key value (e ∷ es) (first_index (e ∷ es)) ≡ cond (p e.0) ((e.0, value) ∷ es) (e ∷ written key value es (first_index es))
+    written-cons key value e es = ap (written key value (e ∷ es)) (position-cons (λ d. p d.0) e es) ∙ written_later key value e es (p e.0) (first_index es)
 
-    cut-cons : (e : Entry K V) (es : List (Entry K V)) → cut (e ∷ es) (first_place (e ∷ es)) ≡ cond (p e.0) es (e ∷ cut es (first_place es))
-    cut-cons e es = ap (cut (e ∷ es)) (position-cons (λ d. p d.0) e es) ∙ cut_later e es (p e.0) (first_place es)
+    cut-cons : (e : Entry K V) (es : List (Entry K V)) → cut (e ∷ es) (first_index (e ∷ es)) ≡ cond (p e.0) es (e ∷ cut es (first_index es))
+    cut-cons e es = ap (cut (e ∷ es)) (position-cons (λ d. p d.0) e es) ∙ cut_later e es (p e.0) (first_index es)
 
     now_there : (b : Bool) (value old : V) (rest now : Option V) → now ≡ Some value → cond b (cond b (Some value) rest) (cond b (Some old) now) ≡ Some value
     now_there true value old rest now e = refl
     now_there false value old rest now e = e
 
     -- what was written is found by a test that its key passes
-    pub first_value-written : (key : Hashed K) (value : V) → p key ≡ true → (es : List (Entry K V)) → first_value p (written key value es (first_place es)) ≡ Some value
+    pub first_value-written : (key : Hashed K) (value : V) → p key ≡ true → (es : List (Entry K V)) → first_value p (written key value es (first_index es)) ≡ Some value
     first_value-written key value passes [] = ap (λ b. cond b (Some value) None) passes
     first_value-written key value passes (e ∷ es) =
         ap (first_value p) (written-cons key value e es)
-        ∙ first_value-cond p (p e.0) ((e.0, value) ∷ es) (e ∷ written key value es (first_place es))
+        ∙ first_value-cond p (p e.0) ((e.0, value) ∷ es) (e ∷ written key value es (first_index es))
         ∙ now_there (p e.0) value e.1 (first_value p es) _ (first_value-written key value passes es)
 
     not_there : (b : Bool) (old : V) (rest now : Option V) → (b ≡ true → rest ≡ None) → now ≡ None → cond b rest (cond b (Some old) now) ≡ None
@@ -85,11 +85,11 @@ module _ {K V : Type 0} where
     PassesOnce es = (i j : ℕ) (d : Entry K V) → i < j → j < length es → p (get_or es i d).0 ≡ true → p (get_or es j d).0 ≡ false
 
     -- what was cut out is not found where no other entry passes
-    pub first_value-cut : (es : List (Entry K V)) → PassesOnce es → first_value p (cut es (first_place es)) ≡ None
+    pub first_value-cut : (es : List (Entry K V)) → PassesOnce es → first_value p (cut es (first_index es)) ≡ None
     first_value-cut [] once = refl
     first_value-cut (e ∷ es) once =
         ap (first_value p) (cut-cons e es)
-        ∙ first_value-cond p (p e.0) es (e ∷ cut es (first_place es))
+        ∙ first_value-cond p (p e.0) es (e ∷ cut es (first_index es))
         ∙ not_there (p e.0) e.1 (first_value p es) _
         (λ passes. none_passes es (λ k d below. once 0 (suc k) d (omega arith) (omega arith) passes))
         (first_value-cut es (λ i j d before within. once (suc i) (suc j) d (omega arith) (omega arith)))
@@ -107,16 +107,16 @@ module _ {K V : Type 0} where
       kept_cut false c other old rest now e = ap (cond c (Some old)) e
 
       -- what a test finds that no such key passes stays
-      pub first_value-written_apart : (key : Hashed K) (value : V) → q key ≡ false → (es : List (Entry K V)) → first_value q (written key value es (first_place es)) ≡ first_value q es
+      pub first_value-written_apart : (key : Hashed K) (value : V) → q key ≡ false → (es : List (Entry K V)) → first_value q (written key value es (first_index es)) ≡ first_value q es
       first_value-written_apart key value fails [] = ap (λ b. cond b (Some value) None) fails
       first_value-written_apart key value fails (e ∷ es) =
           ap (first_value q) (written-cons key value e es)
-          ∙ first_value-cond q (p e.0) ((e.0, value) ∷ es) (e ∷ written key value es (first_place es))
+          ∙ first_value-cond q (p e.0) ((e.0, value) ∷ es) (e ∷ written key value es (first_index es))
           ∙ kept_written (p e.0) (q e.0) (apart e.0) value e.1 (first_value q es) _ (first_value-written_apart key value fails es)
 
-      pub first_value-cut_apart : (es : List (Entry K V)) → first_value q (cut es (first_place es)) ≡ first_value q es
+      pub first_value-cut_apart : (es : List (Entry K V)) → first_value q (cut es (first_index es)) ≡ first_value q es
       first_value-cut_apart [] = refl
       first_value-cut_apart (e ∷ es) =
           ap (first_value q) (cut-cons e es)
-          ∙ first_value-cond q (p e.0) es (e ∷ cut es (first_place es))
+          ∙ first_value-cond q (p e.0) es (e ∷ cut es (first_index es))
           ∙ kept_cut (p e.0) (q e.0) (apart e.0) e.1 (first_value q es) _ (first_value-cut_apart es)

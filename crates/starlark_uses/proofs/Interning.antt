@@ -82,7 +82,7 @@ number_of-pushed_other texts text other differ = pushed_other (bytes_eq other) t
 pub number_of-kept : (texts : Texts) (text other : List ℕ) (number : ℕ) → number_of texts other ≡ Some number → number_of (texts ++ text ∷ []) other ≡ Some number
 number_of-kept texts text other number has = found_before (bytes_eq other) texts (text ∷ []) number has
 
--- each text has its place for its number
+-- each text has its index for its number
 abbrev Numbered : Texts → Type 0
 Numbered texts = (i : ℕ) (d : List ℕ) → i < length texts → number_of texts (get_or texts i d) ≡ Some i
 
@@ -116,12 +116,12 @@ option_texts : (o : Option (Entry (String Global) (Unit {0}))) → option_map (�
 option_texts None = refl
 option_texts (Some e) = refl
 
--- the text at the place of a string that is shown
+-- the text at the index of a string that is shown
 pub text_of-shown : (es : Strings) (number : ℕ) (shown : Option (String Global)) → shown ≡ option_map entry_key (slice_get es number) → text_of (texts_in es) number ≡ option_map string_bytes shown
 text_of-shown es number shown is =
     slice_get-map (λ e. string_bytes (entry_key e)) es number ∙ option_texts (slice_get es number) ∙ ap (option_map string_bytes) (sym is)
 
--- and a text that is there has its place for its number
+-- and a text that is there has its index for its number
 pub number_of-text : (es : Strings) → HasNumbers es → (text : List ℕ) (number : ℕ) → text_of (texts_in es) number ≡ Some text → number_of (texts_in es) text ≡ Some number
 number_of-text es has text number is =
     ap (number_of (texts_in es)) (sym (get_or_from_slice_get (texts_in es) number text [] is)) ∙ has.numbers number [] (slice_get_within (texts_in es) number text is)

@@ -19,10 +19,10 @@ built_from g target = option_map (λ v. v.items) (get nat_eq fed.u32 g target)
 abbrev pub parts : Graph → List (List ℕ)
 parts g = map (λ v. v.items) (map entry_value g.entries)
 
--- whether a target was declared before this place
+-- whether a target was declared before this index
 abbrev pub is_before : Graph → ℕ → ℕ → Bool
-is_before g place target = option_map_or (λ found. nat_lt found place) (own_match nat_eq fed.u32 g.entries target) false
+is_before g index target = option_map_or (λ found. nat_lt found index) (own_match nat_eq fed.u32 g.entries target) false
 
 -- each target was declared after all that it is built from
 abbrev pub IsOrdered : Graph → Type 0
-IsOrdered g = (place : ℕ) → place < length (parts g) → All (λ on. IsTrue (is_before g place on)) (get_or (parts g) place [])
+IsOrdered g = (index : ℕ) → index < length (parts g) → All (λ on. IsTrue (is_before g index on)) (get_or (parts g) index [])

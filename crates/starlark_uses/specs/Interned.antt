@@ -1,4 +1,4 @@
--- Texts and their numbers. A text is given by its bytes, and its number is its place among all texts.
+-- Texts and their numbers. A text is given by its bytes, and its number is its index among all texts.
 use Rattle.std.specs.Prelude.{◌≡◌, ℕ, ◌<◌, List, [], ◌∷◌, ◌++◌, Option, Some, All, length, map, get_or, position, slice_get, is_some, if◌then◌else◌}
 use Rattle.std.specs.Hash as fed
 use Rattle.std.specs.Str.{bytes_eq}
@@ -14,11 +14,11 @@ use Rattle.starlark_sets.specs.Set.{Elements}
 abbrev pub Texts : Type 0
 Texts = List (List ℕ)
 
--- the number of a text: its first place
+-- the number of a text: its first index
 abbrev pub number_of : Texts → List ℕ → Option ℕ
 number_of texts text = position (bytes_eq text) texts
 
--- the text of a number: what stands at that place
+-- the text of a number: what stands at that index
 abbrev pub text_of : Texts → ℕ → Option (List ℕ)
 text_of texts number = slice_get texts number
 
@@ -30,7 +30,7 @@ interned texts text = if is_some (number_of texts text) then texts else texts ++
 abbrev pub texts_in : Elements (String Global) → Texts
 texts_in es = map (λ e. string_bytes (entry_key e)) es
 
--- each string stands under the hash of its text, and each text has its own place for its number
+-- each string stands under the hash of its text, and each text has its own index for its number
 pub record HasNumbers (es : Elements (String Global)) : Type 0 where
   pub own : All (λ e. hash_number (entry_hash e) ≡ hash_number (own_hash fed.str (string_bytes (entry_key e)))) es
   pub numbers : (i : ℕ) (d : List ℕ) → i < length (texts_in es) → number_of (texts_in es) (get_or (texts_in es) i d) ≡ Some i

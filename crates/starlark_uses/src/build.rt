@@ -16,7 +16,7 @@ use std::alloc::{AllocError, Global};
 /// Targets, each with the targets that it is built from.
 pub type Targets = SmallMap<u32, Vec<u32>>;
 
-/// Declares a target. One that was declared keeps its place, and all that it depends on, and is never refused; a new
+/// Declares a target. One that was declared keeps its index, and all that it depends on, and is never refused; a new
 /// one goes last, and depends on nothing. All others keep what they depend on. Where memory is refused, the target
 /// comes back without parts, and no entry changes.
 pub fn declare(
@@ -44,7 +44,7 @@ pub fn declare(
     Ok(())
 }
 
-/// Adds to what a declared target depends on, last, and answers whether it was declared. All targets keep their places,
+/// Adds to what a declared target depends on, last, and answers whether it was declared. All targets keep their indices,
 /// and what the others depend on. Only a declared one is refused, for want of memory, and then nothing changes.
 pub fn depend(targets: &mut Targets, target: u32, on: u32) -> Result<bool, AllocError>
     ensures declared { IfOk result (λ declared. declared ≡ is_some (get nat_eq fed.u32 targets.old target)) }
@@ -64,7 +64,7 @@ pub fn depend(targets: &mut Targets, target: u32, on: u32) -> Result<bool, Alloc
 }
 
 /// Whether each target was declared after all that it depends on, so that they can be built one after another: a
-/// look-up finds each of these at a place before the target's.
+/// look-up finds each of these at an index before the target's.
 pub fn is_ordered(targets: &Targets) -> bool
     ensures { IsTrue result ↔ IsOrdered targets.now }
 {
@@ -75,28 +75,28 @@ pub fn is_ordered(targets: &Targets) -> bool
 fn come_after_parts(targets: &Targets) -> bool
     ensures { result ≡ list_all (λ p. list_all (is_before targets.now p.0) p.1.items) (enumerate_from 0 (map entry_value targets.now.entries)) }
 {
-    targets.values().enumerate().all(|(place, dependencies)| are_before(
+    targets.values().enumerate().all(|(index, dependencies)| are_before(
         targets,
         dependencies,
-        place,
+        index,
     ))
 }
 
-// Whether all of these were declared before this place.
-fn are_before(targets: &Targets, dependencies: &[u32], place: usize) -> bool
-    ensures { result ≡ list_all (is_before targets.now place) dependencies.now }
+// Whether all of these were declared before this index.
+fn are_before(targets: &Targets, dependencies: &[u32], index: usize) -> bool
+    ensures { result ≡ list_all (is_before targets.now index) dependencies.now }
 {
     dependencies
         .iter()
-        .all(|on| was_before(targets, *on, place))
+        .all(|on| was_before(targets, *on, index))
 }
 
-// Whether a target was declared before this place.
-fn was_before(targets: &Targets, target: u32, place: usize) -> bool
-    ensures { result ≡ is_before targets.now place target }
+// Whether a target was declared before this index.
+fn was_before(targets: &Targets, target: u32, index: usize) -> bool
+    ensures { result ≡ is_before targets.now index target }
 {
     match targets.get_index_of(&target) {
-        Some(found) => found < place,
+        Some(found) => found < index,
         None => false,
     }
 }

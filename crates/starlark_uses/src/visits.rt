@@ -16,7 +16,7 @@ use std::hash::Hash;
 /// The time of the last visit to each page.
 pub type Visits = SmallMap<u32, u32>;
 
-/// Notes the time of a visit to a page. A page that is there keeps its place, and is never refused; a new one goes last.
+/// Notes the time of a visit to a page. A page that is there keeps its index, and is never refused; a new one goes last.
 /// Where memory is refused, page and time come back, and no entry changes.
 pub fn record_visit(visits: &mut Visits, page: u32, time: u32) -> Result<(), NoRoom<(u32, u32)>>
     ensures noted { OnOk result (get nat_eq fed.u32 visits.new page ≡ Some time) }

@@ -1,4 +1,4 @@
--- Items behind their places: how they are taken, noted and told.
+-- Items behind their indices: how they are taken, noted and told.
 use Rattle.std.proofs.Common.{◌≡◌, ℕ, suc, ◌+◌, ◌<◌, Bool, List, [], ◌∷◌, ◌++◌, map, length, get_or, set, slice_get, reverse, None, Some, refl, sym, ap, subst, ◌∙◌, arith, append_assoc, get_or-set_other, inl, inr}
 use Rattle.std.specs.List.{range_with_len, enumerate_from}
 use Rattle.std.specs.List.Sorted.{IsPermutation, IsSortedBy, IsStableBy}
@@ -13,27 +13,27 @@ use Rattle.starlark_hash.specs.Sort.{sorted_by}
 use Rattle.starlark_vec2.specs.Sort.{Moves, PutsInOrder}
 use Rattle.starlark_vec2.proofs.OneSortedList.{sorted_by-unique, sorted_by-map}
 use Rattle.starlark_vec2.proofs.Placing.{Spread}
-use Rattle.starlark_vec2.proofs.Positions.{PutsInOrder-from_places, IsPermutation-from_order}
+use Rattle.starlark_vec2.proofs.Positions.{PutsInOrder-from_indices, IsPermutation-from_order}
 
--- one more place is noted, and those before stay noted
-pub noted-more : (from to new : List ℕ) (n j place : ℕ) → Spread n from → length to ≡ n → j < length from → place ≡ get_or from j 0 → new ≡ set to place j
+-- one more index is noted, and those before stay noted
+pub noted-more : (from to new : List ℕ) (n j index : ℕ) → Spread n from → length to ≡ n → j < length from → index ≡ get_or from j 0 → new ≡ set to index j
     → ((k : ℕ) → k < j → get_or to (get_or from k 0) 0 ≡ k) → (k : ℕ) → k < j + 1 → get_or new (get_or from k 0) 0 ≡ k
-noted-more from to new n j place spread count below at is noted k lt =
+noted-more from to new n j index spread count below at is noted k lt =
     elim (cases_eq k j) [
       | inl e ↦
-          ap (λ l. get_or l (get_or from k 0) 0) is ∙ ap (λ i. get_or (set to place j) i 0) (ap (λ i. get_or from i 0) e ∙ sym at)
-          ∙ get_or-set_same to place j 0 (omega (arith, spread.below j below)) ∙ sym e
+          ap (λ l. get_or l (get_or from k 0) 0) is ∙ ap (λ i. get_or (set to index j) i 0) (ap (λ i. get_or from i 0) e ∙ sym at)
+          ∙ get_or-set_same to index j 0 (omega (arith, spread.below j below)) ∙ sym e
       | inr ne ↦
           ap (λ l. get_or l (get_or from k 0) 0) is
-          ∙ get_or-set_other to place (get_or from k 0) j 0 (λ same. ne (spread.apart k j (omega arith) below (same ∙ at)))
+          ∙ get_or-set_other to index (get_or from k 0) j 0 (λ same. ne (spread.apart k j (omega arith) below (same ∙ at)))
           ∙ noted k (omega arith)
     ]
 
--- once all are noted, `to` has at each place what stands there
+-- once all are noted, `to` has at each index what stands there
 pub noted-all : (from to : List ℕ) (n : ℕ) → Spread n from → length to ≡ n → length from ≡ n → ((k : ℕ) → k < n → get_or to (get_or from k 0) 0 ≡ k) → PutsInOrder to from (range_with_len 0 n)
 noted-all from to n spread count total noted =
     let all = length-range_with_len 0 n in
-    PutsInOrder-from_places to from (range_with_len 0 n) (all ∙ sym total)
+    PutsInOrder-from_indices to from (range_with_len 0 n) (all ∙ sym total)
     (λ k lt. omega (arith, spread.below k (omega (arith, lt, all))))
     (λ k d lt.
     let within : k < n = omega (arith, lt, all) in
@@ -61,14 +61,14 @@ module _ {X : Type 0} where
   items-numbered n [] = refl
   items-numbered n (x ∷ xs) = ap (λ l. x ∷ l) (items-numbered (n + 1) xs)
 
-  places-numbered : (n : ℕ) (xs : List X) → map (λ p. p.0) (enumerate_from n xs) ≡ range_with_len n (length xs)
-  places-numbered n [] = refl
-  places-numbered n (x ∷ xs) = ap (λ l. n ∷ l) (places-numbered (n + 1) xs)
+  cells-numbered : (n : ℕ) (xs : List X) → map (λ p. p.0) (enumerate_from n xs) ≡ range_with_len n (length xs)
+  cells-numbered n [] = refl
+  cells-numbered n (x ∷ xs) = ap (λ l. n ∷ l) (cells-numbered (n + 1) xs)
 
-  -- the places before items that were rearranged
-  pub places-rearranged : (xs : List X) (ys : List (ℕ × X)) (n : ℕ) → length xs ≡ n → IsPermutation (enumerate_from 0 xs) ys → IsPermutation (range_with_len 0 n) (map (λ p. p.0) ys)
-  places-rearranged xs ys n count p =
-      subst (λ l. IsPermutation l (map (λ p. p.0) ys)) (places-numbered 0 xs ∙ ap (range_with_len 0) count) (IsPermutation-map (λ p. p.0) (enumerate_from 0 xs) ys p)
+  -- the indices before items that were rearranged
+  pub cells-rearranged : (xs : List X) (ys : List (ℕ × X)) (n : ℕ) → length xs ≡ n → IsPermutation (enumerate_from 0 xs) ys → IsPermutation (range_with_len 0 n) (map (λ p. p.0) ys)
+  cells-rearranged xs ys n count p =
+      subst (λ l. IsPermutation l (map (λ p. p.0) ys)) (cells-numbered 0 xs ∙ ap (range_with_len 0) count) (IsPermutation-map (λ p. p.0) (enumerate_from 0 xs) ys p)
 
   some_item : (xs : List X) (k : ℕ) → k < length xs → X
   some_item [] k lt = absurd (omega arith)
@@ -78,7 +78,7 @@ module _ {X : Type 0} where
     total : length ys ≡ length xs
     total = length_permutation (enumerate_from 0 xs) ys p ∙ length-enumerate_from 0 xs
 
-    -- where the item of a place stands
+    -- where the item of an index stands
     stands : (k : ℕ) (d : X) → k < length xs → (i : ℕ) × (i < length ys) × (get_or ys i (k, get_or xs k d) ≡ (k, get_or xs k d))
     stands k d lt =
         let x = get_or xs k d in
@@ -91,10 +91,10 @@ module _ {X : Type 0} where
     named i k x lt is =
         let from = map (λ p. p.0) ys in
         let all = range_with_len 0 (length xs) in
-        let place : get_or from i 0 ≡ k = get_or-map (λ p. p.0) ys i (k, x) 0 lt ∙ ap (λ p. p.0) is in
+        let index : get_or from i 0 ≡ k = get_or-map (λ p. p.0) ys i (k, x) 0 lt ∙ ap (λ p. p.0) is in
         let within : i < length all = omega (arith, length-range_with_len 0 (length xs), total) in
         let at : slice_get to k ≡ Some i =
-        ap (slice_get to) (sym place) ∙ sym (get_or-map (slice_get to) from i 0 None (omega (arith, length-map ys (λ p. p.0)))) ∙ ap (λ l. get_or l i None) (sym puts)
+        ap (slice_get to) (sym index) ∙ sym (get_or-map (slice_get to) from i 0 None (omega (arith, length-map ys (λ p. p.0)))) ∙ ap (λ l. get_or l i None) (sym puts)
         ∙ get_or-map Some all i 0 None within ∙ ap Some (get_or-range_with_len 0 (length xs) i 0 (omega (arith, total)) ∙ omega arith) in
         get_or_from_slice_get to k i 0 at
 
@@ -108,10 +108,10 @@ module _ {X : Type 0} where
     Moves-noted count =
         let from = map (λ p. p.0) ys in
         let n = length xs in
-        let spread : IsPermutation (range_with_len 0 (length to)) from = places-rearranged xs ys (length to) (sym count) p in record {
+        let spread : IsPermutation (range_with_len 0 (length to)) from = cells-rearranged xs ys (length to) (sym count) p in record {
           once = subst (λ k. IsPermutation (range_with_len 0 k) to) (sym (length-map ys (λ p. p.1) ∙ total))
               (IsPermutation-sym to (range_with_len 0 n) (IsPermutation-from_order to from (range_with_len 0 n) spread puts));
-          items = PutsInOrder-from_places (map (λ p. p.1) ys) to xs (sym count)
+          items = PutsInOrder-from_indices (map (λ p. p.1) ys) to xs (sym count)
               names_within
               (λ k d lt.
               let at = stands k d lt in
@@ -127,7 +127,7 @@ module _ {X : Type 0} where
     pub numbered_lt-weak : IsStrictWeakOrder numbered_lt
     numbered_lt-weak = record { one_way = λ a b. weak.one_way a.1 b.1; chain = λ a b c. weak.chain a.1 b.1 c.1 }
 
-    -- items that are sorted behind their places are sorted
+    -- items that are sorted behind their indices are sorted
     pub sorted_by-numbered : (xs : List X) (ys : List (ℕ × X)) → IsSortedBy numbered_lt ys → IsStableBy numbered_lt (enumerate_from 0 xs) ys → map (λ p. p.1) ys ≡ sorted_by lt xs
     sorted_by-numbered xs ys up stable =
         ap (map (λ p. p.1)) (sorted_by-unique numbered_lt numbered_lt-weak (enumerate_from 0 xs) ys up stable)

@@ -65,7 +65,7 @@ module _ {A B : Type 0} where
       ∙ zip_push (reverse xs) (reverse ys) x y (omega (arith, length-reverse xs, length-reverse ys))
       ∙ ap (λ l. l ++ (x, y) ∷ []) (zip-reverse xs ys rest) ∙ sym (reverse-append ((x, y) ∷ []) (zip xs ys))
 
-  -- the pair at a place
+  -- the pair at an index
   pub slice_get-zip : (xs : List A) (ys : List B) (i : ℕ) (x : A) (y : B) → i < length (zip xs ys) → x ≡ get_or xs i x → y ≡ get_or ys i y → slice_get (zip xs ys) i ≡ Some (x, y)
   slice_get-zip [] ys i x y lt e f = absurd (omega (arith, lt))
   slice_get-zip (z ∷ xs) [] i x y lt e f = absurd (omega (arith, lt))

@@ -1,4 +1,4 @@
--- Items that are moved in place: each place is told the position of what belongs there.
+-- Items that are moved in place: each index is told the position of what belongs there.
 use Rattle.std.proofs.Common.{◌≡◌, ℕ, zero, suc, ◌+◌, ◌<◌, ◌≤◌, ◌==◌, List, [], ◌∷◌, length, get_or, set, zip, refl, sym, ap, ◌∙◌, ◌⊎◌, inl, inr, arith, eq-eqb, get_or-set_other}
 use Rattle.std.specs.Prelude.{if◌then◌else◌}
 use Rattle.std.specs.List.{swap, range_with_len}
@@ -10,9 +10,9 @@ use Rattle.std.proofs.lemmas.List.FromFn.{get_or-range_with_len, length-range_wi
 use Rattle.std.proofs.lemmas.List.Sorted.{IsPermutation-keeps}
 use Rattle.starlark_vec2.specs.Sort.{PutsInOrder}
 use Rattle.starlark_vec2.proofs.Pairs.{zip-set}
-use Rattle.starlark_vec2.proofs.Positions.{PutsInOrder-from_places}
+use Rattle.starlark_vec2.proofs.Positions.{PutsInOrder-from_indices}
 
--- each position is below n, and no two places have the same one
+-- each position is below n, and no two indices have the same one
 pub record Spread (n : ℕ) (order : List ℕ) : Type 0 where
   pub below : (k : ℕ) → k < length order → get_or order k 0 < n
   pub apart : (i j : ℕ) → i < length order → j < length order → get_or order i 0 ≡ get_or order j 0 → i ≡ j
@@ -85,7 +85,7 @@ off_other x i n = ap (λ b. if b then 0 else 1) (ne_eqb x i n)
 off_least : (x i : ℕ) → off x i ≤ 1
 off_least x i = elim (cases_eq x i) [ inl e ↦ omega (arith, off_same x i e) | inr n ↦ omega (arith, off_other x i n) ]
 
--- how many places from i on are told another position than their own
+-- how many indices from i on are told another position than their own
 pub misplaced : ℕ → List ℕ → ℕ
 misplaced i [] = 0
 misplaced i (x ∷ xs) = off x i + misplaced (suc i) xs
@@ -105,55 +105,55 @@ misplaced-set i (x ∷ xs) (suc j) v lt =
     let new = ap (off v) e in
     omega arith
 
--- a place is told `from`, which is told `next`: the item at `next` comes to `from`, and what was there is told to the place
-module _ (order order2 : List ℕ) (place from next : ℕ) (n : ℕ) (s : Spread n order) (count : length order ≡ n) (lt : place < length order) (f : from ≡ get_or order place 0)
-    (h : next ≡ get_or order from 0) (e : order2 ≡ swap order place from) (other : from ≡ place → ⊥) where
+-- an index is told `from`, which is told `next`: the item at `next` comes to `from`, and what was there is told to the index
+module _ (order order2 : List ℕ) (index from next : ℕ) (n : ℕ) (s : Spread n order) (count : length order ≡ n) (lt : index < length order) (f : from ≡ get_or order index 0)
+    (h : next ≡ get_or order from 0) (e : order2 ≡ swap order index from) (other : from ≡ index → ⊥) where
   pub from_within : from < length order
-  from_within = omega (arith, s.below place lt)
+  from_within = omega (arith, s.below index lt)
 
   pub next_within : next < length order
   next_within = omega (arith, s.below from from_within)
 
-  order_swapped : Swapped (λ i. get_or order i 0) (λ i. get_or order2 i 0) place from
-  order_swapped = swapped_from_swap order order2 place from 0 lt from_within e
+  order_swapped : Swapped (λ i. get_or order i 0) (λ i. get_or order2 i 0) index from
+  order_swapped = swapped_from_swap order order2 index from 0 lt from_within e
 
   next_other : next ≡ from → ⊥
-  next_other k = other (s.apart from place from_within lt (sym h ∙ k ∙ f))
+  next_other k = other (s.apart from index from_within lt (sym h ∙ k ∙ f))
 
   pub fewer_misplaced : misplaced 0 order2 < misplaced 0 order
   fewer_misplaced =
-      let mid = set order place next in
-      let a = misplaced-set 0 order place next lt in
-      let b = misplaced-set 0 mid from from (omega (arith, from_within, length-set order place next)) in
-      let there : get_or mid from 0 ≡ next = get_or-set_other order place from next 0 other ∙ sym h in
-      let p : off (get_or order place 0) (0 + place) ≡ 1 = off_other _ _ (λ k. other (omega arith)) in
+      let mid = set order index next in
+      let a = misplaced-set 0 order index next lt in
+      let b = misplaced-set 0 mid from from (omega (arith, from_within, length-set order index next)) in
+      let there : get_or mid from 0 ≡ next = get_or-set_other order index from next 0 other ∙ sym h in
+      let p : off (get_or order index 0) (0 + index) ≡ 1 = off_other _ _ (λ k. other (omega arith)) in
       let q : off (get_or mid from 0) (0 + from) ≡ 1 = off_other _ _ (λ k. next_other (omega arith)) in
       let r : off from (0 + from) ≡ 0 = off_same _ _ (omega arith) in
-      let t = off_least next (0 + place) in
+      let t = off_least next (0 + index) in
       let whole : misplaced 0 order2 ≡ misplaced 0 (set mid from from) =
-      ap (misplaced 0) (e ∙ sym (swap_is order place from 0 lt from_within) ∙ (λ j. set (set order place (sym h j)) from (sym f j))) in
+      ap (misplaced 0) (e ∙ sym (swap_is order index from 0 lt from_within) ∙ (λ j. set (set order index (sym h j)) from (sym f j))) in
       omega arith
 
-  pub placed_stay : ((k : ℕ) → k < place → get_or order k 0 ≡ k) → (k : ℕ) → k < place → get_or order2 k 0 ≡ k
+  pub placed_stay : ((k : ℕ) → k < index → get_or order k 0 ≡ k) → (k : ℕ) → k < index → get_or order2 k 0 ≡ k
   placed_stay placed k less =
-      order_swapped.2 k (λ p. absurd (omega arith)) (λ p. other (s.apart from place from_within lt (sym (ap (λ i. get_or order i 0) p) ∙ placed k less ∙ p ∙ f))) ∙ placed k less
+      order_swapped.2 k (λ p. absurd (omega arith)) (λ p. other (s.apart from index from_within lt (sym (ap (λ i. get_or order i 0) p) ∙ placed k less ∙ p ∙ f))) ∙ placed k less
 
   module _ {X : Type 0} (ps : List X) (order1 : List ℕ) (qs qs2 : List X) (same : length qs ≡ n) (moved : qs2 ≡ swap qs from next) where
-    -- what belongs to each place stands where the place is told
+    -- what belongs to each index stands where the index is told
     pub placing_step : ((k : ℕ) (d : X) → k < length order → get_or qs (get_or order k 0) d ≡ get_or ps (get_or order1 k 0) d)
         → (k : ℕ) (d : X) → k < length order2 → get_or qs2 (get_or order2 k 0) d ≡ get_or ps (get_or order1 k 0) d
     placing_step at k d less =
-        let within : k < length order = omega (arith, ap length e, length-swap order place from) in
+        let within : k < length order = omega (arith, ap length e, length-swap order index from) in
         let there = swapped_from_swap qs qs2 from next d (omega (arith, from_within)) (omega (arith, next_within)) moved in
         elim (cases_eq k from) [
           | inl p ↦
               ap (λ i. get_or qs2 i d) (ap (λ i. get_or order2 i 0) p ∙ order_swapped.1 ∙ sym f) ∙ there.0 ∙ ap (λ i. get_or qs i d) (h ∙ ap (λ i. get_or order i 0) (sym p)) ∙ at k d within
-          | inr p ↦ elim (cases_eq k place) [
+          | inr p ↦ elim (cases_eq k index) [
             | inl q ↦
                 ap (λ i. get_or qs2 i d) (ap (λ i. get_or order2 i 0) q ∙ order_swapped.0 ∙ sym h) ∙ there.1 ∙ ap (λ i. get_or qs i d) (f ∙ ap (λ i. get_or order i 0) (sym q)) ∙ at k d within
             | inr q ↦
                 ap (λ i. get_or qs2 i d) (order_swapped.2 k q p)
-                ∙ there.2 (get_or order k 0) (λ r. q (s.apart k place within lt (r ∙ f))) (λ r. p (s.apart k from within from_within (r ∙ h))) ∙ at k d within
+                ∙ there.2 (get_or order k 0) (λ r. q (s.apart k index within lt (r ∙ f))) (λ r. p (s.apart k from within from_within (r ∙ h))) ∙ at k d within
           ]
         ]
 
@@ -175,8 +175,8 @@ module _ {A B : Type 0} where
       ∙ ap (λ l. set l j (get_or (z ∷ xs) i z, get_or (w ∷ ys) i w)) (zip-set (z ∷ xs) (w ∷ ys) i (get_or (z ∷ xs) j z) (get_or (w ∷ ys) j w))
       ∙ (λ t. set (set (zip (z ∷ xs) (w ∷ ys)) i (get_or-both (z ∷ xs) (w ∷ ys) j z w e t)) j (get_or-both (z ∷ xs) (w ∷ ys) i z w e t))
 
--- where each place is told its own position, all stand in order
+-- where each index is told its own position, all stand in order
 pub PutsInOrder-from_placed : {X : Type 0} (ps : List X) (order1 : List ℕ) (qs : List X) (order : List ℕ) → length qs ≡ length order1 → length order ≡ length order1 → Spread (length ps) order1
     → ((k : ℕ) → k < length order → get_or order k 0 ≡ k) → ((k : ℕ) (d : X) → k < length order → get_or qs (get_or order k 0) d ≡ get_or ps (get_or order1 k 0) d) → PutsInOrder ps order1 qs
 PutsInOrder-from_placed ps order1 qs order len count s placed at =
-    PutsInOrder-from_places ps order1 qs len (λ k lt. s.below k (omega arith)) (λ k d lt. ap (λ i. get_or qs i d) (sym (placed k (omega arith))) ∙ at k d (omega arith))
+    PutsInOrder-from_indices ps order1 qs len (λ k lt. s.below k (omega arith)) (λ k d lt. ap (λ i. get_or qs i d) (sym (placed k (omega arith))) ∙ at k d (omega arith))

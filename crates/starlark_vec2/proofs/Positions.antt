@@ -17,21 +17,21 @@ use Rattle.starlark_vec2.specs.Sort.{PairRef, ComparesPairs, CanCompare, Compare
 use Rattle.starlark_vec2.proofs.OneSortedList.{sorted_by-unique, sorted_by-map}
 
 module _ {X : Type 0} where
-  -- from what stands at each place
-  pub PutsInOrder-from_places : (xs : List X) (order : List ℕ) (ys : List X) → length ys ≡ length order
+  -- from what stands at each index
+  pub PutsInOrder-from_indices : (xs : List X) (order : List ℕ) (ys : List X) → length ys ≡ length order
       → ((k : ℕ) → k < length ys → get_or order k 0 < length xs) → ((k : ℕ) (d : X) → k < length ys → get_or ys k d ≡ get_or xs (get_or order k 0) d) → PutsInOrder xs order ys
-  PutsInOrder-from_places xs [] [] e within at = refl
-  PutsInOrder-from_places xs [] (y ∷ ys) e within at = absurd (omega arith)
-  PutsInOrder-from_places xs (i ∷ order) [] e within at = absurd (omega arith)
-  PutsInOrder-from_places xs (i ∷ order) (y ∷ ys) e within at =
+  PutsInOrder-from_indices xs [] [] e within at = refl
+  PutsInOrder-from_indices xs [] (y ∷ ys) e within at = absurd (omega arith)
+  PutsInOrder-from_indices xs (i ∷ order) [] e within at = absurd (omega arith)
+  PutsInOrder-from_indices xs (i ∷ order) (y ∷ ys) e within at =
       let here : Some y ≡ slice_get xs i = ap Some (at 0 y (omega arith)) ∙ sym (slice_get-get_or xs i y (within 0 (omega arith))) in
-      let rest = PutsInOrder-from_places xs order ys (omega arith) (λ k lt. within (suc k) (omega arith)) (λ k d lt. at (suc k) d (omega arith)) in
+      let rest = PutsInOrder-from_indices xs order ys (omega arith) (λ k lt. within (suc k) (omega arith)) (λ k d lt. at (suc k) d (omega arith)) in
       λ j. here j ∷ rest j
 
   map_slice_get-all : (xs : List X) → map Some xs ≡ map (slice_get xs) (range_with_len 0 (length xs))
   map_slice_get-all xs =
       let at = λ (k : ℕ) (lt : k < length xs). get_or-range_with_len 0 (length xs) k 0 lt in
-      PutsInOrder-from_places xs (range_with_len 0 (length xs)) xs (sym (length-range_with_len 0 (length xs)))
+      PutsInOrder-from_indices xs (range_with_len 0 (length xs)) xs (sym (length-range_with_len 0 (length xs)))
       (λ k lt. omega (arith, at k lt)) (λ k d lt. let e : k ≡ get_or (range_with_len 0 (length xs)) k 0 = omega (arith, at k lt) in ap (λ n. get_or xs n d) e)
 
   unwrap-somes : (d : X) (xs : List X) → map (λ o. unwrap_or o d) (map Some xs) ≡ xs
@@ -113,14 +113,14 @@ module _ {F G A B : Type 0} (g : Mut F (PairRef A B × (PairRef A B × Unit {0})
   unfolding Each Answers
   compares_positions s same h = record { at = answers_each s same (λ us. h.at us) }
 
--- what stands at a place is an item
-Contains-from_place : {X : Type 0} (xs : List X) (i : ℕ) (x : X) → Some x ≡ slice_get xs i → Contains xs x
-Contains-from_place xs i x at = (i, slice_get_within xs i x (sym at), get_or_from_slice_get xs i x x (sym at))
+-- what stands at an index is an item
+Contains-from_index : {X : Type 0} (xs : List X) (i : ℕ) (x : X) → Some x ≡ slice_get xs i → Contains xs x
+Contains-from_index xs i x at = (i, slice_get_within xs i x (sym at), get_or_from_slice_get xs i x x (sym at))
 
 module _ {F A B : Type 0} (g : Mut F (PairRef A B × (PairRef A B × Unit {0})) Ordering) (ps : List (A × B)) where
   -- the pairs that stand at two positions may be compared
   pub takes_at : (f : F) (i j : ℕ) (p q : PairRef A B) → CanCompare g ps f → Some (deref_pair p) ≡ slice_get ps i → Some (deref_pair q) ≡ slice_get ps j → Takes g f (p, (q, tt))
-  takes_at f i j p q can at at' = can.at [] f _ _ refl (Contains-from_place ps i _ at) (Contains-from_place ps j _ at') p q refl refl
+  takes_at f i j p q can at at' = can.at [] f _ _ refl (Contains-from_index ps i _ at) (Contains-from_index ps j _ at') p q refl refl
 
   -- and others after them
   pub CanCompare-next : (f : F) (i j : ℕ) (r : Ordering) (f2 : F) → ComparesAt g ps f i j r f2 → CanCompare g ps f → CanCompare g ps f2
@@ -128,7 +128,7 @@ module _ {F A B : Type 0} (g : Mut F (PairRef A B × (PairRef A B × Unit {0})) 
     where
       by : (x y : Option (A × B)) → x ≡ slice_get ps i → y ≡ slice_get ps j → ComparesOptions g f x y r f2 → CanCompare g ps f → CanCompare g ps f2
       by (Some x) (Some y) at at' c can =
-          record { at = λ before later u v told. can.at ((x, y) ∷ before) later u v (f2, (Contains-from_place ps i x at, Contains-from_place ps j y at', r, c), told) }
+          record { at = λ before later u v told. can.at ((x, y) ∷ before) later u v (f2, (Contains-from_index ps i x at, Contains-from_index ps j y at', r, c), told) }
       by (Some x) None at at' c can = subst (CanCompare g ps) (sym c.1) can
       by None y at at' c can = subst (CanCompare g ps) (sym c.1) can
 

@@ -1,4 +1,4 @@
--- What a loop that sieves keeps, and the places of what it moves.
+-- What a loop that sieves keeps, and the indices of what it moves.
 use Rattle.std.proofs.Common.{◌≡◌, ℕ, zero, suc, ◌+◌, ◌<◌, ◌≤◌, Bool, true, false, List, [], ◌∷◌, ◌++◌, length, take, drop, zip, set, get_or, refl, sym, ap, subst, ◌∙◌, arith, append_assoc, append-nil, add-one, length-take, length-drop}
 use Rattle.std.proofs.Math.Seq.{drop-cons, drop-set-lt, get_or-set_same, take-set-le}
 use Rattle.std.specs.List.{swap}
@@ -67,7 +67,7 @@ module _ {X : Type 0} where
   left_front xs k i x le = take-set-le k xs i x le
 
 module _ {F A B : Type 0} (calls : F → A × B → Bool → A × B → F → Type 0) (takes : F → A × B → Type 0) (f0 : F) (all : List (A × B)) where
-  -- the same for two columns of which i places were visited, where k were kept
+  -- the same for two columns of which i cells were visited, where k were kept
   pub record Sifting (f : F) (xs : List A) (ys : List B) (k i : ℕ) : Type 0 where
     pub sieving : Sieving calls takes f0 all f (zip (take k xs) (take k ys)) (zip (drop i xs) (drop i ys))
 

@@ -9,18 +9,18 @@ use Rattle.starlark_columns.specs.Cells.{items_of}
 use Rattle.starlark_columns.specs.declared.block.PairClaim.{PairClaim}
 use Rattle.starlark_columns.specs.Front.{with_items}
 use Rattle.starlark_columns.specs.Between.{IsBetween}
-use Rattle.starlark_columns.proofs.Fronts.{written_front, written_items, written_places, set_front, all_written}
+use Rattle.starlark_columns.proofs.Fronts.{written_front, written_items, written_cells, set_front, all_written}
 use Rattle.starlark_vec2.specs.Columns.{AreColumns}
 use Rattle.starlark_vec2.specs.PairList.{PairList, pair_list, with_pairs, firsts_of}
 use Rattle.starlark_vec2.specs.Lend.{with_pair, set_firsts, set_first_at}
 use Rattle.starlark_vec2.proofs.Pairs.{length-zip, firsts_of-zip, seconds_of-zip, zip-set_first, zip-set}
 
 module _ {A B : Type 0} where
-  -- rows that lie where two of a block lay, with as many places
-  pub same_block : (block : PairClaim B A Global) (r r' : Row A) (s s' : Row B) → IsBlockOf block s r → r'.at ≡ r.at → s'.at ≡ s.at → length r'.places ≡ length r.places → length s'.places ≡ length s.places → IsBlockOf block s' r'
+  -- rows that lie where two of a block lay, with as many cells
+  pub same_block : (block : PairClaim B A Global) (r r' : Row A) (s s' : Row B) → IsBlockOf block s r → r'.at ≡ r.at → s'.at ≡ s.at → length r'.cells ≡ length r.cells → length s'.cells ≡ length s.cells → IsBlockOf block s' r'
   same_block block r r' s s' is at at' long long' = (is.0 ∙ sym at', is.1 ∙ sym at, is.2 ∙ sym long', is.3 ∙ sym long)
 
-  -- the pair at a place of both columns
+  -- the pair at an index of both columns
   pub slice_get-zip_both : (xs : List A) (ys : List B) (i : ℕ) (x : A) (y : B) → slice_get xs i ≡ Some x → slice_get ys i ≡ Some y → slice_get (zip xs ys) i ≡ Some (x, y)
   slice_get-zip_both [] ys i x y e f = absurd (cc e)
   slice_get-zip_both (z ∷ xs) [] i x y e f = absurd (cc f)
@@ -40,18 +40,18 @@ module _ {A B : Type 0} where
 
     -- after a `&mut` to all items of a column has ended
     pub firsts_written : (ws : List A) → AreColumns (with_items cs ws) ds n
-    firsts_written ws = record { firsts_front = written_front cs n at.firsts_front ws; seconds_front = at.seconds_front; even = at.even ∙ sym (written_places cs n at.firsts_front ws) }
+    firsts_written ws = record { firsts_front = written_front cs n at.firsts_front ws; seconds_front = at.seconds_front; even = at.even ∙ sym (written_cells cs n at.firsts_front ws) }
 
     pub both_written : (ws : List A) (us : List B) → AreColumns (with_items cs ws) (with_items ds us) n
-    both_written ws us = record { firsts_front = written_front cs n at.firsts_front ws; seconds_front = written_front ds n at.seconds_front us; even = written_places ds n at.seconds_front us ∙ at.even ∙ sym (written_places cs n at.firsts_front ws) }
+    both_written ws us = record { firsts_front = written_front cs n at.firsts_front ws; seconds_front = written_front ds n at.seconds_front us; even = written_cells ds n at.seconds_front us ∙ at.even ∙ sym (written_cells cs n at.firsts_front ws) }
 
     -- as many were written as there are
     pub both_seen : (ws : List A) (us : List B) → length ws ≡ length (items_of cs) → length us ≡ length (items_of ds) → seen (with_items cs ws) (with_items ds us) ≡ pair_list (zip ws us) (length cs)
-    both_seen ws us p q = λ j. pair_list (zip (all_written cs n at.firsts_front ws p j) (all_written ds n at.seconds_front us q j)) (written_places cs n at.firsts_front ws j)
+    both_seen ws us p q = λ j. pair_list (zip (all_written cs n at.firsts_front ws p j) (all_written ds n at.seconds_front us q j)) (written_cells cs n at.firsts_front ws j)
 
     firsts_view : (ws : List A) → seen (with_items cs ws) ds ≡ with_pairs (seen cs ds) (set_firsts (zip (items_of cs) (items_of ds)) ws)
     firsts_view ws = let xs = items_of cs in let ys = items_of ds in
-        (λ j. pair_list (zip (written_items cs n at.firsts_front ws j) ys) (written_places cs n at.firsts_front ws j))
+        (λ j. pair_list (zip (written_items cs n at.firsts_front ws j) ys) (written_cells cs n at.firsts_front ws j))
         ∙ (λ j. pair_list (zip (refill (sym (length-zip xs ys even_items) j) (sym (firsts_of-zip xs ys even_items) j) ws) (sym (seconds_of-zip xs ys even_items) j)) (length cs))
 
     module _ (v : PairList A B) (is : seen cs ds ≡ v) where
@@ -92,7 +92,7 @@ module _ {A B : Type 0} where
         pub first_is : (x : A) → slice_get (items_of cs) i ≡ Some x → slice_get (firsts_of v.pairs) i ≡ Some x
         first_is x e = ap (λ l. slice_get l i) (sym (firsts_are (items_of cs) refl)) ∙ e
 
-  -- the same of items between two places
+  -- the same of items between two cells
   module _ (cs : List (Option A)) (ds : List (Option B)) (from to : ℕ) (at : IsBetween cs from to × IsBetween ds from to) where
     pub between_even : length (items_of cs) ≡ length (items_of ds)
     between_even = at.0.count ∙ sym at.1.count

@@ -85,8 +85,8 @@ module _ (A B : RattleType) where
     abbrev eS : ℕ
     eS = up (align (lone At.mir)) (eL + size (lone usize-field.row.mir))
 
-    abbrev pub Place : Ptr → ℕ → Fml
-    Place p n = fat full_share (lone At.mir) b (o + eS) (words p n)
+    abbrev pub Index : Ptr → ℕ → Fml
+    Index p n = fat full_share (lone At.mir) b (o + eS) (words p n)
 
     abbrev eG : ℕ
     eG = up (align (lone (field heap.the_type).row.mir)) (eS + size (lone At.mir))
@@ -99,7 +99,7 @@ module _ (A B : RattleType) where
 
     -- those that lend a column read the length and the spot by hand, and how the columns lie: here out of the parts, and by
     -- fields_in back
-    pub fields_out : (d : D) → ent 𝓤 (Rest d) (sep 𝓤 (fact 𝓤 (Told d)) (sep 𝓤 (sem 𝓛 (Len d.len)) (sep 𝓤 (sem 𝓛 (Place d.spot.address.at d.spot.count)) (Less d))))
+    pub fields_out : (d : D) → ent 𝓤 (Rest d) (sep 𝓤 (fact 𝓤 (Told d)) (sep 𝓤 (sem 𝓛 (Len d.len)) (sep 𝓤 (sem 𝓛 (Index d.spot.address.at d.spot.count)) (Less d))))
     unfolding part_of
     fields_out d =
         qed 𝓛 (‵ (parts_at full_share left eR (to d).1.1 b o) ∷ raw (PartsBack 𝓛 full_share (I.the_type A B).name ms b o) ∷ []) ∵ fsplit ! $ fpick ! (λ vs. fsplit ! $ move ! (1 ∷ []) $
@@ -107,16 +107,16 @@ module _ (A B : RattleType) where
         -- [the length; the others; the way back]
         move ! (1 ∷ []) $ fsplit ! $ fpick ! (λ ws. fsplit ! $ move ! (1 ∷ []) $
         facts ! At _ (shows 𝓛 At) ((d.spot.address.at, tt), (d.spot.count, tt)) ws (λ s. let told = spot_told B d.spot ws s in rewrite ! 0 (λ (us : List Val). ‵ (cell_at full_share At.mir us b (o + eS))) told.0 refl $
-        use1 𝓛 (‵ (Place d.spot.address.at d.spot.count)) (𝓛.laws.raw_at full_share (lone At.mir) b (o + eS) (words d.spot.address.at d.spot.count)) $
+        use1 𝓛 (‵ (Index d.spot.address.at d.spot.count)) (𝓛.laws.raw_at full_share (lone At.mir) b (o + eS) (words d.spot.address.at d.spot.count)) $
         -- [the spot; what is behind; the length; the way back]
         move ! (1 ∷ []) $ fsplit ! $ move ! (1 ∷ []) $ fsplit ! $ fpick ! (λ cs. fsplit ! $ move ! (1 ∷ []) $
         peeks ! Right _ (shows 𝓛 Right) d.block cs (λ z. move ! (1 ∷ 0 ∷ []) $ fjoin ! $ fpack ! (List Val) (λ us. fsep (cell_at full_share Right.mir us b (o + eC)) (Right.own_val d.block us)) cs $ fjoin ! $ move ! (1 ∷ 0 ∷ []) $ fjoin ! $
         use0 𝓛 (raw (fact 𝓤 (Told d))) (fact_i 𝓤 _ (emp 𝓤) (p.1, told.1, z.1.0)) $ move ! (0 ∷ 3 ∷ 2 ∷ 1 ∷ []) $ done !))))))
 
-    pub fields_in : (d : D) → Told d → ent 𝓤 (sep 𝓤 (sem 𝓛 (Len d.len)) (sep 𝓤 (sem 𝓛 (Place d.spot.address.at d.spot.count)) (Less d))) (Rest d)
+    pub fields_in : (d : D) → Told d → ent 𝓤 (sep 𝓤 (sem 𝓛 (Len d.len)) (sep 𝓤 (sem 𝓛 (Index d.spot.address.at d.spot.count)) (Less d))) (Rest d)
     unfolding part_of
     fields_in d told =
-        qed 𝓛 (‵ (Len d.len) ∷ ‵ (Place d.spot.address.at d.spot.count) ∷ ‵ (parts_at full_share last (eS + size (lone At.mir)) (to d).1.1.1.1 b o) ∷ raw (PartsBack 𝓛 full_share (I.the_type A B).name ms b o) ∷ []) ∵
+        qed 𝓛 (‵ (Len d.len) ∷ ‵ (Index d.spot.address.at d.spot.count) ∷ ‵ (parts_at full_share last (eS + size (lone At.mir)) (to d).1.1.1.1 b o) ∷ raw (PartsBack 𝓛 full_share (I.the_type A B).name ms b o) ∷ []) ∵
         move ! (1 ∷ []) $ use1 𝓛 (‵ (cell_at full_share At.mir (words d.spot.address.at d.spot.count ∷ []) b (o + eS))) (𝓛.laws.at_raw full_share (lone At.mir) b (o + eS) (words d.spot.address.at d.spot.count)) $ use0 𝓛 (‵ (At.own_val ((d.spot.address.at, tt), (d.spot.count, tt)) (words d.spot.address.at d.spot.count ∷ []))) (spot_made B 𝓛 d.spot told.1) $ move ! (1 ∷ 0 ∷ []) $ fjoin ! $
         fpack ! (List Val) (λ us. fsep (cell_at full_share At.mir us b (o + eS)) (At.own_val ((d.spot.address.at, tt), (d.spot.count, tt)) us)) (words d.spot.address.at d.spot.count ∷ []) $ move ! (0 ∷ 2 ∷ []) $ fjoin ! $ move ! (1 ∷ []) $
         owned ! usize-field.row _ (uint_Makes 𝓛 w64) d.len (vint w64 d.len ∷ []) (refl, told.0) $ move ! (1 ∷ 0 ∷ []) $ fjoin ! $

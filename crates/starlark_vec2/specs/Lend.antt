@@ -11,11 +11,11 @@ module _ {A B : Type 0} where
   abbrev pub deref_both_mut : MutBor A × MutBor B → A × B
   deref_both_mut r = (r.0.now, r.1.now)
 
-  -- the list with this pair at the place
+  -- the list with this pair at the index
   abbrev pub with_pair : PairList A B → ℕ → A × B → PairList A B
   with_pair v i p = with_pairs v (slice_set v.pairs i p)
 
-  -- the pairs with this first part at the place
+  -- the pairs with this first part at the index
   abbrev pub set_first_at : List (A × B) → ℕ → A → List (A × B)
   set_first_at [] i a = []
   set_first_at (p ∷ ps) zero a = (a, p.1) ∷ ps
@@ -33,7 +33,7 @@ module _ {K V B : Type 0} where
   with_values (p ∷ ps) (w ∷ ws) = ((p.0.0, w.0.1), p.1) ∷ with_values ps ws
 
 module _ (A B : RattleType) (s : MutBor (PairList A.Denot B.Denot)) where
-  -- the list ends with what is left behind a reference to the first part at the place, and all else stays
+  -- the list ends with what is left behind a reference to the first part at the index, and all else stays
   abbrev pub lends_first : ℕ → MutBor A.Denot → Fml
   lends_first i r = Lends (the_row A B) A s r (λ a. with_pairs s.now (set_first_at s.now.pairs i a))
 
@@ -41,7 +41,7 @@ module _ (A B : RattleType) (s : MutBor (PairList A.Denot B.Denot)) where
   abbrev pub lends_firsts : MutBor (List A.Denot) → Fml
   lends_firsts r = Lends (the_row A B) (Array A 0) s r (λ xs. with_pairs s.now (set_firsts s.now.pairs xs))
 
-  -- the list ends with what is left behind references to both parts of the pair at the place, and all else stays
+  -- the list ends with what is left behind references to both parts of the pair at the index, and all else stays
   abbrev pub lends_both : ℕ → MutBor A.Denot × MutBor B.Denot → Fml
   lends_both i r = LendsBoth (the_row A B) A B s r (λ a b. with_pair s.now i (a, b))
 

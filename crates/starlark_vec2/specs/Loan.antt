@@ -4,7 +4,7 @@ use Rattle.std.specs.Borrow.{Fml, RattleType, MutBor, GName, follows}
 use Rattle.starlark_columns.specs.Cells.{items_of}
 use Rattle.starlark_columns.specs.Front.{with_items}
 use Rattle.starlark_columns.specs.declared.row.Row.{Row}
-use Rattle.starlark_columns.specs.Lend.{with_places}
+use Rattle.starlark_columns.specs.Lend.{with_cells}
 use Rattle.starlark_vec2.specs.Columns.{column}
 use base.Fml.{Lft, ffalse, fsep, feq, fobs, fbor}
 use base.Stored.{coded_list}
@@ -49,7 +49,7 @@ frozen κ K V null_ptr i γ ps = ffalse
 module _ (K V : RattleType) where
   -- a column ends with the second parts that the loan ends with, and its own first parts
   abbrev pub pairs_follow : MutBor (Row (K.Denot × V.Denot)) → GName → Fml
-  pairs_follow s γ = follows (column (Pair K V)) (column (Pair K V)) s.ghost_name γ (λ w. with_places s.now (with_items s.now.places (with_seconds (items_of s.now.places) (items_of w.places))))
+  pairs_follow s γ = follows (column (Pair K V)) (column (Pair K V)) s.ghost_name γ (λ w. with_cells s.now (with_items s.now.cells (with_seconds (items_of s.now.cells) (items_of w.cells))))
 
 module _ {T : Type 0} (from : ℕ) (rest : List T) (index : ℕ) where
   -- of those that are left, from the from-th of all on, the index-th of all is the first or the last

@@ -24,7 +24,7 @@ module _ {A B : Type 0} where
   abbrev pub with_pairs : PairList A B → List (A × B) → PairList A B
   with_pairs v ps = pair_list ps v.capacity
 
-  -- each place is taken: the length is the capacity
+  -- each index is taken: the length is the capacity
   abbrev pub IsFull : PairList A B → Type 0
   IsFull v = length v.pairs ≡ v.capacity
 

@@ -13,7 +13,7 @@ use Rattle.std.specs.List.Sorted.{IsSortedBy, IsStableBy}
 use Rattle.std.specs.declared.cmp.Ordering.TheVariants.{Less, Equal}
 
 module _ {X : Type 0} where
-  -- `to` names for each place of xs the place of ys where its item stands, and each place of ys once
+  -- `to` names for each index of xs the index of ys where its item stands, and each index of ys once
   pub record Moves (xs : List X) (to : List ℕ) (ys : List X) : Type 0 where
     pub once : IsPermutation (range_with_len 0 (length ys)) to
     pub items : map Some xs ≡ map (slice_get ys) to
@@ -74,7 +74,7 @@ option_lt lt None o = false
 abbrev pub lt_at : {X : Type 0} → (X → X → Bool) → List X → ℕ → ℕ → Bool
 lt_at lt xs i j = option_lt lt (slice_get xs i) (slice_get xs j)
 
--- ys has at each place the item of xs whose position stands there in the order
+-- ys has at each index the item of xs whose position stands there in the order
 abbrev pub PutsInOrder : {X : Type 0} → List X → List ℕ → List X → Type 0
 PutsInOrder xs order ys = map Some ys ≡ map (slice_get xs) order
 
@@ -85,7 +85,7 @@ module _ {F A B : Type 0} (g : Mut F (PairRef A B × (PairRef A B × Unit {0})) 
   ComparesOptions f (Some x) None r f2 = (r ≡ Less) × (f2 ≡ f)
   ComparesOptions f None o r f2 = (r ≡ Equal) × (f2 ≡ f)
 
-  -- a call of f compares what stands at two places
+  -- a call of f compares what stands at two indices
   abbrev pub ComparesAt : List (A × B) → F → ℕ → ℕ → Ordering → F → Type 0
   ComparesAt ps f i j r f2 = ComparesOptions f (slice_get ps i) (slice_get ps j) r f2
 

@@ -33,9 +33,9 @@ impl<'a, K, V> Model for Loan<'a, K, V> {
 #[inline]
 fn run_mut<K, V>(pairs: &mut Row<(K, V)>, address: Address<(K, V)>, len: usize) -> &mut [(K, V)]
     requires at { address.at ≡ pairs.old.at }
-    requires front { IsFront pairs.old.places len }
+    requires front { IsFront pairs.old.cells len }
     ensures* writes_back { sem 𝓛 (lends_front (Tuple (K.row ∷ V.row ∷ [])) pairs.entry result) }
-    ensures value { result.now ≡ items_of pairs.old.places }
+    ensures value { result.now ≡ items_of pairs.old.cells }
 {
     pairs.items_mut(address, len)
 }
@@ -49,9 +49,9 @@ impl<'a, K, V> Loan<'a, K, V> {
         len: usize,
     ) -> Loan<'a, K, V>
         requires at { address.at ≡ pairs.old.at }
-        requires front { IsFront pairs.old.places len }
+        requires front { IsFront pairs.old.cells len }
         ensures* writes_back { sem 𝓛 (pairs_follow K.row V.row pairs.entry result.tie) }
-        ensures rest { (result.from ≡ 0) × (result.rest ≡ items_of pairs.old.places) }
+        ensures rest { (result.from ≡ 0) × (result.rest ≡ items_of pairs.old.cells) }
     {
         let run = run_mut(pairs, address, len);
         Loan {
@@ -64,9 +64,9 @@ impl<'a, K, V> Loan<'a, K, V> {
     #[inline]
     pub(crate) fn behind<B>(pairs: &'a mut Row<(K, V)>, spot: Spot<B>, len: usize) -> Loan<'a, K, V>
         requires at { IsBehind B.row (Tuple (K.row ∷ V.row ∷ [])) spot pairs.old.at }
-        requires front { IsFront pairs.old.places len }
+        requires front { IsFront pairs.old.cells len }
         ensures* writes_back { sem 𝓛 (pairs_follow K.row V.row pairs.entry result.tie) }
-        ensures rest { (result.from ≡ 0) × (result.rest ≡ items_of pairs.old.places) }
+        ensures rest { (result.from ≡ 0) × (result.rest ≡ items_of pairs.old.cells) }
     {
         Loan::new(pairs, second_at(spot), len)
     }

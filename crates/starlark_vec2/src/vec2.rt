@@ -34,9 +34,9 @@ pub struct Vec2<A, B> {
     // Both columns lie in one block, the second in front: whoever looks for a second part needs no more than the spot.
     firsts: Row<A>,
     seconds: Row<B>,
-    // How many of the places at the front of either column are filled.
+    // How many of the indices at the front of either column are filled.
     len: usize,
-    // Where the block begins, and how many places either column has.
+    // Where the block begins, and how many indices either column has.
     spot: Spot<B>,
     alloc: Global,
     // The right to give the block back.
@@ -52,9 +52,9 @@ impl<A, B> Model for Vec2<A, B> {
 
     ghost Value = { PairList A B };
 
-    ghost view = { λ v. pair_list (zip (items_of v.firsts.places) (items_of v.seconds.places)) (length v.firsts.places) };
+    ghost view = { λ v. pair_list (zip (items_of v.firsts.cells) (items_of v.seconds.cells)) (length v.firsts.cells) };
 
-    ghost invariant = { λ v. AreColumns v.firsts.places v.seconds.places v.len × IsBlockOf v.block v.seconds v.firsts × IsSpotOf v.spot v.block };
+    ghost invariant = { λ v. AreColumns v.firsts.cells v.seconds.cells v.len × IsBlockOf v.block v.seconds v.firsts × IsSpotOf v.spot v.block };
 }
 
 // Making
@@ -240,7 +240,7 @@ impl<A, B> Vec2<A, B> {
         self.refit(capacity)
     }
 
-    // Moves the pairs to columns of so many places in a new block, and gives the old one back.
+    // Moves the pairs to columns of so many indices in a new block, and gives the old one back.
     #[tactic(auto, using(crate::proofs::Pairs::columns))]
     fn refit(&mut self, capacity: usize) -> Result<(), AllocError>
         requires { length self.old.pairs ≤ capacity }
@@ -364,7 +364,7 @@ impl<A: Drop, B: Drop> Vec2<A, B> {
         self.truncate(0);
     }
 
-    /// Drops the pairs from this place on. At or above the length nothing is dropped. The capacity stays.
+    /// Drops the pairs from this index on. At or above the length nothing is dropped. The capacity stays.
     #[tactic(auto, using(crate::proofs::Pairs::columns))]
     #[inline]
     pub fn truncate(&mut self, len: usize)

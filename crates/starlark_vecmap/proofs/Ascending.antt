@@ -1,4 +1,4 @@
--- Lists that ascend between two places.
+-- Lists that ascend between two indices.
 use Rattle.std.proofs.Common.{◌≡◌, ℕ, ◌+◌, ◌<◌, ◌≤◌, Bool, true, false, List, length, get_or, refl, sym, ◌∙◌, ap, inl, inr, arith}
 use Rattle.std.proofs.lemmas.Bool.{cases_lt, false≢true}
 use Rattle.std.proofs.lemmas.List.{get_or_default}
@@ -43,7 +43,7 @@ module _ {X : Type 0} (lt : X → X → Bool) (xs : List X) where
   ascends-told low from to true same told = λ all. told (ascends-part low to low from (omega arith) (omega arith) all)
   ascends-told low from to false same told = ascends-part low from low to (omega arith) (omega arith) told
 
-  -- the element x stands at a place of the list and y behind it
+  -- the element x stands at an index of the list and y behind it
   module _ (low at : ℕ) (x y : X) (within : at + 1 < length xs) (first : x ≡ get_or xs at x) (second : y ≡ get_or xs (at + 1) y) where
     shown : (k : ℕ) (d : X) → k ≡ at → lt (get_or xs (k + 1) d) (get_or xs k d) ≡ lt y x
     shown k d is =

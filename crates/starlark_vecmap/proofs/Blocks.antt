@@ -1,4 +1,4 @@
--- The first place at which a list passes a test, as the mask of its first block shows it.
+-- The first index at which a list passes a test, as the mask of its first block shows it.
 use Rattle.std.proofs.Common.{◌≡◌, ◌≢◌, ℕ, zero, suc, ◌+◌, ◌*◌, ◌/◌, ◌^◌, ◌<◌, ◌≤◌, Bool, true, false, not, cond, List, [], ◌∷◌, ◌++◌, Some, None, length, drop, map, arith, rules, ap, sym, ◌∙◌}
 use Rattle.std.proofs.lemmas.List.{drop-drop, length-drop}
 use Rattle.std.proofs.lemmas.List.Folds.{prefix_len-append}
@@ -28,13 +28,13 @@ module _ {X : Type 0} (p : X → Bool) where
   abbrev first : List X → ℕ
   first = position_or_len p
 
-  place_past : (block tail : List X) → first block ≡ length block → first (block ++ tail) ≡ length block + first tail
-  place_past block tail none =
+  index_past : (block tail : List X) → first block ≡ length block → first (block ++ tail) ≡ length block + first tail
+  index_past block tail none =
       prefix_len-append (λ x. not (p x)) block tail
       ∙ seam_past (first block) (length block) (first tail) none
 
-  place_within : (block tail : List X) → first block < length block → first (block ++ tail) ≡ first block
-  place_within block tail some =
+  index_within : (block tail : List X) → first block < length block → first (block ++ tail) ≡ first block
+  index_within block tail some =
       prefix_len-append (λ x. not (p x)) block tail
       ∙ seam_within (first block) (length block) (first tail) some
 
@@ -42,7 +42,7 @@ module _ {X : Type 0} (p : X → Bool) where
   some_passes [] some = absurd (omega arith)
   some_passes (x ∷ xs) some = passes_by (p x) (mask_l (map p xs)) (first xs) (length xs) some (some_passes xs)
 
-  -- a search may begin anywhere before the first place
+  -- a search may begin anywhere before the first index
   pub first_from : (xs : List X) (n : ℕ) → n ≤ first xs → n + first (drop n xs) ≡ first xs
   first_from xs zero before = omega arith
   first_from [] (suc n) before = absurd (omega (arith, before))
@@ -57,9 +57,9 @@ module _ {X : Type 0} (p : X → Bool) where
   module _ (block tail : List X) (mask : ℕ) (few : length block ≤ 64) (is : mask ≡ mask_l (map p block)) where
     -- no bit is set
     pub past_block : mask ≡ 0 → first (block ++ tail) ≡ length block + first tail
-    past_block none = place_past block tail (leading_from_mask_l p block (sym is ∙ none))
+    past_block none = index_past block tail (leading_from_mask_l p block (sym is ∙ none))
 
-    -- the lowest bit is that of the first place
+    -- the lowest bit is that of the first index
     module _ (some : mask ≢ 0) where
       set : 0 < mask_l (map p block)
       set = omega (arith, is)
@@ -68,12 +68,12 @@ module _ {X : Type 0} (p : X → Bool) where
       lowest = ap (count_trailing_zeros 64) is ∙ trailing_mask_l p 64 block few set
 
       pub lowest_is : count_trailing_zeros 64 mask ≡ first (block ++ tail)
-      lowest_is = lowest ∙ sym (place_within block tail (some_passes block set))
+      lowest_is = lowest ∙ sym (index_within block tail (some_passes block set))
 
       pub lowest_lt : count_trailing_zeros 64 mask < length block
       lowest_lt = omega (arith, lowest, some_passes block set)
 
-  -- the mask of what is left from i on shows the next place, and without its lowest bits it is that of what is left behind it
+  -- the mask of what is left from i on shows the next index, and without its lowest bits it is that of what is left behind it
   module _ (xs : List X) (i mask : ℕ) (few : length xs ≤ 64) (within : i ≤ length xs) (is : mask ≡ mask_l (map p (drop i xs))) where
     left : length (drop i xs) + i ≡ length xs
     left = omega (arith, length-drop i xs, within)
@@ -91,8 +91,8 @@ module _ {X : Type 0} (p : X → Bool) where
       pub next_within : i + count_trailing_zeros 64 mask < length xs
       next_within = omega (arith, skipped_lt, left)
 
-      pub next_place : option_map (λ s. i + s) (position p (drop i xs)) ≡ Some (i + count_trailing_zeros 64 mask)
-      next_place =
+      pub next_index : option_map (λ s. i + s) (position p (drop i xs)) ≡ Some (i + count_trailing_zeros 64 mask)
+      next_index =
           let low = lowest (drop i xs) [] mask (omega (arith, left, few)) is some in
           ap (option_map (λ s. i + s)) (sym (position_at (drop i xs) (count_trailing_zeros 64 mask) low skipped_lt))
 

@@ -11,7 +11,7 @@ use Rattle.starlark_hash.specs.Search.{Asks, keys_under}
 use Rattle.starlark_hash.proofs.PositionLemmas.{position-cons, position-within}
 use Rattle.starlark_hash.proofs.SearchLemmas.{IsTest}
 
--- a place counted from n + 1, and the one behind it counted from n
+-- an index counted from n + 1, and the one behind it counted from n
 counted : (n : ℕ) (o : Option ℕ) → option_map (λ i. n + 1 + i) o ≡ option_map (λ i. n + i) (option_map suc o)
 counted n None = refl
 counted n (Some i) = ap (λ k. Some k) {x = n + 1 + i} {y = n + suc i} (omega arith)
@@ -20,7 +20,7 @@ uncounted : (o : Option ℕ) → option_map (λ i. 0 + i) o ≡ o
 uncounted None = refl
 uncounted (Some i) = ap (λ k. Some k) {x = 0 + i} {y = i} (omega arith)
 
--- a place that is found lies within the list
+-- an index that is found lies within the list
 pub found_within : {X : Type 0} (p : X → Bool) (xs : List X) (o : Option ℕ) → o ≡ position p xs → IfSome o (λ i. i < length xs)
 found_within p xs None e = tt
 found_within p xs (Some i) e = position-within p xs i (sym e)
@@ -38,27 +38,27 @@ module _ {F K V : Type 0} (g : Mut F (Bor K × Unit {0}) Bool) (t : K → Bool) 
   abbrev named : List (ℕ × Entry K V) → List (ℕ × K)
   named ps = map {B = ℕ × K} (λ p. (p.0, entry_key p.1)) ps
 
-  -- the first place from n on whose entry passes
-  abbrev place_from : ℕ → List (Entry K V) → Option ℕ
-  place_from n es = option_map (λ i. n + i) (position_of hash t es)
+  -- the first index from n on whose entry passes
+  abbrev index_from : ℕ → List (Entry K V) → Option ℕ
+  index_from n es = option_map (λ i. n + i) (position_of hash t es)
 
-  place_from-cons : (n : ℕ) (e : Entry K V) (es : List (Entry K V)) → place_from n (e ∷ es) ≡ cond (is_under hash e && t (entry_key e)) (Some (n + 0)) (place_from (n + 1) es)
-  place_from-cons n e es =
+  index_from-cons : (n : ℕ) (e : Entry K V) (es : List (Entry K V)) → index_from n (e ∷ es) ≡ cond (is_under hash e && t (entry_key e)) (Some (n + 0)) (index_from (n + 1) es)
+  index_from-cons n e es =
       ap (option_map (λ i. n + i)) (position-cons (stands_under hash t) e es)
-      ∙ elim (is_under hash e && t (entry_key e)) as (λ b. option_map (λ i. n + i) (cond b (Some 0) (option_map suc (position (stands_under hash t) es))) ≡ cond b (Some (n + 0)) (place_from (n + 1) es)) [
+      ∙ elim (is_under hash e && t (entry_key e)) as (λ b. option_map (λ i. n + i) (cond b (Some 0) (option_map suc (position (stands_under hash t) es))) ≡ cond b (Some (n + 0)) (index_from (n + 1) es)) [
         | true ↦ refl
         | false ↦ sym (counted n (position (stands_under hash t) es))
       ]
 
-  asked_from : (es : List (Entry K V)) (n : ℕ) (answer : Option ℕ) (last : F) → Asks g f (named (filter (λ p. is_under hash p.1) (enumerate_from n es))) answer last → answer ≡ place_from n es
+  asked_from : (es : List (Entry K V)) (n : ℕ) (answer : Option ℕ) (last : F) → Asks g f (named (filter (λ p. is_under hash p.1) (enumerate_from n es))) answer last → answer ≡ index_from n es
   asked_from [] n answer last asks = asks.0
   asked_from (e ∷ es) n answer last asks =
       let later : List (ℕ × Entry K V) = filter (λ p. is_under hash p.1) (enumerate_from (n + 1) es) in
-      (elim (is_under hash e) as (λ b. Asks g f (named (cond b ((n, e) ∷ later) later)) answer last → answer ≡ cond (b && t (entry_key e)) (Some (n + 0)) (place_from (n + 1) es)) [
-        | true ↦ asked_here g t f test n (entry_key e) (named later) (place_from (n + 1) es) answer last (asked_from es (n + 1) answer last)
+      (elim (is_under hash e) as (λ b. Asks g f (named (cond b ((n, e) ∷ later) later)) answer last → answer ≡ cond (b && t (entry_key e)) (Some (n + 0)) (index_from (n + 1) es)) [
+        | true ↦ asked_here g t f test n (entry_key e) (named later) (index_from (n + 1) es) answer last (asked_from es (n + 1) answer last)
         | false ↦ asked_from es (n + 1) answer last
-      ]) asks ∙ sym (place_from-cons n e es)
+      ]) asks ∙ sym (index_from-cons n e es)
 
-  -- it answers the first place under the hash whose key passes
+  -- it answers the first index under the hash whose key passes
   pub asks-position_of : (es : List (Entry K V)) (answer : Option ℕ) (last : F) → Asks g f (keys_under hash es) answer last → answer ≡ position_of hash t es
   asks-position_of es answer last asks = asked_from es 0 answer last asks ∙ uncounted (position_of hash t es)

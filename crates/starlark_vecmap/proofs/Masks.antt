@@ -1,4 +1,4 @@
--- The mask of a list: a bit for each place, set where its item passes a test.
+-- The mask of a list: a bit for each index, set where its item passes a test.
 use Rattle.std.proofs.Common.{◌≡◌, ℕ, zero, ◌+◌, ◌-◌, ◌*◌, ◌/◌, ◌%◌, ◌^◌, ◌<◌, ◌≤◌, Bool, true, false, List, [], ◌∷◌, ◌++◌, cond, length, take, drop, get_or, map, refl, ap, subst, sym, ◌∙◌, arith}
 use Rattle.std.proofs.Math.Nat.{add_comm, mod-eq_of_lt, pow-suc}
 use Rattle.std.proofs.Math.Pow.{pow_mono}
@@ -47,7 +47,7 @@ module _ {X : Type 0} (p : X → Bool) where
         let high : 2 ^ length (map p (take (i + n) xs)) ≤ 2 ^ 32 = pow_mono few in
         omega (arith, mask_l-lt (map p (take (i + n) xs)), high)
 
-    -- the bits of n further places, moved behind those of the i before them
+    -- the bits of n further indices, moved behind those of the i before them
     module _ (before next : ℕ) (is : before ≡ mask (take i xs)) (are : next ≡ mask (chunk i n xs)) where
       sum : before + next * 2 ^ i ≡ mask (take (i + n) xs)
       sum = ap (λ b. b + next * 2 ^ i) is ∙ ap (λ e. mask (take i xs) + e * 2 ^ i) are ∙ sym mask-take_more
@@ -61,7 +61,7 @@ module _ {X : Type 0} (p : X → Bool) where
       pub mask_more_lt : before + next * 2 ^ i % 2 ^ 64 < 2 ^ 64
       mask_more_lt = omega (arith, mask_more, mask-lt)
 
-  -- the bit of the last place beside those of the places before it
+  -- the bit of the last index beside those of the indices before it
   module _ (xs : List X) (d : X) (some : 0 < length xs) (short : length xs ≤ 32) (before one : ℕ)
       (is : before ≡ mask (take (length xs - 1) xs)) (last : one ≡ from_bool (p (get_or xs (length xs - 1) d))) where
     last_bit : one ≡ mask (chunk (length xs - 1) 1 xs)
@@ -85,29 +85,29 @@ module _ {X : Type 0} (p : X → Bool) where
       ∙ ap (λ k. mask (take n xs) + mask (drop n xs) * 2 ^ k) (length-take-le n xs within)
       ∙ add_comm (mask (take n xs)) (mask (drop n xs) * 2 ^ n)
 
-  -- without its lowest bits a mask is that of the places behind them
+  -- without its lowest bits a mask is that of the indices behind them
   pub mask-drop : (xs : List X) (n : ℕ) → n ≤ length xs → mask xs / 2 ^ n ≡ mask (drop n xs)
   mask-drop xs n within =
       ap (λ m. m / 2 ^ n) (mask-parts xs n within)
       ∙ div-mul-add (mask (drop n xs)) (2 ^ n) (mask (take n xs)) (mask-take_lt xs n within)
 
-  -- a row is covered by its first n places and its last n: the bits of those that are among both count once
+  -- a row is covered by its first n indices and its last n: the bits of those that are among both count once
   module _ (xs : List X) (n last both : ℕ) (end : last + n ≡ length xs) (shared : last + both ≡ n) (short : length xs ≤ 32)
       (front back : ℕ) (is : front ≡ mask (chunk zero n xs)) (are : back ≡ mask (chunk last n xs)) where
-    last_places : chunk last n xs ≡ drop last xs
-    last_places = take_all n (drop last xs) (omega (arith, length-drop last xs, end))
+    last_indices : chunk last n xs ≡ drop last xs
+    last_indices = take_all n (drop last xs) (omega (arith, length-drop last xs, end))
 
-    new_places : chunk n (length xs - n) xs ≡ drop both (chunk last n xs)
-    new_places =
+    new_indices : chunk n (length xs - n) xs ≡ drop both (chunk last n xs)
+    new_indices =
         take_all (length xs - n) (drop n xs) (omega (arith, length-drop n xs))
         ∙ ap (λ k. drop k xs) (omega (arith, shared)) ∙ sym (drop-drop both last xs)
-        ∙ ap (drop both) (sym last_places)
+        ∙ ap (drop both) (sym last_indices)
 
     new_bits : back / 2 ^ both ≡ mask (chunk n (length xs - n) xs)
     new_bits =
         ap (λ m. m / 2 ^ both) are
         ∙ mask-drop (chunk last n xs) both (omega (arith, length-chunk last n xs (omega (arith, end)), shared))
-        ∙ ap mask (sym new_places)
+        ∙ ap mask (sym new_indices)
 
     whole : take (n + (length xs - n)) xs ≡ xs
     whole = take_all (n + (length xs - n)) xs (omega arith)

@@ -1,4 +1,4 @@
--- A write of the value at a place, in the words of the columns.
+-- A write of the value at an index, in the words of the columns.
 use Rattle.std.proofs.Common.{◌≡◌, ℕ, zero, suc, List, [], ◌∷◌, map, slice_get, Some, refl, ap}
 use Rattle.starlark_hash.specs.Entries.{set_value_at}
 use Rattle.starlark_vec2.specs.PairList.{firsts_of, seconds_of}
@@ -14,7 +14,7 @@ module _ {K V : Type 0} where
       let same : pair ≡ p.0 = cc in ap (λ k. entry_of ((k, w), p.1) ∷ map entry_of ps) (ap (λ x. x.0) same)
   value_written (p ∷ ps) (suc i) pair w e = ap (λ l. entry_of p ∷ l) (value_written ps i pair w e)
 
-  -- the entry at a place, by its hash and its pair
+  -- the entry at an index, by its hash and its pair
   pub entry_read : (ps : List ((K × V) × ℕ)) (i : ℕ) (pair : K × V) (hash : ℕ) → slice_get (firsts_of ps) i ≡ Some pair → slice_get (seconds_of ps) i ≡ Some hash
       → slice_get (map entry_of ps) i ≡ Some (entry_of (pair, hash))
   entry_read [] i pair hash e f = cc

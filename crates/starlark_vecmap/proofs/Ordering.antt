@@ -49,7 +49,7 @@ and_shuffled true true true ps false = refl
 and_shuffled true true true ps true = refl
 
 module _ {K V : Type 0} (key_eq : K → K → Bool) (value_eq : V → V → Bool) where
-  -- two lists of entries are the same place by place where both columns are
+  -- two lists of entries are the same item by item where both columns are
   pub same_ordered-columns : (ps qs : List ((K × V) × ℕ)) → same_ordered key_eq value_eq (map entry_of ps) (map entry_of qs)
       ≡ pointwise nat_eq (seconds_of ps) (seconds_of qs) && pointwise (λ p q. key_eq p.0 q.0 && value_eq p.1 q.1) (firsts_of ps) (firsts_of qs)
   same_ordered-columns [] [] = refl

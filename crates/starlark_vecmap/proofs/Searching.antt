@@ -54,22 +54,22 @@ no_head true o e = absurd (none-some 0 (sym e))
 no_head false None e = (refl, refl)
 no_head false (Some t) e = absurd (none-some (suc t) (sym e))
 
-found_at : (i : ℕ) (o : Option ℕ) (place : ℕ) → option_map (λ skipped. i + skipped) o ≡ Some place → (s : ℕ) × (o ≡ Some s) × (place ≡ i + s)
-found_at i None place e = absurd (none-some place e)
-found_at i (Some s) place e = (s, refl, cc)
+found_at : (i : ℕ) (o : Option ℕ) (index : ℕ) → option_map (λ skipped. i + skipped) o ≡ Some index → (s : ℕ) × (o ≡ Some s) × (index ≡ i + s)
+found_at i None index e = absurd (none-some index e)
+found_at i (Some s) index e = (s, refl, cc)
 
 not_found : (i : ℕ) (o : Option ℕ) → option_map (λ skipped. i + skipped) o ≡ None → o ≡ None
 not_found i None e = refl
 not_found i (Some s) e = absurd (none-some (i + s) (sym e))
 
 -- what stands behind the item at s, of those from i on
-behind : {X : Type 0} (i s place : ℕ) → place ≡ i + s → (xs : List X) → drop (suc s) (drop i xs) ≡ drop (place + 1) xs
-behind i s place at xs =
-    let step : i + suc s ≡ place + 1 = omega arith in
+behind : {X : Type 0} (i s index : ℕ) → index ≡ i + s → (xs : List X) → drop (suc s) (drop i xs) ≡ drop (index + 1) xs
+behind i s index at xs =
+    let step : i + suc s ≡ index + 1 = omega arith in
     drop-drop (suc s) i xs ∙ ap (λ n. drop n xs) step
 
 module _ {K V : Type 0} (hash : StarlarkHashValue) where
-  -- the places under the hash, counted from n, each with its key
+  -- the indices under the hash, counted from n, each with its key
   abbrev pub keys_from : ℕ → List (K × V) → List ℕ → List (ℕ × K)
   keys_from n pairs hashes = map (λ p. (p.0, entry_key p.1)) (filter (λ p. is_under hash p.1) (enumerate_from n (entries_in pairs hashes)))
 
@@ -109,26 +109,26 @@ module _ {K V : Type 0} (hash : StarlarkHashValue) where
       by_head n p h pairs hashes ∙ ap (λ b. cond b ((n, p.0) ∷ keys_from (n + 1) pairs hashes) (keys_from (n + 1) pairs hashes)) missed.0 ∙ jump-None hashes pairs (n + 1) missed.1
 
   module _ (pairs : List (K × V)) (hashes : List ℕ) (i : ℕ) where
-    -- the keys from i on, where the next one stands at this place
-    next-Some : (place : ℕ) (pair : K × V) → length hashes ≡ length pairs → option_map (λ skipped. i + skipped) (position (λ h. h == hash.0) (drop i hashes)) ≡ Some place → pair ≡ get_or pairs place pair
-        → keys_from i (drop i pairs) (drop i hashes) ≡ (place, pair.0) ∷ keys_from (place + 1) (drop (place + 1) pairs) (drop (place + 1) hashes)
-    next-Some place pair same found at =
+    -- the keys from i on, where the next one stands at this index
+    next-Some : (index : ℕ) (pair : K × V) → length hashes ≡ length pairs → option_map (λ skipped. i + skipped) (position (λ h. h == hash.0) (drop i hashes)) ≡ Some index → pair ≡ get_or pairs index pair
+        → keys_from i (drop i pairs) (drop i hashes) ≡ (index, pair.0) ∷ keys_from (index + 1) (drop (index + 1) pairs) (drop (index + 1) hashes)
+    next-Some index pair same found at =
         let tails : length (drop i hashes) ≡ length (drop i pairs) = omega (arith, length-drop i hashes, length-drop i pairs) in
-        let skip = found_at i (position (λ h. h == hash.0) (drop i hashes)) place found in
+        let skip = found_at i (position (λ h. h == hash.0) (drop i hashes)) index found in
         let s = skip.0 in
-        jump-Some (drop i hashes) (drop i pairs) i s place pair tails skip.1 skip.2
-        ∙ ap (λ (p : K × V). (place, p.0) ∷ keys_from (place + 1) (drop (suc s) (drop i pairs)) (drop (suc s) (drop i hashes))) (get_or-drop i pairs s pair ∙ ap (λ k. get_or pairs k pair) (sym skip.2) ∙ sym at)
-        ∙ (λ j. (place, pair.0) ∷ keys_from (place + 1) (behind i s place skip.2 pairs j) (behind i s place skip.2 hashes j))
+        jump-Some (drop i hashes) (drop i pairs) i s index pair tails skip.1 skip.2
+        ∙ ap (λ (p : K × V). (index, p.0) ∷ keys_from (index + 1) (drop (suc s) (drop i pairs)) (drop (suc s) (drop i hashes))) (get_or-drop i pairs s pair ∙ ap (λ k. get_or pairs k pair) (sym skip.2) ∙ sym at)
+        ∙ (λ j. (index, pair.0) ∷ keys_from (index + 1) (behind i s index skip.2 pairs j) (behind i s index skip.2 hashes j))
 
     -- and where there is none
     next-None : option_map (λ skipped. i + skipped) (position (λ h. h == hash.0) (drop i hashes)) ≡ None → keys_from i (drop i pairs) (drop i hashes) ≡ []
     next-None none = jump-None (drop i hashes) (drop i pairs) i (not_found i (position (λ h. h == hash.0) (drop i hashes)) none)
 
-  -- a search that has come to the pair at a place, by the key that it shows there
-  module _ {F : Type 0} (g : Mut F (Bor K × Unit {0}) Bool) (first f : F) (pairs : List (K × V)) (hashes : List ℕ) (i place : ℕ) (pair : K × V)
+  -- a search that has come to the pair at an index, by the key that it shows there
+  module _ {F : Type 0} (g : Mut F (Bor K × Unit {0}) Bool) (first f : F) (pairs : List (K × V)) (hashes : List ℕ) (i index : ℕ) (pair : K × V)
       (s : Searching g (keys_under hash (entries_in pairs hashes)) first f (keys_from i (drop i pairs) (drop i hashes))) (same : length hashes ≡ length pairs)
-      (found : option_map (λ skipped. i + skipped) (position (λ h. h == hash.0) (drop i hashes)) ≡ Some place) (at : pair ≡ get_or pairs place pair)
-      (shown : Bor K) (shows : shown.now ≡ (get_or pairs place pair).0) where
+      (found : option_map (λ skipped. i + skipped) (position (λ h. h == hash.0) (drop i hashes)) ≡ Some index) (at : pair ≡ get_or pairs index pair)
+      (shown : Bor K) (shows : shown.now ≡ (get_or pairs index pair).0) where
     abbrev all : List (ℕ × K)
     all = keys_under hash (entries_in pairs hashes)
 
@@ -136,22 +136,22 @@ module _ {K V : Type 0} (hash : StarlarkHashValue) where
     here = keys_from i (drop i pairs) (drop i hashes)
 
     abbrev later : List (ℕ × K)
-    later = keys_from (place + 1) (drop (place + 1) pairs) (drop (place + 1) hashes)
+    later = keys_from (index + 1) (drop (index + 1) pairs) (drop (index + 1) hashes)
 
-    leads : here ≡ (place, pair.0) ∷ later
-    leads = next-Some pairs hashes i place pair same found at
+    leads : here ≡ (index, pair.0) ∷ later
+    leads = next-Some pairs hashes i index pair same found at
 
     its_key : shown.now ≡ pair.0
     its_key = shows ∙ sym (ap (λ p. p.0) at)
 
-    pub place_asked : Takes g f (shown, tt)
-    place_asked = searching_asks g all here later first f (place, pair.0) s leads shown its_key
+    pub index_asked : Takes g f (shown, tt)
+    index_asked = searching_asks g all here later first f (index, pair.0) s leads shown its_key
 
-    pub place_accepted : (last : F) (r : Bool) → r ≡ true → Called g f (shown, tt) r last → Asks g first all (Some place) last
-    place_accepted last r is called = searching_accepts g all here later first f (place, pair.0) s leads last (called_at g f last shown pair.0 true its_key (rw is at called))
+    pub index_accepted : (last : F) (r : Bool) → r ≡ true → Called g f (shown, tt) r last → Asks g first all (Some index) last
+    index_accepted last r is called = searching_accepts g all here later first f (index, pair.0) s leads last (called_at g f last shown pair.0 true its_key (rw is at called))
 
-    pub place_refused : (next : F) (r : Bool) → r ≡ false → Called g f (shown, tt) r next → Searching g all first next later
-    place_refused next r is called = searching_refused g all here later first f (place, pair.0) s leads next (called_at g f next shown pair.0 false its_key (rw is at called))
+    pub index_refused : (next : F) (r : Bool) → r ≡ false → Called g f (shown, tt) r next → Searching g all first next later
+    index_refused next r is called = searching_refused g all here later first f (index, pair.0) s leads next (called_at g f next shown pair.0 false its_key (rw is at called))
 
   -- and one that has come to the end
   pub none_left : {F : Type 0} (g : Mut F (Bor K × Unit {0}) Bool) (first f : F) (pairs : List (K × V)) (hashes : List ℕ) (i : ℕ)

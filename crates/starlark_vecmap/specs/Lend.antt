@@ -6,7 +6,7 @@ use Rattle.starlark_vecmap.specs.EntryList.{EntryList, with_entries, with_values
 use Rattle.starlark_vecmap.specs.contracts.vec_map.VecMap.{the_row}
 
 module _ (K V : RattleType) (s : MutBor (EntryList K.Denot V.Denot)) where
-  -- the value at the place ends as what is left behind the reference, and all else stays
+  -- the value at the index ends as what is left behind the reference, and all else stays
   abbrev pub lends_value : ℕ → MutBor V.Denot → Fml
   lends_value i r = Lends (the_row K V) V s r (λ w. with_entries s.now (set_value_at s.now.entries i w))
 

@@ -5,12 +5,12 @@ ghost use Rattle.starlark_vecmap.specs.Sort.{TellsAscent};
 ghost use Rattle.starlark_vecmap.specs.EntryList.{entries_in};
 ghost use Rattle.starlark_hash.specs.Compare.{ordered_feed};
 
-use crate::hash_search::{BLOCK, find_hash_from, places_of};
+use crate::hash_search::{BLOCK, find_hash_from, indices_of};
 use starlark_hash::StarlarkHashValue;
 use std::cmp::Ordering;
 use std::hash::{Hash, Hasher};
 
-// The first place under the hash whose key the closure accepts, asked from the front.
+// The first index under the hash whose key the closure accepts, asked from the front.
 #[inline]
 pub(crate) fn search_columns<K, V, F: FnMut(&K) -> bool>(
     pairs: &[(K, V)],
@@ -41,15 +41,15 @@ pub(crate) fn search_few<K, V, F: FnMut(&K) -> bool>(
     requires callable { CanSearch F.FnMut (keys_under hash (entries_in pairs.now hashes.now)) accepts }
     ensures { (last : F) × Asks F.FnMut accepts (keys_under hash (entries_in pairs.now hashes.now)) result last }
 {
-    let mut mask = places_of(hashes, hash.get());
+    let mut mask = indices_of(hashes, hash.get());
     let mut i = 0;
     while mask != 0 {
-        let place = i + mask.trailing_zeros() as usize;
-        if accepts(&pairs[place].0) {
-            return Some(place);
+        let index = i + mask.trailing_zeros() as usize;
+        if accepts(&pairs[index].0) {
+            return Some(index);
         }
         mask = mask >> mask.trailing_zeros() >> 1;
-        i = place + 1;
+        i = index + 1;
     }
     None
 }
@@ -68,11 +68,11 @@ fn search_long<K, V, F: FnMut(&K) -> bool>(
 {
     let number = hash.get();
     let mut i = 0;
-    while let Some(place) = find_hash_from(hashes, i, number) {
-        if accepts(&pairs[place].0) {
-            return Some(place);
+    while let Some(index) = find_hash_from(hashes, i, number) {
+        if accepts(&pairs[index].0) {
+            return Some(index);
         }
-        i = place + 1;
+        i = index + 1;
     }
     None
 }
@@ -101,7 +101,7 @@ pub(crate) fn keys_ascend<K: Ord, V>(pairs: &[(K, V)]) -> bool
     ascend_one_by_one(pairs, last, len)
 }
 
-// Whether the keys ascend from the place `low` up to `high`.
+// Whether the keys ascend from the index `low` up to `high`.
 #[inline]
 fn ascend_one_by_one<K: Ord, V>(pairs: &[(K, V)], low: usize, high: usize) -> bool
     requires some { low < high }
@@ -116,7 +116,7 @@ fn ascend_one_by_one<K: Ord, V>(pairs: &[(K, V)], low: usize, high: usize) -> bo
     true
 }
 
-// Whether the key at the place `low` and the `AT_ONCE` keys behind it ascend. No jump lies between them.
+// Whether the key at the index `low` and the `AT_ONCE` keys behind it ascend. No jump lies between them.
 #[inline]
 fn ascend_at_once<K: Ord, V>(pairs: &[(K, V)], low: usize) -> bool
     requires { low + AT_ONCE < length pairs.now }

@@ -11,16 +11,16 @@ const SHORT: usize = 8;
 // How many hashes one mask covers.
 pub(crate) const BLOCK: usize = 32;
 
-/// The least place at which the array has this hash. `None` where it does not have it.
+/// The least index at which the array has this hash. `None` where it does not have it.
 #[inline]
 pub fn find_hash_in_array(array: &[u32], hash: u32) -> Option<usize>
-    ensures place { result ≡ position (λ h. h == hash) array.now }
+    ensures index { result ≡ position (λ h. h == hash) array.now }
     ensures within { IfSome result (λ i. i < length array.now) }
 {
     if array.len() > SHORT {
         return find_hash_in_blocks(array, hash);
     }
-    let mask = places_of_short(array, hash);
+    let mask = indices_of_short(array, hash);
     if mask == 0 {
         return None;
     }
@@ -30,14 +30,14 @@ pub fn find_hash_in_array(array: &[u32], hash: u32) -> Option<usize>
 // The same of an array of more hashes, block by block.
 fn find_hash_in_blocks(array: &[u32], hash: u32) -> Option<usize>
     requires { 8 < length array.now }
-    ensures place { result ≡ position (λ h. h == hash) array.now }
+    ensures index { result ≡ position (λ h. h == hash) array.now }
     ensures within { IfSome result (λ i. i < length array.now) }
 {
     let mut rest = array;
     let mut passed = 0;
     while rest.len() > BLOCK {
         let (block, tail) = rest.split_at(BLOCK);
-        let mask = places_of_block(block, hash);
+        let mask = indices_of_block(block, hash);
         if mask != 0 {
             return Some(passed + mask.trailing_zeros() as usize);
         }
@@ -46,74 +46,74 @@ fn find_hash_in_blocks(array: &[u32], hash: u32) -> Option<usize>
     }
     // The last block may begin among the hashes that were passed over.
     let start = passed.min(array.len() - SHORT);
-    let mask = places_of_block(&array[start..], hash);
+    let mask = indices_of_block(&array[start..], hash);
     if mask == 0 {
         return None;
     }
     Some(start + mask.trailing_zeros() as usize)
 }
 
-// A bit for each place of an array, set where it has this hash. No branch depends on the place.
+// A bit for each index of an array, set where it has this hash. No branch depends on the index.
 #[inline]
-pub(crate) fn places_of(array: &[u32], hash: u32) -> u64
+pub(crate) fn indices_of(array: &[u32], hash: u32) -> u64
     requires { length array.now ≤ 32 }
     ensures { result ≡ mask_l (map (λ h. h == hash) array.now) }
 {
     if array.len() > SHORT {
-        places_of_long(array, hash)
+        indices_of_long(array, hash)
     } else {
-        places_of_short(array, hash)
+        indices_of_short(array, hash)
     }
 }
 
 // The same of a longer array. Its last hash is read by itself: it may just have been written, and a processor that reads it
 // together with others waits until it is in memory. The code is long, so it is called.
 #[inline(never)]
-fn places_of_long(array: &[u32], hash: u32) -> u64
+fn indices_of_long(array: &[u32], hash: u32) -> u64
     requires enough { 8 < length array.now }
     requires few { length array.now ≤ 32 }
     ensures { result ≡ mask_l (map (λ h. h == hash) array.now) }
 {
     let last = array.len() - 1;
-    let front = places_of_block(&array[..last], hash);
+    let front = indices_of_block(&array[..last], hash);
     front + (u64::from(array[last] == hash) << last)
 }
 
 // The same of a short array. Two runs of four hashes cover it: the second ends where the array does, and may begin in
 // the first, whose bits count.
 #[inline]
-fn places_of_short(array: &[u32], hash: u32) -> u64
+fn indices_of_short(array: &[u32], hash: u32) -> u64
     requires { length array.now ≤ 8 }
     ensures { result ≡ mask_l (map (λ h. h == hash) array.now) }
 {
     let len = array.len();
     if len < 4 {
-        return places_of_few(array, hash);
+        return indices_of_few(array, hash);
     }
-    let last = places_of_four(array, len - 4, hash);
-    places_of_four(array, 0, hash) + ((last >> (8 - len)) << 4)
+    let last = indices_of_four(array, len - 4, hash);
+    indices_of_four(array, 0, hash) + ((last >> (8 - len)) << 4)
 }
 
 // The same of a block, by two runs of eight or sixteen.
 #[inline]
-fn places_of_block(block: &[u32], hash: u32) -> u64
+fn indices_of_block(block: &[u32], hash: u32) -> u64
     requires enough { 8 ≤ length block.now }
     requires few { length block.now ≤ 32 }
     ensures { result ≡ mask_l (map (λ h. h == hash) block.now) }
 {
     let len = block.len();
     if len <= 16 {
-        let last = places_of_eight(block, len - 8, hash);
-        places_of_eight(block, 0, hash) + ((last >> (16 - len)) << 8)
+        let last = indices_of_eight(block, len - 8, hash);
+        indices_of_eight(block, 0, hash) + ((last >> (16 - len)) << 8)
     } else {
-        let last = places_of_sixteen(block, len - 16, hash);
-        places_of_sixteen(block, 0, hash) + ((last >> (32 - len)) << 16)
+        let last = indices_of_sixteen(block, len - 16, hash);
+        indices_of_sixteen(block, 0, hash) + ((last >> (32 - len)) << 16)
     }
 }
 
-// The same of the four places from one on.
+// The same of the four indices from one on.
 #[inline]
-fn places_of_four(block: &[u32], start: usize, hash: u32) -> u64
+fn indices_of_four(block: &[u32], start: usize, hash: u32) -> u64
     requires { start + 4 ≤ length block.now }
     ensures { result ≡ mask_l (map (λ h. h == hash) (chunk start 4 block.now)) }
 {
@@ -122,7 +122,7 @@ fn places_of_four(block: &[u32], start: usize, hash: u32) -> u64
 }
 
 #[inline]
-fn places_of_eight(block: &[u32], start: usize, hash: u32) -> u64
+fn indices_of_eight(block: &[u32], start: usize, hash: u32) -> u64
     requires { start + 8 ≤ length block.now }
     ensures { result ≡ mask_l (map (λ h. h == hash) (chunk start 8 block.now)) }
 {
@@ -131,7 +131,7 @@ fn places_of_eight(block: &[u32], start: usize, hash: u32) -> u64
 }
 
 #[inline]
-fn places_of_sixteen(block: &[u32], start: usize, hash: u32) -> u64
+fn indices_of_sixteen(block: &[u32], start: usize, hash: u32) -> u64
     requires { start + 16 ≤ length block.now }
     ensures { result ≡ mask_l (map (λ h. h == hash) (chunk start 16 block.now)) }
 {
@@ -141,7 +141,7 @@ fn places_of_sixteen(block: &[u32], start: usize, hash: u32) -> u64
 
 // The same of a block of fewer than four.
 #[inline]
-fn places_of_few(block: &[u32], hash: u32) -> u64
+fn indices_of_few(block: &[u32], hash: u32) -> u64
     requires { length block.now < 4 }
     ensures { result ≡ mask_l (map (λ h. h == hash) block.now) }
 {
@@ -152,11 +152,11 @@ fn places_of_few(block: &[u32], hash: u32) -> u64
     mask
 }
 
-// The least place from `start` on at which the array has this hash.
+// The least index from `start` on at which the array has this hash.
 #[inline]
 pub(crate) fn find_hash_from(array: &[u32], start: usize, hash: u32) -> Option<usize>
     requires { start ≤ length array.now }
-    ensures place { result ≡ option_map (λ skipped. start + skipped) (position (λ h. h == hash) (drop start array.now)) }
+    ensures index { result ≡ option_map (λ skipped. start + skipped) (position (λ h. h == hash) (drop start array.now)) }
     ensures within { IfSome result (λ i. i < length array.now) }
 {
     let rest = &array[start..];

@@ -99,7 +99,7 @@ impl<K, V> VecMap<K, V> {
         self.columns.capacity()
     }
 
-    /// The first place under the hash whose key `accepts` answers true for. It is asked about the keys under this hash
+    /// The first index under the hash whose key `accepts` answers true for. It is asked about the keys under this hash
     /// alone, from the front, about each at most once, its state carried on, until it accepts one; `None` says that it
     /// refused them all. Required is no more than that it may be called on those keys, in the states that its refusals
     /// leave.
@@ -115,12 +115,12 @@ impl<K, V> VecMap<K, V> {
         search_columns(self.columns.firsts(), self.columns.seconds(), hash, accepts)
     }
 
-    /// The first place under the query's hash whose key the query stands for.
+    /// The first index under the query's hash whose key the query stands for.
     #[inline]
     pub fn get_index_of_hashed<Q: Query<K>>(&self, key: Hashed<Q>) -> Option<usize>
     where
         K: Eq,
-        ensures place { result ≡ position_of (hash_of key) (Q.stands_for (key_of key)) self.now.entries }
+        ensures index { result ≡ position_of (hash_of key) (Q.stands_for (key_of key)) self.now.entries }
         ensures within { IfSome result (λ i. i < length self.now.entries) }
     {
         let hash = key.hash();
@@ -134,7 +134,7 @@ impl<K, V> VecMap<K, V> {
     pub fn get_index_of_hashed_among_few<Q: Query<K>>(&self, key: Hashed<Q>) -> Option<usize>
     where
         K: Eq,
-        ensures place { length self.now.entries ≤ 32 → result ≡ position_of (hash_of key) (Q.stands_for (key_of key)) self.now.entries }
+        ensures index { length self.now.entries ≤ 32 → result ≡ position_of (hash_of key) (Q.stands_for (key_of key)) self.now.entries }
         ensures many { 32 < length self.now.entries → result ≡ None }
         ensures within { IfSome result (λ i. i < length self.now.entries) }
     {
@@ -146,7 +146,7 @@ impl<K, V> VecMap<K, V> {
         self.search_few(hash, move |k: &K| query.stands_for(k))
     }
 
-    // The first place under the hash whose key `accepts` answers true for.
+    // The first index under the hash whose key `accepts` answers true for.
     #[inline]
     fn search_few<F: FnMut(&K) -> bool>(&self, hash: StarlarkHashValue, accepts: F) -> Option<usize>
         requires few { length self.now.entries ≤ 32 }

@@ -41,9 +41,9 @@ fn makes_two_rows(rt: HostRuntime) -> Result<(), Fail> {
 
 // Whether a row of forty places had its memory.
 fn makes_row(alloc: Global) -> bool {
-    match Column::<u64>::with_places(alloc, 40) {
+    match Column::<u64>::with_cells(alloc, 40) {
         Ok(row) => {
-            let places = row.places();
+            let places = row.cells();
             row.give_back(alloc);
             places == 40
         }

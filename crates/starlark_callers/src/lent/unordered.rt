@@ -1,4 +1,4 @@
-//! Callers of the places that unordered maps and sets name, which they let go or fill.
+//! Callers of the entries of unordered maps and sets, which they let go or fill.
 ghost use Rattle.std.specs.Hash as fed;
 ghost use Rattle.std.specs.Map.{lookup};
 ghost use Rattle.std.specs.Option.{IfNone};
@@ -11,7 +11,7 @@ ghost use Rattle.starlark_hash.specs.HashValue.{hash_of, key_of};
 ghost use Rattle.starlark_hash.specs.Hasher.{own_hash};
 ghost use Rattle.starlark_unordered.specs.Lookup.{get, get_text};
 ghost use Rattle.starlark_unordered.specs.Pairs.{pairs_of, under_own, IsSlotOf};
-ghost use Rattle.starlark_unordered.specs.RawEntry.{map_of_raw, slot_of_raw, IsRawPlaceOf};
+ghost use Rattle.starlark_unordered.specs.RawEntry.{map_of_raw, slot_of_raw, IsRawEntryAt};
 
 use starlark_hash::{HashQuery, Hashed, NoRoom, Query};
 use starlark_unordered::unordered_set::RawEntryMut;
@@ -95,7 +95,7 @@ pub fn put_raw<K: Eq + Hash, V: Drop>(map: &mut UnorderedMap<K, V>, key: &K, val
     ensures others { (other : K) → K.eq key.now other ≡ false → get K.eq map.new other ≡ get K.eq map.old other }
     ensures lacks { IfNone result (map.new ≡ map.old) }
 {
-    match raw_place(map, key) {
+    match find_raw(map, key) {
         raw_entry::RawEntryMut::Occupied(mut entry) => Some(entry.insert(value)),
         raw_entry::RawEntryMut::Vacant(_lacking) => None,
     }
@@ -108,7 +108,7 @@ pub fn put_raw_named(map: &mut UnorderedMap<String, u64>, name: &str, value: u64
     ensures others { (other : String Global) → bytes_eq name.now (string_bytes other) ≡ false → get string_eq map.new other ≡ get string_eq map.old other }
     ensures lacks { IfNone result (map.new ≡ map.old) }
 {
-    match raw_place(map, name) {
+    match find_raw(map, name) {
         raw_entry::RawEntryMut::Occupied(mut entry) => Some(entry.insert(value)),
         raw_entry::RawEntryMut::Vacant(_lacking) => None,
     }
@@ -120,27 +120,27 @@ pub fn look_up_raw(map: &mut UnorderedMap<u32, u64>, key: u32) -> Option<u64>
     ensures unchanged { map.new ≡ map.old }
 {
     let hashed = Hashed::new(key);
-    match raw_place_hashed(map, hashed.as_ref()) {
+    match find_raw_hashed(map, hashed.as_ref()) {
         raw_entry::RawEntryMut::Occupied(entry) => Some(*entry.get()),
         raw_entry::RawEntryMut::Vacant(_lacking) => None,
     }
 }
 
-// The place that a query names, in one step: a proof does not follow the map from the builder into the entry.
-fn raw_place<'a, K: Eq + Hash, V, Q: HashQuery<K>>(
+// The raw entry that a query names, in one step: a proof does not follow the map from the builder into the entry.
+fn find_raw<'a, K: Eq + Hash, V, Q: HashQuery<K>>(
     map: &'a mut UnorderedMap<K, V>,
     query: Q,
 ) -> raw_entry::RawEntryMut<'a, K, V>
     ensures same_map { (map_of_raw result).ghost_name ≡ map.entry.ghost_name }
     ensures map { (map_of_raw result).now ≡ map.old }
-    ensures place { IsRawPlaceOf K.eq (Q.stands_for query) map.old result }
+    ensures entry { IsRawEntryAt K.eq (Q.stands_for query) map.old result }
     ensures slot { IsSlotOf (Q.stands_for query) map.old (slot_of_raw result) }
 {
     UnorderedMap::raw_entry_mut(map).from_key(query)
 }
 
-// The place that a query names under a hash that is brought, in one step.
-fn raw_place_hashed<'a, K: Eq + Hash, V, Q: Query<K>>(
+// The raw entry that a query names under a hash that is brought, in one step.
+fn find_raw_hashed<'a, K: Eq + Hash, V, Q: Query<K>>(
     map: &'a mut UnorderedMap<K, V>,
     key: Hashed<Q>,
 ) -> raw_entry::RawEntryMut<'a, K, V>

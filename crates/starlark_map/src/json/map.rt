@@ -16,7 +16,7 @@ use serde_json::{Map, Value};
 use starlark_small::SmallMap;
 use std::alloc::{AllocError, Global};
 
-/// The object of a map: each key once, with the value of its last place, as it may stand under two hashes. It is
+/// The object of a map: each key once, with the value of its last index, as it may stand under two hashes. It is
 /// refused for memory alone, and then nothing is made; an empty map asks for none.
 pub fn map_to_value(alloc: Global, map: &SmallMap<String, i64>) -> Result<Value, AllocError>
     ensures object { IfOk result (λ value. view value ≡ object_of (pairs_of map.now.entries)) }

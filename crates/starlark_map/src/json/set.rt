@@ -25,7 +25,7 @@ pub fn set_to_value(alloc: Global, set: &SmallSet<String>) -> Result<Value, Allo
     Ok(Value::from(items))
 }
 
-/// The set of an array: its texts in their order, each under its own hash; one that comes again keeps its first place.
+/// The set of an array: its texts in their order, each under its own hash; one that comes again keeps its first index.
 /// Another value is `NotArray`. Else the first item that is no text decides, as `NotText`; memory is asked for an item
 /// only once it, and those before, were found to be texts. So neither an empty array, nor one whose first item is at
 /// fault, is refused for memory. No answer shows at which item memory was refused. On a fault nothing is made.

@@ -10,7 +10,7 @@ use super::SortedMap;
 use std::cmp::Ordering;
 use std::hash::{Hash, Hasher};
 
-/// Maps are equal where they have as many entries and, place by place, the same hash, equal keys and equal values.
+/// Maps are equal where they have as many entries and, item by item, the same hash, equal keys and equal values.
 impl<K: Ord + Hash, V: PartialEq> PartialEq for SortedMap<K, V> {
     ghost eq = { on (λ m. m.entries) (same_ordered K.eq V.eq) };
 

@@ -12,7 +12,7 @@ use super::SortedSet;
 use std::cmp::Ordering;
 use std::hash::{Hash, Hasher};
 
-/// Sets are equal where they have as many elements and, place by place, the same hash and equal elements.
+/// Sets are equal where they have as many elements and, item by item, the same hash and equal elements.
 impl<T: Ord + Hash> PartialEq for SortedSet<T> {
     ghost eq = { on (λ s. s.entries) (same_ordered T.eq same_unit) };
 

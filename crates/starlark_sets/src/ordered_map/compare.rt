@@ -11,7 +11,7 @@ use crate::ordered::{cmp_hashes, cmp_pairs};
 use std::cmp::Ordering;
 use std::hash::{Hash, Hasher};
 
-/// Maps are equal where they have as many entries and, place by place, the same hash, equal keys and equal values.
+/// Maps are equal where they have as many entries and, item by item, the same hash, equal keys and equal values.
 impl<K: Eq, V: PartialEq> PartialEq for OrderedMap<K, V> {
     ghost eq = { on (λ m. m.entries) (same_ordered K.eq V.eq) };
 

@@ -13,7 +13,7 @@ use crate::ordered::{cmp_hashes, cmp_pairs};
 use std::cmp::Ordering;
 use std::hash::{Hash, Hasher};
 
-/// Sets are equal where they have as many elements and, place by place, the same hash and equal elements.
+/// Sets are equal where they have as many elements and, item by item, the same hash and equal elements.
 impl<T: Eq> PartialEq for OrderedSet<T> {
     ghost eq = { on (λ s. s.entries) (same_ordered T.eq same_unit) };
 

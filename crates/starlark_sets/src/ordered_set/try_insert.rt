@@ -29,7 +29,7 @@ pub enum TryInsertError<'a, T> {
     Memory(NoRoom<T>),
 }
 
-// The same, by the place of the element that is there.
+// The same, by the index of the element that is there.
 #[derive(Drop)]
 enum Refusal<T> {
     Placed(usize, T),
@@ -58,7 +58,7 @@ impl<T: Eq> OrderedSet<T> {
         self
     }
 
-    // Inserts an element that is new under its own hash, or answers the place of the one that is there.
+    // Inserts an element that is new under its own hash, or answers the index of the one that is there.
     fn insert_new(&mut self, value: T) -> Result<(), Refusal<T>>
     where
         T: Hash,
@@ -67,8 +67,8 @@ impl<T: Eq> OrderedSet<T> {
         ensures within { IfErr result (IsWithin self.new.entries) }
     {
         let element = Hashed::new(value);
-        if let Some(place) = self.0.get_index_of_hashed(element.as_ref()) {
-            return Err(Refusal::Placed(place, element.into_key()));
+        if let Some(index) = self.0.get_index_of_hashed(element.as_ref()) {
+            return Err(Refusal::Placed(index, element.into_key()));
         }
         if let Err(NoRoom(element)) = self.0.insert_hashed_unique_unchecked(element) {
             return Err(Refusal::Full(NoRoom(element.into_key())));
@@ -77,7 +77,7 @@ impl<T: Eq> OrderedSet<T> {
     }
 }
 
-// The refusal, with the element at its place.
+// The refusal, with the element at its index.
 fn told<'a, T: Eq>(
     set: &'a OrderedSet<T>,
     tried: Result<(), Refusal<T>>,
@@ -87,7 +87,7 @@ fn told<'a, T: Eq>(
 {
     match tried {
         Ok(()) => Ok(()),
-        Err(Refusal::Placed(place, value)) => match set.0.get_index(place) {
+        Err(Refusal::Placed(index, value)) => match set.0.get_index(index) {
             Some(occupied) => Err(TryInsertError::Occupied(OccupiedError { value, occupied })),
             None => unreachable!(),
         },

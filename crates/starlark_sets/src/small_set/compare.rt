@@ -29,7 +29,7 @@ impl<T: Eq> Eq for SmallSet<T> {
 }
 
 impl<T: Eq> SmallSet<T> {
-    /// Whether both sets have as many elements and, place by place, the same hash and equal elements.
+    /// Whether both sets have as many elements and, item by item, the same hash and equal elements.
     pub fn eq_ordered(&self, other: &Self) -> bool
         ensures { result ≡ same_ordered T.eq same_unit self.now.entries other.now.entries }
     {

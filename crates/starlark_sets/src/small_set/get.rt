@@ -1,11 +1,11 @@
-//! What a `SmallSet` has: elements by hash, by equality under their own hash, and by place.
+//! What a `SmallSet` has: elements by hash, by equality under their own hash, and by index.
 ghost use Rattle.std.specs.Prelude.{◌≡◌, ◌-◌, length, slice_get, is_some};
 ghost use Rattle.std.specs.Option.{option_copied, option_map};
 ghost use Rattle.starlark_hash.specs.HashValue.{hash_of, key_of};
 ghost use Rattle.starlark_hash.specs.Entries.{entry_key, position_of};
 ghost use Rattle.starlark_hash.specs.Hasher.{own_hash};
 ghost use Rattle.starlark_hash.specs.Lookup.{found};
-ghost use Rattle.starlark_small.specs.Lookup.{NamesPlace, TellsPresence};
+ghost use Rattle.starlark_small.specs.Lookup.{NamesIndex, TellsPresence};
 ghost use Rattle.starlark_sets.specs.Lookup.{ShowsElement};
 
 use super::SmallSet;
@@ -30,18 +30,18 @@ impl<T: Eq> SmallSet<T> {
         Some(element)
     }
 
-    /// The place of the element under the query's own hash that the query stands for.
+    /// The index of the element under the query's own hash that the query stands for.
     #[inline(always)]
     pub fn get_index_of<Q: Query<T> + Hash>(&self, value: Q) -> Option<usize>
-        ensures { NamesPlace (Q.stands_for value) (own_hash Q.hash_input value) self.now result }
+        ensures { NamesIndex (Q.stands_for value) (own_hash Q.hash_input value) self.now result }
     {
         self.map.get_index_of(value)
     }
 
-    /// The place of the element under this hash that the query stands for.
+    /// The index of the element under this hash that the query stands for.
     #[inline(always)]
     pub fn get_index_of_hashed<Q: Query<T>>(&self, value: Hashed<Q>) -> Option<usize>
-        ensures { NamesPlace (Q.stands_for (key_of value)) (hash_of value) self.now result }
+        ensures { NamesIndex (Q.stands_for (key_of value)) (hash_of value) self.now result }
     {
         self.map.get_index_of_hashed(value)
     }
@@ -52,7 +52,7 @@ impl<T: Eq> SmallSet<T> {
         &self,
         value: Hashed<Q>,
     ) -> Option<usize>
-        ensures { NamesPlace (Q.equivalent (key_of value)) (hash_of value) self.now result }
+        ensures { NamesIndex (Q.equivalent (key_of value)) (hash_of value) self.now result }
     {
         self.map.get_index_of_hashed_by_value(value)
     }
@@ -68,13 +68,13 @@ impl<T: Eq> SmallSet<T> {
     /// Whether there is an element under this hash that the query stands for.
     #[inline(always)]
     pub fn contains_hashed<Q: Query<T>>(&self, key: Hashed<Q>) -> bool
-        ensures place { result ≡ is_some (position_of (hash_of key) (Q.stands_for (key_of key)) self.now.entries) }
+        ensures index { result ≡ is_some (position_of (hash_of key) (Q.stands_for (key_of key)) self.now.entries) }
         ensures found { result ≡ is_some (found (Q.stands_for (key_of key)) (hash_of key) self.now.entries) }
     {
         self.map.contains_key_hashed(key)
     }
 
-    /// The element at a place; `None` past the end.
+    /// The element at an index; `None` past the end.
     #[inline]
     pub fn get_index(&self, index: usize) -> Option<&T>
         ensures { option_copied result ≡ option_map entry_key (slice_get self.now.entries index) }

@@ -5,7 +5,7 @@ ghost use Rattle.std.specs.Option.{option_map};
 ghost use Rattle.starlark_hash.specs.Entries.{entry_key};
 ghost use Rattle.starlark_hash.specs.Hasher.{own_hash};
 ghost use Rattle.starlark_small.specs.Map.{own_hashed};
-ghost use Rattle.starlark_sets.specs.Insert.{PlacesElement, PutsElementFor, ShowsPut, AddsAt, IsShown, Adds};
+ghost use Rattle.starlark_sets.specs.Insert.{AnswersIndex, PutsElementFor, ShowsPut, AddsAt, IsShown, Adds};
 ghost use Rattle.starlark_sets.specs.Lend.{ends_so};
 
 use super::SmallSet;
@@ -24,8 +24,8 @@ impl<T: Eq> SmallSet<T> {
         ensures* set { sem 𝓛 (ends_so T.row T.PartialEq self.entry (Adds T.eq self.old (own_hashed T.hash_input value) result)) }
         ensures shows { ShowsPut T.eq (own_hashed T.hash_input value) value self.old result }
     {
-        let place = self.place_or_push_own(value);
-        shown(self.frozen(), place)
+        let index = self.index_or_push_own(value);
+        shown(self.frozen(), index)
     }
 
     /// The element that is there under the query's own hash and that the query stands for, and then nothing changes; or
@@ -41,8 +41,8 @@ impl<T: Eq> SmallSet<T> {
         ensures* set { sem 𝓛 (ends_so T.row T.PartialEq self.entry (PutsElementFor T.eq Q.stands_for Q.hash_input value self.old result)) }
         ensures succeeds { Q.OwnedQuery.is_infallible value → 0 < self.old.room → IsOk result }
     {
-        let place = self.place_or_push_for(value)?;
-        Ok(element_in(&self.map, place))
+        let index = self.index_or_push_for(value)?;
+        Ok(element_in(&self.map, index))
     }
 
     // The set, which is no longer written.
@@ -53,37 +53,37 @@ impl<T: Eq> SmallSet<T> {
         self
     }
 
-    // The place of an element, which is put last where it is lacking.
-    fn place_or_push(&mut self, element: Hashed<T>) -> Result<usize, NoRoom<Hashed<T>>>
+    // The index of an element, which is put last where it is lacking.
+    fn index_or_push(&mut self, element: Hashed<T>) -> Result<usize, NoRoom<Hashed<T>>>
     where
         T: Drop,
-        ensures places { PlacesElement T.eq element element self.old self.new result }
+        ensures answers { AnswersIndex T.eq element element self.old self.new result }
     {
         match self.map.get_index_of_hashed(element.as_ref()) {
-            Some(place) => Ok(place),
+            Some(index) => Ok(index),
             None => match self.map.push(element, ()) {
-                Ok(place) => Ok(place),
+                Ok(index) => Ok(index),
                 Err(NoRoom((element, ()))) => Err(NoRoom(element)),
             },
         }
     }
 
     // The same under the element's own hash.
-    fn place_or_push_own(&mut self, element: T) -> Result<usize, NoRoom<T>>
+    fn index_or_push_own(&mut self, element: T) -> Result<usize, NoRoom<T>>
     where
         T: Hash + Drop,
-        ensures places { PlacesElement T.eq (own_hashed T.hash_input element) element self.old self.new result }
+        ensures answers { AnswersIndex T.eq (own_hashed T.hash_input element) element self.old self.new result }
     {
-        match self.place_or_push(Hashed::new(element)) {
-            Ok(place) => Ok(place),
+        match self.index_or_push(Hashed::new(element)) {
+            Ok(index) => Ok(index),
             Err(NoRoom(element)) => Err(NoRoom(element.into_key())),
         }
     }
 }
 
 impl<T: Eq> SmallSet<T> {
-    // The place of the element for a query under its own hash, which is made and put last where it is lacking.
-    fn place_or_push_for<Q: OwnedQuery<T> + Hash>(&mut self, query: Q) -> Result<usize, AllocError>
+    // The index of the element for a query under its own hash, which is made and put last where it is lacking.
+    fn index_or_push_for<Q: OwnedQuery<T> + Hash>(&mut self, query: Q) -> Result<usize, AllocError>
     where
         T: Drop,
         ensures set { AddsAt Q.stands_for query (own_hash Q.hash_input query) self.old result self.new }
@@ -92,11 +92,11 @@ impl<T: Eq> SmallSet<T> {
     {
         let query = Hashed::new(query);
         match self.map.get_index_of_hashed(query) {
-            Some(place) => Ok(place),
+            Some(index) => Ok(index),
             None => {
                 let element = query.owned(self.alloc)?;
                 match self.map.push(element, ()) {
-                    Ok(place) => Ok(place),
+                    Ok(index) => Ok(index),
                     Err(_refused) => Err(AllocError),
                 }
             }
@@ -104,27 +104,27 @@ impl<T: Eq> SmallSet<T> {
     }
 }
 
-// The element at a place.
-fn element_in<T: Eq>(map: &SmallMap<T, ()>, place: usize) -> &T
-    requires { place < length map.now.entries }
-    ensures { option_map entry_key (slice_get map.now.entries place) ≡ Some result.now }
+// The element at an index.
+fn element_in<T: Eq>(map: &SmallMap<T, ()>, index: usize) -> &T
+    requires { index < length map.now.entries }
+    ensures { option_map entry_key (slice_get map.now.entries index) ≡ Some result.now }
 {
-    match map.get_index(place) {
+    match map.get_index(index) {
         Some((element, _)) => element,
         None => unreachable!(),
     }
 }
 
-// The element at the place that was found, or the refusal handed on.
+// The element at the index that was found, or the refusal handed on.
 fn shown<'a, T: Eq>(
     set: &'a SmallSet<T>,
-    place: Result<usize, NoRoom<T>>,
+    index: Result<usize, NoRoom<T>>,
 ) -> Result<&'a T, NoRoom<T>>
-    requires { IfOk place (λ i. i < length set.now.entries) }
-    ensures { IsShown set.now.entries place result }
+    requires { IfOk index (λ i. i < length set.now.entries) }
+    ensures { IsShown set.now.entries index result }
 {
-    match place {
-        Ok(place) => match set.get_index(place) {
+    match index {
+        Ok(index) => match set.get_index(index) {
             Some(element) => Ok(element),
             None => unreachable!(),
         },

@@ -46,7 +46,7 @@ impl<T: Eq> SmallSet<T> {
         ensures adds { AddsNew T.eq (own_hashed T.hash_input key) self.old result self.new }
     {
         match self.map.push_own(key, ()) {
-            Ok(_place) => Ok(()),
+            Ok(_index) => Ok(()),
             Err(NoRoom((element, ()))) => Err(NoRoom(element)),
         }
     }
@@ -62,7 +62,7 @@ impl<T: Eq> SmallSet<T> {
         ensures adds { AddsNew T.eq key self.old result self.new }
     {
         match self.map.push(key, ()) {
-            Ok(_place) => Ok(()),
+            Ok(_index) => Ok(()),
             Err(NoRoom((element, ()))) => Err(NoRoom(element)),
         }
     }

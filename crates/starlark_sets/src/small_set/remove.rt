@@ -47,7 +47,7 @@ impl<T: Eq> SmallSet<T> {
         Some(element)
     }
 
-    /// Removes the element at a place, and answers it. Those after it move up. Capacity and index stay.
+    /// Removes the element at an index, and answers it. Those after it move up. Capacity and index stay.
     pub fn shift_remove_index(&mut self, i: usize) -> Option<T>
         ensures { RemovesElementAt T.eq i self.old self.new result }
     {
@@ -55,7 +55,7 @@ impl<T: Eq> SmallSet<T> {
         Some(element)
     }
 
-    /// Removes the element at a place, and answers it under its hash. Those after it move up. Capacity and index stay.
+    /// Removes the element at an index, and answers it under its hash. Those after it move up. Capacity and index stay.
     pub fn shift_remove_index_hashed(&mut self, i: usize) -> Option<Hashed<T>>
         ensures updates { IfSome result (λ element. Writes T.eq (T.eq (key_of element)) (hash_of element) self.old.entries self.new.entries None) }
         ensures unchanged { IfNone result (self.new.entries ≡ self.old.entries) }

@@ -40,7 +40,7 @@ impl<K: Eq, V: Eq> Eq for SmallMap<K, V> {
 }
 
 impl<K: Eq, V> SmallMap<K, V> {
-    /// Whether both maps have as many entries and, place by place, the same hash, equal keys and equal values.
+    /// Whether both maps have as many entries and, item by item, the same hash, equal keys and equal values.
     pub fn eq_ordered(&self, other: &Self) -> bool
     where
         V: PartialEq,

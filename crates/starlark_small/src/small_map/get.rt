@@ -1,4 +1,4 @@
-//! What a `SmallMap` has: entries by hash and key, by key alone under its own hash, and by place.
+//! What a `SmallMap` has: entries by hash and key, by key alone under its own hash, and by index.
 ghost use Rattle.std.specs.Prelude.{◌≡◌, ◌-◌, ◌<◌, slice_get, length, is_some, Some};
 ghost use Rattle.std.specs.Map.Iter.{deref_pair};
 ghost use Rattle.std.specs.Option.{option_copied, option_map};
@@ -6,7 +6,7 @@ ghost use Rattle.starlark_hash.specs.HashValue.{hash_of, key_of};
 ghost use Rattle.starlark_hash.specs.Hasher.{own_hash};
 ghost use Rattle.starlark_hash.specs.Entries.{IsSingle, pair_of};
 ghost use Rattle.starlark_hash.specs.Search.{CanSearch, Searches, keys_under};
-ghost use Rattle.starlark_small.specs.Lookup.{FindsEntry, FindsValue, NamesPlace, TellsPresence};
+ghost use Rattle.starlark_small.specs.Lookup.{FindsEntry, FindsValue, NamesIndex, TellsPresence};
 
 use super::SmallMap;
 use starlark_hash::{Equivalent, Hashed, Query, StarlarkHashValue};
@@ -31,7 +31,7 @@ impl<K: Eq, V> SmallMap<K, V> {
         self.get_hashed(key.as_ref())
     }
 
-    /// The place under this hash whose key the query stands for, with the key and the value there.
+    /// The index under this hash whose key the query stands for, with the key and the value there.
     #[inline(always)]
     pub fn get_full_hashed<Q: Query<K>>(&self, key: Hashed<Q>) -> Option<(usize, &K, &V)>
         ensures { FindsEntry (Q.stands_for (key_of key)) (hash_of key) self.now result }
@@ -41,16 +41,16 @@ impl<K: Eq, V> SmallMap<K, V> {
         Some((index, key.into_key(), value))
     }
 
-    /// The place under this hash whose key the query stands for.
+    /// The index under this hash whose key the query stands for.
     #[inline(always)]
     pub fn get_index_of_hashed<Q: Query<K>>(&self, key: Hashed<Q>) -> Option<usize>
-        ensures names { NamesPlace (Q.stands_for (key_of key)) (hash_of key) self.now result }
+        ensures names { NamesIndex (Q.stands_for (key_of key)) (hash_of key) self.now result }
         ensures single { IsSingle K.eq self.now.entries }
     {
         self.index.position_of(&self.entries, key)
     }
 
-    /// A place under this hash whose key `eq` accepts. It is asked about the keys under this hash alone, about each at
+    /// An index under this hash whose key `eq` accepts. It is asked about the keys under this hash alone, about each at
     /// most once and in no promised order, its state carried on, until it accepts one; `None` says that it refused them
     /// all. Required is no more than that it may be called on those keys, in the states that its refusals leave.
     #[inline]
@@ -71,7 +71,7 @@ impl<K: Eq, V> SmallMap<K, V> {
         &self,
         key: Hashed<Q>,
     ) -> Option<usize>
-        ensures { NamesPlace (Q.equivalent (key_of key)) (hash_of key) self.now result }
+        ensures { NamesIndex (Q.equivalent (key_of key)) (hash_of key) self.now result }
     {
         self.get_index_of_hashed(key.as_ref())
     }
@@ -100,7 +100,7 @@ impl<K: Eq, V> SmallMap<K, V> {
         self.get_hashed(Hashed::new(key))
     }
 
-    /// The place under the query's own hash whose key the query stands for, with the key and the value there.
+    /// The index under the query's own hash whose key the query stands for, with the key and the value there.
     #[inline(always)]
     pub fn get_full<Q: Query<K> + Hash>(&self, key: Q) -> Option<(usize, &K, &V)>
         ensures { FindsEntry (Q.stands_for key) (own_hash Q.hash_input key) self.now result }
@@ -108,10 +108,10 @@ impl<K: Eq, V> SmallMap<K, V> {
         self.get_full_hashed(Hashed::new(key))
     }
 
-    /// The place under the query's own hash whose key the query stands for.
+    /// The index under the query's own hash whose key the query stands for.
     #[inline(always)]
     pub fn get_index_of<Q: Query<K> + Hash>(&self, key: Q) -> Option<usize>
-        ensures { NamesPlace (Q.stands_for key) (own_hash Q.hash_input key) self.now result }
+        ensures { NamesIndex (Q.stands_for key) (own_hash Q.hash_input key) self.now result }
     {
         self.get_index_of_hashed(Hashed::new(key))
     }
@@ -124,7 +124,7 @@ impl<K: Eq, V> SmallMap<K, V> {
         self.contains_key_hashed(Hashed::new(key))
     }
 
-    /// The key and the value at a place; `None` past the end.
+    /// The key and the value at an index; `None` past the end.
     #[inline]
     pub fn get_index(&self, index: usize) -> Option<(&K, &V)>
         ensures { option_map deref_pair result ≡ option_map pair_of (slice_get self.now.entries index) }
@@ -148,7 +148,7 @@ impl<K: Eq, V> SmallMap<K, V> {
         self.entries.get_index(self.len().saturating_sub(1))
     }
 
-    // The key and the value at a place.
+    // The key and the value at an index.
     #[inline]
     pub(crate) fn pair_at(&self, index: usize) -> (&K, &V)
         requires { index < length self.now.entries }

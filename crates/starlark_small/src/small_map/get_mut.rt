@@ -36,7 +36,7 @@ impl<K: Eq, V> SmallMap<K, V> {
         self.get_mut_hashed(Hashed::new(key))
     }
 
-    // The value at a place, to be written.
+    // The value at an index, to be written.
     #[inline]
     pub(crate) fn value_at_mut(&mut self, index: usize) -> &mut V
         requires { index < length self.old.entries }

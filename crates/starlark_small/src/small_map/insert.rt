@@ -28,7 +28,7 @@ impl<K: Eq, V> SmallMap<K, V> {
         }
     }
 
-    /// Inserts under this hash. A key that is there keeps its place and its stored key and takes the value, whose old
+    /// Inserts under this hash. A key that is there keeps its index and its stored key and takes the value, whose old
     /// one is answered; a new key goes last. Only a new key is refused, where there is no room and no memory is found:
     /// it comes back with its value, and entries and index stay. With room to spare capacity and index stay too. Else
     /// the capacity grows as that of a `Vec2` does, and may have grown where the key is refused: a second refusal grows
@@ -112,39 +112,39 @@ impl<K: Eq, V> SmallMap<K, V> {
         }
     }
 
-    /// Puts a new key last under its own hash, and answers its place. It is refused where there is no room and no
+    /// Puts a new key last under its own hash, and answers its index. It is refused where there is no room and no
     /// memory is found: then it comes back, and entries and index stay. Rust's crate has no such
     /// call: `insert_unique_unchecked` lends the entry, this one counts to it.
     pub fn push_own(&mut self, key: K, value: V) -> Result<usize, NoRoom<(K, V)>>
     where
         K: Hash,
         requires { match_of K.eq self.old.entries (own_hashed K.hash_input key) ≡ None }
-        ensures place { IfOk result (λ i. i ≡ length self.old.entries) }
+        ensures index { IfOk result (λ i. i ≡ length self.old.entries) }
         ensures puts_last { PutsLast (own_hashed K.hash_input key) value (key, value) self.old self.new result }
     {
         match self.push(Hashed::new(key), value) {
-            Ok(place) => Ok(place),
+            Ok(index) => Ok(index),
             Err(NoRoom((key, value))) => Err(NoRoom((key.into_key(), value))),
         }
     }
 
-    /// Puts a new key last under this hash, and answers its place, as [`SmallMap::push_own`] does.
+    /// Puts a new key last under this hash, and answers its index, as [`SmallMap::push_own`] does.
     pub fn push(&mut self, key: Hashed<K>, value: V) -> Result<usize, NoRoom<(Hashed<K>, V)>>
         requires { match_of K.eq self.old.entries key ≡ None }
-        ensures place { IfOk result (λ i. i ≡ length self.old.entries) }
+        ensures index { IfOk result (λ i. i ≡ length self.old.entries) }
         ensures puts_last { PutsLast key value (key, value) self.old self.new result }
     {
         // memory for the list and for the index is had before the entry is stored
         if let Err(_) = self.reserve(1) {
             return Err(NoRoom((key, value)));
         }
-        let place = self.entries.len();
+        let index = self.entries.len();
         self.index.note(key.hash());
         self.entries.push_reserved(key, value);
-        Ok(place)
+        Ok(index)
     }
 
-    // The key and the value at a place, the value to be written.
+    // The key and the value at an index, the value to be written.
     #[inline]
     pub(crate) fn entry_mut(&mut self, index: usize) -> (&K, &mut V)
         requires { index < length self.old.entries }

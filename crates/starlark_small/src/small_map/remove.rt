@@ -57,7 +57,7 @@ impl<K: Eq, V> SmallMap<K, V> {
         self.shift_remove_hashed_entry(Hashed::new(key))
     }
 
-    /// Removes the entry at a place, and answers its key and value. Those after it move up. Capacity and index stay.
+    /// Removes the entry at an index, and answers its key and value. Those after it move up. Capacity and index stay.
     pub fn shift_remove_index(&mut self, index: usize) -> Option<(K, V)>
         ensures { TakesAt K.eq index self.old self.new result }
     {
@@ -65,7 +65,7 @@ impl<K: Eq, V> SmallMap<K, V> {
         Some((key.into_key(), value))
     }
 
-    /// Removes the entry at a place, and answers it. Those after it move up. Capacity and index stay.
+    /// Removes the entry at an index, and answers it. Those after it move up. Capacity and index stay.
     pub fn shift_remove_index_hashed(&mut self, index: usize) -> Option<(Hashed<K>, V)>
         ensures taken { result ≡ slice_get self.old.entries index }
         ensures takes { TakesAt K.eq index self.old self.new (option_map pair_of result) }
@@ -97,7 +97,7 @@ impl<K: Eq, V> SmallMap<K, V> {
         self.entries.clear();
     }
 
-    // Takes out the entry at a place. Those after it move up.
+    // Takes out the entry at an index. Those after it move up.
     fn take_at(&mut self, index: usize) -> (Hashed<K>, V)
         requires { index < length self.old.entries }
         ensures taken { slice_get self.old.entries index ≡ Some result }

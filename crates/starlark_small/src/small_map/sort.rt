@@ -12,7 +12,7 @@ use std::alloc::AllocError;
 
 impl<K: Eq, V> SmallMap<K, V> {
     /// Sorts by key; entries with equal keys keep their order. Where the keys ascend already it asks for no memory, and
-    /// neither an entry nor a place of the index is touched. A refusal leaves the entries as they were. Capacity and
+    /// neither list nor index is touched. A refusal leaves the entries as they were. Capacity and
     /// index stay.
     pub fn sort_keys(&mut self) -> Result<(), AllocError>
     where

@@ -1,7 +1,7 @@
 //! The items of a `ReadyTable`, to be written along the walk.
 ghost use Rattle.std.specs.Prelude.{◌≡◌, ℕ};
 ghost use Rattle.std.specs.Borrow.{sem};
-ghost use Rattle.starlark_columns.specs.Loan.{places_follow};
+ghost use Rattle.starlark_columns.specs.Loan.{cells_follow};
 ghost use Rattle.starlark_table.specs.Layout.{IsTagged};
 ghost use Rattle.starlark_table.specs.Lend.{Member, tags_stay};
 ghost use Rattle.starlark_table.specs.Table.{items_of};
@@ -20,7 +20,7 @@ use starlark_columns::loan::{First, Keeps};
 fn lend_members<T, H: KeptHash, P: Keeps<(Kept<H>, T)>>(
     slots: &mut Slots<T, H>,
 ) -> starlark_columns::Loan<'_, (Kept<H>, T), P>
-    ensures* writes_back { sem 𝓛 (places_follow (Member T.row H.row ⟦<H as KeptHash>⟧) P.kept slots.entry result.tie) }
+    ensures* writes_back { sem 𝓛 (cells_follow (Member T.row H.row ⟦<H as KeptHash>⟧) P.kept slots.entry result.tie) }
     ensures untouched { result.from ≡ 0 }
     ensures rest { result.rest ≡ slots.old }
 {
@@ -42,7 +42,7 @@ fn lend_fields<'a, T, H: KeptHash, P: Keeps<(Kept<H>, T)>>(
     slots: &'a mut Slots<T, H>,
     tags: &'a mut Bytes,
 ) -> (starlark_columns::Loan<'a, (Kept<H>, T), P>, &'a Bytes)
-    ensures* slots { sem 𝓛 (places_follow (Member T.row H.row ⟦<H as KeptHash>⟧) P.kept slots.entry result.0.tie) }
+    ensures* slots { sem 𝓛 (cells_follow (Member T.row H.row ⟦<H as KeptHash>⟧) P.kept slots.entry result.0.tie) }
     ensures* tags { sem 𝓛 (tags_stay tags.entry) }
     ensures untouched { result.0.from ≡ 0 }
     ensures rest { result.0.rest ≡ slots.old }
@@ -76,8 +76,8 @@ impl<T, H: KeptHash> ReadyTable<T, H> {
         ensures rest { (result.from ≡ 0) × (result.rest ≡ self.old.slots) }
     {
         let count = tags_beside(&self.slots);
-        let (places, tags) = self.lend_kept::<First>();
-        Loan::new(places, tags.as_slice(count))
+        let (slots, tags) = self.lend_kept::<First>();
+        Loan::new(slots, tags.as_slice(count))
     }
 
     /// The items along the walk, each for writing, with exact length and size hint. The table ends with the items that
@@ -88,7 +88,7 @@ impl<T, H: KeptHash> ReadyTable<T, H> {
         ensures items { result.0 ≡ items_of self.old }
     {
         let left = self.len();
-        let end = self.slots.places();
+        let end = self.slots.cells();
         IterMut::new(self.lend(), end, left)
     }
 }

@@ -19,8 +19,8 @@ impl<K, V, H: KeptHash> ReadyTable<(K, V), H> {
         ensures rest { (result.from ≡ 0) × (result.rest ≡ self.old.slots) }
     {
         let count = tags_beside(&self.slots);
-        let (places, tags) = self.lend_kept::<AllButLast>();
-        PairLoan::new(places, tags.as_slice(count))
+        let (slots, tags) = self.lend_kept::<AllButLast>();
+        PairLoan::new(slots, tags.as_slice(count))
     }
 
     /// The pairs along the walk, each value for writing, with exact length and size hint. There are fewer than 2^64 of
@@ -32,7 +32,7 @@ impl<K, V, H: KeptHash> ReadyTable<(K, V), H> {
         ensures fits { length (items_of self.old) < 2 ^ 64 }
     {
         let left = self.len();
-        let end = self.slots.places();
+        let end = self.slots.cells();
         PairsMut::new(self.lend_pairs(), end, left)
     }
 }

@@ -1,4 +1,4 @@
-//! Places of a set that a query, or a hash and a closure choose: those of its map.
+//! Slots of a set that a query, or a hash and a closure choose: those of its map.
 ghost use Rattle.std.specs.Prelude.{◌≡◌, true, Some, None, IfSome};
 ghost use Rattle.std.specs.Borrow.{sem};
 ghost use Rattle.std.specs.Map.{lookup};
@@ -17,12 +17,12 @@ use crate::unordered_map::UnorderedMap;
 use starlark_hash::{HashQuery, Hashed, NoRoom, Query, StarlarkHashValue};
 use std::hash::Hash;
 
-/// A set whose place is still to be named. Let go, it leaves the set as it was.
+/// A set whose slot is still to be named. Let go, it leaves the set as it was.
 pub struct RawEntryBuilderMut<'a, T: Eq + Hash> {
     map: &'a mut UnorderedMap<T, ()>,
 }
 
-/// The place that was chosen, which has an element or lacks one.
+/// The slot that was chosen, which has an element or lacks one.
 #[derive(Drop)]
 pub enum RawEntryMut<'a, T: Eq + Hash> {
     /// An element was found.
@@ -65,7 +65,7 @@ impl<T: Eq + Hash> Drop for RawVacantEntryMut<'_, T> {
 impl<T: Eq + Hash> UnorderedSet<T> {
     ghost use Rattle.starlark_unordered.specs.SetLend.{lends_entry};
 
-    /// The set, whose place is to be named by a query, or by a hash and a closure.
+    /// The set, whose slot is to be named by a query, or by a hash and a closure.
     #[inline]
     pub fn raw_entry_mut(&mut self) -> RawEntryBuilderMut<'_, T>
         ensures* writes_back { sem 𝓛 (lends_entry T.row T.Hash self.entry result) }

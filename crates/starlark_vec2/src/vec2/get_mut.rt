@@ -8,7 +8,7 @@ ghost use Rattle.starlark_columns.specs.Front.{IsFront};
 ghost use Rattle.starlark_vec2.specs.PairList.{firsts_of};
 ghost use Rattle.starlark_vec2.specs.Lend.{deref_both_mut, lends_first, lends_firsts, lends_both, lends_both_if, firsts_follow};
 ghost use Rattle.starlark_columns.specs.Lend.{lends_item};
-ghost use Rattle.starlark_vec2.specs.Columns.{lends_place_if, lends_places};
+ghost use Rattle.starlark_vec2.specs.Columns.{lends_cell_if, lends_cells};
 
 use super::Vec2;
 use crate::loan::Loan;
@@ -95,24 +95,24 @@ impl<K, V, B> Vec2<(K, V), B> {
     }
 }
 
-// The item at this place of the column in front.
+// The item at this index of the column in front.
 #[inline]
 fn lend_front<T>(column: &mut Row<T>, spot: Spot<T>, index: usize) -> &mut T
     requires at { spot.address.at ≡ column.old.at }
-    requires filled { IsFilled column.old.places index }
+    requires filled { IsFilled column.old.cells index }
     ensures* writes_back { sem 𝓛 (lends_item T.row column.entry index result) }
-    ensures value { get_or column.old.places index None ≡ Some result.now }
+    ensures value { get_or column.old.cells index None ≡ Some result.now }
 {
     column.get_mut(spot.address, index)
 }
 
-// The item at this place of the column behind, by the spot of the block.
+// The item at this index of the column behind, by the spot of the block.
 #[inline]
 fn lend_behind<T, B>(column: &mut Row<T>, spot: Spot<B>, index: usize) -> &mut T
     requires at { IsBehind B.row T.row spot column.old.at }
-    requires filled { IsFilled column.old.places index }
+    requires filled { IsFilled column.old.cells index }
     ensures* writes_back { sem 𝓛 (lends_item T.row column.entry index result) }
-    ensures value { get_or column.old.places index None ≡ Some result.now }
+    ensures value { get_or column.old.cells index None ≡ Some result.now }
 {
     column.get_mut(second_at(spot), index)
 }
@@ -126,9 +126,9 @@ fn lend_behind_if<T, B>(
     index: usize,
 ) -> Option<&mut T>
     requires at { IsBehind B.row T.row spot column.old.at }
-    requires front { IsFront column.old.places len }
-    ensures* writes_back { sem 𝓛 (lends_place_if T.row column.entry index result) }
-    ensures value { slice_get (items_of column.old.places) index ≡ option_copied_mut result }
+    requires front { IsFront column.old.cells len }
+    ensures* writes_back { sem 𝓛 (lends_cell_if T.row column.entry index result) }
+    ensures value { slice_get (items_of column.old.cells) index ≡ option_copied_mut result }
 {
     if index < len {
         Some(column.get_mut(second_at(spot), index))
@@ -137,7 +137,7 @@ fn lend_behind_if<T, B>(
     }
 }
 
-// The items at this place of two columns of a block, the second in front.
+// The items at this index of two columns of a block, the second in front.
 #[inline]
 fn lend_columns<'a, A, B>(
     firsts: &'a mut Row<A>,
@@ -147,10 +147,10 @@ fn lend_columns<'a, A, B>(
 ) -> (&'a mut A, &'a mut B)
     requires behind { IsBehind B.row A.row spot firsts.old.at }
     requires front { spot.address.at ≡ seconds.old.at }
-    requires in_firsts { IsFilled firsts.old.places index }
-    requires in_seconds { IsFilled seconds.old.places index }
-    ensures* writes_back { sem 𝓛 (lends_places A.row B.row firsts.entry seconds.entry index result) }
-    ensures values { (get_or firsts.old.places index None ≡ Some result.0.now) × (get_or seconds.old.places index None ≡ Some result.1.now) }
+    requires in_firsts { IsFilled firsts.old.cells index }
+    requires in_seconds { IsFilled seconds.old.cells index }
+    ensures* writes_back { sem 𝓛 (lends_cells A.row B.row firsts.entry seconds.entry index result) }
+    ensures values { (get_or firsts.old.cells index None ≡ Some result.0.now) × (get_or seconds.old.cells index None ≡ Some result.1.now) }
 {
     let first = lend_behind(firsts, spot, index);
     let second = lend_front(seconds, spot, index);

@@ -18,7 +18,7 @@ pub struct IntoIter<A, B> {
     // Where the pairs that are left begin and end.
     from: usize,
     to: usize,
-    // Where the block begins, and how many places either column has.
+    // Where the block begins, and how many indices either column has.
     spot: Spot<B>,
     alloc: Global,
     block: Block<B, A>,
@@ -32,9 +32,9 @@ impl<A, B> Model for IntoIter<A, B> {
 
     ghost Value = { List (A × B) };
 
-    ghost view = { λ it. zip (items_of it.firsts.places) (items_of it.seconds.places) };
+    ghost view = { λ it. zip (items_of it.firsts.cells) (items_of it.seconds.cells) };
 
-    ghost invariant = { λ it. IsBetween it.firsts.places it.from it.to × IsBetween it.seconds.places it.from it.to × IsBlockOf it.block it.seconds it.firsts × IsSpotOf it.spot it.block };
+    ghost invariant = { λ it. IsBetween it.firsts.cells it.from it.to × IsBetween it.seconds.cells it.from it.to × IsBlockOf it.block it.seconds it.firsts × IsSpotOf it.spot it.block };
 }
 
 impl<A: Drop, B: Drop> Iterator for IntoIter<A, B> {

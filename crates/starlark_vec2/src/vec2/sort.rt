@@ -86,23 +86,23 @@ fn positions(alloc: Global, n: usize) -> Result<Vec<usize>, AllocError>
     Ok(all)
 }
 
-// Moves the pairs in place, so that each place has the pair whose position stands there in the order.
+// Moves the pairs in place, so that each index has the pair whose position stands there in the order.
 fn put_in_order<A, B>(firsts: &mut [A], seconds: &mut [B], mut order: Vec<usize>)
     requires even { length firsts.old ≡ length seconds.old }
     requires positions { IsPermutation (range_with_len 0 (length firsts.old)) order.items }
     ensures { PutsInOrder (zip firsts.old seconds.old) order.items (zip firsts.new seconds.new) }
 {
-    let mut place = 0;
-    while place < order.len() {
-        let from = order[place];
-        if from == place {
-            place += 1;
+    let mut index = 0;
+    while index < order.len() {
+        let from = order[index];
+        if from == index {
+            index += 1;
         } else {
             // The pair that belongs to `from` comes there, and what stood there goes where that pair was.
             let next = order[from];
             firsts.swap(from, next);
             seconds.swap(from, next);
-            order.swap(place, from);
+            order.swap(index, from);
         }
     }
 }

@@ -1,4 +1,4 @@
-//! `Vec2::sort_pairs_with_moves_by`: the pairs are sorted behind their places, which then tell where they went.
+//! `Vec2::sort_pairs_with_moves_by`: the pairs are sorted behind their indices, which then tell where they went.
 ghost use Rattle.std.specs.Prelude.{◌≡◌, ◌≤◌, ◌^◌, [], length, map, IfOk, OnOk, OnErr, IsPermutation};
 ghost use Rattle.std.specs.List.{enumerate_from, range_with_len};
 ghost use Rattle.starlark_vec2.specs.Sort.{Moves, PutsInOrder, SortsNumbered};
@@ -9,8 +9,8 @@ use std::alloc::AllocError;
 use std::cmp::Ordering;
 
 impl<A, B> Vec2<A, B> {
-    /// Sorts the pairs as `sort_pairs_by` does, and answers for each place the one to which its pair went. The closure
-    /// sees each pair behind the place where it stood. It is refused where memory is not found, and where places do not
+    /// Sorts the pairs as `sort_pairs_by` does, and answers for each index the one to which its pair went. The closure
+    /// sees each pair behind the index where it stood. It is refused where memory is not found, and where indices do not
     /// fit in 32 bits; the list is then as it was.
     pub fn sort_pairs_with_moves_by<F: FnMut(&(u32, (A, B)), &(u32, (A, B))) -> Ordering>(
         &mut self,
@@ -35,7 +35,7 @@ impl<A, B> Vec2<A, B> {
         Ok(to)
     }
 
-    // Moves the pairs to a vector, in their order, each behind its place. The capacity stays.
+    // Moves the pairs to a vector, in their order, each behind its index. The capacity stays.
     fn take_numbered(&mut self) -> Result<Vec<(u32, (A, B))>, AllocError>
         requires few { length self.old.pairs ≤ 2 ^ 32 }
         ensures pairs { IfOk result (λ taken. taken.items ≡ enumerate_from 0 self.old.pairs) }
@@ -65,14 +65,14 @@ impl<A, B> Vec2<A, B> {
     }
 }
 
-// Notes for each place that stands before an item where the item stands now.
+// Notes for each index that stands before an item where the item stands now.
 fn note_moves<X>(numbered: &[(u32, X)], to: &mut [u32])
-    requires places { IsPermutation (range_with_len 0 (length to.old)) (map (λ p. p.0) numbered.now) }
+    requires indices { IsPermutation (range_with_len 0 (length to.old)) (map (λ p. p.0) numbered.now) }
     requires few { length to.old ≤ 2 ^ 32 }
     ensures { PutsInOrder to.new (map (λ p. p.0) numbered.now) (range_with_len 0 (length to.old)) }
 {
     for j in 0..numbered.len() {
-        let place = numbered[j].0;
-        to[place as usize] = j as u32;
+        let index = numbered[j].0;
+        to[index as usize] = j as u32;
     }
 }

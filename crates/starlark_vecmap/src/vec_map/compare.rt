@@ -1,4 +1,4 @@
-//! A `VecMap`'s entries compared and hashed, place by place.
+//! A `VecMap`'s entries compared and hashed, item by item.
 ghost use Rattle.std.specs.Prelude.{◌≡◌, fold};
 ghost use Rattle.starlark_hash.specs.Compare.{same_ordered, ordered_feed};
 
@@ -7,7 +7,7 @@ use crate::columns::hash_columns;
 use std::hash::{Hash, Hasher};
 
 impl<K, V> VecMap<K, V> {
-    /// Whether both maps have as many entries and, place by place, the same hash, equal keys and equal values.
+    /// Whether both maps have as many entries and, item by item, the same hash, equal keys and equal values.
     pub fn eq_ordered(&self, other: &Self) -> bool
     where
         K: PartialEq,

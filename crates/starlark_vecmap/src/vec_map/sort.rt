@@ -39,8 +39,8 @@ impl<K, V> VecMap<K, V> {
         )
     }
 
-    /// Sorts the entries as `sort_keys` does, and answers for each place the one to which its entry went. It asks for
-    /// memory where the keys ascend already, too. It is refused where memory is not found, and where places do not fit
+    /// Sorts the entries as `sort_keys` does, and answers for each index the one to which its entry went. It asks for
+    /// memory where the keys ascend already, too. It is refused where memory is not found, and where indices do not fit
     /// in 32 bits; the map is then as it was.
     pub fn sort_keys_with_moves(&mut self) -> Result<Vec<u32>, AllocError>
     where

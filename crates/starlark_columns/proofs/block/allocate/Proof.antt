@@ -1,4 +1,4 @@
--- `allocate` asks for an array's block, and keeps its bare places apart from the right to give it back. Assumes `Logic`.
+-- `allocate` asks for an array's block, and keeps its bare cells apart from the right to give it back. Assumes `Logic`.
 use Rattle.starlark_columns.proofs.Walking.{◌≡◌, ℕ, ◌*◌, ◌<◌, ◌^◌, Option, Bool, true, false, List, [], ◌∷◌, length, refl, sym, ap, subst, arith, lit<, w64, IfOk, Ok, Err, Fml, ftrue, fsep, froom, flft, Incl-trans, SProp, emp, ◌⊑◌, fact, fact_i, tables, eqb, length-replicate, cond, inst_fn, Ty, named, ty_array, Val, vint, vptr, vstruct, vcons, vnil, WT, capped_fits, align, capped, Wp, after_seq, at_return, alloc_all, pass_all, free_all, look_at, get, get_in, get_tag, is, sets, sets_last, lands_as, env, After, any_q, ‵, raw, ◌⊛◌, later, at_ret, ◌$◌, ◌∵◌, !, qed, by, move, keep, use0, use1, use2, use3, split, join, rewrite, fsplit, fjoin, fjoin3, flt_i, await, live, vrt, in_variant, whole, agg, stop, fld, lit, size_word, align_word, no_more, and_then, of_opd, bin, first, switches_on, exec, returns, enter, RefOf, usize, yes, Is, param, uint_vals, uint_Tells, RattleType, owns, Ptr, block_ptr, shr_vals, shr_Tells, plain, types_at, heard, nothing, owned, Struct, Struct-Makes, Tuple, calls_at, framed, Stays, stay_dropped, walk_of, Goes-dropped, Al, token, Answer-typed, Takes, at_takes, Answered, Takes-goes, Takes-gives, answers, El, elτ, after, head, arm_body, uncapped, block_ty, block_size, block_align, args, proved, leaves, type_size, FitsInBlock, ok_of, err_of, None, R, empties}
 use denote.RawPtr.{InBlock}
 use mir.Syntax.{Body}
@@ -32,7 +32,7 @@ allocate_spec 𝓤 𝓛 𝓜 𝓡 wired X U L LU g d dd met _ =
     let κ = κs.0 in let q = qs.0 in let handle : ℕ × ℕ = a.0.ref_ptr in let giver : U.Denot = a.0.now in let many : ℕ = a.1.0 in let each : ℕ = type_size (R E) in let step : ℕ = capped (align (elτ E)) in let τ : Ty = block_ty E many in
     let bound : (walk_of 𝓛 En hs c).Ghost = ((κs, qs, bounds, a, (vptr handle.0 handle.1 ∷ [], (vint w64 many ∷ [], tt))), gh) in let Ends : Val → SProp 𝓤 = (walk_of 𝓛 En hs c).post bound in
     let others : Fml = fsep (flft κs.1.0 qs.1.0) (fsep (flft κs.1.1.0 qs.1.1.0) ftrue) in let cs : List (Option X.Denot) = empties many in
-    let Promised : Out.Denot → Type 0 = λ got. IfOk got (λ t. (t.1.at ≡ t.0.at) × (t.1.places ≡ cs) × (t.2.at ≡ t.0.at) × (t.2.count ≡ many) × (t.2.alloc ≡ giver) × InBlock t.0.at) in
+    let Promised : Out.Denot → Type 0 = λ got. IfOk got (λ t. (t.1.at ≡ t.0.at) × (t.1.cells ≡ cs) × (t.2.at ≡ t.0.at) × (t.2.count ≡ many) × (t.2.alloc ≡ giver) × InBlock t.0.at) in
     qed 𝓛 (((‵ (flft κ q) ⊛ ‵ others) ⊛ ‵ (owns (types_at En.signature.params κs) a bound.0.4)) ∷ raw (fact 𝓤 (κs.1.0 ⊑ X.lives)) ∷ raw (fact 𝓤 (κs.1.1.0 ⊑ U.lives)) ∷ raw (fact 𝓤 (FitsInBlock (R E) many)) ∷ raw (fact 𝓤 (0 < many * each)) ∷ []) ∵
     keep ! (2 ∷ 3 ∷ 4 ∷ 0 ∷ []) $ heard ! (κs.1.1.0 ⊑ U.lives) (λ within. heard ! (FitsInBlock (R E) many) (λ fits. heard ! (0 < many * each) (λ some. split ! $ split ! $ move ! (2 ∷ []) $ fsplit ! $ fsplit ! $ keep ! (1 ∷ 3 ∷ 4 ∷ []) $
     let below : many * each < 2 ^ 63 = fits.0 in let short : many * each < 2 ^ 64 = omega arith in
@@ -47,7 +47,7 @@ allocate_spec 𝓤 𝓛 𝓜 𝓡 wired X U L LU g d dd met _ =
     use1 𝓛 (later (raw (Answered Z 𝓛 𝓜.mem 𝓡.returns giver τ v) ⊛ ‵ (flft κ q))) (Takes-gives Z 𝓛 𝓜.mem 𝓡.returns κ q handle giver (many * each) step τ v) $
     await ! tt $ split ! $ move ! (1 ∷ 2 ∷ []) $ join ! $ move ! (1 ∷ []) $ answers Z ! 𝓜.mem 𝓡.returns giver τ v
     (λ b o e. let p : Ptr = block_ptr b o in let nought : WT mark = (tt, tt) in
-    let x : Three.Denot = (record { at = p }, record { mark = record {}; at = p; places = cs }, record { mark = record {}; at = p; count = many; alloc = giver }) in
+    let x : Three.Denot = (record { at = p }, record { mark = record {}; at = p; cells = cs }, record { mark = record {}; at = p; count = many; alloc = giver }) in
     let inner : Val = vstruct (vcons (word p) (vcons mark (vcons mark vnil))) in let outer : Val = live 0 (vcons inner vnil) in let inside : WT inner = ((tt, tt), (nought, (nought, tt))) in let typed : WT outer = (record { fits = lit< tt }, (inside, tt)) in
     lands_as ! e refl (Answer-typed true b o) $
     first ! $ switches_on ! (get_tag ! (vrt ! refl (fld ! refl (stop !))) (whole !)) $ exec ! 𝓣.C 𝓣.Λ here (arm_body 0 arms) Onward $ sets ! (of_opd ! (get_in ! (vrt ! refl (fld ! refl (stop !))) (in_variant ! 0 0 refl refl (whole !)))) refl (tt, tt) $ sets ! (of_opd ! (get ! refl)) refl (tt, tt) $

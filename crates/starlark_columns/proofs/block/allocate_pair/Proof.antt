@@ -1,4 +1,4 @@
--- `allocate_pair` asks for a block of two arrays, and cuts it into the places of both and the right to give it back. Assumes `Logic`.
+-- `allocate_pair` asks for a block of two arrays, and cuts it into the cells of both and the right to give it back. Assumes `Logic`.
 use Rattle.starlark_columns.proofs.Walking.{◌≡◌, ℕ, ◌+◌, ◌*◌, ◌<◌, ◌^◌, Option, Bool, true, false, List, [], ◌∷◌, length, refl, sym, ap, subst, ◌∙◌, lit<, w64, IfOk, Ok, Err, Fml, ftrue, fsep, froom, flft, Incl-trans, SProp, emp, ◌⊑◌, fact, fact_i, tables, eqb, length-replicate, cond, inst_fn, bare, Ty, named, ty_array, a_type, dcons, dnil, Val, vint, vptr, vstruct, vcons, vnil, WT, capped, size-raw, align-raw, Wp, after_seq, at_return, alloc_all, pass_all, free_all, look_at, get, get_in, get_tag, sets, sets_last, lands_as, env, After, any_q, ‵, raw, ◌⊛◌, later, at_ret, ◌$◌, ◌∵◌, !, qed, by, move, keep, use0, use1, use2, split, split3, join, group, rewrite, fsplit, fjoin, feq_i, flt_i, await, live, vrt, in_variant, whole, agg, stop, fld, lit, no_more, and_then, of_opd, first, switches_on, exec, returns, enter, RefOf, usize, yes, Is, param, bounded, uint_vals, uint_Tells, RattleType, owns, Ptr, block_ptr, shr_vals, shr_Tells, plain, types_at, heard, nothing, owned, Struct, Struct-Makes, Tuple, calls_at, framed, Stays, stay_dropped, walk_of, Goes-dropped, Al, token, Answer-typed, Takes, at_takes, Answered, Takes-goes, Takes-gives, answers, El, elτ, HasLayout, after, head, arm_body, proved, leaves, type_size, ok_of, err_of, None, R, empties}
 use mir.Syntax.{Body}
 use denote.Struct.Declared as Declared
@@ -32,7 +32,7 @@ allocate_pair_spec 𝓤 𝓛 𝓜 𝓡 wired X Y U L LY LU g d dd met _ =
     let s : ℕ = type_size (R E) in let t : ℕ = type_size S in let ω : Ty = two_arrays (elτ E) (elτ F) n in let τ : Ty = bare ω in
     let y : (walk_of 𝓛 En hs c).Ghost = ((κs, qs, bounds, a, (vptr hp.0 hp.1 ∷ [], (vint w64 n ∷ [], (vint w64 z ∷ [], (vint w64 al ∷ [], tt))))), gh) in let Post : Val → SProp 𝓤 = (walk_of 𝓛 En hs c).post y in
     let others : Fml = fsep (flft κs.1.0 qs.1.0) (fsep (flft κs.1.1.0 qs.1.1.0) (fsep (flft κs.1.1.1.0 qs.1.1.1.0) ftrue)) in let cs : List (Option X.Denot) = empties n in let es : List (Option Y.Denot) = empties n in
-    let Told : Out.Denot → Type 0 = λ r. IfOk r (λ t. (t.1.at ≡ t.0.at) × (t.1.places ≡ cs) × (t.2.places ≡ es) × (t.3.firsts ≡ t.0.at) × (t.3.seconds ≡ t.2.at) × (t.3.count ≡ n) × (t.3.alloc ≡ h)) in
+    let Told : Out.Denot → Type 0 = λ r. IfOk r (λ t. (t.1.at ≡ t.0.at) × (t.1.cells ≡ cs) × (t.2.cells ≡ es) × (t.3.firsts ≡ t.0.at) × (t.3.seconds ≡ t.2.at) × (t.3.count ≡ n) × (t.3.alloc ≡ h)) in
     qed 𝓛 (((‵ (flft κ q) ⊛ ‵ others) ⊛ ‵ (owns (types_at En.signature.params κs) a y.0.4)) ∷ raw (fact 𝓤 (κs.1.0 ⊑ X.lives)) ∷ raw (fact 𝓤 (κs.1.1.0 ⊑ Y.lives)) ∷ raw (fact 𝓤 (κs.1.1.1.0 ⊑ U.lives))
     ∷ raw (fact 𝓤 (HasLayout (pair_ty (R E) S n) z al)) ∷ raw (fact 𝓤 (skipped (R E) S n ≡ second_offset (R E) S n)) ∷ raw (fact 𝓤 (z < 2 ^ 63)) ∷ raw (fact 𝓤 (0 < n * (s + t))) ∷ []) ∵
     keep ! (3 ∷ 4 ∷ 5 ∷ 6 ∷ 7 ∷ 0 ∷ []) $ heard ! (κs.1.1.1.0 ⊑ U.lives) (λ within. heard ! (HasLayout (pair_ty (R E) S n) z al) (λ laid. heard ! (skipped (R E) S n ≡ second_offset (R E) S n) (λ at. heard ! (z < 2 ^ 63) (λ fits. heard ! (0 < n * (s + t)) (λ some.
@@ -50,7 +50,7 @@ allocate_pair_spec 𝓤 𝓛 𝓜 𝓡 wired X Y U L LY LU g d dd met _ =
     use1 𝓛 (later (raw (Answered Z 𝓛 𝓜.mem 𝓡.returns h τ v) ⊛ ‵ (flft κ q))) (Takes-gives Z 𝓛 𝓜.mem 𝓡.returns κ q hp h z al τ v) $ await ! tt $ split ! $
     move ! (1 ∷ 2 ∷ []) $ join ! $ move ! (1 ∷ []) $ answers Z ! 𝓜.mem 𝓡.returns h τ v
     (λ b o e. let p : Ptr = block_ptr b o in let r : Ptr = block_ptr b (o + far) in let marked : WT mark = (tt, tt) in
-    let x : Four.Denot = (record { at = p }, record { mark = record {}; at = p; places = cs }, record { mark = record {}; at = r; places = es }, record { mark = record {}; firsts = p; seconds = r; count = n; alloc = h }) in
+    let x : Four.Denot = (record { at = p }, record { mark = record {}; at = p; cells = cs }, record { mark = record {}; at = r; cells = es }, record { mark = record {}; firsts = p; seconds = r; count = n; alloc = h }) in
     let u : Val = vstruct (vcons (word p) (vcons mark (vcons mark (vcons mark vnil)))) in let w : Val = live 0 (vcons u vnil) in
     let good : WT u = ((tt, tt), (marked, (marked, (marked, tt)))) in let all : WT w = (record { fits = lit< tt }, (good, tt)) in
     lands_as ! e refl (Answer-typed true b o) $ first ! $ switches_on ! (get_tag ! (vrt ! refl (fld ! refl (stop !))) (whole !)) $ exec ! 𝓣.C 𝓣.Λ Ev (arm_body 0 both) Then $
@@ -69,7 +69,7 @@ allocate_pair_spec 𝓤 𝓛 𝓜 𝓡 wired X Y U L LY LU g d dd met _ =
     use0 𝓛 (‵ ((RowMark (R E)).own_val (tt, tt) (mark ∷ []))) (row_mark_made (R E) 𝓛) $ fjoin ! $ move ! (1 ∷ []) $
     use1 𝓛 (‵ (Row F 𝓛 b (o + far) es)) (of_room F 𝓛 b n (o + far)) $ flt_i ! (length es * t) (2 ^ 63) (subst (λ k. k * t < 2 ^ 63) (sym (length-replicate n None)) less.1) $ fjoin ! $
     use0 𝓛 (‵ ((RowMark S).own_val (tt, tt) (mark ∷ []))) (row_mark_made S 𝓛) $ fjoin ! $ move ! (3 ∷ 2 ∷ []) $ fjoin ! $
-    -- [the right with the way back; the second places; the first; the tokens]
+    -- [the right with the way back; the second cells; the first; the tokens]
     rewrite ! 0 (λ (z : Bool). ‵ (cond z ftrue (fsep (token Z h τ p) (rooms_rejoin (elτ E) (elτ F) p r n)))) {x = eqb (n * (s + t)) 0} {y = false} (sym (some_weight (n * (s + t)) some)) refl $
     feq_i ! (Ptr × Ptr) (p, r) (p, r) refl $ fjoin ! $ use0 𝓛 (‵ ((PairClaimData (R E) S W g).own_val (tt, tt) (mark ∷ []))) (pair_claim_made (R E) S W g 𝓛) $ fjoin ! $
     use0 𝓛 (‵ (At.own_val x.0 (word p ∷ []))) (address_made (R E) 𝓛 p) $ move ! (0 ∷ 3 ∷ 2 ∷ 1 ∷ []) $ group ! 4 $

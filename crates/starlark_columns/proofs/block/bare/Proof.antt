@@ -1,4 +1,4 @@
--- `bare` makes places of no bytes out of nothing. Assumes `Logic`.
+-- `bare` makes cells of no bytes out of nothing. Assumes `Logic`.
 use Rattle.starlark_columns.proofs.Walking.{◌≡◌, Option, ℕ, ◌*◌, ◌<◌, ◌^◌, List, [], ◌∷◌, length, refl, sym, subst, lit<, w64, ftrue, flft, emp, ◌⊑◌, fact, fact_i, length-replicate, inst_fn, a_type, Val, vint, vstruct, vcons, vnil, alloc_all, pass_all, free_all, look_at, get, sets, ‵, raw, ◌⊛◌, ◌$◌, ◌∵◌, !, qed, by, move, keep, use0, use2, split, fjoin, flt_i, agg, stop, from, addr, and_then, no_more, returns, enter, usize, yes, layouts, uint_vals, uint_Tells, owns, Ptr, block_ptr, plain, types_at, heard, nothing, Tuple, Stays, stay_dropped, walk_of, Goes-dropped, El, proved, leaves, type_size, None, R, empties}
 use Rattle.starlark_columns.proofs.Fields.{word, mark, both, address_made, RowMark, row_mark_made}
 use Rattle.starlark_columns.proofs.Memory.{Row, weightless}
@@ -26,7 +26,7 @@ bare_spec 𝓤 𝓛 𝓜 𝓡 wired X L =
     sets ! (agg ! (and_then ! (get ! refl) (and_then ! (get ! refl) (no_more !)))) refl (tt, ((tt, tt), ((tt, tt), tt))) $
     returns ! (look_at ! 0 refl) $ free_all ! refl $
     let p : Ptr = block_ptr (l 2) 0 in let v : Val = vstruct (vcons (word p) (vcons mark vnil)) in let cs : List (Option X.Denot) = empties n in let At = address.the_row (R E) in let Own = row.the_row (R E) in
-    let r : At.Denot × Own.Denot = (record { at = p }, record { mark = record {}; at = p; places = cs }) in let Told : Type 0 = (p ≡ p) × (cs ≡ cs) in
+    let r : At.Denot × Own.Denot = (record { at = p }, record { mark = record {}; at = p; cells = cs }) in let Told : Type 0 = (p ≡ p) × (cs ≡ cs) in
     let few : length cs * s < 2 ^ 63 = subst (λ k. k * s < 2 ^ 63) (sym (length-replicate n None)) (subst (λ k. k < 2 ^ 63) (sym light) (lit< tt)) in
     use0 𝓛 (‵ (Row E 𝓛 (l 2) 0 cs)) (weightless E 𝓛 (l 2) n 0 light) $ flt_i ! (length cs * s) (2 ^ 63) few $ fjoin ! $
     use0 𝓛 (‵ ((RowMark (R E)).own_val (tt, tt) (mark ∷ []))) (row_mark_made (R E) 𝓛) $ fjoin ! $

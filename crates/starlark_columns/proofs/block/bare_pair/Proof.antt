@@ -1,4 +1,4 @@
--- `bare_pair` makes places of no bytes out of nothing, and a right to nothing. Assumes `Logic`.
+-- `bare_pair` makes cells of no bytes out of nothing, and a right to nothing. Assumes `Logic`.
 use Rattle.starlark_columns.proofs.Walking.{◌≡◌, ℕ, ◌+◌, ◌*◌, ◌<◌, ◌^◌, Option, List, [], ◌∷◌, length, Bool, true, refl, sym, ap, subst, arith, lit<, w64, eqb, cond, length-replicate, Fml, ftrue, fsep, flft, emp, ◌⊑◌, fact, fact_i, inst_fn, bare, a_type, named, dcons, dnil, Val, vint, vptr, vstruct, vcons, vnil, alloc_all, pass_all, free_all, look_at, get, sets, ‵, raw, ◌⊛◌, ◌$◌, ◌∵◌, !, qed, by, move, keep, use0, use1, split, group, fjoin, feq_i, flt_i, rewrite, agg, stop, from, addr, and_then, no_more, returns, enter, RefOf, usize, yes, lone, param, bounded, uint_vals, uint_Tells, RattleType, owns, Ptr, block_ptr, shr_vals, shr_Tells, plain, types_at, heard, nothing, Tuple, Stays, stay_dropped, walk_of, Goes-dropped, El, proved, leaves, type_size, None, R, empties}
 use Rattle.starlark_columns.specs.Pair.{two_arrays, rooms_rejoin, skipped}
 use Rattle.starlark_columns.proofs.Fields.{word, mark, four, address_made, RowMark, row_mark_made, PairClaimData, pair_claim_made}
@@ -35,7 +35,7 @@ bare_pair_spec 𝓤 𝓛 𝓜 𝓡 wired X Y U L LY LU g d dd met _ =
     sets ! (agg ! (and_then ! (get ! refl) (and_then ! (get ! refl) (and_then ! (get ! refl) (and_then ! (get ! refl) (no_more !)))))) refl (tt, ((tt, tt), ((tt, tt), ((tt, tt), ((tt, tt), tt))))) $
     returns ! (look_at ! 0 refl) $ free_all ! refl $
     let p : Ptr = block_ptr (l 3) 0 in let r : Ptr = block_ptr (l 3) (0 + far) in let v : Val = vstruct (vcons (word p) (vcons mark (vcons mark (vcons mark vnil)))) in let cs : List (Option X.Denot) = empties n in let es : List (Option Y.Denot) = empties n in
-    let x : Four.Denot = (record { at = p }, record { mark = record {}; at = p; places = cs }, record { mark = record {}; at = r; places = es }, record { mark = record {}; firsts = p; seconds = r; count = n; alloc = a.0.now }) in
+    let x : Four.Denot = (record { at = p }, record { mark = record {}; at = p; cells = cs }, record { mark = record {}; at = r; cells = es }, record { mark = record {}; firsts = p; seconds = r; count = n; alloc = a.0.now }) in
     let few : length cs * s < 2 ^ 63 = subst (λ k. k * s < 2 ^ 63) (sym (length-replicate n None)) (subst (λ k. k < 2 ^ 63) (sym first) (lit< tt)) in let fewer : length es * t < 2 ^ 63 = subst (λ k. k * t < 2 ^ 63) (sym (length-replicate n None)) (subst (λ k. k < 2 ^ 63) (sym second) (lit< tt)) in
     let owed = fsep (g.dealloc_token a.0.now (bare (two_arrays (lone (R E).mir) (lone S.mir) n)) p) (rooms_rejoin (lone (R E).mir) (lone S.mir) p r n) in
     let Told : Type 0 = (p ≡ p) × (cs ≡ cs) × (es ≡ es) × (p ≡ p) × (r ≡ r) × (n ≡ n) in

@@ -1,6 +1,6 @@
--- `deallocate` makes one room of the bare places, and hands it back with the right to do so. Assumes `Logic`.
+-- `deallocate` makes one room of the bare cells, and hands it back with the right to do so. Assumes `Logic`.
 use Rattle.starlark_columns.proofs.Walking.{◌≡◌, ℕ, ◌*◌, ◌<◌, ◌^◌, Option, Bool, false, List, [], ◌∷◌, refl, sym, ap, subst, ◌∙◌, arith, w64, Fml, ftrue, fsep, froom, flft, Incl-trans, SProp, never, id⊢, ◌⊑◌, fact, tables, eqb, length-replicate, cond, inst_fn, Ty, named, ty_unit, ty_array, Val, vunit, vint, vptr, has_ty, WT, capped_fits, align, capped, alloc_all, pass_all, free_all, look_at, get, get_in, is, sets, lands_last, env, ‵, raw, ◌⊛◌, given, later, at_ret, ◌$◌, ◌∵◌, !, qed, by, move, keep, use1, group, split, join, learn, rewrite, fsplit, fjoin, feq_i, flt_l, await, whole, sub, stop, fld, unit_lit, size_word, align_word, no_more, and_then, of_opd, bin, first, blocks, exec, returns, enter, RefOf, usize, yes, no, param, uint_vals, uint_Tells, RattleType, owns, Ptr, block_ptr, ptr_val, in_block, in_a_block, shr_vals, shr_Tells, plain, types_at, heard, nothing, calls_at_last, framed, Stays, stay_dropped, walk_of, Goes-dropped, Al, token, Gives, at_gives, Gives-goes, Gives-Gives, El, elτ, after, uncapped, block_ty, block_size, block_align, args, proved, leaves, type_size, None, T, R, empties}
-use Rattle.starlark_columns.specs.Ownership.{places_owned, row_owned}
+use Rattle.starlark_columns.specs.Ownership.{cells_owned, row_owned}
 use Rattle.starlark_columns.proofs.Fields.{word, word_good, mark, address_told, row_mark_told, claim_told}
 use Rattle.starlark_columns.proofs.Memory.{to_room}
 use Rattle.starlark_columns.proofs.PairRooms.{some_weight}
@@ -35,13 +35,13 @@ deallocate_spec 𝓤 𝓛 𝓜 𝓡 wired X U L LU g d dd met _ =
     let s : ℕ = type_size (R E) in let al : ℕ = capped (align (elτ E)) in let τ : Ty = block_ty E n in let cs : List (Option X.Denot) = empties n in
     let y : (walk_of 𝓛 En hs c).Ghost = ((κs, qs, bounds, a, (vptr hp.0 hp.1 ∷ [], (word p ∷ [], (vint w64 n ∷ [], (mark ∷ [], (mark ∷ [], tt)))))), gh) in let Post : Val → SProp 𝓤 = (walk_of 𝓛 En hs c).post y in
     let others : Fml = fsep (flft κs.1.0 qs.1.0) (fsep (flft κs.1.1.0 qs.1.1.0) ftrue) in
-    let Bare : Type 0 = (own.at ≡ p) × (own.places ≡ cs) in let Its : Type 0 = (right.at ≡ p) × (right.count ≡ n) × (right.alloc ≡ h) in
+    let Bare : Type 0 = (own.at ≡ p) × (own.cells ≡ cs) in let Its : Type 0 = (right.at ≡ p) × (right.count ≡ n) × (right.alloc ≡ h) in
     qed 𝓛 (((‵ (flft κ q) ⊛ ‵ others) ⊛ ‵ (owns (types_at En.signature.params κs) a y.0.4)) ∷ raw (fact 𝓤 (κs.1.0 ⊑ X.lives)) ∷ raw (fact 𝓤 (κs.1.1.0 ⊑ U.lives)) ∷ raw (fact 𝓤 Bare) ∷ raw (fact 𝓤 Its) ∷ raw (fact 𝓤 (0 < n * s)) ∷ []) ∵
     keep ! (2 ∷ 3 ∷ 4 ∷ 5 ∷ 0 ∷ []) $ heard ! (κs.1.1.0 ⊑ U.lives) (λ within. heard ! Bare (λ bare. heard ! Its (λ its. heard ! (0 < n * s) (λ some. split ! $ split ! $ move ! (2 ∷ []) $
     fsplit ! $ move ! (1 ∷ []) $ fsplit ! $ move ! (1 ∷ []) $ fsplit ! $ move ! (1 ∷ []) $ fsplit ! $ fsplit ! $ move ! (2 ∷ []) $ fsplit ! $ fsplit ! $ keep ! (4 ∷ 1 ∷ 7 ∷ 8 ∷ 9 ∷ []) $ move ! (2 ∷ []) $ fsplit ! $ keep ! (2 ∷ 3 ∷ 1 ∷ 4 ∷ 5 ∷ []) $
-    -- [the places; the right; the handle; its token; the other tokens]
-    rewrite ! 0 (λ (z : Ptr × List (Option X.Denot)). ‵ (row_owned (R E) z.0 z.1)) {x = (p, cs)} {y = (own.at, own.places)} (λ i. (bare.0 i, bare.1 i)) refl $ fsplit ! $ flt_l ! (λ fit.
-    in_a_block ! p (λ r. in_block r (places_owned (R E) r cs)) (id⊢ 𝓤 (never 𝓤)) (λ b o at.
+    -- [the cells; the right; the handle; its token; the other tokens]
+    rewrite ! 0 (λ (z : Ptr × List (Option X.Denot)). ‵ (row_owned (R E) z.0 z.1)) {x = (p, cs)} {y = (own.at, own.cells)} (λ i. (bare.0 i, bare.1 i)) refl $ fsplit ! $ flt_l ! (λ fit.
+    in_a_block ! p (λ r. in_block r (cells_owned (R E) r cs)) (id⊢ 𝓤 (never 𝓤)) (λ b o at.
     let small : n * s < 2 ^ 63 = subst (λ k. k * s < 2 ^ 63) (length-replicate n None) fit in let bytes : n * s < 2 ^ 64 = omega arith in
     rewrite ! 1 (λ (z : U.Denot × Ptr × ℕ × Bool). ‵ (cond z.3 ftrue (token Z z.0 (block_ty E z.2) z.1))) {x = (h, block_ptr b o, n, false)} {y = (right.alloc, right.at, right.count, eqb (right.count * s) 0)}
     (λ i. (its.2 i, (its.0 ∙ at) i, its.1 i, (ap (λ k. eqb (k * s) 0) its.1 ∙ some_weight (n * s) some) i)) refl $

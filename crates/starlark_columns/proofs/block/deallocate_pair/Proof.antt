@@ -1,6 +1,6 @@
--- `deallocate_pair` makes the block's room of the bare places of both rows, and hands it back with the right to do so. Assumes `Logic`.
+-- `deallocate_pair` makes the block's room of the bare cells of both rows, and hands it back with the right to do so. Assumes `Logic`.
 use Rattle.starlark_columns.proofs.Walking.{◌≡◌, ℕ, ◌+◌, ◌*◌, ◌<◌, Option, Bool, false, List, [], ◌∷◌, refl, sym, ap, subst, ◌∙◌, w64, Fml, ftrue, fsep, froom, flft, Incl-trans, SProp, never, id⊢, apply∗, ◌⊑◌, fact, tables, eqb, cond, inst_fn, bare, Ty, named, ty_unit, ty_array, a_type, dcons, dnil, Val, vunit, vint, vptr, has_ty, WT, capped, size-raw, align-raw, alloc_all, pass_all, free_all, look_at, get, get_in, is, sets, lands_last, env, sem, ‵, raw, ◌⊛◌, given, later, at_ret, ◌$◌, ◌∵◌, !, qed, by, move, keep, use1, use2, group, split, join, learn, rewrite, fsplit, fjoin, feq_i, flt_l, await, whole, sub, stop, fld, unit_lit, no_more, and_then, of_opd, first, blocks, exec, returns, enter, RefOf, usize, yes, no, param, bounded, uint_vals, uint_Tells, RattleType, owns, Ptr, block_ptr, ptr_val, in_block, in_a_block, shr_vals, shr_Tells, plain, types_at, heard, nothing, calls_at_last, framed, Stays, stay_dropped, walk_of, Goes-dropped, Al, token, Gives, at_gives, Gives-goes, Gives-Gives, El, elτ, after, HasLayout, proved, leaves, type_size, T, R, empties}
-use Rattle.starlark_columns.specs.Ownership.{places_owned, row_owned}
+use Rattle.starlark_columns.specs.Ownership.{cells_owned, row_owned}
 use Rattle.starlark_columns.specs.Pair.{two_arrays, pair_ty, rooms_rejoin}
 use Rattle.starlark_columns.proofs.PairRooms.{some_weight}
 use Rattle.starlark_columns.proofs.Fields.{word, word_good, mark, address_told, row_mark_told, pair_claim_told}
@@ -41,18 +41,18 @@ deallocate_pair_spec 𝓤 𝓛 𝓜 𝓡 wired X Y U L LY LU g d dd met _ =
     let cs : List (Option X.Denot) = empties n in let es : List (Option Y.Denot) = empties n in
     let y : (walk_of 𝓛 En hs c).Ghost = ((κs, qs, bounds, a, (vptr hp.0 hp.1 ∷ [], (word p ∷ [], (vint w64 z ∷ [], (vint w64 al ∷ [], (mark ∷ [], (mark ∷ [], (mark ∷ [], tt)))))))), gh) in let Post : Val → SProp 𝓤 = (walk_of 𝓛 En hs c).post y in
     let others : Fml = fsep (flft κs.1.0 qs.1.0) (fsep (flft κs.1.1.0 qs.1.1.0) (fsep (flft κs.1.1.1.0 qs.1.1.1.0) ftrue)) in
-    let Bare : Type 0 = (own.at ≡ right.firsts) × (own.places ≡ cs) × (bwn.at ≡ right.seconds) × (bwn.places ≡ es) in let Its : Type 0 = (p ≡ right.firsts) × (right.alloc ≡ h) in
+    let Bare : Type 0 = (own.at ≡ right.firsts) × (own.cells ≡ cs) × (bwn.at ≡ right.seconds) × (bwn.cells ≡ es) in let Its : Type 0 = (p ≡ right.firsts) × (right.alloc ≡ h) in
     qed 𝓛 (((‵ (flft κ q) ⊛ ‵ others) ⊛ ‵ (owns (types_at En.signature.params κs) a y.0.4)) ∷ raw (fact 𝓤 (κs.1.0 ⊑ X.lives)) ∷ raw (fact 𝓤 (κs.1.1.0 ⊑ Y.lives)) ∷ raw (fact 𝓤 (κs.1.1.1.0 ⊑ U.lives))
     ∷ raw (fact 𝓤 (HasLayout (pair_ty (R E) S n) z al)) ∷ raw (fact 𝓤 (0 < n * (s + t))) ∷ raw (fact 𝓤 Bare) ∷ raw (fact 𝓤 Its) ∷ []) ∵
     keep ! (3 ∷ 4 ∷ 5 ∷ 6 ∷ 7 ∷ 0 ∷ []) $ heard ! (κs.1.1.1.0 ⊑ U.lives) (λ within. heard ! (HasLayout (pair_ty (R E) S n) z al) (λ laid. heard ! (0 < n * (s + t)) (λ some. heard ! Bare (λ empty. heard ! Its (λ its. split ! $ split ! $ move ! (2 ∷ []) $
     fsplit ! $ move ! (1 ∷ []) $ fsplit ! $ move ! (1 ∷ []) $ fsplit ! $ move ! (1 ∷ []) $ fsplit ! $ move ! (1 ∷ []) $ fsplit ! $ fsplit ! $ move ! (2 ∷ []) $ fsplit ! $ fsplit ! $ move ! (2 ∷ []) $ fsplit ! $ fsplit ! $
     keep ! (6 ∷ 4 ∷ 1 ∷ 10 ∷ 11 ∷ 12 ∷ []) $ move ! (3 ∷ []) $ fsplit ! $ keep ! (2 ∷ 3 ∷ 4 ∷ 1 ∷ 5 ∷ 6 ∷ []) $ move ! (2 ∷ []) $ fsplit ! $ keep ! (2 ∷ 3 ∷ 1 ∷ 4 ∷ 5 ∷ 6 ∷ []) $
-    -- [the first places; the second; the right; the handle; its token; the other tokens]
-    rewrite ! 0 (λ (z : Ptr × List (Option X.Denot)). ‵ (row_owned (R E) z.0 z.1)) {x = (right.firsts, cs)} {y = (own.at, own.places)} (λ i. (empty.0 i, empty.1 i)) refl $
-    rewrite ! 1 (λ (z : Ptr × List (Option Y.Denot)). ‵ (row_owned S z.0 z.1)) {x = (right.seconds, es)} {y = (bwn.at, bwn.places)} (λ i. (empty.2 i, empty.3 i)) refl $ fsplit ! $ flt_l ! (λ _.
-    in_a_block ! right.firsts (λ r. in_block r (places_owned (R E) r cs)) (id⊢ 𝓤 (never 𝓤)) (λ b o at.
+    -- [the first cells; the second; the right; the handle; its token; the other tokens]
+    rewrite ! 0 (λ (z : Ptr × List (Option X.Denot)). ‵ (row_owned (R E) z.0 z.1)) {x = (right.firsts, cs)} {y = (own.at, own.cells)} (λ i. (empty.0 i, empty.1 i)) refl $
+    rewrite ! 1 (λ (z : Ptr × List (Option Y.Denot)). ‵ (row_owned S z.0 z.1)) {x = (right.seconds, es)} {y = (bwn.at, bwn.cells)} (λ i. (empty.2 i, empty.3 i)) refl $ fsplit ! $ flt_l ! (λ _.
+    in_a_block ! right.firsts (λ r. in_block r (cells_owned (R E) r cs)) (id⊢ 𝓤 (never 𝓤)) (λ b o at.
     use1 𝓛 (‵ (froom (ty_array (elτ E) n) b o)) (to_room E 𝓛 b n o) $ use1 𝓛 (‵ (froom (bare (ty_array (elτ E) n)) b o)) (𝓛.laws.room-raw (ty_array (elτ E) n) b o) $ move ! (1 ∷ []) $ fsplit ! $ flt_l ! (λ _.
-    in_a_block ! right.seconds (λ r. in_block r (places_owned S r es)) (id⊢ 𝓤 (never 𝓤)) (λ b' o' at'.
+    in_a_block ! right.seconds (λ r. in_block r (cells_owned S r es)) (id⊢ 𝓤 (never 𝓤)) (λ b' o' at'.
     use1 𝓛 (‵ (froom (ty_array (elτ F) n) b' o')) (to_room F 𝓛 b' n o') $ use1 𝓛 (‵ (froom (bare (ty_array (elτ F) n)) b' o')) (𝓛.laws.room-raw (ty_array (elτ F) n) b' o') $
     rewrite ! 2 (λ (z : U.Denot × Ptr × Ptr × Bool). ‵ (cond z.3 ftrue (fsep (token Z z.0 τ z.1) (rooms_rejoin (elτ E) (elτ F) z.1 z.2 n)))) {x = (h, block_ptr b o, block_ptr b' o', false)} {y = (right.alloc, right.firsts, right.seconds, eqb (n * (s + t)) 0)}
     (λ i. (its.1 i, at i, at' i, some_weight (n * (s + t)) some i)) refl $ move ! (2 ∷ []) $ fsplit ! $ move ! (3 ∷ 2 ∷ 1 ∷ 0 ∷ []) $ fjoin ! $

@@ -1,4 +1,4 @@
--- `PairClaim` as a type that may name, as that of its second places, the type that holds it. It holds none of its values.
+-- `PairClaim` as a type that may name, as that of its second cells, the type that holds it. It holds none of its values.
 use Rattle.std.specs.Prelude.{ℕ}
 use mathlib.Core.Path.{refl}
 use mathlib.Core.Former.{Former, const, this, via}

@@ -1,4 +1,4 @@
--- `Column` as a type that may hold the type that holds it, by its places.
+-- `Column` as a type that may hold the type that holds it, by its cells.
 use Rattle.std.specs.Prelude.{ℕ, List, [], Option}
 use mathlib.Core.Path.{refl, sym, ◌∙◌}
 use mathlib.Core.HLevel.{×_prop, ×₃_prop}
@@ -26,13 +26,13 @@ use Rattle.starlark_columns.specs.contracts.column.Column.TheInside as inside
 use Rattle.starlark_columns.specs.Block.{IsClaimTo}
 use Rattle.starlark_columns.specs.formers.block.Claim as claim_is
 use Rattle.starlark_columns.specs.formers.row.Row as row_is
-use Rattle.starlark_columns.specs.formers.row.Row.{place, weighed_place, mapped_place, place_cases, place_recoded}
+use Rattle.starlark_columns.specs.formers.row.Row.{cell, weighed_cell, mapped_cell, cell_cases, cell_recoded}
 
 abbrev pub the_former : Former {0} → Former {0}
-the_former g = list (place g)
+the_former g = list (cell g)
 
 abbrev pub the_weighed : {g : Former {0}} → Weighed g → Weighed (the_former g)
-the_weighed w = w_list (weighed_place w)
+the_weighed w = w_list (weighed_cell w)
 
 pub the_empty : List (Option ⊥)
 the_empty = []
@@ -59,11 +59,11 @@ module _ (R R' : RattleType) (h : R.Denot → R'.Denot) where
       view_places fields (the_former this) view (λ X Y k u. refl) (λ X u. refl) R.Denot R'.Denot h (column.the_row R).coded (column.the_row R').coded
       (invariant R.Denot) (invariant R'.Denot)
       (λ u. ×₃_prop (Coded-set coded_ptr _ _) (ℕ_set _ _) (IsClaimTo-prop _ _ u.claim)) (λ u. ×₃_prop (Coded-set coded_ptr _ _) (ℕ_set _ _) (IsClaimTo-prop _ _ u.claim))
-      (λ u s. (s.0, length-map u.row.places (mapped_place h) ∙ s.1, s.2))
-      (λ u s. (s.0, sym (length-map u.row.places (mapped_place h)) ∙ s.1, s.2))
+      (λ u s. (s.0, length-map u.row.cells (mapped_cell h) ∙ s.1, s.2))
+      (λ u s. (s.0, sym (length-map u.row.cells (mapped_cell h)) ∙ s.1, s.2))
       (over (inside.the_row R)) (over (inside.the_row R'))
       (struct_places (inside.the_type R) (inside.the_type R') (address_at R.Denot R'.Denot, (λ n. n, ((row_is.the_former this).map R.Denot R'.Denot h, (claim_at R.Denot R'.Denot, tt)))) _ (λ d. refl) refl
       (laid _ _ _ at, ((refl, (λ n. refl, λ n. refl)), (laid _ _ _ (row_is.the_places R R' h a), (laid _ _ _ right, tt)))))
 
   pub the_codes_placed : Recodes R R' h → Recodes (column.the_row R) (column.the_row R') ((the_former this).map R.Denot R'.Denot h)
-  the_codes_placed e d = sym (code_map (λ c. (coded⊎ coded_unit R.coded).code (place_cases c)) (λ c. (coded⊎ coded_unit R'.coded).code (place_cases c)) (mapped_place h) (place_recoded R R' h e) d)
+  the_codes_placed e d = sym (code_map (λ c. (coded⊎ coded_unit R.coded).code (cell_cases c)) (λ c. (coded⊎ coded_unit R'.coded).code (cell_cases c)) (mapped_cell h) (cell_recoded R R' h e) d)

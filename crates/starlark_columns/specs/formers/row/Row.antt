@@ -1,4 +1,4 @@
--- `Row` as a type that may hold the type that holds it, by its places.
+-- `Row` as a type that may hold the type that holds it, by its cells.
 use Rattle.std.specs.Prelude.{◌≡◌, ◌*◌, ◌^◌, List, [], ◌∷◌, length, Option, Some, None}
 use Rattle.std.specs.Mem.{type_size}
 use mathlib.Core.Path.{refl, sym, ap, ◌∙◌}
@@ -22,82 +22,82 @@ use denote.Param.Weighed.{Weighed, w_const, w_pair, w_or, w_via, w_list}
 use Rattle.std.specs.declared.marker.PhantomData.{PhantomData}
 use Rattle.starlark_columns.specs.declared.row.Row.{Row}
 use Rattle.starlark_columns.specs.contracts.row.Row as row
-use Rattle.starlark_columns.specs.Ownership.{place_owned, places_owned, row_owned, place_lent, places_lent, within_lent, row_lent}
+use Rattle.starlark_columns.specs.Ownership.{cell_owned, cells_owned, row_owned, cell_lent, cells_lent, within_lent, row_lent}
 
--- ---- a place, which is empty or holds an item
+-- ---- a cell, which is empty or holds an item
 module _ {X : Type 0} where
-  abbrev pub place_cases : Option X → Unit {0} ⊎ X
-  place_cases None = inl tt
-  place_cases (Some x) = inr x
+  abbrev pub cell_cases : Option X → Unit {0} ⊎ X
+  cell_cases None = inl tt
+  cell_cases (Some x) = inr x
 
   abbrev pub of_cases : Unit {0} ⊎ X → Option X
   of_cases (inl u) = None
   of_cases (inr x) = Some x
 
-  pub of_cases-place_cases : (c : Option X) → of_cases (place_cases c) ≡ c
-  of_cases-place_cases None = refl
-  of_cases-place_cases (Some x) = refl
+  pub of_cases-cell_cases : (c : Option X) → of_cases (cell_cases c) ≡ c
+  of_cases-cell_cases None = refl
+  of_cases-cell_cases (Some x) = refl
 
-  pub place_cases-of_cases : (c : Unit {0} ⊎ X) → place_cases (of_cases c) ≡ c
-  place_cases-of_cases (inl u) = refl
-  place_cases-of_cases (inr x) = refl
+  pub cell_cases-of_cases : (c : Unit {0} ⊎ X) → cell_cases (of_cases c) ≡ c
+  cell_cases-of_cases (inl u) = refl
+  cell_cases-of_cases (inr x) = refl
 
-abbrev pub place : Former {0} → Former {0}
-place g = via (or (const (Unit {0})) g) (λ X. Option (g.Of X)) (λ X. place_cases) (λ X. of_cases) (λ X. of_cases-place_cases) (λ X. place_cases-of_cases)
+abbrev pub cell : Former {0} → Former {0}
+cell g = via (or (const (Unit {0})) g) (λ X. Option (g.Of X)) (λ X. cell_cases) (λ X. of_cases) (λ X. of_cases-cell_cases) (λ X. cell_cases-of_cases)
 
-abbrev pub weighed_place : {g : Former {0}} → Weighed g → Weighed (place g)
-weighed_place {g} w = w_via (w_or (w_const (Unit {0})) w) (λ X. Option (g.Of X)) (λ X. place_cases) (λ X. of_cases) (λ X. of_cases-place_cases) (λ X. place_cases-of_cases)
+abbrev pub weighed_cell : {g : Former {0}} → Weighed g → Weighed (cell g)
+weighed_cell {g} w = w_via (w_or (w_const (Unit {0})) w) (λ X. Option (g.Of X)) (λ X. cell_cases) (λ X. of_cases) (λ X. of_cases-cell_cases) (λ X. cell_cases-of_cases)
 
--- ---- the places
+-- ---- the cells
 abbrev pub the_former : Former {0} → Former {0}
-the_former g = via (pair (const (PhantomData Ptr × Ptr)) (list (place g))) (λ X. Row (g.Of X)) (λ X d. ((d.mark, d.at), d.places)) (λ X v. record { mark = v.0.0; at = v.0.1; places = v.1 }) (λ X d. refl) (λ X v. refl)
+the_former g = via (pair (const (PhantomData Ptr × Ptr)) (list (cell g))) (λ X. Row (g.Of X)) (λ X d. ((d.mark, d.at), d.cells)) (λ X v. record { mark = v.0.0; at = v.0.1; cells = v.1 }) (λ X d. refl) (λ X v. refl)
 
 abbrev pub the_weighed : {g : Former {0}} → Weighed g → Weighed (the_former g)
 the_weighed {g} w =
-    w_via (w_pair (w_const (PhantomData Ptr × Ptr)) (w_list (weighed_place w))) (λ X. Row (g.Of X)) (λ X d. ((d.mark, d.at), d.places)) (λ X v. record { mark = v.0.0; at = v.0.1; places = v.1 }) (λ X d. refl) (λ X v. refl)
+    w_via (w_pair (w_const (PhantomData Ptr × Ptr)) (w_list (weighed_cell w))) (λ X. Row (g.Of X)) (λ X d. ((d.mark, d.at), d.cells)) (λ X v. record { mark = v.0.0; at = v.0.1; cells = v.1 }) (λ X d. refl) (λ X v. refl)
 
 pub the_empty : Row ⊥
-the_empty = record { mark = record {}; at = null_ptr; places = [] }
+the_empty = record { mark = record {}; at = null_ptr; cells = [] }
 
-abbrev pub mapped_place : {X Y : Type 0} → (X → Y) → Option X → Option Y
-mapped_place {X} {Y} h = (place this).map X Y h
+abbrev pub mapped_cell : {X Y : Type 0} → (X → Y) → Option X → Option Y
+mapped_cell {X} {Y} h = (cell this).map X Y h
 
 abbrev pub mapped : {X Y : Type 0} → (X → Y) → List (Option X) → List (Option Y)
-mapped {X} {Y} h = (list (place this)).map X Y h
+mapped {X} {Y} h = (list (cell this)).map X Y h
 
 module _ (R R' : RattleType) (h : R.Denot → R'.Denot) where
   module _ (a : Alike R R' h) where
     sizes : type_size R' ≡ type_size R
     sizes = λ i. size (lone (a.mir_same i))
 
-    place_placed : (p : Ptr) (c : Option R.Denot) → place_owned R' p (mapped_place h c) ≡ place_owned R p c
+    cell_placed : (p : Ptr) (c : Option R.Denot) → cell_owned R' p (mapped_cell h c) ≡ cell_owned R p c
     unfolding part_of
-    place_placed null_ptr None = refl
-    place_placed null_ptr (Some x) = refl
-    place_placed (block_ptr b o) None = λ i. froom (raw (lone (a.mir_same i))) b o
-    place_placed (block_ptr b o) (Some x) = λ i. part_of (raw_all (a.mir_same i)) (λ (_ : Unit {0}). a.own_same x i) full_share tt b o
+    cell_placed null_ptr None = refl
+    cell_placed null_ptr (Some x) = refl
+    cell_placed (block_ptr b o) None = λ i. froom (raw (lone (a.mir_same i))) b o
+    cell_placed (block_ptr b o) (Some x) = λ i. part_of (raw_all (a.mir_same i)) (λ (_ : Unit {0}). a.own_same x i) full_share tt b o
 
-    places_placed : (p : Ptr) (cs : List (Option R.Denot)) → places_owned R' p (mapped h cs) ≡ places_owned R p cs
-    places_placed p [] = refl
-    places_placed p (c ∷ cs) = (λ i. fsep (place_placed p c i) (places_placed (p +ₚ type_size R') cs i)) ∙ (λ i. fsep (place_owned R p c) (places_owned R (p +ₚ sizes i) cs))
+    cells_placed : (p : Ptr) (cs : List (Option R.Denot)) → cells_owned R' p (mapped h cs) ≡ cells_owned R p cs
+    cells_placed p [] = refl
+    cells_placed p (c ∷ cs) = (λ i. fsep (cell_placed p c i) (cells_placed (p +ₚ type_size R') cs i)) ∙ (λ i. fsep (cell_owned R p c) (cells_owned R (p +ₚ sizes i) cs))
 
     bound_placed : (cs : List (Option R.Denot)) → flt (length (mapped h cs) * type_size R') (2 ^ 63) ≡ flt (length cs * type_size R) (2 ^ 63)
-    bound_placed cs = λ i. flt (length-map cs (mapped_place h) i * sizes i) (2 ^ 63)
+    bound_placed cs = λ i. flt (length-map cs (mapped_cell h) i * sizes i) (2 ^ 63)
 
     row_placed : (p : Ptr) (cs : List (Option R.Denot)) → row_owned R' p (mapped h cs) ≡ row_owned R p cs
-    row_placed p cs = λ i. fsep (bound_placed cs i) (in_block p (places_placed p cs i))
+    row_placed p cs = λ i. fsep (bound_placed cs i) (in_block p (cells_placed p cs i))
 
-    place_lent_placed : (p : Ptr) (c : Option R.Denot) → place_lent R' p (mapped_place h c) ≡ place_lent R p c
-    place_lent_placed p None = refl
-    place_lent_placed p (Some x) = λ i. beside (said (in_block p ftrue)) (a.shr_same x i (block_of p) (count_of p))
+    cell_lent_placed : (p : Ptr) (c : Option R.Denot) → cell_lent R' p (mapped_cell h c) ≡ cell_lent R p c
+    cell_lent_placed p None = refl
+    cell_lent_placed p (Some x) = λ i. beside (said (in_block p ftrue)) (a.shr_same x i (block_of p) (count_of p))
 
-    places_lent_placed : (p : Ptr) (cs : List (Option R.Denot)) → places_lent R' p (mapped h cs) ≡ places_lent R p cs
-    places_lent_placed p [] = refl
-    places_lent_placed p (c ∷ cs) = (λ i. beside (place_lent_placed p c i) (places_lent_placed (p +ₚ type_size R') cs i)) ∙ (λ i. beside (place_lent R p c) (places_lent R (p +ₚ sizes i) cs))
+    cells_lent_placed : (p : Ptr) (cs : List (Option R.Denot)) → cells_lent R' p (mapped h cs) ≡ cells_lent R p cs
+    cells_lent_placed p [] = refl
+    cells_lent_placed p (c ∷ cs) = (λ i. beside (cell_lent_placed p c i) (cells_lent_placed (p +ₚ type_size R') cs i)) ∙ (λ i. beside (cell_lent R p c) (cells_lent R (p +ₚ sizes i) cs))
 
     within_placed : (p : Ptr) (cs : List (Option R.Denot)) → within_lent R' p (mapped h cs) ≡ within_lent R p cs
     within_placed null_ptr cs = refl
-    within_placed (block_ptr b o) cs = places_lent_placed (block_ptr b o) cs
+    within_placed (block_ptr b o) cs = cells_lent_placed (block_ptr b o) cs
 
     row_lent_placed : (p : Ptr) (cs : List (Option R.Denot)) → row_lent R' p (mapped h cs) ≡ row_lent R p cs
     row_lent_placed p cs = λ i. beside (said (bound_placed cs i)) (within_placed p cs i)
@@ -105,14 +105,14 @@ module _ (R R' : RattleType) (h : R.Denot → R'.Denot) where
   pub the_places : Alike R R' h → Alike (row.the_row R) (row.the_row R') ((the_former this).map R.Denot R'.Denot h)
   the_places a = record {
     mir_same = refl;
-    own_same = λ d i vs. fsep ((Struct (shape (row.the_type R))).own_val (to (row.the_type R) d) vs) (row_placed a d.at d.places i);
-    shr_same = λ d i b o. beside ((Struct (shape (row.the_type R))).shr_at (to (row.the_type R) d) b o) (row_lent_placed a d.at d.places i);
+    own_same = λ d i vs. fsep ((Struct (shape (row.the_type R))).own_val (to (row.the_type R) d) vs) (row_placed a d.at d.cells i);
+    shr_same = λ d i b o. beside ((Struct (shape (row.the_type R))).shr_at (to (row.the_type R) d) b o) (row_lent_placed a d.at d.cells i);
   }
 
-  pub place_recoded : Recodes R R' h → (c : Option R.Denot) → (coded⊎ coded_unit R.coded).code (place_cases c) ≡ (coded⊎ coded_unit R'.coded).code (place_cases (mapped_place h c))
-  place_recoded e None = refl
-  place_recoded e (Some x) = ap (gcons (gnum 1)) (sym (e x))
+  pub cell_recoded : Recodes R R' h → (c : Option R.Denot) → (coded⊎ coded_unit R.coded).code (cell_cases c) ≡ (coded⊎ coded_unit R'.coded).code (cell_cases (mapped_cell h c))
+  cell_recoded e None = refl
+  cell_recoded e (Some x) = ap (gcons (gnum 1)) (sym (e x))
 
   pub the_codes_placed : Recodes R R' h → Recodes (row.the_row R) (row.the_row R') ((the_former this).map R.Denot R'.Denot h)
   the_codes_placed e d = ap (λ x. gcons (gcons gnil gnil) (gcons (coded_ptr.code d.at) (gcons x gnil)))
-      (sym (code_map (λ c. (coded⊎ coded_unit R.coded).code (place_cases c)) (λ c. (coded⊎ coded_unit R'.coded).code (place_cases c)) (mapped_place h) (place_recoded e) d.places))
+      (sym (code_map (λ c. (coded⊎ coded_unit R.coded).code (cell_cases c)) (λ c. (coded⊎ coded_unit R'.coded).code (cell_cases c)) (mapped_cell h) (cell_recoded e) d.cells))

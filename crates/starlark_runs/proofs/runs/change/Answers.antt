@@ -8,8 +8,8 @@ pub returns-in-Some-clause-kept : goal.returns-in-Some-clause-kept
 returns-in-Some-clause-kept g c =
     let es = c.args.map.now.entries in
     let left = (c.get_mut_hashed.follows.holds c.replace.new.dest).0 in
-    let place = position_of (hash_of c.as_ref.result) (g.K.PartialEq.eq (key_of c.as_ref.result).now) es in (
-      omega (arith, ap (λ m. length m.entries) left, ap (λ m. m.room) left, length-with_value es place c.replace.new.dest),
+    let index = position_of (hash_of c.as_ref.result) (g.K.PartialEq.eq (key_of c.as_ref.result).now) es in (
+      omega (arith, ap (λ m. length m.entries) left, ap (λ m. m.room) left, length-with_value es index c.replace.new.dest),
       ap (λ m. m.capacity) left,
       ap (λ m. m.indexed) left,
     )

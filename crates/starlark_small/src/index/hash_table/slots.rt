@@ -29,7 +29,7 @@ pub(super) fn lower_above(table: &mut Indices, cells: &Vec<u32>, index: usize)
     requires stands { StandsBut index cells.now.items table.old.slots }
     ensures { RenamesEach (lowered index) table.old table.new }
 {
-    let slots = table.places();
+    let slots = table.slots();
     if slots <= NEAR || cells.len() - index < slots / 4 {
         lower_each(table, cells, index);
     } else {
@@ -116,7 +116,7 @@ pub(super) fn name_slots(table: &Indices, cells: &mut Vec<u32>)
 {
     let mut from = 0;
     'slots: while let Some(slot) = table.next_full(from) {
-        prove!(slot < table.places());
+        prove!(slot < table.slots());
         if let Some(index) = table.get(slot) {
             cells[*index as usize] = slot as u32;
         }

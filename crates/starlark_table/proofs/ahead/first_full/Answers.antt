@@ -5,8 +5,8 @@ use Rattle.starlark_table.proofs.FullBits.{tagged_from-start, tagged_from-later,
 use Rattle.starlark_table.proofs.TagCount.{long_tags}
 use Rattle.starlark_table.proofs.ahead.first_full.Goals as goal
 
-pub full_places-full-requires : goal.full_places-full-requires
-full_places-full-requires g c =
+pub full_slots-full-requires : goal.full_slots-full-requires
+full_slots-full-requires g c =
     let slots = c.args.slots.now in
     let k = c.windows.invariant in
     let inside = more_left slots c.windows.start
@@ -18,9 +18,9 @@ pub returns-then-full-ne0-clause-left : goal.returns-then-full-ne0-clause-left
 returns-then-full-ne0-clause-left g c =
     let slots = c.args.slots.now in
     let start = c.windows.start in
-    let made = c.full_places-full.ensures in
+    let made = c.full_slots-full.ensures in
     let tagged = tagged_from-later 0 start c.args.tags.now slots slots (tagged_from-start c.args.tags.now slots c.requires.tagged) (omega arith) refl (λ p behind. refl) in
-    window_opens c.args.tags.now slots start c.full_places-full.result.1 c.full_places-full.result.0 tagged made.some made.short made.within made.bits
+    window_opens c.args.tags.now slots start c.full_slots-full.result.1 c.full_slots-full.result.0 tagged made.some made.short made.within made.bits
 
 pub windows-smaller : goal.windows-smaller
 windows-smaller g c =
@@ -28,15 +28,15 @@ windows-smaller g c =
     let k = c.windows.invariant in
     let inside = more_left slots c.windows.start
     (subst (λ l. 0 < length l) (filled-past_range slots c.args.from c.windows.start k.ahead k.passed) c.requires.some) in
-    omega (arith, inside, c.full_places-full.ensures.some)
+    omega (arith, inside, c.full_slots-full.ensures.some)
 
 pub windows-preserved : goal.windows-preserved
 windows-preserved g c =
     let slots = c.args.slots.now in
     let start = c.windows.start in
-    let end = c.full_places-full.result.1 in
-    let full = c.full_places-full.result.0 in
-    let made = c.full_places-full.ensures in
+    let end = c.full_slots-full.result.1 in
+    let full = c.full_slots-full.result.0 in
+    let made = c.full_slots-full.ensures in
     let tagged = tagged_from-later 0 start c.args.tags.now slots slots (tagged_from-start c.args.tags.now slots c.requires.tagged) (omega arith) refl (λ p behind. refl) in
     let left = window_opens c.args.tags.now slots start end full tagged made.some made.short made.within made.bits in
     record {

@@ -10,9 +10,9 @@ pub returns-then-full-ne0-clause-full : goal.returns-then-full-ne0-clause-full
 returns-then-full-ne0-clause-full g c =
     let slots = c.args.slots.now in
     let start = c.windows.start in
-    let full = c.full_places-full.result.0 in
-    let end = c.full_places-full.result.1 in
-    let made = c.full_places-full.ensures in
+    let full = c.full_slots-full.result.0 in
+    let end = c.full_slots-full.result.1 in
+    let made = c.full_slots-full.ensures in
     let tagged = tagged_from-later 0 start c.args.tags.now slots slots (tagged_from-start c.args.tags.now slots c.requires) (omega arith) refl (λ p behind. refl) in
     let left = window_opens c.args.tags.now slots start end full tagged made.some made.short made.within made.bits in
     let first = window_next slots start end start full (count_trailing_zeros 64 full) left c.if-full-ne0.true refl in
@@ -22,9 +22,9 @@ pub returns-then-full-ne0-clause-passed : goal.returns-then-full-ne0-clause-pass
 returns-then-full-ne0-clause-passed g c = λ p low high.
     let slots = c.args.slots.now in
     let start = c.windows.start in
-    let full = c.full_places-full.result.0 in
-    let end = c.full_places-full.result.1 in
-    let made = c.full_places-full.ensures in
+    let full = c.full_slots-full.result.0 in
+    let end = c.full_slots-full.result.1 in
+    let made = c.full_slots-full.ensures in
     let tagged = tagged_from-later 0 start c.args.tags.now slots slots (tagged_from-start c.args.tags.now slots c.requires) (omega arith) refl (λ p behind. refl) in
     let left = window_opens c.args.tags.now slots start end full tagged made.some made.short made.within made.bits in
     let first = window_next slots start end start full (count_trailing_zeros 64 full) left c.if-full-ne0.true refl in
@@ -37,9 +37,9 @@ pub windows-preserved : goal.windows-preserved
 windows-preserved g c =
     let slots = c.args.slots.now in
     let start = c.windows.start in
-    let full = c.full_places-full.result.0 in
-    let end = c.full_places-full.result.1 in
-    let made = c.full_places-full.ensures in
+    let full = c.full_slots-full.result.0 in
+    let end = c.full_slots-full.result.1 in
+    let made = c.full_slots-full.ensures in
     let tagged = tagged_from-later 0 start c.args.tags.now slots slots (tagged_from-start c.args.tags.now slots c.requires) (omega arith) refl (λ p behind. refl) in
     let left = window_opens c.args.tags.now slots start end full tagged made.some made.short made.within made.bits in
     record {

@@ -9,11 +9,11 @@ use Rattle.starlark_table.proofs.Load.{bag-member_moved, empty_slot-while_moving
 use Rattle.starlark_table.proofs.MovingWindows.{emptying-begins, emptying-finds, emptying-goes_on, emptying-ends}
 use Rattle.starlark_table.proofs.growth.move_window.Goals as goal
 
-pub places-init : goal.places-init
-places-init g c =
-    let full = c.full_places-full.result.0 in
-    let end = c.full_places-full.result.1 in
-    let made = c.full_places-full.ensures in
+pub members-init : goal.members-init
+members-init g c =
+    let full = c.full_slots-full.result.0 in
+    let end = c.full_slots-full.result.1 in
+    let made = c.full_slots-full.ensures in
     record {
       sized = refl;
       in_place = c.requires.in_place;
@@ -27,34 +27,34 @@ places-init g c =
 
 pub take-hash-requires : goal.take-hash-requires
 take-hash-requires g c =
-    emptying-finds c.args.from.now c.places.from c.args.start c.full_places-full.result.1 c.places.full _ c.places.invariant.window c.places-test.true refl
+    emptying-finds c.args.from.now c.members.from c.args.start c.full_slots-full.result.1 c.members.full _ c.members.invariant.window c.members-test.true refl
 
 pub put-requires-clause-free : goal.put-requires-clause-free
 put-requires-clause-free g c =
-    let sized = c.places.invariant.sized in
-    empty_slot-while_moving (filled c.args.from.now ++ filled c.args.slots.now) c.places.from c.places.slots (rw sized c.requires.places)
+    let sized = c.members.invariant.sized in
+    empty_slot-while_moving (filled c.args.from.now ++ filled c.args.slots.now) c.members.from c.members.slots (rw sized c.requires.some)
     (subst (λ n. length (filled c.args.from.now ++ filled c.args.slots.now) ≤ limit n) (sym sized) c.requires.room)
-    c.places.invariant.bag
+    c.members.invariant.bag
 
-pub places-preserved : goal.places-preserved
-places-preserved g c =
-    let k = c.places.invariant in
+pub members-preserved : goal.members-preserved
+members-preserved g c =
+    let k = c.members.invariant in
     let taken = c.take-hash.ensures in
     let put = c.put.ensures in
-    let from = c.places.from in
-    let place = c.args.start + count_trailing_zeros 64 c.places.full in
+    let from = c.members.from in
+    let slot = c.args.start + count_trailing_zeros 64 c.members.full in
     record {
-      sized = ap length put.set ∙ length-set c.places.slots c.put.result _ ∙ k.sized;
+      sized = ap length put.set ∙ length-set c.members.slots c.put.result _ ∙ k.sized;
       in_place = put.in_place;
       tagged = put.tagged;
       members = put.members ∙ k.members;
       told = put.told;
-      bag = rw (taken.places, put.set)
-          (bag-member_moved _ from c.places.slots place c.put.result c.take-hash.result taken.value put.in_range put.empty k.bag);
-      window = rw taken.places
-          (emptying-goes_on c.args.from.now from c.args.start c.full_places-full.result.1 c.places.full _ k.window c.places-test.true refl);
+      bag = rw (taken.cells, put.set)
+          (bag-member_moved _ from c.members.slots slot c.put.result c.take-hash.result taken.value put.in_range put.empty k.bag);
+      window = rw taken.cells
+          (emptying-goes_on c.args.from.now from c.args.start c.full_slots-full.result.1 c.members.full _ k.window c.members-test.true refl);
     }
 
 pub returns-clause-emptied : goal.returns-clause-emptied
 returns-clause-emptied g c =
-    emptying-ends c.args.from.now c.places.from c.args.start c.full_places-full.result.1 c.places.full c.places.invariant.window c.places-test.false
+    emptying-ends c.args.from.now c.members.from c.args.start c.full_slots-full.result.1 c.members.full c.members.invariant.window c.members-test.false

@@ -4,8 +4,8 @@ use Rattle.starlark_table.specs.Layout.{members_in, InPlace, IsTagged, TellsFar}
 use Rattle.starlark_table.proofs.MovingWindows.{EmptyingWindow}
 use Rattle.starlark_table.proofs.growth.move_window.Given as goal
 
-abbrev pub invariant-places : goal.invariant-places
-invariant-places g l = record {
+abbrev pub invariant-members : goal.invariant-members
+invariant-members g l = record {
   sized : length l.slots ≡ length l.initial.slots;
   in_place : InPlace (length l.slots) l.slots;
   tagged : IsTagged l.tags l.slots;
@@ -15,5 +15,5 @@ invariant-places g l = record {
   window : EmptyingWindow l.initial.from l.from l.start l.end l.full;
 }
 
-abbrev pub decreases-places : goal.decreases-places
-decreases-places g l = l.full
+abbrev pub decreases-members : goal.decreases-members
+decreases-members g l = l.full

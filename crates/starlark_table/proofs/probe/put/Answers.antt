@@ -9,14 +9,14 @@ within n k start number some counted is =
     let one_more : k - 1 + 1 ≡ n = omega arith in
     subst (λ p. p < n) (sym (is ∙ ap (λ m. home m number) one_more)) (home-below n number some)
 
-pub place_from-place-requires-clause-home : goal.place_from-place-requires-clause-home
-place_from-place-requires-clause-home g c =
+pub slot_from-slot-requires-clause-home : goal.slot_from-slot-requires-clause-home
+slot_from-slot-requires-clause-home g c =
     let q = c.requires.free in
-    within (length c.args.slots.now) c.places.result c.home.result c.number-number.result (some_below q.0 _ q.1) c.places.ensures.places c.home.ensures
+    within (length c.args.slots.now) c.cells.result c.home.result c.number-number.result (some_below q.0 _ q.1) c.cells.ensures.cells c.home.ensures
 
 pub returns-clause-told : goal.returns-clause-told
 returns-clause-told g c =
-    let at = c.place_from-place.ensures in
-    subst (TellsFar c.place_from-place.new.fill) (sym c.write.ensures)
-    (told-put c.args.slots.now c.place_from-place.result (c.args.hash, c.args.item) c.args.fill.now c.place_from-place.new.fill c.home.result c.places.result at.in_range c.requires.told
-    c.places.ensures.places (c.home.ensures ∙ ap (home (c.places.result - 1 + 1)) c.number-number.ensures) at.even at.near)
+    let at = c.slot_from-slot.ensures in
+    subst (TellsFar c.slot_from-slot.new.fill) (sym c.write.ensures)
+    (told-put c.args.slots.now c.slot_from-slot.result (c.args.hash, c.args.item) c.args.fill.now c.slot_from-slot.new.fill c.home.result c.cells.result at.in_range c.requires.told
+    c.cells.ensures.cells (c.home.ensures ∙ ap (home (c.cells.result - 1 + 1)) c.number-number.ensures) at.even at.near)

@@ -4,8 +4,8 @@ use Rattle.starlark_table.specs.Layout.{distance, IsTagged}
 use Rattle.starlark_table.proofs.Closing.{Closing}
 use Rattle.starlark_table.proofs.remove.close_gap.Given as goal
 
-abbrev pub invariant-loop-place : goal.invariant-loop-place
-invariant-loop-place g l = record {
+abbrev pub invariant-loop-slot : goal.invariant-loop-slot
+invariant-loop-slot g l = record {
   closing : Closing (length l.initial.slots) l.start l.slots l.hole;
   bag : IsPermutation (filled l.initial.slots) (filled l.slots);
   tagged : IsTagged l.tags l.slots;
@@ -13,5 +13,5 @@ invariant-loop-place g l = record {
   size : g.F.Follows.size l.follower ≡ g.F.Follows.size l.initial.follower;
 }
 
-abbrev pub decreases-loop-place : goal.decreases-loop-place
-decreases-loop-place g l = length l.initial.slots - distance (length l.initial.slots) l.start l.hole
+abbrev pub decreases-loop-slot : goal.decreases-loop-slot
+decreases-loop-slot g l = length l.initial.slots - distance (length l.initial.slots) l.start l.hole

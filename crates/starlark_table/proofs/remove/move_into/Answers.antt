@@ -10,7 +10,7 @@ use Rattle.starlark_table.proofs.remove.move_into.Goals as goal
 pub moved-requires : goal.moved-requires
 moved-requires g c = (
   c.args.slots.now,
-  c.args.place,
+  c.args.slot,
   c.take-member.result.0,
   record { there = c.take-member.ensures.value; empty = c.requires.empty; within = c.requires.hole },
   c.requires.known,
@@ -19,21 +19,21 @@ moved-requires g c = (
 pub returns-clause-moved : goal.returns-clause-moved
 returns-clause-moved g c =
     let old = c.args.slots.now in
-    let place_in = full_in_range old c.args.place c.take-member.result c.take-member.ensures.value in
-    c.write.ensures ∙ ap (λ l. set l c.args.hole (Some c.take-member.result)) c.take-member.ensures.places
-    ∙ taken_and_written old c.args.hole c.args.place c.take-member.result c.requires.hole place_in c.requires.empty c.take-member.ensures.value
+    let slot_in = full_in_range old c.args.slot c.take-member.result c.take-member.ensures.value in
+    c.write.ensures ∙ ap (λ l. set l c.args.hole (Some c.take-member.result)) c.take-member.ensures.cells
+    ∙ taken_and_written old c.args.hole c.args.slot c.take-member.result c.requires.hole slot_in c.requires.empty c.take-member.ensures.value
 
 pub returns-clause-tagged : goal.returns-clause-tagged
 returns-clause-tagged g c =
     let old = c.args.slots.now in
-    let place_in = full_in_range old c.args.place c.take-member.result c.take-member.ensures.value in
+    let slot_in = full_in_range old c.args.slot c.take-member.result c.take-member.ensures.value in
     subst₂ IsTagged (sym c.swap.ensures.after) (sym (returns-clause-moved g c))
-    (tagged-swapped c.args.tags.now old c.args.hole c.args.place c.requires.hole place_in c.requires.tagged)
+    (tagged-swapped c.args.tags.now old c.args.hole c.args.slot c.requires.hole slot_in c.requires.tagged)
 
 pub returns-clause-known : goal.returns-clause-known
 returns-clause-known g c =
     let old = c.args.slots.now in
-    let can_move : CanMove old c.args.place c.args.hole c.take-member.result.0 c.take-member.result.1 =
+    let can_move : CanMove old c.args.slot c.args.hole c.take-member.result.0 c.take-member.result.1 =
     record { there = c.take-member.ensures.value; empty = c.requires.empty; within = c.requires.hole } in
-    subst (g.F.Follows.knows c.moved.new.self) (sym (c.write.ensures ∙ ap (λ l. set l c.args.hole (Some c.take-member.result)) c.take-member.ensures.places))
-    (c.moved.ensures.known old c.args.place c.take-member.result.0 can_move c.requires.known)
+    subst (g.F.Follows.knows c.moved.new.self) (sym (c.write.ensures ∙ ap (λ l. set l c.args.hole (Some c.take-member.result)) c.take-member.ensures.cells))
+    (c.moved.ensures.known old c.args.slot c.take-member.result.0 can_move c.requires.known)

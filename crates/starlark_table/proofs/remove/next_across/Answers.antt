@@ -7,14 +7,14 @@ use Rattle.starlark_table.proofs.remove.next_across.Goals as goal
 
 pub crosses-requires-clause-full : goal.crosses-requires-clause-full
 crosses-requires-clause-full g c =
-    let counted = c.places-count.ensures.places in
+    let counted = c.cells-count.ensures.cells in
     filled-by_tag c.args.tags.now c.args.slots.now c.window_behind-beyond.result c.requires.tagged (rw (← counted) c.window_behind-beyond.ensures) c.if-tags-beyond.true
 
 pub loop-next-init : goal.loop-next-init
 loop-next-init g c =
     let q = c.requires.free in
-    let on = c.next_place-next.ensures ∙ ap (λ m. if c.args.hole + 1 == m then 0 else c.args.hole + 1) c.places-count.ensures.places in
-    passed-begins (length c.args.slots.now) c.args.hole c.args.slots.now refl c.requires.hole c.requires.empty c.next_place-next.result q.0 q.1 q.2 q.3 on
+    let on = c.next_slot-next.ensures ∙ ap (λ m. if c.args.hole + 1 == m then 0 else c.args.hole + 1) c.cells-count.ensures.cells in
+    passed-begins (length c.args.slots.now) c.args.hole c.args.slots.now refl c.requires.hole c.requires.empty c.next_slot-next.result q.0 q.1 q.2 q.3 on
 
 pub crosses-requires-in-loop-next-clause-full : goal.crosses-requires-in-loop-next-clause-full
 crosses-requires-in-loop-next-clause-full g c =
@@ -25,8 +25,8 @@ loop-next-smaller g c =
     let slots = c.args.slots.now in
     let k = c.loop-next.invariant in
     let some = full-by_tag c.args.tags.now slots c.loop-next.next c.requires.tagged k.next_in c.loop-next-test.true in
-    let on = c.next_place-next-in-loop-next.ensures ∙ ap (λ m. if c.loop-next.next + 1 == m then 0 else c.loop-next.next + 1) c.places-count.ensures.places in
-    let step = passed-next (length slots) c.args.hole slots refl c.requires.hole c.requires.empty c.loop-next.next c.next_place-next-in-loop-next.result k some (c.crosses-in-loop-next.ensures.no c.if-crosses-2.false) on in
+    let on = c.next_slot-next-in-loop-next.ensures ∙ ap (λ m. if c.loop-next.next + 1 == m then 0 else c.loop-next.next + 1) c.cells-count.ensures.cells in
+    let step = passed-next (length slots) c.args.hole slots refl c.requires.hole c.requires.empty c.loop-next.next c.next_slot-next-in-loop-next.result k some (c.crosses-in-loop-next.ensures.no c.if-crosses-2.false) on in
     less-left (length slots) _ _ (distance-below (length slots) c.args.hole c.loop-next.next c.requires.hole k.next_in) step.0
 
 pub loop-next-preserved : goal.loop-next-preserved
@@ -34,8 +34,8 @@ loop-next-preserved g c =
     let slots = c.args.slots.now in
     let k = c.loop-next.invariant in
     let some = full-by_tag c.args.tags.now slots c.loop-next.next c.requires.tagged k.next_in c.loop-next-test.true in
-    let on = c.next_place-next-in-loop-next.ensures ∙ ap (λ m. if c.loop-next.next + 1 == m then 0 else c.loop-next.next + 1) c.places-count.ensures.places in
-    let step = passed-next (length slots) c.args.hole slots refl c.requires.hole c.requires.empty c.loop-next.next c.next_place-next-in-loop-next.result k some (c.crosses-in-loop-next.ensures.no c.if-crosses-2.false) on in
+    let on = c.next_slot-next-in-loop-next.ensures ∙ ap (λ m. if c.loop-next.next + 1 == m then 0 else c.loop-next.next + 1) c.cells-count.ensures.cells in
+    let step = passed-next (length slots) c.args.hole slots refl c.requires.hole c.requires.empty c.loop-next.next c.next_slot-next-in-loop-next.result k some (c.crosses-in-loop-next.ensures.no c.if-crosses-2.false) on in
     step.1
 
 pub returns-clause-none : goal.returns-clause-none

@@ -22,13 +22,13 @@ pub close_gap-requires-clause-gap : goal.close_gap-requires-clause-gap
 close_gap-requires-clause-gap g c =
     let slot_in = full_in_range c.args.slots.now c.args.slot c.take-member.result c.take-member.ensures.value in
     let gap = gap_left (length c.args.slots.now) c.args.slots.now c.args.slot refl slot_in c.requires.in_place in
-    subst (λ l. HasGap (length l) l c.args.slot) (sym c.take-member.ensures.places)
+    subst (λ l. HasGap (length l) l c.args.slot) (sym c.take-member.ensures.cells)
     (subst (λ m. HasGap m (set c.args.slots.now c.args.slot None) c.args.slot) (sym (length-set c.args.slots.now c.args.slot None)) gap)
 
 pub close_gap-requires-clause-free : goal.close_gap-requires-clause-free
 close_gap-requires-clause-free g c =
     let slot_in = full_in_range c.args.slots.now c.args.slot c.take-member.result c.take-member.ensures.value in
-    subst (λ l. (q : ℕ) × (q < length l) × (q ≢ c.args.slot) × (at l q ≡ None)) (sym c.take-member.ensures.places)
+    subst (λ l. (q : ℕ) × (q < length l) × (q ≢ c.args.slot) × (at l q ≡ None)) (sym c.take-member.ensures.cells)
     (another_empty_slot c.args.slots.now c.args.slot c.take-member.result slot_in c.requires.load c.take-member.ensures.value)
 
 pub leaves_gap-passed-requires-clause-full : goal.leaves_gap-passed-requires-clause-full
@@ -42,14 +42,14 @@ returns-clause-rest g c =
     let old = c.args.slots.now in
     let left : IsPermutation (filled (set old c.args.slot None)) (filled c.if-passed.slots) = elim c.if-passed.branch [
       | then-passed w ↦ subst (λ l. IsPermutation (filled (set old c.args.slot None)) (filled l)) (sym w.slots-is)
-          (subst (λ l. IsPermutation (filled l) (filled w.close_gap.new.slots)) c.take-member.ensures.places w.close_gap.ensures.bag)
-      | else-passed w ↦ subst (λ l. IsPermutation (filled (set old c.args.slot None)) (filled l)) (sym (w.slots-is ∙ c.take-member.ensures.places)) (IsPermutation-refl (filled (set old c.args.slot None)))
+          (subst (λ l. IsPermutation (filled l) (filled w.close_gap.new.slots)) c.take-member.ensures.cells w.close_gap.ensures.bag)
+      | else-passed w ↦ subst (λ l. IsPermutation (filled (set old c.args.slot None)) (filled l)) (sym (w.slots-is ∙ c.take-member.ensures.cells)) (IsPermutation-refl (filled (set old c.args.slot None)))
     ] in
     bag-taken_out old c.if-passed.slots c.args.slot c.take-member.result c.take-member.ensures.value left
 
 pub returns-clause-sized : goal.returns-clause-sized
 returns-clause-sized g c =
-    let taken = ap length c.take-member.ensures.places ∙ length-set c.args.slots.now c.args.slot None in
+    let taken = ap length c.take-member.ensures.cells ∙ length-set c.args.slots.now c.args.slot None in
     elim c.if-passed.branch [
       | then-passed w ↦ ap length w.slots-is ∙ w.close_gap.ensures.sized ∙ taken
       | else-passed w ↦ ap length w.slots-is ∙ taken
@@ -67,7 +67,7 @@ returns-clause-in_place g c =
             | false ↦ λ far. in_place-near (length old) (set old c.args.slot None)
                 (subst (λ n. IsNear n (set old c.args.slot None)) (length-set old c.args.slot None) (near-taken old c.args.slot slot_in (c.requires.told far)))
           ] refl in
-          subst (λ l. InPlace (length l) l) (sym (w.slots-is ∙ c.take-member.ensures.places))
+          subst (λ l. InPlace (length l) l) (sym (w.slots-is ∙ c.take-member.ensures.cells))
           (subst (λ n. InPlace n (set old c.args.slot None)) (sym (length-set old c.args.slot None)) kept)
     ]
 
@@ -78,7 +78,7 @@ returns-clause-told g c =
       | then-passed w ↦ absurd (let yes = c.leaves_gap-passed.ensures.near w.if-passed.true in cc)
       | else-passed w ↦
           let slot_in = full_in_range old c.args.slot c.take-member.result c.take-member.ensures.value in
-          subst (λ l. IsNear (length l) l) (sym (w.slots-is ∙ c.take-member.ensures.places)) (near-taken old c.args.slot slot_in (c.requires.told far))
+          subst (λ l. IsNear (length l) l) (sym (w.slots-is ∙ c.take-member.ensures.cells)) (near-taken old c.args.slot slot_in (c.requires.told far))
     ]
 
 pub returns-clause-tagged : goal.returns-clause-tagged
@@ -87,6 +87,6 @@ returns-clause-tagged g c =
     let slot_in = full_in_range old c.args.slot c.take-member.result c.take-member.ensures.value in
     elim c.if-passed.branch [
       | then-passed w ↦ subst₂ IsTagged (sym w.tags-is) (sym w.slots-is) w.close_gap.ensures.tagged
-      | else-passed w ↦ subst₂ IsTagged (sym w.tags-is) (sym (w.slots-is ∙ c.take-member.ensures.places))
+      | else-passed w ↦ subst₂ IsTagged (sym w.tags-is) (sym (w.slots-is ∙ c.take-member.ensures.cells))
           (tagged-changed c.args.tags.now old c.args.slot 255 None slot_in c.requires.tagged refl)
     ]

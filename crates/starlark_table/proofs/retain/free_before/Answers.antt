@@ -8,36 +8,36 @@ use Rattle.starlark_table.proofs.retain.free_before.Goals as goal
 not_yet : (d e m : ℕ) → d + 1 ≤ e → e < m → d + 1 < m
 not_yet d e m short below = omega arith
 
-pub loop-place-init : goal.loop-place-init
-loop-place-init g c =
+pub loop-slot-init : goal.loop-slot-init
+loop-slot-init g c =
     let here = distance-self (length c.args.slots.now) c.args.start in
     record { in_range = c.requires.start; near = omega arith; path = λ q q_in nearer. absurd (omega arith) }
 
-pub loop-place-smaller : goal.loop-place-smaller
-loop-place-smaller g c =
-    let k = c.loop-place.invariant in
+pub loop-slot-smaller : goal.loop-slot-smaller
+loop-slot-smaller g c =
+    let k = c.loop-slot.invariant in
     let m = length c.args.slots.now in
-    let short = short_of m c.args.start c.loop-place.place c.args.end c.requires.start k.in_range c.requires.end k.near c.loop-place-test.true in
+    let short = short_of m c.args.start c.loop-slot.slot c.args.end c.requires.start k.in_range c.requires.end k.near c.loop-slot-test.true in
     let more = not_yet _ _ _ short (distance-below m c.args.start c.args.end c.requires.start c.requires.end) in
-    let on = subst (λ n. c.next_place-place.result ≡ (if c.loop-place.place + 1 == n then 0 else c.loop-place.place + 1)) c.places.ensures.places c.next_place-place.ensures in
-    let next = next-step m c.args.start c.loop-place.place _ c.requires.start k.in_range more on in
-    less-left m _ _ (distance-below m c.args.start c.loop-place.place c.requires.start k.in_range) next.1
+    let on = subst (λ n. c.next_slot-slot.result ≡ (if c.loop-slot.slot + 1 == n then 0 else c.loop-slot.slot + 1)) c.cells.ensures.cells c.next_slot-slot.ensures in
+    let next = next-step m c.args.start c.loop-slot.slot _ c.requires.start k.in_range more on in
+    less-left m _ _ (distance-below m c.args.start c.loop-slot.slot c.requires.start k.in_range) next.1
 
-pub loop-place-preserved : goal.loop-place-preserved
-loop-place-preserved g c =
-    let k = c.loop-place.invariant in
+pub loop-slot-preserved : goal.loop-slot-preserved
+loop-slot-preserved g c =
+    let k = c.loop-slot.invariant in
     let m = length c.args.slots.now in
-    let some = full-by_tag c.args.tags.now c.args.slots.now c.loop-place.place c.requires.tagged k.in_range c.if-tags-place.true in
-    let short = short_of m c.args.start c.loop-place.place c.args.end c.requires.start k.in_range c.requires.end k.near c.loop-place-test.true in
+    let some = full-by_tag c.args.tags.now c.args.slots.now c.loop-slot.slot c.requires.tagged k.in_range c.if-tags-slot.true in
+    let short = short_of m c.args.start c.loop-slot.slot c.args.end c.requires.start k.in_range c.requires.end k.near c.loop-slot-test.true in
     let more = not_yet _ _ _ short (distance-below m c.args.start c.args.end c.requires.start c.requires.end) in
-    let on = subst (λ n. c.next_place-place.result ≡ (if c.loop-place.place + 1 == n then 0 else c.loop-place.place + 1)) c.places.ensures.places c.next_place-place.ensures in
-    let next = next-step m c.args.start c.loop-place.place _ c.requires.start k.in_range more on in
+    let on = subst (λ n. c.next_slot-slot.result ≡ (if c.loop-slot.slot + 1 == n then 0 else c.loop-slot.slot + 1)) c.cells.ensures.cells c.next_slot-slot.ensures in
+    let next = next-step m c.args.start c.loop-slot.slot _ c.requires.start k.in_range more on in
     record {
       in_range = next.0;
       near = rw next.1 short;
-      path = path_more m c.args.start c.loop-place.place c.args.slots.now c.requires.start k.in_range k.path some c.next_place-place.result next.1;
+      path = path_more m c.args.start c.loop-slot.slot c.args.slots.now c.requires.start k.in_range k.path some c.next_slot-slot.result next.1;
     }
 
-pub returns-else-tags-place-clause-empty : goal.returns-else-tags-place-clause-empty
-returns-else-tags-place-clause-empty g c =
-    inr (empty-by_tag c.args.tags.now c.args.slots.now c.loop-place.place c.requires.tagged c.loop-place.invariant.in_range c.if-tags-place.false)
+pub returns-else-tags-slot-clause-empty : goal.returns-else-tags-slot-clause-empty
+returns-else-tags-slot-clause-empty g c =
+    inr (empty-by_tag c.args.tags.now c.args.slots.now c.loop-slot.slot c.requires.tagged c.loop-slot.invariant.in_range c.if-tags-slot.false)

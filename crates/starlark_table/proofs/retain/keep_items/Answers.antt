@@ -6,7 +6,7 @@ use Rattle.starlark_table.proofs.Lists.{head_left, still_untouched}
 use Rattle.starlark_table.proofs.Filling.{filled-by_tag}
 use Rattle.starlark_table.proofs.Retaining.{Turn, turn-kept, turn-taken, turn-empty, takes-slot_here, can_retain-rest, retains-next_slot, counts-next_slot, stands-next_slot, retains_all}
 use Rattle.starlark_table.proofs.retain.keep_items.Goals as goal
-use Rattle.starlark_table.proofs.retain.keep_items.Goals.{then-tags-place+then-ask, then-tags-place+else-ask, else-tags-place}
+use Rattle.starlark_table.proofs.retain.keep_items.Goals.{then-tags-slot+then-ask, then-tags-slot+else-ask, else-tags-slot}
 
 one_at_most : (b : Bool) (kept i : ℕ) → kept ≤ i → kept + cond b 1 0 ≤ i + 1
 one_at_most true kept i few = omega arith
@@ -17,55 +17,55 @@ within i n m k below e f = omega (arith, below, e, f)
 
 pub get_mut-requires : goal.get_mut-requires
 get_mut-requires g c =
-    let k = c.loop-place.invariant in
-    filled-by_tag c.loop-place.tags c.loop-place.slots c.loop-place.place k.tagged
-    (within _ _ _ _ c.loop-place-test.true c.places-place-end.ensures.places k.stand.sized) c.if-tags-place.true
+    let k = c.loop-slot.invariant in
+    filled-by_tag c.loop-slot.tags c.loop-slot.slots c.loop-slot.slot k.tagged
+    (within _ _ _ _ c.loop-slot-test.true c.cells-slot-end.ensures.cells k.stand.sized) c.if-tags-slot.true
 
 pub ask-requires : goal.ask-requires
 ask-requires g c =
-    let k = c.loop-place.invariant in
-    let below = within _ _ _ _ c.loop-place-test.true c.places-place-end.ensures.places k.stand.sized in
-    takes-slot_here g.F.FnMut (Some c.get_mut.result.now) (drop (c.loop-place.place + 1) c.args.slots.now) c.loop-place.f
-    (subst (λ l. CanRetain g.F.FnMut (items_in l) c.loop-place.f)
-    (head_left c.args.slots.now c.loop-place.slots c.loop-place.place None (Some c.get_mut.result.now) below k.untouched c.get_mut.ensures.value) k.callable)
+    let k = c.loop-slot.invariant in
+    let below = within _ _ _ _ c.loop-slot-test.true c.cells-slot-end.ensures.cells k.stand.sized in
+    takes-slot_here g.F.FnMut (Some c.get_mut.result.now) (drop (c.loop-slot.slot + 1) c.args.slots.now) c.loop-slot.f
+    (subst (λ l. CanRetain g.F.FnMut (items_in l) c.loop-slot.f)
+    (head_left c.args.slots.now c.loop-slot.slots c.loop-slot.slot None (Some c.get_mut.result.now) below k.untouched c.get_mut.ensures.value) k.callable)
 
 pub take-member-requires : goal.take-member-requires
 take-member-requires g c =
-    let k = c.loop-place.invariant in
-    let below = within _ _ _ _ c.loop-place-test.true c.places-place-end.ensures.places k.stand.sized in
-    (c.ask.new.member, get_or-set_same c.loop-place.slots c.loop-place.place (Some c.ask.new.member) None below)
+    let k = c.loop-slot.invariant in
+    let below = within _ _ _ _ c.loop-slot-test.true c.cells-slot-end.ensures.cells k.stand.sized in
+    (c.ask.new.member, get_or-set_same c.loop-slot.slots c.loop-slot.slot (Some c.ask.new.member) None below)
 
-pub loop-place-preserved : goal.loop-place-preserved
-loop-place-preserved g c =
-    let k = c.loop-place.invariant in
-    let below = within _ _ _ _ c.loop-place-test.true c.places-place-end.ensures.places k.stand.sized in
-    let i = c.loop-place.place in
-    let cur = c.loop-place.slots in
-    let turn : Turn g.F.FnMut cur c.if-tags-place.slots c.if-tags-place.tags i c.loop-place.kept c.if-tags-place.kept c.loop-place.f c.if-tags-place.f =
-    elim c.if-tags-place.branch [
-      | then-tags-place+then-ask w ↦ turn-kept g.F.FnMut cur c.if-tags-place.slots c.loop-place.tags c.if-tags-place.tags i c.loop-place.kept c.if-tags-place.kept c.loop-place.f c.if-tags-place.f
+pub loop-slot-preserved : goal.loop-slot-preserved
+loop-slot-preserved g c =
+    let k = c.loop-slot.invariant in
+    let below = within _ _ _ _ c.loop-slot-test.true c.cells-slot-end.ensures.cells k.stand.sized in
+    let i = c.loop-slot.slot in
+    let cur = c.loop-slot.slots in
+    let turn : Turn g.F.FnMut cur c.if-tags-slot.slots c.if-tags-slot.tags i c.loop-slot.kept c.if-tags-slot.kept c.loop-slot.f c.if-tags-slot.f =
+    elim c.if-tags-slot.branch [
+      | then-tags-slot+then-ask w ↦ turn-kept g.F.FnMut cur c.if-tags-slot.slots c.loop-slot.tags c.if-tags-slot.tags i c.loop-slot.kept c.if-tags-slot.kept c.loop-slot.f c.if-tags-slot.f
           below k.tagged w.get_mut.result.now w.ask.new.member w.ask.result w.ask.new.f w.get_mut.ensures.value w.ask.ensures w.if-ask.true w.slots-is w.tags-is w.kept-is w.f-is
-      | then-tags-place+else-ask w ↦ turn-taken g.F.FnMut cur c.if-tags-place.slots c.loop-place.tags c.if-tags-place.tags i c.loop-place.kept c.if-tags-place.kept c.loop-place.f c.if-tags-place.f
-          below k.tagged w.get_mut.result.now w.ask.new.member w.ask.result w.ask.new.f w.get_mut.ensures.value w.ask.ensures w.if-ask.false (w.slots-is ∙ w.take-member.ensures.places) w.tags-is w.kept-is w.f-is
-      | else-tags-place w ↦ turn-empty g.F.FnMut cur c.if-tags-place.slots c.loop-place.tags c.if-tags-place.tags i c.loop-place.kept c.if-tags-place.kept c.loop-place.f c.if-tags-place.f
-          below k.tagged w.if-tags-place.false w.slots-is w.tags-is w.kept-is w.f-is
+      | then-tags-slot+else-ask w ↦ turn-taken g.F.FnMut cur c.if-tags-slot.slots c.loop-slot.tags c.if-tags-slot.tags i c.loop-slot.kept c.if-tags-slot.kept c.loop-slot.f c.if-tags-slot.f
+          below k.tagged w.get_mut.result.now w.ask.new.member w.ask.result w.ask.new.f w.get_mut.ensures.value w.ask.ensures w.if-ask.false (w.slots-is ∙ w.take-member.ensures.cells) w.tags-is w.kept-is w.f-is
+      | else-tags-slot w ↦ turn-empty g.F.FnMut cur c.if-tags-slot.slots c.loop-slot.tags c.if-tags-slot.tags i c.loop-slot.kept c.if-tags-slot.kept c.loop-slot.f c.if-tags-slot.f
+          below k.tagged w.if-tags-slot.false w.slots-is w.tags-is w.kept-is w.f-is
     ] in
     record {
-      callable = can_retain-rest g.F.FnMut c.args.f c.args.slots.now cur i None c.loop-place.f c.if-tags-place.f turn.keeps c.if-tags-place.slots turn.slot
+      callable = can_retain-rest g.F.FnMut c.args.f c.args.slots.now cur i None c.loop-slot.f c.if-tags-slot.f turn.keeps c.if-tags-slot.slots turn.slot
           below k.untouched turn.set_is turn.asked k.callable;
-      untouched = still_untouched c.args.slots.now cur c.if-tags-place.slots i turn.slot k.untouched turn.set_is;
-      counted = turn.counted ∙ counts-next_slot g.F.FnMut c.args.f c.args.slots.now cur i None c.loop-place.f c.if-tags-place.f turn.keeps c.if-tags-place.slots turn.slot
-          below k.untouched turn.set_is turn.asked c.loop-place.kept k.counted;
-      few = rw turn.counted (one_at_most turn.keeps c.loop-place.kept i k.few);
-      stand = stands-next_slot g.F.FnMut c.args.f c.args.slots.now cur i None c.loop-place.f c.if-tags-place.f turn.keeps c.if-tags-place.slots turn.slot
+      untouched = still_untouched c.args.slots.now cur c.if-tags-slot.slots i turn.slot k.untouched turn.set_is;
+      counted = turn.counted ∙ counts-next_slot g.F.FnMut c.args.f c.args.slots.now cur i None c.loop-slot.f c.if-tags-slot.f turn.keeps c.if-tags-slot.slots turn.slot
+          below k.untouched turn.set_is turn.asked c.loop-slot.kept k.counted;
+      few = rw turn.counted (one_at_most turn.keeps c.loop-slot.kept i k.few);
+      stand = stands-next_slot g.F.FnMut c.args.f c.args.slots.now cur i None c.loop-slot.f c.if-tags-slot.f turn.keeps c.if-tags-slot.slots turn.slot
           below k.untouched turn.set_is turn.asked k.stand;
       tagged = turn.tagged;
-      done = retains-next_slot g.F.FnMut c.args.f c.args.slots.now cur i None c.loop-place.f c.if-tags-place.f turn.keeps c.if-tags-place.slots turn.slot
+      done = retains-next_slot g.F.FnMut c.args.f c.args.slots.now cur i None c.loop-slot.f c.if-tags-slot.f turn.keeps c.if-tags-slot.slots turn.slot
           below k.untouched turn.set_is turn.asked k.done;
     }
 
 pub returns-clause-kept : goal.returns-clause-kept
 returns-clause-kept g c =
-    let k = c.loop-place.invariant in
-    let all : length c.args.slots.now ≤ c.loop-place.place = omega (arith, c.loop-place-test.false, c.places-place-end.ensures.places) in
-    retains_all g.F.FnMut c.args.f c.loop-place.f c.args.slots.now c.loop-place.slots c.loop-place.place all k.stand.sized k.done
+    let k = c.loop-slot.invariant in
+    let all : length c.args.slots.now ≤ c.loop-slot.slot = omega (arith, c.loop-slot-test.false, c.cells-slot-end.ensures.cells) in
+    retains_all g.F.FnMut c.args.f c.loop-slot.f c.args.slots.now c.loop-slot.slots c.loop-slot.slot all k.stand.sized k.done

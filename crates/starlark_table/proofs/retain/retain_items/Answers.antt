@@ -1,22 +1,22 @@
 use Rattle.std.proofs.Common.{ℕ, ◌≡◌, ◌<◌, length, arith, refl, sym, ◌∙◌}
 use Rattle.std.proofs.lemmas.List.Sorted.{length_permutation}
-use Rattle.starlark_table.proofs.Load.{empty_slot, load-below_places}
+use Rattle.starlark_table.proofs.Load.{empty_slot, load-below_slots}
 use Rattle.starlark_table.proofs.Settling.{reaches_before}
 use Rattle.starlark_table.proofs.retain.retain_items.Goals as goal
 
 not_empty : (n m : ℕ) → n ≡ m → (n ≡ 0 → ⊥) → 0 < m
 not_empty n m e some = omega (arith, e, some)
 
-pub free_place-start-requires-clause-free : goal.free_place-start-requires-clause-free
-free_place-start-requires-clause-free g c =
-    empty_slot c.args.slots.now (load-below_places _ _ c.requires.load (not_empty _ _ c.places.ensures.places c.if-places-eq0.false))
+pub free_slot-start-requires-clause-free : goal.free_slot-start-requires-clause-free
+free_slot-start-requires-clause-free g c =
+    empty_slot c.args.slots.now (load-below_slots _ _ c.requires.load (not_empty _ _ c.cells.ensures.cells c.if-cells-eq0.false))
 
 pub settle-requires-clause-reaches : goal.settle-requires-clause-reaches
 settle-requires-clause-reaches g c =
     let stand = c.keep_items-kept.ensures.stand in
     rw stand.sized
-    (reaches_before (length c.args.slots.now) c.free_place-start.result c.args.slots.now c.keep_items-kept.new.slots refl
-    c.free_place-start.ensures.in_range c.free_place-start.ensures.empty c.requires.in_place stand)
+    (reaches_before (length c.args.slots.now) c.free_slot-start.result c.args.slots.now c.keep_items-kept.new.slots refl
+    c.free_slot-start.ensures.in_range c.free_slot-start.ensures.empty c.requires.in_place stand)
 
 pub returns-clause-counted : goal.returns-clause-counted
 returns-clause-counted g c = c.keep_items-kept.ensures.counted ∙ sym (length_permutation _ _ c.settle.ensures.bag)

@@ -6,7 +6,7 @@ use Rattle.starlark_table.proofs.retain.settle.Given as goal
 
 abbrev pub invariant-loop-step : goal.invariant-loop-step
 invariant-loop-step g l = record {
-  placed : l.step < l.count → (l.place < l.count) × (distance l.count l.start l.place ≡ l.step);
+  placed : l.step < l.count → (l.slot < l.count) × (distance l.count l.start l.slot ≡ l.step);
   sized : length l.slots ≡ l.count;
   start_in : l.start < l.count;
   tagged : IsTagged l.tags l.slots;

@@ -4,6 +4,6 @@ use Rattle.starlark_table.proofs.tags.tags_beside.Goals as goal
 
 pub overflow_add-result : goal.overflow_add-result
 overflow_add-result g c =
-    let places = c.places-places.ensures.places in
-    let fit = tags_fit c.args.slots.now c.requires (omega (arith, c.if-places-eq0.false, places)) c.places-places.ensures.fits in
-    omega (arith, fit, places)
+    let count = c.cells-count.ensures.cells in
+    let fit = tags_fit c.args.slots.now c.requires (omega (arith, c.if-count-eq0.false, count)) c.cells-count.ensures.fits in
+    omega (arith, fit, count)

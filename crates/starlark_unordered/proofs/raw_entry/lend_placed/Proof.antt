@@ -1,4 +1,4 @@
--- `lend_placed` meets its contract, at any types: where there is a place, the map is lent for good to the call that shows the pair, and else it is given up. Assumes `Logic`.
+-- `lend_placed` meets its contract, at any types: where there is a slot, the map is lent for good to the call that shows the pair, and else it is given up. Assumes `Logic`.
 use Rattle.starlark_columns.proofs.Walking.{◌≡◌, refl, sym, subst, ap, ◌∙◌, inl, inr, ℕ, ◌<◌, ◌^◌, suc-ne-zero, List, [], ◌∷◌, lit<, Ura, Fn, Args, Dict, a_type, dcons, dnil, named, w64, inst_fn, Val, vint, vcons, vnil, of_list, SProp, ent, emp, id⊢, ex_e, snd∗, Lft, Share, ftrue, flft, fres, Memory, Routine, Env, Calls, Loops, WpFn, Logic, sem, live, vrt, in_variant, by_variants, ◌⊑◌, Fun, fact, fact_i, tables, FmC, ‵, raw, ◌⊛◌, some, given, later, prop, at_ret, ◌$◌, ◌∵◌, !, qed, move, keep, drop, use0, use1, split, split3, join, pick, learn, fsplit, fjoin, suffices, frame, await, rewrite, regoal, group, done, whole, agg, stop, fld, addr, lit, of_opd, and_then, no_more, first, exec, returns, enter, alloc_all, pass_all, free_all, look_at, get, get_in, get_tag, through, sets, sets_last, lands_as, env, sub, no, rest, RattleType, owns, usize, follows, param, bounded, layout, Laws, param_laws, uint_Makes, uint_Tells, Bor, MutBor, MutRef, ShrRef, mut_vals, plain, types_at, nothing, owned, heard, Tuple, calls_at, Clauses, Ended, ensured, lasts, triple_of, Contract, Triple, framed, Stays, stay_dropped, walk_of, ends_at, Goes-blank, Good, Ok-of, Err-of, and_tt, proved_at, Result, Ok, Err, IfOk, OnErr, true, is_some, result_laws}
 use Rattle.std.proofs.VecSteps.Shapes.{after}
 use Rattle.starlark_unordered.specs.Lend.{lends_placed, LendsSlot}
@@ -76,7 +76,7 @@ module _ (K V X : RattleType) (E : L.Eq.Ghosts K.Denot) (dE : Dict) (P : L.Parti
           -- [the pair; the tokens of κ, κK, κV, κX]
           use1 𝓛 (some (λ (t : Val). given ((v ≡ pair_val r t) × Good (layout (L.RS.the_row usize X')) t) (‵ ((MutRef (named 0) κ R).own_val r (mut_vals r)) ⊛ ‵ (At p t))))
           (pair_opened 𝓛 κ R (L.RS.the_row usize X') (result_laws usize X' place_laws (param_laws 2 X LX)) r p v) $ pick ! (λ t. learn ! (λ at_v. split ! $ move ! (1 ∷ []) $
-          -- [the place; the map; the tokens]
+          -- [the slot; the map; the tokens]
           elim (which p) [
             | inl w ↦
                 let i = w.0 in

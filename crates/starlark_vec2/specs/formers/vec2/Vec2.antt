@@ -22,9 +22,9 @@ use Rattle.std.specs.contracts.alloc.Global as heap
 use Rattle.std.specs.contracts.impls.GlobalAllocator.TheImpl.{ghosts}
 use Rattle.starlark_columns.specs.Cells.{items_of}
 use Rattle.starlark_columns.specs.Front.{IsFront}
-use Rattle.starlark_columns.specs.formers.row.Row.{place, mapped_place, mapped}
+use Rattle.starlark_columns.specs.formers.row.Row.{cell, mapped_cell, mapped}
 use Rattle.starlark_columns.specs.Block.{IsBlockOf, IsSpotOf}
-use Rattle.starlark_columns.specs.declared.row.Row.{Row as Places}
+use Rattle.starlark_columns.specs.declared.row.Row.{Row as Cells}
 use Rattle.starlark_columns.specs.declared.block.PairClaim.{PairClaim}
 use Rattle.starlark_columns.specs.declared.block.Spot.{Spot}
 use Rattle.starlark_columns.specs.formers.block.PairClaim as claim_is
@@ -72,7 +72,7 @@ pub the_items_listed : (B X : Type 0) (v : PairList X B) → listed _ (children 
 the_items_listed B X v = firsts_listed B X v.pairs
 
 abbrev pub fields : Type 0 → Former {0}
-fields B = via (pair (row_is.the_former this) (const (Places B × ℕ × Spot B × Global × claim_is.Parts Global))) (λ X. Inside X B) (λ X a. (a.firsts, (a.seconds, a.len, a.spot, a.alloc, claim_is.parts_of B X Global a.block)))
+fields B = via (pair (row_is.the_former this) (const (Cells B × ℕ × Spot B × Global × claim_is.Parts Global))) (λ X. Inside X B) (λ X a. (a.firsts, (a.seconds, a.len, a.spot, a.alloc, claim_is.parts_of B X Global a.block)))
     (λ X v. record { firsts = v.0; seconds = v.1.0; len = v.1.1; spot = v.1.2; alloc = v.1.3; block = claim_is.of_parts B X Global v.1.4 }) (λ X a. refl) (λ X v. refl)
 
 pub zip-map : {X Y B : Type 0} (h : X → Y) (xs : List X) (bs : List B) → zip (map h xs) bs ≡ map (on_first h) (zip xs bs)
@@ -85,7 +85,7 @@ zip-held B X [] bs e = refl
 zip-held B X (x ∷ xs) [] e = absurd (omega arith)
 zip-held B X (x ∷ xs) (b ∷ bs) e = λ i. (one_more (zip-held B X xs bs (omega arith) i).0, (x, (zip-held B X xs bs (omega arith) i).1))
 
--- ---- the items of places, and their shape, under a map of the items
+-- ---- the items of cells, and their shape, under a map of the items
 module _ {X Y : Type 0} (h : X → Y) where
   pub items_of-map : (cs : List (Option X)) → items_of (mapped h cs) ≡ map h (items_of cs)
   items_of-map [] = refl
@@ -100,33 +100,33 @@ module _ {X Y : Type 0} (h : X → Y) where
   pub items-count : (cs : List (Option X)) → length (items_of (mapped h cs)) ≡ length (items_of cs)
   items-count cs = ap length (items_of-map cs) ∙ length-map (items_of cs) h
 
-  places-count : (cs : List (Option X)) → length (mapped h cs) ≡ length cs
-  places-count cs = length-map cs (mapped_place h)
+  cells-count : (cs : List (Option X)) → length (mapped h cs) ≡ length cs
+  cells-count cs = length-map cs (mapped_cell h)
 
   abbrev front_shape : ℕ → ℕ → List Bool
-  front_shape n places = replicate n true ++ replicate (places - n) false
+  front_shape n cells = replicate n true ++ replicate (cells - n) false
 
   front_to : (cs : List (Option X)) (n : ℕ) → IsFront cs n → IsFront (mapped h cs) n
   front_to cs n s = record {
     count = items-count cs ∙ s.count;
-    form = shape-map cs ∙ s.form ∙ sym (ap (front_shape n) (places-count cs));
-    within = subst (λ m. n ≤ m) (sym (places-count cs)) s.within;
+    form = shape-map cs ∙ s.form ∙ sym (ap (front_shape n) (cells-count cs));
+    within = subst (λ m. n ≤ m) (sym (cells-count cs)) s.within;
   }
 
   front_from : (cs : List (Option X)) (n : ℕ) → IsFront (mapped h cs) n → IsFront cs n
   front_from cs n s = record {
     count = sym (items-count cs) ∙ s.count;
-    form = sym (shape-map cs) ∙ s.form ∙ ap (front_shape n) (places-count cs);
-    within = subst (λ m. n ≤ m) (places-count cs) s.within;
+    form = sym (shape-map cs) ∙ s.form ∙ ap (front_shape n) (cells-count cs);
+    within = subst (λ m. n ≤ m) (cells-count cs) s.within;
   }
 
   columns_to : {B : Type 0} (cs : List (Option X)) (bs : List (Option B)) (n : ℕ) → AreColumns cs bs n → AreColumns (mapped h cs) bs n
-  columns_to cs bs n s = record { firsts_front = front_to cs n s.firsts_front; seconds_front = s.seconds_front; even = s.even ∙ sym (places-count cs) }
+  columns_to cs bs n s = record { firsts_front = front_to cs n s.firsts_front; seconds_front = s.seconds_front; even = s.even ∙ sym (cells-count cs) }
 
   columns_from : {B : Type 0} (cs : List (Option X)) (bs : List (Option B)) (n : ℕ) → AreColumns (mapped h cs) bs n → AreColumns cs bs n
-  columns_from cs bs n s = record { firsts_front = front_from cs n s.firsts_front; seconds_front = s.seconds_front; even = s.even ∙ places-count cs }
+  columns_from cs bs n s = record { firsts_front = front_from cs n s.firsts_front; seconds_front = s.seconds_front; even = s.even ∙ cells-count cs }
 
-pub items_of-held : (X : Type 0) (cs : List (Option X)) → held (list this) X (items_of cs) ≡ held (list (place this)) X cs
+pub items_of-held : (X : Type 0) (cs : List (Option X)) → held (list this) X (items_of cs) ≡ held (list (cell this)) X cs
 items_of-held X [] = refl
 items_of-held X (None ∷ cs) = items_of-held X cs
 items_of-held X (Some x ∷ cs) = λ i. (one_more (items_of-held X cs i).0, (x, (items_of-held X cs i).1))
@@ -141,7 +141,7 @@ AreColumns-prop cs bs n p q = λ i. record {
   even = ℕ_set _ _ p.even q.even i;
 }
 
-IsBlockOf-prop : {X B : Type 0} (block : PairClaim B X Global) (r : Places X) (s : Places B) → IsProp (IsBlockOf block s r)
+IsBlockOf-prop : {X B : Type 0} (block : PairClaim B X Global) (r : Cells X) (s : Cells B) → IsProp (IsBlockOf block s r)
 IsBlockOf-prop block r s p q = λ i. (Coded-set coded_ptr _ _ p.0 q.0 i, Coded-set coded_ptr _ _ p.1 q.1 i, ℕ_set _ _ p.2 q.2 i, ℕ_set _ _ p.3 q.3 i)
 
 IsSpotOf-prop : {X B : Type 0} (spot : Spot B) (block : PairClaim B X Global) → IsProp (IsSpotOf spot block)
@@ -153,14 +153,14 @@ even_items cs bs n s = s.firsts_front.count ∙ sym s.seconds_front.count
 module _ (B : RattleType) (R R' : RattleType) (h : R.Denot → R'.Denot) where
   pub the_places : Alike R R' h → Alike (vec2.the_row R B) (vec2.the_row R' B) ((the_former this B.Denot).map R.Denot R'.Denot h)
   the_places a = view_places_where (fields B.Denot) (the_former this B.Denot) (λ X. view X B.Denot)
-      (λ X Y k u. ap (λ xs. pair_list (zip xs (items_of u.seconds.places)) (length (mapped k u.firsts.places))) (items_of-map k u.firsts.places)
-      ∙ (λ i. pair_list (zip-map k (items_of u.firsts.places) (items_of u.seconds.places) i) (places-count k u.firsts.places i)))
-      (λ X u. length (items_of u.firsts.places) ≡ length (items_of u.seconds.places)) (λ X Y k u e. sym (items-count k u.firsts.places) ∙ e)
-      (λ X u e. zip-held B.Denot X (items_of u.firsts.places) (items_of u.seconds.places) e ∙ items_of-held X u.firsts.places)
+      (λ X Y k u. ap (λ xs. pair_list (zip xs (items_of u.seconds.cells)) (length (mapped k u.firsts.cells))) (items_of-map k u.firsts.cells)
+      ∙ (λ i. pair_list (zip-map k (items_of u.firsts.cells) (items_of u.seconds.cells) i) (cells-count k u.firsts.cells i)))
+      (λ X u. length (items_of u.firsts.cells) ≡ length (items_of u.seconds.cells)) (λ X Y k u e. sym (items-count k u.firsts.cells) ∙ e)
+      (λ X u e. zip-held B.Denot X (items_of u.firsts.cells) (items_of u.seconds.cells) e ∙ items_of-held X u.firsts.cells)
       R.Denot R'.Denot h (vec2.the_row R B).coded (vec2.the_row R' B).coded
       (invariant R.Denot B.Denot) (invariant R'.Denot B.Denot) (λ u. ×₃_prop (AreColumns-prop _ _ _) (IsBlockOf-prop u.block u.firsts u.seconds) (IsSpotOf-prop u.spot u.block)) (λ u. ×₃_prop (AreColumns-prop _ _ _) (IsBlockOf-prop u.block u.firsts u.seconds) (IsSpotOf-prop u.spot u.block))
-      (λ u s. (columns_to h u.firsts.places u.seconds.places u.len s.0, (s.1.0, s.1.1, s.1.2, s.1.3 ∙ sym (places-count h u.firsts.places)), s.2))
-      (λ u s. (columns_from h u.firsts.places u.seconds.places u.len s.0, (s.1.0, s.1.1, s.1.2, s.1.3 ∙ places-count h u.firsts.places), s.2)) (λ u s. even_items u.firsts.places u.seconds.places u.len s.0)
+      (λ u s. (columns_to h u.firsts.cells u.seconds.cells u.len s.0, (s.1.0, s.1.1, s.1.2, s.1.3 ∙ sym (cells-count h u.firsts.cells)), s.2))
+      (λ u s. (columns_from h u.firsts.cells u.seconds.cells u.len s.0, (s.1.0, s.1.1, s.1.2, s.1.3 ∙ cells-count h u.firsts.cells), s.2)) (λ u s. even_items u.firsts.cells u.seconds.cells u.len s.0)
       (over (inside.the_row R B)) (over (inside.the_row R' B))
       (struct_places (inside.the_type R B) (inside.the_type R' B) ((row_is.the_former this).map R.Denot R'.Denot h, (λ n. n, (λ n. n, (λ n. n, (λ n. n, ((claim_is.the_former this B.Denot Global).map R.Denot R'.Denot h, tt)))))) _ (λ d. refl) refl
       (laid _ _ _ (row_is.the_places R R' h a), ((refl, (λ n. refl, λ n. refl)), ((refl, (λ n. refl, λ n. refl)), ((refl, (λ n. refl, λ n. refl)), ((refl, (λ n. refl, λ n. refl)), (laid _ _ _ (claim_is.the_places B heap.the_row ghosts R R' h a), tt)))))))

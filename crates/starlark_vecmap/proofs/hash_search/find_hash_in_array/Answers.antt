@@ -1,22 +1,22 @@
--- The mask of the array shows the first place.
+-- The mask of the array shows the first index.
 use Rattle.std.proofs.Common.{[], sym, ◌∙◌, arith}
 use Rattle.std.proofs.lemmas.Simd.{leading_from_mask_l}
 use Rattle.std.specs.Prelude.{nat_eq}
 use Rattle.starlark_vecmap.proofs.Blocks.{lowest, lowest_lt, position_at, position_nowhere}
 use Rattle.starlark_vecmap.proofs.hash_search.find_hash_in_array.Goals as goal
 
-pub returns-then-mask-eq0-clause-place : goal.returns-then-mask-eq0-clause-place
-returns-then-mask-eq0-clause-place c =
+pub returns-then-mask-eq0-clause-index : goal.returns-then-mask-eq0-clause-index
+returns-then-mask-eq0-clause-index c =
     let array = c.args.array.now in
-    position_nowhere (λ h. nat_eq h c.args.hash) array (leading_from_mask_l (λ h. nat_eq h c.args.hash) array (sym c.places_of_short-mask.ensures ∙ c.if-mask-eq0.true))
+    position_nowhere (λ h. nat_eq h c.args.hash) array (leading_from_mask_l (λ h. nat_eq h c.args.hash) array (sym c.indices_of_short-mask.ensures ∙ c.if-mask-eq0.true))
 
-pub returns-clause-place : goal.returns-clause-place
-returns-clause-place c =
+pub returns-clause-index : goal.returns-clause-index
+returns-clause-index c =
     let array = c.args.array.now in
-    let low = lowest (λ h. nat_eq h c.args.hash) array [] c.places_of_short-mask.result (omega arith) c.places_of_short-mask.ensures c.if-mask-eq0.false in
-    let less = lowest_lt (λ h. nat_eq h c.args.hash) array [] c.places_of_short-mask.result (omega arith) c.places_of_short-mask.ensures c.if-mask-eq0.false in
+    let low = lowest (λ h. nat_eq h c.args.hash) array [] c.indices_of_short-mask.result (omega arith) c.indices_of_short-mask.ensures c.if-mask-eq0.false in
+    let less = lowest_lt (λ h. nat_eq h c.args.hash) array [] c.indices_of_short-mask.result (omega arith) c.indices_of_short-mask.ensures c.if-mask-eq0.false in
     position_at (λ h. nat_eq h c.args.hash) array _ low less
 
 pub returns-clause-within : goal.returns-clause-within
 returns-clause-within c =
-    lowest_lt (λ h. nat_eq h c.args.hash) c.args.array.now [] c.places_of_short-mask.result (omega arith) c.places_of_short-mask.ensures c.if-mask-eq0.false
+    lowest_lt (λ h. nat_eq h c.args.hash) c.args.array.now [] c.indices_of_short-mask.result (omega arith) c.indices_of_short-mask.ensures c.if-mask-eq0.false

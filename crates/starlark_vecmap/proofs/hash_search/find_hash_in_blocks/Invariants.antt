@@ -7,7 +7,7 @@ abbrev pub invariant-loop-rest : goal.invariant-loop-rest
 invariant-loop-rest l =
     record {
       parted : l.passed + length l.rest ≡ length l.array;
-      place : l.passed + position_or_len (λ h. h == l.fn.hash) l.rest ≡ position_or_len (λ h. h == l.fn.hash) l.array;
+      index : l.passed + position_or_len (λ h. h == l.fn.hash) l.rest ≡ position_or_len (λ h. h == l.fn.hash) l.array;
     }
 
 abbrev pub decreases-loop-rest : goal.decreases-loop-rest

@@ -1,20 +1,20 @@
 use Rattle.std.proofs.Common.{length, refl, sym, ap, ◌∙◌}
 use Rattle.std.specs.List.{refill}
-use Rattle.starlark_columns.proofs.Fronts.{written_items, written_places}
+use Rattle.starlark_columns.proofs.Fronts.{written_items, written_cells}
 use Rattle.starlark_columns.proofs.ByteRows.{written_full}
 use Rattle.starlark_columns.proofs.bytes.Bytes.as_mut_slice.Goals as goal
 
 pub invariant_of-self-lent : goal.invariant_of-self-lent
 invariant_of-self-lent c = λ w.
-    let places = c.self.inside.row.places in let is = c.self.invariant in (
+    let cells = c.self.inside.row.cells in let is = c.self.invariant in (
       is.0,
-      written_full places is.1 w,
-      (is.2.0, is.2.1 ∙ sym (written_places places (length places) is.1 w)),
+      written_full cells is.1 w,
+      (is.2.0, is.2.1 ∙ sym (written_cells cells (length cells) is.1 w)),
     )
 
 pub returns : goal.returns
 returns c =
-    let places = c.self.inside.row.places in (
-      (refl {a = c.items_mut.result.ghost_name}, λ w. written_items places (length places) c.self.invariant.1 w ∙ ap (λ l. refill (length l) l w) c.self.view_is),
+    let cells = c.self.inside.row.cells in (
+      (refl {a = c.items_mut.result.ghost_name}, λ w. written_items cells (length cells) c.self.invariant.1 w ∙ ap (λ l. refill (length l) l w) c.self.view_is),
       record { writes_back = tt; value = c.items_mut.ensures.value ∙ c.self.view_is },
     )

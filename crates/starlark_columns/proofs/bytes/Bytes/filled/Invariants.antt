@@ -4,4 +4,4 @@ use Rattle.starlark_columns.specs.Cells.{items_of}
 use Rattle.starlark_columns.proofs.bytes.Bytes.filled.Given as goal
 
 abbrev pub invariant-loop-made : goal.invariant-loop-made
-invariant-loop-made l = IsFront l.row.places l.made × (items_of l.row.places ≡ replicate l.made l.byte) × (length l.row.places ≡ l.count) × (l.row.at ≡ l.address.at)
+invariant-loop-made l = IsFront l.row.cells l.made × (items_of l.row.cells ≡ replicate l.made l.byte) × (length l.row.cells ≡ l.count) × (l.row.at ≡ l.address.at)

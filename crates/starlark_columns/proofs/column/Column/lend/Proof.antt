@@ -1,9 +1,9 @@
--- `lend` lends the places, and the column, open for good, is closed by what they follow. Assumes `Logic`.
+-- `lend` lends the cells, and the column, open for good, is closed by what they follow. Assumes `Logic`.
 use Rattle.starlark_columns.proofs.Walking.{◌≡◌, ℕ, ◌+◌, ◌*◌, ◌<◌, ◌^◌, List, [], ◌∷◌, length, refl, sym, ap, subst, ◌∙◌, zero-add, zero-mul, Ura, Fml, GName, Lft, Share, ftrue, fsep, flft, fobs, fbor, SProp, ent, sep, emp, never, id⊢, ◌⊑◌, fact, fact_i, tables, inst_fn, a_type, named, dcons, dnil, Val, vptr, vstruct, vcons, vnil, alloc_all, pass_all, free_all, look_at, get, through, sets, ‵, raw, ◌⊛◌, some, later, ◌$◌, ◌∵◌, !, qed, by, move, keep, use0, use1, split, split3, join, pick, rewrite, fsplit, fsplit3, fjoin, flt_i, flt_l, group, await, Logic, sem, open_ref, takes_part, Body, whole, sub, agg, look_in, stop, fld, load, of_opd, no_more, and_then, returns, enter, no, follows, mem, param, bounded, param_laws, RattleType, owns, Ptr, block_ptr, in_block, in_a_block, MutBor, mut_vals, mut_Tells, makes_shadow, plain, mut_ref_to, named_lft, types_at, nothing, shape, Struct, Stays, stay_dropped, walk_of, Goes-spent_ref, proved, leaves, type_size}
-use Rattle.starlark_columns.specs.Ownership.{places_owned, row_owned}
-use Rattle.starlark_columns.specs.Loan.{kept_places, KeptPlaces, lent_places}
+use Rattle.starlark_columns.specs.Ownership.{cells_owned, row_owned}
+use Rattle.starlark_columns.specs.Loan.{kept_cells, KeptCells, lent_cells}
 use Rattle.starlark_columns.proofs.ColumnOpens as O
-use Rattle.starlark_columns.proofs.LentPlaces.{length-kept_places, places_itself}
+use Rattle.starlark_columns.proofs.LentCells.{length-kept_cells, cells_itself}
 use Rattle.starlark_columns.specs.contracts.loan.Loan as loan
 use Rattle.starlark_columns.specs.contracts.column.Column.lend.{ended, clauses}
 use Rattle.starlark_columns.specs.contracts.column.Column.lend.Key as key
@@ -14,16 +14,16 @@ module _ (K : RattleType) (kept : K.Denot → K.Denot → K.Denot) {M : Type 1} 
   abbrev s : ℕ
   s = type_size K
 
-  -- all that is kept while the places are lent
+  -- all that is kept while the cells are lent
   abbrev Rest : SProp 𝓤
   Rest = sep 𝓤 (sem 𝓛 (O.Word K 𝓛 b o d.address.at)) (O.Shell K 𝓛 b o d vs)
 
-  -- the places come back with what was written
+  -- the cells come back with what was written
   back : d.row.at ≡ block_ptr ab ao → length v * s < 2 ^ 63 → (ws : (O.W K).Denot)
-      → ent 𝓤 (sep 𝓤 (sem 𝓛 ((KeptPlaces K kept v).own_at ws ab ao)) Rest) (sem 𝓛 ((mem (O.W K)).own_at (kept_places kept v ws) b o))
+      → ent 𝓤 (sep 𝓤 (sem 𝓛 ((KeptCells K kept v).own_at ws ab ao)) Rest) (sem 𝓛 ((mem (O.W K)).own_at (kept_cells kept v ws) b o))
   back at small ws =
-      let ds = kept_places kept v ws in let long : length ds ≡ length v = length-kept_places kept v ws in
-      qed 𝓛 (‵ ((KeptPlaces K kept v).own_at ws ab ao) ∷ raw Rest ∷ []) ∵ flt_i ! (length ds * s) (2 ^ 63) (subst (λ k. k * s < 2 ^ 63) (sym long) small) $ fjoin ! $
+      let ds = kept_cells kept v ws in let long : length ds ≡ length v = length-kept_cells kept v ws in
+      qed 𝓛 (‵ ((KeptCells K kept v).own_at ws ab ao) ∷ raw Rest ∷ []) ∵ flt_i ! (length ds * s) (2 ^ 63) (subst (λ k. k * s < 2 ^ 63) (sym long) small) $ fjoin ! $
       rewrite ! 0 (λ (p : Ptr). ‵ (row_owned K p ds)) (sym at) refl $ by ! (O.shut K 𝓛 b o v d vs known ds long)
 
 pub lend_spec : {M : Type 1} → statement M
@@ -42,24 +42,24 @@ lend_spec 𝓤 𝓛 𝓜 𝓡 wired X P L LP g dict _ =
     enter ! 𝓣.C 𝓣.Λ fn (vptr b o ∷ []) Post $ alloc_all ! (λ l. pass_all ! refl ((tt, tt), tt) $ open_ref ! tt (mem W) {b = b} {o = o} $
     use1 𝓛 (some (λ (z : ((d : O.D K) × O.Known K v d) × List Val). raw (O.Cuts K 𝓛 b o v z))) (O.cut K 𝓛 b o (param_laws 0 X L) v) $ pick ! (λ z.
     let d : O.D K = z.0.0 in let known = z.0.1 in let vs : List Val = z.1 in
-    use1 𝓛 (‵ (O.Word K 𝓛 b o d.address.at) ⊛ ‵ (row_owned K d.row.at d.row.places) ⊛ raw (O.Shell K 𝓛 b o d vs)) (id⊢ 𝓤 _) $ split3 ! $ move ! (1 ∷ []) $ fsplit ! $ flt_l ! (λ small.
-    in_a_block ! d.row.at (λ p. in_block p (places_owned K p d.row.places)) (id⊢ 𝓤 (never 𝓤)) (λ ab ao at.
-    -- [the places; the address; the shell; the open borrow and its names; the others]
+    use1 𝓛 (‵ (O.Word K 𝓛 b o d.address.at) ⊛ ‵ (row_owned K d.row.at d.row.cells) ⊛ raw (O.Shell K 𝓛 b o d vs)) (id⊢ 𝓤 _) $ split3 ! $ move ! (1 ∷ []) $ fsplit ! $ flt_l ! (λ small.
+    in_a_block ! d.row.at (λ p. in_block p (cells_owned K p d.row.cells)) (id⊢ 𝓤 (never 𝓤)) (λ ab ao at.
+    -- [the cells; the address; the shell; the open borrow and its names; the others]
     let few : length v * s < 2 ^ 63 = subst (λ (l : W.Denot). length l * s < 2 ^ 63) known.0 small in let here : d.address.at ≡ block_ptr ab ao = sym known.1.0 ∙ at in
     rewrite ! 1 (λ (p : Ptr). ‵ (O.Word K 𝓛 b o p)) here refl $
     sets ! (of_opd ! (load ! (through ! refl (fld ! refl (fld ! refl (stop !)))) (look_in ! 1 (sub ! 0 refl (whole !))))) refl (tt, tt) $
     sets ! (agg ! (no_more !)) refl (tt, tt) $ sets ! (agg ! (and_then ! (get ! refl) (and_then ! (get ! refl) (no_more !)))) refl (tt, (tt, (tt, tt))) $
     rewrite ! 1 (λ (p : Ptr). ‵ (O.Word K 𝓛 b o p)) (sym here) refl $
-    rewrite ! 0 (λ (l : W.Denot). ‵ (places_owned K (block_ptr ab ao) l)) (known.0 ∙ sym (places_itself g.kept g.itself v)) refl $
+    rewrite ! 0 (λ (l : W.Denot). ‵ (cells_owned K (block_ptr ab ao) l)) (known.0 ∙ sym (cells_itself g.kept g.itself v)) refl $
     move ! (1 ∷ 2 ∷ []) $ join ! $ move ! (2 ∷ 3 ∷ 4 ∷ 1 ∷ 0 ∷ []) $ group ! 5 $
-    use1 𝓛 (later (some (λ (δ : GName). ‵ (fobs δ (W.coded.code v)) ⊛ ‵ (fbor κ (Body (KeptPlaces K g.kept v) ab ao δ)) ⊛ ‵ (flft κ q) ⊛ ‵ (follows W W γ δ (kept_places g.kept v)))))
-    (takes_part 𝓛 (mem W) (KeptPlaces K g.kept v) (kept_places g.kept v) κ q b o ab ao γ (Rest K g.kept 𝓛 b o v d vs known ab ao) (back K g.kept 𝓛 b o v d vs known ab ao at few) (W.coded.code v) (W.coded.code v) v) $ await ! tt $ pick ! (λ δ. split3 ! $
+    use1 𝓛 (later (some (λ (δ : GName). ‵ (fobs δ (W.coded.code v)) ⊛ ‵ (fbor κ (Body (KeptCells K g.kept v) ab ao δ)) ⊛ ‵ (flft κ q) ⊛ ‵ (follows W W γ δ (kept_cells g.kept v)))))
+    (takes_part 𝓛 (mem W) (KeptCells K g.kept v) (kept_cells g.kept v) κ q b o ab ao γ (Rest K g.kept 𝓛 b o v d vs known ab ao) (back K g.kept 𝓛 b o v d vs known ab ao at few) (W.coded.code v) (W.coded.code v) v) $ await ! tt $ pick ! (λ δ. split3 ! $
     fjoin ! $ move ! (1 ∷ []) $ split ! $ move ! (2 ∷ []) $
-    -- [the lent places; the token of κ; what the column follows; the others]
+    -- [the lent cells; the token of κ; what the column follows; the others]
     let start : 0 * s + ao ≡ ao = ap (λ (k : ℕ). k + ao) (zero-mul s) ∙ zero-add ao in let made : Val = vstruct (vcons (vptr ab ao) (vcons (vstruct vnil) vnil)) in
     let It : RattleType = loan.the_row (named_lft 3 0 tt κs) K (param 1 P) g in let Data : RattleType = Struct (shape (loan.the_type (named_lft 3 0 tt κs) K (param 1 P) g)) in
     let new : It.Denot = record { start = block_ptr ab ao; mark = record {}; name = δ; tie = δ; from = 0; rest = v } in
-    rewrite ! 0 (λ (k : ℕ). ‵ (lent_places K g.kept κ ab k δ v)) (sym start) refl $ flt_i ! ((0 + length v) * s) (2 ^ 63) (subst (λ (k : ℕ). k * s < 2 ^ 63) (sym (zero-add (length v))) few) $ fjoin ! $
+    rewrite ! 0 (λ (k : ℕ). ‵ (lent_cells K g.kept κ ab k δ v)) (sym start) refl $ flt_i ! ((0 + length v) * s) (2 ^ 63) (subst (λ (k : ℕ). k * s < 2 ^ 63) (sym (zero-add (length v))) few) $ fjoin ! $
     use0 𝓛 (‵ (Data.own_val (block_ptr ab ao, (record {}, tt)) (made ∷ [])))
     (makes_shadow 𝓛 (Data.own_val (block_ptr ab ao, (record {}, tt)) (made ∷ [])) (λ vss. (tt, (tt, ((λ uss. (tt, tt)), tt)))) ((vptr ab ao ∷ [], (vstruct vnil ∷ [], tt)), (refl, (refl, ((tt, (refl, tt)), tt))))) $ fjoin ! $
     returns ! (look_at ! 0 refl) $ free_all ! refl $ move ! (1 ∷ 3 ∷ []) $ join ! $

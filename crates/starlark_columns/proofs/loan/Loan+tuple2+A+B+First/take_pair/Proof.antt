@@ -1,10 +1,10 @@
--- `take_pair` hands out the pair of the next place, of which the first part stays. Assumes `Logic`.
+-- `take_pair` hands out the pair of the next cell, of which the first part stays. Assumes `Logic`.
 use Rattle.starlark_columns.proofs.Walking.{◌≡◌, ℕ, suc, ◌+◌, ◌*◌, ◌<◌, ◌^◌, Option, Some, List, [], ◌∷◌, ◌++◌, length, refl, sym, ap, subst, ◌∙◌, arith, w64, suc-mul, Fml, GName, Lft, Share, Incl-trans, ftrue, fsep, flft, full_share, SProp, emp, never, id⊢, ◌⊑◌, Lfts, fact, fact_i, tables, inst_fn, a_type, named, Val, vint, vptr, vstruct, vcons, vnil, of_list, alloc_all, pass_all, free_all, look_at, get, through, is, sets, sets_last, env, Item, ‵, raw, ◌⊛◌, some, later, at_ret, ◌$◌, ◌∵◌, !, qed, by, move, keep, use0, use2, split, split3, join, pick, rewrite, fsplit, fsplit3, fjoin, fjoin3, feq_i, flt_i, flt_l, await, whole, sub, look_in, agg, and_then, no_more, stop, fld, load, bin, addr, size_word, of_opd, first, blocks, exec, returns, enter, usize, yes, shows, cell_at, param, layouts, param_laws, uint_vals, uint_Tells, RattleType, owns, Ptr, ptr_val, in_a_block, Bor, MutBor, MutRef, ShrRef, mut_vals, mut_Tells, plain, named_lft, types_at, heard, nothing, peeks, opens, closes, Tuple, Stays, stay_ref, stay_dropped, walk_of, Goes-ref, Goes-dropped, times_below, after, uncapped, proved, leaves, type_size, IsFilled}
-use Rattle.starlark_columns.specs.Loan.{lent_from, lent_places}
+use Rattle.starlark_columns.specs.Loan.{lent_from, lent_cells}
 use Rattle.starlark_columns.proofs.Fields.{both}
 use Rattle.starlark_columns.proofs.PairParts.{part, first_at, second_at}
 use Rattle.starlark_columns.proofs.EntryOut.{Out, pair_out}
-use Rattle.starlark_columns.proofs.LentPlaces.{next_full, Off, item_off}
+use Rattle.starlark_columns.proofs.LentCells.{next_full, Off, item_off}
 use Rattle.starlark_columns.specs.contracts.loan.Loan as loan
 use Rattle.starlark_columns.specs.contracts.loan.First as first_stays
 use Rattle.starlark_columns.specs.contracts.loan.FirstKeepsTuple2.TheImpl.{ghosts}
@@ -32,7 +32,7 @@ take_pair_spec 𝓤 𝓛 𝓜 𝓡 wired X Y L LY =
     enter ! 𝓣.C 𝓣.Λ fn (vptr rb ro ∷ vint w64 i ∷ []) Post $ alloc_all ! (λ l. pass_all ! refl ((tt, tt), ((tt, record { fits = are.1.0.1 }), tt)) $ let Ev = env fn.locals l in
     opens ! tt R {h = d} rb ro (λ vs. move ! (1 ∷ []) $ peeks ! R _ (shows 𝓛 R) d vs (λ shown. fsplit ! $ move ! (1 ∷ 6 ∷ []) $
     in_a_block ! d.start (λ p. lent_from ι K g.kept p d.from d.name d.rest) (id⊢ 𝓤 (never 𝓤)) (λ b o at. fsplit ! $ flt_l ! (λ small.
-    -- [the places; the token of ι; the fields; their cell, the open borrow and its names; the others]
+    -- [the cells; the token of ι; the fields; their cell, the open borrow and its names; the others]
     let two = shown.0 in
     let word : vs ≡ vstruct (vcons (vptr b o) (vcons (vstruct vnil) vnil)) ∷ [] = two.1.0 ∙ ap (λ (ws : List Val). vstruct (of_list (ws ++ (two.0.1.0 ++ []))) ∷ []) two.1.1.0
     ∙ ap (λ (ws : List Val). vstruct (of_list (ptr_val d.start ∷ (ws ++ []))) ∷ []) two.1.1.1.0.1.0 ∙ ap (λ (p : Ptr). vstruct (vcons (ptr_val p) (vcons (vstruct vnil) vnil)) ∷ []) at in
@@ -44,16 +44,16 @@ take_pair_spec 𝓤 𝓛 𝓜 𝓡 wired X Y L LY =
     sets ! (of_opd ! (load ! (through ! refl (fld ! refl (stop !))) (look_in ! 3 (sub ! 0 refl (whole !))))) refl (tt, tt) $
     sets ! (is ! (bin ! (get ! refl) (size_word !) (record { fits = subst (λ (k : ℕ). k < 2 ^ 64) (sym (uncapped i s far)) far })) (ap (vint w64) (uncapped i s far))) refl (tt, record { fits = far }) $
     sets ! (bin ! (get ! refl) (get ! refl) tt) refl (tt, tt) $ rewrite ! 3 (λ (ws : List Val). ‵ (cell_at full_share R.mir ws rb ro)) (sym word) refl $
-    rewrite ! 0 (λ (k : ℕ). ‵ (lent_places K g.kept ι b (k * s + o) d.name d.rest)) (sym next) refl $
-    rewrite ! 0 (λ (t : List (Option One)). ‵ (lent_places K g.kept ι b begin d.name t)) cut.2 refl $
+    rewrite ! 0 (λ (k : ℕ). ‵ (lent_cells K g.kept ι b (k * s + o) d.name d.rest)) (sym next) refl $
+    rewrite ! 0 (λ (t : List (Option One)). ‵ (lent_cells K g.kept ι b begin d.name t)) cut.2 refl $
     use2 𝓛 (later (some (Off K g.kept g.itself 𝓛 ι r b begin d.name ps x))) (item_off K g.kept g.itself 𝓛 ι r b begin d.name ps x) $ await ! tt $ pick ! (λ γs. split3 ! $
-    -- [the pair; the places; the token of ι; the fields; their cell, the open borrow and its names; the others]
+    -- [the pair; the cells; the token of ι; the fields; their cell, the open borrow and its names; the others]
     let long = Incl-trans bounds.1.1.1.0 la in let LA = param_laws 0 X L in let LB = param_laws 1 Y LY in let Pairs : GName → Item 𝓤 = Out (part A) (part B) LA LB 𝓛 ι r b begin γs.0 (named 1) long x in
     move ! (0 ∷ 2 ∷ []) $ use2 𝓛 (later (some Pairs)) (pair_out (part A) (part B) LA LB 𝓛 ι r b begin γs.0 (named 1) long x) $ await ! tt $ pick ! (λ δ. split3 ! $
-    -- [the `&`; the `&mut`; the token of ι; the places; the fields; their cell, the open borrow and its names; the others]
+    -- [the `&`; the `&mut`; the token of ι; the cells; the fields; their cell, the open borrow and its names; the others]
     let k : Bor X.Denot = record { ref_ptr = (b, first_at (part A) (part B) begin); now = x.0 } in let v : MutBor Y.Denot = record { ref_ptr = (b, second_at (part A) (part B) begin); ghost_name = δ; now = x.1 } in
     let out : Val = vstruct (vcons (vptr b k.ref_ptr.1) (vcons (vptr b v.ref_ptr.1) vnil)) in
-    move ! (3 ∷ []) $ rewrite ! 0 (λ (k : ℕ). ‵ (lent_places K g.kept ι b k γs.1 ps)) on refl $ flt_i ! ((suc d.from + length ps) * s) (2 ^ 63) fewer $ fjoin ! $
+    move ! (3 ∷ []) $ rewrite ! 0 (λ (k : ℕ). ‵ (lent_cells K g.kept ι b k γs.1 ps)) on refl $ flt_i ! ((suc d.from + length ps) * s) (2 ^ 63) fewer $ fjoin ! $
     rewrite ! 0 (λ (z : Ptr). ‵ (lent_from ι K g.kept z (suc d.from) γs.1 ps)) (sym at) refl $ move ! (4 ∷ 0 ∷ []) $ fjoin ! $ move ! (4 ∷ 0 ∷ 5 ∷ 6 ∷ 7 ∷ []) $
     let new : R.Denot = record { start = d.start; mark = d.mark; name = γs.1; tie = d.tie; from = suc d.from; rest = ps } in
     closes ! tt R new vs rb ro $ sets ! (addr ! (through ! refl (fld ! refl (stop !)))) refl (tt, tt) $ sets ! (addr ! (through ! refl (fld ! refl (stop !)))) refl (tt, tt) $

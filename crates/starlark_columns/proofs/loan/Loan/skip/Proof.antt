@@ -1,8 +1,8 @@
--- `skip` passes over a place, which stays as it is. Assumes `Logic`.
+-- `skip` passes over a cell, which stays as it is. Assumes `Logic`.
 use Rattle.starlark_columns.proofs.Walking.{◌≡◌, ℕ, suc, ◌+◌, ◌*◌, ◌<◌, ◌^◌, Option, List, [], ◌∷◌, length, refl, sym, ap, subst, arith, suc-mul, Fml, GName, Lft, Share, ftrue, fsep, flft, SProp, emp, never, id⊢, ◌⊑◌, Lfts, fact, fact_i, tables, inst_fn, a_type, named, dcons, dnil, Val, vptr, vunit, alloc_all, pass_all, free_all, look_at, sets, ‵, raw, ◌⊛◌, some, later, ◌$◌, ◌∵◌, !, qed, by, move, keep, use0, use2, split, split3, join, pick, rewrite, fsplit, fsplit3, fjoin, fjoin3, feq_i, flt_i, flt_l, await, unit_lit, of_opd, returns, enter, param, bounded, RattleType, owns, Ptr, in_a_block, MutBor, mut_vals, mut_Tells, plain, named_lft, types_at, heard, nothing, opens, closes, Stays, stay_ref, walk_of, Goes-ref, proved, leaves, type_size}
 use Rattle.std.proofs.Common.{drop}
-use Rattle.starlark_columns.specs.Loan.{lent_from, lent_places}
-use Rattle.starlark_columns.proofs.LentPlaces.{parted, Left, place_off}
+use Rattle.starlark_columns.specs.Loan.{lent_from, lent_cells}
+use Rattle.starlark_columns.proofs.LentCells.{parted, Left, cell_off}
 use Rattle.starlark_columns.specs.contracts.loan.Loan as loan
 use Rattle.starlark_columns.specs.contracts.loan.Loan.skip.{ended, clauses}
 use Rattle.starlark_columns.specs.contracts.loan.Loan.skip.Key as key
@@ -27,13 +27,13 @@ skip_spec 𝓤 𝓛 𝓜 𝓡 wired X P L LP g dict _ =
     enter ! 𝓣.C 𝓣.Λ fn (vptr rb ro ∷ []) Post $ alloc_all ! (λ l. pass_all ! refl ((tt, tt), tt) $
     opens ! tt R {h = d} rb ro (λ vs. move ! (1 ∷ []) $ fsplit ! $ move ! (1 ∷ 6 ∷ []) $
     in_a_block ! d.start (λ p. lent_from ι K g.kept p d.from d.name d.rest) (id⊢ 𝓤 (never 𝓤)) (λ b o at. fsplit ! $ flt_l ! (λ small.
-    -- [the places; the token of ι; the fields; their cell, the open borrow and its names; the others]
+    -- [the cells; the token of ι; the fields; their cell, the open borrow and its names; the others]
     let cut = parted d.rest asked in let p : Option X.Denot = cut.0 in let ps : List (Option X.Denot) = cut.1 in let begin : ℕ = d.from * s + o in
     let on : begin + s ≡ suc d.from * s + o = omega (arith, suc-mul d.from s) in
     let fewer : (suc d.from + length ps) * s < 2 ^ 63 = let n : d.from + length d.rest ≡ suc d.from + length ps = omega (arith, ap length cut.2) in subst (λ (k : ℕ). k * s < 2 ^ 63) n small in
-    rewrite ! 0 (λ (t : List (Option X.Denot)). ‵ (lent_places K g.kept ι b begin d.name t)) cut.2 refl $
-    use2 𝓛 (later (some (Left K g.kept g.itself 𝓛 ι r b begin d.name ps p))) (place_off K g.kept g.itself 𝓛 ι r b begin d.name ps p) $ await ! tt $ pick ! (λ δ. split ! $
-    rewrite ! 0 (λ (k : ℕ). ‵ (lent_places K g.kept ι b k δ ps)) on refl $ flt_i ! ((suc d.from + length ps) * s) (2 ^ 63) fewer $ fjoin ! $
+    rewrite ! 0 (λ (t : List (Option X.Denot)). ‵ (lent_cells K g.kept ι b begin d.name t)) cut.2 refl $
+    use2 𝓛 (later (some (Left K g.kept g.itself 𝓛 ι r b begin d.name ps p))) (cell_off K g.kept g.itself 𝓛 ι r b begin d.name ps p) $ await ! tt $ pick ! (λ δ. split ! $
+    rewrite ! 0 (λ (k : ℕ). ‵ (lent_cells K g.kept ι b k δ ps)) on refl $ flt_i ! ((suc d.from + length ps) * s) (2 ^ 63) fewer $ fjoin ! $
     rewrite ! 0 (λ (z : Ptr). ‵ (lent_from ι K g.kept z (suc d.from) δ ps)) (sym at) refl $ move ! (2 ∷ 0 ∷ []) $ fjoin ! $ move ! (2 ∷ 0 ∷ 3 ∷ 4 ∷ 5 ∷ []) $
     let new : R.Denot = record { start = d.start; mark = d.mark; name = δ; tie = d.tie; from = suc d.from; rest = ps } in
     closes ! tt R new vs rb ro $ sets ! (of_opd ! (unit_lit !)) refl (tt, tt) $ returns ! (look_at ! 0 refl) $ free_all ! refl $

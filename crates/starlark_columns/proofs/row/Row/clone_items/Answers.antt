@@ -5,14 +5,14 @@ use Rattle.starlark_columns.proofs.Fronts.{cloned_more, none_at_front, front_emp
 use Rattle.starlark_columns.proofs.row.Row.clone_items.Goals as goal
 
 pub loop-made-init : goal.loop-made-init
-loop-made-init g c = let to = c.args.to.now.places in let none = (front_empties to (length to) (none_at_front to c.requires.empty)).1 in
+loop-made-init g c = let to = c.args.to.now.cells in let none = (front_empties to (length to) (none_at_front to c.requires.empty)).1 in
     (c.requires.empty, refl, subst (λ l. AllZip g.T.Clone.is_clone [] l) (sym none) tt, refl)
 
 pub loop-made-preserved : goal.loop-made-preserved
 loop-made-preserved g c = let at = c.loop-made in let put = c.push_last.ensures in let item = c.index-items-made.result in
     let here = c.index-items-made.is ∙ ap (λ l. get_or l at.made item) c.items-items.ensures in (
       put.front,
-      put.places ∙ at.invariant.1,
-      cloned_more g.T.Clone.is_clone (items_of c.args.self.now.places) (items_of at.to.places) (items_of c.push_last.new.self.places) item c.in-Ok.item at.made (omega (arith, c.loop-made-test.true, c.requires.front.count)) here put.items at.invariant.2 c.in-Ok.ensures.cases,
+      put.cells ∙ at.invariant.1,
+      cloned_more g.T.Clone.is_clone (items_of c.args.self.now.cells) (items_of at.to.cells) (items_of c.push_last.new.self.cells) item c.in-Ok.item at.made (omega (arith, c.loop-made-test.true, c.requires.front.count)) here put.items at.invariant.2 c.in-Ok.ensures.cases,
       put.at ∙ at.invariant.3,
     )

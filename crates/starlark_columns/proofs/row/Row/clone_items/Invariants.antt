@@ -5,4 +5,4 @@ use Rattle.starlark_columns.specs.Cells.{items_of}
 use Rattle.starlark_columns.proofs.row.Row.clone_items.Given as goal
 
 abbrev pub invariant-loop-made : goal.invariant-loop-made
-invariant-loop-made g l = IsFront l.to.places l.made × (length l.to.places ≡ length l.initial.to.places) × AllZip g.T.Clone.is_clone (take l.made (items_of l.self.places)) (items_of l.to.places) × (l.to.at ≡ l.initial.to.at)
+invariant-loop-made g l = IsFront l.to.cells l.made × (length l.to.cells ≡ length l.initial.to.cells) × AllZip g.T.Clone.is_clone (take l.made (items_of l.self.cells)) (items_of l.to.cells) × (l.to.at ≡ l.initial.to.at)

@@ -1,8 +1,8 @@
--- `get_mut` lends one item, and its place follows it. Assumes `Logic`.
+-- `get_mut` lends one item, and its cell follows it. Assumes `Logic`.
 use Rattle.starlark_columns.proofs.Walking.{◌≡◌, ◌≤◌, ◌+◌, ◌-◌, Some, get_or, slice_set, zero, suc, add-one, ℕ, ◌*◌, ◌<◌, ◌^◌, Option, List, [], ◌∷◌, ◌++◌, length, refl, sym, ap, subst, ◌∙◌, arith, w64, Ura, length-set, take, drop-cons, Fml, GName, Lft, Share, ftrue, fsep, fat, flft, full_share, SProp, ent, sep, emp, never, id⊢, fst∗, ◌⊑◌, fact, fact_i, tables, inst_fn, a_type, named, Val, vint, vptr, alloc_all, pass_all, free_all, look_at, take_at, give_at, get, get_in, through, is, sets, sets_last, env, done, ‵, raw, ◌⊛◌, some, later, at_ret, ◌$◌, ◌∵◌, !, qed, by, move, keep, use0, use1, use2, split, split3, join, pick, rewrite, fsplit, fsplit3, group, fpack, fjoin, fjoin3, flt_i, flt_l, await, Logic, sem, whole, sub, stop, bin, addr, size_word, fld, of_opd, first, blocks, exec, returns, enter, usize, yes, no, mem, cell_at, part_of, layout, layouts, uint_vals, uint_Tells, RattleType, owns, Ptr, block_ptr, in_block, in_a_block, follows, Part, lends_Part, MutBor, MutRef, mut_vals, mut_Tells, plain, mut_ref_to, types_at, heard, nothing, opens, Stays, stay_dropped, walk_of, Goes-dropped, Goes-spent_ref, El, el_x, times_below, uncapped, after, proved, leaves, type_size, slice_range, None, R, IsFilled, with_range}
 use lib.ListN.{drop}
-use Rattle.starlark_columns.specs.Ownership.{places_owned, row_owned}
-use Rattle.starlark_columns.specs.Lend.{with_places}
+use Rattle.starlark_columns.specs.Ownership.{cells_owned, row_owned}
+use Rattle.starlark_columns.specs.Lend.{with_cells}
 use Rattle.starlark_columns.proofs.Fields.{word, word_good, address_told, RowMark}
 use Rattle.starlark_columns.proofs.Memory.{Row, Around, run_out, run_in}
 use Rattle.starlark_columns.proofs.Slotting.{filled_within}
@@ -14,7 +14,7 @@ use Rattle.starlark_columns.proofs.row.Row.get_mut.Statement.{statement}
 use Rattle.starlark_columns.proofs.row.Row.get_mut.Code as code
 
 module _ {X : Type 0} where
-  -- one place of a row as a range
+  -- one cell of a row as a range
   one_out : (cs : List (Option X)) (i : ℕ) (x : X) → i < length cs → get_or cs i None ≡ Some x → slice_range cs i (i + 1) ≡ Some x ∷ []
   one_out cs i x lt e = let one : i + 1 - i ≡ 1 = omega arith in ap (λ (k : ℕ). take k (drop i cs)) one ∙ ap (λ l. take 1 l) (drop-cons cs i None lt ∙ ap (λ c. c ∷ drop (suc i) cs) e)
 
@@ -34,10 +34,10 @@ module _ (E : El) {M : Type 1} {𝓤 : Ura M} (𝓛 : Logic 𝓤) (h : (row.the_
   s = type_size (R E)
 
   abbrev cs : List (Option (el_x E))
-  cs = h.places
+  cs = h.cells
 
   abbrev new : el_x E → Own.Denot
-  new w = with_places h (slice_set cs i (Some w))
+  new w = with_cells h (slice_set cs i (Some w))
 
   -- all that is kept while the item is lent
   abbrev Rest : i ≤ i + 1 → i + 1 ≤ length cs → Fml
@@ -65,7 +65,7 @@ get_mut_spec 𝓤 𝓛 𝓜 𝓡 wired X L =
     (λ κs. (mut_vals, ((λ x. word x.at ∷ []), (uint_vals w64, tt)))) (λ κs. (mut_Tells (named 0) κs.0 Own, (address_told (R E), (uint_Tells w64, tt)))) (λ κs qs bounds a gh are.
     let κ : Lft = κs.0 in let q : Share = qs.0 in let ι : Lft = κs.1.0 in let w : Share = qs.1.0 in
     let self : MutBor Own.Denot = a.0 in let γ : GName = self.ghost_name in let rb : ℕ = self.ref_ptr.0 in let ro : ℕ = self.ref_ptr.1 in let h : Own.Denot = self.now in let p : Ptr = a.1.0.at in let i : ℕ = a.1.1.0 in
-    let cs : List (Option X.Denot) = h.places in let s : ℕ = type_size (R E) in let Out : RattleType = MutRef (named 0) κ (R E) in
+    let cs : List (Option X.Denot) = h.cells in let s : ℕ = type_size (R E) in let Out : RattleType = MutRef (named 0) κ (R E) in
     let y : (walk_of 𝓛 En hs c).Ghost = ((κs, qs, bounds, a, (vptr rb ro ∷ [], (word p ∷ [], (vint w64 i ∷ [], tt)))), gh) in let Post : Val → SProp 𝓤 = (walk_of 𝓛 En hs c).post y in
     let Its : Type 0 = p ≡ h.at in let Full : Type 0 = IsFilled cs i in
     qed 𝓛 (((‵ (flft κ q) ⊛ ‵ (flft ι w) ⊛ ‵ ftrue) ⊛ ‵ (owns (types_at En.signature.params κs) a y.0.4)) ∷ raw (fact 𝓤 (ι ⊑ X.lives)) ∷ raw (fact 𝓤 Its) ∷ raw (fact 𝓤 Full) ∷ []) ∵
@@ -73,8 +73,8 @@ get_mut_spec 𝓤 𝓛 𝓜 𝓡 wired X L =
     let x : X.Denot = full.0 in let there = full.1 in let lt : i < length cs = filled_within cs i full in let ordered : i ≤ i + 1 = omega arith in let within : i + 1 ≤ length cs = omega (arith, lt) in let at_first = Own.coded.code h in
     enter ! 𝓣.C 𝓣.Λ fn (vptr rb ro ∷ word p ∷ vint w64 i ∷ []) Post $
     alloc_all ! (λ l. pass_all ! refl ((tt, tt), (word_good p, ((tt, record { fits = are.1.1.0.1 }), tt))) $ let Ev = env fn.locals l in
-    opens ! tt Own {h = h} rb ro (λ vs. move ! (1 ∷ []) $ fsplit ! $ move ! (1 ∷ []) $ fsplit ! $ flt_l ! (λ small. in_a_block ! h.at (λ z. in_block z (places_owned (R E) z cs)) (id⊢ 𝓤 (never 𝓤)) (λ b o at.
-    -- [the places; the mark; the cell, the open borrow and its names; the item's token]
+    opens ! tt Own {h = h} rb ro (λ vs. move ! (1 ∷ []) $ fsplit ! $ move ! (1 ∷ []) $ fsplit ! $ flt_l ! (λ small. in_a_block ! h.at (λ z. in_block z (cells_owned (R E) z cs)) (id⊢ 𝓤 (never 𝓤)) (λ b o at.
+    -- [the cells; the mark; the cell, the open borrow and its names; the item's token]
     let far : i * s < 2 ^ 64 = omega (arith, times_below i (length cs) s (2 ^ 63) (omega (arith, lt)) small) in let here : ℕ × ℕ = (b, i * s + o) in
     take_at ! 2 $ rewrite ! 0 (λ (z : Ptr). ‵ (fat full_share (layout At) (l 2) 0 (word z))) (its ∙ at) refl $ give_at ! 2 $ first ! $ blocks ! $
     sets ! (is ! (bin ! (get ! refl) (size_word !) (record { fits = subst (λ (k : ℕ). k < 2 ^ 64) (sym (uncapped i s far)) far })) (ap (vint w64) (uncapped i s far))) refl (tt, record { fits = far }) $

@@ -1,10 +1,10 @@
--- `items_mut` lends the items at the front, and the places follow them. Assumes `Logic`.
+-- `items_mut` lends the items at the front, and the cells follow them. Assumes `Logic`.
 use Rattle.starlark_columns.proofs.Walking.{◌≡◌, ◌+◌, ◌-◌, Some, ℕ, ◌*◌, ◌<◌, ◌^◌, Option, List, [], ◌∷◌, ◌++◌, map, length, refl, sym, ap, subst, ◌∙◌, arith, w64, Ura, front_of, Fml, GName, Lft, Share, ftrue, fsep, fat, flft, full_share, SProp, ent, sep, emp, never, id⊢, ◌⊑◌, fact, fact_i, tables, inst_fn, a_type, named, ty_ptr, Val, vint, vptr, has_ty, WT, alloc_all, pass_all, free_all, look_at, take_at, give_at, get, get_in, sets, sets_last, env, done, ‵, raw, ◌⊛◌, some, later, at_ret, ◌$◌, ◌∵◌, !, qed, by, move, keep, use0, use1, use2, split, split3, join, pick, rewrite, fsplit, fsplit3, group, fpack, fjoin, fjoin3, flt_i, flt_l, await, Logic, sem, cells, whole, sub, agg, stop, fld, no_more, and_then, of_opd, first, blocks, exec, returns, enter, usize, yes, no, mem, cell_at, part_of, layout, layouts, uint_vals, uint_Tells, RattleType, owns, Ptr, block_ptr, in_block, in_a_block, Array, follows, Elements, lends_Elements, MutBor, mut_vals, mut_Tells, MutSlice, slice_ty, slice_val, plain, mut_ref_to, types_at, heard, nothing, opens, Stays, stay_dropped, walk_of, Goes-dropped, Goes-spent_ref, El, el_x, times_below, after, length-map, proved, leaves, type_size, refill, T, R, items_of, empties}
 use lib.ListN.{drop}
-use Rattle.starlark_columns.specs.Ownership.{places_owned, row_owned}
+use Rattle.starlark_columns.specs.Ownership.{cells_owned, row_owned}
 use Rattle.starlark_columns.specs.Front.{IsFront, with_items}
-use Rattle.starlark_columns.specs.Lend.{with_places}
-use Rattle.starlark_columns.proofs.Fronts.{row_is, written_places}
+use Rattle.starlark_columns.specs.Lend.{with_cells}
+use Rattle.starlark_columns.proofs.Fronts.{row_is, written_cells}
 use Rattle.starlark_columns.proofs.Fields.{word, word_good, address_told, RowMark}
 use Rattle.starlark_columns.proofs.Memory.{Row, cut, glue, to_items, of_items}
 use Rattle.starlark_columns.specs.contracts.block.Address as address
@@ -14,7 +14,7 @@ use Rattle.starlark_columns.specs.contracts.row.Row.items_mut.Key as key
 use Rattle.starlark_columns.proofs.row.Row.items_mut.Statement.{statement}
 use Rattle.starlark_columns.proofs.row.Row.items_mut.Code as code
 
-module _ (E : El) {M : Type 1} {𝓤 : Ura M} (𝓛 : Logic 𝓤) (h : (row.the_row (R E)).Denot) (n rb ro : ℕ) (vs : List Val) (b o : ℕ) (front : IsFront h.places n) where
+module _ (E : El) {M : Type 1} {𝓤 : Ura M} (𝓛 : Logic 𝓤) (h : (row.the_row (R E)).Denot) (n rb ro : ℕ) (vs : List Val) (b o : ℕ) (front : IsFront h.cells n) where
   abbrev Own : RattleType
   Own = row.the_row (R E)
 
@@ -22,13 +22,13 @@ module _ (E : El) {M : Type 1} {𝓤 : Ura M} (𝓛 : Logic 𝓤) (h : (row.the_
   s = type_size (R E)
 
   abbrev cs : List (Option (el_x E))
-  cs = h.places
+  cs = h.cells
 
   abbrev xs : List (el_x E)
   xs = items_of cs
 
   abbrev new : List (el_x E) → Own.Denot
-  new ws = with_places h (with_items cs ws)
+  new ws = with_cells h (with_items cs ws)
 
   abbrev free : List (Option (el_x E))
   free = empties (length cs - n)
@@ -52,7 +52,7 @@ module _ (E : El) {M : Type 1} {𝓤 : Ura M} (𝓛 : Logic 𝓤) (h : (row.the_
       qed 𝓛 (‵ (cells (mem (R E)) ws b o) ∷ ‵ Rest ∷ []) ∵ use1 𝓛 (‵ (Row E 𝓛 b o (map Some ws))) (of_items E 𝓛 b ws o) $
       move ! (1 ∷ []) $ fsplit3 ! $ move ! (3 ∷ 0 ∷ []) $ use2 𝓛 (‵ (Row E 𝓛 b o (map Some ws ++ free))) (glue E 𝓛 b (map Some ws) free o end (reaches ws (same ∙ front.count))) $
       rewrite ! 0 (λ (l : List (Option (el_x E))). ‵ (Row E 𝓛 b o l)) is refl $
-      flt_i ! (length ds * s) (2 ^ 63) (subst (λ k. k * s < 2 ^ 63) (sym (written_places cs n front ws)) small) $ fjoin ! $ rewrite ! 0 (λ (p : Ptr). ‵ (row_owned (R E) p ds)) (sym at) refl $
+      flt_i ! (length ds * s) (2 ^ 63) (subst (λ k. k * s < 2 ^ 63) (sym (written_cells cs n front ws)) small) $ fjoin ! $ rewrite ! 0 (λ (p : Ptr). ‵ (row_owned (R E) p ds)) (sym at) refl $
       move ! (1 ∷ 0 ∷ []) $ fjoin ! $ move ! (1 ∷ 0 ∷ []) $ fjoin ! $ fpack ! (List Val) (λ us. fsep (cell_at full_share Own.mir us rb ro) (Own.own_val (new ws) us)) vs $ done !
 
 pub items_mut_spec : {M : Type 1} → statement M
@@ -65,7 +65,7 @@ items_mut_spec 𝓤 𝓛 𝓜 𝓡 wired X L =
     (λ κs. (mut_vals, ((λ x. word x.at ∷ []), (uint_vals w64, tt)))) (λ κs. (mut_Tells (named 0) κs.0 Own, (address_told (R E), (uint_Tells w64, tt)))) (λ κs qs bounds a gh are.
     let κ : Lft = κs.0 in let q : Share = qs.0 in let ι : Lft = κs.1.0 in let w : Share = qs.1.0 in
     let self : MutBor Own.Denot = a.0 in let γ : GName = self.ghost_name in let rb : ℕ = self.ref_ptr.0 in let ro : ℕ = self.ref_ptr.1 in let h : Own.Denot = self.now in let p : Ptr = a.1.0.at in let n : ℕ = a.1.1.0 in
-    let cs : List (Option X.Denot) = h.places in let s : ℕ = type_size (R E) in let Out : RattleType = MutSlice (named 0) κ (R E) in
+    let cs : List (Option X.Denot) = h.cells in let s : ℕ = type_size (R E) in let Out : RattleType = MutSlice (named 0) κ (R E) in
     let y : (walk_of 𝓛 En hs c).Ghost = ((κs, qs, bounds, a, (vptr rb ro ∷ [], (word p ∷ [], (vint w64 n ∷ [], tt)))), gh) in let Post : Val → SProp 𝓤 = (walk_of 𝓛 En hs c).post y in
     let Its : Type 0 = p ≡ h.at in let Full : Type 0 = IsFront cs n in
     qed 𝓛 (((‵ (flft κ q) ⊛ ‵ (flft ι w) ⊛ ‵ ftrue) ⊛ ‵ (owns (types_at En.signature.params κs) a y.0.4)) ∷ raw (fact 𝓤 (ι ⊑ X.lives)) ∷ raw (fact 𝓤 Its) ∷ raw (fact 𝓤 Full) ∷ []) ∵
@@ -73,8 +73,8 @@ items_mut_spec 𝓤 𝓛 𝓜 𝓡 wired X L =
     let xs : List X.Denot = items_of cs in let long : length xs ≡ n = front.count in let at_first = Own.coded.code h in
     enter ! 𝓣.C 𝓣.Λ fn (vptr rb ro ∷ word p ∷ vint w64 n ∷ []) Post $
     alloc_all ! (λ l. pass_all ! refl ((tt, tt), (word_good p, ((tt, record { fits = are.1.1.0.1 }), tt))) $ let Ev = env fn.locals l in
-    opens ! tt Own {h = h} rb ro (λ vs. move ! (1 ∷ []) $ fsplit ! $ move ! (1 ∷ []) $ fsplit ! $ flt_l ! (λ small. in_a_block ! h.at (λ z. in_block z (places_owned (R E) z cs)) (id⊢ 𝓤 (never 𝓤)) (λ b o at.
-    -- [the places; the mark; the cell, the open borrow and its names; the item's token]
+    opens ! tt Own {h = h} rb ro (λ vs. move ! (1 ∷ []) $ fsplit ! $ move ! (1 ∷ []) $ fsplit ! $ flt_l ! (λ small. in_a_block ! h.at (λ z. in_block z (cells_owned (R E) z cs)) (id⊢ 𝓤 (never 𝓤)) (λ b o at.
+    -- [the cells; the mark; the cell, the open borrow and its names; the item's token]
     let here : ℕ × ℕ = (b, o) in let count : n < 2 ^ 64 = are.1.1.0.1 in let good : T (has_ty (slice_ty ty_ptr) (slice_val here n)) × WT (slice_val here n) = (tt, (tt, (record { fits = count }, tt))) in
     take_at ! 2 $ rewrite ! 0 (λ (z : Ptr). ‵ (fat full_share (layout At) (l 2) 0 (word z))) (its ∙ at) refl $ give_at ! 2 $ first ! $ blocks ! $
     sets_last ! (agg ! (and_then ! (get_in ! (fld ! refl (stop !)) (sub ! 0 refl (whole !))) (and_then ! (get ! refl) (no_more !)))) refl good $ exec ! 𝓣.C 𝓣.Λ Ev (after 1 fn.body) (at_ret Ev Post) $ sets ! (of_opd ! (get ! refl)) refl good $

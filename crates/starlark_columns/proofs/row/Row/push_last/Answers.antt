@@ -2,10 +2,10 @@ use Rattle.starlark_columns.proofs.Fronts.{front_free, front_pushed}
 use Rattle.starlark_columns.proofs.row.Row.push_last.Goals as goal
 
 pub write-requires-clause-empty : goal.write-requires-clause-empty
-write-requires-clause-empty g c = (c.requires.room, front_free c.args.self.now.places c.args.len c.requires.front)
+write-requires-clause-empty g c = (c.requires.room, front_free c.args.self.now.cells c.args.len c.requires.front)
 
 pub returns-clause-front : goal.returns-clause-front
-returns-clause-front g c = (front_pushed c.args.self.now.places c.args.len c.requires.front c.write.new.self.places c.args.item c.requires.room c.write.ensures.places).0
+returns-clause-front g c = (front_pushed c.args.self.now.cells c.args.len c.requires.front c.write.new.self.cells c.args.item c.requires.room c.write.ensures.cells).0
 
 pub returns-clause-items : goal.returns-clause-items
-returns-clause-items g c = (front_pushed c.args.self.now.places c.args.len c.requires.front c.write.new.self.places c.args.item c.requires.room c.write.ensures.places).1
+returns-clause-items g c = (front_pushed c.args.self.now.cells c.args.len c.requires.front c.write.new.self.cells c.args.item c.requires.room c.write.ensures.cells).1

@@ -1,4 +1,4 @@
--- `slice` shows a run of items that the places lend. Assumes `Logic`.
+-- `slice` shows a run of items that the cells lend. Assumes `Logic`.
 use Rattle.starlark_columns.proofs.Walking.{◌≡◌, ◌+◌, ◌-◌, Some, ℕ, ◌*◌, ◌<◌, ◌^◌, Option, List, [], ◌∷◌, map, length, refl, sym, ap, subst, ◌∙◌, arith, w64, Lft, Share, ftrue, fat, flft, full_share, SProp, emp, never, id⊢, ◌⊑◌, fact, fact_i, tables, inst_fn, a_type, named, ty_ptr, Val, vint, vptr, has_ty, WT, alloc_all, pass_all, free_all, look_at, take_at, give_at, get, get_in, is, sets, sets_last, env, ‵, raw, ◌⊛◌, at_ret, ◌$◌, ◌∵◌, !, qed, by, move, keep, use0, use1, split, rewrite, fsplit, fjoin, feq_i, flt_i, flt_l, whole, sub, agg, stop, bin, size_word, fld, no_more, and_then, of_opd, first, blocks, exec, returns, enter, RefOf, usize, yes, no, layout, layouts, uint_vals, uint_Tells, RattleType, owns, Ptr, in_a_block, hide, unhide, Bor, shr_vals, shr_Tells, ShrSlice, slice_ty, slice_val, elements_shared, plain, types_at, heard, nothing, Stays, stay_dropped, walk_of, Goes-dropped, El, times_below, uncapped, after, length-map, proved, leaves, type_size, slice_range, T, R, AreFilled}
 use Rattle.starlark_columns.specs.Ownership.{within_lent}
 use Rattle.starlark_columns.proofs.Fields.{word, word_good, address_told}
@@ -20,7 +20,7 @@ slice_spec 𝓤 𝓛 𝓜 𝓡 wired X L =
     (λ κs. (shr_vals, ((λ x. word x.at ∷ []), (uint_vals w64, (uint_vals w64, tt))))) (λ κs. (shr_Tells (named 0) κs.0 Own, (address_told (R E), (uint_Tells w64, (uint_Tells w64, tt))))) (λ κs qs bounds a gh are.
     let κ : Lft = κs.0 in let q : Share = qs.0 in let ι : Lft = κs.1.0 in let w : Share = qs.1.0 in
     let self : Bor Own.Denot = a.0 in let rb : ℕ = self.ref_ptr.0 in let ro : ℕ = self.ref_ptr.1 in let h : Own.Denot = self.now in let p : Ptr = a.1.0.at in let from : ℕ = a.1.1.0 in let to : ℕ = a.1.1.1.0 in
-    let cs : List (Option X.Denot) = h.places in let s : ℕ = type_size (R E) in let Out : RattleType = ShrSlice (named 0) κ (R E) in
+    let cs : List (Option X.Denot) = h.cells in let s : ℕ = type_size (R E) in let Out : RattleType = ShrSlice (named 0) κ (R E) in
     let y : (walk_of 𝓛 En hs c).Ghost = ((κs, qs, bounds, a, (vptr rb ro ∷ [], (word p ∷ [], (vint w64 from ∷ [], (vint w64 to ∷ [], tt))))), gh) in let Post : Val → SProp 𝓤 = (walk_of 𝓛 En hs c).post y in
     let Its : Type 0 = p ≡ h.at in let Full : Type 0 = AreFilled cs from to in
     qed 𝓛 (((‵ (flft κ q) ⊛ ‵ (flft ι w) ⊛ ‵ ftrue) ⊛ ‵ (owns (types_at En.signature.params κs) a y.0.4)) ∷ raw (fact 𝓤 (ι ⊑ X.lives)) ∷ raw (fact 𝓤 Its) ∷ raw (fact 𝓤 Full) ∷ []) ∵

@@ -3,10 +3,10 @@ use Rattle.starlark_columns.proofs.Fronts.{front_filled, last_taken}
 use Rattle.starlark_columns.proofs.row.Row.take_last.Goals as goal
 
 pub take-requires-clause-filled : goal.take-requires-clause-filled
-take-requires-clause-filled g c = front_filled c.args.self.now.places (c.args.last + 1) c.requires.front c.args.last (omega arith)
+take-requires-clause-filled g c = front_filled c.args.self.now.cells (c.args.last + 1) c.requires.front c.args.last (omega arith)
 
 pub returns-clause-front : goal.returns-clause-front
-returns-clause-front g c = (last_taken c.args.self.now.places (c.args.last + 1) c.requires.front c.args.last (omega arith) c.take.new.self.places c.take.ensures.places c.take.result refl c.take.ensures.value).0
+returns-clause-front g c = (last_taken c.args.self.now.cells (c.args.last + 1) c.requires.front c.args.last (omega arith) c.take.new.self.cells c.take.ensures.cells c.take.result refl c.take.ensures.value).0
 
 pub returns-clause-items : goal.returns-clause-items
-returns-clause-items g c = (last_taken c.args.self.now.places (c.args.last + 1) c.requires.front c.args.last (omega arith) c.take.new.self.places c.take.ensures.places c.take.result refl c.take.ensures.value).1
+returns-clause-items g c = (last_taken c.args.self.now.cells (c.args.last + 1) c.requires.front c.args.last (omega arith) c.take.new.self.cells c.take.ensures.cells c.take.result refl c.take.ensures.value).1

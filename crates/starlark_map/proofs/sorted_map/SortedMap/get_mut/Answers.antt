@@ -8,8 +8,8 @@ pub invariant_of-self-lent : goal.invariant_of-self-lent
 invariant_of-self-lent g c = λ _.
     let cmp = g.K.Ord.cmp in
     let es = c.self.inside.map.entries in
-    let place = own_match g.Q.Query.stands_for g.Q.Hash.hash_input es c.args.key in
+    let index = own_match g.Q.Query.stands_for g.Q.Hash.hash_input es c.args.key in
     let lent = c.get_mut.follows in (
-      (λ w. subst (λ m. Ascends cmp m.entries) (sym (lent.holds w).0) (Ascends-with_value cmp es place w c.self.invariant)),
+      (λ w. subst (λ m. Ascends cmp m.entries) (sym (lent.holds w).0) (Ascends-with_value cmp es index w c.self.invariant)),
       subst (λ m. Ascends cmp m.entries) (sym lent.holds-at-none) c.self.invariant,
     )

@@ -105,14 +105,14 @@ module _ (A B : RattleType) (N : Ord.Ghosts A.Denot) (dN : Dict) (E : Eq.Ghosts 
           use1 𝓛 (‵ (flft κ (Share.left q)) ⊛ ‵ (flft κ (Share.right q))) (𝓛.lfts.lft_split κ q) $ split ! $
           move ! (4 ∷ []) $ fsplit3 ! $ drop ! $ open_ref ! tt (mem W) {b = b} {o = o} $
           use1 𝓛 (some (λ (d : (d : D) × O.Known K V N P L G v d). raw (O.Cuts K V N P L G 𝓛 b o v d))) (O.cut K V N P L G 𝓛 b o (param_laws 0 A LA) (param_laws 1 B LB) v) $ pick ! (λ d'.
-          let d = d'.0 in let m = d.map in let place = o + O.eP K V N P L G in
-          use1 𝓛 (‵ (part_at CP full_share m b place) ⊛ raw (O.Rest K V N P L G 𝓛 b o d)) (id⊢ 𝓤 _) $ split ! $
+          let d = d'.0 in let m = d.map in let index = o + O.eP K V N P L G in
+          use1 𝓛 (‵ (part_at CP full_share m b index) ⊛ raw (O.Rest K V N P L G 𝓛 b o d)) (id⊢ 𝓤 _) $ split ! $
           -- [the map inside; the rest; the open borrow; obs; auth; half of κ's token; those of κA, κB]
-          name_new ! tt (CP.coded.code m) (λ δ. move ! (2 ∷ 1 ∷ []) $ fjoin ! $ fpack ! CP.Denot (λ z. fsep ((mem CP).own_at z b place) (fauth δ (CP.coded.code z))) m $
+          name_new ! tt (CP.coded.code m) (λ δ. move ! (2 ∷ 1 ∷ []) $ fjoin ! $ fpack ! CP.Denot (λ z. fsep ((mem CP).own_at z b index) (fauth δ (CP.coded.code z))) m $
           -- [the content; obs δ; the rest; the open borrow; obs; auth; ..]
           move ! (3 ∷ []) $ ages ! (λ n. move ! (1 ∷ []) $ bor_new_deep ! tt n κ $
           -- [the borrow, its right; the open borrow; obs δ; the rest; obs; auth; the other half; tokens of κA, κB]
-          let lent : MutBor M = record { ref_ptr = (b, place); ghost_name = δ; now = m } in
+          let lent : MutBor M = record { ref_ptr = (b, index); ghost_name = δ; now = m } in
           move ! (3 ∷ 0 ∷ []) $ feq_i ! (List Val) (mut_vals lent) (mut_vals lent) refl $ fjoin3 ! $ nothing ! $ move ! (1 ∷ 0 ∷ []) $ fjoin ! $
           -- [the argument; the right; the open borrow; the rest; obs; auth; the other half; the tokens of κA, κB]
           nothing ! $ move ! (9 ∷ 0 ∷ []) $ join ! $ move ! (8 ∷ 0 ∷ []) $ join ! $ move ! (7 ∷ 0 ∷ []) $ join ! $ join ! $
@@ -126,7 +126,7 @@ module _ (A B : RattleType) (N : Ord.Ghosts A.Denot) (dN : Dict) (E : Eq.Ghosts 
           -- [what the map inside follows; the tokens with the walk; the right; the open borrow; the rest; obs; auth]
           move ! (3 ∷ 5 ∷ 6 ∷ 2 ∷ 0 ∷ 4 ∷ []) $ group ! 6 $
           use1 𝓛 (later (‵ (flft κ (Share.left q)) ⊛ ‵ (follows W Inner γ y.1 (with v))))
-          (closes_following 𝓛 (mem W) (mem CP) (mem Inner) (with m) (with v) κ (Share.left q) b o b place γ δ y.1 (O.Rest K V N P L G 𝓛 b o d)
+          (closes_following 𝓛 (mem W) (mem CP) (mem Inner) (with m) (with v) κ (Share.left q) b o b index γ δ y.1 (O.Rest K V N P L G 𝓛 b o d)
           (λ w. O.shut K V N P L G 𝓛 b o (with v w) (written d w) (written_known v d w d'.1)) n (W.coded.code v) (W.coded.code v)) $ await ! tt $ split ! $
           -- [half of κ's token; what the sorted map follows; the tokens with the walk]
           move ! (2 ∷ []) $ split ! $ split3 ! $ move ! (4 ∷ 0 ∷ []) $ use2 𝓛 (‵ (flft κ q)) (𝓛.lfts.lft_join κ q) $ move ! (2 ∷ []) $ split ! $

@@ -149,12 +149,12 @@ module _ (T : RattleType) (E : Eq.Ghosts T.Denot) (dE : Dict) (P : PartialEq.Gho
           let mm : Set T.Denot = ws.0 in let self : MutBor (Set T.Denot) = record r { now = mm } in
           split3 ! $ heard ! (Tries eq m under g mm) (λ tries. heard ! (IfErr g (IsPlaced mm.entries there value)) (λ placed. heard ! (IfErr g (IsWithin mm.entries)) (λ within.
           move ! (3 ∷ []) $ split ! $ split3 ! $
-          -- [the tokens of ακ, κT; nothing; the place; what self ends as; ..; the way back; what the lender keeps]: the loan is over
+          -- [the tokens of ακ, κT; nothing; the index; what self ends as; ..; the way back; what the lender keeps]: the loan is over
           move ! (0 ∷ 7 ∷ []) $ use2 𝓛 (‵ (flft (α ∷ []) full_share) ⊛ ‵ (flft κ qr)) (apply∗ 𝓤 (A.lft ακ qq) (sep 𝓤 (A.lft (α ∷ []) full_share) (A.lft κ qr))) $ split ! $
           lft_end ! tt $ use1 𝓛 (‵ (fdead ακ)) (𝓛.lfts.dead-incl ακ (α ∷ []) (meet_⊑_left (α ∷ []) κ)) $
           move ! (0 ∷ 8 ∷ 5 ∷ []) $ use3 𝓛 (later (‵ (Ref κ self) ⊛ ‵ (flft κ ql))) (comes_back 𝓛 R (named 0) κ ακ ql γ b o δ m mm) $ await ! tt $ split ! $
           move ! (1 ∷ 2 ∷ []) $ use2 𝓛 (‵ (flft κ q)) (𝓛.lfts.lft_join κ q) $ move ! (3 ∷ 5 ∷ 6 ∷ []) $ drop ! $ drop ! $ drop ! $ move ! (3 ∷ []) $
-          -- [the place; the token of κ; self; that of κT]
+          -- [the index; the token of κ; self; that of κT]
           peeks ! Tried (Is Tried) (shows 𝓛 Tried) g (u ∷ []) (λ is_g. let u_good = (((tried_laws L).lawful 𝓛).typed g (u ∷ []) is_g).0 in
           lands_as ! refl refl u_good $ sets ! (addr ! (through ! refl (stop !))) refl (tt, tt) $
           -- self is given up
@@ -168,7 +168,7 @@ module _ (T : RattleType) (E : Eq.Ghosts T.Denot) (dE : Dict) (P : PartialEq.Gho
           move ! (1 ∷ []) $ heard ! (x.now ≡ mm) (λ seen. move ! (1 ∷ []) $ split ! $ move ! (1 ∷ []) $
           peeks ! (ShrRef (named 0) κ R) (Is (ShrRef (named 0) κ R)) (shows 𝓛 (ShrRef (named 0) κ R)) x (t ∷ []) (λ is_x. let at_t : t ≡ vptr x.ref_ptr.0 x.ref_ptr.1 = ap only (shr_Tells (named 0) κ R x (t ∷ []) is_x) in
           rewrite ! 0 (λ (w : Val). ‵ ((ShrRef (named 0) κ R).own_val x (w ∷ []))) at_t refl $ lands_as ! at_t refl (tt, tt) $ sets ! (of_opd ! (get ! refl)) refl u_good $
-          -- [the reference; the tokens; what self ends as; the place]
+          -- [the reference; the tokens; what self ends as; the index]
           let z3 : Shows.Ghost = (((κ, (κT, tt)), (q, (qT, tt)), bounds, (x, (g, tt)), (shr_vals x, (u ∷ [], tt))), tt) in
           nothing ! $ move ! (4 ∷ 0 ∷ []) $ fjoin ! $ move ! (1 ∷ 0 ∷ []) $ fjoin ! $ move ! (1 ∷ 0 ∷ []) $ join ! $
           use0 𝓛 (raw (fact 𝓤 (IfErr g (IsWithin (x.now).entries)))) (fact_i 𝓤 _ (emp 𝓤) (subst (λ (n : Set T.Denot). IfErr g (IsWithin n.entries)) (sym seen) within)) $

@@ -13,11 +13,11 @@ use Rattle.starlark_hash.specs.declared.hashed.Hashed.{Hashed}
 use Rattle.starlark_hash.specs.declared.no_room.NoRoom.{NoRoom}
 use Rattle.starlark_small.specs.Map.{own_hashed}
 use Rattle.starlark_small.proofs.LentInResult.{lone_value}
-use Rattle.starlark_sets.specs.Insert.{PlacesElement, ShowsPut, Adds, IsShown}
+use Rattle.starlark_sets.specs.Insert.{AnswersIndex, ShowsPut, Adds, IsShown}
 use Rattle.starlark_sets.specs.Set.{Set, element_at}
 use Rattle.starlark_sets.specs.Lend.{ends_so}
 use Rattle.starlark_sets.specs.contracts.small_set.SmallSet as S
-use Rattle.starlark_sets.specs.contracts.small_set.SmallSet.place_or_push_own as p
+use Rattle.starlark_sets.specs.contracts.small_set.SmallSet.index_or_push_own as p
 use Rattle.starlark_sets.specs.contracts.small_set.SmallSet.frozen as f
 use Rattle.starlark_sets.specs.contracts.small_set.get_or_insert.shown as s
 use Rattle.starlark_sets.specs.contracts.small_set.SmallSet.get_or_insert as F
@@ -25,8 +25,8 @@ use Rattle.starlark_sets.specs.contracts.small_set.SmallSet.get_or_insert.Key.{n
 use Rattle.starlark_sets.proofs.Callers.{absent-added}
 use Rattle.starlark_sets.proofs.Put.{shows-put}
 use Rattle.starlark_sets.proofs.Shown.{adds_shown, element_shown, refusal_shown, ends_weaker}
-use Rattle.starlark_sets.proofs.small_set.SmallSet.place_or_push_own.Symbol.{name as #put}
-use Rattle.starlark_sets.proofs.small_set.SmallSet.place_or_push_own.Met as put
+use Rattle.starlark_sets.proofs.small_set.SmallSet.index_or_push_own.Symbol.{name as #put}
+use Rattle.starlark_sets.proofs.small_set.SmallSet.index_or_push_own.Met as put
 use Rattle.starlark_sets.proofs.small_set.SmallSet.frozen.Symbol.{name as #freeze}
 use Rattle.starlark_sets.proofs.small_set.SmallSet.frozen.Met as freeze
 use Rattle.starlark_sets.proofs.small_set.get_or_insert.shown.Symbol.{name as #show}
@@ -56,8 +56,8 @@ module _ (T : RattleType) (E : Eq.Ghosts T.Denot) (dE : Dict) (P : PartialEq.Gho
   abbrev Back : RattleType
   Back = N.the_row T'
 
-  abbrev Place : RattleType
-  Place = RS.the_row usize Back
+  abbrev Index : RattleType
+  Index = RS.the_row usize Back
 
   abbrev Shown : Lft → RattleType
   Shown κ = RS.the_row (ShrRef (named 0) κ T') Back
@@ -65,8 +65,8 @@ module _ (T : RattleType) (E : Eq.Ghosts T.Denot) (dE : Dict) (P : PartialEq.Gho
   abbrev Out : Type 0
   Out = Result (Bor T.Denot) (NoRoom T.Denot)
 
-  abbrev place_laws : Laws T → Laws Place
-  place_laws L = result_laws usize Back (of_field usize-field usize-laws refl (copy_shared usize-field usize-copy)) (room_laws.the_row_laws T' (param_laws 0 T L))
+  abbrev index_laws : Laws T → Laws Index
+  index_laws L = result_laws usize Back (of_field usize-field usize-laws refl (copy_shared usize-field usize-copy)) (room_laws.the_row_laws T' (param_laws 0 T L))
 
   abbrev shown_laws : Laws T → (κ : Lft) → Laws (Shown κ)
   shown_laws L κ =
@@ -141,20 +141,20 @@ module _ (T : RattleType) (E : Eq.Ghosts T.Denot) (dE : Dict) (P : PartialEq.Gho
           nothing ! $ move ! (5 ∷ 0 ∷ []) $ join ! $ move ! (2 ∷ 0 ∷ []) $ join ! $ join ! $
           nothing ! $ use0 𝓛 (raw (fact 𝓤 (κT ⊑ T.lives))) (fact_i 𝓤 _ (emp 𝓤) lT) $ join ! $ move ! (1 ∷ 0 ∷ []) $ join ! $ use1 𝓛 (raw (Puts.pre z)) (id⊢ 𝓤 _) $
           calls_at ! fm Puts puts z (and_then ! (get ! refl) (and_then ! (get ! refl) (no_more !))) (λ u.
-          use1 𝓛 (later (some (λ (g : Result ℕ (NoRoom T.Denot)). ((‵ (flft ακ qq) ⊛ ‵ (flft κT qT) ⊛ ‵ ftrue) ⊛ ‵ ((Place).own_val g (u ∷ [])))
-          ⊛ some (λ (ws : Lasts Putting (z.0.0) z.0.3). ‵ (lasts Putting z.0.0 z.0.3 ws) ⊛ raw (fact 𝓤 (PlacesElement eq under value m ws.0 g))))))
+          use1 𝓛 (later (some (λ (g : Result ℕ (NoRoom T.Denot)). ((‵ (flft ακ qq) ⊛ ‵ (flft κT qT) ⊛ ‵ ftrue) ⊛ ‵ ((Index).own_val g (u ∷ [])))
+          ⊛ some (λ (ws : Lasts Putting (z.0.0) z.0.3). ‵ (lasts Putting z.0.0 z.0.3 ws) ⊛ raw (fact 𝓤 (AnswersIndex eq under value m ws.0 g))))))
           (id⊢ 𝓤 _) $ await ! tt $
           pick ! (λ g. split ! $ move ! (1 ∷ []) $ pick ! (λ ws. split ! $ fsplit ! $ fsplit ! $ move ! (3 ∷ []) $
           let mm : Set T.Denot = ws.0 in let self : MutBor (Set T.Denot) = record r { now = mm } in
-          heard ! (PlacesElement eq under value m mm g) (λ places.
+          heard ! (AnswersIndex eq under value m mm g) (λ answers.
           move ! (3 ∷ []) $ split ! $ split3 ! $
-          -- [the tokens of ακ, κT; nothing; the place; what self ends as; ..; the way back; what the lender keeps]: the loan is over
+          -- [the tokens of ακ, κT; nothing; the index; what self ends as; ..; the way back; what the lender keeps]: the loan is over
           move ! (0 ∷ 7 ∷ []) $ use2 𝓛 (‵ (flft (α ∷ []) full_share) ⊛ ‵ (flft κ qr)) (apply∗ 𝓤 (A.lft ακ qq) (sep 𝓤 (A.lft (α ∷ []) full_share) (A.lft κ qr))) $ split ! $
           lft_end ! tt $ use1 𝓛 (‵ (fdead ακ)) (𝓛.lfts.dead-incl ακ (α ∷ []) (meet_⊑_left (α ∷ []) κ)) $
           move ! (0 ∷ 8 ∷ 5 ∷ []) $ use3 𝓛 (later (‵ (Ref κ self) ⊛ ‵ (flft κ ql))) (comes_back 𝓛 R (named 0) κ ακ ql γ b o δ m mm) $ await ! tt $ split ! $
           move ! (1 ∷ 2 ∷ []) $ use2 𝓛 (‵ (flft κ q)) (𝓛.lfts.lft_join κ q) $ move ! (3 ∷ 5 ∷ 6 ∷ []) $ drop ! $ drop ! $ drop ! $ move ! (3 ∷ []) $
-          -- [the place; the token of κ; self; that of κT]
-          peeks ! Place (Is Place) (shows 𝓛 Place) g (u ∷ []) (λ is_g. let u_good = (((place_laws L).lawful 𝓛).typed g (u ∷ []) is_g).0 in
+          -- [the index; the token of κ; self; that of κT]
+          peeks ! Index (Is Index) (shows 𝓛 Index) g (u ∷ []) (λ is_g. let u_good = (((index_laws L).lawful 𝓛).typed g (u ∷ []) is_g).0 in
           lands_as ! refl refl u_good $ sets ! (addr ! (through ! refl (stop !))) refl (tt, tt) $
           -- self is given up
           let z2 : Freezes.Ghost = (((κ, (κT, tt)), (q, (qT, tt)), bounds, (self, tt), (mut_vals self, tt)), tt) in
@@ -167,10 +167,10 @@ module _ (T : RattleType) (E : Eq.Ghosts T.Denot) (dE : Dict) (P : PartialEq.Gho
           move ! (1 ∷ []) $ heard ! (x.now ≡ mm) (λ seen. move ! (1 ∷ []) $ split ! $ move ! (1 ∷ []) $
           peeks ! (ShrRef (named 0) κ R) (Is (ShrRef (named 0) κ R)) (shows 𝓛 (ShrRef (named 0) κ R)) x (t ∷ []) (λ is_x. let at_t : t ≡ vptr x.ref_ptr.0 x.ref_ptr.1 = ap only (shr_Tells (named 0) κ R x (t ∷ []) is_x) in
           rewrite ! 0 (λ (w : Val). ‵ ((ShrRef (named 0) κ R).own_val x (w ∷ []))) at_t refl $ lands_as ! at_t refl (tt, tt) $ sets ! (of_opd ! (get ! refl)) refl u_good $
-          -- [the reference; the tokens; what self ends as; the place]
+          -- [the reference; the tokens; what self ends as; the index]
           let z3 : Shows.Ghost = (((κ, (κT, tt)), (q, (qT, tt)), bounds, (x, (g, tt)), (shr_vals x, (u ∷ [], tt))), tt) in
           nothing ! $ move ! (4 ∷ 0 ∷ []) $ fjoin ! $ move ! (1 ∷ 0 ∷ []) $ fjoin ! $ move ! (1 ∷ 0 ∷ []) $ join ! $
-          use0 𝓛 (raw (fact 𝓤 (IfOk g (λ i. i < length (x.now).entries)))) (fact_i 𝓤 _ (emp 𝓤) (subst (λ (n : Set T.Denot). IfOk g (λ i. i < length n.entries)) (sym seen) places.within)) $
+          use0 𝓛 (raw (fact 𝓤 (IfOk g (λ i. i < length (x.now).entries)))) (fact_i 𝓤 _ (emp 𝓤) (subst (λ (n : Set T.Denot). IfOk g (λ i. i < length n.entries)) (sym seen) answers.within)) $
           use0 𝓛 (raw (fact 𝓤 (κT ⊑ T.lives))) (fact_i 𝓤 _ (emp 𝓤) lT) $ join ! $ move ! (1 ∷ 0 ∷ []) $ join ! $ use1 𝓛 (raw (Shows.pre z3)) (id⊢ 𝓤 _) $
           calls_at ! fm Shows shows_it z3 (and_then ! (get ! refl) (and_then ! (get ! refl) (no_more !))) (λ v.
           use1 𝓛 (later (some (λ (y : Out). ((‵ (flft κ q) ⊛ ‵ (flft κT qT) ⊛ ‵ ftrue) ⊛ ‵ ((Shown κ).own_val y (v ∷ [])))
@@ -181,10 +181,10 @@ module _ (T : RattleType) (E : Eq.Ghosts T.Denot) (dE : Dict) (P : PartialEq.Gho
           peeks ! (Shown κ) (Is (Shown κ)) (shows 𝓛 (Shown κ)) y (v ∷ []) (λ is_y.
           lands_as ! refl refl ((((shown_laws L κ).lawful 𝓛).typed y (v ∷ []) is_y).0) $ returns ! (look_at ! 0 refl) $ free_all ! refl $
           -- [the result; the tokens; what self ends as]
-          move ! (2 ∷ []) $ use1 𝓛 (‵ (ends_so T' P r (Adds eq m under y))) (ends_weaker 𝓛 R γ (λ n. n ≡ mm) (Adds eq m under y) (λ n is. subst (Adds eq m under y) (sym is) (adds_shown eq m mm under g y told places.set))) $
+          move ! (2 ∷ []) $ use1 𝓛 (‵ (ends_so T' P r (Adds eq m under y))) (ends_weaker 𝓛 R γ (λ n. n ≡ mm) (Adds eq m under y) (λ n is. subst (Adds eq m under y) (sym is) (adds_shown eq m mm under g y told answers.set))) $
           suffices ! _ (ends_at 𝓛 ended stayed spec bound v y (tt, (tt, tt)) (tt, (tt, tt))) $
           nothing ! $ nothing ! $ fjoin ! $ nothing ! $ fjoin ! $ move ! (0 ∷ 2 ∷ []) $ join ! $ move ! (2 ∷ 0 ∷ []) $ join ! $ frame ! $
-          use0 𝓛 (raw (fact 𝓤 (ShowsPut eq under value m y))) (fact_i 𝓤 _ (emp 𝓤) (shows-put eq laws under m value y (element_shown mm.entries g y there told places.element) (absent-added eq m mm under y (adds_shown eq m mm under g y told places.set)) (refusal_shown mm.entries g y value told places.handed_back))) $
+          use0 𝓛 (raw (fact 𝓤 (ShowsPut eq under value m y))) (fact_i 𝓤 _ (emp 𝓤) (shows-put eq laws under m value y (element_shown mm.entries g y there told answers.element) (absent-added eq m mm under y (adds_shown eq m mm under g y told answers.set)) (refusal_shown mm.entries g y value told answers.handed_back))) $
           move ! (1 ∷ 0 ∷ []) $ done !)))))))))))))))))
 
 pub get_or_insert_spec : {M : Type 1} → statement M
@@ -199,7 +199,7 @@ get_or_insert_spec 𝓤 𝓛 𝓜 𝓡 wired T L E dE P dP G dG dD is_eq is_part
     subst (λ (us : List Val × (List Val × Unit {0})). ent 𝓤 (W.pre ((κs, qs, y.0.2, a, us), y.1)) (WpFn 𝓤 𝓛.H 𝓣.C 𝓣.Λ (here T E dE P dP G dG dD) (W.args ((κs, qs, y.0.2, a, us), y.1)) (W.post ((κs, qs, y.0.2, a, us), y.1))))
     (sym (λ j. (self_is j, (k.1 j, tt))))
     (walk T E dE P dP G dG dD 𝓛 𝓜.mem 𝓡.returns L is_eq.laws 𝓣.C 𝓣.Λ (framed 𝓤 𝓛.H 𝓜 𝓣)
-    (put.met 𝓤 𝓛 𝓜 𝓡 (code.calls-starlark_sets::small_set::SmallSet::place_or_push_own 𝓡.env wired) T L E dE P dP G dG dD is_eq is_partial is_hash drops)
+    (put.met 𝓤 𝓛 𝓜 𝓡 (code.calls-starlark_sets::small_set::SmallSet::index_or_push_own 𝓡.env wired) T L E dE P dP G dG dD is_eq is_partial is_hash drops)
     (freeze.met 𝓤 𝓛 𝓜 𝓡 (code.calls-starlark_sets::small_set::SmallSet::frozen 𝓡.env wired) T L E dE P dP is_eq is_partial)
     (show.met 𝓤 𝓛 𝓜 𝓡 (code.calls-starlark_sets::small_set::get_or_insert::shown 𝓡.env wired) T L E dE P dP is_eq is_partial)
     κs.0 κs.1.0 qs.0 qs.1.0 y.0.2 a.0 a.1.0 k.0 k.2))

@@ -7,7 +7,7 @@ pub returns-in-Ok : goal.returns-in-Ok
 returns-in-Ok g c =
     let old = c.args.self.now in
     let new = c.push.new.self in
-    let i = c.in-Ok.ensures.place in
+    let i = c.in-Ok.ensures.index in
     let put = c.in-Ok.ensures.puts_last.inserted in (
       (refl {a = some c.value_at_mut.result.ghost_name}, λ w. inserted_written old new c.args.key c.args.value c.in-Ok.index i put w, tt),
       record {

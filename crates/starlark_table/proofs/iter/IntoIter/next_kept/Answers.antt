@@ -22,7 +22,7 @@ invariant_of-self g c =
     let slots = c.self.inside.slots in
     let i = c.step-slot.result in
     let here = c.take-hash.ensures.value in
-    let is = c.take-hash.ensures.places in
+    let is = c.take-hash.ensures.cells in
     let i_in = full_in_range slots i c.take-hash.result here in
     let front = empty-joined slots c.self.inside.ahead.next i c.self.invariant.2 c.step-slot.ensures.passed in
     let taken = ap length (filled-first_taken slots i c.take-hash.result front here) in
@@ -48,5 +48,5 @@ returns g c =
     let i = c.step-slot.result in
     let front = empty-joined slots c.self.inside.ahead.next i c.self.invariant.2 c.step-slot.ensures.passed in
     sym c.self.view_is ∙ filled-first_taken slots i c.take-hash.result front c.take-hash.ensures.value
-    ∙ ap (λ l. c.take-hash.result ∷ filled l) (sym c.take-hash.ensures.places)
+    ∙ ap (λ l. c.take-hash.result ∷ filled l) (sym c.take-hash.ensures.cells)
     ∙ ap (λ h. (h, c.take-hash.result.1) ∷ filled c.take-hash.new.self) (sym c.into_inner.ensures)

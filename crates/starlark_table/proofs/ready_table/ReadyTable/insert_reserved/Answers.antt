@@ -1,7 +1,7 @@
 use Rattle.std.proofs.Common.{◌≡◌, ℕ, ap, arith, length, ◌+◌, ◌%◌, ◌∷◌, refl, ◌∙◌, subst, IsPermutation}
 use Rattle.starlark_table.specs.Table.{filled, members}
 use Rattle.starlark_table.specs.Layout.{members_in}
-use Rattle.starlark_table.proofs.Changing.{inserted, place_for_one}
+use Rattle.starlark_table.proofs.Changing.{inserted, slot_for_one}
 use Rattle.starlark_table.proofs.Sound.{sound-as}
 use Rattle.starlark_table.proofs.TagCount.{refilled}
 use Rattle.starlark_table.proofs.ready_table.ReadyTable.insert_reserved.Goals as goal
@@ -14,7 +14,7 @@ still_even next even = omega (arith, even)
 
 pub put-slot-requires-clause-free : goal.put-slot-requires-clause-free
 put-slot-requires-clause-free g c =
-    place_for_one c.self.inside.slots c.self.inside.tags c.self.inside.fill c.self.invariant c.args.self.now c.self.view_is c.requires
+    slot_for_one c.self.inside.slots c.self.inside.tags c.self.inside.fill c.self.invariant c.args.self.now c.self.view_is c.requires
 
 pub invariant_of-self : goal.invariant_of-self
 invariant_of-self g c =

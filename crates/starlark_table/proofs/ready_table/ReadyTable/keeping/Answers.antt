@@ -2,8 +2,8 @@ use Rattle.std.proofs.Common.{arith}
 use Rattle.starlark_table.proofs.Load.{sound-all_empty}
 use Rattle.starlark_table.proofs.ready_table.ReadyTable.keeping.Goals as goal
 
-pub empty_places-requires : goal.empty_places-requires
-empty_places-requires g c = let fits = c.in-Some.ensures.fits in omega arith
+pub empty_slots-requires : goal.empty_slots-requires
+empty_slots-requires g c = let fits = c.in-Some.ensures.fits in omega arith
 
 pub invariant_of-result : goal.invariant_of-result
 invariant_of-result g c =

@@ -6,7 +6,7 @@ use base.Share
 use Rattle.std.specs.declared.clone.Clone as Clone
 use Rattle.starlark_columns.specs.declared.loan.Keeps as Keeps
 use Rattle.starlark_columns.specs.declared.loan.Loan.{Loan}
-use Rattle.starlark_columns.specs.Loan.{kept_places}
+use Rattle.starlark_columns.specs.Loan.{kept_cells}
 use Rattle.starlark_columns.specs.contracts.loan.Loan as loan
 use Rattle.starlark_columns.proofs.loan.Loan.TheLaws as loan_laws
 use Rattle.starlark_table.specs.declared.kept_hash.KeptHash as KeptHash
@@ -20,7 +20,7 @@ use Rattle.starlark_columns.proofs.LoneValue.{lone_value}
 use Rattle.starlark_table.proofs.LentInResult.{as_tuple}
 use Rattle.starlark_table.proofs.Shape.{reshaped}
 use Rattle.starlark_table.proofs.TableOpens as O
-use Rattle.starlark_table.proofs.WrittenSlots.{again-kept_places, length-kept_places, shape-kept_places}
+use Rattle.starlark_table.proofs.WrittenSlots.{again-kept_cells, length-kept_cells, shape-kept_cells}
 use Rattle.starlark_table.specs.contracts.ready_table.ReadyTable.lend_kept as F
 use Rattle.starlark_table.specs.contracts.ready_table.ReadyTable.lend_kept.Key.{name as #self}
 use Rattle.starlark_table.specs.contracts.ready_table.iter_mut.lend_fields as g
@@ -62,27 +62,27 @@ module _ (T H P : RattleType) (B : KeptHash.Ghosts H.Denot) (dB : Dict) (N : Clo
   abbrev D : Type 0
   D = O.D K H' B
 
-  abbrev Places : Type 0
-  Places = List (Option (ℕ × T.Denot))
+  abbrev Slots : Type 0
+  Slots = List (Option (ℕ × T.Denot))
 
   abbrev stayed : Stays ended.signature.params ended.kept
   stayed = (stay_dropped (mut_ref_to (0 ∷ []) tt (plain (λ _. W))) no, tt)
 
   -- the fields, and the table, with what was left in the slots
-  abbrev written : D → Places → D
-  written d w = record d { slots = kept_places G.kept d.slots w }
+  abbrev written : D → Slots → D
+  written d w = record d { slots = kept_cells G.kept d.slots w }
 
-  abbrev seen : D → Places → W.Denot
-  seen d w = record { slots = kept_places G.kept d.slots w; room = limit (length (kept_places G.kept d.slots w)) - members_in d.fill }
+  abbrev seen : D → Slots → W.Denot
+  seen d w = record { slots = kept_cells G.kept d.slots w; room = limit (length (kept_cells G.kept d.slots w)) - members_in d.fill }
 
   module _ (hash : (x w : ℕ × T.Denot) → (G.kept x w).0 ≡ x.0) (again : (x w : ℕ × T.Denot) → G.kept x (G.kept x w) ≡ G.kept x w) where
-    written_known : (v : W.Denot) (d : D) (w : Places) → O.Known K H' B v d → O.Known K H' B (seen d w) (written d w)
-    written_known v d w k = (refl, reshaped d.slots (kept_places G.kept d.slots w) (shape-kept_places G.kept hash d.slots w) d.tags d.fill k.1)
+    written_known : (v : W.Denot) (d : D) (w : Slots) → O.Known K H' B v d → O.Known K H' B (seen d w) (written d w)
+    written_known v d w k = (refl, reshaped d.slots (kept_cells G.kept d.slots w) (shape-kept_cells G.kept hash d.slots w) d.tags d.fill k.1)
 
-    same : (v : W.Denot) (d : D) (w : Places) → O.Known K H' B v d → with_kept G.kept v (seen d w) ≡ seen d w
+    same : (v : W.Denot) (d : D) (w : Slots) → O.Known K H' B v d → with_kept G.kept v (seen d w) ≡ seen d w
     same v d w k =
         ap (λ z. with_kept G.kept z (seen d w)) (sym k.0)
-        ∙ (λ i. record { slots = again-kept_places G.kept G.itself again d.slots w i; room = limit (sym (length-kept_places G.kept d.slots w) i) - members_in d.fill })
+        ∙ (λ i. record { slots = again-kept_cells G.kept G.itself again d.slots w i; room = limit (sym (length-kept_cells G.kept d.slots w) i) - members_in d.fill })
 
   module _ {M : Type 1} {𝓤 : Ura M} (𝓛 : Logic 𝓤) (at_mem : Memory → SProp 𝓤) (run : Routine → Fun 𝓤) where
     open 𝓛 use {A}
@@ -153,14 +153,14 @@ module _ (T H P : RattleType) (B : KeptHash.Ghosts H.Denot) (dB : Dict) (N : Clo
           use1 𝓛 (raw (Lend.pre z)) (id⊢ 𝓤 _) $
           calls_at ! fm Lend gl z (and_then ! (get ! refl) (and_then ! (get ! refl) (no_more !))) (λ u.
           use1 𝓛 (later (some (λ (x : Loan (ℕ × T.Denot) P.Denot × Bor (List ℕ)). ((‵ (flft κ (Share.right q)) ⊛ ‵ (flft κT qT) ⊛ ‵ (flft κH qH) ⊛ ‵ (flft κP qP) ⊛ ‵ ftrue) ⊛ ‵ (Pair.own_val x (u ∷ []))) ⊛ raw (ensured 𝓛 (g.ended T H P B dB N dN G dG) (g.clauses T H P B dB N dN G dG 𝓛 at_mem run) z.0.0 z.0.3 tt x)))) (id⊢ 𝓤 _) $ await ! tt $ pick ! (λ x. split ! $ move ! (1 ∷ []) $
-          use1 𝓛 (‵ (follows CS CS δ x.0.tie (kept_places G.kept xs)) ⊛ ‵ (tags_stay yr) ⊛ raw (fact 𝓤 (x.0.from ≡ 0)) ⊛ raw (fact 𝓤 (x.0.rest ≡ xs)) ⊛ raw (fact 𝓤 (x.1.now ≡ ys)))
+          use1 𝓛 (‵ (follows CS CS δ x.0.tie (kept_cells G.kept xs)) ⊛ ‵ (tags_stay yr) ⊛ raw (fact 𝓤 (x.0.from ≡ 0)) ⊛ raw (fact 𝓤 (x.0.rest ≡ xs)) ⊛ raw (fact 𝓤 (x.1.now ≡ ys)))
           (ex_e 𝓤 _ (λ ws. snd∗ 𝓤 (sem 𝓛 (lasts (g.ended T H P B dB N dN G dG) z.0.0 z.0.3 ws)) _)) $ split3 ! $ move ! (2 ∷ []) $ split3 ! $
           heard ! (x.0.from ≡ 0) (λ at_0. heard ! (x.0.rest ≡ xs) (λ all. heard ! (x.1.now ≡ ys) (λ seen_tags.
           move ! (1 ∷ []) $ use1 𝓛 (‵ (fres δ₂ (Tags.coded.code ys))) (stays_res yr) $
           -- [what the tags end as; what the slots follow; the tokens with the result; the two rights; the open borrow; the rest; obs; auth]
           move ! (5 ∷ 7 ∷ 8 ∷ 3 ∷ 4 ∷ 1 ∷ 0 ∷ 6 ∷ []) $ group ! 8 $
           use1 𝓛 (later (some (λ (tie : GName). ‵ (flft κ (Share.left q)) ⊛ ‵ (follows W W γ tie (with_kept G.kept v)))))
-          (closes_beside 𝓛 (mem W) (mem CS) (mem CS) (mem Tags) (kept_places G.kept xs) (seen d) (with_kept G.kept v) (λ w. same hash again v d w d'.1) ys κ (Share.left q) b o b pS b pT γ δ δ₂ x.0.tie (O.Rest K H' B 𝓛 b o d)
+          (closes_beside 𝓛 (mem W) (mem CS) (mem CS) (mem Tags) (kept_cells G.kept xs) (seen d) (with_kept G.kept v) (λ w. same hash again v d w d'.1) ys κ (Share.left q) b o b pS b pT γ δ δ₂ x.0.tie (O.Rest K H' B 𝓛 b o d)
           (λ w. O.shut K H' B 𝓛 b o (seen d w) (written d w) (written_known hash again v d w d'.1)) n (W.coded.code v) (W.coded.code v) v) $ await ! tt $ pick ! (λ tie. split ! $
           -- [half of κ's token; what self follows; the tokens with the result]
           move ! (2 ∷ []) $ split ! $ split ! $ move ! (3 ∷ 0 ∷ []) $ use2 𝓛 (‵ (flft κ q)) (𝓛.lfts.lft_join κ q) $ move ! (2 ∷ []) $
@@ -175,7 +175,7 @@ module _ (T H P : RattleType) (B : KeptHash.Ghosts H.Denot) (dB : Dict) (N : Clo
           use2 𝓛 (‵ (Pair.own_val new (made ∷ []))) (as_tuple 𝓛 It Ref new.0 new.1 lone.0 (vptr x.1.ref_ptr.0 x.1.ref_ptr.1)) $
           suffices ! _ (ends_at 𝓛 ended stayed spec bound made new (tt, tt) (tt, tt)) $
           nothing ! $ nothing ! $ fjoin ! $ join ! $ move ! (1 ∷ 2 ∷ []) $ join ! $ join ! $ frame ! $
-          use0 𝓛 (raw (fact 𝓤 (IsTagged x.1.now v.slots))) (fact_i 𝓤 _ (emp 𝓤) (subst (λ (l : Places). IsTagged x.1.now l) (ap (λ (t : W.Denot). t.slots) d'.1.0) (subst (λ (t : List ℕ). IsTagged t xs) (sym seen_tags) d'.1.1.tagged))) $
+          use0 𝓛 (raw (fact 𝓤 (IsTagged x.1.now v.slots))) (fact_i 𝓤 _ (emp 𝓤) (subst (λ (l : Slots). IsTagged x.1.now l) (ap (λ (t : W.Denot). t.slots) d'.1.0) (subst (λ (t : List ℕ). IsTagged t xs) (sym seen_tags) d'.1.1.tagged))) $
           use0 𝓛 (raw (fact 𝓤 (x.0.rest ≡ v.slots))) (fact_i 𝓤 _ (emp 𝓤) (all ∙ ap (λ (t : W.Denot). t.slots) d'.1.0)) $ use0 𝓛 (raw (fact 𝓤 (x.0.from ≡ 0))) (fact_i 𝓤 _ (emp 𝓤) at_0) $
           move ! (3 ∷ 0 ∷ 1 ∷ 2 ∷ []) $ done !))))))))))))))))))))
 

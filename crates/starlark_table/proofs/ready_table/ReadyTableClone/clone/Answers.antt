@@ -9,7 +9,7 @@ use Rattle.starlark_table.proofs.ready_table.ReadyTableClone.clone.Goals as goal
 
 pub returns-then-count-eq0 : goal.returns-then-count-eq0
 returns-then-count-eq0 g c =
-    let none : length c.self.inside.slots ≡ 0 = omega (arith, c.if-count-eq0.true, c.places-count.ensures.places) in
+    let none : length c.self.inside.slots ≡ 0 = omega (arith, c.if-count-eq0.true, c.cells-count.ensures.cells) in
     let no_room : 0 ≡ limit (length c.self.inside.slots) - members_in c.self.inside.fill = omega (arith, none) in
     record {
       cases = rw (← c.self.view_is) (record {
@@ -18,11 +18,11 @@ returns-then-count-eq0 g c =
       });
     }
 
-pub empty_places-requires : goal.empty_places-requires
-empty_places-requires g c =
-    let places = c.places-count.ensures.places in
-    let fit = tags_fit c.self.inside.slots c.self.invariant.doubled (omega (arith, c.if-count-eq0.false, places)) c.places-count.ensures.fits in
-    omega (arith, fit, places)
+pub empty_slots-requires : goal.empty_slots-requires
+empty_slots-requires g c =
+    let slots = c.cells-count.ensures.cells in
+    let fit = tags_fit c.self.inside.slots c.self.invariant.doubled (omega (arith, c.if-count-eq0.false, slots)) c.cells-count.ensures.fits in
+    omega (arith, fit, slots)
 
 pub invariant_of-result : goal.invariant_of-result
 invariant_of-result g c =

@@ -4,7 +4,7 @@ use lib.Dec as Dec
 use Rattle.std.specs.declared.clone.Clone as Clone
 use Rattle.starlark_columns.specs.declared.loan.Keeps as Keeps
 use Rattle.starlark_columns.specs.declared.loan.Loan.{Loan}
-use Rattle.starlark_columns.specs.Loan.{places_follow}
+use Rattle.starlark_columns.specs.Loan.{cells_follow}
 use Rattle.starlark_columns.specs.contracts.loan.Loan as loan
 use Rattle.starlark_columns.specs.contracts.column.Column.{the_row as column_row}
 use Rattle.starlark_columns.proofs.loan.Loan.TheLaws as loan_laws
@@ -51,8 +51,8 @@ module _ (T H P : RattleType) (B : KeptHash.Ghosts H.Denot) (dB : Dict) (N : Clo
   abbrev Slots : RattleType
   Slots = column_row (Member T' H' B)
 
-  abbrev Places : Type 0
-  Places = List (Option (ℕ × T.Denot))
+  abbrev Cells : Type 0
+  Cells = List (Option (ℕ × T.Denot))
 
   abbrev stayed : Stays ended.signature.params ended.kept
   stayed = (stay_dropped (mut_ref_to (0 ∷ []) tt (plain (λ _. Slots))) no, (stay_dropped (mut_ref_to (0 ∷ []) tt (plain (λ _. Tags))) no, tt))
@@ -69,7 +69,7 @@ module _ (T H P : RattleType) (B : KeptHash.Ghosts H.Denot) (dB : Dict) (N : Clo
 
     module _ (LT : Laws T) (LH : Laws H) (LP : Laws P) (C : Calls 𝓤 𝓛.H) (Λ : Loops 𝓤 𝓛.H) (fm : FmC 𝓤 𝓛.H 𝓛.laws C)
         (gm : Triple 𝓤 (C (#members args)) Members) (gs : Triple 𝓤 (C #shown) Shown)
-        (κ κT κH κP : Lft) (q qT qH qP : Share) (bounds : (κ ⊑ κH) × ((κ ⊑ κT) × Unit {0})) (r : MutBor Places) (s : MutBor (List ℕ)) where
+        (κ κT κH κP : Lft) (q qT qH qP : Share) (bounds : (κ ⊑ κH) × ((κ ⊑ κT) × Unit {0})) (r : MutBor Cells) (s : MutBor (List ℕ)) where
       abbrev bound : (walk_of 𝓛 ended stayed spec).Ghost
       bound = (((κ, (κT, (κH, (κP, tt)))), (q, (qT, (qH, (qP, tt)))), bounds, (r, (s, tt)), (mut_vals r, (mut_vals s, tt))), tt)
 
@@ -101,7 +101,7 @@ module _ (T H P : RattleType) (B : KeptHash.Ghosts H.Denot) (dB : Dict) (N : Clo
           use1 𝓛 (raw (Members.pre z)) (id⊢ 𝓤 _) $
           calls_at ! fm Members gm z (and_then ! (get ! refl) (no_more !)) (λ u.
           use1 𝓛 (later (some (λ (x : Loan (ℕ × T.Denot) P.Denot). ((‵ (flft κ q) ⊛ ‵ (flft κT qT) ⊛ ‵ (flft κH qH) ⊛ ‵ (flft κP qP) ⊛ ‵ ftrue) ⊛ ‵ (It.own_val x (u ∷ []))) ⊛ raw (ensured 𝓛 (m.ended T H P B dB N dN G dG) (m.clauses T H P B dB N dN G dG 𝓛 at_mem run) z.0.0 z.0.3 tt x)))) (id⊢ 𝓤 _) $ await ! tt $ pick ! (λ x. split ! $ move ! (1 ∷ []) $
-          use1 𝓛 (‵ (places_follow (Member T' H' B) G.kept r x.tie) ⊛ raw (fact 𝓤 (x.from ≡ 0)) ⊛ raw (fact 𝓤 (x.rest ≡ r.now))) (ex_e 𝓤 _ (λ ws. snd∗ 𝓤 (sem 𝓛 (lasts (m.ended T H P B dB N dN G dG) z.0.0 z.0.3 ws)) _)) $ split3 ! $
+          use1 𝓛 (‵ (cells_follow (Member T' H' B) G.kept r x.tie) ⊛ raw (fact 𝓤 (x.from ≡ 0)) ⊛ raw (fact 𝓤 (x.rest ≡ r.now))) (ex_e 𝓤 _ (λ ws. snd∗ 𝓤 (sem 𝓛 (lasts (m.ended T H P B dB N dN G dG) z.0.0 z.0.3 ws)) _)) $ split3 ! $
           move ! (1 ∷ 2 ∷ []) $ heard ! (x.from ≡ 0) (λ at_0. heard ! (x.rest ≡ r.now) (λ all. move ! (1 ∷ []) $ split ! $ move ! (1 ∷ []) $
           -- [the loan; the tokens; what the slots follow; the tags]
           peeks ! It (Is It) (shows 𝓛 It) x (u ∷ []) (λ is_x. let u_good = ((it_laws.lawful 𝓛).typed x (u ∷ []) is_x).0 in

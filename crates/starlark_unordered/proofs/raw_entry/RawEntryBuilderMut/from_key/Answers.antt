@@ -2,8 +2,8 @@ use Rattle.std.proofs.Common.{refl}
 use Rattle.starlark_unordered.proofs.Callers.{value-slot, writes-slot}
 use Rattle.starlark_unordered.proofs.raw_entry.RawEntryBuilderMut.from_key.Goals as goal
 
-pub returns-in-Some-clause-place : goal.returns-in-Some-clause-place
-returns-in-Some-clause-place g c =
+pub returns-in-Some-clause-entry : goal.returns-in-Some-clause-entry
+returns-in-Some-clause-entry g c =
     let eq = g.K.PartialEq.eq in
     let t = g.Q.Query.stands_for c.args.query in
     let one = g.met.Q.Query.respects_eq c.args.query in

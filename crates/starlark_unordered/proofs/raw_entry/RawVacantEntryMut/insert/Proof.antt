@@ -1,6 +1,6 @@
 -- `insert` meets its contract, at any types: one call takes the entry and puts the pair in, the next lends it. Assumes `Logic`.
 use Rattle.starlark_columns.proofs.Walking.{◌≡◌, refl, sym, subst, ℕ, List, [], ◌∷◌, Ura, Fn, Args, Dict, Ty, a_type, dcons, dnil, named, tcons, tnil, ty_struct, inst_fn, Val, SProp, ent, emp, id⊢, ex_e, snd∗, Lft, GName, Share, ftrue, flft, Memory, Routine, Calls, Loops, WpFn, Logic, sem, ◌⊑◌, ⊑_trans, Fun, fact, fact_i, tables, FmC, ‵, raw, ◌⊛◌, some, later, ◌$◌, ◌∵◌, !, qed, move, drop, use0, use1, use2, split, split3, join, pick, fjoin, suffices, frame, await, rewrite, group, done, of_opd, and_then, no_more, returns, enter, alloc_all, pass_all, free_all, look_at, get, sets, lands_as, no, rest, yes, RattleType, owns, follows_so, arg, param, bounded, layout, Laws, arg_laws, param_laws, Bor, MutBor, MutRef, ShrRef, plain, types_at, nothing, heard, peeks, Tuple, tuple_laws, calls_at, Clauses, Ended, Lasts, ensured, lasts, triple_of, Contract, Triple, framed, Stays, stay_dropped, walk_of, ends_at, Goes-blank, Good, proved_at, Result, None, IfOk, OnOk, OnErr, true, is_some, lookup, name_if_ok, Is, shows, result_laws}
-use Rattle.starlark_unordered.specs.Lend.{lends_placed, lends_added, IsAdded, LendsPair, LendsSlot, PlacesPair}
+use Rattle.starlark_unordered.specs.Lend.{lends_placed, lends_added, IsAdded, LendsPair, LendsSlot, PutsPair}
 use Rattle.starlark_unordered.proofs.LentFacts.{there_is, added_lent, unchanged_lent, handed_lent, full_lent, shown_lent}
 use Rattle.starlark_unordered.specs.contracts.raw_entry.RawVacantEntryMut as Vacant
 use Rattle.starlark_unordered.specs.contracts.raw_entry.RawVacantEntryMut.place as p
@@ -126,17 +126,17 @@ module _ (K V : RattleType) (E : L.Eq.Ghosts K.Denot) (dE : Dict) (P : L.Partial
           use0 𝓛 (raw (fact 𝓤 Absent)) (fact_i 𝓤 _ (emp 𝓤) absent) $ use0 𝓛 (raw (fact 𝓤 (κV ⊑ V.lives))) (fact_i 𝓤 _ (emp 𝓤) lV) $ use0 𝓛 (raw (fact 𝓤 (κK ⊑ K.lives))) (fact_i 𝓤 _ (emp 𝓤) lK) $
           group ! 3 $ move ! (1 ∷ 0 ∷ []) $ join ! $ use1 𝓛 (raw (Places.pre z)) (id⊢ 𝓤 _) $
           calls_at ! fm Places places z (and_then ! (get ! refl) (and_then ! (get ! refl) (and_then ! (get ! refl) (no_more !)))) (λ u.
-          let Put = λ (g : MutBor Map × Result ℕ (NoRoom (Key.Denot × V.Denot))). PlacesPair s.map g.0 key value (key, value) g.1 in
+          let Put = λ (g : MutBor Map × Result ℕ (NoRoom (Key.Denot × V.Denot))). PutsPair s.map g.0 key value (key, value) g.1 in
           use1 𝓛 (later (some (λ (g : MutBor Map × Result ℕ (NoRoom (Key.Denot × V.Denot))). ((‵ (flft κ q) ⊛ ‵ (flft κK qK) ⊛ ‵ (flft κV qV) ⊛ ‵ ftrue) ⊛ ‵ ((Placed κ R Back).own_val g (u ∷ [])))
           ⊛ some (λ (ws : Lasts Placing z.0.0 z.0.3). ‵ (lasts Placing z.0.0 z.0.3 ws) ⊛ raw (fact 𝓤 (Put g)))))) (id⊢ 𝓤 _) $ await ! tt $
           pick ! (λ g. split ! $ move ! (1 ∷ []) $ pick ! (λ ws. split ! $ drop ! $ heard ! (Put g) (λ put.
           split ! $ move ! (1 ∷ []) $
-          -- [the map and the place; the tokens]
+          -- [the map and the slot; the tokens]
           peeks ! (Placed κ R Back) (Is (Placed κ R Back)) (shows 𝓛 (Placed κ R Back)) g (u ∷ []) (λ is_u.
           let u_good = good_value 𝓛 (Placed κ R Back) (placed_laws κ R Back (map_laws LK LV) (back_laws LK LV)) g u is_u in
           lands_as ! refl refl u_good $
           move ! (1 ∷ []) $ split3 ! $ use1 𝓛 (‵ (flft κ ql) ⊛ ‵ (flft κ qr)) (𝓛.lfts.lft_split κ q) $ split ! $ move ! (3 ∷ []) $ split ! $
-          -- [the token of κV; nothing; the two halves of κ; κK; the map and the place]
+          -- [the token of κV; nothing; the two halves of κ; κK; the map and the slot]
           let in_back : κ ⊑ Back.lives = L.room_laws.the_within Parts κ (both_in κ Key V' (⊑_trans κ κK K.lives bounds.0 lK) (⊑_trans κ κV V.lives bounds.1.0 lV)) in
           let There = IfOk g.1 (λ i. is_some (item_in g.0.now i) ≡ true) in
           let y : Lends.Ghost = (((κ, (κK, (κV, (κ, tt)))), (ql, (qK, (qV, (qr, tt)))), bounds, (g, tt), (u ∷ [], tt)), tt) in

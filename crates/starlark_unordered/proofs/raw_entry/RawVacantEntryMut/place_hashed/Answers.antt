@@ -7,8 +7,8 @@ use Rattle.starlark_hash.specs.declared.hashed.Hashed.{Hashed}
 use Rattle.starlark_hash.specs.declared.no_room.NoRoom.{NoRoom}
 use Rattle.starlark_table.specs.Table.{Table}
 use Rattle.starlark_unordered.specs.Pairs.{pairs_of}
-use Rattle.starlark_unordered.specs.Lend.{PlacesPair}
-use Rattle.starlark_unordered.proofs.AddedWritten.{places_again, places_pair}
+use Rattle.starlark_unordered.specs.Lend.{PutsPair}
+use Rattle.starlark_unordered.proofs.AddedWritten.{puts_again, puts_pair}
 use Rattle.starlark_unordered.proofs.raw_entry.RawVacantEntryMut.place_hashed.Goals as goal
 use Rattle.starlark_unordered.proofs.raw_entry.RawVacantEntryMut.place_hashed.Goals.{in-Ok, in-Err}
 
@@ -27,10 +27,10 @@ returns g c =
     let absent = subst (λ key. lookup (eq key) (pairs_of lent.now) ≡ None) (sym c.into_key.ensures) c.requires.absent in
     let Again : Result ℕ (NoRoom (g.row.K.Denot × g.row.V.Denot)) → Type 0
     = λ r. MatchResult r (λ slot. c.match-insert_new.placed ≡ Ok slot) (λ e. (f : NoRoom (Hashed g.row.K.Denot × g.row.V.Denot)) × (c.match-insert_new.placed ≡ Err f) × (e.0 ≡ (key, value) → f.0 ≡ (c.args.key, value))) in
-    places_again lent held c.args.key.key value (key, value) (c.args.key, value) c.insert_new.result c.match-insert_new.placed
+    puts_again lent held c.args.key.key value (key, value) (c.args.key, value) c.insert_new.result c.match-insert_new.placed
     (elim c.match-insert_new.branch [
       | in-Ok w ↦ subst Again (sym w.in-Ok.is) w.placed-is
       | in-Err w ↦ subst Again (sym w.in-Err.is) (_, w.placed-is, λ back i. (whole c.hash-hash.result c.args.key w.in-Err.field-0.0.0 c.hash-hash.ensures (ap (λ p. p.0) back ∙ c.into_key.ensures) w.new_unchecked.result w.new_unchecked.ensures i, ap (λ p. p.1) back i))
     ])
-    (subst (λ k. PlacesPair lent held k value (key, value) c.insert_new.result) c.into_key.ensures
-    (places_pair eq g.met.K.Eq.laws lent held key value (key, value) c.insert_new.result absent refl put.placed put.adds))
+    (subst (λ k. PutsPair lent held k value (key, value) c.insert_new.result) c.into_key.ensures
+    (puts_pair eq g.met.K.Eq.laws lent held key value (key, value) c.insert_new.result absent refl put.placed put.adds))

@@ -11,7 +11,7 @@ returns-in-Some g c =
     record {
       names = record {
         same_map = refl;
-        place = (
+        at_key = (
           refl,
           value-slot eq g.met.K.Eq.laws (eq c.args.key) (λ x y. g.met.K.Eq.laws.congr c.args.key x y) m m c.in-Some.slot refl c.in-Some.ensures,
           writes-slot eq g.met.K.Eq.laws (eq c.args.key) (λ x y. g.met.K.Eq.laws.congr c.args.key x y) m m c.in-Some.slot refl c.in-Some.ensures,

@@ -10,14 +10,14 @@ use Rattle.starlark_vec2.proofs.vec2.Vec2.clone.Goals as goal
 
 pub returns-in-Ok-clone_items-clause-pairs : goal.returns-in-Ok-clone_items-clause-pairs
 returns-in-Ok-clone_items-clause-pairs g c =
-    let us = items_of c.clone_items.new.to.places in
-    let vs = items_of c.clone_items-in-Ok.new.to.places in
+    let us = items_of c.clone_items.new.to.cells in
+    let vs = items_of c.clone_items-in-Ok.new.to.cells in
     subst (λ v. AllZip (IsPairClone g.A.Clone.is_clone g.B.Clone.is_clone) v.pairs (zip us vs)) c.self.view_is
-    (AllZip-zip _ _ (items_of c.self.inside.firsts.places) us (items_of c.self.inside.seconds.places) vs c.in-Ok.ensures.items c.in-Ok-clone_items.ensures.items)
+    (AllZip-zip _ _ (items_of c.self.inside.firsts.cells) us (items_of c.self.inside.seconds.cells) vs c.in-Ok.ensures.items c.in-Ok-clone_items.ensures.items)
 
 pub returns-in-Ok-clone_items-clause-same : goal.returns-in-Ok-clone_items-clause-same
 returns-in-Ok-clone_items-clause-same g c = λ firsts_same seconds_same.
     let us = same_from_all_zip _ _ _ c.in-Ok.ensures.items firsts_same in
     let vs = same_from_all_zip _ _ _ c.in-Ok-clone_items.ensures.items seconds_same in
-    let len = sym (len_is c.self.inside.firsts.places c.self.inside.seconds.places c.self.inside.len c.self.invariant.0 c.args.self.now c.self.view_is) in
-    (λ j. pair_list (zip (us j) (vs j)) ((c.clone_items.ensures.places ∙ c.in_ok-spot.ensures.places.1 ∙ len) j)) ∙ ap (λ v. pair_list v.pairs (length c.args.self.now.pairs)) c.self.view_is
+    let len = sym (len_is c.self.inside.firsts.cells c.self.inside.seconds.cells c.self.inside.len c.self.invariant.0 c.args.self.now c.self.view_is) in
+    (λ j. pair_list (zip (us j) (vs j)) ((c.clone_items.ensures.cells ∙ c.in_ok-spot.ensures.cells.1 ∙ len) j)) ∙ ap (λ v. pair_list v.pairs (length c.args.self.now.pairs)) c.self.view_is

@@ -5,7 +5,7 @@ use Rattle.starlark_columns.proofs.Walking.{◌≡◌, refl, sym, ap, subst, ◌
 use base.Share
 use Rattle.std.specs.declared.option.Option.TheVariants.{Some, None}
 use Rattle.starlark_columns.specs.Block.{IsBehind}
-use Rattle.starlark_columns.specs.Lend.{with_places}
+use Rattle.starlark_columns.specs.Lend.{with_cells}
 use Rattle.starlark_columns.specs.contracts.block.Spot as spot
 use Rattle.starlark_columns.proofs.Addresses.{words, words_good, spot_made}
 use Rattle.starlark_columns.specs.Front.{IsFront}
@@ -16,7 +16,7 @@ use Rattle.starlark_vec2.specs.PairList.{PairList}
 use Rattle.starlark_vec2.proofs.BothClose.{closes_both, closes_unchanged}
 use Rattle.starlark_vec2.proofs.Pairs.{slice_get-zip_none}
 use Rattle.starlark_vec2.proofs.TwoColumns.{same_block, len_is, both_set, both_end, pair_is}
-use Rattle.starlark_vec2.proofs.Vec2Open.{V, D, Known, Told, Rest, Cuts, Len, Place, Less, eA, eB, cut, shut, fields_out, fields_in, at_behind, at_front}
+use Rattle.starlark_vec2.proofs.Vec2Open.{V, D, Known, Told, Rest, Cuts, Len, Index, Less, eA, eB, cut, shut, fields_out, fields_in, at_behind, at_front}
 use Rattle.starlark_vec2.specs.contracts.vec2.Vec2.get_mut as F
 use Rattle.starlark_vec2.specs.contracts.vec2.Vec2.get_mut.Key.{name as #self}
 use Rattle.starlark_vec2.specs.contracts.vec2.get_mut.lend_front as g
@@ -59,10 +59,10 @@ module _ (A B : RattleType) where
 
   -- the struct with both items written
   abbrev written : D A' B' → ℕ → A.Denot → B.Denot → D A' B'
-  written d i x y = record d { firsts = with_places d.firsts (slice_set d.firsts.places i (Some x)); seconds = with_places d.seconds (slice_set d.seconds.places i (Some y)) }
+  written d i x y = record d { firsts = with_cells d.firsts (slice_set d.firsts.cells i (Some x)); seconds = with_cells d.seconds (slice_set d.seconds.cells i (Some y)) }
 
   written_known : (v : W.Denot) (d : D A' B') (i : ℕ) (x : A.Denot) (y : B.Denot) → i < length v.pairs → Known A' B' v d → Known A' B' (with_pair v i (x, y)) (written d i x y)
-  written_known v d i x y lt k = let cs = d.firsts.places in let ds = d.seconds.places in let d' = written d i x y in (
+  written_known v d i x y lt k = let cs = d.firsts.cells in let ds = d.seconds.cells in let d' = written d i x y in (
     both_end cs ds d.len k.1.0 v k.0 i lt x y,
     (both_set cs ds d.len k.1.0 v k.0 i lt x y, same_block d.block d.firsts d'.firsts d.seconds d'.seconds k.1.1 refl refl (length-set cs i (Some x)) (length-set ds i (Some y)), k.1.2),
   )
@@ -127,11 +127,11 @@ module _ (A B : RattleType) where
           use1 𝓛 (‵ (flft κ (Share.left q)) ⊛ ‵ (flft κ (Share.right q))) (𝓛.lfts.lft_split κ q) $ split ! $
           move ! (4 ∷ []) $ fsplit3 ! $ drop ! $ open_ref ! tt (mem W) {b = b} {o = o} $
           use1 𝓛 (some (λ (d : (d : D A' B') × Known A' B' v d). raw (Cuts A' B' 𝓛 b o v d))) (cut A' B' 𝓛 b o (param_laws 0 A LA) (param_laws 1 B LB) v) $ pick ! (λ d'.
-          let d = d'.0 in let rx = d.firsts in let ry = d.seconds in let xs = rx.places in let ys = ry.places in
+          let d = d'.0 in let rx = d.firsts in let ry = d.seconds in let xs = rx.cells in let ys = ry.cells in
           use1 𝓛 (‵ (part_at CA full_share rx b (o + eA A' B')) ⊛ ‵ (part_at CB full_share ry b (o + eB A' B')) ⊛ raw (Rest A' B' 𝓛 b o d)) (id⊢ 𝓤 _) $ split3 ! $
           -- the spot and the length are read where they lie
-          move ! (2 ∷ []) $ use1 𝓛 (raw (fact 𝓤 (Told A' B' d)) ⊛ ‵ (Len A' B' 𝓛 b o d.len) ⊛ ‵ (Place A' B' 𝓛 b o d.spot.address.at d.spot.count) ⊛ raw (Less A' B' 𝓛 b o d)) (fields_out A' B' 𝓛 b o d) $ split3 ! $ heard ! (Told A' B' d) (λ told. move ! (1 ∷ []) $ split ! $
-          let at = d.spot in let place : Val = words at.address.at at.count in let Lies : Type 0 = IsBehind B' A' at rx.at in let Lies' : Type 0 = at.address.at ≡ ry.at in let At : RattleType = spot.the_row B' in
+          move ! (2 ∷ []) $ use1 𝓛 (raw (fact 𝓤 (Told A' B' d)) ⊛ ‵ (Len A' B' 𝓛 b o d.len) ⊛ ‵ (Index A' B' 𝓛 b o d.spot.address.at d.spot.count) ⊛ raw (Less A' B' 𝓛 b o d)) (fields_out A' B' 𝓛 b o d) $ split3 ! $ heard ! (Told A' B' d) (λ told. move ! (1 ∷ []) $ split ! $
+          let at = d.spot in let index : Val = words at.address.at at.count in let Lies : Type 0 = IsBehind B' A' at rx.at in let Lies' : Type 0 = at.address.at ≡ ry.at in let At : RattleType = spot.the_row B' in
           sets ! (of_opd ! (load ! (through ! refl (fld ! refl (stop !))) (look ! 0 refl))) refl (words_good at.address.at at.count told.1) $
           sets ! (of_opd ! (load ! (through ! refl (fld ! refl (stop !))) (look ! 2 refl))) refl (tt, record { fits = told.0 }) $
           sets ! (addr ! (through ! refl (fld ! refl (stop !)))) refl (tt, tt) $
@@ -144,15 +144,15 @@ module _ (A B : RattleType) where
           -- the other half; the tokens of κA, κB]
           let xr : MutBor CA.Denot = record { ref_ptr = (b, o + eA A' B'); ghost_name = δ; now = rx } in let yr : MutBor CB.Denot = record { ref_ptr = (b, o + eB A' B'); ghost_name = δ'; now = ry } in
           move ! (6 ∷ 0 ∷ []) $ feq_i ! (List Val) (mut_vals xr) (mut_vals xr) refl $ fjoin3 ! $ move ! (5 ∷ 2 ∷ []) $ feq_i ! (List Val) (mut_vals yr) (mut_vals yr) refl $ fjoin3 ! $
-          nothing ! $ owned ! usize _ (uint_Makes 𝓛 w64) i _ (refl, fi) $ fjoin ! $ owned ! usize _ (uint_Makes 𝓛 w64) d.len _ (refl, told.0) $ fjoin ! $ use0 𝓛 (‵ (At.own_val at (place ∷ []))) (spot_made B' 𝓛 at told.1) $ fjoin ! $ move ! (2 ∷ 0 ∷ []) $ fjoin ! $
+          nothing ! $ owned ! usize _ (uint_Makes 𝓛 w64) i _ (refl, fi) $ fjoin ! $ owned ! usize _ (uint_Makes 𝓛 w64) d.len _ (refl, told.0) $ fjoin ! $ use0 𝓛 (‵ (At.own_val at (index ∷ []))) (spot_made B' 𝓛 at told.1) $ fjoin ! $ move ! (2 ∷ 0 ∷ []) $ fjoin ! $
           nothing ! $ move ! (11 ∷ 0 ∷ []) $ join ! $ move ! (10 ∷ 0 ∷ []) $ join ! $ move ! (9 ∷ 0 ∷ []) $ join ! $ join ! $
           use0 𝓛 (raw (fact 𝓤 (IsFront xs d.len))) (fact_i 𝓤 _ (emp 𝓤) d'.1.1.0.firsts_front) $ use0 𝓛 (raw (fact 𝓤 Lies)) (fact_i 𝓤 _ (emp 𝓤) (at_behind A' B' v d d'.1 told)) $
           use0 𝓛 (raw (fact 𝓤 (κB ⊑ B.lives))) (fact_i 𝓤 _ (emp 𝓤) lb) $ use0 𝓛 (raw (fact 𝓤 (κA ⊑ A.lives))) (fact_i 𝓤 _ (emp 𝓤) la) $ group ! 4 $ move ! (1 ∷ 0 ∷ []) $ join ! $
-          let z1 : Looks.Ghost = (((κ, (κA, (κB, tt))), (Share.right q, (qA, (qB, tt))), (bounds.0, tt), (xr, (at, (d.len, (i, tt)))), (mut_vals xr, (place ∷ [], (vint w64 d.len ∷ [], (vint w64 i ∷ [], tt))))), tt) in
+          let z1 : Looks.Ghost = (((κ, (κA, (κB, tt))), (Share.right q, (qA, (qB, tt))), (bounds.0, tt), (xr, (at, (d.len, (i, tt)))), (mut_vals xr, (index ∷ [], (vint w64 d.len ∷ [], (vint w64 i ∷ [], tt))))), tt) in
           use1 𝓛 (raw (Looks.pre z1)) (id⊢ 𝓤 _) $
           calls_at ! fm Looks looks z1 (and_then ! (get ! refl) (and_then ! (get ! refl) (and_then ! (get ! refl) (and_then ! (get ! refl) (no_more !))))) (λ u.
           use1 𝓛 (later (some (λ (s : Option (MutBor A.Denot)). ((‵ (flft κ (Share.right q)) ⊛ ‵ (flft κA qA) ⊛ ‵ (flft κB qB) ⊛ ‵ ftrue) ⊛ ‵ (Seen.own_val s (u ∷ []))) ⊛ raw (ensured 𝓛 (h.ended A B) (h.clauses A B 𝓛 at_mem run) z1.0.0 z1.0.3 tt s)))) (id⊢ 𝓤 _) $ await ! tt $ pick ! (λ s. split ! $ move ! (1 ∷ []) $
-          use1 𝓛 (‵ (follows_if CA A' δ (ghost_name_of s) (λ z. with_places rx (slice_set xs i (Some z))) rx) ⊛ raw (fact 𝓤 (slice_get (items_of xs) i ≡ option_copied_mut s))) (ex_e 𝓤 _ (λ ws. snd∗ 𝓤 (sem 𝓛 (lasts (h.ended A B) z1.0.0 z1.0.3 ws)) _)) $ split ! $
+          use1 𝓛 (‵ (follows_if CA A' δ (ghost_name_of s) (λ z. with_cells rx (slice_set xs i (Some z))) rx) ⊛ raw (fact 𝓤 (slice_get (items_of xs) i ≡ option_copied_mut s))) (ex_e 𝓤 _ (λ ws. snd∗ 𝓤 (sem 𝓛 (lasts (h.ended A B) z1.0.0 z1.0.3 ws)) _)) $ split ! $
           move ! (1 ∷ []) $ heard ! (slice_get (items_of xs) i ≡ option_copied_mut s) (λ found. move ! (1 ∷ []) $ split ! $ split3 ! $ move ! (2 ∷ []) $ split ! $ move ! (1 ∷ []) $ drop ! $ move ! (3 ∷ 1 ∷ 2 ∷ 4 ∷ 5 ∷ 6 ∷ 7 ∷ 8 ∷ 9 ∷ 10 ∷ 11 ∷ []) $
           -- [what the call gave; half of κ's token; that of κA; what the first column follows; the second; the two
           -- rights; the open borrow; the rest; obs; auth; the token of κB]
@@ -163,22 +163,22 @@ module _ (A B : RattleType) where
                 let in_row : i < d.len = omega (arith, slice_get_within (items_of xs) i x.now at_x, d'.1.1.0.firsts_front.count) in
                 let filled : IsFilled ys i = front_filled ys d.len d'.1.1.0.seconds_front i in_row in
                 let lt : i < length v.pairs = omega (arith, in_row, len_is xs ys d.len d'.1.1.0 v d'.1.0) in
-                rewrite ! 0 (λ (t : Option (MutBor A.Denot)). ‵ (Seen.own_val t (u ∷ []))) w.1 refl $ rewrite ! 3 (λ (t : Option (MutBor A.Denot)). ‵ (follows_if CA A' δ (ghost_name_of t) (λ z. with_places rx (slice_set xs i (Some z))) rx)) w.1 refl $
+                rewrite ! 0 (λ (t : Option (MutBor A.Denot)). ‵ (Seen.own_val t (u ∷ []))) w.1 refl $ rewrite ! 3 (λ (t : Option (MutBor A.Denot)). ‵ (follows_if CA A' δ (ghost_name_of t) (λ z. with_cells rx (slice_set xs i (Some z))) rx)) w.1 refl $
                 use1 𝓛 (given ((u ≡ live 1 (vcons (vptr x.ref_ptr.0 x.ref_ptr.1) vnil)) × Good (layout (MutRef (named 0) κ A')) (vptr x.ref_ptr.0 x.ref_ptr.1)) (‵ ((MutRef (named 0) κ A').own_val x (mut_vals x))))
                 (in_some_told 𝓛 (MutRef (named 0) κ A') u x (vptr x.ref_ptr.0 x.ref_ptr.1) (λ vs is. (mut_Tells (named 0) κ A' x vs is, (tt, tt)))) $ learn ! (λ at_u.
-                move ! (3 ∷ []) $ use1 𝓛 (‵ (follows CA A' δ x.ghost_name (λ z. with_places rx (slice_set xs i (Some z))))) (left_one 𝓛 CA A' A' δ (λ z. with_places rx (slice_set xs i (Some z))) rx x.ghost_name) $ move ! (1 ∷ 2 ∷ 3 ∷ 0 ∷ []) $
+                move ! (3 ∷ []) $ use1 𝓛 (‵ (follows CA A' δ x.ghost_name (λ z. with_cells rx (slice_set xs i (Some z))))) (left_one 𝓛 CA A' A' δ (λ z. with_cells rx (slice_set xs i (Some z))) rx x.ghost_name) $ move ! (1 ∷ 2 ∷ 3 ∷ 0 ∷ []) $
                 lands_as ! at_u.0 refl (tt, (record { fits = lit< tt }, (tt, tt))) $
                 first ! $ by_variants ! 24 (whole !) (get_tag ! (vrt ! refl (fld ! refl (stop !))) (whole !)) tt (
                   (λ _. sets ! (of_opd ! (get_in ! (vrt ! refl (fld ! refl (stop !))) (in_variant ! 1 0 refl refl (whole !)))) refl (tt, tt) $
                       sets ! (addr ! (through ! refl (stop !))) refl (tt, tt) $ sets ! (addr ! (through ! refl (fld ! refl (stop !)))) refl (tt, tt) $
-                      let z2 : Lends.Ghost = (((κ, (κB, tt)), (Share.right q, (qB, tt)), (bounds.1.0, tt), (yr, (at, (i, tt))), (mut_vals yr, (place ∷ [], (vint w64 i ∷ [], tt)))), tt) in
-                      nothing ! $ owned ! usize _ (uint_Makes 𝓛 w64) i _ (refl, fi) $ fjoin ! $ use0 𝓛 (‵ (At.own_val at (place ∷ []))) (spot_made B' 𝓛 at told.1) $ fjoin ! $ move ! (5 ∷ 0 ∷ []) $ fjoin ! $
+                      let z2 : Lends.Ghost = (((κ, (κB, tt)), (Share.right q, (qB, tt)), (bounds.1.0, tt), (yr, (at, (i, tt))), (mut_vals yr, (index ∷ [], (vint w64 i ∷ [], tt)))), tt) in
+                      nothing ! $ owned ! usize _ (uint_Makes 𝓛 w64) i _ (refl, fi) $ fjoin ! $ use0 𝓛 (‵ (At.own_val at (index ∷ []))) (spot_made B' 𝓛 at told.1) $ fjoin ! $ move ! (5 ∷ 0 ∷ []) $ fjoin ! $
                       nothing ! $ move ! (12 ∷ 0 ∷ []) $ join ! $ move ! (3 ∷ 0 ∷ []) $ join ! $ join ! $
                       use0 𝓛 (raw (fact 𝓤 (IsFilled ys i))) (fact_i 𝓤 _ (emp 𝓤) filled) $ use0 𝓛 (raw (fact 𝓤 Lies')) (fact_i 𝓤 _ (emp 𝓤) (at_front A' B' v d d'.1)) $ use0 𝓛 (raw (fact 𝓤 (κB ⊑ B.lives))) (fact_i 𝓤 _ (emp 𝓤) lb) $ group ! 3 $ move ! (1 ∷ 0 ∷ []) $ join ! $
                       use1 𝓛 (raw (Lends.pre z2)) (id⊢ 𝓤 _) $
                       calls_at ! fm Lends lends z2 (and_then ! (get ! refl) (and_then ! (get ! refl) (and_then ! (get ! refl) (no_more !)))) (λ t.
                       use1 𝓛 (later (some (λ (y : MutBor B.Denot). ((‵ (flft κ (Share.right q)) ⊛ ‵ (flft κB qB) ⊛ ‵ ftrue) ⊛ ‵ ((MutRef (named 0) κ B').own_val y (t ∷ []))) ⊛ raw (ensured 𝓛 (g.ended B) (g.clauses B 𝓛 at_mem run) z2.0.0 z2.0.3 tt y)))) (id⊢ 𝓤 _) $ await ! tt $ pick ! (λ y. split ! $ move ! (1 ∷ []) $
-                      use1 𝓛 (‵ (follows CB B' δ' y.ghost_name (λ z. with_places ry (slice_set ys i (Some z)))) ⊛ raw (fact 𝓤 (get_or ys i None ≡ Some y.now))) (ex_e 𝓤 _ (λ ws. snd∗ 𝓤 (sem 𝓛 (lasts (g.ended B) z2.0.0 z2.0.3 ws)) _)) $ split ! $
+                      use1 𝓛 (‵ (follows CB B' δ' y.ghost_name (λ z. with_cells ry (slice_set ys i (Some z)))) ⊛ raw (fact 𝓤 (get_or ys i None ≡ Some y.now))) (ex_e 𝓤 _ (λ ws. snd∗ 𝓤 (sem 𝓛 (lasts (g.ended B) z2.0.0 z2.0.3 ws)) _)) $ split ! $
                       move ! (1 ∷ []) $ heard ! (get_or ys i None ≡ Some y.now) (λ yval. move ! (1 ∷ []) $ split ! $ split3 ! $ move ! (3 ∷ []) $
                       fsplit3 ! $ feq_l ! (λ at_t. lands_as ! (ap only at_t) refl (tt, tt) $ feq_i ! (List Val) (mut_vals y) (mut_vals y) refl $ fjoin3 ! $
                       sets ! (agg ! (and_then ! (get ! refl) (and_then ! (get ! refl) (no_more !)))) refl (tt, (tt, (tt, tt))) $
@@ -189,7 +189,7 @@ module _ (A B : RattleType) where
                       -- the rest; obs; auth]
                       move ! (10 ∷ 12 ∷ 13 ∷ 8 ∷ 9 ∷ 7 ∷ 4 ∷ 11 ∷ []) $ group ! 8 $
                       use1 𝓛 (later (‵ (flft κ (Share.left q)) ⊛ ‵ (follows_both W A' B' γ x.ghost_name y.ghost_name (λ a a'. with_pair v i (a, a')))))
-                      (closes_both 𝓛 (mem W) (mem CA) (mem CB) (mem A') (mem B') (λ z. with_places rx (slice_set xs i (Some z))) (λ z. with_places ry (slice_set ys i (Some z))) (λ a a'. with_pair v i (a, a')) κ (Share.left q) b o b (o + eA A' B') b (o + eB A' B') γ δ δ' x.ghost_name y.ghost_name
+                      (closes_both 𝓛 (mem W) (mem CA) (mem CB) (mem A') (mem B') (λ z. with_cells rx (slice_set xs i (Some z))) (λ z. with_cells ry (slice_set ys i (Some z))) (λ a a'. with_pair v i (a, a')) κ (Share.left q) b o b (o + eA A' B') b (o + eB A' B') γ δ δ' x.ghost_name y.ghost_name
                       (Rest A' B' 𝓛 b o d) (λ a a'. shut A' B' 𝓛 b o (with_pair v i (a, a')) (written d i a a') (written_known v d i a a' lt d'.1)) n (W.coded.code v) (W.coded.code v)) $ await ! tt $ split ! $
                       move ! (0 ∷ 3 ∷ []) $ use2 𝓛 (‵ (flft κ q)) (𝓛.lfts.lft_join κ q) $
                       sets ! (of_opd ! (get ! refl)) refl (tt, (record { fits = lit< tt }, ((tt, (tt, tt)), tt))) $
@@ -198,9 +198,9 @@ module _ (A B : RattleType) where
                   ((λ e. absurd (suc-ne-zero 0 e)), tt),
                 ))
             | inr w ↦
-                rewrite ! 0 (λ (t : Option (MutBor A.Denot)). ‵ (Seen.own_val t (u ∷ []))) w refl $ rewrite ! 3 (λ (t : Option (MutBor A.Denot)). ‵ (follows_if CA A' δ (ghost_name_of t) (λ z. with_places rx (slice_set xs i (Some z))) rx)) w refl $
+                rewrite ! 0 (λ (t : Option (MutBor A.Denot)). ‵ (Seen.own_val t (u ∷ []))) w refl $ rewrite ! 3 (λ (t : Option (MutBor A.Denot)). ‵ (follows_if CA A' δ (ghost_name_of t) (λ z. with_cells rx (slice_set xs i (Some z))) rx)) w refl $
                 use1 𝓛 (raw (fact 𝓤 (u ≡ live 0 vnil))) (in_none 𝓛 (MutRef (named 0) κ A') u) $ heard ! (u ≡ live 0 vnil) (λ at_u.
-                move ! (2 ∷ []) $ use1 𝓛 (‵ (fres δ (CA.coded.code rx))) (left_none 𝓛 CA A' A' δ (λ z. with_places rx (slice_set xs i (Some z))) rx) $
+                move ! (2 ∷ []) $ use1 𝓛 (‵ (fres δ (CA.coded.code rx))) (left_none 𝓛 CA A' A' δ (λ z. with_cells rx (slice_set xs i (Some z))) rx) $
                 move ! (3 ∷ []) $ use1 𝓛 (later (‵ (fres δ' (CB.coded.code ry)))) (given_up 𝓛 CB (named 0) κ yr) $ await ! tt $
                 -- [what the second column ends as; what the first does; half of κ's token; that of κA; the two rights;
                 -- the open borrow; the rest; obs; auth; the token of κB]

@@ -3,7 +3,7 @@ use Rattle.starlark_columns.proofs.Walking.{◌≡◌, refl, ap, ◌∙◌, ℕ,
 use base.Share
 use Rattle.std.specs.declared.option.Option.TheVariants.{Some}
 use Rattle.starlark_columns.specs.Block.{IsBehind}
-use Rattle.starlark_columns.specs.Lend.{with_places}
+use Rattle.starlark_columns.specs.Lend.{with_cells}
 use Rattle.starlark_columns.specs.contracts.block.Spot as spot
 use Rattle.starlark_columns.proofs.Addresses.{words, words_good, spot_made}
 use Rattle.starlark_columns.proofs.Fronts.{front_filled, front_taken}
@@ -13,7 +13,7 @@ use Rattle.starlark_vec2.specs.PairList.{PairList}
 use Rattle.starlark_vec2.proofs.BothClose.{closes_both}
 use Rattle.starlark_vec2.proofs.FrozenPairs.{pair_made}
 use Rattle.starlark_vec2.proofs.TwoColumns.{same_block, in_columns, both_set, both_end, pair_is}
-use Rattle.starlark_vec2.proofs.Vec2Open.{V, D, Known, Told, Rest, Cuts, Len, Place, Less, eA, eB, cut, shut, fields_out, fields_in, at_behind, at_front}
+use Rattle.starlark_vec2.proofs.Vec2Open.{V, D, Known, Told, Rest, Cuts, Len, Index, Less, eA, eB, cut, shut, fields_out, fields_in, at_behind, at_front}
 use Rattle.starlark_vec2.specs.contracts.vec2.Vec2.get_unchecked_mut as F
 use Rattle.starlark_vec2.specs.contracts.vec2.Vec2.get_unchecked_mut.Key.{name as #self}
 use Rattle.starlark_vec2.specs.contracts.vec2.get_mut.lend_columns as g
@@ -49,10 +49,10 @@ module _ (A B : RattleType) where
 
   -- the struct with both items written
   abbrev written : D A' B' → ℕ → A.Denot → B.Denot → D A' B'
-  written d i x y = record d { firsts = with_places d.firsts (slice_set d.firsts.places i (Some x)); seconds = with_places d.seconds (slice_set d.seconds.places i (Some y)) }
+  written d i x y = record d { firsts = with_cells d.firsts (slice_set d.firsts.cells i (Some x)); seconds = with_cells d.seconds (slice_set d.seconds.cells i (Some y)) }
 
   written_known : (v : W.Denot) (d : D A' B') (i : ℕ) (x : A.Denot) (y : B.Denot) → i < length v.pairs → Known A' B' v d → Known A' B' (with_pair v i (x, y)) (written d i x y)
-  written_known v d i x y lt k = let cs = d.firsts.places in let ds = d.seconds.places in let d' = written d i x y in (
+  written_known v d i x y lt k = let cs = d.firsts.cells in let ds = d.seconds.cells in let d' = written d i x y in (
     both_end cs ds d.len k.1.0 v k.0 i lt x y,
     (both_set cs ds d.len k.1.0 v k.0 i lt x y, same_block d.block d.firsts d'.firsts d.seconds d'.seconds k.1.1 refl refl (length-set cs i (Some x)) (length-set ds i (Some y)), k.1.2),
   )
@@ -89,11 +89,11 @@ module _ (A B : RattleType) where
           use1 𝓛 (‵ (flft κ (Share.left q)) ⊛ ‵ (flft κ (Share.right q))) (𝓛.lfts.lft_split κ q) $ split ! $
           move ! (4 ∷ []) $ fsplit3 ! $ drop ! $ open_ref ! tt (mem W) {b = b} {o = o} $
           use1 𝓛 (some (λ (d : (d : D A' B') × Known A' B' v d). raw (Cuts A' B' 𝓛 b o v d))) (cut A' B' 𝓛 b o (param_laws 0 A LA) (param_laws 1 B LB) v) $ pick ! (λ d'.
-          let d = d'.0 in let rx = d.firsts in let ry = d.seconds in let xs = rx.places in let ys = ry.places in
+          let d = d'.0 in let rx = d.firsts in let ry = d.seconds in let xs = rx.cells in let ys = ry.cells in
           use1 𝓛 (‵ (part_at CA full_share rx b (o + eA A' B')) ⊛ ‵ (part_at CB full_share ry b (o + eB A' B')) ⊛ raw (Rest A' B' 𝓛 b o d)) (id⊢ 𝓤 _) $ split3 ! $
           -- the spot is read where it lies
-          move ! (2 ∷ []) $ use1 𝓛 (raw (fact 𝓤 (Told A' B' d)) ⊛ ‵ (Len A' B' 𝓛 b o d.len) ⊛ ‵ (Place A' B' 𝓛 b o d.spot.address.at d.spot.count) ⊛ raw (Less A' B' 𝓛 b o d)) (fields_out A' B' 𝓛 b o d) $ split3 ! $ heard ! (Told A' B' d) (λ told. move ! (1 ∷ []) $ split ! $
-          let at = d.spot in let place : Val = words at.address.at at.count in let Lies : Type 0 = IsBehind B' A' at rx.at in let Lies' : Type 0 = at.address.at ≡ ry.at in let At : RattleType = spot.the_row B' in
+          move ! (2 ∷ []) $ use1 𝓛 (raw (fact 𝓤 (Told A' B' d)) ⊛ ‵ (Len A' B' 𝓛 b o d.len) ⊛ ‵ (Index A' B' 𝓛 b o d.spot.address.at d.spot.count) ⊛ raw (Less A' B' 𝓛 b o d)) (fields_out A' B' 𝓛 b o d) $ split3 ! $ heard ! (Told A' B' d) (λ told. move ! (1 ∷ []) $ split ! $
+          let at = d.spot in let index : Val = words at.address.at at.count in let Lies : Type 0 = IsBehind B' A' at rx.at in let Lies' : Type 0 = at.address.at ≡ ry.at in let At : RattleType = spot.the_row B' in
           sets ! (of_opd ! (load ! (through ! refl (fld ! refl (stop !))) (look ! 0 refl))) refl (words_good at.address.at at.count told.1) $
           sets ! (addr ! (through ! refl (fld ! refl (stop !)))) refl (tt, tt) $ sets ! (addr ! (through ! refl (fld ! refl (stop !)))) refl (tt, tt) $
           move ! (2 ∷ 0 ∷ 1 ∷ []) $ group ! 3 $ use1 𝓛 (raw (Rest A' B' 𝓛 b o d)) (fields_in A' B' 𝓛 b o d told) $ move ! (1 ∷ 2 ∷ 0 ∷ []) $
@@ -107,21 +107,21 @@ module _ (A B : RattleType) where
           let in_row : i < d.len = in_columns xs ys d.len d'.1.1.0 v d'.1.0 i lt in
           let ix : IsFilled xs i = front_filled xs d.len d'.1.1.0.firsts_front i in_row in let iy : IsFilled ys i = front_filled ys d.len d'.1.1.0.seconds_front i in_row in
           move ! (6 ∷ 0 ∷ []) $ feq_i ! (List Val) (mut_vals xr) (mut_vals xr) refl $ fjoin3 ! $ move ! (5 ∷ 2 ∷ []) $ feq_i ! (List Val) (mut_vals yr) (mut_vals yr) refl $ fjoin3 ! $
-          nothing ! $ owned ! usize _ (uint_Makes 𝓛 w64) i _ (refl, fi) $ fjoin ! $ use0 𝓛 (‵ (At.own_val at (place ∷ []))) (spot_made B' 𝓛 at told.1) $ fjoin ! $ move ! (1 ∷ 0 ∷ []) $ fjoin ! $ move ! (1 ∷ 0 ∷ []) $ fjoin ! $
+          nothing ! $ owned ! usize _ (uint_Makes 𝓛 w64) i _ (refl, fi) $ fjoin ! $ use0 𝓛 (‵ (At.own_val at (index ∷ []))) (spot_made B' 𝓛 at told.1) $ fjoin ! $ move ! (1 ∷ 0 ∷ []) $ fjoin ! $ move ! (1 ∷ 0 ∷ []) $ fjoin ! $
           nothing ! $ move ! (10 ∷ 0 ∷ []) $ join ! $ move ! (9 ∷ 0 ∷ []) $ join ! $ move ! (8 ∷ 0 ∷ []) $ join ! $ join ! $
           use0 𝓛 (raw (fact 𝓤 (IsFilled ys i))) (fact_i 𝓤 _ (emp 𝓤) iy) $ use0 𝓛 (raw (fact 𝓤 (IsFilled xs i))) (fact_i 𝓤 _ (emp 𝓤) ix) $
           use0 𝓛 (raw (fact 𝓤 Lies')) (fact_i 𝓤 _ (emp 𝓤) (at_front A' B' v d d'.1)) $ use0 𝓛 (raw (fact 𝓤 Lies)) (fact_i 𝓤 _ (emp 𝓤) (at_behind A' B' v d d'.1 told)) $
           use0 𝓛 (raw (fact 𝓤 (κB ⊑ B.lives))) (fact_i 𝓤 _ (emp 𝓤) lb) $ use0 𝓛 (raw (fact 𝓤 (κA ⊑ A.lives))) (fact_i 𝓤 _ (emp 𝓤) la) $ group ! 6 $ move ! (1 ∷ 0 ∷ []) $ join ! $
-          let z : Lend.Ghost = (((κ, (κA, (κB, tt))), (Share.right q, (qA, (qB, tt))), bounds, (xr, (yr, (at, (i, tt)))), (mut_vals xr, (mut_vals yr, (place ∷ [], (vint w64 i ∷ [], tt))))), tt) in
+          let z : Lend.Ghost = (((κ, (κA, (κB, tt))), (Share.right q, (qA, (qB, tt))), bounds, (xr, (yr, (at, (i, tt)))), (mut_vals xr, (mut_vals yr, (index ∷ [], (vint w64 i ∷ [], tt))))), tt) in
           use1 𝓛 (raw (Lend.pre z)) (id⊢ 𝓤 _) $
           calls_at ! fm Lend gl z (and_then ! (get ! refl) (and_then ! (get ! refl) (and_then ! (get ! refl) (and_then ! (get ! refl) (no_more !))))) (λ u.
           use1 𝓛 (later (some (λ (x : MutBor A.Denot × MutBor B.Denot). ((‵ (flft κ (Share.right q)) ⊛ ‵ (flft κA qA) ⊛ ‵ (flft κB qB) ⊛ ‵ ftrue) ⊛ ‵ ((PairAt κ).own_val x (u ∷ []))) ⊛ raw (ensured 𝓛 (g.ended A B) (g.clauses A B 𝓛 at_mem run) z.0.0 z.0.3 tt x)))) (id⊢ 𝓤 _) $ await ! tt $ pick ! (λ x. split ! $ move ! (1 ∷ []) $
-          use1 𝓛 (‵ (fsep (follows CA A' δ x.0.ghost_name (λ w. with_places rx (slice_set xs i (Some w)))) (follows CB B' δ' x.1.ghost_name (λ w. with_places ry (slice_set ys i (Some w))))) ⊛ raw (fact 𝓤 ((get_or xs i None ≡ Some x.0.now) × (get_or ys i None ≡ Some x.1.now))))
+          use1 𝓛 (‵ (fsep (follows CA A' δ x.0.ghost_name (λ w. with_cells rx (slice_set xs i (Some w)))) (follows CB B' δ' x.1.ghost_name (λ w. with_cells ry (slice_set ys i (Some w))))) ⊛ raw (fact 𝓤 ((get_or xs i None ≡ Some x.0.now) × (get_or ys i None ≡ Some x.1.now))))
           (ex_e 𝓤 _ (λ ws. snd∗ 𝓤 (sem 𝓛 (lasts (g.ended A B) z.0.0 z.0.3 ws)) _)) $ split ! $ move ! (1 ∷ []) $ heard ! ((get_or xs i None ≡ Some x.0.now) × (get_or ys i None ≡ Some x.1.now)) (λ vals. fsplit ! $
           -- [what the columns follow; the tokens with the result; the two rights; the open borrow; the rest; obs; auth]
           move ! (5 ∷ 7 ∷ 8 ∷ 3 ∷ 4 ∷ 0 ∷ 1 ∷ 6 ∷ []) $ group ! 8 $
           use1 𝓛 (later (‵ (flft κ (Share.left q)) ⊛ ‵ (follows_both W A' B' γ x.0.ghost_name x.1.ghost_name (λ y y'. with_pair v i (y, y')))))
-          (closes_both 𝓛 (mem W) (mem CA) (mem CB) (mem A') (mem B') (λ w. with_places rx (slice_set xs i (Some w))) (λ w. with_places ry (slice_set ys i (Some w))) (λ y y'. with_pair v i (y, y')) κ (Share.left q) b o b (o + eA A' B') b (o + eB A' B') γ δ δ' x.0.ghost_name x.1.ghost_name
+          (closes_both 𝓛 (mem W) (mem CA) (mem CB) (mem A') (mem B') (λ w. with_cells rx (slice_set xs i (Some w))) (λ w. with_cells ry (slice_set ys i (Some w))) (λ y y'. with_pair v i (y, y')) κ (Share.left q) b o b (o + eA A' B') b (o + eB A' B') γ δ δ' x.0.ghost_name x.1.ghost_name
           (Rest A' B' 𝓛 b o d) (λ y y'. shut A' B' 𝓛 b o (with_pair v i (y, y')) (written d i y y') (written_known v d i y y' lt d'.1)) n (W.coded.code v) (W.coded.code v)) $ await ! tt $ split ! $
           -- [half of κ's token; what self follows; the tokens with the result]
           move ! (2 ∷ []) $ split ! $ split ! $ move ! (3 ∷ 0 ∷ []) $ use2 𝓛 (‵ (flft κ q)) (𝓛.lfts.lft_join κ q) $ move ! (2 ∷ []) $

@@ -6,7 +6,7 @@ use Rattle.std.proofs.Math.ListN.{drop_of_length-le}
 use Rattle.std.proofs.lemmas.List.{take_all}
 use Rattle.std.proofs.lemmas.List.FromFn.{length-enumerate_from}
 use Rattle.starlark_vec2.specs.Sort.{Moves, PutsInOrder}
-use Rattle.starlark_vec2.proofs.Moving.{numbered_lt, numbered_lt-weak, sorted_by-numbered, items-numbered, places-rearranged, Moves-noted}
+use Rattle.starlark_vec2.proofs.Moving.{numbered_lt, numbered_lt-weak, sorted_by-numbered, items-numbered, cells-rearranged, Moves-noted}
 use Rattle.starlark_vec2.proofs.vec2.Vec2.sort_pairs_with_moves_by.Goals as goal
 
 written_back : (n : ℕ) (new items : List ℕ) → length new ≡ n → length items ≡ n → take n (new ++ drop (length new) items) ≡ new
@@ -16,13 +16,13 @@ OnErr-always : {X E : Type 0} {P : Type 0} (r : Result X E) → P → OnErr r P
 OnErr-always (Ok x) p = tt
 OnErr-always (Err e) p = p
 
-pub note_moves-requires-clause-places : goal.note_moves-requires-clause-places
-note_moves-requires-clause-places g c =
+pub note_moves-requires-clause-indices : goal.note_moves-requires-clause-indices
+note_moves-requires-clause-indices g c =
     let xs = c.args.self.now.pairs in
     let ys = c.as_slice.result.now in
     let p : IsPermutation (enumerate_from 0 xs) ys =
     subst (λ l. IsPermutation l ys) c.in_ok-numbered.ensures.pairs (subst (IsPermutation c.in_ok-numbered.numbered.items) (sym c.as_slice.ensures.value) c.sort_by-sorted.ensures.permutation) in
-    places-rearranged xs ys (length c.as_mut_slice.result.now) (omega (arith, c.as_mut_slice.ensures.len, c.in_ok-to.ensures.len, c.len-2.ensures.len)) p
+    cells-rearranged xs ys (length c.as_mut_slice.result.now) (omega (arith, c.as_mut_slice.ensures.len, c.in_ok-to.ensures.len, c.len-2.ensures.len)) p
 
 pub put_numbered-requires-clause-room : goal.put_numbered-requires-clause-room
 put_numbered-requires-clause-room g c =

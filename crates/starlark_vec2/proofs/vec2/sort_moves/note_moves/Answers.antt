@@ -10,19 +10,19 @@ pub loop-j-init : goal.loop-j-init
 loop-j-init g c =
     let n = length c.args.to.now in
     let from = map (λ p. p.0) c.args.numbered.now in
-    let count : length c.args.numbered.now ≡ n = sym (length-map c.args.numbered.now (λ p. p.0)) ∙ length_permutation _ _ c.requires.places ∙ length-range_with_len 0 n in
+    let count : length c.args.numbered.now ≡ n = sym (length-map c.args.numbered.now (λ p. p.0)) ∙ length_permutation _ _ c.requires.indices ∙ length-range_with_len 0 n in
     record {
-      spread = Spread-from_permutation n from c.requires.places;
+      spread = Spread-from_permutation n from c.requires.indices;
       count = count;
       few = omega (arith, count, c.requires.few);
       noted = λ k lt. absurd (omega arith);
     }
 
-pub bounds-to-place : goal.bounds-to-place
-bounds-to-place g c =
+pub bounds-to-index : goal.bounds-to-index
+bounds-to-index g c =
     let at = c.loop-j in
-    let place = get_or-map (λ p. p.0) c.args.numbered.now at.j c.index-numbered-j.result 0 c.loop-j-test.true in
-    omega (arith, place, at.invariant.spread.below at.j (omega (arith, length-map c.args.numbered.now (λ p. p.0), c.loop-j-test.true)), at.auto.to)
+    let index = get_or-map (λ p. p.0) c.args.numbered.now at.j c.index-numbered-j.result 0 c.loop-j-test.true in
+    omega (arith, index, at.invariant.spread.below at.j (omega (arith, length-map c.args.numbered.now (λ p. p.0), c.loop-j-test.true)), at.auto.to)
 
 pub loop-j-preserved : goal.loop-j-preserved
 loop-j-preserved g c =

@@ -5,11 +5,11 @@ use Rattle.starlark_hash.proofs.SearchLemmas.{is_test}
 use Rattle.starlark_vecmap.proofs.FirstAccepted.{asks-position_of, found_within}
 use Rattle.starlark_vecmap.proofs.vec_map.VecMap.get_index_of_hashed.Goals as goal
 
-pub returns-clause-place : goal.returns-clause-place
-returns-clause-place g c =
+pub returns-clause-index : goal.returns-clause-index
+returns-clause-index g c =
     let t = g.Q.Query.stands_for (key_of c.args.key) in
     let answered = asks-position_of _ t _ (is_test _ t _ (λ x accepts next called. (search (rules, of_calls, called), search (rules, of_calls, called)))) c.hash-hash.result c.args.self.now.entries c.get_index_of_hashed_raw.result _ c.get_index_of_hashed_raw.ensures.1 in
     answered ∙ ap (λ h. position_of h t c.args.self.now.entries) c.hash-hash.ensures
 
 pub returns-clause-within : goal.returns-clause-within
-returns-clause-within g c = found_within (stands_under (hash_of c.args.key) (g.Q.Query.stands_for (key_of c.args.key))) c.args.self.now.entries c.get_index_of_hashed_raw.result (returns-clause-place g c)
+returns-clause-within g c = found_within (stands_under (hash_of c.args.key) (g.Q.Query.stands_for (key_of c.args.key))) c.args.self.now.entries c.get_index_of_hashed_raw.result (returns-clause-index g c)

@@ -124,15 +124,15 @@ module _ (A B : RattleType) where
           use1 𝓛 (‵ (flft κ (Share.left q)) ⊛ ‵ (flft κ (Share.right q))) (𝓛.lfts.lft_split κ q) $ split ! $
           move ! (4 ∷ []) $ fsplit3 ! $ drop ! $ open_ref ! tt (mem W) {b = b} {o = o} $
           use1 𝓛 (some (λ (d : (d : D) × O.Known K V v d). raw (O.Cuts K V 𝓛 b o v d))) (O.cut K V 𝓛 b o (param_laws 0 A LA) (param_laws 1 B LB) v) $ pick ! (λ d'.
-          let d = d'.0 in let xs = d.columns in let place = o + O.eP K V in
-          use1 𝓛 (‵ (part_at CP full_share xs b place) ⊛ raw (O.Rest K V 𝓛 b o d)) (id⊢ 𝓤 _) $ split ! $
+          let d = d'.0 in let xs = d.columns in let index = o + O.eP K V in
+          use1 𝓛 (‵ (part_at CP full_share xs b index) ⊛ raw (O.Rest K V 𝓛 b o d)) (id⊢ 𝓤 _) $ split ! $
           -- [the pairs; the rest; the open borrow; obs; auth; half of κ's token; those of κA, κB]
-          name_new ! tt (CP.coded.code xs) (λ δ. move ! (2 ∷ 1 ∷ []) $ fjoin ! $ fpack ! CP.Denot (λ z. fsep ((mem CP).own_at z b place) (fauth δ (CP.coded.code z))) xs $
+          name_new ! tt (CP.coded.code xs) (λ δ. move ! (2 ∷ 1 ∷ []) $ fjoin ! $ fpack ! CP.Denot (λ z. fsep ((mem CP).own_at z b index) (fauth δ (CP.coded.code z))) xs $
           -- [the content; obs δ; the rest; the open borrow; obs; auth; ..]
           move ! (3 ∷ []) $ ages ! (λ n. move ! (1 ∷ []) $ bor_new_deep ! tt n κ $
           -- [the borrow and its right; the open borrow; obs δ; the rest; obs; auth; the other half; the tokens of κA,
           -- κB]
-          let lent : MutBor Ps = record { ref_ptr = (b, place); ghost_name = δ; now = xs } in
+          let lent : MutBor Ps = record { ref_ptr = (b, index); ghost_name = δ; now = xs } in
           move ! (3 ∷ 0 ∷ []) $ feq_i ! (List Val) (mut_vals lent) (mut_vals lent) refl $ fjoin3 ! $ nothing ! $ move ! (1 ∷ 0 ∷ []) $ fjoin ! $
           -- [the argument; the right; the open borrow; the rest; obs; auth; the other half; the tokens of κA, κB]
           nothing ! $ use0 𝓛 (‵ (flft [] full_share)) (𝓛.lfts.lft-nil full_share) $ join ! $ move ! (9 ∷ 0 ∷ []) $ join ! $ move ! (8 ∷ 0 ∷ []) $ join ! $ move ! (7 ∷ 0 ∷ []) $ join ! $ join ! $
@@ -147,7 +147,7 @@ module _ (A B : RattleType) where
           -- [what the pairs follow; the tokens with the walk; the right; the open borrow; the rest; obs; auth]
           move ! (3 ∷ 5 ∷ 6 ∷ 2 ∷ 0 ∷ 4 ∷ []) $ group ! 6 $
           use1 𝓛 (later (some (λ (tie : GName). ‵ (flft κ (Share.left q)) ⊛ ‵ (follows W W γ tie (keeps v)))))
-          (closes_named 𝓛 (mem W) (mem CP) (mem CP) (kept xs) (seen d) (keeps v) (λ w. same v d w d'.1) κ (Share.left q) b o b place γ δ x.1 (O.Rest K V 𝓛 b o d)
+          (closes_named 𝓛 (mem W) (mem CP) (mem CP) (kept xs) (seen d) (keeps v) (λ w. same v d w d'.1) κ (Share.left q) b o b index γ δ x.1 (O.Rest K V 𝓛 b o d)
           (λ w. O.shut K V 𝓛 b o (seen d w) (written d w) (written_known v d w d'.1)) n (W.coded.code v) (W.coded.code v) v) $ await ! tt $ pick ! (λ tie. split ! $
           -- [half of κ's token; what the list follows; the tokens with the walk]
           move ! (2 ∷ []) $ split ! $ split3 ! $ move ! (4 ∷ 0 ∷ []) $ use2 𝓛 (‵ (flft κ q)) (𝓛.lfts.lft_join κ q) $ move ! (2 ∷ []) $ split3 ! $ move ! (1 ∷ []) $ drop ! $

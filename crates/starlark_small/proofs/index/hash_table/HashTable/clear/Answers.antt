@@ -6,4 +6,4 @@ pub invariant_of-self : goal.invariant_of-self
 invariant_of-self c =
     let k = c.self.invariant in
     (keeps-none c.clear.new.self c.clear-then-saturating_mul-saturating_add.new.self.items (vec_capacity c.clear-then-saturating_mul-saturating_add.new.self) c.clear.ensures.empty c.clear-then-saturating_mul-saturating_add.ensures.items (omega (arith, c.clear.ensures.room, k.spare, c.clear-then-saturating_mul-saturating_add.ensures.capacity))
-    (omega (arith, c.clear.ensures.places, k.few)) (omega (arith, c.clear.ensures.room, k.narrow))).keeps
+    (omega (arith, c.clear.ensures.slots, k.few)) (omega (arith, c.clear.ensures.room, k.narrow))).keeps

@@ -22,7 +22,7 @@ kept c =
     let end : last + 1 ≡ length cells.items = omega (arith, c.requires, ap (λ h. length h.list) c.self.view_is, some, c.len-last.ensures, cells.ok.0) in
     let same : last ≡ vec_len after - 1 = omega (arith, end, took.cells.even, after.ok.0) in
     subst (λ l. Keeps (remove (hashes_in c.self.inside.table.slots cells.items) last) (c.self.inside.table.room + 1) c.take_index.new.table l space) (ap (λ n. take n after.items) same ∙ sym c.pop.ensures.rest)
-    (keeps-forgotten_last c.self.inside.table cells.items (vec_capacity cells) c.self.invariant last (omega (arith, end)) c.take_index.new.table after.items took.cells.even took.cells.sited took.taken took.places took.room
+    (keeps-forgotten_last c.self.inside.table cells.items (vec_capacity cells) c.self.invariant last (omega (arith, end)) c.take_index.new.table after.items took.cells.even took.cells.sited took.taken took.slots took.room
     space end (omega (arith, took.cells.spare, c.pop.ensures.capacity)))
 
 pub invariant_of-self : goal.invariant_of-self

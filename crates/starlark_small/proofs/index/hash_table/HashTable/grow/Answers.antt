@@ -30,10 +30,10 @@ kept c =
     let new = c.take_members.new.self in
     let none = ap length c.in_ok-old.ensures.empty in
     let room : table_capacity new ≡ table_capacity small = c.take_members.ensures.room ∙ ap table_capacity c.swap.ensures.x_after in
-    let places : length new.slots ≡ length small.slots = c.take_members.ensures.places ∙ ap (λ t. length t.slots) c.swap.ensures.x_after in
+    let slots : length new.slots ≡ length small.slots = c.take_members.ensures.slots ∙ ap (λ t. length t.slots) c.swap.ensures.x_after in
     keeps-grown c.self.inside.table cells.items (vec_capacity cells) c.self.invariant new (moved c.self.inside.table c.in_ok-old.old c.swap.new.x c.swap.new.y c.take_members.new.self c.swap.ensures.x_after c.swap.ensures.y_after c.in_ok-old.ensures.empty c.take_members.ensures.added)
     c.name_slots.new.cells.items (vec_capacity c.name_slots.new.cells) c.name_slots.ensures.sited (c.name_slots.ensures.even ∙ ap length c.in_ok-reserve_exact.ensures.items)
-    (omega (arith, room, none, c.name_slots.ensures.spare, c.in_ok-reserve_exact.ensures.ok, c.in_ok-reserve_exact.ensures.len, c.room.ensures, c.len.ensures)) (omega (arith, places, c.in_ok-old.ensures.places, c.requires.few))
+    (omega (arith, room, none, c.name_slots.ensures.spare, c.in_ok-reserve_exact.ensures.ok, c.in_ok-reserve_exact.ensures.len, c.room.ensures, c.len.ensures)) (omega (arith, slots, c.in_ok-old.ensures.slots, c.requires.few))
     (omega (arith, room, none, c.in_ok-old.ensures.most, c.requires.few))
 
 pub invariant_of-self-2 : goal.invariant_of-self-2

@@ -5,5 +5,5 @@ use Rattle.starlark_small.proofs.index.hash_table.HashTable.with_capacity.Goals 
 pub invariant_of-result : goal.invariant_of-result
 invariant_of-result c =
     let table = c.in_ok-table.table in
-    (keeps-none table _ _ c.in_ok-table.ensures.empty c.in_ok-cells.ensures.items (omega (arith, c.in_ok-cells.ensures.exact, c.room.ensures)) (omega (arith, c.in_ok-table.ensures.places, c.if-capacity-gt-LONGEST.false))
+    (keeps-none table _ _ c.in_ok-table.ensures.empty c.in_ok-cells.ensures.items (omega (arith, c.in_ok-cells.ensures.exact, c.room.ensures)) (omega (arith, c.in_ok-table.ensures.slots, c.if-capacity-gt-LONGEST.false))
     (omega (arith, c.in_ok-table.ensures.most, c.if-capacity-gt-LONGEST.false))).keeps

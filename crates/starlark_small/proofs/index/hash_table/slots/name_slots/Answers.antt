@@ -25,7 +25,7 @@ index_mut-requires c =
 pub prove-unreachable-requires : goal.prove-unreachable-requires
 prove-unreachable-requires c =
     let slots = c.args.table.now.slots in
-    full_not_empty (get_or slots c.in-Some.slot None) c.in-Some.ensures.full.1 (get_or_past slots c.in-Some.slot None (omega (arith, c.if-prove.true, c.places.ensures)))
+    full_not_empty (get_or slots c.in-Some.slot None) c.in-Some.ensures.full.1 (get_or_past slots c.in-Some.slot None (omega (arith, c.if-prove.true, c.slots-in-Some.ensures)))
 
 pub slots-preserved : goal.slots-preserved
 slots-preserved c =

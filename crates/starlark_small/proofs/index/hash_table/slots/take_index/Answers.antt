@@ -20,7 +20,7 @@ returns c =
       taken = λ h there.
           let at = ap (member_at old) slot ∙ named-there cells old h c.args.index c.requires.sited there in
           subst (λ o. IfSome o (λ m. IsPermutation (members old) (m ∷ members c.remove_followed.new.self))) (c.remove_followed.ensures.found ∙ at) c.remove_followed.ensures.rest;
-      places = c.remove_followed.ensures.places;
+      slots = c.remove_followed.ensures.slots;
       room = c.remove_followed.ensures.room;
       cells = record {
         sited = c.remove_followed.ensures.known.0;

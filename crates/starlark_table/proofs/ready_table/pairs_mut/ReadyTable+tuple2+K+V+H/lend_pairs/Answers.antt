@@ -7,5 +7,5 @@ use Rattle.starlark_table.proofs.ready_table.pairs_mut.ReadyTable+tuple2+K+V+H.l
 pub new-requires : goal.new-requires
 new-requires g c =
     let tags = c.as_slice.result.now in let slots = c.args.self.now.slots in
-    subst (λ n. AreMarked tags n c.lend_kept-places.result.0.rest) (sym c.lend_kept-places.ensures.untouched)
-    (subst (λ l. AreMarked tags 0 l) (sym c.lend_kept-places.ensures.rest) (marked-all tags slots (subst (λ l. IsTagged l slots) (sym c.as_slice.ensures) c.lend_kept-places.ensures.tagged)))
+    subst (λ n. AreMarked tags n c.lend_kept-slots.result.0.rest) (sym c.lend_kept-slots.ensures.untouched)
+    (subst (λ l. AreMarked tags 0 l) (sym c.lend_kept-slots.ensures.rest) (marked-all tags slots (subst (λ l. IsTagged l slots) (sym c.as_slice.ensures) c.lend_kept-slots.ensures.tagged)))

@@ -4,11 +4,11 @@ use Rattle.starlark_columns.proofs.Walking.{◌≡◌, refl, sym, ap, ◌∙◌,
 use base.Share
 use Rattle.starlark_columns.specs.Block.{IsBehind}
 use Rattle.starlark_columns.specs.declared.row.Row.{Row}
-use Rattle.starlark_columns.specs.Lend.{with_places}
+use Rattle.starlark_columns.specs.Lend.{with_cells}
 use Rattle.starlark_columns.specs.contracts.block.Spot as spot
 use Rattle.starlark_columns.proofs.Addresses.{words, words_good, spot_made}
 use Rattle.starlark_columns.specs.Front.{IsFront, with_items}
-use Rattle.starlark_columns.proofs.Fronts.{all_written, written_places}
+use Rattle.starlark_columns.proofs.Fronts.{all_written, written_cells}
 use Rattle.starlark_vec2.specs.Columns.{column}
 use Rattle.starlark_vec2.specs.Loan.{Pair, with_seconds, frozen}
 use Rattle.starlark_columns.proofs.NamedClose.{closes_named}
@@ -70,28 +70,28 @@ module _ (A B E : RattleType) where
   stayed = (stay_dropped (mut_ref_to (0 ∷ []) tt (plain (λ _. W))) no, tt)
 
   abbrev kept : Row One → Row One → Row One
-  kept v w = with_places v (with_items v.places (with_seconds (items_of v.places) (items_of w.places)))
+  kept v w = with_cells v (with_items v.cells (with_seconds (items_of v.cells) (items_of w.cells)))
 
   -- the fields and the list with the values of w
   abbrev written : D → Row One → D
   written d w = record d { firsts = kept d.firsts w }
 
   abbrev seen : D → Row One → W.Denot
-  seen d w = pair_list (zip (with_seconds (items_of d.firsts.places) (items_of w.places)) (items_of d.seconds.places)) (length d.firsts.places)
+  seen d w = pair_list (zip (with_seconds (items_of d.firsts.cells) (items_of w.cells)) (items_of d.seconds.cells)) (length d.firsts.cells)
 
   abbrev keeps : W.Denot → W.Denot → W.Denot
   keeps v w = with_pairs v (with_values v.pairs w.pairs)
 
   written_known : (v : W.Denot) (d : D) (w : Row One) → O.Known P S v d → O.Known P S (seen d w) (written d w)
   written_known v d w k =
-      let cs = d.firsts.places in let ds = d.seconds.places in let ws = with_seconds (items_of cs) (items_of w.places) in
-      let items = all_written cs d.len k.1.0.firsts_front ws (length-with_seconds (items_of cs) (items_of w.places)) in (
-        (λ j. pair_list (zip (items j) (items_of ds)) (written_places cs d.len k.1.0.firsts_front ws j)),
-        (firsts_written cs ds d.len k.1.0 ws, same_block d.block d.firsts (kept d.firsts w) d.seconds d.seconds k.1.1 refl refl (written_places cs d.len k.1.0.firsts_front ws) refl, k.1.2),
+      let cs = d.firsts.cells in let ds = d.seconds.cells in let ws = with_seconds (items_of cs) (items_of w.cells) in
+      let items = all_written cs d.len k.1.0.firsts_front ws (length-with_seconds (items_of cs) (items_of w.cells)) in (
+        (λ j. pair_list (zip (items j) (items_of ds)) (written_cells cs d.len k.1.0.firsts_front ws j)),
+        (firsts_written cs ds d.len k.1.0 ws, same_block d.block d.firsts (kept d.firsts w) d.seconds d.seconds k.1.1 refl refl (written_cells cs d.len k.1.0.firsts_front ws) refl, k.1.2),
       )
 
   same : (v : W.Denot) (d : D) (w : Row One) → O.Known P S v d → keeps v (seen d w) ≡ seen d w
-  same v d w k = ap (λ z. keeps z (seen d w)) (sym k.0) ∙ ap (λ l. pair_list l (length d.firsts.places)) (with_values-zip (items_of d.firsts.places) (items_of w.places) (items_of d.seconds.places))
+  same v d w k = ap (λ z. keeps z (seen d w)) (sym k.0) ∙ ap (λ l. pair_list l (length d.firsts.cells)) (with_values-zip (items_of d.firsts.cells) (items_of w.cells) (items_of d.seconds.cells))
 
   module _ {M : Type 1} {𝓤 : Ura M} (𝓛 : Logic 𝓤) (at_mem : Memory → SProp 𝓤) (run : Routine → Fun 𝓤) where
     open 𝓛 use {H}
@@ -128,37 +128,37 @@ module _ (A B E : RattleType) where
           use1 𝓛 (‵ (flft κ (Share.left q)) ⊛ ‵ (flft κ (Share.right q))) (𝓛.lfts.lft_split κ q) $ split ! $
           move ! (4 ∷ []) $ fsplit3 ! $ drop ! $ open_ref ! tt (mem W) {b = b} {o = o} $
           use1 𝓛 (some (λ (d : (d : D) × O.Known P S v d). raw (O.Cuts P S 𝓛 b o v d))) (O.cut P S 𝓛 b o (tuple_laws (K ∷ V ∷ []) (param_laws 0 A LA, (param_laws 1 B LB, tt))) (param_laws 2 E LE) v) $ pick ! (λ d'.
-          let d = d'.0 in let xs = d.firsts in let place = o + O.eA P S in
-          use1 𝓛 (‵ (part_at CP full_share xs b place) ⊛ ‵ (part_at CS full_share d.seconds b (o + O.eB P S)) ⊛ raw (O.Rest P S 𝓛 b o d)) (id⊢ 𝓤 _) $ split3 ! $
+          let d = d'.0 in let xs = d.firsts in let index = o + O.eA P S in
+          use1 𝓛 (‵ (part_at CP full_share xs b index) ⊛ ‵ (part_at CS full_share d.seconds b (o + O.eB P S)) ⊛ raw (O.Rest P S 𝓛 b o d)) (id⊢ 𝓤 _) $ split3 ! $
           -- the spot and the length are read where they lie
-          move ! (2 ∷ []) $ use1 𝓛 (raw (fact 𝓤 (O.Told P S d)) ⊛ ‵ (O.Len P S 𝓛 b o d.len) ⊛ ‵ (O.Place P S 𝓛 b o d.spot.address.at d.spot.count) ⊛ raw (O.Less P S 𝓛 b o d)) (O.fields_out P S 𝓛 b o d) $ split3 ! $ heard ! (O.Told P S d) (λ told. move ! (1 ∷ []) $ split ! $
+          move ! (2 ∷ []) $ use1 𝓛 (raw (fact 𝓤 (O.Told P S d)) ⊛ ‵ (O.Len P S 𝓛 b o d.len) ⊛ ‵ (O.Index P S 𝓛 b o d.spot.address.at d.spot.count) ⊛ raw (O.Less P S 𝓛 b o d)) (O.fields_out P S 𝓛 b o d) $ split3 ! $ heard ! (O.Told P S d) (λ told. move ! (1 ∷ []) $ split ! $
           let at = d.spot in let words_at : Val = words at.address.at at.count in let Lies : Type 0 = IsBehind S P at xs.at in let At : RattleType = spot.the_row S in
           sets ! (of_opd ! (load ! (through ! refl (fld ! refl (stop !))) (look ! 0 refl))) refl (words_good at.address.at at.count told.1) $
           sets ! (of_opd ! (load ! (through ! refl (fld ! refl (stop !))) (look ! 2 refl))) refl (tt, record { fits = told.0 }) $
           sets ! (addr ! (through ! refl (fld ! refl (stop !)))) refl (tt, tt) $
           move ! (2 ∷ 0 ∷ 1 ∷ []) $ group ! 3 $ use1 𝓛 (raw (O.Rest P S 𝓛 b o d)) (O.fields_in P S 𝓛 b o d told) $ move ! (2 ∷ 0 ∷ []) $ join ! $ use1 𝓛 (raw (Left b o d)) (id⊢ 𝓤 _) $ move ! (1 ∷ 0 ∷ []) $
           -- [the first column; the rest; the open borrow; obs; auth; half of κ's token; those of κA, κB, κE]
-          name_new ! tt (CP.coded.code xs) (λ δ. move ! (2 ∷ 1 ∷ []) $ fjoin ! $ fpack ! CP.Denot (λ z. fsep ((mem CP).own_at z b place) (fauth δ (CP.coded.code z))) xs $
+          name_new ! tt (CP.coded.code xs) (λ δ. move ! (2 ∷ 1 ∷ []) $ fjoin ! $ fpack ! CP.Denot (λ z. fsep ((mem CP).own_at z b index) (fauth δ (CP.coded.code z))) xs $
           -- [the content; obs δ; the rest; the open borrow; obs; auth; ..]
           move ! (3 ∷ []) $ ages ! (λ n. move ! (1 ∷ []) $ bor_new_deep ! tt n κ $
           -- [the borrow and its right; the open borrow; obs δ; the rest; obs; auth; the other half; the tokens of κA,
           -- κB, κE]
-          let lent : MutBor (Row One) = record { ref_ptr = (b, place); ghost_name = δ; now = xs } in
+          let lent : MutBor (Row One) = record { ref_ptr = (b, index); ghost_name = δ; now = xs } in
           move ! (3 ∷ 0 ∷ []) $ feq_i ! (List Val) (mut_vals lent) (mut_vals lent) refl $ fjoin3 ! $ nothing ! $ owned ! usize _ (uint_Makes 𝓛 w64) d.len _ (refl, told.0) $ fjoin ! $ use0 𝓛 (‵ (At.own_val at (words_at ∷ []))) (spot_made S 𝓛 at told.1) $ fjoin ! $ move ! (1 ∷ 0 ∷ []) $ fjoin ! $
           -- [the argument; the right; the open borrow; the rest; obs; auth; the other half; the tokens of κA, κB, κE]
           nothing ! $ move ! (10 ∷ 0 ∷ []) $ join ! $ move ! (9 ∷ 0 ∷ []) $ join ! $ move ! (8 ∷ 0 ∷ []) $ join ! $ move ! (7 ∷ 0 ∷ []) $ join ! $ join ! $
-          use0 𝓛 (raw (fact 𝓤 (IsFront xs.places d.len))) (fact_i 𝓤 _ (emp 𝓤) d'.1.1.0.firsts_front) $ use0 𝓛 (raw (fact 𝓤 Lies)) (fact_i 𝓤 _ (emp 𝓤) (O.at_behind P S v d d'.1 told)) $ use0 𝓛 (raw (fact 𝓤 (κE ⊑ E.lives))) (fact_i 𝓤 _ (emp 𝓤) le) $
+          use0 𝓛 (raw (fact 𝓤 (IsFront xs.cells d.len))) (fact_i 𝓤 _ (emp 𝓤) d'.1.1.0.firsts_front) $ use0 𝓛 (raw (fact 𝓤 Lies)) (fact_i 𝓤 _ (emp 𝓤) (O.at_behind P S v d d'.1 told)) $ use0 𝓛 (raw (fact 𝓤 (κE ⊑ E.lives))) (fact_i 𝓤 _ (emp 𝓤) le) $
           use0 𝓛 (raw (fact 𝓤 (κB ⊑ B.lives))) (fact_i 𝓤 _ (emp 𝓤) lb) $ use0 𝓛 (raw (fact 𝓤 (κA ⊑ A.lives))) (fact_i 𝓤 _ (emp 𝓤) la) $ group ! 5 $ move ! (1 ∷ 0 ∷ []) $ join ! $
           let z : Run.Ghost = (((κ, (κA, (κB, (κE, tt)))), (Share.right q, (qA, (qB, (qE, tt)))), (bounds.0, (bounds.1.0, tt)), (lent, (at, (d.len, tt))), (mut_vals lent, (words_at ∷ [], (vint w64 d.len ∷ [], tt)))), tt) in
           use1 𝓛 (raw (Run.pre z)) (id⊢ 𝓤 _) $
           calls_at ! fm Run gr z (and_then ! (get ! refl) (and_then ! (get ! refl) (and_then ! (get ! refl) (no_more !)))) (λ u.
           use1 𝓛 (later (some (λ (x : Loan A.Denot B.Denot). ((‵ (flft κ (Share.right q)) ⊛ ‵ (flft κA qA) ⊛ ‵ (flft κB qB) ⊛ ‵ (flft κE qE) ⊛ ‵ ftrue) ⊛ ‵ (It.own_val x (u ∷ []))) ⊛ raw (ensured 𝓛 (g.ended A B E) (g.clauses A B E 𝓛 at_mem run) z.0.0 z.0.3 tt x)))) (id⊢ 𝓤 _) $ await ! tt $ pick ! (λ x. split ! $ move ! (1 ∷ []) $
-          use1 𝓛 (‵ (follows CP CP δ x.tie (kept xs)) ⊛ raw (fact 𝓤 ((x.from ≡ 0) × (x.rest ≡ items_of xs.places)))) (ex_e 𝓤 _ (λ ws. snd∗ 𝓤 (sem 𝓛 (lasts (g.ended A B E) z.0.0 z.0.3 ws)) _)) $ split ! $ move ! (1 ∷ []) $ heard ! ((x.from ≡ 0) × (x.rest ≡ items_of xs.places)) (λ rest.
+          use1 𝓛 (‵ (follows CP CP δ x.tie (kept xs)) ⊛ raw (fact 𝓤 ((x.from ≡ 0) × (x.rest ≡ items_of xs.cells)))) (ex_e 𝓤 _ (λ ws. snd∗ 𝓤 (sem 𝓛 (lasts (g.ended A B E) z.0.0 z.0.3 ws)) _)) $ split ! $ move ! (1 ∷ []) $ heard ! ((x.from ≡ 0) × (x.rest ≡ items_of xs.cells)) (λ rest.
           -- [what the column follows; the tokens with the loan; the right; the open borrow; the rest; obs; auth; the
           -- token of κE]
           move ! (3 ∷ 5 ∷ 6 ∷ 2 ∷ 0 ∷ 4 ∷ []) $ group ! 6 $
           use1 𝓛 (later (some (λ (tie : GName). ‵ (flft κ (Share.left q)) ⊛ ‵ (follows W W γ tie (keeps v)))))
-          (closes_named 𝓛 (mem W) (mem CP) (mem CP) (kept xs) (seen d) (keeps v) (λ w. same v d w d'.1) κ (Share.left q) b o b place γ δ x.tie (Left b o d)
+          (closes_named 𝓛 (mem W) (mem CP) (mem CP) (kept xs) (seen d) (keeps v) (λ w. same v d w d'.1) κ (Share.left q) b o b index γ δ x.tie (Left b o d)
           (λ w. O.shut P S 𝓛 b o (seen d w) (written d w) (written_known v d w d'.1)) n (W.coded.code v) (W.coded.code v) v) $ await ! tt $ pick ! (λ tie. split ! $
           -- [half of κ's token; what the list follows; the tokens with the loan; the token of κE]
           move ! (2 ∷ []) $ split ! $ split3 ! $ move ! (4 ∷ 0 ∷ []) $ use2 𝓛 (‵ (flft κ q)) (𝓛.lfts.lft_join κ q) $ move ! (2 ∷ []) $ split3 ! $ move ! (0 ∷ 2 ∷ 3 ∷ 4 ∷ 5 ∷ 6 ∷ []) $
@@ -174,7 +174,7 @@ module _ (A B E : RattleType) where
           suffices ! _ (ends_at 𝓛 ended stayed spec bound made new (tt, tt) (tt, tt)) $
           nothing ! $ nothing ! $ fjoin ! $ join ! $ nothing ! $ move ! (5 ∷ 0 ∷ []) $ join ! $ move ! (4 ∷ 0 ∷ []) $ join ! $ move ! (3 ∷ 0 ∷ []) $ join ! $ move ! (2 ∷ 0 ∷ []) $ join ! $ join ! $
           frame ! $
-          use0 𝓛 (raw (fact 𝓤 (new.rest ≡ firsts_of v.pairs))) (fact_i 𝓤 _ (emp 𝓤) (firsts_are xs.places d.seconds.places d.len d'.1.1.0 v d'.1.0 x.rest rest.1)) $
+          use0 𝓛 (raw (fact 𝓤 (new.rest ≡ firsts_of v.pairs))) (fact_i 𝓤 _ (emp 𝓤) (firsts_are xs.cells d.seconds.cells d.len d'.1.1.0 v d'.1.0 x.rest rest.1)) $
           use0 𝓛 (raw (fact 𝓤 (new.from ≡ 0))) (fact_i 𝓤 _ (emp 𝓤) rest.0) $ move ! (2 ∷ 0 ∷ 1 ∷ []) $ done !))))))))))))))
 
 meets : (A B E : RattleType) → Laws A → Laws B → Laws E → {M : Type 1} {𝓤 : Ura M} (𝓛 : Logic 𝓤) (at_mem : Memory → SProp 𝓤) (run : Routine → Fun 𝓤) (𝓣 : Tables 𝓤 𝓛.H)

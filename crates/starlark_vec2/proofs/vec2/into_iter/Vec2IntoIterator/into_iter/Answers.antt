@@ -7,9 +7,9 @@ use Rattle.starlark_vec2.proofs.vec2.into_iter.Vec2IntoIterator.into_iter.Goals 
 
 pub invariant_of-result : goal.invariant_of-result
 invariant_of-result g c =
-    let all = sym (c.len-to.ensures.len ∙ len_is c.self.inside.firsts.places c.self.inside.seconds.places c.self.inside.len c.self.invariant.0 c.args.self c.self.view_is) in (
-      subst (λ n. IsBetween c.self.inside.firsts.places 0 n) all (between_front c.self.inside.firsts.places c.self.inside.len c.self.invariant.0.firsts_front),
-      subst (λ n. IsBetween c.self.inside.seconds.places 0 n) all (between_front c.self.inside.seconds.places c.self.inside.len c.self.invariant.0.seconds_front),
+    let all = sym (c.len-to.ensures.len ∙ len_is c.self.inside.firsts.cells c.self.inside.seconds.cells c.self.inside.len c.self.invariant.0 c.args.self c.self.view_is) in (
+      subst (λ n. IsBetween c.self.inside.firsts.cells 0 n) all (between_front c.self.inside.firsts.cells c.self.inside.len c.self.invariant.0.firsts_front),
+      subst (λ n. IsBetween c.self.inside.seconds.cells 0 n) all (between_front c.self.inside.seconds.cells c.self.inside.len c.self.invariant.0.seconds_front),
       c.self.invariant.1,
       c.self.invariant.2,
     )

@@ -1,6 +1,6 @@
 use Rattle.std.proofs.Common.{◌≡◌, ℕ, ◌-◌, ◌<◌, length, IsSome}
 use Rattle.starlark_table.specs.Layout.{distance, at, tag_bits, empty_tag}
-use Rattle.starlark_table.proofs.probe.free_place.Given as goal
+use Rattle.starlark_table.proofs.probe.free_slot.Given as goal
 
 abbrev pub invariant-windows : goal.invariant-windows
 invariant-windows g l = record {

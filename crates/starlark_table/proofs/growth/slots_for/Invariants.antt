@@ -1,6 +1,6 @@
 use Rattle.std.proofs.Common.{◌≡◌, ℕ, ◌-◌, ◌*◌, ◌^◌, ◌≤◌}
 use Rattle.starlark_table.specs.Growth.{limit, most_for}
-use Rattle.starlark_table.proofs.growth.places_for.Given as goal
+use Rattle.starlark_table.proofs.growth.slots_for.Given as goal
 
 abbrev pub invariant-loop-count : goal.invariant-loop-count
 invariant-loop-count l = record {

@@ -2,7 +2,7 @@
 use Rattle.std.proofs.Common.{nat_eq, w32, arith}
 use Rattle.std.specs.Simd.Lanes.{chunk}
 use Rattle.std.proofs.lemmas.Simd.{bitmask_splat, length-chunk}
-use Rattle.starlark_vecmap.proofs.hash_search.places_of_eight.Goals as goal
+use Rattle.starlark_vecmap.proofs.hash_search.indices_of_eight.Goals as goal
 
 pub returns : goal.returns
 returns c =

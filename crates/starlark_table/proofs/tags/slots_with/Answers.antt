@@ -3,7 +3,7 @@ use Rattle.std.proofs.lemmas.Simd.{bitmask_splat, length-chunk}
 use Rattle.std.specs.Prelude.{nat_eq}
 use lib.Lanes.{chunk}
 use Rattle.starlark_table.proofs.TagBits.{tag_bits-chunk}
-use Rattle.starlark_table.proofs.tags.places_with.Goals as goal
+use Rattle.starlark_table.proofs.tags.slots_with.Goals as goal
 
 pub returns : goal.returns
 returns c =

@@ -4,7 +4,7 @@ use Rattle.std.specs.Prelude.{nat_lt}
 use lib.Lanes.{chunk}
 use Rattle.starlark_table.specs.Layout.{hash_tag_bits, padding}
 use Rattle.starlark_table.proofs.FullBits.{hash_tag_bits-chunk}
-use Rattle.starlark_table.proofs.tags.full_places.Goals as goal
+use Rattle.starlark_table.proofs.tags.full_slots.Goals as goal
 
 pub returns-then-tags-start-lt-WIDE_WINDOW-clause-bits : goal.returns-then-tags-start-lt-WIDE_WINDOW-clause-bits
 returns-then-tags-start-lt-WIDE_WINDOW-clause-bits c =

@@ -1,7 +1,7 @@
 use Rattle.std.proofs.Common.{ℕ, ◌-◌, ◌<◌, length, arith, refl, sym, ◌∙◌}
 use Rattle.starlark_table.proofs.Circle.{distance-self, distance-below}
 use Rattle.starlark_table.proofs.Windows.{passes_window, free_in_window}
-use Rattle.starlark_table.proofs.probe.free_place.Goals as goal
+use Rattle.starlark_table.proofs.probe.free_slot.Goals as goal
 
 fewer : (m x y : ℕ) → x < y → y < m → m - y < m - x
 fewer m x y less below = omega arith
@@ -9,21 +9,21 @@ fewer m x y less below = omega arith
 pub windows-init : goal.windows-init
 windows-init g c =
     let here = distance-self (length c.args.slots.now) c.args.home in
-    record { in_range = c.requires.home; path = λ q q_in near. absurd (omega arith); its = c.places_with-empty.ensures }
+    record { in_range = c.requires.home; path = λ q q_in near. absurd (omega arith); its = c.slots_with-empty.ensures }
 
 pub windows-smaller : goal.windows-smaller
 windows-smaller g c =
     let k = c.windows.invariant in
-    let p = passes_window c.args.tags.now c.args.slots.now c.requires.tagged c.args.home c.requires.home c.requires.free (c.places-mask.result - 1) c.windows.start c.window_after-start.result
-    (omega (arith, c.requires.home, c.places-mask.ensures.places)) k.in_range k.path (sym c.windows-test.true ∙ k.its) c.window_after-start.ensures.on c.window_after-start.ensures.round in
+    let p = passes_window c.args.tags.now c.args.slots.now c.requires.tagged c.args.home c.requires.home c.requires.free (c.cells-mask.result - 1) c.windows.start c.window_after-start.result
+    (omega (arith, c.requires.home, c.cells-mask.ensures.cells)) k.in_range k.path (sym c.windows-test.true ∙ k.its) c.window_after-start.ensures.on c.window_after-start.ensures.round in
     fewer (length c.args.slots.now) _ _ p.2 (distance-below (length c.args.slots.now) c.args.home c.window_after-start.result c.requires.home p.0)
 
 pub windows-preserved : goal.windows-preserved
 windows-preserved g c =
     let k = c.windows.invariant in
-    let p = passes_window c.args.tags.now c.args.slots.now c.requires.tagged c.args.home c.requires.home c.requires.free (c.places-mask.result - 1) c.windows.start c.window_after-start.result
-    (omega (arith, c.requires.home, c.places-mask.ensures.places)) k.in_range k.path (sym c.windows-test.true ∙ k.its) c.window_after-start.ensures.on c.window_after-start.ensures.round in
-    record { in_range = p.0; path = p.1; its = c.places_with-empty-in-windows.ensures }
+    let p = passes_window c.args.tags.now c.args.slots.now c.requires.tagged c.args.home c.requires.home c.requires.free (c.cells-mask.result - 1) c.windows.start c.window_after-start.result
+    (omega (arith, c.requires.home, c.cells-mask.ensures.cells)) k.in_range k.path (sym c.windows-test.true ∙ k.its) c.window_after-start.ensures.on c.window_after-start.ensures.round in
+    record { in_range = p.0; path = p.1; its = c.slots_with-empty-in-windows.ensures }
 
 pub returns : goal.returns
 returns g c =

@@ -4,7 +4,7 @@ use Rattle.std.proofs.lemmas.Nat.{and_mask}
 use Rattle.std.specs.Int.Count.{count_trailing_zeros}
 use Rattle.starlark_table.specs.Layout.{tag_bits, empty_tag}
 use Rattle.starlark_table.proofs.TagBits.{none-by_bits, first-by_bits, tag_bits-front}
-use Rattle.starlark_table.proofs.tags.places_up_to_empty.Goals as goal
+use Rattle.starlark_table.proofs.tags.slots_up_to_empty.Goals as goal
 
 one_bit : (k : ℕ) → k < 16 → 1 * 2 ^ k % 2 ^ 64 ≡ 2 ^ k
 one_bit k low =
@@ -19,24 +19,24 @@ returns-then-empty-eq0 c = record {
   end = c.args.start + 16;
   from = omega arith;
   short = omega arith;
-  its = c.places_with-same.ensures ∙ ap (tag_bits c.args.tag c.args.tags.now c.args.start) (reach c.args.start 16);
-  full = none-by_bits empty_tag c.args.tags.now c.args.start 16 c.requires (sym c.places_with-empty.ensures ∙ c.if-empty-eq0.true);
+  its = c.slots_with-same.ensures ∙ ap (tag_bits c.args.tag c.args.tags.now c.args.start) (reach c.args.start 16);
+  full = none-by_bits empty_tag c.args.tags.now c.args.start 16 c.requires (sym c.slots_with-empty.ensures ∙ c.if-empty-eq0.true);
   stop = λ less. absurd (omega arith);
 }
 
 pub returns : goal.returns
 returns c =
-    let k = count_trailing_zeros 64 c.places_with-empty.result in
+    let k = count_trailing_zeros 64 c.slots_with-empty.result in
     let first = first-by_bits empty_tag c.args.tags.now c.args.start 16 c.requires k (omega arith)
-    (λ none. c.if-empty-eq0.false (c.places_with-empty.ensures ∙ none)) (ap (count_trailing_zeros 64) c.places_with-empty.ensures) in
+    (λ none. c.if-empty-eq0.false (c.slots_with-empty.ensures ∙ none)) (ap (count_trailing_zeros 64) c.slots_with-empty.ensures) in
     let within = first.within in
     record {
       end = c.args.start + k;
       from = omega arith;
       short = omega arith;
-      its = ap (λ d. bit_and c.places_with-same.result (d - 1)) (one_bit k within)
-          ∙ and_mask c.places_with-same.result k
-          ∙ ap (λ b. b % 2 ^ k) c.places_with-same.ensures
+      its = ap (λ d. bit_and c.slots_with-same.result (d - 1)) (one_bit k within)
+          ∙ and_mask c.slots_with-same.result k
+          ∙ ap (λ b. b % 2 ^ k) c.slots_with-same.ensures
           ∙ tag_bits-front c.args.tag c.args.tags.now c.args.start k (16 - k) 16 (omega arith)
           ∙ ap (tag_bits c.args.tag c.args.tags.now c.args.start) (reach c.args.start k);
       full = first.before;

@@ -1,7 +1,7 @@
--- The mask of the places that the loop has passed.
+-- The mask of the indices that the loop has passed.
 use Rattle.std.proofs.Common.{◌≡◌, ◌==◌, map, take}
 use Rattle.std.specs.Simd.Lanes.{mask_l}
-use Rattle.starlark_vecmap.proofs.hash_search.places_of_few.Given as goal
+use Rattle.starlark_vecmap.proofs.hash_search.indices_of_few.Given as goal
 
 abbrev pub invariant-loop-i : goal.invariant-loop-i
 invariant-loop-i l = l.mask ≡ mask_l (map (λ h. h == l.fn.hash) (take l.i l.block))

@@ -1,10 +1,10 @@
--- The next place adds its bit to the mask of those before it.
+-- The next index adds its bit to the mask of those before it.
 use Rattle.std.proofs.Common.{◌≡◌, ◌+◌, ◌*◌, ◌%◌, ◌^◌, ◌<◌, ℕ, Bool, List, get_or, length, map, take, arith, ◌∙◌}
 use Rattle.std.specs.Int.{from_bool}
 use Rattle.std.specs.Prelude.{nat_eq}
 use Rattle.std.specs.Simd.Lanes.{mask_l, chunk}
 use Rattle.starlark_vecmap.proofs.Masks.{from_bool-is, mask_at, mask_more, mask_more_lt}
-use Rattle.starlark_vecmap.proofs.hash_search.places_of_few.Goals as goal
+use Rattle.starlark_vecmap.proofs.hash_search.indices_of_few.Goals as goal
 
 module _ (block : List ℕ) (hash mask i : ℕ) (short : length block < 4) where
   abbrev is_hash : ℕ → Bool

@@ -1,8 +1,8 @@
 use Rattle.std.proofs.Common.{◌≡◌, ℕ, suc, ◌*◌, ◌^◌, ◌<◌, ◌≤◌, arith}
 use Rattle.starlark_table.specs.Growth.{limit, most_for}
-use Rattle.starlark_table.proofs.growth.places_for.Goals as goal
+use Rattle.starlark_table.proofs.growth.slots_for.Goals as goal
 
--- where so many places hold too few, twice as many do not hold too many
+-- where so many slots hold too few, twice as many do not hold too many
 twice : (count needed eighths : ℕ) → count ≡ 8 * eighths → limit count < needed → limit (count * 2) ≤ most_for needed
 twice count needed eighths is less = omega (arith, is, less)
 
