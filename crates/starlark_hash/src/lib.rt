@@ -11,6 +11,7 @@ pub mod no_room;
 pub mod query;
 mod same_text;
 pub mod text_key;
+pub mod with_unit;
 
 pub use equivalent::Equivalent;
 pub use hash_value::StarlarkHashValue;
@@ -20,3 +21,4 @@ pub use key_query::{KeyQuery, ToOwnedKey};
 pub use no_room::NoRoom;
 pub use query::{HashQuery, OwnedQuery, Query};
 pub use text_key::TextKey;
+pub use with_unit::WithUnit;

@@ -9,7 +9,6 @@ pub mod ordered_map;
 pub mod ordered_set;
 pub mod small_set;
 pub mod union;
-mod with_unit;
 
 pub use difference::Difference;
 pub use iter::{IntoIter, IntoIterHashed, Iter, IterHashed};

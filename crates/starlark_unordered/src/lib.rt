@@ -10,7 +10,6 @@ mod map_values;
 pub mod raw_entry;
 pub mod unordered_map;
 pub mod unordered_set;
-mod with_unit;
 
 pub use entry::{Entry, OccupiedEntry, VacantEntry};
 pub use iter::{Entries, KeysUnordered, ValuesUnordered};

@@ -5,8 +5,7 @@ ghost use Rattle.starlark_small.specs.Collect.{Collects};
 ghost use Rattle.starlark_sets.specs.Collect.{InsertsEach, IsSetOf, KeepsOwn, TakesInEach, element_entry};
 
 use super::SmallSet;
-use crate::with_unit::WithUnit;
-use starlark_hash::Hashed;
+use starlark_hash::{Hashed, WithUnit};
 use starlark_small::SmallMap;
 use std::alloc::{AllocError, Global};
 use std::hash::Hash;

@@ -4,7 +4,7 @@ ghost use Rattle.starlark_unordered.specs.Collect.{MakesSet};
 
 use super::UnorderedSet;
 use crate::unordered_map::UnorderedMap;
-use crate::with_unit::WithUnit;
+use starlark_hash::WithUnit;
 use std::alloc::{AllocError, Global};
 use std::hash::Hash;
 

@@ -1,12 +1,12 @@
-//! An iterator's items, each beside `()`, as a map takes them whose keys are a set's elements.
+//! Items beside `()`, as a map takes them whose keys are a set's elements.
 ghost use Rattle.std.specs.Prelude.{◌≡◌};
 ghost use Rattle.starlark_hash.specs.Unit.{StepsBeside};
 
 use std::marker::Model;
 
-// The items, each as `(item, ())`.
+/// An iterator that answers each item of another as `(item, ())`.
 #[derive(Drop)]
-pub(crate) struct WithUnit<I> {
+pub struct WithUnit<I> {
     items: I,
 }
 
@@ -17,8 +17,9 @@ impl<I> Model for WithUnit<I> {
 }
 
 impl<I> WithUnit<I> {
+    /// The items of this iterator, each beside `()`.
     #[inline]
-    pub(crate) fn new(items: I) -> Self
+    pub fn new(items: I) -> Self
         ensures { result ≡ items }
     {
         WithUnit { items }
