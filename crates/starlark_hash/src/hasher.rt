@@ -50,22 +50,6 @@ impl StarlarkHasher {
         self.state = after_word_if_left(self.state, word, size, left);
     }
 
-    // Adds the words of 8 bytes, those of fewer than 24 bytes without a loop.
-    #[inline]
-    fn add_words(&mut self, bytes: &[u8])
-        ensures { fold starlark.with_word self.new (starlark.groups 0 (drop (8 * (length bytes.now / 8)) bytes.now)) ≡ fold starlark.with_word self.old (starlark.groups (length bytes.now / 8) bytes.now) }
-    {
-        if bytes.len() < 4 {
-            return;
-        }
-        if bytes.len() < 24 {
-            self.add_8(bytes, 0);
-            self.add_8(bytes, 8);
-            return;
-        }
-        self.add_each_8(bytes);
-    }
-
     // Adds the words of 8 bytes in a loop, whose end is mispredicted where lengths vary.
     #[inline]
     fn add_each_8(&mut self, bytes: &[u8])
@@ -77,18 +61,32 @@ impl StarlarkHasher {
         }
     }
 
-    // Adds the 8 bytes from `at` on, where they are there. Each half is read by itself, from the last 4 bytes at most, so
-    // that nothing is read past the end where they are not.
+    // Adds the words of 8 bytes of 4 to 23 bytes.
     #[inline]
-    fn add_8(&mut self, bytes: &[u8], at: usize)
+    fn add_two_8(&mut self, bytes: &[u8])
         requires some { 4 ≤ length bytes.now }
+        requires few { length bytes.now < 24 }
+        ensures { fold starlark.with_word self.new (starlark.groups 0 (drop (8 * (length bytes.now / 8)) bytes.now)) ≡ fold starlark.with_word self.old (starlark.groups (length bytes.now / 8) bytes.now) }
+    {
+        let both = bytes.len() / 16;
+        self.add_8(bytes, 0, 0, at_most(4, bytes.len() - 4));
+        self.add_8(bytes, 8, 8 * both, 12 * both);
+    }
+
+    // Adds the 8 bytes from `at` on, where they are there. The halves are read where `low` and `high` say: where those bytes
+    // are there, at `at` and behind it, and else at any places, so that nothing is read past the end.
+    #[inline]
+    fn add_8(&mut self, bytes: &[u8], at: usize, low: usize, high: usize)
         requires near { at ≤ 8 }
+        requires low_within { low + 4 ≤ length bytes.now }
+        requires high_within { high + 4 ≤ length bytes.now }
+        requires low_half { at + 8 ≤ length bytes.now → low ≡ at }
+        requires high_half { at + 8 ≤ length bytes.now → high ≡ at + 4 }
         ensures whole { at + 8 ≤ length bytes.now → self.new ≡ starlark.with_word self.old (starlark.number (take 8 (drop at bytes.now))) }
         ensures short { length bytes.now < at + 8 → self.new ≡ self.old }
     {
-        let last = bytes.len() - 4;
-        let low = read_4(bytes, at_most(at, last));
-        let high = read_4(bytes, at_most(at + 4, last));
+        let low = read_4(bytes, low);
+        let high = read_4(bytes, high);
         self.add_if_left(
             low as u64 + high as u64 * 0x1_0000_0000,
             at + 8,
@@ -96,7 +94,7 @@ impl StarlarkHasher {
         );
     }
 
-    // Adds a word of 4 bytes, where they are left after the words of 8.
+    // Adds a word of 4 bytes, where they are left after the words of 8. The place that is read is theirs, or one before.
     #[inline]
     fn add_4(&mut self, bytes: &[u8])
         ensures { (rest : List ℕ → List ℕ) → fold starlark.with_word self.new (rest (drop (4 * (length bytes.now / 4)) bytes.now)) ≡ fold starlark.with_word self.old (starlark.group 4 rest (drop (8 * (length bytes.now / 8)) bytes.now)) }
@@ -104,12 +102,11 @@ impl StarlarkHasher {
         if bytes.len() < 4 {
             return;
         }
-        let at = 8 * (bytes.len() / 8);
-        let word = read_4(bytes, at_most(at, bytes.len() - 4));
-        self.add_if_left(word as u64, 4, bytes.len() - at);
+        let word = read_4(bytes, 8 * ((bytes.len() - 4) / 8));
+        self.add_if_left(word as u64, 4, bytes.len() % 8);
     }
 
-    // Adds a word of 2 bytes, where they are left after those of 8 and 4.
+    // Adds a word of 2 bytes, where they are left after those of 8 and 4. The place that is read is theirs, or one before.
     #[inline]
     fn add_2(&mut self, bytes: &[u8])
         ensures { (rest : List ℕ → List ℕ) → fold starlark.with_word self.new (rest (drop (2 * (length bytes.now / 2)) bytes.now)) ≡ fold starlark.with_word self.old (starlark.group 2 rest (drop (4 * (length bytes.now / 4)) bytes.now)) }
@@ -117,9 +114,8 @@ impl StarlarkHasher {
         if bytes.len() < 2 {
             return;
         }
-        let at = 4 * (bytes.len() / 4);
-        let word = read_2(bytes, at_most(at, bytes.len() - 2));
-        self.add_if_left(word, 2, bytes.len() - at);
+        let word = read_2(bytes, 4 * ((bytes.len() - 2) / 4));
+        self.add_if_left(word, 2, bytes.len() % 4);
     }
 
     // Adds the last byte, where one is left after the words of 8, 4 and 2.
@@ -130,10 +126,36 @@ impl StarlarkHasher {
         if bytes.len() < 1 {
             return;
         }
-        let at = 2 * (bytes.len() / 2);
         let word = read_1(bytes, bytes.len() - 1);
-        self.add_if_left(word, 1, bytes.len() - at);
+        self.add_if_left(word, 1, bytes.len() % 2);
     }
+
+    // Adds 4 to 23 bytes. No jump depends on how many, since it would be mispredicted where lengths vary.
+    #[inline]
+    fn add_short(&mut self, bytes: &[u8])
+        requires some { 4 ≤ length bytes.now }
+        requires few { length bytes.now < 24 }
+        ensures { self.new ≡ starlark.write self.old bytes.now }
+    {
+        self.add_two_8(bytes);
+        self.add_4(bytes);
+        self.add_2(bytes);
+        self.add_1(bytes);
+    }
+}
+
+// The hasher after any bytes, out of line, so that what calls `write` stays small. The hasher goes by value, so that its state
+// is in no memory where few bytes are written.
+#[inline(never)]
+fn after_bytes(hasher: StarlarkHasher, bytes: &[u8]) -> StarlarkHasher
+    ensures { result ≡ starlark.write hasher bytes.now }
+{
+    let mut hasher = hasher;
+    hasher.add_each_8(bytes);
+    hasher.add_4(bytes);
+    hasher.add_2(bytes);
+    hasher.add_1(bytes);
+    hasher
 }
 
 // The state after one word.
@@ -217,11 +239,14 @@ impl Hasher for StarlarkHasher {
         self.state
     }
 
+    #[inline]
     fn write(&mut self, bytes: &[u8]) {
-        self.add_words(bytes);
-        self.add_4(bytes);
-        self.add_2(bytes);
-        self.add_1(bytes);
+        if 4 <= bytes.len() && bytes.len() < 24 {
+            self.add_short(bytes);
+        } else {
+            let hasher = StarlarkHasher { state: self.state };
+            *self = after_bytes(hasher, bytes);
+        }
     }
 
     #[inline]
