@@ -1,2 +1,3 @@
 pub mod Lend
 pub mod Pages
+pub mod Words

@@ -1,5 +1,6 @@
 //! Small maps whose values hold small maps, by recursion.
 ghost use Rattle.std.specs.Prelude.{◌≡◌, [], IsTrue, true};
+ghost use Rattle.starlark_callers.specs.Words.{has_word};
 ghost use Rattle.starlark_callers.specs.declared.nested.Words.{out-Words};
 
 use starlark_small::SmallMap;
@@ -22,4 +23,17 @@ pub fn has_any(words: &Words) -> bool
         }
     }
     words.ends
+}
+
+/// Whether a word is there.
+pub fn has(words: &Words, word: &[u8]) -> bool
+    ensures { result ≡ has_word words.now word.now }
+{
+    let Some((first, rest)) = word.split_first() else {
+        return words.ends;
+    };
+    match words.after.get(first) {
+        Some(next) => has(next, rest),
+        None => false,
+    }
 }
