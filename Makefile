@@ -1,7 +1,7 @@
 # The program is proved and run by the kit's command `rt`; nothing else is needed. `make` alone lists the targets, and each
 # target says its line, on standard error, before it begins.
 
-# a script of map calls, by its path
+# a script, by its path: of map calls; of `play`, of calls on all collections
 SCRIPT ?= examples/first.script
 # a crate, by its name; of `wrong`, none: all; of `vendor`, the crate of the other repository that is to use the library
 CRATE ?=
@@ -13,10 +13,10 @@ INTO ?=
 PROOFS ?=
 export SCRIPT CRATE RUST INTO
 
-.PHONY: help try run demo check tests test minutes pages bench chart vendor wrong refused hostile attack clean
+.PHONY: help try run demo play check tests test minutes pages bench chart vendor wrong refused hostile attack clean
 
 define says
-@awk -F ' *## ' '/^$@:/ { print "make $@: " $$2 }' Makefile >&2
+@awk -F ' *## ' '/^$@:.*## / { print "make $@: " $$2 }' Makefile >&2
 endef
 
 help:
@@ -34,6 +34,11 @@ demo: ## plays a few lines on the scopes of an interpreter, with no proof, in ab
 	$(says)
 	@cd crates/program_demo && rt try
 
+play: SCRIPT := examples/player.script
+play: ## plays SCRIPT (examples/player.script), calls on all collections, with no proof, in about two minutes
+	$(says)
+	@./examples/play try "$$SCRIPT" program_player
+
 check: ## proves CRATE and what it stands on: minutes for each crate the first time, then seconds
 	$(says)
 	@./examples/crate "$$CRATE"
@@ -44,7 +49,7 @@ tests: ## runs the tests of CRATE with no proof, in about a minute
 	@./examples/crate "$$CRATE"
 	@cd "crates/$$CRATE" && rt try --test
 
-test: ## the merge gate, every proof, test and program: an hour or two on four cores, and 4.6 GB in out/, see clean
+test: ## the merge gate, every proof, test and program: three quarters of an hour on four cores, and 4.6 GB in out/, see clean
 	$(says)
 	@./examples/as-in-readme
 	@./docs/pages.py check
@@ -65,7 +70,7 @@ bench: ## proves and runs the benchmarks, beside the maps of the kit: some ten m
 
 chart: ## draws the picture of speed from its table, at once
 	$(says)
-	@python3 bench/chart.py docs/SPEED.md > docs/speed.svg
+	@python3 bench/chart.py docs/SPEED.md "Beside Rust's maps" > docs/speed.svg
 
 vendor: ## copies starlark_map and the crates below it INTO another repository, whose CRATE is to use them, in seconds; with PROOFS=yes also their proofs, 4.5 GB
 	$(says)
@@ -75,9 +80,10 @@ wrong: ## tries the wrong bodies that stand beside the gate, of CRATE or of all:
 	$(says)
 	@if [ -n "$$CRATE" ]; then ./wrong-bodies/try "$$CRATE"; else ./wrong-bodies/try; fi
 
-refused: ## runs the tests of memory with each request refused in turn, unproved: 25 rounds of some minutes
+refused: ## has each request for memory refused in turn, of a script of the player and of the tests of memory, unproved: 26 rounds of some minutes
 	$(says)
 	@./refusals/try
+	@./refusals/tests
 
 hostile: run ## plays scripts with the streams closed, full, cut short or not to be read: seconds after `run`
 	$(says)

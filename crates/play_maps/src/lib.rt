@@ -1,10 +1,14 @@
 //! The commands on small, ordered and sorted maps, and on pair lists.
 #![tactic(auto)]
 
-pub mod entries;
-pub mod ordered_entries;
-pub mod ordered_maps;
-pub mod pair_lists;
-pub mod small_entries;
-pub mod small_maps;
-pub mod sorted_maps;
+mod entries;
+mod maps;
+mod ordered_entries;
+mod ordered_maps;
+mod pair_lists;
+mod small_calls;
+mod small_entries;
+mod small_maps;
+mod sorted_maps;
+
+pub use maps::Maps;

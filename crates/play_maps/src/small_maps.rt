@@ -1,5 +1,6 @@
 //! The commands on a small map.
 
+use crate::small_calls::{ends_of, find, find_hashed, insert, look, make, raise, remove, retain};
 use crate::small_entries::enter;
 use play_words::{Fault, Key, Out, Slot, Slots, Words};
 use starlark_map::small_map::SmallMap;
@@ -19,7 +20,34 @@ pub fn play<K: Key>(
         "walk" => walk(maps.at(slot), out),
         "debug" => out.debug(maps.at(slot)),
         "json" => K::write_map(maps.at(slot), words.alloc, out),
-        _ => change(maps.at_mut(slot), op, words, out),
+        "at" | "first" | "last" | "len" | "indexed" | "hasho" => {
+            look(maps.at(slot), op, words, out)
+        }
+        "get" | "full" | "index" | "has" => find(maps.at(slot), op, words, out),
+        "geth" | "fullh" | "indexh" | "hash" | "getv" | "indexv" | "hashv" | "find" => {
+            find_hashed(maps.at(slot), op, words, out)
+        }
+        _ => write(maps.at_mut(slot), op, words, out),
+    }
+}
+
+// Commands that may change the map.
+fn write<K: Key>(
+    map: &mut SmallMap<K, i64>,
+    op: &str,
+    words: Words<'_>,
+    out: &mut Out,
+) -> Result<(), Fault> {
+    match op {
+        "cap" | "from" | "extend" | "reserve" => make(map, op, words, out),
+        "insert" | "unique" | "uniqueh" | "write" | "writeh" => insert(map, op, words, out),
+        "remove" | "take" | "takeh" | "removeat" | "removeath" | "pop" => {
+            remove(map, op, words, out)
+        }
+        "retain" => retain(map, words, out),
+        "raise" => raise(map, words, out),
+        "ends" => ends_of(map, words, out),
+        _ => change(map, op, words, out),
     }
 }
 

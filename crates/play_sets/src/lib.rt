@@ -1,7 +1,10 @@
 //! The commands on small, ordered and sorted sets, and on sorted vectors.
 #![tactic(auto)]
 
-pub mod ordered_sets;
-pub mod small_sets;
-pub mod sorted_sets;
-pub mod sorted_vectors;
+mod ordered_sets;
+mod sets;
+mod small_sets;
+mod sorted_sets;
+mod sorted_vectors;
+
+pub use sets::Sets;

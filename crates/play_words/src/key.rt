@@ -6,11 +6,11 @@ use crate::answers::Out;
 use crate::fault::Fault;
 use crate::shown::Shown;
 use serde_json::{Category, Value};
+use starlark_map::JsonFault;
 use starlark_map::json::{map_from_value, map_to_value, set_from_value, set_to_value};
 use starlark_map::small_map::SmallMap;
 use starlark_map::small_set::SmallSet;
 use starlark_map::unordered_map::UnorderedMap;
-use starlark_map::{JsonFault, TextKey};
 use std::alloc::Global;
 use std::fmt::Debug;
 use std::hash::Hash;
@@ -96,19 +96,19 @@ impl Key for String {
     }
 
     fn place_in(&self, set: &SmallSet<String>) -> Option<usize> {
-        set.get_index_of(&TextKey(self.as_str()))
+        set.get_index_of(self.as_str())
     }
 
     fn value_in(&self, map: &UnorderedMap<String, i64>) -> Option<i64> {
-        map.get(&TextKey(self.as_str())).copied()
+        map.get(self.as_str()).copied()
     }
 
     fn remove_from(&self, map: &mut UnorderedMap<String, i64>) -> Option<i64> {
-        map.remove(&TextKey(self.as_str()))
+        map.remove(self.as_str())
     }
 
     fn own_in<'a>(&self, set: &'a mut SmallSet<String>) -> Result<&'a String, Fault> {
-        Ok(set.get_or_insert_owned(&TextKey(self.as_str()))?)
+        Ok(set.get_or_insert_owned(self.as_str())?)
     }
 
     fn write_map(map: &SmallMap<String, i64>, alloc: Global, out: &mut Out) -> Result<(), Fault> {

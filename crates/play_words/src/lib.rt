@@ -19,4 +19,4 @@ pub use key::Key;
 pub use loose::Loose;
 pub use shown::{Shown, text_of};
 pub use slots::{Slot, Slots};
-pub use words::Words;
+pub use words::{Call, Words};

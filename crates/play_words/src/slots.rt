@@ -9,38 +9,36 @@ pub enum Slot {
     D,
 }
 
-/// Four collections of a type.
+/// Four collections of a type. They stand in an array, since the check takes minutes for a function that drops a struct with
+/// dozens of collections, and a second where they stand in arrays.
 #[derive(Drop)]
 pub struct Slots<T> {
-    a: T,
-    b: T,
-    c: T,
-    d: T,
+    all: [T; 4],
 }
 
 impl<T> Slots<T> {
     /// These four.
     pub fn new(a: T, b: T, c: T, d: T) -> Slots<T> {
-        Slots { a, b, c, d }
+        Slots { all: [a, b, c, d] }
     }
 
     /// The collection under a letter.
     pub fn at(&self, slot: Slot) -> &T {
         match slot {
-            Slot::A => &self.a,
-            Slot::B => &self.b,
-            Slot::C => &self.c,
-            Slot::D => &self.d,
+            Slot::A => &self.all[0],
+            Slot::B => &self.all[1],
+            Slot::C => &self.all[2],
+            Slot::D => &self.all[3],
         }
     }
 
     /// The collection under a letter, to be written.
     pub fn at_mut(&mut self, slot: Slot) -> &mut T {
         match slot {
-            Slot::A => &mut self.a,
-            Slot::B => &mut self.b,
-            Slot::C => &mut self.c,
-            Slot::D => &mut self.d,
+            Slot::A => &mut self.all[0],
+            Slot::B => &mut self.all[1],
+            Slot::C => &mut self.all[2],
+            Slot::D => &mut self.all[3],
         }
     }
 }

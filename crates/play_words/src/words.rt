@@ -7,6 +7,18 @@ use starlark_map::{Hashed, StarlarkHashValue};
 use std::alloc::Global;
 use std::str::FromStr;
 
+/// A command on a collection.
+#[derive(Clone, Copy)]
+pub struct Call<'a> {
+    /// The type of the collection, in two letters.
+    pub kind: &'a str,
+    pub slot: Slot,
+    /// What is called.
+    pub op: &'a str,
+    /// The words behind it.
+    pub words: Words<'a>,
+}
+
 /// The words of a line that are not read yet. One space stands between each two, so words can be empty.
 #[derive(Clone, Copy)]
 pub struct Words<'a> {
@@ -47,6 +59,19 @@ impl<'a> Words<'a> {
     /// The words that are left, as they stand in the line.
     pub fn rest(self) -> &'a str {
         self.rest.unwrap_or("")
+    }
+
+    /// The call of a collection: KIND SLOT OP WORDS.
+    pub fn call(mut self) -> Result<Call<'a>, Fault> {
+        let kind = self.word()?;
+        let slot = self.slot()?;
+        let op = self.word()?;
+        Ok(Call {
+            kind,
+            slot,
+            op,
+            words: self,
+        })
     }
 
     /// One of the letters `a` to `d`.
