@@ -329,8 +329,15 @@ def faults_of_quotes():
                 yield f"{named(page)}: {name} has no such lines: {quoted[0]}"
 
 
+def plays(command, words):
+    """Whether the command begins with these two words, but for the slot between them, and has the others behind them."""
+    return (command[:1] + command[2:3])[: len(words)] == words[:2] and set(words[2:]) <= set(command[3:])
+
+
 def faults_of_refusals():
     name, there, listed, crate = "crates/tests_memory/calls.txt", [], [], ""
+    script = "crates/program_player/stdin"
+    commands = [line.split(" ") for line in (TOP / script).read_text().split("\n")]
     for of in library():
         for path in tracked(f"crates/{of}/src/*.rt") if of != "starlark_callers" else []:
             for call in parsed(path)[1]:
@@ -343,6 +350,10 @@ def faults_of_refusals():
             crate = line if line[0] != "#" else crate
         elif line and line[0] != "#":
             listed.append((crate, call))
+            if tried.startswith("player "):
+                if not any(plays(command, tried.split(" ")[1:]) for command in commands):
+                    yield f"{name}: {call}: no line of {script} is a command {tried.partition(' ')[2]}"
+                continue
             made = re.fullmatch(r"(\w+)/([\w/]+) (\w+)(?: by (\w+))?", tried)
             path = made and TOP / f"crates/{made.group(1)}/src/{made.group(2)}.rt"
             text = path.read_text() if made and path.exists() else ""

@@ -1,83 +1,56 @@
-//! Tables: room that is asked for, and what stands where it is refused.
+//! Tables of items under hashes of 64 bits.
 
-use crate::given::{holds, same};
-use starlark_table::ReadyTable;
-use std::alloc::Global;
-use std::test::Fail;
+use crate::given::gives;
+use starlark_map::ReadyTable;
+use std::alloc::{AllocError, Global};
 
-// The items below a number.
-fn items(alloc: Global, count: u64) -> Result<ReadyTable<u64>, Fail> {
-    let mut table = ReadyTable::new(alloc);
-    for item in 0..count {
-        if table.insert_unique(item, item).is_err() {
-            table.insert_unique(item, item)?;
-        }
-    }
-    Ok(table)
-}
-
-// Whether a table has those items and no more.
-fn has_items(table: &ReadyTable<u64>, count: u64) -> bool {
-    for item in 0..count {
-        if table.find_item(item, |found| *found == item) != Some(&item) {
-            return false;
-        }
-    }
-    table.len() as u64 == count
-}
-
-#[test]
-fn begins_with_room(rt: HostRuntime) -> Result<(), Fail> {
-    let alloc = rt.alloc();
-    let table: ReadyTable<u64> = match ReadyTable::with_capacity(alloc, 40) {
-        Ok(table) => table,
-        Err(_) => ReadyTable::with_capacity(alloc, 40)?,
-    };
-    holds(&rt, 40 <= table.room());
-    Ok(())
-}
-
-#[test]
-fn takes_an_item_or_hands_it_back(rt: HostRuntime) -> Result<(), Fail> {
-    let mut table = ReadyTable::new(rt.alloc());
+// A table with room for three that has forty, copied where there is room for as many again: how many of them are found in the
+// copy, and whether there was room at first and for more at last.
+fn copied(alloc: Global) -> Result<(u64, bool, bool), AllocError> {
+    let mut table = ReadyTable::with_capacity(alloc, 3)?;
+    let begun = 3 <= table.room();
     for item in 0u64..40 {
-        if let Err(refused) = table.insert_unique(item, item) {
-            same(&rt, (refused.0, table.room()), (item, 0));
-            holds(&rt, has_items(&table, item));
-            table.insert_unique(item, item)?;
+        table.insert_unique(item, item)?;
+    }
+    table.reserve(40)?;
+    let copy = table.clone()?;
+    let mut found = 0u64;
+    for item in 0u64..40 {
+        if copy.find_item(item, |other| *other == item) == Some(&item) {
+            found = found.wrapping_add(1);
         }
     }
-    holds(&rt, has_items(&table, 40));
-    Ok(())
+    Ok((found, begun, 40 <= table.room()))
 }
 
 #[test]
-fn makes_room_or_stays(rt: HostRuntime) -> Result<(), Fail> {
-    let mut table = items(rt.alloc(), 3)?;
-    let room = table.room();
-    if table.reserve(40).is_err() {
-        holds(&rt, has_items(&table, 3) && table.room() == room);
-        table.reserve(40)?;
+fn takes_items_and_is_copied(rt: HostRuntime) {
+    gives(
+        &rt,
+        copied(rt.alloc()),
+        copied(rt.alloc()),
+        (40, true, true),
+    );
+}
+
+// Whether a table of two items shows a vacant slot under a hash.
+fn shows_vacant(alloc: Global, hash: u64) -> Result<bool, AllocError> {
+    let mut table = ReadyTable::new(alloc);
+    table.insert_unique(7, 'a')?;
+    table.insert_unique(8, 'b')?;
+    Ok(table.vacancy(hash).is_some())
+}
+
+// A slot is answered where a look shows one, which no clause promises: under a tag that no item has. None is under a hash
+// that an item has.
+#[test]
+fn shows_a_vacant_slot(rt: HostRuntime) {
+    for (hash, wanted) in [(7, false), (33554432, true)] {
+        gives(
+            &rt,
+            shows_vacant(rt.alloc(), hash),
+            shows_vacant(rt.alloc(), hash),
+            wanted,
+        );
     }
-    holds(&rt, 40 <= table.room());
-    Ok(())
-}
-
-#[test]
-fn copies_a_table(rt: HostRuntime) -> Result<(), Fail> {
-    let table = items(rt.alloc(), 3)?;
-    let copy = match table.clone() {
-        Ok(copy) => copy,
-        Err(_) => table.clone()?,
-    };
-    holds(&rt, has_items(&copy, 3));
-    Ok(())
-}
-
-// After the first line nothing asks for memory.
-#[test]
-fn copies_a_walk(rt: HostRuntime) -> Result<(), Fail> {
-    let table = items(rt.alloc(), 3)?;
-    holds(&rt, table.iter().clone().is_ok());
-    Ok(())
 }

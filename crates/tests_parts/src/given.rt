@@ -1,5 +1,5 @@
-//! What several tests begin with. The helpers of these tests say nothing of what they do: a test that makes its calls
-//! through them carries no knowledge from line to line, and is proved in a part of the time.
+//! What several tests begin with. A test that compares by `same` learns nothing by it, as it would by an assertion of its
+//! own, and is proved in a part of the time.
 
 use starlark_map::{Hashed, StarlarkHashValue};
 use std::fmt::Debug;
@@ -7,12 +7,6 @@ use std::process::Abort;
 
 pub(crate) fn under<K>(hash: u32, key: K) -> Hashed<K> {
     Hashed::new_unchecked(StarlarkHashValue::new_unchecked(hash), key)
-}
-
-// Ends the process where this does not hold. A test that calls it learns nothing by it, as it does by an assertion: an
-// assertion stands only where what follows needs what it says.
-pub(crate) fn holds(rt: &impl Abort, what: bool) {
-    assert!(rt; what);
 }
 
 // Ends the process where the two are not equal, and shows both.

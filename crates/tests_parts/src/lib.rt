@@ -1,16 +1,14 @@
-//! Tests of hashes, columns, lists of pairs, tables and vector maps, by their public calls.
+//! Tests of what no contract says: bytes and drops, comparisons of keys, items without size, streams that fail under a script.
 #![tactic(auto)]
 
 #[cfg(test)]
-mod columns;
+mod compared;
 #[cfg(test)]
-mod counted_clones;
+mod dropped;
 #[cfg(test)]
-mod dropped_pairs;
+mod fakes;
 #[cfg(test)]
 mod given;
-#[cfg(test)]
-mod hashes;
 #[cfg(test)]
 mod large;
 #[cfg(test)]
@@ -18,10 +16,10 @@ mod no_second_request;
 #[cfg(test)]
 mod one_request;
 #[cfg(test)]
-mod pair_lists;
+mod scripts;
 #[cfg(test)]
 mod sizes;
 #[cfg(test)]
-mod tables;
+mod streams;
 #[cfg(test)]
-mod vector_maps;
+mod without_size;

@@ -1,13 +1,13 @@
 //! Calls that ask for memory once. `make refused` refuses the first request of each test here, which then fails, and the
 //! second, which none makes.
 
-use crate::given::holds;
-use starlark_hash::{TextKey, ToOwnedKey};
+use crate::given::same;
+use starlark_map::{TextKey, ToOwnedKey};
 use std::test::Fail;
 
 #[test]
 fn copies_a_text(rt: HostRuntime) -> Result<(), Fail> {
     let key: String = TextKey("a text of some length").to_owned_key(rt.alloc())?;
-    holds(&rt, key.as_str() == "a text of some length");
+    same(&rt, key.as_str(), "a text of some length");
     Ok(())
 }

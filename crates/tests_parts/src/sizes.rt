@@ -12,34 +12,28 @@ use starlark_map::sorted_vec::SortedVec;
 use starlark_map::unordered_map::UnorderedMap;
 use starlark_map::unordered_set::UnorderedSet;
 use starlark_map::vec2::Vec2;
+use std::hash::Hash;
 use std::mem::size_of;
 
-#[test]
-fn takes_these_bytes(rt: HostRuntime) {
-    same(&rt, size_of::<Vec2<u32, u32>>(), 24);
-    same(&rt, size_of::<ReadyTable<u32>>(), 32);
-    same(&rt, size_of::<SmallMap<u32, u32>>(), 32);
-    same(&rt, size_of::<SmallSet<u32>>(), 32);
-    same(&rt, size_of::<OrderedMap<u32, u32>>(), 32);
-    same(&rt, size_of::<OrderedSet<u32>>(), 32);
-    same(&rt, size_of::<SortedMap<u32, u32>>(), 32);
-    same(&rt, size_of::<SortedSet<u32>>(), 32);
-    same(&rt, size_of::<SortedVec<u32>>(), 24);
-    same(&rt, size_of::<UnorderedMap<u32, u32>>(), 32);
-    same(&rt, size_of::<UnorderedSet<u32>>(), 32);
+fn sizes<K: Ord + Hash, V>() -> [usize; 11] {
+    [
+        size_of::<Vec2<K, V>>(),
+        size_of::<SortedVec<K>>(),
+        size_of::<ReadyTable<K>>(),
+        size_of::<SmallMap<K, V>>(),
+        size_of::<SmallSet<K>>(),
+        size_of::<OrderedMap<K, V>>(),
+        size_of::<OrderedSet<K>>(),
+        size_of::<SortedMap<K, V>>(),
+        size_of::<SortedSet<K>>(),
+        size_of::<UnorderedMap<K, V>>(),
+        size_of::<UnorderedSet<K>>(),
+    ]
 }
 
 #[test]
-fn takes_as_many_with_texts(rt: HostRuntime) {
-    same(&rt, size_of::<Vec2<String, u64>>(), 24);
-    same(&rt, size_of::<ReadyTable<String>>(), 32);
-    same(&rt, size_of::<SmallMap<String, u64>>(), 32);
-    same(&rt, size_of::<SmallSet<String>>(), 32);
-    same(&rt, size_of::<OrderedMap<String, u64>>(), 32);
-    same(&rt, size_of::<OrderedSet<String>>(), 32);
-    same(&rt, size_of::<SortedMap<String, u64>>(), 32);
-    same(&rt, size_of::<SortedSet<String>>(), 32);
-    same(&rt, size_of::<SortedVec<String>>(), 24);
-    same(&rt, size_of::<UnorderedMap<String, u64>>(), 32);
-    same(&rt, size_of::<UnorderedSet<String>>(), 32);
+fn takes_these_bytes(rt: HostRuntime) {
+    let wanted = [24, 24, 32, 32, 32, 32, 32, 32, 32, 32, 32];
+    same(&rt, sizes::<u32, u32>(), wanted);
+    same(&rt, sizes::<String, u64>(), wanted);
 }

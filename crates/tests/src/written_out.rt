@@ -1,0 +1,31 @@
+//! The forms of `smallmap!` and `smallset!`, and the room that they begin with.
+
+use crate::given::same;
+use starlark_map::{smallmap, smallset};
+use std::test::Fail;
+
+#[test]
+fn writes_maps_out(rt: HostRuntime) -> Result<(), Fail> {
+    same(&rt, smallmap![rt.alloc();]?.get(&7u32), None::<&u32>);
+    let one = smallmap![rt.alloc(); 7u32 => 70u32,]?;
+    same(&rt, one.get(&7u32), Some(&70));
+    Ok(())
+}
+
+// Growing step by step would leave room for 8.
+#[test]
+fn reserves_for_what_is_written_out(rt: HostRuntime) -> Result<(), Fail> {
+    let map = smallmap![rt.alloc(); 0u32 => 0u32, 1 => 10, 2 => 20, 3 => 30, 0 => 40]?;
+    same(&rt, (map.len(), map.capacity()), (4, 5));
+    let set = smallset![rt.alloc(); 0u32, 1, 2, 3, 4]?;
+    same(&rt, (set.len(), set.capacity()), (5, 5));
+    Ok(())
+}
+
+#[test]
+fn writes_sets_out(rt: HostRuntime) -> Result<(), Fail> {
+    same(&rt, smallset![rt.alloc();]?.first(), None::<&u32>);
+    let one = smallset![rt.alloc(); 3u32,]?;
+    same(&rt, one.first(), Some(&3));
+    Ok(())
+}

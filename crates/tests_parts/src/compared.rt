@@ -1,0 +1,117 @@
+//! Keys of few hashes which note with what they are compared: a look-up asks each key of its hash once at most, and no other.
+ghost use Rattle.std.proofs.Common.{◌%◌, rules};
+ghost use Rattle.std.specs.Cmp.Rules.{comparing, hashing};
+ghost use Rattle.std.specs.Hash as fed;
+ghost use Rattle.std.specs.Ordering.{on};
+ghost use Rattle.std.specs.Prelude.{nat_eq};
+
+use crate::given::same;
+use starlark_map::small_map::SmallMap;
+use starlark_map::unordered_map::UnorderedMap;
+use std::alloc::Global;
+use std::cell::Cell;
+use std::hash::{Hash, Hasher};
+
+// Which keys of its hash a key was compared with since it was wiped, and how often amiss: with one of them a second time,
+// or with one of another hash.
+#[derive(Drop)]
+struct Notes {
+    seen: Cell<u32>,
+    amiss: Cell<u32>,
+}
+
+impl Notes {
+    // Notes a comparison of two numbers below 128.
+    fn note(&self, sought: u32, found: u32) {
+        let bit = 1u32 << (found / 4 % 32);
+        if sought % 4 != found % 4 || self.seen.get() & bit != 0 {
+            self.amiss.set(self.amiss.get().wrapping_add(1));
+        }
+        self.seen.set(self.seen.get() | bit);
+    }
+}
+
+// A number that feeds its remainder by 4 alone.
+#[derive(Drop)]
+struct Noted<'a> {
+    number: u32,
+    notes: &'a Notes,
+}
+
+impl<'a> PartialEq for Noted<'a> {
+    ghost eq = { on (λ k. k.number) nat_eq };
+
+    ghost laws = { Prim.search (comparing, rules) };
+
+    fn eq(&self, other: &Noted<'a>) -> bool {
+        self.notes.note(self.number, other.number);
+        self.number == other.number
+    }
+}
+
+impl<'a> Eq for Noted<'a> {
+    ghost laws = { Prim.search (comparing, rules) };
+}
+
+impl<'a> Hash for Noted<'a> {
+    ghost hash_input = { λ k. fed.u32 (k.number % 4) };
+
+    ghost respects_eq = { Prim.search (hashing, rules) };
+
+    fn hash<H: Hasher>(&self, state: &mut H) {
+        (self.number % 4).hash(state);
+    }
+}
+
+// The key of a number, after the notes were wiped.
+fn key(notes: &Notes, number: u32) -> Noted<'_> {
+    notes.seen.set(0);
+    Noted { number, notes }
+}
+
+// Puts so many keys in, finds each, puts it again and takes it out: how many of these went as they should.
+fn small(alloc: Global, notes: &Notes, count: u32) -> u32 {
+    let mut map: SmallMap<Noted<'_>, u32> = SmallMap::new(alloc);
+    let mut right = 0u32;
+    for number in 0..count {
+        let put = matches!(map.insert(key(notes, number), number), Ok(None));
+        right = right.wrapping_add(u32::from(put));
+    }
+    for number in (0..count).rev() {
+        let found = map.get(&key(notes, number)) == Some(&number);
+        let again = matches!(map.insert(key(notes, number), number), Ok(Some(_)));
+        let taken = map.shift_remove(&key(notes, number)) == Some(number);
+        right = right.wrapping_add(u32::from(found && again && taken));
+    }
+    right
+}
+
+// The same of a map without order, where each key is put in once more at last.
+fn unordered(alloc: Global, notes: &Notes, count: u32) -> u32 {
+    let mut map: UnorderedMap<Noted<'_>, u32> = UnorderedMap::new(alloc);
+    let mut right = 0u32;
+    for number in 0..count {
+        let put = matches!(map.insert(key(notes, number), number), Ok(None));
+        right = right.wrapping_add(u32::from(put));
+    }
+    for number in 0..count {
+        let found = map.get(&key(notes, number)) == Some(&number);
+        let taken = map.remove(&key(notes, number)) == Some(number);
+        let put = matches!(map.insert(key(notes, number), number), Ok(None));
+        right = right.wrapping_add(u32::from(found && taken && put));
+    }
+    right
+}
+
+// Short lists have no index, long ones have one.
+#[test]
+fn compares_keys_of_one_hash_once(rt: HostRuntime) {
+    let notes = Notes {
+        seen: Cell::new(0),
+        amiss: Cell::new(0),
+    };
+    same(&rt, small(rt.alloc(), &notes, 10), 20);
+    same(&rt, small(rt.alloc(), &notes, 100), 200);
+    same(&rt, unordered(rt.alloc(), &notes, 100), 200);
+    same(&rt, notes.amiss.get(), 0);
+}

@@ -1,6 +1,0 @@
-//! Maps and sets as JSON values. Those of `memory` hold whichever request is refused.
-
-mod given;
-mod maps;
-mod memory;
-mod sets;

@@ -1,7 +1,0 @@
-//! Whole runs on maps, the laws, and callers that write through lent references.
-
-mod given;
-mod laws;
-mod lending;
-mod replies;
-mod whole;
