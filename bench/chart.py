@@ -1,10 +1,10 @@
 """Draws how long ours takes beside Rust's, as an SVG picture on standard output.
 
-usage: chart.py OURS RUST [WHAT]
-       chart.py PAGE.md
+usage: chart.py OURS RUST
+       chart.py PAGE.md HEADING
 
-OURS and RUST are the lines of two benchmark runs, as compare.py reads them. Of a page, as docs/SPEED.md, the first
-table is drawn: a row for each kind of work, a column for each length, ratios as `1.4` or `0.6 to 0.7` in the cells. Rows
+OURS and RUST are the lines of benchmark runs, as compare.py reads them. Of a page, as docs/SPEED.md, the first table below
+a heading is drawn: a row for each kind of work, a column for each length, ratios as `1.4` or `0.6 to 0.7` in the cells. Rows
 of unordered maps are left out, so that the picture is no wider than a page.
 
 A bar begins at Rust's time, 1.0: upwards ours takes longer, downwards less. Where several figures stand for one bar, as
@@ -25,40 +25,42 @@ WORK = {
     "b_hit": "hits",
     "b_miss": "misses",
     "c_walk": "walks",
-    "d_cycle": "removal and insertion",
-    "d_drain": "removals in the middle",
+    "d_cycle": "removals in the middle",
     "d_pop": "pop",
     "e_capacity": "insertions after with_capacity",
-    "e_reserve": "insertions after reserve",
     "f_hit": "hits, unordered",
     "f_insert": "insertions, unordered",
     "f_miss": "misses, unordered",
     "g_sort": "sort_keys",
     "i_union": "unions of sorted sets",
+    "t_attrs": "attributes",
+    "t_hit": "hits by texts",
+    "t_miss": "misses by texts",
 }
 BAR, GROUP, GAP, LEFT, RIGHT, TOP, HEIGHT, BELOW = 16, 74, 20, 44, 12, 58, 230, 58
 LIGHT, DARK = (158, 202, 225), (8, 69, 148)
 
 
-def ratios_of_runs(ours, rust, what):
+def ratios_of_runs(ours, rust):
     """For each kind of work and length the least and the greatest ratio, over the types of keys."""
     base = {name: time for name, time, _ in lines_of(rust)}
     found = {}
     for (work, own, key, n), time, _ in lines_of(ours):
-        if own == "proved" and (work, what, key, n) in base:
-            ratio = time / base[(work, what, key, n)]
+        if own == "proved" and (work, "upstream", key, n) in base:
+            ratio = time / base[(work, "upstream", key, n)]
             low, high = found.setdefault(WORK.get(work, work), {}).get(n, (ratio, ratio))
             found[WORK.get(work, work)][n] = (min(low, ratio), max(high, ratio))
     lengths = sorted({n for row in found.values() for n in row})
     return lengths, found
 
 
-def ratios_of_page(path):
-    """The same of the first table in a page."""
+def ratios_of_page(path, heading):
+    """The same of the first table below a heading."""
     with open(path, encoding="utf-8") as file:
-        table = list(takewhile(is_row, dropwhile(lambda line: not is_row(line), file)))
+        below = dropwhile(lambda line: line.strip("# \n") != heading, file)
+        table = list(takewhile(is_row, dropwhile(lambda line: not is_row(line), below)))
     if not table:
-        sys.exit(f"{path} has no table")
+        sys.exit(f"{path} has no table below {heading}")
     (_, *lengths), _, *rows = [[cell.strip() for cell in line.strip().strip("|").split("|")] for line in table]
     found = {}
     for work, *cells in [row for row in rows if not row[0].startswith("unordered")]:
@@ -161,13 +163,12 @@ def picture(lengths, found):
 
 
 def main():
-    if len(sys.argv) not in (2, 3, 4):
+    if len(sys.argv) != 3:
         sys.exit(__doc__)
-    if len(sys.argv) == 2:
-        lengths, found = ratios_of_page(sys.argv[1])
+    if sys.argv[1].endswith(".md"):
+        lengths, found = ratios_of_page(sys.argv[1], sys.argv[2])
     else:
-        what = sys.argv[3] if len(sys.argv) == 4 else "upstream"
-        lengths, found = ratios_of_runs(sys.argv[1], sys.argv[2], what)
+        lengths, found = ratios_of_runs(sys.argv[1], sys.argv[2])
     if not found:
         sys.exit("no figure of the one stands beside a figure of the other")
     print(picture(lengths, found))

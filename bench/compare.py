@@ -1,46 +1,65 @@
-"""Sets the lines of one benchmark run beside those of another, and prints the ratio of their times.
+"""Sets our maps beside Rust's and beside the kit's, out of the lines of benchmark runs.
 
-usage: compare.py OURS BASELINE [WHAT]
+usage: compare.py OURS[,OURS ..] [RUST[,RUST ..]]
 
-A line is `WORKLOAD.WHAT.KEYTYPE N NS_PER_OP CHECKSUM`. Each line of OURS that is of our maps is set beside the line of
-BASELINE with the same workload, key type and length, and this WHAT (without one: upstream); look-ups by key are set
-beside those of WHAT-hashing, where there are any. Ends with status 1 where two checksums differ.
+A line is `WORKLOAD.WHAT.KEYS N NS_PER_OP CHECKSUM`; of several runs of one side the least time of each line counts. Ours
+are `proved`, whose look-ups are by a hash that was computed before, and `by_key`; they stand beside Rust's `upstream` and
+`upstream-hashing`, or beside the one of these that there is. Of the kit's maps the quickest counts. A ratio is our time by
+the other: above 1 ours takes longer. Ends with status 1 where two checksums of one workload differ, but for those of
+hashes, of which ours and Rust's are not the same.
 """
 
 import sys
 
-# what stands for our maps in a line: asked by a hash that was computed before, and by key
 OURS = "proved", "by_key"
+RUST = {"proved": "upstream", "by_key": "upstream-hashing"}
 
 
-def lines_of(path):
-    """The lines of a run: (workload, what, key type, length), nanoseconds and checksum."""
-    with open(path, encoding="utf-8") as file:
-        for line in file:
-            words = line.split()
-            if len(words) == 4 and words[0].count(".") == 2:
-                workload, what, key = words[0].split(".")
-                yield (workload, what, key, int(words[1])), float(words[2]), words[3]
+def lines_of(paths):
+    """The lines of some runs: (workload, what, keys, length), nanoseconds and checksum, the least of each line."""
+    found = {}
+    for path in paths.split(","):
+        with open(path, encoding="utf-8") as file:
+            for line in file:
+                words = line.split()
+                if len(words) == 4 and words[0].count(".") == 2:
+                    name = (*words[0].split("."), int(words[1]))
+                    time = min(float(words[2]), found.get(name, (float(words[2]),))[0])
+                    found[name] = time, words[3]
+    return [(name, time, checksum) for name, (time, checksum) in found.items()]
+
+
+def beside(time, other):
+    """Another's time, its name and the ratio of ours to it, or blanks."""
+    if other is None:
+        return " " * 31
+    base, name = other
+    return f"{base:>10.2f} {name:<12}{time / max(base, 0.01):>7.2f} "
 
 
 def main():
-    if len(sys.argv) not in (3, 4):
+    if len(sys.argv) not in (2, 3):
         sys.exit(__doc__)
-    what = sys.argv[3] if len(sys.argv) == 4 else "upstream"
-    baseline = {name: (time, checksum) for name, time, checksum in lines_of(sys.argv[2])}
+    rows, rust = {}, {}
+    for (work, what, keys, n), time, checksum in lines_of(sys.argv[1]):
+        rows.setdefault((work, keys, n), {})[what] = time, checksum
+    for (work, what, keys, n), time, checksum in lines_of(sys.argv[2]) if len(sys.argv) == 3 else []:
+        rust.setdefault((work, keys, n), {})[what] = time, checksum
     differ = False
-    print(f"{'workload':<14}{'ours':<8}{'keys':<6}{'n':>9}{'ns':>10}{what:>12}{'ratio':>8}")
-    for (workload, own, key, n), time, checksum in lines_of(sys.argv[1]):
-        name = (workload, f"{what}-hashing" if own == "by_key" else what, key, n)
-        if name not in baseline:
-            name = (workload, what, key, n)
-        if own not in OURS or name not in baseline:
-            continue
-        base, expected = baseline[name]
-        print(f"{workload:<14}{own:<8}{key:<6}{n:>9}{time:>10.2f}{base:>12.2f}{time / base:>8.2f}")
-        if checksum != expected:
+    print(f"{'workload':<14}{'ours':<8}{'keys':<10}{'n':>8}{'ns':>10}{'Rust':>10}{'ratio':>20} {'kit':>10}{'ratio':>20}")
+    for (work, keys, n), row in rows.items():
+        theirs = rust.get((work, keys, n), {})
+        kit = min(((time, what) for what, (time, _) in row.items() if what not in OURS), default=None)
+        for ours in [it for it in OURS if it in row]:
+            name = RUST[ours] if RUST[ours] in theirs else next((it for it in theirs if it in RUST.values()), None)
+            other = (theirs[name][0], name.replace("upstream", "").strip("-")) if name else None
+            time = row[ours][0]
+            print(f"{work:<14}{ours:<8}{keys:<10}{n:>8}{time:>10.2f}{beside(time, other)}{beside(time, kit)}".rstrip())
+        sums = {what: checksum for what, (_, checksum) in row.items()}
+        sums |= {what: checksum for what, (_, checksum) in theirs.items() if what in RUST.values()}
+        if len(set(sums.values())) > 1 and not work.startswith("t_hash"):
             differ = True
-            print(f"  checksum {checksum}, not {expected}")
+            print("  checksums: " + ", ".join(f"{what} {checksum}" for what, checksum in sums.items()))
     sys.exit(1 if differ else 0)
 
 

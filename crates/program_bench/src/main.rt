@@ -7,9 +7,11 @@ mod maps;
 mod pass;
 mod peer;
 mod report;
+mod rows;
 mod script;
 mod sorted;
 mod sorts;
+mod texts;
 mod workload;
 mod workloads;
 

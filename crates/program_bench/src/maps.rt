@@ -1,6 +1,5 @@
 //! The maps, each as what the workloads ask for.
 
-mod btree_map;
 mod hash_map;
 mod index_map;
 mod small_map;

@@ -35,8 +35,6 @@ pub trait Walked<K: Key>: Asked<K> {
 pub trait Roomy<K: Key>: Walked<K> {
     /// An empty map with room for `n` keys.
     fn with_room(alloc: Global, n: usize) -> Result<Self, Fault>;
-    /// Makes room for `n` more keys.
-    fn make_room(&mut self, n: usize) -> Result<(), Fault>;
 }
 
 /// A map that is a list of entries, in order of insertion until it is sorted.

@@ -1,69 +1,35 @@
-//! Which workloads there are, of what lengths, and on which maps.
+//! The workloads of maps from numbers to numbers: which there are, of what lengths, and on which maps.
 
 use crate::fault::Fault;
 use crate::keys::Key;
 use crate::maps::{SmallByHash, UnorderedByHash};
 use crate::pass::Pass;
 use crate::peer::{Asked, Listed, Roomy, Walked};
+use crate::rows::{Map, Rows};
 use crate::sorted;
 use crate::sorts::{sort, sort_again};
 use crate::workloads::{
-    MILLION, Removed, Room, build, build_roomy, cycle, cycle_keys, drain, hit, hold, insert, miss,
-    pop, turns, walk,
+    MILLION, Removed, build, build_roomy, cycle, cycle_keys, hit, hold, insert, miss, pop, turns,
+    walk,
 };
 use indexmap::IndexMap;
 use starlark_hash::StarlarkHasherBuilder;
 use starlark_small::SmallMap;
 use starlark_unordered::UnorderedMap;
-use std::collections::{BTreeMap, HashMap};
+use std::collections::HashMap;
 use std::hash::{BuildHasherDefault, FoldHasher};
-
-/// A map.
-#[derive(Clone, Copy, Debug, PartialEq, Eq)]
-pub enum Map {
-    /// Ours; its look-ups are by a hash that was computed before.
-    Proved,
-    /// Ours, with look-ups by key.
-    ByKey,
-    /// `IndexMap`, with its own hasher.
-    Index,
-    /// `IndexMap`, with ours.
-    IndexFx,
-    /// `HashMap`, with its own hasher.
-    Hash,
-    /// `HashMap`, with ours.
-    HashFx,
-    /// `BTreeMap`.
-    BTree,
-}
-
-impl Map {
-    /// What stands for it in a line.
-    pub fn name(self) -> &'static str {
-        match self {
-            Map::Proved => "proved",
-            Map::ByKey => "by_key",
-            Map::Index => "indexmap",
-            Map::IndexFx => "indexmap_fx",
-            Map::Hash => "hashmap",
-            Map::HashFx => "hashmap_fx",
-            Map::BTree => "btreemap",
-        }
-    }
-}
 
 /// A workload. Those of unordered maps are run on our `UnorderedMap`, the union on our `SortedSet`, all others on our
 /// `SmallMap`.
 #[derive(Clone, Copy, Debug, PartialEq, Eq)]
 pub enum Workload {
     Build,
-    BuildRoomy(Room),
+    BuildRoomy,
     Hold,
     Hit,
     Miss,
     Walk,
     Cycle(Removed),
-    Drain,
     Pop,
     Sort,
     SortAgain,
@@ -76,10 +42,9 @@ pub enum Workload {
 }
 
 /// The workloads in the order of their lines.
-pub const ALL: [Workload; 21] = [
+pub const ALL: [Workload; 18] = [
     Workload::Build,
-    Workload::BuildRoomy(Room::Capacity),
-    Workload::BuildRoomy(Room::Reserve),
+    Workload::BuildRoomy,
     Workload::Hold,
     Workload::Hit,
     Workload::Miss,
@@ -87,8 +52,6 @@ pub const ALL: [Workload; 21] = [
     Workload::Cycle(Removed::Middle),
     Workload::Cycle(Removed::First),
     Workload::Cycle(Removed::Random),
-    Workload::Cycle(Removed::LastTenth),
-    Workload::Drain,
     Workload::Pop,
     Workload::Sort,
     Workload::SortAgain,
@@ -100,13 +63,44 @@ pub const ALL: [Workload; 21] = [
     Workload::Union,
 ];
 
+/// A workload with its keys.
+#[derive(Clone, Copy)]
+pub struct NumberRows<'a, K: Key> {
+    pub workload: Workload,
+    pub keys: &'a [K],
+}
+
+impl<'a, K: Key> Rows for NumberRows<'a, K> {
+    fn name(&self) -> &'static str {
+        self.workload.name()
+    }
+
+    fn keys(&self) -> &'static str {
+        K::name()
+    }
+
+    fn lengths(&self) -> &'static [usize] {
+        self.workload.lengths()
+    }
+
+    fn operations(&self, n: usize) -> usize {
+        self.workload.operations(n)
+    }
+
+    fn maps(&self) -> &'static [Map] {
+        self.workload.maps()
+    }
+
+    fn pass(&self, rt: &HostRuntime, map: Map, n: usize) -> Result<Pass, Fault> {
+        self.workload.pass(rt, map, self.keys, n)
+    }
+}
+
 impl Workload {
-    /// Its name in a line.
-    pub fn name(self) -> &'static str {
+    fn name(self) -> &'static str {
         match self {
             Workload::Build => "a_build",
-            Workload::BuildRoomy(Room::Capacity) => "e_capacity",
-            Workload::BuildRoomy(Room::Reserve) => "e_reserve",
+            Workload::BuildRoomy => "e_capacity",
             Workload::Hold => "h_hold",
             Workload::Hit => "b_hit",
             Workload::Miss => "b_miss",
@@ -114,8 +108,6 @@ impl Workload {
             Workload::Cycle(Removed::Middle) => "d_cycle",
             Workload::Cycle(Removed::First) => "d_first",
             Workload::Cycle(Removed::Random) => "d_random",
-            Workload::Cycle(Removed::LastTenth) => "d_last",
-            Workload::Drain => "d_drain",
             Workload::Pop => "d_pop",
             Workload::Sort => "g_sort",
             Workload::SortAgain => "g_again",
@@ -128,18 +120,15 @@ impl Workload {
         }
     }
 
-    /// The lengths of its maps.
-    pub fn lengths(self) -> &'static [usize] {
+    fn lengths(self) -> &'static [usize] {
         match self {
             Workload::Build
-            | Workload::BuildRoomy(_)
+            | Workload::BuildRoomy
             | Workload::Hit
             | Workload::Miss
             | Workload::Walk => &[4, 8, 16, 17, 24, 32, 64, 1000, 10_000, 100_000, 1_000_000],
             Workload::Hold => &[0, 1, 4, 8],
-            Workload::Cycle(Removed::Middle) | Workload::Drain => {
-                &[8, 17, 24, 32, 64, 1000, 10_000]
-            }
+            Workload::Cycle(Removed::Middle) => &[8, 17, 24, 32, 64, 1000, 10_000],
             Workload::Cycle(_) => &[1000, 10_000, 100_000],
             Workload::Pop => &[8, 17, 24, 32, 64, 1000, 10_000, 1_000_000],
             Workload::Sort | Workload::SortAgain => &[8, 32, 1000, 100_000, 1_000_000],
@@ -152,33 +141,22 @@ impl Workload {
         }
     }
 
-    /// How many operations a pass at this length has.
-    pub fn operations(self, n: usize) -> usize {
+    fn operations(self, n: usize) -> usize {
         let n = n.max(1);
         match self {
-            Workload::Build | Workload::BuildRoomy(_) | Workload::Pop => MILLION / n * n,
+            Workload::Build | Workload::BuildRoomy | Workload::Pop => MILLION / n * n,
             Workload::Sort | Workload::SortAgain => MILLION / n * n,
             Workload::UnorderedInsert | Workload::Union => MILLION / n * n,
             Workload::Hit | Workload::Miss | Workload::Hold => MILLION,
             Workload::UnorderedHit | Workload::UnorderedMiss => MILLION,
             Workload::Walk | Workload::UnorderedWalk => 4 * MILLION / n * n,
             Workload::Cycle(_) | Workload::UnorderedCycle => turns(n),
-            Workload::Drain => 100_000 / n * n,
         }
     }
 
-    /// The maps that it is run on.
-    pub fn maps(self) -> &'static [Map] {
+    fn maps(self) -> &'static [Map] {
         match self {
-            Workload::Build | Workload::Hold | Workload::Walk => &[
-                Map::Proved,
-                Map::Index,
-                Map::IndexFx,
-                Map::Hash,
-                Map::HashFx,
-                Map::BTree,
-            ],
-            Workload::BuildRoomy(_) => &[
+            Workload::Build | Workload::BuildRoomy | Workload::Hold | Workload::Walk => &[
                 Map::Proved,
                 Map::Index,
                 Map::IndexFx,
@@ -192,35 +170,24 @@ impl Workload {
                 Map::IndexFx,
                 Map::Hash,
                 Map::HashFx,
-                Map::BTree,
             ],
-            Workload::Cycle(_)
-            | Workload::Drain
-            | Workload::Pop
-            | Workload::Sort
-            | Workload::SortAgain => &[Map::Proved, Map::Index, Map::IndexFx],
-            Workload::UnorderedInsert | Workload::UnorderedWalk | Workload::UnorderedCycle => {
-                &[Map::Proved, Map::Hash, Map::HashFx, Map::BTree]
-            }
-            Workload::UnorderedHit | Workload::UnorderedMiss => &[
+            Workload::Cycle(_) | Workload::Pop | Workload::Sort | Workload::SortAgain => &[
                 Map::Proved,
-                Map::ByKey,
-                Map::Hash,
-                Map::HashFx,
-                Map::BTree,
+                Map::Index,
+                Map::IndexFx,
             ],
+            Workload::UnorderedInsert | Workload::UnorderedWalk | Workload::UnorderedCycle => {
+                &[Map::Proved, Map::Hash, Map::HashFx]
+            }
+            Workload::UnorderedHit | Workload::UnorderedMiss => {
+                &[Map::Proved, Map::ByKey, Map::Hash, Map::HashFx]
+            }
             Workload::Union => &[Map::Proved],
         }
     }
 
-    /// One turn on a map: its quickest pass, where it has more than one.
-    pub fn pass<K: Key>(
-        self,
-        rt: &HostRuntime,
-        map: Map,
-        keys: &[K],
-        n: usize,
-    ) -> Result<Pass, Fault> {
+    // One turn on a map.
+    fn pass<K: Key>(self, rt: &HostRuntime, map: Map, keys: &[K], n: usize) -> Result<Pass, Fault> {
         match (map, self) {
             (_, Workload::Union) => sorted::union(rt, keys, n),
             (Map::Proved, Workload::Hit | Workload::Miss) => {
@@ -248,7 +215,6 @@ impl Workload {
                 self.roomy::<K, HashMap<K, K, BuildHasherDefault<FoldHasher>>>(rt, keys, n)
             }
             (Map::HashFx, _) => self.roomy::<K, HashMap<K, K, StarlarkHasherBuilder>>(rt, keys, n),
-            (Map::BTree, _) => self.walked::<K, BTreeMap<K, K>>(rt, keys, n),
         }
     }
 
@@ -291,7 +257,7 @@ impl Workload {
         n: usize,
     ) -> Result<Pass, Fault> {
         match self {
-            Workload::BuildRoomy(room) => build_roomy::<K, M>(rt, room, keys, n),
+            Workload::BuildRoomy => build_roomy::<K, M>(rt, keys, n),
             _ => self.walked::<K, M>(rt, keys, n),
         }
     }
@@ -305,7 +271,6 @@ impl Workload {
     ) -> Result<Pass, Fault> {
         match self {
             Workload::Cycle(removed) => cycle::<K, M>(rt, removed, keys, n),
-            Workload::Drain => drain::<K, M>(rt, keys, n),
             Workload::Pop => pop::<K, M>(rt, keys, n),
             Workload::Sort => sort::<K, M>(rt, keys, n),
             Workload::SortAgain => sort_again::<K, M>(rt, keys, n),

@@ -72,34 +72,9 @@ pub fn build<K: Key, M: Walked<K>>(rt: &HostRuntime, keys: &[K], n: usize) -> Re
     Pass::since(rt, start, checksum)
 }
 
-/// How a map begins that is built with room for all its keys.
-#[derive(Clone, Copy, Debug, PartialEq, Eq)]
-pub enum Room {
-    /// By `with_capacity`.
-    Capacity,
-    /// By `new` and `reserve`.
-    Reserve,
-}
-
-impl Room {
-    // An empty map.
-    #[inline]
-    fn map<K: Key, M: Roomy<K>>(self, alloc: Global, n: usize) -> Result<M, Fault> {
-        match self {
-            Room::Capacity => M::with_room(alloc, n),
-            Room::Reserve => {
-                let mut map = M::empty(alloc);
-                map.make_room(n)?;
-                Ok(map)
-            }
-        }
-    }
-}
-
 /// The same, each begun with room for its keys.
 pub fn build_roomy<K: Key, M: Roomy<K>>(
     rt: &HostRuntime,
-    room: Room,
     keys: &[K],
     n: usize,
 ) -> Result<Pass, Fault> {
@@ -107,7 +82,7 @@ pub fn build_roomy<K: Key, M: Roomy<K>>(
     let mut checksum = 0;
     let mut first = 0_u64;
     for block in keys.chunks(n.max(1)).take(MILLION / n.max(1)) {
-        let mut map = room.map::<K, M>(rt.alloc(), n)?;
+        let mut map = M::with_room(rt.alloc(), n)?;
         fill(&mut map, block, first)?;
         checksum = built(&map, checksum, first, n);
         first = first.wrapping_add(n as u64);
@@ -232,8 +207,6 @@ pub fn walk<K: Key, M: Walked<K>>(rt: &HostRuntime, keys: &[K], n: usize) -> Res
 pub enum Removed {
     First,
     Middle,
-    /// Of the last tenth, the first.
-    LastTenth,
     Random,
 }
 
@@ -243,7 +216,6 @@ impl Removed {
         let place = match self {
             Removed::First => 0,
             Removed::Middle => n / 2,
-            Removed::LastTenth => n / 10 * 9,
             Removed::Random => return Ok(places(alloc, n, count)?),
         };
         let mut same = Vec::with_capacity(alloc, count)?;
@@ -315,31 +287,6 @@ pub fn cycle_keys<K: Key, M: Walked<K>>(
             map.put(*key, K::of(value.number().wrapping_add(1)))?;
             checksum = mix(checksum, key.number().wrapping_add(value.number()));
         }
-    }
-    Pass::since(rt, start, checksum)
-}
-
-// Removes the middle entry until none is left.
-fn drain_one<K: Key, M: Listed<K>>(map: &mut M, checksum: u64) -> u64 {
-    let mut checksum = checksum;
-    for _ in 0..map.entries() {
-        let Some(key) = map.key_at(map.entries() / 2) else {
-            return checksum;
-        };
-        if let Some(value) = map.take(&key) {
-            checksum = mix(checksum, value.number());
-        }
-    }
-    checksum
-}
-
-/// Drains maps of `n` keys, a hundred thousand keys in all, always by the middle key.
-pub fn drain<K: Key, M: Listed<K>>(rt: &HostRuntime, keys: &[K], n: usize) -> Result<Pass, Fault> {
-    let mut maps = prepared::<K, M>(rt.alloc(), keys, n, 100_000 / n.max(1))?;
-    let start = Instant::now(rt)?;
-    let mut checksum = 0;
-    for map in &mut maps {
-        checksum = drain_one(map, checksum);
     }
     Pass::since(rt, start, checksum)
 }

@@ -63,10 +63,4 @@ impl<K: Key, S: Hashing> Roomy<K> for HashMap<K, K, S> {
     fn with_room(alloc: Global, n: usize) -> Result<Self, Fault> {
         Ok(HashMap::with_capacity_and_hasher(alloc, n, S::hashing())?)
     }
-
-    #[inline(always)]
-    fn make_room(&mut self, n: usize) -> Result<(), Fault> {
-        self.reserve(n)?;
-        Ok(())
-    }
 }

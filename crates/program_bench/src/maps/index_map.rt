@@ -64,12 +64,6 @@ impl<K: Key, S: Hashing> Roomy<K> for IndexMap<K, K, S> {
     fn with_room(alloc: Global, n: usize) -> Result<Self, Fault> {
         Ok(IndexMap::with_capacity_and_hasher(alloc, n, S::hashing())?)
     }
-
-    #[inline(always)]
-    fn make_room(&mut self, n: usize) -> Result<(), Fault> {
-        self.reserve(n)?;
-        Ok(())
-    }
 }
 
 impl<K: Key, S: Hashing> Listed<K> for IndexMap<K, K, S> {

@@ -93,12 +93,6 @@ impl<K: Key> Roomy<K> for SmallMap<K, K> {
     fn with_room(alloc: Global, n: usize) -> Result<Self, Fault> {
         Ok(SmallMap::with_capacity(alloc, n)?)
     }
-
-    #[inline(always)]
-    fn make_room(&mut self, n: usize) -> Result<(), Fault> {
-        self.reserve(n)?;
-        Ok(())
-    }
 }
 
 impl<K: Key> Listed<K> for SmallMap<K, K> {
