@@ -41,16 +41,9 @@ module _ {T : Type 0} (slots : List (Option (ℕ × T))) (tags : List ℕ) (fill
       let full = whole in
       let count = counted in
       record {
-        sound = record {
-          counted = omega arith;
-          load = rw sized (omega arith);
-          doubled = rw sized before.doubled;
-          in_place = in_place;
-          told = told;
-          tagged = tagged;
-        };
+        sound = grind arith;
         added = added;
-        room = rw sized (omega arith);
+        room = grind arith;
       }
 
   -- ---- a member less
@@ -69,16 +62,9 @@ module _ {T : Type 0} (slots : List (Option (ℕ × T))) (tags : List ℕ) (fill
       let load = before.load in
       record {
         some = omega arith;
-        sound = record {
-          counted = omega arith;
-          load = rw sized (omega arith);
-          doubled = rw sized before.doubled;
-          in_place = in_place;
-          told = λ even. near (omega arith);
-          tagged = tagged;
-        };
+        sound = grind arith;
         rest = subst (λ t. IsPermutation (members t) (m ∷ filled new)) view rest;
-        room = rw sized (omega arith);
+        room = grind arith;
       }
 
   -- ---- some of the members
@@ -99,15 +85,8 @@ module _ {T : Type 0} (slots : List (Option (ℕ × T))) (tags : List ℕ) (fill
       let count = before.counted in
       let load = before.load in
       record {
-        sound = record {
-          counted = omega arith;
-          load = rw sized (omega arith);
-          doubled = rw sized before.doubled;
-          in_place = in_place;
-          told = λ even. absurd (omega (arith, even));
-          tagged = tagged;
-        };
-        room = rw sized (omega arith);
+        sound = grind arith;
+        room = grind arith;
       }
 
   -- ---- the members of another table
@@ -127,16 +106,9 @@ module _ {T : Type 0} (slots : List (Option (ℕ × T))) (tags : List ℕ) (fill
       let here = before.counted in
       let count = counted in
       record {
-        sound = record {
-          counted = omega arith;
-          load = rw sized (omega arith);
-          doubled = rw sized before.doubled;
-          in_place = in_place;
-          told = told;
-          tagged = tagged;
-        };
+        sound = grind arith;
         added = subst₂ (λ xs ys. IsPermutation (xs ++ ys) (filled new)) (ap members seen) (ap members view) all;
-        room = rw sized (omega arith);
+        room = grind arith;
       }
 
 -- ---- the members of a table, all put into an empty one

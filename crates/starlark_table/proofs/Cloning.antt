@@ -1,8 +1,8 @@
 -- A walk that clones one slot after another.
 use Rattle.std.proofs.Common.{◌≡◌, ℕ, zero, suc, ◌+◌, ◌<◌, ◌≤◌, List, [], ◌∷◌, length, take, Option, None, get_or, sym, ◌∙◌, ap, subst, arith, add-one}
+use Rattle.std.proofs.lemmas.Grind.{common_steps}
 use Rattle.std.specs.List.{AllZip}
 use Rattle.std.proofs.Math.ListN.{set, length-set}
-use Rattle.std.proofs.lemmas.List.{get_or-set_other}
 use Rattle.starlark_table.specs.Table.{IsSlotClone}
 use Rattle.starlark_table.specs.Layout.{at, slot_tag, IsTagged}
 use Rattle.starlark_table.proofs.Tagged.{tagged-changed}
@@ -28,12 +28,9 @@ module _ {T : Type 0} (is_clone : T → T → Type 0) where
       → Cloned slots new tags' (i + 1)
   cloned-next slots copy new tags tags' i t o below k clone is same its = record {
     sized = ap length is ∙ length-set copy i o ∙ k.sized;
-    tagged = subst (λ l. IsTagged tags' l) (sym is) (subst (λ l. IsTagged l (set copy i o)) (sym same)
-        (tagged-changed tags copy i t o (omega (arith, below, k.sized)) k.tagged its));
-    cloned = subst (λ l. AllZip (IsSlotClone is_clone) (take (i + 1) slots) (take (i + 1) l)) (sym is)
-        (subst (λ n. AllZip (IsSlotClone is_clone) (take n slots) (take n (set copy i o))) (sym (add-one i))
-        (zip_one_more (IsSlotClone is_clone) slots copy i None o k.sized below k.cloned clone));
-    empty = λ p more. ap (λ l. at l p) is ∙ get_or-set_other copy i p o None (λ e. absurd (omega (arith, more, e))) ∙ k.empty p (omega (arith, more));
+    tagged = rw (is, same) (tagged-changed tags copy i t o (omega (arith, below, k.sized)) k.tagged its);
+    cloned = rw (is, add-one) (zip_one_more (IsSlotClone is_clone) slots copy i None o k.sized below k.cloned clone);
+    empty = λ p more. grind (arith, common_steps, k.empty p);
   }
 
   -- no slots are a clone of no slots

@@ -1,34 +1,24 @@
 -- Bits that tell which of some slots pass a test, and the walk over those that are full.
-use Rattle.std.proofs.Common.{◌≡◌, ◌≢◌, ℕ, zero, suc, ◌+◌, ◌-◌, ◌*◌, ◌/◌, ◌%◌, ◌<◌, ◌≤◌, List, [], ◌∷◌, Bool, true, false, cond, ◌&&◌, min, length, map, take, Option, Some, None, is_some, arith, get_or, ap, sym, refl, ◌∙◌, subst, inl, inr, drop-cons, bit_and}
-use Rattle.std.proofs.lemmas.Bool.{cases_lt, lt-ltb, le-ltb, lt-leb, le-leb}
+use Rattle.std.proofs.Common.{◌≡◌, ◌≢◌, ℕ, zero, suc, ◌+◌, ◌-◌, ◌*◌, ◌/◌, ◌%◌, ◌<◌, ◌≤◌, List, Bool, true, false, cond, length, map, take, Option, Some, None, is_some, arith, get_or, ap, sym, refl, ◌∙◌, subst, drop-cons, bit_and}
+use Rattle.std.proofs.lemmas.Bool.Decides.{nat_tests}
+use Rattle.std.proofs.lemmas.Grind.{common_steps}
 use Rattle.std.specs.Int.Bits.{and_step, and_self}
 use Rattle.std.specs.Int.Count.{count_trailing_zeros, under}
 use Rattle.std.specs.Prelude.{nat_lt}
 use lib.Lanes.{chunk, mask_l}
 use Rattle.starlark_table.specs.Layout.{at, bits_where, hash_tag_bits, left_from, slot_tag, padding, IsTagged, IsTaggedFrom, LeftInWindow}
-use Rattle.starlark_table.proofs.Tagged.{tag-below, sized-alike}
+use Rattle.starlark_table.proofs.Filling.{filled-by_some}
+use Rattle.starlark_table.proofs.Tagged.{tag-below}
 
-lowest : (b : Bool) (n : ℕ) → ((cond b 1 0 + 2 * n) % 2 ≡ cond b 1 0) × ((cond b 1 0 + 2 * n) / 2 ≡ n)
+pub lowest : (b : Bool) (n : ℕ) → ((cond b 1 0 + 2 * n) % 2 ≡ cond b 1 0) × ((cond b 1 0 + 2 * n) / 2 ≡ n)
 lowest true n = omega arith
 lowest false n = omega arith
 
 clear_set : (m : ℕ) → bit_and (1 + 2 * m) (1 + 2 * m - 1) ≡ 0 + 2 * m
-clear_set m =
-    let step = and_step (1 + 2 * m) (1 + 2 * m - 1) in
-    let half : (1 + 2 * m) / 2 ≡ m = omega arith in
-    let half' : (1 + 2 * m - 1) / 2 ≡ m = omega arith in
-    let low : min ((1 + 2 * m) % 2) ((1 + 2 * m - 1) % 2) ≡ 0 = omega arith in
-    let high : bit_and ((1 + 2 * m) / 2) ((1 + 2 * m - 1) / 2) ≡ m = (λ i. bit_and (half i) (half' i)) ∙ and_self m in
-    omega arith
+clear_set m = grind (arith, and_step (1 + 2 * m) (1 + 2 * m - 1), and_self m)
 
 clear_unset : (m : ℕ) → 0 < m → bit_and (0 + 2 * m) (0 + 2 * m - 1) ≡ 0 + 2 * bit_and m (m - 1)
-clear_unset m some =
-    let step = and_step (0 + 2 * m) (0 + 2 * m - 1) in
-    let half : (0 + 2 * m) / 2 ≡ m = omega arith in
-    let half' : (0 + 2 * m - 1) / 2 ≡ m - 1 = omega arith in
-    let low : min ((0 + 2 * m) % 2) ((0 + 2 * m - 1) % 2) ≡ 0 = omega arith in
-    let high : bit_and ((0 + 2 * m) / 2) ((0 + 2 * m - 1) / 2) ≡ bit_and m (m - 1) = λ i. bit_and (half i) (half' i) in
-    omega arith
+clear_unset m some = grind (arith, and_step (0 + 2 * m) (0 + 2 * m - 1))
 
 -- the same slots pass
 bits_where-alike : (t u : ℕ → Bool) (from n : ℕ) → ((p : ℕ) → from ≤ p → p < from + n → t p ≡ u p) → bits_where t from n ≡ bits_where u from n
@@ -36,56 +26,29 @@ unfolding bits_where
 bits_where-alike t u from zero alike = refl
 bits_where-alike t u from (suc n) alike =
     let first = alike from (omega arith) (omega arith) in
-    let rest = bits_where-alike t u (suc from) n (λ p low high. alike p (omega arith) (omega arith)) in
-    λ i. cond (first i) 1 0 + 2 * rest i
-
-lowest_some : (b : Bool) (m : ℕ) → b ≡ true → 0 < cond b 1 0 + 2 * m
-lowest_some true m here = omega arith
-lowest_some false m here = absurd (cc)
+    let rest = bits_where-alike t u (suc from) n (λ p low high. alike p (omega arith) (omega arith)) in cc
 
 -- one that passes sets a bit
 bits_where-some : (t : ℕ → Bool) (from n k : ℕ) → k < n → t (from + k) ≡ true → 0 < bits_where t from n
 unfolding bits_where
 bits_where-some t from zero k within here = absurd (omega arith)
-bits_where-some t from (suc n) zero within here =
-    let same : from + 0 ≡ from = omega arith in
-    lowest_some (t from) (bits_where t (suc from) n) (sym (ap t same) ∙ here)
-bits_where-some t from (suc n) (suc k) within here =
-    let same : suc from + k ≡ from + suc k = omega arith in
-    let rest = bits_where-some t (suc from) n k (omega arith) (ap t same ∙ here) in
-    omega arith
+bits_where-some t from (suc n) zero within here = grind arith
+bits_where-some t from (suc n) (suc k) within here = let rest = bits_where-some t (suc from) n k in grind arith
 
 -- the first slot that passes, so many slots on
-record FirstPassing (t : ℕ → Bool) (from n k : ℕ) : Type 0 where
+pub record FirstPassing (t : ℕ → Bool) (from n k : ℕ) : Type 0 where
   pub within : k < n
   pub there : t (from + k) ≡ true
   pub before : (p : ℕ) → from ≤ p → p < from + k → t p ≡ false
 
-first_here : (t : ℕ → Bool) (from n k : ℕ) → t from ≡ true → k ≡ 0 → FirstPassing t from (suc n) k
-first_here t from n k here is =
-    let same : from + k ≡ from = omega arith in
-    record { within = omega arith; there = ap t same ∙ here; before = λ p low high. absurd (omega arith) }
-
-first_later : (t : ℕ → Bool) (from n k j : ℕ) → t from ≡ false → FirstPassing t (suc from) n j → k ≡ suc j → FirstPassing t from (suc n) k
-first_later t from n k j here rest is =
-    let same : from + k ≡ suc from + j = omega arith in
-    let within = rest.within in
-    record {
-      within = omega arith;
-      there = ap t same ∙ rest.there;
-      before = λ p low high. elim (cases_lt from p) [
-        | inl later ↦ rest.before p later (omega arith)
-        | inr first ↦ let is_first : p ≡ from = omega arith in ap t is_first ∙ here
-      ];
-    }
-
 first_by_lowest : (t : ℕ → Bool) (from n m c : ℕ) (b : Bool) → t from ≡ b → cond b 1 0 + 2 * m ≢ 0 → ((m ≢ 0) → FirstPassing t (suc from) n c)
     → FirstPassing t from (suc n) (under (cond b 1 0) c)
-first_by_lowest t from n m c true here some rest = first_here t from n 0 here refl
-first_by_lowest t from n m c false here some rest = first_later t from n (suc c) c here (rest (λ e. some (omega arith))) refl
+first_by_lowest t from n m c true here some rest = grind arith
+first_by_lowest t from n m c false here some rest = let later = rest (λ e. some (omega arith)) in grind arith
 
 -- where a bit is set, the lowest is that of the first slot that passes
-first_passing-by_bits : (t : ℕ → Bool) (from n w : ℕ) → n ≤ w → bits_where t from n ≢ 0 → FirstPassing t from n (count_trailing_zeros w (bits_where t from n))
+pub first_passing-by_bits : (t : ℕ → Bool) (from n w : ℕ) → n ≤ w → bits_where t from n ≢ 0
+    → FirstPassing t from n (count_trailing_zeros w (bits_where t from n))
 unfolding bits_where count_trailing_zeros
 first_passing-by_bits t from zero w few some = absurd (some refl)
 first_passing-by_bits t from (suc n) zero few some = absurd (omega arith)
@@ -100,11 +63,9 @@ none_at true none = absurd (none refl)
 none_at false none = refl
 
 -- where no bit is set, no slot passes
-none_passing-by_bits : (t : ℕ → Bool) (from n : ℕ) → bits_where t from n ≡ 0 → (p : ℕ) → from ≤ p → p < from + n → t p ≡ false
+pub none_passing-by_bits : (t : ℕ → Bool) (from n : ℕ) → bits_where t from n ≡ 0 → (p : ℕ) → from ≤ p → p < from + n → t p ≡ false
 none_passing-by_bits t from n none p low high =
-    none_at (t p) (λ here.
-    let same : from + (p - from) ≡ p = omega arith in
-    let some = bits_where-some t from n (p - from) (omega arith) (ap t same ∙ here) in omega arith)
+    none_at (t p) (λ here. let some = bits_where-some t from n (p - from) in grind arith)
 
 -- without the lowest bit that is set
 bits_where-cleared : (t u : ℕ → Bool) (from n k : ℕ) → FirstPassing t from n k → ((p : ℕ) → from ≤ p → p ≤ from + k → u p ≡ false)
@@ -112,42 +73,29 @@ bits_where-cleared : (t u : ℕ → Bool) (from n k : ℕ) → FirstPassing t fr
 unfolding bits_where
 bits_where-cleared t u from zero k first past later = let within = first.within in absurd (omega arith)
 bits_where-cleared t u from (suc n) zero first past later =
-    let same : from + 0 ≡ from = omega arith in
     let rest = bits_where-alike t u (suc from) n (λ p low high. later p (omega arith) (omega arith)) in
-    let here : t from ≡ true = sym (ap t same) ∙ first.there in
-    ap (λ b. bit_and (cond b 1 0 + 2 * bits_where t (suc from) n) (cond b 1 0 + 2 * bits_where t (suc from) n - 1)) here
-    ∙ clear_set (bits_where t (suc from) n)
-    ∙ (λ i. cond (sym (past from (omega arith) (omega arith)) i) 1 0 + 2 * rest i)
+    grind (arith, first.there, clear_set (bits_where t (suc from) n), past from)
 bits_where-cleared t u from (suc n) (suc k) first past later =
-    let within = first.within in
-    let same : suc from + k ≡ from + suc k = omega arith in
-    let there = ap t same ∙ first.there in
-    let rest = bits_where-cleared t u (suc from) n k
-    (record { within = omega arith; there = there; before = λ p low high. first.before p (omega arith) (omega arith) })
+    let there : t (suc from + k) ≡ true = grind (arith, first.there) in
+    let next : FirstPassing t (suc from) n k =
+    record { within = grind arith; there = there; before = λ p low high. grind arith } in
+    let rest = bits_where-cleared t u (suc from) n k next
     (λ p low high. past p (omega arith) (omega arith)) (λ p low high. later p (omega arith) (omega arith)) in
-    let here : t from ≡ false = first.before from (omega arith) (omega arith) in
-    ap (λ b. bit_and (cond b 1 0 + 2 * bits_where t (suc from) n) (cond b 1 0 + 2 * bits_where t (suc from) n - 1)) here
-    ∙ clear_unset (bits_where t (suc from) n) (bits_where-some t (suc from) n k (omega arith) there)
-    ∙ (λ i. cond (sym (past from (omega arith) (omega arith)) i) 1 0 + 2 * rest i)
+    grind (arith, first.before from, clear_unset (bits_where t (suc from) n), bits_where-some t (suc from) n k, past from)
 
 -- the bits, as those of a vector
-pub hash_tag_bits-chunk : (tags : List ℕ) (from n : ℕ) → from + n ≤ length tags → hash_tag_bits tags from n ≡ mask_l (map (λ t. nat_lt t padding) (chunk from n tags))
+pub bits_where-chunk : (passes : ℕ → Bool) (xs : List ℕ) (from n : ℕ) → from + n ≤ length xs
+    → bits_where (λ p. passes (get_or xs p 0)) from n ≡ mask_l (map passes (chunk from n xs))
 unfolding bits_where
-hash_tag_bits-chunk tags from zero room = refl
-hash_tag_bits-chunk tags from (suc n) room =
-    let below : from < length tags = omega arith in
-    ap (λ r. cond (nat_lt (get_or tags from 0) padding) 1 0 + 2 * r) (hash_tag_bits-chunk tags (suc from) n (omega arith))
-    ∙ sym (ap (λ l. mask_l (map (λ t. nat_lt t padding) (take (suc n) l))) (drop-cons tags from 0 below))
+bits_where-chunk passes xs from zero room = refl
+bits_where-chunk passes xs from (suc n) room =
+    ap (λ r. cond (passes (get_or xs from 0)) 1 0 + 2 * r) (bits_where-chunk passes xs (suc from) n (omega arith))
+    ∙ sym (ap (λ l. mask_l (map passes (take (suc n) l))) (drop-cons xs from 0 (omega arith)))
 
 module _ {T : Type 0} where
   tells_full : (o : Option (ℕ × T)) (t : ℕ) → t ≡ slot_tag o → nat_lt t padding ≡ is_some o
-  tells_full None t e = le-ltb t padding (omega arith)
-  tells_full (Some m) t e = let low = tag-below m.0 in lt-ltb t padding (omega arith)
-
-  none_outside : (slots : List (Option (ℕ × T))) (p : ℕ) → length slots ≤ p → is_some (at slots p) ≡ false
-  none_outside [] p out = refl
-  none_outside (o ∷ slots) zero out = absurd (omega arith)
-  none_outside (o ∷ slots) (suc p) out = none_outside slots p (omega arith)
+  tells_full None t e = grind (arith, nat_tests)
+  tells_full (Some m) t e = grind (arith, nat_tests, tag-below)
 
   -- a bit for each of n slots from one on: whether a member stands there
   abbrev full_bits : List (Option (ℕ × T)) → ℕ → ℕ → ℕ
@@ -157,12 +105,7 @@ module _ {T : Type 0} where
   full_bits-by_tags : (start n : ℕ) (tags : List ℕ) (slots : List (Option (ℕ × T))) → IsTaggedFrom start tags slots → start + n ≤ length tags
       → hash_tag_bits tags start n ≡ full_bits slots start n
   full_bits-by_tags start n tags slots t room =
-      bits_where-alike _ _ start n (λ p low high. elim (cases_lt p (length slots)) [
-        | inl slot ↦ tells_full (at slots p) (get_or tags p 0) (t.tagged p low slot)
-        | inr behind ↦
-            let pad = t.padded p behind (omega arith) in
-            le-ltb (get_or tags p 0) padding (omega arith) ∙ sym (none_outside slots p behind)
-      ])
+      bits_where-alike _ _ start n (λ p low high. grind (arith, common_steps, nat_tests, tells_full (at slots p)))
 
   pub tagged_from-start : (tags : List ℕ) (slots : List (Option (ℕ × T))) → IsTagged tags slots → IsTaggedFrom 0 tags slots
   tagged_from-start tags slots t = record { sized = t.sized; tagged = λ p low below. t.tagged p below; padded = t.padded }
@@ -170,19 +113,15 @@ module _ {T : Type 0} where
   -- further on, where the slots behind stay
   pub tagged_from-later : (start end : ℕ) (tags : List ℕ) (slots new : List (Option (ℕ × T))) → IsTaggedFrom start tags slots → start ≤ end
       → length new ≡ length slots → ((p : ℕ) → end ≤ p → at new p ≡ at slots p) → IsTaggedFrom end tags new
-  tagged_from-later start end tags slots new t on same stay = record {
-    sized = sized-alike tags tags slots new refl same t.sized;
-    tagged = λ p low below. t.tagged p (omega arith) (omega arith) ∙ ap slot_tag (sym (stay p low));
-    padded = λ p behind within. t.padded p (omega arith) within;
-  }
+  tagged_from-later start end tags slots new t on same stay = grind arith
 
   left_before : (slots : List (Option (ℕ × T))) (next p : ℕ) → p < next → left_from slots next p ≡ false
   unfolding left_from
-  left_before slots next p before = ap (λ b. b && is_some (at slots p)) (lt-leb next p before)
+  left_before slots next p before = grind (arith, nat_tests)
 
   left_behind : (slots : List (Option (ℕ × T))) (next p : ℕ) → next ≤ p → left_from slots next p ≡ is_some (at slots p)
   unfolding left_from
-  left_behind slots next p behind = ap (λ b. b && is_some (at slots p)) (le-leb next p behind)
+  left_behind slots next p behind = grind (arith, nat_tests)
 
   pub window_opens : (tags : List ℕ) (slots : List (Option (ℕ × T))) (start end bits : ℕ) → IsTaggedFrom start tags slots → start < end
       → end ≤ start + 64 → end ≤ length tags → bits ≡ hash_tag_bits tags start (end - start) → LeftInWindow slots start end start bits
@@ -207,10 +146,6 @@ module _ {T : Type 0} where
   none_there None e = refl
   none_there (Some m) e = absurd (cc)
 
-  pub some_there : (o : Option (ℕ × T)) → is_some o ≡ true → (m : ℕ × T) × (o ≡ Some m)
-  some_there None e = absurd (cc)
-  some_there (Some m) e = (m, refl)
-
   pub window_next : (slots : List (Option (ℕ × T))) (start end next bits k : ℕ) → LeftInWindow slots start end next bits → bits ≢ 0
       → k ≡ count_trailing_zeros 64 bits → NextFull slots start end next bits k
   window_next slots start end next bits k w some is =
@@ -222,11 +157,8 @@ module _ {T : Type 0} where
       subst (FirstPassing (left_from slots next) start (end - start)) (sym (is ∙ ap (count_trailing_zeros 64) its))
       (first_passing-by_bits (left_from slots next) start (end - start) 64 (omega arith) (λ none. some (its ∙ none))) in
       let within = first.within in
-      let ahead : next ≤ start + k = elim (cases_lt (start + k) next) [
-        | inl before ↦ absurd (let e = left_before slots next (start + k) before in cc (e, first.there))
-        | inr behind ↦ behind
-      ] in
-      let found = some_there (at slots (start + k)) (sym (left_behind slots next (start + k) ahead) ∙ first.there) in
+      let ahead : next ≤ start + k = grind (arith, left_before slots next (start + k), first.there) in
+      let found = filled-by_some (at slots (start + k)) (sym (left_behind slots next (start + k) ahead) ∙ first.there) in
       record {
         ahead = ahead;
         within = omega arith;
@@ -249,8 +181,8 @@ module _ {T : Type 0} where
       → (p : ℕ) → next ≤ p → p < end → at slots p ≡ None
   window_done slots start end next bits w none p low high =
       let from = w.from in
-      none_there (at slots p)
-      (sym (left_behind slots next p low) ∙ none_passing-by_bits (left_from slots next) start (end - start) (sym w.its ∙ none) p (omega arith) (omega arith))
+      let empty = none_passing-by_bits (left_from slots next) start (end - start) (sym w.its ∙ none) p in
+      none_there (at slots p) (grind (arith, left_behind slots next p))
 
   -- before the first slot no window is open
   pub window_before_all : (slots : List (Option (ℕ × T))) → LeftInWindow slots 0 0 0 0
@@ -264,8 +196,5 @@ module _ {T : Type 0} where
     from = w.from;
     to = w.to;
     short = w.short;
-    its = w.its ∙ bits_where-alike _ _ start (end - start) (λ p low high. elim (cases_lt p next) [
-      | inl before ↦ left_before slots next p before ∙ sym (left_before new next p before)
-      | inr behind ↦ left_behind slots next p behind ∙ ap is_some (sym (alike p behind)) ∙ sym (left_behind new next p behind)
-    ]);
+    its = w.its ∙ bits_where-alike _ _ start (end - start) (λ p low high. grind (arith, left_before, left_behind, alike p));
   }

@@ -1,16 +1,14 @@
 -- How many members the slots hold.
-use Rattle.std.proofs.Common.{◌≡◌, ◌≢◌, ℕ, zero, suc, add-one, replicate, length-append, ◌+◌, ◌-◌, ◌*◌, ◌^◌, ◌<◌, ◌≤◌, List, [], ◌∷◌, ◌++◌, length, Option, Some, None, arith, refl, IsPermutation, sym, ◌∙◌, ap, subst, get_or}
+use Rattle.std.proofs.Common.{◌≡◌, ◌≢◌, ℕ, zero, suc, add-one, replicate, length-append, ◌+◌, ◌*◌, ◌^◌, ◌<◌, ◌≤◌, List, [], ◌∷◌, ◌++◌, length, Option, Some, None, arith, refl, IsPermutation, sym, ◌∙◌, ap}
+use Rattle.std.proofs.lemmas.Grind.{common_steps}
 use Rattle.std.proofs.lemmas.List.Sorted.{length_permutation, IsPermutation-trans, IsPermutation-sym, IsPermutation-cons, IsPermutation-middle, IsPermutation-append_left, IsPermutation-append_right}
-use Rattle.std.proofs.lemmas.List.{get_or-set_other, length-replicate, get_or_append_left, get_or-append_right, get_or-replicate}
-use Rattle.std.proofs.Math.ListN.{set, length-set}
+use Rattle.std.proofs.lemmas.List.{length-replicate}
+use Rattle.std.proofs.Math.ListN.{set}
 use Rattle.starlark_table.specs.Table.{filled}
-use Rattle.starlark_table.specs.Layout.{at, window, empty_tag, padding, slot_tag, tag_count, tags_of_empty, InPlace, IsTagged, IsSound}
+use Rattle.starlark_table.specs.Layout.{at, tags_of_empty, IsTagged, IsSound}
 use Rattle.starlark_table.specs.Growth.{limit}
 use Rattle.starlark_table.proofs.Bag.{filled-set_none, filled-set_some}
 use Rattle.starlark_table.proofs.TagCount.{tag_count-some}
-
-pub load-below_slots : (m n : ℕ) → n ≤ limit m → 0 < m → n < m
-load-below_slots m n load some = omega arith
 
 module _ {T : Type 0} where
   -- fewer members than slots leave an empty slot
@@ -25,9 +23,8 @@ module _ {T : Type 0} where
       → length (filled slots) ≤ limit (length slots) → at slots slot ≡ Some m
       → (q : ℕ) × (q < length (set slots slot None)) × (q ≢ slot) × (at (set slots slot None) q ≡ None)
   another_empty_slot slots slot m slot_in load full =
-      let q = empty_slot slots (load-below_slots (length slots) (length (filled slots)) load (omega arith)) in
-      let apart : q.0 ≢ slot = λ same. cc (ap (at slots) same, q.2) in
-      (q.0, rw length-set q.1, apart, get_or-set_other slots slot q.0 None None apart ∙ q.2)
+      let q = empty_slot slots (omega arith) in
+      (q.0, grind (arith, common_steps), grind arith, grind (arith, common_steps))
 
   pub bag-taken_out : (slots new : List (Option (ℕ × T))) (slot : ℕ) (m : ℕ × T) → at slots slot ≡ Some m
       → IsPermutation (filled (set slots slot None)) (filled new) → IsPermutation (filled slots) (m ∷ filled new)
@@ -41,7 +38,7 @@ module _ {T : Type 0} where
   sound-empty_slot slots tags fill s some =
       let counted = s.counted in
       let load = s.load in
-      empty_slot slots (load-below_slots (length slots) (length (filled slots)) (omega arith) some)
+      empty_slot slots (omega arith)
 
 module _ {T : Type 0} where
   pub filled-append : (xs ys : List (Option (ℕ × T))) → filled (xs ++ ys) ≡ filled xs ++ filled ys
@@ -73,37 +70,14 @@ module _ {T : Type 0} where
   empty_slot-while_moving all old slots some room bag =
       let count = length_permutation all (filled old ++ filled slots) bag ∙ sym refl in
       let parts = length-append (filled old) (filled slots) in
-      empty_slot slots (load-below_slots (length slots) (length (filled slots)) (omega arith) some)
+      empty_slot slots (omega arith)
 
   at-replicate : (n p : ℕ) → at {T = T} (replicate n None) p ≡ None
-  at-replicate zero p = refl
-  at-replicate (suc n) zero = refl
-  at-replicate (suc n) (suc p) = at-replicate n p
-
-  pub in_place-replicate : (m n : ℕ) → InPlace {T = T} m (replicate n None)
-  in_place-replicate m n = record { reached = λ p q h x e far q_in nearer. absurd (cc (at-replicate n p)) }
+  at-replicate n p = grind (arith, common_steps)
 
   tagged-replicate : (items : List (Option (ℕ × T))) (tags : List ℕ) (count : ℕ) → 0 < count → items ≡ replicate count None
       → tags ≡ tags_of_empty count → IsTagged tags items
-  tagged-replicate items tags count some e f =
-      let slots : length items ≡ count = ap length e ∙ length-replicate count None in
-      let first : length (replicate count empty_tag) ≡ count = length-replicate count empty_tag in
-      let sized : length tags ≡ count + window = ap length f ∙ length-append (replicate count empty_tag) (replicate window padding) ∙ ap (λ n. n + window) first in
-      let none : (k : ℕ) → at items k ≡ None = λ k. ap (λ l. at l k) e ∙ at-replicate count k in
-      record {
-        sized = sized ∙ sym (ap tag_count slots ∙ tag_count-some count some);
-        tagged = λ p below.
-            ap (λ l. get_or l p 0) f
-            ∙ get_or_append_left (replicate count empty_tag) (replicate window padding) 0 p (omega arith)
-            ∙ get_or-replicate count p empty_tag 0 (omega arith) ∙ ap slot_tag (sym (none p));
-        padded = λ p low high.
-            ap (λ l. get_or l p 0) f
-            ∙ get_or-append_right (replicate count empty_tag) (replicate window padding) count p 0 first (omega arith)
-            ∙ get_or-replicate window (p - count) padding 0 (omega arith);
-      }
-
-  in_place-all_empty : (items : List (Option (ℕ × T))) (count : ℕ) → items ≡ replicate count None → InPlace (length items) items
-  in_place-all_empty items count e = subst (λ l. InPlace (length l) l) (sym e) (in_place-replicate (length (replicate count None)) count)
+  tagged-replicate items tags count some e f = grind (arith, common_steps, at-replicate, tag_count-some)
 
   pub sound-all_empty : (items : List (Option (ℕ × T))) (tags : List ℕ) (count : ℕ) → items ≡ replicate count None
       → tags ≡ tags_of_empty count → 0 < count → (k : ℕ) × (count ≡ 8 * 2 ^ k) → IsSound items tags 0 × (filled items ≡ [])
@@ -114,8 +88,8 @@ module _ {T : Type 0} where
           counted = sym (ap length none);
           load = omega arith;
           doubled = λ _. (doubled.0, sized ∙ doubled.1);
-          in_place = in_place-all_empty items count e;
-          told = λ even p h x at_p far. absurd (cc (ap (λ l. at l p) e, at-replicate count p));
+          in_place = grind (arith, at-replicate);
+          told = grind (arith, at-replicate);
           tagged = tagged-replicate items tags count some e f;
         },
         none,

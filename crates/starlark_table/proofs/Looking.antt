@@ -20,22 +20,12 @@ use Rattle.starlark_table.proofs.Windows.{AtWindow, Matched, way, window_begins,
 pub same-by_test : {b : Bool} (h hash : ℕ) → b ≡ nat_eq h hash → b ≡ true → h ≡ hash
 same-by_test h hash is said = eqb-true h hash (sym is ∙ said)
 
--- what is told of a number is told of the hash that has it
-pub home_at : (m start number hash : ℕ) → start ≡ home m number → number ≡ hash → start ≡ home m hash
-home_at m start number hash is same = is ∙ ap (λ n. home m n) same
-
 pub tag_at : (t number hash : ℕ) → t ≡ tag number → number ≡ hash → t ≡ tag hash
 tag_at t number hash is same = is ∙ ap tag same
 
 -- and another one is not the one that is sought
 pub other-by_test : {b : Bool} (h hash : ℕ) → b ≡ nat_eq h hash → b ≡ false → h ≡ hash → ⊥
 other-by_test h hash is said same = false≢true (sym said ∙ is ∙ eq-eqb h hash same)
-
-nearer : (n start slot k : ℕ) → slot + k < start + 16 → n + (start + 16 - (slot + k + 1)) < n + (start + 16 - slot)
-nearer n start slot k near = omega arith
-
-farther : (m d d' next start slot : ℕ) → d < d' → d' < m → (m - d') * 32 + (next + 16 - next) < (m - d) * 32 + (start + 16 - slot)
-farther m d d' next start slot more below = omega arith
 
 -- what is left of the way round, and of the window
 abbrev pub left_to_look : {T : Type 0} → ℕ → List (Option (ℕ × T)) → ℕ → ℕ → ℕ
@@ -60,18 +50,25 @@ module _ {F T : Type 0} (g : Mut F (Bor T × Unit {0}) Bool) (hash : ℕ) (tags 
       subst (λ s. Looking start slot' same' s) (sym at_state) (subst (λ b. Looking start slot' b f) (sym at_bits) (subst (λ p. Looking start p same f) (sym at_slot) l))
 
   module _ (tagged : IsTagged tags slots) where
-    module _ (count mask start : ℕ) (counted : count ≡ length slots) (some : count ≢ 0) (masked : IsMask mask slots) (is : start ≡ home (mask + 1) hash) where
+    -- at the first window, which is told by the number that has the hash
+    module _ (count mask start number : ℕ) (counted : count ≡ length slots) (some : count ≢ 0) (masked : IsMask mask slots)
+        (is : start ≡ home (mask + 1) number) (hashes : number ≡ hash) where
       at_home : (0 < length slots) × (start ≡ a)
-      at_home = let some : 0 < length slots = omega arith in (some, is ∙ ap (λ n. home n hash) (masked some))
+      at_home =
+          let some : 0 < length slots = omega arith in
+          (some, is ∙ ap (home (mask + 1)) hashes ∙ ap (λ n. home n hash) (masked some))
 
       pub home_room : start + 16 ≤ length tags
       home_room = omega (arith, at_home.1, home-below (length slots) hash at_home.0, long_tags tags slots tagged.sized at_home.0)
 
-      pub looking_begins : (sought same : ℕ) → sought ≡ tag hash → same ≡ tag_bits sought tags start 16 → Looking start start same first
+      pub looking_begins : (sought same : ℕ) → sought ≡ tag number → same ≡ tag_bits sought tags start 16
+          → Looking start start same first
       looking_begins sought same seeks bits =
           let here = distance-self (length slots) a in
+          let its = bits ∙ ap (λ t. tag_bits t tags start 16) (seeks ∙ ap tag hashes)
+          ∙ ap (λ p. tag_bits (tag hash) tags p 16) at_home.1 in
           subst (λ p. Looking p p same first) (sym at_home.1) (record {
-            window = window_begins hash tags slots tagged at_home.0 same (bits ∙ ap (λ t. tag_bits t tags start 16) seeks ∙ ap (λ p. tag_bits (tag hash) tags p 16) at_home.1);
+            window = window_begins hash tags slots tagged at_home.0 same its;
             search = path_moved g (behind 0) first first hash a 0 (way hash slots a + (a - a)) slots (omega (arith, here)) (searching_begins g (behind 0) first);
           })
 
@@ -104,7 +101,8 @@ module _ {F T : Type 0} (g : Mut F (Bor T × Unit {0}) Bool) (hash : ℕ) (tags 
             let goes = window_goes_on hash tags slots tagged some (free some) mask start slot next bits (masked some) over
             (none-by_bits empty_tag tags start 16 room (sym its ∙ full)) on round (subst (λ t. BitsUpToEmpty t tags next bits) seeks b) in (
               record { window = goes.on; search = searching_on g (behind 0) _ _ first f goes.left l.search },
-              farther (length slots) _ _ next start slot goes.farther (distance-below (length slots) a next (home-below (length slots) hash some) goes.on.start_in),
+              let below = distance-below (length slots) a next (home-below (length slots) hash some) goes.on.start_in in
+                  omega (arith, goes.farther),
             )
 
       -- at the slot of the lowest bit
@@ -125,7 +123,7 @@ module _ {F T : Type 0} (g : Mut F (Bor T × Unit {0}) Bool) (hash : ℕ) (tags 
         looking_full = filled-by_some (at slots here) found.full
 
         pub looking_nearer : left_to_look hash slots start (here + 1) < left_to_look hash slots start slot
-        looking_nearer = nearer _ start slot steps found.near
+        looking_nearer = omega (arith, found.near)
 
         module _ (h : ℕ) (item : T) (is : at slots here ≡ Some (h, item)) where
           asked : Searching g (behind 0) first f (behind (way hash slots here))

@@ -1,5 +1,6 @@
 -- Slots that a walk has still to take, and the tags that tell which of them are full.
 use Rattle.std.proofs.Common.{◌≡◌, ℕ, suc, ◌+◌, ◌<◌, List, [], ◌∷◌, length, drop, Option, slice_index_or, sym, ap, ◌∙◌, subst, arith}
+use Rattle.std.proofs.lemmas.Bool.{cases_lt}
 use Rattle.starlark_columns.specs.Cells.{IsFilled}
 use Rattle.starlark_table.specs.Layout.{empty_tag, IsTagged}
 use Rattle.starlark_table.specs.Loan.{AreMarked, Lent}
@@ -41,13 +42,8 @@ module _ {T : Type 0} where
 
   -- the tags of a table mark its slots, before the first is taken
   pub marked-all : (tags : List ℕ) (slots : List (Option (ℕ × T))) → IsTagged tags slots → AreMarked tags 0 slots
-  marked-all tags [] t = record {
-    sized = omega arith;
-    empty = λ k below e. absurd (omega (arith, below));
-    full = λ k below n. absurd (omega (arith, below));
-  }
-  marked-all tags (c ∷ slots) t = record {
-    sized = let s = long_tags tags (c ∷ slots) t.sized (omega arith) in omega (arith, s);
-    empty = λ k below e. empty-by_tag tags (c ∷ slots) k t below (subst (λ p. slice_index_or tags p 0 ≡ empty_tag) (omega arith) e);
-    full = λ k below n. full-by_tag tags (c ∷ slots) k t below (subst (λ p. slice_index_or tags p 0 ≡ empty_tag → ⊥) (omega arith) n);
+  marked-all tags slots t = record {
+    sized = grind (arith, long_tags tags slots t.sized, cases_lt 0 (length slots));
+    empty = λ k below e. grind (arith, empty-by_tag tags slots k t);
+    full = λ k below n. grind (arith, full-by_tag tags slots k t);
   }

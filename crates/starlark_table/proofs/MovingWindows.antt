@@ -1,8 +1,7 @@
 -- The walk that takes every member out, window by window.
-use Rattle.std.proofs.Common.{◌≡◌, ◌≢◌, ℕ, ◌+◌, ◌-◌, ◌<◌, ◌≤◌, List, Option, Some, None, arith, refl, ◌∙◌, ap, length, bit_and, inl, inr}
+use Rattle.std.proofs.Common.{◌≡◌, ◌≢◌, ℕ, ◌+◌, ◌-◌, ◌<◌, ◌≤◌, List, Option, Some, None, arith, refl, ◌∙◌, length, bit_and}
+use Rattle.std.proofs.lemmas.Grind.{common_steps}
 use Rattle.std.proofs.Math.ListN.{set, length-set}
-use Rattle.std.proofs.lemmas.Bool.{cases_lt}
-use Rattle.std.proofs.lemmas.List.{get_or-set_other, get_or-set_same}
 use Rattle.std.specs.Int.Count.{count_trailing_zeros}
 use Rattle.starlark_table.specs.Layout.{at, LeftInWindow}
 use Rattle.starlark_table.proofs.Closing.{full_in_range}
@@ -44,29 +43,17 @@ module _ {T : Type 0} where
         let from = w.left.from in
         let slot : ℕ = start + k in
         let slot_in = full_in_range cur slot r.member (w.after slot ahead ∙ r.here) in
-        let other : (p : ℕ) → p ≢ slot → at (set cur slot None) p ≡ at cur p = λ p apart. get_or-set_other cur slot p None None apart in
         record {
           next = slot + 1;
           left = r.on;
           sized = length-set cur slot None ∙ w.sized;
-          emptied = λ p low high. elim (cases_lt p slot) [
-            | inr last ↦
-                let same : p ≡ slot = omega arith in
-                ap (at (set cur slot None)) same ∙ get_or-set_same cur slot None None slot_in
-            | inl earlier ↦ other p (λ e. absurd (omega arith)) ∙ elim (cases_lt p w.next) [
-              | inl taken ↦ w.emptied p low taken
-              | inr passed ↦ w.after p passed ∙ r.passed p passed earlier
-            ]
-          ];
-          before = λ p high. other p (λ e. absurd (omega arith)) ∙ w.before p high;
-          after = λ p low. other p (λ e. absurd (omega arith)) ∙ w.after p (omega arith);
+          emptied = λ p low high. grind (arith, common_steps, w.emptied p, w.after p, r.passed p);
+          before = λ p high. grind (arith, common_steps, w.before p);
+          after = λ p low. grind (arith, common_steps, w.after p);
         }
 
   -- where no bit is left, the window is empty
   pub emptying-ends : (initial cur : List (Option (ℕ × T))) (start end bits : ℕ) → EmptyingWindow initial cur start end bits → bits ≡ 0
       → (p : ℕ) → start ≤ p → p < end → at cur p ≡ None
   emptying-ends initial cur start end bits w none p low high =
-      elim (cases_lt p w.next) [
-        | inl taken ↦ w.emptied p low taken
-        | inr passed ↦ w.after p passed ∙ window_done initial start end w.next bits w.left none p passed high
-      ]
+      grind (arith, window_done initial start end w.next bits w.left none p)

@@ -1,7 +1,6 @@
 -- Bags of pairs of numbers: counted by tests, filtered, and without a member that both have.
-use Rattle.std.proofs.Common.{◌≡◌, ℕ, ◌+◌, ◌<◌, List, [], ◌∷◌, ◌++◌, Bool, true, false, ◌&&◌, nat_eq, arith, refl, IsPermutation, sym, ◌∙◌, ap, subst, sum_by, eq-eqb, cond, zero-add}
+use Rattle.std.proofs.Common.{◌≡◌, ℕ, ◌+◌, ◌<◌, List, [], ◌∷◌, ◌++◌, Bool, true, false, ◌&&◌, nat_eq, arith, refl, IsPermutation, sym, ◌∙◌, ap, subst, sum_by, cond, zero-add}
 use Rattle.std.proofs.lemmas.List.Sorted.{IsPermutation-refl, IsPermutation-sym, IsPermutation-trans, IsPermutation-cons, IsPermutation-middle, sum_by-IsPermutation}
-use Rattle.std.proofs.lemmas.Bool.{and_parts}
 use Rattle.std.proofs.lemmas.Bool.Decides.{nat_tests}
 use Rattle.std.proofs.lemmas.List.Sums.{sum_by-append}
 use Rattle.std.specs.List.{filter}
@@ -9,18 +8,11 @@ use Rattle.std.specs.List.{filter}
 abbrev pub same_pair : ℕ × ℕ → ℕ × ℕ → Bool
 same_pair a b = nat_eq a.0 b.0 && nat_eq a.1 b.1
 
-eqb_is : (a b : ℕ) → nat_eq a b ≡ true → a ≡ b
-eqb_is a b e = grind (arith, nat_tests)
-
 same_self : (a : ℕ × ℕ) → same_pair a a ≡ true
-same_self a = rw (eq-eqb a.0 a.0 refl, eq-eqb a.1 a.1 refl) refl
+same_self a = grind (arith, nat_tests)
 
 same_is : (a b : ℕ × ℕ) → same_pair a b ≡ true → a ≡ b
-same_is (a, b) (c, d) e =
-    let parts = and_parts (nat_eq a c) (nat_eq b d) e in
-    let first : a ≡ c = eqb_is a c parts.0 in
-    let second : b ≡ d = eqb_is b d parts.1 in
-    cc
+same_is (a, b) (c, d) e = grind (arith, nat_tests)
 
 -- how many members pass
 pub tally : (ℕ × ℕ → Bool) → List (ℕ × ℕ) → ℕ

@@ -108,10 +108,6 @@ module _ {T : Type 0} where
       (λ q low high. omega (arith, steps q (omega arith) (omega arith)))
       (λ q x low high. lacks q x (omega arith) (omega arith)) j (omega arith)
 
-  pub read_at : (slots : List (Option (ℕ × T))) (slot : ℕ) (r : Option (ℕ × T)) → slot < length slots
-      → r ≡ get_or slots slot r → at slots slot ≡ r
-  read_at slots slot r slot_in e = get_or_default slots slot None r slot_in ∙ sym e
-
   -- the path, from a slot that holds the hash
   pub path-taken : (hash a slot i : ℕ) (item : T) (slots : List (Option (ℕ × T)))
       → a < length slots → slot < length slots

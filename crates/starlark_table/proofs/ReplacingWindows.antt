@@ -1,19 +1,21 @@
 -- The walk that replaces each item, window by window.
-use Rattle.starlark_columns.proofs.Walking.{◌≡◌, ◌≢◌, ℕ, zero, suc, ◌+◌, ◌-◌, ◌<◌, ◌≤◌, ◌++◌, ◌∷◌, [], List, Option, Some, take, arith, refl, sym, ◌∙◌, ap, subst, length, get_or, bit_and, inl, inr, set, take-add, cases_lt, take-set, take-take, drop-drop, drop-take, get_or-drop, get_or-set_same, drop_split, count_trailing_zeros, Mut, CalledAt, TakesAt}
+use Rattle.starlark_columns.proofs.Walking.{◌≡◌, ◌≢◌, ℕ, zero, suc, ◌+◌, ◌-◌, ◌<◌, ◌≤◌, ◌++◌, ◌∷◌, [], List, Option, Some, take, arith, refl, sym, ◌∙◌, ap, subst, length, get_or, bit_and, inl, inr, set, take-add, cases_lt, take-set, take-take, drop-drop, drop-take, get_or-drop, drop_split, count_trailing_zeros, Mut, CalledAt, TakesAt}
+use Rattle.std.proofs.lemmas.Grind.{common_steps}
 use Rattle.std.proofs.Common.{None, drop, slice_range, drop-cons}
 use Rattle.std.proofs.Math.ListN.{length-set}
+use Rattle.std.proofs.lemmas.List.{take_all}
 use Rattle.std.specs.Borrow.{Bor}
 use Rattle.starlark_table.specs.Table.{items_in}
 use Rattle.starlark_table.specs.Layout.{at, LeftInWindow}
 use Rattle.starlark_table.specs.Walk.{CanReplace, ReplacesEach, ReplacesWithin}
 use Rattle.starlark_table.proofs.Closing.{full_in_range}
 use Rattle.starlark_table.proofs.FullBits.{NextFull, window_next, window_done}
-use Rattle.starlark_table.proofs.Lists.{drop_all, take_all, still_untouched}
+use Rattle.starlark_table.proofs.Lists.{still_untouched}
 use Rattle.starlark_table.proofs.Walking.{walk_on, walk_asks}
 
 module _ {X : Type 0} where
   slice_nothing : (xs : List X) (i : ℕ) → slice_range xs i i ≡ []
-  slice_nothing xs i = let none : i - i ≡ 0 = omega arith in ap (λ n. take n (drop i xs)) none
+  slice_nothing xs i = grind (arith, common_steps)
 
   slice_join : (xs : List X) (i j k : ℕ) → i ≤ j → j ≤ k → slice_range xs i k ≡ slice_range xs i j ++ slice_range xs j k
   slice_join xs i j k on on' =
@@ -23,12 +25,10 @@ module _ {X : Type 0} where
       ∙ ap (λ l. slice_range xs i j ++ take (k - j) l) (drop-drop (j - i) i xs ∙ ap (λ n. drop n xs) back)
 
   slice_one : (xs : List X) (i : ℕ) (d : X) → i < length xs → slice_range xs i (i + 1) ≡ get_or xs i d ∷ []
-  slice_one xs i d i_in =
-      let one : i + 1 - i ≡ 1 = omega arith in
-      ap (λ n. take n (drop i xs)) one ∙ ap (take 1) (drop-cons xs i d i_in)
+  slice_one xs i d i_in = grind (arith, common_steps)
 
   slice_out : (xs : List X) (i k : ℕ) → length xs ≤ i → slice_range xs i k ≡ []
-  slice_out xs i k out = ap (take (k - i)) (drop_all i xs out) ∙ take_all (k - i) [] (omega arith)
+  slice_out xs i k out = grind (arith, common_steps)
 
   slice_all : (xs : List X) (k : ℕ) → length xs ≤ k → slice_range xs 0 k ≡ xs
   slice_all xs k all = take_all (k - 0) xs (omega arith)
@@ -40,9 +40,6 @@ module _ {X : Type 0} where
       let front : (zs : List X) → drop i (take j zs) ≡ slice_range zs i j =
       λ zs. ap (λ n. drop i (take n zs)) (sym whole) ∙ drop-take i (j - i) zs in
       sym (front xs) ∙ ap (drop i) same ∙ front ys
-
-  slice_behind : (xs ys : List X) (j k : ℕ) → drop j xs ≡ drop j ys → slice_range xs j k ≡ slice_range ys j k
-  slice_behind xs ys j k same = ap (take (k - j)) same
 
   take_less : (xs ys : List X) (i j : ℕ) → i ≤ j → take j xs ≡ take j ys → take i xs ≡ take i ys
   take_less xs ys i j on same = sym (take-take i j xs on) ∙ ap (take i) same ∙ take-take i j ys on
@@ -78,24 +75,20 @@ module _ {F T : Type 0} (g : Mut F (Bor T × Unit {0}) T) where
       can_replace-past next f' a b rest tail (walk_on (TakesAt g) _ x (items_in (a ++ b)) f next (y, called) can)
 
   pub within-nothing : (f : F) (xs : List (Option (ℕ × T))) (i : ℕ) → ReplacesWithin g f xs xs f i i
-  within-nothing f xs i = record {
-    before = refl;
-    items = subst (λ l. ReplacesEach g f l l f) (sym (slice_nothing xs i)) (refl, refl);
-    after = refl;
-  }
+  within-nothing f xs i = record { before = refl; items = rw slice_nothing (refl, refl); after = refl }
 
   pub within-join : (f f' last : F) (a b c : List (Option (ℕ × T))) (i j k : ℕ) → i ≤ j → j ≤ k → ReplacesWithin g f a b f' i j
       → ReplacesWithin g f' b c last j k → ReplacesWithin g f a c last i k
   within-join f f' last a b c i j k on on' w v =
       let old : slice_range a i k ≡ slice_range a i j ++ slice_range b j k =
-      slice_join a i j k on on' ∙ ap (λ l. slice_range a i j ++ l) (sym (slice_behind b a j k w.after)) in
+      slice_join a i j k on on' ∙ ap (λ l. slice_range a i j ++ l) (sym (ap (take (k - j)) w.after)) in
       let new : slice_range c i k ≡ slice_range b i j ++ slice_range c j k =
       slice_join c i j k on on' ∙ ap (λ l. l ++ slice_range c j k) (slice_front c b i j on v.before) in
       record {
         before = take_less c b i j on v.before ∙ w.before;
-        items = subst (λ l. ReplacesEach g f l (slice_range c i k) last) (sym old)
-            (subst (λ l. ReplacesEach g f (slice_range a i j ++ slice_range b j k) l last) (sym new)
-            (replaces-append f f' last (slice_range a i j) (slice_range b j k) (slice_range b i j) (slice_range c j k) w.items v.items));
+        items = rw (old, new)
+            (replaces-append f f' last (slice_range a i j) (slice_range b j k) (slice_range b i j) (slice_range c j k)
+            w.items v.items);
         after = v.after ∙ drop_more b a j k on' w.after;
       }
 
@@ -103,8 +96,8 @@ module _ {F T : Type 0} (g : Mut F (Bor T × Unit {0}) T) where
   within-empty f xs i none = record {
     before = refl;
     items = elim (cases_lt i (length xs)) [
-      | inl slot ↦ subst (λ l. ReplacesEach g f l l f) (sym (slice_one xs i None slot ∙ ap (λ o. o ∷ []) none)) ([], refl, (refl, refl))
-      | inr out ↦ subst (λ l. ReplacesEach g f l l f) (sym (slice_out xs i (i + 1) out)) (refl, refl)
+      | inl slot ↦ rw (slice_one xs i None slot, none) ([], refl, (refl, refl))
+      | inr out ↦ rw (slice_out xs i (i + 1) out) (refl, refl)
     ];
     after = refl;
   }
@@ -122,20 +115,17 @@ module _ {F T : Type 0} (g : Mut F (Bor T × Unit {0}) T) where
   within-member f f' xs i h x y i_in here called =
       let old : slice_range xs i (i + 1) ≡ Some (h, x) ∷ [] = slice_one xs i None i_in ∙ ap (λ o. o ∷ []) here in
       let new : slice_range (set xs i (Some (h, y))) i (i + 1) ≡ Some (h, y) ∷ [] =
-      slice_one (set xs i (Some (h, y))) i None (omega (arith, length-set xs i (Some (h, y))))
-      ∙ ap (λ o. o ∷ []) (get_or-set_same xs i (Some (h, y)) None i_in) in
+      grind (arith, common_steps, slice_one (set xs i (Some (h, y))) i None) in
       record {
         before = take-set xs i (Some (h, y));
-        items = subst (λ l. ReplacesEach g f l (slice_range (set xs i (Some (h, y))) i (i + 1)) f') (sym old)
-            (subst (λ l. ReplacesEach g f (Some (h, x) ∷ []) l f') (sym new) (y, f', [], called, refl, (refl, refl)));
+        items = rw (old, new) (y, f', [], called, refl, (refl, refl));
         after = still_untouched xs xs (set xs i (Some (h, y))) i (Some (h, y)) refl refl;
       }
 
   pub within-all : (f last : F) (old new : List (Option (ℕ × T))) (end : ℕ) → length old ≤ end → length new ≡ length old
       → ReplacesWithin g f old new last 0 end → ReplacesEach g f old new last
   within-all f last old new end all same w =
-      subst (λ l. ReplacesEach g f l new last) (slice_all old end all)
-      (subst (λ l. ReplacesEach g f (slice_range old 0 end) l last) (slice_all new end (omega arith)) w.items)
+      rw (slice_all old end all, slice_all new end (omega arith)) at w.items
 
   -- what f may be shown after some calls
   pub can_replace-after : (f f' : F) (old new : List (Option (ℕ × T))) (i j : ℕ) → i ≤ j → ReplacesWithin g f old new f' i j

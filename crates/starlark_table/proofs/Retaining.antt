@@ -1,12 +1,14 @@
 -- The walk that asks about each member whether it is to be kept.
 use Rattle.starlark_columns.proofs.Walking.{◌≡◌, ℕ, suc, ◌+◌, ◌<◌, ◌≤◌, ◌++◌, ◌∷◌, [], List, Option, Some, Bool, true, false, cond, take, arith, refl, sym, ◌∙◌, ap, subst, length, get_or, append_assoc, append-nil, length-append, add-zero, inl, inr, if◌then◌else◌, IfSome, Mut, CalledAtMut, RetainsInTurn, set, get_or_default, set-get_or, set-set}
+use Rattle.std.proofs.lemmas.Bool.{cases_cond}
 use Rattle.std.proofs.Common.{None, drop}
 use Rattle.std.specs.Borrow.{MutBor}
 use Rattle.std.proofs.Math.ListN.{length-set}
+use Rattle.std.proofs.lemmas.List.{drop_all, take_all}
 use Rattle.starlark_table.specs.Table.{filled, items_in}
 use Rattle.starlark_table.specs.Walk.{CanRetain, TakesAtMut, AsksMember}
 use Rattle.starlark_table.specs.Layout.{at, empty_tag, StandsIn, IsTagged}
-use Rattle.starlark_table.proofs.Lists.{drop_all, take_all, head_left, taken_more}
+use Rattle.starlark_table.proofs.Lists.{head_left, taken_more}
 use Rattle.starlark_table.proofs.Walking.{walk_on, walk_asks}
 use Rattle.starlark_table.proofs.Closing.{at-set, same_hash}
 use Rattle.starlark_table.proofs.Load.{filled-append}
@@ -40,11 +42,10 @@ module _ {F T : Type 0} (g : Mut F (MutBor T × Unit {0}) (Bool × (MutBor T × 
     turn-kept m n keeps next here asks kept is same counted called = record {
       keeps = true;
       slot = Some n;
-      asked = subst (λ e. AsksSlot g f (at cur i) true e (Some n)) (sym called)
-          (asks-member (at cur i) m n true f next here (subst (λ b. AsksMember g f m b next n) kept asks));
+      asked = rw called (asks-member (at cur i) m n true f next here (rw kept at asks));
       set_is = is;
       counted = counted;
-      tagged = subst (λ l. IsTagged tags' l) (sym is) (subst (λ l. IsTagged l (set cur i (Some n))) (sym same) (tagged-rewritten tags cur i m n below tagged here asks.hash));
+      tagged = rw (is, same) (tagged-rewritten tags cur i m n below tagged here asks.hash);
     }
 
     pub turn-taken : (m n : ℕ × T) (keeps : Bool) (next : F) → at cur i ≡ Some m → AsksMember g f m keeps next n → keeps ≡ false
@@ -54,11 +55,10 @@ module _ {F T : Type 0} (g : Mut F (MutBor T × Unit {0}) (Bool × (MutBor T × 
         record {
           keeps = false;
           slot = None;
-          asked = subst (λ e. AsksSlot g f (at cur i) false e None) (sym called)
-              (asks-member (at cur i) m n false f next here (subst (λ b. AsksMember g f m b next n) kept asks));
+          asked = rw called (asks-member (at cur i) m n false f next here (rw kept at asks));
           set_is = once;
           counted = counted ∙ sym (add-zero count);
-          tagged = subst (λ l. IsTagged tags' l) (sym once) (subst (λ l. IsTagged l (set cur i None)) (sym same) (tagged-changed tags cur i empty_tag None below tagged refl));
+          tagged = rw (once, same) (tagged-changed tags cur i empty_tag None below tagged refl);
         }
 
     pub turn-empty : get_or tags i 0 ≡ empty_tag → new ≡ cur → tags' ≡ tags → count' ≡ count → f' ≡ f → Turn cur new tags' i count count' f f'
@@ -70,7 +70,7 @@ module _ {F T : Type 0} (g : Mut F (MutBor T × Unit {0}) (Bool × (MutBor T × 
           asked = subst (λ o. AsksSlot g f o false f' None) (sym none) (refl, called, refl);
           set_is = is ∙ sym (ap (set cur i) (sym none) ∙ set-get_or cur i None);
           counted = counted ∙ sym (add-zero count);
-          tagged = subst (λ l. IsTagged tags' l) (sym is) (subst (λ l. IsTagged l cur) (sym same) tagged);
+          tagged = rw (is, same) tagged;
         }
 
   -- what the call of a slot asks of f
@@ -165,8 +165,7 @@ module _ {F T : Type 0} (g : Mut F (MutBor T × Unit {0}) (Bool × (MutBor T × 
 
 module _ {S X : Type 0} (calls : S → X → Bool → S → X → Type 0) where
   retained-fewer : (b : Bool) (x : X) (xs ys : List X) (n : ℕ) → ys ≡ cond b (x ∷ xs) xs → length xs ≤ n → length ys ≤ suc n
-  retained-fewer true x xs ys n is few = rw is (omega arith)
-  retained-fewer false x xs ys n is few = rw is (omega arith)
+  retained-fewer b x xs ys n is few = grind (arith, cases_cond b (x ∷ xs) xs ys is)
 
   -- no more is kept than there was
   pub length-retained : (s : S) (xs ys : List X) → RetainsInTurn calls s xs ys → length ys ≤ length xs

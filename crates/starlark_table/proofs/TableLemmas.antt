@@ -1,11 +1,11 @@
 -- What the words on tables say of one another, for the crates above.
-use Rattle.std.proofs.Common.{◌≡◌, ℕ, zero, suc, ◌+◌, ◌<◌, ◌≤◌, inl, inr, true, false, cond, nat_eq, List, [], ◌∷◌, map, length, Option, Some, None, refl, sym, ap, subst, ◌∙◌, arith, if◌then◌else◌, IsPermutation}
+use Rattle.std.proofs.Common.{◌≡◌, ℕ, zero, suc, ◌+◌, ◌<◌, ◌≤◌, true, false, cond, nat_eq, List, [], ◌∷◌, map, length, Option, Some, None, refl, sym, ap, subst, ◌∙◌, arith, if◌then◌else◌, IsPermutation}
 use Rattle.std.specs.Prelude.{slice_index_or, slice_set}
 use Rattle.std.specs.List.{Contains, enumerate_from, filter}
 use Rattle.std.specs.Option.{option_map}
 use Rattle.std.proofs.Common.{eqb-true}
 use Rattle.std.proofs.lemmas.List.Sorted.{IsPermutation-trans, IsPermutation-cons, IsPermutation-middle, length_permutation}
-use Rattle.std.proofs.lemmas.Bool.{cases_lt}
+use Rattle.std.proofs.lemmas.List.{length-map}
 use Rattle.std.proofs.lemmas.Option.{none-some}
 use Rattle.starlark_table.specs.Table.{Table, filled, holders, members, member_at, items_under, table_capacity, table_len, with_item, GrowsAsNeeded}
 use Rattle.starlark_table.specs.Growth.{most_for}
@@ -38,8 +38,7 @@ module _ {T : Type 0} where
 
   stands_here : (h hash n : ℕ) (x : T) (s : ℕ × T) (slots : List (Option (ℕ × T))) (rest : List (ℕ × T)) → h ≡ hash
       → (Contains rest s → Stands hash slots (n + 1) s) → Contains ((n, x) ∷ rest) s → Stands hash (Some (h, x) ∷ slots) n s
-  stands_here h hash n x s slots rest same later (zero, below, is) =
-      (0, omega (arith, sym (ap (λ p. p.0) is)), ap (λ k. Some (k, x)) same ∙ ap (λ y. Some (hash, y)) (ap (λ p. p.1) is))
+  stands_here h hash n x s slots rest same later (zero, below, is) = (0, grind arith, grind arith)
   stands_here h hash n x s slots rest same later (suc k, below, is) =
       let l = later (k, omega arith, is) in (suc l.0, omega (arith, l.1), l.2)
 
@@ -63,50 +62,15 @@ module _ {T : Type 0} where
 module _ {T : Type 0} where
   -- a table that stays
   pub grows-not : (old new : Table T) → new ≡ old → GrowsAsNeeded old new
-  grows-not old new same =
-      let as_much = ap table_capacity same in
-      let as_many = ap table_len same in
-      record { least = omega (arith, as_much); stays = λ fits. as_much; most = λ more. absurd (omega (arith, as_many, more)) }
+  grows-not old new same = grind (arith, ap table_capacity same, ap table_len same)
 
   -- one step after another, where no member leaves in the second
   pub grows-on : (old mid new : Table T) → table_len mid ≤ table_len new → GrowsAsNeeded old mid → GrowsAsNeeded mid new → GrowsAsNeeded old new
-  grows-on old mid new more first later =
-      let a = first.least in
-      let b = later.least in
-      record {
-        least = omega (arith, a, b);
-        stays = λ fits.
-            let here = first.stays (omega (arith, more, fits)) in
-            let there = later.stays (omega (arith, a, fits)) in
-            there ∙ here;
-        most = λ lacks. grown-most old mid new lacks more a first.most first.stays later.stays later.most;
-      }
-    where
-      grown-most : (old mid new : Table T) → table_capacity old < table_len new → table_len mid ≤ table_len new → table_capacity old ≤ table_capacity mid
-          → (table_capacity old < table_len mid → table_capacity mid ≤ most_for (table_len mid))
-          → (table_len mid ≤ table_capacity old → table_capacity mid ≡ table_capacity old)
-          → (table_len new ≤ table_capacity mid → table_capacity new ≡ table_capacity mid)
-          → (table_capacity mid < table_len new → table_capacity new ≤ most_for (table_len new)) → table_capacity new ≤ most_for (table_len new)
-      grown-most old mid new lacks more least first same stays later = elim (cases_lt (table_capacity mid) (table_len new)) [
-        | inl grown ↦ later grown
-        | inr fits ↦
-            let as_mid = stays (omega (arith, fits)) in
-            elim (cases_lt (table_capacity old) (table_len mid)) [
-              | inl grown ↦ let most = first grown in omega (arith, as_mid, most, more)
-              | inr fit ↦ let as_old = same (omega (arith, fit)) in absurd (omega (arith, as_old, fits, lacks))
-            ]
-      ]
+  grows-on old mid new more first later = grind arith
 
   -- how many members there are, and how much room, is all that counts
   pub grows-alike : (old new also : Table T) → table_len also ≡ table_len new → also.room ≡ new.room → GrowsAsNeeded old new → GrowsAsNeeded old also
-  grows-alike old new also long wide grows =
-      let as_much : table_capacity also ≡ table_capacity new = omega (arith, long, wide) in
-      let least = grows.least in
-      record {
-        least = omega (arith, as_much, least);
-        stays = λ fits. as_much ∙ grows.stays (omega (arith, fits, long));
-        most = λ lacks. let most = grows.most (omega (arith, lacks, long)) in omega (arith, as_much, most, long);
-      }
+  grows-alike old new also long wide grows = grind arith
 
   -- room for one, and then a member more
   pub grows-by_one : (old mid new : Table T) (m : ℕ × T) → IsPermutation (members old) (members mid) → 1 ≤ mid.room → (1 ≤ old.room → mid ≡ old)
@@ -114,16 +78,7 @@ module _ {T : Type 0} where
       → GrowsAsNeeded old new
   grows-by_one old mid new m bag some there most added as_much =
       let as_many = length_permutation (members old) (members mid) bag in
-      let longer = length_permutation (m ∷ members mid) (members new) added in
-      let same : 1 ≤ old.room → table_capacity new ≡ table_capacity old = λ room. as_much ∙ ap table_capacity (there room) in
-      record {
-        least = elim (cases_lt old.room 1) [
-          | inl none ↦ omega (arith, as_much, as_many, none)
-          | inr room ↦ let is = same (omega (arith, room)) in omega (arith, is)
-        ];
-        stays = λ fits. same (omega (arith, fits, longer, as_many));
-        most = λ lacks. let at_most = most (omega (arith, lacks, longer, as_many)) in omega (arith, as_much, at_most, longer, as_many);
-      }
+      let longer = length_permutation (m ∷ members mid) (members new) added in grind (arith, ap (table_capacity {T = T}))
 
 -- ---- what writing the item of one slot leaves
 behind_front : {X : Type 0} (a b m : X) (xs ys : List X) → IsPermutation (a ∷ xs) (b ∷ ys) → IsPermutation (a ∷ m ∷ xs) (b ∷ m ∷ ys)
@@ -158,9 +113,4 @@ module _ {T : Type 0} where
   hashes-with_items_of (Some m ∷ slots) (Some w ∷ written) = ap (λ l. m.0 ∷ l) (hashes-with_items_of slots written)
 
   pub members-with_items_of : (slots written : List (Option (ℕ × T))) → length (filled (with_items_of slots written)) ≡ length (filled slots)
-  members-with_items_of [] written = refl
-  members-with_items_of (None ∷ slots) [] = members-with_items_of slots []
-  members-with_items_of (Some m ∷ slots) [] = ap suc (members-with_items_of slots [])
-  members-with_items_of (None ∷ slots) (w ∷ written) = members-with_items_of slots written
-  members-with_items_of (Some m ∷ slots) (None ∷ written) = ap suc (members-with_items_of slots written)
-  members-with_items_of (Some m ∷ slots) (Some w ∷ written) = ap suc (members-with_items_of slots written)
+  members-with_items_of slots written = simp length-map at (ap length (hashes-with_items_of slots written))

@@ -1,41 +1,27 @@
 -- Bits that tell at which of some slots a tag stands.
-use Rattle.std.proofs.Common.{◌≡◌, ◌≢◌, ℕ, zero, suc, ◌+◌, ◌*◌, ◌/◌, ◌%◌, ◌^◌, ◌<◌, ◌≤◌, List, [], ◌∷◌, Bool, true, false, cond, not, length, get_or, map, take, arith, ap, sym, refl, ◌∙◌, eqb-true, drop-cons}
+use Rattle.std.proofs.Common.{◌≡◌, ◌≢◌, ℕ, zero, suc, ◌+◌, ◌*◌, ◌/◌, ◌%◌, ◌^◌, ◌<◌, ◌≤◌, List, cond, length, get_or, map, arith, ap, sym, refl, ◌∙◌, eqb-true}
 use Rattle.std.proofs.lemmas.Bool.{eqb-false}
-use Rattle.std.proofs.lemmas.Simd.{length-chunk, trailing_mask_l, run_in_chunk_fails, run_in_chunk_stops, none_from_empty_mask}
 use Rattle.std.proofs.Math.Nat.{pow-suc, pow-succ', pow-zero, div-one, mod-one, div-div-eq-div-mul, one-le-pow}
 use Rattle.std.proofs.Math.Arith.{mod-mul}
 use Rattle.std.specs.Int.Count.{count_trailing_zeros}
-use Rattle.std.specs.List.{prefix_len}
 use Rattle.std.specs.Prelude.{nat_eq}
 use lib.Lanes.{chunk, mask_l}
-use Rattle.starlark_table.specs.Layout.{tag_bits}
-
-lowest : (b : Bool) (n : ℕ) → ((cond b 1 0 + 2 * n) % 2 ≡ cond b 1 0) × ((cond b 1 0 + 2 * n) / 2 ≡ n)
-lowest true n = omega arith
-lowest false n = omega arith
+use Rattle.starlark_table.specs.Layout.{tag_bits, bits_where}
+use Rattle.starlark_table.proofs.FullBits.{lowest, bits_where-chunk, FirstPassing, first_passing-by_bits, none_passing-by_bits}
 
 turned : (c r : ℕ) → r * 2 + c ≡ c + 2 * r
 turned c r = omega arith
 
-passes_by : (b : Bool) (n r l : ℕ) → 0 < cond b 1 0 + 2 * n → (0 < n → r < l) → cond (not b) (1 + r) 0 < suc l
-passes_by true n r l some f = omega arith
-passes_by false n r l some f = omega (arith, f (omega arith))
-
--- where a bit is set, a lane passes p
-some_passes : (p : ℕ → Bool) (xs : List ℕ) → 0 < mask_l (map p xs) → prefix_len (λ x. not (p x)) xs < length xs
-some_passes p [] some = absurd (omega arith)
-some_passes p (x ∷ xs) some =
-    passes_by (p x) (mask_l (map p xs)) (prefix_len (λ y. not (p y)) xs) (length xs) some (some_passes p xs)
-
 module _ (sought : ℕ) (tags : List ℕ) where
+  -- they are the bits of a test
+  by_test : (from n : ℕ) → tag_bits sought tags from n ≡ bits_where (λ p. nat_eq (get_or tags p 0) sought) from n
+  unfolding tag_bits bits_where
+  by_test from zero = refl
+  by_test from (suc n) = ap (λ r. cond (nat_eq (get_or tags from 0) sought) 1 0 + 2 * r) (by_test (suc from) n)
+
   -- the bits, as those of a vector
   pub tag_bits-chunk : (from n : ℕ) → from + n ≤ length tags → tag_bits sought tags from n ≡ mask_l (map (λ t. nat_eq t sought) (chunk from n tags))
-  unfolding tag_bits
-  tag_bits-chunk from zero room = refl
-  tag_bits-chunk from (suc n) room =
-      let below : from < length tags = omega arith in
-      ap (λ r. cond (nat_eq (get_or tags from 0) sought) 1 0 + 2 * r) (tag_bits-chunk (suc from) n (omega arith))
-      ∙ sym (ap (λ l. mask_l (map (λ t. nat_eq t sought) (take (suc n) l))) (drop-cons tags from 0 below))
+  tag_bits-chunk from n room = by_test from n ∙ bits_where-chunk (λ t. nat_eq t sought) tags from n room
 
   -- without the lowest k bits, those of the slots from k further on
   pub tag_bits-later : (from k n to all : ℕ) → all ≡ k + n → to ≡ from + k → tag_bits sought tags from all / 2 ^ k ≡ tag_bits sought tags to n
@@ -69,7 +55,8 @@ module _ (sought : ℕ) (tags : List ℕ) where
     -- where no bit is set, no slot has the tag
     pub none-by_bits : tag_bits sought tags from n ≡ 0 → (p : ℕ) → from ≤ p → p < from + n → get_or tags p 0 ≢ sought
     none-by_bits none p low high =
-        eqb-false _ sought (none_from_empty_mask (λ t. nat_eq t sought) tags from n 0 room (sym (tag_bits-chunk from n room) ∙ none) p low high)
+        let test = λ (p : ℕ). nat_eq (get_or tags p 0) sought in
+        eqb-false _ sought (none_passing-by_bits test from n (sym (by_test from n) ∙ none) p low high)
 
     -- the first slot with the tag, so many slots on
     pub record FirstTagged (k : ℕ) : Type 0 where
@@ -80,14 +67,11 @@ module _ (sought : ℕ) (tags : List ℕ) where
     -- where a bit is set, the lowest is that of the first slot that has the tag
     pub first-by_bits : (k : ℕ) → n ≤ 64 → tag_bits sought tags from n ≢ 0 → k ≡ count_trailing_zeros 64 (tag_bits sought tags from n) → FirstTagged k
     first-by_bits k few some is =
-        let bits = tag_bits-chunk from n room in
-        let long : length (chunk from n tags) ≡ n = length-chunk from n tags room in
-        let set : 0 < mask_l (map (λ t. nat_eq t sought) (chunk from n tags)) = omega (arith, bits) in
-        let counted : k ≡ prefix_len (λ t. not (nat_eq t sought)) (chunk from n tags) =
-        is ∙ ap (count_trailing_zeros 64) bits ∙ trailing_mask_l (λ t. nat_eq t sought) 64 (chunk from n tags) (omega (arith, long)) set in
-        let within : k < n = omega (arith, counted, long, some_passes (λ t. nat_eq t sought) (chunk from n tags) set) in
+        let test = λ (p : ℕ). nat_eq (get_or tags p 0) sought in
+        let first : FirstPassing test from n k =
+        rw (is, by_test from n) (first_passing-by_bits test from n 64 few (λ none. some (by_test from n ∙ none))) in
         record {
-          within = within;
-          there = eqb-true _ sought (run_in_chunk_stops (λ t. nat_eq t sought) tags from n k 0 room counted within);
-          before = λ p low high. eqb-false _ sought (run_in_chunk_fails (λ t. nat_eq t sought) tags from n k 0 room counted p low high);
+          within = first.within;
+          there = eqb-true _ sought first.there;
+          before = λ p low high. eqb-false _ sought (first.before p low high);
         }

@@ -1,5 +1,6 @@
 -- How many tags there are beside the slots.
-use Rattle.std.proofs.Common.{◌≡◌, ℕ, ◌+◌, ◌*◌, ◌/◌, ◌^◌, ◌<◌, ◌≤◌, true, false, nat_eq, eqb-true, if◌then◌else◌, List, length, drop, Option, refl, sym, ◌∙◌, subst, arith, inl, inr}
+use Rattle.std.proofs.Common.{◌≡◌, ℕ, ◌+◌, ◌*◌, ◌/◌, ◌^◌, ◌<◌, ◌≤◌, List, length, drop, Option, sym, ◌∙◌, subst, arith, inl, inr}
+use Rattle.std.proofs.lemmas.Bool.Decides.{nat_tests}
 use Rattle.std.proofs.Math.Nat.{pow-le-pow_right}
 use Rattle.std.proofs.lemmas.Bool.{cases_lt}
 use Rattle.std.specs.List.{refill}
@@ -8,11 +9,7 @@ use Rattle.starlark_table.specs.Growth.{limit}
 use Rattle.starlark_table.specs.Layout.{window, tag_count, AreDoubled, HasTags}
 
 pub tag_count-some : (m : ℕ) → 0 < m → tag_count m ≡ m + window
-tag_count-some m some =
-    (elim (nat_eq m 0) as (λ b. nat_eq m 0 ≡ b → (if b then 0 else m + window) ≡ m + window) [
-      | true ↦ λ test. absurd (omega (arith, some, eqb-true m 0 test))
-      | false ↦ λ test. refl
-    ]) refl
+tag_count-some m some = grind (arith, nat_tests)
 
 -- eight, doubled some times, is at most half of 2 ^ 64 where it is below it
 doubled_half : (n k : ℕ) → n ≡ 8 * 2 ^ k → n < 2 ^ 64 → n ≤ 2 ^ 63
@@ -26,15 +23,12 @@ doubled_half n k is below = elim (cases_lt k 61) [
       absurd (omega (arith, is, least, below))
 ]
 
-doubled_fits : (n k : ℕ) → n ≡ 8 * 2 ^ k → n < 2 ^ 64 → n + window < 2 ^ 64
-doubled_fits n k is below = let half = doubled_half n k is below in omega arith
-
 module _ {T : Type 0} where
   pub long_tags : (tags : List ℕ) (slots : List (Option (ℕ × T))) → HasTags tags slots → 0 < length slots → length tags ≡ length slots + window
   long_tags tags slots sized some = sized ∙ tag_count-some (length slots) some
 
   pub tags_fit : (slots : List (Option (ℕ × T))) → AreDoubled slots → 0 < length slots → length slots < 2 ^ 64 → length slots + window < 2 ^ 64
-  tags_fit slots doubled some below = let d = doubled some in doubled_fits (length slots) d.0 d.1 below
+  tags_fit slots doubled some below = let d = doubled some in let half = doubled_half (length slots) d.0 d.1 below in omega arith
 
   -- twice as many members as may stand in some slots, and one, are below 2 ^ 64
   pub doubled_limit : (slots : List (Option (ℕ × T))) → AreDoubled slots → tag_count (length slots) < 2 ^ 64 → (fill : ℕ) → fill / 2 ≤ limit (length slots) → fill < 2 ^ 64

@@ -1,12 +1,13 @@
 -- The tags of slots, and of slots that change.
-use Rattle.std.proofs.Common.{◌≡◌, ℕ, ◌<◌, ◌≤◌, List, length, Option, Some, None, IsSome, arith, get_or, refl, sym, ◌∙◌, ap, subst, inl, inr}
+use Rattle.std.proofs.Common.{◌≡◌, ℕ, ◌<◌, List, length, Option, Some, None, IsSome, arith, get_or, refl, sym, ◌∙◌, ap, subst}
+use Rattle.std.proofs.lemmas.Grind.{common_steps}
 use Rattle.std.specs.List.{swap}
-use Rattle.std.proofs.Math.ListN.{set, length-set}
-use Rattle.std.proofs.lemmas.Bool.{cases_order}
-use Rattle.std.proofs.lemmas.List.{get_or-set_other, get_or-set_same, set-get_or}
+use Rattle.std.proofs.Math.ListN.{set}
+use Rattle.std.proofs.lemmas.Bool.{cases_eq}
+use Rattle.std.proofs.lemmas.List.{set-get_or}
 use Rattle.std.proofs.lemmas.List.Edits.{swapped_from_swap, length-swap}
 use Rattle.starlark_table.specs.Layout.{at, tag, slot_tag, empty_tag, padding, tag_count, HasTags, IsTagged}
-use Rattle.starlark_table.proofs.Closing.{apart-by_order, full_in_range}
+use Rattle.starlark_table.proofs.Closing.{full_in_range}
 use Rattle.starlark_table.proofs.TagCount.{long_tags}
 
 -- the tag of a hash is below the padding, and below the empty one
@@ -52,23 +53,7 @@ module _ {T : Type 0} where
   -- a slot and its tag, changed together
   pub tagged-changed : (tags : List ℕ) (slots : List (Option (ℕ × T))) (i t : ℕ) (o : Option (ℕ × T)) → i < length slots → IsTagged tags slots
       → t ≡ slot_tag o → IsTagged (set tags i t) (set slots i o)
-  tagged-changed tags slots i t o i_in old its = record {
-    sized = sized-alike tags _ slots _ (length-set tags i t) (length-set slots i o) old.sized;
-    tagged = λ p below. elim (cases_order p i) [
-      | inl here ↦
-          let i_in' = tag-in_range tags slots i old.sized i_in in
-          ap (λ q. get_or (set tags i t) q 0) here ∙ get_or-set_same tags i t 0 i_in' ∙ its
-          ∙ ap slot_tag (sym (ap (at (set slots i o)) here ∙ get_or-set_same slots i o None i_in))
-      | inr apart ↦
-          let p_in : p < length slots = rw (length-set slots i o) at below in
-          get_or-set_other tags i p t 0 (apart-by_order p i apart) ∙ old.tagged p p_in
-          ∙ ap slot_tag (sym (get_or-set_other slots i p o None (apart-by_order p i apart)))
-    ];
-    padded = λ p low high.
-        let low' : length slots ≤ p = rw (length-set slots i o) at low in
-        let high' : p < length tags = rw (length-set tags i t) at high in
-        get_or-set_other tags i p t 0 (λ e. absurd (omega arith)) ∙ old.padded p low' high';
-  }
+  tagged-changed tags slots i t o i_in old its = grind (arith, common_steps, tag-in_range tags slots i)
 
   -- another member under the same hash
   pub tagged-rewritten : (tags : List ℕ) (slots : List (Option (ℕ × T))) (i : ℕ) (m n : ℕ × T) → i < length slots → IsTagged tags slots
@@ -87,21 +72,8 @@ module _ {T : Type 0} where
       let t = swapped_from_swap tags (swap tags a b) a b 0 a_in' b_in' refl in
       record {
         sized = sized-alike tags _ slots _ (length-swap tags a b) (length-swap slots a b) old.sized;
-        tagged = λ p below. elim (cases_order p a) [
-          | inl first ↦
-              ap (λ q. get_or (swap tags a b) q 0) first ∙ t.0 ∙ old.tagged b b_in ∙ ap slot_tag (sym (ap (at (swap slots a b)) first ∙ s.0))
-          | inr not_first ↦ elim (cases_order p b) [
-            | inl second ↦
-                ap (λ q. get_or (swap tags a b) q 0) second ∙ t.1 ∙ old.tagged a a_in ∙ ap slot_tag (sym (ap (at (swap slots a b)) second ∙ s.1))
-            | inr not_second ↦
-                let not_a = apart-by_order p a not_first in
-                let not_b = apart-by_order p b not_second in
-                let p_in : p < length slots = rw (length-swap slots a b) at below in
-                t.2 p not_a not_b ∙ old.tagged p p_in ∙ ap slot_tag (sym (s.2 p not_a not_b))
-          ]
-        ];
-        padded = λ p low high.
-            let low' : length slots ≤ p = rw (length-swap slots a b) at low in
-            let high' : p < length tags = rw (length-swap tags a b) at high in
-            t.2 p (λ e. absurd (omega arith)) (λ e. absurd (omega arith)) ∙ old.padded p low' high';
+        tagged = λ p below.
+            let long = length-swap slots a b in
+            grind (arith, old.tagged p, old.tagged a, old.tagged b, s.2 p, t.2 p, cases_eq p a, cases_eq p b);
+        padded = λ p low high. grind (arith, length-swap slots a b, length-swap tags a b, old.padded p, t.2 p);
       }

@@ -1,9 +1,9 @@
 -- An empty slot in the home's window of a hash: where no tag there is that of the hash no member has it, and one may go there.
-use Rattle.std.proofs.Common.{◌≡◌, ◌≢◌, ℕ, ◌+◌, ◌-◌, ◌<◌, ◌≤◌, List, [], ◌∷◌, length, Option, arith, refl, sym, ◌∙◌, ap, subst, inl, inr}
+use Rattle.std.proofs.Common.{◌≡◌, ◌≢◌, ℕ, ◌+◌, ◌-◌, ◌<◌, ◌≤◌, List, [], ◌∷◌, length, Option, arith, refl, sym, ◌∙◌, ap, subst}
 use Rattle.std.proofs.lemmas.List.Sorted.{length_permutation}
 use Rattle.std.specs.Int.Count.{count_trailing_zeros}
 use Rattle.starlark_table.specs.Table.{holders, holders_in}
-use Rattle.starlark_table.specs.Layout.{home, tag, tag_bits, empty_tag, InPlace, IsFar, IsMask, IsTagged, IsVacancy}
+use Rattle.starlark_table.specs.Layout.{home, tag, tag_bits, empty_tag, InPlace, IsMask, IsTagged, IsVacancy}
 use Rattle.starlark_table.proofs.Circle.{home-below, distance-self}
 use Rattle.starlark_table.proofs.Path.{path_from, listed}
 use Rattle.starlark_table.proofs.Tagged.{empty-by_tag}
@@ -32,17 +32,19 @@ module _ {T : Type 0} (hash : ℕ) (tags : List ℕ) (slots : List (Option (ℕ 
       none_of_none (holders_in hash slots)
       (sym (length_permutation (holders_in hash slots) (holders hash (path_from a slots 0)) (listed hash a slots)) ∙ ap length empty)
 
-  module _ (count mask start : ℕ) (counted : count ≡ length slots) (any : count ≢ 0) (masked : IsMask mask slots) (is : start ≡ home (mask + 1) hash) where
+  -- the home is told by the number that has the hash
+  module _ (count mask start number : ℕ) (counted : count ≡ length slots) (any : count ≢ 0) (masked : IsMask mask slots)
+      (is : start ≡ home (mask + 1) number) (hashes : number ≡ hash) where
     some : 0 < length slots
     some = omega arith
 
     at_home : start ≡ a
-    at_home = is ∙ ap (λ n. home n hash) (masked some)
+    at_home = is ∙ ap (home (mask + 1)) hashes ∙ ap (λ n. home n hash) (masked some)
 
     pub window_at_home : start + 16 ≤ length tags
     window_at_home = omega (arith, at_home, home-below (length slots) hash some, long_tags tags slots tagged.sized some)
 
-    pub vacant_at_home : InPlace (length slots) slots → (sought same empty k : ℕ) → sought ≡ tag hash → same ≡ tag_bits sought tags start 16 → same ≡ 0
+    pub vacant_at_home : InPlace (length slots) slots → (sought same empty k : ℕ) → sought ≡ tag number → same ≡ tag_bits sought tags start 16 → same ≡ 0
         → empty ≡ tag_bits empty_tag tags start 16 → empty ≢ 0 → k ≡ count_trailing_zeros 64 empty
         → (holders_in hash slots ≡ []) × IsVacancy hash slots (start + k)
     vacant_at_home in_place sought same empty k seeks its_same none its_empty free first_is =
@@ -51,11 +53,11 @@ module _ {T : Type 0} (hash : ℕ) (tags : List ℕ) (slots : List (Option (ℕ 
         let within = first.within in
         let in_range : start + k < length slots = not_padding tags slots tagged (start + k) empty_tag (omega arith) first.there (λ e. absurd (omega arith)) in (
           none_at_home some in_place (subst (λ p. p + 16 ≤ length tags) at_home room)
-              (sym none ∙ its_same ∙ ap (λ t. tag_bits t tags start 16) seeks ∙ ap (λ p. tag_bits (tag hash) tags p 16) at_home)
+              (sym none ∙ its_same ∙ ap (λ t. tag_bits t tags start 16) (seeks ∙ ap tag hashes) ∙ ap (λ p. tag_bits (tag hash) tags p 16) at_home)
               (λ zero. free (its_empty ∙ ap (λ p. tag_bits empty_tag tags p 16) at_home ∙ zero)),
           record {
             within = in_range;
             empty = empty-by_tag tags slots (start + k) tagged in_range first.there;
-            near = λ far. elim (subst (λ p. IsFar p (start + k)) (sym at_home) far) [ inl before ↦ omega arith | inr behind ↦ omega arith ];
+            near = λ far. grind (arith, at_home);
           },
         )

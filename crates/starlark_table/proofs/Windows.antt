@@ -1,6 +1,6 @@
 -- Windows of tags along the way of a hash: what a search knows at one, and how it goes on.
 use Rattle.std.proofs.Common.{◌≡◌, ◌≢◌, ℕ, suc, ◌+◌, ◌-◌, ◌/◌, ◌^◌, ◌<◌, ◌≤◌, ◌⊎◌, List, [], length, Option, Some, None, IsSome, arith, get_or, refl, sym, ◌∙◌, ap, inl, inr}
-use Rattle.std.proofs.lemmas.Bool.{cases_lt, cases_order}
+use Rattle.std.proofs.lemmas.Bool.{cases_lt}
 use Rattle.std.proofs.Math.Nat.{pow-suc, div-div-eq-div-mul}
 use Rattle.std.specs.Int.Count.{count_trailing_zeros}
 use Rattle.starlark_table.specs.Table.{holders}
@@ -15,11 +15,7 @@ use Rattle.starlark_table.proofs.TagCount.{long_tags}
 module _ {T : Type 0} (tags : List ℕ) (slots : List (Option (ℕ × T))) (tagged : IsTagged tags slots) where
   -- a tag that is not the padding is that of a slot
   pub not_padding : (q t : ℕ) → q < length tags → get_or tags q 0 ≡ t → t ≢ padding → q < length slots
-  not_padding q t q_in e differ =
-      elim (cases_lt q (length slots)) [
-        | inl below ↦ below
-        | inr above ↦ absurd (differ (sym e ∙ tagged.padded q above q_in))
-      ]
+  not_padding q t q_in e differ = grind arith
 
   -- the way from a slot leads over full slots up to another, and one slot is empty
   module _ (a : ℕ) (a_in : a < length slots) (free : (q : ℕ) × (q < length slots) × (at slots q ≡ None)) where
@@ -27,21 +23,10 @@ module _ {T : Type 0} (tags : List ℕ) (slots : List (Option (ℕ × T))) (tagg
     FullUpTo start = (q : ℕ) → q < length slots → distance (length slots) a q < distance (length slots) a start → IsSome (at slots q)
 
     far : (start : ℕ) → FullUpTo start → distance (length slots) a start ≤ distance (length slots) a free.0
-    far start path =
-        elim (cases_lt (distance (length slots) a free.0) (distance (length slots) a start)) [
-          | inl near ↦ absurd (full_not_empty (at slots free.0) (path free.0 free.1 near) free.2)
-          | inr past ↦ past
-        ]
+    far start path = grind (arith, path free.0)
 
     outside : (start end : ℕ) → ((q : ℕ) → start ≤ q → q < end → IsSome (at slots q)) → (free.0 < start) ⊎ (end ≤ free.0)
-    outside start end full =
-        elim (cases_lt free.0 start) [
-          | inl before ↦ inl before
-          | inr from ↦ elim (cases_lt free.0 end) [
-            | inl within ↦ absurd (full_not_empty (at slots free.0) (full free.0 from within) free.2)
-            | inr after ↦ inr after
-          ]
-        ]
+    outside start end full = grind (arith, full free.0)
 
     -- over full slots the way does not come round to where it began
     pub straight_over : (start q : ℕ) → start < length slots → q < length slots → start ≤ q → FullUpTo start
@@ -63,12 +48,7 @@ module _ {T : Type 0} (tags : List ℕ) (slots : List (Option (ℕ × T))) (tagg
         record {
           in_range = on.0;
           steps = on.1;
-          path = λ q q_in near. elim (cases_lt (distance (length slots) a q) (distance (length slots) a start)) [
-            | inl before ↦ path q q_in before
-            | inr after ↦
-                let within = between (length slots) a start end q a_in start_in some end_in q_in after (omega (arith, on.1)) in
-                full q within.0 within.1
-          ];
+          path = λ q q_in near. grind (arith, on.1, path q, full q, between (length slots) a start end q);
         }
 
     room_at : (start : ℕ) → start < length slots → start + 16 ≤ length tags
@@ -97,11 +77,7 @@ module _ {T : Type 0} (tags : List ℕ) (slots : List (Option (ℕ × T))) (tagg
     near_in_window start bits k start_in its some is far =
         let room = room_at start start_in in
         let first = first-by_bits empty_tag tags start 16 room k (omega arith) (λ none. some (its ∙ none)) (is ∙ ap (count_trailing_zeros 64) its) in
-        let within = first.within in
-        elim far [
-          | inl before ↦ omega arith
-          | inr behind ↦ omega arith
-        ]
+        grind arith
 
     pub free_in_window : (start bits k : ℕ) → start < length slots → FullUpTo start → bits ≡ tag_bits empty_tag tags start 16 → bits ≢ 0
         → k ≡ count_trailing_zeros 64 bits → (start + k < length slots) × (at slots (start + k) ≡ None) × FullUpTo (start + k)
@@ -115,12 +91,7 @@ module _ {T : Type 0} (tags : List ℕ) (slots : List (Option (ℕ × T))) (tagg
         let straight = straight_over start (start + k) start_in in_range (omega arith) path full in (
           in_range,
           empty-by_tag tags slots (start + k) tagged in_range first.there,
-          λ q q_in near. elim (cases_lt (distance (length slots) a q) (distance (length slots) a start)) [
-            | inl before ↦ path q q_in before
-            | inr after ↦
-                let within' = between (length slots) a start (start + k) q a_in start_in (omega arith) (omega arith) q_in after (omega arith) in
-                full q within'.0 within'.1
-          ],
+          λ q q_in near. grind (arith, path q, full q, between (length slots) a start (start + k) q),
         )
 
 module _ {T : Type 0} where
@@ -249,10 +220,7 @@ module _ {T : Type 0} (hash : ℕ) (tags : List ℕ) (slots : List (Option (ℕ 
       let to = w.to in
       let e_in : e < length slots = not_padding tags slots tagged e empty_tag (omega arith) empty (λ s. absurd (omega arith)) in
       let none : at slots e ≡ None = empty-by_tag tags slots e tagged e_in empty in
-      let e_to : e ≤ w.end = elim (cases_lt w.end e) [
-        | inl less ↦ absurd (first w.end (omega arith) less (w.stop (omega arith)))
-        | inr within ↦ within
-      ] in
+      let e_to : e ≤ w.end = grind (arith, first w.end, w.stop) in
       let e_way = w.straight e low e_to e_in in
       path-over hash (home (length slots) hash) (way hash slots start + (slot - start)) slots home_in
       (λ q x q_in behind here.
@@ -260,19 +228,9 @@ module _ {T : Type 0} (hash : ℕ) (tags : List ℕ) (slots : List (Option (ℕ 
         | inl past ↦ elim w.first [
           | inl at_home ↦
               let a = home (length slots) hash in
-              let zero = distance-self (length slots) a in
-              let begins : way hash slots start ≡ 0 = ap (way hash slots) at_home.0 ∙ zero in
               let far : IsFar a q → ⊥ = λ far. full_not_empty (at slots e) (in_place.reached q e hash x here far e_in past) none in
-              elim (cases_lt q a) [
-                | inl round ↦ far (inl round)
-                | inr ahead ↦
-                    let straight : way hash slots q ≡ q - a = distance-ahead (length slots) a q ahead in
-                    elim (cases_lt q (a + 16)) [
-                      | inl near ↦ none_left start slot w q x (omega (arith, behind, straight, begins, at_home.0, from)) (omega (arith, near, at_home.0, at_home.1)) here
-                      | inr beyond ↦ far (inr beyond)
-                    ]
-              ]
-          | inr far ↦ full_not_empty (at slots e) (in_place.reached q e hash x here (far q q_in (omega (arith, e_way, past))) e_in past) none
+              grind (arith, far, distance-self (length slots) a, distance-ahead (length slots) a q, none_left start slot w q x)
+          | inr far ↦ grind (arith, far q, in_place.reached q e hash x here)
         ]
         | inr not_past ↦
             let j : ℕ = start + (way hash slots q - way hash slots start) in
@@ -280,13 +238,7 @@ module _ {T : Type 0} (hash : ℕ) (tags : List ℕ) (slots : List (Option (ℕ 
             let j_in : j < length slots = omega arith in
             let j_way = w.straight j (omega arith) (omega arith) j_in in
             let same : q ≡ j = distance-same (length slots) (home (length slots) hash) q j home_in q_in j_in (omega arith) in
-            elim (cases_order q e) [
-              | inl at_e ↦ absurd (cc (ap (at slots) at_e, none, here))
-              | inr order ↦ elim order [
-                | inl below ↦ none_left start slot w q x (omega arith) (omega arith) here
-                | inr above ↦ absurd (omega arith)
-              ]
-            ]
+            grind (arith, none_left start slot w q x)
       ])
 
   -- the search at the next window
@@ -308,10 +260,7 @@ module _ {T : Type 0} (hash : ℕ) (tags : List ℕ) (slots : List (Option (ℕ 
         let full_at : (q : ℕ) → start ≤ q → q < end → IsSome (at slots q) = λ q low high. full-by_tag tags slots q tagged (omega arith) (full q low (omega arith)) in
         let p = passed tags slots tagged a home_in free start next end w.start_in more end_in w.path full_at which in
         let from = w.from in
-        let whole : w.end ≡ start + 16 = elim (cases_lt w.end (start + 16)) [
-          | inl less ↦ absurd (full w.end (let to = w.to in omega arith) less (w.stop less))
-          | inr all ↦ let short = w.short in omega arith
-        ] in
+        let whole : w.end ≡ start + 16 = grind (arith, full w.end, w.stop) in
         let way_next = p.steps in
         let next_in = p.in_range in
         record {
@@ -329,11 +278,7 @@ module _ {T : Type 0} (hash : ℕ) (tags : List ℕ) (slots : List (Option (ℕ 
                 straight_over tags slots tagged a home_in free next q p.in_range q_in low p.path
                 (λ r from' below. full-by_tag tags slots r tagged (omega arith) (b.full r from' (omega arith)));
             first = inr (λ q q_in late. elim w.first [
-              | inl at_home ↦
-                  let begins : way hash slots start ≡ 0 = ap (way hash slots) at_home.0 ∙ distance-self (length slots) a in
-                  far_on (length slots) a end q home_in q_in
-                  (elim ends [ inl last ↦ inl last | inr whole' ↦ inr (omega (arith, whole', at_home.0)) ])
-                  (omega (arith, way_next, begins, at_home.0, late))
+              | inl at_home ↦ grind (arith, distance-self (length slots) a, far_on (length slots) a end q home_in)
               | inr far ↦ far q q_in (omega (arith, way_next, late))
             ]);
           };

@@ -1,5 +1,4 @@
-use Rattle.std.proofs.Common.{◌<◌, length, refl, inl, inr, arith, subst}
-use Rattle.std.proofs.lemmas.Bool.{cases_lt}
+use Rattle.std.proofs.Common.{◌<◌, length, refl, arith, subst}
 use Rattle.starlark_table.proofs.Filling.{filled-past_range, more_left}
 use Rattle.starlark_table.proofs.FullBits.{tagged_from-start, tagged_from-later, window_opens, window_done}
 use Rattle.starlark_table.proofs.TagCount.{long_tags}
@@ -39,10 +38,8 @@ windows-preserved g c =
     let made = c.full_slots-full.ensures in
     let tagged = tagged_from-later 0 start c.args.tags.now slots slots (tagged_from-start c.args.tags.now slots c.requires.tagged) (omega arith) refl (λ p behind. refl) in
     let left = window_opens c.args.tags.now slots start end full tagged made.some made.short made.within made.bits in
+    let done = window_done slots start end start full left c.if-full-ne0.false in
     record {
       ahead = omega (arith, c.windows.invariant.ahead, made.some);
-      passed = λ p low high. elim (cases_lt p start) [
-        | inl before ↦ c.windows.invariant.passed p low before
-        | inr behind ↦ window_done slots start end start full left c.if-full-ne0.false p behind high
-      ];
+      passed = λ p low high. grind (arith, c.windows.invariant.passed p, done p);
     }

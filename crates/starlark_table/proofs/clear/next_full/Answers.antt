@@ -1,9 +1,6 @@
-use Rattle.std.proofs.Common.{◌+◌, refl, inl, inr, arith}
-use Rattle.std.proofs.lemmas.Bool.{cases_lt}
+use Rattle.std.proofs.Common.{refl, arith, ap, is_some}
 use Rattle.std.specs.Int.Count.{count_trailing_zeros}
 use Rattle.starlark_table.proofs.FullBits.{tagged_from-start, tagged_from-later, window_opens, window_next, window_done}
-use Rattle.starlark_table.specs.Layout.{at}
-use Rattle.starlark_table.proofs.Closing.{full-some}
 use Rattle.starlark_table.proofs.clear.next_full.Goals as goal
 
 pub returns-then-full-ne0-clause-full : goal.returns-then-full-ne0-clause-full
@@ -16,7 +13,7 @@ returns-then-full-ne0-clause-full g c =
     let tagged = tagged_from-later 0 start c.args.tags.now slots slots (tagged_from-start c.args.tags.now slots c.requires) (omega arith) refl (λ p behind. refl) in
     let left = window_opens c.args.tags.now slots start end full tagged made.some made.short made.within made.bits in
     let first = window_next slots start end start full (count_trailing_zeros 64 full) left c.if-full-ne0.true refl in
-    (omega (arith, c.windows.invariant.ahead), full-some (at slots (start + count_trailing_zeros 64 full)) first.member first.here)
+    (omega (arith, c.windows.invariant.ahead), ap is_some first.here)
 
 pub returns-then-full-ne0-clause-passed : goal.returns-then-full-ne0-clause-passed
 returns-then-full-ne0-clause-passed g c = λ p low high.
@@ -28,10 +25,7 @@ returns-then-full-ne0-clause-passed g c = λ p low high.
     let tagged = tagged_from-later 0 start c.args.tags.now slots slots (tagged_from-start c.args.tags.now slots c.requires) (omega arith) refl (λ p behind. refl) in
     let left = window_opens c.args.tags.now slots start end full tagged made.some made.short made.within made.bits in
     let first = window_next slots start end start full (count_trailing_zeros 64 full) left c.if-full-ne0.true refl in
-    elim (cases_lt p start) [
-      | inl before ↦ c.windows.invariant.passed p low before
-      | inr behind ↦ first.passed p behind high
-    ]
+    grind (arith, c.windows.invariant.passed p, first.passed p)
 
 pub windows-preserved : goal.windows-preserved
 windows-preserved g c =
@@ -42,10 +36,8 @@ windows-preserved g c =
     let made = c.full_slots-full.ensures in
     let tagged = tagged_from-later 0 start c.args.tags.now slots slots (tagged_from-start c.args.tags.now slots c.requires) (omega arith) refl (λ p behind. refl) in
     let left = window_opens c.args.tags.now slots start end full tagged made.some made.short made.within made.bits in
+    let done = window_done slots start end start full left c.if-full-ne0.false in
     record {
       ahead = omega (arith, c.windows.invariant.ahead, made.some);
-      passed = λ p low high. elim (cases_lt p start) [
-        | inl before ↦ c.windows.invariant.passed p low before
-        | inr behind ↦ window_done slots start end start full left c.if-full-ne0.false p behind high
-      ];
+      passed = λ p low high. grind (arith, c.windows.invariant.passed p, done p);
     }

@@ -1,5 +1,4 @@
-use Rattle.std.proofs.Common.{◌++◌, length, arith, refl, ◌∙◌, ap, subst, IsPermutation, length-append, inl, inr}
-use Rattle.std.proofs.lemmas.Bool.{cases_lt}
+use Rattle.std.proofs.Common.{◌++◌, length, arith, refl, ◌∙◌, ap, subst, IsPermutation, length-append}
 use Rattle.std.proofs.lemmas.List.Sorted.{length_permutation, IsPermutation-refl, IsPermutation-trans}
 use Rattle.starlark_table.specs.Table.{filled}
 use Rattle.starlark_table.proofs.Filling.{all_empty}
@@ -44,10 +43,7 @@ windows-preserved g c =
       told = moved.told;
       old_sized = moved.from_sized ∙ k.old_sized;
       old_tagged = tagged_from-later start next c.args.old_tags old left k.old_tagged (omega arith) moved.from_sized moved.after;
-      emptied = λ p below. elim (cases_lt p start) [
-        | inl earlier ↦ moved.before p earlier ∙ k.emptied p earlier
-        | inr here ↦ moved.emptied p here below
-      ];
+      emptied = λ p below. grind (arith, moved.before p, k.emptied p, moved.emptied p);
       bag = IsPermutation-trans (filled c.args.old ++ filled c.args.slots.now) (filled old ++ filled c.windows.slots)
           (filled left ++ filled c.move_window-start.new.slots) k.bag moved.bag;
     }

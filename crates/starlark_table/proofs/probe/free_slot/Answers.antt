@@ -1,10 +1,7 @@
-use Rattle.std.proofs.Common.{ℕ, ◌-◌, ◌<◌, length, arith, refl, sym, ◌∙◌}
+use Rattle.std.proofs.Common.{◌-◌, length, arith, refl, sym, ◌∙◌}
 use Rattle.starlark_table.proofs.Circle.{distance-self, distance-below}
 use Rattle.starlark_table.proofs.Windows.{passes_window, free_in_window}
 use Rattle.starlark_table.proofs.probe.free_slot.Goals as goal
-
-fewer : (m x y : ℕ) → x < y → y < m → m - y < m - x
-fewer m x y less below = omega arith
 
 pub windows-init : goal.windows-init
 windows-init g c =
@@ -16,7 +13,7 @@ windows-smaller g c =
     let k = c.windows.invariant in
     let p = passes_window c.args.tags.now c.args.slots.now c.requires.tagged c.args.home c.requires.home c.requires.free (c.cells-mask.result - 1) c.windows.start c.window_after-start.result
     (omega (arith, c.requires.home, c.cells-mask.ensures.cells)) k.in_range k.path (sym c.windows-test.true ∙ k.its) c.window_after-start.ensures.on c.window_after-start.ensures.round in
-    fewer (length c.args.slots.now) _ _ p.2 (distance-below (length c.args.slots.now) c.args.home c.window_after-start.result c.requires.home p.0)
+    omega (arith, p.2, distance-below (length c.args.slots.now) c.args.home c.window_after-start.result c.requires.home p.0)
 
 pub windows-preserved : goal.windows-preserved
 windows-preserved g c =

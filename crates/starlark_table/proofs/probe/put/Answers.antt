@@ -1,6 +1,6 @@
 use Rattle.std.proofs.Common.{ℕ, ◌≡◌, ◌+◌, ◌-◌, ◌<◌, length, arith, sym, ap, ◌∙◌, subst}
 use Rattle.starlark_table.specs.Layout.{home, TellsFar}
-use Rattle.starlark_table.proofs.Circle.{home-below, some_below}
+use Rattle.starlark_table.proofs.Circle.{home-below}
 use Rattle.starlark_table.proofs.Near.{told-put}
 use Rattle.starlark_table.proofs.probe.put.Goals as goal
 
@@ -12,7 +12,7 @@ within n k start number some counted is =
 pub slot_from-slot-requires-clause-home : goal.slot_from-slot-requires-clause-home
 slot_from-slot-requires-clause-home g c =
     let q = c.requires.free in
-    within (length c.args.slots.now) c.cells.result c.home.result c.number-number.result (some_below q.0 _ q.1) c.cells.ensures.cells c.home.ensures
+    within (length c.args.slots.now) c.cells.result c.home.result c.number-number.result (omega (arith, q.1)) c.cells.ensures.cells c.home.ensures
 
 pub returns-clause-told : goal.returns-clause-told
 returns-clause-told g c =

@@ -1,18 +1,18 @@
 use Rattle.std.proofs.Common.{◌≡◌, ◌<◌, length, arith, subst, subst₂}
 use Rattle.std.proofs.lemmas.Bool.Decides.{nat_tests}
 use Rattle.starlark_table.specs.Layout.{distance, home, IsFar}
-use Rattle.starlark_table.proofs.Circle.{home-below, some_below}
+use Rattle.starlark_table.proofs.Circle.{home-below}
 use Rattle.starlark_table.proofs.remove.crosses.Goals as goal
 
 pub distance-requires-clause-from : goal.distance-requires-clause-from
 distance-requires-clause-from g c =
     let counted = c.cells-count.ensures.cells in
-    rw c.home_among-home.ensures (home-below _ c.get.result.now.0 (some_below c.args.hole _ (rw counted c.requires.hole)))
+    rw c.home_among-home.ensures (home-below _ c.get.result.now.0 (omega (arith, counted, c.requires.hole)))
 
 pub distance-requires-then-is_far-clause-from : goal.distance-requires-then-is_far-clause-from
 distance-requires-then-is_far-clause-from g c =
     let counted = c.cells-count.ensures.cells in
-    rw c.home_among-home.ensures (home-below _ c.get.result.now.0 (some_below c.args.hole _ (rw counted c.requires.hole)))
+    rw c.home_among-home.ensures (home-below _ c.get.result.now.0 (omega (arith, counted, c.requires.hole)))
 
 pub returns-then-is_far-clause-yes : goal.returns-then-is_far-clause-yes
 returns-then-is_far-clause-yes g c =

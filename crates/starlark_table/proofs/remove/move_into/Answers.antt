@@ -2,9 +2,8 @@ use Rattle.std.proofs.Common.{Some, sym, ◌∙◌, ap, subst, subst₂}
 use Rattle.std.proofs.Math.ListN.{set}
 use Rattle.starlark_table.specs.Follow.{CanMove}
 use Rattle.starlark_table.specs.Layout.{IsTagged}
-use Rattle.starlark_table.proofs.Closing.{full_in_range}
+use Rattle.starlark_table.proofs.Closing.{full_in_range, taken_and_written}
 use Rattle.starlark_table.proofs.Tagged.{tagged-swapped}
-use Rattle.starlark_table.proofs.Filling.{taken_and_written}
 use Rattle.starlark_table.proofs.remove.move_into.Goals as goal
 
 pub moved-requires : goal.moved-requires

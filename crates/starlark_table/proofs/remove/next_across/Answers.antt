@@ -1,5 +1,5 @@
-use Rattle.std.proofs.Common.{◌+◌, ◌==◌, if◌then◌else◌, length, refl, ◌∙◌, ap}
-use Rattle.starlark_table.proofs.Circle.{distance-below, less-left}
+use Rattle.std.proofs.Common.{◌+◌, ◌==◌, if◌then◌else◌, length, refl, ◌∙◌, ap, arith}
+use Rattle.starlark_table.proofs.Circle.{distance-below}
 use Rattle.starlark_table.proofs.Closing.{passed-begins, passed-next, passed-all}
 use Rattle.starlark_table.proofs.Tagged.{empty-by_tag, full-by_tag}
 use Rattle.starlark_table.proofs.Filling.{filled-by_tag}
@@ -27,7 +27,7 @@ loop-next-smaller g c =
     let some = full-by_tag c.args.tags.now slots c.loop-next.next c.requires.tagged k.next_in c.loop-next-test.true in
     let on = c.next_slot-next-in-loop-next.ensures ∙ ap (λ m. if c.loop-next.next + 1 == m then 0 else c.loop-next.next + 1) c.cells-count.ensures.cells in
     let step = passed-next (length slots) c.args.hole slots refl c.requires.hole c.requires.empty c.loop-next.next c.next_slot-next-in-loop-next.result k some (c.crosses-in-loop-next.ensures.no c.if-crosses-2.false) on in
-    less-left (length slots) _ _ (distance-below (length slots) c.args.hole c.loop-next.next c.requires.hole k.next_in) step.0
+    omega (arith, step.0, distance-below (length slots) c.args.hole c.loop-next.next c.requires.hole k.next_in)
 
 pub loop-next-preserved : goal.loop-next-preserved
 loop-next-preserved g c =

@@ -1,49 +1,45 @@
-use Rattle.std.proofs.Common.{◌≡◌, ◌≢◌, ℕ, ◌<◌, true, false, length, None, refl, sym, ◌∙◌, ap, subst, subst₂, IsPermutation, arith}
+use Rattle.std.proofs.Common.{◌≡◌, true, false, length, None, refl, sym, ◌∙◌, ap, subst₂, IsPermutation, arith}
 use Rattle.std.proofs.Math.ListN.{set, length-set}
 use Rattle.starlark_table.specs.Table.{filled}
-use Rattle.starlark_table.specs.Layout.{at, HasGap, InPlace, IsNear, IsTagged}
+use Rattle.starlark_table.specs.Layout.{at, InPlace, IsTagged}
 use Rattle.std.proofs.lemmas.List.Sorted.{IsPermutation-refl}
-use Rattle.starlark_table.proofs.FullBits.{some_there}
 use Rattle.starlark_table.proofs.Tagged.{tag-below, tag-member, tagged-changed}
 use Rattle.starlark_table.proofs.remove.take_out.Goals.{then-passed, else-passed}
 use Rattle.starlark_table.proofs.Closing.{full_in_range, gap_left}
 use Rattle.starlark_table.proofs.Near.{in_place-near, near-taken}
 use Rattle.starlark_table.proofs.Passing.{in_place-not_passed}
-use Rattle.starlark_table.proofs.Filling.{filled-by_some, some-by_test}
+use Rattle.starlark_table.proofs.Filling.{filled-by_some}
 use Rattle.starlark_table.proofs.Load.{another_empty_slot, bag-taken_out}
 use Rattle.starlark_table.proofs.remove.take_out.Goals as goal
 
 pub take-member-requires : goal.take-member-requires
 take-member-requires g c =
-    let o = at c.args.slots.now c.args.slot in
-    filled-by_some o (some-by_test o (sym c.is_full.ensures ∙ c.if-not-is_full.false))
+    filled-by_some (at c.args.slots.now c.args.slot) (sym c.is_full.ensures ∙ c.if-not-is_full.false)
 
 pub close_gap-requires-clause-gap : goal.close_gap-requires-clause-gap
 close_gap-requires-clause-gap g c =
     let slot_in = full_in_range c.args.slots.now c.args.slot c.take-member.result c.take-member.ensures.value in
-    let gap = gap_left (length c.args.slots.now) c.args.slots.now c.args.slot refl slot_in c.requires.in_place in
-    subst (λ l. HasGap (length l) l c.args.slot) (sym c.take-member.ensures.cells)
-    (subst (λ m. HasGap m (set c.args.slots.now c.args.slot None) c.args.slot) (sym (length-set c.args.slots.now c.args.slot None)) gap)
+    rw (c.take-member.ensures.cells, length-set)
+    (gap_left (length c.args.slots.now) c.args.slots.now c.args.slot refl slot_in c.requires.in_place)
 
 pub close_gap-requires-clause-free : goal.close_gap-requires-clause-free
 close_gap-requires-clause-free g c =
     let slot_in = full_in_range c.args.slots.now c.args.slot c.take-member.result c.take-member.ensures.value in
-    subst (λ l. (q : ℕ) × (q < length l) × (q ≢ c.args.slot) × (at l q ≡ None)) (sym c.take-member.ensures.cells)
+    rw c.take-member.ensures.cells
     (another_empty_slot c.args.slots.now c.args.slot c.take-member.result slot_in c.requires.load c.take-member.ensures.value)
 
 pub leaves_gap-passed-requires-clause-full : goal.leaves_gap-passed-requires-clause-full
 leaves_gap-passed-requires-clause-full g c =
     let slots = c.args.slots.now in
-    let it = some_there (at slots c.args.slot) (sym c.if-not-is_full.ensures) in
+    let it = filled-by_some (at slots c.args.slot) (sym c.if-not-is_full.ensures) in
     λ e. omega (arith, tag-below it.0.0, tag-member c.args.tags.now slots c.args.slot it.0.0 it.0.1 c.requires.tagged it.1, e)
 
 pub returns-clause-rest : goal.returns-clause-rest
 returns-clause-rest g c =
     let old = c.args.slots.now in
     let left : IsPermutation (filled (set old c.args.slot None)) (filled c.if-passed.slots) = elim c.if-passed.branch [
-      | then-passed w ↦ subst (λ l. IsPermutation (filled (set old c.args.slot None)) (filled l)) (sym w.slots-is)
-          (subst (λ l. IsPermutation (filled l) (filled w.close_gap.new.slots)) c.take-member.ensures.cells w.close_gap.ensures.bag)
-      | else-passed w ↦ subst (λ l. IsPermutation (filled (set old c.args.slot None)) (filled l)) (sym (w.slots-is ∙ c.take-member.ensures.cells)) (IsPermutation-refl (filled (set old c.args.slot None)))
+      | then-passed w ↦ rw (w.slots-is, ← c.take-member.ensures.cells) w.close_gap.ensures.bag
+      | else-passed w ↦ rw (w.slots-is, c.take-member.ensures.cells) (IsPermutation-refl (filled (set old c.args.slot None)))
     ] in
     bag-taken_out old c.if-passed.slots c.args.slot c.take-member.result c.take-member.ensures.value left
 
@@ -59,16 +55,15 @@ pub returns-clause-in_place : goal.returns-clause-in_place
 returns-clause-in_place g c =
     let old = c.args.slots.now in
     elim c.if-passed.branch [
-      | then-passed w ↦ subst (λ l. InPlace (length l) l) (sym w.slots-is) w.close_gap.ensures.in_place
+      | then-passed w ↦ rw w.slots-is w.close_gap.ensures.in_place
       | else-passed w ↦
           let slot_in = full_in_range old c.args.slot c.take-member.result c.take-member.ensures.value in
           let kept : InPlace (length old) (set old c.args.slot None) = elim (c.args.far) as (λ b. c.args.far ≡ b → InPlace (length old) (set old c.args.slot None)) [
             | true ↦ λ far. in_place-not_passed c.args.tags.now old c.args.slot c.requires.tagged slot_in (c.leaves_gap-passed.ensures.passed w.if-passed.false far) c.requires.in_place
             | false ↦ λ far. in_place-near (length old) (set old c.args.slot None)
-                (subst (λ n. IsNear n (set old c.args.slot None)) (length-set old c.args.slot None) (near-taken old c.args.slot slot_in (c.requires.told far)))
+                (rw length-set at (near-taken old c.args.slot slot_in (c.requires.told far)))
           ] refl in
-          subst (λ l. InPlace (length l) l) (sym (w.slots-is ∙ c.take-member.ensures.cells))
-          (subst (λ n. InPlace n (set old c.args.slot None)) (sym (length-set old c.args.slot None)) kept)
+          rw (w.slots-is, c.take-member.ensures.cells, length-set) kept
     ]
 
 pub returns-clause-told : goal.returns-clause-told
@@ -78,7 +73,7 @@ returns-clause-told g c =
       | then-passed w ↦ absurd (let yes = c.leaves_gap-passed.ensures.near w.if-passed.true in cc)
       | else-passed w ↦
           let slot_in = full_in_range old c.args.slot c.take-member.result c.take-member.ensures.value in
-          subst (λ l. IsNear (length l) l) (sym (w.slots-is ∙ c.take-member.ensures.cells)) (near-taken old c.args.slot slot_in (c.requires.told far))
+          rw (w.slots-is, c.take-member.ensures.cells) (near-taken old c.args.slot slot_in (c.requires.told far))
     ]
 
 pub returns-clause-tagged : goal.returns-clause-tagged

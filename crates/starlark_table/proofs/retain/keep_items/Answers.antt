@@ -1,4 +1,4 @@
-use Rattle.std.proofs.Common.{◌≡◌, ◌≤◌, ◌<◌, ◌+◌, ℕ, Bool, true, false, cond, drop, None, Some, arith, ◌∙◌, subst, length}
+use Rattle.std.proofs.Common.{◌≤◌, ◌<◌, ◌+◌, ℕ, Bool, true, false, cond, drop, None, Some, arith, ◌∙◌, subst, length}
 use Rattle.std.proofs.lemmas.List.{get_or-set_same}
 use Rattle.starlark_table.specs.Table.{items_in}
 use Rattle.starlark_table.specs.Walk.{CanRetain}
@@ -12,19 +12,17 @@ one_at_most : (b : Bool) (kept i : ℕ) → kept ≤ i → kept + cond b 1 0 ≤
 one_at_most true kept i few = omega arith
 one_at_most false kept i few = omega arith
 
-within : (i n m k : ℕ) → i < n → n ≡ m → k ≡ m → i < k
-within i n m k below e f = omega (arith, below, e, f)
-
 pub get_mut-requires : goal.get_mut-requires
 get_mut-requires g c =
     let k = c.loop-slot.invariant in
     filled-by_tag c.loop-slot.tags c.loop-slot.slots c.loop-slot.slot k.tagged
-    (within _ _ _ _ c.loop-slot-test.true c.cells-slot-end.ensures.cells k.stand.sized) c.if-tags-slot.true
+    (omega (arith, c.loop-slot-test.true, c.cells-slot-end.ensures.cells, k.stand.sized)) c.if-tags-slot.true
 
 pub ask-requires : goal.ask-requires
 ask-requires g c =
     let k = c.loop-slot.invariant in
-    let below = within _ _ _ _ c.loop-slot-test.true c.cells-slot-end.ensures.cells k.stand.sized in
+    let below : c.loop-slot.slot < length c.loop-slot.slots =
+    omega (arith, c.loop-slot-test.true, c.cells-slot-end.ensures.cells, k.stand.sized) in
     takes-slot_here g.F.FnMut (Some c.get_mut.result.now) (drop (c.loop-slot.slot + 1) c.args.slots.now) c.loop-slot.f
     (subst (λ l. CanRetain g.F.FnMut (items_in l) c.loop-slot.f)
     (head_left c.args.slots.now c.loop-slot.slots c.loop-slot.slot None (Some c.get_mut.result.now) below k.untouched c.get_mut.ensures.value) k.callable)
@@ -32,13 +30,15 @@ ask-requires g c =
 pub take-member-requires : goal.take-member-requires
 take-member-requires g c =
     let k = c.loop-slot.invariant in
-    let below = within _ _ _ _ c.loop-slot-test.true c.cells-slot-end.ensures.cells k.stand.sized in
+    let below : c.loop-slot.slot < length c.loop-slot.slots =
+    omega (arith, c.loop-slot-test.true, c.cells-slot-end.ensures.cells, k.stand.sized) in
     (c.ask.new.member, get_or-set_same c.loop-slot.slots c.loop-slot.slot (Some c.ask.new.member) None below)
 
 pub loop-slot-preserved : goal.loop-slot-preserved
 loop-slot-preserved g c =
     let k = c.loop-slot.invariant in
-    let below = within _ _ _ _ c.loop-slot-test.true c.cells-slot-end.ensures.cells k.stand.sized in
+    let below : c.loop-slot.slot < length c.loop-slot.slots =
+    omega (arith, c.loop-slot-test.true, c.cells-slot-end.ensures.cells, k.stand.sized) in
     let i = c.loop-slot.slot in
     let cur = c.loop-slot.slots in
     let turn : Turn g.F.FnMut cur c.if-tags-slot.slots c.if-tags-slot.tags i c.loop-slot.kept c.if-tags-slot.kept c.loop-slot.f c.if-tags-slot.f =

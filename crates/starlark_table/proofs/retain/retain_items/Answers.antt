@@ -1,15 +1,12 @@
-use Rattle.std.proofs.Common.{ℕ, ◌≡◌, ◌<◌, length, arith, refl, sym, ◌∙◌}
+use Rattle.std.proofs.Common.{length, arith, refl, sym, ◌∙◌}
 use Rattle.std.proofs.lemmas.List.Sorted.{length_permutation}
-use Rattle.starlark_table.proofs.Load.{empty_slot, load-below_slots}
+use Rattle.starlark_table.proofs.Load.{empty_slot}
 use Rattle.starlark_table.proofs.Settling.{reaches_before}
 use Rattle.starlark_table.proofs.retain.retain_items.Goals as goal
 
-not_empty : (n m : ℕ) → n ≡ m → (n ≡ 0 → ⊥) → 0 < m
-not_empty n m e some = omega (arith, e, some)
-
 pub free_slot-start-requires-clause-free : goal.free_slot-start-requires-clause-free
 free_slot-start-requires-clause-free g c =
-    empty_slot c.args.slots.now (load-below_slots _ _ c.requires.load (not_empty _ _ c.cells.ensures.cells c.if-cells-eq0.false))
+    empty_slot c.args.slots.now (omega (arith, c.requires.load, c.cells.ensures.cells, c.if-cells-eq0.false))
 
 pub settle-requires-clause-reaches : goal.settle-requires-clause-reaches
 settle-requires-clause-reaches g c =

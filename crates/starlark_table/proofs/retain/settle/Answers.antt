@@ -1,13 +1,14 @@
-use Rattle.std.proofs.Common.{ℕ, ◌≡◌, ◌<◌, ◌≤◌, ◌+◌, IsSome, Some, length, arith, sym, ap, ◌∙◌, subst, if◌then◌else◌, ◌==◌}
+use Rattle.std.proofs.Common.{ℕ, ◌≡◌, ◌<◌, ◌+◌, Some, length, arith, sym, ap, ◌∙◌, subst, if◌then◌else◌, ◌==◌}
+use Rattle.starlark_table.proofs.Closing.{taken_and_written}
 use Rattle.std.specs.List.{swap}
 use Rattle.std.proofs.Math.ListN.{set}
 use Rattle.std.proofs.lemmas.List.Sorted.{IsPermutation-refl, IsPermutation-trans}
-use Rattle.starlark_table.specs.Layout.{distance, home, at, InPlace, IsFar, ReachesBefore, IsTagged}
-use Rattle.starlark_table.proofs.Circle.{distance-self, next-step, home-below, some_below}
+use Rattle.starlark_table.specs.Layout.{distance, InPlace, ReachesBefore, IsTagged}
+use Rattle.starlark_table.proofs.Circle.{distance-self, next-step, home-below}
 use Rattle.starlark_table.proofs.Settling.{Steps, settled_first, settled_all, steps_on, steps_over}
 use Rattle.starlark_table.proofs.Tagged.{tagged-swapped, empty-by_tag}
 use Rattle.starlark_table.proofs.Filling.{filled-by_tag}
-use Rattle.starlark_table.proofs.Emptying.{moved_is_swapped, swapped_with_itself, empty_slot}
+use Rattle.starlark_table.proofs.Emptying.{swapped_with_itself, empty_slot}
 use Rattle.starlark_table.proofs.retain.settle.Goals as goal
 use Rattle.starlark_table.proofs.retain.settle.Goals.{then-tags-slot+then-to-slot, then-tags-slot+else-to-slot, else-tags-slot}
 
@@ -42,7 +43,7 @@ pub moves_to-to-requires-clause-home : goal.moves_to-to-requires-clause-home
 moves_to-to-requires-clause-home g c =
     let k = c.loop-step.invariant in
     let placed = k.placed c.loop-step-test.true in
-    rw (c.home_among-home.ensures, k.sized) (home-below _ c.get.result.now.0 (some_below _ _ placed.0))
+    rw (c.home_among-home.ensures, k.sized) (home-below _ c.get.result.now.0 (omega (arith, placed.0)))
 
 pub loop-step-preserved : goal.loop-step-preserved
 loop-step-preserved g c =
@@ -60,35 +61,27 @@ loop-step-preserved g c =
           let there = empty_slot cur to slot w.if-to-slot.true free.empty in
           let is : c.if-tags-slot.slots ≡ swap cur to slot =
           w.slots-is ∙ w.write.ensures ∙ ap (λ l. set l to (Some w.take-member.result)) w.take-member.ensures.cells
-          ∙ moved_is_swapped cur to slot w.take-member.result free.within slot_in w.if-to-slot.true there w.take-member.ensures.value in (
-            steps_on m c.args.start cur c.if-tags-slot.slots to slot c.loop-step.step member.0 member.1
-                k.start_in k.sized (subst (λ n. to < n) k.sized free.within) placed.0 placed.1 w.get.ensures k.reaches k.settled
-                (subst (λ n. distance n (home m member.0) to ≤ distance n (home m member.0) slot) k.sized
-                (subst (λ a. distance (length cur) a to ≤ distance (length cur) a slot) w.home_among-home.ensures free.near))
-                (subst (λ n. IsFar (home m member.0) slot → (q : ℕ) → q < n → distance n (home m member.0) q < distance n (home m member.0) to → IsSome (at cur q)) k.sized
-                (subst (λ a. IsFar a slot → (q : ℕ) → q < length cur → distance (length cur) a q < distance (length cur) a to → IsSome (at cur q)) w.home_among-home.ensures free.path))
+          ∙ taken_and_written cur to slot w.take-member.result free.within slot_in there w.take-member.ensures.value in (
+            steps_on m c.args.start k.start_in cur c.if-tags-slot.slots to slot c.loop-step.step member.0 member.1
+                k.sized (rw k.sized at free.within) placed.0 placed.1 w.get.ensures k.reaches k.settled
+                (rw (w.home_among-home.ensures, k.sized) at free.near) (rw (w.home_among-home.ensures, k.sized) at free.path)
                 free.empty is,
-            subst (λ l. IsTagged c.if-tags-slot.tags l) (sym is)
-                (subst (λ l. IsTagged l (swap cur to slot)) (sym (w.tags-is ∙ w.swap.ensures.after))
-                (tagged-swapped c.loop-step.tags cur to slot free.within slot_in k.tagged)),
+            rw (is, w.tags-is, w.swap.ensures.after) (tagged-swapped c.loop-step.tags cur to slot free.within slot_in k.tagged),
           )
       | then-tags-slot+else-to-slot w ↦
           let free = w.moves_to-to.ensures in
           let to = w.moves_to-to.result in
           let member = w.get.result.now in (
-            steps_on m c.args.start cur c.if-tags-slot.slots to slot c.loop-step.step member.0 member.1
-                k.start_in k.sized (subst (λ n. to < n) k.sized free.within) placed.0 placed.1 w.get.ensures k.reaches k.settled
-                (subst (λ n. distance n (home m member.0) to ≤ distance n (home m member.0) slot) k.sized
-                (subst (λ a. distance (length cur) a to ≤ distance (length cur) a slot) w.home_among-home.ensures free.near))
-                (subst (λ n. IsFar (home m member.0) slot → (q : ℕ) → q < n → distance n (home m member.0) q < distance n (home m member.0) to → IsSome (at cur q)) k.sized
-                (subst (λ a. IsFar a slot → (q : ℕ) → q < length cur → distance (length cur) a q < distance (length cur) a to → IsSome (at cur q)) w.home_among-home.ensures free.path))
+            steps_on m c.args.start k.start_in cur c.if-tags-slot.slots to slot c.loop-step.step member.0 member.1
+                k.sized (rw k.sized at free.within) placed.0 placed.1 w.get.ensures k.reaches k.settled
+                (rw (w.home_among-home.ensures, k.sized) at free.near) (rw (w.home_among-home.ensures, k.sized) at free.path)
                 free.empty (w.slots-is ∙ sym (swapped_with_itself cur to slot slot_in w.if-to-slot.false)),
-            subst (λ l. IsTagged c.if-tags-slot.tags l) (sym w.slots-is) (subst (λ l. IsTagged l cur) (sym w.tags-is) k.tagged),
+            rw (w.slots-is, w.tags-is) k.tagged,
           )
       | else-tags-slot w ↦ (
-        steps_over m c.args.start cur c.if-tags-slot.slots slot c.loop-step.step k.start_in k.sized placed.0 placed.1
+        steps_over m c.args.start k.start_in cur c.if-tags-slot.slots slot c.loop-step.step k.sized placed.0 placed.1
             (empty-by_tag c.loop-step.tags cur slot k.tagged slot_in w.if-tags-slot.false) k.reaches k.settled w.slots-is,
-        subst (λ l. IsTagged c.if-tags-slot.tags l) (sym w.slots-is) (subst (λ l. IsTagged l cur) (sym w.tags-is) k.tagged),
+        rw (w.slots-is, w.tags-is) k.tagged,
       )
     ] in
     let steps = both.0 in

@@ -1,8 +1,8 @@
-use Rattle.std.proofs.Common.{ℕ, ◌≡◌, ◌≢◌, ◌+◌, ◌-◌, ◌/◌, ◌^◌, ◌<◌, arith, refl, sym, ◌∙◌, ap, subst, inl, inr, eq-eqb, slice_index_or}
-use Rattle.std.proofs.lemmas.Bool.{le-leb}
-use Rattle.std.proofs.lemmas.Bool.{cases_lt, cases_order, false≢true}
+use Rattle.std.proofs.Common.{ℕ, ◌≡◌, ◌≢◌, ◌+◌, ◌-◌, ◌/◌, ◌^◌, ◌<◌, arith, refl, sym, ◌∙◌, ap, eq-eqb}
+use Rattle.std.proofs.lemmas.Bool.Decides.{nat_tests}
+use Rattle.std.proofs.lemmas.Bool.{false≢true}
 use Rattle.std.specs.Int.Count.{count_trailing_zeros, trailing_of_zero}
-use Rattle.starlark_table.specs.Layout.{tag_bits, empty_tag}
+use Rattle.starlark_table.specs.Layout.{tag_bits}
 use Rattle.starlark_table.proofs.TagBits.{first-by_bits, tag_bits-later}
 use Rattle.starlark_table.proofs.tags.is_passed.Goals as goal
 
@@ -44,22 +44,21 @@ returns-then-end-le-WINDOW c = λ said.
     let low_bits = c.slots_with-before.ensures in
     let low : ℕ = count_trailing_zeros 64 c.slots_with-before.result in
     let end = c.if-end-le-WINDOW.true in
-    elim (cases_lt low slot) [
-      | inl less ↦
-          let some : tag_bits 255 tags 0 16 ≢ 0 = λ none. let z : low ≡ 64 = ap (count_trailing_zeros 64) (low_bits ∙ none) ∙ trailing_of_zero 64 in omega (arith, z, less, end) in
-          let first = first-by_bits 255 tags 0 16 (omega (arith, c.requires.room)) low (omega arith) some (ap (count_trailing_zeros 64) low_bits) in
-          record {
-            low = 0 + low;
-            high = slot + 1 + k;
-            before = omega (arith, less);
-            behind = omega arith;
-            short = omega (arith, end);
-            within = omega (arith, c.requires.room, within);
-            low_empty = first.there;
-            high_empty = high.there;
-          }
-      | inr more ↦ absurd (false≢true (sym said ∙ le-leb slot low more))
-    ]
+    let less : low < slot = grind (arith, nat_tests, said) in
+    let some : tag_bits 255 tags 0 16 ≢ 0 = λ none.
+    let z : low ≡ 64 = ap (count_trailing_zeros 64) (low_bits ∙ none) ∙ trailing_of_zero 64 in omega (arith, z, less, end) in
+    let first = first-by_bits 255 tags 0 16 (omega (arith, c.requires.room)) low (omega arith) some
+    (ap (count_trailing_zeros 64) low_bits) in
+    record {
+      low = 0 + low;
+      high = slot + 1 + k;
+      before = omega (arith, less);
+      behind = omega arith;
+      short = omega (arith, end);
+      within = omega (arith, c.requires.room, within);
+      low_empty = first.there;
+      high_empty = high.there;
+    }
 
 pub slots_with-requires-2 : goal.slots_with-requires-2
 slots_with-requires-2 c =
@@ -84,13 +83,7 @@ returns c = λ said.
     let j : ℕ = count_trailing_zeros 64 c.slots_with-2.result in
     let first = first-by_bits 255 tags from 16 (omega (arith, c.requires.room, within, end)) j (omega arith) (λ none. some (low_bits ∙ none)) (ap (count_trailing_zeros 64) low_bits) in
     let short = first.within in
-    let below : from + j < slot = elim (cases_order (from + j) slot) [
-      | inl same ↦ absurd (c.requires.full (subst (λ p. slice_index_or tags p 0 ≡ empty_tag) same first.there))
-      | inr sides ↦ elim sides [
-        | inl less ↦ less
-        | inr more ↦ absurd (high.before (from + j) (omega (arith, more)) (omega (arith, short, end)) first.there)
-      ]
-    ] in
+    let below : from + j < slot = grind (arith, c.requires.full, first.there, high.before (from + j)) in
     record {
       low = from + j;
       high = slot + 1 + k;

@@ -1,5 +1,4 @@
-use Rattle.std.proofs.Common.{◌<◌, length, subst, inl, inr}
-use Rattle.std.proofs.lemmas.Bool.{cases_lt}
+use Rattle.std.proofs.Common.{◌<◌, length, subst, arith}
 use Rattle.starlark_table.proofs.Filling.{filled-past_range}
 use Rattle.starlark_table.proofs.FullBits.{window_done}
 use Rattle.starlark_table.proofs.ahead.Ahead.open.Goals as goal
@@ -13,7 +12,5 @@ first_full-requires-clause-some g c =
 pub returns-then-self-eq0-clause-passed : goal.returns-then-self-eq0-clause-passed
 returns-then-self-eq0-clause-passed g c = λ p low high.
     let ahead = c.args.self.now in
-    elim (cases_lt p ahead.end) [
-      | inl before ↦ window_done c.args.slots.now ahead.start ahead.end ahead.next ahead.full c.requires.left c.if-self-eq0.true p low before
-      | inr behind ↦ c.first_full.ensures.passed p behind high
-    ]
+    let done = window_done c.args.slots.now ahead.start ahead.end ahead.next ahead.full c.requires.left c.if-self-eq0.true in
+    grind (arith, done p, c.first_full.ensures.passed p)

@@ -1,5 +1,4 @@
-use Rattle.std.proofs.Common.{◌≡◌, ◌+◌, ◌<◌, length, refl, inl, inr, arith, rules, ◌∷◌, IfSome, drop, sym, subst}
-use Rattle.std.proofs.lemmas.Bool.{cases_lt}
+use Rattle.std.proofs.Common.{◌≡◌, ◌+◌, ◌<◌, length, refl, arith, rules, ◌∷◌, IfSome, drop, sym, subst}
 use Rattle.std.specs.Int.Count.{count_trailing_zeros}
 use Rattle.starlark_table.specs.Table.{filled}
 use Rattle.starlark_table.proofs.Filling.{filled-first_behind}
@@ -35,10 +34,7 @@ returns-clause-passed g c = λ p low high.
     let slots = c.args.slots.now in
     let at_last = c.open.new.self in
     let next = window_next slots at_last.start at_last.end at_last.next at_last.full (count_trailing_zeros 64 at_last.full) c.open.ensures.left c.open.ensures.some refl in
-    elim (cases_lt p at_last.next) [
-      | inl before ↦ c.open.ensures.passed p low before
-      | inr behind ↦ next.passed p behind high
-    ]
+    grind (arith, c.open.ensures.passed p, next.passed p)
 
 pub returns-clause-full : goal.returns-clause-full
 returns-clause-full g c =

@@ -1,4 +1,4 @@
-use Rattle.std.proofs.Common.{ap, length, ℕ, ◌+◌, ◌*◌, ◌≡◌, ◌≤◌, refl, ◌∙◌, arith}
+use Rattle.std.proofs.Common.{ap, length, ◌+◌, ◌*◌, refl, ◌∙◌, arith}
 use Rattle.std.proofs.lemmas.List.Sorted.{length_permutation}
 use Rattle.starlark_table.specs.Table.{filled}
 use Rattle.starlark_table.specs.Walk.{AsksMember}
@@ -8,18 +8,12 @@ use Rattle.starlark_table.proofs.Retaining.{length-retained}
 use Rattle.starlark_table.proofs.TagCount.{refilled}
 use Rattle.starlark_table.proofs.ready_table.ReadyTable.retain.Goals as goal
 
-shorter : (a b c : ℕ) → a ≤ b → c ≡ a → c ≤ b
-shorter a b c le e = omega (arith, le, e)
-
-fewer : (kept n m : ℕ) → kept ≡ n → n ≤ m → kept ≤ m
-fewer kept n m e le = omega (arith, e, le)
-
 pub overflow_add-self : goal.overflow_add-self
 overflow_add-self g c =
     let after = c.retain_items-kept in
     let kept = after.ensures.kept in
     let fits = kept_fits c.self.inside.slots c.self.inside.tags c.self.inside.fill c.self.invariant c.args.self.now c.self.view_is after.result c.tags_beside-count.result
-    (fewer _ _ _ after.ensures.counted (shorter _ _ _ (length-retained (AsksMember g.F.FnMut) c.args.f (filled c.self.inside.slots) kept.0 kept.1) (length_permutation kept.0 (filled after.new.slots) kept.2)))
+    (omega (arith, after.ensures.counted, length-retained (AsksMember g.F.FnMut) c.args.f (filled c.self.inside.slots) kept.0 kept.1, length_permutation kept.0 (filled after.new.slots) kept.2))
     c.tags_beside-count.ensures c.tags_beside-count.type_inv in
     omega (arith, fits)
 
@@ -28,7 +22,7 @@ overflow_mul-self g c =
     let after = c.retain_items-kept in
     let kept = after.ensures.kept in
     let fits = kept_fits c.self.inside.slots c.self.inside.tags c.self.inside.fill c.self.invariant c.args.self.now c.self.view_is after.result c.tags_beside-count.result
-    (fewer _ _ _ after.ensures.counted (shorter _ _ _ (length-retained (AsksMember g.F.FnMut) c.args.f (filled c.self.inside.slots) kept.0 kept.1) (length_permutation kept.0 (filled after.new.slots) kept.2)))
+    (omega (arith, after.ensures.counted, length-retained (AsksMember g.F.FnMut) c.args.f (filled c.self.inside.slots) kept.0 kept.1, length_permutation kept.0 (filled after.new.slots) kept.2))
     c.tags_beside-count.ensures c.tags_beside-count.type_inv in
     omega (arith, fits)
 
@@ -39,7 +33,7 @@ invariant_of-self g c =
     sound-as _ _ _ _ (2 * after.result + 1) refl (refilled c.self.inside.tags after.new.tags (after.auto.tags ∙ ap length c.as_mut_slice.ensures.value))
     (some_kept c.self.inside.slots c.self.inside.tags c.self.inside.fill c.self.invariant c.args.self.now c.self.view_is
     after.result after.new.slots after.new.tags after.ensures.sized after.ensures.in_place after.ensures.tagged after.ensures.counted
-    (shorter _ _ _ (length-retained (AsksMember g.F.FnMut) c.args.f (filled c.self.inside.slots) kept.0 kept.1) (length_permutation kept.0 (filled after.new.slots) kept.2))).sound
+    (omega (arith, length-retained (AsksMember g.F.FnMut) c.args.f (filled c.self.inside.slots) kept.0 kept.1, length_permutation kept.0 (filled after.new.slots) kept.2))).sound
 
 pub returns-clause-room : goal.returns-clause-room
 returns-clause-room g c =
@@ -47,4 +41,4 @@ returns-clause-room g c =
     let kept = after.ensures.kept in
     (some_kept c.self.inside.slots c.self.inside.tags c.self.inside.fill c.self.invariant c.args.self.now c.self.view_is
     after.result after.new.slots after.new.tags after.ensures.sized after.ensures.in_place after.ensures.tagged after.ensures.counted
-    (shorter _ _ _ (length-retained (AsksMember g.F.FnMut) c.args.f (filled c.self.inside.slots) kept.0 kept.1) (length_permutation kept.0 (filled after.new.slots) kept.2))).room
+    (omega (arith, length-retained (AsksMember g.F.FnMut) c.args.f (filled c.self.inside.slots) kept.0 kept.1, length_permutation kept.0 (filled after.new.slots) kept.2))).room

@@ -1,31 +1,25 @@
-use Rattle.std.proofs.Common.{◌≡◌, ℕ, arith, ◌+◌, ◌*◌, ◌/◌, ◌%◌, length, ap, refl, ◌∙◌}
+use Rattle.std.proofs.Common.{arith, ◌+◌, ◌*◌, ◌/◌, length, ap, refl, ◌∙◌}
 use Rattle.starlark_table.specs.Layout.{members_in}
 use Rattle.starlark_table.proofs.Changing.{taken_in}
 use Rattle.starlark_table.proofs.Sound.{sound-as}
 use Rattle.starlark_table.proofs.TagCount.{refilled}
 use Rattle.starlark_table.proofs.ready_table.ReadyTable.take_members.Goals as goal
 
-as_many_more : (fill next other : ℕ) → members_in next ≡ members_in fill → members_in (next + other / 2 * 2) ≡ members_in fill + members_in other
-as_many_more fill next other same = omega (arith, same)
-
-still_even : (next other : ℕ) → (next + other / 2 * 2) % 2 ≡ 0 → next % 2 ≡ 0
-still_even next other even = omega (arith, even)
-
 pub invariant_of-self : goal.invariant_of-self
 invariant_of-self g c =
     let all = c.move_all.ensures in
     sound-as _ _ _ _ (c.move_all.new.fill + c.other.inside.fill / 2 * 2) refl (refilled c.self.inside.tags c.move_all.new.tags (c.move_all.auto.tags ∙ ap length c.as_mut_slice.ensures.value))
     (taken_in c.self.inside.slots c.self.inside.tags c.self.inside.fill c.self.invariant c.args.self.now c.self.view_is
-    c.other.inside.slots (members_in c.other.inside.fill) c.args.other c.move_all.new.slots c.move_all.new.tags (c.move_all.new.fill + c.other.inside.fill / 2 * 2) (as_many_more c.self.inside.fill c.move_all.new.fill c.other.inside.fill all.members) (λ even. all.told (still_even c.move_all.new.fill c.other.inside.fill even)) c.other.invariant.counted c.other.view_is c.requires.room all.sized all.in_place all.tagged all.bag).sound
+    c.other.inside.slots (members_in c.other.inside.fill) c.args.other c.move_all.new.slots c.move_all.new.tags (c.move_all.new.fill + c.other.inside.fill / 2 * 2) (omega (arith, all.members)) (λ even. all.told (omega (arith, even))) c.other.invariant.counted c.other.view_is c.requires.room all.sized all.in_place all.tagged all.bag).sound
 
 pub returns-clause-added : goal.returns-clause-added
 returns-clause-added g c =
     let all = c.move_all.ensures in
     (taken_in c.self.inside.slots c.self.inside.tags c.self.inside.fill c.self.invariant c.args.self.now c.self.view_is
-    c.other.inside.slots (members_in c.other.inside.fill) c.args.other c.move_all.new.slots c.move_all.new.tags (c.move_all.new.fill + c.other.inside.fill / 2 * 2) (as_many_more c.self.inside.fill c.move_all.new.fill c.other.inside.fill all.members) (λ even. all.told (still_even c.move_all.new.fill c.other.inside.fill even)) c.other.invariant.counted c.other.view_is c.requires.room all.sized all.in_place all.tagged all.bag).added
+    c.other.inside.slots (members_in c.other.inside.fill) c.args.other c.move_all.new.slots c.move_all.new.tags (c.move_all.new.fill + c.other.inside.fill / 2 * 2) (omega (arith, all.members)) (λ even. all.told (omega (arith, even))) c.other.invariant.counted c.other.view_is c.requires.room all.sized all.in_place all.tagged all.bag).added
 
 pub returns-clause-room : goal.returns-clause-room
 returns-clause-room g c =
     let all = c.move_all.ensures in
     (taken_in c.self.inside.slots c.self.inside.tags c.self.inside.fill c.self.invariant c.args.self.now c.self.view_is
-    c.other.inside.slots (members_in c.other.inside.fill) c.args.other c.move_all.new.slots c.move_all.new.tags (c.move_all.new.fill + c.other.inside.fill / 2 * 2) (as_many_more c.self.inside.fill c.move_all.new.fill c.other.inside.fill all.members) (λ even. all.told (still_even c.move_all.new.fill c.other.inside.fill even)) c.other.invariant.counted c.other.view_is c.requires.room all.sized all.in_place all.tagged all.bag).room
+    c.other.inside.slots (members_in c.other.inside.fill) c.args.other c.move_all.new.slots c.move_all.new.tags (c.move_all.new.fill + c.other.inside.fill / 2 * 2) (omega (arith, all.members)) (λ even. all.told (omega (arith, even))) c.other.invariant.counted c.other.view_is c.requires.room all.sized all.in_place all.tagged all.bag).room
