@@ -25,7 +25,7 @@ use Rattle.starlark_small.proofs.CallerLookup.{empty-found, is_some-found}
 use Rattle.starlark_small.proofs.CallerInsert.{writes-inserted}
 use Rattle.std.specs.Set.{is_member}
 use Rattle.std.proofs.lemmas.Map.Made.{IfSome-update_all, is_some-update_all}
-use Rattle.std.proofs.lemmas.Option.{none-some, same_Some}
+use Rattle.std.proofs.lemmas.Option.{none-some, same_Some, slice_get-get_or}
 
 -- the run of an iterator that gave these items and ended
 pub run_of : {T A : Type 0} (steps : T → Option A → T → Type 0) (it : T) (xs : List A) (P : List A → Type 0) → Drains steps it xs → P xs → WholeRun steps it (λ p. P p.items)
@@ -111,11 +111,6 @@ module _ {K V : Type 0} (eq : K → K → Bool) (laws : IsEquivalence eq) (key :
   pub found-clones : (es fs : List (Entry K V)) → AllZip (IsEntryClone key value) es fs → (hash : StarlarkHashValue) (q : K) → is_some (found (eq q) hash fs) ≡ is_some (found (eq q) hash es)
   found-clones es fs all hash q = sym (is_some-found (eq q) hash fs) ∙ ap is_some (position-clones q hash es fs all) ∙ is_some-found (eq q) hash es
 
-placed : {A : Type 0} (xs : List A) (k : ℕ) (d : A) → k < length xs → slice_get xs k ≡ Some (get_or xs k d)
-placed [] k d below = absurd (omega (arith, below))
-placed (x ∷ xs) zero d below = refl
-placed (x ∷ xs) (suc k) d below = placed xs k d (omega (arith, below))
-
 or_true : (b : Bool) → (b || true) ≡ true
 or_true true = refl
 or_true false = refl
@@ -127,7 +122,7 @@ module _ {K V T : Type 0} {steps : T → Option (K × V) → T → Type 0} (p : 
 
   -- an item at an index below the length, of which this holds
   any-item : (P : K × V → Type 0) (k : ℕ) (d : K × V) → k < length p.items → P (get_or p.items k d) → AnyItem p P
-  any-item P k d below holds = (k, omega (arith, below, p.long), subst (λ o. IsSomeAnd o P) (sym (item-at k ∙ placed p.items k d below)) holds)
+  any-item P k d below holds = (k, omega (arith, below, p.long), subst (λ o. IsSomeAnd o P) (sym (item-at k ∙ slice_get-get_or p.items k d below)) holds)
 
 module _ {K V : Type 0} (eq : K → K → Bool) (laws : IsEquivalence eq) where
   member-at : (xs : List (K × V)) (k : ℕ) (o : Option (K × V)) → slice_get xs k ≡ o → IfSome o (λ x. is_member eq (keys_of xs) x.0 ≡ true)

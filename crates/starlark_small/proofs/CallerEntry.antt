@@ -6,9 +6,8 @@ use Rattle.std.proofs.lemmas.Bool.{false≢true}
 use Rattle.starlark_hash.specs.declared.hashed.Hashed.{Hashed}
 use Rattle.starlark_hash.specs.declared.hash_value.StarlarkHashValue.{StarlarkHashValue}
 use Rattle.starlark_hash.specs.Entries.{Entry, entry_key, set_value_at, match_of, value_at, with_value, position_of, entry_value}
-use Rattle.starlark_hash.proofs.PositionLemmas.{position-within}
 use Rattle.starlark_hash.proofs.EntryLemmas.{length-set_value_at}
-use Rattle.starlark_small.proofs.CallerLookup.{alike, written_here, written_there, under, apart, keys-set_value_at, apart_other, found_is}
+use Rattle.starlark_small.proofs.CallerLookup.{alike, written_here, written_there, under, apart, keys-set_value_at, apart_other, found_is, is_some-value_at}
 use Rattle.starlark_hash.specs.HashValue.{hashed, key_of, hash_of}
 use Rattle.starlark_hash.specs.Insert.{insert_entry}
 use Rattle.starlark_hash.specs.Lookup.{found, Writes, weight_of}
@@ -23,19 +22,21 @@ use Rattle.starlark_small.specs.Lookup.{total_of}
 use Rattle.starlark_small.proofs.CallerOwn.{own-inserted}
 use Rattle.starlark_small.proofs.CallerInsert.{part-at, total-inserted, keys-put, writes-inserted}
 
+-- a value that is written where there was one
+pub rewritten : {V : Type 0} (w : V) (o : Option V) → is_some o ≡ true → option_map (λ _. w) o ≡ Some w
+rewritten w None e = absurd (false≢true e)
+rewritten w (Some x) e = refl
+
 module _ {K V : Type 0} (hash : StarlarkHashValue) (passes : K → Bool) (es : List (Entry K V)) where
   -- a value that is written stands at its key
   pub value-with_value : (w : V) → value_at (with_value es (position_of hash passes es) w) (position_of hash passes (with_value es (position_of hash passes es) w)) ≡ option_map (λ _. w) (value_at es (position_of hash passes es))
   value-with_value w = elim (position_of hash passes es) as (λ o. position_of hash passes es ≡ o
       → value_at (option_map_or (λ i. set_value_at es i w) o es) (position_of hash passes (option_map_or (λ i. set_value_at es i w) o es)) ≡ option_map (λ _. w) (value_at es o)) [
         | None ↦ λ at. ap (value_at es) at
-        | Some i ↦ λ at. written_here (under hash passes) es i w at ∙ sym (there es i (position-within (λ e. under hash passes e.0) es i at))
+        | Some i ↦ λ at.
+            let there = ap (λ o. is_some (value_at es o)) (sym at) ∙ is_some-value_at hash passes es ∙ ap is_some at in
+            written_here (under hash passes) es i w at ∙ sym (rewritten w (value_at es (Some i)) there)
       ] refl
-    where
-      there : (es : List (Entry K V)) (i : ℕ) → i < length es → option_map (λ _. w) (value_at es (Some i)) ≡ Some w
-      there [] i below = absurd (omega (arith, below))
-      there (e ∷ es) zero below = refl
-      there (e ∷ es) (suc i) below = there es i (omega (arith, below))
 
   pub length-with_value : (w : V) → length (with_value es (position_of hash passes es) w) ≡ length es
   length-with_value w = elim (position_of hash passes es) as (λ o. length (option_map_or (λ i. set_value_at es i w) o es) ≡ length es) [
@@ -58,11 +59,6 @@ module _ {K V : Type 0} (eq : K → K → Bool) (laws : IsEquivalence eq) (es : 
         | None ↦ λ at. refl
         | Some i ↦ λ at. written_there (under hash passes) (alike eq key) (apart eq laws key hash passes one not) es i w at
       ] refl
-
--- a value that is written where there was one
-pub rewritten : {V : Type 0} (w : V) (o : Option V) → is_some o ≡ true → option_map (λ _. w) o ≡ Some w
-rewritten w None e = absurd (false≢true e)
-rewritten w (Some x) e = refl
 
 module _ {K V : Type 0} (eq : K → K → Bool) (laws : IsEquivalence eq) (hash : StarlarkHashValue) (passes : K → Bool) (one : (x y : K) → passes x ≡ true → passes y ≡ eq x y) where
   written_other : (es : List (Entry K V)) (other : Hashed K) → passes (key_of other) ≡ false → (w : V)

@@ -15,7 +15,6 @@ use Rattle.starlark_small.proofs.CallerLookup.{alike, written_here, written_ther
 use Rattle.std.proofs.lemmas.Bool.{false≢true}
 use Rattle.starlark_hash.specs.Lookup.{found, Writes, weight_of}
 use Rattle.starlark_small.specs.Lookup.{keys, total_of}
-use Rattle.starlark_small.specs.declared.entry.Entry as E
 use Rattle.starlark_small.specs.Map.{Map}
 use Rattle.std.specs.List.{sum_by}
 use Rattle.std.proofs.lemmas.List.Sums.{sum_by-cons, sum_by_push}

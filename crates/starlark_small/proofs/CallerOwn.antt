@@ -1,11 +1,11 @@
 -- Which lists have each key under its own hash: what insertions, removals and moves leave of them.
-use Rattle.std.proofs.Common.{◌≡◌, ℕ, zero, suc, Bool, List, [], ◌∷◌, ◌++◌, map, remove, Option, Some, None, IsPermutation, refl, sym, ◌∙◌, subst, arith}
+use Rattle.std.proofs.Common.{◌<◌, length, get_or, ◌≡◌, ℕ, zero, suc, Bool, List, [], ◌∷◌, ◌++◌, map, remove, Option, Some, None, IsPermutation, refl, sym, ◌∙◌, subst, arith}
 use Rattle.std.specs.Borrow.{Bor, MutBor}
 use Rattle.std.specs.Fn.{Mut}
 use Rattle.std.specs.Hash.{HashWrites}
 use Rattle.std.specs.List.{All, AllZip}
 use Rattle.std.specs.Option.{option_map_or}
-use Rattle.std.proofs.lemmas.List.Elements.{All-cons, All-head, All-tail}
+use Rattle.std.proofs.lemmas.List.Elements.{All-cons, All-head, All-push, All-tail, AllZip-get_or, length_all_zip}
 use Rattle.std.proofs.lemmas.List.Sorted.{All-permutation}
 use Rattle.starlark_hash.specs.declared.hashed.Hashed.{Hashed}
 use Rattle.starlark_hash.specs.Hasher.{own_hash}
@@ -29,10 +29,6 @@ module _ {K V : Type 0} (feeds : K → HashWrites) where
   set_own (e ∷ es) zero w own = All-cons is_own (e.0, w) es (All-head is_own e es own) (All-tail is_own e es own)
   set_own (e ∷ es) (suc i) w own = All-cons is_own e (set_value_at es i w) (All-head is_own e es own) (set_own es i w (All-tail is_own e es own))
 
-  push_own : (es : List (Entry K V)) (e : Entry K V) → All is_own es → is_own e → All is_own (es ++ e ∷ [])
-  push_own [] e own is = All-cons is_own e [] is own
-  push_own (d ∷ es) e own is = All-cons is_own d (es ++ e ∷ []) (All-head is_own d es own) (push_own es e (All-tail is_own d es own) is)
-
   remove_own : (es : List (Entry K V)) (i : ℕ) → All is_own es → All is_own (remove es i)
   remove_own [] zero own = own
   remove_own [] (suc i) own = own
@@ -41,7 +37,7 @@ module _ {K V : Type 0} (feeds : K → HashWrites) where
 
   insert_own : (eq : K → K → Bool) (es : List (Entry K V)) (key : Hashed K) (value : V) → hash_of key ≡ own_hash feeds (key_of key) → All is_own es → All is_own (insert_entry eq es key value)
   insert_own eq es key value is own = elim (match_of eq es key) as (λ o. All is_own (option_map_or (λ i. set_value_at es i value) o (es ++ (key, value) ∷ []))) [
-    | None ↦ push_own es (key, value) own is
+    | None ↦ All-push is_own es (key, value) own is
     | Some i ↦ set_own es i value own
   ]
 
@@ -86,13 +82,11 @@ module _ {K V : Type 0} (feeds : K → HashWrites) where
   own-inserted_entries eq new items put all = subst (All is_own) (sym put) (insert_entries_own eq items [] all (λ k d below. absurd (omega (arith, below))))
 
   clones_own : (key : K → K → Type 0) (value : V → V → Type 0) → ((x y : K) → key x y → feeds x ≡ feeds y) → (es fs : List (Entry K V)) → AllZip (IsEntryClone key value) es fs → All is_own es → All is_own fs
-  clones_own key value alike [] [] all own = own
-  clones_own key value alike [] (f ∷ fs) all own = absurd all
-  clones_own key value alike (e ∷ es) [] all own = absurd all
-  clones_own key value alike (e ∷ es) (f ∷ fs) all own =
-      All-cons is_own f fs
-      (all.0.0 ∙ All-head is_own e es own ∙ (λ i. own_hash (λ _. alike (entry_key e) (entry_key f) all.0.1 i) (entry_key e)))
-      (clones_own key value alike es fs all.1 (All-tail is_own e es own))
+  clones_own key value alike es fs all own = λ k d below.
+      let inside : k < length es = omega (arith, below, length_all_zip (IsEntryClone key value) es fs all) in
+      let is = AllZip-get_or (IsEntryClone key value) es fs k d d all inside in
+      let x = entry_key (get_or es k d) in
+      is.0 ∙ own k d inside ∙ (λ i. own_hash (λ _. alike x (entry_key (get_or fs k d)) is.1 i) x)
 
   -- clones of keys under their own hashes, where equal keys feed alike
   pub own-clones : (key : K → K → Type 0) (value : V → V → Type 0) → ((x y : K) → key x y → feeds x ≡ feeds y) → (es fs : List (Entry K V)) → AllZip (IsEntryClone key value) es fs

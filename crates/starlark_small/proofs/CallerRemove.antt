@@ -1,5 +1,5 @@
 -- What is found once an entry was taken out, by its key or by its index, or dropped by a closure.
-use Rattle.std.proofs.Common.{◌≡◌, ℕ, zero, suc, ◌+◌, ◌<◌, Bool, true, false, cond, eqb, List, [], ◌∷◌, length, get_or, position, remove, Some, None, is_some, refl, sym, ap, ◌∙◌, arith, ◌-◌, ◌++◌, Option, slice_get, subst}
+use Rattle.std.proofs.Common.{◌≡◌, ℕ, zero, suc, ◌+◌, Bool, true, false, cond, eqb, List, [], ◌∷◌, length, get_or, position, remove, Some, None, is_some, refl, sym, ap, ◌∙◌, arith, ◌-◌, ◌++◌, Option, slice_get, subst}
 use Rattle.std.specs.Prelude.{◌&&◌, if◌then◌else◌, IfSome, ◌==◌}
 use Rattle.std.specs.Option.{option_map, option_map_or}
 use Rattle.std.specs.Cmp.{IsEquivalence}
@@ -14,6 +14,7 @@ use Rattle.starlark_small.proofs.CallerLookup.{later, not_first, here, none_amon
 use Rattle.starlark_hash.specs.Lookup.{found, Writes}
 use Rattle.std.specs.Map.Iter.{TakesLast}
 use Rattle.std.proofs.lemmas.List.{length_push}
+use Rattle.std.proofs.lemmas.List.Edits.{length-remove}
 use Rattle.starlark_hash.specs.Hasher.{own_hash}
 use Rattle.starlark_small.specs.Lookup.{AreOwnEntries}
 use Rattle.starlark_small.specs.Remove.{TakesOut}
@@ -30,13 +31,8 @@ module _ {K V : Type 0} (hash : StarlarkHashValue) (passes : K → Bool) (es : L
   pub length-without : length (without es (position_of hash passes es)) + (if is_some (position_of hash passes es) then 1 else 0) ≡ length es
   length-without = elim (position_of hash passes es) as (λ o. position_of hash passes es ≡ o → length (option_map_or (remove es) o es) + (if is_some o then 1 else 0) ≡ length es) [
     | None ↦ λ at. omega arith
-    | Some i ↦ λ at. shorter es i (position-within (λ e. under hash passes e.0) es i at)
+    | Some i ↦ λ at. let below = position-within (λ e. under hash passes e.0) es i at in omega (arith, length-remove es i below)
   ] refl
-    where
-      shorter : (es : List (Entry K V)) (i : ℕ) → i < length es → length (remove es i) + 1 ≡ length es
-      shorter [] i below = absurd (omega (arith, below))
-      shorter (e ∷ es) zero below = omega arith
-      shorter (e ∷ es) (suc i) below = omega (arith, shorter es i (omega (arith, below)))
 
 module _ {K V : Type 0} (eq : K → K → Bool) (laws : IsEquivalence eq) (es : List (Entry K V)) (key : Hashed K) (hash : StarlarkHashValue) (passes : K → Bool)
     (one : (x y : K) → passes x ≡ true → passes y ≡ eq x y) (not : under hash passes key ≡ false) where

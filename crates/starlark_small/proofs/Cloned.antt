@@ -1,25 +1,21 @@
 -- A list of clones of entries.
-use Rattle.std.proofs.Common.{◌≡◌, ℕ, zero, suc, ◌<◌, Bool, true, ◌&&◌, List, [], ◌∷◌, length, get_or, refl, sym, ap, ◌∙◌, arith, nat_eq}
+use Rattle.std.proofs.Common.{◌≡◌, ℕ, ◌<◌, Bool, true, ◌&&◌, List, length, get_or, sym, ap, ◌∙◌, arith, nat_eq}
 use Rattle.std.specs.List.{AllZip}
+use Rattle.std.proofs.lemmas.List.Elements.{AllZip-get_or, length_all_zip}
 use Rattle.core.specs.Cmp.{IsEquivalence}
 use Rattle.starlark_hash.specs.Entries.{Entry, IsSingle}
 use Rattle.starlark_hash.specs.Clone.{IsEntryClone}
 
 module _ {K V : Type 0} (eq : K → K → Bool) (key : K → K → Type 0) (value : V → V → Type 0) where
   pub length-clones : (es fs : List (Entry K V)) → AllZip (IsEntryClone key value) es fs → length fs ≡ length es
-  length-clones [] [] all = refl
-  length-clones [] (f ∷ fs) all = absurd all
-  length-clones (e ∷ es) [] all = absurd all
-  length-clones (e ∷ es) (f ∷ fs) all = ap suc (length-clones es fs all.1)
+  length-clones es fs all = sym (length_all_zip (IsEntryClone key value) es fs all)
 
   module _ (o : IsEquivalence eq) (equal : (x y : K) → key x y → eq x y ≡ true) where
     clone_at : (es fs : List (Entry K V)) → AllZip (IsEntryClone key value) es fs → (i : ℕ) (d : Entry K V) → i < length fs
         → ((get_or fs i d).0.hash.0 ≡ (get_or es i d).0.hash.0) × (eq (get_or es i d).0.key (get_or fs i d).0.key ≡ true)
-    clone_at [] [] all i d below = absurd (omega arith)
-    clone_at [] (f ∷ fs) all i d below = absurd all
-    clone_at (e ∷ es) [] all i d below = absurd all
-    clone_at (e ∷ es) (f ∷ fs) all zero d below = (ap (λ h. h.0) all.0.0, equal e.0.key f.0.key all.0.1)
-    clone_at (e ∷ es) (f ∷ fs) all (suc i) d below = clone_at es fs all.1 i d (omega arith)
+    clone_at es fs all i d below =
+        let is = AllZip-get_or (IsEntryClone key value) es fs i d d all (omega (arith, length-clones es fs all)) in
+        (ap (λ h. h.0) is.0, equal (get_or es i d).0.key (get_or fs i d).0.key is.1)
 
     -- clones of a single list are one
     pub IsSingle-clones : (es fs : List (Entry K V)) → AllZip (IsEntryClone key value) es fs → IsSingle eq es → IsSingle eq fs

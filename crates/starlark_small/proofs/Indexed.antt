@@ -20,7 +20,7 @@ use Rattle.starlark_vec2.specs.Sort.{Moves}
 use Rattle.starlark_vec2.proofs.Positions.{IsPermutation-from_order}
 use Rattle.starlark_vecmap.specs.EntryList.{EntryList}
 
-pub is_some-map : (f : Hashes → Hashes) (o : Option Hashes) → is_some (option_map f o) ≡ is_some o
+pub is_some-map : {A B : Type 0} (f : A → B) (o : Option A) → is_some (option_map f o) ≡ is_some o
 is_some-map f None = refl
 is_some-map f (Some h) = refl
 
@@ -143,10 +143,7 @@ module _ {K V : Type 0} where
   cleared-room es n (Some h) mid shorter indexed is = subst (λ o. IfSome o (λ h. (h.list ≡ []) × (n ≤ h.room))) (sym is) (refl, omega (arith, shorter, indexed-at es (Some h) indexed))
 
 pub renamed-is_some : (to : List ℕ) (old new : Option Hashes) → IsRenamed to old new → is_some new ≡ is_some old
-renamed-is_some to None None renamed = refl
-renamed-is_some to None (Some k) renamed = absurd (none-some k.room (sym renamed.room))
-renamed-is_some to (Some h) None renamed = absurd (none-some h.room renamed.room)
-renamed-is_some to (Some h) (Some k) renamed = refl
+renamed-is_some to old new renamed = sym (is_some-map (λ h. h.room) new) ∙ ap is_some renamed.room ∙ is_some-map (λ h. h.room) old
 
 pub renamed-room : (len len' : ℕ) (to : List ℕ) (old new : Option Hashes) → len' ≡ len → IsRenamed to old new → index_room len' new ≡ index_room len old
 renamed-room len len' to None None same renamed = omega (arith, same)

@@ -28,35 +28,14 @@ module _ {K V : Type 0} (eq : K → K → Bool) where
   insert_all-push item es [] x = refl
   insert_all-push item es (y ∷ ys) x = insert_all-push item (insert_entry eq es (item y).0 (item y).1) ys x
 
-  insert_all_next : {A : Type 0} (item : A → Entry K V) (es : List (Entry K V)) (xs : List A) (x : A) (mid last : List (Entry K V)) → mid ≡ insert_all eq es (map item xs)
-      → last ≡ insert_entry eq mid (item x).0 (item x).1 → last ≡ insert_all eq es (map item (xs ++ x ∷ []))
-  insert_all_next item es xs x mid last before put = put ∙ ap (λ l. insert_entry eq l (item x).0 (item x).1) before ∙ sym (insert_all-push item es xs x)
+  -- no entry is lost, and at most one is added
+  length_or : (es : List (Entry K V)) (key : Hashed K) (value : V) (o : Option ℕ) (new : List (Entry K V)) → new ≡ option_map_or (λ i. set_value_at es i value) o (es ++ (key, value) ∷ [])
+      → (length es ≤ length new) × (length new ≤ length es + 1)
+  length_or es key value None new is = let size = ap length is ∙ length_push es (key, value) in (omega arith, omega arith)
+  length_or es key value (Some i) new is = let size = ap length is ∙ length-set_value_at es i value in (omega arith, omega arith)
 
-  length_or : (es : List (Entry K V)) (key : Hashed K) (value : V) (o : Option ℕ) → length es ≤ length (option_map_or (λ i. set_value_at es i value) o (es ++ (key, value) ∷ []))
-  length_or es key value None = omega (arith, length_push es (key, value))
-  length_or es key value (Some i) = omega (arith, length-set_value_at es i value)
-
-  length_or_more : (es : List (Entry K V)) (key : Hashed K) (value : V) (o : Option ℕ) → length (option_map_or (λ i. set_value_at es i value) o (es ++ (key, value) ∷ [])) ≤ length es + 1
-  length_or_more es key value None = omega (arith, length_push es (key, value))
-  length_or_more es key value (Some i) = omega (arith, length-set_value_at es i value)
-
-  -- at most one entry is added
   pub length_insert_le : (es : List (Entry K V)) (key : Hashed K) (value : V) → length (insert_entry eq es key value) ≤ length es + 1
-  length_insert_le es key value = length_or_more es key value (match_of eq es key)
-
-  length_inserted_le : (es last : List (Entry K V)) (key : Hashed K) (value : V) → last ≡ insert_entry eq es key value → length last ≤ length es + 1
-  length_inserted_le es last key value put = subst (λ l. length l ≤ length es + 1) (sym put) (length_insert_le es key value)
-
-  -- no entry is lost
-  length_le_insert : (es : List (Entry K V)) (key : Hashed K) (value : V) → length es ≤ length (insert_entry eq es key value)
-  length_le_insert es key value = length_or es key value (match_of eq es key)
-
-  length_le_inserted : (es last : List (Entry K V)) (key : Hashed K) (value : V) → last ≡ insert_entry eq es key value → length es ≤ length last
-  length_le_inserted es last key value put = subst (λ l. length es ≤ length l) (sym put) (length_le_insert es key value)
-
--- where there is room for all items, there is room for each that comes
-room_for_next : (first seen mid spare room all left after : ℕ) → first + room ≤ mid + spare → mid ≤ first + seen → seen + left ≤ all → after < left → all ≤ room → 0 < spare
-room_for_next first seen mid spare room all left after a b c d e = omega arith
+  length_insert_le es key value = (length_or es key value (match_of eq es key) (insert_entry eq es key value) refl).1
 
 -- an index that is made at one length is there at a greater one
 indexed_on : (first mid last : Bool) (len len' : ℕ) → mid ≡ (first || nat_lt unindexed len) → last ≡ (mid || nat_lt unindexed len') → len ≤ len' → last ≡ (first || nat_lt unindexed len')
@@ -96,7 +75,7 @@ filled_none first had = record { entries = refl; room = omega arith; added = ome
 module _ {K V A : Type 0} {eq : K → K → Bool} {item : A → Entry K V} {all : ℕ} {first : Map K V} {seen : List A} {mid : Map K V} (last : Map K V) (held : IsFilled eq item all first seen mid)
     {left after : ℕ} (counted : length seen + left ≤ all) (fewer : after < left) (x : A) (leaves : LeavesMemory eq mid (item x).0 last) where
   has_room : all ≤ first.room → 0 < mid.room
-  has_room fits = room_for_next (length first.entries) (length seen) (length mid.entries) mid.room first.room all left after held.room held.added counted fewer fits
+  has_room fits = omega (arith, held.room, held.added)
 
   on_spare : all ≤ first.room → (last.capacity ≡ first.capacity) × (last.indexed ≡ first.indexed)
   on_spare fits = ((leaves.spare (has_room fits)).0 ∙ (held.spare fits).0, (leaves.spare (has_room fits)).1 ∙ (held.spare fits).1)
@@ -104,14 +83,14 @@ module _ {K V A : Type 0} {eq : K → K → Bool} {item : A → Entry K V} {all 
   -- it went in
   pub filled_more : last.entries ≡ insert_entry eq mid.entries (item x).0 (item x).1 → IsFilled eq item all first (seen ++ x ∷ []) last
   filled_more put =
-      let longer = length_le_inserted eq mid.entries last.entries (item x).0 (item x).1 put in
+      let sizes = length_or eq mid.entries (item x).0 (item x).1 (match_of eq mid.entries (item x).0) last.entries put in
       record {
-        entries = insert_all_next eq item first.entries seen x mid.entries last.entries held.entries put;
+        entries = put ∙ ap (λ l. insert_entry eq l (item x).0 (item x).1) held.entries ∙ sym (insert_all-push eq item first.entries seen x);
         room = omega (arith, held.room, leaves.room);
-        added = omega (arith, length_inserted_le eq mid.entries last.entries (item x).0 (item x).1 put, held.added, length_push seen x);
-        longer = omega (arith, held.longer, longer);
+        added = omega (arith, sizes.1, held.added, length_push seen x);
+        longer = omega (arith, held.longer, sizes.0);
         capacity = stepped_inserted first mid last held.longer held.capacity eq (item x).0 (item x).1 put leaves;
-        indexed = indexed_on first.indexed mid.indexed last.indexed (length mid.entries) (length last.entries) held.indexed leaves.indexed longer;
+        indexed = indexed_on first.indexed mid.indexed last.indexed (length mid.entries) (length last.entries) held.indexed leaves.indexed sizes.0;
         spare = on_spare;
       }
 

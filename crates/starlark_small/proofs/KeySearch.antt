@@ -1,11 +1,10 @@
 -- The indices of a hash, as the keys that stand under it.
-use Rattle.std.proofs.Common.{◌≡◌, ℕ, suc, ◌+◌, ◌<◌, ◌^◌, Bool, true, false, cond, List, [], ◌∷◌, ◌++◌, length, get_or, map, Option, Some, refl, sym, ap, subst, ◌∙◌, arith, IsPermutation, nat_eq, eq-eqb, inl, inr}
+use Rattle.std.proofs.Common.{◌≡◌, ℕ, suc, ◌+◌, ◌<◌, ◌^◌, Bool, true, false, cond, List, [], ◌∷◌, ◌++◌, length, get_or, map, Option, Some, refl, sym, ap, subst, ◌∙◌, arith, IsPermutation, nat_eq}
 use Rattle.std.specs.Prelude.{filter, slice_get}
 use Rattle.std.specs.Borrow.{Bor}
 use Rattle.std.specs.Fn.{Mut, CalledAt, TakesAt}
 use Rattle.std.specs.List.{All, Contains, enumerate_from}
 use Rattle.std.specs.Option.{option_map}
-use Rattle.std.proofs.lemmas.Bool.{eqb-true, cases_order, false≢true}
 use Rattle.std.proofs.lemmas.Bool.Decides.{nat_tests}
 use Rattle.std.proofs.lemmas.List.{length-map}
 use Rattle.std.proofs.lemmas.List.Elements.{All-contains, All-filter, All-map, Contains-append_right}
@@ -21,19 +20,13 @@ use Rattle.starlark_small.specs.Index.{hashes_of}
 use Rattle.starlark_small.proofs.Numbered.{below-all}
 use Rattle.starlark_small.proofs.Transport.{can_transport, transported}
 
-unequal : (a b h k : ℕ) → (a ≡ b → h ≡ k) → nat_eq h k ≡ false → nat_eq a b ≡ false
-unequal a b h k inj e = elim (cases_order a b) [
-  | inl same ↦ absurd (false≢true (sym e ∙ eq-eqb h k (inj same)))
-  | inr sides ↦ elim sides [ inl less ↦ grind (arith, nat_tests) | inr more ↦ grind (arith, nat_tests) ]
-]
+same_answer : (a b h k : ℕ) → (a ≡ b → h ≡ k) → (h ≡ k → a ≡ b) → nat_eq a b ≡ nat_eq h k
+same_answer a b h k inj onto = grind (arith, nat_tests)
 
 -- hashes agree where their promotions do
 same_test : (h k : ℕ) → h < 2 ^ 32 → k < 2 ^ 32 → nat_eq (promoted h) (promoted k) ≡ nat_eq h k
 same_test h k h_fits k_fits =
-    (elim (nat_eq h k) as (λ b. nat_eq h k ≡ b → nat_eq (promoted h) (promoted k) ≡ b) [
-      | true ↦ λ e. eq-eqb (promoted h) (promoted k) (ap promoted (eqb-true h k e))
-      | false ↦ λ e. unequal (promoted h) (promoted k) h k (promoted-injective h k h_fits k_fits) e
-    ]) refl
+    same_answer (promoted h) (promoted k) h k (promoted-injective h k h_fits k_fits) (λ e. ap promoted e)
 
 -- the indices of a hash are within the list
 pub indices-within : (hash : ℕ) (hs : List ℕ) (p : ℕ × ℕ) → Contains (indices_under hash hs) p → p.1 < length hs

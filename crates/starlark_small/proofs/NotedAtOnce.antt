@@ -1,6 +1,6 @@
 -- A hash that a look at the index shows to be new: no entry is under it, and one goes last without growth.
-use Rattle.std.proofs.Common.{◌≡◌, ◌≢◌, ℕ, zero, suc, ◌+◌, ◌-◌, ◌<◌, ◌≤◌, Bool, true, List, [], ◌∷◌, ◌++◌, get_or, length, min, Option, Some, None, Ok, refl, sym, ap, subst, ◌∙◌, arith, eqb-true}
-use Rattle.std.specs.Prelude.{slice_get, is_some, ◌||◌, nat_lt, if◌then◌else◌}
+use Rattle.std.proofs.Common.{◌≡◌, ◌≢◌, ℕ, zero, suc, ◌+◌, ◌-◌, ◌<◌, ◌≤◌, Bool, true, List, [], ◌∷◌, ◌++◌, get_or, length, Option, Some, None, Ok, refl, sym, ap, subst, ◌∙◌, arith, eqb-true}
+use Rattle.std.specs.Prelude.{slice_get, is_some, ◌||◌, nat_lt}
 use Rattle.std.specs.Cmp.{IsEquivalence}
 use Rattle.std.specs.Option.{option_map_or}
 use Rattle.std.proofs.lemmas.Bool.{and_parts}
@@ -28,12 +28,6 @@ there : {X : Type 0} (xs : List X) (j : ℕ) → j < length xs → (x : X) × (s
 there [] j below = absurd (omega arith)
 there (x ∷ xs) zero below = (x, refl)
 there (x ∷ xs) (suc j) below = there xs j (omega arith)
-
-room_stays : (len len' capacity room room' : ℕ) → len' ≡ len + 1 → room ≤ 1 + room' → len + min (capacity - len) room ≤ len' + min (capacity - len') room'
-room_stays len len' capacity room room' longer less = omega arith
-
-capacity_stays : (len capacity grown : ℕ) → 1 ≤ capacity - len → capacity ≡ (if nat_lt (capacity - len) 1 then grown else capacity)
-capacity_stays len capacity grown room = grind (arith, nat_tests)
 
 module _ {K V : Type 0} where
   nobody : (es : List (Entry K V)) (hash : StarlarkHashValue) → All (λ h. h ≢ hash_under hash) (hashes_of es) → (j : ℕ) (d : Entry K V) → j < length es → slice_get es j ≡ Some d → is_under hash d ≡ true → ⊥
@@ -65,9 +59,10 @@ module _ {K V : Type 0} where
       record {
         entries = refl;
         spare = λ _. (refl, kept);
-        room = room_stays len (length (list.entries ++ (key, value) ∷ [])) list.capacity (index_room len before) (index_room (length (list.entries ++ (key, value) ∷ [])) after) longer
-            (subst (λ n. index_room len before ≤ 1 + index_room n after) (sym longer) less);
-        capacity = capacity_stays len list.capacity _ (omega (arith, room));
+        room =
+            let grown = subst (λ n. index_room len before ≤ 1 + index_room n after) (sym longer) less in
+            omega (arith, longer, grown);
+        capacity = let free : 1 ≤ list.capacity - len = omega (arith, room) in grind (arith, nat_tests);
         indexed = kept ∙ had ∙ ap (λ b. b || nat_lt unindexed (len + 1)) (sym had);
       }
 

@@ -3,12 +3,12 @@ use Rattle.std.proofs.Common.{◌≡◌, ◌≢◌, ℕ, zero, suc, ◌+◌, ◌
 use Rattle.std.specs.Prelude.{filter, remove, reverse, slice_get, slice_index}
 use Rattle.std.specs.List.{All, Contains, range_with_len}
 use Rattle.std.proofs.lemmas.Bool.{cases_order, false≢true}
-use Rattle.std.proofs.lemmas.Bool.Decides.{nat_tests}
-use Rattle.std.proofs.lemmas.List.{ext_get_or, get_or-map, length-map, length-reverse, reverse-append}
+use Rattle.std.proofs.lemmas.Bool.Decides.{eqb_tells, nat_tests}
+use Rattle.std.proofs.lemmas.List.{ext_get_or, get_or-map, length-map, length-reverse, reverse-append, take_more}
 use Rattle.std.proofs.lemmas.List.FromFn.{length-range_with_len}
 use Rattle.std.proofs.lemmas.List.Elements.{All-cons}
 use Rattle.std.proofs.lemmas.List.Sorted.{IsPermutation-sym, IsPermutation-trans, IsPermutation-cons, IsPermutation-to_front, IsPermutation-map, IsPermutation-remove, IsPermutation-reverse, All-permutation, Contains-permutation, length_permutation}
-use Rattle.std.proofs.lemmas.Option.{none-some, same_Some}
+use Rattle.std.proofs.lemmas.Option.{get_or_from_slice_get, none-some, same_Some, slice_get_within}
 use Rattle.starlark_table.specs.Table.{Table, filled, items_under, members, member_at, table_len}
 use Rattle.starlark_table.proofs.PairBags.{IsPermutation-cancel, IsPermutation-filter}
 use Rattle.starlark_table.proofs.TableLemmas.{items-items_under}
@@ -17,10 +17,7 @@ use Rattle.starlark_small.specs.Hashes.{numbered, numbered_from}
 use Rattle.starlark_small.specs.Slots.{IsSited, StandsOnce, hash_in, hashes_in, lowered, renamed, renaming}
 
 pub same_or : (a b : ℕ) → (a ≡ b) ⊎ (a ≢ b)
-same_or a b = elim (cases_order a b) [
-  | inl same ↦ inl same
-  | inr sides ↦ elim sides [ inl less ↦ inr (λ same. omega (arith, less, same)) | inr more ↦ inr (λ same. omega (arith, more, same)) ]
-]
+same_or a b = elim (eqb_tells a b) [ inl is ↦ inl is.1 | inr is ↦ inr is.1 ]
 
 -- ---- the numbered hashes
 pub numbered-append : (n : ℕ) (hs ks : List ℕ) → numbered_from n (hs ++ ks) ≡ numbered_from n hs ++ numbered_from (n + length hs) ks
@@ -144,10 +141,7 @@ standing x ms = length (filter (λ m. nat_eq m.1 x) ms)
 
 more : (x : ℕ) (m : ℕ × ℕ) (ms : List (ℕ × ℕ)) → standing x ms ≤ standing x (m ∷ ms)
 unfolding standing
-more x m ms = elim (nat_eq m.1 x) as (λ b. length (filter (λ m. nat_eq m.1 x) ms) ≤ length (cond b (m ∷ filter (λ m. nat_eq m.1 x) ms) (filter (λ m. nat_eq m.1 x) ms))) [
-  | true ↦ omega arith
-  | false ↦ omega arith
-]
+more x m ms = grind (arith, nat_tests)
 
 one_more : (x : ℕ) (m : ℕ × ℕ) (ms : List (ℕ × ℕ)) → m.1 ≡ x → standing x (m ∷ ms) ≡ suc (standing x ms)
 unfolding standing
@@ -155,9 +149,7 @@ one_more x m ms is = ap (λ b. length (cond b (m ∷ filter (λ m. nat_eq m.1 x)
 
 other : (x : ℕ) (m : ℕ × ℕ) (ms : List (ℕ × ℕ)) → m.1 ≢ x → standing x (m ∷ ms) ≡ standing x ms
 unfolding standing
-other x m ms not =
-    let b : nat_eq m.1 x ≡ false = elim (cases_order m.1 x) [ inl same ↦ absurd (not same) | inr sides ↦ elim sides [ inl less ↦ grind (arith, nat_tests) | inr more ↦ grind (arith, nat_tests) ] ] in
-    ap (λ b. length (cond b (m ∷ filter (λ m. nat_eq m.1 x) ms) (filter (λ m. nat_eq m.1 x) ms))) b
+other x m ms not = grind (arith, nat_tests)
 
 one : (slots : List (Option (ℕ × ℕ))) (s h x : ℕ) → get_or slots s None ≡ Some (h, x) → 1 ≤ standing x (filled slots)
 one [] s h x is = absurd (none-some (h, x) is)
@@ -303,11 +295,6 @@ bag-noted hs h x old new last bag added =
     (IsPermutation-trans (numbered hs ++ m ∷ []) (m ∷ members old) (members new)
     (IsPermutation-trans (numbered hs ++ m ∷ []) (m ∷ numbered hs) (m ∷ members old) (IsPermutation-to_front (numbered hs) m) (IsPermutation-cons m (numbered hs) (members old) bag)) added)
 
-take_suc : {X : Type 0} (i : ℕ) (xs : List X) (x : X) → slice_get xs i ≡ Some x → take (suc i) xs ≡ take i xs ++ x ∷ []
-take_suc i [] x at = absurd (none-some x at)
-take_suc zero (y ∷ xs) x at = ap (λ z. z ∷ []) (same_Some y x at)
-take_suc (suc i) (y ∷ xs) x at = ap (λ l. y ∷ l) (take_suc i xs x at)
-
 -- one item more
 pub take-more : {X : Type 0} (i : ℕ) (xs : List X) (x : X) → slice_get xs i ≡ Some x → take (i + 1) xs ≡ take i xs ++ x ∷ []
-take-more i xs x at = ap (λ n. take n xs) {x = i + 1} {y = suc i} (omega arith) ∙ take_suc i xs x at
+take-more i xs x at = take_more xs i x (slice_get_within xs i x at) ∙ ap (λ z. take i xs ++ z ∷ []) (get_or_from_slice_get xs i x x at)

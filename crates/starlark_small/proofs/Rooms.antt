@@ -1,5 +1,5 @@
 -- How much room a list and its index have after each change.
-use Rattle.std.proofs.Common.{◌≡◌, ℕ, Bool, ◌+◌, ◌-◌, ◌<◌, ◌≤◌, ◌∙◌, List, Option, Some, None, option_map, refl, arith, min, length, sym, ap, subst}
+use Rattle.std.proofs.Common.{◌≡◌, ℕ, Bool, ◌+◌, ◌-◌, ◌<◌, ◌≤◌, ◌∙◌, List, Option, option_map, arith, min, length, sym, ap, subst}
 use Rattle.std.specs.Prelude.{is_some, remove}
 use Rattle.std.proofs.lemmas.List.Edits.{length-remove}
 use Rattle.starlark_hash.specs.Entries.{Entry, set_value_at}
@@ -7,15 +7,8 @@ use Rattle.starlark_hash.proofs.EntryLemmas.{length-set_value_at, IsSingle-set_v
 use Rattle.starlark_small.specs.Hashes.{Hashes, forgotten}
 use Rattle.starlark_small.specs.Index.{IsIndexed, IsSound, index_room, map_of}
 use Rattle.starlark_small.specs.Map.{Map, KeepsMemory}
-use Rattle.starlark_small.proofs.Indexed.{IsIndexed-set_value_at, indexed-at, room-forgotten}
+use Rattle.starlark_small.proofs.Indexed.{IsIndexed-set_value_at, indexed-at, is_some-map, room-forgotten}
 use Rattle.starlark_vecmap.specs.EntryList.{EntryList, with_entries}
-
--- entries were put into another order
-turn_room : (len len' cap cap' room room' : ℕ) → len' ≡ len → cap' ≡ cap → len + room ≤ len' + room' → len + min (cap - len) room ≤ len' + min (cap' - len') room'
-turn_room len len' cap cap' room room' a b c = omega arith
-
-fewer_room : (len len' cap cap' room room' : ℕ) → len' ≤ len → len ≤ cap → cap' ≡ cap → len + room ≤ len' + room' → len + min (cap - len) room ≤ len' + min (cap' - len') room'
-fewer_room len len' cap cap' room room' a b c d = omega (arith, a, b, c, d)
 
 module _ {K V : Type 0} where
   -- a value was written
@@ -41,32 +34,17 @@ module _ {K V : Type 0} where
       let room = room-forgotten (length old.entries) i index (indexed-at old.entries index indexed) (omega (arith, below)) in
       let now : 1 + index_room (length old.entries) index ≤ index_room (length new.entries) after = subst (λ n. 1 + index_room (length old.entries) index ≤ index_room n after) (sym shorter)
       (subst (λ o. 1 + index_room (length old.entries) index ≤ index_room (length old.entries - 1) o) (sym left) room) in (
-        remove_room (length old.entries) (length new.entries) old.capacity new.capacity (index_room (length old.entries) index) (index_room (length new.entries) after) shorter capacity below within now,
+        omega (arith, shorter, capacity, below, within, now),
         capacity,
         ap is_some left ∙ is_some-map (forgotten i) index,
       )
-    where
-      remove_room : (len len' cap cap' room room' : ℕ) → len' ≡ len - 1 → cap' ≡ cap → i < len → len ≤ cap → 1 + room ≤ room' → len + min (cap - len) room ≤ len' + min (cap' - len') room'
-      remove_room len len' cap cap' room room' a b c d e = omega (arith, a, b, c, d, e)
-
-      is_some-map : (f : Hashes → Hashes) (o : Option Hashes) → is_some (option_map f o) ≡ is_some o
-      is_some-map f None = refl
-      is_some-map f (Some h) = refl
 
   -- some entries are left
   pub KeepsMemory-fewer : (old new : EntryList K V) (index after : Option Hashes) → length new.entries ≤ length old.entries → length old.entries ≤ old.capacity → new.capacity ≡ old.capacity
       → length old.entries + index_room (length old.entries) index ≤ length new.entries + index_room (length new.entries) after → is_some after ≡ is_some index → KeepsMemory (map_of old index) (map_of new after)
-  KeepsMemory-fewer old new index after fewer within capacity room kept = (
-    fewer_room (length old.entries) (length new.entries) old.capacity new.capacity (index_room (length old.entries) index) (index_room (length new.entries) after) fewer within capacity room,
-    capacity,
-    kept,
-  )
+  KeepsMemory-fewer old new index after fewer within capacity room kept = (omega arith, capacity, kept)
 
   -- the entries were put into another order
   pub KeepsMemory-turned : (old new : EntryList K V) (index after : Option Hashes) → length new.entries ≡ length old.entries → new.capacity ≡ old.capacity
       → length old.entries + index_room (length old.entries) index ≤ length new.entries + index_room (length new.entries) after → is_some after ≡ is_some index → KeepsMemory (map_of old index) (map_of new after)
-  KeepsMemory-turned old new index after same capacity room kept = (
-    turn_room (length old.entries) (length new.entries) old.capacity new.capacity (index_room (length old.entries) index) (index_room (length new.entries) after) same capacity room,
-    capacity,
-    kept,
-  )
+  KeepsMemory-turned old new index after same capacity room kept = (omega arith, capacity, kept)

@@ -4,6 +4,7 @@ use Rattle.std.specs.Prelude.{slice_get}
 use Rattle.std.specs.List.{AllByRecursion, IsDistinct}
 use Rattle.std.specs.Option.{option_eq}
 use Rattle.std.proofs.lemmas.Bool.{false≢true}
+use Rattle.std.proofs.lemmas.Option.{slice_get_within}
 use Rattle.core.specs.Cmp.{IsEquivalence}
 use Rattle.std_collections.specs.Map.{keys_of, lookup}
 use Rattle.std_collections.specs.HashMap.Eq.{get_from_hash_map_eq}
@@ -45,9 +46,10 @@ module _ {K V : Type 0} (eq : K → K → Bool) (E : V → V → Bool) where
   agree-values ds es q = λ i. option_eq E (value_at-lookup eq ds q i) (value_at-lookup eq es q i)
 
   -- the values of an own key agree as its own value and what was found
-  pub agree-found : IsEquivalence eq → (ds es : List (Entry K V)) (i : ℕ) (e : Entry K V) → slice_get ds i ≡ Some e → IsSingle eq ds → i < length ds → (found : Option V) (agree answer : Bool)
+  pub agree-found : IsEquivalence eq → (ds es : List (Entry K V)) (i : ℕ) (e : Entry K V) → slice_get ds i ≡ Some e → IsSingle eq ds → (found : Option V) (agree answer : Bool)
       → found ≡ value_at es (match_of eq es e.0) → agree ≡ option_eq E (Some e.1) found → agree ≡ answer → agree_at eq E ds es e.0 ≡ answer
-  agree-found o ds es i e at single below found agree answer theirs is answers = (λ j. option_eq E (own_match eq o ds i e at single below j) (sym theirs j)) ∙ sym is ∙ answers
+  agree-found o ds es i e at single found agree answer theirs is answers =
+      (λ j. option_eq E (own_match eq o ds i e at single (slice_get_within ds i e at) j) (sym theirs j)) ∙ sym is ∙ answers
 
   pub unequal_at : IsEquivalence eq → (ds es : List (Entry K V)) (q : Hashed K) → agree_at eq E ds es q ≡ false → false ≡ same_entries eq E ds es
   unequal_at o ds es q differ =

@@ -28,6 +28,10 @@ pub none-of : (o : Option (ℕ × ℕ)) → None ≡ option_map {T = ℕ × ℕ}
 none-of None is = refl
 none-of (Some m) is = absurd (none-some m.1 is)
 
+-- what stands in a slot has one index
+same_index : (m k : ℕ × ℕ) → Some m ≡ Some k → m.1 ≡ k.1
+same_index m k is = ap (λ m. m.1) (same_Some m k is)
+
 -- ---- one slot is emptied
 left : (slots : Slots) (s t : ℕ) (m : ℕ × ℕ) → get_or (set slots s None) t None ≡ Some m → get_or slots t None ≡ Some m
 left [] s t m is = is
@@ -57,9 +61,7 @@ module _ (cells : List ℕ) (slots : Slots) (from to h x : ℕ) (can : CanMove s
   to_within = omega (arith, length-set slots from None, can.within)
 
   here : (t g y : ℕ) → t ≡ to → get_or (after_move slots from to h x) t None ≡ Some (g, y) → x ≡ y
-  here t g y same is =
-      let was : Some (h, x) ≡ Some (g, y) = sym (get_or-set_same (set slots from None) to (Some (h, x)) None to_within) ∙ subst (λ k. get_or (after_move slots from to h x) k None ≡ Some (g, y)) same is in
-      ap (λ m. m.1) (same_Some (h, x) (g, y) was)
+  here t g y same is = same_index (h, x) (g, y) (cc (get_or-set_same (set slots from None) to (Some (h, x)) None to_within))
 
   before : (t g y : ℕ) → t ≢ to → get_or (after_move slots from to h x) t None ≡ Some (g, y) → get_or (set slots from None) t None ≡ Some (g, y)
   before t g y other is = sym (get_or-set_other (set slots from None) to t (Some (h, x)) None other) ∙ is
@@ -68,9 +70,7 @@ module _ (cells : List ℕ) (slots : Slots) (from to h x : ℕ) (can : CanMove s
   other_index t g y other is = λ same.
       let was = before t g y other is in
       let named = sited.named t g y (left slots from t (g, y) was) in
-      let there = sited.named from h x can.there in
-      let back : t ≡ from = sym named ∙ ap (λ k. get_or cells k 0) same ∙ there in
-      none-some (g, y) (sym (emptied slots from) ∙ subst (λ k. get_or (set slots from None) k None ≡ Some (g, y)) back was)
+      cc (sited.named from h x can.there, emptied slots from)
 
   pub sited-moved : IsSited (set cells x to) (after_move slots from to h x)
   sited-moved = record {
@@ -91,8 +91,7 @@ sited-put cells slots slot h x last below sited =
     let put = cells ++ slot ∷ [] in
     let longer : length put ≡ length cells + 1 = length-append cells (slot ∷ []) in
     let here : (t g y : ℕ) → t ≡ slot → get_or (set slots slot (Some (h, x))) t None ≡ Some (g, y) → y ≡ length cells = λ t g y same is.
-    let was : Some (h, x) ≡ Some (g, y) = sym (get_or-set_same slots slot (Some (h, x)) None below) ∙ subst (λ k. get_or (set slots slot (Some (h, x))) k None ≡ Some (g, y)) same is in
-    sym (ap (λ m. m.1) (same_Some (h, x) (g, y) was)) ∙ last in
+    sym (same_index (h, x) (g, y) (cc (get_or-set_same slots slot (Some (h, x)) None below))) ∙ last in
     let before : (t g y : ℕ) → t ≢ slot → get_or (set slots slot (Some (h, x))) t None ≡ Some (g, y) → get_or slots t None ≡ Some (g, y) = λ t g y other is.
     sym (get_or-set_other slots slot t (Some (h, x)) None other) ∙ is in
     record {
@@ -131,12 +130,10 @@ pub named-next : (i : ℕ) (cells : List ℕ) (slots : Slots) (h x : ℕ) → St
 named-next i cells slots h x once below at named = record {
   before = λ s g y lt is. elim (same_or s i) [
     | inl same ↦
-        let is_x : x ≡ y = ap (λ m. m.1) (same_Some (h, x) (g, y) (sym at ∙ subst (λ k. get_or slots k None ≡ Some (g, y)) same is)) in
-        ap (λ k. get_or (set cells x i) k 0) (sym is_x) ∙ get_or-set_same cells x i 0 below ∙ sym same
+        let is_x : x ≡ y = same_index (h, x) (g, y) cc in cc (get_or-set_same cells x i 0 below)
     | inr other ↦
         let apart : y ≢ x = λ same. other (once.once s i g h x (is ∙ ap (λ k. Some (g, k)) same) at) in
-        let less : s < i = elim (cases_lt s i) [ inl less ↦ less | inr more ↦ absurd (other (omega (arith, more, lt))) ] in
-        get_or-set_other cells x y i 0 apart ∙ named.before s g y less is
+        get_or-set_other cells x y i 0 apart ∙ named.before s g y (omega arith) is
   ];
 }
 
@@ -144,9 +141,7 @@ pub named-pass : (i : ℕ) (cells : List ℕ) (slots : Slots) → get_or slots i
 named-pass i cells slots none named = record {
   before = λ s g y lt is. elim (same_or s i) [
     | inl same ↦ absurd (none-some (g, y) (sym none ∙ subst (λ k. get_or slots k None ≡ Some (g, y)) same is))
-    | inr other ↦
-        let less : s < i = elim (cases_lt s i) [ inl less ↦ less | inr more ↦ absurd (other (omega (arith, more, lt))) ] in
-        named.before s g y less is
+    | inr other ↦ named.before s g y (omega arith) is
   ];
 }
 
@@ -264,10 +259,7 @@ module _ (i : ℕ) (cells : List ℕ) (t : Table ℕ) (sited : IsSited cells t.s
         ap (λ o. set now.slots slot (option_map (λ m. (m.0, j - 1)) o)) next-there ∙ ap (λ l. set l slot (Some (h, j - 1))) held ∙ ap (λ k. set (renamed (lowered_to i j) t.slots) slot (Some (h, k))) sinks
         ∙ renamed-one (lowered_to i j) (lowered_to i (j + 1)) t.slots slot h j at (λ s k y apart is.
         let other : y ≢ j = λ same. apart (sym (sited.named s k y is) ∙ ap (λ x. get_or cells x 0) same) in
-        elim (cases_order y j) [
-          | inl same ↦ absurd (other same)
-          | inr sides ↦ elim sides [ inl less ↦ grind (arith, nat_tests) | inr more ↦ grind (arith, nat_tests) ]
-        ])
+        grind (arith, nat_tests))
 
 -- ---- the last index is gone
 pub sited-last : (cells : List ℕ) (t : Table ℕ) (n : ℕ) → n ≤ length cells → All (λ m. m.1 < n) (members t) → IsSited cells t.slots → IsSited (take n cells) t.slots

@@ -7,7 +7,7 @@ use Rattle.starlark_hash.specs.HashValue.{promoted}
 use Rattle.starlark_small.specs.Hashes.{Hashes}
 use Rattle.starlark_vecmap.specs.EntryList.{with_values}
 use Rattle.starlark_vecmap.proofs.ValuesWritten.{length-with_values}
-use Rattle.starlark_small.specs.Index.{IsIndexOf, IsIndexed, IsSound, hashes_of}
+use Rattle.starlark_small.specs.Index.{IsIndexed, IsSound, hashes_of}
 
 -- whether two keys are alike under their hashes
 abbrev clash : {K : Type 0} → (K → K → Bool) → Hashed K → Hashed K → Bool
@@ -31,15 +31,12 @@ module _ {K V : Type 0} where
   hashes-with_values (e ∷ es) [] = ap (λ l. promoted e.0.hash.0 ∷ l) (hashes-with_values es [])
   hashes-with_values (e ∷ es) (w ∷ ws) = ap (λ l. promoted e.0.hash.0 ∷ l) (hashes-with_values es ws)
 
-  IsIndexOf-with_values : (es ws : List (Entry K V)) (h : Hashes) → IsIndexOf es h → IsIndexOf (with_values es ws) h
-  IsIndexOf-with_values es ws h index = record {
+  IsIndexed-with_values : (es ws : List (Entry K V)) (index : Option Hashes) → IsIndexed es index → IsIndexed (with_values es ws) index
+  IsIndexed-with_values es ws None short = omega (arith, length-with_values es ws)
+  IsIndexed-with_values es ws (Some h) index = record {
     list = index.list ∙ sym (hashes-with_values es ws);
     fits = λ k d below. subst (λ h. h.hash.0 < 2 ^ 32) (sym (with_values-key es ws k d)) (index.fits k d (omega (arith, length-with_values es ws)));
   }
-
-  IsIndexed-with_values : (es ws : List (Entry K V)) (index : Option Hashes) → IsIndexed es index → IsIndexed (with_values es ws) index
-  IsIndexed-with_values es ws None short = omega (arith, length-with_values es ws)
-  IsIndexed-with_values es ws (Some h) index = IsIndexOf-with_values es ws h index
 
   pub IsSound-with_values : (eq : K → K → Bool) (es ws : List (Entry K V)) (index : Option Hashes) → IsSound eq es index → IsSound eq (with_values es ws) index
   IsSound-with_values eq es ws index sound = record { single = IsSingle-with_values eq es ws sound.single; indexed = IsIndexed-with_values es ws index sound.indexed }

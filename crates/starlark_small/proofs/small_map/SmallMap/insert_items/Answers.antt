@@ -3,7 +3,6 @@ use Rattle.std.proofs.iter.Next as it
 use Rattle.starlark_hash.specs.Entries.{match_of}
 use Rattle.starlark_small.specs.Collect.{own_entry}
 use Rattle.starlark_small.proofs.Inserting.{yields_more, filled_none, filled_more, filled_still, long_is_indexed}
-use Rattle.std.proofs.Common.{arith}
 use Rattle.starlark_small.proofs.small_map.SmallMap.insert_items.Goals as goal
 
 pub loop-pair-init : goal.loop-pair-init
@@ -52,8 +51,3 @@ returns-in-Err g c =
       };
       left = still.left;
     }
-
-pub returns-clause-left : goal.returns-clause-left
-returns-clause-left g c =
-    let inv = c.loop-pair.invariant in
-    omega (arith, inv.holds.room, inv.holds.added, inv.counted)

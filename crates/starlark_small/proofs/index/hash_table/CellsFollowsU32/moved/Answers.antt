@@ -1,4 +1,4 @@
-use Rattle.std.proofs.Common.{Some, None, ap, arith}
+use Rattle.std.proofs.Common.{Some, None, arith}
 use Rattle.std.proofs.Math.ListN.{set}
 use Rattle.std.proofs.lemmas.List.{length-set}
 use Rattle.starlark_small.proofs.Slots.{moved-within, sited-moved}
@@ -14,6 +14,3 @@ returns-clause-known c = λ slots from h can known. (
   sited-moved c.args.self.now.0.items slots from c.args.slot h c.args.item.now can known.0,
   omega (arith, length-set (set slots from None) c.args.slot (Some (h, c.args.item.now)), length-set slots from None, known.1),
 )
-
-pub returns-clause-size : goal.returns-clause-size
-returns-clause-size c = ap (λ n. (n, c.args.self.now.0.cap)) (length-set c.args.self.now.0.items c.args.item.now c.args.slot)

@@ -1,10 +1,9 @@
 use Rattle.std.proofs.Common.{◌≡◌, ◌+◌, ◌<◌, None, length, get_or, refl, sym, ap, subst, ◌∙◌, arith, vec_capacity}
 use Rattle.std.specs.List.{All}
 use Rattle.std.proofs.Math.ListN.{set}
-use Rattle.std.proofs.lemmas.List.{length-set}
+use Rattle.std.proofs.lemmas.List.{get_or_past, length-set}
 use Rattle.std.proofs.lemmas.List.Elements.{All-contains}
 use Rattle.starlark_table.specs.Table.{members}
-use Rattle.std.proofs.lemmas.List.{get_or_past}
 use Rattle.starlark_table.proofs.Closing.{full_not_empty}
 use Rattle.starlark_table.proofs.TableLemmas.{members-member_at}
 use Rattle.starlark_small.proofs.Slots.{AreNamed, named-none, named-next, named-on, named-pass, sited-named, item-of, none-of}

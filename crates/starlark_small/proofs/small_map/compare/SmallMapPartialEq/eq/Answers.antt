@@ -1,4 +1,4 @@
-use Rattle.std.proofs.Common.{◌≡◌, ◌<◌, true, false, length, get_or, slice_get, None, Some, refl, sym, ap, subst, ◌∙◌, arith}
+use Rattle.std.proofs.Common.{◌≡◌, true, false, length, get_or, slice_get, None, Some, refl, sym, ap, subst, ◌∙◌, arith}
 use Rattle.std_collections.specs.Map.{keys_of}
 use borrow.Author.Count.{below_more}
 use Rattle.starlark_hash.specs.declared.hashed.Hashed.{Hashed}
@@ -13,9 +13,8 @@ returns-then-not-eq g c =
     let ds = c.args.self.now.entries in
     let e = deref_entry c.get_unchecked.result in
     let at = ap (λ m. slice_get m.entries c.loop-i.i) (sym c.self.view_is) ∙ c.get_unchecked.ensures in
-    let within : c.loop-i.i < length ds = omega (arith, ap (λ m. length m.entries) c.self.view_is) in
     unequal_at g.K.PartialEq.eq g.V.PartialEq.eq g.met.K.Eq.laws ds c.args.other.now.entries e.0
-    (agree-found g.K.PartialEq.eq g.V.PartialEq.eq g.met.K.Eq.laws ds c.args.other.now.entries c.loop-i.i e at (subst (λ m. IsSingle g.K.PartialEq.eq m.entries) c.self.view_is c.self.invariant.single) within
+    (agree-found g.K.PartialEq.eq g.V.PartialEq.eq g.met.K.Eq.laws ds c.args.other.now.entries c.loop-i.i e at (subst (λ m. IsSingle g.K.PartialEq.eq m.entries) c.self.view_is c.self.invariant.single)
     (Some c.in-Some.found.now) c.eq.result false c.in-Some.ensures.value c.eq.ensures c.if-not-eq.true)
 
 pub returns-in-None : goal.returns-in-None
@@ -23,9 +22,8 @@ returns-in-None g c =
     let ds = c.args.self.now.entries in
     let e = deref_entry c.get_unchecked.result in
     let at = ap (λ m. slice_get m.entries c.loop-i.i) (sym c.self.view_is) ∙ c.get_unchecked.ensures in
-    let within : c.loop-i.i < length ds = omega (arith, ap (λ m. length m.entries) c.self.view_is) in
     unequal_at g.K.PartialEq.eq g.V.PartialEq.eq g.met.K.Eq.laws ds c.args.other.now.entries e.0
-    (agree-found g.K.PartialEq.eq g.V.PartialEq.eq g.met.K.Eq.laws ds c.args.other.now.entries c.loop-i.i e at (subst (λ m. IsSingle g.K.PartialEq.eq m.entries) c.self.view_is c.self.invariant.single) within
+    (agree-found g.K.PartialEq.eq g.V.PartialEq.eq g.met.K.Eq.laws ds c.args.other.now.entries c.loop-i.i e at (subst (λ m. IsSingle g.K.PartialEq.eq m.entries) c.self.view_is c.self.invariant.single)
     None false false c.in-None.ensures.value (refl {a = false}) (refl {a = false}))
 
 pub loop-i-preserved : goal.loop-i-preserved
@@ -34,9 +32,8 @@ loop-i-preserved g c =
     let es = c.args.other.now.entries in
     let e = deref_entry c.get_unchecked.result in
     let at = ap (λ m. slice_get m.entries c.loop-i.i) (sym c.self.view_is) ∙ c.get_unchecked.ensures in
-    let within : c.loop-i.i < length ds = omega (arith, ap (λ m. length m.entries) c.self.view_is) in
     let agree = λ (q : Hashed g.row.K.Denot). agree_at g.K.PartialEq.eq g.V.PartialEq.eq ds es q ≡ true in
-    let here : agree e.0 = agree-found g.K.PartialEq.eq g.V.PartialEq.eq g.met.K.Eq.laws ds es c.loop-i.i e at (subst (λ m. IsSingle g.K.PartialEq.eq m.entries) c.self.view_is c.self.invariant.single) within
+    let here : agree e.0 = agree-found g.K.PartialEq.eq g.V.PartialEq.eq g.met.K.Eq.laws ds es c.loop-i.i e at (subst (λ m. IsSingle g.K.PartialEq.eq m.entries) c.self.view_is c.self.invariant.single)
     (Some c.in-Some.found.now) c.eq.result true c.in-Some.ensures.value c.eq.ensures c.if-not-eq.false in
     below_more (λ n. (d : Hashed g.row.K.Denot) → agree (get_or (keys_of ds) n d)) c.loop-i.i c.loop-i.invariant
     (λ d. subst agree (sym (own_key g.K.PartialEq.eq g.met.K.Eq.laws ds c.loop-i.i e at d)) here)
