@@ -61,6 +61,7 @@ impl<K: Eq, V> SmallMap<K, V> {
 
     /// An empty map of this capacity, with room for so many entries, and with an index where so many need one. Where
     /// memory is refused, nothing is made; capacity 0 asks for none.
+    #[inline(always)]
     pub fn with_capacity(alloc: Global, capacity: usize) -> Result<Self, AllocError>
         ensures { MakesEmptyFor capacity result }
     {

@@ -29,7 +29,7 @@ pub(crate) fn search_columns<K, V, F: FnMut(&K) -> bool>(
 }
 
 // The same of columns that one mask covers.
-#[inline]
+#[inline(always)]
 pub(crate) fn search_few<K, V, F: FnMut(&K) -> bool>(
     pairs: &[(K, V)],
     hashes: &[u32],

@@ -130,7 +130,7 @@ impl<K, V> VecMap<K, V> {
 
     /// As `get_index_of_hashed`, where there are up to 32 entries; None where there are more. The code is short, since
     /// it has one way to search. Rust has no such call.
-    #[inline]
+    #[inline(always)]
     pub fn get_index_of_hashed_among_few<Q: Query<K>>(&self, key: Hashed<Q>) -> Option<usize>
     where
         K: Eq,
@@ -147,7 +147,7 @@ impl<K, V> VecMap<K, V> {
     }
 
     // The first index under the hash whose key `accepts` answers true for.
-    #[inline]
+    #[inline(always)]
     fn search_few<F: FnMut(&K) -> bool>(&self, hash: StarlarkHashValue, accepts: F) -> Option<usize>
         requires few { length self.now.entries ≤ 32 }
         requires callable { CanSearch F.FnMut (keys_under hash self.now.entries) accepts }

@@ -10,7 +10,7 @@ use std::alloc::{AllocError, Global};
 use std::hash::Hash;
 
 impl<K: Eq + Hash + Drop, V: Drop> SmallMap<K, V> {
-    /// InsertsItems the items in their order, each under its key's own hash, as `insert` does. It reserves nothing, and
+    /// Inserts the items in their order, each under its key's own hash, as `insert` does. It reserves nothing, and
     /// where there is room for all of them, capacity and index stay. Where a new key is refused, the items that came
     /// before are there and have used up the room, and it and the others are dropped. The capacity grows as by
     /// insertions one after the other. The iterator must end.
@@ -40,7 +40,7 @@ impl<K: Eq + Hash + Drop, V: Drop> SmallMap<K, V> {
         Ok(map)
     }
 
-    // InsertsItems the items of an iterator.
+    // Inserts the items of an iterator.
     fn insert_items<I: Iterator<Item = (K, V)>>(&mut self, mut items: I) -> Result<(), AllocError>
         requires can { I.can_next items }
         requires finite { IsFinite (I.remaining items) }
@@ -78,7 +78,7 @@ impl<K: Eq + Drop, V: Drop> SmallMap<K, V> {
         Ok(map)
     }
 
-    // InsertsItems the entries of an iterator.
+    // Inserts the entries of an iterator.
     fn insert_entries<I: Iterator<Item = (Hashed<K>, V)>>(
         &mut self,
         mut items: I,
