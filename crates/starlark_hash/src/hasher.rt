@@ -144,13 +144,17 @@ impl StarlarkHasher {
     }
 }
 
-// The hasher after any bytes, out of line, so that what calls `write` stays small. The hasher goes by value, so that its state
-// is in no memory where few bytes are written.
+// The hasher after any bytes, out of line, so that what feeds a text is small enough to be inlined. The hasher goes by value, so
+// that its state is in no memory.
 #[inline(never)]
 fn after_bytes(hasher: StarlarkHasher, bytes: &[u8]) -> StarlarkHasher
     ensures { result ≡ starlark.write hasher bytes.now }
 {
     let mut hasher = hasher;
+    if 4 <= bytes.len() && bytes.len() < 24 {
+        hasher.add_short(bytes);
+        return hasher;
+    }
     hasher.add_each_8(bytes);
     hasher.add_4(bytes);
     hasher.add_2(bytes);
@@ -241,12 +245,8 @@ impl Hasher for StarlarkHasher {
 
     #[inline]
     fn write(&mut self, bytes: &[u8]) {
-        if 4 <= bytes.len() && bytes.len() < 24 {
-            self.add_short(bytes);
-        } else {
-            let hasher = StarlarkHasher { state: self.state };
-            *self = after_bytes(hasher, bytes);
-        }
+        let hasher = StarlarkHasher { state: self.state };
+        *self = after_bytes(hasher, bytes);
     }
 
     #[inline]
