@@ -22,6 +22,10 @@ pub use Rattle.starlark_hash.specs.Retain as EntriesRetain
 pub use Rattle.starlark_vecmap.specs.Lend as EntryListLend
 pub use Rattle.starlark_table.specs.Table
 pub use Rattle.starlark_table.specs.Growth as TableGrowth
+pub use Rattle.starlark_table.specs.Layout as TableLayout
+pub use Rattle.starlark_table.specs.Walk as TableWalk
+pub use Rattle.starlark_table.specs.Lend as TableLend
+pub use Rattle.starlark_table.specs.Follow as TableFollow
 pub use Rattle.starlark_small.specs.Map
 pub use Rattle.starlark_small.specs.Memory as MapMemory
 pub use Rattle.starlark_small.specs.Insert as MapInsert

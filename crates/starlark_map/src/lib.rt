@@ -23,4 +23,4 @@ pub use starlark_hash::{
 };
 pub use starlark_runs::{Command, Reply, run};
 pub use starlark_sets::TryInsertError;
-pub use starlark_table::ReadyTable;
+pub use starlark_table::{Follows, KeptHash, ReadyTable};
