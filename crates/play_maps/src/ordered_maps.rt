@@ -1,8 +1,8 @@
 //! The commands on an ordered map.
 
 use crate::ordered_entries::enter;
-use play_words::values::{compare, finished, raised};
-use play_words::walks::{cloned_ends, ends, forth};
+use play_words::values::{finished, raise, raised, write};
+use play_words::walks::{all, cloned_ends, ends, forth};
 use play_words::{Fault, Key, Out, Slot, Slots, Words};
 use starlark_map::ordered_map::OrderedMap;
 use starlark_map::small_map::SmallMap;
@@ -17,38 +17,11 @@ pub fn play<K: Key>(
     out: &mut Out,
 ) -> Result<(), Fault> {
     match op {
-        "eq" | "cmp" => meet(maps, slot, op, words, out),
+        "eq" => maps.equal(slot, words, out),
+        "cmp" => maps.compare(slot, words, out),
         "clone" => copy(maps, slot, words, out),
         "fromsmall" => from_small(maps.at_mut(slot), small, words, out),
-        "new"
-        | "cap"
-        | "from"
-        | "extend"
-        | "insert"
-        | "remove"
-        | "write"
-        | "entry"
-        | "clear"
-        | "sort" => change(maps.at_mut(slot), op, words, out),
-        "raise" => raise(maps.at_mut(slot), words, out),
-        "number" => number(maps.at_mut(slot), out),
-        "ends" => ends_of(maps.at_mut(slot), words, out),
-        _ => look(maps.at(slot), op, words, out),
-    }
-}
-
-fn meet<K: Key>(
-    maps: &Slots<OrderedMap<K, i64>>,
-    slot: Slot,
-    op: &str,
-    mut words: Words<'_>,
-    out: &mut Out,
-) -> Result<(), Fault> {
-    let other = maps.at(words.slot()?);
-    if op == "eq" {
-        out.put(maps.at(slot) == other)
-    } else {
-        compare(maps.at(slot), other, out)
+        _ => change(maps.at_mut(slot), op, words, out),
     }
 }
 
@@ -58,9 +31,8 @@ fn copy<K: Key>(
     mut words: Words<'_>,
     out: &mut Out,
 ) -> Result<(), Fault> {
-    let map = maps.at(words.slot()?).clone()?;
-    *maps.at_mut(slot) = map;
-    out.say("ok")
+    let made = maps.at(words.slot()?).clone();
+    maps.set(slot, made, out)
 }
 
 fn from_small<K: Key>(
@@ -81,14 +53,28 @@ fn change<K: Key>(
     out: &mut Out,
 ) -> Result<(), Fault> {
     match op {
-        "new" => {
-            *map = OrderedMap::new(words.alloc);
-            out.say("ok")
+        "new" => *map = OrderedMap::new(words.alloc),
+        "cap" => *map = OrderedMap::with_capacity(words.alloc, words.count()?)?,
+        "clear" => map.clear(),
+        "sort" => map.sort_keys()?,
+        "entry" => {
+            let key = words.key()?;
+            return enter(map, key, words, out);
         }
-        "cap" => {
-            *map = OrderedMap::with_capacity(words.alloc, words.count()?)?;
-            out.say("ok")
-        }
+        "number" => return number(map, out),
+        "ends" => return ends_of(map, words, out),
+        _ => return insert(map, op, words, out),
+    }
+    out.say("ok")
+}
+
+fn insert<K: Key>(
+    map: &mut OrderedMap<K, i64>,
+    op: &str,
+    mut words: Words<'_>,
+    out: &mut Out,
+) -> Result<(), Fault> {
+    match op {
         "from" => {
             *map = OrderedMap::from_iter(words.alloc, words.pairs::<K>()?)?;
             out.put(map.len())
@@ -97,65 +83,24 @@ fn change<K: Key>(
             map.extend(words.pairs::<K>()?)?;
             out.put(map.len())
         }
-        "insert" => insert(map, words, out),
+        "insert" => {
+            let (key, value) = words.pair()?;
+            out.put(map.insert(key, value)?)
+        }
         "remove" => {
             let key: K = words.key()?;
             out.put(map.remove(&key))
         }
-        "write" => write(map, words, out),
-        "entry" => {
-            let key = words.key()?;
-            enter(map, key, words, out)
+        "write" => {
+            let (key, by): (K, i64) = words.pair()?;
+            write(map.get_mut(&key), by, out)
         }
-        "clear" => {
-            map.clear();
-            out.say("ok")
+        "raise" => {
+            let by = words.value()?;
+            raise(map.values_mut(), by, out)
         }
-        _ => {
-            map.sort_keys()?;
-            out.say("ok")
-        }
+        _ => look(map, op, words, out),
     }
-}
-
-fn insert<K: Key>(
-    map: &mut OrderedMap<K, i64>,
-    mut words: Words<'_>,
-    out: &mut Out,
-) -> Result<(), Fault> {
-    let key = words.key()?;
-    out.put(map.insert(key, words.value()?)?)
-}
-
-fn write<K: Key>(
-    map: &mut OrderedMap<K, i64>,
-    mut words: Words<'_>,
-    out: &mut Out,
-) -> Result<(), Fault> {
-    let key: K = words.key()?;
-    let by = words.value()?;
-    match map.get_mut(&key) {
-        None => out.say("none"),
-        Some(value) => {
-            out.put(*value)?;
-            *value = raised(*value, by);
-            Ok(())
-        }
-    }
-}
-
-fn raise<K: Key>(
-    map: &mut OrderedMap<K, i64>,
-    mut words: Words<'_>,
-    out: &mut Out,
-) -> Result<(), Fault> {
-    let by = words.value()?;
-    let walk = map.values_mut();
-    out.put(walk.len())?;
-    for value in walk {
-        *value = raised(*value, by);
-    }
-    Ok(())
 }
 
 // Adds to each value its index, and then to each the length.
@@ -196,18 +141,10 @@ fn look<K: Key>(
             out.put(map.is_empty())
         }
         "hash" => out.put(finished(map)),
-        "walk" => walk(map, out),
+        "walk" => all(map.iter_hashed(), out),
         "debug" => out.debug(map),
         _ => Err(Fault::BadLine),
     }
-}
-
-fn walk<K: Key>(map: &OrderedMap<K, i64>, out: &mut Out) -> Result<(), Fault> {
-    out.put(map.len())?;
-    for entry in map.iter_hashed() {
-        out.put(entry)?;
-    }
-    Ok(())
 }
 
 // WALK STEPS

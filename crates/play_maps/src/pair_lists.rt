@@ -1,7 +1,7 @@
 //! Pair lists.
 
 use play_words::values::{finished, raised, remainder, sieve};
-use play_words::walks::{cloned_ends, ends};
+use play_words::walks::{all, cloned_ends, ends};
 use play_words::{Fault, Key, Out, Slot, Slots, Words};
 use starlark_map::vec2::Vec2;
 
@@ -15,19 +15,10 @@ pub fn play<K: Key>(
     out: &mut Out,
 ) -> Result<(), Fault> {
     match op {
-        "eq" => equal(lists, slot, words, out),
+        "eq" => lists.equal(slot, words, out),
         "clone" => copy(lists, slot, words, out),
         _ => one(lists.at_mut(slot), op, words, out),
     }
-}
-
-fn equal<K: Key>(
-    lists: &Slots<Vec2<K, i64>>,
-    slot: Slot,
-    mut words: Words<'_>,
-    out: &mut Out,
-) -> Result<(), Fault> {
-    out.put(lists.at(slot) == lists.at(words.slot()?))
 }
 
 fn copy<K: Key>(
@@ -36,9 +27,8 @@ fn copy<K: Key>(
     mut words: Words<'_>,
     out: &mut Out,
 ) -> Result<(), Fault> {
-    let list = lists.at(words.slot()?).clone()?;
-    *lists.at_mut(slot) = list;
-    out.say("ok")
+    let made = lists.at(words.slot()?).clone();
+    lists.set(slot, made, out)
 }
 
 fn one<K: Key>(
@@ -67,7 +57,7 @@ fn one<K: Key>(
         "retain" => retain(list, words, out),
         "sort" => sort(list, out),
         "sortby" => sort_by(list, words, out),
-        "walk" => walk(list, out),
+        "walk" => all((&*list).into_iter(), out),
         "ends" => walk_ends(list, words, out),
         "debug" => out.debug(list),
         "hash" => out.put(finished(list)),
@@ -104,8 +94,8 @@ fn reserve<K: Key>(list: &mut List<K>, mut words: Words<'_>, out: &mut Out) -> R
 }
 
 fn push<K: Key>(list: &mut List<K>, mut words: Words<'_>, out: &mut Out) -> Result<(), Fault> {
-    let key = words.key()?;
-    list.push(key, words.value()?)?;
+    let (key, value) = words.pair()?;
+    list.push(key, value)?;
     out.put(list.len())
 }
 
@@ -115,8 +105,7 @@ fn get<K: Key>(list: &List<K>, mut words: Words<'_>, out: &mut Out) -> Result<()
 
 fn set<K: Key>(list: &mut List<K>, mut words: Words<'_>, out: &mut Out) -> Result<(), Fault> {
     let place = words.count()?;
-    let key = words.key()?;
-    let value = words.value()?;
+    let (key, value) = words.pair()?;
     match list.get_mut(place) {
         None => out.say("none"),
         Some((first, second)) => {
@@ -181,14 +170,6 @@ fn sort_by<K: Key>(list: &mut List<K>, mut words: Words<'_>, out: &mut Out) -> R
     let by = words.value()?;
     list.sort_by(|first, second| remainder(*first.1, by).cmp(&remainder(*second.1, by)))?;
     out.say("ok")
-}
-
-fn walk<K: Key>(list: &List<K>, out: &mut Out) -> Result<(), Fault> {
-    out.put(list.len())?;
-    for entry in list {
-        out.put(entry)?;
-    }
-    Ok(())
 }
 
 fn walk_ends<K: Key>(list: &List<K>, mut words: Words<'_>, out: &mut Out) -> Result<(), Fault> {

@@ -1,7 +1,7 @@
 //! The calls of a small map by key, by hash and by index.
 
-use play_words::values::{raised, remainder};
-use play_words::walks::{cloned_ends, ends, forth};
+use play_words::values::{raise, raised, remainder, write};
+use play_words::walks::{all, cloned_ends, ends, forth};
 use play_words::{Fault, Key, Out, Words};
 use starlark_map::small_map::SmallMap;
 use starlark_map::{Hashed, StarlarkHasher};
@@ -28,16 +28,17 @@ pub fn make<K: Key>(
             map.extend(words.pairs::<K>()?)?;
             out.put(map.len())
         }
-        _ => {
+        "reserve" => {
             let count = words.count()?;
             map.reserve(count)?;
             out.put(map.room() >= count)
         }
+        _ => insert(map, op, words, out),
     }
 }
 
-/// Puts an entry in, or writes a value.
-pub fn insert<K: Key>(
+// Puts an entry in, or writes a value.
+fn insert<K: Key>(
     map: &mut SmallMap<K, i64>,
     op: &str,
     mut words: Words<'_>,
@@ -45,19 +46,24 @@ pub fn insert<K: Key>(
 ) -> Result<(), Fault> {
     match op {
         "insert" => {
-            let key = words.key()?;
-            out.put(map.insert(key, words.value()?)?)
+            let (key, value) = words.pair()?;
+            out.put(map.insert(key, value)?)
+        }
+        "put" => {
+            let (key, value) = words.hashed_pair()?;
+            out.put(map.insert_hashed(key, value)?)
         }
         "unique" => unique(map, words, out),
         "uniqueh" => unique_hashed(map, words, out),
         "write" => {
-            let key: K = words.key()?;
-            write(map.get_mut(&key), words.value()?, out)
+            let (key, by): (K, i64) = words.pair()?;
+            write(map.get_mut(&key), by, out)
         }
-        _ => {
-            let key: Hashed<K> = words.hashed()?;
-            write(map.get_mut_hashed(key.as_ref()), words.value()?, out)
+        "writeh" => {
+            let (key, by): (Hashed<K>, i64) = words.hashed_pair()?;
+            write(map.get_mut_hashed(key.as_ref()), by, out)
         }
+        _ => remove(map, op, words, out),
     }
 }
 
@@ -66,11 +72,11 @@ fn unique<K: Key>(
     mut words: Words<'_>,
     out: &mut Out,
 ) -> Result<(), Fault> {
-    let key: K = words.key()?;
+    let (key, value): (K, i64) = words.pair()?;
     if map.contains_key(&key) {
         return out.say("there");
     }
-    map.insert_unique_unchecked(key, words.value()?)?;
+    map.insert_unique_unchecked(key, value)?;
     out.say("ok")
 }
 
@@ -79,27 +85,16 @@ fn unique_hashed<K: Key>(
     mut words: Words<'_>,
     out: &mut Out,
 ) -> Result<(), Fault> {
-    let key: Hashed<K> = words.hashed()?;
+    let (key, value): (Hashed<K>, i64) = words.hashed_pair()?;
     if map.contains_key_hashed(key.as_ref()) {
         return out.say("there");
     }
-    map.insert_hashed_unique_unchecked(key, words.value()?)?;
+    map.insert_hashed_unique_unchecked(key, value)?;
     out.say("ok")
 }
 
-fn write(value: Option<&mut i64>, by: i64, out: &mut Out) -> Result<(), Fault> {
-    match value {
-        None => out.say("none"),
-        Some(value) => {
-            out.put(*value)?;
-            *value = raised(*value, by);
-            Ok(())
-        }
-    }
-}
-
-/// Takes an entry out.
-pub fn remove<K: Key>(
+// Takes an entry out.
+fn remove<K: Key>(
     map: &mut SmallMap<K, i64>,
     op: &str,
     mut words: Words<'_>,
@@ -114,18 +109,29 @@ pub fn remove<K: Key>(
             let key: K = words.key()?;
             out.put(map.shift_remove_entry(&key))
         }
+        "del" => {
+            let key: Hashed<K> = words.hashed()?;
+            out.put(map.shift_remove_hashed(key.as_ref()))
+        }
         "takeh" => {
             let key: Hashed<K> = words.hashed()?;
             out.put(map.shift_remove_hashed_entry(key.as_ref()))
         }
         "removeat" => out.put(map.shift_remove_index(words.count()?)),
         "removeath" => out.put(map.shift_remove_index_hashed(words.count()?)),
-        _ => out.put(map.pop()),
+        "pop" => out.put(map.pop()),
+        "retain" => retain(map, words, out),
+        "raise" => {
+            let by = words.value()?;
+            raise(map.values_mut(), by, out)
+        }
+        "ends" => ends_of(map, words, out),
+        _ => look(map, op, words, out),
     }
 }
 
-/// MORE BY REST: adds MORE to each value, and keeps those that leave another rest than REST.
-pub fn retain<K: Key>(
+// MORE BY REST: adds MORE to each value, and keeps those that leave another rest than REST.
+fn retain<K: Key>(
     map: &mut SmallMap<K, i64>,
     mut words: Words<'_>,
     out: &mut Out,
@@ -143,29 +149,8 @@ pub fn retain<K: Key>(
     out.put(map.len())
 }
 
-/// BY: adds BY to each value.
-pub fn raise<K: Key>(
-    map: &mut SmallMap<K, i64>,
-    mut words: Words<'_>,
-    out: &mut Out,
-) -> Result<(), Fault> {
-    let by = words.value()?;
-    let walk = map.values_mut();
-    out.put(walk.len())?;
-    for value in walk {
-        *value = raised(*value, by);
-    }
-    Ok(())
-}
-
-/// Looks a key up under its own hash.
-pub fn find<K: Key>(
-    map: &SmallMap<K, i64>,
-    op: &str,
-    mut words: Words<'_>,
-    out: &mut Out,
-) -> Result<(), Fault> {
-    let key: K = words.key()?;
+// Looks a key up under its own hash.
+fn find<K: Key>(map: &SmallMap<K, i64>, op: &str, key: K, out: &mut Out) -> Result<(), Fault> {
     match op {
         "get" => out.put(map.get(&key)),
         "full" => full(map.get_full(&key), out),
@@ -174,14 +159,13 @@ pub fn find<K: Key>(
     }
 }
 
-/// Looks a key up under a hash.
-pub fn find_hashed<K: Key>(
+// Looks a key up under a hash.
+fn find_hashed<K: Key>(
     map: &SmallMap<K, i64>,
     op: &str,
-    mut words: Words<'_>,
+    key: Hashed<K>,
     out: &mut Out,
 ) -> Result<(), Fault> {
-    let key: Hashed<K> = words.hashed()?;
     match op {
         "geth" => out.put(map.get_hashed(key.as_ref())),
         "fullh" => full(map.get_full_hashed(key.as_ref()), out),
@@ -201,11 +185,8 @@ fn find_by_value<K: Key>(
         "getv" => out.put(map.get_hashed_by_value(key)),
         "indexv" => out.put(map.get_index_of_hashed_by_value(key)),
         "hashv" => out.put(map.contains_key_hashed_by_value(key)),
-        _ => {
-            let hash = key.hash();
-            let key = key.into_key();
-            out.put(map.find_by_hash(hash, |other| *other == key))
-        }
+        "find" => out.put(map.find_by_hash(key.hash(), |other| *other == *key.key())),
+        _ => Err(Fault::BadLine),
     }
 }
 
@@ -220,8 +201,8 @@ fn full<K: Key>(entry: Option<(usize, &K, &i64)>, out: &mut Out) -> Result<(), F
     }
 }
 
-/// Looks at entries by their indices, or at the map as a whole.
-pub fn look<K: Key>(
+// Looks at entries by their indices, or at the map as a whole.
+fn look<K: Key>(
     map: &SmallMap<K, i64>,
     op: &str,
     mut words: Words<'_>,
@@ -242,12 +223,15 @@ pub fn look<K: Key>(
             map.hash_ordered(&mut hasher);
             out.put(hasher.finish())
         }
-        _ => Err(Fault::BadLine),
+        "walk" => all(map.iter_hashed(), out),
+        "debug" => out.debug(map),
+        "get" | "full" | "index" | "has" => find(map, op, words.key()?, out),
+        _ => find_hashed(map, op, words.hashed()?, out),
     }
 }
 
-/// WALK STEPS
-pub fn ends_of<K: Key>(
+// WALK STEPS
+fn ends_of<K: Key>(
     map: &mut SmallMap<K, i64>,
     mut words: Words<'_>,
     out: &mut Out,

@@ -1,7 +1,7 @@
 //! The commands on a sorted map.
 
-use play_words::values::{compare, finished, raised};
-use play_words::walks::{cloned_ends, ends, forth};
+use play_words::values::{finished, raise, raised, write};
+use play_words::walks::{all, cloned_ends, ends, forth};
 use play_words::{Fault, Key, Out, Slot, Slots, Words, had};
 use starlark_map::ordered_map::OrderedMap;
 use starlark_map::small_map::SmallMap;
@@ -18,30 +18,12 @@ pub fn play<K: Key>(
     out: &mut Out,
 ) -> Result<(), Fault> {
     match op {
-        "eq" | "cmp" => meet(maps, slot, op, words, out),
+        "eq" => maps.equal(slot, words, out),
+        "cmp" => maps.compare(slot, words, out),
         "clone" => copy(maps, slot, words, out),
         "fromsmall" => from_small(maps.at_mut(slot), small, words, out),
         "fromordered" => from_ordered(maps.at_mut(slot), ordered, words, out),
-        "new" | "from" | "write" => change(maps.at_mut(slot), op, words, out),
-        "raise" => raise(maps.at_mut(slot), words, out),
-        "number" => number(maps.at_mut(slot), out),
-        "ends" => ends_of(maps.at_mut(slot), words, out),
-        _ => look(maps.at(slot), op, words, out),
-    }
-}
-
-fn meet<K: Key>(
-    maps: &Slots<SortedMap<K, i64>>,
-    slot: Slot,
-    op: &str,
-    mut words: Words<'_>,
-    out: &mut Out,
-) -> Result<(), Fault> {
-    let other = maps.at(words.slot()?);
-    if op == "eq" {
-        out.put(maps.at(slot) == other)
-    } else {
-        compare(maps.at(slot), other, out)
+        _ => change(maps.at_mut(slot), op, words, out),
     }
 }
 
@@ -51,9 +33,8 @@ fn copy<K: Key>(
     mut words: Words<'_>,
     out: &mut Out,
 ) -> Result<(), Fault> {
-    let map = maps.at(words.slot()?).clone()?;
-    *maps.at_mut(slot) = map;
-    out.say("ok")
+    let made = maps.at(words.slot()?).clone();
+    maps.set(slot, made, out)
 }
 
 fn from_small<K: Key>(
@@ -81,7 +62,7 @@ fn from_ordered<K: Key>(
 fn change<K: Key>(
     map: &mut SortedMap<K, i64>,
     op: &str,
-    words: Words<'_>,
+    mut words: Words<'_>,
     out: &mut Out,
 ) -> Result<(), Fault> {
     match op {
@@ -93,39 +74,18 @@ fn change<K: Key>(
             *map = SortedMap::from_iter(words.alloc, words.pairs::<K>()?)?;
             out.put(map.len())
         }
-        _ => write(map, words, out),
-    }
-}
-
-fn write<K: Key>(
-    map: &mut SortedMap<K, i64>,
-    mut words: Words<'_>,
-    out: &mut Out,
-) -> Result<(), Fault> {
-    let key: K = words.key()?;
-    let by = words.value()?;
-    match map.get_mut(&key) {
-        None => out.say("none"),
-        Some(value) => {
-            out.put(*value)?;
-            *value = raised(*value, by);
-            Ok(())
+        "write" => {
+            let (key, by): (K, i64) = words.pair()?;
+            write(map.get_mut(&key), by, out)
         }
+        "raise" => {
+            let by = words.value()?;
+            raise(map.values_mut(), by, out)
+        }
+        "number" => number(map, out),
+        "ends" => ends_of(map, words, out),
+        _ => look(map, op, words, out),
     }
-}
-
-fn raise<K: Key>(
-    map: &mut SortedMap<K, i64>,
-    mut words: Words<'_>,
-    out: &mut Out,
-) -> Result<(), Fault> {
-    let by = words.value()?;
-    let walk = map.values_mut();
-    out.put(walk.len())?;
-    for value in walk {
-        *value = raised(*value, by);
-    }
-    Ok(())
 }
 
 // Adds to each value its index, and then to each the length.
@@ -161,18 +121,10 @@ fn look<K: Key>(
             out.put(map.is_empty())
         }
         "hash" => out.put(finished(map)),
-        "walk" => walk(map, out),
+        "walk" => all(map.iter_hashed(), out),
         "debug" => out.debug(map),
         _ => Err(Fault::BadLine),
     }
-}
-
-fn walk<K: Key>(map: &SortedMap<K, i64>, out: &mut Out) -> Result<(), Fault> {
-    out.put(map.len())?;
-    for entry in map.iter_hashed() {
-        out.put(entry)?;
-    }
-    Ok(())
 }
 
 // WALK STEPS

@@ -1,7 +1,7 @@
 //! The commands on an ordered set.
 
-use play_words::values::{compare, finished};
-use play_words::walks::{cloned_ends, ends, hinted};
+use play_words::values::finished;
+use play_words::walks::{all, cloned_ends, ends, hinted};
 use play_words::{Fault, Key, Out, Slot, Slots, Words};
 use starlark_map::ordered_set::OrderedSet;
 use starlark_map::small_set::SmallSet;
@@ -17,39 +17,23 @@ pub fn play<K: Key>(
     out: &mut Out,
 ) -> Result<(), Fault> {
     match op {
-        "eq" | "cmp" | "union" => meet(sets, slot, op, words, out),
+        "eq" => sets.equal(slot, words, out),
+        "cmp" => sets.compare(slot, words, out),
+        "union" => union(sets, slot, words, out),
         "clone" => copy(sets, slot, words, out),
         "fromset" => from_small(sets.at_mut(slot), small, words, out),
-        "new"
-        | "cap"
-        | "from"
-        | "extend"
-        | "insert"
-        | "unique"
-        | "try"
-        | "take"
-        | "clear"
-        | "sort"
-        | "reverse" => change(sets.at_mut(slot), op, words, out),
-        "get" | "has" | "index" | "hashed" => find(sets.at(slot), op, words, out),
-        _ => look(sets.at(slot), op, words, out),
+        _ => change(sets.at_mut(slot), op, words, out),
     }
 }
 
-fn meet<K: Key>(
+fn union<K: Key>(
     sets: &Slots<OrderedSet<K>>,
     slot: Slot,
-    op: &str,
     mut words: Words<'_>,
     out: &mut Out,
 ) -> Result<(), Fault> {
-    let set = sets.at(slot);
-    let other = sets.at(words.slot()?);
-    match op {
-        "union" => hinted(set.union(other), out),
-        "cmp" => compare(set, other, out),
-        _ => out.put(set == other),
-    }
+    let other = words.slot()?;
+    hinted(sets.at(slot).union(sets.at(other)), out)
 }
 
 fn copy<K: Key>(
@@ -58,9 +42,8 @@ fn copy<K: Key>(
     mut words: Words<'_>,
     out: &mut Out,
 ) -> Result<(), Fault> {
-    let set = sets.at(words.slot()?).clone()?;
-    *sets.at_mut(slot) = set;
-    out.say("ok")
+    let made = sets.at(words.slot()?).clone();
+    sets.set(slot, made, out)
 }
 
 fn from_small<K: Key>(
@@ -81,14 +64,23 @@ fn change<K: Key>(
     out: &mut Out,
 ) -> Result<(), Fault> {
     match op {
-        "new" => {
-            *set = OrderedSet::new(words.alloc);
-            out.say("ok")
-        }
-        "cap" => {
-            *set = OrderedSet::with_capacity(words.alloc, words.count()?)?;
-            out.say("ok")
-        }
+        "new" => *set = OrderedSet::new(words.alloc),
+        "cap" => *set = OrderedSet::with_capacity(words.alloc, words.count()?)?,
+        "clear" => set.clear(),
+        "sort" => set.sort()?,
+        "reverse" => set.reverse(),
+        _ => return insert(set, op, words, out),
+    }
+    out.say("ok")
+}
+
+fn insert<K: Key>(
+    set: &mut OrderedSet<K>,
+    op: &str,
+    mut words: Words<'_>,
+    out: &mut Out,
+) -> Result<(), Fault> {
+    match op {
         "from" => {
             *set = OrderedSet::from_iter(words.alloc, words.keys::<K>()?)?;
             out.put(set.len())
@@ -107,18 +99,7 @@ fn change<K: Key>(
             let key: K = words.key()?;
             out.put(set.take(&key))
         }
-        "clear" => {
-            set.clear();
-            out.say("ok")
-        }
-        "sort" => {
-            set.sort()?;
-            out.say("ok")
-        }
-        _ => {
-            set.reverse();
-            out.say("ok")
-        }
+        _ => look(set, op, words, out),
     }
 }
 
@@ -152,21 +133,12 @@ fn try_insert<K: Key>(
     }
 }
 
-fn find<K: Key>(
-    set: &OrderedSet<K>,
-    op: &str,
-    mut words: Words<'_>,
-    out: &mut Out,
-) -> Result<(), Fault> {
-    if op == "hashed" {
-        let key: Hashed<K> = words.hashed()?;
-        return out.put(set.contains_hashed(key.as_ref()));
-    }
-    let key: K = words.key()?;
+fn find<K: Key>(set: &OrderedSet<K>, op: &str, key: K, out: &mut Out) -> Result<(), Fault> {
     match op {
         "get" => out.put(set.get(&key)),
         "has" => out.put(set.contains(&key)),
-        _ => out.put(set.get_index_of(&key)),
+        "index" => out.put(set.get_index_of(&key)),
+        _ => Err(Fault::BadLine),
     }
 }
 
@@ -185,28 +157,16 @@ fn look<K: Key>(
             out.put(set.is_empty())
         }
         "hash" => out.put(finished(set)),
-        "walk" => walk(set, out),
-        "walkh" => walk_hashed(set, out),
+        "walk" => all(set.into_iter(), out),
+        "walkh" => all(set.iter_hashed(), out),
         "ends" => ends_of(set, words, out),
         "debug" => out.debug(set),
-        _ => Err(Fault::BadLine),
+        "hashed" => {
+            let key: Hashed<K> = words.hashed()?;
+            out.put(set.contains_hashed(key.as_ref()))
+        }
+        _ => find(set, op, words.key()?, out),
     }
-}
-
-fn walk<K: Key>(set: &OrderedSet<K>, out: &mut Out) -> Result<(), Fault> {
-    out.put(set.len())?;
-    for key in set {
-        out.put(key)?;
-    }
-    Ok(())
-}
-
-fn walk_hashed<K: Key>(set: &OrderedSet<K>, out: &mut Out) -> Result<(), Fault> {
-    out.put(set.len())?;
-    for key in set.iter_hashed() {
-        out.put(key)?;
-    }
-    Ok(())
 }
 
 // WALK STEPS

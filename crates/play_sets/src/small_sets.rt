@@ -1,7 +1,7 @@
 //! The commands on a small set.
 
 use play_words::values::sieve;
-use play_words::walks::{cloned_ends, ends, hinted};
+use play_words::walks::{all, cloned_ends, ends, hinted};
 use play_words::{Fault, Key, Out, Slot, Slots, Words};
 use starlark_map::small_set::SmallSet;
 use starlark_map::{Hashed, StarlarkHasher, smallset};
@@ -18,22 +18,7 @@ pub fn play<K: Key>(
     match op {
         "eq" | "union" | "diff" => meet(sets, slot, op, words, out),
         "clone" => copy(sets, slot, words, out),
-        "new" | "cap" | "macro" | "from" | "fromh" | "parse" | "reserve" | "extend" => {
-            make(sets.at_mut(slot), op, words, out)
-        }
-        "insert" | "inserth" | "unique" | "uniqueh" | "goi" | "goio" => {
-            insert(sets.at_mut(slot), op, words, out)
-        }
-        "remove" | "removeh" | "removeat" | "removeath" | "take" | "pop" => {
-            remove(sets.at_mut(slot), op, words, out)
-        }
-        "clear" | "sort" | "reverse" | "retain" | "below" => {
-            change(sets.at_mut(slot), op, words, out)
-        }
-        "get" | "geth" | "index" | "indexq" | "indexh" | "indexv" | "has" | "hash" => {
-            find(sets.at(slot), op, words, out)
-        }
-        _ => look(sets.at(slot), op, words, out),
+        _ => change(sets.at_mut(slot), op, words, out),
     }
 }
 
@@ -62,9 +47,33 @@ fn copy<K: Key>(
     mut words: Words<'_>,
     out: &mut Out,
 ) -> Result<(), Fault> {
-    let set = sets.at(words.slot()?).clone()?;
-    *sets.at_mut(slot) = set;
+    let made = sets.at(words.slot()?).clone();
+    sets.set(slot, made, out)
+}
+
+// Commands on all elements.
+fn change<K: Key>(
+    set: &mut SmallSet<K>,
+    op: &str,
+    words: Words<'_>,
+    out: &mut Out,
+) -> Result<(), Fault> {
+    match op {
+        "new" => *set = SmallSet::new(words.alloc),
+        "sort" => set.sort()?,
+        "reverse" => set.reverse(),
+        "clear" => return clear(set, out),
+        "retain" => return retain(set, words, out),
+        "below" => return below(set, words, out),
+        _ => return make(set, op, words, out),
+    }
     out.say("ok")
+}
+
+fn clear<K: Key>(set: &mut SmallSet<K>, out: &mut Out) -> Result<(), Fault> {
+    let before = set.capacity();
+    set.clear();
+    out.put(set.capacity() == before)
 }
 
 // Commands that make the set anew, or put many elements in.
@@ -75,10 +84,6 @@ fn make<K: Key>(
     out: &mut Out,
 ) -> Result<(), Fault> {
     match op {
-        "new" => {
-            *set = SmallSet::new(words.alloc);
-            out.say("ok")
-        }
         "cap" => {
             let count = words.count()?;
             *set = SmallSet::with_capacity(words.alloc, count)?;
@@ -99,10 +104,11 @@ fn make<K: Key>(
             set.reserve(count)?;
             out.put(set.capacity() >= set.len().wrapping_add(count))
         }
-        _ => {
+        "extend" => {
             set.extend(words.keys::<K>()?)?;
             out.put(set.len())
         }
+        _ => insert(set, op, words, out),
     }
 }
 
@@ -136,10 +142,11 @@ fn insert<K: Key>(
             let key = words.key()?;
             out.put(set.get_or_insert(key)?)
         }
-        _ => {
+        "goio" => {
             let key: K = words.key()?;
             out.put(key.own_in(set)?)
         }
+        _ => remove(set, op, words, out),
     }
 }
 
@@ -186,32 +193,8 @@ fn remove<K: Key>(
             let key: K = words.key()?;
             out.put(set.take(&key))
         }
-        _ => out.put(set.pop()),
-    }
-}
-
-fn change<K: Key>(
-    set: &mut SmallSet<K>,
-    op: &str,
-    words: Words<'_>,
-    out: &mut Out,
-) -> Result<(), Fault> {
-    match op {
-        "clear" => {
-            let before = set.capacity();
-            set.clear();
-            out.put(set.capacity() == before)
-        }
-        "sort" => {
-            set.sort()?;
-            out.say("ok")
-        }
-        "reverse" => {
-            set.reverse();
-            out.say("ok")
-        }
-        "retain" => retain(set, words, out),
-        _ => below(set, words, out),
+        "pop" => out.put(set.pop()),
+        _ => look(set, op, words, out),
     }
 }
 
@@ -231,23 +214,12 @@ fn below<K: Key>(set: &mut SmallSet<K>, mut words: Words<'_>, out: &mut Out) -> 
     out.put(set.len())
 }
 
-fn find<K: Key>(
-    set: &SmallSet<K>,
-    op: &str,
-    mut words: Words<'_>,
-    out: &mut Out,
-) -> Result<(), Fault> {
+fn find<K: Key>(set: &SmallSet<K>, op: &str, key: K, out: &mut Out) -> Result<(), Fault> {
     match op {
-        "geth" | "indexh" | "indexv" | "hash" => find_hashed(set, op, words.hashed()?, out),
-        _ => {
-            let key: K = words.key()?;
-            match op {
-                "get" => out.put(set.get(&key)),
-                "index" => out.put(set.get_index_of(&key)),
-                "indexq" => out.put(key.place_in(set)),
-                _ => out.put(set.contains(&key)),
-            }
-        }
+        "get" => out.put(set.get(&key)),
+        "index" => out.put(set.get_index_of(&key)),
+        "indexq" => out.put(key.place_in(set)),
+        _ => out.put(set.contains(&key)),
     }
 }
 
@@ -261,7 +233,8 @@ fn find_hashed<K: Key>(
         "geth" => out.put(set.get_hashed(key.as_ref())),
         "indexh" => out.put(set.get_index_of_hashed(key.as_ref())),
         "indexv" => out.put(set.get_index_of_hashed_by_value(key)),
-        _ => out.put(set.contains_hashed(key.as_ref())),
+        "hash" => out.put(set.contains_hashed(key.as_ref())),
+        _ => Err(Fault::BadLine),
     }
 }
 
@@ -289,20 +262,13 @@ fn look<K: Key>(
             let hashed = set.clone()?.hashed();
             out.put(hashed.hash().get())
         }
-        "walk" => walk(set, out),
+        "walk" => all(set.iter_hashed(), out),
         "ends" => ends_of(set, words, out),
         "debug" => out.debug(set),
         "json" => K::write_set(set, words.alloc, out),
-        _ => Err(Fault::BadLine),
+        "get" | "index" | "indexq" | "has" => find(set, op, words.key()?, out),
+        _ => find_hashed(set, op, words.hashed()?, out),
     }
-}
-
-fn walk<K: Key>(set: &SmallSet<K>, out: &mut Out) -> Result<(), Fault> {
-    out.put(set.len())?;
-    for key in set.iter_hashed() {
-        out.put(key)?;
-    }
-    Ok(())
 }
 
 // WALK STEPS

@@ -1,7 +1,7 @@
 //! The commands on a sorted set.
 
-use play_words::values::{compare, finished};
-use play_words::walks::{cloned_ends, ends, forth, hinted, part};
+use play_words::values::finished;
+use play_words::walks::{all, cloned_ends, ends, forth, hinted, part};
 use play_words::{Fault, Key, Out, Slot, Slots, Words, had};
 use starlark_map::ordered_set::OrderedSet;
 use starlark_map::small_set::SmallSet;
@@ -20,7 +20,9 @@ pub fn play<K: Key>(
     out: &mut Out,
 ) -> Result<(), Fault> {
     match op {
-        "eq" | "cmp" | "union" | "part" => meet(sets, slot, op, words, out),
+        "eq" => sets.equal(slot, words, out),
+        "cmp" => sets.compare(slot, words, out),
+        "union" | "part" => union(sets, slot, op, words, out),
         "clone" => copy(sets, slot, words, out),
         "fromset" => from_small(sets.at_mut(slot), small, words, out),
         "fromordered" => from_ordered(sets.at_mut(slot), ordered, words, out),
@@ -35,20 +37,18 @@ pub fn play<K: Key>(
     }
 }
 
-fn meet<K: Key>(
+fn union<K: Key>(
     sets: &Slots<SortedSet<K>>,
     slot: Slot,
     op: &str,
     mut words: Words<'_>,
     out: &mut Out,
 ) -> Result<(), Fault> {
-    let set = sets.at(slot);
-    let other = sets.at(words.slot()?);
+    let other = words.slot()?;
+    let union = sets.at(slot).union(sets.at(other));
     match op {
-        "union" => hinted(set.union(other), out),
-        "part" => part(set.union(other), words.word()?, out),
-        "cmp" => compare(set, other, out),
-        _ => out.put(set == other),
+        "union" => hinted(union, out),
+        _ => part(union, words.word()?, out),
     }
 }
 
@@ -58,9 +58,8 @@ fn copy<K: Key>(
     mut words: Words<'_>,
     out: &mut Out,
 ) -> Result<(), Fault> {
-    let set = sets.at(words.slot()?).clone()?;
-    *sets.at_mut(slot) = set;
-    out.say("ok")
+    let made = sets.at(words.slot()?).clone();
+    sets.set(slot, made, out)
 }
 
 fn from<K: Key>(set: &mut SortedSet<K>, words: Words<'_>, out: &mut Out) -> Result<(), Fault> {
@@ -150,19 +149,11 @@ fn look<K: Key>(
             out.put(set.is_empty())
         }
         "hash" => out.put(finished(set)),
-        "walk" => walk(set, out),
+        "walk" => all(set.iter(), out),
         "ends" => ends_of(set, words, out),
         "debug" => out.debug(set),
         _ => Err(Fault::BadLine),
     }
-}
-
-fn walk<K: Key>(set: &SortedSet<K>, out: &mut Out) -> Result<(), Fault> {
-    out.put(set.len())?;
-    for key in set.iter() {
-        out.put(key)?;
-    }
-    Ok(())
 }
 
 // WALK STEPS

@@ -1,7 +1,7 @@
 //! The commands on a sorted vector.
 
-use play_words::values::{compare, finished};
-use play_words::walks::{cloned_ends, ends};
+use play_words::values::finished;
+use play_words::walks::{all, cloned_ends, ends};
 use play_words::{Fault, Key, Out, Slot, Slots, Words, had};
 use starlark_map::sorted_vec::SortedVec;
 
@@ -14,29 +14,15 @@ pub fn play<K: Key>(
     out: &mut Out,
 ) -> Result<(), Fault> {
     match op {
-        "eq" | "cmp" => meet(vectors, slot, op, words, out),
+        "eq" => vectors.equal(slot, words, out),
+        "cmp" => vectors.compare(slot, words, out),
         "clone" => copy(vectors, slot, words, out),
         "new" | "from" | "fromvec" | "unchecked" => make(vectors.at_mut(slot), op, words, out),
         "hash" => out.put(finished(vectors.at(slot))),
-        "walk" => walk(vectors.at(slot), out),
+        "walk" => all(vectors.at(slot).iter(), out),
         "ends" => ends_of(vectors.at(slot), words, out),
         "debug" => out.debug(vectors.at(slot)),
         _ => Err(Fault::BadLine),
-    }
-}
-
-fn meet<K: Key>(
-    vectors: &Slots<SortedVec<K>>,
-    slot: Slot,
-    op: &str,
-    mut words: Words<'_>,
-    out: &mut Out,
-) -> Result<(), Fault> {
-    let other = vectors.at(words.slot()?);
-    if op == "eq" {
-        out.put(vectors.at(slot) == other)
-    } else {
-        compare(vectors.at(slot), other, out)
     }
 }
 
@@ -46,9 +32,8 @@ fn copy<K: Key>(
     mut words: Words<'_>,
     out: &mut Out,
 ) -> Result<(), Fault> {
-    let vector = vectors.at(words.slot()?).clone()?;
-    *vectors.at_mut(slot) = vector;
-    out.say("ok")
+    let made = vectors.at(words.slot()?).clone();
+    vectors.set(slot, made, out)
 }
 
 fn make<K: Key>(
@@ -87,14 +72,6 @@ fn unchecked<K: Key>(
     keys.sort()?;
     *vector = SortedVec::new_unchecked(keys);
     out.put(vector.iter().len())
-}
-
-fn walk<K: Key>(vector: &SortedVec<K>, out: &mut Out) -> Result<(), Fault> {
-    out.put(vector.iter().len())?;
-    for key in vector.iter() {
-        out.put(key)?;
-    }
-    Ok(())
 }
 
 // WALK STEPS

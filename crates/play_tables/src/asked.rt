@@ -1,6 +1,6 @@
 //! The keys that a search by a closure asks about.
 
-use play_words::{Fault, Key, Out};
+use play_words::{Fault, Key, Out, Shown};
 use starlark_map::StarlarkHashValue;
 use std::alloc::Global;
 
@@ -51,11 +51,11 @@ pub fn right<K: Key>(keys: &[K], hash: StarlarkHashValue) -> &'static str {
     "right"
 }
 
-/// Writes the keys in ascending order.
-pub fn write_sorted<K: Key>(mut keys: Vec<K>, out: &mut Out) -> Result<(), Fault> {
-    keys.sort()?;
-    for key in &keys {
-        out.put(key)?;
+/// Writes items in ascending order.
+pub fn write_sorted<T: Ord + Shown + Drop>(mut items: Vec<T>, out: &mut Out) -> Result<(), Fault> {
+    items.sort()?;
+    for item in items {
+        out.put(item)?;
     }
     Ok(())
 }

@@ -1,8 +1,10 @@
 //! The commands on an unordered map.
 
+use crate::asked::write_sorted;
 use crate::raw_maps::{raw, refuse};
-use play_words::values::{finished, raised, remainder};
-use play_words::{Fault, Key, Out, Slot, Slots, Words, had, text_of};
+use play_words::values::{self, finished, raised, remainder};
+use play_words::walks::all;
+use play_words::{Fault, Key, Out, Shown, Slot, Slots, Words, had, text_of};
 use starlark_map::Hashed;
 use starlark_map::unordered_map::{Entry, UnorderedMap};
 
@@ -15,37 +17,11 @@ pub fn play<K: Key>(
     out: &mut Out,
 ) -> Result<(), Fault> {
     match op {
-        "eq" => equal(maps, slot, words, out),
+        "eq" => maps.equal(slot, words, out),
         "clone" => copy(maps, slot, words, out),
         "map" => mapped(maps, slot, words, out),
-        "new"
-        | "cap"
-        | "from"
-        | "insert"
-        | "remove"
-        | "removeq"
-        | "entry"
-        | "raw"
-        | "write"
-        | "clear" => { change(maps.at_mut(slot), op, words, out) }
-        "refuse" => refuse(maps.at_mut(slot), words, out),
-        "retain" | "ending" | "below" | "raise" | "raiseeach" | "hints" => {
-            change_all(maps.at_mut(slot), op, words, out)
-        }
-        "keys" | "values" | "entries" | "walk" | "hashmap" | "texts" => {
-            walk(maps.at(slot), op, words, out)
-        }
-        _ => look(maps.at(slot), op, words, out),
+        _ => change(maps.at_mut(slot), op, words, out),
     }
-}
-
-fn equal<K: Key>(
-    maps: &Slots<UnorderedMap<K, i64>>,
-    slot: Slot,
-    mut words: Words<'_>,
-    out: &mut Out,
-) -> Result<(), Fault> {
-    out.put(maps.at(slot) == maps.at(words.slot()?))
 }
 
 fn copy<K: Key>(
@@ -54,9 +30,8 @@ fn copy<K: Key>(
     mut words: Words<'_>,
     out: &mut Out,
 ) -> Result<(), Fault> {
-    let map = maps.at(words.slot()?).clone()?;
-    *maps.at_mut(slot) = map;
-    out.say("ok")
+    let made = maps.at(words.slot()?).clone();
+    maps.set(slot, made, out)
 }
 
 // BY MORE SLOT: each value of the map in that slot, times BY, plus MORE.
@@ -98,7 +73,10 @@ fn change<K: Key>(
             *map = UnorderedMap::from_iter(words.alloc, words.pairs::<K>()?)?;
             out.put(map.len())
         }
-        "insert" => insert(map, words, out),
+        "insert" => {
+            let (key, value) = words.pair()?;
+            out.put(map.insert(key, value)?)
+        }
         "remove" => {
             let key: K = words.key()?;
             out.put(map.remove(&key))
@@ -108,38 +86,15 @@ fn change<K: Key>(
             out.put(key.remove_from(map))
         }
         "entry" => entry(map, words, out),
-        "raw" => raw(map, words, out),
-        "write" => write(map, words, out),
-        _ => {
+        "write" => {
+            let (key, by): (K, i64) = words.pair()?;
+            values::write(map.get_mut(&key), by, out)
+        }
+        "clear" => {
             map.clear();
             out.put(map.len())
         }
-    }
-}
-
-fn insert<K: Key>(
-    map: &mut UnorderedMap<K, i64>,
-    mut words: Words<'_>,
-    out: &mut Out,
-) -> Result<(), Fault> {
-    let key = words.key()?;
-    out.put(map.insert(key, words.value()?)?)
-}
-
-fn write<K: Key>(
-    map: &mut UnorderedMap<K, i64>,
-    mut words: Words<'_>,
-    out: &mut Out,
-) -> Result<(), Fault> {
-    let key: K = words.key()?;
-    let by = words.value()?;
-    match map.get_mut(&key) {
-        None => out.say("none"),
-        Some(value) => {
-            out.put(*value)?;
-            *value = raised(*value, by);
-            Ok(())
-        }
+        _ => change_all(map, op, words, out),
     }
 }
 
@@ -179,23 +134,29 @@ fn entry<K: Key>(
     }
 }
 
-// Commands on all pairs.
+// Commands by raw entries, and on all pairs.
 fn change_all<K: Key>(
     map: &mut UnorderedMap<K, i64>,
     op: &str,
-    words: Words<'_>,
+    mut words: Words<'_>,
     out: &mut Out,
 ) -> Result<(), Fault> {
     match op {
+        "raw" => raw(map, words, out),
+        "refuse" => refuse(map, words, out),
         "retain" => retain(map, words, out),
         "ending" => ending(map, words, out),
         "below" => below(map, words, out),
-        "raise" => raise(map, words, out),
+        "raise" => {
+            let by = words.value()?;
+            values::raise(map.values_unordered_mut(), by, out)
+        }
         "raiseeach" => raise_each(map, words, out),
-        _ => {
+        "hints" => {
             hints(map, out)?;
             hints_mut(map, out)
         }
+        _ => walk(map, op, words, out),
     }
 }
 
@@ -253,20 +214,6 @@ fn below<K: Key>(
     let key: K = words.key()?;
     map.retain(|other, _| *other < key);
     out.put(map.len())
-}
-
-fn raise<K: Key>(
-    map: &mut UnorderedMap<K, i64>,
-    mut words: Words<'_>,
-    out: &mut Out,
-) -> Result<(), Fault> {
-    let by = words.value()?;
-    let walk = map.values_unordered_mut();
-    out.put(walk.len())?;
-    for value in walk {
-        *value = raised(*value, by);
-    }
-    Ok(())
 }
 
 // BY: raises each value by BY times the length of its key's text, on a copy, since the texts need memory.
@@ -381,89 +328,27 @@ fn walk<K: Key>(
     out: &mut Out,
 ) -> Result<(), Fault> {
     match op {
-        "keys" => keys(map, words, out),
-        "values" => values(map, words, out),
-        "entries" => entries(map, words, out),
-        "walk" => sorted(map, out),
-        "hashmap" => hash_map(map, words, out),
-        _ => texts(map, words, out),
+        "keys" => ascending(map.keys_unordered(), words, out),
+        "values" => ascending(map.values_unordered(), words, out),
+        "entries" => ascending(map.entries_unordered(), words, out),
+        "hashmap" => ascending(map.clone()?.into_hash_map()?.into_iter(), words, out),
+        "walk" => all(map.entries_sorted()?.into_iter(), out),
+        "texts" => texts(map, words, out),
+        _ => look(map, op, words, out),
     }
 }
 
-fn keys<K: Key>(map: &UnorderedMap<K, i64>, words: Words<'_>, out: &mut Out) -> Result<(), Fault> {
-    let walk = map.keys_unordered();
+fn ascending<I: ExactSizeIterator>(walk: I, words: Words<'_>, out: &mut Out) -> Result<(), Fault>
+where
+    I::Item: Ord + Shown + Drop,
+    requires { I.can_next walk }
+{
     out.put(walk.len())?;
-    let mut keys = Vec::new(words.alloc);
-    for key in walk {
-        keys.push(key)?;
+    let mut items = Vec::new(words.alloc);
+    for item in walk {
+        items.push(item)?;
     }
-    keys.sort()?;
-    for key in &keys {
-        out.put(*key)?;
-    }
-    Ok(())
-}
-
-fn values<K: Key>(
-    map: &UnorderedMap<K, i64>,
-    words: Words<'_>,
-    out: &mut Out,
-) -> Result<(), Fault> {
-    let walk = map.values_unordered();
-    out.put(walk.len())?;
-    let mut values = Vec::new(words.alloc);
-    for value in walk {
-        values.push(*value)?;
-    }
-    values.sort()?;
-    for value in &values {
-        out.put(*value)?;
-    }
-    Ok(())
-}
-
-fn entries<K: Key>(
-    map: &UnorderedMap<K, i64>,
-    words: Words<'_>,
-    out: &mut Out,
-) -> Result<(), Fault> {
-    let walk = map.entries_unordered();
-    out.put(walk.len())?;
-    let mut entries = Vec::new(words.alloc);
-    for entry in walk {
-        entries.push(entry)?;
-    }
-    entries.sort()?;
-    for entry in &entries {
-        out.put(*entry)?;
-    }
-    Ok(())
-}
-
-fn sorted<K: Key>(map: &UnorderedMap<K, i64>, out: &mut Out) -> Result<(), Fault> {
-    out.put(map.len())?;
-    for entry in map.entries_sorted()? {
-        out.put(entry)?;
-    }
-    Ok(())
-}
-
-fn hash_map<K: Key>(
-    map: &UnorderedMap<K, i64>,
-    words: Words<'_>,
-    out: &mut Out,
-) -> Result<(), Fault> {
-    let all = map.clone()?.into_hash_map()?;
-    out.put(all.len())?;
-    let mut entries = Vec::new(words.alloc);
-    for entry in all {
-        entries.push(entry)?;
-    }
-    entries.sort()?;
-    for entry in &entries {
-        out.put(entry)?;
-    }
-    Ok(())
+    write_sorted(items, out)
 }
 
 // Each value as a text in angle brackets, by `map_values`.

@@ -1,6 +1,7 @@
 //! The commands on an unordered set.
 
 use crate::raw_sets::{raw, refuse};
+use play_words::walks::all;
 use play_words::{Fault, Key, Out, Slot, Slots, Words};
 use starlark_map::Hashed;
 use starlark_map::unordered_set::UnorderedSet;
@@ -14,23 +15,10 @@ pub fn play<K: Key>(
     out: &mut Out,
 ) -> Result<(), Fault> {
     match op {
-        "eq" => equal(sets, slot, words, out),
+        "eq" => sets.equal(slot, words, out),
         "clone" => copy(sets, slot, words, out),
-        "new" | "cap" | "from" | "insert" | "raw" | "clear" => {
-            change(sets.at_mut(slot), op, words, out)
-        }
-        "refuse" => refuse(sets.at_mut(slot), words, out),
-        _ => look(sets.at(slot), op, words, out),
+        _ => change(sets.at_mut(slot), op, words, out),
     }
-}
-
-fn equal<K: Key>(
-    sets: &Slots<UnorderedSet<K>>,
-    slot: Slot,
-    mut words: Words<'_>,
-    out: &mut Out,
-) -> Result<(), Fault> {
-    out.put(sets.at(slot) == sets.at(words.slot()?))
 }
 
 fn copy<K: Key>(
@@ -39,9 +27,8 @@ fn copy<K: Key>(
     mut words: Words<'_>,
     out: &mut Out,
 ) -> Result<(), Fault> {
-    let set = sets.at(words.slot()?).clone()?;
-    *sets.at_mut(slot) = set;
-    out.say("ok")
+    let made = sets.at(words.slot()?).clone();
+    sets.set(slot, made, out)
 }
 
 fn change<K: Key>(
@@ -68,10 +55,12 @@ fn change<K: Key>(
             out.put(set.insert(key)?)
         }
         "raw" => raw(set, words, out),
-        _ => {
+        "refuse" => refuse(set, words, out),
+        "clear" => {
             set.clear();
             out.put(set.len())
         }
+        _ => look(set, op, words, out),
     }
 }
 
@@ -94,13 +83,7 @@ fn look<K: Key>(
             out.put(set.len())?;
             out.put(set.is_empty())
         }
-        "walk" => {
-            out.put(set.len())?;
-            for key in set.entries_sorted()? {
-                out.put(key)?;
-            }
-            Ok(())
-        }
+        "walk" => all(set.entries_sorted()?.into_iter(), out),
         "debug" if set.len() < 2 => out.debug(set),
         "debug" => out.say("-"),
         _ => Err(Fault::BadLine),

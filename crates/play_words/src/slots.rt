@@ -1,5 +1,9 @@
 //! The four collections of a type that a script has.
 
+use crate::values::compare;
+use crate::{Fault, Out, Words};
+use std::alloc::AllocError;
+
 /// The letter of a collection.
 #[derive(Clone, Copy, PartialEq, Eq)]
 pub enum Slot {
@@ -40,5 +44,34 @@ impl<T> Slots<T> {
             Slot::C => &mut self.all[2],
             Slot::D => &mut self.all[3],
         }
+    }
+}
+
+impl<T: Drop> Slots<T> {
+    /// Puts a collection that was made under a letter.
+    pub fn set(
+        &mut self,
+        slot: Slot,
+        made: Result<T, AllocError>,
+        out: &mut Out,
+    ) -> Result<(), Fault> {
+        *self.at_mut(slot) = made?;
+        out.say("ok")
+    }
+}
+
+impl<T: PartialEq> Slots<T> {
+    /// SLOT: whether the collection under a letter is equal to this one.
+    pub fn equal(&self, slot: Slot, mut words: Words<'_>, out: &mut Out) -> Result<(), Fault> {
+        let other = words.slot()?;
+        out.put(self.at(slot) == self.at(other))
+    }
+}
+
+impl<T: Ord> Slots<T> {
+    /// SLOT: how the collection under a letter compares with this one.
+    pub fn compare(&self, slot: Slot, mut words: Words<'_>, out: &mut Out) -> Result<(), Fault> {
+        let other = words.slot()?;
+        compare(self.at(slot), self.at(other), out)
     }
 }

@@ -10,6 +10,33 @@ pub fn raised(value: i64, by: i64) -> i64 {
     value.wrapping_add(by)
 }
 
+/// Writes a value that is there, and adds to it.
+pub fn write(value: Option<&mut i64>, by: i64, out: &mut Out) -> Result<(), Fault> {
+    match value {
+        None => out.say("none"),
+        Some(value) => {
+            out.put(*value)?;
+            *value = raised(*value, by);
+            Ok(())
+        }
+    }
+}
+
+/// Writes how many values a walk has, and adds to each.
+pub fn raise<'a, I: ExactSizeIterator<Item = &'a mut i64>>(
+    walk: I,
+    by: i64,
+    out: &mut Out,
+) -> Result<(), Fault>
+    requires { I.can_next walk }
+{
+    out.put(walk.len())?;
+    for value in walk {
+        *value = raised(*value, by);
+    }
+    Ok(())
+}
+
 /// The rest that is at least 0, by a number that is read as at least 1.
 pub fn remainder(value: i64, by: i64) -> i64 {
     let by = by.max(1);

@@ -104,6 +104,19 @@ where
     Ok(())
 }
 
+/// Writes how many items a walk has, and the items.
+pub fn all<I: ExactSizeIterator>(walk: I, out: &mut Out) -> Result<(), Fault>
+where
+    I::Item: Shown + Drop,
+    requires { I.can_next walk }
+{
+    out.put(walk.len())?;
+    for item in walk {
+        out.put(item)?;
+    }
+    Ok(())
+}
+
 /// Plays a walk to its end, with its hint before each item and after the last, and once more after the end.
 pub fn hinted<I: Iterator>(mut walk: I, out: &mut Out) -> Result<(), Fault>
 where

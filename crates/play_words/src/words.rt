@@ -111,6 +111,18 @@ impl<'a> Words<'a> {
         K::read(self.alloc, self.word()?)
     }
 
+    /// KEY VALUE.
+    pub fn pair<K: Key>(&mut self) -> Result<(K, i64), Fault> {
+        let key = self.key()?;
+        Ok((key, self.value()?))
+    }
+
+    /// HASH KEY VALUE.
+    pub fn hashed_pair<K: Key>(&mut self) -> Result<(Hashed<K>, i64), Fault> {
+        let key = self.hashed()?;
+        Ok((key, self.value()?))
+    }
+
     /// HASH KEY, where the hash `-` is the key's own.
     pub fn hashed<K: Key>(&mut self) -> Result<Hashed<K>, Fault> {
         let hash = self.word()?;
@@ -152,7 +164,7 @@ impl<'a> Words<'a> {
             if self.rest.is_none() {
                 break;
             }
-            pairs.push((self.key()?, self.value()?))?;
+            pairs.push(self.pair()?)?;
         }
         Ok(pairs)
     }
