@@ -83,6 +83,17 @@ pub(crate) fn written(item: &mut u32) -> u32 {
     *item
 }
 
+/// The number of an item that is lent to be written, after 1 was added to it.
+pub(crate) fn raised(item: &mut u32) -> u32 {
+    *item = item.wrapping_add(1);
+    *item
+}
+
+/// The same of the second of a pair.
+pub(crate) fn second_raised(pair: (&u32, &mut u32)) -> u32 {
+    raised(pair.1)
+}
+
 /// The number of an item by value.
 pub(crate) fn given(item: u32) -> u32 {
     item

@@ -1,6 +1,8 @@
 //! The ordinary adaptors over each walk of a map.
 
-use crate::adaptors::{PAIRS, counts, first, first_given, given, gives, lent};
+use crate::adaptors::{
+    PAIRS, counts, first, first_given, given, gives, lent, raised, second_raised,
+};
 use starlark_map::Hashed;
 use starlark_map::ordered_map::OrderedMap;
 use starlark_map::small_map::SmallMap;
@@ -12,6 +14,9 @@ use std::test::Fail;
 const VALUES: [u32; 3] = [30, 10, 20];
 
 const TENS: [u32; 3] = [10, 20, 30];
+
+// The values as they were inserted, after 1 was added to each.
+const RAISED: [u32; 3] = [31, 11, 21];
 
 // The keys above 1 as they were inserted, and as they ascend.
 const HIGH: [u32; 2] = [3, 2];
@@ -66,6 +71,31 @@ fn small_maps_by_value(rt: HostRuntime) -> Result<(), Fail> {
         hashed_given,
         &VALUES,
     );
+    Ok(())
+}
+
+#[test]
+fn small_maps_lend_pairs(rt: HostRuntime) -> Result<(), Fail> {
+    let alloc = rt.alloc();
+    let mut what = small(alloc)?;
+    gives(&rt, alloc, what.iter_mut(), second_raised, &RAISED);
+    gives(&rt, alloc, what.values(), lent, &RAISED);
+    Ok(())
+}
+
+#[test]
+fn small_maps_lend_values(rt: HostRuntime) -> Result<(), Fail> {
+    let alloc = rt.alloc();
+    let mut what = small(alloc)?;
+    gives(&rt, alloc, what.values_mut(), raised, &RAISED);
+    gives(&rt, alloc, what.values(), lent, &RAISED);
+    Ok(())
+}
+
+#[test]
+fn small_maps_count_lent_pairs(rt: HostRuntime) -> Result<(), Fail> {
+    let mut what = small(rt.alloc())?;
+    counts(&rt, what.iter_mut(), 3);
     Ok(())
 }
 

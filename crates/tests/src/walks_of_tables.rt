@@ -1,7 +1,8 @@
 //! The ordinary adaptors over each walk of a list of pairs, a table or an unordered map.
 
 use crate::adaptors::{
-    KEYS, PAIRS, counts, first, first_given, gives, gives_in_some_order, lent, written,
+    KEYS, PAIRS, counts, first, first_given, gives, gives_in_some_order, lent, raised,
+    second_raised, written,
 };
 use starlark_map::ReadyTable;
 use starlark_map::unordered_map::UnorderedMap;
@@ -68,5 +69,42 @@ fn unordered_maps(rt: HostRuntime) -> Result<(), Fail> {
     gives_in_some_order(&rt, alloc, what.keys_unordered(), lent, &[2, 3]);
     counts(&rt, what.values_unordered(), 3);
     gives_in_some_order(&rt, alloc, what.values_unordered(), lent, &[10, 20, 30]);
+    Ok(())
+}
+
+#[test]
+fn unordered_maps_lend_pairs(rt: HostRuntime) -> Result<(), Fail> {
+    let alloc = rt.alloc();
+    let mut what = unordered_map(alloc)?;
+    gives_in_some_order(
+        &rt,
+        alloc,
+        what.entries_unordered_mut(),
+        second_raised,
+        &[11, 21, 31],
+    );
+    gives_in_some_order(&rt, alloc, what.values_unordered(), lent, &[11, 21, 31]);
+    Ok(())
+}
+
+#[test]
+fn unordered_maps_lend_values(rt: HostRuntime) -> Result<(), Fail> {
+    let alloc = rt.alloc();
+    let mut what = unordered_map(alloc)?;
+    gives_in_some_order(
+        &rt,
+        alloc,
+        what.values_unordered_mut(),
+        raised,
+        &[11, 21, 31],
+    );
+    gives_in_some_order(&rt, alloc, what.values_unordered(), lent, &[11, 21, 31]);
+    Ok(())
+}
+
+#[test]
+fn unordered_maps_count_lent_values(rt: HostRuntime) -> Result<(), Fail> {
+    let mut what = unordered_map(rt.alloc())?;
+    counts(&rt, what.values_unordered_mut(), 3);
     Ok(())
 }
