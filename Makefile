@@ -26,7 +26,7 @@ try: ## plays SCRIPT (examples/first.script) with no proof, in about a minute
 	$(says)
 	@./examples/play try "$$SCRIPT"
 
-run: ## proves the program and plays SCRIPT: some twenty-five minutes the first time, then seconds
+run: ## proves the program and plays SCRIPT: some twelve minutes the first time, then seconds
 	$(says)
 	@./examples/play run "$$SCRIPT"
 
@@ -49,7 +49,7 @@ tests: ## runs the tests of CRATE with no proof, in about a minute
 	@./examples/crate "$$CRATE"
 	@cd "crates/$$CRATE" && rt try --test
 
-test: ## the merge gate, every proof, test and program: about an hour on four cores, and 4.6 GB in out/, see clean
+test: ## the merge gate, every proof, test and program: about half an hour on four cores, and 4.6 GB in out/, see clean
 	$(says)
 	@./examples/as-in-readme
 	@./docs/pages.py check
@@ -80,7 +80,7 @@ wrong: ## tries the wrong bodies that stand beside the gate, of CRATE or of all:
 	$(says)
 	@if [ -n "$$CRATE" ]; then ./wrong-bodies/try "$$CRATE"; else ./wrong-bodies/try; fi
 
-refused: ## has each request for memory refused in turn, of a script of the player and of the tests of memory, unproved: more than a quarter of an hour for the script, and 26 rounds of some minutes
+refused: ## has each request for memory refused in turn, of a script of the player and of the tests of memory, with no proof, in some three minutes
 	$(says)
 	@./refusals/try
 	@./refusals/tests
