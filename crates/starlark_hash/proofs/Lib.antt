@@ -5,3 +5,4 @@ pub mod PositionLemmas
 pub mod EntryLemmas
 pub mod SearchLemmas
 pub mod SortingLemmas
+pub mod Common

@@ -51,6 +51,7 @@ impl StarlarkHasher {
     }
 
     // Adds the words of 8 bytes in a loop, whose end is mispredicted where lengths vary.
+    #[tactic(auto, using(crate::proofs::HasherLemmas::groups_more, crate::proofs::HasherLemmas::groups_done))]
     #[inline]
     fn add_each_8(&mut self, bytes: &[u8])
         ensures { fold starlark.with_word self.new (starlark.groups 0 (drop (8 * (length bytes.now / 8)) bytes.now)) ≡ fold starlark.with_word self.old (starlark.groups (length bytes.now / 8) bytes.now) }
@@ -75,6 +76,7 @@ impl StarlarkHasher {
 
     // Adds the 8 bytes from `at` on, where they are there. The halves are read where `low` and `high` say: where those bytes
     // are there, at `at` and behind it, and else at any places, so that nothing is read past the end.
+    #[tactic(auto, using(crate::proofs::HasherLemmas::halves_from))]
     #[inline]
     fn add_8(&mut self, bytes: &[u8], at: usize, low: usize, high: usize)
         requires near { at ≤ 8 }
@@ -95,6 +97,7 @@ impl StarlarkHasher {
     }
 
     // Adds a word of 4 bytes, where they are left after the words of 8. The place that is read is theirs, or one before.
+    #[tactic(auto, using(crate::proofs::HasherLemmas::group_steps))]
     #[inline]
     fn add_4(&mut self, bytes: &[u8])
         ensures { (rest : List ℕ → List ℕ) → fold starlark.with_word self.new (rest (drop (4 * (length bytes.now / 4)) bytes.now)) ≡ fold starlark.with_word self.old (starlark.group 4 rest (drop (8 * (length bytes.now / 8)) bytes.now)) }
@@ -107,6 +110,7 @@ impl StarlarkHasher {
     }
 
     // Adds a word of 2 bytes, where they are left after those of 8 and 4. The place that is read is theirs, or one before.
+    #[tactic(auto, using(crate::proofs::HasherLemmas::group_steps))]
     #[inline]
     fn add_2(&mut self, bytes: &[u8])
         ensures { (rest : List ℕ → List ℕ) → fold starlark.with_word self.new (rest (drop (2 * (length bytes.now / 2)) bytes.now)) ≡ fold starlark.with_word self.old (starlark.group 2 rest (drop (4 * (length bytes.now / 4)) bytes.now)) }
@@ -289,6 +293,7 @@ impl Hasher for StarlarkHasher {
         self.add_word(i as u64);
     }
 
+    #[tactic(auto, using(crate::proofs::HasherLemmas::two_words))]
     #[inline]
     fn write_u128(&mut self, i: u128)
         ensures as_bytes { self.new ≡ fold starlark.write self.old (fed.u128 i) }

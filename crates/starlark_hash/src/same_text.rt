@@ -42,6 +42,7 @@ fn at_most_4(last: usize) -> usize
 
 // Compares up to 3 bytes: the first, the middle and the last one.
 #[inline]
+#[tactic(auto, using(crate::proofs::SameText::few_tell))]
 fn same_few(x: &[u8], y: &[u8]) -> bool
     requires few { length x.now ≤ 3 }
     requires as_many { length x.now ≡ length y.now }
@@ -64,6 +65,7 @@ fn same_long(a: &str, b: &str) -> bool
 
 // Whether four bytes are the same.
 #[inline]
+#[tactic(auto, using(crate::proofs::SameText::groups_tell))]
 fn same_4(x: &[u8], y: &[u8], at: usize) -> bool
     requires in_x { at + 4 ≤ length x.now }
     requires in_y { at + 4 ≤ length y.now }

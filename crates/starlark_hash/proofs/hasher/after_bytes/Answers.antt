@@ -1,4 +1,4 @@
-use Rattle.std.proofs.Common.{[], ◌∙◌}
+use Rattle.starlark_hash.proofs.Common.{[], ◌∙◌}
 use Rattle.starlark_hash.specs.Hasher.{group, words}
 use Rattle.starlark_hash.proofs.hasher.after_bytes.Goals as goal
 

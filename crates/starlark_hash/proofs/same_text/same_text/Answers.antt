@@ -1,6 +1,5 @@
 use Rattle.starlark_hash.proofs.SameText.{five_tell}
-use Rattle.std.proofs.Common.{arith, ap, ◌∙◌}
-use Rattle.std.specs.Str.{bytes_eq}
+use Rattle.starlark_hash.proofs.Common.{arith, ap, ◌∙◌, bytes_eq}
 use Rattle.starlark_hash.proofs.same_text.same_text.Goals as goal
 
 pub returns : goal.returns
