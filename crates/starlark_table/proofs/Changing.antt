@@ -1,45 +1,43 @@
 -- What a change of the slots leaves of a table: its members, its room, and that it is sound.
-use Rattle.std.proofs.Common.{◌≡◌, ℕ, ◌+◌, ◌-◌, ◌*◌, ◌%◌, ◌^◌, ◌<◌, ◌≤◌, List, [], ◌∷◌, ◌++◌, length, Option, Some, None, arith, sym, ◌∙◌, ap, subst, subst₂, length-append, append-nil, IsPermutation}
-use Rattle.std.proofs.lemmas.List.Sorted.{length_permutation}
-use Rattle.std.proofs.Math.ListN.{set, length-set}
+use Rattle.starlark_hash.proofs.Common.{◌≡◌, ℕ, ◌+◌, ◌-◌, ◌*◌, ◌%◌, ◌^◌, ◌<◌, ◌≤◌, List, [], ◌∷◌, ◌++◌, length, Option, Some, None, arith, sym, ◌∙◌, ap, subst, subst₂, length-append, append-nil, IsPermutation, length_permutation, set, length-set}
 use Rattle.starlark_table.specs.Table.{Table, filled, members, table_capacity, table_len}
-use Rattle.starlark_table.specs.Layout.{at, members_in, tag_count, InPlace, IsNear, IsTagged, IsSound, TellsFar}
+use Rattle.starlark_table.specs.Layout.{at, InPlace, IsTagged, IsSound, TellsFar}
 use Rattle.starlark_table.specs.Growth.{limit}
 use Rattle.starlark_table.proofs.Bag.{filled-set_some}
 use Rattle.starlark_table.proofs.Load.{sound-empty_slot}
-use Rattle.starlark_table.proofs.TagCount.{doubled_limit}
+use Rattle.starlark_table.proofs.Near.{told_by_all}
 
 module _ {T : Type 0} where
   -- so many members laid out in some slots
   abbrev pub laid : List (Option (ℕ × T)) → ℕ → Table T
   laid slots len = record { slots = slots; room = limit (length slots) - len }
 
-module _ {T : Type 0} (slots : List (Option (ℕ × T))) (tags : List ℕ) (fill : ℕ) (before : IsSound slots tags fill) (t : Table T) (view : laid slots (members_in fill) ≡ t) where
+module _ {T : Type 0} (slots : List (Option (ℕ × T))) (tags : List ℕ) (count far : ℕ) (before : IsSound slots tags count far) (t : Table T) (view : laid slots count ≡ t) where
   -- members and room together fill the load
   whole : table_len t + t.room ≡ limit (length slots)
   whole = let counted = before.counted in let load = before.load in subst (λ t. table_len t + t.room ≡ limit (length slots)) view (omega arith)
 
-  counted : members_in fill ≡ table_len t
+  counted : count ≡ table_len t
   counted = before.counted ∙ ap table_len view
 
   pub slot_for_one : 0 < t.room → (q : ℕ) × (q < length slots) × (at slots q ≡ None)
-  slot_for_one some = let full = whole in sound-empty_slot slots tags fill before (omega arith)
+  slot_for_one some = let full = whole in sound-empty_slot slots tags count far before (omega arith)
 
   -- ---- a member more
-  pub record Inserted (m : ℕ × T) (new : List (Option (ℕ × T))) (tags' : List ℕ) (fill' : ℕ) : Type 0 where
-    pub sound : IsSound new tags' fill'
+  pub record Inserted (m : ℕ × T) (new : List (Option (ℕ × T))) (tags' : List ℕ) (far' : ℕ) : Type 0 where
+    pub sound : IsSound new tags' (count + 1) far'
     pub added : IsPermutation (m ∷ members t) (filled new)
-    pub room : length (filled new) + (limit (length new) - members_in fill') ≡ table_len t + t.room
+    pub room : length (filled new) + (limit (length new) - (count + 1)) ≡ table_len t + t.room
 
-  pub inserted : (slot : ℕ) (m : ℕ × T) (new : List (Option (ℕ × T))) (tags' : List ℕ) (fill' : ℕ) → members_in fill' ≡ members_in fill + 1 → TellsFar fill' new → 0 < t.room → new ≡ set slots slot (Some m) → slot < length slots → at slots slot ≡ None
-      → InPlace (length new) new → IsTagged tags' new → Inserted m new tags' fill'
-  inserted slot m new tags' fill' more told room is slot_in empty in_place tagged =
+  pub inserted : (slot : ℕ) (m : ℕ × T) (new : List (Option (ℕ × T))) (tags' : List ℕ) (far' : ℕ) → TellsFar far' new → 0 < t.room → new ≡ set slots slot (Some m) → slot < length slots → at slots slot ≡ None
+      → InPlace (length new) new → IsTagged tags' new → Inserted m new tags' far'
+  inserted slot m new tags' far' told room is slot_in empty in_place tagged =
       let sized : length new ≡ length slots = ap length is ∙ length-set slots slot (Some m) in
       let added : IsPermutation (m ∷ members t) (filled new) = subst (λ l. IsPermutation (m ∷ l) (filled new)) (ap members view)
       (subst (λ l. IsPermutation (m ∷ filled slots) (filled l)) (sym is) (filled-set_some slots slot m slot_in empty)) in
       let one_more = length_permutation (m ∷ members t) (filled new) added in
       let full = whole in
-      let count = counted in
+      let here = counted in
       record {
         sound = grind arith;
         added = added;
@@ -48,17 +46,17 @@ module _ {T : Type 0} (slots : List (Option (ℕ × T))) (tags : List ℕ) (fill
 
   -- ---- a member less
   pub record Removed (m : ℕ × T) (new : List (Option (ℕ × T))) (tags' : List ℕ) : Type 0 where
-    pub some : 2 ≤ fill
-    pub sound : IsSound new tags' (fill - 2)
+    pub some : 1 ≤ count
+    pub sound : IsSound new tags' (count - 1) far
     pub rest : IsPermutation (members t) (m ∷ filled new)
-    pub room : length (filled new) + (limit (length new) - members_in (fill - 2)) ≡ table_len t + t.room
+    pub room : length (filled new) + (limit (length new) - (count - 1)) ≡ table_len t + t.room
 
   pub removed : (m : ℕ × T) (new : List (Option (ℕ × T))) (tags' : List ℕ) → length new ≡ length slots → InPlace (length new) new → IsTagged tags' new
-      → IsPermutation (filled slots) (m ∷ filled new) → (fill % 2 ≡ 0 → IsNear (length new) new) → Removed m new tags'
-  removed m new tags' sized in_place tagged rest near =
+      → IsPermutation (filled slots) (m ∷ filled new) → TellsFar far new → Removed m new tags'
+  removed m new tags' sized in_place tagged rest told =
       let one_less = length_permutation (filled slots) (m ∷ filled new) rest in
       let full = whole in
-      let count = before.counted in
+      let own = before.counted in
       let load = before.load in
       record {
         some = omega arith;
@@ -68,43 +66,38 @@ module _ {T : Type 0} (slots : List (Option (ℕ × T))) (tags : List ℕ) (fill
       }
 
   -- ---- some of the members
-  pub kept_fits : (kept count : ℕ) → kept ≤ length (filled slots) → count ≡ tag_count (length slots) → count < 2 ^ 64 → 2 * kept + 1 < 2 ^ 64
-  kept_fits kept count fewer is below =
-      let counted = before.counted in
-      let load = before.load in
-      doubled_limit slots before.doubled (subst (λ n. n < 2 ^ 64) is below) (2 * kept + 1) (omega arith)
-
   pub record Kept (kept : ℕ) (new : List (Option (ℕ × T))) (tags' : List ℕ) : Type 0 where
-    pub sound : IsSound new tags' (2 * kept + 1)
-    pub room : length (filled new) + (limit (length new) - members_in (2 * kept + 1)) ≡ table_len t + t.room
+    pub sound : IsSound new tags' kept (2 ^ 64 - 1)
+    pub room : length (filled new) + (limit (length new) - kept) ≡ table_len t + t.room
 
   pub some_kept : (kept : ℕ) (new : List (Option (ℕ × T))) (tags' : List ℕ) → length new ≡ length slots → InPlace (length new) new → IsTagged tags' new
       → kept ≡ length (filled new) → length (filled new) ≤ length (filled slots) → Kept kept new tags'
   some_kept kept new tags' sized in_place tagged is fewer =
       let full = whole in
-      let count = before.counted in
+      let own = before.counted in
       let load = before.load in
+      let told = told_by_all new in
       record {
         sound = grind arith;
         room = grind arith;
       }
 
   -- ---- the members of another table
-  pub record TakenIn (others : List (ℕ × T)) (new : List (Option (ℕ × T))) (tags' : List ℕ) (fill' : ℕ) : Type 0 where
-    pub sound : IsSound new tags' fill'
+  pub record TakenIn (others : List (ℕ × T)) (new : List (Option (ℕ × T))) (tags' : List ℕ) (more far' : ℕ) : Type 0 where
+    pub sound : IsSound new tags' (count + more) far'
     pub added : IsPermutation (others ++ members t) (filled new)
-    pub room : length (filled new) + (limit (length new) - members_in fill') ≡ table_len t + t.room
+    pub room : length (filled new) + (limit (length new) - (count + more)) ≡ table_len t + t.room
 
-  pub taken_in : (old : List (Option (ℕ × T))) (more : ℕ) (other : Table T) (new : List (Option (ℕ × T))) (tags' : List ℕ) (fill' : ℕ) → members_in fill' ≡ members_in fill + more → TellsFar fill' new → more ≡ length (filled old) → laid old more ≡ other
+  pub taken_in : (old : List (Option (ℕ × T))) (more : ℕ) (other : Table T) (new : List (Option (ℕ × T))) (tags' : List ℕ) (far' : ℕ) → TellsFar far' new → more ≡ length (filled old) → laid old more ≡ other
       → table_len other ≤ t.room → length new ≡ length slots → InPlace (length new) new → IsTagged tags' new → IsPermutation (filled old ++ filled slots) (filled new)
-      → TakenIn (members other) new tags' fill'
-  taken_in old more other new tags' fill' counts told many seen fits sized in_place tagged all =
+      → TakenIn (members other) new tags' more far'
+  taken_in old more other new tags' far' told many seen fits sized in_place tagged all =
       let in_all = length_permutation (filled old ++ filled slots) (filled new) all in
       let parts = length-append (filled old) (filled slots) in
       let others = ap table_len seen in
       let full = whole in
-      let here = before.counted in
-      let count = counted in
+      let own = before.counted in
+      let here = counted in
       record {
         sound = grind arith;
         added = subst₂ (λ xs ys. IsPermutation (xs ++ ys) (filled new)) (ap members seen) (ap members view) all;

@@ -1,8 +1,5 @@
 -- A walk that clones one slot after another.
-use Rattle.std.proofs.Common.{◌≡◌, ℕ, zero, suc, ◌+◌, ◌<◌, ◌≤◌, List, [], ◌∷◌, length, take, Option, None, get_or, sym, ◌∙◌, ap, subst, arith, add-one}
-use Rattle.std.proofs.lemmas.Grind.{common_steps}
-use Rattle.std.specs.List.{AllZip}
-use Rattle.std.proofs.Math.ListN.{set, length-set}
+use Rattle.starlark_hash.proofs.Common.{◌≡◌, ℕ, zero, suc, ◌+◌, ◌<◌, ◌≤◌, List, [], ◌∷◌, length, take, Option, None, get_or, sym, ◌∙◌, ap, subst, arith, add-one, common_steps, AllZip, set, length-set}
 use Rattle.starlark_table.specs.Table.{IsSlotClone}
 use Rattle.starlark_table.specs.Layout.{at, slot_tag, IsTagged}
 use Rattle.starlark_table.proofs.Tagged.{tagged-changed}

@@ -1,10 +1,5 @@
 -- A walk that empties one slot after another, and slots of which one is moved.
-use Rattle.std.proofs.Common.{◌≡◌, ℕ, ◌+◌, ◌<◌, ◌≤◌, ◌⊎◌, List, length, Option, None, sym, ◌∙◌, ap, arith}
-use Rattle.std.proofs.lemmas.Grind.{common_steps}
-use Rattle.std.specs.List.{swap}
-use Rattle.std.proofs.Math.ListN.{set}
-use Rattle.std.proofs.lemmas.List.{set-get_or}
-use Rattle.std.proofs.lemmas.List.Edits.{swap_is}
+use Rattle.starlark_hash.proofs.Common.{◌≡◌, ℕ, ◌+◌, ◌<◌, ◌≤◌, ◌⊎◌, List, length, Option, None, sym, ◌∙◌, ap, arith, common_steps, swap, set, set-get_or, swap_is}
 use Rattle.starlark_table.specs.Layout.{at}
 
 module _ {T : Type 0} where

@@ -1,10 +1,7 @@
 -- What the tag of a slot says of it, in the words of a column.
-use Rattle.std.proofs.Common.{◌≡◌, ℕ, zero, suc, add-one, ◌+◌, ◌<◌, ◌≤◌, List, [], ◌∷◌, length, drop, Option, Some, None, IsSome, is_some, nat_eq, get_or, arith, refl, sym, ◌∙◌, ap, drop-cons}
+use Rattle.starlark_hash.proofs.Common.{◌≡◌, ℕ, zero, suc, add-one, ◌+◌, ◌<◌, ◌≤◌, List, [], ◌∷◌, length, drop, Option, Some, None, IsSome, is_some, nat_eq, get_or, arith, refl, sym, ◌∙◌, ap, drop-cons, nat_tests, common_steps, set}
 use Rattle.starlark_table.proofs.Lists.{still_untouched}
 use Rattle.starlark_table.proofs.Closing.{full_in_range}
-use Rattle.std.proofs.lemmas.Bool.Decides.{nat_tests}
-use Rattle.std.proofs.lemmas.Grind.{common_steps}
-use Rattle.std.proofs.Math.ListN.{set}
 use mathlib.Core.Bool.{not}
 use Rattle.starlark_columns.specs.Cells.{IsFilled, empties}
 use Rattle.starlark_table.specs.Table.{filled}

@@ -1,10 +1,7 @@
 -- Bits that tell which of some slots pass a test, and the walk over those that are full.
-use Rattle.std.proofs.Common.{◌≡◌, ◌≢◌, ℕ, zero, suc, ◌+◌, ◌-◌, ◌*◌, ◌/◌, ◌%◌, ◌<◌, ◌≤◌, List, Bool, true, false, cond, length, map, take, Option, Some, None, is_some, arith, get_or, ap, sym, refl, ◌∙◌, subst, drop-cons, bit_and}
-use Rattle.std.proofs.lemmas.Bool.Decides.{nat_tests}
-use Rattle.std.proofs.lemmas.Grind.{common_steps}
+use Rattle.starlark_hash.proofs.Common.{◌≡◌, ◌≢◌, ℕ, zero, suc, ◌+◌, ◌-◌, ◌*◌, ◌/◌, ◌%◌, ◌<◌, ◌≤◌, List, Bool, true, false, cond, length, map, take, Option, Some, None, is_some, arith, get_or, ap, sym, refl, ◌∙◌, subst, drop-cons, bit_and, nat_tests, common_steps, nat_lt}
 use Rattle.std.specs.Int.Bits.{and_step, and_self}
 use Rattle.std.specs.Int.Count.{count_trailing_zeros, under}
-use Rattle.std.specs.Prelude.{nat_lt}
 use lib.Lanes.{chunk, mask_l}
 use Rattle.starlark_table.specs.Layout.{at, bits_where, hash_tag_bits, left_from, slot_tag, padding, IsTagged, IsTaggedFrom, LeftInWindow}
 use Rattle.starlark_table.proofs.Filling.{filled-by_some}

@@ -1,7 +1,5 @@
 -- Lists that a loop goes along, one slot after another.
-use Rattle.std.proofs.Common.{◌≡◌, ℕ, ◌+◌, ◌<◌, ◌++◌, ◌∷◌, List, take, drop, arith, length, get_or}
-use Rattle.std.proofs.Math.ListN.{set}
-use Rattle.std.proofs.lemmas.Grind.{common_steps}
+use Rattle.starlark_hash.proofs.Common.{◌≡◌, ℕ, ◌+◌, ◌<◌, ◌++◌, ◌∷◌, List, take, drop, arith, length, get_or, set, common_steps}
 
 module _ {X : Type 0} where
   pub head_left : (initial cur : List X) (i : ℕ) (r o : X) → i < length cur

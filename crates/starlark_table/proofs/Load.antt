@@ -1,9 +1,8 @@
 -- How many members the slots hold.
-use Rattle.std.proofs.Common.{◌≡◌, ◌≢◌, ℕ, zero, suc, add-one, replicate, length-append, ◌+◌, ◌*◌, ◌^◌, ◌<◌, ◌≤◌, List, [], ◌∷◌, ◌++◌, length, Option, Some, None, arith, refl, IsPermutation, sym, ◌∙◌, ap}
-use Rattle.std.proofs.lemmas.Grind.{common_steps}
-use Rattle.std.proofs.lemmas.List.Sorted.{length_permutation, IsPermutation-trans, IsPermutation-sym, IsPermutation-cons, IsPermutation-middle, IsPermutation-append_left, IsPermutation-append_right}
+use Rattle.starlark_hash.proofs.Common.{◌≡◌, ◌≢◌, ℕ, zero, suc, add-one, length-append, ◌+◌, ◌*◌, ◌^◌, ◌<◌, ◌≤◌, List, [], ◌∷◌, ◌++◌, length, Option, Some, None, arith, refl, IsPermutation, sym, ◌∙◌, ap, common_steps, length_permutation, IsPermutation-trans, IsPermutation-sym, IsPermutation-cons, IsPermutation-middle, IsPermutation-append_right, set}
+use Rattle.std.proofs.Common.{replicate}
+use Rattle.std.proofs.lemmas.List.Sorted.{IsPermutation-append_left}
 use Rattle.std.proofs.lemmas.List.{length-replicate}
-use Rattle.std.proofs.Math.ListN.{set}
 use Rattle.starlark_table.specs.Table.{filled}
 use Rattle.starlark_table.specs.Layout.{at, tags_of_empty, IsTagged, IsSound}
 use Rattle.starlark_table.specs.Growth.{limit}
@@ -33,9 +32,9 @@ module _ {T : Type 0} where
       (filled-set_none slots slot m full) (IsPermutation-cons m (filled (set slots slot None)) (filled new) moved)
 
   -- a table that has slots has an empty one
-  pub sound-empty_slot : (slots : List (Option (ℕ × T))) (tags : List ℕ) (fill : ℕ) → IsSound slots tags fill → 0 < length slots
+  pub sound-empty_slot : (slots : List (Option (ℕ × T))) (tags : List ℕ) (count far : ℕ) → IsSound slots tags count far → 0 < length slots
       → (q : ℕ) × (q < length slots) × (at slots q ≡ None)
-  sound-empty_slot slots tags fill s some =
+  sound-empty_slot slots tags count far s some =
       let counted = s.counted in
       let load = s.load in
       empty_slot slots (omega arith)
@@ -80,7 +79,7 @@ module _ {T : Type 0} where
   tagged-replicate items tags count some e f = grind (arith, common_steps, at-replicate, tag_count-some)
 
   pub sound-all_empty : (items : List (Option (ℕ × T))) (tags : List ℕ) (count : ℕ) → items ≡ replicate count None
-      → tags ≡ tags_of_empty count → 0 < count → (k : ℕ) × (count ≡ 8 * 2 ^ k) → IsSound items tags 0 × (filled items ≡ [])
+      → tags ≡ tags_of_empty count → 0 < count → (k : ℕ) × (count ≡ 8 * 2 ^ k) → IsSound items tags 0 0 × (filled items ≡ [])
   sound-all_empty items tags count e f some doubled =
       let none : filled items ≡ [] = ap filled e ∙ filled-replicate count in
       let sized : length items ≡ count = ap length e ∙ length-replicate count None in (

@@ -1,18 +1,15 @@
 -- A search for a hash along windows of tags: what each turn of its loop knows, and leaves to the next.
-use Rattle.std.proofs.Common.{◌≡◌, ◌≢◌, ℕ, ◌+◌, ◌-◌, ◌*◌, ◌/◌, ◌^◌, ◌<◌, ◌≤◌, List, ◌∷◌, length, Option, Some, None, Bool, true, false, nat_eq, eq-eqb, arith, refl, sym, ◌∙◌, ap, subst}
-use Rattle.std.specs.Borrow.{Bor}
-use Rattle.std.specs.Fn.{CalledAt, TakesAt, Mut}
-use Rattle.std.specs.Int.Count.{count_trailing_zeros}
-use Rattle.std.proofs.lemmas.Bool.{eqb-true, false≢true}
+use Rattle.starlark_hash.proofs.Common.{◌≡◌, ◌≢◌, ℕ, ◌+◌, ◌-◌, ◌*◌, ◌/◌, ◌^◌, ◌<◌, ◌≤◌, List, [], ◌∷◌, length, Option, Some, None, Bool, true, false, nat_eq, eq-eqb, arith, refl, sym, ◌∙◌, ap, subst, inl, inr, IsPermutation, Bor, CalledAt, TakesAt, Mut, count_trailing_zeros, eqb-true, false≢true}
 use Rattle.starlark_hash.specs.Search.{Searches, CanSearch}
 use Rattle.starlark_columns.specs.Cells.{IsFilled}
 use Rattle.starlark_table.specs.Table.{holders, holders_in}
-use Rattle.starlark_table.specs.Layout.{at, home, tag, tag_bits, empty_tag, InPlace, IsTagged, IsMask, BitsUpToEmpty}
-use Rattle.starlark_table.proofs.Circle.{home-below, distance-self, distance-below}
+use Rattle.starlark_table.specs.Layout.{at, home, tag, tag_bits, empty_tag, InPlace, IsTagged, IsMask, BitsUpToEmpty, MayBeFar, TellsFar}
+use Rattle.starlark_table.proofs.Circle.{home-below, near_or_far, distance-self, distance-below}
 use Rattle.starlark_table.proofs.Filling.{filled-by_some}
-use Rattle.starlark_table.proofs.Path.{path_from, listed}
+use Rattle.starlark_table.proofs.Path.{path_from, path-over, listed}
 use Rattle.starlark_table.proofs.Searching.{Searching, searching_begins, searching_on, searching_as, searching_asks, searching_refuses, searching_accepts, searching_ends, path_taken, path_skipped, path_moved}
 use Rattle.starlark_table.proofs.TagBits.{first-by_bits, none-by_bits}
+use Rattle.starlark_table.proofs.Tagged.{tag-member}
 use Rattle.starlark_table.proofs.TagCount.{long_tags}
 use Rattle.starlark_table.proofs.Windows.{AtWindow, Matched, way, window_begins, window_matches, window_ends, window_goes_on}
 
@@ -71,6 +68,20 @@ module _ {F T : Type 0} (g : Mut F (Bor T × Unit {0}) Bool) (hash : ℕ) (tags 
             window = window_begins hash tags slots tagged at_home.0 same its;
             search = path_moved g (behind 0) first first hash a 0 (way hash slots a + (a - a)) slots (omega (arith, here)) (searching_begins g (behind 0) first);
           })
+
+      -- where the window of the home has no such tag, and no member with it stands far, no member has the hash
+      pub looking_near : (sought same : ℕ) → sought ≡ tag number → same ≡ tag_bits sought tags start 16 → same ≡ 0
+          → (far : ℕ) → TellsFar far slots → (MayBeFar far sought → ⊥) → Searches g (holders_in hash slots) first None first
+      looking_near sought same seeks bits none far told near =
+          let its : sought ≡ tag hash = seeks ∙ ap tag hashes in
+          let absent = none-by_bits sought tags start 16 home_room (sym bits ∙ none) in
+          let lacks : (p : ℕ) (x : T) → at slots p ≡ Some (hash, x) → ⊥ = λ p x is.
+          elim (near_or_far a p) [
+            | inl here ↦ absent p (omega (arith, at_home.1)) (omega (arith, at_home.1)) (tag-member tags slots p hash x tagged is ∙ sym its)
+            | inr away ↦ near (subst (MayBeFar far) (sym its) (told p hash x is away))
+          ] in
+          let empty : behind 0 ≡ [] = path-over hash a 0 slots (home-below (length slots) hash at_home.0) (λ q x q_in from. lacks q x) in
+          record { order = []; rearranged = subst (IsPermutation (holders_in hash slots)) empty (listed hash a slots); asks = (refl, refl) }
 
     module _ (start slot same : ℕ) (f : F) (l : Looking start slot same f) where
       some : 0 < length slots

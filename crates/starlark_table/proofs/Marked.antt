@@ -1,6 +1,5 @@
 -- Slots that a walk has still to take, and the tags that tell which of them are full.
-use Rattle.std.proofs.Common.{◌≡◌, ℕ, suc, ◌+◌, ◌<◌, List, [], ◌∷◌, length, drop, Option, slice_index_or, sym, ap, ◌∙◌, subst, arith}
-use Rattle.std.proofs.lemmas.Bool.{cases_lt}
+use Rattle.starlark_hash.proofs.Common.{◌≡◌, ℕ, suc, ◌+◌, ◌<◌, List, [], ◌∷◌, length, drop, Option, slice_index_or, sym, ap, ◌∙◌, subst, arith, cases_lt}
 use Rattle.starlark_columns.specs.Cells.{IsFilled}
 use Rattle.starlark_table.specs.Layout.{empty_tag, IsTagged}
 use Rattle.starlark_table.specs.Loan.{AreMarked, Lent}

@@ -1,8 +1,5 @@
 -- The walk that takes every member out, window by window.
-use Rattle.std.proofs.Common.{◌≡◌, ◌≢◌, ℕ, ◌+◌, ◌-◌, ◌<◌, ◌≤◌, List, Option, Some, None, arith, refl, ◌∙◌, length, bit_and}
-use Rattle.std.proofs.lemmas.Grind.{common_steps}
-use Rattle.std.proofs.Math.ListN.{set, length-set}
-use Rattle.std.specs.Int.Count.{count_trailing_zeros}
+use Rattle.starlark_hash.proofs.Common.{◌≡◌, ◌≢◌, ℕ, ◌+◌, ◌-◌, ◌<◌, ◌≤◌, List, Option, Some, None, arith, refl, ◌∙◌, length, bit_and, common_steps, set, length-set, count_trailing_zeros}
 use Rattle.starlark_table.specs.Layout.{at, LeftInWindow}
 use Rattle.starlark_table.proofs.Closing.{full_in_range}
 use Rattle.starlark_table.proofs.FullBits.{window_next, window_done}

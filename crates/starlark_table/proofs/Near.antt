@@ -1,22 +1,32 @@
--- Slots whose members all stand in the first windows of their searches.
-use Rattle.std.proofs.Common.{◌≡◌, ℕ, ◌+◌, ◌-◌, ◌%◌, ◌<◌, List, length, Option, Some, None, arith}
-use Rattle.std.proofs.lemmas.Grind.{common_steps}
-use Rattle.std.proofs.Math.ListN.{set}
-use Rattle.starlark_table.specs.Layout.{home, InPlace, IsFar, IsNear, TellsFar}
-use Rattle.starlark_table.proofs.Closing.{at-set, same_hash}
+-- Slots whose members outside the first windows of their searches have their bits set.
+use Rattle.starlark_hash.proofs.Common.{◌≡◌, ℕ, ◌+◌, ◌-◌, ◌%◌, ◌^◌, ◌<◌, List, length, Option, Some, None, arith, refl, common_steps, swap, set, length-set}
+use Rattle.std.proofs.lemmas.Nat.Bits.{bit_at-zero, bit_at_ones}
+use Rattle.starlark_table.specs.Layout.{at, home, tag, InPlace, IsFar, MayBeFar, TellsFar}
+use Rattle.starlark_table.proofs.Closing.{at-set, same_hash, taken_and_written}
 
 module _ {T : Type 0} where
-  pub in_place-near : (m : ℕ) (slots : List (Option (ℕ × T))) → IsNear m slots → InPlace m slots
-  in_place-near m slots near = record { reached = λ p q h x at_p far q_in nearer. absurd (near p h x at_p far) }
+  -- without a bit each member stands in the first window
+  pub in_place-near : (slots : List (Option (ℕ × T))) → TellsFar 0 slots → InPlace (length slots) slots
+  in_place-near slots told = record { reached = λ p q h x at_p far q_in nearer. absurd (let bit = told p h x at_p far in grind (arith, bit_at-zero (tag h % 64))) }
+
+  -- every bit tells of all
+  pub told_by_all : (slots : List (Option (ℕ × T))) → TellsFar (2 ^ 64 - 1) slots
+  told_by_all slots p h x at_p far = bit_at_ones 64 (tag h % 64) (omega arith)
 
   -- a member that is taken out leaves the others there
-  pub near-taken : (slots : List (Option (ℕ × T))) (i : ℕ) → i < length slots → IsNear (length slots) slots
-      → IsNear (length (set slots i None)) (set slots i None)
-  near-taken slots i i_in near = grind (arith, common_steps)
+  pub told-taken : (slots : List (Option (ℕ × T))) (i far : ℕ) → i < length slots → TellsFar far slots → TellsFar far (set slots i None)
+  told-taken slots i far i_in told = grind (arith, common_steps)
 
-  -- a member that is put there, or of which the fill tells
-  pub told-put : (slots : List (Option (ℕ × T))) (i : ℕ) (m : ℕ × T) (fill next start count : ℕ) → i < length slots → TellsFar fill slots
-      → count ≡ length slots → start ≡ home (count - 1 + 1) m.0
-      → (next % 2 ≡ 0 → fill % 2 ≡ 0) → (next % 2 ≡ 0 → IsFar start i → ⊥) → TellsFar next (set slots i (Some m))
-  told-put slots i m fill next start count i_in told counted is even near = λ now p h x at_p far.
-      grind (arith, common_steps, at-set slots i p (Some m) (Some (h, x)) i_in at_p, same_hash m (h, x))
+  -- a member that is put there, with its bit where it stands far
+  pub told-put : (slots : List (Option (ℕ × T))) (i : ℕ) (m : ℕ × T) (far next start t : ℕ) → i < length slots → TellsFar far slots
+      → start ≡ home (length slots) m.0 → t ≡ tag m.0
+      → ((other : ℕ) → MayBeFar far other → MayBeFar next other) → (IsFar start i → MayBeFar next t) → TellsFar next (set slots i (Some m))
+  told-put slots i m far next start t i_in told is its kept new = λ p h x at_p away.
+      grind (arith, common_steps, at-set slots i p (Some m) (Some (h, x)) i_in at_p, same_hash m (h, x), told p h x, kept (tag h))
+
+  -- a member that stands far and moves into an empty slot has its bit already
+  pub told-moved : (slots : List (Option (ℕ × T))) (hole next far : ℕ) (n : ℕ × T) → hole < length slots → next < length slots → at slots hole ≡ None
+      → at slots next ≡ Some n → IsFar (home (length slots) n.0) next → TellsFar far slots → TellsFar far (swap slots hole next)
+  told-moved slots hole next far n hole_in next_in empty there away told =
+      rw (← taken_and_written slots hole next n hole_in next_in empty there)
+      (told-put (set slots next None) hole n far far _ _ (rw length-set hole_in) (told-taken slots next far next_in told) refl refl (λ other may. may) (λ _. told next n.0 n.1 there away))

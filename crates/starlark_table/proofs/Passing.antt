@@ -1,7 +1,5 @@
 -- An empty slot that no way leads over, since empty slots stand near on both sides.
-use Rattle.std.proofs.Common.{ℕ, ◌<◌, List, length, Option, None, arith}
-use Rattle.std.proofs.lemmas.Grind.{common_steps}
-use Rattle.std.proofs.Math.ListN.{set}
+use Rattle.starlark_hash.proofs.Common.{ℕ, ◌<◌, List, length, Option, None, arith, common_steps, set}
 use Rattle.starlark_table.specs.Layout.{home, InPlace, IsBetweenEmpty, IsTagged}
 use Rattle.starlark_table.proofs.Circle.{home-below, one_on_way}
 use Rattle.starlark_table.proofs.Closing.{at-set, full_in_range}

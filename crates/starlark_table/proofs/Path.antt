@@ -1,11 +1,8 @@
 -- The search for a hash along its probe path.
-use Rattle.std.proofs.Common.{◌≡◌, ℕ, zero, suc, zero-add, length-drop, ◌+◌, ◌-◌, ◌<◌, ◌≤◌, List, [], ◌∷◌, ◌++◌, length, Option, Some, None, true, false, nat_eq, get_or, take, drop, arith, refl, IsPermutation, sym, ◌∙◌, ap, subst, add-one, drop-cons, if◌then◌else◌, eq-eqb}
+use Rattle.starlark_hash.proofs.Common.{◌≡◌, ℕ, zero, suc, length-drop, ◌+◌, ◌-◌, ◌<◌, ◌≤◌, List, [], ◌∷◌, ◌++◌, length, Option, Some, None, true, false, nat_eq, get_or, take, drop, arith, refl, IsPermutation, sym, ◌∙◌, ap, subst, add-one, drop-cons, if◌then◌else◌, eq-eqb, get_or-drop, get_or_default, take-append-drop, All-head, All-tail, length-enumerate_from, get_or-enumerate_from, enumerate_from, All, Contains}
+use Rattle.std.proofs.Common.{zero-add}
 use Rattle.std.proofs.lemmas.Bool.{ne_eqb}
-use Rattle.std.proofs.lemmas.List.{get_or-drop, get_or_default, take-append-drop}
-use Rattle.std.proofs.lemmas.List.Elements.{All-head, All-tail}
-use Rattle.std.proofs.lemmas.List.FromFn.{length-enumerate_from, get_or-enumerate_from}
 use Rattle.std.proofs.lemmas.List.Sorted.{IsPermutation-append_comm}
-use Rattle.std.specs.List.{enumerate_from, All, Contains}
 use Rattle.starlark_table.specs.Table.{holders, holders_in, filled}
 use Rattle.starlark_table.specs.Layout.{distance, at}
 use Rattle.starlark_table.proofs.Circle.{turn, length-turn, get_or-turn, step_to, distance-below}

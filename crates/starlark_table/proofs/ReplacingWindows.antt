@@ -1,10 +1,7 @@
 -- The walk that replaces each item, window by window.
 use Rattle.starlark_columns.proofs.Walking.{◌≡◌, ◌≢◌, ℕ, zero, suc, ◌+◌, ◌-◌, ◌<◌, ◌≤◌, ◌++◌, ◌∷◌, [], List, Option, Some, take, arith, refl, sym, ◌∙◌, ap, subst, length, get_or, bit_and, inl, inr, set, take-add, cases_lt, take-set, take-take, drop-drop, drop-take, get_or-drop, drop_split, count_trailing_zeros, Mut, CalledAt, TakesAt}
-use Rattle.std.proofs.lemmas.Grind.{common_steps}
-use Rattle.std.proofs.Common.{None, drop, slice_range, drop-cons}
-use Rattle.std.proofs.Math.ListN.{length-set}
-use Rattle.std.proofs.lemmas.List.{take_all}
-use Rattle.std.specs.Borrow.{Bor}
+use Rattle.starlark_hash.proofs.Common.{common_steps, None, drop, drop-cons, length-set, take_all, Bor}
+use Rattle.std.proofs.Common.{slice_range}
 use Rattle.starlark_table.specs.Table.{items_in}
 use Rattle.starlark_table.specs.Layout.{at, LeftInWindow}
 use Rattle.starlark_table.specs.Walk.{CanReplace, ReplacesEach, ReplacesWithin}

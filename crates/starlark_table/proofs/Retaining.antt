@@ -1,10 +1,7 @@
 -- The walk that asks about each member whether it is to be kept.
 use Rattle.starlark_columns.proofs.Walking.{◌≡◌, ℕ, suc, ◌+◌, ◌<◌, ◌≤◌, ◌++◌, ◌∷◌, [], List, Option, Some, Bool, true, false, cond, take, arith, refl, sym, ◌∙◌, ap, subst, length, get_or, append_assoc, append-nil, length-append, add-zero, inl, inr, if◌then◌else◌, IfSome, Mut, CalledAtMut, RetainsInTurn, set, get_or_default, set-get_or, set-set}
 use Rattle.std.proofs.lemmas.Bool.{cases_cond}
-use Rattle.std.proofs.Common.{None, drop}
-use Rattle.std.specs.Borrow.{MutBor}
-use Rattle.std.proofs.Math.ListN.{length-set}
-use Rattle.std.proofs.lemmas.List.{drop_all, take_all}
+use Rattle.starlark_hash.proofs.Common.{None, drop, MutBor, length-set, drop_all, take_all}
 use Rattle.starlark_table.specs.Table.{filled, items_in}
 use Rattle.starlark_table.specs.Walk.{CanRetain, TakesAtMut, AsksMember}
 use Rattle.starlark_table.specs.Layout.{at, empty_tag, StandsIn, IsTagged}

@@ -1,9 +1,6 @@
 -- A search that is under way: what it refused so far, and what is left to ask about.
-use Rattle.std.proofs.Common.{◌≡◌, ℕ, ◌<◌, ◌+◌, List, [], ◌∷◌, ◌++◌, Option, Some, None, Bool, true, false, length, refl, sym, ap, ◌∙◌, subst, append_assoc, arith, IsPermutation}
-use Rattle.std.specs.Fn.{CalledAt, TakesAt, Mut}
-use Rattle.std.specs.Borrow.{Bor}
+use Rattle.starlark_hash.proofs.Common.{◌≡◌, ℕ, ◌<◌, ◌+◌, List, [], ◌∷◌, ◌++◌, Option, Some, None, Bool, true, false, length, refl, sym, ap, ◌∙◌, subst, append_assoc, arith, IsPermutation, CalledAt, TakesAt, Mut, Bor, IsPermutation-refl}
 use Rattle.std.proofs.lemmas.Fn.{FoldsTo-push}
-use Rattle.std.proofs.lemmas.List.Sorted.{IsPermutation-refl}
 use Rattle.starlark_hash.specs.Search.{Asks, Refuses, Searches, CanSearch}
 use Rattle.starlark_table.specs.Table.{holders, holders_in}
 use Rattle.starlark_table.specs.Layout.{distance, at}

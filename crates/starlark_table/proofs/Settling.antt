@@ -1,9 +1,5 @@
 -- Members that move back towards their homes, one after another round the circle from an empty slot that no way leads over.
-use Rattle.std.proofs.Common.{◌≡◌, ℕ, ◌+◌, ◌<◌, ◌≤◌, ◌⊎◌, List, length, Option, Some, None, IsSome, arith, IsPermutation, sym, ◌∙◌, ap, subst, inl, inr}
-use Rattle.std.proofs.lemmas.Bool.Decides.{nat_tests}
-use Rattle.std.specs.List.{swap}
-use Rattle.std.proofs.lemmas.Bool.{cases_eq}
-use Rattle.std.proofs.lemmas.List.Sorted.{IsPermutation-refl}
+use Rattle.starlark_hash.proofs.Common.{◌≡◌, ℕ, ◌+◌, ◌<◌, ◌≤◌, ◌⊎◌, List, length, Option, Some, None, IsSome, arith, IsPermutation, sym, ◌∙◌, ap, subst, inl, inr, nat_tests, swap, cases_eq, IsPermutation-refl}
 use Rattle.starlark_table.specs.Table.{filled}
 use Rattle.starlark_table.specs.Layout.{at, distance, home, InPlace, IsFar, ReachesBefore, StandsIn}
 use Rattle.starlark_table.proofs.Circle.{distance-below, distance-self, distance-same, far_behind, home-below}

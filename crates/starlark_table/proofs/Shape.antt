@@ -1,14 +1,10 @@
 -- Whether slots are well laid out depends on their hashes alone.
-use Rattle.std.proofs.Common.{◌≡◌, ℕ, suc, ◌*◌, ◌^◌, ◌<◌, ◌≤◌, List, [], ◌∷◌, length, Option, Some, None, IsSome, get_or, refl, sym, ◌∙◌, ap, subst, arith, map}
-use Rattle.std.specs.List.{AllZip}
-use Rattle.std.proofs.Math.ListN.{set, get_or-map}
+use Rattle.starlark_hash.proofs.Common.{◌≡◌, ℕ, suc, ◌*◌, ◌^◌, ◌<◌, ◌≤◌, List, [], ◌∷◌, length, Option, Some, None, IsSome, get_or, refl, sym, ◌∙◌, ap, subst, arith, map, AllZip, set, length-map, Bor, Mut}
+use Rattle.std.proofs.Math.ListN.{get_or-map}
 use Rattle.std.proofs.Math.Seq.{map-set_same}
-use Rattle.std.proofs.lemmas.List.{length-map}
-use Rattle.std.specs.Borrow.{Bor}
-use Rattle.std.specs.Fn.{Mut}
 use Rattle.starlark_table.specs.Table.{filled, IsSlotClone}
 use Rattle.starlark_table.specs.Walk.{ReplacesEach}
-use Rattle.starlark_table.specs.Layout.{at, home, members_in, tag, slot_tag, InPlace, IsFar, IsTagged, IsSound}
+use Rattle.starlark_table.specs.Layout.{at, home, tag, slot_tag, InPlace, IsFar, IsTagged, IsSound}
 use Rattle.starlark_table.specs.Growth.{limit}
 
 -- how many hashes there are
@@ -59,19 +55,19 @@ module _ {T : Type 0} where
     same_tags : (tags : List ℕ) → IsTagged tags old → IsTagged tags new
     same_tags tags t = grind (arith, same_length, λ (p : ℕ). same_slot_tag (at old p) (at new p) (same_hash_at p))
 
-    pub reshaped : (tags : List ℕ) (fill : ℕ) → IsSound old tags fill → IsSound new tags fill
-    reshaped tags fill sound = record {
+    pub reshaped : (tags : List ℕ) (count far : ℕ) → IsSound old tags count far → IsSound new tags count far
+    reshaped tags count far sound = record {
       counted = sound.counted ∙ sym same_count;
-      load = subst (λ n. members_in fill ≤ limit n) (sym same_length) sound.load;
+      load = subst (λ n. count ≤ limit n) (sym same_length) sound.load;
       doubled = subst (λ n. 0 < n → (k : ℕ) × (n ≡ 8 * 2 ^ k)) (sym same_length) sound.doubled;
       in_place = subst (λ n. InPlace n new) (sym same_length) (record {
         reached = λ p q h y e far below near.
             let back = full_by_hash (at old p) h (sym (same_hash_at p) ∙ ap hash_of e) in
             full_in_both (at old q) (at new q) (same_hash_at q) (sound.in_place.reached p q h back.0 back.1 far below near);
       });
-      told = λ even p h y e far.
+      told = λ p h y e away.
           let back = full_by_hash (at old p) h (sym (same_hash_at p) ∙ ap hash_of e) in
-          sound.told even p h back.0 back.1 (subst (λ n. IsFar (home n h) p) same_length far);
+          sound.told p h back.0 back.1 (subst (λ n. IsFar (home n h) p) same_length away);
       tagged = same_tags tags sound.tagged;
     }
 
@@ -92,10 +88,10 @@ module _ {T : Type 0} (is_clone : T → T → Type 0) where
       ap (λ o. shape (o ∷ new)) all.0.2 ∙ ap (λ l. Some h ∷ l) (shape-cloned old new all.1)
 
   -- clones under their own tags lie as well as what they were made of
-  pub sound-cloned : (old new : List (Option (ℕ × T))) (tags tags' : List ℕ) (fill : ℕ) → IsSound old tags fill
-      → AllZip (IsSlotClone is_clone) old new → IsTagged tags' new → IsSound new tags' fill
-  sound-cloned old new tags tags' fill sound all tagged =
-      let r = reshaped old new (shape-cloned old new all) tags fill sound in
+  pub sound-cloned : (old new : List (Option (ℕ × T))) (tags tags' : List ℕ) (count far : ℕ) → IsSound old tags count far
+      → AllZip (IsSlotClone is_clone) old new → IsTagged tags' new → IsSound new tags' count far
+  sound-cloned old new tags tags' count far sound all tagged =
+      let r = reshaped old new (shape-cloned old new all) tags count far sound in
       record { counted = r.counted; load = r.load; doubled = r.doubled; in_place = r.in_place; told = r.told; tagged = tagged }
 
 module _ {T : Type 0} (w : T) where
@@ -104,6 +100,6 @@ module _ {T : Type 0} (w : T) where
       → shape (set slots i (Some (m.0, w))) ≡ shape slots
   shape-written slots i m e = map-set_same hash_of slots i (Some (m.0, w)) None (sym (ap hash_of e))
 
-  pub sound-written : (slots : List (Option (ℕ × T))) (i : ℕ) (m : ℕ × T) (tags : List ℕ) (fill : ℕ) → at slots i ≡ Some m
-      → IsSound slots tags fill → IsSound (set slots i (Some (m.0, w))) tags fill
-  sound-written slots i m tags fill e = reshaped slots (set slots i (Some (m.0, w))) (shape-written slots i m e) tags fill
+  pub sound-written : (slots : List (Option (ℕ × T))) (i : ℕ) (m : ℕ × T) (tags : List ℕ) (count far : ℕ) → at slots i ≡ Some m
+      → IsSound slots tags count far → IsSound (set slots i (Some (m.0, w))) tags count far
+  sound-written slots i m tags count far e = reshaped slots (set slots i (Some (m.0, w))) (shape-written slots i m e) tags count far

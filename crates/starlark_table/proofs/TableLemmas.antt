@@ -1,12 +1,6 @@
 -- What the words on tables say of one another, for the crates above.
-use Rattle.std.proofs.Common.{◌≡◌, ℕ, zero, suc, ◌+◌, ◌<◌, ◌≤◌, true, false, cond, nat_eq, List, [], ◌∷◌, map, length, Option, Some, None, refl, sym, ap, subst, ◌∙◌, arith, if◌then◌else◌, IsPermutation}
-use Rattle.std.specs.Prelude.{slice_index_or, slice_set}
-use Rattle.std.specs.List.{Contains, enumerate_from, filter}
-use Rattle.std.specs.Option.{option_map}
-use Rattle.std.proofs.Common.{eqb-true}
-use Rattle.std.proofs.lemmas.List.Sorted.{IsPermutation-trans, IsPermutation-cons, IsPermutation-middle, length_permutation}
-use Rattle.std.proofs.lemmas.List.{length-map}
-use Rattle.std.proofs.lemmas.Option.{none-some}
+use Rattle.starlark_hash.proofs.Common.{◌≡◌, ℕ, zero, suc, ◌+◌, ◌<◌, ◌≤◌, true, false, cond, nat_eq, List, [], ◌∷◌, map, length, Option, Some, None, refl, sym, ap, subst, ◌∙◌, arith, if◌then◌else◌, IsPermutation, slice_index_or, slice_set, Contains, enumerate_from, option_map, eqb-true, IsPermutation-trans, IsPermutation-cons, IsPermutation-middle, length_permutation, length-map, none-some}
+use Rattle.std.specs.List.{filter}
 use Rattle.starlark_table.specs.Table.{Table, filled, holders, members, member_at, items_under, table_capacity, table_len, with_item, GrowsAsNeeded}
 use Rattle.starlark_table.specs.Growth.{most_for}
 use Rattle.starlark_table.specs.Lend.{with_items_of}

@@ -1,6 +1,6 @@
 -- A `ReadyTable` in memory is its slots, its tags and the rest, and back, at any slots of which the invariant holds. Assumes
 -- `Logic`.
-use Rattle.starlark_columns.proofs.Walking.{◌≡◌, ℕ, zero, ◌+◌, List, [], ◌∷◌, Ura, full_share, SProp, ent, sep, wand, ex, all_e, apply∗, size, align, up, ‵, raw, ◌⊛◌, some, ◌$◌, ◌∵◌, !, qed, by, move, use1, use2, split, pick, show, fsplit3, fjoin, done, Logic, sem, usize, RattleType, Denots, part_at, part_of, lone, plain_out, Plain-in, view_made, Laws, lawfuls, Member, rows_of, parts_at, shape_of, PartsBack, Struct-parts, Struct}
+use Rattle.starlark_columns.proofs.Walking.{◌≡◌, ℕ, zero, ◌+◌, List, [], ◌∷◌, Ura, full_share, SProp, ent, sep, wand, ex, all_e, apply∗, size, align, up, ‵, raw, ◌⊛◌, some, ◌$◌, ◌∵◌, !, qed, by, move, use1, use2, split, pick, show, fsplit3, fjoin, done, Logic, sem, usize, u64, RattleType, Denots, part_at, part_of, lone, plain_out, Plain-in, view_made, Laws, lawfuls, Member, rows_of, parts_at, shape_of, PartsBack, Struct-parts, Struct}
 use Rattle.starlark_columns.specs.contracts.column.Column.{the_row as column_row}
 use Rattle.starlark_table.specs.Lend.{Member as MemberRow, Tags}
 use Rattle.starlark_table.specs.declared.kept_hash.KeptHash as KeptHash
@@ -27,7 +27,7 @@ module _ (K H : RattleType) (G : KeptHash.Ghosts H.Denot) where
   CS = column_row (MemberRow K H G)
 
   abbrev left : List Member
-  left = member usize ∷ []
+  left = member usize ∷ member u64 ∷ []
 
   abbrev ms : List Member
   ms = member CS ∷ member Tags ∷ left

@@ -1,10 +1,8 @@
 -- Bits that tell at which of some slots a tag stands.
-use Rattle.std.proofs.Common.{◌≡◌, ◌≢◌, ℕ, zero, suc, ◌+◌, ◌*◌, ◌/◌, ◌%◌, ◌^◌, ◌<◌, ◌≤◌, List, cond, length, get_or, map, arith, ap, sym, refl, ◌∙◌, eqb-true}
+use Rattle.starlark_hash.proofs.Common.{◌≡◌, ◌≢◌, ℕ, zero, suc, ◌+◌, ◌*◌, ◌/◌, ◌%◌, ◌^◌, ◌<◌, ◌≤◌, List, cond, length, get_or, map, arith, ap, sym, refl, ◌∙◌, eqb-true, pow-suc, count_trailing_zeros, nat_eq}
 use Rattle.std.proofs.lemmas.Bool.{eqb-false}
-use Rattle.std.proofs.Math.Nat.{pow-suc, pow-succ', pow-zero, div-one, mod-one, div-div-eq-div-mul, one-le-pow}
+use Rattle.std.proofs.Math.Nat.{pow-succ', pow-zero, div-one, mod-one, div-div-eq-div-mul, one-le-pow}
 use Rattle.std.proofs.Math.Arith.{mod-mul}
-use Rattle.std.specs.Int.Count.{count_trailing_zeros}
-use Rattle.std.specs.Prelude.{nat_eq}
 use lib.Lanes.{chunk, mask_l}
 use Rattle.starlark_table.specs.Layout.{tag_bits, bits_where}
 use Rattle.starlark_table.proofs.FullBits.{lowest, bits_where-chunk, FirstPassing, first_passing-by_bits, none_passing-by_bits}

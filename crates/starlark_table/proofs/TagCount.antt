@@ -1,8 +1,6 @@
 -- How many tags there are beside the slots.
-use Rattle.std.proofs.Common.{◌≡◌, ℕ, ◌+◌, ◌*◌, ◌/◌, ◌^◌, ◌<◌, ◌≤◌, List, length, drop, Option, sym, ◌∙◌, subst, arith, inl, inr}
-use Rattle.std.proofs.lemmas.Bool.Decides.{nat_tests}
+use Rattle.starlark_hash.proofs.Common.{◌≡◌, ℕ, ◌+◌, ◌*◌, ◌/◌, ◌^◌, ◌<◌, ◌≤◌, List, length, drop, Option, sym, ◌∙◌, subst, arith, inl, inr, nat_tests, cases_lt}
 use Rattle.std.proofs.Math.Nat.{pow-le-pow_right}
-use Rattle.std.proofs.lemmas.Bool.{cases_lt}
 use Rattle.std.specs.List.{refill}
 use Rattle.std.proofs.lemmas.List.{take_at}
 use Rattle.starlark_table.specs.Growth.{limit}
@@ -29,13 +27,6 @@ module _ {T : Type 0} where
 
   pub tags_fit : (slots : List (Option (ℕ × T))) → AreDoubled slots → 0 < length slots → length slots < 2 ^ 64 → length slots + window < 2 ^ 64
   tags_fit slots doubled some below = let d = doubled some in let half = doubled_half (length slots) d.0 d.1 below in omega arith
-
-  -- twice as many members as may stand in some slots, and one, are below 2 ^ 64
-  pub doubled_limit : (slots : List (Option (ℕ × T))) → AreDoubled slots → tag_count (length slots) < 2 ^ 64 → (fill : ℕ) → fill / 2 ≤ limit (length slots) → fill < 2 ^ 64
-  doubled_limit slots doubled below fill load = elim (cases_lt 0 (length slots)) [
-    | inl some ↦ let d = doubled some in let count = tag_count-some (length slots) some in let most = doubled_half (length slots) d.0 d.1 (omega arith) in omega arith
-    | inr none ↦ omega arith
-  ]
 
   pub doubled-alike : (old new : List (Option (ℕ × T))) → length new ≡ length old → AreDoubled old → AreDoubled new
   doubled-alike old new same doubled = subst (λ n. 0 < n → (k : ℕ) × (n ≡ 8 * 2 ^ k)) (sym same) doubled

@@ -1,11 +1,5 @@
 -- The tags of slots, and of slots that change.
-use Rattle.std.proofs.Common.{◌≡◌, ℕ, ◌<◌, List, length, Option, Some, None, IsSome, arith, get_or, refl, sym, ◌∙◌, ap, subst}
-use Rattle.std.proofs.lemmas.Grind.{common_steps}
-use Rattle.std.specs.List.{swap}
-use Rattle.std.proofs.Math.ListN.{set}
-use Rattle.std.proofs.lemmas.Bool.{cases_eq}
-use Rattle.std.proofs.lemmas.List.{set-get_or}
-use Rattle.std.proofs.lemmas.List.Edits.{swapped_from_swap, length-swap}
+use Rattle.starlark_hash.proofs.Common.{◌≡◌, ℕ, ◌<◌, List, length, Option, Some, None, IsSome, arith, get_or, refl, sym, ◌∙◌, ap, subst, common_steps, swap, set, cases_eq, set-get_or, swapped_from_swap, length-swap}
 use Rattle.starlark_table.specs.Layout.{at, tag, slot_tag, empty_tag, padding, tag_count, HasTags, IsTagged}
 use Rattle.starlark_table.proofs.Closing.{full_in_range}
 use Rattle.starlark_table.proofs.TagCount.{long_tags}

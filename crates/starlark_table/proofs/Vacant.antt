@@ -1,7 +1,5 @@
 -- An empty slot in the home's window of a hash: where no tag there is that of the hash no member has it, and one may go there.
-use Rattle.std.proofs.Common.{◌≡◌, ◌≢◌, ℕ, ◌+◌, ◌-◌, ◌<◌, ◌≤◌, List, [], ◌∷◌, length, Option, arith, refl, sym, ◌∙◌, ap, subst}
-use Rattle.std.proofs.lemmas.List.Sorted.{length_permutation}
-use Rattle.std.specs.Int.Count.{count_trailing_zeros}
+use Rattle.starlark_hash.proofs.Common.{◌≡◌, ◌≢◌, ℕ, ◌+◌, ◌-◌, ◌<◌, ◌≤◌, List, [], ◌∷◌, length, Option, arith, refl, sym, ◌∙◌, ap, subst, length_permutation, count_trailing_zeros}
 use Rattle.starlark_table.specs.Table.{holders, holders_in}
 use Rattle.starlark_table.specs.Layout.{home, tag, tag_bits, empty_tag, InPlace, IsMask, IsTagged, IsVacancy}
 use Rattle.starlark_table.proofs.Circle.{home-below, distance-self}

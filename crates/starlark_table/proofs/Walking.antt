@@ -1,5 +1,5 @@
 -- A closure that goes along a list of items.
-use Rattle.std.proofs.Common.{List, ◌∷◌, [], refl, ap}
+use Rattle.starlark_hash.proofs.Common.{List, ◌∷◌, [], refl, ap}
 use Rattle.starlark_table.specs.Walk.{CanWalk}
 
 module _ {F X : Type 0} (takes : F → X → Type 0) (leaves : F → X → F → Type 0) where

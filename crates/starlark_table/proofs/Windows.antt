@@ -1,8 +1,6 @@
 -- Windows of tags along the way of a hash: what a search knows at one, and how it goes on.
-use Rattle.std.proofs.Common.{◌≡◌, ◌≢◌, ℕ, suc, ◌+◌, ◌-◌, ◌/◌, ◌^◌, ◌<◌, ◌≤◌, ◌⊎◌, List, [], length, Option, Some, None, IsSome, arith, get_or, refl, sym, ◌∙◌, ap, inl, inr}
-use Rattle.std.proofs.lemmas.Bool.{cases_lt}
-use Rattle.std.proofs.Math.Nat.{pow-suc, div-div-eq-div-mul}
-use Rattle.std.specs.Int.Count.{count_trailing_zeros}
+use Rattle.starlark_hash.proofs.Common.{◌≡◌, ◌≢◌, ℕ, suc, ◌+◌, ◌-◌, ◌/◌, ◌^◌, ◌<◌, ◌≤◌, ◌⊎◌, List, [], length, Option, Some, None, IsSome, arith, get_or, refl, sym, ◌∙◌, ap, inl, inr, cases_lt, pow-suc, count_trailing_zeros}
+use Rattle.std.proofs.Math.Nat.{div-div-eq-div-mul}
 use Rattle.starlark_table.specs.Table.{holders}
 use Rattle.starlark_table.specs.Layout.{at, distance, home, tag, tag_bits, empty_tag, padding, InPlace, IsFar, IsTagged, BitsUpToEmpty}
 use Rattle.starlark_table.proofs.Circle.{home-below, distance-self, distance-ahead, distance-same, far_on, straight_to, round_on, between}

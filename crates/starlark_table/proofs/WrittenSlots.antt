@@ -1,5 +1,5 @@
 -- Slots whose members were written stay as they were but for these: empty, or full under their hashes.
-use Rattle.std.proofs.Common.{◌≡◌, ℕ, suc, List, [], ◌∷◌, length, Option, Some, None, refl, ap}
+use Rattle.starlark_hash.proofs.Common.{◌≡◌, ℕ, suc, List, [], ◌∷◌, length, Option, Some, None, refl, ap}
 use Rattle.starlark_columns.specs.Loan.{kept_cells}
 use Rattle.starlark_table.proofs.Shape.{shape}
 

@@ -4,7 +4,7 @@ ghost use Rattle.std.specs.Prelude.{◌≡◌, ℕ, ◌+◌, ◌^◌, ◌*◌, �
 ghost use Rattle.std.specs.List.{AllZip};
 ghost use Rattle.starlark_columns.specs.Cells.{empties};
 ghost use Rattle.starlark_table.specs.Table.{filled, IsSlotClone};
-ghost use Rattle.starlark_table.specs.Layout.{at, members_in, tags_of_empty, window, AreDoubled, InPlace, IsTagged, IsTaggedFrom, TellsFar};
+ghost use Rattle.starlark_table.specs.Layout.{at, tags_of_empty, window, AreDoubled, InPlace, IsTagged, IsTaggedFrom, TellsFar};
 ghost use Rattle.starlark_table.specs.Growth.{limit, most_for};
 
 use crate::kept_hash::KeptHash;
@@ -75,18 +75,17 @@ pub(crate) fn move_all<T, H: KeptHash>(
     old_tags: Bytes,
     slots: &mut Slots<T, H>,
     tags: &mut [u8],
-    fill: &mut usize,
+    far: &mut u64,
 )
     requires old_tagged { IsTagged old_tags old }
     requires old_doubled { AreDoubled old }
     requires some { 0 < length slots.old }
     requires in_place { InPlace (length slots.old) slots.old }
     requires tagged { IsTagged tags.old slots.old }
-    requires told { TellsFar fill.old slots.old }
+    requires told { TellsFar far.old slots.old }
     requires room { length (filled slots.old) + length (filled old) ≤ limit (length slots.old) }
     ensures sized { length slots.new ≡ length slots.old }
-    ensures members { members_in fill.new ≡ members_in fill.old }
-    ensures told { TellsFar fill.new slots.new }
+    ensures told { TellsFar far.new slots.new }
     ensures bag { IsPermutation (filled old ++ filled slots.old) (filled slots.new) }
     ensures in_place { InPlace (length slots.new) slots.new }
     ensures tagged { IsTagged tags.new slots.new }
@@ -94,7 +93,7 @@ pub(crate) fn move_all<T, H: KeptHash>(
     let count = tags_beside(&old);
     let mut start = 0;
     'windows: while start < old.cells() {
-        start = move_window(&mut old, old_tags.as_slice(count), start, slots, tags, fill);
+        start = move_window(&mut old, old_tags.as_slice(count), start, slots, tags, far);
     }
     old.give_back(old_tags.allocator());
     old_tags.give_back(count);
@@ -107,19 +106,18 @@ fn move_window<T, H: KeptHash>(
     start: usize,
     slots: &mut Slots<T, H>,
     tags: &mut [u8],
-    fill: &mut usize,
+    far: &mut u64,
 ) -> usize
     requires start { start < length from.old }
     requires from_tagged { IsTaggedFrom start from_tags.now from.old }
     requires some { 0 < length slots.old }
     requires in_place { InPlace (length slots.old) slots.old }
     requires tagged { IsTagged tags.old slots.old }
-    requires told { TellsFar fill.old slots.old }
+    requires told { TellsFar far.old slots.old }
     requires room { length (filled from.old ++ filled slots.old) ≤ limit (length slots.old) }
     ensures some { start < result }
     ensures sized { length slots.new ≡ length slots.old }
-    ensures members { members_in fill.new ≡ members_in fill.old }
-    ensures told { TellsFar fill.new slots.new }
+    ensures told { TellsFar far.new slots.new }
     ensures bag { IsPermutation (filled from.old ++ filled slots.old) (filled from.new ++ filled slots.new) }
     ensures in_place { InPlace (length slots.new) slots.new }
     ensures tagged { IsTagged tags.new slots.new }
@@ -132,7 +130,7 @@ fn move_window<T, H: KeptHash>(
     'members: while full != 0 {
         let slot = start + full.trailing_zeros() as usize;
         let (hash, item) = from.take(slot);
-        put(slots, tags, fill, hash, item);
+        put(slots, tags, far, hash, item);
         full &= full - 1;
     }
     end

@@ -3,7 +3,7 @@
 
 mod ahead;
 mod clear;
-mod fill;
+mod far;
 mod follow;
 mod growth;
 mod home;

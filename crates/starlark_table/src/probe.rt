@@ -1,11 +1,11 @@
 //! Reads and writes of the slots along the way of a hash: from its home on, up to the first empty slot.
-ghost use Rattle.std.specs.Prelude.{◌≡◌, ℕ, ◌+◌, ◌%◌, ◌<◌, ◌≤◌, [], ◌∷◌, Some, None, drop, length, IfSome, IsSome, is_some, slice_set};
+ghost use Rattle.std.specs.Prelude.{◌≡◌, ◌≢◌, ◌⊎◌, ℕ, true, ◌+◌, ◌<◌, ◌≤◌, [], ◌∷◌, Some, None, drop, length, IfSome, IsSome, is_some, slice_set};
 ghost use Rattle.std.specs.Option.{option_copied, option_map};
 ghost use Rattle.starlark_hash.specs.Search.{Searches, CanSearch};
 ghost use Rattle.starlark_table.specs.Table.{filled, holders_in};
-ghost use Rattle.starlark_table.specs.Layout.{distance, at, members_in, InPlace, IsFar, IsMask, IsNear, IsTagged, TellsFar, IsVacancy};
+ghost use Rattle.starlark_table.specs.Layout.{distance, at, tag as tag_of, tag_bits, empty_tag, window, InPlace, IsFar, IsMask, IsTagged, MayBeFar, TellsFar, IsVacancy};
 
-use crate::fill::with_far;
+use crate::far::{may_be_far, with_far};
 use crate::home::{home, window_after};
 use crate::kept_hash::{Kept, KeptHash};
 use crate::tags::{EMPTY, slots_up_to_empty, slots_with, tag};
@@ -19,6 +19,7 @@ pub(crate) type Slots<T, H> = Column<(Kept<H>, T)>;
 pub(crate) fn find_slot<'a, T, H: KeptHash, F: FnMut(&T) -> bool>(
     slots: &'a Slots<T, H>,
     tags: &[u8],
+    far: u64,
     mask: usize,
     hash: Kept<H>,
     mut eq: F,
@@ -26,6 +27,7 @@ pub(crate) fn find_slot<'a, T, H: KeptHash, F: FnMut(&T) -> bool>(
     requires mask { IsMask mask slots.now }
     requires in_place { InPlace (length slots.now) slots.now }
     requires tagged { IsTagged tags.now slots.now }
+    requires told { TellsFar far slots.now }
     requires free { 0 < length slots.now → (q : ℕ) × (q < length slots.now) × (at slots.now q ≡ None) }
     requires callable { CanSearch F.FnMut (holders_in hash slots.now) eq }
     ensures found { (last : F) × Searches F.FnMut (holders_in hash slots.now) eq (option_map (λ p. p.0) result) last }
@@ -48,7 +50,7 @@ pub(crate) fn find_slot<'a, T, H: KeptHash, F: FnMut(&T) -> bool>(
         }
         same = same >> same.trailing_zeros() >> 1;
         slot += 1;
-    } else if slots_with(tags, start, EMPTY) != 0 {
+    } else if ends_at_home(tags, start, far, sought) {
         return None;
     }
     'windows: loop {
@@ -69,6 +71,16 @@ pub(crate) fn find_slot<'a, T, H: KeptHash, F: FnMut(&T) -> bool>(
             slot += 1;
         }
     }
+}
+
+// Whether no member with a tag can stand behind the window of its home: a slot there is empty, or no such member stands far.
+// Both are looked at before the jump, which is then foreseen mostly.
+#[inline]
+fn ends_at_home(tags: &[u8], home: usize, far: u64, tag: u8) -> bool
+    requires { home + window ≤ length tags.now }
+    ensures { result ≡ true → (tag_bits empty_tag tags.now home window ≢ 0) ⊎ (MayBeFar far tag → ⊥) }
+{
+    (slots_with(tags, home, EMPTY) != 0) | !may_be_far(far, tag)
 }
 
 // The first empty slot of the home's window, where no tag there is that of the hash: then no member has the hash.
@@ -121,13 +133,14 @@ pub(crate) fn free_slot<T, H: KeptHash>(slots: &Slots<T, H>, tags: &[u8], home: 
     start + empty.trailing_zeros() as usize
 }
 
-// The same. The fill tells of it where that is not in the first window.
+// The same for a member with this tag. Its bit is set where that is not in the first window.
 #[inline]
 fn slot_from<T, H: KeptHash>(
     slots: &Slots<T, H>,
     tags: &[u8],
-    fill: &mut usize,
+    far: &mut u64,
     home: usize,
+    tag: u8,
 ) -> usize
     requires home { home < length slots.now }
     requires tagged { IsTagged tags.now slots.now }
@@ -135,13 +148,12 @@ fn slot_from<T, H: KeptHash>(
     ensures in_range { result < length slots.now }
     ensures empty { at slots.now result ≡ None }
     ensures path { (q : ℕ) → q < length slots.now → distance (length slots.now) home q < distance (length slots.now) home result → IsSome (at slots.now q) }
-    ensures members { members_in fill.new ≡ members_in fill.old }
-    ensures even { fill.new % 2 ≡ 0 → fill.old % 2 ≡ 0 }
-    ensures near { fill.new % 2 ≡ 0 → IsFar home result → ⊥ }
+    ensures others { (other : ℕ) → MayBeFar far.old other → MayBeFar far.new other }
+    ensures its { IsFar home result → MayBeFar far.new tag }
 {
     let empty = slots_with(tags, home, EMPTY);
     if empty == 0 {
-        *fill = with_far(*fill);
+        *far = with_far(*far, tag);
         return free_slot(slots, tags, home);
     }
     home + empty.trailing_zeros() as usize
@@ -152,25 +164,25 @@ fn slot_from<T, H: KeptHash>(
 pub(crate) fn put<T, H: KeptHash>(
     slots: &mut Slots<T, H>,
     tags: &mut [u8],
-    fill: &mut usize,
+    far: &mut u64,
     hash: Kept<H>,
     item: T,
 ) -> usize
     requires in_place { InPlace (length slots.old) slots.old }
     requires tagged { IsTagged tags.old slots.old }
-    requires told { TellsFar fill.old slots.old }
+    requires told { TellsFar far.old slots.old }
     requires free { (q : ℕ) × (q < length slots.old) × (at slots.old q ≡ None) }
     ensures in_range { result < length slots.old }
     ensures empty { at slots.old result ≡ None }
-    ensures members { members_in fill.new ≡ members_in fill.old }
-    ensures told { TellsFar fill.new slots.new }
+    ensures told { TellsFar far.new slots.new }
     ensures set { slots.new ≡ slice_set slots.old result (Some (hash, item)) }
     ensures in_place { InPlace (length slots.new) slots.new }
     ensures tagged { IsTagged tags.new slots.new }
 {
     let number = hash.number();
-    let slot = slot_from(slots, tags, fill, home(number, slots.cells() - 1));
-    tags[slot] = tag(number);
+    let tag = tag(number);
+    let slot = slot_from(slots, tags, far, home(number, slots.cells() - 1), tag);
+    tags[slot] = tag;
     slots.write(slot, (hash, item));
     slot
 }
@@ -190,7 +202,7 @@ pub(crate) fn put_at<T, H: KeptHash>(
     ensures set { slots.new ≡ slice_set slots.old slot (Some (hash, item)) }
     ensures in_place { InPlace (length slots.new) slots.new }
     ensures tagged { IsTagged tags.new slots.new }
-    ensures near { IsNear (length slots.old) slots.old → IsNear (length slots.new) slots.new }
+    ensures told { (far : ℕ) → TellsFar far slots.old → TellsFar far slots.new }
 {
     tags[slot] = tag(hash.number());
     slots.write(slot, (hash, item));

@@ -13,7 +13,6 @@ mod iter_mut;
 mod pairs_mut;
 
 use crate::clear::{drop_all, empty_all, next_full};
-use crate::fill::{members_in, tells_far};
 use crate::follow::Follows;
 use crate::growth::{clone_members, empty_slots, limit, move_all, slots_for};
 use crate::home::mask_of;
@@ -43,8 +42,10 @@ pub struct ReadyTable<T, H: KeptHash = u64> {
     slots: Slots<T, H>,
     // Of each slot one byte, which alone tells at run time whether it has a member. How many there are the slots tell.
     tags: Bytes,
-    // How many members there are, and whether some may stand far.
-    fill: usize,
+    // How many members there are.
+    len: usize,
+    // Which tags members have that may stand outside the first windows of their searches.
+    far: u64,
 }
 
 impl<T, H: KeptHash> Model for ReadyTable<T, H> {
@@ -55,12 +56,12 @@ impl<T, H: KeptHash> Model for ReadyTable<T, H> {
 
     ghost coded = { table_code T.code };
 
-    ghost use Rattle.starlark_table.specs.Layout.{IsSound, members_in};
+    ghost use Rattle.starlark_table.specs.Layout.{IsSound};
     ghost use Rattle.starlark_table.specs.Growth.{limit};
 
-    ghost view = { λ t. record { slots = t.slots; room = limit (length t.slots) - members_in t.fill } };
+    ghost view = { λ t. record { slots = t.slots; room = limit (length t.slots) - t.len } };
 
-    ghost invariant = { λ t. IsSound t.slots t.tags t.fill };
+    ghost invariant = { λ t. IsSound t.slots t.tags t.len t.far };
 }
 
 impl<T> ReadyTable<T> {
@@ -96,7 +97,8 @@ impl<T, H: KeptHash> ReadyTable<T, H> {
         ReadyTable {
             slots: Column::new(alloc),
             tags: Bytes::none(alloc),
-            fill: 0,
+            len: 0,
+            far: 0,
         }
     }
 
@@ -118,7 +120,8 @@ impl<T, H: KeptHash> ReadyTable<T, H> {
         Ok(ReadyTable {
             slots,
             tags,
-            fill: 0,
+            len: 0,
+            far: 0,
         })
     }
 
@@ -127,7 +130,7 @@ impl<T, H: KeptHash> ReadyTable<T, H> {
     pub fn len(&self) -> usize
         ensures { result ≡ table_len self.now }
     {
-        members_in(self.fill)
+        self.len
     }
 
     /// How many slots there are, with members and without.
@@ -158,6 +161,7 @@ impl<T, H: KeptHash> ReadyTable<T, H> {
         let (slot, _) = find_slot(
             &self.slots,
             self.tags.as_slice(tags_beside(&self.slots)),
+            self.far,
             mask_of(&self.slots),
             Kept::of(hash),
             eq,
@@ -174,6 +178,7 @@ impl<T, H: KeptHash> ReadyTable<T, H> {
         let (_, item) = find_slot(
             &self.slots,
             self.tags.as_slice(tags_beside(&self.slots)),
+            self.far,
             mask_of(&self.slots),
             Kept::of(hash),
             eq,
@@ -277,11 +282,11 @@ impl<T, H: KeptHash> ReadyTable<T, H> {
         let slot = put(
             &mut self.slots,
             self.tags.as_mut_slice(count),
-            &mut self.fill,
+            &mut self.far,
             Kept::of(hash),
             item,
         );
-        self.fill += 2;
+        self.len += 1;
         slot
     }
 
@@ -305,7 +310,7 @@ impl<T, H: KeptHash> ReadyTable<T, H> {
             Kept::of(hash),
             item,
         );
-        self.fill += 2;
+        self.len += 1;
     }
 
     /// Makes room for so many insertions at least. It asks for no memory, and changes nothing, where the room is there;
@@ -356,15 +361,20 @@ impl<T, H: KeptHash> ReadyTable<T, H> {
         ensures slots { length self.new.slots ≡ length self.old.slots }
     {
         let count = tags_beside(&self.slots);
-        let ReadyTable { slots, tags, fill } = other;
+        let ReadyTable {
+            slots,
+            tags,
+            len,
+            far: _,
+        } = other;
         move_all(
             slots,
             tags,
             &mut self.slots,
             self.tags.as_mut_slice(count),
-            &mut self.fill,
+            &mut self.far,
         );
-        self.fill += fill / 2 * 2;
+        self.len += len;
     }
 
     /// Takes the member of a slot out, with its hash. All others stay, though not in their slots, so a search still
@@ -397,11 +407,10 @@ impl<T, H: KeptHash> ReadyTable<T, H> {
     {
         let count = tags_beside(&self.slots);
         let tags = self.tags.as_mut_slice(count);
-        let far = tells_far(self.fill);
-        let Some(member) = take_out(&mut self.slots, tags, far, slot, follower) else {
+        let Some(member) = take_out(&mut self.slots, tags, self.far, slot, follower) else {
             return None;
         };
-        self.fill -= 2;
+        self.len -= 1;
         Some((member.0.number(), member.1))
     }
 
@@ -430,7 +439,8 @@ impl<T, H: KeptHash> ReadyTable<T, H> {
     {
         let count = tags_beside(&self.slots);
         let kept = retain_items(&mut self.slots, self.tags.as_mut_slice(count), f);
-        self.fill = 2 * kept + 1;
+        self.len = kept;
+        self.far = u64::MAX;
     }
 
     /// Removes every member. The room that they had comes back.
@@ -447,7 +457,8 @@ impl<T, H: KeptHash> ReadyTable<T, H> {
         let count = tags_beside(&self.slots);
         empty_all(&mut self.slots, self.tags.as_slice(count));
         untag(self.tags.as_mut_slice(count), &self.slots);
-        self.fill = 0;
+        self.len = 0;
+        self.far = 0;
     }
 
     /// The items along the walk, in no promised order, with exact length and size hint.
@@ -464,8 +475,13 @@ impl<T, H: KeptHash> ReadyTable<T, H> {
     pub fn into_iter(self) -> IntoIter<T, H>
         ensures { result ≡ members self }
     {
-        let ReadyTable { slots, tags, fill } = self;
-        IntoIter::new(slots, tags, members_in(fill))
+        let ReadyTable {
+            slots,
+            tags,
+            len,
+            far: _,
+        } = self;
+        IntoIter::new(slots, tags, len)
     }
 }
 
@@ -505,7 +521,8 @@ impl<T: Clone, H: KeptHash> Clone for ReadyTable<T, H> {
             Ok(()) => Ok(ReadyTable {
                 slots,
                 tags,
-                fill: self.fill,
+                len: self.len,
+                far: self.far,
             }),
             Err(refused) => {
                 drop_all(slots, tags);
@@ -520,7 +537,8 @@ impl<T: Drop, H: KeptHash> Drop for ReadyTable<T, H> {
         let ReadyTable {
             slots,
             tags,
-            fill: _,
+            len: _,
+            far: _,
         } = self;
         drop_all(slots, tags);
     }

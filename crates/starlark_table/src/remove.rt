@@ -1,9 +1,9 @@
 //! Removal from the slots: the members behind an emptied slot move back, so that none is lost to its search.
-ghost use Rattle.std.specs.Prelude.{◌≡◌, ◌≢◌, ℕ, ◌+◌, ◌<◌, ◌≤◌, None, true, false, ◌∷◌, length, IfSome, IfNone, IsPermutation, slice_index_or, slice_set};
+ghost use Rattle.std.specs.Prelude.{◌≡◌, ◌≢◌, ℕ, ◌+◌, ◌<◌, ◌≤◌, ◌⊎◌, None, true, false, ◌∷◌, length, IfSome, IfNone, IsPermutation, slice_index_or, slice_set};
 ghost use Rattle.std.specs.List.{swap};
 ghost use Rattle.starlark_columns.specs.Cells.{IsFilled};
 ghost use Rattle.starlark_table.specs.Table.{filled};
-ghost use Rattle.starlark_table.specs.Layout.{at, empty_tag, window, Crosses, InPlace, HasGap, IsBetweenEmpty, IsNear, IsTagged};
+ghost use Rattle.starlark_table.specs.Layout.{at, empty_tag, window, Crosses, InPlace, HasGap, IsBetweenEmpty, IsTagged, TellsFar};
 ghost use Rattle.starlark_table.specs.Growth.{limit};
 
 use crate::follow::Follows;
@@ -97,6 +97,7 @@ pub(crate) fn close_gap<T, H: KeptHash, F: Follows<T>>(
     ensures size { F.size follower.new ≡ F.size follower.old }
     ensures sized { length slots.new ≡ length slots.old }
     ensures bag { IsPermutation (filled slots.old) (filled slots.new) }
+    ensures told { (far : ℕ) → TellsFar far slots.old → TellsFar far slots.new }
     ensures tagged { IsTagged tags.new slots.new }
 {
     let mut hole = start;
@@ -109,13 +110,12 @@ pub(crate) fn close_gap<T, H: KeptHash, F: Follows<T>>(
 // Whether a member that leaves this slot may leave another one behind a gap: some may stand behind the first windows of
 // their searches, and one of them may have the slot on its way.
 #[inline]
-fn leaves_gap(tags: &[u8], slot: usize, far: bool) -> bool
+fn leaves_gap(tags: &[u8], slot: usize, far: u64) -> bool
     requires room { slot + 1 + window ≤ length tags.now }
     requires full { slice_index_or tags.now slot 0 ≢ empty_tag }
-    ensures near { result ≡ true → far ≡ true }
-    ensures passed { result ≡ false → far ≡ true → IsBetweenEmpty tags.now slot }
+    ensures { result ≡ false → (far ≡ 0) ⊎ IsBetweenEmpty tags.now slot }
 {
-    far && is_passed(tags, slot)
+    far != 0 && is_passed(tags, slot)
 }
 
 // Takes a member out, and puts the others back in place.
@@ -123,14 +123,14 @@ fn leaves_gap(tags: &[u8], slot: usize, far: bool) -> bool
 pub(crate) fn take_out<T, H: KeptHash, F: Follows<T>>(
     slots: &mut Slots<T, H>,
     tags: &mut [u8],
-    far: bool,
+    far: u64,
     slot: usize,
     follower: &mut F,
 ) -> Option<(Kept<H>, T)>
     requires load { length (filled slots.old) ≤ limit (length slots.old) }
     requires in_place { InPlace (length slots.old) slots.old }
     requires tagged { IsTagged tags.old slots.old }
-    requires told { far ≡ false → IsNear (length slots.old) slots.old }
+    requires told { TellsFar far slots.old }
     requires known { F.knows follower.old (slice_set slots.old slot None) }
     ensures sized { length slots.new ≡ length slots.old }
     ensures known { F.knows follower.new slots.new }
@@ -139,7 +139,7 @@ pub(crate) fn take_out<T, H: KeptHash, F: Follows<T>>(
     ensures rest { IfSome result (λ m. IsPermutation (filled slots.old) (m ∷ filled slots.new)) }
     ensures none { IfNone result (slots.new ≡ slots.old) }
     ensures in_place { InPlace (length slots.new) slots.new }
-    ensures told { far ≡ false → IsNear (length slots.new) slots.new }
+    ensures told { TellsFar far slots.new }
     ensures tagged { IsTagged tags.new slots.new }
 {
     if !is_full(slots, tags, slot) {

@@ -33,7 +33,7 @@ fn sizes<K: Ord + Hash, V>() -> [usize; 11] {
 
 #[test]
 fn takes_these_bytes(rt: HostRuntime) {
-    let wanted = [24, 24, 32, 32, 32, 32, 32, 32, 32, 32, 32];
+    let wanted = [24, 24, 40, 32, 32, 32, 32, 32, 32, 40, 40];
     same(&rt, sizes::<u32, u32>(), wanted);
     same(&rt, sizes::<String, u64>(), wanted);
 }

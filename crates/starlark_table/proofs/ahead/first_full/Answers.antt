@@ -1,4 +1,4 @@
-use Rattle.std.proofs.Common.{◌<◌, length, refl, arith, subst}
+use Rattle.starlark_hash.proofs.Common.{◌<◌, length, refl, arith, subst}
 use Rattle.starlark_table.proofs.Filling.{filled-past_range, more_left}
 use Rattle.starlark_table.proofs.FullBits.{tagged_from-start, tagged_from-later, window_opens, window_done}
 use Rattle.starlark_table.proofs.TagCount.{long_tags}

@@ -1,5 +1,4 @@
-use Rattle.std.proofs.Common.{◌≡◌, ◌<◌, None, length, arith, ◌∙◌}
-use Rattle.std.proofs.Math.ListN.{set}
+use Rattle.starlark_hash.proofs.Common.{◌≡◌, ◌<◌, None, length, arith, ◌∙◌, set}
 use Rattle.starlark_table.proofs.Filling.{filled-by_tag}
 use Rattle.starlark_table.proofs.Tagged.{empty-by_tag}
 use Rattle.starlark_table.proofs.Emptying.{emptied_again, emptied-next}

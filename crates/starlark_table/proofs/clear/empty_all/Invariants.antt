@@ -1,4 +1,4 @@
-use Rattle.std.proofs.Common.{◌≡◌, ℕ, ◌<◌, ◌≤◌, None, length}
+use Rattle.starlark_hash.proofs.Common.{◌≡◌, ℕ, ◌<◌, ◌≤◌, None, length}
 use Rattle.starlark_table.specs.Layout.{at}
 use Rattle.starlark_table.proofs.clear.empty_all.Given as goal
 

@@ -1,5 +1,4 @@
-use Rattle.std.proofs.Common.{refl, arith, ap, is_some}
-use Rattle.std.specs.Int.Count.{count_trailing_zeros}
+use Rattle.starlark_hash.proofs.Common.{refl, arith, ap, is_some, count_trailing_zeros}
 use Rattle.starlark_table.proofs.FullBits.{tagged_from-start, tagged_from-later, window_opens, window_next, window_done}
 use Rattle.starlark_table.proofs.clear.next_full.Goals as goal
 

@@ -1,6 +1,4 @@
-use Rattle.std.proofs.Common.{◌+◌, ◌<◌, length, None, Some, arith, refl, sym, ap, ◌∙◌, subst}
-use Rattle.std.proofs.Math.ListN.{set}
-use Rattle.std.proofs.lemmas.List.{set-get_or}
+use Rattle.starlark_hash.proofs.Common.{◌+◌, ◌<◌, length, None, Some, arith, refl, sym, ap, ◌∙◌, subst, set, set-get_or}
 use Rattle.starlark_table.specs.Table.{IsSlotClone}
 use Rattle.starlark_table.specs.Layout.{at, slot_tag}
 use Rattle.starlark_table.proofs.Filling.{filled-by_tag}

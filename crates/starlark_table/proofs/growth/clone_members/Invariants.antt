@@ -1,5 +1,4 @@
-use Rattle.std.proofs.Common.{◌≡◌, ◌≤◌, ℕ, None, take, length}
-use Rattle.std.specs.List.{AllZip}
+use Rattle.starlark_hash.proofs.Common.{◌≡◌, ◌≤◌, ℕ, None, take, length, AllZip}
 use Rattle.starlark_table.specs.Layout.{at, IsTagged}
 use Rattle.starlark_table.specs.Table.{IsSlotClone}
 use Rattle.starlark_table.proofs.growth.clone_members.Given as goal

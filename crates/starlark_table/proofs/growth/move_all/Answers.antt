@@ -1,5 +1,4 @@
-use Rattle.std.proofs.Common.{◌++◌, length, arith, refl, ◌∙◌, ap, subst, IsPermutation, length-append}
-use Rattle.std.proofs.lemmas.List.Sorted.{length_permutation, IsPermutation-refl, IsPermutation-trans}
+use Rattle.starlark_hash.proofs.Common.{◌++◌, length, arith, refl, ◌∙◌, ap, subst, IsPermutation, length-append, length_permutation, IsPermutation-refl, IsPermutation-trans}
 use Rattle.starlark_table.specs.Table.{filled}
 use Rattle.starlark_table.proofs.Filling.{all_empty}
 use Rattle.starlark_table.proofs.FullBits.{tagged_from-start, tagged_from-later}
@@ -11,7 +10,6 @@ windows-init g c = record {
   sized = refl;
   in_place = c.requires.in_place;
   tagged = c.requires.tagged;
-  members = refl;
   told = c.requires.told;
   old_sized = refl;
   old_tagged = tagged_from-start c.args.old_tags c.args.old c.requires.old_tagged;
@@ -39,7 +37,6 @@ windows-preserved g c =
       sized = moved.sized ∙ k.sized;
       in_place = moved.in_place;
       tagged = moved.tagged;
-      members = moved.members ∙ k.members;
       told = moved.told;
       old_sized = moved.from_sized ∙ k.old_sized;
       old_tagged = tagged_from-later start next c.args.old_tags old left k.old_tagged (omega arith) moved.from_sized moved.after;

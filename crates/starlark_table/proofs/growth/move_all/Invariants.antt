@@ -1,6 +1,6 @@
-use Rattle.std.proofs.Common.{◌≡◌, ℕ, ◌-◌, ◌<◌, ◌++◌, length, None, IsPermutation}
+use Rattle.starlark_hash.proofs.Common.{◌≡◌, ℕ, ◌-◌, ◌<◌, ◌++◌, length, None, IsPermutation}
 use Rattle.starlark_table.specs.Table.{filled}
-use Rattle.starlark_table.specs.Layout.{at, members_in, InPlace, IsTagged, IsTaggedFrom, TellsFar}
+use Rattle.starlark_table.specs.Layout.{at, InPlace, IsTagged, IsTaggedFrom, TellsFar}
 use Rattle.starlark_table.proofs.growth.move_all.Given as goal
 
 abbrev pub invariant-windows : goal.invariant-windows
@@ -8,8 +8,7 @@ invariant-windows g l = record {
   sized : length l.slots ≡ length l.initial.slots;
   in_place : InPlace (length l.slots) l.slots;
   tagged : IsTagged l.tags l.slots;
-  members : members_in l.fill ≡ members_in l.initial.fill;
-  told : TellsFar l.fill l.slots;
+  told : TellsFar l.far l.slots;
   old_sized : length l.old ≡ length l.initial.old;
   old_tagged : IsTaggedFrom l.start l.old_tags l.old;
   emptied : (p : ℕ) → p < l.start → at l.old p ≡ None;

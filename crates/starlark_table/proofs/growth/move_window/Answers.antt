@@ -1,7 +1,4 @@
-use Rattle.std.proofs.Common.{◌+◌, ◌≤◌, ◌++◌, length, refl, sym, ◌∙◌, ap, subst}
-use Rattle.std.proofs.Math.ListN.{length-set}
-use Rattle.std.proofs.lemmas.List.Sorted.{IsPermutation-refl}
-use Rattle.std.specs.Int.Count.{count_trailing_zeros}
+use Rattle.starlark_hash.proofs.Common.{◌+◌, ◌≤◌, ◌++◌, length, refl, sym, ◌∙◌, ap, subst, length-set, IsPermutation-refl, count_trailing_zeros}
 use Rattle.starlark_table.specs.Table.{filled}
 use Rattle.starlark_table.specs.Growth.{limit}
 use Rattle.starlark_table.proofs.FullBits.{window_opens}
@@ -18,7 +15,6 @@ members-init g c =
       sized = refl;
       in_place = c.requires.in_place;
       tagged = c.requires.tagged;
-      members = refl;
       told = c.requires.told;
       bag = IsPermutation-refl (filled c.args.from.now ++ filled c.args.slots.now);
       window = emptying-begins c.args.from.now c.args.start end full
@@ -47,7 +43,6 @@ members-preserved g c =
       sized = ap length put.set ∙ length-set c.members.slots c.put.result _ ∙ k.sized;
       in_place = put.in_place;
       tagged = put.tagged;
-      members = put.members ∙ k.members;
       told = put.told;
       bag = rw (taken.cells, put.set)
           (bag-member_moved _ from c.members.slots slot c.put.result c.take-hash.result taken.value put.in_range put.empty k.bag);

@@ -1,4 +1,4 @@
-use Rattle.std.proofs.Common.{◌≡◌, ℕ, ◌-◌, ◌*◌, ◌^◌, ◌≤◌}
+use Rattle.starlark_hash.proofs.Common.{◌≡◌, ℕ, ◌-◌, ◌*◌, ◌^◌, ◌≤◌}
 use Rattle.starlark_table.specs.Growth.{limit, most_for}
 use Rattle.starlark_table.proofs.growth.slots_for.Given as goal
 

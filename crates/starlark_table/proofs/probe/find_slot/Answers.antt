@@ -1,11 +1,10 @@
-use Rattle.std.proofs.Common.{◌<◌, false, length, arith, refl, sym, subst, ◌≡◌}
+use Rattle.starlark_hash.proofs.Common.{◌<◌, false, length, arith, refl, sym, subst, ◌≡◌, inl, inr, CalledAt}
 use Rattle.starlark_table.proofs.TagCount.{long_tags}
-use Rattle.std.specs.Fn.{CalledAt}
 use Rattle.std.proofs.lemmas.Fn.{called_at}
 use Rattle.starlark_table.proofs.Searching.{searches_none}
-use Rattle.starlark_table.proofs.Looking.{tag_at, same-by_test, other-by_test, home_room, looking_begins, looking_told, looking_within, looking_ends, looking_goes_on, looking_full, looking_asks, looking_accepts, looking_nearer, looking_refuses, looking_skips}
+use Rattle.starlark_table.proofs.Looking.{tag_at, same-by_test, other-by_test, home_room, looking_begins, looking_told, looking_within, looking_ends, looking_near, looking_goes_on, looking_full, looking_asks, looking_accepts, looking_nearer, looking_refuses, looking_skips}
 use Rattle.starlark_table.proofs.probe.find_slot.Goals as goal
-use Rattle.starlark_table.proofs.probe.find_slot.Goals.{then-same-ne0+else-is, else-same-ne0+else-slots_with-ne0, else-is-via-then-is+else-eq, else-is-via-else-is, else-is-2-via-then-is-2+else-eq-2, else-is-2-via-else-is-2}
+use Rattle.starlark_table.proofs.probe.find_slot.Goals.{then-same-ne0+else-is, else-same-ne0+else-ends_at_home, else-is-via-then-is+else-eq, else-is-via-else-is, else-is-2-via-then-is-2+else-eq-2, else-is-2-via-else-is-2}
 
 pub returns-then-cells-eq0-clause-found : goal.returns-then-cells-eq0-clause-found
 returns-then-cells-eq0-clause-found g c =
@@ -57,29 +56,32 @@ windows-init g c =
                 looking_skips g.F.FnMut _ _ _ _ c.requires.tagged _ _ _ _ begins w.if-same-ne0.true
                 w.get.result.now.0 w.get.result.now.1 w.get.ensures w.else-is.eq (other-by_test _ _ w.is.ensures v.if-is.false) v.eq-is
           ])
-      | else-same-ne0+else-slots_with-ne0 w ↦
+      | else-same-ne0+else-ends_at_home w ↦
           looking_told g.F.FnMut c.args.hash c.args.tags.now c.args.slots.now c.args.eq c.home-start.result _ c.if-same-ne0.slot _ c.if-same-ne0.same c.args.eq c.if-same-ne0.eq w.slot-is w.same-is w.eq-is begins
     ]
 
-pub slots_with-requires : goal.slots_with-requires
-slots_with-requires g c =
+pub ends_at_home-requires : goal.ends_at_home-requires
+ends_at_home-requires g c =
     home_room g.F.FnMut _ _ _ c.args.eq c.requires.tagged _ c.args.mask _ _ c.cells.ensures.cells c.if-cells-eq0.false
     c.requires.mask c.home-start.ensures c.number-number.ensures
 
+pub returns-then-ends_at_home-clause-found : goal.returns-then-ends_at_home-clause-found
+returns-then-ends_at_home-clause-found g c =
+    let begins = (looking_begins g.F.FnMut _ _ _ c.args.eq c.requires.tagged _ c.args.mask _ _ c.cells.ensures.cells c.if-cells-eq0.false
+    c.requires.mask c.home-start.ensures c.number-number.ensures _ _ c.tag-sought.ensures c.slots_with-same.ensures) in (
+      c.args.eq,
+      elim (c.ends_at_home.ensures c.if-ends_at_home.true) [
+        | inl empty ↦ looking_ends g.F.FnMut _ _ _ _ c.requires.tagged _ _ _ _ begins c.if-same-ne0.false _ refl c.requires.in_place empty
+        | inr near ↦ looking_near g.F.FnMut _ _ _ _ c.requires.tagged _ c.args.mask _ _ c.cells.ensures.cells c.if-cells-eq0.false c.requires.mask
+            c.home-start.ensures c.number-number.ensures _ _ c.tag-sought.ensures c.slots_with-same.ensures c.if-same-ne0.false _ c.requires.told near
+      ],
+    )
+
 pub returns-then-slots_with-ne0-clause-found : goal.returns-then-slots_with-ne0-clause-found
 returns-then-slots_with-ne0-clause-found g c = (
-  c.args.eq,
-  looking_ends g.F.FnMut _ _ _ _ c.requires.tagged _ _ _ _
-      (looking_begins g.F.FnMut _ _ _ c.args.eq c.requires.tagged _ c.args.mask _ _ c.cells.ensures.cells c.if-cells-eq0.false
-      c.requires.mask c.home-start.ensures c.number-number.ensures _ _ c.tag-sought.ensures c.slots_with-same.ensures)
-      c.if-same-ne0.false c.slots_with.result c.slots_with.ensures c.requires.in_place c.if-slots_with-ne0.true,
-)
-
-pub returns-then-slots_with-ne0-2-clause-found : goal.returns-then-slots_with-ne0-2-clause-found
-returns-then-slots_with-ne0-2-clause-found g c = (
   c.windows.eq,
   looking_ends g.F.FnMut _ _ _ _ c.requires.tagged _ _ _ _ c.windows.invariant
-      c.if-same-eq0.true c.slots_with-then-same-eq0.result c.slots_with-then-same-eq0.ensures c.requires.in_place c.if-slots_with-ne0-2.true,
+      c.if-same-eq0.true c.slots_with.result c.slots_with.ensures c.requires.in_place c.if-slots_with-ne0.true,
 )
 
 pub slots_up_to_empty-same-requires : goal.slots_up_to_empty-same-requires
@@ -92,16 +94,16 @@ slots_up_to_empty-same-requires g c =
 pub windows-smaller-then-same-eq0 : goal.windows-smaller-then-same-eq0
 windows-smaller-then-same-eq0 g c =
     (looking_goes_on g.F.FnMut _ _ _ _ c.requires.tagged _ _ _ _ c.windows.invariant
-    c.if-same-eq0.true c.slots_with-then-same-eq0.result c.slots_with-then-same-eq0.ensures c.args.mask c.tag-sought.result c.window_after-start.result c.slots_up_to_empty-same.result c.requires.free c.requires.mask
+    c.if-same-eq0.true c.slots_with.result c.slots_with.ensures c.args.mask c.tag-sought.result c.window_after-start.result c.slots_up_to_empty-same.result c.requires.free c.requires.mask
     (tag_at _ _ _ c.tag-sought.ensures c.number-number.ensures)
-    c.if-slots_with-ne0-2.false c.window_after-start.ensures.on c.window_after-start.ensures.round c.slots_up_to_empty-same.ensures).1
+    c.if-slots_with-ne0.false c.window_after-start.ensures.on c.window_after-start.ensures.round c.slots_up_to_empty-same.ensures).1
 
 pub windows-preserved-then-same-eq0 : goal.windows-preserved-then-same-eq0
 windows-preserved-then-same-eq0 g c =
     (looking_goes_on g.F.FnMut _ _ _ _ c.requires.tagged _ _ _ _ c.windows.invariant
-    c.if-same-eq0.true c.slots_with-then-same-eq0.result c.slots_with-then-same-eq0.ensures c.args.mask c.tag-sought.result c.window_after-start.result c.slots_up_to_empty-same.result c.requires.free c.requires.mask
+    c.if-same-eq0.true c.slots_with.result c.slots_with.ensures c.args.mask c.tag-sought.result c.window_after-start.result c.slots_up_to_empty-same.result c.requires.free c.requires.mask
     (tag_at _ _ _ c.tag-sought.ensures c.number-number.ensures)
-    c.if-slots_with-ne0-2.false c.window_after-start.ensures.on c.window_after-start.ensures.round c.slots_up_to_empty-same.ensures).0
+    c.if-slots_with-ne0.false c.window_after-start.ensures.on c.window_after-start.ensures.round c.slots_up_to_empty-same.ensures).0
 
 pub get-requires-else-same-eq0 : goal.get-requires-else-same-eq0
 get-requires-else-same-eq0 g c =

@@ -1,4 +1,4 @@
-use Rattle.std.proofs.Common.{◌-◌, length, arith, refl, sym, ◌∙◌}
+use Rattle.starlark_hash.proofs.Common.{◌-◌, length, arith, refl, sym, ◌∙◌}
 use Rattle.starlark_table.proofs.Circle.{distance-self, distance-below}
 use Rattle.starlark_table.proofs.Windows.{passes_window, free_in_window}
 use Rattle.starlark_table.proofs.probe.free_slot.Goals as goal

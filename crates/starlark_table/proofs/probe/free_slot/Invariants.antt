@@ -1,4 +1,4 @@
-use Rattle.std.proofs.Common.{◌≡◌, ℕ, ◌-◌, ◌<◌, length, IsSome}
+use Rattle.starlark_hash.proofs.Common.{◌≡◌, ℕ, ◌-◌, ◌<◌, length, IsSome}
 use Rattle.starlark_table.specs.Layout.{distance, at, tag_bits, empty_tag}
 use Rattle.starlark_table.proofs.probe.free_slot.Given as goal
 

@@ -1,4 +1,4 @@
-use Rattle.std.proofs.Common.{arith}
+use Rattle.starlark_hash.proofs.Common.{arith}
 use Rattle.starlark_table.specs.Layout.{at}
 use Rattle.starlark_table.proofs.Filling.{tells}
 use Rattle.starlark_table.proofs.probe.is_full.Goals as goal

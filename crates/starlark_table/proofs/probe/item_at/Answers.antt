@@ -1,4 +1,4 @@
-use Rattle.std.proofs.Common.{sym, ◌∙◌}
+use Rattle.starlark_hash.proofs.Common.{sym, ◌∙◌}
 use Rattle.starlark_table.specs.Layout.{at}
 use Rattle.starlark_table.proofs.Filling.{filled-by_some}
 use Rattle.starlark_table.proofs.probe.item_at.Goals as goal

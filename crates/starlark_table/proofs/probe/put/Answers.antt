@@ -1,5 +1,5 @@
-use Rattle.std.proofs.Common.{ℕ, ◌≡◌, ◌+◌, ◌-◌, ◌<◌, length, arith, sym, ap, ◌∙◌, subst}
-use Rattle.starlark_table.specs.Layout.{home, TellsFar}
+use Rattle.starlark_hash.proofs.Common.{ℕ, ◌≡◌, ◌+◌, ◌-◌, ◌<◌, length, arith, sym, ap, ◌∙◌, subst}
+use Rattle.starlark_table.specs.Layout.{home, tag, TellsFar}
 use Rattle.starlark_table.proofs.Circle.{home-below}
 use Rattle.starlark_table.proofs.Near.{told-put}
 use Rattle.starlark_table.proofs.probe.put.Goals as goal
@@ -17,6 +17,8 @@ slot_from-slot-requires-clause-home g c =
 pub returns-clause-told : goal.returns-clause-told
 returns-clause-told g c =
     let at = c.slot_from-slot.ensures in
-    subst (TellsFar c.slot_from-slot.new.fill) (sym c.write.ensures)
-    (told-put c.args.slots.now c.slot_from-slot.result (c.args.hash, c.args.item) c.args.fill.now c.slot_from-slot.new.fill c.home.result c.cells.result at.in_range c.requires.told
-    c.cells.ensures.cells (c.home.ensures ∙ ap (home (c.cells.result - 1 + 1)) c.number-number.ensures) at.even at.near)
+    let some = c.requires.free in
+    let count : c.cells.result - 1 + 1 ≡ length c.args.slots.now = omega (arith, some.1, c.cells.ensures.cells) in
+    subst (TellsFar c.slot_from-slot.new.far) (sym c.write.ensures)
+    (told-put c.args.slots.now c.slot_from-slot.result (c.args.hash, c.args.item) c.args.far.now c.slot_from-slot.new.far c.home.result c.tag-tag.result at.in_range c.requires.told
+    (c.home.ensures ∙ ap (home (c.cells.result - 1 + 1)) c.number-number.ensures ∙ ap (λ n. home n c.args.hash) count) (c.tag-tag.ensures ∙ ap tag c.number-number.ensures) at.others at.its)

@@ -1,4 +1,4 @@
-use Rattle.std.proofs.Common.{length, arith, refl}
+use Rattle.starlark_hash.proofs.Common.{length, arith, refl}
 use Rattle.starlark_table.proofs.Circle.{distance-self}
 use Rattle.starlark_table.proofs.Windows.{free_in_window, near_in_window}
 use Rattle.starlark_table.proofs.probe.slot_from.Goals as goal
@@ -13,8 +13,7 @@ returns g c =
       in_range = found.0;
       empty = found.1;
       path = found.2;
-      members = refl;
-      even = λ now. now;
-      near = λ now. near_in_window c.args.tags.now slots c.requires.tagged c.args.home c.requires.home c.requires.free c.args.home c.slots_with-empty.result _
-          c.requires.home c.slots_with-empty.ensures c.if-empty-eq0.false refl;
+      others = λ other now. now;
+      its = λ away. absurd (near_in_window c.args.tags.now slots c.requires.tagged c.args.home c.requires.home c.requires.free c.args.home c.slots_with-empty.result _
+          c.requires.home c.slots_with-empty.ensures c.if-empty-eq0.false refl away);
     }

@@ -1,4 +1,4 @@
-use Rattle.std.proofs.Common.{arith, refl}
+use Rattle.starlark_hash.proofs.Common.{arith, refl}
 use Rattle.starlark_table.proofs.Vacant.{vacant_at_home, window_at_home}
 use Rattle.starlark_table.proofs.probe.vacancy.Goals as goal
 

@@ -1,7 +1,7 @@
-use Rattle.std.proofs.Common.{length, refl, ◌∙◌, subst}
-use Rattle.std.proofs.lemmas.List.Sorted.{IsPermutation-refl, IsPermutation-trans}
+use Rattle.starlark_hash.proofs.Common.{length, refl, ◌∙◌, subst, IsPermutation-refl, IsPermutation-trans}
 use Rattle.starlark_table.specs.Layout.{Crosses}
 use Rattle.starlark_table.proofs.Closing.{closing-begins, closing-slot_in, closing-smaller, closing-moved, swapped_slots}
+use Rattle.starlark_table.proofs.Near.{told-moved}
 use Rattle.starlark_table.proofs.remove.close_gap.Goals as goal
 
 pub loop-slot-init : goal.loop-slot-init
@@ -13,6 +13,7 @@ loop-slot-init g c =
       tagged = c.requires.tagged;
       known = c.requires.known;
       size = refl;
+      told = λ far told. told;
     }
 
 pub loop-slot-smaller : goal.loop-slot-smaller
@@ -38,4 +39,5 @@ loop-slot-preserved g c =
       tagged = c.move_into.ensures.tagged;
       known = c.move_into.ensures.known;
       size = c.move_into.ensures.size ∙ c.loop-slot.invariant.size;
+      told = λ far told. rw c.move_into.ensures.moved (told-moved slots hole slot far (over.hash, over.item) (rw k.sized k.hole_in) (rw k.sized slot_in) k.empty over.there (rw k.sized over.far) (c.loop-slot.invariant.told far told));
     }

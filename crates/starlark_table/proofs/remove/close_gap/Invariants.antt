@@ -1,6 +1,6 @@
-use Rattle.std.proofs.Common.{◌≡◌, ◌-◌, length, IsPermutation}
+use Rattle.starlark_hash.proofs.Common.{◌≡◌, ℕ, ◌-◌, length, IsPermutation}
 use Rattle.starlark_table.specs.Table.{filled}
-use Rattle.starlark_table.specs.Layout.{distance, IsTagged}
+use Rattle.starlark_table.specs.Layout.{distance, IsTagged, TellsFar}
 use Rattle.starlark_table.proofs.Closing.{Closing}
 use Rattle.starlark_table.proofs.remove.close_gap.Given as goal
 
@@ -11,6 +11,7 @@ invariant-loop-slot g l = record {
   tagged : IsTagged l.tags l.slots;
   known : g.F.Follows.knows l.follower l.slots;
   size : g.F.Follows.size l.follower ≡ g.F.Follows.size l.initial.follower;
+  told : (far : ℕ) → TellsFar far l.initial.slots → TellsFar far l.slots;
 }
 
 abbrev pub decreases-loop-slot : goal.decreases-loop-slot

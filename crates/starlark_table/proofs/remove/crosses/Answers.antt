@@ -1,5 +1,4 @@
-use Rattle.std.proofs.Common.{◌≡◌, ◌<◌, length, arith, subst, subst₂}
-use Rattle.std.proofs.lemmas.Bool.Decides.{nat_tests}
+use Rattle.starlark_hash.proofs.Common.{◌≡◌, ◌<◌, length, arith, subst, subst₂, nat_tests}
 use Rattle.starlark_table.specs.Layout.{distance, home, IsFar}
 use Rattle.starlark_table.proofs.Circle.{home-below}
 use Rattle.starlark_table.proofs.remove.crosses.Goals as goal

@@ -1,5 +1,4 @@
-use Rattle.std.proofs.Common.{Some, sym, ◌∙◌, ap, subst, subst₂}
-use Rattle.std.proofs.Math.ListN.{set}
+use Rattle.starlark_hash.proofs.Common.{Some, sym, ◌∙◌, ap, subst, subst₂, set}
 use Rattle.starlark_table.specs.Follow.{CanMove}
 use Rattle.starlark_table.specs.Layout.{IsTagged}
 use Rattle.starlark_table.proofs.Closing.{full_in_range, taken_and_written}

@@ -1,4 +1,4 @@
-use Rattle.std.proofs.Common.{◌+◌, ◌==◌, if◌then◌else◌, length, refl, ◌∙◌, ap, arith}
+use Rattle.starlark_hash.proofs.Common.{◌+◌, ◌==◌, if◌then◌else◌, length, refl, ◌∙◌, ap, arith}
 use Rattle.starlark_table.proofs.Circle.{distance-below}
 use Rattle.starlark_table.proofs.Closing.{passed-begins, passed-next, passed-all}
 use Rattle.starlark_table.proofs.Tagged.{empty-by_tag, full-by_tag}

@@ -1,4 +1,4 @@
-use Rattle.std.proofs.Common.{◌-◌, length}
+use Rattle.starlark_hash.proofs.Common.{◌-◌, length}
 use Rattle.starlark_table.specs.Layout.{distance}
 use Rattle.starlark_table.proofs.Closing.{Passed}
 use Rattle.starlark_table.proofs.remove.next_across.Given as goal

@@ -1,12 +1,10 @@
-use Rattle.std.proofs.Common.{◌≡◌, true, false, length, None, refl, sym, ◌∙◌, ap, subst₂, IsPermutation, arith}
-use Rattle.std.proofs.Math.ListN.{set, length-set}
+use Rattle.starlark_hash.proofs.Common.{◌≡◌, inl, inr, length, None, refl, sym, ◌∙◌, ap, subst₂, IsPermutation, arith, set, length-set, IsPermutation-refl}
 use Rattle.starlark_table.specs.Table.{filled}
-use Rattle.starlark_table.specs.Layout.{at, InPlace, IsTagged}
-use Rattle.std.proofs.lemmas.List.Sorted.{IsPermutation-refl}
+use Rattle.starlark_table.specs.Layout.{at, InPlace, IsTagged, TellsFar}
 use Rattle.starlark_table.proofs.Tagged.{tag-below, tag-member, tagged-changed}
 use Rattle.starlark_table.proofs.remove.take_out.Goals.{then-passed, else-passed}
 use Rattle.starlark_table.proofs.Closing.{full_in_range, gap_left}
-use Rattle.starlark_table.proofs.Near.{in_place-near, near-taken}
+use Rattle.starlark_table.proofs.Near.{in_place-near, told-taken}
 use Rattle.starlark_table.proofs.Passing.{in_place-not_passed}
 use Rattle.starlark_table.proofs.Filling.{filled-by_some}
 use Rattle.starlark_table.proofs.Load.{another_empty_slot, bag-taken_out}
@@ -58,22 +56,21 @@ returns-clause-in_place g c =
       | then-passed w ↦ rw w.slots-is w.close_gap.ensures.in_place
       | else-passed w ↦
           let slot_in = full_in_range old c.args.slot c.take-member.result c.take-member.ensures.value in
-          let kept : InPlace (length old) (set old c.args.slot None) = elim (c.args.far) as (λ b. c.args.far ≡ b → InPlace (length old) (set old c.args.slot None)) [
-            | true ↦ λ far. in_place-not_passed c.args.tags.now old c.args.slot c.requires.tagged slot_in (c.leaves_gap-passed.ensures.passed w.if-passed.false far) c.requires.in_place
-            | false ↦ λ far. in_place-near (length old) (set old c.args.slot None)
-                (rw length-set at (near-taken old c.args.slot slot_in (c.requires.told far)))
-          ] refl in
+          let kept : InPlace (length old) (set old c.args.slot None) = elim (c.leaves_gap-passed.ensures w.if-passed.false) [
+            | inl near ↦ rw length-set at (in_place-near (set old c.args.slot None) (told-taken old c.args.slot 0 slot_in (rw near at c.requires.told)))
+            | inr between ↦ in_place-not_passed c.args.tags.now old c.args.slot c.requires.tagged slot_in between c.requires.in_place
+          ] in
           rw (w.slots-is, c.take-member.ensures.cells, length-set) kept
     ]
 
 pub returns-clause-told : goal.returns-clause-told
 returns-clause-told g c =
     let old = c.args.slots.now in
-    λ far. elim c.if-passed.branch [
-      | then-passed w ↦ absurd (let yes = c.leaves_gap-passed.ensures.near w.if-passed.true in cc)
-      | else-passed w ↦
-          let slot_in = full_in_range old c.args.slot c.take-member.result c.take-member.ensures.value in
-          rw (w.slots-is, c.take-member.ensures.cells) (near-taken old c.args.slot slot_in (c.requires.told far))
+    let slot_in = full_in_range old c.args.slot c.take-member.result c.take-member.ensures.value in
+    let left : TellsFar c.args.far c.take-member.new.self = rw c.take-member.ensures.cells (told-taken old c.args.slot c.args.far slot_in c.requires.told) in
+    elim c.if-passed.branch [
+      | then-passed w ↦ rw w.slots-is (w.close_gap.ensures.told c.args.far left)
+      | else-passed w ↦ rw w.slots-is left
     ]
 
 pub returns-clause-tagged : goal.returns-clause-tagged

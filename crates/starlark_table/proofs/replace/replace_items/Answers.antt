@@ -1,4 +1,4 @@
-use Rattle.std.proofs.Common.{arith, ◌∙◌, None}
+use Rattle.starlark_hash.proofs.Common.{arith, ◌∙◌, None}
 use Rattle.starlark_table.proofs.FullBits.{tagged_from-later}
 use Rattle.starlark_table.proofs.ReplacingWindows.{within-join, within-all, can_replace-after, alike_behind}
 use Rattle.starlark_table.proofs.replace.replace_items.Goals as goal

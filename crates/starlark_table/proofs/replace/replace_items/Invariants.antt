@@ -1,4 +1,4 @@
-use Rattle.std.proofs.Common.{◌≡◌, ◌-◌, length}
+use Rattle.starlark_hash.proofs.Common.{◌≡◌, ◌-◌, length}
 use Rattle.starlark_table.specs.Layout.{IsTaggedFrom}
 use Rattle.starlark_table.specs.Walk.{ReplacesWithin}
 use Rattle.starlark_table.proofs.replace.replace_items.Given as goal

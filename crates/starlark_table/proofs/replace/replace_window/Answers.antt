@@ -1,6 +1,5 @@
-use Rattle.std.proofs.Common.{refl}
+use Rattle.starlark_hash.proofs.Common.{refl, count_trailing_zeros}
 use Rattle.std.proofs.lemmas.Fn.{called_at}
-use Rattle.std.specs.Int.Count.{count_trailing_zeros}
 use Rattle.starlark_table.proofs.FullBits.{window_opens}
 use Rattle.starlark_table.proofs.ReplacingWindows.{replacing-begins, replacing-finds, replacing-asks, replacing-goes_on, replacing-ends}
 use Rattle.starlark_table.proofs.replace.replace_window.Goals as goal

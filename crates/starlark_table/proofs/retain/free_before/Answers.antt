@@ -1,4 +1,4 @@
-use Rattle.std.proofs.Common.{◌≡◌, ◌+◌, length, arith, subst, inr, if◌then◌else◌, ◌==◌}
+use Rattle.starlark_hash.proofs.Common.{◌≡◌, ◌+◌, length, arith, subst, inr, if◌then◌else◌, ◌==◌}
 use Rattle.starlark_table.proofs.Circle.{distance-self, distance-below, next-step}
 use Rattle.starlark_table.proofs.Closing.{path_more}
 use Rattle.starlark_table.proofs.Settling.{short_of}

@@ -1,4 +1,4 @@
-use Rattle.std.proofs.Common.{ℕ, ◌-◌, ◌<◌, ◌≤◌, length, IsSome}
+use Rattle.starlark_hash.proofs.Common.{ℕ, ◌-◌, ◌<◌, ◌≤◌, length, IsSome}
 use Rattle.starlark_table.specs.Layout.{distance, at}
 use Rattle.starlark_table.proofs.retain.free_before.Given as goal
 

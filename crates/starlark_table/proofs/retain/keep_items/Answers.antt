@@ -1,5 +1,4 @@
-use Rattle.std.proofs.Common.{◌≤◌, ◌<◌, ◌+◌, ℕ, Bool, true, false, cond, drop, None, Some, arith, ◌∙◌, subst, length}
-use Rattle.std.proofs.lemmas.List.{get_or-set_same}
+use Rattle.starlark_hash.proofs.Common.{◌≤◌, ◌<◌, ◌+◌, ℕ, Bool, true, false, cond, drop, None, Some, arith, ◌∙◌, subst, length, get_or-set_same}
 use Rattle.starlark_table.specs.Table.{items_in}
 use Rattle.starlark_table.specs.Walk.{CanRetain}
 use Rattle.starlark_table.proofs.Lists.{head_left, still_untouched}

@@ -1,5 +1,4 @@
-use Rattle.std.proofs.Common.{◌≡◌, ◌≤◌, ℕ, ◌++◌, List, take, drop, length}
-use Rattle.std.specs.List.Retain.{RetainsInTurn}
+use Rattle.starlark_hash.proofs.Common.{◌≡◌, ◌≤◌, ℕ, ◌++◌, List, take, drop, length, RetainsInTurn}
 use Rattle.starlark_table.specs.Table.{filled, items_in}
 use Rattle.starlark_table.specs.Walk.{CanRetain, AsksMember}
 use Rattle.starlark_table.specs.Layout.{StandsIn, IsTagged}

@@ -1,5 +1,4 @@
-use Rattle.std.proofs.Common.{length, arith, refl, sym, ◌∙◌}
-use Rattle.std.proofs.lemmas.List.Sorted.{length_permutation}
+use Rattle.starlark_hash.proofs.Common.{length, arith, refl, sym, ◌∙◌, length_permutation}
 use Rattle.starlark_table.proofs.Load.{empty_slot}
 use Rattle.starlark_table.proofs.Settling.{reaches_before}
 use Rattle.starlark_table.proofs.retain.retain_items.Goals as goal

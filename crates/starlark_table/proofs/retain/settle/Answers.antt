@@ -1,8 +1,5 @@
-use Rattle.std.proofs.Common.{ℕ, ◌≡◌, ◌<◌, ◌+◌, Some, length, arith, sym, ap, ◌∙◌, subst, if◌then◌else◌, ◌==◌}
+use Rattle.starlark_hash.proofs.Common.{ℕ, ◌≡◌, ◌<◌, ◌+◌, Some, length, arith, sym, ap, ◌∙◌, subst, if◌then◌else◌, ◌==◌, swap, set, IsPermutation-refl, IsPermutation-trans}
 use Rattle.starlark_table.proofs.Closing.{taken_and_written}
-use Rattle.std.specs.List.{swap}
-use Rattle.std.proofs.Math.ListN.{set}
-use Rattle.std.proofs.lemmas.List.Sorted.{IsPermutation-refl, IsPermutation-trans}
 use Rattle.starlark_table.specs.Layout.{distance, InPlace, ReachesBefore, IsTagged}
 use Rattle.starlark_table.proofs.Circle.{distance-self, next-step, home-below}
 use Rattle.starlark_table.proofs.Settling.{Steps, settled_first, settled_all, steps_on, steps_over}

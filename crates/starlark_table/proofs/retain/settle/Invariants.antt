@@ -1,4 +1,4 @@
-use Rattle.std.proofs.Common.{◌≡◌, ◌<◌, length, IsPermutation}
+use Rattle.starlark_hash.proofs.Common.{◌≡◌, ◌<◌, length, IsPermutation}
 use Rattle.starlark_table.specs.Table.{filled}
 use Rattle.starlark_table.specs.Layout.{distance, ReachesBefore, IsTagged}
 use Rattle.starlark_table.proofs.Settling.{Settled}

@@ -1,6 +1,5 @@
-use Rattle.std.proofs.Common.{◌≡◌, ◌+◌, ◌-◌, sym, ap, ◌∙◌, w8, arith}
-use Rattle.std.proofs.lemmas.Simd.{bitmask_splat, length-chunk}
-use Rattle.std.specs.Prelude.{nat_lt}
+use Rattle.starlark_hash.proofs.Common.{◌≡◌, ◌+◌, ◌-◌, sym, ap, ◌∙◌, arith, bitmask_splat, length-chunk, nat_lt}
+use Rattle.std.proofs.Common.{w8}
 use lib.Lanes.{chunk}
 use Rattle.starlark_table.specs.Layout.{hash_tag_bits, padding}
 use Rattle.starlark_table.proofs.FullBits.{bits_where-chunk}

@@ -1,7 +1,5 @@
-use Rattle.std.proofs.Common.{ℕ, ◌≡◌, ◌≢◌, ◌+◌, ◌-◌, ◌/◌, ◌^◌, ◌<◌, arith, refl, sym, ◌∙◌, ap, eq-eqb}
-use Rattle.std.proofs.lemmas.Bool.Decides.{nat_tests}
-use Rattle.std.proofs.lemmas.Bool.{false≢true}
-use Rattle.std.specs.Int.Count.{count_trailing_zeros, trailing_of_zero}
+use Rattle.starlark_hash.proofs.Common.{ℕ, ◌≡◌, ◌≢◌, ◌+◌, ◌-◌, ◌/◌, ◌^◌, ◌<◌, arith, refl, sym, ◌∙◌, ap, eq-eqb, nat_tests, false≢true, count_trailing_zeros}
+use Rattle.std.specs.Int.Count.{trailing_of_zero}
 use Rattle.starlark_table.specs.Layout.{tag_bits}
 use Rattle.starlark_table.proofs.TagBits.{first-by_bits, tag_bits-later}
 use Rattle.starlark_table.proofs.tags.is_passed.Goals as goal

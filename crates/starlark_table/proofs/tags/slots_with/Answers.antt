@@ -1,6 +1,5 @@
-use Rattle.std.proofs.Common.{sym, ◌∙◌, w8, arith}
-use Rattle.std.proofs.lemmas.Simd.{bitmask_splat, length-chunk}
-use Rattle.std.specs.Prelude.{nat_eq}
+use Rattle.starlark_hash.proofs.Common.{sym, ◌∙◌, arith, bitmask_splat, length-chunk, nat_eq}
+use Rattle.std.proofs.Common.{w8}
 use lib.Lanes.{chunk}
 use Rattle.starlark_table.proofs.TagBits.{tag_bits-chunk}
 use Rattle.starlark_table.proofs.tags.slots_with.Goals as goal

@@ -1,4 +1,4 @@
-use Rattle.std.proofs.Common.{arith}
+use Rattle.starlark_hash.proofs.Common.{arith}
 use Rattle.starlark_table.proofs.TagCount.{tags_fit}
 use Rattle.starlark_table.proofs.tags.tags_beside.Goals as goal
 

@@ -1,4 +1,4 @@
-use Rattle.std.proofs.Common.{◌<◌, length, subst, arith}
+use Rattle.starlark_hash.proofs.Common.{◌<◌, length, subst, arith}
 use Rattle.starlark_table.proofs.Filling.{filled-past_range}
 use Rattle.starlark_table.proofs.FullBits.{window_done}
 use Rattle.starlark_table.proofs.ahead.Ahead.open.Goals as goal

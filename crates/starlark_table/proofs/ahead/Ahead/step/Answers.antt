@@ -1,5 +1,4 @@
-use Rattle.std.proofs.Common.{◌≡◌, ◌+◌, ◌<◌, length, refl, arith, rules, ◌∷◌, IfSome, drop, sym, subst}
-use Rattle.std.specs.Int.Count.{count_trailing_zeros}
+use Rattle.starlark_hash.proofs.Common.{◌≡◌, ◌+◌, ◌<◌, length, refl, arith, rules, ◌∷◌, IfSome, drop, sym, subst, count_trailing_zeros}
 use Rattle.starlark_table.specs.Table.{filled}
 use Rattle.starlark_table.proofs.Filling.{filled-first_behind}
 use Rattle.starlark_table.proofs.Closing.{full_in_range}

@@ -1,8 +1,6 @@
-use Rattle.std.proofs.Common.{◌<◌, ◌∷◌, length, None, arith, sym, ◌∙◌, ap, subst, refl}
-use Rattle.std.proofs.Math.ListN.{set, length-set}
+use Rattle.starlark_hash.proofs.Common.{◌<◌, ◌∷◌, length, None, arith, sym, ◌∙◌, ap, subst, refl, set, length-set, get_or-set_other}
 use Rattle.starlark_table.specs.Table.{filled}
 use Rattle.starlark_table.specs.Layout.{at, IsTagged}
-use Rattle.std.proofs.lemmas.List.{get_or-set_other}
 use Rattle.starlark_table.proofs.Closing.{full_in_range}
 use Rattle.starlark_table.proofs.FullBits.{window_alike}
 use Rattle.starlark_table.proofs.Filling.{filled-past_front, filled-first_taken, empty-joined, empty-after_taken}

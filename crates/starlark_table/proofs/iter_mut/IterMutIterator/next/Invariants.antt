@@ -1,4 +1,4 @@
-use Rattle.std.proofs.Common.{◌≡◌, ◌+◌, length}
+use Rattle.starlark_hash.proofs.Common.{◌≡◌, ◌+◌, length}
 use Rattle.starlark_table.specs.Table.{filled, items_in}
 use Rattle.starlark_table.proofs.iter_mut.IterMutIterator.next.Given as goal
 

@@ -1,4 +1,4 @@
-use Rattle.std.proofs.Common.{drop, sym, ap}
+use Rattle.starlark_hash.proofs.Common.{drop, sym, ap}
 use Rattle.starlark_table.proofs.Marked.{next-full, next-behind}
 use Rattle.starlark_table.proofs.loan.Loan.take.Goals as goal
 

@@ -1,12 +1,12 @@
-use Rattle.std.proofs.Common.{ap, length, ◌∙◌, refl}
+use Rattle.starlark_hash.proofs.Common.{ap, length, ◌∙◌, refl}
 use Rattle.starlark_table.proofs.Sound.{emptied, filled-none, sound-as}
 use Rattle.starlark_table.proofs.TagCount.{refilled}
 use Rattle.starlark_table.proofs.ready_table.ReadyTable.clear.Goals as goal
 
 pub invariant_of-self : goal.invariant_of-self
 invariant_of-self g c =
-    sound-as _ _ _ _ 0 refl (refilled c.self.inside.tags c.untag.new.tags (c.untag.auto.tags ∙ ap length c.as_mut_slice.ensures.value))
-    (emptied c.self.inside.slots c.empty_all.new.slots c.self.inside.tags c.untag.new.tags c.self.inside.fill c.self.invariant
+    sound-as _ _ _ _ _ _ refl (refilled c.self.inside.tags c.untag.new.tags (c.untag.auto.tags ∙ ap length c.as_mut_slice.ensures.value))
+    (emptied c.self.inside.slots c.empty_all.new.slots c.self.inside.tags c.untag.new.tags c.self.inside.len c.self.inside.far c.self.invariant
     c.empty_all.ensures.sized c.untag.ensures c.empty_all.ensures.empty)
 
 pub returns-clause-empty : goal.returns-clause-empty

@@ -1,4 +1,4 @@
-use Rattle.std.proofs.Common.{Some, sym, subst, ap}
+use Rattle.starlark_hash.proofs.Common.{Some, sym, subst, ap}
 use Rattle.starlark_hash.specs.Search.{Searches, CanSearch}
 use Rattle.starlark_table.specs.Table.{holders_in, items_under}
 use Rattle.starlark_table.proofs.Load.{sound-empty_slot}
@@ -6,7 +6,7 @@ use Rattle.starlark_table.proofs.ready_table.ReadyTable.find.Goals as goal
 
 pub find_slot-requires-clause-free : goal.find_slot-requires-clause-free
 find_slot-requires-clause-free g c =
-    sound-empty_slot c.self.inside.slots c.self.inside.tags c.self.inside.fill c.self.invariant
+    sound-empty_slot c.self.inside.slots c.self.inside.tags c.self.inside.len c.self.inside.far c.self.invariant
 
 pub find_slot-requires-clause-callable : goal.find_slot-requires-clause-callable
 find_slot-requires-clause-callable g c =

@@ -1,5 +1,4 @@
-use Rattle.std.proofs.Common.{◌≡◌, Some, sym, subst, ap}
-use Rattle.std.specs.Option.{option_map}
+use Rattle.starlark_hash.proofs.Common.{◌≡◌, Some, sym, subst, ap, option_map}
 use Rattle.starlark_hash.specs.Search.{Searches, CanSearch}
 use Rattle.starlark_table.specs.Layout.{at}
 use Rattle.starlark_table.specs.Table.{holders_in, items_under}
@@ -8,7 +7,7 @@ use Rattle.starlark_table.proofs.ready_table.ReadyTable.find_item.Goals as goal
 
 pub find_slot-requires-clause-free : goal.find_slot-requires-clause-free
 find_slot-requires-clause-free g c =
-    sound-empty_slot c.self.inside.slots c.self.inside.tags c.self.inside.fill c.self.invariant
+    sound-empty_slot c.self.inside.slots c.self.inside.tags c.self.inside.len c.self.inside.far c.self.invariant
 
 pub find_slot-requires-clause-callable : goal.find_slot-requires-clause-callable
 find_slot-requires-clause-callable g c =

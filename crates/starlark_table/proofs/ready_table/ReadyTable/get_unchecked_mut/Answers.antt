@@ -1,4 +1,4 @@
-use Rattle.std.proofs.Common.{IsSome, sym, subst}
+use Rattle.starlark_hash.proofs.Common.{IsSome, sym, subst}
 use Rattle.starlark_table.specs.Table.{member_at}
 use Rattle.starlark_table.specs.Layout.{at}
 use Rattle.starlark_table.proofs.Filling.{filled-by_some}
@@ -11,4 +11,4 @@ get_mut-requires g c =
 
 pub invariant_of-self-lent : goal.invariant_of-self-lent
 invariant_of-self-lent g c = λ w.
-    sound-written w c.self.inside.slots c.args.slot c.get_mut.result.now c.self.inside.tags c.self.inside.fill c.get_mut.ensures.value c.self.invariant
+    sound-written w c.self.inside.slots c.args.slot c.get_mut.result.now c.self.inside.tags c.self.inside.len c.self.inside.far c.get_mut.ensures.value c.self.invariant

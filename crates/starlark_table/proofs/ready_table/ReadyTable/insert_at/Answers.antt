@@ -1,4 +1,4 @@
-use Rattle.std.proofs.Common.{ap, arith, length, ◌+◌, ◌∷◌, refl, sym, ◌∙◌, subst, IsPermutation}
+use Rattle.starlark_hash.proofs.Common.{ap, arith, length, ◌+◌, ◌∷◌, refl, sym, ◌∙◌, subst, IsPermutation}
 use Rattle.starlark_table.specs.Table.{filled, members}
 use Rattle.starlark_table.specs.Layout.{IsVacancy}
 use Rattle.starlark_table.proofs.Changing.{inserted}
@@ -10,9 +10,9 @@ pub invariant_of-self : goal.invariant_of-self
 invariant_of-self g c =
     let put = c.put_at.ensures in
     let vacant = subst (λ l. IsVacancy (g.H.KeptHash.number c.args.hash) l c.args.slot) (sym (ap (λ t. t.slots) c.self.view_is)) c.requires.vacant in
-    sound-as _ _ _ _ (c.self.inside.fill + 2) refl (refilled c.self.inside.tags c.put_at.new.tags (c.put_at.auto.tags ∙ ap length c.as_mut_slice.ensures.value))
-    (inserted c.self.inside.slots c.self.inside.tags c.self.inside.fill c.self.invariant c.args.self.now c.self.view_is
-    c.args.slot (c.of.result, c.args.item) c.put_at.new.slots c.put_at.new.tags (c.self.inside.fill + 2) (omega arith) (λ even. put.near (c.self.invariant.told (omega (arith, even))))
+    sound-as _ _ _ _ _ _ refl (refilled c.self.inside.tags c.put_at.new.tags (c.put_at.auto.tags ∙ ap length c.as_mut_slice.ensures.value))
+    (inserted c.self.inside.slots c.self.inside.tags c.self.inside.len c.self.inside.far c.self.invariant c.args.self.now c.self.view_is
+    c.args.slot (c.of.result, c.args.item) c.put_at.new.slots c.put_at.new.tags c.self.inside.far (put.told c.self.inside.far c.self.invariant.told)
     c.requires.room put.set vacant.within vacant.empty put.in_place put.tagged).sound
 
 pub returns-clause-added : goal.returns-clause-added
@@ -20,14 +20,14 @@ returns-clause-added g c =
     let put = c.put_at.ensures in
     let vacant = subst (λ l. IsVacancy (g.H.KeptHash.number c.args.hash) l c.args.slot) (sym (ap (λ t. t.slots) c.self.view_is)) c.requires.vacant in
     subst (λ h. IsPermutation ((h, c.args.item) ∷ members c.args.self.now) (filled c.put_at.new.slots)) c.of.ensures
-    (inserted c.self.inside.slots c.self.inside.tags c.self.inside.fill c.self.invariant c.args.self.now c.self.view_is
-    c.args.slot (c.of.result, c.args.item) c.put_at.new.slots c.put_at.new.tags (c.self.inside.fill + 2) (omega arith) (λ even. put.near (c.self.invariant.told (omega (arith, even))))
+    (inserted c.self.inside.slots c.self.inside.tags c.self.inside.len c.self.inside.far c.self.invariant c.args.self.now c.self.view_is
+    c.args.slot (c.of.result, c.args.item) c.put_at.new.slots c.put_at.new.tags c.self.inside.far (put.told c.self.inside.far c.self.invariant.told)
     c.requires.room put.set vacant.within vacant.empty put.in_place put.tagged).added
 
 pub returns-clause-room : goal.returns-clause-room
 returns-clause-room g c =
     let put = c.put_at.ensures in
     let vacant = subst (λ l. IsVacancy (g.H.KeptHash.number c.args.hash) l c.args.slot) (sym (ap (λ t. t.slots) c.self.view_is)) c.requires.vacant in
-    (inserted c.self.inside.slots c.self.inside.tags c.self.inside.fill c.self.invariant c.args.self.now c.self.view_is
-    c.args.slot (c.of.result, c.args.item) c.put_at.new.slots c.put_at.new.tags (c.self.inside.fill + 2) (omega arith) (λ even. put.near (c.self.invariant.told (omega (arith, even))))
+    (inserted c.self.inside.slots c.self.inside.tags c.self.inside.len c.self.inside.far c.self.invariant c.args.self.now c.self.view_is
+    c.args.slot (c.of.result, c.args.item) c.put_at.new.slots c.put_at.new.tags c.self.inside.far (put.told c.self.inside.far c.self.invariant.told)
     c.requires.room put.set vacant.within vacant.empty put.in_place put.tagged).room

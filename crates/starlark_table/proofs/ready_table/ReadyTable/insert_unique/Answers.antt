@@ -1,5 +1,4 @@
-use Rattle.std.proofs.Common.{◌∷◌}
-use Rattle.std.proofs.lemmas.List.Sorted.{IsPermutation-trans, IsPermutation-cons}
+use Rattle.starlark_hash.proofs.Common.{◌∷◌, IsPermutation-trans, IsPermutation-cons}
 use Rattle.starlark_table.specs.Table.{members}
 use Rattle.starlark_table.proofs.TableLemmas.{grows-by_one}
 use Rattle.starlark_table.proofs.ready_table.ReadyTable.insert_unique.Goals as goal

@@ -1,4 +1,4 @@
-use Rattle.std.proofs.Common.{arith}
+use Rattle.starlark_hash.proofs.Common.{arith}
 use Rattle.starlark_table.proofs.Load.{sound-all_empty}
 use Rattle.starlark_table.proofs.ready_table.ReadyTable.keeping.Goals as goal
 

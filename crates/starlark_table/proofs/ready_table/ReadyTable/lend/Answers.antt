@@ -1,4 +1,4 @@
-use Rattle.std.proofs.Common.{subst, sym}
+use Rattle.starlark_hash.proofs.Common.{subst, sym}
 use Rattle.starlark_table.specs.Layout.{IsTagged}
 use Rattle.starlark_table.specs.Loan.{AreMarked}
 use Rattle.starlark_table.proofs.Marked.{marked-all}

@@ -12,7 +12,7 @@ use Rattle.starlark_columns.proofs.loan.Loan.TheLaws as loan_laws
 use Rattle.starlark_table.specs.declared.kept_hash.KeptHash as KeptHash
 use Rattle.starlark_table.specs.contracts.kept_hash.Kept.{the_row as kept_row}
 use Rattle.starlark_table.proofs.kept_hash.Kept.TheLaws as kept_laws
-use Rattle.starlark_table.specs.Layout.{members_in, IsTagged}
+use Rattle.starlark_table.specs.Layout.{IsTagged}
 use Rattle.starlark_table.specs.Growth.{limit}
 use Rattle.starlark_table.specs.Lend.{Member, Tags, tags_stay, with_kept}
 use Rattle.starlark_table.proofs.BesideClose.{closes_beside}
@@ -73,16 +73,16 @@ module _ (T H P : RattleType) (B : KeptHash.Ghosts H.Denot) (dB : Dict) (N : Clo
   written d w = record d { slots = kept_cells G.kept d.slots w }
 
   abbrev seen : D → Slots → W.Denot
-  seen d w = record { slots = kept_cells G.kept d.slots w; room = limit (length (kept_cells G.kept d.slots w)) - members_in d.fill }
+  seen d w = record { slots = kept_cells G.kept d.slots w; room = limit (length (kept_cells G.kept d.slots w)) - d.len }
 
   module _ (hash : (x w : ℕ × T.Denot) → (G.kept x w).0 ≡ x.0) (again : (x w : ℕ × T.Denot) → G.kept x (G.kept x w) ≡ G.kept x w) where
     written_known : (v : W.Denot) (d : D) (w : Slots) → O.Known K H' B v d → O.Known K H' B (seen d w) (written d w)
-    written_known v d w k = (refl, reshaped d.slots (kept_cells G.kept d.slots w) (shape-kept_cells G.kept hash d.slots w) d.tags d.fill k.1)
+    written_known v d w k = (refl, reshaped d.slots (kept_cells G.kept d.slots w) (shape-kept_cells G.kept hash d.slots w) d.tags d.len d.far k.1)
 
     same : (v : W.Denot) (d : D) (w : Slots) → O.Known K H' B v d → with_kept G.kept v (seen d w) ≡ seen d w
     same v d w k =
         ap (λ z. with_kept G.kept z (seen d w)) (sym k.0)
-        ∙ (λ i. record { slots = again-kept_cells G.kept G.itself again d.slots w i; room = limit (sym (length-kept_cells G.kept d.slots w) i) - members_in d.fill })
+        ∙ (λ i. record { slots = again-kept_cells G.kept G.itself again d.slots w i; room = limit (sym (length-kept_cells G.kept d.slots w) i) - d.len })
 
   module _ {M : Type 1} {𝓤 : Ura M} (𝓛 : Logic 𝓤) (at_mem : Memory → SProp 𝓤) (run : Routine → Fun 𝓤) where
     open 𝓛 use {A}

@@ -1,5 +1,4 @@
-use Rattle.std.proofs.Common.{◌≡◌, ℕ, ◌+◌, ◌≤◌, arith}
-use Rattle.std.proofs.lemmas.Result.{on_ok_weaker}
+use Rattle.starlark_hash.proofs.Common.{◌≡◌, ℕ, ◌+◌, ◌≤◌, arith, on_ok_weaker}
 use Rattle.starlark_table.specs.Table.{table_len}
 use Rattle.starlark_table.proofs.ready_table.ReadyTable.reserve.Goals as goal
 

@@ -1,5 +1,4 @@
-use Rattle.std.proofs.Common.{arith, ◌+◌, ◌*◌, ◌/◌, length, ap, refl, ◌∙◌}
-use Rattle.starlark_table.specs.Layout.{members_in}
+use Rattle.starlark_hash.proofs.Common.{arith, ◌+◌, ◌*◌, ◌/◌, length, ap, refl, ◌∙◌}
 use Rattle.starlark_table.proofs.Changing.{taken_in}
 use Rattle.starlark_table.proofs.Sound.{sound-as}
 use Rattle.starlark_table.proofs.TagCount.{refilled}
@@ -8,18 +7,18 @@ use Rattle.starlark_table.proofs.ready_table.ReadyTable.take_members.Goals as go
 pub invariant_of-self : goal.invariant_of-self
 invariant_of-self g c =
     let all = c.move_all.ensures in
-    sound-as _ _ _ _ (c.move_all.new.fill + c.other.inside.fill / 2 * 2) refl (refilled c.self.inside.tags c.move_all.new.tags (c.move_all.auto.tags ∙ ap length c.as_mut_slice.ensures.value))
-    (taken_in c.self.inside.slots c.self.inside.tags c.self.inside.fill c.self.invariant c.args.self.now c.self.view_is
-    c.other.inside.slots (members_in c.other.inside.fill) c.args.other c.move_all.new.slots c.move_all.new.tags (c.move_all.new.fill + c.other.inside.fill / 2 * 2) (omega (arith, all.members)) (λ even. all.told (omega (arith, even))) c.other.invariant.counted c.other.view_is c.requires.room all.sized all.in_place all.tagged all.bag).sound
+    sound-as _ _ _ _ _ _ refl (refilled c.self.inside.tags c.move_all.new.tags (c.move_all.auto.tags ∙ ap length c.as_mut_slice.ensures.value))
+    (taken_in c.self.inside.slots c.self.inside.tags c.self.inside.len c.self.inside.far c.self.invariant c.args.self.now c.self.view_is
+    c.other.inside.slots c.other.inside.len c.args.other c.move_all.new.slots c.move_all.new.tags c.move_all.new.far all.told c.other.invariant.counted c.other.view_is c.requires.room all.sized all.in_place all.tagged all.bag).sound
 
 pub returns-clause-added : goal.returns-clause-added
 returns-clause-added g c =
     let all = c.move_all.ensures in
-    (taken_in c.self.inside.slots c.self.inside.tags c.self.inside.fill c.self.invariant c.args.self.now c.self.view_is
-    c.other.inside.slots (members_in c.other.inside.fill) c.args.other c.move_all.new.slots c.move_all.new.tags (c.move_all.new.fill + c.other.inside.fill / 2 * 2) (omega (arith, all.members)) (λ even. all.told (omega (arith, even))) c.other.invariant.counted c.other.view_is c.requires.room all.sized all.in_place all.tagged all.bag).added
+    (taken_in c.self.inside.slots c.self.inside.tags c.self.inside.len c.self.inside.far c.self.invariant c.args.self.now c.self.view_is
+    c.other.inside.slots c.other.inside.len c.args.other c.move_all.new.slots c.move_all.new.tags c.move_all.new.far all.told c.other.invariant.counted c.other.view_is c.requires.room all.sized all.in_place all.tagged all.bag).added
 
 pub returns-clause-room : goal.returns-clause-room
 returns-clause-room g c =
     let all = c.move_all.ensures in
-    (taken_in c.self.inside.slots c.self.inside.tags c.self.inside.fill c.self.invariant c.args.self.now c.self.view_is
-    c.other.inside.slots (members_in c.other.inside.fill) c.args.other c.move_all.new.slots c.move_all.new.tags (c.move_all.new.fill + c.other.inside.fill / 2 * 2) (omega (arith, all.members)) (λ even. all.told (omega (arith, even))) c.other.invariant.counted c.other.view_is c.requires.room all.sized all.in_place all.tagged all.bag).room
+    (taken_in c.self.inside.slots c.self.inside.tags c.self.inside.len c.self.inside.far c.self.invariant c.args.self.now c.self.view_is
+    c.other.inside.slots c.other.inside.len c.args.other c.move_all.new.slots c.move_all.new.tags c.move_all.new.far all.told c.other.invariant.counted c.other.view_is c.requires.room all.sized all.in_place all.tagged all.bag).room

@@ -1,6 +1,5 @@
-use Rattle.std.proofs.Common.{◌≡◌, ◌-◌, length, arith, refl, ◌∙◌, ap}
+use Rattle.starlark_hash.proofs.Common.{◌≡◌, ◌-◌, length, arith, refl, ◌∙◌, ap}
 use Rattle.starlark_table.specs.Growth.{limit}
-use Rattle.starlark_table.specs.Layout.{members_in}
 use Rattle.starlark_table.proofs.Cloning.{no_slots_cloned}
 use Rattle.starlark_table.proofs.Shape.{shape-cloned, same_length, sound-cloned}
 use Rattle.starlark_table.proofs.Sound.{sound-as}
@@ -10,7 +9,7 @@ use Rattle.starlark_table.proofs.ready_table.ReadyTableClone.clone.Goals as goal
 pub returns-then-count-eq0 : goal.returns-then-count-eq0
 returns-then-count-eq0 g c =
     let none : length c.self.inside.slots ≡ 0 = omega (arith, c.if-count-eq0.true, c.cells-count.ensures.cells) in
-    let no_room : 0 ≡ limit (length c.self.inside.slots) - members_in c.self.inside.fill = omega (arith, none) in
+    let no_room : 0 ≡ limit (length c.self.inside.slots) - c.self.inside.len = omega (arith, none) in
     record {
       cases = rw (← c.self.view_is) (record {
         slots = no_slots_cloned g.T.Clone.is_clone c.self.inside.slots c.without_slots.result.slots none c.without_slots.ensures.slots;
@@ -26,10 +25,10 @@ empty_slots-requires g c =
 
 pub invariant_of-result : goal.invariant_of-result
 invariant_of-result g c =
-    sound-as _ _ _ _ c.self.inside.fill refl
+    sound-as _ _ _ _ _ _ refl
     (refilled c.in_ok-slots.tags c.clone_members-cloned.new.copy_tags (c.clone_members-cloned.auto.copy_tags ∙ ap length c.as_mut_slice.ensures.value))
     (sound-cloned g.T.Clone.is_clone c.self.inside.slots c.clone_members-cloned.new.copy c.self.inside.tags c.clone_members-cloned.new.copy_tags
-    c.self.inside.fill c.self.invariant c.in-Ok.ensures.cloned c.in-Ok.ensures.tagged)
+    c.self.inside.len c.self.inside.far c.self.invariant c.in-Ok.ensures.cloned c.in-Ok.ensures.tagged)
 
 pub returns-in-Ok : goal.returns-in-Ok
 returns-in-Ok g c =
@@ -37,7 +36,7 @@ returns-in-Ok g c =
     record {
       cases = rw (← c.self.view_is) (record {
         slots = all;
-        room = ap (λ n. limit n - members_in c.self.inside.fill)
+        room = ap (λ n. limit n - c.self.inside.len)
             (same_length c.self.inside.slots c.clone_members-cloned.new.copy (shape-cloned g.T.Clone.is_clone _ _ all));
       });
     }
