@@ -10,13 +10,8 @@ use Rattle.starlark_columns.specs.contracts.block.PairClaim as pair_claim
 abbrev pub mark : Val
 mark = vstruct (vcons (vstruct vnil) vnil)
 
--- a tuple of two, of three and of four, from its parts
+-- a tuple of three and of four, from its parts (`LentParts` has that of two)
 module _ {M : Type 1} {𝓤 : Ura M} (𝓛 : Logic 𝓤) (R S : RattleType) (x : R.Denot) (y : S.Denot) (u v : Val) where
-  pub both : ent 𝓤 (sep 𝓤 (sem 𝓛 (R.own_val x (u ∷ []))) (sem 𝓛 (S.own_val y (v ∷ [])))) (sem 𝓛 ((Tuple (R ∷ S ∷ [])).own_val (x, y) (vstruct (vcons u (vcons v vnil)) ∷ [])))
-  both = let all = vstruct (vcons u (vcons v vnil)) ∷ [] in
-      qed 𝓛 (‵ (R.own_val x (u ∷ [])) ∷ ‵ (S.own_val y (v ∷ [])) ∷ []) ∵ nothing ! $ move ! (2 ∷ 0 ∷ []) $ fjoin ! $ move ! (1 ∷ 0 ∷ []) $ fjoin ! $
-      feq_i ! (List Val) all all refl $ fjoin ! $ fpack ! (Valss (R ∷ S ∷ [])) (within (Declared.shape (tuple_type (R ∷ S ∷ []))) (x, (y, tt)) all) (u ∷ [], (v ∷ [], tt)) $ done !
-
   module _ (Q : RattleType) (z : Q.Denot) (w : Val) where
     pub three : ent 𝓤 (sep 𝓤 (sem 𝓛 (R.own_val x (u ∷ []))) (sep 𝓤 (sem 𝓛 (S.own_val y (v ∷ []))) (sem 𝓛 (Q.own_val z (w ∷ [])))))
         (sem 𝓛 ((Tuple (R ∷ S ∷ Q ∷ [])).own_val (x, y, z) (vstruct (vcons u (vcons v (vcons w vnil))) ∷ [])))

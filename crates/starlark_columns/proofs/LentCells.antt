@@ -1,7 +1,7 @@
 -- Cells that are lent together: the next comes off, to be written or to stay. Assumes `Logic`.
 --     item_off    the item of a full cell comes off, beside the cells behind it
 --     cell_off   a cell stays as it is, and the cells behind it are left
-use Rattle.starlark_columns.proofs.Walking.{◌≡◌, refl, sym, ap, ℕ, suc, ◌+◌, ◌<◌, arith, List, [], ◌∷◌, length, Ura, ent, sep, emp, Lft, GName, Share, flft, fobs, fbor, Item, ‵, raw, ◌⊛◌, some, later, mean, ◌$◌, ◌∵◌, !, qed, move, keep, use1, split, split3, pick, fsplit, fjoin, rewrite, group, await, updating, now, show, done, Logic, sem, Body, open_ref, after₂, takes_part, takes_two, RattleType, block_ptr, nothing, None, type_size}
+use Rattle.starlark_columns.proofs.Walking.{◌≡◌, refl, sym, ap, ℕ, ◌+◌, ◌<◌, arith, List, [], ◌∷◌, length, Ura, ent, sep, emp, Lft, GName, Share, flft, fobs, fbor, Item, ‵, raw, ◌⊛◌, some, later, mean, ◌$◌, ◌∵◌, !, qed, move, keep, use1, split, split3, pick, fsplit, fjoin, rewrite, group, await, updating, now, show, done, Logic, sem, Body, open_ref, after₂, takes_part, takes_two, RattleType, block_ptr, nothing, None, type_size}
 use types.Follow.{after}
 use Rattle.std.specs.Prelude.{Option, Some}
 use Rattle.starlark_columns.specs.Ownership.{cell_owned}
@@ -12,7 +12,7 @@ use Rattle.starlark_columns.specs.Loan.{kept_cell, kept_cells, KeptItem, KeptCel
 
 -- a list that is not empty, cut behind its first item
 pub parted : {X : Type 0} (xs : List X) → 0 < length xs → (y : X) × (ys : List X) × (xs ≡ y ∷ ys)
-parted [] p = absurd (omega (arith, p))
+parted [] p = absurd (omega arith)
 parted (y ∷ ys) p = (y, ys, refl)
 
 -- cells of which the first is full
@@ -23,8 +23,8 @@ next_full (c ∷ cs) full = (full.0, cs, ap (λ d. d ∷ cs) full.1)
 module _ {X : Type 0} (kept : X → X → X) where
   pub length-kept_cells : (cs ws : List (Option X)) → length (kept_cells kept cs ws) ≡ length cs
   length-kept_cells [] ws = refl
-  length-kept_cells (c ∷ cs) [] = ap suc (length-kept_cells cs [])
-  length-kept_cells (c ∷ cs) (w ∷ ws) = ap suc (length-kept_cells cs ws)
+  length-kept_cells (c ∷ cs) [] = rw (length-kept_cells cs [])
+  length-kept_cells (c ∷ cs) (w ∷ ws) = rw (length-kept_cells cs ws)
 
   module _ (itself : (x : X) → kept x x ≡ x) where
     pub cell_itself : (c : Option X) → kept_cell kept c c ≡ c

@@ -62,11 +62,10 @@ module _ (E : El) {M : Type 1} {𝓤 : Ura M} (𝓛 : Logic 𝓤) (b : ℕ) wher
 
   pub empties_run : (from to : ℕ) (cs : List (Option (el_x E))) (o : ℕ) → ent 𝓤 (sem 𝓛 (Row o cs)) (sem 𝓛 (Row o (emptied from to cs)))
   empties_run from to [] o = id⊢ 𝓤 _
-  empties_run zero zero (c ∷ cs) o = id⊢ 𝓤 _
-  empties_run (suc from) zero (c ∷ cs) o = id⊢ 𝓤 _
   empties_run zero (suc to) (c ∷ cs) o = qed 𝓛 (‵ (Row o (c ∷ cs)) ∷ []) ∵ fsplit ! $ use1 𝓛 (‵ (Cell o None)) (forgets o c) $ move ! (1 ∷ []) $
       use1 𝓛 (‵ (Row (o + s) (emptied zero to cs))) (empties_run zero to cs (o + s)) $ move ! (1 ∷ 0 ∷ []) $ fjoin ! $ done !
   empties_run (suc from) (suc to) (c ∷ cs) o = mono_r 𝓤 (sem 𝓛 (Cell o c)) (empties_run from to cs (o + s))
+  empties_run from to (c ∷ cs) o = id⊢ 𝓤 _
 
   pub to_slots : (d : el_x E) (cs : List (Option (el_x E))) (o : ℕ) → ent 𝓤 (sem 𝓛 (Row o cs)) (sem 𝓛 (slots (R E) (block_ptr b o) (map (item_or d) cs) (map holds cs)))
   to_slots d [] o = id⊢ 𝓤 _
@@ -74,10 +73,9 @@ module _ (E : El) {M : Type 1} {𝓤 : Ura M} (𝓛 : Logic 𝓤) (b : ℕ) wher
   to_slots d (Some x ∷ cs) o = mono_r 𝓤 (sem 𝓛 (Cell o (Some x))) (to_slots d cs (o + s))
 
   pub of_slots : (xs : List (el_x E)) (fs : List Bool) (o : ℕ) → ent 𝓤 (sem 𝓛 (slots (R E) (block_ptr b o) xs fs)) (sem 𝓛 (Row o (cells_of xs fs)))
-  of_slots [] fs o = id⊢ 𝓤 _
-  of_slots (x ∷ xs) [] o = id⊢ 𝓤 _
   of_slots (x ∷ xs) (true ∷ fs) o = mono_r 𝓤 (sem 𝓛 (Cell o (Some x))) (of_slots xs fs (o + s))
   of_slots (x ∷ xs) (false ∷ fs) o = mono_r 𝓤 (sem 𝓛 (Cell o None)) (of_slots xs fs (o + s))
+  of_slots xs fs o = id⊢ 𝓤 _
 
   pub to_items : (xs : List (el_x E)) (o : ℕ) → ent 𝓤 (sem 𝓛 (Row o (map Some xs))) (sem 𝓛 (cells (mem (R E)) xs b o))
   to_items [] o = id⊢ 𝓤 (emp 𝓤)
@@ -151,18 +149,16 @@ module _ (E : El) {M : Type 1} {𝓤 : Ura M} (𝓛 : Logic 𝓤) (b : ℕ) wher
 
 pub cells_back : {X : Type 0} (d : X) (cs : List (Option X)) → cells_of (map (item_or d) cs) (map holds cs) ≡ cs
 cells_back d [] = refl
-cells_back d (None ∷ cs) = ap (λ l. None ∷ l) (cells_back d cs)
-cells_back d (Some x ∷ cs) = ap (λ l. Some x ∷ l) (cells_back d cs)
+cells_back d (None ∷ cs) = rw (cells_back d cs)
+cells_back d (Some x ∷ cs) = rw (cells_back d cs)
 
 module _ {X : Type 0} where
   pub cells_count : (xs : List X) (fs : List Bool) → length fs ≡ length xs → length (cells_of xs fs) ≡ length xs
-  cells_count [] fs e = refl
-  cells_count (x ∷ xs) [] e = absurd (omega (arith, e))
-  cells_count (x ∷ xs) (f ∷ fs) e = ap suc (cells_count xs fs (omega (arith, e)))
+  cells_count (x ∷ xs) (f ∷ fs) e = omega (arith, cells_count xs fs (omega arith))
+  cells_count xs fs e = grind arith
 
   pub emptied_count : (from to : ℕ) (cs : List (Option X)) → length (emptied from to cs) ≡ length cs
   emptied_count from to [] = refl
-  emptied_count zero zero (c ∷ cs) = refl
-  emptied_count (suc from) zero (c ∷ cs) = refl
-  emptied_count zero (suc to) (c ∷ cs) = ap suc (emptied_count zero to cs)
-  emptied_count (suc from) (suc to) (c ∷ cs) = ap suc (emptied_count from to cs)
+  emptied_count zero (suc to) (c ∷ cs) = rw (emptied_count zero to cs)
+  emptied_count (suc from) (suc to) (c ∷ cs) = rw (emptied_count from to cs)
+  emptied_count from to (c ∷ cs) = refl

@@ -1,23 +1,14 @@
 -- Room for two arrays is cut into the rooms of both, with the way back. Assumes `Logic`.
-use Rattle.starlark_columns.proofs.Walking.{◌≡◌, ℕ, zero, ◌+◌, ◌-◌, ◌*◌, ◌%◌, ◌<◌, ◌^◌, Bool, true, false, [], ◌∷◌, refl, sym, ap, subst, ◌∙◌, arith, mod_self, sub-zero, zero-add, add-zero, eqb, eqb→eq, Ura, ftrue, froom, SProp, ent, sep, wand, id⊢, apply∗, bare, Ty, Tys, tcons, tnil, ty_array, Dv, dv_zero, capped_small, size, align, pad, up, capped, rooms_at, ‵, raw, ◌⊛◌, ◌$◌, ◌∵◌, !, qed, by, move, keep, use1, use2, split, split3, group, rewrite, assume, done, Logic, sem, block_ptr, nothing}
-use lib.Dec.{T}
+use Rattle.starlark_columns.proofs.Walking.{◌≡◌, ℕ, zero, ◌+◌, ◌*◌, ◌<◌, ◌^◌, false, [], ◌∷◌, refl, sym, arith, zero-add, eqb, Ura, ftrue, froom, SProp, ent, sep, wand, id⊢, apply∗, bare, Ty, Tys, tcons, tnil, ty_array, capped_small, size, align, up, capped, rooms_at, ‵, raw, ◌⊛◌, ◌$◌, ◌∵◌, !, qed, by, move, keep, use1, use2, split, split3, group, rewrite, assume, done, Logic, sem, block_ptr, nothing}
+use Rattle.std.proofs.lemmas.Bool.Decides.{nat_tests}
+use Rattle.std.proofs.lemmas.Grind.{common_steps}
 use Rattle.starlark_columns.specs.Pair.{two_arrays, rooms_rejoin}
 
-weighs : (x : Bool) (k : ℕ) → eqb k 0 ≡ x → 0 < k → eqb k 0 ≡ false
-weighs true k e h = absurd (omega (arith, eqb→eq k 0 (subst T (sym e) tt), h))
-weighs false k e h = e
-
 pub some_weight : (k : ℕ) → 0 < k → eqb k 0 ≡ false
-some_weight k = weighs (eqb k 0) k refl
-
-flush : (a n : ℕ) → Dv a n → up a n ≡ n
-flush a n d =
-    let none : n % a ≡ 0 = eqb→eq (n % a) 0 d in
-    let gone : pad a n ≡ 0 = ap (λ (r : ℕ). (a - r) % a) none ∙ ap (λ (r : ℕ). r % a) (sub-zero a) ∙ mod_self a in
-    ap (λ (r : ℕ). n + r) gone ∙ add-zero n
+some_weight k h = grind (arith, nat_tests)
 
 pub starts_flush : (τ : Ty) → up (align τ) 0 ≡ 0
-starts_flush τ = flush (align τ) 0 (dv_zero (align τ))
+starts_flush τ = grind (arith, common_steps)
 
 module _ (τ σ : Ty) (n : ℕ) {M : Type 1} {𝓤 : Ura M} (𝓛 : Logic 𝓤) (b o far : ℕ) (at : far ≡ up (align σ) (n * size τ)) where
   open 𝓛 use {H}
@@ -35,10 +26,10 @@ module _ (τ σ : Ty) (n : ℕ) {M : Type 1} {𝓤 : Ura M} (𝓛 : Logic 𝓤) 
   rooms = rooms_at 𝓤 H both zero b o
 
   first_is : o + first ≡ o
-  first_is = ap (λ (k : ℕ). o + k) (starts_flush τ) ∙ add-zero o
+  first_is = omega (arith, starts_flush τ)
 
   second_is : o + second ≡ o + far
-  second_is = ap (λ (k : ℕ). o + up (align σ) (k + n * size τ)) (starts_flush τ) ∙ ap (λ (k : ℕ). o + up (align σ) k) (zero-add (n * size τ)) ∙ ap (λ (k : ℕ). o + k) (sym at)
+  second_is = rw (starts_flush τ, zero-add, at)
 
   rejoins : ent 𝓤 (wand 𝓤 rooms (H.room (two_arrays τ σ n) b o)) (sem 𝓛 (rooms_rejoin τ σ (block_ptr b o) (block_ptr b (o + far)) n))
   rejoins = qed 𝓛 (raw (wand 𝓤 rooms (H.room (two_arrays τ σ n) b o)) ∷ []) ∵ assume ! (‵ (froom (bare (ty_array τ n)) b o) ⊛ ‵ (froom (bare (ty_array σ n)) b (o + far))) $ split ! $
@@ -56,6 +47,4 @@ module _ (τ σ : Ty) (n : ℕ) {M : Type 1} {𝓤 : Ura M} (𝓛 : Logic 𝓤) 
 
 -- both arrays are within the block
 pub both_within : (τ σ : Ty) (n z : ℕ) → capped (size (two_arrays τ σ n)) ≡ z → z < 2 ^ 63 → (n * size τ < 2 ^ 63) × (n * size σ < 2 ^ 63)
-both_within τ σ n z laid fits =
-    let ω = two_arrays τ σ n in let fit : size ω < 2 ^ 63 = capped_small (size ω) (subst (λ (k : ℕ). k < 2 ^ 63) (sym laid) fits) in
-    (omega (arith, fit), omega (arith, fit))
+both_within τ σ n z laid fits = let fit = capped_small (size (two_arrays τ σ n)) (rw laid fits) in (omega (arith, fit), omega (arith, fit))

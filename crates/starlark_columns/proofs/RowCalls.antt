@@ -1,5 +1,5 @@
 -- The two calls between cells that a walk holds and the kit's slots: what each asks for, and what it gives. Assumes `Logic`.
-use Rattle.starlark_columns.proofs.Walking.{◌≡◌, ℕ, ◌*◌, ◌<◌, ◌^◌, Bool, List, [], ◌∷◌, ◌++◌, length, refl, sym, ap, subst, ◌∙◌, lit<, w64, Ura, Fml, Lft, Share, ftrue, fsep, flft, SProp, ent, sep, ex, guard, emp, id⊢, ◌⊑◌, Fun, fact, fact_i, ty_ptr, ty_int, ty_struct, tcons, tnil, Val, vint, vptr, vstruct, of_list, has_ty, WT, Memory, Routine, ‵, raw, ◌⊛◌, some, later, ◌$◌, ◌∵◌, !, qed, move, keep, drop, use0, use1, split, join, pick, rewrite, fsplit, fsplit3, fjoin, fjoin3, fpick, feq_i, feq_l, flt_i, check, show, await, updating, now, done, Logic, sem, usize, Is, layout, RattleType, Ptr, RawPtr, block_ptr, null_ptr, ptr_val, in_block, heard, nothing, only, Tuple, triple_of, Contract, El, el_x, Sr, words_val, row_val, row_had, row_made, sz, slots, slots_items, slots_filled, slots_ptr, slots_len}
+use Rattle.starlark_columns.proofs.Walking.{◌≡◌, ℕ, ◌*◌, ◌<◌, ◌^◌, Bool, List, [], ◌∷◌, ◌++◌, length, refl, sym, ap, ◌∙◌, lit<, w64, Ura, Fml, Lft, Share, ftrue, fsep, flft, SProp, ent, sep, ex, guard, emp, id⊢, ◌⊑◌, Fun, fact, fact_i, ty_ptr, ty_int, ty_struct, tcons, tnil, Val, vint, vptr, vstruct, of_list, has_ty, WT, Memory, Routine, ‵, raw, ◌⊛◌, some, later, ◌$◌, ◌∵◌, !, qed, move, keep, drop, use0, use1, split, join, pick, rewrite, fsplit, fsplit3, fjoin, fjoin3, fpick, feq_i, feq_l, flt_i, check, show, await, updating, now, done, Logic, sem, usize, Is, RattleType, Ptr, RawPtr, block_ptr, null_ptr, ptr_val, in_block, heard, nothing, only, Tuple, triple_of, Contract, El, el_x, Sr, words_val, row_val, row_had, row_made, sz, slots, slots_items, slots_filled, slots_ptr, slots_len}
 use Rattle.std.proofs.Common.{T}
 use Rattle.core.proofs.mem.Param.{R}
 use Rattle.core.specs.Mem.Slots.Ownership.{owned}
@@ -80,8 +80,5 @@ pub row_good : (p : Ptr) (n : ℕ) → n < 2 ^ 64 → T (has_ty (ty_struct [] (t
 row_good (block_ptr b o) n word = (tt, (tt, (record { fits = word }, tt)))
 row_good null_ptr n word = (tt, (record { fits = lit< tt }, (record { fits = word }, tt)))
 
-pub parts_typed : (u : Val) (b o n : ℕ) → u ≡ row_val b o n → n < 2 ^ 64 → T (has_ty (layout (Tuple (RawPtr ∷ usize ∷ []))) u) × WT u
-parts_typed u b o n e word = subst (λ (z : Val). T (has_ty (layout (Tuple (RawPtr ∷ usize ∷ []))) z) × WT z) (sym e) (tt, (tt, (record { fits = word }, tt)))
-
-pub row_typed : (E : El) (v : Val) (b o n : ℕ) → v ≡ row_val b o n → n < 2 ^ 64 → T (has_ty (layout (Sr E)) v) × WT v
-row_typed E v b o n e word = subst (λ (u : Val). T (has_ty (layout (Sr E)) u) × WT u) (sym e) (tt, (tt, (record { fits = word }, tt)))
+pub row_typed : (v : Val) (b o n : ℕ) → v ≡ row_val b o n → n < 2 ^ 64 → T (has_ty (ty_struct [] (tcons ty_ptr (tcons (ty_int w64) tnil))) v) × WT v
+row_typed v b o n e word = rw e (row_good (block_ptr b o) n word)

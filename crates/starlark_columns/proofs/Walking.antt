@@ -27,7 +27,6 @@ pub use Rattle.std.proofs.lemmas.Option.{slice_get_within}
 pub use Rattle.std.proofs.raw_atomic.Walks.{leaves, proved, proved_at}
 pub use Rattle.std.specs.Borrow.{name_if_ok}
 pub use Rattle.std.specs.Fn.{CalledAt, CalledAtMut, Mut, TakesAt}
-pub use Rattle.std.specs.Global.{Vec}
 pub use Rattle.std.specs.Int.Count.{count_trailing_zeros}
 pub use Rattle.std.specs.List.{refill, slice_range}
 pub use Rattle.std.specs.List.Retain.{RetainsInTurn}

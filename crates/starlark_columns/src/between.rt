@@ -11,6 +11,7 @@ use crate::row::Row;
 impl<T> Row<T> {
     /// The items stand at the cells from `from` up to `to`. Takes the first one out.
     #[inline]
+    #[tactic(auto, using(crate::proofs::Betweens::first_filled))]
     pub fn take_first_between(&mut self, spot: Spot<T>, from: usize, to: usize) -> T
         requires spot { LiesAt spot self.old }
         requires between { IsBetween self.old.cells from to }
@@ -40,6 +41,7 @@ impl<T> Row<T> {
 
 impl<T: Drop> Row<T> {
     /// The items stand at the cells from `from` up to `to`. Drops them all.
+    #[tactic(auto, using(crate::proofs::Fronts::front_empties, crate::proofs::Betweens::none_between))]
     pub fn drop_between(&mut self, spot: Spot<T>, from: usize, to: usize)
         requires spot { LiesAt spot self.old }
         requires between { IsBetween self.old.cells from to }

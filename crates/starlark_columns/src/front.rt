@@ -16,6 +16,7 @@ impl<T> Row<T> {
 
     /// The first `len` cells, which hold all the items.
     #[inline]
+    #[tactic(auto, using(crate::proofs::Fronts::front_full, crate::proofs::Fronts::front_items))]
     pub fn items(&self, address: Address<T>, len: usize) -> &[T]
         requires at { address.at ≡ self.now.at }
         requires front { IsFront self.now.cells len }
@@ -60,6 +61,7 @@ impl<T> Row<T> {
 
     /// Puts an item behind the `len` that are there. A cell is to be left.
     #[inline]
+    #[tactic(auto, using(crate::proofs::Fronts::front_free))]
     pub fn push_last(&mut self, spot: Spot<T>, len: usize, item: T)
         requires spot { LiesAt spot self.old }
         requires front { IsFront self.old.cells len }
@@ -74,6 +76,7 @@ impl<T> Row<T> {
 
     /// Takes the last item out, which has `last` in front of it.
     #[inline]
+    #[tactic(auto, using(crate::proofs::Fronts::front_filled))]
     pub fn take_last(&mut self, spot: Spot<T>, last: usize) -> T
         requires spot { LiesAt spot self.old }
         requires front { IsFront self.old.cells (last + 1) }
@@ -87,6 +90,7 @@ impl<T> Row<T> {
 
     /// Takes the item at `index` out. Those behind it move up by one cell.
     #[inline]
+    #[tactic(auto, using(crate::proofs::Fronts::gap_empty))]
     pub fn remove_at(&mut self, spot: Spot<T>, len: usize, index: usize) -> T
         requires spot { LiesAt spot self.old }
         requires front { IsFront self.old.cells len }
@@ -127,6 +131,7 @@ impl<T> Row<T> {
 
     /// Turns the items round.
     #[inline]
+    #[tactic(auto, using(crate::proofs::Fronts::all_written))]
     pub fn turn_round(&mut self, address: Address<T>, len: usize)
         requires at { address.at ≡ self.old.at }
         requires front { IsFront self.old.cells len }
@@ -141,6 +146,7 @@ impl<T> Row<T> {
 
 impl<T: Drop> Row<T> {
     /// Drops the items from `to` on, the last first.
+    #[tactic(auto, using(crate::proofs::Fronts::one_fewer))]
     pub fn truncate(&mut self, spot: Spot<T>, len: usize, to: usize)
         requires spot { LiesAt spot self.old }
         requires front { IsFront self.old.cells len }

@@ -13,6 +13,7 @@ pub(crate) struct Layout {
     pub align: usize,
 }
 
+#[tactic(auto, using(crate::proofs::Layouts::some_align))]
 pub(crate) fn laid_out<T, U>(count: usize) -> Layout
     ensures { HasLayout (pair_ty T.row U.row count) result.size result.align }
 {
@@ -30,6 +31,7 @@ pub(crate) fn laid_out<T, U>(count: usize) -> Layout
 // How far behind the first row the second begins. In a block no number is past the greatest `usize`, so that nothing is
 // tested here.
 #[inline]
+#[tactic(auto, using(crate::proofs::Layouts::some_align))]
 pub(crate) fn skip<T, U>(count: usize) -> usize
     ensures { result ≡ skipped T.row U.row count }
 {

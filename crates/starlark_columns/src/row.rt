@@ -61,6 +61,7 @@ impl<T> Row<T> {
 
     /// Puts an item in an empty cell.
     #[inline]
+    #[tactic(auto, using(crate::proofs::Slotting::set_row, crate::proofs::Slotting::none_emptied))]
     pub fn write(&mut self, spot: Spot<T>, index: usize, item: T)
         requires spot { LiesAt spot self.old }
         requires empty { (index < length self.old.cells) × (get_or self.old.cells index None ≡ None) }
@@ -74,6 +75,7 @@ impl<T> Row<T> {
 
     /// Moves the item out of a full cell, which is then empty.
     #[inline]
+    #[tactic(auto, using(crate::proofs::Slotting::clear_row, crate::proofs::Slotting::none_emptied))]
     pub fn take(&mut self, spot: Spot<T>, index: usize) -> T
         requires spot { LiesAt spot self.old }
         requires filled { IsFilled self.old.cells index }
@@ -122,6 +124,7 @@ impl<T> Row<T> {
     /// Moves the items from cell `from` up to cell `end` down, to the cells from `to` on, in their order. The cells
     /// between are empty before, and as many behind the items are afterwards.
     #[inline]
+    #[tactic(auto, using(crate::proofs::Slotting::stays_down))]
     pub fn move_down(&mut self, spot: Spot<T>, from: usize, end: usize, to: usize)
         requires spot { LiesAt spot self.old }
         requires items { AreFilled self.old.cells from end }

@@ -1,6 +1,7 @@
 -- `bare` makes cells of no bytes out of nothing. Assumes `Logic`.
 use Rattle.starlark_columns.proofs.Walking.{◌≡◌, Option, ℕ, ◌*◌, ◌<◌, ◌^◌, List, [], ◌∷◌, length, refl, sym, subst, lit<, w64, ftrue, flft, emp, ◌⊑◌, fact, fact_i, length-replicate, inst_fn, a_type, Val, vint, vstruct, vcons, vnil, alloc_all, pass_all, free_all, look_at, get, sets, ‵, raw, ◌⊛◌, ◌$◌, ◌∵◌, !, qed, by, move, keep, use0, use2, split, fjoin, flt_i, agg, stop, from, addr, and_then, no_more, returns, enter, usize, yes, layouts, uint_vals, uint_Tells, owns, Ptr, block_ptr, plain, types_at, heard, nothing, Tuple, Stays, stay_dropped, walk_of, Goes-dropped, El, proved, leaves, type_size, None, R, empties}
-use Rattle.starlark_columns.proofs.Fields.{word, mark, both, address_made, RowMark, row_mark_made}
+use Rattle.starlark_columns.proofs.LentParts.{as_tuple}
+use Rattle.starlark_columns.proofs.Fields.{word, mark, address_made, RowMark, row_mark_made}
 use Rattle.starlark_columns.proofs.Memory.{Row, weightless}
 use Rattle.starlark_columns.specs.contracts.block.Address as address
 use Rattle.starlark_columns.specs.contracts.row.Row as row
@@ -31,6 +32,6 @@ bare_spec 𝓤 𝓛 𝓜 𝓡 wired X L =
     use0 𝓛 (‵ (Row E 𝓛 (l 2) 0 cs)) (weightless E 𝓛 (l 2) n 0 light) $ flt_i ! (length cs * s) (2 ^ 63) few $ fjoin ! $
     use0 𝓛 (‵ ((RowMark (R E)).own_val (tt, tt) (mark ∷ []))) (row_mark_made (R E) 𝓛) $ fjoin ! $
     use0 𝓛 (‵ (At.own_val r.0 (word p ∷ []))) (address_made (R E) 𝓛 p) $
-    use2 𝓛 (‵ ((Tuple (At ∷ Own ∷ [])).own_val r (v ∷ []))) (both 𝓛 At Own r.0 r.1 (word p) mark) $
+    use2 𝓛 (‵ ((Tuple (At ∷ Own ∷ [])).own_val r (v ∷ []))) (as_tuple 𝓛 At Own r.0 r.1 (word p) mark) $
     use0 𝓛 (raw (fact 𝓤 Told)) (fact_i 𝓤 Told (emp 𝓤) (refl, refl)) $ nothing ! $ nothing ! $ fjoin ! $
     move ! (3 ∷ 0 ∷ 2 ∷ 1 ∷ []) $ by ! (leaves 𝓛 (ended X) hs c y v r (tt, tt) (tt, tt)))))

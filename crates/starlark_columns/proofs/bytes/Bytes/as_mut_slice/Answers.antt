@@ -5,12 +5,8 @@ use Rattle.starlark_columns.proofs.ByteRows.{written_full}
 use Rattle.starlark_columns.proofs.bytes.Bytes.as_mut_slice.Goals as goal
 
 pub invariant_of-self-lent : goal.invariant_of-self-lent
-invariant_of-self-lent c = λ w.
-    let cells = c.self.inside.row.cells in let is = c.self.invariant in (
-      is.0,
-      written_full cells is.1 w,
-      (is.2.0, is.2.1 ∙ sym (written_cells cells (length cells) is.1 w)),
-    )
+invariant_of-self-lent c = λ w. let cells = c.self.inside.row.cells in let is = c.self.invariant in let same = written_cells cells (length cells) is.1 w in
+    (is.0, written_full cells is.1 w, (is.2.0, is.2.1 ∙ sym same))
 
 pub returns : goal.returns
 returns c =

@@ -2,7 +2,7 @@
 use Rattle.starlark_columns.proofs.Walking.{◌≡◌, ℕ, suc, ◌+◌, ◌*◌, ◌<◌, ◌^◌, Option, Some, get_or, List, [], ◌∷◌, ◌++◌, length, refl, sym, ap, subst, ◌∙◌, arith, w64, suc-mul, Fml, GName, Lft, Share, Incl-trans, ftrue, fsep, flft, full_share, SProp, emp, never, id⊢, ◌⊑◌, Lfts, fact, fact_i, tables, inst_fn, a_type, named, Val, vint, vptr, vstruct, vcons, vnil, of_list, alloc_all, pass_all, free_all, look_at, get, through, is, sets, sets_last, env, Item, ‵, raw, ◌⊛◌, some, later, at_ret, ◌$◌, ◌∵◌, !, qed, by, move, keep, use0, use2, split, split3, join, pick, rewrite, fsplit, fsplit3, fjoin, fjoin3, feq_i, flt_i, flt_l, await, whole, sub, look_in, agg, and_then, no_more, stop, fld, load, bin, addr, size_word, of_opd, first, blocks, exec, returns, enter, usize, yes, shows, cell_at, param, layouts, param_laws, uint_vals, uint_Tells, RattleType, owns, Ptr, ptr_val, in_a_block, Bor, MutBor, MutRef, ShrRef, mut_vals, mut_Tells, plain, named_lft, types_at, heard, nothing, peeks, opens, closes, Tuple, Stays, stay_ref, stay_dropped, walk_of, Goes-ref, Goes-dropped, times_below, after, uncapped, proved, leaves, type_size, option_map, IsFilled}
 use Rattle.std.proofs.Common.{None, drop}
 use Rattle.starlark_columns.specs.Loan.{lent_from, lent_cells}
-use Rattle.starlark_columns.proofs.Fields.{both}
+use Rattle.starlark_columns.proofs.LentParts.{as_tuple}
 use Rattle.starlark_columns.proofs.PairParts.{part, first_at, second_at}
 use Rattle.starlark_columns.proofs.EntryOut.{Value, value_out}
 use Rattle.starlark_columns.proofs.LentCells.{next_full, Off, item_off}
@@ -63,7 +63,7 @@ take_value_spec 𝓤 𝓛 𝓜 𝓡 wired X Y Z L LY LZ =
     -- [self's name and borrow; the token of κ; the `&`; the `&mut`; the token of ι; the others]
     feq_i ! (List Val) (vptr rb ro ∷ []) (vptr rb ro ∷ []) refl $ fjoin3 ! $ nothing ! $ nothing ! $ fjoin ! $ move ! (1 ∷ 0 ∷ []) $ fjoin ! $
     move ! (4 ∷ 5 ∷ []) $ join ! $ move ! (2 ∷ 0 ∷ []) $ join ! $ move ! (2 ∷ 3 ∷ []) $
-    use2 𝓛 (‵ ((Tuple (ShrRef (named 1) ι B ∷ MutRef (named 1) ι V ∷ [])).own_val (k, v) (out ∷ []))) (both 𝓛 (ShrRef (named 1) ι B) (MutRef (named 1) ι V) k v (vptr b k.ref_ptr.1) (vptr b v.ref_ptr.1)) $
+    use2 𝓛 (‵ ((Tuple (ShrRef (named 1) ι B ∷ MutRef (named 1) ι V ∷ [])).own_val (k, v) (out ∷ []))) (as_tuple 𝓛 (ShrRef (named 1) ι B) (MutRef (named 1) ι V) k v (vptr b k.ref_ptr.1) (vptr b v.ref_ptr.1)) $
     -- [the references; the tokens; self]
     let Worth : Type 0 = option_map (λ (e : One). e.1) (get_or d.rest 0 None) ≡ Some x.1 in let Rest : Type 0 = ps ≡ drop 1 d.rest in let From : Type 0 = suc d.from ≡ d.from + 1 in let Tie : Type 0 = d.tie ≡ d.tie in
     use0 𝓛 (raw (fact 𝓤 Tie)) (fact_i 𝓤 Tie (emp 𝓤) refl) $ use0 𝓛 (raw (fact 𝓤 From)) (fact_i 𝓤 From (emp 𝓤) (omega arith)) $ join ! $ use0 𝓛 (raw (fact 𝓤 Rest)) (fact_i 𝓤 Rest (emp 𝓤) (ap (drop 1) (sym cut.2))) $ join ! $

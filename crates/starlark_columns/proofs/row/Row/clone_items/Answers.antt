@@ -1,7 +1,8 @@
 use Rattle.std.proofs.Common.{[], length, get_or, sym, ap, subst, refl, ◌∙◌, arith}
 use Rattle.std.specs.List.{AllZip}
 use Rattle.starlark_columns.specs.Cells.{items_of}
-use Rattle.starlark_columns.proofs.Fronts.{cloned_more, none_at_front, front_empties}
+use Rattle.starlark_columns.proofs.Fronts.{none_at_front, front_empties}
+use Rattle.std.proofs.lemmas.List.Elements.{all_zip_more}
 use Rattle.starlark_columns.proofs.row.Row.clone_items.Goals as goal
 
 pub loop-made-init : goal.loop-made-init
@@ -13,6 +14,7 @@ loop-made-preserved g c = let at = c.loop-made in let put = c.push_last.ensures 
     let here = c.index-items-made.is ∙ ap (λ l. get_or l at.made item) c.items-items.ensures in (
       put.front,
       put.cells ∙ at.invariant.1,
-      cloned_more g.T.Clone.is_clone (items_of c.args.self.now.cells) (items_of at.to.cells) (items_of c.push_last.new.self.cells) item c.in-Ok.item at.made (omega (arith, c.loop-made-test.true, c.requires.front.count)) here put.items at.invariant.2 c.in-Ok.ensures.cases,
+      rw put.items (all_zip_more g.T.Clone.is_clone (items_of c.args.self.now.cells) (items_of at.to.cells) at.made item c.in-Ok.item
+          (omega (arith, c.loop-made-test.true, c.requires.front.count)) here at.invariant.2 c.in-Ok.ensures.cases),
       put.at ∙ at.invariant.3,
     )

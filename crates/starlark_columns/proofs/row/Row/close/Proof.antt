@@ -4,7 +4,7 @@ use Rattle.core.proofs.slots.Slots.into_raw_parts.Met as callee
 use Rattle.starlark_columns.specs.Ownership.{row_owned}
 use Rattle.starlark_columns.specs.Slots.{cells_of, emptied}
 use Rattle.starlark_columns.proofs.Memory.{Row, of_slots, empties_run, cells_count, emptied_count}
-use Rattle.starlark_columns.proofs.RowCalls.{Breaks, at_breaks, breaks_asks, breaks_gives, row_told, row_good, parts_typed}
+use Rattle.starlark_columns.proofs.RowCalls.{Breaks, at_breaks, breaks_asks, breaks_gives, row_told, row_good, row_typed}
 use Rattle.starlark_columns.specs.contracts.row.Row as row
 use Rattle.starlark_columns.specs.contracts.row.Row.close.{ended, clauses}
 use Rattle.starlark_columns.specs.contracts.row.Row.close.Key as key
@@ -37,7 +37,7 @@ close_spec 𝓤 𝓛 𝓜 𝓡 wired X L =
     move ! (0 ∷ 6 ∷ []) $ use2 𝓛 (raw ((Breaks E 𝓛 𝓜.mem 𝓡.returns).pre t)) (breaks_asks E 𝓛 𝓜.mem 𝓡.returns ι w r b o lives) $
     calls_at_last ! (framed 𝓤 H 𝓜 𝓣) (Breaks E 𝓛 𝓜.mem 𝓡.returns) met t (and_then ! (get ! refl) (no_more !)) (λ v.
     use1 𝓛 (later (given (v ≡ row_val b o n) (‵ (slots (R E) (block_ptr b o) xs fs) ⊛ ‵ (flft ι w)))) (breaks_gives E 𝓛 𝓜.mem 𝓡.returns ι w r b o v at) $ await ! tt $ learn ! (λ got. split ! $
-    lands_last ! refl (parts_typed v b o n got word) $ exec ! 𝓣.C 𝓣.Λ Ev (after 1 fn.body) (at_ret Ev Post) $ sets ! (is ! (of_opd ! (get ! refl)) got) refl (tt, words) $ sets ! (of_opd ! (unit_lit !)) refl (tt, tt) $
+    lands_last ! refl (row_typed v b o n got word) $ exec ! 𝓣.C 𝓣.Λ Ev (after 1 fn.body) (at_ret Ev Post) $ sets ! (is ! (of_opd ! (get ! refl)) got) refl (tt, words) $ sets ! (of_opd ! (unit_lit !)) refl (tt, tt) $
     use1 𝓛 (‵ (Row E 𝓛 b o (cells_of xs fs))) (of_slots E 𝓛 b xs fs o) $ use1 𝓛 (‵ (Row E 𝓛 b o cs)) (empties_run E 𝓛 b from to (cells_of xs fs) o) $
     let counts = slots_counts r in let long : length cs ≡ n = emptied_count from to (cells_of xs fs) ∙ cells_count xs fs (sym counts.1 ∙ counts.0) ∙ sym counts.0 in
     flt_i ! (length cs * s) (2 ^ 63) (subst (λ k. k * s < 2 ^ 63) (sym long) small) $ fjoin ! $ rewrite ! 0 (λ (z : Ptr). ‵ (row_owned (R E) z cs)) (sym at ∙ fits.0) refl $

@@ -2,7 +2,7 @@ use Rattle.std.proofs.Common.{◌≡◌, ◌+◌, ◌-◌, ◌++◌, ℕ, take, 
 use mathlib.Core.Logic.{inl, inr, ⊎_elim}
 use Rattle.starlark_columns.specs.Cells.{with_range}
 use Rattle.starlark_columns.proofs.Slotting.{in_filled, at_item, gone, filled_in, run_items, after_count}
-use Rattle.starlark_columns.proofs.Fronts.{front_full, front_filled, front_gone, front_come, front_empties, none_at_front}
+use Rattle.starlark_columns.proofs.Fronts.{front_full, front_filled, front_gone, front_come, none_at_front}
 use Rattle.starlark_columns.proofs.row.Row.move_all.Goals as goal
 
 pub open-slots-requires-clause-any : goal.open-slots-requires-clause-any
@@ -33,7 +33,7 @@ returns-then-len-ne0 g c =
     let come = front_come cs len front c.close-then-len-ne0.new.self.cells ds (none_at_front ds c.requires.empty) c.requires.room (c.close-then-len-ne0.ensures.1
     ∙ filled_in o.items t.items o.filled t.filled ds d (sym o.ok.1 ∙ o.ok.0) long_t flags_t c.open-others.ensures.cells 0 len xs (run.0 ∙ omega arith) (omega (arith, c.requires.room)) items said.filled.0 said.filled.1
     ∙ (λ i. with_range ds 0 (sym less i) (sym run.1 i))) in record {
-      left = (front_empties left (length left) (front_gone cs len front left (c.close.ensures.1 ∙ gone_here))).0;
+      left = front_gone cs len front left (c.close.ensures.1 ∙ gone_here);
       front = come.0;
       items = come.1;
       cells = (

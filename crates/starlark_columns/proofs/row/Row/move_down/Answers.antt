@@ -1,5 +1,5 @@
-use Rattle.std.proofs.Common.{◌≡◌, length, sym, ◌∙◌, arith, rules}
-use Rattle.starlark_columns.proofs.Slotting.{in_filled, at_item, down, stays_down}
+use Rattle.std.proofs.Common.{◌≡◌, length, sym, ◌∙◌, arith}
+use Rattle.starlark_columns.proofs.Slotting.{in_filled, at_item, down}
 use Rattle.starlark_columns.proofs.row.Row.move_down.Goals as goal
 
 pub open-slots-requires-clause-any : goal.open-slots-requires-clause-any
@@ -21,6 +21,3 @@ returns-then-from-end-clause-cells g c =
     let long_ys : length s.items ≡ length r.items = sym s.ok.0 ∙ same ∙ r.ok.0 in let long_gs : length s.filled ≡ length r.items = sym s.ok.1 ∙ same ∙ r.ok.0 in
     c.close.ensures.1 ∙ down r.items s.items r.filled s.filled c.args.self.now.cells d (sym r.ok.1 ∙ r.ok.0) long_ys long_gs c.open-slots.ensures.cells c.args.from c.args.end c.args.to c.requires.items c.requires.gap
     (λ k lt. said.moved k d lt) (λ k out. said.items d k out) said.filled.0 said.filled.1
-
-pub returns-else-from-end-clause-cells : goal.returns-else-from-end-clause-cells
-returns-else-from-end-clause-cells g c = stays_down c.args.self.now.cells c.args.from c.args.end c.args.to (search rules) c.requires.gap

@@ -41,7 +41,7 @@ open_spec 𝓤 𝓛 𝓜 𝓡 wired X L =
     calls_at_last ! (framed 𝓤 H 𝓜 𝓣) (Makes E 𝓛 𝓜.mem 𝓡.returns) met t (and_then ! (get_in ! (fld ! refl (stop !)) (sub ! 0 refl (whole !))) (and_then ! (get ! refl) (no_more !))) (λ v.
     use1 𝓛 (later (some (λ (x : Slot.Denot). given ((v ≡ row_val b o n) × IsMade E 𝓛 𝓜.mem 𝓡.returns ι r b o n xs fs x) (‵ (Slot.own_val x (row_val b o n ∷ [])) ⊛ ‵ (flft ι r)))))
     (makes_gives E 𝓛 𝓜.mem 𝓡.returns ι r b o n xs fs v) $ await ! tt $ pick ! (λ x. learn ! (λ got. split ! $ let made = got.1 in
-    lands_last ! refl (row_typed E v b o n got.0 word_n) $ exec ! 𝓣.C 𝓣.Λ Ev (after 1 fn.body) (at_ret Ev Post) $ sets ! (is ! (of_opd ! (get ! refl)) got.0) refl (tt, words) $
+    lands_last ! refl (row_typed v b o n got.0 word_n) $ exec ! 𝓣.C 𝓣.Λ Ev (after 1 fn.body) (at_ret Ev Post) $ sets ! (is ! (of_opd ! (get ! refl)) got.0) refl (tt, words) $
     -- [the slots; the item's token; the mark; the cell, the open borrow and its names]
     move ! (2 ∷ []) $ nothing ! $ flt_i ! (0 * s) (2 ^ 63) (subst (λ k. k < 2 ^ 63) (sym (zero-mul s)) (lit< tt)) $ fjoin ! $ rewrite ! 0 (λ (z : Ptr). ‵ (row_owned (R E) z [])) (sym at) refl $
     move ! (1 ∷ 0 ∷ []) $ fjoin ! $ move ! (3 ∷ 0 ∷ 4 ∷ 5 ∷ 6 ∷ []) $ closes ! tt Own left vs rb ro $ returns ! (look_at ! 0 refl) $ free_all ! refl $

@@ -1,8 +1,5 @@
-use Rattle.starlark_columns.proofs.Fronts.{front_free, front_pushed}
+use Rattle.starlark_columns.proofs.Fronts.{front_pushed}
 use Rattle.starlark_columns.proofs.row.Row.push_last.Goals as goal
-
-pub write-requires-clause-empty : goal.write-requires-clause-empty
-write-requires-clause-empty g c = (c.requires.room, front_free c.args.self.now.cells c.args.len c.requires.front)
 
 pub returns-clause-front : goal.returns-clause-front
 returns-clause-front g c = (front_pushed c.args.self.now.cells c.args.len c.requires.front c.write.new.self.cells c.args.item c.requires.room c.write.ensures.cells).0

@@ -1,4 +1,4 @@
-use Rattle.starlark_columns.proofs.Fronts.{front_filled, front_taken, rest_filled, gap_empty, front_removed}
+use Rattle.starlark_columns.proofs.Fronts.{front_filled, front_taken, rest_filled, front_removed}
 use Rattle.starlark_columns.proofs.row.Row.remove_at.Goals as goal
 
 pub take-item-requires-clause-filled : goal.take-item-requires-clause-filled
@@ -6,9 +6,6 @@ take-item-requires-clause-filled g c = front_filled c.args.self.now.cells c.args
 
 pub move_down-requires-clause-items : goal.move_down-requires-clause-items
 move_down-requires-clause-items g c = rest_filled c.args.self.now.cells c.args.len c.requires.front c.args.index c.requires.within c.take-item.new.self.cells c.take-item.ensures.cells
-
-pub move_down-requires-clause-gap : goal.move_down-requires-clause-gap
-move_down-requires-clause-gap g c = gap_empty c.args.self.now.cells c.args.len c.requires.front c.args.index c.requires.within c.take-item.new.self.cells c.take-item.ensures.cells
 
 pub returns-clause-taken : goal.returns-clause-taken
 returns-clause-taken g c = front_taken c.args.self.now.cells c.args.len c.requires.front c.args.index c.requires.within c.take-item.result c.take-item.ensures.value

@@ -1,8 +1,5 @@
-use Rattle.starlark_columns.proofs.Betweens.{first_filled, first_taken}
+use Rattle.starlark_columns.proofs.Betweens.{first_taken}
 use Rattle.starlark_columns.proofs.row.Row.take_first_between.Goals as goal
-
-pub take-requires-clause-filled : goal.take-requires-clause-filled
-take-requires-clause-filled g c = first_filled c.args.self.now.cells c.args.from c.args.to c.requires.between c.requires.some
 
 pub returns-clause-between : goal.returns-clause-between
 returns-clause-between g c = (first_taken c.args.self.now.cells c.args.from c.args.to c.requires.between c.requires.some c.take.new.self.cells c.take.result c.take.ensures.cells c.take.ensures.value).0

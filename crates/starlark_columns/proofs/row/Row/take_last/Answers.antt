@@ -1,9 +1,6 @@
 use Rattle.std.proofs.Common.{◌+◌, refl, arith}
-use Rattle.starlark_columns.proofs.Fronts.{front_filled, last_taken}
+use Rattle.starlark_columns.proofs.Fronts.{last_taken}
 use Rattle.starlark_columns.proofs.row.Row.take_last.Goals as goal
-
-pub take-requires-clause-filled : goal.take-requires-clause-filled
-take-requires-clause-filled g c = front_filled c.args.self.now.cells (c.args.last + 1) c.requires.front c.args.last (omega arith)
 
 pub returns-clause-front : goal.returns-clause-front
 returns-clause-front g c = (last_taken c.args.self.now.cells (c.args.last + 1) c.requires.front c.args.last (omega arith) c.take.new.self.cells c.take.ensures.cells c.take.result refl c.take.ensures.value).0
