@@ -6,7 +6,7 @@
 use Rattle.starlark_columns.proofs.Walking.{◌≡◌, refl, sym, ap, subst, ◌∙◌, ℕ, zero, suc, ◌+◌, ◌*◌, ◌<◌, ◌≤◌, suc-mul, arith, List, [], ◌∷◌, ◌++◌, length, length-append, Ura, Lifetime, Val, vptr, vstruct, vcons, vnil, full_share, SProp, ent, sep, emp, wand, id⊢, all_e, apply∗, Lft, GName, Share, Fml, Incl, Incl-refl, ftrue, fseps, flft, fobs, fbor, coded_list, size, align, up, Item, ‵, raw, ◌⊛◌, some, later, mean, ◌$◌, ◌∵◌, !, qed, by, move, keep, drop, use0, use1, use2, split, split3, pick, fsplit, fsplit3, fjoin, fjoin3, fpack, feq_i, feq_l, rewrite, group, await, updating, now, show, done, Logic, sem, cells, Arr, Body, open_ref, after₂, takes_part, takes_two, takes_beside, Array, follows, heres_id, mem, lone, part_at, part_of, hide, param, Laws, param_laws, RattleType, Denots, Valss, MutRef, ShrRef, MutSlice, nothing, lawfuls, Member, rows_of, parts_at, shape_of, PartsBack, Struct-parts, Struct, within, Tuple, tuple_type, parts_loose, at, at_mul, cut_app, join_app, add_times, inl, inr, ◌⊎◌}
 use types.Follow.{after}
 use denote.Struct.Declared.{shape}
-use Rattle.std.specs.Prelude.{Option}
+use Rattle.starlark_hash.proofs.Common.{Option}
 use Rattle.starlark_columns.specs.Cells.{items_of}
 use Rattle.starlark_columns.specs.Front.{IsFront, with_items}
 use Rattle.starlark_columns.proofs.Fronts.{all_written}

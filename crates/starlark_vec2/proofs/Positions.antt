@@ -1,75 +1,55 @@
 -- What sorted positions say of the items that stand there, and a comparator of items behind one of positions.
-use Rattle.std.proofs.Common.{◌≡◌, ℕ, suc, ◌+◌, ◌<◌, Bool, true, false, List, [], ◌∷◌, ◌++◌, map, length, get_or, slice_get, Option, Some, None, unwrap_or, refl, sym, ap, subst, ◌∙◌, arith}
-use Rattle.std.specs.Borrow.{Bor}
-use Rattle.std.specs.Fn.{Mut, Takes, Called, ReturnsEach, ComparesAs}
-use Rattle.std.specs.Cmp.{IsStrictWeakOrder}
-use Rattle.std.specs.List.{range_with_len, Contains}
-use Rattle.std.specs.List.Sorted.{IsPermutation, IsSortedBy, IsStableBy}
-use Rattle.std.specs.Map.Iter.{deref_pair}
-use Rattle.std.specs.Ordering.{is_lt}
-use Rattle.std.specs.declared.cmp.Ordering.{Ordering}
-use Rattle.std.proofs.lemmas.List.{map-id}
-use Rattle.std.proofs.lemmas.List.FromFn.{get_or-range_with_len, length-range_with_len, map-range_with_len_more}
-use Rattle.std.proofs.lemmas.List.Sorted.{IsPermutation-map, IsPermutation-refl, length_permutation}
-use Rattle.std.proofs.lemmas.Option.{slice_get-get_or, slice_get_within, get_or_from_slice_get}
+use Rattle.starlark_hash.proofs.Common.{◌≡◌, ℕ, suc, ◌+◌, ◌<◌, Bool, true, false, List, [], ◌∷◌, ◌++◌, map, length, get_or, slice_get, Option, Some, refl, sym, ap, subst, ◌∙◌, arith, Bor, Mut, Takes, Called, IsStrictWeakOrder, range_with_len, Contains, IsSortedBy, IsStableBy, deref_pair, is_lt, Ordering, map-id, get_or-range_with_len, length-range_with_len, IsPermutation-map, IsPermutation-refl, length_permutation, slice_get-get_or, slice_get_within, get_or_from_slice_get}
+use Rattle.std.proofs.Common.{unwrap_or}
+use Rattle.std.specs.Fn.{ReturnsEach, ComparesAs}
+use Rattle.std.specs.List.Sorted.{IsPermutation}
+use Rattle.std.proofs.lemmas.Simd.{map-map}
+use Rattle.std.proofs.lemmas.List.FromFn.{map-range_with_len_more}
 use Rattle.starlark_hash.specs.Sort.{sorted_by}
 use Rattle.starlark_vec2.specs.Sort.{PairRef, ComparesPairs, CanCompare, ComparesPairsAs, option_lt, lt_at, PutsInOrder, ComparesOptions, ComparesAt}
-use Rattle.starlark_vec2.proofs.OneSortedList.{sorted_by-unique, sorted_by-map}
+use Rattle.starlark_hash.proofs.SortingLemmas.{sorted_by-unique}
+use Rattle.starlark_vec2.proofs.OneSortedList.{sorted_by-map}
 
 module _ {X : Type 0} where
   -- from what stands at each index
   pub PutsInOrder-from_indices : (xs : List X) (order : List ℕ) (ys : List X) → length ys ≡ length order
       → ((k : ℕ) → k < length ys → get_or order k 0 < length xs) → ((k : ℕ) (d : X) → k < length ys → get_or ys k d ≡ get_or xs (get_or order k 0) d) → PutsInOrder xs order ys
   PutsInOrder-from_indices xs [] [] e within at = refl
-  PutsInOrder-from_indices xs [] (y ∷ ys) e within at = absurd (omega arith)
-  PutsInOrder-from_indices xs (i ∷ order) [] e within at = absurd (omega arith)
   PutsInOrder-from_indices xs (i ∷ order) (y ∷ ys) e within at =
-      let here : Some y ≡ slice_get xs i = ap Some (at 0 y (omega arith)) ∙ sym (slice_get-get_or xs i y (within 0 (omega arith))) in
       let rest = PutsInOrder-from_indices xs order ys (omega arith) (λ k lt. within (suc k) (omega arith)) (λ k d lt. at (suc k) d (omega arith)) in
-      λ j. here j ∷ rest j
+      cc (at 0 y (omega arith), slice_get-get_or xs i y (within 0 (omega arith)))
+  PutsInOrder-from_indices xs order ys e within at = absurd (omega arith)
 
   map_slice_get-all : (xs : List X) → map Some xs ≡ map (slice_get xs) (range_with_len 0 (length xs))
   map_slice_get-all xs =
-      let at = λ (k : ℕ) (lt : k < length xs). get_or-range_with_len 0 (length xs) k 0 lt in
       PutsInOrder-from_indices xs (range_with_len 0 (length xs)) xs (sym (length-range_with_len 0 (length xs)))
-      (λ k lt. omega (arith, at k lt)) (λ k d lt. let e : k ≡ get_or (range_with_len 0 (length xs)) k 0 = omega (arith, at k lt) in ap (λ n. get_or xs n d) e)
+      (λ k lt. grind (arith, get_or-range_with_len)) (λ k d lt. grind (arith, get_or-range_with_len))
 
   unwrap-somes : (d : X) (xs : List X) → map (λ o. unwrap_or o d) (map Some xs) ≡ xs
-  unwrap-somes d [] = refl
-  unwrap-somes d (x ∷ xs) = ap (λ l. x ∷ l) (unwrap-somes d xs)
+  unwrap-somes d xs = map-map (λ o. unwrap_or o d) Some xs ∙ map-id xs
 
   same_somes : (xs ys : List X) → map Some xs ≡ map Some ys → xs ≡ ys
   same_somes [] [] e = refl
-  same_somes [] (y ∷ ys) e = cc
-  same_somes (x ∷ xs) [] e = cc
-  same_somes (x ∷ xs) (y ∷ ys) e =
-      let rest : map Some xs ≡ map Some ys = cc in
-      let first : x ≡ y = cc in
-      let tail = same_somes xs ys rest in
-      λ j. first j ∷ tail j
+  same_somes (x ∷ xs) (y ∷ ys) e = cc (same_somes xs ys (cc))
+  same_somes xs ys e = cc
 
   from_somes : (xs ys : List X) → IsPermutation (map Some xs) (map Some ys) → IsPermutation xs ys
   from_somes [] [] p = IsPermutation-refl []
-  from_somes [] (y ∷ ys) p = absurd (omega (arith, length_permutation _ _ p))
-  from_somes (x ∷ xs) ys p =
-      subst (λ l. IsPermutation l ys) (unwrap-somes x (x ∷ xs)) (subst (IsPermutation (map (λ o. unwrap_or o x) (map Some (x ∷ xs)))) (unwrap-somes x ys) (IsPermutation-map (λ o. unwrap_or o x) _ _ p))
+  from_somes (x ∷ xs) ys p = rw (unwrap-somes x (x ∷ xs), unwrap-somes x ys) at (IsPermutation-map (λ o. unwrap_or o x) _ _ p)
+  from_somes xs ys p = absurd (omega (arith, length_permutation _ _ p))
 
   -- items put in an order of all positions are rearranged
   pub IsPermutation-from_order : (xs : List X) (order : List ℕ) (ys : List X) → IsPermutation (range_with_len 0 (length xs)) order → PutsInOrder xs order ys → IsPermutation xs ys
-  IsPermutation-from_order xs order ys p puts =
-      from_somes xs ys (subst (λ l. IsPermutation l (map Some ys)) (sym (map_slice_get-all xs)) (subst (IsPermutation (map (slice_get xs) (range_with_len 0 (length xs)))) (sym puts) (IsPermutation-map (slice_get xs) _ _ p)))
+  IsPermutation-from_order xs order ys p puts = from_somes xs ys (rw (map_slice_get-all xs, puts) (IsPermutation-map (slice_get xs) _ _ p))
 
   module _ (lt : X → X → Bool) (o : IsStrictWeakOrder lt) where
     option_one_way : (x y : Option X) → option_lt lt x y ≡ true → option_lt lt y x ≡ false
     option_one_way (Some x) (Some y) h = o.one_way x y h
-    option_one_way (Some x) None h = refl
-    option_one_way None y h = cc
+    option_one_way x y h = cc
 
     option_chain : (x y z : Option X) → option_lt lt x y ≡ false → option_lt lt y z ≡ false → option_lt lt x z ≡ false
     option_chain (Some x) (Some y) (Some z) h k = o.chain x y z h k
-    option_chain (Some x) (Some y) None h k = cc
-    option_chain (Some x) None z h k = cc
-    option_chain None y z h k = refl
+    option_chain x y z h k = cc
 
     pub lt_at-weak : (xs : List X) → IsStrictWeakOrder (lt_at lt xs)
     lt_at-weak xs = record { one_way = λ i j. option_one_way (slice_get xs i) (slice_get xs j); chain = λ i j k. option_chain (slice_get xs i) (slice_get xs j) (slice_get xs k) }
@@ -98,8 +78,7 @@ module _ {F G A B : Type 0} (g : Mut F (PairRef A B × (PairRef A B × Unit {0})
   asked f (Some x) (Some y) r f2 k h =
       let a : PairRef A B × (PairRef A B × Unit {0}) = (k.left, (k.right, tt)) in
       ((h (a ∷ []) r f2 k.called).0 ∙ (λ j. lt (k.shows_left j) (k.shows_right j)), λ us. (h (a ∷ us) r f2 k.called).1)
-  asked f (Some x) None r f2 k h = (ap is_lt k.0, subst (λ f3. (us : List (PairRef A B × (PairRef A B × Unit {0}))) → Each f3 us) (sym k.1) h)
-  asked f None y r f2 k h = (ap is_lt k.0, subst (λ f3. (us : List (PairRef A B × (PairRef A B × Unit {0}))) → Each f3 us) (sym k.1) h)
+  asked f x y r f2 k h = (ap is_lt k.0, subst (λ f3. (us : List (PairRef A B × (PairRef A B × Unit {0}))) → Each f3 us) (sym k.1) h)
 
   answers_each : (s : G) → pairs s ≡ ps → ((us : List (PairRef A B × (PairRef A B × Unit {0}))) → Each (state s) us) → (xs : List (Bor ℕ × (Bor ℕ × Unit {0}))) → Answers s xs
   unfolding Answers
@@ -129,8 +108,7 @@ module _ {F A B : Type 0} (g : Mut F (PairRef A B × (PairRef A B × Unit {0})) 
       by : (x y : Option (A × B)) → x ≡ slice_get ps i → y ≡ slice_get ps j → ComparesOptions g f x y r f2 → CanCompare g ps f → CanCompare g ps f2
       by (Some x) (Some y) at at' c can =
           record { at = λ before later u v told. can.at ((x, y) ∷ before) later u v (f2, (Contains-from_index ps i x at, Contains-from_index ps j y at', r, c), told) }
-      by (Some x) None at at' c can = subst (CanCompare g ps) (sym c.1) can
-      by None y at at' c can = subst (CanCompare g ps) (sym c.1) can
+      by x y at at' c can = subst (CanCompare g ps) (sym c.1) can
 
 -- a call at the pairs that stand at two positions
 pub compares_at : {F A B : Type 0} (g : Mut F (PairRef A B × (PairRef A B × Unit {0})) Ordering) (ps : List (A × B)) (f : F) (i j : ℕ) (x y : A × B) (r : Ordering) (f2 : F)
@@ -139,9 +117,8 @@ compares_at g ps f i j x y r f2 p q h = subst (λ t. t) (λ k. ComparesOptions g
 
 -- one more position
 pub range_with_len-more : (a n : ℕ) → range_with_len a (n + 1) ≡ range_with_len a n ++ (a + n) ∷ []
-range_with_len-more a n = sym (map-id (range_with_len a (n + 1))) ∙ map-range_with_len_more (λ i. i) a n (a + n) refl ∙ ap (λ l. l ++ (a + n) ∷ []) (map-id (range_with_len a n))
+range_with_len-more a n = grind (arith, map-id, map-range_with_len_more (λ i. i) a n (a + n))
 
 pub sorted_by-short : {X : Type 0} (lt : X → X → Bool) (xs : List X) → length xs < 2 → xs ≡ sorted_by lt xs
-sorted_by-short lt [] h = refl
-sorted_by-short lt (x ∷ []) h = refl
 sorted_by-short lt (x ∷ y ∷ xs) h = absurd (omega arith)
+sorted_by-short lt xs h = refl

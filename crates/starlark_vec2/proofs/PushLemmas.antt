@@ -1,5 +1,5 @@
 -- Reservations and pushes of a list of pairs.
-use Rattle.std.proofs.Common.{◌≡◌, ℕ, ◌≤◌, List, [], ◌∷◌, ◌++◌, refl, arith}
+use Rattle.starlark_hash.proofs.Common.{◌≡◌, ℕ, ◌≤◌, List, [], ◌∷◌, ◌++◌, refl, arith}
 use Rattle.starlark_vec2.specs.PairList.{PairList}
 use Rattle.starlark_vec2.specs.Growth.{reserved_capacity, push, push_all}
 

@@ -1,8 +1,6 @@
 -- A list of pairs on two columns, before a call on a column and after it.
-use Rattle.std.proofs.Common.{◌≡◌, ℕ, zero, suc, ◌-◌, ◌<◌, List, [], ◌∷◌, length, zip, slice_get, slice_set, Option, Some, refl, sym, ap, subst, ◌∙◌, arith}
+use Rattle.starlark_hash.proofs.Common.{◌≡◌, ℕ, suc, ◌<◌, List, ◌∷◌, length, zip, slice_get, slice_set, Option, Some, refl, sym, ap, subst, ◌∙◌, arith, Global}
 use lib.ListN.{length-set}
-use Rattle.std.specs.List.{refill}
-use Rattle.std.specs.declared.alloc.Global.{Global}
 use Rattle.starlark_columns.specs.Block.{IsBlockOf}
 use Rattle.starlark_columns.specs.declared.row.Row.{Row}
 use Rattle.starlark_columns.specs.Cells.{items_of}
@@ -13,7 +11,8 @@ use Rattle.starlark_columns.proofs.Fronts.{written_front, written_items, written
 use Rattle.starlark_vec2.specs.Columns.{AreColumns}
 use Rattle.starlark_vec2.specs.PairList.{PairList, pair_list, with_pairs, firsts_of}
 use Rattle.starlark_vec2.specs.Lend.{with_pair, set_firsts, set_first_at}
-use Rattle.starlark_vec2.proofs.Pairs.{length-zip, firsts_of-zip, seconds_of-zip, zip-set_first, zip-set}
+use Rattle.std.proofs.lemmas.Slice.Zip.{length-zip, firsts-zip, seconds-zip}
+use Rattle.starlark_vec2.proofs.Pairs.{zip-set_first, zip-set}
 
 module _ {A B : Type 0} where
   -- rows that lie where two of a block lay, with as many cells
@@ -22,10 +21,8 @@ module _ {A B : Type 0} where
 
   -- the pair at an index of both columns
   pub slice_get-zip_both : (xs : List A) (ys : List B) (i : ℕ) (x : A) (y : B) → slice_get xs i ≡ Some x → slice_get ys i ≡ Some y → slice_get (zip xs ys) i ≡ Some (x, y)
-  slice_get-zip_both [] ys i x y e f = absurd (cc e)
-  slice_get-zip_both (z ∷ xs) [] i x y e f = absurd (cc f)
-  slice_get-zip_both (z ∷ xs) (w ∷ ys) zero x y e f = let p : z ≡ x = cc e in let q : w ≡ y = cc f in λ j. Some (p j, q j)
   slice_get-zip_both (z ∷ xs) (w ∷ ys) (suc i) x y e f = slice_get-zip_both xs ys i x y e f
+  slice_get-zip_both xs ys i x y e f = cc
 
   -- the list that is seen where the columns are these
   abbrev pub seen : List (Option A) → List (Option B) → PairList A B
@@ -36,7 +33,7 @@ module _ {A B : Type 0} where
     even_items = at.firsts_front.count ∙ sym at.seconds_front.count
 
     pub pairs_count : length (zip (items_of cs) (items_of ds)) ≡ n
-    pairs_count = length-zip (items_of cs) (items_of ds) even_items ∙ at.firsts_front.count
+    pairs_count = omega (arith, length-zip (items_of cs) (items_of ds), even_items, at.firsts_front.count)
 
     -- after a `&mut` to all items of a column has ended
     pub firsts_written : (ws : List A) → AreColumns (with_items cs ws) ds n
@@ -50,16 +47,16 @@ module _ {A B : Type 0} where
     both_seen ws us p q = λ j. pair_list (zip (all_written cs n at.firsts_front ws p j) (all_written ds n at.seconds_front us q j)) (written_cells cs n at.firsts_front ws j)
 
     firsts_view : (ws : List A) → seen (with_items cs ws) ds ≡ with_pairs (seen cs ds) (set_firsts (zip (items_of cs) (items_of ds)) ws)
-    firsts_view ws = let xs = items_of cs in let ys = items_of ds in
-        (λ j. pair_list (zip (written_items cs n at.firsts_front ws j) ys) (written_cells cs n at.firsts_front ws j))
-        ∙ (λ j. pair_list (zip (refill (sym (length-zip xs ys even_items) j) (sym (firsts_of-zip xs ys even_items) j) ws) (sym (seconds_of-zip xs ys even_items) j)) (length cs))
+    firsts_view ws =
+        let long : length (zip (items_of cs) (items_of ds)) ≡ length (items_of cs) = omega (arith, length-zip (items_of cs) (items_of ds), even_items) in
+        cc (written_items cs n at.firsts_front ws, written_cells cs n at.firsts_front ws, firsts-zip (items_of cs) (items_of ds) (sym even_items), seconds-zip (items_of cs) (items_of ds) (sym even_items))
 
     module _ (v : PairList A B) (is : seen cs ds ≡ v) where
       pub firsts_end : (ws : List A) → seen (with_items cs ws) ds ≡ with_pairs v (set_firsts v.pairs ws)
       firsts_end ws = firsts_view ws ∙ ap (λ w. with_pairs w (set_firsts w.pairs ws)) is
 
       pub firsts_are : (xs : List A) → xs ≡ items_of cs → xs ≡ firsts_of v.pairs
-      firsts_are xs e = e ∙ sym (firsts_of-zip (items_of cs) (items_of ds) even_items) ∙ ap (λ w. firsts_of w.pairs) is
+      firsts_are xs e = cc (firsts-zip (items_of cs) (items_of ds) (sym even_items))
 
       pub len_is : length v.pairs ≡ n
       len_is = sym (ap (λ w. length w.pairs) is) ∙ pairs_count
@@ -96,6 +93,3 @@ module _ {A B : Type 0} where
   module _ (cs : List (Option A)) (ds : List (Option B)) (from to : ℕ) (at : IsBetween cs from to × IsBetween ds from to) where
     pub between_even : length (items_of cs) ≡ length (items_of ds)
     between_even = at.0.count ∙ sym at.1.count
-
-    pub between_count : length (zip (items_of cs) (items_of ds)) ≡ to - from
-    between_count = length-zip (items_of cs) (items_of ds) between_even ∙ at.0.count

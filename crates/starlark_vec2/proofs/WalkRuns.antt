@@ -1,5 +1,5 @@
 -- A walk that has a list left shows that list.
-use Rattle.std.proofs.Common.{◌≡◌, List, zip, subst, ◌∙◌}
+use Rattle.starlark_hash.proofs.Common.{◌≡◌, List, zip, subst, ◌∙◌}
 use Rattle.std.specs.Iterator.Runs.{ItemsMapTo, ItemsMapToReversed}
 use Rattle.std_collections.proofs.IterRuns.{shows_in_order, shows_in_reverse}
 use Rattle.starlark_vec2.specs.PairList.{firsts_of, seconds_of}

@@ -162,7 +162,7 @@ impl<A, B> Vec2<A, B> {
     }
 
     /// The pair at this index. Rust's is unsafe; here the index is proved to be within the length.
-    #[tactic(auto, using(crate::proofs::Pairs::columns))]
+    #[tactic(auto, using(crate::proofs::Pairs::columns, crate::proofs::TwoColumns::pair_is))]
     #[inline]
     pub fn get_unchecked(&self, index: usize) -> (&A, &B)
         requires { index < length self.now.pairs }
@@ -365,7 +365,7 @@ impl<A: Drop, B: Drop> Vec2<A, B> {
     }
 
     /// Drops the pairs from this index on. At or above the length nothing is dropped. The capacity stays.
-    #[tactic(auto, using(crate::proofs::Pairs::columns))]
+    #[tactic(auto, using(crate::proofs::Pairs::columns, std::proofs::lemmas::List::take_all))]
     #[inline]
     pub fn truncate(&mut self, len: usize)
         ensures { self.new ≡ with_pairs self.old (take len self.old.pairs) }

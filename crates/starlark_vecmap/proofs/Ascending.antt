@@ -1,12 +1,6 @@
 -- Lists that ascend between two indices.
-use Rattle.std.proofs.Common.{◌≡◌, ℕ, ◌+◌, ◌<◌, ◌≤◌, Bool, true, false, List, length, get_or, refl, sym, ◌∙◌, ap, inl, inr, arith}
-use Rattle.std.proofs.lemmas.Bool.{cases_lt, false≢true}
-use Rattle.std.proofs.lemmas.List.{get_or_default}
-use Rattle.std.specs.Prelude.{MatchBool, ◌||◌, ◌==◌, not}
-use Rattle.std.specs.List.Sorted.{IsSortedWithin}
-use Rattle.std.specs.Ordering.{is_lt, ordering_index}
-use Rattle.std.specs.declared.cmp.Ordering.{Ordering}
-use Rattle.std.specs.declared.cmp.Ordering.TheVariants.{Less, Equal, Greater}
+use Rattle.starlark_hash.proofs.Common.{◌≡◌, ℕ, ◌+◌, ◌<◌, ◌≤◌, Bool, true, false, List, length, get_or, refl, sym, ◌∙◌, ap, inl, inr, arith, cases_lt, false≢true, get_or_default, MatchBool, ◌||◌, ◌==◌, not, IsSortedWithin, is_lt, Ordering, Less, Equal, Greater}
+use Rattle.std.specs.Ordering.{ordering_index}
 
 -- the test that an order is `Less`, as code writes it
 is_lt-index : (o : Ordering) → (ordering_index o == 0) ≡ is_lt o
@@ -46,10 +40,7 @@ module _ {X : Type 0} (lt : X → X → Bool) (xs : List X) where
   -- the element x stands at an index of the list and y behind it
   module _ (low at : ℕ) (x y : X) (within : at + 1 < length xs) (first : x ≡ get_or xs at x) (second : y ≡ get_or xs (at + 1) y) where
     shown : (k : ℕ) (d : X) → k ≡ at → lt (get_or xs (k + 1) d) (get_or xs k d) ≡ lt y x
-    shown k d is =
-        let one = ap (λ n. get_or xs (n + 1) d) is ∙ get_or_default xs (at + 1) d y within ∙ sym second in
-        let other = ap (λ n. get_or xs n d) is ∙ get_or_default xs at d x (omega arith) ∙ sym first in
-        λ j. lt (one j) (other j)
+    shown k d is = grind (arith, get_or_default xs (at + 1) d y within, get_or_default xs at d x)
 
     further : (to : ℕ) → to ≡ at + 2 → lt y x ≡ false → IsSortedWithin lt xs low (at + 1) → IsSortedWithin lt xs low to
     further to end rises all k d above below =

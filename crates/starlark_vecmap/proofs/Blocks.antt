@@ -1,52 +1,28 @@
 -- The first index at which a list passes a test, as the mask of its first block shows it.
-use Rattle.std.proofs.Common.{◌≡◌, ◌≢◌, ℕ, zero, suc, ◌+◌, ◌*◌, ◌/◌, ◌^◌, ◌<◌, ◌≤◌, Bool, true, false, not, cond, List, [], ◌∷◌, ◌++◌, Some, None, length, drop, map, arith, rules, ap, sym, ◌∙◌}
-use Rattle.std.proofs.lemmas.List.{drop-drop, length-drop}
+use Rattle.starlark_hash.proofs.Common.{◌≡◌, ◌≢◌, ℕ, zero, suc, ◌+◌, ◌/◌, ◌^◌, ◌<◌, ◌≤◌, Bool, not, List, [], ◌∷◌, ◌++◌, Some, None, length, drop, map, arith, rules, refl, ap, sym, ◌∙◌, nat_tests, drop-drop, length-drop, leading_from_mask_l, count_trailing_zeros, position_or_len, position, option_map, mask_l}
 use Rattle.std.proofs.lemmas.List.Folds.{prefix_len-append}
-use Rattle.std.proofs.lemmas.Simd.{leading_from_mask_l, trailing_mask_l}
-use Rattle.std.specs.Int.Count.{count_trailing_zeros}
-use Rattle.std.specs.List.{position_or_len}
-use Rattle.std.specs.Prelude.{position, nat_eq}
-use Rattle.std.specs.Option.{option_map}
-use Rattle.std.specs.Simd.Lanes.{mask_l}
+use Rattle.std.proofs.lemmas.Simd.{trailing_mask_l}
 use Rattle.starlark_vecmap.proofs.Masks.{mask-drop}
-
-passes_by : (b : Bool) (m r l : ℕ) → 0 < cond b 1 0 + 2 * m → (0 < m → r < l) → cond (not b) (1 + r) 0 < suc l
-passes_by true m r l some f = omega arith
-passes_by false m r l some f = omega (arith, f (omega arith))
-
-from_by : (b : Bool) (n r l : ℕ) → suc n ≤ cond (not b) (1 + l) 0 → (n ≤ l → n + r ≡ l) → suc n + r ≡ cond (not b) (1 + l) 0
-from_by true n r l before f = absurd (omega (arith, before))
-from_by false n r l before f = omega (arith, f (omega (arith, before)))
-
-seam_past : (n k r : ℕ) → n ≡ k → cond (nat_eq n k) (k + r) n ≡ k + r
-seam_past n k r is = search rules
-
-seam_within : (n k r : ℕ) → n < k → cond (nat_eq n k) (k + r) n ≡ n
-seam_within n k r less = search rules
 
 module _ {X : Type 0} (p : X → Bool) where
   abbrev first : List X → ℕ
   first = position_or_len p
 
   index_past : (block tail : List X) → first block ≡ length block → first (block ++ tail) ≡ length block + first tail
-  index_past block tail none =
-      prefix_len-append (λ x. not (p x)) block tail
-      ∙ seam_past (first block) (length block) (first tail) none
+  index_past block tail none = grind (arith, nat_tests, prefix_len-append (λ x. not (p x)) block tail)
 
   index_within : (block tail : List X) → first block < length block → first (block ++ tail) ≡ first block
-  index_within block tail some =
-      prefix_len-append (λ x. not (p x)) block tail
-      ∙ seam_within (first block) (length block) (first tail) some
+  index_within block tail some = grind (arith, nat_tests, prefix_len-append (λ x. not (p x)) block tail)
 
   some_passes : (xs : List X) → 0 < mask_l (map p xs) → first xs < length xs
   some_passes [] some = absurd (omega arith)
-  some_passes (x ∷ xs) some = passes_by (p x) (mask_l (map p xs)) (first xs) (length xs) some (some_passes xs)
+  some_passes (x ∷ xs) some = let later = some_passes xs in grind arith
 
   -- a search may begin anywhere before the first index
   pub first_from : (xs : List X) (n : ℕ) → n ≤ first xs → n + first (drop n xs) ≡ first xs
   first_from xs zero before = omega arith
   first_from [] (suc n) before = absurd (omega (arith, before))
-  first_from (x ∷ xs) (suc n) before = from_by (p x) n (first (drop n xs)) (first xs) before (first_from xs n)
+  first_from (x ∷ xs) (suc n) before = let later = first_from xs n in grind arith
 
   pub position_at : (xs : List X) (n : ℕ) → n ≡ first xs → n < length xs → Some n ≡ position p xs
   position_at xs n is less = search rules
@@ -65,7 +41,7 @@ module _ {X : Type 0} (p : X → Bool) where
       set = omega (arith, is)
 
       pub lowest : count_trailing_zeros 64 mask ≡ first block
-      lowest = ap (count_trailing_zeros 64) is ∙ trailing_mask_l p 64 block few set
+      lowest = rw is (trailing_mask_l p 64 block few set)
 
       pub lowest_is : count_trailing_zeros 64 mask ≡ first (block ++ tail)
       lowest_is = lowest ∙ sym (index_within block tail (some_passes block set))
@@ -82,9 +58,6 @@ module _ {X : Type 0} (p : X → Bool) where
     next_nowhere none = ap (option_map (λ s. i + s)) (sym (position_nowhere (drop i xs) (leading_from_mask_l p (drop i xs) (sym is ∙ none))))
 
     module _ (some : mask ≢ 0) where
-      skipped : ℕ
-      skipped = count_trailing_zeros 64 mask
-
       skipped_lt : count_trailing_zeros 64 mask < length (drop i xs)
       skipped_lt = lowest_lt (drop i xs) [] mask (omega (arith, left, few)) is some
 
@@ -94,15 +67,13 @@ module _ {X : Type 0} (p : X → Bool) where
       pub next_index : option_map (λ s. i + s) (position p (drop i xs)) ≡ Some (i + count_trailing_zeros 64 mask)
       next_index =
           let low = lowest (drop i xs) [] mask (omega (arith, left, few)) is some in
-          ap (option_map (λ s. i + s)) (sym (position_at (drop i xs) (count_trailing_zeros 64 mask) low skipped_lt))
+          rw (← position_at (drop i xs) (count_trailing_zeros 64 mask) low skipped_lt) refl
 
       pub next_mask : mask / 2 ^ count_trailing_zeros 64 mask / 2 ≡ mask_l (map p (drop (i + count_trailing_zeros 64 mask + 1) xs))
       next_mask =
           let n = count_trailing_zeros 64 mask in
           let rest : List X = drop n (drop i xs) in
           let some_left : 1 ≤ length rest = omega (arith, length-drop n (drop i xs), skipped_lt) in
-          let same : drop 1 rest ≡ drop (i + n + 1) xs =
-          drop-drop 1 n (drop i xs) ∙ drop-drop (n + 1) i xs ∙ ap (λ k. drop k xs) {x = i + (n + 1)} {y = i + n + 1} (omega arith)
-          in
+          let same : drop 1 rest ≡ drop (i + n + 1) xs = grind (arith, drop-drop 1 n (drop i xs), drop-drop (n + 1) i xs) in
           ap (λ m. m / 2 ^ n / 2) is ∙ ap (λ m. m / 2) (mask-drop p (drop i xs) n (omega (arith, skipped_lt)))
           ∙ mask-drop p rest 1 some_left ∙ ap (λ ys. mask_l (map p ys)) same

@@ -1,24 +1,10 @@
 -- A search from the front by a closure that is a test.
-use Rattle.std.proofs.Common.{◌≡◌, ℕ, suc, ◌+◌, ◌<◌, Bool, true, false, cond, List, [], ◌∷◌, length, map, Option, Some, None, refl, sym, ap, subst, ◌∙◌, arith}
-use Rattle.std.specs.Prelude.{◌&&◌, filter, position, IfSome}
-use Rattle.std.specs.List.{enumerate_from}
-use Rattle.std.specs.Option.{option_map}
-use Rattle.std.specs.Borrow.{Bor}
-use Rattle.std.specs.Fn.{Mut}
+use Rattle.starlark_hash.proofs.Common.{◌≡◌, ℕ, ◌+◌, ◌<◌, Bool, true, false, cond, List, [], ◌∷◌, length, map, Option, Some, None, sym, ◌∙◌, arith, ◌&&◌, filter, position, IfSome, enumerate_from, option_map, Bor, Mut}
 use Rattle.starlark_hash.specs.declared.hash_value.StarlarkHashValue.{StarlarkHashValue}
 use Rattle.starlark_hash.specs.Entries.{Entry, entry_key, is_under, stands_under, position_of}
 use Rattle.starlark_hash.specs.Search.{Asks, keys_under}
 use Rattle.starlark_hash.proofs.PositionLemmas.{position-cons, position-within}
 use Rattle.starlark_hash.proofs.SearchLemmas.{IsTest}
-
--- an index counted from n + 1, and the one behind it counted from n
-counted : (n : ℕ) (o : Option ℕ) → option_map (λ i. n + 1 + i) o ≡ option_map (λ i. n + i) (option_map suc o)
-counted n None = refl
-counted n (Some i) = ap (λ k. Some k) {x = n + 1 + i} {y = n + suc i} (omega arith)
-
-uncounted : (o : Option ℕ) → option_map (λ i. 0 + i) o ≡ o
-uncounted None = refl
-uncounted (Some i) = ap (λ k. Some k) {x = 0 + i} {y = i} (omega arith)
 
 -- an index that is found lies within the list
 pub found_within : {X : Type 0} (p : X → Bool) (xs : List X) (o : Option ℕ) → o ≡ position p xs → IfSome o (λ i. i < length xs)
@@ -29,10 +15,9 @@ module _ {F K : Type 0} (g : Mut F (Bor K × Unit {0}) Bool) (t : K → Bool) (f
   asked_here : (n : ℕ) (key : K) (items : List (ℕ × K)) (rest answer : Option ℕ) (last : F) → (Asks g f items answer last → answer ≡ rest)
       → Asks g f ((n, key) ∷ items) answer last → answer ≡ cond (t key) (Some (n + 0)) rest
   asked_here n key items rest answer last next_ones (true, next, called, end) =
-      end.0 ∙ ap (λ k. Some k) {x = n} {y = n + 0} (omega arith) ∙ ap (λ b. cond b (Some (n + 0)) rest) (test.tells key true next called).0
+      let told = test.tells key true next called in grind arith
   asked_here n key items rest answer last next_ones (false, next, called, asks) =
-      let told = test.tells key false next called in
-      next_ones (subst (λ h. Asks g h items answer last) told.1 asks) ∙ ap (λ b. cond b (Some (n + 0)) rest) told.0
+      let told = test.tells key false next called in let later = next_ones (rw told.1 at asks) in grind arith
 
 module _ {F K V : Type 0} (g : Mut F (Bor K × Unit {0}) Bool) (t : K → Bool) (f : F) (test : IsTest g t f) (hash : StarlarkHashValue) where
   abbrev named : List (ℕ × Entry K V) → List (ℕ × K)
@@ -43,12 +28,7 @@ module _ {F K V : Type 0} (g : Mut F (Bor K × Unit {0}) Bool) (t : K → Bool) 
   index_from n es = option_map (λ i. n + i) (position_of hash t es)
 
   index_from-cons : (n : ℕ) (e : Entry K V) (es : List (Entry K V)) → index_from n (e ∷ es) ≡ cond (is_under hash e && t (entry_key e)) (Some (n + 0)) (index_from (n + 1) es)
-  index_from-cons n e es =
-      ap (option_map (λ i. n + i)) (position-cons (stands_under hash t) e es)
-      ∙ elim (is_under hash e && t (entry_key e)) as (λ b. option_map (λ i. n + i) (cond b (Some 0) (option_map suc (position (stands_under hash t) es))) ≡ cond b (Some (n + 0)) (index_from (n + 1) es)) [
-        | true ↦ refl
-        | false ↦ sym (counted n (position (stands_under hash t) es))
-      ]
+  index_from-cons n e es = grind (arith, position-cons (stands_under hash t) e es)
 
   asked_from : (es : List (Entry K V)) (n : ℕ) (answer : Option ℕ) (last : F) → Asks g f (named (filter (λ p. is_under hash p.1) (enumerate_from n es))) answer last → answer ≡ index_from n es
   asked_from [] n answer last asks = asks.0
@@ -61,4 +41,4 @@ module _ {F K V : Type 0} (g : Mut F (Bor K × Unit {0}) Bool) (t : K → Bool) 
 
   -- it answers the first index under the hash whose key passes
   pub asks-position_of : (es : List (Entry K V)) (answer : Option ℕ) (last : F) → Asks g f (keys_under hash es) answer last → answer ≡ position_of hash t es
-  asks-position_of es answer last asks = asked_from es 0 answer last asks ∙ uncounted (position_of hash t es)
+  asks-position_of es answer last asks = grind (arith, asked_from es 0 answer last asks)

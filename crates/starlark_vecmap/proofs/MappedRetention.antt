@@ -1,6 +1,5 @@
 -- What is retained of a list, seen through a map of its items.
-use Rattle.std.proofs.Common.{◌≡◌, Bool, true, false, cond, List, [], ◌∷◌, ◌++◌, map, refl, ap, ◌∙◌}
-use Rattle.std.specs.List.{FoldsTo}
+use Rattle.starlark_hash.proofs.Common.{◌≡◌, Bool, true, false, cond, List, [], ◌∷◌, ◌++◌, map, refl, ap, ◌∙◌, FoldsTo}
 use Rattle.starlark_hash.specs.Retain.{Retains, TakesInTurn, MayLeave}
 
 module _ {F G X Y : Type 0} (calls : F → X → Bool → X → F → Type 0) (seen : G → Y → Bool → Y → G → Type 0) (st : F → G) (h : X → Y) where

@@ -1,5 +1,5 @@
 -- A write of the value at an index, in the words of the columns.
-use Rattle.std.proofs.Common.{◌≡◌, ℕ, zero, suc, List, [], ◌∷◌, map, slice_get, Some, refl, ap}
+use Rattle.starlark_hash.proofs.Common.{◌≡◌, ℕ, zero, suc, List, [], ◌∷◌, map, slice_get, Some, refl, ap}
 use Rattle.starlark_hash.specs.Entries.{set_value_at}
 use Rattle.starlark_vec2.specs.PairList.{firsts_of, seconds_of}
 use Rattle.starlark_vec2.specs.Lend.{set_first_at}

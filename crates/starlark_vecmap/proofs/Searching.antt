@@ -1,18 +1,10 @@
 -- A search that jumps from match to match, as a search of the keys under a hash.
-use Rattle.std.proofs.Common.{◌≡◌, ℕ, suc, ◌+◌, Bool, true, false, cond, List, [], ◌∷◌, ◌++◌, map, length, get_or, drop, Option, Some, None, refl, sym, ap, subst, ◌∙◌, arith, inl, inr, ◌⊎◌, length-drop}
-use Rattle.std.specs.Prelude.{◌==◌, filter, position}
-use Rattle.std.specs.List.{enumerate_from}
-use Rattle.std.specs.Option.{option_map}
-use Rattle.std.specs.Borrow.{Bor}
-use Rattle.std.specs.Fn.{Mut, Called, CalledAt, Takes, TakesAt}
-use Rattle.std.proofs.lemmas.List.{get_or-drop, drop-drop}
-use Rattle.std.proofs.lemmas.List.Sorted.{IsPermutation-refl, IsPermutation-cons}
-use Rattle.std.proofs.lemmas.Option.{none-some}
+use Rattle.starlark_hash.proofs.Common.{◌≡◌, ℕ, zero, suc, ◌+◌, Bool, true, false, List, [], ◌∷◌, ◌++◌, map, length, get_or, drop, Option, Some, None, refl, sym, ap, subst, ◌∙◌, arith, length-drop, ◌==◌, filter, position, enumerate_from, option_map, Bor, Mut, Called, CalledAt, Takes, TakesAt, get_or-drop, drop-drop, IsPermutation-refl, IsPermutation-cons, none-some}
 use Rattle.starlark_hash.specs.declared.hash_value.StarlarkHashValue.{StarlarkHashValue}
-use Rattle.starlark_hash.specs.Entries.{Entry, entry_key, is_under}
+use Rattle.starlark_hash.specs.Entries.{entry_key, is_under}
 use Rattle.starlark_hash.specs.Search.{Asks, CanSearch, keys_under}
 use Rattle.starlark_hash.proofs.PositionLemmas.{position-cons}
-use Rattle.starlark_vecmap.specs.EntryList.{entries_in, entry_of}
+use Rattle.starlark_vecmap.specs.EntryList.{entries_in}
 
 -- a call at a reference, as a call at what it points to
 called_at : {F X R : Type 0} (g : Mut F (Bor X × Unit {0}) R) (f later : F) (p : Bor X) (x : X) (r : R) → p.now ≡ x → Called g f (p, tt) r later → CalledAt g f x r later
@@ -43,24 +35,9 @@ module _ {F N X : Type 0} (g : Mut F (Bor X × Unit {0}) Bool) where
   searching_ends : (all keys : List (N × X)) (first f : F) → Searching all first f keys → keys ≡ [] → Asks g first all None f
   searching_ends all keys first f s none = (subst (λ ps. Searching all first f ps) none s).rest None f (refl, refl)
 
--- the first hash is the one that is looked for, or one of the later ones is
-by_test : (b : Bool) (o : Option ℕ) (s : ℕ) → cond b (Some 0) (option_map suc o) ≡ Some s → ((b ≡ true) × (s ≡ 0)) ⊎ ((t : ℕ) × (b ≡ false) × (o ≡ Some t) × (s ≡ suc t))
-by_test true o s e = inl (refl, cc)
-by_test false None s e = absurd (none-some s e)
-by_test false (Some t) s e = inr (t, refl, refl, cc)
-
-no_head : (b : Bool) (o : Option ℕ) → cond b (Some 0) (option_map suc o) ≡ None → (b ≡ false) × (o ≡ None)
-no_head true o e = absurd (none-some 0 (sym e))
-no_head false None e = (refl, refl)
-no_head false (Some t) e = absurd (none-some (suc t) (sym e))
-
 found_at : (i : ℕ) (o : Option ℕ) (index : ℕ) → option_map (λ skipped. i + skipped) o ≡ Some index → (s : ℕ) × (o ≡ Some s) × (index ≡ i + s)
 found_at i None index e = absurd (none-some index e)
 found_at i (Some s) index e = (s, refl, cc)
-
-not_found : (i : ℕ) (o : Option ℕ) → option_map (λ skipped. i + skipped) o ≡ None → o ≡ None
-not_found i None e = refl
-not_found i (Some s) e = absurd (none-some (i + s) (sym e))
 
 -- what stands behind the item at s, of those from i on
 behind : {X : Type 0} (i s index : ℕ) → index ≡ i + s → (xs : List X) → drop (suc s) (drop i xs) ≡ drop (index + 1) xs
@@ -73,40 +50,18 @@ module _ {K V : Type 0} (hash : StarlarkHashValue) where
   abbrev pub keys_from : ℕ → List (K × V) → List ℕ → List (ℕ × K)
   keys_from n pairs hashes = map (λ p. (p.0, entry_key p.1)) (filter (λ p. is_under hash p.1) (enumerate_from n (entries_in pairs hashes)))
 
-  abbrev named : List (ℕ × Entry K V) → List (ℕ × K)
-  named ps = map {B = ℕ × K} (λ p. (p.0, entry_key p.1)) ps
-
-  by_head : (n : ℕ) (p : K × V) (h : ℕ) (pairs : List (K × V)) (hashes : List ℕ)
-      → keys_from n (p ∷ pairs) (h ∷ hashes) ≡ cond (h == hash.0) ((n, p.0) ∷ keys_from (n + 1) pairs hashes) (keys_from (n + 1) pairs hashes)
-  by_head n p h pairs hashes =
-      let later : List (ℕ × Entry K V) = filter (λ p. is_under hash p.1) (enumerate_from (n + 1) (entries_in pairs hashes)) in
-      elim (h == hash.0) as (λ t. named (cond t ((n, entry_of (p, h)) ∷ later) later) ≡ cond t ((n, p.0) ∷ named later) (named later)) [ true ↦ refl | false ↦ refl ]
-
   -- where a hash is found, the keys before it stand under others
   jump-Some : (hashes : List ℕ) (pairs : List (K × V)) (n s m : ℕ) (d : K × V) → length hashes ≡ length pairs → position (λ h. h == hash.0) hashes ≡ Some s → m ≡ n + s
       → keys_from n pairs hashes ≡ (m, (get_or pairs s d).0) ∷ keys_from (m + 1) (drop (suc s) pairs) (drop (suc s) hashes)
   jump-Some [] pairs n s m d same e at = absurd (none-some s e)
   jump-Some (h ∷ hashes) [] n s m d same e at = absurd (omega arith)
-  jump-Some (h ∷ hashes) (p ∷ pairs) n s m d same e at =
-      elim (by_test (h == hash.0) (position (λ x. x == hash.0) hashes) s (sym (position-cons (λ x. x == hash.0) h hashes) ∙ e)) [
-        | inl here ↦
-            let there : n ≡ m = omega (arith, here.1) in
-            by_head n p h pairs hashes ∙ ap (λ b. cond b ((n, p.0) ∷ keys_from (n + 1) pairs hashes) (keys_from (n + 1) pairs hashes)) here.0
-            ∙ ap (λ k. (k, p.0) ∷ keys_from (k + 1) pairs hashes) there
-            ∙ ap (λ k. (m, (get_or (p ∷ pairs) k d).0) ∷ keys_from (m + 1) (drop (suc k) (p ∷ pairs)) (drop (suc k) (h ∷ hashes))) (sym here.1)
-        | inr later ↦
-            let before : m ≡ n + 1 + later.0 = omega (arith, later.3) in
-            by_head n p h pairs hashes ∙ ap (λ b. cond b ((n, p.0) ∷ keys_from (n + 1) pairs hashes) (keys_from (n + 1) pairs hashes)) later.1
-            ∙ jump-Some hashes pairs (n + 1) later.0 m d (omega arith) later.2 before
-            ∙ ap (λ k. (m, (get_or (p ∷ pairs) k d).0) ∷ keys_from (m + 1) (drop (suc k) (p ∷ pairs)) (drop (suc k) (h ∷ hashes))) (sym later.3)
-      ]
+  jump-Some (h ∷ hashes) (p ∷ pairs) n zero m d same e at = grind (arith, position-cons (λ x. x == hash.0) h hashes)
+  jump-Some (h ∷ hashes) (p ∷ pairs) n (suc s) m d same e at = grind (arith, position-cons (λ x. x == hash.0) h hashes, jump-Some hashes pairs (n + 1) s m d)
 
   jump-None : (hashes : List ℕ) (pairs : List (K × V)) (n : ℕ) → position (λ h. h == hash.0) hashes ≡ None → keys_from n pairs hashes ≡ []
   jump-None hashes [] n e = refl
   jump-None [] (p ∷ pairs) n e = refl
-  jump-None (h ∷ hashes) (p ∷ pairs) n e =
-      let missed = no_head (h == hash.0) (position (λ x. x == hash.0) hashes) (sym (position-cons (λ x. x == hash.0) h hashes) ∙ e) in
-      by_head n p h pairs hashes ∙ ap (λ b. cond b ((n, p.0) ∷ keys_from (n + 1) pairs hashes) (keys_from (n + 1) pairs hashes)) missed.0 ∙ jump-None hashes pairs (n + 1) missed.1
+  jump-None (h ∷ hashes) (p ∷ pairs) n e = grind (arith, position-cons (λ x. x == hash.0) h hashes, jump-None hashes pairs (n + 1))
 
   module _ (pairs : List (K × V)) (hashes : List ℕ) (i : ℕ) where
     -- the keys from i on, where the next one stands at this index
@@ -115,14 +70,12 @@ module _ {K V : Type 0} (hash : StarlarkHashValue) where
     next-Some index pair same found at =
         let tails : length (drop i hashes) ≡ length (drop i pairs) = omega (arith, length-drop i hashes, length-drop i pairs) in
         let skip = found_at i (position (λ h. h == hash.0) (drop i hashes)) index found in
-        let s = skip.0 in
-        jump-Some (drop i hashes) (drop i pairs) i s index pair tails skip.1 skip.2
-        ∙ ap (λ (p : K × V). (index, p.0) ∷ keys_from (index + 1) (drop (suc s) (drop i pairs)) (drop (suc s) (drop i hashes))) (get_or-drop i pairs s pair ∙ ap (λ k. get_or pairs k pair) (sym skip.2) ∙ sym at)
-        ∙ (λ j. (index, pair.0) ∷ keys_from (index + 1) (behind i s index skip.2 pairs j) (behind i s index skip.2 hashes j))
+        rw (jump-Some (drop i hashes) (drop i pairs) i skip.0 index pair tails skip.1 skip.2, behind i skip.0 index skip.2 pairs, behind i skip.0 index skip.2 hashes)
+        (grind (arith, get_or-drop i pairs skip.0 pair))
 
     -- and where there is none
     next-None : option_map (λ skipped. i + skipped) (position (λ h. h == hash.0) (drop i hashes)) ≡ None → keys_from i (drop i pairs) (drop i hashes) ≡ []
-    next-None none = jump-None (drop i hashes) (drop i pairs) i (not_found i (position (λ h. h == hash.0) (drop i hashes)) none)
+    next-None none = jump-None (drop i hashes) (drop i pairs) i (grind arith)
 
   -- a search that has come to the pair at an index, by the key that it shows there
   module _ {F : Type 0} (g : Mut F (Bor K × Unit {0}) Bool) (first f : F) (pairs : List (K × V)) (hashes : List ℕ) (i index : ℕ) (pair : K × V)

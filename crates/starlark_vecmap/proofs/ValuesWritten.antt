@@ -1,7 +1,8 @@
 -- Entries whose values were written have their own keys and hashes.
-use Rattle.std.proofs.Common.{◌≡◌, ℕ, suc, List, [], ◌∷◌, map, length, refl, ap}
-use Rattle.std.proofs.lemmas.List.{length-map}
+use Rattle.starlark_hash.proofs.Common.{◌≡◌, ℕ, List, [], ◌∷◌, map, length, refl, ap, arith, length-map}
 use Rattle.starlark_hash.specs.Entries.{Entry, entry_hash, entry_key, pair_of}
+use Rattle.starlark_hash.specs.declared.hashed.Hashed.{Hashed}
+use Rattle.starlark_hash.specs.HashValue.{hash_of, key_of}
 use Rattle.starlark_vec2.specs.Lend as pairs
 use Rattle.starlark_vecmap.specs.EntryList.{entry_of, with_values}
 use Rattle.starlark_vecmap.proofs.Views.{values_of-pair_of}
@@ -19,26 +20,23 @@ module _ {K V : Type 0} where
   with_values-again (e ∷ es) [] = ap (λ l. e ∷ l) (with_values-again es [])
   with_values-again (e ∷ es) (w ∷ ws) = ap (λ l. (e.0, w.1) ∷ l) (with_values-again es ws)
 
-  pub length-with_values : (es ws : List (Entry K V)) → length (with_values es ws) ≡ length es
-  length-with_values [] ws = refl
-  length-with_values (e ∷ es) [] = ap suc (length-with_values es [])
-  length-with_values (e ∷ es) (w ∷ ws) = ap suc (length-with_values es ws)
+  map-with_values : {Y : Type 0} (f : Hashed K → Y) (es ws : List (Entry K V)) → map (λ e. f e.0) (with_values es ws) ≡ map (λ e. f e.0) es
+  map-with_values f [] ws = refl
+  map-with_values f (e ∷ es) [] = ap (λ l. f e.0 ∷ l) (map-with_values f es [])
+  map-with_values f (e ∷ es) (w ∷ ws) = ap (λ l. f e.0 ∷ l) (map-with_values f es ws)
 
   -- each key stays under its hash
   pub hashed_keys-with_values : (es ws : List (Entry K V)) → map (λ e. e.0) (with_values es ws) ≡ map (λ e. e.0) es
-  hashed_keys-with_values [] ws = refl
-  hashed_keys-with_values (e ∷ es) [] = ap (λ l. e.0 ∷ l) (hashed_keys-with_values es [])
-  hashed_keys-with_values (e ∷ es) (w ∷ ws) = ap (λ l. e.0 ∷ l) (hashed_keys-with_values es ws)
+  hashed_keys-with_values es ws = map-with_values (λ h. h) es ws
 
   pub keys-with_values : (es ws : List (Entry K V)) → map entry_key (with_values es ws) ≡ map entry_key es
-  keys-with_values [] ws = refl
-  keys-with_values (e ∷ es) [] = ap (λ l. entry_key e ∷ l) (keys-with_values es [])
-  keys-with_values (e ∷ es) (w ∷ ws) = ap (λ l. entry_key e ∷ l) (keys-with_values es ws)
+  keys-with_values es ws = map-with_values key_of es ws
 
   pub hashes-with_values : (es ws : List (Entry K V)) → map entry_hash (with_values es ws) ≡ map entry_hash es
-  hashes-with_values [] ws = refl
-  hashes-with_values (e ∷ es) [] = ap (λ l. entry_hash e ∷ l) (hashes-with_values es [])
-  hashes-with_values (e ∷ es) (w ∷ ws) = ap (λ l. entry_hash e ∷ l) (hashes-with_values es ws)
+  hashes-with_values es ws = map-with_values hash_of es ws
+
+  pub length-with_values : (es ws : List (Entry K V)) → length (with_values es ws) ≡ length es
+  length-with_values es ws = grind (arith, ap length (hashed_keys-with_values es ws), length-map)
 
   pub length-pair_of : (es : List (Entry K V)) → length (map pair_of es) ≡ length es
   length-pair_of es = length-map es pair_of

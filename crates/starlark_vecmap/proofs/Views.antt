@@ -1,7 +1,5 @@
 -- Two columns as a list of entries, and lists seen through a map of their items.
-use Rattle.std.proofs.Common.{◌≡◌, ℕ, zero, suc, List, [], ◌∷◌, ◌++◌, map, reverse, remove, refl, sym, ap, ◌∙◌}
-use Rattle.std.proofs.lemmas.List.{map-append, reverse-append}
-use Rattle.std.specs.Map.{keys_of, values_of}
+use Rattle.starlark_hash.proofs.Common.{◌≡◌, ℕ, zero, suc, List, [], ◌∷◌, map, reverse, remove, refl, ap, map-append, reverse-append, keys_of, values_of}
 use Rattle.starlark_hash.specs.Entries.{Entry, entry_key, entry_value, pair_of}
 use Rattle.starlark_vec2.specs.PairList.{firsts_of, seconds_of}
 use Rattle.starlark_vecmap.specs.EntryList.{entry_of, entries_in}
@@ -15,9 +13,7 @@ module _ {X Y : Type 0} (f : X → Y) where
 
   pub map-reverse : (xs : List X) → map f (reverse xs) ≡ reverse (map f xs)
   map-reverse [] = refl
-  map-reverse (x ∷ xs) =
-      ap (map f) (reverse-append (x ∷ []) xs) ∙ map-append f (reverse xs) (x ∷ [])
-      ∙ ap (λ l. l ++ f x ∷ []) (map-reverse xs) ∙ sym (reverse-append (f x ∷ []) (map f xs))
+  map-reverse (x ∷ xs) = rw (reverse-append (x ∷ []) xs, map-append f (reverse xs) (x ∷ []), map-reverse xs, reverse-append (f x ∷ []) (map f xs))
 
 module _ {K V : Type 0} where
   -- the entries of the two columns of a list of pairs

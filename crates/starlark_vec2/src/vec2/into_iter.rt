@@ -91,6 +91,7 @@ impl<A: Drop, B: Drop> DoubleEndedIterator for IntoIter<A, B> {
 }
 
 impl<A: Drop, B: Drop> ExactSizeIterator for IntoIter<A, B> {
+    #[tactic(auto, using(crate::proofs::Pairs::columns))]
     #[inline]
     fn len(&self) -> usize {
         self.to - self.from

@@ -77,6 +77,7 @@ impl<'a, A, B> DoubleEndedIterator for Iter<'a, A, B> {
 }
 
 impl<'a, A, B> ExactSizeIterator for Iter<'a, A, B> {
+    #[tactic(auto, using(crate::proofs::Pairs::columns))]
     #[inline]
     fn len(&self) -> usize {
         self.firsts.len()

@@ -1,5 +1,4 @@
-use Rattle.std.proofs.Common.{◌+◌, sym, arith}
-use Rattle.std.specs.Ordering.{is_lt}
+use Rattle.starlark_hash.proofs.Common.{◌+◌, sym, arith, is_lt}
 use Rattle.starlark_vecmap.proofs.Ascending.{is_lt-told, ascends-noted, ascends-told}
 use Rattle.starlark_vecmap.proofs.columns.ascend_at_once.Goals as goal
 

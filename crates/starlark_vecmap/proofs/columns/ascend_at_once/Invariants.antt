@@ -1,7 +1,4 @@
-use Rattle.std.proofs.Common.{◌+◌}
-use Rattle.std.specs.Prelude.{MatchBool}
-use Rattle.std.specs.List.Sorted.{IsSortedWithin}
-use Rattle.std.specs.Ordering.{is_lt}
+use Rattle.starlark_hash.proofs.Common.{◌+◌, MatchBool, IsSortedWithin, is_lt}
 use Rattle.starlark_vecmap.proofs.columns.ascend_at_once.Given as goal
 
 abbrev pub invariant-loop-i : goal.invariant-loop-i

@@ -1,5 +1,4 @@
-use Rattle.std.specs.List.Sorted.{IsSortedWithin}
-use Rattle.std.specs.Ordering.{is_lt}
+use Rattle.starlark_hash.proofs.Common.{IsSortedWithin, is_lt}
 use Rattle.starlark_vecmap.proofs.columns.ascend_one_by_one.Given as goal
 
 abbrev pub invariant-loop-i : goal.invariant-loop-i

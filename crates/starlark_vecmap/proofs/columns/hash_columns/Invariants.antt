@@ -1,5 +1,4 @@
-use Rattle.std.proofs.Common.{◌≡◌, drop}
-use Rattle.std.specs.Prelude.{fold}
+use Rattle.starlark_hash.proofs.Common.{◌≡◌, drop, fold}
 use Rattle.starlark_vecmap.specs.EntryList.{entries_in}
 use Rattle.starlark_hash.specs.Compare.{ordered_feed}
 use Rattle.starlark_vecmap.proofs.columns.hash_columns.Given as goal

@@ -1,5 +1,4 @@
-use Rattle.std.proofs.Common.{length, arith}
-use Rattle.std.specs.Ordering.{is_lt}
+use Rattle.starlark_hash.proofs.Common.{length, arith, is_lt}
 use Rattle.starlark_vecmap.proofs.Ascending.{ascends-part, ascends-joined, ascends-whole}
 use Rattle.starlark_vecmap.proofs.columns.keys_ascend.Goals as goal
 

@@ -1,6 +1,4 @@
-use Rattle.std.proofs.Common.{◌<◌, ◌+◌, ◌-◌, length}
-use Rattle.std.specs.List.Sorted.{IsSortedWithin}
-use Rattle.std.specs.Ordering.{is_lt}
+use Rattle.starlark_hash.proofs.Common.{◌<◌, ◌+◌, ◌-◌, length, IsSortedWithin, is_lt}
 use Rattle.starlark_vecmap.proofs.columns.keys_ascend.Given as goal
 
 abbrev pub invariant-loop-last : goal.invariant-loop-last

@@ -1,6 +1,5 @@
 -- The mask shows the next index under the hash.
-use Rattle.std.proofs.Common.{refl, arith}
-use Rattle.std.specs.Prelude.{nat_eq}
+use Rattle.starlark_hash.proofs.Common.{refl, arith, nat_eq}
 use Rattle.starlark_vecmap.proofs.Blocks.{next_nowhere, next_within, next_index, next_mask}
 use Rattle.starlark_vecmap.proofs.Searching.{index_asked, index_accepted, index_refused, none_left}
 use Rattle.starlark_vecmap.proofs.columns.search_few.Goals as goal

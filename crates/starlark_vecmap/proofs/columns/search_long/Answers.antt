@@ -1,4 +1,4 @@
-use Rattle.std.proofs.Common.{refl, sym, arith}
+use Rattle.starlark_hash.proofs.Common.{refl, sym, arith}
 use Rattle.starlark_vecmap.proofs.Searching.{index_asked, index_accepted, index_refused, none_left}
 use Rattle.starlark_vecmap.proofs.columns.search_long.Goals as goal
 

@@ -1,4 +1,4 @@
-use Rattle.std.proofs.Common.{◌≡◌, length, drop, ◌-◌, ◌≤◌}
+use Rattle.starlark_hash.proofs.Common.{◌≡◌, length, drop, ◌-◌, ◌≤◌}
 use Rattle.starlark_hash.specs.Search.{keys_under}
 use Rattle.starlark_vecmap.specs.EntryList.{entries_in}
 use Rattle.starlark_vecmap.proofs.Searching.{Searching, keys_from}

@@ -1,7 +1,6 @@
 -- The mask of the array shows the first index.
-use Rattle.std.proofs.Common.{[], sym, ◌∙◌, arith}
-use Rattle.std.proofs.lemmas.Simd.{leading_from_mask_l}
-use Rattle.std.specs.Prelude.{nat_eq}
+use Rattle.starlark_hash.proofs.Common.{[], sym, ◌∙◌, arith, leading_from_mask_l, nat_eq}
+use Rattle.starlark_hash.proofs.PositionLemmas.{position-within}
 use Rattle.starlark_vecmap.proofs.Blocks.{lowest, lowest_lt, position_at, position_nowhere}
 use Rattle.starlark_vecmap.proofs.hash_search.find_hash_in_array.Goals as goal
 
@@ -18,5 +17,4 @@ returns-clause-index c =
     position_at (λ h. nat_eq h c.args.hash) array _ low less
 
 pub returns-clause-within : goal.returns-clause-within
-returns-clause-within c =
-    lowest_lt (λ h. nat_eq h c.args.hash) c.args.array.now [] c.indices_of_short-mask.result (omega arith) c.indices_of_short-mask.ensures c.if-mask-eq0.false
+returns-clause-within c = position-within (λ h. nat_eq h c.args.hash) c.args.array.now _ (sym (returns-clause-index c))

@@ -1,6 +1,5 @@
 -- The rest of an array behind the hashes that were passed over.
-use Rattle.std.proofs.Common.{◌≡◌, ◌==◌, ◌+◌, length}
-use Rattle.std.specs.List.{position_or_len}
+use Rattle.starlark_hash.proofs.Common.{◌≡◌, ◌==◌, ◌+◌, length, position_or_len}
 use Rattle.starlark_vecmap.proofs.hash_search.find_hash_in_blocks.Given as goal
 
 abbrev pub invariant-loop-rest : goal.invariant-loop-rest

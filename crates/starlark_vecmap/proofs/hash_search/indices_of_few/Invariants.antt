@@ -1,6 +1,5 @@
 -- The mask of the indices that the loop has passed.
-use Rattle.std.proofs.Common.{◌≡◌, ◌==◌, map, take}
-use Rattle.std.specs.Simd.Lanes.{mask_l}
+use Rattle.starlark_hash.proofs.Common.{◌≡◌, ◌==◌, map, take, mask_l}
 use Rattle.starlark_vecmap.proofs.hash_search.indices_of_few.Given as goal
 
 abbrev pub invariant-loop-i : goal.invariant-loop-i

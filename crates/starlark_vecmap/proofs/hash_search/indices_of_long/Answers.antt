@@ -1,6 +1,5 @@
 -- The bits of the indices before the last, and that of the last.
-use Rattle.std.proofs.Common.{arith}
-use Rattle.std.specs.Prelude.{nat_eq}
+use Rattle.starlark_hash.proofs.Common.{arith, nat_eq}
 use Rattle.starlark_vecmap.proofs.Masks.{mask_last, mask_last_lt}
 use Rattle.starlark_vecmap.proofs.hash_search.indices_of_long.Goals as goal
 

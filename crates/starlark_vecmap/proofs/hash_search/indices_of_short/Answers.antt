@@ -1,6 +1,5 @@
 -- Two runs cover the array, so their bits are its mask.
-use Rattle.std.proofs.Common.{◌-◌, length, arith}
-use Rattle.std.specs.Prelude.{nat_eq}
+use Rattle.starlark_hash.proofs.Common.{◌-◌, length, arith, nat_eq}
 use Rattle.starlark_vecmap.proofs.Masks.{mask_ends}
 use Rattle.starlark_vecmap.proofs.hash_search.indices_of_short.Goals as goal
 

@@ -1,7 +1,6 @@
 -- One comparison of sixteen hashes gives their bits.
-use Rattle.std.proofs.Common.{nat_eq, w32, arith}
-use Rattle.std.specs.Simd.Lanes.{chunk}
-use Rattle.std.proofs.lemmas.Simd.{bitmask_splat, length-chunk}
+use Rattle.starlark_hash.proofs.Common.{nat_eq, arith, chunk, bitmask_splat, length-chunk}
+use Rattle.std.proofs.Common.{w32}
 use Rattle.starlark_vecmap.proofs.hash_search.indices_of_sixteen.Goals as goal
 
 pub returns : goal.returns

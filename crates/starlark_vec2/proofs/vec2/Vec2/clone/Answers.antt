@@ -1,6 +1,5 @@
-use Rattle.std.proofs.Common.{length, zip, ap, sym, subst, ◌∙◌}
+use Rattle.starlark_hash.proofs.Common.{length, zip, ap, sym, subst, ◌∙◌, AllZip}
 use Rattle.std.proofs.lemmas.List.Elements.{same_from_all_zip}
-use Rattle.std.specs.List.{AllZip}
 use Rattle.starlark_columns.specs.Cells.{items_of}
 use Rattle.starlark_hash.specs.Clone.{IsPairClone}
 use Rattle.starlark_vec2.specs.PairList.{pair_list}

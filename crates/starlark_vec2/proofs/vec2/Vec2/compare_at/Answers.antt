@@ -1,6 +1,5 @@
-use Rattle.std.proofs.Common.{rules, of_calls}
+use Rattle.starlark_hash.proofs.Common.{rules, of_calls, deref_pair}
 use Rattle.starlark_vec2.specs.Sort.{ComparesPairs}
-use Rattle.std.specs.Map.Iter.{deref_pair}
 use Rattle.starlark_vec2.proofs.Positions.{takes_at, compares_at}
 use Rattle.starlark_vec2.proofs.vec2.Vec2.compare_at.Goals as goal
 

@@ -1,4 +1,4 @@
-use Rattle.std.proofs.Common.{slice_set, Some, refl}
+use Rattle.starlark_hash.proofs.Common.{slice_set, Some, refl}
 use lib.ListN.{length-set}
 use Rattle.starlark_columns.specs.Lend.{with_cells}
 use Rattle.starlark_vec2.proofs.TwoColumns.{same_block, in_columns, first_set, first_end, first_is}

@@ -1,4 +1,4 @@
-use Rattle.std.proofs.Common.{refl}
+use Rattle.starlark_hash.proofs.Common.{refl}
 use Rattle.starlark_columns.specs.Front.{with_items}
 use Rattle.starlark_columns.specs.Lend.{with_cells}
 use Rattle.starlark_columns.proofs.Fronts.{written_cells}

@@ -1,7 +1,5 @@
-use Rattle.std.proofs.Common.{◌≡◌, true, is_ok, length, sym, ap, subst, ◌∙◌, arith, rules}
-use Rattle.std.specs.Prelude.{if◌then◌else◌}
+use Rattle.starlark_hash.proofs.Common.{◌≡◌, true, is_ok, length, sym, ap, subst, ◌∙◌, arith, rules, if◌then◌else◌, length_push}
 use Rattle.std.proofs.iter.Next as it
-use Rattle.std.proofs.lemmas.List.{length_push}
 use Rattle.starlark_vec2.specs.Growth.{push}
 use Rattle.starlark_vec2.proofs.PushLemmas.{push_all-push, capacity_le_reserved}
 use Rattle.starlark_vec2.proofs.vec2.Vec2.push_items.Goals as goal

@@ -1,6 +1,5 @@
-use Rattle.std.proofs.Common.{◌≡◌, ◌+◌, ◌≤◌, length}
+use Rattle.starlark_hash.proofs.Common.{◌≡◌, ◌+◌, ◌≤◌, length, EndsFrom, items_left}
 use Rattle.std.proofs.iter.Next as it
-use Rattle.std.specs.Iterator.{EndsFrom, items_left}
 use Rattle.starlark_vec2.specs.Growth.{push_all}
 use Rattle.starlark_vec2.proofs.vec2.Vec2.push_items.Given as goal
 

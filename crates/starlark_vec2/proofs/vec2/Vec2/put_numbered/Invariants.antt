@@ -1,4 +1,4 @@
-use Rattle.std.proofs.Common.{◌≡◌, ◌+◌, ◌≤◌, ◌++◌, length, map}
+use Rattle.starlark_hash.proofs.Common.{◌≡◌, ◌+◌, ◌≤◌, ◌++◌, length, map}
 use Rattle.starlark_vec2.proofs.vec2.Vec2.put_numbered.Given as goal
 
 abbrev pub invariant-loop-next : goal.invariant-loop-next

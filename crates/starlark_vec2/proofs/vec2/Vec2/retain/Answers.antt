@@ -1,4 +1,4 @@
-use Rattle.std.proofs.Common.{refl, length, take, zip, ap, sym, subst, ◌∙◌}
+use Rattle.starlark_hash.proofs.Common.{refl, length, take, zip, ap, sym, subst, ◌∙◌}
 use Rattle.starlark_vec2.specs.PairList.{with_pairs}
 use Rattle.starlark_hash.specs.Retain.{Retains}
 use Rattle.starlark_vec2.specs.Retain.{CalledAtBoth}

@@ -1,5 +1,4 @@
-use Rattle.std.proofs.Common.{refl, length, zip, sym, ap, subst, ◌∙◌, arith}
-use Rattle.std.specs.List.{range_with_len}
+use Rattle.starlark_hash.proofs.Common.{refl, length, zip, sym, ap, subst, ◌∙◌, arith, range_with_len}
 use Rattle.std.specs.List.Sorted.{IsPermutation}
 use Rattle.starlark_vec2.specs.Sort.{PutsInOrder}
 use Rattle.starlark_vec2.proofs.Positions.{sorted_by-short, sorted_by-from_order, IsPermutation-from_order}

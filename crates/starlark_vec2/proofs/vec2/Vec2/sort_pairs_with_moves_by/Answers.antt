@@ -1,10 +1,6 @@
-use Rattle.std.proofs.Common.{◌≡◌, ℕ, List, Result, Ok, Err, length, map, take, drop, ◌++◌, sym, ap, subst, ◌∙◌, append-nil, arith}
-use Rattle.std.specs.Prelude.{OnErr}
-use Rattle.std.specs.List.{enumerate_from, range_with_len}
-use Rattle.std.specs.List.Sorted.{IsPermutation, IsStableBy}
+use Rattle.starlark_hash.proofs.Common.{◌≡◌, ℕ, List, Result, Ok, Err, length, map, take, drop, ◌++◌, sym, ap, subst, ◌∙◌, append-nil, arith, OnErr, enumerate_from, range_with_len, IsStableBy, take_all, length-enumerate_from}
+use Rattle.std.specs.List.Sorted.{IsPermutation}
 use Rattle.std.proofs.Math.ListN.{drop_of_length-le}
-use Rattle.std.proofs.lemmas.List.{take_all}
-use Rattle.std.proofs.lemmas.List.FromFn.{length-enumerate_from}
 use Rattle.starlark_vec2.specs.Sort.{Moves, PutsInOrder}
 use Rattle.starlark_vec2.proofs.Moving.{numbered_lt, numbered_lt-weak, sorted_by-numbered, items-numbered, cells-rearranged, Moves-noted}
 use Rattle.starlark_vec2.proofs.vec2.Vec2.sort_pairs_with_moves_by.Goals as goal

@@ -1,6 +1,4 @@
-use Rattle.std.proofs.Common.{◌≡◌, sym, ap, subst, ◌∙◌, refl, rules, of_calls}
-use Rattle.std.specs.List.{range_with_len}
-use Rattle.std.specs.List.Sorted.{IsStableBy}
+use Rattle.starlark_hash.proofs.Common.{◌≡◌, sym, ap, subst, ◌∙◌, refl, rules, of_calls, range_with_len, IsStableBy}
 use denote.Param.Always.{mut_by}
 use Rattle.starlark_vec2.specs.Sort.{lt_at, ComparesAt, CanCompare}
 use Rattle.starlark_vec2.proofs.Positions.{CanCompare-next, compares_positions, lt_at-weak}

@@ -1,5 +1,4 @@
-use Rattle.std.proofs.Common.{◌≡◌, ◌+◌, ◌≤◌, ◌++◌, ◌^◌, length, reverse}
-use Rattle.std.specs.List.{enumerate_from}
+use Rattle.starlark_hash.proofs.Common.{◌≡◌, ◌+◌, ◌≤◌, ◌++◌, ◌^◌, length, reverse, enumerate_from}
 use Rattle.starlark_vec2.proofs.vec2.Vec2.take_numbered.Given as goal
 
 abbrev pub invariant-loop-pair : goal.invariant-loop-pair

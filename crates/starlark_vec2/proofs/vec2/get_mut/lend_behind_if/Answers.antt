@@ -1,4 +1,4 @@
-use Rattle.std.proofs.Common.{refl, arith}
+use Rattle.starlark_hash.proofs.Common.{refl, arith}
 use Rattle.std.proofs.lemmas.Option.{slice_get_past}
 use Rattle.starlark_columns.specs.Cells.{items_of}
 use Rattle.starlark_columns.proofs.Fronts.{front_filled, front_taken}

@@ -1,4 +1,4 @@
-use Rattle.std.proofs.Common.{◌≤◌, ◌-◌, zip}
+use Rattle.starlark_hash.proofs.Common.{◌≤◌, ◌-◌, zip}
 use Rattle.starlark_vec2.specs.Retain.{TakesBoth, CalledAtBoth}
 use Rattle.starlark_vec2.proofs.Sieving.{Sifting}
 use Rattle.starlark_vec2.proofs.vec2.retain.sieve.Given as goal

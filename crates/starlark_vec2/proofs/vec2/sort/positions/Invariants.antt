@@ -1,5 +1,4 @@
-use Rattle.std.proofs.Common.{◌≡◌, ◌≤◌, length, vec_capacity}
-use Rattle.std.specs.List.{range_with_len}
+use Rattle.starlark_hash.proofs.Common.{◌≡◌, ◌≤◌, length, vec_capacity, range_with_len}
 use Rattle.starlark_vec2.proofs.vec2.sort.positions.Given as goal
 
 abbrev pub invariant-loop-i : goal.invariant-loop-i

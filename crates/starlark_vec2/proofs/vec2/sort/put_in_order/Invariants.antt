@@ -1,4 +1,4 @@
-use Rattle.std.proofs.Common.{◌≡◌, ℕ, ◌+◌, ◌-◌, ◌<◌, length, get_or, zip}
+use Rattle.starlark_hash.proofs.Common.{◌≡◌, ℕ, ◌+◌, ◌-◌, ◌<◌, length, get_or, zip}
 use Rattle.starlark_vec2.proofs.Placing.{Spread, misplaced}
 use Rattle.starlark_vec2.proofs.vec2.sort.put_in_order.Given as goal
 

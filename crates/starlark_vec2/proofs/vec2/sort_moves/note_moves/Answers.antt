@@ -1,22 +1,12 @@
-use Rattle.std.proofs.Common.{◌≡◌, length, map, sym, ◌∙◌, refl, arith}
-use Rattle.std.proofs.lemmas.List.{length-map, get_or-map}
-use Rattle.std.proofs.lemmas.List.FromFn.{length-range_with_len}
-use Rattle.std.proofs.lemmas.List.Sorted.{length_permutation}
+use Rattle.starlark_hash.proofs.Common.{◌≡◌, length, map, sym, ◌∙◌, refl, arith, length-map, get_or-map, length-range_with_len, length_permutation}
 use Rattle.starlark_vec2.proofs.Moving.{noted-more, noted-all}
 use Rattle.starlark_vec2.proofs.Placing.{Spread-from_permutation}
 use Rattle.starlark_vec2.proofs.vec2.sort_moves.note_moves.Goals as goal
 
 pub loop-j-init : goal.loop-j-init
 loop-j-init g c =
-    let n = length c.args.to.now in
-    let from = map (λ p. p.0) c.args.numbered.now in
-    let count : length c.args.numbered.now ≡ n = sym (length-map c.args.numbered.now (λ p. p.0)) ∙ length_permutation _ _ c.requires.indices ∙ length-range_with_len 0 n in
-    record {
-      spread = Spread-from_permutation n from c.requires.indices;
-      count = count;
-      few = omega (arith, count, c.requires.few);
-      noted = λ k lt. absurd (omega arith);
-    }
+    let count : length c.args.numbered.now ≡ length c.args.to.now = grind (arith, length-map c.args.numbered.now (λ p. p.0), length_permutation _ _ c.requires.indices, length-range_with_len) in
+    record { spread = Spread-from_permutation _ _ c.requires.indices; count = count; few = omega (arith, c.requires.few); noted = λ k lt. absurd (omega arith) }
 
 pub bounds-to-index : goal.bounds-to-index
 bounds-to-index g c =

@@ -1,4 +1,4 @@
-use Rattle.std.proofs.Common.{◌≡◌, ℕ, ◌<◌, ◌≤◌, ◌^◌, length, get_or, map}
+use Rattle.starlark_hash.proofs.Common.{◌≡◌, ℕ, ◌<◌, ◌≤◌, ◌^◌, length, get_or, map}
 use Rattle.starlark_vec2.proofs.Placing.{Spread}
 use Rattle.starlark_vec2.proofs.vec2.sort_moves.note_moves.Given as goal
 

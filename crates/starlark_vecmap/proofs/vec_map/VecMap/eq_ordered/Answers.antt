@@ -1,6 +1,4 @@
-use Rattle.std.proofs.Common.{◌&&◌, sym, ap, ◌∙◌}
-use Rattle.std.specs.Prelude.{nat_eq}
-use Rattle.std.specs.Cmp.Lexicographic.{pointwise}
+use Rattle.starlark_hash.proofs.Common.{◌&&◌, sym, ap, ◌∙◌, nat_eq, pointwise}
 use Rattle.starlark_vec2.specs.PairList.{firsts_of}
 use Rattle.starlark_hash.specs.Compare.{same_ordered}
 use Rattle.starlark_vecmap.proofs.Ordering.{same_ordered-columns}

@@ -1,6 +1,6 @@
-use Rattle.std.proofs.Common.{ap, ◌∙◌, rules, of_calls}
+use Rattle.starlark_hash.proofs.Common.{rules, of_calls}
 use Rattle.starlark_hash.specs.HashValue.{hash_of, key_of}
-use Rattle.starlark_hash.specs.Entries.{stands_under, position_of}
+use Rattle.starlark_hash.specs.Entries.{stands_under}
 use Rattle.starlark_hash.proofs.SearchLemmas.{is_test}
 use Rattle.starlark_vecmap.proofs.FirstAccepted.{asks-position_of, found_within}
 use Rattle.starlark_vecmap.proofs.vec_map.VecMap.get_index_of_hashed.Goals as goal
@@ -8,8 +8,8 @@ use Rattle.starlark_vecmap.proofs.vec_map.VecMap.get_index_of_hashed.Goals as go
 pub returns-clause-index : goal.returns-clause-index
 returns-clause-index g c =
     let t = g.Q.Query.stands_for (key_of c.args.key) in
-    let answered = asks-position_of _ t _ (is_test _ t _ (λ x accepts next called. (search (rules, of_calls, called), search (rules, of_calls, called)))) c.hash-hash.result c.args.self.now.entries c.get_index_of_hashed_raw.result _ c.get_index_of_hashed_raw.ensures.1 in
-    answered ∙ ap (λ h. position_of h t c.args.self.now.entries) c.hash-hash.ensures
+    rw (← c.hash-hash.ensures) (asks-position_of _ t _ (is_test _ t _ (λ x accepts next called. (search (rules, of_calls, called), search (rules, of_calls, called))))
+    c.hash-hash.result c.args.self.now.entries c.get_index_of_hashed_raw.result _ c.get_index_of_hashed_raw.ensures.1)
 
 pub returns-clause-within : goal.returns-clause-within
 returns-clause-within g c = found_within (stands_under (hash_of c.args.key) (g.Q.Query.stands_for (key_of c.args.key))) c.args.self.now.entries c.get_index_of_hashed_raw.result (returns-clause-index g c)

@@ -1,15 +1,8 @@
-use Rattle.std.proofs.Common.{sym, ap, subst, ◌∙◌}
-use Rattle.starlark_hash.specs.Search.{Asks, CanSearch, keys_under}
-use Rattle.starlark_vecmap.specs.EntryList.{entries_in}
 use Rattle.starlark_vecmap.proofs.Views.{entries_in-columns}
 use Rattle.starlark_vecmap.proofs.vec_map.VecMap.get_index_of_hashed_raw.Goals as goal
 
 pub search_columns-requires-clause-callable : goal.search_columns-requires-clause-callable
-search_columns-requires-clause-callable g c =
-    let entries = (λ j. entries_in (c.firsts.ensures j) (c.seconds.ensures j)) ∙ entries_in-columns c.self.inside.columns.pairs ∙ ap (λ m. m.entries) c.self.view_is in
-    subst (λ es. CanSearch g.F.FnMut (keys_under c.args.hash es) c.args.accepts) (sym entries) c.requires
+search_columns-requires-clause-callable g c = rw (c.firsts.ensures, c.seconds.ensures, entries_in-columns c.self.inside.columns.pairs) (rw (← c.self.view_is) at c.requires)
 
 pub returns : goal.returns
-returns g c =
-    let entries = (λ j. entries_in (c.firsts.ensures j) (c.seconds.ensures j)) ∙ entries_in-columns c.self.inside.columns.pairs ∙ ap (λ m. m.entries) c.self.view_is in
-    subst (λ es. (last : g.row.F.Denot) × Asks g.F.FnMut c.args.accepts (keys_under c.args.hash es) c.search_columns.result last) entries c.search_columns.ensures
+returns g c = rw (← c.self.view_is) (rw (c.firsts.ensures, c.seconds.ensures, entries_in-columns c.self.inside.columns.pairs) at c.search_columns.ensures)

@@ -1,6 +1,4 @@
-use Rattle.std.proofs.Common.{◌<◌, length, get_or, Some, sym, ap, ◌∙◌, arith}
-use Rattle.std.proofs.lemmas.List.{length-map}
-use Rattle.std.proofs.lemmas.Option.{slice_get-get_or}
+use Rattle.starlark_hash.proofs.Common.{◌<◌, length, get_or, Some, sym, ap, ◌∙◌, arith, length-map, slice_get-get_or}
 use Rattle.starlark_hash.specs.Entries.{set_value_at}
 use Rattle.starlark_vec2.specs.PairList.{seconds_of}
 use Rattle.starlark_vecmap.specs.EntryList.{entry_list, entry_of}

@@ -1,4 +1,4 @@
-use Rattle.std.specs.Map.Iter.{deref_pair}
+use Rattle.starlark_hash.proofs.Common.{deref_pair}
 use Rattle.std_collections.proofs.IterRuns.{shows_in_order, shows_in_reverse}
 use Rattle.starlark_vecmap.proofs.vec_map.VecMap.iter.Goals as goal
 

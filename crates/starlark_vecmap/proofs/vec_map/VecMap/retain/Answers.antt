@@ -1,7 +1,4 @@
-use Rattle.std.proofs.Common.{◌≡◌, sym, ap, subst, ◌∙◌, rules, of_calls}
-use Rattle.std.proofs.Common.{ℕ, Bool}
-use Rattle.std.specs.Borrow.{Bor, MutBor}
-use Rattle.std.specs.Fn.{Mut}
+use Rattle.starlark_hash.proofs.Common.{◌≡◌, sym, ap, subst, ◌∙◌, rules, of_calls, ℕ, Bool, Bor, MutBor, Mut}
 use Rattle.starlark_hash.specs.Retain.{Retains, TakesInTurn, TakesEntry, CalledAtEntry}
 use Rattle.starlark_vecmap.specs.EntryList.{entry_of}
 use Rattle.starlark_vecmap.proofs.MappedRetention.{takes_carried, retains_carried}

@@ -1,27 +1,15 @@
-use Rattle.std.proofs.Common.{◌≡◌, ℕ, map, Result, Ok, Err, sym, ap, subst, ◌∙◌, rules, of_calls}
-use Rattle.std.specs.Prelude.{OnOk, IfOk}
-use Rattle.std.specs.Ordering.{is_lt}
-use Rattle.std.proofs.lemmas.List.MinMax.{ranks_by}
+use Rattle.starlark_hash.proofs.Common.{◌≡◌, ℕ, map, sym, ap, ◌∙◌, rules, of_calls, is_lt, ranks_by, on_ok_weaker, IfOk-weaker}
 use Rattle.std.proofs.lemmas.List.Sorted.{answers_always}
 use Rattle.starlark_hash.specs.Sort.{key_lt, sorted_by_key}
 use Rattle.starlark_vecmap.specs.EntryList.{entry_list, entry_of}
-use Rattle.starlark_vec2.specs.Sort.{Moves}
 use Rattle.starlark_vec2.proofs.OneSortedList.{sorted_by-map}
 use Rattle.starlark_vec2.proofs.Moving.{Moves-map}
 use Rattle.starlark_vecmap.proofs.vec_map.VecMap.sort_keys_with_moves.Goals as goal
 
-OnOk-map : {X E : Type 0} {P Q : Type 0} (r : Result X E) → (P → Q) → OnOk r P → OnOk r Q
-OnOk-map (Ok x) f told = f told
-OnOk-map (Err e) f told = tt
-
-IfOk-map : {X E : Type 0} {P Q : X → Type 0} (r : Result X E) → ((x : X) → P x → Q x) → IfOk r P → IfOk r Q
-IfOk-map (Ok x) f told = f x told
-IfOk-map (Err e) f told = tt
-
 pub returns-clause-sorted : goal.returns-clause-sorted
 returns-clause-sorted g c =
     let ranks = ranks_by g.met.K.Ord.total (λ (p : (g.row.K.Denot × g.row.V.Denot) × ℕ). p.0.0) in
-    OnOk-map c.sort_pairs_with_moves_by.result
+    on_ok_weaker c.sort_pairs_with_moves_by.result
     (λ sorts. (λ j. entry_list (map entry_of (sorts _ ranks (answers_always _ _ _ (λ f a r f' k. let told : r ≡ g.K.Ord.cmp a.0.now.1.0.0 a.1.0.now.1.0.0 = search (rules, of_calls, k) in ap is_lt told)) j)) (c.sort_pairs_with_moves_by.ensures.capacity j))
     ∙ ap (λ es. entry_list es c.self.inside.columns.capacity) (sym (sorted_by-map (key_lt g.K.Ord.cmp) entry_of c.self.inside.columns.pairs))
     ∙ ap (λ m. entry_list (sorted_by_key g.K.Ord.cmp m.entries) m.capacity) c.self.view_is)
@@ -29,7 +17,6 @@ returns-clause-sorted g c =
 
 pub returns-clause-moves : goal.returns-clause-moves
 returns-clause-moves g c =
-    IfOk-map c.sort_pairs_with_moves_by.result
-    (λ to moves. subst (λ m. Moves m.entries to.items (map entry_of c.sort_pairs_with_moves_by.new.self.pairs)) c.self.view_is
-    (Moves-map entry_of c.self.inside.columns.pairs to.items c.sort_pairs_with_moves_by.new.self.pairs moves))
+    IfOk-weaker c.sort_pairs_with_moves_by.result _ _
+    (λ to moves. rw (← c.self.view_is) (Moves-map entry_of c.self.inside.columns.pairs to.items c.sort_pairs_with_moves_by.new.self.pairs moves))
     c.sort_pairs_with_moves_by.ensures.moves

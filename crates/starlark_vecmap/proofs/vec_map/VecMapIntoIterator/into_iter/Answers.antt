@@ -1,4 +1,4 @@
-use Rattle.std.proofs.Common.{map, ap, ◌∙◌}
+use Rattle.starlark_hash.proofs.Common.{map, ap, ◌∙◌}
 use Rattle.starlark_hash.specs.Entries.{pair_of}
 use Rattle.std_collections.proofs.IterRuns.{gives_in_order, gives_in_reverse}
 use Rattle.starlark_vecmap.proofs.vec_map.VecMapIntoIterator.into_iter.Goals as goal

@@ -1,4 +1,4 @@
-use Rattle.std.proofs.Common.{◌≡◌, ◌++◌}
+use Rattle.starlark_hash.proofs.Common.{◌≡◌, ◌++◌}
 use Rattle.std.specs.List.{fold, flat_map}
 use Rattle.starlark_vec2.proofs.vec2.compare.Vec2Hash.hash.Given as goal
 

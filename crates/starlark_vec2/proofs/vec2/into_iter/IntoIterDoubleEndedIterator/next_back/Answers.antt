@@ -1,4 +1,4 @@
-use Rattle.std.proofs.Common.{sym, ◌∙◌}
+use Rattle.starlark_hash.proofs.Common.{sym, ◌∙◌}
 use Rattle.std_collections.proofs.IterRuns.{last_progress}
 use Rattle.starlark_vec2.proofs.StepsBack.{pair_back}
 use Rattle.starlark_vec2.proofs.TwoColumns.{between_even}
@@ -9,5 +9,4 @@ returns-clause-steps g c =
     sym c.self.view_is ∙ pair_back _ _ _ _ _ _ c.take_last_between.ensures.items c.take_last_between-2.ensures.items (sym (between_even c.self.inside.firsts.cells c.self.inside.seconds.cells c.self.inside.from c.self.inside.to (c.self.invariant.0, c.self.invariant.1)))
 
 pub returns-clause-goes : goal.returns-clause-goes
-returns-clause-goes g c =
-    last_progress (λ p. p) _ _ _ (sym c.self.view_is ∙ pair_back _ _ _ _ _ _ c.take_last_between.ensures.items c.take_last_between-2.ensures.items (sym (between_even c.self.inside.firsts.cells c.self.inside.seconds.cells c.self.inside.from c.self.inside.to (c.self.invariant.0, c.self.invariant.1))))
+returns-clause-goes g c = last_progress (λ p. p) _ _ _ (returns-clause-steps g c)

@@ -1,4 +1,4 @@
-use Rattle.std.proofs.Common.{ap, subst, sym, ◌∙◌}
+use Rattle.starlark_hash.proofs.Common.{ap, subst, sym, ◌∙◌}
 use Rattle.starlark_columns.specs.Between.{IsBetween}
 use Rattle.starlark_columns.proofs.Betweens.{between_front}
 use Rattle.starlark_vec2.proofs.TwoColumns.{len_is}

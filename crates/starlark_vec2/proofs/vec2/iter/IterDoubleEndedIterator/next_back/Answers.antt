@@ -1,5 +1,4 @@
-use Rattle.std.proofs.Common.{sym, ◌∙◌}
-use Rattle.std.specs.Map.Iter.{deref_pair}
+use Rattle.starlark_hash.proofs.Common.{sym, ◌∙◌, deref_pair}
 use Rattle.std_collections.proofs.IterRuns.{last_progress}
 use Rattle.starlark_vec2.proofs.StepsBack.{rest_back, pair_back}
 use Rattle.starlark_vec2.proofs.vec2.iter.IterDoubleEndedIterator.next_back.Goals as goal
@@ -11,7 +10,4 @@ returns-clause-steps g c =
     sym c.self.view_is ∙ pair_back _ _ _ _ _ _ xs ys c.self.invariant
 
 pub returns-clause-goes : goal.returns-clause-goes
-returns-clause-goes g c =
-    let xs = rest_back _ _ _ _ c.in_ok-first.was c.next_back.ensures.steps in
-    let ys = rest_back _ _ _ _ c.unwrap.ensures c.next_back-2.ensures.steps in
-    last_progress deref_pair _ _ _ (sym c.self.view_is ∙ pair_back _ _ _ _ _ _ xs ys c.self.invariant)
+returns-clause-goes g c = last_progress deref_pair _ _ _ (returns-clause-steps g c)

@@ -1,5 +1,0 @@
-use Rattle.starlark_vec2.proofs.TwoColumns.{pair_is}
-use Rattle.starlark_vec2.proofs.vec2.Vec2.get_unchecked.Goals as goal
-
-pub returns : goal.returns
-returns g c = pair_is c.self.inside.firsts.cells c.self.inside.seconds.cells c.self.inside.len c.self.invariant.0 c.args.self.now c.self.view_is c.args.index _ _ c.item.ensures c.item-2.ensures
