@@ -1,73 +1,37 @@
 -- When the look-ups of two lists of pairs agree.
-use Rattle.std.proofs.Common.{◌≡◌, ℕ, Bool, true, false, cond, List, [], ◌∷◌, Option, Some, None, refl, sym, ap, ◌∙◌, arith, count_by, is_some}
-use Rattle.std.specs.Cmp.{IsEquivalence}
-use Rattle.std.specs.List.{AllZip}
-use Rattle.std.specs.Map.{keys_of, lookup, update_all}
-use Rattle.std.specs.Set.{is_member}
-use Rattle.std.proofs.lemmas.Map.Made.{is_some-update_all}
-use Rattle.std.specs.Iterator.{Drains, Yields}
-use Rattle.std.specs.Prelude.{◌&&◌}
+use Rattle.starlark_hash.proofs.Common.{◌≡◌, Bool, true, List, [], ◌∷◌, Option, None, sym, ap, ◌∙◌, arith, count_by, is_some, IsEquivalence, AllZip, keys_of, update_all, is_member, is_some-update_all, Drains, Yields}
 use Rattle.starlark_unordered.specs.Bag.{same_bag}
 use Rattle.starlark_unordered.specs.BagLaws.{counts_from_bag, pair_equiv}
 use Rattle.starlark_unordered.specs.Lookup.{found}
 use Rattle.starlark_hash.specs.Clone.{IsEqualClone, IsPairClone}
 use Rattle.starlark_hash.specs.Unit.{StepsBeside, same_unit, unit_equiv}
 use Rattle.starlark_unordered.specs.Pairs.{pair_eq}
-use Rattle.starlark_unordered.proofs.AddedWritten.{none_counted}
-use Rattle.starlark_unordered.proofs.Callers.{counted_found}
-use Rattle.starlark_unordered.proofs.Lists.{count-cons}
+use Rattle.starlark_unordered.proofs.Lists.{count-zip, none_counted, nothing, same_key, zip-map}
+use Rattle.std.proofs.Math.Bool.{and-true}
 
 module _ {K V : Type 0} where
-  agree_step : (t : K → Bool) (ps qs : List (K × V)) (a b : Option V) → lookup t ps ≡ a → lookup t qs ≡ b → count_by (λ p. t p.0) ps ≡ count_by (λ p. t p.0) qs → is_some a ≡ is_some b
-  agree_step t ps qs None None e f same = refl
-  agree_step t ps qs (Some v) (Some w) e f same = refl
-  agree_step t ps qs None (Some w) e f same =
-      let none = none_counted t ps e in
-      let one = counted_found t qs w f in
-      absurd (omega (arith, same, none, one))
-  agree_step t ps qs (Some v) None e f same =
-      let one = counted_found t ps v e in
-      let none = none_counted t qs f in
-      absurd (omega (arith, same, none, one))
-
   -- where as many keys pass, look-ups agree
   pub agree : (t : K → Bool) (ps qs : List (K × V)) → count_by (λ p. t p.0) ps ≡ count_by (λ p. t p.0) qs → is_some (found t ps) ≡ is_some (found t qs)
   unfolding found
-  agree t ps qs same = agree_step t ps qs (lookup t ps) (lookup t qs) refl refl same
+  agree t ps qs same = grind (arith, none_counted t ps, none_counted t qs, nothing t ps, nothing t qs, same)
 
   -- clones of the pairs, whose keys are equal to their originals
   module _ (eq : K → K → Bool) (laws : IsEquivalence eq) (key : K → K → Type 0) (value : V → V → Type 0) (equal : IsEqualClone eq key) where
-    counts-cloned : (k : K) (ps qs : List (K × V)) → AllZip (IsPairClone key value) ps qs → count_by (λ p. eq k p.0) qs ≡ count_by (λ p. eq k p.0) ps
-    counts-cloned k [] [] all = refl
-    counts-cloned k [] (q ∷ qs) all = absurd all
-    counts-cloned k (p ∷ ps) [] all = absurd all
-    counts-cloned k (p ∷ ps) (q ∷ qs) all =
-        let here : eq k q.0 ≡ eq k p.0 = laws.symm k q.0 ∙ sym (laws.congr p.0 q.0 k (equal p.0 q.0 all.0.0)) ∙ laws.symm p.0 k in
-        let one : cond {A = ℕ} (eq k q.0) 1 0 ≡ cond (eq k p.0) 1 0 = ap (λ b. cond {A = ℕ} b 1 0) here in
-        let new = count-cons (λ (p : K × V). eq k p.0) q qs in
-        let old = count-cons (λ (p : K × V). eq k p.0) p ps in
-        let rest = counts-cloned k ps qs all.1 in
-        omega (arith, one, new, old, rest)
+    pub counts-cloned : (k : K) (ps qs : List (K × V)) → AllZip (IsPairClone key value) ps qs → count_by (λ p. eq k p.0) qs ≡ count_by (λ p. eq k p.0) ps
+    counts-cloned k ps qs all = count-zip (IsPairClone key value) (λ p. eq k p.0) (λ q. eq k q.0) (λ p q c. same_key eq laws p.0 q.0 k (equal p.0 q.0 c.0)) ps qs all
 
     pub found-cloned : (ps qs : List (K × V)) → AllZip (IsPairClone key value) ps qs → (k : K) → is_some (found (eq k) qs) ≡ is_some (found (eq k) ps)
     found-cloned ps qs all k = agree (eq k) qs ps (counts-cloned k ps qs all)
 
   pub keys-cloned : (key : K → K → Type 0) (value : V → V → Type 0) (ps qs : List (K × V)) → AllZip (IsPairClone key value) ps qs → AllZip key (keys_of ps) (keys_of qs)
-  keys-cloned key value [] [] all = tt
-  keys-cloned key value [] (q ∷ qs) all = absurd all
-  keys-cloned key value (p ∷ ps) [] all = absurd all
-  keys-cloned key value (p ∷ ps) (q ∷ qs) all = (all.0.0, keys-cloned key value ps qs all.1)
+  keys-cloned key value ps qs all = zip-map (IsPairClone key value) key (λ p. p.0) (λ q. q.0) (λ p q c. c.0) ps qs all
 
 module _ {T : Type 0} (eq : T → T → Bool) (laws : IsEquivalence eq) where
-  and_true : (b : Bool) → (b && true) ≡ b
-  and_true true = refl
-  and_true false = refl
-
   -- equal sets agree on each element
   pub found-equal : (ps qs : List (T × Unit {0})) → same_bag (pair_eq eq same_unit) ps qs ≡ true → (k : T) → is_some (found (eq k) ps) ≡ is_some (found (eq k) qs)
   found-equal ps qs same k =
       let counts = counts_from_bag (pair_eq eq same_unit) (pair_equiv eq same_unit laws unit_equiv) ps qs same (k, tt) in
-      let test : (λ (p : T × Unit {0}). pair_eq eq same_unit (k, tt) p) ≡ (λ p. eq k p.0) = λ i p. and_true (eq k p.0) i in
+      let test : (λ (p : T × Unit {0}). pair_eq eq same_unit (k, tt) p) ≡ (λ p. eq k p.0) = λ i p. and-true (eq k p.0) i in
       agree (eq k) ps qs (ap (λ t. count_by t ps) (sym test) ∙ counts ∙ ap (λ t. count_by t qs) test)
 
   -- the items of an iterator that gives each beside `()`

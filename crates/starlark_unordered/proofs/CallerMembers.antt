@@ -1,31 +1,19 @@
 -- What holds of all keys, values and pairs of an unordered map, and what is among them, after an insertion, a removal and a write
 -- through a reference. Each takes the record that is the call's clause.
-use Rattle.std.proofs.Common.{◌≡◌, suc, Bool, true, false, IfNone, IfSome, List, [], ◌∷◌, map, Ok, Option, Some, None, is_some, refl, sym, ap, subst, ◌∙◌, arith}
-use Rattle.std.specs.Prelude.{if◌then◌else◌}
-use Rattle.std.specs.List.{All, Contains}
-use Rattle.std.specs.Map.{keys_of, lookup, set_value, values_of}
-use Rattle.std.proofs.lemmas.Bool.{false≢true}
-use Rattle.std.proofs.lemmas.List.Elements.{All-cons, All-tail}
-use Rattle.std.proofs.lemmas.List.Sorted.{Contains-permutation, IsPermutation-map, IsPermutation-sym}
+use Rattle.starlark_hash.proofs.Common.{◌≡◌, suc, Bool, true, false, IfNone, IfSome, List, [], ◌∷◌, map, Ok, Option, Some, None, is_some, refl, sym, ap, subst, ◌∙◌, arith, if◌then◌else◌, All, Contains, keys_of, lookup, set_value, values_of, false≢true, All-cons, All-tail, Contains-permutation, IsPermutation-map, IsPermutation-sym, cond_both}
 use Rattle.std.proofs.lemmas.Map.Views.{All-map-IsPermutation, All-values-set_value}
 use Rattle.starlark_table.specs.Table.{Table}
 use Rattle.starlark_unordered.specs.Insert.{Inserts}
 use Rattle.starlark_unordered.specs.Remove.{Removes}
 use Rattle.starlark_unordered.specs.Pairs.{IsWithout, IsWritten, pairs_of, with_pair}
+use Rattle.std.proofs.lemmas.Map.{keys-set_value}
 
 -- an element after a first one
 later : {X : Type 0} (x : X) (xs : List X) (y : X) → Contains xs y → Contains (x ∷ xs) y
 later x xs y at = (suc at.0, (let below = at.1 in omega (arith, below)), at.2)
 
 module _ {K V : Type 0} (test : K → Bool) where
-  -- a value that is written moves no key, and is among the values where the key is there
-  same-keys : (ps : List (K × V)) (w : V) → keys_of (set_value test ps w) ≡ keys_of ps
-  same-keys [] w = refl
-  same-keys (p ∷ ps) w = elim (test p.0) as (λ b. keys_of (if b then (p.0, w) ∷ ps else p ∷ set_value test ps w) ≡ p.0 ∷ keys_of ps) [
-    | true ↦ refl
-    | false ↦ ap (λ ks. p.0 ∷ ks) (same-keys ps w)
-  ]
-
+  -- a value that is written is among the values where the key is there
   one-written : (ps : List (K × V)) (w : V) → is_some (lookup test ps) ≡ true → Contains (values_of (set_value test ps w)) w
   one-written [] w there = absurd (false≢true there)
   one-written (p ∷ ps) w there = (elim (test p.0) as (λ b. is_some (if b then Some p.1 else lookup test ps) ≡ true → Contains (values_of (if b then (p.0, w) ∷ ps else p ∷ set_value test ps w)) w) [
@@ -36,14 +24,11 @@ module _ {K V : Type 0} (test : K → Bool) where
 -- An insertion puts in one pair more, or the value at a key that stays.
 module _ {K V A B : Type 0} {eq : K → K → Bool} {before after : Table (K × V)} {key : K} {value : V} {back : B} {tells : Option V → A} {was : A} (inserts : Inserts eq before after key value back tells (Ok was)) where
   by-case : (F : List (K × V) → Type 0) → (is_some (lookup (eq key) (pairs_of before)) ≡ true → F (set_value (eq key) (pairs_of before) value)) → F ((key, value) ∷ pairs_of before) → F (with_pair eq key value (pairs_of before))
-  by-case F there last = (elim (is_some (lookup (eq key) (pairs_of before))) as (λ b. is_some (lookup (eq key) (pairs_of before)) ≡ b → F (if b then set_value (eq key) (pairs_of before) value else (key, value) ∷ pairs_of before)) [
-    | true ↦ there
-    | false ↦ λ not. last
-  ]) refl
+  by-case F there last = cond_both (is_some (lookup (eq key) (pairs_of before))) (set_value (eq key) (pairs_of before) value) ((key, value) ∷ pairs_of before) F there (λ not. last)
 
   pub All-keys-inserts : (P : K → Type 0) → All P (keys_of (pairs_of before)) → P key → All P (keys_of (pairs_of after))
   All-keys-inserts P all p = All-map-IsPermutation (λ (x : K × V). x.0) P (with_pair eq key value (pairs_of before)) (pairs_of after) inserts.pairs
-      (by-case (λ ps. All P (keys_of ps)) (λ there. subst (All P) (sym (same-keys (eq key) (pairs_of before) value)) all) (All-cons P key (keys_of (pairs_of before)) p all))
+      (by-case (λ ps. All P (keys_of ps)) (λ there. subst (All P) (sym (keys-set_value (eq key) (pairs_of before) value)) all) (All-cons P key (keys_of (pairs_of before)) p all))
 
   pub All-values-inserts : (P : V → Type 0) → All P (values_of (pairs_of before)) → P value → All P (values_of (pairs_of after))
   All-values-inserts P all p = All-map-IsPermutation (λ (x : K × V). x.1) P (with_pair eq key value (pairs_of before)) (pairs_of after) inserts.pairs
@@ -78,7 +63,7 @@ module _ {K V X : Type 0} (f : K × V → X) {eq : K → K → Bool} {test : K �
 -- A value that is written through a reference moves no key.
 module _ {K V : Type 0} {test : K → Bool} {old new : Table (K × V)} {value : V} (writes : IsWritten test old value new) where
   pub All-keys-writes : (P : K → Type 0) → All P (keys_of (pairs_of old)) → All P (keys_of (pairs_of new))
-  All-keys-writes P all = subst (All P) (sym (ap keys_of writes.pairs ∙ same-keys test (pairs_of old) value)) all
+  All-keys-writes P all = subst (All P) (sym (ap keys_of writes.pairs ∙ keys-set_value test (pairs_of old) value)) all
 
   pub All-values-writes : (P : V → Type 0) → All P (values_of (pairs_of old)) → P value → All P (values_of (pairs_of new))
   All-values-writes P all p = subst (λ ps. All P (values_of ps)) (sym writes.pairs) (All-values-set_value test P (pairs_of old) value all p)

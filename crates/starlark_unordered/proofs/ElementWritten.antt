@@ -1,8 +1,6 @@
 -- A raw entry of a set whose element was written.
-use Rattle.std.proofs.Common.{◌≡◌, ◌∙◌, ℕ, true, Option, Some, None, refl, sym, ap, subst}
-use Rattle.std.proofs.Math.Bool.{Bool-set}
-use Rattle.std.proofs.lemmas.Bool.{false≢true}
-use Rattle.std.specs.Option.{is_some, option_map}
+use Rattle.starlark_hash.proofs.Common.{◌≡◌, ◌∙◌, ℕ, true, Option, Some, None, refl, ap, Bool-set, false≢true, option_map}
+use Rattle.std.specs.Option.{is_some}
 use Rattle.std.specs.declared.cmp.PartialEq as eq
 use Rattle.std.specs.declared.hash.Hash as hash
 use Rattle.starlark_table.specs.Table.{Table, item_in, member_at}
@@ -13,11 +11,8 @@ use Rattle.starlark_unordered.specs.Slots.{set_same}
 use Rattle.starlark_unordered.specs.declared.unordered_set.raw_entry.RawOccupiedEntryMut.{RawOccupiedEntryMut}
 
 module _ {T : Type 0} {g : eq.Ghosts T} {h : hash.Ghosts T} (o : RawOccupiedEntryMut T g h) (element : T) where
-  written : (p : is_some (item_in (with_key o.map.now o.slot element) o.slot) ≡ true) → record { map = record o.map { now = with_key o.map.now o.slot element }; slot = o.slot; there = p } ≡ with_raw_element o element
-  written p = ap (λ q. record (with_raw_element o element) { there = q }) (Bool-set _ _ p (with_raw_element o element).there)
-
   pub raw_element_put : (n : Set T) → n ≡ with_key o.map.now o.slot element → (p : is_some (item_in n o.slot) ≡ true) → record { map = record o.map { now = n }; slot = o.slot; there = p } ≡ with_raw_element o element
-  raw_element_put n e = subst (λ n. (p : is_some (item_in n o.slot) ≡ true) → record { map = record o.map { now = n }; slot = o.slot; there = p } ≡ with_raw_element o element) (sym e) written
+  raw_element_put n e = rw e (λ p. ap (λ q. record (with_raw_element o element) { there = q }) (Bool-set _ _ p (with_raw_element o element).there))
 
 module _ {K V : Type 0} (m : Table (K × V)) (slot : ℕ) (key : K) where
   shown : (o : Option (ℕ × (K × V))) → is_some (option_map (λ m. m.1) o) ≡ true

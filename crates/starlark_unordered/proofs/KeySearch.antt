@@ -1,25 +1,16 @@
 -- A search of the items of a hash, as a search of their keys.
-use Rattle.std.proofs.Common.{◌≡◌, ℕ, suc, ◌+◌, ◌<◌, ◌^◌, Bool, true, false, cond, if◌then◌else◌, nat_eq, eq-eqb, eqb-true, List, [], ◌∷◌, ◌++◌, map, Option, Some, None, refl, ap, sym, ◌∙◌, subst, arith, IsPermutation}
-use Rattle.std.specs.Borrow.{Bor}
-use Rattle.std.specs.Fn.{Mut, CalledAt, TakesAt}
-use Rattle.std.specs.List.{All, Contains, enumerate_from, filter}
-use Rattle.std.specs.Cmp.{both_ways}
-use Rattle.std.specs.Hash.{HashWrites}
-use Rattle.std.proofs.lemmas.List.Elements.{All-contains, All-tail}
+use Rattle.starlark_hash.proofs.Common.{◌≡◌, ℕ, suc, ◌+◌, ◌<◌, ◌^◌, Bool, true, false, nat_eq, List, [], ◌∷◌, ◌++◌, map, Option, Some, None, refl, ap, sym, subst, arith, IsPermutation, Bor, Mut, CalledAt, TakesAt, All, Contains, enumerate_from, HashWrites, All-tail, IsPermutation-map, IsPermutation-sym, Contains-permutation, none-some, same_Some, IfSome, map-append, nat_tests, All-head}
+use Rattle.std.specs.List.{filter}
 use Rattle.starlark_hash.specs.Hasher.{own_hash}
 use Rattle.starlark_hash.specs.HashValue.{hash_number, promoted}
 use Rattle.starlark_hash.specs.declared.hash_value.StarlarkHashValue.{StarlarkHashValue}
 use Rattle.starlark_hash.proofs.Promote.{promoted-injective}
 use Rattle.starlark_unordered.specs.Pairs.{has_own_hash, keys_from, keys_under}
 use Rattle.starlark_unordered.specs.Sound.{IsKeyed, keyed, home_of}
-use Rattle.std.proofs.lemmas.List.Sorted.{IsPermutation-map, IsPermutation-sym, Contains-permutation}
-use Rattle.std.proofs.lemmas.Option.{none-some, same_Some}
 use Rattle.starlark_hash.specs.Search.{Asks, Searches, Refuses, CanSearch}
-use Rattle.std.specs.Prelude.{IfSome}
-use Rattle.std.specs.Option.{is_some, option_map}
+use Rattle.std.specs.Option.{is_some}
 use Rattle.starlark_table.specs.Table.{Table, members, filled, holders, items_under, item_in}
 use Rattle.starlark_table.proofs.TableLemmas.{member_at-items_under}
-use Rattle.starlark_unordered.proofs.Lists.{map-middle}
 
 -- the same names, each with its key
 abbrev pub named_keys : {K V : Type 0} → List (ℕ × (K × V)) → List (ℕ × K)
@@ -32,26 +23,17 @@ module _ {K : Type 0} (feeds : K → HashWrites) (hash : StarlarkHashValue) (fit
 
   -- two own hashes are promoted alike only where they are the same
   pub same_test : (key : K) (h : ℕ) → h ≡ home_of feeds key → nat_eq h home ≡ has_own_hash feeds hash key
-  same_test key h own =
-      both_ways (nat_eq h home) (has_own_hash feeds hash key)
-      (λ same. eq-eqb (hash_number (own_hash feeds key)) (hash_number hash)
-      (promoted-injective (hash_number (own_hash feeds key)) (hash_number hash) (omega arith) fits (sym own ∙ eqb-true h home same)))
-      (λ same. eq-eqb h home (own ∙ ap promoted (eqb-true (hash_number (own_hash feeds key)) (hash_number hash) same)))
+  same_test key h own = grind (arith, nat_tests, own, promoted-injective (hash_number (own_hash feeds key)) (hash_number hash) (omega arith) fits)
 
 module _ {K V : Type 0} (feeds : K → HashWrites) (hash : StarlarkHashValue) (fits : hash_number hash < 2 ^ 32) where
-  named_step : (n : ℕ) (p : K × V) (named : List (ℕ × (K × V))) (keys : List (ℕ × K)) (a b : Bool) → a ≡ b → named_keys named ≡ keys
-      → named_keys (if a then (n, p) ∷ named else named) ≡ cond b ((n, p.0) ∷ keys) keys
-  named_step n p named keys true b same later = subst (λ c. (n, p.0) ∷ named_keys named ≡ cond c ((n, p.0) ∷ keys) keys) same (ap (λ l. (n, p.0) ∷ l) later)
-  named_step n p named keys false b same later = subst (λ c. named_keys named ≡ cond c ((n, p.0) ∷ keys) keys) same later
-
   named-holders : (n : ℕ) (slots : List (Option (ℕ × (K × V)))) → All (λ p. p.0 ≡ home_of feeds p.1) (keyed (filled slots))
       → named_keys (holders (home feeds hash fits) (enumerate_from n slots)) ≡ filter (λ s. has_own_hash feeds hash s.1) (keys_from n slots)
   named-holders n [] own = refl
   named-holders n (None ∷ slots) own = named-holders (n + 1) slots own
   named-holders n (Some (h, p) ∷ slots) own =
-      named_step n p (holders (home feeds hash fits) (enumerate_from (n + 1) slots)) (filter (λ s. has_own_hash feeds hash s.1) (keys_from (n + 1) slots)) (nat_eq h (home feeds hash fits)) (has_own_hash feeds hash p.0)
-      (same_test feeds hash fits p.0 h (All-contains (λ p. p.0 ≡ home_of feeds p.1) (keyed ((h, p) ∷ filled slots)) (h, p.0) own (0, omega arith, refl)))
-      (named-holders (n + 1) slots (All-tail (λ p. p.0 ≡ home_of feeds p.1) (h, p.0) (keyed (filled slots)) own))
+      let same = same_test feeds hash fits p.0 h (All-head (λ p. p.0 ≡ home_of feeds p.1) (h, p.0) (keyed (filled slots)) own) in
+      let later = named-holders (n + 1) slots (All-tail (λ p. p.0 ≡ home_of feeds p.1) (h, p.0) (keyed (filled slots)) own) in
+      grind (arith, same, later)
 
   pub named-items_under : (eq : K → K → Bool) (m : Table (K × V)) → IsKeyed eq feeds (keyed (members m)) → named_keys (items_under (home feeds hash fits) m) ≡ keys_under feeds hash m
   named-items_under eq m keys = named-holders 0 m.slots keys.own
@@ -79,7 +61,7 @@ module _ {C F K V : Type 0} (g : Mut F (Bor K × Unit {0}) Bool) (w : Mut C (Bor
   can_search_items takes items s can = record {
     at = λ before p after later moves refused.
         takes later p.1 (can.at (named_keys before) (p.0, p.1.0) (named_keys after) (inner later)
-        (subst (IsPermutation (named_keys items)) (map-middle (λ s. (s.0, s.1.0)) before p after) (IsPermutation-map (λ s. (s.0, s.1.0)) items (before ++ p ∷ after) moves))
+        (subst (IsPermutation (named_keys items)) (map-append (λ s. (s.0, s.1.0)) before (p ∷ after)) (IsPermutation-map (λ s. (s.0, s.1.0)) items (before ++ p ∷ after) moves))
         (refuses_keys before s later refused));
   }
 
@@ -94,16 +76,11 @@ module _ {C X : Type 0} (w : Mut C (Bor X × Unit {0}) Bool) where
   asked_about (p ∷ order) s last slot (false, t, called, rest) =
       let later = asked_about order t last slot rest in (later.0, (suc later.1.0, omega (arith, later.1.1), later.1.2))
 
-  -- a name that is found is that of an item
-  pub found_item : (items : List (ℕ × X)) (s last : C) (slot : ℕ) → Searches w items s (Some slot) last → (x : X) × Contains items (slot, x)
-  found_item items s last slot search =
-      let there = asked_about search.order s last slot search.asks in
-      (there.0, Contains-permutation search.order items (slot, there.0) (IsPermutation-sym items search.order search.rearranged) there.1)
-
 -- a slot that is found has a pair
 pub found_there : {C K V : Type 0} (w : Mut C (Bor (K × V) × Unit {0}) Bool) (hash : ℕ) (m : Table (K × V)) (s last : C) (answer : Option ℕ) → Searches w (items_under hash m) s answer last
     → IfSome answer (λ slot. is_some (item_in m slot) ≡ true)
 found_there w hash m s last None search = tt
-found_there {K = K} {V = V} w hash m s last (Some slot) search =
-    let there = found_item w (items_under hash m) s last slot search in
-    ap (λ o. is_some (option_map {T = ℕ × (K × V)} (λ n. n.1) o)) (member_at-items_under hash m (slot, there.0) there.1)
+found_there w hash m s last (Some slot) search =
+    let (x, there) = asked_about w search.order s last slot search.asks in
+    let at = member_at-items_under hash m (slot, x) (Contains-permutation search.order (items_under hash m) (slot, x) (IsPermutation-sym (items_under hash m) search.order search.rearranged) there) in
+    rw at

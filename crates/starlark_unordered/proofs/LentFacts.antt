@@ -1,12 +1,10 @@
 -- What is known of a pair that was placed and then lent.
-use Rattle.std.proofs.Common.{◌≡◌, ℕ, true, Some, sym, ap, subst, ◌∙◌, true≢false}
-use Rattle.std.specs.Prelude.{Result, Ok, Err, IfOk, IfErr, IsOk, OnOk, OnErr, MatchResult}
+use Rattle.starlark_hash.proofs.Common.{◌≡◌, ℕ, true, Some, sym, ap, subst, ◌∙◌, true≢false, Result, Ok, Err, IfOk, IfErr, IsOk, OnOk, OnErr, MatchResult, Bor, MutBor, IfOk-weaker}
 use Rattle.std.specs.Option.{is_some}
-use Rattle.std.specs.Borrow.{Bor, MutBor}
-use Rattle.std.proofs.lemmas.Option.{same_Some}
 use Rattle.starlark_table.specs.Table.{Table, item_in}
 use Rattle.starlark_unordered.specs.Pairs.{with_value}
 use Rattle.starlark_unordered.specs.Lend.{IsAdded}
+use Rattle.std.proofs.lemmas.Option.{some_pair_parts}
 
 -- `lent` answers where there is a slot, or hands the refusal on
 abbrev pub HandsOn : {A E : Type 0} → Result ℕ E → Result A E → Type 0
@@ -18,16 +16,10 @@ module _ {A E : Type 0} where
   handed_lent (Ok i) (Err e) on P is = absurd (true≢false (sym on))
   handed_lent (Err e) lent on P is = subst (λ (r : Result A E). IfErr r P) (sym on) is
 
-  pub full_lent : (placed : Result ℕ E) (lent : Result A E) → HandsOn placed lent → (P : Type 0) → OnErr placed P → OnErr lent P
-  full_lent (Ok i) (Ok x) on P is = tt
-  full_lent (Ok i) (Err e) on P is = absurd (true≢false (sym on))
-  full_lent (Err e) lent on P is = subst (λ (r : Result A E). OnErr r P) (sym on) is
-
 module _ {K V : Type 0} {E : Type 0} where
   -- a pair that was placed is there
   pub there_is : (key : K) (value : V) (n : Table (K × V)) (placed : Result ℕ E) → IfOk placed (λ i. item_in n i ≡ Some (key, value)) → IfOk placed (λ i. is_some (item_in n i) ≡ true)
-  there_is key value n (Ok i) is = ap is_some is
-  there_is key value n (Err e) is = tt
+  there_is key value n placed is = IfOk-weaker placed (λ i. item_in n i ≡ Some (key, value)) (λ i. is_some (item_in n i) ≡ true) (λ i. ap is_some) is
 
   module _ {A : Type 0} (m : Table (K × V)) where
     pub added_lent : (key : K) (n : Table (K × V)) (placed : Result ℕ E) (lent : Result A E) → HandsOn placed lent → IfOk placed (λ i. (w : V) → IsAdded m key w (with_value n i w))
@@ -43,9 +35,6 @@ module _ {K V : Type 0} {E : Type 0} where
 
   pub shown_lent : (n : Table (K × V)) (key : K) (value : V) (placed : Result ℕ E) (lent : Result (Bor K × MutBor V) E) → HandsOn placed lent → IfOk placed (λ i. item_in n i ≡ Some (key, value))
       → IfOk placed (λ i. IfOk lent (λ z. item_in n i ≡ Some (z.0.now, z.1.now))) → IfOk lent (λ z. (z.0.now ≡ key) × (z.1.now ≡ value))
-  shown_lent n key value (Ok i) (Ok z) on there shown =
-      let lent : K × V = (z.0.now, z.1.now) in let wanted : K × V = (key, value) in
-      let same = same_Some lent wanted (sym shown ∙ there) in
-      (ap (λ p. p.0) same, ap (λ p. p.1) same)
+  shown_lent n key value (Ok i) (Ok z) on there shown = some_pair_parts z.0.now key z.1.now value (sym shown ∙ there)
   shown_lent n key value (Ok i) (Err e) on there shown = tt
   shown_lent n key value (Err e) lent on there shown = subst (λ (r : Result (Bor K × MutBor V) E). IfOk r (λ z. (z.0.now ≡ key) × (z.1.now ≡ value))) (sym on) tt

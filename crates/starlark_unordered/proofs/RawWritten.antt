@@ -1,28 +1,21 @@
 -- A raw entry that was written, and its pair in the place of the one before.
-use Rattle.std.proofs.Common.{◌≡◌, ℕ, true, map, Option, Some, None, refl, sym, ap, subst, ◌∙◌}
-use Rattle.std.proofs.Math.Bool.{Bool-set}
-use Rattle.std.specs.Prelude.{IfSome, slice_set}
-use Rattle.std.specs.Option.{is_some, option_map}
+use Rattle.starlark_hash.proofs.Common.{◌≡◌, ◌∷◌, ℕ, true, map, Option, Some, None, refl, ap, ◌∙◌, Bool-set, IfSome, slice_set, option_map, none-some, same_Some, map-append}
+use Rattle.std.specs.Option.{is_some}
 use Rattle.std.specs.declared.cmp.PartialEq as eq
 use Rattle.std.specs.declared.hash.Hash as hash
-use Rattle.std.proofs.lemmas.Option.{none-some, same_Some}
 use Rattle.starlark_table.specs.Table.{Table, filled, item_in, member_at}
 use Rattle.starlark_unordered.specs.Pairs.{pairs_of, with_value}
 use Rattle.starlark_unordered.specs.RawEntry.{with_raw_value, with_raw_key, with_key, IsInPlace}
 use Rattle.starlark_unordered.specs.declared.raw_entry.RawOccupiedEntryMut.{RawOccupiedEntryMut}
 use Rattle.starlark_unordered.proofs.Keys.{member_of-item}
-use Rattle.starlark_unordered.proofs.Lists.{map-middle}
 use Rattle.starlark_unordered.proofs.Slots.{apart_at}
 
 module _ {K V : Type 0} {g : eq.Ghosts K} {h : hash.Ghosts K} (o : RawOccupiedEntryMut K V g h) where
   pub raw_value_written : (w : V) (p : is_some (item_in (with_value o.map.now o.slot w) o.slot) ≡ true) → record { map = record o.map { now = with_value o.map.now o.slot w }; slot = o.slot; there = p } ≡ with_raw_value o w
   raw_value_written w p = ap (λ q. record (with_raw_value o w) { there = q }) (Bool-set _ _ p (with_raw_value o w).there)
 
-  raw_key_written : (key : K) (p : is_some (item_in (with_key o.map.now o.slot key) o.slot) ≡ true) → record { map = record o.map { now = with_key o.map.now o.slot key }; slot = o.slot; there = p } ≡ with_raw_key o key
-  raw_key_written key p = ap (λ q. record (with_raw_key o key) { there = q }) (Bool-set _ _ p (with_raw_key o key).there)
-
   pub raw_key_put : (key : K) (n : Table (K × V)) → n ≡ with_key o.map.now o.slot key → (p : is_some (item_in n o.slot) ≡ true) → record { map = record o.map { now = n }; slot = o.slot; there = p } ≡ with_raw_key o key
-  raw_key_put key n e = subst (λ n. (p : is_some (item_in n o.slot) ≡ true) → record { map = record o.map { now = n }; slot = o.slot; there = p } ≡ with_raw_key o key) (sym e) (raw_key_written key)
+  raw_key_put key n e = rw e (λ p. ap (λ q. record (with_raw_key o key) { there = q }) (Bool-set _ _ p (with_raw_key o key).there))
 
 module _ {K V : Type 0} (m : Table (K × V)) (slot : ℕ) where
   -- where the pair of a slot is made another, and its hash stays
@@ -34,9 +27,9 @@ module _ {K V : Type 0} (m : Table (K × V)) (slot : ℕ) where
       let a = apart_at m.slots slot (at.0, q) at.1 in (
         map (λ n. n.1) a.before,
         map (λ n. n.1) a.after,
-        ap (map (λ n. n.1)) a.is ∙ map-middle (λ n. n.1) a.before (at.0, q) a.after,
+        ap (map (λ n. n.1)) a.is ∙ map-append (λ n. n.1) a.before ((at.0, q) ∷ a.after),
         ap (λ o. map (λ n. n.1) (filled (slice_set m.slots slot (option_map (λ e. (e.0, f e.1)) o)))) at.1
-            ∙ ap (map (λ n. n.1)) (a.written (at.0, f q)) ∙ map-middle (λ n. n.1) a.before (at.0, f q) a.after,
+            ∙ ap (map (λ n. n.1)) (a.written (at.0, f q)) ∙ map-append (λ n. n.1) a.before ((at.0, f q) ∷ a.after),
       )
 
   pub value_in_place : (w : V) → IfSome (item_in m slot) (λ p. IsInPlace p (p.0, w) (pairs_of m) (pairs_of (with_value m slot w)))
@@ -49,6 +42,4 @@ module _ {K V : Type 0} (m : Table (K × V)) (slot : ℕ) where
 pub element_in_place : {T : Type 0} (m : Table (T × Unit {0})) (slot : ℕ) (element was : T) (found : Option (T × Unit {0})) → item_in m slot ≡ found → option_map (λ p. p.0) found ≡ Some was
     → (n : Table (T × Unit {0})) → n ≡ with_key m slot element → IsInPlace (was, tt) (element, tt) (pairs_of m) (pairs_of n)
 element_in_place m slot element was None is old n new = absurd (none-some was old)
-element_in_place m slot element was (Some p) is old n new =
-    let place = subst (λ o. IfSome o (λ p. IsInPlace p (element, p.1) (pairs_of m) (pairs_of (with_key m slot element)))) is (key_in_place m slot element) in
-    subst (λ x. IsInPlace (x, tt) (element, tt) (pairs_of m) (pairs_of n)) (same_Some p.0 was old) (subst (λ l. IsInPlace p (element, tt) (pairs_of m) (pairs_of l)) (sym new) place)
+element_in_place m slot element was (Some p) is old n new = rw (new, ← same_Some p.0 was old) (rw is at (key_in_place m slot element))

@@ -1,7 +1,6 @@
 -- The runs of an iterator that is seen as the list of what it has left.
-use Rattle.std.proofs.Common.{◌≡◌, List, [], ◌∷◌, map, length, ap, sym, ◌∙◌}
+use Rattle.starlark_hash.proofs.Common.{◌≡◌, List, [], ◌∷◌, map, length, ap, sym, ◌∙◌, Drains, Yields}
 use Rattle.std.proofs.iter.runs.Sources.{from_front}
-use Rattle.std.specs.Iterator.{Drains, Yields}
 use Rattle.std.specs.Map.Iter.{TakesFirst, ShowsInOrder}
 
 module _ {A X : Type 0} (shows : A → X) where

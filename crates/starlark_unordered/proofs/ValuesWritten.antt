@@ -1,7 +1,5 @@
 -- Slots of pairs whose values were written have their own hashes and keys.
-use Rattle.std.proofs.Common.{◌≡◌, ℕ, List, [], ◌∷◌, Option, Some, None, refl, sym, ap, subst}
-use Rattle.std.specs.Hash.{HashWrites}
-use Rattle.std.specs.Prelude.{Bool}
+use Rattle.starlark_hash.proofs.Common.{◌≡◌, ℕ, List, [], ◌∷◌, Option, Some, None, refl, sym, ap, subst, HashWrites, Bool}
 use Rattle.starlark_table.specs.Table.{filled}
 use Rattle.starlark_table.specs.Lend.{with_values_of}
 use Rattle.starlark_unordered.specs.Sound.{IsKeyed, keyed}

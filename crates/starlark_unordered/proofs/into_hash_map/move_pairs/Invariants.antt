@@ -1,4 +1,4 @@
-use Rattle.std.proofs.Common.{◌++◌, length, map, IsPermutation}
+use Rattle.starlark_hash.proofs.Common.{◌++◌, length, map, IsPermutation}
 use Rattle.starlark_unordered.specs.Pairs.{HasDistinctKeys}
 use Rattle.starlark_unordered.proofs.into_hash_map.move_pairs.Given as goal
 

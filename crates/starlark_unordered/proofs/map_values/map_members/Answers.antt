@@ -1,17 +1,16 @@
-use Rattle.starlark_columns.proofs.Walking.{◌≡◌, ◌∙◌, [], ◌∷◌, length, map, ap, subst, arith, rules, length_permutation}
-use Rattle.std.specs.Fn.{Takes}
+use Rattle.starlark_columns.proofs.Walking.{◌≡◌, ◌∙◌, [], ◌∷◌, length, map, ap, arith, rules, length_permutation}
+use Rattle.starlark_hash.proofs.Common.{Takes}
 use Rattle.starlark_hash.specs.HashValue.{hash_number, promoted}
 use Rattle.starlark_table.specs.Table.{members}
 use Rattle.starlark_table.proofs.Walking.{walk_asks, walk_on}
-use Rattle.starlark_unordered.specs.MapValues.{CanMapValues}
-use Rattle.starlark_unordered.proofs.Mapping.{Goes, goes_on, goes_to_end}
+use Rattle.starlark_unordered.proofs.Mapping.{goes_on, goes_to_end}
 use Rattle.starlark_unordered.proofs.map_values.map_members.Goals as goal
 
 pub f-value-requires : goal.f-value-requires
 f-value-requires g c =
     let here : c.loop-hash.walk ≡ (promoted (hash_number c.in-Some.hash), (c.in-Some.key, c.in-Some.value)) ∷ c.next_kept.new.self = search rules in
     walk_asks (λ f p. Takes g.F.FnMut f (p.1, tt)) _ (c.in-Some.key, c.in-Some.value) (map (λ m. m.1) c.next_kept.new.self) c.loop-hash.f
-    (subst (λ l. CanMapValues g.F.FnMut (map (λ m. m.1) l) c.loop-hash.f) here c.loop-hash.invariant.callable)
+    (rw here at c.loop-hash.invariant.callable)
 
 pub loop-hash-preserved : goal.loop-hash-preserved
 loop-hash-preserved g c =
@@ -25,10 +24,9 @@ loop-hash-preserved g c =
       room = omega (arith, shorter, longer, room, fits);
       same = room ∙ before.same;
       callable = walk_on (λ f p. Takes g.F.FnMut f (p.1, tt)) _ (c.in-Some.key, c.in-Some.value) (map (λ m. m.1) c.next_kept.new.self) c.loop-hash.f c.f-value.new.self (c.f-value.result, c.f-value.ensures)
-          (subst (λ l. CanMapValues g.F.FnMut (map (λ m. m.1) l) c.loop-hash.f) here before.callable);
+          (rw here at before.callable);
       goes = goes_on g.F.FnMut c.args.f c.args.walk (members c.args.mapped.now) c.loop-hash.f (promoted (hash_number c.in-Some.hash), (c.in-Some.key, c.in-Some.value)) c.next_kept.new.self (members c.loop-hash.mapped) c.f-value.result c.f-value.new.self
-          (members c.insert_reserved.new.self)
-          (subst (λ l. Goes g.F.FnMut c.args.f c.args.walk (members c.args.mapped.now) c.loop-hash.f l (members c.loop-hash.mapped)) here before.goes) c.f-value.ensures c.insert_reserved.ensures.added;
+          (members c.insert_reserved.new.self) (rw here at before.goes) c.f-value.ensures c.insert_reserved.ensures.added;
     }
 
 pub returns : goal.returns
@@ -37,7 +35,6 @@ returns g c =
     record {
       maps = record {
         room = c.loop-hash.invariant.same;
-        maps = goes_to_end g.F.FnMut c.args.f c.args.walk (members c.args.mapped.now) c.loop-hash.f (members c.loop-hash.mapped)
-            (subst (λ l. Goes g.F.FnMut c.args.f c.args.walk (members c.args.mapped.now) c.loop-hash.f l (members c.loop-hash.mapped)) none c.loop-hash.invariant.goes);
+        maps = goes_to_end g.F.FnMut c.args.f c.args.walk (members c.args.mapped.now) c.loop-hash.f (members c.loop-hash.mapped) (rw none at c.loop-hash.invariant.goes);
       };
     }

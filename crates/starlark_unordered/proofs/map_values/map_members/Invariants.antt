@@ -1,4 +1,4 @@
-use Rattle.std.proofs.Common.{◌≡◌, ◌≤◌, length, map}
+use Rattle.starlark_hash.proofs.Common.{◌≡◌, ◌≤◌, length, map}
 use Rattle.starlark_table.specs.Table.{members, table_capacity}
 use Rattle.starlark_unordered.specs.MapValues.{CanMapValues}
 use Rattle.starlark_unordered.proofs.Mapping.{Goes}

@@ -1,4 +1,4 @@
-use Rattle.std.proofs.Common.{refl}
+use Rattle.starlark_hash.proofs.Common.{refl}
 use Rattle.starlark_unordered.proofs.RawWritten.{raw_value_written}
 use Rattle.starlark_unordered.proofs.raw_entry.RawOccupiedEntryMut.get_mut.Goals as goal
 

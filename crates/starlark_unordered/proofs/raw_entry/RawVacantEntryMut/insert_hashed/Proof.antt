@@ -1,7 +1,7 @@
 -- `insert_hashed` meets its contract, at any types, as `insert` does its own: one call takes the entry and puts the pair in, the next lends it. Assumes `Logic`.
 use Rattle.starlark_columns.proofs.Walking.{◌≡◌, refl, sym, subst, ℕ, List, [], ◌∷◌, Ura, Fn, Args, Dict, Ty, a_type, dcons, dnil, named, tcons, tnil, ty_int, ty_struct, w32, inst_fn, Val, SProp, ent, emp, id⊢, ex_e, snd∗, Lft, GName, Share, ftrue, flft, Memory, Routine, Calls, Loops, WpFn, Logic, sem, ◌⊑◌, ⊑_trans, Fun, fact, fact_i, tables, FmC, ‵, raw, ◌⊛◌, some, later, ◌$◌, ◌∵◌, !, qed, move, drop, use0, use1, use2, split, split3, join, pick, fjoin, suffices, frame, await, rewrite, group, done, of_opd, and_then, no_more, returns, enter, alloc_all, pass_all, free_all, look_at, get, sets, lands_as, no, rest, yes, RattleType, owns, follows_so, arg, param, bounded, layout, Laws, arg_laws, param_laws, Bor, MutBor, MutRef, ShrRef, plain, types_at, nothing, heard, peeks, Tuple, tuple_laws, calls_at, Clauses, Ended, Lasts, ensured, lasts, triple_of, Contract, Triple, framed, Stays, stay_dropped, walk_of, ends_at, Goes-blank, Good, proved_at, Result, None, IfOk, OnOk, OnErr, true, is_some, lookup, name_if_ok, Is, shows, result_laws}
 use Rattle.starlark_unordered.specs.Lend.{lends_placed, lends_added, IsAdded, LendsPair, LendsSlot, PutsPair}
-use Rattle.starlark_unordered.proofs.LentFacts.{there_is, added_lent, unchanged_lent, handed_lent, full_lent, shown_lent}
+use Rattle.starlark_unordered.proofs.LentFacts.{there_is, added_lent, unchanged_lent, handed_lent, shown_lent}
 use Rattle.starlark_hash.specs.contracts.hashed.Hashed as H
 use Rattle.starlark_hash.proofs.hashed.Hashed.TheLaws as hashed_laws
 use Rattle.starlark_hash.specs.Hasher.{own_hash}
@@ -173,7 +173,7 @@ module _ (K V : RattleType) (E : L.Eq.Ghosts K.Denot) (dE : Dict) (P : L.Partial
           move ! (4 ∷ []) $ move ! (4 ∷ 0 ∷ []) $ join ! $ move ! (4 ∷ 0 ∷ []) $ join ! $ move ! (3 ∷ 0 ∷ []) $ join ! $ join ! $ frame ! $
           use0 𝓛 (raw (fact 𝓤 (LendsPair m (key_of key) value (key, value) x))) (fact_i 𝓤 _ (emp 𝓤) (record {
             pair = shown_lent g.0.now (key_of key) value g.1 x refused put.placed shown;
-            full = full_lent g.1 x refused (m.room ≡ 0) put.full;
+            full = handed_lent g.1 x refused (λ z. m.room ≡ 0) put.full;
             handed_back = handed_lent g.1 x refused (λ z. z.0 ≡ (key, value)) put.handed_back;
           })) $
           move ! (1 ∷ 0 ∷ []) $ done !))))))))))))))

@@ -1,4 +1,4 @@
-use Rattle.std.proofs.Common.{refl}
+use Rattle.starlark_hash.proofs.Common.{refl}
 use Rattle.starlark_unordered.proofs.AddedWritten.{puts_pair}
 use Rattle.starlark_unordered.proofs.raw_entry.RawVacantEntryMut.place.Goals as goal
 

@@ -1,6 +1,5 @@
-use Rattle.std.proofs.Common.{◌≡◌, ◌∙◌, None, ℕ, MutBor, ap, refl, sym, subst}
-use Rattle.std.specs.Prelude.{MatchResult, Result, Ok, Err}
-use Rattle.std.specs.Map.{lookup}
+use Rattle.starlark_hash.proofs.Common.{◌≡◌, ◌∙◌, None, ℕ, ap, refl, sym, subst, MatchResult, Result, Ok, Err, lookup}
+use Rattle.std.proofs.Common.{MutBor}
 use Rattle.starlark_hash.specs.HashValue.{hash_of, hashed, key_of}
 use Rattle.starlark_hash.specs.declared.hash_value.StarlarkHashValue.{StarlarkHashValue}
 use Rattle.starlark_hash.specs.declared.hashed.Hashed.{Hashed}

@@ -1,12 +1,10 @@
-use Rattle.std.proofs.Common.{arith, refl, rules, subst}
-use Rattle.std.proofs.lemmas.Grind.{common_steps}
-use Rattle.std.specs.List.{AllZip}
+use Rattle.starlark_hash.proofs.Common.{arith, refl, rules, common_steps}
 use Rattle.starlark_table.specs.Table.{members}
-use Rattle.starlark_hash.specs.Clone.{IsPairClone}
 use Rattle.starlark_unordered.specs.Pairs.{pairs_of}
 use Rattle.starlark_unordered.proofs.Agreeing.{found-cloned}
-use Rattle.starlark_unordered.proofs.Cloned.{members-cloned, pairs-cloned, same-cloned, keyed-cloned}
+use Rattle.starlark_unordered.proofs.Cloned.{members-cloned, pairs-cloned, keyed-cloned}
 use Rattle.starlark_unordered.proofs.unordered_map.UnorderedMap.clone.Goals as goal
+use Rattle.std.proofs.lemmas.Map.Entries.{entries_from_clone}
 
 pub invariant_of-result : goal.invariant_of-result
 invariant_of-result g c =
@@ -21,14 +19,12 @@ returns g c =
     let value = g.V.Clone.is_clone in
     let old = c.self.inside.table in
     let new = c.in_ok-clone.field-0 in
-    let pairs : AllZip (IsPairClone key value) (pairs_of c.args.self.now) (pairs_of new)
-    = subst (λ m. AllZip (IsPairClone key value) (pairs_of m) (pairs_of new)) c.self.view_is
-    (pairs-cloned key value (members old) (members new) (members-cloned key value old.slots new.slots c.in_ok-clone.ensures.cases.slots)) in
+    let pairs = rw c.self.view_is at (pairs-cloned key value (members old) (members new) (members-cloned key value old.slots new.slots c.in_ok-clone.ensures.cases.slots)) in
     record {
       clones = record {
         clone = record {
           pairs = pairs;
-          same = λ keys values. same-cloned key value keys values (pairs_of c.args.self.now) (pairs_of new) pairs;
+          same = λ keys values. entries_from_clone key value keys values (pairs_of c.args.self.now) (pairs_of new) pairs;
           found = found-cloned g.K.PartialEq.eq g.met.K.Eq.laws key value c.requires (pairs_of c.args.self.now) (pairs_of new) pairs;
           room = first_of (search rules, grind (arith, common_steps));
         };

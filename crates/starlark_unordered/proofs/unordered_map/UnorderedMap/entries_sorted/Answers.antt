@@ -1,7 +1,6 @@
-use Rattle.std.proofs.Common.{◌≡◌, Bool, Bor, is_lt, map, ◌∙◌, subst, ap, rules, of_calls, IsPermutation}
-use Rattle.std.specs.Map.Iter.{deref_pair}
+use Rattle.starlark_hash.proofs.Common.{◌≡◌, Bool, map, ◌∙◌, subst, ap, rules, of_calls, IsPermutation, deref_pair, IsPermutation-map, ranks_by}
+use Rattle.std.proofs.Common.{Bor, is_lt}
 use Rattle.std.proofs.lemmas.Fn.{answers_by}
-use Rattle.std.proofs.lemmas.List.Sorted.{IsPermutation-map, ranks_by}
 use Rattle.starlark_unordered.proofs.Shows.{drained_shown}
 use Rattle.starlark_unordered.proofs.unordered_map.UnorderedMap.entries_sorted.Goals as goal
 

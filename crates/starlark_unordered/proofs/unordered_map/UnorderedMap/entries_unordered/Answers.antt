@@ -1,6 +1,4 @@
-use Rattle.std.proofs.Common.{arith, rules, subst}
-use Rattle.std.proofs.lemmas.Grind.{common_steps}
-use Rattle.std.specs.Map.Iter.{deref_pair}
+use Rattle.starlark_hash.proofs.Common.{arith, rules, subst, common_steps, deref_pair}
 use Rattle.starlark_table.specs.Table.{members}
 use Rattle.starlark_unordered.specs.Pairs.{HasDistinctKeys, pairs_of}
 use Rattle.starlark_unordered.proofs.Keys.{distinct_pairs}

@@ -1,5 +1,4 @@
-use Rattle.std.proofs.Common.{arith, ◌≡◌, refl, subst, [], None}
-use Rattle.std.specs.Map.{update_all}
+use Rattle.starlark_hash.proofs.Common.{Err, rules, arith, ◌≡◌, refl, subst, [], None, update_all}
 use Rattle.starlark_unordered.specs.Lookup.{get}
 use Rattle.starlark_unordered.specs.Collect.{InsertsAll}
 use Rattle.starlark_unordered.specs.Pairs.{pairs_of}
@@ -37,3 +36,8 @@ returns g c =
         succeeds = λ none. refl;
       };
     }
+
+pub returns-in_err-insert_items : goal.returns-in_err-insert_items
+returns-in_err-insert_items g c =
+    let is : c.from_residual-in_err-insert_items.result ≡ Err c.in_err-insert_items.field-0.0 = search rules in
+    rw is (record { makes = record { found = tt; map = tt; succeeds = λ none. c.in_err-insert_items.ensures.takes.succeeds (none c.into_iter-items.result c.into_iter-items.ensures.into_iter_gives) } })

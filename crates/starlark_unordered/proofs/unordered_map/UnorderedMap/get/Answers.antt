@@ -1,6 +1,4 @@
-use Rattle.std.proofs.Common.{◌≡◌, Some, arith, rules, sym}
-use Rattle.std.proofs.lemmas.Grind.{common_steps}
-use Rattle.std.specs.Map.{lookup}
+use Rattle.starlark_hash.proofs.Common.{◌≡◌, Some, arith, rules, sym, common_steps, lookup}
 use Rattle.starlark_unordered.specs.Pairs.{pairs_of}
 use Rattle.starlark_unordered.proofs.Callers.{among_found, found_is}
 use Rattle.starlark_unordered.proofs.unordered_map.UnorderedMap.get.Goals as goal

@@ -1,5 +1,4 @@
-use Rattle.std.proofs.Common.{refl, sym, ap, ◌∙◌}
-use Rattle.std.specs.Option.{option_map}
+use Rattle.starlark_hash.proofs.Common.{refl, sym, ap, ◌∙◌, option_map}
 use Rattle.starlark_unordered.specs.Pairs.{pairs_of}
 use Rattle.starlark_unordered.proofs.Callers.{among_found, found_is, not_there, writes-slot}
 use Rattle.starlark_unordered.proofs.CallerTotals.{total-slot}
@@ -11,7 +10,7 @@ returns-in-Some g c =
     let m = c.args.self.now in
     let at = c.in-Some.ensures in
     let value = sym c.value_at_mut.ensures.value ∙ ap (option_map (λ p. p.1)) at.at ∙ sym at.found in (
-      (refl, λ w. (record { pairs = at.writes w; room = refl }, λ there. writes-slot g.K.PartialEq.eq g.met.K.Eq.laws t (λ x y does. g.met.Q.Query.respects_eq c.args.query x y does) m m c.in-Some.slot refl at w, λ there measure. total-slot measure t m c.in-Some.slot at w), tt),
+      (refl, λ w. (record { pairs = at.writes w; room = refl }, λ there. writes-slot g.K.PartialEq.eq g.met.K.Eq.laws t (λ x y does. g.met.Q.Query.respects_eq c.args.query x y does) m c.in-Some.slot at w, λ there measure. total-slot measure t m c.in-Some.slot at w), tt),
       record { writes_back = tt; finds = record { found = found_is _ _ _ value; value = value; member = among_found t (pairs_of m) _ (sym value) } },
     )
 

@@ -1,6 +1,4 @@
-use Rattle.std.proofs.Common.{ap, sym, subst, ◌≡◌, ◌∷◌, None, IsPermutation, rules}
-use Rattle.std.specs.Map.{lookup}
-use Rattle.std.proofs.lemmas.List.Sorted.{IsPermutation-map}
+use Rattle.starlark_hash.proofs.Common.{ap, sym, subst, ◌≡◌, ◌∷◌, None, IsPermutation, rules, lookup, IsPermutation-map, ℕ}
 use Rattle.starlark_hash.specs.HashValue.{hash_number, promoted}
 use Rattle.starlark_unordered.specs.Pairs.{pairs_of}
 use Rattle.starlark_table.specs.Table.{members}
@@ -8,6 +6,7 @@ use Rattle.starlark_unordered.proofs.Callers.{length-more, updates-new}
 use Rattle.starlark_unordered.proofs.CallerTotals.{total-more}
 use Rattle.starlark_unordered.proofs.Keys.{distinct_pairs, keyed-cons, keyed-permutation}
 use Rattle.starlark_unordered.proofs.unordered_map.UnorderedMap.insert_at.Goals as goal
+use Rattle.starlark_table.specs.Table.{GrowsAsNeeded}
 
 pub invariant_of-self : goal.invariant_of-self
 invariant_of-self g c =
@@ -29,19 +28,7 @@ returns g c =
     let distinct = distinct_pairs eq g.K.Hash.hash_input (members new) (invariant_of-self g c) in
     let pairs = subst (λ m. IsPermutation (pair ∷ pairs_of m) (pairs_of new)) c.self.view_is
     (IsPermutation-map (λ m. m.1) ((promoted (hash_number c.args.hash), pair) ∷ members c.self.inside.table) (members new) c.insert_at.ensures.added) in
-    record {
-      puts = record {
-        placed = search rules;
-        distinct = distinct;
-        adds = record {
-          updates = updates-new eq g.met.K.Eq.laws old new c.args.key c.args.value c.requires.absent pairs distinct;
-          count = length-more old new pair pairs;
-          total = λ measure. total-more measure pair (pairs_of old) (pairs_of new) pairs;
-          pairs = pairs;
-          room = search rules;
-          full = tt;
-          handed_back = tt;
-          unchanged = tt;
-        };
-      };
-    }
+    let updates = updates-new eq g.met.K.Eq.laws old new c.args.key c.args.value c.requires.absent pairs distinct in
+    let total = λ (measure : g.row.V.Denot → ℕ). total-more measure pair (pairs_of old) (pairs_of new) pairs in
+    let room : GrowsAsNeeded old new = search rules in
+    record { puts = record { placed = search rules; distinct = distinct; adds = assumption (updates, length-more old new pair pairs, total, pairs, room) } }

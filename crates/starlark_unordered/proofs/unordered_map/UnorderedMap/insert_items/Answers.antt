@@ -1,4 +1,4 @@
-use Rattle.std.proofs.Common.{refl, arith, ap}
+use Rattle.starlark_hash.proofs.Common.{refl, arith, ap}
 use Rattle.std.proofs.iter.Next as it
 use Rattle.starlark_unordered.specs.Pairs.{pairs_of}
 use Rattle.starlark_table.specs.Table.{table_len}
@@ -32,10 +32,7 @@ returns-in-Err g c =
     record {
       takes = record {
         pairs = tt;
-        succeeds = λ none.
-            let less = (it.on c.in-Some.pair c.in-Some.is c.next.ensures.goes inv.ending).2 in
-            let counted = inv.counted in
-            absurd (omega (arith, none, less, counted));
+        succeeds = λ none. absurd (omega (arith, none, (it.on c.in-Some.pair c.in-Some.is c.next.ensures.goes inv.ending).2, inv.counted));
         room = grows-on c.args.self.now c.loop-pair.self c.insert.new.self (omega (arith, ap table_len c.in-Err.ensures.inserts.unchanged)) inv.holds.1 c.insert.ensures.inserts.room;
       };
     }

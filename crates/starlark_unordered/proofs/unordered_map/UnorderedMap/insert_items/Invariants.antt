@@ -1,5 +1,5 @@
 use Rattle.std.proofs.iter.Next as it
-use Rattle.std.specs.Iterator.{EndsFrom, items_left}
+use Rattle.starlark_hash.proofs.Common.{EndsFrom, items_left}
 use Rattle.starlark_table.specs.Table.{GrowsAsNeeded}
 use Rattle.starlark_unordered.specs.Collect.{InsertsAll}
 use Rattle.starlark_unordered.specs.Pairs.{pairs_of}

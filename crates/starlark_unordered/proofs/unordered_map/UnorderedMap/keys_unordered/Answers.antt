@@ -1,5 +1,4 @@
-use Rattle.std.proofs.Common.{rules}
-use Rattle.std.specs.Map.Iter.{deref}
+use Rattle.starlark_hash.proofs.Common.{rules, deref}
 use Rattle.starlark_unordered.proofs.Shows.{shows_in_order}
 use Rattle.starlark_unordered.proofs.unordered_map.UnorderedMap.keys_unordered.Goals as goal
 

@@ -1,4 +1,4 @@
-use Rattle.std.proofs.Common.{sym, subst}
+use Rattle.starlark_hash.proofs.Common.{sym, subst}
 use Rattle.starlark_unordered.specs.Sound.{IsKeyed}
 use Rattle.starlark_unordered.proofs.Keys.{keyed-with_item}
 use Rattle.starlark_unordered.proofs.unordered_map.UnorderedMap.pair_at_mut.Goals as goal

@@ -1,6 +1,4 @@
-use Rattle.std.proofs.Common.{◌≡◌, ◌<◌, ◌^◌, ap, ◌∙◌, rules, of_calls, refl, subst}
-use Rattle.std.specs.Map.{lookup}
-use Rattle.std.specs.Option.{option_copied, option_map}
+use Rattle.starlark_hash.proofs.Common.{◌≡◌, ◌<◌, ◌^◌, ap, ◌∙◌, rules, of_calls, refl, subst, lookup, option_copied, option_map}
 use Rattle.starlark_hash.proofs.SearchLemmas.{is_test}
 use Rattle.starlark_hash.specs.HashValue.{hash_number, promoted}
 use Rattle.starlark_unordered.specs.Pairs.{pairs_of, under_own}

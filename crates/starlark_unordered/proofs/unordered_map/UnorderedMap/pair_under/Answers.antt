@@ -1,6 +1,4 @@
-use Rattle.std.proofs.Common.{◌≡◌, sym, ap, ◌∙◌, rules, of_calls, subst}
-use Rattle.std.specs.Map.{lookup}
-use Rattle.std.specs.Option.{option_copied, option_map}
+use Rattle.starlark_hash.proofs.Common.{◌≡◌, sym, ap, ◌∙◌, rules, of_calls, subst, lookup, option_copied, option_map}
 use Rattle.starlark_hash.proofs.SearchLemmas.{is_test}
 use Rattle.starlark_hash.specs.Hasher.{finish_small, after_writes}
 use Rattle.starlark_hash.specs.HashValue.{hash_number, promoted}

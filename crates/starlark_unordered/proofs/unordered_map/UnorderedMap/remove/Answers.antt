@@ -1,6 +1,4 @@
-use Rattle.std.proofs.Common.{◌≡◌, arith, refl, rules, sym, None, Some}
-use Rattle.std.proofs.lemmas.Grind.{common_steps}
-use Rattle.std.specs.Map.{lookup}
+use Rattle.starlark_hash.proofs.Common.{◌≡◌, arith, refl, rules, sym, None, Some, common_steps, lookup}
 use Rattle.starlark_unordered.specs.Pairs.{pairs_of}
 use Rattle.starlark_unordered.proofs.Callers.{found_is, length-lacks, length-taken, writes-taken}
 use Rattle.starlark_unordered.proofs.CallerTotals.{total-lacks, total-taken}

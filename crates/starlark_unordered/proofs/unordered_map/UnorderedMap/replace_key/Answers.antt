@@ -1,5 +1,4 @@
-use Rattle.std.proofs.Common.{sym, subst, true, ◌≡◌}
-use Rattle.std.specs.Prelude.{IfSome}
+use Rattle.starlark_hash.proofs.Common.{sym, subst, true, ◌≡◌, IfSome}
 use Rattle.starlark_table.specs.Table.{item_in}
 use Rattle.starlark_unordered.proofs.Rekeyed.{keyed-with_key}
 use Rattle.starlark_unordered.proofs.unordered_map.UnorderedMap.replace_key.Goals as goal

@@ -1,5 +1,4 @@
-use Rattle.std.proofs.Common.{sym, ap, ◌∙◌, ◌≡◌, None, IfSome, subst}
-use Rattle.std.specs.Map.{lookup}
+use Rattle.starlark_hash.proofs.Common.{sym, ap, ◌∙◌, ◌≡◌, None, IfSome, subst, lookup}
 use Rattle.starlark_hash.specs.Hasher.{finish_small, after_writes}
 use Rattle.starlark_hash.specs.HashValue.{hash_number, promoted}
 use Rattle.starlark_unordered.specs.Pairs.{pairs_of}

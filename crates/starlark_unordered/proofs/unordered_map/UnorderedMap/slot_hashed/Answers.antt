@@ -1,4 +1,4 @@
-use Rattle.std.proofs.Common.{◌<◌, ◌^◌, rules, of_calls, refl, subst}
+use Rattle.starlark_hash.proofs.Common.{◌<◌, ◌^◌, rules, of_calls, refl, subst}
 use Rattle.starlark_hash.proofs.SearchLemmas.{is_test}
 use Rattle.starlark_hash.specs.HashValue.{hash_number, promoted}
 use Rattle.starlark_unordered.specs.Pairs.{IsSlotOf, under_own}

@@ -1,6 +1,4 @@
-use Rattle.std.proofs.Common.{◌≡◌, rules}
-use Rattle.std.specs.Map.{values_of}
-use Rattle.std.specs.Map.Iter.{deref}
+use Rattle.starlark_hash.proofs.Common.{◌≡◌, rules, values_of, deref}
 use Rattle.starlark_unordered.specs.Pairs.{pairs_of}
 use Rattle.starlark_unordered.proofs.CallerLookup.{values-found}
 use Rattle.starlark_unordered.proofs.Shows.{shows_in_order}

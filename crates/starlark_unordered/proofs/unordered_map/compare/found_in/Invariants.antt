@@ -1,5 +1,4 @@
-use Rattle.std.proofs.Common.{◌≡◌, length}
-use Rattle.std.specs.List.{list_all}
+use Rattle.starlark_hash.proofs.Common.{◌≡◌, length, list_all}
 use Rattle.starlark_unordered.specs.Pairs.{has_equal, pairs_of}
 use Rattle.starlark_unordered.proofs.unordered_map.compare.found_in.Given as goal
 

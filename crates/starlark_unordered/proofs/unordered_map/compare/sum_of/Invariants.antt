@@ -1,4 +1,4 @@
-use Rattle.std.proofs.Common.{◌≡◌, ◌+◌, ◌%◌, ◌^◌, length}
+use Rattle.starlark_hash.proofs.Common.{◌≡◌, ◌+◌, ◌%◌, ◌^◌, length}
 use Rattle.starlark_unordered.specs.Pairs.{hash_sum}
 use Rattle.starlark_unordered.proofs.unordered_map.compare.sum_of.Given as goal
 

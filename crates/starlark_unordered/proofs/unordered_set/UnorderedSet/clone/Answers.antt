@@ -1,8 +1,5 @@
-use Rattle.std.proofs.Common.{arith, refl, rules, subst}
-use Rattle.std.proofs.lemmas.Grind.{common_steps}
-use Rattle.std.specs.List.{AllZip}
+use Rattle.starlark_hash.proofs.Common.{arith, refl, rules, common_steps}
 use Rattle.starlark_unordered.specs.Pairs.{pairs_of}
-use Rattle.starlark_unordered.specs.Set.{elements_of}
 use Rattle.starlark_unordered.proofs.Agreeing.{keys-cloned}
 use Rattle.starlark_unordered.proofs.unordered_set.UnorderedSet.clone.Goals as goal
 
@@ -12,8 +9,7 @@ returns g c =
     record {
       clones = record {
         clone = record {
-          elements = subst (λ m. AllZip g.T.Clone.is_clone (elements_of m) (elements_of c.in_ok-clone.field-0)) c.self.view_is
-              (keys-cloned g.T.Clone.is_clone _ (pairs_of c.self.inside.map) (pairs_of c.in_ok-clone.field-0) map.pairs);
+          elements = rw c.self.view_is at (keys-cloned g.T.Clone.is_clone _ (pairs_of c.self.inside.map) (pairs_of c.in_ok-clone.field-0) map.pairs);
           same = first_of (search rules, grind (arith, common_steps));
           found = first_of (search rules, grind (arith, common_steps));
           room = first_of (search rules, grind (arith, common_steps));

@@ -1,8 +1,6 @@
-use Rattle.std.proofs.Common.{◌≡◌, Bool, Bor, is_lt, map, ◌∙◌, subst, ap, rules, of_calls, IsPermutation}
-use Rattle.std.specs.Map.{keys_of}
-use Rattle.std.specs.Map.Iter.{deref}
+use Rattle.starlark_hash.proofs.Common.{◌≡◌, Bool, map, ◌∙◌, subst, ap, rules, of_calls, IsPermutation, keys_of, deref, IsPermutation-map, ranks_by}
+use Rattle.std.proofs.Common.{Bor, is_lt}
 use Rattle.std.proofs.lemmas.Fn.{answers_by}
-use Rattle.std.proofs.lemmas.List.Sorted.{IsPermutation-map, ranks_by}
 use Rattle.starlark_unordered.specs.Pairs.{pairs_of}
 use Rattle.starlark_unordered.proofs.Shows.{drained_shown}
 use Rattle.starlark_unordered.proofs.unordered_set.UnorderedSet.entries_sorted.Goals as goal

@@ -1,6 +1,4 @@
-use Rattle.std.proofs.Common.{◌≡◌, refl, sym, subst, ◌∙◌}
-use Rattle.std.specs.Map.{keys_of}
-use Rattle.std.specs.Set.{is_member}
+use Rattle.starlark_hash.proofs.Common.{◌≡◌, refl, sym, subst, ◌∙◌, keys_of, is_member}
 use Rattle.starlark_unordered.specs.Lookup.{contains}
 use Rattle.starlark_unordered.specs.Pairs.{pairs_of}
 use Rattle.starlark_unordered.proofs.Agreeing.{drains-beside, found-each}

@@ -1,7 +1,4 @@
-use Rattle.std.proofs.Common.{◌≡◌, false, ◌∙◌, sym, ap, arith}
-use Rattle.std.specs.Prelude.{length, nat_eq}
-use Rattle.std.specs.List.{list_all}
-use Rattle.std.proofs.lemmas.Bool.Decides.{nat_tests}
+use Rattle.starlark_hash.proofs.Common.{◌≡◌, false, ◌∙◌, sym, ap, arith, length, nat_eq, list_all, nat_tests}
 use Rattle.starlark_unordered.specs.Pairs.{has_equal, pairs_of}
 use Rattle.starlark_unordered.specs.BagLaws.{found_is_bag, lengths_differ}
 use Rattle.starlark_unordered.proofs.unordered_map.compare.UnorderedMapPartialEq.eq.Goals as goal

@@ -1,6 +1,4 @@
-use Rattle.std.proofs.Common.{◌≡◌, ◌∙◌, arith, rules, sym, subst}
-use Rattle.std.proofs.lemmas.Grind.{common_steps}
-use Rattle.starlark_unordered.specs.Lookup.{contains}
+use Rattle.starlark_hash.proofs.Common.{◌∙◌, arith, rules, sym, common_steps}
 use Rattle.starlark_unordered.specs.Pairs.{pairs_of}
 use Rattle.starlark_unordered.proofs.Agreeing.{found-equal}
 use Rattle.starlark_unordered.proofs.unordered_set.compare.UnorderedSetPartialEq.eq.Goals as goal
@@ -12,8 +10,6 @@ returns g c =
       compares = record {
         same = first_of (search rules, grind (arith, common_steps));
         agrees = λ same element.
-            let inside = found-equal eq g.met.T.Eq.laws (pairs_of c.self.inside.map) (pairs_of c.other.inside.map) (sym c.eq.ensures.compares.same ∙ same) element in
-            subst (λ m. contains eq m element ≡ contains eq c.args.other.now element) c.self.view_is
-            (subst (λ m. contains eq c.self.inside.map element ≡ contains eq m element) c.other.view_is inside);
+            rw (c.self.view_is, c.other.view_is) at (found-equal eq g.met.T.Eq.laws (pairs_of c.self.inside.map) (pairs_of c.other.inside.map) (sym c.eq.ensures.compares.same ∙ same) element);
       };
     }

@@ -1,4 +1,4 @@
-use Rattle.std.proofs.Common.{refl}
+use Rattle.starlark_hash.proofs.Common.{refl}
 use Rattle.starlark_unordered.proofs.ElementWritten.{key_shown, raw_element_put, room_kept}
 use Rattle.starlark_unordered.proofs.RawWritten.{element_in_place}
 use Rattle.starlark_unordered.proofs.unordered_set.raw_entry.RawOccupiedEntryMut.insert.Goals as goal
