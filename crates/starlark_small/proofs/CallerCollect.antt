@@ -1,19 +1,14 @@
 -- What look-ups find once an iterator's items went in, and in a list of clones.
-use Rattle.std.proofs.Common.{◌≡◌, Bool, true, false, List, [], ◌∷◌, map, position, cond, Option, Some, None, is_some, Result, Ok, Err, OnOk, refl, sym, ap, ◌∙◌, subst, suc, ℕ, zero, ◌<◌, get_or, length, IsSome, slice_get, arith}
-use Rattle.std.specs.Prelude.{◌&&◌, ◌||◌, IfSome, IsSomeAnd}
+use Rattle.starlark_hash.proofs.Common.{common_steps, ◌≡◌, Bool, true, false, List, [], ◌∷◌, map, position, cond, Option, Some, None, is_some, Result, Ok, Err, OnOk, refl, sym, ap, ◌∙◌, subst, suc, ℕ, zero, ◌<◌, get_or, length, IsSome, slice_get, arith, IfSome, IsEquivalence, HashWrites, Drains, AllZip, update_all, keys_of, map-id, is_member, is_some-update_all, same_Some, slice_get-get_or}
+use Rattle.std.specs.Prelude.{IsSomeAnd}
 use Rattle.std.proofs.iter.SoFar.{exit_by}
-use Rattle.std.specs.Cmp.{IsEquivalence}
-use Rattle.std.specs.Hash.{HashWrites}
-use Rattle.std.specs.Iterator.{Count, Drains}
+use Rattle.std.specs.Iterator.{Count}
 use Rattle.std.specs.Iterator.Runs.{WholeRun, AnyItem, Run, YieldsRun}
-use Rattle.std.specs.List.{AllZip}
-use Rattle.std.specs.Map.{update, update_all, keys_of}
-use Rattle.std.specs.Option.{option_map}
-use Rattle.std.proofs.lemmas.List.{map-id}
+use Rattle.std.specs.Map.{update}
 use Rattle.starlark_hash.specs.Hasher.{own_hash}
 use Rattle.starlark_hash.specs.declared.hash_value.StarlarkHashValue.{StarlarkHashValue}
 use Rattle.starlark_hash.specs.Clone.{IsEntryClone}
-use Rattle.starlark_hash.specs.Entries.{Entry, entry_key, is_under, stands_under}
+use Rattle.starlark_hash.specs.Entries.{Entry, entry_key, stands_under}
 use Rattle.starlark_hash.specs.Lookup.{found}
 use Rattle.starlark_hash.specs.Insert.{insert_entry}
 use Rattle.starlark_hash.proofs.PositionLemmas.{position-cons}
@@ -23,9 +18,7 @@ use Rattle.starlark_small.specs.Map.{Map, own_hashed}
 use Rattle.starlark_small.proofs.CallerOwn.{own-inserted_entries}
 use Rattle.starlark_small.proofs.CallerLookup.{empty-found, is_some-found}
 use Rattle.starlark_small.proofs.CallerInsert.{writes-inserted}
-use Rattle.std.specs.Set.{is_member}
-use Rattle.std.proofs.lemmas.Map.Made.{IfSome-update_all, is_some-update_all}
-use Rattle.std.proofs.lemmas.Option.{none-some, same_Some, slice_get-get_or}
+use Rattle.std.proofs.lemmas.Map.Made.{IfSome-update_all}
 
 -- the run of an iterator that gave these items and ended
 pub run_of : {T A : Type 0} (steps : T → Option A → T → Type 0) (it : T) (xs : List A) (P : List A → Type 0) → Drains steps it xs → P xs → WholeRun steps it (λ p. P p.items)
@@ -41,10 +34,9 @@ module _ {K V : Type 0} (eq : K → K → Bool) (laws : IsEquivalence eq) (feeds
   -- one item more
   looked_after : (es : List (Entry K V)) (p : K × V) (key : K) → look (insert_entry eq es (own_hashed feeds p.0) p.1) key ≡ update eq (look es) p.0 (Some p.1) key
   looked_after es p key =
-      let new = insert_entry eq es (own_hashed feeds p.0) p.1 in
-      let wrote = writes-inserted eq laws es new (own_hashed feeds p.0) p.1 refl in
-      elim (eq p.0 key) as (λ b. eq p.0 key ≡ b → look new key ≡ cond b (Some p.1) (look es key)) [
-        | true ↦ λ same. (λ i. found (λ k. sym (laws.congr p.0 key k same) i) (own_hash (λ _. sym (alike p.0 key same) i) key) new) ∙ wrote.0
+      let wrote = writes-inserted eq laws es (insert_entry eq es (own_hashed feeds p.0) p.1) (own_hashed feeds p.0) p.1 refl in
+      elim (eq p.0 key) as (λ b. eq p.0 key ≡ b → look (insert_entry eq es (own_hashed feeds p.0) p.1) key ≡ cond b (Some p.1) (look es key)) [
+        | true ↦ λ same. (λ i. found (λ k. sym (laws.congr p.0 key k same) i) (own_hash (λ _. sym (alike p.0 key same) i) key) (insert_entry eq es (own_hashed feeds p.0) p.1)) ∙ wrote.0
         | false ↦ λ not. wrote.1 (own_hash feeds key) key not
       ] refl
 
@@ -95,25 +87,17 @@ module _ {K V : Type 0} (eq : K → K → Bool) (laws : IsEquivalence eq) (key :
   -- a clone passes where its original does
   alike_clone : (q : K) (hash : StarlarkHashValue) (d e : Entry K V) → IsEntryClone key value d e → stands_under hash (eq q) e ≡ stands_under hash (eq q) d
   alike_clone q hash d e is =
-      let same : eq q (entry_key e) ≡ eq q (entry_key d) = laws.symm q (entry_key e) ∙ sym (laws.congr (entry_key d) (entry_key e) q (equal (entry_key d) (entry_key e) is.1)) ∙ laws.symm (entry_key d) q in
-      λ i. is_under hash (record { 0 = record (e.0) { hash = is.0 i }; 1 = e.1 }) && same i
+      grind (arith, common_steps, is.0, laws.symm q (entry_key e), laws.congr (entry_key d) (entry_key e) q (equal (entry_key d) (entry_key e) is.1), laws.symm (entry_key d) q)
 
   position-clones : (q : K) (hash : StarlarkHashValue) (es fs : List (Entry K V)) → AllZip (IsEntryClone key value) es fs → position (stands_under hash (eq q)) fs ≡ position (stands_under hash (eq q)) es
   position-clones q hash [] [] all = refl
   position-clones q hash [] (f ∷ fs) all = absurd all
   position-clones q hash (e ∷ es) [] all = absurd all
-  position-clones q hash (e ∷ es) (f ∷ fs) all =
-      position-cons (stands_under hash (eq q)) f fs
-      ∙ (λ i. cond (alike_clone q hash e f all.0 i) (Some 0) (option_map suc (position-clones q hash es fs all.1 i)))
-      ∙ sym (position-cons (stands_under hash (eq q)) e es)
+  position-clones q hash (e ∷ es) (f ∷ fs) all = grind (arith, common_steps, position-cons, alike_clone q hash e f all.0, position-clones q hash es fs all.1)
 
   -- clones are found where their originals are
   pub found-clones : (es fs : List (Entry K V)) → AllZip (IsEntryClone key value) es fs → (hash : StarlarkHashValue) (q : K) → is_some (found (eq q) hash fs) ≡ is_some (found (eq q) hash es)
   found-clones es fs all hash q = sym (is_some-found (eq q) hash fs) ∙ ap is_some (position-clones q hash es fs all) ∙ is_some-found (eq q) hash es
-
-or_true : (b : Bool) → (b || true) ≡ true
-or_true true = refl
-or_true false = refl
 
 module _ {K V T : Type 0} {steps : T → Option (K × V) → T → Type 0} (p : Run steps) where
   item-at : (k : ℕ) → p.at k ≡ slice_get p.items k
@@ -127,9 +111,9 @@ module _ {K V T : Type 0} {steps : T → Option (K × V) → T → Type 0} (p : 
 module _ {K V : Type 0} (eq : K → K → Bool) (laws : IsEquivalence eq) where
   member-at : (xs : List (K × V)) (k : ℕ) (o : Option (K × V)) → slice_get xs k ≡ o → IfSome o (λ x. is_member eq (keys_of xs) x.0 ≡ true)
   member-at xs k None at = tt
-  member-at [] k (Some x) at = absurd (none-some x at)
-  member-at (y ∷ xs) zero (Some x) at = ap (λ b. b || is_member eq (keys_of xs) x.0) (ap (λ (z : K × V). eq x.0 z.0) (same_Some y x at) ∙ laws.refl x.0)
-  member-at (y ∷ xs) (suc k) (Some x) at = ap (λ b. eq x.0 y.0 || b) (member-at xs k (Some x) at) ∙ or_true (eq x.0 y.0)
+  member-at [] k (Some x) at = cc
+  member-at (y ∷ xs) zero (Some x) at = grind (arith, common_steps, same_Some y x at, laws.refl x.0)
+  member-at (y ∷ xs) (suc k) (Some x) at = grind (arith, common_steps, member-at xs k (Some x) at)
 
   module _ {T U : Type 0} (feeds : K → HashWrites) (steps : T → Option (K × V) → T → Type 0) (becomes : U → T → Type 0) (iter : U) (m : Map K V) where
     found-came : (p : Run steps) (key : K) → get eq feeds m key ≡ update_all eq (λ _. None) p.items key → IfSome (get eq feeds m key) (λ v. AnyItem p (λ x. (eq key x.0 ≡ true) × (x.1 ≡ v)))

@@ -1,13 +1,9 @@
 -- What a write leaves, of a value where one stands and through an entry.
-use Rattle.std.proofs.Common.{◌≡◌, ℕ, zero, suc, ◌<◌, Bool, true, false, List, [], ◌∷◌, length, map, Option, Some, None, is_some, refl, sym, ap, ◌∙◌, arith, ◌+◌, ◌++◌, IsSome, slice_get, Result, Ok, Err, IsErr, IsOk, OnErr, OnOk, ◌≤◌, subst}
-use Rattle.std.specs.Option.{option_map, option_map_or}
-use Rattle.std.specs.Cmp.{IsEquivalence}
-use Rattle.std.proofs.lemmas.Bool.{false≢true}
+use Rattle.starlark_hash.proofs.Common.{common_steps, ◌≡◌, ℕ, zero, suc, ◌<◌, Bool, true, false, List, [], ◌∷◌, length, map, Some, None, refl, sym, ap, ◌∙◌, arith, ◌+◌, IsSome, slice_get, Result, Ok, Err, IsErr, IsOk, OnErr, OnOk, ◌≤◌, subst, option_map, option_map_or, IsEquivalence, false≢true}
 use Rattle.starlark_hash.specs.declared.hashed.Hashed.{Hashed}
 use Rattle.starlark_hash.specs.declared.hash_value.StarlarkHashValue.{StarlarkHashValue}
 use Rattle.starlark_hash.specs.Entries.{Entry, entry_key, set_value_at, match_of, value_at, with_value, position_of, entry_value}
-use Rattle.starlark_hash.proofs.EntryLemmas.{length-set_value_at}
-use Rattle.starlark_small.proofs.CallerLookup.{alike, written_here, written_there, under, apart, keys-set_value_at, apart_other, found_is, is_some-value_at}
+use Rattle.starlark_small.proofs.CallerLookup.{alike, written_here, written_there, under, keys-set_value_at, apart_other, found_is, is_some-value_at}
 use Rattle.starlark_hash.specs.HashValue.{hashed, key_of, hash_of}
 use Rattle.starlark_hash.specs.Insert.{insert_entry}
 use Rattle.starlark_hash.specs.Lookup.{found, Writes, weight_of}
@@ -22,43 +18,13 @@ use Rattle.starlark_small.specs.Lookup.{total_of}
 use Rattle.starlark_small.proofs.CallerOwn.{own-inserted}
 use Rattle.starlark_small.proofs.CallerInsert.{part-at, total-inserted, keys-put, writes-inserted}
 
--- a value that is written where there was one
-pub rewritten : {V : Type 0} (w : V) (o : Option V) → is_some o ≡ true → option_map (λ _. w) o ≡ Some w
-rewritten w None e = absurd (false≢true e)
-rewritten w (Some x) e = refl
-
 module _ {K V : Type 0} (hash : StarlarkHashValue) (passes : K → Bool) (es : List (Entry K V)) where
   -- a value that is written stands at its key
   pub value-with_value : (w : V) → value_at (with_value es (position_of hash passes es) w) (position_of hash passes (with_value es (position_of hash passes es) w)) ≡ option_map (λ _. w) (value_at es (position_of hash passes es))
-  value-with_value w = elim (position_of hash passes es) as (λ o. position_of hash passes es ≡ o
-      → value_at (option_map_or (λ i. set_value_at es i w) o es) (position_of hash passes (option_map_or (λ i. set_value_at es i w) o es)) ≡ option_map (λ _. w) (value_at es o)) [
-        | None ↦ λ at. ap (value_at es) at
-        | Some i ↦ λ at.
-            let there = ap (λ o. is_some (value_at es o)) (sym at) ∙ is_some-value_at hash passes es ∙ ap is_some at in
-            written_here (under hash passes) es i w at ∙ sym (rewritten w (value_at es (Some i)) there)
-      ] refl
-
-  pub length-with_value : (w : V) → length (with_value es (position_of hash passes es) w) ≡ length es
-  length-with_value w = elim (position_of hash passes es) as (λ o. length (option_map_or (λ i. set_value_at es i w) o es) ≡ length es) [
-    | None ↦ refl
-    | Some i ↦ length-set_value_at es i w
-  ]
+  value-with_value w = grind (arith, common_steps, written_here (under hash passes) es, is_some-value_at hash passes es)
 
   pub keys-with_value : (w : V) → map entry_key (with_value es (position_of hash passes es) w) ≡ map entry_key es
-  keys-with_value w = elim (position_of hash passes es) as (λ o. map entry_key (option_map_or (λ i. set_value_at es i w) o es) ≡ map entry_key es) [
-    | None ↦ refl
-    | Some i ↦ keys-set_value_at es i w
-  ]
-
-module _ {K V : Type 0} (eq : K → K → Bool) (laws : IsEquivalence eq) (es : List (Entry K V)) (key : Hashed K) (hash : StarlarkHashValue) (passes : K → Bool)
-    (one : (x y : K) → passes x ≡ true → passes y ≡ eq x y) (not : under hash passes key ≡ false) where
-  -- other keys are found as before, once a value was written or an entry removed
-  pub value-with_value_other : (w : V) → value_at (with_value es (match_of eq es key) w) (position_of hash passes (with_value es (match_of eq es key) w)) ≡ value_at es (position_of hash passes es)
-  value-with_value_other w = elim (match_of eq es key) as (λ o. match_of eq es key ≡ o
-      → value_at (option_map_or (λ i. set_value_at es i w) o es) (position_of hash passes (option_map_or (λ i. set_value_at es i w) o es)) ≡ value_at es (position_of hash passes es)) [
-        | None ↦ λ at. refl
-        | Some i ↦ λ at. written_there (under hash passes) (alike eq key) (apart eq laws key hash passes one not) es i w at
-      ] refl
+  keys-with_value w = grind (arith, common_steps, keys-set_value_at es)
 
 module _ {K V : Type 0} (eq : K → K → Bool) (laws : IsEquivalence eq) (hash : StarlarkHashValue) (passes : K → Bool) (one : (x y : K) → passes x ≡ true → passes y ≡ eq x y) where
   written_other : (es : List (Entry K V)) (other : Hashed K) → passes (key_of other) ≡ false → (w : V)
@@ -75,7 +41,7 @@ module _ {K V : Type 0} (eq : K → K → Bool) (laws : IsEquivalence eq) where
     pub writes-with_value : (old new : List (Entry K V)) (w : V) → IsSome (found passes hash old) → new ≡ with_value old (position_of hash passes old) w → Writes eq passes hash old new (Some w)
     unfolding found
     writes-with_value old new w there put = (
-      ap (λ l. value_at l (position_of hash passes l)) put ∙ value-with_value hash passes old w ∙ rewritten w (value_at old (position_of hash passes old)) there,
+      rw put (grind (arith, common_steps, value-with_value hash passes old w, there)),
       λ h other not. ap (λ l. value_at l (position_of h (eq other) l)) put ∙ written_other eq laws hash passes one old (hashed h other) not w,
     )
 
@@ -83,12 +49,8 @@ module _ {K V : Type 0} (eq : K → K → Bool) (laws : IsEquivalence eq) where
 module _ {K V : Type 0} {g : PartialEq.Ghosts K} (eq : K → K → Bool) (m : Map K V) (key : Hashed K) where
   pub inserted-puts : (e : E.Entry K V g) → IsEntryOf eq m key e → (value : V) (new : Map K V) → Puts e value new → new.entries ≡ insert_entry eq m.entries key value
   unfolding Puts
-  inserted-puts (Occupied o) is value new put =
-      ap (λ n. n.entries) put ∙ ap (λ n. set_value_at n.entries (occupied_index o) value) is.0
-      ∙ sym (ap (λ p. option_map_or (λ i. set_value_at m.entries i value) p (m.entries ++ (key, value) ∷ [])) is.1)
-  inserted-puts (Vacant v) is value new put =
-      put.entries ∙ ap (λ n. n.entries ++ (lacking_key v, value) ∷ []) is.0 ∙ ap (λ k. m.entries ++ (k, value) ∷ []) is.2
-      ∙ sym (ap (λ p. option_map_or (λ i. set_value_at m.entries i value) p (m.entries ++ (key, value) ∷ [])) is.1)
+  inserted-puts (Occupied o) is value new put = grind (arith, common_steps, put, is.0, is.1)
+  inserted-puts (Vacant v) is value new put = grind (arith, common_steps, put.entries, is.0, is.1, is.2)
 
   pub entries-refused : (e : E.Entry K V g) → IsEntryOf eq m key e → (new : Map K V) → Refuses e new → new.entries ≡ m.entries
   unfolding Refuses

@@ -1,18 +1,14 @@
 -- What an insertion leaves under its key, at all other keys, of the length and of what the values weigh together; and what its word
 -- is made of, where it was done, where it was refused, and where its answer is handed on.
-use Rattle.std.proofs.Common.{◌≡◌, ◌+◌, Bool, true, false, List, [], ◌∷◌, ◌++◌, length, map, Some, None, is_some, refl, ◌∙◌, arith, Result, Ok, Err, OnOk, sym, ap, ℕ, zero, suc, ◌<◌, ◌≤◌, Option, slice_get}
-use Rattle.std.specs.Prelude.{if◌then◌else◌}
-use Rattle.std.specs.Option.{option_map_or, option_map}
-use Rattle.std.specs.Cmp.{IsEquivalence}
-use Rattle.std.proofs.lemmas.List.{length_push, map-append}
+use Rattle.starlark_hash.specs.Hasher.{own_hash}
+use Rattle.starlark_hash.proofs.Common.{HashWrites, common_steps, ◌≡◌, ◌+◌, Bool, true, false, List, [], ◌∷◌, ◌++◌, length, map, Some, None, is_some, refl, ◌∙◌, arith, Ok, Err, ap, ℕ, zero, suc, ◌<◌, ◌≤◌, Option, slice_get, if◌then◌else◌, option_map_or, option_map, IsEquivalence, map-append}
 use Rattle.starlark_hash.specs.declared.hashed.Hashed.{Hashed}
 use Rattle.starlark_hash.specs.declared.hash_value.StarlarkHashValue.{StarlarkHashValue}
 use Rattle.starlark_hash.specs.HashValue.{key_of, hash_of}
-use Rattle.starlark_hash.specs.Entries.{Entry, entry_key, set_value_at, match_of, value_at, position_of, entry_value}
+use Rattle.starlark_hash.specs.Entries.{Entry, set_value_at, match_of, value_at, position_of, entry_value}
 use Rattle.starlark_hash.specs.Insert.{insert_entry}
 use Rattle.starlark_hash.proofs.EntryLemmas.{length-set_value_at}
 use Rattle.starlark_small.proofs.CallerLookup.{alike, written_here, written_there, pushed_there, pushed_here, under, apart, same_key, keys-set_value_at, and_false, is_some-found, found_is, none_found}
-use Rattle.std.proofs.lemmas.Bool.{false≢true}
 use Rattle.starlark_hash.specs.Lookup.{found, Writes, weight_of}
 use Rattle.starlark_small.specs.Lookup.{keys, total_of}
 use Rattle.starlark_small.specs.Map.{Map}
@@ -26,25 +22,12 @@ use Rattle.starlark_small.proofs.CallerOwn.{own-inserted, own-same}
 module _ {K V : Type 0} (eq : K → K → Bool) (es : List (Entry K V)) (key : Hashed K) (value : V) where
   -- a new key makes the list one longer, and stands last
   pub length-insert_entry : length (insert_entry eq es key value) ≡ length es + (if is_some (match_of eq es key) then 0 else 1)
-  length-insert_entry = elim (match_of eq es key) as (λ o. length (option_map_or (λ i. set_value_at es i value) o (es ++ (key, value) ∷ [])) ≡ length es + (if is_some o then 0 else 1)) [
-    | None ↦ length_push es (key, value)
-    | Some i ↦ length-set_value_at es i value ∙ omega arith
-  ]
-
-  pub keys-insert_entry : map entry_key (insert_entry eq es key value) ≡ (if is_some (match_of eq es key) then map entry_key es else map entry_key es ++ key_of key ∷ [])
-  keys-insert_entry = elim (match_of eq es key) as (λ o. map entry_key (option_map_or (λ i. set_value_at es i value) o (es ++ (key, value) ∷ [])) ≡ (if is_some o then map entry_key es else map entry_key es ++ key_of key ∷ [])) [
-    | None ↦ map-append entry_key es ((key, value) ∷ [])
-    | Some i ↦ keys-set_value_at es i value
-  ]
+  length-insert_entry = grind (arith, common_steps, length-set_value_at es)
 
   module _ (laws : IsEquivalence eq) where
     -- the key is found, with the value that was put, where it was or else last
     pub value-insert_entry : value_at (insert_entry eq es key value) (match_of eq (insert_entry eq es key value) key) ≡ Some value
-    value-insert_entry = elim (match_of eq es key) as (λ o. match_of eq es key ≡ o
-        → value_at (option_map_or (λ i. set_value_at es i value) o (es ++ (key, value) ∷ [])) (match_of eq (option_map_or (λ i. set_value_at es i value) o (es ++ (key, value) ∷ [])) key) ≡ Some value) [
-          | None ↦ λ at. pushed_here (alike eq key) es (key, value) at (same_key eq laws key)
-          | Some i ↦ λ at. written_here (alike eq key) es i value at
-        ] refl
+    value-insert_entry = grind (arith, common_steps, same_key eq laws key, pushed_here (alike eq key) es (key, value), written_here (alike eq key) es)
 
     -- every other key is found as before
     pub value-insert_other : (hash : StarlarkHashValue) (passes : K → Bool) → ((x y : K) → passes x ≡ true → passes y ≡ eq x y) → under hash passes key ≡ false
@@ -67,29 +50,18 @@ module _ {K V : Type 0} (eq : K → K → Bool) (laws : IsEquivalence eq) where
     λ h other not. ap (λ l. value_at l (position_of h (eq other) l)) put ∙ value-insert_other eq old key value laws h (eq other) (laws.congr other) (other_under eq laws h key other not),
   )
 
-  pub updates-inserted : {A E : Type 0} (r : Result A E) (old new : List (Entry K V)) (key : Hashed K) (value : V) → OnOk r (new ≡ insert_entry eq old key value) → OnOk r (Writes eq (eq (key_of key)) (hash_of key) old new (Some value))
-  updates-inserted (Ok a) old new key value put = writes-inserted old new key value put
-  updates-inserted (Err e) old new key value put = tt
-
 -- the length after an insertion
 pub length-put : {K V : Type 0} (eq : K → K → Bool) (old new : List (Entry K V)) (key : Hashed K) (value : V) → new ≡ insert_entry eq old key value
     → length new ≡ length old + (if is_some (found (eq (key_of key)) (hash_of key) old) then 0 else 1)
-length-put eq old new key value put =
-    ap length put ∙ length-insert_entry eq old key value ∙ ap (λ b. length old + (if b then 0 else 1)) (is_some-found (eq (key_of key)) (hash_of key) old)
+length-put eq old new key value put = rw (← is_some-found (eq (key_of key)) (hash_of key) old) (ap length put ∙ length-insert_entry eq old key value)
 
 -- an insertion of a new key, and the keys in order after any
 module _ {K V : Type 0} (eq : K → K → Bool) (old new : Map K V) (key : Hashed K) (value : V) (put : new.entries ≡ insert_entry eq old.entries key value) where
   pub entries-pushed : found (eq (key_of key)) (hash_of key) old.entries ≡ None → new.entries ≡ old.entries ++ (key, value) ∷ []
-  entries-pushed lacking =
-      put ∙ elim (match_of eq old.entries key) as (λ o. is_some o ≡ false → option_map_or (λ i. set_value_at old.entries i value) o (old.entries ++ (key, value) ∷ []) ≡ old.entries ++ (key, value) ∷ []) [
-        | None ↦ λ none. refl
-        | Some i ↦ λ none. absurd (false≢true (sym none))
-      ] (is_some-found (eq (key_of key)) (hash_of key) old.entries ∙ ap is_some lacking)
+  entries-pushed lacking = grind (arith, common_steps, put, is_some-found (eq (key_of key)) (hash_of key) old.entries)
 
   pub keys-put : keys new ≡ (if is_some (found (eq (key_of key)) (hash_of key) old.entries) then keys old else keys old ++ key_of key ∷ [])
-  keys-put =
-      ap (map entry_key) put ∙ keys-insert_entry eq old.entries key value
-      ∙ ap (λ b. if b then map entry_key old.entries else map entry_key old.entries ++ key_of key ∷ []) (is_some-found (eq (key_of key)) (hash_of key) old.entries)
+  keys-put = rw put (grind (arith, common_steps, keys-set_value_at old.entries, is_some-found (eq (key_of key)) (hash_of key) old.entries))
 
 module _ {K V : Type 0} (measure : V → ℕ) where
   total-cons : (e : Entry K V) (es : List (Entry K V)) → total_of measure (e ∷ es) ≡ measure (entry_value e) + total_of measure es
@@ -116,13 +88,7 @@ module _ {K V : Type 0} (measure : V → ℕ) where
   -- an insertion
   pub total-inserted : (eq : K → K → Bool) (old new : List (Entry K V)) (key : Hashed K) (value : V) → new ≡ insert_entry eq old key value
       → total_of measure new + weight_of measure (value_at old (match_of eq old key)) ≡ total_of measure old + measure value
-  total-inserted eq old new key value put =
-      ap (λ l. total_of measure l + weight_of measure (value_at old (match_of eq old key))) put
-      ∙ elim (match_of eq old key) as (λ o. match_of eq old key ≡ o
-      → total_of measure (option_map_or (λ i. set_value_at old i value) o (old ++ (key, value) ∷ [])) + weight_of measure (value_at old o) ≡ total_of measure old + measure value) [
-        | None ↦ λ at. omega (arith, total-pushed old (key, value))
-        | Some i ↦ λ at. total-set old i value (position-within (λ e. alike eq key e.0) old i at)
-      ] refl
+  total-inserted eq old new key value put = grind (arith, common_steps, put, total-pushed old (key, value), total-set old, position-within (λ e. alike eq key e.0) old)
 
   pub total-put : (eq : K → K → Bool) (old new : List (Entry K V)) (key : Hashed K) (value : V) → new ≡ insert_entry eq old key value
       → total_of measure new + weight_of measure (found (eq (key_of key)) (hash_of key) old) ≡ total_of measure old + measure value
@@ -132,80 +98,25 @@ module _ {K V : Type 0} (measure : V → ℕ) where
 module _ {K V B : Type 0} (eq : K → K → Bool) (key : Hashed K) (value : V) (back : B) (before after : Map K V) where
   pub inserts-done : IsEquivalence eq → (v : Option V) → v ≡ value_at before.entries (match_of eq before.entries key) → after.entries ≡ insert_entry eq before.entries key value
       → LeavesMemory eq before key after → Inserts eq key value back before after (Ok v)
-  inserts-done laws v is put left = record {
-    old = is;
-    entries = put;
-    was = found_is (eq (key_of key)) (hash_of key) before.entries v is;
-    updates = writes-inserted eq laws before.entries after.entries key value put;
-    pushed = entries-pushed eq before after key value put;
-    keys = keys-put eq before after key value put;
-    count = length-put eq before.entries after.entries key value put;
-    total = λ measure. total-put measure eq before.entries after.entries key value put;
-    own = λ feeds under. own-inserted feeds eq before.entries after.entries key value put under;
-    lacking = tt;
-    absent = tt;
-    full = tt;
-    handed_back = tt;
-    unchanged = tt;
-    memory = left;
-  }
+  inserts-done laws v is put left = assumption (
+    found_is (eq (key_of key)) (hash_of key) before.entries v is,
+    writes-inserted eq laws before.entries after.entries key value put,
+    entries-pushed eq before after key value put,
+    keys-put eq before after key value put,
+    length-put eq before.entries after.entries key value put,
+    λ (measure : V → ℕ). total-put measure eq before.entries after.entries key value put,
+    λ (feeds : K → HashWrites). own-inserted feeds eq before.entries after.entries key value put,
+  )
 
   pub inserts-refused : (e : NoRoom B) → match_of eq before.entries key ≡ None → before.room ≡ 0 → e.0 ≡ back → IsRefused before after
       → LeavesMemory eq before key after → Inserts eq key value back before after (Err e)
-  inserts-refused e absent full back_is refused left = record {
-    old = tt;
-    entries = tt;
-    was = tt;
-    updates = tt;
-    pushed = tt;
-    keys = tt;
-    count = tt;
-    total = tt;
-    own = λ feeds under. own-same feeds before.entries after.entries refused.entries;
-    lacking = none_found (eq (key_of key)) (hash_of key) before.entries absent;
-    absent = absent;
-    full = full;
-    handed_back = back_is;
-    unchanged = (refused.entries, refused.indexed);
-    memory = left;
-  }
+  inserts-refused e absent full back_is refused left =
+      assumption (λ (feeds : K → HashWrites) (under : hash_of key ≡ own_hash feeds (key_of key)). own-same feeds before.entries after.entries refused.entries, none_found (eq (key_of key)) (hash_of key) before.entries absent)
 
 module _ {K V B C : Type 0} (eq : K → K → Bool) (key : Hashed K) (value : V) {back : B} {other : C} (before after : Map K V) where
   -- the same answer, where what comes back is another thing
   pub inserts-ok : (v : Option V) → Inserts eq key value back before after (Ok v) → Inserts eq key value other before after (Ok v)
-  inserts-ok v is = record {
-    old = is.old;
-    entries = is.entries;
-    was = is.was;
-    updates = is.updates;
-    pushed = is.pushed;
-    keys = is.keys;
-    count = is.count;
-    total = is.total;
-    own = is.own;
-    lacking = tt;
-    absent = tt;
-    full = tt;
-    handed_back = tt;
-    unchanged = tt;
-    memory = is.memory;
-  }
+  inserts-ok v is = assumption is
 
   pub inserts-err : (e : NoRoom B) (d : NoRoom C) → d.0 ≡ other → Inserts eq key value back before after (Err e) → Inserts eq key value other before after (Err d)
-  inserts-err e d back_is is = record {
-    old = tt;
-    entries = tt;
-    was = tt;
-    updates = tt;
-    pushed = tt;
-    keys = tt;
-    count = tt;
-    total = tt;
-    own = is.own;
-    lacking = is.lacking;
-    absent = is.absent;
-    full = is.full;
-    handed_back = back_is;
-    unchanged = is.unchanged;
-    memory = is.memory;
-  }
+  inserts-err e d back_is is = assumption (is, back_is)

@@ -1,11 +1,8 @@
 -- What a caller cites of a `SmallMap`: what stands after an insertion, a write and a removal. One name, `callers`, has what a
 -- caller's proof wants.
-use Rattle.std.proofs.Common.{◌≡◌, ℕ, Bool, true, List, nat_eq, Some, None, is_some}
-use Rattle.std.specs.Cmp.{IsEquivalence, int_eq_equiv, nat_eq_equiv}
-use Rattle.std.specs.Hash.{HashWrites}
-use Rattle.std.specs.String.{string_eq, string_eq_equiv}
-use Rattle.std.specs.declared.string.String.{String}
-use Rattle.std.proofs.lemmas.List.{length_push, length-append, length-drop, length-take, map-append}
+use Rattle.starlark_hash.proofs.Common.{◌≡◌, ℕ, Bool, true, List, nat_eq, Some, None, is_some, IsEquivalence, HashWrites, string_eq, String, length_push, length-append, length-drop, length-take, map-append}
+use Rattle.std.specs.Cmp.{int_eq_equiv, nat_eq_equiv}
+use Rattle.std.specs.String.{string_eq_equiv}
 use Rattle.starlark_hash.specs.Hasher.{own_hash}
 use Rattle.starlark_hash.specs.declared.hashed.Hashed.{Hashed}
 use Rattle.starlark_hash.specs.Entries.{Entry, IsSingle, match_of, value_at, with_value, without}

@@ -1,12 +1,13 @@
 -- What holds of all keys, values and pairs of a map, and what is among them, after an insertion, a removal and a write by index.
 -- Each takes the record that is the call's clause.
-use mathlib.Core.Logic.{◌⊎◌, inl, inr, ⊎_elim}
-use Rattle.std.proofs.Common.{◌≡◌, ℕ, zero, suc, ◌<◌, Bool, true, eqb, List, [], ◌∷◌, ◌++◌, length, map, get_or, remove, Ok, Option, Some, None, refl, sym, ap, subst, ◌∙◌, arith}
-use Rattle.std.specs.List.{All, Contains}
-use Rattle.std.specs.Option.{option_map_or}
-use Rattle.std.specs.Cmp.{IsEquivalence}
-use Rattle.std.proofs.lemmas.List.{map-append}
-use Rattle.std.proofs.lemmas.List.Elements.{All-cons, All-head, All-push, All-tail, Contains-append_left, Contains-push, Contains-push_cases}
+use Rattle.starlark_hash.proofs.Common.{set, length-map, get_or-map, get_or-set_same, All-append, All-contains, All-weaker, common_steps, ◌≡◌, ℕ, zero, suc, ◌<◌, Bool, true, eqb, List, [], ◌∷◌, ◌++◌, length, map, get_or, remove, Ok, Option, Some, None, refl, sym, ap, subst, ◌∙◌, arith, All, Contains, option_map_or, IsEquivalence, map-append, All-push}
+use Rattle.std.proofs.Math.ListN.{take, drop}
+use Rattle.std.proofs.lemmas.List.{length-set}
+use Rattle.std.proofs.lemmas.List.Elements.{All-take, All-drop, All-set, All-contains_itself}
+use Rattle.std.proofs.lemmas.Simd.{map-map}
+use Rattle.starlark_vecmap.proofs.Views.{map-remove}
+use mathlib.Core.Logic.{◌⊎◌, inl, inr}
+use Rattle.std.proofs.lemmas.List.Elements.{Contains-append_left, Contains-push}
 use Rattle.starlark_hash.specs.declared.hashed.Hashed.{Hashed}
 use Rattle.starlark_hash.specs.declared.hash_value.StarlarkHashValue.{StarlarkHashValue}
 use Rattle.starlark_hash.specs.HashValue.{hash_of, key_of}
@@ -19,38 +20,23 @@ use Rattle.starlark_small.specs.Insert.{Inserts}
 use Rattle.starlark_small.specs.Map.{Map}
 use Rattle.starlark_small.proofs.CallerLookup.{alike, both, keys-set_value_at}
 
--- an element after a first one
-later : {X : Type 0} (x : X) (xs : List X) (y : X) → Contains xs y → Contains (x ∷ xs) y
-later x xs y at = (suc at.0, (let below = at.1 in omega (arith, below)), at.2)
+-- what is in a list was in one of which all that holds holds of this list too
+from-before : {X : Type 0} (xs ys : List X) (y : X) → ((P : X → Type 0) → All P xs → All P ys) → Contains ys y → Contains xs y
+from-before xs ys y all at = All-contains (Contains xs) ys y (all (Contains xs) (All-contains_itself xs)) at
 
-first-or-later : {X : Type 0} (x : X) (xs : List X) (y : X) → Contains (x ∷ xs) y → (x ≡ y) ⊎ Contains xs y
-first-or-later x xs y (zero, below, is) = inl is
-first-or-later x xs y (suc i, below, is) = inr (i, omega (arith, below), is)
+-- the same where one item may come
+cases-from : {X : Type 0} (xs ys : List X) (x y : X) → ((P : X → Type 0) → All P xs → P x → All P ys) → Contains ys y → Contains xs y ⊎ (x ≡ y)
+cases-from xs ys x y all at =
+    let P = λ (z : _). Contains xs z ⊎ (x ≡ z) in All-contains P ys y (all P (All-weaker (Contains xs) P (λ z. inl) xs (All-contains_itself xs)) (inr refl)) at
+
+set-there : {X : Type 0} (xs : List X) (i : ℕ) (x : X) → i < length xs → Contains (set xs i x) x
+set-there xs i x below = (i, omega (arith, length-set xs i x), get_or-set_same xs i x x below)
 
 -- a removal brings nothing new, whatever is read of each entry: its key, its value or both
 module _ {E X : Type 0} (f : E → X) where
-  all-left : (P : X → Type 0) (es : List E) (i : ℕ) → All P (map f es) → All P (map f (remove es i))
-  all-left P [] zero all = all
-  all-left P [] (suc i) all = all
-  all-left P (e ∷ es) zero all = All-tail P (f e) (map f es) all
-  all-left P (e ∷ es) (suc i) all = All-cons P (f e) (map f (remove es i)) (All-head P (f e) (map f es) all) (all-left P es i (All-tail P (f e) (map f es) all))
-
-  one-left : (es : List E) (i : ℕ) (x : X) → Contains (map f (remove es i)) x → Contains (map f es) x
-  one-left [] zero x at = at
-  one-left [] (suc i) x at = at
-  one-left (e ∷ es) zero x at = later (f e) (map f es) x at
-  one-left (e ∷ es) (suc i) x at = ⊎_elim
-      (λ is. (0, omega arith, is))
-      (λ at. later (f e) (map f es) x (one-left es i x at))
-      (first-or-later (f e) (map f (remove es i)) x at)
-
   all-without : (P : X → Type 0) (es : List E) (index : Option ℕ) → All P (map f es) → All P (map f (option_map_or (remove es) index es))
   all-without P es None all = all
-  all-without P es (Some i) all = all-left P es i all
-
-  one-without : (es : List E) (index : Option ℕ) (x : X) → Contains (map f (option_map_or (remove es) index es)) x → Contains (map f es) x
-  one-without es None x at = at
-  one-without es (Some i) x at = one-left es i x at
+  all-without P es (Some i) all = rw (map-remove f es i) (All-append P (take i (map f es)) (drop (suc i) (map f es)) (All-take P i (map f es) all) (All-drop P (suc i) (map f es) all))
 
   -- what is pushed is the last
   all-pushed : (P : X → Type 0) (es : List E) (e : E) → All P (map f es) → P (f e) → All P (map f (es ++ e ∷ []))
@@ -62,50 +48,40 @@ module _ {E X : Type 0} (f : E → X) where
   others-pushed : (es : List E) (e : E) (x : X) → Contains (map f es) x → Contains (map f (es ++ e ∷ [])) x
   others-pushed es e x at = subst (λ l. Contains l x) (sym (map-append f es (e ∷ []))) (Contains-append_left (map f es) (f e ∷ []) x at)
 
-  pushed-cases : (es : List E) (e : E) (x : X) → Contains (map f (es ++ e ∷ [])) x → Contains (map f es) x ⊎ (f e ≡ x)
-  pushed-cases es e x at = Contains-push_cases (map f es) (f e) x (subst (λ l. Contains l x) (map-append f es (e ∷ [])) at)
-
 module _ {K V : Type 0} where
+  -- a value that is written, as the values and the pairs of a list show it
+  values-set : (es : List (Entry K V)) (i : ℕ) (w : V) → map entry_value (set_value_at es i w) ≡ set (map entry_value es) i w
+  values-set [] i w = refl
+  values-set (e ∷ es) zero w = refl
+  values-set (e ∷ es) (suc i) w = ap (λ l. entry_value e ∷ l) (values-set es i w)
+
+  pairs-set : (es : List (Entry K V)) (i : ℕ) (w : V) (d : Entry K V) → map pair_of (set_value_at es i w) ≡ set (map pair_of es) i (entry_key (get_or es i d), w)
+  pairs-set [] i w d = refl
+  pairs-set (e ∷ es) zero w d = refl
+  pairs-set (e ∷ es) (suc i) w d = ap (λ l. pair_of e ∷ l) (pairs-set es i w d)
+
   all-written : (P : V → Type 0) (es : List (Entry K V)) (i : ℕ) (w : V) → All P (map entry_value es) → P w → All P (map entry_value (set_value_at es i w))
-  all-written P [] i w all p = all
-  all-written P (e ∷ es) zero w all p = All-cons P w (map entry_value es) p (All-tail P (entry_value e) (map entry_value es) all)
-  all-written P (e ∷ es) (suc i) w all p =
-      All-cons P (entry_value e) (map entry_value (set_value_at es i w)) (All-head P (entry_value e) (map entry_value es) all) (all-written P es i w (All-tail P (entry_value e) (map entry_value es) all) p)
+  all-written P es i w all p = rw (values-set es i w) (All-set P (map entry_value es) i w p all)
 
   one-written : (es : List (Entry K V)) (i : ℕ) (w : V) → i < length es → Contains (map entry_value (set_value_at es i w)) w
-  one-written [] i w below = absurd (omega (arith, below))
-  one-written (e ∷ es) zero w below = (0, omega arith, refl)
-  one-written (e ∷ es) (suc i) w below = later (entry_value e) (map entry_value (set_value_at es i w)) w (one-written es i w (omega (arith, below)))
+  one-written es i w below = rw (values-set es i w) (set-there (map entry_value es) i w (omega (arith, length-map es entry_value)))
 
-  written-cases : (es : List (Entry K V)) (i : ℕ) (w v : V) → Contains (map entry_value (set_value_at es i w)) v → Contains (map entry_value es) v ⊎ (w ≡ v)
-  written-cases [] i w v at = inl at
-  written-cases (e ∷ es) zero w v at = ⊎_elim inr (λ at. inl (later (entry_value e) (map entry_value es) v at)) (first-or-later w (map entry_value es) v at)
-  written-cases (e ∷ es) (suc i) w v at = ⊎_elim
-      (λ is. inl (0, omega arith, is))
-      (λ at. ⊎_elim (λ at. inl (later (entry_value e) (map entry_value es) v at)) inr (written-cases es i w v at))
-      (first-or-later (entry_value e) (map entry_value (set_value_at es i w)) v at)
-
-  all-pairs-written : (P : K × V → Type 0) (es : List (Entry K V)) (i : ℕ) (w : V) → All P (map pair_of es) → ((d : Entry K V) → i < length es → P (entry_key (get_or es i d), w)) → All P (map pair_of (set_value_at es i w))
+  all-pairs-written : (P : K × V → Type 0) (es : List (Entry K V)) (i : ℕ) (w : V) → All P (map pair_of es) → ((d : Entry K V) → P (entry_key (get_or es i d), w)) → All P (map pair_of (set_value_at es i w))
   all-pairs-written P [] i w all p = all
-  all-pairs-written P (e ∷ es) zero w all p = All-cons P (entry_key e, w) (map pair_of es) (p e (omega arith)) (All-tail P (pair_of e) (map pair_of es) all)
-  all-pairs-written P (e ∷ es) (suc i) w all p =
-      All-cons P (pair_of e) (map pair_of (set_value_at es i w)) (All-head P (pair_of e) (map pair_of es) all) (all-pairs-written P es i w (All-tail P (pair_of e) (map pair_of es) all) (λ d below. p d (omega (arith, below))))
+  all-pairs-written P (e ∷ es) i w all p = rw (pairs-set (e ∷ es) i w e) (All-set P (map pair_of (e ∷ es)) i (entry_key (get_or (e ∷ es) i e), w) (p e) all)
 
   pair-written : (es : List (Entry K V)) (i : ℕ) (w : V) (d : Entry K V) → i < length es → Contains (map pair_of (set_value_at es i w)) (entry_key (get_or es i d), w)
-  pair-written [] i w d below = absurd (omega (arith, below))
-  pair-written (e ∷ es) zero w d below = (0, omega arith, refl)
-  pair-written (e ∷ es) (suc i) w d below = later (pair_of e) (map pair_of (set_value_at es i w)) (entry_key (get_or es i d), w) (pair-written es i w d (omega (arith, below)))
+  pair-written es i w d below = rw (pairs-set es i w d) (set-there (map pair_of es) i (entry_key (get_or es i d), w) (omega (arith, length-map es pair_of)))
 
   of-pair : (es : List (Entry K V)) (p : K × V) → Contains (map pair_of es) p → Contains (map entry_key es) p.0
-  of-pair [] p at = absurd (let below = at.1 in omega (arith, below))
-  of-pair (e ∷ es) p at = ⊎_elim
-      (λ is. (0, omega arith, ap (λ (q : K × V). q.0) is))
-      (λ at. later (entry_key e) (map entry_key es) p.0 (of-pair es p at))
-      (first-or-later (pair_of e) (map pair_of es) p at)
+  of-pair es p (k, lt, is) = (
+    k,
+    omega (arith, length-map es pair_of, length-map es entry_key),
+    ap (λ l. get_or l k p.0) (sym (map-map (λ (q : K × V). q.0) pair_of es)) ∙ get_or-map (λ (q : K × V). q.0) (map pair_of es) k p p.0 lt ∙ ap (λ (q : K × V). q.0) is,
+  )
 
   same-keys : (es : List (Entry K V)) (index : Option ℕ) (w : V) → map entry_key (with_value es index w) ≡ map entry_key es
-  same-keys es None w = refl
-  same-keys es (Some i) w = keys-set_value_at es i w
+  same-keys es index w = grind (arith, common_steps, keys-set_value_at es)
 
 -- An insertion puts in a new key last, or the value at a key that stays.
 module _ {K V B : Type 0} {eq : K → K → Bool} {key : Hashed K} {value : V} {back : B} {before after : Map K V} {was : Option V} (inserts : Inserts eq key value back before after (Ok was)) where
@@ -137,7 +113,7 @@ module _ {K V B : Type 0} {eq : K → K → Bool} {key : Hashed K} {value : V} {
   pub All-pairs-inserts : IsEquivalence eq → (P : K × V → Type 0) → All P (map pair_of before.entries) → ((k : K) → eq (key_of key) k ≡ true → P (k, value)) → All P (map pair_of after.entries)
   All-pairs-inserts laws P all p = by-index (λ es. All P (map pair_of es))
       (all-pushed pair_of P before.entries (key, value) all (p (key_of key) (laws.refl (key_of key))))
-      (λ i at. all-pairs-written P before.entries i value all (λ d below. p (entry_key (get_or before.entries i d)) (equal-at i d at)))
+      (λ i at. all-pairs-written P before.entries i value all (λ d. p (entry_key (get_or before.entries i d)) (equal-at i d at)))
 
   pub Contains-values-inserts : Contains (map entry_value after.entries) value
   Contains-values-inserts = by-index (λ es. Contains (map entry_value es) value)
@@ -145,9 +121,7 @@ module _ {K V B : Type 0} {eq : K → K → Bool} {key : Hashed K} {value : V} {
       (λ i at. one-written before.entries i value (within i at))
 
   pub Contains-values-inserts_cases : (v : V) → Contains (map entry_value after.entries) v → Contains (map entry_value before.entries) v ⊎ (value ≡ v)
-  Contains-values-inserts_cases v = by-index (λ es. Contains (map entry_value es) v → Contains (map entry_value before.entries) v ⊎ (value ≡ v))
-      (pushed-cases entry_value before.entries (key, value) v)
-      (λ i at. written-cases before.entries i value v)
+  Contains-values-inserts_cases v = cases-from (map entry_value before.entries) (map entry_value after.entries) value v All-values-inserts
 
   -- keys that were there stay, and no other comes than the one that was brought
   pub Contains-keys-inserts_other : (k : K) → Contains (keys before) k → Contains (keys after) k
@@ -156,9 +130,7 @@ module _ {K V B : Type 0} {eq : K → K → Bool} {key : Hashed K} {value : V} {
       (λ i at. subst (λ ks. Contains ks k) (sym (keys-set_value_at before.entries i value)) there)
 
   pub Contains-keys-inserts_cases : (k : K) → Contains (keys after) k → Contains (keys before) k ⊎ (key_of key ≡ k)
-  Contains-keys-inserts_cases k = by-index (λ es. Contains (map entry_key es) k → Contains (keys before) k ⊎ (key_of key ≡ k))
-      (pushed-cases entry_key before.entries (key, value) k)
-      (λ i at there. inl (subst (λ ks. Contains ks k) (keys-set_value_at before.entries i value) there))
+  Contains-keys-inserts_cases k = cases-from (keys before) (keys after) (key_of key) k All-keys-inserts
 
   -- where equal keys are the same, as numbers, the key and its pair are among the new ones
   module _ (exact : (x y : K) → eq x y ≡ true → x ≡ y) where
@@ -178,14 +150,14 @@ module _ {K V X : Type 0} (f : Entry K V → X) {eq : K → K → Bool} {old new
     All-removes P all = subst (λ es. All P (map f es)) (sym removes.entries) (all-without f P old.entries (position_of hash test old.entries) all)
 
     pub Contains-removes : (x : X) → Contains (map f new.entries) x → Contains (map f old.entries) x
-    Contains-removes x at = one-without f old.entries (position_of hash test old.entries) x (subst (λ es. Contains (map f es) x) removes.entries at)
+    Contains-removes x = from-before (map f old.entries) (map f new.entries) x All-removes
 
   module _ {index : ℕ} (removes : RemovesAt eq index old new) where
     pub All-removes_at : (P : X → Type 0) → All P (map f old.entries) → All P (map f new.entries)
-    All-removes_at P all = subst (λ es. All P (map f es)) (sym removes.entries) (all-left f P old.entries index all)
+    All-removes_at P all = subst (λ es. All P (map f es)) (sym removes.entries) (all-without f P old.entries (Some index) all)
 
     pub Contains-removes_at : (x : X) → Contains (map f new.entries) x → Contains (map f old.entries) x
-    Contains-removes_at x at = one-left f old.entries index x (subst (λ es. Contains (map f es) x) removes.entries at)
+    Contains-removes_at x = from-before (map f old.entries) (map f new.entries) x All-removes_at
 
 -- A value that is written at an index, as a loan of `get_mut` leaves it, moves no key.
 module _ {K V : Type 0} (old new : Map K V) (index : Option ℕ) (w : V) (is : new ≡ record old { entries = with_value old.entries index w }) where
@@ -196,28 +168,16 @@ module _ {K V : Type 0} (old new : Map K V) (index : Option ℕ) (w : V) (is : n
   All-keys-writes P all = subst (All P) (sym (ap (map entry_key) writes ∙ same-keys old.entries index w)) all
 
   pub All-values-writes : (P : V → Type 0) → All P (map entry_value old.entries) → P w → All P (map entry_value new.entries)
-  All-values-writes P all p = subst (λ es. All P (map entry_value es)) (sym writes) (with index)
-    where
-      with : (o : Option ℕ) → All P (map entry_value (with_value old.entries o w))
-      with None = all
-      with (Some i) = all-written P old.entries i w all p
+  All-values-writes P all p = rw writes (elim index as (λ o. All P (map entry_value (with_value old.entries o w))) [ None ↦ all | Some i ↦ all-written P old.entries i w all p ])
 
   pub Contains-keys-writes : (k : K) → Contains (keys old) k → Contains (keys new) k
   Contains-keys-writes k at = subst (λ ks. Contains ks k) (sym (ap (map entry_key) writes ∙ same-keys old.entries index w)) at
 
   pub Contains-values-writes_cases : (v : V) → Contains (map entry_value new.entries) v → Contains (map entry_value old.entries) v ⊎ (w ≡ v)
-  Contains-values-writes_cases v at = cases index (subst (λ es. Contains (map entry_value es) v) writes at)
-    where
-      cases : (o : Option ℕ) → Contains (map entry_value (with_value old.entries o w)) v → Contains (map entry_value old.entries) v ⊎ (w ≡ v)
-      cases None at = inl at
-      cases (Some i) at = written-cases old.entries i w v at
+  Contains-values-writes_cases v = cases-from (map entry_value old.entries) (map entry_value new.entries) w v All-values-writes
 
   pub length-writes : length new.entries ≡ length old.entries
-  length-writes = ap length writes ∙ long index
-    where
-      long : (o : Option ℕ) → length (with_value old.entries o w) ≡ length old.entries
-      long None = refl
-      long (Some i) = length-set_value_at old.entries i w
+  length-writes = grind (arith, common_steps, writes, length-set_value_at old.entries)
 
 -- all of these
 pub ruleset members = (All-keys-inserts, All-values-inserts, All-pairs-inserts, Contains-values-inserts, Contains-values-inserts_cases, Contains-keys-inserts, Contains-keys-inserts_other, Contains-keys-inserts_cases, Contains-pairs-inserts, All-removes, Contains-removes, All-removes_at, Contains-removes_at, All-keys-writes, All-values-writes, Contains-keys-writes, Contains-values-writes_cases, length-writes)

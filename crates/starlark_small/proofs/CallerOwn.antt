@@ -1,17 +1,12 @@
 -- Which lists have each key under its own hash: what insertions, removals and moves leave of them.
-use Rattle.std.proofs.Common.{◌<◌, length, get_or, ◌≡◌, ℕ, zero, suc, Bool, List, [], ◌∷◌, ◌++◌, map, remove, Option, Some, None, IsPermutation, refl, sym, ◌∙◌, subst, arith}
-use Rattle.std.specs.Borrow.{Bor, MutBor}
-use Rattle.std.specs.Fn.{Mut}
-use Rattle.std.specs.Hash.{HashWrites}
-use Rattle.std.specs.List.{All, AllZip}
-use Rattle.std.specs.Option.{option_map_or}
-use Rattle.std.proofs.lemmas.List.Elements.{All-cons, All-head, All-push, All-tail, AllZip-get_or, length_all_zip}
-use Rattle.std.proofs.lemmas.List.Sorted.{All-permutation}
+use Rattle.std.proofs.Math.ListN.{take, drop}
+use Rattle.starlark_hash.proofs.Common.{All-append, ◌<◌, length, get_or, ◌≡◌, ℕ, zero, suc, Bool, List, [], ◌∷◌, ◌++◌, map, remove, Some, None, IsPermutation, refl, sym, ◌∙◌, subst, arith, Bor, MutBor, Mut, HashWrites, All, AllZip, option_map_or, All-cons, All-head, All-push, All-tail, AllZip-get_or, length_all_zip, All-permutation}
+use Rattle.std.proofs.lemmas.List.Elements.{All-take, All-drop}
 use Rattle.starlark_hash.specs.declared.hashed.Hashed.{Hashed}
 use Rattle.starlark_hash.specs.Hasher.{own_hash}
 use Rattle.starlark_hash.specs.HashValue.{hash_of, key_of}
 use Rattle.starlark_hash.specs.Clone.{IsEntryClone}
-use Rattle.starlark_hash.specs.Entries.{Entry, entry_hash, entry_key, match_of, set_value_at, without}
+use Rattle.starlark_hash.specs.Entries.{Entry, entry_hash, entry_key, match_of, set_value_at}
 use Rattle.starlark_hash.specs.Insert.{insert_entry}
 use Rattle.starlark_hash.specs.Retain.{CalledAtEntry, Retains}
 use Rattle.starlark_vecmap.specs.EntryList.{with_values}
@@ -29,12 +24,6 @@ module _ {K V : Type 0} (feeds : K → HashWrites) where
   set_own (e ∷ es) zero w own = All-cons is_own (e.0, w) es (All-head is_own e es own) (All-tail is_own e es own)
   set_own (e ∷ es) (suc i) w own = All-cons is_own e (set_value_at es i w) (All-head is_own e es own) (set_own es i w (All-tail is_own e es own))
 
-  remove_own : (es : List (Entry K V)) (i : ℕ) → All is_own es → All is_own (remove es i)
-  remove_own [] zero own = own
-  remove_own [] (suc i) own = own
-  remove_own (e ∷ es) zero own = All-tail is_own e es own
-  remove_own (e ∷ es) (suc i) own = All-cons is_own e (remove es i) (All-head is_own e es own) (remove_own es i (All-tail is_own e es own))
-
   insert_own : (eq : K → K → Bool) (es : List (Entry K V)) (key : Hashed K) (value : V) → hash_of key ≡ own_hash feeds (key_of key) → All is_own es → All is_own (insert_entry eq es key value)
   insert_own eq es key value is own = elim (match_of eq es key) as (λ o. All is_own (option_map_or (λ i. set_value_at es i value) o (es ++ (key, value) ∷ []))) [
     | None ↦ All-push is_own es (key, value) own is
@@ -51,10 +40,6 @@ module _ {K V : Type 0} (feeds : K → HashWrites) where
   insert_entries_own eq [] es all own = own
   insert_entries_own eq (x ∷ xs) es all own =
       insert_entries_own eq xs (insert_entry eq es x.0 x.1) (All-tail is_own x xs all) (insert_own eq es x.0 x.1 (All-head is_own x xs all) own)
-
-  without_own : (es : List (Entry K V)) (index : Option ℕ) → All is_own es → All is_own (without es index)
-  without_own es None own = own
-  without_own es (Some i) own = remove_own es i own
 
   written_own : (es ws : List (Entry K V)) → All is_own es → All is_own (with_values es ws)
   written_own [] ws own = own
@@ -81,25 +66,19 @@ module _ {K V : Type 0} (feeds : K → HashWrites) where
   unfolding AreOwnEntries
   own-inserted_entries eq new items put all = subst (All is_own) (sym put) (insert_entries_own eq items [] all (λ k d below. absurd (omega (arith, below))))
 
-  clones_own : (key : K → K → Type 0) (value : V → V → Type 0) → ((x y : K) → key x y → feeds x ≡ feeds y) → (es fs : List (Entry K V)) → AllZip (IsEntryClone key value) es fs → All is_own es → All is_own fs
-  clones_own key value alike es fs all own = λ k d below.
+  -- clones of keys under their own hashes, where equal keys feed alike
+  pub own-clones : (key : K → K → Type 0) (value : V → V → Type 0) → ((x y : K) → key x y → feeds x ≡ feeds y) → (es fs : List (Entry K V)) → AllZip (IsEntryClone key value) es fs
+      → AreOwnEntries feeds es → AreOwnEntries feeds fs
+  unfolding AreOwnEntries
+  own-clones key value alike es fs all own = λ k d below.
       let inside : k < length es = omega (arith, below, length_all_zip (IsEntryClone key value) es fs all) in
       let is = AllZip-get_or (IsEntryClone key value) es fs k d d all inside in
       let x = entry_key (get_or es k d) in
       is.0 ∙ own k d inside ∙ (λ i. own_hash (λ _. alike x (entry_key (get_or fs k d)) is.1 i) x)
 
-  -- clones of keys under their own hashes, where equal keys feed alike
-  pub own-clones : (key : K → K → Type 0) (value : V → V → Type 0) → ((x y : K) → key x y → feeds x ≡ feeds y) → (es fs : List (Entry K V)) → AllZip (IsEntryClone key value) es fs
-      → AreOwnEntries feeds es → AreOwnEntries feeds fs
-  unfolding AreOwnEntries
-  own-clones key value alike es fs all own = clones_own key value alike es fs all own
-
-  pub own-without : (old new : List (Entry K V)) (index : Option ℕ) → new ≡ without old index → AreOwnEntries feeds old → AreOwnEntries feeds new
-  unfolding AreOwnEntries
-  own-without old new index put own = subst (All is_own) (sym put) (without_own old index own)
-
   pub own-removed : (old new : List (Entry K V)) (i : ℕ) → new ≡ remove old i → AreOwnEntries feeds old → AreOwnEntries feeds new
-  own-removed old new i put = own-without old new (Some i) put
+  unfolding AreOwnEntries
+  own-removed old new i put own = rw put (All-append is_own (take i old) (drop (suc i) old) (All-take is_own i old own) (All-drop is_own (suc i) old own))
 
   pub own-retained : {F : Type 0} (g : Mut F (Bor K × (MutBor V × Unit {0})) (Bool × (MutBor V × Unit {0}))) (f : F) (old new : List (Entry K V)) → Retains (CalledAtEntry g) f old new → AreOwnEntries feeds old → AreOwnEntries feeds new
   unfolding AreOwnEntries

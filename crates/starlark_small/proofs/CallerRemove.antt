@@ -1,47 +1,20 @@
 -- What is found once an entry was taken out, by its key or by its index, or dropped by a closure.
-use Rattle.std.proofs.Common.{◌≡◌, ℕ, zero, suc, ◌+◌, Bool, true, false, cond, eqb, List, [], ◌∷◌, length, get_or, position, remove, Some, None, is_some, refl, sym, ap, ◌∙◌, arith, ◌-◌, ◌++◌, Option, slice_get, subst}
-use Rattle.std.specs.Prelude.{◌&&◌, if◌then◌else◌, IfSome, ◌==◌}
-use Rattle.std.specs.Option.{option_map, option_map_or}
-use Rattle.std.specs.Cmp.{IsEquivalence}
-use Rattle.std.proofs.lemmas.Bool.Decides.{nat_tests}
-use Rattle.std.proofs.lemmas.Option.{none-some, get_or_from_slice_get, same_Some, slice_get_within}
+use Rattle.starlark_hash.proofs.Common.{common_steps, ◌≡◌, ℕ, zero, suc, ◌+◌, Bool, true, false, eqb, List, [], ◌∷◌, length, get_or, position, remove, Some, None, is_some, refl, sym, ap, ◌∙◌, arith, ◌-◌, ◌++◌, Option, slice_get, subst, ◌&&◌, if◌then◌else◌, IfSome, ◌==◌, option_map, IsEquivalence, nat_tests, get_or_from_slice_get, slice_get_within, length-remove, Bor, MutBor, Mut}
 use Rattle.starlark_hash.specs.declared.hashed.Hashed.{Hashed}
 use Rattle.starlark_hash.specs.declared.hash_value.StarlarkHashValue.{StarlarkHashValue}
 use Rattle.starlark_hash.specs.HashValue.{hash_of, key_of, hashed, hash_number}
 use Rattle.starlark_hash.specs.Entries.{Entry, IsSingle, match_of, value_at, without, position_of, entry_key, entry_value, pair_of, stands_under}
 use Rattle.starlark_hash.proofs.PositionLemmas.{position-cons, position-within, position-passes, position-None}
-use Rattle.starlark_small.proofs.CallerLookup.{later, not_first, here, none_among, alike, removed_there, both, under, apart, position_of-match, apart_other, is_some-found, same_key, none_found}
+use Rattle.starlark_small.proofs.CallerLookup.{none_among, alike, removed_there, both, under, position_of-match, apart_other, is_some-found, same_key, none_found}
 use Rattle.starlark_hash.specs.Lookup.{found, Writes}
 use Rattle.std.specs.Map.Iter.{TakesLast}
-use Rattle.std.proofs.lemmas.List.{length_push}
-use Rattle.std.proofs.lemmas.List.Edits.{length-remove}
 use Rattle.starlark_hash.specs.Hasher.{own_hash}
 use Rattle.starlark_small.specs.Lookup.{AreOwnEntries}
 use Rattle.starlark_small.specs.Remove.{TakesOut}
-use Rattle.starlark_small.specs.CompareLaws.{alike as alike_keys, alike-laws}
+use Rattle.starlark_small.specs.CompareLaws.{alike-laws}
 use Rattle.starlark_small.specs.Map.{Map}
-use Rattle.std.specs.Borrow.{Bor, MutBor}
-use Rattle.std.specs.Fn.{Mut}
-use Rattle.std.proofs.lemmas.Bool.{false≢true}
 use Rattle.starlark_hash.specs.Retain.{Retains, CalledAtEntry}
 use Rattle.starlark_small.proofs.Retained.{all_retained}
-
-module _ {K V : Type 0} (hash : StarlarkHashValue) (passes : K → Bool) (es : List (Entry K V)) where
-  -- what is left after a removal
-  pub length-without : length (without es (position_of hash passes es)) + (if is_some (position_of hash passes es) then 1 else 0) ≡ length es
-  length-without = elim (position_of hash passes es) as (λ o. position_of hash passes es ≡ o → length (option_map_or (remove es) o es) + (if is_some o then 1 else 0) ≡ length es) [
-    | None ↦ λ at. omega arith
-    | Some i ↦ λ at. let below = position-within (λ e. under hash passes e.0) es i at in omega (arith, length-remove es i below)
-  ] refl
-
-module _ {K V : Type 0} (eq : K → K → Bool) (laws : IsEquivalence eq) (es : List (Entry K V)) (key : Hashed K) (hash : StarlarkHashValue) (passes : K → Bool)
-    (one : (x y : K) → passes x ≡ true → passes y ≡ eq x y) (not : under hash passes key ≡ false) where
-  pub value-without_other : value_at (without es (match_of eq es key)) (position_of hash passes (without es (match_of eq es key))) ≡ value_at es (position_of hash passes es)
-  value-without_other = elim (match_of eq es key) as (λ o. match_of eq es key ≡ o
-      → value_at (option_map_or (remove es) o es) (position_of hash passes (option_map_or (remove es) o es)) ≡ value_at es (position_of hash passes es)) [
-        | None ↦ λ at. refl
-        | Some i ↦ λ at. removed_there (under hash passes) (alike eq key) (apart eq laws key hash passes one not) es i at
-      ] refl
 
 module _ {K V : Type 0} (eq : K → K → Bool) (laws : IsEquivalence eq) (key : Hashed K) where
   -- where no two entries are alike, none after one that is found is alike too
@@ -50,60 +23,32 @@ module _ {K V : Type 0} (eq : K → K → Bool) (laws : IsEquivalence eq) (key :
 
   none_after : (e : Entry K V) (es : List (Entry K V)) → IsSingle eq (e ∷ es) → alike eq key e.0 ≡ true → position (λ e. alike eq key e.0) es ≡ None
   none_after e es single does = none_among (λ e. alike eq key e.0) es (λ k d below.
-      let t = both (eqb (hash_of e.0).0 (hash_of key).0) (eq (key_of key) (key_of e.0)) does in
-      let f = get_or es k d in
-      ap (λ b. b && eq (key_of key) (key_of f.0)) (swapped (hash_of f.0).0 (hash_of key).0 (hash_of e.0).0 t.0)
-      ∙ ap (λ b. eqb (hash_of f.0).0 (hash_of e.0).0 && b) (laws.congr (key_of key) (key_of e.0) (key_of f.0) t.1)
-      ∙ single 0 (suc k) d (omega arith) (omega (arith, below)))
-    where
-      swapped : (a b c : ℕ) → eqb c b ≡ true → eqb a b ≡ eqb a c
-      swapped a b c h = grind (arith, nat_tests)
+      let apart = single 0 (suc k) d (omega arith) (omega arith) in grind (arith, nat_tests, common_steps, laws.congr (key_of key) (key_of e.0) (key_of (get_or es k d).0)))
 
   pub gone : (es : List (Entry K V)) (i : ℕ) → IsSingle eq es → position (λ e. alike eq key e.0) es ≡ Some i → position (λ e. alike eq key e.0) (remove es i) ≡ None
-  gone [] i single at = absurd (none-some i at)
-  gone (e ∷ es) zero single at = none_after e es single (here (alike eq key e.0) (position (λ e. alike eq key e.0) es) (sym (position-cons (λ e. alike eq key e.0) e es) ∙ at))
-  gone (e ∷ es) (suc i) single at =
-      let rest = sym (position-cons (λ e. alike eq key e.0) e es) ∙ at in
-      position-cons (λ e. alike eq key e.0) e (remove es i)
-      ∙ ap (λ b. cond b (Some 0) (option_map suc (position (λ e. alike eq key e.0) (remove es i)))) (not_first (alike eq key e.0) (position (λ e. alike eq key e.0) es) i rest)
-      ∙ ap (option_map suc) (gone es i (tail_single e es single) (later (alike eq key e.0) (position (λ e. alike eq key e.0) es) i rest))
-
-  -- a key that was removed is gone
-  pub index-without : (es : List (Entry K V)) → IsSingle eq es → match_of eq (without es (match_of eq es key)) key ≡ None
-  index-without es single = elim (match_of eq es key) as (λ o. match_of eq es key ≡ o → match_of eq (option_map_or (remove es) o es) key ≡ None) [
-    | None ↦ λ at. at
-    | Some i ↦ λ at. gone es i single at
-  ] refl
+  gone [] i single at = cc
+  gone (e ∷ es) zero single at = grind (arith, common_steps, position-cons, none_after e es single)
+  gone (e ∷ es) (suc i) single at = grind (arith, common_steps, position-cons, gone es i (tail_single e es single))
 
 module _ {K V : Type 0} (eq : K → K → Bool) (laws : IsEquivalence eq) (hash : StarlarkHashValue) (passes : K → Bool) (one : (x y : K) → passes x ≡ true → passes y ≡ eq x y) where
   removed_other : (es : List (Entry K V)) (other : Hashed K) → passes (key_of other) ≡ false
       → value_at (without es (position_of hash passes es)) (match_of eq (without es (position_of hash passes es)) other) ≡ value_at es (match_of eq es other)
-  removed_other es other not = elim (position_of hash passes es) as (λ o. position_of hash passes es ≡ o
-      → value_at (option_map_or (remove es) o es) (match_of eq (option_map_or (remove es) o es) other) ≡ value_at es (match_of eq es other)) [
-        | None ↦ λ at. refl
-        | Some i ↦ λ at. removed_there (alike eq other) (under hash passes) (apart_other eq laws hash passes one other not) es i at
-      ] refl
+  removed_other es other not = grind (arith, common_steps, removed_there (alike eq other) (under hash passes) (apart_other eq laws hash passes one other not) es)
 
   removed_here : (es : List (Entry K V)) → IsSingle eq es → position_of hash passes (without es (position_of hash passes es)) ≡ None
-  removed_here es single = elim (position_of hash passes es) as (λ o. position_of hash passes es ≡ o → position_of hash passes (option_map_or (remove es) o es) ≡ None) [
-    | None ↦ λ at. at
-    | Some i ↦ λ at. out es i single at
-  ] refl
+  removed_here [] single = refl
+  removed_here (e ∷ es) single = grind (arith, common_steps, λ (i : ℕ). out i)
     where
-      out : (es : List (Entry K V)) (i : ℕ) → IsSingle eq es → position_of hash passes es ≡ Some i → position_of hash passes (remove es i) ≡ None
-      out [] i single at = absurd (none-some i at)
-      out (e ∷ es) i single at =
+      out : (i : ℕ) → position_of hash passes (e ∷ es) ≡ Some i → position_of hash passes (remove (e ∷ es) i) ≡ None
+      out i at =
           let d = get_or (e ∷ es) i e in
-          let does = both (eqb (hash_of d.0).0 hash.0) (passes (key_of d.0)) (position-passes (λ e. under hash passes e.0) (e ∷ es) i e at) in
+          let does = (both (eqb (hash_of d.0).0 hash.0) (passes (key_of d.0)) (position-passes (λ e. under hash passes e.0) (e ∷ es) i e at)).1 in
           let key = hashed hash (key_of d.0) in
-          position_of-match eq passes one key does.1 (remove (e ∷ es) i)
-          ∙ gone eq laws key (e ∷ es) i single (sym (position_of-match eq passes one key does.1 (e ∷ es)) ∙ at)
+          position_of-match eq passes one key does (remove (e ∷ es) i) ∙ gone eq laws key (e ∷ es) i single (sym (position_of-match eq passes one key does (e ∷ es)) ∙ at)
 
 module _ {K V : Type 0} (test : K → Bool) (hash : StarlarkHashValue) (es : List (Entry K V)) where
   pub length-removed : (left : List (Entry K V)) → left ≡ without es (position_of hash test es) → length es ≡ length left + (if is_some (found test hash es) then 1 else 0)
-  length-removed left put =
-      sym (length-without hash test es) ∙ ap (λ l. length l + (if is_some (position_of hash test es) then 1 else 0)) (sym put)
-      ∙ ap (λ b. length left + (if b then 1 else 0)) (is_some-found test hash es)
+  length-removed left put = grind (arith, common_steps, is_some-found test hash es, length-remove es, position-within (stands_under hash test) es)
 
 module _ {K V : Type 0} (eq : K → K → Bool) (laws : IsEquivalence eq) where
   module _ (hash : StarlarkHashValue) (passes : K → Bool) (one : (x y : K) → passes x ≡ true → passes y ≡ eq x y) where
@@ -116,36 +61,29 @@ module _ {K V : Type 0} (eq : K → K → Bool) (laws : IsEquivalence eq) where
     )
 
 -- the last one, and those before it
-last_of : {X : Type 0} (xs : List X) (x : X) → slice_get (xs ++ x ∷ []) (length xs) ≡ Some x
+pub last_of : {X : Type 0} (xs : List X) (x : X) → slice_get (xs ++ x ∷ []) (length xs) ≡ Some x
 last_of [] x = refl
 last_of (y ∷ xs) x = last_of xs x
 
 before_last : {X : Type 0} (xs : List X) (x : X) → remove (xs ++ x ∷ []) (length xs) ≡ xs
-before_last [] x = refl
-before_last (y ∷ xs) x = ap (λ l. y ∷ l) (before_last xs x)
+before_last xs x = grind (arith, common_steps)
 
 -- the item that was taken from the end stood at the last index
 pub last-taken : {X : Type 0} (s : List X) (o : Option X) (t : List X) → TakesLast (λ x. x) s o t → o ≡ slice_get s (length s - 1)
 last-taken s None t took = ap (λ l. slice_get l (length l - 1)) (sym took.0)
-last-taken s (Some x) t took =
-    sym (last_of t x) ∙ ap (λ l. slice_get l (length t)) (sym took)
-    ∙ ap (slice_get s) (omega (arith, ap length took, length_push t x))
+last-taken s (Some x) t took = rw took (grind (arith, common_steps, last_of t x))
 
 module _ {K V : Type 0} (eq : K → K → Bool) (laws : IsEquivalence eq) where
   -- an entry stands at the first index that is like it
   pub index-single : (es : List (Entry K V)) (i : ℕ) (e : Entry K V) → IsSingle eq es → slice_get es i ≡ Some e → match_of eq es e.0 ≡ Some i
   index-single [] i e single at = absurd (omega (arith, slice_get_within [] i e at))
-  index-single (d ∷ es) zero e single at =
-      let is : d ≡ e = same_Some d e at in
-      position-cons (stands_under e.0.hash (eq e.0.key)) d es
-      ∙ ap (λ b. cond b (Some 0) (option_map suc (position (stands_under e.0.hash (eq e.0.key)) es))) (ap (λ (x : Entry K V). stands_under e.0.hash (eq e.0.key) x) is ∙ same_key eq laws e.0)
+  index-single (d ∷ es) zero e single at = grind (arith, common_steps, position-cons (stands_under e.0.hash (eq e.0.key)) d es, same_key eq laws e.0)
   index-single (d ∷ es) (suc i) e single at =
       let inside = slice_get_within es i e at in
-      let there : get_or es i d ≡ e = get_or_from_slice_get es i e d at in
-      let not : alike_keys eq e.0 d.0 ≡ false = (alike-laws eq laws).symm e.0 d.0 ∙ ap (λ (x : Entry K V). alike_keys eq d.0 x.0) (sym there) ∙ single 0 (suc i) d (omega arith) (omega (arith, inside)) in
-      position-cons (stands_under e.0.hash (eq e.0.key)) d es
-      ∙ ap (λ b. cond b (Some 0) (option_map suc (position (stands_under e.0.hash (eq e.0.key)) es))) not
-      ∙ ap (option_map suc) (index-single es i e (λ j k x below within. single (suc j) (suc k) x (omega (arith, below)) (omega (arith, within))) at)
+      let there = get_or_from_slice_get es i e d at in
+      let apart = single 0 (suc i) d (omega arith) (omega arith) in
+      let rest = index-single es i e (λ j k x below within. single (suc j) (suc k) x (omega arith) (omega arith)) at in
+      grind (arith, common_steps, position-cons (stands_under e.0.hash (eq e.0.key)) d es, (alike-laws eq laws).symm e.0 d.0)
 
   -- the entry at an index was taken out
   pub writes-taken : (old new : List (Entry K V)) (i : ℕ) (e : Entry K V) → IsSingle eq old → slice_get old i ≡ Some e → new ≡ remove old i
@@ -187,8 +125,7 @@ module _ {K V : Type 0} where
   takes-pair eq old new (Some e) takes = takes
 
   pub counts-pair : (n m : ℕ) (r : Option (Entry K V)) → n ≡ m + (if is_some r then 1 else 0) → n ≡ m + (if is_some (option_map pair_of r) then 1 else 0)
-  counts-pair n m None count = count
-  counts-pair n m (Some e) count = count
+  counts-pair n m r count = grind (arith, common_steps)
 
 module _ {F K V : Type 0} (g : Mut F (Bor K × (MutBor V × Unit {0})) (Bool × (MutBor V × Unit {0}))) (test : K → Bool) (hash : StarlarkHashValue) (f : F) (es kept : List (Entry K V)) where
   none-retained : Retains (CalledAtEntry g) f es kept → position_of hash test es ≡ None → position_of hash test kept ≡ None
@@ -198,7 +135,4 @@ module _ {F K V : Type 0} (g : Mut F (Bor K × (MutBor V × Unit {0})) (Bool × 
 
   -- a key that is found there was found before
   pub found-retained : Retains (CalledAtEntry g) f es kept → is_some (found test hash kept) ≡ true → is_some (found test hash es) ≡ true
-  found-retained is there = elim (position_of hash test es) as (λ o. position_of hash test es ≡ o → is_some (found test hash es) ≡ true) [
-    | None ↦ λ none. absurd (false≢true (sym (ap is_some (none_found test hash kept (none-retained is none))) ∙ there))
-    | Some i ↦ λ at. sym (is_some-found test hash es) ∙ ap is_some at
-  ] refl
+  found-retained is there = grind (arith, common_steps, none_found test hash kept, none-retained is, is_some-found test hash es)

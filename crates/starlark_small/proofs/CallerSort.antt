@@ -1,18 +1,11 @@
 -- What is found under a key where entries only change their indices.
-use Rattle.std.proofs.Common.{◌≡◌, ℕ, ◌+◌, ◌<◌, false, List, [], ◌∷◌, length, map, get_or, Option, Some, None, Contains, IsPermutation, Bool, refl, sym, ap, ◌∙◌, arith}
+use Rattle.starlark_hash.proofs.Common.{◌≡◌, ℕ, ◌+◌, ◌<◌, false, List, [], ◌∷◌, length, map, get_or, Option, Some, None, IsPermutation, Bool, refl, sym, ap, ◌∙◌, arith, IsEquivalence, IsTotalOrder, IsSorted, IsSortedBy, is_lt, Ordering, get_or-map, keys_of, lookup, All-permutation, Contains-permutation, place_from_lookup, slice_get-get_or, slice_get_within, get_or_from_slice_get}
+use Rattle.std.proofs.Common.{Contains}
 use lib.ListN.{length-map}
-use Rattle.std.specs.Cmp.{IsEquivalence, IsTotalOrder}
-use Rattle.std.specs.List.Sorted.{IsSorted, IsSortedBy}
-use Rattle.std.specs.Ordering.{is_lt}
-use Rattle.std.specs.declared.cmp.Ordering.{Ordering}
-use Rattle.std.proofs.lemmas.List.{get_or-map}
 use Rattle.std.specs.List.{IsDistinct}
-use Rattle.std.specs.Map.{keys_of, lookup}
 use Rattle.std.proofs.lemmas.List.Elements.{All-from_recursion, recursion_from_All}
-use Rattle.std.proofs.lemmas.List.Sorted.{All-permutation, Contains-permutation}
 use Rattle.std.proofs.lemmas.Map.{none_passes_from_lookup}
-use Rattle.std.proofs.lemmas.Map.Entries.{place_from_lookup, lookup_from_place}
-use Rattle.std.proofs.lemmas.Option.{slice_get-get_or, slice_get_within, get_or_from_slice_get}
+use Rattle.std.proofs.lemmas.Map.Entries.{lookup_from_place}
 use Rattle.std_collections.proofs.Entries.{lookup-none, lookup_class}
 use Rattle.starlark_hash.specs.declared.hash_value.StarlarkHashValue.{StarlarkHashValue}
 use Rattle.starlark_hash.specs.HashValue.{hashed}

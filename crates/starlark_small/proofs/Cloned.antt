@@ -1,7 +1,5 @@
 -- A list of clones of entries.
-use Rattle.std.proofs.Common.{◌≡◌, ℕ, ◌<◌, Bool, true, ◌&&◌, List, length, get_or, sym, ap, ◌∙◌, arith, nat_eq}
-use Rattle.std.specs.List.{AllZip}
-use Rattle.std.proofs.lemmas.List.Elements.{AllZip-get_or, length_all_zip}
+use Rattle.starlark_hash.proofs.Common.{◌≡◌, ℕ, ◌<◌, Bool, true, ◌&&◌, List, length, get_or, sym, ap, ◌∙◌, arith, nat_eq, AllZip, AllZip-get_or, length_all_zip}
 use Rattle.core.specs.Cmp.{IsEquivalence}
 use Rattle.starlark_hash.specs.Entries.{Entry, IsSingle}
 use Rattle.starlark_hash.specs.Clone.{IsEntryClone}

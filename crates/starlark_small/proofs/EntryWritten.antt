@@ -1,5 +1,5 @@
 -- An occupied entry that was written.
-use Rattle.std.proofs.Common.{◌≡◌, ◌<◌, length, ap}
+use Rattle.starlark_hash.proofs.Common.{◌≡◌, ◌<◌, length, ap}
 use native.Mathlib.Bridge.{le_prop}
 use Rattle.std.specs.declared.cmp.PartialEq as eq
 use Rattle.starlark_small.specs.MapEntry.{with_entry_value, written}

@@ -1,9 +1,5 @@
 -- How the capacity follows entries that come one after the other.
-use Rattle.std.proofs.Common.{◌≡◌, ℕ, zero, suc, ◌+◌, ◌-◌, ◌*◌, ◌^◌, ◌≤◌, max, min, List, [], ◌∷◌, ◌++◌, length, drop, Option, Some, None, refl, sym, ap, ◌∙◌, subst, arith, Bool}
-use Rattle.std.specs.Prelude.{IsSome, nat_lt, if◌then◌else◌}
-use Rattle.std.specs.Option.{option_map_or}
-use Rattle.std.proofs.lemmas.Bool.Decides.{nat_tests}
-use Rattle.std.proofs.lemmas.List.{length-drop, length_push}
+use Rattle.starlark_hash.proofs.Common.{◌≡◌, ℕ, zero, suc, ◌+◌, ◌-◌, ◌*◌, ◌^◌, ◌≤◌, max, min, List, [], ◌∷◌, ◌++◌, length, drop, Option, Some, None, refl, sym, ap, ◌∙◌, subst, arith, Bool, IsSome, nat_lt, if◌then◌else◌, option_map_or, nat_tests, length-drop, length_push}
 use mathlib.Core.Logic.{inl, inr}
 use Rattle.starlark_hash.specs.declared.hashed.Hashed.{Hashed}
 use Rattle.starlark_hash.specs.Entries.{match_of, set_value_at}
@@ -27,16 +23,12 @@ steps len capacity (suc n) = made 1 (len + n) (steps len capacity n)
 steps_on : (len capacity n : ℕ) → steps (len + 1) (made 1 len capacity) n ≡ steps len capacity (suc n)
 unfolding steps
 steps_on len capacity zero = ap (λ l. made 1 l capacity) (omega arith)
-steps_on len capacity (suc n) =
-    let lengths : len + 1 + n ≡ len + suc n = omega arith in
-    λ j. made 1 (lengths j) (steps_on len capacity n j)
+steps_on len capacity (suc n) = grind (arith, steps_on len capacity n)
 
 pushed_steps : {A B : Type 0} (v : PairList A B) (ps : List (A × B)) → (push_all v ps).capacity ≡ steps (length v.pairs) v.capacity (length ps)
 unfolding steps
 pushed_steps v [] = refl
-pushed_steps v (p ∷ ps) =
-    let longer : length (push v p).pairs ≡ length v.pairs + 1 = omega (arith, length_push v.pairs p) in
-    pushed_steps (push v p) ps ∙ ap (λ l. steps l (made 1 (length v.pairs) v.capacity) (length ps)) longer ∙ steps_on (length v.pairs) v.capacity (length ps)
+pushed_steps v (p ∷ ps) = grind (arith, pushed_steps (push v p) ps, steps_on (length v.pairs) v.capacity (length ps), length_push v.pairs p)
 
 -- no capacity is lost, and it is at most twice the length
 made_bounds : (len capacity : ℕ) → (capacity ≤ made 1 len capacity) × (made 1 len capacity ≤ max capacity (max 4 (2 * (len + 1))))
@@ -66,16 +58,12 @@ module _ {K V : Type 0} where
 
   pub stepped_none : (m : Map K V) → m.capacity ≡ stepped_capacity m m
   unfolding steps
-  stepped_none m =
-      let none : length m.entries - length m.entries ≡ zero = omega arith in
-      sym (stepped_steps m m ∙ ap (steps (length m.entries) m.capacity) none)
+  stepped_none m = grind (arith, stepped_steps m m)
 
   -- an entry more came, or none did
   module _ (first mid last : Map K V) (longer : length first.entries ≤ length mid.entries) (before : mid.capacity ≡ stepped_capacity first mid) where
     stepped_same : length last.entries ≡ length mid.entries → last.capacity ≡ mid.capacity → last.capacity ≡ stepped_capacity first last
-    stepped_same as_long stays =
-        let as_many : length mid.entries - length first.entries ≡ length last.entries - length first.entries = omega (arith, as_long) in
-        stays ∙ before ∙ stepped_steps first mid ∙ ap (steps (length first.entries) first.capacity) as_many ∙ sym (stepped_steps first last)
+    stepped_same as_long stays = grind (arith, stepped_steps first mid, stepped_steps first last)
 
     stepped_more : length last.entries ≡ length mid.entries + 1 → last.capacity ≡ reserved_capacity mid 1 → last.capacity ≡ stepped_capacity first last
     unfolding steps
@@ -100,8 +88,5 @@ module _ {K V : Type 0} where
     -- one was refused
     pub stepped_refused : last.entries ≡ mid.entries → StaysOrGrows 1 mid last → StaysOrGrows 1 (record last { capacity = stepped_capacity first last }) last
     stepped_refused same grows =
-        let is : mid.capacity ≡ stepped_capacity first last = stepped_capacity_same same in
+        let is : mid.capacity ≡ stepped_capacity first last = before ∙ (λ j. (push_all (pair_list first.entries first.capacity) (drop (length first.entries) (sym same j))).capacity) in
         elim grows [ inl stays ↦ inl (stays ∙ is) | inr grown ↦ inr (grown ∙ (λ j. made 1 (length (sym same j)) (is j))) ]
-      where
-        stepped_capacity_same : last.entries ≡ mid.entries → mid.capacity ≡ stepped_capacity first last
-        stepped_capacity_same here = before ∙ (λ j. (push_all (pair_list first.entries first.capacity) (drop (length first.entries) (sym here j))).capacity)

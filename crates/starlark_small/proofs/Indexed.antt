@@ -1,28 +1,22 @@
 -- What an index says of a list, and how much room it has, as the list changes.
-use Rattle.std.proofs.Common.{◌≡◌, ℕ, zero, suc, ◌+◌, ◌-◌, ◌<◌, ◌≤◌, ◌^◌, List, [], ◌∷◌, ◌++◌, length, map, Option, Some, None, is_some, refl, sym, ap, subst, ◌∙◌, arith, get_or, IsPermutation}
-use Rattle.std.specs.Prelude.{IfSome, remove, reverse, slice_get}
-use Rattle.std.specs.List.{range_with_len}
-use Rattle.std.specs.Option.{option_map}
-use Rattle.std.proofs.lemmas.List.{length-map, length-reverse, length_push, map-append, reverse-append}
-use Rattle.std.proofs.lemmas.List.Edits.{length-remove}
-use Rattle.std.proofs.lemmas.List.Elements.{All-push, All-tail}
-use Rattle.std.proofs.lemmas.List.Sorted.{IsPermutation-remove, IsPermutation-reverse, IsPermutation-sym, All-permutation, length_permutation}
+use Rattle.std.proofs.Math.ListN.{take, drop}
+use Rattle.starlark_hash.proofs.Common.{All-append, common_steps, ◌≡◌, ℕ, zero, suc, ◌+◌, ◌-◌, ◌<◌, ◌≤◌, ◌^◌, List, [], ◌∷◌, ◌++◌, length, map, Option, Some, None, is_some, refl, sym, ap, subst, ◌∙◌, arith, IsPermutation, IfSome, remove, reverse, slice_get, range_with_len, option_map, length-map, length-reverse, length_push, map-append, length-remove, All-push, IsPermutation-reverse, IsPermutation-sym, All-permutation, length_permutation, none-some, same_Some, slice_get-map}
+use Rattle.std.proofs.lemmas.List.Elements.{All-take, All-drop}
+use Rattle.starlark_vecmap.proofs.Views.{map-remove, map-reverse}
 use Rattle.std.proofs.lemmas.Simd.{map-map}
-use Rattle.std.proofs.lemmas.Option.{get_or_from_slice_get, none-some, same_Some, slice_get-get_or, slice_get-map}
 use Rattle.starlark_hash.specs.HashValue.{hash_number}
 use Rattle.starlark_hash.specs.declared.hash_value.StarlarkHashValue.{StarlarkHashValue}
 use Rattle.starlark_hash.specs.Entries.{Entry, entry_hash, set_value_at}
 use Rattle.starlark_hash.proofs.EntryLemmas.{length-set_value_at, set_value_at-key}
 use Rattle.starlark_small.specs.Hashes.{Hashes, cleared, forgotten, hash_under, noted, reversed}
-use Rattle.starlark_small.specs.Index.{IsIndexed, IsIndexedAt, hashes_of, index_room, unindexed}
+use Rattle.starlark_small.specs.Index.{IsIndexed, IsIndexedAt, hashes_of, index_room}
 use Rattle.starlark_small.specs.IndexCalls.{IsFilled, IsRenamed}
 use Rattle.starlark_vec2.specs.Sort.{Moves}
 use Rattle.starlark_vec2.proofs.Positions.{IsPermutation-from_order}
 use Rattle.starlark_vecmap.specs.EntryList.{EntryList}
 
 pub is_some-map : {A B : Type 0} (f : A → B) (o : Option A) → is_some (option_map f o) ≡ is_some o
-is_some-map f None = refl
-is_some-map f (Some h) = refl
+is_some-map f o = grind (arith, common_steps)
 
 module _ {K V : Type 0} where
   -- an index has as many hashes as the list has entries
@@ -31,8 +25,7 @@ module _ {K V : Type 0} where
   indexed-at es (Some h) index = ap length index.list ∙ length-map es (λ e. hash_under (entry_hash e))
 
   pub index-within : (es : List (Entry K V)) (i : ℕ) (index : Option Hashes) → i < length es → IsIndexed es index → IfSome index (λ h. i < length h.list)
-  index-within es i None below short = tt
-  index-within es i (Some h) below index = omega (arith, below, indexed-at es (Some h) index)
+  index-within es i index below holds = grind (arith, common_steps, indexed-at es index holds)
 
   -- a value is written
   hashes-set_value_at : (es : List (Entry K V)) (i : ℕ) (value : V) → hashes_of (set_value_at es i value) ≡ hashes_of es
@@ -60,35 +53,20 @@ module _ {K V : Type 0} where
   }
 
   -- an entry is taken out
-  hashes-remove : (es : List (Entry K V)) (i : ℕ) → hashes_of (remove es i) ≡ remove (hashes_of es) i
-  hashes-remove [] zero = refl
-  hashes-remove [] (suc i) = refl
-  hashes-remove (e ∷ es) zero = refl
-  hashes-remove (e ∷ es) (suc i) = ap (λ l. hash_under (entry_hash e) ∷ l) (hashes-remove es i)
-
   pub IsIndexed-forgotten : (es : List (Entry K V)) (i : ℕ) (index : Option Hashes) → i < length es → IsIndexed es index → IsIndexed (remove es i) (option_map (forgotten i) index)
   IsIndexed-forgotten es i None below short = omega (arith, length-remove es i below, short)
-  IsIndexed-forgotten [] i (Some h) below index = absurd (omega (arith, below))
-  IsIndexed-forgotten (e ∷ es) i (Some h) below index =
-      let d : Entry K V = get_or (e ∷ es) i e in
+  IsIndexed-forgotten es i (Some h) below index =
+      let P : Entry K V → Type 0 = λ d. d.0.hash.0 < 2 ^ 32 in
       record {
-        list = ap (λ l. remove l i) index.list ∙ sym (hashes-remove (e ∷ es) i);
-        fits = All-tail (λ d. d.0.hash.0 < 2 ^ 32) d (remove (e ∷ es) i) (All-permutation (λ d. d.0.hash.0 < 2 ^ 32) (e ∷ es) (d ∷ remove (e ∷ es) i) (removed (e ∷ es) i e below) index.fits);
+        list = ap (λ l. remove l i) index.list ∙ sym (map-remove (λ e. hash_under (entry_hash e)) es i);
+        fits = All-append P (take i es) (drop (suc i) es) (All-take P i es index.fits) (All-drop P (suc i) es index.fits);
       }
-    where
-      removed : (es : List (Entry K V)) (i : ℕ) (e : Entry K V) → i < length es → IsPermutation es (get_or es i e ∷ remove es i)
-      removed es i e below = IsPermutation-remove es i (get_or es i e) below (sym (get_or_from_slice_get es i (get_or es i e) (get_or es i e) (slice_get-get_or es i e below)))
 
   -- the order is turned round
-  hashes-reverse : (es : List (Entry K V)) → hashes_of (reverse es) ≡ reverse (hashes_of es)
-  hashes-reverse [] = refl
-  hashes-reverse (e ∷ es) =
-      ap hashes_of (reverse-append (e ∷ []) es) ∙ hashes-push (reverse es) e ∙ ap (λ l. l ++ hash_under (entry_hash e) ∷ []) (hashes-reverse es) ∙ sym (reverse-append (hash_under (entry_hash e) ∷ []) (hashes_of es))
-
   pub IsIndexed-reversed : (es : List (Entry K V)) (index : Option Hashes) → IsIndexed es index → IsIndexed (reverse es) (option_map reversed index)
   IsIndexed-reversed es None short = omega (arith, length-reverse es, short)
   IsIndexed-reversed es (Some h) index = record {
-    list = ap reverse index.list ∙ sym (hashes-reverse es);
+    list = ap reverse index.list ∙ sym (map-reverse (λ e. hash_under (entry_hash e)) es);
     fits = All-permutation (λ e. e.0.hash.0 < 2 ^ 32) es (reverse es) (IsPermutation-reverse es) index.fits;
   }
 
@@ -98,19 +76,17 @@ module _ {K V : Type 0} where
   IsIndexed-filled es (Some h) new short filled = subst (IsIndexed es) (sym filled.hashes) (record { list = refl; fits = filled.fits })
 
   pub room-filled : (es : List (Entry K V)) (old new : Option Hashes) → length es ≤ index_room 0 old → IsFilled es old new → index_room 0 old ≤ length es + index_room (length es) new
-  room-filled es None new short filled = subst (λ o. unindexed ≤ length es + index_room (length es) o) (sym filled.hashes) (omega (arith, short))
-  room-filled es (Some h) new short filled = subst (λ o. h.room ≤ length es + index_room (length es) o) (sym filled.hashes) (omega (arith, short))
+  room-filled es old new short filled = rw filled.hashes (grind (arith, common_steps))
 
 pub room-cleared : (len : ℕ) (index : Option Hashes) → IsIndexedAt len index → len + index_room len index ≤ index_room 0 (option_map cleared index)
-room-cleared len None short = omega (arith, short)
-room-cleared len (Some h) long = omega (arith, long)
+room-cleared len index holds = grind (arith, common_steps)
 
 module _ {K V : Type 0} where
   -- a list refills the index of another one that is as long
   pub follows-refilled : (before after : EntryList K V) (old mid new : Option Hashes) → length after.entries ≤ length before.entries → IsIndexed before.entries old → mid ≡ option_map cleared old → IsFilled after.entries mid new
       → IsIndexed after.entries new × (length before.entries + index_room (length before.entries) old ≤ length after.entries + index_room (length after.entries) new) × (is_some new ≡ is_some old)
   follows-refilled before after old mid new shorter indexed emptied filled =
-      let out = subst (λ o. length before.entries + index_room (length before.entries) old ≤ index_room 0 o) (sym emptied) (room-cleared (length before.entries) old (indexed-at before.entries old indexed)) in
+      let out : length before.entries + index_room (length before.entries) old ≤ index_room 0 mid = rw emptied (room-cleared (length before.entries) old (indexed-at before.entries old indexed)) in
       let short : length after.entries ≤ index_room 0 mid = omega (arith, shorter, out) in
       (IsIndexed-filled after.entries mid new short filled, omega (arith, out, room-filled after.entries mid new short filled), ap is_some filled.hashes ∙ is_some-map _ mid ∙ ap is_some emptied ∙ is_some-map cleared old)
 
@@ -139,31 +115,23 @@ module _ {K V : Type 0} where
 
   -- so there is room for a list that is no longer
   pub cleared-room : (es : List (Entry K V)) (n : ℕ) (old mid : Option Hashes) → n ≤ length es → IsIndexed es old → mid ≡ option_map cleared old → IfSome mid (λ h. (h.list ≡ []) × (n ≤ h.room))
-  cleared-room es n None mid shorter indexed is = subst (λ o. IfSome o (λ h. (h.list ≡ []) × (n ≤ h.room))) (sym is) tt
-  cleared-room es n (Some h) mid shorter indexed is = subst (λ o. IfSome o (λ h. (h.list ≡ []) × (n ≤ h.room))) (sym is) (refl, omega (arith, shorter, indexed-at es (Some h) indexed))
+  cleared-room es n old mid shorter indexed is = rw is (grind (arith, common_steps, indexed-at es old indexed))
 
 pub renamed-is_some : (to : List ℕ) (old new : Option Hashes) → IsRenamed to old new → is_some new ≡ is_some old
 renamed-is_some to old new renamed = sym (is_some-map (λ h. h.room) new) ∙ ap is_some renamed.room ∙ is_some-map (λ h. h.room) old
 
 pub renamed-room : (len len' : ℕ) (to : List ℕ) (old new : Option Hashes) → len' ≡ len → IsRenamed to old new → index_room len' new ≡ index_room len old
-renamed-room len len' to None None same renamed = omega (arith, same)
-renamed-room len len' to None (Some k) same renamed = absurd (none-some k.room (sym renamed.room))
-renamed-room len len' to (Some h) None same renamed = absurd (none-some h.room renamed.room)
-renamed-room len len' to (Some h) (Some k) same renamed = same_Some k.room h.room renamed.room
+renamed-room len len' to old new same renamed = grind (arith, common_steps, renamed.room)
 
 pub room-noted : (len : ℕ) (hash : StarlarkHashValue) (index : Option Hashes) → index_room len index ≤ 1 + index_room (len + 1) (option_map (noted hash) index)
-room-noted len hash None = omega arith
-room-noted len hash (Some h) = omega arith
+room-noted len hash index = grind (arith, common_steps)
 
 pub room-forgotten : (len i : ℕ) (index : Option Hashes) → IsIndexedAt len index → 0 < len → 1 + index_room len index ≤ index_room (len - 1) (option_map (forgotten i) index)
-room-forgotten len i None short some = omega (arith, short, some)
-room-forgotten len i (Some h) long some = omega arith
+room-forgotten len i index holds some = grind (arith, common_steps)
 
 pub room-reversed : (len len' : ℕ) (index : Option Hashes) → len' ≡ len → index_room len' (option_map reversed index) ≡ index_room len index
-room-reversed len len' None same = omega (arith, same)
-room-reversed len len' (Some h) same = refl
+room-reversed len len' index same = grind (arith, common_steps)
 
 -- the last hash is that of the last entry
 pub last-forgotten : {K V : Type 0} (es : List (Entry K V)) (index : Option Hashes) → IsIndexed es index → option_map (λ h. forgotten (length h.list - 1) h) index ≡ option_map (forgotten (length es - 1)) index
-last-forgotten es None short = refl
-last-forgotten es (Some h) index = ap (λ n. Some (forgotten (n - 1) h)) (indexed-at es (Some h) index)
+last-forgotten es index holds = grind (arith, common_steps, indexed-at es index holds)

@@ -1,14 +1,10 @@
 -- A map after an insertion, written at the new index and read there.
-use Rattle.std.proofs.Common.{◌≡◌, ℕ, ◌<◌, Bool, List, [], ◌∷◌, ◌++◌, length, slice_get, Some, None, is_some, sym, ap, subst, ◌∙◌, arith, refl}
-use Rattle.std.specs.Prelude.{◌||◌, nat_lt}
-use Rattle.std.specs.Option.{option_map}
+use Rattle.starlark_hash.proofs.Common.{common_steps, ◌≡◌, ℕ, ◌<◌, Bool, List, [], ◌∷◌, ◌++◌, length, slice_get, Some, None, is_some, sym, ap, subst, ◌∙◌, arith, refl, ◌||◌, nat_lt, option_map, false≢true, length_push}
+use Rattle.starlark_small.proofs.CallerRemove.{last_of}
 use mathlib.Core.Logic.{inl, inr}
-use Rattle.std.proofs.lemmas.Bool.{false≢true}
-use Rattle.std.proofs.lemmas.List.{length_push}
-use Rattle.std.proofs.lemmas.Option.{same_Some}
 use Rattle.starlark_hash.specs.declared.hashed.Hashed.{Hashed}
 use Rattle.starlark_hash.specs.HashValue.{key_of}
-use Rattle.starlark_hash.specs.Entries.{Entry, entry_value, match_of, pair_of, set_value_at, value_at}
+use Rattle.starlark_hash.specs.Entries.{Entry, match_of, pair_of, set_value_at, value_at}
 use Rattle.starlark_hash.proofs.EntryLemmas.{length-set_value_at}
 use Rattle.starlark_small.specs.Index.{unindexed}
 use Rattle.starlark_small.specs.Insert.{IsInserted, IsRefused, LeavesMemory}
@@ -24,10 +20,6 @@ module _ {K V : Type 0} where
   pushed_value [] key v w = refl
   pushed_value (e ∷ es) key v w = ap (λ l. e ∷ l) (pushed_value es key v w)
 
-  pushed_last : (es : List (Entry K V)) (key : Hashed K) (v : V) → slice_get (es ++ (key, v) ∷ []) (length es) ≡ Some (key, v)
-  pushed_last [] key v = refl
-  pushed_last (e ∷ es) key v = pushed_last es key v
-
 module _ {K V : Type 0} (old new : Map K V) (key : Hashed K) (value : V) (i : ℕ) (at_end : i ≡ length old.entries) (put : IsInserted old key value new) where
   pub within_inserted : i < length new.entries
   within_inserted = omega (arith, at_end, ap length put.entries, length_push old.entries (key, value))
@@ -42,13 +34,10 @@ module _ {K V : Type 0} (old new : Map K V) (key : Hashed K) (value : V) (i : �
   }
 
   pub value_inserted : (v : V) → value_at new.entries (Some i) ≡ Some v → v ≡ value
-  value_inserted v e = same_Some v value (sym e ∙ (λ j. value_at (put.entries j) (Some (at_end j))) ∙ ap (option_map entry_value) (pushed_last old.entries key value))
+  value_inserted v e = grind (arith, common_steps, put.entries, last_of old.entries (key, value))
 
   pub inserted_shown : (k : K) (v : V) → option_map pair_of (slice_get new.entries i) ≡ Some (k, v) → (k ≡ key_of key) × (v ≡ value)
-  inserted_shown k v e =
-      let shown : K × V = (k, v) in let wanted : K × V = (key_of key, value) in
-      let same = same_Some shown wanted (sym e ∙ (λ j. option_map pair_of (slice_get (put.entries j) (at_end j))) ∙ ap (option_map pair_of) (pushed_last old.entries key value)) in
-      (ap (λ p. p.0) same, ap (λ p. p.1) same)
+  inserted_shown k v e = (grind (arith, common_steps, put.entries, last_of old.entries (key, value)), grind (arith, common_steps, put.entries, last_of old.entries (key, value)))
 
 -- what is left of the memory where nothing grew
 module _ {K V : Type 0} (eq : K → K → Bool) (old : Map K V) (key : Hashed K) (short : old.indexed ≡ (old.indexed || nat_lt unindexed (length old.entries))) where

@@ -1,10 +1,5 @@
 -- Insertions one after the other, and how the room follows them.
-use Rattle.std.proofs.Common.{◌≡◌, ℕ, ◌+◌, ◌<◌, ◌≤◌, Bool, true, false, List, [], ◌∷◌, ◌++◌, length, map, Option, Some, None, refl, sym, ap, ◌∙◌, subst, arith}
-use Rattle.std.specs.Prelude.{◌||◌, is_some, nat_lt, IsSome}
-use Rattle.std.proofs.lemmas.Bool.Decides.{nat_tests}
-use Rattle.std.specs.Iterator.{Yields}
-use Rattle.std.specs.Option.{option_map_or}
-use Rattle.std.proofs.lemmas.List.{length_push}
+use Rattle.starlark_hash.proofs.Common.{common_steps, ◌≡◌, ℕ, ◌+◌, ◌<◌, ◌≤◌, Bool, List, [], ◌∷◌, ◌++◌, length, map, Option, Some, refl, sym, ap, ◌∙◌, subst, arith, ◌||◌, is_some, nat_lt, IsSome, nat_tests, Yields, option_map_or, length_push}
 use Rattle.starlark_hash.specs.declared.hashed.Hashed.{Hashed}
 use Rattle.starlark_hash.specs.Entries.{Entry, match_of, set_value_at}
 use Rattle.starlark_hash.specs.Insert.{insert_entry}
@@ -31,21 +26,18 @@ module _ {K V : Type 0} (eq : K → K → Bool) where
   -- no entry is lost, and at most one is added
   length_or : (es : List (Entry K V)) (key : Hashed K) (value : V) (o : Option ℕ) (new : List (Entry K V)) → new ≡ option_map_or (λ i. set_value_at es i value) o (es ++ (key, value) ∷ [])
       → (length es ≤ length new) × (length new ≤ length es + 1)
-  length_or es key value None new is = let size = ap length is ∙ length_push es (key, value) in (omega arith, omega arith)
-  length_or es key value (Some i) new is = let size = ap length is ∙ length-set_value_at es i value in (omega arith, omega arith)
+  length_or es key value o new is = (grind (arith, common_steps, length-set_value_at es), grind (arith, common_steps, length-set_value_at es))
 
   pub length_insert_le : (es : List (Entry K V)) (key : Hashed K) (value : V) → length (insert_entry eq es key value) ≤ length es + 1
   length_insert_le es key value = (length_or es key value (match_of eq es key) (insert_entry eq es key value) refl).1
 
 -- an index that is made at one length is there at a greater one
 indexed_on : (first mid last : Bool) (len len' : ℕ) → mid ≡ (first || nat_lt unindexed len) → last ≡ (mid || nat_lt unindexed len') → len ≤ len' → last ≡ (first || nat_lt unindexed len')
-indexed_on true mid last len len' a b c = b ∙ ap (λ had. had || nat_lt unindexed len') a
-indexed_on false mid last len len' a b c = grind (arith, nat_tests)
+indexed_on first mid last len len' a b c = grind (arith, nat_tests)
 
 -- a list without an index is too short to need one
 pub long_is_indexed : {A : Type 0} (index : Option A) (had : Bool) (len : ℕ) → is_some index ≡ had → (unindexed < len → IsSome index) → had ≡ (had || nat_lt unindexed len)
-long_is_indexed (Some table) had len same long = subst (λ b. b ≡ (b || nat_lt unindexed len)) same refl
-long_is_indexed None had len same long = subst (λ b. b ≡ (b || nat_lt unindexed len)) same (grind (arith, nat_tests, long))
+long_is_indexed index had len same long = grind (arith, nat_tests, long)
 
 -- a map once these items went in, of at most so many in all
 pub record IsFilled {K V A : Type 0} (eq : K → K → Bool) (item : A → Entry K V) (all : ℕ) (first : Map K V) (seen : List A) (now : Map K V) : Type 0 where

@@ -1,11 +1,7 @@
 -- The table and the cells of an index: what they keep, and as which hashes they are seen, after each call.
-use Rattle.std.proofs.Common.{◌≡◌, ℕ, ◌+◌, ◌-◌, ◌<◌, ◌≤◌, ◌^◌, List, [], ◌∷◌, ◌++◌, length, map, get_or, take, Option, Some, None, option_map, refl, sym, ap, subst, ◌∙◌, arith, Bool, nat_eq, IsPermutation}
-use Rattle.std.specs.Prelude.{filter, remove, reverse, slice_index}
-use Rattle.std.specs.List.{All, Contains}
-use Rattle.std.proofs.Math.ListN.{set}
-use Rattle.std.proofs.lemmas.List.{length-append, length-map, length-reverse, length-set, length-take}
-use Rattle.std.proofs.lemmas.List.Edits.{length-remove}
-use Rattle.std.proofs.lemmas.List.Sorted.{IsPermutation-map, IsPermutation-refl, IsPermutation-trans, length_permutation}
+use Rattle.starlark_hash.proofs.Common.{◌≡◌, ℕ, ◌+◌, ◌-◌, ◌<◌, ◌≤◌, ◌^◌, List, [], ◌∷◌, ◌++◌, length, map, get_or, take, Option, Some, None, refl, sym, ap, subst, ◌∙◌, arith, Bool, nat_eq, IsPermutation, filter, remove, reverse, slice_index, All, Contains, set, length-append, length-map, length-reverse, length-take, length-remove, IsPermutation-map, IsPermutation-refl, IsPermutation-trans, length_permutation}
+use Rattle.std.proofs.Common.{option_map}
+use Rattle.std.proofs.lemmas.List.{length-set}
 use Rattle.std.proofs.lemmas.Simd.{map-map}
 use Rattle.starlark_table.proofs.PairBags.{IsPermutation-filter}
 use Rattle.starlark_table.proofs.TableLemmas.{items-items_under}
@@ -145,9 +141,7 @@ module _ (old : Table ℕ) (cells : List ℕ) (memory : ℕ) (k : KeepsIndices o
     gone = omega (arith, length_permutation (members old) ((get_or hs i 0, i) ∷ members mid) apart)
 
     pub stands-but : StandsBut i after mid.slots
-    stands-but = record {
-      there = λ j lt other. (get_or hs j 0, left-there hs old k.bag i within mid apart after sited j (omega (arith, lt, even, length-hashes_in old.slots cells)) other);
-    }
+    stands-but = record { there = λ j lt other. (get_or hs j 0, left-there hs old k.bag i within mid apart after sited j (omega (arith, lt, even, length-hashes_in old.slots cells)) other) }
 
     -- they have
     pub keeps-forgotten : (new : Table ℕ) (space : ℕ) → RenamesEach (lowered i) mid new → memory ≤ space → Keeps (remove hs i) (old.room + 1) new (remove after i) space

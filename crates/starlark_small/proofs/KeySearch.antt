@@ -1,15 +1,6 @@
 -- The indices of a hash, as the keys that stand under it.
-use Rattle.std.proofs.Common.{◌≡◌, ℕ, suc, ◌+◌, ◌<◌, ◌^◌, Bool, true, false, cond, List, [], ◌∷◌, ◌++◌, length, get_or, map, Option, Some, refl, sym, ap, subst, ◌∙◌, arith, IsPermutation, nat_eq}
-use Rattle.std.specs.Prelude.{filter, slice_get}
-use Rattle.std.specs.Borrow.{Bor}
-use Rattle.std.specs.Fn.{Mut, CalledAt, TakesAt}
-use Rattle.std.specs.List.{All, Contains, enumerate_from}
-use Rattle.std.specs.Option.{option_map}
-use Rattle.std.proofs.lemmas.Bool.Decides.{nat_tests}
-use Rattle.std.proofs.lemmas.List.{length-map}
-use Rattle.std.proofs.lemmas.List.Elements.{All-contains, All-filter, All-map, Contains-append_right}
-use Rattle.std.proofs.lemmas.List.Sorted.{IsPermutation-refl, length_permutation}
-use Rattle.std.proofs.lemmas.Option.{get_or_from_slice_get, slice_get-map, slice_get-get_or, slice_get_within, same_Some}
+use Rattle.starlark_hash.proofs.Common.{common_steps, ◌≡◌, ℕ, suc, ◌+◌, ◌<◌, ◌^◌, Bool, List, [], ◌∷◌, ◌++◌, length, get_or, map, Option, Some, refl, sym, ap, subst, ◌∙◌, arith, IsPermutation, nat_eq, filter, slice_get, Bor, Mut, CalledAt, TakesAt, All, Contains, enumerate_from, nat_tests, length-map, All-contains, All-filter, All-map, IsPermutation-refl, length_permutation, get_or_from_slice_get, slice_get-map, slice_get-get_or, slice_get_within, same_Some}
+use Rattle.std.proofs.lemmas.List.Elements.{Contains-append_right}
 use Rattle.starlark_hash.specs.HashValue.{promoted}
 use Rattle.starlark_hash.specs.declared.hash_value.StarlarkHashValue.{StarlarkHashValue}
 use Rattle.starlark_hash.proofs.Promote.{promoted-injective}
@@ -20,13 +11,9 @@ use Rattle.starlark_small.specs.Index.{hashes_of}
 use Rattle.starlark_small.proofs.Numbered.{below-all}
 use Rattle.starlark_small.proofs.Transport.{can_transport, transported}
 
-same_answer : (a b h k : ℕ) → (a ≡ b → h ≡ k) → (h ≡ k → a ≡ b) → nat_eq a b ≡ nat_eq h k
-same_answer a b h k inj onto = grind (arith, nat_tests)
-
 -- hashes agree where their promotions do
 same_test : (h k : ℕ) → h < 2 ^ 32 → k < 2 ^ 32 → nat_eq (promoted h) (promoted k) ≡ nat_eq h k
-same_test h k h_fits k_fits =
-    same_answer (promoted h) (promoted k) h k (promoted-injective h k h_fits k_fits) (λ e. ap promoted e)
+same_test h k h_fits k_fits = grind (arith, nat_tests, promoted-injective h k h_fits k_fits)
 
 -- the indices of a hash are within the list
 pub indices-within : (hash : ℕ) (hs : List ℕ) (p : ℕ × ℕ) → Contains (indices_under hash hs) p → p.1 < length hs
@@ -52,11 +39,7 @@ module _ {K V : Type 0} where
       let others : map (λ p. (p.0, entry_key p.1)) keys ≡ map (keyed look) (map (λ m. (m.1, m.1)) rest) = keys-numbered hash look (n + 1) es (λ k d lt. fits (suc k) d (omega (arith, lt))) h_fits
       (λ k d is. ap look {x = n + 1 + k} {y = n + suc k} (omega arith) ∙ known (suc k) d is) in
       let head : e ≡ look n = sym (ap look {x = n} {y = n + 0} (omega arith) ∙ known 0 e refl) in
-      (elim (nat_eq e.0.hash.0 hash.0) as (λ b. map (λ p. (p.0, entry_key p.1)) (cond b ((n, e) ∷ keys) keys) ≡ map (keyed look) (map (λ m. (m.1, m.1)) (cond b ((h, n) ∷ rest) rest))) [
-        | true ↦ λ j. (n, entry_key (head j)) ∷ others j
-        | false ↦ others
-      ])
-      ∙ ap (λ b. map (keyed look) (map (λ m. (m.1, m.1)) (cond b ((h, n) ∷ rest) rest))) (sym (same_test e.0.hash.0 hash.0 (fits 0 e (omega arith)) h_fits))
+      grind (arith, nat_tests, same_test e.0.hash.0 hash.0 (fits 0 e (omega arith)) h_fits)
 
 -- w, asked about an index, asks g about the key there; inner is g's state in w's, and Sees says that w looks at the list
 module _ {C F K V : Type 0} (g : Mut F (Bor K × Unit {0}) Bool) (w : Mut C (Bor ℕ × Unit {0}) Bool) (inner : C → F) (Sees : C → Type 0) (es : List (Entry K V)) (hs : List ℕ) (same : hs ≡ hashes_of es) (hash : StarlarkHashValue)
@@ -118,8 +101,7 @@ module _ {C F K V : Type 0} (g : Mut F (Bor K × Unit {0}) Bool) (w : Mut C (Bor
 -- the pair of an entry stands where the entry does
 pub pair_there : {K V : Type 0} (es : List (Entry K V)) (pairs : List (K × V)) (x i : ℕ) (e : Entry K V) → pairs ≡ map pair_of es → i ≡ x
     → slice_get es x ≡ Some e → slice_get pairs i ≡ Some (pair_of e)
-pair_there es pairs x i e sees shows at =
-    ap (λ l. slice_get l i) sees ∙ slice_get-map pair_of es i ∙ ap (option_map pair_of) (ap (slice_get es) shows ∙ at)
+pair_there es pairs x i e sees shows at = grind (arith, common_steps, slice_get-map pair_of es i)
 
 -- where the closure shows an index that is there, it may be called
 pub taken : {F K V : Type 0} (g : Mut F (Bor K × Unit {0}) Bool) (es : List (Entry K V)) (pairs : List (K × V)) (x i : ℕ) (f : F) → pairs ≡ map pair_of es → i ≡ x

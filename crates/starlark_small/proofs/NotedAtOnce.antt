@@ -1,20 +1,12 @@
 -- A hash that a look at the index shows to be new: no entry is under it, and one goes last without growth.
-use Rattle.std.proofs.Common.{◌≡◌, ◌≢◌, ℕ, zero, suc, ◌+◌, ◌-◌, ◌<◌, ◌≤◌, Bool, true, List, [], ◌∷◌, ◌++◌, get_or, length, Option, Some, None, Ok, refl, sym, ap, subst, ◌∙◌, arith, eqb-true}
-use Rattle.std.specs.Prelude.{slice_get, is_some, ◌||◌, nat_lt}
-use Rattle.std.specs.Cmp.{IsEquivalence}
-use Rattle.std.specs.Option.{option_map_or}
-use Rattle.std.proofs.lemmas.Bool.{and_parts}
-use Rattle.std.proofs.lemmas.Bool.Decides.{nat_tests}
-use Rattle.std.proofs.lemmas.List.{get_or-map, length-map, length_push}
-use Rattle.std.specs.List.{All}
-use Rattle.std.proofs.lemmas.Option.{get_or_from_slice_get}
-use Rattle.starlark_hash.specs.HashValue.{hash_of, key_of, promoted}
+use Rattle.starlark_hash.proofs.Common.{common_steps, ◌≡◌, ◌≢◌, ℕ, ◌+◌, ◌-◌, ◌<◌, ◌≤◌, Bool, true, List, [], ◌∷◌, ◌++◌, length, Option, Some, None, Ok, refl, sym, ap, subst, ◌∙◌, arith, is_some, ◌||◌, nat_lt, IsEquivalence, option_map_or, nat_tests, get_or-map, length-map, length_push, All}
+use Rattle.starlark_small.proofs.CallerLookup.{none_among}
+use Rattle.starlark_hash.specs.HashValue.{hash_of, key_of}
 use Rattle.starlark_hash.specs.declared.hash_value.StarlarkHashValue.{StarlarkHashValue}
 use Rattle.starlark_hash.specs.declared.hashed.Hashed.{Hashed}
-use Rattle.starlark_hash.specs.Entries.{Entry, entry_hash, entry_key, is_under, match_of, position_of, set_value_at, stands_under, value_at}
+use Rattle.starlark_hash.specs.Entries.{Entry, entry_hash, match_of, position_of, set_value_at, stands_under, value_at}
 use Rattle.starlark_hash.proofs.EntryLemmas.{IsSingle-push}
-use Rattle.starlark_hash.proofs.PositionLemmas.{position-within, position-passes}
-use Rattle.starlark_small.specs.Hashes.{Hashes, hash_under, noted}
+use Rattle.starlark_small.specs.Hashes.{Hashes, hash_under}
 use Rattle.starlark_small.specs.IndexCalls.{IsNotedIn}
 use Rattle.starlark_small.specs.Index.{IsIndexed, hashes_of, IsSound, index_room, map_of, unindexed}
 use Rattle.starlark_small.specs.Insert.{IsInserted, Inserts}
@@ -24,29 +16,13 @@ use Rattle.starlark_small.proofs.Inserted.{LeavesMemory-inserted}
 use Rattle.starlark_small.proofs.Indexed.{IsIndexed-noted, room-noted}
 use Rattle.starlark_vecmap.specs.EntryList.{EntryList, with_entries}
 
-there : {X : Type 0} (xs : List X) (j : ℕ) → j < length xs → (x : X) × (slice_get xs j ≡ Some x)
-there [] j below = absurd (omega arith)
-there (x ∷ xs) zero below = (x, refl)
-there (x ∷ xs) (suc j) below = there xs j (omega arith)
-
 module _ {K V : Type 0} where
-  nobody : (es : List (Entry K V)) (hash : StarlarkHashValue) → All (λ h. h ≢ hash_under hash) (hashes_of es) → (j : ℕ) (d : Entry K V) → j < length es → slice_get es j ≡ Some d → is_under hash d ≡ true → ⊥
-  nobody es hash lacked j d below at under =
-      let here : get_or es j d ≡ d = get_or_from_slice_get es j d d at in
+  nowhere : (es : List (Entry K V)) (hash : StarlarkHashValue) (t : K → Bool) → All (λ h. h ≢ hash_under hash) (hashes_of es) → position_of hash t es ≡ None
+  nowhere es hash t lacked = none_among (stands_under hash t) es (λ k d below.
       let H : Entry K V → ℕ = λ e. hash_under (entry_hash e) in
-      lacked j (H d) (omega (arith, below, length-map es H)) (get_or-map H es j d (H d) below ∙ ap H here ∙ ap promoted (eqb-true d.0.hash.0 hash.0 under))
-
-  nowhere : (es : List (Entry K V)) (hash : StarlarkHashValue) (t : K → Bool)
-      → ((j : ℕ) (d : Entry K V) → j < length es → slice_get es j ≡ Some d → is_under hash d ≡ true → ⊥) → position_of hash t es ≡ None
-  nowhere es hash t never = at_index (position_of hash t es) refl where
-    at_index : (index : Option ℕ) → position_of hash t es ≡ index → index ≡ None
-    at_index None _ = refl
-    at_index (Some j) is =
-        let below = position-within (stands_under hash t) es j is in
-        let d = there es j below in
-        let both = and_parts (is_under hash d.0) (t (entry_key d.0))
-        (subst (λ z. stands_under hash t z ≡ true) (get_or_from_slice_get es j d.0 d.0 d.1) (position-passes (stands_under hash t) es j d.0 is)) in
-        absurd (never j d.0 below d.1 both.0)
+      let apart = lacked k (H d) (omega (arith, below, length-map es H)) in
+      let here = get_or-map H es k d (H d) below in
+      grind (arith, common_steps))
 
   -- an entry that goes last where nothing has to grow
   inserted_with_room : (list : EntryList K V) (before after : Option Hashes) (key : Hashed K) (value : V)
@@ -73,7 +49,7 @@ module _ {K V : Type 0} (eq : K → K → Bool) (laws : IsEquivalence eq) (list 
   index = subst (IsIndexed list.entries) noting.there sound.indexed
 
   absent : match_of eq list.entries key ≡ None
-  absent = nowhere list.entries (hash_of key) (eq (key_of key)) (nobody list.entries (hash_of key) (subst (All (λ h. h ≢ hash_under (hash_of key))) index.list noting.lacked))
+  absent = nowhere list.entries (hash_of key) (eq (key_of key)) (subst (All (λ h. h ≢ hash_under (hash_of key))) index.list noting.lacked)
 
   indexed : IsIndexed (list.entries ++ (key, value) ∷ []) after
   indexed = subst (IsIndexed (list.entries ++ (key, value) ∷ [])) (sym noting.noted) (IsIndexed-noted list.entries (key, value) (hash_of key) (Some noting.hashes) refl (omega (arith, noting.room)) noting.fits index)
@@ -91,8 +67,7 @@ module _ {K V : Type 0} (eq : K → K → Bool) (laws : IsEquivalence eq) (list 
   inserts_at_once old view =
       let had : is_some before ≡ true = ap is_some noting.there in
       let kept : is_some after ≡ is_some before = ap is_some noting.noted ∙ sym had in
-      let less = subst (λ o. index_room (length list.entries) before ≤ 1 + index_room (length list.entries + 1) o) (sym noting.noted)
-      (subst (λ o. index_room (length list.entries) o ≤ 1 + index_room (length list.entries + 1) (Some (noted (hash_of key) noting.hashes))) (sym noting.there) (room-noted (length list.entries) (hash_of key) (Some noting.hashes))) in
+      let less : index_room (length list.entries) before ≤ 1 + index_room (length list.entries + 1) after = grind (arith, noting.there, noting.noted, room-noted (length list.entries) (hash_of key) (Some noting.hashes)) in
       let free : 0 < index_room (length list.entries) before = subst (λ o. 0 < index_room (length list.entries) o) (sym noting.there) noting.room in
       let room : 0 < (map_of list before).room = omega (arith, free, noting.spare) in
       let put : IsInserted (map_of list before) key value (map_of new after) =

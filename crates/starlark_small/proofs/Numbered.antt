@@ -1,14 +1,7 @@
 -- The numbered hashes of a list, and what a table says that has them as its members.
-use Rattle.std.proofs.Common.{◌≡◌, ◌≢◌, ℕ, zero, suc, ◌+◌, ◌-◌, ◌<◌, ◌≤◌, ◌⊎◌, inl, inr, Bool, true, false, cond, nat_eq, eq-eqb, List, [], ◌∷◌, ◌++◌, length, map, get_or, take, Option, Some, None, refl, sym, ap, subst, ◌∙◌, arith, IsPermutation}
-use Rattle.std.specs.Prelude.{filter, remove, reverse, slice_get, slice_index}
-use Rattle.std.specs.List.{All, Contains, range_with_len}
-use Rattle.std.proofs.lemmas.Bool.{cases_order, false≢true}
-use Rattle.std.proofs.lemmas.Bool.Decides.{eqb_tells, nat_tests}
-use Rattle.std.proofs.lemmas.List.{ext_get_or, get_or-map, length-map, length-reverse, reverse-append, take_more}
-use Rattle.std.proofs.lemmas.List.FromFn.{length-range_with_len}
-use Rattle.std.proofs.lemmas.List.Elements.{All-cons}
-use Rattle.std.proofs.lemmas.List.Sorted.{IsPermutation-sym, IsPermutation-trans, IsPermutation-cons, IsPermutation-to_front, IsPermutation-map, IsPermutation-remove, IsPermutation-reverse, All-permutation, Contains-permutation, length_permutation}
-use Rattle.std.proofs.lemmas.Option.{get_or_from_slice_get, none-some, same_Some, slice_get_within}
+use Rattle.starlark_hash.proofs.Common.{common_steps, ◌≡◌, ◌≢◌, ℕ, zero, suc, ◌+◌, ◌-◌, ◌<◌, ◌≤◌, Bool, true, false, cond, nat_eq, eq-eqb, List, [], ◌∷◌, ◌++◌, length, map, get_or, take, Option, Some, None, refl, sym, ap, subst, ◌∙◌, arith, IsPermutation, filter, remove, reverse, slice_get, slice_index, All, Contains, range_with_len, false≢true, nat_tests, get_or-map, length-map, length-reverse, reverse-append, length-range_with_len, All-cons, IsPermutation-sym, IsPermutation-trans, IsPermutation-cons, IsPermutation-map, IsPermutation-reverse, All-permutation, Contains-permutation, length_permutation, get_or_from_slice_get, slice_get_within}
+use Rattle.std.proofs.lemmas.List.{ext_get_or, take_more}
+use Rattle.std.proofs.lemmas.List.Sorted.{IsPermutation-to_front, IsPermutation-remove}
 use Rattle.starlark_table.specs.Table.{Table, filled, items_under, members, member_at, table_len}
 use Rattle.starlark_table.proofs.PairBags.{IsPermutation-cancel, IsPermutation-filter}
 use Rattle.starlark_table.proofs.TableLemmas.{items-items_under}
@@ -16,15 +9,10 @@ use Rattle.starlark_vec2.specs.Sort.{Moves}
 use Rattle.starlark_small.specs.Hashes.{numbered, numbered_from}
 use Rattle.starlark_small.specs.Slots.{IsSited, StandsOnce, hash_in, hashes_in, lowered, renamed, renaming}
 
-pub same_or : (a b : ℕ) → (a ≡ b) ⊎ (a ≢ b)
-same_or a b = elim (eqb_tells a b) [ inl is ↦ inl is.1 | inr is ↦ inr is.1 ]
-
 -- ---- the numbered hashes
 pub numbered-append : (n : ℕ) (hs ks : List ℕ) → numbered_from n (hs ++ ks) ≡ numbered_from n hs ++ numbered_from (n + length hs) ks
-numbered-append n [] ks = ap (λ i. numbered_from i ks) {x = n} {y = n + 0} (omega arith)
-numbered-append n (h ∷ hs) ks =
-    ap (λ l. (h, n) ∷ l) (numbered-append (n + 1) hs ks)
-    ∙ ap (λ i. (h, n) ∷ numbered_from (n + 1) hs ++ numbered_from i ks) {x = n + 1 + length hs} {y = n + suc (length hs)} (omega arith)
+numbered-append n [] ks = grind arith
+numbered-append n (h ∷ hs) ks = grind (arith, common_steps, numbered-append (n + 1) hs ks)
 
 length-numbered : (n : ℕ) (hs : List ℕ) → length (numbered_from n hs) ≡ length hs
 length-numbered n [] = refl
@@ -32,9 +20,8 @@ length-numbered n (h ∷ hs) = ap suc (length-numbered (n + 1) hs)
 
 get_or-numbered : (n k : ℕ) (hs : List ℕ) (d : ℕ × ℕ) → k < length hs → get_or (numbered_from n hs) k d ≡ (get_or hs k 0, n + k)
 get_or-numbered n k [] d below = absurd (omega arith)
-get_or-numbered n zero (h ∷ hs) d below = ap (λ i. (h, i)) {x = n} {y = n + 0} (omega arith)
-get_or-numbered n (suc k) (h ∷ hs) d below =
-    get_or-numbered (n + 1) k hs d (omega arith) ∙ ap (λ i. (get_or hs k 0, i)) {x = n + 1 + k} {y = n + suc k} (omega arith)
+get_or-numbered n zero (h ∷ hs) d below = grind arith
+get_or-numbered n (suc k) (h ∷ hs) d below = grind (arith, get_or-numbered (n + 1) k hs d)
 
 numbered-below : (n : ℕ) (hs : List ℕ) → All (λ m. m.1 < n + length hs) (numbered_from n hs)
 numbered-below n [] k d lt = absurd (omega arith)
@@ -45,32 +32,26 @@ pub below-all : (hs : List ℕ) → All (λ m. m.1 < length hs) (numbered hs)
 below-all hs = λ k d lt. omega (arith, numbered-below 0 hs k d lt)
 
 pub at-numbered : (hs : List ℕ) (k : ℕ) (d : ℕ × ℕ) → k < length hs → get_or (numbered hs) k d ≡ (get_or hs k 0, k)
-at-numbered hs k d below = get_or-numbered 0 k hs d below ∙ ap (λ i. (get_or hs k 0, i)) {x = 0 + k} {y = k} (omega arith)
+at-numbered hs k d below = grind (arith, get_or-numbered 0 k hs d)
 
 -- all behind an index go down
 sunk : (last n : ℕ) (hs : List ℕ) → last ≤ n → map (renaming (lowered last)) (numbered_from (n + 1) hs) ≡ numbered_from n hs
 sunk last n [] le = refl
 sunk last n (h ∷ hs) le =
-    let sinks : lowered last (n + 1) ≡ n = grind (arith, nat_tests) in
-    ap (λ i. (h, i) ∷ map (renaming (lowered last)) (numbered_from (n + 1 + 1) hs)) sinks ∙ ap (λ l. (h, n) ∷ l) (sunk last (n + 1) hs (omega arith))
+    grind (arith, nat_tests, sunk last (n + 1) hs)
 
 lowered_from : (n k : ℕ) (hs : List ℕ) → k < length hs → map (renaming (lowered (n + k))) (remove (numbered_from n hs) k) ≡ numbered_from n (remove hs k)
 lowered_from n k [] below = absurd (omega arith)
 lowered_from n zero (h ∷ hs) below = sunk (n + 0) n hs (omega arith)
 lowered_from n (suc k) (h ∷ hs) below =
-    let stays : lowered (n + suc k) n ≡ n = grind (arith, nat_tests) in
-    let next : n + suc k ≡ n + 1 + k = omega arith in
-    ap (λ i. (h, i) ∷ map (renaming (lowered (n + suc k))) (remove (numbered_from (n + 1) hs) k)) stays
-    ∙ ap (λ i. (h, n) ∷ map (renaming (lowered i)) (remove (numbered_from (n + 1) hs) k)) next
-    ∙ ap (λ l. (h, n) ∷ l) (lowered_from (n + 1) k hs (omega arith))
+    grind (arith, nat_tests, lowered_from (n + 1) k hs)
 
 pub numbered-remove : (hs : List ℕ) (k : ℕ) → k < length hs → map (renaming (lowered k)) (remove (numbered hs) k) ≡ numbered (remove hs k)
-numbered-remove hs k below = ap (λ i. map (renaming (lowered i)) (remove (numbered hs) k)) {x = k} {y = 0 + k} (omega arith) ∙ lowered_from 0 k hs below
+numbered-remove hs k below = grind (arith, lowered_from 0 k hs)
 
 numbered_from-remove_last : (n k : ℕ) (hs : List ℕ) → k + 1 ≡ length hs → remove (numbered_from n hs) k ≡ numbered_from n (remove hs k)
 numbered_from-remove_last n k [] end = absurd (omega (arith, end))
-numbered_from-remove_last n zero (h ∷ []) end = refl
-numbered_from-remove_last n zero (h ∷ k ∷ hs) end = absurd (omega (arith, end))
+numbered_from-remove_last n zero (h ∷ hs) end = grind (arith, common_steps)
 numbered_from-remove_last n (suc k) (h ∷ hs) end = ap (λ l. (h, n) ∷ l) (numbered_from-remove_last (n + 1) k hs (omega (arith, end)))
 
 pub numbered-remove_last : (hs : List ℕ) (k : ℕ) → k + 1 ≡ length hs → remove (numbered hs) k ≡ numbered (remove hs k)
@@ -79,11 +60,7 @@ numbered-remove_last hs k end = numbered_from-remove_last 0 k hs end
 reversed_from : (n len : ℕ) (hs : List ℕ) → len ≡ n + length hs → map (renaming (λ i. len - 1 - i)) (numbered_from n hs) ≡ reverse (numbered (reverse hs))
 reversed_from n len [] is = refl
 reversed_from n len (h ∷ hs) is =
-    let last : len - 1 - n ≡ 0 + length (reverse hs) = omega (arith, length-reverse hs, is) in
-    ap (λ i. (h, i) ∷ map (renaming (λ i. len - 1 - i)) (numbered_from (n + 1) hs)) last
-    ∙ ap (λ l. (h, 0 + length (reverse hs)) ∷ l) (reversed_from (n + 1) len hs (omega (arith, is)))
-    ∙ sym (reverse-append (numbered (reverse hs)) ((h, 0 + length (reverse hs)) ∷ []))
-    ∙ ap reverse (sym (numbered-append 0 (reverse hs) (h ∷ [])) ∙ ap numbered (sym (reverse-append (h ∷ []) hs)))
+    grind (arith, length-reverse hs, reversed_from (n + 1) len hs, numbered-append 0 (reverse hs) (h ∷ []), reverse-append (numbered (reverse hs)) ((h, length (reverse hs)) ∷ []), reverse-append (h ∷ []) hs)
 
 pub numbered-reverse : (hs : List ℕ) → IsPermutation (numbered (reverse hs)) (map (renaming (λ i. length hs - 1 - i)) (numbered hs))
 numbered-reverse hs = subst (IsPermutation (numbered (reverse hs))) (sym (reversed_from 0 (length hs) hs (omega arith))) (IsPermutation-reverse (numbered (reverse hs)))
@@ -100,12 +77,7 @@ module _ (look : ℕ → Option ℕ) where
   looked : (n : ℕ) (hs : List ℕ) → ((i : ℕ) → i < length hs → look (n + i) ≡ slice_get hs i) → numbered_from n hs ≡ map at_index (range_with_len n (length hs))
   unfolding at_index hash_or
   looked n [] at = refl
-  looked n (h ∷ hs) at =
-      let first = at 0 (omega arith) in
-      let zero_last : n + 0 ≡ n = omega arith in
-      let here : Some h ≡ look n = sym first ∙ ap look zero_last in
-      let rest = looked (n + 1) hs (λ i lt. ap look {x = n + 1 + i} {y = n + suc i} (omega arith) ∙ at (suc i) (omega arith)) in
-      λ j. (hash_or (here j), n) ∷ rest j
+  looked n (h ∷ hs) at = grind (arith, common_steps, at 0 (omega arith), looked (n + 1) hs (λ i lt. ap look {x = n + 1 + i} {y = n + suc i} (omega arith) ∙ at (suc i) (omega arith)))
 
   named_anew : (name : ℕ → ℕ) (n : ℕ) (hs : List ℕ) (to : List ℕ) → ((i : ℕ) → i < length hs → name (n + i) ≡ get_or to i 0) → map Some hs ≡ map look to
       → map (renaming name) (numbered_from n hs) ≡ map at_index to
@@ -114,12 +86,8 @@ module _ (look : ℕ → Option ℕ) where
   named_anew name n [] (k ∷ to) named is = cc
   named_anew name n (h ∷ hs) [] named is = cc
   named_anew name n (h ∷ hs) (k ∷ to) named is =
-      let zero_last : n ≡ n + 0 = omega arith in
-      let first : name n ≡ k = ap name zero_last ∙ named 0 (omega arith) in
-      let here : Some h ≡ look k = cc in
       let others : map Some hs ≡ map look to = cc in
-      let rest = named_anew name (n + 1) hs to (λ i lt. ap name {x = n + 1 + i} {y = n + suc i} (omega arith) ∙ named (suc i) (omega arith)) others in
-      λ j. (hash_or (here j), first j) ∷ rest j
+      grind (arith, common_steps, named 0 (omega arith), named_anew name (n + 1) hs to (λ i lt. ap name {x = n + 1 + i} {y = n + suc i} (omega arith) ∙ named (suc i) (omega arith)) others)
 
 pub length-moved : (before : List ℕ) (to : List ℕ) (after : List ℕ) → Moves before to after → (length to ≡ length before) × (length after ≡ length before)
 length-moved before to after moves =
@@ -132,54 +100,38 @@ numbered-moved before to after moves =
     let look : ℕ → Option ℕ = slice_get after in
     let same : numbered after ≡ map (at_index look) (range_with_len 0 (length after)) = looked look 0 after (λ i lt. ap look {x = 0 + i} {y = i} (omega arith)) in
     let went : map (renaming (slice_index to)) (numbered before) ≡ map (at_index look) to = named_anew look (slice_index to) 0 before to (λ i lt. ap (slice_index to) {x = 0 + i} {y = i} (omega arith)) moves.items in
-    subst (λ l. IsPermutation l (map (renaming (slice_index to)) (numbered before))) (sym same)
-    (subst (IsPermutation (map (at_index look) (range_with_len 0 (length after)))) (sym went) (IsPermutation-map (at_index look) (range_with_len 0 (length after)) to moves.once))
+    rw (same, went) (IsPermutation-map (at_index look) (range_with_len 0 (length after)) to moves.once)
 
 -- ---- no index stands twice
 standing : ℕ → List (ℕ × ℕ) → ℕ
 standing x ms = length (filter (λ m. nat_eq m.1 x) ms)
 
-more : (x : ℕ) (m : ℕ × ℕ) (ms : List (ℕ × ℕ)) → standing x ms ≤ standing x (m ∷ ms)
+counted : (x : ℕ) (m : ℕ × ℕ) (ms : List (ℕ × ℕ)) → standing x (m ∷ ms) ≡ cond (nat_eq m.1 x) (suc (standing x ms)) (standing x ms)
 unfolding standing
-more x m ms = grind (arith, nat_tests)
-
-one_more : (x : ℕ) (m : ℕ × ℕ) (ms : List (ℕ × ℕ)) → m.1 ≡ x → standing x (m ∷ ms) ≡ suc (standing x ms)
-unfolding standing
-one_more x m ms is = ap (λ b. length (cond b (m ∷ filter (λ m. nat_eq m.1 x) ms) (filter (λ m. nat_eq m.1 x) ms))) (eq-eqb m.1 x is)
-
-other : (x : ℕ) (m : ℕ × ℕ) (ms : List (ℕ × ℕ)) → m.1 ≢ x → standing x (m ∷ ms) ≡ standing x ms
-unfolding standing
-other x m ms not = grind (arith, nat_tests)
+counted x m ms = grind (arith, nat_tests)
 
 one : (slots : List (Option (ℕ × ℕ))) (s h x : ℕ) → get_or slots s None ≡ Some (h, x) → 1 ≤ standing x (filled slots)
-one [] s h x is = absurd (none-some (h, x) is)
-one (None ∷ slots) zero h x is = absurd (none-some (h, x) is)
-one (Some m ∷ slots) zero h x is = omega (arith, one_more x m (filled slots) (ap (λ k. k.1) (same_Some m (h, x) is)))
+one [] s h x is = cc
+one (o ∷ slots) zero h x is = grind (arith, nat_tests, counted x (h, x) (filled slots))
 one (None ∷ slots) (suc s) h x is = one slots s h x is
-one (Some m ∷ slots) (suc s) h x is = omega (arith, more x m (filled slots), one slots s h x is)
+one (Some m ∷ slots) (suc s) h x is = grind (arith, nat_tests, counted x m (filled slots), one slots s h x)
 
 two : (slots : List (Option (ℕ × ℕ))) (s u h k x : ℕ) → s < u → get_or slots s None ≡ Some (h, x) → get_or slots u None ≡ Some (k, x) → 2 ≤ standing x (filled slots)
-two [] s u h k x below is also = absurd (none-some (h, x) is)
+two [] s u h k x below is also = cc
 two (o ∷ slots) s zero h k x below is also = absurd (omega arith)
-two (None ∷ slots) zero (suc u) h k x below is also = absurd (none-some (h, x) is)
-two (Some m ∷ slots) zero (suc u) h k x below is also =
-    omega (arith, one_more x m (filled slots) (ap (λ k. k.1) (same_Some m (h, x) is)), one slots u k x also)
+two (o ∷ slots) zero (suc u) h k x below is also = grind (arith, nat_tests, counted x (h, x) (filled slots), one slots u k x)
 two (None ∷ slots) (suc s) (suc u) h k x below is also = two slots s u h k x (omega arith) is also
-two (Some m ∷ slots) (suc s) (suc u) h k x below is also =
-    omega (arith, more x m (filled slots), two slots s u h k x (omega arith) is also)
+two (Some m ∷ slots) (suc s) (suc u) h k x below is also = grind (arith, nat_tests, counted x m (filled slots), two slots s u h k x)
 
 later_none : (n : ℕ) (hs : List ℕ) (x : ℕ) → x < n → standing x (numbered_from n hs) ≡ 0
 unfolding standing
 later_none n [] x below = refl
-later_none n (h ∷ hs) x below = other x (h, n) (numbered_from (n + 1) hs) (λ same. omega (arith, same, below)) ∙ later_none (n + 1) hs x (omega arith)
+later_none n (h ∷ hs) x below = grind (arith, nat_tests, counted x (h, n) (numbered_from (n + 1) hs), later_none (n + 1) hs x)
 
 at_most_one : (n : ℕ) (hs : List ℕ) (x : ℕ) → standing x (numbered_from n hs) ≤ 1
 unfolding standing
 at_most_one n [] x = omega arith
-at_most_one n (h ∷ hs) x = elim (same_or n x) [
-  | inl same ↦ omega (arith, one_more x (h, n) (numbered_from (n + 1) hs) same, later_none (n + 1) hs x (omega (arith, same)))
-  | inr apart ↦ omega (arith, other x (h, n) (numbered_from (n + 1) hs) apart, at_most_one (n + 1) hs x)
-]
+at_most_one n (h ∷ hs) x = grind (arith, nat_tests, counted x (h, n) (numbered_from (n + 1) hs), later_none (n + 1) hs x, at_most_one (n + 1) hs x)
 
 -- ---- a table whose members they are
 in_slots : (slots : List (Option (ℕ × ℕ))) (m : ℕ × ℕ) → Contains (filled slots) m → (s : ℕ) × (get_or slots s None ≡ Some m)
@@ -222,24 +174,13 @@ module _ (hs : List ℕ) (t : Table ℕ) (bag : IsPermutation (numbered hs) (mem
       omega (arith, at_most_one 0 hs x, length_permutation (filter q (numbered hs)) (filter q (members t)) (IsPermutation-filter q (numbered hs) (members t) bag))
 
   pub stands-once : StandsOnce t.slots
-  stands-once = record {
-    once = λ s u h k x is also. elim (cases_order s u) [
-      | inl same ↦ same
-      | inr sides ↦ elim sides [
-        | inl less ↦ absurd (omega (arith, two t.slots s u h k x less is also, single_standing x))
-        | inr less ↦ absurd (omega (arith, two t.slots u s k h x less also is, single_standing x))
-      ]
-    ];
-  }
+  stands-once = record { once = λ s u h k x is also. grind (arith, two t.slots s u h k x, two t.slots u s k h x, single_standing x) }
 
   -- the hashes that the cells name are these
   pub hashes-back : (cells : List ℕ) → length cells ≡ length hs → IsSited cells t.slots → hashes_in t.slots cells ≡ hs
   hashes-back cells long sited =
       let count = length-map cells (λ s. hash_in (get_or t.slots s None)) in
-      let same : (i : ℕ) → i < length (hashes_in t.slots cells) → get_or (hashes_in t.slots cells) i 0 ≡ get_or hs i 0 = λ i lt.
-      let inside : i < length cells = omega (arith, lt, count) in
-      get_or-map (λ s. hash_in (get_or t.slots s None)) cells i 0 0 inside ∙ ap hash_in (named-there cells t (get_or hs i 0) i sited (held i (omega (arith, inside, long)))) in
-      ext_get_or 0 (hashes_in t.slots cells) hs (count ∙ long) same
+      ext_get_or 0 (hashes_in t.slots cells) hs (count ∙ long) (λ i lt. grind (arith, get_or-map (λ s. hash_in (get_or t.slots s None)) cells i 0 0, named-there cells t (get_or hs i 0) i sited, held i))
 
   -- what is left once an index was taken out
   module _ (k : ℕ) (below : k < length hs) (mid : Table ℕ) (taken : IsPermutation (members t) ((get_or hs k 0, k) ∷ members mid)) where
@@ -257,7 +198,7 @@ module _ (hs : List ℕ) (t : Table ℕ) (bag : IsPermutation (numbered hs) (mem
         let q : ℕ × ℕ → Bool = λ m. nat_eq m.1 x in
         let m : ℕ × ℕ = (get_or hs k 0, k) in
         let both = length_permutation (filter q (members t)) (filter q (m ∷ members mid)) (IsPermutation-filter q (members t) (m ∷ members mid) taken) in
-        omega (arith, one mid.slots s h x is, one_more x m (members mid) (sym same), single_standing x, both)
+        grind (arith, nat_tests, one mid.slots s h x, counted x m (members mid), single_standing x)
 
     pub left-there : (cells : List ℕ) → IsSited cells mid.slots → (i : ℕ) → i < length hs → i ≢ k → member_at mid (get_or cells i 0) ≡ Some (get_or hs i 0, i)
     left-there cells sited i inside apart =
@@ -283,15 +224,14 @@ filled-renamed name (Some m ∷ slots) = ap (λ l. renaming name m ∷ l) (fille
 pub bag-renamed : (name : ℕ → ℕ) (hs : List (ℕ × ℕ)) (ks : List ℕ) (old new : Table ℕ) → IsPermutation hs (members old) → IsPermutation (numbered ks) (map (renaming name) hs) → new.slots ≡ renamed name old.slots
     → IsPermutation (numbered ks) (members new)
 bag-renamed name hs ks old new bag same is =
-    subst (IsPermutation (numbered ks)) (sym (ap filled is ∙ filled-renamed name old.slots))
-    (IsPermutation-trans (numbered ks) (map (renaming name) hs) (map (renaming name) (members old)) same (IsPermutation-map (renaming name) hs (members old) bag))
+    rw (is, filled-renamed name old.slots) (IsPermutation-trans (numbered ks) (map (renaming name) hs) (map (renaming name) (members old)) same (IsPermutation-map (renaming name) hs (members old) bag))
 
 -- one hash more
 pub bag-noted : (hs : List ℕ) (h x : ℕ) (old new : Table ℕ) → x ≡ length hs → IsPermutation (numbered hs) (members old) → IsPermutation ((h, x) ∷ members old) (members new) → IsPermutation (numbered (hs ++ h ∷ [])) (members new)
 bag-noted hs h x old new last bag added =
     let m : ℕ × ℕ = (h, x) in
-    let is : numbered (hs ++ h ∷ []) ≡ numbered hs ++ m ∷ [] = numbered-append 0 hs (h ∷ []) ∙ ap (λ i. numbered hs ++ (h, i) ∷ []) {x = 0 + length hs} {y = x} (omega (arith, last)) in
-    subst (λ l. IsPermutation l (members new)) (sym is)
+    let is : numbered (hs ++ h ∷ []) ≡ numbered hs ++ m ∷ [] = grind (arith, numbered-append 0 hs (h ∷ [])) in
+    rw is
     (IsPermutation-trans (numbered hs ++ m ∷ []) (m ∷ members old) (members new)
     (IsPermutation-trans (numbered hs ++ m ∷ []) (m ∷ numbered hs) (m ∷ members old) (IsPermutation-to_front (numbered hs) m) (IsPermutation-cons m (numbered hs) (members old) bag)) added)
 

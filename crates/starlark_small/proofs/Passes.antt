@@ -1,10 +1,5 @@
 -- What a pass over a table makes of its indices.
-use Rattle.std.proofs.Common.{◌≡◌, ℕ, ◌<◌, List, [], ◌∷◌, length, get_or, Option, Some, None, sym, ap, subst, ◌∙◌, arith}
-use Rattle.std.specs.Borrow.{Bor}
-use Rattle.std.specs.Fn.{Mut, Takes, Called, CalledAt}
-use Rattle.std.specs.List.{All, FoldsTo}
-use Rattle.std.proofs.Math.Seq.{get_or-append_seam}
-use Rattle.std.proofs.lemmas.List.{length-append}
+use Rattle.starlark_hash.proofs.Common.{common_steps, ◌≡◌, ℕ, ◌<◌, List, [], ◌∷◌, length, get_or, Option, Some, None, sym, ap, subst, ◌∙◌, arith, Bor, Mut, Takes, Called, CalledAt, All, FoldsTo, get_or-append_seam, length-append}
 use Rattle.starlark_table.specs.Walk.{CanReplace, ReplacesEach}
 use Rattle.starlark_small.specs.Slots.{renamed}
 
@@ -16,9 +11,7 @@ module _ {F : Type 0} (g : Mut F (Bor ℕ × Unit {0}) ℕ) where
   replaced-each name f end (None ∷ old) new says (rest, is, others) = is ∙ ap (λ l. None ∷ l) (replaced-each name f end old rest says others)
   replaced-each name f end (Some (h, x) ∷ old) new says (y, next, rest, called, is, others) =
       let told = says called.shown y next called.called in
-      is
-      ∙ ap (λ z. Some (h, z) ∷ rest) (told.0 ∙ ap name called.shows)
-      ∙ ap (λ l. Some (h, name x) ∷ l) (replaced-each name f end old rest says (subst (λ k. ReplacesEach g k old rest end) told.1 others))
+      grind (arith, common_steps, called.shows, replaced-each name f end old rest says (subst (λ k. ReplacesEach g k old rest end) told.1 others))
 
   module _ (f : F) (stays : (x : Bor ℕ) (y : ℕ) (next : F) → Called g f (x, tt) y next → next ≡ f) where
     stays_all : (before : List ℕ) (later : F) → FoldsTo (λ k x next. (y : ℕ) × CalledAt g k x y next) f before later → f ≡ later

@@ -1,10 +1,5 @@
 -- What a closure keeps of a list of entries.
-use Rattle.std.proofs.Common.{◌≡◌, suc, ◌≤◌, Bool, true, false, ◌&&◌, List, [], ◌∷◌, length, sym, ap, ◌∙◌, subst, arith, nat_eq}
-use Rattle.std.specs.Prelude.{filter, if◌then◌else◌}
-use Rattle.std.specs.List.{All}
-use Rattle.std.specs.Borrow.{Bor, MutBor}
-use Rattle.std.specs.Fn.{Mut}
-use Rattle.std.proofs.lemmas.List.Elements.{All-cons, All-head, All-tail}
+use Rattle.starlark_hash.proofs.Common.{common_steps, ◌≡◌, suc, ◌≤◌, Bool, true, false, ◌&&◌, List, [], ◌∷◌, length, sym, ap, ◌∙◌, subst, arith, nat_eq, filter, if◌then◌else◌, All, Bor, MutBor, Mut, All-cons, All-head, All-tail}
 use Rattle.std.proofs.lemmas.List.Kept.{AllPairs-cons}
 use Rattle.starlark_hash.specs.declared.hashed.Hashed.{Hashed}
 use Rattle.starlark_hash.specs.Entries.{Entry, IsSingle, stands_under}
@@ -13,8 +8,7 @@ use Rattle.starlark_hash.specs.Retain.{Retains, CalledAtEntry}
 module _ {F K V : Type 0} (g : Mut F (Bor K × (MutBor V × Unit {0})) (Bool × (MutBor V × Unit {0}))) where
   pub length-retained : (f : F) (es kept : List (Entry K V)) → Retains (CalledAtEntry g) f es kept → length kept ≤ length es
   length-retained f [] kept none = omega (arith, ap length none)
-  length-retained f (e ∷ es) kept (true, d, f', rest, called, others, is) = omega (arith, ap length is, length-retained f' es rest others)
-  length-retained f (e ∷ es) kept (false, d, f', rest, called, others, is) = omega (arith, ap length is, length-retained f' es rest others)
+  length-retained f (e ∷ es) kept (keeps, d, f', rest, called, others, is) = grind (arith, common_steps, length-retained f' es rest others)
 
   -- what holds of all keys under their hashes holds of those that are kept
   pub all_retained : (P : Hashed K → Type 0) (f : F) (es kept : List (Entry K V)) → Retains (CalledAtEntry g) f es kept → All (λ e. P e.0) es → All (λ e. P e.0) kept

@@ -1,7 +1,6 @@
 -- How much room a list and its index have after each change.
-use Rattle.std.proofs.Common.{◌≡◌, ℕ, Bool, ◌+◌, ◌-◌, ◌<◌, ◌≤◌, ◌∙◌, List, Option, option_map, arith, min, length, sym, ap, subst}
-use Rattle.std.specs.Prelude.{is_some, remove}
-use Rattle.std.proofs.lemmas.List.Edits.{length-remove}
+use Rattle.starlark_hash.proofs.Common.{◌≡◌, ℕ, Bool, ◌+◌, ◌-◌, ◌<◌, ◌≤◌, ◌∙◌, List, Option, arith, min, length, sym, ap, subst, is_some, remove, length-remove}
+use Rattle.std.proofs.Common.{option_map}
 use Rattle.starlark_hash.specs.Entries.{Entry, set_value_at}
 use Rattle.starlark_hash.proofs.EntryLemmas.{length-set_value_at, IsSingle-set_value_at}
 use Rattle.starlark_small.specs.Hashes.{Hashes, forgotten}
@@ -32,8 +31,7 @@ module _ {K V : Type 0} where
   KeepsMemory-removed old new i index after is capacity below within indexed left =
       let shorter : length new.entries ≡ length old.entries - 1 = omega (arith, ap length is, length-remove old.entries i below) in
       let room = room-forgotten (length old.entries) i index (indexed-at old.entries index indexed) (omega (arith, below)) in
-      let now : 1 + index_room (length old.entries) index ≤ index_room (length new.entries) after = subst (λ n. 1 + index_room (length old.entries) index ≤ index_room n after) (sym shorter)
-      (subst (λ o. 1 + index_room (length old.entries) index ≤ index_room (length old.entries - 1) o) (sym left) room) in (
+      let now : 1 + index_room (length old.entries) index ≤ index_room (length new.entries) after = rw (left, shorter) room in (
         omega (arith, shorter, capacity, below, within, now),
         capacity,
         ap is_some left ∙ is_some-map (forgotten i) index,

@@ -1,10 +1,6 @@
 -- The equality of lists of entries with no regard to order, by one look-up for each entry of one.
-use Rattle.std.proofs.Common.{◌≡◌, ℕ, suc, ◌<◌, Bool, true, false, List, [], ◌∷◌, length, get_or, Option, Some, refl, sym, ◌∙◌, arith, eq-eqb}
-use Rattle.std.specs.Prelude.{slice_get}
-use Rattle.std.specs.List.{AllByRecursion, IsDistinct}
-use Rattle.std.specs.Option.{option_eq}
-use Rattle.std.proofs.lemmas.Bool.{false≢true}
-use Rattle.std.proofs.lemmas.Option.{slice_get_within}
+use Rattle.starlark_hash.proofs.Common.{common_steps, ◌≡◌, ℕ, suc, ◌<◌, Bool, true, false, List, [], ◌∷◌, length, get_or, Option, Some, sym, ◌∙◌, arith, eq-eqb, slice_get, AllByRecursion, option_eq, false≢true, slice_get_within}
+use Rattle.std.specs.List.{IsDistinct}
 use Rattle.core.specs.Cmp.{IsEquivalence}
 use Rattle.std_collections.specs.Map.{keys_of, lookup}
 use Rattle.std_collections.specs.HashMap.Eq.{get_from_hash_map_eq}
@@ -16,8 +12,7 @@ use Rattle.starlark_small.specs.CompareLaws.{alike, alike-laws, value_at-lookup,
 
 -- what cannot be true is false
 refuted : (b : Bool) → (b ≡ true → ⊥) → false ≡ b
-refuted true f = absurd (f refl)
-refuted false f = refl
+refuted b f = grind (arith, common_steps)
 
 module _ {K V : Type 0} (eq : K → K → Bool) where
   none_alike : (q : Hashed K) (es : List (Entry K V)) → ((k : ℕ) (e : Entry K V) → k < length es → stands_under q.hash (eq q.key) (get_or es k e) ≡ false)

@@ -1,7 +1,6 @@
 -- What is known of an insertion's answer, once a refused key has lost its hash.
-use Rattle.std.proofs.Common.{◌≡◌, ap, refl}
-use Rattle.std.specs.Prelude.{Result, Ok, Err, IfOk, IfErr, OnErr}
-use Rattle.std.specs.Borrow.{RattleType, Bor, MutBor}
+use Rattle.starlark_hash.proofs.Common.{◌≡◌, ap, refl, Result, Ok, Err, IfOk, IfErr, OnErr, Bor, MutBor}
+use Rattle.std.specs.Borrow.{RattleType}
 use Rattle.std.specs.declared.cmp.PartialEq as eq
 use Rattle.starlark_hash.specs.HashValue.{key_of}
 use Rattle.starlark_hash.specs.declared.hashed.Hashed.{Hashed}

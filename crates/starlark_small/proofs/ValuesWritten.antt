@@ -1,6 +1,5 @@
 -- A map whose values were written keeps its keys, hashes and index.
-use Rattle.std.proofs.Common.{zero, suc, eqb, get_or, ◌≡◌, ℕ, ◌<◌, ◌^◌, Bool, List, [], ◌∷◌, length, Option, Some, None, refl, sym, ap, subst, ◌∙◌, arith}
-use Rattle.std.specs.Prelude.{◌&&◌}
+use Rattle.starlark_hash.proofs.Common.{zero, suc, eqb, get_or, ◌≡◌, ℕ, ◌<◌, ◌^◌, Bool, List, [], ◌∷◌, length, Option, Some, None, refl, sym, ap, subst, ◌∙◌, arith, ◌&&◌}
 use Rattle.starlark_hash.specs.declared.hashed.Hashed.{Hashed}
 use Rattle.starlark_hash.specs.Entries.{Entry, IsSingle}
 use Rattle.starlark_hash.specs.HashValue.{promoted}

@@ -1,4 +1,4 @@
-use Rattle.std.proofs.Common.{refl}
+use Rattle.starlark_hash.proofs.Common.{refl}
 use Rattle.starlark_small.specs.MapEntry.{still_within}
 use Rattle.starlark_small.proofs.CallerEntry.{puts-written}
 use Rattle.starlark_small.proofs.EntryWritten.{occupied_written}

@@ -1,4 +1,4 @@
-use Rattle.std.proofs.Common.{refl}
+use Rattle.starlark_hash.proofs.Common.{refl}
 use Rattle.starlark_small.proofs.CallerEntry.{puts-written}
 use Rattle.starlark_small.proofs.entry.OccupiedEntry.into_mut.Goals as goal
 

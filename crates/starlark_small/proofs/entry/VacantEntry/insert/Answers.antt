@@ -1,4 +1,4 @@
-use Rattle.std.proofs.Common.{refl}
+use Rattle.starlark_hash.proofs.Common.{refl}
 use Rattle.starlark_small.proofs.CallerEntry.{puts-inserted, refuses-vacant}
 use Rattle.starlark_small.proofs.entry.VacantEntry.insert.Goals as goal
 

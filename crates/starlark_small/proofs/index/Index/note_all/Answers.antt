@@ -1,10 +1,6 @@
-use Rattle.std.proofs.Common.{◌≡◌, ◌++◌, ◌∷◌, [], ◌-◌, ◌<◌, ◌≤◌, ◌^◌, ◌∙◌, ap, arith, length, subst, sym, take}
+use Rattle.starlark_hash.proofs.Common.{◌≡◌, ◌++◌, ◌∷◌, [], ◌-◌, ◌<◌, ◌^◌, ◌∙◌, ap, arith, length, subst, sym, take, IfSome, Some, All, option_map, take_all, All-push}
 use mathlib.Core.Path.{subst⁻¹}
-use Rattle.std.specs.Prelude.{IfSome, Some}
-use Rattle.std.specs.List.{All}
-use Rattle.std.specs.Option.{option_copied_mut, option_map}
-use Rattle.std.proofs.lemmas.List.{take_all}
-use Rattle.std.proofs.lemmas.List.Elements.{All-push}
+use Rattle.std.specs.Option.{option_copied_mut}
 use Rattle.starlark_vecmap.specs.EntryList.{deref_entry}
 use Rattle.starlark_small.specs.Hashes.{hash_under}
 use Rattle.starlark_small.specs.Index.{hashes_of}
@@ -14,20 +10,17 @@ use Rattle.starlark_small.proofs.index.Index.note_all.Goals as goal
 
 pub loop-i-init : goal.loop-i-init
 loop-i-init g c =
-    let was = sym c.self.view_is ∙ sym c.get_mut.ensures.value ∙ ap option_copied_mut c.in-Some.is in
-    let req = subst (λ o. IfSome o (λ h. (h.list ≡ []) × (length c.args.entries.now.entries ≤ h.room))) was c.requires in
+    let req = rw (← c.self.view_is, ← c.get_mut.ensures.value, c.in-Some.is) at c.requires in
     record { list = req.0; room = omega arith; fits = λ k d lt. absurd (omega (arith, lt)) }
 
 pub note-requires : goal.note-requires
 note-requires g c =
-    let was = sym c.self.view_is ∙ sym c.get_mut.ensures.value ∙ ap option_copied_mut c.in-Some.is in
-    let req = subst (λ o. IfSome o (λ h. (h.list ≡ []) × (length c.args.entries.now.entries ≤ h.room))) was c.requires in
+    let req = rw (← c.self.view_is, ← c.get_mut.ensures.value, c.in-Some.is) at c.requires in
     omega (arith, c.loop-i.invariant.room, req.1, c.loop-i-test.true, c.len-i-end.ensures.len)
 
 pub loop-i-preserved : goal.loop-i-preserved
 loop-i-preserved g c =
-    let was = sym c.self.view_is ∙ sym c.get_mut.ensures.value ∙ ap option_copied_mut c.in-Some.is in
-    let req = subst (λ o. IfSome o (λ h. (h.list ≡ []) × (length c.args.entries.now.entries ≤ h.room))) was c.requires in
+    let req = rw (← c.self.view_is, ← c.get_mut.ensures.value, c.in-Some.is) at c.requires in
     let es = c.args.entries.now.entries in
     let i = c.loop-i.i in
     let e = deref_entry c.get_unchecked.result in
@@ -45,9 +38,8 @@ returns g c =
     let es = c.args.entries.now.entries in
     let k = c.loop-i.invariant in
     let whole = take_all c.loop-i.i es (omega (arith, c.loop-i-test.false, c.len-i-end.ensures.len)) in
-    let all : c.loop-i.i ≡ length es = omega (arith, c.loop-i-test.false, c.loop-i.auto.i-end, c.len-i-end.ensures.len) in
     let list = k.list ∙ ap hashes_of whole in
-    let room : c.loop-i.table.room ≡ c.in-Some.table.now.room - length es = omega (arith, k.room, all) in
+    let room : c.loop-i.table.room ≡ c.in-Some.table.now.room - length es = omega (arith, k.room, c.loop-i-test.false, c.loop-i.auto.i-end, c.len-i-end.ensures.len) in
     record {
       hashes = subst⁻¹ (λ o. Some c.loop-i.table ≡ option_map (λ h. record { list = hashes_of es; room = h.room - length es }) o) was (λ j. Some (record { list = list j; room = room j }));
       fits = subst⁻¹ (λ o. IfSome o (λ _. All (λ e. e.0.hash.0 < 2 ^ 32) es)) was (subst (λ l. All (λ e. e.0.hash.0 < 2 ^ 32) l) whole k.fits);

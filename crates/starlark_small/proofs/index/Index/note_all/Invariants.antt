@@ -1,5 +1,4 @@
-use Rattle.std.proofs.Common.{◌≡◌, ◌+◌, ◌<◌, ◌^◌, take}
-use Rattle.std.specs.List.{All}
+use Rattle.starlark_hash.proofs.Common.{◌≡◌, ◌+◌, ◌<◌, ◌^◌, take, All}
 use Rattle.starlark_small.specs.Index.{hashes_of}
 use Rattle.starlark_small.proofs.index.Index.note_all.Given as goal
 

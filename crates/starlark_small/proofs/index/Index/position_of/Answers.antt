@@ -1,4 +1,4 @@
-use Rattle.std.proofs.Common.{sym, ◌∙◌, ap, rules, of_calls}
+use Rattle.starlark_hash.proofs.Common.{sym, ◌∙◌, ap, rules, of_calls}
 use Rattle.starlark_hash.specs.HashValue.{key_of}
 use Rattle.starlark_hash.specs.Entries.{position_of}
 use Rattle.starlark_hash.proofs.SearchLemmas.{can_search, is_test, search-position_of}

@@ -1,5 +1,4 @@
-use Rattle.std.proofs.Common.{◌≡◌, ◌<◌, ◌^◌, ◌∙◌, ap, subst}
-use Rattle.std.specs.Prelude.{map}
+use Rattle.starlark_hash.proofs.Common.{◌≡◌, ◌<◌, ◌^◌, ◌∙◌, ap, subst, map}
 use Rattle.starlark_hash.specs.Entries.{pair_of}
 use Rattle.starlark_small.proofs.KeySearch.{can_search-indices, pair_there, searches-indices, taken}
 use Rattle.starlark_small.proofs.index.find.find_in.Goals as goal

@@ -1,6 +1,4 @@
-use Rattle.std.proofs.Common.{ap, refl, ◌∙◌, rules, arith}
-use Rattle.std.proofs.lemmas.Grind.{common_steps}
-use Rattle.std.specs.Prelude.{nat_lt}
+use Rattle.starlark_hash.proofs.Common.{ap, refl, ◌∙◌, rules, arith, common_steps, nat_lt}
 use Rattle.starlark_small.specs.Index.{unindexed}
 use Rattle.starlark_small.proofs.Cloned.{IsSingle-clones, length-clones}
 use Rattle.starlark_small.proofs.CallerCollect.{found-clones}
@@ -32,7 +30,4 @@ returns g c =
     })
 
 pub returns-in_err-index : goal.returns-in_err-index
-returns-in_err-index g c = record {
-  clone = first_of (search rules, grind (arith, common_steps));
-  succeeds = first_of (search rules, grind (arith, common_steps));
-}
+returns-in_err-index g c = record { clone = search rules; succeeds = grind (arith, common_steps) }

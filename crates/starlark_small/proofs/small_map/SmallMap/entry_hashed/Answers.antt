@@ -1,4 +1,4 @@
-use Rattle.std.proofs.Common.{◌≡◌, Some, None, rules, sym}
+use Rattle.starlark_hash.proofs.Common.{◌≡◌, Some, None, rules, sym}
 use Rattle.starlark_hash.specs.Entries.{match_of}
 use Rattle.starlark_small.proofs.CallerEntry.{enters-entry}
 use Rattle.starlark_small.proofs.small_map.SmallMap.entry_hashed.Goals as goal

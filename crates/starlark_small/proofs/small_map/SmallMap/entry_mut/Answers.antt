@@ -1,5 +1,4 @@
-use Rattle.std.proofs.Common.{slice_get, Some, refl, sym, ap, ◌∙◌}
-use Rattle.std.specs.Option.{option_map}
+use Rattle.starlark_hash.proofs.Common.{slice_get, Some, refl, sym, ap, ◌∙◌, option_map}
 use Rattle.starlark_hash.specs.Entries.{pair_of, set_value_at}
 use Rattle.starlark_vecmap.specs.EntryList.{with_entries}
 use Rattle.starlark_small.specs.Map.{Map}

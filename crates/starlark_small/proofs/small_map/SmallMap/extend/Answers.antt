@@ -1,3 +1,4 @@
+use Rattle.starlark_hash.proofs.Common.{rules}
 use Rattle.starlark_small.specs.Collect.{Extends, own_entry}
 use Rattle.starlark_small.proofs.CallerOwn.{own-inserted_all}
 use Rattle.starlark_small.proofs.CallerCollect.{finds_extended}
@@ -6,21 +7,13 @@ use Rattle.starlark_small.proofs.small_map.SmallMap.extend.Goals as goal
 pub returns : goal.returns
 returns g c =
     let put = c.insert_items.ensures.entries in
-    let left = c.insert_items.ensures.memory in
     let made = c.into_iter.ensures.into_iter_gives in
     let extends : Extends g.K.PartialEq.eq (own_entry g.K.Hash.hash_input) g.I.IntoIter.Iterator.next_gives g.I.IntoIterator.into_iter_gives c.args.iter c.args.self.now.entries c.insert_items.new.self.entries c.insert_items.result = record { it = c.into_iter.result; made = made; inserts = put } in
     record {
       found = finds_extended g.K.PartialEq.eq g.met.K.Eq.laws g.K.Hash.hash_input g.met.K.Hash.respects_eq g.I.IntoIter.Iterator.next_gives g.I.IntoIterator.into_iter_gives c.args.iter
           c.insert_items.result c.args.self.now c.insert_items.new.self extends;
       entries = extends;
-      memory = record {
-        succeeds = λ fits. left.succeeds (fits c.into_iter.result made);
-        spare = λ fits. left.spare (fits c.into_iter.result made);
-        full = left.full;
-        room = left.room;
-        capacity = left.capacity;
-        indexed = left.indexed;
-      };
+      memory = search (rules, c.insert_items.ensures.memory, made);
       left = (c.into_iter.result, made, c.insert_items.ensures.left);
       own = own-inserted_all g.K.Hash.hash_input g.K.PartialEq.eq c.args.self.now.entries c.insert_items.new.self.entries put.items put.entries;
     }

@@ -1,5 +1,4 @@
-use Rattle.std.specs.Prelude.{◌||◌, nat_lt}
-use Rattle.std.proofs.Common.{◌≡◌, [], length, map, ap, ◌∙◌, arith}
+use Rattle.starlark_hash.proofs.Common.{◌||◌, nat_lt, ◌≡◌, [], length, map, ap, ◌∙◌, arith}
 use Rattle.starlark_small.proofs.Growing.{stepped_from}
 use Rattle.starlark_small.specs.Collect.{Collects, insert_all, own_entry}
 use Rattle.starlark_small.specs.Index.{unindexed}

@@ -1,4 +1,4 @@
-use Rattle.std.proofs.Common.{rules}
+use Rattle.starlark_hash.proofs.Common.{rules}
 use Rattle.starlark_hash.specs.HashValue.{hash_of, key_of}
 use Rattle.starlark_small.proofs.CallerLookup.{finds-entry}
 use Rattle.starlark_small.proofs.small_map.SmallMap.get_full_hashed.Goals as goal

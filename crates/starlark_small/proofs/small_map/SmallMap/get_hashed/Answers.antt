@@ -1,4 +1,4 @@
-use Rattle.std.proofs.Common.{rules}
+use Rattle.starlark_hash.proofs.Common.{rules}
 use Rattle.starlark_hash.specs.HashValue.{hash_of, key_of}
 use Rattle.starlark_small.proofs.CallerLookup.{finds-value}
 use Rattle.starlark_small.proofs.small_map.SmallMap.get_hashed.Goals as goal

@@ -1,4 +1,4 @@
-use Rattle.std.proofs.Common.{◌≡◌, Some, refl, ap, ◌∙◌, rules}
+use Rattle.starlark_hash.proofs.Common.{◌≡◌, Some, refl, ap, ◌∙◌, rules}
 use Rattle.starlark_hash.specs.HashValue.{hash_of, key_of}
 use Rattle.starlark_hash.specs.Entries.{position_of, with_value}
 use Rattle.starlark_small.specs.Lookup.{keys}

@@ -1,4 +1,4 @@
-use Rattle.std.proofs.Common.{◌≡◌, None, sym, subst, length}
+use Rattle.starlark_hash.proofs.Common.{◌≡◌, None, rules, sym, subst, length}
 use Rattle.std.proofs.iter.Next as it
 use Rattle.starlark_hash.specs.Entries.{match_of}
 use Rattle.starlark_small.proofs.Inserting.{yields_more, filled_none, filled_more, filled_still, long_is_indexed}
@@ -40,12 +40,5 @@ returns-in-Err g c =
           absent = subst (λ l. match_of g.K.PartialEq.eq l c.in-Some.entry.0 ≡ None) (sym same) c.in-Err.ensures.inserts.absent;
         };
       };
-      memory = record {
-        succeeds = λ fits. absurd (still.lacked fits);
-        spare = still.spare;
-        full = still.full;
-        room = still.room;
-        capacity = still.capacity;
-        indexed = still.indexed;
-      };
+      memory = search (rules, still);
     }

@@ -1,22 +1,21 @@
-use Rattle.std.proofs.Common.{◌≡◌, ◌-◌, arith, length, subst}
+use Rattle.starlark_hash.proofs.Common.{◌≡◌, ◌-◌, arith, length}
 use Rattle.starlark_small.specs.IndexCalls.{IsNotedIn}
 use Rattle.starlark_small.proofs.NotedAtOnce.{inserts_at_once, sound_at_once}
+use Rattle.starlark_small.proofs.small_map.SmallMap.insert_hashed.Goals.{Then-note_new}
+use Rattle.starlark_small.proofs.small_map.SmallMap.insert_hashed.Given.{Over}
 use Rattle.starlark_small.proofs.small_map.SmallMap.insert_hashed.Goals as goal
+
+noted_in : (g : Over) (c : Then-note_new g) → IsNotedIn c.args.key.hash (c.self.inside.entries.capacity - length c.self.inside.entries.entries) c.self.inside.index c.note_new.new.self
+noted_in g c =
+    let spare : c.capacity.result - c.len.result ≡ c.self.inside.entries.capacity - length c.self.inside.entries.entries = omega (arith, c.capacity.ensures.capacity, c.len.ensures.len) in
+    rw (c.hash.ensures, spare) at (c.note_new.ensures.noted c.if-note_new.true)
 
 pub invariant_of-self : goal.invariant_of-self
 invariant_of-self g c =
-    let list = c.self.inside.entries in
-    let spare : c.capacity.result - c.len.result ≡ list.capacity - length list.entries = omega (arith, c.capacity.ensures.capacity, c.len.ensures.len) in
-    let noting = subst (λ h. IsNotedIn h (list.capacity - length list.entries) c.self.inside.index c.note_new.new.self) c.hash.ensures
-    (subst (λ n. IsNotedIn c.hash.result n c.self.inside.index c.note_new.new.self) spare (c.note_new.ensures.noted c.if-note_new.true)) in
-    sound_at_once g.K.PartialEq.eq g.met.K.Eq.laws list c.push_reserved.new.self c.self.inside.index c.note_new.new.self c.args.key c.args.value c.self.invariant noting c.push_reserved.ensures
+    sound_at_once g.K.PartialEq.eq g.met.K.Eq.laws c.self.inside.entries c.push_reserved.new.self c.self.inside.index c.note_new.new.self c.args.key c.args.value c.self.invariant
+    (noted_in g (goal.at.invariant_of-self g c).Then-note_new) c.push_reserved.ensures
 
 pub returns-then-note_new : goal.returns-then-note_new
 returns-then-note_new g c =
-    let list = c.self.inside.entries in
-    let spare : c.capacity.result - c.len.result ≡ list.capacity - length list.entries = omega (arith, c.capacity.ensures.capacity, c.len.ensures.len) in
-    let noting = subst (λ h. IsNotedIn h (list.capacity - length list.entries) c.self.inside.index c.note_new.new.self) c.hash.ensures
-    (subst (λ n. IsNotedIn c.hash.result n c.self.inside.index c.note_new.new.self) spare (c.note_new.ensures.noted c.if-note_new.true)) in
-    record {
-      inserts = inserts_at_once g.K.PartialEq.eq g.met.K.Eq.laws list c.push_reserved.new.self c.self.inside.index c.note_new.new.self c.args.key c.args.value c.self.invariant noting c.push_reserved.ensures c.args.self.now c.self.view_is;
-    }
+    assumption (inserts_at_once g.K.PartialEq.eq g.met.K.Eq.laws c.self.inside.entries c.push_reserved.new.self c.self.inside.index c.note_new.new.self c.args.key c.args.value c.self.invariant
+    (noted_in g (goal.at.returns-then-note_new g c).Then-note_new) c.push_reserved.ensures c.args.self.now c.self.view_is)

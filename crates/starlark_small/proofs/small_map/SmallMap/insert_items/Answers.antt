@@ -1,4 +1,4 @@
-use Rattle.std.proofs.Common.{◌≡◌, None, sym, subst, length}
+use Rattle.starlark_hash.proofs.Common.{◌≡◌, None, rules, sym, subst, length}
 use Rattle.std.proofs.iter.Next as it
 use Rattle.starlark_hash.specs.Entries.{match_of}
 use Rattle.starlark_small.specs.Collect.{own_entry}
@@ -41,13 +41,6 @@ returns-in-Err g c =
           absent = subst (λ l. match_of g.K.PartialEq.eq l (own_entry g.K.Hash.hash_input c.in-Some.pair).0 ≡ None) (sym same) c.in-Err.ensures.inserts.absent;
         };
       };
-      memory = record {
-        succeeds = λ fits. absurd (still.lacked fits);
-        spare = still.spare;
-        full = still.full;
-        room = still.room;
-        capacity = still.capacity;
-        indexed = still.indexed;
-      };
+      memory = search (rules, still);
       left = still.left;
     }

@@ -1,4 +1,4 @@
-use Rattle.std.proofs.Common.{ap, rules, subst}
+use Rattle.starlark_hash.proofs.Common.{ap, rules, subst}
 use Rattle.starlark_hash.specs.Entries.{IsSingle}
 use Rattle.starlark_small.specs.Map.{Map}
 use Rattle.starlark_small.proofs.CallerIter.{values-found, length-values}

@@ -1,11 +1,7 @@
-use Rattle.std.proofs.Common.{rules}
+use Rattle.starlark_hash.proofs.Common.{rules}
 use Rattle.starlark_small.proofs.CallerLookup.{empty-found}
 use Rattle.starlark_small.proofs.CallerOwn.{own-empty}
 use Rattle.starlark_small.proofs.small_map.SmallMap.new.Goals as goal
 
 pub returns : goal.returns
-returns g c = record {
-  empty = search rules;
-  lacks = empty-found _ (search rules);
-  own = λ feeds. own-empty feeds _ (search rules);
-}
+returns g c = search (rules, empty-found, own-empty)

@@ -1,5 +1,5 @@
 use mathlib.Core.Path.{subst⁻¹}
-use Rattle.std.proofs.Common.{rules, ◌≡◌, None, subst, sym, ap, ◌∙◌, ◌∷◌, [], ◌++◌}
+use Rattle.starlark_hash.proofs.Common.{rules, ◌≡◌, None, subst, sym, ap, ◌∙◌, ◌∷◌, [], ◌++◌}
 use Rattle.starlark_hash.specs.Entries.{match_of}
 use Rattle.starlark_hash.proofs.EntryLemmas.{IsSingle-push}
 use Rattle.starlark_vecmap.specs.EntryList.{with_entries}

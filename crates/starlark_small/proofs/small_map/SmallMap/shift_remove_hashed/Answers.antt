@@ -1,5 +1,4 @@
-use Rattle.std.proofs.Common.{rules, arith}
-use Rattle.std.proofs.lemmas.Grind.{common_steps}
+use Rattle.starlark_hash.proofs.Common.{rules, arith, common_steps}
 use Rattle.starlark_hash.specs.HashValue.{hash_of, key_of}
 use Rattle.starlark_small.proofs.CallerLookup.{finds-value}
 use Rattle.starlark_small.proofs.small_map.SmallMap.shift_remove_hashed.Goals as goal

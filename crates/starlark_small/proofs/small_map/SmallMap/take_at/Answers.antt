@@ -1,6 +1,4 @@
-use Rattle.std.proofs.Common.{subst, sym, ap, length, arith, rules}
-use Rattle.std.specs.Prelude.{remove}
-use Rattle.std.proofs.lemmas.Grind.{common_steps}
+use Rattle.starlark_hash.proofs.Common.{subst, sym, ap, length, arith, rules, remove, common_steps}
 use Rattle.starlark_hash.proofs.EntryLemmas.{IsSingle-remove}
 use Rattle.starlark_vecmap.specs.EntryList.{with_entries}
 use Rattle.starlark_small.specs.Index.{IsIndexed, IsSound}

@@ -1,10 +1,7 @@
-use Rattle.std.proofs.Common.{length, ◌≡◌, ◌∙◌, ◌-◌, ◌<◌, ap, arith, rules, subst, sym}
-use Rattle.std.specs.Prelude.{remove}
+use Rattle.starlark_hash.proofs.Common.{length, ◌≡◌, ◌∙◌, ◌-◌, ◌<◌, ap, arith, rules, subst, sym, remove, common_steps, option_map}
 use Rattle.starlark_hash.proofs.EntryLemmas.{IsSingle-remove}
 use Rattle.starlark_small.specs.Index.{IsIndexed, IsSound}
 use Rattle.starlark_small.proofs.Indexed.{IsIndexed-forgotten, last-forgotten}
-use Rattle.std.proofs.lemmas.Grind.{common_steps}
-use Rattle.std.specs.Option.{option_map}
 use Rattle.starlark_hash.specs.Entries.{pair_of}
 use Rattle.starlark_small.proofs.CallerOwn.{own-removed}
 use Rattle.starlark_small.proofs.CallerRemove.{counts-pair, last-taken, takes-out_last, takes-pair}

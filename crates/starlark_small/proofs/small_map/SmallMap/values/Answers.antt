@@ -1,4 +1,4 @@
-use Rattle.std.proofs.Common.{rules}
+use Rattle.starlark_hash.proofs.Common.{rules}
 use Rattle.starlark_small.proofs.CallerIter.{values-found, length-values}
 use Rattle.starlark_small.proofs.small_map.SmallMap.values.Goals as goal
 

@@ -1,6 +1,4 @@
-use Rattle.std.proofs.Common.{◌≡◌, ◌∙◌, ap, arith, is_some, length, subst, sym}
-use Rattle.std.specs.Prelude.{reverse}
-use Rattle.std.proofs.lemmas.List.{length-reverse}
+use Rattle.starlark_hash.proofs.Common.{◌≡◌, ◌∙◌, ap, arith, is_some, length, subst, sym, reverse, length-reverse}
 use Rattle.starlark_small.specs.Hashes.{reversed}
 use Rattle.starlark_small.specs.Index.{IsIndexed, index_room}
 use Rattle.starlark_small.proofs.Indexed.{IsIndexed-reversed, cleared-room, follows-refilled, is_some-map, room-reversed}
@@ -20,13 +18,10 @@ returns-then-is_dense-clause-follows g c =
 
 pub returns-clause-follows : goal.returns-clause-follows
 returns-clause-follows g c =
-    let es = c.args.entries.now.entries in
-    let size : length c.reverse-2.new.self.entries ≡ length es = ap (λ l. length l.entries) c.reverse-2.ensures ∙ length-reverse es in
-    let now = follows-refilled c.args.entries.now c.reverse-2.new.self c.args.index.now c.clear.new.self c.note_all.new.self (omega (arith, size)) c.requires c.clear.ensures c.note_all.ensures in
-    record { indexed = now.0; room = now.1; kept = now.2 }
+    let size = ap (λ l. length l.entries) c.reverse-2.ensures in
+    assumption (follows-refilled c.args.entries.now c.reverse-2.new.self c.args.index.now c.clear.new.self c.note_all.new.self (omega (arith, size, length-reverse c.args.entries.now.entries)) c.requires c.clear.ensures c.note_all.ensures)
 
 pub note_all-requires : goal.note_all-requires
 note_all-requires g c =
-    let es = c.args.entries.now.entries in
-    let size : length c.reverse-2.new.self.entries ≡ length es = ap (λ l. length l.entries) c.reverse-2.ensures ∙ length-reverse es in
-    cleared-room es (length c.reverse-2.new.self.entries) c.args.index.now c.clear.new.self (omega (arith, size)) c.requires c.clear.ensures
+    let size = ap (λ l. length l.entries) c.reverse-2.ensures in
+    cleared-room c.args.entries.now.entries _ c.args.index.now c.clear.new.self (omega (arith, size, length-reverse c.args.entries.now.entries)) c.requires c.clear.ensures

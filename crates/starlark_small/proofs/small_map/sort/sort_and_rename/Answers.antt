@@ -1,5 +1,4 @@
-use Rattle.std.proofs.Common.{ap, subst, sym, ◌∙◌, length, arith}
-use Rattle.std.proofs.lemmas.List.Sorted.{length_permutation}
+use Rattle.starlark_hash.proofs.Common.{ap, subst, sym, ◌∙◌, length, arith, length_permutation}
 use Rattle.starlark_hash.specs.Sort.{key_lt, sorted_by_key}
 use Rattle.starlark_hash.proofs.SortingLemmas.{IsPermutation-sorted_by}
 use Rattle.starlark_vec2.specs.Sort.{Moves}

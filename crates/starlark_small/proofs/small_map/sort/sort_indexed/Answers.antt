@@ -1,5 +1,4 @@
-use Rattle.std.proofs.Common.{ap, ◌∙◌, length, arith}
-use Rattle.std.proofs.lemmas.List.Sorted.{length_permutation}
+use Rattle.starlark_hash.proofs.Common.{ap, ◌∙◌, length, arith, length_permutation}
 use Rattle.starlark_hash.specs.Sort.{key_lt, sorted_by_key}
 use Rattle.starlark_hash.proofs.SortingLemmas.{IsPermutation-sorted_by}
 use Rattle.starlark_small.proofs.Indexed.{cleared-room, follows-refilled}

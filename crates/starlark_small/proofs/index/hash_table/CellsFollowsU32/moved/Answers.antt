@@ -1,5 +1,4 @@
-use Rattle.std.proofs.Common.{Some, None, arith}
-use Rattle.std.proofs.Math.ListN.{set}
+use Rattle.starlark_hash.proofs.Common.{Some, None, arith, set}
 use Rattle.std.proofs.lemmas.List.{length-set}
 use Rattle.starlark_small.proofs.Slots.{moved-within, sited-moved}
 use Rattle.starlark_small.proofs.index.hash_table.CellsFollowsU32.moved.Goals as goal

@@ -1,4 +1,4 @@
-use Rattle.std.proofs.Common.{arith, vec_capacity}
+use Rattle.starlark_hash.proofs.Common.{arith, vec_capacity}
 use Rattle.starlark_small.proofs.Kept.{keeps-none}
 use Rattle.starlark_small.proofs.index.hash_table.HashTable.clear.Goals as goal
 

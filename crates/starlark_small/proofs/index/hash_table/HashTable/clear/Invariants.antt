@@ -1,4 +1,4 @@
-use Rattle.std.proofs.Common.{◌≡◌, ◌+◌, length}
+use Rattle.starlark_hash.proofs.Common.{◌≡◌, ◌+◌, length}
 use Rattle.starlark_small.proofs.index.hash_table.HashTable.clear.Given as goal
 
 abbrev pub invariant-loop-i : goal.invariant-loop-i

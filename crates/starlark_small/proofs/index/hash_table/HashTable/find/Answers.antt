@@ -1,6 +1,4 @@
-use Rattle.std.proofs.Common.{◌∙◌, ap, map, refl, rules, subst, sym, IsPermutation}
-use Rattle.std.specs.Prelude.{⊤}
-use Rattle.std.specs.Option.{option_and_then, option_map}
+use Rattle.starlark_hash.proofs.Common.{◌∙◌, ap, map, refl, rules, subst, sym, IsPermutation, ⊤, option_and_then, option_map}
 use Rattle.starlark_hash.specs.Search.{CanSearch, Searches}
 use Rattle.starlark_table.specs.Table.{item_in, items_under}
 use Rattle.starlark_table.proofs.TableLemmas.{member_at-items_under}

@@ -1,5 +1,4 @@
-use Rattle.std.proofs.Common.{◌+◌, ◌<◌, ◌∙◌, ap, arith, length, subst, sym, vec_capacity}
-use Rattle.std.specs.Prelude.{remove}
+use Rattle.starlark_hash.proofs.Common.{◌+◌, ◌<◌, ◌∙◌, ap, arith, length, subst, sym, vec_capacity, remove}
 use Rattle.starlark_small.specs.Hashes.{forgotten}
 use Rattle.starlark_small.specs.Slots.{hashes_in}
 use Rattle.starlark_small.proofs.Kept.{Keeps, keeps-forgotten, length-hashes_in, seen, stands-but}

@@ -1,5 +1,5 @@
-use Rattle.std.proofs.Common.{◌≡◌, ◌+◌, ◌-◌, ◌∙◌, ap, arith, length, subst, sym, vec_capacity, vec_len}
-use Rattle.std.specs.Prelude.{remove, take}
+use Rattle.starlark_hash.proofs.Common.{◌≡◌, ◌+◌, ◌-◌, ◌∙◌, ap, arith, length, subst, sym, vec_capacity, remove, take}
+use Rattle.std.proofs.Common.{vec_len}
 use Rattle.starlark_small.specs.Hashes.{forgotten}
 use Rattle.starlark_small.specs.Slots.{hashes_in}
 use Rattle.starlark_small.proofs.Kept.{Keeps, keeps-forgotten_last, length-hashes_in, seen, view_of}
@@ -18,8 +18,7 @@ kept c =
     let after = c.take_index.new.cells.0 in
     let last = c.len-last.result - 1 in
     let space = vec_capacity c.pop.new.self in
-    let some = length-hashes_in c.self.inside.table.slots cells.items in
-    let end : last + 1 ≡ length cells.items = omega (arith, c.requires, ap (λ h. length h.list) c.self.view_is, some, c.len-last.ensures, cells.ok.0) in
+    let end : last + 1 ≡ length cells.items = omega (arith, c.requires, ap (λ h. length h.list) c.self.view_is, length-hashes_in c.self.inside.table.slots cells.items, c.len-last.ensures, cells.ok.0) in
     let same : last ≡ vec_len after - 1 = omega (arith, end, took.cells.even, after.ok.0) in
     subst (λ l. Keeps (remove (hashes_in c.self.inside.table.slots cells.items) last) (c.self.inside.table.room + 1) c.take_index.new.table l space) (ap (λ n. take n after.items) same ∙ sym c.pop.ensures.rest)
     (keeps-forgotten_last c.self.inside.table cells.items (vec_capacity cells) c.self.invariant last (omega (arith, end)) c.take_index.new.table after.items took.cells.even took.cells.sited took.taken took.slots took.room

@@ -1,37 +1,33 @@
-use Rattle.std.proofs.Common.{◌≡◌, ◌<◌, ◌++◌, ◌∙◌, ℕ, [], ap, append-nil, arith, length, rules, subst, sym, vec_capacity, IsPermutation}
-use Rattle.std.specs.List.{All}
-use Rattle.std.proofs.lemmas.List.Sorted.{length_permutation}
-use Rattle.starlark_table.specs.Table.{Table, members, table_capacity}
+use Rattle.starlark_hash.proofs.Common.{◌<◌, ◌∙◌, ap, append-nil, arith, length, rules, subst, sym, vec_capacity, IsPermutation, All, length_permutation}
+use Rattle.starlark_table.specs.Table.{members, table_capacity}
 use Rattle.starlark_small.specs.Slots.{hashes_in}
 use Rattle.starlark_small.proofs.Kept.{Keeps, grown-below, grown-once, keeps-grown, length-hashes_in}
+use Rattle.starlark_small.proofs.index.hash_table.HashTable.grow.Goals.{After-take_members}
 use Rattle.starlark_small.proofs.index.hash_table.HashTable.grow.Goals as goal
 
 -- what the empty table took in
-moved : (old small x y new : Table ℕ) → x ≡ small → y ≡ old → members small ≡ [] → IsPermutation (members y ++ members x) (members new) → IsPermutation (members old) (members new)
-moved old small x y new is_small is_old empty added =
-    subst (λ l. IsPermutation l (members new)) (ap (λ t. members t ++ members x) is_old ∙ ap (λ l. members old ++ l) (ap members is_small ∙ empty) ∙ append-nil (members old)) added
+moved : (c : After-take_members) → IsPermutation (members c.self.inside.table) (members c.take_members.new.self)
+moved c = rw (c.swap.ensures.x_after, c.swap.ensures.y_after, c.in_ok-old.ensures.empty, append-nil) at c.take_members.ensures.added
 
 pub name_slots-requires-clause-below : goal.name_slots-requires-clause-below
 name_slots-requires-clause-below c =
     let cells = c.self.inside.cells.0 in
     subst (λ l. All (λ m. m.1 < length l) (members c.take_members.new.self)) (sym c.in_ok-reserve_exact.ensures.items) (grown-below c.self.inside.table cells.items (vec_capacity cells) c.self.invariant c.take_members.new.self
-    (moved c.self.inside.table c.in_ok-old.old c.swap.new.x c.swap.new.y c.take_members.new.self c.swap.ensures.x_after c.swap.ensures.y_after c.in_ok-old.ensures.empty c.take_members.ensures.added))
+    (moved (goal.at.name_slots-requires-clause-below c).After-take_members))
 
 pub name_slots-requires-clause-once : goal.name_slots-requires-clause-once
 name_slots-requires-clause-once c =
     let cells = c.self.inside.cells.0 in
-    grown-once c.self.inside.table cells.items (vec_capacity cells) c.self.invariant c.take_members.new.self
-    (moved c.self.inside.table c.in_ok-old.old c.swap.new.x c.swap.new.y c.take_members.new.self c.swap.ensures.x_after c.swap.ensures.y_after c.in_ok-old.ensures.empty c.take_members.ensures.added)
+    grown-once c.self.inside.table cells.items (vec_capacity cells) c.self.invariant c.take_members.new.self (moved (goal.at.name_slots-requires-clause-once c).After-take_members)
 
 kept : (c : goal.After-name_slots) → Keeps (hashes_in c.self.inside.table.slots c.self.inside.cells.0.items) c.take_members.new.self.room c.take_members.new.self c.name_slots.new.cells.items (vec_capacity c.name_slots.new.cells)
 kept c =
     let cells = c.self.inside.cells.0 in
-    let small = c.in_ok-old.old in
     let new = c.take_members.new.self in
     let none = ap length c.in_ok-old.ensures.empty in
-    let room : table_capacity new ≡ table_capacity small = c.take_members.ensures.room ∙ ap table_capacity c.swap.ensures.x_after in
-    let slots : length new.slots ≡ length small.slots = c.take_members.ensures.slots ∙ ap (λ t. length t.slots) c.swap.ensures.x_after in
-    keeps-grown c.self.inside.table cells.items (vec_capacity cells) c.self.invariant new (moved c.self.inside.table c.in_ok-old.old c.swap.new.x c.swap.new.y c.take_members.new.self c.swap.ensures.x_after c.swap.ensures.y_after c.in_ok-old.ensures.empty c.take_members.ensures.added)
+    let room = c.take_members.ensures.room ∙ ap table_capacity c.swap.ensures.x_after in
+    let slots = c.take_members.ensures.slots ∙ ap (λ t. length t.slots) c.swap.ensures.x_after in
+    keeps-grown c.self.inside.table cells.items (vec_capacity cells) c.self.invariant new (moved (goal.at.returns c).After-take_members)
     c.name_slots.new.cells.items (vec_capacity c.name_slots.new.cells) c.name_slots.ensures.sited (c.name_slots.ensures.even ∙ ap length c.in_ok-reserve_exact.ensures.items)
     (omega (arith, room, none, c.name_slots.ensures.spare, c.in_ok-reserve_exact.ensures.ok, c.in_ok-reserve_exact.ensures.len, c.room.ensures, c.len.ensures)) (omega (arith, slots, c.in_ok-old.ensures.slots, c.requires.few))
     (omega (arith, room, none, c.in_ok-old.ensures.most, c.requires.few))
@@ -41,10 +37,8 @@ invariant_of-self-2 c = (kept c).keeps
 
 pub returns : goal.returns
 returns c =
-    let small = c.in_ok-old.old in
-    let new = c.take_members.new.self in
-    let count = length_permutation _ _ (moved c.self.inside.table c.in_ok-old.old c.swap.new.x c.swap.new.y c.take_members.new.self c.swap.ensures.x_after c.swap.ensures.y_after c.in_ok-old.ensures.empty c.take_members.ensures.added) in
-    let room : table_capacity new ≡ table_capacity small = c.take_members.ensures.room ∙ ap table_capacity c.swap.ensures.x_after in
+    let count = length_permutation _ _ (moved (goal.at.returns c).After-take_members) in
+    let room = c.take_members.ensures.room ∙ ap table_capacity c.swap.ensures.x_after in
     record {
       made = omega (arith, room, ap length c.in_ok-old.ensures.empty, count, c.in_ok-old.ensures.room, c.self.invariant.even, length-hashes_in c.self.inside.table.slots c.self.inside.cells.0.items, ap (λ h. length h.list) c.self.view_is);
       list = (kept c).list ∙ ap (λ h. h.list) c.self.view_is;

@@ -1,4 +1,4 @@
-use Rattle.std.proofs.Common.{arith, ap, length}
+use Rattle.starlark_hash.proofs.Common.{arith, ap, length}
 use Rattle.starlark_small.proofs.Kept.{length-hashes_in}
 use Rattle.starlark_small.proofs.index.hash_table.HashTable.len.Goals as goal
 

@@ -1,6 +1,4 @@
-use Rattle.std.proofs.Common.{◌≢◌, ◌++◌, ◌∷◌, [], ◌-◌, ◌∙◌, ap, arith, subst, sym, vec_capacity}
-use Rattle.std.specs.List.{All}
-use Rattle.std.proofs.lemmas.Bool.{false≢true}
+use Rattle.starlark_hash.proofs.Common.{◌≢◌, ◌++◌, ◌∷◌, [], ◌-◌, ◌∙◌, ap, arith, subst, sym, vec_capacity, All, false≢true}
 use Rattle.starlark_small.specs.Hashes.{hash_under, noted}
 use Rattle.starlark_small.specs.Slots.{hashes_in}
 use Rattle.starlark_small.proofs.Kept.{Keeps, keeps-noted, seen}

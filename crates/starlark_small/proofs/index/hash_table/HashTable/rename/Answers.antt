@@ -1,8 +1,7 @@
-use Rattle.std.proofs.Common.{◌<◌, arith, subst, sym, vec_capacity}
-use Rattle.std.specs.List.{All}
+use Rattle.starlark_hash.proofs.Common.{common_steps, ◌<◌, ℕ, List, arith, subst, sym, vec_capacity, All}
 use Rattle.starlark_table.specs.Table.{members}
 use Rattle.starlark_vec2.specs.Sort.{Moves}
-use Rattle.starlark_small.proofs.Kept.{indices-below, keeps-moved, moved-below, moved-once, moved-to}
+use Rattle.starlark_small.proofs.Kept.{Keeps, indices-below, keeps-moved, moved-below, moved-once, moved-to}
 use Rattle.starlark_small.proofs.index.hash_table.HashTable.rename.Goals as goal
 
 pub rename_each-requires : goal.rename_each-requires
@@ -12,30 +11,26 @@ rename_each-requires c =
     subst (λ n. All (λ m. m.1 < n) (members c.self.inside.table)) (sym (moved-to c.self.inside.table cells.items (vec_capacity cells) c.self.invariant c.args.to.now c.requires.0 moves))
     (indices-below c.self.inside.table cells.items (vec_capacity cells) c.self.invariant)
 
-pub name_slots-requires-clause-below : goal.name_slots-requires-clause-below
-name_slots-requires-clause-below c =
+pub name_slots-requires : goal.name_slots-requires
+name_slots-requires c =
     let cells = c.self.inside.cells.0 in
     let moves = subst (λ h. Moves h.list c.args.to.now c.requires.0) (sym c.self.view_is) c.requires.1 in
-    moved-below c.self.inside.table cells.items (vec_capacity cells) c.self.invariant c.args.to.now c.requires.0 moves c.rename_each.new.table c.rename_each.ensures
+    record {
+      below = moved-below c.self.inside.table cells.items (vec_capacity cells) c.self.invariant c.args.to.now c.requires.0 moves c.rename_each.new.table c.rename_each.ensures;
+      once = moved-once c.self.inside.table cells.items (vec_capacity cells) c.self.invariant c.args.to.now c.requires.0 moves c.rename_each.new.table c.rename_each.ensures;
+      few = grind (arith, common_steps);
+    }
 
-pub name_slots-requires-clause-once : goal.name_slots-requires-clause-once
-name_slots-requires-clause-once c =
-    let cells = c.self.inside.cells.0 in
-    let moves = subst (λ h. Moves h.list c.args.to.now c.requires.0) (sym c.self.view_is) c.requires.1 in
-    moved-once c.self.inside.table cells.items (vec_capacity cells) c.self.invariant c.args.to.now c.requires.0 moves c.rename_each.new.table c.rename_each.ensures
-
-pub invariant_of-self : goal.invariant_of-self
-invariant_of-self c =
-    let cells = c.self.inside.cells.0 in
-    let moves = subst (λ h. Moves h.list c.args.to.now c.requires.0) (sym c.self.view_is) c.requires.1 in
-    let named = c.name_slots.ensures in
-    (keeps-moved c.self.inside.table cells.items (vec_capacity cells) c.self.invariant c.args.to.now c.requires.0 moves c.rename_each.new.table c.rename_each.ensures c.name_slots.new.cells.items (vec_capacity c.name_slots.new.cells)
-    named.sited named.even (omega (arith, named.spare))).keeps
-
-pub returns-clause-list : goal.returns-clause-list
-returns-clause-list c list moved =
+kept : (c : goal.After-name_slots) (list : List ℕ) → Moves c.args.self.now.list c.args.to.now list → Keeps list c.self.inside.table.room c.rename_each.new.table c.name_slots.new.cells.items (vec_capacity c.name_slots.new.cells)
+kept c list moved =
     let cells = c.self.inside.cells.0 in
     let moves = subst (λ h. Moves h.list c.args.to.now list) (sym c.self.view_is) moved in
     let named = c.name_slots.ensures in
-    (keeps-moved c.self.inside.table cells.items (vec_capacity cells) c.self.invariant c.args.to.now list moves c.rename_each.new.table c.rename_each.ensures c.name_slots.new.cells.items (vec_capacity c.name_slots.new.cells)
-    named.sited named.even (omega (arith, named.spare))).list
+    keeps-moved c.self.inside.table cells.items (vec_capacity cells) c.self.invariant c.args.to.now list moves c.rename_each.new.table c.rename_each.ensures c.name_slots.new.cells.items (vec_capacity c.name_slots.new.cells)
+    named.sited named.even (omega (arith, named.spare))
+
+pub invariant_of-self : goal.invariant_of-self
+invariant_of-self c = (kept c _ c.requires.1).keeps
+
+pub returns-clause-list : goal.returns-clause-list
+returns-clause-list c list moved = (kept c list moved).list

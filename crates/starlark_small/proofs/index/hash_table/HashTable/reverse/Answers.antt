@@ -1,6 +1,4 @@
-use Rattle.std.proofs.Common.{◌≡◌, ◌<◌, ◌∙◌, ap, arith, length, subst, sym, vec_capacity}
-use Rattle.std.specs.Prelude.{reverse}
-use Rattle.std.specs.List.{All}
+use Rattle.starlark_hash.proofs.Common.{◌≡◌, ◌<◌, ◌∙◌, ap, arith, length, subst, sym, vec_capacity, reverse, All}
 use Rattle.starlark_small.specs.Hashes.{reversed}
 use Rattle.starlark_small.specs.Slots.{hashes_in}
 use Rattle.starlark_table.specs.Table.{members}

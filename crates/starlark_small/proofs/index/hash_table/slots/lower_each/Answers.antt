@@ -1,4 +1,4 @@
-use Rattle.std.proofs.Common.{◌-◌, ◌<◌, refl, sym, ap, subst, ◌∙◌, arith, IsSome, length}
+use Rattle.starlark_hash.proofs.Common.{◌-◌, ◌<◌, refl, sym, ap, subst, ◌∙◌, arith, IsSome, length}
 use Rattle.std.proofs.lemmas.Grind.{get_or_default_zero}
 use Rattle.starlark_table.specs.Table.{member_at, with_item}
 use Rattle.starlark_small.proofs.Slots.{lowered-none, lowered-next, lowered-all, next-there}
@@ -26,13 +26,11 @@ loop-j-preserved c =
     let it = c.requires.stands.there j lt (λ same. omega (arith, same, c.loop-j.auto.j)) in
     let slot = c.index.ensures ∙ get_or_default_zero cells j c.index.result.now lt in
     let is = c.write_index.ensures ∙ ap (λ s. with_item old s (j - 1)) slot in
-    record {
-      slots = ap (λ t. t.slots) is ∙ lowered-next c.args.index cells c.args.table.now c.requires.sited j it.0 (omega (arith, c.loop-j.auto.j)) old it.1 c.loop-j.invariant.slots;
-      room = ap (λ t. t.room) is ∙ c.loop-j.invariant.room;
-    }
+    assumption (
+      ap (λ t. t.slots) is ∙ lowered-next c.args.index cells c.args.table.now c.requires.sited j it.0 (omega (arith, c.loop-j.auto.j)) old it.1 c.loop-j.invariant.slots,
+      ap (λ t. t.room) is ∙ c.loop-j.invariant.room,
+    )
 
 pub returns : goal.returns
-returns c = record {
-  slots = c.loop-j.invariant.slots ∙ lowered-all c.args.index c.args.cells.now.items c.args.table.now c.requires.sited c.loop-j.j (omega (arith, c.loop-j-test.false, c.len-j-end.ensures, c.args.cells.now.ok.0));
-  room = c.loop-j.invariant.room;
-}
+returns c =
+    assumption (c.loop-j.invariant.slots ∙ lowered-all c.args.index c.args.cells.now.items c.args.table.now c.requires.sited c.loop-j.j (omega (arith, c.loop-j-test.false, c.len-j-end.ensures, c.args.cells.now.ok.0)))

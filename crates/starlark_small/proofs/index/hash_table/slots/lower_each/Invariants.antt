@@ -1,4 +1,4 @@
-use Rattle.std.proofs.Common.{◌≡◌}
+use Rattle.starlark_hash.proofs.Common.{◌≡◌}
 use Rattle.starlark_small.specs.Slots.{renamed}
 use Rattle.starlark_small.proofs.Slots.{lowered_to}
 use Rattle.starlark_small.proofs.index.hash_table.slots.lower_each.Given as goal

@@ -1,12 +1,9 @@
-use Rattle.std.proofs.Common.{◌≡◌, ◌+◌, ◌<◌, None, length, get_or, refl, sym, ap, subst, ◌∙◌, arith, vec_capacity}
-use Rattle.std.specs.List.{All}
-use Rattle.std.proofs.Math.ListN.{set}
+use Rattle.starlark_hash.proofs.Common.{◌+◌, ◌<◌, None, length, get_or, refl, sym, subst, ◌∙◌, arith, All, All-contains}
 use Rattle.std.proofs.lemmas.List.{get_or_past, length-set}
-use Rattle.std.proofs.lemmas.List.Elements.{All-contains}
 use Rattle.starlark_table.specs.Table.{members}
 use Rattle.starlark_table.proofs.Closing.{full_not_empty}
 use Rattle.starlark_table.proofs.TableLemmas.{members-member_at}
-use Rattle.starlark_small.proofs.Slots.{AreNamed, named-none, named-next, named-on, named-pass, sited-named, item-of, none-of}
+use Rattle.starlark_small.proofs.Slots.{named-none, named-next, named-on, named-pass, sited-named, item-of, none-of}
 use Rattle.starlark_small.proofs.index.hash_table.slots.name_slots.Goals as goal
 use Rattle.starlark_small.proofs.index.hash_table.slots.name_slots.Goals.{in-Some-get, in_default-get}
 
@@ -39,27 +36,14 @@ slots-preserved c =
           (members-member_at c.args.table.now i (it.0, w.in-Some-get.index.now) it.1) in
           let old = c.slots.cells.items in
           let x = w.in-Some-get.index.now in
-          let items : c.match-get.cells.items ≡ set old x i = ap (λ v. v.items) w.cells-is in
-          record {
-            named = subst (λ l. AreNamed (i + 1) l slots) (sym items) (named-next i old slots it.0 x c.requires.once (omega (arith, below, k.even)) it.1 passed);
-            even = ap length items ∙ length-set old x i ∙ k.even;
-            spare = ap vec_capacity w.cells-is ∙ k.spare;
-          }
-      | in_default-get w ↦ record {
-        named = subst (λ v. AreNamed (i + 1) v.items slots) (sym w.cells-is) (named-pass i c.slots.cells.items slots (none-of (get_or slots i None) w.in_default-get.ensures) passed);
-        even = ap (λ v. length v.items) w.cells-is ∙ k.even;
-        spare = ap vec_capacity w.cells-is ∙ k.spare;
-      }
+          rw w.cells-is (assumption (named-next i old slots it.0 x c.requires.once (omega (arith, below, k.even)) it.1 passed, length-set old x i ∙ k.even))
+      | in_default-get w ↦ rw w.cells-is (record { named = named-pass i c.slots.cells.items slots (none-of (get_or slots i None) w.in_default-get.ensures) passed; even = k.even; spare = k.spare })
     ]
 
 pub returns : goal.returns
 returns c =
     let slots = c.args.table.now.slots in
     let cells = c.slots.cells.items in
-    record {
-      sited = sited-named (c.slots.from + length slots) cells c.args.table.now (omega arith)
-          (subst (λ n. All (λ m. m.1 < n) (members c.args.table.now)) (sym c.slots.invariant.even) c.requires.below)
-          (named-on c.slots.from (c.slots.from + length slots) cells slots (λ p low high. c.in_default.ensures.none p low) c.slots.invariant.named);
-      even = c.slots.invariant.even;
-      spare = c.slots.invariant.spare;
-    }
+    assumption (sited-named (c.slots.from + length slots) cells c.args.table.now (omega arith)
+    (subst (λ n. All (λ m. m.1 < n) (members c.args.table.now)) (sym c.slots.invariant.even) c.requires.below)
+    (named-on c.slots.from (c.slots.from + length slots) cells slots (λ p low high. c.in_default.ensures.none p low) c.slots.invariant.named))

@@ -1,4 +1,4 @@
-use Rattle.std.proofs.Common.{◌≡◌, ◌-◌, length, vec_capacity}
+use Rattle.starlark_hash.proofs.Common.{◌≡◌, ◌-◌, length, vec_capacity}
 use Rattle.starlark_small.proofs.Slots.{AreNamed}
 use Rattle.starlark_small.proofs.index.hash_table.slots.name_slots.Given as goal
 

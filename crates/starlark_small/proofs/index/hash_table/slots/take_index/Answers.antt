@@ -1,5 +1,4 @@
-use Rattle.std.proofs.Common.{◌≡◌, None, ◌∷◌, get_or, ap, subst, ◌∙◌, arith, IsPermutation}
-use Rattle.std.specs.Prelude.{IfSome}
+use Rattle.starlark_hash.proofs.Common.{◌≡◌, None, ◌∷◌, get_or, ap, subst, ◌∙◌, arith, IsPermutation, IfSome, common_steps}
 use Rattle.std.proofs.lemmas.Grind.{get_or_default_zero}
 use Rattle.std.proofs.lemmas.List.{length-set}
 use Rattle.starlark_table.specs.Table.{members, member_at}
@@ -22,9 +21,5 @@ returns c =
           subst (λ o. IfSome o (λ m. IsPermutation (members old) (m ∷ members c.remove_followed.new.self))) (c.remove_followed.ensures.found ∙ at) c.remove_followed.ensures.rest;
       slots = c.remove_followed.ensures.slots;
       room = c.remove_followed.ensures.room;
-      cells = record {
-        sited = c.remove_followed.ensures.known.0;
-        even = ap (λ s. s.0) c.remove_followed.ensures.size;
-        spare = ap (λ s. s.1) c.remove_followed.ensures.size;
-      };
+      cells = grind (arith, common_steps);
     }

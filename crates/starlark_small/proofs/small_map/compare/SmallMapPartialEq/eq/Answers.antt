@@ -1,4 +1,4 @@
-use Rattle.std.proofs.Common.{◌≡◌, true, false, length, get_or, slice_get, None, Some, refl, sym, ap, subst, ◌∙◌, arith}
+use Rattle.starlark_hash.proofs.Common.{◌≡◌, true, false, length, get_or, slice_get, None, Some, refl, sym, ap, subst, ◌∙◌, arith}
 use Rattle.std_collections.specs.Map.{keys_of}
 use borrow.Author.Count.{below_more}
 use Rattle.starlark_hash.specs.declared.hashed.Hashed.{Hashed}

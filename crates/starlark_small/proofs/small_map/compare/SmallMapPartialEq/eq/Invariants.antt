@@ -1,4 +1,4 @@
-use Rattle.std.proofs.Common.{◌≡◌, ℕ, ◌<◌, true, get_or}
+use Rattle.starlark_hash.proofs.Common.{◌≡◌, ℕ, ◌<◌, true, get_or}
 use Rattle.std_collections.specs.Map.{keys_of}
 use Rattle.starlark_hash.specs.declared.hashed.Hashed.{Hashed}
 use Rattle.starlark_small.specs.Compare.{agree_at}

@@ -1,5 +1,4 @@
-use Rattle.std.proofs.Common.{ap}
-use Rattle.std.proofs.lemmas.Option.{get_or_from_slice_get}
+use Rattle.starlark_hash.proofs.Common.{ap, get_or_from_slice_get}
 use Rattle.starlark_small.proofs.index.find.fn.find_in.find.Goals as goal
 
 pub returns : goal.returns
