@@ -1,18 +1,14 @@
 -- The runs of an iterator that gives each item beside `()` are runs of the one inside.
-use Rattle.std.proofs.Common.{◌≡◌, Bool, true, false, List, [], ◌∷◌, ◌++◌, map, Option, Result, Ok, Err, OnOk, is_some, refl, sym, ap, subst, ◌∙◌}
-use Rattle.std.specs.Prelude.{◌||◌}
-use Rattle.std.specs.Cmp.{IsEquivalence}
-use Rattle.std.specs.Hash.{HashWrites}
-use Rattle.std.specs.Iterator.{Count, Drains, Yields}
-use Rattle.std.specs.Map.{keys_of}
-use Rattle.std.specs.Set.{is_member}
-use Rattle.std.proofs.lemmas.Map.Made.{is_some-update_all}
+use Rattle.starlark_hash.proofs.Common.{◌≡◌, Bool, true, false, List, [], ◌∷◌, ◌++◌, map, Option, Result, Ok, Err, OnOk, is_some, refl, sym, ap, subst, ◌∙◌, ◌||◌, IsEquivalence, HashWrites, Drains, Yields, is_member, map-append, map-id, is_some-update_all}
+use Rattle.std.specs.Iterator.{Count}
+use Rattle.std.proofs.lemmas.Simd.{map-map}
 use Rattle.starlark_hash.specs.Hasher.{own_hash}
 use Rattle.starlark_hash.specs.declared.hashed.Hashed.{Hashed}
 use Rattle.starlark_hash.specs.Entries.{Entry}
 use Rattle.starlark_hash.specs.Lookup.{found}
 use Rattle.starlark_small.specs.Lookup.{AreOwn, AreOwnEntries, contains}
-use Rattle.starlark_small.specs.Collect.{Collects, Extends, InsertsItems, insert_all, own_entry}
+use Rattle.starlark_small.specs.Collect.{Collects, Extends, InsertsItems, IsExtended, insert_all, own_entry}
+use Rattle.starlark_small.specs.Map.{Map}
 use Rattle.starlark_small.proofs.CallerCollect.{looked_all, run_of}
 use Rattle.starlark_small.proofs.CallerOwn.{own-inserted_entries}
 use Rattle.starlark_small.proofs.CallerLookup.{empty-found as none_found}
@@ -30,8 +26,7 @@ module _ {S A : Type 0} (steps : S → Option A → S → Type 0) where
   yields_alone s t (x ∷ xs) (j, step, rest) = (j, step, yields_alone j t xs rest)
 
   yields_last : (s t : S) (xs : List (A × Unit {0})) (x : A × Unit {0}) → Yields (StepsBeside steps) s (xs ++ x ∷ []) t → Yields steps s (alone xs ++ x.0 ∷ []) t
-  yields_last s t [] x (j, step, rest) = (j, step, rest)
-  yields_last s t (y ∷ ys) x (j, step, rest) = (j, step, yields_last j t ys x rest)
+  yields_last s t xs x gave = let all = yields_alone s t (xs ++ x ∷ []) gave in rw map-append at all
 
   drains_alone : (s : S) (xs : List (A × Unit {0})) → Drains (StepsBeside steps) s xs → Drains steps s (alone xs)
   drains_alone s xs (u, (t, gave, end)) = (u, (t, yields_alone s t xs gave, end))
@@ -41,8 +36,7 @@ module _ {S A : Type 0} (steps : S → Option A → S → Type 0) where
     beside p = ((entry p.0).0, p.1)
 
     entries_alone : (xs : List (A × Unit {0})) → map beside xs ≡ map entry (alone xs)
-    entries_alone [] = refl
-    entries_alone (x ∷ xs) = ap (λ es. entry x.0 ∷ es) (entries_alone xs)
+    entries_alone xs = sym (map-map entry (λ p. p.0) xs)
 
     pub inserts_alone : {E : Type 0} (it : S) (old new : Elements T) (r : Result (Unit {0}) E)
         → InsertsItems eq beside (StepsBeside steps) it old new r → InsertsItems eq entry steps it old new r
@@ -72,26 +66,22 @@ module _ {S A : Type 0} (steps : S → Option A → S → Type 0) where
         → becomes iter it → Extends eq beside (StepsBeside steps) (λ s t. t ≡ s) it old new r → Extends eq entry steps becomes iter old new r
     extends_alone becomes iter it old new r made put = record { it = put.it; made = subst (becomes iter) (sym put.made) made; inserts = inserts_alone put.it old new r put.inserts }
 
+-- what follows where the items fit follows from what says that they do
+pub extended_where : {K V A E : Type 0} (fits said : Type 0) (old new : Map K V) (r : Result A E) → (said → fits) → IsExtended fits old new r → IsExtended said old new r
+extended_where fits said old new r on is = assumption (λ (s : said). is.succeeds (on s), λ (s : said). is.spare (on s))
+
 -- what a set has once an iterator's items went in
 module _ {T : Type 0} (eq : T → T → Bool) (laws : IsEquivalence eq) (feeds : T → HashWrites) (alike : (x y : T) → eq x y ≡ true → feeds x ≡ feeds y) where
   abbrev paired : T → T × Unit {0}
   paired x = (x, tt)
 
-  keys_paired : (xs : List T) → keys_of (map paired xs) ≡ xs
-  keys_paired [] = refl
-  keys_paired (x ∷ xs) = ap (λ l. x ∷ l) (keys_paired xs)
-
-  entries_paired : (xs : List T) → map (own_element feeds) xs ≡ map (own_entry feeds) (map paired xs)
-  entries_paired [] = refl
-  entries_paired (x ∷ xs) = ap (λ l. own_element feeds x ∷ l) (entries_paired xs)
-
   has_all : (xs : List T) (es : Elements T) (element : T)
       → is_some (found (eq element) (own_hash feeds element) (insert_all eq es (map (own_element feeds) xs))) ≡ (is_some (found (eq element) (own_hash feeds element) es) || is_member eq xs element)
   has_all xs es element =
-      ap (λ l. is_some (found (eq element) (own_hash feeds element) (insert_all eq es l))) (entries_paired xs)
+      ap (λ l. is_some (found (eq element) (own_hash feeds element) (insert_all eq es l))) (sym (map-map (own_entry feeds) paired xs))
       ∙ ap is_some (looked_all eq laws feeds alike (map paired xs) es element)
       ∙ is_some-update_all laws element (λ k. found (eq k) (own_hash feeds k) es) (map paired xs)
-      ∙ ap (λ l. is_some (found (eq element) (own_hash feeds element) es) || is_member eq l element) (keys_paired xs)
+      ∙ ap (λ l. is_some (found (eq element) (own_hash feeds element) es) || is_member eq l element) (map-map (λ (p : T × Unit {0}). p.0) paired xs ∙ map-id xs)
 
   module _ {S U : Type 0} (steps : S → Option T → S → Type 0) (becomes : U → S → Type 0) (iter : U) where
     pub has_extended : {E : Type 0} (r : Result (Unit {0}) E) (old new : Set T) → Extends eq (own_element feeds) steps becomes iter old.entries new.entries r

@@ -1,132 +1,95 @@
 -- Lists of elements without those of another list.
-use Rattle.std.proofs.Common.{◌≡◌, ℕ, suc, ◌+◌, ◌-◌, ◌<◌, ◌≤◌, Bool, true, false, cond, not, List, [], ◌∷◌, ◌++◌, length, map, get_or, Option, Some, None, is_some, refl, sym, ap, ◌∙◌, arith, length-append, true≢false}
-use Rattle.std.specs.Prelude.{filter}
-use Rattle.std.specs.Option.{option_map}
-use Rattle.std.specs.Cmp.{IsEquivalence}
+use Rattle.starlark_hash.proofs.Common.{◌≡◌, ℕ, suc, ◌+◌, ◌-◌, ◌≤◌, Bool, true, false, cond, not, List, ◌∷◌, [], ◌++◌, length, map, position, Option, Some, is_some, refl, sym, ap, ◌∙◌, arith, length-append, filter, ◌||◌, ◌&&◌, option_map, IsEquivalence, keys_of, is_member, length-map}
+use Rattle.std.specs.List.{list_any}
+use Rattle.std.proofs.lemmas.List.Filters.{length-filter_both}
+use Rattle.std.proofs.lemmas.List.Kept.{AllPairs-filter}
+use Rattle.std.proofs.lemmas.Map.Made.{length-le_from_is_member}
+use Rattle.std.proofs.lemmas.Map.Views.{any-filter_same}
 use Rattle.starlark_hash.specs.declared.hashed.Hashed.{Hashed}
-use Rattle.starlark_hash.specs.Entries.{Entry, IsSingle, entry_key, match_of, stands_under}
+use Rattle.starlark_hash.specs.Entries.{Entry, IsSingle, entry_hash, entry_key, match_of, stands_under}
 use Rattle.starlark_hash.proofs.PositionLemmas.{position-cons}
 use Rattle.starlark_small.specs.CompareLaws.{alike, alike-laws}
+use Rattle.starlark_small.proofs.SameEntries.{distinct}
 use Rattle.starlark_sets.specs.Difference.{lacks, difference, past}
 use Rattle.starlark_sets.specs.Set.{Elements}
 use Rattle.starlark_sets.specs.Union.{CountsEither}
 
--- how many items pass
-abbrev number : {X : Type 0} → (X → Bool) → List X → ℕ
-number p [] = 0
-number p (x ∷ xs) = cond (p x) (suc (number p xs)) (number p xs)
+-- a search finds something where an item passes
+first_found : (b : Bool) (o : Option ℕ) → is_some (cond b (Some 0) (option_map suc o)) ≡ (b || is_some o)
+first_found b o = grind arith
 
--- each item passes or does not
-kept_and_lost : {X : Type 0} (p : X → Bool) (xs : List X) → length (filter p xs) + number (λ x. not (p x)) xs ≡ length xs
-kept_and_lost p [] = refl
-kept_and_lost p (x ∷ xs) = elim (p x) as (λ b. length (cond b (x ∷ filter p xs) (filter p xs)) + cond (not b) (suc (number (λ x. not (p x)) xs)) (number (λ x. not (p x)) xs) ≡ suc (length xs)) [
-  | true ↦ omega (arith, kept_and_lost p xs)
-  | false ↦ omega (arith, kept_and_lost p xs)
-]
+pub found_any : {X : Type 0} (p : X → Bool) (xs : List X) → is_some (position p xs) ≡ list_any p xs
+found_any p [] = refl
+found_any p (x ∷ xs) = ap is_some (position-cons p x xs) ∙ first_found (p x) (position p xs) ∙ ap (λ b. p x || b) (found_any p xs)
 
--- who passes p passes q or r
-one_more : (a b c : Bool) (m n k : ℕ) → m ≤ n + k → (b ≡ false → a ≡ c) → cond a (suc m) m ≤ cond b (suc n) n + cond c (suc k) k
-one_more true true true m n k le e = omega (arith, le)
-one_more true true false m n k le e = omega (arith, le)
-one_more false true true m n k le e = omega (arith, le)
-one_more false true false m n k le e = omega (arith, le)
-one_more true false true m n k le e = omega (arith, le)
-one_more true false false m n k le e = absurd (true≢false (e refl))
-one_more false false true m n k le e = omega (arith, le)
-one_more false false false m n k le e = omega (arith, le)
+any_key : {K V : Type 0} (p : K → Bool) (es : List (K × V)) → list_any p (map (λ e. e.0) es) ≡ list_any (λ e. p e.0) es
+any_key p [] = refl
+any_key p (e ∷ es) = ap (λ b. p e.0 || b) (any_key p es)
 
-number-or : {X : Type 0} (p q r : X → Bool) → ((x : X) → q x ≡ false → p x ≡ r x) → (xs : List X) → number p xs ≤ number q xs + number r xs
-number-or p q r either [] = omega arith
-number-or p q r either (x ∷ xs) = one_more (p x) (q x) (r x) (number p xs) (number q xs) (number r xs) (number-or p q r either xs) (either x)
-
-number-none : {X : Type 0} (p : X → Bool) (d : X) (xs : List X) → ((i : ℕ) → i < length xs → p (get_or xs i d) ≡ false) → number p xs ≡ 0
-number-none p d [] none = refl
-number-none p d (x ∷ xs) none = ap (λ b. cond b (suc (number p xs)) (number p xs)) (none 0 (omega arith)) ∙ number-none p d xs (λ i below. none (suc i) (omega (arith, below)))
-
-number-never : {X : Type 0} (xs : List X) → number (λ x. false) xs ≡ 0
-number-never [] = refl
-number-never (x ∷ xs) = number-never xs
-
-length_keys : {T : Type 0} (es : Elements T) → length (map entry_key es) ≡ length es
-length_keys [] = refl
-length_keys (e ∷ es) = ap suc (length_keys es)
-
-some_later : (o : Option ℕ) → not (not (is_some (option_map suc o))) ≡ not (not (is_some o))
-some_later None = refl
-some_later (Some i) = refl
+passes : (b c d : Bool) → d ≡ (not (not b) && c) → d ≡ true → b ≡ true
+passes b c d is does = grind arith
 
 module _ {T : Type 0} (eq : T → T → Bool) where
   -- what stands behind the first of a single list is single
   pub IsSingle-tail : (es : Elements T) (e : Entry T (Unit {0})) (fs : Elements T) → es ≡ e ∷ fs → IsSingle eq es → IsSingle eq fs
-  IsSingle-tail es e fs is single i j d below inside =
-      (λ k. stands_under (get_or (sym is k) (suc i) d).0.hash (eq (get_or (sym is k) (suc i) d).0.key) (get_or (sym is k) (suc j) d)) ∙ single (suc i) (suc j) d (omega (arith, below)) (omega (arith, inside, ap length is))
+  IsSingle-tail es e fs is single i j d below inside = let s = rw is at single in s (suc i) (suc j) d (omega arith) (omega arith)
+
+  -- and so is what a test keeps of it
+  pub IsSingle-filter : (p : Entry T (Unit {0}) → Bool) (es : Elements T) → IsSingle eq es → IsSingle eq (filter p es)
+  IsSingle-filter p es single = AllPairs-filter (λ d e. stands_under (entry_hash d) (eq (entry_key d)) e ≡ false) p es single
 
   module _ (laws : IsEquivalence eq) where
-    others : (e : Entry T (Unit {0})) (es : Elements T) → IsSingle eq (e ∷ es) → (f : Hashed T) → alike eq e.0 f ≡ true → (i : ℕ) → i < length es → alike eq (get_or es i e).0 f ≡ false
-    others e es single f like i below =
-        let same = alike-laws eq laws in let y = (get_or es i e).0 in
-        same.symm y f ∙ sym (same.congr e.0 f y like) ∙ single 0 (suc i) e (omega arith) (omega (arith, below))
-
-    -- at most one element of a single list is like f
-    at_most_one : (f : Hashed T) (es : Elements T) → IsSingle eq es → number (λ e. alike eq e.0 f) es ≤ 1
-    at_most_one f [] single = omega arith
-    at_most_one f (e ∷ es) single =
-        let like = λ (x : Entry T (Unit {0})). alike eq x.0 f in
-        let go = elim (like e) as (λ b. like e ≡ b → cond b (suc (number like es)) (number like es) ≤ 1) [
-          | true ↦ λ is. omega (arith, number-none like e es (others e es single f is))
-          | false ↦ λ is. at_most_one f es (IsSingle-tail (e ∷ es) e es refl single)
-        ] in go refl
-
-    matched : (f : Entry T (Unit {0})) (fs : Elements T) (e : Entry T (Unit {0})) → alike eq e.0 f.0 ≡ false → not (lacks eq (f ∷ fs) e) ≡ not (lacks eq fs e)
-    matched f fs e unlike =
-        ap (λ o. not (not (is_some o))) (position-cons (stands_under e.0.hash (eq e.0.key)) f fs ∙ ap (λ b. cond b (Some 0) (option_map suc (match_of eq fs e.0))) unlike)
-        ∙ some_later (match_of eq fs e.0)
+    -- what is like something that is lacking is lacking
+    pub lacks_alike : (fs : Elements T) (q : Hashed T) (e : Entry T (Unit {0})) → alike eq q e.0 ≡ true → lacks eq fs e ≡ not (is_some (match_of eq fs q))
+    lacks_alike fs q e like = λ i. not (is_some (position (λ f. sym ((alike-laws eq laws).congr q e.0 f.0 like) i) fs))
 
     -- no more elements of a single list are in another than that one has
-    lost_le : (es : Elements T) → IsSingle eq es → (fs : Elements T) → number (λ e. not (lacks eq fs e)) es ≤ length fs
-    lost_le es single [] = omega (arith, number-never es)
-    lost_le es single (f ∷ fs) =
-        omega (arith, at_most_one f.0 es single, lost_le es single fs, number-or (λ e. not (lacks eq (f ∷ fs) e)) (λ e. alike eq e.0 f.0) (λ e. not (lacks eq fs e)) (matched f fs) es)
+    lost_le : (es fs : Elements T) → IsSingle eq es → length (filter (λ e. not (lacks eq fs e)) es) ≤ length fs
+    lost_le es fs single =
+        let lost = λ (e : Entry T (Unit {0})). not (lacks eq fs e) in
+        let there : (q : Hashed T) → is_member (alike eq) (keys_of (filter lost es)) q ≡ true → is_member (alike eq) (keys_of fs) q ≡ true = λ q has.
+        any_key (alike eq q) fs ∙ sym (found_any (λ f. alike eq q f.0) fs)
+        ∙ passes (is_some (match_of eq fs q)) (list_any (λ e. alike eq q e.0) es) _
+        (any-filter_same (λ e. alike eq q e.0) lost (not (not (is_some (match_of eq fs q)))) (λ e like. ap not (lacks_alike fs q e like)) es)
+        (sym (any_key (alike eq q) (filter lost es)) ∙ has) in
+        let le = length-le_from_is_member (alike-laws eq laws) (keys_of (filter lost es)) (keys_of fs) (distinct eq (filter lost es) (IsSingle-filter lost es single)) there in
+        omega (arith, le, length-map (filter lost es) (λ e. e.0), length-map fs (λ e. e.0))
 
-    -- a difference takes away at most as many elements as the other list has
-    pub length-difference : (es fs : Elements T) → IsSingle eq es → length es - length fs ≤ length (map entry_key (difference eq es fs))
-    length-difference es fs single = omega (arith, lost_le es single fs, kept_and_lost (lacks eq fs) es, length_keys (difference eq es fs))
+  -- each element is in the difference or in the other list
+  kept_and_lost : (es fs : Elements T) → length (difference eq es fs) + length (filter (λ e. not (lacks eq fs e)) es) ≡ length es
+  kept_and_lost es fs = length-filter_both (lacks eq fs) (λ e. not (lacks eq fs e)) (λ e. refl) es
+
+  -- a difference takes away at most as many elements as the other list has
+  pub length-difference : IsEquivalence eq → (es fs : Elements T) → IsSingle eq es → length es - length fs ≤ length (map entry_key (difference eq es fs))
+  length-difference laws es fs single = simp length-map (omega (arith, lost_le laws es fs single, kept_and_lost es fs))
 
   pub length-difference-le : (es fs : Elements T) → length (map entry_key (difference eq es fs)) ≤ length es
-  length-difference-le es fs = omega (arith, kept_and_lost (lacks eq fs) es, length_keys (difference eq es fs))
+  length-difference-le es fs = simp length-map (omega (arith, kept_and_lost es fs))
 
   -- a union has at most as many elements as both lists together
   pub length-union-le : (es fs ds : Elements T) → length (map entry_key (es ++ difference eq fs ds)) ≤ length es + length fs
-  length-union-le es fs ds =
-      omega (arith, kept_and_lost (lacks eq ds) fs, length_keys (es ++ difference eq fs ds), length-append es (difference eq fs ds))
+  length-union-le es fs ds = simp (length-map, length-append) (omega (arith, kept_and_lost fs ds))
 
   -- and at least as many as each of them, where the other is single
   pub counts-union : IsEquivalence eq → (es fs : Elements T) → IsSingle eq fs → CountsEither (length es) (length fs) (length (map entry_key (es ++ difference eq fs es)))
   counts-union laws es fs single =
-      let all = length_keys (es ++ difference eq fs es) in
-      let parts = length-append es (difference eq fs es) in
+      let all : length (map entry_key (es ++ difference eq fs es)) ≡ length es + length (difference eq fs es) = simp (length-map, length-append) in
       record {
         most = length-union-le es fs es;
-        all_of_first = omega (arith, all, parts);
-        all_of_second = omega (arith, all, parts, length-difference laws fs es single, length_keys (difference eq fs es));
+        all_of_first = omega arith;
+        all_of_second = omega (arith, lost_le laws fs es single, kept_and_lost fs es);
       }
 
   -- an element that is in the other list is passed over
   pub passed : (first es : Elements T) (e : Entry T (Unit {0})) (fs other : Elements T) → es ≡ e ∷ fs → lacks eq other e ≡ false
       → (difference eq es other ≡ difference eq first other) × (past (lacks eq other) es ≡ past (lacks eq other) first)
       → (difference eq fs other ≡ difference eq first other) × (past (lacks eq other) fs ≡ past (lacks eq other) first)
-  passed first es e fs other is not_lacking before = (
-    sym (ap (λ l. difference eq l other) is ∙ ap (λ b. cond b (e ∷ difference eq fs other) (difference eq fs other)) not_lacking) ∙ before.0,
-    sym (ap (past (lacks eq other)) is ∙ ap (λ b. cond b fs (past (lacks eq other) fs)) not_lacking) ∙ before.1,
-  )
+  passed first es e fs other is not_lacking before = grind arith
 
   -- one that is lacking is the first of the difference
   pub reached : (es : Elements T) (e : Entry T (Unit {0})) (fs other : Elements T) → es ≡ e ∷ fs → lacks eq other e ≡ true
       → (difference eq es other ≡ e ∷ difference eq fs other) × (past (lacks eq other) es ≡ fs)
-  reached es e fs other is lacking = (
-    ap (λ l. difference eq l other) is ∙ ap (λ b. cond b (e ∷ difference eq fs other) (difference eq fs other)) lacking,
-    ap (past (lacks eq other)) is ∙ ap (λ b. cond b fs (past (lacks eq other) fs)) lacking,
-  )
+  reached es e fs other is lacking = grind arith
 
 pub ruleset differences = (reached)
 

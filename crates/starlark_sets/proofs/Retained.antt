@@ -1,7 +1,5 @@
 -- What one closure's calls retain of a list is what another's retain, of which each of them is a call.
-use Rattle.std.proofs.Common.{◌≡◌, Bool, List, [], ◌∷◌, ap, subst, ◌∙◌}
-use Rattle.std.specs.Prelude.{filter, if◌then◌else◌}
-use Rattle.std.specs.List.{FoldsTo}
+use Rattle.starlark_hash.proofs.Common.{◌≡◌, Bool, List, [], ◌∷◌, ap, ◌∙◌, filter, if◌then◌else◌, FoldsTo}
 use Rattle.starlark_hash.specs.Retain.{Retains, TakesInTurn, MayLeave}
 
 module _ {F G X : Type 0} (calls : F → X → Bool → X → F → Type 0) (seen : G → X → Bool → X → G → Type 0) (st : F → G) where
@@ -23,18 +21,11 @@ module _ {F G X : Type 0} (calls : F → X → Bool → X → F → Type 0) (see
     at = λ before after f' x e r. on f' x (t.at before after (st f') x e (folds c f before f' r));
   }
 
--- calls that answer by a test of the item and leave it filter the list
-pub filtered_by : {F X : Type 0} (calls : F → X → Bool → X → F → Type 0) (test : X → Bool) → ((f : F) (x : X) (keeps : Bool) (y : X) (left : F) → calls f x keeps y left → (keeps ≡ test x) × (y ≡ x))
-    → (f : F) (xs kept : List X) → Retains calls f xs kept → kept ≡ filter test xs
-filtered_by calls test says f [] kept none = none
-filtered_by calls test says f (x ∷ xs) kept (keeps, y, f', rest, called, others, is) =
-    let s = says f x keeps y f' called in
-    is ∙ (λ i. if s.0 i then s.1 i ∷ rest else rest) ∙ ap (λ l. if test x then x ∷ l else l) (filtered_by calls test says f' xs rest others)
-
--- the same, where each call leaves the closure as it was
-pub tested_by : {F X : Type 0} (calls : F → X → Bool → X → F → Type 0) (test : X → Bool) (f : F) → ((x : X) (keeps : Bool) (y : X) (left : F) → calls f x keeps y left → (keeps ≡ test x) × (y ≡ x) × (left ≡ f))
-    → (f' : F) → f' ≡ f → (xs kept : List X) → Retains calls f' xs kept → kept ≡ filter test xs
-tested_by calls test f says f' same [] kept none = none
-tested_by calls test f says f' same (x ∷ xs) kept (keeps, y, left, rest, called, others, is) =
-    let s = says x keeps y left (subst (λ h. calls h x keeps y left) same called) in
-    is ∙ (λ i. if s.0 i then s.1 i ∷ rest else rest) ∙ ap (λ l. if test x then x ∷ l else l) (tested_by calls test f says left s.2 xs rest others)
+-- calls that answer by a test of the item and leave it, in states that they keep, filter the list
+pub filtered_by : {F X : Type 0} (calls : F → X → Bool → X → F → Type 0) (test : X → Bool) (kept_state : F → Type 0)
+    → ((f : F) (x : X) (keeps : Bool) (y : X) (left : F) → kept_state f → calls f x keeps y left → (keeps ≡ test x) × (y ≡ x) × kept_state left)
+    → (f : F) → kept_state f → (xs kept : List X) → Retains calls f xs kept → kept ≡ filter test xs
+filtered_by calls test kept_state says f so [] kept none = none
+filtered_by calls test kept_state says f so (x ∷ xs) kept (keeps, y, f', rest, called, others, is) =
+    let s = says f x keeps y f' so called in
+    is ∙ (λ i. if s.0 i then s.1 i ∷ rest else rest) ∙ ap (λ l. if test x then x ∷ l else l) (filtered_by calls test kept_state says f' s.2 xs rest others)

@@ -23,6 +23,7 @@ impl<T: Eq> SmallSet<T> {
 
     /// The element under this hash that the query stands for.
     #[inline(always)]
+    #[tactic(auto, using(crate::proofs::Lookups::lookups))]
     pub fn get_hashed<Q: Query<T>>(&self, value: Hashed<Q>) -> Option<&T>
         ensures { ShowsElement (Q.stands_for (key_of value)) (hash_of value) self.now result }
     {

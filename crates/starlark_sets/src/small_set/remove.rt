@@ -40,6 +40,7 @@ impl<T: Eq> SmallSet<T> {
     /// Removes the element under the query's own hash that the query stands for, and answers it. Those after it move up.
     /// Capacity and index stay.
     #[inline]
+    #[tactic(auto, using(crate::proofs::Lookups::lookups))]
     pub fn take<Q: Query<T> + Hash>(&mut self, key: Q) -> Option<T>
         ensures { RemovesElement T.eq (Q.stands_for key) (own_hash Q.hash_input key) self.old self.new result }
     {

@@ -1,4 +1,4 @@
-use Rattle.std.proofs.Common.{rules}
+use Rattle.starlark_hash.proofs.Common.{rules}
 use Rattle.starlark_sets.proofs.Differences.{IsSingle-tail, passed}
 use Rattle.starlark_sets.proofs.difference.next_lacking.Goals as goal
 
@@ -8,7 +8,6 @@ returns-then-not-contains_hashed-clause-single g c = λ single.
 
 pub loop-element-preserved : goal.loop-element-preserved
 loop-element-preserved g c =
-    let eq = g.T.PartialEq.eq in
     let inv = c.loop-element.invariant in
-    let on = passed eq c.args.left.now _ _ _ c.args.other.now.entries c.in-Some.ensures.steps (search rules) (inv.0, inv.1) in
-    (on.0, on.1, λ single. IsSingle-tail eq _ _ _ c.in-Some.ensures.steps (inv.2 single))
+    let on = passed g.T.PartialEq.eq c.args.left.now _ _ _ c.args.other.now.entries c.in-Some.ensures.steps (search rules) (inv.0, inv.1) in
+    (on.0, on.1, λ single. IsSingle-tail g.T.PartialEq.eq _ _ _ c.in-Some.ensures.steps (inv.2 single))

@@ -1,4 +1,4 @@
-use Rattle.std.proofs.Common.{◌≡◌, length}
+use Rattle.starlark_hash.proofs.Common.{◌≡◌, length}
 use Rattle.starlark_hash.specs.Entries.{IsSingle}
 use Rattle.starlark_sets.specs.Difference.{difference, lacks, past}
 use Rattle.starlark_sets.proofs.difference.next_lacking.Given as goal

@@ -1,4 +1,4 @@
-use Rattle.std.proofs.Common.{length, ap, arith}
+use Rattle.starlark_hash.proofs.Common.{length, ap, arith}
 use Rattle.starlark_sets.specs.Difference.{difference_rest}
 use Rattle.starlark_sets.proofs.Differences.{length-difference, length-difference-le}
 use Rattle.starlark_sets.proofs.difference.DifferenceIterator.size_hint.Goals as goal

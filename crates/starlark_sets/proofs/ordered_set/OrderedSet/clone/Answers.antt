@@ -1,4 +1,4 @@
-use Rattle.std.proofs.Common.{refl}
+use Rattle.starlark_hash.proofs.Common.{refl}
 use Rattle.starlark_sets.proofs.ordered_set.OrderedSet.clone.Goals as goal
 
 pub returns : goal.returns

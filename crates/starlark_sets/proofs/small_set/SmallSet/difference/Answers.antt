@@ -1,7 +1,5 @@
-use Rattle.std.proofs.Common.{◌≡◌, length, ap, ◌∙◌, arith, rules}
-use Rattle.std.specs.Set.{is_member}
+use Rattle.starlark_hash.proofs.Common.{◌≡◌, length, ap, arith, rules, deref}
 use Rattle.std.proofs.iter.runs.Sources.{from_front}
-use Rattle.std.specs.Map.Iter.{deref}
 use Rattle.starlark_sets.specs.Difference.{DifferenceSteps, difference_rest}
 use Rattle.starlark_sets.proofs.Differences.{length-difference-le}
 use Rattle.starlark_sets.proofs.Members.{members-difference}
@@ -21,8 +19,5 @@ returns-clause-runs g c =
 
 pub returns-clause-members : goal.returns-clause-members
 returns-clause-members g c feeds alike own element =
-    let eq = g.T.PartialEq.eq in
-    let es = c.args.self.now.entries in
-    let fs = c.args.other.now.entries in
-    let is : c.new.result ≡ record { left = es; other = fs } = search rules in
-    ap (λ d. is_member eq (difference_rest eq d) element) is ∙ members-difference eq g.met.T.Eq.laws feeds alike es fs own element
+    let is : c.new.result ≡ record { left = c.args.self.now.entries; other = c.args.other.now.entries } = search rules in
+    rw is (members-difference g.T.PartialEq.eq g.met.T.Eq.laws feeds alike c.args.self.now.entries c.args.other.now.entries own element)

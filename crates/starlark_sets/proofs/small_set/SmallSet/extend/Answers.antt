@@ -1,7 +1,7 @@
-use Rattle.std.proofs.Common.{sym, subst}
+use Rattle.starlark_hash.proofs.Common.{sym, subst}
 use Rattle.starlark_sets.specs.Collect.{own_element}
 use Rattle.starlark_small.specs.Collect.{Extends}
-use Rattle.starlark_sets.proofs.Collecting.{extends_alone, has_extended}
+use Rattle.starlark_sets.proofs.Collecting.{extended_where, extends_alone, has_extended}
 use Rattle.starlark_sets.proofs.small_set.SmallSet.extend.Goals as goal
 
 pub returns : goal.returns
@@ -17,14 +17,7 @@ returns g c =
       found = has_extended g.T.PartialEq.eq g.met.T.Eq.laws g.T.Hash.hash_input g.met.T.Hash.respects_eq g.I.IntoIter.Iterator.next_gives g.I.IntoIterator.into_iter_gives c.args.iter
           c.extend.result old new extends;
       entries = extends;
-      memory = record {
-        succeeds = λ fits. takes.memory.succeeds (λ it is. fits it (subst (g.I.IntoIterator.into_iter_gives c.args.iter) (sym is) made));
-        spare = λ fits. takes.memory.spare (λ it is. fits it (subst (g.I.IntoIterator.into_iter_gives c.args.iter) (sym is) made));
-        full = takes.memory.full;
-        room = takes.memory.room;
-        capacity = takes.memory.capacity;
-        indexed = takes.memory.indexed;
-      };
+      memory = extended_where _ _ old new c.extend.result (λ fits it is. fits it (subst (g.I.IntoIterator.into_iter_gives c.args.iter) (sym is) made)) takes.memory;
       left = (takes.left.0, subst (g.I.IntoIterator.into_iter_gives c.args.iter) (sym takes.left.1) made, takes.left.2);
       own = takes.own;
     })

@@ -1,4 +1,4 @@
-use Rattle.std.proofs.Common.{sym, subst}
+use Rattle.starlark_hash.proofs.Common.{sym, subst}
 use Rattle.starlark_small.specs.Collect.{Collects}
 use Rattle.starlark_sets.specs.Collect.{own_element}
 use Rattle.starlark_sets.proofs.Collecting.{collects_alone, has_collected}

@@ -1,4 +1,4 @@
-use Rattle.std.proofs.Common.{sym, subst}
+use Rattle.starlark_hash.proofs.Common.{sym, subst}
 use Rattle.starlark_sets.specs.Collect.{element_entry}
 use Rattle.starlark_sets.proofs.Collecting.{collects_alone, each_collected, own_collected}
 use Rattle.starlark_sets.proofs.small_set.SmallSet.from_iter_hashed.Goals as goal

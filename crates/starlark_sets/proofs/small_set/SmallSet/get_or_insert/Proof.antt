@@ -5,7 +5,7 @@ use Rattle.core.specs.contracts.result.Result as RS
 use Rattle.std.specs.declared.cmp.Eq as Eq
 use Rattle.std.specs.declared.cmp.PartialEq as PartialEq
 use Rattle.std.specs.declared.hash.Hash as Hash
-use Rattle.std.specs.Cmp.{IsEquivalence}
+use Rattle.starlark_hash.proofs.Common.{IsEquivalence}
 use Rattle.starlark_hash.proofs.no_room.NoRoom.TheLaws as room_laws
 use Rattle.starlark_hash.specs.Entries.{match_of}
 use Rattle.starlark_hash.specs.contracts.no_room.NoRoom as N

@@ -1,5 +1,4 @@
-use Rattle.std.proofs.Common.{Ok, arith, refl, rules}
-use Rattle.std.proofs.lemmas.Grind.{common_steps}
+use Rattle.starlark_hash.proofs.Common.{Ok, arith, refl, rules, common_steps}
 use Rattle.std.specs.declared.alloc.AllocError.{AllocError}
 use Rattle.starlark_hash.specs.Hasher.{own_hash}
 use Rattle.starlark_sets.specs.Insert.{AddsAt, AddsFor}

@@ -1,5 +1,4 @@
-use Rattle.std.proofs.Common.{arith, rules}
-use Rattle.std.proofs.lemmas.Grind.{common_steps}
+use Rattle.starlark_hash.proofs.Common.{arith, rules, common_steps}
 use Rattle.std_collections.proofs.IterRuns.{gives_in_order, gives_in_reverse}
 use Rattle.starlark_sets.proofs.small_set.SmallSet.into_iter_hashed.Goals as goal
 

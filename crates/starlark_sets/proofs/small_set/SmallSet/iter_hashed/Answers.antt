@@ -1,5 +1,4 @@
-use Rattle.std.proofs.Common.{arith, rules}
-use Rattle.std.proofs.lemmas.Grind.{common_steps}
+use Rattle.starlark_hash.proofs.Common.{arith, rules, common_steps}
 use Rattle.std_collections.proofs.IterRuns.{shows_in_order, shows_in_reverse}
 use Rattle.starlark_hash.specs.Unit.{deref_hashed}
 use Rattle.starlark_sets.proofs.small_set.SmallSet.iter_hashed.Goals as goal

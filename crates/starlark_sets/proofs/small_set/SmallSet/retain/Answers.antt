@@ -1,9 +1,8 @@
-use Rattle.std.proofs.Common.{◌∙◌, refl, sym, subst, rules, of_calls}
-use Rattle.std.specs.Fn.{CalledAt}
+use Rattle.starlark_hash.proofs.Common.{◌≡◌, ◌∙◌, refl, sym, subst, rules, of_calls, CalledAt}
 use Rattle.starlark_hash.specs.Entries.{entry_hash, entry_key}
 use Rattle.starlark_hash.specs.Retain.{Retains, TakesInTurn}
 use Rattle.starlark_sets.specs.Retain.{CalledAtElement, TakesElement}
-use Rattle.starlark_sets.proofs.Retained.{filtered_by, takes_alone, tested_by, retains_alone}
+use Rattle.starlark_sets.proofs.Retained.{filtered_by, takes_alone, retains_alone}
 use Rattle.starlark_sets.proofs.small_set.SmallSet.retain.Goals as goal
 
 pub retain-requires : goal.retain-requires
@@ -19,10 +18,11 @@ returns-clause-entries g c =
 
 pub returns-clause-filtered : goal.returns-clause-filtered
 returns-clause-filtered g c test says =
-    filtered_by (CalledAtElement g.F.FnMut) (λ e. test (entry_key e)) (λ f e keeps d left t. (says f (entry_key e) keeps left t.0, t.1))
-    c.args.keep c.args.self.now.entries c.retain.new.self.entries (returns-clause-entries g c)
+    filtered_by (CalledAtElement g.F.FnMut) (λ e. test (entry_key e)) (λ _. Unit {0}) (λ f e keeps d left _ t. (says f (entry_key e) keeps left t.0, t.1, tt))
+    c.args.keep tt c.args.self.now.entries c.retain.new.self.entries (returns-clause-entries g c)
 
 pub returns-clause-tested : goal.returns-clause-tested
 returns-clause-tested g c test says =
-    tested_by (CalledAtElement g.F.FnMut) test c.args.keep (λ e keeps d left t. let s = says (entry_key e) keeps left t.0 in (s.0 (entry_hash e), t.1, s.1))
+    filtered_by (CalledAtElement g.F.FnMut) test (λ f. f ≡ c.args.keep)
+    (λ f e keeps d left same t. let s = says (entry_key e) keeps left (rw same at t.0) in (s.0 (entry_hash e), t.1, s.1))
     c.args.keep refl c.args.self.now.entries c.retain.new.self.entries (returns-clause-entries g c)

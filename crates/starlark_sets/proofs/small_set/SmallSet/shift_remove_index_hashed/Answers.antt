@@ -1,5 +1,4 @@
-use Rattle.std.proofs.Common.{arith, rules}
-use Rattle.std.proofs.lemmas.Grind.{common_steps}
+use Rattle.starlark_hash.proofs.Common.{arith, rules, common_steps}
 use Rattle.starlark_sets.proofs.Lookups.{stays-beyond, writes-key}
 use Rattle.starlark_sets.proofs.small_set.SmallSet.shift_remove_index_hashed.Goals as goal
 

@@ -1,8 +1,6 @@
-use Rattle.std.proofs.Common.{◌≡◌, length, ap, ◌∙◌, subst, sym, arith, rules}
-use Rattle.std.specs.Set.{is_member}
+use Rattle.starlark_hash.proofs.Common.{length, ap, arith, rules, deref}
 use Rattle.std.proofs.iter.runs.Sources.{from_front}
-use Rattle.std.specs.Map.Iter.{deref}
-use Rattle.starlark_sets.specs.Union.{CountsEither, UnionSteps, union_rest}
+use Rattle.starlark_sets.specs.Union.{UnionSteps, union_rest}
 use Rattle.starlark_sets.proofs.Differences.{counts-union, length-union-le}
 use Rattle.starlark_sets.proofs.Members.{members-union}
 use Rattle.starlark_sets.proofs.Unions.{IsSingle-difference, IsSingle-union}
@@ -20,11 +18,8 @@ returns-clause-fits g c =
 
 pub returns-clause-count : goal.returns-clause-count
 returns-clause-count g c =
-    let eq = g.T.PartialEq.eq in
-    let es = c.args.self.now.entries in
-    let fs = c.args.other.now.entries in
-    let is : c.new-2.result ≡ record { first = es; second = record { left = fs; other = es } } = search rules in
-    subst (λ u. CountsEither (length es) (length fs) (length (union_rest eq u))) (sym is) (counts-union eq g.met.T.Eq.laws es fs (search rules))
+    rw (c.new-2.ensures, c.new.ensures, c.entries-first.ensures.entries, c.entries.ensures.entries)
+    (counts-union g.T.PartialEq.eq g.met.T.Eq.laws c.args.self.now.entries c.args.other.now.entries (search rules))
 
 pub returns-clause-runs : goal.returns-clause-runs
 returns-clause-runs g c =
@@ -32,8 +27,5 @@ returns-clause-runs g c =
 
 pub returns-clause-members : goal.returns-clause-members
 returns-clause-members g c feeds alike mine theirs element =
-    let eq = g.T.PartialEq.eq in
-    let es = c.args.self.now.entries in
-    let fs = c.args.other.now.entries in
-    let is : c.new-2.result ≡ record { first = es; second = record { left = fs; other = es } } = search rules in
-    ap (λ u. is_member eq (union_rest eq u) element) is ∙ members-union eq g.met.T.Eq.laws feeds alike es fs mine theirs element
+    rw (c.new-2.ensures, c.new.ensures, c.entries-first.ensures.entries, c.entries.ensures.entries)
+    (members-union g.T.PartialEq.eq g.met.T.Eq.laws feeds alike c.args.self.now.entries c.args.other.now.entries mine theirs element)
