@@ -1,7 +1,5 @@
 -- What is there once a value was put under an entry that a map has, or lacks.
-use Rattle.std.proofs.Common.{◌≡◌, Bool, None, sym, ap, subst, ◌∙◌}
-use Rattle.std.proofs.lemmas.Bool.{false≢true}
-use Rattle.std.specs.Prelude.{IsSome, is_some}
+use Rattle.starlark_hash.proofs.Common.{◌≡◌, Bool, None, sym, ap, subst, ◌∙◌, false≢true, IsSome, is_some}
 use Rattle.std.specs.declared.cmp.PartialEq as eq
 use Rattle.starlark_hash.specs.declared.hashed.Hashed.{Hashed}
 use Rattle.starlark_hash.specs.Entries.{match_of, set_value_at, with_value}

@@ -2,8 +2,7 @@
 use Rattle.starlark_callers.proofs.Walks.{◌≡◌, subst, ◌∙◌, Bool, [], ◌∷◌, Ura, sep, ent, GName, fres, Logic, sem, ‵, ◌$◌, ◌∵◌, !, qed, move, use2, fpick, fpack, done, RattleType, MutBor, None, Result, Ok, Err, IfErr, OnOk, OnErr, Hashed, NoRoom}
 use denote.Follow.{follows, follows_by, follows_so, such_by, followed, follows_then}
 use mathlib.Core.Option.{Option, none, some}
-use Rattle.std.proofs.lemmas.Bool.{false≢true}
-use Rattle.std.specs.Prelude.{IsOk, IsErr}
+use Rattle.starlark_hash.proofs.Common.{false≢true, IsOk, IsErr}
 use Rattle.std.specs.declared.cmp.PartialEq as eq
 use Rattle.starlark_hash.specs.Entries.{match_of}
 use Rattle.starlark_callers.proofs.LookedUp.{put_there, put_new}

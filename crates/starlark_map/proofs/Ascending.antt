@@ -1,18 +1,8 @@
 -- Lists that ascend: what is sorted, what keeps the order, and where it is strict.
-use Rattle.std.proofs.Common.{◌≡◌, ℕ, zero, suc, ◌+◌, ◌<◌, Bool, true, false, List, [], ◌∷◌, ◌++◌, length, get_or, Option, Some, None, refl, sym, ap, subst, ◌∙◌, arith}
-use Rattle.std.specs.Prelude.{◌&&◌}
-use Rattle.std.specs.Cmp.{IsTotalOrder, Equal-is, alike_right}
-use Rattle.std.specs.Hash.{HashWrites}
-use Rattle.std.specs.List.{AllZip}
+use Rattle.starlark_hash.proofs.Common.{◌≡◌, ℕ, zero, suc, ◌+◌, ◌<◌, Bool, true, false, List, [], ◌∷◌, length, get_or, Option, Some, None, refl, sym, ap, subst, ◌∙◌, arith, IsTotalOrder, HashWrites, AllZip, eq_by_cmp, is_lt, ordering_reverse, Ordering, Less, Equal, common_steps, AllZip-get_or, length_all_zip, sorted_far}
+use Rattle.std.specs.Cmp.{Equal-is, alike_right}
 use Rattle.std.specs.List.Sorted.{IsSortedByKey}
-use Rattle.std.specs.Ordering.{eq_by_cmp, is_eq, is_lt, ordering_reverse}
-use Rattle.std.specs.declared.cmp.Ordering.{Ordering}
-use Rattle.std.specs.declared.cmp.Ordering.TheVariants.{Less, Equal, Greater}
-use Rattle.std.proofs.lemmas.Bool.{eq-eqb, false≢true}
-use Rattle.std.proofs.lemmas.List.{get_or_append_left, length-append}
-use Rattle.std.proofs.lemmas.List.Elements.{AllZip-get_or, length_all_zip}
-use Rattle.std.proofs.lemmas.List.Sorted.{sorted_far}
-use Rattle.starlark_hash.specs.Entries.{Entry, IsSingle, entry_hash, entry_key, set_value_at, stands_under, with_value}
+use Rattle.starlark_hash.specs.Entries.{Entry, IsSingle, entry_key, with_value}
 use Rattle.starlark_hash.specs.Hasher.{own_hash}
 use Rattle.starlark_hash.specs.HashValue.{hash_number}
 use Rattle.starlark_hash.specs.Sort.{Ascends, key_lt, sorted_by_key}
@@ -25,11 +15,7 @@ use Rattle.starlark_map.specs.Sorted.{AreOwn, AscendsStrictly}
 
 -- what is not greater and not equal is less
 pub less : (r s : Ordering) → r ≡ ordering_reverse s → is_lt s ≡ false → (r ≡ Equal → ⊥) → r ≡ Less
-less Less s turned low apart = refl
-less Equal s turned low apart = absurd (apart refl)
-less Greater Less turned low apart = absurd (false≢true (sym low))
-less Greater Equal turned low apart = absurd (false≢true (ap is_eq turned))
-less Greater Greater turned low apart = absurd (false≢true (ap is_lt turned))
+less r s turned low apart = grind (arith, common_steps)
 
 module _ {X K : Type 0} (f : X → K) {cmp : K → K → Ordering} (total : IsTotalOrder cmp) (R : X → X → Type 0) (alike : (x y : X) → R x y → cmp (f x) (f y) ≡ Equal) where
   -- items that tie, one by one, with those of a list that ascends, ascend
@@ -39,9 +25,7 @@ module _ {X K : Type 0} (f : X → K) {cmp : K → K → Ordering} (total : IsTo
       let inside : k + 1 < length xs = omega (arith, long, high) in
       let here = alike (get_or xs k d) (get_or ys k d) (AllZip-get_or R xs ys k d d zip (omega (arith, inside))) in
       let next = alike (get_or xs (k + 1) d) (get_or ys (k + 1) d) (AllZip-get_or R xs ys (k + 1) d d zip inside) in
-      ap is_lt (sym (total.congr (f (get_or xs (k + 1) d)) (f (get_or ys (k + 1) d)) (f (get_or ys k d)) next))
-      ∙ ap is_lt (sym (alike_right total (f (get_or xs k d)) (f (get_or ys k d)) (f (get_or xs (k + 1) d)) here))
-      ∙ up k d low inside
+      cc (total.congr (f (get_or xs (k + 1) d)) (f (get_or ys (k + 1) d)) (f (get_or ys k d)) next, alike_right total (f (get_or xs k d)) (f (get_or ys k d)) (f (get_or xs (k + 1) d)) here, up k d low inside)
 
 module _ {K : Type 0} {cmp : K → K → Ordering} {eq : K → K → Bool} (total : IsTotalOrder cmp) (ties : (x y : K) → eq x y ≡ eq_by_cmp cmp x y) where
   clone_ties : {is_clone : K → K → Type 0} → IsEqualClone eq is_clone → (x y : K) → is_clone x y → cmp x y ≡ Equal
@@ -65,16 +49,14 @@ module _ {K : Type 0} {cmp : K → K → Ordering} {eq : K → K → Bool} (tota
         (λ level.
         let same : eq x y ≡ true = ties x y ∙ (Equal-is (cmp x y)).1 level in
         let hashes = own j d inside ∙ ap (own_hash (λ (writes : HashWrites). writes)) (sym (respects x y same)) ∙ sym (own i d (omega (arith, below, inside))) in
-        let under = eq-eqb (hash_number (entry_hash f)) (hash_number (entry_hash e)) (ap hash_number hashes) in
-        false≢true (sym (single i j d below inside) ∙ ap (λ b. b && eq x y) under ∙ same))
+        grind (arith, common_steps, single i j d, ap hash_number hashes))
 
 module _ {K V : Type 0} where
   -- writing values keeps each key under its hash
   with_values-key : (es ws : List (Entry K V)) (k : ℕ) (d : Entry K V) → (get_or (with_values es ws) k d).0 ≡ (get_or es k d).0
   with_values-key [] ws k d = refl
-  with_values-key (e ∷ es) [] zero d = refl
+  with_values-key (e ∷ es) ws zero d = grind arith
   with_values-key (e ∷ es) [] (suc k) d = with_values-key es [] k d
-  with_values-key (e ∷ es) (w ∷ ws) zero d = refl
   with_values-key (e ∷ es) (w ∷ ws) (suc k) d = with_values-key es ws k d
 
 module _ {K V : Type 0} (cmp : K → K → Ordering) where
@@ -84,36 +66,17 @@ module _ {K V : Type 0} (cmp : K → K → Ordering) where
 
   -- and what has no entries
   pub Ascends-empty : (es : List (Entry K V)) → es ≡ [] → Ascends cmp es
-  Ascends-empty es none = subst (Ascends cmp) (sym none) (λ k d low high. absurd (omega arith))
+  Ascends-empty es none = grind arith
 
   -- keys that ascend do so when a value is written
-  pub Ascends-set_value_at : (es : List (Entry K V)) (i : ℕ) (value : V) → Ascends cmp es → Ascends cmp (set_value_at es i value)
-  Ascends-set_value_at es i value up k d low high =
-      let inside : k + 1 < length es = omega (arith, high, length-set_value_at es i value) in
-      ap (λ key. is_lt (cmp key.key (entry_key (get_or (set_value_at es i value) k d)))) (set_value_at-key es i value (k + 1) d)
-      ∙ ap (λ key. is_lt (cmp (entry_key (get_or es (k + 1) d)) key.key)) (set_value_at-key es i value k d)
-      ∙ up k d low inside
-
   pub Ascends-with_value : (es : List (Entry K V)) (index : Option ℕ) (value : V) → Ascends cmp es → Ascends cmp (with_value es index value)
   Ascends-with_value es None value up = up
-  Ascends-with_value es (Some i) value up = Ascends-set_value_at es i value up
+  Ascends-with_value es (Some i) value up = λ k d low high. grind (arith, length-set_value_at es i value, set_value_at-key es i value (k + 1) d, set_value_at-key es i value k d, up k d)
 
   -- and when each value is written
   pub Ascends-with_values : (es ws : List (Entry K V)) → Ascends cmp es → Ascends cmp (with_values es ws)
-  Ascends-with_values es ws up k d low high =
-      let inside : k + 1 < length es = omega (arith, high, length-with_values es ws) in
-      ap (λ key. is_lt (cmp key.key (entry_key (get_or (with_values es ws) k d)))) (with_values-key es ws (k + 1) d)
-      ∙ ap (λ key. is_lt (cmp (entry_key (get_or es (k + 1) d)) key.key)) (with_values-key es ws k d)
-      ∙ up k d low inside
+  Ascends-with_values es ws up k d low high = grind (arith, length-with_values es ws, with_values-key es ws (k + 1) d, with_values-key es ws k d, up k d)
 
   -- what ascends strictly ascends
   pub Ascends-from_strictly : IsTotalOrder cmp → (es : List (Entry K V)) → AscendsStrictly cmp es → Ascends cmp es
-  Ascends-from_strictly total es strict k d low high =
-      ap is_lt (total.antisymm (entry_key (get_or es (k + 1) d)) (entry_key (get_or es k d)) ∙ ap ordering_reverse (strict k (k + 1) d (omega arith) high))
-
--- what stands before other entries in a list without clashes has none itself
-pub IsSingle-before : {K V : Type 0} (eq : K → K → Bool) (es fs : List (Entry K V)) → IsSingle eq (es ++ fs) → IsSingle eq es
-IsSingle-before eq es fs single i j d below inside =
-    ap (λ e. stands_under (entry_hash e) (eq (entry_key e)) (get_or es j d)) (sym (get_or_append_left es fs d i (omega (arith, below, inside))))
-    ∙ ap (λ f. stands_under (entry_hash (get_or (es ++ fs) i d)) (eq (entry_key (get_or (es ++ fs) i d))) f) (sym (get_or_append_left es fs d j inside))
-    ∙ single i j d below (omega (arith, inside, length-append es fs))
+  Ascends-from_strictly total es strict k d low high = cc (total.antisymm (entry_key (get_or es (k + 1) d)) (entry_key (get_or es k d)), strict k (k + 1) d (omega arith) high)

@@ -1,15 +1,10 @@
 -- The memory of a map that is made of a list's entries, with room for no more of them at first than there are.
-use Rattle.std.proofs.Common.{◌≡◌, ℕ, ◌*◌, ◌≤◌, max, ◌||◌, List, [], length, ap, ◌∙◌, arith}
-use Rattle.std.specs.Prelude.{nat_lt}
-use Rattle.std.proofs.lemmas.Bool.Decides.{nat_tests}
+use Rattle.starlark_hash.proofs.Common.{◌≡◌, ℕ, ◌*◌, ◌≤◌, max, ◌||◌, List, [], length, ap, arith, nat_lt, nat_tests}
 use Rattle.starlark_hash.specs.Entries.{Entry}
 use Rattle.starlark_small.specs.Memory.{stepped_capacity}
 use Rattle.starlark_small.specs.Index.{unindexed}
 use Rattle.starlark_small.specs.Map.{Map}
 use Rattle.starlark_small.proofs.Growing.{stepped_bounds}
-
-or_longer : (bound first len : ℕ) → first ≤ len → (nat_lt bound first || nat_lt bound len) ≡ nat_lt bound len
-or_longer bound first len below = grind (arith, nat_tests)
 
 module _ {K V : Type 0} where
   -- no entry, and room for so many
@@ -21,4 +16,4 @@ module _ {K V : Type 0} where
     capacity_anew is = omega (arith, below, ap length same, is, (stepped_bounds (emptied m first) m (omega arith)).1)
 
     pub indexed_anew : m.indexed ≡ (nat_lt unindexed first || nat_lt unindexed (length m.entries)) → m.indexed ≡ nat_lt unindexed (length es)
-    indexed_anew is = is ∙ ap (λ l. nat_lt unindexed first || nat_lt unindexed (length l)) same ∙ or_longer unindexed first (length es) below
+    indexed_anew is = grind (arith, nat_tests, below, ap length same)

@@ -1,8 +1,5 @@
 -- Keys and room after an insertion.
-use Rattle.std.proofs.Common.{◌≡◌, ℕ, zero, suc, ◌+◌, ◌≤◌, ◌<◌, Bool, List, [], ◌∷◌, ◌++◌, length, Option, None, Some, IsSome, is_some, Result, Ok, Err, IfOk, IsOk, IsErr, OnOk, OnErr, MatchResult, refl, sym, ap, subst, ◌∙◌, arith}
-use Rattle.std.specs.Map.{keys_of}
-use Rattle.std.specs.Option.{option_map_or}
-use Rattle.std.proofs.lemmas.Bool.{false≢true}
+use Rattle.starlark_hash.proofs.Common.{◌≡◌, ℕ, zero, suc, ◌+◌, ◌≤◌, ◌<◌, Bool, List, [], ◌∷◌, ◌++◌, length, Option, None, IsSome, is_some, Result, Ok, Err, IfOk, IsOk, IsErr, OnOk, OnErr, MatchResult, refl, sym, ap, subst, ◌∙◌, arith, rules, keys_of, option_map_or, common_steps, false≢true}
 use Rattle.starlark_hash.specs.declared.hashed.Hashed.{Hashed}
 use Rattle.starlark_hash.specs.Entries.{Entry, set_value_at}
 use Rattle.starlark_hash.specs.Insert.{insert_entry}
@@ -19,8 +16,7 @@ module _ {K V : Type 0} where
   -- what replaces a value at some index keeps the keys
   pub keys_of-placed : (es : List (Entry K V)) (key : Hashed K) (value : V) (index : Option ℕ) → IsSome index
       → keys_of (option_map_or (λ i. set_value_at es i value) index (es ++ (key, value) ∷ [])) ≡ keys_of es
-  keys_of-placed es key value None there = absurd (false≢true there)
-  keys_of-placed es key value (Some i) there = keys_of-set_value_at es i value
+  keys_of-placed es key value index there = grind (arith, common_steps, keys_of-set_value_at)
 
   -- and so does a call that does so, or is refused where there is no index
   pub keys_of-inserted : {T E : Type 0} (es fs : List (Entry K V)) (key : Hashed K) (value : V) (index : Option ℕ) (r : Result T E)
@@ -43,10 +39,8 @@ module _ {K V : Type 0} where
   -- the entries of a map that was made of these by an insertion, if both were done
   pub entries-inserted : {E : Type 0} (eq : K → K → Bool) (es : List (Entry K V)) (key : Hashed K) (value : V) (r s : Result (Map K V) E) → IfOk r (λ m. m.entries ≡ es)
       → MatchResult r (λ old. IfOk s (λ new. new.entries ≡ insert_entry eq old.entries key value)) (λ _. IsErr s) → IfOk s (λ m. m.entries ≡ insert_entry eq es key value)
-  entries-inserted eq es key value r (Err e) were put = tt
   entries-inserted eq es key value (Ok old) (Ok new) were put = subst (λ (ds : List (Entry K V)). new.entries ≡ insert_entry eq ds key value) were put
-  entries-inserted eq es key value (Err e) (Ok new) were put = absurd (false≢true put)
+  entries-inserted eq es key value r s were put = search rules
 
   pub IsOk-HasRoom : {E : Type 0} (n : ℕ) (r : Result (Map K V) E) → HasRoom n r → IsOk r
-  IsOk-HasRoom n (Ok m) room = refl
-  IsOk-HasRoom n (Err e) room = absurd room
+  IsOk-HasRoom n r room = grind (arith, common_steps)

@@ -1,9 +1,8 @@
 -- The equality of lists of entries, and the matches of each entry.
-use Rattle.std.proofs.Common.{◌≡◌, ◌↔◌, Bool, true, false, List, length, get_or, Option, Some, None, refl, sym, subst, ◌∙◌, inl, inr, arith}
-use Rattle.std.specs.Prelude.{IsSomeAnd, IsTrue}
-use Rattle.std.specs.Option.{option_eq}
-use Rattle.std.proofs.lemmas.Bool.{eqb-true, false≢true}
-use Rattle.std.proofs.lemmas.Option.{slice_get-get_or, slice_get_cases}
+use Rattle.starlark_hash.proofs.Common.{◌≡◌, Bool, true, false, List, length, get_or, Option, Some, sym, subst, ◌∙◌, inl, inr, arith, IsTrue, option_eq, nat_tests, common_steps, eqb-true, false≢true, slice_get-get_or}
+use Rattle.std.proofs.Common.{◌↔◌}
+use Rattle.std.specs.Prelude.{IsSomeAnd}
+use Rattle.std.proofs.lemmas.Option.{slice_get_cases}
 use Rattle.core.specs.Cmp.{IsEquivalence}
 use Rattle.starlark_hash.specs.Entries.{Entry, IsSingle, match_of, value_at}
 use Rattle.starlark_small.specs.Compare.{agree_at, same_entries}
@@ -11,18 +10,12 @@ use Rattle.starlark_small.specs.CompareLaws.{as_long}
 use Rattle.starlark_small.proofs.SameEntries.{own_match, own_key, unequal_at, equal_by_keys_of}
 use Rattle.starlark_runs.specs.Matches.{HasMatch, HasMatches}
 
-module _ {V : Type 0} (E : V → V → Bool) (x : V) where
-  shown_equal : (o : Option V) → option_eq E (Some x) o ≡ true → IsSomeAnd o (λ value. IsTrue (E x value))
-  shown_equal None same = absurd (false≢true same)
-  shown_equal (Some value) same = same
-
-  equal_shown : (o : Option V) → IsSomeAnd o (λ value. IsTrue (E x value)) → option_eq E (Some x) o ≡ true
-  equal_shown None shown = absurd shown
-  equal_shown (Some value) shown = shown
+-- a value is equal to what is shown exactly where the test says so
+shown_iff : {V : Type 0} (E : V → V → Bool) (x : V) (o : Option V) → (option_eq E (Some x) o ≡ true) ↔ IsSomeAnd o (λ value. IsTrue (E x value))
+shown_iff E x o = grind (arith, common_steps)
 
 not_false : (b : Bool) → (b ≡ false → ⊥) → b ≡ true
-not_false true f = refl
-not_false false f = absurd (f refl)
+not_false b f = grind (arith, nat_tests)
 
 module _ {K V : Type 0} (eq : K → K → Bool) (E : V → V → Bool) (o : IsEquivalence eq) (ds es : List (Entry K V)) (left : IsSingle eq ds) (right : IsSingle eq es) where
   matches_of_equal : same_entries eq E ds es ≡ true → HasMatches eq E ds es
@@ -32,7 +25,7 @@ module _ {K V : Type 0} (eq : K → K → Bool) (E : V → V → Bool) (o : IsEq
         let e : Entry K V = get_or ds k d in
         let mine = own_match eq o ds k e (slice_get-get_or ds k d below) left below in
         let agree : agree_at eq E ds es e.0 ≡ true = not_false _ (λ differ. false≢true (unequal_at eq E o ds es e.0 differ ∙ same)) in
-        shown_equal E e.1 (value_at es (match_of eq es e.0)) (subst (λ v. option_eq E v (value_at es (match_of eq es e.0)) ≡ true) mine agree),
+        (shown_iff E e.1 (value_at es (match_of eq es e.0))).0 (cc),
   )
 
   equal_of_matches : HasMatches eq E ds es → same_entries eq E ds es ≡ true
@@ -40,9 +33,8 @@ module _ {K V : Type 0} (eq : K → K → Bool) (E : V → V → Bool) (o : IsEq
       sym (equal_by_keys_of eq E o ds es left right found.0 (λ k below d. elim (slice_get_cases ds k).1 [
         | inl there ↦
             let e = there.0 in
-            subst (λ q. agree_at eq E ds es q ≡ true) (sym (own_key eq o ds k e there.2 d))
-            (subst (λ v. option_eq E v (value_at es (match_of eq es e.0)) ≡ true) (sym (own_match eq o ds k e there.2 left below))
-            (equal_shown E e.1 (value_at es (match_of eq es e.0)) (subst (λ x. HasMatch eq E es x) there.3 (found.1 k e below))))
+            let shown : HasMatch eq E es e = subst (λ x. HasMatch eq E es x) there.3 (found.1 k e below) in
+            cc (own_key eq o ds k e there.2 d, own_match eq o ds k e there.2 left below, (shown_iff E e.1 (value_at es (match_of eq es e.0))).1 shown)
         | inr past ↦ absurd (omega (arith, past.0, below))
       ]))
 

@@ -1,8 +1,5 @@
 -- Runs on two maps with one list.
-use Rattle.std.proofs.Common.{◌≡◌, Bool, List, [], ◌∷◌, refl, sym, subst, ◌∙◌}
-use Rattle.std.proofs.lemmas.List.Elements.{All-head, All-tail}
-use Rattle.std.specs.List.{All}
-use Rattle.std.specs.declared.cmp.Ordering.{Ordering}
+use Rattle.starlark_hash.proofs.Common.{◌≡◌, Bool, List, [], ◌∷◌, refl, sym, subst, ◌∙◌, All-head, All-tail, All, Ordering}
 use Rattle.starlark_hash.specs.Entries.{Entry}
 use Rattle.starlark_runs.proofs.Determined.{Run-determined}
 use Rattle.starlark_runs.specs.OneList.{AgreeWhere, HaveSameRuns, IsGranted, IsShownOnce, NoneRefused, SameRefused}

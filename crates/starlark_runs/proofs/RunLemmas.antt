@@ -1,11 +1,7 @@
 -- What the words of a run say of one another.
-use Rattle.std.proofs.Common.{◌≡◌, ℕ, List, [], ◌∷◌, length, Option, Some, None, refl, sym, ap, arith}
-use Rattle.std.specs.Borrow.{Bor}
+use Rattle.starlark_hash.proofs.Common.{◌≡◌, ℕ, List, [], ◌∷◌, length, Option, Some, None, refl, sym, ap, arith, Bor, option_map, Bool, Ordering, none-some}
 use Rattle.std.specs.Fn.{Shared}
-use Rattle.std.specs.Option.{option_map}
-use Rattle.std.specs.Prelude.{Bool}
-use Rattle.std.specs.declared.cmp.Ordering.{Ordering}
-use Rattle.std.proofs.lemmas.Option.{none-some, some_pair_parts}
+use Rattle.std.proofs.lemmas.Option.{some_pair_parts}
 use Rattle.starlark_hash.specs.Entries.{Entry, entry_key, entry_value, pair_of}
 use Rattle.starlark_runs.specs.declared.command.Command.{Command}
 use Rattle.starlark_runs.specs.declared.command.Reply.{Reply}

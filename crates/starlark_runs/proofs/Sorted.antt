@@ -1,5 +1,5 @@
 -- What a sort leaves, whether it is refused or not.
-use Rattle.std.proofs.Common.{◌≡◌, Result, Ok, Err, OnOk, OnErr, ◌∙◌}
+use Rattle.starlark_hash.proofs.Common.{◌≡◌, Result, Ok, Err, OnOk, OnErr, ◌∙◌}
 
 -- what is done leaves ys, and what is refused leaves xs: where these are one list, it is left
 pub left_either_way : {X T E : Type 0} (r : Result T E) (left ys xs : X) → OnOk r (left ≡ ys) → OnErr r (left ≡ xs) → ys ≡ xs → left ≡ xs

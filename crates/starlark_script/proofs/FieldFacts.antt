@@ -1,15 +1,14 @@
 -- The fields of a text.
-use Rattle.std.proofs.Common.{◌≡◌, ◌≢◌, ℕ, ◌<◌, ◌≤◌, List, [], ◌∷◌, ◌++◌, length, get_or, Bool, true, false, Option, Some, None, refl, sym, ap, subst, ◌∙◌, arith, lit<}
-use Rattle.std.specs.Prelude.{◌==◌, ◌&&◌, nat_lt, All, MatchOption, IsUtf8, codes}
-use Rattle.std.specs.List.{join_with_byte, AllByRecursion}
+use Rattle.starlark_hash.proofs.Common.{◌≡◌, ◌≢◌, ℕ, ◌<◌, ◌≤◌, List, [], ◌∷◌, ◌++◌, length, get_or, Bool, true, false, Option, Some, None, refl, sym, ap, subst, ◌∙◌, arith, lit<, ◌==◌, ◌&&◌, nat_lt, MatchOption, AllByRecursion, All-weaker, nat_tests}
+use Rattle.std.specs.Prelude.{All, IsUtf8, codes}
+use Rattle.std.specs.List.{join_with_byte}
 use Rattle.std.specs.Str.{IsAscii}
 use denote.Ref.{Bor}
 use Rattle.std.proofs.lemmas.List.Splits.{slice_split_at, slice_split_none, length-slice_split, join_with_byte-slice_split}
-use Rattle.std.proofs.lemmas.List.Elements.{All-from_get_or, All-weaker}
+use Rattle.std.proofs.lemmas.List.Elements.{All-from_get_or}
 use Rattle.std.proofs.lemmas.Str.{IsUtf8-from_ascii, IsAscii-append}
 use Rattle.std.proofs.lemmas.Str.Ascii.{IsAscii-nil, IsAscii-cons, IsAscii-from_all}
 use Rattle.std.proofs.lemmas.Fmt.{IsAscii-decimal, IsAscii-signed}
-use Rattle.std.proofs.lemmas.Bool.Decides.{nat_tests}
 use Rattle.starlark_hash.specs.HashValue.{hash_number, hash_of, key_of}
 use Rattle.starlark_script.specs.Line.{Key, Line, Put, Get, Del, At, Pop, Rev, Sort, Clear, Reserve, Slim, Len, Walk, fields_of, fields, hash_text, IsKey, IsLawful, IsTextOf, IsBad}
 use Rattle.starlark_script.proofs.Numbers.{fits-mag}

@@ -1,9 +1,7 @@
 -- How far a script is played.
-use Rattle.std.proofs.Common.{◌≡◌, ℕ, ◌+◌, ◌<◌, List, [], ◌∷◌, ◌++◌, length, take, drop, Option, Some, None, refl, sym, ap, ◌∙◌, arith, append_assoc, inl, inr}
-use Rattle.std.specs.Prelude.{⊤, IfSome}
-use Rattle.std.specs.Io.KnownBytes.{Keeps, Appends, prepend_known}
+use Rattle.starlark_hash.proofs.Common.{◌≡◌, ℕ, ◌+◌, ◌<◌, List, [], ◌∷◌, ◌++◌, length, take, drop, Option, Some, None, refl, sym, ap, ◌∙◌, arith, append_assoc, inl, inr, ⊤, IfSome, Keeps, Appends, prepend_known, append-nil, take_all, drop_all, length_push}
 use Rattle.std.proofs.KnownBytes.{Appends-nil, Appends-trans, Appends-kept}
-use Rattle.std.proofs.lemmas.List.{append-nil, take_all, drop_all, nil_from_length, length_push}
+use Rattle.std.proofs.lemmas.List.{nil_from_length}
 use Rattle.starlark_script.specs.Lines.{lines_of}
 use Rattle.starlark_script.specs.Line.{Line, IsTextOf, IsBad}
 use Rattle.starlark_script.specs.Replies.{Entries, reply, after, MayNeedMemory, entries_after, replies}

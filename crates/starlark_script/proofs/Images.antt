@@ -1,11 +1,8 @@
 -- Lists of images: an edit of the images is the image of the edit.
-use Rattle.std.proofs.Common.{◌≡◌, ℕ, suc, ◌+◌, ◌<◌, Bool, true, false, cond, List, [], ◌∷◌, ◌++◌, length, take, drop, Some, None, refl, sym, ap, ◌∙◌}
-use Rattle.std.specs.Prelude.{position, map, remove, reverse, nat_lt, not}
-use Rattle.std.specs.List.{position_or_len}
-use Rattle.std.specs.List.Sorted.{IsSortedBy}
+use Rattle.starlark_hash.proofs.Common.{◌≡◌, ℕ, suc, ◌+◌, ◌<◌, Bool, true, false, cond, List, [], ◌∷◌, ◌++◌, length, take, drop, Some, None, refl, sym, ap, ◌∙◌, position, map, remove, reverse, nat_lt, not, position_or_len, IsSortedBy, length-map, map-append}
 use mathlib.Core.List.{reverse_aux}
 use Rattle.std.proofs.Math.ListN.{get_or-map}
-use Rattle.std.proofs.lemmas.List.{length-map, take-map, drop-map, map-append}
+use Rattle.std.proofs.lemmas.List.{take-map, drop-map}
 use Rattle.starlark_hash.specs.Sort.{insert_sorted, sorted_by}
 
 module _ {A B : Type 0} (f : A → B) where

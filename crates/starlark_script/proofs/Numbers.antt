@@ -1,15 +1,14 @@
 -- Numbers in their one spelling.
-use Rattle.std.proofs.Common.{◌≡◌, ◌≢◌, ℕ, zero, suc, ◌<◌, ◌^◌, Bool, true, false, ℤ, pos, negsuc, List, ◌∷◌, length, get_or, drop, Result, Ok, Err, refl, sym, ap, ◌∙◌, arith, length-drop, lit<}
-use Rattle.std.specs.Prelude.{IsTrue, IfSome, IfNone, decimal, ◌==◌, FitsSigned, neg_ℤ}
+use Rattle.starlark_hash.proofs.Common.{◌≡◌, ◌≢◌, ℕ, zero, suc, ◌<◌, ◌^◌, Bool, true, false, ℤ, List, ◌∷◌, length, get_or, drop, Result, Ok, Err, refl, sym, ap, ◌∙◌, arith, length-drop, lit<, IsTrue, IfSome, IfNone, ◌==◌, w64, drop_more, get_or-drop, nat_tests}
+use Rattle.std.proofs.Common.{pos, negsuc}
+use Rattle.std.specs.Prelude.{decimal, FitsSigned, neg_ℤ}
 use Rattle.std.specs.Fmt.{signed_decimal}
-use Rattle.std.specs.Int.{w64, IsInRange}
+use Rattle.std.specs.Int.{IsInRange}
 use Rattle.std.specs.Result.{result_ok}
 use Rattle.std.specs.Str.Parse.{AllDigits, digits_value, ParsesUnsigned, ParsesSigned}
 use Rattle.std.proofs.lemmas.Str.Parse.{IsNumeralModel, numerals_by_value, tells_digits, digit_at, parse_plain, parse_signed_plain, parse_signed_minus}
 use Rattle.std.proofs.lemmas.Fmt.{digits_decimal, decimal_nonempty, first_decimal, decimal_digit, decimal-digits_value, parse-decimal, parse-signed_decimal}
 use Rattle.std.proofs.lemmas.Result.{OkIff-at_ok}
-use Rattle.std.proofs.lemmas.List.{drop_more, get_or-drop}
-use Rattle.std.proofs.lemmas.Bool.Decides.{nat_tests}
 use lib.Signed.{mag}
 use Rattle.starlark_script.specs.Numbers.{IsPlain, IsPlainSigned}
 

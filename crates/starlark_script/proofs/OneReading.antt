@@ -1,10 +1,8 @@
 -- A text is that of one line at most.
-use Rattle.std.proofs.Common.{◌≡◌, ℕ, true, List, [], get_or, refl, sym, ap, ◌∙◌, arith}
+use Rattle.starlark_hash.proofs.Common.{◌≡◌, ℕ, true, List, [], get_or, refl, sym, ap, ◌∙◌, arith, bytes_eq, false≢true}
 use Rattle.std.specs.Prelude.{decimal}
 use Rattle.std.specs.Cmp.Lexicographic.{nat_list_eq_equiv}
 use Rattle.std.specs.Fmt.{signed_decimal}
-use Rattle.std.specs.Str.{bytes_eq}
-use Rattle.std.proofs.lemmas.Bool.{false≢true}
 use Rattle.std.proofs.lemmas.Fmt.{decimal_injective, signed_decimal_injective}
 use Rattle.starlark_hash.specs.HashValue.{hash_number, hash_of, key_of}
 use Rattle.starlark_script.specs.Line.{Key, Line, Put, Get, Del, At, Pop, Rev, Sort, Clear, Reserve, Slim, Len, Walk, fields, hash_text, IsKey, IsLawful, TextsAreOfOne}

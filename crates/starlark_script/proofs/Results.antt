@@ -1,6 +1,6 @@
 -- Results whose error is replaced.
-use Rattle.std.proofs.Common.{◌≡◌, Result, Ok, Err, sym, subst}
-use Rattle.std.specs.Prelude.{IfOk, OnErr, MatchResult, IsErrAnd}
+use Rattle.starlark_hash.proofs.Common.{◌≡◌, Result, Ok, Err, sym, subst, IfOk, OnErr, MatchResult}
+use Rattle.std.specs.Prelude.{IsErrAnd}
 
 pub IfOk-map_err : {T E F : Type 0} (r : Result T E) (s : Result T F) (Q : E → F → Type 0) (P : T → Type 0)
     → MatchResult r (λ x. s ≡ Ok x) (λ e. IsErrAnd s (Q e)) → IfOk r P → IfOk s P

@@ -1,6 +1,5 @@
 -- What the writes of a text append together.
-use Rattle.std.proofs.Common.{◌≡◌, ℕ, ◌-◌, List, ◌++◌, length, take, drop, Option, Some, None, Result, Ok, Err, sym, ap, subst, ◌∙◌, append_assoc, take-append-drop}
-use Rattle.std.specs.Prelude.{IfSome, OnOk}
+use Rattle.starlark_hash.proofs.Common.{◌≡◌, ℕ, ◌-◌, List, ◌++◌, length, take, drop, Option, Some, None, Result, Ok, Err, sym, ap, subst, ◌∙◌, append_assoc, take-append-drop, IfSome, OnOk}
 use Rattle.std.proofs.lemmas.List.{take_rest}
 
 -- what was written grows by the front of the rest

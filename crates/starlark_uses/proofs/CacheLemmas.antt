@@ -1,7 +1,6 @@
 -- What a cache knows once an answer is kept.
-use Rattle.std.proofs.Common.{ℕ}
-use Rattle.std.specs.Cmp.{IsEquivalence, nat_eq_equiv, on_equiv}
-use Rattle.std.specs.Prelude.{IsPermutation}
+use Rattle.starlark_hash.proofs.Common.{ℕ, IsEquivalence, IsPermutation}
+use Rattle.std.specs.Cmp.{nat_eq_equiv, on_equiv}
 use Rattle.starlark_sets.specs.CompareLaws.{same_order_equiv}
 use Rattle.starlark_sets.specs.Set.{Set}
 use Rattle.starlark_hash.specs.Unit.{unit_equiv}

@@ -1,7 +1,5 @@
 -- The equations of `count`.
-use Rattle.std.proofs.Common.{◌≡◌, ℕ, ◌+◌, List, [], ◌∷◌, map, refl, sym, ap, ◌∙◌}
-use Rattle.std.specs.declared.alloc.Global.{Global}
-use Rattle.std.specs.declared.string.String.{String}
+use Rattle.starlark_hash.proofs.Common.{◌≡◌, ℕ, ◌+◌, List, [], ◌∷◌, map, refl, sym, ap, ◌∙◌, Global, String}
 use Rattle.starlark_hash.specs.Entries.{Entry, entry_value}
 use Rattle.starlark_small.specs.Map.{Map}
 use Rattle.starlark_uses.specs.Counts.{count_step, count, count_all, sum_of}

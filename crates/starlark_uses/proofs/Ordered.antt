@@ -1,9 +1,8 @@
 -- What a walk over the targets finds where each was declared after all that it is built from.
-use Rattle.std.proofs.Common.{◌≡◌, ℕ, zero, suc, ◌+◌, ◌<◌, Bool, true, List, [], ◌∷◌, length, map, get_or, refl, sym, subst, ◌∙◌, arith}
-use Rattle.std.specs.Prelude.{◌↔◌, All, IsTrue}
+use Rattle.starlark_hash.proofs.Common.{◌≡◌, ℕ, zero, suc, ◌+◌, ◌<◌, Bool, true, List, [], ◌∷◌, length, map, get_or, refl, sym, subst, ◌∙◌, arith, IsTrue, enumerate_from, list_all, and_parts}
+use Rattle.std.specs.Prelude.{◌↔◌, All}
 use Rattle.std.specs.Global.{Vec}
-use Rattle.std.specs.List.{enumerate_from, list_all}
-use Rattle.std.proofs.lemmas.Bool.{and_from, and_parts}
+use Rattle.std.proofs.lemmas.Bool.{and_from}
 use Rattle.std.proofs.lemmas.List.Sums.{AllPass-from_list_all, list_all-from_AllPass}
 use Rattle.starlark_hash.specs.Entries.{entry_value}
 use Rattle.starlark_uses.specs.Graph.{Graph, IsOrdered, is_before}

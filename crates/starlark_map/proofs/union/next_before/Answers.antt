@@ -1,7 +1,6 @@
-use Rattle.std.proofs.Common.{◌≡◌, ◌∷◌, true, false, subst, rules, arith}
-use Rattle.std.proofs.lemmas.Grind.{common_steps}
+use Rattle.starlark_hash.proofs.Common.{◌≡◌, ◌∷◌, true, subst, rules, arith, common_steps}
 use Rattle.starlark_hash.specs.Sort.{Ascends}
-use Rattle.starlark_map.specs.SortedUnion.{behind, comes_first, is_others, is_passed, shown}
+use Rattle.starlark_map.specs.SortedUnion.{behind, comes_first, is_passed, shown}
 use Rattle.starlark_map.proofs.Given.{Ascends-left}
 use Rattle.starlark_map.proofs.Rising.{step-other, step-own, taken-first}
 use Rattle.starlark_map.proofs.union.next_before.Goals as goal
@@ -21,20 +20,18 @@ returns-then-not-is_given g c =
 
 pub returns-then-not-stands_before : goal.returns-then-not-stands_before
 returns-then-not-stands_before g c =
-    let eq = g.T.PartialEq.eq in let cmp = g.T.Ord.cmp in
     let left = c.args.left.now in let there = c.args.there.now.entries in
-    let right = c.loop-element.right in
-    let passed : behind (is_passed eq cmp left there) c.args.right.now ≡ right = first_of (search rules, grind (arith, common_steps)) in
-    let own : is_others cmp left right ≡ false = first_of (search rules, grind (arith, common_steps)) in
-    let up = Ascends-left cmp c.args.last left there c.requires.follows c.requires.ascends in
-    record { steps = step-own eq g.met.T.Ord.total left c.args.right.now there right up c.first.ensures.ascends passed own }
+    let up = Ascends-left g.T.Ord.cmp c.args.last left there c.requires.follows c.requires.ascends in
+    record {
+      steps = step-own g.T.PartialEq.eq g.met.T.Ord.total left c.args.right.now there c.loop-element.right up c.first.ensures.ascends
+          (first_of (search rules, grind (arith, common_steps))) (first_of (search rules, grind (arith, common_steps)));
+    }
 
 pub returns : goal.returns
 returns g c =
-    let eq = g.T.PartialEq.eq in let cmp = g.T.Ord.cmp in
     let left = c.args.left.now in let there = c.args.there.now.entries in
-    let right = c.loop-element.right in
-    let passed : behind (is_passed eq cmp left there) c.args.right.now ≡ right = first_of (search rules, grind (arith, common_steps)) in
-    let own : is_others cmp left right ≡ false = first_of (search rules, grind (arith, common_steps)) in
-    let up = Ascends-left cmp c.args.last left there c.requires.follows c.requires.ascends in
-    record { steps = step-own eq g.met.T.Ord.total left c.args.right.now there right up c.first.ensures.ascends passed own }
+    let up = Ascends-left g.T.Ord.cmp c.args.last left there c.requires.follows c.requires.ascends in
+    record {
+      steps = step-own g.T.PartialEq.eq g.met.T.Ord.total left c.args.right.now there c.loop-element.right up c.first.ensures.ascends
+          (first_of (search rules, grind (arith, common_steps))) (first_of (search rules, grind (arith, common_steps)));
+    }

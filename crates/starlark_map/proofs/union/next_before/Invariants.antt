@@ -1,4 +1,4 @@
-use Rattle.std.proofs.Common.{◌≡◌, length}
+use Rattle.starlark_hash.proofs.Common.{◌≡◌, length}
 use Rattle.starlark_map.specs.SortedUnion.{behind, is_passed}
 use Rattle.starlark_map.proofs.union.next_before.Given as goal
 

@@ -1,6 +1,5 @@
-use Rattle.std.proofs.Common.{◌≤◌, [], length, refl, sym, ap, subst, ◌∙◌}
+use Rattle.starlark_hash.proofs.Common.{◌≤◌, [], length, refl, sym, ap, subst, ◌∙◌, IfOk-weaker}
 use Rattle.std.proofs.lemmas.Iterator.{items_from_drains}
-use Rattle.std.proofs.lemmas.Result.{IfOk-weaker}
 use Rattle.std.proofs.lemmas.Iterator.Consumers.{YieldsList-from_rest}
 use Rattle.starlark_small.specs.Collect.{insert_all}
 use Rattle.starlark_small.proofs.Growing.{stepped_from}
@@ -14,7 +13,7 @@ returns-clause-entries g c =
     IfOk-weaker c.from_iter_hashed.result _ _
     (λ m p.
     let items = items_from_drains p.items (p.drained.1.0, p.drained.1.1, λ _. (p.drained.0, p.drained.1.2)) (YieldsList-from_rest es (p.made ∙ c.into_iter_hashed.ensures.entries)) in
-    p.entries ∙ ap (insert_all g.K.PartialEq.eq []) items ∙ insert_all-single g.K.PartialEq.eq g.met.K.Eq.laws es c.into_iter_hashed.ensures.single)
+    p.entries ∙ ap (insert_all g.K.PartialEq.eq []) items ∙ insert_all-single g.K.PartialEq.eq g.met.K.Eq.laws [] es c.into_iter_hashed.ensures.single)
     c.from_iter_hashed.ensures.map
 
 pub returns-clause-capacity : goal.returns-clause-capacity
@@ -23,7 +22,7 @@ returns-clause-capacity g c =
     IfOk-weaker c.from_iter_hashed.result _ _
     (λ m p.
     let items = items_from_drains p.items (p.drained.1.0, p.drained.1.1, λ _. (p.drained.0, p.drained.1.2)) (YieldsList-from_rest es (p.made ∙ c.into_iter_hashed.ensures.entries)) in
-    let same = p.entries ∙ ap (insert_all g.K.PartialEq.eq []) items ∙ insert_all-single g.K.PartialEq.eq g.met.K.Eq.laws es c.into_iter_hashed.ensures.single in
+    let same = p.entries ∙ ap (insert_all g.K.PartialEq.eq []) items ∙ insert_all-single g.K.PartialEq.eq g.met.K.Eq.laws [] es c.into_iter_hashed.ensures.single in
     capacity_anew m es p.first same (subst (λ l. p.first ≤ length l) (p.made ∙ c.into_iter_hashed.ensures.entries) (p.bounded tt)) (p.capacity ∙ sym (stepped_from (emptied m p.first) m p.first refl refl)))
     c.from_iter_hashed.ensures.map
 
@@ -33,6 +32,6 @@ returns-clause-indexed g c =
     IfOk-weaker c.from_iter_hashed.result _ _
     (λ m p.
     let items = items_from_drains p.items (p.drained.1.0, p.drained.1.1, λ _. (p.drained.0, p.drained.1.2)) (YieldsList-from_rest es (p.made ∙ c.into_iter_hashed.ensures.entries)) in
-    let same = p.entries ∙ ap (insert_all g.K.PartialEq.eq []) items ∙ insert_all-single g.K.PartialEq.eq g.met.K.Eq.laws es c.into_iter_hashed.ensures.single in
+    let same = p.entries ∙ ap (insert_all g.K.PartialEq.eq []) items ∙ insert_all-single g.K.PartialEq.eq g.met.K.Eq.laws [] es c.into_iter_hashed.ensures.single in
     indexed_anew m es p.first same (subst (λ l. p.first ≤ length l) (p.made ∙ c.into_iter_hashed.ensures.entries) (p.bounded tt)) p.indexed)
     c.from_iter_hashed.ensures.map

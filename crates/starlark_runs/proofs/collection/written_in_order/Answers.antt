@@ -1,5 +1,4 @@
-use Rattle.std.proofs.Common.{[], ◌∷◌}
-use Rattle.std.proofs.lemmas.Result.{IfOk-weaker}
+use Rattle.starlark_hash.proofs.Common.{[], ◌∷◌, IfOk-weaker}
 use Rattle.starlark_small.specs.Collect.{insert_all, own_entry}
 use Rattle.starlark_runs.proofs.Inserted.{entries-inserted}
 use Rattle.starlark_runs.proofs.collection.written_in_order.Goals as goal

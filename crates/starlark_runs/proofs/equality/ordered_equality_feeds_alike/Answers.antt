@@ -1,4 +1,4 @@
-use Rattle.std.proofs.Common.{fold, sym, ◌∙◌}
+use Rattle.starlark_hash.proofs.Common.{fold, sym, ◌∙◌}
 use Rattle.starlark_runs.proofs.Ordered.{ordered_feed-same_ordered}
 use Rattle.starlark_runs.proofs.equality.ordered_equality_feeds_alike.Goals as goal
 

@@ -1,4 +1,4 @@
-use Rattle.std.proofs.Common.{sym, ◌∙◌}
+use Rattle.starlark_hash.proofs.Common.{sym, ◌∙◌}
 use Rattle.starlark_runs.proofs.Ordered.{same_entries-same_ordered}
 use Rattle.starlark_runs.proofs.equality.ordered_equality_is_equality.Goals as goal
 

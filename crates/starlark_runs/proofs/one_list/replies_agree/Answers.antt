@@ -1,4 +1,4 @@
-use Rattle.std.proofs.Common.{subst, sym}
+use Rattle.starlark_hash.proofs.Common.{subst, sym}
 use Rattle.starlark_runs.specs.Run.{Run, Shows}
 use Rattle.starlark_runs.proofs.one_list.replies_agree.Goals as goal
 

@@ -1,4 +1,4 @@
-use Rattle.std.proofs.Common.{◌≡◌, OnOk, sym, ap, subst, ◌∙◌}
+use Rattle.starlark_hash.proofs.Common.{◌≡◌, OnOk, sym, ap, subst, ◌∙◌}
 use Rattle.starlark_hash.specs.Sort.{Ascends, key_lt, sorted_by_key}
 use Rattle.starlark_hash.proofs.SortingLemmas.{sorted_by-sorted, sorted_by-twice, key_lt-order}
 use Rattle.starlark_runs.proofs.Sorted.{never_refused}

@@ -1,4 +1,4 @@
-use Rattle.std.proofs.Common.{ap, arith, length}
+use Rattle.starlark_hash.proofs.Common.{ap, arith, length}
 use Rattle.starlark_hash.specs.Entries.{position_of}
 use Rattle.starlark_hash.specs.HashValue.{hash_of, key_of}
 use Rattle.starlark_runs.proofs.MemoryLemmas.{length-with_value}

@@ -1,4 +1,4 @@
-use Rattle.std.proofs.Common.{◌+◌, ◌*◌, ◌≡◌, ◌≤◌, length, max}
+use Rattle.starlark_hash.proofs.Common.{◌+◌, ◌*◌, ◌≡◌, ◌≤◌, length, max}
 use Rattle.starlark_runs.proofs.Determined.{Run-determined}
 use Rattle.starlark_runs.proofs.MemoryLemmas.{EndsWith-last, Run-of_memory}
 use Rattle.starlark_runs.specs.Memory.{memory_of}

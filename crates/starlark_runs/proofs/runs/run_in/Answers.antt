@@ -1,5 +1,4 @@
-use Rattle.std.proofs.Common.{refl, ◌∷◌, [], append_assoc, arith, rules}
-use Rattle.std.proofs.lemmas.List.{append-nil}
+use Rattle.starlark_hash.proofs.Common.{refl, ◌∷◌, [], append_assoc, arith, rules, append-nil}
 use Rattle.starlark_runs.proofs.MemoryLemmas.{HasMemory-after, HasMemory-begin}
 use Rattle.starlark_runs.proofs.RunLemmas.{empty_at_zero, can_show-after, can_show-now}
 use Rattle.starlark_runs.specs.Memory.{memory_after, memory_of}

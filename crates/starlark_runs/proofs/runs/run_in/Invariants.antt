@@ -1,4 +1,4 @@
-use Rattle.std.proofs.Common.{◌+◌, ◌≤◌, ◌++◌}
+use Rattle.starlark_hash.proofs.Common.{◌+◌, ◌≤◌, ◌++◌}
 use Rattle.std.specs.Vec.{vec_len, vec_capacity}
 use Rattle.std.specs.Vec.Iter.{into_iter_items, into_iter_len}
 use Rattle.starlark_runs.specs.Memory.{HasMemory, Memory, MemoryRun, memory_of}

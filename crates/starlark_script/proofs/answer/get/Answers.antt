@@ -1,4 +1,4 @@
-use Rattle.std.proofs.Common.{◌∙◌}
+use Rattle.starlark_hash.proofs.Common.{◌∙◌}
 use Rattle.starlark_hash.specs.HashValue.{hash_of, key_of}
 use Rattle.starlark_script.proofs.EntriesLemmas.{value-entries_of}
 use Rattle.starlark_script.proofs.answer.get.Goals as goal

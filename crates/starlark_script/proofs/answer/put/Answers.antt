@@ -1,6 +1,4 @@
-use Rattle.std.proofs.Common.{Some, ap, ◌∙◌, rules}
-use Rattle.std.specs.Int.{w64}
-use Rattle.std.proofs.lemmas.Int.{to_z-of_z}
+use Rattle.starlark_hash.proofs.Common.{Some, ap, ◌∙◌, rules, w64, to_z-of_z}
 use Rattle.starlark_hash.specs.HashValue.{hash_of, key_of}
 use Rattle.starlark_script.specs.ShownEntries.{entries_of}
 use Rattle.starlark_script.proofs.EntriesLemmas.{value-entries_of, written, lacking}

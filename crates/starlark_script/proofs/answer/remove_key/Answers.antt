@@ -1,6 +1,4 @@
-use Rattle.std.proofs.Common.{Some, None, ap, ◌∙◌, rules}
-use Rattle.std.specs.Int.{w64}
-use Rattle.std.proofs.lemmas.Int.{to_z-of_z}
+use Rattle.starlark_hash.proofs.Common.{Some, None, ap, ◌∙◌, rules, w64, to_z-of_z}
 use Rattle.starlark_hash.specs.HashValue.{hash_of, key_of}
 use Rattle.starlark_script.proofs.EntriesLemmas.{removed, taken_value}
 use Rattle.starlark_script.proofs.answer.remove_key.Goals as goal

@@ -1,8 +1,6 @@
 -- The replies to the entries so far were written.
-use Rattle.std.proofs.Common.{◌≡◌, ◌++◌}
+use Rattle.starlark_hash.proofs.Common.{◌≡◌, ◌++◌, map, Appends}
 use Rattle.std.specs.List.{flat_map}
-use Rattle.std.specs.Prelude.{map}
-use Rattle.std.specs.Io.KnownBytes.{Appends}
 use Rattle.starlark_small.specs.Iter.{deref_entry}
 use Rattle.starlark_script.specs.Replies.{entry_text}
 use Rattle.starlark_script.specs.ShownEntries.{entries_of}

@@ -1,4 +1,4 @@
-use Rattle.std.proofs.Common.{◌<◌, ◌^◌, sym, ◌∙◌, rules, arith}
+use Rattle.starlark_hash.proofs.Common.{◌<◌, ◌^◌, sym, ◌∙◌, rules, arith}
 use Rattle.std.proofs.lemmas.Fmt.{decimal_injective}
 use Rattle.starlark_script.proofs.line.count_in.Goals as goal
 

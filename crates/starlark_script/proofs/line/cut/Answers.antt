@@ -1,4 +1,4 @@
-use Rattle.std.proofs.Common.{lit<}
+use Rattle.starlark_hash.proofs.Common.{lit<}
 use Rattle.std.proofs.lemmas.Str.Pattern.{split_parts}
 use Rattle.starlark_script.proofs.FieldFacts.{cut-fields}
 use Rattle.starlark_script.proofs.line.cut.Goals as goal

@@ -1,4 +1,4 @@
-use Rattle.std.proofs.Common.{◌≡◌, ◌∷◌, arith}
+use Rattle.starlark_hash.proofs.Common.{◌≡◌, ◌∷◌, arith}
 use Rattle.starlark_script.specs.Line.{fields_of}
 use Rattle.starlark_script.proofs.FieldFacts.{some-field}
 use Rattle.starlark_script.proofs.line.fields_in.Goals as goal

@@ -1,4 +1,4 @@
-use Rattle.std.proofs.Common.{◌++◌, take}
+use Rattle.starlark_hash.proofs.Common.{◌++◌, take}
 use Rattle.std.proofs.KnownBytes.{Appends-trans}
 use Rattle.starlark_script.proofs.Writes.{moves_front}
 use Rattle.starlark_script.proofs.output.write_bytes.Goals as goal

@@ -1,6 +1,5 @@
 -- What is gone from the rest was appended.
-use Rattle.std.proofs.Common.{◌≡◌, ℕ, List, ◌++◌, length}
-use Rattle.std.specs.Io.KnownBytes.{Appends}
+use Rattle.starlark_hash.proofs.Common.{◌≡◌, ℕ, List, ◌++◌, length, Appends}
 use Rattle.starlark_script.proofs.output.write_bytes.Given as goal
 
 abbrev pub invariant-loop-rest : goal.invariant-loop-rest

@@ -1,6 +1,5 @@
-use Rattle.std.proofs.Common.{◌≡◌, Ok, rules, refl, sym, ap, subst₂, ◌∙◌}
+use Rattle.starlark_hash.proofs.Common.{◌≡◌, Ok, rules, refl, sym, ap, subst₂, ◌∙◌, Appends}
 use Rattle.std.specs.Fmt.{with_newline, WritesOnOk}
-use Rattle.std.specs.Io.KnownBytes.{Appends}
 use Rattle.std.proofs.KnownBytes.{Appends-of_writes}
 use Rattle.starlark_script.specs.declared.output.Output.{Output}
 use Rattle.starlark_script.proofs.Writes.{IfSome-weaker}

@@ -1,7 +1,6 @@
-use Rattle.std.proofs.Common.{◌≡◌, ◌∙◌, ap, subst, List, ℕ, ◌++◌}
+use Rattle.starlark_hash.proofs.Common.{◌≡◌, ◌∙◌, ap, subst, List, ℕ, ◌++◌, Appends}
 use Rattle.core.proofs.fmt.Output.{contents_after_writes}
 use Rattle.std.specs.Fmt.{with_newline, WritesInCalls}
-use Rattle.std.specs.Io.KnownBytes.{Appends}
 use Rattle.arrayvec.specs.ArrayString.{ArrayString}
 use Rattle.starlark_script.proofs.Writes.{IfSome-weaker, OnOk-weaker, IfSome-known}
 use Rattle.starlark_script.proofs.output.write_line.Goals as goal

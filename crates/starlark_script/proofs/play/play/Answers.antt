@@ -1,5 +1,4 @@
-use Rattle.std.proofs.Common.{◌≡◌, ◌+◌, Err, ap, sym, ◌∙◌}
-use Rattle.std.specs.Io.KnownBytes.{prepend_known}
+use Rattle.starlark_hash.proofs.Common.{◌≡◌, ◌+◌, Err, ap, sym, ◌∙◌, prepend_known}
 use Rattle.std.proofs.lemmas.Result.{err_from_is_err_and}
 use Rattle.starlark_script.proofs.Going.{going-start, going-kept, going-end, going-long, going-bad, going-stop, going-step, leads-line}
 use Rattle.starlark_script.proofs.Results.{IfOk-weaker}

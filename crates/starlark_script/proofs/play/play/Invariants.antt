@@ -1,4 +1,4 @@
-use Rattle.std.specs.Io.KnownBytes.{prepend_known}
+use Rattle.starlark_hash.proofs.Common.{prepend_known}
 use Rattle.starlark_script.specs.ShownEntries.{entries_of}
 use Rattle.starlark_script.proofs.Going.{Going}
 use Rattle.starlark_script.proofs.play.play.Given as goal

@@ -1,6 +1,5 @@
-use Rattle.std.proofs.Common.{◌≡◌, ℕ, ◌<◌, true}
+use Rattle.starlark_hash.proofs.Common.{◌≡◌, ℕ, ◌<◌, true, nat_eq}
 use Rattle.std.specs.Hash as fed
-use Rattle.std.specs.Prelude.{nat_eq}
 use Rattle.starlark_small.specs.Lookup.{contains}
 use Rattle.starlark_uses.proofs.free.first_free.Given as goal
 

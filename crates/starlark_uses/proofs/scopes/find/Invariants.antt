@@ -1,4 +1,4 @@
-use Rattle.std.proofs.Common.{◌≡◌, take}
+use Rattle.starlark_hash.proofs.Common.{◌≡◌, take}
 use Rattle.starlark_uses.specs.Bindings.{found}
 use Rattle.starlark_uses.proofs.scopes.find.Given as goal
 

@@ -1,4 +1,4 @@
-use Rattle.std.proofs.Common.{◌≤◌}
+use Rattle.starlark_hash.proofs.Common.{◌≤◌}
 use Rattle.starlark_small.proofs.CallerMembers.{All-values-writes}
 use Rattle.starlark_uses.proofs.scores.change.Goals as goal
 

@@ -1,4 +1,4 @@
-use Rattle.std.proofs.Common.{◌≡◌, ◌+◌, string_bytes}
+use Rattle.starlark_hash.proofs.Common.{◌≡◌, ◌+◌, string_bytes}
 use Rattle.std.proofs.lemmas.Result.{IfOk-at_ok}
 use Rattle.starlark_uses.proofs.Tallies.{counts_one_more, text_at}
 use Rattle.starlark_uses.proofs.words.bump.Goals as goal

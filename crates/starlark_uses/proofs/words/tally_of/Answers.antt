@@ -1,4 +1,4 @@
-use Rattle.std.proofs.Common.{[], ap, ◌∙◌, arith}
+use Rattle.starlark_hash.proofs.Common.{[], ap, ◌∙◌, arith}
 use Rattle.std.proofs.lemmas.Result.{IfOk-at_ok}
 use Rattle.std.specs.Str.Iter.{split_whitespace_rest}
 use Rattle.starlark_uses.proofs.Tallies.{all_seen, begins_with, counts_before_next, tally_of_none}

@@ -1,5 +1,4 @@
-use Rattle.std.specs.Prelude.{OnOk}
-use Rattle.std.proofs.Common.{rules, subst}
+use Rattle.starlark_hash.proofs.Common.{OnOk, rules, subst}
 use Rattle.starlark_small.specs.MapEntry.{IsPut}
 use Rattle.starlark_callers.proofs.LookedUp.{put_there, put_new}
 use Rattle.starlark_callers.proofs.lent.looked_up.or_insert_then_put.Goals as goal

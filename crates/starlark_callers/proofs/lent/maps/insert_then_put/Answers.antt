@@ -1,5 +1,4 @@
-use Rattle.std.specs.Prelude.{OnOk}
-use Rattle.std.proofs.Common.{rules, subst}
+use Rattle.starlark_hash.proofs.Common.{OnOk, rules, subst}
 use Rattle.starlark_small.specs.Insert.{IsInserted}
 use Rattle.starlark_callers.proofs.lent.maps.insert_then_put.Goals as goal
 

@@ -1,6 +1,4 @@
-use Rattle.std.proofs.Common.{◌≡◌, []}
-use Rattle.std.specs.Option.{option_map}
-use Rattle.std.specs.Str.{bytes_eq}
+use Rattle.starlark_hash.proofs.Common.{◌≡◌, [], option_map, bytes_eq}
 use Rattle.serde_json.specs.View.{members_view}
 use Rattle.starlark_small.specs.Collect.{insert_all}
 use Rattle.starlark_map.specs.JsonObjects.{entries_of, IsMemberFault}

@@ -1,4 +1,4 @@
-use Rattle.std.proofs.Common.{◌≡◌, ap, ◌∙◌, map, rules}
+use Rattle.starlark_hash.proofs.Common.{◌≡◌, ap, ◌∙◌, map, rules}
 use Rattle.serde_json.specs.Data.{object}
 use Rattle.serde_json.specs.Find.{get}
 use Rattle.starlark_hash.specs.Entries.{pair_of}
@@ -13,7 +13,4 @@ returns-clause-object c =
     c.from.ensures ∙ ap object (all_put es _ _ _ walk c.in-None.ensures.steps.0 c.loop-key.invariant.0)
 
 pub returns-clause-members : goal.returns-clause-members
-returns-clause-members c key =
-    let es = c.args.map.now.entries in
-    let walk : c.into_iter-key-iterator.result ≡ map pair_of es = search rules in
-    ap (get key) (c.from.ensures ∙ ap object (all_put es _ _ _ walk c.in-None.ensures.steps.0 c.loop-key.invariant.0)) ∙ get_member-put_all key (pairs_of es)
+returns-clause-members c key = ap (get key) (returns-clause-object c) ∙ get_member-put_all key (pairs_of c.args.map.now.entries)

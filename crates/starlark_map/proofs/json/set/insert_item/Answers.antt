@@ -1,4 +1,4 @@
-use Rattle.std.proofs.Common.{string_bytes, sym, ap, ◌∙◌}
+use Rattle.starlark_hash.proofs.Common.{string_bytes, sym, ap, ◌∙◌}
 use Rattle.std.specs.Hash as fed
 use Rattle.starlark_hash.specs.Entries.{match_of}
 use Rattle.starlark_small.specs.Map.{own_hashed}

@@ -1,6 +1,4 @@
-use Rattle.std.proofs.Common.{◌≡◌, [], drop}
-use Rattle.std.specs.Option.{option_map}
-use Rattle.std.specs.Str.{bytes_eq}
+use Rattle.starlark_hash.proofs.Common.{◌≡◌, [], drop, option_map, bytes_eq}
 use Rattle.serde_json.specs.View.{items_view}
 use Rattle.starlark_small.specs.Collect.{insert_all}
 use Rattle.starlark_map.specs.JsonArrays.{elements_of, IsItemFault}

@@ -1,4 +1,4 @@
-use Rattle.std.proofs.Common.{◌≡◌, ap, ◌∙◌, map, rules}
+use Rattle.starlark_hash.proofs.Common.{◌≡◌, ap, ◌∙◌, map, rules}
 use Rattle.serde_json.specs.Data.{array}
 use Rattle.serde_json.specs.View.{items_of}
 use Rattle.starlark_hash.specs.Entries.{entry_key}

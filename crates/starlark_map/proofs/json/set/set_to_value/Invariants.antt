@@ -1,4 +1,4 @@
-use Rattle.std.proofs.Common.{◌≡◌, [], ◌++◌, map}
+use Rattle.starlark_hash.proofs.Common.{◌≡◌, [], ◌++◌, map}
 use Rattle.serde_json.specs.View.{view}
 use Rattle.starlark_map.proofs.Writing.{strings}
 use Rattle.starlark_map.proofs.json.set.set_to_value.Given as goal

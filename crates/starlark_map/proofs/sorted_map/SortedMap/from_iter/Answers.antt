@@ -1,4 +1,4 @@
-use Rattle.std.proofs.Common.{[], map, refl, ap, ◌∙◌}
+use Rattle.starlark_hash.proofs.Common.{[], map, refl, ap, ◌∙◌}
 use Rattle.starlark_small.specs.Collect.{insert_all, own_entry}
 use Rattle.starlark_map.proofs.Ascending.{Ascends-empty}
 use Rattle.starlark_hash.specs.Hasher.{own_hash}

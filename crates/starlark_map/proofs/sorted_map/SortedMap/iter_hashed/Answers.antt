@@ -1,9 +1,6 @@
-use Rattle.std.proofs.Common.{subst}
-use Rattle.starlark_map.specs.Sorted.{AreOwn, AscendsStrictly}
 use Rattle.starlark_map.proofs.Ascending.{Ascends-strictly}
 use Rattle.starlark_map.proofs.sorted_map.SortedMap.iter_hashed.Goals as goal
 
 pub returns-clause-strictly : goal.returns-clause-strictly
 returns-clause-strictly g c =
-    subst (λ m. AreOwn g.K.Hash.hash_input m.entries → AscendsStrictly g.K.Ord.cmp m.entries) c.self.view_is
-    (Ascends-strictly g.met.K.Ord.total g.met.K.Ord.matches_eq g.met.K.Hash.respects_eq c.self.inside.map.entries c.iter_hashed.ensures.single c.self.invariant)
+    rw (← c.self.view_is) (Ascends-strictly g.met.K.Ord.total g.met.K.Ord.matches_eq g.met.K.Hash.respects_eq c.self.inside.map.entries c.iter_hashed.ensures.single c.self.invariant)

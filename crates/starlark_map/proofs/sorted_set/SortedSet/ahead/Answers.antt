@@ -1,14 +1,12 @@
-use Rattle.std.proofs.Common.{ap, sym, subst, ◌∙◌}
-use Rattle.starlark_hash.specs.Entries.{IsSingle}
-use Rattle.starlark_hash.specs.Sort.{Ascends}
+use Rattle.starlark_hash.proofs.Common.{ap, ◌∙◌}
 use Rattle.starlark_map.proofs.Rising.{elements-of}
 use Rattle.starlark_map.proofs.sorted_set.SortedSet.ahead.Goals as goal
 
 pub new-requires-clause-ascends : goal.new-requires-clause-ascends
-new-requires-clause-ascends g c = subst (Ascends g.T.Ord.cmp) (sym (elements-of c.self.inside.inner.entries _ c.iter_hashed.ensures.elements)) c.self.invariant
+new-requires-clause-ascends g c = rw (elements-of c.self.inside.inner.entries _ c.iter_hashed.ensures.elements) c.self.invariant
 
 pub new-requires-clause-single : goal.new-requires-clause-single
-new-requires-clause-single g c = subst (IsSingle g.T.PartialEq.eq) (sym (elements-of c.self.inside.inner.entries _ c.iter_hashed.ensures.elements)) c.iter_hashed.ensures.single
+new-requires-clause-single g c = rw (elements-of c.self.inside.inner.entries _ c.iter_hashed.ensures.elements) c.iter_hashed.ensures.single
 
 pub returns-clause-elements : goal.returns-clause-elements
 returns-clause-elements g c =

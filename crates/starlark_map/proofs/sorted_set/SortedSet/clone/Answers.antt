@@ -1,6 +1,6 @@
-use Rattle.std.proofs.Common.{◌≡◌, refl}
+use Rattle.starlark_hash.proofs.Common.{◌≡◌, refl}
 use Rattle.starlark_map.proofs.Ascending.{Ascends-clones}
-use Rattle.starlark_map.proofs.OwnHashes.{opened, shut}
+use Rattle.starlark_small.specs.Lookup.{AreOwnEntries}
 use Rattle.starlark_map.proofs.sorted_set.SortedSet.clone.Goals as goal
 
 pub invariant_of-result : goal.invariant_of-result
@@ -9,7 +9,8 @@ invariant_of-result g c =
     c.self.inside.inner.entries c.in_ok-clone.field-0.entries c.in_ok-clone.ensures.clone.entries c.self.invariant
 
 pub returns-clause-own : goal.returns-clause-own
-returns-clause-own g c = rw (← c.self.view_is) (λ feeds alike own. opened feeds c.in_ok-clone.field-0.entries (c.in_ok-clone.ensures.clone.own feeds alike (shut feeds c.self.inside.inner.entries own)))
+unfolding AreOwnEntries
+returns-clause-own g c = rw (← c.self.view_is) c.in_ok-clone.ensures.clone.own
 
 pub returns-clause-clones : goal.returns-clause-clones
 returns-clause-clones g c = rw (← c.self.view_is) (record { clone = c.in_ok-clone.ensures.clone; succeeds = λ _. refl })

@@ -1,4 +1,4 @@
-use Rattle.std.proofs.Common.{[], is_some, map, refl, ap, ◌∙◌}
+use Rattle.starlark_hash.proofs.Common.{[], is_some, map, refl, ap, ◌∙◌}
 use Rattle.starlark_small.specs.Collect.{insert_all}
 use Rattle.starlark_sets.specs.Collect.{own_element}
 use Rattle.starlark_map.proofs.Ascending.{Ascends-empty}

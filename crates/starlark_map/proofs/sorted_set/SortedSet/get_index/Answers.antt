@@ -1,9 +1,6 @@
-use Rattle.std.proofs.Common.{subst}
-use Rattle.starlark_map.specs.Sorted.{AreOwn, AscendsStrictly}
 use Rattle.starlark_map.proofs.Ascending.{Ascends-strictly}
 use Rattle.starlark_map.proofs.sorted_set.SortedSet.get_index.Goals as goal
 
 pub returns-clause-strictly : goal.returns-clause-strictly
 returns-clause-strictly g c =
-    subst (λ s. AreOwn g.T.Hash.hash_input s.entries → AscendsStrictly g.T.Ord.cmp s.entries) c.self.view_is
-    (Ascends-strictly g.met.T.Ord.total g.met.T.Ord.matches_eq g.met.T.Hash.respects_eq c.self.inside.inner.entries c.iter_hashed.ensures.single c.self.invariant)
+    rw (← c.self.view_is) (Ascends-strictly g.met.T.Ord.total g.met.T.Ord.matches_eq g.met.T.Hash.respects_eq c.self.inside.inner.entries c.iter_hashed.ensures.single c.self.invariant)

@@ -1,9 +1,8 @@
-use Rattle.std.proofs.Common.{◌≡◌, length, ap, refl, subst, sym, rules, arith}
+use Rattle.starlark_hash.proofs.Common.{◌≡◌, length, ap, refl, rules, arith, deref}
 use Rattle.std.proofs.iter.runs.Sources.{from_front}
-use Rattle.std.specs.Map.Iter.{deref}
 use Rattle.starlark_sets.proofs.Differences.{length-difference-le}
 use Rattle.starlark_sets.specs.Union.{union}
-use Rattle.starlark_map.specs.SortedUnion.{GivesRise, RiseSteps, rise, rise_rest}
+use Rattle.starlark_map.specs.SortedUnion.{RiseSteps, rise, rise_rest}
 use Rattle.starlark_map.proofs.Ascending.{Ascends-strictly, sorted_ascends}
 use Rattle.starlark_map.proofs.Rising.{gives-rise, length-rest, rise-own, rise-single}
 use Rattle.starlark_map.proofs.sorted_set.SortedSet.union.Goals as goal
@@ -27,24 +26,15 @@ pub returns-clause-fits : goal.returns-clause-fits
 returns-clause-fits g c =
     let eq = g.T.PartialEq.eq in let cmp = g.T.Ord.cmp in
     let there = c.self.inside.inner.entries in
-    rw c.new.ensures
-    (omega (
-      arith,
-      length-rest eq cmp (record { left = c.ahead.result; right = c.ahead-2.result; there = there }),
-      length-difference-le eq c.ahead-2.result there,
-      ap length c.ahead.ensures.elements,
-      ap length c.ahead-2.ensures.elements,
-      c.ahead.ensures.few,
-      c.ahead-2.ensures.few,
-    ))
+    let rest = length-rest eq cmp (record { left = c.ahead.result; right = c.ahead-2.result; there = there }) in
+    rw c.new.ensures (omega (arith, rest, length-difference-le eq c.ahead-2.result there, ap length c.ahead.ensures.elements, ap length c.ahead-2.ensures.elements))
 
 pub returns-clause-gives : goal.returns-clause-gives
 returns-clause-gives g c =
     let eq = g.T.PartialEq.eq in let cmp = g.T.Ord.cmp in
     let es = c.args.self.now.entries in let fs = c.args.other.now.entries in
     let is : c.new.result ≡ record { left = es; right = fs; there = es } = search rules in
-    subst (λ u. GivesRise cmp (length es) (length fs) (rise_rest eq cmp u)) (sym is)
-    (gives-rise eq g.met.T.Eq.laws g.met.T.Ord.total es fs (search rules) (returns-clause-ascends g c))
+    rw is (gives-rise eq g.met.T.Eq.laws g.met.T.Ord.total es fs (search rules) (returns-clause-ascends g c))
 
 pub returns-clause-runs : goal.returns-clause-runs
 returns-clause-runs g c =

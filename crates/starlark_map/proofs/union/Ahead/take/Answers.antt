@@ -1,4 +1,4 @@
-use Rattle.std.proofs.Common.{◌≡◌, ◌∷◌, length, ap, sym, subst, arith}
+use Rattle.starlark_hash.proofs.Common.{◌≡◌, ◌∷◌, length, ap, sym, subst, arith}
 use Rattle.starlark_hash.specs.Entries.{IsSingle}
 use Rattle.starlark_hash.specs.Sort.{Ascends}
 use Rattle.starlark_sets.proofs.Differences.{IsSingle-tail}

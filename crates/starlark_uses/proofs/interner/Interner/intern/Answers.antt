@@ -1,4 +1,4 @@
-use Rattle.std.proofs.Common.{ap, sym, ◌∙◌}
+use Rattle.starlark_hash.proofs.Common.{ap, sym, ◌∙◌}
 use Rattle.starlark_uses.specs.Interned.{number_of}
 use Rattle.starlark_uses.proofs.Interning.{next_different, next_number, next_text, number_of-pushed_other, one_text}
 use Rattle.starlark_uses.proofs.interner.Interner.intern.Goals as goal

@@ -1,4 +1,4 @@
-use Rattle.std.proofs.Common.{ap, ◌∙◌}
+use Rattle.starlark_hash.proofs.Common.{ap, ◌∙◌}
 use Rattle.starlark_uses.specs.Interned.{number_of}
 use Rattle.starlark_uses.proofs.Interning.{found, numbered_so}
 use Rattle.starlark_uses.proofs.interner.Interner.number.Goals as goal

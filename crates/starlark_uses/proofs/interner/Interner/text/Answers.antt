@@ -1,4 +1,4 @@
-use Rattle.std.proofs.Common.{Some, ap, sym, ◌∙◌}
+use Rattle.starlark_hash.proofs.Common.{Some, ap, sym, ◌∙◌}
 use Rattle.starlark_uses.specs.Interned.{number_of}
 use Rattle.starlark_uses.proofs.Interning.{number_of-text, text_of-shown}
 use Rattle.starlark_uses.proofs.interner.Interner.text.Goals as goal

@@ -1,4 +1,4 @@
-use Rattle.std.proofs.Common.{ap, ◌∙◌}
+use Rattle.starlark_hash.proofs.Common.{ap, ◌∙◌}
 use Rattle.starlark_uses.specs.Bindings.{lookup}
 use Rattle.starlark_uses.proofs.Bound.{lookup_assigned, lookup_assigned_other}
 use Rattle.starlark_uses.proofs.scopes.Scopes.assign.Goals as goal

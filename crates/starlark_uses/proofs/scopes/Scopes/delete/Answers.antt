@@ -1,4 +1,4 @@
-use Rattle.std.proofs.Common.{ap, ◌∙◌}
+use Rattle.starlark_hash.proofs.Common.{ap, ◌∙◌}
 use Rattle.starlark_uses.specs.Bindings.{found, lookup}
 use Rattle.starlark_uses.proofs.Bound.{lookup_deleted, lookup_deleted_other}
 use Rattle.starlark_uses.proofs.scopes.Scopes.delete.Goals as goal

@@ -1,4 +1,4 @@
-use Rattle.std.proofs.Common.{◌≡◌, List, [], ◌∷◌, ◌++◌, ap, ◌∙◌}
+use Rattle.starlark_hash.proofs.Common.{◌≡◌, List, [], ◌∷◌, ◌++◌, ap, ◌∙◌}
 use Rattle.starlark_uses.specs.Bindings.{Bindings, Scope, bindings, lookup}
 use Rattle.starlark_uses.proofs.Bound.{lookup_entered}
 use Rattle.starlark_uses.proofs.scopes.Scopes.enter.Goals as goal

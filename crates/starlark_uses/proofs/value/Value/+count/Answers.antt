@@ -1,4 +1,4 @@
-use Rattle.std.proofs.Common.{◌≡◌, ◌+◌, ◌-◌, ◌^◌, min, sym, ap, ◌∙◌, arith}
+use Rattle.starlark_hash.proofs.Common.{◌≡◌, ◌+◌, ◌-◌, ◌^◌, min, sym, ap, ◌∙◌, arith}
 use Rattle.starlark_uses.specs.Counts.{count, count_all}
 use Rattle.starlark_uses.proofs.Counted.{count_dict}
 use Rattle.starlark_uses.proofs.value.Value.+count.Goals as goal

@@ -1,4 +1,4 @@
-use Rattle.std.proofs.Common.{◌≡◌, ◌-◌, ◌^◌, ◌+◌, ◌≤◌, min, drop}
+use Rattle.starlark_hash.proofs.Common.{◌≡◌, ◌-◌, ◌^◌, ◌+◌, ◌≤◌, min, drop}
 use Rattle.starlark_uses.specs.Counts.{count, count_all}
 use Rattle.starlark_uses.proofs.value.Value.+count.Given as goal
 
