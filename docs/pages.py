@@ -207,7 +207,7 @@ def type_pages(crate, pages_of_words):
 
 def reference():
     """Each page, by its path."""
-    out = ["# The reference", "", "Written by `make pages` from the comments and the contracts of the sources: the public calls of the crates that a user copies, a page a type, and the words of their contracts. [The guide](../GUIDE.md#how-to-read-a-contract) says how one is read."]
+    out = ["# The reference", "", "Written by `make pages` from the comments and the contracts of the sources: the public calls of the crates that a user copies, a page a type, and the words of their contracts. [The guide](../GUIDE.md#how-to-read-a-contract) says how one is read. A signature stands without the head of its `impl`: its bounds, as `K: Hash + Drop`, are in the source."]
     found, pages_of_words = {}, {(crate, path.stem): {it.name for it in words_of(path)[1]} for crate in copied() for path in word_files(crate)}
     for crate in copied():
         about = re.match(r"//! (.*?)\n(?!//!)", (TOP / f"crates/{crate}/src/lib.rt").read_text(), re.S).group(1).replace("\n//!", "")
