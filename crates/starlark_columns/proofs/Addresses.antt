@@ -1,6 +1,5 @@
 -- The machine's values of an `Address` and of a `Spot`, which own nothing. Assumes `Logic`.
-use Rattle.starlark_columns.proofs.Walking.{◌≡◌, ℕ, ◌<◌, ◌^◌, List, [], ◌∷◌, ◌++◌, refl, ap, ◌∙◌, lit<, w64, Ura, ent, emp, ty_ptr, ty_int, ty_struct, tcons, tnil, Val, vint, vstruct, vcons, vnil, of_list, has_ty, WT, Logic, sem, Is, RattleType, Ptr, block_ptr, null_ptr, ptr_val, makes_shadow}
-use Rattle.std.proofs.Common.{T}
+use Rattle.starlark_columns.proofs.Walking.{◌≡◌, ℕ, ◌<◌, ◌^◌, List, [], ◌∷◌, ◌++◌, refl, ap, ◌∙◌, lit<, w64, Ura, ent, emp, ty_ptr, ty_int, ty_struct, tcons, tnil, Val, vint, vstruct, vcons, vnil, of_list, has_ty, WT, Logic, sem, Is, RattleType, Ptr, block_ptr, null_ptr, ptr_val, makes_shadow, T}
 use Rattle.starlark_columns.specs.contracts.block.Address as address
 use Rattle.starlark_columns.specs.contracts.block.Spot as spot
 

@@ -1,7 +1,6 @@
 -- Columns whose items stand between two cells, before an item is taken and after it.
-use Rattle.std.proofs.Common.{◌≡◌, ℕ, zero, suc, ◌+◌, ◌-◌, ◌<◌, ◌≤◌, true, false, List, [], ◌∷◌, ◌++◌, map, length, take, drop, replicate, get_or, slice_set, Option, Some, None, ap, ◌∙◌, arith, append_assoc}
+use Rattle.std.proofs.Common.{◌≡◌, ℕ, zero, suc, ◌+◌, ◌-◌, ◌<◌, ◌≤◌, true, false, List, [], ◌∷◌, ◌++◌, map, length, take, drop, replicate, get_or, slice_set, Option, Some, None, ap, ◌∙◌, arith, append_assoc, is_some}
 use Rattle.std.proofs.lemmas.List.{length-append, length-take, length-drop, length-map, length-replicate, map-append, nil_from_length, replicate-append-replicate, replicate_more, get_or_at, set_at}
-use Rattle.std.specs.Option.{is_some}
 use Rattle.starlark_columns.specs.Cells.{empties, items_of, IsFilled}
 use Rattle.starlark_columns.specs.Front.{IsFront}
 use Rattle.starlark_columns.specs.Between.{IsBetween}

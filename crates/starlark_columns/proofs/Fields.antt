@@ -1,57 +1,56 @@
 -- The machine's values of the types with pointers, which are one word or nothing. Assumes `Logic`.
-use Rattle.starlark_columns.proofs.Walking.{◌≡◌, List, [], ◌∷◌, ◌++◌, refl, ap, ◌∙◌, Ura, ent, emp, sep, Val, vstruct, vcons, vnil, of_list, ‵, ◌$◌, ◌∵◌, !, qed, move, fjoin, feq_i, fpack, done, Logic, sem, Is, RattleType, Valss, makes_shadow, nothing, shape, Struct, within, Tuple, tuple_type, Ghosts}
+use Rattle.starlark_columns.proofs.Walking.{◌≡◌, List, [], ◌∷◌, ◌++◌, refl, ap, ◌∙◌, Ura, ent, emp, sep, Val, vstruct, vcons, vnil, of_list, Fml, fsep, Item, ‵, ◌$◌, ◌∵◌, !, qed, by, move, use0, fjoin, Logic, sem, Is, RattleType, makes_shadow, nothing, shape, Struct, Tuple, tuple_type, Ghosts, Err, live, owned, Struct-Makes, err_of}
+use types.Kit.{Goal, Step, step}
 use denote.Struct.Declared as Declared
 pub use Rattle.starlark_columns.proofs.Addresses.{word, word_good, address_made, address_told}
-use Rattle.starlark_columns.specs.contracts.block.Claim as claim
+use Rattle.core.specs.contracts as core
+use Rattle.starlark_columns.proofs.LentParts.{as_struct}
+use Rattle.starlark_columns.specs.contracts.block as block
 use Rattle.starlark_columns.specs.contracts.row.Row as row
-use Rattle.starlark_columns.specs.contracts.block.PairClaim as pair_claim
 
 -- a `Row`, a `Claim` or a `PairClaim`
 abbrev pub mark : Val
 mark = vstruct (vcons (vstruct vnil) vnil)
 
--- a tuple of three and of four, from its parts (`LentParts` has that of two)
-module _ {M : Type 1} {𝓤 : Ura M} (𝓛 : Logic 𝓤) (R S : RattleType) (x : R.Denot) (y : S.Denot) (u v : Val) where
-  module _ (Q : RattleType) (z : Q.Denot) (w : Val) where
-    pub three : ent 𝓤 (sep 𝓤 (sem 𝓛 (R.own_val x (u ∷ []))) (sep 𝓤 (sem 𝓛 (S.own_val y (v ∷ []))) (sem 𝓛 (Q.own_val z (w ∷ [])))))
-        (sem 𝓛 ((Tuple (R ∷ S ∷ Q ∷ [])).own_val (x, y, z) (vstruct (vcons u (vcons v (vcons w vnil))) ∷ [])))
-    three = let all = vstruct (vcons u (vcons v (vcons w vnil))) ∷ [] in
-        qed 𝓛 (‵ (R.own_val x (u ∷ [])) ∷ ‵ (S.own_val y (v ∷ [])) ∷ ‵ (Q.own_val z (w ∷ [])) ∷ []) ∵ nothing ! $ move ! (3 ∷ 0 ∷ []) $ fjoin ! $ move ! (2 ∷ 0 ∷ []) $ fjoin ! $ move ! (1 ∷ 0 ∷ []) $ fjoin ! $
-        feq_i ! (List Val) all all refl $ fjoin ! $ fpack ! (Valss (R ∷ S ∷ Q ∷ [])) (within (Declared.shape (tuple_type (R ∷ S ∷ Q ∷ []))) (x, (y, (z, tt))) all) (u ∷ [], (v ∷ [], (w ∷ [], tt))) $ done !
-
-    module _ (P : RattleType) (m : P.Denot) (s : Val) where
-      pub four : ent 𝓤 (sep 𝓤 (sem 𝓛 (R.own_val x (u ∷ []))) (sep 𝓤 (sem 𝓛 (S.own_val y (v ∷ []))) (sep 𝓤 (sem 𝓛 (Q.own_val z (w ∷ []))) (sem 𝓛 (P.own_val m (s ∷ []))))))
-          (sem 𝓛 ((Tuple (R ∷ S ∷ Q ∷ P ∷ [])).own_val (x, y, z, m) (vstruct (vcons u (vcons v (vcons w (vcons s vnil)))) ∷ [])))
-      four = let all = vstruct (vcons u (vcons v (vcons w (vcons s vnil)))) ∷ [] in let Rs = R ∷ S ∷ Q ∷ P ∷ [] in
-          qed 𝓛 (‵ (R.own_val x (u ∷ [])) ∷ ‵ (S.own_val y (v ∷ [])) ∷ ‵ (Q.own_val z (w ∷ [])) ∷ ‵ (P.own_val m (s ∷ [])) ∷ []) ∵ nothing ! $ move ! (4 ∷ 0 ∷ []) $ fjoin ! $ move ! (3 ∷ 0 ∷ []) $ fjoin ! $ move ! (2 ∷ 0 ∷ []) $ fjoin ! $ move ! (1 ∷ 0 ∷ []) $ fjoin ! $
-          feq_i ! (List Val) all all refl $ fjoin ! $ fpack ! (Valss Rs) (within (Declared.shape (tuple_type Rs)) (x, (y, (z, (m, tt)))) all) (u ∷ [], (v ∷ [], (w ∷ [], (s ∷ [], tt)))) $ done !
-
 module _ (R : RattleType) where
-  abbrev pub RowMark : RattleType
-  RowMark = Struct (shape (row.the_type R))
+  abbrev pub AddressOf : RattleType
+  AddressOf = block.Address.the_row R
 
-  pub row_mark_told : (vs : List Val) → Is RowMark (tt, tt) vs → vs ≡ mark ∷ []
-  row_mark_told vs is = is.1.0 ∙ ap (λ (ws : List Val). vstruct (of_list (ws ++ [])) ∷ []) is.1.1.0.1.0
+  abbrev pub RowOf : RattleType
+  RowOf = row.the_row R
 
-  pub row_mark_made : {M : Type 1} {𝓤 : Ura M} (𝓛 : Logic 𝓤) → ent 𝓤 (emp 𝓤) (sem 𝓛 (RowMark.own_val (tt, tt) (mark ∷ [])))
-  row_mark_made 𝓛 = makes_shadow 𝓛 (RowMark.own_val (tt, tt) (mark ∷ [])) (λ vss. (tt, ((λ uss. (tt, tt)), tt))) ((vstruct vnil ∷ [], tt), (refl, ((tt, (refl, tt)), tt)))
+  abbrev pub ClaimOf : (A : RattleType) → Ghosts A.Denot → RattleType
+  ClaimOf A g = block.Claim.the_row R A g
 
-  module _ (A : RattleType) (g : Ghosts A.Denot) where
-    abbrev pub ClaimData : RattleType
-    ClaimData = Struct (shape (claim.the_type R A g))
+  abbrev pub PairClaimOf : (S A : RattleType) → Ghosts A.Denot → RattleType
+  PairClaimOf S A g = block.PairClaim.the_row R S A g
 
-    pub claim_told : (vs : List Val) → Is ClaimData (tt, tt) vs → vs ≡ mark ∷ []
-    claim_told vs is = is.1.0 ∙ ap (λ (ws : List Val). vstruct (of_list (ws ++ [])) ∷ []) is.1.1.0.1.0
+  -- what each of the three has beside its cells or its right
+  abbrev pub Marked : RattleType
+  Marked = Struct (shape (row.the_type R))
 
-    pub claim_made : {M : Type 1} {𝓤 : Ura M} (𝓛 : Logic 𝓤) → ent 𝓤 (emp 𝓤) (sem 𝓛 (ClaimData.own_val (tt, tt) (mark ∷ [])))
-    claim_made 𝓛 = makes_shadow 𝓛 (ClaimData.own_val (tt, tt) (mark ∷ [])) (λ vss. (tt, ((λ uss. (tt, tt)), tt))) ((vstruct vnil ∷ [], tt), (refl, ((tt, (refl, tt)), tt)))
+  pub mark_told : (vs : List Val) → Is Marked (tt, tt) vs → vs ≡ mark ∷ []
+  mark_told vs is = is.1.0 ∙ ap (λ (ws : List Val). vstruct (of_list (ws ++ [])) ∷ []) is.1.1.0.1.0
 
-  module _ (S A : RattleType) (g : Ghosts A.Denot) where
-    abbrev pub PairClaimData : RattleType
-    PairClaimData = Struct (shape (pair_claim.the_type R S A g))
+  pub mark_made : {M : Type 1} {𝓤 : Ura M} (𝓛 : Logic 𝓤) → ent 𝓤 (emp 𝓤) (sem 𝓛 (Marked.own_val (tt, tt) (mark ∷ [])))
+  mark_made 𝓛 = makes_shadow 𝓛 (Marked.own_val (tt, tt) (mark ∷ [])) (λ vss. (tt, ((λ uss. (tt, tt)), tt))) ((vstruct vnil ∷ [], tt), (refl, ((tt, (refl, tt)), tt)))
 
-    pub pair_claim_told : (vs : List Val) → Is PairClaimData (tt, tt) vs → vs ≡ mark ∷ []
-    pair_claim_told vs is = is.1.0 ∙ ap (λ (ws : List Val). vstruct (of_list (ws ++ [])) ∷ []) is.1.1.0.1.0
+-- the mark is put to the cells or the right
+pub marked : {M : Type 1} {𝓤 : Ura M} {𝓛 : Logic 𝓤} {K : Type 0} {Γ : List (Item 𝓤)} {G : Goal 𝓤 𝓛.H} → K → (R : RattleType) {F : Fml} → Step K 𝓛 (‵ (fsep ((Marked R).own_val (tt, tt) (mark ∷ [])) F) ∷ Γ) G (‵ F ∷ Γ) G
+marked {𝓛 = 𝓛} t R = step (λ s. use0 𝓛 (‵ ((Marked R).own_val (tt, tt) (mark ∷ []))) (mark_made R 𝓛) $ fjoin t $ s)
 
-    pub pair_claim_made : {M : Type 1} {𝓤 : Ura M} (𝓛 : Logic 𝓤) → ent 𝓤 (emp 𝓤) (sem 𝓛 (PairClaimData.own_val (tt, tt) (mark ∷ [])))
-    pair_claim_made 𝓛 = makes_shadow 𝓛 (PairClaimData.own_val (tt, tt) (mark ∷ [])) (λ vss. (tt, ((λ uss. (tt, tt)), tt))) ((vstruct vnil ∷ [], tt), (refl, ((tt, (refl, tt)), tt)))
+-- a tuple of four, from its parts (`LentParts` has that of two)
+pub four : {M : Type 1} {𝓤 : Ura M} (𝓛 : Logic 𝓤) (R S Q P : RattleType) (x : R.Denot) (y : S.Denot) (z : Q.Denot) (m : P.Denot) (u v w s : Val)
+    → ent 𝓤 (sep 𝓤 (sem 𝓛 (R.own_val x (u ∷ []))) (sep 𝓤 (sem 𝓛 (S.own_val y (v ∷ []))) (sep 𝓤 (sem 𝓛 (Q.own_val z (w ∷ []))) (sem 𝓛 (P.own_val m (s ∷ []))))))
+    (sem 𝓛 ((Tuple (R ∷ S ∷ Q ∷ P ∷ [])).own_val (x, y, z, m) (vstruct (vcons u (vcons v (vcons w (vcons s vnil)))) ∷ [])))
+four 𝓛 R S Q P x y z m u v w s = qed 𝓛 (‵ (R.own_val x (u ∷ [])) ∷ ‵ (S.own_val y (v ∷ [])) ∷ ‵ (Q.own_val z (w ∷ [])) ∷ ‵ (P.own_val m (s ∷ [])) ∷ []) ∵ nothing ! $
+    move ! (4 ∷ 0 ∷ []) $ fjoin ! $ move ! (3 ∷ 0 ∷ []) $ fjoin ! $ move ! (2 ∷ 0 ∷ []) $ fjoin ! $ move ! (1 ∷ 0 ∷ []) $ fjoin ! $
+    by ! (as_struct 𝓛 (Declared.shape (tuple_type (R ∷ S ∷ Q ∷ P ∷ []))) (x, (y, (z, (m, tt)))) (u ∷ [], (v ∷ [], (w ∷ [], (s ∷ [], tt)))))
+
+-- what a refusal is returned as
+abbrev pub no_block : Val
+no_block = live 1 (vcons (vstruct vnil) vnil)
+
+pub refused : {M : Type 1} {𝓤 : Ura M} (𝓛 : Logic 𝓤) (R : RattleType) → ent 𝓤 (emp 𝓤) (sem 𝓛 ((core.result.Result.the_row R core.alloc.AllocError.the_row).own_val (Err (record {})) (no_block ∷ [])))
+refused 𝓛 R = let S = Declared.shape core.alloc.AllocError.the_type in
+    qed 𝓛 [] ∵ owned ! (Struct S) (Is (Struct S)) (Struct-Makes 𝓛 S tt) tt (vstruct vnil ∷ []) (tt, (refl, tt)) $ by ! (err_of 𝓛 R core.alloc.AllocError.the_row (record {}) (vstruct vnil))

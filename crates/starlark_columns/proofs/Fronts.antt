@@ -1,12 +1,11 @@
 -- Columns whose items stand at the front, before a step and after it.
-use Rattle.std.proofs.Common.{◌≡◌, ℕ, zero, suc, ◌+◌, ◌-◌, ◌<◌, ◌≤◌, true, false, List, [], ◌∷◌, ◌++◌, map, length, take, drop, replicate, get_or, slice_set, Option, Some, None, refl, sym, ap, ◌∙◌, arith, append-nil, append_assoc}
-use Rattle.std.proofs.lemmas.List.{length-map, length-replicate, length-append, length-take, length-drop, nil_from_length, take_at, drop_at, set_at, get_or_at, map-append, replicate-append-replicate, drop-replicate, take-take, drop-set-lt}
+use Rattle.std.proofs.Common.{◌≡◌, ℕ, zero, suc, ◌+◌, ◌-◌, ◌<◌, ◌≤◌, true, false, List, [], ◌∷◌, ◌++◌, map, length, take, drop, replicate, get_or, slice_set, Option, Some, None, refl, sym, ap, ◌∙◌, arith, append-nil, append_assoc, is_some, slice_range, slice_get, length-set}
+use Rattle.std.proofs.lemmas.List.{length-map, length-replicate, length-append, length-take, length-drop, nil_from_length, take_at, drop_at, set_at, get_or_at, map-append, map-set, set-append_left, replicate-append-replicate, drop-replicate, take-take, drop-set-lt}
 use Rattle.std.proofs.lemmas.Grind.{common_steps}
-use lib.ListN.{length-set}
-use Rattle.std.specs.List.{slice_range, slice_get, remove, refill, length_refill}
-use Rattle.std.specs.Option.{is_some}
+use Rattle.std.specs.List.{remove, refill, length_refill}
 use Rattle.starlark_columns.specs.Cells.{empties, items_of, IsFilled, AreFilled, AreEmpty, with_range, moved_down}
 use Rattle.starlark_columns.specs.Front.{IsFront, with_items}
+use Rattle.starlark_columns.specs.Slots.{emptied}
 
 module _ {X : Type 0} where
   -- xs, and m empty cells behind them
@@ -86,10 +85,10 @@ module _ {X : Type 0} where
     pub front_free : get_or cs n None ≡ None
     front_free = grind (arith, common_steps, row_is, long)
 
-    pub front_pushed : (ds : List (Option X)) (x : X) → n < length cs → ds ≡ slice_set cs n (Some x) → IsFront ds (n + 1) × (items_of ds ≡ items_of cs ++ x ∷ [])
-    front_pushed ds x lt e = let k = left - 1 in let more : left ≡ suc k = omega arith in
-        is_row ds (items_of cs ++ x ∷ []) (n + 1) k
-        (e ∙ ap (λ l. slice_set l n (Some x)) (row_is ∙ ap (row (items_of cs)) more) ∙ set_at (map Some (items_of cs)) None (empties k) (Some x) n long ∙ simp (map-append, append_assoc))
+    pub front_pushed : (x : X) → n < length cs → IsFront (slice_set cs n (Some x)) (n + 1) × (items_of (slice_set cs n (Some x)) ≡ items_of cs ++ x ∷ [])
+    front_pushed x lt = let k = left - 1 in let more : left ≡ suc k = omega arith in
+        is_row (slice_set cs n (Some x)) (items_of cs ++ x ∷ []) (n + 1) k
+        (ap (λ l. slice_set l n (Some x)) (row_is ∙ ap (row (items_of cs)) more) ∙ set_at (map Some (items_of cs)) None (empties k) (Some x) n long ∙ simp (map-append, append_assoc))
         (omega (arith, length-append (items_of cs) (x ∷ []), front.count))
 
     written : (ws : List X) → IsFront (with_items cs ws) n × (items_of (with_items cs ws) ≡ refill (length (items_of cs)) (items_of cs) ws)
@@ -141,8 +140,8 @@ module _ {X : Type 0} where
       at : get_or cs i None ≡ Some the.0
       at = ap (λ l. get_or l i None) cut ∙ get_or_at (map Some before) (Some the.0) (row after left) None i long_before
 
-      put : (c : Option X) → slice_set cs i c ≡ map Some before ++ c ∷ row after left
-      put c = ap (λ l. slice_set l i c) cut ∙ set_at (map Some before) (Some the.0) (row after left) c i long_before
+      put : slice_set cs i None ≡ map Some before ++ None ∷ row after left
+      put = ap (λ l. slice_set l i None) cut ∙ set_at (map Some before) (Some the.0) (row after left) None i long_before
 
       pub front_filled : IsFilled cs i
       front_filled = (the.0, at)
@@ -152,15 +151,14 @@ module _ {X : Type 0} where
 
       -- after a `&mut` to the item has ended
       pub set_front : (w : X) → IsFront (slice_set cs i (Some w)) n × (items_of (slice_set cs i (Some w)) ≡ slice_set (items_of cs) i w)
-      set_front w = let here : length before ≡ i = omega (arith, long_before, length-map before Some) in
-          let same : slice_set (items_of cs) i w ≡ before ++ w ∷ after = ap (λ l. slice_set l i w) the.1 ∙ set_at before the.0 after w i here in
-          let is = is_row (slice_set cs i (Some w)) (before ++ w ∷ after) n left (put (Some w) ∙ simp (map-append, append_assoc)) (omega (arith, length-append before (w ∷ after), all_of, length-map after Some)) in
-          (is.0, is.1 ∙ sym same)
+      set_front w = is_row (slice_set cs i (Some w)) (slice_set (items_of cs) i w) n left
+          (ap (λ l. slice_set l i (Some w)) row_is ∙ set-append_left (map Some (items_of cs)) (empties left) i (Some w) (omega (arith, long)) ∙ ap (λ l. l ++ empties left) (sym (map-set Some (items_of cs) i w)))
+          (length-set (items_of cs) i w ∙ front.count)
 
       module _ (ds : List (Option X)) (e : ds ≡ slice_set cs i None) where
         -- the items behind the gap
         rest : slice_range ds (i + 1) n ≡ map Some after
-        rest = middle ds (map Some before ++ None ∷ []) (map Some after) (empties left) (i + 1) n (e ∙ put None ∙ simp append_assoc)
+        rest = middle ds (map Some before ++ None ∷ []) (map Some after) (empties left) (i + 1) n (e ∙ put ∙ simp append_assoc)
             (omega (arith, length-append (map Some before) (None ∷ []), long_before)) (omega (arith, all_of))
 
         pub rest_filled : AreFilled ds (i + 1) n
@@ -168,10 +166,10 @@ module _ {X : Type 0} where
 
         pub gap_empty : AreEmpty ds i (i + 1)
         gap_empty = let one : i + 1 - i ≡ 1 = omega arith in
-            (omega arith, omega (arith, front.within, ap length e, length-set cs i None), cc (one, middle ds (map Some before) (None ∷ []) (row after left) i (i + 1) (e ∙ put None) long_before refl))
+            (omega arith, omega (arith, front.within, ap length e, length-set cs i None), cc (one, middle ds (map Some before) (None ∷ []) (row after left) i (i + 1) (e ∙ put) long_before refl))
 
         pub front_removed : (es : List (Option X)) → es ≡ moved_down ds (i + 1) n i → IsFront es (n - 1) × (items_of es ≡ remove (items_of cs) i)
-        front_removed es f = let one : i + 1 - i ≡ 1 = omega arith in let head : take i ds ≡ map Some before = ap (take i) (e ∙ put None) ∙ take_at (map Some before) (None ∷ row after left) i long_before in
+        front_removed es f = let one : i + 1 - i ≡ 1 = omega arith in let head : take i ds ≡ map Some before = ap (take i) (e ∙ put) ∙ take_at (map Some before) (None ∷ row after left) i long_before in
             let tail : drop n ds ≡ empties left = ap (drop n) e ∙ drop-set-lt n cs i None lt ∙ front_rest in
             is_row es (before ++ after) (n - 1) (suc left) (f ∙ simp (head, rest, tail, one, map-append, append_assoc))
             (omega (arith, length-append before after, length-map before Some, length-map after Some, long_before, all_of))
@@ -179,7 +177,7 @@ module _ {X : Type 0} where
         -- where it was the last item
         pub last_taken : (x : X) → i + 1 ≡ n → get_or cs i None ≡ Some x → IsFront ds i × (items_of cs ≡ items_of ds ++ x ∷ [])
         last_taken x last f = let none : after ≡ [] = nil_from_length after (omega (arith, all_of, length-map after Some)) in
-            let is = is_row ds before i (suc left) (e ∙ put None ∙ ap (λ l. map Some before ++ None ∷ row l left) none) (omega (arith, long_before, length-map before Some)) in
+            let is = is_row ds before i (suc left) (e ∙ put ∙ ap (λ l. map Some before ++ None ∷ row l left) none) (omega (arith, long_before, length-map before Some)) in
             (is.0, cc (the.1, at, none, is.1))
 
   -- the first items, once the last of some more is gone
@@ -188,3 +186,12 @@ module _ {X : Type 0} where
 
   pub front_empties : (cs : List (Option X)) (n : ℕ) → cs ≡ empties n → IsFront cs 0 × (items_of cs ≡ []) × (length cs ≡ n)
   front_empties cs n e = let front = is_row cs [] 0 n e refl in (front.0, front.1, ap length e ∙ length-replicate n None)
+
+  -- ---- rows of which each cell has an item
+  pub all_emptied : (cs : List (Option X)) (n : ℕ) → n ≡ length cs → emptied 0 n cs ≡ empties n
+  all_emptied (c ∷ cs) (suc n) e = rw (all_emptied cs n (omega arith))
+  all_emptied cs n e = grind arith
+
+  -- after a `&mut` to all items has ended, each cell has one as before
+  pub written_full : (cs : List (Option X)) → IsFront cs (length cs) → (ws : List X) → IsFront (with_items cs ws) (length (with_items cs ws))
+  written_full cs front ws = rw (written_cells cs (length cs) front ws) (written_front cs (length cs) front ws)

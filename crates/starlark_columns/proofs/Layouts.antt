@@ -2,11 +2,9 @@
 use Rattle.std.proofs.Common.{◌≡◌, ℕ, ◌+◌, ◌-◌, ◌*◌, ◌%◌, ◌^◌, ◌<◌, min, max, sym, ◌∙◌, arith}
 use mir.Syntax.{Ty, Width}
 use mir.Val.{bytes}
-use native.Mathlib.Nat.{zero-add}
+use Rattle.starlark_columns.proofs.Walking.{zero-add, size, align, pad, up, capped, HasLayout}
 use prog.Align.{align_w, align-bytes, align_pos}
 use prog.Capped.{capped_is, capped_small}
-use prog.Memory.{size, align, pad, up, capped}
-use Rattle.core.specs.Allocator.{HasLayout}
 use Rattle.starlark_columns.specs.Pair.{two_arrays, arrays_skipped}
 use Rattle.starlark_columns.proofs.PairRooms.{starts_flush, both_within}
 use Rattle.std.proofs.lemmas.Bool.Decides.{nat_tests}
@@ -25,10 +23,7 @@ up_cut : (x k : ℕ) → min (capped x + pad k (capped x)) Greatest ≡ capped (
 up_cut x k = rw (cut x, cut (up k x)) (grind arith)
 
 exact : (τ : Ty) → capped (align τ) ≡ align τ
-exact τ = capped_is (align τ) (rw align-bytes (each (align_w τ)))
-  where
-    each : (w : Width) → bytes w < 2 ^ 64
-    each w = grind arith
+exact τ = let each : (w : Width) → bytes w < 2 ^ 64 = λ w. grind arith in capped_is (align τ) (rw align-bytes (each (align_w τ)))
 
 pub some_align : (τ : Ty) (a : ℕ) → a ≡ capped (align τ) → 0 < a
 some_align τ a e = omega (arith, exact τ, align_pos τ)

@@ -1,10 +1,6 @@
 -- What a `&` to a row of cells holds is made where a `&` to one item is. Assumes `Logic`.
-use Rattle.std.specs.Prelude.{◌*◌, ◌^◌, List, [], ◌∷◌, length, Option, Some, None}
-use Rattle.std.specs.Mem.{type_size}
-use seplogic.Ra.Ura.{Ura}
+use Rattle.starlark_columns.proofs.Walking.{◌*◌, ◌^◌, List, [], ◌∷◌, length, Option, Some, None, type_size, Ura, Logic, Laws}
 use base.Fml.{Fml, Lft, Incl, ftrue, ffalse, flt}
-use types.Logic.{Logic}
-use denote.Param.Laws.{Laws}
 use denote.RattleType.{RattleType, RowLaws}
 use denote.RawPtr.{Ptr, block_ptr, null_ptr, in_block, ◌+ₚ◌}
 use denote.Shares.{Shares-less}

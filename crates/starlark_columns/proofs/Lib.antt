@@ -1,6 +1,7 @@
 mod Lending
 mod Crossing
 mod Memory
+mod RowValues
 mod Fields
 mod RowCalls
 mod PairRooms
@@ -10,7 +11,6 @@ mod LentCells
 mod ColumnOpens
 mod PairParts
 mod EntryOut
-mod ByteRows
 pub mod Fronts
 pub mod NamedClose
 pub mod Betweens
@@ -18,3 +18,4 @@ pub mod LoneValue
 pub mod LentParts
 pub mod Addresses
 pub mod Walking
+pub mod Steps

@@ -1,13 +1,5 @@
 -- The one machine value of what a type owns. Assumes `Logic`.
-use mathlib.Core.Path.{◌≡◌, subst}
-use mathlib.Core.List.{List, [], ◌∷◌}
-use seplogic.Ra.Ura.{Ura}
-use mir.Val.{Val}
-use types.Logic.{Logic}
-use denote.RattleType.{RattleType}
-use denote.Laws.{Is}
-use denote.Param.{layout}
-use denote.Param.Laws.{Laws}
+use Rattle.starlark_columns.proofs.Walking.{◌≡◌, subst, List, [], ◌∷◌, Ura, Val, Logic, RattleType, Is, layout, Laws}
 use Rattle.core.proofs.cell.Inside.{one, Good}
 
 pub lone_value : {M : Type 1} {𝓤 : Ura M} (𝓛 : Logic 𝓤) (R : RattleType) → Laws R → (x : R.Denot) (vs : List Val) → Is R x vs → (u : Val) × (vs ≡ u ∷ []) × Good (layout R) u

@@ -66,17 +66,14 @@ module _ (I : SemTy) (K V : RattleType) (LK : Laws K) {M : Type 1} {𝓤 : Ura M
   Parted δ = ‵ ((ShrRef ℓ κ K).own_val (record { ref_ptr = (b, ok); now = x }) (vptr b ok ∷ [])) ⊛ ‵ ((MutRef ℓ κ V).own_val (record { ref_ptr = (b, ov); ghost_name = δ; now = y }) (vptr b ov ∷ [])) ⊛ ‵ (flft κ q)
 
   module _ (again : (v : V.Denot) → ent 𝓤 (sep 𝓤 (sem 𝓛 ((mem V).own_at v b ov)) (sep 𝓤 (sem 𝓛 (part_at K full_share x b ok)) Rest)) (sem 𝓛 (I.own_at (put v) b o))) where
-    back : (v : V.Denot) → ent 𝓤 (sep 𝓤 (sem 𝓛 ((mem V).own_at v b ov)) (sep 𝓤 (sem 𝓛 (fseps (Shared ∷ []))) Rest)) (sem 𝓛 (I.own_at (put v) b o))
-    unfolding fseps
-    back v = qed 𝓛 (‵ ((mem V).own_at v b ov) ∷ ‵ (fseps (Shared ∷ [])) ∷ raw Rest ∷ []) ∵ move ! (1 ∷ []) $ fsplit ! $ keep ! (2 ∷ 0 ∷ 3 ∷ []) $ by ! (again v)
-
     pub parts_leave : (u w : Gv) → ent 𝓤 (sep 𝓤 (A.obor κ q (Body I b o γ)) (sep 𝓤 (A.obs γ u) (sep 𝓤 (A.auth γ w) (sep 𝓤 (sem 𝓛 ((mem V).own_at y b ov)) (sep 𝓤 (sem 𝓛 (part_at K full_share x b ok)) Rest))))) (H.⇛ (mean 𝓛 (some Parted)))
     unfolding fseps
     parts_leave u w =
         qed 𝓛 (‵ (fobor κ q (Body I b o γ)) ∷ ‵ (fobs γ u) ∷ ‵ (fauth γ w) ∷ ‵ ((mem V).own_at y b ov) ∷ ‵ Shared ∷ raw Rest ∷ []) ∵ updating ! $
         use0 𝓛 (‵ ftrue) (id⊢ 𝓤 (emp 𝓤)) $ move ! (5 ∷ 0 ∷ []) $ fjoin ! $ move ! (1 ∷ 2 ∷ 3 ∷ 4 ∷ 0 ∷ 5 ∷ []) $ group ! 6 $
         use1 𝓛 (later (some (λ (δ : GName). ‵ (fobs δ (V.coded.code y)) ⊛ ‵ (fbor κ (Body (mem V) b ov δ)) ⊛ ‵ (flft κ q) ⊛ ‵ (after I (mem V) γ δ put) ⊛ (‵ (fbor κ Shared) ⊛ raw (emp 𝓤)))))
-        (takes_beside 𝓛 I (mem V) put κ q b o b ov γ (Shared ∷ []) Rest back u w y) $ await ! tt $ pick ! (λ δ. split3 ! $
+        (takes_beside 𝓛 I (mem V) put κ q b o b ov γ (Shared ∷ []) Rest
+        (λ v. qed 𝓛 (‵ ((mem V).own_at v b ov) ∷ ‵ (fseps (Shared ∷ [])) ∷ raw Rest ∷ []) ∵ move ! (1 ∷ []) $ fsplit ! $ keep ! (2 ∷ 0 ∷ 3 ∷ []) $ by ! (again v)) u w y) $ await ! tt $ pick ! (λ δ. split3 ! $
         feq_i ! (List Val) (vptr b ov ∷ []) (vptr b ov ∷ []) refl $ fjoin3 ! $ move ! (1 ∷ []) $ split3 ! $ move ! (2 ∷ []) $ split ! $
         -- [the borrow of the shared part; nothing; the token; what follows; the `&mut`]
         move ! (0 ∷ 2 ∷ []) $ use2 𝓛 (later (‵ (K.shr_at x b ok κ) ⊛ ‵ (flft κ q))) (LK.shares 𝓛 x κ ((κ, q) ∷ []) b ok long (Incl-refl κ)) $ await ! tt $ split ! $

@@ -1,11 +1,15 @@
 -- Room for two arrays is cut into the rooms of both, with the way back. Assumes `Logic`.
-use Rattle.starlark_columns.proofs.Walking.{◌≡◌, ℕ, zero, ◌+◌, ◌*◌, ◌<◌, ◌^◌, false, [], ◌∷◌, refl, sym, arith, zero-add, eqb, Ura, ftrue, froom, SProp, ent, sep, wand, id⊢, apply∗, bare, Ty, Tys, tcons, tnil, ty_array, capped_small, size, align, up, capped, rooms_at, ‵, raw, ◌⊛◌, ◌$◌, ◌∵◌, !, qed, by, move, keep, use1, use2, split, split3, group, rewrite, assume, done, Logic, sem, block_ptr, nothing}
+use Rattle.starlark_columns.proofs.Walking.{◌≡◌, ℕ, zero, ◌+◌, ◌*◌, ◌<◌, ◌^◌, Bool, false, [], ◌∷◌, refl, sym, ap, arith, zero-add, eqb, cond, Ura, Fml, ftrue, froom, SProp, ent, sep, wand, id⊢, apply∗, bare, Ty, Tys, tcons, tnil, ty_array, capped_small, size, align, up, capped, rooms_at, ‵, raw, ◌⊛◌, ◌$◌, ◌∵◌, !, qed, by, move, keep, use1, use2, split, split3, group, rewrite, assume, done, Logic, sem, block_ptr, nothing}
 use Rattle.std.proofs.lemmas.Bool.Decides.{nat_tests}
 use Rattle.std.proofs.lemmas.Grind.{common_steps}
 use Rattle.starlark_columns.specs.Pair.{two_arrays, rooms_rejoin}
 
-pub some_weight : (k : ℕ) → 0 < k → eqb k 0 ≡ false
-some_weight k h = grind (arith, nat_tests)
+-- what is owned of cells that take bytes, and of cells that take none
+pub some_weight : (k : ℕ) (F : Fml) → 0 < k → cond (eqb k 0) ftrue F ≡ F
+some_weight k F h = let e : eqb k 0 ≡ false = grind (arith, nat_tests) in ap (λ (z : Bool). cond z ftrue F) e
+
+pub no_weight : (k : ℕ) (F : Fml) → k ≡ 0 → cond (eqb k 0) ftrue F ≡ ftrue
+no_weight k F e = ap (λ (i : ℕ). cond (eqb i 0) ftrue F) e
 
 pub starts_flush : (τ : Ty) → up (align τ) 0 ≡ 0
 starts_flush τ = grind (arith, common_steps)

@@ -1,16 +1,13 @@
 -- The two calls between cells that a walk holds and the kit's slots: what each asks for, and what it gives. Assumes `Logic`.
-use Rattle.starlark_columns.proofs.Walking.{◌≡◌, ℕ, ◌*◌, ◌<◌, ◌^◌, Bool, List, [], ◌∷◌, ◌++◌, length, refl, sym, ap, ◌∙◌, lit<, w64, Ura, Fml, Lft, Share, ftrue, fsep, flft, SProp, ent, sep, ex, guard, emp, id⊢, ◌⊑◌, Fun, fact, fact_i, ty_ptr, ty_int, ty_struct, tcons, tnil, Val, vint, vptr, vstruct, of_list, has_ty, WT, Memory, Routine, ‵, raw, ◌⊛◌, some, later, ◌$◌, ◌∵◌, !, qed, move, keep, drop, use0, use1, split, join, pick, rewrite, fsplit, fsplit3, fjoin, fjoin3, fpick, feq_i, feq_l, flt_i, check, show, await, updating, now, done, Logic, sem, usize, Is, RattleType, Ptr, RawPtr, block_ptr, null_ptr, ptr_val, in_block, heard, nothing, only, Tuple, triple_of, Contract, El, el_x, Sr, words_val, row_val, row_had, row_made, sz, slots, slots_items, slots_filled, slots_ptr, slots_len}
-use Rattle.std.proofs.Common.{T}
-use Rattle.core.proofs.mem.Param.{R}
+use Rattle.starlark_columns.proofs.Walking.{◌≡◌, ℕ, ◌*◌, ◌<◌, ◌^◌, Bool, List, [], ◌∷◌, ◌++◌, length, refl, sym, ap, ◌∙◌, lit<, w64, Ura, Fml, Lft, Share, ftrue, fsep, flft, SProp, ent, sep, ex, guard, emp, id⊢, ◌⊑◌, Fun, fact, fact_i, ty_ptr, ty_int, ty_struct, tcons, tnil, Val, vint, vptr, vstruct, of_list, has_ty, WT, Memory, Routine, ‵, raw, ◌⊛◌, some, later, ◌$◌, ◌∵◌, !, qed, move, keep, drop, use0, use1, split, join, pick, rewrite, fsplit, fsplit3, fjoin, fjoin3, fpick, feq_i, feq_l, flt_i, check, show, await, updating, now, done, Logic, sem, usize, Is, RattleType, Ptr, RawPtr, block_ptr, null_ptr, ptr_val, in_block, heard, nothing, only, Tuple, triple_of, Contract, El, el_x, Sr, words_val, row_val, row_had, row_made, sz, slots, slots_items, slots_filled, slots_ptr, slots_len, T, R}
 use Rattle.core.specs.Mem.Slots.Ownership.{owned}
-use Rattle.core.specs.contracts.slots.Slots.from_raw_parts as makes
-use Rattle.core.specs.contracts.slots.Slots.into_raw_parts as breaks
+use Rattle.core.specs.contracts.slots.Slots as slots_calls
 
 module _ (E : El) {M : Type 1} {𝓤 : Ura M} (𝓛 : Logic 𝓤) (at_mem : Memory → SProp 𝓤) (run : Routine → Fun 𝓤) where
   open 𝓛 use {H, A}
 
   abbrev pub Makes : Contract 𝓤
-  Makes = triple_of 𝓛 (makes.signature E.row) (makes.spec E.row 𝓛 at_mem run)
+  Makes = triple_of 𝓛 (slots_calls.from_raw_parts.signature E.row) (slots_calls.from_raw_parts.spec E.row 𝓛 at_mem run)
 
   module _ (κ : Lft) (q : Share) (b o n : ℕ) (xs : List (el_x E)) (fs : List Bool) where
     abbrev pub at_makes : Makes.Ghost
@@ -45,7 +42,7 @@ module _ (E : El) {M : Type 1} {𝓤 : Ura M} (𝓛 : Logic 𝓤) (at_mem : Memo
   Parts = Tuple (RawPtr ∷ usize ∷ [])
 
   abbrev pub Breaks : Contract 𝓤
-  Breaks = triple_of 𝓛 (breaks.signature E.row) (breaks.spec E.row 𝓛 at_mem run)
+  Breaks = triple_of 𝓛 (slots_calls.into_raw_parts.signature E.row) (slots_calls.into_raw_parts.spec E.row 𝓛 at_mem run)
 
   module _ (κ : Lft) (q : Share) (r : (Sr E).Denot) (b o : ℕ) where
     abbrev v : Val

@@ -1,15 +1,13 @@
 -- What a step on slots is on cells.
-use Rattle.std.proofs.Common.{◌≡◌, ℕ, zero, suc, ◌+◌, ◌-◌, ◌<◌, ◌≤◌, min, max, Bool, true, false, List, [], ◌∷◌, ◌++◌, map, length, take, drop, get_or, Option, Some, None, refl, sym, ap, ◌∙◌, arith}
-use lib.ListN.{set, take-append-drop, get_or-replicate, length-take, length-drop, length-replicate, length-append}
-use lib.Seq.{drop-cons}
-use mathlib.Core.Logic.{◌⊎◌, inl, inr, ⊎_elim}
-use Rattle.std.proofs.lemmas.List.{ext_get_or, get_or-take, get_or-drop, get_or_append_left, get_or-append_right, length-map, get_or-map, get_or_past}
+use Rattle.std.proofs.Common.{◌≡◌, ℕ, zero, suc, ◌+◌, ◌-◌, ◌<◌, ◌≤◌, min, max, Bool, true, false, List, [], ◌∷◌, ◌++◌, map, length, take, drop, get_or, Option, Some, None, refl, sym, ap, ◌∙◌, arith, ◌⊎◌, inl, inr, set, slice_range, drop-cons}
+use mathlib.Core.Logic.{⊎_elim}
+use Rattle.std.proofs.lemmas.List.{take-append-drop, get_or-replicate, length-take, length-drop, length-replicate, length-append, ext_get_or, get_or-take, get_or-drop, get_or_append_left, get_or-append_right, length-map, get_or-map, get_or_past}
 use Rattle.std.proofs.lemmas.Bool.{cases_lt}
 use Rattle.std.proofs.lemmas.Grind.{common_steps}
 use Rattle.std.proofs.lemmas.List.Folds.{drop_split}
-use Rattle.std.specs.List.{slice_range}
 use Rattle.starlark_columns.specs.Cells.{empties, IsFilled, AreFilled, AreEmpty, with_range, moved_down}
 use Rattle.starlark_columns.specs.Slots.{cell_of, cells_of, emptied}
+use Rattle.core.specs.declared.slots.Slots.{Slots}
 use Rattle.starlark_columns.proofs.Memory.{cells_count, emptied_count}
 
 module _ {X : Type 0} where
@@ -45,10 +43,10 @@ module _ {X : Type 0} where
   filled_within cs i f = grind (arith, get_or_past cs i None, f.1)
 
   -- where a row has an item, its slot is there and has it
-  pub at_item : (xs : List X) (fs : List Bool) (cs : List (Option X)) (k : ℕ) (y : X) → length fs ≡ length xs → cells_of xs fs ≡ cs → get_or cs k None ≡ Some y
-      → (k < length xs) × (get_or fs k false ≡ true) × ((d : X) → get_or xs k d ≡ y)
-  at_item xs fs cs k y e is at = let some = filled_within cs k (y, at) in let lt : k < length xs = omega (arith, ap length is, cells_count xs fs e) in
-      (lt, grind (arith, at_row xs fs k y e lt), λ d. grind (arith, at_row xs fs k d e lt))
+  pub at_item : (r : Slots X) (cs : List (Option X)) (k : ℕ) (y : X) → cells_of r.items r.filled ≡ cs → get_or cs k None ≡ Some y
+      → (k < length r.items) × (get_or r.filled k false ≡ true) × ((d : X) → get_or r.items k d ≡ y)
+  at_item r cs k y is at = let some = filled_within cs k (y, at) in let e : length r.filled ≡ length r.items = sym r.ok.1 ∙ r.ok.0 in
+      let lt : k < length r.items = omega (arith, ap length is, cells_count r.items r.filled e) in (lt, grind (arith, at_row r.items r.filled k y e lt), λ d. grind (arith, at_row r.items r.filled k d e lt))
 
   pub at_range : (cs : List (Option X)) (from to j : ℕ) → j < to - from → get_or (slice_range cs from to) j None ≡ get_or cs (from + j) None
   at_range cs from to j lt = rw (get_or-take, get_or-drop)
@@ -57,7 +55,7 @@ module _ {X : Type 0} where
   at_somes [] j lt = absurd (omega arith)
   at_somes (x ∷ xs) j lt = (get_or (x ∷ xs) j x, get_or-map Some (x ∷ xs) j x None lt)
 
-  range_long : (cs : List (Option X)) (from to : ℕ) → from ≤ to → to ≤ length cs → length (slice_range cs from to) ≡ to - from
+  pub range_long : (cs : List (Option X)) (from to : ℕ) → from ≤ to → to ≤ length cs → length (slice_range cs from to) ≡ to - from
   range_long cs from to le in_row = simp (length-take, length-drop) (omega arith)
 
   -- each cell of a filled range is filled
@@ -74,62 +72,61 @@ module _ {X : Type 0} where
       (λ k lt. grind (arith, out k lt, within (k - low), length-take low cs, get_or_append_left {A = Option X}, get_or-append_right {X = Option X}, get_or-take {A = Option X}, get_or-drop {A = Option X}))
 
   -- the slots of a row before a step and after it
-  module _ (xs ys : List X) (fs gs : List Bool) (cs : List (Option X)) (d : X) (long_fs : length fs ≡ length xs) (long_ys : length ys ≡ length xs) (long_gs : length gs ≡ length xs) (is : cells_of xs fs ≡ cs) where
-    count : length cs ≡ length xs
-    count = ap length (sym is) ∙ cells_count xs fs long_fs
+  module _ (r s : Slots X) (cs : List (Option X)) (d : X) (same : s.len ≡ r.len) (is : cells_of r.items r.filled ≡ cs) where
+    long : length s.items ≡ length cs
+    long = omega (arith, ap length is, cells_count r.items r.filled (omega arith), r.ok.0, s.ok.0)
 
-    pub after_count : (u v : ℕ) → length (emptied u v (cells_of ys gs)) ≡ length cs
-    after_count u v = omega (arith, emptied_count u v (cells_of ys gs), cells_count ys gs (omega arith), count)
+    pub after_count : (u v : ℕ) → length (emptied u v (cells_of s.items s.filled)) ≡ length cs
+    after_count u v = omega (arith, emptied_count u v (cells_of s.items s.filled), cells_count s.items s.filled (omega arith), long)
 
     -- a cell that no step has touched
-    kept : (u v k : ℕ) → k < length cs → (k < u) ⊎ (v ≤ k) → get_or ys k d ≡ get_or xs k d → get_or gs k false ≡ get_or fs k false → get_or (emptied u v (cells_of ys gs)) k None ≡ get_or cs k None
-    kept u v k lt out same_item same_flag = cc (out_emptied u v (cells_of ys gs) k out, at_row ys gs k d (omega arith) (omega (arith, count)), at_row xs fs k d long_fs (omega (arith, count)))
+    kept : (u v k : ℕ) → k < length cs → (k < u) ⊎ (v ≤ k) → get_or s.items k d ≡ get_or r.items k d → get_or s.filled k false ≡ get_or r.filled k false → get_or (emptied u v (cells_of s.items s.filled)) k None ≡ get_or cs k None
+    kept u v k lt out same_item same_flag = cc (out_emptied u v (cells_of s.items s.filled) k out, at_row s.items s.filled k d (omega arith) (omega (arith, long)), at_row r.items r.filled k d (omega arith) (omega (arith, long, r.ok.0, s.ok.0)))
 
     -- a cell to which an item has moved from cell j
-    come : (u v k j : ℕ) → k < length cs → (k < u) ⊎ (v ≤ k) → IsFilled cs j → get_or ys k d ≡ get_or xs j d → get_or gs k false ≡ true → get_or (emptied u v (cells_of ys gs)) k None ≡ get_or cs j None
-    come u v k j lt out full same_item there = let at = at_item xs fs cs j full.0 long_fs is full.1 in
-        cc (out_emptied u v (cells_of ys gs) k out, at_row ys gs k d (omega arith) (omega (arith, count)), at.2 d, full.1)
+    come : (u v k j : ℕ) → k < length cs → (k < u) ⊎ (v ≤ k) → IsFilled cs j → get_or s.items k d ≡ get_or r.items j d → get_or s.filled k false ≡ true → get_or (emptied u v (cells_of s.items s.filled)) k None ≡ get_or cs j None
+    come u v k j lt out full same_item there = cc (out_emptied u v (cells_of s.items s.filled) k out, at_row s.items s.filled k d (omega arith) (omega (arith, long)), (at_item r cs j full.0 is full.1).2 d, full.1)
 
-    pub down : (from end to : ℕ) → AreFilled cs from end → AreEmpty cs to from → ((k : ℕ) → k < end - from → get_or ys (to + k) d ≡ get_or xs (from + k) d)
-        → ((k : ℕ) → (k < to) ⊎ (to + (end - from) ≤ k) → get_or ys k d ≡ get_or xs k d) → ((k : ℕ) → to ≤ k → k < to + (end - from) → get_or gs k false ≡ true)
-        → ((k : ℕ) → (k < min from to) ⊎ (max from to + (end - from) ≤ k) → get_or gs k false ≡ get_or fs k false) → emptied (to + (end - from)) end (cells_of ys gs) ≡ moved_down cs from end to
+    pub down : (from end to : ℕ) → AreFilled cs from end → AreEmpty cs to from → ((k : ℕ) → k < end - from → get_or s.items (to + k) d ≡ get_or r.items (from + k) d)
+        → ((k : ℕ) → (k < to) ⊎ (to + (end - from) ≤ k) → get_or s.items k d ≡ get_or r.items k d) → ((k : ℕ) → to ≤ k → k < to + (end - from) → get_or s.filled k false ≡ true)
+        → ((k : ℕ) → (k < min from to) ⊎ (max from to + (end - from) ≤ k) → get_or s.filled k false ≡ get_or r.filled k false) → emptied (to + (end - from)) end (cells_of s.items s.filled) ≡ moved_down cs from end to
     down from end to full gap moved items there flags =
-        let n = end - from in let run = slice_range cs from end in let long = range_long cs from end full.0 full.1 in let le = gap.0 in let es = emptied (to + n) end (cells_of ys gs) in
+        let n = end - from in let run = slice_range cs from end in let n_long = range_long cs from end full.0 full.1 in let le = gap.0 in let es = emptied (to + n) end (cells_of s.items s.filled) in
         let all = after_count (to + n) end in
         ranged es cs (run ++ empties (from - to)) to end (omega (arith, full.0)) full.1 (simp (length-append, length-replicate) (omega (arith, full.0))) all
         (λ k lt out. kept (to + n) end k (omega arith) (grind arith) (items k (grind (arith, full.0))) (flags k (grind (arith, full.0))))
         (λ j lt. ⊎_elim (λ h. come (to + n) end (to + j) (from + j) (omega (arith, full.1)) (inl (omega arith))
         (in_filled cs from end (from + j) full (omega arith) (omega arith)) (moved j h) (there (to + j) (omega arith) (omega arith))
         ∙ sym (get_or_append_left run (empties (from - to)) None j (omega arith) ∙ at_range cs from end j h))
-        (λ h. in_emptied (to + n) end (cells_of ys gs) (to + j) (omega arith) (omega arith)
-        ∙ sym (get_or-append_right run (empties (from - to)) n j None long h ∙ get_or-replicate (from - to) (j - n) None None (omega (arith, full.0)))) (cases_lt j n))
+        (λ h. in_emptied (to + n) end (cells_of s.items s.filled) (to + j) (omega arith) (omega arith)
+        ∙ sym (get_or-append_right run (empties (from - to)) n j None n_long h ∙ get_or-replicate (from - to) (j - n) None None (omega (arith, full.0)))) (cases_lt j n))
 
-    pub gone : (from end : ℕ) → AreFilled cs from end → ys ≡ xs → ((k : ℕ) → (k < from) ⊎ (end ≤ k) → get_or gs k false ≡ get_or fs k false)
-        → emptied from end (cells_of ys gs) ≡ with_range cs from end (empties (end - from))
-    gone from end full same flags = let all = after_count from end in
-        ranged (emptied from end (cells_of ys gs)) cs (empties (end - from)) from end full.0 full.1 (length-replicate {A = Option X} (end - from) None) all
-        (λ k lt out. kept from end k (omega arith) out (ap (λ l. get_or l k d) same) (flags k out))
-        (λ j lt. in_emptied from end (cells_of ys gs) (from + j) (omega arith) (omega arith) ∙ sym (get_or-replicate (end - from) j None None lt))
+    pub gone : (from end : ℕ) → AreFilled cs from end → s.items ≡ r.items → ((k : ℕ) → (k < from) ⊎ (end ≤ k) → get_or s.filled k false ≡ get_or r.filled k false)
+        → emptied from end (cells_of s.items s.filled) ≡ with_range cs from end (empties (end - from))
+    gone from end full as_before flags = let all = after_count from end in
+        ranged (emptied from end (cells_of s.items s.filled)) cs (empties (end - from)) from end full.0 full.1 (length-replicate {A = Option X} (end - from) None) all
+        (λ k lt out. kept from end k (omega arith) out (ap (λ l. get_or l k d) as_before) (flags k out))
+        (λ j lt. in_emptied from end (cells_of s.items s.filled) (from + j) (omega arith) (omega arith) ∙ sym (get_or-replicate (end - from) j None None lt))
 
     -- a run has come to the cells from `to` on
-    pub filled_in : (to n : ℕ) (run : List X) → length run ≡ n → to + n ≤ length cs → ys ≡ take to xs ++ run ++ drop (to + n) xs → ((k : ℕ) → to ≤ k → k < to + n → get_or gs k false ≡ true)
-        → ((k : ℕ) → (k < to) ⊎ (to + n ≤ k) → get_or gs k false ≡ get_or fs k false) → emptied 0 0 (cells_of ys gs) ≡ with_range cs to (to + n) (map Some run)
-    filled_in to n run long in_row same there flags =
+    pub filled_in : (to n : ℕ) (run : List X) → length run ≡ n → to + n ≤ length cs → s.items ≡ take to r.items ++ run ++ drop (to + n) r.items → ((k : ℕ) → to ≤ k → k < to + n → get_or s.filled k false ≡ true)
+        → ((k : ℕ) → (k < to) ⊎ (to + n ≤ k) → get_or s.filled k false ≡ get_or r.filled k false) → emptied 0 0 (cells_of s.items s.filled) ≡ with_range cs to (to + n) (map Some run)
+    filled_in to n run run_long in_row as_before there flags =
         let all = after_count 0 0 in
-        ranged (emptied 0 0 (cells_of ys gs)) cs (map Some run) to (to + n) (omega arith) in_row (simp length-map (omega arith)) all
-        (λ k lt out. kept 0 0 k (omega arith) (inr (omega arith)) (rw same (grind (arith, common_steps, count))) (flags k out))
-        (λ j lt. let item : get_or ys (to + j) d ≡ get_or run j d = rw same (grind (arith, common_steps, count)) in let on = there (to + j) (omega arith) (omega arith) in
-        cc (out_emptied 0 0 (cells_of ys gs) (to + j) (inr (omega arith)), at_row ys gs (to + j) d (omega arith) (omega (arith, count)), item, on, get_or-map Some run j d None (omega arith)))
+        ranged (emptied 0 0 (cells_of s.items s.filled)) cs (map Some run) to (to + n) (omega arith) in_row (simp length-map (omega arith)) all
+        (λ k lt out. kept 0 0 k (omega arith) (inr (omega arith)) (rw as_before (grind (arith, common_steps, long, r.ok.0, s.ok.0))) (flags k out))
+        (λ j lt. let item : get_or s.items (to + j) d ≡ get_or run j d = rw as_before (grind (arith, common_steps, long, r.ok.0, s.ok.0)) in let on = there (to + j) (omega arith) (omega arith) in
+        cc (out_emptied 0 0 (cells_of s.items s.filled) (to + j) (inr (omega arith)), at_row s.items s.filled (to + j) d (omega arith) (omega (arith, long)), item, on, get_or-map Some run j d None (omega arith)))
 
   -- a filled range of cells is the items of the same range of slots
-  pub run_items : (xs : List X) (fs : List Bool) (cs : List (Option X)) (d : X) (from end : ℕ) → length fs ≡ length xs → cells_of xs fs ≡ cs → AreFilled cs from end
-      → (length (slice_range xs from end) ≡ end - from) × (slice_range cs from end ≡ map Some (slice_range xs from end))
-  run_items xs fs cs d from end e is full =
-      let run = slice_range xs from end in let count : length cs ≡ length xs = ap length (sym is) ∙ cells_count xs fs e in
+  pub run_items : (r : Slots X) (cs : List (Option X)) (d : X) (from end : ℕ) → cells_of r.items r.filled ≡ cs → AreFilled cs from end
+      → (length (slice_range r.items from end) ≡ end - from) × (slice_range cs from end ≡ map Some (slice_range r.items from end))
+  run_items r cs d from end is full =
+      let xs = r.items in let run = slice_range xs from end in let count : length cs ≡ length xs = ap length (sym is) ∙ cells_count xs r.filled (sym r.ok.1 ∙ r.ok.0) in
       let long : length run ≡ end - from = simp (length-take, length-drop) (omega (arith, full.0, full.1)) in let long_cs = range_long cs from end full.0 full.1 in (
         long,
         ext_get_or None (slice_range cs from end) (map Some run) (simp length-map (omega arith))
-            (λ j lt. let f = in_filled cs from end (from + j) full (omega arith) (omega arith) in let at = at_item xs fs cs (from + j) f.0 e is f.1 in
+            (λ j lt. let f = in_filled cs from end (from + j) full (omega arith) (omega arith) in let at = at_item r cs (from + j) f.0 is f.1 in
             cc (at_range cs from end j (omega arith), f.1, at.2 d, get_or-map Some run j d None (omega arith), get_or-take (end - from) (drop from xs) j d (omega arith), get_or-drop from xs j d)),
       )
 

@@ -1,4 +1,12 @@
--- The words of the logic and of std that walks cite, handed on under one roof, so that each walk names them in one line.
+-- The words of the logic and of std that walks cite, handed on under one roof, so that each walk names them in one line, and steps
+-- that walks share. Assumes `Logic`.
+--     tells     a fact is said, as a clause of the `ensures`
+--     spent     nothing is had of the last n parameters
+--     drops, drops_go     of no parameter anything is had at the end, and nothing is said, which is a `refl` for each
+use types.Kit.{Goal, Step, step}
+use denote.Signature.{Slot}
+use denote.Triple.End.{Kepts}
+use denote.Triple.Walked.{Silent, AllGo}
 pub use Rattle.core.proofs.alloc.Calls.{Al, Answer-typed, Answered, Gives, Gives-Gives, Gives-goes, Goes-blank, Takes, Takes-gives, Takes-goes, answers, at_gives, at_takes, token}
 pub use Rattle.core.proofs.cell.Inside.{Good}
 pub use Rattle.core.proofs.mem.Param.{El, el_x, elτ, R}
@@ -16,11 +24,9 @@ pub use Rattle.core.specs.Mem.Slots.{slots_counts, slots_filled, slots_items, sl
 pub use Rattle.core.specs.Mem.Slots.Ownership.{slots}
 pub use Rattle.core.specs.Option.{ghost_name_of, option_copied_mut}
 pub use Rattle.core.specs.declared.alloc.Allocator.{Ghosts}
-pub use Rattle.std.proofs.Common.{Bool, Err, IfErr, IfOk, IfSome, List, Ok, Option, Result, Some, [], add-one, ap, append-nil, append_assoc, arith, bit_and, false, get_or, inl, inr, length, lit<, map, refl, rules, slice_get, slice_set, subst, suc, sym, take, true, w64, zero, ℕ, ◌%◌, ◌*◌, ◌++◌, ◌+◌, ◌-◌, ◌<◌, ◌^◌, ◌∙◌, ◌∷◌, ◌≡◌, ◌≢◌, ◌≤◌, ◌⊎◌, T}
-pub use Rattle.std.proofs.Math.ListN.{set}
-pub use Rattle.std.proofs.Math.Seq.{take-add}
+pub use Rattle.std.proofs.Common.{Bool, Err, IfErr, IfOk, IfSome, List, Ok, Option, Result, Some, [], add-one, ap, append-nil, append_assoc, arith, bit_and, false, get_or, inl, inr, length, lit<, map, refl, rules, slice_get, slice_set, subst, suc, sym, take, true, w64, zero, ℕ, ◌%◌, ◌*◌, ◌++◌, ◌+◌, ◌-◌, ◌<◌, ◌^◌, ◌∙◌, ◌∷◌, ◌≡◌, ◌≢◌, ◌≤◌, ◌⊎◌, T, set, take-add, is_some, option_map, unwrap_or, eqb, eqb→eq, length-append, length-drop, length-set, length-take, take-append-drop, drop-cons, take_at as front_of, cond, ◌&&◌, ap₂}
 pub use Rattle.std.proofs.lemmas.Bool.{cases_lt}
-pub use Rattle.std.proofs.lemmas.List.{drop-drop, drop-take, get_or-drop, get_or-set_same, get_or_default, length-map, set-get_or, set-set, take-set, take-take}
+pub use Rattle.std.proofs.lemmas.List.{drop-drop, drop-take, get_or-drop, get_or-set_same, get_or_default, length-map, set-get_or, set-set, take-set, take-take, length-replicate}
 pub use Rattle.std.proofs.lemmas.List.Folds.{drop_split}
 pub use Rattle.std.proofs.lemmas.List.Sorted.{length_permutation}
 pub use Rattle.std.proofs.lemmas.Option.{slice_get_within}
@@ -32,7 +38,6 @@ pub use Rattle.std.specs.List.{refill, slice_range}
 pub use Rattle.std.specs.List.Retain.{RetainsInTurn}
 pub use Rattle.std.specs.Map.{lookup}
 pub use Rattle.std.specs.Mem.{type_size}
-pub use Rattle.std.specs.Option.{is_some, option_map, unwrap_or}
 pub use Rattle.std.specs.Prelude.{IsOk, MatchResult, None, OnErr, OnOk, if◌then◌else◌, min, zip, ⊤, IsErr}
 pub use Rattle.std.specs.Vec.Ownership.{FitsInBlock}
 pub use Rattle.std.specs.contracts.impls.GlobalAllocator.TheImpl.{ghosts}
@@ -46,7 +51,7 @@ pub use base.Logic.{SProp, all, all_e, apply∗, emp, ent, ex, ex_e, fst∗, gua
 pub use base.Stored.{Gv, coded_list}
 pub use borrow.Table.Elements.{at, at_mul, cut_app, join_app}
 pub use contract.BorrowLft.{meet_⊑_left, meet_⊑_right, ⊑_meet, ⊑_refl, ⊑_trans, ◌⊑◌}
-pub use contract.Lifetimes.{AllOutlive, Lfts}
+pub use contract.Lifetimes.{AllOutlive, Lfts, toks}
 pub use contract.Monad.{Fun, fact, fact_i, fact_use}
 pub use contract.Running.{tables}
 unfoldable pub use contract.Running.{tables_of}
@@ -69,7 +74,7 @@ pub use denote.Param.Mute.{blank}
 pub use denote.Param.Shared.{copy_shared, mut_ref_shared}
 pub use denote.Plain.{uint_Makes, uint_Tells, uint_vals}
 pub use denote.RattleType.{Denots, RattleType, Valss, lives_all, owns}
-pub use denote.RawPtr.{Ptr, RawPtr, block_ptr, in_a_block, in_block, null_ptr, ptr_val, Testable}
+pub use denote.RawPtr.{Ptr, RawPtr, block_ptr, in_a_block, in_block, null_ptr, ptr_val, Testable, InBlock}
 pub use denote.Ref.{Bor, MutBor, MutRef, NamedLft, ShrRef, mut_Tells, mut_vals, shr_Tells, shr_vals}
 pub use denote.Shadow.{makes_shadow, pure_i, pure_l}
 pub use denote.SharingLaws.{nothing_shr_laws}
@@ -93,13 +98,8 @@ pub use denote.Triple.Statement.{Contract, Triple}
 pub use denote.Triple.Table.{entered, framed}
 pub use denote.Triple.Walked.{Goes-dropped, Goes-ref, Goes-spent_ref, Stays, ends_at, says, stay_dropped, stay_ref, walk_Meets, walk_of, walked}
 pub use ghost.Rules.{aged}
-pub use lib.Dec.{eqb, eqb→eq}
-pub use lib.ListN.{length-append, length-drop, length-replicate, length-set, length-take, take-append-drop}
-pub use lib.Seq.{drop-cons, take_at as front_of}
-pub use mathlib.Core.Bool.{cond, ◌&&◌}
 pub use mathlib.Core.List.{not-mem-nil}
 pub use mathlib.Core.Option.{none}
-pub use mathlib.Core.Path.{ap₂}
 pub use mir.MapTy.{inst_fn}
 pub use mir.Raw.{raw as bare}
 pub use mir.Syntax.{Args, Dict, Fn, Lifetime, Ty, Tys, a_type, dcons, dnil, named, tcons, tnil, ty_array, ty_int, ty_ptr, ty_struct, ty_unit, w32}
@@ -126,3 +126,35 @@ pub use types.Part.{agg, look_in, sub, whole}
 pub use types.Run.{addr, align_word, and_then, bin, blocks, enter, exec, first, fld, from, hop, lit, load, look, no_more, of_opd, returns, size_word, stop, switches_on, unit_lit}
 pub use types.SemTy.{Arr, Body, SemTy, cells}
 pub use types.Tokens.{lft-common, lft_end, lft_new, name_done, name_new, res_agree}
+
+-- nothing, for each of n parameters
+abbrev idle : ℕ → Fml
+idle zero = ftrue
+idle (suc n) = fsep ftrue (idle n)
+
+module _ {M : Type 1} {𝓤 : Ura M} {𝓛 : Logic 𝓤} {K : Type 0} {Γ : List (Item 𝓤)} {G : Goal 𝓤 𝓛.H} where
+  pub tells : K → (φ : Type 0) → φ → Step K 𝓛 (raw (fact 𝓤 φ) ∷ Γ) G Γ G
+  tells t φ x = use0 𝓛 (raw (fact 𝓤 φ)) (fact_i 𝓤 φ (emp 𝓤) x)
+
+  pub spent : K → (n : ℕ) → Step K 𝓛 (‵ (idle n) ∷ Γ) G Γ G
+  spent t zero = nothing t
+  spent t (suc n) = step (λ s. spent t n $ nothing t $ fjoin t $ s)
+
+abbrev dropped : {n : ℕ} (ss : List (Slot n)) (ks : Kepts ss) → Stays ss ks
+dropped [] ks = tt
+dropped (s ∷ ss) ks = (stay_dropped s ks.0, dropped ss ks.1)
+
+abbrev pub drops : (T : Ended) → Stays T.signature.params T.kept
+drops T = dropped T.signature.params T.kept
+
+module _ {M : Type 1} {𝓤 : Ura M} (𝓛 : Logic 𝓤) where
+  abbrev Silents : {n : ℕ} (ss : List (Slot n)) → Kepts ss → Type 1
+  Silents [] ks = Unit {1}
+  Silents {n} (s ∷ ss) ks = Silent 𝓛 n s ks.0 × Silents ss ks.1
+
+  go : {n : ℕ} (ss : List (Slot n)) (ks : Kepts ss) → Silents ss ks → AllGo 𝓛 n ss ks (dropped ss ks)
+  go [] ks q = tt
+  go {n} (s ∷ ss) ks q = (Goes-dropped 𝓛 n s ks.0 q.0, go ss ks.1 q.1)
+
+  pub drops_go : (T : Ended) → Silents T.signature.params T.kept → AllGo 𝓛 T.signature.lifetimes T.signature.params T.kept (drops T)
+  drops_go T = go T.signature.params T.kept

@@ -117,7 +117,7 @@ impl Bytes {
 
 // The cells without their bytes.
 #[inline]
-#[tactic(auto, using(crate::proofs::ByteRows::all_emptied))]
+#[tactic(auto, using(crate::proofs::Fronts::all_emptied))]
 fn emptied(mut row: Row<u8>, address: Address<u8>, count: usize) -> Row<u8>
     requires { (address.at ≡ row.at) × (count ≡ length row.cells) }
     ensures { (result.at ≡ row.at) × (result.cells ≡ empties count) }

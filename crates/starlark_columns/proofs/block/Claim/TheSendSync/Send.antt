@@ -1,8 +1,4 @@
-use denote.Param.Send.{IsSend, Frees}
-use denote.RattleType.{RattleType}
-use Rattle.core.specs.declared.alloc.Allocator.{Ghosts}
-use Rattle.starlark_columns.proofs.Crossing.{claim_send}
-use Rattle.starlark_columns.specs.contracts.block.Claim.{the_row}
+use Rattle.starlark_columns.proofs.Crossing.{RattleType, Ghosts, IsSend, Frees, ClaimOf, claim_send}
 
-pub send : (R A : RattleType) (g : Ghosts A.Denot) → IsSend A → Frees g g.dealloc_token → IsSend (the_row R A g)
+pub send : (R A : RattleType) (g : Ghosts A.Denot) → IsSend A → Frees g g.dealloc_token → IsSend (ClaimOf R A g)
 send R A g s free = claim_send R A g free

@@ -1,8 +1,4 @@
-use denote.Param.Send.{IsSync}
-use denote.RattleType.{RattleType}
-use Rattle.core.specs.declared.alloc.Allocator.{Ghosts}
-use Rattle.starlark_columns.proofs.Crossing.{claim_sync}
-use Rattle.starlark_columns.specs.contracts.block.Claim.{the_row}
+use Rattle.starlark_columns.proofs.Crossing.{RattleType, Ghosts, IsSync, ClaimOf, claim_sync}
 
-pub sync : (R A : RattleType) (g : Ghosts A.Denot) → IsSync (the_row R A g)
-sync R A g = claim_sync R A g
+pub sync : (R A : RattleType) (g : Ghosts A.Denot) → IsSync (ClaimOf R A g)
+sync = claim_sync

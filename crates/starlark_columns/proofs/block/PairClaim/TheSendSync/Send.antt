@@ -1,8 +1,4 @@
-use denote.Param.Send.{IsSend, Frees}
-use denote.RattleType.{RattleType}
-use Rattle.core.specs.declared.alloc.Allocator.{Ghosts}
-use Rattle.starlark_columns.proofs.Crossing.{pair_claim_send}
-use Rattle.starlark_columns.specs.contracts.block.PairClaim.{the_row}
+use Rattle.starlark_columns.proofs.Crossing.{RattleType, Ghosts, IsSend, Frees, PairClaimOf, pair_claim_send}
 
-pub send : (R U A : RattleType) (g : Ghosts A.Denot) → IsSend A → Frees g g.dealloc_token → IsSend (the_row R U A g)
+pub send : (R U A : RattleType) (g : Ghosts A.Denot) → IsSend A → Frees g g.dealloc_token → IsSend (PairClaimOf R U A g)
 send R U A g s free = pair_claim_send R U A g free

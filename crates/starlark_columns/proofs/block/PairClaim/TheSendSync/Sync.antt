@@ -1,8 +1,4 @@
-use denote.Param.Send.{IsSync}
-use denote.RattleType.{RattleType}
-use Rattle.core.specs.declared.alloc.Allocator.{Ghosts}
-use Rattle.starlark_columns.proofs.Crossing.{pair_claim_sync}
-use Rattle.starlark_columns.specs.contracts.block.PairClaim.{the_row}
+use Rattle.starlark_columns.proofs.Crossing.{RattleType, Ghosts, IsSync, PairClaimOf, pair_claim_sync}
 
-pub sync : (R U A : RattleType) (g : Ghosts A.Denot) → IsSync (the_row R U A g)
-sync R U A g = pair_claim_sync R U A g
+pub sync : (R U A : RattleType) (g : Ghosts A.Denot) → IsSync (PairClaimOf R U A g)
+sync = pair_claim_sync

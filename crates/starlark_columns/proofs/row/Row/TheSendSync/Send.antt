@@ -1,7 +1,4 @@
-use denote.Param.Send.{IsSend}
-use denote.RattleType.{RattleType}
-use Rattle.starlark_columns.proofs.Crossing.{row_send}
-use Rattle.starlark_columns.specs.contracts.row.Row.{the_row}
+use Rattle.starlark_columns.proofs.Crossing.{RattleType, IsSend, RowOf, row_send}
 
-pub send : (R : RattleType) → IsSend R → IsSend (the_row R)
-send R s = row_send R s
+pub send : (R : RattleType) → IsSend R → IsSend (RowOf R)
+send = row_send

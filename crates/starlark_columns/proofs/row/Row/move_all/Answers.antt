@@ -16,7 +16,7 @@ move_run-requires g c =
     let r = c.open-slots.result in let cs = c.args.self.now.cells in let full = front_full cs c.args.len c.requires.front in (
       omega (arith, full.1, c.open-slots.ensures.slots.1, c.requires.spot.1),
       omega (arith, c.requires.room, c.open-others.ensures.slots.1, c.requires.other.1),
-      λ k le lt. let f = in_filled cs 0 c.args.len k full le (omega (arith, lt)) in (at_item r.items r.filled cs k f.0 (sym r.ok.1 ∙ r.ok.0) c.open-slots.ensures.cells f.1).1,
+      λ k le lt. let f = in_filled cs 0 c.args.len k full le (omega (arith, lt)) in (at_item r cs k f.0 c.open-slots.ensures.cells f.1).1,
     )
 
 pub returns-then-len-ne0 : goal.returns-then-len-ne0
@@ -24,21 +24,19 @@ returns-then-len-ne0 g c =
     let r = c.open-slots.result in let o = c.open-others.result in let s = c.move_run.new.self in let t = c.move_run.new.other in let said = c.move_run.ensures in
     let cs = c.args.self.now.cells in let ds = c.args.to.now.cells in let len = c.args.len in let front = c.requires.front in let full = front_full cs len front in let d = (front_filled cs len front 0 (omega arith)).0 in
     let high : 0 + len ≡ len = omega arith in let less : 0 + (len - 0) ≡ 0 + len = omega arith in let left = c.close.new.self.cells in
-    let long_s : length s.items ≡ length r.items = sym s.ok.0 ∙ said.places.0.count ∙ r.ok.0 in let flags_s : length s.filled ≡ length r.items = sym s.ok.1 ∙ said.places.0.count ∙ r.ok.0 in
-    let long_t : length t.items ≡ length o.items = sym t.ok.0 ∙ said.places.1.count ∙ o.ok.0 in let flags_t : length t.filled ≡ length o.items = sym t.ok.1 ∙ said.places.1.count ∙ o.ok.0 in
-    let run = run_items r.items r.filled cs d 0 len (sym r.ok.1 ∙ r.ok.0) c.open-slots.ensures.cells full in let xs = slice_range r.items 0 len in
+    let run = run_items r cs d 0 len c.open-slots.ensures.cells full in let xs = slice_range r.items 0 len in
     let items : t.items ≡ take 0 o.items ++ xs ++ drop (0 + len) o.items = said.items ∙ ap (λ (k : ℕ). slice_range r.items 0 k ++ drop (0 + len) o.items) high in
-    let gone_here = gone r.items s.items r.filled s.filled cs d (sym r.ok.1 ∙ r.ok.0) long_s flags_s c.open-slots.ensures.cells 0 len full said.left.0
+    let gone_here = gone r s cs d said.places.0.count c.open-slots.ensures.cells 0 len full said.left.0
     (λ k out. said.left.1 k (⊎_elim (λ h. inl h) (λ h. inr (omega (arith, h))) out)) in
     let come = front_come cs len front c.close-then-len-ne0.new.self.cells ds (none_at_front ds c.requires.empty) c.requires.room (c.close-then-len-ne0.ensures.1
-    ∙ filled_in o.items t.items o.filled t.filled ds d (sym o.ok.1 ∙ o.ok.0) long_t flags_t c.open-others.ensures.cells 0 len xs (run.0 ∙ omega arith) (omega (arith, c.requires.room)) items said.filled.0 said.filled.1
+    ∙ filled_in o t ds d said.places.1.count c.open-others.ensures.cells 0 len xs (run.0 ∙ omega arith) (omega (arith, c.requires.room)) items said.filled.0 said.filled.1
     ∙ (λ i. with_range ds 0 (sym less i) (sym run.1 i))) in record {
       left = front_gone cs len front left (c.close.ensures.1 ∙ gone_here);
       front = come.0;
       items = come.1;
       cells = (
-        ap length c.close.ensures.1 ∙ after_count r.items s.items r.filled s.filled cs d (sym r.ok.1 ∙ r.ok.0) long_s flags_s c.open-slots.ensures.cells 0 len,
-        ap length c.close-then-len-ne0.ensures.1 ∙ after_count o.items t.items o.filled t.filled ds d (sym o.ok.1 ∙ o.ok.0) long_t flags_t c.open-others.ensures.cells 0 0,
+        ap length c.close.ensures.1 ∙ after_count r s cs d said.places.0.count c.open-slots.ensures.cells 0 len,
+        ap length c.close-then-len-ne0.ensures.1 ∙ after_count o t ds d said.places.1.count c.open-others.ensures.cells 0 0,
       );
       at = (c.close.ensures.0 ∙ c.open-slots.ensures.left.0, c.close-then-len-ne0.ensures.0 ∙ c.open-others.ensures.left.0);
     }

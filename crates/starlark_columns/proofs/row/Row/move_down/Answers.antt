@@ -1,4 +1,4 @@
-use Rattle.std.proofs.Common.{◌≡◌, length, sym, ◌∙◌, arith}
+use Rattle.std.proofs.Common.{◌∙◌, arith}
 use Rattle.starlark_columns.proofs.Slotting.{in_filled, at_item, down}
 use Rattle.starlark_columns.proofs.row.Row.move_down.Goals as goal
 
@@ -11,13 +11,12 @@ move_within-requires g c =
       omega (arith, full.0, full.1, len, count),
       omega (arith, full.0, full.1, gap.0, len, count),
       λ k le lt. let f = in_filled cs c.args.from c.args.end k full le (omega (arith, lt, full.0)) in
-          (at_item r.items r.filled cs k f.0 (sym r.ok.1 ∙ r.ok.0) c.open-slots.ensures.cells f.1).1,
+          (at_item r cs k f.0 c.open-slots.ensures.cells f.1).1,
     )
 
 pub returns-then-from-end-clause-cells : goal.returns-then-from-end-clause-cells
 returns-then-from-end-clause-cells g c =
     let r = c.open-slots.result in let s = c.move_within.new.self in let said = c.move_within.ensures in let same = said.places.count in
     let d = (in_filled c.args.self.now.cells c.args.from c.args.end c.args.from c.requires.items (omega arith) (omega (arith, c.requires.items.0))).0 in
-    let long_ys : length s.items ≡ length r.items = sym s.ok.0 ∙ same ∙ r.ok.0 in let long_gs : length s.filled ≡ length r.items = sym s.ok.1 ∙ same ∙ r.ok.0 in
-    c.close.ensures.1 ∙ down r.items s.items r.filled s.filled c.args.self.now.cells d (sym r.ok.1 ∙ r.ok.0) long_ys long_gs c.open-slots.ensures.cells c.args.from c.args.end c.args.to c.requires.items c.requires.gap
+    c.close.ensures.1 ∙ down r s c.args.self.now.cells d same c.open-slots.ensures.cells c.args.from c.args.end c.args.to c.requires.items c.requires.gap
     (λ k lt. said.moved k d lt) (λ k out. said.items d k out) said.filled.0 said.filled.1

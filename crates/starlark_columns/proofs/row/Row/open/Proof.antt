@@ -1,41 +1,31 @@
 -- `open` hands the cells over to slots, with the default for an item where there is none. Assumes `Logic`.
-use Rattle.starlark_columns.proofs.Walking.{◌≡◌, ℕ, ◌*◌, ◌<◌, ◌^◌, Option, Bool, List, [], ◌∷◌, map, length, refl, sym, subst, ◌∙◌, lit<, w64, zero-mul, Lft, Share, ftrue, fat, flft, full_share, SProp, emp, never, id⊢, ◌⊑◌, fact, fact_i, tables, inst_fn, a_type, named, Val, vint, vptr, WT, alloc_all, pass_all, free_all, look_at, take_at, give_at, get, get_in, is, sets, lands_last, env, ‵, raw, ◌⊛◌, some, given, later, at_ret, ◌$◌, ◌∵◌, !, qed, by, move, keep, use0, use1, use2, split, split3, join, pick, learn, rewrite, fsplit, fsplit3, fjoin, fjoin3, feq_i, flt_i, flt_l, await, whole, sub, stop, fld, no_more, and_then, of_opd, first, blocks, exec, returns, enter, usize, yes, no, layout, layouts, uint_vals, uint_Tells, RattleType, owns, Ptr, block_ptr, in_block, in_a_block, MutBor, mut_vals, mut_Tells, plain, types_at, heard, nothing, opens, closes, calls_at_last, framed, Stays, stay_dropped, stay_ref, walk_of, Goes-dropped, Goes-ref, El, after, Sr, row_val, slots, slots_items, slots_filled, slots_ptr, slots_len, length-map, proved, leaves, type_size, R}
+use Rattle.starlark_columns.proofs.Walking.{◌≡◌, ℕ, ◌*◌, ◌<◌, ◌^◌, Bool, List, [], ◌∷◌, map, length, refl, sym, subst, ◌∙◌, lit<, w64, zero-mul, ftrue, fat, flft, full_share, SProp, never, id⊢, ◌⊑◌, fact, tables, inst_fn, a_type, named, Val, vint, vptr, WT, alloc_all, pass_all, free_all, look_at, take_at, give_at, get, get_in, is, sets, lands_last, env, ‵, raw, ◌⊛◌, some, given, later, at_ret, ◌$◌, ◌∵◌, !, qed, by, move, keep, use1, use2, split, split3, join, pick, learn, rewrite, fsplit, fsplit3, fjoin, fjoin3, feq_i, flt_i, flt_l, await, whole, sub, stop, fld, no_more, and_then, of_opd, first, blocks, exec, returns, enter, usize, yes, no, layout, layouts, uint_vals, uint_Tells, RattleType, owns, Ptr, in_block, in_a_block, mut_vals, mut_Tells, plain, types_at, heard, nothing, opens, closes, calls_at_last, framed, Stays, stay_dropped, stay_ref, walk_of, Goes-dropped, Goes-ref, El, after, Sr, row_val, slots_items, slots_filled, slots_ptr, slots_len, length-map, proved, leaves, type_size, R, tells, spent}
 use Rattle.core.proofs.slots.Slots.from_raw_parts.Met as callee
-use Rattle.starlark_columns.specs.Ownership.{cells_owned, row_owned}
-use Rattle.starlark_columns.specs.Slots.{cells_of}
-use Rattle.starlark_columns.proofs.Fields.{word, word_good, address_told}
-use Rattle.starlark_columns.proofs.Memory.{item_or, holds, to_slots, cells_back}
-use Rattle.starlark_columns.proofs.RowCalls.{Makes, at_makes, IsMade, makes_asks, makes_gives, row_typed}
-use Rattle.starlark_columns.specs.contracts.block.Address as address
-use Rattle.starlark_columns.specs.contracts.row.Row as row
-use Rattle.starlark_columns.specs.contracts.row.Row.open.{ended, clauses}
-use Rattle.starlark_columns.specs.contracts.row.Row.open.Key as key
-use Rattle.starlark_columns.proofs.row.Row.open.Statement.{statement}
-use Rattle.starlark_columns.proofs.row.Row.open.Code as code
+use Rattle.starlark_columns.proofs.RowValues.{word, word_good, address_told, AddressOf, RowOf, cells_owned, row_owned, item_or, holds, to_slots, cells_back, Makes, at_makes, IsMade, makes_asks, makes_gives, row_typed, cells_of}
+use Rattle.starlark_columns.specs.contracts.row.Row.open as contract
+use Rattle.starlark_columns.proofs.row.Row.open as routine
 
-pub open_spec : {M : Type 1} → statement M
+pub open_spec : {M : Type 1} → routine.Statement.statement M
 open_spec 𝓤 𝓛 𝓜 𝓡 wired X L =
-    let H = 𝓛.H in let 𝓣 = tables 𝓤 H 𝓜 𝓡 𝓡.env in let En = ended X in let E : El = record { row = X; laws = L } in let inst = layouts (a_type ∷ []) (X, tt) in let fn = inst_fn inst code.function in
-    let c = clauses X 𝓛 𝓜.mem 𝓡.returns in let At = address.the_row (R E) in let Own = row.the_row (R E) in
-    let met = callee.met 𝓤 𝓛 𝓜 𝓡 (code.calls-core::slots::Slots::from_raw_parts 𝓡.env wired) X L in
+    let H = 𝓛.H in let 𝓣 = tables 𝓤 H 𝓜 𝓡 𝓡.env in let En = contract.ended X in let E : El = record { row = X; laws = L } in let inst = layouts (a_type ∷ []) (X, tt) in let fn = inst_fn inst routine.Code.function in
+    let c = contract.clauses X 𝓛 𝓜.mem 𝓡.returns in let At = AddressOf (R E) in let Own = RowOf (R E) in
+    let met = callee.met 𝓤 𝓛 𝓜 𝓡 (routine.Code.calls-core::slots::Slots::from_raw_parts 𝓡.env wired) X L in
     let hs : Stays En.signature.params En.kept = (stay_ref (0 ∷ []) tt (plain (λ _. Own)), (stay_dropped (plain (λ _. At)) no, (stay_dropped (plain (λ _. usize)) yes, tt))) in
     proved 𝓛 En hs c 𝓜 𝓡 (Goes-ref 𝓛 2 0 tt (plain (λ _. Own)), (Goes-dropped 𝓛 2 (plain (λ _. At)) no (λ κs x f. refl), (Goes-dropped 𝓛 2 (plain (λ _. usize)) yes (λ κs x f. refl), tt)))
-    (key.name inst) fn (code.unfolded 𝓤 H 𝓜 𝓡 wired (X, tt))
+    (contract.Key.name inst) fn (routine.Code.unfolded 𝓤 H 𝓜 𝓡 wired (X, tt))
     (λ κs. (mut_vals, ((λ x. word x.at ∷ []), (uint_vals w64, tt)))) (λ κs. (mut_Tells (named 0) κs.0 Own, (address_told (R E), (uint_Tells w64, tt)))) (λ κs qs bounds a gh are.
-    let κ : Lft = κs.0 in let q : Share = qs.0 in let ι : Lft = κs.1.0 in let r : Share = qs.1.0 in
-    let self : MutBor Own.Denot = a.0 in let rb : ℕ = self.ref_ptr.0 in let ro : ℕ = self.ref_ptr.1 in let h : Own.Denot = self.now in let p : Ptr = a.1.0.at in let n : ℕ = a.1.1.0 in
-    let s : ℕ = type_size (R E) in let cs : List (Option X.Denot) = h.cells in let word_n : n < 2 ^ 64 = are.1.1.0.1 in
+    let κ = κs.0 in let q = qs.0 in let ι = κs.1.0 in let r = qs.1.0 in let self = a.0 in let rb = self.ref_ptr.0 in let ro = self.ref_ptr.1 in let h = self.now in let p = a.1.0.at in let n = a.1.1.0 in
+    let s : ℕ = type_size (R E) in let cs = h.cells in let word_n : n < 2 ^ 64 = are.1.1.0.1 in let left : Own.Denot = record { mark = record {}; at = h.at; cells = [] } in
     let y : (walk_of 𝓛 En hs c).Ghost = ((κs, qs, bounds, a, (vptr rb ro ∷ [], (word p ∷ [], (vint w64 n ∷ [], tt)))), gh) in let Post : Val → SProp 𝓤 = (walk_of 𝓛 En hs c).post y in
-    let Fits : Type 0 = (p ≡ h.at) × (n ≡ length cs) in let left : Own.Denot = record { mark = record {}; at = h.at; cells = [] } in
-    qed 𝓛 (((‵ (flft κ q) ⊛ ‵ (flft ι r) ⊛ ‵ ftrue) ⊛ ‵ (owns (types_at En.signature.params κs) a y.0.4)) ∷ raw (fact 𝓤 (ι ⊑ X.lives)) ∷ raw (fact 𝓤 X.Denot) ∷ raw (fact 𝓤 Fits) ∷ []) ∵
-    move ! (1 ∷ 2 ∷ 3 ∷ []) $ heard ! (ι ⊑ X.lives) (λ lives. heard ! X.Denot (λ any. heard ! Fits (λ fits. split ! $ split3 ! $ move ! (3 ∷ []) $ fsplit ! $ fsplit3 ! $ keep ! (1 ∷ 2 ∷ 4 ∷ 5 ∷ []) $
-    enter ! 𝓣.C 𝓣.Λ fn (vptr rb ro ∷ word p ∷ vint w64 n ∷ []) Post $ alloc_all ! (λ l. pass_all ! refl ((tt, tt), (word_good p, ((tt, record { fits = word_n }), tt))) $ let Ev = env fn.locals l in
+    qed 𝓛 (((‵ (flft κ q) ⊛ ‵ (flft ι r) ⊛ ‵ ftrue) ⊛ ‵ (owns (types_at En.signature.params κs) a y.0.4)) ∷ raw (fact 𝓤 (ι ⊑ X.lives)) ∷ raw (fact 𝓤 X.Denot) ∷ raw (fact 𝓤 ((p ≡ h.at) × (n ≡ length cs))) ∷ []) ∵
+    move ! (1 ∷ 2 ∷ 3 ∷ []) $ heard ! _ (λ lives. heard ! _ (λ any. heard ! _ (λ fits. split ! $ split3 ! $ move ! (3 ∷ []) $ fsplit ! $ fsplit3 ! $ keep ! (1 ∷ 2 ∷ 4 ∷ 5 ∷ []) $
+    enter ! _ _ _ _ _ $ alloc_all ! (λ l. pass_all ! refl ((tt, tt), (word_good p, ((tt, record { fits = word_n }), tt))) $ let Ev = env fn.locals l in
     opens ! tt Own {h = h} rb ro (λ vs. move ! (1 ∷ []) $ fsplit ! $ move ! (1 ∷ []) $ fsplit ! $ flt_l ! (λ fit. in_a_block ! h.at (λ z. in_block z (cells_owned (R E) z cs)) (id⊢ 𝓤 (never 𝓤)) (λ b o at.
     -- [the cells; the mark; the cell, the open borrow and its names; the item's token]
     let small : n * s < 2 ^ 63 = subst (λ k. k * s < 2 ^ 63) (sym fits.1) fit in let xs : List X.Denot = map (item_or any) cs in let fs : List Bool = map holds cs in
     let long_xs : n ≡ length xs = fits.1 ∙ sym (length-map cs (item_or any)) in let long_fs : n ≡ length fs = fits.1 ∙ sym (length-map cs holds) in
     take_at ! 2 $ rewrite ! 0 (λ (z : Ptr). ‵ (fat full_share (layout At) (l 2) 0 (word z))) (fits.0 ∙ at) refl $ give_at ! 2 $
-    use1 𝓛 (‵ (slots (R E) (block_ptr b o) xs fs)) (to_slots E 𝓛 b any cs o) $
+    rewrite ! 0 ‵ (to_slots E b any cs o) refl $
     let Slot : RattleType = Sr E in let t : (Makes E 𝓛 𝓜.mem 𝓡.returns).Ghost = at_makes E 𝓛 𝓜.mem 𝓡.returns ι r b o n xs fs in let words : WT (row_val b o n) = (tt, (record { fits = word_n }, tt)) in
     move ! (0 ∷ 6 ∷ []) $ use2 𝓛 (raw ((Makes E 𝓛 𝓜.mem 𝓡.returns).pre t)) (makes_asks E 𝓛 𝓜.mem 𝓡.returns ι r b o n xs fs lives long_xs long_fs word_n small) $ first ! $ blocks ! $
     calls_at_last ! (framed 𝓤 H 𝓜 𝓣) (Makes E 𝓛 𝓜.mem 𝓡.returns) met t (and_then ! (get_in ! (fld ! refl (stop !)) (sub ! 0 refl (whole !))) (and_then ! (get ! refl) (no_more !))) (λ v.
@@ -45,9 +35,8 @@ open_spec 𝓤 𝓛 𝓜 𝓡 wired X L =
     -- [the slots; the item's token; the mark; the cell, the open borrow and its names]
     move ! (2 ∷ []) $ nothing ! $ flt_i ! (0 * s) (2 ^ 63) (subst (λ k. k < 2 ^ 63) (sym (zero-mul s)) (lit< tt)) $ fjoin ! $ rewrite ! 0 (λ (z : Ptr). ‵ (row_owned (R E) z [])) (sym at) refl $
     move ! (1 ∷ 0 ∷ []) $ fjoin ! $ move ! (3 ∷ 0 ∷ 4 ∷ 5 ∷ 6 ∷ []) $ closes ! tt Own left vs rb ro $ returns ! (look_at ! 0 refl) $ free_all ! refl $
-    feq_i ! (List Val) (vptr rb ro ∷ []) (vptr rb ro ∷ []) refl $ fjoin3 ! $ nothing ! $ nothing ! $ nothing ! $ fjoin3 ! $ move ! (1 ∷ 0 ∷ []) $ fjoin ! $
+    feq_i ! (List Val) (vptr rb ro ∷ []) (vptr rb ro ∷ []) refl $ fjoin3 ! $ spent ! 2 $ move ! (1 ∷ 0 ∷ []) $ fjoin ! $
     nothing ! $ move ! (4 ∷ 0 ∷ []) $ join ! $ move ! (2 ∷ 0 ∷ []) $ join ! $
-    let Row : Type 0 = (slots_ptr x ≡ h.at) × (slots_len x ≡ n) in let Items : Type 0 = cells_of (slots_items x) (slots_filled x) ≡ cs in let Left : Type 0 = (h.at ≡ h.at) × (left.cells ≡ []) in
-    use0 𝓛 (raw (fact 𝓤 Left)) (fact_i 𝓤 Left (emp 𝓤) (refl, refl)) $ use0 𝓛 (raw (fact 𝓤 Row)) (fact_i 𝓤 Row (emp 𝓤) (made.0 ∙ sym at, made.1)) $ join ! $
-    use0 𝓛 (raw (fact 𝓤 Items)) (fact_i 𝓤 Items (emp 𝓤) ((λ i. cells_of (made.2 i) (made.3 i)) ∙ cells_back any cs)) $ join ! $
+    tells ! ((h.at ≡ h.at) × (left.cells ≡ [])) (refl, refl) $ tells ! ((slots_ptr x ≡ h.at) × (slots_len x ≡ n)) (made.0 ∙ sym at, made.1) $ join ! $
+    tells ! (cells_of (slots_items x) (slots_filled x) ≡ cs) ((λ i. cells_of (made.2 i) (made.3 i)) ∙ cells_back any cs) $ join ! $
     move ! (1 ∷ 2 ∷ 3 ∷ 0 ∷ []) $ by ! (leaves 𝓛 En hs c y (row_val b o n) x (left, (tt, (tt, tt))) (tt, (tt, (tt, tt)))))))))))))))

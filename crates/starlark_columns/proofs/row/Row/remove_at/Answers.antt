@@ -1,3 +1,5 @@
+use Rattle.std.proofs.Common.{arith, rules}
+use Rattle.std.proofs.lemmas.Grind.{common_steps}
 use Rattle.starlark_columns.proofs.Fronts.{front_filled, front_taken, rest_filled, front_removed}
 use Rattle.starlark_columns.proofs.row.Row.remove_at.Goals as goal
 
@@ -7,11 +9,7 @@ take-item-requires-clause-filled g c = front_filled c.args.self.now.cells c.args
 pub move_down-requires-clause-items : goal.move_down-requires-clause-items
 move_down-requires-clause-items g c = rest_filled c.args.self.now.cells c.args.len c.requires.front c.args.index c.requires.within c.take-item.new.self.cells c.take-item.ensures.cells
 
-pub returns-clause-taken : goal.returns-clause-taken
-returns-clause-taken g c = front_taken c.args.self.now.cells c.args.len c.requires.front c.args.index c.requires.within c.take-item.result c.take-item.ensures.value
-
-pub returns-clause-front : goal.returns-clause-front
-returns-clause-front g c = (front_removed c.args.self.now.cells c.args.len c.requires.front c.args.index c.requires.within c.take-item.new.self.cells c.take-item.ensures.cells c.move_down.new.self.cells c.move_down.ensures.cells).0
-
-pub returns-clause-items : goal.returns-clause-items
-returns-clause-items g c = (front_removed c.args.self.now.cells c.args.len c.requires.front c.args.index c.requires.within c.take-item.new.self.cells c.take-item.ensures.cells c.move_down.new.self.cells c.move_down.ensures.cells).1
+pub returns : goal.returns
+returns g c = let cs = c.args.self.now.cells in let lt = c.requires.within in let front = c.requires.front in let out = c.take-item.ensures in
+    let is = front_removed cs c.args.len front c.args.index lt c.take-item.new.self.cells out.cells c.move_down.new.self.cells c.move_down.ensures.cells in
+    record { taken = front_taken cs c.args.len front c.args.index lt c.take-item.result out.value; front = is.0; items = is.1; cells = grind (arith, common_steps); at = search rules }

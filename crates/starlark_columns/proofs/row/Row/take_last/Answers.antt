@@ -1,9 +1,7 @@
-use Rattle.std.proofs.Common.{◌+◌, refl, arith}
+use Rattle.std.proofs.Common.{◌+◌, refl, arith, rules}
 use Rattle.starlark_columns.proofs.Fronts.{last_taken}
 use Rattle.starlark_columns.proofs.row.Row.take_last.Goals as goal
 
-pub returns-clause-front : goal.returns-clause-front
-returns-clause-front g c = (last_taken c.args.self.now.cells (c.args.last + 1) c.requires.front c.args.last (omega arith) c.take.new.self.cells c.take.ensures.cells c.take.result refl c.take.ensures.value).0
-
-pub returns-clause-items : goal.returns-clause-items
-returns-clause-items g c = (last_taken c.args.self.now.cells (c.args.last + 1) c.requires.front c.args.last (omega arith) c.take.new.self.cells c.take.ensures.cells c.take.result refl c.take.ensures.value).1
+pub returns : goal.returns
+returns g c = let said = c.take.ensures in let is = last_taken c.args.self.now.cells (c.args.last + 1) c.requires.front c.args.last (omega arith) c.take.new.self.cells said.cells c.take.result refl said.value in
+    record { front = is.0; items = is.1; cells = search rules; at = search rules }
