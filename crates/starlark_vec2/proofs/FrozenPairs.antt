@@ -3,9 +3,8 @@
 --     run_made             a `&mut [(K, V)]` becomes such a run, and the slice follows its loan
 --     end_out              the first or the last pair comes off, beside the run of the others
 --     pair_out             of a pair that came off: a `&` to the first part and a `&mut` to the second
-use Rattle.starlark_columns.proofs.Walking.{◌≡◌, refl, sym, ap, subst, ◌∙◌, ℕ, zero, suc, ◌+◌, ◌*◌, ◌<◌, ◌≤◌, suc-mul, arith, List, [], ◌∷◌, ◌++◌, length, length-append, Ura, Lifetime, Val, vptr, vstruct, vcons, vnil, full_share, SProp, ent, sep, emp, wand, id⊢, all_e, apply∗, Lft, GName, Share, Fml, Incl, Incl-refl, ftrue, fseps, flft, fobs, fbor, coded_list, size, align, up, Item, ‵, raw, ◌⊛◌, some, later, mean, ◌$◌, ◌∵◌, !, qed, by, move, keep, drop, use0, use1, use2, split, split3, pick, fsplit, fsplit3, fjoin, fjoin3, fpack, feq_i, feq_l, rewrite, group, await, updating, now, show, done, Logic, sem, cells, Arr, Body, open_ref, after₂, takes_part, takes_two, takes_beside, Array, follows, heres_id, mem, lone, part_at, part_of, hide, param, Laws, param_laws, RattleType, Denots, Valss, MutRef, ShrRef, MutSlice, nothing, lawfuls, Member, rows_of, parts_at, shape_of, PartsBack, Struct-parts, Struct, within, Tuple, tuple_type, parts_loose, at, at_mul, cut_app, join_app, add_times, inl, inr, ◌⊎◌}
+use Rattle.starlark_columns.proofs.Walking.{◌≡◌, refl, sym, ap, subst, ◌∙◌, ℕ, zero, suc, ◌+◌, ◌*◌, ◌<◌, ◌≤◌, suc-mul, arith, List, [], ◌∷◌, ◌++◌, length, length-append, Ura, Lifetime, Val, vptr, full_share, SProp, ent, sep, emp, wand, id⊢, all_e, apply∗, Lft, GName, Share, Fml, Incl, Incl-refl, ftrue, fseps, flft, fobs, fbor, coded_list, size, align, up, Item, ‵, raw, ◌⊛◌, some, later, mean, ◌$◌, ◌∵◌, !, qed, by, move, keep, drop, use0, use1, use2, split, split3, pick, fsplit, fsplit3, fjoin, fjoin3, feq_i, feq_l, rewrite, group, await, updating, now, show, done, Logic, sem, cells, Arr, Body, open_ref, after₂, takes_part, takes_two, takes_beside, Array, follows, heres_id, mem, lone, part_at, part_of, hide, param, Laws, param_laws, RattleType, Denots, MutRef, ShrRef, MutSlice, nothing, lawfuls, Member, rows_of, parts_at, shape_of, PartsBack, Struct-parts, Struct, tuple_type, parts_loose, at, at_mul, cut_app, join_app, add_times, inl, inr, ◌⊎◌}
 use types.Follow.{after}
-use denote.Struct.Declared.{shape}
 use Rattle.starlark_hash.proofs.Common.{Option}
 use Rattle.starlark_columns.specs.Cells.{items_of}
 use Rattle.starlark_columns.specs.Front.{IsFront, with_items}
@@ -14,18 +13,13 @@ use Rattle.starlark_vec2.specs.Loan.{with_seconds, Pair, Kept, KeptRun, lent_one
 
 -- a list that is not empty, cut behind its first item, and before its last
 parted : {T : Type 0} (xs : List T) → 0 < length xs → (y : T) × (ys : List T) × (xs ≡ y ∷ ys)
-parted [] p = absurd (omega (arith, p))
+parted [] p = absurd (omega arith)
 parted (y ∷ ys) p = (y, ys, refl)
 
 parted_last : {T : Type 0} (xs : List T) → 0 < length xs → (y : T) × (ys : List T) × (xs ≡ ys ++ y ∷ [])
-parted_last [] p = absurd (omega (arith, p))
+parted_last [] p = absurd (omega arith)
 parted_last (y ∷ []) p = (y, [], refl)
-parted_last (x ∷ y ∷ ys) p = let rest = parted_last (y ∷ ys) (omega arith) in (rest.0, x ∷ rest.1, ap (λ l. x ∷ l) rest.2)
-
--- an item that stands alone is the first and the last
-alone : {T : Type 0} (y : T) (ys : List T) → length (y ∷ ys) ≡ 1 → (y ∷ ys ≡ ys ++ y ∷ []) × (0 < length ys → ⊥)
-alone y [] e = (refl, λ more. absurd (omega (arith, more)))
-alone y (z ∷ zs) e = absurd (omega (arith, e))
+parted_last (x ∷ y ∷ ys) p = let rest = parted_last (y ∷ ys) (omega arith) in (rest.0, x ∷ rest.1, cc (rest.2))
 
 module _ {T : Type 0} (from : ℕ) (rest : List T) (i : ℕ) where
   -- the item at an end, and the others, of which the first is the next-th of all
@@ -37,66 +31,49 @@ module _ {T : Type 0} (from : ℕ) (rest : List T) (i : ℕ) where
     pub by : ((rest ≡ item ∷ others) × (from ≡ i) × (suc from ≡ next)) ⊎ ((rest ≡ others ++ item ∷ []) × (from + length others ≡ i) × (from ≡ next))
 
   first_end : (y : T) (ys : List T) → rest ≡ y ∷ ys → i ≡ from → End
-  first_end y ys is here = record {
-    item = y;
-    others = ys;
-    next = suc from;
-    takes = (λ _. (is, omega arith), λ last. let one = alone y ys (omega (arith, last, here, ap length is)) in (is ∙ one.0, λ more. absurd (one.1 more)));
-    by = inl (is, sym here, refl);
-  }
+  first_end y [] is here = record { item = y; others = []; next = suc from; takes = grind (arith, is, here); by = inl (is, sym here, refl) }
+  first_end y (z ∷ zs) is here = record { item = y; others = z ∷ zs; next = suc from; takes = grind (arith, is, here); by = inl (is, sym here, refl) }
 
   last_end : (y : T) (ys : List T) → rest ≡ ys ++ y ∷ [] → i + 1 ≡ from + length rest → End
   last_end y [] is here = first_end y [] is (omega (arith, here, ap length is))
   last_end y (z ∷ zs) is here =
-      let count : length rest ≡ length (z ∷ zs) + 1 = ap length is ∙ length-append (z ∷ zs) (y ∷ []) in record {
-        item = y;
-        others = z ∷ zs;
-        next = from;
-        takes = (λ first. absurd (omega (arith, here, first, count)), λ _. (is, λ _. refl));
-        by = inr (is, omega (arith, here, count), refl);
-      }
+      let count : length rest ≡ length (z ∷ zs) + 1 = ap length is ∙ length-append (z ∷ zs) (y ∷ []) in
+      record { item = y; others = z ∷ zs; next = from; takes = grind (arith, is, here, count); by = inr (is, omega (arith, here, count), refl) }
 
   pub end_of : IsEnd from rest i → End
   end_of (more, inl here) = let cut = parted rest more in first_end cut.0 cut.1 cut.2 here
   end_of (more, inr here) = let cut = parted_last rest more in last_end cut.0 cut.1 cut.2 here
 
   pub end_within : IsEnd from rest i → i ≤ from + length rest
-  end_within (more, inl here) = omega (arith, here)
-  end_within (more, inr here) = omega (arith, here)
+  end_within e = omega arith
 
   pub fewer_left : (d : End) → d.next + length d.others ≤ from + length rest
-  fewer_left d = by_case d.by
-    where
-      by_case : ((rest ≡ d.item ∷ d.others) × (from ≡ i) × (suc from ≡ d.next)) ⊎ ((rest ≡ d.others ++ d.item ∷ []) × (from + length d.others ≡ i) × (from ≡ d.next)) → d.next + length d.others ≤ from + length rest
-      by_case (inl (is, here, next)) = omega (arith, ap length is, next)
-      by_case (inr (is, here, next)) = omega (arith, ap length is, length-append d.others (d.item ∷ []), next)
+  fewer_left d = grind (arith, d.by, length-append)
 
 module _ {K V : Type 0} where
   pub with_itself : (ps : List (K × V)) → with_seconds ps ps ≡ ps
   with_itself [] = refl
-  with_itself (p ∷ ps) = ap (λ l. p ∷ l) (with_itself ps)
+  with_itself (p ∷ ps) = cc (with_itself ps)
 
   pub length-with_seconds : (ps ws : List (K × V)) → length (with_seconds ps ws) ≡ length ps
   length-with_seconds [] ws = refl
-  length-with_seconds (p ∷ ps) [] = ap suc (length-with_seconds ps [])
-  length-with_seconds (p ∷ ps) (w ∷ ws) = ap suc (length-with_seconds ps ws)
+  length-with_seconds (p ∷ ps) [] = cc (length-with_seconds ps [])
+  length-with_seconds (p ∷ ps) (w ∷ ws) = cc (length-with_seconds ps ws)
 
   pub with_last : (ps ws : List (K × V)) (p w : K × V) → length ws ≡ length ps → with_seconds (ps ++ p ∷ []) (ws ++ w ∷ []) ≡ with_seconds ps ws ++ (p.0, w.1) ∷ []
   with_last [] [] p w e = refl
-  with_last [] (v ∷ ws) p w e = absurd (omega (arith, e))
-  with_last (q ∷ ps) [] p w e = absurd (omega (arith, e))
-  with_last (q ∷ ps) (v ∷ ws) p w e = let rest : length ws ≡ length ps = omega (arith, e) in ap (λ l. (q.0, v.1) ∷ l) (with_last ps ws p w rest)
+  with_last (q ∷ ps) (v ∷ ws) p w e = cc (with_last ps ws p w (omega arith))
+  with_last ps ws p w e = absurd (omega arith)
 
-module _ {K V : Type 0} where
   -- what stays of the first parts stays again
   pub kept_again : (ps ws : List (K × V)) → with_seconds ps (with_seconds ps ws) ≡ with_seconds ps ws
   kept_again [] ws = refl
-  kept_again (p ∷ ps) [] = ap (λ l. p ∷ l) (kept_again ps [])
-  kept_again (p ∷ ps) (w ∷ ws) = ap (λ l. (p.0, w.1) ∷ l) (kept_again ps ws)
+  kept_again (p ∷ ps) [] = cc (kept_again ps [])
+  kept_again (p ∷ ps) (w ∷ ws) = cc (kept_again ps ws)
 
   -- after the second parts of a column's pairs were written, twice as once
   pub kept_items : (v : List (Option (K × V))) (n : ℕ) → IsFront v n → (ws : List (K × V)) → with_items v (with_seconds (items_of v) (items_of (with_items v (with_seconds (items_of v) ws)))) ≡ with_items v (with_seconds (items_of v) ws)
-  kept_items v n front ws = ap (λ l. with_items v (with_seconds (items_of v) l)) (all_written v n front (with_seconds (items_of v) ws) (length-with_seconds (items_of v) ws)) ∙ ap (with_items v) (kept_again (items_of v) ws)
+  kept_items v n front ws = rw (all_written v n front (with_seconds (items_of v) ws) (length-with_seconds (items_of v) ws), kept_again (items_of v) ws)
 
 -- where the two parts of the pair at o lie
 module _ (X Y : RattleType) (o : ℕ) where
@@ -105,13 +82,6 @@ module _ (X Y : RattleType) (o : ℕ) where
 
   abbrev pub second_at : ℕ
   second_at = o + up (align (lone (param 1 Y).mir)) (up (align (lone (param 0 X).mir)) zero + size (lone (param 0 X).mir))
-
-pub pair_made : {M : Type 1} {𝓤 : Ura M} (𝓛 : Logic 𝓤) (R S : RattleType) (x : R.Denot) (y : S.Denot) (u v : Val)
-    → ent 𝓤 (sep 𝓤 (sem 𝓛 (R.own_val x (u ∷ []))) (sem 𝓛 (S.own_val y (v ∷ [])))) (sem 𝓛 ((Tuple (R ∷ S ∷ [])).own_val (x, y) (vstruct (vcons u (vcons v vnil)) ∷ [])))
-pair_made 𝓛 R S x y u v =
-    let w : Val = vstruct (vcons u (vcons v vnil)) in
-    qed 𝓛 (‵ (R.own_val x (u ∷ [])) ∷ ‵ (S.own_val y (v ∷ [])) ∷ []) ∵ nothing ! $ move ! (2 ∷ 0 ∷ []) $ fjoin ! $ move ! (1 ∷ 0 ∷ []) $ fjoin ! $ feq_i ! (List Val) (w ∷ []) (w ∷ []) refl $ fjoin ! $
-    fpack ! (Valss (R ∷ S ∷ [])) (within (shape (tuple_type (R ∷ S ∷ []))) (x, (y, tt)) (w ∷ [])) (u ∷ [], (v ∷ [], tt)) $ done !
 
 module _ (X Y : RattleType) {M : Type 1} {𝓤 : Ura M} (𝓛 : Logic 𝓤) (κ : Lft) (q : Share) where
   open 𝓛 use {H, A}
@@ -201,11 +171,8 @@ module _ (X Y : RattleType) {M : Type 1} {𝓤 : Ura M} (𝓛 : Logic 𝓤) (κ 
 
     -- ---- a pair is parted
     module _ (LX : Laws X) (LY : Laws Y) (ℓ : Lifetime) (long : Incl κ X.lives) (p : One) where
-      abbrev member : RattleType → Member
-      member R = record { row = R; ty = lone R.mir }
-
       abbrev ms : List Member
-      ms = member K ∷ member V ∷ []
+      ms = record { row = K; ty = lone K.mir } ∷ record { row = V; ty = lone V.mir } ∷ []
 
       abbrev to : One → Denots (rows_of ms)
       to d = (d.0, (d.1, tt))
@@ -215,12 +182,6 @@ module _ (X Y : RattleType) {M : Type 1} {𝓤 : Ura M} (𝓛 : Logic 𝓤) (κ 
 
       abbrev Key : Fml
       Key = part_at K full_share p.0 b (first_at X Y o)
-
-      apart : ent 𝓤 (sem 𝓛 (part_at P full_share p b o)) (sep 𝓤 (sem 𝓛 Key) (sep 𝓤 (sem 𝓛 (part_at V full_share p.1 b (second_at X Y o))) Back))
-      unfolding part_of
-      apart = qed 𝓛 (‵ (part_at P full_share p b o) ∷ []) ∵ use1 𝓛 (‵ (parts_at full_share ms zero (to p) b o) ⊛ raw Back)
-          (Struct-parts 𝓛 full_share (tuple_type (K ∷ V ∷ [])).name ms (lawfuls 𝓛 (tuple_type (K ∷ V ∷ [])).parts (parts_loose (K ∷ V ∷ []) (param_laws 0 X LX, (param_laws 1 Y LY, tt)))) (to p) b o) $
-          split ! $ fsplit3 ! $ keep ! (0 ∷ 1 ∷ 3 ∷ []) $ done !
 
       again : (v : Y.Denot) → ent 𝓤 (sep 𝓤 (sem 𝓛 ((mem V).own_at v b (second_at X Y o))) (sep 𝓤 (sem 𝓛 (fseps (Key ∷ []))) Back)) (sem 𝓛 ((Kept K V p).own_at (p.0, v) b o))
       unfolding part_of fseps
@@ -234,11 +195,12 @@ module _ (X Y : RattleType) {M : Type 1} {𝓤 : Ura M} (𝓛 : Logic 𝓤) (κ 
       Parted δ = ‵ ((ShrRef ℓ κ K).own_val (record { ref_ptr = (b, first_at X Y o); now = p.0 }) (vptr b (first_at X Y o) ∷ [])) ⊛ ‵ ((MutRef ℓ κ V).own_val (record { ref_ptr = (b, second_at X Y o); ghost_name = δ; now = p.1 }) (vptr b (second_at X Y o) ∷ [])) ⊛ ‵ (flft κ q)
 
       pub pair_out : ent 𝓤 (sep 𝓤 (sem 𝓛 (lent_one K V κ b o γ p)) (A.lft κ q)) (H.⇛ (mean 𝓛 (some Parted)))
-      unfolding fseps
+      unfolding part_of fseps
       pair_out =
           qed 𝓛 (‵ (lent_one K V κ b o γ p) ∷ ‵ (flft κ q) ∷ []) ∵ updating ! $ fsplit ! $ open_ref ! tt (Kept K V p) {x = p} {b = b} {o = o} $
-          use1 𝓛 (‵ Key ⊛ ‵ (part_at V full_share p.1 b (second_at X Y o)) ⊛ raw Back) apart $ split3 ! $
-          use0 𝓛 (‵ ftrue) (id⊢ 𝓤 (emp 𝓤)) $ move ! (1 ∷ 0 ∷ []) $ fjoin ! $ move ! (3 ∷ 4 ∷ 5 ∷ 1 ∷ 0 ∷ 2 ∷ []) $ group ! 6 $
+          use1 𝓛 (‵ (parts_at full_share ms zero (to p) b o) ⊛ raw Back)
+          (Struct-parts 𝓛 full_share (tuple_type (K ∷ V ∷ [])).name ms (lawfuls 𝓛 (tuple_type (K ∷ V ∷ [])).parts (parts_loose (K ∷ V ∷ []) (param_laws 0 X LX, (param_laws 1 Y LY, tt)))) (to p) b o) $
+          split ! $ fsplit3 ! $ move ! (0 ∷ 2 ∷ []) $ fjoin ! $ move ! (3 ∷ 4 ∷ 5 ∷ 1 ∷ 0 ∷ 2 ∷ []) $ group ! 6 $
           use1 𝓛 (later (some (λ (δ : GName). ‵ (fobs δ (V.coded.code p.1)) ⊛ ‵ (fbor κ (Body (mem V) b (second_at X Y o) δ)) ⊛ ‵ (flft κ q) ⊛ ‵ (after (Kept K V p) (mem V) γ δ (λ v. (p.0, v))) ⊛ (‵ (fbor κ Key) ⊛ raw (emp 𝓤)))))
           (takes_beside 𝓛 (Kept K V p) (mem V) (λ v. (p.0, v)) κ q b o b (second_at X Y o) γ (Key ∷ []) Back again (P.coded.code p) (P.coded.code p) p.1) $ await ! tt $ pick ! (λ δ. split3 ! $
           feq_i ! (List Val) (vptr b (second_at X Y o) ∷ []) (vptr b (second_at X Y o) ∷ []) refl $ fjoin3 ! $ move ! (1 ∷ []) $ split3 ! $ move ! (2 ∷ []) $ split ! $
@@ -254,14 +216,10 @@ module _ (X Y : RattleType) {M : Type 1} {𝓤 : Ura M} (𝓛 : Logic 𝓤) (κ 
     out_by : (p : One) (ps : List One) (next : ℕ) → ((rest ≡ p ∷ ps) × (from ≡ i) × (suc from ≡ next)) ⊎ ((rest ≡ ps ++ p ∷ []) × (from + length ps ≡ i) × (from ≡ next)) → Out p ps rest (i * s + o) (next * s + o)
     out_by p ps next (inl (is, here, behind)) =
         let there : from * s + o + s ≡ next * s + o = omega (arith, suc-mul from s, ap (λ (k : ℕ). k * s) behind) in
-        subst (λ (t : List One). Out p ps t (i * s + o) (next * s + o)) (sym is) (
-        subst (λ (k : ℕ). Out p ps (p ∷ ps) k (next * s + o)) (ap (λ (k : ℕ). k * s + o) here) (
-        subst (λ (k : ℕ). Out p ps (p ∷ ps) (from * s + o) k) there (first_out b (from * s + o) γ p ps)))
+        subst (λ (t : Type 1). t) (λ j. Out p ps (sym is j) (here j * s + o) (there j)) (first_out b (from * s + o) γ p ps)
     out_by p ps next (inr (is, here, behind)) =
         let there : at (from * s + o) s (length ps) ≡ i * s + o = omega (arith, at_mul (from * s + o) s (length ps), add_times from (length ps) s, ap (λ (k : ℕ). k * s) here) in
-        subst (λ (t : List One). Out p ps t (i * s + o) (next * s + o)) (sym is) (
-        subst (λ (k : ℕ). Out p ps (ps ++ p ∷ []) (i * s + o) k) (ap (λ (k : ℕ). k * s + o) behind) (
-        subst (λ (k : ℕ). Out p ps (ps ++ p ∷ []) k (from * s + o)) there (last_out b (from * s + o) γ p ps)))
+        subst (λ (t : Type 1). t) (λ j. Out p ps (sym is j) (there j) (behind j * s + o)) (last_out b (from * s + o) γ p ps)
 
     pub end_out : (d : End from rest i) → Out d.item d.others rest (i * s + o) (d.next * s + o)
     end_out d = out_by d.item d.others d.next d.by

@@ -1,7 +1,5 @@
--- A clause of two names at `Some` and at `None`, and an `Option` that a call gave, opened.
--- Assumes `Logic`.
-use Rattle.starlark_columns.proofs.Walking.{◌≡◌, refl, ap, ◌∙◌, ◌⊎◌, inl, inr, List, [], ◌∷◌, ◌++◌, none, Ura, named, Val, of_list, vptr, vstruct, vcons, vnil, ent, guard, Lft, GName, fres, Logic, sem, ‵, ◌$◌, ◌∵◌, !, qed, by, keep, fsplit, fpick, feq_l, rewrite, check, done, live, fact, fact_i, RattleType, follows, follows_if, follows_by, follows_both, follows_both_if, both_if_by, Is, shows, layout, MutBor, MutRef, peeks, only, Tuple, Good}
-use mathlib.Core.Option.{some}
+-- An `Option` that a call gave, opened. Assumes `Logic`.
+use Rattle.starlark_columns.proofs.Walking.{◌≡◌, refl, ap, ◌∙◌, ◌⊎◌, inl, inr, List, [], ◌∷◌, ◌++◌, Ura, named, Val, of_list, vptr, vstruct, vcons, vnil, ent, guard, Lft, Logic, sem, ‵, ◌$◌, ◌∵◌, !, qed, by, keep, fsplit, fpick, feq_l, rewrite, check, done, live, fact, fact_i, RattleType, Is, shows, layout, MutBor, MutRef, peeks, only, Tuple, Good}
 use Rattle.core.specs.declared.option.Option.{Option}
 use Rattle.core.specs.declared.option.Option.TheVariants.{None, Some}
 use Rattle.core.specs.contracts.option.Option as OP
@@ -11,25 +9,6 @@ pub use Rattle.starlark_columns.proofs.LentParts.{given_up, as_tuple}
 pub either : {A : Type 0} (o : Option A) → ((x : A) × (o ≡ Some x)) ⊎ (o ≡ None)
 either (Some x) = inl (x, refl)
 either None = inr refl
-
-module _ {M : Type 1} {𝓤 : Ura M} (𝓛 : Logic 𝓤) (R T U : RattleType) (γ : GName) where
-  module _ (F : T.Denot → R.Denot) (v : R.Denot) where
-    pub left_one : (γ' : GName) → ent 𝓤 (sem 𝓛 (follows_if R T γ (some γ') F v)) (sem 𝓛 (follows R T γ γ' F))
-    unfolding follows_by
-    left_one γ' = qed 𝓛 (‵ (follows R T γ γ' F) ∷ []) ∵ done !
-
-    pub left_none : ent 𝓤 (sem 𝓛 (follows_if R T γ none F v)) (sem 𝓛 (fres γ (R.coded.code v)))
-    unfolding follows_by
-    left_none = qed 𝓛 (‵ (fres γ (R.coded.code v)) ∷ []) ∵ done !
-
-  module _ (F : T.Denot → U.Denot → R.Denot) (v : R.Denot) where
-    pub leaves_two : (γ₁ γ₂ : GName) → ent 𝓤 (sem 𝓛 (follows_both R T U γ γ₁ γ₂ F)) (sem 𝓛 (follows_both_if R T U γ (some (γ₁, γ₂)) F v))
-    unfolding both_if_by
-    leaves_two γ₁ γ₂ = qed 𝓛 (‵ (follows_both R T U γ γ₁ γ₂ F) ∷ []) ∵ done !
-
-    pub leaves_none : ent 𝓤 (sem 𝓛 (fres γ (R.coded.code v))) (sem 𝓛 (follows_both_if R T U γ none F v))
-    unfolding both_if_by
-    leaves_none = qed 𝓛 (‵ (fres γ (R.coded.code v)) ∷ []) ∵ done !
 
 module _ {M : Type 1} {𝓤 : Ura M} (𝓛 : Logic 𝓤) (R : RattleType) (v : Val) where
   -- where the type tells its machine value

@@ -4,13 +4,11 @@ pub mod Pairs
 pub mod Placing
 pub mod Moving
 pub mod Positions
-pub mod PushLemmas
 pub mod FrozenPairs
 pub mod Sieving
 pub mod OneSortedList
 pub mod TwoColumns
 pub mod Values
 pub mod Vec2Open
-pub mod StepsBack
 pub mod WalkRenamed
-pub mod WalkRuns
+pub mod Words

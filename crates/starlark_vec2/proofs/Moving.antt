@@ -49,16 +49,14 @@ module _ {X : Type 0} where
 
     -- where the item of an index stands
     stands : (k : ℕ) (d : X) → k < length xs → (i : ℕ) × (i < length ys) × (get_or ys i (k, get_or xs k d) ≡ (k, get_or xs k d))
-    stands k d lt = let x = get_or xs k d in
-        Contains-permutation (enumerate_from 0 xs) ys (k, x) p (k, omega (arith, length-enumerate_from 0 xs), grind (arith, get_or-enumerate_from 0 xs k (k, x), get_or_default xs k x d))
+    stands k d lt = Contains-permutation (enumerate_from 0 xs) ys (k, get_or xs k d) p (k, grind (arith, length-enumerate_from), grind (arith, get_or-enumerate_from, get_or_default))
 
     -- and `to` names it
     named : (i k : ℕ) (x : X) → i < length ys → get_or ys i (k, x) ≡ (k, x) → get_or to k 0 ≡ i
     named i k x lt is =
-        let index = get_or-map (λ p. p.0) ys i (k, x) 0 in
         let stored = get_or-map (slice_get to) (map (λ p. p.0) ys) i 0 None in
-        let at : slice_get to k ≡ Some i = grind (arith, index, stored, get_or-map Some (range_with_len 0 (length xs)) i 0 None, get_or-range_with_len, length-range_with_len, length-map, total, puts) in
-        get_or_from_slice_get to k i 0 at
+        let one = get_or-map Some (range_with_len 0 (length xs)) i 0 None in
+        grind (arith, get_or-map (λ p. p.0) ys i (k, x) 0, stored, one, get_or-range_with_len, length-range_with_len, length-map, total, puts, get_or_from_slice_get to k i 0)
 
     -- what was noted tells where the items went
     pub Moves-noted : length to ≡ length xs → Moves xs to (map (λ p. p.1) ys)

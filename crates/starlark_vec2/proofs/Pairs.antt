@@ -1,5 +1,5 @@
 -- A list of pairs and its two columns, which are as long.
-use Rattle.starlark_hash.proofs.Common.{◌≡◌, ℕ, zero, suc, List, [], ◌∷◌, ◌++◌, length, take, zip, slice_get, reverse, remove, Bool, ◌&&◌, None, refl, arith, nat_tests, common_steps, AllZip, pointwise}
+use Rattle.starlark_hash.proofs.Common.{◌≡◌, ℕ, zero, suc, List, [], ◌∷◌, ◌++◌, length, take, zip, slice_get, reverse, remove, Bool, ◌&&◌, None, refl, ap, arith, length_push, nat_tests, common_steps, AllZip, pointwise}
 use Rattle.std.proofs.Common.{set}
 use Rattle.std.proofs.lemmas.Slice.Zip.{length-zip, firsts-zip, seconds-zip}
 use Rattle.starlark_vec2.specs.PairList.{firsts_of, seconds_of}
@@ -15,6 +15,10 @@ module _ {A B : Type 0} where
   zip_push [] [] x y e = refl
   zip_push (a ∷ xs) (b ∷ ys) x y e = cc (zip_push xs ys x y (omega arith))
   zip_push xs ys x y e = absurd (omega arith)
+
+  -- two columns, each of which has lost its last part, and the list of pairs of both
+  pub pair_back : (xs us : List A) (ys vs : List B) (x : A) (y : B) → xs ≡ us ++ x ∷ [] → ys ≡ vs ++ y ∷ [] → length ys ≡ length xs → zip xs ys ≡ zip us vs ++ (x, y) ∷ []
+  pair_back xs us ys vs x y p q e = cc (zip_push us vs x y (omega (arith, ap length p, ap length q, length_push us x, length_push vs y)))
 
   pub zip-take : (n : ℕ) (xs : List A) (ys : List B) → zip (take n xs) (take n ys) ≡ take n (zip xs ys)
   zip-take (suc n) (x ∷ xs) (y ∷ ys) = cc (zip-take n xs ys)

@@ -1,5 +1,5 @@
 -- What sorted positions say of the items that stand there, and a comparator of items behind one of positions.
-use Rattle.starlark_hash.proofs.Common.{◌≡◌, ℕ, suc, ◌+◌, ◌<◌, Bool, true, false, List, [], ◌∷◌, ◌++◌, map, length, get_or, slice_get, Option, Some, refl, sym, ap, subst, ◌∙◌, arith, Bor, Mut, Takes, Called, IsStrictWeakOrder, range_with_len, Contains, IsSortedBy, IsStableBy, deref_pair, is_lt, Ordering, map-id, get_or-range_with_len, length-range_with_len, IsPermutation-map, IsPermutation-refl, length_permutation, slice_get-get_or, slice_get_within, get_or_from_slice_get}
+use Rattle.starlark_hash.proofs.Common.{◌≡◌, ℕ, suc, ◌+◌, ◌<◌, Bool, List, [], ◌∷◌, ◌++◌, map, length, get_or, slice_get, Option, Some, refl, sym, ap, subst, ◌∙◌, arith, Bor, Mut, Takes, Called, IsStrictWeakOrder, range_with_len, Contains, IsSortedBy, IsStableBy, deref_pair, is_lt, Ordering, map-id, get_or-range_with_len, length-range_with_len, IsPermutation-map, IsPermutation-refl, length_permutation, slice_get-get_or, slice_get_within, get_or_from_slice_get}
 use Rattle.std.proofs.Common.{unwrap_or}
 use Rattle.std.specs.Fn.{ReturnsEach, ComparesAs}
 use Rattle.std.specs.List.Sorted.{IsPermutation}
@@ -21,12 +21,8 @@ module _ {X : Type 0} where
   PutsInOrder-from_indices xs order ys e within at = absurd (omega arith)
 
   map_slice_get-all : (xs : List X) → map Some xs ≡ map (slice_get xs) (range_with_len 0 (length xs))
-  map_slice_get-all xs =
-      PutsInOrder-from_indices xs (range_with_len 0 (length xs)) xs (sym (length-range_with_len 0 (length xs)))
+  map_slice_get-all xs = PutsInOrder-from_indices xs (range_with_len 0 (length xs)) xs (grind (arith, length-range_with_len))
       (λ k lt. grind (arith, get_or-range_with_len)) (λ k d lt. grind (arith, get_or-range_with_len))
-
-  unwrap-somes : (d : X) (xs : List X) → map (λ o. unwrap_or o d) (map Some xs) ≡ xs
-  unwrap-somes d xs = map-map (λ o. unwrap_or o d) Some xs ∙ map-id xs
 
   same_somes : (xs ys : List X) → map Some xs ≡ map Some ys → xs ≡ ys
   same_somes [] [] e = refl
@@ -35,7 +31,7 @@ module _ {X : Type 0} where
 
   from_somes : (xs ys : List X) → IsPermutation (map Some xs) (map Some ys) → IsPermutation xs ys
   from_somes [] [] p = IsPermutation-refl []
-  from_somes (x ∷ xs) ys p = rw (unwrap-somes x (x ∷ xs), unwrap-somes x ys) at (IsPermutation-map (λ o. unwrap_or o x) _ _ p)
+  from_somes (x ∷ xs) ys p = rw (map-map (λ o. unwrap_or o x) Some (x ∷ xs), map-map (λ o. unwrap_or o x) Some ys, map-id (x ∷ xs), map-id ys) at (IsPermutation-map (λ o. unwrap_or o x) _ _ p)
   from_somes xs ys p = absurd (omega (arith, length_permutation _ _ p))
 
   -- items put in an order of all positions are rearranged
@@ -43,16 +39,8 @@ module _ {X : Type 0} where
   IsPermutation-from_order xs order ys p puts = from_somes xs ys (rw (map_slice_get-all xs, puts) (IsPermutation-map (slice_get xs) _ _ p))
 
   module _ (lt : X → X → Bool) (o : IsStrictWeakOrder lt) where
-    option_one_way : (x y : Option X) → option_lt lt x y ≡ true → option_lt lt y x ≡ false
-    option_one_way (Some x) (Some y) h = o.one_way x y h
-    option_one_way x y h = cc
-
-    option_chain : (x y z : Option X) → option_lt lt x y ≡ false → option_lt lt y z ≡ false → option_lt lt x z ≡ false
-    option_chain (Some x) (Some y) (Some z) h k = o.chain x y z h k
-    option_chain x y z h k = cc
-
     pub lt_at-weak : (xs : List X) → IsStrictWeakOrder (lt_at lt xs)
-    lt_at-weak xs = record { one_way = λ i j. option_one_way (slice_get xs i) (slice_get xs j); chain = λ i j k. option_chain (slice_get xs i) (slice_get xs j) (slice_get xs k) }
+    lt_at-weak xs = record { one_way = λ i j h. grind (arith, o.one_way); chain = λ i j k h h'. grind (arith, o.chain) }
 
     -- items put in an ascending order of their positions, with ties in theirs, are sorted
     pub sorted_by-from_order : (xs : List X) (order : List ℕ) (ys : List X) → IsSortedBy (lt_at lt xs) order × IsStableBy (lt_at lt xs) (range_with_len 0 (length xs)) order
@@ -66,22 +54,20 @@ module _ {X : Type 0} where
 
 module _ {F G A B : Type 0} (g : Mut F (PairRef A B × (PairRef A B × Unit {0})) Ordering) (g' : Mut G (Bor ℕ × (Bor ℕ × Unit {0})) Ordering) (state : G → F) (pairs : G → List (A × B))
     (calls : (s : G) (i j : Bor ℕ) (r : Ordering) (t : G) → Called g' s (i, (j, tt)) r t → ComparesAt g (pairs s) (state s) i.now j.now r (state t) × (pairs t ≡ pairs s)) (lt : A × B → A × B → Bool) (ps : List (A × B)) where
-  Each : F → List (PairRef A B × (PairRef A B × Unit {0})) → Type 0
+  abbrev Each : F → List (PairRef A B × (PairRef A B × Unit {0})) → Type 0
   Each = ReturnsEach g (λ a r. is_lt r ≡ lt (deref_pair a.0) (deref_pair a.1.0))
 
-  Answers : G → List (Bor ℕ × (Bor ℕ × Unit {0})) → Type 0
+  abbrev Answers : G → List (Bor ℕ × (Bor ℕ × Unit {0})) → Type 0
   Answers = ReturnsEach g' (λ a r. is_lt r ≡ lt_at lt ps a.0.now a.1.0.now)
 
   asked : (f : F) (x y : Option (A × B)) (r : Ordering) (f2 : F) → ComparesOptions g f x y r f2 → ((us : List (PairRef A B × (PairRef A B × Unit {0}))) → Each f us)
       → (is_lt r ≡ option_lt lt x y) × ((us : List (PairRef A B × (PairRef A B × Unit {0}))) → Each f2 us)
-  unfolding Each
   asked f (Some x) (Some y) r f2 k h =
       let a : PairRef A B × (PairRef A B × Unit {0}) = (k.left, (k.right, tt)) in
       ((h (a ∷ []) r f2 k.called).0 ∙ (λ j. lt (k.shows_left j) (k.shows_right j)), λ us. (h (a ∷ us) r f2 k.called).1)
   asked f x y r f2 k h = (ap is_lt k.0, subst (λ f3. (us : List (PairRef A B × (PairRef A B × Unit {0}))) → Each f3 us) (sym k.1) h)
 
   answers_each : (s : G) → pairs s ≡ ps → ((us : List (PairRef A B × (PairRef A B × Unit {0}))) → Each (state s) us) → (xs : List (Bor ℕ × (Bor ℕ × Unit {0}))) → Answers s xs
-  unfolding Answers
   answers_each s same h [] = tt
   answers_each s same h (x ∷ xs) = λ r t e.
       let c = calls s x.0 x.1.0 r t e in
@@ -89,7 +75,6 @@ module _ {F G A B : Type 0} (g : Mut F (PairRef A B × (PairRef A B × Unit {0})
       (k.0, answers_each t (c.1 ∙ same) k.1 xs)
 
   pub compares_positions : (s : G) → pairs s ≡ ps → ComparesPairsAs g lt (state s) → ComparesAs g' (lt_at lt ps) s
-  unfolding Each Answers
   compares_positions s same h = record { at = answers_each s same (λ us. h.at us) }
 
 -- what stands at an index is an item
@@ -116,8 +101,8 @@ pub compares_at : {F A B : Type 0} (g : Mut F (PairRef A B × (PairRef A B × Un
 compares_at g ps f i j x y r f2 p q h = subst (λ t. t) (λ k. ComparesOptions g f (p k) (q k) r f2) h
 
 -- one more position
-pub range_with_len-more : (a n : ℕ) → range_with_len a (n + 1) ≡ range_with_len a n ++ (a + n) ∷ []
-range_with_len-more a n = grind (arith, map-id, map-range_with_len_more (λ i. i) a n (a + n))
+pub range_with_len_more : (a n : ℕ) → range_with_len a (n + 1) ≡ range_with_len a n ++ (a + n) ∷ []
+range_with_len_more a n = grind (arith, map-id, map-range_with_len_more (λ i. i) a n (a + n))
 
 pub sorted_by-short : {X : Type 0} (lt : X → X → Bool) (xs : List X) → length xs < 2 → xs ≡ sorted_by lt xs
 sorted_by-short lt (x ∷ y ∷ xs) h = absurd (omega arith)

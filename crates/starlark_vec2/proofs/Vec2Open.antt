@@ -1,5 +1,5 @@
 -- A `Vec2` in memory is its two columns and the rest, and back, at any columns of which the invariant holds. Assumes `Logic`.
-use Rattle.starlark_columns.proofs.Walking.{◌≡◌, refl, ℕ, zero, ◌+◌, ◌<◌, ◌^◌, List, [], ◌∷◌, Ura, full_share, w64, Val, vint, Fml, fsep, SProp, ent, sep, emp, wand, ex, all_e, apply∗, fact, fact_i, size, align, up, ‵, raw, ◌⊛◌, some, ◌$◌, ◌∵◌, !, qed, by, move, use0, use1, use2, split, pick, show, fsplit, fsplit3, fjoin, fpick, fpack, rewrite, done, Logic, sem, RattleType, Denots, shows, part_at, part_of, cell_at, lone, plain_out, Plain-in, view_made, Laws, uint_Makes, facts, owned, field, usize-field, peeks, fat, Ptr, sym, ap, subst, ◌∙◌, lawfuls, Member, rows_of, parts_at, shape_of, PartsBack, Struct-parts, Struct, ghosts}
+use Rattle.starlark_columns.proofs.Walking.{length, slice_set, length-set, ◌≡◌, refl, ℕ, zero, ◌+◌, ◌<◌, ◌^◌, List, [], ◌∷◌, Ura, full_share, w64, Val, vint, Fml, fsep, SProp, ent, sep, emp, wand, ex, all_e, apply∗, fact, fact_i, size, align, up, ‵, raw, ◌⊛◌, some, ◌$◌, ◌∵◌, !, qed, by, move, use0, use1, use2, split, pick, show, fsplit, fsplit3, fjoin, fpick, fpack, rewrite, done, Logic, sem, RattleType, Denots, shows, part_at, part_of, cell_at, lone, plain_out, Plain-in, view_made, Laws, uint_Makes, facts, owned, field, usize-field, peeks, fat, Ptr, sym, ap, subst, ◌∙◌, lawfuls, Member, rows_of, parts_at, shape_of, PartsBack, Struct-parts, Struct, ghosts}
 use Rattle.std.specs.contracts.alloc.Global as heap
 use denote.RawPtr.{InBlock, block_ptr, block_of, count_of}
 use Rattle.starlark_columns.specs.Block.{IsBehind}
@@ -7,7 +7,11 @@ use Rattle.starlark_columns.specs.Pair.{behind as starts}
 use Rattle.starlark_columns.specs.contracts.block.PairClaim as claim
 use Rattle.starlark_columns.specs.contracts.block.Spot as spot
 use Rattle.starlark_columns.proofs.Addresses.{words, spot_made, spot_told}
+use Rattle.std.specs.declared.option.Option.TheVariants.{Some}
+use Rattle.starlark_columns.specs.Lend.{with_cells}
 use Rattle.starlark_vec2.specs.Columns.{column}
+use Rattle.starlark_vec2.specs.Lend.{with_pair}
+use Rattle.starlark_vec2.proofs.TwoColumns.{relaid, both_set, both_end}
 use Rattle.starlark_vec2.specs.declared.vec2.Vec2.TheInside.{Inside}
 use Rattle.starlark_vec2.specs.contracts.vec2.Vec2 as C
 use Rattle.starlark_vec2.specs.contracts.vec2.Vec2.TheInside as I
@@ -36,11 +40,8 @@ module _ (A B : RattleType) where
   abbrev last : List Member
   last = member (field heap.the_type).row ∷ member Right ∷ []
 
-  abbrev behind : List Member
-  behind = member At ∷ last
-
   abbrev left : List Member
-  left = member usize-field.row ∷ behind
+  left = member usize-field.row ∷ member At ∷ last
 
   abbrev ms : List Member
   ms = member (column A) ∷ member (column B) ∷ left
@@ -56,6 +57,14 @@ module _ (A B : RattleType) where
 
   abbrev to : D → Denots (rows_of ms)
   to d = (I.the_type A B).to d
+
+  -- the struct with other items at one index
+  abbrev pub written : D → ℕ → A.Denot → B.Denot → D
+  written d i x y = record d { firsts = with_cells d.firsts (slice_set d.firsts.cells i (Some x)); seconds = with_cells d.seconds (slice_set d.seconds.cells i (Some y)) }
+
+  pub written_known : (v : V.Denot) (d : D) (i : ℕ) (x : A.Denot) (y : B.Denot) → i < length v.pairs → Known v d → Known (with_pair v i (x, y)) (written d i x y)
+  written_known v d i x y lt k = let cs = d.firsts.cells in let ds = d.seconds.cells in
+      (both_end cs ds d.len k.1.0 v k.0 i lt x y, relaid d k.1 (slice_set cs i (Some x)) (slice_set ds i (Some y)) (both_set cs ds d.len k.1.0 v k.0 i lt x y) (length-set cs i (Some x)) (length-set ds i (Some y)))
 
   -- the length and the count are words, and the columns lie as the block's right says
   abbrev pub Told : D → Type 0
@@ -88,11 +97,9 @@ module _ (A B : RattleType) where
     abbrev pub Index : Ptr → ℕ → Fml
     Index p n = fat full_share (lone At.mir) b (o + eS) (words p n)
 
-    abbrev eG : ℕ
-    eG = up (align (lone (field heap.the_type).row.mir)) (eS + size (lone At.mir))
-
+    -- the right's, behind the allocator
     abbrev eC : ℕ
-    eC = up (align (lone Right.mir)) (eG + size (lone (field heap.the_type).row.mir))
+    eC = let alloc = lone (field heap.the_type).row.mir in up (align (lone Right.mir)) (up (align alloc) (eS + size (lone At.mir)) + size alloc)
 
     abbrev pub Less : D → SProp 𝓤
     Less d = sep 𝓤 (sem 𝓛 (parts_at full_share last (eS + size (lone At.mir)) (to d).1.1.1.1 b o)) (PartsBack 𝓛 full_share (I.the_type A B).name ms b o)
@@ -122,11 +129,8 @@ module _ (A B : RattleType) where
         owned ! usize-field.row _ (uint_Makes 𝓛 w64) d.len (vint w64 d.len ∷ []) (refl, told.0) $ move ! (1 ∷ 0 ∷ []) $ fjoin ! $
         fpack ! (List Val) (λ us. fsep (cell_at full_share usize-field.row.mir us b (o + eL)) (usize-field.row.own_val d.len us)) (vint w64 d.len ∷ []) $ fjoin ! $ done !
 
-    abbrev pub Cut : D → SProp 𝓤
-    Cut d = sep 𝓤 (sem 𝓛 (part_at (column A) full_share d.firsts b (o + eA))) (sep 𝓤 (sem 𝓛 (part_at (column B) full_share d.seconds b (o + eB))) (Rest d))
-
     abbrev pub Cuts : (v : V.Denot) → ((d : D) × Known v d) → SProp 𝓤
-    Cuts v d = Cut d.0
+    Cuts v d = sep 𝓤 (sem 𝓛 (part_at (column A) full_share d.0.firsts b (o + eA))) (sep 𝓤 (sem 𝓛 (part_at (column B) full_share d.0.seconds b (o + eB))) (Rest d.0))
 
     pub cut : Laws A → Laws B → (v : V.Denot) → ent 𝓤 (sem 𝓛 (part_at V full_share v b o)) (ex 𝓤 (Cuts v))
     unfolding part_of

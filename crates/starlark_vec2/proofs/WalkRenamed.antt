@@ -12,12 +12,8 @@ module _ (a : NamedLft) (K V : RattleType) where
   abbrev Behind : Walk → Type 0
   Behind x = (w : Inside K.Denot V.Denot) × ((C.the_view a K V w ≡ x) × C.the_invariant a K V w)
 
-  under : (x : Walk) (tie : GName) → Behind x → Behind (x.0, tie)
-  under x tie w = (record w.0 { loan = record w.0.loan { tie = tie } }, (ap (λ (y : Walk). (y.0, tie)) w.1.0, w.1.1))
-
   pub renamed : {M : Type 1} {𝓤 : Ura M} (𝓛 : Logic 𝓤) (x : Walk) (tie : GName) (us : List Val)
       → ent 𝓤 (sem 𝓛 ((C.the_row a K V).own_val x us)) (sem 𝓛 ((C.the_row a K V).own_val (x.0, tie) us))
-  unfolding under
   renamed 𝓛 x tie us =
       qed 𝓛 (‵ ((C.the_row a K V).own_val x us) ∷ []) ∵ fpick ! (λ (w : Behind x).
-      fpack ! (Behind (x.0, tie)) (λ m. fsep ((I.the_row a K V).own_val m.0 us) ftrue) (under x tie w) $ done !)
+      fpack ! (Behind (x.0, tie)) (λ m. fsep ((I.the_row a K V).own_val m.0 us) ftrue) (record w.0 { loan = record w.0.loan { tie = tie } }, (ap (λ (y : Walk). (y.0, tie)) w.1.0, w.1.1)) $ done !)

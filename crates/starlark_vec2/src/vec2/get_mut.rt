@@ -29,7 +29,7 @@ impl<A, B> Vec2<A, B> {
     }
 
     /// The first part of the pair at this index. The list ends with what is left in it.
-    #[tactic(auto, using(crate::proofs::Pairs::columns))]
+    #[tactic(auto, using(crate::proofs::TwoColumns::in_columns, crate::proofs::TwoColumns::first_end, crate::proofs::TwoColumns::first_is))]
     #[inline]
     pub fn first_at_mut(&mut self, index: usize) -> &mut A
         requires { index < length self.old.pairs }

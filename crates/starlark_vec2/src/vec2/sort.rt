@@ -76,6 +76,7 @@ impl<A, B> Vec2<A, B> {
 }
 
 // The numbers below `n`, in their order.
+#[tactic(auto, using(std::proofs::lemmas::List::length_push, crate::proofs::Positions::range_with_len_more))]
 fn positions(alloc: Global, n: usize) -> Result<Vec<usize>, AllocError>
     ensures { IfOk result (λ v. v.items ≡ range_with_len 0 n) }
 {

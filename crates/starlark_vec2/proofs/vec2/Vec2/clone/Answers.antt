@@ -18,5 +18,5 @@ pub returns-in-Ok-clone_items-clause-same : goal.returns-in-Ok-clone_items-claus
 returns-in-Ok-clone_items-clause-same g c = λ firsts_same seconds_same.
     let us = same_from_all_zip _ _ _ c.in-Ok.ensures.items firsts_same in
     let vs = same_from_all_zip _ _ _ c.in-Ok-clone_items.ensures.items seconds_same in
-    let len = sym (len_is c.self.inside.firsts.cells c.self.inside.seconds.cells c.self.inside.len c.self.invariant.0 c.args.self.now c.self.view_is) in
+    let len = sym (len_is _ _ _ c.self.invariant.0 _ c.self.view_is) in
     (λ j. pair_list (zip (us j) (vs j)) ((c.clone_items.ensures.cells ∙ c.in_ok-spot.ensures.cells.1 ∙ len) j)) ∙ ap (λ v. pair_list v.pairs (length c.args.self.now.pairs)) c.self.view_is

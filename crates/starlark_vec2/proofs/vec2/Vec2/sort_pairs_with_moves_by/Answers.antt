@@ -1,23 +1,14 @@
-use Rattle.starlark_hash.proofs.Common.{◌≡◌, ℕ, List, Result, Ok, Err, length, map, take, drop, ◌++◌, sym, ap, subst, ◌∙◌, append-nil, arith, OnErr, enumerate_from, range_with_len, IsStableBy, take_all, length-enumerate_from}
+use Rattle.starlark_hash.proofs.Common.{◌≡◌, length, map, take, drop, ◌++◌, sym, ap, subst, ◌∙◌, append-nil, arith, enumerate_from, range_with_len, IsStableBy, take_all, drop_all, common_steps, length-enumerate_from}
 use Rattle.std.specs.List.Sorted.{IsPermutation}
-use Rattle.std.proofs.Math.ListN.{drop_of_length-le}
-use Rattle.starlark_vec2.specs.Sort.{Moves, PutsInOrder}
+use Rattle.starlark_vec2.specs.Sort.{PutsInOrder}
 use Rattle.starlark_vec2.proofs.Moving.{numbered_lt, numbered_lt-weak, sorted_by-numbered, items-numbered, cells-rearranged, Moves-noted}
 use Rattle.starlark_vec2.proofs.vec2.Vec2.sort_pairs_with_moves_by.Goals as goal
-
-written_back : (n : ℕ) (new items : List ℕ) → length new ≡ n → length items ≡ n → take n (new ++ drop (length new) items) ≡ new
-written_back n new items count same = ap (λ l. take n (new ++ l)) (drop_of_length-le items (omega arith)) ∙ ap (take n) (append-nil new) ∙ take_all n new (omega arith)
-
-OnErr-always : {X E : Type 0} {P : Type 0} (r : Result X E) → P → OnErr r P
-OnErr-always (Ok x) p = tt
-OnErr-always (Err e) p = p
 
 pub note_moves-requires-clause-indices : goal.note_moves-requires-clause-indices
 note_moves-requires-clause-indices g c =
     let xs = c.args.self.now.pairs in
     let ys = c.as_slice.result.now in
-    let p : IsPermutation (enumerate_from 0 xs) ys =
-    subst (λ l. IsPermutation l ys) c.in_ok-numbered.ensures.pairs (subst (IsPermutation c.in_ok-numbered.numbered.items) (sym c.as_slice.ensures.value) c.sort_by-sorted.ensures.permutation) in
+    let p : IsPermutation (enumerate_from 0 xs) ys = rw (← c.in_ok-numbered.ensures.pairs, c.as_slice.ensures.value) c.sort_by-sorted.ensures.permutation in
     cells-rearranged xs ys (length c.as_mut_slice.result.now) (omega (arith, c.as_mut_slice.ensures.len, c.in_ok-to.ensures.len, c.len-2.ensures.len)) p
 
 pub put_numbered-requires-clause-room : goal.put_numbered-requires-clause-room
@@ -26,8 +17,7 @@ put_numbered-requires-clause-room g c =
 
 pub returns-in_err-sorted-clause-unchanged : goal.returns-in_err-sorted-clause-unchanged
 returns-in_err-sorted-clause-unchanged g c =
-    OnErr-always c.from_residual-in_err-sorted.result
-    (ap (λ v. v.pairs) c.put_numbered.ensures ∙ ap (map (λ p. p.1)) (c.in_err-sorted.ensures.err ∙ c.in_ok-numbered.ensures.pairs) ∙ items-numbered 0 c.args.self.now.pairs)
+    grind (arith, ap (λ v. v.pairs) c.put_numbered.ensures ∙ ap (map (λ p. p.1)) (c.in_err-sorted.ensures.err ∙ c.in_ok-numbered.ensures.pairs) ∙ items-numbered 0 c.args.self.now.pairs)
 
 pub returns-clause-sorted : goal.returns-clause-sorted
 returns-clause-sorted g c = λ lt weak told.
@@ -42,12 +32,11 @@ returns-clause-moves g c =
     let xs = c.args.self.now.pairs in
     let ys = c.as_slice.result.now in
     let to = c.note_moves.new.to in
-    let p : IsPermutation (enumerate_from 0 xs) ys =
-    subst (λ l. IsPermutation l ys) c.in_ok-numbered.ensures.pairs (subst (IsPermutation c.in_ok-numbered.numbered.items) (sym c.as_slice.ensures.value) c.sort_by-sorted.ensures.permutation) in
+    let p : IsPermutation (enumerate_from 0 xs) ys = rw (← c.in_ok-numbered.ensures.pairs, c.as_slice.ensures.value) c.sort_by-sorted.ensures.permutation in
     let before : length c.as_mut_slice.result.now ≡ length xs = omega (arith, c.as_mut_slice.ensures.len, c.in_ok-to.ensures.len, c.len-2.ensures.len) in
     let after : length to ≡ length xs = c.note_moves.auto.to ∙ before in
-    let told : PutsInOrder to (map (λ p. p.0) ys) (range_with_len 0 (length xs)) = subst (λ n. PutsInOrder to (map (λ p. p.0) ys) (range_with_len 0 n)) before c.note_moves.ensures in
+    let told : PutsInOrder to (map (λ p. p.0) ys) (range_with_len 0 (length xs)) = rw before at c.note_moves.ensures in
     let written : take c.in_ok-to.to.len (to ++ drop (length to) c.in_ok-to.to.items) ≡ to =
-    written_back c.in_ok-to.to.len to c.in_ok-to.to.items (omega (arith, after, c.in_ok-to.ensures.len, c.len-2.ensures.len)) (omega (arith, ap length c.as_mut_slice.ensures.value, c.as_mut_slice.ensures.len)) in
+    grind (arith, common_steps, drop_all, append-nil, take_all, after, c.in_ok-to.ensures.len, c.len-2.ensures.len, ap length c.as_mut_slice.ensures.value, c.as_mut_slice.ensures.len) in
     let put : map (λ p. p.1) ys ≡ c.put_numbered.new.self.pairs = ap (map (λ p. p.1)) c.as_slice.ensures.value ∙ sym (ap (λ v. v.pairs) c.put_numbered.ensures) in
-    subst (λ l. Moves xs l c.put_numbered.new.self.pairs) (sym written) (subst (Moves xs to) put (Moves-noted xs ys to p told after))
+    rw (written, ← put) (Moves-noted xs ys to p told after)

@@ -15,10 +15,8 @@ sort_by-requires g c =
 
 pub returns-clause-sorted : goal.returns-clause-sorted
 returns-clause-sorted g c = λ lt weak h.
-    let ps = c.args.self.now.pairs in (
-      c.in_ok-sort_by.ensures.sorted (lt_at lt ps) (lt_at-weak lt weak ps)
-          (compares_positions g.F.FnMut _ (λ s. s.1.now) (λ s. s.0.now.pairs) (λ s i j r t e. (search (rules, of_calls, e), search (rules, of_calls, e))) lt ps _ refl h),
-      subst (λ l. IsStableBy (lt_at lt ps) l c.sort_by.new.self.items) (c.in_ok-order.ensures ∙ ap (range_with_len 0) c.len.ensures.len)
-          (c.sort_by.ensures.stable (lt_at lt ps) (lt_at-weak lt weak ps)
-          (compares_positions g.F.FnMut _ (λ s. s.1.now) (λ s. s.0.now.pairs) (λ s i j r t e. (search (rules, of_calls, e), search (rules, of_calls, e))) lt ps _ refl h)),
+    let ps = c.args.self.now.pairs in
+    let ordered = compares_positions g.F.FnMut _ (λ s. s.1.now) (λ s. s.0.now.pairs) (λ s i j r t e. (search (rules, of_calls, e), search (rules, of_calls, e))) lt ps _ refl h in (
+      c.in_ok-sort_by.ensures.sorted (lt_at lt ps) (lt_at-weak lt weak ps) ordered,
+      subst (λ l. IsStableBy (lt_at lt ps) l c.sort_by.new.self.items) (c.in_ok-order.ensures ∙ ap (range_with_len 0) c.len.ensures.len) (c.sort_by.ensures.stable (lt_at lt ps) (lt_at-weak lt weak ps) ordered),
     )

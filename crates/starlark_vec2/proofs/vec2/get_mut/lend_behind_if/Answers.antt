@@ -5,16 +5,10 @@ use Rattle.starlark_columns.proofs.Fronts.{front_filled, front_taken}
 use Rattle.starlark_vec2.proofs.vec2.get_mut.lend_behind_if.Goals as goal
 
 pub get_mut-requires-clause-filled : goal.get_mut-requires-clause-filled
-get_mut-requires-clause-filled g c = front_filled c.args.column.now.cells c.args.len c.requires.front c.args.index c.if-index-len.true
+get_mut-requires-clause-filled g c = front_filled _ _ c.requires.front _ c.if-index-len.true
 
 pub returns-then-index-len : goal.returns-then-index-len
-returns-then-index-len g c = (
-  refl,
-  record {
-    writes_back = tt;
-    value = front_taken c.args.column.now.cells c.args.len c.requires.front c.args.index c.if-index-len.true c.get_mut.result.now c.get_mut.ensures.value;
-  },
-)
+returns-then-index-len g c = (refl, record { writes_back = tt; value = front_taken _ _ c.requires.front _ c.if-index-len.true _ c.get_mut.ensures.value })
 
 pub returns-else-index-len : goal.returns-else-index-len
 returns-else-index-len g c = (refl, record { writes_back = tt; value = slice_get_past (items_of c.args.column.now.cells) c.args.index (omega (arith, c.requires.front.count, c.if-index-len.false)) })

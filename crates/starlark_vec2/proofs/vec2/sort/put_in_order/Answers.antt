@@ -14,39 +14,37 @@ loop-index-init g c = record {
 pub loop-index-smaller : goal.loop-index-smaller
 loop-index-smaller g c =
     let at = c.loop-index in
+    let inv = at.invariant in
     let within : at.index < length at.order.items = omega (arith, c.loop-index-test.true, c.len.ensures, at.order.ok.0) in
-    let told = c.swap-else-from-index-2.ensures in
-    let fewer = fewer_misplaced at.order.items _ at.index _ _ _ at.invariant.spread at.invariant.order_len within c.index-from.ensures c.index-next.ensures told.items c.if-from-index.false in
-    omega (arith, fewer, told.len, c.swap-else-from-index-2.new.self.ok.0, at.order.ok.0)
+    let told = c.swap-else-from-index-2 in
+    let fewer = fewer_misplaced _ _ _ _ _ _ inv.spread inv.order_len within c.index-from.ensures c.index-next.ensures told.ensures.items c.if-from-index.false in
+    omega (arith, fewer, told.ensures.len, told.new.self.ok.0, at.order.ok.0)
 
 pub loop-index-preserved : goal.loop-index-preserved
 loop-index-preserved g c =
     let at = c.loop-index in
     let inv = at.invariant in
-    let order = at.order.items in
-    let within : at.index < length order = omega (arith, c.loop-index-test.true, c.len.ensures, at.order.ok.0) in
+    let within : at.index < length at.order.items = omega (arith, c.loop-index-test.true, c.len.ensures, at.order.ok.0) in
     let from = c.index-from.ensures in
     let next = c.index-next.ensures in
-    let told = c.swap-else-from-index-2.ensures in
+    let told = c.swap-else-from-index-2 in
     let other = c.if-from-index.false in
     let even : length at.firsts ≡ length at.seconds = cc (c.requires.even) in
-    let moved = (λ j. zip (c.swap.ensures.after j) (c.swap-else-from-index.ensures.after j)) ∙ zip-swap at.firsts at.seconds c.index-from.result.now c.index-next.result.now even in
+    let moved = (λ j. zip (c.swap.ensures.after j) (c.swap-else-from-index.ensures.after j)) ∙ zip-swap at.firsts at.seconds _ _ even in
     record {
-      order_len = omega (arith, told.len, c.swap-else-from-index-2.new.self.ok.0, at.order.ok.0, inv.order_len);
-      spread = Spread_stays order _ at.index _ _ _ inv.spread inv.order_len within from next told.items other;
-      placed = placed_stay order _ at.index _ _ _ inv.spread inv.order_len within from next told.items other inv.placed;
-      placing = placing_step order _ at.index _ _ _ inv.spread inv.order_len within from next told.items other
+      order_len = omega (arith, told.ensures.len, told.new.self.ok.0, at.order.ok.0, inv.order_len);
+      spread = Spread_stays _ _ _ _ _ _ inv.spread inv.order_len within from next told.ensures.items other;
+      placed = placed_stay _ _ _ _ _ _ inv.spread inv.order_len within from next told.ensures.items other inv.placed;
+      placing = placing_step _ _ _ _ _ _ inv.spread inv.order_len within from next told.ensures.items other
           _ c.args.order.items _ _ (omega (arith, length-zip at.firsts at.seconds, even, at.auto.firsts)) moved inv.placing;
     }
 
 pub returns : goal.returns
 returns g c =
     let at = c.loop-index in
-    let inv = at.invariant in
     let xs = c.args.firsts.now in
     let ys = c.args.seconds.now in
     let total = length_permutation _ _ c.requires.positions ∙ length-range_with_len 0 (length xs) in
     let long : length (zip xs ys) ≡ length xs = omega (arith, length-zip xs ys, c.requires.even) in
-    PutsInOrder-from_placed (zip xs ys) c.args.order.items (zip at.firsts at.seconds) at.order.items
-    (omega (arith, length-zip at.firsts at.seconds, at.auto.firsts, at.auto.seconds, c.requires.even, total)) (inv.order_len ∙ sym total)
-    (rw long (Spread-from_permutation (length xs) c.args.order.items c.requires.positions)) (λ k lt. inv.placed k (omega (arith, c.loop-index-test.false, c.len.ensures, at.order.ok.0))) inv.placing
+    PutsInOrder-from_placed _ _ _ _ (omega (arith, length-zip at.firsts at.seconds, at.auto.firsts, at.auto.seconds, c.requires.even, total)) (at.invariant.order_len ∙ sym total)
+    (rw long (Spread-from_permutation _ _ c.requires.positions)) (λ k lt. at.invariant.placed k (omega (arith, c.loop-index-test.false, c.len.ensures, at.order.ok.0))) at.invariant.placing

@@ -1,4 +1,4 @@
-use Rattle.starlark_hash.proofs.Common.{◌≡◌, length, map, sym, ◌∙◌, refl, arith, length-map, get_or-map, length-range_with_len, length_permutation}
+use Rattle.starlark_hash.proofs.Common.{◌≡◌, length, sym, ◌∙◌, refl, arith, length-map, get_or-map, length-range_with_len, length_permutation}
 use Rattle.starlark_vec2.proofs.Moving.{noted-more, noted-all}
 use Rattle.starlark_vec2.proofs.Placing.{Spread-from_permutation}
 use Rattle.starlark_vec2.proofs.vec2.sort_moves.note_moves.Goals as goal
@@ -19,19 +19,16 @@ loop-j-preserved g c =
     let at = c.loop-j in
     let inv = at.invariant in
     let xs = c.args.numbered.now in
+    let index = get_or-map (λ p. p.0) xs at.j c.index-numbered-j.result 0 c.loop-j-test.true in
     record {
       spread = inv.spread;
       count = inv.count;
       few = inv.few;
-      noted = noted-more (map (λ p. p.0) xs) at.to _ (length c.args.to.now) at.j _ inv.spread at.auto.to (omega (arith, length-map xs (λ p. p.0), c.loop-j-test.true))
-          (sym (get_or-map (λ p. p.0) xs at.j c.index-numbered-j.result 0 c.loop-j-test.true)) refl inv.noted;
+      noted = noted-more _ _ _ _ at.j _ inv.spread at.auto.to (omega (arith, length-map xs (λ p. p.0), c.loop-j-test.true)) (sym index) refl inv.noted;
     }
 
 pub returns : goal.returns
 returns g c =
     let at = c.loop-j in
     let inv = at.invariant in
-    let xs = c.args.numbered.now in
-    let n = length c.args.to.now in
-    noted-all (map (λ p. p.0) xs) at.to n inv.spread at.auto.to (length-map xs (λ p. p.0) ∙ inv.count)
-    (λ k lt. inv.noted k (omega (arith, lt, inv.count, c.loop-j-test.false)))
+    noted-all _ _ _ inv.spread at.auto.to (length-map c.args.numbered.now (λ p. p.0) ∙ inv.count) (λ k lt. inv.noted k (omega (arith, lt, inv.count, c.loop-j-test.false)))
