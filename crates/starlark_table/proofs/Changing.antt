@@ -1,5 +1,5 @@
 -- What a change of the slots leaves of a table: its members, its room, and that it is sound.
-use Rattle.starlark_hash.proofs.Common.{◌≡◌, ℕ, ◌+◌, ◌-◌, ◌*◌, ◌%◌, ◌^◌, ◌<◌, ◌≤◌, List, [], ◌∷◌, ◌++◌, length, Option, Some, None, arith, sym, ◌∙◌, ap, subst, subst₂, length-append, append-nil, IsPermutation, length_permutation, set, length-set}
+use Rattle.starlark_hash.proofs.Common.{◌≡◌, ℕ, ◌+◌, ◌-◌, ◌^◌, ◌<◌, ◌≤◌, List, [], ◌∷◌, ◌++◌, length, Option, Some, None, arith, ◌∙◌, ap, length-append, append-nil, IsPermutation, length_permutation, set, length-set}
 use Rattle.starlark_table.specs.Table.{Table, filled, members, table_capacity, table_len}
 use Rattle.starlark_table.specs.Layout.{at, InPlace, IsTagged, IsSound, TellsFar}
 use Rattle.starlark_table.specs.Growth.{limit}
@@ -15,13 +15,13 @@ module _ {T : Type 0} where
 module _ {T : Type 0} (slots : List (Option (ℕ × T))) (tags : List ℕ) (count far : ℕ) (before : IsSound slots tags count far) (t : Table T) (view : laid slots count ≡ t) where
   -- members and room together fill the load
   whole : table_len t + t.room ≡ limit (length slots)
-  whole = let counted = before.counted in let load = before.load in subst (λ t. table_len t + t.room ≡ limit (length slots)) view (omega arith)
+  whole = rw (← view) (omega (arith, before.counted, before.load))
 
   counted : count ≡ table_len t
   counted = before.counted ∙ ap table_len view
 
   pub slot_for_one : 0 < t.room → (q : ℕ) × (q < length slots) × (at slots q ≡ None)
-  slot_for_one some = let full = whole in sound-empty_slot slots tags count far before (omega arith)
+  slot_for_one some = sound-empty_slot slots tags count far before (omega (arith, whole))
 
   -- ---- a member more
   pub record Inserted (m : ℕ × T) (new : List (Option (ℕ × T))) (tags' : List ℕ) (far' : ℕ) : Type 0 where
@@ -32,17 +32,8 @@ module _ {T : Type 0} (slots : List (Option (ℕ × T))) (tags : List ℕ) (coun
   pub inserted : (slot : ℕ) (m : ℕ × T) (new : List (Option (ℕ × T))) (tags' : List ℕ) (far' : ℕ) → TellsFar far' new → 0 < t.room → new ≡ set slots slot (Some m) → slot < length slots → at slots slot ≡ None
       → InPlace (length new) new → IsTagged tags' new → Inserted m new tags' far'
   inserted slot m new tags' far' told room is slot_in empty in_place tagged =
-      let sized : length new ≡ length slots = ap length is ∙ length-set slots slot (Some m) in
-      let added : IsPermutation (m ∷ members t) (filled new) = subst (λ l. IsPermutation (m ∷ l) (filled new)) (ap members view)
-      (subst (λ l. IsPermutation (m ∷ filled slots) (filled l)) (sym is) (filled-set_some slots slot m slot_in empty)) in
-      let one_more = length_permutation (m ∷ members t) (filled new) added in
-      let full = whole in
-      let here = counted in
-      record {
-        sound = grind arith;
-        added = added;
-        room = grind arith;
-      }
+      let added : IsPermutation (m ∷ members t) (filled new) = rw (← view, is) (filled-set_some slots slot m slot_in empty) in
+      grind (arith, whole, counted, ap length is, length-set slots slot (Some m), length_permutation (m ∷ members t) (filled new) added)
 
   -- ---- a member less
   pub record Removed (m : ℕ × T) (new : List (Option (ℕ × T))) (tags' : List ℕ) : Type 0 where
@@ -54,16 +45,8 @@ module _ {T : Type 0} (slots : List (Option (ℕ × T))) (tags : List ℕ) (coun
   pub removed : (m : ℕ × T) (new : List (Option (ℕ × T))) (tags' : List ℕ) → length new ≡ length slots → InPlace (length new) new → IsTagged tags' new
       → IsPermutation (filled slots) (m ∷ filled new) → TellsFar far new → Removed m new tags'
   removed m new tags' sized in_place tagged rest told =
-      let one_less = length_permutation (filled slots) (m ∷ filled new) rest in
-      let full = whole in
-      let own = before.counted in
-      let load = before.load in
-      record {
-        some = omega arith;
-        sound = grind arith;
-        rest = subst (λ t. IsPermutation (members t) (m ∷ filled new)) view rest;
-        room = grind arith;
-      }
+      let gone : IsPermutation (members t) (m ∷ filled new) = rw (← view) rest in
+      grind (arith, whole, counted, length_permutation (members t) (m ∷ filled new) gone)
 
   -- ---- some of the members
   pub record Kept (kept : ℕ) (new : List (Option (ℕ × T))) (tags' : List ℕ) : Type 0 where
@@ -72,15 +55,7 @@ module _ {T : Type 0} (slots : List (Option (ℕ × T))) (tags : List ℕ) (coun
 
   pub some_kept : (kept : ℕ) (new : List (Option (ℕ × T))) (tags' : List ℕ) → length new ≡ length slots → InPlace (length new) new → IsTagged tags' new
       → kept ≡ length (filled new) → length (filled new) ≤ length (filled slots) → Kept kept new tags'
-  some_kept kept new tags' sized in_place tagged is fewer =
-      let full = whole in
-      let own = before.counted in
-      let load = before.load in
-      let told = told_by_all new in
-      record {
-        sound = grind arith;
-        room = grind arith;
-      }
+  some_kept kept new tags' sized in_place tagged is fewer = grind (arith, whole, told_by_all new)
 
   -- ---- the members of another table
   pub record TakenIn (others : List (ℕ × T)) (new : List (Option (ℕ × T))) (tags' : List ℕ) (more far' : ℕ) : Type 0 where
@@ -92,17 +67,8 @@ module _ {T : Type 0} (slots : List (Option (ℕ × T))) (tags : List ℕ) (coun
       → table_len other ≤ t.room → length new ≡ length slots → InPlace (length new) new → IsTagged tags' new → IsPermutation (filled old ++ filled slots) (filled new)
       → TakenIn (members other) new tags' more far'
   taken_in old more other new tags' far' told many seen fits sized in_place tagged all =
-      let in_all = length_permutation (filled old ++ filled slots) (filled new) all in
-      let parts = length-append (filled old) (filled slots) in
-      let others = ap table_len seen in
-      let full = whole in
-      let own = before.counted in
-      let here = counted in
-      record {
-        sound = grind arith;
-        added = subst₂ (λ xs ys. IsPermutation (xs ++ ys) (filled new)) (ap members seen) (ap members view) all;
-        room = grind arith;
-      }
+      let added : IsPermutation (members other ++ members t) (filled new) = rw (← seen, ← view) all in
+      grind (arith, whole, counted, length_permutation (members other ++ members t) (filled new) added, length-append (members other) (members t), ap table_len seen)
 
 -- ---- the members of a table, all put into an empty one
 module _ {T : Type 0} where
@@ -114,9 +80,5 @@ module _ {T : Type 0} where
   pub regrown : (needed : ℕ) (old empty taken mid new : Table T) → table_len old + old.room < needed → members empty ≡ [] → needed ≤ empty.room
       → taken ≡ old → mid ≡ empty → IsPermutation (members taken ++ members mid) (members new) → table_capacity new ≡ table_capacity mid → Regrown needed old new
   regrown needed old empty taken mid new more none fits is_old is_empty added as_much =
-      let bag : IsPermutation (members old) (members new) =
-      subst (λ l. IsPermutation l (members new)) (ap (λ t. members t ++ members mid) is_old ∙ ap (λ l. members old ++ l) (ap members is_empty ∙ none) ∙ append-nil (members old)) added in
-      let as_many = length_permutation (members old) (members new) bag in
-      let before = ap table_capacity is_empty in
-      let zero_long = ap length none in
-      record { enough = omega arith; room = omega arith; bag = bag }
+      let bag : IsPermutation (members old) (members new) = rw (is_old, is_empty, none, append-nil) at added in
+      grind (arith, length_permutation (members old) (members new) bag, ap table_capacity is_empty, ap length none)

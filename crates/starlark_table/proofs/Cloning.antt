@@ -1,5 +1,6 @@
 -- A walk that clones one slot after another.
-use Rattle.starlark_hash.proofs.Common.{◌≡◌, ℕ, zero, suc, ◌+◌, ◌<◌, ◌≤◌, List, [], ◌∷◌, length, take, Option, None, get_or, sym, ◌∙◌, ap, subst, arith, add-one, common_steps, AllZip, set, length-set}
+use Rattle.starlark_hash.proofs.Common.{◌≡◌, ℕ, zero, suc, ◌+◌, ◌<◌, ◌≤◌, List, [], ◌∷◌, length, take, Option, None, get_or, arith, add-one, common_steps, AllZip, set}
+use Rattle.std.proofs.lemmas.List.{nil_from_length}
 use Rattle.starlark_table.specs.Table.{IsSlotClone}
 use Rattle.starlark_table.specs.Layout.{at, slot_tag, IsTagged}
 use Rattle.starlark_table.proofs.Tagged.{tagged-changed}
@@ -8,7 +9,7 @@ module _ {X : Type 0} (R : X → X → Type 0) where
   zip_one_more : (xs ys : List X) (i : ℕ) (d o : X) → length ys ≡ length xs → i < length xs → AllZip R (take i xs) (take i ys) → R (get_or xs i d) o
       → AllZip R (take (suc i) xs) (take (suc i) (set ys i o))
   zip_one_more [] ys i d o same below all r = absurd (omega arith)
-  zip_one_more (x ∷ xs) [] i d o same below all r = absurd (omega (arith, same))
+  zip_one_more (x ∷ xs) [] i d o same below all r = absurd (omega arith)
   zip_one_more (x ∷ xs) (y ∷ ys) zero d o same below all r = (r, tt)
   zip_one_more (x ∷ xs) (y ∷ ys) (suc i) d o same below all r = (all.0, zip_one_more xs ys i d o (omega (arith, same)) (omega arith) all.1 r)
 
@@ -23,14 +24,12 @@ module _ {T : Type 0} (is_clone : T → T → Type 0) where
   pub cloned-next : (slots copy new : List (Option (ℕ × T))) (tags tags' : List ℕ) (i t : ℕ) (o : Option (ℕ × T)) → i < length slots
       → Cloned slots copy tags i → IsSlotClone is_clone (at slots i) o → new ≡ set copy i o → tags' ≡ set tags i t → t ≡ slot_tag o
       → Cloned slots new tags' (i + 1)
-  cloned-next slots copy new tags tags' i t o below k clone is same its = record {
-    sized = ap length is ∙ length-set copy i o ∙ k.sized;
-    tagged = rw (is, same) (tagged-changed tags copy i t o (omega (arith, below, k.sized)) k.tagged its);
-    cloned = rw (is, add-one) (zip_one_more (IsSlotClone is_clone) slots copy i None o k.sized below k.cloned clone);
-    empty = λ p more. grind (arith, common_steps, k.empty p);
-  }
+  cloned-next slots copy new tags tags' i t o below k clone is same its =
+      let tagged : IsTagged tags' new = rw (is, same) (tagged-changed tags copy i t o (omega arith) k.tagged its) in
+      let cloned : AllZip (IsSlotClone is_clone) (take (i + 1) slots) (take (i + 1) new) =
+      rw (is, add-one) (zip_one_more (IsSlotClone is_clone) slots copy i None o k.sized below k.cloned clone) in
+      grind (arith, common_steps, k.empty)
 
   -- no slots are a clone of no slots
   pub no_slots_cloned : (slots copy : List (Option (ℕ × T))) → length slots ≡ 0 → copy ≡ [] → AllZip (IsSlotClone is_clone) slots copy
-  no_slots_cloned [] copy e none = subst (λ l. AllZip (IsSlotClone is_clone) [] l) (sym none) tt
-  no_slots_cloned (o ∷ slots) copy e none = absurd (omega (arith, e))
+  no_slots_cloned slots copy e none = rw (none, nil_from_length slots e) tt

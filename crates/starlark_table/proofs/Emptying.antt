@@ -1,11 +1,11 @@
 -- A walk that empties one slot after another, and slots of which one is moved.
-use Rattle.starlark_hash.proofs.Common.{◌≡◌, ℕ, ◌+◌, ◌<◌, ◌≤◌, ◌⊎◌, List, length, Option, None, sym, ◌∙◌, ap, arith, common_steps, swap, set, set-get_or, swap_is}
+use Rattle.starlark_hash.proofs.Common.{◌≡◌, ℕ, ◌+◌, ◌<◌, ◌≤◌, ◌⊎◌, List, length, Option, None, sym, arith, common_steps, swap, set, set-get_or, swap_is}
 use Rattle.starlark_table.specs.Layout.{at}
 
 module _ {T : Type 0} where
   -- an empty slot that is emptied once more
   pub emptied_again : (cur new : List (Option (ℕ × T))) (i : ℕ) → at cur i ≡ None → new ≡ cur → new ≡ set cur i None
-  emptied_again cur new i none is = is ∙ sym (ap (set cur i) (sym none) ∙ set-get_or cur i None)
+  emptied_again cur new i none is = rw (is, ← none) (sym (set-get_or cur i None))
 
   -- so many slots in front are empty, and the others are as they were
   pub record Emptied (initial cur : List (Option (ℕ × T))) (i : ℕ) : Type 0 where
@@ -18,8 +18,7 @@ module _ {T : Type 0} where
   emptied-next initial cur new i below k is = grind (arith, common_steps)
 
   pub swapped_with_itself : (cur : List (Option (ℕ × T))) (to slot : ℕ) → slot < length cur → to ≡ slot → swap cur to slot ≡ cur
-  swapped_with_itself cur to slot below same =
-      ap (λ k. swap cur k slot) same ∙ sym (swap_is cur slot slot None below below) ∙ simp set-get_or
+  swapped_with_itself cur to slot below same = rw (same, ← swap_is cur slot slot None below below) (simp set-get_or)
 
   pub empty_slot : (cur : List (Option (ℕ × T))) (to slot : ℕ) → (to ≡ slot → ⊥) → (to ≡ slot) ⊎ (at cur to ≡ None) → at cur to ≡ None
   empty_slot cur to slot apart free = grind arith

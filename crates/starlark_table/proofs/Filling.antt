@@ -1,5 +1,6 @@
 -- What the tag of a slot says of it, in the words of a column.
-use Rattle.starlark_hash.proofs.Common.{◌≡◌, ℕ, zero, suc, add-one, ◌+◌, ◌<◌, ◌≤◌, List, [], ◌∷◌, length, drop, Option, Some, None, IsSome, is_some, nat_eq, get_or, arith, refl, sym, ◌∙◌, ap, drop-cons, nat_tests, common_steps, set}
+use Rattle.starlark_hash.proofs.Common.{◌≡◌, ℕ, zero, suc, add-one, ◌+◌, ◌<◌, ◌≤◌, List, [], ◌∷◌, length, drop, Option, Some, None, IsSome, is_some, nat_eq, get_or, arith, refl, ◌∙◌, drop-cons, nat_tests, common_steps, set}
+use Rattle.std.proofs.Math.Seq.{drop-nil}
 use Rattle.starlark_table.proofs.Lists.{still_untouched}
 use Rattle.starlark_table.proofs.Closing.{full_in_range}
 use mathlib.Core.Bool.{not}
@@ -19,40 +20,34 @@ module _ {T : Type 0} where
   filled-by_tag tags slots p t p_in full = filled-by_some (at slots p) (full-by_tag tags slots p t p_in full)
 
   pub tells : (o : Option (ℕ × T)) (t : ℕ) → t ≡ slot_tag o → not (nat_eq t empty_tag) ≡ is_some o
-  tells None t e = grind (arith, nat_tests)
-  tells (Some m) t e = grind (arith, nat_tests, tag-below)
+  tells o t e = grind (arith, nat_tests, tag-below)
 
   -- from a slot on there are members, so the slot is one of the slots
   pub more_left : (slots : List (Option (ℕ × T))) (p : ℕ) → 0 < length (filled (drop p slots)) → p < length slots
   more_left slots p some = grind (arith, common_steps)
 
-  -- slots in front that are empty add no member
-  pub filled-past_front : (slots : List (Option (ℕ × T))) (n : ℕ) → ((p : ℕ) → p < n → at slots p ≡ None)
-      → filled slots ≡ filled (drop n slots)
-  filled-past_front [] zero none = refl
-  filled-past_front [] (suc n) none = refl
-  filled-past_front (o ∷ slots) zero none = refl
-  filled-past_front (None ∷ slots) (suc n) none = filled-past_front slots n (λ p below. none (suc p) (omega arith))
-  filled-past_front (Some m ∷ slots) (suc n) none = absurd (let e = none 0 (omega arith) in cc)
-
-  first_of : (slots : List (Option (ℕ × T))) (i : ℕ) (m : ℕ × T) → at slots i ≡ Some m → filled (drop i slots) ≡ m ∷ filled (drop (suc i) slots)
-  first_of slots i m here =
-      ap filled (drop-cons slots i None (full_in_range slots i m here)) ∙ ap (λ o. filled (o ∷ drop (suc i) slots)) here
-
-  -- nor do slots behind some others
+  -- slots behind some others that are empty add no member
   pub filled-past_range : (slots : List (Option (ℕ × T))) (from end : ℕ) → from ≤ end → ((p : ℕ) → from ≤ p → p < end → at slots p ≡ None)
       → filled (drop from slots) ≡ filled (drop end slots)
-  filled-past_range slots zero end on none = filled-past_front slots end (λ p below. none p (omega arith) below)
-  filled-past_range slots (suc from) zero on none = absurd (omega arith)
-  filled-past_range [] (suc from) (suc end) on none = refl
+  filled-past_range [] from end on none = rw (drop-nil from, drop-nil end)
+  filled-past_range slots zero zero on none = refl
+  filled-past_range (o ∷ slots) zero (suc end) on none =
+      let rest = filled-past_range slots 0 end (omega arith) (λ p low high. none (suc p) (omega arith) (omega arith)) in
+      grind (arith, none 0)
+  filled-past_range (o ∷ slots) (suc from) zero on none = absurd (omega arith)
   filled-past_range (o ∷ slots) (suc from) (suc end) on none =
       filled-past_range slots from end (omega arith) (λ p low high. none (suc p) (omega arith) (omega arith))
+
+  -- nor do those in front
+  pub filled-past_front : (slots : List (Option (ℕ × T))) (n : ℕ) → ((p : ℕ) → p < n → at slots p ≡ None)
+      → filled slots ≡ filled (drop n slots)
+  filled-past_front slots n none = filled-past_range slots 0 n (omega arith) (λ p low below. none p below)
 
   -- the first member behind some slots
   pub filled-first_behind : (slots : List (Option (ℕ × T))) (from i : ℕ) (m : ℕ × T) → from ≤ i → ((p : ℕ) → from ≤ p → p < i → at slots p ≡ None)
       → at slots i ≡ Some m → filled (drop from slots) ≡ m ∷ filled (drop (i + 1) slots)
   filled-first_behind slots from i m on none here =
-      filled-past_range slots from i on none ∙ first_of slots i m here ∙ ap (λ n. m ∷ filled (drop n slots)) (sym (add-one i))
+      filled-past_range slots from i on none ∙ rw (drop-cons slots i None (full_in_range slots i m here), here, add-one)
 
   -- where the slots before one are empty, and its item was taken
   pub empty-after_taken : (slots : List (Option (ℕ × T))) (i : ℕ) → i < length slots → ((p : ℕ) → p < i → at slots p ≡ None)
@@ -63,10 +58,7 @@ module _ {T : Type 0} where
   pub filled-first_taken : (slots : List (Option (ℕ × T))) (i : ℕ) (m : ℕ × T) → ((p : ℕ) → p < i → at slots p ≡ None)
       → at slots i ≡ Some m → filled slots ≡ m ∷ filled (set slots i None)
   filled-first_taken slots i m none here =
-      let gone = empty-after_taken slots i (full_in_range slots i m here) none in
-      filled-first_behind slots 0 i m (omega arith) (λ p low below. none p below) here
-      ∙ ap (λ l. m ∷ filled l) (sym (still_untouched slots slots (set slots i None) i None refl refl))
-      ∙ ap (λ l. m ∷ l) (sym (filled-past_front (set slots i None) (i + 1) gone))
+      grind (arith, filled-first_behind slots 0 i m, still_untouched slots slots, filled-past_front (set slots i None) (i + 1), empty-after_taken, full_in_range)
 
   -- slots that are empty on both sides of one
   pub empty-joined : (slots : List (Option (ℕ × T))) (from end : ℕ) → ((p : ℕ) → p < from → at slots p ≡ None)
@@ -75,5 +67,4 @@ module _ {T : Type 0} where
 
   pub all_empty : (xs : List (Option (ℕ × T))) → ((p : ℕ) → p < length xs → at xs p ≡ None) → xs ≡ empties (length xs)
   all_empty [] none = refl
-  all_empty (None ∷ xs) none = ap (λ l. None ∷ l) (all_empty xs (λ p below. none (suc p) (omega arith)))
-  all_empty (Some m ∷ xs) none = absurd (let e = none 0 (omega arith) in cc)
+  all_empty (o ∷ xs) none = grind (arith, none 0, all_empty xs (λ p below. none (suc p) (omega arith)))

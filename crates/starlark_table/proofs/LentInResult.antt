@@ -1,5 +1,6 @@
 -- A `Result` of a key and a value that are lent: a clause of one name is made at `Ok` and at `Err`, and a `Result` that a call gave is opened. Assumes `Logic`.
-use Rattle.starlark_columns.proofs.Walking.{◌≡◌, refl, ap, ◌∙◌, ℕ, ◌⊎◌, inl, inr, List, [], ◌∷◌, ◌++◌, none, Ura, named, Val, of_list, vptr, vstruct, vcons, vnil, SProp, ent, ex, guard, Lft, GName, fres, Logic, sem, ‵, ◌$◌, ◌∵◌, !, qed, by, move, keep, drop, fsplit, fsplit3, fpick, fpack, feq_l, rewrite, show, check, done, live, RattleType, follows, follows_so, such_by, follows_by, Is, shows, Bor, MutBor, MutRef, ShrRef, mut_Tells, shr_Tells, layout, peeks, only, Good, Tuple}
+use Rattle.starlark_columns.proofs.Walking.{Bool, true, false, ◌&&◌, ◌≡◌, refl, ap, ◌∙◌, ℕ, ◌⊎◌, inl, inr, List, [], ◌∷◌, ◌++◌, none, Ura, named, Val, of_list, vptr, vstruct, vcons, vnil, SProp, ent, ex, guard, Lft, GName, fres, Logic, sem, ‵, ◌$◌, ◌∵◌, !, qed, by, move, keep, drop, fsplit, fsplit3, fpick, fpack, feq_l, rewrite, show, check, done, live, RattleType, follows, follows_so, such_by, follows_by, Is, shows, Bor, MutBor, MutRef, ShrRef, mut_Tells, shr_Tells, layout, peeks, only, Good, Tuple}
+use lib.Dec as Dec
 use mathlib.Core.Option.{some}
 use Rattle.core.specs.declared.result.Result.{Result}
 use Rattle.core.specs.declared.result.Result.TheVariants.{Ok, Err}
@@ -62,3 +63,8 @@ module _ {M : Type 1} {𝓤 : Ura M} (𝓛 : Logic 𝓤) where
 pub which : {A E : Type 0} (r : Result A E) → ((x : A) × (r ≡ Ok x)) ⊎ ((e : E) × (r ≡ Err e))
 which (Ok x) = inl (x, refl)
 which (Err e) = inr (e, refl)
+
+-- a truth, as a tuple of which the other type is sure asks for it
+pub and_sure : (a : Bool) → Dec.T a → Dec.T (a && (true && true))
+and_sure true p = tt
+and_sure false p = absurd p

@@ -1,5 +1,5 @@
 -- How many members the slots hold.
-use Rattle.starlark_hash.proofs.Common.{◌≡◌, ◌≢◌, ℕ, zero, suc, add-one, length-append, ◌+◌, ◌*◌, ◌^◌, ◌<◌, ◌≤◌, List, [], ◌∷◌, ◌++◌, length, Option, Some, None, arith, refl, IsPermutation, sym, ◌∙◌, ap, common_steps, length_permutation, IsPermutation-trans, IsPermutation-sym, IsPermutation-cons, IsPermutation-middle, IsPermutation-append_right, set}
+use Rattle.starlark_hash.proofs.Common.{◌≡◌, ◌≢◌, ℕ, zero, suc, add-one, length-append, ◌+◌, ◌*◌, ◌^◌, ◌<◌, ◌≤◌, List, [], ◌∷◌, ◌++◌, length, Option, Some, None, arith, refl, IsPermutation, ◌∙◌, ap, common_steps, length_permutation, IsPermutation-trans, IsPermutation-sym, IsPermutation-cons, IsPermutation-middle, IsPermutation-append_right, set}
 use Rattle.std.proofs.Common.{replicate}
 use Rattle.std.proofs.lemmas.List.Sorted.{IsPermutation-append_left}
 use Rattle.std.proofs.lemmas.List.{length-replicate}
@@ -28,16 +28,12 @@ module _ {T : Type 0} where
   pub bag-taken_out : (slots new : List (Option (ℕ × T))) (slot : ℕ) (m : ℕ × T) → at slots slot ≡ Some m
       → IsPermutation (filled (set slots slot None)) (filled new) → IsPermutation (filled slots) (m ∷ filled new)
   bag-taken_out slots new slot m full moved =
-      IsPermutation-trans (filled slots) (m ∷ filled (set slots slot None)) (m ∷ filled new)
-      (filled-set_none slots slot m full) (IsPermutation-cons m (filled (set slots slot None)) (filled new) moved)
+      IsPermutation-trans _ _ _ (filled-set_none slots slot m full) (IsPermutation-cons m _ _ moved)
 
   -- a table that has slots has an empty one
   pub sound-empty_slot : (slots : List (Option (ℕ × T))) (tags : List ℕ) (count far : ℕ) → IsSound slots tags count far → 0 < length slots
       → (q : ℕ) × (q < length slots) × (at slots q ≡ None)
-  sound-empty_slot slots tags count far s some =
-      let counted = s.counted in
-      let load = s.load in
-      empty_slot slots (omega arith)
+  sound-empty_slot slots tags count far s some = empty_slot slots (omega (arith, s.counted, s.load))
 
 module _ {T : Type 0} where
   pub filled-append : (xs ys : List (Option (ℕ × T))) → filled (xs ++ ys) ≡ filled xs ++ filled ys
@@ -55,41 +51,24 @@ module _ {T : Type 0} where
       → IsPermutation all (filled old ++ filled slots)
       → IsPermutation all (filled (set old from None) ++ filled (set slots slot (Some m)))
   bag-member_moved all old slots from slot m here slot_in empty bag =
-      let left = set old from None in
-      IsPermutation-trans all (filled old ++ filled slots) (filled left ++ filled (set slots slot (Some m))) bag
-      (IsPermutation-trans (filled old ++ filled slots) ((m ∷ filled left) ++ filled slots) (filled left ++ filled (set slots slot (Some m)))
-      (IsPermutation-append_left (filled slots) (filled old) (m ∷ filled left) (filled-set_none old from m here))
-      (IsPermutation-trans ((m ∷ filled left) ++ filled slots) (filled left ++ m ∷ filled slots) (filled left ++ filled (set slots slot (Some m)))
-      (IsPermutation-sym (filled left ++ m ∷ filled slots) ((m ∷ filled left) ++ filled slots) (IsPermutation-middle (filled left) m (filled slots)))
-      (IsPermutation-append_right (filled left) (m ∷ filled slots) (filled (set slots slot (Some m))) (filled-set_some slots slot m slot_in empty))))
+      IsPermutation-trans _ _ _ bag (IsPermutation-trans _ _ _ (IsPermutation-append_left (filled slots) _ _ (filled-set_none old from m here))
+      (IsPermutation-trans _ _ _ (IsPermutation-sym _ _ (IsPermutation-middle _ m (filled slots)))
+      (IsPermutation-append_right (filled (set old from None)) _ _ (filled-set_some slots slot m slot_in empty))))
 
   pub empty_slot-while_moving : (all : List (ℕ × T)) (old slots : List (Option (ℕ × T))) → 0 < length slots
       → length all ≤ limit (length slots)
       → IsPermutation all (filled old ++ filled slots) → (q : ℕ) × (q < length slots) × (at slots q ≡ None)
   empty_slot-while_moving all old slots some room bag =
-      let count = length_permutation all (filled old ++ filled slots) bag ∙ sym refl in
-      let parts = length-append (filled old) (filled slots) in
-      empty_slot slots (omega arith)
-
-  at-replicate : (n p : ℕ) → at {T = T} (replicate n None) p ≡ None
-  at-replicate n p = grind (arith, common_steps)
+      empty_slot slots (omega (arith, length_permutation all (filled old ++ filled slots) bag, length-append (filled old) (filled slots)))
 
   tagged-replicate : (items : List (Option (ℕ × T))) (tags : List ℕ) (count : ℕ) → 0 < count → items ≡ replicate count None
       → tags ≡ tags_of_empty count → IsTagged tags items
-  tagged-replicate items tags count some e f = grind (arith, common_steps, at-replicate, tag_count-some)
+  tagged-replicate items tags count some e f = grind (arith, common_steps, tag_count-some)
 
   pub sound-all_empty : (items : List (Option (ℕ × T))) (tags : List ℕ) (count : ℕ) → items ≡ replicate count None
       → tags ≡ tags_of_empty count → 0 < count → (k : ℕ) × (count ≡ 8 * 2 ^ k) → IsSound items tags 0 0 × (filled items ≡ [])
   sound-all_empty items tags count e f some doubled =
       let none : filled items ≡ [] = ap filled e ∙ filled-replicate count in
-      let sized : length items ≡ count = ap length e ∙ length-replicate count None in (
-        record {
-          counted = sym (ap length none);
-          load = omega arith;
-          doubled = λ _. (doubled.0, sized ∙ doubled.1);
-          in_place = grind (arith, at-replicate);
-          told = grind (arith, at-replicate);
-          tagged = tagged-replicate items tags count some e f;
-        },
-        none,
-      )
+      let sized : length items ≡ count = ap length e ∙ length-replicate count None in
+      let tagged = tagged-replicate items tags count some e f in
+      (grind (arith, common_steps), none)

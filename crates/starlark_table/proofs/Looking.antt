@@ -1,17 +1,19 @@
 -- A search for a hash along windows of tags: what each turn of its loop knows, and leaves to the next.
-use Rattle.starlark_hash.proofs.Common.{◌≡◌, ◌≢◌, ℕ, ◌+◌, ◌-◌, ◌*◌, ◌/◌, ◌^◌, ◌<◌, ◌≤◌, List, [], ◌∷◌, length, Option, Some, None, Bool, true, false, nat_eq, eq-eqb, arith, refl, sym, ◌∙◌, ap, subst, inl, inr, IsPermutation, Bor, CalledAt, TakesAt, Mut, count_trailing_zeros, eqb-true, false≢true}
+use Rattle.starlark_hash.proofs.Common.{append_assoc, ◌++◌, ◌≡◌, ◌≢◌, ℕ, ◌+◌, ◌-◌, ◌*◌, ◌/◌, ◌^◌, ◌<◌, ◌≤◌, List, [], ◌∷◌, length, Option, Some, None, Bool, true, false, nat_eq, eq-eqb, arith, refl, sym, ◌∙◌, ap, Bor, CalledAt, TakesAt, Mut, count_trailing_zeros, eqb-true, false≢true}
+use Rattle.std.proofs.lemmas.Fn.{FoldsTo-push}
 use Rattle.starlark_hash.specs.Search.{Searches, CanSearch}
 use Rattle.starlark_columns.specs.Cells.{IsFilled}
 use Rattle.starlark_table.specs.Table.{holders, holders_in}
 use Rattle.starlark_table.specs.Layout.{at, home, tag, tag_bits, empty_tag, InPlace, IsTagged, IsMask, BitsUpToEmpty, MayBeFar, TellsFar}
 use Rattle.starlark_table.proofs.Circle.{home-below, near_or_far, distance-self, distance-below}
+use Rattle.starlark_table.proofs.Closing.{same_hash}
 use Rattle.starlark_table.proofs.Filling.{filled-by_some}
-use Rattle.starlark_table.proofs.Path.{path_from, path-over, listed}
-use Rattle.starlark_table.proofs.Searching.{Searching, searching_begins, searching_on, searching_as, searching_asks, searching_refuses, searching_accepts, searching_ends, path_taken, path_skipped, path_moved}
+use Rattle.starlark_table.proofs.Path.{path_from, path-over, path-taken, path-skipped, listed}
+use Rattle.starlark_table.proofs.Searching.{Searching}
 use Rattle.starlark_table.proofs.TagBits.{first-by_bits, none-by_bits}
 use Rattle.starlark_table.proofs.Tagged.{tag-member}
 use Rattle.starlark_table.proofs.TagCount.{long_tags}
-use Rattle.starlark_table.proofs.Windows.{AtWindow, Matched, way, window_begins, window_matches, window_ends, window_goes_on}
+use Rattle.starlark_table.proofs.Windows.{room_at, AtWindow, Matched, way, window_begins, window_matches, window_ends, window_goes_on}
 
 -- by the answer of a test, a hash is the one that is sought
 pub same-by_test : {b : Bool} (h hash : ℕ) → b ≡ nat_eq h hash → b ≡ true → h ≡ hash
@@ -44,16 +46,14 @@ module _ {F T : Type 0} (g : Mut F (Bor T × Unit {0}) Bool) (hash : ℕ) (tags 
   -- the same, told by other names
   pub looking_told : (start slot slot' same same' : ℕ) (f f' : F) → slot' ≡ slot → same' ≡ same → f' ≡ f → Looking start slot same f → Looking start slot' same' f'
   looking_told start slot slot' same same' f f' at_slot at_bits at_state l =
-      subst (λ s. Looking start slot' same' s) (sym at_state) (subst (λ b. Looking start slot' b f) (sym at_bits) (subst (λ p. Looking start p same f) (sym at_slot) l))
+      rw (at_slot, at_bits, at_state) l
 
   module _ (tagged : IsTagged tags slots) where
     -- at the first window, which is told by the number that has the hash
     module _ (count mask start number : ℕ) (counted : count ≡ length slots) (some : count ≢ 0) (masked : IsMask mask slots)
         (is : start ≡ home (mask + 1) number) (hashes : number ≡ hash) where
       at_home : (0 < length slots) × (start ≡ a)
-      at_home =
-          let some : 0 < length slots = omega arith in
-          (some, is ∙ ap (home (mask + 1)) hashes ∙ ap (λ n. home n hash) (masked some))
+      at_home = (omega arith, is ∙ ap (home (mask + 1)) hashes ∙ ap (λ n. home n hash) (masked (omega arith)))
 
       pub home_room : start + 16 ≤ length tags
       home_room = omega (arith, at_home.1, home-below (length slots) hash at_home.0, long_tags tags slots tagged.sized at_home.0)
@@ -61,59 +61,43 @@ module _ {F T : Type 0} (g : Mut F (Bor T × Unit {0}) Bool) (hash : ℕ) (tags 
       pub looking_begins : (sought same : ℕ) → sought ≡ tag number → same ≡ tag_bits sought tags start 16
           → Looking start start same first
       looking_begins sought same seeks bits =
-          let here = distance-self (length slots) a in
-          let its = bits ∙ ap (λ t. tag_bits t tags start 16) (seeks ∙ ap tag hashes)
-          ∙ ap (λ p. tag_bits (tag hash) tags p 16) at_home.1 in
-          subst (λ p. Looking p p same first) (sym at_home.1) (record {
-            window = window_begins hash tags slots tagged at_home.0 same its;
-            search = path_moved g (behind 0) first first hash a 0 (way hash slots a + (a - a)) slots (omega (arith, here)) (searching_begins g (behind 0) first);
+          let begins : way hash slots a + (a - a) ≡ 0 = omega (arith, distance-self (length slots) a) in
+          rw at_home.1 (record {
+            window = window_begins hash tags slots tagged at_home.0 same (rw (seeks, hashes, at_home.1) at bits);
+            search = rw begins (record { before = []; split = refl; refused = refl; rest = λ answer last asks. asks });
           })
 
       -- where the window of the home has no such tag, and no member with it stands far, no member has the hash
       pub looking_near : (sought same : ℕ) → sought ≡ tag number → same ≡ tag_bits sought tags start 16 → same ≡ 0
           → (far : ℕ) → TellsFar far slots → (MayBeFar far sought → ⊥) → Searches g (holders_in hash slots) first None first
       looking_near sought same seeks bits none far told near =
-          let its : sought ≡ tag hash = seeks ∙ ap tag hashes in
           let absent = none-by_bits sought tags start 16 home_room (sym bits ∙ none) in
-          let lacks : (p : ℕ) (x : T) → at slots p ≡ Some (hash, x) → ⊥ = λ p x is.
-          elim (near_or_far a p) [
-            | inl here ↦ absent p (omega (arith, at_home.1)) (omega (arith, at_home.1)) (tag-member tags slots p hash x tagged is ∙ sym its)
-            | inr away ↦ near (subst (MayBeFar far) (sym its) (told p hash x is away))
-          ] in
-          let empty : behind 0 ≡ [] = path-over hash a 0 slots (home-below (length slots) hash at_home.0) (λ q x q_in from. lacks q x) in
-          record { order = []; rearranged = subst (IsPermutation (holders_in hash slots)) empty (listed hash a slots); asks = (refl, refl) }
+          let empty : behind 0 ≡ [] = path-over hash a 0 slots (home-below (length slots) hash at_home.0)
+          (λ p x p_in from is. grind (arith, near_or_far a p, absent p, tag-member tags slots p hash x tagged is, told p hash x is, at_home)) in
+          record { order = []; rearranged = rw empty at (listed hash a slots); asks = (refl, refl) }
 
     module _ (start slot same : ℕ) (f : F) (l : Looking start slot same f) where
       some : 0 < length slots
-      some = let start_in = l.window.start_in in omega arith
+      some = omega (arith, l.window.start_in)
 
       -- where no bit is left
       module _ (none : same ≡ 0) (empties : ℕ) (its : empties ≡ tag_bits empty_tag tags start 16) where
-        over : AtWindow hash tags slots start slot 0
-        over = subst (λ b. AtWindow hash tags slots start slot b) none l.window
-
-        room : start + 16 ≤ length tags
-        room = let start_in = l.window.start_in in omega (arith, long_tags tags slots tagged.sized some)
-
         -- the search ends at a window with an empty slot
         pub looking_ends : InPlace (length slots) slots → empties ≢ 0 → Searches g (holders_in hash slots) first None f
         looking_ends in_place empty =
-            let n : ℕ = count_trailing_zeros 64 (tag_bits empty_tag tags start 16) in
-            let there = first-by_bits empty_tag tags start 16 room n (omega arith) (λ z. empty (its ∙ z)) refl in
-            let within = there.within in
-            searching_ends g (holders_in hash slots) (behind 0) (behind (way hash slots start + (slot - start))) first f (listed hash a slots)
-            (window_ends hash tags slots tagged some start slot (start + n) over in_place (omega arith) (omega arith) there.there there.before) l.search
+            let there = first-by_bits empty_tag tags start 16 (room_at tags slots tagged start l.window.start_in) _ (omega arith) (λ z. empty (its ∙ z)) refl in
+            let none_left = window_ends hash tags slots tagged some start slot _ (rw none at l.window) in_place (omega arith) (omega (arith, there.within)) there.there there.before in
+            record { order = behind 0; rearranged = listed hash a slots; asks = l.search.rest None f (rw none_left (refl, refl)) }
 
         -- or goes on to the next
         pub looking_goes_on : (mask sought next bits : ℕ) → (0 < length slots → (q : ℕ) × (q < length slots) × (at slots q ≡ None)) → IsMask mask slots → sought ≡ tag hash → empties ≡ 0
             → (start + 16 ≤ mask → next ≡ start + 16) → (mask < start + 16 → next ≡ 0) → BitsUpToEmpty sought tags next bits
             → Looking next next bits f × (left_to_look hash slots next next < left_to_look hash slots start slot)
         looking_goes_on mask sought next bits free masked seeks full on round b =
-            let goes = window_goes_on hash tags slots tagged some (free some) mask start slot next bits (masked some) over
-            (none-by_bits empty_tag tags start 16 room (sym its ∙ full)) on round (subst (λ t. BitsUpToEmpty t tags next bits) seeks b) in (
-              record { window = goes.on; search = searching_on g (behind 0) _ _ first f goes.left l.search },
-              let below = distance-below (length slots) a next (home-below (length slots) hash some) goes.on.start_in in
-                  omega (arith, goes.farther),
+            let goes = window_goes_on hash tags slots tagged some (free some) mask start slot next bits (masked some) (rw none at l.window)
+            (none-by_bits empty_tag tags start 16 (room_at tags slots tagged start l.window.start_in) (sym its ∙ full)) on round (rw seeks at b) in (
+              record { window = goes.on; search = rw goes.left at l.search },
+              omega (arith, goes.farther, distance-below (length slots) a next (home-below (length slots) hash some) goes.on.start_in),
             )
 
       -- at the slot of the lowest bit
@@ -138,24 +122,38 @@ module _ {F T : Type 0} (g : Mut F (Bor T × Unit {0}) Bool) (hash : ℕ) (tags 
 
         module _ (h : ℕ) (item : T) (is : at slots here ≡ Some (h, item)) where
           asked : Searching g (behind 0) first f (behind (way hash slots here))
-          asked = searching_on g (behind 0) _ _ first f found.left l.search
+          asked = rw found.left at l.search
 
           taken : h ≡ hash → Searching g (behind 0) first f ((here, item) ∷ behind (way hash slots here + 1))
-          taken own = path_taken g (behind 0) first f hash a here h item slots (home-below (length slots) hash some) found.in_range is own asked
+          taken own = rw (path-taken a here (way hash slots here) slots (home-below (length slots) hash some) found.in_range refl hash item (cc)) at asked
 
           pub looking_asks : h ≡ hash → CanSearch g (holders_in hash slots) first → TakesAt g f item
-          looking_asks own can = searching_asks g (holders_in hash slots) (behind 0) first f (here, item) _ (listed hash a slots) can (taken own)
+          looking_asks own can =
+              let s = taken own in
+              can.at s.before (here, item) (behind (way hash slots here + 1)) f (rw s.split at (listed hash a slots)) s.refused
 
           pub looking_accepts : (f' : F) → h ≡ hash → CalledAt g f item true f' → Searches g (holders_in hash slots) first (Some here) f'
-          looking_accepts f' own called = searching_accepts g (holders_in hash slots) (behind 0) first f f' (here, item) _ (listed hash a slots) (taken own) called
+          looking_accepts f' own called = record {
+            order = behind 0;
+            rearranged = listed hash a slots;
+            asks = (taken own).rest (Some here) f' (true, f', called, (refl, refl));
+          }
 
           past : (f' : F) → Searching g (behind 0) first f' (behind (way hash slots here + 1)) → Looking start (here + 1) (same / 2 ^ steps / 2) f'
-          past f' s = record { window = found.on; search = path_moved g (behind 0) first f' hash a _ _ slots found.after s }
+          past f' s = record { window = found.on; search = rw found.after s }
 
           pub looking_refuses : (f' : F) → h ≡ hash → CalledAt g f item false f' → Looking start (here + 1) (same / 2 ^ steps / 2) f'
-          looking_refuses f' own called = past f' (searching_refuses g (behind 0) first f f' (here, item) _ (taken own) called)
+          looking_refuses f' own called =
+              let s = taken own in
+              past f' (record {
+                before = s.before ++ (here, item) ∷ [];
+                split = s.split ∙ sym (append_assoc s.before ((here, item) ∷ []) (behind (way hash slots here + 1)));
+                refused = FoldsTo-push (λ s p t. CalledAt g s p.1 false t) first s.before f (here, item) f' s.refused called;
+                rest = λ answer last asks. s.rest answer last (false, f', called, asks);
+              })
 
           pub looking_skips : (f' : F) → (h ≡ hash → ⊥) → f' ≡ f → Looking start (here + 1) (same / 2 ^ steps / 2) f'
           looking_skips f' other same_f =
-              past f' (searching_as g (behind 0) _ first f f' same_f
-              (path_skipped g (behind 0) first f hash a here h item slots (home-below (length slots) hash some) found.in_range is other asked))
+              let lacks = λ (x : T) (e : at slots here ≡ Some (hash, x)). other (same_hash (h, item) (hash, x) (sym is ∙ e)) in
+              let on = path-skipped a here (way hash slots here) slots (home-below (length slots) hash some) found.in_range refl hash lacks in
+              past f' (rw same_f (rw on at asked))

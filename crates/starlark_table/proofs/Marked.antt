@@ -1,43 +1,60 @@
 -- Slots that a walk has still to take, and the tags that tell which of them are full.
-use Rattle.starlark_hash.proofs.Common.{◌≡◌, ℕ, suc, ◌+◌, ◌<◌, List, [], ◌∷◌, length, drop, Option, slice_index_or, sym, ap, ◌∙◌, subst, arith, cases_lt}
+use Rattle.starlark_hash.proofs.Common.{◌≡◌, ℕ, suc, ◌+◌, ◌-◌, ◌<◌, ◌≤◌, refl, List, [], ◌∷◌, length, drop, Option, None, slice_index_or, subst, arith, cases_lt}
 use Rattle.starlark_columns.specs.Cells.{IsFilled}
-use Rattle.starlark_table.specs.Layout.{empty_tag, IsTagged}
+use Rattle.starlark_table.specs.Table.{filled}
+use Rattle.starlark_table.specs.Layout.{at, empty_tag, hash_tag_bits, IsTagged, LeftInWindow}
 use Rattle.starlark_table.specs.Loan.{AreMarked, Lent}
-use Rattle.starlark_table.proofs.Filling.{filled-by_some}
+use Rattle.starlark_table.proofs.Filling.{filled-by_some, filled-past_range, more_left}
+use Rattle.starlark_table.proofs.FullBits.{tagged_from-start, tagged_from-later, window_done, window_opens}
 use Rattle.starlark_table.proofs.TagCount.{long_tags}
 use Rattle.starlark_table.proofs.Tagged.{full-by_tag, empty-by_tag}
 
 module _ {T : Type 0} where
   -- without the first
-  marked-behind : (tags : List ℕ) (from : ℕ) (c : Option (ℕ × T)) (rest : List (Option (ℕ × T))) → AreMarked tags from (c ∷ rest) → AreMarked tags (from + 1) rest
-  marked-behind tags from c rest m = record {
+  marked-rest : (tags : List ℕ) (from : ℕ) (rest : List (Option (ℕ × T))) → 0 < length rest → AreMarked tags from rest → AreMarked tags (from + 1) (drop 1 rest)
+  marked-rest tags from [] some m = absurd (omega (arith, some))
+  marked-rest tags from (c ∷ rest) some m = record {
     sized = let s = m.sized in omega (arith, s);
     empty = λ k below e. m.empty (suc k) (omega (arith, below)) (subst (λ p. slice_index_or tags p 0 ≡ empty_tag) (omega arith) e);
     full = λ k below n. m.full (suc k) (omega (arith, below)) (subst (λ p. slice_index_or tags p 0 ≡ empty_tag → ⊥) (omega arith) n);
   }
 
-  -- the first is full where its tag is not the empty one
-  first-full : (tags : List ℕ) (from : ℕ) (rest : List (Option (ℕ × T))) → AreMarked tags from rest → 0 < length rest
-      → (slice_index_or tags from 0 ≡ empty_tag → ⊥) → IsFilled rest 0
-  first-full tags from [] m some n = absurd (omega (arith, some))
-  first-full tags from (c ∷ rest) m some n = filled-by_some c (m.full 0 some (subst (λ p. slice_index_or tags p 0 ≡ empty_tag → ⊥) (omega arith) n))
-
-  marked-rest : (tags : List ℕ) (from : ℕ) (rest : List (Option (ℕ × T))) → 0 < length rest → AreMarked tags from rest → AreMarked tags (from + 1) (drop 1 rest)
-  marked-rest tags from [] some m = absurd (omega (arith, some))
-  marked-rest tags from (c ∷ rest) some m = marked-behind tags from c rest m
-
   -- what is known of the next slot to be taken, and of those behind it
   module _ (tags : List ℕ) (l v : Lent T) (view : l ≡ v) (marked : AreMarked tags l.from l.rest) (index : ℕ) (next : (index ≡ v.from) × (0 < length v.rest)) where
     some : 0 < length l.rest
-    some = subst (λ w. 0 < length w.rest) (sym view) next.1
+    some = rw view next.1
 
     pub next-full : (slice_index_or tags index 0 ≡ empty_tag → ⊥) → IsFilled l.rest 0
     next-full n =
-        first-full tags l.from l.rest marked some (subst (λ p. slice_index_or tags p 0 ≡ empty_tag → ⊥) (next.0 ∙ sym (ap (λ (w : Lent T). w.from) view)) n)
+        let full : slice_index_or tags l.from 0 ≡ empty_tag → ⊥ = rw view (rw next.0 at n) in
+        filled-by_some _ (grind (arith, some, marked.full 0))
 
     pub next-behind : (from : ℕ) (rest : List (Option (ℕ × T))) → from ≡ l.from + 1 → rest ≡ drop 1 l.rest → AreMarked tags from rest
     next-behind from rest e f =
-        subst (λ n. AreMarked tags n rest) (sym e) (subst (λ xs. AreMarked tags (l.from + 1) xs) (sym f) (marked-rest tags l.from l.rest some marked))
+        rw (e, f) (marked-rest tags l.from l.rest some marked)
+
+  -- a window of a table's slots, as its tags tell
+  pub marked-window : (tags : List ℕ) (slots : List (Option (ℕ × T))) (start end bits : ℕ) → IsTagged tags slots → start < end
+      → end ≤ start + 64 → end ≤ length tags → bits ≡ hash_tag_bits tags start (end - start) → LeftInWindow slots start end start bits
+  marked-window tags slots start end bits t =
+      window_opens tags slots start end bits (tagged_from-later 0 start tags slots slots (tagged_from-start tags slots t) (omega arith) refl (λ p behind. refl))
+
+  -- a walk has passed the slots from one on that stand before another, all of them empty
+  pub record PassedOver (slots : List (Option (ℕ × T))) (from start : ℕ) : Type 0 where
+    pub ahead : from ≤ start
+    pub passed : (p : ℕ) → from ≤ p → p < start → at slots p ≡ None
+
+  -- where members are left, the walk has not come to the end
+  pub more_ahead : (slots : List (Option (ℕ × T))) (from start : ℕ) → PassedOver slots from start → 0 < length (filled (drop from slots)) → start < length slots
+  more_ahead slots from start k some = more_left slots start (rw (← filled-past_range slots from start k.ahead k.passed) some)
+
+  -- it passes a window without a bit
+  pub passed-window : (slots : List (Option (ℕ × T))) (from start end bits : ℕ) → PassedOver slots from start
+      → LeftInWindow slots start end start bits → bits ≡ 0 → start < end → PassedOver slots from end
+  passed-window slots from start end bits k left none some = record {
+    ahead = let ahead = k.ahead in omega arith;
+    passed = λ p low high. grind (arith, k.passed p, window_done slots start end start bits left none p);
+  }
 
   -- the tags of a table mark its slots, before the first is taken
   pub marked-all : (tags : List ℕ) (slots : List (Option (ℕ × T))) → IsTagged tags slots → AreMarked tags 0 slots
@@ -46,3 +63,6 @@ module _ {T : Type 0} where
     empty = λ k below e. grind (arith, empty-by_tag tags slots k t);
     full = λ k below n. grind (arith, full-by_tag tags slots k t);
   }
+
+-- what a loan knows of its slots as it begins, and as it goes on
+pub ruleset marking = (marked-all, next-behind)

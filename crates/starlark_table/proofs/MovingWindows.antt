@@ -36,17 +36,13 @@ module _ {T : Type 0} where
     pub emptying-goes_on : EmptyingWindow initial (set cur (start + k) None) start end (bit_and bits (bits - 1))
     emptying-goes_on =
         let r = window_next initial start end w.next bits k w.left some lowest in
-        let ahead = r.ahead in
-        let from = w.left.from in
-        let slot : ℕ = start + k in
-        let slot_in = full_in_range cur slot r.member (w.after slot ahead ∙ r.here) in
         record {
-          next = slot + 1;
+          next = start + k + 1;
           left = r.on;
-          sized = length-set cur slot None ∙ w.sized;
-          emptied = λ p low high. grind (arith, common_steps, w.emptied p, w.after p, r.passed p);
-          before = λ p high. grind (arith, common_steps, w.before p);
-          after = λ p low. grind (arith, common_steps, w.after p);
+          sized = length-set cur (start + k) None ∙ w.sized;
+          emptied = grind (arith, common_steps, full_in_range cur (start + k) r.member);
+          before = grind (arith, common_steps, full_in_range cur (start + k) r.member);
+          after = grind (arith, common_steps, full_in_range cur (start + k) r.member);
         }
 
   -- where no bit is left, the window is empty

@@ -1,5 +1,5 @@
 -- Slots whose members outside the first windows of their searches have their bits set.
-use Rattle.starlark_hash.proofs.Common.{◌≡◌, ℕ, ◌+◌, ◌-◌, ◌%◌, ◌^◌, ◌<◌, List, length, Option, Some, None, arith, refl, common_steps, swap, set, length-set}
+use Rattle.starlark_hash.proofs.Common.{◌≡◌, ℕ, ◌-◌, ◌%◌, ◌^◌, ◌<◌, List, length, Option, Some, None, arith, refl, common_steps, swap, set, length-set}
 use Rattle.std.proofs.lemmas.Nat.Bits.{bit_at-zero, bit_at_ones}
 use Rattle.starlark_table.specs.Layout.{at, home, tag, InPlace, IsFar, MayBeFar, TellsFar}
 use Rattle.starlark_table.proofs.Closing.{at-set, same_hash, taken_and_written}

@@ -12,14 +12,11 @@ module _ {T : Type 0} where
       → InPlace (length slots) slots → InPlace (length slots) (set slots i None)
   in_place-not_passed tags slots i tagged i_in between old =
       let n = length slots in
-      let high_in : between.high < n = not_padding tags slots tagged between.high 255 between.within between.high_empty (λ e. absurd (omega arith)) in
-      let low_in : between.low < n = let b = between.before in omega arith in
-      let low_none = empty-by_tag tags slots between.low tagged low_in between.low_empty in
+      let high_in : between.high < n = grind (arith, not_padding tags slots tagged between.high 255) in
+      let low_none = empty-by_tag tags slots between.low tagged (omega (arith, between.before)) between.low_empty in
       let high_none = empty-by_tag tags slots between.high tagged high_in between.high_empty in
       record {
         reached = λ p q h x at_p far q_in nearer.
             let over = one_on_way n (home n h) p i between.low between.high in
-            let low = old.reached p between.low h x in
-            let high = old.reached p between.high h x in
-            grind (arith, common_steps, at-set slots i p, home-below n h, full_in_range slots p (h, x), old.reached p q h x);
+            grind (arith, common_steps, at-set slots i p, home-below n h, full_in_range slots p (h, x), λ (q : ℕ). old.reached p q h x);
       }

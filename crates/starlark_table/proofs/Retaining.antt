@@ -1,11 +1,10 @@
 -- The walk that asks about each member whether it is to be kept.
-use Rattle.starlark_columns.proofs.Walking.{◌≡◌, ℕ, suc, ◌+◌, ◌<◌, ◌≤◌, ◌++◌, ◌∷◌, [], List, Option, Some, Bool, true, false, cond, take, arith, refl, sym, ◌∙◌, ap, subst, length, get_or, append_assoc, append-nil, length-append, add-zero, inl, inr, if◌then◌else◌, IfSome, Mut, CalledAtMut, RetainsInTurn, set, get_or_default, set-get_or, set-set}
-use Rattle.std.proofs.lemmas.Bool.{cases_cond}
+use Rattle.starlark_columns.proofs.Walking.{◌≡◌, ℕ, ◌+◌, ◌<◌, ◌≤◌, ◌++◌, ◌∷◌, [], List, Option, Some, Bool, true, false, cond, take, arith, refl, sym, ◌∙◌, ap, subst, length, get_or, append_assoc, append-nil, length-append, add-zero, inl, inr, if◌then◌else◌, IfSome, Mut, CalledAtMut, RetainsInTurn, set, set-get_or, set-set}
 use Rattle.starlark_hash.proofs.Common.{None, drop, MutBor, length-set, drop_all, take_all}
 use Rattle.starlark_table.specs.Table.{filled, items_in}
 use Rattle.starlark_table.specs.Walk.{CanRetain, TakesAtMut, AsksMember}
 use Rattle.starlark_table.specs.Layout.{at, empty_tag, StandsIn, IsTagged}
-use Rattle.starlark_table.proofs.Lists.{head_left, taken_more}
+use Rattle.starlark_table.proofs.Lists.{head_left, still_untouched, taken_more}
 use Rattle.starlark_table.proofs.Walking.{walk_on, walk_asks}
 use Rattle.starlark_table.proofs.Closing.{at-set, same_hash}
 use Rattle.starlark_table.proofs.Load.{filled-append}
@@ -82,8 +81,7 @@ module _ {F T : Type 0} (g : Mut F (MutBor T × Unit {0}) (Bool × (MutBor T × 
   takes-rest (Some m) slots f f' kept o' asks can = walk_on (TakesAtMut g) _ m.1 (items_in slots) f f' (kept, asks.0, asks.1) can
 
   slot-left : (m : ℕ × T) (kept : Bool) (rest : List (ℕ × T)) → filled ((if kept then Some m else None) ∷ []) ++ rest ≡ cond kept (m ∷ rest) rest
-  slot-left m true rest = refl
-  slot-left m false rest = refl
+  slot-left m kept rest = grind arith
 
   pub retains_one : (o : Option (ℕ × T)) (slots : List (Option (ℕ × T))) (f f' : F) (kept : Bool) (o' : Option (ℕ × T)) (rest : List (ℕ × T))
       → AsksSlot g f o kept f' o' → RetainsInTurn (AsksMember g) f' (filled slots) rest
@@ -103,9 +101,7 @@ module _ {F T : Type 0} (g : Mut F (MutBor T × Unit {0}) (Bool × (MutBor T × 
 
   pub one_counted : (o : Option (ℕ × T)) (f f' : F) (kept : Bool) (o' : Option (ℕ × T)) → AsksSlot g f o kept f' o'
       → length (filled (o' ∷ [])) ≡ cond kept 1 0
-  one_counted None f f' kept o' asks = ap (λ o. length (filled (o ∷ []))) asks.2 ∙ ap (λ k. cond k 1 0) (sym asks.0)
-  one_counted (Some m) f f' true o' asks = ap (λ o. length (filled (o ∷ []))) asks.2
-  one_counted (Some m) f f' false o' asks = ap (λ o. length (filled (o ∷ []))) asks.2
+  one_counted o f f' kept o' asks = grind arith
 
   stands-in_place : (o : Option (ℕ × T)) (f f' : F) (kept : Bool) (o' : Option (ℕ × T)) (h : ℕ) (y : T) → AsksSlot g f o kept f' o' → o' ≡ Some (h, y)
       → (x : T) × (o ≡ Some (h, x))
@@ -114,57 +110,64 @@ module _ {F T : Type 0} (g : Mut F (MutBor T × Unit {0}) (Bool × (MutBor T × 
       (x, ap (λ n. Some (n, x)) (same_hash (k, asks.0) (h, y) (sym asks.2 ∙ e)))
   stands-in_place (Some (k, x)) f f' false o' h y asks e = absurd (let none = asks.2 in cc)
 
-  module _ (first : F) (initial cur : List (Option (ℕ × T))) (i : ℕ) (r : Option (ℕ × T)) (f f' : F) (kept : Bool) (new : List (Option (ℕ × T))) (o' : Option (ℕ × T))
-      (below : i < length cur) (untouched : drop i cur ≡ drop i initial) (is : new ≡ set cur i o') (asks : AsksSlot g f (get_or cur i r) kept f' o') where
-    rest-of_slots : drop i initial ≡ get_or cur i r ∷ drop (i + 1) initial
-    rest-of_slots = head_left initial cur i r (get_or cur i r) below untouched refl
+  -- what the walk left of the slots before one, and what it asks of the others
+  pub record Walked (first f : F) (initial cur : List (Option (ℕ × T))) (tags : List ℕ) (i count : ℕ) : Type 0 where
+    pub callable : CanRetain g (items_in (drop i initial)) f
+    pub untouched : drop i cur ≡ drop i initial
+    pub counted : count ≡ length (filled (take i cur))
+    pub few : count ≤ i
+    pub stand : StandsIn initial cur
+    pub tagged : IsTagged tags cur
+    pub done : (rest : List (ℕ × T)) → RetainsInTurn (AsksMember g) f (filled (drop i initial)) rest
+        → RetainsInTurn (AsksMember g) first (filled initial) (filled (take i cur) ++ rest)
 
-    pub can_retain-rest : CanRetain g (items_in (drop i initial)) f → CanRetain g (items_in (drop (i + 1) initial)) f'
-    can_retain-rest can = takes-rest (get_or cur i r) (drop (i + 1) initial) f f' kept o' asks (subst (λ l. CanRetain g (items_in l) f) rest-of_slots can)
+  module _ (first f f' : F) (initial cur new : List (Option (ℕ × T))) (tags tags' : List ℕ) (i count count' : ℕ) (below : i < length cur)
+      (w : Walked first f initial cur tags i count) (turn : Turn cur new tags' i count count' f f') where
+    rest-of_slots : drop i initial ≡ at cur i ∷ drop (i + 1) initial
+    rest-of_slots = head_left initial cur i None (at cur i) below w.untouched refl
 
-    front-of_slots : filled (take (i + 1) new) ≡ filled (take i cur) ++ filled (o' ∷ [])
-    front-of_slots = ap filled (sym (append-nil (take (i + 1) new)) ∙ sym (taken_more cur new [] i o' below is)) ∙ filled-append (take i cur) (o' ∷ [])
+    front-of_slots : filled (take (i + 1) new) ≡ filled (take i cur) ++ filled (turn.slot ∷ [])
+    front-of_slots = ap filled (sym (append-nil (take (i + 1) new)) ∙ sym (taken_more cur new [] i turn.slot below turn.set_is)) ∙ filled-append (take i cur) (turn.slot ∷ [])
 
-    pub retains-next_slot : ((rest : List (ℕ × T)) → RetainsInTurn (AsksMember g) f (filled (drop i initial)) rest
-        → RetainsInTurn (AsksMember g) first (filled initial) (filled (take i cur) ++ rest))
-        → (rest : List (ℕ × T)) → RetainsInTurn (AsksMember g) f' (filled (drop (i + 1) initial)) rest
-        → RetainsInTurn (AsksMember g) first (filled initial) (filled (take (i + 1) new) ++ rest)
-    retains-next_slot done rest more =
-        subst (λ l. RetainsInTurn (AsksMember g) first (filled initial) l)
-        (sym (append_assoc (filled (take i cur)) (filled (o' ∷ [])) rest) ∙ ap (λ l. l ++ rest) (sym front-of_slots))
-        (done (filled (o' ∷ []) ++ rest)
-        (subst (λ l. RetainsInTurn (AsksMember g) f (filled l) (filled (o' ∷ []) ++ rest)) (sym rest-of_slots)
-        (retains_one (get_or cur i r) (drop (i + 1) initial) f f' kept o' rest asks more)))
-
-    pub counts-next_slot : (count : ℕ) → count ≡ length (filled (take i cur)) → count + cond kept 1 0 ≡ length (filled (take (i + 1) new))
-    counts-next_slot count e =
-        ap (λ n. n + cond kept 1 0) e ∙ ap (λ n. length (filled (take i cur)) + n) (sym (one_counted (get_or cur i r) f f' kept o' asks))
-        ∙ sym (length-append (filled (take i cur)) (filled (o' ∷ []))) ∙ ap length (sym front-of_slots)
-
-    pub stands-next_slot : StandsIn initial cur → StandsIn initial new
-    stands-next_slot s = record {
-      sized = ap length is ∙ length-set cur i o' ∙ s.sized;
-      stood = λ p h y e. elim (at-set cur i p o' (Some (h, y)) below (sym (ap (λ l. at l p) is) ∙ e)) [
+    stands_on : StandsIn initial new
+    stands_on = record {
+      sized = ap length turn.set_is ∙ length-set cur i turn.slot ∙ w.stand.sized;
+      stood = λ p h y e. elim (at-set cur i p turn.slot (Some (h, y)) below (sym (ap (λ l. at l p) turn.set_is) ∙ e)) [
         | inl here ↦
-            let there = stands-in_place (get_or cur i r) f f' kept o' h y asks here.1 in
-            s.stood p h there.0 (ap (at cur) here.0 ∙ sym (get_or_default cur i r None below) ∙ there.1)
-        | inr kept ↦ s.stood p h y kept.1
+            let there = stands-in_place (at cur i) f f' turn.keeps turn.slot h y turn.asked here.1 in
+            w.stand.stood p h there.0 (ap (at cur) here.0 ∙ there.1)
+        | inr kept ↦ w.stand.stood p h y kept.1
       ];
     }
 
-  pub retains_all : (first f : F) (initial cur : List (Option (ℕ × T))) (i : ℕ) → length initial ≤ i → length cur ≡ length initial
-      → ((rest : List (ℕ × T)) → RetainsInTurn (AsksMember g) f (filled (drop i initial)) rest
-      → RetainsInTurn (AsksMember g) first (filled initial) (filled (take i cur) ++ rest))
+    pub walked_on : Walked first f' initial new tags' (i + 1) count'
+    walked_on = record {
+      callable = takes-rest (at cur i) _ f f' turn.keeps turn.slot turn.asked (rw rest-of_slots at w.callable);
+      untouched = still_untouched initial cur new i turn.slot w.untouched turn.set_is;
+      counted = omega (
+        arith,
+        turn.counted,
+        w.counted,
+        one_counted (at cur i) f f' turn.keeps turn.slot turn.asked,
+        length-append (filled (take i cur)) (filled (turn.slot ∷ [])),
+        ap length front-of_slots,
+      );
+      few = grind (arith, turn.counted, w.few);
+      stand = stands_on;
+      tagged = turn.tagged;
+      done = λ rest more. rw (front-of_slots, append_assoc)
+          (w.done _ (rw rest-of_slots (retains_one (at cur i) _ f f' turn.keeps turn.slot rest turn.asked more)));
+    }
+
+  pub walked_all : (first f : F) (initial cur : List (Option (ℕ × T))) (tags : List ℕ) (i count : ℕ) → length initial ≤ i → Walked first f initial cur tags i count
       → RetainsInTurn (AsksMember g) first (filled initial) (filled cur)
-  retains_all first f initial cur i all sized done =
+  walked_all first f initial cur tags i count all w =
+      let sized = w.stand.sized in
       subst (λ l. RetainsInTurn (AsksMember g) first (filled initial) l) (append-nil (filled (take i cur)) ∙ ap filled (take_all i cur (omega arith)))
-      (done [] (subst (λ l. RetainsInTurn (AsksMember g) f (filled l) []) (sym (drop_all i initial all)) refl))
+      (w.done [] (subst (λ l. RetainsInTurn (AsksMember g) f (filled l) []) (sym (drop_all i initial all)) refl))
 
 module _ {S X : Type 0} (calls : S → X → Bool → S → X → Type 0) where
-  retained-fewer : (b : Bool) (x : X) (xs ys : List X) (n : ℕ) → ys ≡ cond b (x ∷ xs) xs → length xs ≤ n → length ys ≤ suc n
-  retained-fewer b x xs ys n is few = grind (arith, cases_cond b (x ∷ xs) xs ys is)
-
   -- no more is kept than there was
   pub length-retained : (s : S) (xs ys : List X) → RetainsInTurn calls s xs ys → length ys ≤ length xs
   length-retained s [] ys r = rw r (omega arith)
-  length-retained s (x ∷ xs) ys (b, t, y, called, rest, more, is) = retained-fewer b y rest ys (length xs) is (length-retained t xs rest more)
+  length-retained s (x ∷ xs) ys (b, t, y, called, rest, more, is) = grind (arith, length-retained t xs rest more)

@@ -1,10 +1,11 @@
 -- Members that move back towards their homes, one after another round the circle from an empty slot that no way leads over.
-use Rattle.starlark_hash.proofs.Common.{◌≡◌, ℕ, ◌+◌, ◌<◌, ◌≤◌, ◌⊎◌, List, length, Option, Some, None, IsSome, arith, IsPermutation, sym, ◌∙◌, ap, subst, inl, inr, nat_tests, swap, cases_eq, IsPermutation-refl}
+use Rattle.starlark_hash.proofs.Common.{◌≡◌, ℕ, ◌+◌, ◌<◌, ◌≤◌, ◌⊎◌, List, length, Option, Some, None, IsSome, arith, IsPermutation, ◌∙◌, ap, inl, inr, nat_tests, swap, cases_eq, IsPermutation-refl, IsPermutation-trans}
 use Rattle.starlark_table.specs.Table.{filled}
 use Rattle.starlark_table.specs.Layout.{at, distance, home, InPlace, IsFar, ReachesBefore, StandsIn}
-use Rattle.starlark_table.proofs.Circle.{distance-below, distance-self, distance-same, far_behind, home-below}
+use Rattle.starlark_table.proofs.Circle.{distance-below, distance-self, distance-same, far_behind, home-below, next-step}
 use Rattle.starlark_table.proofs.Emptying.{swapped_with_itself}
-use Rattle.starlark_table.proofs.Closing.{full_in_range, same_hash, swapped_slots, Moved, Origin, moved-origin}
+use Rattle.starlark_table.proofs.Tagged.{full-by_tag, empty-by_tag}
+use Rattle.starlark_table.proofs.Closing.{full_in_range, path_more, same_hash, swapped_slots, Moved, Origin, moved-origin}
 
 -- a way that does not lead over z is behind its end, seen from z
 on_way : (m z b p q : ℕ) → z < m → b < m → p < m → q < m → distance m b p < distance m b z → distance m b q < distance m b p
@@ -17,25 +18,36 @@ pub short_of : (m start slot end : ℕ) → start < m → slot < m → end < m �
 unfolding distance
 short_of m start slot end start_in slot_in end_in near apart = grind (arith, nat_tests)
 
+-- the home of a hash is a slot, no steps from itself
+pub ruleset homes = (home-below, distance-self)
+
+-- for a way that goes on as long as its slots are full
+pub ruleset free_way = (distance-self, distance-below, short_of, next-step, path_more, full-by_tag, empty-by_tag)
+
 module _ {T : Type 0} where
   -- each member fewer than so many steps behind start, if it stands behind its first window, has a full way from its home
   pub record Settled (m start : ℕ) (slots : List (Option (ℕ × T))) (step : ℕ) : Type 0 where
     pub reached : (p q h : ℕ) (x : T) → at slots p ≡ Some (h, x) → IsFar (home m h) p → distance m start p < step → q < m
         → distance m (home m h) q < distance m (home m h) p → IsSome (at slots q)
 
-  -- what a step leaves
-  pub record Steps (m start step : ℕ) (old new : List (Option (ℕ × T))) : Type 0 where
-    pub sized : length new ≡ m
-    pub reaches : ReachesBefore m new start
-    pub settled : Settled m start new (step + 1)
-    pub bag : IsPermutation (filled old) (filled new)
+  -- what so many steps leave
+  pub record Steps (m start step : ℕ) (initial slots : List (Option (ℕ × T))) : Type 0 where
+    pub sized : length slots ≡ m
+    pub reaches : ReachesBefore m slots start
+    pub settled : Settled m start slots step
+    pub bag : IsPermutation (filled initial) (filled slots)
 
   module _ (m start : ℕ) (start_in : start < m) where
-    pub settled_first : (slots : List (Option (ℕ × T))) → ReachesBefore m slots start → length slots ≡ m → Settled m start slots 1
-    settled_first slots reaches sized = record {
-      reached = λ p q h x here far less q_in nearer.
-          let p_in = full_in_range slots p (h, x) here in
-          grind (arith, distance-self, distance-same m start p start, reaches.before p h x here far);
+    pub steps_first : (slots : List (Option (ℕ × T))) → ReachesBefore m slots start → length slots ≡ m → Steps m start 1 slots slots
+    steps_first slots reaches sized = record {
+      sized = sized;
+      reaches = reaches;
+      settled = record {
+        reached = λ p q h x here far less q_in nearer.
+            let p_in = full_in_range slots p (h, x) here in
+            grind (arith, distance-self, distance-same m start p start, reaches.before p h x here far);
+      };
+      bag = IsPermutation-refl (filled slots);
     }
 
     -- one slot more
@@ -48,26 +60,20 @@ module _ {T : Type 0} where
           grind (arith, distance-same m start p slot, full_in_range slots p (h, x) at_p, s.reached p q h x at_p far, here q h x);
     }
 
-    pub settled_empty : (slots : List (Option (ℕ × T))) (slot step : ℕ) → length slots ≡ m → slot < m → distance m start slot ≡ step
-        → at slots slot ≡ None → Settled m start slots step → Settled m start slots (step + 1)
-    settled_empty slots slot step sized slot_in e empty s =
-        settled_on slots slot step sized slot_in e s (λ q h x full far q_in nearer. absurd (cc (full, empty)))
-
-    pub settled_all : (slots : List (Option (ℕ × T))) (step : ℕ) → length slots ≡ m → m ≤ step → ReachesBefore m slots start
-        → Settled m start slots step → InPlace m slots
-    settled_all slots step sized all reaches s = record {
+    pub settled_all : (initial slots : List (Option (ℕ × T))) (step : ℕ) → m ≤ step → Steps m start step initial slots → InPlace m slots
+    settled_all initial slots step all k = record {
       reached = λ p q h x here far q_in nearer.
-          grind (arith, distance-below m start p, full_in_range slots p (h, x) here, s.reached p q h x here far);
+          let sized = k.sized in
+          grind (arith, distance-below m start p, full_in_range slots p (h, x) here, k.settled.reached p q h x here far);
     }
 
-    module _ (old new : List (Option (ℕ × T))) (to slot step h : ℕ) (x : T) (sized : length old ≡ m) (to_in : to < m) (slot_in : slot < m)
-        (e : distance m start slot ≡ step) (here : at old slot ≡ Some (h, x)) (reaches : ReachesBefore m old start)
-        (s : Settled m start old step) (near : distance m (home m h) to ≤ distance m (home m h) slot)
+    module _ (initial old new : List (Option (ℕ × T))) (to slot step h : ℕ) (x : T) (before : Steps m start step initial old) (to_in : to < m) (slot_in : slot < m)
+        (e : distance m start slot ≡ step) (here : at old slot ≡ Some (h, x)) (near : distance m (home m h) to ≤ distance m (home m h) slot)
         (path : IsFar (home m h) slot → (q : ℕ) → q < m → distance m (home m h) q < distance m (home m h) to → IsSome (at old q)) where
       -- a member that stays where it is
       pub settled_stays : to ≡ slot → Settled m start old (step + 1)
       settled_stays same =
-          settled_on old slot step sized slot_in e s (λ q k y full far q_in nearer. grind (arith, path, same_hash (k, y) (h, x)))
+          settled_on old slot step before.sized slot_in e before.settled (λ q k y full far q_in nearer. grind (arith, path, same_hash (k, y) (h, x)))
 
       module _ (moved : Moved old new to slot (h, x)) where
         -- a member that is still behind its first window was so before it moved
@@ -79,7 +85,7 @@ module _ {T : Type 0} where
         reaches_moved = record {
           before = λ p k y at_p is_far.
               let o = moved-origin old new to slot p (h, x) (k, y) here moved at_p in
-              let far = reaches.before o.from k y o.there (was_far p k y o is_far) in
+              let far = before.reaches.before o.from k y o.there (was_far p k y o is_far) in
               grind (arith, same_hash (k, y) (h, x));
         }
 
@@ -96,30 +102,30 @@ module _ {T : Type 0} where
               elim o.which [
                 | inl same ↦
                     let not_slot : p ≡ slot → ⊥ = λ e. cc (ap (at new) e, moved.new_hole) in
-                    let far = reaches.before p k y in
+                    let far = before.reaches.before p k y in
+                    let sized = before.sized in
                     let on = on_way m start (home m k) p q in
-                    grind (arith, full_still q, distance-same m start p slot, s.reached p q k y, full_in_range old p (k, y))
+                    grind (arith, full_still q, distance-same m start p slot, before.settled.reached p q k y, full_in_range old p (k, y))
                 | inr both ↦ grind (arith, full_still q, path, same_hash (k, y) (h, x))
               ];
         }
 
       -- a step to the slot itself, or to an empty one
-      pub steps_on : (to ≡ slot) ⊎ (at old to ≡ None) → new ≡ swap old to slot → Steps m start step old new
+      pub steps_on : (to ≡ slot) ⊎ (at old to ≡ None) → new ≡ swap old to slot → Steps m start (step + 1) initial new
       steps_on (inl same) is =
-          subst (λ l. Steps m start step old l) (sym (is ∙ swapped_with_itself old to slot (rw sized slot_in) same))
-          (record { sized = sized; reaches = reaches; settled = settled_stays same; bag = IsPermutation-refl (filled old) })
+          rw (is, swapped_with_itself old to slot (rw before.sized slot_in) same)
+          (record { sized = before.sized; reaches = before.reaches; settled = settled_stays same; bag = before.bag })
       steps_on (inr empty) is =
-          let moved = swapped_slots old new to slot m (h, x) sized to_in slot_in empty here is in
-          let sized' = moved.0.same_length ∙ sized in
-          record { sized = sized'; reaches = reaches_moved moved.0; settled = settled_moved moved.0 sized'; bag = moved.1 }
+          let moved = swapped_slots old new to slot m (h, x) before.sized to_in slot_in empty here is in
+          let sized = moved.0.same_length ∙ before.sized in
+          record { sized = sized; reaches = reaches_moved moved.0; settled = settled_moved moved.0 sized; bag = IsPermutation-trans _ _ _ before.bag moved.1 }
 
     -- a step over an empty slot
-    pub steps_over : (old new : List (Option (ℕ × T))) (slot step : ℕ) → length old ≡ m → slot < m → distance m start slot ≡ step
-        → at old slot ≡ None → ReachesBefore m old start → Settled m start old step → new ≡ old → Steps m start step old new
-    steps_over old new slot step sized slot_in e empty reaches s is =
-        subst (λ l. Steps m start step old l) (sym is)
-        (let on = settled_empty old slot step sized slot_in e empty s in
-        record { sized = sized; reaches = reaches; settled = on; bag = IsPermutation-refl (filled old) })
+    pub steps_over : (initial old new : List (Option (ℕ × T))) (slot step : ℕ) → slot < m → distance m start slot ≡ step
+        → at old slot ≡ None → Steps m start step initial old → new ≡ old → Steps m start (step + 1) initial new
+    steps_over initial old new slot step slot_in e empty before is =
+        let on = settled_on old slot step before.sized slot_in e before.settled (λ q h x full far q_in nearer. absurd (cc (full, empty))) in
+        rw is (record { sized = before.sized; reaches = before.reaches; settled = on; bag = before.bag })
 
   -- before anything moves, no way leads over an empty slot
   pub reaches_before : (m start : ℕ) (old new : List (Option (ℕ × T))) → length old ≡ m → start < m → at old start ≡ None → InPlace m old

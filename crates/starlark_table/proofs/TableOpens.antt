@@ -48,11 +48,8 @@ module _ (K H : RattleType) (G : KeptHash.Ghosts H.Denot) where
     abbrev pub Rest : D → SProp 𝓤
     Rest d = sep 𝓤 (sem 𝓛 (parts_at full_share left eR (to d).1.1 b o)) (PartsBack 𝓛 full_share (I.the_type K H G).name ms b o)
 
-    abbrev pub Cut : D → SProp 𝓤
-    Cut d = sep 𝓤 (sem 𝓛 (part_at CS full_share d.slots b (o + eS))) (sep 𝓤 (sem 𝓛 (part_at Tags full_share d.tags b (o + eT))) (Rest d))
-
     abbrev pub Cuts : (v : W.Denot) → ((d : D) × Known v d) → SProp 𝓤
-    Cuts v d = Cut d.0
+    Cuts v d = sep 𝓤 (sem 𝓛 (part_at CS full_share d.0.slots b (o + eS))) (sep 𝓤 (sem 𝓛 (part_at Tags full_share d.0.tags b (o + eT))) (Rest d.0))
 
     pub cut : Laws K → Laws H → (v : W.Denot) → ent 𝓤 (sem 𝓛 (part_at W full_share v b o)) (ex 𝓤 (Cuts v))
     unfolding part_of

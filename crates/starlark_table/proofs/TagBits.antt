@@ -1,21 +1,17 @@
 -- Bits that tell at which of some slots a tag stands.
-use Rattle.starlark_hash.proofs.Common.{◌≡◌, ◌≢◌, ℕ, zero, suc, ◌+◌, ◌*◌, ◌/◌, ◌%◌, ◌^◌, ◌<◌, ◌≤◌, List, cond, length, get_or, map, arith, ap, sym, refl, ◌∙◌, eqb-true, pow-suc, count_trailing_zeros, nat_eq}
-use Rattle.std.proofs.lemmas.Bool.{eqb-false}
-use Rattle.std.proofs.Math.Nat.{pow-succ', pow-zero, div-one, mod-one, div-div-eq-div-mul, one-le-pow}
+use Rattle.starlark_hash.proofs.Common.{nat_tests, ◌≡◌, ◌≢◌, ℕ, zero, suc, ◌+◌, ◌/◌, ◌%◌, ◌^◌, ◌<◌, ◌≤◌, List, length, get_or, map, arith, refl, ◌∙◌, pow-suc, count_trailing_zeros, nat_eq}
+use Rattle.std.proofs.Math.Nat.{pow-succ', mod-one, div-div-eq-div-mul, one-le-pow}
 use Rattle.std.proofs.Math.Arith.{mod-mul}
 use lib.Lanes.{chunk, mask_l}
 use Rattle.starlark_table.specs.Layout.{tag_bits, bits_where}
 use Rattle.starlark_table.proofs.FullBits.{lowest, bits_where-chunk, FirstPassing, first_passing-by_bits, none_passing-by_bits}
-
-turned : (c r : ℕ) → r * 2 + c ≡ c + 2 * r
-turned c r = omega arith
 
 module _ (sought : ℕ) (tags : List ℕ) where
   -- they are the bits of a test
   by_test : (from n : ℕ) → tag_bits sought tags from n ≡ bits_where (λ p. nat_eq (get_or tags p 0) sought) from n
   unfolding tag_bits bits_where
   by_test from zero = refl
-  by_test from (suc n) = ap (λ r. cond (nat_eq (get_or tags from 0) sought) 1 0 + 2 * r) (by_test (suc from) n)
+  by_test from (suc n) = cc (by_test (suc from) n)
 
   -- the bits, as those of a vector
   pub tag_bits-chunk : (from n : ℕ) → from + n ≤ length tags → tag_bits sought tags from n ≡ mask_l (map (λ t. nat_eq t sought) (chunk from n tags))
@@ -24,37 +20,27 @@ module _ (sought : ℕ) (tags : List ℕ) where
   -- without the lowest k bits, those of the slots from k further on
   pub tag_bits-later : (from k n to all : ℕ) → all ≡ k + n → to ≡ from + k → tag_bits sought tags from all / 2 ^ k ≡ tag_bits sought tags to n
   unfolding tag_bits
-  tag_bits-later from zero n to all e f =
-      let same : to ≡ from = omega arith in
-      let every : all ≡ n = omega arith in
-      ap (λ d. tag_bits sought tags from all / d) (pow-zero 2) ∙ div-one (tag_bits sought tags from all)
-      ∙ ap (tag_bits sought tags from) every ∙ sym (ap (λ p. tag_bits sought tags p n) same)
+  tag_bits-later from zero n to all e f = grind arith
   tag_bits-later from (suc k) n to zero e f = absurd (omega arith)
   tag_bits-later from (suc k) n to (suc all) e f =
-      ap (λ d. tag_bits sought tags from (suc all) / d) (pow-succ' 2 k)
-      ∙ sym (div-div-eq-div-mul (tag_bits sought tags from (suc all)) 2 (2 ^ k))
-      ∙ ap (λ r. r / 2 ^ k) (lowest (nat_eq (get_or tags from 0) sought) (tag_bits sought tags (suc from) all)).1
-      ∙ tag_bits-later (suc from) k n to all (omega arith) (omega arith)
+      let rest = tag_bits-later (suc from) k n to all (omega arith) (omega arith) in
+      grind (arith, pow-succ' 2 k, div-div-eq-div-mul (tag_bits sought tags from (suc all)) 2 (2 ^ k), lowest)
 
   -- the lowest k bits are those of the first k slots
   pub tag_bits-front : (from k n all : ℕ) → all ≡ k + n → tag_bits sought tags from all % 2 ^ k ≡ tag_bits sought tags from k
   unfolding tag_bits
-  tag_bits-front from zero n all e = ap (λ d. tag_bits sought tags from all % d) (pow-zero 2) ∙ mod-one (tag_bits sought tags from all)
+  tag_bits-front from zero n all e = grind (arith, mod-one)
   tag_bits-front from (suc k) n zero e = absurd (omega arith)
   tag_bits-front from (suc k) n (suc all) e =
-      let parts = lowest (nat_eq (get_or tags from 0) sought) (tag_bits sought tags (suc from) all) in
-      ap (λ d. tag_bits sought tags from (suc all) % d) (pow-suc 2 k)
-      ∙ mod-mul (tag_bits sought tags from (suc all)) {m = 2 ^ k} {c = 2} (omega (arith, one-le-pow k 2 (omega arith))) (omega arith)
-      ∙ (λ i. parts.1 i % 2 ^ k * 2 + parts.0 i)
-      ∙ ap (λ r. r * 2 + cond (nat_eq (get_or tags from 0) sought) 1 0) (tag_bits-front (suc from) k n all (omega arith))
-      ∙ turned (cond (nat_eq (get_or tags from 0) sought) 1 0) (tag_bits sought tags (suc from) k)
+      let halved = mod-mul (tag_bits sought tags from (suc all)) {m = 2 ^ k} {c = 2} (omega (arith, one-le-pow k 2 (omega arith))) (omega arith) in
+      let rest = tag_bits-front (suc from) k n all (omega arith) in
+      grind (arith, pow-suc 2 k, lowest (nat_eq (get_or tags from 0) sought) (tag_bits sought tags (suc from) all))
 
   module _ (from n : ℕ) (room : from + n ≤ length tags) where
     -- where no bit is set, no slot has the tag
     pub none-by_bits : tag_bits sought tags from n ≡ 0 → (p : ℕ) → from ≤ p → p < from + n → get_or tags p 0 ≢ sought
     none-by_bits none p low high =
-        let test = λ (p : ℕ). nat_eq (get_or tags p 0) sought in
-        eqb-false _ sought (none_passing-by_bits test from n (sym (by_test from n) ∙ none) p low high)
+        grind (arith, nat_tests, by_test from n, none_passing-by_bits (λ p. nat_eq (get_or tags p 0) sought) from n)
 
     -- the first slot with the tag, so many slots on
     pub record FirstTagged (k : ℕ) : Type 0 where
@@ -68,8 +54,4 @@ module _ (sought : ℕ) (tags : List ℕ) where
         let test = λ (p : ℕ). nat_eq (get_or tags p 0) sought in
         let first : FirstPassing test from n k =
         rw (is, by_test from n) (first_passing-by_bits test from n 64 few (λ none. some (by_test from n ∙ none))) in
-        record {
-          within = first.within;
-          there = eqb-true _ sought first.there;
-          before = λ p low high. eqb-false _ sought (first.before p low high);
-        }
+        grind (arith, nat_tests)

@@ -25,23 +25,17 @@ module _ (a : NamedLft) (K V H : RattleType) (G : KeptHash.Ghosts H.Denot) where
   abbrev BehindWalk : Walk → Type 0
   BehindWalk x = (w : WD.Inside K.Denot V.Denot H.Denot) × ((W.the_view a K V H G w ≡ x) × W.the_invariant a K V H G w)
 
-  under-loan : (x : Loan) (tie : GName) → BehindLoan x → BehindLoan (record x { tie = tie })
-  under-loan x tie l = (record l.0 { slots = record l.0.slots { tie = tie } }, (ap (λ (y : Loan). record y { tie = tie }) l.1.0, l.1.1))
-
-  under-walk : (x : Walk) (tie : GName) → BehindWalk x → BehindWalk (x.0, tie)
-  under-walk x tie w = (record w.0 { loan = record w.0.loan { tie = tie } }, (ap (λ (y : Walk). (y.0, tie)) w.1.0, w.1.1))
-
   module _ {M : Type 1} {𝓤 : Ura M} (𝓛 : Logic 𝓤) where
     loan_renamed : (x : Loan) (tie : GName) (us : List Val) → ent 𝓤 (sem 𝓛 ((L.the_row a K V H G).own_val x us)) (sem 𝓛 ((L.the_row a K V H G).own_val (record x { tie = tie }) us))
-    unfolding under-loan
     loan_renamed x tie us =
         qed 𝓛 (‵ ((L.the_row a K V H G).own_val x us) ∷ []) ∵ fpick ! (λ (l : BehindLoan x).
-        fpack ! (BehindLoan (record x { tie = tie })) (λ m. fsep ((LI.the_row a K V H G).own_val m.0 us) ftrue) (under-loan x tie l) $ done !)
+        let m : BehindLoan (record x { tie = tie }) = (record l.0 { slots = record l.0.slots { tie = tie } }, (ap (λ (y : Loan). record y { tie = tie }) l.1.0, l.1.1)) in
+        fpack ! (BehindLoan (record x { tie = tie })) (λ m. fsep ((LI.the_row a K V H G).own_val m.0 us) ftrue) m $ done !)
 
     pub renamed : (x : Walk) (tie : GName) (us : List Val) → ent 𝓤 (sem 𝓛 ((W.the_row a K V H G).own_val x us)) (sem 𝓛 ((W.the_row a K V H G).own_val (x.0, tie) us))
-    unfolding under-walk
     renamed x tie us =
-        qed 𝓛 (‵ ((W.the_row a K V H G).own_val x us) ∷ []) ∵ fpick ! (λ (w : BehindWalk x). let m = under-walk x tie w in
+        qed 𝓛 (‵ ((W.the_row a K V H G).own_val x us) ∷ []) ∵ fpick ! (λ (w : BehindWalk x).
+        let m : BehindWalk (x.0, tie) = (record w.0 { loan = record w.0.loan { tie = tie } }, (ap (λ (y : Walk). (y.0, tie)) w.1.0, w.1.1)) in
         fsplit ! $ fpick ! (λ (vss : Valss (fields (WI.the_type a K V H G))). fsplit ! $ move ! (1 ∷ []) $ fsplit ! $
         use1 𝓛 (‵ ((L.the_row a K V H G).own_val m.0.loan vss.0)) (loan_renamed w.0.loan tie vss.0) $ fjoin ! $ move ! (1 ∷ 0 ∷ []) $ fjoin ! $
         fpack ! (Valss (fields (WI.the_type a K V H G))) (within (shape (WI.the_type a K V H G)) ((WI.the_type a K V H G).to m.0) us) vss $ fjoin ! $

@@ -1,5 +1,5 @@
 -- Slots whose members were written stay as they were but for these: empty, or full under their hashes.
-use Rattle.starlark_hash.proofs.Common.{◌≡◌, ℕ, suc, List, [], ◌∷◌, length, Option, Some, None, refl, ap}
+use Rattle.starlark_hash.proofs.Common.{◌≡◌, ℕ, suc, List, [], ◌∷◌, length, Option, refl, ap, arith}
 use Rattle.starlark_columns.specs.Loan.{kept_cells}
 use Rattle.starlark_table.proofs.Shape.{shape}
 
@@ -8,11 +8,8 @@ module _ {T : Type 0} where
   module _ (kept : ℕ × T → ℕ × T → ℕ × T) (hash : (x w : ℕ × T) → (kept x w).0 ≡ x.0) where
     pub shape-kept_cells : (xs ws : List (Option (ℕ × T))) → shape (kept_cells kept xs ws) ≡ shape xs
     shape-kept_cells [] ws = refl
-    shape-kept_cells (None ∷ xs) [] = ap (λ l. None ∷ l) (shape-kept_cells xs [])
-    shape-kept_cells (Some m ∷ xs) [] = ap (λ l. Some m.0 ∷ l) (shape-kept_cells xs [])
-    shape-kept_cells (None ∷ xs) (w ∷ ws) = ap (λ l. None ∷ l) (shape-kept_cells xs ws)
-    shape-kept_cells (Some m ∷ xs) (None ∷ ws) = ap (λ l. Some m.0 ∷ l) (shape-kept_cells xs ws)
-    shape-kept_cells (Some m ∷ xs) (Some w ∷ ws) = λ i. Some (hash m w i) ∷ shape-kept_cells xs ws i
+    shape-kept_cells (o ∷ xs) [] = grind (arith, shape-kept_cells xs [], hash)
+    shape-kept_cells (o ∷ xs) (w ∷ ws) = grind (arith, shape-kept_cells xs ws, hash)
 
 module _ {X : Type 0} (kept : X → X → X) where
   pub length-kept_cells : (xs ws : List (Option X)) → length (kept_cells kept xs ws) ≡ length xs
@@ -24,8 +21,5 @@ module _ {X : Type 0} (kept : X → X → X) where
   module _ (itself : (x : X) → kept x x ≡ x) (again : (x w : X) → kept x (kept x w) ≡ kept x w) where
     pub again-kept_cells : (xs ws : List (Option X)) → kept_cells kept xs (kept_cells kept xs ws) ≡ kept_cells kept xs ws
     again-kept_cells [] ws = refl
-    again-kept_cells (None ∷ xs) [] = ap (λ l. None ∷ l) (again-kept_cells xs [])
-    again-kept_cells (Some x ∷ xs) [] = λ i. Some (itself x i) ∷ again-kept_cells xs [] i
-    again-kept_cells (None ∷ xs) (w ∷ ws) = ap (λ l. None ∷ l) (again-kept_cells xs ws)
-    again-kept_cells (Some x ∷ xs) (None ∷ ws) = λ i. Some (itself x i) ∷ again-kept_cells xs ws i
-    again-kept_cells (Some x ∷ xs) (Some w ∷ ws) = λ i. Some (again x w i) ∷ again-kept_cells xs ws i
+    again-kept_cells (x ∷ xs) [] = grind (arith, again-kept_cells xs [], itself)
+    again-kept_cells (x ∷ xs) (w ∷ ws) = grind (arith, again-kept_cells xs ws, itself, again)

@@ -53,6 +53,7 @@ impl Ahead {
 
     // Opens the next window with a full slot, where this one has none left. There is one.
     #[inline]
+    #[tactic(auto, using(crate::proofs::FullBits::window_done))]
     fn open<T, H: KeptHash>(&mut self, slots: &Slots<T, H>, tags: &[u8])
         requires tagged { IsTagged tags.now slots.now }
         requires left { LeftInWindow slots.now self.old.start self.old.end self.old.next self.old.full }

@@ -21,6 +21,7 @@ pub(crate) fn empty_all<T: Drop, H: KeptHash>(slots: &mut Slots<T, H>, tags: &[u
 }
 
 // Drops every member, and gives the memory back.
+#[tactic(auto, using(crate::proofs::Filling::all_empty))]
 pub(crate) fn drop_all<T: Drop, H: KeptHash>(mut slots: Slots<T, H>, tags: Bytes)
     requires tagged { IsTagged tags slots }
     requires doubled { AreDoubled slots }

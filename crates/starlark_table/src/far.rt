@@ -1,6 +1,5 @@
 //! Which members may stand outside the first windows of their searches: of 64 bits, one for each tag modulo 64.
-ghost use Rattle.std.specs.Prelude.{◌≡◌, ℕ, true, false};
-ghost use Rattle.std.specs.Int.{bit_at};
+ghost use Rattle.std.specs.Prelude.{◌≡◌, ℕ, false};
 ghost use Rattle.starlark_table.specs.Layout.{MayBeFar};
 
 // Whether a member with this tag may stand outside the first window of its search.
@@ -11,7 +10,7 @@ pub(crate) fn may_be_far(far: u64, tag: u8) -> bool
     far >> (tag % 64) & 1 == 1
 }
 
-// The same, and a member with this tag may.
+// The same bits, and that of this tag beside them: a member with it may stand there from now on.
 #[inline]
 pub(crate) fn with_far(far: u64, tag: u8) -> u64
     ensures its { MayBeFar result tag }

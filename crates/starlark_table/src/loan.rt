@@ -46,6 +46,7 @@ impl<'a, T, H: KeptHash> Loan<'a, T, H> {
 
     // Takes the next slot, and answers its item if it has one.
     #[inline]
+    #[tactic(auto, using(crate::proofs::Marked::marking))]
     pub(crate) fn take(&mut self, index: usize) -> Option<&'a mut T>
         requires { (index ≡ self.old.from) × (0 < length self.old.rest) }
         ensures { (slot : Option (ℕ × T)) × (self.old.rest ≡ slot ∷ self.new.rest) × (option_copied_mut result ≡ option_map (λ m. m.1) slot) × (self.new.from ≡ self.old.from + 1) × (self.new.tie ≡ self.old.tie) }
@@ -95,6 +96,7 @@ impl<'a, K, V, H: KeptHash> PairLoan<'a, K, V, H> {
 
     // Takes the next slot, and answers its pair if it has one.
     #[inline]
+    #[tactic(auto, using(crate::proofs::Marked::marking))]
     pub(crate) fn take(&mut self, index: usize) -> Option<(&'a K, &'a mut V)>
         requires { (index ≡ self.old.from) × (0 < length self.old.rest) }
         ensures { (slot : Option (ℕ × (K × V))) × (self.old.rest ≡ slot ∷ self.new.rest) × (option_map deref_pair_mut result ≡ option_map (λ m. m.1) slot) × (self.new.from ≡ self.old.from + 1) × (self.new.tie ≡ self.old.tie) }

@@ -3,7 +3,7 @@ ghost use Rattle.std.specs.Prelude.{◌≡◌, ◌≢◌, ◌⊎◌, ℕ, true, 
 ghost use Rattle.std.specs.Option.{option_copied, option_map};
 ghost use Rattle.starlark_hash.specs.Search.{Searches, CanSearch};
 ghost use Rattle.starlark_table.specs.Table.{filled, holders_in};
-ghost use Rattle.starlark_table.specs.Layout.{distance, at, tag as tag_of, tag_bits, empty_tag, window, InPlace, IsFar, IsMask, IsTagged, MayBeFar, TellsFar, IsVacancy};
+ghost use Rattle.starlark_table.specs.Layout.{distance, at, tag_bits, empty_tag, window, InPlace, IsFar, IsMask, IsTagged, MayBeFar, TellsFar, IsVacancy};
 
 use crate::far::{may_be_far, with_far};
 use crate::home::{home, window_after};
@@ -16,6 +16,7 @@ pub(crate) type Slots<T, H> = Column<(Kept<H>, T)>;
 
 // A slot, with the item in it.
 #[inline(always)]
+#[tactic(auto, using(crate::proofs::Vacant::window_at_home))]
 pub(crate) fn find_slot<'a, T, H: KeptHash, F: FnMut(&T) -> bool>(
     slots: &'a Slots<T, H>,
     tags: &[u8],
@@ -85,6 +86,7 @@ fn ends_at_home(tags: &[u8], home: usize, far: u64, tag: u8) -> bool
 
 // The first empty slot of the home's window, where no tag there is that of the hash: then no member has the hash.
 #[inline(always)]
+#[tactic(auto, using(crate::proofs::Vacant::window_at_home))]
 pub(crate) fn vacancy<T, H: KeptHash>(
     slots: &Slots<T, H>,
     tags: &[u8],
@@ -115,6 +117,7 @@ pub(crate) fn vacancy<T, H: KeptHash>(
 
 // The first empty slot from one on.
 #[inline]
+#[tactic(auto, using(crate::proofs::Settling::homes))]
 pub(crate) fn free_slot<T, H: KeptHash>(slots: &Slots<T, H>, tags: &[u8], home: usize) -> usize
     requires home { home < length slots.now }
     requires tagged { IsTagged tags.now slots.now }
@@ -161,6 +164,7 @@ fn slot_from<T, H: KeptHash>(
 
 // Puts a member at the first empty slot from its home on, and its tag beside it.
 #[inline]
+#[tactic(auto, using(crate::proofs::Settling::homes))]
 pub(crate) fn put<T, H: KeptHash>(
     slots: &mut Slots<T, H>,
     tags: &mut [u8],
@@ -210,6 +214,7 @@ pub(crate) fn put_at<T, H: KeptHash>(
 
 // Whether a member stands in a slot.
 #[inline]
+#[tactic(auto, using(crate::proofs::Filling::tells))]
 pub(crate) fn is_full<T, H: KeptHash>(slots: &Slots<T, H>, tags: &[u8], slot: usize) -> bool
     requires { IsTagged tags.now slots.now }
     ensures { result ≡ is_some (at slots.now slot) }

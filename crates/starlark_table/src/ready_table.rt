@@ -504,6 +504,7 @@ impl<T: Clone, H: KeptHash> Clone for ReadyTable<T, H> {
     ghost is_infallible = { λ t. NeedsNoMemory t };
 
     /// A table of clones, slot by slot. One without members and room asks for no memory, and is not refused.
+    #[tactic(auto, using(crate::proofs::TagCount::tags_fit))]
     fn clone(&self) -> Result<Self, AllocError> {
         let alloc = self.tags.allocator();
         let count = self.slots.cells();

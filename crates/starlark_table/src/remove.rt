@@ -14,6 +14,7 @@ use crate::tags::{EMPTY, is_passed};
 
 // Whether the member of a slot stands behind the first window of its search, and has the hole on its way.
 #[inline]
+#[tactic(auto, using(crate::proofs::Settling::homes))]
 fn crosses<T, H: KeptHash>(slots: &Slots<T, H>, hole: usize, slot: usize) -> bool
     requires hole { hole < length slots.now }
     requires full { IsFilled slots.now slot }

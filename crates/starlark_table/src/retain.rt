@@ -12,6 +12,7 @@ use crate::probe::{Slots, free_slot};
 use crate::tags::EMPTY;
 
 // Takes out the members that `f` does not keep, and puts the others back in place. The answer is how many are left.
+#[tactic(auto, using(std::proofs::lemmas::List::Sorted::length_permutation, crate::proofs::Settling::reaches_before))]
 pub(crate) fn retain_items<T: Drop, H: KeptHash, F: FnMut(&mut T) -> bool>(
     slots: &mut Slots<T, H>,
     tags: &mut [u8],
@@ -72,6 +73,7 @@ fn ask<T, H: KeptHash, F: FnMut(&mut T) -> bool>(member: &mut (Kept<H>, T), f: &
 }
 
 // Moves members back towards their homes, so that no empty slot is left on their ways. No way leads over `start`.
+#[tactic(auto, using(crate::proofs::Settling::homes))]
 fn settle<T, H: KeptHash>(slots: &mut Slots<T, H>, tags: &mut [u8], start: usize)
     requires start { start < length slots.old }
     requires tagged { IsTagged tags.old slots.old }
@@ -115,6 +117,7 @@ fn moves_to<T, H: KeptHash>(slots: &Slots<T, H>, tags: &[u8], home: usize, slot:
 }
 
 // The first empty slot from one on, or `end` where none comes before it.
+#[tactic(auto, using(crate::proofs::Settling::free_way))]
 fn free_before<T, H: KeptHash>(slots: &Slots<T, H>, tags: &[u8], start: usize, end: usize) -> usize
     requires tagged { IsTagged tags.now slots.now }
     requires start { start < length slots.now }

@@ -34,6 +34,7 @@ pub(crate) fn tag(number: u64) -> u8
 
 // How many tags there are beside these slots.
 #[inline]
+#[tactic(auto, using(crate::proofs::TagCount::tags_fit))]
 pub(crate) fn tags_beside<T, H: KeptHash>(slots: &Slots<T, H>) -> usize
     requires { AreDoubled slots.now }
     ensures { result ≡ tag_count (length slots.now) }

@@ -71,6 +71,7 @@ impl<T, H: KeptHash> ReadyTable<T, H> {
     }
 
     #[inline]
+    #[tactic(auto, using(crate::proofs::Marked::marking))]
     pub(crate) fn lend(&mut self) -> Loan<'_, T, H>
         ensures* writes_back { sem 𝓛 (table_follows T.row H.row ⟦<H as KeptHash>⟧ self.entry result.tie) }
         ensures rest { (result.from ≡ 0) × (result.rest ≡ self.old.slots) }

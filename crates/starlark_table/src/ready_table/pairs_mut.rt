@@ -14,6 +14,7 @@ use starlark_columns::loan::AllButLast;
 impl<K, V, H: KeptHash> ReadyTable<(K, V), H> {
     // The right to write the values, which a `PairsMut` walks.
     #[inline]
+    #[tactic(auto, using(crate::proofs::Marked::marking))]
     fn lend_pairs(&mut self) -> PairLoan<'_, K, V, H>
         ensures* writes_back { sem 𝓛 (values_follow K.row V.row H.row ⟦<H as KeptHash>⟧ self.entry result.tie) }
         ensures rest { (result.from ≡ 0) × (result.rest ≡ self.old.slots) }

@@ -1,4 +1,4 @@
-use Rattle.starlark_hash.proofs.Common.{◌≡◌, ◌<◌, None, length, arith, ◌∙◌, set}
+use Rattle.starlark_hash.proofs.Common.{◌<◌, length, arith, ◌∙◌}
 use Rattle.starlark_table.proofs.Filling.{filled-by_tag}
 use Rattle.starlark_table.proofs.Tagged.{empty-by_tag}
 use Rattle.starlark_table.proofs.Emptying.{emptied_again, emptied-next}
@@ -8,18 +8,16 @@ use Rattle.starlark_table.proofs.clear.empty_all.Goals.{then-tags-slot, else-tag
 pub take-member-requires : goal.take-member-requires
 take-member-requires g c =
     let below : c.loop-slot.slot < length c.args.slots.now = omega (arith, c.loop-slot-test.true, c.cells-slot-end.ensures.cells) in
-    let there = filled-by_tag c.args.tags.now c.args.slots.now c.loop-slot.slot c.requires below c.if-tags-slot.true in
+    let there = filled-by_tag _ _ _ c.requires below c.if-tags-slot.true in
     (there.0, c.loop-slot.invariant.untouched c.loop-slot.slot (omega arith) ∙ there.1)
 
 pub loop-slot-preserved : goal.loop-slot-preserved
 loop-slot-preserved g c =
     let k = c.loop-slot.invariant in
     let below : c.loop-slot.slot < length c.args.slots.now = omega (arith, c.loop-slot-test.true, c.cells-slot-end.ensures.cells) in
-    let is : c.if-tags-slot.slots ≡ set c.loop-slot.slots c.loop-slot.slot None = elim c.if-tags-slot.branch [
+    emptied-next _ _ _ _ (omega (arith, below, k.sized)) k (elim c.if-tags-slot.branch [
       | then-tags-slot w ↦ w.slots-is ∙ w.take-member.ensures.cells
-      | else-tags-slot w ↦ emptied_again c.loop-slot.slots c.if-tags-slot.slots c.loop-slot.slot
-          (k.untouched c.loop-slot.slot (omega arith) ∙ empty-by_tag c.args.tags.now c.args.slots.now c.loop-slot.slot c.requires below w.if-tags-slot.false) w.slots-is
-    ] in
-    let next = emptied-next c.args.slots.now c.loop-slot.slots c.if-tags-slot.slots c.loop-slot.slot (omega (arith, below, k.sized))
-    (record { sized = k.sized; empty = k.empty; untouched = k.untouched }) is in
-    record { sized = next.sized; empty = next.empty; untouched = next.untouched }
+      | else-tags-slot w ↦
+          let none = empty-by_tag _ _ _ c.requires below w.if-tags-slot.false in
+          emptied_again _ _ _ (k.untouched c.loop-slot.slot (omega arith) ∙ none) w.slots-is
+    ])

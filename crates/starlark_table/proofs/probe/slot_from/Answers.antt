@@ -5,15 +5,13 @@ use Rattle.starlark_table.proofs.probe.slot_from.Goals as goal
 
 pub returns : goal.returns
 returns g c =
-    let slots = c.args.slots.now in
-    let here = distance-self (length slots) c.args.home in
-    let found = free_in_window c.args.tags.now slots c.requires.tagged c.args.home c.requires.home c.requires.free c.args.home c.slots_with-empty.result _
+    let here = distance-self (length c.args.slots.now) c.args.home in
+    let found = free_in_window _ _ c.requires.tagged _ c.requires.home c.requires.free _ _ _
     c.requires.home (λ q q_in near. absurd (omega arith)) c.slots_with-empty.ensures c.if-empty-eq0.false refl in
     record {
       in_range = found.0;
       empty = found.1;
       path = found.2;
       others = λ other now. now;
-      its = λ away. absurd (near_in_window c.args.tags.now slots c.requires.tagged c.args.home c.requires.home c.requires.free c.args.home c.slots_with-empty.result _
-          c.requires.home c.slots_with-empty.ensures c.if-empty-eq0.false refl away);
+      its = λ away. absurd (search (near_in_window));
     }

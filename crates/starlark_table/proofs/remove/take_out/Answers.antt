@@ -1,6 +1,6 @@
-use Rattle.starlark_hash.proofs.Common.{◌≡◌, inl, inr, length, None, refl, sym, ◌∙◌, ap, subst₂, IsPermutation, arith, set, length-set, IsPermutation-refl}
+use Rattle.starlark_hash.proofs.Common.{inl, inr, None, refl, sym, ◌∙◌, IsPermutation, arith, set, length-set, IsPermutation-refl}
 use Rattle.starlark_table.specs.Table.{filled}
-use Rattle.starlark_table.specs.Layout.{at, InPlace, IsTagged, TellsFar}
+use Rattle.starlark_table.specs.Layout.{at}
 use Rattle.starlark_table.proofs.Tagged.{tag-below, tag-member, tagged-changed}
 use Rattle.starlark_table.proofs.remove.take_out.Goals.{then-passed, else-passed}
 use Rattle.starlark_table.proofs.Closing.{full_in_range, gap_left}
@@ -16,15 +16,11 @@ take-member-requires g c =
 
 pub close_gap-requires-clause-gap : goal.close_gap-requires-clause-gap
 close_gap-requires-clause-gap g c =
-    let slot_in = full_in_range c.args.slots.now c.args.slot c.take-member.result c.take-member.ensures.value in
-    rw (c.take-member.ensures.cells, length-set)
-    (gap_left (length c.args.slots.now) c.args.slots.now c.args.slot refl slot_in c.requires.in_place)
+    rw (c.take-member.ensures.cells, length-set) (gap_left _ _ _ refl (full_in_range _ _ _ c.take-member.ensures.value) c.requires.in_place)
 
 pub close_gap-requires-clause-free : goal.close_gap-requires-clause-free
 close_gap-requires-clause-free g c =
-    let slot_in = full_in_range c.args.slots.now c.args.slot c.take-member.result c.take-member.ensures.value in
-    rw c.take-member.ensures.cells
-    (another_empty_slot c.args.slots.now c.args.slot c.take-member.result slot_in c.requires.load c.take-member.ensures.value)
+    rw c.take-member.ensures.cells (another_empty_slot _ _ _ (full_in_range _ _ _ c.take-member.ensures.value) c.requires.load c.take-member.ensures.value)
 
 pub leaves_gap-passed-requires-clause-full : goal.leaves_gap-passed-requires-clause-full
 leaves_gap-passed-requires-clause-full g c =
@@ -34,51 +30,32 @@ leaves_gap-passed-requires-clause-full g c =
 
 pub returns-clause-rest : goal.returns-clause-rest
 returns-clause-rest g c =
-    let old = c.args.slots.now in
-    let left : IsPermutation (filled (set old c.args.slot None)) (filled c.if-passed.slots) = elim c.if-passed.branch [
+    let left : IsPermutation (filled (set c.args.slots.now c.args.slot None)) (filled c.if-passed.slots) = elim c.if-passed.branch [
       | then-passed w ↦ rw (w.slots-is, ← c.take-member.ensures.cells) w.close_gap.ensures.bag
-      | else-passed w ↦ rw (w.slots-is, c.take-member.ensures.cells) (IsPermutation-refl (filled (set old c.args.slot None)))
+      | else-passed w ↦ rw (w.slots-is, c.take-member.ensures.cells) (IsPermutation-refl _)
     ] in
-    bag-taken_out old c.if-passed.slots c.args.slot c.take-member.result c.take-member.ensures.value left
+    bag-taken_out c.args.slots.now c.if-passed.slots c.args.slot _ c.take-member.ensures.value left
 
 pub returns-clause-sized : goal.returns-clause-sized
-returns-clause-sized g c =
-    let taken = ap length c.take-member.ensures.cells ∙ length-set c.args.slots.now c.args.slot None in
-    elim c.if-passed.branch [
-      | then-passed w ↦ ap length w.slots-is ∙ w.close_gap.ensures.sized ∙ taken
-      | else-passed w ↦ ap length w.slots-is ∙ taken
-    ]
+returns-clause-sized g c = grind (arith, length-set)
 
 pub returns-clause-in_place : goal.returns-clause-in_place
 returns-clause-in_place g c =
-    let old = c.args.slots.now in
+    let slot_in = full_in_range _ _ _ c.take-member.ensures.value in
     elim c.if-passed.branch [
       | then-passed w ↦ rw w.slots-is w.close_gap.ensures.in_place
-      | else-passed w ↦
-          let slot_in = full_in_range old c.args.slot c.take-member.result c.take-member.ensures.value in
-          let kept : InPlace (length old) (set old c.args.slot None) = elim (c.leaves_gap-passed.ensures w.if-passed.false) [
-            | inl near ↦ rw length-set at (in_place-near (set old c.args.slot None) (told-taken old c.args.slot 0 slot_in (rw near at c.requires.told)))
-            | inr between ↦ in_place-not_passed c.args.tags.now old c.args.slot c.requires.tagged slot_in between c.requires.in_place
-          ] in
-          rw (w.slots-is, c.take-member.ensures.cells, length-set) kept
+      | else-passed w ↦ rw (w.slots-is, c.take-member.ensures.cells, length-set) (elim (c.leaves_gap-passed.ensures w.if-passed.false) [
+        | inl near ↦ rw length-set at (in_place-near _ (told-taken c.args.slots.now c.args.slot 0 slot_in (rw near at c.requires.told)))
+        | inr between ↦ in_place-not_passed _ _ _ c.requires.tagged slot_in between c.requires.in_place
+      ])
     ]
 
 pub returns-clause-told : goal.returns-clause-told
-returns-clause-told g c =
-    let old = c.args.slots.now in
-    let slot_in = full_in_range old c.args.slot c.take-member.result c.take-member.ensures.value in
-    let left : TellsFar c.args.far c.take-member.new.self = rw c.take-member.ensures.cells (told-taken old c.args.slot c.args.far slot_in c.requires.told) in
-    elim c.if-passed.branch [
-      | then-passed w ↦ rw w.slots-is (w.close_gap.ensures.told c.args.far left)
-      | else-passed w ↦ rw w.slots-is left
-    ]
+returns-clause-told g c = grind (arith, told-taken, full_in_range)
 
 pub returns-clause-tagged : goal.returns-clause-tagged
 returns-clause-tagged g c =
-    let old = c.args.slots.now in
-    let slot_in = full_in_range old c.args.slot c.take-member.result c.take-member.ensures.value in
     elim c.if-passed.branch [
-      | then-passed w ↦ subst₂ IsTagged (sym w.tags-is) (sym w.slots-is) w.close_gap.ensures.tagged
-      | else-passed w ↦ subst₂ IsTagged (sym w.tags-is) (sym (w.slots-is ∙ c.take-member.ensures.cells))
-          (tagged-changed c.args.tags.now old c.args.slot 255 None slot_in c.requires.tagged refl)
+      | then-passed w ↦ rw (w.tags-is, w.slots-is) w.close_gap.ensures.tagged
+      | else-passed w ↦ rw (w.tags-is, w.slots-is, c.take-member.ensures.cells) (tagged-changed _ _ _ _ _ (full_in_range _ _ _ c.take-member.ensures.value) c.requires.tagged refl)
     ]

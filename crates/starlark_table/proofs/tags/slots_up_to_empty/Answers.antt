@@ -1,4 +1,4 @@
-use Rattle.starlark_hash.proofs.Common.{◌≡◌, ℕ, suc, ◌+◌, ◌-◌, ◌*◌, ◌%◌, ◌^◌, ◌<◌, arith, ap, sym, ◌∙◌, bit_and, count_trailing_zeros}
+use Rattle.starlark_hash.proofs.Common.{◌≡◌, ℕ, suc, ◌+◌, ◌-◌, ◌*◌, ◌%◌, ◌^◌, ◌<◌, arith, ap, sym, ◌∙◌, count_trailing_zeros}
 use Rattle.std.proofs.Common.{pow_pos, pow_mono}
 use Rattle.std.proofs.Math.Nat.{two-pow-succ}
 use Rattle.std.proofs.lemmas.Nat.{and_mask}
@@ -7,9 +7,7 @@ use Rattle.starlark_table.proofs.TagBits.{none-by_bits, first-by_bits, tag_bits-
 use Rattle.starlark_table.proofs.tags.slots_up_to_empty.Goals as goal
 
 one_bit : (k : ℕ) → k < 16 → 1 * 2 ^ k % 2 ^ 64 ≡ 2 ^ k
-one_bit k low =
-    let small : 2 ^ k < 2 ^ 64 = omega (arith, two-pow-succ k, pow_pos k, pow_mono {i = suc k} {j = 64} (omega arith)) in
-    omega arith
+one_bit k low = omega (arith, two-pow-succ k, pow_pos k, pow_mono {i = suc k} {j = 64} (omega arith))
 
 reach : (start n : ℕ) → n ≡ start + n - start
 reach start n = omega arith
@@ -34,11 +32,8 @@ returns c =
       end = c.args.start + k;
       from = omega arith;
       short = omega arith;
-      its = ap (λ d. bit_and c.slots_with-same.result (d - 1)) (one_bit k within)
-          ∙ and_mask c.slots_with-same.result k
-          ∙ ap (λ b. b % 2 ^ k) c.slots_with-same.ensures
-          ∙ tag_bits-front c.args.tag c.args.tags.now c.args.start k (16 - k) 16 (omega arith)
-          ∙ ap (tag_bits c.args.tag c.args.tags.now c.args.start) (reach c.args.start k);
+      its = rw (one_bit k within, and_mask c.slots_with-same.result k, c.slots_with-same.ensures, ← reach c.args.start k)
+          (tag_bits-front c.args.tag _ c.args.start k (16 - k) 16 (omega arith));
       full = first.before;
       stop = λ less. first.there;
     }

@@ -5,9 +5,8 @@ use Rattle.starlark_table.proofs.ready_table.ReadyTable.clear.Goals as goal
 
 pub invariant_of-self : goal.invariant_of-self
 invariant_of-self g c =
-    sound-as _ _ _ _ _ _ refl (refilled c.self.inside.tags c.untag.new.tags (c.untag.auto.tags ∙ ap length c.as_mut_slice.ensures.value))
-    (emptied c.self.inside.slots c.empty_all.new.slots c.self.inside.tags c.untag.new.tags c.self.inside.len c.self.inside.far c.self.invariant
-    c.empty_all.ensures.sized c.untag.ensures c.empty_all.ensures.empty)
+    sound-as _ _ _ _ _ _ refl (refilled c.self.inside.tags _ (c.untag.auto.tags ∙ ap length c.as_mut_slice.ensures.value))
+    (emptied _ _ _ _ _ _ c.self.invariant c.empty_all.ensures.sized c.untag.ensures c.empty_all.ensures.empty)
 
 pub returns-clause-empty : goal.returns-clause-empty
-returns-clause-empty g c = filled-none c.empty_all.new.slots c.empty_all.ensures.empty
+returns-clause-empty g c = filled-none _ c.empty_all.ensures.empty

@@ -1,7 +1,6 @@
 -- `lend_kept` lends the slots and the tags, and the whole table, open over the call, is closed by what they end as. Assumes
 -- `Logic`.
-use Rattle.starlark_columns.proofs.Walking.{◌≡◌, refl, sym, ap, subst, ◌∙◌, Bool, true, false, ◌&&◌, ℕ, ◌+◌, List, [], ◌∷◌, ◌++◌, length, Ura, full_share, Fn, Args, Dict, a_type, dcons, dnil, named, inst_fn, Val, vptr, vstruct, vcons, vnil, of_list, SProp, ent, emp, id⊢, ex_e, snd∗, Lft, GName, Share, ftrue, fsep, fauth, fres, flft, Memory, Routine, Calls, Loops, WpFn, ages, bor_new_deep, Logic, sem, open_ref, name_new, ◌⊑◌, Fun, fact, fact_i, tables, FmC, ‵, raw, ◌⊛◌, some, later, ◌$◌, ◌∵◌, !, qed, move, keep, drop, use0, use1, use2, split, split3, join, pick, fsplit, fsplit3, fjoin, fjoin3, fpack, fpick, feq_i, feq_l, rewrite, suffices, frame, group, await, done, stop, fld, addr, and_then, no_more, returns, enter, alloc_all, pass_all, free_all, look_at, get, through, sets, lands_as, no, follows, such_by, follows_by, Is, shows, mem, part_at, param, bounded, Laws, param_laws, RattleType, owns, Bor, MutBor, ShrRef, mut_vals, mut_Tells, shr_Tells, plain, types_at, mut_ref_to, named_lft, nothing, heard, peeks, only, Tuple, tuple_laws, calls_at, Clauses, Ended, ensured, lasts, triple_of, Contract, Triple, framed, Stays, stay_dropped, walk_of, ends_at, Goes-spent_ref, proved, ◌-◌, copied, copied_laws, Option}
-use lib.Dec as Dec
+use Rattle.starlark_columns.proofs.Walking.{◌≡◌, refl, sym, ap, subst, ◌∙◌, ℕ, ◌+◌, List, [], ◌∷◌, ◌++◌, length, Ura, full_share, Fn, Args, Dict, a_type, dcons, dnil, named, inst_fn, Val, vptr, vstruct, vcons, vnil, of_list, SProp, ent, emp, id⊢, ex_e, snd∗, Lft, GName, Share, ftrue, fsep, fauth, fres, flft, Memory, Routine, Calls, Loops, WpFn, ages, bor_new_deep, Logic, sem, open_ref, name_new, ◌⊑◌, Fun, fact, fact_i, tables, FmC, ‵, raw, ◌⊛◌, some, later, ◌$◌, ◌∵◌, !, qed, move, keep, drop, use0, use1, use2, split, split3, join, pick, fsplit, fsplit3, fjoin, fjoin3, fpack, fpick, feq_i, feq_l, rewrite, suffices, frame, group, await, done, stop, fld, addr, and_then, no_more, returns, enter, alloc_all, pass_all, free_all, look_at, get, through, sets, lands_as, no, follows, such_by, follows_by, Is, shows, mem, part_at, param, bounded, Laws, param_laws, RattleType, owns, Bor, MutBor, ShrRef, mut_vals, mut_Tells, shr_Tells, plain, types_at, mut_ref_to, named_lft, nothing, heard, peeks, only, Tuple, tuple_laws, calls_at, Clauses, Ended, ensured, lasts, triple_of, Contract, Triple, framed, Stays, stay_dropped, walk_of, ends_at, Goes-spent_ref, proved, ◌-◌, copied, copied_laws, Option}
 use base.Share
 use Rattle.std.specs.declared.clone.Clone as Clone
 use Rattle.starlark_columns.specs.declared.loan.Keeps as Keeps
@@ -17,7 +16,7 @@ use Rattle.starlark_table.specs.Growth.{limit}
 use Rattle.starlark_table.specs.Lend.{Member, Tags, tags_stay, with_kept}
 use Rattle.starlark_table.proofs.BesideClose.{closes_beside}
 use Rattle.starlark_columns.proofs.LoneValue.{lone_value}
-use Rattle.starlark_table.proofs.LentInResult.{as_tuple}
+use Rattle.starlark_table.proofs.LentInResult.{as_tuple, and_sure}
 use Rattle.starlark_table.proofs.Shape.{reshaped}
 use Rattle.starlark_table.proofs.TableOpens as O
 use Rattle.starlark_table.proofs.WrittenSlots.{again-kept_cells, length-kept_cells, shape-kept_cells}
@@ -28,11 +27,6 @@ use Rattle.starlark_table.proofs.ready_table.iter_mut.lend_fields.Symbol.{name a
 use Rattle.starlark_table.proofs.ready_table.iter_mut.lend_fields.Met as lend
 use Rattle.starlark_table.proofs.ready_table.ReadyTable.lend_kept.Statement.{statement}
 use Rattle.starlark_table.proofs.ready_table.ReadyTable.lend_kept.Code as code
-
--- a truth, as a tuple of which the other type is sure asks for it
-and_sure : (a : Bool) → Dec.T a → Dec.T (a && (true && true))
-and_sure true p = tt
-and_sure false p = absurd p
 
 module _ (T H P : RattleType) (B : KeptHash.Ghosts H.Denot) (dB : Dict) (N : Clone.Ghosts H.Denot) (dN : Dict) (G : Keeps.Ghosts P.Denot (ℕ × T.Denot)) (dG : Dict) where
   abbrev args : Args
@@ -49,9 +43,6 @@ module _ (T H P : RattleType) (B : KeptHash.Ghosts H.Denot) (dB : Dict) (N : Clo
 
   abbrev H' : RattleType
   H' = copied 1 H
-
-  abbrev P' : RattleType
-  P' = param 2 P
 
   abbrev W : RattleType
   W = O.W K H' B
@@ -102,14 +93,11 @@ module _ (T H P : RattleType) (B : KeptHash.Ghosts H.Denot) (dB : Dict) (N : Clo
       abbrev bound : (walk_of 𝓛 ended stayed spec).Ghost
       bound = (((κ, (κT, (κH, (κP, tt)))), (q, (qT, (qH, (qP, tt)))), bounds, (r, tt), (mut_vals r, tt)), tt)
 
-      abbrev Post : Val → SProp 𝓤
-      Post = (walk_of 𝓛 ended stayed spec).post bound
-
       abbrev It : RattleType
-      It = loan.the_row (named_lft 4 0 tt (κ, (κT, (κH, (κP, tt))))) (Member K H' B) P' G
+      It = loan.the_row (named_lft 4 0 tt (κ, (κT, (κH, (κP, tt))))) (Member K H' B) (param 2 P) G
 
       abbrev it_laws : Laws It
-      it_laws = loan_laws.the_row_laws (named_lft 4 0 tt (κ, (κT, (κH, (κP, tt))))) (Member K H' B) P' G (tuple_laws (kept_row H' B ∷ K ∷ []) (kept_laws.the_row_laws H' B (copied_laws 1 H LH), (param_laws 0 T LT, tt))) (param_laws 2 P LP)
+      it_laws = loan_laws.the_row_laws (named_lft 4 0 tt (κ, (κT, (κH, (κP, tt))))) (Member K H' B) (param 2 P) G (tuple_laws (kept_row H' B ∷ K ∷ []) (kept_laws.the_row_laws H' B (copied_laws 1 H LH), (param_laws 0 T LT, tt))) (param_laws 2 P LP)
 
       abbrev Ref : RattleType
       Ref = ShrRef (named 0) κ Tags
@@ -123,7 +111,7 @@ module _ (T H P : RattleType) (B : KeptHash.Ghosts H.Denot) (dB : Dict) (N : Clo
       abbrev Again : Type 0
       Again = (x w : ℕ × T.Denot) → G.kept x (G.kept x w) ≡ G.kept x w
 
-      walk : ent 𝓤 ((walk_of 𝓛 ended stayed spec).pre bound) (WpFn 𝓤 𝓛.H C Λ here (vptr r.ref_ptr.0 r.ref_ptr.1 ∷ []) Post)
+      walk : ent 𝓤 ((walk_of 𝓛 ended stayed spec).pre bound) (WpFn 𝓤 𝓛.H C Λ here (vptr r.ref_ptr.0 r.ref_ptr.1 ∷ []) ((walk_of 𝓛 ended stayed spec).post bound))
       walk =
           let b = r.ref_ptr.0 in let o = r.ref_ptr.1 in let v = r.now in let γ = r.ghost_name in
           qed 𝓛 (((‵ (flft κ q) ⊛ ‵ (flft κT qT) ⊛ ‵ (flft κH qH) ⊛ ‵ (flft κP qP) ⊛ ‵ ftrue) ⊛ ‵ (owns (types_at ended.signature.params bound.0.0) bound.0.3 bound.0.4))

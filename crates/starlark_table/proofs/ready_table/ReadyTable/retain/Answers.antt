@@ -1,4 +1,4 @@
-use Rattle.starlark_hash.proofs.Common.{ap, length, ◌+◌, ◌*◌, refl, ◌∙◌, arith, length_permutation}
+use Rattle.starlark_hash.proofs.Common.{ap, length, refl, ◌∙◌, arith, length_permutation}
 use Rattle.starlark_table.specs.Table.{filled}
 use Rattle.starlark_table.specs.Walk.{AsksMember}
 use Rattle.starlark_table.proofs.Changing.{some_kept}
@@ -9,17 +9,13 @@ use Rattle.starlark_table.proofs.ready_table.ReadyTable.retain.Goals as goal
 
 pub invariant_of-self : goal.invariant_of-self
 invariant_of-self g c =
-    let after = c.retain_items-kept in
-    let kept = after.ensures.kept in
-    sound-as _ _ _ _ _ _ refl (refilled c.self.inside.tags after.new.tags (after.auto.tags ∙ ap length c.as_mut_slice.ensures.value))
-    (some_kept c.self.inside.slots c.self.inside.tags c.self.inside.len c.self.inside.far c.self.invariant c.args.self.now c.self.view_is
-    after.result after.new.slots after.new.tags after.ensures.sized after.ensures.in_place after.ensures.tagged after.ensures.counted
-    (omega (arith, length-retained (AsksMember g.F.FnMut) c.args.f (filled c.self.inside.slots) kept.0 kept.1, length_permutation kept.0 (filled after.new.slots) kept.2))).sound
+    let after = c.retain_items-kept.ensures in
+    sound-as _ _ _ _ _ _ refl (refilled c.self.inside.tags _ (c.retain_items-kept.auto.tags ∙ ap length c.as_mut_slice.ensures.value))
+    (some_kept _ _ _ _ c.self.invariant _ c.self.view_is _ _ _ after.sized after.in_place after.tagged after.counted
+    (omega (arith, length-retained (AsksMember g.F.FnMut) c.args.f (filled c.self.inside.slots) _ after.kept.1, length_permutation _ _ after.kept.2))).sound
 
 pub returns-clause-room : goal.returns-clause-room
 returns-clause-room g c =
-    let after = c.retain_items-kept in
-    let kept = after.ensures.kept in
-    (some_kept c.self.inside.slots c.self.inside.tags c.self.inside.len c.self.inside.far c.self.invariant c.args.self.now c.self.view_is
-    after.result after.new.slots after.new.tags after.ensures.sized after.ensures.in_place after.ensures.tagged after.ensures.counted
-    (omega (arith, length-retained (AsksMember g.F.FnMut) c.args.f (filled c.self.inside.slots) kept.0 kept.1, length_permutation kept.0 (filled after.new.slots) kept.2))).room
+    let after = c.retain_items-kept.ensures in
+    (some_kept _ _ _ _ c.self.invariant _ c.self.view_is _ _ _ after.sized after.in_place after.tagged after.counted
+    (omega (arith, length-retained (AsksMember g.F.FnMut) c.args.f (filled c.self.inside.slots) _ after.kept.1, length_permutation _ _ after.kept.2))).room

@@ -3,7 +3,7 @@ use Rattle.starlark_table.specs.Growth.{limit}
 use Rattle.starlark_table.proofs.Cloning.{no_slots_cloned}
 use Rattle.starlark_table.proofs.Shape.{shape-cloned, same_length, sound-cloned}
 use Rattle.starlark_table.proofs.Sound.{sound-as}
-use Rattle.starlark_table.proofs.TagCount.{refilled, tags_fit}
+use Rattle.starlark_table.proofs.TagCount.{refilled}
 use Rattle.starlark_table.proofs.ready_table.ReadyTableClone.clone.Goals as goal
 
 pub returns-then-count-eq0 : goal.returns-then-count-eq0
@@ -12,23 +12,15 @@ returns-then-count-eq0 g c =
     let no_room : 0 ≡ limit (length c.self.inside.slots) - c.self.inside.len = omega (arith, none) in
     record {
       cases = rw (← c.self.view_is) (record {
-        slots = no_slots_cloned g.T.Clone.is_clone c.self.inside.slots c.without_slots.result.slots none c.without_slots.ensures.slots;
+        slots = no_slots_cloned g.T.Clone.is_clone _ _ none c.without_slots.ensures.slots;
         room = c.without_slots.ensures.room ∙ no_room;
       });
     }
 
-pub empty_slots-requires : goal.empty_slots-requires
-empty_slots-requires g c =
-    let slots = c.cells-count.ensures.cells in
-    let fit = tags_fit c.self.inside.slots c.self.invariant.doubled (omega (arith, c.if-count-eq0.false, slots)) c.cells-count.ensures.fits in
-    omega (arith, fit, slots)
-
 pub invariant_of-result : goal.invariant_of-result
 invariant_of-result g c =
-    sound-as _ _ _ _ _ _ refl
-    (refilled c.in_ok-slots.tags c.clone_members-cloned.new.copy_tags (c.clone_members-cloned.auto.copy_tags ∙ ap length c.as_mut_slice.ensures.value))
-    (sound-cloned g.T.Clone.is_clone c.self.inside.slots c.clone_members-cloned.new.copy c.self.inside.tags c.clone_members-cloned.new.copy_tags
-    c.self.inside.len c.self.inside.far c.self.invariant c.in-Ok.ensures.cloned c.in-Ok.ensures.tagged)
+    sound-as _ _ _ _ _ _ refl (refilled c.in_ok-slots.tags _ (c.clone_members-cloned.auto.copy_tags ∙ ap length c.as_mut_slice.ensures.value))
+    (sound-cloned g.T.Clone.is_clone _ _ _ _ _ _ c.self.invariant c.in-Ok.ensures.cloned c.in-Ok.ensures.tagged)
 
 pub returns-in-Ok : goal.returns-in-Ok
 returns-in-Ok g c =
@@ -36,7 +28,6 @@ returns-in-Ok g c =
     record {
       cases = rw (← c.self.view_is) (record {
         slots = all;
-        room = ap (λ n. limit n - c.self.inside.len)
-            (same_length c.self.inside.slots c.clone_members-cloned.new.copy (shape-cloned g.T.Clone.is_clone _ _ all));
+        room = rw (same_length _ _ (shape-cloned g.T.Clone.is_clone _ _ all));
       });
     }

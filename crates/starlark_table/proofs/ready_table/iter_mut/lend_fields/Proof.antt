@@ -1,6 +1,5 @@
 -- `lend_fields` meets its contract: two calls, each of which says what its parameter ends as. Assumes `Logic`.
-use Rattle.starlark_columns.proofs.Walking.{◌≡◌, refl, ap, ℕ, Bool, true, false, ◌&&◌, List, [], ◌∷◌, Ura, Fn, Args, Dict, a_type, dcons, dnil, named, inst_fn, Val, vptr, vstruct, vcons, vnil, SProp, ent, emp, id⊢, ex_e, snd∗, Lft, Share, ftrue, flft, Memory, Routine, Calls, Loops, WpFn, Logic, sem, ◌⊑◌, Fun, fact, fact_i, tables, FmC, ‵, raw, ◌⊛◌, some, later, ◌$◌, ◌∵◌, !, qed, move, keep, drop, use0, use1, use2, split, split3, join, pick, fsplit3, fjoin, rewrite, suffices, frame, await, done, agg, stop, addr, and_then, no_more, returns, enter, alloc_all, pass_all, free_all, look_at, get, through, sets, lands_as, no, Is, shows, param, bounded, Laws, param_laws, RattleType, owns, Bor, MutBor, ShrRef, mut_vals, mut_Tells, shr_Tells, plain, types_at, mut_ref_to, named_lft, nothing, heard, peeks, only, Tuple, tuple_laws, calls_at, Clauses, Ended, ensured, lasts, triple_of, Contract, Triple, framed, Stays, stay_dropped, walk_of, ends_at, Goes-spent_ref, proved, copied, copied_laws, Option}
-use lib.Dec as Dec
+use Rattle.starlark_columns.proofs.Walking.{◌≡◌, refl, ap, ℕ, List, [], ◌∷◌, Ura, Fn, Args, Dict, a_type, dcons, dnil, named, inst_fn, Val, vptr, vstruct, vcons, vnil, SProp, ent, emp, id⊢, ex_e, snd∗, Lft, Share, ftrue, flft, Memory, Routine, Calls, Loops, WpFn, Logic, sem, ◌⊑◌, Fun, fact, fact_i, tables, FmC, ‵, raw, ◌⊛◌, some, later, ◌$◌, ◌∵◌, !, qed, move, keep, drop, use0, use1, use2, split, split3, join, pick, fsplit3, fjoin, rewrite, suffices, frame, await, done, agg, stop, addr, and_then, no_more, returns, enter, alloc_all, pass_all, free_all, look_at, get, through, sets, lands_as, no, Is, shows, param, bounded, Laws, param_laws, RattleType, owns, Bor, MutBor, ShrRef, mut_vals, mut_Tells, shr_Tells, plain, types_at, mut_ref_to, named_lft, nothing, heard, peeks, only, Tuple, tuple_laws, calls_at, Clauses, Ended, ensured, lasts, triple_of, Contract, Triple, framed, Stays, stay_dropped, walk_of, ends_at, Goes-spent_ref, proved, copied, copied_laws, Option}
 use Rattle.std.specs.declared.clone.Clone as Clone
 use Rattle.starlark_columns.specs.declared.loan.Keeps as Keeps
 use Rattle.starlark_columns.specs.declared.loan.Loan.{Loan}
@@ -12,7 +11,7 @@ use Rattle.starlark_table.specs.declared.kept_hash.KeptHash as KeptHash
 use Rattle.starlark_table.specs.contracts.kept_hash.Kept.{the_row as kept_row}
 use Rattle.starlark_table.proofs.kept_hash.Kept.TheLaws as kept_laws
 use Rattle.starlark_table.specs.Lend.{Member, Tags, tags_stay}
-use Rattle.starlark_table.proofs.LentInResult.{as_tuple}
+use Rattle.starlark_table.proofs.LentInResult.{as_tuple, and_sure}
 use Rattle.starlark_table.specs.contracts.ready_table.iter_mut.lend_fields as F
 use Rattle.starlark_table.specs.contracts.ready_table.iter_mut.lend_fields.Key.{name as #self}
 use Rattle.starlark_table.specs.contracts.ready_table.iter_mut.lend_members as m
@@ -23,11 +22,6 @@ use Rattle.starlark_table.proofs.ready_table.iter_mut.shown.Symbol.{name as #sho
 use Rattle.starlark_table.proofs.ready_table.iter_mut.shown.Met as shown
 use Rattle.starlark_table.proofs.ready_table.iter_mut.lend_fields.Statement.{statement}
 use Rattle.starlark_table.proofs.ready_table.iter_mut.lend_fields.Code as code
-
--- a truth, as a tuple of which the other type is sure asks for it
-and_sure : (a : Bool) → Dec.T a → Dec.T (a && (true && true))
-and_sure true p = tt
-and_sure false p = absurd p
 
 module _ (T H P : RattleType) (B : KeptHash.Ghosts H.Denot) (dB : Dict) (N : Clone.Ghosts H.Denot) (dN : Dict) (G : Keeps.Ghosts P.Denot (ℕ × T.Denot)) (dG : Dict) where
   abbrev args : Args
@@ -45,14 +39,8 @@ module _ (T H P : RattleType) (B : KeptHash.Ghosts H.Denot) (dB : Dict) (N : Clo
   abbrev H' : RattleType
   H' = copied 1 H
 
-  abbrev P' : RattleType
-  P' = param 2 P
-
   abbrev Slots : RattleType
   Slots = column_row (Member T' H' B)
-
-  abbrev Cells : Type 0
-  Cells = List (Option (ℕ × T.Denot))
 
   abbrev stayed : Stays ended.signature.params ended.kept
   stayed = (stay_dropped (mut_ref_to (0 ∷ []) tt (plain (λ _. Slots))) no, (stay_dropped (mut_ref_to (0 ∷ []) tt (plain (λ _. Tags))) no, tt))
@@ -69,23 +57,20 @@ module _ (T H P : RattleType) (B : KeptHash.Ghosts H.Denot) (dB : Dict) (N : Clo
 
     module _ (LT : Laws T) (LH : Laws H) (LP : Laws P) (C : Calls 𝓤 𝓛.H) (Λ : Loops 𝓤 𝓛.H) (fm : FmC 𝓤 𝓛.H 𝓛.laws C)
         (gm : Triple 𝓤 (C (#members args)) Members) (gs : Triple 𝓤 (C #shown) Shown)
-        (κ κT κH κP : Lft) (q qT qH qP : Share) (bounds : (κ ⊑ κH) × ((κ ⊑ κT) × Unit {0})) (r : MutBor Cells) (s : MutBor (List ℕ)) where
+        (κ κT κH κP : Lft) (q qT qH qP : Share) (bounds : (κ ⊑ κH) × ((κ ⊑ κT) × Unit {0})) (r : MutBor (List (Option (ℕ × T.Denot)))) (s : MutBor (List ℕ)) where
       abbrev bound : (walk_of 𝓛 ended stayed spec).Ghost
       bound = (((κ, (κT, (κH, (κP, tt)))), (q, (qT, (qH, (qP, tt)))), bounds, (r, (s, tt)), (mut_vals r, (mut_vals s, tt))), tt)
 
-      abbrev Post : Val → SProp 𝓤
-      Post = (walk_of 𝓛 ended stayed spec).post bound
-
       abbrev It : RattleType
-      It = loan.the_row (named_lft 4 0 tt (κ, (κT, (κH, (κP, tt))))) (Member T' H' B) P' G
+      It = loan.the_row (named_lft 4 0 tt (κ, (κT, (κH, (κP, tt))))) (Member T' H' B) (param 2 P) G
 
       abbrev it_laws : Laws It
-      it_laws = loan_laws.the_row_laws (named_lft 4 0 tt (κ, (κT, (κH, (κP, tt))))) (Member T' H' B) P' G (tuple_laws (kept_row H' B ∷ T' ∷ []) (kept_laws.the_row_laws H' B (copied_laws 1 H LH), (param_laws 0 T LT, tt))) (param_laws 2 P LP)
+      it_laws = loan_laws.the_row_laws (named_lft 4 0 tt (κ, (κT, (κH, (κP, tt))))) (Member T' H' B) (param 2 P) G (tuple_laws (kept_row H' B ∷ T' ∷ []) (kept_laws.the_row_laws H' B (copied_laws 1 H LH), (param_laws 0 T LT, tt))) (param_laws 2 P LP)
 
       abbrev Ref : RattleType
       Ref = ShrRef (named 0) κ Tags
 
-      walk : ent 𝓤 ((walk_of 𝓛 ended stayed spec).pre bound) (WpFn 𝓤 𝓛.H C Λ here (vptr r.ref_ptr.0 r.ref_ptr.1 ∷ vptr s.ref_ptr.0 s.ref_ptr.1 ∷ []) Post)
+      walk : ent 𝓤 ((walk_of 𝓛 ended stayed spec).pre bound) (WpFn 𝓤 𝓛.H C Λ here (vptr r.ref_ptr.0 r.ref_ptr.1 ∷ vptr s.ref_ptr.0 s.ref_ptr.1 ∷ []) ((walk_of 𝓛 ended stayed spec).post bound))
       walk =
           qed 𝓛 (((‵ (flft κ q) ⊛ ‵ (flft κT qT) ⊛ ‵ (flft κH qH) ⊛ ‵ (flft κP qP) ⊛ ‵ ftrue) ⊛ ‵ (owns (types_at ended.signature.params bound.0.0) bound.0.3 bound.0.4))
           ∷ (raw (fact 𝓤 (κT ⊑ T.lives)) ⊛ raw (fact 𝓤 (κH ⊑ H.lives)) ⊛ raw (fact 𝓤 (κP ⊑ P.lives)) ⊛ ‵ ftrue) ∷ []) ∵
