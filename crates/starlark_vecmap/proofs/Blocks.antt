@@ -8,12 +8,6 @@ module _ {X : Type 0} (p : X → Bool) where
   abbrev first : List X → ℕ
   first = position_or_len p
 
-  index_past : (block tail : List X) → first block ≡ length block → first (block ++ tail) ≡ length block + first tail
-  index_past block tail none = grind (arith, nat_tests, prefix_len-append (λ x. not (p x)) block tail)
-
-  index_within : (block tail : List X) → first block < length block → first (block ++ tail) ≡ first block
-  index_within block tail some = grind (arith, nat_tests, prefix_len-append (λ x. not (p x)) block tail)
-
   some_passes : (xs : List X) → 0 < mask_l (map p xs) → first xs < length xs
   some_passes [] some = absurd (omega arith)
   some_passes (x ∷ xs) some = let later = some_passes xs in grind arith
@@ -33,7 +27,7 @@ module _ {X : Type 0} (p : X → Bool) where
   module _ (block tail : List X) (mask : ℕ) (few : length block ≤ 64) (is : mask ≡ mask_l (map p block)) where
     -- no bit is set
     pub past_block : mask ≡ 0 → first (block ++ tail) ≡ length block + first tail
-    past_block none = index_past block tail (leading_from_mask_l p block (sym is ∙ none))
+    past_block none = grind (arith, nat_tests, prefix_len-append (λ x. not (p x)) block tail, leading_from_mask_l p block (sym is ∙ none))
 
     -- the lowest bit is that of the first index
     module _ (some : mask ≢ 0) where
@@ -44,7 +38,7 @@ module _ {X : Type 0} (p : X → Bool) where
       lowest = rw is (trailing_mask_l p 64 block few set)
 
       pub lowest_is : count_trailing_zeros 64 mask ≡ first (block ++ tail)
-      lowest_is = lowest ∙ sym (index_within block tail (some_passes block set))
+      lowest_is = grind (arith, nat_tests, lowest, prefix_len-append (λ x. not (p x)) block tail, some_passes block set)
 
       pub lowest_lt : count_trailing_zeros 64 mask < length block
       lowest_lt = omega (arith, lowest, some_passes block set)

@@ -1,5 +1,5 @@
 -- The mask of a list: a bit for each index, set where its item passes a test.
-use Rattle.starlark_hash.proofs.Common.{◌≡◌, ℕ, zero, ◌+◌, ◌-◌, ◌*◌, ◌/◌, ◌%◌, ◌^◌, ◌<◌, ◌≤◌, Bool, List, [], ◌∷◌, ◌++◌, cond, length, take, drop, get_or, map, ap, sym, ◌∙◌, arith, pow-suc, drop-drop, drop_more, length-drop, length-map, take-append-drop, take_all, length-chunk, mask_l, chunk}
+use Rattle.starlark_hash.proofs.Common.{◌≡◌, ℕ, zero, ◌+◌, ◌-◌, ◌*◌, ◌/◌, ◌%◌, ◌^◌, ◌<◌, ◌≤◌, Bool, List, [], ◌∷◌, ◌++◌, length, take, drop, get_or, map, ap, sym, ◌∙◌, arith, pow-suc, drop-drop, drop_more, length-drop, length-map, take-append-drop, take_all, length-chunk, mask_l, chunk}
 use Rattle.std.proofs.Math.Nat.{add_comm}
 use Rattle.std.proofs.Math.Pow.{pow_mono}
 use Rattle.std.proofs.Math.Seq.{take-add}
@@ -7,9 +7,6 @@ use Rattle.std.proofs.lemmas.List.{length-take-le}
 use Rattle.std.proofs.lemmas.Nat.{div-mul-add}
 use Rattle.std.proofs.lemmas.Simd.{mask_l-lt}
 use Rattle.std.specs.Int.{from_bool}
-
-from_bool-is : (b : Bool) → from_bool b ≡ cond b 1 0
-from_bool-is b = grind arith
 
 module _ {X : Type 0} (p : X → Bool) where
   abbrev mask : List X → ℕ
@@ -21,7 +18,7 @@ module _ {X : Type 0} (p : X → Bool) where
 
   -- what a test says at an index is its bit
   pub bit_at : (xs : List X) (i : ℕ) (d : X) → i < length xs → (one : ℕ) → one ≡ from_bool (p (get_or xs i d)) → one ≡ mask (chunk i 1 xs)
-  bit_at xs i d within one is = rw (drop_more xs i d within, is, from_bool-is (p (get_or xs i d))) (omega arith)
+  bit_at xs i d within one is = rw (drop_more xs i d within, is) (grind arith)
 
   mask-take_lt : (xs : List X) (n : ℕ) → n ≤ length xs → mask (take n xs) < 2 ^ n
   mask-take_lt xs n within = rw (length-map (take n xs) p, length-take-le n xs within) at (mask_l-lt (map p (take n xs)))
@@ -37,11 +34,8 @@ module _ {X : Type 0} (p : X → Bool) where
 
     -- the bits of n further indices, moved behind those of the i before them
     module _ (before next : ℕ) (is : before ≡ mask (take i xs)) (are : next ≡ mask (chunk i n xs)) where
-      sum : before + next * 2 ^ i ≡ mask (take (i + n) xs)
-      sum = rw (is, are) (sym mask-take_more)
-
       pub mask_more : before + next * 2 ^ i % 2 ^ 64 ≡ mask (take (i + n) xs)
-      mask_more = omega (arith, sum, mask-lt)
+      mask_more = rw (is, are, mask-take_more) (omega (arith, mask-take_more, mask-lt))
 
       pub mask_more_lt : before + next * 2 ^ i % 2 ^ 64 < 2 ^ 64
       mask_more_lt = omega (arith, mask_more, mask-lt)

@@ -1,5 +1,5 @@
 -- A search that jumps from match to match, as a search of the keys under a hash.
-use Rattle.starlark_hash.proofs.Common.{◌≡◌, ℕ, zero, suc, ◌+◌, Bool, true, false, List, [], ◌∷◌, ◌++◌, map, length, get_or, drop, Option, Some, None, refl, sym, ap, subst, ◌∙◌, arith, length-drop, ◌==◌, filter, position, enumerate_from, option_map, Bor, Mut, Called, CalledAt, Takes, TakesAt, get_or-drop, drop-drop, IsPermutation-refl, IsPermutation-cons, none-some}
+use Rattle.starlark_hash.proofs.Common.{◌≡◌, ℕ, zero, suc, ◌+◌, Bool, true, false, List, [], ◌∷◌, ◌++◌, map, length, get_or, drop, Option, Some, None, refl, sym, ap, subst, ◌∙◌, arith, length-drop, ◌==◌, filter, position, enumerate_from, option_map, Bor, Mut, Called, CalledAt, Takes, get_or-drop, drop-drop, IsPermutation-refl, IsPermutation-cons, none-some}
 use Rattle.starlark_hash.specs.declared.hash_value.StarlarkHashValue.{StarlarkHashValue}
 use Rattle.starlark_hash.specs.Entries.{entry_key, is_under}
 use Rattle.starlark_hash.specs.Search.{Asks, CanSearch, keys_under}
@@ -15,25 +15,6 @@ module _ {F N X : Type 0} (g : Mut F (Bor X × Unit {0}) Bool) where
   pub record Searching (all : List (N × X)) (first f : F) (left : List (N × X)) : Type 0 where
     pub callable : CanSearch g left f
     pub rest : (answer : Option N) (last : F) → Asks g f left answer last → Asks g first all answer last
-
-  module _ (all keys left : List (N × X)) (first f : F) (p : N × X) (s : Searching all first f keys) (leads : keys ≡ p ∷ left) where
-    ready : Searching all first f (p ∷ left)
-    ready = subst (λ ps. Searching all first f ps) leads s
-
-    searching_asks : TakesAt g f p.1
-    searching_asks = ready.callable.at [] p left f (IsPermutation-refl (p ∷ left)) refl
-
-    searching_refused : (next : F) → CalledAt g f p.1 false next → Searching all first next left
-    searching_refused next refused = record {
-      callable = record { at = λ before q after later moves refuses. ready.callable.at (p ∷ before) q after later (IsPermutation-cons p left (before ++ q ∷ after) moves) (next, refused, refuses) };
-      rest = λ answer last asks. ready.rest answer last (false, next, refused, asks);
-    }
-
-    searching_accepts : (last : F) → CalledAt g f p.1 true last → Asks g first all (Some p.0) last
-    searching_accepts last accepted = ready.rest (Some p.0) last (true, last, accepted, (refl, refl))
-
-  searching_ends : (all keys : List (N × X)) (first f : F) → Searching all first f keys → keys ≡ [] → Asks g first all None f
-  searching_ends all keys first f s none = (subst (λ ps. Searching all first f ps) none s).rest None f (refl, refl)
 
 found_at : (i : ℕ) (o : Option ℕ) (index : ℕ) → option_map (λ skipped. i + skipped) o ≡ Some index → (s : ℕ) × (o ≡ Some s) × (index ≡ i + s)
 found_at i None index e = absurd (none-some index e)
@@ -85,30 +66,32 @@ module _ {K V : Type 0} (hash : StarlarkHashValue) where
     abbrev all : List (ℕ × K)
     all = keys_under hash (entries_in pairs hashes)
 
-    abbrev here : List (ℕ × K)
-    here = keys_from i (drop i pairs) (drop i hashes)
-
     abbrev later : List (ℕ × K)
     later = keys_from (index + 1) (drop (index + 1) pairs) (drop (index + 1) hashes)
 
-    leads : here ≡ (index, pair.0) ∷ later
-    leads = next-Some pairs hashes i index pair same found at
+    ready : Searching g all first f ((index, pair.0) ∷ later)
+    ready = subst (λ ps. Searching g all first f ps) (next-Some pairs hashes i index pair same found at) s
 
     its_key : shown.now ≡ pair.0
     its_key = shows ∙ sym (ap (λ p. p.0) at)
 
     pub index_asked : Takes g f (shown, tt)
-    index_asked = searching_asks g all here later first f (index, pair.0) s leads shown its_key
+    index_asked = ready.callable.at [] (index, pair.0) later f (IsPermutation-refl ((index, pair.0) ∷ later)) refl shown its_key
 
     pub index_accepted : (last : F) (r : Bool) → r ≡ true → Called g f (shown, tt) r last → Asks g first all (Some index) last
-    index_accepted last r is called = searching_accepts g all here later first f (index, pair.0) s leads last (called_at g f last shown pair.0 true its_key (rw is at called))
+    index_accepted last r is called = ready.rest (Some index) last (true, last, called_at g f last shown pair.0 true its_key (rw is at called), (refl, refl))
 
     pub index_refused : (next : F) (r : Bool) → r ≡ false → Called g f (shown, tt) r next → Searching g all first next later
-    index_refused next r is called = searching_refused g all here later first f (index, pair.0) s leads next (called_at g f next shown pair.0 false its_key (rw is at called))
+    index_refused next r is called =
+        let refused = called_at g f next shown pair.0 false its_key (rw is at called) in record {
+          callable = record { at = λ before q after left moves refuses. ready.callable.at ((index, pair.0) ∷ before) q after left (IsPermutation-cons (index, pair.0) later (before ++ q ∷ after) moves) (next, refused, refuses) };
+          rest = λ answer last asks. ready.rest answer last (false, next, refused, asks);
+        }
 
   -- and one that has come to the end
   pub none_left : {F : Type 0} (g : Mut F (Bor K × Unit {0}) Bool) (first f : F) (pairs : List (K × V)) (hashes : List ℕ) (i : ℕ)
       → Searching g (keys_under hash (entries_in pairs hashes)) first f (keys_from i (drop i pairs) (drop i hashes))
       → option_map (λ skipped. i + skipped) (position (λ h. h == hash.0) (drop i hashes)) ≡ None → Asks g first (keys_under hash (entries_in pairs hashes)) None f
   none_left g first f pairs hashes i s none =
-      searching_ends g (keys_under hash (entries_in pairs hashes)) (keys_from i (drop i pairs) (drop i hashes)) first f s (next-None pairs hashes i none)
+      let ended = subst (λ ps. Searching g (keys_under hash (entries_in pairs hashes)) first f ps) (next-None pairs hashes i none) s in
+      ended.rest None f (refl, refl)

@@ -1,6 +1,6 @@
 -- `iter_mut` walks the pairs of the columns, and the whole map, open over the call, is closed by what they follow.
 -- Assumes `Logic`.
-use Rattle.starlark_columns.proofs.Walking.{◌≡◌, refl, sym, ap, ◌∙◌, ℕ, ◌+◌, List, [], ◌∷◌, not-mem-nil, Ura, full_share, Fn, Args, a_type, named, inst_fn, Val, vptr, SProp, ent, emp, id⊢, ex_e, snd∗, Lft, GName, Share, ftrue, fsep, flft, fauth, Memory, Routine, Calls, Loops, WpFn, Tables, Logic, sem, ◌⊑◌, ⊑_refl, Fun, fact, fact_i, tables, tables_of, FmC, fm_of, WpFn-mono, ages, bor_new_deep, open_ref, name_new, ‵, raw, ◌⊛◌, some, later, ◌$◌, ◌∵◌, !, qed, move, keep, drop, use0, use1, use2, split, split3, join, pick, fsplit, fsplit3, fjoin, fjoin3, fpack, feq_i, rewrite, suffices, frame, await, group, done, stop, fld, addr, and_then, no_more, returns, enter, alloc_all, pass_all, free_all, look_at, get, through, sets, lands_as, no, follows, RattleType, owns, mem, param, layouts, Laws, MutBor, NamedLft, mut_vals, mut_Tells, plain, types_at, mut_ref_to, named_lft, nothing, heard, only, calls_at, Clauses, Ended, closing, ensured, lasts, Meets, triple_of, Contract, Triple, entered, Stays, stay_dropped, walk_of, ends_at, walked, walk_Meets, Goes-spent_ref, ◌<◌, ◌^◌, length, map, length-map, u32, of_field, copy_shared, u32-field, u32-laws, u32-copy, Is, shows, part_at, param_laws, peeks}
+use Rattle.starlark_columns.proofs.Walking.{◌≡◌, refl, sym, ap, ◌∙◌, ℕ, ◌+◌, List, [], ◌∷◌, not-mem-nil, Ura, full_share, Fn, Args, a_type, named, inst_fn, Val, vptr, SProp, ent, emp, id⊢, ex_e, snd∗, Lft, GName, Share, ftrue, fsep, flft, fauth, Memory, Routine, Calls, Loops, WpFn, Logic, sem, ◌⊑◌, ⊑_refl, Fun, fact, fact_i, tables, FmC, ages, bor_new_deep, open_ref, name_new, ‵, raw, ◌⊛◌, some, later, ◌$◌, ◌∵◌, !, qed, move, keep, drop, use0, use1, use2, split, split3, join, pick, fsplit, fsplit3, fjoin, fjoin3, fpack, feq_i, rewrite, suffices, frame, await, group, done, stop, fld, addr, and_then, no_more, returns, enter, alloc_all, pass_all, free_all, look_at, get, through, sets, lands_as, no, follows, RattleType, owns, mem, param, layouts, Laws, MutBor, NamedLft, mut_vals, mut_Tells, plain, types_at, mut_ref_to, named_lft, nothing, heard, only, calls_at, Clauses, Ended, ensured, lasts, triple_of, Contract, Triple, Stays, stay_dropped, walk_of, ends_at, proved, framed, Goes-spent_ref, ◌<◌, ◌^◌, length, map, length-map, u32, of_field, copy_shared, u32-field, u32-laws, u32-copy, Is, shows, part_at, param_laws, peeks}
 use base.Share
 use Rattle.starlark_columns.proofs.NamedClose.{closes_named}
 use Rattle.starlark_vec2.specs.contracts.pairs_mut.PairsMut as P-type
@@ -24,10 +24,6 @@ use Rattle.starlark_vecmap.proofs.vec_map.VecMap.iter_mut.Code as code
 
 abbrev hash_laws : Laws u32
 hash_laws = of_field u32-field u32-laws refl (copy_shared u32-field u32-copy)
-
--- each lifetime ends before the longest one
-outlived : (κ : Lft) → κ ⊑ []
-outlived κ a m = absurd (not-mem-nil m)
 
 module _ (A B : RattleType) where
   abbrev args : Args
@@ -99,9 +95,6 @@ module _ (A B : RattleType) where
       abbrev bound : (walk_of 𝓛 ended stayed spec).Ghost
       bound = (((κ, (κA, (κB, tt))), (q, (qA, (qB, tt))), bounds, (r, tt), (mut_vals r, tt)), tt)
 
-      abbrev Post : Val → SProp 𝓤
-      Post = (walk_of 𝓛 ended stayed spec).post bound
-
       abbrev lft : NamedLft
       lft = named_lft 3 0 tt (κ, (κA, (κB, tt)))
 
@@ -111,7 +104,7 @@ module _ (A B : RattleType) where
       abbrev it_laws : Laws It
       it_laws = P-laws.the_row_laws lft K V (param_laws 0 A LA) (param_laws 1 B LB)
 
-      walk : ent 𝓤 ((walk_of 𝓛 ended stayed spec).pre bound) (WpFn 𝓤 H C Λ here (vptr r.ref_ptr.0 r.ref_ptr.1 ∷ []) Post)
+      walk : ent 𝓤 ((walk_of 𝓛 ended stayed spec).pre bound) (WpFn 𝓤 H C Λ here (vptr r.ref_ptr.0 r.ref_ptr.1 ∷ []) ((walk_of 𝓛 ended stayed spec).post bound))
       walk =
           let b = r.ref_ptr.0 in let o = r.ref_ptr.1 in let v = r.now in let γ = r.ghost_name in
           qed 𝓛 (((‵ (flft κ q) ⊛ ‵ (flft κA qA) ⊛ ‵ (flft κB qB) ⊛ ‵ ftrue) ⊛ ‵ (owns (types_at ended.signature.params bound.0.0) bound.0.3 bound.0.4))
@@ -137,7 +130,7 @@ module _ (A B : RattleType) where
           -- [the argument; the right; the open borrow; the rest; obs; auth; the other half; the tokens of κA, κB]
           nothing ! $ use0 𝓛 (‵ (flft [] full_share)) (𝓛.lfts.lft-nil full_share) $ join ! $ move ! (9 ∷ 0 ∷ []) $ join ! $ move ! (8 ∷ 0 ∷ []) $ join ! $ move ! (7 ∷ 0 ∷ []) $ join ! $ join ! $
           nothing ! $ use0 𝓛 (raw (fact 𝓤 ([] ⊑ u32.lives))) (fact_i 𝓤 _ (emp 𝓤) (⊑_refl [])) $ join ! $ use0 𝓛 (raw (fact 𝓤 (κB ⊑ B.lives))) (fact_i 𝓤 _ (emp 𝓤) lb) $ join ! $ use0 𝓛 (raw (fact 𝓤 (κA ⊑ A.lives))) (fact_i 𝓤 _ (emp 𝓤) la) $ join ! $ move ! (1 ∷ 0 ∷ []) $ join ! $
-          let still : κ ⊑ [] = outlived κ in
+          let still : κ ⊑ [] = (λ a m. absurd (not-mem-nil m)) in
           let z : Run.Ghost = (((κ, (κA, (κB, ([], tt)))), (Share.right q, (qA, (qB, (full_share, tt)))), (bounds.0, (bounds.1.0, (still, tt))), (lent, tt), (mut_vals lent, tt)), tt) in
           use1 𝓛 (raw (Run.pre z)) (id⊢ 𝓤 _) $
           calls_at ! fm Run gr z (and_then ! (get ! refl) (no_more !)) (λ u.
@@ -164,18 +157,11 @@ module _ (A B : RattleType) where
           use0 𝓛 (raw (fact 𝓤 (length v.entries < 2 ^ 64))) (fact_i 𝓤 _ (emp 𝓤) (rw (ap (λ (m : EntryList A.Denot B.Denot). length m.entries) (sym d'.1.0) ∙ length-map xs.pairs entry_of) fits)) $
           use0 𝓛 (raw (fact 𝓤 (new.0 ≡ map pair_of v.entries))) (fact_i 𝓤 _ (emp 𝓤) (rest ∙ sym (pair_of-entry_of xs.pairs) ∙ ap (λ (m : EntryList A.Denot B.Denot). map pair_of m.entries) d'.1.0)) $ move ! (2 ∷ 0 ∷ 1 ∷ []) $ done !))))))))))))
 
-meets : (A B : RattleType) → Laws A → Laws B → {M : Type 1} {𝓤 : Ura M} (𝓛 : Logic 𝓤) (at_mem : Memory → SProp 𝓤) (run : Routine → Fun 𝓤) (𝓣 : Tables 𝓤 𝓛.H)
-    → Triple 𝓤 (𝓣.C (#run (lends A B))) (Run A B 𝓛 at_mem run)
-    → Meets 𝓛 (ended A B).signature (WpFn 𝓤 𝓛.H 𝓣.C 𝓣.Λ (here A B)) (closing 𝓛 (ended A B) (spec A B 𝓛 at_mem run))
-meets A B LA LB {𝓤 = 𝓤} 𝓛 at_mem run 𝓣 gr =
-    walk_Meets 𝓛 (ended A B) (stayed A B) (Goes-spent_ref 𝓛 3 (0 ∷ []) tt (plain (λ _. W A B)), tt)
-    (spec A B 𝓛 at_mem run) (WpFn 𝓤 𝓛.H 𝓣.C 𝓣.Λ (here A B)) (WpFn-mono 𝓤 𝓛.H 𝓛.laws 𝓣 (here A B))
-    (walked 𝓛 (ended A B) (stayed A B) (spec A B 𝓛 at_mem run) (WpFn 𝓤 𝓛.H 𝓣.C 𝓣.Λ (here A B)) (λ κs. (mut_vals, tt)) (λ κs. (mut_Tells (named 0) κs.0 (W A B), tt))
-    (λ κs qs bounds a g' are. walk A B 𝓛 at_mem run LA LB 𝓣.C 𝓣.Λ (fm_of 𝓤 𝓛.H 𝓛.laws 𝓣) gr κs.0 κs.1.0 κs.1.1.0 qs.0 qs.1.0 qs.1.1.0 bounds a.0))
-
 pub iter_mut_spec : {M : Type 1} → stated.statement M
-unfolding tables_of
 iter_mut_spec 𝓤 𝓛 𝓜 𝓡 wired A B LA LB =
-    let 𝓣 : Tables 𝓤 𝓛.H = tables_of 𝓤 𝓛.H 𝓜 (tables 𝓤 𝓛.H 𝓜 𝓡 𝓡.env) in
-    entered 𝓤 𝓛.H (triple_of 𝓛 (F.signature A B) (F.spec A B 𝓛 𝓜.mem 𝓡.returns)) 𝓣.C 𝓣.Λ (#self (args A B)) (here A B) (code.unfolded 𝓤 𝓛.H 𝓜 𝓡 wired (A, (B, tt)))
-    (meets A B LA LB 𝓛 𝓜.mem 𝓡.returns 𝓣 (walked_firsts.met 𝓤 𝓛 𝓜 𝓡 (code.calls-starlark_vec2::vec2::get_mut::Vec2+tuple2+K+V+B::iter_firsts_mut 𝓡.env wired) A B u32 LA LB hash_laws))
+    let 𝓣 = tables 𝓤 𝓛.H 𝓜 𝓡 𝓡.env in
+    proved 𝓛 (ended A B) (stayed A B) (spec A B 𝓛 𝓜.mem 𝓡.returns) 𝓜 𝓡 (Goes-spent_ref 𝓛 3 (0 ∷ []) tt (plain (λ _. W A B)), tt)
+    (#self (args A B)) (here A B) (code.unfolded 𝓤 𝓛.H 𝓜 𝓡 wired (A, (B, tt))) (λ κs. (mut_vals, tt)) (λ κs. (mut_Tells (named 0) κs.0 (W A B), tt))
+    (λ κs qs bounds a g' are. walk A B 𝓛 𝓜.mem 𝓡.returns LA LB 𝓣.C 𝓣.Λ (framed 𝓤 𝓛.H 𝓜 𝓣)
+    (walked_firsts.met 𝓤 𝓛 𝓜 𝓡 (code.calls-starlark_vec2::vec2::get_mut::Vec2+tuple2+K+V+B::iter_firsts_mut 𝓡.env wired) A B u32 LA LB hash_laws)
+    κs.0 κs.1.0 κs.1.1.0 qs.0 qs.1.0 qs.1.1.0 bounds a.0)
