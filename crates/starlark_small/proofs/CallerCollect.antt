@@ -1,5 +1,5 @@
 -- What look-ups find once an iterator's items went in, and in a list of clones.
-use Rattle.starlark_hash.proofs.Common.{common_steps, ◌≡◌, Bool, true, false, List, [], ◌∷◌, map, position, cond, Option, Some, None, is_some, Result, Ok, Err, OnOk, refl, sym, ap, ◌∙◌, subst, suc, ℕ, zero, ◌<◌, get_or, length, IsSome, slice_get, arith, IfSome, IsEquivalence, HashWrites, Drains, AllZip, update_all, keys_of, map-id, is_member, is_some-update_all, same_Some, slice_get-get_or}
+use Rattle.starlark_hash.proofs.Common.{◌||◌, nat_lt, common_steps, ◌≡◌, Bool, true, false, List, [], ◌∷◌, map, position, cond, Option, Some, None, is_some, Result, Ok, Err, OnOk, refl, sym, ap, ◌∙◌, subst, ℕ, ◌<◌, get_or, length, IsSome, slice_get, arith, IfSome, IsEquivalence, HashWrites, Drains, AllZip, update_all, keys_of, map-id, is_member, is_some-update_all, slice_get-get_or, slice_get-map, slice_get_within, get_or_from_slice_get, All-contains, option_map}
 use Rattle.std.specs.Prelude.{IsSomeAnd}
 use Rattle.std.proofs.iter.SoFar.{exit_by}
 use Rattle.std.specs.Iterator.{Count}
@@ -12,13 +12,17 @@ use Rattle.starlark_hash.specs.Entries.{Entry, entry_key, stands_under}
 use Rattle.starlark_hash.specs.Lookup.{found}
 use Rattle.starlark_hash.specs.Insert.{insert_entry}
 use Rattle.starlark_hash.proofs.PositionLemmas.{position-cons}
-use Rattle.starlark_small.specs.Lookup.{AreOwn, AreOwnEntries, get}
-use Rattle.starlark_small.specs.Collect.{Collects, Extends, FindsLast, InsertsEach, KeepsOwn, insert_all, own_entry, HasItems}
+use Rattle.starlark_small.specs.Lookup.{get}
+use Rattle.starlark_small.specs.Collect.{Collects, Extends, FindsLast, InsertsEach, KeepsOwn, insert_all, own_entry, HasItems, InsertsItems, IsExtended}
 use Rattle.starlark_small.specs.Map.{Map, own_hashed}
+use Rattle.starlark_small.specs.New.{IsEmptyFor}
+use Rattle.starlark_small.specs.Index.{unindexed}
+use Rattle.std.specs.Iterator.SizeHint.{IsWithinCount}
+use Rattle.starlark_small.proofs.Growing.{stepped_from}
 use Rattle.starlark_small.proofs.CallerOwn.{own-inserted_entries}
-use Rattle.starlark_small.proofs.CallerLookup.{empty-found, is_some-found}
+use Rattle.starlark_small.proofs.CallerLookup.{is_some-found}
 use Rattle.starlark_small.proofs.CallerInsert.{writes-inserted}
-use Rattle.std.proofs.lemmas.Map.Made.{IfSome-update_all}
+use Rattle.std.proofs.lemmas.Map.Made.{All-is_member, IfSome-update_all}
 
 -- the run of an iterator that gave these items and ended
 pub run_of : {T A : Type 0} (steps : T → Option A → T → Type 0) (it : T) (xs : List A) (P : List A → Type 0) → Drains steps it xs → P xs → WholeRun steps it (λ p. P p.items)
@@ -46,35 +50,38 @@ module _ {K V : Type 0} (eq : K → K → Bool) (laws : IsEquivalence eq) (feeds
       looked_all xs (insert_entry eq es (own_hashed feeds x.0) x.1) key ∙ (λ i. update_all eq (λ k. looked_after es x k i) xs key)
 
   module _ {T U : Type 0} (steps : T → Option (K × V) → T → Type 0) (becomes : U → T → Type 0) (iter : U) where
+    -- where items were inserted in turn, each key has the last value that they have for it
+    inserted_last : (it : T) → becomes iter it → (xs : List (K × V)) → Drains steps it xs → (old : List (Entry K V)) (new : Map K V) → new.entries ≡ insert_all eq old (map (own_entry feeds) xs) → FindsLast eq feeds steps becomes iter (look old) new
+    inserted_last it made xs drained old new put =
+        (it, made, run_of steps it xs (λ xs. (key : K) → look new.entries key ≡ update_all eq (look old) xs key) drained (λ key. ap (λ l. look l key) put ∙ looked_all xs old key))
+
     pub finds_extended : {E : Type 0} (r : Result (Unit {0}) E) (old new : Map K V) → Extends eq (own_entry feeds) steps becomes iter old.entries new.entries r
         → OnOk r (FindsLast eq feeds steps becomes iter (look old.entries) new)
-    finds_extended (Ok a) old new went =
-        let in_all = went.inserts in (
-          went.it,
-          went.made,
-          run_of steps went.it in_all.items (λ xs. (key : K) → look new.entries key ≡ update_all eq (look old.entries) xs key) in_all.ended
-              (λ key. ap (λ l. look l key) in_all.entries ∙ looked_all in_all.items old.entries key),
-        )
+    finds_extended (Ok a) old new went = inserted_last went.it went.made went.inserts.items went.inserts.ended old.entries new went.inserts.entries
     finds_extended (Err e) old new went = tt
 
     pub finds_collected : (remaining : T → Count) (m : Map K V) → Collects eq (own_entry feeds) steps becomes remaining iter m → FindsLast eq feeds steps becomes iter (λ _. None) m
-    finds_collected remaining m has = (
-      has.it,
-      has.made,
-      run_of steps has.it has.items (λ xs. (key : K) → look m.entries key ≡ update_all eq (λ _. None) xs key) has.drained
-          (λ key. ap (λ l. look l key) has.entries ∙ looked_all has.items [] key ∙ (λ i. update_all eq (λ k. empty-found {K = K} {V = V} [] refl (eq k) (own_hash feeds k) i) has.items key)),
-    )
+    unfolding found
+    finds_collected remaining m has = inserted_last has.it has.made has.items has.drained [] m has.entries
+
+-- an empty map took in all of an iterator's items
+pub collected : {K V A T U E fits : Type 0} {a : Unit {0}} (eq : K → K → Bool) (item : A → Entry K V) (steps : T → Option A → T → Type 0) (becomes : U → T → Type 0) (remaining : T → Count) (iter : U) (it : T) → becomes iter it
+    → (first : ℕ) → IsWithinCount first (remaining it) → (old new : Map K V) → IsEmptyFor first old → InsertsItems eq item steps {E = E} it old.entries new.entries (Ok a) → IsExtended {E = E} fits old new (Ok a)
+    → Collects eq item steps becomes remaining iter new
+collected eq item steps becomes remaining iter it made first bounded old new empty put left = record {
+  it = it;
+  made = made;
+  first = first;
+  bounded = bounded;
+  items = put.items;
+  drained = put.ended;
+  entries = put.entries ∙ ap (λ l. insert_all eq l (map item put.items)) empty.entries;
+  room = omega (arith, left.room, empty.room, ap length empty.entries);
+  capacity = left.capacity ∙ stepped_from old new first empty.entries empty.capacity;
+  indexed = left.indexed ∙ ap (λ had. had || nat_lt unindexed (length new.entries)) empty.indexed;
+}
 
 module _ {K V T U : Type 0} (eq : K → K → Bool) (steps : T → Option (Entry K V) → T → Type 0) (becomes : U → T → Type 0) (iter : U) where
-  -- entries under own hashes stay so
-  pub own_collected : (remaining : T → Count) (m : Map K V) → Collects eq (λ item. item) steps becomes remaining iter m → KeepsOwn steps becomes iter m
-  own_collected remaining m has = (
-    has.it,
-    has.made,
-    run_of steps has.it has.items (λ xs. (feeds : K → HashWrites) → AreOwnEntries feeds xs → AreOwn feeds m) has.drained
-        (λ feeds own. own-inserted_entries feeds eq m.entries has.items (has.entries ∙ ap (insert_all eq []) (map-id has.items)) own),
-  )
-
   -- the list is that of the items, inserted in their order
   pub each_collected : (remaining : T → Count) (m : Map K V) → Collects eq (λ item. item) steps becomes remaining iter m → InsertsEach eq steps becomes iter m
   each_collected remaining m has = (
@@ -82,6 +89,12 @@ module _ {K V T U : Type 0} (eq : K → K → Bool) (steps : T → Option (Entry
     has.made,
     run_of steps has.it has.items (λ xs. m.entries ≡ insert_all eq [] xs) has.drained (has.entries ∙ ap (insert_all eq []) (map-id has.items)),
   )
+
+  -- entries under own hashes stay so
+  pub own_collected : (remaining : T → Count) (m : Map K V) → Collects eq (λ item. item) steps becomes remaining iter m → KeepsOwn steps becomes iter m
+  own_collected remaining m has =
+      let each = each_collected remaining m has in
+      (each.0, each.1, (each.2.0, each.2.1, each.2.2, λ feeds. own-inserted_entries feeds eq m.entries each.2.0.items each.2.3))
 
 module _ {K V : Type 0} (eq : K → K → Bool) (laws : IsEquivalence eq) (key : K → K → Type 0) (value : V → V → Type 0) (equal : (x y : K) → key x y → eq x y ≡ true) where
   -- a clone passes where its original does
@@ -109,11 +122,10 @@ module _ {K V T : Type 0} {steps : T → Option (K × V) → T → Type 0} (p : 
   any-item P k d below holds = (k, omega (arith, below, p.long), subst (λ o. IsSomeAnd o P) (sym (item-at k ∙ slice_get-get_or p.items k d below)) holds)
 
 module _ {K V : Type 0} (eq : K → K → Bool) (laws : IsEquivalence eq) where
-  member-at : (xs : List (K × V)) (k : ℕ) (o : Option (K × V)) → slice_get xs k ≡ o → IfSome o (λ x. is_member eq (keys_of xs) x.0 ≡ true)
-  member-at xs k None at = tt
-  member-at [] k (Some x) at = cc
-  member-at (y ∷ xs) zero (Some x) at = grind (arith, common_steps, same_Some y x at, laws.refl x.0)
-  member-at (y ∷ xs) (suc k) (Some x) at = grind (arith, common_steps, member-at xs k (Some x) at)
+  member-at : (xs : List (K × V)) (k : ℕ) (x : K × V) → slice_get xs k ≡ Some x → is_member eq (keys_of xs) x.0 ≡ true
+  member-at xs k x at =
+      let there : slice_get (keys_of xs) k ≡ Some x.0 = slice_get-map (λ (y : K × V). y.0) xs k ∙ ap (option_map (λ (y : K × V). y.0)) at in
+      All-contains (λ y. is_member eq (keys_of xs) y ≡ true) (keys_of xs) x.0 (All-is_member laws (keys_of xs)) (k, slice_get_within (keys_of xs) k x.0 there, get_or_from_slice_get (keys_of xs) k x.0 x.0 there)
 
   module _ {T U : Type 0} (feeds : K → HashWrites) (steps : T → Option (K × V) → T → Type 0) (becomes : U → T → Type 0) (iter : U) (m : Map K V) where
     found-came : (p : Run steps) (key : K) → get eq feeds m key ≡ update_all eq (λ _. None) p.items key → IfSome (get eq feeds m key) (λ v. AnyItem p (λ x. (eq key x.0 ≡ true) × (x.1 ≡ v)))
@@ -124,7 +136,7 @@ module _ {K V : Type 0} (eq : K → K → Bool) (laws : IsEquivalence eq) where
     item-found : (p : Run steps) → ((key : K) → get eq feeds m key ≡ update_all eq (λ _. None) p.items key) → (k : ℕ) (o : Option (K × V)) → p.at k ≡ o → IfSome o (λ x. IsSome (get eq feeds m x.0))
     item-found p is k None at = tt
     item-found p is k (Some x) at =
-        ap is_some (is x.0) ∙ is_some-update_all laws x.0 (λ _. None) p.items ∙ member-at p.items k (Some x) (sym (item-at p k) ∙ at)
+        ap is_some (is x.0) ∙ is_some-update_all laws x.0 (λ _. None) p.items ∙ member-at p.items k x (sym (item-at p k) ∙ at)
 
     pub has-items : FindsLast eq feeds steps becomes iter (λ _. None) m → HasItems eq feeds steps becomes iter m
     has-items last =

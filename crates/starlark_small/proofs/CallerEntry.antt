@@ -1,9 +1,9 @@
 -- What a write leaves, of a value where one stands and through an entry.
-use Rattle.starlark_hash.proofs.Common.{common_steps, ◌≡◌, ℕ, zero, suc, ◌<◌, Bool, true, false, List, [], ◌∷◌, length, map, Some, None, refl, sym, ap, ◌∙◌, arith, ◌+◌, IsSome, slice_get, Result, Ok, Err, IsErr, IsOk, OnErr, OnOk, ◌≤◌, subst, option_map, option_map_or, IsEquivalence, false≢true}
+use Rattle.starlark_hash.proofs.Common.{common_steps, ◌≡◌, ℕ, zero, suc, ◌<◌, Bool, true, List, [], ◌∷◌, length, Some, refl, sym, ap, ◌∙◌, arith, ◌+◌, IsSome, slice_get, Result, Ok, Err, IsErr, IsOk, OnErr, OnOk, ◌≤◌, subst, option_map, IsEquivalence, false≢true}
 use Rattle.starlark_hash.specs.declared.hashed.Hashed.{Hashed}
 use Rattle.starlark_hash.specs.declared.hash_value.StarlarkHashValue.{StarlarkHashValue}
-use Rattle.starlark_hash.specs.Entries.{Entry, entry_key, set_value_at, match_of, value_at, with_value, position_of, entry_value}
-use Rattle.starlark_small.proofs.CallerLookup.{alike, written_here, written_there, under, keys-set_value_at, apart_other, found_is, is_some-value_at}
+use Rattle.starlark_hash.specs.Entries.{Entry, set_value_at, match_of, value_at, with_value, position_of, entry_value}
+use Rattle.starlark_small.proofs.CallerLookup.{written_here, written_there, under, apart_other, found_is, is_some-value_at}
 use Rattle.starlark_hash.specs.HashValue.{hashed, key_of, hash_of}
 use Rattle.starlark_hash.specs.Insert.{insert_entry}
 use Rattle.starlark_hash.specs.Lookup.{found, Writes, weight_of}
@@ -18,32 +18,14 @@ use Rattle.starlark_small.specs.Lookup.{total_of}
 use Rattle.starlark_small.proofs.CallerOwn.{own-inserted}
 use Rattle.starlark_small.proofs.CallerInsert.{part-at, total-inserted, keys-put, writes-inserted}
 
-module _ {K V : Type 0} (hash : StarlarkHashValue) (passes : K → Bool) (es : List (Entry K V)) where
-  -- a value that is written stands at its key
-  pub value-with_value : (w : V) → value_at (with_value es (position_of hash passes es) w) (position_of hash passes (with_value es (position_of hash passes es) w)) ≡ option_map (λ _. w) (value_at es (position_of hash passes es))
-  value-with_value w = grind (arith, common_steps, written_here (under hash passes) es, is_some-value_at hash passes es)
-
-  pub keys-with_value : (w : V) → map entry_key (with_value es (position_of hash passes es) w) ≡ map entry_key es
-  keys-with_value w = grind (arith, common_steps, keys-set_value_at es)
-
 module _ {K V : Type 0} (eq : K → K → Bool) (laws : IsEquivalence eq) (hash : StarlarkHashValue) (passes : K → Bool) (one : (x y : K) → passes x ≡ true → passes y ≡ eq x y) where
-  written_other : (es : List (Entry K V)) (other : Hashed K) → passes (key_of other) ≡ false → (w : V)
-      → value_at (with_value es (position_of hash passes es) w) (match_of eq (with_value es (position_of hash passes es) w) other) ≡ value_at es (match_of eq es other)
-  written_other es other not w = elim (position_of hash passes es) as (λ o. position_of hash passes es ≡ o
-      → value_at (option_map_or (λ i. set_value_at es i w) o es) (match_of eq (option_map_or (λ i. set_value_at es i w) o es) other) ≡ value_at es (match_of eq es other)) [
-        | None ↦ λ at. refl
-        | Some i ↦ λ at. written_there (alike eq other) (under hash passes) (apart_other eq laws hash passes one other not) es i w at
-      ] refl
-
-module _ {K V : Type 0} (eq : K → K → Bool) (laws : IsEquivalence eq) where
-  module _ (hash : StarlarkHashValue) (passes : K → Bool) (one : (x y : K) → passes x ≡ true → passes y ≡ eq x y) where
-    -- a value that is written where one stands
-    pub writes-with_value : (old new : List (Entry K V)) (w : V) → IsSome (found passes hash old) → new ≡ with_value old (position_of hash passes old) w → Writes eq passes hash old new (Some w)
-    unfolding found
-    writes-with_value old new w there put = (
-      rw put (grind (arith, common_steps, value-with_value hash passes old w, there)),
-      λ h other not. ap (λ l. value_at l (position_of h (eq other) l)) put ∙ written_other eq laws hash passes one old (hashed h other) not w,
-    )
+  -- a value that is written where one stands
+  pub writes-with_value : (old new : List (Entry K V)) (w : V) → IsSome (found passes hash old) → new ≡ with_value old (position_of hash passes old) w → Writes eq passes hash old new (Some w)
+  unfolding found
+  writes-with_value old new w there put = rw put (
+    grind (arith, common_steps, written_here (under hash passes) old, is_some-value_at hash passes old, there),
+    λ h other not. written_there (under h (eq other)) (under hash passes) (apart_other eq laws hash passes one (hashed h other) not) old (position_of hash passes old) w refl,
+  )
 
 -- what is put under an entry goes into the map under its key
 module _ {K V : Type 0} {g : PartialEq.Ghosts K} (eq : K → K → Bool) (m : Map K V) (key : Hashed K) where
@@ -64,9 +46,8 @@ module _ {K V : Type 0} {g : PartialEq.Ghosts K} (eq : K → K → Bool) (m : Ma
 module _ {K V : Type 0} where
   -- a value that is written twice, and one that is written and read
   set_twice : (es : List (Entry K V)) (i : ℕ) (u w : V) → set_value_at (set_value_at es i u) i w ≡ set_value_at es i w
-  set_twice [] i u w = refl
-  set_twice (e ∷ es) zero u w = refl
   set_twice (e ∷ es) (suc i) u w = ap (λ l. e ∷ l) (set_twice es i u w)
+  set_twice es i u w = refl
 
   value_set : (es : List (Entry K V)) (i : ℕ) (w : V) → i < length es → option_map entry_value (slice_get (set_value_at es i w) i) ≡ Some w
   value_set [] i w below = absurd (omega (arith, below))

@@ -1,14 +1,13 @@
 -- What an insertion leaves under its key, at all other keys, of the length and of what the values weigh together; and what its word
 -- is made of, where it was done, where it was refused, and where its answer is handed on.
 use Rattle.starlark_hash.specs.Hasher.{own_hash}
-use Rattle.starlark_hash.proofs.Common.{HashWrites, common_steps, ◌≡◌, ◌+◌, Bool, true, false, List, [], ◌∷◌, ◌++◌, length, map, Some, None, is_some, refl, ◌∙◌, arith, Ok, Err, ap, ℕ, zero, suc, ◌<◌, ◌≤◌, Option, slice_get, if◌then◌else◌, option_map_or, option_map, IsEquivalence, map-append}
+use Rattle.starlark_hash.proofs.Common.{HashWrites, common_steps, ◌≡◌, ◌+◌, Bool, List, [], ◌∷◌, ◌++◌, length, map, Some, None, is_some, refl, ◌∙◌, arith, Ok, Err, ap, ℕ, zero, suc, ◌<◌, ◌≤◌, Option, slice_get, if◌then◌else◌, option_map, IsEquivalence, map-append}
 use Rattle.starlark_hash.specs.declared.hashed.Hashed.{Hashed}
-use Rattle.starlark_hash.specs.declared.hash_value.StarlarkHashValue.{StarlarkHashValue}
-use Rattle.starlark_hash.specs.HashValue.{key_of, hash_of}
-use Rattle.starlark_hash.specs.Entries.{Entry, set_value_at, match_of, value_at, position_of, entry_value}
+use Rattle.starlark_hash.specs.HashValue.{hashed, key_of, hash_of}
+use Rattle.starlark_hash.specs.Entries.{Entry, set_value_at, match_of, value_at, entry_value}
 use Rattle.starlark_hash.specs.Insert.{insert_entry}
 use Rattle.starlark_hash.proofs.EntryLemmas.{length-set_value_at}
-use Rattle.starlark_small.proofs.CallerLookup.{alike, written_here, written_there, pushed_there, pushed_here, under, apart, same_key, keys-set_value_at, and_false, is_some-found, found_is, none_found}
+use Rattle.starlark_small.proofs.CallerLookup.{alike, written_here, inserted_there, pushed_here, under, apart_other, same_key, keys-set_value_at, is_some-found, found_is, none_found}
 use Rattle.starlark_hash.specs.Lookup.{found, Writes, weight_of}
 use Rattle.starlark_small.specs.Lookup.{keys, total_of}
 use Rattle.starlark_small.specs.Map.{Map}
@@ -19,41 +18,21 @@ use Rattle.starlark_hash.specs.declared.no_room.NoRoom.{NoRoom}
 use Rattle.starlark_small.specs.Insert.{IsRefused, LeavesMemory, Inserts}
 use Rattle.starlark_small.proofs.CallerOwn.{own-inserted, own-same}
 
-module _ {K V : Type 0} (eq : K → K → Bool) (es : List (Entry K V)) (key : Hashed K) (value : V) where
-  -- a new key makes the list one longer, and stands last
-  pub length-insert_entry : length (insert_entry eq es key value) ≡ length es + (if is_some (match_of eq es key) then 0 else 1)
-  length-insert_entry = grind (arith, common_steps, length-set_value_at es)
-
-  module _ (laws : IsEquivalence eq) where
-    -- the key is found, with the value that was put, where it was or else last
-    pub value-insert_entry : value_at (insert_entry eq es key value) (match_of eq (insert_entry eq es key value) key) ≡ Some value
-    value-insert_entry = grind (arith, common_steps, same_key eq laws key, pushed_here (alike eq key) es (key, value), written_here (alike eq key) es)
-
-    -- every other key is found as before
-    pub value-insert_other : (hash : StarlarkHashValue) (passes : K → Bool) → ((x y : K) → passes x ≡ true → passes y ≡ eq x y) → under hash passes key ≡ false
-        → value_at (insert_entry eq es key value) (position_of hash passes (insert_entry eq es key value)) ≡ value_at es (position_of hash passes es)
-    value-insert_other hash passes one not = elim (match_of eq es key) as (λ o. match_of eq es key ≡ o
-        → value_at (option_map_or (λ i. set_value_at es i value) o (es ++ (key, value) ∷ [])) (position_of hash passes (option_map_or (λ i. set_value_at es i value) o (es ++ (key, value) ∷ []))) ≡ value_at es (position_of hash passes es)) [
-          | None ↦ λ at. pushed_there (under hash passes) es (key, value) not
-          | Some i ↦ λ at. written_there (under hash passes) (alike eq key) (apart eq laws key hash passes one not) es i value at
-        ] refl
-
-other_under : {K : Type 0} (eq : K → K → Bool) → IsEquivalence eq → (h : StarlarkHashValue) (key : Hashed K) (other : K) → eq (key_of key) other ≡ false → under h (eq other) key ≡ false
-other_under eq laws h key other not = ap (λ b. under h (λ _. b) key) (laws.symm other (key_of key) ∙ not) ∙ and_false _
-
 module _ {K V : Type 0} (eq : K → K → Bool) (laws : IsEquivalence eq) where
-  -- an insertion
+  -- an insertion: the key is found with the value that was put, and every other key as before
   pub writes-inserted : (old new : List (Entry K V)) (key : Hashed K) (value : V) → new ≡ insert_entry eq old key value → Writes eq (eq (key_of key)) (hash_of key) old new (Some value)
   unfolding found
-  writes-inserted old new key value put = (
-    ap (λ l. value_at l (match_of eq l key)) put ∙ value-insert_entry eq old key value laws,
-    λ h other not. ap (λ l. value_at l (position_of h (eq other) l)) put ∙ value-insert_other eq old key value laws h (eq other) (laws.congr other) (other_under eq laws h key other not),
+  writes-inserted old new key value put = rw put (
+    grind (arith, common_steps, same_key eq laws key, pushed_here (alike eq key) old (key, value), written_here (alike eq key) old),
+    λ h other not.
+        let apart = apart_other eq laws (hash_of key) (eq (key_of key)) (laws.congr (key_of key)) (hashed h other) not in
+        inserted_there (under h (eq other)) (alike eq key) apart old (match_of eq old key) (key, value) refl (apart key (same_key eq laws key)),
   )
 
 -- the length after an insertion
 pub length-put : {K V : Type 0} (eq : K → K → Bool) (old new : List (Entry K V)) (key : Hashed K) (value : V) → new ≡ insert_entry eq old key value
     → length new ≡ length old + (if is_some (found (eq (key_of key)) (hash_of key) old) then 0 else 1)
-length-put eq old new key value put = rw (← is_some-found (eq (key_of key)) (hash_of key) old) (ap length put ∙ length-insert_entry eq old key value)
+length-put eq old new key value put = rw put (grind (arith, common_steps, length-set_value_at old, is_some-found (eq (key_of key)) (hash_of key) old))
 
 -- an insertion of a new key, and the keys in order after any
 module _ {K V : Type 0} (eq : K → K → Bool) (old new : Map K V) (key : Hashed K) (value : V) (put : new.entries ≡ insert_entry eq old.entries key value) where
@@ -64,21 +43,18 @@ module _ {K V : Type 0} (eq : K → K → Bool) (old new : Map K V) (key : Hashe
   keys-put = rw put (grind (arith, common_steps, keys-set_value_at old.entries, is_some-found (eq (key_of key)) (hash_of key) old.entries))
 
 module _ {K V : Type 0} (measure : V → ℕ) where
-  total-cons : (e : Entry K V) (es : List (Entry K V)) → total_of measure (e ∷ es) ≡ measure (entry_value e) + total_of measure es
-  total-cons e es = sum_by-cons measure (entry_value e) (map entry_value es)
-
   total-pushed : (es : List (Entry K V)) (e : Entry K V) → total_of measure (es ++ e ∷ []) ≡ total_of measure es + measure (entry_value e)
   total-pushed es e = ap (sum_by measure) (map-append entry_value es (e ∷ [])) ∙ sum_by_push measure (map entry_value es) (entry_value e)
 
   total-set : (es : List (Entry K V)) (i : ℕ) (value : V) → i < length es → total_of measure (set_value_at es i value) + weight_of measure (option_map entry_value (slice_get es i)) ≡ total_of measure es + measure value
   total-set [] i value below = absurd (omega (arith, below))
-  total-set (e ∷ es) zero value below = omega (arith, total-cons (e.0, value) es, total-cons e es)
-  total-set (e ∷ es) (suc i) value below = omega (arith, total-cons e (set_value_at es i value), total-cons e es, total-set es i value (omega (arith, below)))
+  total-set (e ∷ es) zero value below = omega (arith, sum_by-cons measure)
+  total-set (e ∷ es) (suc i) value below = omega (arith, sum_by-cons measure, total-set es i value (omega (arith, below)))
 
   part-of : (es : List (Entry K V)) (i : ℕ) → weight_of measure (option_map entry_value (slice_get es i)) ≤ total_of measure es
   part-of [] i = omega arith
-  part-of (e ∷ es) zero = omega (arith, total-cons e es)
-  part-of (e ∷ es) (suc i) = omega (arith, total-cons e es, part-of es i)
+  part-of (e ∷ es) zero = omega (arith, sum_by-cons measure)
+  part-of (e ∷ es) (suc i) = omega (arith, sum_by-cons measure, part-of es i)
 
   -- a value that stands at an index is a part of what all weigh
   pub part-at : (es : List (Entry K V)) (index : Option ℕ) → weight_of measure (value_at es index) ≤ total_of measure es
@@ -120,3 +96,6 @@ module _ {K V B C : Type 0} (eq : K → K → Bool) (key : Hashed K) (value : V)
 
   pub inserts-err : (e : NoRoom B) (d : NoRoom C) → d.0 ≡ other → Inserts eq key value back before after (Err e) → Inserts eq key value other before after (Err d)
   inserts-err e d back_is is = assumption (is, back_is)
+
+-- what an insertion's answer that is handed on wants
+pub ruleset handed_on = (inserts-ok, inserts-err)

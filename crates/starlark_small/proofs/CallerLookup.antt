@@ -1,22 +1,15 @@
 -- What a look-up finds: the first index at which a list passes a test, as the list changes; the value under a key; and what the words
 -- on look-ups say.
-use Rattle.starlark_hash.proofs.Common.{common_steps, ◌≡◌, ℕ, suc, ◌<◌, Bool, true, false, cond, eqb, List, [], ◌∷◌, ◌++◌, length, get_or, position, Option, Some, None, refl, sym, ap, ◌∙◌, arith, zero, map, remove, is_some, slice_get, option_map, nat_tests, none-some, same_Some, ◌&&◌, IfSome, IsEquivalence, Bor}
+use Rattle.starlark_hash.proofs.Common.{common_steps, option_map_or, ◌≡◌, ℕ, suc, ◌<◌, Bool, true, false, eqb, List, [], ◌∷◌, ◌++◌, length, get_or, position, Option, Some, None, refl, sym, ap, ◌∙◌, arith, zero, map, is_some, slice_get, option_map, nat_tests, get_or_from_slice_get, slice_get-map, slice_get_within, ◌&&◌, IfSome, IsEquivalence, Bor}
 use Rattle.starlark_hash.proofs.PositionLemmas.{position-cons, position-within}
 use Rattle.starlark_hash.specs.declared.hashed.Hashed.{Hashed}
 use Rattle.starlark_hash.specs.declared.hash_value.StarlarkHashValue.{StarlarkHashValue}
 use Rattle.starlark_hash.specs.HashValue.{hash_of, key_of}
-use Rattle.starlark_hash.specs.Entries.{Entry, entry_key, set_value_at, value_at, match_of, position_of, entry_at, entry_value, pair_of, stands_under}
+use Rattle.starlark_hash.specs.Entries.{Entry, entry_key, set_value_at, with_value, without, value_at, match_of, position_of, entry_at, entry_value, pair_of, stands_under}
 use Rattle.starlark_hash.specs.Lookup.{found, found_key}
 use Rattle.std.specs.List.{IsAmong}
 use Rattle.starlark_small.specs.Lookup.{FindsEntry, FindsPair, FindsValue, NamesIndex, TellsPresence}
 use Rattle.starlark_small.specs.Map.{Map}
-
--- the first index in a list after its first item
-pub later : (b : Bool) (o : Option ℕ) (n : ℕ) → cond b (Some 0) (option_map suc o) ≡ Some (suc n) → o ≡ Some n
-later b o n e = grind (arith, common_steps)
-
-pub here : (b : Bool) (o : Option ℕ) → cond b (Some 0) (option_map suc o) ≡ Some 0 → b ≡ true
-here b o e = grind (arith, common_steps)
 
 module _ {X : Type 0} (p : X → Bool) where
   -- what was found is found in a longer list
@@ -55,29 +48,32 @@ module _ {K V : Type 0} (q : Hashed K → Bool) where
   written_here (e ∷ es) zero w at = grind (arith, common_steps, position-cons)
   written_here (e ∷ es) (suc i) w at = grind (arith, common_steps, position-cons, written_here es i w)
 
-  -- written, removed or pushed under another key
-  pub written_there : (p : Hashed K → Bool) → ((k : Hashed K) → p k ≡ true → q k ≡ false) → (es : List (Entry K V)) (i : ℕ) (w : V) → position (λ e. p e.0) es ≡ Some i
-      → value_at (set_value_at es i w) (position tests (set_value_at es i w)) ≡ value_at es (position tests es)
-  written_there p apart [] i w at = refl
-  written_there p apart (e ∷ es) zero w at = grind (arith, common_steps, position-cons, apart e.0)
-  written_there p apart (e ∷ es) (suc i) w at = grind (arith, common_steps, position-cons, written_there p apart es i w)
-
-  pub removed_there : (p : Hashed K → Bool) → ((k : Hashed K) → p k ≡ true → q k ≡ false) → (es : List (Entry K V)) (i : ℕ) → position (λ e. p e.0) es ≡ Some i
-      → value_at (remove es i) (position tests (remove es i)) ≡ value_at es (position tests es)
-  removed_there p apart [] i at = cc
-  removed_there p apart (e ∷ es) zero at = grind (arith, common_steps, position-cons, apart e.0)
-  removed_there p apart (e ∷ es) (suc i) at = grind (arith, common_steps, position-cons, removed_there p apart es i)
-
+  -- pushed under another key; written, removed or inserted under one
   pub pushed_there : (es : List (Entry K V)) (e : Entry K V) → q e.0 ≡ false → value_at (es ++ e ∷ []) (position tests (es ++ e ∷ [])) ≡ value_at es (position tests es)
   pushed_there [] e not = grind (arith, common_steps, position-cons)
   pushed_there (d ∷ es) e not = grind (arith, common_steps, position-cons, pushed_there es e not)
 
+  module _ (p : Hashed K → Bool) (apart : (k : Hashed K) → p k ≡ true → q k ≡ false) where
+    pub written_there : (es : List (Entry K V)) (index : Option ℕ) (w : V) → position (λ e. p e.0) es ≡ index → value_at (with_value es index w) (position tests (with_value es index w)) ≡ value_at es (position tests es)
+    written_there es None w at = refl
+    written_there [] (Some i) w at = refl
+    written_there (e ∷ es) (Some zero) w at = grind (arith, common_steps, position-cons, apart e.0)
+    written_there (e ∷ es) (Some (suc i)) w at = grind (arith, common_steps, position-cons, written_there es (Some i) w)
+
+    pub removed_there : (es : List (Entry K V)) (index : Option ℕ) → position (λ e. p e.0) es ≡ index → value_at (without es index) (position tests (without es index)) ≡ value_at es (position tests es)
+    removed_there es None at = refl
+    removed_there [] (Some i) at = cc
+    removed_there (e ∷ es) (Some zero) at = grind (arith, common_steps, position-cons, apart e.0)
+    removed_there (e ∷ es) (Some (suc i)) at = grind (arith, common_steps, position-cons, removed_there es (Some i))
+
+    pub inserted_there : (es : List (Entry K V)) (index : Option ℕ) (e : Entry K V) → position (λ e. p e.0) es ≡ index → q e.0 ≡ false
+        → value_at (option_map_or (λ i. set_value_at es i e.1) index (es ++ e ∷ [])) (position tests (option_map_or (λ i. set_value_at es i e.1) index (es ++ e ∷ []))) ≡ value_at es (position tests es)
+    inserted_there es None e at not = pushed_there es e not
+    inserted_there es (Some i) e at not = written_there es (Some i) e.1 at
+
   pub pushed_here : (es : List (Entry K V)) (e : Entry K V) → position tests es ≡ None → q e.0 ≡ true → value_at (es ++ e ∷ []) (position tests (es ++ e ∷ [])) ≡ Some e.1
   pushed_here [] e none does = grind (arith, common_steps, position-cons)
   pushed_here (d ∷ es) e none does = grind (arith, common_steps, position-cons, pushed_here es e)
-
-pub both : (a b : Bool) → (a && b) ≡ true → (a ≡ true) × (b ≡ true)
-both a b e = grind (arith, common_steps)
 
 pub and_false : (b : Bool) → (b && false) ≡ false
 and_false b = grind (arith, common_steps)
@@ -86,20 +82,13 @@ and_false b = grind (arith, common_steps)
 abbrev pub under : {K : Type 0} → StarlarkHashValue → (K → Bool) → Hashed K → Bool
 under hash passes k = eqb (hash_of k).0 hash.0 && passes (key_of k)
 
--- where one of two tests that respect equality passes and the other fails, they pass no key both
-pub apart : {K : Type 0} (eq : K → K → Bool) → IsEquivalence eq → (key : Hashed K) (hash : StarlarkHashValue) (passes : K → Bool)
-    → ((x y : K) → passes x ≡ true → passes y ≡ eq x y) → under hash passes key ≡ false → (k : Hashed K) → alike eq key k ≡ true → under hash passes k ≡ false
-apart eq laws key hash passes one not k same =
-    grind (arith, nat_tests, common_steps, one (key_of k) (key_of key), laws.symm (key_of k) (key_of key))
-
 -- a key stands where it was put
 pub same_key : {K : Type 0} (eq : K → K → Bool) → IsEquivalence eq → (key : Hashed K) → alike eq key key ≡ true
-same_key eq laws key = ap (λ b. b && eq (key_of key) (key_of key)) (refl_number (hash_of key).0) ∙ laws.refl (key_of key)
+same_key eq laws key = grind (arith, nat_tests, laws.refl (key_of key))
 
 pub keys-set_value_at : {K V : Type 0} (es : List (Entry K V)) (i : ℕ) (value : V) → map entry_key (set_value_at es i value) ≡ map entry_key es
-keys-set_value_at [] i value = refl
-keys-set_value_at (e ∷ es) zero value = refl
 keys-set_value_at (e ∷ es) (suc i) value = ap (λ l. entry_key e ∷ l) (keys-set_value_at es i value)
+keys-set_value_at es i value = refl
 
 -- a query that passes a key under its hash finds what the key finds
 pub position_of-match : {K V : Type 0} (eq : K → K → Bool) (passes : K → Bool) → ((x y : K) → passes x ≡ true → passes y ≡ eq x y) → (key : Hashed K) → passes (key_of key) ≡ true
@@ -137,38 +126,24 @@ unfolding found
 empty-found es none test hash = ap (λ l. value_at l (position_of hash test l)) none
 
 module _ {K V : Type 0} where
-  among : (es : List (Entry K V)) (i : ℕ) (v : V) → option_map entry_value (slice_get es i) ≡ Some v → IsAmong (map entry_value es) v
-  among [] i v is = absurd (none-some v is)
-  among (e ∷ es) zero v is = (0, (omega arith, sym (same_Some (entry_value e) v is)))
-  among (e ∷ es) (suc i) v is = let later = among es i v is in (suc later.0, (omega (arith, later.1.0), later.1.1))
-
   value-among : (es : List (Entry K V)) (index : Option ℕ) (o : Option V) → o ≡ value_at es index → IfSome o (λ v. IsAmong (map entry_value es) v)
   value-among es index None is = tt
-  value-among es None (Some v) is = absurd (none-some v (sym is))
-  value-among es (Some i) (Some v) is = among es i v (sym is)
-
-module _ {K V T : Type 0} (a : T → K) (b : T → V) where
-  parts : (o : Option T) (e : Option (Entry K V)) → option_map (λ x. (a x, b x)) o ≡ option_map pair_of e → (option_map a o ≡ option_map entry_key e) × (option_map b o ≡ option_map entry_value e)
-  parts o e is = (grind (arith, common_steps), grind (arith, common_steps))
-
-  pair-found : (test : K → Bool) (hash : StarlarkHashValue) (es : List (Entry K V)) (o : Option T) → option_map (λ x. (a x, b x)) o ≡ option_map pair_of (entry_at es (position_of hash test es))
-      → (option_map a o ≡ found_key test hash es) × (option_map b o ≡ found test hash es)
-  unfolding found found_key
-  pair-found test hash es o is = parts o (entry_at es (position_of hash test es)) is
-
-option_map-id : {A B : Type 0} (o : Option (A × B)) → option_map (λ (p : A × B). (p.0, p.1)) o ≡ o
-option_map-id o = grind (arith, common_steps)
+  value-among es None (Some v) is = cc
+  value-among es (Some i) (Some v) is =
+      let at : slice_get (map entry_value es) i ≡ Some v = slice_get-map entry_value es i ∙ sym is in
+      (i, (slice_get_within (map entry_value es) i v at, sym (get_or_from_slice_get (map entry_value es) i v v at)))
 
 module _ {K V : Type 0} (test : K → Bool) (hash : StarlarkHashValue) (m : Map K V) where
   abbrev there : Option ℕ
   there = position_of hash test m.entries
 
-  named-within : (o : Option ℕ) → o ≡ there → IfSome o (λ i. i < length m.entries)
-  named-within o is = grind (arith, common_steps, position-within (stands_under hash test) m.entries)
-
   -- the index that a test names is where a value is found
   pub names-index : (o : Option ℕ) → o ≡ there → NamesIndex test hash m o
-  names-index o is = record { index = is; found = ap is_some is ∙ is_some-found test hash m.entries; within = named-within o is }
+  names-index o is = record {
+    index = is;
+    found = ap is_some is ∙ is_some-found test hash m.entries;
+    within = grind (arith, common_steps, position-within (stands_under hash test) m.entries);
+  }
 
   -- there is something where the test names an index
   pub tells-presence : (b : Bool) → b ≡ is_some there → TellsPresence test hash m b
@@ -184,11 +159,12 @@ module _ {K V : Type 0} (test : K → Bool) (hash : StarlarkHashValue) (m : Map 
   }
 
   pub finds-pair : (o : Option (K × V)) → o ≡ option_map pair_of (entry_at m.entries there) → FindsPair test hash m o
-  finds-pair o is =
-      let parts = pair-found (λ (p : K × V). p.0) (λ p. p.1) test hash m.entries o (option_map-id o ∙ is) in
-      record { pair = is; stored = parts.0; found = parts.1 }
+  unfolding found found_key
+  finds-pair o is = record { pair = is; stored = grind (arith, common_steps); found = grind (arith, common_steps) }
 
   pub finds-entry : (o : Option (ℕ × Bor K × Bor V)) → option_map (λ e. e.0) o ≡ there → option_map (λ e. (e.1.now, e.2.now)) o ≡ option_map pair_of (entry_at m.entries there) → FindsEntry test hash m o
-  finds-entry o at is =
-      let parts = pair-found (λ (e : ℕ × Bor K × Bor V). e.1.now) (λ e. e.2.now) test hash m.entries o is in
-      record { index = at; pair = is; stored = parts.0; found = parts.1 }
+  unfolding found found_key
+  finds-entry o at is = record { index = at; pair = is; stored = grind (arith, common_steps); found = grind (arith, common_steps) }
+
+-- what a look-up wants
+pub ruleset look_ups = (names-index, tells-presence, finds-value, finds-pair, finds-entry)

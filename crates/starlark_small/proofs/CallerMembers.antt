@@ -1,24 +1,19 @@
 -- What holds of all keys, values and pairs of a map, and what is among them, after an insertion, a removal and a write by index.
 -- Each takes the record that is the call's clause.
-use Rattle.starlark_hash.proofs.Common.{set, length-map, get_or-map, get_or-set_same, All-append, All-contains, All-weaker, common_steps, ◌≡◌, ℕ, zero, suc, ◌<◌, Bool, true, eqb, List, [], ◌∷◌, ◌++◌, length, map, get_or, remove, Ok, Option, Some, None, refl, sym, ap, subst, ◌∙◌, arith, All, Contains, option_map_or, IsEquivalence, map-append, All-push}
-use Rattle.std.proofs.Math.ListN.{take, drop}
-use Rattle.std.proofs.lemmas.List.{length-set}
-use Rattle.std.proofs.lemmas.List.Elements.{All-take, All-drop, All-set, All-contains_itself}
-use Rattle.std.proofs.lemmas.Simd.{map-map}
-use Rattle.starlark_vecmap.proofs.Views.{map-remove}
+use Rattle.starlark_hash.proofs.Common.{and_parts, take, drop, length-set, set, length-map, get_or-set_same, All-append, All-contains, All-weaker, ◌≡◌, ℕ, suc, ◌<◌, Bool, true, eqb, List, [], ◌∷◌, ◌++◌, length, map, get_or, remove, Ok, Option, Some, None, refl, sym, ap, subst, arith, All, Contains, option_map_or, IsEquivalence, map-append, All-push}
+use Rattle.std.proofs.lemmas.List.Elements.{All-take, All-drop, All-set, All-contains_itself, Contains-append_left, Contains-push}
 use mathlib.Core.Logic.{◌⊎◌, inl, inr}
-use Rattle.std.proofs.lemmas.List.Elements.{Contains-append_left, Contains-push}
+use Rattle.starlark_vecmap.proofs.Views.{map-remove}
 use Rattle.starlark_hash.specs.declared.hashed.Hashed.{Hashed}
 use Rattle.starlark_hash.specs.declared.hash_value.StarlarkHashValue.{StarlarkHashValue}
 use Rattle.starlark_hash.specs.HashValue.{hash_of, key_of}
 use Rattle.starlark_hash.specs.Entries.{Entry, entry_key, entry_value, pair_of, match_of, position_of, set_value_at, with_value}
-use Rattle.starlark_hash.proofs.EntryLemmas.{length-set_value_at}
 use Rattle.starlark_hash.proofs.PositionLemmas.{position-passes, position-within}
 use Rattle.starlark_small.specs.Lookup.{keys}
 use Rattle.starlark_small.specs.Remove.{Removes, RemovesAt}
 use Rattle.starlark_small.specs.Insert.{Inserts}
 use Rattle.starlark_small.specs.Map.{Map}
-use Rattle.starlark_small.proofs.CallerLookup.{alike, both, keys-set_value_at}
+use Rattle.starlark_small.proofs.CallerLookup.{alike, keys-set_value_at}
 
 -- what is in a list was in one of which all that holds holds of this list too
 from-before : {X : Type 0} (xs ys : List X) (y : X) → ((P : X → Type 0) → All P xs → All P ys) → Contains ys y → Contains xs y
@@ -29,59 +24,36 @@ cases-from : {X : Type 0} (xs ys : List X) (x y : X) → ((P : X → Type 0) →
 cases-from xs ys x y all at =
     let P = λ (z : _). Contains xs z ⊎ (x ≡ z) in All-contains P ys y (all P (All-weaker (Contains xs) P (λ z. inl) xs (All-contains_itself xs)) (inr refl)) at
 
-set-there : {X : Type 0} (xs : List X) (i : ℕ) (x : X) → i < length xs → Contains (set xs i x) x
-set-there xs i x below = (i, omega (arith, length-set xs i x), get_or-set_same xs i x x below)
-
--- a removal brings nothing new, whatever is read of each entry: its key, its value or both
-module _ {E X : Type 0} (f : E → X) where
-  all-without : (P : X → Type 0) (es : List E) (index : Option ℕ) → All P (map f es) → All P (map f (option_map_or (remove es) index es))
+-- whatever is read of each entry: its key, its value or both
+module _ {K V X : Type 0} (f : Entry K V → X) where
+  -- a removal brings nothing new
+  all-without : (P : X → Type 0) (es : List (Entry K V)) (index : Option ℕ) → All P (map f es) → All P (map f (option_map_or (remove es) index es))
   all-without P es None all = all
   all-without P es (Some i) all = rw (map-remove f es i) (All-append P (take i (map f es)) (drop (suc i) (map f es)) (All-take P i (map f es) all) (All-drop P (suc i) (map f es) all))
 
   -- what is pushed is the last
-  all-pushed : (P : X → Type 0) (es : List E) (e : E) → All P (map f es) → P (f e) → All P (map f (es ++ e ∷ []))
-  all-pushed P es e all p = subst (All P) (sym (map-append f es (e ∷ []))) (All-push P (map f es) (f e) all p)
+  all-pushed : (P : X → Type 0) (es : List (Entry K V)) (e : Entry K V) → All P (map f es) → P (f e) → All P (map f (es ++ e ∷ []))
+  all-pushed P es e all p = rw (map-append f es (e ∷ [])) (All-push P (map f es) (f e) all p)
 
-  one-pushed : (es : List E) (e : E) → Contains (map f (es ++ e ∷ [])) (f e)
-  one-pushed es e = subst (λ l. Contains l (f e)) (sym (map-append f es (e ∷ []))) (Contains-push (map f es) (f e))
+  one-pushed : (es : List (Entry K V)) (e : Entry K V) → Contains (map f (es ++ e ∷ [])) (f e)
+  one-pushed es e = rw (map-append f es (e ∷ [])) (Contains-push (map f es) (f e))
 
-  others-pushed : (es : List E) (e : E) (x : X) → Contains (map f es) x → Contains (map f (es ++ e ∷ [])) x
-  others-pushed es e x at = subst (λ l. Contains l x) (sym (map-append f es (e ∷ []))) (Contains-append_left (map f es) (f e ∷ []) x at)
+  others-pushed : (es : List (Entry K V)) (e : Entry K V) (x : X) → Contains (map f es) x → Contains (map f (es ++ e ∷ [])) x
+  others-pushed es e x at = rw (map-append f es (e ∷ [])) (Contains-append_left (map f es) (f e ∷ []) x at)
 
-module _ {K V : Type 0} where
-  -- a value that is written, as the values and the pairs of a list show it
-  values-set : (es : List (Entry K V)) (i : ℕ) (w : V) → map entry_value (set_value_at es i w) ≡ set (map entry_value es) i w
-  values-set [] i w = refl
-  values-set (e ∷ es) zero w = refl
-  values-set (e ∷ es) (suc i) w = ap (λ l. entry_value e ∷ l) (values-set es i w)
+  -- a value that is written stands at its key
+  map-set_value_at : (es : List (Entry K V)) (i : ℕ) (w : V) (d : Entry K V) → map f (set_value_at es i w) ≡ set (map f es) i (f ((get_or es i d).0, w))
+  map-set_value_at (e ∷ es) (suc i) w d = ap (λ l. f e ∷ l) (map-set_value_at es i w d)
+  map-set_value_at es i w d = refl
 
-  pairs-set : (es : List (Entry K V)) (i : ℕ) (w : V) (d : Entry K V) → map pair_of (set_value_at es i w) ≡ set (map pair_of es) i (entry_key (get_or es i d), w)
-  pairs-set [] i w d = refl
-  pairs-set (e ∷ es) zero w d = refl
-  pairs-set (e ∷ es) (suc i) w d = ap (λ l. pair_of e ∷ l) (pairs-set es i w d)
+  all-written : (P : X → Type 0) (es : List (Entry K V)) (i : ℕ) (w : V) → All P (map f es) → ((d : Entry K V) → P (f ((get_or es i d).0, w))) → All P (map f (set_value_at es i w))
+  all-written P [] i w all p = all
+  all-written P (e ∷ es) i w all p = rw (map-set_value_at (e ∷ es) i w e) (All-set P (map f (e ∷ es)) i (f ((get_or (e ∷ es) i e).0, w)) (p e) all)
 
-  all-written : (P : V → Type 0) (es : List (Entry K V)) (i : ℕ) (w : V) → All P (map entry_value es) → P w → All P (map entry_value (set_value_at es i w))
-  all-written P es i w all p = rw (values-set es i w) (All-set P (map entry_value es) i w p all)
-
-  one-written : (es : List (Entry K V)) (i : ℕ) (w : V) → i < length es → Contains (map entry_value (set_value_at es i w)) w
-  one-written es i w below = rw (values-set es i w) (set-there (map entry_value es) i w (omega (arith, length-map es entry_value)))
-
-  all-pairs-written : (P : K × V → Type 0) (es : List (Entry K V)) (i : ℕ) (w : V) → All P (map pair_of es) → ((d : Entry K V) → P (entry_key (get_or es i d), w)) → All P (map pair_of (set_value_at es i w))
-  all-pairs-written P [] i w all p = all
-  all-pairs-written P (e ∷ es) i w all p = rw (pairs-set (e ∷ es) i w e) (All-set P (map pair_of (e ∷ es)) i (entry_key (get_or (e ∷ es) i e), w) (p e) all)
-
-  pair-written : (es : List (Entry K V)) (i : ℕ) (w : V) (d : Entry K V) → i < length es → Contains (map pair_of (set_value_at es i w)) (entry_key (get_or es i d), w)
-  pair-written es i w d below = rw (pairs-set es i w d) (set-there (map pair_of es) i (entry_key (get_or es i d), w) (omega (arith, length-map es pair_of)))
-
-  of-pair : (es : List (Entry K V)) (p : K × V) → Contains (map pair_of es) p → Contains (map entry_key es) p.0
-  of-pair es p (k, lt, is) = (
-    k,
-    omega (arith, length-map es pair_of, length-map es entry_key),
-    ap (λ l. get_or l k p.0) (sym (map-map (λ (q : K × V). q.0) pair_of es)) ∙ get_or-map (λ (q : K × V). q.0) (map pair_of es) k p p.0 lt ∙ ap (λ (q : K × V). q.0) is,
-  )
-
-  same-keys : (es : List (Entry K V)) (index : Option ℕ) (w : V) → map entry_key (with_value es index w) ≡ map entry_key es
-  same-keys es index w = grind (arith, common_steps, keys-set_value_at es)
+  one-written : (es : List (Entry K V)) (i : ℕ) (w : V) (d : Entry K V) → i < length es → Contains (map f (set_value_at es i w)) (f ((get_or es i d).0, w))
+  one-written es i w d below =
+      let x = f ((get_or es i d).0, w) in
+      rw (map-set_value_at es i w d) (i, omega (arith, length-map es f, length-set (map f es) i x), get_or-set_same (map f es) i x x (omega (arith, length-map es f)))
 
 -- An insertion puts in a new key last, or the value at a key that stays.
 module _ {K V B : Type 0} {eq : K → K → Bool} {key : Hashed K} {value : V} {back : B} {before after : Map K V} {was : Option V} (inserts : Inserts eq key value back before after (Ok was)) where
@@ -97,7 +69,7 @@ module _ {K V B : Type 0} {eq : K → K → Bool} {key : Hashed K} {value : V} {
 
   -- what stands where the key was found is equal to it
   equal-at : (i : ℕ) (d : Entry K V) → match_of eq before.entries key ≡ Some i → eq (key_of key) (entry_key (get_or before.entries i d)) ≡ true
-  equal-at i d at = (both (eqb (hash_of (get_or before.entries i d).0).0 (hash_of key).0) (eq (key_of key) (entry_key (get_or before.entries i d))) (position-passes (λ e. alike eq key e.0) before.entries i d at)).1
+  equal-at i d at = (and_parts (eqb (hash_of (get_or before.entries i d).0).0 (hash_of key).0) (eq (key_of key) (entry_key (get_or before.entries i d))) (position-passes (λ e. alike eq key e.0) before.entries i d at)).1
 
   pub All-keys-inserts : (P : K → Type 0) → All P (keys before) → P (key_of key) → All P (keys after)
   All-keys-inserts P all p = by-index (λ es. All P (map entry_key es))
@@ -107,18 +79,22 @@ module _ {K V B : Type 0} {eq : K → K → Bool} {key : Hashed K} {value : V} {
   pub All-values-inserts : (P : V → Type 0) → All P (map entry_value before.entries) → P value → All P (map entry_value after.entries)
   All-values-inserts P all p = by-index (λ es. All P (map entry_value es))
       (all-pushed entry_value P before.entries (key, value) all p)
-      (λ i at. all-written P before.entries i value all p)
+      (λ i at. all-written entry_value P before.entries i value all (λ d. p))
 
   -- the stored key is the one that was there, if an equal one was
   pub All-pairs-inserts : IsEquivalence eq → (P : K × V → Type 0) → All P (map pair_of before.entries) → ((k : K) → eq (key_of key) k ≡ true → P (k, value)) → All P (map pair_of after.entries)
   All-pairs-inserts laws P all p = by-index (λ es. All P (map pair_of es))
       (all-pushed pair_of P before.entries (key, value) all (p (key_of key) (laws.refl (key_of key))))
-      (λ i at. all-pairs-written P before.entries i value all (λ d. p (entry_key (get_or before.entries i d)) (equal-at i d at)))
+      (λ i at. all-written pair_of P before.entries i value all (λ d. p (entry_key (get_or before.entries i d)) (equal-at i d at)))
+
+  -- what is read of the entry is there, where it is the same at the key that stays
+  one-inserts : {X : Type 0} (f : Entry K V → X) → ((i : ℕ) → match_of eq before.entries key ≡ Some i → f ((get_or before.entries i (key, value)).0, value) ≡ f (key, value)) → Contains (map f after.entries) (f (key, value))
+  one-inserts f same = by-index (λ es. Contains (map f es) (f (key, value)))
+      (one-pushed f before.entries (key, value))
+      (λ i at. subst (Contains (map f (set_value_at before.entries i value))) (same i at) (one-written f before.entries i value (key, value) (within i at)))
 
   pub Contains-values-inserts : Contains (map entry_value after.entries) value
-  Contains-values-inserts = by-index (λ es. Contains (map entry_value es) value)
-      (one-pushed entry_value before.entries (key, value))
-      (λ i at. one-written before.entries i value (within i at))
+  Contains-values-inserts = one-inserts entry_value (λ i at. refl)
 
   pub Contains-values-inserts_cases : (v : V) → Contains (map entry_value after.entries) v → Contains (map entry_value before.entries) v ⊎ (value ≡ v)
   Contains-values-inserts_cases v = cases-from (map entry_value before.entries) (map entry_value after.entries) value v All-values-inserts
@@ -127,21 +103,21 @@ module _ {K V B : Type 0} {eq : K → K → Bool} {key : Hashed K} {value : V} {
   pub Contains-keys-inserts_other : (k : K) → Contains (keys before) k → Contains (keys after) k
   Contains-keys-inserts_other k there = by-index (λ es. Contains (map entry_key es) k)
       (others-pushed entry_key before.entries (key, value) k there)
-      (λ i at. subst (λ ks. Contains ks k) (sym (keys-set_value_at before.entries i value)) there)
+      (λ i at. rw (keys-set_value_at before.entries i value) there)
 
   pub Contains-keys-inserts_cases : (k : K) → Contains (keys after) k → Contains (keys before) k ⊎ (key_of key ≡ k)
   Contains-keys-inserts_cases k = cases-from (keys before) (keys after) (key_of key) k All-keys-inserts
 
   -- where equal keys are the same, as numbers, the key and its pair are among the new ones
   module _ (exact : (x y : K) → eq x y ≡ true → x ≡ y) where
+    same-at : (i : ℕ) → match_of eq before.entries key ≡ Some i → entry_key (get_or before.entries i (key, value)) ≡ key_of key
+    same-at i at = sym (exact (key_of key) (entry_key (get_or before.entries i (key, value))) (equal-at i (key, value) at))
+
     pub Contains-pairs-inserts : Contains (map pair_of after.entries) (key_of key, value)
-    Contains-pairs-inserts = by-index (λ es. Contains (map pair_of es) (key_of key, value))
-        (one-pushed pair_of before.entries (key, value))
-        (λ i at. subst (λ k. Contains (map pair_of (set_value_at before.entries i value)) (k, value)) (sym (exact (key_of key) (entry_key (get_or before.entries i (key, value))) (equal-at i (key, value) at)))
-        (pair-written before.entries i value (key, value) (within i at)))
+    Contains-pairs-inserts = one-inserts pair_of (λ i at. ap (λ k. (k, value)) (same-at i at))
 
     pub Contains-keys-inserts : Contains (keys after) (key_of key)
-    Contains-keys-inserts = of-pair after.entries (key_of key, value) Contains-pairs-inserts
+    Contains-keys-inserts = one-inserts entry_key same-at
 
 -- A removal brings nothing new, whatever is read of each entry: `entry_key`, `entry_value` or `pair_of`.
 module _ {K V X : Type 0} (f : Entry K V → X) {eq : K → K → Bool} {old new : Map K V} where
@@ -161,23 +137,11 @@ module _ {K V X : Type 0} (f : Entry K V → X) {eq : K → K → Bool} {old new
 
 -- A value that is written at an index, as a loan of `get_mut` leaves it, moves no key.
 module _ {K V : Type 0} (old new : Map K V) (index : Option ℕ) (w : V) (is : new ≡ record old { entries = with_value old.entries index w }) where
-  writes : new.entries ≡ with_value old.entries index w
-  writes = ap (λ (m : Map K V). m.entries) is
-
-  pub All-keys-writes : (P : K → Type 0) → All P (keys old) → All P (keys new)
-  All-keys-writes P all = subst (All P) (sym (ap (map entry_key) writes ∙ same-keys old.entries index w)) all
-
   pub All-values-writes : (P : V → Type 0) → All P (map entry_value old.entries) → P w → All P (map entry_value new.entries)
-  All-values-writes P all p = rw writes (elim index as (λ o. All P (map entry_value (with_value old.entries o w))) [ None ↦ all | Some i ↦ all-written P old.entries i w all p ])
-
-  pub Contains-keys-writes : (k : K) → Contains (keys old) k → Contains (keys new) k
-  Contains-keys-writes k at = subst (λ ks. Contains ks k) (sym (ap (map entry_key) writes ∙ same-keys old.entries index w)) at
+  All-values-writes P all p = rw (ap (λ (m : Map K V). m.entries) is) (elim index as (λ o. All P (map entry_value (with_value old.entries o w))) [ None ↦ all | Some i ↦ all-written entry_value P old.entries i w all (λ d. p) ])
 
   pub Contains-values-writes_cases : (v : V) → Contains (map entry_value new.entries) v → Contains (map entry_value old.entries) v ⊎ (w ≡ v)
   Contains-values-writes_cases v = cases-from (map entry_value old.entries) (map entry_value new.entries) w v All-values-writes
 
-  pub length-writes : length new.entries ≡ length old.entries
-  length-writes = grind (arith, common_steps, writes, length-set_value_at old.entries)
-
 -- all of these
-pub ruleset members = (All-keys-inserts, All-values-inserts, All-pairs-inserts, Contains-values-inserts, Contains-values-inserts_cases, Contains-keys-inserts, Contains-keys-inserts_other, Contains-keys-inserts_cases, Contains-pairs-inserts, All-removes, Contains-removes, All-removes_at, Contains-removes_at, All-keys-writes, All-values-writes, Contains-keys-writes, Contains-values-writes_cases, length-writes)
+pub ruleset members = (All-keys-inserts, All-values-inserts, All-pairs-inserts, Contains-values-inserts, Contains-values-inserts_cases, Contains-keys-inserts, Contains-keys-inserts_other, Contains-keys-inserts_cases, Contains-pairs-inserts, All-removes, Contains-removes, All-removes_at, Contains-removes_at, All-values-writes, Contains-values-writes_cases)

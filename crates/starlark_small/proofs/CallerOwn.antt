@@ -1,6 +1,5 @@
 -- Which lists have each key under its own hash: what insertions, removals and moves leave of them.
-use Rattle.std.proofs.Math.ListN.{take, drop}
-use Rattle.starlark_hash.proofs.Common.{All-append, ◌<◌, length, get_or, ◌≡◌, ℕ, zero, suc, Bool, List, [], ◌∷◌, ◌++◌, map, remove, Some, None, IsPermutation, refl, sym, ◌∙◌, subst, arith, Bor, MutBor, Mut, HashWrites, All, AllZip, option_map_or, All-cons, All-head, All-push, All-tail, AllZip-get_or, length_all_zip, All-permutation}
+use Rattle.starlark_hash.proofs.Common.{take, drop, All-append, ◌<◌, length, get_or, ◌≡◌, ℕ, suc, Bool, List, [], ◌∷◌, ◌++◌, map, remove, Some, None, IsPermutation, refl, sym, ◌∙◌, subst, arith, Bor, MutBor, Mut, HashWrites, All, AllZip, option_map_or, All-head, All-map, get_or-map, length-map, All-push, All-tail, AllZip-get_or, length_all_zip, All-permutation}
 use Rattle.std.proofs.lemmas.List.Elements.{All-take, All-drop}
 use Rattle.starlark_hash.specs.declared.hashed.Hashed.{Hashed}
 use Rattle.starlark_hash.specs.Hasher.{own_hash}
@@ -8,10 +7,13 @@ use Rattle.starlark_hash.specs.HashValue.{hash_of, key_of}
 use Rattle.starlark_hash.specs.Clone.{IsEntryClone}
 use Rattle.starlark_hash.specs.Entries.{Entry, entry_hash, entry_key, match_of, set_value_at}
 use Rattle.starlark_hash.specs.Insert.{insert_entry}
+use Rattle.starlark_hash.proofs.EntryLemmas.{length-set_value_at, set_value_at-key}
 use Rattle.starlark_hash.specs.Retain.{CalledAtEntry, Retains}
 use Rattle.starlark_vecmap.specs.EntryList.{with_values}
+use Rattle.starlark_vecmap.proofs.ValuesWritten.{hashed_keys-with_values}
 use Rattle.starlark_small.specs.Lookup.{AreOwnEntries}
 use Rattle.starlark_small.specs.Collect.{insert_all, own_entry}
+use Rattle.starlark_small.proofs.CallerLookup.{empty-found}
 use Rattle.starlark_small.proofs.Retained.{all_retained}
 
 module _ {K V : Type 0} (feeds : K → HashWrites) where
@@ -19,32 +21,16 @@ module _ {K V : Type 0} (feeds : K → HashWrites) where
   abbrev is_own : Entry K V → Type 0
   is_own e = entry_hash e ≡ own_hash feeds (entry_key e)
 
-  set_own : (es : List (Entry K V)) (i : ℕ) (w : V) → All is_own es → All is_own (set_value_at es i w)
-  set_own [] i w own = own
-  set_own (e ∷ es) zero w own = All-cons is_own (e.0, w) es (All-head is_own e es own) (All-tail is_own e es own)
-  set_own (e ∷ es) (suc i) w own = All-cons is_own e (set_value_at es i w) (All-head is_own e es own) (set_own es i w (All-tail is_own e es own))
-
   insert_own : (eq : K → K → Bool) (es : List (Entry K V)) (key : Hashed K) (value : V) → hash_of key ≡ own_hash feeds (key_of key) → All is_own es → All is_own (insert_entry eq es key value)
   insert_own eq es key value is own = elim (match_of eq es key) as (λ o. All is_own (option_map_or (λ i. set_value_at es i value) o (es ++ (key, value) ∷ []))) [
     | None ↦ All-push is_own es (key, value) own is
-    | Some i ↦ set_own es i value own
+    | Some i ↦ λ k d below. simp set_value_at-key (own k d (omega (arith, length-set_value_at es i value)))
   ]
-
-  insert_all_own : (eq : K → K → Bool) (items : List (K × V)) (es : List (Entry K V)) → All is_own es → All is_own (insert_all eq es (map (own_entry feeds) items))
-  insert_all_own eq [] es own = own
-  insert_all_own eq (x ∷ xs) es own =
-      let e = own_entry feeds x in
-      insert_all_own eq xs (insert_entry eq es e.0 e.1) (insert_own eq es e.0 e.1 refl own)
 
   insert_entries_own : (eq : K → K → Bool) (items es : List (Entry K V)) → All is_own items → All is_own es → All is_own (insert_all eq es items)
   insert_entries_own eq [] es all own = own
   insert_entries_own eq (x ∷ xs) es all own =
       insert_entries_own eq xs (insert_entry eq es x.0 x.1) (All-tail is_own x xs all) (insert_own eq es x.0 x.1 (All-head is_own x xs all) own)
-
-  written_own : (es ws : List (Entry K V)) → All is_own es → All is_own (with_values es ws)
-  written_own [] ws own = own
-  written_own (e ∷ es) [] own = All-cons is_own e (with_values es []) (All-head is_own e es own) (written_own es [] (All-tail is_own e es own))
-  written_own (e ∷ es) (w ∷ ws) own = All-cons is_own (e.0, w.1) (with_values es ws) (All-head is_own e es own) (written_own es ws (All-tail is_own e es own))
 
   pub own-empty : (es : List (Entry K V)) → es ≡ [] → AreOwnEntries feeds es
   unfolding AreOwnEntries
@@ -60,7 +46,7 @@ module _ {K V : Type 0} (feeds : K → HashWrites) where
 
   pub own-inserted_all : (eq : K → K → Bool) (old new : List (Entry K V)) (items : List (K × V)) → new ≡ insert_all eq old (map (own_entry feeds) items) → AreOwnEntries feeds old → AreOwnEntries feeds new
   unfolding AreOwnEntries
-  own-inserted_all eq old new items put own = subst (All is_own) (sym put) (insert_all_own eq items old own)
+  own-inserted_all eq old new items put own = rw put (insert_entries_own eq (map (own_entry feeds) items) old (All-map is_own (own_entry feeds) items (λ k d below. refl)) own)
 
   pub own-inserted_entries : (eq : K → K → Bool) (new items : List (Entry K V)) → new ≡ insert_all eq [] items → AreOwnEntries feeds items → AreOwnEntries feeds new
   unfolding AreOwnEntries
@@ -91,4 +77,11 @@ module _ {K V : Type 0} (feeds : K → HashWrites) where
   -- whatever values are written
   pub own-with_values : (es ws : List (Entry K V)) → AreOwnEntries feeds es → AreOwnEntries feeds (with_values es ws)
   unfolding AreOwnEntries
-  own-with_values es ws own = written_own es ws own
+  own-with_values es ws own =
+      let P : Hashed K → Type 0 = λ h. hash_of h ≡ own_hash feeds (key_of h) in
+      let l = with_values es ws in
+      let all : All P (map (λ (e : Entry K V). e.0) l) = rw (hashed_keys-with_values es ws) (All-map P (λ (e : Entry K V). e.0) es own) in
+      λ k d below. subst P (get_or-map (λ (e : Entry K V). e.0) l k d d.0 below) (all k d.0 (omega (arith, below, length-map l (λ (e : Entry K V). e.0))))
+
+-- what holds of an empty map
+pub ruleset emptied = (empty-found, own-empty)

@@ -1,7 +1,5 @@
 -- What is found under a key where entries only change their indices.
-use Rattle.starlark_hash.proofs.Common.{◌≡◌, ℕ, ◌+◌, ◌<◌, false, List, [], ◌∷◌, length, map, get_or, Option, Some, None, IsPermutation, Bool, refl, sym, ap, ◌∙◌, arith, IsEquivalence, IsTotalOrder, IsSorted, IsSortedBy, is_lt, Ordering, get_or-map, keys_of, lookup, All-permutation, Contains-permutation, place_from_lookup, slice_get-get_or, slice_get_within, get_or_from_slice_get}
-use Rattle.std.proofs.Common.{Contains}
-use lib.ListN.{length-map}
+use Rattle.starlark_hash.proofs.Common.{◌≡◌, ◌+◌, ◌<◌, false, List, [], ◌∷◌, length, map, Option, Some, None, IsPermutation, Bool, refl, sym, ap, ◌∙◌, arith, IsEquivalence, IsTotalOrder, IsSorted, IsSortedBy, is_lt, Ordering, get_or-map, keys_of, lookup, length-map, Contains, All-permutation, Contains-permutation, place_from_lookup, slice_get-get_or, slice_get_within, get_or_from_slice_get}
 use Rattle.std.specs.List.{IsDistinct}
 use Rattle.std.proofs.lemmas.List.Elements.{All-from_recursion, recursion_from_All}
 use Rattle.std.proofs.lemmas.Map.{none_passes_from_lookup}
@@ -26,26 +24,21 @@ module _ {K X : Type 0} {R : K → K → Bool} (o : IsEquivalence R) (es fs : Li
       let c = Contains-permutation es fs (p.1, v) moves here in
       sym (lookup_class o (R q) (o.congr q) p.1 p.3 fs) ∙ lookup_from_place o fs c.0 p.1 v apart (slice_get-get_or fs c.0 (p.1, v) c.1 ∙ ap Some c.2)
 
-  pub lookup_permuted : lookup (R q) fs ≡ lookup (R q) es
-  lookup_permuted = found_then (lookup (R q) es) refl
-
 -- each key has what it had
 pub same-permuted : {K V : Type 0} (eq : K → K → Bool) → IsEquivalence eq → (old new : List (Entry K V)) → IsSingle eq old → IsPermutation old new
     → (under : StarlarkHashValue) (key : K) → found (eq key) under new ≡ found (eq key) under old
 unfolding found
 same-permuted eq laws old new single moves under key =
     value_at-lookup eq new (hashed under key)
-    ∙ lookup_permuted (alike-laws eq laws) old new moves (distinct eq new (IsSingle-permutation eq laws old new single moves)) (hashed under key)
+    ∙ found_then (alike-laws eq laws) old new moves (distinct eq new (IsSingle-permutation eq laws old new single moves)) (hashed under key) _ refl
     ∙ sym (value_at-lookup eq old (hashed under key))
 
 -- the keys of sorted entries ascend
 pub keys-sorted : {K V : Type 0} {cmp : K → K → Ordering} → IsTotalOrder cmp → (es : List (Entry K V)) → IsSorted cmp (map entry_key (sorted_by_key cmp es))
-keys-sorted {K} {V} {cmp} total es k d low high =
-    let sorted = sorted_by_key cmp es in
-    let within : k + 1 < length sorted = omega (arith, length-map sorted entry_key) in
-    by sorted k d within (sorted_by-sorted (key_lt cmp) (key_lt-order total) es)
+keys-sorted {K} {V} {cmp} total es = by (sorted_by_key cmp es) (sorted_by-sorted (key_lt cmp) (key_lt-order total) es)
   where
-    by : (l : List (Entry K V)) (k : ℕ) (d : K) → k + 1 < length l → IsSortedBy (key_lt cmp) l → is_lt (cmp (get_or (map entry_key l) (k + 1) d) (get_or (map entry_key l) k d)) ≡ false
-    by [] k d within up = absurd (omega (arith, within))
-    by (e ∷ l) k d within up =
-        (λ j. is_lt (cmp (get_or-map entry_key (e ∷ l) (k + 1) e d within j) (get_or-map entry_key (e ∷ l) k e d (omega (arith, within)) j))) ∙ up k e (omega arith) within
+    by : (l : List (Entry K V)) → IsSortedBy (key_lt cmp) l → IsSorted cmp (map entry_key l)
+    by [] up k d low high = absurd (omega (arith, high))
+    by (e ∷ l) up k d low high =
+        let within : k + 1 < length (e ∷ l) = omega (arith, high, length-map l entry_key) in
+        (λ j. is_lt (cmp (get_or-map entry_key (e ∷ l) (k + 1) e d within j) (get_or-map entry_key (e ∷ l) k e d (omega (arith, within)) j))) ∙ up k e low within

@@ -20,9 +20,5 @@ module _ {K V : Type 0} (eq : K → K → Bool) (key : K → K → Type 0) (valu
     IsSingle-clones es fs all single i j d before below =
         let a = clone_at es fs all i d (omega arith) in
         let b = clone_at es fs all j d below in
-        let ei = (get_or es i d).0.key in
-        let ej = (get_or es j d).0.key in
-        let fi = (get_or fs i d).0.key in
-        let fj = (get_or fs j d).0.key in
-        let keys : eq ei ej ≡ eq fi fj = o.congr ei fi ej a.1 ∙ o.symm fi ej ∙ o.congr ej fj fi b.1 ∙ o.symm fj fi in
+        let keys : eq (get_or es i d).0.key (get_or es j d).0.key ≡ eq (get_or fs i d).0.key (get_or fs j d).0.key = o.congr _ _ _ a.1 ∙ o.symm _ _ ∙ o.congr _ _ _ b.1 ∙ o.symm _ _ in
         (λ k. nat_eq (b.0 k) (a.0 k) && sym keys k) ∙ single i j d before (omega (arith, below, length-clones es fs all))

@@ -3,7 +3,6 @@ use Rattle.starlark_hash.proofs.Common.{◌≡◌, ℕ, zero, suc, ◌+◌, ◌-
 use mathlib.Core.Logic.{inl, inr}
 use Rattle.starlark_hash.specs.declared.hashed.Hashed.{Hashed}
 use Rattle.starlark_hash.specs.Entries.{match_of, set_value_at}
-use Rattle.starlark_hash.specs.Insert.{insert_entry}
 use Rattle.starlark_hash.proofs.EntryLemmas.{length-set_value_at}
 use Rattle.starlark_small.specs.Memory.{StaysOrGrows, reserved_capacity, stepped_capacity}
 use Rattle.starlark_small.specs.Insert.{LeavesMemory}
@@ -31,15 +30,11 @@ pushed_steps v [] = refl
 pushed_steps v (p ∷ ps) = grind (arith, pushed_steps (push v p) ps, steps_on (length v.pairs) v.capacity (length ps), length_push v.pairs p)
 
 -- no capacity is lost, and it is at most twice the length
-made_bounds : (len capacity : ℕ) → (capacity ≤ made 1 len capacity) × (made 1 len capacity ≤ max capacity (max 4 (2 * (len + 1))))
-made_bounds len capacity = (grind (arith, nat_tests), grind (arith, nat_tests))
-
 steps_bounds : (len capacity n : ℕ) → (capacity ≤ steps len capacity n) × (steps len capacity n ≤ max capacity (max 4 (2 * (len + n))))
 unfolding steps
 steps_bounds len capacity zero = (omega arith, omega arith)
 steps_bounds len capacity (suc n) =
-    let before = steps_bounds len capacity n in let one = made_bounds (len + n) (steps len capacity n) in
-    (omega (arith, before.0, one.0), omega (arith, before.1, one.1))
+    let before = steps_bounds len capacity n in (grind (arith, nat_tests, before.0), grind (arith, nat_tests, before.1))
 
 module _ {K V : Type 0} where
   stepped_steps : (old new : Map K V) → stepped_capacity old new ≡ steps (length old.entries) old.capacity (length new.entries - length old.entries)
@@ -68,22 +63,20 @@ module _ {K V : Type 0} where
     stepped_more : length last.entries ≡ length mid.entries + 1 → last.capacity ≡ reserved_capacity mid 1 → last.capacity ≡ stepped_capacity first last
     unfolding steps
     stepped_more by_one grown =
-        let more : length last.entries - length first.entries ≡ suc (length mid.entries - length first.entries) = omega (arith, by_one, longer) in
-        let here : length mid.entries ≡ length first.entries + (length mid.entries - length first.entries) = omega (arith, longer) in
-        grown ∙ (λ j. made 1 (here j) ((before ∙ stepped_steps first mid) j)) ∙ ap (steps (length first.entries) first.capacity) (sym more) ∙ sym (stepped_steps first last)
+        let n = length mid.entries - length first.entries in
+        let more : length last.entries - length first.entries ≡ suc n = omega (arith, by_one, longer) in
+        let here : length first.entries + n ≡ length mid.entries = omega (arith, longer) in
+        rw (stepped_steps first last, more, here, ← stepped_steps first mid, ← before) grown
 
     -- an entry was inserted
-    stepped_at : (eq : K → K → Bool) (key : Hashed K) (value : V) (o : Option ℕ) → match_of eq mid.entries key ≡ o → last.entries ≡ option_map_or (λ i. set_value_at mid.entries i value) o (mid.entries ++ (key, value) ∷ [])
+    pub stepped_inserted : (eq : K → K → Bool) (key : Hashed K) (value : V) (o : Option ℕ) → match_of eq mid.entries key ≡ o → last.entries ≡ option_map_or (λ i. set_value_at mid.entries i value) o (mid.entries ++ (key, value) ∷ [])
         → LeavesMemory eq mid key last → last.capacity ≡ stepped_capacity first last
-    stepped_at eq key value None lacks put leaves =
+    stepped_inserted eq key value None lacks put leaves =
         let by_one : length last.entries ≡ length mid.entries + 1 = omega (arith, ap length put, length_push mid.entries (key, value)) in
         stepped_more by_one (leaves.grown (omega (arith, by_one)))
-    stepped_at eq key value (Some i) is put leaves =
+    stepped_inserted eq key value (Some i) is put leaves =
         let there : IsSome (match_of eq mid.entries key) = subst (λ o. IsSome o) (sym is) refl in
         stepped_same (ap length put ∙ length-set_value_at mid.entries i value) (ap (λ m. m.capacity) (leaves.replaced there))
-
-    pub stepped_inserted : (eq : K → K → Bool) (key : Hashed K) (value : V) → last.entries ≡ insert_entry eq mid.entries key value → LeavesMemory eq mid key last → last.capacity ≡ stepped_capacity first last
-    stepped_inserted eq key value put leaves = stepped_at eq key value (match_of eq mid.entries key) refl put leaves
 
     -- one was refused
     pub stepped_refused : last.entries ≡ mid.entries → StaysOrGrows 1 mid last → StaysOrGrows 1 (record last { capacity = stepped_capacity first last }) last

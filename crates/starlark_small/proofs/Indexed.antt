@@ -1,13 +1,12 @@
 -- What an index says of a list, and how much room it has, as the list changes.
 use Rattle.std.proofs.Math.ListN.{take, drop}
-use Rattle.starlark_hash.proofs.Common.{All-append, common_steps, ◌≡◌, ℕ, zero, suc, ◌+◌, ◌-◌, ◌<◌, ◌≤◌, ◌^◌, List, [], ◌∷◌, ◌++◌, length, map, Option, Some, None, is_some, refl, sym, ap, subst, ◌∙◌, arith, IsPermutation, IfSome, remove, reverse, slice_get, range_with_len, option_map, length-map, length-reverse, length_push, map-append, length-remove, All-push, IsPermutation-reverse, IsPermutation-sym, All-permutation, length_permutation, none-some, same_Some, slice_get-map}
+use Rattle.starlark_hash.proofs.Common.{All-append, common_steps, ◌≡◌, ℕ, suc, ◌+◌, ◌-◌, ◌<◌, ◌≤◌, ◌^◌, List, [], ◌∷◌, ◌++◌, length, map, Option, Some, None, is_some, refl, sym, ap, subst, ◌∙◌, arith, IsPermutation, IfSome, remove, reverse, slice_get, range_with_len, option_map, length-map, length-reverse, length_push, map-append, length-remove, All-push, IsPermutation-reverse, IsPermutation-sym, All-permutation, length_permutation, none-some, same_Some, slice_get-map}
 use Rattle.std.proofs.lemmas.List.Elements.{All-take, All-drop}
 use Rattle.starlark_vecmap.proofs.Views.{map-remove, map-reverse}
 use Rattle.std.proofs.lemmas.Simd.{map-map}
 use Rattle.starlark_hash.specs.HashValue.{hash_number}
 use Rattle.starlark_hash.specs.declared.hash_value.StarlarkHashValue.{StarlarkHashValue}
-use Rattle.starlark_hash.specs.Entries.{Entry, entry_hash, set_value_at}
-use Rattle.starlark_hash.proofs.EntryLemmas.{length-set_value_at, set_value_at-key}
+use Rattle.starlark_hash.specs.Entries.{Entry, entry_hash}
 use Rattle.starlark_small.specs.Hashes.{Hashes, cleared, forgotten, hash_under, noted, reversed}
 use Rattle.starlark_small.specs.Index.{IsIndexed, IsIndexedAt, hashes_of, index_room}
 use Rattle.starlark_small.specs.IndexCalls.{IsFilled, IsRenamed}
@@ -26,19 +25,6 @@ module _ {K V : Type 0} where
 
   pub index-within : (es : List (Entry K V)) (i : ℕ) (index : Option Hashes) → i < length es → IsIndexed es index → IfSome index (λ h. i < length h.list)
   index-within es i index below holds = grind (arith, common_steps, indexed-at es index holds)
-
-  -- a value is written
-  hashes-set_value_at : (es : List (Entry K V)) (i : ℕ) (value : V) → hashes_of (set_value_at es i value) ≡ hashes_of es
-  hashes-set_value_at [] i value = refl
-  hashes-set_value_at (e ∷ es) zero value = refl
-  hashes-set_value_at (e ∷ es) (suc i) value = ap (λ l. hash_under (entry_hash e) ∷ l) (hashes-set_value_at es i value)
-
-  pub IsIndexed-set_value_at : (es : List (Entry K V)) (i : ℕ) (value : V) (index : Option Hashes) → IsIndexed es index → IsIndexed (set_value_at es i value) index
-  IsIndexed-set_value_at es i value None short = omega (arith, length-set_value_at es i value, short)
-  IsIndexed-set_value_at es i value (Some h) index = record {
-    list = index.list ∙ sym (hashes-set_value_at es i value);
-    fits = λ k d below. subst (λ h. h.hash.0 < 2 ^ 32) (sym (set_value_at-key es i value k d)) (index.fits k d (omega (arith, below, length-set_value_at es i value)));
-  }
 
   -- an entry goes last
   pub hashes-push : (es : List (Entry K V)) (e : Entry K V) → hashes_of (es ++ e ∷ []) ≡ hashes_of es ++ hash_under (entry_hash e) ∷ []
@@ -75,20 +61,13 @@ module _ {K V : Type 0} where
   IsIndexed-filled es None new short filled = subst (IsIndexed es) (sym filled.hashes) short
   IsIndexed-filled es (Some h) new short filled = subst (IsIndexed es) (sym filled.hashes) (record { list = refl; fits = filled.fits })
 
-  pub room-filled : (es : List (Entry K V)) (old new : Option Hashes) → length es ≤ index_room 0 old → IsFilled es old new → index_room 0 old ≤ length es + index_room (length es) new
-  room-filled es old new short filled = rw filled.hashes (grind (arith, common_steps))
-
-pub room-cleared : (len : ℕ) (index : Option Hashes) → IsIndexedAt len index → len + index_room len index ≤ index_room 0 (option_map cleared index)
-room-cleared len index holds = grind (arith, common_steps)
-
-module _ {K V : Type 0} where
   -- a list refills the index of another one that is as long
   pub follows-refilled : (before after : EntryList K V) (old mid new : Option Hashes) → length after.entries ≤ length before.entries → IsIndexed before.entries old → mid ≡ option_map cleared old → IsFilled after.entries mid new
       → IsIndexed after.entries new × (length before.entries + index_room (length before.entries) old ≤ length after.entries + index_room (length after.entries) new) × (is_some new ≡ is_some old)
   follows-refilled before after old mid new shorter indexed emptied filled =
-      let out : length before.entries + index_room (length before.entries) old ≤ index_room 0 mid = rw emptied (room-cleared (length before.entries) old (indexed-at before.entries old indexed)) in
-      let short : length after.entries ≤ index_room 0 mid = omega (arith, shorter, out) in
-      (IsIndexed-filled after.entries mid new short filled, omega (arith, out, room-filled after.entries mid new short filled), ap is_some filled.hashes ∙ is_some-map _ mid ∙ ap is_some emptied ∙ is_some-map cleared old)
+      let out : length before.entries + index_room (length before.entries) old ≤ index_room 0 mid = rw emptied (grind (arith, common_steps, indexed-at before.entries old indexed)) in
+      let wide : index_room 0 mid ≤ length after.entries + index_room (length after.entries) new = rw filled.hashes (grind (arith, common_steps)) in
+      (IsIndexed-filled after.entries mid new (omega (arith, shorter, out)) filled, omega arith, ap is_some filled.hashes ∙ is_some-map _ mid ∙ ap is_some emptied ∙ is_some-map cleared old)
 
   -- where the entries went, their hashes went
   pub moves-hashes : (es : List (Entry K V)) (to : List ℕ) (after : List (Entry K V)) → Moves es to after → Moves (hashes_of es) to (hashes_of after)

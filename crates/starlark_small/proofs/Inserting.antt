@@ -81,7 +81,7 @@ module _ {K V A : Type 0} {eq : K → K → Bool} {item : A → Entry K V} {all 
         room = omega (arith, held.room, leaves.room);
         added = omega (arith, sizes.1, held.added, length_push seen x);
         longer = omega (arith, held.longer, sizes.0);
-        capacity = stepped_inserted first mid last held.longer held.capacity eq (item x).0 (item x).1 put leaves;
+        capacity = stepped_inserted first mid last held.longer held.capacity eq (item x).0 (item x).1 (match_of eq mid.entries (item x).0) refl put leaves;
         indexed = indexed_on first.indexed mid.indexed last.indexed (length mid.entries) (length last.entries) held.indexed leaves.indexed sizes.0;
         spare = on_spare;
       }

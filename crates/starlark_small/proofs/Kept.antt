@@ -9,7 +9,7 @@ use Rattle.starlark_table.specs.Table.{Table, filled, items_under, members, tabl
 use Rattle.starlark_vec2.specs.Sort.{Moves}
 use Rattle.starlark_small.specs.Hashes.{Hashes, indices_under, numbered}
 use Rattle.starlark_small.specs.Slots.{IsSited, KeepsIndices, RenamesEach, StandsBut, StandsOnce, hash_in, hashes_in, lowered, renaming}
-use Rattle.starlark_small.proofs.Numbered.{bag-noted, bag-renamed, filled-renamed, hashes-back, held, left-bag, left-none, left-there, length-moved, members-below, members-count, stands-once, numbered-moved, numbered-remove, numbered-remove_last, numbered-reverse}
+use Rattle.starlark_small.proofs.Numbered.{bag-noted, bag-renamed, filled-renamed, hashes-back, held, left-bag, left-none, left-there, length-moved, members-below, members-count, stands-once, numbered-moved, numbered-remove, numbered_from-remove_last, numbered-reverse}
 use Rattle.starlark_small.proofs.Slots.{sited-last, sited-lowered, sited-none, sited-put, sited-reversed}
 
 pub length-hashes_in : (slots : List (Option (ℕ × ℕ))) (cells : List ℕ) → length (hashes_in slots cells) ≡ length cells
@@ -19,10 +19,8 @@ length-hashes_in slots cells = length-map cells (λ s. hash_in (get_or slots s N
 pub indices-moved : (hs : List ℕ) (t : Table ℕ) (hash : ℕ) → IsPermutation (numbered hs) (members t) → IsPermutation (indices_under hash hs) (map (λ p. (p.1, p.1)) (items_under hash t))
 indices-moved hs t hash bag =
     let q : ℕ × ℕ → Bool = λ m. nat_eq m.0 hash in
-    let own : ℕ → ℕ × ℕ = λ i. (i, i) in
-    let is : map (λ p. (p.1, p.1)) (items_under hash t) ≡ map (λ m. (m.1, m.1)) (filter q (members t)) =
-    sym (map-map own (λ s. s.1) (items_under hash t)) ∙ ap (map own) (items-items_under hash t) ∙ map-map own (λ m. m.1) (filter q (members t)) in
-    subst (IsPermutation (indices_under hash hs)) (sym is) (IsPermutation-map (λ m. (m.1, m.1)) (filter q (numbered hs)) (filter q (members t)) (IsPermutation-filter q (numbered hs) (members t) bag))
+    subst (IsPermutation (indices_under hash hs)) (simp map-map at (ap (map {A = ℕ} {B = ℕ × ℕ} (λ i. (i, i))) (sym (items-items_under hash t))))
+    (IsPermutation-map (λ m. (m.1, m.1)) (filter q (numbered hs)) (filter q (members t)) (IsPermutation-filter q (numbered hs) (members t) bag))
 
 -- table and cells that keep these hashes, with this room
 pub record Keeps (hs : List ℕ) (free : ℕ) (t : Table ℕ) (cells : List ℕ) (memory : ℕ) : Type 0 where
@@ -40,10 +38,7 @@ keeps_by hs room t cells memory bag sited long spare few narrow free =
 abbrev pub view_of : Table ℕ → List ℕ → Hashes
 view_of t cells = record { list = hashes_in t.slots cells; room = t.room }
 
-abbrev hashes : List ℕ → ℕ → Hashes
-hashes list room = record { list = list; room = room }
-
-pub seen : (hs : List ℕ) (room : ℕ) (t : Table ℕ) (cells : List ℕ) (memory : ℕ) → Keeps hs room t cells memory → view_of t cells ≡ hashes hs room
+pub seen : (hs : List ℕ) (room : ℕ) (t : Table ℕ) (cells : List ℕ) (memory : ℕ) → Keeps hs room t cells memory → view_of t cells ≡ record { list = hs; room = room }
 seen hs room t cells memory k = λ j. record { list = k.list j; room = k.room j }
 
 -- no index
@@ -161,7 +156,7 @@ module _ (old : Table ℕ) (cells : List ℕ) (memory : ℕ) (k : KeepsIndices o
     keeps-forgotten_last space end more =
         let ks = remove hs i in
         let long = length-hashes_in old.slots cells in
-        let now : IsPermutation (numbered ks) (members mid) = subst (λ l. IsPermutation l (members mid)) (numbered-remove_last hs i (omega (arith, end, long))) bag in
+        let now : IsPermutation (numbered ks) (members mid) = subst (λ l. IsPermutation l (members mid)) (numbered_from-remove_last 0 i hs (omega (arith, end, long))) bag in
         let left : length ks ≡ i = omega (arith, length-remove hs i within, end, long) in
         keeps_by ks (old.room + 1) mid (take i after) space now
         (sited-last after mid i (omega (arith, end, even)) (subst (λ n. All (λ m. m.1 < n) (members mid)) left (members-below ks mid now)) sited)

@@ -18,10 +18,8 @@ same_test h k h_fits k_fits = grind (arith, nat_tests, promoted-injective h k h_
 -- the indices of a hash are within the list
 pub indices-within : (hash : ℕ) (hs : List ℕ) (p : ℕ × ℕ) → Contains (indices_under hash hs) p → p.1 < length hs
 indices-within hash hs p there =
-    let own : ℕ × ℕ → ℕ × ℕ = λ m. (m.1, m.1) in
-    let q : ℕ × ℕ → Bool = λ m. nat_eq m.0 hash in
     All-contains (λ p. p.1 < length hs) (indices_under hash hs) p
-    (All-map (λ p. p.1 < length hs) own (filter q (numbered hs)) (All-filter q (λ m. m.1 < length hs) (numbered hs) (below-all hs))) there
+    (All-map (λ p. p.1 < length hs) (λ m. (m.1, m.1)) _ (All-filter (λ m. nat_eq m.0 hash) (λ m. m.1 < length hs) (numbered hs) (below-all hs))) there
 
 module _ {K V : Type 0} where
   -- an index named, with the key of the entry that `look` gives for it
@@ -32,14 +30,14 @@ module _ {K V : Type 0} where
       → map (λ p. (p.0, entry_key p.1)) (filter (λ p. is_under hash p.1) (enumerate_from n es)) ≡ map (keyed look) (map (λ m. (m.1, m.1)) (filter (λ m. nat_eq m.0 (promoted hash.0)) (numbered_from n (hashes_of es))))
   keys-numbered hash look n [] fits h_fits known = refl
   keys-numbered hash look n (e ∷ es) fits h_fits known =
-      let H = promoted hash.0 in
-      let h = promoted e.0.hash.0 in
-      let keys = filter (λ p. is_under hash p.1) (enumerate_from (n + 1) es) in
-      let rest = filter (λ m. nat_eq m.0 H) (numbered_from (n + 1) (hashes_of es)) in
-      let others : map (λ p. (p.0, entry_key p.1)) keys ≡ map (keyed look) (map (λ m. (m.1, m.1)) rest) = keys-numbered hash look (n + 1) es (λ k d lt. fits (suc k) d (omega (arith, lt))) h_fits
-      (λ k d is. ap look {x = n + 1 + k} {y = n + suc k} (omega arith) ∙ known (suc k) d is) in
       let head : e ≡ look n = sym (ap look {x = n} {y = n + 0} (omega arith) ∙ known 0 e refl) in
-      grind (arith, nat_tests, same_test e.0.hash.0 hash.0 (fits 0 e (omega arith)) h_fits)
+      grind (
+        arith,
+        nat_tests,
+        same_test e.0.hash.0 hash.0 (fits 0 e (omega arith)) h_fits,
+        keys-numbered hash look (n + 1) es (λ k d lt. fits (suc k) d (omega (arith, lt))) h_fits
+            (λ k d is. ap look {x = n + 1 + k} {y = n + suc k} (omega arith) ∙ known (suc k) d is),
+      )
 
 -- w, asked about an index, asks g about the key there; inner is g's state in w's, and Sees says that w looks at the list
 module _ {C F K V : Type 0} (g : Mut F (Bor K × Unit {0}) Bool) (w : Mut C (Bor ℕ × Unit {0}) Bool) (inner : C → F) (Sees : C → Type 0) (es : List (Entry K V)) (hs : List ℕ) (same : hs ≡ hashes_of es) (hash : StarlarkHashValue)
@@ -49,26 +47,14 @@ module _ {C F K V : Type 0} (g : Mut F (Bor K × Unit {0}) Bool) (w : Mut C (Bor
   items = indices_under (promoted hash.0) (hashes_of es)
 
   module _ (d : Entry K V) where
-    look : ℕ → Entry K V
+    abbrev look : ℕ → Entry K V
     look i = get_or es i d
 
     there : (p : ℕ × ℕ) → Contains items p → slice_get es p.1 ≡ Some (look p.1)
-    unfolding look
     there p among = slice_get-get_or es p.1 d (omega (arith, indices-within (promoted hash.0) (hashes_of es) p among, length-map es (λ e. promoted e.0.hash.0)))
 
     keys-are : keys_under hash es ≡ map (keyed look) items
-    unfolding look
     keys-are = keys-numbered hash (λ i. get_or es i d) 0 es small fits (λ k e at. ap (λ i. get_or es i d) {x = 0 + k} {y = k} (omega arith) ∙ get_or_from_slice_get es k e d at)
-
-    can_by : ((s : C) (i : ℕ) → Sees s → (e : Entry K V) → slice_get es i ≡ Some e → TakesAt g (inner s) (entry_key e) → TakesAt w s i) → CanSearch g (keys_under hash es) (inner s) → CanSearch w items s
-    can_by pass may =
-        can_transport w g inner Sees (keyed look) items (λ p among s b t sees called. let r = relate s p.1 b t sees called in (r.0, r.1 (look p.1) (there p among))) (keys_under hash es) s
-        (subst (IsPermutation (keys_under hash es)) keys-are (IsPermutation-refl (keys_under hash es))) (λ p among s sees takes. pass s p.1 sees (look p.1) (there p among) takes) sees may
-
-    found_by : (last : C) (answer : Option ℕ) → Searches w items s answer last → Searches g (keys_under hash es) (inner s) answer (inner last)
-    found_by last answer search =
-        transported w g inner Sees (keyed look) items (λ p among s b t sees called. let r = relate s p.1 b t sees called in (r.0, r.1 (look p.1) (there p among))) (λ o. o) refl (λ p among. refl) (keys_under hash es) s last answer
-        (subst (IsPermutation (keys_under hash es)) keys-are (IsPermutation-refl (keys_under hash es))) sees search
 
   can_in : (fs : List (Entry K V)) → fs ≡ es → ((s : C) (i : ℕ) → Sees s → (e : Entry K V) → slice_get es i ≡ Some e → TakesAt g (inner s) (entry_key e) → TakesAt w s i) → CanSearch g (keys_under hash es) (inner s) → CanSearch w items s
   can_in [] is pass may = record {
@@ -77,7 +63,9 @@ module _ {C F K V : Type 0} (g : Mut F (Bor K × Unit {0}) Bool) (w : Mut C (Bor
         let some = Contains-append_right before (p ∷ after) p (0, omega arith, refl) in
         absurd (omega (arith, length_permutation items (before ++ p ∷ after) moves, none, some.1));
   }
-  can_in (d ∷ fs) is pass may = can_by d pass may
+  can_in (d ∷ fs) is pass may =
+      can_transport w g inner Sees (keyed (look d)) items (λ p among s b t sees called. let r = relate s p.1 b t sees called in (r.0, r.1 (look d p.1) (there d p among))) (keys_under hash es) s
+      (subst (IsPermutation (keys_under hash es)) (keys-are d) (IsPermutation-refl (keys_under hash es))) (λ p among s sees takes. pass s p.1 sees (look d p.1) (there d p among) takes) sees may
 
   found_none : (order : List (ℕ × ℕ)) → length order ≡ 0 → keys_under hash es ≡ [] → (last : C) (answer : Option ℕ) → Asks w s order answer last → Searches g (keys_under hash es) (inner s) answer (inner last)
   found_none [] none is last answer asked = subst (λ l. Searches g l (inner s) answer (inner last)) (sym is) (record { order = []; rearranged = IsPermutation-refl []; asks = (asked.0, ap inner asked.1) })
@@ -87,7 +75,9 @@ module _ {C F K V : Type 0} (g : Mut F (Bor K × Unit {0}) Bool) (w : Mut C (Bor
   found_in [] is last answer search =
       let none : length items ≡ 0 = ap (λ l. length (indices_under (promoted hash.0) (hashes_of l))) (sym is) in
       found_none search.order (length_permutation items search.order search.rearranged ∙ none) (ap (keys_under hash) (sym is)) last answer search.asks
-  found_in (d ∷ fs) is last answer search = found_by d last answer search
+  found_in (d ∷ fs) is last answer search =
+      transported w g inner Sees (keyed (look d)) items (λ p among s b t sees called. let r = relate s p.1 b t sees called in (r.0, r.1 (look d p.1) (there d p among))) (λ o. o) refl (λ p among. refl) (keys_under hash es) s last answer
+      (subst (IsPermutation (keys_under hash es)) (keys-are d) (IsPermutation-refl (keys_under hash es))) sees search
 
   -- so where the keys may be searched the indices may
   pub can_search-indices : ((s : C) (i : ℕ) → Sees s → (e : Entry K V) → slice_get es i ≡ Some e → TakesAt g (inner s) (entry_key e) → TakesAt w s i) → CanSearch g (keys_under hash es) (inner s)

@@ -29,3 +29,4 @@ pub mod CallerIter
 pub mod CallerSort
 pub mod CallerMembers
 pub mod CallerLemmas
+pub mod TableLengths

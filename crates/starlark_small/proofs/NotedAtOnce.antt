@@ -24,24 +24,6 @@ module _ {K V : Type 0} where
       let here = get_or-map H es k d (H d) below in
       grind (arith, common_steps))
 
-  -- an entry that goes last where nothing has to grow
-  inserted_with_room : (list : EntryList K V) (before after : Option Hashes) (key : Hashed K) (value : V)
-      → 0 < (map_of list before).room → is_some before ≡ true → is_some after ≡ is_some before
-      → index_room (length list.entries) before ≤ 1 + index_room (length list.entries + 1) after
-      → IsInserted (map_of list before) key value (map_of (with_entries list (list.entries ++ (key, value) ∷ [])) after)
-  inserted_with_room list before after key value room had kept less =
-      let len : ℕ = length list.entries in
-      let longer = length_push list.entries (key, value) in
-      record {
-        entries = refl;
-        spare = λ _. (refl, kept);
-        room =
-            let grown = subst (λ n. index_room len before ≤ 1 + index_room n after) (sym longer) less in
-            omega (arith, longer, grown);
-        capacity = let free : 1 ≤ list.capacity - len = omega (arith, room) in grind (arith, nat_tests);
-        indexed = kept ∙ had ∙ ap (λ b. b || nat_lt unindexed (len + 1)) (sym had);
-      }
-
 -- a new key whose hash was noted at once, with room in the list
 module _ {K V : Type 0} (eq : K → K → Bool) (laws : IsEquivalence eq) (list new : EntryList K V) (before after : Option Hashes) (key : Hashed K) (value : V) (sound : IsSound eq list.entries before) (noting : IsNotedIn (hash_of key) (list.capacity - length list.entries) before after)
     (is : new ≡ with_entries list (list.entries ++ (key, value) ∷ [])) where
@@ -51,13 +33,10 @@ module _ {K V : Type 0} (eq : K → K → Bool) (laws : IsEquivalence eq) (list 
   absent : match_of eq list.entries key ≡ None
   absent = nowhere list.entries (hash_of key) (eq (key_of key)) (subst (All (λ h. h ≢ hash_under (hash_of key))) index.list noting.lacked)
 
-  indexed : IsIndexed (list.entries ++ (key, value) ∷ []) after
-  indexed = subst (IsIndexed (list.entries ++ (key, value) ∷ [])) (sym noting.noted) (IsIndexed-noted list.entries (key, value) (hash_of key) (Some noting.hashes) refl (omega (arith, noting.room)) noting.fits index)
-
   pub sound_at_once : IsSound eq new.entries after
   sound_at_once = subst (λ l. IsSound eq l.entries after) (sym is) (record {
     single = IsSingle-push eq laws list.entries key value sound.single absent;
-    indexed = indexed;
+    indexed = subst (IsIndexed (list.entries ++ (key, value) ∷ [])) (sym noting.noted) (IsIndexed-noted list.entries (key, value) (hash_of key) (Some noting.hashes) refl (omega (arith, noting.room)) noting.fits index);
   })
 
   abbrev brought : Hashed K × V
@@ -68,11 +47,16 @@ module _ {K V : Type 0} (eq : K → K → Bool) (laws : IsEquivalence eq) (list 
       let had : is_some before ≡ true = ap is_some noting.there in
       let kept : is_some after ≡ is_some before = ap is_some noting.noted ∙ sym had in
       let less : index_room (length list.entries) before ≤ 1 + index_room (length list.entries + 1) after = grind (arith, noting.there, noting.noted, room-noted (length list.entries) (hash_of key) (Some noting.hashes)) in
-      let free : 0 < index_room (length list.entries) before = subst (λ o. 0 < index_room (length list.entries) o) (sym noting.there) noting.room in
-      let room : 0 < (map_of list before).room = omega (arith, free, noting.spare) in
-      let put : IsInserted (map_of list before) key value (map_of new after) =
-      subst (λ l. IsInserted (map_of list before) key value (map_of l after)) (sym is)
-      (inserted_with_room list before after key value room had kept less) in
+      let room : 0 < (map_of list before).room = grind (arith, noting.there, noting.room, noting.spare) in
+      let len : ℕ = length list.entries in
+      let longer = length_push list.entries (key, value) in
+      let put : IsInserted (map_of list before) key value (map_of new after) = rw is (record {
+        entries = refl;
+        spare = λ _. (refl, kept);
+        room = let grown = subst (λ n. index_room len before ≤ 1 + index_room n after) (sym longer) less in omega (arith, longer, grown);
+        capacity = let free : 1 ≤ list.capacity - len = omega (arith, room) in grind (arith, nat_tests);
+        indexed = kept ∙ had ∙ ap (λ b. b || nat_lt unindexed (len + 1)) (sym had);
+      }) in
       subst (λ m. Inserts eq key value brought m (map_of new after) (Ok None)) view
       (inserts-done eq key value brought (map_of list before) (map_of new after) laws None
       (sym (ap (value_at list.entries) absent))

@@ -1,10 +1,15 @@
 -- The numbered hashes of a list, and what a table says that has them as its members.
 use Rattle.starlark_hash.proofs.Common.{common_steps, ◌≡◌, ◌≢◌, ℕ, zero, suc, ◌+◌, ◌-◌, ◌<◌, ◌≤◌, Bool, true, false, cond, nat_eq, eq-eqb, List, [], ◌∷◌, ◌++◌, length, map, get_or, take, Option, Some, None, refl, sym, ap, subst, ◌∙◌, arith, IsPermutation, filter, remove, reverse, slice_get, slice_index, All, Contains, range_with_len, false≢true, nat_tests, get_or-map, length-map, length-reverse, reverse-append, length-range_with_len, All-cons, IsPermutation-sym, IsPermutation-trans, IsPermutation-cons, IsPermutation-map, IsPermutation-reverse, All-permutation, Contains-permutation, length_permutation, get_or_from_slice_get, slice_get_within}
 use Rattle.std.proofs.lemmas.List.{ext_get_or, take_more}
+use Rattle.std.proofs.lemmas.List.FromFn.{get_or-map-range_with_len}
 use Rattle.std.proofs.lemmas.List.Sorted.{IsPermutation-to_front, IsPermutation-remove}
+use Rattle.std.proofs.lemmas.Map.Keys.{IsDistinct-IsPermutation, IsDistinct-tail, IsDistinct-from_apart, apart_from_distinct}
+use Rattle.std.proofs.lemmas.Map.Made.{Contains-tail}
+use Rattle.std.specs.List.{IsDistinct}
 use Rattle.starlark_table.specs.Table.{Table, filled, items_under, members, member_at, table_len}
 use Rattle.starlark_table.proofs.PairBags.{IsPermutation-cancel, IsPermutation-filter}
-use Rattle.starlark_table.proofs.TableLemmas.{items-items_under}
+use Rattle.starlark_table.proofs.TableLemmas.{items-items_under, members-member_at}
+use Rattle.starlark_table.proofs.Path.{in_filled}
 use Rattle.starlark_vec2.specs.Sort.{Moves}
 use Rattle.starlark_small.specs.Hashes.{numbered, numbered_from}
 use Rattle.starlark_small.specs.Slots.{IsSited, StandsOnce, hash_in, hashes_in, lowered, renamed, renaming}
@@ -23,16 +28,11 @@ get_or-numbered n k [] d below = absurd (omega arith)
 get_or-numbered n zero (h ∷ hs) d below = grind arith
 get_or-numbered n (suc k) (h ∷ hs) d below = grind (arith, get_or-numbered (n + 1) k hs d)
 
-numbered-below : (n : ℕ) (hs : List ℕ) → All (λ m. m.1 < n + length hs) (numbered_from n hs)
-numbered-below n [] k d lt = absurd (omega arith)
-numbered-below n (h ∷ hs) zero d lt = omega arith
-numbered-below n (h ∷ hs) (suc k) d lt = omega (arith, numbered-below (n + 1) hs k d (omega arith))
-
-pub below-all : (hs : List ℕ) → All (λ m. m.1 < length hs) (numbered hs)
-below-all hs = λ k d lt. omega (arith, numbered-below 0 hs k d lt)
-
 pub at-numbered : (hs : List ℕ) (k : ℕ) (d : ℕ × ℕ) → k < length hs → get_or (numbered hs) k d ≡ (get_or hs k 0, k)
 at-numbered hs k d below = grind (arith, get_or-numbered 0 k hs d)
+
+pub below-all : (hs : List ℕ) → All (λ m. m.1 < length hs) (numbered hs)
+below-all hs = λ k d lt. omega (arith, length-numbered 0 hs, ap (λ m. m.1) (at-numbered hs k d (omega (arith, length-numbered 0 hs))))
 
 -- all behind an index go down
 sunk : (last n : ℕ) (hs : List ℕ) → last ≤ n → map (renaming (lowered last)) (numbered_from (n + 1) hs) ≡ numbered_from n hs
@@ -49,13 +49,10 @@ lowered_from n (suc k) (h ∷ hs) below =
 pub numbered-remove : (hs : List ℕ) (k : ℕ) → k < length hs → map (renaming (lowered k)) (remove (numbered hs) k) ≡ numbered (remove hs k)
 numbered-remove hs k below = grind (arith, lowered_from 0 k hs)
 
-numbered_from-remove_last : (n k : ℕ) (hs : List ℕ) → k + 1 ≡ length hs → remove (numbered_from n hs) k ≡ numbered_from n (remove hs k)
+pub numbered_from-remove_last : (n k : ℕ) (hs : List ℕ) → k + 1 ≡ length hs → remove (numbered_from n hs) k ≡ numbered_from n (remove hs k)
 numbered_from-remove_last n k [] end = absurd (omega (arith, end))
 numbered_from-remove_last n zero (h ∷ hs) end = grind (arith, common_steps)
 numbered_from-remove_last n (suc k) (h ∷ hs) end = ap (λ l. (h, n) ∷ l) (numbered_from-remove_last (n + 1) k hs (omega (arith, end)))
-
-pub numbered-remove_last : (hs : List ℕ) (k : ℕ) → k + 1 ≡ length hs → remove (numbered hs) k ≡ numbered (remove hs k)
-numbered-remove_last hs k end = numbered_from-remove_last 0 k hs end
 
 reversed_from : (n len : ℕ) (hs : List ℕ) → len ≡ n + length hs → map (renaming (λ i. len - 1 - i)) (numbered_from n hs) ≡ reverse (numbered (reverse hs))
 reversed_from n len [] is = refl
@@ -66,72 +63,47 @@ pub numbered-reverse : (hs : List ℕ) → IsPermutation (numbered (reverse hs))
 numbered-reverse hs = subst (IsPermutation (numbered (reverse hs))) (sym (reversed_from 0 (length hs) hs (omega arith))) (IsPermutation-reverse (numbered (reverse hs)))
 
 -- ---- each hash goes where a list says
-hash_or : Option ℕ → ℕ
-hash_or (Some h) = h
-hash_or None = 0
-
-module _ (look : ℕ → Option ℕ) where
-  at_index : ℕ → ℕ × ℕ
-  at_index k = (hash_or (look k), k)
-
-  looked : (n : ℕ) (hs : List ℕ) → ((i : ℕ) → i < length hs → look (n + i) ≡ slice_get hs i) → numbered_from n hs ≡ map at_index (range_with_len n (length hs))
-  unfolding at_index hash_or
-  looked n [] at = refl
-  looked n (h ∷ hs) at = grind (arith, common_steps, at 0 (omega arith), looked (n + 1) hs (λ i lt. ap look {x = n + 1 + i} {y = n + suc i} (omega arith) ∙ at (suc i) (omega arith)))
-
-  named_anew : (name : ℕ → ℕ) (n : ℕ) (hs : List ℕ) (to : List ℕ) → ((i : ℕ) → i < length hs → name (n + i) ≡ get_or to i 0) → map Some hs ≡ map look to
-      → map (renaming name) (numbered_from n hs) ≡ map at_index to
-  unfolding at_index hash_or
-  named_anew name n [] [] named is = refl
-  named_anew name n [] (k ∷ to) named is = cc
-  named_anew name n (h ∷ hs) [] named is = cc
-  named_anew name n (h ∷ hs) (k ∷ to) named is =
-      let others : map Some hs ≡ map look to = cc in
-      grind (arith, common_steps, named 0 (omega arith), named_anew name (n + 1) hs to (λ i lt. ap name {x = n + 1 + i} {y = n + suc i} (omega arith) ∙ named (suc i) (omega arith)) others)
-
 pub length-moved : (before : List ℕ) (to : List ℕ) (after : List ℕ) → Moves before to after → (length to ≡ length before) × (length after ≡ length before)
 length-moved before to after moves =
-    let names : length to ≡ length before = sym (length-map to (slice_get after)) ∙ sym (ap length moves.items) ∙ length-map before Some in
-    let count : length to ≡ length after = length_permutation (range_with_len 0 (length after)) to moves.once ∙ length-range_with_len 0 (length after) in
-    (names, sym count ∙ names)
+    let names : length to ≡ length before = simp length-map at (sym (ap length moves.items)) in
+    (names, grind (arith, length_permutation (range_with_len 0 (length after)) to moves.once, length-range_with_len 0 (length after)))
 
 pub numbered-moved : (before to after : List ℕ) → Moves before to after → IsPermutation (numbered after) (map (renaming (slice_index to)) (numbered before))
 numbered-moved before to after moves =
-    let look : ℕ → Option ℕ = slice_get after in
-    let same : numbered after ≡ map (at_index look) (range_with_len 0 (length after)) = looked look 0 after (λ i lt. ap look {x = 0 + i} {y = i} (omega arith)) in
-    let went : map (renaming (slice_index to)) (numbered before) ≡ map (at_index look) to = named_anew look (slice_index to) 0 before to (λ i lt. ap (slice_index to) {x = 0 + i} {y = i} (omega arith)) moves.items in
-    rw (same, went) (IsPermutation-map (at_index look) (range_with_len 0 (length after)) to moves.once)
+    let under : ℕ → ℕ × ℕ = λ k. (get_or after k 0, k) in
+    let long = (length-moved before to after moves).0 in
+    let same : numbered after ≡ map under (range_with_len 0 (length after)) =
+    ext_get_or (0, 0) (numbered after) (map under (range_with_len 0 (length after))) (grind (arith, length-numbered 0 after, length-map, length-range_with_len)) (λ i lt.
+    grind (arith, length-numbered 0 after, at-numbered after i (0, 0), get_or-map-range_with_len under 0 (length after) i i (0, 0))) in
+    let went : map (renaming (slice_index to)) (numbered before) ≡ map under to =
+    ext_get_or (0, 0) (map (renaming (slice_index to)) (numbered before)) (map under to) (grind (arith, length-numbered 0 before, length-map)) (λ i lt.
+    let numbers : i < length (numbered before) = omega (arith, lt, length-map (numbered before) (renaming (slice_index to))) in
+    let inside : i < length before = omega (arith, numbers, length-numbered 0 before) in
+    let at = get_or-map Some before i 0 None inside in
+    let there = get_or-map (slice_get after) to i 0 None (omega arith) in
+    let got = get_or_from_slice_get after (get_or to i 0) (get_or before i 0) 0 (sym there ∙ ap (λ l. get_or l i None) (sym moves.items) ∙ at) in
+    cc (got, get_or-map (renaming (slice_index to)) (numbered before) i (0, 0) (0, 0) numbers, at-numbered before i (0, 0) inside, get_or-map under to i 0 (0, 0) (omega arith))) in
+    rw (same, went) (IsPermutation-map under (range_with_len 0 (length after)) to moves.once)
 
 -- ---- no index stands twice
-standing : ℕ → List (ℕ × ℕ) → ℕ
-standing x ms = length (filter (λ m. nat_eq m.1 x) ms)
+abbrev same_index : ℕ × ℕ → ℕ × ℕ → Bool
+same_index m k = nat_eq m.1 k.1
 
-counted : (x : ℕ) (m : ℕ × ℕ) (ms : List (ℕ × ℕ)) → standing x (m ∷ ms) ≡ cond (nat_eq m.1 x) (suc (standing x ms)) (standing x ms)
-unfolding standing
-counted x m ms = grind (arith, nat_tests)
+distinct : (hs : List ℕ) → IsDistinct same_index (numbered hs)
+distinct hs = IsDistinct-from_apart same_index (numbered hs) (λ i j d before below.
+    grind (arith, nat_tests, length-numbered 0 hs, at-numbered hs i d, at-numbered hs j d))
 
-one : (slots : List (Option (ℕ × ℕ))) (s h x : ℕ) → get_or slots s None ≡ Some (h, x) → 1 ≤ standing x (filled slots)
-one [] s h x is = cc
-one (o ∷ slots) zero h x is = grind (arith, nat_tests, counted x (h, x) (filled slots))
-one (None ∷ slots) (suc s) h x is = one slots s h x is
-one (Some m ∷ slots) (suc s) h x is = grind (arith, nat_tests, counted x m (filled slots), one slots s h x)
+behind : (m : ℕ × ℕ) (ms : List (ℕ × ℕ)) (n : ℕ × ℕ) → IsDistinct same_index (m ∷ ms) → Contains ms n → nat_eq m.1 n.1 ≡ false
+behind m ms n distinct (k, below, is) = grind (arith, nat_tests, apart_from_distinct same_index (m ∷ ms) 0 (suc k) n distinct (omega arith) (omega arith))
 
-two : (slots : List (Option (ℕ × ℕ))) (s u h k x : ℕ) → s < u → get_or slots s None ≡ Some (h, x) → get_or slots u None ≡ Some (k, x) → 2 ≤ standing x (filled slots)
-two [] s u h k x below is also = cc
-two (o ∷ slots) s zero h k x below is also = absurd (omega arith)
-two (o ∷ slots) zero (suc u) h k x below is also = grind (arith, nat_tests, counted x (h, x) (filled slots), one slots u k x)
-two (None ∷ slots) (suc s) (suc u) h k x below is also = two slots s u h k x (omega arith) is also
-two (Some m ∷ slots) (suc s) (suc u) h k x below is also = grind (arith, nat_tests, counted x m (filled slots), two slots s u h k x)
-
-later_none : (n : ℕ) (hs : List ℕ) (x : ℕ) → x < n → standing x (numbered_from n hs) ≡ 0
-unfolding standing
-later_none n [] x below = refl
-later_none n (h ∷ hs) x below = grind (arith, nat_tests, counted x (h, n) (numbered_from (n + 1) hs), later_none (n + 1) hs x)
-
-at_most_one : (n : ℕ) (hs : List ℕ) (x : ℕ) → standing x (numbered_from n hs) ≤ 1
-unfolding standing
-at_most_one n [] x = omega arith
-at_most_one n (h ∷ hs) x = grind (arith, nat_tests, counted x (h, n) (numbered_from (n + 1) hs), later_none (n + 1) hs x, at_most_one (n + 1) hs x)
+-- the members of two slots are apart
+apart : (slots : List (Option (ℕ × ℕ))) (s u h k x : ℕ) → IsDistinct same_index (filled slots) → s < u → get_or slots s None ≡ Some (h, x) → get_or slots u None ≡ Some (k, x) → ⊥
+apart [] s u h k x once below is also = cc
+apart (None ∷ slots) zero u h k x once below is also = cc
+apart (o ∷ slots) s zero h k x once below is also = absurd (omega arith)
+apart (Some m ∷ slots) zero (suc u) h k x once below is also = grind (arith, nat_tests, behind m (filled slots) (k, x) once (in_filled slots u (k, x) also))
+apart (None ∷ slots) (suc s) (suc u) h k x once below is also = apart slots s u h k x once (omega arith) is also
+apart (Some m ∷ slots) (suc s) (suc u) h k x once below is also = apart slots s u h k x (IsDistinct-tail same_index m (filled slots) once) (omega arith) is also
 
 -- ---- a table whose members they are
 in_slots : (slots : List (Option (ℕ × ℕ))) (m : ℕ × ℕ) → Contains (filled slots) m → (s : ℕ) × (get_or slots s None ≡ Some m)
@@ -167,14 +139,10 @@ module _ (hs : List ℕ) (t : Table ℕ) (bag : IsPermutation (numbered hs) (mem
       let m : ℕ × ℕ = (get_or hs i 0, i) in
       Contains-permutation (numbered hs) (members t) m bag (i, omega (arith, below, length-numbered 0 hs), at-numbered hs i m below)
 
-  single_standing : (x : ℕ) → standing x (members t) ≤ 1
-  unfolding standing
-  single_standing x =
-      let q : ℕ × ℕ → Bool = λ m. nat_eq m.1 x in
-      omega (arith, at_most_one 0 hs x, length_permutation (filter q (numbered hs)) (filter q (members t)) (IsPermutation-filter q (numbered hs) (members t) bag))
-
   pub stands-once : StandsOnce t.slots
-  stands-once = record { once = λ s u h k x is also. grind (arith, two t.slots s u h k x, two t.slots u s k h x, single_standing x) }
+  stands-once =
+      let once = IsDistinct-IsPermutation same_index (λ m k. grind (arith, nat_tests)) (numbered hs) (members t) bag (distinct hs) in
+      record { once = λ s u h k x is also. grind (arith, apart t.slots s u h k x once, apart t.slots u s k h x once) }
 
   -- the hashes that the cells name are these
   pub hashes-back : (cells : List ℕ) → length cells ≡ length hs → IsSited cells t.slots → hashes_in t.slots cells ≡ hs
@@ -193,27 +161,23 @@ module _ (hs : List ℕ) (t : Table ℕ) (bag : IsPermutation (numbered hs) (mem
         (IsPermutation-trans (x ∷ remove (numbered hs) k) (numbered hs) (members t) (IsPermutation-sym (numbered hs) (x ∷ remove (numbered hs) k) apart) bag) taken)
 
     pub left-none : (s h x : ℕ) → member_at mid s ≡ Some (h, x) → x ≢ k
-    unfolding standing
     left-none s h x is same =
-        let q : ℕ × ℕ → Bool = λ m. nat_eq m.1 x in
         let m : ℕ × ℕ = (get_or hs k 0, k) in
-        let both = length_permutation (filter q (members t)) (filter q (m ∷ members mid)) (IsPermutation-filter q (members t) (m ∷ members mid) taken) in
-        grind (arith, nat_tests, one mid.slots s h x, counted x m (members mid), single_standing x)
+        let once = IsDistinct-IsPermutation same_index (λ m k. grind (arith, nat_tests)) (numbered hs) (m ∷ members mid) (IsPermutation-trans (numbered hs) (members t) (m ∷ members mid) bag taken) (distinct hs) in
+        grind (arith, nat_tests, behind m (members mid) (h, x) once (members-member_at mid s (h, x) is))
 
     pub left-there : (cells : List ℕ) → IsSited cells mid.slots → (i : ℕ) → i < length hs → i ≢ k → member_at mid (get_or cells i 0) ≡ Some (get_or hs i 0, i)
     left-there cells sited i inside apart =
-        let m : ℕ × ℕ = (get_or hs i 0, i) in
-        named-there cells mid (get_or hs i 0) i sited (behind (Contains-permutation (members t) ((get_or hs k 0, k) ∷ members mid) m taken (held i inside)))
-      where
-        behind : Contains ((get_or hs k 0, k) ∷ members mid) (get_or hs i 0, i) → Contains (members mid) (get_or hs i 0, i)
-        behind (zero, lt, is) = absurd (apart (sym (ap (λ m. m.1) is)))
-        behind (suc j, lt, is) = (j, omega (arith, lt), is)
+        let m : ℕ × ℕ = (get_or hs k 0, k) in
+        let n : ℕ × ℕ = (get_or hs i 0, i) in
+        named-there cells mid (get_or hs i 0) i sited
+        (Contains-tail m (members mid) n (λ same. apart (sym (ap (λ m. m.1) same))) (Contains-permutation (members t) (m ∷ members mid) n taken (held i inside)))
 
   pub none-under : (hash : ℕ) → items_under hash t ≡ [] → All (λ h. h ≢ hash) hs
   none-under hash none =
       let q : ℕ × ℕ → Bool = λ m. nat_eq m.0 hash in
-      let nothing : length (filter q (members t)) ≡ 0 = sym (length-map (filter q (members t)) (λ m. m.1)) ∙ ap length (sym (items-items_under hash t)) ∙ length-map (items_under hash t) (λ s. s.1) ∙ ap length none in
-      none-among hash 0 hs (sym (length_permutation (filter q (numbered hs)) (filter q (members t)) (IsPermutation-filter q (numbered hs) (members t) bag)) ∙ nothing)
+      let nothing : length (filter q (members t)) ≡ 0 = grind (arith, length-map, ap length (items-items_under hash t), ap length none) in
+      none-among hash 0 hs (grind (arith, length_permutation (filter q (numbered hs)) (filter q (members t)) (IsPermutation-filter q (numbered hs) (members t) bag)))
 
 -- the members once each index is another
 pub filled-renamed : (name : ℕ → ℕ) (slots : List (Option (ℕ × ℕ))) → filled (renamed name slots) ≡ map (renaming name) (filled slots)

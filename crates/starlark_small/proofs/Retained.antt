@@ -14,10 +14,9 @@ module _ {F K V : Type 0} (g : Mut F (Bor K × (MutBor V × Unit {0})) (Bool × 
   pub all_retained : (P : Hashed K → Type 0) (f : F) (es kept : List (Entry K V)) → Retains (CalledAtEntry g) f es kept → All (λ e. P e.0) es → All (λ e. P e.0) kept
   all_retained P f [] kept none all = subst (λ l. All (λ e. P e.0) l) (sym none) all
   all_retained P f (e ∷ es) kept (true, d, f', rest, called, others, is) all =
-      subst (λ l. All (λ x. P x.0) l) (sym is)
-      (All-cons (λ x. P x.0) d rest (subst P (sym (ap (λ x. x.0) called.leaves)) (All-head (λ x. P x.0) e es all)) (all_retained P f' es rest others (All-tail (λ x. P x.0) e es all)))
-  all_retained P f (e ∷ es) kept (false, d, f', rest, called, others, is) all =
-      subst (λ l. All (λ x. P x.0) l) (sym is) (all_retained P f' es rest others (All-tail (λ x. P x.0) e es all))
+      let here : P d.0 = subst P (sym (ap (λ x. x.0) called.leaves)) (All-head (λ x. P x.0) e es all) in
+      rw is (All-cons (λ x. P x.0) d rest here (all_retained P f' es rest others (All-tail (λ x. P x.0) e es all)))
+  all_retained P f (e ∷ es) kept (false, d, f', rest, called, others, is) all = rw is (all_retained P f' es rest others (All-tail (λ x. P x.0) e es all))
 
   -- a single list stays so
   pub IsSingle-retained : (eq : K → K → Bool) (f : F) (es kept : List (Entry K V)) → Retains (CalledAtEntry g) f es kept → IsSingle eq es → IsSingle eq kept
@@ -25,13 +24,10 @@ module _ {F K V : Type 0} (g : Mut F (Bor K × (MutBor V × Unit {0})) (Bool × 
   IsSingle-retained eq f (e ∷ es) kept (true, d, f', rest, called, others, is) single =
       let apart : All (λ x. nat_eq x.0.hash.0 e.0.hash.0 && eq e.0.key x.0.key ≡ false) rest =
       all_retained (λ k. nat_eq k.hash.0 e.0.hash.0 && eq e.0.key k.key ≡ false) f' es rest others (λ i x below. single 0 (suc i) x (omega arith) (omega arith)) in
-      let key : d.0 ≡ e.0 = ap (λ x. x.0) called.leaves in
-      subst (λ l. IsSingle eq l) (sym is)
-      (AllPairs-cons (λ x y. stands_under x.0.hash (eq x.0.key) y ≡ false) d rest
-      (subst (λ k. All (λ x. nat_eq x.0.hash.0 k.hash.0 && eq k.key x.0.key ≡ false) rest) (sym key) apart)
+      rw is (AllPairs-cons (λ x y. stands_under x.0.hash (eq x.0.key) y ≡ false) d rest (rw (ap (λ x. x.0) called.leaves) apart)
       (IsSingle-retained eq f' es rest others (λ i j x before below. single (suc i) (suc j) x (omega arith) (omega arith))))
   IsSingle-retained eq f (e ∷ es) kept (false, d, f', rest, called, others, is) single =
-      subst (λ l. IsSingle eq l) (sym is) (IsSingle-retained eq f' es rest others (λ i j x before below. single (suc i) (suc j) x (omega arith) (omega arith)))
+      rw is (IsSingle-retained eq f' es rest others (λ i j x before below. single (suc i) (suc j) x (omega arith) (omega arith)))
 
   -- where it answers as a test of the entry and leaves the value, it filters the list
   pub filtered : (test : Entry K V → Bool) → ((f : F) (e : Entry K V) (keeps : Bool) (d : Entry K V) (left : F) → CalledAtEntry g f e keeps d left → (keeps ≡ test e) × (d ≡ e))

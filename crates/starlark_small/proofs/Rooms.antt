@@ -1,29 +1,20 @@
 -- How much room a list and its index have after each change.
-use Rattle.starlark_hash.proofs.Common.{◌≡◌, ℕ, Bool, ◌+◌, ◌-◌, ◌<◌, ◌≤◌, ◌∙◌, List, Option, arith, min, length, sym, ap, subst, is_some, remove, length-remove}
+use Rattle.starlark_hash.proofs.Common.{◌≡◌, ℕ, ◌+◌, ◌-◌, ◌<◌, ◌≤◌, ◌∙◌, Option, refl, arith, length, ap, is_some, remove, length-remove}
 use Rattle.std.proofs.Common.{option_map}
-use Rattle.starlark_hash.specs.Entries.{Entry, set_value_at}
-use Rattle.starlark_hash.proofs.EntryLemmas.{length-set_value_at, IsSingle-set_value_at}
+pub use Rattle.starlark_small.proofs.ValuesWritten.{IsSound-set_value_at}
+use Rattle.starlark_hash.specs.Entries.{set_value_at}
+use Rattle.starlark_hash.proofs.EntryLemmas.{length-set_value_at}
 use Rattle.starlark_small.specs.Hashes.{Hashes, forgotten}
-use Rattle.starlark_small.specs.Index.{IsIndexed, IsSound, index_room, map_of}
-use Rattle.starlark_small.specs.Map.{Map, KeepsMemory}
-use Rattle.starlark_small.proofs.Indexed.{IsIndexed-set_value_at, indexed-at, is_some-map, room-forgotten}
+use Rattle.starlark_small.specs.Index.{IsIndexed, index_room, map_of}
+use Rattle.starlark_small.specs.Map.{KeepsMemory}
+use Rattle.starlark_small.proofs.Indexed.{indexed-at, is_some-map, room-forgotten}
 use Rattle.starlark_vecmap.specs.EntryList.{EntryList, with_entries}
 
 module _ {K V : Type 0} where
   -- a value was written
-  pub IsSound-set_value_at : (eq : K → K → Bool) (es : List (Entry K V)) (i : ℕ) (value : V) (index : Option Hashes) → IsSound eq es index → IsSound eq (set_value_at es i value) index
-  IsSound-set_value_at eq es i value index sound =
-      record { single = IsSingle-set_value_at eq es sound.single i value; indexed = IsIndexed-set_value_at es i value index sound.indexed }
-
-  -- a map of these entries, with the room of so many
-  abbrev map_at : List (Entry K V) → ℕ → ℕ → Option Hashes → Map K V
-  map_at es len capacity index = record { entries = es; room = min (capacity - len) (index_room len index); capacity = capacity; indexed = is_some index }
-
   pub map_of-set_value_at : (old new : EntryList K V) (i : ℕ) (value : V) (index : Option Hashes) → new ≡ with_entries old (set_value_at old.entries i value)
       → map_of new index ≡ record (map_of old index) { entries = new.entries }
-  map_of-set_value_at old new i value index is =
-      subst (λ l. map_of l index ≡ record (map_of old index) { entries = l.entries }) (sym is)
-      (ap (λ n. map_at (set_value_at old.entries i value) n old.capacity index) (length-set_value_at old.entries i value))
+  map_of-set_value_at old new i value index is = rw (is, length-set_value_at old.entries i value) refl
 
   -- an entry was taken out
   pub KeepsMemory-removed : (old new : EntryList K V) (i : ℕ) (index after : Option Hashes) → new.entries ≡ remove old.entries i → new.capacity ≡ old.capacity → i < length old.entries → length old.entries ≤ old.capacity → IsIndexed old.entries index

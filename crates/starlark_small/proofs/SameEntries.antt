@@ -1,12 +1,13 @@
 -- The equality of lists of entries with no regard to order, by one look-up for each entry of one.
-use Rattle.starlark_hash.proofs.Common.{common_steps, ◌≡◌, ℕ, suc, ◌<◌, Bool, true, false, List, [], ◌∷◌, length, get_or, Option, Some, sym, ◌∙◌, arith, eq-eqb, slice_get, AllByRecursion, option_eq, false≢true, slice_get_within}
+use Rattle.starlark_hash.proofs.Common.{common_steps, ◌≡◌, ℕ, ◌<◌, Bool, true, false, List, [], ◌∷◌, length, get_or, Option, Some, sym, ◌∙◌, arith, eq-eqb, slice_get, get_or-map, length-map, option_eq, false≢true, slice_get_within}
 use Rattle.std.specs.List.{IsDistinct}
+use Rattle.std.proofs.lemmas.Map.Keys.{IsDistinct-from_apart}
 use Rattle.core.specs.Cmp.{IsEquivalence}
 use Rattle.std_collections.specs.Map.{keys_of, lookup}
 use Rattle.std_collections.specs.HashMap.Eq.{get_from_hash_map_eq}
 use Rattle.std_collections.proofs.HashMapEq.{key_at, own_value, equal_by_keys}
 use Rattle.starlark_hash.specs.declared.hashed.Hashed.{Hashed}
-use Rattle.starlark_hash.specs.Entries.{Entry, IsSingle, value_at, match_of, stands_under}
+use Rattle.starlark_hash.specs.Entries.{Entry, IsSingle, value_at, match_of}
 use Rattle.starlark_small.specs.Compare.{agree_at, same_entries}
 use Rattle.starlark_small.specs.CompareLaws.{alike, alike-laws, value_at-lookup, as_map, as_maps, both}
 
@@ -15,18 +16,12 @@ refuted : (b : Bool) → (b ≡ true → ⊥) → false ≡ b
 refuted b f = grind (arith, common_steps)
 
 module _ {K V : Type 0} (eq : K → K → Bool) where
-  none_alike : (q : Hashed K) (es : List (Entry K V)) → ((k : ℕ) (e : Entry K V) → k < length es → stands_under q.hash (eq q.key) (get_or es k e) ≡ false)
-      → AllByRecursion (λ x. alike eq q x ≡ false) (keys_of es)
-  none_alike q [] none = tt
-  none_alike q (e ∷ es) none = (none 0 e (omega arith), none_alike q es (λ k x below. none (suc k) x (omega arith)))
-
   pub distinct : (es : List (Entry K V)) → IsSingle eq es → IsDistinct (alike eq) (keys_of es)
   unfolding IsDistinct
   distinct [] single = tt
-  distinct (e ∷ es) single = (
-    none_alike e.0 es (λ k x below. single 0 (suc k) x (omega arith) (omega arith)),
-    distinct es (λ i j x before below. single (suc i) (suc j) x (omega arith) (omega arith)),
-  )
+  distinct (e ∷ es) single = IsDistinct-from_apart (alike eq) (keys_of (e ∷ es)) (λ i j d before below.
+      let inside : j < length (e ∷ es) = omega (arith, below, length-map (e ∷ es) (λ x. x.0)) in
+      rw (get_or-map (λ x. x.0) (e ∷ es) i e d (omega arith), get_or-map (λ x. x.0) (e ∷ es) j e d inside) (single i j e before inside))
 
   -- the index of an entry is where its own key is found
   pub own_match : IsEquivalence eq → (es : List (Entry K V)) (i : ℕ) (e : Entry K V) → slice_get es i ≡ Some e → IsSingle eq es → i < length es

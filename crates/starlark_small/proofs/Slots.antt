@@ -1,6 +1,6 @@
 -- The slot of each index: what the cells say as indices are put in, move, go down and are taken out.
 use Rattle.std.proofs.lemmas.List.{ext_get_or}
-use Rattle.starlark_hash.proofs.Common.{common_steps, ◌≡◌, ◌≢◌, ℕ, ◌+◌, ◌-◌, ◌<◌, ◌≤◌, List, [], ◌∷◌, ◌++◌, length, get_or, take, Option, Some, None, refl, sym, ap, ◌∙◌, arith, if◌then◌else◌, nat_lt, remove, reverse, All, set, get_or-append_seam, nat_tests, length-reverse, length-take, get_or-take, length-remove, All-contains, none-some, same_Some}
+use Rattle.starlark_hash.proofs.Common.{common_steps, ◌≡◌, ◌≢◌, ℕ, ◌+◌, ◌-◌, ◌<◌, ◌≤◌, List, [], ◌∷◌, ◌++◌, length, get_or, take, Option, Some, None, ap, ◌∙◌, arith, if◌then◌else◌, nat_lt, remove, reverse, All, set, get_or-append_seam, nat_tests, length-reverse, length-take, get_or-take, length-remove, All-contains, none-some, same_Some}
 use Rattle.std.proofs.Common.{option_map}
 use Rattle.std.proofs.lemmas.List.{get_or-reverse}
 use Rattle.std.proofs.lemmas.List.Edits.{get_or-remove_below, get_or-remove_above}
@@ -106,27 +106,12 @@ sited-reversed cells slots sited = sited-renamed (λ i. length cells - 1 - i) ce
 abbrev pub lowered_to : ℕ → ℕ → ℕ → ℕ
 lowered_to i j x = if nat_lt x j then lowered i x else x
 
-renamed-alike : (f g : ℕ → ℕ) (slots : Slots) → ((s h x : ℕ) → get_or slots s None ≡ Some (h, x) → f x ≡ g x) → renamed f slots ≡ renamed g slots
-renamed-alike f g slots alike =
-    ext_get_or None (renamed f slots) (renamed g slots) (grind (arith, common_steps)) (λ s lt. grind (arith, common_steps, read_map f slots s, read_map g slots s, alike s))
-
-renamed-same : (slots : Slots) → renamed (λ x. x) slots ≡ slots
-renamed-same [] = refl
-renamed-same (None ∷ slots) = ap (λ l. None ∷ l) (renamed-same slots)
-renamed-same (Some m ∷ slots) = ap (λ l. Some m ∷ l) (renamed-same slots)
-
-renamed-one : (f g : ℕ → ℕ) (slots : Slots) (slot h x : ℕ) → get_or slots slot None ≡ Some (h, x) → ((s k y : ℕ) → s ≢ slot → get_or slots s None ≡ Some (k, y) → f y ≡ g y)
-    → set (renamed f slots) slot (Some (h, g x)) ≡ renamed g slots
-renamed-one f g slots slot h x is alike =
-    ext_get_or None (set (renamed f slots) slot (Some (h, g x))) (renamed g slots) (grind (arith, common_steps))
-    (λ s lt. grind (arith, common_steps, read_map f slots s, read_map g slots s, alike s))
-
 module _ (i : ℕ) (cells : List ℕ) (t : Table ℕ) (sited : IsSited cells t.slots) where
   pub lowered-none : t.slots ≡ renamed (lowered_to i (i + 1)) t.slots
-  lowered-none = sym (renamed-alike (lowered_to i (i + 1)) (λ x. x) t.slots (λ s h x is. grind (arith, nat_tests)) ∙ renamed-same t.slots)
+  lowered-none = ext_get_or None t.slots (renamed (lowered_to i (i + 1)) t.slots) (grind (arith, common_steps)) (λ s lt. grind (arith, common_steps, nat_tests, read_map (lowered_to i (i + 1)) t.slots s))
 
   pub lowered-all : (j : ℕ) → length cells ≤ j → renamed (lowered_to i j) t.slots ≡ renamed (lowered i) t.slots
-  lowered-all j all = renamed-alike (lowered_to i j) (lowered i) t.slots (λ s h x is. let lt : x < j = omega (arith, sited.within s h x is, all) in grind (arith, nat_tests))
+  lowered-all j all = ext_get_or None (renamed (lowered_to i j) t.slots) (renamed (lowered i) t.slots) (grind (arith, common_steps)) (λ s lt. grind (arith, common_steps, nat_tests, read_map (lowered_to i j) t.slots s, read_map (lowered i) t.slots s, sited.within s))
 
   -- an index is the next to go down, in the slot that its cell names
   module _ (j h : ℕ) (above : i < j) (now : Table ℕ) (at : member_at t (get_or cells j 0) ≡ Some (h, j)) (held : now.slots ≡ renamed (lowered_to i j) t.slots) where
@@ -137,9 +122,8 @@ module _ (i : ℕ) (cells : List ℕ) (t : Table ℕ) (sited : IsSited cells t.s
     pub lowered-next : (with_item now (get_or cells j 0) (j - 1)).slots ≡ renamed (lowered_to i (j + 1)) t.slots
     lowered-next =
         let slot = get_or cells j 0 in
-        let one = renamed-one (lowered_to i j) (lowered_to i (j + 1)) t.slots slot h j at (λ s k y apart is.
-        let other : y ≢ j = λ same. apart (sym (sited.named s k y is) ∙ ap (λ x. get_or cells x 0) same) in grind (arith, nat_tests)) in
-        grind (arith, nat_tests, next-there)
+        ext_get_or None (with_item now slot (j - 1)).slots (renamed (lowered_to i (j + 1)) t.slots) (grind (arith, common_steps)) (λ s lt.
+        grind (arith, common_steps, nat_tests, read_map (lowered_to i j) t.slots s, read_map (lowered_to i (j + 1)) t.slots s, sited.named s, next-there))
 
 -- ---- the last index is gone
 pub sited-last : (cells : List ℕ) (t : Table ℕ) (n : ℕ) → n ≤ length cells → All (λ m. m.1 < n) (members t) → IsSited cells t.slots → IsSited (take n cells) t.slots

@@ -8,18 +8,10 @@ use Rattle.starlark_hash.specs.declared.no_room.NoRoom.{NoRoom}
 use Rattle.starlark_small.specs.Lend.{lends_inserted, unhashed}
 use Rattle.starlark_small.specs.Map.{Map}
 
-module _ {T K V : Type 0} where
-  pub ok_unhashed : (answer : Result T (NoRoom (Hashed K × V))) (P : T → Type 0) → IfOk answer P → IfOk (unhashed answer) P
-  ok_unhashed (Ok x) P is = is
-  ok_unhashed (Err e) P is = tt
-
-  pub full_unhashed : (answer : Result T (NoRoom (Hashed K × V))) (P : Type 0) → OnErr answer P → OnErr (unhashed answer) P
-  full_unhashed (Ok x) P is = is
-  full_unhashed (Err e) P is = is
-
-  pub back_unhashed : (answer : Result T (NoRoom (Hashed K × V))) (key : Hashed K) (value : V) → IfErr answer (λ back. back.0 ≡ (key, value)) → IfErr (unhashed answer) (λ back. back.0 ≡ (key_of key, value))
-  back_unhashed (Ok x) key value is = tt
-  back_unhashed (Err e) key value is = ap (λ (p : Hashed K × V). (key_of p.0, p.1)) is
+pub told_unhashed : {T K V : Type 0} (answer : Result T (NoRoom (Hashed K × V))) (P : T → Type 0) (Q : Type 0) (key : Hashed K) (value : V) → IfOk answer P → OnErr answer Q → IfErr answer (λ back. back.0 ≡ (key, value))
+    → IfOk (unhashed answer) P × OnErr (unhashed answer) Q × IfErr (unhashed answer) (λ back. back.0 ≡ (key_of key, value))
+told_unhashed (Ok x) P Q key value shown full back = (shown, full, tt)
+told_unhashed (Err e) P Q key value shown full back = (tt, full, ap (λ p. (key_of p.0, p.1)) back)
 
 module _ (K V : RattleType) (g : eq.Ghosts K.Denot) (s : MutBor (Map K.Denot V.Denot)) where
   pub lent_unhashed : (key : Hashed K.Denot) (answer : Result (Bor K.Denot × MutBor V.Denot) (NoRoom (Hashed K.Denot × V.Denot))) → lends_inserted K V g s key answer ≡ lends_inserted K V g s key (unhashed answer)

@@ -49,6 +49,7 @@ impl<K: Eq, V> Model for SmallMap<K, V> {
 
 impl<K: Eq, V> SmallMap<K, V> {
     /// An empty map without room, capacity and index. It asks for no memory until the first insertion.
+    #[tactic(auto, using(crate::proofs::CallerOwn::emptied))]
     #[inline]
     pub fn new(alloc: Global) -> Self
         ensures { IsBare result }
@@ -61,6 +62,7 @@ impl<K: Eq, V> SmallMap<K, V> {
 
     /// An empty map of this capacity, with room for so many entries, and with an index where so many need one. Where
     /// memory is refused, nothing is made; capacity 0 asks for none.
+    #[tactic(auto, using(crate::proofs::CallerOwn::emptied))]
     #[inline(always)]
     pub fn with_capacity(alloc: Global, capacity: usize) -> Result<Self, AllocError>
         ensures { MakesEmptyFor capacity result }

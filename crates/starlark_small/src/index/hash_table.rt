@@ -90,6 +90,7 @@ impl HashTable {
     }
 
     /// How many hashes there are.
+    #[tactic(auto, using(crate::proofs::TableLengths::lengths))]
     #[inline]
     pub(super) fn len(&self) -> usize
         ensures { result ≡ length self.now.list }
@@ -174,6 +175,7 @@ impl HashTable {
     }
 
     /// Takes out the hash at this index. Those after it move up.
+    #[tactic(auto, using(crate::proofs::TableLengths::lengths))]
     #[inline(never)]
     pub(super) fn forget(&mut self, index: usize)
         requires { index < length self.old.list }
@@ -185,6 +187,7 @@ impl HashTable {
     }
 
     /// Takes the last hash out.
+    #[tactic(auto, using(crate::proofs::TableLengths::lengths))]
     #[inline(always)]
     pub(super) fn forget_last(&mut self)
         requires { 0 < length self.old.list }

@@ -14,6 +14,7 @@ use std::hash::Hash;
 
 impl<K: Eq, V> SmallMap<K, V> {
     /// The value under this hash whose key the query stands for.
+    #[tactic(auto, using(crate::proofs::CallerLookup::look_ups))]
     #[inline(always)]
     pub fn get_hashed<Q: Query<K>>(&self, key: Hashed<Q>) -> Option<&V>
         ensures { FindsValue (Q.stands_for (key_of key)) (hash_of key) self.now (option_copied result) }
@@ -32,6 +33,7 @@ impl<K: Eq, V> SmallMap<K, V> {
     }
 
     /// The index under this hash whose key the query stands for, with the key and the value there.
+    #[tactic(auto, using(crate::proofs::CallerLookup::look_ups))]
     #[inline(always)]
     pub fn get_full_hashed<Q: Query<K>>(&self, key: Hashed<Q>) -> Option<(usize, &K, &V)>
         ensures { FindsEntry (Q.stands_for (key_of key)) (hash_of key) self.now result }
@@ -42,6 +44,7 @@ impl<K: Eq, V> SmallMap<K, V> {
     }
 
     /// The index under this hash whose key the query stands for.
+    #[tactic(auto, using(crate::proofs::CallerLookup::look_ups))]
     #[inline(always)]
     pub fn get_index_of_hashed<Q: Query<K>>(&self, key: Hashed<Q>) -> Option<usize>
         ensures names { NamesIndex (Q.stands_for (key_of key)) (hash_of key) self.now result }
@@ -77,6 +80,7 @@ impl<K: Eq, V> SmallMap<K, V> {
     }
 
     /// Whether there is an entry under this hash whose key the query stands for.
+    #[tactic(auto, using(crate::proofs::CallerLookup::look_ups))]
     #[inline(always)]
     pub fn contains_key_hashed<Q: Query<K>>(&self, key: Hashed<Q>) -> bool
         ensures { TellsPresence (Q.stands_for (key_of key)) (hash_of key) self.now result }

@@ -16,6 +16,7 @@ use std::mem;
 
 impl<K: Eq, V> SmallMap<K, V> {
     /// Inserts under the key's own hash, as `insert_hashed` does under one that is brought.
+    #[tactic(auto, using(crate::proofs::CallerInsert::handed_on))]
     #[inline(always)]
     pub fn insert(&mut self, key: K, value: V) -> Result<Option<V>, NoRoom<(K, V)>>
     where

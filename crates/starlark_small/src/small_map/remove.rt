@@ -14,6 +14,7 @@ use std::hash::Hash;
 impl<K: Eq, V> SmallMap<K, V> {
     /// Removes the entry under this hash whose key the query stands for, drops its key and answers its value. Those
     /// after it move up. Capacity and index stay.
+    #[tactic(auto, using(crate::proofs::CallerLookup::look_ups))]
     pub fn shift_remove_hashed<Q: Query<K>>(&mut self, key: Hashed<Q>) -> Option<V>
     where
         K: Drop,
@@ -26,6 +27,7 @@ impl<K: Eq, V> SmallMap<K, V> {
 
     /// Removes the entry under this hash whose key the query stands for, and answers its key and value. Those after it
     /// move up. Capacity and index stay.
+    #[tactic(auto, using(crate::proofs::CallerLookup::look_ups, crate::proofs::CallerRemove::removed))]
     pub fn shift_remove_hashed_entry<Q: Query<K>>(&mut self, key: Hashed<Q>) -> Option<(K, V)>
         ensures taken { FindsPair (Q.stands_for (key_of key)) (hash_of key) self.old result }
         ensures removes { Removes K.eq (Q.stands_for (key_of key)) (hash_of key) self.old self.new }
@@ -66,6 +68,7 @@ impl<K: Eq, V> SmallMap<K, V> {
     }
 
     /// Removes the entry at an index, and answers it. Those after it move up. Capacity and index stay.
+    #[tactic(auto, using(std::proofs::lemmas::Grind::common_steps, std::proofs::lemmas::Option::slice_get_past))]
     pub fn shift_remove_index_hashed(&mut self, index: usize) -> Option<(Hashed<K>, V)>
         ensures taken { result ≡ slice_get self.old.entries index }
         ensures takes { TakesAt K.eq index self.old self.new (option_map pair_of result) }
@@ -86,6 +89,7 @@ impl<K: Eq, V> SmallMap<K, V> {
     }
 
     /// Removes each entry. Capacity and index stay for those to come.
+    #[tactic(auto, using(std::proofs::lemmas::Grind::common_steps, crate::proofs::CallerOwn::emptied))]
     pub fn clear(&mut self)
     where
         K: Drop,

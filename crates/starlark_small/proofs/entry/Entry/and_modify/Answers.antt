@@ -1,5 +1,5 @@
-use Rattle.starlark_hash.proofs.Common.{◌≡◌, Option, Some, refl, rules, sym, ap, subst, ◌∙◌}
-use Rattle.starlark_small.specs.MapEntry.{with_entry_value, entry_value_of, Puts, IsLeftBy}
+use Rattle.starlark_hash.proofs.Common.{◌≡◌, Some, refl, rules, sym, ap, subst, ◌∙◌}
+use Rattle.starlark_small.specs.MapEntry.{with_entry_value, entry_value_of, Puts}
 use Rattle.starlark_small.proofs.CallerEntry.{value-with_entry_value, puts-with_entry_value, refuses-occupied}
 use Rattle.starlark_small.proofs.entry.Entry.and_modify.Goals as goal
 
@@ -18,8 +18,7 @@ returns-in-Occupied g c =
         entry = refl;
       });
       changed = rw (was, now) (record { lent = c.get_mut.result; result = c.f.result; left = _; before = refl; met = c.f.ensures; after = refl });
-      left = subst (λ (p : Option g.row.V.Denot × Option g.row.V.Denot). IsLeftBy g.F.FnOnce c.args.f p.0 p.1) (λ i. (sym was i, sym now i))
-          (record { lent = c.get_mut.result; result = c.f.result; left = _; before = refl; met = c.f.ensures; after = refl });
+      left = rw (was, now) (record { lent = c.get_mut.result; result = c.f.result; left = _; before = refl; met = c.f.ensures; after = refl });
       puts = λ value new put. subst (λ e. Puts e value new) (sym c.in-Occupied.is) (puts-with_entry_value o c.f.new.arg2 value new put);
       refused = λ new refused. refuses-occupied (with_entry_value o c.f.new.arg2) c.args.self new refused;
     }

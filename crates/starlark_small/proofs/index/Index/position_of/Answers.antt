@@ -1,11 +1,8 @@
 use Rattle.starlark_hash.proofs.Common.{sym, ◌∙◌, ap, rules, of_calls}
 use Rattle.starlark_hash.specs.HashValue.{key_of}
 use Rattle.starlark_hash.specs.Entries.{position_of}
-use Rattle.starlark_hash.proofs.SearchLemmas.{can_search, is_test, search-position_of}
+use Rattle.starlark_hash.proofs.SearchLemmas.{is_test, search-position_of}
 use Rattle.starlark_small.proofs.index.Index.position_of.Goals as goal
-
-pub find_in-requires-clause-callable : goal.find_in-requires-clause-callable
-find_in-requires-clause-callable g c = can_search _ _ _ (search (rules, of_calls))
 
 pub returns-in-Some : goal.returns-in-Some
 returns-in-Some g c =

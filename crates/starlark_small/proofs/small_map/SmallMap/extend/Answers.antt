@@ -10,8 +10,7 @@ returns g c =
     let made = c.into_iter.ensures.into_iter_gives in
     let extends : Extends g.K.PartialEq.eq (own_entry g.K.Hash.hash_input) g.I.IntoIter.Iterator.next_gives g.I.IntoIterator.into_iter_gives c.args.iter c.args.self.now.entries c.insert_items.new.self.entries c.insert_items.result = record { it = c.into_iter.result; made = made; inserts = put } in
     record {
-      found = finds_extended g.K.PartialEq.eq g.met.K.Eq.laws g.K.Hash.hash_input g.met.K.Hash.respects_eq g.I.IntoIter.Iterator.next_gives g.I.IntoIterator.into_iter_gives c.args.iter
-          c.insert_items.result c.args.self.now c.insert_items.new.self extends;
+      found = finds_extended _ g.met.K.Eq.laws _ g.met.K.Hash.respects_eq _ _ _ _ c.args.self.now c.insert_items.new.self extends;
       entries = extends;
       memory = search (rules, c.insert_items.ensures.memory, made);
       left = (c.into_iter.result, made, c.insert_items.ensures.left);

@@ -1,9 +1,8 @@
-use Rattle.starlark_hash.proofs.Common.{◌≡◌, Some, refl, ap, ◌∙◌, rules}
+use Rattle.starlark_hash.proofs.Common.{◌≡◌, Some, refl, ap, rules}
 use Rattle.starlark_hash.specs.HashValue.{hash_of, key_of}
 use Rattle.starlark_hash.specs.Entries.{position_of, with_value}
-use Rattle.starlark_small.specs.Lookup.{keys}
-use Rattle.starlark_small.proofs.CallerEntry.{keys-with_value, writes-with_value}
-use Rattle.starlark_small.proofs.CallerLookup.{finds-value}
+use Rattle.starlark_small.proofs.CallerEntry.{writes-with_value}
+use Rattle.starlark_small.proofs.CallerLookup.{finds-value, keys-set_value_at}
 use Rattle.starlark_small.proofs.small_map.SmallMap.get_mut_hashed.Goals as goal
 
 pub returns-in-Some : goal.returns-in-Some
@@ -16,7 +15,7 @@ returns-in-Some g c =
         refl,
         λ w. (
           ap (λ p. record old { entries = with_value old.entries p w }) at,
-          ap (λ p. keys (record old { entries = with_value old.entries p w })) at ∙ keys-with_value hash test old.entries w,
+          keys-set_value_at old.entries c.in-Some.index w,
           λ there. writes-with_value g.K.PartialEq.eq g.met.K.Eq.laws hash test (g.met.Q.Query.respects_eq (key_of c.args.key)) old.entries _ w there (ap (λ p. with_value old.entries p w) at),
         ),
         refl,

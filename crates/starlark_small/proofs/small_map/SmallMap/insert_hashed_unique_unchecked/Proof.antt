@@ -1,6 +1,5 @@
 -- `insert_hashed_unique_unchecked` meets its contract, at any key and value types: the map is lent to the call that puts the entry at the end and comes back, and is then lent for good to the call that shows it. Assumes `Logic`.
-use Rattle.starlark_columns.proofs.Walking.{◌≡◌, refl, sym, subst, inl, inr, ℕ, ◌<◌, ◌^◌, suc-ne-zero, List, [], ◌∷◌, length, lit<, Ura, full_share, common, Fn, Args, Dict, a_type, dcons, dnil, named, w64, inst_fn, Val, vint, vptr, vcons, vnil, of_list, SProp, ent, sep, emp, wand, id⊢, apply∗, ex_e, snd∗, Lft, GName, Share, ftrue, fdead, flft, fres, Memory, Routine, Env, Calls, Loops, WpFn, Logic, sem, live, vrt, in_variant, by_variants, lft_new, lft_end, lft-common, ◌⊑◌, ⊑_trans, meet_⊑_left, meet_⊑_right, Fun, fact, fact_i, tables, FmC, ‵, raw, ◌⊛◌, some, given, later, at_ret, ◌$◌, ◌∵◌, !, qed, move, keep, drop, use0, use1, use2, use3, split, split3, join, pick, learn, fsplit, fsplit3, fjoin, suffices, frame, await, rewrite, group, done, whole, agg, stop, fld, addr, lit, of_opd, and_then, no_more, first, exec, returns, enter, alloc_all, pass_all, free_all, look_at, get, get_in, get_tag, through, sets, sets_last, lands_as, env, no, RattleType, owns, usize, follows, lends_again, comes_back, LentAgain, param, bounded, layout, Laws, param_laws, uint_Makes, uint_Tells, Bor, MutBor, MutRef, ShrRef, mut_vals, mut_Tells, plain, types_at, mut_ref_to, nothing, owned, heard, Tuple, tuple_laws, calls_at, Clauses, Ended, Lasts, ensured, lasts, triple_of, Contract, Triple, framed, Stays, stay_dropped, walk_of, ends_at, Goes-spent_ref, Goes-blank, Good, Ok-of, Err-of, and_tt, proved_at, Result, Ok, Err, None, IfOk, IfErr, OnOk, OnErr, slice_get, Some, option_map}
-use base.Share
+use Rattle.starlark_columns.proofs.Walking.{◌≡◌, refl, sym, subst, inl, inr, ℕ, ◌<◌, ◌^◌, suc-ne-zero, List, [], ◌∷◌, length, lit<, Ura, Fn, Args, Dict, a_type, dcons, dnil, named, w64, inst_fn, Val, vint, vptr, vcons, vnil, of_list, SProp, ent, emp, id⊢, ex_e, snd∗, Lft, GName, Share, ftrue, flft, fres, Memory, Routine, Env, Calls, Loops, WpFn, Logic, sem, live, vrt, in_variant, by_variants, ◌⊑◌, ⊑_trans, meet_⊑_right, Fun, fact, fact_i, tables, FmC, ‵, raw, ◌⊛◌, some, given, later, at_ret, ◌$◌, ◌∵◌, !, qed, move, keep, drop, use0, use1, use2, use3, split, split3, join, pick, learn, fsplit, fsplit3, fjoin, suffices, frame, await, rewrite, group, done, whole, agg, stop, fld, addr, lit, of_opd, and_then, no_more, first, exec, returns, enter, alloc_all, pass_all, free_all, look_at, get, get_in, get_tag, through, sets, sets_last, lands_as, env, no, RattleType, owns, usize, follows, param, bounded, layout, Laws, param_laws, uint_Makes, uint_Tells, Bor, MutBor, MutRef, ShrRef, mut_vals, mut_Tells, plain, types_at, mut_ref_to, nothing, owned, heard, Tuple, tuple_laws, calls_at, Clauses, Ended, Lasts, ensured, lasts, triple_of, Contract, Triple, framed, Stays, stay_dropped, walk_of, ends_at, Goes-spent_ref, Goes-blank, Good, Ok-of, Err-of, and_tt, proved_at, Result, Ok, Err, None, IfOk, IfErr, OnOk, OnErr, slice_get, Some, option_map}
 use Rattle.core.specs.contracts.result.Result as RS
 use Rattle.std.proofs.VecSteps.Shapes.{after}
 use Rattle.std.specs.declared.cmp.Eq as Eq
@@ -22,6 +21,7 @@ use Rattle.starlark_small.specs.contracts.small_map.SmallMap.entry_mut as e
 use Rattle.starlark_small.specs.contracts.small_map.SmallMap.insert_hashed_unique_unchecked as F
 use Rattle.starlark_small.specs.contracts.small_map.SmallMap.insert_hashed_unique_unchecked.Key.{name as #self}
 use Rattle.starlark_columns.proofs.LoneValue.{lone_value}
+use Rattle.starlark_columns.proofs.Steps.{Kept, within, lent_within, back_again}
 use Rattle.starlark_table.proofs.LentInResult.{given_up, so_rests, so_follows, in_ok_told, in_err, entry_val, entry_told, which}
 use Rattle.starlark_small.proofs.Inserted.{with_value_at, within_inserted, inserted_written, inserted_shown}
 use Rattle.starlark_small.proofs.small_map.SmallMap.push.Symbol.{name as #push}
@@ -53,18 +53,6 @@ module _ (K V : RattleType) (E : Eq.Ghosts K.Denot) (dE : Dict) (P : PartialEq.G
   abbrev Key : RattleType
   Key = H.the_row K'
 
-  abbrev Back : RattleType
-  Back = N.the_row (Tuple (Key ∷ V' ∷ []))
-
-  abbrev Pair : Lft → RattleType
-  Pair κ = Tuple (ShrRef (named 0) κ K' ∷ MutRef (named 0) κ V' ∷ [])
-
-  abbrev Out : Type 0
-  Out = Result (Bor K.Denot × MutBor V.Denot) (NoRoom (Hashed K.Denot × V.Denot))
-
-  abbrev back_laws : Laws K → Laws V → Laws Back
-  back_laws LK LV = room_laws.the_row_laws (Tuple (Key ∷ V' ∷ [])) (tuple_laws (Key ∷ V' ∷ []) (hashed_laws.the_row_laws K' (param_laws 0 K LK), (param_laws 1 V LV, tt)))
-
   abbrev stayed : Stays ended.signature.params ended.kept
   stayed = (stay_dropped (mut_ref_to (0 ∷ []) tt (plain (λ _. R))) no, (stay_dropped (plain (λ _. Key)) no, (stay_dropped (plain (λ _. V')) no, tt)))
 
@@ -76,9 +64,6 @@ module _ (K V : RattleType) (E : Eq.Ghosts K.Denot) (dE : Dict) (P : PartialEq.G
 
     abbrev Puts : Contract 𝓤
     Puts = triple_of 𝓛 (p.signature K V E dE P dP) (p.spec K V E dE P dP 𝓛 at_mem run)
-
-    abbrev Putting : Ended
-    Putting = p.ended K V E dE P dP
 
     abbrev Shows : Contract 𝓤
     Shows = triple_of 𝓛 (e.signature K V E dE P dP) (e.spec K V E dE P dP 𝓛 at_mem run)
@@ -95,9 +80,10 @@ module _ (K V : RattleType) (E : Eq.Ghosts K.Denot) (dE : Dict) (P : PartialEq.G
 
       walk : ent 𝓤 ((walk_of 𝓛 ended stayed spec).pre bound) (WpFn 𝓤 𝓛.H C Λ here (vptr r.ref_ptr.0 r.ref_ptr.1 ∷ k ∷ v ∷ []) Post)
       walk =
-          let b = r.ref_ptr.0 in let o = r.ref_ptr.1 in let m = r.now in let γ = r.ghost_name in let ql = Share.left q in let qr = Share.right q in
-          let qq : Share = (common full_share qr).0 in let eq = P.eq in let brought : Hashed K.Denot × V.Denot = (key, value) in
-          let Ref = λ (κ' : Lft) (x : MutBor (Map K.Denot V.Denot)). (MutRef (named 0) κ' R).own_val x (vptr b o ∷ []) in
+          let Back = N.the_row (Tuple (Key ∷ V' ∷ [])) in let Pair = λ (κ : Lft). Tuple (ShrRef (named 0) κ K' ∷ MutRef (named 0) κ V' ∷ []) in
+          let Out : Type 0 = Result (Bor K.Denot × MutBor V.Denot) (NoRoom (Hashed K.Denot × V.Denot)) in
+          let b = r.ref_ptr.0 in let o = r.ref_ptr.1 in let m = r.now in let γ = r.ghost_name in
+          let qq : Share = within 𝓛 R κ q r in let eq = P.eq in let brought : Hashed K.Denot × V.Denot = (key, value) in
           qed 𝓛 (((‵ (flft κ q) ⊛ ‵ (flft κK qK) ⊛ ‵ (flft κV qV) ⊛ ‵ ftrue) ⊛ ‵ (owns (types_at ended.signature.params bound.0.0) bound.0.3 bound.0.4))
           ∷ (raw (fact 𝓤 (κK ⊑ K.lives)) ⊛ raw (fact 𝓤 (κV ⊑ V.lives)) ⊛ raw (fact 𝓤 (match_of eq m.entries key ≡ None))) ∷ []) ∵
           move ! (1 ∷ []) $ split3 ! $ heard ! (κK ⊑ K.lives) (λ lK. heard ! (κV ⊑ V.lives) (λ lV. heard ! (match_of eq m.entries key ≡ None) (λ absent.
@@ -107,12 +93,9 @@ module _ (K V : RattleType) (E : Eq.Ghosts K.Denot) (dE : Dict) (P : PartialEq.G
           pass_all ! refl ((tt, tt), (k_good, (v_good, tt))) $
           sets ! (addr ! (through ! refl (stop !))) refl (tt, tt) $ sets ! (of_opd ! (get ! refl)) refl k_good $ sets ! (of_opd ! (get ! refl)) refl v_good $
           -- self is lent again, for a lifetime within κ
-          use1 𝓛 (‵ (flft κ ql) ⊛ ‵ (flft κ qr)) (𝓛.lfts.lft_split κ q) $ split ! $
-          lft_new ! tt (λ α. let ακ : Lft = α ∷ κ in
-          -- [α; the two halves of κ; κK; κV; self; the key; the value]
-          move ! (5 ∷ 1 ∷ []) $ use2 𝓛 (later (some (λ (δ : GName). ‵ (Ref ακ (record r { ghost_name = δ })) ⊛ ‵ (LentAgain R κ ακ ql γ b o δ m)))) (lends_again 𝓛 R (named 0) κ ακ ql γ b o (named 0) m) $ await ! tt $ pick ! (λ δ. split ! $
-          move ! (2 ∷ 3 ∷ []) $ use2 𝓛 (‵ (flft ακ qq) ⊛ raw (wand 𝓤 (A.lft ακ qq) (sep 𝓤 (A.lft (α ∷ []) full_share) (A.lft κ qr)))) (lft-common 𝓛 (α ∷ []) κ full_share qr) $ split ! $
-          -- [the token of ακ; its way back; the loan; what the lender keeps; κK; κV; the key; the value]
+          move ! (0 ∷ 3 ∷ []) $ use2 𝓛 (later (some (λ (α : ℕ). some (λ (δ : GName). ‵ (flft (α ∷ κ) qq) ⊛ ‵ ((MutRef (named 0) (α ∷ κ) R).own_val (record r { ghost_name = δ }) (mut_vals r)) ⊛ raw (Kept 𝓛 R κ q r α δ)))))
+          (lent_within 𝓛 R κ q r) $ await ! tt $ pick ! (λ α. pick ! (λ δ. split3 ! $ let ακ : Lft = α ∷ κ in
+          -- [the token of ακ; the loan; what the lender keeps; κK; κV; the key; the value]
           let loan : MutBor (Map K.Denot V.Denot) = record r { ghost_name = δ } in
           let z : Puts.Ghost = (
             (
@@ -124,22 +107,20 @@ module _ (K V : RattleType) (E : Eq.Ghosts K.Denot) (dE : Dict) (P : PartialEq.G
             ),
             tt,
           ) in
-          nothing ! $ move ! (8 ∷ 0 ∷ []) $ fjoin ! $ move ! (7 ∷ 0 ∷ []) $ fjoin ! $ move ! (3 ∷ 0 ∷ []) $ fjoin ! $
-          nothing ! $ move ! (6 ∷ 0 ∷ []) $ join ! $ move ! (5 ∷ 0 ∷ []) $ join ! $ move ! (2 ∷ 0 ∷ []) $ join ! $ join ! $
+          nothing ! $ move ! (7 ∷ 0 ∷ []) $ fjoin ! $ move ! (6 ∷ 0 ∷ []) $ fjoin ! $ move ! (2 ∷ 0 ∷ []) $ fjoin ! $
+          nothing ! $ move ! (5 ∷ 0 ∷ []) $ join ! $ move ! (4 ∷ 0 ∷ []) $ join ! $ move ! (2 ∷ 0 ∷ []) $ join ! $ join ! $
           use0 𝓛 (raw (fact 𝓤 (match_of eq m.entries key ≡ None))) (fact_i 𝓤 _ (emp 𝓤) absent) $ use0 𝓛 (raw (fact 𝓤 (κV ⊑ V.lives))) (fact_i 𝓤 _ (emp 𝓤) lV) $ use0 𝓛 (raw (fact 𝓤 (κK ⊑ K.lives))) (fact_i 𝓤 _ (emp 𝓤) lK) $
           group ! 3 $ move ! (1 ∷ 0 ∷ []) $ join ! $ use1 𝓛 (raw (Puts.pre z)) (id⊢ 𝓤 _) $
           calls_at ! fm Puts puts z (and_then ! (get ! refl) (and_then ! (get ! refl) (and_then ! (get ! refl) (no_more !)))) (λ u.
           use1 𝓛 (later (some (λ (g : Result ℕ (NoRoom (Hashed K.Denot × V.Denot))). ((‵ (flft ακ qq) ⊛ ‵ (flft κK qK) ⊛ ‵ (flft κV qV) ⊛ ‵ ftrue) ⊛ ‵ ((RS.the_row usize Back).own_val g (u ∷ [])))
-          ⊛ some (λ (ws : Lasts Putting (z.0.0) z.0.3). ‵ (lasts Putting z.0.0 z.0.3 ws) ⊛ raw (fact 𝓤 (IfOk g (λ i. i ≡ length m.entries))) ⊛ raw (fact 𝓤 (PutsLast key value brought m ws.0 g)))))) (id⊢ 𝓤 _) $ await ! tt $
+          ⊛ some (λ (ws : Lasts (p.ended K V E dE P dP) z.0.0 z.0.3). ‵ (lasts (p.ended K V E dE P dP) z.0.0 z.0.3 ws) ⊛ raw (fact 𝓤 (IfOk g (λ i. i ≡ length m.entries))) ⊛ raw (fact 𝓤 (PutsLast key value brought m ws.0 g)))))) (id⊢ 𝓤 _) $ await ! tt $
           pick ! (λ g. split ! $ move ! (1 ∷ []) $ pick ! (λ ws. split ! $ fsplit ! $ fsplit ! $ move ! (3 ∷ []) $ split ! $
           heard ! (IfOk g (λ i. i ≡ length m.entries)) (λ at_end. heard ! (PutsLast key value brought m ws.0 g) (λ puts.
           let mm : Map K.Denot V.Denot = ws.0 in let self : MutBor (Map K.Denot V.Denot) = record r { now = mm } in
           move ! (3 ∷ []) $ split ! $ split3 ! $ move ! (2 ∷ []) $ split ! $
           -- the loan is over, and self is back
-          move ! (2 ∷ 8 ∷ []) $ use2 𝓛 (‵ (flft (α ∷ []) full_share) ⊛ ‵ (flft κ qr)) (apply∗ 𝓤 (A.lft ακ qq) (sep 𝓤 (A.lft (α ∷ []) full_share) (A.lft κ qr))) $ split ! $
-          lft_end ! tt $ use1 𝓛 (‵ (fdead ακ)) (𝓛.lfts.dead-incl ακ (α ∷ []) (meet_⊑_left (α ∷ []) κ)) $
-          move ! (0 ∷ 9 ∷ 6 ∷ []) $ use3 𝓛 (later (‵ (Ref κ self) ⊛ ‵ (flft κ ql))) (comes_back 𝓛 R (named 0) κ ακ ql γ b o δ m mm) $ await ! tt $ split ! $
-          move ! (1 ∷ 2 ∷ []) $ use2 𝓛 (‵ (flft κ q)) (𝓛.lfts.lft_join κ q) $ move ! (3 ∷ 6 ∷ 7 ∷ []) $ drop ! $ drop ! $ drop ! $ move ! (4 ∷ []) $
+          move ! (5 ∷ 2 ∷ 8 ∷ []) $ use3 𝓛 (later (‵ ((MutRef (named 0) κ R).own_val self (mut_vals r)) ⊛ ‵ (flft κ q))) (back_again 𝓛 R κ q r α δ mm) $ await ! tt $ split ! $
+          move ! (3 ∷ 6 ∷ 7 ∷ []) $ drop ! $ drop ! $ drop ! $ move ! (4 ∷ 1 ∷ []) $
           -- [what the call gave; the token of κ; self; those of κV, κK]
           elim (which g) [
             | inl w ↦
@@ -187,7 +168,8 @@ module _ (K V : RattleType) (E : Eq.Ghosts K.Denot) (dE : Dict) (P : PartialEq.G
                 let back' : (w.0).0 ≡ (key, value) = subst (λ (h : Result ℕ (NoRoom (Hashed K.Denot × V.Denot))). IfErr h (λ x. x.0 ≡ (key, value))) w.1 puts.handed_back in
                 let out : Out = Err w.0 in
                 rewrite ! 0 (λ (h : Result ℕ (NoRoom (Hashed K.Denot × V.Denot))). ‵ ((RS.the_row usize Back).own_val h (u ∷ []))) w.1 refl $
-                use1 𝓛 (some (λ (ev : Val). given ((u ≡ live 1 (vcons ev vnil)) × Good (layout Back) ev) (‵ (Back.own_val w.0 (ev ∷ []))))) (in_err 𝓛 usize Back u w.0 (lone_value 𝓛 Back (back_laws LK LV) w.0)) $ pick ! (λ ev. learn ! (λ at_u.
+                let back_laws = room_laws.the_row_laws (Tuple (Key ∷ V' ∷ [])) (tuple_laws (Key ∷ V' ∷ []) (hashed_laws.the_row_laws K' (param_laws 0 K LK), (param_laws 1 V LV, tt))) in
+                use1 𝓛 (some (λ (ev : Val). given ((u ≡ live 1 (vcons ev vnil)) × Good (layout Back) ev) (‵ (Back.own_val w.0 (ev ∷ []))))) (in_err 𝓛 usize Back u w.0 (lone_value 𝓛 Back back_laws w.0)) $ pick ! (λ ev. learn ! (λ at_u.
                 let stored : Good (layout (RS.the_row usize Back)) (live 1 (vcons ev vnil)) = (and_tt _ at_u.1.0, (record { fits = lit< tt }, (at_u.1.1, tt))) in
                 move ! (2 ∷ []) $ use1 𝓛 (later (‵ (fres γ (R.coded.code mm)))) (given_up 𝓛 R (named 0) κ self) $ await ! tt $
                 -- [what self ends as; the error; the tokens of κ, κV, κK]

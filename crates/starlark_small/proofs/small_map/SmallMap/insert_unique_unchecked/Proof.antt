@@ -1,5 +1,5 @@
 -- `insert_unique_unchecked` meets its contract, at any key and value types: the key is put under its own hash, the next call inserts it and lends it with its value, and the last takes a refused key out of its hash. Assumes `Logic`.
-use Rattle.starlark_columns.proofs.Walking.{◌≡◌, refl, sym, subst, ap, List, [], ◌∷◌, Ura, Fn, Args, Dict, Ty, a_type, dcons, dnil, named, tcons, tnil, ty_ptr, ty_struct, inst_fn, Val, vptr, SProp, ent, emp, id⊢, ex_e, snd∗, Fml, Lft, Share, ftrue, flft, Memory, Routine, Calls, Loops, WpFn, Logic, sem, ◌⊑◌, ⊑_meet, ⊑_refl, ⊑_trans, Fun, fact, fact_i, tables, FmC, ‵, raw, ◌⊛◌, some, later, ◌$◌, ◌∵◌, !, qed, move, keep, use0, use1, split, split3, join, pick, fsplit, fsplit3, fjoin, suffices, frame, await, rewrite, group, done, stop, addr, of_opd, and_then, no_more, returns, enter, alloc_all, pass_all, free_all, look_at, get, through, sets, lands_as, no, yes, RattleType, lives_all, owns, Is, shows, arg, param, bounded, layout, layouts, Laws, arg_laws, is_one, of_field, param_laws, row_shared, in_all, copy_shared, mut_ref_shared, Bor, MutBor, MutRef, NamedLft, ShrRef, mut_vals, mut_Tells, plain, types_at, mut_ref_to, nothing, heard, peeks, only, mut_ref_field, shr_ref_field, mut_ref_laws, shr_ref_laws, shr_ref_copy, Tuple, tuple_laws, calls_at, Clauses, Ended, ensured, lasts, triple_of, Contract, Triple, framed, Stays, stay_dropped, walk_of, ends_at, Goes-spent_ref, Goes-blank, Good, result_laws, proved_at, Result, None, IfOk, IfErr, OnErr}
+use Rattle.starlark_columns.proofs.Walking.{◌≡◌, refl, sym, subst, List, [], ◌∷◌, Ura, Fn, Args, Dict, Ty, a_type, dcons, dnil, named, tcons, tnil, ty_ptr, ty_struct, inst_fn, Val, vptr, SProp, ent, emp, id⊢, ex_e, snd∗, Fml, Lft, Share, ftrue, flft, Memory, Routine, Calls, Loops, WpFn, Logic, sem, ◌⊑◌, ⊑_meet, ⊑_refl, ⊑_trans, Fun, fact, fact_i, tables, FmC, ‵, raw, ◌⊛◌, some, later, ◌$◌, ◌∵◌, !, qed, move, keep, use0, use1, split, split3, join, pick, fsplit, fsplit3, fjoin, suffices, frame, await, rewrite, group, done, stop, addr, of_opd, and_then, no_more, returns, enter, alloc_all, pass_all, free_all, look_at, get, through, sets, lands_as, no, yes, RattleType, lives_all, owns, Is, shows, arg, param, bounded, layout, layouts, Laws, arg_laws, param_laws, in_all, Bor, MutBor, MutRef, ShrRef, mut_vals, mut_Tells, plain, types_at, mut_ref_to, nothing, heard, peeks, Tuple, tuple_laws, calls_at, Clauses, Ended, ensured, lasts, triple_of, Contract, Triple, framed, Stays, stay_dropped, walk_of, ends_at, Goes-spent_ref, Goes-blank, Good, result_laws, proved_at, Result, None, IfOk, IfErr, OnErr}
 use Rattle.core.specs.contracts.result.Result as RS
 use Rattle.std.specs.declared.cmp.Eq as Eq
 use Rattle.std.specs.declared.cmp.PartialEq as PartialEq
@@ -22,7 +22,8 @@ use Rattle.starlark_small.specs.contracts.small_map.insert.without_hash as w
 use Rattle.starlark_small.specs.contracts.small_map.SmallMap.insert_unique_unchecked as F
 use Rattle.starlark_small.specs.contracts.small_map.SmallMap.insert_unique_unchecked.Key.{name as #self}
 use Rattle.starlark_columns.proofs.LoneValue.{lone_value}
-use Rattle.starlark_small.proofs.Unhashed.{ok_unhashed, full_unhashed, back_unhashed, lent_unhashed}
+use Rattle.starlark_columns.proofs.Steps.{mut_laws, shr_laws, good_value}
+use Rattle.starlark_small.proofs.Unhashed.{told_unhashed, lent_unhashed}
 use Rattle.starlark_small.proofs.small_map.SmallMap.insert_hashed_unique_unchecked.Symbol.{name as #insert}
 use Rattle.starlark_small.proofs.small_map.SmallMap.insert_hashed_unique_unchecked.Met as insert
 use Rattle.starlark_small.proofs.small_map.insert.without_hash.Symbol.{name as #without}
@@ -30,27 +31,9 @@ use Rattle.starlark_small.proofs.small_map.insert.without_hash.Met as without
 use Rattle.starlark_small.proofs.small_map.SmallMap.insert_unique_unchecked.Statement.{statement}
 use Rattle.starlark_small.proofs.small_map.SmallMap.insert_unique_unchecked.Code as code
 
-mut_laws : (κ : Lft) (R : RattleType) → Laws R → Laws (MutRef (named 0) κ R)
-mut_laws κ R L = let a : NamedLft = record { mir = named 0; lft = κ } in let one = is_one R L in of_field (mut_ref_field a R one) (mut_ref_laws a R one) refl (mut_ref_shared a R one (row_shared R L))
-
-shr_laws : (κ : Lft) (R : RattleType) → Laws R → Laws (ShrRef (named 0) κ R)
-shr_laws κ R L =
-    let a : NamedLft = record { mir = named 0; lft = κ } in let one = is_one R L in
-    of_field (shr_ref_field a R one) (shr_ref_laws a R one) refl (copy_shared (shr_ref_field a R one) (shr_ref_copy a R one L.shr_laws))
-
--- the one machine value of what a type owns is a good one
-good_value : {M : Type 1} {𝓤 : Ura M} (𝓛 : Logic 𝓤) (R : RattleType) → Laws R → (x : R.Denot) (v : Val) → Is R x (v ∷ []) → Good (layout R) v
-good_value 𝓛 R L x v is = let t = lone_value 𝓛 R L x (v ∷ []) is in subst (Good (layout R)) (sym (ap only t.1)) t.2
-
 module _ (K V : RattleType) (E : Eq.Ghosts K.Denot) (dE : Dict) (P : PartialEq.Ghosts K.Denot) (dP : Dict) (G : Hash.Ghosts K.Denot) (dG : Dict) where
   abbrev args : Args
   args = bounded (a_type ∷ a_type ∷ []) (K, (V, tt)) (dcons dE (dcons dP (dcons dG dnil)))
-
-  abbrev hash_args : Args
-  hash_args = bounded (a_type ∷ []) (K, tt) (dcons dG (dcons dE (dcons dP dnil)))
-
-  abbrev insert_args : Args
-  insert_args = bounded (a_type ∷ a_type ∷ []) (K, (V, tt)) (dcons dE (dcons dP dnil))
 
   abbrev here : Fn
   here = inst_fn args code.function
@@ -86,12 +69,6 @@ module _ (K V : RattleType) (E : Eq.Ghosts K.Denot) (dE : Dict) (P : PartialEq.G
   abbrev Passed : Lft → RattleType
   Passed κ = arg nameless yes (Pair κ)
 
-  abbrev without_args : Lft → Args
-  without_args κ = layouts (a_type ∷ a_type ∷ a_type ∷ []) (Passed κ, (K, (V, tt)))
-
-  abbrev Got : Type 0
-  Got = Result (Bor K.Denot × MutBor V.Denot) (NoRoom (Hashed K.Denot × V.Denot))
-
   abbrev Out : Type 0
   Out = Result (Bor K.Denot × MutBor V.Denot) (NoRoom (K.Denot × V.Denot))
 
@@ -100,12 +77,6 @@ module _ (K V : RattleType) (E : Eq.Ghosts K.Denot) (dE : Dict) (P : PartialEq.G
 
   pair_laws : Laws K → Laws V → (κ : Lft) → Laws (Pair κ)
   pair_laws LK LV κ = tuple_laws (ShrRef (named 0) κ K' ∷ MutRef (named 0) κ V' ∷ []) (shr_laws κ K' (param_laws 0 K LK), (mut_laws κ V' (param_laws 1 V LV), tt))
-
-  got_laws : Laws K → Laws V → (κ : Lft) → Laws (RS.the_row (Pair κ) HashedBack)
-  got_laws LK LV κ = result_laws (Pair κ) HashedBack (pair_laws LK LV κ) (room_laws.the_row_laws (Tuple (Key ∷ V' ∷ [])) (tuple_laws (Key ∷ V' ∷ []) (key_laws LK, (param_laws 1 V LV, tt))))
-
-  out_laws : Laws K → Laws V → (κ : Lft) → Laws (RS.the_row (Pair κ) Back)
-  out_laws LK LV κ = result_laws (Pair κ) Back (pair_laws LK LV κ) (room_laws.the_row_laws (Tuple (K' ∷ V' ∷ [])) (tuple_laws (K' ∷ V' ∷ []) (param_laws 0 K LK, (param_laws 1 V LV, tt))))
 
   abbrev stayed : Stays ended.signature.params ended.kept
   stayed = (stay_dropped (mut_ref_to (0 ∷ []) tt (plain (λ _. R))) no, (stay_dropped (plain (λ _. K')) no, (stay_dropped (plain (λ _. V')) no, tt)))
@@ -124,16 +95,15 @@ module _ (K V : RattleType) (E : Eq.Ghosts K.Denot) (dE : Dict) (P : PartialEq.G
     Withouts κ = triple_of 𝓛 (w.signature (Passed κ) K V) (w.spec (Passed κ) K V 𝓛 at_mem run)
 
     module _ (LK : Laws K) (LV : Laws V) (C : Calls 𝓤 𝓛.H) (Λ : Loops 𝓤 𝓛.H) (fm : FmC 𝓤 𝓛.H 𝓛.laws C) (κ κK κV : Lft)
-        (hashes : Triple 𝓤 (C (#hash hash_args)) Hashes) (inserts : Triple 𝓤 (C (#insert insert_args)) Inserts) (withouts : Triple 𝓤 (C (#without (without_args κ))) (Withouts κ))
+        (hashes : Triple 𝓤 (C (#hash (bounded (a_type ∷ []) (K, tt) (dcons dG (dcons dE (dcons dP dnil)))))) Hashes)
+        (inserts : Triple 𝓤 (C (#insert (bounded (a_type ∷ a_type ∷ []) (K, (V, tt)) (dcons dE (dcons dP dnil))))) Inserts)
+        (withouts : Triple 𝓤 (C (#without (layouts (a_type ∷ a_type ∷ a_type ∷ []) (Passed κ, (K, (V, tt)))))) (Withouts κ))
         (q qK qV : Share) (bounds : (κ ⊑ κK) × ((κ ⊑ κV) × Unit {0})) (r : MutBor (Map K.Denot V.Denot)) (key : K.Denot) (value : V.Denot)
         (k : Val) (k_good : Good (layout K') k) (v : Val) (v_good : Good (layout V') v) where
       abbrev bound : (walk_of 𝓛 ended stayed spec).Ghost
       bound = (((κ, (κK, (κV, tt))), (q, (qK, (qV, tt))), bounds, (r, (key, (value, tt))), (mut_vals r, (k ∷ [], (v ∷ [], tt)))), tt)
 
-      abbrev Post : Val → SProp 𝓤
-      Post = (walk_of 𝓛 ended stayed spec).post bound
-
-      walk : ent 𝓤 ((walk_of 𝓛 ended stayed spec).pre bound) (WpFn 𝓤 𝓛.H C Λ here (vptr r.ref_ptr.0 r.ref_ptr.1 ∷ k ∷ v ∷ []) Post)
+      walk : ent 𝓤 ((walk_of 𝓛 ended stayed spec).pre bound) (WpFn 𝓤 𝓛.H C Λ here (vptr r.ref_ptr.0 r.ref_ptr.1 ∷ k ∷ v ∷ []) ((walk_of 𝓛 ended stayed spec).post bound))
       walk =
           let m = r.now in let under : Hashed K.Denot = own_hashed G.hash_input key in
           qed 𝓛 (((‵ (flft κ q) ⊛ ‵ (flft κK qK) ⊛ ‵ (flft κV qV) ⊛ ‵ ftrue) ⊛ ‵ (owns (types_at ended.signature.params bound.0.0) bound.0.3 bound.0.4))
@@ -161,13 +131,14 @@ module _ (K V : RattleType) (E : Eq.Ghosts K.Denot) (dE : Dict) (P : PartialEq.G
           use0 𝓛 (raw (fact 𝓤 (match_of P.eq m.entries under ≡ None))) (fact_i 𝓤 _ (emp 𝓤) absent) $ use0 𝓛 (raw (fact 𝓤 (κV ⊑ V.lives))) (fact_i 𝓤 _ (emp 𝓤) lV) $ use0 𝓛 (raw (fact 𝓤 (κK ⊑ K.lives))) (fact_i 𝓤 _ (emp 𝓤) lK) $
           group ! 3 $ move ! (1 ∷ 0 ∷ []) $ join ! $ use1 𝓛 (raw (Inserts.pre z)) (id⊢ 𝓤 _) $
           calls_at ! fm Inserts inserts z (and_then ! (get ! refl) (and_then ! (get ! refl) (and_then ! (get ! refl) (no_more !)))) (λ u.
-          use1 𝓛 (later (some (λ (g : Got). ((‵ (flft κ q) ⊛ ‵ (flft κK qK) ⊛ ‵ (flft κV qV) ⊛ ‵ ftrue) ⊛ ‵ ((RS.the_row (Pair κ) HashedBack).own_val g (u ∷ [])))
+          use1 𝓛 (later (some (λ (g : Result (Bor K.Denot × MutBor V.Denot) (NoRoom (Hashed K.Denot × V.Denot))). ((‵ (flft κ q) ⊛ ‵ (flft κK qK) ⊛ ‵ (flft κV qV) ⊛ ‵ ftrue) ⊛ ‵ ((RS.the_row (Pair κ) HashedBack).own_val g (u ∷ [])))
           ⊛ raw (ensured 𝓛 (p.ended K V E dE P dP) (p.clauses K V E dE P dP 𝓛 at_mem run) z.0.0 z.0.3 tt g)))) (id⊢ 𝓤 _) $ await ! tt $ pick ! (λ g. split ! $ move ! (1 ∷ []) $
           use1 𝓛 (‵ (lends_inserted K' V' P r under g) ⊛ raw (fact 𝓤 (IfOk g (λ s. (s.0.now ≡ key) × (s.1.now ≡ value)))) ⊛ raw (fact 𝓤 (OnErr g (m.room ≡ 0))) ⊛ raw (fact 𝓤 (IfErr g (λ s. s.0 ≡ (under, value))))) (ex_e 𝓤 _ (λ ws. snd∗ 𝓤 (sem 𝓛 (lasts (p.ended K V E dE P dP) z.0.0 z.0.3 ws)) _)) $ split3 ! $
           move ! (1 ∷ 2 ∷ []) $ heard ! (IfOk g (λ s. (s.0.now ≡ key) × (s.1.now ≡ value))) (λ shown. split ! $ heard ! (OnErr g (m.room ≡ 0)) (λ full. heard ! (IfErr g (λ s. s.0 ≡ (under, value))) (λ back.
           move ! (1 ∷ []) $ split ! $ move ! (1 ∷ []) $
           -- [what the call gave; the tokens; what self follows]
-          peeks ! (RS.the_row (Pair κ) HashedBack) (Is (RS.the_row (Pair κ) HashedBack)) (shows 𝓛 (RS.the_row (Pair κ) HashedBack)) g (u ∷ []) (λ is_u. lands_as ! refl refl (good_value 𝓛 (RS.the_row (Pair κ) HashedBack) (got_laws LK LV κ) g u is_u) $
+          let got_laws = result_laws (Pair κ) HashedBack (pair_laws LK LV κ) (room_laws.the_row_laws (Tuple (Key ∷ V' ∷ [])) (tuple_laws (Key ∷ V' ∷ []) (key_laws LK, (param_laws 1 V LV, tt)))) in
+          peeks ! (RS.the_row (Pair κ) HashedBack) (Is (RS.the_row (Pair κ) HashedBack)) (shows 𝓛 (RS.the_row (Pair κ) HashedBack)) g (u ∷ []) (λ is_u. lands_as ! refl refl (good_value 𝓛 (RS.the_row (Pair κ) HashedBack) got_laws g u is_u) $
           let refs = ShrRef (named 0) κ K' ∷ MutRef (named 0) κ V' ∷ [] in
           let each = in_all κ refs (⊑_meet κ κ K.lives (⊑_refl κ) (⊑_trans κ κK K.lives bounds.0 lK), (⊑_meet κ κ V.lives (⊑_refl κ) (⊑_trans κ κV V.lives bounds.1.0 lV), tt)) in
           let in_pair : κ ⊑ (Pair κ).lives = ⊑_meet κ (lives_all refs) (lives_all refs) each each in
@@ -178,17 +149,18 @@ module _ (K V : RattleType) (E : Eq.Ghosts K.Denot) (dE : Dict) (P : PartialEq.G
           calls_at ! fm (Withouts κ) withouts c (and_then ! (get ! refl) (no_more !)) (λ t.
           use1 𝓛 (later (some (λ (x : Out). ((‵ (flft κ q) ⊛ ‵ (flft κK qK) ⊛ ‵ (flft κV qV) ⊛ ‵ ftrue) ⊛ ‵ ((RS.the_row (Pair κ) Back).own_val x (t ∷ [])))
           ⊛ raw (ensured 𝓛 (w.ended (Passed κ) K V) (w.clauses (Passed κ) K V 𝓛 at_mem run) c.0.0 c.0.3 tt x)))) (id⊢ 𝓤 _) $ await ! tt $ pick ! (λ x. split ! $ move ! (1 ∷ []) $
-          let out : Out = unhashed g in
+          let out : Out = unhashed g in let told = told_unhashed g (λ s. (s.0.now ≡ key) × (s.1.now ≡ value)) (m.room ≡ 0) under value shown full back in
+          let out_laws = result_laws (Pair κ) Back (pair_laws LK LV κ) (room_laws.the_row_laws (Tuple (K' ∷ V' ∷ [])) (tuple_laws (K' ∷ V' ∷ []) (param_laws 0 K LK, (param_laws 1 V LV, tt)))) in
           use1 𝓛 (raw (fact 𝓤 (x ≡ out))) (ex_e 𝓤 _ (λ ws. snd∗ 𝓤 (sem 𝓛 (lasts (w.ended (Passed κ) K V) c.0.0 c.0.3 ws)) _)) $ heard ! (x ≡ out) (λ is_out.
           split ! $ move ! (1 ∷ []) $ rewrite ! 0 (λ (s : Out). ‵ ((RS.the_row (Pair κ) Back).own_val s (t ∷ []))) is_out refl $
-          peeks ! (RS.the_row (Pair κ) Back) (Is (RS.the_row (Pair κ) Back)) (shows 𝓛 (RS.the_row (Pair κ) Back)) out (t ∷ []) (λ is_t. lands_as ! refl refl (good_value 𝓛 (RS.the_row (Pair κ) Back) (out_laws LK LV κ) out t is_t) $
+          peeks ! (RS.the_row (Pair κ) Back) (Is (RS.the_row (Pair κ) Back)) (shows 𝓛 (RS.the_row (Pair κ) Back)) out (t ∷ []) (λ is_t. lands_as ! refl refl (good_value 𝓛 (RS.the_row (Pair κ) Back) out_laws out t is_t) $
           returns ! (look_at ! 0 refl) $ free_all ! refl $
           -- [the result; the tokens; what self follows]
           move ! (2 ∷ []) $ use1 𝓛 (‵ (lends_inserted K' V' P r under out)) (subst (λ (f : Fml). ent 𝓤 (sem 𝓛 (lends_inserted K' V' P r under g)) (sem 𝓛 f)) (lent_unhashed K' V' P r under g) (id⊢ 𝓤 _)) $ move ! (1 ∷ []) $
           suffices ! _ (ends_at 𝓛 ended stayed spec bound t out (tt, (tt, (tt, tt))) (tt, (tt, (tt, tt)))) $
           nothing ! $ nothing ! $ fjoin ! $ nothing ! $ fjoin ! $ nothing ! $ fjoin ! $ join ! $ move ! (2 ∷ 0 ∷ []) $ join ! $ frame ! $
-          use0 𝓛 (raw (fact 𝓤 (IfErr out (λ s. s.0 ≡ (key, value))))) (fact_i 𝓤 _ (emp 𝓤) (back_unhashed g under value back)) $ use0 𝓛 (raw (fact 𝓤 (OnErr out (m.room ≡ 0)))) (fact_i 𝓤 _ (emp 𝓤) (full_unhashed g (m.room ≡ 0) full)) $
-          use0 𝓛 (raw (fact 𝓤 (IfOk out (λ s. (s.0.now ≡ key) × (s.1.now ≡ value))))) (fact_i 𝓤 _ (emp 𝓤) (ok_unhashed g (λ s. (s.0.now ≡ key) × (s.1.now ≡ value)) shown)) $ move ! (3 ∷ []) $ done !))))))))))))))))))
+          use0 𝓛 (raw (fact 𝓤 (IfErr out (λ s. s.0 ≡ (key, value))))) (fact_i 𝓤 _ (emp 𝓤) told.2) $ use0 𝓛 (raw (fact 𝓤 (OnErr out (m.room ≡ 0)))) (fact_i 𝓤 _ (emp 𝓤) told.1) $
+          use0 𝓛 (raw (fact 𝓤 (IfOk out (λ s. (s.0.now ≡ key) × (s.1.now ≡ value))))) (fact_i 𝓤 _ (emp 𝓤) told.0) $ move ! (3 ∷ []) $ done !))))))))))))))))))
 
 pub insert_unique_unchecked_spec : {M : Type 1} → statement M
 insert_unique_unchecked_spec 𝓤 𝓛 𝓜 𝓡 wired K V LK LV E dE P dP G dG is_eq is_partial is_hash =

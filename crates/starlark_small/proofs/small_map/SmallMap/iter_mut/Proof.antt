@@ -1,5 +1,5 @@
 -- `iter_mut` walks the list of entries; the map, open over the call, is closed by what it follows. Assumes `Logic`.
-use Rattle.starlark_columns.proofs.Walking.{◌≡◌, refl, sym, ap, ◌∙◌, ℕ, ◌+◌, ◌-◌, List, [], ◌∷◌, Ura, full_share, Fn, Args, Dict, a_type, dcons, dnil, named, inst_fn, Val, vptr, SProp, ent, emp, id⊢, ex_e, snd∗, Lft, GName, Share, ftrue, fsep, flft, fauth, Memory, Routine, Calls, Loops, WpFn, Tables, Logic, sem, ◌⊑◌, Fun, fact, fact_i, tables, tables_of, FmC, fm_of, WpFn-mono, ages, bor_new_deep, open_ref, name_new, ‵, raw, ◌⊛◌, some, later, ◌$◌, ◌∵◌, !, qed, move, keep, drop, use0, use1, use2, split, split3, join, pick, fsplit, fsplit3, fjoin, fjoin3, fpack, feq_i, rewrite, suffices, frame, await, group, done, stop, fld, addr, and_then, no_more, returns, enter, alloc_all, pass_all, free_all, look_at, get, through, sets, lands_as, no, follows, RattleType, owns, mem, param, bounded, layouts, Laws, MutBor, NamedLft, mut_vals, mut_Tells, plain, types_at, mut_ref_to, named_lft, nothing, heard, only, calls_at, Clauses, Ended, closing, ensured, lasts, Meets, triple_of, Contract, Triple, entered, Stays, stay_dropped, walk_of, ends_at, walked, walk_Meets, Goes-spent_ref, ◌<◌, ◌^◌, length, map, min, Is, shows, part_at, param_laws, peeks, is_some, Option}
+use Rattle.starlark_columns.proofs.Walking.{◌≡◌, refl, sym, ap, ◌∙◌, ◌+◌, List, [], ◌∷◌, Ura, full_share, Fn, Args, Dict, a_type, dcons, dnil, named, inst_fn, Val, vptr, SProp, ent, emp, id⊢, ex_e, snd∗, Lft, GName, Share, ftrue, fsep, flft, fauth, Memory, Routine, Calls, Loops, WpFn, Logic, sem, ◌⊑◌, Fun, fact, fact_i, tables, FmC, ages, bor_new_deep, open_ref, name_new, ‵, raw, ◌⊛◌, some, later, ◌$◌, ◌∵◌, !, qed, move, keep, drop, use0, use1, use2, split, split3, join, pick, fsplit, fsplit3, fjoin, fjoin3, fpack, feq_i, rewrite, suffices, frame, await, group, done, stop, fld, addr, and_then, no_more, returns, enter, alloc_all, pass_all, free_all, look_at, get, through, sets, lands_as, no, follows, RattleType, owns, mem, param, bounded, layouts, Laws, MutBor, NamedLft, mut_vals, mut_Tells, plain, types_at, mut_ref_to, named_lft, nothing, heard, only, calls_at, Clauses, Ended, ensured, lasts, triple_of, Contract, Triple, Stays, stay_dropped, walk_of, ends_at, Goes-spent_ref, ◌<◌, ◌^◌, length, map, proved, framed, Is, shows, part_at, param_laws, peeks}
 use base.Share
 use Rattle.std.specs.declared.cmp.Eq as Eq
 use Rattle.std.specs.declared.cmp.PartialEq as PartialEq
@@ -14,8 +14,6 @@ use Rattle.starlark_vecmap.proofs.vec_map.VecMap.iter_mut.Symbol.{name as #run}
 use Rattle.starlark_vecmap.proofs.vec_map.VecMap.iter_mut.Met as walked_entries
 use Rattle.starlark_vecmap.proofs.ValuesWritten.{with_values-again, length-with_values}
 use Rattle.starlark_vecmap.specs.EntryList.{EntryList, with_entries, with_values}
-use Rattle.starlark_small.specs.Hashes.{Hashes}
-use Rattle.starlark_small.specs.Index.{index_room}
 use Rattle.starlark_small.specs.Lend.{KeepsAllButValues}
 use Rattle.starlark_small.specs.Map.{Map}
 use Rattle.starlark_small.specs.contracts.small_map.SmallMap.iter_mut as F
@@ -29,9 +27,6 @@ use Rattle.starlark_small.proofs.small_map.SmallMap.iter_mut.Code as code
 module _ (A B : RattleType) (E : Eq.Ghosts A.Denot) (dE : Dict) (P : PartialEq.Ghosts A.Denot) (dP : Dict) where
   abbrev args : Args
   args = bounded (a_type ∷ a_type ∷ []) (A, (B, tt)) (dcons dE (dcons dP dnil))
-
-  abbrev lends : Args
-  lends = layouts (a_type ∷ a_type ∷ []) (A, (B, tt))
 
   abbrev here : Fn
   here = inst_fn args code.function
@@ -70,26 +65,11 @@ module _ (A B : RattleType) (E : Eq.Ghosts A.Denot) (dE : Dict) (P : PartialEq.G
   abbrev seen : D → Es → W.Denot
   seen d w = O.C.the_view K V P (written d w)
 
-  written_known : (v : W.Denot) (d : D) (w : Es) → O.Known K V P v d → O.Known K V P (seen d w) (written d w)
-  written_known v d w k = (refl, IsSound-with_values P.eq d.entries.entries w.entries d.index k.1)
-
   abbrev keeps : W.Denot → W.Denot → W.Denot
   keeps v w = record v { entries = with_values v.entries w.entries }
 
-  -- the room of so many entries
-  abbrev room_of_length : ℕ → ℕ → Option Hashes → ℕ
-  room_of_length capacity len index = min (capacity - len) (index_room len index)
-
   same : (v : W.Denot) (d : D) (w : Es) → O.Known K V P v d → keeps v (seen d w) ≡ seen d w
-  same v d w k =
-      let es = d.entries.entries in
-      ap (λ z. keeps z (seen d w)) (sym k.0)
-      ∙ (λ j. record {
-        entries = with_values-again es w.entries j;
-        room = room_of_length d.entries.capacity (sym (length-with_values es w.entries) j) d.index;
-        capacity = d.entries.capacity;
-        indexed = is_some d.index;
-      })
+  same v d w k = rw (← k.0, with_values-again d.entries.entries w.entries, length-with_values d.entries.entries w.entries) refl
 
   module _ {M : Type 1} {𝓤 : Ura M} (𝓛 : Logic 𝓤) (at_mem : Memory → SProp 𝓤) (run : Routine → Fun 𝓤) where
     open 𝓛 use {H}
@@ -100,25 +80,14 @@ module _ (A B : RattleType) (E : Eq.Ghosts A.Denot) (dE : Dict) (P : PartialEq.G
     abbrev Run : Contract 𝓤
     Run = triple_of 𝓛 (g.signature A B) (g.spec A B 𝓛 at_mem run)
 
-    module _ (LA : Laws A) (LB : Laws B) (C : Calls 𝓤 H) (Λ : Loops 𝓤 H) (fm : FmC 𝓤 H 𝓛.laws C) (gr : Triple 𝓤 (C (#run lends)) Run)
+    module _ (LA : Laws A) (LB : Laws B) (C : Calls 𝓤 H) (Λ : Loops 𝓤 H) (fm : FmC 𝓤 H 𝓛.laws C) (gr : Triple 𝓤 (C (#run (layouts (a_type ∷ a_type ∷ []) (A, (B, tt))))) Run)
         (κ κA κB : Lft) (q qA qB : Share) (bounds : (κ ⊑ κA) × ((κ ⊑ κB) × Unit {0})) (r : MutBor W.Denot) where
       abbrev bound : (walk_of 𝓛 ended stayed spec).Ghost
       bound = (((κ, (κA, (κB, tt))), (q, (qA, (qB, tt))), bounds, (r, tt), (mut_vals r, tt)), tt)
 
-      abbrev Post : Val → SProp 𝓤
-      Post = (walk_of 𝓛 ended stayed spec).post bound
-
-      abbrev lft : NamedLft
-      lft = named_lft 3 0 tt (κ, (κA, (κB, tt)))
-
-      abbrev It : RattleType
-      It = P-type.the_row lft K V
-
-      abbrev it_laws : Laws It
-      it_laws = P-laws.the_row_laws lft K V (param_laws 0 A LA) (param_laws 1 B LB)
-
-      walk : ent 𝓤 ((walk_of 𝓛 ended stayed spec).pre bound) (WpFn 𝓤 H C Λ here (vptr r.ref_ptr.0 r.ref_ptr.1 ∷ []) Post)
+      walk : ent 𝓤 ((walk_of 𝓛 ended stayed spec).pre bound) (WpFn 𝓤 H C Λ here (vptr r.ref_ptr.0 r.ref_ptr.1 ∷ []) ((walk_of 𝓛 ended stayed spec).post bound))
       walk =
+          let lft : NamedLft = named_lft 3 0 tt (κ, (κA, (κB, tt))) in let It : RattleType = P-type.the_row lft K V in
           let b = r.ref_ptr.0 in let o = r.ref_ptr.1 in let v = r.now in let γ = r.ghost_name in
           qed 𝓛 (((‵ (flft κ q) ⊛ ‵ (flft κA qA) ⊛ ‵ (flft κB qB) ⊛ ‵ ftrue) ⊛ ‵ (owns (types_at ended.signature.params bound.0.0) bound.0.3 bound.0.4))
           ∷ (raw (fact 𝓤 (κA ⊑ A.lives)) ⊛ raw (fact 𝓤 (κB ⊑ B.lives)) ⊛ ‵ ftrue) ∷ []) ∵
@@ -152,11 +121,11 @@ module _ (A B : RattleType) (E : Eq.Ghosts A.Denot) (dE : Dict) (P : PartialEq.G
           move ! (3 ∷ 5 ∷ 6 ∷ 2 ∷ 0 ∷ 4 ∷ []) $ group ! 6 $
           use1 𝓛 (later (some (λ (tie : GName). ‵ (flft κ (Share.left q)) ⊛ ‵ (follows W W γ tie (keeps v)))))
           (closes_named 𝓛 (mem W) (mem CP) (mem CP) (kept xs) (seen d) (keeps v) (λ w. same v d w d'.1) κ (Share.left q) b o b index γ δ x.1 (O.Rest K V P 𝓛 b o d)
-          (λ w. O.shut K V P 𝓛 b o (seen d w) (written d w) (written_known v d w d'.1)) n (W.coded.code v) (W.coded.code v) v) $ await ! tt $ pick ! (λ tie. split ! $
+          (λ w. O.shut K V P 𝓛 b o (seen d w) (written d w) (refl, IsSound-with_values P.eq d.entries.entries w.entries d.index d'.1.1)) n (W.coded.code v) (W.coded.code v) v) $ await ! tt $ pick ! (λ tie. split ! $
           -- [half of κ's token; what the list follows; the tokens with the walk]
           move ! (2 ∷ []) $ split ! $ split3 ! $ move ! (4 ∷ 0 ∷ []) $ use2 𝓛 (‵ (flft κ q)) (𝓛.lfts.lft_join κ q) $ move ! (2 ∷ []) $ split ! $
           -- [the token of κB; nothing; that of κ; that of κA; the walk; what the list follows]
-          move ! (4 ∷ []) $ peeks ! It (Is It) (shows 𝓛 It) x (u ∷ []) (λ is. let lone = lone_value 𝓛 It it_laws x (u ∷ []) is in
+          move ! (4 ∷ []) $ peeks ! It (Is It) (shows 𝓛 It) x (u ∷ []) (λ is. let lone = lone_value 𝓛 It (P-laws.the_row_laws lft K V (param_laws 0 A LA) (param_laws 1 B LB)) x (u ∷ []) is in
           rewrite ! 0 (λ (us : List Val). ‵ (It.own_val x us)) lone.1 refl $
           lands_as ! (ap only lone.1) refl lone.2 $
           let new : List (A.Denot × B.Denot) × GName = (x.0, tie) in
@@ -169,18 +138,12 @@ module _ (A B : RattleType) (E : Eq.Ghosts A.Denot) (dE : Dict) (P : PartialEq.G
           use0 𝓛 (raw (fact 𝓤 (length v.entries < 2 ^ 64))) (fact_i 𝓤 _ (emp 𝓤) (rw (ap (λ (m : Map A.Denot B.Denot). length m.entries) (sym d'.1.0)) fits)) $
           use0 𝓛 (raw (fact 𝓤 (new.0 ≡ map pair_of v.entries))) (fact_i 𝓤 _ (emp 𝓤) (rest ∙ ap (λ (m : Map A.Denot B.Denot). map pair_of m.entries) d'.1.0)) $ move ! (3 ∷ 0 ∷ 1 ∷ 2 ∷ []) $ done !))))))))))))
 
-meets : (A B : RattleType) (E : Eq.Ghosts A.Denot) (dE : Dict) (P : PartialEq.Ghosts A.Denot) (dP : Dict) → Laws A → Laws B → {M : Type 1} {𝓤 : Ura M} (𝓛 : Logic 𝓤) (at_mem : Memory → SProp 𝓤) (run : Routine → Fun 𝓤) (𝓣 : Tables 𝓤 𝓛.H)
-    → Triple 𝓤 (𝓣.C (#run (lends A B E dE P dP))) (Run A B E dE P dP 𝓛 at_mem run)
-    → Meets 𝓛 (ended A B E dE P dP).signature (WpFn 𝓤 𝓛.H 𝓣.C 𝓣.Λ (here A B E dE P dP)) (closing 𝓛 (ended A B E dE P dP) (spec A B E dE P dP 𝓛 at_mem run))
-meets A B E dE P dP LA LB {𝓤 = 𝓤} 𝓛 at_mem run 𝓣 gr =
-    walk_Meets 𝓛 (ended A B E dE P dP) (stayed A B E dE P dP) (Goes-spent_ref 𝓛 3 (0 ∷ []) tt (plain (λ _. W A B E dE P dP)), tt)
-    (spec A B E dE P dP 𝓛 at_mem run) (WpFn 𝓤 𝓛.H 𝓣.C 𝓣.Λ (here A B E dE P dP)) (WpFn-mono 𝓤 𝓛.H 𝓛.laws 𝓣 (here A B E dE P dP))
-    (walked 𝓛 (ended A B E dE P dP) (stayed A B E dE P dP) (spec A B E dE P dP 𝓛 at_mem run) (WpFn 𝓤 𝓛.H 𝓣.C 𝓣.Λ (here A B E dE P dP)) (λ κs. (mut_vals, tt)) (λ κs. (mut_Tells (named 0) κs.0 (W A B E dE P dP), tt))
-    (λ κs qs bounds a g' are. walk A B E dE P dP 𝓛 at_mem run LA LB 𝓣.C 𝓣.Λ (fm_of 𝓤 𝓛.H 𝓛.laws 𝓣) gr κs.0 κs.1.0 κs.1.1.0 qs.0 qs.1.0 qs.1.1.0 bounds a.0))
-
 pub iter_mut_spec : {M : Type 1} → stated.statement M
-unfolding tables_of
 iter_mut_spec 𝓤 𝓛 𝓜 𝓡 wired A B LA LB E dE P dP is_eq is_partial =
-    let 𝓣 : Tables 𝓤 𝓛.H = tables_of 𝓤 𝓛.H 𝓜 (tables 𝓤 𝓛.H 𝓜 𝓡 𝓡.env) in
-    entered 𝓤 𝓛.H (triple_of 𝓛 (F.signature A B E dE P dP) (F.spec A B E dE P dP 𝓛 𝓜.mem 𝓡.returns)) 𝓣.C 𝓣.Λ (#self (args A B E dE P dP)) (here A B E dE P dP) (code.unfolded 𝓤 𝓛.H 𝓜 𝓡 wired (A, (B, tt)) dE dP)
-    (meets A B E dE P dP LA LB 𝓛 𝓜.mem 𝓡.returns 𝓣 (walked_entries.met 𝓤 𝓛 𝓜 𝓡 (code.calls-starlark_vecmap::vec_map::VecMap::iter_mut 𝓡.env wired) A B LA LB))
+    let 𝓣 = tables 𝓤 𝓛.H 𝓜 𝓡 𝓡.env in
+    proved 𝓛 (ended A B E dE P dP) (stayed A B E dE P dP) (F.clauses A B E dE P dP 𝓛 𝓜.mem 𝓡.returns) 𝓜 𝓡
+    (Goes-spent_ref 𝓛 3 (0 ∷ []) tt (plain (λ _. W A B E dE P dP)), tt) (#self (args A B E dE P dP)) (here A B E dE P dP) (code.unfolded 𝓤 𝓛.H 𝓜 𝓡 wired (A, (B, tt)) dE dP)
+    (λ κs. (mut_vals, tt)) (λ κs. (mut_Tells (named 0) κs.0 (W A B E dE P dP), tt)) (λ κs qs bounds a g are.
+    walk A B E dE P dP 𝓛 𝓜.mem 𝓡.returns LA LB 𝓣.C 𝓣.Λ (framed 𝓤 𝓛.H 𝓜 𝓣)
+    (walked_entries.met 𝓤 𝓛 𝓜 𝓡 (code.calls-starlark_vecmap::vec_map::VecMap::iter_mut 𝓡.env wired) A B LA LB)
+    κs.0 κs.1.0 κs.1.1.0 qs.0 qs.1.0 qs.1.1.0 bounds a.0)

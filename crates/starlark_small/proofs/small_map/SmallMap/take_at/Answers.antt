@@ -1,7 +1,5 @@
-use Rattle.starlark_hash.proofs.Common.{subst, sym, ap, length, arith, rules, remove, common_steps}
+use Rattle.starlark_hash.proofs.Common.{ap, length, arith, rules, common_steps}
 use Rattle.starlark_hash.proofs.EntryLemmas.{IsSingle-remove}
-use Rattle.starlark_vecmap.specs.EntryList.{with_entries}
-use Rattle.starlark_small.specs.Index.{IsIndexed, IsSound}
 use Rattle.starlark_small.proofs.Indexed.{IsIndexed-forgotten, index-within}
 use Rattle.starlark_small.proofs.Rooms.{KeepsMemory-removed}
 use Rattle.starlark_small.proofs.CallerOwn.{own-removed}
@@ -11,8 +9,8 @@ use Rattle.starlark_small.proofs.small_map.SmallMap.take_at.Goals as goal
 pub invariant_of-self : goal.invariant_of-self
 invariant_of-self g c =
     let list = c.self.inside.entries in
-    subst (λ l. IsSound g.K.PartialEq.eq l.entries c.forget.new.self) {x = with_entries list (remove list.entries c.args.index)} {y = c.remove.new.self} (sym c.remove.ensures.list)
-    (record { single = IsSingle-remove g.K.PartialEq.eq list.entries c.args.index (omega (arith, c.requires, ap (λ m. length m.entries) c.self.view_is)) c.self.invariant.single; indexed = subst (IsIndexed (remove list.entries c.args.index)) (sym c.forget.ensures) (IsIndexed-forgotten list.entries c.args.index c.self.inside.index (omega (arith, c.requires, ap (λ m. length m.entries) c.self.view_is)) c.self.invariant.indexed) })
+    rw (c.remove.ensures.list, c.forget.ensures)
+    (record { single = IsSingle-remove g.K.PartialEq.eq list.entries c.args.index (omega (arith, c.requires, ap (λ m. length m.entries) c.self.view_is)) c.self.invariant.single; indexed = IsIndexed-forgotten list.entries c.args.index c.self.inside.index (omega (arith, c.requires, ap (λ m. length m.entries) c.self.view_is)) c.self.invariant.indexed })
 
 pub returns-clause-takes : goal.returns-clause-takes
 returns-clause-takes g c = record {

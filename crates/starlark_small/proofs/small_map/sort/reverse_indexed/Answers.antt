@@ -1,6 +1,5 @@
-use Rattle.starlark_hash.proofs.Common.{◌≡◌, ◌∙◌, ap, arith, is_some, length, subst, sym, reverse, length-reverse}
+use Rattle.starlark_hash.proofs.Common.{◌≡◌, ◌∙◌, ap, arith, length, length-reverse}
 use Rattle.starlark_small.specs.Hashes.{reversed}
-use Rattle.starlark_small.specs.Index.{IsIndexed, index_room}
 use Rattle.starlark_small.proofs.Indexed.{IsIndexed-reversed, cleared-room, follows-refilled, is_some-map, room-reversed}
 use Rattle.starlark_small.proofs.small_map.sort.reverse_indexed.Goals as goal
 
@@ -9,12 +8,11 @@ returns-then-is_dense-clause-follows g c =
     let es = c.args.entries.now.entries in
     let new = c.reverse-then-is_dense.new.self in
     let size : length new.entries ≡ length es = ap (λ l. length l.entries) c.reverse-then-is_dense.ensures ∙ length-reverse es in
-    let room = subst (λ o. index_room (length new.entries) o ≡ index_room (length es) c.args.index.now) (sym c.reverse.ensures) (room-reversed (length es) (length new.entries) c.args.index.now size) in
-    record {
-      indexed = subst (λ l. IsIndexed l.entries c.reverse.new.self) (sym c.reverse-then-is_dense.ensures) (subst (IsIndexed (reverse es)) (sym c.reverse.ensures) (IsIndexed-reversed es c.args.index.now c.requires));
-      room = omega (arith, size, room);
-      kept = ap is_some c.reverse.ensures ∙ is_some-map reversed c.args.index.now;
-    }
+    rw (c.reverse.ensures) (record {
+      indexed = rw c.reverse-then-is_dense.ensures (IsIndexed-reversed es c.args.index.now c.requires);
+      room = omega (arith, size, room-reversed (length es) (length new.entries) c.args.index.now size);
+      kept = is_some-map reversed c.args.index.now;
+    })
 
 pub returns-clause-follows : goal.returns-clause-follows
 returns-clause-follows g c =

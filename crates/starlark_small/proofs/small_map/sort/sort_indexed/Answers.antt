@@ -15,8 +15,4 @@ returns-clause-follows g c =
     let es = c.sort_and_rename.new.entries.entries in
     let size = ap (λ l. length l.entries) c.in_ok-sort_keys.ensures.sorted ∙ length_permutation es (sorted_by_key g.K.Ord.cmp es) (IsPermutation-sorted_by (key_lt g.K.Ord.cmp) es) in
     let now = follows-refilled c.sort_and_rename.new.entries c.sort_keys.new.self c.sort_and_rename.new.index c.clear.new.self c.note_all.new.self (omega (arith, size)) c.sort_and_rename.ensures.follows.indexed c.clear.ensures c.note_all.ensures in
-    record {
-      indexed = now.0;
-      room = omega (arith, c.sort_and_rename.ensures.follows.room, now.1);
-      kept = now.2 ∙ c.sort_and_rename.ensures.follows.kept;
-    }
+    grind (arith, now, c.sort_and_rename.ensures.follows)

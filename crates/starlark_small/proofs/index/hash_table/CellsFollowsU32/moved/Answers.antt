@@ -1,5 +1,4 @@
-use Rattle.starlark_hash.proofs.Common.{Some, None, arith, set}
-use Rattle.std.proofs.lemmas.List.{length-set}
+use Rattle.starlark_hash.proofs.Common.{length-set, Some, None, arith, set}
 use Rattle.starlark_small.proofs.Slots.{moved-within, sited-moved}
 use Rattle.starlark_small.proofs.index.hash_table.CellsFollowsU32.moved.Goals as goal
 

@@ -4,9 +4,6 @@ use Rattle.starlark_small.specs.Slots.{hashes_in}
 use Rattle.starlark_small.proofs.Kept.{Keeps, keeps-forgotten, length-hashes_in, seen, stands-but}
 use Rattle.starlark_small.proofs.index.hash_table.HashTable.forget.Goals as goal
 
-pub take_index-requires-clause-within : goal.take_index-requires-clause-within
-take_index-requires-clause-within c = omega (arith, c.requires, ap (λ h. length h.list) c.self.view_is, length-hashes_in c.self.inside.table.slots c.self.inside.cells.0.items)
-
 pub lower_above-requires-clause-stands : goal.lower_above-requires-clause-stands
 lower_above-requires-clause-stands c =
     let cells = c.self.inside.cells.0 in

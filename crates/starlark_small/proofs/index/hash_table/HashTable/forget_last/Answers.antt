@@ -5,12 +5,6 @@ use Rattle.starlark_small.specs.Slots.{hashes_in}
 use Rattle.starlark_small.proofs.Kept.{Keeps, keeps-forgotten_last, length-hashes_in, seen, view_of}
 use Rattle.starlark_small.proofs.index.hash_table.HashTable.forget_last.Goals as goal
 
-pub overflow_sub-last : goal.overflow_sub-last
-overflow_sub-last c = omega (arith, c.requires, ap (λ h. length h.list) c.self.view_is, length-hashes_in c.self.inside.table.slots c.self.inside.cells.0.items, c.len-last.ensures, c.self.inside.cells.0.ok.0)
-
-pub take_index-requires-clause-within : goal.take_index-requires-clause-within
-take_index-requires-clause-within c = omega (arith, c.requires, ap (λ h. length h.list) c.self.view_is, length-hashes_in c.self.inside.table.slots c.self.inside.cells.0.items, c.len-last.ensures, c.self.inside.cells.0.ok.0)
-
 kept : (c : goal.After-pop) → Keeps (remove (hashes_in c.self.inside.table.slots c.self.inside.cells.0.items) (c.len-last.result - 1)) (c.self.inside.table.room + 1) c.take_index.new.table c.pop.new.self.items (vec_capacity c.pop.new.self)
 kept c =
     let cells = c.self.inside.cells.0 in

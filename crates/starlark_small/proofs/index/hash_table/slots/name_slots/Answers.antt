@@ -1,5 +1,5 @@
-use Rattle.starlark_hash.proofs.Common.{◌+◌, ◌<◌, None, length, get_or, refl, sym, subst, ◌∙◌, arith, All, All-contains}
-use Rattle.std.proofs.lemmas.List.{get_or_past, length-set}
+use Rattle.starlark_hash.proofs.Common.{length-set, ◌+◌, ◌<◌, None, length, get_or, refl, sym, subst, ◌∙◌, arith, All, All-contains}
+use Rattle.std.proofs.lemmas.List.{get_or_past}
 use Rattle.starlark_table.specs.Table.{members}
 use Rattle.starlark_table.proofs.Closing.{full_not_empty}
 use Rattle.starlark_table.proofs.TableLemmas.{members-member_at}

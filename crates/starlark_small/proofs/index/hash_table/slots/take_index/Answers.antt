@@ -1,6 +1,5 @@
-use Rattle.starlark_hash.proofs.Common.{◌≡◌, None, ◌∷◌, get_or, ap, subst, ◌∙◌, arith, IsPermutation, IfSome, common_steps}
+use Rattle.starlark_hash.proofs.Common.{length-set, ◌≡◌, None, ◌∷◌, get_or, ap, subst, ◌∙◌, arith, IsPermutation, IfSome, common_steps}
 use Rattle.std.proofs.lemmas.Grind.{get_or_default_zero}
-use Rattle.std.proofs.lemmas.List.{length-set}
 use Rattle.starlark_table.specs.Table.{members, member_at}
 use Rattle.starlark_small.proofs.Numbered.{named-there}
 use Rattle.starlark_small.proofs.Slots.{sited-without}

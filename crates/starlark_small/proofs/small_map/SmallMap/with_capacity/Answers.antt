@@ -1,7 +1,0 @@
-use Rattle.starlark_hash.proofs.Common.{rules}
-use Rattle.starlark_small.proofs.CallerLookup.{empty-found}
-use Rattle.starlark_small.proofs.CallerOwn.{own-empty}
-use Rattle.starlark_small.proofs.small_map.SmallMap.with_capacity.Goals as goal
-
-pub returns : goal.returns
-returns g c = search (rules, empty-found, own-empty)
