@@ -1,22 +1,18 @@
 -- What the clauses of sets say in the callers' words: that a refused element was lacking, and that the key that is found passes.
-use Rattle.starlark_hash.proofs.Common.{◌≡◌, ℕ, Bool, true, false, List, Option, Some, Result, OnErr, MatchOption, MatchResult, IsOk, is_some, slice_get, refl, arith, IfSome, option_map, get_or_from_slice_get}
+use Rattle.starlark_hash.proofs.Common.{◌≡◌, ℕ, Bool, true, false, List, Option, Some, Result, OnErr, is_some, slice_get, refl, arith, IfSome, option_map, get_or_from_slice_get}
 use Rattle.starlark_hash.specs.declared.hashed.Hashed.{Hashed}
 use Rattle.starlark_hash.specs.declared.hash_value.StarlarkHashValue.{StarlarkHashValue}
 use Rattle.starlark_hash.specs.HashValue.{hash_of, key_of}
-use Rattle.starlark_hash.specs.Entries.{Entry, entry_at, entry_key, entry_value, match_of, position_of, stands_under}
+use Rattle.starlark_hash.specs.Entries.{Entry, entry_at, entry_key, entry_value, position_of, stands_under}
 use Rattle.starlark_hash.proofs.PositionLemmas.{position-passes}
-use Rattle.starlark_small.specs.Insert.{IsInserted, IsRefused}
 use Rattle.starlark_small.proofs.CallerLookup.{is_some-found}
 use Rattle.starlark_sets.specs.Insert.{Adds}
 use Rattle.starlark_sets.specs.Set.{Set}
 use Rattle.starlark_hash.specs.Lookup.{found, found_key}
 
 module _ {T A E : Type 0} (eq : T → T → Bool) (old new : Set T) (element : Hashed T) where
-  lacks_at : (index : Option ℕ) (r : Result A E) → MatchOption index (MatchResult r (λ _. IsInserted old element tt new) (λ _. IsRefused old new × (old.room ≡ 0))) (λ _. IsOk r × (new ≡ old)) → OnErr r (is_some index ≡ false)
-  lacks_at index r h = grind arith
-
   pub absent-added : (r : Result A E) → Adds eq old element r new → OnErr r (is_some (found (eq (key_of element)) (hash_of element) old.entries) ≡ false)
-  absent-added r h = rw (← is_some-found (eq (key_of element)) (hash_of element) old.entries) (lacks_at (match_of eq old.entries element) r h)
+  absent-added r h = rw (← is_some-found (eq (key_of element)) (hash_of element) old.entries) (grind arith)
 
 -- the key that is found passes
 module _ {K V : Type 0} (test : K → Bool) (hash : StarlarkHashValue) where

@@ -1,18 +1,17 @@
 -- The runs of an iterator that gives each item beside `()` are runs of the one inside.
 use Rattle.starlark_hash.proofs.Common.{◌≡◌, Bool, true, false, List, [], ◌∷◌, ◌++◌, map, Option, Result, Ok, Err, OnOk, is_some, refl, sym, ap, subst, ◌∙◌, ◌||◌, IsEquivalence, HashWrites, Drains, Yields, is_member, map-append, map-id, is_some-update_all}
 use Rattle.std.specs.Iterator.{Count}
+use Rattle.std.specs.Iterator.Runs.{WholeRun}
 use Rattle.std.proofs.lemmas.Simd.{map-map}
 use Rattle.starlark_hash.specs.Hasher.{own_hash}
-use Rattle.starlark_hash.specs.declared.hashed.Hashed.{Hashed}
 use Rattle.starlark_hash.specs.Entries.{Entry}
 use Rattle.starlark_hash.specs.Lookup.{found}
-use Rattle.starlark_small.specs.Lookup.{AreOwn, AreOwnEntries, contains}
+use Rattle.starlark_small.specs.Lookup.{contains}
 use Rattle.starlark_small.specs.Collect.{Collects, Extends, InsertsItems, IsExtended, insert_all, own_entry}
 use Rattle.starlark_small.specs.Map.{Map}
 use Rattle.starlark_small.proofs.CallerCollect.{looked_all, run_of}
-use Rattle.starlark_small.proofs.CallerOwn.{own-inserted_entries}
 use Rattle.starlark_small.proofs.CallerLookup.{empty-found as none_found}
-use Rattle.starlark_sets.specs.Collect.{HasEach, InsertsEach, KeepsOwn, element_entry, own_element}
+use Rattle.starlark_sets.specs.Collect.{HasEach, own_element}
 use Rattle.starlark_hash.specs.Unit.{StepsBeside}
 use Rattle.starlark_sets.specs.Set.{Elements, Set}
 
@@ -24,9 +23,6 @@ module _ {S A : Type 0} (steps : S → Option A → S → Type 0) where
   yields_alone : (s t : S) (xs : List (A × Unit {0})) → Yields (StepsBeside steps) s xs t → Yields steps s (alone xs) t
   yields_alone s t [] gave = gave
   yields_alone s t (x ∷ xs) (j, step, rest) = (j, step, yields_alone j t xs rest)
-
-  yields_last : (s t : S) (xs : List (A × Unit {0})) (x : A × Unit {0}) → Yields (StepsBeside steps) s (xs ++ x ∷ []) t → Yields steps s (alone xs ++ x.0 ∷ []) t
-  yields_last s t xs x gave = let all = yields_alone s t (xs ++ x ∷ []) gave in rw map-append at all
 
   drains_alone : (s : S) (xs : List (A × Unit {0})) → Drains (StepsBeside steps) s xs → Drains steps s (alone xs)
   drains_alone s xs (u, (t, gave, end)) = (u, (t, yields_alone s t xs gave, end))
@@ -44,7 +40,7 @@ module _ {S A : Type 0} (steps : S → Option A → S → Type 0) where
     inserts_alone it old new (Err e) put = record {
       items = alone put.items;
       entries = put.entries ∙ ap (insert_all eq old) (entries_alone put.items);
-      ended = record { next = put.ended.next.0; rest = put.ended.rest; gave = yields_last it put.ended.rest put.items put.ended.next put.ended.gave; absent = put.ended.absent };
+      ended = record { next = put.ended.next.0; rest = put.ended.rest; gave = rw map-append at (yields_alone it put.ended.rest (put.items ++ put.ended.next ∷ []) put.ended.gave); absent = put.ended.absent };
     }
 
     pub collects_alone : {U : Type 0} (becomes : U → S → Type 0) (remaining : S → Count) (iter : U) (it : S) (set : Set T)
@@ -69,6 +65,12 @@ module _ {S A : Type 0} (steps : S → Option A → S → Type 0) where
 -- what follows where the items fit follows from what says that they do
 pub extended_where : {K V A E : Type 0} (fits said : Type 0) (old new : Map K V) (r : Result A E) → (said → fits) → IsExtended fits old new r → IsExtended said old new r
 extended_where fits said old new r on is = assumption (λ (s : said). is.succeeds (on s), λ (s : said). is.spare (on s))
+
+-- what holds of each list whose items are a set's, inserted in their order, holds of the items that it was made of
+module _ {T A S U : Type 0} (eq : T → T → Bool) (entry : A → Entry T (Unit {0})) (steps : S → Option A → S → Type 0) (becomes : U → S → Type 0) (iter : U) (remaining : S → Count) (set : Set T) where
+  pub collected : Collects eq entry steps becomes remaining iter set → (P : List A → Type 0) → ((xs : List A) → set.entries ≡ insert_all eq [] (map entry xs) → P xs)
+      → (it : S) × becomes iter it × WholeRun steps it (λ p. P p.items)
+  collected has P holds = (has.it, has.made, run_of steps has.it has.items P has.drained (holds has.items has.entries))
 
 -- what a set has once an iterator's items went in
 module _ {T : Type 0} (eq : T → T → Bool) (laws : IsEquivalence eq) (feeds : T → HashWrites) (alike : (x y : T) → eq x y ≡ true → feeds x ≡ feeds y) where
@@ -96,29 +98,7 @@ module _ {T : Type 0} (eq : T → T → Bool) (laws : IsEquivalence eq) (feeds :
     has_extended (Err e) old new went = tt
 
     pub has_collected : (remaining : S → Count) (set : Set T) → Collects eq (own_element feeds) steps becomes remaining iter set → HasEach eq feeds steps becomes iter (λ _. false) set
-    has_collected remaining set has = (
-      has.it,
-      has.made,
-      run_of steps has.it has.items (λ xs. (element : T) → contains eq feeds set element ≡ is_member eq xs element) has.drained
-          (λ element. ap (λ l. is_some (found (eq element) (own_hash feeds element) l)) has.entries ∙ has_all has.items [] element
-          ∙ ap (λ o. is_some o || is_member eq has.items element) (none_found {K = T} {V = Unit {0}} [] refl (eq element) (own_hash feeds element))),
-    )
-
--- the list is that of the elements, inserted in their order
-pub each_collected : {T S U : Type 0} (eq : T → T → Bool) (steps : S → Option (Hashed T) → S → Type 0) (becomes : U → S → Type 0) (iter : U) (remaining : S → Count) (set : Set T)
-    → Collects eq element_entry steps becomes remaining iter set → InsertsEach eq steps becomes iter set
-each_collected eq steps becomes iter remaining set has = (
-  has.it,
-  has.made,
-  run_of steps has.it has.items (λ xs. set.entries ≡ insert_all eq [] (map element_entry xs)) has.drained has.entries,
-)
-
--- elements that were given under their own hashes stay so
-pub own_collected : {T S U : Type 0} (eq : T → T → Bool) (steps : S → Option (Hashed T) → S → Type 0) (becomes : U → S → Type 0) (iter : U) (remaining : S → Count) (set : Set T)
-    → Collects eq element_entry steps becomes remaining iter set → KeepsOwn steps becomes iter set
-own_collected {T} eq steps becomes iter remaining set has = (
-  has.it,
-  has.made,
-  run_of steps has.it has.items (λ xs. (feeds : T → HashWrites) → AreOwnEntries feeds (map element_entry xs) → AreOwn feeds set) has.drained
-      (λ feeds own. own-inserted_entries feeds eq set.entries (map element_entry has.items) has.entries own),
-)
+    has_collected remaining set has =
+        collected eq (own_element feeds) steps becomes iter remaining set has (λ xs. (element : T) → contains eq feeds set element ≡ is_member eq xs element)
+        (λ xs is element. ap (λ l. is_some (found (eq element) (own_hash feeds element) l)) is ∙ has_all xs [] element
+        ∙ ap (λ o. is_some o || is_member eq xs element) (none_found {K = T} {V = Unit {0}} [] refl (eq element) (own_hash feeds element)))

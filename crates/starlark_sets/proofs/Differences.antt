@@ -1,5 +1,5 @@
 -- Lists of elements without those of another list.
-use Rattle.starlark_hash.proofs.Common.{◌≡◌, ℕ, suc, ◌+◌, ◌-◌, ◌≤◌, Bool, true, false, cond, not, List, ◌∷◌, [], ◌++◌, length, map, position, Option, Some, is_some, refl, sym, ap, ◌∙◌, arith, length-append, filter, ◌||◌, ◌&&◌, option_map, IsEquivalence, keys_of, is_member, length-map}
+use Rattle.starlark_hash.proofs.Common.{◌≡◌, suc, ◌+◌, ◌-◌, ◌≤◌, Bool, true, false, not, List, ◌∷◌, [], ◌++◌, length, map, position, is_some, refl, sym, ap, ◌∙◌, arith, length-append, filter, ◌||◌, ◌&&◌, IsEquivalence, keys_of, is_member, length-map}
 use Rattle.std.specs.List.{list_any}
 use Rattle.std.proofs.lemmas.List.Filters.{length-filter_both}
 use Rattle.std.proofs.lemmas.List.Kept.{AllPairs-filter}
@@ -15,12 +15,9 @@ use Rattle.starlark_sets.specs.Set.{Elements}
 use Rattle.starlark_sets.specs.Union.{CountsEither}
 
 -- a search finds something where an item passes
-first_found : (b : Bool) (o : Option ℕ) → is_some (cond b (Some 0) (option_map suc o)) ≡ (b || is_some o)
-first_found b o = grind arith
-
 pub found_any : {X : Type 0} (p : X → Bool) (xs : List X) → is_some (position p xs) ≡ list_any p xs
 found_any p [] = refl
-found_any p (x ∷ xs) = ap is_some (position-cons p x xs) ∙ first_found (p x) (position p xs) ∙ ap (λ b. p x || b) (found_any p xs)
+found_any p (x ∷ xs) = grind (arith, position-cons p x xs, found_any p xs)
 
 any_key : {K V : Type 0} (p : K → Bool) (es : List (K × V)) → list_any p (map (λ e. e.0) es) ≡ list_any (λ e. p e.0) es
 any_key p [] = refl

@@ -1,7 +1,7 @@
-pub mod OrderedTold
 pub mod Additions
 pub mod Added
 pub mod Shown
+pub mod ShownAfter
 pub mod Differences
 pub mod Unions
 pub mod Collecting

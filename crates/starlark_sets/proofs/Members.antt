@@ -14,12 +14,6 @@ use Rattle.starlark_sets.specs.Set.{Elements}
 use Rattle.starlark_sets.specs.Union.{union}
 use Rattle.starlark_sets.proofs.Differences.{found_any, lacks_alike}
 
-swapped : (a b c d : Bool) → c ≡ (not d && a) → b ≡ a → c ≡ (b && not d)
-swapped a b c d is same = grind arith
-
-or_other : (a b c : Bool) → c ≡ (b && not a) → (a || c) ≡ (a || b)
-or_other a b c is = grind arith
-
 module _ {T : Type 0} (eq : T → T → Bool) (laws : IsEquivalence eq) (feeds : T → HashWrites) (alike : (x y : T) → eq x y ≡ true → feeds x ≡ feeds y) where
   -- whether the element is there under its own hash
   abbrev has : Elements T → T → Bool
@@ -47,10 +41,10 @@ module _ {T : Type 0} (eq : T → T → Bool) (laws : IsEquivalence eq) (feeds :
   pub members-difference : (es fs : Elements T) → AreOwnEntries feeds es → (q : T) → is_member eq (map entry_key (difference eq es fs)) q ≡ (has es q && not (has fs q))
   unfolding AreOwnEntries
   members-difference es fs own q =
-      sym (any_member (difference eq es fs) (All-filter (lacks eq fs) is_own es own) q)
-      ∙ swapped _ (has es q) _ (has fs q)
-      (any-filter_same (stands_under (own_hash feeds q) (eq q)) (lacks eq fs) (not (has fs q)) (λ e same. lacks_alike eq laws fs (hashed (own_hash feeds q) q) e same ∙ ap not (is_some-found (eq q) (own_hash feeds q) fs)) es)
-      (has_any es q)
+      let member = any_member (difference eq es fs) (All-filter (lacks eq fs) is_own es own) q in
+      let kept = any-filter_same (stands_under (own_hash feeds q) (eq q)) (lacks eq fs) (not (has fs q)) (λ e same. lacks_alike eq laws fs (hashed (own_hash feeds q) q) e same ∙ ap not (is_some-found (eq q) (own_hash feeds q) fs)) es in
+      let there = has_any es q in
+      grind arith
 
   -- a union has what either has
   pub members-union : (es fs : Elements T) → AreOwnEntries feeds es → AreOwnEntries feeds fs → (q : T) → is_member eq (map entry_key (union eq es fs)) q ≡ (has es q || has fs q)
@@ -59,4 +53,4 @@ module _ {T : Type 0} (eq : T → T → Bool) (laws : IsEquivalence eq) (feeds :
       ap (λ l. is_member eq l q) (map-append entry_key es (difference eq fs es))
       ∙ list_any-append (eq q) (map entry_key es) (map entry_key (difference eq fs es))
       ∙ ap (λ b. b || is_member eq (map entry_key (difference eq fs es)) q) (sym (has_any es q ∙ any_member es mine q))
-      ∙ or_other (has es q) (has fs q) _ (members-difference fs es theirs q)
+      ∙ grind (arith, members-difference fs es theirs q)

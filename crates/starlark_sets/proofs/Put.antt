@@ -21,9 +21,6 @@ use Rattle.starlark_sets.specs.Set.{Set, element_at}
 use Rattle.starlark_sets.specs.declared.ordered_set.try_insert.TryInsertError.{TryInsertError}
 use Rattle.starlark_sets.proofs.Callers.{key_stands}
 
-lacking_found : {T : Type 0} (eq : T → T → Bool) (old : Set T) (element : Hashed T) → match_of eq old.entries element ≡ None → is_some (found (eq (key_of element)) (hash_of element) old.entries) ≡ false
-lacking_found eq old element none = ap is_some (none_found (eq (key_of element)) (hash_of element) old.entries none)
-
 module _ {T : Type 0} (eq : T → T → Bool) (laws : IsEquivalence eq) (old new : Set T) (element : Hashed T) where
   -- an element that was lacking went last
   put_last : match_of eq old.entries element ≡ None → new.entries ≡ old.entries ++ (element, tt) ∷ [] → new.entries ≡ insert_entry eq old.entries element tt
@@ -34,7 +31,7 @@ module _ {T : Type 0} (eq : T → T → Bool) (laws : IsEquivalence eq) (old new
   adds-last (Ok a) none puts =
       let entries = put_last none puts.inserted.entries in
       record {
-        lacking = lacking_found eq old element none;
+        lacking = ap is_some (none_found (eq (key_of element)) (hash_of element) old.entries none);
         updates = writes-inserted eq laws old.entries new.entries element tt entries;
         count = omega (arith, ap length puts.inserted.entries, length_push old.entries (element, tt));
         own = λ feeds under own. own-inserted feeds eq old.entries new.entries element tt entries under own;
@@ -42,7 +39,7 @@ module _ {T : Type 0} (eq : T → T → Bool) (laws : IsEquivalence eq) (old new
       }
   adds-last (Err e) none puts =
       let own = λ (feeds : T → HashWrites). own-same feeds old.entries new.entries puts.refused.entries in
-      record { lacking = lacking_found eq old element none; updates = tt; count = tt; own = λ feeds under. own feeds; unchanged = puts.refused.entries }
+      record { lacking = ap is_some (none_found (eq (key_of element)) (hash_of element) old.entries none); updates = tt; count = tt; own = λ feeds under. own feeds; unchanged = puts.refused.entries }
 
 count_same : (b : Bool) (m n : ℕ) → b ≡ true → m ≡ n → m ≡ n + (if b then 0 else 1)
 count_same b m n is same = grind arith
@@ -101,15 +98,12 @@ module _ {Q T : Type 0} (eq : T → T → Bool) (laws : IsEquivalence eq) (equiv
   puts-for r adds = puts_at (position_of hash test old.entries) refl r adds adds
 
 module _ {T B : Type 0} (eq : T → T → Bool) (laws : IsEquivalence eq) (element : Hashed T) (old : Set T) (back : B) where
-  equal_or : (o : Option T) → IfSome o (λ k. eq (key_of element) k ≡ true) → eq (key_of element) (unwrap_or o (key_of element)) ≡ true
-  equal_or o passes = grind (arith, laws.refl (key_of element))
-
   -- what is shown is the element that was found, or else this one
   pub shows-put : (r : Result (Bor T) (NoRoom B)) → IfOk r (λ p. p.now ≡ unwrap_or (element_at old (match_of eq old.entries element)) (key_of element))
       → OnErr r (is_some (found (eq (key_of element)) (hash_of element) old.entries) ≡ false) → IfErr r (λ refused. refused.0 ≡ back) → ShowsPut eq element back old r
   shows-put r is lacking handed =
       let stands = key_stands (eq (key_of element)) (hash_of element) old.entries (element_at old (match_of eq old.entries element)) refl in
-      record { element = is; stored = rw (← stands.0) is; equal = grind (arith, equal_or (element_at old (match_of eq old.entries element)) stands.2); absent = lacking; handed_back = handed }
+      record { element = is; stored = rw (← stands.0) is; equal = grind (arith, laws.refl (key_of element), stands.2); absent = lacking; handed_back = handed }
 
 module _ {T : Type 0} (eq : T → T → Bool) (element : Hashed T) (old new : Set T) where
   answered_at : (index : Option ℕ) (there : Option T) (b : Bool) (r : Result (Unit {0}) (TryInsertError T))

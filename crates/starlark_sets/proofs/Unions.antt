@@ -1,5 +1,5 @@
 -- Differences and unions of lists without repetitions have none.
-use Rattle.starlark_hash.proofs.Common.{◌≡◌, ℕ, ◌-◌, ◌<◌, Bool, true, false, not, ◌++◌, length, get_or, List, Option, None, is_some, ◌∙◌, arith, length-append, IsEquivalence, get_or_append_left}
+use Rattle.starlark_hash.proofs.Common.{◌≡◌, ℕ, ◌-◌, ◌<◌, Bool, true, false, ◌++◌, length, get_or, List, ◌∙◌, arith, length-append, IsEquivalence, get_or_append_left}
 use Rattle.std.specs.Prelude.{AllPairs}
 use Rattle.std.proofs.lemmas.Bool.{cases_order}
 use Rattle.std.proofs.lemmas.List.{get_or-append_right}
@@ -11,9 +11,6 @@ use Rattle.starlark_sets.specs.Difference.{lacks, difference}
 use Rattle.starlark_sets.specs.Set.{Elements}
 use Rattle.starlark_sets.specs.Union.{union}
 use Rattle.starlark_sets.proofs.Differences.{IsSingle-filter}
-
-none_there : (o : Option ℕ) → not (is_some o) ≡ true → o ≡ None
-none_there o lacking = grind arith
 
 -- what holds of each two items of each of two lists, and of one of each, holds of their items one behind the other
 pairs_append : {X : Type 0} (p : X → X → Bool) (xs ys : List X) → AllPairs (λ x y. p x y ≡ false) xs → AllPairs (λ x y. p x y ≡ false) ys
@@ -42,5 +39,5 @@ module _ {T : Type 0} (eq : T → T → Bool) where
   pub IsSingle-union : IsEquivalence eq → (es fs : Elements T) → IsSingle eq es → IsSingle eq (difference eq fs es) → IsSingle eq (union eq es fs)
   IsSingle-union laws es fs first second = pairs_append (λ d e. stands_under (entry_hash d) (eq (entry_key d)) e) es (difference eq fs es) first second (λ i j d below inside.
       let y = get_or (difference eq fs es) j d in
-      let none = none_there _ (All-get_or (λ f. lacks eq es f ≡ true) (difference eq fs es) j d inside (filter_passes (lacks eq es) fs)) in
-      (alike-laws eq laws).symm (get_or es i d).0 y.0 ∙ position-None (stands_under y.0.hash (eq y.0.key)) es none i d below)
+      let lacking = All-get_or (λ f. lacks eq es f ≡ true) (difference eq fs es) j d inside (filter_passes (lacks eq es) fs) in
+      (alike-laws eq laws).symm (get_or es i d).0 y.0 ∙ position-None (stands_under y.0.hash (eq y.0.key)) es (grind (arith, lacking)) i d below)

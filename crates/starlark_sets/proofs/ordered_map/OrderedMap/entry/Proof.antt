@@ -1,5 +1,5 @@
 -- `entry` lends the map inside for good, and hands on the entry that it gives. Assumes `Logic`.
-use Rattle.starlark_columns.proofs.Walking.{◌≡◌, refl, sym, subst, ap, List, [], ◌∷◌, Ura, Fn, Args, Dict, a_type, dcons, dnil, named, inst_fn, Val, vptr, SProp, ent, emp, id⊢, ex_e, snd∗, Lft, GName, Share, ftrue, flft, Memory, Routine, Calls, Loops, WpFn, Logic, sem, ◌⊑◌, Fun, fact, fact_i, tables, FmC, ‵, raw, ◌⊛◌, some, later, ◌$◌, ◌∵◌, !, qed, move, keep, drop, use0, use1, split, split3, join, pick, fsplit3, fjoin, rewrite, suffices, frame, await, done, stop, addr, of_opd, and_then, no_more, returns, enter, alloc_all, pass_all, free_all, look_at, get, through, sets, lands_as, no, follows, Is, shows, param, bounded, layout, Laws, param_laws, RattleType, owns, MutBor, MutRef, mut_vals, mut_Tells, plain, types_at, mut_ref_to, named_lft, nothing, heard, peeks, only, calls_at, Clauses, Ended, ensured, lasts, triple_of, Contract, Triple, framed, Stays, stay_dropped, walk_of, ends_at, Goes-spent_ref, Goes-blank, Good, proved_at}
+use Rattle.starlark_columns.proofs.Walking.{◌≡◌, refl, sym, subst, ap, List, [], ◌∷◌, Ura, Fn, Args, Dict, a_type, dcons, dnil, named, inst_fn, Val, vptr, SProp, ent, emp, id⊢, ex_e, snd∗, Lft, GName, Share, ftrue, flft, Memory, Routine, Calls, Loops, WpFn, Logic, sem, ◌⊑◌, Fun, fact, fact_i, tables, FmC, ‵, raw, ◌⊛◌, some, later, ◌$◌, ◌∵◌, !, qed, move, keep, drop, use0, use1, split, split3, join, pick, fsplit3, fjoin, rewrite, suffices, frame, Item, await, done, stop, addr, of_opd, and_then, no_more, returns, enter, alloc_all, pass_all, free_all, look_at, get, through, sets, lands_as, no, follows, Is, shows, param, bounded, layout, Laws, param_laws, RattleType, owns, MutBor, MutRef, mut_vals, mut_Tells, plain, types_at, mut_ref_to, named_lft, nothing, heard, peeks, only, calls_at, Clauses, Ended, ensured, lasts, triple_of, Contract, Triple, framed, Stays, stay_dropped, walk_of, ends_at, Goes-spent_ref, Goes-blank, Good, proved_at}
 use Rattle.std.specs.declared.cmp.Eq as Eq
 use Rattle.std.specs.declared.cmp.PartialEq as PartialEq
 use Rattle.std.specs.declared.hash.Hash as Hash
@@ -69,55 +69,51 @@ module _ (K V : RattleType) (E : Eq.Ghosts K.Denot) (dE : Dict) (Q : PartialEq.G
       abbrev bound : (walk_of 𝓛 ended stayed spec).Ghost
       bound = (((κ, (κK, (κV, tt))), (q, (qK, (qV, tt))), bounds, (r, (key, tt)), (mut_vals r, (k ∷ [], tt))), tt)
 
-      abbrev Post : Val → SProp 𝓤
-      Post = (walk_of 𝓛 ended stayed spec).post bound
-
       abbrev Ref : RattleType
       Ref = MutRef (named 0) κ Inner
 
       abbrev Out : RattleType
       Out = R.the_row (named_lft 3 0 tt (κ, (κK, (κV, tt)))) K' V' Q
 
-      walk : ent 𝓤 ((walk_of 𝓛 ended stayed spec).pre bound) (WpFn 𝓤 𝓛.H C Λ here (vptr r.ref_ptr.0 r.ref_ptr.1 ∷ k ∷ []) Post)
+      walk : ent 𝓤 ((walk_of 𝓛 ended stayed spec).pre bound) (WpFn 𝓤 𝓛.H C Λ here (vptr r.ref_ptr.0 r.ref_ptr.1 ∷ k ∷ []) ((walk_of 𝓛 ended stayed spec).post bound))
       walk =
           let b = r.ref_ptr.0 in let o = r.ref_ptr.1 in let m = r.now in let γ = r.ghost_name in
-          qed 𝓛 (((‵ (flft κ q) ⊛ ‵ (flft κK qK) ⊛ ‵ (flft κV qV) ⊛ ‵ ftrue) ⊛ ‵ (owns (types_at ended.signature.params bound.0.0) bound.0.3 bound.0.4))
+          let tokens : Item 𝓤 = ‵ (flft κ q) ⊛ ‵ (flft κK qK) ⊛ ‵ (flft κV qV) ⊛ ‵ ftrue in
+          qed 𝓛 ((tokens ⊛ ‵ (owns (types_at ended.signature.params bound.0.0) bound.0.3 bound.0.4))
           ∷ (raw (fact 𝓤 (κK ⊑ K.lives)) ⊛ raw (fact 𝓤 (κV ⊑ V.lives)) ⊛ ‵ ftrue) ∷ []) ∵
           move ! (1 ∷ []) $ split3 ! $ heard ! (κK ⊑ K.lives) (λ lK. heard ! (κV ⊑ V.lives) (λ lV. drop ! $
-          split ! $ split3 ! $ move ! (2 ∷ []) $ split ! $ move ! (4 ∷ []) $ fsplit3 ! $ keep ! (5 ∷ 6 ∷ 3 ∷ 0 ∷ 1 ∷ []) $
-          -- [the tokens of κ, κK, κV; self; the key]
+          split ! $ move ! (1 ∷ []) $ fsplit3 ! $ keep ! (3 ∷ 0 ∷ 1 ∷ []) $
+          -- [the tokens; self; the key]
           enter ! C Λ here (vptr b o ∷ k ∷ []) _ $ alloc_all ! (λ l. pass_all ! refl ((tt, tt), (k_good, tt)) $
           sets ! (addr ! (through ! refl (stop !))) refl (tt, tt) $
           let z : Inside.Ghost = (((κ, (κK, (κV, tt))), (q, (qK, (qV, tt))), bounds, (r, tt), (mut_vals r, tt)), tt) in
-          nothing ! $ move ! (4 ∷ 0 ∷ []) $ fjoin ! $
-          nothing ! $ move ! (4 ∷ 0 ∷ []) $ join ! $ move ! (3 ∷ 0 ∷ []) $ join ! $ move ! (2 ∷ 0 ∷ []) $ join ! $ join ! $
+          nothing ! $ move ! (2 ∷ 0 ∷ []) $ fjoin ! $ move ! (1 ∷ 0 ∷ []) $ join ! $
           nothing ! $ use0 𝓛 (raw (fact 𝓤 (κV ⊑ V.lives))) (fact_i 𝓤 _ (emp 𝓤) lV) $ join ! $ use0 𝓛 (raw (fact 𝓤 (κK ⊑ K.lives))) (fact_i 𝓤 _ (emp 𝓤) lK) $ join ! $ move ! (1 ∷ 0 ∷ []) $ join ! $
           use1 𝓛 (raw (Inside.pre z)) (id⊢ 𝓤 _) $
           calls_at ! fm Inside lends z (and_then ! (get ! refl) (no_more !)) (λ u.
-          use1 𝓛 (later (some (λ (x : MutBor M). ((‵ (flft κ q) ⊛ ‵ (flft κK qK) ⊛ ‵ (flft κV qV) ⊛ ‵ ftrue) ⊛ ‵ (Ref.own_val x (u ∷ []))) ⊛ raw (ensured 𝓛 (i.ended K V E dE Q dQ) (i.clauses K V E dE Q dQ 𝓛 at_mem run) z.0.0 z.0.3 tt x)))) (id⊢ 𝓤 _) $ await ! tt $ pick ! (λ x. split ! $ move ! (1 ∷ []) $
+          use1 𝓛 (later (some (λ (x : MutBor M). (tokens ⊛ ‵ (Ref.own_val x (u ∷ []))) ⊛ raw (ensured 𝓛 (i.ended K V E dE Q dQ) (i.clauses K V E dE Q dQ 𝓛 at_mem run) z.0.0 z.0.3 tt x)))) (id⊢ 𝓤 _) $ await ! tt $ pick ! (λ x. split ! $ move ! (1 ∷ []) $
           use1 𝓛 (‵ (follows Outer Inner γ x.ghost_name (λ n. n)) ⊛ raw (fact 𝓤 (x.now ≡ m))) (ex_e 𝓤 _ (λ ws. snd∗ 𝓤 (sem 𝓛 (lasts (i.ended K V E dE Q dQ) z.0.0 z.0.3 ws)) _)) $ split ! $
-          move ! (1 ∷ []) $ heard ! (x.now ≡ m) (λ same. move ! (1 ∷ []) $ split ! $ split3 ! $ move ! (2 ∷ []) $ split ! $ move ! (1 ∷ []) $ drop ! $
-          -- [the token of κV; those of κ, κK; the map inside; what self follows; the key]
-          move ! (3 ∷ []) $ peeks ! Ref (Is Ref) (shows 𝓛 Ref) x (u ∷ []) (λ shown. let told = mut_Tells (named 0) κ Inner x (u ∷ []) shown in
+          move ! (1 ∷ []) $ heard ! (x.now ≡ m) (λ same. move ! (1 ∷ []) $ split ! $ move ! (1 ∷ []) $
+          -- [the map inside; the tokens; what self follows; the key]
+          peeks ! Ref (Is Ref) (shows 𝓛 Ref) x (u ∷ []) (λ shown. let told = mut_Tells (named 0) κ Inner x (u ∷ []) shown in
           rewrite ! 0 (λ (vs : List Val). ‵ (Ref.own_val x vs)) told refl $ lands_as ! (ap only told) refl (tt, tt) $ sets ! (of_opd ! (get ! refl)) refl k_good $
           let z2 : Enters.Ghost = (((κ, (κK, (κV, tt))), (q, (qK, (qV, tt))), bounds, (x, (key, tt)), (mut_vals x, (k ∷ [], tt))), tt) in
-          nothing ! $ move ! (6 ∷ 0 ∷ []) $ fjoin ! $ move ! (1 ∷ 0 ∷ []) $ fjoin ! $
-          nothing ! $ move ! (2 ∷ 0 ∷ []) $ join ! $ move ! (3 ∷ 0 ∷ []) $ join ! $ move ! (2 ∷ 0 ∷ []) $ join ! $ join ! $
+          nothing ! $ move ! (4 ∷ 0 ∷ []) $ fjoin ! $ move ! (1 ∷ 0 ∷ []) $ fjoin ! $ move ! (1 ∷ 0 ∷ []) $ join ! $
           nothing ! $ use0 𝓛 (raw (fact 𝓤 (κV ⊑ V.lives))) (fact_i 𝓤 _ (emp 𝓤) lV) $ join ! $ use0 𝓛 (raw (fact 𝓤 (κK ⊑ K.lives))) (fact_i 𝓤 _ (emp 𝓤) lK) $ join ! $ move ! (1 ∷ 0 ∷ []) $ join ! $
           use1 𝓛 (raw (Enters.pre z2)) (id⊢ 𝓤 _) $
           calls_at ! fm Enters gives z2 (and_then ! (get ! refl) (and_then ! (get ! refl) (no_more !))) (λ t.
-          use1 𝓛 (later (some (λ (y : Entry K.Denot V.Denot Q). ((‵ (flft κ q) ⊛ ‵ (flft κK qK) ⊛ ‵ (flft κV qV) ⊛ ‵ ftrue) ⊛ ‵ (Out.own_val y (t ∷ []))) ⊛ raw (ensured 𝓛 (e.ended K V E dE Q dQ G dG dD) (e.clauses K V E dE Q dQ G dG dD 𝓛 at_mem run) z2.0.0 z2.0.3 tt y)))) (id⊢ 𝓤 _) $ await ! tt $ pick ! (λ y. split ! $ move ! (1 ∷ []) $
+          use1 𝓛 (later (some (λ (y : Entry K.Denot V.Denot Q). (tokens ⊛ ‵ (Out.own_val y (t ∷ []))) ⊛ raw (ensured 𝓛 (e.ended K V E dE Q dQ G dG dD) (e.clauses K V E dE Q dQ G dG dD 𝓛 at_mem run) z2.0.0 z2.0.3 tt y)))) (id⊢ 𝓤 _) $ await ! tt $ pick ! (λ y. split ! $ move ! (1 ∷ []) $
           use1 𝓛 (raw (fact 𝓤 ((map_of_entry y).ghost_name ≡ x.ghost_name)) ⊛ raw (fact 𝓤 (IsEntered Q.eq (own_hashed G.hash_input key) x.now y))) (ex_e 𝓤 _ (λ ws. snd∗ 𝓤 (sem 𝓛 (lasts (e.ended K V E dE Q dQ G dG dD) z2.0.0 z2.0.3 ws)) _)) $ split ! $
           heard ! ((map_of_entry y).ghost_name ≡ x.ghost_name) (λ name. heard ! (IsEntered Q.eq (own_hashed G.hash_input key) x.now y) (λ is.
           -- [the tokens with the entry; what self follows]
           move ! (1 ∷ []) $ rewrite ! 0 (λ (n : GName). ‵ (follows Outer Inner γ n (λ w. w))) (sym name) refl $
-          move ! (1 ∷ []) $ split ! $ split3 ! $ move ! (2 ∷ []) $ split ! $ move ! (1 ∷ []) $ drop ! $
-          -- [the token of κV; those of κ, κK; the entry; what self follows]
-          move ! (3 ∷ []) $ peeks ! Out (Is Out) (shows 𝓛 Out) y (t ∷ []) (λ known. let lone = lone_value 𝓛 Out (entry_laws.the_row_laws (named_lft 3 0 tt (κ, (κK, (κV, tt)))) K' V' Q (param_laws 0 K LK) (param_laws 1 V LV)) y (t ∷ []) known in
+          move ! (1 ∷ []) $ split ! $ move ! (1 ∷ []) $
+          -- [the entry; the tokens; what self follows]
+          peeks ! Out (Is Out) (shows 𝓛 Out) y (t ∷ []) (λ known. let lone = lone_value 𝓛 Out (entry_laws.the_row_laws (named_lft 3 0 tt (κ, (κK, (κV, tt)))) K' V' Q (param_laws 0 K LK) (param_laws 1 V LV)) y (t ∷ []) known in
           rewrite ! 0 (λ (vs : List Val). ‵ (Out.own_val y vs)) lone.1 refl $ lands_as ! (ap only lone.1) refl lone.2 $
-          returns ! (look_at ! 0 refl) $ free_all ! refl $ keep ! (0 ∷ 2 ∷ 3 ∷ 1 ∷ 4 ∷ []) $
+          returns ! (look_at ! 0 refl) $ free_all ! refl $ keep ! (0 ∷ 1 ∷ 2 ∷ []) $
           suffices ! _ (ends_at 𝓛 ended stayed spec bound lone.0 y (tt, (tt, tt)) (tt, (tt, tt))) $
-          nothing ! $ nothing ! $ fjoin ! $ nothing ! $ fjoin ! $ join ! $ nothing ! $ move ! (4 ∷ 0 ∷ []) $ join ! $ move ! (3 ∷ 0 ∷ []) $ join ! $ move ! (2 ∷ 0 ∷ []) $ join ! $ join ! $ frame ! $
+          nothing ! $ nothing ! $ fjoin ! $ nothing ! $ fjoin ! $ join ! $ move ! (1 ∷ 0 ∷ []) $ join ! $ frame ! $
           use0 𝓛 (raw (fact 𝓤 (IsEntered Q.eq (own_hashed G.hash_input key) m y))) (fact_i 𝓤 _ (emp 𝓤) (subst (λ n. IsEntered Q.eq (own_hashed G.hash_input key) n y) same is)) $ move ! (1 ∷ 0 ∷ []) $ done !))))))))))))
 
 pub entry_spec : {M : Type 1} → statement M

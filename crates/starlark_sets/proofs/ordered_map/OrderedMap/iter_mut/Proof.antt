@@ -1,5 +1,5 @@
 -- `iter_mut` lends the map inside for good, and hands on what walks that. Assumes `Logic`.
-use Rattle.starlark_columns.proofs.Walking.{◌≡◌, refl, ap, ◌∙◌, ◌<◌, ◌^◌, List, [], ◌∷◌, length, Ura, Fn, Args, Dict, a_type, dcons, dnil, named, inst_fn, Val, vptr, SProp, ent, emp, id⊢, ex_e, snd∗, Lft, GName, Share, ftrue, flft, Memory, Routine, Calls, Loops, WpFn, Logic, sem, ◌⊑◌, Fun, fact, fact_i, tables, FmC, ‵, raw, ◌⊛◌, some, later, ◌$◌, ◌∵◌, !, qed, move, keep, drop, use0, use1, use2, split, split3, join, pick, fsplit, fjoin, rewrite, suffices, frame, await, done, stop, addr, and_then, no_more, returns, enter, alloc_all, pass_all, free_all, look_at, get, through, sets, lands_as, no, follows, follows_then, Is, shows, param, bounded, Laws, param_laws, RattleType, owns, MutBor, MutRef, mut_vals, mut_Tells, plain, types_at, mut_ref_to, named_lft, nothing, heard, peeks, only, calls_at, Clauses, Ended, ensured, lasts, triple_of, Contract, Triple, framed, Stays, stay_dropped, walk_of, ends_at, Goes-spent_ref, proved, map}
+use Rattle.starlark_columns.proofs.Walking.{◌≡◌, refl, ap, ◌∙◌, ◌<◌, ◌^◌, List, [], ◌∷◌, length, Ura, Fn, Args, Dict, a_type, dcons, dnil, named, inst_fn, Val, vptr, SProp, ent, emp, id⊢, ex_e, snd∗, Lft, GName, Share, ftrue, flft, Memory, Routine, Calls, Loops, WpFn, Logic, sem, ◌⊑◌, Fun, fact, fact_i, tables, FmC, ‵, raw, ◌⊛◌, some, later, ◌$◌, ◌∵◌, !, qed, move, keep, drop, use0, use1, use2, split, split3, join, pick, fsplit, fjoin, rewrite, suffices, frame, Item, await, done, stop, addr, and_then, no_more, returns, enter, alloc_all, pass_all, free_all, look_at, get, through, sets, lands_as, no, follows, follows_then, Is, shows, param, bounded, Laws, param_laws, RattleType, owns, MutBor, MutRef, mut_vals, mut_Tells, plain, types_at, mut_ref_to, named_lft, nothing, heard, peeks, only, calls_at, Clauses, Ended, ensured, lasts, triple_of, Contract, Triple, framed, Stays, stay_dropped, walk_of, ends_at, Goes-spent_ref, proved, map}
 use Rattle.std.specs.declared.cmp.Eq as Eq
 use Rattle.std.specs.declared.cmp.PartialEq as PartialEq
 use Rattle.starlark_hash.specs.Entries.{pair_of}
@@ -64,18 +64,11 @@ module _ (K V : RattleType) (E : Eq.Ghosts K.Denot) (dE : Dict) (Q : PartialEq.G
     abbrev Walks : Contract 𝓤
     Walks = triple_of 𝓛 (w.signature K V E dE Q dQ) (w.spec K V E dE Q dQ 𝓛 at_mem run)
 
-    -- what the walk keeps, whatever values are written
-    abbrev Keeps : M → SProp 𝓤
-    Keeps m = fact 𝓤 (KeepsAllButValues Q.eq m)
-
     module _ (LK : Laws K) (LV : Laws V) (C : Calls 𝓤 𝓛.H) (Λ : Loops 𝓤 𝓛.H) (fm : FmC 𝓤 𝓛.H 𝓛.laws C)
         (lends : Triple 𝓤 (C (#inside args)) Inside) (walked : Triple 𝓤 (C (#walks args)) Walks)
         (κ κK κV : Lft) (q qK qV : Share) (bounds : (κ ⊑ κK) × ((κ ⊑ κV) × Unit {0})) (r : MutBor M) where
       abbrev bound : (walk_of 𝓛 ended stayed spec).Ghost
       bound = (((κ, (κK, (κV, tt))), (q, (qK, (qV, tt))), bounds, (r, tt), (mut_vals r, tt)), tt)
-
-      abbrev Post : Val → SProp 𝓤
-      Post = (walk_of 𝓛 ended stayed spec).post bound
 
       abbrev Ref : RattleType
       Ref = MutRef (named 0) κ Inner
@@ -83,48 +76,47 @@ module _ (K V : RattleType) (E : Eq.Ghosts K.Denot) (dE : Dict) (Q : PartialEq.G
       abbrev It : RattleType
       It = P.the_row (named_lft 3 0 tt (κ, (κK, (κV, tt)))) K' V'
 
-      walk : ent 𝓤 ((walk_of 𝓛 ended stayed spec).pre bound) (WpFn 𝓤 𝓛.H C Λ here (vptr r.ref_ptr.0 r.ref_ptr.1 ∷ []) Post)
+      walk : ent 𝓤 ((walk_of 𝓛 ended stayed spec).pre bound) (WpFn 𝓤 𝓛.H C Λ here (vptr r.ref_ptr.0 r.ref_ptr.1 ∷ []) ((walk_of 𝓛 ended stayed spec).post bound))
       walk =
           let b = r.ref_ptr.0 in let o = r.ref_ptr.1 in let m = r.now in let γ = r.ghost_name in
-          qed 𝓛 (((‵ (flft κ q) ⊛ ‵ (flft κK qK) ⊛ ‵ (flft κV qV) ⊛ ‵ ftrue) ⊛ ‵ (owns (types_at ended.signature.params bound.0.0) bound.0.3 bound.0.4))
+          let tokens : Item 𝓤 = ‵ (flft κ q) ⊛ ‵ (flft κK qK) ⊛ ‵ (flft κV qV) ⊛ ‵ ftrue in
+          qed 𝓛 ((tokens ⊛ ‵ (owns (types_at ended.signature.params bound.0.0) bound.0.3 bound.0.4))
           ∷ (raw (fact 𝓤 (κK ⊑ K.lives)) ⊛ raw (fact 𝓤 (κV ⊑ V.lives)) ⊛ ‵ ftrue) ∷ []) ∵
           move ! (1 ∷ []) $ split3 ! $ heard ! (κK ⊑ K.lives) (λ lK. heard ! (κV ⊑ V.lives) (λ lV. drop ! $
-          split ! $ split3 ! $ move ! (2 ∷ []) $ split ! $ move ! (4 ∷ []) $ fsplit ! $ keep ! (4 ∷ 5 ∷ 2 ∷ 0 ∷ []) $
-          -- [the tokens of κ, κK, κV; self]
+          split ! $ move ! (1 ∷ []) $ fsplit ! $ keep ! (2 ∷ 0 ∷ []) $
+          -- [the tokens; self]
           enter ! C Λ here (vptr b o ∷ []) _ $ alloc_all ! (λ l. pass_all ! refl ((tt, tt), tt) $
           sets ! (addr ! (through ! refl (stop !))) refl (tt, tt) $
           let z : Inside.Ghost = (((κ, (κK, (κV, tt))), (q, (qK, (qV, tt))), bounds, (r, tt), (mut_vals r, tt)), tt) in
-          nothing ! $ move ! (4 ∷ 0 ∷ []) $ fjoin ! $
-          nothing ! $ move ! (4 ∷ 0 ∷ []) $ join ! $ move ! (3 ∷ 0 ∷ []) $ join ! $ move ! (2 ∷ 0 ∷ []) $ join ! $ join ! $
+          nothing ! $ move ! (2 ∷ 0 ∷ []) $ fjoin ! $ move ! (1 ∷ 0 ∷ []) $ join ! $
           nothing ! $ use0 𝓛 (raw (fact 𝓤 (κV ⊑ V.lives))) (fact_i 𝓤 _ (emp 𝓤) lV) $ join ! $ use0 𝓛 (raw (fact 𝓤 (κK ⊑ K.lives))) (fact_i 𝓤 _ (emp 𝓤) lK) $ join ! $ move ! (1 ∷ 0 ∷ []) $ join ! $
           use1 𝓛 (raw (Inside.pre z)) (id⊢ 𝓤 _) $
           calls_at ! fm Inside lends z (and_then ! (get ! refl) (no_more !)) (λ u.
-          use1 𝓛 (later (some (λ (x : MutBor M). ((‵ (flft κ q) ⊛ ‵ (flft κK qK) ⊛ ‵ (flft κV qV) ⊛ ‵ ftrue) ⊛ ‵ (Ref.own_val x (u ∷ []))) ⊛ raw (ensured 𝓛 (i.ended K V E dE Q dQ) (i.clauses K V E dE Q dQ 𝓛 at_mem run) z.0.0 z.0.3 tt x)))) (id⊢ 𝓤 _) $ await ! tt $ pick ! (λ x. split ! $ move ! (1 ∷ []) $
+          use1 𝓛 (later (some (λ (x : MutBor M). (tokens ⊛ ‵ (Ref.own_val x (u ∷ []))) ⊛ raw (ensured 𝓛 (i.ended K V E dE Q dQ) (i.clauses K V E dE Q dQ 𝓛 at_mem run) z.0.0 z.0.3 tt x)))) (id⊢ 𝓤 _) $ await ! tt $ pick ! (λ x. split ! $ move ! (1 ∷ []) $
           use1 𝓛 (‵ (follows Outer Inner γ x.ghost_name (λ n. n)) ⊛ raw (fact 𝓤 (x.now ≡ m))) (ex_e 𝓤 _ (λ ws. snd∗ 𝓤 (sem 𝓛 (lasts (i.ended K V E dE Q dQ) z.0.0 z.0.3 ws)) _)) $ split ! $
-          move ! (1 ∷ []) $ heard ! (x.now ≡ m) (λ same. move ! (1 ∷ []) $ split ! $ split3 ! $ move ! (2 ∷ []) $ split ! $ move ! (1 ∷ []) $ drop ! $
-          -- [the token of κV; those of κ, κK; the map inside; what self follows]
-          move ! (3 ∷ []) $ peeks ! Ref (Is Ref) (shows 𝓛 Ref) x (u ∷ []) (λ shown. let told = mut_Tells (named 0) κ Inner x (u ∷ []) shown in
+          move ! (1 ∷ []) $ heard ! (x.now ≡ m) (λ same. move ! (1 ∷ []) $ split ! $ move ! (1 ∷ []) $
+          -- [the map inside; the tokens; what self follows]
+          peeks ! Ref (Is Ref) (shows 𝓛 Ref) x (u ∷ []) (λ shown. let told = mut_Tells (named 0) κ Inner x (u ∷ []) shown in
           rewrite ! 0 (λ (vs : List Val). ‵ (Ref.own_val x vs)) told refl $ lands_as ! (ap only told) refl (tt, tt) $
           let z2 : Walks.Ghost = (((κ, (κK, (κV, tt))), (q, (qK, (qV, tt))), bounds, (x, tt), (mut_vals x, tt)), tt) in
-          nothing ! $ move ! (1 ∷ 0 ∷ []) $ fjoin ! $
-          nothing ! $ move ! (2 ∷ 0 ∷ []) $ join ! $ move ! (3 ∷ 0 ∷ []) $ join ! $ move ! (2 ∷ 0 ∷ []) $ join ! $ join ! $
+          nothing ! $ move ! (1 ∷ 0 ∷ []) $ fjoin ! $ move ! (1 ∷ 0 ∷ []) $ join ! $
           nothing ! $ use0 𝓛 (raw (fact 𝓤 (κV ⊑ V.lives))) (fact_i 𝓤 _ (emp 𝓤) lV) $ join ! $ use0 𝓛 (raw (fact 𝓤 (κK ⊑ K.lives))) (fact_i 𝓤 _ (emp 𝓤) lK) $ join ! $ move ! (1 ∷ 0 ∷ []) $ join ! $
           use1 𝓛 (raw (Walks.pre z2)) (id⊢ 𝓤 _) $
           calls_at ! fm Walks walked z2 (and_then ! (get ! refl) (no_more !)) (λ t.
-          use1 𝓛 (later (some (λ (y : List (K.Denot × V.Denot) × GName). ((‵ (flft κ q) ⊛ ‵ (flft κK qK) ⊛ ‵ (flft κV qV) ⊛ ‵ ftrue) ⊛ ‵ (It.own_val y (t ∷ []))) ⊛ raw (ensured 𝓛 (w.ended K V E dE Q dQ) (w.clauses K V E dE Q dQ 𝓛 at_mem run) z2.0.0 z2.0.3 tt y)))) (id⊢ 𝓤 _) $ await ! tt $ pick ! (λ y. split ! $ move ! (1 ∷ []) $
-          use1 𝓛 (‵ (follows Inner Inner x.ghost_name y.1 (with x.now)) ⊛ raw (fact 𝓤 (y.0 ≡ map pair_of x.now.entries)) ⊛ raw (fact 𝓤 (length x.now.entries < 2 ^ 64)) ⊛ raw (Keeps x.now)) (ex_e 𝓤 _ (λ ws. snd∗ 𝓤 (sem 𝓛 (lasts (w.ended K V E dE Q dQ) z2.0.0 z2.0.3 ws)) _)) $ split3 ! $
+          use1 𝓛 (later (some (λ (y : List (K.Denot × V.Denot) × GName). (tokens ⊛ ‵ (It.own_val y (t ∷ []))) ⊛ raw (ensured 𝓛 (w.ended K V E dE Q dQ) (w.clauses K V E dE Q dQ 𝓛 at_mem run) z2.0.0 z2.0.3 tt y)))) (id⊢ 𝓤 _) $ await ! tt $ pick ! (λ y. split ! $ move ! (1 ∷ []) $
+          use1 𝓛 (‵ (follows Inner Inner x.ghost_name y.1 (with x.now)) ⊛ raw (fact 𝓤 (y.0 ≡ map pair_of x.now.entries)) ⊛ raw (fact 𝓤 (length x.now.entries < 2 ^ 64)) ⊛ raw (fact 𝓤 (KeepsAllButValues Q.eq x.now))) (ex_e 𝓤 _ (λ ws. snd∗ 𝓤 (sem 𝓛 (lasts (w.ended K V E dE Q dQ) z2.0.0 z2.0.3 ws)) _)) $ split3 ! $
           move ! (1 ∷ []) $ heard ! (y.0 ≡ map pair_of x.now.entries) (λ pairs. move ! (1 ∷ []) $ split ! $ heard ! (length x.now.entries < 2 ^ 64) (λ fits. drop ! $
           -- [what the map inside follows; the tokens with the walk; what self follows]
           rewrite ! 0 (λ (n : M). ‵ (follows Inner Inner x.ghost_name y.1 (with n))) same refl $
           move ! (2 ∷ 0 ∷ []) $ use2 𝓛 (‵ (follows Outer Inner γ y.1 (with m))) (follows_then 𝓛 Outer Inner Inner (λ n. n) (with m) γ x.ghost_name y.1) $
-          move ! (1 ∷ []) $ split ! $ split3 ! $ move ! (2 ∷ []) $ split ! $ move ! (1 ∷ []) $ drop ! $
-          -- [the token of κV; those of κ, κK; the walk; what self follows]
-          move ! (3 ∷ []) $ peeks ! It (Is It) (shows 𝓛 It) y (t ∷ []) (λ known. let lone = lone_value 𝓛 It (walk_laws.the_row_laws (named_lft 3 0 tt (κ, (κK, (κV, tt)))) K' V' (param_laws 0 K LK) (param_laws 1 V LV)) y (t ∷ []) known in
+          move ! (1 ∷ []) $ split ! $ move ! (1 ∷ []) $
+          -- [the walk; the tokens; what self follows]
+          peeks ! It (Is It) (shows 𝓛 It) y (t ∷ []) (λ known. let lone = lone_value 𝓛 It (walk_laws.the_row_laws (named_lft 3 0 tt (κ, (κK, (κV, tt)))) K' V' (param_laws 0 K LK) (param_laws 1 V LV)) y (t ∷ []) known in
           rewrite ! 0 (λ (vs : List Val). ‵ (It.own_val y vs)) lone.1 refl $ lands_as ! (ap only lone.1) refl lone.2 $
-          returns ! (look_at ! 0 refl) $ free_all ! refl $ keep ! (0 ∷ 2 ∷ 3 ∷ 1 ∷ 4 ∷ []) $
+          returns ! (look_at ! 0 refl) $ free_all ! refl $ keep ! (0 ∷ 1 ∷ 2 ∷ []) $
           suffices ! _ (ends_at 𝓛 ended stayed spec bound lone.0 y (tt, tt) (tt, tt)) $
-          nothing ! $ nothing ! $ fjoin ! $ join ! $ nothing ! $ move ! (4 ∷ 0 ∷ []) $ join ! $ move ! (3 ∷ 0 ∷ []) $ join ! $ move ! (2 ∷ 0 ∷ []) $ join ! $ join ! $ frame ! $
-          use0 𝓛 (raw (Keeps m)) (fact_i 𝓤 _ (emp 𝓤) (keeps-all_but_values Q.eq m)) $
+          nothing ! $ nothing ! $ fjoin ! $ join ! $ move ! (1 ∷ 0 ∷ []) $ join ! $ frame ! $
+          use0 𝓛 (raw (fact 𝓤 (KeepsAllButValues Q.eq m))) (fact_i 𝓤 _ (emp 𝓤) (keeps-all_but_values Q.eq m)) $
           use0 𝓛 (raw (fact 𝓤 (length m.entries < 2 ^ 64))) (fact_i 𝓤 _ (emp 𝓤) (rw (← same) fits)) $
           use0 𝓛 (raw (fact 𝓤 (y.0 ≡ map pair_of m.entries))) (fact_i 𝓤 _ (emp 𝓤) (pairs ∙ ap (λ (n : M). map pair_of n.entries) same)) $ move ! (3 ∷ 0 ∷ 1 ∷ 2 ∷ []) $ done !))))))))))))
 

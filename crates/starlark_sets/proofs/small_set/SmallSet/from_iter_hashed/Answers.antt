@@ -1,6 +1,9 @@
-use Rattle.starlark_hash.proofs.Common.{sym, subst}
+use Rattle.starlark_hash.proofs.Common.{◌≡◌, [], map, sym, subst, HashWrites}
+use Rattle.starlark_small.specs.Collect.{insert_all}
+use Rattle.starlark_small.specs.Lookup.{AreOwn, AreOwnEntries}
+use Rattle.starlark_small.proofs.CallerOwn.{own-inserted_entries}
 use Rattle.starlark_sets.specs.Collect.{element_entry}
-use Rattle.starlark_sets.proofs.Collecting.{collects_alone, each_collected, own_collected}
+use Rattle.starlark_sets.proofs.Collecting.{collects_alone, collected}
 use Rattle.starlark_sets.proofs.small_set.SmallSet.from_iter_hashed.Goals as goal
 
 pub returns-clause-set : goal.returns-clause-set
@@ -10,8 +13,12 @@ returns-clause-set g c =
 
 pub returns-clause-own : goal.returns-clause-own
 returns-clause-own g c =
-    own_collected g.T.PartialEq.eq g.I.IntoIter.Iterator.next_gives g.I.IntoIterator.into_iter_gives c.args.iter g.I.IntoIter.Iterator.remaining _ (returns-clause-set g c)
+    let eq = g.T.PartialEq.eq in let set = c.in_ok-from_iter_hashed.field-0 in
+    collected eq element_entry g.I.IntoIter.Iterator.next_gives g.I.IntoIterator.into_iter_gives c.args.iter g.I.IntoIter.Iterator.remaining set (returns-clause-set g c)
+    (λ xs. (feeds : g.row.T.Denot → HashWrites) → AreOwnEntries feeds (map element_entry xs) → AreOwn feeds set) (λ xs is feeds own. own-inserted_entries feeds eq set.entries (map element_entry xs) is own)
 
 pub returns-clause-each : goal.returns-clause-each
 returns-clause-each g c =
-    each_collected g.T.PartialEq.eq g.I.IntoIter.Iterator.next_gives g.I.IntoIterator.into_iter_gives c.args.iter g.I.IntoIter.Iterator.remaining _ (returns-clause-set g c)
+    let eq = g.T.PartialEq.eq in let set = c.in_ok-from_iter_hashed.field-0 in
+    collected eq element_entry g.I.IntoIter.Iterator.next_gives g.I.IntoIterator.into_iter_gives c.args.iter g.I.IntoIter.Iterator.remaining set (returns-clause-set g c)
+    (λ xs. set.entries ≡ insert_all eq [] (map element_entry xs)) (λ xs is. is)
