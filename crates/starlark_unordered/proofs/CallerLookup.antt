@@ -45,20 +45,13 @@ module _ {K V : Type 0} (feeds : K → HashWrites) (hash : StarlarkHashValue) (t
         own = λ same own passes. own-under same own passes ∙ sym is;
       }
 
--- the value stands at some index
-abbrev IsPlaced : {V : Type 0} → List V → V → Type 0
-IsPlaced values v = (index : ℕ) × (index < length values) × (slice_get values index ≡ Some v)
-
 module _ {K V : Type 0} where
-  placed : (t : K → Bool) (ps : List (K × V)) (v : V) → lookup t ps ≡ Some v → IsPlaced (values_of ps) v
-  placed t ps v at =
+  found-placed : (t : K → Bool) (ps : List (K × V)) (o : Option V) → lookup t ps ≡ o → IfSome o (λ v. (index : ℕ) × (index < length (values_of ps)) × (slice_get (values_of ps) index ≡ Some v))
+  found-placed t ps None at = tt
+  found-placed t ps (Some v) at =
       let (i, k, is, does) = place_from_lookup t ps v at in
       let there : slice_get (values_of ps) i ≡ Some v = slice_get-map (λ p. p.1) ps i ∙ ap (option_map (λ p. p.1)) is in
       (i, slice_get_within (values_of ps) i v there, there)
-
-  found-placed : (t : K → Bool) (ps : List (K × V)) (o : Option V) → lookup t ps ≡ o → IfSome o (IsPlaced (values_of ps))
-  found-placed t ps None at = tt
-  found-placed t ps (Some v) at = placed t ps v at
 
   module _ (eq : K → K → Bool) (laws : IsEquivalence eq) (ps : List (K × V)) (distinct : HasDistinctKeys eq ps) where
     value-found : (i : ℕ) (o : Option V) → slice_get (values_of ps) i ≡ o → IfSome o (λ v. (key : K) × (found (eq key) ps ≡ Some v))

@@ -1,25 +1,24 @@
 -- What holds of all keys, values and pairs of an unordered map, and what is among them, after an insertion, a removal and a write
 -- through a reference. Each takes the record that is the call's clause.
-use Rattle.starlark_hash.proofs.Common.{◌≡◌, suc, Bool, true, false, IfNone, IfSome, List, [], ◌∷◌, map, Ok, Option, Some, None, is_some, refl, sym, ap, subst, ◌∙◌, arith, if◌then◌else◌, All, Contains, keys_of, lookup, set_value, values_of, false≢true, All-cons, All-tail, Contains-permutation, IsPermutation-map, IsPermutation-sym, cond_both}
+use Rattle.starlark_hash.proofs.Common.{◌≡◌, Bool, true, IfNone, IfSome, List, [], ◌∷◌, map, Ok, Option, Some, None, is_some, refl, sym, ap, subst, ◌∙◌, arith, All, Contains, keys_of, lookup, set_value, values_of, false≢true, All-contains, All-cons, All-tail, Contains-permutation, IsPermutation-map, cond_both, common_steps}
 use Rattle.std.proofs.lemmas.Map.Views.{All-map-IsPermutation, All-values-set_value}
+use Rattle.std.proofs.lemmas.Map.Made.{Contains-values_of}
 use Rattle.starlark_table.specs.Table.{Table}
+use Rattle.starlark_unordered.proofs.Callers.{at_some}
 use Rattle.starlark_unordered.specs.Insert.{Inserts}
 use Rattle.starlark_unordered.specs.Remove.{Removes}
 use Rattle.starlark_unordered.specs.Pairs.{IsWithout, IsWritten, pairs_of, with_pair}
 use Rattle.std.proofs.lemmas.Map.{keys-set_value}
-
--- an element after a first one
-later : {X : Type 0} (x : X) (xs : List X) (y : X) → Contains xs y → Contains (x ∷ xs) y
-later x xs y at = (suc at.0, (let below = at.1 in omega (arith, below)), at.2)
+use Rattle.std.proofs.lemmas.List.Elements.{All-contains_itself}
 
 module _ {K V : Type 0} (test : K → Bool) where
+  found-written : (ps : List (K × V)) (w : V) → is_some (lookup test ps) ≡ true → lookup test (set_value test ps w) ≡ Some w
+  found-written [] w there = absurd (false≢true there)
+  found-written (p ∷ ps) w there = grind (arith, common_steps, found-written ps w)
+
   -- a value that is written is among the values where the key is there
   one-written : (ps : List (K × V)) (w : V) → is_some (lookup test ps) ≡ true → Contains (values_of (set_value test ps w)) w
-  one-written [] w there = absurd (false≢true there)
-  one-written (p ∷ ps) w there = (elim (test p.0) as (λ b. is_some (if b then Some p.1 else lookup test ps) ≡ true → Contains (values_of (if b then (p.0, w) ∷ ps else p ∷ set_value test ps w)) w) [
-    | true ↦ λ there. (0, omega arith, refl)
-    | false ↦ λ there. later p.1 (values_of (set_value test ps w)) w (one-written ps w there)
-  ]) there
+  one-written ps w there = let r = at_some test (set_value test ps w) w (found-written ps w there) in Contains-values_of (set_value test ps w) r.0 w r.2
 
 -- An insertion puts in one pair more, or the value at a key that stays.
 module _ {K V A B : Type 0} {eq : K → K → Bool} {before after : Table (K × V)} {key : K} {value : V} {back : B} {tells : Option V → A} {was : A} (inserts : Inserts eq before after key value back tells (Ok was)) where
@@ -41,24 +40,16 @@ module _ {K V A B : Type 0} {eq : K → K → Bool} {before after : Table (K × 
 
 -- A removal brings nothing new, whatever is read of each pair: its key, its value or both.
 module _ {K V X : Type 0} (f : K × V → X) {eq : K → K → Bool} {test : K → Bool} {old new : Table (K × V)} {result : Option V} (removes : Removes eq test old new result) where
-  by-result : (F : Type 0) → (new ≡ old → F) → ((value : V) → IsWithout test value (pairs_of old) (pairs_of new) → F) → F
-  by-result F none rest = case result removes.none removes.rest
-    where
-      case : (r : Option V) → IfNone r (new ≡ old) → IfSome r (λ value. IsWithout test value (pairs_of old) (pairs_of new)) → F
-      case None same tt = none same
-      case (Some v) tt out = rest v out
-
   pub All-removes : (P : X → Type 0) → All P (map f (pairs_of old)) → All P (map f (pairs_of new))
-  All-removes P all = by-result (All P (map f (pairs_of new)))
-      (λ same. subst (λ (m : Table (K × V)). All P (map f (pairs_of m))) (sym same) all)
-      (λ v out. All-tail P (f (out.0, v)) (map f (pairs_of new)) (All-map-IsPermutation f P (pairs_of old) ((out.0, v) ∷ pairs_of new) out.2 all))
+  All-removes P all = case result removes.none removes.rest
+    where
+      case : (r : Option V) → IfNone r (new ≡ old) → IfSome r (λ value. IsWithout test value (pairs_of old) (pairs_of new)) → All P (map f (pairs_of new))
+      case None same tt = rw same all
+      case (Some v) tt out = All-tail P (f (out.0, v)) (map f (pairs_of new)) (All-map-IsPermutation f P (pairs_of old) ((out.0, v) ∷ pairs_of new) out.2 all)
 
   pub Contains-removes : (x : X) → Contains (map f (pairs_of new)) x → Contains (map f (pairs_of old)) x
-  Contains-removes x at = by-result (Contains (map f (pairs_of old)) x)
-      (λ same. subst (λ (m : Table (K × V)). Contains (map f (pairs_of m)) x) same at)
-      (λ v out. Contains-permutation (map f ((out.0, v) ∷ pairs_of new)) (map f (pairs_of old)) x
-      (IsPermutation-sym (map f (pairs_of old)) (map f ((out.0, v) ∷ pairs_of new)) (IsPermutation-map f (pairs_of old) ((out.0, v) ∷ pairs_of new) out.2))
-      (later (f (out.0, v)) (map f (pairs_of new)) x at))
+  Contains-removes x at =
+      let ps = map f (pairs_of old) in All-contains (Contains ps) (map f (pairs_of new)) x (All-removes (Contains ps) (All-contains_itself ps)) at
 
 -- A value that is written through a reference moves no key.
 module _ {K V : Type 0} {test : K → Bool} {old new : Table (K × V)} {value : V} (writes : IsWritten test old value new) where

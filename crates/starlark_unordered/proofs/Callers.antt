@@ -1,16 +1,38 @@
 -- What the clauses of a map say in the callers' words.
-use Rattle.starlark_hash.proofs.Common.{◌≡◌, ℕ, zero, suc, ◌≤◌, ◌+◌, Bool, true, false, cond, List, [], ◌∷◌, Option, Some, None, is_some, refl, subst, sym, ap, ◌∙◌, arith, count_by, IsEquivalence, Contains, keys_of, lookup, set_value, values_of, IsKeyTest, option_map, IsPermutation, Result, OnOk, length, if◌then◌else◌, IfSome, IfNone, false≢true, Contains-permutation, IsPermutation-sym, length_permutation, sum_by-IsPermutation, length-map, common_steps, place_from_lookup, on_ok_weaker, slice_get_within, get_or_from_slice_get}
+use Rattle.starlark_hash.proofs.Common.{◌≡◌, ℕ, zero, suc, ◌≤◌, ◌+◌, Bool, true, false, cond, List, [], ◌∷◌, Option, Some, None, is_some, refl, subst, sym, ap, ◌∙◌, arith, count_by, IsEquivalence, Contains, keys_of, lookup, set_value, values_of, IsKeyTest, option_map, IsPermutation, Result, Ok, Err, OnOk, OnErr, IfErr, IfOk, HashWrites, IsPermutation-map, on_ok_weaker, length, if◌then◌else◌, false≢true, Contains-permutation, IsPermutation-sym, length_permutation, sum_by-IsPermutation, common_steps, place_from_lookup, slice_get_within, get_or_from_slice_get}
 use Rattle.std.specs.List.{IsAmong}
 use Rattle.std.specs.Option.{IsSome}
 use Rattle.std.proofs.lemmas.Map.{length-set_value, lookup-set_value}
 use Rattle.std.proofs.lemmas.Map.Made.{Contains-values_of}
 use Rattle.starlark_table.specs.Table.{Table, item_in, members, GrowsAsNeeded}
-use Rattle.starlark_table.proofs.TableLemmas.{grows-alike, grows-not, grows-on}
+use Rattle.starlark_table.proofs.TableLemmas.{grows-alike, grows-not}
 use Rattle.starlark_unordered.specs.Pairs.{pairs_of, with_pair, with_value, HasDistinctKeys, IsPairAt, IsWithout}
-use Rattle.starlark_unordered.proofs.Keys.{table_len_written}
+use Rattle.starlark_unordered.specs.Insert.{Adds, AddsAt, Inserts}
+use Rattle.starlark_unordered.specs.Remove.{Removes, TakesSlot}
+use Rattle.starlark_unordered.proofs.Keys.{distinct_pairs, table_len_written}
+use Rattle.starlark_unordered.specs.Sound.{IsKeyed, keyed}
 use Rattle.starlark_unordered.proofs.Lists.{count-alike, none_counted, nothing}
 use Rattle.std.proofs.lemmas.List.Sums.{get_or-le-sum_by}
-use Rattle.starlark_unordered.specs.Lookup.{found, Writes, Updates}
+use Rattle.starlark_unordered.specs.Lookup.{found, total_of, Writes, Updates}
+use Rattle.starlark_hash.specs.Lookup.{weight_of}
+use Rattle.starlark_hash.specs.declared.no_room.NoRoom.{NoRoom}
+use Rattle.std.proofs.lemmas.List.Sorted.{IsPermutation-refl}
+use Rattle.std.proofs.lemmas.Map.Entries.{sum_by_values_permutation, sum_by-remove_entry, sum_by-set_value}
+
+module _ {K V : Type 0} (measure : V → ℕ) where
+  -- one pair more
+  pub total-more : (p : K × V) (ps qs : List (K × V)) → IsPermutation (p ∷ ps) qs → total_of measure qs ≡ total_of measure ps + measure p.1
+  total-more p ps qs moves = grind (arith, common_steps, sum_by_values_permutation measure (p ∷ ps) qs moves)
+
+  module _ (t : K → Bool) where
+    -- what is found is a part of what all weigh
+    pub part-found : (ps : List (K × V)) → weight_of measure (found t ps) ≤ total_of measure ps
+    unfolding found
+    part-found ps = omega (arith, sum_by-remove_entry measure t ps)
+
+    pub total-slot : (m : Table (K × V)) (slot : ℕ) → IsPairAt t m slot → (w : V) → total_of measure (pairs_of (with_value m slot w)) + weight_of measure (found t (pairs_of m)) ≡ total_of measure (pairs_of m) + measure w
+    unfolding found
+    total-slot m slot at w = rw (at.writes w, at.found) (sum_by-set_value measure t (pairs_of m) at.value w at.found)
 
 module _ {K V : Type 0} (t : K → Bool) where
   -- a value that is found stands beside a key that passes
@@ -44,47 +66,94 @@ module _ {K V : Type 0} (t : K → Bool) where
       step None at = nothing t fs (omega (arith, none_counted t es at, sum_by-IsPermutation (λ (p : K × V). cond (t p.0) 1 0) es fs moves))
       step (Some v) at = let r = at_some es v at in only fs r.0 v r.1 once (Contains-permutation es fs (r.0, v) moves r.2)
 
-module _ {K V : Type 0} (eq : K → K → Bool) (laws : IsEquivalence eq) (key : K) (value : V) (old : List (K × V)) where
-  -- a pair that is put in
-  lookup-with_pair : (q : K) → lookup (eq q) (with_pair eq key value old) ≡ (if eq key q then Some value else lookup (eq q) old)
-  lookup-with_pair q = grind (arith, lookup-set_value laws (eq key) (λ x y. laws.congr key x y) q value old, laws.symm q key)
-
-  -- wherever it went
-  pub lookup-inserted : (new : List (K × V)) → IsPermutation (with_pair eq key value old) new → HasDistinctKeys eq new → (q : K) → lookup (eq q) new ≡ (if eq key q then Some value else lookup (eq q) old)
-  lookup-inserted new moves distinct q = same_found (eq q) (with_pair eq key value old) new moves (distinct q) ∙ lookup-with_pair q
-
 module _ {K V : Type 0} (eq : K → K → Bool) (laws : IsEquivalence eq) where
-  -- an insertion
-  pub updates-inserted : (old new : Table (K × V)) (key : K) (value : V) → IsPermutation (with_pair eq key value (pairs_of old)) (pairs_of new) → HasDistinctKeys eq (pairs_of new) → Updates eq old new key (Some value)
+  -- a pair that is put in, wherever it went
+  pub lookup-inserted : (key : K) (value : V) (old new : List (K × V)) → IsPermutation (with_pair eq key value old) new → HasDistinctKeys eq new → (q : K) → lookup (eq q) new ≡ (if eq key q then Some value else lookup (eq q) old)
+  lookup-inserted key value old new moves distinct q =
+      let put : lookup (eq q) (with_pair eq key value old) ≡ (if eq key q then Some value else lookup (eq q) old) = grind (arith, lookup-set_value laws (eq key) (λ x y. laws.congr key x y) q value old, laws.symm q key) in
+      same_found (eq q) (with_pair eq key value old) new moves (distinct q) ∙ put
+
+  -- a new pair, or a refusal
+  pub adds : {A B : Type 0} (r : Result A (NoRoom B)) (old new : Table (K × V)) (key : K) (value : V) (back : B) → lookup (eq key) (pairs_of old) ≡ None → OnOk r (IsPermutation ((key, value) ∷ pairs_of old) (pairs_of new)) → HasDistinctKeys eq (pairs_of new)
+      → GrowsAsNeeded old new → OnErr r (old.room ≡ 0) → IfErr r (λ refused. refused.0 ≡ back) → OnErr r (new ≡ old) → Adds eq old new key value back r
   unfolding found
-  updates-inserted old new key value moves distinct =
-      let at = lookup-inserted eq laws key value (pairs_of old) (pairs_of new) moves distinct in
-      (rw (laws.refl key) at (at key), λ other not. rw not at (at other))
+  adds (Ok x) old new key value back lacks moves distinct room full handed_back unchanged =
+      let at = lookup-inserted key value (pairs_of old) (pairs_of new) (rw lacks moves) distinct in
+      let updates : Updates eq old new key (Some value) = (rw (laws.refl key) at (at key), λ other not. rw not at (at other)) in
+      let count : length (pairs_of new) ≡ length (pairs_of old) + 1 = omega (arith, length_permutation ((key, value) ∷ pairs_of old) (pairs_of new) moves) in
+      assumption (updates, count, λ (measure : V → ℕ). total-more measure (key, value) (pairs_of old) (pairs_of new) moves)
+  adds (Err e) old new key value back lacks moves distinct room full handed_back unchanged = assumption
+
+  -- the same of members, under their hashes, in the slot that is answered
+  pub adds_at : (feeds : K → HashWrites) (r : Result ℕ (NoRoom (K × V))) (h : ℕ) (old new : Table (K × V)) (key : K) (value : V) → OnOk r (IsPermutation ((h, (key, value)) ∷ members old) (members new)) → lookup (eq key) (pairs_of old) ≡ None
+      → IsKeyed eq feeds (keyed (members new)) → IfOk r (λ slot. item_in new slot ≡ Some (key, value)) → GrowsAsNeeded old new → OnErr r (old.room ≡ 0) → IfErr r (λ refused. refused.0 ≡ (key, value)) → OnErr r (new ≡ old) → AddsAt eq old new key value r
+  adds_at feeds r h old new key value added lacks keys placed room full handed_back unchanged =
+      let distinct = distinct_pairs eq feeds (members new) keys in
+      let moves = on_ok_weaker r (IsPermutation-map (λ m. m.1) ((h, (key, value)) ∷ members old) (members new)) added in
+      record { placed = placed; distinct = distinct; adds = adds r old new key value (key, value) lacks moves distinct room full handed_back unchanged }
 
   module _ (t : K → Bool) (one : IsKeyTest eq t) where
     -- what is left after a removal
-    without : (old new : List (K × V)) (value : V) → IsWithout t value old new → HasDistinctKeys eq old → lookup t new ≡ None
-    without old new value (key, does, moves) distinct =
-        let same = sum_by-IsPermutation (λ (p : K × V). cond (eq key p.0) 1 0) old ((key, value) ∷ new) moves in
-        nothing t new (grind (arith, common_steps, count-alike eq laws t one key does new, distinct key, same, laws.refl key))
+    without : (old new : List (K × V)) (p : K × V) → t p.0 ≡ true → IsPermutation old (p ∷ new) → HasDistinctKeys eq old → lookup t new ≡ None
+    without old new p does moves distinct =
+        let same = sum_by-IsPermutation (λ (q : K × V). cond (eq p.0 q.0) 1 0) old (p ∷ new) moves in
+        nothing t new (grind (arith, common_steps, count-alike eq laws t one p.0 does new, distinct p.0, same, laws.refl p.0))
 
-    others : (old new : List (K × V)) (value : V) → IsWithout t value old new → HasDistinctKeys eq old → (other : K) → t other ≡ false → lookup (eq other) new ≡ lookup (eq other) old
-    others old new value (key, does, moves) distinct other not =
-        let apart : eq other key ≡ false = laws.symm other key ∙ sym (one key other does) ∙ not in
-        sym (rw apart at (same_found (eq other) ((key, value) ∷ new) old (IsPermutation-sym old ((key, value) ∷ new) moves) (distinct other)))
+    others : (old new : List (K × V)) (p : K × V) → t p.0 ≡ true → IsPermutation old (p ∷ new) → HasDistinctKeys eq old → (other : K) → t other ≡ false → lookup (eq other) new ≡ lookup (eq other) old
+    others old new p does moves distinct other not =
+        let apart : eq other p.0 ≡ false = laws.symm other p.0 ∙ sym (one p.0 other does) ∙ not in
+        sym (rw apart at (same_found (eq other) (p ∷ new) old (IsPermutation-sym old (p ∷ new) moves) (distinct other)))
 
     -- a pair that was taken out of its slot
-    pub writes-taken : (old new : Table (K × V)) (slot : ℕ) (p : K × V) → IsPairAt t old slot → item_in old slot ≡ Some p → IsPermutation (pairs_of old) (p ∷ pairs_of new) → HasDistinctKeys eq (pairs_of old) → Writes eq t old new None
+    pub removes_at : (old new : Table (K × V)) (slot : ℕ) (p : K × V) → IsPairAt t old slot → TakesSlot eq slot p old new → Removes eq t old new (Some p.1)
     unfolding found
-    writes-taken old new slot p at item moves distinct =
-        let does : t p.0 ≡ true = cc (at.at, at.passes, item) in
-        (without (pairs_of old) (pairs_of new) p.1 (p.0, does, moves) distinct, others (pairs_of old) (pairs_of new) p.1 (p.0, does, moves) distinct)
+    removes_at old new slot p at takes =
+        let does : t p.0 ≡ true = cc (at.at, at.passes, takes.pair) in
+        let value : Some p.1 ≡ lookup t (pairs_of old) = cc (at.at, at.found, takes.pair) in
+        let gone = without (pairs_of old) (pairs_of new) p does takes.rest takes.distinct in
+        let stays = others (pairs_of old) (pairs_of new) p does takes.rest takes.distinct in
+        let count : length (pairs_of old) ≡ length (pairs_of new) + cond (is_some (lookup t (pairs_of old))) 1 0 = rw at.found (omega (arith, length_permutation (pairs_of old) (p ∷ pairs_of new) takes.rest)) in
+        let total : (measure : V → ℕ) → total_of measure (pairs_of old) ≡ total_of measure (pairs_of new) + weight_of measure (lookup t (pairs_of old)) = λ measure. rw (← value) (total-more measure p (pairs_of new) (pairs_of old) (IsPermutation-sym (pairs_of old) (p ∷ pairs_of new) takes.rest)) in
+        let rest : IsWithout t p.1 (pairs_of old) (pairs_of new) = (p.0, does, takes.rest) in
+        assumption (value, gone, stays, count, total, rest, takes)
 
-    -- a removal
-    pub writes-removed : (old new : Table (K × V)) (r : Option V) → r ≡ lookup t (pairs_of old) → IfSome r (λ value. IsWithout t value (pairs_of old) (pairs_of new)) → IfNone r (new ≡ old) → HasDistinctKeys eq (pairs_of old) → Writes eq t old new None
+    -- a value that was written
+    pub writes-slot : (m : Table (K × V)) (slot : ℕ) → IsPairAt t m slot → (w : V) → Writes eq t m (with_value m slot w) (Some w)
     unfolding found
-    writes-removed old new None was rest none distinct = rw none (sym was, λ other not. refl)
-    writes-removed old new (Some value) was rest none distinct = (without (pairs_of old) (pairs_of new) value rest distinct, others (pairs_of old) (pairs_of new) value rest distinct)
+    writes-slot m slot at w =
+        let there : is_some (lookup t (pairs_of m)) ≡ true = ap is_some at.found in
+        rw (at.writes w) (
+          (λ i. lookup (λ k. one at.key k at.passes i) (set_value t (pairs_of m) w)) ∙ lookup-set_value laws t one at.key w (pairs_of m) there ∙ ap (λ b. cond b (Some w) (lookup (eq at.key) (pairs_of m))) at.passes,
+          λ other not. rw not at (lookup-set_value laws t one other w (pairs_of m) there),
+        )
+
+  -- a value put in the place of one that is there
+  pub inserts_at : {B : Type 0} (m : Table (K × V)) (slot : ℕ) (key : K) (value was : V) (back : B) → IsPairAt (eq key) m slot → Some was ≡ lookup (eq key) (pairs_of m) → Inserts eq m (with_value m slot value) key value back (λ was. was) (Ok (Some was))
+  unfolding found
+  inserts_at m slot key value was back at is =
+      let updates = writes-slot (eq key) (λ x y does. laws.congr key x y does) m slot at value in
+      let count : length (pairs_of (with_value m slot value)) ≡ length (pairs_of m) + cond (is_some (lookup (eq key) (pairs_of m))) 0 1 = rw at.found (omega (arith, ap length (at.writes value), length-set_value (eq key) (pairs_of m) value)) in
+      let pairs : IsPermutation (with_pair eq key value (pairs_of m)) (pairs_of (with_value m slot value)) = rw (at.found, at.writes value) (IsPermutation-refl (set_value (eq key) (pairs_of m) value)) in
+      let room = grows-alike m m (with_value m slot value) (table_len_written (eq key) m slot value at) refl (grows-not m m refl) in
+      assumption (is, updates, count, λ (measure : V → ℕ). total-slot measure (eq key) m slot at value, pairs, room)
+
+module _ {K V : Type 0} (eq : K → K → Bool) where
+  -- a pair that was added at a key that the map lacks
+  pub inserts_new : {A B : Type 0} (at : A) (old new : Table (K × V)) (key : K) (value : V) (back : B) → lookup (eq key) (pairs_of old) ≡ None → Adds eq old new key value back (Ok at) → Inserts eq old new key value back (λ was. was) (Ok None)
+  unfolding found
+  inserts_new at old new key value back lacks adds =
+      let count : length (pairs_of new) ≡ length (pairs_of old) + cond (is_some (lookup (eq key) (pairs_of old))) 0 1 = rw lacks adds.count in
+      let total : (measure : V → ℕ) → total_of measure (pairs_of new) + weight_of measure (lookup (eq key) (pairs_of old)) ≡ total_of measure (pairs_of old) + measure value = λ measure. rw lacks (omega (arith, adds.total measure)) in
+      let pairs : IsPermutation (with_pair eq key value (pairs_of old)) (pairs_of new) = rw lacks adds.pairs in
+      assumption (sym lacks, adds, count, total, pairs)
+
+  -- a removal of what is not there
+  pub removes_none : (t : K → Bool) (m : Table (K × V)) → lookup t (pairs_of m) ≡ None → Removes eq t m m None
+  unfolding found
+  removes_none t m lacks =
+      let count : length (pairs_of m) ≡ length (pairs_of m) + cond (is_some (lookup t (pairs_of m))) 1 0 = rw lacks (omega arith) in
+      let total : (measure : V → ℕ) → total_of measure (pairs_of m) ≡ total_of measure (pairs_of m) + weight_of measure (lookup t (pairs_of m)) = λ measure. rw lacks (omega arith) in
+      assumption (sym lacks, count, total)
 
 pub found_is : {K V : Type 0} (test : K → Bool) (ps : List (K × V)) (o : Option V) → o ≡ lookup test ps → o ≡ found test ps
 unfolding found
@@ -100,67 +169,8 @@ unfolding found
 nothing_found [] h test = refl
 nothing_found (p ∷ ps) h test = cc
 
-module _ {K V : Type 0} (eq : K → K → Bool) (laws : IsEquivalence eq) (t : K → Bool) (one : IsKeyTest eq t) where
-  -- a value that was written
-  pub written-at : (ps : List (K × V)) (key : K) → t key ≡ true → is_some (lookup t ps) ≡ true → (w : V)
-      → (lookup t (set_value t ps w) ≡ Some w) × ((other : K) → t other ≡ false → lookup (eq other) (set_value t ps w) ≡ lookup (eq other) ps)
-  written-at ps key does there w = (
-    (λ i. lookup (λ k. one key k does i) (set_value t ps w)) ∙ lookup-set_value laws t one key w ps there ∙ ap (λ b. cond b (Some w) (lookup (eq key) ps)) does,
-    λ other not. rw not at (lookup-set_value laws t one other w ps there),
-  )
+pub value-slot : {K V : Type 0} (t : K → Bool) (m : Table (K × V)) (slot : ℕ) → IsPairAt t m slot → found t (pairs_of m) ≡ option_map (λ p. p.1) (item_in m slot)
+unfolding found
+value-slot t m slot at = rw at.at at.found
 
-  pub writes-slot : (m : Table (K × V)) (slot : ℕ) → IsPairAt t m slot → (w : V) → Writes eq t m (with_value m slot w) (Some w)
-  unfolding found
-  writes-slot m slot at w = rw (at.writes w) (written-at (pairs_of m) at.key at.passes (ap is_some at.found) w)
-
-  pub value-slot : (m : Table (K × V)) (slot : ℕ) → IsPairAt t m slot → found t (pairs_of m) ≡ option_map (λ p. p.1) (item_in m slot)
-  unfolding found
-  value-slot m slot at = rw at.at at.found
-
-module _ {K V : Type 0} (eq : K → K → Bool) (laws : IsEquivalence eq) where
-  -- a new pair
-  pub updates-new : (old new : Table (K × V)) (key : K) (value : V) → lookup (eq key) (pairs_of old) ≡ None → IsPermutation ((key, value) ∷ pairs_of old) (pairs_of new) → HasDistinctKeys eq (pairs_of new) → Updates eq old new key (Some value)
-  updates-new old new key value lacks moves distinct = updates-inserted eq laws old new key value (rw lacks moves) distinct
-
-  -- or a refusal
-  pub updates-added : {A E : Type 0} (r : Result A E) (old new : Table (K × V)) (key : K) (value : V) → lookup (eq key) (pairs_of old) ≡ None → OnOk r (IsPermutation ((key, value) ∷ pairs_of old) (pairs_of new)) → HasDistinctKeys eq (pairs_of new)
-      → OnOk r (Updates eq old new key (Some value))
-  updates-added r old new key value lacks moves distinct = on_ok_weaker r (λ more. updates-new old new key value lacks more distinct) moves
-
-module _ {K V : Type 0} (t : K → Bool) where
-  -- a value in the place of another adds none
-  pub length-slot : (m : Table (K × V)) (slot : ℕ) → IsPairAt t m slot → (w : V) → length (pairs_of (with_value m slot w)) ≡ length (pairs_of m) + cond (is_some (found t (pairs_of m))) 0 1
-  unfolding found
-  length-slot m slot at w = rw at.found (omega (arith, ap length (at.writes w), length-set_value t (pairs_of m) w))
-
-  -- a removal takes one out where the key was there
-  pub length-taken : (old new : Table (K × V)) (slot : ℕ) (p : K × V) → IsPairAt t old slot → IsPermutation (pairs_of old) (p ∷ pairs_of new) → length (pairs_of old) ≡ length (pairs_of new) + cond (is_some (found t (pairs_of old))) 1 0
-  unfolding found
-  length-taken old new slot p at moves = rw at.found (omega (arith, length_permutation (pairs_of old) (p ∷ pairs_of new) moves))
-
-  -- a new pair is one more
-  pub length-new : (old new : Table (K × V)) (p : K × V) → lookup t (pairs_of old) ≡ None → IsPermutation (p ∷ pairs_of old) (pairs_of new) → length (pairs_of new) ≡ length (pairs_of old) + cond (is_some (found t (pairs_of old))) 0 1
-  unfolding found
-  length-new old new p lacks moves = rw lacks (omega (arith, length_permutation (p ∷ pairs_of old) (pairs_of new) moves))
-
-  pub length-lacks : (m : Table (K × V)) → lookup t (pairs_of m) ≡ None → length (pairs_of m) ≡ length (pairs_of m) + cond (is_some (found t (pairs_of m))) 1 0
-  unfolding found
-  length-lacks m lacks = rw lacks (omega arith)
-
--- a pair more is one more
-pub length-more : {K V : Type 0} (old new : Table (K × V)) (p : K × V) → IsPermutation (p ∷ pairs_of old) (pairs_of new) → length (pairs_of new) ≡ length (pairs_of old) + 1
-length-more old new p moves = omega (arith, length_permutation (p ∷ pairs_of old) (pairs_of new) moves)
-
--- or a refusal
-pub length-added : {K V A E : Type 0} (r : Result A E) (old new : Table (K × V)) (p : K × V) → OnOk r (IsPermutation (p ∷ pairs_of old) (pairs_of new)) → OnOk r (length (pairs_of new) ≡ length (pairs_of old) + 1)
-length-added r old new p moves = on_ok_weaker r (length-more old new p) moves
-
--- a step that takes no pair out goes on with room
-pub grows-with : {K V : Type 0} (old mid new : Table (K × V)) (there : Bool) → length (pairs_of new) ≡ length (pairs_of mid) + cond there 0 1 → GrowsAsNeeded old mid → GrowsAsNeeded mid new → GrowsAsNeeded old new
-grows-with old mid new there longer first later = grows-on old mid new (grind (arith, longer, length-map (members new) (λ m. m.1), length-map (members mid) (λ m. m.1))) first later
-
--- a value that is written leaves the room
-pub grows-slot : {K V : Type 0} (t : K → Bool) (m : Table (K × V)) (slot : ℕ) → IsPairAt t m slot → (w : V) → GrowsAsNeeded m (with_value m slot w)
-grows-slot t m slot at w = grows-alike m m (with_value m slot w) (table_len_written t m slot w at) refl (grows-not m m refl)
-
-pub ruleset callers = (updates-inserted, writes-removed, nothing_found, found_is)
+pub ruleset callers = (nothing_found, found_is)

@@ -1,6 +1,6 @@
 -- A `&mut` and a `Result` beside it: laws of both, and the pair opened. Assumes `Logic`. It hands on what the proofs over
 -- it cite: `L.RS` there is `RS` here.
-use Rattle.starlark_columns.proofs.Walking.{◌≡◌, refl, sym, subst, ap, ◌∙◌, List, [], ◌∷◌, ◌++◌, Ura, named, Val, of_list, vptr, vstruct, vcons, vnil, SProp, ent, sep, ex, guard, Lft, GName, Logic, sem, ‵, ◌$◌, ◌∵◌, !, qed, move, drop, fsplit, fsplit3, fpick, fpack, feq_l, rewrite, show, check, done, ◌⊑◌, ⊑_meet, RattleType, lives_all, in_all, usize, Is, shows, follows_so, such_by, follows_by, NamedLft, MutBor, MutRef, ShrRef, mut_vals, mut_Tells, Last, left, no, layout, param, blank, Laws, is_one, of_field, row_shared, copy_shared, mut_ref_shared, peeks, only, usize-field, mut_ref_field, shr_ref_field, usize-laws, usize-copy, mut_ref_laws, shr_ref_laws, shr_ref_copy, Tuple, tuple_laws, Good, result_laws}
+use Rattle.starlark_columns.proofs.Walking.{◌≡◌, refl, ap, ◌∙◌, List, [], ◌∷◌, ◌++◌, Ura, named, Val, of_list, vptr, vstruct, vcons, vnil, SProp, ent, sep, ex, guard, Lft, GName, Logic, sem, ‵, ◌$◌, ◌∵◌, !, qed, move, drop, fsplit, fsplit3, fpick, fpack, feq_l, rewrite, show, check, done, ◌⊑◌, ⊑_meet, RattleType, lives_all, in_all, usize, Is, shows, follows_so, such_by, follows_by, MutBor, MutRef, mut_vals, mut_Tells, Last, left, no, layout, param, blank, Laws, of_field, copy_shared, peeks, only, usize-field, usize-laws, usize-copy, Tuple, tuple_laws, Good, result_laws}
 use mathlib.Core.Option.{Option}
 use lib.Dec.{T}
 use Rattle.core.specs.declared.result.Result.TheVariants.{Ok, Err}
@@ -14,16 +14,14 @@ pub use Rattle.starlark_hash.specs.contracts.no_room.NoRoom as N
 pub use Rattle.starlark_hash.specs.declared.no_room.NoRoom.{NoRoom}
 pub use Rattle.starlark_hash.proofs.no_room.NoRoom.TheLaws as room_laws
 pub use Rattle.starlark_columns.proofs.LoneValue.{lone_value}
+pub use Rattle.starlark_columns.proofs.Steps.{mut_laws, shr_laws, good_value}
 pub use Rattle.starlark_table.specs.Table.{Table, item_in}
-pub use Rattle.starlark_unordered.specs.Pairs.{pairs_of, with_value}
+pub use Rattle.starlark_unordered.specs.Pairs.{with_value}
 pub use Rattle.starlark_unordered.specs.contracts.unordered_map.UnorderedMap as U
 pub use Rattle.starlark_unordered.proofs.unordered_map.UnorderedMap.TheLaws as the_map_laws
 
 pub place_laws : Laws usize
 place_laws = of_field usize-field usize-laws refl (copy_shared usize-field usize-copy)
-
-pub mut_laws : (κ : Lft) (R : RattleType) → Laws R → Laws (MutRef (named 0) κ R)
-mut_laws κ R L = let a : NamedLft = record { mir = named 0; lft = κ } in let one = is_one R L in of_field (mut_ref_field a R one) (mut_ref_laws a R one) refl (mut_ref_shared a R one (row_shared R L))
 
 -- a reference and a slot in a `Result`
 abbrev pub Placed : Lft → (R X : RattleType) → RattleType
@@ -52,15 +50,6 @@ module _ {M : Type 1} {𝓤 : Ura M} (𝓛 : Logic 𝓤) (κ : Lft) (R T : Rattl
       let f = mut_Tells (named 0) κ R r vss.0 i in let t = lone_value 𝓛 T L p vss.1.0 j in
       rewrite ! 0 (λ (ws : List Val). ‵ (T.own_val p ws)) t.1 refl $ rewrite ! 1 (λ (ws : List Val). ‵ ((MutRef (named 0) κ R).own_val r ws)) f refl $
       show ! Opened t.0 $ check ! (ap only e ∙ (λ k. vstruct (of_list (f k ++ (t.1 k ++ [])))), t.2) $ move ! (1 ∷ 0 ∷ []) $ done !))))
-
-pub shr_laws : (κ : Lft) (R : RattleType) → Laws R → Laws (ShrRef (named 0) κ R)
-shr_laws κ R L =
-    let a : NamedLft = record { mir = named 0; lft = κ } in let one = is_one R L in
-    of_field (shr_ref_field a R one) (shr_ref_laws a R one) refl (copy_shared (shr_ref_field a R one) (shr_ref_copy a R one L.shr_laws))
-
--- the one machine value of what a type owns is a good one
-pub good_value : {M : Type 1} {𝓤 : Ura M} (𝓛 : Logic 𝓤) (R : RattleType) → Laws R → (x : R.Denot) (v : Val) → Is R x (v ∷ []) → Good (layout R) v
-good_value 𝓛 R L x v is = let t = lone_value 𝓛 R L x (v ∷ []) is in subst (Good (layout R)) (sym (ap only t.1)) t.2
 
 -- a relation to what the whole ends as may be made a weaker one
 pub so_weakens : {M : Type 1} {𝓤 : Ura M} (𝓛 : Logic 𝓤) (R T : RattleType) (γ : GName) (n : Option GName) (P Q : T.Denot → R.Denot → Type 0) (P₀ Q₀ : R.Denot → Type 0)

@@ -1,6 +1,7 @@
--- An `UnorderedMap` in memory is its table and the rest, and back, at any table of which the invariant holds. Assumes
--- `Logic`.
-use Rattle.starlark_columns.proofs.Walking.{◌≡◌, ℕ, zero, ◌+◌, List, [], ◌∷◌, Ura, full_share, SProp, ent, sep, wand, ex, all_e, apply∗, size, align, up, ‵, raw, ◌⊛◌, some, ◌$◌, ◌∵◌, !, qed, by, move, use1, use2, split, pick, show, fsplit, fjoin, done, Logic, sem, RattleType, Denots, part_at, part_of, lone, plain_out, Plain-in, view_made, Laws, lawfuls, Member, rows_of, parts_at, shape_of, PartsBack, Struct-parts, Struct, Tuple}
+-- An `UnorderedMap` in memory is its table and the rest, and back, at any table of which the invariant holds, as at one whose
+-- values were written. Assumes `Logic`.
+use Rattle.starlark_columns.proofs.Walking.{◌≡◌, ℕ, ◌+◌, List, [], ◌∷◌, Ura, full_share, SProp, ent, sep, ex, ‵, raw, some, ◌$◌, ◌∵◌, !, qed, by, use1, use2, pick, show, done, Logic, sem, RattleType, part_at, part_of, lone, plain_out, Plain-in, view_made, Laws, lawfuls, Member, Tuple}
+use Rattle.starlark_columns.proofs.Steps.{place, Others, first_out, first_in}
 use Rattle.std.specs.contracts.alloc.Global as Global
 use Rattle.std.specs.declared.cmp.PartialEq as PartialEq
 use Rattle.std.specs.declared.hash.Hash as Hash
@@ -12,6 +13,25 @@ pub use Rattle.starlark_unordered.specs.contracts.unordered_map.UnorderedMap as 
 use Rattle.starlark_unordered.specs.contracts.unordered_map.UnorderedMap.TheInside as I
 use Rattle.starlark_unordered.proofs.unordered_map.UnorderedMap.TheLaws as T
 use Rattle.starlark_unordered.proofs.unordered_map.UnorderedMap.TheInside.TheLaws as IL
+use Rattle.starlark_hash.proofs.Common.{arith, Option, refl, sym, subst, HashWrites, Bool}
+use Rattle.starlark_table.specs.Table.{filled}
+use Rattle.starlark_table.specs.Lend.{with_values_of}
+use Rattle.starlark_unordered.specs.Sound.{IsKeyed, keyed}
+
+module _ {K V : Type 0} where
+  pub keyed-with_values : (xs ws : List (Option (ℕ × (K × V)))) → keyed (filled (with_values_of xs ws)) ≡ keyed (filled xs)
+  keyed-with_values [] ws = refl
+  keyed-with_values (x ∷ xs) [] = grind (arith, keyed-with_values xs [])
+  keyed-with_values (x ∷ xs) (w ∷ ws) = grind (arith, keyed-with_values xs ws)
+
+  pub IsKeyed-with_values : (eq : K → K → Bool) (feeds : K → HashWrites) (xs ws : List (Option (ℕ × (K × V)))) → IsKeyed eq feeds (keyed (filled xs)) → IsKeyed eq feeds (keyed (filled (with_values_of xs ws)))
+  IsKeyed-with_values eq feeds xs ws is = subst (IsKeyed eq feeds) (sym (keyed-with_values xs ws)) is
+
+  -- what a walk wrote, written again
+  pub again-with_values : (xs ws : List (Option (ℕ × (K × V)))) → with_values_of xs (with_values_of xs ws) ≡ with_values_of xs ws
+  again-with_values [] ws = refl
+  again-with_values (x ∷ xs) [] = grind (arith, again-with_values xs [])
+  again-with_values (x ∷ xs) (w ∷ ws) = grind (arith, again-with_values xs ws)
 
 module _ (K V : RattleType) (g : PartialEq.Ghosts K.Denot) (h : Hash.Ghosts K.Denot) where
   abbrev pub W : RattleType
@@ -23,50 +43,33 @@ module _ (K V : RattleType) (g : PartialEq.Ghosts K.Denot) (h : Hash.Ghosts K.De
   abbrev pub Known : W.Denot → D → Type 0
   Known v d = (C.the_view K V g h d ≡ v) × C.the_invariant K V g h d
 
-  abbrev member : RattleType → Member
-  member R = record { row = R; ty = lone R.mir }
-
   abbrev pub CP : RattleType
   CP = table_row (Tuple (K ∷ V ∷ [])) hash_row ghosts
+
+  abbrev member : RattleType → Member
+  member R = record { row = R; ty = lone R.mir }
 
   abbrev left : List Member
   left = member Global.the_field.row ∷ []
 
-  abbrev ms : List Member
-  ms = member CP ∷ left
-
   abbrev pub eP : ℕ
-  eP = up (align (lone CP.mir)) zero
-
-  abbrev eR : ℕ
-  eR = eP + size (lone CP.mir)
-
-  abbrev to : D → Denots (rows_of ms)
-  to d = (I.the_type K V g h).to d
+  eP = place (member CP) left (I.the_type K V g h).name
 
   module _ {M : Type 1} {𝓤 : Ura M} (𝓛 : Logic 𝓤) (b o : ℕ) where
     abbrev pub Rest : D → SProp 𝓤
-    Rest d = sep 𝓤 (sem 𝓛 (parts_at full_share left eR (to d).1 b o)) (PartsBack 𝓛 full_share (I.the_type K V g h).name ms b o)
-
-    abbrev pub Cut : D → SProp 𝓤
-    Cut d = sep 𝓤 (sem 𝓛 (part_at CP full_share d.table b (o + eP))) (Rest d)
+    Rest d = Others (member CP) left (I.the_type K V g h).name 𝓛 b o ((I.the_type K V g h).to d)
 
     abbrev pub Cuts : (v : W.Denot) → ((d : D) × Known v d) → SProp 𝓤
-    Cuts v d = Cut d.0
+    Cuts v d = sep 𝓤 (sem 𝓛 (part_at CP full_share d.0.table b (o + eP))) (Rest d.0)
 
     pub cut : Laws K → Laws V → (v : W.Denot) → ent 𝓤 (sem 𝓛 (part_at W full_share v b o)) (ex 𝓤 (Cuts v))
     unfolding part_of
     cut LK LV v =
         qed 𝓛 (‵ (part_at W full_share v b o) ∷ []) ∵ use1 𝓛 (some (λ (d : (d : D) × Known v d). ‵ (part_at (I.the_row K V g h) full_share d.0 b o))) (plain_out W (I.the_row K V g h) (T.the_opens K V g h) 𝓛 full_share v b o) $ pick ! (λ d.
-        use1 𝓛 (‵ (parts_at full_share ms zero (to d.0) b o) ⊛ raw (PartsBack 𝓛 full_share (I.the_type K V g h).name ms b o))
-        (Struct-parts 𝓛 full_share (I.the_type K V g h).name ms (lawfuls 𝓛 (I.the_type K V g h).parts (IL.the_loose K V g h LK LV)) (to d.0) b o) $ split ! $ fsplit ! $ show ! (Cuts v) d $ done !)
+        use1 𝓛 (raw (Cuts v d)) (first_out (member CP) left (I.the_type K V g h).name 𝓛 b o ((I.the_type K V g h).to d.0) (lawfuls 𝓛 (I.the_type K V g h).parts (IL.the_loose K V g h LK LV))) $ show ! (Cuts v) d $ done !)
 
     pub shut : (v : W.Denot) (d' : D) → Known v d' → ent 𝓤 (sep 𝓤 (sem 𝓛 (part_at CP full_share d'.table b (o + eP))) (Rest d')) (sem 𝓛 (part_at W full_share v b o))
     unfolding part_of
     shut v d' k =
-        qed 𝓛 (‵ (part_at CP full_share d'.table b (o + eP)) ∷ (‵ (parts_at full_share left eR (to d').1 b o) ⊛ raw (PartsBack 𝓛 full_share (I.the_type K V g h).name ms b o)) ∷ []) ∵
-        move ! (1 ∷ []) $ split ! $ move ! (2 ∷ 0 ∷ []) $ fjoin ! $ move ! (1 ∷ []) $
-        use1 𝓛 (raw (wand 𝓤 (sem 𝓛 (parts_at full_share ms zero (to d') b o)) (sem 𝓛 (part_at (Struct (shape_of (I.the_type K V g h).name ms)) full_share (to d') b o))))
-        (all_e 𝓤 (λ (a' : Denots (rows_of ms)). wand 𝓤 (sem 𝓛 (parts_at full_share ms zero a' b o)) (sem 𝓛 (part_at (Struct (shape_of (I.the_type K V g h).name ms)) full_share a' b o))) (to d')) $
-        move ! (1 ∷ 0 ∷ []) $ use2 𝓛 (‵ (part_at (I.the_row K V g h) full_share d' b o)) (apply∗ 𝓤 (sem 𝓛 (parts_at full_share ms zero (to d') b o)) (sem 𝓛 (part_at (Struct (shape_of (I.the_type K V g h).name ms)) full_share (to d') b o))) $
+        qed 𝓛 (‵ (part_at CP full_share d'.table b (o + eP)) ∷ raw (Rest d') ∷ []) ∵ use2 𝓛 (‵ (part_at (I.the_row K V g h) full_share d' b o)) (first_in (member CP) left (I.the_type K V g h).name 𝓛 b o ((I.the_type K V g h).to d')) $
         by ! (Plain-in W (I.the_row K V g h) (T.the_opens K V g h) 𝓛 full_share v d' (view_made (I.the_row K V g h) W.Denot W.coded (C.the_view K V g h) (C.the_invariant K V g h) 𝓛 v d' k) b o)

@@ -7,6 +7,7 @@ use crate::unordered_map::UnorderedMap;
 use std::hash::Hash;
 
 /// Equal maps feed a hasher alike, whatever history built them.
+#[tactic(auto, using(crate::specs::BagLaws::pairs_alike))]
 pub fn equal_maps_feed_alike<K: Eq + Hash, V: Eq + Hash>(
     first: &UnorderedMap<K, V>,
     second: &UnorderedMap<K, V>,

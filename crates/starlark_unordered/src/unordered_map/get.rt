@@ -14,7 +14,7 @@ impl<K: Eq + Hash, V> UnorderedMap<K, V> {
     ghost use Rattle.starlark_unordered.specs.Lend.{lends_at};
 
     /// The value at the key that the query stands for.
-    #[tactic(auto, using(crate::proofs::Callers::callers), unfolding(crate::specs::Lookup::found))]
+    #[tactic(auto, using(crate::proofs::Callers::callers, crate::proofs::Callers::among_found), unfolding(crate::specs::Lookup::found))]
     #[inline(always)]
     pub fn get<Q: HashQuery<K>>(&self, query: Q) -> Option<&V>
         ensures finds { Finds (Q.stands_for query) self.now (option_copied result) }

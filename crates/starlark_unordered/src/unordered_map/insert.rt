@@ -28,7 +28,6 @@ impl<K: Eq + Hash, V> UnorderedMap<K, V> {
     }
 
     // The same by a search under its own hash. It is a call, so that what is inlined is the look alone.
-    #[tactic(auto, using(crate::proofs::Keys::table_len_written, crate::proofs::Callers::callers), unfolding(crate::specs::Lookup::found))]
     #[inline(never)]
     fn insert_by_search(
         &mut self,

@@ -11,7 +11,6 @@ use std::hash::Hash;
 impl<K: Eq + Hash, V> UnorderedMap<K, V> {
     /// Takes the pair of the key out, and answers its value. The other pairs stay, and the room comes back. Where the
     /// map lacks the key, nothing changes.
-    #[tactic(auto, using(crate::proofs::Callers::callers), unfolding(crate::specs::Lookup::found))]
     pub fn remove<Q: HashQuery<K>>(&mut self, query: Q) -> Option<V>
     where
         K: Drop,

@@ -159,6 +159,7 @@ impl<K: Eq + Hash, V> UnorderedMap<K, V> {
     }
 
     // The value in a slot, to be written.
+    #[tactic(auto, using(crate::proofs::Keys::written_items))]
     #[inline]
     pub(crate) fn value_at_mut(&mut self, slot: usize) -> &mut V
         requires { is_some (item_in self.old slot) ≡ true }
@@ -183,6 +184,7 @@ impl<K: Eq + Hash, V> UnorderedMap<K, V> {
     }
 
     // The pair in a slot, its value to be written.
+    #[tactic(auto, using(crate::proofs::Keys::written_items))]
     #[inline]
     pub(crate) fn pair_at_mut(&mut self, slot: usize) -> (&K, &mut V)
         requires { is_some (item_in self.old slot) ≡ true }

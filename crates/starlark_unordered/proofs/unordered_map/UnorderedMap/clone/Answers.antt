@@ -1,8 +1,7 @@
 use Rattle.starlark_hash.proofs.Common.{arith, refl, rules, common_steps}
 use Rattle.starlark_table.specs.Table.{members}
 use Rattle.starlark_unordered.specs.Pairs.{pairs_of}
-use Rattle.starlark_unordered.proofs.Agreeing.{found-cloned}
-use Rattle.starlark_unordered.proofs.Cloned.{members-cloned, pairs-cloned, keyed-cloned}
+use Rattle.starlark_unordered.proofs.Agreeing.{found-cloned, members-cloned, pairs-cloned, keyed-cloned}
 use Rattle.starlark_unordered.proofs.unordered_map.UnorderedMap.clone.Goals as goal
 use Rattle.std.proofs.lemmas.Map.Entries.{entries_from_clone}
 

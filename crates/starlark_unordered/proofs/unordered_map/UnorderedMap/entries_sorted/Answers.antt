@@ -1,4 +1,4 @@
-use Rattle.starlark_hash.proofs.Common.{◌≡◌, Bool, map, ◌∙◌, subst, ap, rules, of_calls, IsPermutation, deref_pair, IsPermutation-map, ranks_by}
+use Rattle.starlark_hash.proofs.Common.{◌≡◌, Bool, rules, of_calls, deref_pair, IsPermutation-map, ranks_by}
 use Rattle.std.proofs.Common.{Bor, is_lt}
 use Rattle.std.proofs.lemmas.Fn.{answers_by}
 use Rattle.starlark_unordered.proofs.Shows.{drained_shown}
@@ -11,7 +11,7 @@ returns g c =
     let lt : Bor g.row.K.Denot × Bor g.row.V.Denot → Bor g.row.K.Denot × Bor g.row.V.Denot → Bool = λ a b. is_lt (g.K.Ord.cmp a.0.now b.0.now) in
     record {
       sorted = record {
-        each = subst (λ l. IsPermutation l (map deref_pair c.sort_by.new.self.items)) (ap (map deref_pair) made.0 ∙ same ∙ begins ∙ c.entries_unordered.ensures.shows.walks.pairs)
+        each = rw (made.0, same, begins, c.entries_unordered.ensures.shows.walks.pairs) at
             (IsPermutation-map deref_pair c.in_ok-entries.entries.items c.sort_by.new.self.items c.sort_by.ensures.permutation);
         ascends = c.in_ok-sort_by.ensures.sorted lt (ranks_by g.met.K.Ord.total (λ a. a.0.now))
             (answers_by _ (λ a r. is_lt r ≡ lt a.0.now a.1.0.now) (λ _. Unit {0}) (λ f a r f' called _. (search (rules, of_calls, called), tt)) _ tt);

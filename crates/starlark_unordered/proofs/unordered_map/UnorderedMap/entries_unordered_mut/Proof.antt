@@ -1,5 +1,5 @@
 -- `entries_unordered_mut` lends the table; the map, open over the call, is closed by what that follows. Assumes `Logic`.
-use Rattle.starlark_columns.proofs.Walking.{◌≡◌, refl, sym, ap, subst, ◌∙◌, ◌+◌, List, [], ◌∷◌, Ura, full_share, Fn, Args, Dict, a_type, dcons, dnil, named, inst_fn, Val, vptr, SProp, ent, emp, id⊢, ex_e, snd∗, Lft, GName, Share, ftrue, fsep, flft, fauth, Memory, Routine, Calls, Loops, WpFn, Tables, Logic, sem, ⊑_refl, ◌⊑◌, Fun, fact, fact_i, tables, tables_of, FmC, fm_of, WpFn-mono, ages, bor_new_deep, open_ref, name_new, ‵, raw, ◌⊛◌, some, later, ◌$◌, ◌∵◌, !, qed, move, keep, drop, use0, use1, use2, split, split3, join, pick, fsplit, fsplit3, fjoin, fjoin3, fpack, feq_i, rewrite, suffices, frame, await, group, done, stop, fld, addr, and_then, no_more, returns, enter, alloc_all, pass_all, free_all, look_at, get, through, sets, lands_as, no, follows, RattleType, owns, mem, param, bounded, Laws, MutBor, NamedLft, mut_vals, mut_Tells, plain, types_at, mut_ref_to, named_lft, nothing, heard, only, calls_at, Clauses, Ended, closing, ensured, lasts, Meets, triple_of, Contract, Triple, entered, Stays, stay_dropped, walk_of, ends_at, walked, walk_Meets, Goes-spent_ref, ◌<◌, ◌^◌, length, Is, shows, part_at, param_laws, peeks, arg, IsCopy, arg_copy, arg_laws, Ty, tcons, tnil, ty_int, ty_struct, w32}
+use Rattle.starlark_columns.proofs.Walking.{◌≡◌, refl, sym, ap, subst, ◌∙◌, ◌+◌, List, [], ◌∷◌, Ura, full_share, Fn, Args, Dict, a_type, dcons, dnil, named, inst_fn, Val, vptr, SProp, ent, emp, id⊢, ex_e, snd∗, Lft, GName, Share, ftrue, fsep, flft, fauth, Memory, Routine, Calls, Loops, WpFn, Logic, sem, ⊑_refl, ◌⊑◌, Fun, fact, fact_i, tables, FmC, framed, proved, ages, bor_new_deep, open_ref, name_new, ‵, raw, ◌⊛◌, some, later, ◌$◌, ◌∵◌, !, qed, move, keep, drop, use0, use1, use2, split, split3, join, pick, fsplit, fsplit3, fjoin, fjoin3, fpack, feq_i, rewrite, suffices, frame, await, group, done, stop, fld, addr, and_then, no_more, returns, enter, alloc_all, pass_all, free_all, look_at, get, through, sets, lands_as, no, follows, RattleType, owns, mem, param, bounded, Laws, MutBor, NamedLft, mut_vals, mut_Tells, plain, types_at, mut_ref_to, named_lft, nothing, heard, only, calls_at, Clauses, Ended, ensured, lasts, triple_of, Contract, Triple, Stays, stay_dropped, walk_of, ends_at, Goes-spent_ref, ◌<◌, ◌^◌, length, Is, shows, part_at, param_laws, peeks, arg, IsCopy, arg_copy, arg_laws, Ty, tcons, tnil, ty_int, ty_struct, w32}
 use base.Share
 use Rattle.std.specs.declared.cmp.Eq as Eq
 use Rattle.std.specs.declared.cmp.PartialEq as PartialEq
@@ -26,7 +26,7 @@ use Rattle.starlark_unordered.specs.contracts.unordered_map.UnorderedMap.entries
 use Rattle.starlark_unordered.specs.contracts.unordered_map.UnorderedMap.entries_unordered_mut.Key.{name as #self}
 use Rattle.starlark_unordered.proofs.Keys.{distinct_pairs}
 use Rattle.starlark_unordered.proofs.UnorderedMapOpen as O
-use Rattle.starlark_unordered.proofs.ValuesWritten.{IsKeyed-with_values, again-with_values}
+use Rattle.starlark_unordered.proofs.UnorderedMapOpen.{IsKeyed-with_values, again-with_values}
 use Rattle.starlark_unordered.proofs.unordered_map.UnorderedMap.entries_unordered_mut.Statement as stated
 use Rattle.starlark_unordered.proofs.unordered_map.UnorderedMap.entries_unordered_mut.Code as code
 
@@ -101,9 +101,6 @@ module _ (A B : RattleType) (E : Eq.Ghosts A.Denot) (dE : Dict) (P : PartialEq.G
       abbrev bound : (walk_of 𝓛 ended stayed spec).Ghost
       bound = (((κ, (κA, (κB, tt))), (q, (qA, (qB, tt))), bounds, (r, tt), (mut_vals r, tt)), tt)
 
-      abbrev Post : Val → SProp 𝓤
-      Post = (walk_of 𝓛 ended stayed spec).post bound
-
       abbrev lft : NamedLft
       lft = named_lft 3 0 tt (κ, (κA, (κB, tt)))
 
@@ -113,7 +110,7 @@ module _ (A B : RattleType) (E : Eq.Ghosts A.Denot) (dE : Dict) (P : PartialEq.G
       abbrev it_laws : Laws It
       it_laws = walk-laws.the_row_laws lft K V hash_row kept.ghosts (param_laws 0 A LA) (param_laws 1 B LB) hash_laws.the_row_laws
 
-      walk : ent 𝓤 ((walk_of 𝓛 ended stayed spec).pre bound) (WpFn 𝓤 H C Λ here (vptr r.ref_ptr.0 r.ref_ptr.1 ∷ []) Post)
+      walk : ent 𝓤 ((walk_of 𝓛 ended stayed spec).pre bound) (WpFn 𝓤 H C Λ here (vptr r.ref_ptr.0 r.ref_ptr.1 ∷ []) ((walk_of 𝓛 ended stayed spec).post bound))
       walk =
           let b = r.ref_ptr.0 in let o = r.ref_ptr.1 in let v = r.now in let γ = r.ghost_name in let qr = Share.right q in
           qed 𝓛 (((‵ (flft κ q) ⊛ ‵ (flft κA qA) ⊛ ‵ (flft κB qB) ⊛ ‵ ftrue) ⊛ ‵ (owns (types_at ended.signature.params bound.0.0) bound.0.3 bound.0.4))
@@ -171,21 +168,14 @@ module _ (A B : RattleType) (E : Eq.Ghosts A.Denot) (dE : Dict) (P : PartialEq.G
           })) $
           move ! (1 ∷ 0 ∷ []) $ done !))))))))))))
 
-meets : (A B : RattleType) (E : Eq.Ghosts A.Denot) (dE : Dict) (P : PartialEq.Ghosts A.Denot) (dP : Dict) (G : Hash.Ghosts A.Denot) (dG : Dict) → Laws A → Laws B → {M : Type 1} {𝓤 : Ura M} (𝓛 : Logic 𝓤) (at_mem : Memory → SProp 𝓤) (run : Routine → Fun 𝓤) (𝓣 : Tables 𝓤 𝓛.H)
-    → Triple 𝓤 (𝓣.C (#run (lends A B E dE P dP G dG))) (Run A B E dE P dP G dG 𝓛 at_mem run)
-    → Meets 𝓛 (ended A B E dE P dP G dG).signature (WpFn 𝓤 𝓛.H 𝓣.C 𝓣.Λ (here A B E dE P dP G dG)) (closing 𝓛 (ended A B E dE P dP G dG) (spec A B E dE P dP G dG 𝓛 at_mem run))
-meets A B E dE P dP G dG LA LB {𝓤 = 𝓤} 𝓛 at_mem run 𝓣 gr =
-    walk_Meets 𝓛 (ended A B E dE P dP G dG) (stayed A B E dE P dP G dG) (Goes-spent_ref 𝓛 3 (0 ∷ []) tt (plain (λ _. W A B E dE P dP G dG)), tt)
-    (spec A B E dE P dP G dG 𝓛 at_mem run) (WpFn 𝓤 𝓛.H 𝓣.C 𝓣.Λ (here A B E dE P dP G dG)) (WpFn-mono 𝓤 𝓛.H 𝓛.laws 𝓣 (here A B E dE P dP G dG))
-    (walked 𝓛 (ended A B E dE P dP G dG) (stayed A B E dE P dP G dG) (spec A B E dE P dP G dG 𝓛 at_mem run) (WpFn 𝓤 𝓛.H 𝓣.C 𝓣.Λ (here A B E dE P dP G dG)) (λ κs. (mut_vals, tt)) (λ κs. (mut_Tells (named 0) κs.0 (W A B E dE P dP G dG), tt))
-    (λ κs qs bounds a g' are. walk A B E dE P dP G dG 𝓛 at_mem run LA LB 𝓣.C 𝓣.Λ (fm_of 𝓤 𝓛.H 𝓛.laws 𝓣) gr κs.0 κs.1.0 κs.1.1.0 qs.0 qs.1.0 qs.1.1.0 bounds a.0))
-
 pub entries_unordered_mut_spec : {M : Type 1} → stated.statement M
-unfolding tables_of
 entries_unordered_mut_spec {M} 𝓤 𝓛 𝓜 𝓡 wired A B LA LB E dE P dP G dG is_eq is_partial is_hash =
-    let 𝓣 : Tables 𝓤 𝓛.H = tables_of 𝓤 𝓛.H 𝓜 (tables 𝓤 𝓛.H 𝓜 𝓡 𝓡.env) in
+    let 𝓣 = tables 𝓤 𝓛.H 𝓜 𝓡 𝓡.env in let row = W A B E dE P dP G dG in
     let is_kept = kept_met.bound 𝓡.env (code.calls-starlark_table::kept_hash::StarlarkHashValueKeptHash::number 𝓡.env wired) (code.calls-starlark_table::kept_hash::StarlarkHashValueKeptHash::is_same 𝓡.env wired) M 𝓤 𝓛 𝓜 𝓡 in
     let is_copied = copies_met.bound 𝓡.env (code.calls-core::clone::Clone+copy::clone 𝓡.env wired) Passed passed_laws passed_copy M 𝓤 𝓛 𝓜 𝓡 in
-    entered 𝓤 𝓛.H (triple_of 𝓛 (F.signature A B E dE P dP G dG) (F.spec A B E dE P dP G dG 𝓛 𝓜.mem 𝓡.returns)) 𝓣.C 𝓣.Λ (#self (args A B E dE P dP G dG)) (here A B E dE P dP G dG) (code.unfolded 𝓤 𝓛.H 𝓜 𝓡 wired (A, (B, tt)) dE dP dG)
-    (meets A B E dE P dP G dG LA LB 𝓛 𝓜.mem 𝓡.returns 𝓣 (walks.met 𝓤 𝓛 𝓜 𝓡 (code.calls-starlark_table::ready_table::pairs_mut::ReadyTable+tuple2+K+V+H::pairs_mut 𝓡.env wired) A B Passed LA LB passed_laws passed_copy
-    kept.ghosts kept.dict (copies.ghosts Passed) (copies.dict Passed) (record { number = is_kept.number; is_same = is_kept.is_same }) (record { clone = is_copied.clone })))
+    proved 𝓛 (ended A B E dE P dP G dG) (stayed A B E dE P dP G dG) (F.clauses A B E dE P dP G dG 𝓛 𝓜.mem 𝓡.returns) 𝓜 𝓡 (Goes-spent_ref 𝓛 3 (0 ∷ []) tt (plain (λ _. row)), tt)
+    (#self (args A B E dE P dP G dG)) (here A B E dE P dP G dG) (code.unfolded 𝓤 𝓛.H 𝓜 𝓡 wired (A, (B, tt)) dE dP dG) (λ κs. (mut_vals, tt)) (λ κs. (mut_Tells (named 0) κs.0 row, tt))
+    (λ κs qs bounds a g' are. walk A B E dE P dP G dG 𝓛 𝓜.mem 𝓡.returns LA LB 𝓣.C 𝓣.Λ (framed 𝓤 𝓛.H 𝓜 𝓣)
+    (walks.met 𝓤 𝓛 𝓜 𝓡 (code.calls-starlark_table::ready_table::pairs_mut::ReadyTable+tuple2+K+V+H::pairs_mut 𝓡.env wired) A B Passed LA LB passed_laws passed_copy
+    kept.ghosts kept.dict (copies.ghosts Passed) (copies.dict Passed) (record { number = is_kept.number; is_same = is_kept.is_same }) (record { clone = is_copied.clone }))
+    κs.0 κs.1.0 κs.1.1.0 qs.0 qs.1.0 qs.1.1.0 bounds a.0)

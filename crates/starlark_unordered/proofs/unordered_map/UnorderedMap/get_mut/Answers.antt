@@ -1,7 +1,6 @@
 use Rattle.starlark_hash.proofs.Common.{refl, sym, ap, ◌∙◌, option_map}
 use Rattle.starlark_unordered.specs.Pairs.{pairs_of}
-use Rattle.starlark_unordered.proofs.Callers.{among_found, found_is, not_there, writes-slot}
-use Rattle.starlark_unordered.proofs.CallerTotals.{total-slot}
+use Rattle.starlark_unordered.proofs.Callers.{among_found, found_is, not_there, writes-slot, total-slot}
 use Rattle.starlark_unordered.proofs.unordered_map.UnorderedMap.get_mut.Goals as goal
 
 pub returns-in-Some : goal.returns-in-Some

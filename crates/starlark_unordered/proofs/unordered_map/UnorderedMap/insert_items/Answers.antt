@@ -1,10 +1,8 @@
 use Rattle.starlark_hash.proofs.Common.{refl, arith, ap}
 use Rattle.std.proofs.iter.Next as it
-use Rattle.starlark_unordered.specs.Pairs.{pairs_of}
 use Rattle.starlark_table.specs.Table.{table_len}
 use Rattle.starlark_table.proofs.TableLemmas.{grows-not, grows-on}
-use Rattle.starlark_unordered.proofs.Callers.{grows-with}
-use Rattle.starlark_unordered.proofs.Collected.{inserts_more}
+use Rattle.starlark_unordered.proofs.Collected.{takes_more}
 use Rattle.starlark_unordered.proofs.unordered_map.UnorderedMap.insert_items.Goals as goal
 
 pub loop-pair-init : goal.loop-pair-init
@@ -13,18 +11,14 @@ loop-pair-init g c = it.begun c.requires.can c.requires.finite (refl, grows-not 
 pub loop-pair-preserved : goal.loop-pair-preserved
 loop-pair-preserved g c =
     let inv = c.loop-pair.invariant in
-    it.again inv c.in-Some.pair c.in-Some.is (c.next.ensures.steps, c.next.ensures.goes) (
-      inserts_more g.K.PartialEq.eq inv.seen c.in-Some.pair (pairs_of c.args.self.now) (pairs_of c.loop-pair.self) (pairs_of c.insert.new.self) inv.holds.0 c.in-Ok.ensures.inserts.pairs,
-      grows-with c.args.self.now c.loop-pair.self c.insert.new.self _ c.in-Ok.ensures.inserts.count inv.holds.1 c.insert.ensures.inserts.room,
-    )
+    it.again inv c.in-Some.pair c.in-Some.is (c.next.ensures.steps, c.next.ensures.goes)
+    (takes_more g.K.PartialEq.eq inv.seen c.in-Some.pair c.args.self.now c.loop-pair.self c.insert.new.self _ _ inv.holds c.in-Ok.ensures.inserts)
 
 pub loop-pair-preserved-in-Ok : goal.loop-pair-preserved-in-Ok
 loop-pair-preserved-in-Ok g c =
     let inv = c.loop-pair.invariant in
-    it.again inv c.in-Some.pair c.in-Some.is (c.next.ensures.steps, c.next.ensures.goes) (
-      inserts_more g.K.PartialEq.eq inv.seen c.in-Some.pair (pairs_of c.args.self.now) (pairs_of c.loop-pair.self) (pairs_of c.insert.new.self) inv.holds.0 c.in-Ok.ensures.inserts.pairs,
-      grows-with c.args.self.now c.loop-pair.self c.insert.new.self _ c.in-Ok.ensures.inserts.count inv.holds.1 c.insert.ensures.inserts.room,
-    )
+    it.again inv c.in-Some.pair c.in-Some.is (c.next.ensures.steps, c.next.ensures.goes)
+    (takes_more g.K.PartialEq.eq inv.seen c.in-Some.pair c.args.self.now c.loop-pair.self c.insert.new.self _ _ inv.holds c.in-Ok.ensures.inserts)
 
 pub returns-in-Err : goal.returns-in-Err
 returns-in-Err g c =

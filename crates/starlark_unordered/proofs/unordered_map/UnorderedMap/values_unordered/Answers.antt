@@ -8,11 +8,4 @@ pub returns : goal.returns
 returns g c =
     let are : c.new.result ≡ values_of (pairs_of c.args.self.now) = search rules in
     let walks = c.entries_unordered.ensures.shows.walks in
-    record {
-      shows = record {
-        values = are;
-        fits = walks.fits;
-        runs = shows_in_order deref;
-        found = values-found g.K.PartialEq.eq g.met.K.Eq.laws (pairs_of c.args.self.now) walks.distinct c.new.result are;
-      };
-    }
+    record { shows = assumption (are, walks, shows_in_order {X = g.row.V.Denot} deref, values-found g.K.PartialEq.eq g.met.K.Eq.laws (pairs_of c.args.self.now) walks.distinct c.new.result are) }

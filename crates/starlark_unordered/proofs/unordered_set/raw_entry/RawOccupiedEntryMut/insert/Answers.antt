@@ -1,6 +1,5 @@
-use Rattle.starlark_hash.proofs.Common.{refl}
-use Rattle.starlark_unordered.proofs.ElementWritten.{key_shown, raw_element_put, room_kept}
-use Rattle.starlark_unordered.proofs.RawWritten.{element_in_place}
+use Rattle.starlark_hash.proofs.Common.{ap, refl}
+use Rattle.starlark_unordered.proofs.RawWritten.{key_shown, raw_element_put, element_in_place}
 use Rattle.starlark_unordered.proofs.unordered_set.raw_entry.RawOccupiedEntryMut.insert.Goals as goal
 
 pub returns : goal.returns
@@ -13,6 +12,6 @@ returns g c =
         new = raw_element_put entry c.args.element c.replace_key.new.self put.new _;
         shown = key_shown entry.map.now entry.slot c.args.element entry.there c.replace_key.new.self put.new;
         elements = element_in_place entry.map.now entry.slot c.args.element c.replace_key.result _ refl put.old c.replace_key.new.self put.new;
-        room = room_kept entry.map.now c.replace_key.new.self entry.slot c.args.element put.new;
+        room = ap (λ m. m.room) put.new;
       };
     }
