@@ -1,19 +1,10 @@
 -- The steps that the proofs by hand share. Assumes `Logic`.
-use base.Share
 use Rattle.core.specs.contracts.option.Option as OP
 use Rattle.core.specs.contracts.result.Result as RS
-use Rattle.starlark_callers.proofs.Walks.{◌≡◌, refl, sym, ap, subst, ◌∙◌, Bool, true, false, ◌&&◌, List, [], ◌∷◌, ◌++◌, nameless, called, ℕ, T, Ura, full_share, common, named, Val, vstruct, vcons, vnil, of_list, SProp, ent, sep, ex, guard, wand, id⊢, apply∗, Lft, GName, Share, fdead, flft, fres, Logic, sem, live, lft_new, lft_end, lft-common, followed₂, meet_⊑_left, ‵, raw, ◌⊛◌, some, later, ◌$◌, ◌∵◌, !, qed, move, keep, drop, use1, use2, use3, split, join, pick, fsplit, fsplit3, fpick, feq_l, await, updating, now, show, check, rewrite, done, RattleType, Is, shows, follows_both, follows_both_if, lends_again, comes_back, LentAgain, mem, layout, Laws, Bor, MutBor, MutRef, ShrRef, mut_vals, mut_Tells, shr_Tells, peeks, only, tuple_laws, Good, Some, Ok, lone_value, Entry, entry_val}
+use Rattle.starlark_callers.proofs.Walks.{◌≡◌, refl, ap, ◌∙◌, Bool, true, false, ◌&&◌, List, [], ◌∷◌, ◌++◌, nameless, called, T, Ura, named, Val, vstruct, vcons, vnil, of_list, SProp, ent, sep, ex, guard, Lft, GName, fres, Logic, sem, live, followed₂, ‵, ◌$◌, ◌∵◌, !, qed, move, keep, drop, use2, join, fsplit, fsplit3, fpick, feq_l, show, check, rewrite, done, RattleType, Is, shows, follows_both, follows_both_if, mem, layout, Laws, Bor, MutBor, MutRef, ShrRef, mut_vals, mut_Tells, shr_Tells, peeks, only, tuple_laws, Good, Some, Ok, lone_value, Entry, entry_val}
+pub use Rattle.starlark_columns.proofs.Steps.{mut_laws, good_value, within, Kept, Lent, lent_within, back_again}
 use denote.Follow.{both_by, both_if_by}
-use denote.Ref.{NamedLft}
-use denote.Param.Laws.{is_one, of_field, row_shared}
-use denote.Param.Shared.{mut_ref_shared}
-use denote.Struct.Field.{mut_ref_field}
-use denote.Struct.Laws.{mut_ref_laws}
 use Rattle.starlark_vec2.proofs.LentInOption.{PairOf}
-
--- a `&mut` has laws
-pub mut_laws : (κ : Lft) (R : RattleType) → Laws R → Laws (MutRef (named 0) κ R)
-mut_laws κ R L = let a : NamedLft = record { mir = named 0; lft = κ } in let one = is_one R L in of_field (mut_ref_field a R one) (mut_ref_laws a R one) refl (mut_ref_shared a R one (row_shared R L))
 
 -- two truths, as a tuple of two types asks for them
 pub both : (a b : Bool) → T a → T b → T (a && (b && true))
@@ -25,51 +16,6 @@ pub pair_laws : (κ : Lft) (A B : RattleType) → Laws A → Laws B → Laws (Pa
 pair_laws κ A B LA LB = tuple_laws (MutRef (named 0) κ A ∷ MutRef (named 0) κ B ∷ []) (mut_laws κ A LA, (mut_laws κ B LB, tt))
 
 module _ {M : Type 1} {𝓤 : Ura M} (𝓛 : Logic 𝓤) where
-  -- the one machine value of what a type owns is a good one
-  pub good_value : (R : RattleType) → Laws R → (x : R.Denot) (v : Val) → Is R x (v ∷ []) → Good (layout R) v
-  good_value R L x v is = let t = lone_value 𝓛 R L x (v ∷ []) is in subst (Good (layout R)) (sym (ap only t.1)) t.2
-
-  module _ (R : RattleType) (κ : Lft) (q : Share) (r : MutBor R.Denot) where
-    open 𝓛 use {A, H}
-
-    -- the share of the lifetime for which a reference is lent again
-    abbrev pub within : Share
-    within = (common full_share (Share.right q)).0
-
-    -- what the lender keeps meanwhile
-    abbrev pub Kept : ℕ → GName → SProp 𝓤
-    Kept α δ =
-        sep 𝓤 (sem 𝓛 (LentAgain R κ (α ∷ κ) (Share.left q) r.ghost_name r.ref_ptr.0 r.ref_ptr.1 δ r.now))
-        (wand 𝓤 (A.lft (α ∷ κ) within) (sep 𝓤 (A.lft (α ∷ []) full_share) (A.lft κ (Share.right q))))
-
-    abbrev pub Lent : ℕ → GName → SProp 𝓤
-    Lent α δ = sep 𝓤 (A.lft (α ∷ κ) within) (sep 𝓤 (sem 𝓛 ((MutRef (named 0) (α ∷ κ) R).own_val (record r { ghost_name = δ }) (mut_vals r))) (Kept α δ))
-
-    -- a reference is lent again, for a lifetime within its own
-    pub lent_within : ent 𝓤 (sep 𝓤 (A.lft κ q) (sem 𝓛 ((MutRef (named 0) κ R).own_val r (mut_vals r)))) (H.⇛ (ex 𝓤 (λ (α : ℕ). ex 𝓤 (Lent α))))
-    lent_within =
-        let b = r.ref_ptr.0 in let o = r.ref_ptr.1 in let ql = Share.left q in let qr = Share.right q in
-        qed 𝓛 (‵ (flft κ q) ∷ ‵ ((MutRef (named 0) κ R).own_val r (mut_vals r)) ∷ []) ∵ updating ! $
-        use1 𝓛 (‵ (flft κ ql) ⊛ ‵ (flft κ qr)) (𝓛.lfts.lft_split κ q) $ split ! $ lft_new ! tt (λ α.
-        -- [the token of α; the two halves of κ; the reference]
-        move ! (3 ∷ 1 ∷ []) $ use2 𝓛 (later (some (λ (δ : GName). ‵ ((MutRef (named 0) (α ∷ κ) R).own_val (record r { ghost_name = δ }) (mut_vals r)) ⊛ ‵ (LentAgain R κ (α ∷ κ) ql r.ghost_name b o δ r.now))))
-        (lends_again 𝓛 R (named 0) κ (α ∷ κ) ql r.ghost_name b o (named 0) r.now) $ await ! tt $ pick ! (λ δ. split ! $
-        move ! (2 ∷ 3 ∷ []) $ use2 𝓛 (‵ (flft (α ∷ κ) within) ⊛ raw (wand 𝓤 (A.lft (α ∷ κ) within) (sep 𝓤 (A.lft (α ∷ []) full_share) (A.lft κ qr)))) (lft-common 𝓛 (α ∷ []) κ full_share qr) $ split ! $
-        now ! $ show ! (λ (α : ℕ). ex 𝓤 (Lent α)) α $ show ! (Lent α) δ $ move ! (3 ∷ 1 ∷ []) $ join ! $ move ! (1 ∷ 2 ∷ 0 ∷ []) $ done !))
-
-    -- and comes back at its last value
-    pub back_again : (α : ℕ) (δ : GName) (n : R.Denot)
-        → ent 𝓤 (sep 𝓤 (sem 𝓛 (fres δ (R.coded.code n))) (sep 𝓤 (A.lft (α ∷ κ) within) (Kept α δ))) (H.⇛ (sep 𝓤 (sem 𝓛 ((MutRef (named 0) κ R).own_val (record r { now = n }) (mut_vals r))) (A.lft κ q)))
-    back_again α δ n =
-        let b = r.ref_ptr.0 in let o = r.ref_ptr.1 in let ql = Share.left q in let qr = Share.right q in
-        qed 𝓛 (‵ (fres δ (R.coded.code n)) ∷ ‵ (flft (α ∷ κ) within) ∷ raw (Kept α δ) ∷ []) ∵ updating ! $ move ! (2 ∷ []) $
-        use1 𝓛 (‵ (LentAgain R κ (α ∷ κ) ql r.ghost_name b o δ r.now) ⊛ raw (wand 𝓤 (A.lft (α ∷ κ) within) (sep 𝓤 (A.lft (α ∷ []) full_share) (A.lft κ qr)))) (id⊢ 𝓤 _) $ split ! $
-        -- [what the lender keeps; the way back; what the loan ends as; its token]
-        move ! (3 ∷ 1 ∷ []) $ use2 𝓛 (‵ (flft (α ∷ []) full_share) ⊛ ‵ (flft κ qr)) (apply∗ 𝓤 (A.lft (α ∷ κ) within) (sep 𝓤 (A.lft (α ∷ []) full_share) (A.lft κ qr))) $ split ! $
-        lft_end ! tt $ use1 𝓛 (‵ (fdead (α ∷ κ))) (𝓛.lfts.dead-incl (α ∷ κ) (α ∷ []) (meet_⊑_left (α ∷ []) κ)) $
-        move ! (0 ∷ 2 ∷ 3 ∷ []) $ use3 𝓛 (later (‵ ((MutRef (named 0) κ R).own_val (record r { now = n }) (mut_vals r)) ⊛ ‵ (flft κ ql))) (comes_back 𝓛 R (named 0) κ (α ∷ κ) ql r.ghost_name b o δ r.now n) $ await ! tt $ split ! $
-        move ! (1 ∷ 2 ∷ []) $ use2 𝓛 (‵ (flft κ q)) (𝓛.lfts.lft_join κ q) $ now ! $ move ! (1 ∷ 0 ∷ []) $ done !
-
   module _ (R S T : RattleType) (γ : GName) (F : S.Denot → T.Denot → R.Denot) where
     -- what is lent in two parts ends as these leave it
     pub both_followed : (γ₁ γ₂ : GName) (x : S.Denot) (y : T.Denot)
