@@ -37,11 +37,7 @@ pairs_swap : {X : Type 0} (R : X → X → Type 0) → ((x y : X) → R x y → 
 pairs_swap R flip xs i j p q all a b d below inside = rw (← swap_is xs i j d p q) (grind (arith, elements, length-swap xs i j, all, flip))
 
 module _ {K V : Type 0} (eq : K → K → Bool) where
-  -- a single list stays so when a value is written
-  pub IsSingle-set_value_at : (es : List (Entry K V)) → IsSingle eq es → (p : ℕ) (value : V) → IsSingle eq (set_value_at es p value)
-  IsSingle-set_value_at es single p value i j d below inside = simp set_value_at-key (single i j d below (omega (arith, length-set_value_at es p value)))
-
-  -- and when a key goes last that has no match
+  -- a single list stays so when a key goes last that has no match
   pub IsSingle-push : IsEquivalence eq → (es : List (Entry K V)) (key : Hashed K) (value : V) → IsSingle eq es → match_of eq es key ≡ None → IsSingle eq (es ++ (key, value) ∷ [])
   IsSingle-push laws es key value single none =
       all_pairs_push (λ d e. stands_under d.0.hash (eq d.0.key) e ≡ false) es (key, value) single

@@ -1,10 +1,8 @@
 -- What a search says of its answer.
 use Rattle.starlark_hash.proofs.Common.{◌≡◌, ℕ, zero, suc, ◌<◌, inl, inr, Bool, true, false, List, [], ◌∷◌, get_or, map, Option, Some, None, refl, sym, ap, ◌∙◌, arith, filter, slice_get, Contains, enumerate_from, Bor, Mut, Called, CalledAt, cond_both, false≢true, and_parts, get_or_from_slice_get, slice_get_within, none-some, same_Some, IsPermutation-sym, Contains-permutation, All, nat_tests, slice_get-get_or, All-cons, All-contains, All-map, All-filter, get_or-enumerate_from, length-enumerate_from}
-use Rattle.std.specs.Fn.{always_mut}
-use denote.Param.Always.{mut_next}
 use Rattle.starlark_hash.specs.declared.hash_value.StarlarkHashValue.{StarlarkHashValue}
 use Rattle.starlark_hash.specs.Entries.{Entry, entry_key, is_under, stands_under, position_of, IsSingle}
-use Rattle.starlark_hash.specs.Search.{Asks, Searches, Refuses, CanSearch, keys_under}
+use Rattle.starlark_hash.specs.Search.{Asks, Searches, keys_under}
 use Rattle.starlark_hash.proofs.PositionLemmas.{position-within, position-passes, position-None}
 use Rattle.std.proofs.lemmas.Option.{slice_get_cases}
 use Rattle.std.proofs.lemmas.List.Elements.{All-nil, filter_passes}
@@ -21,18 +19,6 @@ module _ {F X : Type 0} (g : Mut F (Bor X × Unit {0}) Bool) where
   }
 
 module _ {F N X : Type 0} (g : Mut F (Bor X × Unit {0}) Bool) where
-  -- a closure that may always be called may be called once it has refused some items
-  always-refuses : (items : List (N × X)) (f last : F) → Refuses g f items last → always_mut g f → always_mut g last
-  always-refuses [] f last refused always = rw (← refused) always
-  always-refuses (p ∷ items) f last (next, called, rest) always =
-      always-refuses items next last rest (mut_next g f (called.shown, tt) false next next called.called refl always)
-
-  -- so it can search
-  pub can_search : (items : List (N × X)) (f : F) → always_mut g f → CanSearch g items f
-  can_search items f always = record {
-    at = λ before p after later rearranged refused x shows. ((always-refuses before f later refused always).at ((x, tt) ∷ [])).0;
-  }
-
   module _ (t : X → Bool) (f : F) (test : IsTest g t f) where
     refused_in : (order : List (N × X)) (answer : Option N) (last : F) → Asks g f order answer last → answer ≡ None → All (λ p. t p.1 ≡ false) order
     refused_in [] answer last asks is = All-nil (λ p. t p.1 ≡ false)

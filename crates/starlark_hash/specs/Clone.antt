@@ -1,5 +1,5 @@
 -- Clones of keys, of pairs and of entries.
-use Rattle.std.specs.Prelude.{Bool, IsTrue, ◌≡◌, ◌-◌}
+use Rattle.std.specs.Prelude.{Bool, IsTrue, ◌≡◌}
 use Rattle.starlark_hash.specs.Entries.{Entry, entry_hash, entry_key, entry_value}
 
 -- a clone is equal to its original
