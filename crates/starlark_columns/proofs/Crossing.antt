@@ -1,15 +1,15 @@
 -- Cells cross threads as their items do, and the right to a block as its allocator does.
-use Rattle.starlark_columns.proofs.Walking.{ℕ, ◌+◌, ◌*◌, List, [], ◌∷◌, Option, Some, None, type_size, Bool, true, false, cond, eqb, Ty, size, Fml, ftrue, fsep, full_share, lone}
+use Rattle.starlark_columns.proofs.Walking.{◌+◌, ◌*◌, List, [], ◌∷◌, Option, Some, None, type_size, Bool, true, false, cond, eqb, Ty, size, Fml, ftrue, fsep, full_share, lone}
 pub use Rattle.starlark_columns.proofs.Walking.{RattleType, Ghosts}
 use base.Shift.{Keyless}
 pub use denote.Param.Send.{IsSend, IsSync, Frees}
 use denote.Param.Send.{Common, AllSend, part_keyless, owning_send, struct_send, struct_sync, sendable}
-use denote.RawPtr.{Ptr, block_of, count_of, block_ptr, null_ptr, in_block, room_for, ◌+ₚ◌}
+use denote.RawPtr.{Ptr, block_ptr, null_ptr, in_block, room_for}
 use denote.Struct.Owning.{shape, fields, to}
 use denote.Struct.Struct.{exits_of}
-use Rattle.std_alloc.proofs.SendSync.{FreesAnywhere, quiet}
-use Rattle.starlark_columns.specs.Ownership.{cells_owned, cells_lent, within_lent}
-pub use Rattle.starlark_columns.proofs.Fields.{RowOf, ClaimOf, PairClaimOf}
+use Rattle.std_alloc.proofs.SendSync.{FreesAnywhere, quiet, seen}
+use Rattle.starlark_columns.specs.Ownership.{cells_owned, within_lent}
+pub use Rattle.starlark_columns.proofs.RowValues.{RowOf, ClaimOf, PairClaimOf}
 use Rattle.starlark_columns.specs.contracts.block as block
 use Rattle.starlark_columns.specs.contracts.row.Row as row
 use Rattle.starlark_columns.specs.Pair.{rooms_rejoin}
@@ -18,32 +18,26 @@ either_keyless : (x : Bool) (F : Fml) → Keyless F → Keyless (cond x ftrue F)
 either_keyless true F k = tt
 either_keyless false F k = k
 
-in_block_keyless : (p : Ptr) (F : Ptr → Fml) → ((b o : ℕ) → Keyless (F (block_ptr b o))) → Keyless (in_block p (F p))
-in_block_keyless null_ptr F k = tt
-in_block_keyless (block_ptr b o) F k = k b o
-
 module _ (R : RattleType) where
-  owned_keyless : IsSend R → (b o : ℕ) (cs : List (Option R.Denot)) → Keyless (cells_owned R (block_ptr b o) cs)
-  owned_keyless s b o [] = tt
-  owned_keyless s b o (None ∷ cs) = (tt, owned_keyless s b (o + type_size R) cs)
-  owned_keyless s b o (Some x ∷ cs) = (part_keyless R s full_share x b o, owned_keyless s b (o + type_size R) cs)
+  owned_keyless : IsSend R → (p : Ptr) (cs : List (Option R.Denot)) → Keyless (in_block p (cells_owned R p cs))
+  owned_keyless s null_ptr cs = tt
+  owned_keyless s (block_ptr b o) [] = tt
+  owned_keyless s (block_ptr b o) (None ∷ cs) = (tt, owned_keyless s (block_ptr b (o + type_size R)) cs)
+  owned_keyless s (block_ptr b o) (Some x ∷ cs) = (part_keyless R s full_share x b o, owned_keyless s (block_ptr b (o + type_size R)) cs)
 
-  lent_common : IsSync R → (p : Ptr) (cs : List (Option R.Denot)) → Common (cells_lent R p cs)
-  lent_common y p [] κ = tt
-  lent_common y p (None ∷ cs) κ = (tt, lent_common y (p +ₚ type_size R) cs κ)
-  lent_common y p (Some x ∷ cs) κ = ((in_block_keyless p (λ _. ftrue) (λ b o. tt), y.shared x (block_of p) (count_of p) κ), lent_common y (p +ₚ type_size R) cs κ)
-
-  within_common : IsSync R → (p : Ptr) (cs : List (Option R.Denot)) → Common (within_lent R p cs)
-  within_common y null_ptr cs κ = tt
-  within_common y (block_ptr b o) cs κ = lent_common y (block_ptr b o) cs κ
+  lent_common : IsSync R → (p : Ptr) (cs : List (Option R.Denot)) → Common (within_lent R p cs)
+  lent_common y null_ptr cs κ = tt
+  lent_common y (block_ptr b o) [] κ = tt
+  lent_common y (block_ptr b o) (None ∷ cs) κ = (tt, lent_common y (block_ptr b (o + type_size R)) cs κ)
+  lent_common y (block_ptr b o) (Some x ∷ cs) κ = (seen R y (block_ptr b o) x κ, lent_common y (block_ptr b (o + type_size R)) cs κ)
 
   pub row_send : IsSend R → IsSend (RowOf R)
   row_send s =
       let T = row.the_type R in let marks : AllSend (fields T) = (search sendable, tt) in
-      owning_send T marks (λ h. (tt, in_block_keyless h.at (λ p. cells_owned R p h.cells) (λ b o. owned_keyless s b o h.cells))) (λ k. quiet (to T) (exits_of k (fields T)) ((struct_send (shape T) marks).leaving k))
+      owning_send T marks (λ h. (tt, owned_keyless s h.at h.cells)) (λ k. quiet (to T) (exits_of k (fields T)) ((struct_send (shape T) marks).leaving k))
 
   pub row_sync : IsSync R → IsSync (RowOf R)
-  row_sync y = let T = row.the_type R in record { shared = λ h b o κ. ((struct_sync (shape T) (search sendable, tt)).shared (to T h) b o κ, (tt, within_common y h.at h.cells κ)) }
+  row_sync y = let T = row.the_type R in record { shared = λ h b o κ. ((struct_sync (shape T) (search sendable, tt)).shared (to T h) b o κ, (tt, lent_common y h.at h.cells κ)) }
 
   module _ (A : RattleType) (g : Ghosts A.Denot) where
     pub claim_send : FreesAnywhere A.Denot g → IsSend (ClaimOf R A g)
@@ -62,11 +56,8 @@ module _ (R U A : RattleType) (g : Ghosts A.Denot) where
   pub pair_claim_send : FreesAnywhere A.Denot g → IsSend (PairClaimOf R U A g)
   pair_claim_send free =
       let T = block.PairClaim.the_type R U A g in let marks : AllSend (fields T) = (search sendable, tt) in
-      owning_send T marks (λ c. (
-        tt,
-        either_keyless (eqb (c.count * (size (lone R.mir) + size (lone U.mir))) 0) (fsep (g.dealloc_token c.alloc _ c.firsts) (rooms_rejoin (lone R.mir) (lone U.mir) c.firsts c.seconds c.count))
-            (free.frees c.alloc _ c.firsts, ((room_keyless _ c.firsts, room_keyless _ c.seconds), room_keyless _ c.firsts)),
-      ))
+      owning_send T marks (λ c. let owed = fsep (g.dealloc_token c.alloc _ c.firsts) (rooms_rejoin (lone R.mir) (lone U.mir) c.firsts c.seconds c.count) in
+      (tt, either_keyless (eqb (c.count * (size (lone R.mir) + size (lone U.mir))) 0) owed (free.frees c.alloc _ c.firsts, ((room_keyless _ c.firsts, room_keyless _ c.seconds), room_keyless _ c.firsts))))
       (λ k. quiet (to T) (exits_of k (fields T)) ((struct_send (shape T) marks).leaving k))
 
   pub pair_claim_sync : IsSync (PairClaimOf R U A g)

@@ -1,10 +1,10 @@
--- Columns whose items stand at the front, before a step and after it.
-use Rattle.std.proofs.Common.{◌≡◌, ℕ, zero, suc, ◌+◌, ◌-◌, ◌<◌, ◌≤◌, true, false, List, [], ◌∷◌, ◌++◌, map, length, take, drop, replicate, get_or, slice_set, Option, Some, None, refl, sym, ap, ◌∙◌, arith, append-nil, append_assoc, is_some, slice_range, slice_get, length-set}
+-- Columns whose items stand at the front, before a step and after it. The words on them are handed on.
+use Rattle.std.proofs.Common.{◌≡◌, ℕ, zero, suc, ◌+◌, ◌-◌, ◌<◌, ◌≤◌, true, false, List, [], ◌∷◌, ◌++◌, map, length, take, drop, replicate, get_or, slice_set, Option, Some, None, refl, sym, ap, ◌∙◌, arith, append_assoc, is_some, slice_range, slice_get, length-set}
 use Rattle.std.proofs.lemmas.List.{length-map, length-replicate, length-append, length-take, length-drop, nil_from_length, take_at, drop_at, set_at, get_or_at, map-append, map-set, set-append_left, replicate-append-replicate, drop-replicate, take-take, drop-set-lt}
 use Rattle.std.proofs.lemmas.Grind.{common_steps}
 use Rattle.std.specs.List.{remove, refill, length_refill}
-use Rattle.starlark_columns.specs.Cells.{empties, items_of, IsFilled, AreFilled, AreEmpty, with_range, moved_down}
-use Rattle.starlark_columns.specs.Front.{IsFront, with_items}
+pub use Rattle.starlark_columns.specs.Cells.{empties, items_of, IsFilled, AreFilled, AreEmpty, with_range, moved_down}
+pub use Rattle.starlark_columns.specs.Front.{IsFront, with_items}
 use Rattle.starlark_columns.specs.Slots.{emptied}
 
 module _ {X : Type 0} where
@@ -17,19 +17,13 @@ module _ {X : Type 0} where
   items_row [] (suc m) = items_row [] m
   items_row (x ∷ xs) m = rw (items_row xs m)
 
-  items_back : (xs : List X) → items_of (map Some xs) ≡ xs
-  items_back xs = rw append-nil at (items_row xs 0)
-
-  pub row_count : (xs : List X) (m : ℕ) → length (row xs m) ≡ length xs + m
-  row_count xs m = simp (length-append, length-map, length-replicate)
-
   pub shape_row : (xs : List X) (m : ℕ) → map is_some (row xs m) ≡ replicate (length xs) true ++ replicate m false
   shape_row [] zero = refl
   shape_row [] (suc m) = rw (shape_row [] m)
   shape_row (x ∷ xs) m = rw (shape_row xs m)
 
   is_row : (cs : List (Option X)) (xs : List X) (n m : ℕ) → cs ≡ row xs m → length xs ≡ n → IsFront cs n × (items_of cs ≡ xs)
-  is_row cs xs n m e long = let items : items_of cs ≡ xs = rw e (items_row xs m) in let count : length cs ≡ n + m = rw e (omega (arith, row_count xs m)) in let behind : length cs - n ≡ m = omega arith in
+  is_row cs xs n m e long = let items : items_of cs ≡ xs = rw e (items_row xs m) in let count : length cs ≡ n + m = rw e (simp (length-append, length-map, length-replicate) (omega arith)) in let behind : length cs - n ≡ m = omega arith in
       (record { count = rw items long; form = rw (behind, e, ← long) (shape_row xs m); within = omega arith }, items)
 
   none_is : (m : ℕ) (cs : List (Option X)) → map is_some cs ≡ replicate m false → cs ≡ empties m
@@ -50,14 +44,8 @@ module _ {X : Type 0} where
   middle : (l ps qs es : List (Option X)) (i n : ℕ) → l ≡ ps ++ (qs ++ es) → length ps ≡ i → i + length qs ≡ n → slice_range l i n ≡ qs
   middle l ps qs es i n e long all = rw (e, drop_at ps (qs ++ es) i long) (take_at qs es (n - i) (omega arith))
 
-  pub counted : (cs : List (Option X)) (m : ℕ) → cs ≡ empties m → cs ≡ empties (length cs)
-  counted cs m e = rw (e, length-replicate)
-
   pub none_at_front : (cs : List (Option X)) → IsFront cs 0 → cs ≡ empties (length cs)
-  none_at_front cs front = counted cs (length cs - 0) (none_is (length cs - 0) cs front.form)
-
-  pub none_left : (cs : List (Option X)) (n : ℕ) → IsFront cs 0 → n ≡ length cs → cs ≡ empties n
-  none_left cs n front long = rw long (none_at_front cs front)
+  none_at_front cs front = let e = none_is (length cs - 0) cs front.form in e ∙ ap empties (sym (ap length e ∙ length-replicate (length cs - 0) None))
 
   module _ (cs : List (Option X)) (n : ℕ) (front : IsFront cs n) where
     -- the cells behind the items
@@ -80,7 +68,7 @@ module _ {X : Type 0} where
     front_full = (omega arith, front.within, (items_of cs, front_range))
 
     pub front_items : (xs : List X) → slice_range cs 0 n ≡ map Some xs → xs ≡ items_of cs
-    front_items xs e = cc (items_back xs, front_range, items_back (items_of cs))
+    front_items xs e = cc (items_row xs left, row_is, front_range)
 
     pub front_free : get_or cs n None ≡ None
     front_free = grind (arith, common_steps, row_is, long)
@@ -108,15 +96,15 @@ module _ {X : Type 0} where
 
     pub written_cells : (ws : List X) → length (with_items cs ws) ≡ length cs
     written_cells ws = let new = refill (length (items_of cs)) (items_of cs) ws in
-        omega (arith, row_count new (length cs - length new), length_refill (length (items_of cs)) (items_of cs) ws refl, front.within, front.count)
+        simp (length-append, length-map, length-replicate) (omega (arith, length_refill (length (items_of cs)) (items_of cs) ws refl, front.within, front.count))
 
     -- all items have left
     pub front_gone : (ds : List (Option X)) → ds ≡ with_range cs 0 n (empties (n - 0)) → IsFront ds 0
     front_gone ds e = (is_row ds [] 0 (n - 0 + left) (e ∙ ap (λ l. empties (n - 0) ++ l) front_rest ∙ replicate-append-replicate (n - 0) left None) refl).0
 
-    pub front_come : (ds to : List (Option X)) → to ≡ empties (length to) → n ≤ length to → ds ≡ with_range to 0 (0 + (n - 0)) (slice_range cs 0 n) → IsFront ds n × (items_of ds ≡ items_of cs)
-    front_come ds to none fits e = let k = 0 + (n - 0) in let behind : drop k to ≡ empties (length to - k) = ap (drop k) none ∙ drop-replicate k (length to) None in
-        is_row ds (items_of cs) n (length to - k) (e ∙ (λ j. front_range j ++ behind j)) front.count
+    pub front_come : (ds to : List (Option X)) (xs : List X) → to ≡ empties (length to) → n ≤ length to → slice_range cs 0 n ≡ map Some xs → ds ≡ with_range to 0 (0 + n) (map Some xs) → IsFront ds n × (items_of ds ≡ items_of cs)
+    front_come ds to xs none fits run e = let k = 0 + n in let behind : drop k to ≡ empties (length to - k) = ap (drop k) none ∙ drop-replicate k (length to) None in
+        is_row ds (items_of cs) n (length to - k) (e ∙ (λ j. (sym run ∙ front_range) j ++ behind j)) front.count
 
     module _ (i : ℕ) (lt : i < n) where
       abbrev before : List X
@@ -125,23 +113,18 @@ module _ {X : Type 0} where
       abbrev after : List X
       after = drop (suc i) (items_of cs)
 
-      the : (x : X) × (items_of cs ≡ before ++ x ∷ after) × (slice_get (items_of cs) i ≡ Some x)
-      the = split (items_of cs) i (omega (arith, front.count))
-
-      long_before : length (map Some before) ≡ i
-      long_before = omega (arith, length-map before Some, length-take i (items_of cs), front.count)
-
-      all_of : i + suc (length (map Some after)) ≡ n
-      all_of = omega (arith, length-map after Some, length-drop (suc i) (items_of cs), front.count)
+      the : (x : X) × (items_of cs ≡ before ++ x ∷ after) × (slice_get (items_of cs) i ≡ Some x) × (length (map Some before) ≡ i) × (i + suc (length (map Some after)) ≡ n)
+      the = let s = split (items_of cs) i (omega (arith, front.count)) in
+          (s.0, s.1, s.2, omega (arith, length-map before Some, length-take i (items_of cs), front.count), omega (arith, length-map after Some, length-drop (suc i) (items_of cs), front.count))
 
       cut : cs ≡ map Some before ++ Some the.0 ∷ row after left
       cut = row_is ∙ ap (λ l. row l left) the.1 ∙ simp (map-append, append_assoc)
 
       at : get_or cs i None ≡ Some the.0
-      at = ap (λ l. get_or l i None) cut ∙ get_or_at (map Some before) (Some the.0) (row after left) None i long_before
+      at = ap (λ l. get_or l i None) cut ∙ get_or_at (map Some before) (Some the.0) (row after left) None i the.3
 
       put : slice_set cs i None ≡ map Some before ++ None ∷ row after left
-      put = ap (λ l. slice_set l i None) cut ∙ set_at (map Some before) (Some the.0) (row after left) None i long_before
+      put = ap (λ l. slice_set l i None) cut ∙ set_at (map Some before) (Some the.0) (row after left) None i the.3
 
       pub front_filled : IsFilled cs i
       front_filled = (the.0, at)
@@ -159,25 +142,25 @@ module _ {X : Type 0} where
         -- the items behind the gap
         rest : slice_range ds (i + 1) n ≡ map Some after
         rest = middle ds (map Some before ++ None ∷ []) (map Some after) (empties left) (i + 1) n (e ∙ put ∙ simp append_assoc)
-            (omega (arith, length-append (map Some before) (None ∷ []), long_before)) (omega (arith, all_of))
+            (omega (arith, length-append (map Some before) (None ∷ []), the.3)) (omega (arith, the.4))
 
         pub rest_filled : AreFilled ds (i + 1) n
         rest_filled = (omega arith, omega (arith, front.within, ap length e, length-set cs i None), (after, rest))
 
         pub gap_empty : AreEmpty ds i (i + 1)
         gap_empty = let one : i + 1 - i ≡ 1 = omega arith in
-            (omega arith, omega (arith, front.within, ap length e, length-set cs i None), cc (one, middle ds (map Some before) (None ∷ []) (row after left) i (i + 1) (e ∙ put) long_before refl))
+            (omega arith, omega (arith, front.within, ap length e, length-set cs i None), cc (one, middle ds (map Some before) (None ∷ []) (row after left) i (i + 1) (e ∙ put) the.3 refl))
 
         pub front_removed : (es : List (Option X)) → es ≡ moved_down ds (i + 1) n i → IsFront es (n - 1) × (items_of es ≡ remove (items_of cs) i)
-        front_removed es f = let one : i + 1 - i ≡ 1 = omega arith in let head : take i ds ≡ map Some before = ap (take i) (e ∙ put) ∙ take_at (map Some before) (None ∷ row after left) i long_before in
+        front_removed es f = let one : i + 1 - i ≡ 1 = omega arith in let head : take i ds ≡ map Some before = ap (take i) (e ∙ put) ∙ take_at (map Some before) (None ∷ row after left) i the.3 in
             let tail : drop n ds ≡ empties left = ap (drop n) e ∙ drop-set-lt n cs i None lt ∙ front_rest in
             is_row es (before ++ after) (n - 1) (suc left) (f ∙ simp (head, rest, tail, one, map-append, append_assoc))
-            (omega (arith, length-append before after, length-map before Some, length-map after Some, long_before, all_of))
+            (omega (arith, length-append before after, length-map before Some, length-map after Some, the.3, the.4))
 
         -- where it was the last item
         pub last_taken : (x : X) → i + 1 ≡ n → get_or cs i None ≡ Some x → IsFront ds i × (items_of cs ≡ items_of ds ++ x ∷ [])
-        last_taken x last f = let none : after ≡ [] = nil_from_length after (omega (arith, all_of, length-map after Some)) in
-            let is = is_row ds before i (suc left) (e ∙ put ∙ ap (λ l. map Some before ++ None ∷ row l left) none) (omega (arith, long_before, length-map before Some)) in
+        last_taken x last f = let none : after ≡ [] = nil_from_length after (omega (arith, the.4, length-map after Some)) in
+            let is = is_row ds before i (suc left) (e ∙ put ∙ ap (λ l. map Some before ++ None ∷ row l left) none) (omega (arith, the.3, length-map before Some)) in
             (is.0, cc (the.1, at, none, is.1))
 
   -- the first items, once the last of some more is gone
@@ -191,7 +174,3 @@ module _ {X : Type 0} where
   pub all_emptied : (cs : List (Option X)) (n : ℕ) → n ≡ length cs → emptied 0 n cs ≡ empties n
   all_emptied (c ∷ cs) (suc n) e = rw (all_emptied cs n (omega arith))
   all_emptied cs n e = grind arith
-
-  -- after a `&mut` to all items has ended, each cell has one as before
-  pub written_full : (cs : List (Option X)) → IsFront cs (length cs) → (ws : List X) → IsFront (with_items cs ws) (length (with_items cs ws))
-  written_full cs front ws = rw (written_cells cs (length cs) front ws) (written_front cs (length cs) front ws)

@@ -1,16 +1,11 @@
-mod Lending
 mod Crossing
 mod Memory
 mod RowValues
-mod Fields
-mod RowCalls
-mod PairRooms
 mod Layouts
 mod Slotting
 mod LentCells
-mod ColumnOpens
-mod PairParts
-mod EntryOut
+pub mod PairParts
+pub mod EntryOut
 pub mod Fronts
 pub mod NamedClose
 pub mod Betweens

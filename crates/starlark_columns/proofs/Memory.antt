@@ -1,24 +1,13 @@
 -- A row of cells is made of room, cut, and read as the kit's slots or as the items of a slice. Assumes `Logic`.
-use Rattle.starlark_columns.proofs.Walking.{◌≡◌, ℕ, zero, suc, ◌+◌, ◌*◌, ◌≤◌, ◌<◌, Bool, true, false, List, [], ◌∷◌, ◌++◌, map, length, Option, Some, refl, sym, ap, subst, ◌∙◌, arith, zero-mul, suc-mul, get_or, set, at_mul, cut_app, join_app, Ura, Fml, Lft, fsep, fat, froom, full_share, SProp, ent, sep, emp, wand, all, all_e, apply∗, via, id⊢, snd∗, mono_r, ty_array, Val, dv_self, align, ‵, raw, ◌⊛◌, some, given, ◌$◌, ◌∵◌, !, qed, by, move, keep, use1, split, pick, learn, rewrite, fsplit, frame, done, Logic, sem, SemTy, cells, mem, part_at, block_ptr, elements_shared, El, el_x, elτ, el_out, slots, drop_split, slice_range, type_size}
-use Rattle.std.proofs.Common.{drop, None}
+use Rattle.starlark_columns.proofs.Walking.{◌≡◌, ℕ, zero, suc, ◌+◌, ◌*◌, ◌≤◌, ◌<◌, Bool, true, false, List, [], ◌∷◌, ◌++◌, map, length, Option, Some, refl, sym, ap, subst, ◌∙◌, arith, zero-mul, suc-mul, get_or, set, at_mul, cut_app, join_app, Ura, Fml, Lft, fsep, fat, froom, full_share, SProp, ent, sep, emp, wand, all, used_at, via, id⊢, snd∗, mono_r, ty_array, Val, dv_self, align, ‵, raw, ◌⊛◌, some, given, ◌$◌, ◌∵◌, !, qed, by, move, keep, use1, split, pick, learn, rewrite, fsplit, frame, done, Logic, sem, SemTy, cells, mem, part_at, block_ptr, elements_shared, El, el_x, elτ, el_out, slots, drop_split, slice_range, type_size, unwrap_or, is_some, list_drop, None, empties}
 use Rattle.std.specs.Coded.{coded_option}
 use borrow.Table.Elements.{focus_any}
 use Rattle.core.proofs.mem.Param.{R, Good}
 use Rattle.starlark_columns.specs.Ownership.{cell_owned, cells_owned, cell_lent, cells_lent}
-use Rattle.starlark_columns.specs.Cells.{empties}
 use Rattle.starlark_columns.specs.Slots.{cells_of, emptied}
 
 module _ {X : Type 0} where
-  -- an item for each cell, the default where there is none
-  abbrev pub item_or : X → Option X → X
-  item_or d None = d
-  item_or d (Some x) = x
-
-  abbrev pub holds : Option X → Bool
-  holds None = false
-  holds (Some x) = true
-
-  pub cells_back : (d : X) (cs : List (Option X)) → cells_of (map (item_or d) cs) (map holds cs) ≡ cs
+  pub cells_back : (d : X) (cs : List (Option X)) → cells_of (map (λ c. unwrap_or c d) cs) (map is_some cs) ≡ cs
   cells_back d [] = refl
   cells_back d (None ∷ cs) = rw (cells_back d cs)
   cells_back d (Some x ∷ cs) = rw (cells_back d cs)
@@ -56,8 +45,8 @@ module _ (E : El) (b : ℕ) where
   of_slots (x ∷ xs) (false ∷ fs) o = ap (fsep (Cell o None)) (of_slots xs fs (o + s))
   of_slots xs fs o = refl
 
-  pub to_slots : (d : el_x E) (cs : List (Option (el_x E))) (o : ℕ) → Row o cs ≡ slots (R E) (block_ptr b o) (map (item_or d) cs) (map holds cs)
-  to_slots d cs o = ap (Row o) (sym (cells_back d cs)) ∙ sym (of_slots (map (item_or d) cs) (map holds cs) o)
+  pub to_slots : (d : el_x E) (cs : List (Option (el_x E))) (o : ℕ) → Row o cs ≡ slots (R E) (block_ptr b o) (map (λ c. unwrap_or c d) cs) (map is_some cs)
+  to_slots d cs o = ap (Row o) (sym (cells_back d cs)) ∙ sym (of_slots (map (λ c. unwrap_or c d) cs) (map is_some cs) o)
 
   pub of_items : (xs : List (el_x E)) (o : ℕ) → cells (mem (R E)) xs b o ≡ Row o (map Some xs)
   of_items [] o = refl
@@ -103,7 +92,7 @@ module _ (E : El) (b : ℕ) where
       abbrev Seen : ℕ → List (Option (el_x E)) → Fml
       Seen o cs = cells_lent (R E) (block_ptr b o) cs κ
 
-      past : (i o at : ℕ) (cs : List (Option (el_x E))) → i ≤ length cs → at ≡ i * s + o → ent 𝓤 (sem 𝓛 (Seen o cs)) (sem 𝓛 (Seen at (drop i cs)))
+      past : (i o at : ℕ) (cs : List (Option (el_x E))) → i ≤ length cs → at ≡ i * s + o → ent 𝓤 (sem 𝓛 (Seen o cs)) (sem 𝓛 (Seen at (list_drop i cs)))
       past zero o at cs le e = subst (λ (k : ℕ). ent 𝓤 (sem 𝓛 (Seen o cs)) (sem 𝓛 (Seen k cs))) (let same : o ≡ at = omega (arith, e, zero-mul s) in same) (id⊢ 𝓤 _)
       past (suc i) o at [] le e = absurd (omega (arith, le))
       past (suc i) o at (c ∷ cs) le e =
@@ -115,8 +104,8 @@ module _ (E : El) (b : ℕ) where
 
       pub run_seen : (cs : List (Option (el_x E))) (from to o : ℕ) (xs : List (el_x E)) → from ≤ to → to ≤ length cs → slice_range cs from to ≡ map Some xs
           → ent 𝓤 (sem 𝓛 (Seen o cs)) (sem 𝓛 (elements_shared (R E) xs b (from * s + o) κ))
-      run_seen cs from to o xs ordered within e = let at = from * s + o in qed 𝓛 (‵ (Seen o cs) ∷ []) ∵ use1 𝓛 (‵ (Seen at (drop from cs))) (past from o at cs (omega (arith, ordered, within)) refl) $
-          rewrite ! 0 (λ (l : List (Option (el_x E))). ‵ (Seen at l)) (drop_split cs from to ordered ∙ ap (λ l. l ++ drop to cs) e) refl $ by ! (front xs (drop to cs) at)
+      run_seen cs from to o xs ordered within e = let at = from * s + o in qed 𝓛 (‵ (Seen o cs) ∷ []) ∵ use1 𝓛 (‵ (Seen at (list_drop from cs))) (past from o at cs (omega (arith, ordered, within)) refl) $
+          rewrite ! 0 (λ (l : List (Option (el_x E))). ‵ (Seen at l)) (drop_split cs from to ordered ∙ ap (λ l. l ++ list_drop to cs) e) refl $ by ! (front xs (list_drop to cs) at)
 
     pub cut : (cs ds : List (Option (el_x E))) (o at : ℕ) → at ≡ length cs * s + o → ent 𝓤 (sem 𝓛 (Row o (cs ++ ds))) (sep 𝓤 (sem 𝓛 (Row o cs)) (sem 𝓛 (Row at ds)))
     cut cs ds o at e = subst (λ (z : (List (Option (el_x E)) → ℕ → Fml) × ℕ). ent 𝓤 (sem 𝓛 (z.0 (cs ++ ds) o)) (sep 𝓤 (sem 𝓛 (z.0 cs o)) (sem 𝓛 (z.0 ds z.1))))
@@ -135,5 +124,4 @@ module _ (E : El) (b : ℕ) where
         (λ j. (λ ds. of_places ds o j, at_mul o s i j)) (focus_any 𝓛 Place None i cs b o lt)
 
     pub cell_in : (cs : List (Option (el_x E))) (i o : ℕ) (c : Option (el_x E)) → ent 𝓤 (sep 𝓤 (sem 𝓛 (Cell (i * s + o) c)) (Without cs i o)) (sem 𝓛 (Row o (set cs i c)))
-    cell_in cs i o c = let C = sem 𝓛 (Cell (i * s + o) c) in let All = sem 𝓛 (Row o (set cs i c)) in qed 𝓛 (raw C ∷ raw (Without cs i o) ∷ []) ∵ move ! (1 ∷ []) $
-        use1 𝓛 (raw (wand 𝓤 C All)) (all_e 𝓤 (λ d. wand 𝓤 (sem 𝓛 (Cell (i * s + o) d)) (sem 𝓛 (Row o (set cs i d)))) c) $ move ! (1 ∷ 0 ∷ []) $ by ! (apply∗ 𝓤 C All)
+    cell_in cs i o = used_at 𝓤 (λ d. sem 𝓛 (Cell (i * s + o) d)) (λ d. sem 𝓛 (Row o (set cs i d)))

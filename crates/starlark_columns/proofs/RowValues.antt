@@ -1,56 +1,92 @@
--- A row as a value: of bare cells it is made of room, or of nothing where the cells take no bytes, and is room again; and it is put
--- back where it lay, once its cells come back. The other words of this crate that walks over rows cite are handed on here. Assumes
--- `Logic`.
-use Rattle.starlark_columns.proofs.Walking.{◌≡◌, ℕ, ◌*◌, ◌<◌, ◌^◌, List, [], ◌∷◌, length, Option, refl, sym, subst, lit<, Ura, Fml, fsep, froom, full_share, ent, sep, emp, via, Val, never, id⊢, ty_array, length-replicate, Item, mean, ‵, some, given, ◌$◌, ◌∵◌, !, qed, by, move, keep, fpack, rewrite, fsplit, fjoin, flt_i, flt_l, show, check, done, Logic, sem, RattleType, Ptr, block_ptr, in_block, in_a_block, mem, cell_at, part_of, El, el_x, elτ, R, type_size, None, empties, ◌+◌, ◌-◌, ◌++◌, ◌∙◌, Some, ap, map, slice_set, raw, ◌⊛◌, use2, split, cells, refill, front_of, length-set, length-map, items_of}
-use lib.ListN.{drop}
-use Rattle.starlark_columns.specs.Front.{IsFront, with_items}
-use Rattle.starlark_columns.proofs.Fronts.{written_cells}
-pub use Rattle.starlark_columns.proofs.Fields.{AddressOf, ClaimOf, Marked, PairClaimOf, RowOf, address_made, address_told, four, mark, mark_told, marked, no_block, refused, word, word_good}
+-- The machine's values of the types with pointers, which are one word or nothing, and of slots, with the kit's two calls between
+-- slots and what they are made of; and a row as a value: of bare cells it is made of room, or of nothing where the cells take no
+-- bytes, and is room again; and it is put back where it lay, once its cells come back. The other words of this crate that walks over
+-- rows cite are handed on here. Assumes `Logic`.
+use Rattle.starlark_columns.proofs.Walking.{◌≡◌, ℕ, ◌*◌, ◌<◌, ◌^◌, List, [], ◌∷◌, length, Option, refl, sym, subst, lit<, Ura, Fml, fsep, froom, full_share, ent, sep, emp, via, Val, never, id⊢, ty_array, length-replicate, Item, mean, ‵, some, given, ◌$◌, ◌∵◌, !, qed, by, move, keep, fpack, rewrite, fsplit, fjoin, flt_i, flt_l, show, check, done, Logic, sem, RattleType, Ptr, block_ptr, in_block, in_a_block, mem, cell_at, part_of, El, el_x, elτ, R, type_size, None, empties, ◌+◌, ◌-◌, ◌++◌, ◌∙◌, Some, ap, map, slice_set, raw, ◌⊛◌, use2, split, cells, refill, front_of, length-set, length-map, items_of, vstruct, vcons, vnil, of_list, use0, Is, makes_shadow, shape, Struct, Err, live, owned, Struct-Makes, err_of, w64, ty_ptr, ty_int, ty_struct, tcons, tnil, has_ty, WT, null_ptr, ptr_val, Sr, words_val, T, list_drop}
+use types.Kit.{Goal, Step, step}
+use Rattle.starlark_columns.proofs.Fronts.{IsFront, with_items, written_cells}
+pub use Rattle.starlark_columns.proofs.Addresses.{word, word_good, address_made, address_told}
+use Rattle.core.specs.contracts as core
+pub use Rattle.starlark_columns.specs.contracts.block.Address.{the_row as AddressOf}
+pub use Rattle.starlark_columns.specs.contracts.block.Claim.{the_row as ClaimOf}
+pub use Rattle.starlark_columns.specs.contracts.block.PairClaim.{the_row as PairClaimOf}
+pub use Rattle.starlark_columns.specs.contracts.row.Row.{the_row as RowOf}
+use Rattle.starlark_columns.specs.contracts.row.Row as row
+pub use denote.Struct.Declared.{shape as declared}
 pub use Rattle.starlark_columns.specs.Ownership.{cells_owned, claim_owned, row_owned, within_lent}
-pub use Rattle.starlark_columns.proofs.PairRooms.{both_within, cut_in_two, no_weight, some_weight}
+pub use Rattle.starlark_columns.proofs.Layouts.{both_within, cut_in_two, no_weight, some_weight}
 pub use Rattle.starlark_columns.specs.Pair.{behind, pair_ty, rooms_rejoin, second_offset, skipped, two_arrays, type_align}
-pub use Rattle.starlark_columns.proofs.Memory.{Cell, Row, Without, cell_in, cell_out, cells_back, cells_count, cut, emptied_count, empties_run, glue, holds, item_or, of_items, of_room, of_slots, run_seen, to_room, to_slots, weightless}
+pub use Rattle.starlark_columns.proofs.Memory.{Cell, Row, Without, cell_in, cell_out, cells_back, cells_count, cut, emptied_count, empties_run, glue, of_items, of_room, of_slots, run_seen, to_room, to_slots, weightless}
 pub use Rattle.starlark_columns.specs.Lend.{with_cells}
 pub use Rattle.starlark_columns.proofs.Slotting.{filled_within, range_long}
-pub use Rattle.starlark_columns.proofs.RowCalls.{Breaks, IsMade, Makes, at_breaks, at_makes, breaks_asks, breaks_gives, makes_asks, makes_gives, row_good, row_told, row_typed}
+use Rattle.std_alloc.proofs.VecSteps.El.{El as Held, no_al}
+pub use Rattle.std_alloc.proofs.vec.Spares.{From, at_from, Made, from_goes, from_gives, Into, at_into, Into-goes, Into-gives, parts_typed}
 pub use Rattle.starlark_columns.specs.Slots.{cells_of, emptied}
 pub use Rattle.starlark_columns.proofs.LentParts.{as_struct, as_tuple}
+
+-- a `Row`, a `Claim` or a `PairClaim`
+abbrev pub mark : Val
+mark = vstruct (vcons (vstruct vnil) vnil)
+
+module _ (Q : RattleType) where
+  -- what a `Row`, a `Claim` or a `PairClaim` has beside its cells or its right
+  abbrev pub Marked : RattleType
+  Marked = Struct (shape (row.the_type Q))
+
+  pub mark_told : (vs : List Val) → Is Marked (tt, tt) vs → vs ≡ mark ∷ []
+  mark_told vs is = is.1.0 ∙ ap (λ (ws : List Val). vstruct (of_list (ws ++ [])) ∷ []) is.1.1.0.1.0
+
+-- the mark is put to the cells or the right
+pub marked : {M : Type 1} {𝓤 : Ura M} {𝓛 : Logic 𝓤} {K : Type 0} {Γ : List (Item 𝓤)} {G : Goal 𝓤 𝓛.H} → K → (Q : RattleType) {F : Fml} → Step K 𝓛 (‵ (fsep ((Marked Q).own_val (tt, tt) (mark ∷ [])) F) ∷ Γ) G (‵ F ∷ Γ) G
+marked {𝓛 = 𝓛} t Q = step (λ s. use0 𝓛 (‵ ((Marked Q).own_val (tt, tt) (mark ∷ [])))
+    (makes_shadow 𝓛 ((Marked Q).own_val (tt, tt) (mark ∷ [])) (λ vss. (tt, ((λ uss. (tt, tt)), tt))) ((vstruct vnil ∷ [], tt), (refl, ((tt, (refl, tt)), tt)))) $ fjoin t $ s)
+
+-- what a refusal is returned as
+abbrev pub no_block : Val
+no_block = live 1 (vcons (vstruct vnil) vnil)
+
+pub refused : {M : Type 1} {𝓤 : Ura M} (𝓛 : Logic 𝓤) (Q : RattleType) → ent 𝓤 (emp 𝓤) (sem 𝓛 ((core.result.Result.the_row Q core.alloc.AllocError.the_row).own_val (Err (record {})) (no_block ∷ [])))
+refused 𝓛 Q = let S = declared core.alloc.AllocError.the_type in
+    qed 𝓛 [] ∵ owned ! (Struct S) (Is (Struct S)) (Struct-Makes 𝓛 S tt) tt (vstruct vnil ∷ []) (tt, (refl, tt)) $ by ! (err_of 𝓛 Q core.alloc.AllocError.the_row (record {}) (vstruct vnil))
+
+-- items of no allocator, as the calls take them
+abbrev pub held : El → Held
+held E = record { row = E.row; laws = E.laws; al = no_al }
+
+-- a slots value is its pointer and its count
+pub row_told : (E : El) (r : (Sr E).Denot) (vs : List Val) → Is (Sr E) r vs → vs ≡ words_val r.ptr r.len ∷ []
+row_told E r vs is = let two = is.0 in two.1.0 ∙ ap (λ (ws : List Val). vstruct (of_list (ws ++ (two.0.1.0 ++ []))) ∷ []) two.1.1.0 ∙ ap (λ (ws : List Val). vstruct (of_list (ptr_val r.ptr ∷ (ws ++ []))) ∷ []) two.1.1.1.0.0
+
+pub row_good : (p : Ptr) (n : ℕ) → n < 2 ^ 64 → T (has_ty (ty_struct [] (tcons ty_ptr (tcons (ty_int w64) tnil))) (words_val p n)) × WT (words_val p n)
+row_good (block_ptr b o) n word = (tt, (tt, (record { fits = word }, tt)))
+row_good null_ptr n word = (tt, (record { fits = lit< tt }, (record { fits = word }, tt)))
 
 module _ (E : El) {M : Type 1} {𝓤 : Ura M} (𝓛 : Logic 𝓤) (n : ℕ) where
   open 𝓛 use {H}
 
-  abbrev Own : RattleType
-  Own = RowOf (R E)
-
-  abbrev s : ℕ
-  s = type_size (R E)
-
-  abbrev cs : List (Option (el_x E))
-  cs = empties n
-
   module _ (b o : ℕ) where
-    abbrev pub here : Own.Denot
-    here = record { mark = record {}; at = block_ptr b o; cells = cs }
+    abbrev pub here : (RowOf (R E)).Denot
+    here = record { mark = record {}; at = block_ptr b o; cells = empties n }
 
-    of_cells : n * s < 2 ^ 63 → ent 𝓤 (sem 𝓛 (Row E b o cs)) (sem 𝓛 (Own.own_val here (mark ∷ [])))
-    of_cells few = qed 𝓛 (‵ (Row E b o cs) ∷ []) ∵ flt_i ! (length cs * s) (2 ^ 63) (subst (λ k. k * s < 2 ^ 63) (sym (length-replicate n None)) few) $ fjoin ! $ marked ! (R E) $ done !
+    of_cells : n * type_size (R E) < 2 ^ 63 → ent 𝓤 (sem 𝓛 (Row E b o (empties n))) (sem 𝓛 ((RowOf (R E)).own_val here (mark ∷ [])))
+    of_cells few = qed 𝓛 (‵ (Row E b o (empties n)) ∷ []) ∵ flt_i ! (length {A = Option (el_x E)} (empties n) * type_size (R E)) (2 ^ 63) (subst (λ k. k * type_size (R E) < 2 ^ 63) (sym (length-replicate n None)) few) $ fjoin ! $ marked ! (R E) $ done !
 
-    pub row_of_room : n * s < 2 ^ 63 → ent 𝓤 (H.room (ty_array (elτ E) n) b o) (sem 𝓛 (Own.own_val here (mark ∷ [])))
-    row_of_room few = via 𝓤 (sem 𝓛 (Row E b o cs)) (of_room E b 𝓛 n o) (of_cells few)
+    pub row_of_room : n * type_size (R E) < 2 ^ 63 → ent 𝓤 (H.room (ty_array (elτ E) n) b o) (sem 𝓛 ((RowOf (R E)).own_val here (mark ∷ [])))
+    row_of_room few = via 𝓤 (sem 𝓛 (Row E b o (empties n))) (of_room E b 𝓛 n o) (of_cells few)
 
-    pub row_of_none : n * s ≡ 0 → ent 𝓤 (emp 𝓤) (sem 𝓛 (Own.own_val here (mark ∷ [])))
-    row_of_none light = via 𝓤 (sem 𝓛 (Row E b o cs)) (weightless E b 𝓛 n o light) (of_cells (subst (λ k. k < 2 ^ 63) (sym light) (lit< tt)))
+    pub row_of_none : n * type_size (R E) ≡ 0 → ent 𝓤 (emp 𝓤) (sem 𝓛 ((RowOf (R E)).own_val here (mark ∷ [])))
+    row_of_none light = via 𝓤 (sem 𝓛 (Row E b o (empties n))) (weightless E b 𝓛 n o light) (of_cells (subst (λ k. k < 2 ^ 63) (sym light) (lit< tt)))
 
   module _ (p : Ptr) where
     -- room in a block, which begins at p
     abbrev pub RoomAt : ℕ × ℕ → Item 𝓤
-    RoomAt z = given ((p ≡ block_ptr z.0 z.1) × (n * s < 2 ^ 63)) (‵ (froom (ty_array (elτ E) n) z.0 z.1))
+    RoomAt z = given ((p ≡ block_ptr z.0 z.1) × (n * type_size (R E) < 2 ^ 63)) (‵ (froom (ty_array (elτ E) n) z.0 z.1))
 
-    pub room_of_row : (h : Own.Denot) → h.at ≡ p → h.cells ≡ cs → ent 𝓤 (sem 𝓛 (Own.own_val h (mark ∷ []))) (mean 𝓛 (some RoomAt))
-    room_of_row h at bare = qed 𝓛 (‵ (Own.own_val h (mark ∷ [])) ∷ []) ∵ fsplit ! $ keep ! (1 ∷ []) $
-        rewrite ! 0 (λ (z : Ptr × List (Option (el_x E))). ‵ (row_owned (R E) z.0 z.1)) {x = (p, cs)} {y = (h.at, h.cells)} (λ i. (at i, bare i)) refl $ fsplit ! $ flt_l ! (λ few.
-        in_a_block ! p (λ r. in_block r (cells_owned (R E) r cs)) (id⊢ 𝓤 (never 𝓤)) (λ b o is.
-        show ! (λ (z : ℕ × ℕ). mean 𝓛 (RoomAt z)) (b, o) $ check ! (is, subst (λ k. k * s < 2 ^ 63) (length-replicate n None) few) $ by ! (to_room E b 𝓛 n o)))
+    pub room_of_row : (h : (RowOf (R E)).Denot) → h.at ≡ p → h.cells ≡ empties n → ent 𝓤 (sem 𝓛 ((RowOf (R E)).own_val h (mark ∷ []))) (mean 𝓛 (some RoomAt))
+    room_of_row h at bare = qed 𝓛 (‵ ((RowOf (R E)).own_val h (mark ∷ [])) ∷ []) ∵ fsplit ! $ keep ! (1 ∷ []) $
+        rewrite ! 0 (λ (z : Ptr × List (Option (el_x E))). ‵ (row_owned (R E) z.0 z.1)) {x = (p, empties n)} {y = (h.at, h.cells)} (λ i. (at i, bare i)) refl $ fsplit ! $ flt_l ! (λ few.
+        in_a_block ! p (λ r. in_block r (cells_owned (R E) r (empties n))) (id⊢ 𝓤 (never 𝓤)) (λ b o is.
+        show ! (λ (z : ℕ × ℕ). mean 𝓛 (RoomAt z)) (b, o) $ check ! (is, subst (λ k. k * type_size (R E) < 2 ^ 63) (length-replicate n None) few) $ by ! (to_room E b 𝓛 n o)))
 
 module _ (E : El) {M : Type 1} {𝓤 : Ura M} (𝓛 : Logic 𝓤) (h : (RowOf (R E)).Denot) (rb ro : ℕ) (vs : List Val) (b o : ℕ) where
   -- what is left at (rb, ro) while the cells are out
@@ -77,7 +113,7 @@ module _ (E : El) {M : Type 1} {𝓤 : Ura M} (𝓛 : Logic 𝓤) (h : (RowOf (R
       → ent 𝓤 (sep 𝓤 (sem 𝓛 (cells (mem (R E)) ws b o)) (sem 𝓛 (fsep (Row E b (n * type_size (R E) + o) (empties (length h.cells - n))) Shell))) (sem 𝓛 ((mem (RowOf (R E))).own_at (with_cells h (with_items h.cells ws)) rb ro))
   front_shut at few n front ws same =
       let cs = h.cells in let xs = items_of cs in let free : List (Option (el_x E)) = empties (length cs - n) in let end : ℕ = n * type_size (R E) + o in let ds = with_items cs ws in
-      let all : refill (length xs) xs ws ≡ ws = front_of ws (drop (length ws) xs) (length xs) same in
+      let all : refill (length xs) xs ws ≡ ws = front_of ws (list_drop (length ws) xs) (length xs) same in
       let is : map Some ws ++ free ≡ ds = ap (λ (k : ℕ). map Some ws ++ empties (length cs - k)) (sym (same ∙ front.count)) ∙ (λ i. map Some (sym all i) ++ empties (length cs - length (sym all i))) in
       qed 𝓛 (‵ (cells (mem (R E)) ws b o) ∷ ‵ (fsep (Row E b end free) Shell) ∷ []) ∵ rewrite ! 0 ‵ (of_items E b ws o) refl $ move ! (1 ∷ []) $ fsplit ! $ move ! (2 ∷ 0 ∷ []) $
       use2 𝓛 (‵ (Row E b o (map Some ws ++ free))) (glue E b 𝓛 (map Some ws) free o end (ap (λ (k : ℕ). k * type_size (R E) + o) (sym (length-map ws Some ∙ same ∙ front.count)))) $

@@ -5,9 +5,9 @@ use Rattle.std.proofs.lemmas.List.{take-append-drop, get_or-replicate, length-ta
 use Rattle.std.proofs.lemmas.Bool.{cases_lt}
 use Rattle.std.proofs.lemmas.Grind.{common_steps}
 use Rattle.std.proofs.lemmas.List.Folds.{drop_split}
-use Rattle.starlark_columns.specs.Cells.{empties, IsFilled, AreFilled, AreEmpty, with_range, moved_down}
 use Rattle.starlark_columns.specs.Slots.{cell_of, cells_of, emptied}
 use Rattle.core.specs.declared.slots.Slots.{Slots}
+use Rattle.starlark_columns.proofs.Fronts.{empties, IsFilled, AreFilled, AreEmpty, with_range, moved_down, split}
 use Rattle.starlark_columns.proofs.Memory.{cells_count, emptied_count}
 
 module _ {X : Type 0} where
@@ -51,25 +51,13 @@ module _ {X : Type 0} where
   pub at_range : (cs : List (Option X)) (from to j : ℕ) → j < to - from → get_or (slice_range cs from to) j None ≡ get_or cs (from + j) None
   at_range cs from to j lt = rw (get_or-take, get_or-drop)
 
-  at_somes : (xs : List X) (j : ℕ) → j < length xs → (x : X) × (get_or (map Some xs) j None ≡ Some x)
-  at_somes [] j lt = absurd (omega arith)
-  at_somes (x ∷ xs) j lt = (get_or (x ∷ xs) j x, get_or-map Some (x ∷ xs) j x None lt)
-
   pub range_long : (cs : List (Option X)) (from to : ℕ) → from ≤ to → to ≤ length cs → length (slice_range cs from to) ≡ to - from
   range_long cs from to le in_row = simp (length-take, length-drop) (omega arith)
 
   -- each cell of a filled range is filled
   pub in_filled : (cs : List (Option X)) (from to k : ℕ) → AreFilled cs from to → from ≤ k → k < to → IsFilled cs k
-  in_filled cs from to k full le lt = let at = at_somes full.2.0 (k - from) (omega (arith, ap length full.2.1, length-map full.2.0 Some, range_long cs from to full.0 full.1)) in
-      let back : from + (k - from) ≡ k = omega arith in (at.0, cc (back, at_range cs from to (k - from) (omega arith), full.2.1, at.1))
-
-  -- a row that differs from cs in a range alone
-  ranged : (es cs ds : List (Option X)) (low high : ℕ) → low ≤ high → high ≤ length cs → length ds ≡ high - low → length es ≡ length cs
-      → ((k : ℕ) → k < length es → (k < low) ⊎ (high ≤ k) → get_or es k None ≡ get_or cs k None)
-      → ((j : ℕ) → j < high - low → get_or es (low + j) None ≡ get_or ds j None) → es ≡ with_range cs low high ds
-  ranged es cs ds low high le in_row long same out within =
-      ext_get_or None es (with_range cs low high ds) (simp (length-append, length-take, length-drop) (omega arith))
-      (λ k lt. grind (arith, out k lt, within (k - low), length-take low cs, get_or_append_left {A = Option X}, get_or-append_right {X = Option X}, get_or-take {A = Option X}, get_or-drop {A = Option X}))
+  in_filled cs from to k full le lt = let xs = full.2.0 in let j = k - from in let within : j < length xs = omega (arith, ap length full.2.1, length-map xs Some, range_long cs from to full.0 full.1) in
+      let d = (split xs j within).0 in let back : from + j ≡ k = omega arith in (get_or xs j d, cc (back, at_range cs from to j (omega arith), full.2.1, get_or-map Some xs j d None within))
 
   -- the slots of a row before a step and after it
   module _ (r s : Slots X) (cs : List (Option X)) (d : X) (same : s.len ≡ r.len) (is : cells_of r.items r.filled ≡ cs) where
@@ -79,42 +67,41 @@ module _ {X : Type 0} where
     pub after_count : (u v : ℕ) → length (emptied u v (cells_of s.items s.filled)) ≡ length cs
     after_count u v = omega (arith, emptied_count u v (cells_of s.items s.filled), cells_count s.items s.filled (omega arith), long)
 
-    -- a cell that no step has touched
-    kept : (u v k : ℕ) → k < length cs → (k < u) ⊎ (v ≤ k) → get_or s.items k d ≡ get_or r.items k d → get_or s.filled k false ≡ get_or r.filled k false → get_or (emptied u v (cells_of s.items s.filled)) k None ≡ get_or cs k None
-    kept u v k lt out same_item same_flag = cc (out_emptied u v (cells_of s.items s.filled) k out, at_row s.items s.filled k d (omega arith) (omega (arith, long)), at_row r.items r.filled k d (omega arith) (omega (arith, long, r.ok.0, s.ok.0)))
-
-    -- a cell to which an item has moved from cell j
-    come : (u v k j : ℕ) → k < length cs → (k < u) ⊎ (v ≤ k) → IsFilled cs j → get_or s.items k d ≡ get_or r.items j d → get_or s.filled k false ≡ true → get_or (emptied u v (cells_of s.items s.filled)) k None ≡ get_or cs j None
-    come u v k j lt out full same_item there = cc (out_emptied u v (cells_of s.items s.filled) k out, at_row s.items s.filled k d (omega arith) (omega (arith, long)), (at_item r cs j full.0 is full.1).2 d, full.1)
+    -- it differs from cs in a range alone, where the other cells are ones that no step has touched
+    ranged : (u v low high : ℕ) (ds : List (Option X)) → low ≤ high → high ≤ length cs → length ds ≡ high - low
+        → ((k : ℕ) → k < length cs → (k < low) ⊎ (high ≤ k) → ((k < u) ⊎ (v ≤ k)) × (get_or s.items k d ≡ get_or r.items k d) × (get_or s.filled k false ≡ get_or r.filled k false))
+        → ((j : ℕ) → j < high - low → get_or (emptied u v (cells_of s.items s.filled)) (low + j) None ≡ get_or ds j None) → emptied u v (cells_of s.items s.filled) ≡ with_range cs low high ds
+    ranged u v low high ds le in_row long_ds out within =
+        let cells = cells_of s.items s.filled in let es = emptied u v cells in let count = after_count u v in
+        let kept : (k : ℕ) → k < length cs → (k < low) ⊎ (high ≤ k) → get_or es k None ≡ get_or cs k None = λ k lt off. let o = out k lt off in
+        cc (out_emptied u v cells k o.0, at_row s.items s.filled k d (omega arith) (omega (arith, long)), at_row r.items r.filled k d (omega arith) (omega (arith, long, r.ok.0, s.ok.0)), o.1, o.2) in
+        ext_get_or None es (with_range cs low high ds) (simp (length-append, length-take, length-drop) (omega arith))
+        (λ k lt. grind (arith, kept k (omega arith), within (k - low), length-take low cs, get_or_append_left {A = Option X}, get_or-append_right {X = Option X}, get_or-take {A = Option X}, get_or-drop {A = Option X}))
 
     pub down : (from end to : ℕ) → AreFilled cs from end → AreEmpty cs to from → ((k : ℕ) → k < end - from → get_or s.items (to + k) d ≡ get_or r.items (from + k) d)
         → ((k : ℕ) → (k < to) ⊎ (to + (end - from) ≤ k) → get_or s.items k d ≡ get_or r.items k d) → ((k : ℕ) → to ≤ k → k < to + (end - from) → get_or s.filled k false ≡ true)
         → ((k : ℕ) → (k < min from to) ⊎ (max from to + (end - from) ≤ k) → get_or s.filled k false ≡ get_or r.filled k false) → emptied (to + (end - from)) end (cells_of s.items s.filled) ≡ moved_down cs from end to
     down from end to full gap moved items there flags =
-        let n = end - from in let run = slice_range cs from end in let n_long = range_long cs from end full.0 full.1 in let le = gap.0 in let es = emptied (to + n) end (cells_of s.items s.filled) in
-        let all = after_count (to + n) end in
-        ranged es cs (run ++ empties (from - to)) to end (omega (arith, full.0)) full.1 (simp (length-append, length-replicate) (omega (arith, full.0))) all
-        (λ k lt out. kept (to + n) end k (omega arith) (grind arith) (items k (grind (arith, full.0))) (flags k (grind (arith, full.0))))
-        (λ j lt. ⊎_elim (λ h. come (to + n) end (to + j) (from + j) (omega (arith, full.1)) (inl (omega arith))
-        (in_filled cs from end (from + j) full (omega arith) (omega arith)) (moved j h) (there (to + j) (omega arith) (omega arith))
-        ∙ sym (get_or_append_left run (empties (from - to)) None j (omega arith) ∙ at_range cs from end j h))
+        let n = end - from in let run = slice_range cs from end in let n_long = range_long cs from end full.0 full.1 in let le = gap.0 in
+        ranged (to + n) end to end (run ++ empties (from - to)) (omega (arith, full.0)) full.1 (simp (length-append, length-replicate) (omega (arith, full.0)))
+        (λ k lt out. (grind arith, items k (grind (arith, full.0)), flags k (grind (arith, full.0))))
+        (λ j lt. ⊎_elim (λ h. let f = in_filled cs from end (from + j) full (omega arith) (omega arith) in let on = there (to + j) (omega arith) (omega arith) in let same_item = moved j h in
+        let out = out_emptied (to + n) end (cells_of s.items s.filled) (to + j) (inl (omega arith)) in let here = at_row s.items s.filled (to + j) d (omega arith) (omega (arith, long, full.1)) in
+        cc (out, here, on, same_item, (at_item r cs (from + j) f.0 is f.1).2 d, f.1, get_or_append_left run (empties (from - to)) None j (omega arith), at_range cs from end j h))
         (λ h. in_emptied (to + n) end (cells_of s.items s.filled) (to + j) (omega arith) (omega arith)
         ∙ sym (get_or-append_right run (empties (from - to)) n j None n_long h ∙ get_or-replicate (from - to) (j - n) None None (omega (arith, full.0)))) (cases_lt j n))
 
     pub gone : (from end : ℕ) → AreFilled cs from end → s.items ≡ r.items → ((k : ℕ) → (k < from) ⊎ (end ≤ k) → get_or s.filled k false ≡ get_or r.filled k false)
         → emptied from end (cells_of s.items s.filled) ≡ with_range cs from end (empties (end - from))
-    gone from end full as_before flags = let all = after_count from end in
-        ranged (emptied from end (cells_of s.items s.filled)) cs (empties (end - from)) from end full.0 full.1 (length-replicate {A = Option X} (end - from) None) all
-        (λ k lt out. kept from end k (omega arith) out (ap (λ l. get_or l k d) as_before) (flags k out))
+    gone from end full as_before flags = ranged from end from end (empties (end - from)) full.0 full.1 (length-replicate {A = Option X} (end - from) None) (λ k lt out. (out, ap (λ l. get_or l k d) as_before, flags k out))
         (λ j lt. in_emptied from end (cells_of s.items s.filled) (from + j) (omega arith) (omega arith) ∙ sym (get_or-replicate (end - from) j None None lt))
 
     -- a run has come to the cells from `to` on
     pub filled_in : (to n : ℕ) (run : List X) → length run ≡ n → to + n ≤ length cs → s.items ≡ take to r.items ++ run ++ drop (to + n) r.items → ((k : ℕ) → to ≤ k → k < to + n → get_or s.filled k false ≡ true)
         → ((k : ℕ) → (k < to) ⊎ (to + n ≤ k) → get_or s.filled k false ≡ get_or r.filled k false) → emptied 0 0 (cells_of s.items s.filled) ≡ with_range cs to (to + n) (map Some run)
     filled_in to n run run_long in_row as_before there flags =
-        let all = after_count 0 0 in
-        ranged (emptied 0 0 (cells_of s.items s.filled)) cs (map Some run) to (to + n) (omega arith) in_row (simp length-map (omega arith)) all
-        (λ k lt out. kept 0 0 k (omega arith) (inr (omega arith)) (rw as_before (grind (arith, common_steps, long, r.ok.0, s.ok.0))) (flags k out))
+        ranged 0 0 to (to + n) (map Some run) (omega arith) in_row (simp length-map (omega arith))
+        (λ k lt out. (inr (omega arith), rw as_before (grind (arith, common_steps, long, r.ok.0, s.ok.0)), flags k out))
         (λ j lt. let item : get_or s.items (to + j) d ≡ get_or run j d = rw as_before (grind (arith, common_steps, long, r.ok.0, s.ok.0)) in let on = there (to + j) (omega arith) (omega arith) in
         cc (out_emptied 0 0 (cells_of s.items s.filled) (to + j) (inr (omega arith)), at_row s.items s.filled (to + j) d (omega arith) (omega (arith, long)), item, on, get_or-map Some run j d None (omega arith)))
 
@@ -130,12 +117,9 @@ module _ {X : Type 0} where
             cc (at_range cs from end j (omega arith), f.1, at.2 d, get_or-map Some run j d None (omega arith), get_or-take (end - from) (drop from xs) j d (omega arith), get_or-drop from xs j d)),
       )
 
-  -- a row is itself with any of its ranges
-  pub whole : (cs : List (Option X)) (from to : ℕ) → from ≤ to → cs ≡ with_range cs from to (slice_range cs from to)
-  whole cs from to le = rw (← drop_split cs from to le, take-append-drop)
-
   pub stays_down : (cs : List (Option X)) (from end to : ℕ) → from ≡ end → AreEmpty cs to from → cs ≡ moved_down cs from end to
-  stays_down cs from end to e gap = let none : end - from ≡ 0 = omega arith in whole cs to from gap.0 ∙ rw (gap.2, none, e)
+  stays_down cs from end to e gap = let none : end - from ≡ 0 = omega arith in
+      let whole : cs ≡ with_range cs to from (slice_range cs to from) = rw (← drop_split cs to from gap.0, take-append-drop) in whole ∙ rw (gap.2, none, e)
 
   pub one_filled : (cs : List (Option X)) (i : ℕ) → IsFilled cs i → AreFilled cs i (i + 1)
   one_filled cs i f = let lt = filled_within cs i f in let one : i + 1 - i ≡ 1 = omega arith in (omega arith, omega arith, (f.0 ∷ [], rw (one, drop-cons cs i None lt, f.1)))

@@ -3,7 +3,7 @@
 use base.Share
 use denote.Laws.{Lawfuls}
 use mir.Syntax.{Sym}
-use Rattle.starlark_columns.proofs.Walking.{refl, sym, subst, ap, ℕ, [], ◌∷◌, Ura, full_share, common, named, Val, SProp, ent, sep, ex, wand, id⊢, apply∗, Lft, GName, Share, fdead, flft, fres, Logic, sem, lft_new, lft_end, lft-common, meet_⊑_left, ‵, raw, ◌⊛◌, some, later, ◌$◌, ◌∵◌, !, qed, move, use1, use2, use3, split, join, pick, updating, now, await, show, done, fsplit, fjoin, zero, ◌+◌, List, all_e, size, align, up, Denots, part_at, Member, row_of, rows_of, parts_at, shape_of, PartsBack, Struct-parts, Struct, LentAgain, lends_again, comes_back, RattleType, Is, layout, Laws, Good, is_one, of_field, row_shared, copy_shared, mut_ref_shared, mut_ref_field, mut_ref_laws, shr_ref_field, shr_ref_laws, shr_ref_copy, MutBor, MutRef, NamedLft, ShrRef, mut_vals, only}
+use Rattle.starlark_columns.proofs.Walking.{refl, sym, subst, ap, ℕ, [], ◌∷◌, Ura, full_share, common, named, Val, SProp, ent, sep, ex, wand, id⊢, apply∗, Lft, GName, Share, fdead, flft, fres, Logic, sem, lft_new, lft_end, lft-common, meet_⊑_left, ‵, raw, ◌⊛◌, some, later, ◌$◌, ◌∵◌, !, qed, by, move, use1, use2, use3, split, join, pick, updating, now, await, show, done, fsplit, fjoin, zero, ◌+◌, List, used_at, size, align, up, Denots, part_at, Member, row_of, rows_of, parts_at, shape_of, PartsBack, Struct-parts, Struct, LentAgain, lends_again, comes_back, RattleType, Is, layout, Laws, Good, is_one, of_field, row_shared, copy_shared, mut_ref_shared, mut_ref_field, mut_ref_laws, shr_ref_field, shr_ref_laws, shr_ref_copy, MutBor, MutRef, NamedLft, ShrRef, mut_vals, only}
 use Rattle.starlark_columns.proofs.LoneValue.{lone_value}
 
 pub mut_laws : (κ : Lft) (R : RattleType) → Laws R → Laws (MutRef (named 0) κ R)
@@ -80,7 +80,5 @@ module _ (m : Member) (left : List Member) (ν : Sym) where
     pub first_in : ent 𝓤 (sep 𝓤 (sem 𝓛 (part_at (row_of m) full_share a.0 b (o + place))) Others) (sem 𝓛 (part_at (Struct (shape_of ν members)) full_share a b o))
     first_in =
         qed 𝓛 (‵ (part_at (row_of m) full_share a.0 b (o + place)) ∷ (‵ (parts_at full_share left (place + size m.ty) a.1 b o) ⊛ raw (PartsBack 𝓛 full_share ν members b o)) ∷ []) ∵
-        move ! (1 ∷ []) $ split ! $ move ! (2 ∷ 0 ∷ []) $ fjoin ! $ move ! (1 ∷ []) $
-        use1 𝓛 (raw (wand 𝓤 (sem 𝓛 (parts_at full_share members zero a b o)) (sem 𝓛 (part_at (Struct (shape_of ν members)) full_share a b o))))
-        (all_e 𝓤 (λ (a' : Denots (rows_of members)). wand 𝓤 (sem 𝓛 (parts_at full_share members zero a' b o)) (sem 𝓛 (part_at (Struct (shape_of ν members)) full_share a' b o))) a) $ move ! (1 ∷ 0 ∷ []) $
-        use2 𝓛 (‵ (part_at (Struct (shape_of ν members)) full_share a b o)) (apply∗ 𝓤 (sem 𝓛 (parts_at full_share members zero a b o)) (sem 𝓛 (part_at (Struct (shape_of ν members)) full_share a b o))) $ done !
+        move ! (1 ∷ []) $ split ! $ move ! (2 ∷ 0 ∷ []) $ fjoin ! $
+        by ! (used_at 𝓤 (λ (z : Denots (rows_of members)). sem 𝓛 (parts_at full_share members zero z b o)) (λ z. sem 𝓛 (part_at (Struct (shape_of ν members)) full_share z b o)) a)

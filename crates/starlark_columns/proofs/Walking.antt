@@ -2,6 +2,7 @@
 -- that walks share. Assumes `Logic`.
 --     tells     a fact is said, as a clause of the `ensures`
 --     spent     nothing is had of the last n parameters
+--     used_at   the way from P x to Q x, which stands at each x, is gone at one
 --     drops, drops_go     of no parameter anything is had at the end, and nothing is said, which is a `refl` for each
 use types.Kit.{Goal, Step, step}
 use denote.Signature.{Slot}
@@ -24,8 +25,7 @@ pub use Rattle.core.specs.Mem.Slots.{slots_counts, slots_filled, slots_items, sl
 pub use Rattle.core.specs.Mem.Slots.Ownership.{slots}
 pub use Rattle.core.specs.Option.{ghost_name_of, option_copied_mut}
 pub use Rattle.core.specs.declared.alloc.Allocator.{Ghosts}
-pub use Rattle.std.proofs.Common.{Bool, Err, IfErr, IfOk, IfSome, List, Ok, Option, Result, Some, [], add-one, ap, append-nil, append_assoc, arith, bit_and, false, get_or, inl, inr, length, lit<, map, refl, rules, slice_get, slice_set, subst, suc, sym, take, true, w64, zero, ℕ, ◌%◌, ◌*◌, ◌++◌, ◌+◌, ◌-◌, ◌<◌, ◌^◌, ◌∙◌, ◌∷◌, ◌≡◌, ◌≢◌, ◌≤◌, ◌⊎◌, T, set, take-add, is_some, option_map, unwrap_or, eqb, eqb→eq, length-append, length-drop, length-set, length-take, take-append-drop, drop-cons, take_at as front_of, cond, ◌&&◌, ap₂}
-pub use Rattle.std.proofs.lemmas.Bool.{cases_lt}
+pub use Rattle.std.proofs.Common.{Bool, Err, IfErr, IfOk, IfSome, List, Ok, Option, Result, Some, [], add-one, ap, append-nil, append_assoc, arith, bit_and, false, get_or, inl, inr, length, lit<, map, refl, rules, slice_get, slice_set, subst, suc, sym, take, true, w64, zero, ℕ, ◌%◌, ◌*◌, ◌++◌, ◌+◌, ◌-◌, ◌<◌, ◌^◌, ◌∙◌, ◌∷◌, ◌≡◌, ◌≢◌, ◌≤◌, ◌⊎◌, T, set, take-add, is_some, option_map, unwrap_or, eqb, eqb→eq, length-append, length-drop, length-set, length-take, take-append-drop, drop-cons, take_at as front_of, drop as list_drop, cond, ◌&&◌, ap₂, add-zero, suc-mul, suc-ne-zero, zero-add, zero-mul}
 pub use Rattle.std.proofs.lemmas.List.{drop-drop, drop-take, get_or-drop, get_or-set_same, get_or_default, length-map, set-get_or, set-set, take-set, take-take, length-replicate}
 pub use Rattle.std.proofs.lemmas.List.Folds.{drop_split}
 pub use Rattle.std.proofs.lemmas.List.Sorted.{length_permutation}
@@ -104,7 +104,6 @@ pub use mir.MapTy.{inst_fn}
 pub use mir.Raw.{raw as bare}
 pub use mir.Syntax.{Args, Dict, Fn, Lifetime, Ty, Tys, a_type, dcons, dnil, named, tcons, tnil, ty_array, ty_int, ty_ptr, ty_struct, ty_unit, w32}
 pub use mir.Val.{Val, WT, has_ty, of_list, vcons, vint, vnil, vptr, vstruct, vunit}
-pub use native.Mathlib.Nat.{add-zero, mod_self, sub-zero, suc-mul, suc-ne-zero, zero-add, zero-mul}
 pub use prog.Align.{Dv, dv_self, dv_zero}
 pub use prog.Capped.{capped_fits, capped_small}
 pub use prog.Memory.{Memory, align, capped, pad, size, up}
@@ -116,7 +115,7 @@ pub use seplogic.Bi.Basic.{and}
 pub use seplogic.Ra.Ura.{Ura}
 pub use sound.WpLaws.{FmC, WpFn-mono, fm_of}
 pub use types.ByLocal.{alloc_all, env, free_all, get, get_in, get_tag, give_at, holding, is, lands_as, lands_last, look_at, look_in_at, pass_all, sets, sets_last, take_at, through}
-pub use types.Follow.{Came, after₂, came, closes_following, followed₂, follows_anew, takes_beside, takes_part, takes_two}
+pub use types.Follow.{Came, after as after₁, after₂, came, closes_following, followed₂, follows_anew, takes_beside, takes_part, takes_two}
 pub use types.Kit.{ !, Post as After, Item, any_q, assume, at_ret, await, by, check, done, drop, feq_i, feq_l, fjoin, fjoin3, flt_i, flt_l, fpack, fpick, frame, fsplit, fsplit3, given, group, join, keep, later, learn, mean, move, now, pick, prop, qed, raw, regoal, rewrite, show, some, split, split3, suffices, updating, use0, use1, use2, use3, ‵, ◌$◌, ◌∵◌, ◌⊛◌}
 pub use types.Late.{ages, bor_new_deep, close_deep, deep}
 pub use types.Logic.{Logic, sem}
@@ -126,6 +125,9 @@ pub use types.Part.{agg, look_in, sub, whole}
 pub use types.Run.{addr, align_word, and_then, bin, blocks, enter, exec, first, fld, from, hop, lit, load, look, no_more, of_opd, returns, size_word, stop, switches_on, unit_lit}
 pub use types.SemTy.{Arr, Body, SemTy, cells}
 pub use types.Tokens.{lft-common, lft_end, lft_new, name_done, name_new, res_agree}
+
+pub used_at : {M : Type 1} (𝓤 : Ura M) {X : Type 0} (P Q : X → SProp 𝓤) (x : X) → ent 𝓤 (sep 𝓤 (P x) (all 𝓤 (λ z. wand 𝓤 (P z) (Q z)))) (Q x)
+used_at 𝓤 P Q x = via 𝓤 (sep 𝓤 (P x) (wand 𝓤 (P x) (Q x))) (mono_r 𝓤 (P x) (all_e 𝓤 (λ z. wand 𝓤 (P z) (Q z)) x)) (apply∗ 𝓤 (P x) (Q x))
 
 -- nothing, for each of n parameters
 abbrev idle : ℕ → Fml

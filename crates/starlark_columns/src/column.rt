@@ -158,6 +158,7 @@ impl<T> Column<T> {
 
     /// The item of a full cell, to be written. The cell ends with what is left in it, and all else stays.
     #[inline]
+    #[tactic(auto, using(std::proofs::lemmas::Grind::common_steps))]
     pub fn get_mut(&mut self, index: usize) -> &mut T
         requires { IsFilled self.old index }
         ensures* writes_back { sem 𝓛 (lends_column_item T.row self.entry index result) }

@@ -87,7 +87,7 @@ pub fn no_rows<A, B>(alloc: Global) -> (Spot<A>, Row<A>, Row<B>, Block<A, B>)
 
 /// Gives the block back. It is that of both rows, and begins at the spot; no item is left in either.
 #[inline]
-#[tactic(auto, using(crate::proofs::Fronts::none_left))]
+#[tactic(auto, using(crate::proofs::Fronts::none_at_front))]
 pub fn give_back<A, B>(
     alloc: Global,
     spot: Spot<A>,

@@ -75,7 +75,7 @@ impl<T> Row<T> {
 
     /// Moves the item out of a full cell, which is then empty.
     #[inline]
-    #[tactic(auto, using(crate::proofs::Slotting::clear_row, crate::proofs::Slotting::none_emptied))]
+    #[tactic(auto, using(crate::proofs::Slotting::clear_row, crate::proofs::Slotting::none_emptied, crate::proofs::Slotting::at_item))]
     pub fn take(&mut self, spot: Spot<T>, index: usize) -> T
         requires spot { LiesAt spot self.old }
         requires filled { IsFilled self.old.cells index }

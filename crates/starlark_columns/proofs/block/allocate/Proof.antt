@@ -1,8 +1,7 @@
 -- `allocate` asks for an array's block, and keeps its bare cells apart from the right to give it back. Assumes `Logic`.
 use Rattle.starlark_columns.proofs.Walking.{◌≡◌, ℕ, ◌*◌, ◌<◌, ◌^◌, true, false, [], ◌∷◌, refl, sym, ap, subst, arith, lit<, w64, IfOk, Ok, Err, froom, flft, Incl-trans, SProp, ◌⊑◌, fact, tables, inst_fn, Ty, named, ty_array, Val, vint, vptr, vstruct, vcons, vnil, WT, capped_fits, align, capped, Wp, after_seq, at_return, alloc_all, pass_all, free_all, look_at, get, get_in, get_tag, is, sets, sets_last, lands_as, env, After, any_q, ‵, raw, ◌⊛◌, later, at_ret, ◌$◌, ◌∵◌, !, qed, by, move, keep, use0, use1, use2, split, join, rewrite, fsplit, fjoin, await, live, vrt, in_variant, whole, agg, stop, fld, lit, size_word, align_word, no_more, and_then, of_opd, bin, first, switches_on, exec, returns, enter, param, uint_vals, uint_Tells, RattleType, owns, Ptr, block_ptr, shr_vals, shr_Tells, types_at, heard, nothing, Tuple, calls_at, framed, Tuple, tuple_type, walk_of, Al, token, Answer-typed, Takes, at_takes, Answered, Takes-goes, Takes-gives, answers, El, elτ, after, head, arm_body, uncapped, block_ty, block_size, block_align, args, proved, leaves, type_size, FitsInBlock, ok_of, R, empties, tells, spent, drops, drops_go, InBlock, toks}
-use denote.Struct.Declared as Declared
 use Rattle.core.specs.contracts as core
-use Rattle.starlark_columns.proofs.RowValues.{word, mark, marked, address_made, AddressOf, RowOf, ClaimOf, no_block, refused, some_weight, as_struct, here, row_of_room}
+use Rattle.starlark_columns.proofs.RowValues.{word, mark, marked, address_made, AddressOf, RowOf, ClaimOf, no_block, refused, some_weight, as_struct, declared, here, row_of_room}
 use Rattle.starlark_columns.specs.contracts.block.allocate as contract
 use Rattle.starlark_columns.proofs.block.allocate as routine
 
@@ -46,7 +45,7 @@ allocate_spec 𝓤 𝓛 𝓜 𝓡 wired X U L LU g d dd met _ =
     use1 𝓛 (‵ (froom (ty_array (elτ E) many) b o)) (𝓛.laws.raw-room (ty_array (elτ E) many) b o) $ use1 𝓛 (‵ (Own.own_val x.1 (mark ∷ []))) (row_of_room E 𝓛 many b o below) $ move ! (1 ∷ []) $
     rewrite ! 0 ‵ (sym (some_weight (many * each) (token Z giver τ p) some)) refl $ marked ! (R E) $ nothing ! $ move ! (1 ∷ 0 ∷ []) $ fjoin ! $ move ! (1 ∷ 0 ∷ []) $ fjoin ! $
     use0 𝓛 (‵ (At.own_val x.0 (word p ∷ []))) (address_made (R E) 𝓛 p) $ fjoin ! $
-    use1 𝓛 (‵ (Three.own_val x (inner ∷ []))) (as_struct 𝓛 (Declared.shape (tuple_type (At ∷ Own ∷ Right ∷ []))) (x.0, (x.1, (x.2, tt))) (word p ∷ [], (mark ∷ [], (mark ∷ [], tt)))) $
+    use1 𝓛 (‵ (Three.own_val x (inner ∷ []))) (as_struct 𝓛 (declared (tuple_type (At ∷ Own ∷ Right ∷ []))) (x.0, (x.1, (x.2, tt))) (word p ∷ [], (mark ∷ [], (mark ∷ [], tt)))) $
     use1 𝓛 (‵ (Out.own_val (Ok x) (outer ∷ []))) (ok_of 𝓛 Three core.alloc.AllocError.the_row x inner) $
     tells ! (Promised (Ok x)) (refl, refl, refl, refl, refl, tt) $ spent ! 2 $ keep ! (3 ∷ 0 ∷ 2 ∷ 1 ∷ []) $ by ! (leaves 𝓛 En hs c bound outer (Ok x) (tt, (tt, tt)) (tt, (tt, tt))))
     (λ e. let bare : WT no_block = (record { fits = lit< tt }, (tt, tt)) in

@@ -1,7 +1,7 @@
 -- `allocate_pair` asks for a block of two arrays, and cuts it into the cells of both and the right to give it back. Assumes `Logic`.
-use Rattle.starlark_columns.proofs.Walking.{◌≡◌, ℕ, ◌+◌, ◌*◌, ◌<◌, ◌^◌, true, false, [], ◌∷◌, refl, sym, ap, ◌∙◌, lit<, w64, IfOk, Ok, Err, fsep, froom, flft, Incl-trans, SProp, ◌⊑◌, fact, tables, inst_fn, bare, Ty, named, ty_array, a_type, dcons, dnil, Val, vint, vptr, vstruct, vcons, vnil, WT, capped, size-raw, align-raw, Wp, after_seq, at_return, alloc_all, pass_all, free_all, look_at, get, get_in, get_tag, sets, sets_last, lands_as, env, After, any_q, ‵, raw, ◌⊛◌, later, at_ret, ◌$◌, ◌∵◌, !, qed, by, move, keep, use0, use1, use2, split, split3, join, group, rewrite, fsplit, fjoin, feq_i, await, live, vrt, in_variant, whole, agg, stop, fld, lit, no_more, and_then, of_opd, first, switches_on, exec, returns, enter, param, bounded, uint_vals, uint_Tells, RattleType, owns, Ptr, block_ptr, shr_vals, shr_Tells, types_at, heard, Tuple, calls_at, framed, walk_of, Al, token, Answer-typed, Takes, at_takes, Answered, Takes-goes, Takes-gives, answers, El, elτ, HasLayout, after, head, arm_body, proved, leaves, type_size, ok_of, R, empties, tells, spent, drops, drops_go, toks}
+use Rattle.starlark_columns.proofs.Walking.{◌≡◌, ℕ, ◌+◌, ◌*◌, ◌<◌, ◌^◌, true, false, [], ◌∷◌, refl, sym, ap, ◌∙◌, lit<, w64, IfOk, Ok, Err, fsep, froom, flft, Incl-trans, SProp, ◌⊑◌, fact, tables, inst_fn, bare, Ty, named, ty_array, a_type, dcons, dnil, Val, vint, vptr, vstruct, vcons, vnil, WT, capped, size-raw, align-raw, Wp, after_seq, at_return, alloc_all, pass_all, free_all, look_at, get, get_in, get_tag, sets, sets_last, lands_as, env, After, any_q, ‵, raw, ◌⊛◌, later, at_ret, ◌$◌, ◌∵◌, !, qed, by, move, keep, use0, use1, use2, split, split3, join, rewrite, fsplit, fjoin, feq_i, await, live, vrt, in_variant, whole, agg, stop, fld, lit, no_more, and_then, of_opd, first, switches_on, exec, returns, enter, param, bounded, uint_vals, uint_Tells, RattleType, owns, Ptr, block_ptr, shr_vals, shr_Tells, types_at, heard, nothing, Tuple, tuple_type, calls_at, framed, walk_of, Al, token, Answer-typed, Takes, at_takes, Answered, Takes-goes, Takes-gives, answers, El, elτ, HasLayout, after, head, arm_body, proved, leaves, type_size, ok_of, R, empties, tells, spent, drops, drops_go, toks}
 use Rattle.core.specs.contracts as core
-use Rattle.starlark_columns.proofs.RowValues.{word, mark, marked, four, address_made, AddressOf, RowOf, PairClaimOf, no_block, refused, cut_in_two, some_weight, both_within, two_arrays, pair_ty, second_offset, skipped, rooms_rejoin, here, row_of_room}
+use Rattle.starlark_columns.proofs.RowValues.{word, mark, marked, as_struct, declared, address_made, AddressOf, RowOf, PairClaimOf, no_block, refused, cut_in_two, some_weight, both_within, two_arrays, pair_ty, second_offset, skipped, rooms_rejoin, here, row_of_room}
 use Rattle.starlark_columns.specs.contracts.block.allocate_pair as contract
 use Rattle.starlark_columns.proofs.block.allocate_pair as routine
 
@@ -53,8 +53,8 @@ allocate_pair_spec 𝓤 𝓛 𝓜 𝓡 wired X Y U L LY LU g d dd met _ =
     use1 𝓛 (‵ (Own.own_val x.1 (mark ∷ []))) (row_of_room E 𝓛 n b o less.0) $ move ! (1 ∷ []) $ use1 𝓛 (‵ (Bwn.own_val x.2 (mark ∷ []))) (row_of_room F 𝓛 n b (o + far) less.1) $ move ! (3 ∷ 2 ∷ []) $ fjoin ! $
     -- [the right with the way back; the second cells; the first; the tokens]
     rewrite ! 0 ‵ (sym (some_weight (n * (s + t)) (fsep (token Z h τ p) (rooms_rejoin (elτ E) (elτ F) p r n)) some)) refl $ feq_i ! (Ptr × Ptr) (p, r) (p, r) refl $ fjoin ! $ marked ! (R E) $
-    use0 𝓛 (‵ (At.own_val x.0 (word p ∷ []))) (address_made (R E) 𝓛 p) $ move ! (0 ∷ 3 ∷ 2 ∷ 1 ∷ []) $ group ! 4 $
-    use1 𝓛 (‵ (Four.own_val x (u ∷ []))) (four 𝓛 At Own Bwn Right x.0 x.1 x.2 x.3 (word p) mark mark mark) $
+    use0 𝓛 (‵ (At.own_val x.0 (word p ∷ []))) (address_made (R E) 𝓛 p) $ nothing ! $ move ! (2 ∷ 0 ∷ []) $ fjoin ! $ move ! (2 ∷ 0 ∷ []) $ fjoin ! $ move ! (2 ∷ 0 ∷ []) $ fjoin ! $ move ! (1 ∷ 0 ∷ []) $ fjoin ! $
+    use1 𝓛 (‵ (Four.own_val x (u ∷ []))) (as_struct 𝓛 (declared (tuple_type (At ∷ Own ∷ Bwn ∷ Right ∷ []))) (x.0, (x.1, (x.2, (x.3, tt)))) (word p ∷ [], (mark ∷ [], (mark ∷ [], (mark ∷ [], tt))))) $
     use1 𝓛 (‵ (Out.own_val (Ok x) (w ∷ []))) (ok_of 𝓛 Four core.alloc.AllocError.the_row x u) $
     tells ! (Told (Ok x)) (refl, refl, refl, refl, refl, refl, refl) $ spent ! 4 $ keep ! (3 ∷ 0 ∷ 2 ∷ 1 ∷ []) $ by ! (leaves 𝓛 En hs c y w (Ok x) (tt, (tt, (tt, (tt, tt)))) (tt, (tt, (tt, (tt, tt))))))
     (λ e. let none : WT no_block = (record { fits = lit< tt }, (tt, tt)) in

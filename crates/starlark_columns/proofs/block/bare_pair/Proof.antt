@@ -1,6 +1,6 @@
 -- `bare_pair` makes cells of no bytes out of nothing, and a right to nothing. Assumes `Logic`.
-use Rattle.starlark_columns.proofs.Walking.{◌≡◌, ℕ, ◌+◌, ◌*◌, [], ◌∷◌, refl, sym, arith, w64, fsep, flft, ◌⊑◌, fact, inst_fn, bare, a_type, named, dcons, dnil, Val, vint, vptr, vstruct, vcons, vnil, alloc_all, pass_all, free_all, look_at, get, sets, ‵, raw, ◌⊛◌, ◌$◌, ◌∵◌, !, qed, by, move, keep, use0, use1, split, group, fjoin, feq_i, rewrite, agg, stop, from, addr, and_then, no_more, returns, enter, lone, param, bounded, uint_vals, uint_Tells, RattleType, owns, Ptr, block_ptr, shr_vals, shr_Tells, types_at, heard, nothing, Tuple, walk_of, El, proved, leaves, type_size, R, tells, spent, drops, drops_go, toks}
-use Rattle.starlark_columns.proofs.RowValues.{word, mark, marked, four, address_made, AddressOf, RowOf, PairClaimOf, no_weight, two_arrays, rooms_rejoin, skipped, here, row_of_none}
+use Rattle.starlark_columns.proofs.Walking.{◌≡◌, ℕ, ◌+◌, ◌*◌, [], ◌∷◌, refl, sym, arith, w64, fsep, flft, ◌⊑◌, fact, inst_fn, bare, a_type, named, dcons, dnil, Val, vint, vptr, vstruct, vcons, vnil, alloc_all, pass_all, free_all, look_at, get, sets, ‵, raw, ◌⊛◌, ◌$◌, ◌∵◌, !, qed, by, move, keep, use0, use1, split, fjoin, feq_i, rewrite, agg, stop, from, addr, and_then, no_more, returns, enter, lone, param, bounded, uint_vals, uint_Tells, RattleType, owns, Ptr, block_ptr, shr_vals, shr_Tells, types_at, heard, nothing, Tuple, tuple_type, walk_of, El, proved, leaves, type_size, R, tells, spent, drops, drops_go, toks}
+use Rattle.starlark_columns.proofs.RowValues.{word, mark, marked, as_struct, declared, address_made, AddressOf, RowOf, PairClaimOf, no_weight, two_arrays, rooms_rejoin, skipped, here, row_of_none}
 use Rattle.starlark_columns.specs.contracts.block.bare_pair as contract
 use Rattle.starlark_columns.proofs.block.bare_pair as routine
 
@@ -30,7 +30,7 @@ bare_pair_spec 𝓤 𝓛 𝓜 𝓡 wired X Y U L LY LU g d dd met _ =
     let owed = fsep (g.dealloc_token a.0.now (bare (two_arrays (lone (R E).mir) (lone S.mir) n)) p) (rooms_rejoin (lone (R E).mir) (lone S.mir) p r n) in
     nothing ! $ rewrite ! 0 ‵ (sym (no_weight weight owed light)) refl $ feq_i ! (Ptr × Ptr) (p, r) (p, r) refl $ fjoin ! $ marked ! (R E) $
     use0 𝓛 (‵ (Bwn.own_val x.2 (mark ∷ []))) (row_of_none F 𝓛 n (l 3) (0 + far) second) $ use0 𝓛 (‵ (Own.own_val x.1 (mark ∷ []))) (row_of_none E 𝓛 n (l 3) 0 first) $
-    use0 𝓛 (‵ (At.own_val x.0 (word p ∷ []))) (address_made (R E) 𝓛 p) $ group ! 4 $
-    use1 𝓛 (‵ (Four.own_val x (v ∷ []))) (four 𝓛 At Own Bwn Right x.0 x.1 x.2 x.3 (word p) mark mark mark) $
+    use0 𝓛 (‵ (At.own_val x.0 (word p ∷ []))) (address_made (R E) 𝓛 p) $ nothing ! $ move ! (4 ∷ 0 ∷ []) $ fjoin ! $ move ! (3 ∷ 0 ∷ []) $ fjoin ! $ move ! (2 ∷ 0 ∷ []) $ fjoin ! $ move ! (1 ∷ 0 ∷ []) $ fjoin ! $
+    use1 𝓛 (‵ (Four.own_val x (v ∷ []))) (as_struct 𝓛 (declared (tuple_type (At ∷ Own ∷ Bwn ∷ Right ∷ []))) (x.0, (x.1, (x.2, (x.3, tt)))) (word p ∷ [], (mark ∷ [], (mark ∷ [], (mark ∷ [], tt))))) $
     tells ! ((p ≡ p) × (x.1.cells ≡ x.1.cells) × (x.2.cells ≡ x.2.cells) × (p ≡ p) × (r ≡ r) × (n ≡ n)) (refl, refl, refl, refl, refl, refl) $ spent ! 2 $
     move ! (3 ∷ 0 ∷ 2 ∷ 1 ∷ []) $ by ! (leaves 𝓛 En hs c y v x (tt, (tt, tt)) (tt, (tt, tt))))))

@@ -1,19 +1,20 @@
 -- `Row` as a type that may hold the type that holds it, by its cells.
-use Rattle.std.specs.Prelude.{◌≡◌, ◌*◌, ◌^◌, List, [], ◌∷◌, length, Option, Some, None}
+use Rattle.std.specs.Prelude.{◌≡◌, ◌+◌, ◌*◌, ◌^◌, List, [], ◌∷◌, length, Option, Some, None}
 use Rattle.std.specs.Mem.{type_size}
+use Rattle.std.specs.Coded.{coded_option, option_cases}
 use mathlib.Core.Path.{refl, sym, ap, ◌∙◌}
 use mathlib.Core.Logic.{◌⊎◌, inl, inr}
 use mathlib.Core.Former.{Former, this, const, pair, or, list, via}
 use lib.ListN.{length-map}
 use base.Fraction.{full_share}
 use base.Fml.{ftrue, fsep, flt, froom}
-use base.Stored.{code_map, coded⊎, coded_unit, gcons, gnil, gnum}
+use base.Stored.{code_map, gcons, gnil, gnum}
 use mir.Raw.{raw}
 use prog.Memory.{size}
 use denote.RattleType.{RattleType}
-use denote.RawPtr.{Ptr, block_ptr, null_ptr, coded_ptr, in_block, block_of, count_of, ◌+ₚ◌}
+use denote.RawPtr.{Ptr, block_ptr, null_ptr, coded_ptr, in_block, ◌+ₚ◌}
 use denote.Memory.{lone, part_of, raw_all}
-use denote.Sharing.{said, beside}
+use denote.Sharing.{said, nothing, beside}
 use denote.Struct.Struct.{Struct}
 use denote.Struct.Owning.{shape, to}
 use denote.HoleLaws.{Alike}
@@ -22,7 +23,7 @@ use denote.Param.Weighed.{Weighed, w_const, w_pair, w_or, w_via, w_list}
 use Rattle.std.specs.declared.marker.PhantomData.{PhantomData}
 use Rattle.starlark_columns.specs.declared.row.Row.{Row}
 use Rattle.starlark_columns.specs.contracts.row.Row as row
-use Rattle.starlark_columns.specs.Ownership.{cell_owned, cells_owned, row_owned, cell_lent, cells_lent, within_lent, row_lent}
+use Rattle.starlark_columns.specs.Ownership.{cell_owned, cells_owned, cell_lent, cells_lent, within_lent}
 
 -- ---- a cell, which is empty or holds an item
 module _ {X : Type 0} where
@@ -34,19 +35,15 @@ module _ {X : Type 0} where
   of_cases (inl u) = None
   of_cases (inr x) = Some x
 
-  pub of_cases-cell_cases : (c : Option X) → of_cases (cell_cases c) ≡ c
-  of_cases-cell_cases None = refl
-  of_cases-cell_cases (Some x) = refl
-
   pub cell_cases-of_cases : (c : Unit {0} ⊎ X) → cell_cases (of_cases c) ≡ c
   cell_cases-of_cases (inl u) = refl
   cell_cases-of_cases (inr x) = refl
 
 abbrev pub cell : Former {0} → Former {0}
-cell g = via (or (const (Unit {0})) g) (λ X. Option (g.Of X)) (λ X. cell_cases) (λ X. of_cases) (λ X. of_cases-cell_cases) (λ X. cell_cases-of_cases)
+cell g = via (or (const (Unit {0})) g) (λ X. Option (g.Of X)) (λ X. cell_cases) (λ X. of_cases) (λ X. option_cases) (λ X. cell_cases-of_cases)
 
 abbrev pub weighed_cell : {g : Former {0}} → Weighed g → Weighed (cell g)
-weighed_cell {g} w = w_via (w_or (w_const (Unit {0})) w) (λ X. Option (g.Of X)) (λ X. cell_cases) (λ X. of_cases) (λ X. of_cases-cell_cases) (λ X. cell_cases-of_cases)
+weighed_cell {g} w = w_via (w_or (w_const (Unit {0})) w) (λ X. Option (g.Of X)) (λ X. cell_cases) (λ X. of_cases) (λ X. option_cases) (λ X. cell_cases-of_cases)
 
 -- ---- the cells
 abbrev pub the_former : Former {0} → Former {0}
@@ -67,9 +64,6 @@ mapped {X} {Y} h = (list (cell this)).map X Y h
 
 module _ (R R' : RattleType) (h : R.Denot → R'.Denot) where
   module _ (a : Alike R R' h) where
-    sizes : type_size R' ≡ type_size R
-    sizes = λ i. size (lone (a.mir_same i))
-
     cell_placed : (p : Ptr) (c : Option R.Denot) → cell_owned R' p (mapped_cell h c) ≡ cell_owned R p c
     unfolding part_of
     cell_placed null_ptr None = refl
@@ -79,40 +73,29 @@ module _ (R R' : RattleType) (h : R.Denot → R'.Denot) where
 
     cells_placed : (p : Ptr) (cs : List (Option R.Denot)) → cells_owned R' p (mapped h cs) ≡ cells_owned R p cs
     cells_placed p [] = refl
-    cells_placed p (c ∷ cs) = (λ i. fsep (cell_placed p c i) (cells_placed (p +ₚ type_size R') cs i)) ∙ (λ i. fsep (cell_owned R p c) (cells_owned R (p +ₚ sizes i) cs))
+    cells_placed p (c ∷ cs) = (λ i. fsep (cell_placed p c i) (cells_placed (p +ₚ type_size R') cs i)) ∙ (λ i. fsep (cell_owned R p c) (cells_owned R (p +ₚ size (lone (a.mir_same i))) cs))
 
     bound_placed : (cs : List (Option R.Denot)) → flt (length (mapped h cs) * type_size R') (2 ^ 63) ≡ flt (length cs * type_size R) (2 ^ 63)
-    bound_placed cs = λ i. flt (length-map cs (mapped_cell h) i * sizes i) (2 ^ 63)
-
-    row_placed : (p : Ptr) (cs : List (Option R.Denot)) → row_owned R' p (mapped h cs) ≡ row_owned R p cs
-    row_placed p cs = λ i. fsep (bound_placed cs i) (in_block p (cells_placed p cs i))
-
-    cell_lent_placed : (p : Ptr) (c : Option R.Denot) → cell_lent R' p (mapped_cell h c) ≡ cell_lent R p c
-    cell_lent_placed p None = refl
-    cell_lent_placed p (Some x) = λ i. beside (said (in_block p ftrue)) (a.shr_same x i (block_of p) (count_of p))
-
-    cells_lent_placed : (p : Ptr) (cs : List (Option R.Denot)) → cells_lent R' p (mapped h cs) ≡ cells_lent R p cs
-    cells_lent_placed p [] = refl
-    cells_lent_placed p (c ∷ cs) = (λ i. beside (cell_lent_placed p c i) (cells_lent_placed (p +ₚ type_size R') cs i)) ∙ (λ i. beside (cell_lent R p c) (cells_lent R (p +ₚ sizes i) cs))
+    bound_placed cs = λ i. flt (length-map cs (mapped_cell h) i * size (lone (a.mir_same i))) (2 ^ 63)
 
     within_placed : (p : Ptr) (cs : List (Option R.Denot)) → within_lent R' p (mapped h cs) ≡ within_lent R p cs
     within_placed null_ptr cs = refl
-    within_placed (block_ptr b o) cs = cells_lent_placed (block_ptr b o) cs
-
-    row_lent_placed : (p : Ptr) (cs : List (Option R.Denot)) → row_lent R' p (mapped h cs) ≡ row_lent R p cs
-    row_lent_placed p cs = λ i. beside (said (bound_placed cs i)) (within_placed p cs i)
+    within_placed (block_ptr b o) [] = refl
+    within_placed (block_ptr b o) (None ∷ cs) = (λ i. beside nothing (within_placed (block_ptr b (o + type_size R')) cs i)) ∙ (λ i. beside nothing (cells_lent R (block_ptr b (o + size (lone (a.mir_same i)))) cs))
+    within_placed (block_ptr b o) (Some x ∷ cs) = (λ i. beside (beside (said ftrue) (a.shr_same x i b o)) (within_placed (block_ptr b (o + type_size R')) cs i))
+        ∙ (λ i. beside (cell_lent R (block_ptr b o) (Some x)) (cells_lent R (block_ptr b (o + size (lone (a.mir_same i)))) cs))
 
   pub the_places : Alike R R' h → Alike (row.the_row R) (row.the_row R') ((the_former this).map R.Denot R'.Denot h)
   the_places a = record {
     mir_same = refl;
-    own_same = λ d i vs. fsep ((Struct (shape (row.the_type R))).own_val (to (row.the_type R) d) vs) (row_placed a d.at d.cells i);
-    shr_same = λ d i b o. beside ((Struct (shape (row.the_type R))).shr_at (to (row.the_type R) d) b o) (row_lent_placed a d.at d.cells i);
+    own_same = λ d i vs. fsep ((Struct (shape (row.the_type R))).own_val (to (row.the_type R) d) vs) (fsep (bound_placed a d.cells i) (in_block d.at (cells_placed a d.at d.cells i)));
+    shr_same = λ d i b o. beside ((Struct (shape (row.the_type R))).shr_at (to (row.the_type R) d) b o) (beside (said (bound_placed a d.cells i)) (within_placed a d.at d.cells i));
   }
 
-  pub cell_recoded : Recodes R R' h → (c : Option R.Denot) → (coded⊎ coded_unit R.coded).code (cell_cases c) ≡ (coded⊎ coded_unit R'.coded).code (cell_cases (mapped_cell h c))
+  pub cell_recoded : Recodes R R' h → (c : Option R.Denot) → (coded_option R.coded).code c ≡ (coded_option R'.coded).code (mapped_cell h c)
   cell_recoded e None = refl
   cell_recoded e (Some x) = ap (gcons (gnum 1)) (sym (e x))
 
   pub the_codes_placed : Recodes R R' h → Recodes (row.the_row R) (row.the_row R') ((the_former this).map R.Denot R'.Denot h)
   the_codes_placed e d = ap (λ x. gcons (gcons gnil gnil) (gcons (coded_ptr.code d.at) (gcons x gnil)))
-      (sym (code_map (λ c. (coded⊎ coded_unit R.coded).code (cell_cases c)) (λ c. (coded⊎ coded_unit R'.coded).code (cell_cases c)) (mapped_cell h) (cell_recoded e) d.cells))
+      (sym (code_map (coded_option R.coded).code (coded_option R'.coded).code (mapped_cell h) (cell_recoded e) d.cells))

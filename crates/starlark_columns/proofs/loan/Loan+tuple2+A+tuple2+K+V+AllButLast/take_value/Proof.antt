@@ -1,6 +1,5 @@
 -- `take_value` hands out the key and the value of the next cell, of which the value alone is written. Assumes `Logic`.
-use Rattle.starlark_columns.proofs.Walking.{◌≡◌, ℕ, suc, ◌+◌, ◌*◌, ◌<◌, ◌^◌, Option, Some, get_or, List, [], ◌∷◌, refl, sym, ap, subst, arith, w64, GName, Incl-trans, flft, full_share, SProp, never, id⊢, ◌⊑◌, Lfts, fact, tables, inst_fn, a_type, named, Val, vint, vptr, vstruct, vcons, vnil, alloc_all, pass_all, free_all, look_at, get, through, is, sets, sets_last, env, Item, ‵, raw, ◌⊛◌, some, later, at_ret, ◌$◌, ◌∵◌, !, qed, by, move, keep, use2, split, split3, join, pick, rewrite, fsplit, fsplit3, fjoin, fjoin3, feq_i, await, whole, sub, look_in, agg, and_then, no_more, stop, fld, load, bin, addr, size_word, of_opd, first, blocks, exec, returns, enter, usize, yes, shows, cell_at, param, layouts, param_laws, uint_vals, uint_Tells, RattleType, owns, Ptr, in_a_block, Bor, MutBor, MutRef, ShrRef, mut_vals, mut_Tells, plain, named_lft, types_at, heard, peeks, opens, closes, Tuple, Stays, stay_ref, stay_dropped, walk_of, Goes-ref, Goes-dropped, after, uncapped, proved, leaves, type_size, option_map, IsFilled, learn, block_ptr, tells, spent, toks}
-use Rattle.std.proofs.Common.{None, drop}
+use Rattle.starlark_columns.proofs.Walking.{◌≡◌, ℕ, suc, ◌+◌, ◌*◌, ◌<◌, ◌^◌, Option, Some, get_or, List, [], ◌∷◌, refl, sym, ap, subst, arith, w64, GName, Incl-trans, flft, full_share, SProp, never, id⊢, ◌⊑◌, Lfts, fact, tables, inst_fn, a_type, named, Val, vint, vptr, vstruct, vcons, vnil, alloc_all, pass_all, free_all, look_at, get, through, is, sets, sets_last, env, Item, ‵, raw, ◌⊛◌, some, later, at_ret, ◌$◌, ◌∵◌, !, qed, by, move, keep, use2, split, split3, join, pick, rewrite, fsplit, fsplit3, fjoin, fjoin3, feq_i, await, whole, sub, look_in, agg, and_then, no_more, stop, fld, load, bin, addr, size_word, of_opd, first, blocks, exec, returns, enter, usize, yes, shows, cell_at, param, layouts, param_laws, uint_vals, uint_Tells, RattleType, owns, Ptr, in_a_block, Bor, MutBor, MutRef, ShrRef, mut_vals, mut_Tells, plain, named_lft, types_at, heard, peeks, opens, closes, Tuple, Stays, stay_ref, stay_dropped, walk_of, Goes-ref, Goes-dropped, after, uncapped, proved, leaves, type_size, option_map, IsFilled, learn, block_ptr, tells, spent, toks, list_drop, None}
 use Rattle.starlark_columns.proofs.EntryOut.{Value, value_out, part, first_at, second_at, as_tuple}
 use Rattle.starlark_columns.proofs.LentCells.{Off, item_off, loan_told, lent_from}
 use Rattle.starlark_columns.specs.contracts.loan as loan
@@ -26,7 +25,7 @@ take_value_spec 𝓤 𝓛 𝓜 𝓡 wired X Y Z L LY LZ =
     in_a_block ! d.start (λ p. lent_from ι K g.kept p d.from d.name d.rest) (id⊢ 𝓤 (never 𝓤)) (λ b o at. rewrite ! 0 (λ (k : ℕ). ‵ (lent_from ι K g.kept (block_ptr b o) k d.name d.rest)) (sym next) refl $
     use2 𝓛 (later (some (Off K g.kept g.itself 𝓛 ι r b o i d.name d.rest full))) (item_off K g.kept g.itself 𝓛 ι r b o i d.name d.rest full) $ await ! tt $ pick ! (λ γs. learn ! (λ off. split3 ! $
     -- [the item; the cells behind it; the token of ι; the fields; their cell, the open borrow and its names; the others]
-    let x : One = full.0 in let ps : List (Option One) = drop 1 d.rest in let begin : ℕ = i * s + o in let far = off.1 in let word = loan_told (named_lft 5 1 tt κs) K loan.AllButLast.the_row g d vs b o shown at in
+    let x : One = full.0 in let ps : List (Option One) = list_drop 1 d.rest in let begin : ℕ = i * s + o in let far = off.1 in let word = loan_told (named_lft 5 1 tt κs) K loan.AllButLast.the_row g d vs b o shown at in
     rewrite ! 4 (λ (ws : List Val). ‵ (cell_at full_share R.mir ws rb ro)) word refl $ first ! $ blocks ! $
     sets ! (of_opd ! (load ! (through ! refl (fld ! refl (stop !))) (look_in ! 4 (sub ! 0 refl (whole !))))) refl (tt, tt) $
     sets ! (is ! (bin ! (get ! refl) (size_word !) (record { fits = subst (λ (k : ℕ). k < 2 ^ 64) (sym (uncapped i s far)) far })) (ap (vint w64) (uncapped i s far))) refl (tt, record { fits = far }) $
@@ -46,6 +45,6 @@ take_value_spec 𝓤 𝓛 𝓜 𝓡 wired X Y Z L LY LZ =
     move ! (4 ∷ 5 ∷ []) $ join ! $ move ! (2 ∷ 0 ∷ []) $ join ! $ move ! (2 ∷ 3 ∷ []) $
     use2 𝓛 (‵ ((Tuple (ShrRef (named 1) ι B ∷ MutRef (named 1) ι V ∷ [])).own_val (k, v) (out ∷ []))) (as_tuple 𝓛 (ShrRef (named 1) ι B) (MutRef (named 1) ι V) k v (vptr b k.ref_ptr.1) (vptr b v.ref_ptr.1)) $
     -- [the references; the tokens; self]
-    tells ! (d.tie ≡ d.tie) refl $ tells ! (suc i ≡ d.from + 1) (omega arith) $ join ! $ tells ! (ps ≡ drop 1 d.rest) refl $ join ! $
+    tells ! (d.tie ≡ d.tie) refl $ tells ! (suc i ≡ d.from + 1) (omega arith) $ join ! $ tells ! (ps ≡ list_drop 1 d.rest) refl $ join ! $
     tells ! (option_map (λ (e : One). e.1) (get_or d.rest 0 None) ≡ Some x.1) (ap (option_map (λ (e : One). e.1)) full.1) $ join ! $
     move ! (2 ∷ 3 ∷ 1 ∷ 0 ∷ []) $ by ! (leaves 𝓛 En hs c y out (k, v) (new, (tt, tt)) (tt, (tt, tt))))))))))))))

@@ -1,6 +1,5 @@
 -- `skip` passes over a cell, which stays as it is. Assumes `Logic`.
-use Rattle.starlark_columns.proofs.Walking.{◌≡◌, ℕ, suc, ◌+◌, ◌<◌, Option, List, [], ◌∷◌, length, refl, sym, arith, flft, SProp, never, id⊢, ◌⊑◌, Lfts, fact, tables, inst_fn, a_type, named, dcons, dnil, Val, vptr, vunit, alloc_all, pass_all, free_all, look_at, sets, ‵, raw, ◌⊛◌, some, later, ◌$◌, ◌∵◌, !, qed, by, move, keep, use2, split, split3, join, pick, rewrite, fsplit, fsplit3, fjoin, fjoin3, feq_i, await, unit_lit, of_opd, returns, enter, param, bounded, RattleType, owns, Ptr, in_a_block, mut_vals, mut_Tells, plain, named_lft, types_at, heard, nothing, opens, closes, Stays, stay_ref, walk_of, Goes-ref, proved, leaves, type_size, tells, toks}
-use Rattle.std.proofs.Common.{drop}
+use Rattle.starlark_columns.proofs.Walking.{◌≡◌, ℕ, suc, ◌+◌, ◌<◌, Option, List, [], ◌∷◌, length, refl, sym, arith, flft, SProp, never, id⊢, ◌⊑◌, Lfts, fact, tables, inst_fn, a_type, named, dcons, dnil, Val, vptr, vunit, alloc_all, pass_all, free_all, look_at, sets, ‵, raw, ◌⊛◌, some, later, ◌$◌, ◌∵◌, !, qed, by, move, keep, use2, split, split3, join, pick, rewrite, fsplit, fsplit3, fjoin, fjoin3, feq_i, await, unit_lit, of_opd, returns, enter, param, bounded, RattleType, owns, Ptr, in_a_block, mut_vals, mut_Tells, plain, named_lft, types_at, heard, nothing, opens, closes, Stays, stay_ref, walk_of, Goes-ref, proved, leaves, type_size, tells, toks, list_drop}
 use Rattle.starlark_columns.proofs.LentCells.{Left, cell_off, lent_from}
 use Rattle.starlark_columns.specs.contracts.loan.Loan as loan
 use Rattle.starlark_columns.specs.contracts.loan.Loan.skip as contract
@@ -24,7 +23,7 @@ skip_spec 𝓤 𝓛 𝓜 𝓡 wired X P L LP g dict _ =
     in_a_block ! d.start (λ p. lent_from ι K g.kept p d.from d.name d.rest) (id⊢ 𝓤 (never 𝓤)) (λ b o at.
     use2 𝓛 (later (some (Left K g.kept g.itself 𝓛 ι r b o d.from d.name d.rest))) (cell_off K g.kept g.itself 𝓛 ι r b o d.from d.name d.rest asked) $ await ! tt $ pick ! (λ δ. split ! $
     -- [the cells behind it; the token of ι; the fields; their cell, the open borrow and its names; the others]
-    let ps : List (Option X.Denot) = drop 1 d.rest in
+    let ps : List (Option X.Denot) = list_drop 1 d.rest in
     rewrite ! 0 (λ (z : Ptr). ‵ (lent_from ι K g.kept z (suc d.from) δ ps)) (sym at) refl $ move ! (2 ∷ 0 ∷ []) $ fjoin ! $ move ! (2 ∷ 0 ∷ 3 ∷ 4 ∷ 5 ∷ []) $
     let new : R.Denot = record { start = d.start; mark = d.mark; name = δ; tie = d.tie; from = suc d.from; rest = ps } in
     closes ! tt R new vs rb ro $ sets ! (of_opd ! (unit_lit !)) refl (tt, tt) $ returns ! (look_at ! 0 refl) $ free_all ! refl $
@@ -32,5 +31,5 @@ skip_spec 𝓤 𝓛 𝓜 𝓡 wired X P L LP g dict _ =
     feq_i ! (List Val) (vptr rb ro ∷ []) (vptr rb ro ∷ []) refl $ fjoin3 ! $ nothing ! $ move ! (1 ∷ 0 ∷ []) $ fjoin ! $
     -- [self; the tokens of κ, ι; the others]
     move ! (2 ∷ 3 ∷ []) $ join ! $ move ! (2 ∷ 0 ∷ []) $ join ! $ feq_i ! (List Val) (vunit ∷ []) (vunit ∷ []) refl $
-    tells ! (d.tie ≡ d.tie) refl $ tells ! (suc d.from ≡ d.from + 1) (omega arith) $ join ! $ tells ! (ps ≡ drop 1 d.rest) refl $ join ! $
+    tells ! (d.tie ≡ d.tie) refl $ tells ! (suc d.from ≡ d.from + 1) (omega arith) $ join ! $ tells ! (ps ≡ list_drop 1 d.rest) refl $ join ! $
     move ! (2 ∷ 3 ∷ 1 ∷ 0 ∷ []) $ by ! (leaves 𝓛 En hs c y vunit tt (new, tt) (tt, tt))))))))

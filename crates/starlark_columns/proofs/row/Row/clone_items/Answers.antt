@@ -1,13 +1,12 @@
-use Rattle.std.proofs.Common.{[], length, get_or, sym, ap, subst, refl, ◌∙◌, arith}
+use Rattle.std.proofs.Common.{[], get_or, sym, ap, subst, refl, ◌∙◌, arith}
 use Rattle.std.specs.List.{AllZip}
 use Rattle.starlark_columns.specs.Cells.{items_of}
-use Rattle.starlark_columns.proofs.Fronts.{none_at_front, front_empties}
+use Rattle.std.proofs.lemmas.List.{nil_from_length}
 use Rattle.std.proofs.lemmas.List.Elements.{all_zip_more}
 use Rattle.starlark_columns.proofs.row.Row.clone_items.Goals as goal
 
 pub loop-made-init : goal.loop-made-init
-loop-made-init g c = let to = c.args.to.now.cells in let none = (front_empties to (length to) (none_at_front to c.requires.empty)).1 in
-    (c.requires.empty, refl, subst (λ l. AllZip g.T.Clone.is_clone [] l) (sym none) tt, refl)
+loop-made-init g c = (c.requires.empty, refl, subst (λ l. AllZip g.T.Clone.is_clone [] l) (sym (nil_from_length (items_of c.args.to.now.cells) c.requires.empty.count)) tt, refl)
 
 pub loop-made-preserved : goal.loop-made-preserved
 loop-made-preserved g c = let at = c.loop-made in let put = c.push_last.ensures in let item = c.index-items-made.result in

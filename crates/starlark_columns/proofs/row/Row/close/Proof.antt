@@ -1,7 +1,7 @@
 -- `close` takes the places of slots, and forgets what a run of them holds. Assumes `Logic`.
 use Rattle.starlark_columns.proofs.Walking.{◌≡◌, ℕ, ◌*◌, ◌<◌, ◌^◌, Option, Bool, List, [], ◌∷◌, length, refl, sym, subst, ◌∙◌, w64, ftrue, flft, SProp, ◌⊑◌, fact, tables, inst_fn, a_type, named, Val, vunit, vint, vptr, WT, alloc_all, pass_all, free_all, look_at, get, is, sets, lands_last, env, ‵, raw, ◌⊛◌, given, later, at_ret, ◌$◌, ◌∵◌, !, qed, by, move, keep, use1, use2, split, split3, drop, join, learn, rewrite, fsplit, fsplit3, fjoin, fjoin3, feq_i, flt_i, await, unit_lit, no_more, and_then, of_opd, first, blocks, exec, returns, enter, usize, yes, no, layouts, uint_vals, uint_Tells, RattleType, owns, Ptr, block_ptr, mut_vals, mut_Tells, plain, types_at, heard, nothing, opens, closes, calls_at_last, framed, Stays, stay_dropped, stay_ref, walk_of, Goes-dropped, Goes-ref, El, after, Sr, words_val, row_val, row_had, row_made, slots, slots_items, slots_filled, slots_ptr, slots_len, slots_counts, slots_small, proved, leaves, type_size, R, tells, spent}
 use Rattle.core.proofs.slots.Slots.into_raw_parts.Met as callee
-use Rattle.starlark_columns.proofs.RowValues.{RowOf, row_owned, Row, of_slots, empties_run, cells_count, emptied_count, Breaks, at_breaks, breaks_asks, breaks_gives, row_told, row_good, row_typed, cells_of, emptied}
+use Rattle.starlark_columns.proofs.RowValues.{RowOf, row_owned, Row, of_slots, empties_run, cells_count, emptied_count, held, Into, at_into, Into-goes, Into-gives, row_told, row_good, parts_typed, cells_of, emptied}
 use Rattle.starlark_columns.specs.contracts.row.Row.close as contract
 use Rattle.starlark_columns.proofs.row.Row.close as routine
 
@@ -23,12 +23,12 @@ close_spec 𝓤 𝓛 𝓜 𝓡 wired X L =
     enter ! _ _ _ _ _ $ alloc_all ! (λ l. pass_all ! refl ((tt, tt), (row_good p n (slots_small r), ((tt, record { fits = are.1.1.0.1 }), ((tt, record { fits = are.1.1.1.0.1 }), tt)))) $ let Ev = env fn.locals l in
     opens ! tt Own {h = h} rb ro (λ vs. move ! (1 ∷ []) $ fsplit ! $ move ! (1 ∷ []) $ drop ! $ move ! (5 ∷ []) $ row_had E ! r (words_val p n ∷ []) (λ b o at e word small. row_made E ! r b o at word small $
     -- [the slots; the mark; the cell, the open borrow and its names; the item's token]
-    let words : WT (row_val b o n) = (tt, (record { fits = word }, tt)) in let t : (Breaks E 𝓛 𝓜.mem 𝓡.returns).Ghost = at_breaks E 𝓛 𝓜.mem 𝓡.returns ι w r b o in
+    let words : WT (row_val b o n) = (tt, (record { fits = word }, tt)) in let F = held E in let t : (Into F 𝓛 𝓜.mem 𝓡.returns).Ghost = at_into F 𝓛 𝓜.mem 𝓡.returns ι w r b o in
     first ! $ blocks ! $ sets ! (is ! (of_opd ! (get ! refl)) (λ i. words_val (at i) n)) refl (tt, words) $
-    move ! (0 ∷ 6 ∷ []) $ use2 𝓛 (raw ((Breaks E 𝓛 𝓜.mem 𝓡.returns).pre t)) (breaks_asks E 𝓛 𝓜.mem 𝓡.returns ι w r b o lives) $
-    calls_at_last ! (framed 𝓤 H 𝓜 𝓣) (Breaks E 𝓛 𝓜.mem 𝓡.returns) met t (and_then ! (get ! refl) (no_more !)) (λ v.
-    use1 𝓛 (later (given (v ≡ row_val b o n) (‵ (slots (R E) (block_ptr b o) xs fs) ⊛ ‵ (flft ι w)))) (breaks_gives E 𝓛 𝓜.mem 𝓡.returns ι w r b o v at) $ await ! tt $ learn ! (λ got. split ! $
-    lands_last ! refl (row_typed v b o n got word) $ exec ! 𝓣.C 𝓣.Λ Ev (after 1 fn.body) (at_ret Ev Post) $ sets ! (is ! (of_opd ! (get ! refl)) got) refl (tt, words) $ sets ! (of_opd ! (unit_lit !)) refl (tt, tt) $
+    move ! (0 ∷ 6 ∷ []) $ use2 𝓛 (raw ((Into F 𝓛 𝓜.mem 𝓡.returns).pre t)) (Into-goes F 𝓛 𝓜.mem 𝓡.returns ι w r b o lives) $
+    calls_at_last ! (framed 𝓤 H 𝓜 𝓣) (Into F 𝓛 𝓜.mem 𝓡.returns) met t (and_then ! (get ! refl) (no_more !)) (λ v.
+    use1 𝓛 (later (given (v ≡ row_val b o n) (‵ (slots (R E) (block_ptr b o) xs fs) ⊛ ‵ (flft ι w)))) (Into-gives F 𝓛 𝓜.mem 𝓡.returns ι w r b o v at) $ await ! tt $ learn ! (λ got. split ! $
+    lands_last ! refl (parts_typed v b o n got word) $ exec ! 𝓣.C 𝓣.Λ Ev (after 1 fn.body) (at_ret Ev Post) $ sets ! (is ! (of_opd ! (get ! refl)) got) refl (tt, words) $ sets ! (of_opd ! (unit_lit !)) refl (tt, tt) $
     rewrite ! 0 ‵ (of_slots E b xs fs o) refl $ use1 𝓛 (‵ (Row E b o cs)) (empties_run E b 𝓛 from to (cells_of xs fs) o) $
     let counts = slots_counts r in let long : length cs ≡ n = emptied_count from to (cells_of xs fs) ∙ cells_count xs fs (sym counts.1 ∙ counts.0) ∙ sym counts.0 in
     flt_i ! (length cs * s) (2 ^ 63) (subst (λ k. k * s < 2 ^ 63) (sym long) small) $ fjoin ! $ rewrite ! 0 (λ (z : Ptr). ‵ (row_owned (R E) z cs)) (sym at ∙ fits.0) refl $

@@ -6,10 +6,5 @@ pub get_mut-requires-clause-filled : goal.get_mut-requires-clause-filled
 get_mut-requires-clause-filled g c = front_filled c.args.self.now.cells c.args.len c.requires.front c.args.index c.requires.within
 
 pub returns : goal.returns
-returns g c = (
-  (refl {a = c.get_mut.result.ghost_name}, λ w. refl),
-  record {
-    writes_back = tt;
-    value = front_taken c.args.self.now.cells c.args.len c.requires.front c.args.index c.requires.within c.get_mut.result.now c.get_mut.ensures.value;
-  },
-)
+returns g c = let at = front_taken c.args.self.now.cells c.args.len c.requires.front c.args.index c.requires.within c.get_mut.result.now c.get_mut.ensures.value in
+    ((refl {a = c.get_mut.result.ghost_name}, λ w. refl), record { writes_back = tt; value = at })
