@@ -1,5 +1,5 @@
 -- An `Option` that a call gave, opened. Assumes `Logic`.
-use Rattle.starlark_columns.proofs.Walking.{◌≡◌, refl, ap, ◌∙◌, ◌⊎◌, inl, inr, List, [], ◌∷◌, ◌++◌, Ura, named, Val, of_list, vptr, vstruct, vcons, vnil, ent, guard, Lft, Logic, sem, ‵, ◌$◌, ◌∵◌, !, qed, by, keep, fsplit, fpick, feq_l, rewrite, check, done, live, fact, fact_i, RattleType, Is, shows, layout, MutBor, MutRef, peeks, only, Tuple, Good}
+use Rattle.starlark_columns.proofs.Walking.{◌≡◌, refl, ap, ◌∙◌, ◌⊎◌, inl, inr, [], ◌∷◌, Ura, named, Val, of_list, vptr, vstruct, vcons, vnil, ent, Lft, Logic, sem, ‵, ◌$◌, ◌∵◌, !, qed, by, keep, fsplit, fpick, feq_l, live, fact, fact_i, RattleType, MutBor, MutRef, only, Tuple}
 use Rattle.core.specs.declared.option.Option.{Option}
 use Rattle.core.specs.declared.option.Option.TheVariants.{None, Some}
 use Rattle.core.specs.contracts.option.Option as OP
@@ -10,20 +10,10 @@ pub either : {A : Type 0} (o : Option A) → ((x : A) × (o ≡ Some x)) ⊎ (o 
 either (Some x) = inl (x, refl)
 either None = inr refl
 
-module _ {M : Type 1} {𝓤 : Ura M} (𝓛 : Logic 𝓤) (R : RattleType) (v : Val) where
-  -- where the type tells its machine value
-  pub in_some_told : (x : R.Denot) (u : Val) → ((vs : List Val) → Is R x vs → (vs ≡ u ∷ []) × Good (layout R) u)
-      → ent 𝓤 (sem 𝓛 ((OP.the_row R).own_val (Some x) (v ∷ []))) (guard 𝓤 ((v ≡ live 1 (vcons u vnil)) × Good (layout R) u) (sem 𝓛 (R.own_val x (u ∷ []))))
-  in_some_told x u told =
-      qed 𝓛 (‵ ((OP.the_row R).own_val (Some x) (v ∷ [])) ∷ []) ∵ fpick ! (λ us. fsplit ! $ feq_l ! (λ e. fpick ! (λ vss. fsplit ! $ feq_l ! (λ f. fsplit ! $
-      peeks ! R (Is R) (shows 𝓛 R) x vss.0 (λ is. let got = told vss.0 is in
-      rewrite ! 0 (λ (ws : List Val). ‵ (R.own_val x ws)) got.0 refl $
-      check ! (ap only e ∙ ap (λ ws. live 1 (of_list ws)) (f ∙ ap (λ ws. ws ++ []) got.0), got.1) $ keep ! (0 ∷ []) $ done !)))))
-
-  pub in_none : ent 𝓤 (sem 𝓛 ((OP.the_row R).own_val None (v ∷ []))) (fact 𝓤 (v ≡ live 0 vnil))
-  in_none =
-      qed 𝓛 (‵ ((OP.the_row R).own_val None (v ∷ [])) ∷ []) ∵ fpick ! (λ us. fsplit ! $ feq_l ! (λ e. fpick ! (λ vss. fsplit ! $ feq_l ! (λ f.
-      keep ! [] $ by ! (fact_i 𝓤 _ _ (ap only e ∙ ap (λ ws. live 0 (of_list ws)) f))))))
+pub in_none : {M : Type 1} {𝓤 : Ura M} (𝓛 : Logic 𝓤) (R : RattleType) (v : Val) → ent 𝓤 (sem 𝓛 ((OP.the_row R).own_val None (v ∷ []))) (fact 𝓤 (v ≡ live 0 vnil))
+in_none {𝓤 = 𝓤} 𝓛 R v =
+    qed 𝓛 (‵ ((OP.the_row R).own_val None (v ∷ [])) ∷ []) ∵ fpick ! (λ us. fsplit ! $ feq_l ! (λ e. fpick ! (λ vss. fsplit ! $ feq_l ! (λ f.
+    keep ! [] $ by ! (fact_i 𝓤 _ _ (ap only e ∙ ap (λ ws. live 0 (of_list ws)) f))))))
 
 -- `(&mut A, &mut B)`
 abbrev pub PairOf : RattleType → RattleType → Lft → RattleType

@@ -8,7 +8,6 @@ pub mod FrozenPairs
 pub mod Sieving
 pub mod OneSortedList
 pub mod TwoColumns
-pub mod Values
 pub mod Vec2Open
 pub mod WalkRenamed
 pub mod Words

@@ -43,30 +43,24 @@ module _ {X : Type 0} where
   pub cells-rearranged : (xs : List X) (ys : List (ℕ × X)) (n : ℕ) → length xs ≡ n → IsPermutation (enumerate_from 0 xs) ys → IsPermutation (range_with_len 0 n) (map (λ p. p.0) ys)
   cells-rearranged xs ys n count p = rw (sym (cells-numbered 0 xs ∙ ap (range_with_len 0) count)) (IsPermutation-map (λ p. p.0) (enumerate_from 0 xs) ys p)
 
-  module _ (xs : List X) (ys : List (ℕ × X)) (to : List ℕ) (p : IsPermutation (enumerate_from 0 xs) ys) (puts : PutsInOrder to (map (λ p. p.0) ys) (range_with_len 0 (length xs))) where
-    total : length ys ≡ length xs
-    total = length_permutation (enumerate_from 0 xs) ys p ∙ length-enumerate_from 0 xs
-
-    -- where the item of an index stands
-    stands : (k : ℕ) (d : X) → k < length xs → (i : ℕ) × (i < length ys) × (get_or ys i (k, get_or xs k d) ≡ (k, get_or xs k d))
-    stands k d lt = Contains-permutation (enumerate_from 0 xs) ys (k, get_or xs k d) p (k, grind (arith, length-enumerate_from), grind (arith, get_or-enumerate_from, get_or_default))
-
-    -- and `to` names it
-    named : (i k : ℕ) (x : X) → i < length ys → get_or ys i (k, x) ≡ (k, x) → get_or to k 0 ≡ i
-    named i k x lt is =
-        let stored = get_or-map (slice_get to) (map (λ p. p.0) ys) i 0 None in
-        let one = get_or-map Some (range_with_len 0 (length xs)) i 0 None in
-        grind (arith, get_or-map (λ p. p.0) ys i (k, x) 0, stored, one, get_or-range_with_len, length-range_with_len, length-map, total, puts, get_or_from_slice_get to k i 0)
-
-    -- what was noted tells where the items went
-    pub Moves-noted : length to ≡ length xs → Moves xs to (map (λ p. p.1) ys)
-    Moves-noted count =
-        let all = range_with_len 0 (length xs) in
-        let once = IsPermutation-sym to all (IsPermutation-from_order to (map (λ p. p.0) ys) all (cells-rearranged xs ys (length to) (sym count) p) puts) in record {
-          once = rw (length-map, total) once;
-          items = PutsInOrder-from_indices (map (λ p. p.1) ys) to xs (sym count) (λ k lt. omega (arith, (Spread-from_permutation (length xs) to once).below k (omega arith), length-map ys (λ p. p.1), total))
-              (λ k d lt. let at = stands k d lt in cc (named at.0 k (get_or xs k d) at.1 at.2, get_or-map (λ p. p.1) ys at.0 (k, get_or xs k d) d at.1, at.2));
-        }
+  -- what was noted tells where the items went
+  pub Moves-noted : (xs : List X) (ys : List (ℕ × X)) (to : List ℕ) → IsPermutation (enumerate_from 0 xs) ys → PutsInOrder to (map (λ p. p.0) ys) (range_with_len 0 (length xs)) → length to ≡ length xs → Moves xs to (map (λ p. p.1) ys)
+  Moves-noted xs ys to p puts count =
+      let all = range_with_len 0 (length xs) in
+      let total : length ys ≡ length xs = length_permutation (enumerate_from 0 xs) ys p ∙ length-enumerate_from 0 xs in
+      let once = IsPermutation-sym to all (IsPermutation-from_order to (map (λ p. p.0) ys) all (cells-rearranged xs ys (length to) (sym count) p) puts) in
+      -- where the item of an index stands
+      let stands : (k : ℕ) (d : X) → k < length xs → (i : ℕ) × (i < length ys) × (get_or ys i (k, get_or xs k d) ≡ (k, get_or xs k d)) =
+      λ k d lt. Contains-permutation (enumerate_from 0 xs) ys (k, get_or xs k d) p (k, grind (arith, length-enumerate_from), grind (arith, get_or-enumerate_from, get_or_default)) in
+      -- and `to` names it
+      let named : (i k : ℕ) (x : X) → i < length ys → get_or ys i (k, x) ≡ (k, x) → get_or to k 0 ≡ i =
+      λ i k x lt is. let stored = get_or-map (slice_get to) (map (λ p. p.0) ys) i 0 None in let one = get_or-map Some all i 0 None in
+      grind (arith, get_or-map (λ p. p.0) ys i (k, x) 0, stored, one, get_or-range_with_len, length-range_with_len, length-map, total, puts, get_or_from_slice_get to k i 0) in
+      record {
+        once = rw (length-map, total) once;
+        items = PutsInOrder-from_indices (map (λ p. p.1) ys) to xs (sym count) (λ k lt. omega (arith, (Spread-from_permutation (length xs) to once).below k (omega arith), length-map ys (λ p. p.1), total))
+            (λ k d lt. let at = stands k d lt in cc (named at.0 k (get_or xs k d) at.1 at.2, get_or-map (λ p. p.1) ys at.0 (k, get_or xs k d) d at.1, at.2));
+      }
 
   module _ (lt : X → X → Bool) (weak : IsStrictWeakOrder lt) where
     -- the order of items, whatever numbers stand before them
@@ -81,10 +75,6 @@ module _ {X : Type 0} where
     sorted_by-numbered xs ys up stable = cc (sorted_by-unique numbered_lt numbered_lt-weak (enumerate_from 0 xs) ys up stable, sorted_by-map lt (λ p. p.1) (enumerate_from 0 xs), items-numbered 0 xs)
 
 module _ {X Y : Type 0} (f : X → Y) where
-  looked-map : (ys : List X) (to : List ℕ) → map (option_map f) (map (slice_get ys) to) ≡ map (slice_get (map f ys)) to
-  looked-map ys [] = refl
-  looked-map ys (k ∷ to) = cc (slice_get-map f ys k, looked-map ys to)
-
   -- what a function gives of the items goes where they go
   pub Moves-map : (xs : List X) (to : List ℕ) (ys : List X) → Moves xs to ys → Moves (map f xs) to (map f ys)
-  Moves-map xs to ys moves = record { once = rw length-map moves.once; items = cc (map-map Some f xs, map-map (option_map f) Some xs, moves.items, looked-map ys to) }
+  Moves-map xs to ys moves = record { once = rw length-map moves.once; items = cc (map-map Some f xs, map-map (option_map f) Some xs, moves.items, map-map (option_map f) (slice_get ys) to ∙ (λ i. map (λ k. sym (slice_get-map f ys k) i) to)) }

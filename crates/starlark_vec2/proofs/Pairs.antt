@@ -1,10 +1,13 @@
 -- A list of pairs and its two columns, which are as long.
-use Rattle.starlark_hash.proofs.Common.{◌≡◌, ℕ, zero, suc, List, [], ◌∷◌, ◌++◌, length, take, zip, slice_get, reverse, remove, Bool, ◌&&◌, None, refl, ap, arith, length_push, nat_tests, common_steps, AllZip, pointwise}
+use Rattle.starlark_hash.proofs.Common.{◌≡◌, ℕ, zero, suc, List, [], ◌∷◌, ◌++◌, length, length-map, take, zip, slice_get, reverse, remove, Bool, ◌&&◌, refl, ap, arith, length_push, nat_tests, common_steps, AllZip, pointwise}
 use Rattle.std.proofs.Common.{set}
 use Rattle.std.proofs.lemmas.Slice.Zip.{length-zip, firsts-zip, seconds-zip}
+use Rattle.std.specs.Option.{option_zip}
 use Rattle.starlark_vec2.specs.PairList.{firsts_of, seconds_of}
 use Rattle.starlark_hash.specs.Clone.{IsPairClone}
-use Rattle.starlark_vec2.specs.Lend.{set_first_at}
+use Rattle.starlark_vec2.specs.Lend.{set_first_at, with_values}
+use Rattle.starlark_vec2.specs.Loan.{with_seconds}
+use Rattle.std.proofs.lemmas.List.{map_push}
 
 module _ {A B : Type 0} where
   pub zip-parts : (ps : List (A × B)) → zip (firsts_of ps) (seconds_of ps) ≡ ps
@@ -36,9 +39,9 @@ module _ {A B : Type 0} where
   zip-reverse (x ∷ xs) (y ∷ ys) e = grind (arith, common_steps, zip_push, zip-reverse xs ys)
   zip-reverse xs ys e = absurd (omega arith)
 
-  pub slice_get-zip_none : (xs : List A) (ys : List B) (i : ℕ) → slice_get xs i ≡ None → slice_get (zip xs ys) i ≡ None
-  slice_get-zip_none (z ∷ xs) (w ∷ ys) (suc i) e = slice_get-zip_none xs ys i e
-  slice_get-zip_none xs ys i e = cc
+  pub slice_get-zip : (xs : List A) (ys : List B) (i : ℕ) → slice_get (zip xs ys) i ≡ option_zip (slice_get xs i) (slice_get ys i)
+  slice_get-zip (x ∷ xs) (y ∷ ys) (suc i) = slice_get-zip xs ys i
+  slice_get-zip xs ys i = grind arith
 
   -- clones of both columns are clones of the pairs
   pub AllZip-zip : (C : A → A → Type 0) (D : B → B → Type 0) (xs us : List A) (ys vs : List B) → AllZip C xs us → AllZip D ys vs → AllZip (IsPairClone C D) (zip xs ys) (zip us vs)
@@ -47,14 +50,19 @@ module _ {A B : Type 0} where
 
   -- a column in which one part was written
   pub zip-set_first : (xs : List A) (ys : List B) (i : ℕ) (x : A) → zip (set xs i x) ys ≡ set_first_at (zip xs ys) i x
-  zip-set_first (z ∷ xs) [] zero x = refl
   zip-set_first (z ∷ xs) (y ∷ ys) (suc i) x = cc (zip-set_first xs ys i x)
-  zip-set_first xs ys i x = refl
+  zip-set_first xs ys i x = grind arith
 
   pub zip-set : (xs : List A) (ys : List B) (i : ℕ) (x : A) (y : B) → zip (set xs i x) (set ys i y) ≡ set (zip xs ys) i (x, y)
-  zip-set (z ∷ xs) [] zero x y = refl
   zip-set (z ∷ xs) (w ∷ ys) (suc i) x y = cc (zip-set xs ys i x y)
-  zip-set xs ys i x y = refl
+  zip-set xs ys i x y = grind arith
+
+module _ {K V B : Type 0} where
+  -- pairs of which the values were written: the keys, and what stands beside each pair, are their own
+  pub with_values-zip : (ps ws : List (K × V)) (bs : List B) → with_values (zip ps bs) (zip (with_seconds ps ws) bs) ≡ zip (with_seconds ps ws) bs
+  with_values-zip (p ∷ ps) [] (b ∷ bs) = cc (with_values-zip ps [] bs)
+  with_values-zip (p ∷ ps) (w ∷ ws) (b ∷ bs) = cc (with_values-zip ps ws bs)
+  with_values-zip ps ws bs = refl
 
 module _ {A B : Type 0} (eq : A → A → Bool) (eq2 : B → B → Bool) where
   -- equality pair by pair is equality of both columns
@@ -65,3 +73,6 @@ module _ {A B : Type 0} (eq : A → A → Bool) (eq2 : B → B → Bool) where
 
 -- what a call on the columns may want
 pub ruleset columns = (length-zip, firsts-zip, seconds-zip, zip_push, zip-take, zip-remove, zip-reverse)
+
+-- what a walk of the values may want
+pub ruleset values = (map_push, length-map)

@@ -20,11 +20,9 @@ Spread-swap a b order next left right e n s = record {
   apart = λ i j lt lt2 same. grind (arith, swapped_from_swap order next a b 0, length-swap, s.apart, cases_eq i a, cases_eq i b, cases_eq j a, cases_eq j b);
 }
 
-Spread-all : (n : ℕ) → Spread n (range_with_len 0 n)
-Spread-all n = record { below = λ k lt. grind (arith, get_or-range_with_len, length-range_with_len); apart = λ i j lt lt2 e. grind (arith, get_or-range_with_len, length-range_with_len) }
-
 pub Spread-from_permutation : (n : ℕ) (order : List ℕ) → IsPermutation (range_with_len 0 n) order → Spread n order
-Spread-from_permutation n order p = IsPermutation-keeps (range_with_len 0 n) (Spread n) (Spread-all n) (λ l i j lt lt2 s. Spread-swap i j l (swap l i j) lt lt2 refl n s) order p
+Spread-from_permutation n order p = IsPermutation-keeps (range_with_len 0 n) (Spread n)
+    (record { below = λ k lt. grind (arith, get_or-range_with_len, length-range_with_len); apart = λ i j lt lt2 e. grind (arith, get_or-range_with_len, length-range_with_len) }) (λ l i j lt lt2 s. Spread-swap i j l (swap l i j) lt lt2 refl n s) order p
 
 -- how many indices from i on are told another position than their own
 pub misplaced : ℕ → List ℕ → ℕ

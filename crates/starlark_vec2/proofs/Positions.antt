@@ -1,7 +1,8 @@
 -- What sorted positions say of the items that stand there, and a comparator of items behind one of positions.
 use Rattle.starlark_hash.proofs.Common.{◌≡◌, ℕ, suc, ◌+◌, ◌<◌, Bool, List, [], ◌∷◌, ◌++◌, map, length, get_or, slice_get, Option, Some, refl, sym, ap, subst, ◌∙◌, arith, Bor, Mut, Takes, Called, IsStrictWeakOrder, range_with_len, Contains, IsSortedBy, IsStableBy, deref_pair, is_lt, Ordering, map-id, get_or-range_with_len, length-range_with_len, IsPermutation-map, IsPermutation-refl, length_permutation, slice_get-get_or, slice_get_within, get_or_from_slice_get}
 use Rattle.std.proofs.Common.{unwrap_or}
-use Rattle.std.specs.Fn.{ReturnsEach, ComparesAs}
+use Rattle.std.specs.Fn.{ComparesAs}
+use Rattle.std.proofs.lemmas.Fn.{answers_by}
 use Rattle.std.specs.List.Sorted.{IsPermutation}
 use Rattle.std.proofs.lemmas.Simd.{map-map}
 use Rattle.std.proofs.lemmas.List.FromFn.{map-range_with_len_more}
@@ -54,28 +55,16 @@ module _ {X : Type 0} where
 
 module _ {F G A B : Type 0} (g : Mut F (PairRef A B × (PairRef A B × Unit {0})) Ordering) (g' : Mut G (Bor ℕ × (Bor ℕ × Unit {0})) Ordering) (state : G → F) (pairs : G → List (A × B))
     (calls : (s : G) (i j : Bor ℕ) (r : Ordering) (t : G) → Called g' s (i, (j, tt)) r t → ComparesAt g (pairs s) (state s) i.now j.now r (state t) × (pairs t ≡ pairs s)) (lt : A × B → A × B → Bool) (ps : List (A × B)) where
-  abbrev Each : F → List (PairRef A B × (PairRef A B × Unit {0})) → Type 0
-  Each = ReturnsEach g (λ a r. is_lt r ≡ lt (deref_pair a.0) (deref_pair a.1.0))
-
-  abbrev Answers : G → List (Bor ℕ × (Bor ℕ × Unit {0})) → Type 0
-  Answers = ReturnsEach g' (λ a r. is_lt r ≡ lt_at lt ps a.0.now a.1.0.now)
-
-  asked : (f : F) (x y : Option (A × B)) (r : Ordering) (f2 : F) → ComparesOptions g f x y r f2 → ((us : List (PairRef A B × (PairRef A B × Unit {0}))) → Each f us)
-      → (is_lt r ≡ option_lt lt x y) × ((us : List (PairRef A B × (PairRef A B × Unit {0}))) → Each f2 us)
+  asked : (f : F) (x y : Option (A × B)) (r : Ordering) (f2 : F) → ComparesOptions g f x y r f2 → ComparesPairsAs g lt f → (is_lt r ≡ option_lt lt x y) × ComparesPairsAs g lt f2
   asked f (Some x) (Some y) r f2 k h =
       let a : PairRef A B × (PairRef A B × Unit {0}) = (k.left, (k.right, tt)) in
-      ((h (a ∷ []) r f2 k.called).0 ∙ (λ j. lt (k.shows_left j) (k.shows_right j)), λ us. (h (a ∷ us) r f2 k.called).1)
-  asked f x y r f2 k h = (ap is_lt k.0, subst (λ f3. (us : List (PairRef A B × (PairRef A B × Unit {0}))) → Each f3 us) (sym k.1) h)
-
-  answers_each : (s : G) → pairs s ≡ ps → ((us : List (PairRef A B × (PairRef A B × Unit {0}))) → Each (state s) us) → (xs : List (Bor ℕ × (Bor ℕ × Unit {0}))) → Answers s xs
-  answers_each s same h [] = tt
-  answers_each s same h (x ∷ xs) = λ r t e.
-      let c = calls s x.0 x.1.0 r t e in
-      let k = asked (state s) (slice_get ps x.0.now) (slice_get ps x.1.0.now) r (state t) (subst (λ l. ComparesAt g l (state s) x.0.now x.1.0.now r (state t)) same c.0) h in
-      (k.0, answers_each t (c.1 ∙ same) k.1 xs)
+      ((h.at (a ∷ []) r f2 k.called).0 ∙ (λ j. lt (k.shows_left j) (k.shows_right j)), record { at = λ us. (h.at (a ∷ us) r f2 k.called).1 })
+  asked f x y r f2 k h = (ap is_lt k.0, subst (ComparesPairsAs g lt) (sym k.1) h)
 
   pub compares_positions : (s : G) → pairs s ≡ ps → ComparesPairsAs g lt (state s) → ComparesAs g' (lt_at lt ps) s
-  compares_positions s same h = record { at = answers_each s same (λ us. h.at us) }
+  compares_positions s same h = answers_by g' _ (λ t. (pairs t ≡ ps) × ComparesPairsAs g lt (state t))
+      (λ t a r u e held. let c = calls t a.0 a.1.0 r u e in
+      let k = asked (state t) _ _ r (state u) (subst (λ l. ComparesAt g l (state t) a.0.now a.1.0.now r (state u)) held.0 c.0) held.1 in (k.0, (c.1 ∙ held.0, k.1))) s (same, h)
 
 -- what stands at an index is an item
 Contains-from_index : {X : Type 0} (xs : List X) (i : ℕ) (x : X) → Some x ≡ slice_get xs i → Contains xs x

@@ -11,24 +11,6 @@ module _ {F X : Type 0} (calls : F → X → Bool → X → F → Type 0) (takes
     pub ready : TakesInTurn calls takes f left
     pub rest : (kept : List X) → Retains calls f left kept → Retains calls f0 all (done ++ kept)
 
-  pub sieving_asks : (f0 : F) (all : List X) (f : F) (done left : List X) (x : X) → Sieving f0 all f done (x ∷ left) → takes f x
-  sieving_asks f0 all f done left x s = s.ready.at [] left f x refl refl
-
-  pub sieving_keeps : (f0 : F) (all : List X) (f : F) (done left : List X) (x y : X) (f' : F) → Sieving f0 all f done (x ∷ left) → calls f x true y f' → Sieving f0 all f' (done ++ y ∷ []) left
-  sieving_keeps f0 all f done left x y f' s t = record {
-    ready = record { at = λ before after u z e r. s.ready.at (x ∷ before) after u z (ap (λ l. x ∷ l) e) (f', (true, y, t), r) };
-    rest = λ kept r. rw append_assoc (s.rest (y ∷ kept) (true, y, f', kept, t, r, refl));
-  }
-
-  pub sieving_drops : (f0 : F) (all : List X) (f : F) (done left : List X) (x y : X) (f' : F) → Sieving f0 all f done (x ∷ left) → calls f x false y f' → Sieving f0 all f' done left
-  sieving_drops f0 all f done left x y f' s t = record {
-    ready = record { at = λ before after u z e r. s.ready.at (x ∷ before) after u z (ap (λ l. x ∷ l) e) (f', (false, y, t), r) };
-    rest = λ kept r. s.rest kept (false, y, f', kept, t, r, refl);
-  }
-
-  pub sieving_ends : (f0 : F) (all : List X) (f : F) (done : List X) → Sieving f0 all f done [] → Retains calls f0 all done
-  sieving_ends f0 all f done s = rw append-nil at (s.rest [] refl)
-
 module _ {X : Type 0} where
   -- the item at i comes first of those from i on
   leads : (xs : List X) (i : ℕ) (x : X) → i < length xs → x ≡ get_or xs i x → drop i xs ≡ x ∷ drop (i + 1) xs
@@ -51,7 +33,7 @@ module _ {F A B : Type 0} (calls : F → A × B → Bool → A × B → F → Ty
     next = rw (leads xs i a lt d, leads ys i b (omega arith) e) at s.sieving
 
     pub sifting_asks : takes f (a, b)
-    sifting_asks = sieving_asks calls takes f0 all f _ _ (a, b) next
+    sifting_asks = next.ready.at [] _ f (a, b) refl refl
 
     module _ (le : k ≤ i) (x : A) (y : B) (f' : F) (xs' : List A) (ys' : List B) (k' : ℕ) where
       pub sifting_keeps : calls f (a, b) true (x, y) f' → xs' ≡ swap (set xs i x) k i → ys' ≡ swap (set ys i y) k i → k' ≡ k + 1 → Sifting f' xs' ys' k' (i + 1)
@@ -59,14 +41,20 @@ module _ {F A B : Type 0} (calls : F → A × B → Bool → A × B → F → Ty
           let front = zip_push (take k xs) (take k ys) x y (omega (arith, length-take k xs, length-take k ys)) in
           rw (p, q, r) (record {
             sieving = rw (moved_front xs k i x le lt, moved_front ys k i y le (omega arith), front, moved_back xs k i x le lt, moved_back ys k i y le (omega arith))
-                (sieving_keeps calls takes f0 all f _ _ (a, b) (x, y) f' next t);
+                (record {
+                  ready = record { at = λ before after u z e r. next.ready.at ((a, b) ∷ before) after u z (ap (λ l. (a, b) ∷ l) e) (f', (true, (x, y), t), r) };
+                  rest = λ kept r. rw append_assoc (next.rest ((x, y) ∷ kept) (true, (x, y), f', kept, t, r, refl));
+                });
           })
 
       pub sifting_drops : calls f (a, b) false (x, y) f' → xs' ≡ set xs i x → ys' ≡ set ys i y → k' ≡ k → Sifting f' xs' ys' k' (i + 1)
       sifting_drops t p q r = rw (p, q, r) (record {
         sieving = rw (take-set-le k xs i x le, take-set-le k ys i y le, drop-set-lt (i + 1) xs i x (omega arith), drop-set-lt (i + 1) ys i y (omega arith))
-            (sieving_drops calls takes f0 all f _ _ (a, b) (x, y) f' next t);
+            (record {
+              ready = record { at = λ before after u z e r. next.ready.at ((a, b) ∷ before) after u z (ap (λ l. (a, b) ∷ l) e) (f', (false, (x, y), t), r) };
+              rest = λ kept r. next.rest kept (false, (x, y), f', kept, t, r, refl);
+            });
       })
 
   pub sifting_ends : (f : F) (xs : List A) (ys : List B) (k i : ℕ) → Sifting f xs ys k i → length xs ≤ i → (xs' : List A) (ys' : List B) → xs' ≡ take k xs → ys' ≡ take k ys → Retains calls f0 all (zip xs' ys')
-  sifting_ends f xs ys k i s le xs' ys' p q = rw (p, q) (sieving_ends calls takes f0 all f _ (rw (drop_all i xs le) at s.sieving))
+  sifting_ends f xs ys k i s le xs' ys' p q = rw (p, q) (let ended : Sieving calls takes f0 all f (zip (take k xs) (take k ys)) [] = rw (drop_all i xs le) at s.sieving in rw append-nil at (ended.rest [] refl))

@@ -1,5 +1,5 @@
 -- A list of pairs on two columns, before a call on a column and after it.
-use Rattle.starlark_hash.proofs.Common.{◌≡◌, ℕ, suc, ◌<◌, List, ◌∷◌, length, zip, slice_get, slice_set, Option, Some, refl, sym, ap, subst, ◌∙◌, arith}
+use Rattle.starlark_hash.proofs.Common.{◌≡◌, ℕ, ◌<◌, List, length, zip, slice_get, slice_set, Option, Some, refl, sym, ap, ◌∙◌, arith}
 use lib.ListN.{length-set}
 use Rattle.starlark_columns.specs.Block.{IsBlockOf, IsSpotOf}
 use Rattle.starlark_columns.specs.Lend.{with_cells}
@@ -11,7 +11,7 @@ use Rattle.starlark_vec2.specs.Columns.{AreColumns}
 use Rattle.starlark_vec2.specs.PairList.{PairList, pair_list, with_pairs, firsts_of}
 use Rattle.starlark_vec2.specs.Lend.{with_pair, set_firsts, set_first_at}
 use Rattle.std.proofs.lemmas.Slice.Zip.{length-zip, firsts-zip, seconds-zip}
-use Rattle.starlark_vec2.proofs.Pairs.{zip-set_first, zip-set}
+use Rattle.starlark_vec2.proofs.Pairs.{slice_get-zip, zip-set_first, zip-set}
 
 module _ {A B : Type 0} where
   -- what is known of the fields of a list
@@ -22,11 +22,6 @@ module _ {A B : Type 0} where
   pub relaid : (d : Inside A B) → Holds d → (cs : List (Option A)) (ds : List (Option B)) → AreColumns cs ds d.len → length cs ≡ length d.firsts.cells → length ds ≡ length d.seconds.cells
       → Holds (record d { firsts = with_cells d.firsts cs; seconds = with_cells d.seconds ds })
   relaid d k cs ds at long long' = (at, (k.1.0, k.1.1, k.1.2 ∙ sym long', k.1.3 ∙ sym long), k.2)
-
-  -- the pair at an index of both columns
-  pub slice_get-zip_both : (xs : List A) (ys : List B) (i : ℕ) (x : A) (y : B) → slice_get xs i ≡ Some x → slice_get ys i ≡ Some y → slice_get (zip xs ys) i ≡ Some (x, y)
-  slice_get-zip_both (z ∷ xs) (w ∷ ys) (suc i) x y e f = slice_get-zip_both xs ys i x y e f
-  slice_get-zip_both xs ys i x y e f = cc
 
   -- the list that is seen where the columns are these
   abbrev pub seen : List (Option A) → List (Option B) → PairList A B
@@ -55,17 +50,13 @@ module _ {A B : Type 0} where
       -- what is said of the items of both columns, before and after as many were written, is said of the pairs
       pub both_moved : (xs us : List A) (ys ws : List B) → xs ≡ items_of cs → ys ≡ items_of ds → length us ≡ length xs → length ws ≡ length ys
           → (P : List (A × B) → List (A × B) → Type 0) → P (zip xs ys) (zip us ws) → P v.pairs (zip (items_of (with_items cs us)) (items_of (with_items ds ws)))
-      both_moved xs us ys ws e f p q P h =
-          let before : zip xs ys ≡ v.pairs = (λ j. zip (e j) (f j)) ∙ ap (λ w. w.pairs) is in
-          let after : zip (items_of (with_items cs us)) (items_of (with_items ds ws)) ≡ zip us ws =
-          λ j. zip (all_written cs n at.firsts_front us (p ∙ ap length e) j) (all_written ds n at.seconds_front ws (q ∙ ap length f) j) in
-          subst (λ t. t) (λ j. P (before j) (sym after j)) h
+      both_moved xs us ys ws e f p q P h = rw (all_written cs n at.firsts_front us (p ∙ ap length e), all_written ds n at.seconds_front ws (q ∙ ap length f), ← is, ← e, ← f) h
 
       pub len_is : length v.pairs ≡ n
       len_is = grind (arith, length-zip (items_of cs) (items_of ds), even_items, at.firsts_front.count, is)
 
       pub pair_is : (i : ℕ) (x : A) (y : B) → slice_get (items_of cs) i ≡ Some x → slice_get (items_of ds) i ≡ Some y → slice_get v.pairs i ≡ Some (x, y)
-      pair_is i x y e f = rw (← is) (slice_get-zip_both (items_of cs) (items_of ds) i x y e f)
+      pair_is i x y e f = rw (← is, slice_get-zip (items_of cs) (items_of ds) i, e, f) refl
 
       module _ (i : ℕ) (lt : i < length v.pairs) where
         pub in_columns : i < n
@@ -87,3 +78,7 @@ module _ {A B : Type 0} where
 
         pub first_is : (x : A) → slice_get (items_of cs) i ≡ Some x → slice_get (firsts_of v.pairs) i ≡ Some x
         first_is x e = ap (λ l. slice_get l i) (sym (firsts_are (items_of cs) refl)) ∙ e
+
+  -- after `&mut`s to all items of both columns have ended
+  pub both_relaid : (d : Inside A B) → Holds d → (ws : List A) (us : List B) → Holds (record d { firsts = with_cells d.firsts (with_items d.firsts.cells ws); seconds = with_cells d.seconds (with_items d.seconds.cells us) })
+  both_relaid d k ws us = relaid d k _ _ (both_written _ _ _ k.0 ws us) (written_cells _ _ k.0.firsts_front ws) (written_cells _ _ k.0.seconds_front us)

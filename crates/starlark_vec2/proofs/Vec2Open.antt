@@ -1,12 +1,11 @@
 -- A `Vec2` in memory is its two columns and the rest, and back, at any columns of which the invariant holds. Assumes `Logic`.
-use Rattle.starlark_columns.proofs.Walking.{length, slice_set, length-set, ◌≡◌, refl, ℕ, zero, ◌+◌, ◌<◌, ◌^◌, List, [], ◌∷◌, Ura, full_share, w64, Val, vint, Fml, fsep, SProp, ent, sep, emp, wand, ex, all_e, apply∗, fact, fact_i, size, align, up, ‵, raw, ◌⊛◌, some, ◌$◌, ◌∵◌, !, qed, by, move, use0, use1, use2, split, pick, show, fsplit, fsplit3, fjoin, fpick, fpack, rewrite, done, Logic, sem, RattleType, Denots, shows, part_at, part_of, cell_at, lone, plain_out, Plain-in, view_made, Laws, uint_Makes, facts, owned, field, usize-field, peeks, fat, Ptr, sym, ap, subst, ◌∙◌, lawfuls, Member, rows_of, parts_at, shape_of, PartsBack, Struct-parts, Struct, ghosts}
+use Rattle.starlark_columns.proofs.Walking.{length, slice_set, length-set, ◌≡◌, refl, ℕ, zero, ◌+◌, ◌<◌, ◌^◌, List, [], ◌∷◌, Ura, full_share, w64, Val, vint, fsep, ent, sep, size, align, up, ‵, raw, ◌⊛◌, some, ◌$◌, ◌∵◌, !, qed, by, move, use1, use2, split, pick, show, fsplit, fsplit3, fjoin, fpick, fpack, rewrite, done, Logic, sem, RattleType, shows, part_at, part_of, cell_at, lone, plain_out, Plain-in, view_made, Laws, field, usize-field, peeks, Ptr, sym, ap, subst, ◌∙◌, lawfuls, Member, parts_at, PartsBack, Struct-parts, ghosts, Item, mean, vstruct, vcons, of_list, ◌++◌, Is, split3, fat, join}
 use Rattle.std.specs.contracts.alloc.Global as heap
 use denote.RawPtr.{InBlock, block_ptr, block_of, count_of}
 use Rattle.starlark_columns.specs.Block.{IsBehind}
 use Rattle.starlark_columns.specs.Pair.{behind as starts}
-use Rattle.starlark_columns.specs.contracts.block.PairClaim as claim
-use Rattle.starlark_columns.specs.contracts.block.Spot as spot
-use Rattle.starlark_columns.proofs.Addresses.{words, spot_made, spot_told}
+use Rattle.starlark_columns.specs.contracts.block as block
+use Rattle.starlark_columns.proofs.Addresses.{words, spot_told}
 use Rattle.std.specs.declared.option.Option.TheVariants.{Some}
 use Rattle.starlark_columns.specs.Lend.{with_cells}
 use Rattle.starlark_vec2.specs.Columns.{column}
@@ -15,8 +14,11 @@ use Rattle.starlark_vec2.proofs.TwoColumns.{relaid, both_set, both_end}
 use Rattle.starlark_vec2.specs.declared.vec2.Vec2.TheInside.{Inside}
 use Rattle.starlark_vec2.specs.contracts.vec2.Vec2 as C
 use Rattle.starlark_vec2.specs.contracts.vec2.Vec2.TheInside as I
-use Rattle.starlark_vec2.proofs.vec2.Vec2.TheLaws as T
-use Rattle.starlark_vec2.proofs.vec2.Vec2.TheInside.TheLaws as IL
+use Rattle.starlark_vec2.proofs.vec2.Vec2 as its
+use Rattle.starlark_columns.proofs.LoneValue.{lone_value}
+use Rattle.starlark_columns.proofs.PairParts.{part}
+use Rattle.starlark_columns.proofs.Steps.{first_in}
+use Rattle.starlark_columns.proofs.row.Row.TheLaws as R
 
 module _ (A B : RattleType) where
   abbrev pub V : RattleType
@@ -28,23 +30,11 @@ module _ (A B : RattleType) where
   abbrev pub Known : V.Denot → D → Type 0
   Known v d = (C.the_view A B d ≡ v) × C.the_invariant A B d
 
-  abbrev member : RattleType → Member
-  member R = record { row = R; ty = lone R.mir }
-
-  abbrev At : RattleType
-  At = (spot.the_field B).row
-
-  abbrev Right : RattleType
-  Right = claim.the_row B A heap.the_row ghosts
-
-  abbrev last : List Member
-  last = member (field heap.the_type).row ∷ member Right ∷ []
-
   abbrev left : List Member
-  left = member usize-field.row ∷ member At ∷ last
+  left = part usize-field.row ∷ part (block.Spot.the_field B).row ∷ part (field heap.the_type).row ∷ part (block.PairClaim.the_row B A heap.the_row ghosts) ∷ []
 
   abbrev ms : List Member
-  ms = member (column A) ∷ member (column B) ∷ left
+  ms = part (column A) ∷ part (column B) ∷ left
 
   abbrev pub eA : ℕ
   eA = up (align (lone (column A).mir)) zero
@@ -54,9 +44,6 @@ module _ (A B : RattleType) where
 
   abbrev eR : ℕ
   eR = eB + size (lone (column B).mir)
-
-  abbrev to : D → Denots (rows_of ms)
-  to d = (I.the_type A B).to d
 
   -- the struct with other items at one index
   abbrev pub written : D → ℕ → A.Denot → B.Denot → D
@@ -79,72 +66,53 @@ module _ (A B : RattleType) where
   pub at_front : (v : V.Denot) (d : D) → Known v d → d.spot.address.at ≡ d.seconds.at
   at_front v d k = k.1.2.1 ∙ k.1.1.0
 
-  module _ {M : Type 1} {𝓤 : Ura M} (𝓛 : Logic 𝓤) (b o : ℕ) where
-    abbrev pub Rest : D → SProp 𝓤
-    Rest d = sep 𝓤 (sem 𝓛 (parts_at full_share left eR (to d).1.1 b o)) (PartsBack 𝓛 full_share (I.the_type A B).name ms b o)
+  -- the machine's value of the fields, where the length and the spot are read
+  abbrev pub inside : D → Val × Val × List Val → Val
+  inside d us = vstruct (vcons us.0 (vcons us.1 (vcons (vint w64 d.len) (vcons (words d.spot.address.at d.spot.count) (of_list us.2)))))
 
-    -- the length's own cell, and what is left beside it
-    abbrev eL : ℕ
-    eL = up (align (lone usize-field.row.mir)) eR
+  module _ (LA : Laws A) (LB : Laws B) {M : Type 1} {𝓤 : Ura M} (𝓛 : Logic 𝓤) where
+    told : (d : D) (vs : List Val) → Is (I.the_row A B) d vs → ((us : Val × Val × List Val) × (vs ≡ inside d us ∷ [])) × Told d
+    told d vs is =
+        let us = is.0 in let at = is.1.1 in let x = lone_value 𝓛 (column A) (R.the_row_laws A LA) d.firsts us.0 at.0 in let y = lone_value 𝓛 (column B) (R.the_row_laws B LB) d.seconds us.1.0 at.1.0 in
+        let len = at.1.1.0 in let s = spot_told B d.spot us.1.1.1.0 at.1.1.1.0 in let rest = us.1.1.1.1.0 ++ (us.1.1.1.1.1.0 ++ []) in
+        (((x.0, y.0, rest), is.1.0 ∙ (λ i. vstruct (of_list (x.1 i ++ (y.1 i ++ (len.0 i ++ (s.0 i ++ rest))))) ∷ [])), (len.1, s.1, at.1.1.1.1.1.0.1.0))
 
-    abbrev pub Len : ℕ → Fml
-    Len n = cell_at full_share usize-field.row.mir (vint w64 n ∷ []) b (o + eL)
+    module _ (b o : ℕ) where
+      -- what is known of the fields of a list
+      abbrev pub Fields : V.Denot → Type 0
+      Fields v = (d : D) × (Val × Val × List Val) × Known v d × Told d
 
-    -- the spot's own cell, behind the length, under its type's name
-    abbrev eS : ℕ
-    eS = up (align (lone At.mir)) (eL + size (lone usize-field.row.mir))
+      -- the fields in their cell
+      abbrev pub Held : (v : V.Denot) → Fields v → Item 𝓤
+      Held v x = let w = inside x.0 x.1 in ‵ (fat full_share (lone (I.the_row A B).mir) b o w) ⊛ ‵ ((I.the_row A B).own_val x.0 (w ∷ []))
 
-    abbrev pub Index : Ptr → ℕ → Fml
-    Index p n = fat full_share (lone At.mir) b (o + eS) (words p n)
+      pub held : (v : V.Denot) → ent 𝓤 (sem 𝓛 (part_at V full_share v b o)) (mean 𝓛 (some (Held v)))
+      unfolding part_of
+      held v =
+          qed 𝓛 (‵ (part_at V full_share v b o) ∷ []) ∵ use1 𝓛 (some (λ (d : (d : D) × Known v d). ‵ (part_at (I.the_row A B) full_share d.0 b o))) (plain_out V (I.the_row A B) (its.TheLaws.the_opens A B) 𝓛 full_share v b o) $ pick ! (λ d.
+          fpick ! (λ vs. fsplit ! $ move ! (1 ∷ []) $ peeks ! (I.the_row A B) _ (shows 𝓛 (I.the_row A B)) d.0 vs (λ is. let known = told d.0 vs is in let word = known.0.1 in
+          rewrite ! 0 (λ (us : List Val). ‵ ((I.the_row A B).own_val d.0 us)) word refl $ rewrite ! 1 (λ (us : List Val). ‵ (cell_at full_share (I.the_row A B).mir us b o)) word refl $ move ! (1 ∷ []) $
+          use1 𝓛 (‵ (fat full_share (lone (I.the_row A B).mir) b o (inside d.0 known.0.0))) (𝓛.laws.raw_at full_share (lone (I.the_row A B).mir) b o (inside d.0 known.0.0)) $
+          show ! (λ (x : Fields v). mean 𝓛 (Held v x)) (d.0, known.0.0, d.1, known.1) $ done !)))
 
-    -- the right's, behind the allocator
-    abbrev eC : ℕ
-    eC = let alloc = lone (field heap.the_type).row.mir in up (align (lone Right.mir)) (up (align alloc) (eS + size (lone At.mir)) + size alloc)
+      abbrev pub Rest : D → Item 𝓤
+      Rest d = ‵ (parts_at full_share left (eB + size (lone (column B).mir)) ((I.the_type A B).to d).1.1 b o) ⊛ raw (PartsBack 𝓛 full_share (I.the_type A B).name ms b o)
 
-    abbrev pub Less : D → SProp 𝓤
-    Less d = sep 𝓤 (sem 𝓛 (parts_at full_share last (eS + size (lone At.mir)) (to d).1.1.1.1 b o)) (PartsBack 𝓛 full_share (I.the_type A B).name ms b o)
+      abbrev pub Cuts : D → Item 𝓤
+      Cuts d = ‵ (part_at (column A) full_share d.firsts b (o + eA)) ⊛ ‵ (part_at (column B) full_share d.seconds b (o + eB)) ⊛ Rest d
 
-    -- those that lend a column read the length and the spot by hand, and how the columns lie: here out of the parts, and by
-    -- fields_in back
-    pub fields_out : (d : D) → ent 𝓤 (Rest d) (sep 𝓤 (fact 𝓤 (Told d)) (sep 𝓤 (sem 𝓛 (Len d.len)) (sep 𝓤 (sem 𝓛 (Index d.spot.address.at d.spot.count)) (Less d))))
-    unfolding part_of
-    fields_out d =
-        qed 𝓛 (‵ (parts_at full_share left eR (to d).1.1 b o) ∷ raw (PartsBack 𝓛 full_share (I.the_type A B).name ms b o) ∷ []) ∵ fsplit ! $ fpick ! (λ vs. fsplit ! $ move ! (1 ∷ []) $
-        facts ! usize-field.row _ (shows 𝓛 usize-field.row) d.len vs (λ p. rewrite ! 0 (λ (us : List Val). ‵ (cell_at full_share usize-field.row.mir us b (o + eL))) p.0 refl $
-        -- [the length; the others; the way back]
-        move ! (1 ∷ []) $ fsplit ! $ fpick ! (λ ws. fsplit ! $ move ! (1 ∷ []) $
-        facts ! At _ (shows 𝓛 At) ((d.spot.address.at, tt), (d.spot.count, tt)) ws (λ s. let told = spot_told B d.spot ws s in rewrite ! 0 (λ (us : List Val). ‵ (cell_at full_share At.mir us b (o + eS))) told.0 refl $
-        use1 𝓛 (‵ (Index d.spot.address.at d.spot.count)) (𝓛.laws.raw_at full_share (lone At.mir) b (o + eS) (words d.spot.address.at d.spot.count)) $
-        -- [the spot; what is behind; the length; the way back]
-        move ! (1 ∷ []) $ fsplit ! $ move ! (1 ∷ []) $ fsplit ! $ fpick ! (λ cs. fsplit ! $ move ! (1 ∷ []) $
-        peeks ! Right _ (shows 𝓛 Right) d.block cs (λ z. move ! (1 ∷ 0 ∷ []) $ fjoin ! $ fpack ! (List Val) (λ us. fsep (cell_at full_share Right.mir us b (o + eC)) (Right.own_val d.block us)) cs $ fjoin ! $ move ! (1 ∷ 0 ∷ []) $ fjoin ! $
-        use0 𝓛 (raw (fact 𝓤 (Told d))) (fact_i 𝓤 _ (emp 𝓤) (p.1, told.1, z.1.0)) $ move ! (0 ∷ 3 ∷ 2 ∷ 1 ∷ []) $ done !))))))
+      pub cut : (d : D) (w : Val) → ent 𝓤 (sep 𝓤 (sem 𝓛 (fat full_share (lone (I.the_row A B).mir) b o w)) (sem 𝓛 ((I.the_row A B).own_val d (w ∷ [])))) (mean 𝓛 (Cuts d))
+      unfolding part_of
+      cut d w =
+          qed 𝓛 (‵ (fat full_share (lone (I.the_row A B).mir) b o w) ∷ ‵ ((I.the_row A B).own_val d (w ∷ [])) ∷ []) ∵
+          use1 𝓛 (‵ (cell_at full_share (I.the_row A B).mir (w ∷ []) b o)) (𝓛.laws.at_raw full_share (lone (I.the_row A B).mir) b o w) $
+          fjoin ! $ fpack ! (List Val) (λ vs. fsep (cell_at full_share (I.the_row A B).mir vs b o) ((I.the_row A B).own_val d vs)) (w ∷ []) $
+          use1 𝓛 (‵ (parts_at full_share ms zero ((I.the_type A B).to d) b o) ⊛ raw (PartsBack 𝓛 full_share (I.the_type A B).name ms b o))
+          (Struct-parts 𝓛 full_share (I.the_type A B).name ms (lawfuls 𝓛 (I.the_type A B).parts (its.TheInside.TheLaws.the_loose A B LA LB)) ((I.the_type A B).to d) b o) $ split ! $ fsplit3 ! $ done !
 
-    pub fields_in : (d : D) → Told d → ent 𝓤 (sep 𝓤 (sem 𝓛 (Len d.len)) (sep 𝓤 (sem 𝓛 (Index d.spot.address.at d.spot.count)) (Less d))) (Rest d)
-    unfolding part_of
-    fields_in d told =
-        qed 𝓛 (‵ (Len d.len) ∷ ‵ (Index d.spot.address.at d.spot.count) ∷ ‵ (parts_at full_share last (eS + size (lone At.mir)) (to d).1.1.1.1 b o) ∷ raw (PartsBack 𝓛 full_share (I.the_type A B).name ms b o) ∷ []) ∵
-        move ! (1 ∷ []) $ use1 𝓛 (‵ (cell_at full_share At.mir (words d.spot.address.at d.spot.count ∷ []) b (o + eS))) (𝓛.laws.at_raw full_share (lone At.mir) b (o + eS) (words d.spot.address.at d.spot.count)) $ use0 𝓛 (‵ (At.own_val ((d.spot.address.at, tt), (d.spot.count, tt)) (words d.spot.address.at d.spot.count ∷ []))) (spot_made B 𝓛 d.spot told.1) $ move ! (1 ∷ 0 ∷ []) $ fjoin ! $
-        fpack ! (List Val) (λ us. fsep (cell_at full_share At.mir us b (o + eS)) (At.own_val ((d.spot.address.at, tt), (d.spot.count, tt)) us)) (words d.spot.address.at d.spot.count ∷ []) $ move ! (0 ∷ 2 ∷ []) $ fjoin ! $ move ! (1 ∷ []) $
-        owned ! usize-field.row _ (uint_Makes 𝓛 w64) d.len (vint w64 d.len ∷ []) (refl, told.0) $ move ! (1 ∷ 0 ∷ []) $ fjoin ! $
-        fpack ! (List Val) (λ us. fsep (cell_at full_share usize-field.row.mir us b (o + eL)) (usize-field.row.own_val d.len us)) (vint w64 d.len ∷ []) $ fjoin ! $ done !
-
-    abbrev pub Cuts : (v : V.Denot) → ((d : D) × Known v d) → SProp 𝓤
-    Cuts v d = sep 𝓤 (sem 𝓛 (part_at (column A) full_share d.0.firsts b (o + eA))) (sep 𝓤 (sem 𝓛 (part_at (column B) full_share d.0.seconds b (o + eB))) (Rest d.0))
-
-    pub cut : Laws A → Laws B → (v : V.Denot) → ent 𝓤 (sem 𝓛 (part_at V full_share v b o)) (ex 𝓤 (Cuts v))
-    unfolding part_of
-    cut LA LB v =
-        qed 𝓛 (‵ (part_at V full_share v b o) ∷ []) ∵ use1 𝓛 (some (λ (d : (d : D) × Known v d). ‵ (part_at (I.the_row A B) full_share d.0 b o))) (plain_out V (I.the_row A B) (T.the_opens A B) 𝓛 full_share v b o) $ pick ! (λ d.
-        use1 𝓛 (‵ (parts_at full_share ms zero (to d.0) b o) ⊛ raw (PartsBack 𝓛 full_share (I.the_type A B).name ms b o))
-        (Struct-parts 𝓛 full_share (I.the_type A B).name ms (lawfuls 𝓛 (I.the_type A B).parts (IL.the_loose A B LA LB)) (to d.0) b o) $ split ! $ fsplit3 ! $ show ! (Cuts v) d $ done !)
-
-    pub shut : (v : V.Denot) (d' : D) → Known v d' → ent 𝓤 (sep 𝓤 (sem 𝓛 (part_at (column A) full_share d'.firsts b (o + eA))) (sep 𝓤 (sem 𝓛 (part_at (column B) full_share d'.seconds b (o + eB))) (Rest d'))) (sem 𝓛 (part_at V full_share v b o))
-    unfolding part_of
-    shut v d' k =
-        qed 𝓛 (‵ (part_at (column A) full_share d'.firsts b (o + eA)) ∷ ‵ (part_at (column B) full_share d'.seconds b (o + eB)) ∷ (‵ (parts_at full_share left eR (to d').1.1 b o) ⊛ raw (PartsBack 𝓛 full_share (I.the_type A B).name ms b o)) ∷ []) ∵
-        move ! (2 ∷ []) $ split ! $ move ! (3 ∷ 0 ∷ []) $ fjoin ! $ move ! (2 ∷ 0 ∷ []) $ fjoin ! $ move ! (1 ∷ []) $
-        use1 𝓛 (raw (wand 𝓤 (sem 𝓛 (parts_at full_share ms zero (to d') b o)) (sem 𝓛 (part_at (Struct (shape_of (I.the_type A B).name ms)) full_share (to d') b o))))
-        (all_e 𝓤 (λ (a' : Denots (rows_of ms)). wand 𝓤 (sem 𝓛 (parts_at full_share ms zero a' b o)) (sem 𝓛 (part_at (Struct (shape_of (I.the_type A B).name ms)) full_share a' b o))) (to d')) $
-        move ! (1 ∷ 0 ∷ []) $ use2 𝓛 (‵ (part_at (I.the_row A B) full_share d' b o)) (apply∗ 𝓤 (sem 𝓛 (parts_at full_share ms zero (to d') b o)) (sem 𝓛 (part_at (Struct (shape_of (I.the_type A B).name ms)) full_share (to d') b o))) $
-        by ! (Plain-in V (I.the_row A B) (T.the_opens A B) 𝓛 full_share v d' (view_made (I.the_row A B) V.Denot V.coded (C.the_view A B) (C.the_invariant A B) 𝓛 v d' k) b o)
+      pub shut : (v : V.Denot) (d : D) → Known v d → ent 𝓤 (mean 𝓛 (Cuts d)) (sem 𝓛 (part_at V full_share v b o))
+      unfolding part_of
+      shut v d k =
+          qed 𝓛 (Cuts d ∷ []) ∵ split3 ! $ move ! (2 ∷ []) $ split ! $ move ! (3 ∷ 0 ∷ []) $ fjoin ! $ move ! (0 ∷ 1 ∷ []) $ join ! $ move ! (1 ∷ 0 ∷ []) $
+          use2 𝓛 (‵ (part_at (I.the_row A B) full_share d b o)) (first_in (part (column A)) (part (column B) ∷ left) (I.the_type A B).name 𝓛 b o ((I.the_type A B).to d)) $
+          by ! (Plain-in V (I.the_row A B) (its.TheLaws.the_opens A B) 𝓛 full_share v d (view_made (I.the_row A B) V.Denot V.coded (C.the_view A B) (C.the_invariant A B) 𝓛 v d k) b o)

@@ -1,19 +1,12 @@
 -- The walk that writes the values of pairs, under another name for the loan of all. Assumes `Logic`.
 use Rattle.starlark_columns.proofs.Walking.{◌≡◌, ap, List, [], ◌∷◌, Ura, Val, ent, GName, ftrue, fsep, Logic, sem, ‵, ◌$◌, ◌∵◌, !, qed, fpick, fpack, done, RattleType, NamedLft}
 use Rattle.starlark_vec2.specs.contracts.pairs_mut.PairsMut as C
-use Rattle.starlark_vec2.specs.contracts.pairs_mut.PairsMut.TheInside as I
 use Rattle.starlark_vec2.specs.declared.pairs_mut.PairsMut.TheInside.{Inside}
 
-module _ (a : NamedLft) (K V : RattleType) where
-  abbrev Walk : Type 0
-  Walk = List (K.Denot × V.Denot) × GName
-
-  -- the fields of which a walk is the view
-  abbrev Behind : Walk → Type 0
-  Behind x = (w : Inside K.Denot V.Denot) × ((C.the_view a K V w ≡ x) × C.the_invariant a K V w)
-
-  pub renamed : {M : Type 1} {𝓤 : Ura M} (𝓛 : Logic 𝓤) (x : Walk) (tie : GName) (us : List Val)
-      → ent 𝓤 (sem 𝓛 ((C.the_row a K V).own_val x us)) (sem 𝓛 ((C.the_row a K V).own_val (x.0, tie) us))
-  renamed 𝓛 x tie us =
-      qed 𝓛 (‵ ((C.the_row a K V).own_val x us) ∷ []) ∵ fpick ! (λ (w : Behind x).
-      fpack ! (Behind (x.0, tie)) (λ m. fsep ((I.the_row a K V).own_val m.0 us) ftrue) (record w.0 { loan = record w.0.loan { tie = tie } }, (ap (λ (y : Walk). (y.0, tie)) w.1.0, w.1.1)) $ done !)
+pub renamed : (a : NamedLft) (K V : RattleType) {M : Type 1} {𝓤 : Ura M} (𝓛 : Logic 𝓤) (x : List (K.Denot × V.Denot) × GName) (tie : GName) (us : List Val)
+    → ent 𝓤 (sem 𝓛 ((C.the_row a K V).own_val x us)) (sem 𝓛 ((C.the_row a K V).own_val (x.0, tie) us))
+renamed a K V 𝓛 x tie us =
+    -- the fields of which a walk is the view
+    let Walk : Type 0 = List (K.Denot × V.Denot) × GName in let Behind : Walk → Type 0 = λ y. (w : Inside K.Denot V.Denot) × ((C.the_view a K V w ≡ y) × C.the_invariant a K V w) in
+    qed 𝓛 (‵ ((C.the_row a K V).own_val x us) ∷ []) ∵ fpick ! (λ (w : Behind x).
+    fpack ! (Behind (x.0, tie)) (λ m. fsep ((C.TheInside.the_row a K V).own_val m.0 us) ftrue) (record w.0 { loan = record w.0.loan { tie = tie } }, (ap (λ (y : Walk). (y.0, tie)) w.1.0, w.1.1)) $ done !)

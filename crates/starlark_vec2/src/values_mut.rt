@@ -42,7 +42,7 @@ impl<'a, K, V> Iterator for ValuesMut<'a, K, V> {
 
     ghost remaining = { λ s. at_most (length (values_of s.0)) };
 
-    #[tactic(auto, using(crate::proofs::Values::values))]
+    #[tactic(auto, using(crate::proofs::Pairs::values))]
     #[inline]
     fn next(&mut self) -> Option<&'a mut V> {
         match self.pairs.next() {
@@ -51,7 +51,7 @@ impl<'a, K, V> Iterator for ValuesMut<'a, K, V> {
         }
     }
 
-    #[tactic(auto, using(crate::proofs::Values::values))]
+    #[tactic(auto, using(crate::proofs::Pairs::values))]
     #[inline]
     fn size_hint(&self) -> (usize, Option<usize>)
         ensures lower { IsWithinCount result.0 (at_most (length (values_of self.now.0))) }
@@ -66,7 +66,7 @@ impl<'a, K, V> Iterator for ValuesMut<'a, K, V> {
 impl<'a, K, V> DoubleEndedIterator for ValuesMut<'a, K, V> {
     ghost next_back_gives = { λ s r t. TakesLast deref_mut (values_of s.0) r (values_of t.0) };
 
-    #[tactic(auto, using(crate::proofs::Values::values))]
+    #[tactic(auto, using(crate::proofs::Pairs::values))]
     #[inline]
     fn next_back(&mut self) -> Option<&'a mut V> {
         match self.pairs.next_back() {
@@ -77,7 +77,7 @@ impl<'a, K, V> DoubleEndedIterator for ValuesMut<'a, K, V> {
 }
 
 impl<'a, K, V> ExactSizeIterator for ValuesMut<'a, K, V> {
-    #[tactic(auto, using(crate::proofs::Values::values))]
+    #[tactic(auto, using(crate::proofs::Pairs::values))]
     #[inline]
     fn len(&self) -> usize {
         self.pairs.len()

@@ -18,7 +18,7 @@ use starlark_columns::{Row, Spot};
 
 impl<A, B> Vec2<A, B> {
     /// The first parts of the pairs, in their order. The list ends with what is left in them.
-    #[tactic(auto, using(crate::proofs::Pairs::columns))]
+    #[tactic(auto, using(crate::proofs::TwoColumns::firsts_end, crate::proofs::TwoColumns::firsts_are))]
     #[inline]
     pub fn firsts_mut(&mut self) -> &mut [A]
         ensures* writes_back { sem 𝓛 (lends_firsts A.row B.row self.entry result) }
@@ -83,7 +83,7 @@ impl<K, V, B> Vec2<(K, V), B> {
 
     /// The first parts of the pairs, each a key and a value, as `(&K, &mut V)`. The list ends with the values that are
     /// left in them, and all else stays.
-    #[tactic(auto, using(crate::proofs::Values::values))]
+    #[tactic(auto, using(crate::proofs::Pairs::values))]
     #[inline]
     pub fn iter_firsts_mut(&mut self) -> PairsMut<'_, K, V>
         ensures* writes_back { sem 𝓛 (firsts_follow K.row V.row B.row self.entry result.1) }
@@ -118,6 +118,7 @@ fn lend_behind<T, B>(column: &mut Row<T>, spot: Spot<B>, index: usize) -> &mut T
 }
 
 // The same, where it is one of the first `len`.
+#[tactic(auto, using(std::proofs::lemmas::Option::slice_get_past))]
 #[inline]
 fn lend_behind_if<T, B>(
     column: &mut Row<T>,

@@ -73,6 +73,7 @@ impl<A: Drop, B: Drop> Iterator for IntoIter<A, B> {
 impl<A: Drop, B: Drop> DoubleEndedIterator for IntoIter<A, B> {
     ghost next_back_gives = { TakesLast (λ p. p) };
 
+    #[tactic(auto, using(crate::proofs::Pairs::columns, std_collections::proofs::IterRuns::last_progress))]
     #[inline]
     fn next_back(&mut self) -> Option<(A, B)> {
         let from = self.from;

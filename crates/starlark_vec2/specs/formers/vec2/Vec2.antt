@@ -1,7 +1,6 @@
 -- `Vec2` as a type that may hold the type that holds it, in its first parts.
-use Rattle.std.specs.Prelude.{◌≡◌, ℕ, ◌-◌, ◌≤◌, max, Bool, true, false, List, [], ◌∷◌, ◌++◌, map, length, replicate, zip, Option, Some, None, is_some}
-use mathlib.Core.Path.{refl, sym, ap, subst, ◌∙◌}
-use mathlib.Core.HLevel.{×₃_prop}
+use Rattle.std.specs.Prelude.{◌≡◌, ℕ, max, true, false, List, [], ◌∷◌, map, length, zip, Option, Some, None, is_some}
+use mathlib.Core.Path.{refl, sym, ap, ◌∙◌}
 use denote.RawPtr.{coded_ptr}
 use mathlib.Core.Former.{Former, Count, Row, one_more, this, const, pair, list, list_count, list_put, via, children}
 use native.Mathlib.Nat.{ℕ_set}
@@ -23,9 +22,7 @@ use Rattle.std.specs.contracts.impls.GlobalAllocator.TheImpl.{ghosts}
 use Rattle.starlark_columns.specs.Cells.{items_of}
 use Rattle.starlark_columns.specs.Front.{IsFront}
 use Rattle.starlark_columns.specs.formers.row.Row.{cell, mapped_cell, mapped}
-use Rattle.starlark_columns.specs.Block.{IsBlockOf, IsSpotOf}
 use Rattle.starlark_columns.specs.declared.row.Row.{Row as Cells}
-use Rattle.starlark_columns.specs.declared.block.PairClaim.{PairClaim}
 use Rattle.starlark_columns.specs.declared.block.Spot.{Spot}
 use Rattle.starlark_columns.specs.formers.block.PairClaim as claim_is
 use Rattle.starlark_columns.specs.formers.row.Row as row_is
@@ -33,7 +30,6 @@ use Rattle.starlark_vec2.specs.declared.vec2.Vec2.TheInside.{Inside}
 use Rattle.starlark_vec2.specs.declared.vec2.Vec2.TheView.{view, invariant}
 use Rattle.starlark_vec2.specs.contracts.vec2.Vec2 as vec2
 use Rattle.starlark_vec2.specs.contracts.vec2.Vec2.TheInside as inside
-use Rattle.starlark_vec2.specs.Columns.{AreColumns}
 use Rattle.starlark_vec2.specs.PairList.{PairList, pair_list, firsts_of}
 
 -- one of g's values beside a second part
@@ -76,9 +72,8 @@ fields B = via (pair (row_is.the_former this) (const (Cells B × ℕ × Spot B �
     (λ X v. record { firsts = v.0; seconds = v.1.0; len = v.1.1; spot = v.1.2; alloc = v.1.3; block = claim_is.of_parts B X Global v.1.4 }) (λ X a. refl) (λ X v. refl)
 
 pub zip-map : {X Y B : Type 0} (h : X → Y) (xs : List X) (bs : List B) → zip (map h xs) bs ≡ map (on_first h) (zip xs bs)
-zip-map h [] bs = refl
-zip-map h (x ∷ xs) [] = refl
 zip-map h (x ∷ xs) (b ∷ bs) = ap (λ l. (h x, b) ∷ l) (zip-map h xs bs)
+zip-map h xs bs = refl
 
 pub zip-held : (B X : Type 0) (xs : List X) (bs : List B) → length xs ≡ length bs → held (list (entry this B)) X (zip xs bs) ≡ held (list this) X xs
 zip-held B X [] bs e = refl
@@ -103,28 +98,11 @@ module _ {X Y : Type 0} (h : X → Y) where
   cells-count : (cs : List (Option X)) → length (mapped h cs) ≡ length cs
   cells-count cs = length-map cs (mapped_cell h)
 
-  abbrev front_shape : ℕ → ℕ → List Bool
-  front_shape n cells = replicate n true ++ replicate (cells - n) false
-
   front_to : (cs : List (Option X)) (n : ℕ) → IsFront cs n → IsFront (mapped h cs) n
-  front_to cs n s = record {
-    count = items-count cs ∙ s.count;
-    form = shape-map cs ∙ s.form ∙ sym (ap (front_shape n) (cells-count cs));
-    within = subst (λ m. n ≤ m) (sym (cells-count cs)) s.within;
-  }
+  front_to cs n s = record { count = items-count cs ∙ s.count; form = rw (shape-map cs, cells-count cs) s.form; within = rw (cells-count cs) s.within }
 
   front_from : (cs : List (Option X)) (n : ℕ) → IsFront (mapped h cs) n → IsFront cs n
-  front_from cs n s = record {
-    count = sym (items-count cs) ∙ s.count;
-    form = sym (shape-map cs) ∙ s.form ∙ ap (front_shape n) (cells-count cs);
-    within = subst (λ m. n ≤ m) (cells-count cs) s.within;
-  }
-
-  columns_to : {B : Type 0} (cs : List (Option X)) (bs : List (Option B)) (n : ℕ) → AreColumns cs bs n → AreColumns (mapped h cs) bs n
-  columns_to cs bs n s = record { firsts_front = front_to cs n s.firsts_front; seconds_front = s.seconds_front; even = s.even ∙ sym (cells-count cs) }
-
-  columns_from : {B : Type 0} (cs : List (Option X)) (bs : List (Option B)) (n : ℕ) → AreColumns (mapped h cs) bs n → AreColumns cs bs n
-  columns_from cs bs n s = record { firsts_front = front_from cs n s.firsts_front; seconds_front = s.seconds_front; even = s.even ∙ cells-count cs }
+  front_from cs n s = record { count = sym (items-count cs) ∙ s.count; form = rw (shape-map cs, cells-count cs) at s.form; within = rw (cells-count cs) at s.within }
 
 pub items_of-held : (X : Type 0) (cs : List (Option X)) → held (list this) X (items_of cs) ≡ held (list (cell this)) X cs
 items_of-held X [] = refl
@@ -134,21 +112,12 @@ items_of-held X (Some x ∷ cs) = λ i. (one_more (items_of-held X cs i).0, (x, 
 IsFront-prop : {X : Type 0} (cs : List (Option X)) (n : ℕ) → IsProp (IsFront cs n)
 IsFront-prop cs n p q = λ i. record { count = ℕ_set _ _ p.count q.count i; form = Coded-set (coded_list coded_bool) _ _ p.form q.form i; within = le_prop p.within q.within i }
 
-AreColumns-prop : {X B : Type 0} (cs : List (Option X)) (bs : List (Option B)) (n : ℕ) → IsProp (AreColumns cs bs n)
-AreColumns-prop cs bs n p q = λ i. record {
-  firsts_front = IsFront-prop cs n p.firsts_front q.firsts_front i;
-  seconds_front = IsFront-prop bs n p.seconds_front q.seconds_front i;
-  even = ℕ_set _ _ p.even q.even i;
-}
-
-IsBlockOf-prop : {X B : Type 0} (block : PairClaim B X Global) (r : Cells X) (s : Cells B) → IsProp (IsBlockOf block s r)
-IsBlockOf-prop block r s p q = λ i. (Coded-set coded_ptr _ _ p.0 q.0 i, Coded-set coded_ptr _ _ p.1 q.1 i, ℕ_set _ _ p.2 q.2 i, ℕ_set _ _ p.3 q.3 i)
-
-IsSpotOf-prop : {X B : Type 0} (spot : Spot B) (block : PairClaim B X Global) → IsProp (IsSpotOf spot block)
-IsSpotOf-prop spot block p q = λ i. (ℕ_set _ _ p.0 q.0 i, Coded-set coded_ptr _ _ p.1 q.1 i)
-
-even_items : {X B : Type 0} (cs : List (Option X)) (bs : List (Option B)) (n : ℕ) → AreColumns cs bs n → length (items_of cs) ≡ length (items_of bs)
-even_items cs bs n s = s.firsts_front.count ∙ sym s.seconds_front.count
+invariant-prop : (B X : Type 0) (u : Inside X B) → IsProp (invariant X B u)
+invariant-prop B X u p q = λ i. (
+  record { firsts_front = IsFront-prop _ _ p.0.firsts_front q.0.firsts_front i; seconds_front = IsFront-prop _ _ p.0.seconds_front q.0.seconds_front i; even = ℕ_set _ _ p.0.even q.0.even i },
+  (Coded-set coded_ptr _ _ p.1.0 q.1.0 i, Coded-set coded_ptr _ _ p.1.1 q.1.1 i, ℕ_set _ _ p.1.2 q.1.2 i, ℕ_set _ _ p.1.3 q.1.3 i),
+  (ℕ_set _ _ p.2.0 q.2.0 i, Coded-set coded_ptr _ _ p.2.1 q.2.1 i),
+)
 
 module _ (B : RattleType) (R R' : RattleType) (h : R.Denot → R'.Denot) where
   pub the_places : Alike R R' h → Alike (vec2.the_row R B) (vec2.the_row R' B) ((the_former this B.Denot).map R.Denot R'.Denot h)
@@ -158,9 +127,10 @@ module _ (B : RattleType) (R R' : RattleType) (h : R.Denot → R'.Denot) where
       (λ X u. length (items_of u.firsts.cells) ≡ length (items_of u.seconds.cells)) (λ X Y k u e. sym (items-count k u.firsts.cells) ∙ e)
       (λ X u e. zip-held B.Denot X (items_of u.firsts.cells) (items_of u.seconds.cells) e ∙ items_of-held X u.firsts.cells)
       R.Denot R'.Denot h (vec2.the_row R B).coded (vec2.the_row R' B).coded
-      (invariant R.Denot B.Denot) (invariant R'.Denot B.Denot) (λ u. ×₃_prop (AreColumns-prop _ _ _) (IsBlockOf-prop u.block u.firsts u.seconds) (IsSpotOf-prop u.spot u.block)) (λ u. ×₃_prop (AreColumns-prop _ _ _) (IsBlockOf-prop u.block u.firsts u.seconds) (IsSpotOf-prop u.spot u.block))
-      (λ u s. (columns_to h u.firsts.cells u.seconds.cells u.len s.0, (s.1.0, s.1.1, s.1.2, s.1.3 ∙ sym (cells-count h u.firsts.cells)), s.2))
-      (λ u s. (columns_from h u.firsts.cells u.seconds.cells u.len s.0, (s.1.0, s.1.1, s.1.2, s.1.3 ∙ cells-count h u.firsts.cells), s.2)) (λ u s. even_items u.firsts.cells u.seconds.cells u.len s.0)
+      (invariant R.Denot B.Denot) (invariant R'.Denot B.Denot) (invariant-prop B.Denot R.Denot) (invariant-prop B.Denot R'.Denot)
+      (λ u s. (record { firsts_front = front_to h u.firsts.cells u.len s.0.firsts_front; seconds_front = s.0.seconds_front; even = s.0.even ∙ sym (cells-count h u.firsts.cells) }, (s.1.0, s.1.1, s.1.2, s.1.3 ∙ sym (cells-count h u.firsts.cells)), s.2))
+      (λ u s. (record { firsts_front = front_from h u.firsts.cells u.len s.0.firsts_front; seconds_front = s.0.seconds_front; even = s.0.even ∙ cells-count h u.firsts.cells }, (s.1.0, s.1.1, s.1.2, s.1.3 ∙ cells-count h u.firsts.cells), s.2))
+      (λ u s. s.0.firsts_front.count ∙ sym s.0.seconds_front.count)
       (over (inside.the_row R B)) (over (inside.the_row R' B))
       (struct_places (inside.the_type R B) (inside.the_type R' B) ((row_is.the_former this).map R.Denot R'.Denot h, (λ n. n, (λ n. n, (λ n. n, (λ n. n, ((claim_is.the_former this B.Denot Global).map R.Denot R'.Denot h, tt)))))) _ (λ d. refl) refl
       (laid _ _ _ (row_is.the_places R R' h a), ((refl, (λ n. refl, λ n. refl)), ((refl, (λ n. refl, λ n. refl)), ((refl, (λ n. refl, λ n. refl)), ((refl, (λ n. refl, λ n. refl)), (laid _ _ _ (claim_is.the_places B heap.the_row ghosts R R' h a), tt)))))))

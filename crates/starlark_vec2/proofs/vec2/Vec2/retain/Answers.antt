@@ -2,16 +2,11 @@ use Rattle.starlark_hash.proofs.Common.{take, ap, sym, subst}
 use Rattle.starlark_hash.specs.Retain.{Retains}
 use Rattle.starlark_vec2.specs.Retain.{CalledAtBoth}
 use Rattle.starlark_vec2.proofs.Pairs.{zip-take}
-use Rattle.starlark_columns.proofs.Fronts.{written_cells}
-use Rattle.starlark_vec2.proofs.TwoColumns.{relaid, both_written, both_moved}
+use Rattle.starlark_vec2.proofs.TwoColumns.{both_relaid, both_moved}
 use Rattle.starlark_vec2.proofs.vec2.Vec2.retain.Goals as goal
 
 pub invariant_of-self : goal.invariant_of-self
-invariant_of-self g c =
-    let k = c.self.invariant in
-    let xs = c.sieve-kept.new.firsts in
-    let ys = c.sieve-kept.new.seconds in
-    relaid c.self.inside k _ _ (both_written _ _ _ k.0 xs ys) (written_cells _ _ k.0.firsts_front xs) (written_cells _ _ k.0.seconds_front ys)
+invariant_of-self g c = both_relaid c.self.inside c.self.invariant c.sieve-kept.new.firsts c.sieve-kept.new.seconds
 
 pub returns-clause-pairs : goal.returns-clause-pairs
 returns-clause-pairs g c =

@@ -1,8 +1,7 @@
 use Rattle.starlark_hash.proofs.Common.{◌≡◌, length, ap, arith}
 use Rattle.starlark_vec2.specs.Sort.{PutsInOrder}
 use Rattle.starlark_vec2.proofs.Positions.{sorted_by-short, sorted_by-from_order, IsPermutation-from_order}
-use Rattle.starlark_columns.proofs.Fronts.{written_cells}
-use Rattle.starlark_vec2.proofs.TwoColumns.{relaid, both_written, both_moved, len_is}
+use Rattle.starlark_vec2.proofs.TwoColumns.{both_relaid, both_moved, len_is}
 use Rattle.starlark_vec2.proofs.vec2.Vec2.sort_by.Goals as goal
 
 pub returns-then-len-lt2-clause-sorted : goal.returns-then-len-lt2-clause-sorted
@@ -14,11 +13,7 @@ put_in_order-requires-clause-positions g c =
     rw count at c.in_ok-order.ensures.positions
 
 pub invariant_of-self : goal.invariant_of-self
-invariant_of-self g c =
-    let k = c.self.invariant in
-    let xs = c.put_in_order.new.firsts in
-    let ys = c.put_in_order.new.seconds in
-    relaid c.self.inside k _ _ (both_written _ _ _ k.0 xs ys) (written_cells _ _ k.0.firsts_front xs) (written_cells _ _ k.0.seconds_front ys)
+invariant_of-self g c = both_relaid c.self.inside c.self.invariant c.put_in_order.new.firsts c.put_in_order.new.seconds
 
 pub returns-clause-sorted : goal.returns-clause-sorted
 returns-clause-sorted g c = λ lt weak h.

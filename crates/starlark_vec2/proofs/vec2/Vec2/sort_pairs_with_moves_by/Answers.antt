@@ -6,10 +6,8 @@ use Rattle.starlark_vec2.proofs.vec2.Vec2.sort_pairs_with_moves_by.Goals as goal
 
 pub note_moves-requires-clause-indices : goal.note_moves-requires-clause-indices
 note_moves-requires-clause-indices g c =
-    let xs = c.args.self.now.pairs in
-    let ys = c.as_slice.result.now in
-    let p : IsPermutation (enumerate_from 0 xs) ys = rw (← c.in_ok-numbered.ensures.pairs, c.as_slice.ensures.value) c.sort_by-sorted.ensures.permutation in
-    cells-rearranged xs ys (length c.as_mut_slice.result.now) (omega (arith, c.as_mut_slice.ensures.len, c.in_ok-to.ensures.len, c.len-2.ensures.len)) p
+    cells-rearranged c.args.self.now.pairs c.as_slice.result.now (length c.as_mut_slice.result.now) (omega (arith, c.as_mut_slice.ensures.len, c.in_ok-to.ensures.len, c.len-2.ensures.len))
+    (rw (← c.in_ok-numbered.ensures.pairs, c.as_slice.ensures.value) c.sort_by-sorted.ensures.permutation)
 
 pub put_numbered-requires-clause-room : goal.put_numbered-requires-clause-room
 put_numbered-requires-clause-room g c =
@@ -21,10 +19,9 @@ returns-in_err-sorted-clause-unchanged g c =
 
 pub returns-clause-sorted : goal.returns-clause-sorted
 returns-clause-sorted g c = λ lt weak told.
-    let xs = c.args.self.now.pairs in
     let ys = c.sort_by-sorted.new.self.items in
     ap (λ v. v.pairs) c.put_numbered.ensures
-    ∙ sorted_by-numbered lt weak xs ys (c.in_ok-sorted.ensures.sorted (numbered_lt lt weak) (numbered_lt-weak lt weak) told)
+    ∙ sorted_by-numbered lt weak c.args.self.now.pairs ys (c.in_ok-sorted.ensures.sorted (numbered_lt lt weak) (numbered_lt-weak lt weak) told)
     (subst (λ l. IsStableBy (numbered_lt lt weak) l ys) c.in_ok-numbered.ensures.pairs (c.sort_by-sorted.ensures.stable (numbered_lt lt weak) (numbered_lt-weak lt weak) told))
 
 pub returns-clause-moves : goal.returns-clause-moves

@@ -1,6 +1,4 @@
-use Rattle.starlark_hash.proofs.Common.{refl, arith}
-use Rattle.std.proofs.lemmas.Option.{slice_get_past}
-use Rattle.starlark_columns.specs.Cells.{items_of}
+use Rattle.starlark_hash.proofs.Common.{refl}
 use Rattle.starlark_columns.proofs.Fronts.{front_filled, front_taken}
 use Rattle.starlark_vec2.proofs.vec2.get_mut.lend_behind_if.Goals as goal
 
@@ -9,6 +7,3 @@ get_mut-requires-clause-filled g c = front_filled _ _ c.requires.front _ c.if-in
 
 pub returns-then-index-len : goal.returns-then-index-len
 returns-then-index-len g c = (refl, record { writes_back = tt; value = front_taken _ _ c.requires.front _ c.if-index-len.true _ c.get_mut.ensures.value })
-
-pub returns-else-index-len : goal.returns-else-index-len
-returns-else-index-len g c = (refl, record { writes_back = tt; value = slice_get_past (items_of c.args.column.now.cells) c.args.index (omega (arith, c.requires.front.count, c.if-index-len.false)) })
