@@ -1,6 +1,5 @@
 -- A walk that clones one slot after another.
 use Rattle.starlark_hash.proofs.Common.{◌≡◌, ℕ, zero, suc, ◌+◌, ◌<◌, ◌≤◌, List, [], ◌∷◌, length, take, Option, None, get_or, arith, add-one, common_steps, AllZip, set}
-use Rattle.std.proofs.lemmas.List.{nil_from_length}
 use Rattle.starlark_table.specs.Table.{IsSlotClone}
 use Rattle.starlark_table.specs.Layout.{at, slot_tag, IsTagged}
 use Rattle.starlark_table.proofs.Tagged.{tagged-changed}
@@ -29,7 +28,3 @@ module _ {T : Type 0} (is_clone : T → T → Type 0) where
       let cloned : AllZip (IsSlotClone is_clone) (take (i + 1) slots) (take (i + 1) new) =
       rw (is, add-one) (zip_one_more (IsSlotClone is_clone) slots copy i None o k.sized below k.cloned clone) in
       grind (arith, common_steps, k.empty)
-
-  -- no slots are a clone of no slots
-  pub no_slots_cloned : (slots copy : List (Option (ℕ × T))) → length slots ≡ 0 → copy ≡ [] → AllZip (IsSlotClone is_clone) slots copy
-  no_slots_cloned slots copy e none = rw (none, nil_from_length slots e) tt

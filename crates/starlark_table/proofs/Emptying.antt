@@ -1,5 +1,5 @@
--- A walk that empties one slot after another, and slots of which one is moved.
-use Rattle.starlark_hash.proofs.Common.{◌≡◌, ℕ, ◌+◌, ◌<◌, ◌≤◌, ◌⊎◌, List, length, Option, None, sym, arith, common_steps, swap, set, set-get_or, swap_is}
+-- A walk that empties one slot after another.
+use Rattle.starlark_hash.proofs.Common.{◌≡◌, ℕ, ◌+◌, ◌<◌, ◌≤◌, List, length, Option, None, sym, arith, common_steps, set, set-get_or}
 use Rattle.starlark_table.specs.Layout.{at}
 
 module _ {T : Type 0} where
@@ -16,9 +16,3 @@ module _ {T : Type 0} where
   pub emptied-next : (initial cur new : List (Option (ℕ × T))) (i : ℕ) → i < length cur → Emptied initial cur i → new ≡ set cur i None
       → Emptied initial new (i + 1)
   emptied-next initial cur new i below k is = grind (arith, common_steps)
-
-  pub swapped_with_itself : (cur : List (Option (ℕ × T))) (to slot : ℕ) → slot < length cur → to ≡ slot → swap cur to slot ≡ cur
-  swapped_with_itself cur to slot below same = rw (same, ← swap_is cur slot slot None below below) (simp set-get_or)
-
-  pub empty_slot : (cur : List (Option (ℕ × T))) (to slot : ℕ) → (to ≡ slot → ⊥) → (to ≡ slot) ⊎ (at cur to ≡ None) → at cur to ≡ None
-  empty_slot cur to slot apart free = grind arith

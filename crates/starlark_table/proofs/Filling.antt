@@ -1,8 +1,10 @@
 -- What the tag of a slot says of it, in the words of a column.
-use Rattle.starlark_hash.proofs.Common.{◌≡◌, ℕ, zero, suc, add-one, ◌+◌, ◌<◌, ◌≤◌, List, [], ◌∷◌, length, drop, Option, Some, None, IsSome, is_some, nat_eq, get_or, arith, refl, ◌∙◌, drop-cons, nat_tests, common_steps, set}
-use Rattle.std.proofs.Math.Seq.{drop-nil}
+use Rattle.starlark_hash.proofs.Common.{◌≡◌, ℕ, suc, add-one, ◌+◌, ◌<◌, ◌≤◌, List, [], ◌∷◌, length, drop, Option, Some, None, IsSome, is_some, nat_eq, get_or, arith, refl, ◌∙◌, drop-cons, nat_tests, common_steps, set}
+use Rattle.std.proofs.Common.{slice_range}
+use Rattle.std.proofs.lemmas.List.Folds.{drop_split}
 use Rattle.starlark_table.proofs.Lists.{still_untouched}
 use Rattle.starlark_table.proofs.Closing.{full_in_range}
+use Rattle.starlark_table.proofs.Load.{filled-append, filled-replicate}
 use mathlib.Core.Bool.{not}
 use Rattle.starlark_columns.specs.Cells.{IsFilled, empties}
 use Rattle.starlark_table.specs.Table.{filled}
@@ -22,21 +24,16 @@ module _ {T : Type 0} where
   pub tells : (o : Option (ℕ × T)) (t : ℕ) → t ≡ slot_tag o → not (nat_eq t empty_tag) ≡ is_some o
   tells o t e = grind (arith, nat_tests, tag-below)
 
-  -- from a slot on there are members, so the slot is one of the slots
-  pub more_left : (slots : List (Option (ℕ × T))) (p : ℕ) → 0 < length (filled (drop p slots)) → p < length slots
-  more_left slots p some = grind (arith, common_steps)
+  pub all_empty : (xs : List (Option (ℕ × T))) → ((p : ℕ) → p < length xs → at xs p ≡ None) → xs ≡ empties (length xs)
+  all_empty [] none = refl
+  all_empty (o ∷ xs) none = grind (arith, none 0, all_empty xs (λ p below. none (suc p) (omega arith)))
 
   -- slots behind some others that are empty add no member
   pub filled-past_range : (slots : List (Option (ℕ × T))) (from end : ℕ) → from ≤ end → ((p : ℕ) → from ≤ p → p < end → at slots p ≡ None)
       → filled (drop from slots) ≡ filled (drop end slots)
-  filled-past_range [] from end on none = rw (drop-nil from, drop-nil end)
-  filled-past_range slots zero zero on none = refl
-  filled-past_range (o ∷ slots) zero (suc end) on none =
-      let rest = filled-past_range slots 0 end (omega arith) (λ p low high. none (suc p) (omega arith) (omega arith)) in
-      grind (arith, none 0)
-  filled-past_range (o ∷ slots) (suc from) zero on none = absurd (omega arith)
-  filled-past_range (o ∷ slots) (suc from) (suc end) on none =
-      filled-past_range slots from end (omega arith) (λ p low high. none (suc p) (omega arith) (omega arith))
+  filled-past_range slots from end on none =
+      let front : slice_range slots from end ≡ empties (length (slice_range slots from end)) = all_empty _ (λ p below. grind (arith, common_steps, none (from + p))) in
+      rw (drop_split slots from end on, filled-append, front) (rw filled-replicate)
 
   -- nor do those in front
   pub filled-past_front : (slots : List (Option (ℕ × T))) (n : ℕ) → ((p : ℕ) → p < n → at slots p ≡ None)
@@ -64,7 +61,3 @@ module _ {T : Type 0} where
   pub empty-joined : (slots : List (Option (ℕ × T))) (from end : ℕ) → ((p : ℕ) → p < from → at slots p ≡ None)
       → ((p : ℕ) → from ≤ p → p < end → at slots p ≡ None) → (p : ℕ) → p < end → at slots p ≡ None
   empty-joined slots from end front rest p below = grind (arith, front p, rest p)
-
-  pub all_empty : (xs : List (Option (ℕ × T))) → ((p : ℕ) → p < length xs → at xs p ≡ None) → xs ≡ empties (length xs)
-  all_empty [] none = refl
-  all_empty (o ∷ xs) none = grind (arith, none 0, all_empty xs (λ p below. none (suc p) (omega arith)))

@@ -1,9 +1,9 @@
 -- Bits that tell which of some slots pass a test, and the walk over those that are full.
-use Rattle.starlark_hash.proofs.Common.{◌≡◌, ◌≢◌, ℕ, zero, suc, ◌+◌, ◌-◌, ◌*◌, ◌/◌, ◌%◌, ◌<◌, ◌≤◌, List, Bool, true, false, cond, length, map, Option, Some, None, is_some, arith, get_or, sym, refl, ◌∙◌, drop-cons, bit_and, nat_tests, common_steps, nat_lt}
+use Rattle.starlark_hash.proofs.Common.{◌≡◌, ◌≢◌, ℕ, zero, suc, ◌+◌, ◌-◌, ◌*◌, ◌/◌, ◌%◌, ◌<◌, ◌≤◌, List, Bool, true, false, cond, length, map, Option, Some, None, arith, get_or, sym, refl, ◌∙◌, drop-cons, bit_and, nat_tests, common_steps, nat_lt}
 use Rattle.std.specs.Int.Bits.{and_step, and_self}
 use Rattle.std.specs.Int.Count.{count_trailing_zeros}
 use lib.Lanes.{chunk, mask_l}
-use Rattle.starlark_table.specs.Layout.{at, bits_where, hash_tag_bits, left_from, slot_tag, padding, IsTagged, IsTaggedFrom, LeftInWindow}
+use Rattle.starlark_table.specs.Layout.{at, bits_where, hash_tag_bits, left_from, padding, IsTagged, IsTaggedFrom, LeftInWindow}
 use Rattle.starlark_table.proofs.Filling.{filled-by_some}
 use Rattle.starlark_table.proofs.Tagged.{tag-below}
 
@@ -61,9 +61,6 @@ bits_where-chunk passes xs from (suc n) room =
     grind (arith, bits_where-chunk passes xs (suc from) n, drop-cons xs from 0)
 
 module _ {T : Type 0} where
-  tells_full : (o : Option (ℕ × T)) (t : ℕ) → t ≡ slot_tag o → nat_lt t padding ≡ is_some o
-  tells_full o t e = grind (arith, nat_tests, tag-below)
-
   pub tagged_from-start : (tags : List ℕ) (slots : List (Option (ℕ × T))) → IsTagged tags slots → IsTaggedFrom 0 tags slots
   tagged_from-start tags slots t = grind arith
 
@@ -77,7 +74,7 @@ module _ {T : Type 0} where
   unfolding left_from
   window_opens tags slots start end bits tagged on short within is =
       let its = bits_where-alike (λ p. nat_lt (get_or tags p 0) padding) (left_from slots start) start (end - start)
-      (λ p low high. grind (arith, common_steps, nat_tests, tells_full (at slots p))) in
+      (λ p low high. grind (arith, common_steps, nat_tests, tag-below)) in
       grind arith
 
   -- the slot of the lowest bit, and the walk past it

@@ -1,6 +1,5 @@
 -- A `Result` of a key and a value that are lent: a clause of one name is made at `Ok` and at `Err`, and a `Result` that a call gave is opened. Assumes `Logic`.
-use Rattle.starlark_columns.proofs.Walking.{Bool, true, false, ◌&&◌, ◌≡◌, refl, ap, ◌∙◌, ℕ, ◌⊎◌, inl, inr, List, [], ◌∷◌, ◌++◌, none, Ura, named, Val, of_list, vptr, vstruct, vcons, vnil, SProp, ent, ex, guard, Lft, GName, fres, Logic, sem, ‵, ◌$◌, ◌∵◌, !, qed, by, move, keep, drop, fsplit, fsplit3, fpick, fpack, feq_l, rewrite, show, check, done, live, RattleType, follows, follows_so, such_by, follows_by, Is, shows, Bor, MutBor, MutRef, ShrRef, mut_Tells, shr_Tells, layout, peeks, only, Good, Tuple}
-use lib.Dec as Dec
+use Rattle.starlark_columns.proofs.Walking.{◌≡◌, refl, ap, ◌∙◌, ℕ, ◌⊎◌, inl, inr, List, [], ◌∷◌, ◌++◌, none, Ura, named, Val, of_list, vptr, vstruct, vcons, vnil, SProp, ent, ex, guard, Lft, GName, fres, Logic, sem, ‵, ◌$◌, ◌∵◌, !, qed, keep, fsplit, fpick, fpack, feq_l, rewrite, show, check, done, live, RattleType, follows, follows_so, such_by, follows_by, Is, shows, Bor, MutBor, MutRef, ShrRef, mut_Tells, shr_Tells, layout, peeks, only, Good, Tuple}
 use mathlib.Core.Option.{some}
 use Rattle.core.specs.declared.result.Result.{Result}
 use Rattle.core.specs.declared.result.Result.TheVariants.{Ok, Err}
@@ -51,20 +50,12 @@ module _ {M : Type 1} {𝓤 : Ura M} (𝓛 : Logic 𝓤) where
 
     pub entry_told : ent 𝓤 (sem 𝓛 (Entry.own_val x (v ∷ []))) (guard 𝓤 (v ≡ entry_val) (sem 𝓛 (Entry.own_val x (entry_val ∷ []))))
     entry_told =
-        qed 𝓛 (‵ (Entry.own_val x (v ∷ [])) ∷ []) ∵ fpick ! (λ vss. fsplit ! $ feq_l ! (λ e. fsplit3 ! $ move ! (2 ∷ []) $ drop ! $
-        peeks ! (ShrRef (named 0) κ K) (Is (ShrRef (named 0) κ K)) (shows 𝓛 (ShrRef (named 0) κ K)) x.0 vss.0 (λ i. move ! (1 ∷ []) $
-        peeks ! (MutRef (named 0) κ V) (Is (MutRef (named 0) κ V)) (shows 𝓛 (MutRef (named 0) κ V)) x.1 vss.1.0 (λ j.
-        let f = shr_Tells (named 0) κ K x.0 vss.0 i in let g = mut_Tells (named 0) κ V x.1 vss.1.0 j in
-        rewrite ! 0 (λ (ws : List Val). ‵ ((MutRef (named 0) κ V).own_val x.1 ws)) g refl $ rewrite ! 1 (λ (ws : List Val). ‵ ((ShrRef (named 0) κ K).own_val x.0 ws)) f refl $
-        check ! (ap only e ∙ (λ k. vstruct (of_list (f k ++ (g k ++ []))))) $ move ! (1 ∷ 0 ∷ []) $
-        by ! (as_tuple 𝓛 (ShrRef (named 0) κ K) (MutRef (named 0) κ V) x.0 x.1 (vptr x.0.ref_ptr.0 x.0.ref_ptr.1) (vptr x.1.ref_ptr.0 x.1.ref_ptr.1))))))
+        qed 𝓛 (‵ (Entry.own_val x (v ∷ [])) ∷ []) ∵ peeks ! Entry _ (shows 𝓛 Entry) x (v ∷ []) (λ is.
+        let f = shr_Tells (named 0) κ K x.0 is.0.0 is.1.1.0 in let g = mut_Tells (named 0) κ V x.1 is.0.1.0 is.1.1.1.0 in
+        let e : v ≡ entry_val = ap only is.1.0 ∙ (λ k. vstruct (of_list (f k ++ (g k ++ [])))) in
+        rewrite ! 0 (λ (u : Val). ‵ (Entry.own_val x (u ∷ []))) e refl $ check ! e $ done !)
 
 -- a `Result` is one of the two
 pub which : {A E : Type 0} (r : Result A E) → ((x : A) × (r ≡ Ok x)) ⊎ ((e : E) × (r ≡ Err e))
 which (Ok x) = inl (x, refl)
 which (Err e) = inr (e, refl)
-
--- a truth, as a tuple of which the other type is sure asks for it
-pub and_sure : (a : Bool) → Dec.T a → Dec.T (a && (true && true))
-and_sure true p = tt
-and_sure false p = absurd p

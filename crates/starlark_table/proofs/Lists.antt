@@ -1,5 +1,5 @@
 -- Lists that a loop goes along, one slot after another.
-use Rattle.starlark_hash.proofs.Common.{◌≡◌, ℕ, ◌+◌, ◌<◌, ◌++◌, ◌∷◌, List, take, drop, arith, length, get_or, set, common_steps}
+use Rattle.starlark_hash.proofs.Common.{◌≡◌, ℕ, ◌+◌, ◌<◌, ◌∷◌, List, drop, arith, length, get_or, set, common_steps}
 
 module _ {X : Type 0} where
   pub head_left : (initial cur : List X) (i : ℕ) (r o : X) → i < length cur
@@ -9,7 +9,3 @@ module _ {X : Type 0} where
   pub still_untouched : (initial cur new : List X) (i : ℕ) (o : X)
       → drop i cur ≡ drop i initial → new ≡ set cur i o → drop (i + 1) new ≡ drop (i + 1) initial
   still_untouched initial cur new i o same is = grind (arith, common_steps)
-
-  pub taken_more : (cur new rest : List X) (i : ℕ) (o : X) → i < length cur → new ≡ set cur i o
-      → take i cur ++ o ∷ rest ≡ take (i + 1) new ++ rest
-  taken_more cur new rest i o i_in is = grind (arith, common_steps)

@@ -1,10 +1,10 @@
 -- How many members the slots hold.
-use Rattle.starlark_hash.proofs.Common.{◌≡◌, ◌≢◌, ℕ, zero, suc, add-one, length-append, ◌+◌, ◌*◌, ◌^◌, ◌<◌, ◌≤◌, List, [], ◌∷◌, ◌++◌, length, Option, Some, None, arith, refl, IsPermutation, ◌∙◌, ap, common_steps, length_permutation, IsPermutation-trans, IsPermutation-sym, IsPermutation-cons, IsPermutation-middle, IsPermutation-append_right, set}
+use Rattle.starlark_hash.proofs.Common.{◌≡◌, ◌≢◌, ℕ, zero, suc, add-one, length-append, ◌+◌, ◌*◌, ◌^◌, ◌<◌, ◌≤◌, List, [], ◌∷◌, ◌++◌, length, Option, Some, None, arith, refl, IsPermutation, ◌∙◌, ap, common_steps, length_permutation, IsPermutation-trans, IsPermutation-sym, IsPermutation-middle, IsPermutation-append_right, set}
 use Rattle.std.proofs.Common.{replicate}
 use Rattle.std.proofs.lemmas.List.Sorted.{IsPermutation-append_left}
 use Rattle.std.proofs.lemmas.List.{length-replicate}
 use Rattle.starlark_table.specs.Table.{filled}
-use Rattle.starlark_table.specs.Layout.{at, tags_of_empty, IsTagged, IsSound}
+use Rattle.starlark_table.specs.Layout.{at, tags_of_empty, IsSound}
 use Rattle.starlark_table.specs.Growth.{limit}
 use Rattle.starlark_table.proofs.Bag.{filled-set_none, filled-set_some}
 use Rattle.starlark_table.proofs.TagCount.{tag_count-some}
@@ -24,11 +24,6 @@ module _ {T : Type 0} where
   another_empty_slot slots slot m slot_in load full =
       let q = empty_slot slots (omega arith) in
       (q.0, grind (arith, common_steps), grind arith, grind (arith, common_steps))
-
-  pub bag-taken_out : (slots new : List (Option (ℕ × T))) (slot : ℕ) (m : ℕ × T) → at slots slot ≡ Some m
-      → IsPermutation (filled (set slots slot None)) (filled new) → IsPermutation (filled slots) (m ∷ filled new)
-  bag-taken_out slots new slot m full moved =
-      IsPermutation-trans _ _ _ (filled-set_none slots slot m full) (IsPermutation-cons m _ _ moved)
 
   -- a table that has slots has an empty one
   pub sound-empty_slot : (slots : List (Option (ℕ × T))) (tags : List ℕ) (count far : ℕ) → IsSound slots tags count far → 0 < length slots
@@ -61,14 +56,9 @@ module _ {T : Type 0} where
   empty_slot-while_moving all old slots some room bag =
       empty_slot slots (omega (arith, length_permutation all (filled old ++ filled slots) bag, length-append (filled old) (filled slots)))
 
-  tagged-replicate : (items : List (Option (ℕ × T))) (tags : List ℕ) (count : ℕ) → 0 < count → items ≡ replicate count None
-      → tags ≡ tags_of_empty count → IsTagged tags items
-  tagged-replicate items tags count some e f = grind (arith, common_steps, tag_count-some)
-
   pub sound-all_empty : (items : List (Option (ℕ × T))) (tags : List ℕ) (count : ℕ) → items ≡ replicate count None
       → tags ≡ tags_of_empty count → 0 < count → (k : ℕ) × (count ≡ 8 * 2 ^ k) → IsSound items tags 0 0 × (filled items ≡ [])
   sound-all_empty items tags count e f some doubled =
       let none : filled items ≡ [] = ap filled e ∙ filled-replicate count in
       let sized : length items ≡ count = ap length e ∙ length-replicate count None in
-      let tagged = tagged-replicate items tags count some e f in
-      (grind (arith, common_steps), none)
+      (grind (arith, common_steps, tag_count-some), none)

@@ -1,11 +1,11 @@
 -- Slots that a walk has still to take, and the tags that tell which of them are full.
-use Rattle.starlark_hash.proofs.Common.{◌≡◌, ℕ, suc, ◌+◌, ◌-◌, ◌<◌, ◌≤◌, refl, List, [], ◌∷◌, length, drop, Option, None, slice_index_or, subst, arith, cases_lt}
+use Rattle.starlark_hash.proofs.Common.{common_steps, ◌≡◌, ℕ, suc, ◌+◌, ◌-◌, ◌<◌, ◌≤◌, List, [], ◌∷◌, length, drop, Option, None, slice_index_or, arith, cases_lt}
 use Rattle.starlark_columns.specs.Cells.{IsFilled}
 use Rattle.starlark_table.specs.Table.{filled}
 use Rattle.starlark_table.specs.Layout.{at, empty_tag, hash_tag_bits, IsTagged, LeftInWindow}
 use Rattle.starlark_table.specs.Loan.{AreMarked, Lent}
-use Rattle.starlark_table.proofs.Filling.{filled-by_some, filled-past_range, more_left}
-use Rattle.starlark_table.proofs.FullBits.{tagged_from-start, tagged_from-later, window_done, window_opens}
+use Rattle.starlark_table.proofs.Filling.{filled-by_some, filled-past_range}
+use Rattle.starlark_table.proofs.FullBits.{window_done, window_opens}
 use Rattle.starlark_table.proofs.TagCount.{long_tags}
 use Rattle.starlark_table.proofs.Tagged.{full-by_tag, empty-by_tag}
 
@@ -13,11 +13,7 @@ module _ {T : Type 0} where
   -- without the first
   marked-rest : (tags : List ℕ) (from : ℕ) (rest : List (Option (ℕ × T))) → 0 < length rest → AreMarked tags from rest → AreMarked tags (from + 1) (drop 1 rest)
   marked-rest tags from [] some m = absurd (omega (arith, some))
-  marked-rest tags from (c ∷ rest) some m = record {
-    sized = let s = m.sized in omega (arith, s);
-    empty = λ k below e. m.empty (suc k) (omega (arith, below)) (subst (λ p. slice_index_or tags p 0 ≡ empty_tag) (omega arith) e);
-    full = λ k below n. m.full (suc k) (omega (arith, below)) (subst (λ p. slice_index_or tags p 0 ≡ empty_tag → ⊥) (omega arith) n);
-  }
+  marked-rest tags from (c ∷ rest) some m = grind (arith, λ (k : ℕ). m.empty (suc k), λ (k : ℕ). m.full (suc k))
 
   -- what is known of the next slot to be taken, and of those behind it
   module _ (tags : List ℕ) (l v : Lent T) (view : l ≡ v) (marked : AreMarked tags l.from l.rest) (index : ℕ) (next : (index ≡ v.from) × (0 < length v.rest)) where
@@ -36,8 +32,7 @@ module _ {T : Type 0} where
   -- a window of a table's slots, as its tags tell
   pub marked-window : (tags : List ℕ) (slots : List (Option (ℕ × T))) (start end bits : ℕ) → IsTagged tags slots → start < end
       → end ≤ start + 64 → end ≤ length tags → bits ≡ hash_tag_bits tags start (end - start) → LeftInWindow slots start end start bits
-  marked-window tags slots start end bits t =
-      window_opens tags slots start end bits (tagged_from-later 0 start tags slots slots (tagged_from-start tags slots t) (omega arith) refl (λ p behind. refl))
+  marked-window tags slots start end bits t = window_opens tags slots start end bits (grind arith)
 
   -- a walk has passed the slots from one on that stand before another, all of them empty
   pub record PassedOver (slots : List (Option (ℕ × T))) (from start : ℕ) : Type 0 where
@@ -46,23 +41,16 @@ module _ {T : Type 0} where
 
   -- where members are left, the walk has not come to the end
   pub more_ahead : (slots : List (Option (ℕ × T))) (from start : ℕ) → PassedOver slots from start → 0 < length (filled (drop from slots)) → start < length slots
-  more_ahead slots from start k some = more_left slots start (rw (← filled-past_range slots from start k.ahead k.passed) some)
+  more_ahead slots from start k some = grind (arith, common_steps, filled-past_range slots from start k.ahead k.passed)
 
   -- it passes a window without a bit
   pub passed-window : (slots : List (Option (ℕ × T))) (from start end bits : ℕ) → PassedOver slots from start
       → LeftInWindow slots start end start bits → bits ≡ 0 → start < end → PassedOver slots from end
-  passed-window slots from start end bits k left none some = record {
-    ahead = let ahead = k.ahead in omega arith;
-    passed = λ p low high. grind (arith, k.passed p, window_done slots start end start bits left none p);
-  }
+  passed-window slots from start end bits k left none some = grind (arith, window_done slots start end start bits left none)
 
   -- the tags of a table mark its slots, before the first is taken
   pub marked-all : (tags : List ℕ) (slots : List (Option (ℕ × T))) → IsTagged tags slots → AreMarked tags 0 slots
-  marked-all tags slots t = record {
-    sized = grind (arith, long_tags tags slots t.sized, cases_lt 0 (length slots));
-    empty = λ k below e. grind (arith, empty-by_tag tags slots k t);
-    full = λ k below n. grind (arith, full-by_tag tags slots k t);
-  }
+  marked-all tags slots t = grind (arith, long_tags tags slots t.sized, cases_lt 0 (length slots), empty-by_tag tags slots, full-by_tag tags slots)
 
 -- what a loan knows of its slots as it begins, and as it goes on
 pub ruleset marking = (marked-all, next-behind)

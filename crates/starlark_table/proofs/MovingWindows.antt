@@ -1,5 +1,5 @@
 -- The walk that takes every member out, window by window.
-use Rattle.starlark_hash.proofs.Common.{◌≡◌, ◌≢◌, ℕ, ◌+◌, ◌-◌, ◌<◌, ◌≤◌, List, Option, Some, None, arith, refl, ◌∙◌, length, bit_and, common_steps, set, length-set, count_trailing_zeros}
+use Rattle.starlark_hash.proofs.Common.{◌≡◌, ◌≢◌, ℕ, ◌+◌, ◌-◌, ◌<◌, ◌≤◌, List, Option, Some, None, arith, ◌∙◌, length, bit_and, common_steps, set, length-set, count_trailing_zeros}
 use Rattle.starlark_table.specs.Layout.{at, LeftInWindow}
 use Rattle.starlark_table.proofs.Closing.{full_in_range}
 use Rattle.starlark_table.proofs.FullBits.{window_next, window_done}
@@ -16,14 +16,7 @@ module _ {T : Type 0} where
 
   pub emptying-begins : (slots : List (Option (ℕ × T))) (start end bits : ℕ) → LeftInWindow slots start end start bits
       → EmptyingWindow slots slots start end bits
-  emptying-begins slots start end bits left = record {
-    next = start;
-    left = left;
-    sized = refl;
-    emptied = λ p low high. absurd (omega arith);
-    before = λ p high. refl;
-    after = λ p low. refl;
-  }
+  emptying-begins slots start end bits left = grind arith
 
   module _ (initial cur : List (Option (ℕ × T))) (start end bits k : ℕ) (w : EmptyingWindow initial cur start end bits)
       (some : bits ≢ 0) (lowest : k ≡ count_trailing_zeros 64 bits) where

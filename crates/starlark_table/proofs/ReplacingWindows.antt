@@ -37,11 +37,6 @@ module _ {F T : Type 0} (g : Mut F (Bor T × Unit {0}) T) where
   replaces-none f (None ∷ xs) none = (xs, refl, replaces-none f xs (λ p. none (suc p)))
   replaces-none f (Some m ∷ xs) none = absurd (cc (none 0))
 
-  within-empties : (f : F) (xs : List (Option (ℕ × T))) (i j : ℕ) → ((p : ℕ) → i ≤ p → p < j → at xs p ≡ None) → ReplacesWithin g f xs xs f i j
-  within-empties f xs i j none =
-      let items = replaces-none f (slice_range xs i j) (λ p. grind (arith, common_steps, none (i + p))) in
-      assumption
-
   pub within-join : (f f' last : F) (a b c : List (Option (ℕ × T))) (i j k : ℕ) → i ≤ j → j ≤ k → ReplacesWithin g f a b f' i j
       → ReplacesWithin g f' b c last j k → ReplacesWithin g f a c last i k
   within-join f f' last a b c i j k on on' w v =
@@ -55,6 +50,13 @@ module _ {F T : Type 0} (g : Mut F (Bor T × Unit {0}) T) where
         items = rw (old, new) (replaces-append f f' last _ _ _ _ w.items v.items);
         after = cc (drop-drop (k - j) j b, drop-drop (k - j) j a);
       }
+
+  -- further, over empty slots
+  within-past : (f last : F) (a b : List (Option (ℕ × T))) (i j k : ℕ) → i ≤ j → j ≤ k → ReplacesWithin g f a b last i j → ((p : ℕ) → j ≤ p → p < k → at a p ≡ None)
+      → ReplacesWithin g f a b last i k
+  within-past f last a b i j k on on' w none =
+      let nothing = replaces-none last (slice_range b j k) (λ p. grind (arith, common_steps, none (j + p), alike_behind b a j (j + p) None w.after)) in
+      within-join f last last a b b i j k on on' w (record { before = refl; items = nothing; after = refl })
 
   within-member : (f f' : F) (xs : List (Option (ℕ × T))) (i h : ℕ) (x y : T) → i < length xs → at xs i ≡ Some (h, x) → CalledAt g f x y f'
       → ReplacesWithin g f xs (set xs i (Some (h, y))) f' i (i + 1)
@@ -86,8 +88,8 @@ module _ {F T : Type 0} (g : Mut F (Bor T × Unit {0}) T) where
   pub replacing-begins : (f : F) (slots : List (Option (ℕ × T))) (start end bits : ℕ) → LeftInWindow slots start end start bits
       → ReplacingWindow f slots slots f start end bits
   replacing-begins f slots start end bits left =
-      let nothing = within-empties f slots start start (λ p low high. absurd (omega arith)) in
-      record { next = start; left = left; sized = refl; replaced = nothing }
+      let nothing = replaces-none f (slice_range slots start start) (λ p. grind (arith, common_steps)) in
+      record { next = start; left = left; sized = refl; replaced = record { before = refl; items = nothing; after = refl } }
 
   module _ (first : F) (initial cur : List (Option (ℕ × T))) (f : F) (start end bits k : ℕ) (w : ReplacingWindow first initial cur f start end bits)
       (some : bits ≢ 0) (lowest : k ≡ count_trailing_zeros 64 bits) where
@@ -99,9 +101,7 @@ module _ {F T : Type 0} (g : Mut F (Bor T × Unit {0}) T) where
     replacing-finds = (found.member, alike_behind cur initial w.next (start + k) None w.replaced.after found.ahead ∙ found.here)
 
     up_to_slot : ReplacesWithin g first initial cur f start (start + k)
-    up_to_slot =
-        within-join first f f initial cur cur start w.next (start + k) w.left.from found.ahead w.replaced
-        (within-empties f cur w.next (start + k) (λ p low high. alike_behind cur initial w.next p None w.replaced.after low ∙ found.passed p low high))
+    up_to_slot = within-past first f initial cur start w.next (start + k) w.left.from found.ahead w.replaced found.passed
 
     module _ (m : ℕ × T) (here : at cur (start + k) ≡ Some m) where
       -- f may be shown its item
@@ -125,6 +125,4 @@ module _ {F T : Type 0} (g : Mut F (Bor T × Unit {0}) T) where
   pub replacing-ends : (first : F) (initial cur : List (Option (ℕ × T))) (f : F) (start end bits : ℕ) → ReplacingWindow first initial cur f start end bits
       → bits ≡ 0 → ReplacesWithin g first initial cur f start end
   replacing-ends first initial cur f start end bits w none =
-      within-join first f f initial cur cur start w.next end w.left.from w.left.to w.replaced
-      (within-empties f cur w.next end
-      (λ p low high. alike_behind cur initial w.next p None w.replaced.after low ∙ window_done initial start end w.next bits w.left none p low high))
+      within-past first f initial cur start w.next end w.left.from w.left.to w.replaced (window_done initial start end w.next bits w.left none)

@@ -1,17 +1,13 @@
--- A search that is under way: what it refused so far, and what is left to ask about.
-use Rattle.starlark_hash.proofs.Common.{◌≡◌, ℕ, List, [], ◌∷◌, ◌++◌, Option, None, Bool, length, refl, arith, Mut, Bor, IsPermutation-refl}
+-- A search that is under way: what it refused so far, and what it is asked then.
+use Rattle.starlark_hash.proofs.Common.{◌≡◌, ℕ, List, [], ◌∷◌, ◌++◌, Option, None, Bool, false, refl, Mut, Bor, IsPermutation-refl}
 use Rattle.starlark_hash.specs.Search.{Asks, Refuses, Searches}
-use Rattle.starlark_table.specs.Table.{holders_in}
 
 module _ {F T : Type 0} (g : Mut F (Bor T × Unit {0}) Bool) where
-  -- first refused the items before those left, and is now f
-  pub record Searching (items : List (ℕ × T)) (first f : F) (left : List (ℕ × T)) : Type 0 where
-    pub before : List (ℕ × T)
-    pub split : items ≡ before ++ left
-    pub refused : Refuses g first before f
-    pub rest : (answer : Option ℕ) (last : F) → Asks g f left answer last → Asks g first items answer last
+  pub asks-after : (before later : List (ℕ × T)) (first f : F) (answer : Option ℕ) (last : F) → Refuses g first before f → Asks g f later answer last
+      → Asks g first (before ++ later) answer last
+  asks-after [] later first f answer last same asks = rw same asks
+  asks-after (p ∷ before) later first f answer last (next, called, refused) asks = (false, next, called, asks-after before later next f answer last refused asks)
 
-  -- where there is no slot, nobody is asked
-  pub searches_none : (hash : ℕ) (slots : List (Option (ℕ × T))) (f : F) → length slots ≡ 0 → Searches g (holders_in hash slots) f None f
-  searches_none hash [] f none = record { order = []; rearranged = IsPermutation-refl []; asks = (refl, refl) }
-  searches_none hash (o ∷ slots) f none = absurd (omega arith)
+  -- where no item is, nobody is asked
+  pub searches_none : (items : List (ℕ × T)) (f : F) → items ≡ [] → Searches g items f None f
+  searches_none items f none = record { order = []; rearranged = rw none (IsPermutation-refl []); asks = (refl, refl) }

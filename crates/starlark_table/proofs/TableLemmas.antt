@@ -1,9 +1,12 @@
 -- What the words on tables say of one another, for the crates above.
-use Rattle.starlark_hash.proofs.Common.{◌≡◌, ℕ, zero, suc, ◌+◌, ◌-◌, inl, inr, cases_eq, nat_tests, common_steps, ◌<◌, ◌≤◌, nat_eq, List, [], ◌∷◌, map, Option, Some, None, refl, ap, arith, IsPermutation, slice_index_or, slice_set, Contains, enumerate_from, IsPermutation-trans, IsPermutation-cons, IsPermutation-middle, length_permutation, none-some}
+use Rattle.starlark_hash.proofs.Common.{All, All-append, All-contains, All-weaker, ◌≡◌, ℕ, ◌+◌, ◌-◌, nat_tests, common_steps, ◌<◌, ◌≤◌, nat_eq, List, [], ◌∷◌, map, Option, Some, None, refl, ap, arith, IsPermutation, slice_index_or, slice_set, Contains, enumerate_from, IsPermutation-trans, IsPermutation-cons, IsPermutation-middle, length_permutation}
+use Rattle.std.proofs.lemmas.List.Elements.{All-nil}
 use Rattle.std.specs.List.{filter}
 use Rattle.starlark_table.specs.Table.{Table, filled, holders, members, member_at, items_under, table_capacity, table_len, with_item, GrowsAsNeeded}
 use Rattle.starlark_table.specs.Growth.{most_for}
-use Rattle.starlark_table.proofs.Path.{in_filled}
+use Rattle.std.proofs.lemmas.List.{set-set}
+use Rattle.starlark_table.proofs.Bag.{filled-set_none, filled-set_some}
+use Rattle.starlark_table.proofs.Path.{holders-cons, in_filled}
 
 module _ {T : Type 0} where
   -- the member of a slot is a member of the table
@@ -21,32 +24,22 @@ module _ {T : Type 0} where
   items-items_under hash t = under_in hash 0 t.slots
 
   -- counted from the n-th on, the slot has the item under the hash
-  abbrev Stands : ℕ → List (Option (ℕ × T)) → ℕ → ℕ × T → Type 0
-  Stands hash slots n s = (n ≤ s.0) × (slice_index_or slots (s.0 - n) None ≡ Some (hash, s.1))
+  abbrev Stands : ℕ → ℕ → List (Option (ℕ × T)) → ℕ × T → Type 0
+  Stands hash n slots s = (n ≤ s.0) × (slice_index_or slots (s.0 - n) None ≡ Some (hash, s.1))
 
-  stands_behind : (hash n : ℕ) (o : Option (ℕ × T)) (slots : List (Option (ℕ × T))) (s : ℕ × T) → Stands hash slots (n + 1) s → Stands hash (o ∷ slots) n s
+  stands_behind : (hash n : ℕ) (o : Option (ℕ × T)) (slots : List (Option (ℕ × T))) (s : ℕ × T) → Stands hash (n + 1) slots s → Stands hash n (o ∷ slots) s
   stands_behind hash n o slots s there = grind (arith, common_steps)
 
-  stands_here : (hash n : ℕ) (x : T) (slots : List (Option (ℕ × T))) (rest : List (ℕ × T)) (s : ℕ × T)
-      → (Contains rest s → Stands hash slots (n + 1) s) → Contains ((n, x) ∷ rest) s → Stands hash (Some (hash, x) ∷ slots) n s
-  stands_here hash n x slots rest s later (zero, below, is) = grind arith
-  stands_here hash n x slots rest s later (suc k, below, is) = stands_behind hash n (Some (hash, x)) slots s (later (k, omega arith, is))
-
-  stands : (hash n : ℕ) (slots : List (Option (ℕ × T))) (s : ℕ × T) → Contains (holders hash (enumerate_from n slots)) s → Stands hash slots n s
-  stands hash n [] s there = absurd (omega (arith, there.1))
-  stands hash n (None ∷ slots) s there = stands_behind hash n None slots s (stands hash (n + 1) slots s there)
-  stands hash n (Some (h, x) ∷ slots) s there = elim (cases_eq h hash) [
-    | inl same ↦
-        let there' : Contains ((n, x) ∷ holders hash (enumerate_from (n + 1) slots)) s = grind (arith, nat_tests) in
-        rw same (stands_here hash n x slots _ s (stands hash (n + 1) slots s) there')
-    | inr other ↦
-        let there' : Contains (holders hash (enumerate_from (n + 1) slots)) s = grind (arith, nat_tests) in
-        stands_behind hash n (Some (h, x)) slots s (stands hash (n + 1) slots s there')
-  ]
+  stand : (hash n : ℕ) (slots : List (Option (ℕ × T))) → All (Stands hash n slots) (holders hash (enumerate_from n slots))
+  stand hash n [] = All-nil (Stands hash n [])
+  stand hash n (o ∷ slots) =
+      let here : All (Stands hash n (o ∷ slots)) (holders hash ((n, o) ∷ [])) = λ k d below. grind (arith, nat_tests) in
+      let later = All-weaker (Stands hash (n + 1) slots) (Stands hash n (o ∷ slots)) (stands_behind hash n o slots) _ (stand hash (n + 1) slots) in
+      rw holders-cons (All-append (Stands hash n (o ∷ slots)) _ _ here later)
 
   -- a slot of a hash has the item under that hash
   pub member_at-items_under : (hash : ℕ) (t : Table T) (s : ℕ × T) → Contains (items_under hash t) s → member_at t s.0 ≡ Some (hash, s.1)
-  member_at-items_under hash t s there = let held = stands hash 0 t.slots s there in grind arith
+  member_at-items_under hash t s there = let held = All-contains (Stands hash 0 t.slots) _ s (stand hash 0 t.slots) there in grind arith
 
 -- ---- how room grows
 module _ {T : Type 0} where
@@ -72,15 +65,9 @@ module _ {T : Type 0} where
 
 -- ---- what writing the item of one slot leaves
 module _ {T : Type 0} where
-  item_written : (slots : List (Option (ℕ × T))) (slot h : ℕ) (y x : T) → slice_index_or slots slot None ≡ Some (h, y)
-      → IsPermutation ((h, x) ∷ filled slots) ((h, y) ∷ filled (slice_set slots slot (Some (h, x))))
-  item_written [] slot h y x at = absurd (none-some (h, y) at)
-  item_written (s ∷ slots) zero h y x at = rw at (IsPermutation-middle ((h, x) ∷ []) (h, y) (filled slots))
-  item_written (None ∷ slots) (suc slot) h y x at = item_written slots slot h y x at
-  item_written (Some m ∷ slots) (suc slot) h y x at =
-      IsPermutation-trans _ _ _ (IsPermutation-middle ((h, x) ∷ []) m _)
-      (IsPermutation-trans _ _ _ (IsPermutation-cons m _ _ (item_written slots slot h y x at)) (IsPermutation-middle (m ∷ []) (h, y) _))
-
   -- with the new item put in before, or the old one after, the bags are the same
   pub members-with_item : (t : Table T) (slot h : ℕ) (y x : T) → member_at t slot ≡ Some (h, y) → IsPermutation ((h, x) ∷ members t) ((h, y) ∷ members (with_item t slot x))
-  members-with_item t slot h y x at = rw at (item_written t.slots slot h y x at)
+  members-with_item t slot h y x here =
+      let out = filled-set_none t.slots slot (h, y) here in
+      let back = rw set-set at (filled-set_some (slice_set t.slots slot None) slot (h, x) (grind (arith, common_steps)) (grind (arith, common_steps))) in
+      rw here (IsPermutation-trans _ _ _ (IsPermutation-cons (h, x) _ _ out) (IsPermutation-trans _ _ _ (IsPermutation-middle ((h, x) ∷ []) (h, y) _) (IsPermutation-cons (h, y) _ _ back)))

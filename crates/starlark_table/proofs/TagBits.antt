@@ -4,7 +4,7 @@ use Rattle.std.proofs.Math.Nat.{pow-succ', mod-one, div-div-eq-div-mul, one-le-p
 use Rattle.std.proofs.Math.Arith.{mod-mul}
 use lib.Lanes.{chunk, mask_l}
 use Rattle.starlark_table.specs.Layout.{tag_bits, bits_where}
-use Rattle.starlark_table.proofs.FullBits.{lowest, bits_where-chunk, FirstPassing, first_passing-by_bits, none_passing-by_bits}
+use Rattle.starlark_table.proofs.FullBits.{lowest, bits_where-chunk, first_passing-by_bits, none_passing-by_bits}
 
 module _ (sought : ℕ) (tags : List ℕ) where
   -- they are the bits of a test
@@ -36,22 +36,20 @@ module _ (sought : ℕ) (tags : List ℕ) where
       let rest = tag_bits-front (suc from) k n all (omega arith) in
       grind (arith, pow-suc 2 k, lowest (nat_eq (get_or tags from 0) sought) (tag_bits sought tags (suc from) all))
 
-  module _ (from n : ℕ) (room : from + n ≤ length tags) where
+  -- the first of n slots that has the tag, so many slots on
+  pub record FirstTagged (from n k : ℕ) : Type 0 where
+    pub within : k < n
+    pub there : get_or tags (from + k) 0 ≡ sought
+    pub before : (p : ℕ) → from ≤ p → p < from + k → get_or tags p 0 ≢ sought
+
+  module _ (from n bits : ℕ) (its : bits ≡ tag_bits sought tags from n) where
     -- where no bit is set, no slot has the tag
-    pub none-by_bits : tag_bits sought tags from n ≡ 0 → (p : ℕ) → from ≤ p → p < from + n → get_or tags p 0 ≢ sought
+    pub none-by_bits : bits ≡ 0 → (p : ℕ) → from ≤ p → p < from + n → get_or tags p 0 ≢ sought
     none-by_bits none p low high =
         grind (arith, nat_tests, by_test from n, none_passing-by_bits (λ p. nat_eq (get_or tags p 0) sought) from n)
 
-    -- the first slot with the tag, so many slots on
-    pub record FirstTagged (k : ℕ) : Type 0 where
-      pub within : k < n
-      pub there : get_or tags (from + k) 0 ≡ sought
-      pub before : (p : ℕ) → from ≤ p → p < from + k → get_or tags p 0 ≢ sought
-
     -- where a bit is set, the lowest is that of the first slot that has the tag
-    pub first-by_bits : (k : ℕ) → n ≤ 64 → tag_bits sought tags from n ≢ 0 → k ≡ count_trailing_zeros 64 (tag_bits sought tags from n) → FirstTagged k
-    first-by_bits k few some is =
-        let test = λ (p : ℕ). nat_eq (get_or tags p 0) sought in
-        let first : FirstPassing test from n k =
-        rw (is, by_test from n) (first_passing-by_bits test from n 64 few (λ none. some (by_test from n ∙ none))) in
-        grind (arith, nat_tests)
+    pub first-by_bits : n ≤ 64 → bits ≢ 0 → FirstTagged from n (count_trailing_zeros 64 bits)
+    first-by_bits few some =
+        let first = first_passing-by_bits (λ p. nat_eq (get_or tags p 0) sought) from n 64 few (λ none. some (its ∙ by_test from n ∙ none)) in
+        rw (its, by_test from n) (grind (arith, nat_tests))

@@ -16,7 +16,7 @@ pub(crate) type Slots<T, H> = Column<(Kept<H>, T)>;
 
 // A slot, with the item in it.
 #[inline(always)]
-#[tactic(auto, using(crate::proofs::Vacant::window_at_home))]
+#[tactic(auto, using(crate::proofs::Windows::at_home))]
 pub(crate) fn find_slot<'a, T, H: KeptHash, F: FnMut(&T) -> bool>(
     slots: &'a Slots<T, H>,
     tags: &[u8],
@@ -86,7 +86,7 @@ fn ends_at_home(tags: &[u8], home: usize, far: u64, tag: u8) -> bool
 
 // The first empty slot of the home's window, where no tag there is that of the hash: then no member has the hash.
 #[inline(always)]
-#[tactic(auto, using(crate::proofs::Vacant::window_at_home))]
+#[tactic(auto, using(crate::proofs::Windows::at_home))]
 pub(crate) fn vacancy<T, H: KeptHash>(
     slots: &Slots<T, H>,
     tags: &[u8],

@@ -1,8 +1,10 @@
-use Rattle.starlark_hash.proofs.Common.{◌<◌, length, arith, refl, inl, inr}
+use Rattle.starlark_hash.proofs.Common.{◌∙◌, ap, ◌<◌, length, arith, refl, inl, inr}
+use Rattle.starlark_table.specs.Layout.{tag}
 use Rattle.starlark_table.proofs.TagCount.{long_tags}
 use Rattle.std.proofs.lemmas.Fn.{called_at}
+use Rattle.std.proofs.lemmas.List.{nil_from_length}
 use Rattle.starlark_table.proofs.Searching.{searches_none}
-use Rattle.starlark_table.proofs.Looking.{Looking, left_to_look, tag_at, same-by_test, other-by_test, looking_begins, looking_told, looking_within, looking_ends, looking_near, looking_goes_on, looking_full, looking_asks, looking_accepts, looking_nearer, looking_refuses, looking_skips}
+use Rattle.starlark_table.proofs.Looking.{Looking, left_to_look, same-by_test, other-by_test, looking_begins, looking_within, looking_ends, looking_near, looking_goes_on, looking_full, looking_asks, looking_accepts, looking_nearer, looking_refuses, looking_skips}
 use Rattle.starlark_table.proofs.probe.find_slot.Given.{Over}
 use Rattle.starlark_table.proofs.probe.find_slot.Goals as goal
 use Rattle.starlark_table.proofs.probe.find_slot.Goals.{After-slots_with-same, After-slots_up_to_empty-same, then-same-ne0+else-is, else-same-ne0+else-ends_at_home, else-is-via-then-is+else-eq, else-is-via-else-is, else-is-2-via-then-is-2+else-eq-2, else-is-2-via-else-is-2}
@@ -17,10 +19,10 @@ goes_on : (g : Over) (c : After-slots_up_to_empty-same g)
     × (left_to_look c.args.hash c.args.slots.now c.window_after-start.result c.window_after-start.result < left_to_look c.args.hash c.args.slots.now c.windows.start c.windows.slot)
 goes_on g c =
     looking_goes_on g.F.FnMut _ _ _ _ c.requires.tagged _ _ _ _ c.windows.invariant c.if-same-eq0.true _ c.slots_with.ensures _ _ _ _ c.requires.free c.requires.mask
-    (tag_at _ _ _ c.tag-sought.ensures c.number-number.ensures) c.if-slots_with-ne0.false c.window_after-start.ensures.on c.window_after-start.ensures.round c.slots_up_to_empty-same.ensures
+    (c.tag-sought.ensures ∙ ap tag c.number-number.ensures) c.if-slots_with-ne0.false c.window_after-start.ensures.on c.window_after-start.ensures.round c.slots_up_to_empty-same.ensures
 
 pub returns-then-cells-eq0-clause-found : goal.returns-then-cells-eq0-clause-found
-returns-then-cells-eq0-clause-found g c = (c.args.eq, search (arith, searches_none g.F.FnMut))
+returns-then-cells-eq0-clause-found g c = (c.args.eq, searches_none g.F.FnMut _ _ (let none = nil_from_length c.args.slots.now (omega (arith, c.cells.ensures.cells, c.if-cells-eq0.true)) in rw none))
 
 pub get-requires : goal.get-requires
 get-requires g c = search (looking_full g.F.FnMut, begins g (goal.at.get-requires g c).After-slots_with-same)
@@ -45,17 +47,15 @@ pub windows-init : goal.windows-init
 windows-init g c =
     let begins = begins g (goal.at.windows-init g c).After-slots_with-same in
     elim c.if-same-ne0.branch [
-      | then-same-ne0+else-is w ↦
-          looking_told g.F.FnMut c.args.hash c.args.tags.now c.args.slots.now c.args.eq c.home-start.result _ c.if-same-ne0.slot _ c.if-same-ne0.same w.else-is.eq c.if-same-ne0.eq w.slot-is w.same-is w.eq-is
-          (elim w.else-is.branch [
-            | else-is-via-then-is+else-eq v ↦
-                let called = called_at g.F.FnMut v.eq.ensures v.if-eq.false in
-                search (looking_refuses g.F.FnMut, begins, same-by_test _ _ w.is.ensures v.if-is.true, rw (← v.eq-is) at called)
-            | else-is-via-else-is v ↦
-                looking_skips g.F.FnMut _ _ _ _ c.requires.tagged _ _ _ _ begins w.if-same-ne0.true
-                w.get.result.now.0 w.get.result.now.1 w.get.ensures w.else-is.eq (other-by_test _ _ w.is.ensures v.if-is.false) v.eq-is
-          ])
-      | else-same-ne0+else-ends_at_home w ↦ search (looking_told g.F.FnMut, begins)
+      | then-same-ne0+else-is w ↦ rw (w.slot-is, w.same-is, w.eq-is) (elim w.else-is.branch [
+        | else-is-via-then-is+else-eq v ↦
+            let called = called_at g.F.FnMut v.eq.ensures v.if-eq.false in
+            search (looking_refuses g.F.FnMut, begins, same-by_test _ _ w.is.ensures v.if-is.true, rw (← v.eq-is) at called)
+        | else-is-via-else-is v ↦
+            looking_skips g.F.FnMut _ _ _ _ c.requires.tagged _ _ _ _ begins w.if-same-ne0.true
+            w.get.result.now.0 w.get.result.now.1 w.get.ensures w.else-is.eq (other-by_test _ _ w.is.ensures v.if-is.false) v.eq-is
+      ])
+      | else-same-ne0+else-ends_at_home w ↦ rw (w.slot-is, w.same-is, w.eq-is) begins
     ]
 
 pub returns-then-ends_at_home-clause-found : goal.returns-then-ends_at_home-clause-found

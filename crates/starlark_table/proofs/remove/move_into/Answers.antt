@@ -5,13 +5,8 @@ use Rattle.starlark_table.proofs.Tagged.{tagged-swapped}
 use Rattle.starlark_table.proofs.remove.move_into.Goals as goal
 
 pub moved-requires : goal.moved-requires
-moved-requires g c = (
-  c.args.slots.now,
-  c.args.slot,
-  c.take-member.result.0,
-  record { there = c.take-member.ensures.value; empty = c.requires.empty; within = c.requires.hole },
-  c.requires.known,
-)
+moved-requires g c =
+    (c.args.slots.now, c.args.slot, c.take-member.result.0, record { there = c.take-member.ensures.value; empty = c.requires.empty; within = c.requires.hole }, c.requires.known)
 
 pub returns-clause-moved : goal.returns-clause-moved
 returns-clause-moved g c = grind (arith, taken_and_written, full_in_range)

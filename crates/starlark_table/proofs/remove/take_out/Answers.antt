@@ -1,4 +1,4 @@
-use Rattle.starlark_hash.proofs.Common.{inl, inr, None, refl, sym, ◌∙◌, IsPermutation, arith, set, length-set, IsPermutation-refl}
+use Rattle.starlark_hash.proofs.Common.{inl, inr, None, refl, sym, ◌∙◌, IsPermutation, arith, set, length-set, IsPermutation-refl, IsPermutation-cons, IsPermutation-trans}
 use Rattle.starlark_table.specs.Table.{filled}
 use Rattle.starlark_table.specs.Layout.{at}
 use Rattle.starlark_table.proofs.Tagged.{tag-below, tag-member, tagged-changed}
@@ -7,7 +7,8 @@ use Rattle.starlark_table.proofs.Closing.{full_in_range, gap_left}
 use Rattle.starlark_table.proofs.Near.{in_place-near, told-taken}
 use Rattle.starlark_table.proofs.Passing.{in_place-not_passed}
 use Rattle.starlark_table.proofs.Filling.{filled-by_some}
-use Rattle.starlark_table.proofs.Load.{another_empty_slot, bag-taken_out}
+use Rattle.starlark_table.proofs.Load.{another_empty_slot}
+use Rattle.starlark_table.proofs.Bag.{filled-set_none}
 use Rattle.starlark_table.proofs.remove.take_out.Goals as goal
 
 pub take-member-requires : goal.take-member-requires
@@ -34,7 +35,7 @@ returns-clause-rest g c =
       | then-passed w ↦ rw (w.slots-is, ← c.take-member.ensures.cells) w.close_gap.ensures.bag
       | else-passed w ↦ rw (w.slots-is, c.take-member.ensures.cells) (IsPermutation-refl _)
     ] in
-    bag-taken_out c.args.slots.now c.if-passed.slots c.args.slot _ c.take-member.ensures.value left
+    IsPermutation-trans _ _ _ (filled-set_none _ c.args.slot _ c.take-member.ensures.value) (IsPermutation-cons _ _ _ left)
 
 pub returns-clause-sized : goal.returns-clause-sized
 returns-clause-sized g c = grind (arith, length-set)

@@ -1,7 +1,10 @@
 use Rattle.starlark_hash.proofs.Common.{◌<◌, ◌+◌, drop, None, Some, arith, ◌∙◌, length, get_or-set_same}
+use Rattle.starlark_table.specs.Table.{items_in}
+use Rattle.starlark_table.specs.Walk.{TakesAtMut}
+use Rattle.starlark_table.proofs.Walking.{walk_asks}
 use Rattle.starlark_table.proofs.Lists.{head_left}
 use Rattle.starlark_table.proofs.Filling.{filled-by_tag}
-use Rattle.starlark_table.proofs.Retaining.{Turn, turn-kept, turn-taken, turn-empty, takes-slot_here, walked_on, walked_all}
+use Rattle.starlark_table.proofs.Retaining.{Turn, turn-kept, turn-taken, turn-empty, walked_on, walked_all}
 use Rattle.starlark_table.proofs.retain.keep_items.Goals as goal
 use Rattle.starlark_table.proofs.retain.keep_items.Goals.{then-tags-slot+then-ask, then-tags-slot+else-ask, else-tags-slot}
 
@@ -13,15 +16,13 @@ get_mut-requires g c =
 pub ask-requires : goal.ask-requires
 ask-requires g c =
     let k = c.loop-slot.invariant in
-    let below : c.loop-slot.slot < length c.loop-slot.slots = omega (arith, k.stand.sized) in
-    takes-slot_here g.F.FnMut (Some c.get_mut.result.now) (drop (c.loop-slot.slot + 1) c.args.slots.now) _
-    (rw (head_left c.args.slots.now _ _ None _ below k.untouched c.get_mut.ensures.value) at k.callable)
+    walk_asks (TakesAtMut g.F.FnMut) _ _ (items_in (drop (c.loop-slot.slot + 1) c.args.slots.now)) _
+    (rw (head_left c.args.slots.now c.loop-slot.slots c.loop-slot.slot None _ (omega (arith, k.stand.sized)) k.untouched c.get_mut.ensures.value) at k.callable)
 
 pub take-member-requires : goal.take-member-requires
 take-member-requires g c =
-    let k = c.loop-slot.invariant in
-    let below : c.loop-slot.slot < length c.loop-slot.slots = omega (arith, k.stand.sized) in
-    (c.ask.new.member, get_or-set_same c.loop-slot.slots c.loop-slot.slot (Some c.ask.new.member) None below)
+    let sized = c.loop-slot.invariant.stand.sized in
+    (c.ask.new.member, get_or-set_same c.loop-slot.slots c.loop-slot.slot (Some c.ask.new.member) None (omega (arith, sized)))
 
 pub loop-slot-preserved : goal.loop-slot-preserved
 loop-slot-preserved g c =

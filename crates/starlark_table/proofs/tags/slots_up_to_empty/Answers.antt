@@ -1,4 +1,4 @@
-use Rattle.starlark_hash.proofs.Common.{◌≡◌, ℕ, suc, ◌+◌, ◌-◌, ◌*◌, ◌%◌, ◌^◌, ◌<◌, arith, ap, sym, ◌∙◌, count_trailing_zeros}
+use Rattle.starlark_hash.proofs.Common.{bit_and, ◌≡◌, ℕ, suc, ◌+◌, ◌-◌, ◌*◌, ◌%◌, ◌^◌, ◌<◌, arith, count_trailing_zeros}
 use Rattle.std.proofs.Common.{pow_pos, pow_mono}
 use Rattle.std.proofs.Math.Nat.{two-pow-succ}
 use Rattle.std.proofs.lemmas.Nat.{and_mask}
@@ -9,31 +9,16 @@ use Rattle.starlark_table.proofs.tags.slots_up_to_empty.Goals as goal
 one_bit : (k : ℕ) → k < 16 → 1 * 2 ^ k % 2 ^ 64 ≡ 2 ^ k
 one_bit k low = omega (arith, two-pow-succ k, pow_pos k, pow_mono {i = suc k} {j = 64} (omega arith))
 
-reach : (start n : ℕ) → n ≡ start + n - start
-reach start n = omega arith
-
 pub returns-then-empty-eq0 : goal.returns-then-empty-eq0
-returns-then-empty-eq0 c = record {
-  end = c.args.start + 16;
-  from = omega arith;
-  short = omega arith;
-  its = c.slots_with-same.ensures ∙ ap (tag_bits c.args.tag c.args.tags.now c.args.start) (reach c.args.start 16);
-  full = none-by_bits empty_tag c.args.tags.now c.args.start 16 c.requires (sym c.slots_with-empty.ensures ∙ c.if-empty-eq0.true);
-  stop = λ less. absurd (omega arith);
-}
+returns-then-empty-eq0 c =
+    grind (arith, c.args.start + 16, c.slots_with-same.ensures, none-by_bits empty_tag c.args.tags.now c.args.start 16 _ c.slots_with-empty.ensures c.if-empty-eq0.true)
 
 pub returns : goal.returns
 returns c =
     let k = count_trailing_zeros 64 c.slots_with-empty.result in
-    let first = first-by_bits empty_tag c.args.tags.now c.args.start 16 c.requires k (omega arith)
-    (λ none. c.if-empty-eq0.false (c.slots_with-empty.ensures ∙ none)) (ap (count_trailing_zeros 64) c.slots_with-empty.ensures) in
+    let first = first-by_bits empty_tag c.args.tags.now c.args.start 16 _ c.slots_with-empty.ensures (omega arith) c.if-empty-eq0.false in
     let within = first.within in
-    record {
-      end = c.args.start + k;
-      from = omega arith;
-      short = omega arith;
-      its = rw (one_bit k within, and_mask c.slots_with-same.result k, c.slots_with-same.ensures, ← reach c.args.start k)
-          (tag_bits-front c.args.tag _ c.args.start k (16 - k) 16 (omega arith));
-      full = first.before;
-      stop = λ less. first.there;
-    }
+    let reach : k ≡ c.args.start + k - c.args.start = omega arith in
+    let its : bit_and c.slots_with-same.result (1 * 2 ^ k % 2 ^ 64 - 1) ≡ tag_bits c.args.tag c.args.tags.now c.args.start (c.args.start + k - c.args.start) =
+    rw (one_bit k within, and_mask c.slots_with-same.result k, c.slots_with-same.ensures, ← reach) (tag_bits-front c.args.tag _ c.args.start k (16 - k) 16 (omega arith)) in
+    grind (arith, c.args.start + k, its, first)

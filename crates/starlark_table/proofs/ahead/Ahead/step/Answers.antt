@@ -1,5 +1,5 @@
-use Rattle.starlark_hash.proofs.Common.{◌+◌, refl, arith, rules, count_trailing_zeros}
-use Rattle.starlark_table.proofs.Filling.{filled-first_behind}
+use Rattle.starlark_hash.proofs.Common.{◌+◌, ◌∙◌, refl, arith, rules, count_trailing_zeros}
+use Rattle.starlark_table.proofs.Filling.{filled-first_behind, filled-past_range}
 use Rattle.starlark_table.proofs.Closing.{full_in_range}
 use Rattle.starlark_table.proofs.FullBits.{window_next}
 use Rattle.starlark_table.proofs.TagCount.{long_tags}
@@ -19,25 +19,16 @@ overflow_add-self g c =
     let long = long_tags c.args.tags.now c.args.slots.now c.requires.tagged.sized (omega (arith, inside)) in
     search (rules, long, inside)
 
-pub returns-clause-passed : goal.returns-clause-passed
-returns-clause-passed g c = λ p low high.
-    let next = window_next _ _ _ _ _ _ c.open.ensures.left c.open.ensures.some refl in
-    grind (arith, c.open.ensures.passed p, next.passed p)
-
-pub returns-clause-full : goal.returns-clause-full
-returns-clause-full g c =
-    let next = window_next _ _ _ _ _ _ c.open.ensures.left c.open.ensures.some refl in
-    (next.member, next.here)
-
-pub returns-clause-behind : goal.returns-clause-behind
-returns-clause-behind g c =
-    let next = window_next _ _ _ _ _ _ c.open.ensures.left c.open.ensures.some refl in
-    omega (arith, next.ahead, c.open.ensures.behind)
-
-pub returns-clause-left : goal.returns-clause-left
-returns-clause-left g c = (window_next _ _ _ _ _ _ c.open.ensures.left c.open.ensures.some refl).on
-
-pub returns-clause-front : goal.returns-clause-front
-returns-clause-front g c =
-    let next = window_next _ _ _ _ _ _ c.open.ensures.left c.open.ensures.some refl in
-    rw next.here (filled-first_behind _ _ _ _ (returns-clause-behind g c) (returns-clause-passed g c) next.here)
+pub returns : goal.returns
+returns g c =
+    let opened = c.open.ensures in
+    let next = window_next _ _ _ _ _ _ opened.left opened.some refl in
+    let front = filled-past_range _ _ _ opened.behind opened.passed ∙ filled-first_behind _ _ _ next.member next.ahead next.passed next.here in
+    record {
+      passed = λ p low high. grind (arith, opened.passed p, next.passed p);
+      full = (next.member, next.here);
+      front = rw next.here front;
+      behind = omega (arith, next.ahead, opened.behind);
+      next = search rules;
+      left = next.on;
+    }

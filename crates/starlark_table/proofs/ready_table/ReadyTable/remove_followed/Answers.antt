@@ -1,7 +1,5 @@
-use Rattle.starlark_hash.proofs.Common.{ap, length, refl, ◌∙◌}
+use Rattle.starlark_hash.proofs.Common.{ap, length, ◌∙◌}
 use Rattle.starlark_table.proofs.Changing.{removed}
-use Rattle.starlark_table.proofs.Sound.{sound-as}
-use Rattle.starlark_table.proofs.TagCount.{refilled}
 use Rattle.starlark_table.proofs.ready_table.ReadyTable.remove_followed.Goals as goal
 
 pub take_out-requires-clause-load : goal.take_out-requires-clause-load
@@ -13,15 +11,14 @@ take_out-requires-clause-tagged g c = rw c.as_mut_slice-tags.ensures.value c.sel
 pub overflow_sub-self : goal.overflow_sub-self
 overflow_sub-self g c =
     let left = c.in-Some.ensures in
-    (removed _ _ _ _ c.self.invariant _ c.self.view_is _ _ _ left.sized left.in_place left.tagged left.rest left.told).some
+    (removed _ _ _ _ c.self.invariant _ c.self.view_is _ _ _ left.sized left.in_place left.tagged left.rest left.told).0
 
 pub invariant_of-self-2 : goal.invariant_of-self-2
 invariant_of-self-2 g c =
     let left = c.in-Some.ensures in
-    sound-as _ _ _ _ _ _ refl (refilled c.self.inside.tags _ (c.take_out.auto.tags ∙ ap length c.as_mut_slice-tags.ensures.value))
-    (removed _ _ _ _ c.self.invariant _ c.self.view_is _ _ _ left.sized left.in_place left.tagged left.rest left.told).sound
+    (removed _ _ _ _ c.self.invariant _ c.self.view_is _ _ _ left.sized left.in_place left.tagged left.rest left.told).1.sound _ (c.take_out.auto.tags ∙ ap length c.as_mut_slice-tags.ensures.value)
 
 pub returns-clause-room : goal.returns-clause-room
 returns-clause-room g c =
     let left = c.in-Some.ensures in
-    (removed _ _ _ _ c.self.invariant _ c.self.view_is _ _ _ left.sized left.in_place left.tagged left.rest left.told).room
+    (removed _ _ _ _ c.self.invariant _ c.self.view_is _ _ _ left.sized left.in_place left.tagged left.rest left.told).1.room

@@ -1,8 +1,7 @@
-use Rattle.starlark_hash.proofs.Common.{◌≡◌, ◌-◌, length, arith, refl, ◌∙◌, ap}
+use Rattle.starlark_hash.proofs.Common.{◌≡◌, ◌-◌, length, arith, ◌∙◌, ap}
 use Rattle.starlark_table.specs.Growth.{limit}
-use Rattle.starlark_table.proofs.Cloning.{no_slots_cloned}
+use Rattle.std.proofs.lemmas.List.{nil_from_length}
 use Rattle.starlark_table.proofs.Shape.{shape-cloned, same_length, sound-cloned}
-use Rattle.starlark_table.proofs.Sound.{sound-as}
 use Rattle.starlark_table.proofs.TagCount.{refilled}
 use Rattle.starlark_table.proofs.ready_table.ReadyTableClone.clone.Goals as goal
 
@@ -12,14 +11,14 @@ returns-then-count-eq0 g c =
     let no_room : 0 ≡ limit (length c.self.inside.slots) - c.self.inside.len = omega (arith, none) in
     record {
       cases = rw (← c.self.view_is) (record {
-        slots = no_slots_cloned g.T.Clone.is_clone _ _ none c.without_slots.ensures.slots;
+        slots = rw (c.without_slots.ensures.slots, nil_from_length c.self.inside.slots none) tt;
         room = c.without_slots.ensures.room ∙ no_room;
       });
     }
 
 pub invariant_of-result : goal.invariant_of-result
 invariant_of-result g c =
-    sound-as _ _ _ _ _ _ refl (refilled c.in_ok-slots.tags _ (c.clone_members-cloned.auto.copy_tags ∙ ap length c.as_mut_slice.ensures.value))
+    rw (refilled c.in_ok-slots.tags _ (c.clone_members-cloned.auto.copy_tags ∙ ap length c.as_mut_slice.ensures.value))
     (sound-cloned g.T.Clone.is_clone _ _ _ _ _ _ c.self.invariant c.in-Ok.ensures.cloned c.in-Ok.ensures.tagged)
 
 pub returns-in-Ok : goal.returns-in-Ok
