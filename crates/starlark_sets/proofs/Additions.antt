@@ -1,8 +1,12 @@
--- What the clauses of a map's calls say of a set.
-use Rattle.starlark_hash.proofs.Common.{◌≡◌, ℕ, zero, suc, Bool, [], ◌∷◌, ◌++◌, length, Option, Some, None, is_some, Result, Ok, Err, IsOk, OnOk, OnErr, MatchOption, MatchResult, refl, sym, ap, ◌∙◌, arith, option_map_or, false≢true, length_push}
+-- What the clauses of a map's calls say of a set, and what an insertion into a set answers, once its map has answered.
+use Rattle.starlark_hash.proofs.Common.{◌≡◌, ℕ, zero, suc, Bool, [], ◌∷◌, ◌++◌, length, Option, Some, None, is_some, Result, Ok, Err, IsOk, OnOk, OnErr, MatchOption, MatchResult, refl, sym, ap, ◌∙◌, arith, option_map_or, false≢true, length_push, not}
 use Rattle.starlark_hash.specs.declared.hashed.Hashed.{Hashed}
+use Rattle.starlark_hash.specs.declared.no_room.NoRoom.{NoRoom}
+use Rattle.starlark_hash.specs.HashValue.{hash_of, key_of}
 use Rattle.starlark_hash.specs.Entries.{match_of, set_value_at}
-use Rattle.starlark_small.specs.Insert.{IsInserted, IsRefused, LeavesMemory}
+use Rattle.starlark_small.specs.Insert.{Inserts, IsInserted, IsRefused, LeavesMemory}
+use Rattle.starlark_small.proofs.CallerLookup.{is_some-value_at}
+use Rattle.starlark_sets.specs.Insert.{AddsElement, new_or_back}
 use Rattle.starlark_sets.specs.Set.{Set, Elements}
 
 module _ {T : Type 0} where
@@ -27,3 +31,13 @@ module _ {T : Type 0} where
     added (Some i) (Ok a) put absent full same found left =
         (refl, left.replaced (ap is_some found) ∙ ap (λ es. record old { entries = es }) (put ∙ set_unit_at old.entries i))
     added (Some i) (Err e) put absent full same found left = absurd (false≢true (sym (ap is_some absent)))
+
+module _ {T B : Type 0} (eq : T → T → Bool) (element : Hashed T) {back : B} (before after : Set T) where
+  -- a set answers what its map answered
+  pub adds-answered : (r : Result (Option (Unit {0})) (NoRoom (B × Unit {0}))) → Inserts eq element tt (back, tt) before after r → AddsElement eq element back before after (new_or_back r)
+  adds-answered (Ok v) is =
+      let set = added {A = Bool} {E = NoRoom B} eq before after element (match_of eq before.entries element) (Ok (not (is_some v))) is.entries tt tt tt refl is.memory in
+      assumption (ap (λ o. not (is_some o)) is.old ∙ ap not (is_some-value_at (hash_of element) (eq (key_of element)) before.entries), ap (λ o. not (is_some o)) is.was)
+  adds-answered (Err e) is =
+      let set = added {A = Bool} {E = NoRoom B} eq before after element (match_of eq before.entries element) (Err (record { 0 = e.0.0 })) tt is.absent is.full is.unchanged refl is.memory in
+      assumption (ap is_some is.lacking, ap (λ (p : B × Unit {0}). p.0) is.handed_back)

@@ -15,11 +15,14 @@ use Rattle.starlark_sets.specs.Collect.{HasEach, own_element}
 use Rattle.starlark_hash.specs.Unit.{StepsBeside}
 use Rattle.starlark_sets.specs.Set.{Elements, Set}
 
-module _ {S A : Type 0} (steps : S → Option A → S → Type 0) where
-  -- the items alone
-  abbrev alone : List (A × Unit {0}) → List A
-  alone xs = map (λ p. p.0) xs
+-- the items alone, and the entry of an item beside `()`
+abbrev alone : {A : Type 0} → List (A × Unit {0}) → List A
+alone xs = map (λ p. p.0) xs
 
+abbrev beside : {A T : Type 0} → (A → Entry T (Unit {0})) → A × Unit {0} → Entry T (Unit {0})
+beside entry p = ((entry p.0).0, p.1)
+
+module _ {S A : Type 0} (steps : S → Option A → S → Type 0) where
   yields_alone : (s t : S) (xs : List (A × Unit {0})) → Yields (StepsBeside steps) s xs t → Yields steps s (alone xs) t
   yields_alone s t [] gave = gave
   yields_alone s t (x ∷ xs) (j, step, rest) = (j, step, yields_alone j t xs rest)
@@ -27,78 +30,58 @@ module _ {S A : Type 0} (steps : S → Option A → S → Type 0) where
   drains_alone : (s : S) (xs : List (A × Unit {0})) → Drains (StepsBeside steps) s xs → Drains steps s (alone xs)
   drains_alone s xs (u, (t, gave, end)) = (u, (t, yields_alone s t xs gave, end))
 
-  module _ {T : Type 0} (eq : T → T → Bool) (entry : A → Entry T (Unit {0})) where
-    abbrev beside : A × Unit {0} → Entry T (Unit {0})
-    beside p = ((entry p.0).0, p.1)
+entries_alone : {A T : Type 0} (entry : A → Entry T (Unit {0})) (xs : List (A × Unit {0})) → map (beside entry) xs ≡ map entry (alone xs)
+entries_alone entry xs = sym (map-map entry (λ p. p.0) xs)
 
-    entries_alone : (xs : List (A × Unit {0})) → map beside xs ≡ map entry (alone xs)
-    entries_alone xs = sym (map-map entry (λ p. p.0) xs)
+module _ {S A T : Type 0} {steps : S → Option A → S → Type 0} {eq : T → T → Bool} {entry : A → Entry T (Unit {0})} where
+  inserts_alone : {E : Type 0} (it : S) (old new : Elements T) (r : Result (Unit {0}) E)
+      → InsertsItems eq (beside entry) (StepsBeside steps) it old new r → InsertsItems eq entry steps it old new r
+  inserts_alone it old new (Ok a) put = record { items = alone put.items; entries = put.entries ∙ ap (insert_all eq old) (entries_alone entry put.items); ended = drains_alone steps it put.items put.ended }
+  inserts_alone it old new (Err e) put =
+      let gave = rw map-append at (yields_alone steps it put.ended.rest (put.items ++ put.ended.next ∷ []) put.ended.gave) in
+      record { items = alone put.items; entries = put.entries ∙ ap (insert_all eq old) (entries_alone entry put.items); ended = record { next = put.ended.next.0; rest = put.ended.rest; gave = gave; absent = put.ended.absent } }
 
-    pub inserts_alone : {E : Type 0} (it : S) (old new : Elements T) (r : Result (Unit {0}) E)
-        → InsertsItems eq beside (StepsBeside steps) it old new r → InsertsItems eq entry steps it old new r
-    inserts_alone it old new (Ok a) put = record { items = alone put.items; entries = put.entries ∙ ap (insert_all eq old) (entries_alone put.items); ended = drains_alone it put.items put.ended }
-    inserts_alone it old new (Err e) put = record {
-      items = alone put.items;
-      entries = put.entries ∙ ap (insert_all eq old) (entries_alone put.items);
-      ended = record { next = put.ended.next.0; rest = put.ended.rest; gave = rw map-append at (yields_alone it put.ended.rest (put.items ++ put.ended.next ∷ []) put.ended.gave); absent = put.ended.absent };
-    }
+  pub collects_alone : {U : Type 0} {becomes : U → S → Type 0} {remaining : S → Count} {iter : U} (it : S) {set : Set T}
+      → becomes iter it → Collects eq (beside entry) (StepsBeside steps) (λ s t. t ≡ s) remaining it set → Collects eq entry steps becomes remaining iter set
+  collects_alone {becomes = becomes} {iter = iter} it is put =
+      let made = subst (becomes iter) (sym put.made) is in let drained = drains_alone steps put.it put.items put.drained in let entries = put.entries ∙ ap (insert_all eq []) (entries_alone entry put.items) in
+      record { it = put.it; made = made; first = put.first; bounded = put.bounded; items = alone put.items; drained = drained; entries = entries; room = put.room; capacity = put.capacity; indexed = put.indexed }
 
-    pub collects_alone : {U : Type 0} (becomes : U → S → Type 0) (remaining : S → Count) (iter : U) (it : S) (set : Set T)
-        → becomes iter it → Collects eq beside (StepsBeside steps) (λ s t. t ≡ s) remaining it set → Collects eq entry steps becomes remaining iter set
-    collects_alone becomes remaining iter it set made put = record {
-      it = put.it;
-      made = subst (becomes iter) (sym put.made) made;
-      first = put.first;
-      bounded = put.bounded;
-      items = alone put.items;
-      drained = drains_alone put.it put.items put.drained;
-      entries = put.entries ∙ ap (insert_all eq []) (entries_alone put.items);
-      room = put.room;
-      capacity = put.capacity;
-      indexed = put.indexed;
-    }
-
-    pub extends_alone : {U E : Type 0} (becomes : U → S → Type 0) (iter : U) (it : S) (old new : Elements T) (r : Result (Unit {0}) E)
-        → becomes iter it → Extends eq beside (StepsBeside steps) (λ s t. t ≡ s) it old new r → Extends eq entry steps becomes iter old new r
-    extends_alone becomes iter it old new r made put = record { it = put.it; made = subst (becomes iter) (sym put.made) made; inserts = inserts_alone put.it old new r put.inserts }
+  pub extends_alone : {U E : Type 0} {becomes : U → S → Type 0} {iter : U} (it : S) {old new : Elements T} {r : Result (Unit {0}) E}
+      → becomes iter it → Extends eq (beside entry) (StepsBeside steps) (λ s t. t ≡ s) it old new r → Extends eq entry steps becomes iter old new r
+  extends_alone {becomes = becomes} {iter = iter} it {old} {new} {r} made put = record { it = put.it; made = subst (becomes iter) (sym put.made) made; inserts = inserts_alone put.it old new r put.inserts }
 
 -- what follows where the items fit follows from what says that they do
 pub extended_where : {K V A E : Type 0} (fits said : Type 0) (old new : Map K V) (r : Result A E) → (said → fits) → IsExtended fits old new r → IsExtended said old new r
 extended_where fits said old new r on is = assumption (λ (s : said). is.succeeds (on s), λ (s : said). is.spare (on s))
 
 -- what holds of each list whose items are a set's, inserted in their order, holds of the items that it was made of
-module _ {T A S U : Type 0} (eq : T → T → Bool) (entry : A → Entry T (Unit {0})) (steps : S → Option A → S → Type 0) (becomes : U → S → Type 0) (iter : U) (remaining : S → Count) (set : Set T) where
+module _ {T A S U : Type 0} {eq : T → T → Bool} {entry : A → Entry T (Unit {0})} {steps : S → Option A → S → Type 0} {becomes : U → S → Type 0} {iter : U} {remaining : S → Count} (set : Set T) where
   pub collected : Collects eq entry steps becomes remaining iter set → (P : List A → Type 0) → ((xs : List A) → set.entries ≡ insert_all eq [] (map entry xs) → P xs)
       → (it : S) × becomes iter it × WholeRun steps it (λ p. P p.items)
   collected has P holds = (has.it, has.made, run_of steps has.it has.items P has.drained (holds has.items has.entries))
 
 -- what a set has once an iterator's items went in
-module _ {T : Type 0} (eq : T → T → Bool) (laws : IsEquivalence eq) (feeds : T → HashWrites) (alike : (x y : T) → eq x y ≡ true → feeds x ≡ feeds y) where
-  abbrev paired : T → T × Unit {0}
-  paired x = (x, tt)
-
+module _ {T : Type 0} {eq : T → T → Bool} (laws : IsEquivalence eq) (feeds : T → HashWrites) (alike : (x y : T) → eq x y ≡ true → feeds x ≡ feeds y) where
   has_all : (xs : List T) (es : Elements T) (element : T)
       → is_some (found (eq element) (own_hash feeds element) (insert_all eq es (map (own_element feeds) xs))) ≡ (is_some (found (eq element) (own_hash feeds element) es) || is_member eq xs element)
   has_all xs es element =
+      let paired : T → T × Unit {0} = λ x. (x, tt) in
       ap (λ l. is_some (found (eq element) (own_hash feeds element) (insert_all eq es l))) (sym (map-map (own_entry feeds) paired xs))
       ∙ ap is_some (looked_all eq laws feeds alike (map paired xs) es element)
       ∙ is_some-update_all laws element (λ k. found (eq k) (own_hash feeds k) es) (map paired xs)
       ∙ ap (λ l. is_some (found (eq element) (own_hash feeds element) es) || is_member eq l element) (map-map (λ (p : T × Unit {0}). p.0) paired xs ∙ map-id xs)
 
-  module _ {S U : Type 0} (steps : S → Option T → S → Type 0) (becomes : U → S → Type 0) (iter : U) where
+  module _ {S U : Type 0} {steps : S → Option T → S → Type 0} {becomes : U → S → Type 0} {iter : U} where
     pub has_extended : {E : Type 0} (r : Result (Unit {0}) E) (old new : Set T) → Extends eq (own_element feeds) steps becomes iter old.entries new.entries r
         → OnOk r (HasEach eq feeds steps becomes iter (contains eq feeds old) new)
     has_extended (Ok a) old new went =
-        let in_all = went.inserts in (
-          went.it,
-          went.made,
-          run_of steps went.it in_all.items (λ xs. (element : T) → contains eq feeds new element ≡ (contains eq feeds old element || is_member eq xs element)) in_all.ended
-              (λ element. ap (λ l. is_some (found (eq element) (own_hash feeds element) l)) in_all.entries ∙ has_all in_all.items old.entries element),
-        )
+        let all = went.inserts in let holds = λ (element : T). ap (λ l. is_some (found (eq element) (own_hash feeds element) l)) all.entries ∙ has_all all.items old.entries element in
+        (went.it, went.made, run_of steps went.it all.items (λ xs. (element : T) → contains eq feeds new element ≡ (contains eq feeds old element || is_member eq xs element)) all.ended holds)
     has_extended (Err e) old new went = tt
 
-    pub has_collected : (remaining : S → Count) (set : Set T) → Collects eq (own_element feeds) steps becomes remaining iter set → HasEach eq feeds steps becomes iter (λ _. false) set
-    has_collected remaining set has =
-        collected eq (own_element feeds) steps becomes iter remaining set has (λ xs. (element : T) → contains eq feeds set element ≡ is_member eq xs element)
+    pub has_collected : {remaining : S → Count} (set : Set T) → Collects eq (own_element feeds) steps becomes remaining iter set → HasEach eq feeds steps becomes iter (λ _. false) set
+    has_collected set has =
+        collected set has (λ xs. (element : T) → contains eq feeds set element ≡ is_member eq xs element)
         (λ xs is element. ap (λ l. is_some (found (eq element) (own_hash feeds element) l)) is ∙ has_all xs [] element
         ∙ ap (λ o. is_some o || is_member eq xs element) (none_found {K = T} {V = Unit {0}} [] refl (eq element) (own_hash feeds element)))

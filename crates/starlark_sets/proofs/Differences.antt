@@ -1,5 +1,5 @@
 -- Lists of elements without those of another list.
-use Rattle.starlark_hash.proofs.Common.{◌≡◌, suc, ◌+◌, ◌-◌, ◌≤◌, Bool, true, false, not, List, ◌∷◌, [], ◌++◌, length, map, position, is_some, refl, sym, ap, ◌∙◌, arith, length-append, filter, ◌||◌, ◌&&◌, IsEquivalence, keys_of, is_member, length-map}
+use Rattle.starlark_hash.proofs.Common.{◌≡◌, suc, ◌+◌, ◌-◌, ◌≤◌, Bool, true, false, not, List, ◌∷◌, [], ◌++◌, length, map, position, is_some, refl, sym, ap, arith, length-append, filter, ◌||◌, IsEquivalence, keys_of, is_member, length-map}
 use Rattle.std.specs.List.{list_any}
 use Rattle.std.proofs.lemmas.List.Filters.{length-filter_both}
 use Rattle.std.proofs.lemmas.List.Kept.{AllPairs-filter}
@@ -23,9 +23,6 @@ any_key : {K V : Type 0} (p : K → Bool) (es : List (K × V)) → list_any p (m
 any_key p [] = refl
 any_key p (e ∷ es) = ap (λ b. p e.0 || b) (any_key p es)
 
-passes : (b c d : Bool) → d ≡ (not (not b) && c) → d ≡ true → b ≡ true
-passes b c d is does = grind arith
-
 module _ {T : Type 0} (eq : T → T → Bool) where
   -- what stands behind the first of a single list is single
   pub IsSingle-tail : (es : Elements T) (e : Entry T (Unit {0})) (fs : Elements T) → es ≡ e ∷ fs → IsSingle eq es → IsSingle eq fs
@@ -45,10 +42,8 @@ module _ {T : Type 0} (eq : T → T → Bool) where
     lost_le es fs single =
         let lost = λ (e : Entry T (Unit {0})). not (lacks eq fs e) in
         let there : (q : Hashed T) → is_member (alike eq) (keys_of (filter lost es)) q ≡ true → is_member (alike eq) (keys_of fs) q ≡ true = λ q has.
-        any_key (alike eq q) fs ∙ sym (found_any (λ f. alike eq q f.0) fs)
-        ∙ passes (is_some (match_of eq fs q)) (list_any (λ e. alike eq q e.0) es) _
-        (any-filter_same (λ e. alike eq q e.0) lost (not (not (is_some (match_of eq fs q)))) (λ e like. ap not (lacks_alike fs q e like)) es)
-        (sym (any_key (alike eq q) (filter lost es)) ∙ has) in
+        let same = any-filter_same (λ e. alike eq q e.0) lost (not (not (is_some (match_of eq fs q)))) (λ e like. ap not (lacks_alike fs q e like)) es in
+        grind (arith, any_key (alike eq q) fs, found_any (λ f. alike eq q f.0) fs, same, any_key (alike eq q) (filter lost es), has) in
         let le = length-le_from_is_member (alike-laws eq laws) (keys_of (filter lost es)) (keys_of fs) (distinct eq (filter lost es) (IsSingle-filter lost es single)) there in
         omega (arith, le, length-map (filter lost es) (λ e. e.0), length-map fs (λ e. e.0))
 

@@ -1,11 +1,8 @@
 pub mod Additions
-pub mod Added
-pub mod Shown
 pub mod ShownAfter
 pub mod Differences
 pub mod Unions
 pub mod Collecting
-pub mod Retained
 pub mod Callers
 pub mod Lookups
 pub mod Members

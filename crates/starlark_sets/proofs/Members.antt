@@ -1,14 +1,14 @@
 -- What a difference and a union have, where elements stand under their own hashes.
-use Rattle.starlark_hash.proofs.Common.{◌≡◌, Bool, true, false, [], ◌∷◌, map, is_some, refl, sym, ap, ◌∙◌, arith, ◌&&◌, ◌||◌, ◌==◌, not, IsEquivalence, HashWrites, All, is_member, map-append, All-filter, All-head, All-tail}
+use Rattle.starlark_hash.proofs.Common.{◌≡◌, Bool, true, [], ◌∷◌, map, is_some, refl, sym, ap, ◌∙◌, arith, ◌&&◌, ◌||◌, not, IsEquivalence, HashWrites, All, is_member, map-append, All-filter, All-head, All-tail, nat_tests}
 use Rattle.std.specs.List.{list_any}
 use Rattle.std.proofs.lemmas.List.Folds.{list_any-append}
 use Rattle.std.proofs.lemmas.Map.Views.{any-filter_same}
 use Rattle.starlark_hash.specs.Hasher.{own_hash}
-use Rattle.starlark_hash.specs.HashValue.{hash_number, hashed}
+use Rattle.starlark_hash.specs.HashValue.{hashed}
 use Rattle.starlark_hash.specs.Entries.{Entry, entry_hash, entry_key, stands_under}
 use Rattle.starlark_hash.specs.Lookup.{found}
 use Rattle.starlark_small.specs.Lookup.{AreOwnEntries}
-use Rattle.starlark_small.proofs.CallerLookup.{and_false, refl_number, is_some-found}
+use Rattle.starlark_small.proofs.CallerLookup.{is_some-found}
 use Rattle.starlark_sets.specs.Difference.{difference, lacks}
 use Rattle.starlark_sets.specs.Set.{Elements}
 use Rattle.starlark_sets.specs.Union.{union}
@@ -24,10 +24,7 @@ module _ {T : Type 0} (eq : T → T → Bool) (laws : IsEquivalence eq) (feeds :
 
   -- an element under its own hash passes where it is equal
   stands_own : (q : T) (e : Entry T (Unit {0})) → is_own e → stands_under (own_hash feeds q) (eq q) e ≡ eq q (entry_key e)
-  stands_own q e own = elim (eq q (entry_key e)) as (λ b. eq q (entry_key e) ≡ b → ((hash_number (entry_hash e) == hash_number (own_hash feeds q)) && b) ≡ b) [
-    | true ↦ λ same. ap (λ b. b && true) (ap (λ h. hash_number h == hash_number (own_hash feeds q)) (own ∙ (λ j. own_hash (λ _. sym (alike q (entry_key e) same) j) (entry_key e))) ∙ refl_number (hash_number (own_hash feeds q)))
-    | false ↦ λ apart. and_false (hash_number (entry_hash e) == hash_number (own_hash feeds q))
-  ] refl
+  stands_own q e own = grind (arith, nat_tests, own, alike q (entry_key e))
 
   -- what is there passes, and is a member
   has_any : (es : Elements T) (q : T) → has es q ≡ list_any (stands_under (own_hash feeds q) (eq q)) es

@@ -1,6 +1,6 @@
 -- What look-ups find once an element was put into a set: one that no look-up precedes, one that is made for a query, and what is
 -- answered of one that is shown or tried.
-use Rattle.starlark_hash.proofs.Common.{◌≡◌, ℕ, ◌+◌, Bool, true, false, List, [], ◌∷◌, ◌++◌, length, Option, Some, None, Result, Ok, Err, OnOk, OnErr, IfOk, IfErr, IfSome, MatchOption, MatchResult, IsErr, IsTrue, is_some, slice_get, refl, subst, sym, ap, ◌∙◌, arith, if◌then◌else◌, IsEquivalence, HashWrites, option_map, length_push, same_Some}
+use Rattle.starlark_hash.proofs.Common.{◌≡◌, ℕ, Bool, true, false, List, [], ◌∷◌, ◌++◌, length, Option, Some, None, Result, Ok, Err, OnOk, OnErr, IfOk, IfErr, IfSome, MatchOption, MatchResult, IsErr, IsTrue, is_some, slice_get, refl, subst, sym, ap, ◌∙◌, arith, IsEquivalence, HashWrites, option_map, length_push, same_Some}
 use Rattle.std.proofs.Common.{Bor}
 use Rattle.std.specs.Option.{unwrap_or}
 use Rattle.starlark_hash.specs.declared.hashed.Hashed.{Hashed}
@@ -41,12 +41,6 @@ module _ {T : Type 0} (eq : T → T → Bool) (laws : IsEquivalence eq) (old new
       let own = λ (feeds : T → HashWrites). own-same feeds old.entries new.entries puts.refused.entries in
       record { lacking = ap is_some (none_found (eq (key_of element)) (hash_of element) old.entries none); updates = tt; count = tt; own = λ feeds under. own feeds; unchanged = puts.refused.entries }
 
-count_same : (b : Bool) (m n : ℕ) → b ≡ true → m ≡ n → m ≡ n + (if b then 0 else 1)
-count_same b m n is same = grind arith
-
-count_more : (b : Bool) (m n : ℕ) → b ≡ false → m ≡ n + 1 → m ≡ n + (if b then 0 else 1)
-count_more b m n is more = grind arith
-
 -- two `()` are one
 unit_there : (o : Option (Unit {0})) → is_some o ≡ true → o ≡ Some tt
 unit_there o there = grind arith
@@ -68,30 +62,33 @@ module _ {Q T : Type 0} (eq : T → T → Bool) (laws : IsEquivalence eq) (equiv
       let w = writes-inserted eq laws old.entries new.entries (hashed hash e) tt put in
       (ap (value_at new.entries) (position_of-match eq test one (hashed hash e) does new.entries) ∙ w.0, λ h other apart. w.1 h other (sym (one e other does) ∙ apart))
 
-  there_for : (i : ℕ) → position_of hash test old.entries ≡ Some i → is_some (found test hash old.entries) ≡ true
-  there_for i at = rw (← is_some-found test hash old.entries, at) refl
-
   puts_at : (index : Option ℕ) → position_of hash test old.entries ≡ index → {E : Type 0} (r : Result (Bor T) E) → AddsFor equivalent query hash old r new
       → MatchOption index
       (MatchResult r (λ p. IsTrue (equivalent query p.now) × IsInserted old (hashed hash p.now) tt new) (λ _. IsRefused old new))
       (λ i. MatchResult r (λ p. (element_at old (position_of hash test old.entries) ≡ Some p.now) × (new ≡ old)) (λ _. ⊥))
       → PutsElementFor eq equivalent feeds query old r new
   puts_at None at (Ok p) adds h =
-      let put = put_for p.now h.0 at h.1.entries in
-      let longer : length new.entries ≡ length old.entries + 1 = omega (arith, ap length h.1.entries, length_push old.entries (hashed hash p.now, tt)) in
-      let count = count_more (is_some (found test hash old.entries)) (length new.entries) (length old.entries) (ap is_some (none_found test hash old.entries at)) longer in
-      let own = λ (stored : T → HashWrites) (alike : (element : T) → IsTrue (equivalent query element) → feeds query ≡ stored element).
-      own-inserted stored eq old.entries new.entries (hashed hash p.now) tt put (λ j. own_hash (λ (_ : T). alike p.now h.0 j) p.now) in
-      assumption (h.0, written_for p.now h.0 put)
+      let put = put_for p.now h.0 at h.1.entries in let lacking = ap is_some (none_found test hash old.entries at) in record {
+        equal = h.0;
+        updates = written_for p.now h.0 put;
+        count = grind (arith, lacking, ap length h.1.entries, length_push old.entries (hashed hash p.now, tt));
+        own = λ stored alike. own-inserted stored eq old.entries new.entries (hashed hash p.now) tt put (λ j. own_hash (λ (_ : T). alike p.now h.0 j) p.now);
+        unchanged = tt;
+        absent = tt;
+        set = adds;
+      }
   puts_at None at (Err e) adds h =
-      let own = λ (stored : T → HashWrites) (alike : (element : T) → IsTrue (equivalent query element) → feeds query ≡ stored element). own-same stored old.entries new.entries h.entries in
-      assumption (h.entries, ap is_some (none_found test hash old.entries at))
+      record { equal = tt; updates = tt; count = tt; own = λ stored alike. own-same stored old.entries new.entries h.entries; unchanged = h.entries; absent = ap is_some (none_found test hash old.entries at); set = adds }
   puts_at (Some i) at (Ok p) adds h =
-      let same : new.entries ≡ old.entries = ap (λ (m : Set T). m.entries) h.1 in
-      let count = count_same (is_some (found test hash old.entries)) (length new.entries) (length old.entries) (there_for i at) (ap length same) in
-      let own = λ (stored : T → HashWrites) (alike : (element : T) → IsTrue (equivalent query element) → feeds query ≡ stored element). own-same stored old.entries new.entries same in
-      let others = λ (under : StarlarkHashValue) (other : T) (apart : test other ≡ false). ap (found (eq other) under) same in
-      assumption ((key_stands test hash old.entries (Some p.now) (sym h.0)).2, ap (found test hash) same ∙ unit_there (found test hash old.entries) (there_for i at))
+      let same = ap (λ (m : Set T). m.entries) h.1 in let there : is_some (found test hash old.entries) ≡ true = rw (← is_some-found test hash old.entries, at) refl in record {
+        equal = (key_stands test hash old.entries (Some p.now) (sym h.0)).2;
+        updates = (ap (found test hash) same ∙ unit_there (found test hash old.entries) there, λ under other apart. ap (found (eq other) under) same);
+        count = grind (arith, there, ap length same);
+        own = λ stored alike. own-same stored old.entries new.entries same;
+        unchanged = tt;
+        absent = tt;
+        set = adds;
+      }
   puts_at (Some i) at (Err e) adds h = absurd h
 
   pub puts-for : {E : Type 0} (r : Result (Bor T) E) → AddsFor equivalent query hash old r new → PutsElementFor eq equivalent feeds query old r new

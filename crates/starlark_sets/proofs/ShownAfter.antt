@@ -1,15 +1,20 @@
 -- A call that changes a set, gives it up and shows what is there meets its contract, whatever changes it and whatever is shown: the set is lent to the call that changes it and comes back, is then written no more, and is shown. Assumes `Logic`.
-use Rattle.starlark_columns.proofs.Walking.{◌≡◌, refl, sym, ap, subst, List, [], ◌∷◌, none, Ura, full_share, common, Fn, named, Ty, Val, vptr, SProp, ent, sep, emp, wand, id⊢, apply∗, ex_e, snd∗, Lft, GName, Share, ftrue, fdead, flft, Env, Calls, Loops, WpFn, Logic, sem, lft_new, lft_end, lft-common, ◌⊑◌, ⊑_trans, meet_⊑_left, meet_⊑_right, fact, fact_i, tables, FmC, ‵, raw, ◌⊛◌, some, later, ◌$◌, ◌∵◌, !, qed, move, keep, drop, use0, use1, use2, use3, split, split3, join, pick, fsplit, fsplit3, fjoin, suffices, frame, await, rewrite, done, stop, addr, of_opd, and_then, no_more, returns, enter, alloc_all, pass_all, free_all, look_at, get, through, sets, lands_as, env, no, yes, RattleType, owns, follows_so, Is, shows, lends_again, comes_back, LentAgain, param, layout, Laws, param_laws, Bor, MutBor, MutRef, ShrRef, mut_vals, mut_Tells, shr_vals, shr_Tells, plain, types_at, mut_ref_to, nothing, heard, only, peeks, calls_at, Clauses, Ended, closing, Lasts, ensured, lasts, Meets, triple_of, Contract, Triple, framed, Stays, stay_dropped, walk_of, ends_at, Goes-spent_ref, Goes-blank, Good, proved_at, ⊤}
-use base.Share
+use Rattle.starlark_columns.proofs.Walking.{◌≡◌, refl, sym, ap, subst, ℕ, List, [], ◌∷◌, none, Ura, Fn, named, Ty, Val, vptr, SProp, ent, sep, id⊢, ex_e, snd∗, Lft, GName, Share, ftrue, flft, WpFn, Logic, sem, ◌⊑◌, ⊑_trans, meet_⊑_right, fact, tables, ‵, raw, ◌⊛◌, some, later, ◌$◌, ◌∵◌, !, qed, by, move, keep, drop, use1, use2, use3, split, split3, join, pick, fsplit, fsplit3, fjoin, fpick, fpack, done, such_by, follows_by, Item, await, rewrite, stop, addr, of_opd, and_then, no_more, returns, enter, alloc_all, pass_all, free_all, look_at, get, through, sets, lands_as, no, yes, RattleType, owns, follows_so, Is, shows, param, layout, Laws, param_laws, Bor, MutBor, MutRef, ShrRef, mut_vals, mut_Tells, shr_vals, shr_Tells, plain, types_at, mut_ref_to, nothing, heard, only, peeks, calls_at, Clauses, Ended, closing, Lasts, ensured, lasts, Meets, triple_of, Contract, Triple, framed, walk_of, Goes-spent_ref, Goes-blank, Good, proved_at, ⊤, tells, spent, drops, leaves}
 use contract.Lifetimes.{Lfts}
-use contract.Running.{Running}
+use contract.Running.{Running, MachineTables}
 use denote.Signature.{Slot, shr_ref_to}
 use denote.Triple.End.{Kepts}
 use mir.Syntax.{Callee, ty_ref, mut, imm, local, value_local, erased, place, deref, copy, rv_opd, addr_of, assign, call, seq, return}
 use prog.Model.{Model}
 use prog.Wp.{Closed}
 use Rattle.starlark_columns.proofs.LoneValue.{lone_value}
-use Rattle.starlark_sets.proofs.Shown.{ends_weaker}
+use Rattle.starlark_columns.proofs.Steps.{Kept, within, good_value, lent_within, back_again}
+
+-- what is said of a value at its end may be said less strongly
+module _ {M : Type 1} {𝓤 : Ura M} (𝓛 : Logic 𝓤) (R : RattleType) (γ : GName) (P Q : R.Denot → Type 0) (weaker : (n : R.Denot) → P n → Q n) where
+  ends_weaker : ent 𝓤 (sem 𝓛 (follows_so R R γ none (λ _ _. ⊤) P)) (sem 𝓛 (follows_so R R γ none (λ _ _. ⊤) Q))
+  unfolding such_by follows_by
+  ends_weaker = qed 𝓛 (‵ (follows_so R R γ none (λ _ _. ⊤) P) ∷ []) ∵ fpick ! (λ s. fpack ! ((s : (R.Denot → R.Denot) × R.Denot) × ((w : R.Denot) → ⊤) × Q s.1) (λ s. follows_by R.Denot R.Denot R.coded.code R.coded.code γ none s.0.0 s.0.1) (s.0, s.1, weaker s.0.1 s.2) $ done !)
 
 -- what is said of a call: the elements' type, the set's, what the change answers and what is shown, and what each of the three calls says
 pub record Words : Type 2 where
@@ -61,9 +66,6 @@ module _ (W : Words) where
   abbrev ended : Ended
   ended = ending (lent ∷ plain (λ _. T') ∷ []) (plain Out) (no, (no, tt))
 
-  abbrev stayed : Stays ended.signature.params ended.kept
-  stayed = (stay_dropped lent no, (stay_dropped (plain (λ _. T')) no, tt))
-
   -- the code, of a set that is written as σ behind a reference and as δ where it is read
   abbrev pub here : (σ δ : Ty) → Callee → Callee → Callee → Fn
   here σ δ put freeze show = record {
@@ -85,8 +87,6 @@ module _ (W : Words) where
   }
 
   module _ {M : Type 1} {𝓤 : Ura M} (𝓛 : Logic 𝓤) (says : R.Denot → T.Denot → Index.Denot → R.Denot → SProp 𝓤) where
-    open 𝓛 use {A}
-
     abbrev Lives : Lfts 2 → SProp 𝓤
     Lives κs = fact 𝓤 (κs.1.0 ⊑ T.lives)
 
@@ -119,97 +119,69 @@ module _ (W : Words) where
     abbrev pub Shows : Contract 𝓤
     Shows = triple_of 𝓛 Showing.signature (closing 𝓛 Showing showing)
 
-    module _ (σ δ : Ty) (put freeze show : Callee) (C : Calls 𝓤 𝓛.H) (Λ : Loops 𝓤 𝓛.H) (fm : FmC 𝓤 𝓛.H 𝓛.laws C)
-        (said : (old : R.Denot) (value : T.Denot) (index : Index.Denot) (new : R.Denot) → ent 𝓤 (says old value index new) (fact 𝓤 (W.Puts old value index new)))
-        (puts : Triple 𝓤 (C put) Puts) (freezes : Triple 𝓤 (C freeze) Freezes) (shows_it : Triple 𝓤 (C show) Shows)
-        (κs : Lfts 2) (q qT : Share) (bounds : (κs.0 ⊑ κs.1.0) × Unit {0}) (r : MutBor R.Denot) (value : T.Denot) (k : Val) (k_good : Good (layout T') k) where
-      abbrev bound : (walk_of 𝓛 ended stayed spec).Ghost
-      bound = ((κs, (q, (qT, tt)), bounds, (r, (value, tt)), (mut_vals r, (k ∷ [], tt))), tt)
+    module _ (𝓜 : Model 𝓤 𝓛.H) (𝓡 : Running 𝓤 𝓛.H 𝓜)
+        (said : (old : R.Denot) (value : T.Denot) (index : Index.Denot) (new : R.Denot) → ent 𝓤 (says old value index new) (fact 𝓤 (W.Puts old value index new))) where
+      abbrev 𝓣 : MachineTables 𝓤 𝓛.H 𝓜
+      𝓣 = tables 𝓤 𝓛.H 𝓜 𝓡 𝓡.env
 
-      walk : ent 𝓤 ((walk_of 𝓛 ended stayed spec).pre bound) (WpFn 𝓤 𝓛.H C Λ (here σ δ put freeze show) (vptr r.ref_ptr.0 r.ref_ptr.1 ∷ k ∷ []) ((walk_of 𝓛 ended stayed spec).post bound))
-      walk =
-          let κ = κs.0 in let κT = κs.1.0 in
-          let b = r.ref_ptr.0 in let o = r.ref_ptr.1 in let m = r.now in let γ = r.ghost_name in let ql = Share.left q in let qr = Share.right q in
-          let qq : Share = (common full_share qr).0 in let code : Fn = here σ δ put freeze show in
-          let Ref = λ (κ' : Lft) (x : MutBor R.Denot). (MutRef (named 0) κ' R).own_val x (vptr b o ∷ []) in
-          qed 𝓛 (((‵ (flft κ q) ⊛ ‵ (flft κT qT) ⊛ ‵ ftrue) ⊛ ‵ (owns (types_at ended.signature.params bound.0.0) bound.0.3 bound.0.4)) ∷ (raw (fact 𝓤 (κT ⊑ T.lives)) ⊛ ‵ ftrue) ∷ []) ∵
-          move ! (1 ∷ []) $ split ! $ heard ! (κT ⊑ T.lives) (λ lT. drop ! $
-          split ! $ split3 ! $ move ! (3 ∷ []) $ fsplit3 ! $ keep ! (3 ∷ 4 ∷ 0 ∷ 1 ∷ []) $
+      pub meets : (σ δ : Ty) {put freeze show : Callee} (self : Callee) → Closed 𝓤 𝓛.H 𝓣.C 𝓣.Λ self (here σ δ put freeze show)
+          → Triple 𝓤 (𝓣.C put) Puts → Triple 𝓤 (𝓣.C freeze) Freezes → Triple 𝓤 (𝓣.C show) Shows → Meets 𝓛 ended.signature (𝓣.C self) (closing 𝓛 ended spec)
+      meets σ δ {put} {freeze} {show} self closed puts freezes shows_it =
+          let fn : Fn = here σ δ put freeze show in let fm = framed 𝓤 𝓛.H 𝓜 𝓣 in let hs = drops ended in let Walk : Contract 𝓤 = walk_of 𝓛 ended hs spec in
+          proved_at 𝓛 ended hs spec 𝓜 𝓡 (Goes-spent_ref 𝓛 2 (0 ∷ []) tt (plain (λ _. R)), (Goes-blank 𝓛 2 (plain (λ _. T')) no (λ κs x f. tt), tt)) self fn closed (λ given are.
+          let κs = given.0.0 in let bounds = given.0.2 in let a = given.0.3 in let r : MutBor R.Denot = a.0 in let m : R.Denot = r.now in let γ : GName = r.ghost_name in let value : T.Denot = a.1.0 in
+          let κ : Lft = κs.0 in let κT : Lft = κs.1.0 in let q : Share = given.0.1.0 in let qT : Share = given.0.1.1.0 in let qq : Share = within 𝓛 R κ q r in let Lives : Type 0 = κT ⊑ T.lives in
+          let one = lone_value 𝓛 T' (param_laws 0 T W.laws) value given.0.4.1.0 are.1.0 in let k : Val = one.0 in let self_is = mut_Tells (named 0) κ R r given.0.4.0 are.0 in
+          let bound : Walk.Ghost = ((κs, (q, (qT, tt)), bounds, (r, (value, tt)), (mut_vals r, (k ∷ [], tt))), given.1) in
+          let tokens : Item 𝓤 = ‵ (flft κ q) ⊛ ‵ (flft κT qT) ⊛ ‵ ftrue in let Frozen : RattleType = ShrRef (named 0) κ R in
+          subst (λ (us : List Val × (List Val × Unit {0})). ent 𝓤 (Walk.pre ((κs, given.0.1, bounds, a, us), given.1))
+          (WpFn 𝓤 𝓛.H 𝓣.C 𝓣.Λ fn (Walk.args ((κs, given.0.1, bounds, a, us), given.1)) (Walk.post ((κs, given.0.1, bounds, a, us), given.1))))
+          (sym (λ j. (self_is j, (one.1 j, tt)))) (
+          qed 𝓛 ((tokens ⊛ ‵ (owns (types_at ended.signature.params κs) bound.0.3 bound.0.4)) ∷ raw (fact 𝓤 Lives) ∷ ‵ ftrue ∷ []) ∵
+          move ! (1 ∷ []) $ heard ! Lives (λ lT. split ! $ split3 ! $ move ! (3 ∷ []) $ fsplit3 ! $ keep ! (3 ∷ 4 ∷ 0 ∷ 1 ∷ []) $
           -- [the tokens of κ, κT; self; the element]
-          enter ! C Λ code (vptr b o ∷ k ∷ []) _ $ alloc_all ! (λ l. let En : Env 𝓤 𝓛.H = env code.locals l in
-          pass_all ! refl ((tt, tt), (k_good, tt)) $
-          sets ! (addr ! (through ! refl (stop !))) refl (tt, tt) $ sets ! (of_opd ! (get ! refl)) refl k_good $
+          enter ! 𝓣.C 𝓣.Λ fn (vptr r.ref_ptr.0 r.ref_ptr.1 ∷ k ∷ []) (Walk.post bound) $ alloc_all ! (λ l. pass_all ! refl ((tt, tt), (one.2, tt)) $
+          sets ! (addr ! (through ! refl (stop !))) refl (tt, tt) $ sets ! (of_opd ! (get ! refl)) refl one.2 $
           -- self is lent again, for a lifetime within κ
-          use1 𝓛 (‵ (flft κ ql) ⊛ ‵ (flft κ qr)) (𝓛.lfts.lft_split κ q) $ split ! $
-          lft_new ! tt (λ α. let ακ : Lft = α ∷ κ in
-          -- [α; the two halves of κ; κT; self; the element]
-          move ! (4 ∷ 1 ∷ []) $ use2 𝓛 (later (some (λ (δ' : GName). ‵ (Ref ακ (record r { ghost_name = δ' })) ⊛ ‵ (LentAgain R κ ακ ql γ b o δ' m)))) (lends_again 𝓛 R (named 0) κ ακ ql γ b o (named 0) m) $ await ! tt $ pick ! (λ δ'. split ! $
-          move ! (2 ∷ 3 ∷ []) $ use2 𝓛 (‵ (flft ακ qq) ⊛ raw (wand 𝓤 (A.lft ακ qq) (sep 𝓤 (A.lft (α ∷ []) full_share) (A.lft κ qr)))) (lft-common 𝓛 (α ∷ []) κ full_share qr) $ split ! $
-          -- [the token of ακ; its way back; the loan; what the lender keeps; κT; the element]
-          let loan : MutBor R.Denot = record r { ghost_name = δ' } in
+          move ! (0 ∷ 2 ∷ []) $ use2 𝓛 (later (some (λ (α : ℕ). some (λ (δ' : GName). ‵ (flft (α ∷ κ) qq) ⊛ ‵ ((MutRef (named 0) (α ∷ κ) R).own_val (record r { ghost_name = δ' }) (mut_vals r)) ⊛ raw (Kept 𝓛 R κ q r α δ')))))
+          (lent_within 𝓛 R κ q r) $ await ! tt $ pick ! (λ α. pick ! (λ δ'. split3 ! $
+          -- [the token of ακ; the loan; what the lender keeps; κT; the element]
+          let ακ : Lft = α ∷ κ in let loan : MutBor R.Denot = record r { ghost_name = δ' } in
           let z : Puts.Ghost = (((ακ, (κT, tt)), (qq, (qT, tt)), (⊑_trans ακ κ κT (meet_⊑_right (α ∷ []) κ) bounds.0, tt), (loan, (value, tt)), (mut_vals loan, (k ∷ [], tt))), tt) in
-          nothing ! $ move ! (6 ∷ 0 ∷ []) $ fjoin ! $ move ! (3 ∷ 0 ∷ []) $ fjoin ! $
-          nothing ! $ move ! (5 ∷ 0 ∷ []) $ join ! $ move ! (2 ∷ 0 ∷ []) $ join ! $ join ! $
-          nothing ! $ use0 𝓛 (raw (fact 𝓤 (κT ⊑ T.lives))) (fact_i 𝓤 _ (emp 𝓤) lT) $ join ! $ move ! (1 ∷ 0 ∷ []) $ join ! $ use1 𝓛 (raw (Puts.pre z)) (id⊢ 𝓤 _) $
+          nothing ! $ move ! (5 ∷ 0 ∷ []) $ fjoin ! $ move ! (2 ∷ 0 ∷ []) $ fjoin ! $ nothing ! $ move ! (4 ∷ 0 ∷ []) $ join ! $ move ! (2 ∷ 0 ∷ []) $ join ! $ join ! $
+          nothing ! $ tells ! Lives lT $ join ! $ move ! (1 ∷ 0 ∷ []) $ join ! $ use1 𝓛 (raw (Puts.pre z)) (id⊢ 𝓤 _) $
           calls_at ! fm Puts puts z (and_then ! (get ! refl) (and_then ! (get ! refl) (no_more !))) (λ u.
           use1 𝓛 (later (some (λ (g : Index.Denot). ((‵ (flft ακ qq) ⊛ ‵ (flft κT qT) ⊛ ‵ ftrue) ⊛ ‵ (Index.own_val g (u ∷ [])))
-          ⊛ some (λ (ws : Lasts Putting (z.0.0) z.0.3). ‵ (lasts Putting z.0.0 z.0.3 ws) ⊛ raw (says m value g ws.0)))))
-          (id⊢ 𝓤 _) $ await ! tt $
+          ⊛ some (λ (ws : Lasts Putting (z.0.0) z.0.3). ‵ (lasts Putting z.0.0 z.0.3 ws) ⊛ raw (says m value g ws.0))))) (id⊢ 𝓤 _) $ await ! tt $
           pick ! (λ g. split ! $ move ! (1 ∷ []) $ pick ! (λ ws. split ! $ fsplit ! $ fsplit ! $ move ! (3 ∷ []) $
-          let mm : R.Denot = ws.0 in let self : MutBor R.Denot = record r { now = mm } in
-          use1 𝓛 (raw (fact 𝓤 (W.Puts m value g mm))) (said m value g mm) $ heard ! (W.Puts m value g mm) (λ answers.
-          move ! (3 ∷ []) $ split ! $ split3 ! $
-          -- [the tokens of ακ, κT; nothing; the index; what self ends as; ..; the way back; what the lender keeps]: the loan is over
-          move ! (0 ∷ 7 ∷ []) $ use2 𝓛 (‵ (flft (α ∷ []) full_share) ⊛ ‵ (flft κ qr)) (apply∗ 𝓤 (A.lft ακ qq) (sep 𝓤 (A.lft (α ∷ []) full_share) (A.lft κ qr))) $ split ! $
-          lft_end ! tt $ use1 𝓛 (‵ (fdead ακ)) (𝓛.lfts.dead-incl ακ (α ∷ []) (meet_⊑_left (α ∷ []) κ)) $
-          move ! (0 ∷ 8 ∷ 5 ∷ []) $ use3 𝓛 (later (‵ (Ref κ self) ⊛ ‵ (flft κ ql))) (comes_back 𝓛 R (named 0) κ ακ ql γ b o δ' m mm) $ await ! tt $ split ! $
-          move ! (1 ∷ 2 ∷ []) $ use2 𝓛 (‵ (flft κ q)) (𝓛.lfts.lft_join κ q) $ move ! (3 ∷ 5 ∷ 6 ∷ []) $ drop ! $ drop ! $ drop ! $ move ! (3 ∷ []) $
+          let mm : R.Denot = ws.0 in let self' : MutBor R.Denot = record r { now = mm } in
+          use1 𝓛 (raw (fact 𝓤 (W.Puts m value g mm))) (said m value g mm) $ heard ! (W.Puts m value g mm) (λ answers. move ! (3 ∷ []) $ split ! $ split3 ! $
+          -- [the tokens of ακ, κT; nothing; the index; what the loan ends as; ..; what the lender keeps]: the loan is over
+          move ! (4 ∷ 0 ∷ 7 ∷ []) $ use3 𝓛 (later (‵ ((MutRef (named 0) κ R).own_val self' (mut_vals r)) ⊛ ‵ (flft κ q))) (back_again 𝓛 R κ q r α δ' mm) $ await ! tt $ split ! $
+          move ! (3 ∷ 5 ∷ 6 ∷ []) $ drop ! $ drop ! $ drop ! $ move ! (3 ∷ 1 ∷ []) $
           -- [the index; the token of κ; self; that of κT]
-          peeks ! Index (Is Index) (shows 𝓛 Index) g (u ∷ []) (λ is_g. let one = lone_value 𝓛 Index W.index_laws g (u ∷ []) is_g in
-          let u_good = subst (Good (layout Index)) (sym (ap only one.1)) one.2 in
+          peeks ! Index (Is Index) (shows 𝓛 Index) g (u ∷ []) (λ is_g. let u_good = good_value 𝓛 Index W.index_laws g u is_g in
           lands_as ! refl refl u_good $ sets ! (addr ! (through ! refl (stop !))) refl (tt, tt) $
           -- self is given up
-          let z2 : Freezes.Ghost = ((κs, (q, (qT, tt)), bounds, (self, tt), (mut_vals self, tt)), tt) in
+          let z2 : Freezes.Ghost = ((κs, (q, (qT, tt)), bounds, (self', tt), (mut_vals self', tt)), tt) in
           nothing ! $ move ! (3 ∷ 0 ∷ []) $ fjoin ! $ nothing ! $ move ! (4 ∷ 0 ∷ []) $ join ! $ move ! (3 ∷ 0 ∷ []) $ join ! $ join ! $
-          nothing ! $ use0 𝓛 (raw (fact 𝓤 (κT ⊑ T.lives))) (fact_i 𝓤 _ (emp 𝓤) lT) $ join ! $ move ! (1 ∷ 0 ∷ []) $ join ! $ use1 𝓛 (raw (Freezes.pre z2)) (id⊢ 𝓤 _) $
+          nothing ! $ tells ! Lives lT $ join ! $ move ! (1 ∷ 0 ∷ []) $ join ! $ use1 𝓛 (raw (Freezes.pre z2)) (id⊢ 𝓤 _) $
           calls_at ! fm Freezes freezes z2 (and_then ! (get ! refl) (no_more !)) (λ t.
-          use1 𝓛 (later (some (λ (x : Bor R.Denot). ((‵ (flft κ q) ⊛ ‵ (flft κT qT) ⊛ ‵ ftrue) ⊛ ‵ ((ShrRef (named 0) κ R).own_val x (t ∷ [])))
-          ⊛ raw (ensured 𝓛 Freezing freezing z2.0.0 z2.0.3 tt x)))) (id⊢ 𝓤 _) $ await ! tt $ pick ! (λ x. split ! $ move ! (1 ∷ []) $
+          use1 𝓛 (later (some (λ (x : Bor R.Denot). (tokens ⊛ ‵ (Frozen.own_val x (t ∷ []))) ⊛ raw (ensured 𝓛 Freezing freezing z2.0.0 z2.0.3 tt x)))) (id⊢ 𝓤 _) $ await ! tt $ pick ! (λ x. split ! $ move ! (1 ∷ []) $
           use1 𝓛 (‵ (follows_so R R γ none (λ _ _. ⊤) (λ n. n ≡ mm)) ⊛ raw (fact 𝓤 (x.now ≡ mm))) (ex_e 𝓤 _ (λ ws. snd∗ 𝓤 (sem 𝓛 (lasts Freezing z2.0.0 z2.0.3 ws)) _)) $ split ! $
           move ! (1 ∷ []) $ heard ! (x.now ≡ mm) (λ seen. move ! (1 ∷ []) $ split ! $ move ! (1 ∷ []) $
-          peeks ! (ShrRef (named 0) κ R) (Is (ShrRef (named 0) κ R)) (shows 𝓛 (ShrRef (named 0) κ R)) x (t ∷ []) (λ is_x. let at_t : t ≡ vptr x.ref_ptr.0 x.ref_ptr.1 = ap only (shr_Tells (named 0) κ R x (t ∷ []) is_x) in
-          rewrite ! 0 (λ (w : Val). ‵ ((ShrRef (named 0) κ R).own_val x (w ∷ []))) at_t refl $ lands_as ! at_t refl (tt, tt) $ sets ! (of_opd ! (get ! refl)) refl u_good $
+          peeks ! Frozen (Is Frozen) (shows 𝓛 Frozen) x (t ∷ []) (λ is_x. let at_t : t ≡ vptr x.ref_ptr.0 x.ref_ptr.1 = ap only (shr_Tells (named 0) κ R x (t ∷ []) is_x) in
+          rewrite ! 0 (λ (w : Val). ‵ (Frozen.own_val x (w ∷ []))) at_t refl $ lands_as ! at_t refl (tt, tt) $ sets ! (of_opd ! (get ! refl)) refl u_good $
           -- [the reference; the tokens; what self ends as; the index]
           let z3 : Shows.Ghost = ((κs, (q, (qT, tt)), bounds, (x, (g, tt)), (shr_vals x, (u ∷ [], tt))), tt) in
           nothing ! $ move ! (4 ∷ 0 ∷ []) $ fjoin ! $ move ! (1 ∷ 0 ∷ []) $ fjoin ! $ move ! (1 ∷ 0 ∷ []) $ join ! $
-          use0 𝓛 (raw (fact 𝓤 (W.Within x.now g))) (fact_i 𝓤 _ (emp 𝓤) (subst (λ n. W.Within n g) (sym seen) (W.within m value g mm answers))) $
-          use0 𝓛 (raw (fact 𝓤 (κT ⊑ T.lives))) (fact_i 𝓤 _ (emp 𝓤) lT) $ join ! $ move ! (1 ∷ 0 ∷ []) $ join ! $ use1 𝓛 (raw (Shows.pre z3)) (id⊢ 𝓤 _) $
+          tells ! (W.Within x.now g) (subst (λ n. W.Within n g) (sym seen) (W.within m value g mm answers)) $ tells ! Lives lT $ join ! $ move ! (1 ∷ 0 ∷ []) $ join ! $ use1 𝓛 (raw (Shows.pre z3)) (id⊢ 𝓤 _) $
           calls_at ! fm Shows shows_it z3 (and_then ! (get ! refl) (and_then ! (get ! refl) (no_more !))) (λ v.
-          use1 𝓛 (later (some (λ (y : (Out κs).Denot). ((‵ (flft κ q) ⊛ ‵ (flft κT qT) ⊛ ‵ ftrue) ⊛ ‵ ((Out κs).own_val y (v ∷ [])))
-          ⊛ raw (ensured 𝓛 Showing showing z3.0.0 z3.0.3 tt y)))) (id⊢ 𝓤 _) $ await ! tt $ pick ! (λ y. split ! $ move ! (1 ∷ []) $
+          use1 𝓛 (later (some (λ (y : (Out κs).Denot). (tokens ⊛ ‵ ((Out κs).own_val y (v ∷ []))) ⊛ raw (ensured 𝓛 Showing showing z3.0.0 z3.0.3 tt y)))) (id⊢ 𝓤 _) $ await ! tt $ pick ! (λ y. split ! $ move ! (1 ∷ []) $
           use1 𝓛 (raw (fact 𝓤 (W.Shows κs x.now g y))) (ex_e 𝓤 _ (λ ws. snd∗ 𝓤 (sem 𝓛 (lasts Showing z3.0.0 z3.0.3 ws)) _)) $
-          heard ! (W.Shows κs x.now g y) (λ told'. let told : W.Shows κs mm g y = subst (λ n. W.Shows κs n g y) seen told' in
-          split ! $ move ! (1 ∷ []) $
-          peeks ! (Out κs) (Is (Out κs)) (shows 𝓛 (Out κs)) y (v ∷ []) (λ is_y. let out = lone_value 𝓛 (Out κs) (W.out_laws κs) y (v ∷ []) is_y in
-          lands_as ! refl refl (W.lands κs v (subst (Good (layout (Out κs))) (sym (ap only out.1)) out.2)) $ returns ! (look_at ! 0 refl) $ free_all ! refl $
+          heard ! (W.Shows κs x.now g y) (λ told'. let told : W.Shows κs mm g y = subst (λ n. W.Shows κs n g y) seen told' in split ! $ move ! (1 ∷ []) $
+          peeks ! (Out κs) (Is (Out κs)) (shows 𝓛 (Out κs)) y (v ∷ []) (λ is_y.
+          lands_as ! refl refl (W.lands κs v (good_value 𝓛 (Out κs) (W.out_laws κs) y v is_y)) $ returns ! (look_at ! 0 refl) $ free_all ! refl $
           -- [the result; the tokens; what self ends as]
           move ! (2 ∷ []) $ use1 𝓛 (‵ (follows_so R R γ none (λ _ _. ⊤) (W.Ends κs m value y))) (ends_weaker 𝓛 R γ (λ n. n ≡ mm) (W.Ends κs m value y) (λ n is. subst (W.Ends κs m value y) (sym is) (W.ends κs m value g mm y answers told))) $
-          suffices ! _ (ends_at 𝓛 ended stayed spec bound v y (tt, (tt, tt)) (tt, (tt, tt))) $
-          nothing ! $ nothing ! $ fjoin ! $ nothing ! $ fjoin ! $ move ! (0 ∷ 2 ∷ []) $ join ! $ move ! (2 ∷ 0 ∷ []) $ join ! $ frame ! $
-          use0 𝓛 (raw (fact 𝓤 (W.Tells κs m value y))) (fact_i 𝓤 _ (emp 𝓤) (W.tells κs m value g mm y answers told)) $
-          move ! (1 ∷ 0 ∷ []) $ done !)))))))))))))))))
-
-    module _ (𝓜 : Model 𝓤 𝓛.H) (𝓡 : Running 𝓤 𝓛.H 𝓜)
-        (said : (old : R.Denot) (value : T.Denot) (index : Index.Denot) (new : R.Denot) → ent 𝓤 (says old value index new) (fact 𝓤 (W.Puts old value index new))) where
-      pub meets : (σ δ : Ty) {put freeze show : Callee} (self : Callee) → Closed 𝓤 𝓛.H (tables 𝓤 𝓛.H 𝓜 𝓡 𝓡.env).C (tables 𝓤 𝓛.H 𝓜 𝓡 𝓡.env).Λ self (here σ δ put freeze show)
-          → Triple 𝓤 ((tables 𝓤 𝓛.H 𝓜 𝓡 𝓡.env).C put) Puts → Triple 𝓤 ((tables 𝓤 𝓛.H 𝓜 𝓡 𝓡.env).C freeze) Freezes → Triple 𝓤 ((tables 𝓤 𝓛.H 𝓜 𝓡 𝓡.env).C show) Shows
-          → Meets 𝓛 ended.signature ((tables 𝓤 𝓛.H 𝓜 𝓡 𝓡.env).C self) (closing 𝓛 ended spec)
-      meets σ δ {put} {freeze} {show} self closed puts freezes shows_it =
-          let 𝓣 = tables 𝓤 𝓛.H 𝓜 𝓡 𝓡.env in let code = here σ δ put freeze show in
-          proved_at 𝓛 ended stayed spec 𝓜 𝓡 (Goes-spent_ref 𝓛 2 (0 ∷ []) tt (plain (λ _. R)), (Goes-blank 𝓛 2 (plain (λ _. T')) no (λ κs x f. tt), tt)) self code closed (λ y are.
-          let κs = y.0.0 in let qs = y.0.1 in let a = y.0.3 in let vss = y.0.4 in let W' = walk_of 𝓛 ended stayed spec in
-          let self_is = mut_Tells (named 0) κs.0 R a.0 vss.0 are.0 in
-          let k = lone_value 𝓛 T' (param_laws 0 T W.laws) a.1.0 vss.1.0 are.1.0 in
-          subst (λ (us : List Val × (List Val × Unit {0})). ent 𝓤 (W'.pre ((κs, qs, y.0.2, a, us), y.1)) (WpFn 𝓤 𝓛.H 𝓣.C 𝓣.Λ code (W'.args ((κs, qs, y.0.2, a, us), y.1)) (W'.post ((κs, qs, y.0.2, a, us), y.1))))
-          (sym (λ j. (self_is j, (k.1 j, tt))))
-          (walk σ δ put freeze show 𝓣.C 𝓣.Λ (framed 𝓤 𝓛.H 𝓜 𝓣) said puts freezes shows_it κs qs.0 qs.1.0 y.0.2 a.0 a.1.0 k.0 k.2))
+          tells ! (W.Tells κs m value y) (W.tells κs m value g mm y answers told) $ spent ! 2 $ move ! (4 ∷ 0 ∷ 3 ∷ 2 ∷ 1 ∷ []) $ by ! (leaves 𝓛 ended hs spec bound v y (tt, (tt, tt)) (tt, (tt, tt))))))))))))))))))))))

@@ -16,19 +16,8 @@ use Rattle.starlark_sets.proofs.Differences.{IsSingle-filter}
 pairs_append : {X : Type 0} (p : X → X → Bool) (xs ys : List X) → AllPairs (λ x y. p x y ≡ false) xs → AllPairs (λ x y. p x y ≡ false) ys
     → ((i j : ℕ) (d : X) → i < length xs → j < length ys → p (get_or xs i d) (get_or ys j d) ≡ false) → AllPairs (λ x y. p x y ≡ false) (xs ++ ys)
 pairs_append p xs ys first second across i j d below inside =
-    grind (
-      arith,
-      get_or_append_left xs ys d i,
-      get_or_append_left xs ys d j,
-      get_or-append_right xs ys (length xs) i d,
-      get_or-append_right xs ys (length xs) j d,
-      length-append xs ys,
-      cases_order j (length xs),
-      cases_order i (length xs),
-      first i j d below,
-      second (i - length xs) (j - length xs) d,
-      across i (j - length xs) d,
-    )
+    let left = get_or_append_left xs ys d in let right = get_or-append_right xs ys (length xs) in let order = λ (k : ℕ). cases_order k (length xs) in
+    grind (arith, left i, left j, right i d, right j d, length-append xs ys, order j, order i, first i j d below, second (i - length xs) (j - length xs) d, across i (j - length xs) d)
 
 module _ {T : Type 0} (eq : T → T → Bool) where
   -- a difference has none

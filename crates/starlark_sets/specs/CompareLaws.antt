@@ -20,29 +20,18 @@ module _ {K V : Type 0} {key_eq : K → K → Bool} {value_eq : V → V → Bool
   same_order_per a b = lists_per (and_per (on_per number_of (partial_equiv_from_equiv nat_eq_equiv)) (and_per (on_per entry_key (partial_equiv_from_equiv a)) (on_per entry_value b)))
 
 -- both tests item by item are the test of both
-pointwise-both : {X : Type 0} (E F : X → X → Bool) (xs ys : List X) → pointwise (eq_of_both E F) xs ys ≡ (pointwise E xs ys && pointwise F xs ys)
+pointwise-both : {X : Type 0} (E F : X → X → Bool) (xs ys : List X) → pointwise (λ x y. F x y && E x y) xs ys ≡ (pointwise E xs ys && pointwise F xs ys)
 pointwise-both E F [] [] = refl
 pointwise-both E F [] (y ∷ ys) = refl
 pointwise-both E F (x ∷ xs) [] = refl
-pointwise-both E F (x ∷ xs) (y ∷ ys) = ap (λ b. (E x y && F x y) && b) (pointwise-both E F xs ys) ∙ shuffled (E x y) (F x y) (pointwise E xs ys) (pointwise F xs ys)
+pointwise-both E F (x ∷ xs) (y ∷ ys) = ap (λ b. (F x y && E x y) && b) (pointwise-both E F xs ys) ∙ shuffled (F x y) (E x y) (pointwise E xs ys) (pointwise F xs ys)
   where
-    shuffled : (a b c d : Bool) → ((a && b) && (c && d)) ≡ ((a && c) && (b && d))
+    shuffled : (a b c d : Bool) → ((a && b) && (c && d)) ≡ ((b && c) && (a && d))
     shuffled true true c d = refl
-    shuffled true false true d = refl
-    shuffled true false false d = refl
-    shuffled false b c d = refl
-
-pointwise-same : {X : Type 0} (E F : X → X → Bool) → ((x y : X) → E x y ≡ F x y) → (xs ys : List X) → pointwise E xs ys ≡ pointwise F xs ys
-pointwise-same E F same [] [] = refl
-pointwise-same E F same [] (y ∷ ys) = refl
-pointwise-same E F same (x ∷ xs) [] = refl
-pointwise-same E F same (x ∷ xs) (y ∷ ys) = λ i. same x y i && pointwise-same E F same xs ys i
-
-turned : (a b : Bool) → (a && b) ≡ (b && a)
-turned true true = refl
-turned true false = refl
-turned false true = refl
-turned false false = refl
+    shuffled true false c d = refl
+    shuffled false true true d = refl
+    shuffled false true false d = refl
+    shuffled false false c d = refl
 
 -- the order of lists of entries is total where those of keys and values are
 pub entries_total : {K V : Type 0} {key_cmp : K → K → Ordering} {value_cmp : V → V → Ordering} → IsTotalOrder key_cmp → IsTotalOrder value_cmp → IsTotalOrder (entries_cmp {K = K} {V = V} key_cmp value_cmp)
@@ -54,8 +43,7 @@ module _ {K V : Type 0} (key_eq : K → K → Bool) (value_eq : V → V → Bool
   entries_ties a b es fs =
       let pairs : Entry K V → Entry K V → Bool = eq_of_both (on entry_key key_eq) (on entry_value value_eq) in
       let hashes : Entry K V → Entry K V → Bool = on number_of nat_eq in
-      pointwise-same (same_entry key_eq value_eq) (eq_of_both pairs hashes) (λ d e. turned (hashes d e) (pairs d e)) es fs
-      ∙ pointwise-both pairs hashes es fs
+      pointwise-both pairs hashes es fs
       ∙ both_tied (pointwise pairs es fs) (pointwise hashes es fs) (slice_cmp (pair_cmp key_cmp value_cmp) es fs) (slice_cmp (on number_of nat_cmp) es fs)
       (lists_ties (pair_cmp key_cmp value_cmp) (λ d e. both_tied (key_eq (entry_key d) (entry_key e)) (value_eq (entry_value d) (entry_value e)) (key_cmp (entry_key d) (entry_key e)) (value_cmp (entry_value d) (entry_value e)) (a (entry_key d) (entry_key e)) (b (entry_value d) (entry_value e))) es fs)
       (lists_ties (on number_of nat_cmp) (λ d e. unsigned_ties (number_of d) (number_of e)) es fs)

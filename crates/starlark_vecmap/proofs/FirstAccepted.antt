@@ -1,5 +1,5 @@
 -- A search from the front by a closure that is a test.
-use Rattle.starlark_hash.proofs.Common.{◌≡◌, ℕ, ◌+◌, ◌<◌, Bool, true, false, cond, List, [], ◌∷◌, length, map, Option, Some, None, sym, ◌∙◌, arith, ◌&&◌, filter, position, IfSome, enumerate_from, option_map, Bor, Mut}
+use Rattle.starlark_hash.proofs.Common.{◌≡◌, ℕ, ◌+◌, ◌<◌, Bool, true, false, cond, List, [], ◌∷◌, length, map, Option, Some, sym, ◌∙◌, arith, ◌&&◌, filter, position, IfSome, enumerate_from, option_map, Bor, Mut}
 use Rattle.starlark_hash.specs.declared.hash_value.StarlarkHashValue.{StarlarkHashValue}
 use Rattle.starlark_hash.specs.Entries.{Entry, entry_key, is_under, stands_under, position_of}
 use Rattle.starlark_hash.specs.Search.{Asks, keys_under}
@@ -8,8 +8,7 @@ use Rattle.starlark_hash.proofs.SearchLemmas.{IsTest}
 
 -- an index that is found lies within the list
 pub found_within : {X : Type 0} (p : X → Bool) (xs : List X) (o : Option ℕ) → o ≡ position p xs → IfSome o (λ i. i < length xs)
-found_within p xs None e = tt
-found_within p xs (Some i) e = position-within p xs i (sym e)
+found_within p xs o e = grind (arith, position-within p xs)
 
 module _ {F K : Type 0} (g : Mut F (Bor K × Unit {0}) Bool) (t : K → Bool) (f : F) (test : IsTest g t f) where
   asked_here : (n : ℕ) (key : K) (items : List (ℕ × K)) (rest answer : Option ℕ) (last : F) → (Asks g f items answer last → answer ≡ rest)

@@ -1,5 +1,5 @@
 -- Comparing, ordering and cloning entries, in the words of their columns.
-use Rattle.starlark_hash.proofs.Common.{◌≡◌, ℕ, zero, suc, ◌+◌, ◌<◌, Bool, true, false, ◌&&◌, List, [], ◌∷◌, map, length, get_or, refl, ap, arith, MatchBool, nat_eq, AllZip, Ordering, pointwise, length-map}
+use Rattle.starlark_hash.proofs.Common.{◌≡◌, ℕ, ◌+◌, ◌<◌, Bool, true, false, ◌&&◌, List, [], ◌∷◌, map, length, get_or, refl, ap, arith, MatchBool, nat_eq, AllZip, Ordering, pointwise, length-map, get_or-map, sym, ◌∙◌}
 use Rattle.std.specs.Prelude.{IsSortedByKey}
 use Rattle.starlark_hash.specs.HashValue.{hash_value}
 use Rattle.starlark_hash.specs.Entries.{Entry, entry_key, pair_of}
@@ -11,9 +11,7 @@ use Rattle.starlark_hash.specs.Compare.{same_ordered}
 
 module _ {K V : Type 0} (cmp : K → K → Ordering) where
   key_at : (ps : List ((K × V) × ℕ)) (k : ℕ) (d : K × V) (e : Entry K V) → k < length ps → (get_or (firsts_of ps) k d).0 ≡ entry_key (get_or (map entry_of ps) k e)
-  key_at [] k d e below = absurd (omega arith)
-  key_at (p ∷ ps) zero d e below = refl
-  key_at (p ∷ ps) (suc k) d e below = key_at ps k d e (omega arith)
+  key_at ps k d e below = ap (λ p. p.0) (get_or-map (λ p. p.0) ps k (d, 0) d below) ∙ sym (ap entry_key (get_or-map entry_of ps k (d, 0) e below))
 
   -- the keys ascend in the column of pairs just where they do in the entries
   pub ascends-columns : (ps : List ((K × V) × ℕ)) (b : Bool)

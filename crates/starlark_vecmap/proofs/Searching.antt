@@ -1,34 +1,14 @@
 -- A search that jumps from match to match, as a search of the keys under a hash.
-use Rattle.starlark_hash.proofs.Common.{◌≡◌, ℕ, zero, suc, ◌+◌, Bool, true, false, List, [], ◌∷◌, ◌++◌, map, length, get_or, drop, Option, Some, None, refl, sym, ap, subst, ◌∙◌, arith, length-drop, ◌==◌, filter, position, enumerate_from, option_map, Bor, Mut, Called, CalledAt, Takes, get_or-drop, drop-drop, IsPermutation-refl, IsPermutation-cons, none-some}
+use Rattle.starlark_hash.proofs.Common.{◌≡◌, ℕ, zero, suc, ◌+◌, ◌<◌, ◌≤◌, Bool, true, false, List, [], ◌∷◌, ◌++◌, map, length, get_or, drop, Option, Some, None, refl, sym, ap, ◌∙◌, arith, length-drop, ◌==◌, filter, position, enumerate_from, option_map, Bor, Mut, Called, CalledAt, Takes, get_or-drop, drop-drop, IsPermutation-refl, IsPermutation-cons, none-some}
 use Rattle.starlark_hash.specs.declared.hash_value.StarlarkHashValue.{StarlarkHashValue}
 use Rattle.starlark_hash.specs.Entries.{entry_key, is_under}
 use Rattle.starlark_hash.specs.Search.{Asks, CanSearch, keys_under}
 use Rattle.starlark_hash.proofs.PositionLemmas.{position-cons}
 use Rattle.starlark_vecmap.specs.EntryList.{entries_in}
 
--- a call at a reference, as a call at what it points to
-called_at : {F X R : Type 0} (g : Mut F (Bor X × Unit {0}) R) (f later : F) (p : Bor X) (x : X) (r : R) → p.now ≡ x → Called g f (p, tt) r later → CalledAt g f x r later
-called_at g f later p x r is called = record { shown = p; shows = is; called = called }
-
-module _ {F N X : Type 0} (g : Mut F (Bor X × Unit {0}) Bool) where
-  -- first refused what stands before the items left, and is now f
-  pub record Searching (all : List (N × X)) (first f : F) (left : List (N × X)) : Type 0 where
-    pub callable : CanSearch g left f
-    pub rest : (answer : Option N) (last : F) → Asks g f left answer last → Asks g first all answer last
-
-found_at : (i : ℕ) (o : Option ℕ) (index : ℕ) → option_map (λ skipped. i + skipped) o ≡ Some index → (s : ℕ) × (o ≡ Some s) × (index ≡ i + s)
-found_at i None index e = absurd (none-some index e)
-found_at i (Some s) index e = (s, refl, cc)
-
--- what stands behind the item at s, of those from i on
-behind : {X : Type 0} (i s index : ℕ) → index ≡ i + s → (xs : List X) → drop (suc s) (drop i xs) ≡ drop (index + 1) xs
-behind i s index at xs =
-    let step : i + suc s ≡ index + 1 = omega arith in
-    drop-drop (suc s) i xs ∙ ap (λ n. drop n xs) step
-
 module _ {K V : Type 0} (hash : StarlarkHashValue) where
   -- the indices under the hash, counted from n, each with its key
-  abbrev pub keys_from : ℕ → List (K × V) → List ℕ → List (ℕ × K)
+  abbrev keys_from : ℕ → List (K × V) → List ℕ → List (ℕ × K)
   keys_from n pairs hashes = map (λ p. (p.0, entry_key p.1)) (filter (λ p. is_under hash p.1) (enumerate_from n (entries_in pairs hashes)))
 
   -- where a hash is found, the keys before it stand under others
@@ -44,54 +24,57 @@ module _ {K V : Type 0} (hash : StarlarkHashValue) where
   jump-None [] (p ∷ pairs) n e = refl
   jump-None (h ∷ hashes) (p ∷ pairs) n e = grind (arith, position-cons (λ x. x == hash.0) h hashes, jump-None hashes pairs (n + 1))
 
-  module _ (pairs : List (K × V)) (hashes : List ℕ) (i : ℕ) where
-    -- the keys from i on, where the next one stands at this index
-    next-Some : (index : ℕ) (pair : K × V) → length hashes ≡ length pairs → option_map (λ skipped. i + skipped) (position (λ h. h == hash.0) (drop i hashes)) ≡ Some index → pair ≡ get_or pairs index pair
-        → keys_from i (drop i pairs) (drop i hashes) ≡ (index, pair.0) ∷ keys_from (index + 1) (drop (index + 1) pairs) (drop (index + 1) hashes)
-    next-Some index pair same found at =
-        let tails : length (drop i hashes) ≡ length (drop i pairs) = omega (arith, length-drop i hashes, length-drop i pairs) in
-        let skip = found_at i (position (λ h. h == hash.0) (drop i hashes)) index found in
-        rw (jump-Some (drop i hashes) (drop i pairs) i skip.0 index pair tails skip.1 skip.2, behind i skip.0 index skip.2 pairs, behind i skip.0 index skip.2 hashes)
-        (grind (arith, get_or-drop i pairs skip.0 pair))
+  -- the keys from i on, where the next one stands at this index, and where there is none
+  next-Some : (pairs : List (K × V)) (hashes : List ℕ) (i index : ℕ) (o : Option ℕ) (pair : K × V) → length hashes ≡ length pairs → position (λ h. h == hash.0) (drop i hashes) ≡ o → option_map (λ s. i + s) o ≡ Some index
+      → pair ≡ get_or pairs index pair → keys_from i (drop i pairs) (drop i hashes) ≡ (index, pair.0) ∷ keys_from (index + 1) (drop (index + 1) pairs) (drop (index + 1) hashes)
+  next-Some pairs hashes i index None pair same is found at = absurd (none-some index found)
+  next-Some pairs hashes i index (Some s) pair same is found at =
+      let sum : i + s ≡ index = cc in let behind : i + suc s ≡ index + 1 = omega arith in
+      let tails : length (drop i hashes) ≡ length (drop i pairs) = omega (arith, length-drop i hashes, length-drop i pairs) in
+      rw (jump-Some (drop i hashes) (drop i pairs) i s index pair tails is (sym sum), drop-drop (suc s) i pairs, drop-drop (suc s) i hashes, behind) (grind (arith, get_or-drop i pairs s pair))
 
-    -- and where there is none
-    next-None : option_map (λ skipped. i + skipped) (position (λ h. h == hash.0) (drop i hashes)) ≡ None → keys_from i (drop i pairs) (drop i hashes) ≡ []
-    next-None none = jump-None (drop i hashes) (drop i pairs) i (grind arith)
+  module _ {F : Type 0} (g : Mut F (Bor K × Unit {0}) Bool) (pairs : List (K × V)) (hashes : List ℕ) (first f : F) (i : ℕ) where
+    abbrev left : List (ℕ × K)
+    left = keys_from i (drop i pairs) (drop i hashes)
 
-  -- a search that has come to the pair at an index, by the key that it shows there
-  module _ {F : Type 0} (g : Mut F (Bor K × Unit {0}) Bool) (first f : F) (pairs : List (K × V)) (hashes : List ℕ) (i index : ℕ) (pair : K × V)
-      (s : Searching g (keys_under hash (entries_in pairs hashes)) first f (keys_from i (drop i pairs) (drop i hashes))) (same : length hashes ≡ length pairs)
-      (found : option_map (λ skipped. i + skipped) (position (λ h. h == hash.0) (drop i hashes)) ≡ Some index) (at : pair ≡ get_or pairs index pair)
+    -- first refused the keys before i, and is now f
+    pub record Reached : Type 0 where
+      pub within : i ≤ length hashes
+      pub lengths : length hashes ≡ length pairs
+      pub callable : CanSearch g left f
+      pub rest : (answer : Option ℕ) (last : F) → Asks g f left answer last → Asks g first (keys_under hash (entries_in pairs hashes)) answer last
+
+module _ {F K V : Type 0} {g : Mut F (Bor K × Unit {0}) Bool} {hash : StarlarkHashValue} {pairs : List (K × V)} {hashes : List ℕ} {first f : F} {i : ℕ} (s : Reached hash g pairs hashes first f i) where
+  -- the pair at the next index is asked by the key that it shows
+  module _ {index : ℕ} {pair : K × V} (found : option_map (λ s. i + s) (position (λ h. h == hash.0) (drop i hashes)) ≡ Some index) (at : pair ≡ get_or pairs index pair)
       (shown : Bor K) (shows : shown.now ≡ (get_or pairs index pair).0) where
-    abbrev all : List (ℕ × K)
-    all = keys_under hash (entries_in pairs hashes)
-
     abbrev later : List (ℕ × K)
-    later = keys_from (index + 1) (drop (index + 1) pairs) (drop (index + 1) hashes)
+    later = keys_from hash (index + 1) (drop (index + 1) pairs) (drop (index + 1) hashes)
 
-    ready : Searching g all first f ((index, pair.0) ∷ later)
-    ready = subst (λ ps. Searching g all first f ps) (next-Some pairs hashes i index pair same found at) s
+    next : left hash g pairs hashes first f i ≡ (index, pair.0) ∷ later
+    next = next-Some hash pairs hashes i index (position (λ h. h == hash.0) (drop i hashes)) pair s.lengths refl found at
 
     its_key : shown.now ≡ pair.0
     its_key = shows ∙ sym (ap (λ p. p.0) at)
 
+    called : (after : F) (r told : Bool) → r ≡ told → Called g f (shown, tt) r after → CalledAt g f pair.0 told after
+    called after r told is call = record { shown = shown; shows = its_key; called = rw is at call }
+
     pub index_asked : Takes g f (shown, tt)
-    index_asked = ready.callable.at [] (index, pair.0) later f (IsPermutation-refl ((index, pair.0) ∷ later)) refl shown its_key
+    index_asked = (rw next at s.callable).at [] (index, pair.0) later f (IsPermutation-refl ((index, pair.0) ∷ later)) refl shown its_key
 
-    pub index_accepted : (last : F) (r : Bool) → r ≡ true → Called g f (shown, tt) r last → Asks g first all (Some index) last
-    index_accepted last r is called = ready.rest (Some index) last (true, last, called_at g f last shown pair.0 true its_key (rw is at called), (refl, refl))
+    pub index_accepted : (last : F) (r : Bool) → r ≡ true → Called g f (shown, tt) r last → Asks g first (keys_under hash (entries_in pairs hashes)) (Some index) last
+    index_accepted last r is call = s.rest (Some index) last (rw next (true, last, called last r true is call, (refl, refl)))
 
-    pub index_refused : (next : F) (r : Bool) → r ≡ false → Called g f (shown, tt) r next → Searching g all first next later
-    index_refused next r is called =
-        let refused = called_at g f next shown pair.0 false its_key (rw is at called) in record {
-          callable = record { at = λ before q after left moves refuses. ready.callable.at ((index, pair.0) ∷ before) q after left (IsPermutation-cons (index, pair.0) later (before ++ q ∷ after) moves) (next, refused, refuses) };
-          rest = λ answer last asks. ready.rest answer last (false, next, refused, asks);
+    pub index_refused : (after : F) (r : Bool) → r ≡ false → Called g f (shown, tt) r after → index < length hashes → Reached hash g pairs hashes first after (index + 1)
+    index_refused after r is call below =
+        let refused = called after r false is call in let asked = rw next at s.callable in record {
+          within = omega arith;
+          lengths = s.lengths;
+          callable = record { at = λ before q behind end moves refuses. asked.at ((index, pair.0) ∷ before) q behind end (IsPermutation-cons (index, pair.0) later (before ++ q ∷ behind) moves) (after, refused, refuses) };
+          rest = λ answer last asks. s.rest answer last (rw next (false, after, refused, asks));
         }
 
-  -- and one that has come to the end
-  pub none_left : {F : Type 0} (g : Mut F (Bor K × Unit {0}) Bool) (first f : F) (pairs : List (K × V)) (hashes : List ℕ) (i : ℕ)
-      → Searching g (keys_under hash (entries_in pairs hashes)) first f (keys_from i (drop i pairs) (drop i hashes))
-      → option_map (λ skipped. i + skipped) (position (λ h. h == hash.0) (drop i hashes)) ≡ None → Asks g first (keys_under hash (entries_in pairs hashes)) None f
-  none_left g first f pairs hashes i s none =
-      let ended = subst (λ ps. Searching g (keys_under hash (entries_in pairs hashes)) first f ps) (next-None pairs hashes i none) s in
-      ended.rest None f (refl, refl)
+  -- and the search ends where there is none
+  pub none_left : option_map (λ s. i + s) (position (λ h. h == hash.0) (drop i hashes)) ≡ None → Asks g first (keys_under hash (entries_in pairs hashes)) None f
+  none_left none = s.rest None f (rw (jump-None hash (drop i hashes) (drop i pairs) i (grind arith)) (refl, refl))

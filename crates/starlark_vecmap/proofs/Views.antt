@@ -1,15 +1,14 @@
 -- Two columns as a list of entries, and lists seen through a map of their items.
-use Rattle.starlark_hash.proofs.Common.{◌≡◌, ℕ, zero, suc, List, [], ◌∷◌, map, reverse, remove, refl, ap, map-append, reverse-append, keys_of, values_of}
+use Rattle.starlark_hash.proofs.Common.{◌≡◌, ℕ, suc, List, [], ◌∷◌, ◌++◌, map, take, drop, reverse, remove, refl, sym, ap, ◌∙◌, map-append, reverse-append, keys_of, values_of}
+use Rattle.std.proofs.lemmas.List.{drop-map, take-map}
+use Rattle.std.proofs.lemmas.Simd.{map-map}
 use Rattle.starlark_hash.specs.Entries.{Entry, entry_key, entry_value, pair_of}
 use Rattle.starlark_vec2.specs.PairList.{firsts_of, seconds_of}
 use Rattle.starlark_vecmap.specs.EntryList.{entry_of, entries_in}
 
 module _ {X Y : Type 0} (f : X → Y) where
   pub map-remove : (xs : List X) (i : ℕ) → map f (remove xs i) ≡ remove (map f xs) i
-  map-remove [] zero = refl
-  map-remove [] (suc i) = refl
-  map-remove (x ∷ xs) zero = refl
-  map-remove (x ∷ xs) (suc i) = ap (λ l. f x ∷ l) (map-remove xs i)
+  map-remove xs i = map-append f (take i xs) (drop (suc i) xs) ∙ (λ j. sym (take-map f i xs) j ++ sym (drop-map f (suc i) xs) j)
 
   pub map-reverse : (xs : List X) → map f (reverse xs) ≡ reverse (map f xs)
   map-reverse [] = refl
@@ -23,16 +22,13 @@ module _ {K V : Type 0} where
 
   -- the keys and values of the entries
   pub pair_of-entry_of : (ps : List ((K × V) × ℕ)) → map pair_of (map entry_of ps) ≡ firsts_of ps
-  pair_of-entry_of [] = refl
-  pair_of-entry_of (p ∷ ps) = ap (λ l. p.0 ∷ l) (pair_of-entry_of ps)
+  pair_of-entry_of = map-map pair_of entry_of
 
   -- their keys, and their values
   pub keys_of-pair_of : (es : List (Entry K V)) → keys_of (map pair_of es) ≡ map entry_key es
-  keys_of-pair_of [] = refl
-  keys_of-pair_of (e ∷ es) = ap (λ l. entry_key e ∷ l) (keys_of-pair_of es)
+  keys_of-pair_of = map-map (λ p. p.0) pair_of
 
   pub values_of-pair_of : (es : List (Entry K V)) → values_of (map pair_of es) ≡ map entry_value es
-  values_of-pair_of [] = refl
-  values_of-pair_of (e ∷ es) = ap (λ l. entry_value e ∷ l) (values_of-pair_of es)
+  values_of-pair_of = map-map (λ p. p.1) pair_of
 
 pub ruleset views = (map-remove, map-reverse, pair_of-entry_of, keys_of-pair_of, values_of-pair_of)

@@ -3,14 +3,10 @@ use Rattle.starlark_vecmap.proofs.Ascending.{ascends-part, ascends-joined, ascen
 use Rattle.starlark_vecmap.proofs.columns.keys_ascend.Goals as goal
 
 pub returns-then-not-ascend_one_by_one : goal.returns-then-not-ascend_one_by_one
-returns-then-not-ascend_one_by_one g c =
-    let ps = c.args.pairs.now in
-    λ all. c.if-not-ascend_one_by_one.ensures (ascends-part (λ p q. is_lt (g.K.Ord.cmp p.0 q.0)) ps 0 (length ps) 0 _ (omega arith) (omega arith) all)
+returns-then-not-ascend_one_by_one g c = λ all. c.if-not-ascend_one_by_one.ensures (ascends-part (λ p q. is_lt (g.K.Ord.cmp p.0 q.0)) c.args.pairs.now 0 (length c.args.pairs.now) 0 _ (omega arith) (omega arith) all)
 
 pub returns-then-not-ascend_at_once : goal.returns-then-not-ascend_at_once
-returns-then-not-ascend_at_once g c =
-    let ps = c.args.pairs.now in
-    λ all. c.if-not-ascend_at_once.ensures (ascends-part (λ p q. is_lt (g.K.Ord.cmp p.0 q.0)) ps 0 (length ps) _ _ (omega arith) (omega arith) all)
+returns-then-not-ascend_at_once g c = λ all. c.if-not-ascend_at_once.ensures (ascends-part (λ p q. is_lt (g.K.Ord.cmp p.0 q.0)) c.args.pairs.now 0 (length c.args.pairs.now) _ _ (omega arith) (omega arith) all)
 
 pub loop-last-preserved : goal.loop-last-preserved
 loop-last-preserved g c =

@@ -4,6 +4,4 @@ use Rattle.std.proofs.Common.{w32}
 use Rattle.starlark_vecmap.proofs.hash_search.indices_of_eight.Goals as goal
 
 pub returns : goal.returns
-returns c =
-    let block = c.args.block.now in
-    bitmask_splat w32 nat_eq (chunk c.args.start 8 block) 8 c.args.hash (length-chunk c.args.start 8 block (omega arith)) (omega arith)
+returns c = bitmask_splat w32 nat_eq (chunk c.args.start 8 c.args.block.now) 8 c.args.hash (length-chunk c.args.start 8 c.args.block.now (omega arith)) (omega arith)

@@ -4,6 +4,4 @@ use Rattle.std.proofs.Common.{w32}
 use Rattle.starlark_vecmap.proofs.hash_search.indices_of_sixteen.Goals as goal
 
 pub returns : goal.returns
-returns c =
-    let block = c.args.block.now in
-    bitmask_splat w32 nat_eq (chunk c.args.start 16 block) 16 c.args.hash (length-chunk c.args.start 16 block (omega arith)) (omega arith)
+returns c = bitmask_splat w32 nat_eq (chunk c.args.start 16 c.args.block.now) 16 c.args.hash (length-chunk c.args.start 16 c.args.block.now (omega arith)) (omega arith)

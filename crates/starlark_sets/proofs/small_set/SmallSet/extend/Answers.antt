@@ -6,16 +6,12 @@ use Rattle.starlark_sets.proofs.small_set.SmallSet.extend.Goals as goal
 
 pub returns : goal.returns
 returns g c =
-    let takes = c.extend.ensures in
+    let takes = c.extend.ensures in let old = c.self.inside.map in let new = c.extend.new.self in
     let made = subst (g.I.IntoIterator.into_iter_gives c.args.iter) (sym c.new.ensures) c.into_iter.ensures.into_iter_gives in
-    let old = c.self.inside.map in
-    let new = c.extend.new.self in
     let extends : Extends g.T.PartialEq.eq (own_element g.T.Hash.hash_input) g.I.IntoIter.Iterator.next_gives g.I.IntoIterator.into_iter_gives c.args.iter old.entries new.entries c.extend.result =
-    extends_alone g.I.IntoIter.Iterator.next_gives g.T.PartialEq.eq (own_element g.T.Hash.hash_input) g.I.IntoIterator.into_iter_gives c.args.iter c.new.result
-    old.entries new.entries c.extend.result made takes.entries in
+    extends_alone c.new.result made takes.entries in
     rw (← c.self.view_is) (record {
-      found = has_extended g.T.PartialEq.eq g.met.T.Eq.laws g.T.Hash.hash_input g.met.T.Hash.respects_eq g.I.IntoIter.Iterator.next_gives g.I.IntoIterator.into_iter_gives c.args.iter
-          c.extend.result old new extends;
+      found = has_extended g.met.T.Eq.laws g.T.Hash.hash_input g.met.T.Hash.respects_eq c.extend.result old new extends;
       entries = extends;
       memory = extended_where _ _ old new c.extend.result (λ fits it is. fits it (subst (g.I.IntoIterator.into_iter_gives c.args.iter) (sym is) made)) takes.memory;
       left = (takes.left.0, subst (g.I.IntoIterator.into_iter_gives c.args.iter) (sym takes.left.1) made, takes.left.2);

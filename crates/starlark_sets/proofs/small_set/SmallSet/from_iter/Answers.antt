@@ -6,13 +6,7 @@ use Rattle.starlark_sets.proofs.small_set.SmallSet.from_iter.Goals as goal
 
 pub returns-clause-made : goal.returns-clause-made
 returns-clause-made g c =
-    let new = c.in_ok-from_iter.field-0 in
+    let new = c.in_ok-from_iter.field-0 in let made = subst (g.I.IntoIterator.into_iter_gives c.args.iter) (sym c.new.ensures) c.into_iter.ensures.into_iter_gives in
     let collects : Collects g.T.PartialEq.eq (own_element g.T.Hash.hash_input) g.I.IntoIter.Iterator.next_gives g.I.IntoIterator.into_iter_gives g.I.IntoIter.Iterator.remaining c.args.iter new =
-    collects_alone g.I.IntoIter.Iterator.next_gives g.T.PartialEq.eq (own_element g.T.Hash.hash_input) g.I.IntoIterator.into_iter_gives g.I.IntoIter.Iterator.remaining c.args.iter c.new.result
-    new (subst (g.I.IntoIterator.into_iter_gives c.args.iter) (sym c.new.ensures) c.into_iter.ensures.into_iter_gives) c.in_ok-from_iter.ensures.made.map in
-    record {
-      found = has_collected g.T.PartialEq.eq g.met.T.Eq.laws g.T.Hash.hash_input g.met.T.Hash.respects_eq g.I.IntoIter.Iterator.next_gives g.I.IntoIterator.into_iter_gives c.args.iter
-          g.I.IntoIter.Iterator.remaining new collects;
-      set = collects;
-      own = c.in_ok-from_iter.ensures.made.own;
-    }
+    collects_alone c.new.result made c.in_ok-from_iter.ensures.made.map in
+    record { found = has_collected g.met.T.Eq.laws g.T.Hash.hash_input g.met.T.Hash.respects_eq new collects; set = collects; own = c.in_ok-from_iter.ensures.made.own }

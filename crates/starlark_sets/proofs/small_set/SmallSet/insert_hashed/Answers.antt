@@ -1,4 +1,4 @@
-use Rattle.starlark_sets.proofs.Added.{adds-answered}
+use Rattle.starlark_sets.proofs.Additions.{adds-answered}
 use Rattle.starlark_sets.proofs.small_set.SmallSet.insert_hashed.Goals as goal
 
 pub returns : goal.returns

@@ -1,6 +1,5 @@
 use Rattle.starlark_hash.proofs.Common.{rules, of_calls}
-use Rattle.starlark_hash.specs.HashValue.{hash_of, key_of}
-use Rattle.starlark_hash.specs.Entries.{stands_under}
+use Rattle.starlark_hash.specs.HashValue.{key_of}
 use Rattle.starlark_hash.proofs.SearchLemmas.{is_test}
 use Rattle.starlark_vecmap.proofs.FirstAccepted.{asks-position_of, found_within}
 use Rattle.starlark_vecmap.proofs.vec_map.VecMap.get_index_of_hashed.Goals as goal
@@ -12,4 +11,4 @@ returns-clause-index g c =
     c.hash-hash.result c.args.self.now.entries c.get_index_of_hashed_raw.result _ c.get_index_of_hashed_raw.ensures.1)
 
 pub returns-clause-within : goal.returns-clause-within
-returns-clause-within g c = found_within (stands_under (hash_of c.args.key) (g.Q.Query.stands_for (key_of c.args.key))) c.args.self.now.entries c.get_index_of_hashed_raw.result (returns-clause-index g c)
+returns-clause-within g c = found_within _ c.args.self.now.entries c.get_index_of_hashed_raw.result (returns-clause-index g c)
