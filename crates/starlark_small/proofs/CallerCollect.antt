@@ -1,14 +1,15 @@
 -- What look-ups find once an iterator's items went in, and in a list of clones.
-use Rattle.starlark_hash.proofs.Common.{◌||◌, nat_lt, common_steps, ◌≡◌, Bool, true, false, List, [], ◌∷◌, map, position, cond, Option, Some, None, is_some, Result, Ok, Err, OnOk, refl, sym, ap, ◌∙◌, subst, ℕ, ◌<◌, get_or, length, IsSome, slice_get, arith, IfSome, IsEquivalence, HashWrites, Drains, AllZip, update_all, keys_of, map-id, is_member, is_some-update_all, slice_get-get_or, slice_get-map, slice_get_within, get_or_from_slice_get, All-contains, option_map}
-use Rattle.std.specs.Prelude.{IsSomeAnd}
-use Rattle.std.proofs.iter.SoFar.{exit_by}
+use Rattle.starlark_hash.proofs.Common.{◌||◌, nat_lt, common_steps, ◌≡◌, Bool, true, false, List, [], ◌∷◌, map, position, cond, Option, Some, None, is_some, Result, Ok, Err, OnOk, refl, sym, ap, ◌∙◌, subst, ℕ, get_or, length, IsSome, slice_get, arith, IfSome, IsEquivalence, HashWrites, Drains, AllZip, update_all, keys_of, map-id, is_some-update_all, slice_get-get_or, slice_get-map, option_map, ◌&&◌, ◌<◌, AllZip-get_or, length_all_zip}
+use Rattle.core.proofs.iter.runs.Lists.{at_some}
+use Rattle.core.proofs.iter.runs.Made.{at-is, each, run, to_end}
+use Rattle.std.proofs.lemmas.Map.Keys.{any_passes_from_place}
 use Rattle.std.specs.Iterator.{Count}
-use Rattle.std.specs.Iterator.Runs.{WholeRun, AnyItem, Run, YieldsRun}
+use Rattle.std.specs.Iterator.Runs.{WholeRun, AllItems, AnyItem}
 use Rattle.std.specs.Map.{update}
 use Rattle.starlark_hash.specs.Hasher.{own_hash}
 use Rattle.starlark_hash.specs.declared.hash_value.StarlarkHashValue.{StarlarkHashValue}
 use Rattle.starlark_hash.specs.Clone.{IsEntryClone}
-use Rattle.starlark_hash.specs.Entries.{Entry, entry_key, stands_under}
+use Rattle.starlark_hash.specs.Entries.{Entry, IsSingle, entry_hash, entry_key, is_under, stands_under}
 use Rattle.starlark_hash.specs.Lookup.{found}
 use Rattle.starlark_hash.specs.Insert.{insert_entry}
 use Rattle.starlark_hash.proofs.PositionLemmas.{position-cons}
@@ -22,13 +23,11 @@ use Rattle.starlark_small.proofs.Growing.{stepped_from}
 use Rattle.starlark_small.proofs.CallerOwn.{own-inserted_entries}
 use Rattle.starlark_small.proofs.CallerLookup.{is_some-found}
 use Rattle.starlark_small.proofs.CallerInsert.{writes-inserted}
-use Rattle.std.proofs.lemmas.Map.Made.{All-is_member, IfSome-update_all}
+use Rattle.std.proofs.lemmas.Map.Made.{IfSome-update_all}
 
 -- the run of an iterator that gave these items and ended
 pub run_of : {T A : Type 0} (steps : T → Option A → T → Type 0) (it : T) (xs : List A) (P : List A → Type 0) → Drains steps it xs → P xs → WholeRun steps it (λ p. P p.items)
-run_of steps it xs P drained holds =
-    let run = exit_by steps (xs, drained.1.1) drained.0 drained.1.2 in
-    (run.0, run.1, run.2, subst P (sym run.3.0) holds)
+run_of steps it xs P drained holds = (run steps it xs true (to_end steps it xs drained), refl, refl, holds)
 
 module _ {K V : Type 0} (eq : K → K → Bool) (laws : IsEquivalence eq) (feeds : K → HashWrites) (alike : (x y : K) → eq x y ≡ true → feeds x ≡ feeds y) where
   -- a look-up of each key under its own hash
@@ -99,8 +98,7 @@ module _ {K V T U : Type 0} (eq : K → K → Bool) (steps : T → Option (Entry
 module _ {K V : Type 0} (eq : K → K → Bool) (laws : IsEquivalence eq) (key : K → K → Type 0) (value : V → V → Type 0) (equal : (x y : K) → key x y → eq x y ≡ true) where
   -- a clone passes where its original does
   alike_clone : (q : K) (hash : StarlarkHashValue) (d e : Entry K V) → IsEntryClone key value d e → stands_under hash (eq q) e ≡ stands_under hash (eq q) d
-  alike_clone q hash d e is =
-      grind (arith, common_steps, is.0, laws.symm q (entry_key e), laws.congr (entry_key d) (entry_key e) q (equal (entry_key d) (entry_key e) is.1), laws.symm (entry_key d) q)
+  alike_clone q hash d e is = grind (arith, common_steps, is.0, laws.symm q, laws.congr (entry_key d) (entry_key e) q (equal (entry_key d) (entry_key e) is.1))
 
   position-clones : (q : K) (hash : StarlarkHashValue) (es fs : List (Entry K V)) → AllZip (IsEntryClone key value) es fs → position (stands_under hash (eq q)) fs ≡ position (stands_under hash (eq q)) es
   position-clones q hash [] [] all = refl
@@ -108,38 +106,27 @@ module _ {K V : Type 0} (eq : K → K → Bool) (laws : IsEquivalence eq) (key :
   position-clones q hash (e ∷ es) [] all = absurd all
   position-clones q hash (e ∷ es) (f ∷ fs) all = grind (arith, common_steps, position-cons, alike_clone q hash e f all.0, position-clones q hash es fs all.1)
 
+  -- clones of a single list are one
+  pub IsSingle-clones : (es fs : List (Entry K V)) → AllZip (IsEntryClone key value) es fs → IsSingle eq es → IsSingle eq fs
+  IsSingle-clones es fs all single i j d before below =
+      let inside : j < length es = omega (arith, below, length_all_zip (IsEntryClone key value) es fs all) in
+      let a = AllZip-get_or (IsEntryClone key value) es fs i d d all (omega arith) in
+      let same : eq (entry_key (get_or fs i d)) (entry_key (get_or es j d)) ≡ eq (entry_key (get_or es i d)) (entry_key (get_or es j d)) = sym (laws.congr _ _ _ (equal _ _ a.1)) in
+      alike_clone (entry_key (get_or fs i d)) (entry_hash (get_or fs i d)) (get_or es j d) (get_or fs j d) (AllZip-get_or (IsEntryClone key value) es fs j d d all inside)
+      ∙ (λ k. is_under (a.0 k) (get_or es j d) && same k) ∙ single i j d before inside
+
   -- clones are found where their originals are
   pub found-clones : (es fs : List (Entry K V)) → AllZip (IsEntryClone key value) es fs → (hash : StarlarkHashValue) (q : K) → is_some (found (eq q) hash fs) ≡ is_some (found (eq q) hash es)
   found-clones es fs all hash q = sym (is_some-found (eq q) hash fs) ∙ ap is_some (position-clones q hash es fs all) ∙ is_some-found (eq q) hash es
 
-module _ {K V T : Type 0} {steps : T → Option (K × V) → T → Type 0} (p : Run steps) where
-  item-at : (k : ℕ) → p.at k ≡ slice_get p.items k
-  unfolding YieldsRun
-  item-at k = p.gave.1 k
-
-  -- an item at an index below the length, of which this holds
-  any-item : (P : K × V → Type 0) (k : ℕ) (d : K × V) → k < length p.items → P (get_or p.items k d) → AnyItem p P
-  any-item P k d below holds = (k, omega (arith, below, p.long), subst (λ o. IsSomeAnd o P) (sym (item-at k ∙ slice_get-get_or p.items k d below)) holds)
-
-module _ {K V : Type 0} (eq : K → K → Bool) (laws : IsEquivalence eq) where
-  member-at : (xs : List (K × V)) (k : ℕ) (x : K × V) → slice_get xs k ≡ Some x → is_member eq (keys_of xs) x.0 ≡ true
-  member-at xs k x at =
-      let there : slice_get (keys_of xs) k ≡ Some x.0 = slice_get-map (λ (y : K × V). y.0) xs k ∙ ap (option_map (λ (y : K × V). y.0)) at in
-      All-contains (λ y. is_member eq (keys_of xs) y ≡ true) (keys_of xs) x.0 (All-is_member laws (keys_of xs)) (k, slice_get_within (keys_of xs) k x.0 there, get_or_from_slice_get (keys_of xs) k x.0 x.0 there)
-
-  module _ {T U : Type 0} (feeds : K → HashWrites) (steps : T → Option (K × V) → T → Type 0) (becomes : U → T → Type 0) (iter : U) (m : Map K V) where
-    found-came : (p : Run steps) (key : K) → get eq feeds m key ≡ update_all eq (λ _. None) p.items key → IfSome (get eq feeds m key) (λ v. AnyItem p (λ x. (eq key x.0 ≡ true) × (x.1 ≡ v)))
-    found-came p key is = subst (λ o. IfSome o (λ v. AnyItem p (λ x. (eq key x.0 ≡ true) × (x.1 ≡ v)))) (sym is)
-        (IfSome-update_all eq (λ v. AnyItem p (λ x. (eq key x.0 ≡ true) × (x.1 ≡ v))) key (λ _. None) p.items tt
-        (λ k d below same. any-item p (λ x. (eq key x.0 ≡ true) × (x.1 ≡ (get_or p.items k d).1)) k d below (laws.symm key (get_or p.items k d).0 ∙ same, refl)))
-
-    item-found : (p : Run steps) → ((key : K) → get eq feeds m key ≡ update_all eq (λ _. None) p.items key) → (k : ℕ) (o : Option (K × V)) → p.at k ≡ o → IfSome o (λ x. IsSome (get eq feeds m x.0))
-    item-found p is k None at = tt
-    item-found p is k (Some x) at =
-        ap is_some (is x.0) ∙ is_some-update_all laws x.0 (λ _. None) p.items ∙ member-at p.items k x (sym (item-at p k) ∙ at)
-
-    pub has-items : FindsLast eq feeds steps becomes iter (λ _. None) m → HasItems eq feeds steps becomes iter m
-    has-items last =
-        let p = last.2.0 in
-        let is = last.2.3 in
-        (last.0, last.1, (p, last.2.1, last.2.2, ((λ key. found-came p key (is key)), (λ k. item-found p is k (p.at k) refl))))
+module _ {K V T U : Type 0} (eq : K → K → Bool) (laws : IsEquivalence eq) (feeds : K → HashWrites) (steps : T → Option (K × V) → T → Type 0) (becomes : U → T → Type 0) (iter : U) (m : Map K V) where
+  pub has-items : FindsLast eq feeds steps becomes iter (λ _. None) m → HasItems eq feeds steps becomes iter m
+  has-items (it, made, (p, from, whole, is)) =
+      let came : K → V → K × V → Type 0 = λ key v x. (eq key x.0 ≡ true) × (x.1 ≡ v) in
+      let values : (key : K) → IfSome (get eq feeds m key) (λ v. AnyItem p (came key v)) = λ key. subst (λ o. IfSome o (λ v. AnyItem p (came key v))) (sym (is key))
+      (IfSome-update_all eq (λ v. AnyItem p (came key v)) key (λ _. None) p.items tt
+      (λ k d below same. (k, omega (arith, below, p.long), rw (at-is p k, slice_get-get_or p.items k d below) (laws.symm key (get_or p.items k d).0 ∙ same, refl)))) in
+      let keys : AllItems p (λ x. IsSome (get eq feeds m x.0)) = each p (λ x. IsSome (get eq feeds m x.0)) (λ k. at_some (slice_get p.items k) (λ x. IsSome (get eq feeds m x.0)) (λ x at.
+      let there : slice_get (keys_of p.items) k ≡ Some x.0 = slice_get-map (λ (y : K × V). y.0) p.items k ∙ ap (option_map (λ (y : K × V). y.0)) at in
+      ap is_some (is x.0) ∙ is_some-update_all laws x.0 (λ _. None) p.items ∙ any_passes_from_place (eq x.0) (keys_of p.items) k x.0 there (laws.refl x.0))) in
+      (it, made, (p, from, whole, (values, keys)))

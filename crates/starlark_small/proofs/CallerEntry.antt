@@ -1,5 +1,6 @@
 -- What a write leaves, of a value where one stands and through an entry.
 use Rattle.starlark_hash.proofs.Common.{common_steps, ◌≡◌, ℕ, zero, suc, ◌<◌, Bool, true, List, [], ◌∷◌, length, Some, refl, sym, ap, ◌∙◌, arith, ◌+◌, IsSome, slice_get, Result, Ok, Err, IsErr, IsOk, OnErr, OnOk, ◌≤◌, subst, option_map, IsEquivalence, false≢true}
+use native.Mathlib.Bridge.{le_prop}
 use Rattle.starlark_hash.specs.declared.hashed.Hashed.{Hashed}
 use Rattle.starlark_hash.specs.declared.hash_value.StarlarkHashValue.{StarlarkHashValue}
 use Rattle.starlark_hash.specs.Entries.{Entry, set_value_at, match_of, value_at, with_value, position_of, entry_value}
@@ -59,6 +60,11 @@ module _ {K V : Type 0} {g : PartialEq.Ghosts K} where
   pub puts-written : (o : OccupiedEntry K V g) (value : V) → Puts (Occupied o) value (written o value)
   unfolding Puts
   puts-written o value = refl
+
+  -- an occupied entry that was written has that value
+  pub occupied_written : (o : OccupiedEntry K V g) (value : V) (p : o.index < length (written o value).entries)
+      → record { map = record o.map { now = written o value }; index = o.index; within = p } ≡ with_entry_value o value
+  occupied_written o value p = ap (λ q. record (with_entry_value o value) { within = q }) (le_prop p (with_entry_value o value).within)
 
   pub puts-inserted : {A E : Type 0} (v : VacantEntry K V g) (r : Result A E) (value : V) (new : Map K V) → OnOk r (IsInserted (vacant_map v).now (lacking_key v) value new) → IsOk r → Puts (Vacant v) value new
   unfolding Puts

@@ -1,7 +1,7 @@
 -- What an insertion leaves under its key, at all other keys, of the length and of what the values weigh together; and what its word
 -- is made of, where it was done, where it was refused, and where its answer is handed on.
 use Rattle.starlark_hash.specs.Hasher.{own_hash}
-use Rattle.starlark_hash.proofs.Common.{HashWrites, common_steps, ◌≡◌, ◌+◌, Bool, List, [], ◌∷◌, ◌++◌, length, map, Some, None, is_some, refl, ◌∙◌, arith, Ok, Err, ap, ℕ, zero, suc, ◌<◌, ◌≤◌, Option, slice_get, if◌then◌else◌, option_map, IsEquivalence, map-append}
+use Rattle.starlark_hash.proofs.Common.{HashWrites, common_steps, ◌≡◌, ◌+◌, Bool, List, [], ◌∷◌, ◌++◌, length, map, Some, None, is_some, refl, arith, Ok, Err, ℕ, zero, suc, ◌<◌, ◌≤◌, Option, slice_get, if◌then◌else◌, option_map, IsEquivalence, map-append}
 use Rattle.starlark_hash.specs.declared.hashed.Hashed.{Hashed}
 use Rattle.starlark_hash.specs.HashValue.{hashed, key_of, hash_of}
 use Rattle.starlark_hash.specs.Entries.{Entry, set_value_at, match_of, value_at, entry_value}
@@ -11,7 +11,6 @@ use Rattle.starlark_small.proofs.CallerLookup.{alike, written_here, inserted_the
 use Rattle.starlark_hash.specs.Lookup.{found, Writes, weight_of}
 use Rattle.starlark_small.specs.Lookup.{keys, total_of}
 use Rattle.starlark_small.specs.Map.{Map}
-use Rattle.std.specs.List.{sum_by}
 use Rattle.std.proofs.lemmas.List.Sums.{sum_by-cons, sum_by_push}
 use Rattle.starlark_hash.proofs.PositionLemmas.{position-within}
 use Rattle.starlark_hash.specs.declared.no_room.NoRoom.{NoRoom}
@@ -43,28 +42,22 @@ module _ {K V : Type 0} (eq : K → K → Bool) (old new : Map K V) (key : Hashe
   keys-put = rw put (grind (arith, common_steps, keys-set_value_at old.entries, is_some-found (eq (key_of key)) (hash_of key) old.entries))
 
 module _ {K V : Type 0} (measure : V → ℕ) where
-  total-pushed : (es : List (Entry K V)) (e : Entry K V) → total_of measure (es ++ e ∷ []) ≡ total_of measure es + measure (entry_value e)
-  total-pushed es e = ap (sum_by measure) (map-append entry_value es (e ∷ [])) ∙ sum_by_push measure (map entry_value es) (entry_value e)
-
   total-set : (es : List (Entry K V)) (i : ℕ) (value : V) → i < length es → total_of measure (set_value_at es i value) + weight_of measure (option_map entry_value (slice_get es i)) ≡ total_of measure es + measure value
   total-set [] i value below = absurd (omega (arith, below))
   total-set (e ∷ es) zero value below = omega (arith, sum_by-cons measure)
   total-set (e ∷ es) (suc i) value below = omega (arith, sum_by-cons measure, total-set es i value (omega (arith, below)))
 
-  part-of : (es : List (Entry K V)) (i : ℕ) → weight_of measure (option_map entry_value (slice_get es i)) ≤ total_of measure es
-  part-of [] i = omega arith
-  part-of (e ∷ es) zero = omega (arith, sum_by-cons measure)
-  part-of (e ∷ es) (suc i) = omega (arith, sum_by-cons measure, part-of es i)
-
   -- a value that stands at an index is a part of what all weigh
   pub part-at : (es : List (Entry K V)) (index : Option ℕ) → weight_of measure (value_at es index) ≤ total_of measure es
   part-at es None = omega arith
-  part-at es (Some i) = part-of es i
+  part-at [] (Some i) = omega arith
+  part-at (e ∷ es) (Some zero) = omega (arith, sum_by-cons measure)
+  part-at (e ∷ es) (Some (suc i)) = omega (arith, sum_by-cons measure, part-at es (Some i))
 
   -- an insertion
   pub total-inserted : (eq : K → K → Bool) (old new : List (Entry K V)) (key : Hashed K) (value : V) → new ≡ insert_entry eq old key value
       → total_of measure new + weight_of measure (value_at old (match_of eq old key)) ≡ total_of measure old + measure value
-  total-inserted eq old new key value put = grind (arith, common_steps, put, total-pushed old (key, value), total-set old, position-within (λ e. alike eq key e.0) old)
+  total-inserted eq old new key value put = grind (arith, common_steps, put, map-append entry_value old ((key, value) ∷ []), sum_by_push measure (map entry_value old) value, total-set old, position-within (λ e. alike eq key e.0) old)
 
   pub total-put : (eq : K → K → Bool) (old new : List (Entry K V)) (key : Hashed K) (value : V) → new ≡ insert_entry eq old key value
       → total_of measure new + weight_of measure (found (eq (key_of key)) (hash_of key) old) ≡ total_of measure old + measure value

@@ -2,6 +2,8 @@
 -- on look-ups say.
 use Rattle.starlark_hash.proofs.Common.{common_steps, option_map_or, ◌≡◌, ℕ, suc, ◌<◌, Bool, true, false, eqb, List, [], ◌∷◌, ◌++◌, length, get_or, position, Option, Some, None, refl, sym, ap, ◌∙◌, arith, zero, map, is_some, slice_get, option_map, nat_tests, get_or_from_slice_get, slice_get-map, slice_get_within, ◌&&◌, IfSome, IsEquivalence, Bor}
 use Rattle.starlark_hash.proofs.PositionLemmas.{position-cons, position-within}
+use Rattle.std.proofs.lemmas.Option.{gets}
+pub use Rattle.std.proofs.Math.Bool.{and-false as and_false}
 use Rattle.starlark_hash.specs.declared.hashed.Hashed.{Hashed}
 use Rattle.starlark_hash.specs.declared.hash_value.StarlarkHashValue.{StarlarkHashValue}
 use Rattle.starlark_hash.specs.HashValue.{hash_of, key_of}
@@ -29,9 +31,6 @@ module _ {X : Type 0} (p : X → Bool) where
   pub none_among : (xs : List X) → ((k : ℕ) (d : X) → k < length xs → p (get_or xs k d) ≡ false) → position p xs ≡ None
   none_among [] all = refl
   none_among (x ∷ xs) all = rw (position-cons p x xs, all 0 x (omega arith), none_among xs (λ k d below. all (suc k) d (omega arith))) refl
-
-pub refl_number : (n : ℕ) → eqb n n ≡ true
-refl_number n = grind (arith, nat_tests)
 
 -- whether a key stands under this one's hash and is equal to it
 abbrev pub alike : {K : Type 0} → (K → K → Bool) → Hashed K → Hashed K → Bool
@@ -75,9 +74,6 @@ module _ {K V : Type 0} (q : Hashed K → Bool) where
   pushed_here [] e none does = grind (arith, common_steps, position-cons)
   pushed_here (d ∷ es) e none does = grind (arith, common_steps, position-cons, pushed_here es e)
 
-pub and_false : (b : Bool) → (b && false) ≡ false
-and_false b = grind (arith, common_steps)
-
 -- a test of the keys under a hash
 abbrev pub under : {K : Type 0} → StarlarkHashValue → (K → Bool) → Hashed K → Bool
 under hash passes k = eqb (hash_of k).0 hash.0 && passes (key_of k)
@@ -97,8 +93,7 @@ position_of-match eq passes one key does es = λ i. position (λ e. eqb (hash_of
 
 -- there is a value where there is an index
 pub is_some-value_at : {K V : Type 0} (hash : StarlarkHashValue) (passes : K → Bool) (es : List (Entry K V)) → is_some (value_at es (position_of hash passes es)) ≡ is_some (position_of hash passes es)
-is_some-value_at hash passes [] = refl
-is_some-value_at hash passes (e ∷ es) = grind (arith, common_steps, position-cons (stands_under hash passes) e es, is_some-value_at hash passes es)
+is_some-value_at hash passes es = grind (arith, common_steps, gets, position-within (stands_under hash passes) es)
 
 -- a key that does not pass is no key that passes
 pub apart_other : {K : Type 0} (eq : K → K → Bool) → IsEquivalence eq → (hash : StarlarkHashValue) (passes : K → Bool) → ((x y : K) → passes x ≡ true → passes y ≡ eq x y)
@@ -125,13 +120,13 @@ pub empty-found : {K V : Type 0} (es : List (Entry K V)) → es ≡ [] → (test
 unfolding found
 empty-found es none test hash = ap (λ l. value_at l (position_of hash test l)) none
 
-module _ {K V : Type 0} where
-  value-among : (es : List (Entry K V)) (index : Option ℕ) (o : Option V) → o ≡ value_at es index → IfSome o (λ v. IsAmong (map entry_value es) v)
-  value-among es index None is = tt
-  value-among es None (Some v) is = cc
-  value-among es (Some i) (Some v) is =
-      let at : slice_get (map entry_value es) i ≡ Some v = slice_get-map entry_value es i ∙ sym is in
-      (i, (slice_get_within (map entry_value es) i v at, sym (get_or_from_slice_get (map entry_value es) i v v at)))
+-- what is found is among the values
+pub value-among : {K V : Type 0} (es : List (Entry K V)) (index : Option ℕ) (o : Option V) → o ≡ value_at es index → IfSome o (λ v. IsAmong (map entry_value es) v)
+value-among es index None is = tt
+value-among es None (Some v) is = cc
+value-among es (Some i) (Some v) is =
+    let at : slice_get (map entry_value es) i ≡ Some v = slice_get-map entry_value es i ∙ sym is in
+    (i, (slice_get_within (map entry_value es) i v at, sym (get_or_from_slice_get (map entry_value es) i v v at)))
 
 module _ {K V : Type 0} (test : K → Bool) (hash : StarlarkHashValue) (m : Map K V) where
   abbrev there : Option ℕ

@@ -35,12 +35,6 @@ module _ {K V X : Type 0} (f : Entry K V → X) where
   all-pushed : (P : X → Type 0) (es : List (Entry K V)) (e : Entry K V) → All P (map f es) → P (f e) → All P (map f (es ++ e ∷ []))
   all-pushed P es e all p = rw (map-append f es (e ∷ [])) (All-push P (map f es) (f e) all p)
 
-  one-pushed : (es : List (Entry K V)) (e : Entry K V) → Contains (map f (es ++ e ∷ [])) (f e)
-  one-pushed es e = rw (map-append f es (e ∷ [])) (Contains-push (map f es) (f e))
-
-  others-pushed : (es : List (Entry K V)) (e : Entry K V) (x : X) → Contains (map f es) x → Contains (map f (es ++ e ∷ [])) x
-  others-pushed es e x at = rw (map-append f es (e ∷ [])) (Contains-append_left (map f es) (f e ∷ []) x at)
-
   -- a value that is written stands at its key
   map-set_value_at : (es : List (Entry K V)) (i : ℕ) (w : V) (d : Entry K V) → map f (set_value_at es i w) ≡ set (map f es) i (f ((get_or es i d).0, w))
   map-set_value_at (e ∷ es) (suc i) w d = ap (λ l. f e ∷ l) (map-set_value_at es i w d)
@@ -50,11 +44,6 @@ module _ {K V X : Type 0} (f : Entry K V → X) where
   all-written P [] i w all p = all
   all-written P (e ∷ es) i w all p = rw (map-set_value_at (e ∷ es) i w e) (All-set P (map f (e ∷ es)) i (f ((get_or (e ∷ es) i e).0, w)) (p e) all)
 
-  one-written : (es : List (Entry K V)) (i : ℕ) (w : V) (d : Entry K V) → i < length es → Contains (map f (set_value_at es i w)) (f ((get_or es i d).0, w))
-  one-written es i w d below =
-      let x = f ((get_or es i d).0, w) in
-      rw (map-set_value_at es i w d) (i, omega (arith, length-map es f, length-set (map f es) i x), get_or-set_same (map f es) i x x (omega (arith, length-map es f)))
-
 -- An insertion puts in a new key last, or the value at a key that stays.
 module _ {K V B : Type 0} {eq : K → K → Bool} {key : Hashed K} {value : V} {back : B} {before after : Map K V} {was : Option V} (inserts : Inserts eq key value back before after (Ok was)) where
   by-index : (F : List (Entry K V) → Type 0) → F (before.entries ++ (key, value) ∷ []) → ((i : ℕ) → match_of eq before.entries key ≡ Some i → F (set_value_at before.entries i value)) → F after.entries
@@ -63,9 +52,6 @@ module _ {K V B : Type 0} {eq : K → K → Bool} {key : Hashed K} {value : V} {
         | None ↦ λ none. last
         | Some i ↦ there i
       ]) refl)
-
-  within : (i : ℕ) → match_of eq before.entries key ≡ Some i → i < length before.entries
-  within i at = position-within (λ e. alike eq key e.0) before.entries i at
 
   -- what stands where the key was found is equal to it
   equal-at : (i : ℕ) (d : Entry K V) → match_of eq before.entries key ≡ Some i → eq (key_of key) (entry_key (get_or before.entries i d)) ≡ true
@@ -90,8 +76,11 @@ module _ {K V B : Type 0} {eq : K → K → Bool} {key : Hashed K} {value : V} {
   -- what is read of the entry is there, where it is the same at the key that stays
   one-inserts : {X : Type 0} (f : Entry K V → X) → ((i : ℕ) → match_of eq before.entries key ≡ Some i → f ((get_or before.entries i (key, value)).0, value) ≡ f (key, value)) → Contains (map f after.entries) (f (key, value))
   one-inserts f same = by-index (λ es. Contains (map f es) (f (key, value)))
-      (one-pushed f before.entries (key, value))
-      (λ i at. subst (Contains (map f (set_value_at before.entries i value))) (same i at) (one-written f before.entries i value (key, value) (within i at)))
+      (rw (map-append f before.entries ((key, value) ∷ [])) (Contains-push (map f before.entries) (f (key, value))))
+      (λ i at.
+      let x = f (key, value) in
+      let there : i < length (map f before.entries) = omega (arith, length-map before.entries f, position-within (λ e. alike eq key e.0) before.entries i at) in
+      rw (map-set_value_at f before.entries i value (key, value), same i at) (i, omega (arith, there, length-set (map f before.entries) i x), get_or-set_same (map f before.entries) i x x there))
 
   pub Contains-values-inserts : Contains (map entry_value after.entries) value
   Contains-values-inserts = one-inserts entry_value (λ i at. refl)
@@ -102,7 +91,7 @@ module _ {K V B : Type 0} {eq : K → K → Bool} {key : Hashed K} {value : V} {
   -- keys that were there stay, and no other comes than the one that was brought
   pub Contains-keys-inserts_other : (k : K) → Contains (keys before) k → Contains (keys after) k
   Contains-keys-inserts_other k there = by-index (λ es. Contains (map entry_key es) k)
-      (others-pushed entry_key before.entries (key, value) k there)
+      (rw (map-append entry_key before.entries ((key, value) ∷ [])) (Contains-append_left (keys before) (key_of key ∷ []) k there))
       (λ i at. rw (keys-set_value_at before.entries i value) there)
 
   pub Contains-keys-inserts_cases : (k : K) → Contains (keys after) k → Contains (keys before) k ⊎ (key_of key ≡ k)

@@ -1,6 +1,6 @@
 -- Which lists have each key under its own hash: what insertions, removals and moves leave of them.
-use Rattle.starlark_hash.proofs.Common.{take, drop, All-append, ◌<◌, length, get_or, ◌≡◌, ℕ, suc, Bool, List, [], ◌∷◌, ◌++◌, map, remove, Some, None, IsPermutation, refl, sym, ◌∙◌, subst, arith, Bor, MutBor, Mut, HashWrites, All, AllZip, option_map_or, All-head, All-map, get_or-map, length-map, All-push, All-tail, AllZip-get_or, length_all_zip, All-permutation}
-use Rattle.std.proofs.lemmas.List.Elements.{All-take, All-drop}
+use Rattle.starlark_hash.proofs.Common.{take, drop, All-append, ◌<◌, length, get_or, ◌≡◌, ℕ, suc, Bool, List, [], ◌∷◌, ◌++◌, map, remove, Some, None, IsPermutation, refl, sym, ◌∙◌, subst, arith, Bor, MutBor, Mut, HashWrites, All, AllZip, option_map_or, All-head, All-map, All-push, All-tail, AllZip-get_or, length_all_zip, All-permutation}
+use Rattle.std.proofs.lemmas.List.Elements.{All-nil, All-take, All-drop}
 use Rattle.starlark_hash.specs.declared.hashed.Hashed.{Hashed}
 use Rattle.starlark_hash.specs.Hasher.{own_hash}
 use Rattle.starlark_hash.specs.HashValue.{hash_of, key_of}
@@ -10,7 +10,8 @@ use Rattle.starlark_hash.specs.Insert.{insert_entry}
 use Rattle.starlark_hash.proofs.EntryLemmas.{length-set_value_at, set_value_at-key}
 use Rattle.starlark_hash.specs.Retain.{CalledAtEntry, Retains}
 use Rattle.starlark_vecmap.specs.EntryList.{with_values}
-use Rattle.starlark_vecmap.proofs.ValuesWritten.{hashed_keys-with_values}
+use Rattle.starlark_vecmap.proofs.ValuesWritten.{hashed_keys-with_values, length-with_values}
+use Rattle.starlark_small.specs.Along.{key-at}
 use Rattle.starlark_small.specs.Lookup.{AreOwnEntries}
 use Rattle.starlark_small.specs.Collect.{insert_all, own_entry}
 use Rattle.starlark_small.proofs.CallerLookup.{empty-found}
@@ -34,7 +35,7 @@ module _ {K V : Type 0} (feeds : K → HashWrites) where
 
   pub own-empty : (es : List (Entry K V)) → es ≡ [] → AreOwnEntries feeds es
   unfolding AreOwnEntries
-  own-empty es none = subst (All is_own) (sym none) (λ k d below. absurd (omega (arith, below)))
+  own-empty es none = subst (All is_own) (sym none) (All-nil is_own)
 
   pub own-same : (old new : List (Entry K V)) → new ≡ old → AreOwnEntries feeds old → AreOwnEntries feeds new
   own-same old new same own = subst (AreOwnEntries feeds) (sym same) own
@@ -50,7 +51,7 @@ module _ {K V : Type 0} (feeds : K → HashWrites) where
 
   pub own-inserted_entries : (eq : K → K → Bool) (new items : List (Entry K V)) → new ≡ insert_all eq [] items → AreOwnEntries feeds items → AreOwnEntries feeds new
   unfolding AreOwnEntries
-  own-inserted_entries eq new items put all = subst (All is_own) (sym put) (insert_entries_own eq items [] all (λ k d below. absurd (omega (arith, below))))
+  own-inserted_entries eq new items put all = subst (All is_own) (sym put) (insert_entries_own eq items [] all (All-nil is_own))
 
   -- clones of keys under their own hashes, where equal keys feed alike
   pub own-clones : (key : K → K → Type 0) (value : V → V → Type 0) → ((x y : K) → key x y → feeds x ≡ feeds y) → (es fs : List (Entry K V)) → AllZip (IsEntryClone key value) es fs
@@ -77,11 +78,9 @@ module _ {K V : Type 0} (feeds : K → HashWrites) where
   -- whatever values are written
   pub own-with_values : (es ws : List (Entry K V)) → AreOwnEntries feeds es → AreOwnEntries feeds (with_values es ws)
   unfolding AreOwnEntries
-  own-with_values es ws own =
-      let P : Hashed K → Type 0 = λ h. hash_of h ≡ own_hash feeds (key_of h) in
-      let l = with_values es ws in
-      let all : All P (map (λ (e : Entry K V). e.0) l) = rw (hashed_keys-with_values es ws) (All-map P (λ (e : Entry K V). e.0) es own) in
-      λ k d below. subst P (get_or-map (λ (e : Entry K V). e.0) l k d d.0 below) (all k d.0 (omega (arith, below, length-map l (λ (e : Entry K V). e.0))))
+  own-with_values es ws own = λ k d below.
+      let inside : k < length es = omega (arith, below, length-with_values es ws) in
+      simp (key-at es (with_values es ws) (hashed_keys-with_values es ws) k d d inside) (own k d inside)
 
 -- what holds of an empty map
 pub ruleset emptied = (empty-found, own-empty)

@@ -1,12 +1,14 @@
 -- What is found once an entry was taken out, by its key or by its index, or dropped by a closure.
-use Rattle.starlark_hash.proofs.Common.{common_steps, ◌≡◌, ℕ, zero, suc, Bool, true, false, List, [], ◌∷◌, length, get_or, remove, Some, None, is_some, refl, sym, ap, ◌∙◌, arith, ◌-◌, ◌++◌, Option, slice_get, subst, ◌&&◌, IfSome, ◌==◌, option_map, HashWrites, IsEquivalence, nat_tests, get_or_from_slice_get, slice_get_within, length-remove, Bor, MutBor, Mut}
+use Rattle.starlark_hash.proofs.Common.{common_steps, ◌+◌, ◌≡◌, ℕ, zero, suc, Bool, true, false, List, [], ◌∷◌, length, get_or, remove, Some, None, is_some, refl, sym, ap, ◌∙◌, arith, ◌-◌, Option, slice_get, subst, ◌&&◌, IfSome, ◌==◌, option_map, HashWrites, IsEquivalence, nat_tests, get_or_from_slice_get, slice_get_within, length-remove, Bor, MutBor, Mut, position-Some}
 use Rattle.starlark_hash.specs.declared.hash_value.StarlarkHashValue.{StarlarkHashValue}
 use Rattle.starlark_hash.specs.HashValue.{hash_of, key_of, hashed, hash_number}
 use Rattle.starlark_hash.specs.Entries.{Entry, IsSingle, match_of, value_at, without, position_of, entry_hash, entry_key, entry_value, pair_of, stands_under}
 use Rattle.starlark_hash.proofs.PositionLemmas.{position-cons, position-within, position-None}
+use Rattle.std.proofs.lemmas.List.Edits.{get_or-remove_below, get_or-remove_above}
 use Rattle.starlark_small.proofs.CallerLookup.{none_among, removed_there, under, apart_other, is_some-found, same_key, none_found}
 use Rattle.starlark_hash.specs.Lookup.{found, Writes}
 use Rattle.std.specs.Map.Iter.{TakesLast}
+pub use Rattle.core.proofs.iter.runs.Lists.{nth_seam as last_of}
 use Rattle.starlark_hash.specs.Hasher.{own_hash}
 use Rattle.starlark_small.specs.Lookup.{AreOwnEntries}
 use Rattle.starlark_small.specs.Remove.{Removes, TakesOut}
@@ -17,17 +19,12 @@ use Rattle.starlark_small.proofs.CallerOwn.{own-removed}
 use Rattle.starlark_small.proofs.Retained.{all_retained}
 
 module _ {K V : Type 0} (eq : K → K → Bool) (laws : IsEquivalence eq) (hash : StarlarkHashValue) (passes : K → Bool) (one : (x y : K) → passes x ≡ true → passes y ≡ eq x y) where
-  -- where no two entries are alike, none after one that passes does too
-  none_after : (e : Entry K V) (es : List (Entry K V)) → IsSingle eq (e ∷ es) → under hash passes e.0 ≡ true → position_of hash passes es ≡ None
-  none_after e es single does = none_among (stands_under hash passes) es (λ k d below.
-      let apart = single 0 (suc k) d (omega arith) (omega arith) in grind (arith, nat_tests, common_steps, one (key_of e.0) (key_of (get_or es k d).0)))
-
+  -- where no two entries are alike, none but one passes
   gone : (es : List (Entry K V)) (i : ℕ) → IsSingle eq es → position_of hash passes es ≡ Some i → position_of hash passes (remove es i) ≡ None
-  gone [] i single at = cc
-  gone (e ∷ es) zero single at = grind (arith, common_steps, position-cons, none_after e es single)
-  gone (e ∷ es) (suc i) single at =
-      let rest = gone es i (λ j k d below inside. single (suc j) (suc k) d (omega (arith, below)) (omega (arith, inside))) in
-      grind (arith, common_steps, position-cons, rest)
+  gone es i single at = none_among (stands_under hash passes) (remove es i) (λ k d below.
+      let here = position-Some (stands_under hash passes) es i d at in
+      let apart = single i (k + 1) d in
+      grind (arith, nat_tests, here.0, here.1, here.2 k, length-remove es i, get_or-remove_below es i d k, get_or-remove_above es i d k, apart, one (key_of (get_or es i d).0) (key_of (get_or es (k + 1) d).0)))
 
   -- a removal, where no two entries are alike
   pub writes-removed : (old new : List (Entry K V)) → IsSingle eq old → new ≡ without old (position_of hash passes old) → Writes eq passes hash old new None
@@ -47,11 +44,6 @@ module _ {K V : Type 0} (eq : K → K → Bool) (laws : IsEquivalence eq) (hash 
   }
 
 pub ruleset removed = (removes-without)
-
--- the last one
-pub last_of : {X : Type 0} (xs : List X) (x : X) → slice_get (xs ++ x ∷ []) (length xs) ≡ Some x
-last_of [] x = refl
-last_of (y ∷ xs) x = last_of xs x
 
 -- the item that was taken from the end stood at the last index
 pub last-taken : {X : Type 0} (s : List X) (o : Option X) (t : List X) → TakesLast (λ x. x) s o t → o ≡ slice_get s (length s - 1)

@@ -1,9 +1,9 @@
 -- What is found under a key where entries only change their indices.
-use Rattle.starlark_hash.proofs.Common.{◌≡◌, ◌+◌, ◌<◌, false, List, [], ◌∷◌, length, map, Option, Some, None, IsPermutation, Bool, refl, sym, ap, ◌∙◌, arith, IsEquivalence, IsTotalOrder, IsSorted, IsSortedBy, is_lt, Ordering, get_or-map, keys_of, lookup, length-map, Contains, All-permutation, Contains-permutation, place_from_lookup, slice_get-get_or, slice_get_within, get_or_from_slice_get}
+use Rattle.starlark_hash.proofs.Common.{◌≡◌, ◌+◌, ◌<◌, false, List, length, map, Option, Some, None, IsPermutation, Bool, refl, sym, ◌∙◌, arith, IsEquivalence, IsTotalOrder, IsSorted, is_lt, Ordering, get_or-map, keys_of, lookup, length-map, Contains, All-permutation, Contains-permutation, place_from_lookup, slice_get_within, get_or_from_slice_get}
 use Rattle.std.specs.List.{IsDistinct}
 use Rattle.std.proofs.lemmas.List.Elements.{All-from_recursion, recursion_from_All}
 use Rattle.std.proofs.lemmas.Map.{none_passes_from_lookup}
-use Rattle.std.proofs.lemmas.Map.Entries.{lookup_from_place}
+use Rattle.std.proofs.lemmas.Map.Views.{lookup-from_Contains}
 use Rattle.std_collections.proofs.Entries.{lookup-none, lookup_class}
 use Rattle.starlark_hash.specs.declared.hash_value.StarlarkHashValue.{StarlarkHashValue}
 use Rattle.starlark_hash.specs.HashValue.{hashed}
@@ -12,6 +12,7 @@ use Rattle.starlark_hash.specs.Lookup.{found}
 use Rattle.starlark_hash.specs.Sort.{key_lt, sorted_by_key}
 use Rattle.starlark_hash.proofs.SortingLemmas.{sorted_by-sorted, key_lt-order}
 use Rattle.starlark_hash.proofs.EntryLemmas.{IsSingle-permutation}
+use Rattle.starlark_small.specs.Along.{an-item}
 use Rattle.starlark_small.specs.CompareLaws.{alike-laws, value_at-lookup}
 use Rattle.starlark_small.proofs.SameEntries.{distinct}
 
@@ -21,8 +22,7 @@ module _ {K X : Type 0} {R : K → K → Bool} (o : IsEquivalence R) (es fs : Li
   found_then (Some v) e =
       let p = place_from_lookup (R q) es v e in
       let here : Contains es (p.1, v) = (p.0, slice_get_within es p.0 (p.1, v) p.2, get_or_from_slice_get es p.0 (p.1, v) (p.1, v) p.2) in
-      let c = Contains-permutation es fs (p.1, v) moves here in
-      sym (lookup_class o (R q) (o.congr q) p.1 p.3 fs) ∙ lookup_from_place o fs c.0 p.1 v apart (slice_get-get_or fs c.0 (p.1, v) c.1 ∙ ap Some c.2)
+      sym (lookup_class o (R q) (o.congr q) p.1 p.3 fs) ∙ lookup-from_Contains o p.1 v fs apart (Contains-permutation es fs (p.1, v) moves here)
 
 -- each key has what it had
 pub same-permuted : {K V : Type 0} (eq : K → K → Bool) → IsEquivalence eq → (old new : List (Entry K V)) → IsSingle eq old → IsPermutation old new
@@ -35,10 +35,8 @@ same-permuted eq laws old new single moves under key =
 
 -- the keys of sorted entries ascend
 pub keys-sorted : {K V : Type 0} {cmp : K → K → Ordering} → IsTotalOrder cmp → (es : List (Entry K V)) → IsSorted cmp (map entry_key (sorted_by_key cmp es))
-keys-sorted {K} {V} {cmp} total es = by (sorted_by_key cmp es) (sorted_by-sorted (key_lt cmp) (key_lt-order total) es)
-  where
-    by : (l : List (Entry K V)) → IsSortedBy (key_lt cmp) l → IsSorted cmp (map entry_key l)
-    by [] up k d low high = absurd (omega (arith, high))
-    by (e ∷ l) up k d low high =
-        let within : k + 1 < length (e ∷ l) = omega (arith, high, length-map l entry_key) in
-        (λ j. is_lt (cmp (get_or-map entry_key (e ∷ l) (k + 1) e d within j) (get_or-map entry_key (e ∷ l) k e d (omega (arith, within)) j))) ∙ up k e low within
+keys-sorted {K} {V} {cmp} total es k d low high =
+    let l = sorted_by_key cmp es in
+    let within : k + 1 < length l = omega (arith, high, length-map l entry_key) in
+    let e = an-item l (k + 1) within in
+    (λ j. is_lt (cmp (get_or-map entry_key l (k + 1) e d within j) (get_or-map entry_key l k e d (omega (arith, within)) j))) ∙ sorted_by-sorted (key_lt cmp) (key_lt-order total) es k e low within

@@ -1,10 +1,9 @@
 -- How the capacity follows entries that come one after the other.
-use Rattle.starlark_hash.proofs.Common.{◌≡◌, ℕ, zero, suc, ◌+◌, ◌-◌, ◌*◌, ◌^◌, ◌≤◌, max, min, List, [], ◌∷◌, ◌++◌, length, drop, Option, Some, None, refl, sym, ap, ◌∙◌, subst, arith, Bool, IsSome, nat_lt, if◌then◌else◌, option_map_or, nat_tests, length-drop, length_push}
-use mathlib.Core.Logic.{inl, inr}
+use Rattle.starlark_hash.proofs.Common.{inl, inr, ◌≡◌, ℕ, zero, suc, ◌+◌, ◌-◌, ◌*◌, ◌^◌, ◌≤◌, max, min, List, [], ◌∷◌, ◌++◌, length, drop, Option, Some, None, refl, sym, ap, ◌∙◌, subst, arith, Bool, IsSome, nat_lt, if◌then◌else◌, option_map_or, nat_tests, length-drop, length_push}
 use Rattle.starlark_hash.specs.declared.hashed.Hashed.{Hashed}
 use Rattle.starlark_hash.specs.Entries.{match_of, set_value_at}
 use Rattle.starlark_hash.proofs.EntryLemmas.{length-set_value_at}
-use Rattle.starlark_small.specs.Memory.{StaysOrGrows, reserved_capacity, stepped_capacity}
+use Rattle.starlark_small.specs.Memory.{StaysOrGrows, stepped_capacity}
 use Rattle.starlark_small.specs.Insert.{LeavesMemory}
 use Rattle.starlark_small.specs.Map.{Map}
 use Rattle.starlark_vec2.specs.PairList.{PairList, pair_list}
@@ -33,8 +32,7 @@ pushed_steps v (p ∷ ps) = grind (arith, pushed_steps (push v p) ps, steps_on (
 steps_bounds : (len capacity n : ℕ) → (capacity ≤ steps len capacity n) × (steps len capacity n ≤ max capacity (max 4 (2 * (len + n))))
 unfolding steps
 steps_bounds len capacity zero = (omega arith, omega arith)
-steps_bounds len capacity (suc n) =
-    let before = steps_bounds len capacity n in (grind (arith, nat_tests, before.0), grind (arith, nat_tests, before.1))
+steps_bounds len capacity (suc n) = grind (arith, nat_tests, steps_bounds len capacity n)
 
 module _ {K V : Type 0} where
   stepped_steps : (old new : Map K V) → stepped_capacity old new ≡ steps (length old.entries) old.capacity (length new.entries - length old.entries)
@@ -44,8 +42,7 @@ module _ {K V : Type 0} where
   -- how far such a capacity is from the old one
   pub stepped_bounds : (old new : Map K V) → length old.entries ≤ length new.entries → (old.capacity ≤ stepped_capacity old new) × (stepped_capacity old new ≤ max old.capacity (max 4 (2 * length new.entries)))
   stepped_bounds old new longer =
-      let bounds = steps_bounds (length old.entries) old.capacity (length new.entries - length old.entries) in
-      (omega (arith, bounds.0, stepped_steps old new), omega (arith, bounds.1, stepped_steps old new, longer))
+      grind (arith, stepped_steps old new, steps_bounds (length old.entries) old.capacity (length new.entries - length old.entries))
 
   -- the entries came into an empty map
   pub stepped_from : (old new : Map K V) (n : ℕ) → old.entries ≡ [] → old.capacity ≡ n → stepped_capacity old new ≡ (push_all (pair_list [] n) new.entries).capacity
@@ -57,26 +54,18 @@ module _ {K V : Type 0} where
 
   -- an entry more came, or none did
   module _ (first mid last : Map K V) (longer : length first.entries ≤ length mid.entries) (before : mid.capacity ≡ stepped_capacity first mid) where
-    stepped_same : length last.entries ≡ length mid.entries → last.capacity ≡ mid.capacity → last.capacity ≡ stepped_capacity first last
-    stepped_same as_long stays = grind (arith, stepped_steps first mid, stepped_steps first last)
-
-    stepped_more : length last.entries ≡ length mid.entries + 1 → last.capacity ≡ reserved_capacity mid 1 → last.capacity ≡ stepped_capacity first last
-    unfolding steps
-    stepped_more by_one grown =
-        let n = length mid.entries - length first.entries in
-        let more : length last.entries - length first.entries ≡ suc n = omega (arith, by_one, longer) in
-        let here : length first.entries + n ≡ length mid.entries = omega (arith, longer) in
-        rw (stepped_steps first last, more, here, ← stepped_steps first mid, ← before) grown
-
     -- an entry was inserted
     pub stepped_inserted : (eq : K → K → Bool) (key : Hashed K) (value : V) (o : Option ℕ) → match_of eq mid.entries key ≡ o → last.entries ≡ option_map_or (λ i. set_value_at mid.entries i value) o (mid.entries ++ (key, value) ∷ [])
         → LeavesMemory eq mid key last → last.capacity ≡ stepped_capacity first last
+    unfolding steps
     stepped_inserted eq key value None lacks put leaves =
+        let n = length mid.entries - length first.entries in
         let by_one : length last.entries ≡ length mid.entries + 1 = omega (arith, ap length put, length_push mid.entries (key, value)) in
-        stepped_more by_one (leaves.grown (omega (arith, by_one)))
+        let more : length last.entries - length first.entries ≡ suc n = omega (arith, by_one, longer) in
+        grind (arith, stepped_steps first last, stepped_steps first mid, more, longer, leaves.grown (omega (arith, by_one)))
     stepped_inserted eq key value (Some i) is put leaves =
-        let there : IsSome (match_of eq mid.entries key) = subst (λ o. IsSome o) (sym is) refl in
-        stepped_same (ap length put ∙ length-set_value_at mid.entries i value) (ap (λ m. m.capacity) (leaves.replaced there))
+        let stays = ap (λ m. m.capacity) (leaves.replaced (subst (λ o. IsSome o) (sym is) refl)) in
+        grind (arith, stepped_steps first mid, stepped_steps first last, length-set_value_at mid.entries i value)
 
     -- one was refused
     pub stepped_refused : last.entries ≡ mid.entries → StaysOrGrows 1 mid last → StaysOrGrows 1 (record last { capacity = stepped_capacity first last }) last

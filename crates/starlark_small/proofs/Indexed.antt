@@ -1,6 +1,5 @@
 -- What an index says of a list, and how much room it has, as the list changes.
-use Rattle.std.proofs.Math.ListN.{take, drop}
-use Rattle.starlark_hash.proofs.Common.{All-append, common_steps, ◌≡◌, ℕ, suc, ◌+◌, ◌-◌, ◌<◌, ◌≤◌, ◌^◌, List, [], ◌∷◌, ◌++◌, length, map, Option, Some, None, is_some, refl, sym, ap, subst, ◌∙◌, arith, IsPermutation, IfSome, remove, reverse, slice_get, range_with_len, option_map, length-map, length-reverse, length_push, map-append, length-remove, All-push, IsPermutation-reverse, IsPermutation-sym, All-permutation, length_permutation, none-some, same_Some, slice_get-map}
+use Rattle.starlark_hash.proofs.Common.{take, drop, All-append, common_steps, ◌≡◌, ℕ, suc, ◌+◌, ◌-◌, ◌<◌, ◌≤◌, ◌^◌, List, [], ◌∷◌, ◌++◌, length, map, Option, Some, None, is_some, refl, sym, ap, subst, ◌∙◌, arith, IsPermutation, IfSome, remove, reverse, slice_get, range_with_len, option_map, length-map, length-reverse, length_push, map-append, length-remove, All-push, IsPermutation-reverse, IsPermutation-sym, All-permutation, length_permutation, none-some, same_Some, slice_get-map}
 use Rattle.std.proofs.lemmas.List.Elements.{All-take, All-drop}
 use Rattle.starlark_vecmap.proofs.Views.{map-remove, map-reverse}
 use Rattle.std.proofs.lemmas.Simd.{map-map}
@@ -41,12 +40,10 @@ module _ {K V : Type 0} where
   -- an entry is taken out
   pub IsIndexed-forgotten : (es : List (Entry K V)) (i : ℕ) (index : Option Hashes) → i < length es → IsIndexed es index → IsIndexed (remove es i) (option_map (forgotten i) index)
   IsIndexed-forgotten es i None below short = omega (arith, length-remove es i below, short)
-  IsIndexed-forgotten es i (Some h) below index =
-      let P : Entry K V → Type 0 = λ d. d.0.hash.0 < 2 ^ 32 in
-      record {
-        list = ap (λ l. remove l i) index.list ∙ sym (map-remove (λ e. hash_under (entry_hash e)) es i);
-        fits = All-append P (take i es) (drop (suc i) es) (All-take P i es index.fits) (All-drop P (suc i) es index.fits);
-      }
+  IsIndexed-forgotten es i (Some h) below index = record {
+    list = ap (λ l. remove l i) index.list ∙ sym (map-remove (λ e. hash_under (entry_hash e)) es i);
+    fits = let P : Entry K V → Type 0 = λ d. d.0.hash.0 < 2 ^ 32 in All-append P (take i es) (drop (suc i) es) (All-take P i es index.fits) (All-drop P (suc i) es index.fits);
+  }
 
   -- the order is turned round
   pub IsIndexed-reversed : (es : List (Entry K V)) (index : Option Hashes) → IsIndexed es index → IsIndexed (reverse es) (option_map reversed index)
@@ -58,16 +55,15 @@ module _ {K V : Type 0} where
 
   -- every hash goes out, and those of another list come in
   pub IsIndexed-filled : (es : List (Entry K V)) (old new : Option Hashes) → length es ≤ index_room 0 old → IsFilled es old new → IsIndexed es new
-  IsIndexed-filled es None new short filled = subst (IsIndexed es) (sym filled.hashes) short
-  IsIndexed-filled es (Some h) new short filled = subst (IsIndexed es) (sym filled.hashes) (record { list = refl; fits = filled.fits })
+  IsIndexed-filled es None new short filled = rw filled.hashes short
+  IsIndexed-filled es (Some h) new short filled = rw filled.hashes (record { list = refl; fits = filled.fits })
 
   -- a list refills the index of another one that is as long
   pub follows-refilled : (before after : EntryList K V) (old mid new : Option Hashes) → length after.entries ≤ length before.entries → IsIndexed before.entries old → mid ≡ option_map cleared old → IsFilled after.entries mid new
       → IsIndexed after.entries new × (length before.entries + index_room (length before.entries) old ≤ length after.entries + index_room (length after.entries) new) × (is_some new ≡ is_some old)
   follows-refilled before after old mid new shorter indexed emptied filled =
       let out : length before.entries + index_room (length before.entries) old ≤ index_room 0 mid = rw emptied (grind (arith, common_steps, indexed-at before.entries old indexed)) in
-      let wide : index_room 0 mid ≤ length after.entries + index_room (length after.entries) new = rw filled.hashes (grind (arith, common_steps)) in
-      (IsIndexed-filled after.entries mid new (omega (arith, shorter, out)) filled, omega arith, ap is_some filled.hashes ∙ is_some-map _ mid ∙ ap is_some emptied ∙ is_some-map cleared old)
+      (IsIndexed-filled after.entries mid new (omega (arith, shorter, out)) filled, grind (arith, common_steps, filled.hashes), grind (arith, common_steps, filled.hashes))
 
   -- where the entries went, their hashes went
   pub moves-hashes : (es : List (Entry K V)) (to : List ℕ) (after : List (Entry K V)) → Moves es to after → Moves (hashes_of es) to (hashes_of after)
@@ -97,13 +93,10 @@ module _ {K V : Type 0} where
   cleared-room es n old mid shorter indexed is = rw is (grind (arith, common_steps, indexed-at es old indexed))
 
 pub renamed-is_some : (to : List ℕ) (old new : Option Hashes) → IsRenamed to old new → is_some new ≡ is_some old
-renamed-is_some to old new renamed = sym (is_some-map (λ h. h.room) new) ∙ ap is_some renamed.room ∙ is_some-map (λ h. h.room) old
+renamed-is_some to old new renamed = grind (arith, common_steps, renamed.room)
 
 pub renamed-room : (len len' : ℕ) (to : List ℕ) (old new : Option Hashes) → len' ≡ len → IsRenamed to old new → index_room len' new ≡ index_room len old
 renamed-room len len' to old new same renamed = grind (arith, common_steps, renamed.room)
-
-pub room-noted : (len : ℕ) (hash : StarlarkHashValue) (index : Option Hashes) → index_room len index ≤ 1 + index_room (len + 1) (option_map (noted hash) index)
-room-noted len hash index = grind (arith, common_steps)
 
 pub room-forgotten : (len i : ℕ) (index : Option Hashes) → IsIndexedAt len index → 0 < len → 1 + index_room len index ≤ index_room (len - 1) (option_map (forgotten i) index)
 room-forgotten len i index holds some = grind (arith, common_steps)

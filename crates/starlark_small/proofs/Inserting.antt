@@ -31,10 +31,6 @@ module _ {K V : Type 0} (eq : K → K → Bool) where
   pub length_insert_le : (es : List (Entry K V)) (key : Hashed K) (value : V) → length (insert_entry eq es key value) ≤ length es + 1
   length_insert_le es key value = (length_or es key value (match_of eq es key) (insert_entry eq es key value) refl).1
 
--- an index that is made at one length is there at a greater one
-indexed_on : (first mid last : Bool) (len len' : ℕ) → mid ≡ (first || nat_lt unindexed len) → last ≡ (mid || nat_lt unindexed len') → len ≤ len' → last ≡ (first || nat_lt unindexed len')
-indexed_on first mid last len len' a b c = grind (arith, nat_tests)
-
 -- a list without an index is too short to need one
 pub long_is_indexed : {A : Type 0} (index : Option A) (had : Bool) (len : ℕ) → is_some index ≡ had → (unindexed < len → IsSome index) → had ≡ (had || nat_lt unindexed len)
 long_is_indexed index had len same long = grind (arith, nat_tests, long)
@@ -66,37 +62,18 @@ filled_none first had = record { entries = refl; room = omega arith; added = ome
 -- a further item is tried
 module _ {K V A : Type 0} {eq : K → K → Bool} {item : A → Entry K V} {all : ℕ} {first : Map K V} {seen : List A} {mid : Map K V} (last : Map K V) (held : IsFilled eq item all first seen mid)
     {left after : ℕ} (counted : length seen + left ≤ all) (fewer : after < left) (x : A) (leaves : LeavesMemory eq mid (item x).0 last) where
-  has_room : all ≤ first.room → 0 < mid.room
-  has_room fits = omega (arith, held.room, held.added)
-
-  on_spare : all ≤ first.room → (last.capacity ≡ first.capacity) × (last.indexed ≡ first.indexed)
-  on_spare fits = ((leaves.spare (has_room fits)).0 ∙ (held.spare fits).0, (leaves.spare (has_room fits)).1 ∙ (held.spare fits).1)
-
   -- it went in
   pub filled_more : last.entries ≡ insert_entry eq mid.entries (item x).0 (item x).1 → IsFilled eq item all first (seen ++ x ∷ []) last
   filled_more put =
       let sizes = length_or eq mid.entries (item x).0 (item x).1 (match_of eq mid.entries (item x).0) last.entries put in
-      record {
-        entries = put ∙ ap (λ l. insert_entry eq l (item x).0 (item x).1) held.entries ∙ sym (insert_all-push eq item first.entries seen x);
-        room = omega (arith, held.room, leaves.room);
-        added = omega (arith, sizes.1, held.added, length_push seen x);
-        longer = omega (arith, held.longer, sizes.0);
-        capacity = stepped_inserted first mid last held.longer held.capacity eq (item x).0 (item x).1 (match_of eq mid.entries (item x).0) refl put leaves;
-        indexed = indexed_on first.indexed mid.indexed last.indexed (length mid.entries) (length last.entries) held.indexed leaves.indexed sizes.0;
-        spare = on_spare;
-      }
+      let entries = put ∙ ap (λ l. insert_entry eq l (item x).0 (item x).1) held.entries ∙ sym (insert_all-push eq item first.entries seen x) in
+      let capacity = stepped_inserted first mid last held.longer held.capacity eq (item x).0 (item x).1 (match_of eq mid.entries (item x).0) refl put leaves in
+      grind (arith, nat_tests, entries, capacity, sizes, length_push seen x, held.room, leaves.room, held.added, held.longer, held.indexed, leaves.indexed, held.spare, leaves.spare)
 
   -- it was refused: the room is used up, so there was not room for all
   pub filled_still : last.entries ≡ mid.entries → mid.room ≡ 0 → IsStopped eq item all first seen last
   filled_still same full =
       let as_long : length last.entries ≡ length mid.entries = ap length same in
-      record {
-        entries = same ∙ held.entries;
-        room = omega (arith, held.room, leaves.room);
-        left = omega (arith, held.room, leaves.room, held.added, counted, as_long);
-        full = omega (arith, held.room, full, as_long);
-        lacked = λ fits. omega (arith, has_room fits, full);
-        capacity = stepped_refused first mid last held.longer held.capacity same leaves.capacity;
-        indexed = indexed_on first.indexed mid.indexed last.indexed (length mid.entries) (length last.entries) held.indexed leaves.indexed (omega (arith, as_long));
-        spare = on_spare;
-      }
+      let entries = same ∙ held.entries in
+      let capacity = stepped_refused first mid last held.longer held.capacity same leaves.capacity in
+      grind (arith, nat_tests, entries, capacity, as_long, full, counted, held.room, leaves.room, held.added, held.indexed, leaves.indexed, held.spare, leaves.spare)

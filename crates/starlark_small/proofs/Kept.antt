@@ -9,7 +9,7 @@ use Rattle.starlark_table.specs.Table.{Table, filled, items_under, members, tabl
 use Rattle.starlark_vec2.specs.Sort.{Moves}
 use Rattle.starlark_small.specs.Hashes.{Hashes, indices_under, numbered}
 use Rattle.starlark_small.specs.Slots.{IsSited, KeepsIndices, RenamesEach, StandsBut, StandsOnce, hash_in, hashes_in, lowered, renaming}
-use Rattle.starlark_small.proofs.Numbered.{bag-noted, bag-renamed, filled-renamed, hashes-back, held, left-bag, left-none, left-there, length-moved, members-below, members-count, stands-once, numbered-moved, numbered-remove, numbered_from-remove_last, numbered-reverse}
+use Rattle.starlark_small.proofs.Numbered.{bag-noted, bag-renamed, filled-renamed, hashes-back, held, left-bag, left-none, left-there, length-moved, members-below, members-count, stands-once, numbered-moved, numbered_from-remove, numbered_from-remove_last, numbered-reverse}
 use Rattle.starlark_small.proofs.Slots.{sited-last, sited-lowered, sited-none, sited-put, sited-reversed}
 
 pub length-hashes_in : (slots : List (Option (ℕ × ℕ))) (cells : List ℕ) → length (hashes_in slots cells) ≡ length cells
@@ -61,7 +61,7 @@ module _ (old : Table ℕ) (cells : List ℕ) (memory : ℕ) (k : KeepsIndices o
       let longer = length_permutation ((h, x) ∷ members old) (members new) added in
       let long = length-hashes_in old.slots cells in
       keeps_by (hs ++ h ∷ []) (old.room - 1) new after space (bag-noted hs h x old new (omega (arith, last, long)) k.bag added)
-      (subst (λ l. IsSited l new.slots) (sym put) (subst (IsSited (cells ++ slot ∷ [])) (sym is) (sited-put cells old.slots slot h x last within k.sited)))
+      (rw (put, is) (sited-put cells old.slots slot h x last within k.sited))
       (omega (arith, ap length put, length-append cells (slot ∷ []), length-append hs (h ∷ []), long)) (omega (arith, room, k.spare, more)) (omega (arith, ap length is, length-set old.slots slot (Some (h, x)), k.few)) (omega (arith, room, k.narrow)) (omega (arith, room, longer, some))
 
   -- each index is another, and the cells are named anew
@@ -115,10 +115,9 @@ module _ (old : Table ℕ) (cells : List ℕ) (memory : ℕ) (k : KeepsIndices o
   pub keeps-reversed : (n : ℕ) (new : Table ℕ) (space : ℕ) → n ≡ length cells → RenamesEach (λ i. n - 1 - i) old new → memory ≤ space → Keeps (reverse hs) old.room new (reverse cells) space
   keeps-reversed n new space is renames more =
       let long = length-hashes_in old.slots cells in
-      let turns : RenamesEach (λ i. length cells - 1 - i) old new = subst (λ m. RenamesEach (λ i. m - 1 - i) old new) is renames in
-      let bag = subst (λ m. IsPermutation (numbered (reverse hs)) (map (renaming (λ i. m - 1 - i)) (numbered hs))) long (numbered-reverse hs) in
-      keeps-renamed (λ i. length cells - 1 - i) (reverse hs) new turns bag (length-reverse hs ∙ long) (reverse cells) space
-      (subst (IsSited (reverse cells)) (sym turns.slots) (sited-reversed cells old.slots k.sited)) (length-reverse cells) more
+      let bag = subst (λ m. IsPermutation (numbered (reverse hs)) (map (renaming (λ i. m - 1 - i)) (numbered hs))) (long ∙ sym is) (numbered-reverse hs) in
+      keeps-renamed (λ i. n - 1 - i) (reverse hs) new renames bag (length-reverse hs ∙ long) (reverse cells) space
+      (rw (renames.slots, is) (sited-reversed cells old.slots k.sited)) (length-reverse cells) more
 
   -- an index was taken out, and those above it have not gone down
   module _ (i : ℕ) (inside : i < length cells) (mid : Table ℕ) (after : List ℕ) (even : length after ≡ length cells) (sited : IsSited after mid.slots) (taken : (h : ℕ) → Contains (members old) (h, i) → IsPermutation (members old) ((h, i) ∷ members mid))
@@ -132,9 +131,6 @@ module _ (old : Table ℕ) (cells : List ℕ) (memory : ℕ) (k : KeepsIndices o
     bag : IsPermutation (remove (numbered hs) i) (members mid)
     bag = left-bag hs old k.bag i within mid apart
 
-    gone : table_len old ≡ 1 + table_len mid
-    gone = omega (arith, length_permutation (members old) ((get_or hs i 0, i) ∷ members mid) apart)
-
     pub stands-but : StandsBut i after mid.slots
     stands-but = record { there = λ j lt other. (get_or hs j 0, left-there hs old k.bag i within mid apart after sited j (omega (arith, lt, even, length-hashes_in old.slots cells)) other) }
 
@@ -142,14 +138,14 @@ module _ (old : Table ℕ) (cells : List ℕ) (memory : ℕ) (k : KeepsIndices o
     pub keeps-forgotten : (new : Table ℕ) (space : ℕ) → RenamesEach (lowered i) mid new → memory ≤ space → Keeps (remove hs i) (old.room + 1) new (remove after i) space
     keeps-forgotten new space renames more =
         let ks = remove hs i in
-        let same : IsPermutation (numbered ks) (map (renaming (lowered i)) (remove (numbered hs) i)) = subst (IsPermutation (numbered ks)) (sym (numbered-remove hs i within)) (IsPermutation-refl (numbered ks)) in
-        let now = bag-renamed (lowered i) (remove (numbered hs) i) ks mid new bag same renames.slots in
+        let now = bag-renamed (lowered i) (remove (numbered hs) i) ks mid new bag (rw (numbered_from-remove 0 i i hs (omega arith) within) (IsPermutation-refl (numbered ks))) renames.slots in
         let count : table_len new ≡ table_len mid = ap length (ap filled renames.slots ∙ filled-renamed (lowered i) mid.slots) ∙ length-map (members mid) (renaming (lowered i)) in
         let here : i < length after = omega (arith, inside, even) in
         keeps_by ks (old.room + 1) new (remove after i) space now
         (subst (IsSited (remove after i)) (sym renames.slots) (sited-lowered i after mid.slots here (left-none hs old k.bag i within mid apart) sited))
         (omega (arith, length-remove after i here, length-remove hs i within, even, length-hashes_in old.slots cells)) (omega (arith, count, renames.room, room, k.spare, more))
-        (omega (arith, ap length renames.slots, length-map mid.slots (option_map (renaming (lowered i))), slots, k.few)) (omega (arith, count, renames.room, room, k.narrow)) (omega (arith, renames.room, room, gone))
+        (omega (arith, ap length renames.slots, length-map mid.slots (option_map (renaming (lowered i))), slots, k.few)) (omega (arith, count, renames.room, room, k.narrow))
+        (omega (arith, renames.room, room, length_permutation (members old) _ apart))
 
     -- there was none above it
     pub keeps-forgotten_last : (space : ℕ) → i + 1 ≡ length cells → memory ≤ space → Keeps (remove hs i) (old.room + 1) mid (take i after) space
@@ -160,4 +156,4 @@ module _ (old : Table ℕ) (cells : List ℕ) (memory : ℕ) (k : KeepsIndices o
         let left : length ks ≡ i = omega (arith, length-remove hs i within, end, long) in
         keeps_by ks (old.room + 1) mid (take i after) space now
         (sited-last after mid i (omega (arith, end, even)) (subst (λ n. All (λ m. m.1 < n) (members mid)) left (members-below ks mid now)) sited)
-        (omega (arith, length-take i after, end, even, left)) (omega (arith, room, k.spare, more)) (omega (arith, slots, k.few)) (omega (arith, room, k.narrow)) (omega (arith, room, gone))
+        (omega (arith, length-take i after, end, even, left)) (omega (arith, room, k.spare, more)) (omega (arith, slots, k.few)) (omega (arith, room, k.narrow)) (omega (arith, room, length_permutation (members old) _ apart))

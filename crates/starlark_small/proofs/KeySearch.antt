@@ -1,6 +1,6 @@
 -- The indices of a hash, as the keys that stand under it.
-use Rattle.starlark_hash.proofs.Common.{common_steps, ◌≡◌, ℕ, suc, ◌+◌, ◌<◌, ◌^◌, Bool, List, [], ◌∷◌, ◌++◌, length, get_or, map, Option, Some, refl, sym, ap, subst, ◌∙◌, arith, IsPermutation, nat_eq, filter, slice_get, Bor, Mut, CalledAt, TakesAt, All, Contains, enumerate_from, nat_tests, length-map, All-contains, All-filter, All-map, IsPermutation-refl, length_permutation, get_or_from_slice_get, slice_get-map, slice_get-get_or, slice_get_within, same_Some}
-use Rattle.std.proofs.lemmas.List.Elements.{Contains-append_right}
+use Rattle.starlark_hash.proofs.Common.{common_steps, ◌≡◌, ℕ, suc, ◌+◌, ◌<◌, ◌^◌, Bool, List, [], ◌∷◌, ◌++◌, length, get_or, map, Option, Some, None, refl, sym, ap, subst, ◌∙◌, arith, IsPermutation, nat_eq, filter, slice_get, Bor, Mut, CalledAt, TakesAt, All, Contains, enumerate_from, nat_tests, length-append, length-map, All-contains, All-filter, All-map, IsPermutation-refl, length_permutation, get_or_from_slice_get, slice_get-map, slice_get-get_or, slice_get_within, same_Some}
+use Rattle.std.proofs.lemmas.List.{nil_from_length}
 use Rattle.starlark_hash.specs.HashValue.{promoted}
 use Rattle.starlark_hash.specs.declared.hash_value.StarlarkHashValue.{StarlarkHashValue}
 use Rattle.starlark_hash.proofs.Promote.{promoted-injective}
@@ -10,10 +10,6 @@ use Rattle.starlark_small.specs.Hashes.{indices_under, numbered, numbered_from}
 use Rattle.starlark_small.specs.Index.{hashes_of}
 use Rattle.starlark_small.proofs.Numbered.{below-all}
 use Rattle.starlark_small.proofs.Transport.{can_transport, transported}
-
--- hashes agree where their promotions do
-same_test : (h k : ℕ) → h < 2 ^ 32 → k < 2 ^ 32 → nat_eq (promoted h) (promoted k) ≡ nat_eq h k
-same_test h k h_fits k_fits = grind (arith, nat_tests, promoted-injective h k h_fits k_fits)
 
 -- the indices of a hash are within the list
 pub indices-within : (hash : ℕ) (hs : List ℕ) (p : ℕ × ℕ) → Contains (indices_under hash hs) p → p.1 < length hs
@@ -30,63 +26,44 @@ module _ {K V : Type 0} where
       → map (λ p. (p.0, entry_key p.1)) (filter (λ p. is_under hash p.1) (enumerate_from n es)) ≡ map (keyed look) (map (λ m. (m.1, m.1)) (filter (λ m. nat_eq m.0 (promoted hash.0)) (numbered_from n (hashes_of es))))
   keys-numbered hash look n [] fits h_fits known = refl
   keys-numbered hash look n (e ∷ es) fits h_fits known =
-      let head : e ≡ look n = sym (ap look {x = n} {y = n + 0} (omega arith) ∙ known 0 e refl) in
-      grind (
-        arith,
-        nat_tests,
-        same_test e.0.hash.0 hash.0 (fits 0 e (omega arith)) h_fits,
-        keys-numbered hash look (n + 1) es (λ k d lt. fits (suc k) d (omega (arith, lt))) h_fits
-            (λ k d is. ap look {x = n + 1 + k} {y = n + suc k} (omega arith) ∙ known (suc k) d is),
-      )
+      let rest = keys-numbered hash look (n + 1) es (λ k d lt. fits (suc k) d (omega (arith, lt))) h_fits (λ k d is. ap look {x = n + 1 + k} {y = n + suc k} (omega arith) ∙ known (suc k) d is) in
+      grind (arith, nat_tests, promoted-injective e.0.hash.0 hash.0 (fits 0 e (omega arith)) h_fits, rest, known 0 e refl)
 
 -- w, asked about an index, asks g about the key there; inner is g's state in w's, and Sees says that w looks at the list
 module _ {C F K V : Type 0} (g : Mut F (Bor K × Unit {0}) Bool) (w : Mut C (Bor ℕ × Unit {0}) Bool) (inner : C → F) (Sees : C → Type 0) (es : List (Entry K V)) (hs : List ℕ) (same : hs ≡ hashes_of es) (hash : StarlarkHashValue)
     (small : All (λ e. e.0.hash.0 < 2 ^ 32) es) (fits : hash.0 < 2 ^ 32)
     (relate : (s : C) (i : ℕ) (b : Bool) (t : C) → Sees s → CalledAt w s i b t → Sees t × ((e : Entry K V) → slice_get es i ≡ Some e → CalledAt g (inner s) (entry_key e) b (inner t))) (s : C) (sees : Sees s) where
   abbrev items : List (ℕ × ℕ)
-  items = indices_under (promoted hash.0) (hashes_of es)
+  items = indices_under (promoted hash.0) hs
 
   module _ (d : Entry K V) where
     abbrev look : ℕ → Entry K V
     look i = get_or es i d
 
     there : (p : ℕ × ℕ) → Contains items p → slice_get es p.1 ≡ Some (look p.1)
-    there p among = slice_get-get_or es p.1 d (omega (arith, indices-within (promoted hash.0) (hashes_of es) p among, length-map es (λ e. promoted e.0.hash.0)))
+    there p among = slice_get-get_or es p.1 d (omega (arith, indices-within (promoted hash.0) hs p among, ap length same, length-map es (λ e. promoted e.0.hash.0)))
 
     keys-are : keys_under hash es ≡ map (keyed look) items
-    keys-are = keys-numbered hash (λ i. get_or es i d) 0 es small fits (λ k e at. ap (λ i. get_or es i d) {x = 0 + k} {y = k} (omega arith) ∙ get_or_from_slice_get es k e d at)
+    keys-are = rw same (keys-numbered hash (λ i. get_or es i d) 0 es small fits (λ k e at. ap (λ i. get_or es i d) {x = 0 + k} {y = k} (omega arith) ∙ get_or_from_slice_get es k e d at))
 
-  can_in : (fs : List (Entry K V)) → fs ≡ es → ((s : C) (i : ℕ) → Sees s → (e : Entry K V) → slice_get es i ≡ Some e → TakesAt g (inner s) (entry_key e) → TakesAt w s i) → CanSearch g (keys_under hash es) (inner s) → CanSearch w items s
-  can_in [] is pass may = record {
-    at = λ before p after later moves refused.
-        let none : length items ≡ 0 = ap (λ l. length (indices_under (promoted hash.0) (hashes_of l))) (sym is) in
-        let some = Contains-append_right before (p ∷ after) p (0, omega arith, refl) in
-        absurd (omega (arith, length_permutation items (before ++ p ∷ after) moves, none, some.1));
-  }
+  -- so where the keys may be searched the indices may
+  pub can_in : (fs : List (Entry K V)) → fs ≡ es → ((s : C) (i : ℕ) → Sees s → (e : Entry K V) → slice_get es i ≡ Some e → TakesAt g (inner s) (entry_key e) → TakesAt w s i) → CanSearch g (keys_under hash es) (inner s) → CanSearch w items s
+  can_in [] is pass may =
+      let none : length items ≡ 0 = ap (λ l. length (indices_under (promoted hash.0) l)) (same ∙ ap hashes_of (sym is)) in
+      record { at = λ before p after later moves refused. absurd (omega (arith, none, length_permutation items (before ++ p ∷ after) moves, length-append before (p ∷ after))) }
   can_in (d ∷ fs) is pass may =
       can_transport w g inner Sees (keyed (look d)) items (λ p among s b t sees called. let r = relate s p.1 b t sees called in (r.0, r.1 (look d p.1) (there d p among))) (keys_under hash es) s
       (subst (IsPermutation (keys_under hash es)) (keys-are d) (IsPermutation-refl (keys_under hash es))) (λ p among s sees takes. pass s p.1 sees (look d p.1) (there d p among) takes) sees may
 
-  found_none : (order : List (ℕ × ℕ)) → length order ≡ 0 → keys_under hash es ≡ [] → (last : C) (answer : Option ℕ) → Asks w s order answer last → Searches g (keys_under hash es) (inner s) answer (inner last)
-  found_none [] none is last answer asked = subst (λ l. Searches g l (inner s) answer (inner last)) (sym is) (record { order = []; rearranged = IsPermutation-refl []; asks = (asked.0, ap inner asked.1) })
-  found_none (p ∷ order) none is last answer asked = absurd (omega (arith, none))
-
-  found_in : (fs : List (Entry K V)) → fs ≡ es → (last : C) (answer : Option ℕ) → Searches w items s answer last → Searches g (keys_under hash es) (inner s) answer (inner last)
+  -- and what is found among the indices is found among the keys
+  pub found_in : (fs : List (Entry K V)) → fs ≡ es → (last : C) (answer : Option ℕ) → Searches w items s answer last → Searches g (keys_under hash es) (inner s) answer (inner last)
   found_in [] is last answer search =
-      let none : length items ≡ 0 = ap (λ l. length (indices_under (promoted hash.0) (hashes_of l))) (sym is) in
-      found_none search.order (length_permutation items search.order search.rearranged ∙ none) (ap (keys_under hash) (sym is)) last answer search.asks
+      let none = nil_from_length search.order (length_permutation items search.order search.rearranged ∙ ap (λ l. length (indices_under (promoted hash.0) l)) (same ∙ ap hashes_of (sym is))) in
+      let asked : (answer ≡ None) × (last ≡ s) = subst (λ l. Asks w s l answer last) none search.asks in
+      subst (λ l. Searches g (keys_under hash l) (inner s) answer (inner last)) is (record { order = []; rearranged = IsPermutation-refl []; asks = (asked.0, ap inner asked.1) })
   found_in (d ∷ fs) is last answer search =
       transported w g inner Sees (keyed (look d)) items (λ p among s b t sees called. let r = relate s p.1 b t sees called in (r.0, r.1 (look d p.1) (there d p among))) (λ o. o) refl (λ p among. refl) (keys_under hash es) s last answer
       (subst (IsPermutation (keys_under hash es)) (keys-are d) (IsPermutation-refl (keys_under hash es))) sees search
-
-  -- so where the keys may be searched the indices may
-  pub can_search-indices : ((s : C) (i : ℕ) → Sees s → (e : Entry K V) → slice_get es i ≡ Some e → TakesAt g (inner s) (entry_key e) → TakesAt w s i) → CanSearch g (keys_under hash es) (inner s)
-      → CanSearch w (indices_under (promoted hash.0) hs) s
-  can_search-indices pass may = subst (λ l. CanSearch w (indices_under (promoted hash.0) l) s) (sym same) (can_in es refl pass may)
-
-  -- and what is found among the indices is found among the keys
-  pub searches-indices : (last : C) (answer : Option ℕ) → Searches w (indices_under (promoted hash.0) hs) s answer last → Searches g (keys_under hash es) (inner s) answer (inner last)
-  searches-indices last answer search = found_in es refl last answer (subst (λ l. Searches w (indices_under (promoted hash.0) l) s answer last) same search)
 
 -- the pair of an entry stands where the entry does
 pub pair_there : {K V : Type 0} (es : List (Entry K V)) (pairs : List (K × V)) (x i : ℕ) (e : Entry K V) → pairs ≡ map pair_of es → i ≡ x

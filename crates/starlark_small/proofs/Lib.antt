@@ -4,7 +4,7 @@ pub mod Kept
 pub mod Passes
 pub mod Transport
 pub mod KeySearch
-mod Unhashed
+mod PutLent
 pub mod Indexed
 pub mod Rooms
 pub mod Inserted
@@ -12,11 +12,9 @@ pub mod LentInResult
 pub mod ValuesWritten
 pub mod SmallMapOpen
 pub mod SameEntries
-pub mod Cloned
 pub mod Retained
 pub mod Growing
 pub mod Inserting
-pub mod EntryWritten
 pub mod NotedAtOnce
 pub mod CallerLookup
 pub mod CallerEntry

@@ -1,28 +1,19 @@
 -- A hash that a look at the index shows to be new: no entry is under it, and one goes last without growth.
-use Rattle.starlark_hash.proofs.Common.{common_steps, ◌≡◌, ◌≢◌, ℕ, ◌+◌, ◌-◌, ◌<◌, ◌≤◌, Bool, true, List, [], ◌∷◌, ◌++◌, length, Option, Some, None, Ok, refl, sym, ap, subst, ◌∙◌, arith, is_some, ◌||◌, nat_lt, IsEquivalence, option_map_or, nat_tests, get_or-map, length-map, length_push, All}
+use Rattle.starlark_hash.proofs.Common.{common_steps, ◌≡◌, ◌≢◌, ℕ, ◌-◌, Bool, [], ◌∷◌, ◌++◌, length, Option, Some, None, Ok, refl, sym, ap, subst, ◌∙◌, arith, IsEquivalence, option_map_or, nat_tests, get_or-map, length-map, length_push, All}
 use Rattle.starlark_small.proofs.CallerLookup.{none_among}
 use Rattle.starlark_hash.specs.HashValue.{hash_of, key_of}
-use Rattle.starlark_hash.specs.declared.hash_value.StarlarkHashValue.{StarlarkHashValue}
 use Rattle.starlark_hash.specs.declared.hashed.Hashed.{Hashed}
-use Rattle.starlark_hash.specs.Entries.{Entry, entry_hash, match_of, position_of, set_value_at, stands_under, value_at}
+use Rattle.starlark_hash.specs.Entries.{Entry, entry_hash, match_of, set_value_at, stands_under, value_at}
 use Rattle.starlark_hash.proofs.EntryLemmas.{IsSingle-push}
 use Rattle.starlark_small.specs.Hashes.{Hashes, hash_under}
 use Rattle.starlark_small.specs.IndexCalls.{IsNotedIn}
-use Rattle.starlark_small.specs.Index.{IsIndexed, hashes_of, IsSound, index_room, map_of, unindexed}
+use Rattle.starlark_small.specs.Index.{IsIndexed, IsSound, map_of}
 use Rattle.starlark_small.specs.Insert.{IsInserted, Inserts}
 use Rattle.starlark_small.specs.Map.{Map}
 use Rattle.starlark_small.proofs.CallerInsert.{inserts-done}
 use Rattle.starlark_small.proofs.Inserted.{LeavesMemory-inserted}
-use Rattle.starlark_small.proofs.Indexed.{IsIndexed-noted, room-noted}
+use Rattle.starlark_small.proofs.Indexed.{IsIndexed-noted}
 use Rattle.starlark_vecmap.specs.EntryList.{EntryList, with_entries}
-
-module _ {K V : Type 0} where
-  nowhere : (es : List (Entry K V)) (hash : StarlarkHashValue) (t : K → Bool) → All (λ h. h ≢ hash_under hash) (hashes_of es) → position_of hash t es ≡ None
-  nowhere es hash t lacked = none_among (stands_under hash t) es (λ k d below.
-      let H : Entry K V → ℕ = λ e. hash_under (entry_hash e) in
-      let apart = lacked k (H d) (omega (arith, below, length-map es H)) in
-      let here = get_or-map H es k d (H d) below in
-      grind (arith, common_steps))
 
 -- a new key whose hash was noted at once, with room in the list
 module _ {K V : Type 0} (eq : K → K → Bool) (laws : IsEquivalence eq) (list new : EntryList K V) (before after : Option Hashes) (key : Hashed K) (value : V) (sound : IsSound eq list.entries before) (noting : IsNotedIn (hash_of key) (list.capacity - length list.entries) before after)
@@ -31,7 +22,10 @@ module _ {K V : Type 0} (eq : K → K → Bool) (laws : IsEquivalence eq) (list 
   index = subst (IsIndexed list.entries) noting.there sound.indexed
 
   absent : match_of eq list.entries key ≡ None
-  absent = nowhere list.entries (hash_of key) (eq (key_of key)) (subst (All (λ h. h ≢ hash_under (hash_of key))) index.list noting.lacked)
+  absent = none_among (stands_under (hash_of key) (eq (key_of key))) list.entries (λ k d below.
+      let H : Entry K V → ℕ = λ e. hash_under (entry_hash e) in
+      let apart = subst (All (λ h. h ≢ hash_under (hash_of key))) index.list noting.lacked k (H d) (omega (arith, below, length-map list.entries H)) in
+      let here = get_or-map H list.entries k d (H d) below in grind (arith, common_steps))
 
   pub sound_at_once : IsSound eq new.entries after
   sound_at_once = subst (λ l. IsSound eq l.entries after) (sym is) (record {
@@ -39,26 +33,11 @@ module _ {K V : Type 0} (eq : K → K → Bool) (laws : IsEquivalence eq) (list 
     indexed = subst (IsIndexed (list.entries ++ (key, value) ∷ [])) (sym noting.noted) (IsIndexed-noted list.entries (key, value) (hash_of key) (Some noting.hashes) refl (omega (arith, noting.room)) noting.fits index);
   })
 
-  abbrev brought : Hashed K × V
-  brought = (key, value)
-
-  pub inserts_at_once : (old : Map K V) → map_of list before ≡ old → Inserts eq key value brought old (map_of new after) (Ok None)
+  pub inserts_at_once : (old : Map K V) → map_of list before ≡ old → Inserts {B = Hashed K × V} eq key value (key, value) old (map_of new after) (Ok None)
   inserts_at_once old view =
-      let had : is_some before ≡ true = ap is_some noting.there in
-      let kept : is_some after ≡ is_some before = ap is_some noting.noted ∙ sym had in
-      let less : index_room (length list.entries) before ≤ 1 + index_room (length list.entries + 1) after = grind (arith, noting.there, noting.noted, room-noted (length list.entries) (hash_of key) (Some noting.hashes)) in
-      let room : 0 < (map_of list before).room = grind (arith, noting.there, noting.room, noting.spare) in
-      let len : ℕ = length list.entries in
-      let longer = length_push list.entries (key, value) in
-      let put : IsInserted (map_of list before) key value (map_of new after) = rw is (record {
-        entries = refl;
-        spare = λ _. (refl, kept);
-        room = let grown = subst (λ n. index_room len before ≤ 1 + index_room n after) (sym longer) less in omega (arith, longer, grown);
-        capacity = let free : 1 ≤ list.capacity - len = omega (arith, room) in grind (arith, nat_tests);
-        indexed = kept ∙ had ∙ ap (λ b. b || nat_lt unindexed (len + 1)) (sym had);
-      }) in
-      subst (λ m. Inserts eq key value brought m (map_of new after) (Ok None)) view
-      (inserts-done eq key value brought (map_of list before) (map_of new after) laws None
+      let put : IsInserted (map_of list before) key value (map_of new after) = rw (is, noting.there, noting.noted) (grind (arith, common_steps, nat_tests, noting.spare, noting.room, length_push list.entries (key, value))) in
+      subst (λ m. Inserts {B = Hashed K × V} eq key value (key, value) m (map_of new after) (Ok None)) view
+      (inserts-done eq key value (key, value) (map_of list before) (map_of new after) laws None
       (sym (ap (value_at list.entries) absent))
       (put.entries ∙ sym (ap (λ o. option_map_or (λ i. set_value_at list.entries i value) o (list.entries ++ (key, value) ∷ [])) absent))
       (LeavesMemory-inserted eq (map_of list before) key value (map_of new after) absent put))

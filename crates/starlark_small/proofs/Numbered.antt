@@ -1,13 +1,14 @@
 -- The numbered hashes of a list, and what a table says that has them as its members.
-use Rattle.starlark_hash.proofs.Common.{common_steps, ◌≡◌, ◌≢◌, ℕ, zero, suc, ◌+◌, ◌-◌, ◌<◌, ◌≤◌, Bool, true, false, cond, nat_eq, eq-eqb, List, [], ◌∷◌, ◌++◌, length, map, get_or, take, Option, Some, None, refl, sym, ap, subst, ◌∙◌, arith, IsPermutation, filter, remove, reverse, slice_get, slice_index, All, Contains, range_with_len, false≢true, nat_tests, get_or-map, length-map, length-reverse, reverse-append, length-range_with_len, All-cons, IsPermutation-sym, IsPermutation-trans, IsPermutation-cons, IsPermutation-map, IsPermutation-reverse, All-permutation, Contains-permutation, length_permutation, get_or_from_slice_get, slice_get_within}
+use Rattle.starlark_hash.proofs.Common.{common_steps, ◌≡◌, ◌≢◌, ℕ, zero, suc, ◌+◌, ◌-◌, ◌<◌, ◌≤◌, Bool, false, nat_eq, List, [], ◌∷◌, ◌++◌, length, map, get_or, take, Option, Some, None, refl, sym, ap, subst, ◌∙◌, arith, IsPermutation, filter, remove, reverse, slice_get, slice_index, All, Contains, range_with_len, nat_tests, get_or-map, length-map, length-reverse, reverse-append, length-range_with_len, IsPermutation-sym, IsPermutation-trans, IsPermutation-cons, IsPermutation-map, IsPermutation-reverse, All-permutation, Contains-permutation, length_permutation, get_or_from_slice_get, slice_get_within, true, cond, eq-eqb, get_or_default}
 use Rattle.std.proofs.lemmas.List.{ext_get_or, take_more}
 use Rattle.std.proofs.lemmas.List.FromFn.{get_or-map-range_with_len}
+use Rattle.std.proofs.lemmas.List.Sums.{get_or-le-sum_by, length-filter}
 use Rattle.std.proofs.lemmas.List.Sorted.{IsPermutation-to_front, IsPermutation-remove}
 use Rattle.std.proofs.lemmas.Map.Keys.{IsDistinct-IsPermutation, IsDistinct-tail, IsDistinct-from_apart, apart_from_distinct}
 use Rattle.std.proofs.lemmas.Map.Made.{Contains-tail}
 use Rattle.std.specs.List.{IsDistinct}
 use Rattle.starlark_table.specs.Table.{Table, filled, items_under, members, member_at, table_len}
-use Rattle.starlark_table.proofs.PairBags.{IsPermutation-cancel, IsPermutation-filter}
+use Rattle.starlark_table.proofs.PairBags.{IsPermutation-cancel}
 use Rattle.starlark_table.proofs.TableLemmas.{items-items_under, members-member_at}
 use Rattle.starlark_table.proofs.Path.{in_filled}
 use Rattle.starlark_vec2.specs.Sort.{Moves}
@@ -37,17 +38,12 @@ below-all hs = λ k d lt. omega (arith, length-numbered 0 hs, ap (λ m. m.1) (at
 -- all behind an index go down
 sunk : (last n : ℕ) (hs : List ℕ) → last ≤ n → map (renaming (lowered last)) (numbered_from (n + 1) hs) ≡ numbered_from n hs
 sunk last n [] le = refl
-sunk last n (h ∷ hs) le =
-    grind (arith, nat_tests, sunk last (n + 1) hs)
+sunk last n (h ∷ hs) le = grind (arith, nat_tests, sunk last (n + 1) hs)
 
-lowered_from : (n k : ℕ) (hs : List ℕ) → k < length hs → map (renaming (lowered (n + k))) (remove (numbered_from n hs) k) ≡ numbered_from n (remove hs k)
-lowered_from n k [] below = absurd (omega arith)
-lowered_from n zero (h ∷ hs) below = sunk (n + 0) n hs (omega arith)
-lowered_from n (suc k) (h ∷ hs) below =
-    grind (arith, nat_tests, lowered_from (n + 1) k hs)
-
-pub numbered-remove : (hs : List ℕ) (k : ℕ) → k < length hs → map (renaming (lowered k)) (remove (numbered hs) k) ≡ numbered (remove hs k)
-numbered-remove hs k below = grind (arith, lowered_from 0 k hs)
+pub numbered_from-remove : (n k x : ℕ) (hs : List ℕ) → n + k ≡ x → k < length hs → map (renaming (lowered x)) (remove (numbered_from n hs) k) ≡ numbered_from n (remove hs k)
+numbered_from-remove n k x [] is below = absurd (omega arith)
+numbered_from-remove n zero x (h ∷ hs) is below = sunk x n hs (omega arith)
+numbered_from-remove n (suc k) x (h ∷ hs) is below = grind (arith, nat_tests, numbered_from-remove (n + 1) k x hs)
 
 pub numbered_from-remove_last : (n k : ℕ) (hs : List ℕ) → k + 1 ≡ length hs → remove (numbered_from n hs) k ≡ numbered_from n (remove hs k)
 numbered_from-remove_last n k [] end = absurd (omega (arith, end))
@@ -77,12 +73,9 @@ numbered-moved before to after moves =
     grind (arith, length-numbered 0 after, at-numbered after i (0, 0), get_or-map-range_with_len under 0 (length after) i i (0, 0))) in
     let went : map (renaming (slice_index to)) (numbered before) ≡ map under to =
     ext_get_or (0, 0) (map (renaming (slice_index to)) (numbered before)) (map under to) (grind (arith, length-numbered 0 before, length-map)) (λ i lt.
-    let numbers : i < length (numbered before) = omega (arith, lt, length-map (numbered before) (renaming (slice_index to))) in
-    let inside : i < length before = omega (arith, numbers, length-numbered 0 before) in
-    let at = get_or-map Some before i 0 None inside in
-    let there = get_or-map (slice_get after) to i 0 None (omega arith) in
-    let got = get_or_from_slice_get after (get_or to i 0) (get_or before i 0) 0 (sym there ∙ ap (λ l. get_or l i None) (sym moves.items) ∙ at) in
-    cc (got, get_or-map (renaming (slice_index to)) (numbered before) i (0, 0) (0, 0) numbers, at-numbered before i (0, 0) inside, get_or-map under to i 0 (0, 0) (omega arith))) in
+    let inside : i < length before = grind (arith, length-numbered 0 before, length-map) in
+    let there : Some (get_or before i 0) ≡ slice_get after (get_or to i 0) = grind (arith, moves.items, get_or-map Some before i 0 None, get_or-map (slice_get after) to i 0 None) in
+    grind (arith, length-numbered 0 before, get_or-map, at-numbered before i (0, 0), get_or_from_slice_get after (get_or to i 0) (get_or before i 0) 0)) in
     rw (same, went) (IsPermutation-map under (range_with_len 0 (length after)) to moves.once)
 
 -- ---- no index stands twice
@@ -117,16 +110,6 @@ pub named-there : (cells : List ℕ) (t : Table ℕ) (h x : ℕ) → IsSited cel
 named-there cells t h x sited there =
     let it = in_slots t.slots (h, x) there in ap (member_at t) (sited.named it.0 h x it.1) ∙ it.1
 
--- no hash of the list is one under which nothing stands
-none-among : (hash n : ℕ) (hs : List ℕ) → length (filter (λ m. nat_eq m.0 hash) (numbered_from n hs)) ≡ 0 → All (λ h. h ≢ hash) hs
-none-among hash n [] none = λ k d lt same. omega (arith, lt)
-none-among hash n (h ∷ hs) none =
-    let rest = filter (λ m. nat_eq m.0 hash) (numbered_from (n + 1) hs) in
-    (elim (nat_eq h hash) as (λ b. nat_eq h hash ≡ b → length (cond b ((h, n) ∷ rest) rest) ≡ 0 → All (λ h. h ≢ hash) (h ∷ hs)) [
-      | true ↦ λ is some. absurd (omega (arith, some))
-      | false ↦ λ is some. All-cons (λ h. h ≢ hash) h hs (λ same. false≢true (sym is ∙ eq-eqb h hash same)) (none-among hash (n + 1) hs some)
-    ]) refl none
-
 module _ (hs : List ℕ) (t : Table ℕ) (bag : IsPermutation (numbered hs) (members t)) where
   pub members-count : table_len t ≡ length hs
   members-count = length_permutation (numbered hs) (members t) bag ∙ length-numbered 0 hs
@@ -156,9 +139,7 @@ module _ (hs : List ℕ) (t : Table ℕ) (bag : IsPermutation (numbered hs) (mem
     left-bag =
         let x : ℕ × ℕ = (get_or hs k 0, k) in
         let apart = IsPermutation-remove (numbered hs) k x (omega (arith, below, length-numbered 0 hs)) (sym (at-numbered hs k x below)) in
-        IsPermutation-cancel x (remove (numbered hs) k) (members mid)
-        (IsPermutation-trans (x ∷ remove (numbered hs) k) (members t) (x ∷ members mid)
-        (IsPermutation-trans (x ∷ remove (numbered hs) k) (numbered hs) (members t) (IsPermutation-sym (numbered hs) (x ∷ remove (numbered hs) k) apart) bag) taken)
+        IsPermutation-cancel x (remove (numbered hs) k) (members mid) (IsPermutation-trans _ _ _ (IsPermutation-trans _ _ _ (IsPermutation-sym _ _ apart) bag) taken)
 
     pub left-none : (s h x : ℕ) → member_at mid s ≡ Some (h, x) → x ≢ k
     left-none s h x is same =
@@ -173,11 +154,15 @@ module _ (hs : List ℕ) (t : Table ℕ) (bag : IsPermutation (numbered hs) (mem
         named-there cells mid (get_or hs i 0) i sited
         (Contains-tail m (members mid) n (λ same. apart (sym (ap (λ m. m.1) same))) (Contains-permutation (members t) (m ∷ members mid) n taken (held i inside)))
 
+  -- no hash of the list is one under which nothing stands
   pub none-under : (hash : ℕ) → items_under hash t ≡ [] → All (λ h. h ≢ hash) hs
-  none-under hash none =
+  none-under hash none k d below same =
       let q : ℕ × ℕ → Bool = λ m. nat_eq m.0 hash in
+      let m : ℕ × ℕ = (get_or hs k 0, k) in
+      let there = held k below in
+      let passes : q (get_or (members t) there.0 m) ≡ true = rw there.2 (eq-eqb (get_or hs k 0) hash (get_or_default hs k 0 d below ∙ same)) in
       let nothing : length (filter q (members t)) ≡ 0 = grind (arith, length-map, ap length (items-items_under hash t), ap length none) in
-      none-among hash 0 hs (grind (arith, length_permutation (filter q (numbered hs)) (filter q (members t)) (IsPermutation-filter q (numbered hs) (members t) bag)))
+      omega (arith, nothing, length-filter q (members t), rw passes at (get_or-le-sum_by (λ m. cond (q m) 1 0) (members t) there.0 m there.1))
 
 -- the members once each index is another
 pub filled-renamed : (name : ℕ → ℕ) (slots : List (Option (ℕ × ℕ))) → filled (renamed name slots) ≡ map (renaming name) (filled slots)
@@ -195,9 +180,7 @@ pub bag-noted : (hs : List ℕ) (h x : ℕ) (old new : Table ℕ) → x ≡ leng
 bag-noted hs h x old new last bag added =
     let m : ℕ × ℕ = (h, x) in
     let is : numbered (hs ++ h ∷ []) ≡ numbered hs ++ m ∷ [] = grind (arith, numbered-append 0 hs (h ∷ [])) in
-    rw is
-    (IsPermutation-trans (numbered hs ++ m ∷ []) (m ∷ members old) (members new)
-    (IsPermutation-trans (numbered hs ++ m ∷ []) (m ∷ numbered hs) (m ∷ members old) (IsPermutation-to_front (numbered hs) m) (IsPermutation-cons m (numbered hs) (members old) bag)) added)
+    rw is (IsPermutation-trans _ _ _ (IsPermutation-trans _ _ _ (IsPermutation-to_front (numbered hs) m) (IsPermutation-cons m (numbered hs) (members old) bag)) added)
 
 -- one item more
 pub take-more : {X : Type 0} (i : ℕ) (xs : List X) (x : X) → slice_get xs i ≡ Some x → take (i + 1) xs ≡ take i xs ++ x ∷ []

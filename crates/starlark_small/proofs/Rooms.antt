@@ -12,9 +12,9 @@ use Rattle.starlark_vecmap.specs.EntryList.{EntryList, with_entries}
 
 module _ {K V : Type 0} where
   -- a value was written
-  pub map_of-set_value_at : (old new : EntryList K V) (i : ℕ) (value : V) (index : Option Hashes) → new ≡ with_entries old (set_value_at old.entries i value)
-      → map_of new index ≡ record (map_of old index) { entries = new.entries }
-  map_of-set_value_at old new i value index is = rw (is, length-set_value_at old.entries i value) refl
+  pub map_of-set_value_at : (list : EntryList K V) (i : ℕ) (value : V) (index : Option Hashes)
+      → map_of (with_entries list (set_value_at list.entries i value)) index ≡ record (map_of list index) { entries = set_value_at list.entries i value }
+  map_of-set_value_at list i value index = rw (length-set_value_at list.entries i value) refl
 
   -- an entry was taken out
   pub KeepsMemory-removed : (old new : EntryList K V) (i : ℕ) (index after : Option Hashes) → new.entries ≡ remove old.entries i → new.capacity ≡ old.capacity → i < length old.entries → length old.entries ≤ old.capacity → IsIndexed old.entries index

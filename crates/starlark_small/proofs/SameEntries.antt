@@ -1,6 +1,7 @@
 -- The equality of lists of entries with no regard to order, by one look-up for each entry of one.
-use Rattle.starlark_hash.proofs.Common.{common_steps, ◌≡◌, ℕ, ◌<◌, Bool, true, false, List, [], ◌∷◌, length, get_or, Option, Some, sym, ◌∙◌, arith, eq-eqb, slice_get, get_or-map, length-map, option_eq, false≢true, slice_get_within}
+use Rattle.starlark_hash.proofs.Common.{◌≡◌, ℕ, ◌<◌, Bool, true, false, List, length, get_or, Option, Some, sym, ◌∙◌, arith, eq-eqb, slice_get, get_or-map, length-map, option_eq, false≢true, slice_get_within}
 use Rattle.std.specs.List.{IsDistinct}
+use Rattle.std.proofs.lemmas.Bool.{false_from_ne_true}
 use Rattle.std.proofs.lemmas.Map.Keys.{IsDistinct-from_apart}
 use Rattle.core.specs.Cmp.{IsEquivalence}
 use Rattle.std_collections.specs.Map.{keys_of, lookup}
@@ -8,20 +9,16 @@ use Rattle.std_collections.specs.HashMap.Eq.{get_from_hash_map_eq}
 use Rattle.std_collections.proofs.HashMapEq.{key_at, own_value, equal_by_keys}
 use Rattle.starlark_hash.specs.declared.hashed.Hashed.{Hashed}
 use Rattle.starlark_hash.specs.Entries.{Entry, IsSingle, value_at, match_of}
+use Rattle.starlark_small.specs.Along.{an-item}
 use Rattle.starlark_small.specs.Compare.{agree_at, same_entries}
 use Rattle.starlark_small.specs.CompareLaws.{alike, alike-laws, value_at-lookup, as_map, as_maps, both}
 
--- what cannot be true is false
-refuted : (b : Bool) → (b ≡ true → ⊥) → false ≡ b
-refuted b f = grind (arith, common_steps)
-
 module _ {K V : Type 0} (eq : K → K → Bool) where
   pub distinct : (es : List (Entry K V)) → IsSingle eq es → IsDistinct (alike eq) (keys_of es)
-  unfolding IsDistinct
-  distinct [] single = tt
-  distinct (e ∷ es) single = IsDistinct-from_apart (alike eq) (keys_of (e ∷ es)) (λ i j d before below.
-      let inside : j < length (e ∷ es) = omega (arith, below, length-map (e ∷ es) (λ x. x.0)) in
-      rw (get_or-map (λ x. x.0) (e ∷ es) i e d (omega arith), get_or-map (λ x. x.0) (e ∷ es) j e d inside) (single i j e before inside))
+  distinct es single = IsDistinct-from_apart (alike eq) (keys_of es) (λ i j d before below.
+      let inside : j < length es = omega (arith, below, length-map es (λ x. x.0)) in
+      let e = an-item es j inside in
+      rw (get_or-map (λ x. x.0) es i e d (omega arith), get_or-map (λ x. x.0) es j e d inside) (single i j e before inside))
 
   -- the index of an entry is where its own key is found
   pub own_match : IsEquivalence eq → (es : List (Entry K V)) (i : ℕ) (e : Entry K V) → slice_get es i ≡ Some e → IsSingle eq es → i < length es
@@ -43,8 +40,7 @@ module _ {K V : Type 0} (eq : K → K → Bool) (E : V → V → Bool) where
 
   pub unequal_at : IsEquivalence eq → (ds es : List (Entry K V)) (q : Hashed K) → agree_at eq E ds es q ≡ false → false ≡ same_entries eq E ds es
   unequal_at o ds es q differ =
-      refuted (same_entries eq E ds es)
-      (λ same. false≢true (sym differ ∙ agree-values ds es q ∙ get_from_hash_map_eq (alike eq) E (alike-laws eq o) (as_map ds) (as_map es) (as_maps eq E ds es same) q))
+      sym (false_from_ne_true _ (λ same. false≢true (sym differ ∙ agree-values ds es q ∙ get_from_hash_map_eq (alike eq) E (alike-laws eq o) (as_map ds) (as_map es) (as_maps eq E ds es same) q)))
 
   pub equal_by_keys_of : IsEquivalence eq → (ds es : List (Entry K V)) → IsSingle eq ds → IsSingle eq es → length ds ≡ length es
       → ((k : ℕ) → k < length ds → (d : Hashed K) → agree_at eq E ds es (get_or (keys_of ds) k d) ≡ true) → true ≡ same_entries eq E ds es

@@ -1,7 +1,9 @@
 -- Why `same_entries` is symmetric and transitive where the equality of values is, and an equivalence where that is one.
-use Rattle.std.proofs.Common.{◌≡◌, ℕ, suc, Bool, true, false, cond, ◌&&◌, List, [], ◌∷◌, length, Option, Some, None, refl, sym, ap, subst, ◌∙◌, nat_eq}
+use Rattle.std.proofs.Common.{◌≡◌, Bool, true, ◌&&◌, List, [], ◌∷◌, length, refl, sym, subst, ◌∙◌, arith, nat_eq}
+use Rattle.std.proofs.lemmas.Grind.{common_steps}
+use Rattle.std.proofs.lemmas.List.Folds.{list_all-map}
 use Rattle.std.specs.List.{list_all}
-use Rattle.std.specs.Option.{option_eq, option_map}
+use Rattle.std.specs.Option.{option_eq}
 use Rattle.core.specs.Cmp.{IsEquivalence, IsPartialEquivalence, equiv, partial_equiv_from_equiv, nat_eq_equiv, and_equiv, and_per, back_equiv, on_equiv, on_per, first_so, second_so}
 use Rattle.std_collections.specs.Layout.HashMap.{HashMap, hash_map}
 use Rattle.std_collections.specs.Map.{keys_of, lookup, lookup_entry}
@@ -9,7 +11,7 @@ use Rattle.std_collections.specs.HashMap.{entries_eq, hash_map_eq}
 use Rattle.std_collections.specs.HashMap.Eq.{hash_map_eq_symm, hash_map_eq_trans, hash_map_eq_refl}
 use Rattle.starlark_hash.specs.declared.hashed.Hashed.{Hashed}
 use Rattle.starlark_hash.specs.HashValue.{hash_number, hash_of, key_of}
-use Rattle.starlark_hash.specs.Entries.{Entry, entry_at, value_at, match_of, stands_under}
+use Rattle.starlark_hash.specs.Entries.{Entry, entry_at, value_at, match_of}
 use Rattle.starlark_hash.proofs.PositionLemmas.{position-cons}
 use Rattle.starlark_small.specs.Compare.{agree_at, same_entries}
 use Rattle.starlark_small.specs.Map.{Map}
@@ -23,41 +25,14 @@ module _ {K : Type 0} (eq : K → K → Bool) where
   alike-laws o = and_equiv (back_equiv (on_equiv (λ h. hash_number (hash_of h)) nat_eq_equiv)) (on_equiv key_of o)
 
 module _ {K V : Type 0} (eq : K → K → Bool) where
-  entry_later : (e : Entry K V) (es : List (Entry K V)) (index : Option ℕ) → entry_at (e ∷ es) (option_map suc index) ≡ entry_at es index
-  entry_later e es None = refl
-  entry_later e es (Some i) = refl
-
   -- what a look-up finds, by recursion
   entry_at-lookup : (es : List (Entry K V)) (q : Hashed K) → entry_at es (match_of eq es q) ≡ lookup_entry (alike eq q) es
   entry_at-lookup [] q = refl
-  entry_at-lookup (e ∷ es) q =
-      let later = match_of eq es q in
-      ap (entry_at (e ∷ es)) (position-cons (stands_under (hash_of q) (eq (key_of q))) e es)
-      ∙ elim (alike eq q e.0) as (λ b. entry_at (e ∷ es) (cond b (Some 0) (option_map suc later)) ≡ cond b (Some e) (lookup_entry (alike eq q) es)) [
-        | true ↦ refl
-        | false ↦ entry_later e es later ∙ entry_at-lookup es q
-      ]
-
-  cond_value : (b : Bool) (e : Entry K V) (rest : Option (Entry K V)) → option_map (λ x. x.1) (cond b (Some e) rest) ≡ cond b (Some e.1) (option_map (λ x. x.1) rest)
-  cond_value true e rest = refl
-  cond_value false e rest = refl
-
-  lookup-value : (es : List (Entry K V)) (test : Hashed K → Bool) → option_map (λ x. x.1) (lookup_entry test es) ≡ lookup test es
-  lookup-value [] test = refl
-  lookup-value (e ∷ es) test = cond_value (test e.0) e (lookup_entry test es) ∙ ap (cond (test e.0) (Some e.1)) (lookup-value es test)
+  entry_at-lookup (e ∷ es) q = grind (arith, common_steps, position-cons, entry_at-lookup es q)
 
   pub value_at-lookup : (es : List (Entry K V)) (q : Hashed K) → value_at es (match_of eq es q) ≡ lookup (alike eq q) es
-  value_at-lookup es q = ap (option_map (λ x. x.1)) (entry_at-lookup es q) ∙ lookup-value es (alike eq q)
-
-each_key : {K V : Type 0} (t u : Hashed K → Bool) → ((q : Hashed K) → t q ≡ u q) → (es : List (Entry K V)) → list_all (λ e. t e.0) es ≡ list_all u (keys_of es)
-each_key t u same [] = refl
-each_key t u same (e ∷ es) = λ i. same e.0 i && each_key t u same es i
-
-option_eq-values : {X V : Type 0} (E : V → V → Bool) (f : X → V) (p q : Option X) → option_eq E (option_map f p) (option_map f q) ≡ option_eq (λ x y. E (f x) (f y)) p q
-option_eq-values E f None None = refl
-option_eq-values E f None (Some y) = refl
-option_eq-values E f (Some x) None = refl
-option_eq-values E f (Some x) (Some y) = refl
+  value_at-lookup [] q = refl
+  value_at-lookup (e ∷ es) q = grind (arith, common_steps, position-cons, value_at-lookup es q)
 
 -- the list as a map under keys with their hashes
 abbrev pub as_map : {K V : Type 0} → List (Entry K V) → HashMap (Hashed K) V (Unit {0})
@@ -65,16 +40,15 @@ as_map es = hash_map es tt 0
 
 module _ {K V : Type 0} (eq : K → K → Bool) (E : V → V → Bool) where
   agree-entries : (ds es : List (Entry K V)) (q : Hashed K) → agree_at eq E ds es q ≡ option_eq (λ d e. E d.1 e.1) (lookup_entry (alike eq q) ds) (lookup_entry (alike eq q) es)
-  agree-entries ds es q =
-      option_eq-values E (λ x. x.1) (entry_at ds (match_of eq ds q)) (entry_at es (match_of eq es q))
-      ∙ (λ i. option_eq (λ d e. E d.1 e.1) (entry_at-lookup eq ds q i) (entry_at-lookup eq es q i))
+  agree-entries ds es q = grind (arith, common_steps, entry_at-lookup eq ds q, entry_at-lookup eq es q)
 
   -- as the standard's word for maps
-  same_entries-maps : (ds es : List (Entry K V)) → same_entries eq E ds es ≡ (nat_eq (length ds) (length es) && hash_map_eq (alike eq) E (as_map ds) (as_map es))
+  pub same_entries-maps : (ds es : List (Entry K V)) → same_entries eq E ds es ≡ (nat_eq (length ds) (length es) && hash_map_eq (alike eq) E (as_map ds) (as_map es))
   unfolding entries_eq
   same_entries-maps ds es =
       let agree : Hashed K → Bool = λ q. option_eq (λ d e. E d.1 e.1) (lookup_entry (alike eq q) ds) (lookup_entry (alike eq q) es) in
-      λ i. nat_eq (length ds) (length es) && (each_key (agree_at eq E ds es) agree (agree-entries ds es) ds i && each_key (agree_at eq E ds es) agree (agree-entries ds es) es i)
+      let each : (xs : List (Entry K V)) → list_all (λ x. agree_at eq E ds es x.0) xs ≡ list_all agree (keys_of xs) = λ xs. (λ i. list_all (λ x. agree-entries ds es x.0 i) xs) ∙ sym (list_all-map agree (λ x. x.0) xs) in
+      λ i. nat_eq (length ds) (length es) && (each ds i && each es i)
 
   -- lists with the same entries are equal as finite maps
   pub as_maps : (ds es : List (Entry K V)) → same_entries eq E ds es ≡ true → hash_map_eq (alike eq) E (as_map ds) (as_map es) ≡ true

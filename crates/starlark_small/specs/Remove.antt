@@ -6,7 +6,7 @@ use Rattle.starlark_hash.specs.declared.hash_value.StarlarkHashValue.{StarlarkHa
 use Rattle.starlark_hash.specs.Entries.{pair_of, position_of, without}
 use Rattle.starlark_hash.specs.Lookup.{found, Writes}
 use Rattle.starlark_small.specs.Map.{Map, KeepsMemory}
-use Rattle.starlark_small.specs.Lookup.{keys, get, Updates, AreOwn, IsEmpty}
+use Rattle.starlark_small.specs.Lookup.{get, Updates, AreOwn, IsEmpty}
 
 module _ {K V : Type 0} (eq : K → K → Bool) where
   -- what a test under a hash names was taken out from its index, if it was there

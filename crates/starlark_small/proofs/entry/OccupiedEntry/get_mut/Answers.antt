@@ -1,7 +1,6 @@
 use Rattle.starlark_hash.proofs.Common.{refl}
 use Rattle.starlark_small.specs.MapEntry.{still_within}
-use Rattle.starlark_small.proofs.CallerEntry.{puts-written}
-use Rattle.starlark_small.proofs.EntryWritten.{occupied_written}
+use Rattle.starlark_small.proofs.CallerEntry.{puts-written, occupied_written}
 use Rattle.starlark_small.proofs.entry.OccupiedEntry.get_mut.Goals as goal
 
 pub invariant_of-self-lent : goal.invariant_of-self-lent

@@ -1,13 +1,12 @@
-use Rattle.starlark_hash.proofs.Common.{ap, refl, ◌∙◌, rules, arith, common_steps, nat_lt}
+use Rattle.starlark_hash.proofs.Common.{sym, length_all_zip, ap, refl, ◌∙◌, rules, arith, common_steps, nat_lt}
 use Rattle.starlark_small.specs.Index.{unindexed}
-use Rattle.starlark_small.proofs.Cloned.{IsSingle-clones, length-clones}
-use Rattle.starlark_small.proofs.CallerCollect.{found-clones}
+use Rattle.starlark_small.proofs.CallerCollect.{IsSingle-clones, found-clones}
 use Rattle.starlark_small.proofs.CallerOwn.{own-clones}
 use Rattle.starlark_small.proofs.small_map.SmallMap.clone.Goals as goal
 
 pub invariant_of-result : goal.invariant_of-result
 invariant_of-result g c = record {
-  single = IsSingle-clones g.K.PartialEq.eq g.K.Clone.is_clone g.V.Clone.is_clone g.met.K.Eq.laws c.requires c.self.inside.entries.entries c.in_ok-entries.entries.entries
+  single = IsSingle-clones g.K.PartialEq.eq g.met.K.Eq.laws g.K.Clone.is_clone g.V.Clone.is_clone c.requires c.self.inside.entries.entries c.in_ok-entries.entries.entries
       c.in_ok-entries.ensures.entries c.self.invariant.single;
   indexed = c.in_ok-index.ensures.indexed;
 }
@@ -24,7 +23,7 @@ returns g c =
         found = found-clones g.K.PartialEq.eq g.met.K.Eq.laws g.K.Clone.is_clone g.V.Clone.is_clone c.requires es fs clones;
         own = λ feeds alike. own-clones feeds g.K.Clone.is_clone g.V.Clone.is_clone (λ x y is. alike x y (c.requires x y is)) es fs clones;
         capacity = search rules;
-        indexed = c.in_ok-index.ensures.long ∙ ap (nat_lt unindexed) (length-clones g.K.PartialEq.eq g.K.Clone.is_clone g.V.Clone.is_clone es fs clones);
+        indexed = c.in_ok-index.ensures.long ∙ ap (nat_lt unindexed) (sym (length_all_zip _ es fs clones));
       };
       succeeds = λ _. refl;
     })

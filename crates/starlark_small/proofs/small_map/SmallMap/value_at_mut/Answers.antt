@@ -1,6 +1,5 @@
 use Rattle.starlark_hash.proofs.Common.{slice_get, Some, refl, sym, ap, ◌∙◌, option_map}
 use Rattle.starlark_hash.specs.Entries.{entry_value, set_value_at, value_at}
-use Rattle.starlark_vecmap.specs.EntryList.{with_entries}
 use Rattle.starlark_small.specs.Map.{Map}
 use Rattle.starlark_small.proofs.Rooms.{IsSound-set_value_at, map_of-set_value_at}
 use Rattle.starlark_small.proofs.small_map.SmallMap.value_at_mut.Goals as goal
@@ -14,8 +13,7 @@ returns g c =
     let i = c.args.index in (
       (
         refl {a = c.get_unchecked_mut-value.result.1.ghost_name},
-        λ w. map_of-set_value_at list (with_entries list (set_value_at list.entries i w)) i w c.self.inside.index (refl {a = with_entries list (set_value_at list.entries i w)})
-            ∙ ap (λ (m : Map g.row.K.Denot g.row.V.Denot). record m { entries = set_value_at m.entries i w }) c.self.view_is,
+        λ w. map_of-set_value_at list i w c.self.inside.index ∙ ap (λ (m : Map g.row.K.Denot g.row.V.Denot). record m { entries = set_value_at m.entries i w }) c.self.view_is,
       ),
       record { writes_back = tt; value = ap (λ m. value_at m.entries (Some i)) (sym c.self.view_is) ∙ ap (option_map entry_value) {x = slice_get list.entries i} c.get_unchecked_mut-value.ensures.value },
     )

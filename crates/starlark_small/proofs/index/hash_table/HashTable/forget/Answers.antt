@@ -6,20 +6,17 @@ use Rattle.starlark_small.proofs.index.hash_table.HashTable.forget.Goals as goal
 
 pub lower_above-requires-clause-stands : goal.lower_above-requires-clause-stands
 lower_above-requires-clause-stands c =
-    let cells = c.self.inside.cells.0 in
     let took = c.take_index.ensures in
-    let inside : c.args.index < length cells.items = omega (arith, c.requires, ap (λ h. length h.list) c.self.view_is, length-hashes_in c.self.inside.table.slots cells.items) in
-    stands-but c.self.inside.table cells.items (vec_capacity cells) c.self.invariant c.args.index inside c.take_index.new.table c.take_index.new.cells.0.items took.cells.even took.cells.sited took.taken took.slots took.room
+    let inside : c.args.index < length c.self.inside.cells.0.items = omega (arith, c.requires, ap (λ h. length h.list) c.self.view_is, length-hashes_in c.self.inside.table.slots c.self.inside.cells.0.items) in
+    stands-but _ _ _ c.self.invariant c.args.index inside c.take_index.new.table _ took.cells.even took.cells.sited took.taken took.slots took.room
 
 kept : (c : goal.After-remove) → Keeps (remove (hashes_in c.self.inside.table.slots c.self.inside.cells.0.items) c.args.index) (c.self.inside.table.room + 1) c.lower_above.new.table c.remove.new.self.items (vec_capacity c.remove.new.self)
 kept c =
-    let cells = c.self.inside.cells.0 in
     let took = c.take_index.ensures in
-    let space = vec_capacity c.remove.new.self in
-    let inside : c.args.index < length cells.items = omega (arith, c.requires, ap (λ h. length h.list) c.self.view_is, length-hashes_in c.self.inside.table.slots cells.items) in
-    subst (λ l. Keeps (remove (hashes_in c.self.inside.table.slots cells.items) c.args.index) (c.self.inside.table.room + 1) c.lower_above.new.table l space) (sym c.remove.ensures.items)
-    (keeps-forgotten c.self.inside.table cells.items (vec_capacity cells) c.self.invariant c.args.index inside c.take_index.new.table c.take_index.new.cells.0.items took.cells.even took.cells.sited took.taken took.slots took.room
-    c.lower_above.new.table space c.lower_above.ensures (omega (arith, took.cells.spare, c.remove.ensures.capacity)))
+    let inside : c.args.index < length c.self.inside.cells.0.items = omega (arith, c.requires, ap (λ h. length h.list) c.self.view_is, length-hashes_in c.self.inside.table.slots c.self.inside.cells.0.items) in
+    subst (λ l. Keeps (remove (hashes_in c.self.inside.table.slots c.self.inside.cells.0.items) c.args.index) (c.self.inside.table.room + 1) c.lower_above.new.table l (vec_capacity c.remove.new.self)) (sym c.remove.ensures.items)
+    (keeps-forgotten _ _ _ c.self.invariant c.args.index inside c.take_index.new.table _ took.cells.even took.cells.sited took.taken took.slots took.room
+    c.lower_above.new.table (vec_capacity c.remove.new.self) c.lower_above.ensures (omega (arith, took.cells.spare, c.remove.ensures.capacity)))
 
 pub invariant_of-self : goal.invariant_of-self
 invariant_of-self c = (kept c).keeps

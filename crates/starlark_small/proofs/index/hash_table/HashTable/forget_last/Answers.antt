@@ -7,16 +7,15 @@ use Rattle.starlark_small.proofs.index.hash_table.HashTable.forget_last.Goals as
 
 kept : (c : goal.After-pop) → Keeps (remove (hashes_in c.self.inside.table.slots c.self.inside.cells.0.items) (c.len-last.result - 1)) (c.self.inside.table.room + 1) c.take_index.new.table c.pop.new.self.items (vec_capacity c.pop.new.self)
 kept c =
-    let cells = c.self.inside.cells.0 in
     let took = c.take_index.ensures in
     let after = c.take_index.new.cells.0 in
     let last = c.len-last.result - 1 in
-    let space = vec_capacity c.pop.new.self in
-    let end : last + 1 ≡ length cells.items = omega (arith, c.requires, ap (λ h. length h.list) c.self.view_is, length-hashes_in c.self.inside.table.slots cells.items, c.len-last.ensures, cells.ok.0) in
+    let end : last + 1 ≡ length c.self.inside.cells.0.items =
+    omega (arith, c.requires, ap (λ h. length h.list) c.self.view_is, length-hashes_in c.self.inside.table.slots c.self.inside.cells.0.items, c.len-last.ensures, c.self.inside.cells.0.ok.0) in
     let same : last ≡ vec_len after - 1 = omega (arith, end, took.cells.even, after.ok.0) in
-    subst (λ l. Keeps (remove (hashes_in c.self.inside.table.slots cells.items) last) (c.self.inside.table.room + 1) c.take_index.new.table l space) (ap (λ n. take n after.items) same ∙ sym c.pop.ensures.rest)
-    (keeps-forgotten_last c.self.inside.table cells.items (vec_capacity cells) c.self.invariant last (omega (arith, end)) c.take_index.new.table after.items took.cells.even took.cells.sited took.taken took.slots took.room
-    space end (omega (arith, took.cells.spare, c.pop.ensures.capacity)))
+    subst (λ l. Keeps (remove (hashes_in c.self.inside.table.slots c.self.inside.cells.0.items) last) (c.self.inside.table.room + 1) c.take_index.new.table l (vec_capacity c.pop.new.self)) (ap (λ n. take n after.items) same ∙ sym c.pop.ensures.rest)
+    (keeps-forgotten_last _ _ _ c.self.invariant last (omega (arith, end)) c.take_index.new.table after.items took.cells.even took.cells.sited took.taken took.slots took.room
+    (vec_capacity c.pop.new.self) end (omega (arith, took.cells.spare, c.pop.ensures.capacity)))
 
 pub invariant_of-self : goal.invariant_of-self
 invariant_of-self c = (kept c).keeps

@@ -11,24 +11,18 @@ moved c = rw (c.swap.ensures.x_after, c.swap.ensures.y_after, c.in_ok-old.ensure
 
 pub name_slots-requires-clause-below : goal.name_slots-requires-clause-below
 name_slots-requires-clause-below c =
-    let cells = c.self.inside.cells.0 in
-    subst (λ l. All (λ m. m.1 < length l) (members c.take_members.new.self)) (sym c.in_ok-reserve_exact.ensures.items) (grown-below c.self.inside.table cells.items (vec_capacity cells) c.self.invariant c.take_members.new.self
-    (moved (goal.at.name_slots-requires-clause-below c).After-take_members))
+    subst (λ l. All (λ m. m.1 < length l) (members c.take_members.new.self)) (sym c.in_ok-reserve_exact.ensures.items)
+    (grown-below _ _ _ c.self.invariant c.take_members.new.self (moved (goal.at.name_slots-requires-clause-below c).After-take_members))
 
 pub name_slots-requires-clause-once : goal.name_slots-requires-clause-once
-name_slots-requires-clause-once c =
-    let cells = c.self.inside.cells.0 in
-    grown-once c.self.inside.table cells.items (vec_capacity cells) c.self.invariant c.take_members.new.self (moved (goal.at.name_slots-requires-clause-once c).After-take_members)
+name_slots-requires-clause-once c = grown-once _ _ _ c.self.invariant c.take_members.new.self (moved (goal.at.name_slots-requires-clause-once c).After-take_members)
 
 kept : (c : goal.After-name_slots) → Keeps (hashes_in c.self.inside.table.slots c.self.inside.cells.0.items) c.take_members.new.self.room c.take_members.new.self c.name_slots.new.cells.items (vec_capacity c.name_slots.new.cells)
 kept c =
-    let cells = c.self.inside.cells.0 in
-    let new = c.take_members.new.self in
     let none = ap length c.in_ok-old.ensures.empty in
     let room = c.take_members.ensures.room ∙ ap table_capacity c.swap.ensures.x_after in
     let slots = c.take_members.ensures.slots ∙ ap (λ t. length t.slots) c.swap.ensures.x_after in
-    keeps-grown c.self.inside.table cells.items (vec_capacity cells) c.self.invariant new (moved (goal.at.returns c).After-take_members)
-    c.name_slots.new.cells.items (vec_capacity c.name_slots.new.cells) c.name_slots.ensures.sited (c.name_slots.ensures.even ∙ ap length c.in_ok-reserve_exact.ensures.items)
+    keeps-grown _ _ _ c.self.invariant c.take_members.new.self (moved (goal.at.returns c).After-take_members) _ _ c.name_slots.ensures.sited (c.name_slots.ensures.even ∙ ap length c.in_ok-reserve_exact.ensures.items)
     (omega (arith, room, none, c.name_slots.ensures.spare, c.in_ok-reserve_exact.ensures.ok, c.in_ok-reserve_exact.ensures.len, c.room.ensures, c.len.ensures)) (omega (arith, slots, c.in_ok-old.ensures.slots, c.requires.few))
     (omega (arith, room, none, c.in_ok-old.ensures.most, c.requires.few))
 

@@ -6,10 +6,9 @@ use Rattle.starlark_small.proofs.index.hash_table.HashTable.note.Goals as goal
 
 kept : (c : goal.After-push_reserved) → Keeps (hashes_in c.self.inside.table.slots c.self.inside.cells.0.items ++ hash_under c.args.hash ∷ []) (c.self.inside.table.room - 1) c.insert_reserved-slot.new.self c.push_reserved.new.self.items (vec_capacity c.push_reserved.new.self)
 kept c =
-    let cells = c.self.inside.cells.0 in
     let put = c.insert_reserved-slot in
-    keeps-noted c.self.inside.table cells.items (vec_capacity cells) c.self.invariant put.new.self c.push_reserved.new.self.items (hash_under c.args.hash) c.len-index.result c.insert_reserved-slot.result (vec_capacity c.push_reserved.new.self) c.push_reserved.ensures.items
-    (omega (arith, c.push_reserved.ensures.capacity)) (omega (arith, c.len-index.ensures, cells.ok.0)) put.ensures.within put.ensures.slots put.ensures.added put.ensures.room (omega (arith, c.requires, ap (λ h. h.room) c.self.view_is))
+    keeps-noted _ _ _ c.self.invariant put.new.self _ _ _ put.result _ c.push_reserved.ensures.items (omega (arith, c.push_reserved.ensures.capacity)) (omega (arith, c.len-index.ensures, c.self.inside.cells.0.ok.0))
+    put.ensures.within put.ensures.slots put.ensures.added put.ensures.room (omega (arith, c.requires, ap (λ h. h.room) c.self.view_is))
 
 pub invariant_of-self : goal.invariant_of-self
 invariant_of-self c = (kept c).keeps

@@ -6,28 +6,23 @@ use Rattle.starlark_small.proofs.index.hash_table.HashTable.rename.Goals as goal
 
 pub rename_each-requires : goal.rename_each-requires
 rename_each-requires c =
-    let cells = c.self.inside.cells.0 in
     let moves = subst (λ h. Moves h.list c.args.to.now c.requires.0) (sym c.self.view_is) c.requires.1 in
-    subst (λ n. All (λ m. m.1 < n) (members c.self.inside.table)) (sym (moved-to c.self.inside.table cells.items (vec_capacity cells) c.self.invariant c.args.to.now c.requires.0 moves))
-    (indices-below c.self.inside.table cells.items (vec_capacity cells) c.self.invariant)
+    subst (λ n. All (λ m. m.1 < n) (members c.self.inside.table)) (sym (moved-to _ _ _ c.self.invariant c.args.to.now c.requires.0 moves)) (indices-below _ _ _ c.self.invariant)
 
 pub name_slots-requires : goal.name_slots-requires
 name_slots-requires c =
-    let cells = c.self.inside.cells.0 in
     let moves = subst (λ h. Moves h.list c.args.to.now c.requires.0) (sym c.self.view_is) c.requires.1 in
     record {
-      below = moved-below c.self.inside.table cells.items (vec_capacity cells) c.self.invariant c.args.to.now c.requires.0 moves c.rename_each.new.table c.rename_each.ensures;
-      once = moved-once c.self.inside.table cells.items (vec_capacity cells) c.self.invariant c.args.to.now c.requires.0 moves c.rename_each.new.table c.rename_each.ensures;
+      below = moved-below _ _ _ c.self.invariant c.args.to.now c.requires.0 moves c.rename_each.new.table c.rename_each.ensures;
+      once = moved-once _ _ _ c.self.invariant c.args.to.now c.requires.0 moves c.rename_each.new.table c.rename_each.ensures;
       few = grind (arith, common_steps);
     }
 
 kept : (c : goal.After-name_slots) (list : List ℕ) → Moves c.args.self.now.list c.args.to.now list → Keeps list c.self.inside.table.room c.rename_each.new.table c.name_slots.new.cells.items (vec_capacity c.name_slots.new.cells)
 kept c list moved =
-    let cells = c.self.inside.cells.0 in
-    let moves = subst (λ h. Moves h.list c.args.to.now list) (sym c.self.view_is) moved in
     let named = c.name_slots.ensures in
-    keeps-moved c.self.inside.table cells.items (vec_capacity cells) c.self.invariant c.args.to.now list moves c.rename_each.new.table c.rename_each.ensures c.name_slots.new.cells.items (vec_capacity c.name_slots.new.cells)
-    named.sited named.even (omega (arith, named.spare))
+    keeps-moved _ _ _ c.self.invariant c.args.to.now list (subst (λ h. Moves h.list c.args.to.now list) (sym c.self.view_is) moved) c.rename_each.new.table c.rename_each.ensures
+    _ _ named.sited named.even (omega (arith, named.spare))
 
 pub invariant_of-self : goal.invariant_of-self
 invariant_of-self c = (kept c _ c.requires.1).keeps

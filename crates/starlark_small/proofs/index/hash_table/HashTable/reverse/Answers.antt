@@ -7,16 +7,14 @@ use Rattle.starlark_small.proofs.index.hash_table.HashTable.reverse.Goals as goa
 
 pub reverse_each-requires-clause-within : goal.reverse_each-requires-clause-within
 reverse_each-requires-clause-within c =
-    let cells = c.self.inside.cells.0 in
-    let len : length cells.items ≡ c.len.result = omega (arith, c.len.ensures, cells.ok.0) in
-    subst (λ n. All (λ m. m.1 < n) (members c.self.inside.table)) len (indices-below c.self.inside.table cells.items (vec_capacity cells) c.self.invariant)
+    let len : length c.self.inside.cells.0.items ≡ c.len.result = omega (arith, c.len.ensures, c.self.inside.cells.0.ok.0) in
+    subst (λ n. All (λ m. m.1 < n) (members c.self.inside.table)) len (indices-below _ _ _ c.self.invariant)
 
 kept : (c : goal.After-reverse) → Keeps (reverse (hashes_in c.self.inside.table.slots c.self.inside.cells.0.items)) c.self.inside.table.room c.reverse_each.new.table c.reverse.new.self.items (vec_capacity c.reverse.new.self)
 kept c =
-    let cells = c.self.inside.cells.0 in
-    let len : c.len.result ≡ length cells.items = omega (arith, c.len.ensures, cells.ok.0) in
-    subst (λ l. Keeps (reverse (hashes_in c.self.inside.table.slots cells.items)) c.self.inside.table.room c.reverse_each.new.table l (vec_capacity c.reverse.new.self)) (sym c.reverse.ensures.items)
-    (keeps-reversed c.self.inside.table cells.items (vec_capacity cells) c.self.invariant c.len.result c.reverse_each.new.table (vec_capacity c.reverse.new.self) len c.reverse_each.ensures (omega (arith, c.reverse.ensures.capacity)))
+    subst (λ l. Keeps (reverse (hashes_in c.self.inside.table.slots c.self.inside.cells.0.items)) c.self.inside.table.room c.reverse_each.new.table l (vec_capacity c.reverse.new.self)) (sym c.reverse.ensures.items)
+    (keeps-reversed _ _ _ c.self.invariant c.len.result c.reverse_each.new.table (vec_capacity c.reverse.new.self) (omega (arith, c.len.ensures, c.self.inside.cells.0.ok.0))
+    c.reverse_each.ensures (omega (arith, c.reverse.ensures.capacity)))
 
 pub invariant_of-self : goal.invariant_of-self
 invariant_of-self c = (kept c).keeps
