@@ -1,5 +1,5 @@
 -- A pair that was put in, once its value was written.
-use Rattle.starlark_hash.proofs.Common.{◌≡◌, ℕ, Bool, cond, List, [], ◌∷◌, length, map, Some, None, refl, arith, IsPermutation, Result, Ok, Err, IfOk, MutBor, IsEquivalence, lookup, length-map, IsPermutation-map, sum_by-IsPermutation, common_steps, count_by, map-append}
+use Rattle.starlark_hash.proofs.Common.{◌≡◌, ℕ, Bool, cond, List, [], ◌∷◌, map, Some, None, refl, arith, IsPermutation, Result, Ok, Err, IfOk, MutBor, IsEquivalence, lookup, length-map, length_permutation, IsPermutation-map, sum_by-IsPermutation, common_steps, count_by, map-append}
 use Rattle.starlark_hash.specs.declared.no_room.NoRoom.{NoRoom}
 use Rattle.starlark_table.specs.Table.{Table, item_in, members, table_len}
 use Rattle.starlark_table.proofs.TableLemmas.{grows-alike}
@@ -27,19 +27,17 @@ module _ {K V : Type 0} (eq : K → K → Bool) (laws : IsEquivalence eq) (old :
       let sums = sum_by-IsPermutation (λ (p : K × V). cond (eq key p.0) 1 0) ((key, value) ∷ pairs_of old) new moves in
       let first = unchanged (eq key) w before (grind (arith, common_steps, sums, none, was, laws.refl key)) in
       let last = unchanged (eq key) w after (grind (arith, common_steps, sums, none, was, laws.refl key)) in
-      let made : map (rewritten (eq key) w) new ≡ now = rw (was, is, map-append, laws.refl key, first, last) in
-      rw (laws.refl key, unchanged (eq key) w (pairs_of old) none, made) at (IsPermutation-map (rewritten (eq key) w) ((key, value) ∷ pairs_of old) new moves)
-
-  same_length : (x y : K × V) (was now : List (K × V)) → IsInPlace x y was now → length now ≡ length was
-  same_length x y was now (before, after, is, is') = grind (arith, common_steps, is, is')
+      let made = IsPermutation-map (rewritten (eq key) w) ((key, value) ∷ pairs_of old) new moves in
+      grind (arith, made, was, is, map-append, laws.refl key, first, last, unchanged (eq key) w (pairs_of old) none)
 
   -- whatever is left in its place
   added_written : (new : Table (K × V)) (slot : ℕ) (w : V) → item_in new slot ≡ Some (key, value) → IsAdded old key value new → IsAdded old key w (with_value new slot w)
   added_written new slot w there added =
-      let place = rw there at (value_in_place new slot w) in
-      let same = same_length (key, value) (key, w) (pairs_of new) (pairs_of (with_value new slot w)) place in
-      let long : table_len (with_value new slot w) ≡ table_len new = omega (arith, same, length-map (members (with_value new slot w)) (λ m. m.1), length-map (members new) (λ m. m.1)) in
-      record { pairs = rewritten_pairs w (pairs_of new) (pairs_of (with_value new slot w)) added.pairs place; room = grows-alike old new (with_value new slot w) long refl added.room }
+      let now = with_value new slot w in
+      let pairs = rewritten_pairs w (pairs_of new) (pairs_of now) added.pairs (rw there at (value_in_place new slot w)) in
+      let longer = length_permutation ((key, value) ∷ pairs_of old) (pairs_of new) added.pairs in
+      let long : table_len now ≡ table_len new = omega (arith, longer, length_permutation ((key, w) ∷ pairs_of old) (pairs_of now) pairs, length-map (members now) (λ m. m.1), length-map (members new) (λ m. m.1)) in
+      record { pairs = pairs; room = grows-alike old new now long refl added.room }
 
 -- what was added stands in the slot that is answered
 pub puts_pair : {K V B : Type 0} (eq : K → K → Bool) (laws : IsEquivalence eq) (lent held : MutBor (Table (K × V))) (key : K) (value : V) (back : B) (r : Result ℕ (NoRoom B))

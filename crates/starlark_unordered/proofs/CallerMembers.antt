@@ -1,24 +1,16 @@
 -- What holds of all keys, values and pairs of an unordered map, and what is among them, after an insertion, a removal and a write
 -- through a reference. Each takes the record that is the call's clause.
-use Rattle.starlark_hash.proofs.Common.{◌≡◌, Bool, true, IfNone, IfSome, List, [], ◌∷◌, map, Ok, Option, Some, None, is_some, refl, sym, ap, subst, ◌∙◌, arith, All, Contains, keys_of, lookup, set_value, values_of, false≢true, All-contains, All-cons, All-tail, Contains-permutation, IsPermutation-map, cond_both, common_steps}
+use Rattle.starlark_hash.proofs.Common.{◌≡◌, Bool, true, IfNone, IfSome, List, ◌∷◌, map, Ok, Option, Some, None, is_some, sym, ap, subst, ◌∙◌, All, Contains, keys_of, lookup, set_value, values_of, All-contains, All-cons, All-tail, cond_both}
 use Rattle.std.proofs.lemmas.Map.Views.{All-map-IsPermutation, All-values-set_value}
 use Rattle.std.proofs.lemmas.Map.Made.{Contains-values_of}
 use Rattle.starlark_table.specs.Table.{Table}
 use Rattle.starlark_unordered.proofs.Callers.{at_some}
 use Rattle.starlark_unordered.specs.Insert.{Inserts}
+use Rattle.starlark_unordered.specs.Lookup.{found}
 use Rattle.starlark_unordered.specs.Remove.{Removes}
 use Rattle.starlark_unordered.specs.Pairs.{IsWithout, IsWritten, pairs_of, with_pair}
 use Rattle.std.proofs.lemmas.Map.{keys-set_value}
 use Rattle.std.proofs.lemmas.List.Elements.{All-contains_itself}
-
-module _ {K V : Type 0} (test : K → Bool) where
-  found-written : (ps : List (K × V)) (w : V) → is_some (lookup test ps) ≡ true → lookup test (set_value test ps w) ≡ Some w
-  found-written [] w there = absurd (false≢true there)
-  found-written (p ∷ ps) w there = grind (arith, common_steps, found-written ps w)
-
-  -- a value that is written is among the values where the key is there
-  one-written : (ps : List (K × V)) (w : V) → is_some (lookup test ps) ≡ true → Contains (values_of (set_value test ps w)) w
-  one-written ps w there = let r = at_some test (set_value test ps w) w (found-written ps w there) in Contains-values_of (set_value test ps w) r.0 w r.2
 
 -- An insertion puts in one pair more, or the value at a key that stays.
 module _ {K V A B : Type 0} {eq : K → K → Bool} {before after : Table (K × V)} {key : K} {value : V} {back : B} {tells : Option V → A} {was : A} (inserts : Inserts eq before after key value back tells (Ok was)) where
@@ -34,9 +26,8 @@ module _ {K V A B : Type 0} {eq : K → K → Bool} {before after : Table (K × 
       (by-case (λ ps. All P (values_of ps)) (λ there. All-values-set_value (eq key) P (pairs_of before) value all p) (All-cons P value (values_of (pairs_of before)) p all))
 
   pub Contains-values-inserts : Contains (values_of (pairs_of after)) value
-  Contains-values-inserts = Contains-permutation (values_of (with_pair eq key value (pairs_of before))) (values_of (pairs_of after)) value
-      (IsPermutation-map (λ (x : K × V). x.1) (with_pair eq key value (pairs_of before)) (pairs_of after) inserts.pairs)
-      (by-case (λ ps. Contains (values_of ps) value) (one-written (eq key) (pairs_of before) value) (0, omega arith, refl))
+  unfolding found
+  Contains-values-inserts = let r = at_some (eq key) (pairs_of after) value inserts.updates.0 in Contains-values_of (pairs_of after) r.0 value r.2
 
 -- A removal brings nothing new, whatever is read of each pair: its key, its value or both.
 module _ {K V X : Type 0} (f : K × V → X) {eq : K → K → Bool} {test : K → Bool} {old new : Table (K × V)} {result : Option V} (removes : Removes eq test old new result) where

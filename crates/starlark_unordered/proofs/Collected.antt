@@ -1,8 +1,7 @@
 -- Pairs that are put in one after the other.
-use Rattle.starlark_hash.proofs.Common.{◌≡◌, ℕ, ◌+◌, ◌≤◌, Bool, max, length, cond, List, [], ◌∷◌, ◌++◌, Ok, Option, Some, None, refl, sym, subst, ap, ◌∙◌, arith, count_by, is_some, IsPermutation, IsEquivalence, Drains, lookup, set_value, update_all, length-map}
+use Rattle.starlark_hash.proofs.Common.{◌≡◌, ℕ, ◌+◌, ◌≤◌, Bool, max, length, List, [], ◌∷◌, ◌++◌, Ok, Option, None, refl, sym, subst, ap, ◌∙◌, arith, count_by, IsPermutation, IsEquivalence, Drains, lookup, set_value, update_all, length-map, common_steps}
 use Rattle.std.proofs.iter.SoFar.{exit_by}
 use Rattle.std.specs.Iterator.Runs.{WholeRun}
-use Rattle.std.proofs.lemmas.Map.{keys-set_value}
 use Rattle.starlark_table.specs.Growth.{most_for}
 use Rattle.starlark_table.specs.Table.{Table, members, table_len, GrowsAsNeeded}
 use Rattle.starlark_table.proofs.TableLemmas.{grows-on}
@@ -11,7 +10,7 @@ use Rattle.starlark_unordered.specs.Lookup.{found}
 use Rattle.starlark_unordered.specs.Collect.{InsertsAll}
 use Rattle.starlark_unordered.specs.Pairs.{pairs_of, with_pair, HasDistinctKeys}
 use Rattle.starlark_unordered.proofs.Callers.{lookup-inserted}
-use Rattle.starlark_unordered.proofs.Lists.{count-map, distinct-cons}
+use Rattle.starlark_unordered.proofs.Lists.{distinct-cons}
 use Rattle.starlark_unordered.proofs.Refilled.{distinct-permutation}
 
 -- one pair more was put in
@@ -27,18 +26,21 @@ takes_more eq ps p old mid new back was (all, grows) inserts =
     let longer : table_len mid ≤ table_len new = grind (arith, inserts.count, length-map (members new) (λ m. m.1), length-map (members mid) (λ m. m.1)) in
     (inserts_more eq ps p (pairs_of old) (pairs_of mid) (pairs_of new) all inserts.pairs, grows-on old mid new longer grows inserts.room)
 
+-- a value that is written moves no key
+count-set_value : {K V : Type 0} (t u : K → Bool) (w : V) (ps : List (K × V)) → count_by (λ p. t p.0) (set_value u ps w) ≡ count_by (λ p. t p.0) ps
+count-set_value t u w [] = refl
+count-set_value t u w (p ∷ ps) = grind (arith, common_steps, count-set_value t u w ps)
+
 module _ {K V : Type 0} (eq : K → K → Bool) (laws : IsEquivalence eq) where
   -- no two keys are alike once a pair was put in
-  put_step : (key : K) (value : V) (ps : List (K × V)) (o : Option V) → lookup (eq key) ps ≡ o → HasDistinctKeys eq ps → HasDistinctKeys eq (cond (is_some o) (set_value (eq key) ps value) ((key, value) ∷ ps))
-  put_step key value ps None lacks distinct k = distinct-cons eq laws key value ps lacks distinct k
-  put_step key value ps (Some v) there distinct k =
-      omega (arith, count-map (eq k) (λ (p : K × V). p.0) (set_value (eq key) ps value), count-map (eq k) (λ (p : K × V). p.0) ps, ap (count_by (eq k)) (keys-set_value (eq key) ps value), distinct k)
+  distinct-put : (key : K) (value : V) (ps : List (K × V)) → HasDistinctKeys eq ps → HasDistinctKeys eq (with_pair eq key value ps)
+  distinct-put key value ps distinct k = grind (arith, common_steps, distinct k, count-set_value (eq k) (eq key) value ps, distinct-cons eq laws key value ps)
 
   -- each key has the last of its values, or what it had
   found-inserted : (ps old new : List (K × V)) → HasDistinctKeys eq old → InsertsAll eq old ps new → (q : K) → lookup (eq q) new ≡ update_all eq (λ k. lookup (eq k) old) ps q
   found-inserted [] old new distinct is q = ap (lookup (eq q)) is
   found-inserted (p ∷ ps) old new distinct (next, moves, rest) q =
-      let apart = distinct-permutation eq (with_pair eq p.0 p.1 old) next moves (put_step p.0 p.1 old (lookup (eq p.0) old) refl distinct) in
+      let apart = distinct-permutation eq (with_pair eq p.0 p.1 old) next moves (distinct-put p.0 p.1 old distinct) in
       found-inserted ps next new apart rest q ∙ (λ i. update_all eq (λ k. lookup-inserted eq laws p.0 p.1 old next moves apart k i) ps q)
 
   -- and of no pairs the last of its values

@@ -1,6 +1,5 @@
 -- A search of the items of a hash, as a search of their keys.
-use Rattle.starlark_hash.proofs.Common.{◌≡◌, ℕ, suc, ◌+◌, ◌<◌, ◌^◌, Bool, true, false, nat_eq, List, [], ◌∷◌, ◌++◌, map, Option, Some, None, refl, ap, sym, subst, arith, IsPermutation, Bor, Mut, CalledAt, TakesAt, All, Contains, enumerate_from, HashWrites, All-tail, IsPermutation-map, IsPermutation-sym, Contains-permutation, none-some, same_Some, IfSome, map-append, nat_tests, All-head}
-use Rattle.std.specs.List.{filter}
+use Rattle.starlark_hash.proofs.Common.{◌≡◌, ℕ, suc, ◌+◌, ◌<◌, ◌^◌, Bool, true, false, nat_eq, List, [], ◌∷◌, ◌++◌, map, Option, Some, None, refl, ap, sym, subst, arith, Bor, Mut, CalledAt, TakesAt, All, Contains, enumerate_from, HashWrites, All-tail, IsPermutation-map, IsPermutation-sym, Contains-permutation, none-some, same_Some, IfSome, map-append, nat_tests, All-head, filter, is_some}
 use Rattle.starlark_hash.specs.Hasher.{own_hash}
 use Rattle.starlark_hash.specs.HashValue.{hash_number, promoted}
 use Rattle.starlark_hash.specs.declared.hash_value.StarlarkHashValue.{StarlarkHashValue}
@@ -8,7 +7,6 @@ use Rattle.starlark_hash.proofs.Promote.{promoted-injective}
 use Rattle.starlark_unordered.specs.Pairs.{has_own_hash, keys_from, keys_under}
 use Rattle.starlark_unordered.specs.Sound.{IsKeyed, keyed, home_of}
 use Rattle.starlark_hash.specs.Search.{Asks, Searches, Refuses, CanSearch}
-use Rattle.std.specs.Option.{is_some}
 use Rattle.starlark_table.specs.Table.{Table, members, filled, holders, items_under, item_in}
 use Rattle.starlark_table.proofs.TableLemmas.{member_at-items_under}
 
@@ -18,16 +16,13 @@ named_keys ps = map (λ s. (s.0, s.1.0)) ps
 
 -- where each key stands under its own hash, the keys of a hash are those that have it
 module _ {K : Type 0} (feeds : K → HashWrites) (hash : StarlarkHashValue) (fits : hash_number hash < 2 ^ 32) where
-  abbrev home : ℕ
-  home = promoted (hash_number hash)
-
   -- two own hashes are promoted alike only where they are the same
-  pub same_test : (key : K) (h : ℕ) → h ≡ home_of feeds key → nat_eq h home ≡ has_own_hash feeds hash key
+  pub same_test : (key : K) (h : ℕ) → h ≡ home_of feeds key → nat_eq h (promoted (hash_number hash)) ≡ has_own_hash feeds hash key
   same_test key h own = grind (arith, nat_tests, own, promoted-injective (hash_number (own_hash feeds key)) (hash_number hash) (omega arith) fits)
 
 module _ {K V : Type 0} (feeds : K → HashWrites) (hash : StarlarkHashValue) (fits : hash_number hash < 2 ^ 32) where
   named-holders : (n : ℕ) (slots : List (Option (ℕ × (K × V)))) → All (λ p. p.0 ≡ home_of feeds p.1) (keyed (filled slots))
-      → named_keys (holders (home feeds hash fits) (enumerate_from n slots)) ≡ filter (λ s. has_own_hash feeds hash s.1) (keys_from n slots)
+      → named_keys (holders (promoted (hash_number hash)) (enumerate_from n slots)) ≡ filter (λ s. has_own_hash feeds hash s.1) (keys_from n slots)
   named-holders n [] own = refl
   named-holders n (None ∷ slots) own = named-holders (n + 1) slots own
   named-holders n (Some (h, p) ∷ slots) own =
@@ -35,7 +30,7 @@ module _ {K V : Type 0} (feeds : K → HashWrites) (hash : StarlarkHashValue) (f
       let later = named-holders (n + 1) slots (All-tail (λ p. p.0 ≡ home_of feeds p.1) (h, p.0) (keyed (filled slots)) own) in
       grind (arith, same, later)
 
-  pub named-items_under : (eq : K → K → Bool) (m : Table (K × V)) → IsKeyed eq feeds (keyed (members m)) → named_keys (items_under (home feeds hash fits) m) ≡ keys_under feeds hash m
+  pub named-items_under : (eq : K → K → Bool) (m : Table (K × V)) → IsKeyed eq feeds (keyed (members m)) → named_keys (items_under (promoted (hash_number hash)) m) ≡ keys_under feeds hash m
   named-items_under eq m keys = named-holders 0 m.slots keys.own
 
 -- w, asked about a pair, asks g about its key; inner is g's state in w's
@@ -51,18 +46,15 @@ module _ {C F K V : Type 0} (g : Mut F (Bor K × Unit {0}) Bool) (w : Mut C (Bor
   refuses_keys (p ∷ before) s last (t, called, rest) = (inner t, carries s t false p.1 called, refuses_keys before t last rest)
 
   pub searches_keys : (items : List (ℕ × (K × V))) (s last : C) (answer : Option ℕ) → Searches w items s answer last → Searches g (named_keys items) (inner s) answer (inner last)
-  searches_keys items s last answer search = record {
-    order = named_keys search.order;
-    rearranged = IsPermutation-map (λ s. (s.0, s.1.0)) items search.order search.rearranged;
-    asks = asks_keys search.order s last answer search.asks;
-  }
+  searches_keys items s last answer search =
+      let rearranged = IsPermutation-map {X = ℕ × K} (λ s. (s.0, s.1.0)) items search.order search.rearranged in
+      record { order = named_keys search.order; rearranged = rearranged; asks = asks_keys search.order s last answer search.asks }
 
   pub can_search_items : ((s : C) (x : K × V) → TakesAt g (inner s) x.0 → TakesAt w s x) → (items : List (ℕ × (K × V))) (s : C) → CanSearch g (named_keys items) (inner s) → CanSearch w items s
   can_search_items takes items s can = record {
     at = λ before p after later moves refused.
-        takes later p.1 (can.at (named_keys before) (p.0, p.1.0) (named_keys after) (inner later)
-        (subst (IsPermutation (named_keys items)) (map-append (λ s. (s.0, s.1.0)) before (p ∷ after)) (IsPermutation-map (λ s. (s.0, s.1.0)) items (before ++ p ∷ after) moves))
-        (refuses_keys before s later refused));
+        let named = rw map-append at (IsPermutation-map {X = ℕ × K} (λ s. (s.0, s.1.0)) items (before ++ p ∷ after) moves) in
+        takes later p.1 (can.at (named_keys before) (p.0, p.1.0) (named_keys after) (inner later) named (refuses_keys before s later refused));
   }
 
 -- what is said of a key, of an equal one
@@ -73,8 +65,7 @@ module _ {C X : Type 0} (w : Mut C (Bor X × Unit {0}) Bool) where
   asked_about : (order : List (ℕ × X)) (s last : C) (slot : ℕ) → Asks w s order (Some slot) last → (x : X) × Contains order (slot, x)
   asked_about [] s last slot asks = absurd (none-some slot (sym asks.0))
   asked_about (p ∷ order) s last slot (true, t, called, (is, same)) = (p.1, (0, omega arith, ap (λ n. (n, p.1)) (same_Some p.0 slot (sym is))))
-  asked_about (p ∷ order) s last slot (false, t, called, rest) =
-      let later = asked_about order t last slot rest in (later.0, (suc later.1.0, omega (arith, later.1.1), later.1.2))
+  asked_about (p ∷ order) s last slot (false, t, called, rest) = let (x, (k, below, at)) = asked_about order t last slot rest in (x, (suc k, omega arith, at))
 
 -- a slot that is found has a pair
 pub found_there : {C K V : Type 0} (w : Mut C (Bor (K × V) × Unit {0}) Bool) (hash : ℕ) (m : Table (K × V)) (s last : C) (answer : Option ℕ) → Searches w (items_under hash m) s answer last
@@ -82,5 +73,4 @@ pub found_there : {C K V : Type 0} (w : Mut C (Bor (K × V) × Unit {0}) Bool) (
 found_there w hash m s last None search = tt
 found_there w hash m s last (Some slot) search =
     let (x, there) = asked_about w search.order s last slot search.asks in
-    let at = member_at-items_under hash m (slot, x) (Contains-permutation search.order (items_under hash m) (slot, x) (IsPermutation-sym (items_under hash m) search.order search.rearranged) there) in
-    rw at
+    rw (member_at-items_under hash m (slot, x) (Contains-permutation search.order (items_under hash m) (slot, x) (IsPermutation-sym (items_under hash m) search.order search.rearranged) there))

@@ -1,6 +1,6 @@
--- A `&mut` and a `Result` beside it: laws of both, and the pair opened. Assumes `Logic`. It hands on what the proofs over
+-- A `&mut` and a `Result` beside it: laws of both. Assumes `Logic`. It hands on what the proofs over
 -- it cite: `L.RS` there is `RS` here.
-use Rattle.starlark_columns.proofs.Walking.{◌≡◌, refl, ap, ◌∙◌, List, [], ◌∷◌, ◌++◌, Ura, named, Val, of_list, vptr, vstruct, vcons, vnil, SProp, ent, sep, ex, guard, Lft, GName, Logic, sem, ‵, ◌$◌, ◌∵◌, !, qed, move, drop, fsplit, fsplit3, fpick, fpack, feq_l, rewrite, show, check, done, ◌⊑◌, ⊑_meet, RattleType, lives_all, in_all, usize, Is, shows, follows_so, such_by, follows_by, MutBor, MutRef, mut_vals, mut_Tells, Last, left, no, layout, param, blank, Laws, of_field, copy_shared, peeks, only, usize-field, usize-laws, usize-copy, Tuple, tuple_laws, Good, result_laws}
+use Rattle.starlark_columns.proofs.Walking.{refl, [], ◌∷◌, Ura, named, ent, Lft, GName, Logic, sem, ‵, ◌$◌, ◌∵◌, !, qed, fpick, fpack, done, ◌⊑◌, ⊑_meet, RattleType, lives_all, in_all, usize, follows_so, such_by, follows_by, MutRef, Last, left, no, param, blank, Laws, of_field, copy_shared, usize-field, usize-laws, usize-copy, Tuple, tuple_laws, result_laws}
 use mathlib.Core.Option.{Option}
 use lib.Dec.{T}
 use Rattle.core.specs.declared.result.Result.TheVariants.{Ok, Err}
@@ -34,22 +34,6 @@ placed_laws κ R X L LX = tuple_laws (MutRef (named 0) κ R ∷ RS.the_row usize
 pub placed_blank : (κ : Lft) (R X : RattleType) (x : (Placed κ R (param 2 X)).Denot) (f : Last ((Placed κ R (param 2 X)).exit no) x) → T (blank (left ((Placed κ R (param 2 X)).exit no) x f))
 placed_blank κ R X (r, Ok i) f = tt
 placed_blank κ R X (r, Err e) f = tt
-
-abbrev pub pair_val : {D : Type 0} → MutBor D → Val → Val
-pair_val r t = vstruct (vcons (vptr r.ref_ptr.0 r.ref_ptr.1) (vcons t vnil))
-
-module _ {M : Type 1} {𝓤 : Ura M} (𝓛 : Logic 𝓤) (κ : Lft) (R T : RattleType) (L : Laws T) (r : MutBor R.Denot) (p : T.Denot) (v : Val) where
-  abbrev Opened : Val → SProp 𝓤
-  Opened t = guard 𝓤 ((v ≡ pair_val r t) × Good (layout T) t) (sep 𝓤 (sem 𝓛 ((MutRef (named 0) κ R).own_val r (mut_vals r))) (sem 𝓛 (T.own_val p (t ∷ []))))
-
-  pub pair_opened : ent 𝓤 (sem 𝓛 ((Tuple (MutRef (named 0) κ R ∷ T ∷ [])).own_val (r, p) (v ∷ []))) (ex 𝓤 Opened)
-  pair_opened =
-      qed 𝓛 (‵ ((Tuple (MutRef (named 0) κ R ∷ T ∷ [])).own_val (r, p) (v ∷ [])) ∷ []) ∵ fpick ! (λ vss. fsplit ! $ feq_l ! (λ e. fsplit3 ! $ move ! (2 ∷ []) $ drop ! $
-      peeks ! (MutRef (named 0) κ R) (Is (MutRef (named 0) κ R)) (shows 𝓛 (MutRef (named 0) κ R)) r vss.0 (λ i. move ! (1 ∷ []) $
-      peeks ! T (Is T) (shows 𝓛 T) p vss.1.0 (λ j.
-      let f = mut_Tells (named 0) κ R r vss.0 i in let t = lone_value 𝓛 T L p vss.1.0 j in
-      rewrite ! 0 (λ (ws : List Val). ‵ (T.own_val p ws)) t.1 refl $ rewrite ! 1 (λ (ws : List Val). ‵ ((MutRef (named 0) κ R).own_val r ws)) f refl $
-      show ! Opened t.0 $ check ! (ap only e ∙ (λ k. vstruct (of_list (f k ++ (t.1 k ++ [])))), t.2) $ move ! (1 ∷ 0 ∷ []) $ done !))))
 
 -- a relation to what the whole ends as may be made a weaker one
 pub so_weakens : {M : Type 1} {𝓤 : Ura M} (𝓛 : Logic 𝓤) (R T : RattleType) (γ : GName) (n : Option GName) (P Q : T.Denot → R.Denot → Type 0) (P₀ Q₀ : R.Denot → Type 0)

@@ -1,29 +1,19 @@
 -- An entry that was written, and its pair, or a set's element, in the place of the one before.
-use Rattle.starlark_hash.proofs.Common.{arith, ◌≡◌, ℕ, true, Option, Some, None, refl, ap, Bool-set, IfSome, slice_set, option_map, none-some, same_Some}
-use Rattle.std.specs.Option.{is_some}
+use Rattle.starlark_hash.proofs.Common.{arith, ◌≡◌, ℕ, true, Option, Some, None, refl, ap, Bool-set, IfSome, slice_set, option_map, none-some, same_Some, is_some}
 use Rattle.std.specs.declared.cmp.PartialEq as eq
 use Rattle.std.specs.declared.hash.Hash as hash
 use Rattle.starlark_table.specs.Table.{Table, item_in, member_at}
 use Rattle.starlark_unordered.specs.Pairs.{pairs_of, with_value}
-use Rattle.starlark_unordered.specs.RawEntry.{with_raw_value, with_raw_key, with_key, IsInPlace}
+use Rattle.starlark_unordered.specs.RawEntry.{with_raw_key, with_key, IsInPlace}
 use Rattle.starlark_unordered.specs.declared.raw_entry.RawOccupiedEntryMut.{RawOccupiedEntryMut}
 use Rattle.starlark_unordered.specs.declared.unordered_set.raw_entry.RawOccupiedEntryMut as of_set
 use Rattle.starlark_unordered.proofs.Keys.{member_of-item}
 use Rattle.starlark_unordered.proofs.Slots.{apart_at}
-use Rattle.starlark_unordered.specs.MapEntry.{with_entry_value}
-use Rattle.starlark_unordered.specs.declared.entry.OccupiedEntry.{OccupiedEntry}
 use Rattle.starlark_unordered.specs.SetRawEntry.{with_raw_element}
 use Rattle.starlark_unordered.specs.Set.{Set}
 use Rattle.starlark_unordered.specs.Slots.{set_same}
 
-pub occupied_written : {K V : Type 0} {g : eq.Ghosts K} {h : hash.Ghosts K} (o : OccupiedEntry K V g h) (w : V) (p : is_some (item_in (with_value o.map.now o.slot w) o.slot) ≡ true)
-    → record { map = record o.map { now = with_value o.map.now o.slot w }; slot = o.slot; there = p } ≡ with_entry_value o w
-occupied_written o w p = ap (λ q. record (with_entry_value o w) { there = q }) (Bool-set _ _ p (with_entry_value o w).there)
-
 module _ {K V : Type 0} {g : eq.Ghosts K} {h : hash.Ghosts K} (o : RawOccupiedEntryMut K V g h) where
-  pub raw_value_written : (w : V) (p : is_some (item_in (with_value o.map.now o.slot w) o.slot) ≡ true) → record { map = record o.map { now = with_value o.map.now o.slot w }; slot = o.slot; there = p } ≡ with_raw_value o w
-  raw_value_written w p = ap (λ q. record (with_raw_value o w) { there = q }) (Bool-set _ _ p (with_raw_value o w).there)
-
   pub raw_key_put : (key : K) (n : Table (K × V)) → n ≡ with_key o.map.now o.slot key → (p : is_some (item_in n o.slot) ≡ true) → record { map = record o.map { now = n }; slot = o.slot; there = p } ≡ with_raw_key o key
   raw_key_put key n e = rw e (λ p. ap (λ q. record (with_raw_key o key) { there = q }) (Bool-set _ _ p (with_raw_key o key).there))
 
@@ -33,9 +23,8 @@ module _ {K V : Type 0} (m : Table (K × V)) (slot : ℕ) where
       → IfSome found (λ p. IsInPlace p (f p) (pairs_of m) (pairs_of (record m { slots = slice_set m.slots slot (option_map (λ e. (e.0, f e.1)) (member_at m slot)) })))
   in_place f None is = tt
   in_place f (Some q) is =
-      let at = member_of-item (member_at m slot) q is in
-      let a = apart_at (λ (n : ℕ × (K × V)). n.1) m.slots slot (at.0, q) at.1 in
-      (a.before, a.after, a.is, a.written (λ e. (e.0, f e.1)))
+      let (h, at) = member_of-item (member_at m slot) q is in
+      let (before, after, was, written) = apart_at (λ (n : ℕ × (K × V)). n.1) m.slots slot (h, q) at in (before, after, was, written (λ e. (e.0, f e.1)))
 
   pub value_in_place : (w : V) → IfSome (item_in m slot) (λ p. IsInPlace p (p.0, w) (pairs_of m) (pairs_of (with_value m slot w)))
   value_in_place w = in_place (λ p. (p.0, w)) (item_in m slot) refl
@@ -53,7 +42,6 @@ module _ {T : Type 0} {g : eq.Ghosts T} {h : hash.Ghosts T} (o : of_set.RawOccup
   pub raw_element_put : (n : Set T) → n ≡ with_key o.map.now o.slot element → (p : is_some (item_in n o.slot) ≡ true) → record { map = record o.map { now = n }; slot = o.slot; there = p } ≡ with_raw_element o element
   raw_element_put n e = rw e (λ p. ap (λ q. record (with_raw_element o element) { there = q }) (Bool-set _ _ p (with_raw_element o element).there))
 
-module _ {K V : Type 0} (m : Table (K × V)) (slot : ℕ) (key : K) where
-  -- a key that was written is the one in its slot
-  pub key_shown : is_some (item_in m slot) ≡ true → (n : Table (K × V)) → n ≡ with_key m slot key → option_map (λ p. p.0) (item_in n slot) ≡ Some key
-  key_shown there n new = rw new (grind (arith, set_same (option_map (λ e. (e.0, (key, e.1.1)))) refl m.slots slot, there))
+-- a key that was written is the one in its slot
+pub key_shown : {K V : Type 0} (m : Table (K × V)) (slot : ℕ) (key : K) → is_some (item_in m slot) ≡ true → (n : Table (K × V)) → n ≡ with_key m slot key → option_map (λ p. p.0) (item_in n slot) ≡ Some key
+key_shown m slot key there n new = rw new (grind (arith, set_same (option_map (λ e. (e.0, (key, e.1.1)))) refl m.slots slot, there))

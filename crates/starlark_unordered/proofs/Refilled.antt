@@ -4,14 +4,8 @@ use Rattle.starlark_unordered.specs.Pairs.{HasDistinctKeys}
 use Rattle.starlark_unordered.proofs.Lists.{nothing}
 
 module _ {K V : Type 0} where
-  module _ (eq : K → K → Bool) where
-    -- where keys are distinct, what one list has the other lacks
-    pub new_key : IsEquivalence eq → (p : K × V) (rest es : List (K × V)) → HasDistinctKeys eq (p ∷ rest ++ es) → lookup (eq p.0) es ≡ None
-    new_key laws p rest es once =
-        nothing (eq p.0) es (grind (arith, common_steps, laws.refl p.0, once p.0))
-
-    pub distinct-permutation : (ps qs : List (K × V)) → IsPermutation ps qs → HasDistinctKeys eq ps → HasDistinctKeys eq qs
-    distinct-permutation ps qs same once k = omega (arith, sum_by-IsPermutation (λ (p : K × V). cond {A = ℕ} (eq k p.0) 1 0) ps qs same, once k)
+  pub distinct-permutation : (eq : K → K → Bool) (ps qs : List (K × V)) → IsPermutation ps qs → HasDistinctKeys eq ps → HasDistinctKeys eq qs
+  distinct-permutation eq ps qs same once k = omega (arith, sum_by-IsPermutation (λ (p : K × V). cond {A = ℕ} (eq k p.0) 1 0) ps qs same, once k)
 
   -- the first of the one list, put into the other
   pub moves_one : (p : K × V) (rest es later : List (K × V)) → IsPermutation (p ∷ es) later → IsPermutation (p ∷ rest ++ es) (rest ++ later)
@@ -21,13 +15,11 @@ module _ {K V : Type 0} where
       (IsPermutation-append_right rest (p ∷ es) later put)
 
   module _ (eq : K → K → Bool) (laws : IsEquivalence eq) (p : K × V) (rest es later : List (K × V)) (once : HasDistinctKeys eq (p ∷ rest ++ es)) where
-    -- a map of the standard library that lacks the key has one entry more
-    put_new : (old : Option V) → old ≡ lookup (eq p.0) es → MatchOption old (IsPermutation (p ∷ es) later) (λ _. later ≡ set_value (eq p.0) es p.1) → IsPermutation (p ∷ es) later
-    put_new None is put = put
-    put_new (Some v) is put = absurd (none-some v (sym (new_key eq laws p rest es once) ∙ sym is))
-
+    -- a map of the standard library, which lacks the key where keys are distinct, has one entry more
     pub moves_on : (old : Option V) → old ≡ lookup (eq p.0) es → MatchOption old (IsPermutation (p ∷ es) later) (λ _. later ≡ set_value (eq p.0) es p.1)
         → (whole : List (K × V)) → IsPermutation whole (p ∷ rest ++ es) → record { distinct : HasDistinctKeys eq (rest ++ later); same : IsPermutation whole (rest ++ later) }
-    moves_on old is put whole same =
-        let step = moves_one p rest es later (put_new old is put) in
+    moves_on (Some v) is put whole same =
+        let lacks = nothing (eq p.0) es (grind (arith, common_steps, laws.refl p.0, once p.0)) in absurd (none-some v (sym lacks ∙ sym is))
+    moves_on None is put whole same =
+        let step = moves_one p rest es later put in
         record { distinct = distinct-permutation eq (p ∷ rest ++ es) (rest ++ later) step once; same = IsPermutation-trans whole (p ∷ rest ++ es) (rest ++ later) same step }

@@ -1,5 +1,5 @@
 -- The runs of an iterator that is seen as the list of what it has left.
-use Rattle.starlark_hash.proofs.Common.{◌≡◌, List, [], ◌∷◌, map, length, ap, sym, ◌∙◌, Drains, Yields}
+use Rattle.starlark_hash.proofs.Common.{◌≡◌, List, [], ◌∷◌, map, length, ap, sym, ◌∙◌, Drains}
 use Rattle.std.proofs.iter.runs.Sources.{from_front}
 use Rattle.std.specs.Map.Iter.{TakesFirst, ShowsInOrder}
 
@@ -7,10 +7,7 @@ module _ {A X : Type 0} (shows : A → X) where
   pub shows_in_order : ShowsInOrder shows
   shows_in_order = from_front (TakesFirst shows) shows (λ s. s) (λ s t h. ap length h.0) (λ s x t h. h)
 
-  shown : (xs : List A) (s t : List X) → Yields (TakesFirst shows) s xs t → t ≡ [] → map shows xs ≡ s
-  shown [] s t same none = sym (same ∙ none)
-  shown (x ∷ xs) s t (u, step, rest) none = ap (λ l. shows x ∷ l) (shown xs u t rest none) ∙ sym step
-
   -- what it gave until it ended is what it had
   pub drained_shown : (xs : List A) (s : List X) → Drains (TakesFirst shows) s xs → map shows xs ≡ s
-  drained_shown xs s drained = shown xs s drained.1.0 drained.1.1 drained.1.2.0
+  drained_shown [] s (end, (t, same, none)) = sym (same ∙ none.0)
+  drained_shown (x ∷ xs) s (end, (t, (u, step, rest), none)) = ap (λ l. shows x ∷ l) (drained_shown xs u (end, (t, rest, none))) ∙ sym step

@@ -13,25 +13,16 @@ pub use Rattle.starlark_unordered.specs.contracts.unordered_map.UnorderedMap as 
 use Rattle.starlark_unordered.specs.contracts.unordered_map.UnorderedMap.TheInside as I
 use Rattle.starlark_unordered.proofs.unordered_map.UnorderedMap.TheLaws as T
 use Rattle.starlark_unordered.proofs.unordered_map.UnorderedMap.TheInside.TheLaws as IL
-use Rattle.starlark_hash.proofs.Common.{arith, Option, refl, sym, subst, HashWrites, Bool}
+use Rattle.starlark_hash.proofs.Common.{arith, Option, refl}
 use Rattle.starlark_table.specs.Table.{filled}
 use Rattle.starlark_table.specs.Lend.{with_values_of}
-use Rattle.starlark_unordered.specs.Sound.{IsKeyed, keyed}
+use Rattle.starlark_unordered.specs.Sound.{keyed}
 
-module _ {K V : Type 0} where
-  pub keyed-with_values : (xs ws : List (Option (ℕ × (K × V)))) → keyed (filled (with_values_of xs ws)) ≡ keyed (filled xs)
-  keyed-with_values [] ws = refl
-  keyed-with_values (x ∷ xs) [] = grind (arith, keyed-with_values xs [])
-  keyed-with_values (x ∷ xs) (w ∷ ws) = grind (arith, keyed-with_values xs ws)
-
-  pub IsKeyed-with_values : (eq : K → K → Bool) (feeds : K → HashWrites) (xs ws : List (Option (ℕ × (K × V)))) → IsKeyed eq feeds (keyed (filled xs)) → IsKeyed eq feeds (keyed (filled (with_values_of xs ws)))
-  IsKeyed-with_values eq feeds xs ws is = subst (IsKeyed eq feeds) (sym (keyed-with_values xs ws)) is
-
-  -- what a walk wrote, written again
-  pub again-with_values : (xs ws : List (Option (ℕ × (K × V)))) → with_values_of xs (with_values_of xs ws) ≡ with_values_of xs ws
-  again-with_values [] ws = refl
-  again-with_values (x ∷ xs) [] = grind (arith, again-with_values xs [])
-  again-with_values (x ∷ xs) (w ∷ ws) = grind (arith, again-with_values xs ws)
+-- slots whose values a walk wrote keep their hashes and keys, and what it wrote may be written again
+pub written : {K V : Type 0} (xs ws : List (Option (ℕ × (K × V)))) → (keyed (filled (with_values_of xs ws)) ≡ keyed (filled xs)) × (with_values_of xs (with_values_of xs ws) ≡ with_values_of xs ws)
+written [] ws = (refl, refl)
+written (x ∷ xs) [] = grind (arith, written xs [])
+written (x ∷ xs) (w ∷ ws) = grind (arith, written xs ws)
 
 module _ (K V : RattleType) (g : PartialEq.Ghosts K.Denot) (h : Hash.Ghosts K.Denot) where
   abbrev pub W : RattleType

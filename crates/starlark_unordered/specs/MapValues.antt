@@ -1,11 +1,11 @@
 -- What `map_values` asks of its closure, and answers.
-use Rattle.std.specs.Prelude.{◌≡◌, ◌≤◌, ◌+◌, ℕ, Bool, List, [], ◌∷◌, ◌++◌, length, map, Result, IfErr, IfOk, IsOk, IsPermutation}
+use Rattle.std.specs.Prelude.{◌≡◌, ◌≤◌, ◌+◌, ℕ, Bool, List, [], ◌∷◌, ◌++◌, length, Result, IfErr, IfOk, IsOk, IsPermutation}
 use Rattle.std.specs.Fn.{Mut, Takes, Called}
 use Rattle.std.specs.Option.{option_map}
 use Rattle.starlark_table.specs.Growth.{most_for}
 use Rattle.starlark_table.specs.Table.{Table, members, table_capacity, table_len}
 use Rattle.starlark_table.specs.Walk.{CanWalk}
-use Rattle.starlark_unordered.specs.Lookup.{found, get}
+use Rattle.starlark_unordered.specs.Lookup.{get}
 use Rattle.starlark_unordered.specs.Pairs.{pairs_of}
 
 module _ {F V W : Type 0} (g : Mut F (V × Unit {0}) W) {K : Type 0} where

@@ -3,7 +3,7 @@ use Rattle.std.specs.Prelude.{◌≡◌, ◌≤◌, [], ℕ, Result, IfOk, IsOk}
 use Rattle.std.specs.Map.{keys_of}
 use Rattle.starlark_table.specs.Growth.{most_for}
 use Rattle.starlark_table.specs.Table.{Table}
-use Rattle.starlark_unordered.specs.Lookup.{found, IsEmpty}
+use Rattle.starlark_unordered.specs.Lookup.{IsEmpty}
 use Rattle.starlark_unordered.specs.Pairs.{pairs_of}
 
 module _ {K V : Type 0} where

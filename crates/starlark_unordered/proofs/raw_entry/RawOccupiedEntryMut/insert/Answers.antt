@@ -4,11 +4,5 @@ use Rattle.starlark_unordered.proofs.raw_entry.RawOccupiedEntryMut.insert.Goals 
 
 pub returns : goal.returns
 returns g c =
-    let o = c.args.self.now in
-    record {
-      replaces = record {
-        old = first_of (search rules, grind (arith, common_steps));
-        new = first_of (search rules, grind (arith, common_steps));
-        pairs = rw c.replace.ensures.after (value_in_place o.map.now o.slot c.args.value);
-      };
-    }
+    let pairs = value_in_place c.args.self.now.map.now c.args.self.now.slot c.args.value in
+    record { replaces = first_of (search (rules, pairs), grind (arith, common_steps, pairs)) }

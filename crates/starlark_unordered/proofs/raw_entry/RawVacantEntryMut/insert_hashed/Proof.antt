@@ -6,25 +6,21 @@ use Rattle.starlark_hash.specs.Hasher.{own_hash}
 use Rattle.starlark_hash.specs.HashValue.{hash_of, key_of}
 use Rattle.starlark_unordered.specs.Pairs.{pairs_of}
 use Rattle.starlark_unordered.proofs.InsertLent.{Handed, handed_laws, inserts}
-use Rattle.starlark_unordered.specs.contracts.raw_entry.RawVacantEntryMut.insert_hashed.Key.{name as #self}
-use Rattle.starlark_unordered.proofs.raw_entry.RawVacantEntryMut.place_hashed.Symbol.{name as #place}
-use Rattle.starlark_unordered.proofs.raw_entry.RawVacantEntryMut.place_hashed.Met as place
-use Rattle.starlark_unordered.proofs.raw_entry.lend_placed.Symbol.{name as #lend}
-use Rattle.starlark_unordered.proofs.raw_entry.lend_placed.Met as lend
-use Rattle.starlark_unordered.proofs.raw_entry.RawVacantEntryMut.insert_hashed.Statement.{statement}
-use Rattle.starlark_unordered.proofs.raw_entry.RawVacantEntryMut.insert_hashed.Code as code
+use Rattle.starlark_unordered.proofs.raw_entry.RawVacantEntryMut.place_hashed as place
+use Rattle.starlark_unordered.proofs.raw_entry.lend_placed as lend
+use Rattle.starlark_unordered.specs.contracts.raw_entry.RawVacantEntryMut.insert_hashed as contract
+use Rattle.starlark_unordered.proofs.raw_entry.RawVacantEntryMut.insert_hashed as routine
 
--- the type of what is handed back, as a call passes it: without its names
-abbrev nameless : RattleType → RattleType → Ty
-nameless K V = ty_struct [] (tcons (ty_struct [] (tcons (ty_struct [] (tcons (ty_struct [] (tcons (ty_int w32) tnil)) (tcons (layout K) tnil))) (tcons (layout V) tnil))) tnil)
-
-pub insert_hashed_spec : {M : Type 1} → statement M
+pub insert_hashed_spec : {M : Type 1} → routine.Statement.statement M
 insert_hashed_spec 𝓤 𝓛 𝓜 𝓡 wired K V LK LV E dE P dP G dG is_eq is_partial is_hash =
-    let Key : RattleType = H.the_row (param 0 K) in let LKey = hashed_laws.the_row_laws (param 0 K) (param_laws 0 K LK) in let Passed = arg (nameless K V) yes (Handed V Key) in
+    let Key : RattleType = H.the_row (param 0 K) in let LKey = hashed_laws.the_row_laws (param 0 K) (param_laws 0 K LK) in
     let ds = dcons dE (dcons dP (dcons dG dnil)) in let args = bounded (a_type ∷ a_type ∷ []) (K, (V, tt)) ds in
-    inserts K V Key (nameless K V) key_of E dE P dP G dG 𝓛 𝓜 𝓡
+    -- the type of what is handed back, as a call passes it: without its names
+    let hashed : Ty = ty_struct [] (tcons (ty_struct [] (tcons (ty_int w32) tnil)) (tcons (layout K) tnil)) in
+    let nameless : Ty = ty_struct [] (tcons (ty_struct [] (tcons hashed (tcons (layout V) tnil))) tnil) in let Passed = arg nameless yes (Handed V Key) in
+    inserts K V Key nameless key_of E dE P dP G dG 𝓛 𝓜 𝓡
     (λ m key. sep 𝓤 (fact 𝓤 (hash_of key ≡ own_hash G.hash_input (key_of key))) (fact 𝓤 (lookup (P.eq (key_of key)) (pairs_of m) ≡ None)))
-    LK LV LKey (hashed_laws.the_within (param 0 K)) (λ x f. tt) (#place args) (#lend (bounded (a_type ∷ a_type ∷ a_type ∷ []) (K, (V, (Passed, tt))) ds))
-    (place.met 𝓤 𝓛 𝓜 𝓡 (code.calls-starlark_unordered::raw_entry::RawVacantEntryMut::place_hashed 𝓡.env wired) K V LK LV E dE P dP G dG is_eq is_partial is_hash)
-    (lend.met 𝓤 𝓛 𝓜 𝓡 (code.calls-starlark_unordered::raw_entry::lend_placed 𝓡.env wired) K V Passed LK LV (arg_laws (nameless K V) yes (Handed V Key) (handed_laws V Key LV LKey) refl) E dE P dP G dG is_eq is_partial is_hash)
-    (#self args) (code.unfolded 𝓤 𝓛.H 𝓜 𝓡 wired (K, (V, tt)) dE dP dG)
+    LK LV LKey (hashed_laws.the_within (param 0 K)) (λ x f. tt) (place.Symbol.name args) (lend.Symbol.name (bounded (a_type ∷ a_type ∷ a_type ∷ []) (K, (V, (Passed, tt))) ds))
+    (place.Met.met 𝓤 𝓛 𝓜 𝓡 (routine.Code.calls-starlark_unordered::raw_entry::RawVacantEntryMut::place_hashed 𝓡.env wired) K V LK LV E dE P dP G dG is_eq is_partial is_hash)
+    (lend.Met.met 𝓤 𝓛 𝓜 𝓡 (routine.Code.calls-starlark_unordered::raw_entry::lend_placed 𝓡.env wired) K V Passed LK LV (arg_laws nameless yes (Handed V Key) (handed_laws V Key LV LKey) refl) E dE P dP G dG is_eq is_partial is_hash)
+    (contract.Key.name args) (routine.Code.unfolded 𝓤 𝓛.H 𝓜 𝓡 wired (K, (V, tt)) dE dP dG)

@@ -1,20 +1,9 @@
-use Rattle.starlark_hash.proofs.Common.{◌≡◌, ◌∙◌, ap, refl}
-use Rattle.std.proofs.Common.{MutBor}
-use Rattle.starlark_hash.specs.HashValue.{hash_of, hashed, key_of}
-use Rattle.starlark_hash.specs.declared.hash_value.StarlarkHashValue.{StarlarkHashValue}
-use Rattle.starlark_hash.specs.declared.hashed.Hashed.{Hashed}
+use Rattle.starlark_hash.proofs.Common.{◌≡◌, ◌∙◌, refl, MutBor}
+use Rattle.starlark_hash.specs.HashValue.{hashed}
 use Rattle.starlark_table.specs.Table.{Table}
 use Rattle.starlark_unordered.proofs.AddedWritten.{puts_pair}
 use Rattle.starlark_unordered.proofs.raw_entry.RawVacantEntryMut.place_hashed.Goals as goal
 use Rattle.starlark_unordered.proofs.raw_entry.RawVacantEntryMut.place_hashed.Goals.{in-Ok, in-Err}
-
--- a hash and a key are put together again
-whole : {K : Type 0} (hash : StarlarkHashValue) (from : Hashed K) (key : K) → hash ≡ hash_of from → key ≡ key_of from → (made : Hashed K) → made ≡ hashed hash key → made ≡ from
-whole hash from key same_hash same_key made is = is ∙ (λ i. hashed (same_hash i) (same_key i))
-
--- and a value with them
-both : {A B : Type 0} {x y : A} {v w : B} → x ≡ y → v ≡ w → ◌≡◌ {A = A × B} (x, v) (y, w)
-both same also = λ i. (same i, also i)
 
 pub returns : goal.returns
 returns g c =
@@ -29,6 +18,7 @@ returns g c =
       | in-Err w ↦
           let put = rw w.in-Err.is at put in
           let back = put.handed_back in
-          let again = whole c.hash-hash.result c.args.key w.in-Err.field-0.0.0 c.hash-hash.ensures (ap (λ p. p.0) back) w.new_unchecked.result w.new_unchecked.ensures in
-          rw w.placed-is (assumption (put, both again (ap (λ p. p.1) back)))
+          -- hash and key are put together again, and the value with them
+          let again : w.new_unchecked.result ≡ c.args.key = w.new_unchecked.ensures ∙ (λ i. hashed (c.hash-hash.ensures i) (back i).0) in
+          rw w.placed-is (record { same_map = put.same_map; placed = tt; added = tt; written = tt; full = put.full; handed_back = λ i. (again i, (back i).1); unchanged = put.unchanged })
     ]

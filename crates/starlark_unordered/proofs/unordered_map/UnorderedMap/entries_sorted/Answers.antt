@@ -1,5 +1,4 @@
-use Rattle.starlark_hash.proofs.Common.{◌≡◌, Bool, rules, of_calls, deref_pair, IsPermutation-map, ranks_by}
-use Rattle.std.proofs.Common.{Bor, is_lt}
+use Rattle.starlark_hash.proofs.Common.{◌≡◌, rules, of_calls, deref_pair, IsPermutation-map, ranks_by, Bor, is_lt}
 use Rattle.std.proofs.lemmas.Fn.{answers_by}
 use Rattle.starlark_unordered.proofs.Shows.{drained_shown}
 use Rattle.starlark_unordered.proofs.unordered_map.UnorderedMap.entries_sorted.Goals as goal
@@ -8,11 +7,10 @@ pub returns : goal.returns
 returns g c =
     let (items, shown, begins, runs, made) = c.in_ok-entries.ensures.ran in
     let same = drained_shown deref_pair shown items ((runs.2 tt).0, (runs.0, runs.1, (runs.2 tt).1)) in
-    let lt : Bor g.row.K.Denot × Bor g.row.V.Denot → Bor g.row.K.Denot × Bor g.row.V.Denot → Bool = λ a b. is_lt (g.K.Ord.cmp a.0.now b.0.now) in
+    let lt = λ (a b : Bor g.row.K.Denot × Bor g.row.V.Denot). is_lt (g.K.Ord.cmp a.0.now b.0.now) in
     record {
       sorted = record {
-        each = rw (made.0, same, begins, c.entries_unordered.ensures.shows.walks.pairs) at
-            (IsPermutation-map deref_pair c.in_ok-entries.entries.items c.sort_by.new.self.items c.sort_by.ensures.permutation);
+        each = rw (made.0, same, begins, c.entries_unordered.ensures.shows.walks.pairs) at (IsPermutation-map deref_pair _ _ c.sort_by.ensures.permutation);
         ascends = c.in_ok-sort_by.ensures.sorted lt (ranks_by g.met.K.Ord.total (λ a. a.0.now))
             (answers_by _ (λ a r. is_lt r ≡ lt a.0.now a.1.0.now) (λ _. Unit {0}) (λ f a r f' called _. (search (rules, of_calls, called), tt)) _ tt);
       };

@@ -3,10 +3,4 @@ use Rattle.starlark_unordered.proofs.Shows.{shows_in_order}
 use Rattle.starlark_unordered.proofs.unordered_map.UnorderedMap.keys_unordered.Goals as goal
 
 pub returns : goal.returns
-returns g c = record {
-  shows = record {
-    keys = search rules;
-    fits = c.entries_unordered.ensures.shows.walks.fits;
-    runs = shows_in_order deref;
-  };
-}
+returns g c = search (rules, shows_in_order {X = g.row.K.Denot} deref)

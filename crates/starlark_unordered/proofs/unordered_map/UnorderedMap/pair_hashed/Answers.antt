@@ -1,17 +1,12 @@
-use Rattle.starlark_hash.proofs.Common.{◌<◌, ◌^◌, ap, ◌∙◌, rules, of_calls, refl, subst, option_map}
+use Rattle.starlark_hash.proofs.Common.{ap, ◌∙◌, arith, rules, of_calls, refl, option_map}
 use Rattle.starlark_hash.proofs.SearchLemmas.{is_test}
-use Rattle.starlark_hash.specs.HashValue.{hash_number, promoted}
-use Rattle.starlark_unordered.specs.Pairs.{under_own}
 use Rattle.starlark_unordered.proofs.QuerySearch.{slot_by_hashed, value_of-slot}
 use Rattle.starlark_unordered.proofs.unordered_map.UnorderedMap.pair_hashed.Goals as goal
 
 pub returns : goal.returns
 returns g c =
-    let t = g.Q.Query.stands_for c.args.query in
-    let own = under_own g.K.Hash.hash_input c.args.hash t in
-    let found = c.find_item.ensures in
-    rw c.self.view_is at
-    (ap (option_map (λ p. p.1)) found.3 ∙ value_of-slot own c.self.inside.table found.0
-    (slot_by_hashed _ g.K.PartialEq.eq g.K.Hash.hash_input g.met.K.Eq.laws t (g.met.Q.Query.respects_eq c.args.query) c.self.inside.table c.self.invariant _ _
-    (is_test _ (λ p. t p.0) _ (λ x accepts next called. (search (rules, of_calls, called), search (rules, of_calls, called)))) (promoted (hash_number c.args.hash)) found.0 found.2
-    g.met.K.Hash.respects_eq c.args.hash (subst (λ n. n < 2 ^ 32) c.get.ensures.number c.get.ensures.fits) refl))
+    let (slot, last, ran, is) = c.find_item.ensures in
+    rw c.self.view_is at (ap (option_map (λ p. p.1)) is ∙ value_of-slot _ c.self.inside.table slot
+    (slot_by_hashed _ _ _ g.met.K.Eq.laws (g.Q.Query.stands_for c.args.query) (g.met.Q.Query.respects_eq c.args.query) c.self.inside.table c.self.invariant _ _
+    (is_test _ _ _ (λ x accepts next called. (search (rules, of_calls, called), search (rules, of_calls, called)))) _ _ ran
+    g.met.K.Hash.respects_eq c.args.hash (omega arith) refl))

@@ -1,4 +1,4 @@
-use Rattle.starlark_hash.proofs.Common.{◌≡◌, rules, values_of, deref}
+use Rattle.starlark_hash.proofs.Common.{rules, deref}
 use Rattle.starlark_unordered.specs.Pairs.{pairs_of}
 use Rattle.starlark_unordered.proofs.CallerLookup.{values-found}
 use Rattle.starlark_unordered.proofs.Shows.{shows_in_order}
@@ -6,6 +6,5 @@ use Rattle.starlark_unordered.proofs.unordered_map.UnorderedMap.values_unordered
 
 pub returns : goal.returns
 returns g c =
-    let are : c.new.result ≡ values_of (pairs_of c.args.self.now) = search rules in
-    let walks = c.entries_unordered.ensures.shows.walks in
-    record { shows = assumption (are, walks, shows_in_order {X = g.row.V.Denot} deref, values-found g.K.PartialEq.eq g.met.K.Eq.laws (pairs_of c.args.self.now) walks.distinct c.new.result are) }
+    let found = values-found g.K.PartialEq.eq g.met.K.Eq.laws (pairs_of c.args.self.now) c.entries_unordered.ensures.shows.walks.distinct c.new.result in
+    search (rules, shows_in_order {X = g.row.V.Denot} deref, found)

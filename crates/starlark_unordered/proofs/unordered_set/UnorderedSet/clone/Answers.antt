@@ -5,15 +5,5 @@ use Rattle.starlark_unordered.proofs.unordered_set.UnorderedSet.clone.Goals as g
 
 pub returns : goal.returns
 returns g c =
-    let map = c.in_ok-clone.ensures.clones.clone in
-    record {
-      clones = record {
-        clone = record {
-          elements = rw c.self.view_is at (keys-cloned g.T.Clone.is_clone _ (pairs_of c.self.inside.map) (pairs_of c.in_ok-clone.field-0) map.pairs);
-          same = first_of (search rules, grind (arith, common_steps));
-          found = first_of (search rules, grind (arith, common_steps));
-          room = first_of (search rules, grind (arith, common_steps));
-        };
-        none_for_none = λ none spare. refl;
-      };
-    }
+    let elements = rw c.self.view_is at (keys-cloned g.T.Clone.is_clone _ (pairs_of c.self.inside.map) (pairs_of c.in_ok-clone.field-0) c.in_ok-clone.ensures.clones.clone.pairs) in
+    record { clones = record { clone = first_of (search (rules, elements), grind (arith, common_steps, elements)); none_for_none = λ none spare. refl } }
