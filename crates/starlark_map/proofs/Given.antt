@@ -1,5 +1,5 @@
 -- Elements that come between what a list that ascends has given and what it has left: whether it has them.
-use Rattle.starlark_hash.proofs.Common.{◌≡◌, Bool, true, false, cond, not, [], ◌∷◌, ◌++◌, Option, Some, None, refl, subst, ◌∙◌, ◌+◌, get_or, length, arith, Bor, IsTotalOrder, eq_by_cmp, Ordering, Equal, common_steps, append_assoc, length-append, All-append, All-cons, All-head, All-tail}
+use Rattle.starlark_hash.proofs.Common.{◌≡◌, Bool, true, false, not, [], ◌∷◌, ◌++◌, Option, Some, None, refl, subst, ◌∙◌, ◌+◌, get_or, length, arith, Bor, IsTotalOrder, eq_by_cmp, Ordering, Equal, common_steps, append_assoc, length-append, All-append, All-cons}
 use Rattle.std.specs.Prelude.{All}
 use Rattle.std.proofs.lemmas.List.{get_or-append-add}
 use Rattle.starlark_hash.specs.declared.hashed.Hashed.{Hashed}
@@ -8,27 +8,23 @@ use Rattle.starlark_hash.specs.Entries.{Entry, entry_key, is_under, stands_under
 use Rattle.starlark_hash.specs.Sort.{Ascends, key_lt}
 use Rattle.starlark_hash.proofs.PositionLemmas.{position-cons}
 use Rattle.starlark_hash.proofs.SortingLemmas.{key_lt-order}
+use Rattle.starlark_small.proofs.CallerLookup.{none_among}
 use Rattle.starlark_sets.specs.Difference.{lacks}
 use Rattle.starlark_sets.specs.Set.{Elements}
 use Rattle.starlark_map.specs.SortedUnion.{ComesNext, Follows, comes_first, shown}
-use Rattle.starlark_map.proofs.Rising.{Ascends-tail, before-all, rest-above}
+use Rattle.starlark_map.proofs.Along.{Ascends-tail, rest-above}
+use Rattle.starlark_map.proofs.Rising.{before-all}
 
 module _ {T : Type 0} (eq : T → T → Bool) where
-  lacks-cons : (f x : Entry T (Unit {0})) (xs : Elements T) → lacks eq (x ∷ xs) f ≡ cond (stands_under (hash_of f.0) (eq (key_of f.0)) x) false (lacks eq xs f)
-  lacks-cons f x xs = grind (arith, common_steps, position-cons (stands_under (hash_of f.0) (eq (key_of f.0))) x xs)
-
   -- a list lacks what none of its elements is equal to
   lacks-apart : (f : Entry T (Unit {0})) (xs : Elements T) → All (λ w. eq (entry_key f) (entry_key w) ≡ false) xs → lacks eq xs f ≡ true
-  lacks-apart f [] apart = refl
-  lacks-apart f (x ∷ xs) apart =
-      let P = λ (w : Entry T (Unit {0})). eq (entry_key f) (entry_key w) ≡ false in
-      grind (arith, lacks-cons f x xs, All-head P x xs apart, lacks-apart f xs (All-tail P x xs apart))
+  lacks-apart f xs apart = rw (none_among (stands_under (hash_of f.0) (eq (key_of f.0))) xs (λ k d inside. grind (arith, common_steps, apart k d inside))) refl
 
   -- nor does it lack what one of its elements is equal to, under that one's hash
   holds-at : (f : Entry T (Unit {0})) (ds : Elements T) (x : Entry T (Unit {0})) (xs : Elements T) → stands_under (hash_of f.0) (eq (key_of f.0)) x ≡ true
       → lacks eq (ds ++ x ∷ xs) f ≡ false
-  holds-at f [] x xs same = grind (arith, lacks-cons f x xs)
-  holds-at f (d ∷ ds) x xs same = grind (arith, lacks-cons f d (ds ++ x ∷ xs), holds-at f ds x xs same)
+  holds-at f [] x xs same = grind (arith, common_steps, position-cons)
+  holds-at f (d ∷ ds) x xs same = grind (arith, common_steps, position-cons, holds-at f ds x xs same)
 
 Ascends-behind-all : {T : Type 0} (cmp : T → T → Ordering) (ds es : Elements T) → Ascends cmp (ds ++ es) → Ascends cmp es
 Ascends-behind-all cmp [] es up = up

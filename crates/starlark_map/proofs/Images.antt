@@ -1,8 +1,8 @@
 -- Entries whose keys are seen as texts: an insertion of a string is the insertion of its text.
-use Rattle.starlark_hash.proofs.Common.{◌≡◌, ℕ, zero, suc, Bool, true, List, [], ◌∷◌, ◌++◌, Option, Some, None, MatchOption, string_bytes, refl, sym, ap, ◌∙◌, map-append, option_map_or, map, position, bytes_eq, Global, String}
+use Rattle.starlark_hash.proofs.Common.{◌≡◌, ℕ, zero, suc, Bool, true, List, [], ◌∷◌, ◌++◌, Option, Some, None, MatchOption, string_bytes, refl, sym, ap, ◌∙◌, map-append, option_map_or, map, position, arith, common_steps, bytes_eq, Global, String}
 use Rattle.std.specs.Hash as fed
 use Rattle.starlark_hash.specs.declared.hashed.Hashed.{Hashed}
-use Rattle.starlark_hash.specs.Entries.{Entry, stands_under, set_value_at, match_of}
+use Rattle.starlark_hash.specs.Entries.{Entry, stands_under, set_value_at}
 use Rattle.starlark_hash.specs.Insert.{insert_entry}
 use Rattle.starlark_hash.specs.HashValue.{hash_of, key_of}
 use Rattle.starlark_hash.proofs.PositionLemmas.{position-cons}
@@ -26,17 +26,11 @@ module _ {V : Type 0} where
   set_value_at-text_entries (e ∷ es) zero value = refl
   set_value_at-text_entries (e ∷ es) (suc i) value = ap (λ more. text_entry e ∷ more) (set_value_at-text_entries es i value)
 
-  placed : (es : List (Entry (String Global) V)) (key : Hashed (String Global)) (value : V) (index : Option ℕ)
-      → text_entries (option_map_or (λ i. set_value_at es i value) index (es ++ (key, value) ∷ []))
-      ≡ option_map_or (λ i. set_value_at (text_entries es) i value) index (text_entries es ++ text_entry (key, value) ∷ [])
-  placed es key value None = map-append text_entry es ((key, value) ∷ [])
-  placed es key value (Some i) = sym (set_value_at-text_entries es i value)
-
   -- what an insertion leaves, as texts
-  pub text_entries-insert_entry : (es : List (Entry (String Global) V)) (key : Hashed (String Global)) (value : V)
+  text_entries-insert_entry : (es : List (Entry (String Global) V)) (key : Hashed (String Global)) (value : V)
       → text_entries (insert_entry string_eq es key value) ≡ insert_entry bytes_eq (text_entries es) (text_entry (key, value)).0 value
   text_entries-insert_entry es key value =
-      rw (position-map text_entry (stands_under (hash_of key) (bytes_eq (string_bytes (key_of key)))) es) (placed es key value (match_of string_eq es key))
+      grind (arith, common_steps, position-map text_entry (stands_under (hash_of key) (bytes_eq (string_bytes (key_of key)))) es, map-append text_entry es ((key, value) ∷ []), set_value_at-text_entries es)
 
   -- the same of a string under its own hash, of which the text is known
   pub own_inserted : (es : List (Entry (String Global) V)) (key : String Global) (text : Text) (value : V) → string_bytes key ≡ text

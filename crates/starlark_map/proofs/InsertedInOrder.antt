@@ -24,12 +24,6 @@ use Rattle.starlark_map.proofs.Ascending.{less}
 remove_middle : {X : Type 0} (xs ys : List X) (x : X) → remove (xs ++ x ∷ ys) (length xs) ≡ xs ++ ys
 remove_middle xs ys x = grind (arith, common_steps, remove-append_right xs (x ∷ ys) (length xs) (length xs))
 
--- a whole walk over a vector gives what it has
-items_drained : {X Z : Type 0} (it : IntoIter X Z) (items xs : List X) → into_iter_items it ≡ items → into_iter_len it ≡ length items → Drains into_iter_steps it xs → xs ≡ items
-items_drained it items xs are long drained =
-    let (u, (t, gave, end)) = drained in
-    sym (map-id xs) ∙ items_from_drains xs (t, gave, λ _. (u, end)) (YieldsList-from_vec items are long)
-
 module _ {T : Type 0} {cmp : T → T → Ordering} {eq : T → T → Bool} {feeds : T → HashWrites} (total : IsTotalOrder cmp) (ties : (x y : T) → eq x y ≡ eq_by_cmp cmp x y) (respects : (x y : T) → eq x y ≡ true → feeds x ≡ feeds y) where
   -- no item is less than one before it
   abbrev Rises : List T → Type 0
@@ -74,4 +68,6 @@ module _ {T : Type 0} {cmp : T → T → Ordering} {eq : T → T → Bool} {feed
 pub extended : {T Z : Type 0} (eq : T → T → Bool) (feeds : T → HashWrites) (it : IntoIter T Z) (vec xs : List T) (old new : Elements T)
     → into_iter_items it ≡ vec → into_iter_len it ≡ length vec → Drains into_iter_steps it xs → old ≡ [] → new ≡ insert_all eq old (map (own_element feeds) xs)
     → new ≡ insert_all eq [] (map (own_element feeds) vec)
-extended eq feeds it vec xs old new are long drained empty put = cc (items_drained it vec xs are long drained)
+extended eq feeds it vec xs old new are long drained empty put =
+    let (u, (t, gave, end)) = drained in
+    cc (sym (map-id xs) ∙ items_from_drains xs (t, gave, λ _. (u, end)) (YieldsList-from_vec vec are long))

@@ -1,5 +1,5 @@
 -- What is in either of two lists that ascend, in ascending order: which element comes first, and what is left after it.
-use Rattle.starlark_hash.proofs.Common.{◌≡◌, suc, ◌+◌, Bool, true, false, cond, List, [], ◌∷◌, ◌++◌, map, length, get_or, Option, Some, refl, ap, arith, filter, drop, Bor, IsEquivalence, IsTotalOrder, HashWrites, keys_of, Ordering, length-append, length-map, map-id, All-append, All-cons, All-filter, All-head, All-tail, All-permutation, length_permutation, sorted_far}
+use Rattle.starlark_hash.proofs.Common.{◌≡◌, ◌+◌, Bool, true, false, cond, List, [], ◌∷◌, ◌++◌, map, length, get_or, Option, Some, refl, ap, arith, filter, drop, Bor, IsEquivalence, IsTotalOrder, HashWrites, keys_of, Ordering, length-append, length-map, map-id, All-append, All-cons, All-filter, All-head, All-tail, All-permutation, length_permutation}
 use Rattle.std.specs.Prelude.{All}
 use Rattle.std.specs.Map.Iter.{TakesFirst}
 use Rattle.std.proofs.lemmas.Simd.{map-map}
@@ -16,7 +16,7 @@ use Rattle.starlark_hash.specs.Unit.{deref_hashed}
 use Rattle.starlark_sets.proofs.Differences.{counts-union}
 use Rattle.starlark_sets.proofs.Unions.{IsSingle-difference, IsSingle-union}
 use Rattle.starlark_map.specs.Sorted.{AreOwn}
-use Rattle.starlark_map.proofs.Along.{along_from}
+use Rattle.starlark_map.proofs.Along.{along_from, rest-above}
 use Rattle.starlark_map.specs.SortedUnion.{GivesRise, OwnNext, RiseSteps, SortedUnion, ahead, behind, comes_first, elements_under, is_others, is_passed, rise, rise_rest, shown}
 
 module _ {X : Type 0} (lt : X → X → Bool) where
@@ -48,22 +48,15 @@ module _ {X : Type 0} (p : X → Bool) where
   filter-behind q out (x ∷ xs) = grind (arith, filter-behind q out xs, out x)
 
 module _ {T : Type 0} {cmp : T → T → Ordering} (total : IsTotalOrder cmp) where
-  pub rest-above : (e : Entry T (Unit {0})) (es : Elements T) → Ascends cmp (e ∷ es) → All (λ w. key_lt cmp w e ≡ false) es
-  rest-above e es up k d below = sorted_far (key_lt cmp) (key_lt-order total) (e ∷ es) up 0 (suc k) d (omega arith) (omega (arith, below))
-
   pub before-all : (es : Elements T) (f : Entry T (Unit {0})) → Ascends cmp es → comes_first cmp es f ≡ true → All (λ w. key_lt cmp f w ≡ true) es
   before-all [] f up first = grind arith
   before-all (e ∷ es) f up first =
-      All-cons (λ w. key_lt cmp f w ≡ true) e es first (λ k d inside. grind (arith, (key_lt-order total).chain f (get_or es k d) e, rest-above e es up k d inside))
+      All-cons (λ w. key_lt cmp f w ≡ true) e es first (λ k d inside. grind (arith, (key_lt-order total).chain f (get_or es k d) e, rest-above total e es up k d inside))
 
   none-before : (e : Entry T (Unit {0})) (es gs : Elements T) → Ascends cmp gs → is_others cmp (e ∷ es) gs ≡ false → All (λ w. key_lt cmp w e ≡ false) gs
   none-before e es [] up own = grind arith
   none-before e es (g ∷ gs) up own =
-      All-cons (λ w. key_lt cmp w e ≡ false) g gs own (λ k d inside. (key_lt-order total).chain (get_or gs k d) g e (rest-above g gs up k d inside) own)
-
-module _ {T : Type 0} (cmp : T → T → Ordering) where
-  pub Ascends-tail : (e : Entry T (Unit {0})) (es : Elements T) → Ascends cmp (e ∷ es) → Ascends cmp es
-  Ascends-tail e es up k d low high = grind (arith, up (suc k) d)
+      All-cons (λ w. key_lt cmp w e ≡ false) g gs own (λ k d inside. (key_lt-order total).chain (get_or gs k d) g e (rest-above total g gs up k d inside) own)
 
 module _ {T : Type 0} (eq : T → T → Bool) {cmp : T → T → Ordering} (total : IsTotalOrder cmp) where
   -- the next element is the other list's
@@ -100,19 +93,17 @@ module _ {T : Type 0} (eq : T → T → Bool) {cmp : T → T → Ordering} (tota
   step-own [] fs there (g ∷ gs) up over is own = cc
   step-own (e ∷ es) fs there gs up over is own = (rw (← skipped (e ∷ es) fs there, is, own-first e es gs there up over own), refl, rw (is, own))
 
-module _ {T : Type 0} (eq : T → T → Bool) (cmp : T → T → Ordering) where
-  -- how many elements are to come
-  pub length-rest : (u : SortedUnion T) → length (rise_rest eq cmp u) ≡ length u.left + length (map entry_key (difference eq u.right u.there))
-  length-rest u = simp (length-map, length-sorted_by (key_lt {V = Unit {0}} cmp), length-append)
-
-module _ {T : Type 0} (eq : T → T → Bool) {cmp : T → T → Ordering} where
   -- what a union gives
-  pub gives-rise : IsEquivalence eq → IsTotalOrder cmp → (es fs : Elements T) → IsSingle eq fs → Ascends cmp (rise eq cmp es fs)
+  pub gives-rise : IsEquivalence eq → (es fs : Elements T) → IsSingle eq fs → Ascends cmp (rise eq cmp es fs)
       → GivesRise cmp (length es) (length fs) (rise_rest eq cmp (record { left = es; right = fs; there = es }))
-  gives-rise laws total es fs single up = record {
+  gives-rise laws es fs single up = record {
     count = simp (length-map, length-sorted_by (key_lt {V = Unit {0}} cmp)) (simp length-map at (counts-union eq laws es fs single));
     along = along_from total (rise eq cmp es fs) up;
   }
+
+-- how many elements are to come
+pub length-rest : {T : Type 0} (eq : T → T → Bool) (cmp : T → T → Ordering) (u : SortedUnion T) → length (rise_rest eq cmp u) ≡ length u.left + length (map entry_key (difference eq u.right u.there))
+length-rest eq cmp u = simp (length-map, length-sorted_by (key_lt {V = Unit {0}} cmp), length-append)
 
 -- the element that was taken from a walk, and those that it has left, are what it had
 pub ahead-of : {T : Type 0} (hs ks : List (Hashed T)) (h : Option (Hashed (Bor T))) → TakesFirst deref_hashed hs h ks → ahead h ks ≡ elements_under hs

@@ -1,6 +1,9 @@
 -- Entries that are inserted one after the other into a list, where none of them clashes with one before it.
-use Rattle.starlark_hash.proofs.Common.{◌≡◌, ◌+◌, Bool, false, List, [], ◌∷◌, ◌++◌, length, get_or, None, sym, ap, ◌∙◌, arith, option_map_or, append-nil, append_assoc, get_or_append_left, length-append}
+use Rattle.starlark_hash.proofs.Common.{◌≡◌, ◌+◌, Bool, false, List, [], ◌∷◌, ◌++◌, length, get_or, map, Drains, None, sym, ap, ◌∙◌, arith, option_map_or, append-nil, append_assoc, get_or_append_left, length-append}
 use Rattle.core.specs.Cmp.{IsEquivalence}
+use Rattle.std.specs.Map.Iter.{TakesFirst}
+use Rattle.std.proofs.lemmas.Iterator.{items_from_drains}
+use Rattle.std.proofs.lemmas.Iterator.Consumers.{YieldsList-from_rest}
 use Rattle.std.proofs.lemmas.List.{get_or-append-add}
 use Rattle.starlark_hash.specs.Entries.{Entry, stands_under, set_value_at, match_of, IsSingle}
 use Rattle.starlark_small.proofs.CallerLookup.{none_among}
@@ -23,3 +26,10 @@ module _ {K V : Type 0} (eq : K → K → Bool) (laws : IsEquivalence eq) where
       ap (λ o. insert_all eq (option_map_or (λ i. set_value_at es i x.1) o (es ++ x ∷ [])) xs) (match_of-before es xs x single)
       ∙ insert_all-single (es ++ x ∷ []) xs (rw append_assoc single)
       ∙ append_assoc es (x ∷ []) xs
+
+  -- so are they once they come from a walk over the list
+  pub walked-single : {X : Type 0} (shows : X → Entry K V) {walk : List (Entry K V)} (es fs : List (Entry K V)) (items : List X) → Drains (TakesFirst shows) walk items → walk ≡ es
+      → fs ≡ insert_all eq [] (map shows items) → IsSingle eq es → fs ≡ es
+  walked-single shows es fs items drained is made single =
+      let (t, (u, gave, end)) = drained in
+      made ∙ ap (insert_all eq []) (items_from_drains items (u, gave, λ _. (t, end)) (YieldsList-from_rest es is)) ∙ insert_all-single [] es single

@@ -1,17 +1,14 @@
 -- Lists of entries that are equal item by item.
-use Rattle.starlark_hash.proofs.Common.{◌≡◌, ℕ, Bool, true, List, [], ◌∷◌, length, refl, arith, nat_eq, list_all, option_eq, eqb-true, nat_tests}
+use Rattle.starlark_hash.proofs.Common.{◌≡◌, ℕ, Bool, true, List, [], ◌∷◌, length, get_or, refl, arith, nat_eq, option_eq, eqb-true, nat_tests}
 use Rattle.core.specs.Cmp.{IsEquivalence, nat_eq_equiv}
 use Rattle.std.specs.Cmp.Derive.{both_true}
+use Rattle.std.proofs.lemmas.List.Sums.{list_all-from_AllPass}
 use Rattle.std_collections.specs.Map.{lookup}
 use Rattle.starlark_hash.specs.declared.hashed.Hashed.{Hashed}
 use Rattle.starlark_hash.specs.Entries.{Entry}
 use Rattle.starlark_small.specs.Compare.{agree_at, same_entries}
 use Rattle.starlark_small.specs.CompareLaws.{alike, value_at-lookup}
 use Rattle.starlark_hash.specs.Compare.{same_ordered, ordered_feed}
-
-all : {X : Type 0} (test : X → Bool) → ((x : X) → test x ≡ true) → (xs : List X) → list_all test xs ≡ true
-all test each [] = refl
-all test each (x ∷ xs) = both_true (each x) (all test each xs)
 
 module _ {K V : Type 0} (eq : K → K → Bool) (E : V → V → Bool) where
   -- the first entries have one hash, equal keys and equal values, and the others are the same
@@ -44,7 +41,7 @@ module _ {K V : Type 0} (eq : K → K → Bool) (E : V → V → Bool) where
   pub same_entries-same_ordered : IsEquivalence eq → (ds es : List (Entry K V)) → same_ordered eq E ds es ≡ true → same_entries eq E ds es ≡ true
   same_entries-same_ordered o ds es same =
       let each = agree o ds es same in
-      both_true (same_ordered-length ds es same) (both_true (all (λ d. agree_at eq E ds es d.0) (λ d. each d.0) ds) (all (λ e. agree_at eq E ds es e.0) (λ e. each e.0) es))
+      both_true (same_ordered-length ds es same) (both_true (list_all-from_AllPass (λ d. agree_at eq E ds es d.0) ds (λ k d inside. each (get_or ds k d).0)) (list_all-from_AllPass (λ e. agree_at eq E ds es e.0) es (λ k e inside. each (get_or es k e).0)))
 
   -- and where equal values write the same, so do the lists
   pub ordered_feed-same_ordered : (feed : V → List (List ℕ)) → ((v w : V) → E v w ≡ true → feed v ≡ feed w)

@@ -39,17 +39,15 @@ module _ {K V R : Type 0} (eq : K → K → Bool) where
   ceiling-kept c old command reply keeps = grind (arith, nat_tests)
 
 module _ {K V R : Type 0} (eq : K → K → Bool) (cmp : K → K → Ordering) (shows : Entry K V → R → Type 0) where
-  -- an insertion lengthens the list by an entry at most, and no other command does
-  length-after : (old : List (Entry K V)) (command : Command K V) (reply : Reply K V R) (next : List (Entry K V)) → Step eq cmp shows old command reply next → length next ≤ length old + growth command
+  -- an insertion lengthens the list by an entry at most, and no other command does; and the ceiling stays above the length
+  length-after : (old : List (Entry K V)) (command : Command K V) (reply : Reply K V R) (next : List (Entry K V)) → Step eq cmp shows old command reply next
+      → (length next ≤ length old + growth command) × ((c : ℕ) → length old ≤ c → length next ≤ ceiling_after eq c old command reply)
   length-after old Len Done next p = absurd p
-  length-after old command Done next p = grind (arith, length-reverse, length-sorted_by_key)
-  length-after old command reply next p = grind (arith, nat_tests, length-remove_at_most, length-without, length-inserted, length-with_value)
-
-  -- the ceiling stays above the length
-  length-below : (c : ℕ) (old : List (Entry K V)) (command : Command K V) (reply : Reply K V R) (next : List (Entry K V)) → Step eq cmp shows old command reply next → length old ≤ c → length next ≤ ceiling_after eq c old command reply
-  length-below c old Len Done next p low = absurd p
-  length-below c old command Done next p low = grind (arith, nat_tests, length-reverse, length-sorted_by_key)
-  length-below c old command reply next p low = grind (arith, nat_tests, length-remove_at_most, length-without, length-inserted, length-with_value)
+  length-after old command Done next p = (grind (arith, length-reverse, length-sorted_by_key), λ c low. grind (arith, nat_tests, length-reverse, length-sorted_by_key))
+  length-after old command reply next p = (
+    grind (arith, nat_tests, length-remove_at_most, length-without, length-inserted, length-with_value),
+    λ c low. grind (arith, nat_tests, length-remove_at_most, length-without, length-inserted, length-with_value),
+  )
 
   -- below the ceiling no insertion is refused
   accepted : (n c : ℕ) (old : List (Entry K V)) (command : Command K V) (reply : Reply K V R) (next : List (Entry K V)) → Step eq cmp shows old command reply next
@@ -74,13 +72,13 @@ module _ {K V R : Type 0} (eq : K → K → Bool) (cmp : K → K → Ordering) (
   AcceptsNext-ceiling (suc n) memory old (DropIndex ∷ commands) replies new last run low = tt
   AcceptsNext-ceiling (suc n) memory old (Insert key value ∷ commands) (reply ∷ replies) new last run low =
       let kept = ceiling-kept eq memory.ceiling old (Insert key value) reply refl in
-      let more = length-after old (Insert key value) reply run.0 run.1 in (
+      let more = (length-after old (Insert key value) reply run.0 run.1).0 in (
         accepted (length old + suc n) memory.ceiling old (Insert key value) reply run.0 run.1 run.2 low (omega arith),
         AcceptsNext-ceiling n (memory_after eq memory old (Insert key value) reply) run.0 commands replies new last run.3 (omega arith),
       )
   AcceptsNext-ceiling (suc n) memory old (command ∷ commands) (reply ∷ replies) new last run low =
       let kept = ceiling-kept eq memory.ceiling old command reply refl in
-      let more = length-after old command reply run.0 run.1 in
+      let more = (length-after old command reply run.0 run.1).0 in
       AcceptsNext-ceiling (suc n) (memory_after eq memory old command reply) run.0 commands replies new last run.3 (omega arith)
   AcceptsNext-ceiling n memory old commands replies new last run low = tt
 
@@ -92,7 +90,7 @@ module _ {K V R : Type 0} (eq : K → K → Bool) (cmp : K → K → Ordering) (
   MemoryRun-rest first old (command ∷ before) after (r ∷ rs) ss new last now run here low =
       let one = Step-entries eq cmp shows old command r run.0 here.0 run.1 here.1 in
       MemoryRun-rest (memory_after eq first old command r) here.0 before after rs ss new last now (rw one at run.3) here.2
-      (length-below first.ceiling old command r here.0 here.1 low)
+      ((length-after old command r here.0 here.1).1 first.ceiling low)
   MemoryRun-rest first old before after rs ss new last now run here low = absurd here
 
   module _ (start : Map K V) (commands : List (Command K V)) (replies : List (Reply K V R)) (new : List (Entry K V)) (refuses : RefusesPastCeiling eq cmp shows start commands replies new) where

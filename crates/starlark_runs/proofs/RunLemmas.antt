@@ -1,16 +1,11 @@
 -- What the words of a run say of one another.
-use Rattle.starlark_hash.proofs.Common.{◌≡◌, ℕ, List, [], ◌∷◌, length, Option, Some, None, refl, sym, ap, arith, Bor, option_map, Bool, Ordering, none-some}
+use Rattle.starlark_hash.proofs.Common.{◌≡◌, List, [], ◌∷◌, Option, Some, None, refl, sym, ap, Bor, option_map, Bool, Ordering, none-some}
 use Rattle.std.specs.Fn.{Shared}
 use Rattle.std.proofs.lemmas.Option.{some_pair_parts}
 use Rattle.starlark_hash.specs.Entries.{Entry, entry_key, entry_value, pair_of}
 use Rattle.starlark_runs.specs.declared.command.Command.{Command}
 use Rattle.starlark_runs.specs.declared.command.Reply.{Reply}
 use Rattle.starlark_runs.specs.Run.{IsShown, Step, Shows, TakesEntry, CanShow, entry_shown}
-
--- a list without length is empty
-pub empty_at_zero : {X : Type 0} (xs : List X) (n : ℕ) → n ≡ length xs → n ≡ 0 → xs ≡ []
-empty_at_zero [] n same none = refl
-empty_at_zero (x ∷ xs) n same none = absurd (omega arith)
 
 module _ {F K V R : Type 0} (g : Shared F (Bor K × (Bor V × Unit {0})) R) (look : F) where
   -- a call at references to an entry's parts shows the entry

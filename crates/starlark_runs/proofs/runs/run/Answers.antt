@@ -12,13 +12,8 @@ returns-clause-run g c =
 
 pub returns-clause-determined : goal.returns-clause-determined
 returns-clause-determined g c = λ once others end run same.
-    let eq = g.K.PartialEq.eq in
-    let shows = Shows g.F.Fn c.args.look in
-    let start = c.args.map.now in
-    let replies = c.run_in.new.replies.items in
-    let now = c.run_in.new.map.entries in
-    Run-determined eq g.K.Ord.cmp shows once start.entries c.args.commands.items others replies end now run
-    (Run-of_memory eq g.K.Ord.cmp shows (memory_of start) start.entries c.args.commands.items replies now c.run_in.ensures.0 c.run_in.ensures.1) same
+    Run-determined g.K.PartialEq.eq g.K.Ord.cmp (Shows g.F.Fn c.args.look) once c.args.map.now.entries c.args.commands.items others c.run_in.new.replies.items end c.run_in.new.map.entries
+    run (returns-clause-run g c) same
 
 pub returns-clause-refused : goal.returns-clause-refused
 returns-clause-refused g c = (c.run_in.ensures.0, c.run_in.ensures.1)

@@ -1,6 +1,7 @@
-use Rattle.starlark_hash.proofs.Common.{refl, ◌∷◌, [], append_assoc, arith, rules, append-nil}
+use Rattle.starlark_hash.proofs.Common.{refl, sym, ◌∙◌, ◌∷◌, [], append_assoc, arith, rules, append-nil}
+use Rattle.std.proofs.lemmas.List.{nil_from_length}
 use Rattle.starlark_runs.proofs.MemoryLemmas.{HasMemory-after, HasMemory-begin}
-use Rattle.starlark_runs.proofs.RunLemmas.{empty_at_zero, can_show-after, can_show-now}
+use Rattle.starlark_runs.proofs.RunLemmas.{can_show-after, can_show-now}
 use Rattle.starlark_runs.specs.Memory.{memory_after, memory_of}
 use Rattle.starlark_runs.proofs.runs.run_in.Goals as goal
 
@@ -35,6 +36,6 @@ loop-command-preserved g c =
 
 pub returns : goal.returns
 returns g c =
-    let done = empty_at_zero _ _ c.loop-command.rest.rest.ok.0 c.in_default.ensures.cases.0 in
+    let done = nil_from_length _ (sym c.loop-command.rest.rest.ok.0 ∙ c.in_default.ensures.cases.0) in
     let memory = c.loop-command.invariant.memory in
     (memory.0, rw append-nil at (memory.2 [] c.loop-command.map.entries memory.0 (rw done (refl, refl))), memory.1)

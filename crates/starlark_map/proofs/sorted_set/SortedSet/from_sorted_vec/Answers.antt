@@ -15,8 +15,4 @@ returns-clause-has_once g c =
     }
 
 pub invariant_of-result : goal.invariant_of-result
-invariant_of-result g c =
-    let put = c.in-Ok-extend.ensures.entries in
-    let made = extended g.T.PartialEq.eq g.T.Hash.hash_input put.it c.args.vec put.inserts.items c.in-Ok.inner.entries c.extend.new.self.entries put.made.0 put.made.1 put.inserts.ended c.in-Ok.ensures.empty.entries put.inserts.entries in
-    Ascends-from_strictly g.T.Ord.cmp g.met.T.Ord.total c.extend.new.self.entries
-    (rw made (insert_all-strictly g.met.T.Ord.total g.met.T.Ord.matches_eq g.met.T.Hash.respects_eq c.args.vec c.iter.ensures.ascends))
+invariant_of-result g c = Ascends-from_strictly g.T.Ord.cmp g.met.T.Ord.total c.extend.new.self.entries (returns-clause-has_once g c).strictly

@@ -34,7 +34,7 @@ returns-clause-gives g c =
     let eq = g.T.PartialEq.eq in let cmp = g.T.Ord.cmp in
     let es = c.args.self.now.entries in let fs = c.args.other.now.entries in
     let is : c.new.result ≡ record { left = es; right = fs; there = es } = search rules in
-    rw is (gives-rise eq g.met.T.Eq.laws g.met.T.Ord.total es fs (search rules) (returns-clause-ascends g c))
+    rw is (gives-rise eq g.met.T.Ord.total g.met.T.Eq.laws es fs (search rules) (returns-clause-ascends g c))
 
 pub returns-clause-runs : goal.returns-clause-runs
 returns-clause-runs g c =
