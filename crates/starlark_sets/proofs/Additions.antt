@@ -2,11 +2,9 @@
 use Rattle.starlark_hash.proofs.Common.{◌≡◌, ℕ, zero, suc, Bool, [], ◌∷◌, ◌++◌, length, Option, Some, None, is_some, Result, Ok, Err, IsOk, OnOk, OnErr, MatchOption, MatchResult, refl, sym, ap, ◌∙◌, arith, option_map_or, false≢true, length_push, not}
 use Rattle.starlark_hash.specs.declared.hashed.Hashed.{Hashed}
 use Rattle.starlark_hash.specs.declared.no_room.NoRoom.{NoRoom}
-use Rattle.starlark_hash.specs.HashValue.{hash_of, key_of}
 use Rattle.starlark_hash.specs.Entries.{match_of, set_value_at}
 use Rattle.starlark_small.specs.Insert.{Inserts, IsInserted, IsRefused, LeavesMemory}
-use Rattle.starlark_small.proofs.CallerLookup.{is_some-value_at}
-use Rattle.starlark_sets.specs.Insert.{AddsElement, new_or_back}
+use Rattle.starlark_sets.specs.Insert.{Adds, new_or_back}
 use Rattle.starlark_sets.specs.Set.{Set, Elements}
 
 module _ {T : Type 0} where
@@ -34,10 +32,12 @@ module _ {T : Type 0} where
 
 module _ {T B : Type 0} (eq : T → T → Bool) (element : Hashed T) {back : B} (before after : Set T) where
   -- a set answers what its map answered
-  pub adds-answered : (r : Result (Option (Unit {0})) (NoRoom (B × Unit {0}))) → Inserts eq element tt (back, tt) before after r → AddsElement eq element back before after (new_or_back r)
-  adds-answered (Ok v) is =
-      let set = added {A = Bool} {E = NoRoom B} eq before after element (match_of eq before.entries element) (Ok (not (is_some v))) is.entries tt tt tt refl is.memory in
-      assumption (ap (λ o. not (is_some o)) is.old ∙ ap not (is_some-value_at (hash_of element) (eq (key_of element)) before.entries), ap (λ o. not (is_some o)) is.was)
-  adds-answered (Err e) is =
-      let set = added {A = Bool} {E = NoRoom B} eq before after element (match_of eq before.entries element) (Err (record { 0 = e.0.0 })) tt is.absent is.full is.unchanged refl is.memory in
-      assumption (ap is_some is.lacking, ap (λ (p : B × Unit {0}). p.0) is.handed_back)
+  pub inserts-answered : (r : Result (Option (Unit {0})) (NoRoom (B × Unit {0}))) → Inserts eq element tt (back, tt) (λ was. was) before after r
+      → Inserts eq element tt back (λ was. not (is_some was)) before after (new_or_back r)
+  inserts-answered (Ok v) is = assumption (is, ap (λ o. not (is_some o)) is.old, ap (λ o. not (is_some o)) is.was)
+  inserts-answered (Err e) is = assumption (is, ap (λ (p : B × Unit {0}). p.0) is.handed_back)
+
+  -- and that is what becomes of the whole set
+  pub adds-inserted : {A : Type 0} {tells : Option (Unit {0}) → A} (r : Result A (NoRoom B)) → Inserts eq element tt back tells before after r → Adds eq before element r after
+  adds-inserted {A = A} (Ok v) is = added {A = A} {E = NoRoom B} eq before after element (match_of eq before.entries element) (Ok v) is.entries tt tt tt refl is.memory
+  adds-inserted {A = A} (Err e) is = added {A = A} {E = NoRoom B} eq before after element (match_of eq before.entries element) (Err e) tt is.absent is.full is.unchanged refl is.memory

@@ -38,23 +38,6 @@ new_or_back (Ok old) = Ok (not (is_some old))
 new_or_back (Err refused) = Err (record { 0 = refused.0.0 })
 
 module _ {T B : Type 0} (eq : T → T → Bool) where
-  -- this element was inserted, and whether it was new is answered; or it was new and without room, so that it comes back and all
-  -- elements stay
-  pub record AddsElement (element : Hashed T) (back : B) (before after : Set T) (r : Result Bool (NoRoom B)) : Type 0 where
-    -- whether it was new, by its index and by what was found; what is found now; and how many elements there are
-    pub is_new : IfOk r (λ is_new. is_new ≡ not (is_some (match_of eq before.entries element)))
-    pub was : IfOk r (λ is_new. is_new ≡ not (is_some (found (eq (key_of element)) (hash_of element) before.entries)))
-    pub updates : OnOk r (Writes eq (eq (key_of element)) (hash_of element) before.entries after.entries (Some tt))
-    pub length : OnOk r (length after.entries ≡ length before.entries + (if is_some (found (eq (key_of element)) (hash_of element) before.entries) then 0 else 1))
-    -- elements under their own hashes stay so, done or refused, where this one is under its own
-    pub own : (feeds : T → HashWrites) → hash_of element ≡ own_hash feeds (key_of element) → AreOwn feeds before → AreOwn feeds after
-    -- a refusal comes only of a new element; what was brought comes back, and the elements stay
-    pub absent : OnErr r (is_some (found (eq (key_of element)) (hash_of element) before.entries) ≡ false)
-    pub unchanged : OnErr r (after.entries ≡ before.entries)
-    pub handed_back : IfErr r (λ refused. refused.0 ≡ back)
-    -- the whole set, done or refused
-    pub set : Adds eq before element r after
-
   -- the element that was there is shown, or else this one; only one that was lacking is refused, and what was brought comes back
   pub record ShowsPut (key : Hashed T) (back : B) (before : Set T) (r : Result (Bor T) (NoRoom B)) : Type 0 where
     -- by its index, by what was found, and that it is equal to this one

@@ -145,7 +145,7 @@ impl<K: Eq, V> OrderedMap<K, V> {
     pub fn insert(&mut self, key: K, value: V) -> Result<Option<V>, NoRoom<(K, V)>>
     where
         K: Hash + Drop,
-        ensures inserts { Inserts K.eq (own_hashed K.hash_input key) value (key, value) self.old self.new result }
+        ensures inserts { Inserts K.eq (own_hashed K.hash_input key) value (key, value) (λ was. was) self.old self.new result }
     {
         self.0.insert(key, value)
     }

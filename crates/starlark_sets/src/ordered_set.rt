@@ -1,5 +1,5 @@
 //! A set whose order counts when it is compared. It alone sees the set inside.
-ghost use Rattle.std.specs.Prelude.{◌≡◌, ◌-◌, ◌==◌, is_some, slice_get, length, None, IsOk, IfOk, OnOk, Some};
+ghost use Rattle.std.specs.Prelude.{◌≡◌, ◌-◌, ◌==◌, not, is_some, slice_get, length, None, IsOk, IfOk, OnOk, Some};
 ghost use Rattle.starlark_small.specs.New.{IsBare, MakesEmptyFor};
 ghost use Rattle.starlark_small.specs.Clone.{Clones};
 ghost use Rattle.std.specs.Option.{option_copied, option_map};
@@ -15,8 +15,8 @@ ghost use Rattle.starlark_hash.specs.Clone.{IsEqualClone};
 ghost use Rattle.starlark_small.specs.Map.{own_hashed};
 ghost use Rattle.starlark_sets.specs.Collect.{IsSetOf, TakesInEach};
 ghost use Rattle.starlark_hash.specs.Unit.{IsUnitClone};
-ghost use Rattle.starlark_small.specs.Insert.{PutsLast};
-ghost use Rattle.starlark_sets.specs.Insert.{AddsElement, AddsNew};
+ghost use Rattle.starlark_small.specs.Insert.{Inserts, PutsLast};
+ghost use Rattle.starlark_sets.specs.Insert.{Adds, AddsNew};
 ghost use Rattle.starlark_small.specs.Sort.{SortsByKey, Turns};
 ghost use Rattle.starlark_small.specs.Remove.{Clears};
 
@@ -143,7 +143,8 @@ impl<T: Eq> OrderedSet<T> {
     where
         T: Hash + Drop,
         ensures updates { OnOk result (Updates T.eq T.hash_input self.old self.new element (Some tt)) }
-        ensures adds { AddsElement T.eq (own_hashed T.hash_input element) element self.old self.new result }
+        ensures inserts { Inserts T.eq (own_hashed T.hash_input element) tt element (λ was. not (is_some was)) self.old self.new result }
+        ensures set { Adds T.eq self.old (own_hashed T.hash_input element) result self.new }
     {
         self.0.insert(element)
     }

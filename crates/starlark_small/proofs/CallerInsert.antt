@@ -66,7 +66,7 @@ module _ {K V : Type 0} (measure : V → ℕ) where
 
 module _ {K V B : Type 0} (eq : K → K → Bool) (key : Hashed K) (value : V) (back : B) (before after : Map K V) where
   pub inserts-done : IsEquivalence eq → (v : Option V) → v ≡ value_at before.entries (match_of eq before.entries key) → after.entries ≡ insert_entry eq before.entries key value
-      → LeavesMemory eq before key after → Inserts eq key value back before after (Ok v)
+      → LeavesMemory eq before key after → Inserts eq key value back (λ was. was) before after (Ok v)
   inserts-done laws v is put left = assumption (
     found_is (eq (key_of key)) (hash_of key) before.entries v is,
     writes-inserted eq laws before.entries after.entries key value put,
@@ -78,16 +78,16 @@ module _ {K V B : Type 0} (eq : K → K → Bool) (key : Hashed K) (value : V) (
   )
 
   pub inserts-refused : (e : NoRoom B) → match_of eq before.entries key ≡ None → before.room ≡ 0 → e.0 ≡ back → IsRefused before after
-      → LeavesMemory eq before key after → Inserts eq key value back before after (Err e)
+      → LeavesMemory eq before key after → Inserts eq key value back (λ was. was) before after (Err e)
   inserts-refused e absent full back_is refused left =
       assumption (λ (feeds : K → HashWrites) (under : hash_of key ≡ own_hash feeds (key_of key)). own-same feeds before.entries after.entries refused.entries, none_found (eq (key_of key)) (hash_of key) before.entries absent)
 
 module _ {K V B C : Type 0} (eq : K → K → Bool) (key : Hashed K) (value : V) {back : B} {other : C} (before after : Map K V) where
   -- the same answer, where what comes back is another thing
-  pub inserts-ok : (v : Option V) → Inserts eq key value back before after (Ok v) → Inserts eq key value other before after (Ok v)
+  pub inserts-ok : (v : Option V) → Inserts eq key value back (λ was. was) before after (Ok v) → Inserts eq key value other (λ was. was) before after (Ok v)
   inserts-ok v is = assumption is
 
-  pub inserts-err : (e : NoRoom B) (d : NoRoom C) → d.0 ≡ other → Inserts eq key value back before after (Err e) → Inserts eq key value other before after (Err d)
+  pub inserts-err : (e : NoRoom B) (d : NoRoom C) → d.0 ≡ other → Inserts eq key value back (λ was. was) before after (Err e) → Inserts eq key value other (λ was. was) before after (Err d)
   inserts-err e d back_is is = assumption (is, back_is)
 
 -- what an insertion's answer that is handed on wants

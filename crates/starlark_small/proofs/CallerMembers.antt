@@ -45,7 +45,7 @@ module _ {K V X : Type 0} (f : Entry K V → X) where
   all-written P (e ∷ es) i w all p = rw (map-set_value_at (e ∷ es) i w e) (All-set P (map f (e ∷ es)) i (f ((get_or (e ∷ es) i e).0, w)) (p e) all)
 
 -- An insertion puts in a new key last, or the value at a key that stays.
-module _ {K V B : Type 0} {eq : K → K → Bool} {key : Hashed K} {value : V} {back : B} {before after : Map K V} {was : Option V} (inserts : Inserts eq key value back before after (Ok was)) where
+module _ {K V A B : Type 0} {eq : K → K → Bool} {key : Hashed K} {value : V} {back : B} {tells : Option V → A} {before after : Map K V} {was : A} (inserts : Inserts eq key value back tells before after (Ok was)) where
   by-index : (F : List (Entry K V) → Type 0) → F (before.entries ++ (key, value) ∷ []) → ((i : ℕ) → match_of eq before.entries key ≡ Some i → F (set_value_at before.entries i value)) → F after.entries
   by-index F last there = subst F (sym inserts.entries)
       ((elim (match_of eq before.entries key) as (λ o. match_of eq before.entries key ≡ o → F (option_map_or (λ i. set_value_at before.entries i value) o (before.entries ++ (key, value) ∷ []))) [

@@ -33,10 +33,10 @@ module _ {K V : Type 0} (eq : K → K → Bool) (laws : IsEquivalence eq) (list 
     indexed = subst (IsIndexed (list.entries ++ (key, value) ∷ [])) (sym noting.noted) (IsIndexed-noted list.entries (key, value) (hash_of key) (Some noting.hashes) refl (omega (arith, noting.room)) noting.fits index);
   })
 
-  pub inserts_at_once : (old : Map K V) → map_of list before ≡ old → Inserts {B = Hashed K × V} eq key value (key, value) old (map_of new after) (Ok None)
+  pub inserts_at_once : (old : Map K V) → map_of list before ≡ old → Inserts {B = Hashed K × V} eq key value (key, value) (λ was. was) old (map_of new after) (Ok None)
   inserts_at_once old view =
       let put : IsInserted (map_of list before) key value (map_of new after) = rw (is, noting.there, noting.noted) (grind (arith, common_steps, nat_tests, noting.spare, noting.room, length_push list.entries (key, value))) in
-      subst (λ m. Inserts {B = Hashed K × V} eq key value (key, value) m (map_of new after) (Ok None)) view
+      subst (λ m. Inserts {B = Hashed K × V} eq key value (key, value) (λ was. was) m (map_of new after) (Ok None)) view
       (inserts-done eq key value (key, value) (map_of list before) (map_of new after) laws None
       (sym (ap (value_at list.entries) absent))
       (put.entries ∙ sym (ap (λ o. option_map_or (λ i. set_value_at list.entries i value) o (list.entries ++ (key, value) ∷ [])) absent))

@@ -40,16 +40,16 @@ module _ {K V : Type 0} where
     pub grown : length old.entries < length new.entries → new.capacity ≡ reserved_capacity old 1
     pub indexed : new.indexed ≡ (old.indexed || nat_lt unindexed (length new.entries))
 
-module _ {K V B : Type 0} (eq : K → K → Bool) where
-  -- this value was inserted under this key, and the value that was there is answered; or the key was new and without room, so
-  -- that it comes back and all entries stay
-  pub record Inserts (key : Hashed K) (value : V) (back : B) (before after : Map K V) (r : Result (Option V) (NoRoom B)) : Type 0 where
+module _ {K V A B : Type 0} (eq : K → K → Bool) where
+  -- this value was inserted under this key, and the answer tells of the value that was there; or the key was new and without room,
+  -- so that it comes back and all entries stay
+  pub record Inserts (key : Hashed K) (value : V) (back : B) (tells : Option V → A) (before after : Map K V) (r : Result A (NoRoom B)) : Type 0 where
     -- the value that was there, and the entries now
-    pub old : IfOk r (λ v. v ≡ value_at before.entries (match_of eq before.entries key))
+    pub old : IfOk r (λ answer. answer ≡ tells (value_at before.entries (match_of eq before.entries key)))
     pub entries : OnOk r (after.entries ≡ insert_entry eq before.entries key value)
     -- the same by key: the value that was there; what is there now, and at all other keys; where a new key went, the keys in
     -- order, and how many there are
-    pub was : IfOk r (λ v. v ≡ found (eq (key_of key)) (hash_of key) before.entries)
+    pub was : IfOk r (λ answer. answer ≡ tells (found (eq (key_of key)) (hash_of key) before.entries))
     pub updates : OnOk r (Writes eq (eq (key_of key)) (hash_of key) before.entries after.entries (Some value))
     pub pushed : OnOk r (found (eq (key_of key)) (hash_of key) before.entries ≡ None → after.entries ≡ before.entries ++ (key, value) ∷ [])
     pub keys : OnOk r (keys after ≡ (if is_some (found (eq (key_of key)) (hash_of key) before.entries) then keys before else keys before ++ key_of key ∷ []))

@@ -1,10 +1,10 @@
 //! What puts elements into a `SmallSet`.
-ghost use Rattle.std.specs.Prelude.{◌≡◌, OnOk, Some, None};
+ghost use Rattle.std.specs.Prelude.{◌≡◌, not, OnOk, Some, None, is_some};
 ghost use Rattle.starlark_small.specs.Map.{own_hashed};
-ghost use Rattle.starlark_sets.specs.Insert.{AddsElement, new_or_back, AddsNew};
+ghost use Rattle.starlark_sets.specs.Insert.{Adds, new_or_back, AddsNew};
 ghost use Rattle.starlark_small.specs.Lookup.{Updates};
 ghost use Rattle.starlark_hash.specs.Entries.{match_of};
-ghost use Rattle.starlark_small.specs.Insert.{PutsLast};
+ghost use Rattle.starlark_small.specs.Insert.{Inserts, PutsLast};
 
 use super::SmallSet;
 use starlark_hash::{Hashed, NoRoom};
@@ -17,7 +17,8 @@ impl<T: Eq> SmallSet<T> {
     where
         T: Hash + Drop,
         ensures updates { OnOk result (Updates T.eq T.hash_input self.old self.new key (Some tt)) }
-        ensures adds { AddsElement T.eq (own_hashed T.hash_input key) key self.old self.new result }
+        ensures inserts { Inserts T.eq (own_hashed T.hash_input key) tt key (λ was. not (is_some was)) self.old self.new result }
+        ensures set { Adds T.eq self.old (own_hashed T.hash_input key) result self.new }
     {
         match self.insert_hashed(Hashed::new(key)) {
             Ok(is_new) => Ok(is_new),
@@ -32,7 +33,8 @@ impl<T: Eq> SmallSet<T> {
     pub fn insert_hashed(&mut self, key: Hashed<T>) -> Result<bool, NoRoom<Hashed<T>>>
     where
         T: Drop,
-        ensures adds { AddsElement T.eq key key self.old self.new result }
+        ensures inserts { Inserts T.eq key tt key (λ was. not (is_some was)) self.old self.new result }
+        ensures set { Adds T.eq self.old key result self.new }
     {
         answered(self.map.insert_hashed(key, ()))
     }

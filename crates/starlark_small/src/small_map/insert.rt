@@ -21,7 +21,7 @@ impl<K: Eq, V> SmallMap<K, V> {
     pub fn insert(&mut self, key: K, value: V) -> Result<Option<V>, NoRoom<(K, V)>>
     where
         K: Hash + Drop,
-        ensures inserts { Inserts K.eq (own_hashed K.hash_input key) value (key, value) self.old self.new result }
+        ensures inserts { Inserts K.eq (own_hashed K.hash_input key) value (key, value) (λ was. was) self.old self.new result }
     {
         match self.insert_hashed(Hashed::new(key), value) {
             Ok(old) => Ok(old),
@@ -43,7 +43,7 @@ impl<K: Eq, V> SmallMap<K, V> {
     ) -> Result<Option<V>, NoRoom<(Hashed<K>, V)>>
     where
         K: Drop,
-        ensures inserts { Inserts K.eq key value (key, value) self.old self.new result }
+        ensures inserts { Inserts K.eq key value (key, value) (λ was. was) self.old self.new result }
     {
         // Mostly one look at the index shows that the key is new, and the only one.
         let spare = self.entries.capacity() - self.entries.len();
@@ -63,7 +63,7 @@ impl<K: Eq, V> SmallMap<K, V> {
     ) -> Result<Option<V>, NoRoom<(Hashed<K>, V)>>
     where
         K: Drop,
-        ensures inserts { Inserts K.eq key value (key, value) self.old self.new result }
+        ensures inserts { Inserts K.eq key value (key, value) (λ was. was) self.old self.new result }
     {
         prove!(self.index().is_some() || self.len() <= UNINDEXED);
         match self.get_index_of_hashed(key.as_ref()) {

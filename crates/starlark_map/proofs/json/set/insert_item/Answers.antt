@@ -14,6 +14,6 @@ returns-clause-ok c =
     let element = own_hashed (λ s. fed.str (string_bytes s)) copy in (
       text,
       sym c.in-Some.ensures,
-      ap text_entries (element_inserted old c.insert.new.self element (match_of string_eq old.entries element) c.in_ok-insert.ensures.adds.set)
+      ap text_entries (element_inserted old c.insert.new.self element (match_of string_eq old.entries element) c.in_ok-insert.ensures.set)
           ∙ own_inserted old.entries copy text tt c.in_ok-from_str.ensures.ok,
     )
