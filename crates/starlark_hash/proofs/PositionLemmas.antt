@@ -1,5 +1,5 @@
 -- The first index at which a test passes.
-use Rattle.std.proofs.Common.{◌≡◌, ℕ, zero, suc, ◌<◌, Bool, true, false, cond, List, [], ◌∷◌, length, get_or, Some, None, arith}
+use Rattle.std.proofs.Common.{◌≡◌, refl, map, ℕ, zero, suc, ◌<◌, Bool, true, false, cond, List, [], ◌∷◌, length, get_or, Some, None, arith}
 use Rattle.std.specs.Prelude.{position}
 use Rattle.std.specs.Option.{option_map}
 use Rattle.std.proofs.lemmas.Bool.Decides.{nat_tests}
@@ -8,6 +8,11 @@ use Rattle.std.proofs.lemmas.List.Quantifiers.{position-Some}
 -- the test of the first item decides
 pub position-cons : {X : Type 0} (p : X → Bool) (x : X) (xs : List X) → position p (x ∷ xs) ≡ cond (p x) (Some 0) (option_map suc (position p xs))
 position-cons p x xs = grind (arith, nat_tests)
+
+-- the first of the images that passes
+pub position-map : {A B : Type 0} (f : A → B) (p : B → Bool) (xs : List A) → position p (map f xs) ≡ position (λ x. p (f x)) xs
+position-map f p [] = refl
+position-map f p (x ∷ xs) = cc (position-cons p (f x) (map f xs), position-cons (λ y. p (f y)) x xs, position-map f p xs)
 
 -- the first index is an index
 pub position-within : {X : Type 0} (p : X → Bool) (xs : List X) (i : ℕ) → position p xs ≡ Some i → i < length xs

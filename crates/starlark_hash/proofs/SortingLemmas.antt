@@ -1,5 +1,5 @@
 -- What sorting makes of a list.
-use Rattle.starlark_hash.proofs.Common.{◌≡◌, zero, suc, Bool, false, List, [], ◌∷◌, refl, sym, ◌∙◌, arith, filter, IsPermutation, IsStrictWeakOrder, IsTotalOrder, IsSortedBy, IsStableBy, Ordering, cond_both, All-cons, All-head, All-tail, All-weaker, sorted_far, ranks_by, IsPermutation-refl, IsPermutation-cons, IsPermutation-trans, IsPermutation-middle, All-permutation}
+use Rattle.starlark_hash.proofs.Common.{length, length_permutation, ◌≡◌, zero, suc, Bool, false, List, [], ◌∷◌, refl, sym, ◌∙◌, arith, filter, IsPermutation, IsStrictWeakOrder, IsTotalOrder, IsSortedBy, IsStableBy, Ordering, cond_both, All-cons, All-head, All-tail, All-weaker, sorted_far, ranks_by, IsPermutation-refl, IsPermutation-cons, IsPermutation-trans, IsPermutation-middle, All-permutation}
 use Rattle.std.specs.Prelude.{All}
 use Rattle.std.specs.List.Sorted.{ties}
 use Rattle.std.proofs.lemmas.Bool.{false_from_ne_true}
@@ -37,6 +37,9 @@ module _ {X : Type 0} (lt : X → X → Bool) where
   IsPermutation-sorted_by (x ∷ xs) =
       IsPermutation-trans (x ∷ xs) (x ∷ sorted_by lt xs) (insert_sorted lt x (sorted_by lt xs))
       (IsPermutation-cons x xs (sorted_by lt xs) (IsPermutation-sorted_by xs)) (IsPermutation-insert_sorted x (sorted_by lt xs))
+
+  pub length-sorted_by : (xs : List X) → length (sorted_by lt xs) ≡ length xs
+  length-sorted_by xs = length_permutation xs (sorted_by lt xs) (IsPermutation-sorted_by xs)
 
   module _ (order : IsStrictWeakOrder lt) where
     irrefl : (x : X) → lt x x ≡ false

@@ -1,11 +1,11 @@
 -- Entries whose keys are seen as texts: an insertion of a string is the insertion of its text.
-use Rattle.starlark_hash.proofs.Common.{◌≡◌, ℕ, zero, suc, Bool, true, List, [], ◌∷◌, ◌++◌, Option, Some, None, MatchOption, string_bytes, refl, sym, ap, ◌∙◌, map-append, option_map_or, map, position, arith, common_steps, bytes_eq, Global, String}
+use Rattle.starlark_hash.proofs.Common.{◌≡◌, ℕ, zero, suc, Bool, true, List, [], ◌∷◌, ◌++◌, Option, Some, None, MatchOption, string_bytes, refl, sym, ap, ◌∙◌, map-append, option_map_or, arith, common_steps, bytes_eq, Global, String}
 use Rattle.std.specs.Hash as fed
 use Rattle.starlark_hash.specs.declared.hashed.Hashed.{Hashed}
 use Rattle.starlark_hash.specs.Entries.{Entry, stands_under, set_value_at}
 use Rattle.starlark_hash.specs.Insert.{insert_entry}
 use Rattle.starlark_hash.specs.HashValue.{hash_of, key_of}
-use Rattle.starlark_hash.proofs.PositionLemmas.{position-cons}
+use Rattle.starlark_hash.proofs.PositionLemmas.{position-map}
 use Rattle.starlark_sets.specs.Set.{Set}
 use Rattle.starlark_sets.proofs.Additions.{set_unit_at}
 use Rattle.starlark_small.specs.Insert.{IsInserted}
@@ -15,10 +15,6 @@ use Rattle.starlark_map.specs.JsonTexts.{Text, own_text, text_entry, text_entrie
 -- strings are equal where their texts are
 abbrev pub string_eq : String Global → String Global → Bool
 string_eq a b = bytes_eq (string_bytes a) (string_bytes b)
-
-position-map : {A B : Type 0} (f : A → B) (p : B → Bool) (xs : List A) → position p (map f xs) ≡ position (λ x. p (f x)) xs
-position-map f p [] = refl
-position-map f p (x ∷ xs) = cc (position-cons p (f x) (map f xs), position-cons (λ y. p (f y)) x xs, position-map f p xs)
 
 module _ {V : Type 0} where
   set_value_at-text_entries : (es : List (Entry (String Global) V)) (i : ℕ) (value : V) → set_value_at (text_entries es) i value ≡ text_entries (set_value_at es i value)

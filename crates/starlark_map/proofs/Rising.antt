@@ -1,5 +1,5 @@
 -- What is in either of two lists that ascend, in ascending order: which element comes first, and what is left after it.
-use Rattle.starlark_hash.proofs.Common.{◌≡◌, ◌+◌, Bool, true, false, cond, List, [], ◌∷◌, ◌++◌, map, length, get_or, Option, Some, refl, ap, arith, filter, drop, Bor, IsEquivalence, IsTotalOrder, HashWrites, keys_of, Ordering, length-append, length-map, map-id, All-append, All-cons, All-filter, All-head, All-tail, All-permutation, length_permutation}
+use Rattle.starlark_hash.proofs.Common.{◌≡◌, ◌+◌, Bool, true, false, cond, List, [], ◌∷◌, ◌++◌, map, length, get_or, Option, Some, refl, ap, arith, filter, drop, Bor, IsEquivalence, IsTotalOrder, HashWrites, keys_of, Ordering, length-append, length-map, map-id, All-append, All-cons, All-filter, All-head, All-tail, All-permutation}
 use Rattle.std.specs.Prelude.{All}
 use Rattle.std.specs.Map.Iter.{TakesFirst}
 use Rattle.std.proofs.lemmas.Simd.{map-map}
@@ -8,7 +8,7 @@ use Rattle.starlark_hash.specs.Hasher.{own_hash}
 use Rattle.starlark_hash.specs.Entries.{Entry, IsSingle, entry_hash, entry_key}
 use Rattle.starlark_hash.specs.Sort.{Ascends, insert_sorted, key_lt, sorted_by, sorted_by_key}
 use Rattle.starlark_hash.proofs.EntryLemmas.{IsSingle-permutation}
-use Rattle.starlark_hash.proofs.SortingLemmas.{IsPermutation-sorted_by, key_lt-order}
+use Rattle.starlark_hash.proofs.SortingLemmas.{IsPermutation-sorted_by, key_lt-order, length-sorted_by}
 use Rattle.starlark_sets.specs.Difference.{difference, lacks}
 use Rattle.starlark_sets.specs.Set.{Elements}
 use Rattle.starlark_sets.specs.Union.{union}
@@ -32,9 +32,6 @@ module _ {X : Type 0} (lt : X → X → Bool) where
   sorted-middle : (x : X) (xs ys : List X) → All (λ w. lt x w ≡ true) xs → All (λ w. lt w x ≡ false) ys → sorted_by lt (xs ++ x ∷ ys) ≡ x ∷ sorted_by lt (xs ++ ys)
   sorted-middle x [] ys above up = sorted-first x ys up
   sorted-middle x (z ∷ zs) ys above up = rw (sorted-middle x zs ys (All-tail (λ w. lt x w ≡ true) z zs above) up, All-head (λ w. lt x w ≡ true) z zs above)
-
-  pub length-sorted_by : (xs : List X) → length (sorted_by lt xs) ≡ length xs
-  length-sorted_by xs = length_permutation xs (sorted_by lt xs) (IsPermutation-sorted_by lt xs)
 
 module _ {X : Type 0} (p : X → Bool) where
   -- what is behind the items that pass begins with one that does not

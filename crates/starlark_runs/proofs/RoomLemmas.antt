@@ -1,8 +1,7 @@
 -- What a run takes without a refusal, from the ceiling beside it.
-use Rattle.starlark_hash.proofs.Common.{◌≡◌, ◌+◌, ◌<◌, ◌≤◌, ℕ, suc, Bool, true, false, List, [], ◌∷◌, ◌++◌, length, Option, refl, arith, remove, Ordering, nat_tests, common_steps, length-reverse, length_permutation}
-use Rattle.starlark_hash.proofs.SortingLemmas.{IsPermutation-sorted_by}
+use Rattle.starlark_hash.proofs.Common.{◌≡◌, ◌+◌, ◌<◌, ◌≤◌, ℕ, suc, Bool, true, false, List, [], ◌∷◌, ◌++◌, length, Option, refl, arith, remove, Ordering, nat_tests, common_steps, length-reverse}
+use Rattle.starlark_hash.proofs.SortingLemmas.{length-sorted_by}
 use Rattle.starlark_hash.specs.Entries.{Entry, without}
-use Rattle.starlark_hash.specs.Sort.{key_lt, sorted_by_key}
 use Rattle.starlark_small.specs.Map.{Map}
 use Rattle.starlark_runs.proofs.MemoryLemmas.{Step-entries, length-inserted, length-with_value}
 use Rattle.starlark_runs.specs.Memory.{IsPastCeiling, Memory, MemoryRun, RefusesPastCeiling, ceiling_after, memory_after, memory_of}
@@ -28,9 +27,6 @@ drops command = false
 length-without : {K V : Type 0} (es : List (Entry K V)) (index : Option ℕ) → length (without es index) ≤ length es
 length-without es index = grind (arith, common_steps, length-remove_at_most)
 
-length-sorted_by_key : {K V : Type 0} (cmp : K → K → Ordering) (es : List (Entry K V)) → length (sorted_by_key cmp es) ≡ length es
-length-sorted_by_key cmp es = length_permutation es (sorted_by_key cmp es) (IsPermutation-sorted_by (key_lt cmp) es)
-
 module _ {K V R : Type 0} (eq : K → K → Bool) where
   -- what drops no index keeps the ceiling
   ceiling-kept : (c : ℕ) (old : List (Entry K V)) (command : Command K V) (reply : Reply K V R) → drops command ≡ false → c ≤ ceiling_after eq c old command reply
@@ -43,7 +39,7 @@ module _ {K V R : Type 0} (eq : K → K → Bool) (cmp : K → K → Ordering) (
   length-after : (old : List (Entry K V)) (command : Command K V) (reply : Reply K V R) (next : List (Entry K V)) → Step eq cmp shows old command reply next
       → (length next ≤ length old + growth command) × ((c : ℕ) → length old ≤ c → length next ≤ ceiling_after eq c old command reply)
   length-after old Len Done next p = absurd p
-  length-after old command Done next p = (grind (arith, length-reverse, length-sorted_by_key), λ c low. grind (arith, nat_tests, length-reverse, length-sorted_by_key))
+  length-after old command Done next p = (grind (arith, length-reverse, length-sorted_by), λ c low. grind (arith, nat_tests, length-reverse, length-sorted_by))
   length-after old command reply next p = (
     grind (arith, nat_tests, length-remove_at_most, length-without, length-inserted, length-with_value),
     λ c low. grind (arith, nat_tests, length-remove_at_most, length-without, length-inserted, length-with_value),

@@ -10,7 +10,8 @@ use Rattle.starlark_hash.specs.Sort.{Ascends, key_lt, sorted_by_key}
 use Rattle.starlark_script.specs.Line.{Key}
 use Rattle.starlark_script.specs.Replies.{bytes_cmp}
 use Rattle.starlark_script.specs.ShownEntries.{shown_entry, entries_of}
-use Rattle.starlark_script.proofs.Images.{position-map, remove-map, reverse-map, sorted_by-map, ascends-map}
+use Rattle.starlark_hash.proofs.PositionLemmas.{position-map}
+use Rattle.starlark_script.proofs.Images.{remove-map, reverse-map, sorted_by-map, ascends-map}
 
 -- a search by bytes finds the same index
 pub position_of-entries_of : (es : List (Entry (String Global) ℤ)) (hash : StarlarkHashValue) (passes : List ℕ → Bool)

@@ -1,20 +1,11 @@
 -- Lists of images: an edit of the images is the image of the edit.
-use Rattle.starlark_hash.proofs.Common.{◌≡◌, ℕ, suc, ◌+◌, ◌<◌, Bool, true, false, cond, List, [], ◌∷◌, ◌++◌, length, take, drop, Some, None, refl, sym, ap, ◌∙◌, position, map, remove, reverse, nat_lt, not, position_or_len, IsSortedBy, length-map, map-append}
+use Rattle.starlark_hash.proofs.Common.{◌≡◌, ℕ, suc, ◌+◌, ◌<◌, Bool, true, false, cond, List, [], ◌∷◌, ◌++◌, length, take, drop, refl, sym, ap, ◌∙◌, map, remove, reverse, IsSortedBy, length-map, map-append}
 use mathlib.Core.List.{reverse_aux}
 use Rattle.std.proofs.Math.ListN.{get_or-map}
 use Rattle.std.proofs.lemmas.List.{take-map, drop-map}
 use Rattle.starlark_hash.specs.Sort.{insert_sorted, sorted_by}
 
 module _ {A B : Type 0} (f : A → B) where
-  position_or_len-map : (p : B → Bool) (xs : List A) → position_or_len p (map f xs) ≡ position_or_len (λ x. p (f x)) xs
-  position_or_len-map p [] = refl
-  position_or_len-map p (x ∷ xs) = ap (λ n. cond (not (p (f x))) (1 + n) 0) (position_or_len-map p xs)
-
-  pub position-map : (p : B → Bool) (xs : List A) → position p (map f xs) ≡ position (λ x. p (f x)) xs
-  position-map p xs =
-      ap (λ n. cond (nat_lt n (length (map f xs))) (Some n) None) (position_or_len-map p xs)
-      ∙ ap (λ n. cond (nat_lt (position_or_len (λ x. p (f x)) xs) n) (Some (position_or_len (λ x. p (f x)) xs)) None) (length-map xs f)
-
   pub remove-map : (xs : List A) (i : ℕ) → remove (map f xs) i ≡ map f (remove xs i)
   remove-map xs i =
       ap (λ ys. ys ++ drop (suc i) (map f xs)) (take-map f i xs) ∙ ap (λ ys. map f (take i xs) ++ ys) (drop-map f (suc i) xs)

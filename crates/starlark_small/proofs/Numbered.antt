@@ -10,7 +10,7 @@ use Rattle.std.specs.List.{IsDistinct}
 use Rattle.starlark_table.specs.Table.{Table, filled, items_under, members, member_at, table_len}
 use Rattle.starlark_table.proofs.PairBags.{IsPermutation-cancel}
 use Rattle.starlark_table.proofs.TableLemmas.{items-items_under, members-member_at}
-use Rattle.starlark_table.proofs.Path.{in_filled}
+use Rattle.starlark_table.proofs.Bag.{in_filled}
 use Rattle.starlark_vec2.specs.Sort.{Moves}
 use Rattle.starlark_small.specs.Hashes.{numbered, numbered_from}
 use Rattle.starlark_small.specs.Slots.{IsSited, StandsOnce, hash_in, hashes_in, lowered, renamed, renaming}

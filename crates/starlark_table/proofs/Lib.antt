@@ -1,7 +1,7 @@
 pub mod Lists
 pub mod Circle
 pub mod Bag
-pub mod Path
+pub mod Holders
 pub mod Searching
 pub mod Closing
 pub mod TagCount

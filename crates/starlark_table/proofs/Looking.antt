@@ -8,7 +8,7 @@ use Rattle.starlark_table.specs.Layout.{at, home, tag, tag_bits, empty_tag, InPl
 use Rattle.starlark_table.proofs.Circle.{home-below, near_or_far, distance-self, distance-below}
 use Rattle.starlark_table.proofs.Closing.{full_in_range, same_hash}
 use Rattle.starlark_table.proofs.Filling.{filled-by_some}
-use Rattle.starlark_table.proofs.Path.{holders-none, holders-taken}
+use Rattle.starlark_table.proofs.Holders.{holders-none, holders-taken}
 use Rattle.starlark_table.proofs.Searching.{asks-after, searches_none}
 use Rattle.starlark_table.proofs.TagBits.{none-by_bits}
 use Rattle.starlark_table.proofs.Tagged.{tag-member}

@@ -5,8 +5,8 @@ use Rattle.std.specs.List.{filter}
 use Rattle.starlark_table.specs.Table.{Table, filled, holders, members, member_at, items_under, table_capacity, table_len, with_item, GrowsAsNeeded}
 use Rattle.starlark_table.specs.Growth.{most_for}
 use Rattle.std.proofs.lemmas.List.{set-set}
-use Rattle.starlark_table.proofs.Bag.{filled-set_none, filled-set_some}
-use Rattle.starlark_table.proofs.Path.{holders-cons, in_filled}
+use Rattle.starlark_table.proofs.Bag.{filled-set_none, filled-set_some, in_filled}
+use Rattle.starlark_table.proofs.Holders.{holders-cons}
 
 module _ {T : Type 0} where
   -- the member of a slot is a member of the table

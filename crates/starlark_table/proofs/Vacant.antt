@@ -4,7 +4,7 @@ use Rattle.starlark_table.specs.Table.{holders_in}
 use Rattle.starlark_table.specs.Layout.{home, tag, tag_bits, empty_tag, InPlace, IsMask, IsTagged, IsVacancy}
 use Rattle.starlark_table.proofs.Circle.{home-below, distance-self}
 use Rattle.starlark_table.proofs.Closing.{full_in_range}
-use Rattle.starlark_table.proofs.Path.{holders-none}
+use Rattle.starlark_table.proofs.Holders.{holders-none}
 use Rattle.starlark_table.proofs.Windows.{at_home, first_empty, window_begins, window_ends}
 
 module _ {T : Type 0} (hash : ℕ) (tags : List ℕ) (slots : List (Option (ℕ × T))) (tagged : IsTagged tags slots) where

@@ -1,6 +1,6 @@
-use Rattle.starlark_hash.proofs.Common.{ap, subst, sym, ◌∙◌, length, arith, length_permutation}
-use Rattle.starlark_hash.specs.Sort.{key_lt, sorted_by_key}
-use Rattle.starlark_hash.proofs.SortingLemmas.{IsPermutation-sorted_by}
+use Rattle.starlark_hash.proofs.Common.{ap, subst, sym, ◌∙◌, length, arith}
+use Rattle.starlark_hash.specs.Sort.{key_lt}
+use Rattle.starlark_hash.proofs.SortingLemmas.{length-sorted_by}
 use Rattle.starlark_vec2.specs.Sort.{Moves}
 use Rattle.starlark_small.proofs.Indexed.{IsIndexed-renamed, moves-index, renamed-is_some, renamed-room}
 use Rattle.starlark_small.proofs.small_map.sort.sort_and_rename.Goals as goal
@@ -15,7 +15,7 @@ pub returns-clause-follows : goal.returns-clause-follows
 returns-clause-follows g c =
     let es = c.args.entries.now.entries in
     let new = c.sort_keys_with_moves.new.self.entries in
-    let size = ap (λ l. length l.entries) c.in-Ok.ensures.sorted ∙ length_permutation es (sorted_by_key g.K.Ord.cmp es) (IsPermutation-sorted_by (key_lt g.K.Ord.cmp) es) in
+    let size = ap (λ l. length l.entries) c.in-Ok.ensures.sorted ∙ length-sorted_by (key_lt g.K.Ord.cmp) es in
     record {
       indexed = IsIndexed-renamed es c.as_slice.result.now new c.args.index.now c.rename.new.self (subst (λ l. Moves es l new) (sym c.as_slice.ensures.value) c.in-Ok.ensures.moves) c.requires c.rename.ensures;
       room = omega (arith, size, renamed-room (length es) (length new) _ c.args.index.now c.rename.new.self size c.rename.ensures);

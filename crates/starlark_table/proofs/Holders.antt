@@ -1,9 +1,7 @@
 -- The items under a hash that a search has still to ask about: those of some slots, of which it empties one after another.
-use Rattle.starlark_hash.proofs.Common.{IsPermutation-sym, nat_tests, ◌≡◌, ℕ, zero, suc, ◌+◌, List, [], ◌∷◌, ◌++◌, Option, Some, None, arith, refl, IsPermutation, enumerate_from, Contains, set, none-some, IsPermutation-refl, IsPermutation-trans, IsPermutation-middle, IsPermutation-append_right}
-use Rattle.std.proofs.lemmas.List.Sorted.{Contains-permutation}
-use Rattle.starlark_table.specs.Table.{holders, filled}
+use Rattle.starlark_hash.proofs.Common.{nat_tests, ◌≡◌, ℕ, zero, suc, ◌+◌, List, [], ◌∷◌, ◌++◌, Option, Some, None, arith, refl, IsPermutation, enumerate_from, set, none-some, IsPermutation-refl, IsPermutation-trans, IsPermutation-middle, IsPermutation-append_right}
+use Rattle.starlark_table.specs.Table.{holders}
 use Rattle.starlark_table.specs.Layout.{at}
-use Rattle.starlark_table.proofs.Bag.{filled-set_none}
 
 module _ {T : Type 0} where
   -- where no slot holds the hash
@@ -27,7 +25,3 @@ module _ {T : Type 0} where
       let front : List (ℕ × T) = holders hash ((n, o) ∷ []) in
       rw (holders-cons hash n o (enumerate_from (n + 1) slots), holders-cons hash n o (enumerate_from (n + 1) (set slots i None)))
       (IsPermutation-trans _ _ _ (IsPermutation-append_right front _ _ (holders-taken hash (n + 1) i j x slots (omega arith) here)) (IsPermutation-middle front (j, x) _))
-
-  pub in_filled : (slots : List (Option (ℕ × T))) (slot : ℕ) (m : ℕ × T) → at slots slot ≡ Some m
-      → Contains (filled slots) m
-  in_filled slots slot m e = Contains-permutation _ _ m (IsPermutation-sym _ _ (filled-set_none slots slot m e)) (0, omega arith, refl)
